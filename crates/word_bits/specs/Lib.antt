@@ -1,0 +1,12 @@
+pub mod Packed
+pub mod Replies
+pub mod AreaWord
+pub mod EntryWord
+pub mod RecWord
+pub mod Calls
+pub mod LockWords
+pub mod Snapshots
+pub mod Objects
+pub mod Histories
+pub mod Legal
+pub mod PageMaps
