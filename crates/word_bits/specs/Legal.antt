@@ -1,5 +1,7 @@
 -- When records with a log and state words are those of one thread's history.
 use Rattle.std.specs.Prelude.{◌≡◌, ℕ, ◌+◌, ◌≤◌, ◌==◌, ◌&&◌, Bool, true, false, List, [], ◌∷◌, ◌++◌, take, length, map, flat_map, sum_by, count_by, slice_get, Option, Some, None, IsSome, ◌⊎◌, if◌then◌else◌}
+use Rattle.std.specs.List.{AllByRecursion}
+use Rattle.std.specs.Option.{option_map_or}
 use Rattle.word_bits.specs.declared.call.CallWords.{CallWords}
 use Rattle.word_bits.specs.declared.call.Mode.{Mode}
 use Rattle.word_bits.specs.declared.call.Mode.TheVariants.{Int, Try}
@@ -8,26 +10,19 @@ use Rattle.word_bits.specs.declared.rec.Rec.{Rec}
 use Rattle.word_bits.specs.declared.reply.Reply.{Reply}
 use Rattle.word_bits.specs.declared.reply.Reply.TheVariants.{Good, Num, Refused, MapErr, AccErr, Busy, Intr, Sent}
 use Rattle.word_bits.specs.Calls.{mode_of, signal_of}
-use Rattle.word_bits.specs.EntryWord.{entry_word, entry_eq}
-use Rattle.word_bits.specs.RecWord.{rec_word}
+use Rattle.word_bits.specs.EntryWord.{IsEntry, entry_word, entry_eq}
+use Rattle.word_bits.specs.RecWord.{IsRec, rec_word}
 use Rattle.word_bits.specs.LockWords.{Unavailable}
 use Rattle.word_bits.specs.Objects.{Obj}
 use Rattle.word_bits.specs.Snapshots.{Words}
 use Rattle.word_bits.specs.Histories.{Plan, Records, Event, at_entry, events_from, state_after, logs, event_logs}
 
-abbrev pub is_intr : Rec → Bool
-is_intr r = go r.reply
-  where
-    go : Reply → Bool
-    go Intr = true
-    go reply = false
+abbrev pub is_intr : Reply → Bool
+is_intr Intr = true
+is_intr reply = false
 
 abbrev pub signals_to : ℕ → CallWords → Bool
-signals_to task w = go (signal_of w)
-  where
-    go : Option ℕ → Bool
-    go None = false
-    go (Some target) = target == task
+signals_to task w = option_map_or (λ target. target == task) (signal_of w) false
 
 -- what a task has seen after a record: as many logged calls as stand before it, and its own if it is logged
 abbrev pub seen_after : Bool → Rec → ℕ
@@ -90,11 +85,13 @@ module _ {Call : Type 0} (o : Obj Call) (unavailable : Unavailable) where
     -- the log has exactly the calls that are logged, each once
     pub logged : (e : Entry) → count_by (entry_eq e) log ≡ count_by (λ v. event_logs o v && entry_eq e v.entry) (events_from 0 plan records)
     -- a task was interrupted no more often than signals are sent to it
-    pub interrupted : (task : ℕ) (rs : List Rec) → slice_get records task ≡ Some rs → count_by is_intr rs ≤ sum_by (count_by (signals_to task)) plan
+    pub interrupted : (task : ℕ) (rs : List Rec) → slice_get records task ≡ Some rs → count_by (λ r. is_intr r.reply) rs ≤ sum_by (count_by (signals_to task)) plan
     -- the words store the state that the whole log leaves
     pub stored : state ≡ o.stores (state_after o plan log)
 
--- a snapshot has the words of these records and of this log
+-- a snapshot has the words of these records and of this log, all of them in the ranges of their words
 pub record Tells (words : Words) (records : Records) (entries : List Entry) : Type 0 where
   pub recs : words.recs ≡ flat_map (map rec_word) records
+  pub fit : AllByRecursion (AllByRecursion IsRec) records
   pub log : words.log ≡ map entry_word entries
+  pub entered : AllByRecursion IsEntry entries

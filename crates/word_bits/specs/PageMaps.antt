@@ -18,16 +18,16 @@ extended page (Some prot) (r ∷ runs) =
     else record { start = page; end = page + 1; prot = prot } ∷ (r ∷ runs)
 
 -- the maximal runs of equal protection among so many pages from a page on, ascending
-pub runs_from : PageMap → ℕ → ℕ → List Area
+unfoldable pub runs_from : PageMap → ℕ → ℕ → List Area
 runs_from m page zero = []
 runs_from m page (suc count) = extended page (m page) (runs_from m (page + 1) count)
 
 -- of all pages
-pub runs : PageMap → List Area
+unfoldable pub runs : PageMap → List Area
 runs m = runs_from m 0 1048576
 
 -- how many of so many pages from a page on are mapped
-pub mapped_from : PageMap → ℕ → ℕ → ℕ
+unfoldable pub mapped_from : PageMap → ℕ → ℕ → ℕ
 mapped_from m page zero = 0
 mapped_from m page (suc count) = one (m page) + mapped_from m (page + 1) count
   where

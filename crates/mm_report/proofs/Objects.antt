@@ -1,0 +1,61 @@
+-- What is told object by object.
+use Rattle.std.proofs.Common.{◌≡◌, ℕ, ◌+◌, ◌<◌, ◌≤◌, zero, suc, Bool, List, [], ◌∷◌, ◌++◌, length, take, drop, map, refl, sym, ap, ◌∙◌, subst, arith, append-nil, append_assoc, Option, Some, None}
+use Rattle.std.specs.Prelude.{slice_get}
+use Rattle.std.proofs.lemmas.Option.{slice_get_within}
+use Rattle.std.proofs.lemmas.List.{drop_all}
+use Rattle.word_bits.specs.Snapshots.{Words}
+use Rattle.word_bits.specs.Legal.{Tells}
+use Rattle.task_script.specs.Scripts.{Declared, Listing, plan_of}
+use Rattle.mm_report.specs.Results.{Told, IsLegalOn, AreLegalFrom, AreCompleteFrom}
+use Rattle.mm_report.specs.Text.{head_text, told_text, text_from}
+use Rattle.mm_report.proofs.Reserved.{drop_at}
+
+-- there are as many snapshots as objects
+pub complete_length : (s : Listing) (object : ℕ) (ds : List Declared) (ws : List Words) → AreCompleteFrom s object ds ws → length ws ≡ length ds
+complete_length s object [] [] complete = refl
+complete_length s object [] (w ∷ ws) complete = absurd complete
+complete_length s object (d ∷ ds) [] complete = absurd complete
+complete_length s object (d ∷ ds) (w ∷ ws) complete = ap suc (complete_length s (object + 1) ds ws complete.1)
+
+-- what is legal of an object and of those behind it
+pub record IsStep (s : Listing) (object : ℕ) (d : Declared) (w : Words) (rest_objects : List Declared) (rest_words : List Words) (told : List Told) : Type 0 where
+  pub here : Told
+  pub behind : List Told
+  pub is : told ≡ here ∷ behind
+  pub tells : Tells w here.records here.log
+  pub legal : IsLegalOn d.is_space (plan_of s object) here w.state
+  pub rest : AreLegalFrom s (object + 1) rest_objects rest_words behind
+
+step_of : (s : Listing) (object : ℕ) (d : Declared) (ds : List Declared) (w : Words) (ws : List Words) (told : List Told) → AreLegalFrom s object (d ∷ ds) (w ∷ ws) told → IsStep s object d w ds ws told
+step_of s object d ds w ws [] legal = absurd legal
+step_of s object d ds w ws (t ∷ ts) legal = record { here = t; behind = ts; is = refl; tells = legal.0; legal = legal.1; rest = legal.2 }
+
+pub step_at : (s : Listing) (object : ℕ) (ds : List Declared) (ws : List Words) (told : List Told) (d : Declared) (w : Words) → slice_get ds object ≡ Some d → slice_get ws object ≡ Some w
+    → AreLegalFrom s object (drop object ds) (drop object ws) told → IsStep s object d w (drop (object + 1) ds) (drop (object + 1) ws) told
+step_at s object ds ws told d w at-d at-w legal =
+    step_of s object d (drop (object + 1) ds) w (drop (object + 1) ws) told
+        (subst (λ us. AreLegalFrom s object (d ∷ drop (object + 1) ds) us told) (drop_at ws object w at-w) (subst (λ es. AreLegalFrom s object es (drop object ws) told) (drop_at ds object d at-d) legal))
+
+-- what is behind the first of what is left
+pub behind_at : {X : Type 0} (xs : List X) (i : ℕ) (x : X) (rest : List X) → drop i xs ≡ x ∷ rest → drop (i + 1) xs ≡ rest
+behind_at [] zero x rest is = cc
+behind_at [] (suc i) x rest is = cc
+behind_at (y ∷ ys) zero x rest is = cc
+behind_at (y ∷ ys) (suc i) x rest is = let e : suc (i + 1) ≡ suc i + 1 = omega arith in ap (λ n. drop n (y ∷ ys)) (sym e) ∙ behind_at ys i x rest is
+
+-- the text of an object, and of those behind it
+pub text_step : (s : Listing) (object : ℕ) (ds : List Declared) (d : Declared) (t : Told) (ts : List Told) → slice_get ds object ≡ Some d
+    → text_from s object (drop object ds) (t ∷ ts) ≡ head_text d ++ told_text s object d.is_space t ++ text_from s (object + 1) (drop (object + 1) ds) ts
+text_step s object ds d t ts at = ap (λ es. text_from s object es (t ∷ ts)) (drop_at ds object d at)
+
+-- what was written, the text of an object and the text behind it are all
+pub text_split : (s : Listing) (object : ℕ) (ds : List Declared) (d : Declared) (t : Told) (ts told : List Told) (done all : List ℕ) → slice_get ds object ≡ Some d → told ≡ t ∷ ts
+    → done ++ text_from s object (drop object ds) told ≡ all → (done ++ (head_text d ++ told_text s object d.is_space t)) ++ text_from s (object + 1) (drop (object + 1) ds) ts ≡ all
+text_split s object ds d t ts told done all at is whole =
+    append_assoc done (head_text d ++ told_text s object d.is_space t) (text_from s (object + 1) (drop (object + 1) ds) ts)
+    ∙ ap (λ l. done ++ l) (sym (text_step s object ds d t ts at) ∙ ap (text_from s object (drop object ds)) (sym is)) ∙ whole
+
+pub at_place : {X : Type 0} (xs : List X) (i : ℕ) → i < length xs → (x : X) × (slice_get xs i ≡ Some x)
+at_place [] i within = absurd (omega arith)
+at_place (x ∷ xs) zero within = (x, refl)
+at_place (x ∷ xs) (suc i) within = at_place xs i (omega arith)

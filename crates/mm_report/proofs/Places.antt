@@ -1,0 +1,101 @@
+-- What stands at a place of a filtered list, of a task's events and of their text.
+use Rattle.std.proofs.Common.{◌≡◌, ℕ, ◌+◌, ◌<◌, ◌≤◌, Bool, true, false, cond, zero, suc, List, [], ◌∷◌, ◌++◌, length, take, drop, map, ◌-◌, refl, sym, ap, ◌∙◌, append_assoc, append-nil, add-one, length-append, min, add-zero, zero-add, nat_eq, nat_lt, get_or, arith, Option, Some, None}
+use Rattle.std.specs.Prelude.{slice_get, filter, flat_map, count_by}
+use Rattle.std.specs.List.{AllByRecursion}
+use Rattle.std.proofs.lemmas.Option.{slice_get_within, same_Some, slice_get-map, slice_get-get_or, slice_get_read}
+use Rattle.std.proofs.lemmas.List.Sums.{sum_by-cons}
+use Rattle.std.proofs.lemmas.Bool.Decides.{nat_tests}
+use Rattle.word_bits.specs.declared.call.CallWords.{CallWords}
+use Rattle.word_bits.specs.declared.entry.Entry.{Entry}
+use Rattle.word_bits.specs.declared.rec.Rec.{Rec}
+use Rattle.word_bits.specs.Histories.{Event, task_events}
+use Rattle.task_script.specs.declared.script.Line.{Line}
+use Rattle.task_script.specs.Scripts.{call_words, is_on}
+use Rattle.std.proofs.lemmas.List.{length-map}
+use Rattle.std.proofs.Math.Seq.{take-append_seam}
+use Rattle.word_bits.specs.declared.area.Area.{Area}
+use Rattle.word_bits.specs.AreaWord.{area_word}
+use Rattle.word_bits.specs.RecWord.{IsRec, rec_word}
+use Rattle.task_script.proofs.Pieces.{mapped_at}
+use Rattle.mm_report.specs.Text.{number_of, event_line, task_event_text}
+
+count_cons : {X : Type 0} (p : X → Bool) (x : X) (xs : List X) → count_by p (x ∷ xs) ≡ cond (p x) 1 0 + count_by p xs
+count_cons p x xs = sum_by-cons (λ y. cond (p y) 1 0) x xs
+
+filter_step : {X : Type 0} (y x : X) (b : Bool) (n : ℕ) (fs : List X) → slice_get fs n ≡ Some x → slice_get (cond b (y ∷ fs) fs) (cond b 1 0 + n) ≡ Some x
+filter_step y x true n fs h = let e : 1 + n ≡ suc n = omega arith in rw e h
+filter_step y x false n fs h = rw (zero-add n) h
+
+-- an element that passes stands in the filtered list behind those before it that pass
+pub filter_at : {X : Type 0} (p : X → Bool) (xs : List X) (i : ℕ) (x : X) → slice_get xs i ≡ Some x → p x ≡ true → slice_get (filter p xs) (count_by p (take i xs)) ≡ Some x
+filter_at p [] i x is passes = cc
+filter_at p (y ∷ ys) zero x is passes = rw (same_Some y x is, passes) refl
+filter_at p (y ∷ ys) (suc i) x is passes = rw (count_cons p y (take i ys)) (filter_step y x (p y) (count_by p (take i ys)) (filter p ys) (filter_at p ys i x is passes))
+
+number_step : (b : Bool) (n m : ℕ) (f : ℕ → ℕ) → f n ≡ m → cond b (cond (nat_eq (cond b 1 0 + n) 0) 0 (f (cond b 1 0 + n - 1) + 1)) (f (cond b 1 0 + n) + 1) ≡ suc m
+number_step true n m f h =
+    let later : nat_eq (1 + n) 0 ≡ false = grind (arith, nat_tests) in
+    let e : 1 + n - 1 ≡ n = omega arith in
+    rw (later, e, h) (omega arith)
+number_step false n m f h = rw (zero-add n, h) (omega arith)
+
+-- the number of a call among all calls of its task
+pub number_at : (object : ℕ) (ls : List Line) (i : ℕ) (l : Line) → slice_get ls i ≡ Some l → is_on object l ≡ true → number_of object ls (count_by (is_on object) (take i ls)) ≡ i
+number_at object [] i l is passes = cc
+number_at object (m ∷ ms) zero l is passes = rw (same_Some m l is, passes) refl
+number_at object (m ∷ ms) (suc i) l is passes =
+    rw (count_cons (is_on object) m (take i ms)) (number_step (is_on object m) (count_by (is_on object) (take i ms)) i (number_of object ms) (number_at object ms i l is passes))
+
+pub event_at : (task call : ℕ) (ws : List CallWords) (rs : List Rec) (c : ℕ) (w : CallWords) (r : Rec) → slice_get ws c ≡ Some w → slice_get rs c ≡ Some r
+    → slice_get (task_events task call ws rs) c ≡ Some (record { entry = record { task = task; call = call + c }; words = w; told = r })
+event_at task call [] rs c w r iw ir = cc
+event_at task call (v ∷ vs) [] c w r iw ir = cc
+event_at task call (v ∷ vs) (q ∷ qs) zero w r iw ir = rw (same_Some v w iw, same_Some q r ir, add-zero call) refl
+event_at task call (v ∷ vs) (q ∷ qs) (suc c) w r iw ir =
+    let e : call + 1 + c ≡ call + suc c = omega arith in
+    event_at task (call + 1) vs qs c w r iw ir ∙ ap (λ n. Some (record { entry = record { task = task; call = n }; words = w; told = r })) e
+
+-- of as many records as calls all events are made
+pub events_length : (task call : ℕ) (ws : List CallWords) (rs : List Rec) → length rs ≡ length ws → length (task_events task call ws rs) ≡ length ws
+events_length task call [] rs same = refl
+events_length task call (w ∷ ws) [] same = absurd (omega arith)
+events_length task call (w ∷ ws) (r ∷ rs) same = ap suc (events_length task (call + 1) ws rs (omega arith))
+
+-- the text of the event of a call that is read from the lines of its task and from its record's word
+pub event_of : (object task : ℕ) (ls : List Line) (rs : List Rec) (recs : List ℕ) (n call word : ℕ) (l : Line) → slice_get ls n ≡ Some l → is_on object l ≡ true → call ≡ count_by (is_on object) (take n ls)
+    → AllByRecursion IsRec rs → recs ≡ map rec_word rs → slice_get recs call ≡ Some word
+    → (r : Rec) × IsRec r × (rec_word r ≡ word) × (v : Event) × (slice_get (task_events task 0 (map call_words (filter (is_on object) ls)) rs) call ≡ Some v)
+    × (task_event_text object ls v ≡ event_line task n (call_words l) r.reply)
+event_of object task ls rs recs n call word l at passes counted each is found =
+    let m = mapped_at IsRec rec_word rs recs call word each is found in
+    let w : slice_get (map call_words (filter (is_on object) ls)) call ≡ Some (call_words l) = slice_get-map call_words (filter (is_on object) ls) call ∙ rw (counted, filter_at (is_on object) ls n l at passes) refl in
+    let number : number_of object ls (0 + call) ≡ n = rw (zero-add call, counted) (number_at object ls n l at passes) in (
+      m.0,
+      m.2,
+      m.3,
+      record { entry = record { task = task; call = 0 + call }; words = call_words l; told = m.0 },
+      event_at task 0 (map call_words (filter (is_on object) ls)) rs call (call_words l) m.0 w m.1,
+      ap (λ k. event_line task k (call_words l) m.0.reply) number,
+    )
+
+-- the same as a loop over the lines knows it
+pub event_read : (object task : ℕ) (ls : List Line) (rs : List Rec) (recs : List ℕ) (n call word : ℕ) (d : Line) → n < length ls → (get_or ls n d).object ≡ object → call ≡ count_by (is_on object) (take n ls)
+    → AllByRecursion IsRec rs → recs ≡ map rec_word rs → true ≡ nat_lt call (length recs) → word ≡ get_or recs call word
+    → (r : Rec) × IsRec r × (rec_word r ≡ word) × (v : Event) × (slice_get (task_events task 0 (map call_words (filter (is_on object) ls)) rs) call ≡ Some v)
+    × (task_event_text object ls v ≡ event_line task n (call_words (get_or ls n d)) r.reply)
+event_read object task ls rs recs n call word d within same counted each is test word-is =
+    let passes : is_on object (get_or ls n d) ≡ true = grind (arith, nat_tests) in
+    let short : call < length recs = grind (arith, nat_tests) in
+    event_of object task ls rs recs n call word (get_or ls n d) (slice_get-get_or ls n d within) passes counted each is (slice_get_read recs (length recs) call word refl short word-is)
+
+-- behind the number of areas stand their words
+pub areas_of : (areas : List Area) (rest state words : List ℕ) (count n : ℕ) → state ≡ length areas ∷ (map area_word areas ++ rest) → state ≡ count ∷ words → n ≡ min (length words) count
+    → (count ≡ length areas) × (take n words ≡ map area_word areas)
+areas_of areas rest state words count n is begins n-is =
+    let both : count ∷ words ≡ length areas ∷ (map area_word areas ++ rest) = sym begins ∙ is in
+    let first : count ≡ length areas = cc in
+    let more : words ≡ map area_word areas ++ rest = cc in
+    let mapped : length (map area_word areas) ≡ length areas = simp length-map in
+    let len = ap length more in
+    let n-all : n ≡ length (map area_word areas) = omega (arith, length-append (map area_word areas) rest) in
+    (first, rw (n-all, more) (take-append_seam (map area_word areas) rest))

@@ -1,0 +1,9 @@
+//! What a script leaves, and the text of its histories.
+#![tactic(auto)]
+
+mod line;
+mod results;
+mod text;
+
+pub use results::Results;
+pub use text::report;

@@ -1,0 +1,8 @@
+mod Cutting
+mod FewCalls
+mod Grammar
+mod Listings
+mod Names
+mod Numbers
+pub mod Ways
+pub mod Pieces

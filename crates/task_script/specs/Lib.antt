@@ -1,0 +1,10 @@
+pub mod Causes
+pub mod Cuts
+pub mod Parts
+pub mod Scripts
+pub mod Inside
+pub mod Tokens
+pub mod Grammar
+pub mod Steps
+pub mod Rooms
+pub mod Memories

@@ -1,0 +1,49 @@
+-- What a single word is.
+use Rattle.std.specs.Prelude.{ℕ, ◌+◌, ◌-◌, ◌*◌, ◌^◌, ◌==◌, ◌||◌, ◌&&◌, nat_lt, nat_le, Bool, true, false, not, List, [], ◌∷◌, length, if◌then◌else◌, Option, Some, None, codes}
+use Rattle.std.specs.Char.{is_ascii_digit}
+use Rattle.std.specs.List.{list_all, list_any}
+use Rattle.std.specs.Str.{bytes_eq}
+
+abbrev pub is_lower : ℕ → Bool
+is_lower b = nat_le 97 b && nat_le b 122
+
+abbrev pub is_name_byte : ℕ → Bool
+is_name_byte b = (is_lower b || is_ascii_digit b) || (b == 95)
+
+-- words that begin other lines, or that stand in front of a call
+abbrev pub is_reserved : List ℕ → Bool
+is_reserved w =
+    list_any (bytes_eq w) (codes "space" ∷ codes "table" ∷ codes "task" ∷ codes "version" ∷ codes "int" ∷ codes "try" ∷ [])
+
+-- a lower-case letter, and then up to 15 lower-case letters, digits or _
+abbrev pub has_name_bytes : List ℕ → Bool
+has_name_bytes [] = false
+has_name_bytes (b ∷ bs) = (is_lower b && nat_le (length bs) 15) && list_all is_name_byte bs
+
+abbrev pub is_name : List ℕ → Bool
+is_name w = has_name_bytes w && not (is_reserved w)
+
+-- the number that the digits stand for, after others
+abbrev pub value_after : ℕ → List ℕ → ℕ
+value_after n [] = n
+value_after n (d ∷ ds) = value_after (n * 10 + (d - 48)) ds
+
+abbrev pub leads_zero : List ℕ → Bool
+leads_zero [] = true
+leads_zero (d ∷ []) = false
+leads_zero (d ∷ e ∷ ds) = d == 48
+
+-- 0, or digits that begin with 1 to 9, up to 2 ^ 32 - 1
+abbrev pub number : List ℕ → Option ℕ
+number ds =
+    if leads_zero ds then None
+    else if list_all is_ascii_digit ds && nat_lt (value_after 0 ds) (2 ^ 32) then Some (value_after 0 ds)
+    else None
+
+-- r, w or x
+abbrev pub access : List ℕ → Option ℕ
+access w =
+    if bytes_eq w (codes "r") then Some 1
+    else if bytes_eq w (codes "w") then Some 2
+    else if bytes_eq w (codes "x") then Some 4
+    else None

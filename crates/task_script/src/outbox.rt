@@ -1,0 +1,96 @@
+//! Text on its way to a sink, gathered into large pieces, so that a line costs no call of the sink.
+ghost use Rattle.std.specs.Prelude.{◌≡◌, ◌+◌, ◌≤◌, ◌++◌, [], length, decimal, OnOk, OnErr};
+ghost use Rattle.task_script.specs.Causes.{HasCause, Flushes};
+ghost use Rattle.task_script.specs.Rooms.{MakesRoom};
+
+use crate::sink::{Sink, put};
+use crate::source::Failed;
+use arrayvec::ArrayVec;
+use itoa::Buffer;
+use std::marker::Model;
+
+/// How many bytes are free after room was made.
+const ROOM: usize = 256;
+
+/// Up to 4096 bytes that wait to be written. Contracts see the list of them.
+#[derive(Drop)]
+pub struct Outbox {
+    bytes: ArrayVec<u8, 4096>,
+}
+
+impl Model for Outbox {
+    ghost use Rattle.std.specs.Prelude.{List, ℕ, ◌≤◌, length};
+
+    ghost Value = { List ℕ };
+
+    ghost view = { λ o. o.bytes.items };
+
+    ghost invariant = { λ o. length o.bytes.items ≤ 4096 };
+}
+
+impl Outbox {
+    /// An outbox in which nothing waits.
+    pub fn new() -> Outbox
+        ensures { result ≡ [] }
+    {
+        Outbox {
+            bytes: ArrayVec::new(),
+        }
+    }
+
+    /// Adds a piece behind the bytes that wait.
+    pub fn add(&mut self, piece: &[u8])
+        requires { length self.old + length piece.now ≤ 4096 }
+        ensures { self.new ≡ self.old ++ piece.now }
+    {
+        let added = self.bytes.try_extend_from_slice(piece);
+        prove!(added.is_ok());
+    }
+
+    /// Adds a number in decimal digits, of which there are at most 20.
+    pub fn add_number(&mut self, number: u64)
+        requires { length self.old + 20 ≤ 4096 }
+        ensures text { self.new ≡ self.old ++ decimal number }
+        ensures short { length self.new ≤ length self.old + 20 }
+    {
+        let mut digits = Buffer::new();
+        self.add(digits.format(number).as_bytes());
+    }
+
+    /// Makes room for 256 bytes: where there is less, all that waits is written.
+    ///
+    /// # Errors
+    ///
+    /// The sink's first failure. It has then taken a front of what waits, all of which stays here.
+    pub fn make_room<K: Sink>(&mut self, sink: &mut K) -> Result<(), Failed>
+        ensures bytes { MakesRoom (K.written sink.old) (K.written sink.new)
+            self.old self.new result }
+        ensures kept { OnErr result (self.new ≡ self.old) }
+        ensures room { OnOk result (length self.new + 256 ≤ 4096) }
+        ensures cause { HasCause (K.faults sink.old) (K.faults sink.new) result }
+    {
+        if self.bytes.remaining_capacity() >= ROOM {
+            return Ok(());
+        }
+        self.flush(sink)
+    }
+
+    /// Writes all that waits.
+    ///
+    /// # Errors
+    ///
+    /// The sink's first failure. It has then taken a front of what waits, all of which stays here.
+    pub fn flush<K: Sink>(&mut self, sink: &mut K) -> Result<(), Failed>
+        ensures bytes { Flushes (K.written sink.old) (K.written sink.new) self.old self.new result }
+        ensures kept { OnErr result (self.new ≡ self.old) }
+        ensures cause { HasCause (K.faults sink.old) (K.faults sink.new) result }
+    {
+        match put(sink, self.bytes.as_slice()) {
+            Ok(()) => {
+                self.bytes.clear();
+                Ok(())
+            }
+            Err(failed) => Err(failed),
+        }
+    }
+}

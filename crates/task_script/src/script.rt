@@ -1,0 +1,93 @@
+//! A script: its objects, and the calls of its tasks.
+ghost use Rattle.std.specs.Prelude.{◌≡◌, ◌<◌, ◌≤◌, length, slice_get, Some, All};
+
+use arrayvec::ArrayString;
+use std::marker::Model;
+
+/// A call of a task on an object.
+#[derive(Clone, Copy, Debug, PartialEq, Eq)]
+pub struct Line {
+    /// The number of the object, in the order of declaration.
+    pub object: u32,
+    /// The call's two words.
+    pub words: [u64; 2],
+}
+
+/// What kind of object a name stands for.
+#[derive(Clone, Copy, Debug, PartialEq, Eq)]
+pub(crate) enum Kind {
+    Space,
+}
+
+#[derive(Drop)]
+pub(crate) struct Object {
+    pub(crate) name: ArrayString<16>,
+    pub(crate) kind: Kind,
+}
+
+/// A script that was read. Contracts see its objects, each with its name and whether it is a space,
+/// and for each task the list of its calls.
+#[derive(Drop)]
+pub struct Script {
+    pub(crate) objects: Vec<Object>,
+    pub(crate) tasks: Vec<Vec<Line>>,
+}
+
+impl Model for Script {
+    ghost use Rattle.task_script.specs.Scripts.{Listing};
+
+    ghost Value = { Listing };
+
+    ghost use Rattle.task_script.specs.Inside.{listing, IsScript};
+
+    ghost view = { λ s. listing s.objects.items s.tasks.items };
+
+    ghost invariant = { λ s. IsScript (listing s.objects.items s.tasks.items) };
+}
+
+impl Script {
+    ghost use Rattle.task_script.specs.Scripts.{names_of, kinds_of};
+
+    /// How many objects there are, at most 16.
+    pub fn objects(&self) -> usize
+        ensures count { result ≡ length self.now.objects }
+        ensures few { result ≤ 16 }
+    {
+        self.objects.len()
+    }
+
+    /// How many tasks there are, at most 64.
+    pub fn tasks(&self) -> usize
+        ensures count { result ≡ length self.now.tasks }
+        ensures few { result ≤ 64 }
+    {
+        self.tasks.len()
+    }
+
+    /// The name of an object.
+    pub fn name(&self, object: usize) -> &str
+        requires { object < length self.now.objects }
+        ensures name { slice_get (names_of self.now) object ≡ Some result.now }
+        ensures some { 0 < length result.now }
+        ensures short { length result.now ≤ 16 }
+    {
+        self.objects[object].name.as_str()
+    }
+
+    /// Whether an object is a space.
+    pub fn is_space(&self, object: usize) -> bool
+        requires { object < length self.now.objects }
+        ensures { slice_get (kinds_of self.now) object ≡ Some result }
+    {
+        matches!(self.objects[object].kind, Kind::Space)
+    }
+
+    /// The calls of a task, in order.
+    pub fn calls(&self, task: usize) -> &[Line]
+        requires { task < length self.now.tasks }
+        ensures calls { slice_get self.now.tasks task ≡ Some result.now }
+        ensures on_objects { All (λ l. l.object < length self.now.objects) result.now }
+    {
+        self.tasks[task].as_slice()
+    }
+}
