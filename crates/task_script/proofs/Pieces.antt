@@ -62,7 +62,7 @@ pub piece_failed : {X : Type 0} (f : X → List ℕ) (xs : List X) (i : ℕ) (x 
     → Fronts b c (w1 ++ f x) → Fronts a c (w0 ++ flat_map f xs)
 piece_failed f xs i x a b c w0 w1 is p q =
     subst (λ t. Fronts a c (w0 ++ t)) (flat_map_split f xs i x is)
-        (fronts_more a c w0 (flat_map f (take i xs) ++ f x) (flat_map f (drop (i + 1) xs)) (adds_then {E = Unit {0}} a b c w0 w1 [] (flat_map f (take i xs)) (f x) (Err tt) p q))
+    (fronts_more a c w0 (flat_map f (take i xs) ++ f x) (flat_map f (drop (i + 1) xs)) (adds_then {E = Unit {0}} a b c w0 w1 [] (flat_map f (take i xs)) (f x) (Err tt) p q))
 
 pub pieces_done : {X : Type 0} (f : X → List ℕ) (xs : List X) (i : ℕ) (a b : Option (List ℕ)) (w0 w1 : List ℕ) → length xs ≤ i → IsOnItsWay a b w1 (w0 ++ flat_map f (take i xs)) → IsOnItsWay a b w1 (w0 ++ flat_map f xs)
 pieces_done f xs i a b w0 w1 past p = subst (λ l. IsOnItsWay a b w1 (w0 ++ flat_map f l)) (take_all i xs past) p

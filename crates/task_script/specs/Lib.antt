@@ -8,3 +8,4 @@ pub mod Grammar
 pub mod Steps
 pub mod Rooms
 pub mod Memories
+pub mod Sound

@@ -1,10 +1,11 @@
 //! Reads a script in one pass over its text.
 ghost use Rattle.std.specs.Prelude.{◌≡◌, ◌*◌, ◌≤◌, ◌<◌, length, IfOk, IfSome};
-ghost use Rattle.task_script.specs.Scripts.{count_of_calls};
-ghost use Rattle.task_script.specs.Cuts.{words};
-ghost use Rattle.task_script.specs.Grammar.{script_of, line_after, place_of, Reads};
+ghost use Rattle.task_script.specs.Scripts.{count_of_calls, nothing};
+ghost use Rattle.task_script.specs.Cuts.{lines, words};
+ghost use Rattle.task_script.specs.Grammar.{lines_after, script_of, line_after, place_of, Reads};
 ghost use Rattle.task_script.specs.Grammar.{space_line, task_line, call_line, with_call};
 ghost use Rattle.task_script.specs.Steps.{Becomes, fault_line};
+ghost use Rattle.task_script.specs.Sound.{IsSound};
 
 use crate::cut::{Words, cut};
 use crate::script::{Kind, Line, Object, Script};
@@ -142,20 +143,11 @@ fn refused(line: u32, reason: Reason) -> Result<Script, ScriptError>
     Err(ScriptError::Refused { line, reason })
 }
 
-#[tactic(auto, using(crate::proofs::Grammar::closed_line, crate::proofs::FewCalls::few_calls))]
-/// Reads a script of lines `space NAME`, `task` and `NAME fault NUMBER ACCESS`. Each line ends at a
-/// line feed, and single spaces separate its words.
-///
-/// # Errors
-///
-/// The first line that isn't such a line in its place, or that there is no memory.
-pub fn read(alloc: Global, bytes: &[u8]) -> Result<Script, ScriptError>
-    ensures reads { Reads result (script_of bytes.now) }
-    ensures few { IfOk result (λ s. 8 * count_of_calls s ≤ length bytes.now) }
+#[tactic(auto, using(crate::proofs::Grammar::closed_line))]
+fn read_lines(alloc: Global, bytes: &[u8]) -> Result<Script, ScriptError>
+    requires { length bytes.now ≤ 1048576 }
+    ensures { Reads result (lines_after 1 nothing (lines bytes.now)) }
 {
-    if bytes.len() > LONGEST_TEXT {
-        return refused(0, Reason::TooLong);
-    }
     let mut script = Script {
         objects: Vec::new(alloc),
         tasks: Vec::new(alloc),
@@ -179,4 +171,21 @@ pub fn read(alloc: Global, bytes: &[u8]) -> Result<Script, ScriptError>
         rest = after;
         number += 1;
     }
+}
+
+/// Reads a script of lines `space NAME`, `task` and `NAME fault NUMBER ACCESS`. Each line ends at a
+/// line feed, and single spaces separate its words.
+///
+/// # Errors
+///
+/// The first line that isn't such a line in its place, or that there is no memory.
+pub fn read(alloc: Global, bytes: &[u8]) -> Result<Script, ScriptError>
+    ensures reads { Reads result (script_of bytes.now) }
+    ensures few { IfOk result (λ s. 8 * count_of_calls s ≤ length bytes.now) }
+    ensures sound { IfOk result IsSound }
+{
+    if bytes.len() > LONGEST_TEXT {
+        return refused(0, Reason::TooLong);
+    }
+    read_lines(alloc, bytes)
 }

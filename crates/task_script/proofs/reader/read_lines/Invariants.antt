@@ -2,7 +2,7 @@ use Rattle.std.proofs.Common.{◌≡◌, ◌+◌, ◌≤◌, length}
 use Rattle.task_script.specs.Cuts.{lines}
 use Rattle.task_script.specs.Scripts.{nothing}
 use Rattle.task_script.specs.Grammar.{lines_after}
-use Rattle.task_script.proofs.reader.read.Given as goal
+use Rattle.task_script.proofs.reader.read_lines.Given as goal
 
 abbrev pub invariant-loop-after : goal.invariant-loop-after
 invariant-loop-after l = record {
