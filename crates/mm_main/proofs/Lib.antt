@@ -1,0 +1,5 @@
+pub mod Serially
+pub mod Steps
+pub mod Wholly
+pub mod Inputs
+pub mod Calls

@@ -1,0 +1,52 @@
+-- What the program answers, and what it has written then.
+use Rattle.std.specs.Prelude.{◌≡◌, ℕ, List, Option, IfSome}
+use Rattle.std.specs.Io.KnownBytes.{Appends, Keeps}
+use Rattle.word_bits.specs.Snapshots.{Words}
+use Rattle.task_script.specs.Causes.{Fronts}
+use Rattle.task_script.specs.Scripts.{Listing}
+use Rattle.mm_report.specs.Results.{Told, AreLegal}
+use Rattle.mm_report.specs.Text.{text_of}
+use Rattle.mm_main.specs.declared.status.Status.{Status}
+use Rattle.mm_main.specs.declared.status.Status.TheVariants.{Done, Usage, Refused, ReadFault, WriteFault, NoMemory}
+use Rattle.mm_main.specs.Requests.{Request, misused, refused, accepted, request, usage_text, refusal_text}
+
+-- there are results, legal for the script, of whose text this holds
+abbrev pub OfResults : Listing → (List ℕ → Type 0) → Type 0
+OfResults s P = (results : List Words) × (told : List Told) × AreLegal s results told × P (text_of s told)
+
+-- Each status has its cause, and says what was written. Read and write say that the count of that stream's faults rose.
+abbrev pub Says : Request → (read write : Type 0) → (old new : Option (List ℕ)) → Status → Type 0
+Says misused read write old new Usage = Appends old new usage_text
+Says misused read write old new WriteFault = write × Fronts old new usage_text
+Says misused read write old new NoMemory = Keeps old new
+Says misused read write old new Done = ⊥
+Says misused read write old new Refused = ⊥
+Says misused read write old new ReadFault = ⊥
+Says (refused r) read write old new Refused = Appends old new (refusal_text r)
+Says (refused r) read write old new ReadFault = read × Keeps old new
+Says (refused r) read write old new WriteFault = write × Fronts old new (refusal_text r)
+Says (refused r) read write old new NoMemory = Keeps old new
+Says (refused r) read write old new Done = ⊥
+Says (refused r) read write old new Usage = ⊥
+Says (accepted s) read write old new Done = OfResults s (Appends old new)
+Says (accepted s) read write old new ReadFault = read × Keeps old new
+Says (accepted s) read write old new WriteFault = write × OfResults s (Fronts old new)
+Says (accepted s) read write old new NoMemory = Keeps old new
+Says (accepted s) read write old new Usage = ⊥
+Says (accepted s) read write old new Refused = ⊥
+
+-- the same of the input that the source told, or of some input where it tells none
+abbrev pub Answers : (words : ℕ) → (left : Option (List ℕ)) → (read write : Type 0) → (old new : Option (List ℕ)) → Status → Type 0
+Answers words left read write old new status = (input : List ℕ) × IfSome left (λ told. told ≡ input) × Says (request words input) read write old new status
+
+abbrev pub status_number : Status → ℕ
+status_number Done = 0
+status_number Usage = 2
+status_number Refused = 3
+status_number ReadFault = 4
+status_number WriteFault = 5
+status_number NoMemory = 6
+
+-- nothing is left, or the most bytes were read
+abbrev pub most_bytes : ℕ
+most_bytes = 1048577

@@ -1,0 +1,105 @@
+//! The program over any source and sink.
+ghost use Rattle.std.specs.Prelude.{◌≡◌, ◌<◌, ◌≤◌, ◌+◌, ◌^◌, length};
+ghost use Rattle.std.specs.Io.KnownBytes.{IsAtEnd};
+ghost use Rattle.task_script.specs.Causes.{Rose};
+ghost use Rattle.task_script.specs.Grammar.{script_of};
+ghost use Rattle.task_script.specs.Scripts.{count_of_calls};
+ghost use Rattle.task_script.specs.Sound.{IsSound};
+ghost use Rattle.mm_main.specs.Requests.{misused, refused, accepted, reason_text, request_of};
+ghost use Rattle.mm_main.specs.Answers.{Answers, Says};
+
+use crate::input::{InputError, read_all};
+use crate::serial::perform_all;
+use crate::status::Status;
+use mm_report::{Results, report};
+use std::alloc::Global;
+use task_script::{Outbox, Reason, Script, ScriptError, Sink, Source, put, read};
+
+const USAGE: &[u8] = b"usage: mm_main [--spin N] [--overdue N] [--generate N] [--summary]\n";
+
+fn usage<K: Sink>(sink: &mut K) -> Status
+    ensures { Says misused ⊥ (Rose (K.faults sink.old) (K.faults sink.new)) (K.written sink.old) (K.written sink.new) result }
+{
+    match put(sink, USAGE) {
+        Ok(()) => Status::Usage,
+        Err(_) => Status::WriteFault,
+    }
+}
+
+fn reason_name(reason: Reason) -> &'static [u8]
+    ensures text { result.now ≡ reason_text reason }
+    ensures short { length result.now ≤ 7 }
+{
+    match reason {
+        Reason::TooLong => b"TooLong",
+        Reason::Later => b"Later",
+    }
+}
+
+fn refuse<K: Sink>(line: u32, reason: Reason, sink: &mut K) -> Status
+    ensures { Says (refused record { line = line; reason = reason }) ⊥ (Rose (K.faults sink.old) (K.faults sink.new)) (K.written sink.old) (K.written sink.new) result }
+{
+    let mut out = Outbox::new();
+    out.add(b"refused ");
+    out.add_number(u64::from(line));
+    out.add(b" ");
+    out.add(reason_name(reason));
+    out.add(b"\n");
+    match out.flush(sink) {
+        Ok(()) => Status::Refused,
+        Err(_) => Status::WriteFault,
+    }
+}
+
+fn run<K: Sink>(alloc: Global, script: &Script, sink: &mut K) -> Status
+    requires sound { IsSound script.now }
+    requires few { count_of_calls script.now ≤ 2 ^ 18 }
+    ensures { Says (accepted script.now) ⊥ (Rose (K.faults sink.old) (K.faults sink.new)) (K.written sink.old) (K.written sink.new) result }
+{
+    let Ok(mut results) = Results::new(alloc, script) else {
+        return Status::NoMemory;
+    };
+    perform_all(script, &mut results);
+    match report(script, &mut results, false, sink) {
+        Ok(()) => Status::Done,
+        Err(_) => Status::WriteFault,
+    }
+}
+
+fn answer<K: Sink>(alloc: Global, input: &[u8], sink: &mut K) -> Status
+    requires { length input.now ≤ 1048577 }
+    ensures { Says (request_of (script_of input.now)) ⊥ (Rose (K.faults sink.old) (K.faults sink.new)) (K.written sink.old) (K.written sink.new) result }
+{
+    match read(alloc, input) {
+        Ok(script) => run(alloc, &script, sink),
+        Err(ScriptError::Refused { line, reason }) => refuse(line, reason, sink),
+        Err(ScriptError::Memory) => Status::NoMemory,
+    }
+}
+
+/// Reads a script from the source, does its calls one after the other, task by task, and writes
+/// their histories to the sink.
+///
+/// `words` are the words of the command line after the program's name. None is taken yet.
+pub fn top<S: Source, K: Sink>(
+    alloc: Global,
+    words: &[String],
+    source: &mut S,
+    sink: &mut K,
+) -> Status
+    ensures answer { Answers (length words.now) (S.left source.old)
+        (Rose (S.faults source.old) (S.faults source.new)) (Rose (K.faults sink.old) (K.faults sink.new))
+        (K.written sink.old) (K.written sink.new) result }
+    ensures unread { 0 < length words.now → source.new ≡ source.old }
+    ensures few_reads { S.gave source.new ≤ S.gave source.old + 1048577 }
+    ensures whole { result ≡ Status.Done → IsAtEnd (S.left source.new) }
+{
+    if !words.is_empty() {
+        return usage(sink);
+    }
+    match read_all(alloc, source) {
+        Ok(input) => answer(alloc, input.as_slice(), sink),
+        Err(InputError::Memory) => Status::NoMemory,
+        Err(InputError::Failed) => Status::ReadFault,
+    }
+}
