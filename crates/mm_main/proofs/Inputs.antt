@@ -3,13 +3,13 @@ use Rattle.std.proofs.Common.{◌≡◌, ℕ, ◌<◌, ◌≤◌, Bool, true, fa
 use Rattle.std.proofs.lemmas.Bool.{cases_lt}
 use Rattle.std.proofs.lemmas.Bool.Decides.{nat_tests}
 use Rattle.std.specs.Option.{IfSome}
-use Rattle.std.specs.Io.KnownBytes.{Consumes, IsAtEnd, Keeps}
+use Rattle.std.specs.Io.KnownBytes.{Consumes, IsAtEnd, Keeps, Appends}
 use Rattle.task_script.specs.Scripts.{Listing}
 use Rattle.task_script.specs.Grammar.{Refusal, script_of}
 use Rattle.mm_main.specs.declared.status.Status.{Status}
 use Rattle.mm_main.specs.declared.status.Status.TheVariants.{Done, Usage, Refused, ReadFault, WriteFault, NoMemory}
 use Rattle.mm_main.specs.Requests.{Request, misused, refused, accepted, request, request_of}
-use Rattle.mm_main.specs.Answers.{Says}
+use Rattle.mm_main.specs.Answers.{Says, OfResults, Answers, Completes}
 
 Keeps-refl : (a : Option (List ℕ)) → Keeps a a
 Keeps-refl None = tt
@@ -75,3 +75,18 @@ pub said_no_memory : (r : Request) (read write : Type 0) (old : Option (List ℕ
 said_no_memory misused read write old = Keeps-refl old
 said_no_memory (refused r) read write old = Keeps-refl old
 said_no_memory (accepted s) read write old = Keeps-refl old
+
+complete_for : (s : Listing) (read write : Type 0) (old new : Option (List ℕ)) (status : Status) → Says (accepted s) read write old new status → ¬ read → ¬ write → (status ≡ NoMemory) ⊎ ((status ≡ Done) × OfResults s (Appends old new))
+complete_for s read write old new Done h r w = inr (refl, h)
+complete_for s read write old new Usage h r w = absurd h
+complete_for s read write old new Refused h r w = absurd h
+complete_for s read write old new ReadFault h r w = absurd (r h.0)
+complete_for s read write old new WriteFault h r w = absurd (w h.0)
+complete_for s read write old new NoMemory h r w = inl refl
+
+-- the table of statuses is complete
+pub completes : (words : ℕ) (left : Option (List ℕ)) (read write : Type 0) (old new : Option (List ℕ)) (status : Status) → Answers words left read write old new status → Completes words left read write old new status
+completes words None read write old new status answer none = tt
+completes words (Some told) read write old new status answer none = λ s is no_read no_write.
+    let same : script_of answer.0 ≡ Ok s = ap script_of (sym answer.1) ∙ is in
+    complete_for s read write old new status (subst (λ q. Says q read write old new status) (without_words words answer.0 none ∙ ap request_of same) answer.2) no_read no_write

@@ -1,9 +1,10 @@
 -- What the program answers, and what it has written then.
-use Rattle.std.specs.Prelude.{◌≡◌, ℕ, List, Option, IfSome}
+use Rattle.std.specs.Prelude.{◌≡◌, ℕ, List, Option, IfSome, Ok, ◌⊎◌}
 use Rattle.std.specs.Io.KnownBytes.{Appends, Keeps}
 use Rattle.word_bits.specs.Snapshots.{Words}
 use Rattle.task_script.specs.Causes.{Fronts}
 use Rattle.task_script.specs.Scripts.{Listing}
+use Rattle.task_script.specs.Grammar.{script_of}
 use Rattle.mm_report.specs.Results.{Told, AreLegal}
 use Rattle.mm_report.specs.Text.{text_of}
 use Rattle.mm_main.specs.declared.status.Status.{Status}
@@ -47,6 +48,7 @@ status_number ReadFault = 4
 status_number WriteFault = 5
 status_number NoMemory = 6
 
--- nothing is left, or the most bytes were read
-abbrev pub most_bytes : ℕ
-most_bytes = 1048577
+-- Where there are no words, the input is told and accepted and no count of faults rose, the whole text is written, or there was no memory.
+abbrev pub Completes : (words : ℕ) → (left : Option (List ℕ)) → (read write : Type 0) → (old new : Option (List ℕ)) → Status → Type 0
+Completes words left read write old new status =
+    words ≡ 0 → IfSome left (λ input. (s : Listing) → script_of input ≡ Ok s → ¬ read → ¬ write → (status ≡ NoMemory) ⊎ ((status ≡ Done) × OfResults s (Appends old new)))

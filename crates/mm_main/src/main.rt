@@ -41,3 +41,6 @@ fn run(rt: &HostRuntime) -> Status {
 fn main(rt: HostRuntime) -> ExitCode {
     ExitCode::from(run(&rt).number())
 }
+
+#[cfg(test)]
+mod tests;

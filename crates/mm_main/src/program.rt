@@ -6,7 +6,7 @@ ghost use Rattle.task_script.specs.Grammar.{script_of};
 ghost use Rattle.task_script.specs.Scripts.{count_of_calls};
 ghost use Rattle.task_script.specs.Sound.{IsSound};
 ghost use Rattle.mm_main.specs.Requests.{misused, refused, accepted, reason_text, request_of};
-ghost use Rattle.mm_main.specs.Answers.{Answers, Says};
+ghost use Rattle.mm_main.specs.Answers.{Answers, Completes, Says};
 
 use crate::input::{InputError, read_all};
 use crate::serial::perform_all;
@@ -88,6 +88,9 @@ pub fn top<S: Source, K: Sink>(
     sink: &mut K,
 ) -> Status
     ensures answer { Answers (length words.now) (S.left source.old)
+        (Rose (S.faults source.old) (S.faults source.new)) (Rose (K.faults sink.old) (K.faults sink.new))
+        (K.written sink.old) (K.written sink.new) result }
+    ensures complete { Completes (length words.now) (S.left source.old)
         (Rose (S.faults source.old) (S.faults source.new)) (Rose (K.faults sink.old) (K.faults sink.new))
         (K.written sink.old) (K.written sink.new) result }
     ensures unread { 0 < length words.now → source.new ≡ source.old }

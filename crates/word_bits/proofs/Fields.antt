@@ -9,6 +9,6 @@ masked n w narrow = ap (λ m. bit_and n (m - 1)) (one_shl w 64 narrow) ∙ and_m
 
 -- what lies above the first bits is added
 pub joined : (high k low : ℕ) → low < 2 ^ k → high * 2 ^ k < 2 ^ 64 → bit_or ((high * 2 ^ k) % 2 ^ 64) low ≡ low + high * 2 ^ k
-joined high k low below fits = 
-  let whole : (high * 2 ^ k) % 2 ^ 64 ≡ high * 2 ^ k = omega arith in
-  ap (λ n. bit_or n low) whole ∙ or_shifted high k low below ∙ add_comm (high * 2 ^ k) low
+joined high k low below fits =
+    let whole : (high * 2 ^ k) % 2 ^ 64 ≡ high * 2 ^ k = omega arith in
+    ap (λ n. bit_or n low) whole ∙ or_shifted high k low below ∙ add_comm (high * 2 ^ k) low

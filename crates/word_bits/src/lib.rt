@@ -21,3 +21,6 @@ pub use snapshot::Snapshot;
 
 /// The largest number of tasks of a script. Task numbers are below it.
 pub const MAX_TASKS: u32 = 64;
+
+#[cfg(test)]
+mod tests;

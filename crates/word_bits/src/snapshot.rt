@@ -21,23 +21,18 @@ impl Model for Snapshot {
     ghost Value = { Words };
 
     ghost view = { λ s. record {
-        recs = s.recs.items;
-        log = s.log.items;
-        state = s.state.items;
-        recs_room = vec_capacity s.recs;
-        log_room = vec_capacity s.log;
-        state_room = vec_capacity s.state;
+      recs = s.recs.items;
+      log = s.log.items;
+      state = s.state.items;
+      recs_room = vec_capacity s.recs;
+      log_room = vec_capacity s.log;
+      state_room = vec_capacity s.state;
     } };
 }
 
 impl Snapshot {
     /// An empty snapshot with room for so many words in each list.
-    pub fn new(
-        alloc: Global,
-        recs: usize,
-        log: usize,
-        state: usize,
-    ) -> Result<Snapshot, AllocError>
+    pub fn new(alloc: Global, recs: usize, log: usize, state: usize) -> Result<Snapshot, AllocError>
         ensures { IfOk result (λ s. s ≡ no_words recs log state) }
     {
         Ok(Snapshot {

@@ -2,7 +2,8 @@ use Rattle.std.proofs.Common.{◌≡◌, ◌<◌, ◌∙◌, length, ap, sym, ar
 use Rattle.std.proofs.lemmas.Bool.Decides.{nat_tests}
 use Rattle.task_script.specs.Grammar.{script_of}
 use Rattle.mm_main.specs.Requests.{request, request_of, misused}
-use Rattle.mm_main.proofs.Inputs.{same_input, any_input, with_words, without_words, said, said_failed, said_no_memory}
+use Rattle.mm_main.proofs.Inputs.{same_input, any_input, with_words, without_words, said, said_failed, said_no_memory, completes}
+use Rattle.mm_main.specs.declared.status.Status.TheVariants.{NoMemory, ReadFault}
 use Rattle.mm_main.proofs.program.top.Goals as goal
 
 pub returns-then-not-is_empty-clause-answer : goal.returns-then-not-is_empty-clause-answer
@@ -29,3 +30,15 @@ returns-in-Err-Failed-clause-answer g c =
     let t = any_input (g.S.Source.left c.args.source.now) in
     let none : length c.args.words.now ≡ 0 = grind (arith, nat_tests) in
     (t.0, t.1, said_failed t.0 (length c.args.words.now) _ _ (g.K.Sink.written c.args.sink.now) none (search rules))
+
+pub returns-then-not-is_empty-clause-complete : goal.returns-then-not-is_empty-clause-complete
+returns-then-not-is_empty-clause-complete g c = completes (length c.args.words.now) (g.S.Source.left c.args.source.now) _ _ _ _ c.usage.result (returns-then-not-is_empty-clause-answer g c)
+
+pub returns-in-Ok-clause-complete : goal.returns-in-Ok-clause-complete
+returns-in-Ok-clause-complete g c = completes (length c.args.words.now) (g.S.Source.left c.args.source.now) _ _ _ _ c.answer.result (returns-in-Ok-clause-answer g c)
+
+pub returns-in-Err-Memory-clause-complete : goal.returns-in-Err-Memory-clause-complete
+returns-in-Err-Memory-clause-complete g c = completes (length c.args.words.now) (g.S.Source.left c.args.source.now) _ _ _ _ NoMemory (returns-in-Err-Memory-clause-answer g c)
+
+pub returns-in-Err-Failed-clause-complete : goal.returns-in-Err-Failed-clause-complete
+returns-in-Err-Failed-clause-complete g c = completes (length c.args.words.now) (g.S.Source.left c.args.source.now) _ _ _ _ ReadFault (returns-in-Err-Failed-clause-answer g c)
