@@ -18,38 +18,16 @@ use Rattle.word_bits.specs.RecWord.{IsRec, rec_word, value_of}
 use Rattle.word_bits.specs.Replies.{errno_number}
 use Rattle.word_bits.specs.LockWords.{Unavailable}
 use Rattle.word_bits.specs.Objects.{Obj, IsObjectReply}
+use Rattle.word_bits.proofs.States.{IsLawful, state_is_state}
 use Rattle.word_bits.specs.Snapshots.{Words}
 use Rattle.word_bits.specs.Histories.{Plan, Records, Event, at_entry, events_from, task_events, state_after, next_state, changes, logs, event_logs}
 use Rattle.word_bits.specs.Legal.{IsLegal, IsLogged, IsRead, IsUnheld, IsRecord, IsReplyAt, AreTaskRecords, AreRecords, Tells, is_intr, seen_after, signals_to}
 use Rattle.mm_main.specs.Serial.{record_after, log_after, task_records, task_log, all_records, all_log, IsCallOf, IsSerial}
 
--- the laws of an object on which this rests
-pub record IsLawful {Call : Type 0} (o : Obj Call) : Type 0 where
-  pub starts : o.IsState o.empty
-  pub called : (w : CallWords) (c : Call) → o.call_of w ≡ Some c → o.IsCall c
-  pub goes_on : (s : o.State) (c : Call) → o.IsState s → o.IsCall c → o.IsState (o.meaning s c).0
-  pub replies : (s : o.State) (c : Call) → o.IsState s → o.IsCall c → IsObjectReply (o.meaning s c).1
-
 module _ {Call : Type 0} (o : Obj Call) (lawful : IsLawful o) where
-  next_is_state : (s : o.State) (w : Option CallWords) → o.IsState s → o.IsState (next_state o s (option_and_then o.call_of w))
-  next_is_state s None is = is
-  next_is_state s (Some w) is = go (o.call_of w) refl
-    where
-      go : (c : Option Call) → o.call_of w ≡ c → o.IsState (next_state o s c)
-      go None e = is
-      go (Some c) e = lawful.goes_on s c is (lawful.called w c e)
-
-  fold_is_state : (plan : Plan) (log : List Entry) (s : o.State) → o.IsState s → o.IsState (fold (λ (t : o.State) (e : Entry). next_state o t (option_and_then o.call_of (at_entry plan e))) s log)
-  fold_is_state plan [] s is = is
-  fold_is_state plan (e ∷ es) s is = fold_is_state plan es _ (next_is_state s (at_entry plan e) is)
-
-  -- every log leads to a state
-  pub state_is_state : (plan : Plan) (log : List Entry) → o.IsState (state_after o plan log)
-  state_is_state plan log = fold_is_state plan log o.empty lawful.starts
-
   -- what is replied anywhere is the reply of an object
   reply_is : (plan : Plan) (log : List Entry) (w : CallWords) (c : Call) → o.call_of w ≡ Some c → IsObjectReply (record_after o plan log w).reply
-  reply_is plan log w c e = rw e (lawful.replies (state_after o plan log) c (state_is_state plan log) (lawful.called w c e))
+  reply_is plan log w c e = rw e (lawful.replies (state_after o plan log) c (state_is_state o lawful plan log) (lawful.called w c e))
 
   logs_changes : (w : CallWords) (r : Reply) → IsObjectReply r → logs o w r ≡ changes o w
   logs_changes w Good is = refl

@@ -15,12 +15,12 @@ use Rattle.word_bits.specs.Histories.{Plan}
 use Rattle.word_bits.specs.Legal.{Tells}
 use Rattle.vma_map.specs.declared.call.SpaceCall.{SpaceCall}
 use Rattle.vma_map.specs.Spaces.{space}
-use Rattle.vma_map.specs.SpaceLaws.{called_law, goes_on_law, replies_law}
+use Rattle.mm_report.proofs.Lawful.{space_lawful}
 use Rattle.task_script.specs.declared.script.Line.{Line}
 use Rattle.task_script.specs.Scripts.{Declared, Listing, call_words, count_of_calls, is_on, plan_of}
 use Rattle.mm_report.specs.Results.{Told, IsLegalOn, AreLegalFrom, AreCompleteFrom, empty_from, calls_on, words_of_kind}
 use Rattle.mm_main.specs.Serial.{IsCallOf, IsSerial, log_after, task_records, task_log, all_records, all_log}
-use Rattle.mm_main.proofs.Serially.{IsLawful, serial_legal, serial_tells}
+use Rattle.mm_main.proofs.Serially.{serial_legal, serial_tells}
 use Rattle.mm_main.proofs.Steps.{on_object}
 
 -- the objects before one are done, the others have empty snapshots
@@ -81,15 +81,6 @@ done_more s next object (d ∷ ds) (v ∷ ws) zero w is within done serial =
     )
 done_more s next object (d ∷ ds) (v ∷ ws) (suc i) w is within done serial =
     (others_done s next object d v done.0 (λ same. omega arith), done_more s next (object + 1) ds ws i w (omega arith) (omega arith) done.1 serial)
-
--- the laws of a space
-pub space_lawful : IsLawful space
-space_lawful = record {
-  starts = refl;
-  called = called_law;
-  goes_on = λ m c is valid. goes_on_law m c is;
-  replies = λ m c is valid. replies_law m c is;
-}
 
 -- as many calls are planned as lines are on the object
 planned : (object : ℕ) (tasks : List (List Line)) → sum_by length (map (on_object object) tasks) ≡ sum_by (count_by (is_on object)) tasks

@@ -36,6 +36,21 @@ fn answers_each_script_with_its_text(rt: HostRuntime) -> Result<(), Fail> {
             Status::Done,
             "space pages_1\n0.0 fault 4294967295 x = maperr\n0.1 fault 0 w = maperr\nleft 0\n",
         ),
+        (
+            "space a\ntask\na map 16 4 rw-\na fault 17 w\na fault 20 r\n",
+            Status::Done,
+            "space a\n0.0 map 16 4 rw- = 16\n0.1 fault 17 w = ok\n0.2 fault 20 r = maperr\nleft 1\n16-20 rw-\n",
+        ),
+        (
+            "space a\ntask\na map 1048575 2 r--\na map 5 0 r--\na map 1048575 1 r--\na fault 1048576 r\n",
+            Status::Done,
+            "space a\n0.0 map 1048575 2 r-- = EINVAL\n0.1 map 5 0 r-- = EINVAL\n0.2 map 1048575 1 r-- = 1048575\n0.3 fault 1048576 r = maperr\nleft 1\n1048575-1048576 r--\n",
+        ),
+        (
+            "space a\ntask\na map 0 1048576 r--\na map 4 2 --x\na fault 5 x\na fault 6 w\na map 6 1 --x\n",
+            Status::Done,
+            "space a\n0.0 map 0 1048576 r-- = 0\n0.1 map 4 2 --x = 4\n0.2 fault 5 x = ok\n0.3 fault 6 w = accerr\n0.4 map 6 1 --x = 6\nleft 3\n0-4 r--\n4-7 --x\n7-1048576 r--\n",
+        ),
         ("", Status::Done, ""),
         ("space a\n", Status::Done, "space a\nleft 0\n"),
         ("task\n", Status::Done, ""),
@@ -60,7 +75,7 @@ fn answers_each_script_with_its_text(rt: HostRuntime) -> Result<(), Fail> {
 
 #[test]
 fn ends_at_a_fault_with_what_was_written(rt: HostRuntime) -> Result<(), Fail> {
-    let script = b"space a\ntask\na fault 5 r\n";
+    let script = b"space a\ntask\na map 16 4 rw-\na fault 17 w\na fault 20 r\n";
     for fail in [0, 1, 2, 3] {
         let (status, written) = run(rt.alloc(), script, 8, &[fail], 1000)?;
         assert_eq!(rt; status, Status::ReadFault, "read {fail}");

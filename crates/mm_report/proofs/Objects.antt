@@ -1,8 +1,6 @@
 -- What is told object by object.
-use Rattle.std.proofs.Common.{◌≡◌, ℕ, ◌+◌, ◌<◌, ◌≤◌, zero, suc, Bool, List, [], ◌∷◌, ◌++◌, length, take, drop, map, refl, sym, ap, ◌∙◌, subst, arith, append-nil, append_assoc, Option, Some, None}
+use Rattle.std.proofs.Common.{◌≡◌, ℕ, ◌+◌, ◌<◌, zero, suc, List, [], ◌∷◌, ◌++◌, length, drop, refl, sym, ap, ◌∙◌, subst, arith, append_assoc, Some}
 use Rattle.std.specs.Prelude.{slice_get}
-use Rattle.std.proofs.lemmas.Option.{slice_get_within}
-use Rattle.std.proofs.lemmas.List.{drop_all}
 use Rattle.word_bits.specs.Snapshots.{Words}
 use Rattle.word_bits.specs.Legal.{Tells}
 use Rattle.task_script.specs.Scripts.{Declared, Listing, plan_of}
@@ -26,15 +24,17 @@ pub record IsStep (s : Listing) (object : ℕ) (d : Declared) (w : Words) (rest_
   pub legal : IsLegalOn d.is_space (plan_of s object) here w.state
   pub rest : AreLegalFrom s (object + 1) rest_objects rest_words behind
 
+-- of objects that are left the first is legal, and so are those behind it
 step_of : (s : Listing) (object : ℕ) (d : Declared) (ds : List Declared) (w : Words) (ws : List Words) (told : List Told) → AreLegalFrom s object (d ∷ ds) (w ∷ ws) told → IsStep s object d w ds ws told
 step_of s object d ds w ws [] legal = absurd legal
 step_of s object d ds w ws (t ∷ ts) legal = record { here = t; behind = ts; is = refl; tells = legal.0; legal = legal.1; rest = legal.2 }
 
+-- the same at an object's place
 pub step_at : (s : Listing) (object : ℕ) (ds : List Declared) (ws : List Words) (told : List Told) (d : Declared) (w : Words) → slice_get ds object ≡ Some d → slice_get ws object ≡ Some w
     → AreLegalFrom s object (drop object ds) (drop object ws) told → IsStep s object d w (drop (object + 1) ds) (drop (object + 1) ws) told
 step_at s object ds ws told d w at-d at-w legal =
     step_of s object d (drop (object + 1) ds) w (drop (object + 1) ws) told
-        (subst (λ us. AreLegalFrom s object (d ∷ drop (object + 1) ds) us told) (drop_at ws object w at-w) (subst (λ es. AreLegalFrom s object es (drop object ws) told) (drop_at ds object d at-d) legal))
+    (subst (λ us. AreLegalFrom s object (d ∷ drop (object + 1) ds) us told) (drop_at ws object w at-w) (subst (λ es. AreLegalFrom s object es (drop object ws) told) (drop_at ds object d at-d) legal))
 
 -- what is behind the first of what is left
 pub behind_at : {X : Type 0} (xs : List X) (i : ℕ) (x : X) (rest : List X) → drop i xs ≡ x ∷ rest → drop (i + 1) xs ≡ rest
@@ -55,6 +55,7 @@ text_split s object ds d t ts told done all at is whole =
     append_assoc done (head_text d ++ told_text s object d.is_space t) (text_from s (object + 1) (drop (object + 1) ds) ts)
     ∙ ap (λ l. done ++ l) (sym (text_step s object ds d t ts at) ∙ ap (text_from s object (drop object ds)) (sym is)) ∙ whole
 
+-- at each place below the length something stands
 pub at_place : {X : Type 0} (xs : List X) (i : ℕ) → i < length xs → (x : X) × (slice_get xs i ≡ Some x)
 at_place [] i within = absurd (omega arith)
 at_place (x ∷ xs) zero within = (x, refl)

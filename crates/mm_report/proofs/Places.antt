@@ -1,12 +1,11 @@
 -- What stands at a place of a filtered list, of a task's events and of their text.
-use Rattle.std.proofs.Common.{◌≡◌, ℕ, ◌+◌, ◌<◌, ◌≤◌, Bool, true, false, cond, zero, suc, List, [], ◌∷◌, ◌++◌, length, take, drop, map, ◌-◌, refl, sym, ap, ◌∙◌, append_assoc, append-nil, add-one, length-append, min, add-zero, zero-add, nat_eq, nat_lt, get_or, arith, Option, Some, None}
-use Rattle.std.specs.Prelude.{slice_get, filter, flat_map, count_by}
+use Rattle.std.proofs.Common.{◌≡◌, ℕ, ◌+◌, ◌<◌, Bool, true, false, cond, zero, suc, List, [], ◌∷◌, ◌++◌, length, take, map, ◌-◌, refl, sym, ap, ◌∙◌, length-append, min, add-zero, zero-add, nat_eq, nat_lt, get_or, arith, Some}
+use Rattle.std.specs.Prelude.{slice_get, filter, count_by}
 use Rattle.std.specs.List.{AllByRecursion}
-use Rattle.std.proofs.lemmas.Option.{slice_get_within, same_Some, slice_get-map, slice_get-get_or, slice_get_read}
+use Rattle.std.proofs.lemmas.Option.{same_Some, slice_get-map, slice_get-get_or, slice_get_read}
 use Rattle.std.proofs.lemmas.List.Sums.{sum_by-cons}
 use Rattle.std.proofs.lemmas.Bool.Decides.{nat_tests}
 use Rattle.word_bits.specs.declared.call.CallWords.{CallWords}
-use Rattle.word_bits.specs.declared.entry.Entry.{Entry}
 use Rattle.word_bits.specs.declared.rec.Rec.{Rec}
 use Rattle.word_bits.specs.Histories.{Event, task_events}
 use Rattle.task_script.specs.declared.script.Line.{Line}
@@ -19,9 +18,11 @@ use Rattle.word_bits.specs.RecWord.{IsRec, rec_word}
 use Rattle.task_script.proofs.Pieces.{mapped_at}
 use Rattle.mm_report.specs.Text.{number_of, event_line, task_event_text}
 
-count_cons : {X : Type 0} (p : X → Bool) (x : X) (xs : List X) → count_by p (x ∷ xs) ≡ cond (p x) 1 0 + count_by p xs
+-- what one more element in front counts
+pub count_cons : {X : Type 0} (p : X → Bool) (x : X) (xs : List X) → count_by p (x ∷ xs) ≡ cond (p x) 1 0 + count_by p xs
 count_cons p x xs = sum_by-cons (λ y. cond (p y) 1 0) x xs
 
+-- one more element in front, kept or dropped, moves a place
 filter_step : {X : Type 0} (y x : X) (b : Bool) (n : ℕ) (fs : List X) → slice_get fs n ≡ Some x → slice_get (cond b (y ∷ fs) fs) (cond b 1 0 + n) ≡ Some x
 filter_step y x true n fs h = let e : 1 + n ≡ suc n = omega arith in rw e h
 filter_step y x false n fs h = rw (zero-add n) h
@@ -32,6 +33,7 @@ filter_at p [] i x is passes = cc
 filter_at p (y ∷ ys) zero x is passes = rw (same_Some y x is, passes) refl
 filter_at p (y ∷ ys) (suc i) x is passes = rw (count_cons p y (take i ys)) (filter_step y x (p y) (count_by p (take i ys)) (filter p ys) (filter_at p ys i x is passes))
 
+-- one more call in front, on the object or not, moves a number
 number_step : (b : Bool) (n m : ℕ) (f : ℕ → ℕ) → f n ≡ m → cond b (cond (nat_eq (cond b 1 0 + n) 0) 0 (f (cond b 1 0 + n - 1) + 1)) (f (cond b 1 0 + n) + 1) ≡ suc m
 number_step true n m f h =
     let later : nat_eq (1 + n) 0 ≡ false = grind (arith, nat_tests) in
@@ -46,6 +48,7 @@ number_at object (m ∷ ms) zero l is passes = rw (same_Some m l is, passes) ref
 number_at object (m ∷ ms) (suc i) l is passes =
     rw (count_cons (is_on object) m (take i ms)) (number_step (is_on object m) (count_by (is_on object) (take i ms)) i (number_of object ms) (number_at object ms i l is passes))
 
+-- at each place stands the event of the call and the record there
 pub event_at : (task call : ℕ) (ws : List CallWords) (rs : List Rec) (c : ℕ) (w : CallWords) (r : Rec) → slice_get ws c ≡ Some w → slice_get rs c ≡ Some r
     → slice_get (task_events task call ws rs) c ≡ Some (record { entry = record { task = task; call = call + c }; words = w; told = r })
 event_at task call [] rs c w r iw ir = cc

@@ -1,5 +1,5 @@
 -- What stands at a place of a list, and what is reserved object by object.
-use Rattle.std.proofs.Common.{◌≡◌, ℕ, ◌+◌, ◌<◌, Bool, zero, suc, List, [], ◌∷◌, ◌++◌, length, get_or, take, drop, map, refl, sym, ap, ◌∙◌, append_assoc, add-one, arith, Option, Some, None}
+use Rattle.std.proofs.Common.{◌≡◌, ℕ, ◌+◌, Bool, zero, suc, List, [], ◌∷◌, ◌++◌, take, drop, map, refl, sym, ap, ◌∙◌, append_assoc, arith, Some}
 use Rattle.std.specs.Prelude.{slice_get, sum_by}
 use Rattle.std.proofs.lemmas.Option.{slice_get_within, get_or_from_slice_get, same_Some}
 use Rattle.std.proofs.lemmas.List.Sums.{sum_by_more}
@@ -39,6 +39,7 @@ mapped_same f [] i x y at is = cc
 mapped_same f (z ∷ xs) zero x y at is = sym (same_Some (f z) y is) ∙ ap f (same_Some z x at)
 mapped_same f (z ∷ xs) (suc i) x y at is = mapped_same f xs i x y at is
 
+-- the lines of task 0 are the first of all
 pub first_lines : (tasks : List (List Line)) (ls : List Line) → slice_get tasks 0 ≡ Some ls → ls ≡ task_lines tasks 0
 first_lines [] ls at = cc
 first_lines (ms ∷ more) ls at = sym (same_Some ms ls at)

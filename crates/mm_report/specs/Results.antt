@@ -22,6 +22,7 @@ abbrev pub empty_from : Listing → ℕ → List Declared → List Words
 empty_from s object [] = []
 empty_from s object (d ∷ ds) = no_words (calls_on s object) (calls_on s object) (words_of_kind d.is_space) ∷ empty_from s (object + 1) ds
 
+-- the same for each object of the script
 abbrev pub empty_results : Listing → List Words
 empty_results s = empty_from s 0 s.objects
 
@@ -45,6 +46,7 @@ AreLegalFrom s object (d ∷ ds) (w ∷ ws) [] = ⊥
 AreLegalFrom s object (d ∷ ds) (w ∷ ws) (t ∷ ts) =
     Tells w t.records t.log × IsLegalOn d.is_space (plan_of s object) t w.state × AreLegalFrom s (object + 1) ds ws ts
 
+-- the same of all objects
 abbrev pub AreLegal : Listing → List Words → List Told → Type 0
 AreLegal s words told = AreLegalFrom s 0 s.objects words told
 
@@ -55,5 +57,6 @@ AreCompleteFrom s object [] (w ∷ ws) = ⊥
 AreCompleteFrom s object (d ∷ ds) [] = ⊥
 AreCompleteFrom s object (d ∷ ds) (w ∷ ws) = (length w.recs ≡ calls_on s object) × AreCompleteFrom s (object + 1) ds ws
 
+-- the same of all objects
 abbrev pub AreComplete : Listing → List Words → Type 0
 AreComplete s words = AreCompleteFrom s 0 s.objects words

@@ -1,5 +1,5 @@
 -- The text of a script's histories and of the states that they leave.
-use Rattle.std.specs.Prelude.{◌≡◌, ℕ, ◌+◌, ◌-◌, ◌/◌, ◌%◌, ◌==◌, zero, suc, Bool, true, false, List, [], ◌∷◌, ◌++◌, length, flat_map, if◌then◌else◌, Option, Some, None, codes, decimal}
+use Rattle.std.specs.Prelude.{ℕ, ◌+◌, ◌-◌, ◌/◌, ◌%◌, ◌==◌, zero, suc, Bool, true, false, List, [], ◌∷◌, ◌++◌, length, flat_map, if◌then◌else◌, Option, Some, None, codes, decimal}
 use Rattle.word_bits.specs.declared.area.Area.{Area}
 use Rattle.word_bits.specs.declared.call.CallWords.{CallWords}
 use Rattle.word_bits.specs.declared.call.Mode.{Mode}
@@ -9,15 +9,16 @@ use Rattle.word_bits.specs.declared.reply.Errno.TheVariants.{BadF, NoMem, Exist,
 use Rattle.word_bits.specs.declared.reply.Reply.{Reply}
 use Rattle.word_bits.specs.declared.reply.Reply.TheVariants.{Good, Num, Refused, MapErr, AccErr, Busy, Intr, Sent}
 use Rattle.word_bits.specs.Calls.{mode_of, signal_of}
-use Rattle.word_bits.specs.Histories.{Plan, Event, history, state_after}
+use Rattle.word_bits.specs.Histories.{Event, history, state_after}
 use Rattle.word_bits.specs.PageMaps.{PageMap, runs}
 use Rattle.vma_map.specs.declared.call.SpaceCall.{SpaceCall}
-use Rattle.vma_map.specs.declared.call.SpaceCall.TheVariants.{Fault}
+use Rattle.vma_map.specs.declared.call.SpaceCall.TheVariants.{Map, Fault}
 use Rattle.vma_map.specs.Spaces.{space, call_of}
 use Rattle.task_script.specs.declared.script.Line.{Line}
 use Rattle.task_script.specs.Scripts.{Declared, Listing, plan_of, is_on}
 use Rattle.mm_report.specs.Results.{Told}
 
+-- an error's name
 abbrev pub errno_text : Errno → List ℕ
 errno_text BadF = codes "EBADF"
 errno_text NoMem = codes "ENOMEM"
@@ -25,6 +26,7 @@ errno_text Exist = codes "EEXIST"
 errno_text Inval = codes "EINVAL"
 errno_text MFile = codes "EMFILE"
 
+-- a reply, in its word or its number
 abbrev pub reply_text : Reply → List ℕ
 reply_text Good = codes "ok"
 reply_text (Num n) = decimal n
@@ -35,6 +37,7 @@ reply_text (Busy word) = codes "busy " ++ decimal word
 reply_text Intr = codes "EINTR"
 reply_text Sent = codes "sent"
 
+-- what stands in front of a call of this mode
 abbrev pub mode_text : Mode → List ℕ
 mode_text Plain = []
 mode_text Int = codes "int "
@@ -44,6 +47,7 @@ mode_text Try = codes "try "
 abbrev pub letter : ℕ → ℕ → ℕ → ℕ
 letter bits bit name = if (bits / bit) % 2 == 1 then name else 45
 
+-- rwx, with a dash for each missing bit
 abbrev pub prot_text : ℕ → List ℕ
 prot_text prot = letter prot 1 114 ∷ letter prot 2 119 ∷ letter prot 4 120 ∷ []
 
@@ -51,7 +55,9 @@ prot_text prot = letter prot 1 114 ∷ letter prot 2 119 ∷ letter prot 4 120 �
 abbrev pub access_text : ℕ → List ℕ
 access_text access = if access == 1 then codes "r" else if access == 2 then codes "w" else codes "x"
 
+-- map START LEN PROT, or fault PAGE ACCESS
 abbrev pub space_call_text : SpaceCall → List ℕ
+space_call_text (Map start len prot) = codes "map " ++ decimal start ++ codes " " ++ decimal len ++ codes " " ++ prot_text prot
 space_call_text (Fault page access) = codes "fault " ++ decimal page ++ codes " " ++ access_text access
 
 -- a call as a script has it, without the object's name and the mode
@@ -60,6 +66,7 @@ bare_call_text (Some call) target = space_call_text call
 bare_call_text None (Some task) = codes "signal " ++ decimal task
 bare_call_text None None = []
 
+-- the mode and the call
 abbrev pub call_text : CallWords → List ℕ
 call_text w = mode_text (mode_of w) ++ bare_call_text (call_of w) (signal_of w)
 
@@ -84,6 +91,7 @@ event_line task number w reply = decimal task ++ codes "." ++ decimal number ++ 
 abbrev pub task_event_text : ℕ → List Line → Event → List ℕ
 task_event_text object lines v = event_line v.entry.task (number_of object lines v.entry.call) v.words v.told.reply
 
+-- the same among all calls of the script
 abbrev pub event_text : Listing → ℕ → Event → List ℕ
 event_text s object v = task_event_text object (task_lines s.tasks v.entry.task) v
 
@@ -91,6 +99,7 @@ event_text s object v = task_event_text object (task_lines s.tasks v.entry.task)
 abbrev pub area_text : Area → List ℕ
 area_text a = decimal a.start ++ codes "-" ++ decimal a.end ++ codes " " ++ prot_text a.prot ++ codes "\n"
 
+-- how many areas are left
 abbrev pub left_text : ℕ → List ℕ
 left_text count = codes "left " ++ decimal count ++ codes "\n"
 
@@ -98,9 +107,11 @@ left_text count = codes "left " ++ decimal count ++ codes "\n"
 abbrev pub space_text : PageMap → List ℕ
 space_text m = left_text (length (runs m)) ++ flat_map area_text (runs m)
 
+-- the kind and the name of an object
 abbrev pub head_line : Bool → List ℕ → List ℕ
 head_line is_space name = (if is_space then codes "space " else codes "table ") ++ name ++ codes "\n"
 
+-- the line in front of what is told of an object
 abbrev pub head_text : Declared → List ℕ
 head_text d = head_line d.is_space d.name
 
@@ -110,10 +121,12 @@ told_text s object true t =
     flat_map (event_text s object) (history space (plan_of s object) t.records t.log) ++ space_text (state_after space (plan_of s object) t.log)
 told_text s object false t = []
 
+-- what is told of the objects from this one on
 abbrev pub text_from : Listing → ℕ → List Declared → List Told → List ℕ
 text_from s object [] ts = []
 text_from s object (d ∷ ds) [] = []
 text_from s object (d ∷ ds) (t ∷ ts) = head_text d ++ told_text s object d.is_space t ++ text_from s (object + 1) ds ts
 
+-- what is told of all objects, in the order of declaration
 abbrev pub text_of : Listing → List Told → List ℕ
 text_of s told = text_from s 0 s.objects told

@@ -3,6 +3,8 @@
 
 mod line;
 mod results;
+#[cfg(test)]
+mod tests;
 mod text;
 
 pub use results::Results;

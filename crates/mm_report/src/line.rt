@@ -86,6 +86,14 @@ fn add_space_call(out: &mut Outbox, call: SpaceCall)
     ensures short { length out.new ≤ length out.old + 94 }
 {
     match call {
+        SpaceCall::Map { start, len, prot } => {
+            out.add(b"map ");
+            out.add_number(u64::from(start));
+            out.add(b" ");
+            out.add_number(u64::from(len));
+            out.add(b" ");
+            out.add(&prot_letters(prot));
+        }
         SpaceCall::Fault { page, access } => {
             out.add(b"fault ");
             out.add_number(u64::from(page));

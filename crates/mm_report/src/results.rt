@@ -42,7 +42,7 @@ fn state_words(is_space: bool) -> usize
 }
 
 // How many calls of the script are on the object. More than a `usize` counts can't be reserved.
-fn calls_of(script: &Script, object: u32) -> Result<usize, AllocError>
+pub(crate) fn calls_of(script: &Script, object: u32) -> Result<usize, AllocError>
     ensures { IfOk result (λ count. count ≡ calls_on script.now object) }
 {
     let mut count = 0usize;

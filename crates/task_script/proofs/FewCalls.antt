@@ -4,12 +4,13 @@ use Rattle.std.proofs.lemmas.List.Sums.{sum_by-cons}
 use Rattle.std.specs.List.{slice_split, onto_first}
 use Rattle.std.specs.Str.{bytes_eq}
 use Rattle.std.proofs.lemmas.Slice.Eq.{bytes_eq-Decides}
+use Rattle.word_bits.specs.declared.call.CallWords.{CallWords}
 use Rattle.task_script.specs.declared.script.Line.{Line}
 use Rattle.task_script.specs.declared.reader.Reason.TheVariants.{TooLong}
 use Rattle.task_script.specs.Cuts.{lines, words}
-use Rattle.task_script.specs.Tokens.{is_name, number, access}
+use Rattle.task_script.specs.Tokens.{is_name, number, prot}
 use Rattle.task_script.specs.Scripts.{Declared, Listing, nothing, count_of_calls}
-use Rattle.task_script.specs.Grammar.{place_of, with_call, fault, space_line, task_line, call_line, line_after, lines_after, then_lines, refused_at, script_of, is_empty}
+use Rattle.task_script.specs.Grammar.{place_of, with_call, fault_call, map_words, map_call, plain_call, with_words, space_line, task_line, call_line, line_after, lines_after, then_lines, refused_at, script_of, is_empty}
 
 -- the bytes of parts, each with the one that closes it
 abbrev closed_size : List (List ℕ) → ℕ
@@ -37,28 +38,60 @@ count-with_call objects (calls ∷ more) line t is =
     let same : (calls ++ line ∷ []) ∷ more ≡ t.tasks = cc in
     rw (← same) (sum_by-cons length (calls ++ line ∷ []) more ∙ omega (arith, sum_by-cons length calls more, length-append calls (line ∷ [])))
 
--- and so does a fault
-count-fault : (s t : Listing) (object page bits : Option ℕ) → fault s object page bits ≡ Some t → count_of_calls t ≡ count_of_calls s + 1
-count-fault s t (Some object) (Some page) (Some bits) is = count-with_call s.objects s.tasks _ t is
-count-fault s t None page bits is = cc
-count-fault s t (Some object) None bits is = cc
-count-fault s t (Some object) (Some page) None is = cc
+-- so where a call's words have 8 bytes, its line adds no more calls than they allow
+calls_of_words : (s t : Listing) (object : Option ℕ) (call : Option CallWords) (size : ℕ) → ((w : CallWords) → call ≡ Some w → 8 ≤ size) → with_words s object call ≡ Some t
+    → 8 * count_of_calls t ≤ 8 * count_of_calls s + size
+calls_of_words s t (Some object) (Some w) size enough is =
+    let count = count-with_call s.objects s.tasks _ t is in
+    let large = enough w refl in
+    omega arith
+calls_of_words s t None call size enough is = cc
+calls_of_words s t (Some object) None size enough is = cc
+
+-- a protection has three bytes
+length-prot : (word : List ℕ) (bits : ℕ) → prot word ≡ Some bits → length word ≡ 3
+length-prot [] bits is = cc
+length-prot (r ∷ []) bits is = cc
+length-prot (r ∷ w ∷ []) bits is = cc
+length-prot (r ∷ w ∷ x ∷ []) bits is = refl
+length-prot (r ∷ w ∷ x ∷ more ∷ others) bits is = cc
+
+-- what stands behind fault has two bytes, with one behind each word
+size-fault_call : (ws : List (List ℕ)) (w : CallWords) → fault_call ws ≡ Some w → 2 ≤ closed_size ws
+size-fault_call [] w is = cc
+size-fault_call (page ∷ []) w is = cc
+size-fault_call (page ∷ bits ∷ ws) w is = omega arith
+
+-- and what stands behind map has more
+size-map_call : (ws : List (List ℕ)) (w : CallWords) → map_call ws ≡ Some w → 6 ≤ closed_size ws
+size-map_call [] w is = cc
+size-map_call (start ∷ []) w is = cc
+size-map_call (start ∷ len ∷ []) w is = cc
+size-map_call (start ∷ len ∷ bits ∷ []) w is = go (number start) (number len) (prot bits) (length-prot bits) is
+  where
+    go : (s l p : Option ℕ) → ((n : ℕ) → p ≡ Some n → length bits ≡ 3) → map_words s l p ≡ Some w → 6 ≤ closed_size (start ∷ len ∷ bits ∷ [])
+    go (Some s) (Some l) (Some p) three is = let size = three p refl in omega arith
+    go None l p three is = cc
+    go (Some s) None p three is = cc
+    go (Some s) (Some l) None three is = cc
+size-map_call (start ∷ len ∷ bits ∷ word ∷ more) w is = cc
 
 -- the words of a call have no fewer than 8 bytes, with one behind each
+size-plain_call : (verb : List ℕ) (ws : List (List ℕ)) (w : CallWords) → plain_call verb ws ≡ Some w → 8 ≤ closed_size (verb ∷ ws)
+size-plain_call verb ws w is = go (bytes_eq verb (codes "fault")) (bytes_eq verb (codes "map")) refl refl is
+  where
+    named : (name : List ℕ) → bytes_eq verb name ≡ true → length verb ≡ length name
+    named name same = ap length ((bytes_eq-Decides verb name).0 same)
+
+    go : (a b : Bool) → bytes_eq verb (codes "fault") ≡ a → bytes_eq verb (codes "map") ≡ b → cond a (fault_call ws) (cond b (map_call ws) None) ≡ Some w → 8 ≤ closed_size (verb ∷ ws)
+    go true b fault map is = let size = size-fault_call ws w is in omega (arith, named (codes "fault") fault)
+    go false true fault map is = let size = size-map_call ws w is in omega (arith, named (codes "map") map)
+    go false false fault map is = cc
+
+-- so a call's line adds no more calls than its bytes allow
 calls_of_call : (s t : Listing) (name : List ℕ) (ws : List (List ℕ)) → call_line s name ws ≡ Some t → 8 * count_of_calls t ≤ 8 * count_of_calls s + closed_size ws
 calls_of_call s t name [] is = cc
-calls_of_call s t name (verb ∷ []) is = cc
-calls_of_call s t name (verb ∷ page ∷ []) is = cc
-calls_of_call s t name (verb ∷ page ∷ bits ∷ []) is = go (bytes_eq verb (codes "fault")) refl is
-  where
-    go : (b : Bool) → bytes_eq verb (codes "fault") ≡ b → cond b (fault s (place_of name s.objects) (number page) (access bits)) None ≡ Some t
-        → 8 * count_of_calls t ≤ 8 * count_of_calls s + closed_size (verb ∷ page ∷ bits ∷ [])
-    go true same is =
-        let verb-is : verb ≡ codes "fault" = (bytes_eq-Decides verb (codes "fault")).0 same in
-        let count = count-fault s t (place_of name s.objects) (number page) (access bits) is in
-        omega (arith, ap length verb-is)
-    go false other is = cc
-calls_of_call s t name (verb ∷ page ∷ bits ∷ word ∷ more) is = cc
+calls_of_call s t name (verb ∷ ws) is = calls_of_words s t (place_of name s.objects) (plain_call verb ws) (closed_size (verb ∷ ws)) (size-plain_call verb ws) is
 
 -- a script that ends in the line of a space has no calls
 calls_of_space : (s t : Listing) (ws : List (List ℕ)) → space_line s ws ≡ Some t → count_of_calls t ≡ 0

@@ -1,5 +1,5 @@
 -- What a reader's answer says of the script.
-use Rattle.std.proofs.Common.{◌≡◌, ℕ, ◌*◌, ◌≤◌, List, length, Result, Ok, Err, ◌∙◌}
+use Rattle.std.proofs.Common.{ℕ, ◌*◌, ◌≤◌, List, length, Result, Ok, Err, ◌∙◌}
 use Rattle.std.specs.Prelude.{IfOk}
 use Rattle.task_script.specs.declared.script.Script.{Script}
 use Rattle.task_script.specs.declared.reader.ScriptError.{ScriptError}

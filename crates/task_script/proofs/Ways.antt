@@ -1,10 +1,10 @@
 -- A text that is on its way to a sink: a front of it was written, and the rest waits.
-use Rattle.std.proofs.Common.{◌≡◌, ℕ, List, [], ◌++◌, length, take, refl, sym, ap, ◌∙◌, append_assoc, append-nil, take-append-drop, ◌∷◌, arith, Option, Some, None}
+use Rattle.std.proofs.Common.{ℕ, List, ◌++◌, length, take, ap, ◌∙◌, append_assoc, append-nil, take-append-drop, arith, Option, Some, None}
 use Rattle.std.specs.List.{between}
 use Rattle.std.proofs.lemmas.Slice.{between_to_end}
 use Rattle.std.specs.Io.KnownBytes.{Appends, Keeps}
-use Rattle.std.proofs.KnownBytes.{Appends-nil, Appends-trans, Appends-kept}
-use Rattle.task_script.specs.Causes.{Fronts, IsOnItsWay}
+use Rattle.std.proofs.KnownBytes.{Appends-trans}
+use Rattle.task_script.specs.Causes.{IsOnItsWay}
 
 -- writing a front of what waits keeps the text on its way
 pub way_sent : (old mid new : Option (List ℕ)) (waiting rest text : List ℕ) → IsOnItsWay old mid waiting text → IsOnItsWay mid new rest waiting → IsOnItsWay old new rest text

@@ -2,6 +2,7 @@
 use Rattle.std.specs.Prelude.{◌≡◌, ℕ, ◌+◌, ◌&&◌, nat_lt, Bool, true, false, List, [], ◌∷◌, ◌++◌, length, if◌then◌else◌, Option, Some, None, Result, Ok, Err, codes}
 use Rattle.std.specs.Option.{option_map}
 use Rattle.std.specs.Str.{bytes_eq}
+use Rattle.word_bits.specs.declared.call.CallWords.{CallWords}
 use Rattle.word_bits.specs.Calls.{words_of}
 use Rattle.task_script.specs.declared.script.Line.{Line}
 use Rattle.task_script.specs.declared.script.Script.{Script}
@@ -10,7 +11,7 @@ use Rattle.task_script.specs.declared.reader.Reason.TheVariants.{TooLong, Later}
 use Rattle.task_script.specs.declared.reader.ScriptError.{ScriptError}
 use Rattle.task_script.specs.declared.reader.ScriptError.TheVariants.{Refused, Memory}
 use Rattle.task_script.specs.Cuts.{lines, words}
-use Rattle.task_script.specs.Tokens.{is_name, number, access}
+use Rattle.task_script.specs.Tokens.{is_name, number, access, prot}
 use Rattle.task_script.specs.Scripts.{Declared, Listing, nothing}
 
 -- a line that is accepted gives the script with it, any other nothing
@@ -47,21 +48,42 @@ with_call s line = go s.tasks
     go [] = None
     go (calls ∷ more) = Some (record { objects = s.objects; tasks = (calls ++ line ∷ []) ∷ more })
 
-abbrev pub fault : Listing → (object : Option ℕ) (page access : Option ℕ) → Accepted
-fault s (Some object) (Some page) (Some bits) =
-    let w = words_of 7 page 0 0 bits 0 in with_call s (record { object = object; words = w.a ∷ w.b ∷ [] })
-fault s None page bits = None
-fault s (Some object) None bits = None
-fault s (Some object) (Some page) None = None
+-- the words of a fault of a page
+abbrev pub fault_words : (page access : Option ℕ) → Option CallWords
+fault_words (Some page) (Some bits) = Some (words_of 7 page 0 0 bits 0)
+fault_words page bits = None
 
--- NAME fault NUMBER ACCESS
+-- the words of a map of so many pages from one on
+abbrev pub map_words : (start len prot : Option ℕ) → Option CallWords
+map_words (Some start) (Some len) (Some bits) = Some (words_of 1 start len bits 0 0)
+map_words start len bits = None
+
+-- what stands behind fault: NUMBER ACCESS
+abbrev pub fault_call : List (List ℕ) → Option CallWords
+fault_call (page ∷ bits ∷ []) = fault_words (number page) (access bits)
+fault_call arguments = None
+
+-- what stands behind map: NUMBER NUMBER PROT
+abbrev pub map_call : List (List ℕ) → Option CallWords
+map_call (start ∷ len ∷ bits ∷ []) = map_words (number start) (number len) (prot bits)
+map_call arguments = None
+
+-- a call, from its verb and what stands behind it
+abbrev pub plain_call : List ℕ → List (List ℕ) → Option CallWords
+plain_call verb arguments =
+    if bytes_eq verb (codes "fault") then fault_call arguments
+    else if bytes_eq verb (codes "map") then map_call arguments
+    else None
+
+-- a line of a task that has come, where its object and its call are known
+abbrev pub with_words : Listing → (object : Option ℕ) → Option CallWords → Accepted
+with_words s (Some object) (Some w) = with_call s (record { object = object; words = w.a ∷ w.b ∷ [] })
+with_words s object w = None
+
+-- NAME and a call
 abbrev pub call_line : Listing → List ℕ → List (List ℕ) → Accepted
 call_line s name [] = None
-call_line s name (verb ∷ []) = None
-call_line s name (verb ∷ page ∷ []) = None
-call_line s name (verb ∷ page ∷ bits ∷ []) =
-    if bytes_eq verb (codes "fault") then fault s (place_of name s.objects) (number page) (access bits) else None
-call_line s name (verb ∷ page ∷ bits ∷ word ∷ more) = None
+call_line s name (verb ∷ arguments) = with_words s (place_of name s.objects) (plain_call verb arguments)
 
 -- the script after one more line
 abbrev pub line_after : Listing → List (List ℕ) → Accepted

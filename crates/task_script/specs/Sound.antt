@@ -17,8 +17,21 @@ pub record IsFault (l : Line) : Type 0 where
   pub access : IsAccess bits
   pub words : call_words l ≡ words_of 7 page 0 0 bits 0
 
--- all objects are spaces, there is one task at most, and its calls are faults
+-- a plain map
+pub record IsMap (l : Line) : Type 0 where
+  pub start : ℕ
+  pub len : ℕ
+  pub prot : ℕ
+  pub start_fits : start < 2 ^ 32
+  pub len_fits : len < 2 ^ 32
+  pub prot_fits : prot < 8
+  pub words : call_words l ≡ words_of 1 start len prot 0 0
+
+abbrev pub IsPlainCall : Line → Type 0
+IsPlainCall l = IsFault l ⊎ IsMap l
+
+-- all objects are spaces, there is one task at most, and its calls are faults and maps
 pub record IsSound (s : Listing) : Type 0 where
   pub spaces : AllByRecursion (λ d. d.is_space ≡ true) s.objects
   pub single : length s.tasks ≤ 1
-  pub calls : AllByRecursion (AllByRecursion IsFault) s.tasks
+  pub calls : AllByRecursion (AllByRecursion IsPlainCall) s.tasks

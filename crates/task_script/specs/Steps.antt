@@ -1,20 +1,12 @@
 -- What a reader's step does with one line.
-use Rattle.std.specs.Prelude.{◌≡◌, ℕ, List, [], ◌∷◌, Some, None, Result, Ok, Err}
+use Rattle.std.specs.Prelude.{◌≡◌, Some, None, Result, Ok, Err}
 use Rattle.task_script.specs.declared.reader.LineError.{LineError}
 use Rattle.task_script.specs.declared.reader.LineError.TheVariants.{Refused, Memory}
-use Rattle.task_script.specs.Tokens.{number, access}
 use Rattle.task_script.specs.Scripts.{Listing}
-use Rattle.task_script.specs.Grammar.{Accepted, fault}
+use Rattle.task_script.specs.Grammar.{Accepted}
 
 -- the step's answer is the grammar's, unless memory ran out
 abbrev pub Becomes : Result (Unit {0}) LineError → Listing → Accepted → Type 0
 Becomes (Ok u) new accepted = accepted ≡ Some new
 Becomes (Err Refused) new accepted = accepted ≡ None
 Becomes (Err Memory) new accepted = Unit {0}
-
--- the words behind NAME fault
-abbrev pub fault_line : Listing → (object : ℕ) → List (List ℕ) → Accepted
-fault_line s object [] = None
-fault_line s object (page ∷ []) = None
-fault_line s object (page ∷ bits ∷ []) = fault s (Some object) (number page) (access bits)
-fault_line s object (page ∷ bits ∷ word ∷ more) = None

@@ -47,3 +47,17 @@ access w =
     else if bytes_eq w (codes "w") then Some 2
     else if bytes_eq w (codes "x") then Some 4
     else None
+
+-- - stands for no bit, and the letter for its own
+abbrev pub flag : (letter bit byte : ℕ) → Option ℕ
+flag letter bit byte = if byte == 45 then Some 0 else if byte == letter then Some bit else None
+
+-- the bits of three flags
+abbrev pub all_flags : (read write execute : Option ℕ) → Option ℕ
+all_flags (Some read) (Some write) (Some execute) = Some (read + write + execute)
+all_flags read write execute = None
+
+-- r or -, w or -, x or -: r 1, w 2, x 4
+abbrev pub prot : List ℕ → Option ℕ
+prot (r ∷ w ∷ x ∷ []) = all_flags (flag 114 1 r) (flag 119 2 w) (flag 120 4 x)
+prot word = None

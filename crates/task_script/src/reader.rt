@@ -4,14 +4,16 @@ ghost use Rattle.task_script.specs.Scripts.{count_of_calls, nothing};
 ghost use Rattle.task_script.specs.Cuts.{lines, words};
 ghost use Rattle.task_script.specs.Grammar.{lines_after, script_of, line_after, place_of, Reads};
 ghost use Rattle.task_script.specs.Grammar.{space_line, task_line, call_line, with_call};
-ghost use Rattle.task_script.specs.Steps.{Becomes, fault_line};
+ghost use Rattle.task_script.specs.Grammar.{fault_call, map_call, plain_call};
+ghost use Rattle.task_script.specs.Steps.{Becomes};
 ghost use Rattle.task_script.specs.Sound.{IsSound};
 
 use crate::cut::{Words, cut};
 use crate::script::{Kind, Line, Object, Script};
-use crate::token::{access_of, name_of, number_of};
+use crate::token::{access_of, name_of, number_of, prot_of};
 use arrayvec::ArrayString;
 use std::alloc::Global;
+use word_bits::CallWords;
 
 /// Why a line is refused.
 #[derive(Clone, Copy, Debug, PartialEq, Eq)]
@@ -39,8 +41,55 @@ enum LineError {
 
 const LONGEST_TEXT: usize = 1_048_576;
 
+/// The kind of call that a map is.
+const MAP: u64 = 1;
+
 /// The kind of call that a fault is.
 const FAULT: u64 = 7;
+
+/// The fault that the words behind its verb stand for.
+fn fault_of(mut arguments: Words) -> Option<CallWords>
+    ensures { result ≡ fault_call arguments.entry }
+{
+    let (Some(page), Some(access), None) = (arguments.next(), arguments.next(), arguments.next())
+    else {
+        return None;
+    };
+    Some(CallWords {
+        a: u64::from(number_of(page)?),
+        b: FAULT + (access_of(access)? << 16),
+    })
+}
+
+/// The map that the words behind its verb stand for.
+fn map_of(mut arguments: Words) -> Option<CallWords>
+    ensures { result ≡ map_call arguments.entry }
+{
+    let (Some(start), Some(len), Some(prot), None) = (
+        arguments.next(),
+        arguments.next(),
+        arguments.next(),
+        arguments.next(),
+    ) else {
+        return None;
+    };
+    let (start, len) = (number_of(start)?, number_of(len)?);
+    Some(CallWords {
+        a: u64::from(start) + (u64::from(len) << 32),
+        b: MAP + (prot_of(prot)? << 8),
+    })
+}
+
+/// The call that a verb and the words behind it stand for.
+fn call_of(verb: &[u8], arguments: Words) -> Option<CallWords>
+    ensures { result ≡ plain_call verb.now arguments.entry }
+{
+    match verb {
+        b"fault" => fault_of(arguments),
+        b"map" => map_of(arguments),
+        _ => None,
+    }
+}
 
 impl Script {
     fn place(&self, name: &[u8]) -> Option<u32>
@@ -96,32 +145,19 @@ impl Script {
         calls.push(call).map_err(|_| LineError::Memory)
     }
 
-    fn fault(&mut self, object: u32, mut words: Words) -> Result<(), LineError>
-        requires { object < length self.old.objects }
-        ensures { Becomes result self.new (fault_line self.old object words.entry) }
-    {
-        let (Some(page), Some(access), None) = (words.next(), words.next(), words.next()) else {
-            return Err(LineError::Refused);
-        };
-        let (Some(page), Some(access)) = (number_of(page), access_of(access)) else {
-            return Err(LineError::Refused);
-        };
-        self.push_call(Line {
-            object,
-            words: [u64::from(page), FAULT + (access << 16)],
-        })
-    }
-
     fn call(&mut self, name: &[u8], mut words: Words) -> Result<(), LineError>
         ensures { Becomes result self.new (call_line self.old name.now words.entry) }
     {
         let (Some(object), Some(verb)) = (self.place(name), words.next()) else {
             return Err(LineError::Refused);
         };
-        match verb {
-            b"fault" => self.fault(object, words),
-            _ => Err(LineError::Refused),
-        }
+        let Some(call) = call_of(verb, words) else {
+            return Err(LineError::Refused);
+        };
+        self.push_call(Line {
+            object,
+            words: [call.a, call.b],
+        })
     }
 
     fn line(&mut self, alloc: Global, line: &[u8]) -> Result<(), LineError>
@@ -173,8 +209,10 @@ fn read_lines(alloc: Global, bytes: &[u8]) -> Result<Script, ScriptError>
     }
 }
 
-/// Reads a script of lines `space NAME`, `task` and `NAME fault NUMBER ACCESS`. Each line ends at a
-/// line feed, and single spaces separate its words.
+/// Reads a script of lines `space NAME`, `task`, `NAME fault NUMBER ACCESS` and
+/// `NAME map NUMBER NUMBER PROT`. Each line ends at a line feed, and single spaces separate its words.
+/// A number is decimal, without leading zeros, and below 2^32. An access is `r`, `w` or `x`, and a
+/// protection is three bytes: `r` or `-`, `w` or `-`, `x` or `-`.
 ///
 /// # Errors
 ///

@@ -20,6 +20,7 @@ fn reads_texts(rt: HostRuntime) -> Result<(), Fail> {
         b"space sixteen_bytes_0k\n",
         b"space a\ntask\n",
         b"space a\ntask\na fault 4294967295 x\n",
+        b"space a\ntask\na map 4294967295 4294967295 --x\n",
     ] {
         assert_eq!(rt; refusal(rt.alloc(), text)?, None, "in {text:?}");
     }
@@ -51,6 +52,18 @@ fn refuses_lines(rt: HostRuntime) -> Result<(), Fail> {
         (b"space a\ntask\na fault 1 rw\n", 3),
         (b"space a\ntask\na fault 1\n", 3),
         (b"space a\ntask\na read 1 r\n", 3),
+        (b"space a\ntask\na fault 1 r--\n", 3),
+        (b"space a\ntask\na map any 1 r--\n", 3),
+        (b"space a\ntask\na map 1 1 rw\n", 3),
+        (b"space a\ntask\na map 1 1 rw-x\n", 3),
+        (b"space a\ntask\na map 1 1 wr-\n", 3),
+        (b"space a\ntask\na map 01 1 r--\n", 3),
+        (b"space a\ntask\na map 1 r--\n", 3),
+        (b"space a\ntask\na map 1 1\n", 3),
+        (b"space a\ntask\na map 1 1 r-- x\n", 3),
+        (b"space a\ntask\na map 4294967296 1 r--\n", 3),
+        (b"space a\na map 1 1 r--\n", 2),
+        (b"space a\ntask\nb map 1 1 r--\n", 3),
     ] {
         let later = Some((line, Reason::Later));
         assert_eq!(rt; refusal(rt.alloc(), text)?, later, "in {text:?}");
@@ -89,6 +102,28 @@ fn keeps_what_it_reads(rt: HostRuntime) -> Result<(), Fail> {
         },
     ];
     assert_eq!(rt; script.calls(0), lines.as_slice());
+    Ok(())
+}
+
+#[test]
+fn keeps_maps(rt: HostRuntime) -> Result<(), Fail> {
+    for (text, words) in [
+        (
+            b"space a\ntask\na map 16 4 rw-\n".as_slice(),
+            [17_179_869_200, 769],
+        ),
+        (
+            b"space a\ntask\na map 0 1048576 r--\n",
+            [4_503_599_627_370_496, 257],
+        ),
+        (b"space a\ntask\na map 1 1 rwx\n", [4_294_967_297, 1793]),
+        (b"space a\ntask\na map 1 1 ---\n", [4_294_967_297, 1]),
+    ] {
+        let script = read(rt.alloc(), text)?;
+        assert_eq!(rt; script.tasks(), 1);
+        let lines = [Line { object: 0, words }];
+        assert_eq!(rt; script.calls(0), lines.as_slice(), "in {text:?}");
+    }
     Ok(())
 }
 

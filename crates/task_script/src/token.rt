@@ -4,7 +4,7 @@ ghost use Rattle.std.specs.List.{list_all, list_any};
 ghost use Rattle.std.specs.Str.{bytes_eq};
 ghost use Rattle.task_script.specs.Parts.{NameIs};
 ghost use Rattle.task_script.specs.Tokens.{is_name_byte, has_name_bytes, is_reserved, is_name};
-ghost use Rattle.task_script.specs.Tokens.{leads_zero, number, access};
+ghost use Rattle.task_script.specs.Tokens.{leads_zero, number, access, flag, prot};
 
 fn name_byte(byte: u8) -> bool
     ensures { result ≡ is_name_byte byte }
@@ -102,4 +102,28 @@ pub(crate) fn access_of(word: &[u8]) -> Option<u64>
         b"x" => Some(4),
         _ => None,
     }
+}
+
+fn flag_of(byte: u8, letter: u8, bit: u64) -> Option<u64>
+    ensures { result ≡ flag letter bit byte }
+{
+    match byte {
+        b'-' => Some(0),
+        _ if byte == letter => Some(bit),
+        _ => None,
+    }
+}
+
+/// The bits of the protection that the word stands for.
+pub(crate) fn prot_of(word: &[u8]) -> Option<u64>
+    ensures bits { result ≡ prot word.now }
+    ensures small { IfSome result (λ bits. bits < 8) }
+{
+    let [read, write, execute] = word else {
+        return None;
+    };
+    let read = flag_of(*read, b'r', 1)?;
+    let write = flag_of(*write, b'w', 2)?;
+    let execute = flag_of(*execute, b'x', 4)?;
+    Some(read + write + execute)
 }

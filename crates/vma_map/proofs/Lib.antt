@@ -1,0 +1,4 @@
+pub mod RangeLemmas
+pub mod WordLemmas
+pub mod CountLemmas
+pub mod FaultLemmas

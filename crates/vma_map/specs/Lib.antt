@@ -1,2 +1,6 @@
+pub mod Runs
 pub mod Spaces
+pub mod AreaLaws
+pub mod RunLaws
+pub mod CallLaws
 pub mod SpaceLaws

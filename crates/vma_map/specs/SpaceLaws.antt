@@ -1,77 +1,135 @@
--- The laws of the empty space.
-use Rattle.std.proofs.Common.{◌≡◌, ℕ, ◌+◌, ◌-◌, ◌/◌, ◌%◌, ◌^◌, ◌<◌, ◌≤◌, zero, suc, Bool, true, false, List, [], ◌∷◌, length, replicate, Option, Some, None, refl, sym, ap, ◌∙◌, rules, arith, subst, lit≤, cond, ◌&&◌, ◌||◌, nat_eq, nat_lt, nat_le, ◌⊎◌, inl, inr}
+-- The laws of an address space.
+use Rattle.std.proofs.Common.{◌≡◌, ℕ, ◌+◌, ◌-◌, ◌<◌, ◌≤◌, List, [], ◌++◌, ◌==◌, ◌/◌, ◌%◌, length, take, map, replicate, Option, Some, None, IfSome, Bool, true, false, ◌&&◌, ◌||◌, cond, leb, ltb, refl, sym, ap, ◌∙◌, arith}
+use Rattle.std.proofs.lemmas.List.{length-map, length-append, length-replicate, take_at}
+use Rattle.std.proofs.lemmas.Bool.{false≢true}
+use Rattle.std.proofs.lemmas.Bool.Decides.{nat_tests}
+use Rattle.word_bits.specs.declared.area.Area.{Area}
 use Rattle.word_bits.specs.declared.call.CallWords.{CallWords}
 use Rattle.word_bits.specs.declared.reply.Reply.{Reply}
-use Rattle.word_bits.specs.declared.reply.Reply.TheVariants.{MapErr}
+use Rattle.word_bits.specs.declared.reply.Reply.TheVariants.{Good, Num, Refused, AccErr}
 use Rattle.word_bits.specs.declared.reply.Errno.{Errno}
+use Rattle.word_bits.specs.declared.reply.Errno.TheVariants.{NoMem, Inval}
+use Rattle.word_bits.specs.AreaWord.{area_word}
 use Rattle.word_bits.specs.Objects.{IsObjectReply}
-use Rattle.word_bits.specs.PageMaps.{PageMap, no_pages, runs, runs_from}
+use Rattle.word_bits.specs.PageMaps.{PageMap, IsPageMap, no_pages, runs}
 use Rattle.vma_map.specs.declared.call.SpaceCall.{SpaceCall}
-use Rattle.vma_map.specs.declared.call.SpaceCall.TheVariants.{Fault}
-use Rattle.vma_map.specs.Spaces.{space, stores, empty_space, meaning, IsCall, IsAccess, is_access, call_of}
-use Rattle.std.proofs.lemmas.Bool.Decides.{nat_tests}
-use Rattle.std.proofs.lemmas.Bool.{or_cases}
-use Rattle.std.proofs.lemmas.Option.{cond_some}
-use Rattle.std.specs.List.{list_all}
+use Rattle.vma_map.specs.declared.call.SpaceCall.TheVariants.{Map, Fault}
+use Rattle.vma_map.specs.Runs.{page_map, AreRuns, IsSpace, words_of_areas}
+use Rattle.vma_map.specs.Spaces.{changed, mapped, access_reply, IsCall, call_of, reads, meaning, stores}
+use Rattle.vma_map.specs.AreaLaws.{page_map-past, page_map-prots, changed-above}
+use Rattle.vma_map.specs.RunLaws.{runs-runs, page_map-runs, runs-page_map}
+use Rattle.vma_map.specs.AreaLaws.{map-area_word-injective}
+use Rattle.vma_map.specs.CallLaws.{call_of-sound}
 
-no_runs_from : (page count : ℕ) → runs_from no_pages page count ≡ []
-unfolding runs_from
-no_runs_from page zero = refl
-no_runs_from page (suc count) = rw (no_runs_from (page + 1) count) refl
+-- stored areas fill all words
+length-words_of_areas : (areas : List Area) → length areas ≤ 256 → length (words_of_areas areas) ≡ 257
+length-words_of_areas areas few =
+    simp (length-append, length-map, length-replicate) (omega arith)
 
--- where nothing is mapped there is no run
-pub no_runs : runs no_pages ≡ []
-unfolding runs
-no_runs = no_runs_from 0 1048576
+-- stored pages fill all words
+pub sized : (m : PageMap) → IsPageMap m → length (stores m) ≡ 257
+sized m is = length-words_of_areas (runs m) is.few
 
-pub zeros_law : stores empty_space ≡ replicate 257 0
-zeros_law = rw no_runs refl
+-- no pages have no runs
+runs-no_pages : runs no_pages ≡ []
+runs-no_pages = runs-page_map [] tt
 
-pub sized_law : (m : PageMap) → m ≡ empty_space → length (stores m) ≡ 257
-sized_law m e = rw (e, no_runs) refl
+-- the pages of stored areas
+pub IsPageMap-page_map : (areas : List Area) → IsSpace areas → IsPageMap (page_map areas)
+IsPageMap-page_map areas is = record {
+  within = page_map-past areas is.runs;
+  prots = page_map-prots areas is.runs;
+  few = rw (runs-page_map areas is.runs) is.few;
+}
 
-pub apart_law : (m n : PageMap) → m ≡ empty_space → n ≡ empty_space → m ≡ n
-apart_law m n d e = d ∙ sym e
+-- the runs of pages can be stored
+pub IsSpace-runs : (m : PageMap) → IsPageMap m → IsSpace (runs m)
+IsSpace-runs m is = record { runs = runs-runs m is.prots; few = is.few }
 
-pub goes_on_law : (m : PageMap) (call : SpaceCall) → m ≡ empty_space → (meaning m call).0 ≡ empty_space
-goes_on_law m (Fault page access) e = e
+-- no pages can be stored
+pub starts : IsPageMap no_pages
+starts = IsPageMap-page_map [] (record { runs = tt; few = omega arith })
 
-pub replies_law : (m : PageMap) (call : SpaceCall) → m ≡ empty_space → IsObjectReply (meaning m call).1
-replies_law m (Fault page access) e = rw e tt
+-- zeros store them
+pub zeros : stores no_pages ≡ replicate 257 0
+zeros = ap words_of_areas runs-no_pages
 
-pub reading_law : (m : PageMap) (call : SpaceCall) → (meaning m call).0 ≡ m
-reading_law m (Fault page access) = refl
+-- words store one list of runs
+words_of_areas-injective : (xs ys : List Area) → AreRuns xs → AreRuns ys → words_of_areas xs ≡ words_of_areas ys → xs ≡ ys
+words_of_areas-injective xs ys rx ry same =
+    let many : length xs ≡ length ys = cc in
+    let rest : map area_word xs ++ replicate (256 - length xs) 0 ≡ map area_word ys ++ replicate (256 - length ys) 0 = cc in
+    let left = take_at (map area_word xs) (replicate (256 - length xs) 0) (length xs) (length-map xs area_word) in
+    let right = take_at (map area_word ys) (replicate (256 - length ys) 0) (length xs) (length-map ys area_word ∙ sym many) in
+    map-area_word-injective xs ys rx ry (sym left ∙ ap (take (length xs)) rest ∙ right)
 
-pub few_words_law : 257 ≤ 257
-few_words_law = lit≤ tt
+-- words store one page map
+pub apart : (s t : PageMap) → IsPageMap s → IsPageMap t → stores s ≡ stores t → s ≡ t
+apart s t is_s is_t same =
+    let runs' = words_of_areas-injective (runs s) (runs t) (runs-runs s is_s.prots) (runs-runs t is_t.prots) same in
+    sym (page_map-runs s is_s) ∙ ap page_map runs' ∙ page_map-runs t is_t
 
-and_true : (a b : Bool) → (a && b) ≡ true → (a ≡ true) × (b ≡ true)
-and_true true b e = (refl, e)
-and_true false b e = cc
+-- calls that are read are valid
+pub called : (words : CallWords) (call : SpaceCall) → call_of words ≡ Some call → IsCall call
+called words call e = (call_of-sound words call e).0
 
-access_of_test : (access : ℕ) → is_access access ≡ true → IsAccess access
-access_of_test access e = grind (arith, nat_tests, or_cases)
+-- a change keeps the protections small
+changed-prots : (m : PageMap) (start end prot : ℕ) → ((page : ℕ) → IfSome (m page) (λ p. p < 8)) → prot < 8 → (page : ℕ) → IfSome (changed m start end (Some prot) page) (λ p. p < 8)
+changed-prots m start end prot prots small page = go (leb start page && ltb page end)
+  where
+    go : (test : Bool) → IfSome (cond test (Some prot) (m page)) (λ p. p < 8)
+    go true = small
+    go false = prots page
 
-pub called_law : (w : CallWords) (call : SpaceCall) → call_of w ≡ Some call → IsCall call
-called_law w call e =
-    let access : ℕ = (w.b / 2 ^ 16) % 2 ^ 8 in
-    let found = cond_some (((nat_eq (w.b % 2 ^ 16) 7 && is_access access) && nat_le (w.b / 2 ^ 24) 2) && nat_lt w.a (2 ^ 32)) (Fault w.a access) call e in
-    let outer = and_true ((nat_eq (w.b % 2 ^ 16) 7 && is_access access) && nat_le (w.b / 2 ^ 24) 2) (nat_lt w.a (2 ^ 32)) found.0 in
-    let inner = and_true (nat_eq (w.b % 2 ^ 16) 7 && is_access access) (nat_le (w.b / 2 ^ 24) 2) outer.0 in
-    let first = and_true (nat_eq (w.b % 2 ^ 16) 7) (is_access access) inner.0 in
-    let fits : w.a < 2 ^ 32 = grind (arith, nat_tests) in
-    subst IsCall found.1 (fits, access_of_test access first.1)
+-- a change in the pages that has few runs can be stored
+IsPageMap-changed : (m : PageMap) (start end prot : ℕ) → IsPageMap m → end ≤ 1048576 → prot < 8 → length (runs (changed m start end (Some prot))) ≤ 256 → IsPageMap (changed m start end (Some prot))
+IsPageMap-changed m start end prot is within small few = record {
+  within = λ page past. changed-above m start end (Some prot) page (omega arith) ∙ is.within page past;
+  prots = changed-prots m start end prot is.prots small;
+  few = few;
+}
 
--- words that are all 0 are those of the empty space
-pub all_zeros : (n : ℕ) (ws : List ℕ) → length ws ≡ n → list_all (λ w. nat_eq w 0) ws ≡ true → replicate n 0 ≡ ws
-all_zeros zero [] len all = refl
-all_zeros zero (w ∷ ws) len all = absurd (omega arith)
-all_zeros (suc n) [] len all = absurd (omega arith)
-all_zeros (suc n) (w ∷ ws) len all =
-    let both = and_true (nat_eq w 0) (list_all (λ x. nat_eq x 0) ws) all in
-    let first : w ≡ 0 = grind (arith, nat_tests) in
-    rw (all_zeros n ws (omega arith) both.1, first) refl
+-- the tests of a call to map: what holds of each of its three ends holds of it
+mapped-cases : (m : PageMap) (start len prot : ℕ) (P : PageMap × Reply → Type 0) → P (m, Refused Inval) → (0 < len → start + len ≤ 1048576 → length (runs (changed m start (start + len) (Some prot))) ≤ 256 → P (changed m start (start + len) (Some prot), Num start)) → P (m, Refused NoMem) → P (mapped m start len prot)
+mapped-cases m start len prot P inval done many = go ((len == 0) || ltb 1048576 (start + len)) refl (leb (length (runs (changed m start (start + len) (Some prot)))) 256) refl
+  where
+    go : (bad : Bool) → ((len == 0) || ltb 1048576 (start + len)) ≡ bad → (few : Bool) → leb (length (runs (changed m start (start + len) (Some prot)))) 256 ≡ few → P (cond bad (m, Refused Inval) (cond few (changed m start (start + len) (Some prot), Num start) (m, Refused NoMem)))
+    go true e few f = inval
+    go false e true f = done (grind (arith, nat_tests)) (grind (arith, nat_tests)) (grind (arith, nat_tests))
+    go false e false f = many
 
-pub zeros_all : (n : ℕ) → list_all (λ w. nat_eq w 0) (replicate n 0) ≡ true
-zeros_all zero = refl
-zeros_all (suc n) = zeros_all n
+-- a call leads from stored pages to such
+pub goes_on : (s : PageMap) (call : SpaceCall) → IsPageMap s → IsCall call → IsPageMap (meaning s call).0
+goes_on s (Map start len prot) is_s is_call =
+    mapped-cases s start len prot (λ r. IsPageMap r.0) is_s (λ some within few. IsPageMap-changed s start (start + len) prot is_s within is_call.2 few) is_s
+goes_on s (Fault page access) is_s is_call = is_s
+
+-- what an access meets is an object's reply
+access_reply-object : (o : Option ℕ) (access : ℕ) → IsObjectReply (access_reply o access)
+access_reply-object None access = tt
+access_reply-object (Some prot) access = go ((prot / access % 2) == 1)
+  where
+    go : (set : Bool) → IsObjectReply (cond set Good AccErr)
+    go true = tt
+    go false = tt
+
+-- replies are an object's
+pub replies : (s : PageMap) (call : SpaceCall) → IsPageMap s → IsCall call → IsObjectReply (meaning s call).1
+replies s (Map start len prot) is_s is_call =
+    mapped-cases s start len prot (λ r. IsObjectReply r.1) tt (λ some within few. omega arith) tt
+replies s (Fault page access) is_s is_call = access_reply-object (s page) access
+
+-- a call that reads changes nothing
+pub reading : (s : PageMap) (call : SpaceCall) → reads call ≡ true → (meaning s call).0 ≡ s
+reading s (Map start len prot) e = absurd (false≢true e)
+reading s (Fault page access) e = refl
+
+-- a refused call changes nothing
+pub refused : (s : PageMap) (call : SpaceCall) (errno : Errno) → (meaning s call).1 ≡ Refused errno → (meaning s call).0 ≡ s
+refused s (Map start len prot) errno e =
+    mapped-cases s start len prot (λ r. r.1 ≡ Refused errno → r.0 ≡ s) (λ _. refl) (λ some within few done. absurd cc) (λ _. refl) e
+refused s (Fault page access) errno e = refl
+
+-- the words are as many as may be
+pub few_words : 257 ≤ 257
+few_words = omega arith

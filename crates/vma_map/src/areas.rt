@@ -1,96 +1,174 @@
-//! An address space as an object.
-ghost use Rattle.std.specs.Prelude.{◌≡◌, ◌==◌, refl};
-ghost use Rattle.std.specs.List.{list_all};
-ghost use Rattle.vma_map.specs.Spaces.{space, empty_space};
+//! An address space.
+ghost use Rattle.std.specs.Prelude.{◌≡◌, ◌<◌, ◌≤◌, ◌↔◌, IsOk, OnOk, OnErr, IfErr, IfSome, length};
+ghost use Rattle.word_bits.specs.PageMaps.{mapped_from, runs};
+ghost use Rattle.vma_map.specs.Runs.{page_map};
+ghost use Rattle.vma_map.specs.Spaces.{IsAccess, changed, mapped, access_reply};
 
 use crate::call::SpaceCall;
-use word_bits::{CallWords, Object, Reply};
+use crate::range::with_change;
+use crate::words::{self, SPACE_WORDS};
+use crate::{MAX_AREAS, PAGES};
+use arrayvec::ArrayVec;
+use std::marker::Model;
+use word_bits::{Area, CallWords, Errno, Object, Reply};
 
-/// An address space. Nothing can be mapped yet, so it stays empty.
-#[derive(Clone, Copy, Debug, PartialEq, Eq)]
-pub struct Areas;
+/// An address space. Contracts see its areas in order; `page_map` is what they say of each page.
+#[derive(Drop)]
+pub struct Areas {
+    areas: ArrayVec<Area, MAX_AREAS>,
+}
 
+impl Model for Areas {
+    ghost use Rattle.std.specs.Prelude.{List};
+    ghost use Rattle.word_bits.specs.declared.area.Area.{Area};
+    ghost use Rattle.vma_map.specs.Runs.{IsSpace};
 
-fn are_zeros(words: &[u64]) -> bool
-    ensures { result ≡ list_all (λ w. w == 0) words.now }
+    ghost Value = { List Area };
+
+    ghost view = { λ s. s.areas.items };
+
+    ghost invariant = { λ s. IsSpace s.areas.items };
+}
+
+/// What the areas say of a page.
+fn prot_of(areas: &[Area], page: u32) -> Option<u8>
+    ensures { result ≡ page_map areas.now page }
 {
-    words.iter().all(|word| *word == 0)
+    for area in areas {
+        if area.start <= page && page < area.end {
+            return Some(area.prot);
+        }
+    }
+    None
+}
+
+impl Areas {
+    /// The maximal runs of pages of one protection, ascending.
+    pub fn runs(&self) -> &[Area]
+        ensures { result.now ≡ runs (page_map self.now) }
+    {
+        self.areas.as_slice()
+    }
+
+    /// How many pages are mapped.
+    pub fn pages(&self) -> u32
+        ensures { result ≡ mapped_from (page_map self.now) 0 1048576 }
+    {
+        let mut pages = 0;
+        for area in self.areas.as_slice() {
+            pages += area.end - area.start;
+        }
+        pages
+    }
+
+    /// Gives each page of a range this protection, or none. An `Err` leaves the space as it was.
+    fn change(&mut self, start: u32, end: u32, prot: Option<u8>) -> Result<(), Errno>
+        requires some { start < end }
+        requires within { end ≤ 1048576 }
+        requires prot { IfSome prot (λ bits. bits < 8) }
+        ensures few { IsOk result
+            ↔ (length (runs (changed (page_map self.old) start end prot)) ≤ 256) }
+        ensures ok { OnOk result (page_map self.new ≡ changed (page_map self.old) start end prot) }
+        ensures err { OnErr result (self.new ≡ self.old) }
+        ensures errno { IfErr result (λ errno. errno ≡ Errno.NoMem) }
+    {
+        let next = with_change(self.areas.as_slice(), start, end, prot);
+        self.areas = ArrayVec::try_from(next.as_slice()).map_err(|_| Errno::NoMem)?;
+        Ok(())
+    }
+
+    fn map(&mut self, start: u32, len: u32, prot: u8) -> Reply
+        requires { prot < 8 }
+        ensures next { page_map self.new ≡ (mapped (page_map self.old) start len prot).0 }
+        ensures reply { result ≡ (mapped (page_map self.old) start len prot).1 }
+    {
+        if len == 0 || len > PAGES || start > PAGES - len {
+            return Reply::Refused(Errno::Inval);
+        }
+        match self.change(start, start + len, Some(prot)) {
+            Ok(()) => Reply::Num(start),
+            Err(errno) => Reply::Refused(errno),
+        }
+    }
+
+    fn fault(&self, page: u32, access: u8) -> Reply
+        requires { IsAccess access }
+        ensures { result ≡ access_reply (page_map self.now page) access }
+    {
+        match prot_of(self.areas.as_slice(), page) {
+            None => Reply::MapErr,
+            Some(prot) if prot & access != 0 => Reply::Good,
+            Some(_) => Reply::AccErr,
+        }
+    }
 }
 
 impl Object for Areas {
+    ghost use Rattle.vma_map.specs.Runs.{page_map};
+    ghost use Rattle.vma_map.specs.Spaces.{space};
+    ghost use Rattle.vma_map.specs.SpaceLaws.{few_words, sized, starts, zeros, apart, called, goes_on, replies, reading, refused};
+
     type Call = SpaceCall;
 
-    const WORDS: usize = 257;
+    const WORDS: usize = SPACE_WORDS;
 
     ghost WORDS = { 257 };
 
     ghost object = { space };
 
-    ghost state = { λ _. empty_space };
+    ghost state = { page_map };
 
-    fn empty() -> Areas {
-        Areas
+    fn empty() -> Self {
+        Areas {
+            areas: ArrayVec::new(),
+        }
     }
 
     fn call_of(words: CallWords) -> Option<SpaceCall> {
-        let access = match words.b & 0xff_ffff {
-            0x01_0007 => 1,
-            0x02_0007 => 2,
-            0x04_0007 => 4,
-            _ => return None,
-        };
-        if words.a >> 32 != 0 || words.b >> 24 > 2 {
-            return None;
-        }
-        Some(SpaceCall::Fault {
-            page: words.a as u32,
-            access,
-        })
+        SpaceCall::call_of(words)
     }
 
     fn reads(call: SpaceCall) -> bool {
-        match call {
-            SpaceCall::Fault { page: _, access: _ } => true,
-        }
+        matches!(call, SpaceCall::Fault { .. })
     }
 
     fn apply(&mut self, call: SpaceCall) -> Reply {
-        match call {
-            SpaceCall::Fault { page: _, access: _ } => Reply::MapErr,
-        }
+        let reply = match call {
+            SpaceCall::Map { start, len, prot } => self.map(start, len, prot),
+            SpaceCall::Fault { page, access } => self.fault(page, access),
+        };
+        // Read, since the proof knows that the areas are in order only where they are used.
+        let _ = &self.areas;
+        reply
     }
 
-    fn load(words: &[u64]) -> Option<Areas> {
-        if are_zeros(words) {
-            Some(Areas)
-        } else {
-            None
-        }
+    fn load(words: &[u64]) -> Option<Self> {
+        Some(Areas {
+            areas: words::load(words)?,
+        })
     }
 
     fn store(&self, out: &mut [u64]) {
-        out.fill(0);
+        words::store(self.areas.as_slice(), out);
     }
 
-    ghost use Rattle.vma_map.specs.SpaceLaws.{few_words_law, called_law, zeros_law, sized_law, apart_law, goes_on_law, replies_law, reading_law};
+    ghost few_words = { few_words };
 
-    ghost few_words = { few_words_law };
+    ghost sized = { sized };
 
-    ghost sized = { sized_law };
+    ghost starts = { starts };
 
-    ghost starts = { refl };
+    ghost zeros = { zeros };
 
-    ghost zeros = { zeros_law };
+    ghost apart = { apart };
 
-    ghost apart = { λ s t d e _. apart_law s t d e };
+    ghost called = { called };
 
-    ghost called = { called_law };
+    ghost goes_on = { goes_on };
 
-    ghost goes_on = { λ s call is _. goes_on_law s call is };
+    ghost replies = { replies };
 
-    ghost replies = { λ s call is _. replies_law s call is };
+    ghost reading = { reading };
 
-    ghost reading = { λ s call _. reading_law s call };
-
-    ghost refused = { λ s call _ _. reading_law s call };
+    ghost refused = { refused };
 }

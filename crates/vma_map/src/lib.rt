@@ -1,8 +1,18 @@
-//! Address spaces: which pages are mapped, and with what protection.
+//! Address spaces, kept as runs of pages.
 #![tactic(auto)]
 
 mod areas;
 mod call;
+mod range;
+#[cfg(test)]
+mod tests;
+mod words;
 
 pub use areas::Areas;
 pub use call::SpaceCall;
+
+/// How many pages an address space has. They are numbered from 0.
+pub const PAGES: u32 = 1_048_576;
+
+/// The most areas of an address space.
+pub const MAX_AREAS: usize = 256;

@@ -6,7 +6,7 @@ ghost use Rattle.word_bits.specs.AreaWord.{IsArea, area_word};
 use crate::bits::{field, join};
 
 /// A run of pages of one protection.
-#[derive(Clone, Copy, Debug, PartialEq, Eq)]
+#[derive(Clone, Copy, Debug, Default, PartialEq, Eq)]
 pub struct Area {
     /// The first page.
     pub start: u32,

@@ -1,4 +1,4 @@
-use Rattle.std.proofs.Common.{ap, sym, ◌∙◌, arith}
+use Rattle.std.proofs.Common.{arith}
 use Rattle.std.specs.Prelude.{count_by}
 use Rattle.task_script.specs.Scripts.{is_on}
 use Rattle.mm_report.proofs.Reserved.{more_sum}

@@ -1,4 +1,4 @@
-use Rattle.std.proofs.Common.{[], ◌++◌, ◌∙◌, ap, sym}
+use Rattle.std.proofs.Common.{◌++◌, ◌∙◌, ap, sym}
 use Rattle.task_script.proofs.Pieces.{adds_line, fronts_line}
 use Rattle.mm_report.specs.Text.{area_text}
 use Rattle.mm_report.proofs.text.write_area.Goals as goal

@@ -1,4 +1,3 @@
-use Rattle.std.proofs.Common.{[]}
 use Rattle.task_script.proofs.Pieces.{fronts_line}
 use Rattle.mm_report.specs.Text.{left_text}
 use Rattle.mm_report.proofs.text.write_count.Goals as goal

@@ -1,4 +1,4 @@
-use Rattle.std.proofs.Common.{[], ◌++◌, ◌∙◌, ap, sym}
+use Rattle.std.proofs.Common.{◌++◌, ◌∙◌, ap, sym}
 use Rattle.task_script.proofs.Pieces.{adds_line, fronts_line}
 use Rattle.word_bits.specs.declared.rec.Rec.{Rec}
 use Rattle.task_script.specs.Scripts.{call_words}

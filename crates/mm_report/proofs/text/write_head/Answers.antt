@@ -1,7 +1,7 @@
-use Rattle.std.proofs.Common.{[], ◌++◌, ◌∙◌, ap, refl}
+use Rattle.std.proofs.Common.{◌++◌, ◌∙◌, ap, refl}
 use Rattle.task_script.specs.Scripts.{Declared}
 use Rattle.task_script.proofs.Pieces.{adds_line, fronts_line}
-use Rattle.mm_report.specs.Text.{head_text, head_line}
+use Rattle.mm_report.specs.Text.{head_text}
 use Rattle.mm_report.proofs.Reserved.{mapped_same}
 use Rattle.mm_report.proofs.text.write_head.Goals as goal
 
@@ -13,4 +13,4 @@ returns-clause-text g c = λ d at.
     let kind = mapped_same (λ (e : Declared). e.is_space) c.args.script.now.objects c.args.object d _ at c.is_space.ensures in
     let name = mapped_same (λ (e : Declared). e.name) c.args.script.now.objects c.args.object d _ at c.name.ensures.name in
     adds_line (g.K.Sink.written c.args.sink.now) (g.K.Sink.written c.make_room.new.sink) c.args.out.now c.make_room.new.self c.add_head.new.out (head_text d) c.in-Ok.ensures.bytes
-        (c.add_head.ensures ∙ ap (λ l. c.make_room.new.self ++ l) (rw (kind, name) refl))
+    (c.add_head.ensures ∙ ap (λ l. c.make_room.new.self ++ l) (rw (kind, name) refl))

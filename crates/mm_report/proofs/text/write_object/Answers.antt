@@ -15,5 +15,5 @@ returns-in-Ok-clause-text g c = λ d t few at tells legal.
     let one = told_single c.args.script.now c.args.object d.is_space t c.args.snapshot.now few tells legal in
     let is = one.3 in
     adds_then (g.K.Sink.written c.args.sink.now) (g.K.Sink.written c.write_head.new.sink) (g.K.Sink.written c.write_told.new.sink) c.args.out.now c.write_head.new.out c.write_told.new.out
-        (head_text d) (told_text c.args.script.now c.args.object d.is_space t) c.write_told.result (c.in-Ok.ensures.text d at)
-        (rw (is.text, ← c.only_task.ensures) (c.write_told.ensures.text one.0 one.1 one.2 is.fit is.recs (is.each ∙ ap (count_by (is_on c.args.object)) (sym c.only_task.ensures)) is.are is.state))
+    (head_text d) (told_text c.args.script.now c.args.object d.is_space t) c.write_told.result (c.in-Ok.ensures.text d at)
+    (rw (is.text, ← c.only_task.ensures) (c.write_told.ensures.text one.0 one.1 one.2 is.fit is.recs (is.each ∙ ap (count_by (is_on c.args.object)) (sym c.only_task.ensures)) is.are is.state))

@@ -1,7 +1,6 @@
 use Rattle.std.proofs.Common.{◌<◌, ◌+◌, ◌++◌, length, drop, arith, subst, Ok, Err}
 use Rattle.task_script.specs.Causes.{Fronts}
 use Rattle.task_script.proofs.Pieces.{adds_then, fronts_more}
-use Rattle.mm_report.specs.Results.{AreLegalFrom}
 use Rattle.mm_report.specs.Text.{head_text, told_text, text_from, text_of}
 use Rattle.mm_report.proofs.Objects.{complete_length, step_at, behind_at, text_split, at_place}
 use Rattle.mm_report.proofs.text.write_objects.Goals as goal
@@ -19,9 +18,9 @@ returns-in-Err-clause-text g c = λ told few legal.
     let step = step_at s i s.objects c.args.results.now (drop i told) d.0 c.snapshot.result.now d.1 c.snapshot.ensures inv.3 in
     let piece = head_text d.0 ++ told_text s i d.0.is_space step.here in
     subst (λ t. Fronts (g.K.Sink.written c.args.sink.now) (g.K.Sink.written c.write_object.new.sink) (c.args.out.now ++ t)) (text_split s i s.objects d.0 step.here step.behind (drop i told) inv.0 (text_of s told) d.1 step.is inv.2)
-        (fronts_more (g.K.Sink.written c.args.sink.now) (g.K.Sink.written c.write_object.new.sink) c.args.out.now (inv.0 ++ piece) (text_from s (i + 1) (drop (i + 1) s.objects) step.behind)
-            (adds_then {E = Unit {0}} (g.K.Sink.written c.args.sink.now) (g.K.Sink.written c.loop-object.sink) (g.K.Sink.written c.write_object.new.sink) c.args.out.now c.loop-object.out c.write_object.new.out inv.0 piece (Err tt) inv.1
-                (c.in-Err.ensures.text d.0 step.here few d.1 step.tells step.legal)))
+    (fronts_more (g.K.Sink.written c.args.sink.now) (g.K.Sink.written c.write_object.new.sink) c.args.out.now (inv.0 ++ piece) (text_from s (i + 1) (drop (i + 1) s.objects) step.behind)
+    (adds_then {E = Unit {0}} (g.K.Sink.written c.args.sink.now) (g.K.Sink.written c.loop-object.sink) (g.K.Sink.written c.write_object.new.sink) c.args.out.now c.loop-object.out c.write_object.new.out inv.0 piece (Err tt) inv.1
+    (c.in-Err.ensures.text d.0 step.here few d.1 step.tells step.legal)))
 
 pub loop-object-preserved : goal.loop-object-preserved
 loop-object-preserved g c = record {

@@ -1,14 +1,16 @@
-use Rattle.std.proofs.Common.{◌≡◌, true, false, ◌∙◌, ap, sym, refl, nat_eq}
-use Rattle.std.specs.List.{list_all}
-use Rattle.vma_map.specs.Spaces.{stores}
-use Rattle.vma_map.specs.SpaceLaws.{zeros_law, all_zeros, zeros_all}
+-- Words store the pages of the areas that they store, and else none.
+use Rattle.std.proofs.Common.{ap, ◌∙◌}
+use Rattle.word_bits.specs.PageMaps.{runs}
+use Rattle.vma_map.specs.Runs.{words_of_areas}
+use Rattle.vma_map.specs.RunLaws.{runs-page_map}
+use Rattle.vma_map.specs.SpaceLaws.{IsPageMap-page_map, IsSpace-runs}
 use Rattle.vma_map.proofs.areas.AreasObject.load.Goals as goal
 
-pub returns-then-are_zeros-clause-found : goal.returns-then-are_zeros-clause-found
-returns-then-are_zeros-clause-found c = (refl, zeros_law ∙ all_zeros 257 c.args.words.now c.requires (sym c.are_zeros.ensures ∙ c.if-are_zeros.true))
+pub returns-in_err-load-clause-none : goal.returns-in_err-load-clause-none
+returns-in_err-load-clause-none c =
+    rw c.from_residual.ensures (λ s is same. c.in_err-load.ensures (record { items = runs s }) (IsSpace-runs s is, same))
 
-pub returns-else-are_zeros-clause-none : goal.returns-else-are_zeros-clause-none
-returns-else-are_zeros-clause-none c = λ m e is.
-    let zeros = sym zeros_law ∙ ap stores (sym e) ∙ is in
-    let all = sym (zeros_all 257) ∙ ap (list_all (λ w. nat_eq w 0)) zeros ∙ sym c.are_zeros.ensures ∙ c.if-are_zeros.false in
-    cc
+pub returns-clause-found : goal.returns-clause-found
+returns-clause-found c =
+    let found = c.in_ok-load.ensures.0 in
+    (IsPageMap-page_map c.in_ok-load.field-0.items found.0, ap words_of_areas (runs-page_map c.in_ok-load.field-0.items found.0.runs) ∙ found.1)

@@ -1,0 +1,18 @@
+-- The bit of the access tells the reply.
+use Rattle.std.proofs.Common.{sym, ap, ◌∙◌}
+use Rattle.vma_map.specs.Runs.{page_map}
+use Rattle.vma_map.specs.Spaces.{access_reply}
+use Rattle.vma_map.proofs.FaultLemmas.{access_reply-set, access_reply-clear}
+use Rattle.vma_map.proofs.areas.Areas.fault.Goals as goal
+
+pub returns-in-Some : goal.returns-in-Some
+returns-in-Some c =
+    let areas = c.as_slice.ensures.value ∙ c.self.view_is in
+    let prot = c.in-Some.ensures ∙ ap (λ xs. page_map xs c.args.page) areas in
+    sym (access_reply-set c.in-Some.prot c.args.access c.requires c.if-prot-access-ne0.true) ∙ ap (λ o. access_reply o c.args.access) prot
+
+pub returns-in-Some-2 : goal.returns-in-Some-2
+returns-in-Some-2 c =
+    let areas = c.as_slice.ensures.value ∙ c.self.view_is in
+    let prot = c.in-Some.ensures ∙ ap (λ xs. page_map xs c.args.page) areas in
+    sym (access_reply-clear c.in-Some.prot c.args.access c.requires c.if-prot-access-ne0.false) ∙ ap (λ o. access_reply o c.args.access) prot
