@@ -27,6 +27,7 @@ pub record IsMap (l : Line) : Type 0 where
   pub prot_fits : prot < 8
   pub words : call_words l ≡ words_of 1 start len prot 0 0
 
+-- a call in the plain mode
 abbrev pub IsPlainCall : Line → Type 0
 IsPlainCall l = IsFault l ⊎ IsMap l
 

@@ -210,9 +210,9 @@ fn read_lines(alloc: Global, bytes: &[u8]) -> Result<Script, ScriptError>
 }
 
 /// Reads a script of lines `space NAME`, `task`, `NAME fault NUMBER ACCESS` and
-/// `NAME map NUMBER NUMBER PROT`. Each line ends at a line feed, and single spaces separate its words.
-/// A number is decimal, without leading zeros, and below 2^32. An access is `r`, `w` or `x`, and a
-/// protection is three bytes: `r` or `-`, `w` or `-`, `x` or `-`.
+/// `NAME map NUMBER NUMBER PROT`. Each line ends at a line feed, and single spaces separate its
+/// words. A number is decimal, without leading zeros, and below 2^32. An access is `r`, `w` or `x`,
+/// and a protection is three bytes: `r` or `-`, `w` or `-`, `x` or `-`.
 ///
 /// # Errors
 ///
