@@ -1,4 +1,6 @@
 //! The program over sources and sinks in memory.
+ghost use Rattle.std.specs.Prelude.{◌<◌};
+
 use crate::program::top;
 use crate::status::Status;
 use std::alloc::{AllocError, Global};

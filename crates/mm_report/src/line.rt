@@ -1,6 +1,8 @@
 //! The pieces of the text's lines.
 ghost use Rattle.std.specs.Prelude.{◌≡◌, ◌+◌, ◌<◌, ◌≤◌, ◌++◌, ◌∷◌, [], length};
-ghost use Rattle.mm_report.specs.Text.{area_text, bare_call_text, call_text, errno_text, left_text, mode_text, prot_text, access_text, reply_text, letter, event_line, head_line, space_call_text};
+ghost use Rattle.mm_report.specs.Text.{area_text, bare_call_text, call_text, errno_text, left_text};
+ghost use Rattle.mm_report.specs.Text.{mode_text, prot_text, access_text, reply_text, letter};
+ghost use Rattle.mm_report.specs.Text.{event_line, head_line, space_call_text};
 ghost use Rattle.vma_map.specs.Spaces.{call_of};
 ghost use Rattle.word_bits.specs.Calls.{signal_of};
 

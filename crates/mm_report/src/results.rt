@@ -1,5 +1,6 @@
 //! What each object of a script leaves.
-ghost use Rattle.std.specs.Prelude.{◌≡◌, ◌<◌, ◌^◌, ◌≤◌, length, slice_get, slice_set, Some, IfOk, count_by};
+ghost use Rattle.std.specs.Prelude.{◌≡◌, ◌<◌, ◌^◌, ◌≤◌, length, slice_get, slice_set, Some, IfOk};
+ghost use Rattle.std.specs.Prelude.{count_by};
 ghost use Rattle.task_script.specs.Scripts.{is_on};
 ghost use Rattle.mm_report.specs.Results.{empty_results, calls_on, words_of_kind};
 ghost use Rattle.std.specs.Borrow.{sem};
@@ -57,7 +58,8 @@ pub(crate) fn calls_of(script: &Script, object: u32) -> Result<usize, AllocError
 }
 
 impl Results {
-    /// Empty results of a script, with room for a record and an entry of each call and for each state.
+    /// Empty results of a script, with room for a record and an entry of each call and for each
+    /// state.
     pub fn new(alloc: Global, script: &Script) -> Result<Results, AllocError>
         ensures { IfOk result (λ r. r ≡ empty_results script.now) }
     {

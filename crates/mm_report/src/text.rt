@@ -1,5 +1,6 @@
 //! The text of a script's histories, line by line.
-ghost use Rattle.std.specs.Prelude.{◌≡◌, ◌<◌, ◌≤◌, ◌++◌, ◌∷◌, false, length, map, filter, flat_map, count_by, slice_get, Some, List, ℕ};
+ghost use Rattle.std.specs.Prelude.{◌≡◌, ◌<◌, ◌≤◌, ◌++◌, ◌∷◌, false, length, map, filter, flat_map};
+ghost use Rattle.std.specs.Prelude.{count_by, slice_get, Some, List, ℕ};
 ghost use Rattle.std.specs.List.{AllByRecursion};
 ghost use Rattle.word_bits.specs.declared.area.Area.{Area};
 ghost use Rattle.word_bits.specs.declared.rec.Rec.{Rec};
@@ -10,7 +11,8 @@ ghost use Rattle.word_bits.specs.Legal.{Tells};
 ghost use Rattle.task_script.specs.Causes.{HasCause, Adds, Puts};
 ghost use Rattle.task_script.specs.Scripts.{Declared, call_words, is_on, plan_of};
 ghost use Rattle.mm_report.specs.Results.{Told, IsLegalOn, AreLegal, AreComplete};
-ghost use Rattle.mm_report.specs.Text.{area_text, event_line, head_text, left_text, task_event_text, task_lines, told_text, text_of};
+ghost use Rattle.mm_report.specs.Text.{area_text, event_line, head_text, left_text};
+ghost use Rattle.mm_report.specs.Text.{task_event_text, task_lines, told_text, text_of};
 
 use crate::line::{add_area, add_event, add_head, add_left};
 use crate::results::Results;
@@ -27,7 +29,8 @@ fn write_event<K: Sink>(
     sink: &mut K,
 ) -> Result<(), Failed>
     ensures text { (r : Rec) → IsRec r → rec_word r ≡ word →
-        Adds (K.written sink.old) (K.written sink.new) out.old out.new (event_line task number (call_words line) r.reply) result }
+        Adds (K.written sink.old) (K.written sink.new) out.old out.new
+        (event_line task number (call_words line) r.reply) result }
     ensures cause { HasCause (K.faults sink.old) (K.faults sink.new) result }
 {
     let Some(rec) = Rec::unpack(word) else {
@@ -51,9 +54,11 @@ fn write_calls<K: Sink>(
     out: &mut Outbox,
     sink: &mut K,
 ) -> Result<(), Failed>
-    ensures text { (rs : List Rec) → AllByRecursion IsRec rs → recs.now ≡ map rec_word rs → length rs ≡ count_by (is_on object) lines.now →
+    ensures text { (rs : List Rec) → AllByRecursion IsRec rs → recs.now ≡ map rec_word rs →
+        length rs ≡ count_by (is_on object) lines.now →
         Adds (K.written sink.old) (K.written sink.new) out.old out.new
-        (flat_map (task_event_text object lines.now) (task_events task 0 (map call_words (filter (is_on object) lines.now)) rs)) result }
+        (flat_map (task_event_text object lines.now)
+        (task_events task 0 (map call_words (filter (is_on object) lines.now)) rs)) result }
     ensures cause { HasCause (K.faults sink.old) (K.faults sink.new) result }
 {
     let mut call = 0;
@@ -92,8 +97,10 @@ fn write_area<K: Sink>(word: u64, out: &mut Outbox, sink: &mut K) -> Result<(), 
 
 // The lines of these areas.
 fn write_areas<K: Sink>(words: &[u64], out: &mut Outbox, sink: &mut K) -> Result<(), Failed>
-    ensures text { (areas : List Area) → AllByRecursion IsArea areas → words.now ≡ map area_word areas →
-        Adds (K.written sink.old) (K.written sink.new) out.old out.new (flat_map area_text areas) result }
+    ensures text { (areas : List Area) → AllByRecursion IsArea areas →
+        words.now ≡ map area_word areas →
+        Adds (K.written sink.old) (K.written sink.new) out.old out.new
+        (flat_map area_text areas) result }
     ensures cause { HasCause (K.faults sink.old) (K.faults sink.new) result }
 {
     for word in words {
@@ -106,7 +113,8 @@ fn write_areas<K: Sink>(words: &[u64], out: &mut Outbox, sink: &mut K) -> Result
 }
 
 fn write_count<K: Sink>(count: u64, out: &mut Outbox, sink: &mut K) -> Result<(), Failed>
-    ensures text { Adds (K.written sink.old) (K.written sink.new) out.old out.new (left_text count) result }
+    ensures text { Adds (K.written sink.old) (K.written sink.new) out.old out.new
+        (left_text count) result }
     ensures cause { HasCause (K.faults sink.old) (K.faults sink.new) result }
 {
     match out.make_room(sink) {
@@ -119,8 +127,10 @@ fn write_count<K: Sink>(count: u64, out: &mut Outbox, sink: &mut K) -> Result<()
 
 // The state that a space is left in, from its words.
 fn write_space<K: Sink>(state: &[u64], out: &mut Outbox, sink: &mut K) -> Result<(), Failed>
-    ensures text { (areas : List Area) (rest : List ℕ) → AllByRecursion IsArea areas → state.now ≡ length areas ∷ (map area_word areas ++ rest) →
-        Adds (K.written sink.old) (K.written sink.new) out.old out.new (left_text (length areas) ++ flat_map area_text areas) result }
+    ensures text { (areas : List Area) (rest : List ℕ) → AllByRecursion IsArea areas →
+        state.now ≡ length areas ∷ (map area_word areas ++ rest) →
+        Adds (K.written sink.old) (K.written sink.new) out.old out.new
+        (left_text (length areas) ++ flat_map area_text areas) result }
     ensures cause { HasCause (K.faults sink.old) (K.faults sink.new) result }
 {
     let Some((count, words)) = state.split_first() else {
@@ -143,10 +153,13 @@ fn write_told<K: Sink>(
     sink: &mut K,
 ) -> Result<(), Failed>
     ensures text { (rs : List Rec) (areas : List Area) (rest : List ℕ) →
-        AllByRecursion IsRec rs → snapshot.now.recs ≡ map rec_word rs → length rs ≡ count_by (is_on object) lines.now →
-        AllByRecursion IsArea areas → snapshot.now.state ≡ length areas ∷ (map area_word areas ++ rest) →
+        AllByRecursion IsRec rs → snapshot.now.recs ≡ map rec_word rs →
+        length rs ≡ count_by (is_on object) lines.now →
+        AllByRecursion IsArea areas →
+        snapshot.now.state ≡ length areas ∷ (map area_word areas ++ rest) →
         Adds (K.written sink.old) (K.written sink.new) out.old out.new
-        (flat_map (task_event_text object lines.now) (task_events 0 0 (map call_words (filter (is_on object) lines.now)) rs)
+        (flat_map (task_event_text object lines.now)
+        (task_events 0 0 (map call_words (filter (is_on object) lines.now)) rs)
         ++ (left_text (length areas) ++ flat_map area_text areas)) result }
     ensures cause { HasCause (K.faults sink.old) (K.faults sink.new) result }
 {
@@ -195,9 +208,12 @@ fn write_object<K: Sink>(
     sink: &mut K,
 ) -> Result<(), Failed>
     requires { object < length script.now.objects }
-    ensures text { (d : Declared) (t : Told) → length script.now.tasks ≤ 1 → slice_get script.now.objects object ≡ Some d →
-        Tells snapshot.now t.records t.log → IsLegalOn d.is_space (plan_of script.now object) t snapshot.now.state →
-        Adds (K.written sink.old) (K.written sink.new) out.old out.new (head_text d ++ told_text script.now object d.is_space t) result }
+    ensures text { (d : Declared) (t : Told) → length script.now.tasks ≤ 1 →
+        slice_get script.now.objects object ≡ Some d →
+        Tells snapshot.now t.records t.log →
+        IsLegalOn d.is_space (plan_of script.now object) t snapshot.now.state →
+        Adds (K.written sink.old) (K.written sink.new) out.old out.new
+        (head_text d ++ told_text script.now object d.is_space t) result }
     ensures cause { HasCause (K.faults sink.old) (K.faults sink.new) result }
 {
     match write_head(script, object, out, sink) {
@@ -213,8 +229,10 @@ fn write_objects<K: Sink>(
     sink: &mut K,
 ) -> Result<(), Failed>
     requires { AreComplete script.now results.now }
-    ensures text { (told : List Told) → length script.now.tasks ≤ 1 → AreLegal script.now results.now told →
-        Adds (K.written sink.old) (K.written sink.new) out.old out.new (text_of script.now told) result }
+    ensures text { (told : List Told) → length script.now.tasks ≤ 1 →
+        AreLegal script.now results.now told →
+        Adds (K.written sink.old) (K.written sink.new) out.old out.new
+        (text_of script.now told) result }
     ensures cause { HasCause (K.faults sink.old) (K.faults sink.new) result }
 {
     for object in 0..script.objects() {
@@ -239,7 +257,8 @@ pub fn report<K: Sink>(
     requires plain { summary ≡ false }
     requires complete { AreComplete script.now results.old }
     // The histories of more than one task aren't put in order yet.
-    ensures text { (told : List Told) → length script.now.tasks ≤ 1 → AreLegal script.now results.old told →
+    ensures text { (told : List Told) → length script.now.tasks ≤ 1 →
+        AreLegal script.now results.old told →
         Puts (K.written sink.old) (K.written sink.new) (text_of script.now told) result }
     ensures cause { HasCause (K.faults sink.old) (K.faults sink.new) result }
     ensures kept { results.new ≡ results.old }
