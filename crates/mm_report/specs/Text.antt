@@ -12,7 +12,7 @@ use Rattle.word_bits.specs.Calls.{mode_of, signal_of}
 use Rattle.word_bits.specs.Histories.{Event, history, state_after}
 use Rattle.word_bits.specs.PageMaps.{PageMap, runs}
 use Rattle.vma_map.specs.declared.call.SpaceCall.{SpaceCall}
-use Rattle.vma_map.specs.declared.call.SpaceCall.TheVariants.{Map, Fault}
+use Rattle.vma_map.specs.declared.call.SpaceCall.TheVariants.{Map, MapAny, MapNew, Unmap, Protect, Populate, Fault}
 use Rattle.vma_map.specs.Spaces.{space, call_of}
 use Rattle.task_script.specs.declared.script.Line.{Line}
 use Rattle.task_script.specs.Scripts.{Declared, Listing, plan_of, is_on}
@@ -56,8 +56,17 @@ abbrev pub access_text : ℕ → List ℕ
 access_text access = if access == 1 then codes "r" else if access == 2 then codes "w" else codes "x"
 
 -- map START LEN PROT, or fault PAGE ACCESS
+-- START LEN
+abbrev pub range_text : (start len : ℕ) → List ℕ
+range_text start len = decimal start ++ codes " " ++ decimal len
+
 abbrev pub space_call_text : SpaceCall → List ℕ
-space_call_text (Map start len prot) = codes "map " ++ decimal start ++ codes " " ++ decimal len ++ codes " " ++ prot_text prot
+space_call_text (Map start len prot) = codes "map " ++ range_text start len ++ codes " " ++ prot_text prot
+space_call_text (MapAny len prot) = codes "map any " ++ decimal len ++ codes " " ++ prot_text prot
+space_call_text (MapNew start len prot) = codes "mapnew " ++ range_text start len ++ codes " " ++ prot_text prot
+space_call_text (Unmap start len) = codes "unmap " ++ range_text start len
+space_call_text (Protect start len prot) = codes "protect " ++ range_text start len ++ codes " " ++ prot_text prot
+space_call_text (Populate start len prot) = codes "populate " ++ range_text start len ++ codes " " ++ prot_text prot
 space_call_text (Fault page access) = codes "fault " ++ decimal page ++ codes " " ++ access_text access
 
 -- a call as a script has it, without the object's name and the mode

@@ -1,8 +1,8 @@
 //! The pieces of the text's lines.
-ghost use Rattle.std.specs.Prelude.{◌≡◌, ◌+◌, ◌<◌, ◌≤◌, ◌++◌, ◌∷◌, [], length};
+ghost use Rattle.std.specs.Prelude.{◌≡◌, ◌+◌, ◌<◌, ◌≤◌, ◌++◌, ◌∷◌, [], length, codes};
 ghost use Rattle.mm_report.specs.Text.{area_text, bare_call_text, call_text, errno_text, left_text};
 ghost use Rattle.mm_report.specs.Text.{mode_text, prot_text, access_text, reply_text, letter};
-ghost use Rattle.mm_report.specs.Text.{event_line, head_line, space_call_text};
+ghost use Rattle.mm_report.specs.Text.{event_line, head_line, range_text, space_call_text};
 ghost use Rattle.vma_map.specs.Spaces.{call_of};
 ghost use Rattle.word_bits.specs.Calls.{signal_of};
 
@@ -82,6 +82,29 @@ fn prot_letters(prot: u8) -> [u8; 3]
     ]
 }
 
+/// A verb and its numbers START LEN.
+fn add_range(out: &mut Outbox, verb: &[u8], start: u32, len: u32)
+    requires room { length out.old + 50 ≤ 4096 }
+    requires verb { length verb.now ≤ 9 }
+    ensures text { out.new ≡ out.old ++ (verb.now ++ range_text start len) }
+    ensures short { length out.new ≤ length out.old + 50 }
+{
+    out.add(verb);
+    out.add_number(u64::from(start));
+    out.add(b" ");
+    out.add_number(u64::from(len));
+}
+
+/// A protection behind a space.
+fn add_prot(out: &mut Outbox, prot: u8)
+    requires { length out.old + 4 ≤ 4096 }
+    ensures text { out.new ≡ out.old ++ (codes " " ++ prot_text prot) }
+    ensures short { length out.new ≤ length out.old + 4 }
+{
+    out.add(b" ");
+    out.add(&prot_letters(prot));
+}
+
 fn add_space_call(out: &mut Outbox, call: SpaceCall)
     requires { length out.old + 94 ≤ 4096 }
     ensures text { out.new ≡ out.old ++ space_call_text call }
@@ -89,12 +112,26 @@ fn add_space_call(out: &mut Outbox, call: SpaceCall)
 {
     match call {
         SpaceCall::Map { start, len, prot } => {
-            out.add(b"map ");
-            out.add_number(u64::from(start));
-            out.add(b" ");
+            add_range(out, b"map ", start, len);
+            add_prot(out, prot);
+        }
+        SpaceCall::MapAny { len, prot } => {
+            out.add(b"map any ");
             out.add_number(u64::from(len));
-            out.add(b" ");
-            out.add(&prot_letters(prot));
+            add_prot(out, prot);
+        }
+        SpaceCall::MapNew { start, len, prot } => {
+            add_range(out, b"mapnew ", start, len);
+            add_prot(out, prot);
+        }
+        SpaceCall::Unmap { start, len } => add_range(out, b"unmap ", start, len),
+        SpaceCall::Protect { start, len, prot } => {
+            add_range(out, b"protect ", start, len);
+            add_prot(out, prot);
+        }
+        SpaceCall::Populate { start, len, prot } => {
+            add_range(out, b"populate ", start, len);
+            add_prot(out, prot);
         }
         SpaceCall::Fault { page, access } => {
             out.add(b"fault ");

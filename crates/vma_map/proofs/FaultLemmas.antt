@@ -1,5 +1,6 @@
 -- What an access meets.
 use Rattle.std.proofs.Common.{◌≡◌, ℕ, zero, suc, ◌*◌, ◌/◌, ◌%◌, ◌<◌, Some, inl, inr, sym, ◌∙◌, arith, bit_and}
+use Rattle.std.proofs.lemmas.Nat.{and_mask}
 use Rattle.std.proofs.lemmas.Nat.Bits.{and_high}
 use Rattle.std.proofs.lemmas.Bool.Decides.{nat_tests}
 use Rattle.word_bits.specs.declared.reply.Reply.TheVariants.{Good, AccErr}
@@ -10,6 +11,10 @@ bit_and-access : (prot access : ℕ) → IsAccess access → bit_and prot access
 bit_and-access prot access (inl is) = rw is (and_high prot 1 0)
 bit_and-access prot access (inr (inl is)) = rw is (and_high prot 1 1)
 bit_and-access prot access (inr (inr is)) = rw is (and_high prot 1 2)
+
+-- the bit that admits reading
+pub read_bit : (prot : ℕ) → bit_and prot 1 ≡ prot % 2
+read_bit prot = and_mask prot 1
 
 -- an access is a bit
 IsAccess-pos : (access : ℕ) → IsAccess access → 0 < access

@@ -2,3 +2,5 @@ pub mod RangeLemmas
 pub mod WordLemmas
 pub mod CountLemmas
 pub mod FaultLemmas
+pub mod QueryLemmas
+pub mod FindLemmas

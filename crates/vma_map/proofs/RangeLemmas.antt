@@ -10,8 +10,12 @@ use Rattle.vma_map.specs.Runs.{page_map, Follows, AreRuns}
 use Rattle.vma_map.specs.Spaces.{changed}
 use Rattle.vma_map.specs.AreaLaws.{changed-in, changed-below, changed-above, page_map-behind, AreRuns-head, AreRuns-tail}
 
+-- what stands in the place of no area
+abbrev pub no_area : Area
+no_area = record { start = 0; end = 0; prot = 0 }
+
 -- a page of joined lists is that of the first list that has it
-page_map-append : (xs ys : List Area) (page : ℕ) → page_map (xs ++ ys) page ≡ option_or (page_map xs page) (page_map ys page)
+pub page_map-append : (xs ys : List Area) (page : ℕ) → page_map (xs ++ ys) page ≡ option_or (page_map xs page) (page_map ys page)
 page_map-append [] ys page = refl
 page_map-append (a ∷ xs) ys page = go (leb a.start page && ltb page a.end) (page_map-append xs ys page)
   where
@@ -46,7 +50,7 @@ AreRuns-end (x ∷ (y ∷ xs)) a b ys runs start prot end =
     (runs.0, runs.1, AreRuns-end (y ∷ xs) a b ys runs.2 start prot end)
 
 -- runs in front of an area end at its start or before it
-ends_before : (x : Area) (xs : List Area) (a : Area) (ys : List Area) → AreRuns (x ∷ (xs ++ a ∷ ys)) → x.end ≤ a.start
+pub ends_before : (x : Area) (xs : List Area) (a : Area) (ys : List Area) → AreRuns (x ∷ (xs ++ a ∷ ys)) → x.end ≤ a.start
 ends_before x [] a ys runs = runs.1.ascend
 ends_before x (y ∷ xs) a ys runs =
     let ascend = runs.1.ascend in

@@ -10,7 +10,7 @@ use Rattle.word_bits.specs.AreaWord.{IsArea, area_word}
 use Rattle.word_bits.specs.Packed.{IsFound}
 use Rattle.vma_map.specs.Runs.{Follows, AreRuns, IsSpace, words_of_areas}
 use Rattle.vma_map.specs.AreaLaws.{AreRuns-head, map-area_word-injective}
-use Rattle.vma_map.proofs.RangeLemmas.{at_index, AreRuns-at, AreRuns-from, AreRuns-after}
+use Rattle.vma_map.proofs.RangeLemmas.{no_area, at_index, AreRuns-at, AreRuns-from, AreRuns-after}
 
 -- a list that has a last element
 last_of : {X : Type 0} (xs : List X) (x : X) → slice_get xs (length xs - 1) ≡ Some x → xs ≡ take (length xs - 1) xs ++ x ∷ []
@@ -32,7 +32,7 @@ push-follows areas last next is runs =
     (AreRuns-from front last (next ∷ []) (rw at at runs)).1
 
 -- the first ones of runs are runs
-AreRuns-init : (xs ys : List Area) → AreRuns (xs ++ ys) → AreRuns xs
+pub AreRuns-init : (xs ys : List Area) → AreRuns (xs ++ ys) → AreRuns xs
 AreRuns-init [] ys runs = tt
 AreRuns-init (x ∷ []) ys runs = AreRuns-head x ys runs
 AreRuns-init (x ∷ (y ∷ xs)) ys runs = (runs.0, runs.1, AreRuns-init (y ∷ xs) ys runs.2)
@@ -44,20 +44,25 @@ AreRuns-take n areas runs = AreRuns-init (take n areas) (drop n areas) (rw (sym 
 -- a word that no area has is in the words of no areas
 pub unpacks-none : (words : List ℕ) (i : ℕ) → i < length words → ((a : Area) → IsArea a × (area_word a ≡ get_or words i 0) → ⊥) → (areas : List Area) → AreRuns areas × (map area_word areas ≡ words) → ⊥
 unpacks-none words i below none areas (runs, same) =
-    let d : Area = record { start = 0; end = 0; prot = 0 } in
+    let d = no_area in
     let many : length areas ≡ length words = sym (length-map areas area_word) ∙ ap length same in
     let here = sym (get_or-map area_word areas i d 0 (omega arith)) ∙ ap (λ ws. get_or ws i 0) same in
     none (get_or areas i d) (AreRuns-at areas i d (omega arith) runs, here)
 
+-- the area of a word is the one that it unpacks to
+pub unpacks-at : (words : List ℕ) (i : ℕ) (d : Area) → i < length words → (a : Area) → ((b : Area) → IsArea b × (area_word b ≡ get_or words i 0) → b ≡ a) → (areas : List Area) → AreRuns areas → map area_word areas ≡ words → (i < length areas) × (get_or areas i d ≡ a)
+unpacks-at words i d below a only areas runs same =
+    let many : length areas ≡ length words = sym (length-map areas area_word) ∙ ap length same in
+    let here = sym (get_or-map area_word areas i d 0 (omega arith)) ∙ ap (λ ws. get_or ws i 0) same in
+    (omega arith, only (get_or areas i d) (AreRuns-at areas i d (omega arith) runs, here))
+
 -- the areas of words begin with those of the first words and the one of the next
 pub unpacks-first : (words : List ℕ) (i : ℕ) → i < length words → (before : List Area) → AreRuns before → map area_word before ≡ take i words → (a : Area) → ((b : Area) → IsArea b × (area_word b ≡ get_or words i 0) → b ≡ a) → (areas : List Area) → AreRuns areas × (map area_word areas ≡ words) → AreRuns (before ++ a ∷ [])
 unpacks-first words i below before runs_before first a only areas (runs, same) =
-    let d : Area = record { start = 0; end = 0; prot = 0 } in
-    let many : length areas ≡ length words = sym (length-map areas area_word) ∙ ap length same in
-    let here = sym (get_or-map area_word areas i d 0 (omega arith)) ∙ ap (λ ws. get_or ws i 0) same in
-    let is = only (get_or areas i d) (AreRuns-at areas i d (omega arith) runs, here) in
+    let d = no_area in
+    let is = unpacks-at words i d below a only areas runs same in
     let front = map-area_word-injective (take i areas) before (AreRuns-take i areas runs) runs_before (sym (take-map area_word i areas) ∙ ap (take i) same ∙ sym first) in
-    let shape = take_more areas i d (omega arith) ∙ ap (λ xs. xs ++ get_or areas i d ∷ []) front ∙ ap (λ x. before ++ x ∷ []) is in
+    let shape = take_more areas i d is.0 ∙ ap (λ xs. xs ++ get_or areas i d ∷ []) front ∙ ap (λ x. before ++ x ∷ []) is.1 in
     rw shape at (AreRuns-take (i + 1) areas runs)
 
 -- one more word is written

@@ -1,27 +1,16 @@
 -- A call has one pair of words in each mode, and the words tell it.
-use Rattle.std.proofs.Common.{◌≡◌, ℕ, ◌+◌, ◌*◌, ◌/◌, ◌%◌, ◌^◌, ◌<◌, refl, zero, suc, Option, Some, None, sym, ap, ◌∙◌, arith}
+use Rattle.std.proofs.Common.{◌≡◌, ℕ, ◌+◌, ◌*◌, ◌/◌, ◌%◌, ◌^◌, ◌<◌, ◌==◌, ◌&&◌, ◌||◌, Bool, true, false, cond, refl, zero, suc, Option, Some, None, sym, ap, subst, ◌∙◌, arith}
+use Rattle.std.specs.Prelude.{nat_lt}
+use Rattle.std.proofs.lemmas.Bool.{ltb-true}
 use Rattle.std.proofs.lemmas.Bool.Decides.{nat_tests}
 use Rattle.word_bits.specs.declared.call.CallWords.{CallWords}
 use Rattle.word_bits.specs.declared.call.Mode.{Mode}
-use Rattle.word_bits.specs.declared.call.Mode.TheVariants.{Plain, Int, Try}
+use Rattle.word_bits.proofs.Modes.{mode_number-lt, mode_at}
 use Rattle.word_bits.specs.Calls.{words_of, mode_number}
 use Rattle.word_bits.specs.Packed.{IsFound}
 use Rattle.vma_map.specs.declared.call.SpaceCall.{SpaceCall}
-use Rattle.vma_map.specs.declared.call.SpaceCall.TheVariants.{Map, Fault}
-use Rattle.vma_map.specs.Spaces.{IsCall, IsAccess, IsCallOf, call_with, call_of, words_of_call}
-
--- a mode's number is below 3
-mode_number-lt : (mode : Mode) → mode_number mode < 3
-mode_number-lt Plain = omega arith
-mode_number-lt Int = omega arith
-mode_number-lt Try = omega arith
-
--- each number below 3 is a mode's
-mode_at : (n : ℕ) → n < 3 → (mode : Mode) × (mode_number mode ≡ n)
-mode_at zero below = (Plain, refl)
-mode_at (suc zero) below = (Int, refl)
-mode_at (suc (suc zero)) below = (Try, refl)
-mode_at (suc (suc (suc n))) below = absurd (omega arith)
+use Rattle.vma_map.specs.declared.call.SpaceCall.TheVariants.{Map, MapAny, MapNew, Unmap, Protect, Populate, Fault}
+use Rattle.vma_map.specs.Spaces.{IsCall, IsAccess, IsCallOf, call_if, call_with, call_of, words_of_call}
 
 -- the fields of packed words
 call_of-words_of : (kind first second prot access mode : ℕ) → kind < 2 ^ 8 → first < 2 ^ 32 → prot < 2 ^ 8 → access < 2 ^ 8 → mode < 3 → call_of (words_of kind first second prot access mode) ≡ call_with kind first second prot access
@@ -40,41 +29,96 @@ call_of-words_of kind first second prot access mode k f p x m =
 call_of-packed : (call : SpaceCall) (mode : Mode) → IsCall call → call_of (words_of_call call mode) ≡ Some call
 call_of-packed (Map start len prot) mode h =
     call_of-words_of 1 start len prot 0 (mode_number mode) (omega arith) h.0 (omega arith) (omega arith) (mode_number-lt mode) ∙ grind (arith, nat_tests)
+call_of-packed (MapAny len prot) mode h =
+    call_of-words_of 2 len 0 prot 0 (mode_number mode) (omega arith) h.0 (omega arith) (omega arith) (mode_number-lt mode) ∙ grind (arith, nat_tests)
+call_of-packed (MapNew start len prot) mode h =
+    call_of-words_of 3 start len prot 0 (mode_number mode) (omega arith) h.0 (omega arith) (omega arith) (mode_number-lt mode) ∙ grind (arith, nat_tests)
+call_of-packed (Unmap start len) mode h =
+    call_of-words_of 4 start len 0 0 (mode_number mode) (omega arith) h.0 (omega arith) (omega arith) (mode_number-lt mode) ∙ grind (arith, nat_tests)
+call_of-packed (Protect start len prot) mode h =
+    call_of-words_of 5 start len prot 0 (mode_number mode) (omega arith) h.0 (omega arith) (omega arith) (mode_number-lt mode) ∙ grind (arith, nat_tests)
+call_of-packed (Populate start len prot) mode h =
+    call_of-words_of 6 start len prot 0 (mode_number mode) (omega arith) h.0 (omega arith) (omega arith) (mode_number-lt mode) ∙ grind (arith, nat_tests)
 call_of-packed (Fault page access) mode h =
     let small : access < 2 ^ 8 = omega arith in
     call_of-words_of 7 page 0 0 access (mode_number mode) (omega arith) h.0 (omega arith) small (mode_number-lt mode) ∙ grind (arith, nat_tests)
 
--- the words of a call's kind and fields are the words that were read
-words_of-fields : (w : CallWords) (kind first second prot access mode : ℕ) → w.b % 2 ^ 8 ≡ kind → w.a % 2 ^ 32 ≡ first → w.a / 2 ^ 32 ≡ second → w.b / 2 ^ 8 % 2 ^ 8 ≡ prot → w.b / 2 ^ 16 % 2 ^ 8 ≡ access → mode ≡ w.b / 2 ^ 24 → words_of kind first second prot access mode ≡ w
-words_of-fields w kind first second prot access mode k f s p x m =
-    let a : first + second * 2 ^ 32 ≡ w.a = omega arith in
-    let b : kind + prot * 2 ^ 8 + access * 2 ^ 16 + mode * 2 ^ 24 ≡ w.b = omega arith in
+-- the words of the fields that were read are the words
+words_of-fields : (w : CallWords) (mode : ℕ) → mode ≡ w.b / 2 ^ 24 → words_of (w.b % 2 ^ 8) (w.a % 2 ^ 32) (w.a / 2 ^ 32) (w.b / 2 ^ 8 % 2 ^ 8) (w.b / 2 ^ 16 % 2 ^ 8) mode ≡ w
+words_of-fields w mode m =
+    let a : w.a % 2 ^ 32 + w.a / 2 ^ 32 * 2 ^ 32 ≡ w.a = omega arith in
+    let b : w.b % 2 ^ 8 + w.b / 2 ^ 8 % 2 ^ 8 * 2 ^ 8 + w.b / 2 ^ 16 % 2 ^ 8 * 2 ^ 16 + mode * 2 ^ 24 ≡ w.b = omega arith in
     λ i. record { a = a i; b = b i }
 
--- the tests of a call to map
-map_tests : (kind first second prot access : ℕ) (start len p : ℕ) → call_with kind first second prot access ≡ Some (Map start len p) → (kind ≡ 1) × (first ≡ start) × (second ≡ len) × (prot ≡ p) × (access ≡ 0) × (second < 2 ^ 32) × (prot < 8)
-map_tests kind first second prot access start len p e = grind (arith, nat_tests)
+-- a valid call whose words are of this kind, with these numbers, protection and access
+abbrev HasFields : (kind first second prot access : ℕ) → SpaceCall → Type 0
+HasFields kind first second prot access call =
+    IsCall call × ((mode : Mode) → words_of_call call mode ≡ words_of kind first second prot access (mode_number mode))
 
--- the tests of a fault
-fault_tests : (kind first second prot access : ℕ) (page x : ℕ) → call_with kind first second prot access ≡ Some (Fault page x) → (kind ≡ 7) × (first ≡ page) × (second ≡ 0) × (prot ≡ 0) × (access ≡ x) × IsAccess x
-fault_tests kind first second prot access page x e = grind (arith, nat_tests)
+-- what holds of a call if its test does holds of the call that it tells
+call_if-told : (test : Bool) (call told : SpaceCall) (P : SpaceCall → Type 0) → call_if test call ≡ Some told → (test ≡ true → P call) → P told
+call_if-told true call told P e holds = let same : call ≡ told = cc in subst P same (holds refl)
+call_if-told false call told P e holds = absurd cc
+
+-- the test of a call with a protection and no access
+abbrev with_prot : (second prot access : ℕ) → Bool
+with_prot second prot access = nat_lt second (2 ^ 32) && nat_lt prot 8 && (access == 0)
+
+-- what it says
+with_prot-true : (second prot access : ℕ) → with_prot second prot access ≡ true → (second < 2 ^ 32) × (prot < 8) × (access ≡ 0)
+with_prot-true second prot access e = grind (arith, nat_tests)
+
+-- the test of a fault
+fault-true : (second prot access : ℕ) → ((second == 0) && (prot == 0) && ((access == 1) || (access == 2) || (access == 4))) ≡ true → (second ≡ 0) × (prot ≡ 0) × IsAccess access
+fault-true second prot access e = grind (arith, nat_tests)
+
+-- a test of a protection and of a number that is 0
+also_zero : (second prot access n : ℕ) → (with_prot second prot access && (n == 0)) ≡ true → (with_prot second prot access ≡ true) × (n ≡ 0)
+also_zero second prot access n e = grind (arith, nat_tests)
+
+-- a number that is no call's kind tells none
+no_kind : (n first second prot access : ℕ) (told : SpaceCall) → call_with (n + 8) first second prot access ≡ Some told → ⊥
+no_kind n first second prot access told e = grind (arith, nat_tests)
+
+-- a call of a kind has the fields that tell it
+call_with-sound : (kind first second prot access : ℕ) (told : SpaceCall) → first < 2 ^ 32 → call_with kind first second prot access ≡ Some told → HasFields kind first second prot access told
+call_with-sound zero first second prot access told below e = absurd cc
+call_with-sound (suc zero) first second prot access told below e =
+    call_if-told (with_prot second prot access) (Map first second prot) told (HasFields 1 first second prot access) e (λ test. let t = with_prot-true second prot access test in ((below, t.0, t.1), λ mode. ap (λ x. words_of 1 first second prot x (mode_number mode)) (sym t.2)))
+call_with-sound (suc (suc zero)) first second prot access told below e =
+    call_if-told (with_prot second prot access && (second == 0)) (MapAny first prot) told (HasFields 2 first second prot access) e (λ test. let z = also_zero second prot access second test in let t = with_prot-true second prot access z.0 in ((below, t.1), λ mode. rw (z.1, t.2) refl))
+call_with-sound (suc (suc (suc zero))) first second prot access told below e =
+    call_if-told (with_prot second prot access) (MapNew first second prot) told (HasFields 3 first second prot access) e (λ test. let t = with_prot-true second prot access test in ((below, t.0, t.1), λ mode. ap (λ x. words_of 3 first second prot x (mode_number mode)) (sym t.2)))
+call_with-sound (suc (suc (suc (suc zero)))) first second prot access told below e =
+    call_if-told (with_prot second prot access && (prot == 0)) (Unmap first second) told (HasFields 4 first second prot access) e (λ test. let z = also_zero second prot access prot test in let t = with_prot-true second prot access z.0 in ((below, t.0), λ mode. rw (z.1, t.2) refl))
+call_with-sound (suc (suc (suc (suc (suc zero))))) first second prot access told below e =
+    call_if-told (with_prot second prot access) (Protect first second prot) told (HasFields 5 first second prot access) e (λ test. let t = with_prot-true second prot access test in ((below, t.0, t.1), λ mode. ap (λ x. words_of 5 first second prot x (mode_number mode)) (sym t.2)))
+call_with-sound (suc (suc (suc (suc (suc (suc zero)))))) first second prot access told below e =
+    call_if-told (with_prot second prot access) (Populate first second prot) told (HasFields 6 first second prot access) e (λ test. let t = with_prot-true second prot access test in ((below, t.0, t.1), λ mode. ap (λ x. words_of 6 first second prot x (mode_number mode)) (sym t.2)))
+call_with-sound (suc (suc (suc (suc (suc (suc (suc zero))))))) first second prot access told below e =
+    call_if-told ((second == 0) && (prot == 0) && ((access == 1) || (access == 2) || (access == 4))) (Fault first access) told (HasFields 7 first second prot access) e (λ test. let t = fault-true second prot access test in ((below, t.2), λ mode. rw (t.0, t.1) refl))
+call_with-sound (suc (suc (suc (suc (suc (suc (suc (suc n)))))))) first second prot access told below e =
+    let more : suc (suc (suc (suc (suc (suc (suc (suc n))))))) ≡ n + 8 = omega arith in
+    absurd (no_kind n first second prot access told (rw more at e))
+
+-- a call that is told only if a test holds
+cond_some : (test : Bool) (o : Option SpaceCall) (call : SpaceCall) → cond test o None ≡ Some call → (test ≡ true) × (o ≡ Some call)
+cond_some true o call e = (refl, e)
+cond_some false o call e = absurd cc
 
 -- a call is read from words of a mode
 mode_test : (w : CallWords) (call : SpaceCall) → call_of w ≡ Some call → (w.b / 2 ^ 24 < 3) × (call_with (w.b % 2 ^ 8) (w.a % 2 ^ 32) (w.a / 2 ^ 32) (w.b / 2 ^ 8 % 2 ^ 8) (w.b / 2 ^ 16 % 2 ^ 8) ≡ Some call)
-mode_test w call e = grind (arith, nat_tests)
+mode_test w call e =
+    let t = cond_some (nat_lt (w.b / 2 ^ 24) 3) (call_with (w.b % 2 ^ 8) (w.a % 2 ^ 32) (w.a / 2 ^ 32) (w.b / 2 ^ 8 % 2 ^ 8) (w.b / 2 ^ 16 % 2 ^ 8)) call e in
+    (ltb-true (w.b / 2 ^ 24) 3 t.0, t.1)
 
 -- what is read is a valid call with these words
 pub call_of-sound : (w : CallWords) (call : SpaceCall) → call_of w ≡ Some call → IsCallOf w call
-call_of-sound w (Map start len prot) e =
-    let (below, is) = mode_test w (Map start len prot) e in
-    let t = map_tests _ _ _ _ _ start len prot is in
+call_of-sound w call e =
+    let (below, is) = mode_test w call e in
+    let has = call_with-sound _ _ _ _ _ call (omega arith) is in
     let m = mode_at (w.b / 2 ^ 24) below in
-    ((omega arith, omega arith, omega arith), (m.0, words_of-fields w 1 start len prot 0 (mode_number m.0) t.0 t.1 t.2 t.3 t.4 m.1))
-call_of-sound w (Fault page access) e =
-    let (below, is) = mode_test w (Fault page access) e in
-    let t = fault_tests _ _ _ _ _ page access is in
-    let m = mode_at (w.b / 2 ^ 24) below in
-    ((omega arith, t.5), (m.0, words_of-fields w 7 page 0 0 access (mode_number m.0) t.0 t.1 t.2 t.3 t.4 m.1))
+    (has.0, (m.0, has.1 m.0 ∙ words_of-fields w (mode_number m.0) m.1))
 
 -- a valid call is read from its words
 pub call_of-complete : (w : CallWords) (call : SpaceCall) → IsCallOf w call → call_of w ≡ Some call

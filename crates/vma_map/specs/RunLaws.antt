@@ -57,7 +57,7 @@ extended-runs page (Some prot) (a ∷ areas) small below runs starts =
     go (inr gap) same = apart (λ touch _. gap touch)
 
 -- a page that the first area doesn't have
-outside : (a : Area) (areas : List Area) (page : ℕ) → (a.start ≤ page → a.end ≤ page) → page_map (a ∷ areas) page ≡ page_map areas page
+pub outside : (a : Area) (areas : List Area) (page : ℕ) → (a.start ≤ page → a.end ≤ page) → page_map (a ∷ areas) page ≡ page_map areas page
 outside a areas page out = grind (arith, nat_tests)
 
 -- an area that begins a page sooner has the other pages as before

@@ -1,28 +1,27 @@
 -- The laws of an address space.
-use Rattle.std.proofs.Common.{◌≡◌, ℕ, ◌+◌, ◌-◌, ◌<◌, ◌≤◌, List, [], ◌++◌, ◌==◌, ◌/◌, ◌%◌, length, take, map, replicate, Option, Some, None, IfSome, Bool, true, false, ◌&&◌, ◌||◌, cond, leb, ltb, refl, sym, ap, ◌∙◌, arith}
+use Rattle.std.proofs.Common.{◌≡◌, ℕ, ◌+◌, ◌-◌, ◌<◌, ◌≤◌, List, [], ◌++◌, ◌==◌, ◌/◌, ◌%◌, length, take, map, replicate, Option, Some, None, IfSome, true, ◌&&◌, ◌||◌, ◌^◌, leb, ltb, refl, sym, ap, ◌∙◌, arith}
 use Rattle.std.proofs.lemmas.List.{length-map, length-append, length-replicate, take_at}
-use Rattle.std.proofs.lemmas.Bool.{false≢true}
-use Rattle.std.proofs.lemmas.Bool.Decides.{nat_tests}
+use Rattle.std.proofs.lemmas.Bool.{false≢true, cond_both, or_parts, ltb-false, leb-true}
 use Rattle.word_bits.specs.declared.area.Area.{Area}
 use Rattle.word_bits.specs.declared.call.CallWords.{CallWords}
 use Rattle.word_bits.specs.declared.reply.Reply.{Reply}
 use Rattle.word_bits.specs.declared.reply.Reply.TheVariants.{Good, Num, Refused, AccErr}
 use Rattle.word_bits.specs.declared.reply.Errno.{Errno}
-use Rattle.word_bits.specs.declared.reply.Errno.TheVariants.{NoMem, Inval}
+use Rattle.word_bits.specs.declared.reply.Errno.TheVariants.{NoMem, Exist, Inval}
 use Rattle.word_bits.specs.AreaWord.{area_word}
 use Rattle.word_bits.specs.Objects.{IsObjectReply}
 use Rattle.word_bits.specs.PageMaps.{PageMap, IsPageMap, no_pages, runs}
 use Rattle.vma_map.specs.declared.call.SpaceCall.{SpaceCall}
-use Rattle.vma_map.specs.declared.call.SpaceCall.TheVariants.{Map, Fault}
+use Rattle.vma_map.specs.declared.call.SpaceCall.TheVariants.{Map, MapAny, MapNew, Unmap, Protect, Populate, Fault}
 use Rattle.vma_map.specs.Runs.{page_map, AreRuns, IsSpace, words_of_areas}
-use Rattle.vma_map.specs.Spaces.{changed, mapped, access_reply, IsCall, call_of, reads, meaning, stores}
+use Rattle.vma_map.specs.Spaces.{changed, with_range, if_valid, is_free, is_mapped, lowest_free, mapped, mapped_at, readable, access_reply, IsCall, call_of, reads, meaning, stores}
 use Rattle.vma_map.specs.AreaLaws.{page_map-past, page_map-prots, changed-above}
 use Rattle.vma_map.specs.RunLaws.{runs-runs, page_map-runs, runs-page_map}
 use Rattle.vma_map.specs.AreaLaws.{map-area_word-injective}
 use Rattle.vma_map.specs.CallLaws.{call_of-sound}
 
 -- stored areas fill all words
-length-words_of_areas : (areas : List Area) → length areas ≤ 256 → length (words_of_areas areas) ≡ 257
+pub length-words_of_areas : (areas : List Area) → length areas ≤ 256 → length (words_of_areas areas) ≡ 257
 length-words_of_areas areas few =
     simp (length-append, length-map, length-replicate) (omega arith)
 
@@ -74,61 +73,119 @@ pub called : (words : CallWords) (call : SpaceCall) → call_of words ≡ Some c
 called words call e = (call_of-sound words call e).0
 
 -- a change keeps the protections small
-changed-prots : (m : PageMap) (start end prot : ℕ) → ((page : ℕ) → IfSome (m page) (λ p. p < 8)) → prot < 8 → (page : ℕ) → IfSome (changed m start end (Some prot) page) (λ p. p < 8)
-changed-prots m start end prot prots small page = go (leb start page && ltb page end)
-  where
-    go : (test : Bool) → IfSome (cond test (Some prot) (m page)) (λ p. p < 8)
-    go true = small
-    go false = prots page
+changed-prots : (m : PageMap) (start end : ℕ) (prot : Option ℕ) → ((page : ℕ) → IfSome (m page) (λ p. p < 8)) → IfSome prot (λ p. p < 8) → (page : ℕ) → IfSome (changed m start end prot page) (λ p. p < 8)
+changed-prots m start end prot prots small page =
+    cond_both (leb start page && ltb page end) prot (m page) (λ o. IfSome o (λ p. p < 8)) (λ _. small) (λ _. prots page)
 
 -- a change in the pages that has few runs can be stored
-IsPageMap-changed : (m : PageMap) (start end prot : ℕ) → IsPageMap m → end ≤ 1048576 → prot < 8 → length (runs (changed m start end (Some prot))) ≤ 256 → IsPageMap (changed m start end (Some prot))
+IsPageMap-changed : (m : PageMap) (start end : ℕ) (prot : Option ℕ) → IsPageMap m → end ≤ 1048576 → IfSome prot (λ p. p < 8) → length (runs (changed m start end prot)) ≤ 256 → IsPageMap (changed m start end prot)
 IsPageMap-changed m start end prot is within small few = record {
-  within = λ page past. changed-above m start end (Some prot) page (omega arith) ∙ is.within page past;
+  within = λ page past. changed-above m start end prot page (omega arith) ∙ is.within page past;
   prots = changed-prots m start end prot is.prots small;
   few = few;
 }
 
--- the tests of a call to map: what holds of each of its three ends holds of it
-mapped-cases : (m : PageMap) (start len prot : ℕ) (P : PageMap × Reply → Type 0) → P (m, Refused Inval) → (0 < len → start + len ≤ 1048576 → length (runs (changed m start (start + len) (Some prot))) ≤ 256 → P (changed m start (start + len) (Some prot), Num start)) → P (m, Refused NoMem) → P (mapped m start len prot)
-mapped-cases m start len prot P inval done many = go ((len == 0) || ltb 1048576 (start + len)) refl (leb (length (runs (changed m start (start + len) (Some prot)))) 256) refl
-  where
-    go : (bad : Bool) → ((len == 0) || ltb 1048576 (start + len)) ≡ bad → (few : Bool) → leb (length (runs (changed m start (start + len) (Some prot)))) 256 ≡ few → P (cond bad (m, Refused Inval) (cond few (changed m start (start + len) (Some prot), Num start) (m, Refused NoMem)))
-    go true e few f = inval
-    go false e true f = done (grind (arith, nat_tests)) (grind (arith, nat_tests)) (grind (arith, nat_tests))
-    go false e false f = many
+-- the reply of a change
+abbrev IsDone : Reply → Type 0
+IsDone Good = Unit {0}
+IsDone (Num n) = n < 2 ^ 22
+IsDone reply = ⊥
+
+-- it is an object's
+IsDone-object : (reply : Reply) → IsDone reply → IsObjectReply reply
+IsDone-object Good done = tt
+IsDone-object (Num n) done = done
+IsDone-object reply done = absurd done
+
+-- it is no refusal
+IsDone-refused : (reply : Reply) (errno : Errno) → IsDone reply → reply ≡ Refused errno → ⊥
+IsDone-refused Good errno done e = cc
+IsDone-refused (Num n) errno done e = cc
+IsDone-refused reply errno done e = done
+
+-- a change of a range that a call makes
+record IsChange (m : PageMap) (call : SpaceCall) (start len : ℕ) (prot : Option ℕ) (reply : Reply) : Type 0 where
+  within : start + len ≤ 1048576
+  few : length (runs (changed m start (start + len) prot)) ≤ 256
+  small : IsCall call → IfSome prot (λ p. p < 8)
+  done : IsDone reply
+
+-- of the pages of a range at most all can be read
+readable-le : (len prot : ℕ) → readable len prot ≤ len
+readable-le len prot = cond_both ((prot % 2) == 1) len 0 (λ n. n ≤ len) (λ _. omega arith) (λ _. omega arith)
+
+module _ (m : PageMap) (P : PageMap × Reply → Type 0) (none : (errno : Errno) → P (m, Refused errno)) where
+  -- the tests of a range: what holds of both ends
+  if_valid-cases : (start len : ℕ) (next : PageMap × Reply) → (start + len ≤ 1048576 → P next) → P (if_valid m start len next)
+  if_valid-cases start len next holds =
+      cond_both ((len == 0) || ltb 1048576 (start + len)) (m, Refused Inval) next P (λ _. none Inval) (λ e. holds (ltb-false 1048576 (start + len) (or_parts (len == 0) (ltb 1048576 (start + len)) e).1))
+
+  -- the test of the number of runs
+  with_range-cases : (start len : ℕ) (prot : Option ℕ) (reply : Reply) → (length (runs (changed m start (start + len) prot)) ≤ 256 → P (changed m start (start + len) prot, reply)) → P (with_range m start len prot reply)
+  with_range-cases start len prot reply holds =
+      cond_both (leb (length (runs (changed m start (start + len) prot))) 256) (changed m start (start + len) prot, reply) (m, Refused NoMem) P (λ e. holds (leb-true (length (runs (changed m start (start + len) prot))) 256 e)) (λ _. none NoMem)
+
+  module _ (call : SpaceCall) (holds : (start len : ℕ) (prot : Option ℕ) (reply : Reply) → IsChange m call start len prot reply → P (changed m start (start + len) prot, reply)) where
+    -- both tests
+    both-cases : (start len : ℕ) (prot : Option ℕ) (reply : Reply) → (IsCall call → IfSome prot (λ p. p < 8)) → start + len ≤ 1048576 → IsDone reply → P (with_range m start len prot reply)
+    both-cases start len prot reply small within done =
+        with_range-cases start len prot reply (λ few. holds start len prot reply (record { within = within; few = few; small = small; done = done }))
+
+    -- map
+    mapped-cases : (start len prot : ℕ) → (IsCall call → prot < 8) → P (mapped m start len prot)
+    mapped-cases start len prot small =
+        if_valid-cases start len _ (λ within. both-cases start len (Some prot) (Num start) small within (omega arith))
+
+    -- map at a start, if there is one
+    mapped_at-cases : (start : Option ℕ) (len prot : ℕ) → (IsCall call → prot < 8) → P (mapped_at m start len prot)
+    mapped_at-cases None len prot small = none NoMem
+    mapped_at-cases (Some start) len prot small = mapped-cases start len prot small
+
+  -- a call is refused, or changes a range, or is a fault: what holds of all three holds of its meaning
+  meaning-cases : (call : SpaceCall) → ((start len : ℕ) (prot : Option ℕ) (reply : Reply) → IsChange m call start len prot reply → P (changed m start (start + len) prot, reply)) → ((page access : ℕ) → P (m, access_reply (m page) access)) → P (meaning m call)
+  meaning-cases (Map start len prot) holds fault =
+      mapped-cases (Map start len prot) holds start len prot (λ is. is.2)
+  meaning-cases (MapAny len prot) holds fault =
+      cond_both (len == 0) (m, Refused Inval) (mapped_at m (lowest_free m len) len prot) P (λ _. none Inval) (λ _. mapped_at-cases (MapAny len prot) holds (lowest_free m len) len prot (λ is. is.1))
+  meaning-cases (MapNew start len prot) holds fault =
+      if_valid-cases start len _ (λ within. cond_both (is_free m start len) _ (m, Refused Exist) P (λ _. both-cases (MapNew start len prot) holds start len (Some prot) (Num start) (λ is. is.2) within (omega arith)) (λ _. none Exist))
+  meaning-cases (Unmap start len) holds fault =
+      if_valid-cases start len _ (λ within. both-cases (Unmap start len) holds start len None Good (λ is. tt) within tt)
+  meaning-cases (Protect start len prot) holds fault =
+      if_valid-cases start len _ (λ within. cond_both (is_mapped m start len) _ (m, Refused NoMem) P (λ _. both-cases (Protect start len prot) holds start len (Some prot) Good (λ is. is.2) within tt) (λ _. none NoMem))
+  meaning-cases (Populate start len prot) holds fault =
+      if_valid-cases start len _ (λ within. both-cases (Populate start len prot) holds start len (Some prot) (Num (readable len prot)) (λ is. is.2) within (omega (arith, readable-le len prot)))
+  meaning-cases (Fault page access) holds fault = fault page access
 
 -- a call leads from stored pages to such
 pub goes_on : (s : PageMap) (call : SpaceCall) → IsPageMap s → IsCall call → IsPageMap (meaning s call).0
-goes_on s (Map start len prot) is_s is_call =
-    mapped-cases s start len prot (λ r. IsPageMap r.0) is_s (λ some within few. IsPageMap-changed s start (start + len) prot is_s within is_call.2 few) is_s
-goes_on s (Fault page access) is_s is_call = is_s
+goes_on s call is_s is_call =
+    meaning-cases s (λ r. IsPageMap r.0) (λ _. is_s) call (λ start len prot reply c. IsPageMap-changed s start (start + len) prot is_s c.within (c.small is_call) c.few) (λ _ _. is_s)
 
 -- what an access meets is an object's reply
 access_reply-object : (o : Option ℕ) (access : ℕ) → IsObjectReply (access_reply o access)
 access_reply-object None access = tt
-access_reply-object (Some prot) access = go ((prot / access % 2) == 1)
-  where
-    go : (set : Bool) → IsObjectReply (cond set Good AccErr)
-    go true = tt
-    go false = tt
+access_reply-object (Some prot) access = cond_both ((prot / access % 2) == 1) Good AccErr IsObjectReply (λ _. tt) (λ _. tt)
 
 -- replies are an object's
 pub replies : (s : PageMap) (call : SpaceCall) → IsPageMap s → IsCall call → IsObjectReply (meaning s call).1
-replies s (Map start len prot) is_s is_call =
-    mapped-cases s start len prot (λ r. IsObjectReply r.1) tt (λ some within few. omega arith) tt
-replies s (Fault page access) is_s is_call = access_reply-object (s page) access
+replies s call is_s is_call =
+    meaning-cases s (λ r. IsObjectReply r.1) (λ _. tt) call (λ start len prot reply c. IsDone-object reply c.done) (λ page access. access_reply-object (s page) access)
 
 -- a call that reads changes nothing
 pub reading : (s : PageMap) (call : SpaceCall) → reads call ≡ true → (meaning s call).0 ≡ s
-reading s (Map start len prot) e = absurd (false≢true e)
 reading s (Fault page access) e = refl
+reading s (Map start len prot) e = absurd (false≢true e)
+reading s (MapAny len prot) e = absurd (false≢true e)
+reading s (MapNew start len prot) e = absurd (false≢true e)
+reading s (Unmap start len) e = absurd (false≢true e)
+reading s (Protect start len prot) e = absurd (false≢true e)
+reading s (Populate start len prot) e = absurd (false≢true e)
 
 -- a refused call changes nothing
 pub refused : (s : PageMap) (call : SpaceCall) (errno : Errno) → (meaning s call).1 ≡ Refused errno → (meaning s call).0 ≡ s
-refused s (Map start len prot) errno e =
-    mapped-cases s start len prot (λ r. r.1 ≡ Refused errno → r.0 ≡ s) (λ _. refl) (λ some within few done. absurd cc) (λ _. refl) e
-refused s (Fault page access) errno e = refl
+refused s call errno =
+    meaning-cases s (λ r. r.1 ≡ Refused errno → r.0 ≡ s) (λ _ _. refl) call (λ start len prot reply c e. absurd (IsDone-refused reply errno c.done e)) (λ _ _ _. refl)
 
 -- the words are as many as may be
 pub few_words : 257 ≤ 257

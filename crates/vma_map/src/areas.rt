@@ -1,10 +1,11 @@
 //! An address space.
-ghost use Rattle.std.specs.Prelude.{◌≡◌, ◌<◌, ◌≤◌, ◌↔◌, IsOk, OnOk, OnErr, IfErr, IfSome, length};
+ghost use Rattle.std.specs.Prelude.{◌≡◌, ◌+◌, ◌<◌, ◌≤◌, ◌↔◌, IsOk, OnOk, OnErr, IfOk, IfErr, IfSome, length};
 ghost use Rattle.word_bits.specs.PageMaps.{mapped_from, runs};
 ghost use Rattle.vma_map.specs.Runs.{page_map};
-ghost use Rattle.vma_map.specs.Spaces.{IsAccess, changed, mapped, access_reply};
+ghost use Rattle.vma_map.specs.Spaces.{IsAccess, IsCall, changed, mapped, mapped_any, mapped_new, unmapped, protected, populated, readable, access_reply, meaning, reply_of};
 
 use crate::call::SpaceCall;
+use crate::query::{is_free, is_mapped, lowest_free};
 use crate::range::with_change;
 use crate::words::{self, SPACE_WORDS};
 use crate::{MAX_AREAS, PAGES};
@@ -77,17 +78,86 @@ impl Areas {
         Ok(())
     }
 
-    fn map(&mut self, start: u32, len: u32, prot: u8) -> Reply
+    fn map(&mut self, start: u32, len: u32, prot: u8) -> Result<Reply, Errno>
         requires { prot < 8 }
         ensures next { page_map self.new ≡ (mapped (page_map self.old) start len prot).0 }
-        ensures reply { result ≡ (mapped (page_map self.old) start len prot).1 }
+        ensures reply { reply_of result ≡ (mapped (page_map self.old) start len prot).1 }
     {
-        if len == 0 || len > PAGES || start > PAGES - len {
-            return Reply::Refused(Errno::Inval);
+        let end = range_end(start, len)?;
+        self.change(start, end, Some(prot))?;
+        Ok(Reply::Num(start))
+    }
+
+    fn map_any(&mut self, len: u32, prot: u8) -> Result<Reply, Errno>
+        requires { prot < 8 }
+        ensures next { page_map self.new ≡ (mapped_any (page_map self.old) len prot).0 }
+        ensures reply { reply_of result ≡ (mapped_any (page_map self.old) len prot).1 }
+    {
+        if len == 0 {
+            return Err(Errno::Inval);
         }
-        match self.change(start, start + len, Some(prot)) {
-            Ok(()) => Reply::Num(start),
-            Err(errno) => Reply::Refused(errno),
+        let start = lowest_free(self.areas.as_slice(), len).ok_or(Errno::NoMem)?;
+        self.map(start, len, prot)
+    }
+
+    fn map_new(&mut self, start: u32, len: u32, prot: u8) -> Result<Reply, Errno>
+        requires { prot < 8 }
+        ensures next { page_map self.new ≡ (mapped_new (page_map self.old) start len prot).0 }
+        ensures reply { reply_of result ≡ (mapped_new (page_map self.old) start len prot).1 }
+    {
+        let end = range_end(start, len)?;
+        if !is_free(self.areas.as_slice(), start, len) {
+            return Err(Errno::Exist);
+        }
+        self.change(start, end, Some(prot))?;
+        Ok(Reply::Num(start))
+    }
+
+    fn unmap(&mut self, start: u32, len: u32) -> Result<Reply, Errno>
+        ensures next { page_map self.new ≡ (unmapped (page_map self.old) start len).0 }
+        ensures reply { reply_of result ≡ (unmapped (page_map self.old) start len).1 }
+    {
+        let end = range_end(start, len)?;
+        self.change(start, end, None)?;
+        Ok(Reply::Good)
+    }
+
+    fn protect(&mut self, start: u32, len: u32, prot: u8) -> Result<Reply, Errno>
+        requires { prot < 8 }
+        ensures next { page_map self.new ≡ (protected (page_map self.old) start len prot).0 }
+        ensures reply { reply_of result ≡ (protected (page_map self.old) start len prot).1 }
+    {
+        let end = range_end(start, len)?;
+        if !is_mapped(self.areas.as_slice(), start, len) {
+            return Err(Errno::NoMem);
+        }
+        self.change(start, end, Some(prot))?;
+        Ok(Reply::Good)
+    }
+
+    fn populate(&mut self, start: u32, len: u32, prot: u8) -> Result<Reply, Errno>
+        requires { prot < 8 }
+        ensures next { page_map self.new ≡ (populated (page_map self.old) start len prot).0 }
+        ensures reply { reply_of result ≡ (populated (page_map self.old) start len prot).1 }
+    {
+        let end = range_end(start, len)?;
+        self.change(start, end, Some(prot))?;
+        Ok(Reply::Num(readable(len, prot)))
+    }
+
+    fn outcome(&mut self, call: SpaceCall) -> Result<Reply, Errno>
+        requires { IsCall call }
+        ensures next { page_map self.new ≡ (meaning (page_map self.old) call).0 }
+        ensures reply { reply_of result ≡ (meaning (page_map self.old) call).1 }
+    {
+        match call {
+            SpaceCall::Map { start, len, prot } => self.map(start, len, prot),
+            SpaceCall::MapAny { len, prot } => self.map_any(len, prot),
+            SpaceCall::MapNew { start, len, prot } => self.map_new(start, len, prot),
+            SpaceCall::Unmap { start, len } => self.unmap(start, len),
+            SpaceCall::Protect { start, len, prot } => self.protect(start, len, prot),
+            SpaceCall::Populate { start, len, prot } => self.populate(start, len, prot),
+            SpaceCall::Fault { page, access } => Ok(self.fault(page, access)),
         }
     }
 
@@ -101,6 +171,29 @@ impl Areas {
             Some(_) => Reply::AccErr,
         }
     }
+}
+
+/// The page behind a range.
+fn range_end(start: u32, len: u32) -> Result<u32, Errno>
+    ensures valid { IsOk result ↔ ((0 < len) × (start + len ≤ 1048576)) }
+    ensures end { IfOk result (λ end. end ≡ start + len) }
+    ensures errno { IfErr result (λ errno. errno ≡ Errno.Inval) }
+{
+    match start.checked_add(len) {
+        Some(end) if len > 0 && end <= PAGES => Ok(end),
+        _ => Err(Errno::Inval),
+    }
+}
+
+/// The bit of a protection that admits reading.
+const READ: u8 = 1;
+
+#[tactic(auto, using(crate::proofs::FaultLemmas::read_bit))]
+/// How many of so many pages of this protection can be read.
+fn readable(len: u32, prot: u8) -> u32
+    ensures { result ≡ readable len prot }
+{
+    if prot & READ != 0 { len } else { 0 }
 }
 
 impl Object for Areas {
@@ -133,13 +226,10 @@ impl Object for Areas {
     }
 
     fn apply(&mut self, call: SpaceCall) -> Reply {
-        let reply = match call {
-            SpaceCall::Map { start, len, prot } => self.map(start, len, prot),
-            SpaceCall::Fault { page, access } => self.fault(page, access),
-        };
+        let outcome = self.outcome(call);
         // Read, since the proof knows that the areas are in order only where they are used.
         let _ = &self.areas;
-        reply
+        outcome.unwrap_or_else(Reply::Refused)
     }
 
     fn load(words: &[u64]) -> Option<Self> {

@@ -1,7 +1,7 @@
 //! The calls on an address space.
 ghost use Rattle.std.specs.Prelude.{◌≡◌, ◌*◌, ◌/◌, ◌%◌, ◌^◌, ◌<◌};
 ghost use Rattle.word_bits.specs.Packed.{IsFound};
-ghost use Rattle.vma_map.specs.Spaces.{IsCallOf, call_of};
+ghost use Rattle.vma_map.specs.Spaces.{IsCallOf, call_of, call_with};
 
 use word_bits::CallWords;
 
@@ -10,6 +10,16 @@ use word_bits::CallWords;
 pub enum SpaceCall {
     /// Gives `len` pages from `start` on the protection `prot` (r 1, w 2, x 4), whatever was there.
     Map { start: u32, len: u32, prot: u8 },
+    /// Maps `len` pages at the lowest start from which so many pages are unmapped.
+    MapAny { len: u32, prot: u8 },
+    /// As `Map`, where no page of the range is mapped yet.
+    MapNew { start: u32, len: u32, prot: u8 },
+    /// Unmaps `len` pages from `start` on, mapped or not.
+    Unmap { start: u32, len: u32 },
+    /// Gives the range another protection, where each of its pages is mapped.
+    Protect { start: u32, len: u32, prot: u8 },
+    /// As `Map`. The reply is how many pages of the range can be read.
+    Populate { start: u32, len: u32, prot: u8 },
     /// Touches a page by an access: r 1, w 2 or x 4.
     Fault { page: u32, access: u8 },
 }
@@ -19,6 +29,28 @@ fn byte(word: u64, index: u32) -> u8
     ensures { result ≡ word / 2 ^ (8 * index) % 2 ^ 8 }
 {
     ((word >> (8 * index)) & 0xff) as u8
+}
+
+/// The call of a kind, from 1, with these numbers, protection and access. What it doesn't have must
+/// be 0.
+fn call_with(kind: u8, first: u32, second: u32, prot: u8, access: u8) -> Option<SpaceCall>
+    ensures { result ≡ call_with kind first second prot access }
+{
+    let (start, len) = (first, second);
+    let has_prot = prot < 8 && access == 0;
+    match kind {
+        1 if has_prot => Some(SpaceCall::Map { start, len, prot }),
+        2 if has_prot && second == 0 => Some(SpaceCall::MapAny { len: first, prot }),
+        3 if has_prot => Some(SpaceCall::MapNew { start, len, prot }),
+        4 if has_prot && prot == 0 => Some(SpaceCall::Unmap { start, len }),
+        5 if has_prot => Some(SpaceCall::Protect { start, len, prot }),
+        6 if has_prot => Some(SpaceCall::Populate { start, len, prot }),
+        7 if second == 0 && prot == 0 && matches!(access, 1 | 2 | 4) => Some(SpaceCall::Fault {
+            page: first,
+            access,
+        }),
+        _ => None,
+    }
 }
 
 impl SpaceCall {
@@ -34,19 +66,6 @@ impl SpaceCall {
         let second = (words.a >> 32) as u32;
         let prot = byte(words.b, 1);
         let access = byte(words.b, 2);
-        match byte(words.b, 0) {
-            1 if prot < 8 && access == 0 => Some(SpaceCall::Map {
-                start: first,
-                len: second,
-                prot,
-            }),
-            7 if second == 0 && prot == 0 && matches!(access, 1 | 2 | 4) => {
-                Some(SpaceCall::Fault {
-                    page: first,
-                    access,
-                })
-            }
-            _ => None,
-        }
+        call_with(byte(words.b, 0), first, second, prot, access)
     }
 }

@@ -3,6 +3,7 @@
 
 mod areas;
 mod call;
+mod query;
 mod range;
 #[cfg(test)]
 mod tests;
@@ -10,6 +11,7 @@ mod words;
 
 pub use areas::Areas;
 pub use call::SpaceCall;
+pub use words::find;
 
 /// How many pages an address space has. They are numbered from 0.
 pub const PAGES: u32 = 1_048_576;

@@ -1,9 +1,12 @@
 //! The words that store an address space.
-ghost use Rattle.std.specs.Prelude.{◌≡◌, ◌==◌, ◌≤◌, ◌↔◌, [], ◌∷◌, ◌++◌, length, map, IsTrue};
+ghost use Rattle.std.specs.Prelude.{◌≡◌, ◌==◌, ◌≤◌, ◌↔◌, List, [], ◌∷◌, ◌++◌, length, map, IsTrue};
 ghost use Rattle.std.specs.List.{list_all};
 ghost use Rattle.word_bits.specs.AreaWord.{IsArea, area_word};
 ghost use Rattle.word_bits.specs.Packed.{IsFound};
-ghost use Rattle.vma_map.specs.Runs.{AreRuns, IsSpace, words_of_areas};
+ghost use Rattle.word_bits.specs.PageMaps.{PageMap, IsPageMap, runs};
+ghost use Rattle.word_bits.specs.declared.area.Area.{Area};
+ghost use Rattle.vma_map.specs.Runs.{AreRuns, IsSpace, page_map, words_of_areas};
+ghost use Rattle.vma_map.specs.Spaces.{AreSpaceWords, IsRunAt, stores};
 
 use crate::MAX_AREAS;
 use arrayvec::ArrayVec;
@@ -74,4 +77,28 @@ pub(crate) fn load(words: &[u64]) -> Option<ArrayVec<Area, MAX_AREAS>>
         return None;
     }
     load_areas(used)
+}
+
+/// The area that has the page, among those that have these words.
+fn find_area(words: &[u64], page: u32) -> Option<Area>
+    ensures { (areas : List Area) → AreRuns areas → map area_word areas ≡ words.now
+        → IsRunAt areas (page_map areas) page result }
+{
+    for word in words {
+        let area = Area::unpack(*word)?;
+        if area.start <= page && page < area.end {
+            return Some(area);
+        }
+    }
+    None
+}
+
+/// The run that has the page, in the address space that the words store. `None` where the page is
+/// unmapped.
+pub fn find(words: &[u64], page: u32) -> Option<Area>
+    requires { AreSpaceWords words.now }
+    ensures { (m : PageMap) → IsPageMap m → stores m ≡ words.now → IsRunAt (runs m) m page result }
+{
+    let count = words[0] as usize;
+    find_area(&words[1..1 + count], page)
 }

@@ -4,13 +4,9 @@ use Rattle.std.proofs.lemmas.List.{length-take, take_more}
 use Rattle.std.proofs.lemmas.Bool.{false≢true}
 use Rattle.arrayvec.specs.ArrayVec.{ArrayVec}
 use Rattle.word_bits.specs.declared.area.Area.{Area}
-use Rattle.vma_map.proofs.RangeLemmas.{runs_at, AreRuns-at, below_behind, above_behind, above_room, IsBelow, IsAbove, IsMiddle, IsChangedSoFar-more}
+use Rattle.vma_map.proofs.RangeLemmas.{no_area, runs_at, AreRuns-at, below_behind, above_behind, above_room, IsBelow, IsAbove, IsMiddle, IsChangedSoFar-more}
 use Rattle.vma_map.proofs.range.with_change.Goals as goal
 use Rattle.vma_map.proofs.range.with_change.Goals.{After-max, then-not-placed+then-end-area, else-not-placed, else-not-placed-via-then-not-placed+else-end-area, else-not-placed-via-else-not-placed}
-
--- what stands in the place of no area
-abbrev no_area : Area
-no_area = record { start = 0; end = 0; prot = 0 }
 
 -- the area of an iteration
 abbrev area : goal.After-max → Area

@@ -7,4 +7,4 @@ use Rattle.vma_map.proofs.areas.AreasObject.apply.Goals as goal
 
 pub returns-clause-sound : goal.returns-clause-sound
 returns-clause-sound c =
-    subst (λ areas. IsPageMap (page_map areas)) c.self-2.view_is (IsPageMap-page_map c.self-2.inside.areas.items c.self-2.invariant)
+    subst (λ areas. IsPageMap (page_map areas)) c.self.view_is (IsPageMap-page_map c.self.inside.areas.items c.self.invariant)

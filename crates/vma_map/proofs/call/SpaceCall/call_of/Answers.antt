@@ -1,24 +1,25 @@
 -- What is returned is what the meaning of the words says, which is exact.
-use Rattle.std.proofs.Common.{◌≡◌, ◌/◌, Option, Some, subst, arith, bit_and}
-use Rattle.std.proofs.lemmas.Grind.{common_steps}
-use Rattle.word_bits.specs.declared.call.CallWords.{CallWords}
+use Rattle.std.proofs.Common.{◌≡◌, ◌/◌, ◌%◌, ◌^◌, ◌<◌, sym, ◌∙◌, subst, arith}
+use Rattle.std.proofs.lemmas.Nat.{and_mask}
+use Rattle.std.proofs.lemmas.Bool.{cond-true, lt-ltb}
 use Rattle.word_bits.specs.Packed.{IsFound}
-use Rattle.vma_map.specs.declared.call.SpaceCall.{SpaceCall}
-use Rattle.vma_map.specs.declared.call.SpaceCall.TheVariants.{Map, Fault}
 use Rattle.vma_map.specs.Spaces.{IsCallOf, call_of}
 use Rattle.vma_map.specs.CallLaws.{call_of-exact}
 use Rattle.vma_map.proofs.call.SpaceCall.call_of.Goals as goal
+use Rattle.vma_map.proofs.call.SpaceCall.call_of.Goals.{After-call_with}
 
--- what equals the meaning of the words is exact
-exact_as : (w : CallWords) (result : Option SpaceCall) → call_of w ≡ result → IsFound (IsCallOf w) result
-exact_as w result e = subst (IsFound (IsCallOf w)) e (call_of-exact w)
-
-pub returns-in-1-clause-exact : goal.returns-in-1-clause-exact
-returns-in-1-clause-exact c =
+-- the fields that were read are those of the words
+value : (c : After-call_with) → c.call_with.result ≡ call_of c.args.words
+value c =
     let w = c.args.words in
-    exact_as w (Some (Map (bit_and w.a 4294967295) (w.a / 4294967296) c.byte-prot.result)) (grind (arith, common_steps))
+    let kind : c.byte.result ≡ w.b % 2 ^ 8 = omega arith in
+    let first = and_mask w.a 32 in
+    let mode : w.b / 2 ^ 24 < 3 = omega arith in
+    c.call_with.ensures ∙ rw (kind, first, c.byte-prot.ensures, c.byte-access.ensures) (sym (cond-true _ _ _ (lt-ltb _ _ mode)))
 
-pub returns-in-7-clause-exact : goal.returns-in-7-clause-exact
-returns-in-7-clause-exact c =
-    let w = c.args.words in
-    exact_as w (Some (Fault (bit_and w.a 4294967295) c.byte-access.result)) (grind (arith, common_steps))
+pub returns-clause-value : goal.returns-clause-value
+returns-clause-value c = value ((goal.at.returns-clause-value c).After-call_with)
+
+pub returns-clause-exact : goal.returns-clause-exact
+returns-clause-exact c =
+    subst (IsFound (IsCallOf c.args.words)) (sym (value ((goal.at.returns-clause-exact c).After-call_with))) (call_of-exact c.args.words)

@@ -1,0 +1,34 @@
+-- What is returned is what the meaning of the words says, which is exact.
+use Rattle.std.proofs.Common.{◌≡◌, ◌/◌, Option, Some, subst, arith, bit_and}
+use Rattle.std.proofs.lemmas.Grind.{common_steps}
+use Rattle.word_bits.specs.declared.call.CallWords.{CallWords}
+use Rattle.word_bits.specs.Packed.{IsFound}
+use Rattle.fd_table.specs.declared.call.TableCall.{TableCall}
+use Rattle.fd_table.specs.declared.call.TableCall.TheVariants.{Open, Close, Dup, Dup2, Get}
+use Rattle.fd_table.specs.Tables.{IsCallOf, call_of}
+use Rattle.fd_table.specs.CallLaws.{call_of-exact}
+use Rattle.fd_table.proofs.call.TableCall.call_of.Goals as goal
+
+-- what equals the meaning of the words is exact
+exact_as : (w : CallWords) (result : Option TableCall) → call_of w ≡ result → IsFound (IsCallOf w) result
+exact_as w result e = subst (IsFound (IsCallOf w)) e (call_of-exact w)
+
+pub returns-in_ok-ok-in-8-eq0-clause-exact : goal.returns-in_ok-ok-in-8-eq0-clause-exact
+returns-in_ok-ok-in-8-eq0-clause-exact c =
+    exact_as c.args.words (Some (Open c.in_ok-ok-in-8-eq0.field-0)) (grind (arith, common_steps))
+
+pub returns-in-9-eq0-clause-exact : goal.returns-in-9-eq0-clause-exact
+returns-in-9-eq0-clause-exact c =
+    exact_as c.args.words (Some (Close (bit_and c.args.words.a 4294967295))) (grind (arith, common_steps))
+
+pub returns-in-10-eq0-clause-exact : goal.returns-in-10-eq0-clause-exact
+returns-in-10-eq0-clause-exact c =
+    exact_as c.args.words (Some (Dup (bit_and c.args.words.a 4294967295))) (grind (arith, common_steps))
+
+pub returns-in-11-default-clause-exact : goal.returns-in-11-default-clause-exact
+returns-in-11-default-clause-exact c =
+    exact_as c.args.words (Some (Dup2 (bit_and c.args.words.a 4294967295) (c.args.words.a / 4294967296))) (grind (arith, common_steps))
+
+pub returns-in-12-eq0-clause-exact : goal.returns-in-12-eq0-clause-exact
+returns-in-12-eq0-clause-exact c =
+    exact_as c.args.words (Some (Get (bit_and c.args.words.a 4294967295))) (grind (arith, common_steps))
