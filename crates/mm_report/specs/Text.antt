@@ -55,11 +55,11 @@ prot_text prot = letter prot 1 114 ∷ letter prot 2 119 ∷ letter prot 4 120 �
 abbrev pub access_text : ℕ → List ℕ
 access_text access = if access == 1 then codes "r" else if access == 2 then codes "w" else codes "x"
 
--- map START LEN PROT, or fault PAGE ACCESS
 -- START LEN
 abbrev pub range_text : (start len : ℕ) → List ℕ
 range_text start len = decimal start ++ codes " " ++ decimal len
 
+-- the verb and the arguments
 abbrev pub space_call_text : SpaceCall → List ℕ
 space_call_text (Map start len prot) = codes "map " ++ range_text start len ++ codes " " ++ prot_text prot
 space_call_text (MapAny len prot) = codes "map any " ++ decimal len ++ codes " " ++ prot_text prot
