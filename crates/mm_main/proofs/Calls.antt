@@ -1,5 +1,5 @@
 -- The calls of an accepted script are calls of a space.
-use Rattle.std.proofs.Common.{◌≡◌, ap, ◌∙◌, sym, List, [], ◌∷◌, refl, Some, ◌⊎◌, inl, inr}
+use Rattle.std.proofs.Common.{sym, List, [], ◌∷◌, inl, inr}
 use Rattle.std.specs.List.{AllByRecursion}
 use Rattle.word_bits.specs.declared.call.Mode.TheVariants.{Plain}
 use Rattle.vma_map.specs.declared.call.SpaceCall.TheVariants.{Map, Fault}
@@ -7,7 +7,7 @@ use Rattle.vma_map.specs.Spaces.{space}
 use Rattle.vma_map.specs.CallLaws.{call_of-complete}
 use Rattle.task_script.specs.declared.script.Line.{Line}
 use Rattle.task_script.specs.Scripts.{call_words}
-use Rattle.task_script.specs.Sound.{IsFault, IsMap, IsPlainCall}
+use Rattle.task_script.specs.Sound.{IsPlainCall}
 use Rattle.mm_main.specs.Serial.{IsCallOf}
 
 line_called : (l : Line) → IsPlainCall l → IsCallOf space (call_words l)

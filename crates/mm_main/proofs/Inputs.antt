@@ -1,5 +1,5 @@
 -- What was read decides as the whole input does.
-use Rattle.std.proofs.Common.{◌≡◌, ℕ, ◌<◌, ◌≤◌, Bool, true, false, List, [], ◌++◌, length, length-append, sym, refl, ap, ◌∙◌, arith, append-nil, Option, Some, None, Result, Ok, Err, nat_lt, ◌⊎◌, inl, inr, subst}
+use Rattle.std.proofs.Common.{◌≡◌, ℕ, ◌<◌, ◌≤◌, true, List, [], ◌++◌, length, length-append, sym, refl, ap, ◌∙◌, arith, append-nil, Option, Some, None, Result, Ok, Err, nat_lt, ◌⊎◌, inl, inr, subst}
 use Rattle.std.proofs.lemmas.Bool.{cases_lt}
 use Rattle.std.proofs.lemmas.Bool.Decides.{nat_tests}
 use Rattle.std.specs.Option.{IfSome}

@@ -1,27 +1,24 @@
 -- What is done one after the other is legal.
-use Rattle.std.proofs.Common.{◌≡◌, ℕ, ◌+◌, ◌-◌, ◌*◌, ◌^◌, ◌<◌, ◌≤◌, zero, suc, Bool, true, false, not, ◌&&◌, List, [], ◌∷◌, ◌++◌, length, take, drop, map, refl, sym, ap, ◌∙◌, subst, arith, rules, append_assoc, append-nil, length-append, Option, Some, None, ◌⊎◌, inl, inr, cond, add-zero, zero-add}
-use Rattle.std.specs.Prelude.{flat_map, count_by, sum_by, slice_get, IsSome, fold}
+use Rattle.std.proofs.Common.{◌≡◌, ℕ, ◌+◌, ◌^◌, ◌<◌, ◌≤◌, zero, suc, Bool, true, false, not, ◌&&◌, List, [], ◌∷◌, ◌++◌, length, take, refl, sym, ap, ◌∙◌, subst, arith, append_assoc, append-nil, length-append, Some, inl, inr, cond, add-zero, zero-add}
+use Rattle.std.specs.Prelude.{count_by, sum_by, slice_get}
 use Rattle.std.specs.List.{AllByRecursion}
-use Rattle.std.specs.Option.{option_and_then, option_map_or}
 use Rattle.std.proofs.lemmas.List.Sums.{sum_by-cons, sum_by-append, sum_by_push}
 use Rattle.std.proofs.Math.Seq.{take-append_seam}
 use Rattle.std.proofs.lemmas.Option.{same_Some}
 use Rattle.word_bits.specs.declared.call.CallWords.{CallWords}
 use Rattle.word_bits.specs.declared.entry.Entry.{Entry}
 use Rattle.word_bits.specs.declared.rec.Rec.{Rec}
-use Rattle.word_bits.specs.declared.reply.Errno.{Errno}
 use Rattle.word_bits.specs.declared.reply.Errno.TheVariants.{BadF, NoMem, Exist, Inval, MFile}
 use Rattle.word_bits.specs.declared.reply.Reply.{Reply}
 use Rattle.word_bits.specs.declared.reply.Reply.TheVariants.{Good, Num, Refused, MapErr, AccErr, Busy, Intr, Sent}
-use Rattle.word_bits.specs.EntryWord.{IsEntry, entry_word, entry_eq}
-use Rattle.word_bits.specs.RecWord.{IsRec, rec_word, value_of}
-use Rattle.word_bits.specs.Replies.{errno_number}
+use Rattle.word_bits.specs.EntryWord.{IsEntry, entry_eq}
+use Rattle.word_bits.specs.RecWord.{IsRec, value_of}
 use Rattle.word_bits.specs.LockWords.{Unavailable}
 use Rattle.word_bits.specs.Objects.{Obj, IsObjectReply}
 use Rattle.word_bits.proofs.States.{IsLawful, state_is_state}
 use Rattle.word_bits.specs.Snapshots.{Words}
-use Rattle.word_bits.specs.Histories.{Plan, Records, Event, at_entry, events_from, task_events, state_after, next_state, changes, logs, event_logs}
-use Rattle.word_bits.specs.Legal.{IsLegal, IsLogged, IsRead, IsUnheld, IsRecord, IsReplyAt, AreTaskRecords, AreRecords, Tells, is_intr, seen_after, signals_to}
+use Rattle.word_bits.specs.Histories.{Plan, Event, events_from, task_events, state_after, changes, logs, event_logs}
+use Rattle.word_bits.specs.Legal.{IsLegal, IsRecord, IsReplyAt, AreTaskRecords, AreRecords, Tells, is_intr, seen_after}
 use Rattle.mm_main.specs.Serial.{record_after, log_after, task_records, task_log, all_records, all_log, IsCallOf, IsSerial}
 
 module _ {Call : Type 0} (o : Obj Call) (lawful : IsLawful o) where

@@ -1,19 +1,16 @@
 -- What the calls of a script leave on all of its objects.
-use Rattle.std.proofs.Common.{◌≡◌, ℕ, ◌+◌, ◌<◌, ◌≤◌, ◌^◌, Bool, true, false, cond, zero, suc, List, [], ◌∷◌, ◌++◌, length, length-append, drop, map, refl, sym, ap, ◌∙◌, subst, arith, Option, Some, None}
+use Rattle.std.proofs.Common.{◌≡◌, ℕ, ◌+◌, ◌<◌, ◌≤◌, ◌^◌, Bool, true, false, cond, zero, suc, List, [], ◌∷◌, length, length-append, map, refl, sym, ap, ◌∙◌, subst, arith, Some}
 use Rattle.std.specs.Prelude.{slice_get, slice_set, filter, count_by, sum_by, flat_map}
 use Rattle.std.specs.List.{AllByRecursion}
-use Rattle.std.proofs.lemmas.Option.{same_Some, none-some}
+use Rattle.std.proofs.lemmas.Option.{same_Some}
 use Rattle.std.proofs.lemmas.List.{length-map}
 use Rattle.std.proofs.lemmas.List.Sums.{sum_by-cons, length-filter, count_by-le-length}
 use Rattle.word_bits.specs.declared.call.CallWords.{CallWords}
 use Rattle.word_bits.specs.declared.entry.Entry.{Entry}
 use Rattle.word_bits.specs.RecWord.{rec_word}
 use Rattle.word_bits.specs.LockWords.{counted}
-use Rattle.word_bits.specs.Objects.{Obj}
 use Rattle.word_bits.specs.Snapshots.{Words, no_words}
 use Rattle.word_bits.specs.Histories.{Plan}
-use Rattle.word_bits.specs.Legal.{Tells}
-use Rattle.vma_map.specs.declared.call.SpaceCall.{SpaceCall}
 use Rattle.vma_map.specs.Spaces.{space}
 use Rattle.mm_report.proofs.Lawful.{space_lawful}
 use Rattle.task_script.specs.declared.script.Line.{Line}

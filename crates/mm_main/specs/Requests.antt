@@ -1,5 +1,5 @@
 -- What the words of the command line and the input call for, and what is then said.
-use Rattle.std.specs.Prelude.{◌≡◌, ℕ, ◌<◌, nat_lt, List, ◌++◌, codes, decimal, Result, Ok, Err, if◌then◌else◌}
+use Rattle.std.specs.Prelude.{ℕ, nat_lt, List, ◌++◌, codes, decimal, Result, Ok, Err, if◌then◌else◌}
 use Rattle.task_script.specs.declared.reader.Reason.{Reason}
 use Rattle.task_script.specs.declared.reader.Reason.TheVariants.{TooLong, Later}
 use Rattle.task_script.specs.Scripts.{Listing}

@@ -32,15 +32,14 @@ pub(crate) fn read_all<S: Source>(alloc: Global, source: &mut S) -> Result<Vec<u
     let mut piece = [0u8; PIECE];
     while all.len() < MOST {
         let room = (MOST - all.len()).min(PIECE);
-        let Ok(count) = source.read(&mut piece[..room]) else {
-            return Err(InputError::Failed);
-        };
+        let count = source
+            .read(&mut piece[..room])
+            .map_err(|_| InputError::Failed)?;
         if count == 0 {
             break;
         }
-        if all.extend_from_slice(&piece[..count]).is_err() {
-            return Err(InputError::Memory);
-        }
+        all.extend_from_slice(&piece[..count])
+            .map_err(|_| InputError::Memory)?;
     }
     Ok(all)
 }

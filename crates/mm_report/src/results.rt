@@ -49,10 +49,7 @@ pub(crate) fn calls_of(script: &Script, object: u32) -> Result<usize, AllocError
     let mut count = 0usize;
     for task in 0..script.tasks() {
         let calls = count_on(script.calls(task), object);
-        let Some(more) = count.checked_add(calls) else {
-            return Err(AllocError);
-        };
-        count = more;
+        count = count.checked_add(calls).ok_or(AllocError)?;
     }
     Ok(count)
 }

@@ -36,10 +36,7 @@ fn write_event<K: Sink>(
     let Some(rec) = Rec::unpack(word) else {
         return Ok(());
     };
-    match out.make_room(sink) {
-        Ok(()) => {}
-        Err(failed) => return Err(failed),
-    }
+    out.make_room(sink)?;
     let [a, b] = line.words;
     add_event(out, task, number, CallWords { a, b }, rec.reply);
     Ok(())
@@ -69,10 +66,7 @@ fn write_calls<K: Sink>(
         let Some(word) = recs.get(call) else {
             return Ok(());
         };
-        match write_event(task, number, *line, *word, out, sink) {
-            Ok(()) => {}
-            Err(failed) => return Err(failed),
-        }
+        write_event(task, number, *line, *word, out, sink)?;
         call += 1;
     }
     Ok(())
@@ -87,10 +81,7 @@ fn write_area<K: Sink>(word: u64, out: &mut Outbox, sink: &mut K) -> Result<(), 
     let Some(area) = Area::unpack(word) else {
         return Ok(());
     };
-    match out.make_room(sink) {
-        Ok(()) => {}
-        Err(failed) => return Err(failed),
-    }
+    out.make_room(sink)?;
     add_area(out, area);
     Ok(())
 }
@@ -104,10 +95,7 @@ fn write_areas<K: Sink>(words: &[u64], out: &mut Outbox, sink: &mut K) -> Result
     ensures cause { HasCause (K.faults sink.old) (K.faults sink.new) result }
 {
     for word in words {
-        match write_area(*word, out, sink) {
-            Ok(()) => {}
-            Err(failed) => return Err(failed),
-        }
+        write_area(*word, out, sink)?;
     }
     Ok(())
 }
@@ -117,10 +105,7 @@ fn write_count<K: Sink>(count: u64, out: &mut Outbox, sink: &mut K) -> Result<()
         (left_text count) result }
     ensures cause { HasCause (K.faults sink.old) (K.faults sink.new) result }
 {
-    match out.make_room(sink) {
-        Ok(()) => {}
-        Err(failed) => return Err(failed),
-    }
+    out.make_room(sink)?;
     add_left(out, count);
     Ok(())
 }
@@ -136,10 +121,7 @@ fn write_space<K: Sink>(state: &[u64], out: &mut Outbox, sink: &mut K) -> Result
     let Some((count, words)) = state.split_first() else {
         return Ok(());
     };
-    match write_count(*count, out, sink) {
-        Ok(()) => {}
-        Err(failed) => return Err(failed),
-    }
+    write_count(*count, out, sink)?;
     let (areas, _) = words.split_at(words.len().min(*count as usize));
     write_areas(areas, out, sink)
 }
@@ -163,10 +145,8 @@ fn write_told<K: Sink>(
         ++ (left_text (length areas) ++ flat_map area_text areas)) result }
     ensures cause { HasCause (K.faults sink.old) (K.faults sink.new) result }
 {
-    match write_calls(lines, object, 0, snapshot.recs(), out, sink) {
-        Ok(()) => write_space(snapshot.state(), out, sink),
-        Err(failed) => Err(failed),
-    }
+    write_calls(lines, object, 0, snapshot.recs(), out, sink)?;
+    write_space(snapshot.state(), out, sink)
 }
 
 // The lines of the only task there can be by now.
@@ -190,10 +170,7 @@ fn write_head<K: Sink>(
         Adds (K.written sink.old) (K.written sink.new) out.old out.new (head_text d) result }
     ensures cause { HasCause (K.faults sink.old) (K.faults sink.new) result }
 {
-    match out.make_room(sink) {
-        Ok(()) => {}
-        Err(failed) => return Err(failed),
-    }
+    out.make_room(sink)?;
     let place = object as usize;
     add_head(out, script.is_space(place), script.name(place));
     Ok(())
@@ -216,10 +193,8 @@ fn write_object<K: Sink>(
         (head_text d ++ told_text script.now object d.is_space t) result }
     ensures cause { HasCause (K.faults sink.old) (K.faults sink.new) result }
 {
-    match write_head(script, object, out, sink) {
-        Ok(()) => write_told(only_task(script), object, snapshot, out, sink),
-        Err(failed) => Err(failed),
-    }
+    write_head(script, object, out, sink)?;
+    write_told(only_task(script), object, snapshot, out, sink)
 }
 
 fn write_objects<K: Sink>(
@@ -236,10 +211,7 @@ fn write_objects<K: Sink>(
     ensures cause { HasCause (K.faults sink.old) (K.faults sink.new) result }
 {
     for object in 0..script.objects() {
-        match write_object(script, object as u32, results.snapshot(object), out, sink) {
-            Ok(()) => {}
-            Err(failed) => return Err(failed),
-        }
+        write_object(script, object as u32, results.snapshot(object), out, sink)?;
     }
     Ok(())
 }
@@ -265,8 +237,6 @@ pub fn report<K: Sink>(
 {
     let _ = summary;
     let mut out = Outbox::new();
-    match write_objects(script, results, &mut out, sink) {
-        Ok(()) => out.flush(sink),
-        Err(failed) => Err(failed),
-    }
+    write_objects(script, results, &mut out, sink)?;
+    out.flush(sink)
 }

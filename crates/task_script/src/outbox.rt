@@ -85,12 +85,8 @@ impl Outbox {
         ensures kept { OnErr result (self.new ≡ self.old) }
         ensures cause { HasCause (K.faults sink.old) (K.faults sink.new) result }
     {
-        match put(sink, self.bytes.as_slice()) {
-            Ok(()) => {
-                self.bytes.clear();
-                Ok(())
-            }
-            Err(failed) => Err(failed),
-        }
+        put(sink, self.bytes.as_slice())?;
+        self.bytes.clear();
+        Ok(())
     }
 }

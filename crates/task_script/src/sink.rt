@@ -37,10 +37,8 @@ pub fn put<K: Sink>(sink: &mut K, piece: &[u8]) -> Result<(), Failed>
 {
     let mut rest = piece;
     while !rest.is_empty() {
-        match sink.write(rest) {
-            Ok(count) => rest = &rest[count..],
-            Err(failed) => return Err(failed),
-        }
+        let count = sink.write(rest)?;
+        rest = &rest[count..];
     }
     Ok(())
 }

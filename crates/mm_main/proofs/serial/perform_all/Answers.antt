@@ -1,5 +1,5 @@
-use Rattle.std.proofs.Common.{◌<◌, ◌≡◌, length, false, true, arith, refl, subst, ◌∙◌, sym}
-use Rattle.mm_main.proofs.Wholly.{AreDone, done_none, done_length, next_empty, done_more, done_legal, done_complete, tolds_from, planned_called, calls_le, kind_at}
+use Rattle.std.proofs.Common.{false, arith}
+use Rattle.mm_main.proofs.Wholly.{done_none, done_length, next_empty, done_more, done_legal, done_complete, tolds_from, planned_called, calls_le, kind_at}
 use Rattle.mm_main.proofs.serial.perform_all.Goals as goal
 
 pub loop-object-init : goal.loop-object-init

@@ -1,4 +1,3 @@
-use Rattle.std.proofs.Common.{◌≡◌, ◌<◌, length}
 use Rattle.mm_main.proofs.Wholly.{AreDone}
 use Rattle.mm_main.proofs.serial.perform_all.Given as goal
 

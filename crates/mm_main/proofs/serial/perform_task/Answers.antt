@@ -1,10 +1,9 @@
-use Rattle.std.proofs.Common.{◌≡◌, ◌+◌, ◌++◌, true, length, map, take, drop, get_or, List, [], ap, ◌∙◌, arith, Some}
-use Rattle.std.specs.Prelude.{count_by, slice_get}
+use Rattle.std.proofs.Common.{◌≡◌, ◌+◌, drop, get_or, [], ◌∙◌, arith, Some}
+use Rattle.std.specs.Prelude.{slice_get}
 use Rattle.std.proofs.lemmas.List.Sums.{count_by_more_yes}
-use Rattle.word_bits.specs.RecWord.{rec_word}
 use Rattle.task_script.specs.declared.script.Line.{Line}
 use Rattle.task_script.specs.Scripts.{call_words, is_on}
-use Rattle.mm_main.specs.Serial.{IsCallOf, log_after, task_records, task_log}
+use Rattle.mm_main.specs.Serial.{IsCallOf, log_after}
 use Rattle.mm_main.proofs.Steps.{on_object, passes, left_at, at_count, all_at, entry_at, recs_step, log_step}
 use Rattle.mm_main.proofs.serial.perform_task.Goals as goal
 

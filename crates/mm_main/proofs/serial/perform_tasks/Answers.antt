@@ -1,4 +1,4 @@
-use Rattle.std.proofs.Common.{◌≡◌, ◌+◌, ◌++◌, length, drop, List, [], ap, ◌∙◌, arith, refl, map}
+use Rattle.std.proofs.Common.{◌+◌, length, drop, [], ap, ◌∙◌, arith, refl}
 use Rattle.std.specs.Prelude.{count_by}
 use Rattle.std.specs.List.{AllByRecursion}
 use Rattle.task_script.specs.Scripts.{is_on, plan_of}

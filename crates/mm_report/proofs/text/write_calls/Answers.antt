@@ -3,6 +3,7 @@ use Rattle.std.specs.Prelude.{filter, count_by}
 use Rattle.std.proofs.lemmas.Bool.Decides.{nat_tests}
 use Rattle.std.proofs.lemmas.List.{length-map, take_all}
 use Rattle.std.proofs.lemmas.List.Sums.{count_by_more_yes, length-filter}
+use Rattle.std.proofs.lemmas.Result.{err_from_is_err_and}
 use Rattle.word_bits.specs.Histories.{task_events}
 use Rattle.task_script.specs.Scripts.{call_words, is_on}
 use Rattle.task_script.proofs.Pieces.{piece_added, piece_failed, pieces_done}
@@ -10,12 +11,12 @@ use Rattle.mm_report.specs.Text.{task_event_text}
 use Rattle.mm_report.proofs.Places.{event_read, events_length}
 use Rattle.mm_report.proofs.text.write_calls.Goals as goal
 
-pub returns-in-Err-clause-text : goal.returns-in-Err-clause-text
-returns-in-Err-clause-text g c = λ rs each is all.
+pub returns-in_err-write_event-clause-text : goal.returns-in_err-write_event-clause-text
+returns-in_err-write_event-clause-text g c = rw (err_from_is_err_and c.from_residual.result c.from_residual.ensures.1).1 (λ rs each is all.
     let e = event_read c.args.object c.args.task c.args.lines.now rs c.args.recs.now c.loop-number.number c.loop-number.call c.in-Some.word.now _ c.loop-number-test.true c.if-line-object.false c.loop-number.invariant.counted each is c.in-Some.ensures.lookup.0 c.in-Some.ensures.lookup.1 in
     piece_failed (task_event_text c.args.object c.args.lines.now) (task_events c.args.task 0 (map call_words (filter (is_on c.args.object) c.args.lines.now)) rs) c.loop-number.call e.3
     (g.K.Sink.written c.args.sink.now) (g.K.Sink.written c.loop-number.sink) (g.K.Sink.written c.write_event.new.sink) c.args.out.now c.loop-number.out e.4
-    (c.loop-number.invariant.text rs each is all) (rw e.5 (c.in-Err.ensures.text e.0 e.1 e.2))
+    (c.loop-number.invariant.text rs each is all) (rw e.5 (c.in_err-write_event.ensures.text e.0 e.1 e.2)))
 
 pub loop-number-preserved : goal.loop-number-preserved
 loop-number-preserved g c = record {
@@ -29,8 +30,8 @@ loop-number-preserved g c = record {
       let e = event_read c.args.object c.args.task c.args.lines.now rs c.args.recs.now c.loop-number.number c.loop-number.call c.in-Some.word.now _ c.loop-number-test.true c.if-line-object.false c.loop-number.invariant.counted each is c.in-Some.ensures.lookup.0 c.in-Some.ensures.lookup.1 in
       piece_added (task_event_text c.args.object c.args.lines.now) (task_events c.args.task 0 (map call_words (filter (is_on c.args.object) c.args.lines.now)) rs) c.loop-number.call e.3
       (g.K.Sink.written c.args.sink.now) (g.K.Sink.written c.loop-number.sink) (g.K.Sink.written c.write_event.new.sink) c.args.out.now c.loop-number.out c.write_event.new.out e.4
-      (c.loop-number.invariant.text rs each is all) (rw e.5 (c.in-Ok.ensures.text e.0 e.1 e.2));
-  later = omega (arith, c.in-Ok.ensures.cause.later, c.loop-number.invariant.later);
+      (c.loop-number.invariant.text rs each is all) (rw e.5 (c.in_ok-write_event.ensures.text e.0 e.1 e.2));
+  later = omega (arith, c.in_ok-write_event.ensures.cause.later, c.loop-number.invariant.later);
 }
 
 pub returns-clause-text : goal.returns-clause-text

@@ -6,9 +6,9 @@ use Rattle.task_script.proofs.sink.put.Goals as goal
 pub loop-rest-preserved : goal.loop-rest-preserved
 loop-rest-preserved g c =
     let loop = c.loop-rest in
-    let wrote = c.in-Ok.ensures in
+    let wrote = c.in_ok-count.ensures in
     let written = g.K.Sink.written in
     record {
-      way = way_sent (written c.args.sink.now) (written loop.sink) (written c.write.new.self) loop.rest.now (between c.in-Ok.count (length loop.rest.now) loop.rest.now) c.args.piece.now loop.invariant.way (taken_sent (written loop.sink) (written c.write.new.self) loop.rest.now c.in-Ok.count wrote.bytes);
+      way = way_sent (written c.args.sink.now) (written loop.sink) (written c.write.new.self) loop.rest.now (between c.in_ok-count.count (length loop.rest.now) loop.rest.now) c.args.piece.now loop.invariant.way (taken_sent (written loop.sink) (written c.write.new.self) loop.rest.now c.in_ok-count.count wrote.bytes);
       later = omega (arith, wrote.cause.later);
     }
