@@ -1,0 +1,23 @@
+//! The CPUs that tasks run on: how long a task spins, how it sleeps and who wakes it. And what a task
+//! passes through while it holds an object.
+//!
+//! Locks are written over the traits `Cpu`, `Crew` and `Gate`, whose contracts tell almost nothing,
+//! so that what is proved of a lock holds whatever they answer.
+#![tactic(auto)]
+
+mod countdown;
+mod counts;
+mod cpu;
+mod crew;
+mod gate;
+mod park;
+mod scripted;
+
+pub use cpu::Cpu;
+pub use crew::{Crew, Turns};
+pub use gate::{Gate, HoldGate, OpenGate};
+pub use park::{ParkCpu, ParkCrew};
+pub use scripted::{ScriptedCpu, ScriptedCrew};
+
+#[cfg(test)]
+mod tests;
