@@ -1,6 +1,5 @@
 -- CPUs that answer from lists.
-use Rattle.std.specs.Prelude.{Bool, true, List, [], ◌∷◌}
-use Rattle.cpu_task.specs.declared.counts.Counts.{Counts}
+use Rattle.std.specs.Prelude.{ℕ, Bool, true, List, [], ◌∷◌}
 
 -- what the CPUs of a crew answer
 pub record Scripts : Type 0 where
@@ -9,7 +8,8 @@ pub record Scripts : Type 0 where
 
 -- a CPU, with the answers that it has left
 pub record ScriptedCpuState : Type 0 where
-  pub counts : Counts
+  pub rescheds : ℕ
+  pub sleeps : ℕ
   pub resched : List Bool
   pub overdue : List Bool
 

@@ -18,7 +18,9 @@ impl Counts {
 
     /// Counts an answer of `need_resched`.
     pub fn count_answer(&mut self, answer: bool)
-        ensures { self.new ≡ record self.old { rescheds = rescheds_after answer self.old.rescheds } }
+        ensures { self.new ≡ record self.old {
+          rescheds = rescheds_after answer self.old.rescheds;
+        } }
     {
         if answer {
             self.rescheds = self.rescheds.saturating_add(1);

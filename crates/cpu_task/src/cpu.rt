@@ -4,7 +4,8 @@ ghost use Rattle.cpu_task.specs.Counting.{one_more, rescheds_after};
 
 use std::sync::Wait;
 
-/// The CPU of one task. Contracts see two counts of it, which never fall, and nothing of its answers.
+/// The CPU of one task. Contracts see two counts of it, which never fall, and nothing of what it
+/// answers.
 pub trait Cpu {
     /// How often `need_resched` has answered true.
     ghost rescheds: { Self → ℕ };
@@ -24,8 +25,8 @@ pub trait Cpu {
         ensures rescheds { rescheds self.new ≡ rescheds self.old }
         ensures sleeps { sleeps self.new ≡ sleeps self.old };
 
-    /// Gives up the CPU until the task is woken. The kernel's `schedule`. It may return at any time,
-    /// so that a caller tests what it waits for once more.
+    /// Gives up the CPU until the task is woken. The kernel's `schedule`. It may return at any
+    /// time, so that a caller tests what it waits for once more.
     fn sleep<R: Wait>(&mut self, rt: &R)
         ensures rescheds { rescheds self.new ≡ rescheds self.old }
         ensures sleeps { sleeps self.new ≡ one_more (sleeps self.old) };

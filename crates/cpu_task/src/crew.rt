@@ -4,12 +4,12 @@ ghost use Rattle.std.specs.Prelude.{◌≡◌, IfOk};
 use crate::cpu::Cpu;
 use std::alloc::{AllocError, Global};
 
-/// How patient a CPU is.
+/// How patient CPUs are. A crew may make nothing of it.
 #[derive(Clone, Copy, Debug, PartialEq, Eq)]
 pub struct Turns {
-    /// How many times it lets its task spin between two calls to reschedule.
+    /// How many turns a task spins before its CPU needs to reschedule.
     pub spin: u32,
-    /// How many times a waiter isn't overdue between two times that it is.
+    /// How many rounds a waiter waits before it is overdue.
     pub overdue: u32,
 }
 

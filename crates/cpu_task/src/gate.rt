@@ -1,4 +1,4 @@
-//! What a task passes through while it holds an object.
+//! The gates that tasks pass while they hold an object.
 use std::hint::spin_loop;
 use std::marker::Model;
 use std::sync::Wait;
@@ -41,8 +41,8 @@ impl Model for HoldGate {
 impl HoldGate {
     ghost use Rattle.std.specs.Prelude.{◌≡◌};
 
-    /// A gate that nobody has come to. It keeps each shared holder of `object` inside until `want` of
-    /// them have come, for `turns` turns of a loop at most.
+    /// A gate that nobody has come to. It keeps each shared holder of `object` inside until `want`
+    /// of them have come, for `turns` turns of a loop at most.
     pub fn new(object: u32, want: u32, turns: u32) -> HoldGate
         ensures { result ≡ record { object = object; want = want; turns = turns } }
     {
@@ -69,7 +69,7 @@ impl HoldGate {
         self.count() >= self.want
     }
 
-    fn come(&self) {
+    fn arrive(&self) {
         let _ = self
             .count
             .fetch_update(Ordering::SeqCst, Ordering::SeqCst, |n| n.checked_add(1));
@@ -92,7 +92,7 @@ impl HoldGate {
 impl Gate for HoldGate {
     fn inside<R: Wait>(&self, _rt: &R, object: u32, _task: u32, shared: bool) {
         if shared && object == self.object {
-            self.come();
+            self.arrive();
             self.await_others();
         }
     }

@@ -1,5 +1,5 @@
-//! The CPUs that tasks run on: how long a task spins, how it sleeps and who wakes it. And what a task
-//! passes through while it holds an object.
+//! The CPUs that tasks run on: how long a task spins, how it sleeps and who wakes it. And the gates
+//! that tasks pass while they hold an object.
 //!
 //! Locks are written over the traits `Cpu`, `Crew` and `Gate`, whose contracts tell almost nothing,
 //! so that what is proved of a lock holds whatever they answer.

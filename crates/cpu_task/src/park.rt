@@ -1,8 +1,8 @@
 //! The crew of a real run: a task sleeps on a parker, and the crew wakes it by the unparker.
-ghost use Rattle.std.specs.Prelude.{◌≡◌, ◌≤◌, ◌<◌, None, Some, IfOk, OnErr, length, replicate, slice_set};
+ghost use Rattle.std.specs.Prelude.{◌≡◌, None, IfOk, OnErr, replicate};
 ghost use Rattle.cpu_task.specs.Counting.{one_more, rescheds_after};
 ghost use Rattle.cpu_task.specs.Countdowns.{Answers, full};
-ghost use Rattle.cpu_task.specs.Parking.{parker_of};
+ghost use Rattle.cpu_task.specs.Parking.{Keeps, parker_of};
 
 use crate::countdown::Countdown;
 use crate::counts::Counts;
@@ -29,7 +29,8 @@ impl Model for ParkCpu {
     ghost Value = { ParkCpuState };
 
     ghost view = { λ c. record {
-      counts = c.counts;
+      rescheds = c.counts.rescheds;
+      sleeps = c.counts.sleeps;
       resched = c.resched;
       overdue = c.overdue;
       parker = parker_of c.parker.unparker;
@@ -37,16 +38,19 @@ impl Model for ParkCpu {
 }
 
 impl Cpu for ParkCpu {
-    ghost rescheds = { λ c. c.counts.rescheds };
+    ghost rescheds = { λ c. c.rescheds };
 
-    ghost sleeps = { λ c. c.counts.sleeps };
+    ghost sleeps = { λ c. c.sleeps };
 
     /// True after `spin` false answers, and then anew.
     fn need_resched(&mut self) -> bool
-        ensures rescheds { self.new.counts.rescheds ≡ rescheds_after result self.old.counts.rescheds }
-        ensures sleeps { self.new.counts.sleeps ≡ self.old.counts.sleeps }
+        ensures rescheds { self.new.rescheds ≡ rescheds_after result self.old.rescheds }
+        ensures sleeps { self.new.sleeps ≡ self.old.sleeps }
         ensures answer { Answers self.old.resched result self.new.resched }
-        ensures others { self.new ≡ record self.old { counts = self.new.counts; resched = self.new.resched } }
+        ensures others { self.new ≡ record self.old {
+          rescheds = self.new.rescheds;
+          resched = self.new.resched;
+        } }
     {
         let answer = self.resched.answer();
         self.counts.count_answer(answer);
@@ -55,8 +59,8 @@ impl Cpu for ParkCpu {
 
     /// True after `overdue` false answers, and then anew.
     fn overdue(&mut self) -> bool
-        ensures rescheds { self.new.counts.rescheds ≡ self.old.counts.rescheds }
-        ensures sleeps { self.new.counts.sleeps ≡ self.old.counts.sleeps }
+        ensures rescheds { self.new.rescheds ≡ self.old.rescheds }
+        ensures sleeps { self.new.sleeps ≡ self.old.sleeps }
         ensures answer { Answers self.old.overdue result self.new.overdue }
         ensures others { self.new ≡ record self.old { overdue = self.new.overdue } }
     {
@@ -65,9 +69,9 @@ impl Cpu for ParkCpu {
 
     /// Parks until the crew wakes the task. A wake that came before is enough.
     fn sleep<R: Wait>(&mut self, rt: &R)
-        ensures rescheds { self.new.counts.rescheds ≡ self.old.counts.rescheds }
-        ensures sleeps { self.new.counts.sleeps ≡ one_more self.old.counts.sleeps }
-        ensures others { self.new ≡ record self.old { counts = self.new.counts } }
+        ensures rescheds { self.new.rescheds ≡ self.old.rescheds }
+        ensures sleeps { self.new.sleeps ≡ one_more self.old.sleeps }
+        ensures others { self.new ≡ record self.old { sleeps = self.new.sleeps } }
     {
         self.parker.park(rt);
         self.counts.count_sleep();
@@ -103,8 +107,7 @@ impl ParkCrew {
     }
 
     fn keep(&mut self, task: u32, unparker: Unparker)
-        ensures inside { task < length self.old → self.new ≡ slice_set self.old task (Some (parker_of unparker)) }
-        ensures outside { length self.old ≤ task → self.new ≡ self.old }
+        ensures { Keeps self.old task (parker_of unparker) self.new }
     {
         if let Some(place) = self.places.get_mut(task as usize) {
             *place = Some(unparker);
@@ -115,15 +118,14 @@ impl ParkCrew {
 impl Crew for ParkCrew {
     type C = ParkCpu;
 
-    /// A CPU with a parker of its own. The crew keeps the unparker in the task's place instead of an
-    /// earlier one, so that it no longer wakes an earlier CPU of the task.
+    /// A CPU with a parker of its own. The crew keeps the unparker in the task's place instead of
+    /// an earlier one, so that it no longer wakes an earlier CPU of the task.
     fn cpu(&mut self, alloc: Global, task: u32, turns: Turns) -> Result<ParkCpu, AllocError>
-        ensures rescheds { IfOk result (λ c. c.counts.rescheds ≡ 0) }
-        ensures sleeps { IfOk result (λ c. c.counts.sleeps ≡ 0) }
+        ensures rescheds { IfOk result (λ c. c.rescheds ≡ 0) }
+        ensures sleeps { IfOk result (λ c. c.sleeps ≡ 0) }
         ensures resched { IfOk result (λ c. c.resched ≡ full turns.spin) }
         ensures overdue { IfOk result (λ c. c.overdue ≡ full turns.overdue) }
-        ensures kept { IfOk result (λ c. task < length self.old → self.new ≡ slice_set self.old task (Some c.parker)) }
-        ensures outside { length self.old ≤ task → self.new ≡ self.old }
+        ensures kept { IfOk result (λ c. Keeps self.old task c.parker self.new) }
         ensures refused { OnErr result (self.new ≡ self.old) }
     {
         let parker = Parker::new(alloc)?;

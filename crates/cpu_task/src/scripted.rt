@@ -38,22 +38,26 @@ impl Model for ScriptedCpu {
     ghost Value = { ScriptedCpuState };
 
     ghost view = { λ c. record {
-      counts = c.counts;
+      rescheds = c.counts.rescheds;
+      sleeps = c.counts.sleeps;
       resched = into_iter_items c.resched;
       overdue = into_iter_items c.overdue;
     } };
 }
 
 impl Cpu for ScriptedCpu {
-    ghost rescheds = { λ c. c.counts.rescheds };
+    ghost rescheds = { λ c. c.rescheds };
 
-    ghost sleeps = { λ c. c.counts.sleeps };
+    ghost sleeps = { λ c. c.sleeps };
 
     fn need_resched(&mut self) -> bool
-        ensures rescheds { self.new.counts.rescheds ≡ rescheds_after result self.old.counts.rescheds }
-        ensures sleeps { self.new.counts.sleeps ≡ self.old.counts.sleeps }
+        ensures rescheds { self.new.rescheds ≡ rescheds_after result self.old.rescheds }
+        ensures sleeps { self.new.sleeps ≡ self.old.sleeps }
         ensures answer { result ≡ next_answer self.old.resched }
-        ensures others { self.new ≡ record self.old { counts = self.new.counts; resched = drop 1 self.old.resched } }
+        ensures others { self.new ≡ record self.old {
+          rescheds = self.new.rescheds;
+          resched = drop 1 self.old.resched;
+        } }
     {
         let answer = answer_from(&mut self.resched);
         self.counts.count_answer(answer);
@@ -61,8 +65,8 @@ impl Cpu for ScriptedCpu {
     }
 
     fn overdue(&mut self) -> bool
-        ensures rescheds { self.new.counts.rescheds ≡ self.old.counts.rescheds }
-        ensures sleeps { self.new.counts.sleeps ≡ self.old.counts.sleeps }
+        ensures rescheds { self.new.rescheds ≡ self.old.rescheds }
+        ensures sleeps { self.new.sleeps ≡ self.old.sleeps }
         ensures answer { result ≡ next_answer self.old.overdue }
         ensures others { self.new ≡ record self.old { overdue = drop 1 self.old.overdue } }
     {
@@ -71,9 +75,9 @@ impl Cpu for ScriptedCpu {
 
     /// Returns at once.
     fn sleep<R: Wait>(&mut self, _rt: &R)
-        ensures rescheds { self.new.counts.rescheds ≡ self.old.counts.rescheds }
-        ensures sleeps { self.new.counts.sleeps ≡ one_more self.old.counts.sleeps }
-        ensures others { self.new ≡ record self.old { counts = self.new.counts } }
+        ensures rescheds { self.new.rescheds ≡ self.old.rescheds }
+        ensures sleeps { self.new.sleeps ≡ one_more self.old.sleeps }
+        ensures others { self.new ≡ record self.old { sleeps = self.new.sleeps } }
     {
         self.counts.count_sleep();
     }
@@ -102,7 +106,10 @@ impl ScriptedCrew {
         resched: Vec<bool>,
         overdue: Vec<bool>,
     ) -> Result<ScriptedCrew, AllocError>
-        ensures { IfOk result (λ c. c ≡ record { resched = resched.items; overdue = overdue.items }) }
+        ensures { IfOk result (λ c. c ≡ record {
+          resched = resched.items;
+          overdue = overdue.items;
+        }) }
     {
         Ok(ScriptedCrew { resched, overdue })
     }
@@ -112,8 +119,8 @@ impl Crew for ScriptedCrew {
     type C = ScriptedCpu;
 
     fn cpu(&mut self, alloc: Global, _task: u32, _turns: Turns) -> Result<ScriptedCpu, AllocError>
-        ensures rescheds { IfOk result (λ c. c.counts.rescheds ≡ 0) }
-        ensures sleeps { IfOk result (λ c. c.counts.sleeps ≡ 0) }
+        ensures rescheds { IfOk result (λ c. c.rescheds ≡ 0) }
+        ensures sleeps { IfOk result (λ c. c.sleeps ≡ 0) }
         ensures resched { IfOk result (λ c. c.resched ≡ self.old.resched) }
         ensures overdue { IfOk result (λ c. c.overdue ≡ self.old.overdue) }
         ensures kept { self.new ≡ self.old }

@@ -121,7 +121,7 @@ fn scripted_cpus_answer_from_copies_of_the_lists(rt: HostRuntime) -> Result<(), 
 
 #[test]
 fn a_gate_is_met_by_two_tasks_inside_together(rt: HostRuntime) {
-    let gate = HoldGate::new(3, 2, 1_000_000_000);
+    let gate = HoldGate::new(3, 2, 100_000_000);
     assert!(rt; !gate.met());
     enters_twice(&rt, &gate);
     assert_eq!(rt; (gate.count(), gate.met()), (2, true));
