@@ -2,6 +2,7 @@ pub mod Packed
 pub mod Replies
 pub mod AreaWord
 pub mod EntryWord
+pub mod OwnerWord
 pub mod RecWord
 pub mod Calls
 pub mod LockWords

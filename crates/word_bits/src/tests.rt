@@ -1,6 +1,21 @@
 //! Words of the layouts, and one call of each function with ample memory.
+ghost use Rattle.std.specs.Prelude.{◌≡◌};
+
 use super::*;
 use std::test::Fail;
+
+/// An owner with the flags `waiters`, `handoff` and `pickup`.
+fn owner(task: Option<u32>, flags: [bool; 3]) -> Owner
+    ensures { result.task ≡ task }
+{
+    let [waiters, handoff, pickup] = flags;
+    Owner {
+        task,
+        waiters,
+        handoff,
+        pickup,
+    }
+}
 
 #[test]
 fn packs_the_words_of_the_layouts(rt: HostRuntime) {
@@ -22,6 +37,15 @@ fn packs_the_words_of_the_layouts(rt: HostRuntime) {
         reply: Reply::Num(16),
     };
     assert_eq!(rt; rec.pack(), 67_633_153);
+    for (owner, word) in [
+        (owner(None, [false; 3]), 0),
+        (owner(Some(1), [true, false, true]), 21),
+        (owner(Some(63), [true; 3]), 519),
+    ] {
+        assert_eq!(rt; owner.pack(), word);
+        assert_eq!(rt; Owner::unpack(word), Some(owner));
+    }
+    assert_eq!(rt; Owner::unpack(520), None);
     for (reply, word) in [
         (Reply::Good, 262_146),
         (Reply::Refused(Errno::NoMem), 51_118_082),
