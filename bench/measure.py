@@ -1,6 +1,9 @@
-"""Runs a program on scripts of maps and faults, and prints the time and the memory that it takes."""
+"""Runs a program on scripts of two shapes, and prints the time and the memory that it takes.
+
+One task on one space, near 256 areas; and 64 tasks on 8 spaces and 8 tables. Of both shapes scripts
+of several lengths are run, so that a time that grows faster than the length shows.
+"""
 import os
-import resource
 import subprocess
 import sys
 import tempfile
@@ -10,22 +13,64 @@ SIZES = [64 * 1024, 256 * 1024, 1024 * 1024]
 RUNS = 7
 
 
-def script(size):
-    """A script of about so many bytes: each eighth call maps, so that about 250 areas are there, and the others are faults."""
-    lines = ["space a", "task"]
-    length = sum(len(line) + 1 for line in lines)
-    number = 0
+def space_call(number):
+    """Each eighth call maps, so that about 250 areas are there, and the others are faults."""
+    page = number * 7 % 250 * 2
+    if number % 8 == 0:
+        return f"map {page} 1 {'r--' if number % 16 else 'rw-'}"
+    return f"fault {page} {'rwx'[number % 3]}"
+
+
+def table_call(number):
+    """Opens, closes and copies, with a signal to each fifth."""
+    return [
+        f"open {number % 65536}",
+        f"get {number % 64}",
+        f"dup {number % 32}",
+        f"close {number * 7 % 64}",
+        f"signal {number % 64}",
+    ][number % 5]
+
+
+def one_task(number):
+    return f"a {space_call(number)}"
+
+
+def many_objects(number):
+    """Every other call is on one of the spaces, the rest are on the tables."""
+    mode = ["", "int ", "try "][number % 3] if number % 10 != 9 else ""
+    if number % 2 == 0:
+        return f"{mode}space_{number // 2 % 8} {space_call(number // 2)}"
+    call = table_call(number // 2)
+    return f"{'' if call.startswith('signal') else mode}table_{number // 2 % 8} {call}"
+
+
+def cut(head, tasks, call, size):
+    """A script of about so many bytes, whose calls are dealt out to the tasks in equal parts."""
+    lines = []
+    length = sum(len(line) + 1 for line in head) + 5 * tasks
     while True:
-        page = number * 7 % 250
-        if number % 8 == 0:
-            line = f"a map {page * 2} 1 {'r--' if number % 16 else 'rw-'}"
-        else:
-            line = f"a fault {page * 2} {'rwx'[number % 3]}"
+        line = call(len(lines))
         if length + len(line) + 1 > size:
-            return "\n".join(lines) + "\n"
+            break
         lines.append(line)
         length += len(line) + 1
-        number += 1
+    text = list(head)
+    for task in range(tasks):
+        text.append("task")
+        text += lines[task * len(lines) // tasks : (task + 1) * len(lines) // tasks]
+    return "\n".join(text) + "\n"
+
+
+SHAPES = {
+    "1 task, 1 object": lambda size: cut(["space a"], 1, one_task, size),
+    "64 tasks, 16 objects": lambda size: cut(
+        [f"{kind} {kind}_{number}" for kind in ("space", "table") for number in range(8)],
+        64,
+        many_objects,
+        size,
+    ),
+}
 
 
 def once(program, path):
@@ -41,13 +86,15 @@ def once(program, path):
 
 def main():
     program = sys.argv[1]
-    print(f"{'bytes':>9} {'best ms':>9} {'median ms':>10} {'KiB':>8}")
-    for size in SIZES:
-        with tempfile.NamedTemporaryFile("w", suffix=".script") as file:
-            file.write(script(size))
-            file.flush()
-            runs = sorted(once(program, file.name) for _ in range(RUNS))
-        print(f"{size:>9} {runs[0][0] * 1000:>9.1f} {runs[RUNS // 2][0] * 1000:>10.1f} {max(m for _, m in runs):>8}")
+    print(f"{'shape':<22} {'bytes':>9} {'best ms':>9} {'median ms':>10} {'KiB':>8}")
+    for shape, script in SHAPES.items():
+        for size in SIZES:
+            with tempfile.NamedTemporaryFile("w", suffix=".script") as file:
+                file.write(script(size))
+                file.flush()
+                runs = sorted(once(program, file.name) for _ in range(RUNS))
+            memory = max(m for _, m in runs)
+            print(f"{shape:<22} {size:>9} {runs[0][0] * 1000:>9.1f} {runs[RUNS // 2][0] * 1000:>10.1f} {memory:>8}")
 
 
 main()

@@ -1,6 +1,8 @@
 -- What is done one after the other is legal.
-use Rattle.std.proofs.Common.{◌≡◌, ℕ, ◌+◌, ◌^◌, ◌<◌, ◌≤◌, zero, suc, Bool, true, false, not, ◌&&◌, List, [], ◌∷◌, ◌++◌, length, take, refl, sym, ap, ◌∙◌, subst, arith, append_assoc, append-nil, length-append, Some, inl, inr, cond, add-zero, zero-add}
-use Rattle.std.specs.Prelude.{count_by, sum_by, slice_get}
+use Rattle.std.proofs.Common.{◌≡◌, ℕ, ◌+◌, ◌^◌, ◌<◌, ◌≤◌, zero, suc, Bool, true, false, not, ◌&&◌, List, [], ◌∷◌, ◌++◌, length, map, take, refl, sym, ap, ◌∙◌, subst, arith, append_assoc, append-nil, length-append, Option, Some, None, is_some, inl, inr, cond, add-zero, zero-add}
+use Rattle.std.specs.Prelude.{count_by, flat_map, sum_by, slice_get, IsSome, ◌⊎◌}
+use Rattle.std.proofs.lemmas.Bool.{false≢true}
+use Rattle.std.proofs.lemmas.List.{length-map}
 use Rattle.std.specs.List.{AllByRecursion}
 use Rattle.std.proofs.lemmas.List.Sums.{sum_by-cons, sum_by-append, sum_by_push}
 use Rattle.std.proofs.Math.Seq.{take-append_seam}
@@ -8,36 +10,42 @@ use Rattle.std.proofs.lemmas.Option.{same_Some}
 use Rattle.word_bits.specs.declared.call.CallWords.{CallWords}
 use Rattle.word_bits.specs.declared.entry.Entry.{Entry}
 use Rattle.word_bits.specs.declared.rec.Rec.{Rec}
-use Rattle.word_bits.specs.declared.reply.Errno.TheVariants.{BadF, NoMem, Exist, Inval, MFile}
 use Rattle.word_bits.specs.declared.reply.Reply.{Reply}
-use Rattle.word_bits.specs.declared.reply.Reply.TheVariants.{Good, Num, Refused, MapErr, AccErr, Busy, Intr, Sent}
+use Rattle.word_bits.specs.declared.reply.Reply.TheVariants.{Sent}
+use Rattle.word_bits.specs.Calls.{signal_of}
 use Rattle.word_bits.specs.EntryWord.{IsEntry, entry_eq}
-use Rattle.word_bits.specs.RecWord.{IsRec, value_of}
+use Rattle.word_bits.specs.RecWord.{IsRec, rec_word, value_of}
 use Rattle.word_bits.specs.LockWords.{Unavailable}
 use Rattle.word_bits.specs.Objects.{Obj, IsObjectReply}
 use Rattle.word_bits.proofs.States.{IsLawful, state_is_state}
 use Rattle.word_bits.specs.Snapshots.{Words}
 use Rattle.word_bits.specs.Histories.{Plan, Event, events_from, task_events, state_after, changes, logs, event_logs}
-use Rattle.word_bits.specs.Legal.{IsLegal, IsRecord, IsReplyAt, AreTaskRecords, AreRecords, Tells, is_intr, seen_after}
-use Rattle.mm_main.specs.Serial.{record_after, log_after, task_records, task_log, all_records, all_log, IsCallOf, IsSerial}
+use Rattle.word_bits.specs.Legal.{IsLegal, IsRecord, AreTaskRecords, AreRecords, Tells, is_intr, seen_after}
+use Rattle.mm_main.specs.Serial.{record_of, record_after, seen_then, log_after, task_records, task_log, all_records, all_log, is_kept_off, IsSerial}
+
+-- the words of a call of the object, or of a signal
+abbrev pub IsCallOrSignal : {Call : Type 0} → Obj Call → CallWords → Type 0
+IsCallOrSignal o w = IsSome (o.call_of w) ⊎ IsSome (signal_of w)
 
 module _ {Call : Type 0} (o : Obj Call) (lawful : IsLawful o) where
-  -- what is replied anywhere is the reply of an object
-  reply_is : (plan : Plan) (log : List Entry) (w : CallWords) (c : Call) → o.call_of w ≡ Some c → IsObjectReply (record_after o plan log w).reply
-  reply_is plan log w c e = rw e (lawful.replies (state_after o plan log) c (state_is_state o lawful plan log) (lawful.called w c e))
+  -- what holds of the record of a signal, and of that of each call of the object, holds of the record
+  record_cases : (P : Rec → Type 0) (plan : Plan) (log : List Entry) (seen : ℕ) (w : CallWords)
+      → (o.call_of w ≡ None → P (record { k = seen; reply = Sent }))
+      → ((c : Call) → o.call_of w ≡ Some c → IsObjectReply (o.meaning (state_after o plan log) c).1 → P (record { k = length log; reply = (o.meaning (state_after o plan log) c).1 }))
+      → P (record_after o plan log seen w)
+  record_cases P plan log seen w signal call = go (o.call_of w) refl
+    where
+      go : (found : Option Call) → o.call_of w ≡ found → P (record_of o plan log seen found)
+      go None is = signal is
+      go (Some c) is = call c is (lawful.replies (state_after o plan log) c (state_is_state o lawful plan log) (lawful.called w c is))
 
   logs_changes : (w : CallWords) (r : Reply) → IsObjectReply r → logs o w r ≡ changes o w
-  logs_changes w Good is = refl
-  logs_changes w (Num n) is = refl
-  logs_changes w (Refused e) is = refl
-  logs_changes w MapErr is = refl
-  logs_changes w AccErr is = refl
-  logs_changes w (Busy word) is = absurd is
-  logs_changes w Intr is = absurd is
-  logs_changes w Sent is = absurd is
+  logs_changes w r is = grind (arith, is)
 
-  logs_record : (plan : Plan) (log : List Entry) (w : CallWords) (c : Call) → o.call_of w ≡ Some c → logs o w (record_after o plan log w).reply ≡ changes o w
-  logs_record plan log w c e = logs_changes w (record_after o plan log w).reply (reply_is plan log w c e)
+  -- the calls that change are those that are logged
+  logs_record : (plan : Plan) (log : List Entry) (seen : ℕ) (w : CallWords) → logs o w (record_after o plan log seen w).reply ≡ changes o w
+  logs_record plan log seen w =
+      record_cases (λ r. logs o w r.reply ≡ changes o w) plan log seen w (λ is. rw is refl) (λ c is reply. logs_changes w (o.meaning (state_after o plan log) c).1 reply)
 
 seam : {X : Type 0} (xs : List X) (x : X) (more : List X) → slice_get (xs ++ x ∷ [] ++ more) (length xs) ≡ Some x
 seam [] x more = refl
@@ -82,33 +90,36 @@ room_left : (n l m : ℕ) → n ≤ l + 1 → l + suc m ≤ 2 ^ 18 → n + m ≤
 room_left n l m p q = omega arith
 
 module _ {Call : Type 0} (o : Obj Call) (lawful : IsLawful o) (u : Unavailable) where
-  -- the reply holds at its place also in a longer log
-  reply_at : (plan : Plan) (log all : List Entry) (w : CallWords) (c : Call) → o.call_of w ≡ Some c → Begins log all → IsReplyAt o u plan all c (record_after o plan log w)
-  reply_at plan log all w c is b = rw (is, take_begins log all b) refl
-
-  record_by : (plan : Plan) (log all : List Entry) (seen : ℕ) (e : Entry) (w : CallWords) (c : Call) (reads : Bool) → o.call_of w ≡ Some c → o.reads c ≡ reads
-      → Begins (cond (not reads) (log ++ e ∷ []) log) all → IsRecord o u plan all seen e w (record_after o plan log w)
-  record_by plan log all seen e w c true is reads b = inr (inl (record {
+  -- a call of the object that is done: its reply holds at its place also in a longer log
+  call_legal : (plan : Plan) (log all : List Entry) (seen : ℕ) (e : Entry) (w : CallWords) (c : Call) (reads : Bool) → o.call_of w ≡ Some c → o.reads c ≡ reads
+      → Begins (cond (not reads) (log ++ e ∷ []) log) all → IsRecord o u plan all seen e w (record { k = length log; reply = (o.meaning (state_after o plan log) c).1 })
+  call_legal plan log all seen e w c true is reads b = inr (inl (record {
     call = c;
     is = is;
     reads = reads;
     place = begins_le log all b;
-    reply = reply_at plan log all w c is b;
+    reply = rw (take_begins log all b) refl;
   }))
-  record_by plan log all seen e w c false is reads b = inl (record {
-    call = c;
-    is = is;
-    changes = reads;
-    place = seam_at_front log e all b;
-    reply = reply_at plan log all w c is (begins_trans log (log ++ e ∷ []) all (e ∷ [], refl) b);
-  })
+  call_legal plan log all seen e w c false is reads b =
+      let begins = begins_trans log (log ++ e ∷ []) all (e ∷ [], refl) b in
+      inl (record {
+        call = c;
+        is = is;
+        changes = reads;
+        place = seam_at_front log e all b;
+        reply = rw (take_begins log all begins) refl;
+      })
+
+  -- a signal that is sent
+  signal_legal : (plan : Plan) (log all : List Entry) (seen : ℕ) (e : Entry) (w : CallWords) → IsCallOrSignal o w → o.call_of w ≡ None → seen ≤ length log → Begins log all
+      → IsRecord o u plan all seen e w (record { k = seen; reply = Sent })
+  signal_legal plan log all seen e w (inl call) none before b = absurd (false≢true (sym (ap is_some none) ∙ call))
+  signal_legal plan log all seen e w (inr signal) none before b =
+      let len = begins_le log all b in
+      inr (inr (record { reply = signal; place = refl; within = omega (arith, before, len) }))
 
   changes_is : (w : CallWords) (c : Call) → o.call_of w ≡ Some c → changes o w ≡ not (o.reads c)
   changes_is w c is = rw is refl
-
-  record_legal : (plan : Plan) (log all : List Entry) (seen : ℕ) (e : Entry) (w : CallWords) (c : Call) → o.call_of w ≡ Some c → Begins (log_after o log e w) all → IsRecord o u plan all seen e w (record_after o plan log w)
-  record_legal plan log all seen e w c is b =
-      record_by plan log all seen e w c (o.reads c) is refl (subst (λ t. Begins (cond t (log ++ e ∷ []) log) all) (changes_is w c is) b)
 
   log_begins : (log : List Entry) (e : Entry) (w : CallWords) → Begins log (log_after o log e w)
   log_begins log e w = pushed_begins (changes o w) log e
@@ -124,25 +135,39 @@ module _ {Call : Type 0} (o : Obj Call) (lawful : IsLawful o) (u : Unavailable) 
   all_begins log task (ws ∷ wss) =
       begins_trans log (task_log o log task 0 ws) (all_log o (task_log o log task 0 ws) (task + 1) wss) (task_begins log task 0 ws) (all_begins (task_log o log task 0 ws) (task + 1) wss)
 
-  seen_by : (b : Bool) (log : List Entry) (e : Entry) (r : Rec) → r.k ≡ length log → seen_after b r ≤ length (cond b (log ++ e ∷ []) log)
+  record_legal : (plan : Plan) (log all : List Entry) (seen : ℕ) (e : Entry) (w : CallWords) → IsCallOrSignal o w → seen ≤ length log → Begins (log_after o log e w) all
+      → IsRecord o u plan all seen e w (record_after o plan log seen w)
+  record_legal plan log all seen e w called before b =
+      record_cases o lawful (λ r. IsRecord o u plan all seen e w r) plan log seen w
+      (λ is. signal_legal plan log all seen e w called is before (begins_trans log (log_after o log e w) all (log_begins log e w) b))
+      (λ c is reply. call_legal plan log all seen e w c (o.reads c) is refl (subst (λ t. Begins (cond t (log ++ e ∷ []) log) all) (changes_is w c is) b))
+
+  -- no record stands before what its task had seen
+  record_place : (plan : Plan) (log : List Entry) (seen : ℕ) (w : CallWords) → seen ≤ length log → (seen ≤ (record_after o plan log seen w).k) × ((record_after o plan log seen w).k ≤ length log)
+  record_place plan log seen w before =
+      record_cases o lawful (λ r. (seen ≤ r.k) × (r.k ≤ length log)) plan log seen w (λ is. (omega arith, before)) (λ c is reply. (before, omega arith))
+
+  seen_by : (b : Bool) (log : List Entry) (e : Entry) (r : Rec) → r.k ≤ length log → seen_after b r ≤ length (cond b (log ++ e ∷ []) log)
   seen_by true log e r is = omega (arith, length-append log (e ∷ []))
-  seen_by false log e r is = omega arith
+  seen_by false log e r is = is
 
-  seen_next : (plan : Plan) (log : List Entry) (e : Entry) (w : CallWords) (c : Call) → o.call_of w ≡ Some c → seen_after (logs o w (record_after o plan log w).reply) (record_after o plan log w) ≤ length (log_after o log e w)
-  seen_next plan log e w c is = rw (logs_record o lawful plan log w c is) (seen_by (changes o w) log e (record_after o plan log w) refl)
+  seen_next : (plan : Plan) (log : List Entry) (seen : ℕ) (e : Entry) (w : CallWords) → seen ≤ length log → seen_then o plan log seen w ≤ length (log_after o log e w)
+  seen_next plan log seen e w before = seen_by (changes o w) log e (record_after o plan log seen w) (record_place plan log seen w before).1
 
-  task_legal : (plan : Plan) (all log : List Entry) (task call seen : ℕ) (ws : List CallWords) → AllByRecursion (IsCallOf o) ws → seen ≤ length log → Begins (task_log o log task call ws) all
-      → AreTaskRecords o u plan all task call seen ws (task_records o plan log task call ws)
+  task_legal : (plan : Plan) (all log : List Entry) (task call seen : ℕ) (ws : List CallWords) → AllByRecursion (IsCallOrSignal o) ws → seen ≤ length log → Begins (task_log o log task call ws) all
+      → AreTaskRecords o u plan all task call seen ws (task_records o plan log task call seen ws)
   task_legal plan all log task call seen [] called before b = tt
   task_legal plan all log task call seen (w ∷ ws) called before b =
       let e : Entry = record { task = task; call = call } in
-      let next : List Entry = log_after o log e w in (
-        record_legal plan log all seen e w called.0.0 called.0.1 (begins_trans next (task_log o next task (call + 1) ws) all (task_begins next task (call + 1) ws) b),
-        before,
-        task_legal plan all next task (call + 1) (seen_after (logs o w (record_after o plan log w).reply) (record_after o plan log w)) ws called.1 (seen_next plan log e w called.0.0 called.0.1) b,
+      let next : List Entry = log_after o log e w in
+      let r : Rec = record_after o plan log seen w in
+      let rest = task_legal plan all next task (call + 1) (seen_then o plan log seen w) ws called.1 (seen_next plan log seen e w before) b in (
+        record_legal plan log all seen e w called.0 before (begins_trans next (task_log o next task (call + 1) ws) all (task_begins next task (call + 1) ws) b),
+        (record_place plan log seen w before).0,
+        subst (λ logged. AreTaskRecords o u plan all task (call + 1) (seen_after logged r) ws (task_records o plan next task (call + 1) (seen_then o plan log seen w) ws)) (sym (logs_record o lawful plan log seen w)) rest,
       )
 
-  pub all_legal : (plan : Plan) (all log : List Entry) (task : ℕ) (wss : Plan) → AllByRecursion (AllByRecursion (IsCallOf o)) wss → Begins (all_log o log task wss) all
+  all_legal : (plan : Plan) (all log : List Entry) (task : ℕ) (wss : Plan) → AllByRecursion (AllByRecursion (IsCallOrSignal o)) wss → Begins (all_log o log task wss) all
       → AreRecords o u plan all task wss (all_records o plan log task wss)
   all_legal plan all log task [] called b = tt
   all_legal plan all log task (ws ∷ wss) called b =
@@ -159,85 +184,82 @@ module _ {Call : Type 0} (o : Obj Call) (lawful : IsLawful o) (u : Unavailable) 
   count_by_push true log d e = sum_by_push (λ x. cond (entry_eq d x) 1 0) log e
   count_by_push false log d e = sym (add-zero (count_by (entry_eq d) log))
 
-  task_count : (plan : Plan) (log : List Entry) (task call : ℕ) (ws : List CallWords) (d : Entry) → AllByRecursion (IsCallOf o) ws
-      → count_by (entry_eq d) (task_log o log task call ws) ≡ count_by (entry_eq d) log + count_by (is_entry_of d) (task_events task call ws (task_records o plan log task call ws))
-  task_count plan log task call [] d called = sym (add-zero (count_by (entry_eq d) log))
-  task_count plan log task call (w ∷ ws) d called =
+  task_count : (plan : Plan) (log : List Entry) (task call seen : ℕ) (ws : List CallWords) (d : Entry)
+      → count_by (entry_eq d) (task_log o log task call ws) ≡ count_by (entry_eq d) log + count_by (is_entry_of d) (task_events task call ws (task_records o plan log task call seen ws))
+  task_count plan log task call seen [] d = sym (add-zero (count_by (entry_eq d) log))
+  task_count plan log task call seen (w ∷ ws) d =
       let e : Entry = record { task = task; call = call } in
       let next : List Entry = log_after o log e w in
-      let r : Rec = record_after o plan log w in
+      let r : Rec = record_after o plan log seen w in
       let v : Event = record { entry = e; words = w; told = r } in
-      let vs : List Event = task_events task (call + 1) ws (task_records o plan next task (call + 1) ws) in
-      let rest = task_count plan next task (call + 1) ws d called.1 in
+      let vs : List Event = task_events task (call + 1) ws (task_records o plan next task (call + 1) (seen_then o plan log seen w) ws) in
+      let rest = task_count plan next task (call + 1) (seen_then o plan log seen w) ws d in
       let pushed = count_by_push (changes o w) log d e in
-      let first : cond (is_entry_of d v) 1 0 ≡ cond (changes o w && entry_eq d e) 1 0 = rw (logs_record o lawful plan log w called.0.0 called.0.1) refl in
+      let first : cond (is_entry_of d v) 1 0 ≡ cond (changes o w && entry_eq d e) 1 0 = rw (logs_record o lawful plan log seen w) refl in
       glue (count_by (entry_eq d) (task_log o next task (call + 1) ws)) (count_by (entry_eq d) next) (count_by (is_entry_of d) vs) (count_by (entry_eq d) log) _ _ _ rest pushed first (sum_by-cons (λ x. cond (is_entry_of d x) 1 0) v vs)
 
-  all_count : (plan : Plan) (log : List Entry) (task : ℕ) (wss : Plan) (d : Entry) → AllByRecursion (AllByRecursion (IsCallOf o)) wss
+  all_count : (plan : Plan) (log : List Entry) (task : ℕ) (wss : Plan) (d : Entry)
       → count_by (entry_eq d) (all_log o log task wss) ≡ count_by (entry_eq d) log + count_by (is_entry_of d) (events_from task wss (all_records o plan log task wss))
-  all_count plan log task [] d called = sym (add-zero (count_by (entry_eq d) log))
-  all_count plan log task (ws ∷ wss) d called =
+  all_count plan log task [] d = sym (add-zero (count_by (entry_eq d) log))
+  all_count plan log task (ws ∷ wss) d =
       let next : List Entry = task_log o log task 0 ws in
-      let vs : List Event = task_events task 0 ws (task_records o plan log task 0 ws) in
+      let vs : List Event = task_events task 0 ws (task_records o plan log task 0 0 ws) in
       let more : List Event = events_from (task + 1) wss (all_records o plan next (task + 1) wss) in
       glue (count_by (entry_eq d) (all_log o next (task + 1) wss)) (count_by (entry_eq d) next) (count_by (is_entry_of d) more) (count_by (entry_eq d) log) (count_by (is_entry_of d) vs) (count_by (is_entry_of d) vs) _
-      (all_count plan next (task + 1) wss d called.1) (task_count plan log task 0 ws d called.0) refl (sum_by-append (λ x. cond (is_entry_of d x) 1 0) vs more)
+      (all_count plan next (task + 1) wss d) (task_count plan log task 0 0 ws d) refl (sum_by-append (λ x. cond (is_entry_of d x) 1 0) vs more)
 
-  not_intr : (r : Reply) → IsObjectReply r → is_intr r ≡ false
-  not_intr Good is = refl
-  not_intr (Num n) is = refl
-  not_intr (Refused e) is = refl
-  not_intr MapErr is = refl
-  not_intr AccErr is = refl
-  not_intr (Busy word) is = absurd is
-  not_intr Intr is = absurd is
-  not_intr Sent is = absurd is
+  not_kept_off : (r : Reply) → IsObjectReply r → is_kept_off r ≡ false
+  not_kept_off r is = grind (arith, is)
 
-  no_intr : (plan : Plan) (log : List Entry) (task call : ℕ) (ws : List CallWords) → AllByRecursion (IsCallOf o) ws → count_by (λ r. is_intr r.reply) (task_records o plan log task call ws) ≡ 0
-  no_intr plan log task call [] called = refl
-  no_intr plan log task call (w ∷ ws) called =
-      let e : Entry = record { task = task; call = call } in
-      let next : List Entry = log_after o log e w in
-      let rest = no_intr plan next task (call + 1) ws called.1 in
-      let first = not_intr (record_after o plan log w).reply (reply_is o lawful plan log w called.0.0 called.0.1) in
-      sum_by-cons (λ r. cond (is_intr r.reply) 1 0) (record_after o plan log w) (task_records o plan next task (call + 1) ws) ∙ rw (first, rest) refl
+  -- no call is kept off, and so none is interrupted
+  record_held : (plan : Plan) (log : List Entry) (seen : ℕ) (w : CallWords) → is_kept_off (record_after o plan log seen w).reply ≡ false
+  record_held plan log seen w =
+      record_cases o lawful (λ r. is_kept_off r.reply ≡ false) plan log seen w (λ is. refl) (λ c is reply. not_kept_off (o.meaning (state_after o plan log) c).1 reply)
 
-  no_intrs : (plan : Plan) (log : List Entry) (task : ℕ) (wss : Plan) (at : ℕ) (rs : List Rec) → AllByRecursion (AllByRecursion (IsCallOf o)) wss → slice_get (all_records o plan log task wss) at ≡ Some rs
+  not_intr : (r : Reply) → is_kept_off r ≡ false → is_intr r ≡ false
+  not_intr r held = grind (arith, held)
+
+  task_held : (plan : Plan) (log : List Entry) (task call seen : ℕ) (ws : List CallWords) → AllByRecursion (λ r. is_kept_off r.reply ≡ false) (task_records o plan log task call seen ws)
+  task_held plan log task call seen [] = tt
+  task_held plan log task call seen (w ∷ ws) = (record_held plan log seen w, task_held plan (log_after o log (record { task = task; call = call }) w) task (call + 1) (seen_then o plan log seen w) ws)
+
+  pub all_held : (plan : Plan) (log : List Entry) (task : ℕ) (wss : Plan) → AllByRecursion (AllByRecursion (λ r. is_kept_off r.reply ≡ false)) (all_records o plan log task wss)
+  all_held plan log task [] = tt
+  all_held plan log task (ws ∷ wss) = (task_held plan log task 0 0 ws, all_held plan (task_log o log task 0 ws) (task + 1) wss)
+
+  no_intr : (plan : Plan) (log : List Entry) (task call seen : ℕ) (ws : List CallWords) → count_by (λ r. is_intr r.reply) (task_records o plan log task call seen ws) ≡ 0
+  no_intr plan log task call seen [] = refl
+  no_intr plan log task call seen (w ∷ ws) =
+      let next : List Entry = log_after o log (record { task = task; call = call }) w in
+      let rest = no_intr plan next task (call + 1) (seen_then o plan log seen w) ws in
+      let first = not_intr (record_after o plan log seen w).reply (record_held plan log seen w) in
+      sum_by-cons (λ r. cond (is_intr r.reply) 1 0) (record_after o plan log seen w) (task_records o plan next task (call + 1) (seen_then o plan log seen w) ws) ∙ rw (first, rest) refl
+
+  no_intrs : (plan : Plan) (log : List Entry) (task : ℕ) (wss : Plan) (at : ℕ) (rs : List Rec) → slice_get (all_records o plan log task wss) at ≡ Some rs
       → count_by (λ r. is_intr r.reply) rs ≡ 0
-  no_intrs plan log task [] at rs called is = cc
-  no_intrs plan log task (ws ∷ wss) zero rs called is =
-      ap (count_by (λ r. is_intr r.reply)) (sym (same_Some (task_records o plan log task 0 ws) rs is)) ∙ no_intr plan log task 0 ws called.0
-  no_intrs plan log task (ws ∷ wss) (suc at) rs called is = no_intrs plan (task_log o log task 0 ws) (task + 1) wss at rs called.1 is
+  no_intrs plan log task [] at rs is = cc
+  no_intrs plan log task (ws ∷ wss) zero rs is =
+      ap (count_by (λ r. is_intr r.reply)) (sym (same_Some (task_records o plan log task 0 0 ws) rs is)) ∙ no_intr plan log task 0 0 ws
+  no_intrs plan log task (ws ∷ wss) (suc at) rs is = no_intrs plan (task_log o log task 0 ws) (task + 1) wss at rs is
 
   -- what is done one after the other is legal
-  pub serial_legal : (plan : Plan) → AllByRecursion (AllByRecursion (IsCallOf o)) plan → (state : List ℕ) → state ≡ o.stores (state_after o plan (all_log o [] 0 plan))
+  pub serial_legal : (plan : Plan) → AllByRecursion (AllByRecursion (IsCallOrSignal o)) plan → (state : List ℕ) → state ≡ o.stores (state_after o plan (all_log o [] 0 plan))
       → IsLegal o u plan (all_records o plan [] 0 plan) (all_log o [] 0 plan) state
   serial_legal plan called state stored = record {
     recorded = all_legal plan (all_log o [] 0 plan) [] 0 plan called (begins_self (all_log o [] 0 plan));
-    logged = λ e. all_count plan [] 0 plan e called ∙ zero-add _;
-    interrupted = λ task rs is. rw (no_intrs plan [] 0 plan task rs called is) (omega arith);
+    logged = λ e. all_count plan [] 0 plan e ∙ zero-add _;
+    interrupted = λ task rs is. rw (no_intrs plan [] 0 plan task rs is) (omega arith);
     stored = stored;
   }
 
   small_reply : (r : Reply) → IsObjectReply r → value_of r < 2 ^ 22
-  small_reply Good is = omega arith
-  small_reply (Num n) is = is
-  small_reply (Refused BadF) is = omega arith
-  small_reply (Refused NoMem) is = omega arith
-  small_reply (Refused Exist) is = omega arith
-  small_reply (Refused Inval) is = omega arith
-  small_reply (Refused MFile) is = omega arith
-  small_reply MapErr is = omega arith
-  small_reply AccErr is = omega arith
-  small_reply (Busy word) is = absurd is
-  small_reply Intr is = omega arith
-  small_reply Sent is = omega arith
+  small_reply r is = grind (arith, is)
 
-  record_fits : (plan : Plan) (log : List Entry) (w : CallWords) → IsCallOf o w → length log < 2 ^ 18 → IsRec (record_after o plan log w)
-  record_fits plan log w called short = record {
-    place = short;
-    value = small_reply (record_after o plan log w).reply (reply_is o lawful plan log w called.0 called.1);
-  }
+  record_fits : (plan : Plan) (log : List Entry) (seen : ℕ) (w : CallWords) → seen ≤ length log → length log < 2 ^ 18 → IsRec (record_after o plan log seen w)
+  record_fits plan log seen w before short =
+      record_cases o lawful (λ r. IsRec r) plan log seen w
+      (λ is. record { place = omega (arith, before, short); value = omega arith })
+      (λ c is reply. record { place = short; value = small_reply (o.meaning (state_after o plan log) c).1 reply })
 
   next_le : (b : Bool) (log : List Entry) (e : Entry) → length (cond b (log ++ e ∷ []) log) ≤ length log + 1
   next_le true log e = omega (arith, length-append log (e ∷ []))
@@ -251,24 +273,24 @@ module _ {Call : Type 0} (o : Obj Call) (lawful : IsLawful o) (u : Unavailable) 
       let first = next_le (changes o w) log e in
       le_more (length (task_log o (log_after o log e w) task (call + 1) ws)) (length (log_after o log e w)) (length log) (length ws) rest first
 
-  task_fit : (plan : Plan) (log : List Entry) (task call : ℕ) (ws : List CallWords) → AllByRecursion (IsCallOf o) ws → length log + length ws ≤ 2 ^ 18
-      → AllByRecursion IsRec (task_records o plan log task call ws)
-  task_fit plan log task call [] called short = tt
-  task_fit plan log task call (w ∷ ws) called short =
+  task_fit : (plan : Plan) (log : List Entry) (task call seen : ℕ) (ws : List CallWords) → seen ≤ length log → length log + length ws ≤ 2 ^ 18
+      → AllByRecursion IsRec (task_records o plan log task call seen ws)
+  task_fit plan log task call seen [] before short = tt
+  task_fit plan log task call seen (w ∷ ws) before short =
       let e : Entry = record { task = task; call = call } in
       let first = next_le (changes o w) log e in (
-        record_fits plan log w called.0 (omega arith),
-        task_fit plan (log_after o log e w) task (call + 1) ws called.1 (room_left (length (log_after o log e w)) (length log) (length ws) first short),
+        record_fits plan log seen w before (omega arith),
+        task_fit plan (log_after o log e w) task (call + 1) (seen_then o plan log seen w) ws (seen_next plan log seen e w before) (room_left (length (log_after o log e w)) (length log) (length ws) first short),
       )
 
-  all_fit : (plan : Plan) (log : List Entry) (task : ℕ) (wss : Plan) → AllByRecursion (AllByRecursion (IsCallOf o)) wss → length log + sum_by length wss ≤ 2 ^ 18
+  all_fit : (plan : Plan) (log : List Entry) (task : ℕ) (wss : Plan) → length log + sum_by length wss ≤ 2 ^ 18
       → AllByRecursion (AllByRecursion IsRec) (all_records o plan log task wss)
-  all_fit plan log task [] called short = tt
-  all_fit plan log task (ws ∷ wss) called short =
+  all_fit plan log task [] short = tt
+  all_fit plan log task (ws ∷ wss) short =
       let sum = sum_by-cons length ws wss in
       let after = log_le log task 0 ws in (
-        task_fit plan log task 0 ws called.0 (omega arith),
-        all_fit plan (task_log o log task 0 ws) (task + 1) wss called.1 (omega arith),
+        task_fit plan log task 0 0 ws (omega arith) (omega arith),
+        all_fit plan (task_log o log task 0 ws) (task + 1) wss (omega arith),
       )
 
   entries_push : (b : Bool) (log : List Entry) (e : Entry) → AllByRecursion IsEntry log → IsEntry e → AllByRecursion IsEntry (cond b (log ++ e ∷ []) log)
@@ -289,11 +311,24 @@ module _ {Call : Type 0} (o : Obj Call) (lawful : IsLawful o) (u : Unavailable) 
       all_entered (task_log o log task 0 ws) (task + 1) wss (task_entered log task 0 ws each (omega arith) (omega arith)) (omega arith) (omega arith)
 
   -- within the limits the words tell it
-  pub serial_tells : (plan : Plan) (words : Words) → AllByRecursion (AllByRecursion (IsCallOf o)) plan → length plan ≤ 64 → sum_by length plan ≤ 2 ^ 18 → IsSerial o plan words
+  pub serial_tells : (plan : Plan) (words : Words) → length plan ≤ 64 → sum_by length plan ≤ 2 ^ 18 → IsSerial o plan words
       → Tells words (all_records o plan [] 0 plan) (all_log o [] 0 plan)
-  serial_tells plan words called tasks calls is = record {
+  serial_tells plan words tasks calls is = record {
     recs = is.recs;
-    fit = all_fit plan [] 0 plan called (omega arith);
+    fit = all_fit plan [] 0 plan (omega arith);
     log = is.log;
     entered = all_entered [] 0 plan tt (omega arith) calls;
   }
+
+  -- a task has as many records as calls
+  task_recs : (plan : Plan) (log : List Entry) (task call seen : ℕ) (ws : List CallWords) → length (task_records o plan log task call seen ws) ≡ length ws
+  task_recs plan log task call seen [] = refl
+  task_recs plan log task call seen (w ∷ ws) = ap suc (task_recs plan (log_after o log (record { task = task; call = call }) w) task (call + 1) (seen_then o plan log seen w) ws)
+
+  -- and so have all
+  pub all_recs : (plan : Plan) (log : List Entry) (task : ℕ) (wss : Plan) → length (flat_map (map rec_word) (all_records o plan log task wss)) ≡ sum_by length wss
+  all_recs plan log task [] = refl
+  all_recs plan log task (ws ∷ wss) =
+      let first : length (map rec_word (task_records o plan log task 0 0 ws)) ≡ length ws = simp length-map (task_recs plan log task 0 0 ws) in
+      let rest = all_recs plan (task_log o log task 0 ws) (task + 1) wss in
+      length-append (map rec_word (task_records o plan log task 0 0 ws)) _ ∙ rw (first, rest) (sym (sum_by-cons length ws wss))

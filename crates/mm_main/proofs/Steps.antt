@@ -1,9 +1,8 @@
 -- The calls of a task, one after the other.
-use Rattle.std.proofs.Common.{◌≡◌, ℕ, ◌+◌, ◌<◌, ◌≤◌, true, zero, suc, List, [], ◌∷◌, ◌++◌, length, get_or, take, drop, map, refl, sym, ap, ◌∙◌, subst, arith, append_assoc, Some}
+use Rattle.std.proofs.Common.{◌≡◌, ℕ, ◌+◌, ◌<◌, ◌≤◌, true, List, [], ◌∷◌, ◌++◌, length, get_or, take, drop, map, refl, sym, ap, ◌∙◌, arith, append_assoc, Some}
 use Rattle.std.specs.Prelude.{slice_get, filter, count_by, sum_by, flat_map}
-use Rattle.std.specs.List.{AllByRecursion}
 use Rattle.std.proofs.lemmas.Bool.Decides.{nat_tests}
-use Rattle.std.proofs.lemmas.Option.{slice_get-get_or, slice_get-map, same_Some, slice_get_within, get_or_from_slice_get}
+use Rattle.std.proofs.lemmas.Option.{slice_get-get_or, slice_get-map, slice_get_within, get_or_from_slice_get}
 use Rattle.std.proofs.lemmas.List.Sums.{sum_by_more_le}
 use Rattle.word_bits.specs.declared.call.CallWords.{CallWords}
 use Rattle.word_bits.specs.declared.entry.Entry.{Entry}
@@ -14,7 +13,7 @@ use Rattle.task_script.specs.declared.script.Line.{Line}
 use Rattle.task_script.specs.Scripts.{call_words, is_on}
 use Rattle.mm_report.proofs.Places.{filter_at}
 use Rattle.mm_report.proofs.Reserved.{drop_at}
-use Rattle.mm_main.specs.Serial.{record_after, log_after, task_records, task_log, all_records, all_log}
+use Rattle.mm_main.specs.Serial.{record_after, seen_then, log_after, task_records, task_log, all_records, all_log}
 
 -- the lines on an object, as words
 abbrev pub on_object : ℕ → List Line → List CallWords
@@ -34,45 +33,37 @@ pub at_count : (object : ℕ) (ls : List Line) (i : ℕ) (d : Line) → i < leng
 at_count object ls i d within same =
     slice_get-map call_words (filter (is_on object) ls) (count_by (is_on object) (take i ls)) ∙ rw (filter_at (is_on object) ls i (get_or ls i d) (slice_get-get_or ls i d within) (passes object (get_or ls i d) same)) refl
 
--- what holds of each element holds of the one at a place
-pub all_get : {X : Type 0} (P : X → Type 0) (xs : List X) (n : ℕ) (x : X) → AllByRecursion P xs → slice_get xs n ≡ Some x → P x
-all_get P [] n x each at = cc
-all_get P (y ∷ ys) zero x each at = subst P (same_Some y x at) each.0
-all_get P (y ∷ ys) (suc n) x each at = all_get P ys n x each.1 at
-
--- what holds of each call on the object holds of one of its lines
-pub all_at : (P : CallWords → Type 0) (object : ℕ) (ls : List Line) (i : ℕ) (d : Line) → AllByRecursion P (on_object object ls) → i < length ls → (get_or ls i d).object ≡ object → P (call_words (get_or ls i d))
-all_at P object ls i d each within same =
-    all_get P (on_object object ls) (count_by (is_on object) (take i ls)) (call_words (get_or ls i d)) each (at_count object ls i d within same)
-
 -- an entry of the plan
 pub entry_at : (plan : Plan) (task call : ℕ) (ws : List CallWords) (w : CallWords) → slice_get plan task ≡ Some ws → slice_get ws call ≡ Some w → at_entry plan (record { task = task; call = call }) ≡ Some w
 entry_at plan task call ws w at-task at-call = rw at-task at-call
 
 module _ {Call : Type 0} (o : Obj Call) where
   -- the record of a call, and those behind it, are those from it on
-  pub recs_step : (plan : Plan) (now : List Entry) (task call : ℕ) (w : CallWords) (ws rest : List CallWords) (before after whole : List ℕ) → ws ≡ w ∷ rest → after ≡ before ++ rec_word (record_after o plan now w) ∷ []
-      → before ++ map rec_word (task_records o plan now task call ws) ≡ whole → after ++ map rec_word (task_records o plan (log_after o now (record { task = task; call = call }) w) task (call + 1) rest) ≡ whole
-  recs_step plan now task call w ws rest before after whole is added all =
-      let more = map rec_word (task_records o plan (log_after o now (record { task = task; call = call }) w) task (call + 1) rest) in
-      ap (λ l. l ++ more) added ∙ append_assoc before (rec_word (record_after o plan now w) ∷ []) more ∙ ap (λ vs. before ++ map rec_word (task_records o plan now task call vs)) (sym is) ∙ all
+  pub recs_step : (plan : Plan) (now : List Entry) (task call seen : ℕ) (w : CallWords) (ws rest : List CallWords) (before after : List ℕ) (seen_now : ℕ) → ws ≡ w ∷ rest
+      → after ≡ before ++ rec_word (record_after o plan now seen w) ∷ [] → seen_now ≡ seen_then o plan now seen w
+      → after ++ map rec_word (task_records o plan (log_after o now (record { task = task; call = call }) w) task (call + 1) seen_now rest) ≡ before ++ map rec_word (task_records o plan now task call seen ws)
+  recs_step plan now task call seen w ws rest before after seen_now is added sees =
+      let next = log_after o now (record { task = task; call = call }) w in
+      let more = map rec_word (task_records o plan next task (call + 1) (seen_then o plan now seen w) rest) in
+      ap (λ s. after ++ map rec_word (task_records o plan next task (call + 1) s rest)) sees
+      ∙ ap (λ l. l ++ more) added ∙ append_assoc before (rec_word (record_after o plan now seen w) ∷ []) more ∙ ap (λ vs. before ++ map rec_word (task_records o plan now task call seen vs)) (sym is)
 
   -- and so is the log
-  pub log_step : (now : List Entry) (task call : ℕ) (w : CallWords) (ws rest : List CallWords) (whole : List Entry) → ws ≡ w ∷ rest
-      → task_log o now task call ws ≡ whole → task_log o (log_after o now (record { task = task; call = call }) w) task (call + 1) rest ≡ whole
-  log_step now task call w ws rest whole is all = ap (task_log o now task call) (sym is) ∙ all
+  pub log_step : (now : List Entry) (task call : ℕ) (w : CallWords) (ws rest : List CallWords) → ws ≡ w ∷ rest
+      → task_log o (log_after o now (record { task = task; call = call }) w) task (call + 1) rest ≡ task_log o now task call ws
+  log_step now task call w ws rest is = ap (task_log o now task call) (sym is)
 
   -- the records of a task, and those of the tasks behind it, are those from it on
-  pub tasks_recs_step : (plan : Plan) (now : List Entry) (task : ℕ) (ws : List CallWords) (left rest : Plan) (before after whole : List ℕ) → left ≡ ws ∷ rest → after ≡ before ++ map rec_word (task_records o plan now task 0 ws)
-      → before ++ flat_map (map rec_word) (all_records o plan now task left) ≡ whole → after ++ flat_map (map rec_word) (all_records o plan (task_log o now task 0 ws) (task + 1) rest) ≡ whole
-  tasks_recs_step plan now task ws left rest before after whole is added all =
+  pub tasks_recs_step : (plan : Plan) (now : List Entry) (task : ℕ) (ws : List CallWords) (left rest : Plan) (before after : List ℕ) → left ≡ ws ∷ rest → after ≡ before ++ map rec_word (task_records o plan now task 0 0 ws)
+      → after ++ flat_map (map rec_word) (all_records o plan (task_log o now task 0 ws) (task + 1) rest) ≡ before ++ flat_map (map rec_word) (all_records o plan now task left)
+  tasks_recs_step plan now task ws left rest before after is added =
       let more = flat_map (map rec_word) (all_records o plan (task_log o now task 0 ws) (task + 1) rest) in
-      ap (λ l. l ++ more) added ∙ append_assoc before (map rec_word (task_records o plan now task 0 ws)) more ∙ ap (λ vs. before ++ flat_map (map rec_word) (all_records o plan now task vs)) (sym is) ∙ all
+      ap (λ l. l ++ more) added ∙ append_assoc before (map rec_word (task_records o plan now task 0 0 ws)) more ∙ ap (λ vs. before ++ flat_map (map rec_word) (all_records o plan now task vs)) (sym is)
 
   -- and so is the log
-  pub tasks_log_step : (now : List Entry) (task : ℕ) (ws : List CallWords) (left rest : Plan) (whole : List Entry) → left ≡ ws ∷ rest
-      → all_log o now task left ≡ whole → all_log o (task_log o now task 0 ws) (task + 1) rest ≡ whole
-  tasks_log_step now task ws left rest whole is all = ap (all_log o now task) (sym is) ∙ all
+  pub tasks_log_step : (now : List Entry) (task : ℕ) (ws : List CallWords) (left rest : Plan) → left ≡ ws ∷ rest
+      → all_log o (task_log o now task 0 ws) (task + 1) rest ≡ all_log o now task left
+  tasks_log_step now task ws left rest is = ap (all_log o now task) (sym is)
 
 -- the calls of a task on the object, in the plan
 pub plan_at : (tasks : List (List Line)) (object task : ℕ) (ls : List Line) → slice_get tasks task ≡ Some ls → slice_get (map (on_object object) tasks) task ≡ Some (on_object object ls)

@@ -9,11 +9,12 @@ use Rattle.mm_report.specs.Results.{Told, AreLegal}
 use Rattle.mm_report.specs.Text.{text_of}
 use Rattle.mm_main.specs.declared.status.Status.{Status}
 use Rattle.mm_main.specs.declared.status.Status.TheVariants.{Done, Usage, Refused, ReadFault, WriteFault, NoMemory}
+use Rattle.mm_main.specs.Serial.{NoneKeptOff}
 use Rattle.mm_main.specs.Requests.{Request, misused, refused, accepted, request, usage_text, refusal_text}
 
--- there are results, legal for the script, of whose text this holds
+-- there are results, legal for the script and without a call that was kept off its object, of whose text this holds
 abbrev pub OfResults : Listing → (List ℕ → Type 0) → Type 0
-OfResults s P = (results : List Words) × (told : List Told) × AreLegal s results told × P (text_of s told)
+OfResults s P = (results : List Words) × (told : List Told) × AreLegal s results told × NoneKeptOff told × P (text_of s told)
 
 -- Each status has its cause, and says what was written. Read and write say that the count of that stream's faults rose.
 abbrev pub Says : Request → (read write : Type 0) → (old new : Option (List ℕ)) → Status → Type 0

@@ -1,7 +1,7 @@
 -- What the words of the command line and the input call for, and what is then said.
 use Rattle.std.specs.Prelude.{ℕ, nat_lt, List, ◌++◌, codes, decimal, Result, Ok, Err, if◌then◌else◌}
-use Rattle.task_script.specs.declared.reader.Reason.{Reason}
-use Rattle.task_script.specs.declared.reader.Reason.TheVariants.{TooLong, Later}
+use Rattle.task_script.specs.declared.reason.Reason.{Reason}
+use Rattle.task_script.specs.declared.reason.Reason.TheVariants.{TooLong, Byte, Version, Words, Place, Name, Twice, Limit, Unknown, Call, Mode, Number, Prot, Access}
 use Rattle.task_script.specs.Scripts.{Listing}
 use Rattle.task_script.specs.Grammar.{Refusal, script_of}
 
@@ -22,9 +22,22 @@ request words input = if nat_lt 0 words then misused else request_of (script_of 
 abbrev pub usage_text : List ℕ
 usage_text = codes "usage: mm_main [--spin N] [--overdue N] [--generate N] [--summary]\n"
 
+-- a reason's name
 abbrev pub reason_text : Reason → List ℕ
 reason_text TooLong = codes "TooLong"
-reason_text Later = codes "Later"
+reason_text Byte = codes "Byte"
+reason_text Version = codes "Version"
+reason_text Words = codes "Words"
+reason_text Place = codes "Place"
+reason_text Name = codes "Name"
+reason_text Twice = codes "Twice"
+reason_text Limit = codes "Limit"
+reason_text Unknown = codes "Unknown"
+reason_text Call = codes "Call"
+reason_text Mode = codes "Mode"
+reason_text Number = codes "Number"
+reason_text Prot = codes "Prot"
+reason_text Access = codes "Access"
 
 -- refused LINE REASON
 abbrev pub refusal_text : Refusal → List ℕ

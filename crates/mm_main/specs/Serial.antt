@@ -1,45 +1,51 @@
 -- The calls of a script done one after the other, task by task: what they leave on one object.
-use Rattle.std.specs.Prelude.{◌≡◌, ℕ, ◌+◌, ◌++◌, ◌^◌, ◌≤◌, List, [], ◌∷◌, length, map, flat_map, Some, if◌then◌else◌}
-use Rattle.std.specs.Option.{option_map_or}
+use Rattle.std.specs.Prelude.{◌≡◌, ℕ, ◌+◌, ◌++◌, ◌^◌, ◌≤◌, Bool, true, false, List, [], ◌∷◌, length, map, flat_map, Option, Some, None, if◌then◌else◌}
+use Rattle.std.specs.List.{AllByRecursion}
 use Rattle.word_bits.specs.declared.call.CallWords.{CallWords}
 use Rattle.word_bits.specs.declared.entry.Entry.{Entry}
 use Rattle.word_bits.specs.declared.rec.Rec.{Rec}
-use Rattle.word_bits.specs.declared.reply.Reply.TheVariants.{Sent}
+use Rattle.word_bits.specs.declared.reply.Reply.{Reply}
+use Rattle.word_bits.specs.declared.reply.Reply.TheVariants.{Busy, Intr, Sent}
 use Rattle.word_bits.specs.EntryWord.{entry_word}
 use Rattle.word_bits.specs.RecWord.{rec_word}
 use Rattle.word_bits.specs.Objects.{Obj}
 use Rattle.word_bits.specs.Snapshots.{Words}
 use Rattle.word_bits.specs.Histories.{Plan, Records, state_after, changes}
+use Rattle.word_bits.specs.Legal.{seen_after}
+use Rattle.vma_map.specs.Spaces.{space}
+use Rattle.fd_table.specs.Tables.{table}
+use Rattle.mm_report.specs.Results.{Told}
 
 module _ {Call : Type 0} (o : Obj Call) where
-  -- the words of a call of the object
-  abbrev pub IsCallOf : CallWords → Type 0
-  IsCallOf w = (c : Call) × (o.call_of w ≡ Some c)
+  -- What is recorded of a call that is done behind a log: its reply is its meaning there. What is no call of the object is a signal, and stands at what its task has seen.
+  abbrev pub record_of : Plan → List Entry → (seen : ℕ) → Option Call → Rec
+  record_of plan log seen (Some c) = record { k = length log; reply = (o.meaning (state_after o plan log) c).1 }
+  record_of plan log seen None = record { k = seen; reply = Sent }
 
-  -- the record of a call that is done after a log: its reply is its meaning there
-  abbrev pub record_after : Plan → List Entry → CallWords → Rec
-  record_after plan log w = record {
-    k = length log;
-    reply = option_map_or (λ c. (o.meaning (state_after o plan log) c).1) (o.call_of w) Sent;
-  }
+  abbrev pub record_after : Plan → List Entry → (seen : ℕ) → CallWords → Rec
+  record_after plan log seen w = record_of plan log seen (o.call_of w)
+
+  -- what the task has seen then
+  abbrev pub seen_then : Plan → List Entry → (seen : ℕ) → CallWords → ℕ
+  seen_then plan log seen w = seen_after (changes o w) (record_after plan log seen w)
 
   abbrev pub log_after : List Entry → Entry → CallWords → List Entry
   log_after log e w = if changes o w then log ++ e ∷ [] else log
 
   -- the records of a task's calls from the call of this number on, and the log behind them
-  abbrev pub task_records : Plan → List Entry → (task call : ℕ) → List CallWords → List Rec
-  task_records plan log task call [] = []
-  task_records plan log task call (w ∷ ws) =
-      record_after plan log w ∷ task_records plan (log_after log (record { task = task; call = call }) w) task (call + 1) ws
+  abbrev pub task_records : Plan → List Entry → (task call seen : ℕ) → List CallWords → List Rec
+  task_records plan log task call seen [] = []
+  task_records plan log task call seen (w ∷ ws) =
+      record_after plan log seen w ∷ task_records plan (log_after log (record { task = task; call = call }) w) task (call + 1) (seen_then plan log seen w) ws
 
   abbrev pub task_log : List Entry → (task call : ℕ) → List CallWords → List Entry
   task_log log task call [] = log
   task_log log task call (w ∷ ws) = task_log (log_after log (record { task = task; call = call }) w) task (call + 1) ws
 
-  -- the same of all tasks from this one on
+  -- the same of all tasks from this one on, none of which has seen anything
   abbrev pub all_records : Plan → List Entry → ℕ → Plan → Records
   all_records plan log task [] = []
-  all_records plan log task (ws ∷ wss) = task_records plan log task 0 ws ∷ all_records plan (task_log log task 0 ws) (task + 1) wss
+  all_records plan log task (ws ∷ wss) = task_records plan log task 0 0 ws ∷ all_records plan (task_log log task 0 ws) (task + 1) wss
 
   abbrev pub all_log : List Entry → ℕ → Plan → List Entry
   all_log log task [] = log
@@ -56,15 +62,21 @@ module _ {Call : Type 0} (o : Obj Call) where
     pub logged : words.log ≡ map entry_word log
     pub is : state ≡ state_after o plan log
 
-  -- what a call leaves behind a log: one record, and an entry if it changes
-  pub record DoesCall (plan : Plan) (log : List Entry) (e : Entry) (w : CallWords) (old new : Words) (state : o.State) : Type 0 where
-    pub recs : new.recs ≡ old.recs ++ rec_word (record_after plan log w) ∷ []
+  -- what a call leaves behind a log: one record, an entry if it changes, and what its task has seen
+  pub record DoesCall (plan : Plan) (log : List Entry) (e : Entry) (seen : ℕ) (w : CallWords) (old new : Words) (state : o.State) (seen_now : ℕ) : Type 0 where
+    pub recs : new.recs ≡ old.recs ++ rec_word (record_after plan log seen w) ∷ []
     pub stands : Stands plan (log_after log e w) new state
+    pub sees : seen_now ≡ seen_then plan log seen w
 
-  -- what the calls of a task from this one on leave behind a log
-  pub record DoesTask (plan : Plan) (log : List Entry) (task call : ℕ) (ws : List CallWords) (old new : Words) (state : o.State) : Type 0 where
-    pub recs : new.recs ≡ old.recs ++ map rec_word (task_records plan log task call ws)
-    pub stands : Stands plan (task_log log task call ws) new state
+  -- what the calls of a task leave behind a log
+  pub record DoesTask (plan : Plan) (log : List Entry) (task : ℕ) (ws : List CallWords) (old new : Words) (state : o.State) : Type 0 where
+    pub recs : new.recs ≡ old.recs ++ map rec_word (task_records plan log task 0 0 ws)
+    pub stands : Stands plan (task_log log task 0 ws) new state
+
+-- the same of an object that is a space, or else a table
+abbrev pub IsSerialOn : (is_space : Bool) → Plan → Words → Type 0
+IsSerialOn true plan words = IsSerial space plan words
+IsSerialOn false plan words = IsSerial table plan words
 
 -- the rooms of a snapshot and its state words stay
 pub record Keeps (old new : Words) : Type 0 where
@@ -78,3 +90,13 @@ pub record HasRoom (words : Words) (calls : ℕ) : Type 0 where
   pub recs : length words.recs + calls ≤ words.recs_room
   pub log : length words.log + calls ≤ words.log_room
   pub few : words.log_room ≤ 2 ^ 18
+
+-- the replies of calls that another task kept off their object
+abbrev pub is_kept_off : Reply → Bool
+is_kept_off (Busy word) = true
+is_kept_off Intr = true
+is_kept_off reply = false
+
+-- no call was kept off
+abbrev pub NoneKeptOff : List Told → Type 0
+NoneKeptOff told = AllByRecursion (λ t. AllByRecursion (AllByRecursion (λ r. is_kept_off r.reply ≡ false)) t.records) told

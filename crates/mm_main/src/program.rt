@@ -32,7 +32,19 @@ fn reason_name(reason: Reason) -> &'static [u8]
 {
     match reason {
         Reason::TooLong => b"TooLong",
-        Reason::Later => b"Later",
+        Reason::Byte => b"Byte",
+        Reason::Version => b"Version",
+        Reason::Words => b"Words",
+        Reason::Place => b"Place",
+        Reason::Name => b"Name",
+        Reason::Twice => b"Twice",
+        Reason::Limit => b"Limit",
+        Reason::Unknown => b"Unknown",
+        Reason::Call => b"Call",
+        Reason::Mode => b"Mode",
+        Reason::Number => b"Number",
+        Reason::Prot => b"Prot",
+        Reason::Access => b"Access",
     }
 }
 

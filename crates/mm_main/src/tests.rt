@@ -3,9 +3,27 @@ ghost use Rattle.std.specs.Prelude.{◌<◌};
 
 use crate::program::top;
 use crate::status::Status;
+use examples::{
+    FIRST_SCRIPT, FIRST_TEXT, FULL_TABLE_SCRIPT, FULL_TABLE_TEXT, REFUSED_LINE_SCRIPT,
+    REFUSED_LINE_TEXT, SPLIT_AND_JOIN_SCRIPT, SPLIT_AND_JOIN_TEXT, TWO_OBJECTS_SCRIPT,
+    TWO_OBJECTS_TEXT,
+};
 use std::alloc::{AllocError, Global};
 use std::test::Fail;
 use task_script::{MemSink, MemSource};
+
+mod examples;
+
+const ORDINARY: &str = "space a\ntask\na map 16 4 rw-\na fault 17 w\na fault 20 r\n";
+
+const ORDINARY_TEXT: &str = concat!(
+    "space a\n",
+    "0.0 map 16 4 rw- = 16\n",
+    "0.1 fault 17 w = ok\n",
+    "0.2 fault 20 r = maperr\n",
+    "left 1\n",
+    "16-20 rw-\n",
+);
 
 /// How a run ended, and what it wrote.
 type Outcome = (Status, Vec<u8>);
@@ -25,59 +43,276 @@ fn run(
     Ok((status, Vec::from_slice(alloc, sink.written())?))
 }
 
+/// The outcome where nothing fails.
+fn text_of(alloc: Global, script: &[u8]) -> Result<Outcome, AllocError> {
+    run(alloc, script, 1000, &[], 100_000)
+}
+
 #[test]
-fn answers_each_script_with_its_text(rt: HostRuntime) -> Result<(), Fail> {
-    for (script, status, text) in [
+fn answers_scripts_with_their_text(rt: HostRuntime) -> Result<(), Fail> {
+    for (script, text) in [
+        (ORDINARY, ORDINARY_TEXT),
+        ("", ""),
+        ("space a\n", "space a\nleft 0\n"),
+        ("space a\ntask", "space a\nleft 0\n"),
+        ("table f\ntask\ntask\n", "table f\nleft 0\n"),
         (
-            "space a\ntask\na fault 5 r\n",
-            Status::Done,
-            "space a\n0.0 fault 5 r = maperr\nleft 0\n",
-        ),
-        (
-            "space pages_1\ntask\npages_1 fault 4294967295 x\npages_1 fault 0 w\n",
-            Status::Done,
-            "space pages_1\n0.0 fault 4294967295 x = maperr\n0.1 fault 0 w = maperr\nleft 0\n",
-        ),
-        (
-            "space a\ntask\na map 16 4 rw-\na fault 17 w\na fault 20 r\n",
-            Status::Done,
-            "space a\n0.0 map 16 4 rw- = 16\n0.1 fault 17 w = ok\n0.2 fault 20 r = maperr\nleft 1\n16-20 rw-\n",
+            "space a\ntask\na map 0 1048576 r--\na map any 1 r--\n",
+            "space a\n0.0 map 0 1048576 r-- = 0\n0.1 map any 1 r-- = ENOMEM\nleft 1\n0-1048576 r--\n",
         ),
         (
             "space a\ntask\na map 1048575 2 r--\na map 5 0 r--\na map 1048575 1 r--\na fault 1048576 r\n",
-            Status::Done,
             "space a\n0.0 map 1048575 2 r-- = EINVAL\n0.1 map 5 0 r-- = EINVAL\n0.2 map 1048575 1 r-- = 1048575\n0.3 fault 1048576 r = maperr\nleft 1\n1048575-1048576 r--\n",
         ),
         (
-            "space a\ntask\na map 0 1048576 r--\na map 4 2 --x\na fault 5 x\na fault 6 w\na map 6 1 --x\n",
-            Status::Done,
-            "space a\n0.0 map 0 1048576 r-- = 0\n0.1 map 4 2 --x = 4\n0.2 fault 5 x = ok\n0.3 fault 6 w = accerr\n0.4 map 6 1 --x = 6\nleft 3\n0-4 r--\n4-7 --x\n7-1048576 r--\n",
-        ),
-        ("", Status::Done, ""),
-        ("space a\n", Status::Done, "space a\nleft 0\n"),
-        ("task\n", Status::Done, ""),
-        (
-            "space a\ntask\na map any 1 r--\n",
-            Status::Refused,
-            "refused 3 Later\n",
+            "space a\ntask\na map 16 4 rw-\na unmap 17 1\na unmap 100 5\n",
+            "space a\n0.0 map 16 4 rw- = 16\n0.1 unmap 17 1 = ok\n0.2 unmap 100 5 = ok\nleft 2\n16-17 rw-\n18-20 rw-\n",
         ),
         (
-            "space a\ntask\na fault 5 r",
-            Status::Refused,
-            "refused 3 Later\n",
+            "space a\ntask\na map 16 4 rw-\na unmap 17 1\na map any 2 r-x\na mapnew 19 2 r--\na mapnew 20 2 r--\n",
+            "space a\n0.0 map 16 4 rw- = 16\n0.1 unmap 17 1 = ok\n0.2 map any 2 r-x = 0\n0.3 mapnew 19 2 r-- = EEXIST\n0.4 mapnew 20 2 r-- = 20\nleft 4\n0-2 r-x\n16-17 rw-\n18-20 rw-\n20-22 r--\n",
         ),
-        ("space A\n", Status::Refused, "refused 1 Later\n"),
+        (
+            "space a\ntask\na map 16 4 rw-\na protect 16 8 r--\n",
+            "space a\n0.0 map 16 4 rw- = 16\n0.1 protect 16 8 r-- = ENOMEM\nleft 1\n16-20 rw-\n",
+        ),
+        (
+            "space a\ntask\na map 16 4 rw-\na protect 16 8 r--\na populate 18 4 r--\n",
+            "space a\n0.0 map 16 4 rw- = 16\n0.1 protect 16 8 r-- = ENOMEM\n0.2 populate 18 4 r-- = 4\nleft 2\n16-18 rw-\n18-22 r--\n",
+        ),
+        (
+            "space a\ntask\na map 16 4 rw-\na fault 16 x\na fault 15 r\na protect 16 1 ---\na fault 16 r\n",
+            "space a\n0.0 map 16 4 rw- = 16\n0.1 fault 16 x = accerr\n0.2 fault 15 r = maperr\n0.3 protect 16 1 --- = ok\n0.4 fault 16 r = accerr\nleft 2\n16-17 ---\n17-20 rw-\n",
+        ),
     ] {
-        let (found, written) = run(rt.alloc(), script.as_bytes(), 5, &[], 1000)?;
-        assert_eq!(rt; found, status, "{script}");
+        let (status, written) = text_of(rt.alloc(), script.as_bytes())?;
+        assert_eq!(rt; status, Status::Done, "{script}");
+        assert_eq!(rt; written.as_slice(), text.as_bytes(), "{script}");
+    }
+    Ok(())
+}
+
+// A signal stands at what its own task has seen of the object: in front of every logged call where
+// it is the first of its task there.
+#[test]
+fn does_calls_task_by_task(rt: HostRuntime) -> Result<(), Fail> {
+    let script = concat!(
+        "space a\n",
+        "table f\n",
+        "task\n",
+        "a map 16 4 rw-\n",
+        "f open 7\n",
+        "int a fault 16 x\n",
+        "a signal 1\n",
+        "task\n",
+        "a signal 0\n",
+        "try a map 20 1 r--\n",
+        "f signal 9\n",
+        "a signal 1\n",
+        "f dup 0\n",
+        "f get 1\n",
+        "task\n",
+        "a fault 20 w\n",
+        "int f close 0\n",
+        "a unmap 18 8\n",
+        "f signal 0\n",
+    );
+    let text = concat!(
+        "space a\n",
+        "1.0 signal 0 = sent\n",
+        "0.0 map 16 4 rw- = 16\n",
+        "0.2 int fault 16 x = accerr\n",
+        "0.3 signal 1 = sent\n",
+        "1.1 try map 20 1 r-- = 20\n",
+        "1.3 signal 1 = sent\n",
+        "2.0 fault 20 w = accerr\n",
+        "2.2 unmap 18 8 = ok\n",
+        "left 1\n",
+        "16-18 rw-\n",
+        "table f\n",
+        "1.2 signal 9 = sent\n",
+        "0.1 open 7 = 0\n",
+        "1.4 dup 0 = 1\n",
+        "1.5 get 1 = 7\n",
+        "2.1 int close 0 = ok\n",
+        "2.3 signal 0 = sent\n",
+        "left 1\n",
+        "1 7\n",
+    );
+    let (status, written) = text_of(rt.alloc(), script.as_bytes())?;
+    assert_eq!(rt; status, Status::Done);
+    assert_eq!(rt; written.as_slice(), text.as_bytes());
+    Ok(())
+}
+
+#[test]
+fn answers_the_examples(rt: HostRuntime) -> Result<(), Fail> {
+    for (script, text, status) in [
+        (FIRST_SCRIPT, FIRST_TEXT, Status::Done),
+        (SPLIT_AND_JOIN_SCRIPT, SPLIT_AND_JOIN_TEXT, Status::Done),
+        (FULL_TABLE_SCRIPT, FULL_TABLE_TEXT, Status::Done),
+        (TWO_OBJECTS_SCRIPT, TWO_OBJECTS_TEXT, Status::Done),
+        (REFUSED_LINE_SCRIPT, REFUSED_LINE_TEXT, Status::Refused),
+    ] {
+        let (answered, written) = text_of(rt.alloc(), script.as_bytes())?;
+        assert_eq!(rt; answered, status);
+        assert_eq!(rt; written.as_slice(), text.as_bytes(), "{script}");
+    }
+    Ok(())
+}
+
+/// Adds a call of a single task on the object `o` to a script, and its line to the text.
+fn add_call(
+    alloc: Global,
+    script: &mut String,
+    text: &mut String,
+    number: u32,
+    call: &str,
+    reply: &str,
+) -> Result<(), AllocError> {
+    script.push_str(&format!(in alloc; "o {call}\n")?)?;
+    text.push_str(&format!(in alloc; "0.{number} {call} = {reply}\n")?)
+}
+
+#[test]
+fn joins_the_257th_page(rt: HostRuntime) -> Result<(), Fail> {
+    let alloc = rt.alloc();
+    let mut script = String::from_str(alloc, "space o\ntask\n")?;
+    let mut text = String::from_str(alloc, "space o\n")?;
+    for page in 0..256 {
+        let prot = if page % 2 == 0 { "r--" } else { "rw-" };
+        let call = format!(in alloc; "map {page} 1 {prot}")?;
+        let reply = format!(in alloc; "{page}")?;
+        add_call(alloc, &mut script, &mut text, page, &call, &reply)?;
+    }
+    for (number, call, reply) in [
+        (256, "map 256 1 r--", "ENOMEM"),
+        (257, "map 256 1 rw-", "256"),
+        (258, "protect 0 257 r--", "ok"),
+    ] {
+        add_call(alloc, &mut script, &mut text, number, call, reply)?;
+    }
+    text.push_str("left 1\n0-257 r--\n")?;
+    let (status, written) = text_of(alloc, script.as_bytes())?;
+    assert_eq!(rt; status, Status::Done);
+    assert_eq!(rt; written.as_slice(), text.as_bytes());
+    Ok(())
+}
+
+#[test]
+fn fills_a_table(rt: HostRuntime) -> Result<(), Fail> {
+    let alloc = rt.alloc();
+    let mut script = String::from_str(alloc, "table o\ntask\n")?;
+    let mut text = String::from_str(alloc, "table o\n")?;
+    for fd in 0..64 {
+        let reply = format!(in alloc; "{fd}")?;
+        add_call(alloc, &mut script, &mut text, fd, "open 7", &reply)?;
+    }
+    for (number, call, reply) in [
+        (64, "open 7", "EMFILE"),
+        (65, "close 3", "ok"),
+        (66, "dup 0", "3"),
+        (67, "dup2 5 5", "5"),
+        (68, "close 9", "ok"),
+        (69, "dup2 9 1", "EBADF"),
+        (70, "get 9", "EBADF"),
+        (71, "open 8", "9"),
+        (72, "dup2 9 1", "1"),
+        (73, "get 1", "8"),
+        (74, "dup2 1 64", "EBADF"),
+    ] {
+        add_call(alloc, &mut script, &mut text, number, call, reply)?;
+    }
+    text.push_str("left 64\n0 7\n1 8\n")?;
+    for fd in 2..64 {
+        let file = if fd == 9 { 8 } else { 7 };
+        text.push_str(&format!(in alloc; "{fd} {file}\n")?)?;
+    }
+    let (status, written) = text_of(alloc, script.as_bytes())?;
+    assert_eq!(rt; status, Status::Done);
+    assert_eq!(rt; written.as_slice(), text.as_bytes());
+    Ok(())
+}
+
+#[test]
+fn takes_lenient_input(rt: HostRuntime) -> Result<(), Fail> {
+    for script in [
+        b"space  a\r\n# caf\xc3\xa9\r\ntask\r\na  map  16  4  rw-\r\na  fault  17  w\r\na  fault  20  r".as_slice(),
+        b"space  a\r\n# caf\xe9\r\ntask\r\na  map  16  4  rw-\r\na  fault  17  w\r\na  fault  20  r",
+    ] {
+        let (status, written) = text_of(rt.alloc(), script)?;
+        assert_eq!(rt; status, Status::Done);
+        assert_eq!(rt; written.as_slice(), ORDINARY_TEXT.as_bytes());
+    }
+    Ok(())
+}
+
+#[test]
+fn says_why_a_line_is_refused(rt: HostRuntime) -> Result<(), Fail> {
+    for (script, text) in [
+        ("space a\ntask\nb fault 1 r\n", "refused 3 Unknown\n"),
+        ("space A\n", "refused 1 Name\n"),
+        ("space a\nspace a\n", "refused 2 Twice\n"),
+        ("a fault 1 r\n", "refused 1 Place\n"),
+        ("space a\ntask\na fault 01 r\n", "refused 3 Number\n"),
+        ("space a\ntask\na open 1\n", "refused 3 Call\n"),
+        ("space a\ntask\ntry a signal 0\n", "refused 3 Mode\n"),
+        ("space a\ntask\na map 16 4", "refused 3 Words\n"),
+        ("a\0\n", "refused 1 Byte\n"),
+        ("version 1\n", "refused 1 Version\n"),
+        ("task x\n", "refused 1 Words\n"),
+        ("space int\n", "refused 1 Name\n"),
+        ("space a\ntask\nint\n", "refused 3 Words\n"),
+        (
+            "space a\ntask\na map 4294967296 1 r--\n",
+            "refused 3 Number\n",
+        ),
+        ("space a\ntask\na map 1 1 rw\n", "refused 3 Prot\n"),
+        ("space a\ntask\na fault 1 rw\n", "refused 3 Access\n"),
+        ("space a\ntask\na map 1 1 rwx r\n", "refused 3 Words\n"),
+        ("space a\ntask\na signal 64\n", "refused 3 Limit\n"),
+        ("table f\ntask\nf open 65536\n", "refused 3 Number\n"),
+        ("space", "refused 1 Words\n"),
+        ("space a\nt", "refused 2 Place\n"),
+    ] {
+        let (status, written) = text_of(rt.alloc(), script.as_bytes())?;
+        assert_eq!(rt; status, Status::Refused, "{script}");
         assert_eq!(rt; written.as_slice(), text.as_bytes(), "{script}");
     }
     Ok(())
 }
 
 #[test]
+fn refuses_past_the_limits(rt: HostRuntime) -> Result<(), Fail> {
+    let alloc = rt.alloc();
+    let mut long = vec![in alloc; b'#'; 1_048_576]?;
+    let (status, written) = text_of(alloc, &long)?;
+    assert_eq!(rt; status, Status::Done);
+    assert!(rt; written.is_empty());
+    long.push(b'#')?;
+    let mut spaces = String::new(alloc);
+    let mut tasks = String::new(alloc);
+    for number in 0..17 {
+        spaces.push_str(&format!(in alloc; "space a{number}\n")?)?;
+    }
+    for _ in 0..65 {
+        tasks.push_str("task\n")?;
+    }
+    for (script, text) in [
+        (long.as_slice(), "refused 0 TooLong\n"),
+        (spaces.as_bytes(), "refused 17 Limit\n"),
+        (tasks.as_bytes(), "refused 65 Limit\n"),
+    ] {
+        let (status, written) = text_of(alloc, script)?;
+        assert_eq!(rt; status, Status::Refused);
+        assert_eq!(rt; written.as_slice(), text.as_bytes());
+    }
+    Ok(())
+}
+
+#[test]
 fn ends_at_a_fault_with_what_was_written(rt: HostRuntime) -> Result<(), Fail> {
-    let script = b"space a\ntask\na map 16 4 rw-\na fault 17 w\na fault 20 r\n";
+    let script = ORDINARY.as_bytes();
     for fail in [0, 1, 2, 3] {
         let (status, written) = run(rt.alloc(), script, 8, &[fail], 1000)?;
         assert_eq!(rt; status, Status::ReadFault, "read {fail}");

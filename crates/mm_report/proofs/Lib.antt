@@ -2,5 +2,11 @@ pub mod Objects
 pub mod Places
 pub mod Reserved
 pub mod Lawful
+pub mod Merging
 pub mod Ordered
-pub mod Single
+pub mod Remaining
+pub mod Calls
+pub mod Tasks
+pub mod Legal
+pub mod Filled
+pub mod Descriptors

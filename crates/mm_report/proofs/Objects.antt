@@ -1,11 +1,13 @@
 -- What is told object by object.
-use Rattle.std.proofs.Common.{◌≡◌, ℕ, ◌+◌, ◌<◌, zero, suc, List, [], ◌∷◌, ◌++◌, length, drop, refl, sym, ap, ◌∙◌, subst, arith, append_assoc, Some}
+use Rattle.std.proofs.Common.{◌≡◌, ℕ, ◌+◌, zero, suc, List, [], ◌∷◌, ◌++◌, length, drop, refl, sym, ap, ◌∙◌, subst, arith, append_assoc, add-zero, Some}
 use Rattle.std.specs.Prelude.{slice_get}
+use Rattle.std.proofs.lemmas.Option.{same_Some}
 use Rattle.word_bits.specs.Snapshots.{Words}
 use Rattle.word_bits.specs.Legal.{Tells}
 use Rattle.task_script.specs.Scripts.{Declared, Listing, plan_of}
-use Rattle.mm_report.specs.Results.{Told, IsLegalOn, AreLegalFrom, AreCompleteFrom}
-use Rattle.mm_report.specs.Text.{head_text, told_text, text_from}
+use Rattle.task_script.specs.Texts.{declaration_text}
+use Rattle.mm_report.specs.Results.{Told, IsLegalOn, AreLegalFrom, AreCompleteFrom, calls_on}
+use Rattle.mm_report.specs.Text.{told_text, text_from}
 use Rattle.mm_report.proofs.Reserved.{drop_at}
 
 -- there are as many snapshots as objects
@@ -14,6 +16,16 @@ complete_length s object [] [] complete = refl
 complete_length s object [] (w ∷ ws) complete = absurd complete
 complete_length s object (d ∷ ds) [] complete = absurd complete
 complete_length s object (d ∷ ds) (w ∷ ws) complete = ap suc (complete_length s (object + 1) ds ws complete.1)
+
+-- each of which has a record of each call
+pub complete_at : (s : Listing) (object i : ℕ) (ds : List Declared) (ws : List Words) (w : Words) → AreCompleteFrom s object ds ws → slice_get ws i ≡ Some w → length w.recs ≡ calls_on s (object + i)
+complete_at s object i [] [] w complete at = cc
+complete_at s object i [] (v ∷ ws) w complete at = absurd complete
+complete_at s object i (d ∷ ds) [] w complete at = absurd complete
+complete_at s object zero (d ∷ ds) (v ∷ ws) w complete at = ap (λ (u : Words). length u.recs) (sym (same_Some v w at)) ∙ complete.0 ∙ ap (calls_on s) (sym (add-zero object))
+complete_at s object (suc i) (d ∷ ds) (v ∷ ws) w complete at =
+    let later : object + 1 + i ≡ object + suc i = omega arith in
+    complete_at s (object + 1) i ds ws w complete.1 at ∙ ap (calls_on s) later
 
 -- what is legal of an object and of those behind it
 pub record IsStep (s : Listing) (object : ℕ) (d : Declared) (w : Words) (rest_objects : List Declared) (rest_words : List Words) (told : List Told) : Type 0 where
@@ -45,18 +57,12 @@ behind_at (y ∷ ys) (suc i) x rest is = let e : suc (i + 1) ≡ suc i + 1 = ome
 
 -- the text of an object, and of those behind it
 pub text_step : (s : Listing) (object : ℕ) (ds : List Declared) (d : Declared) (t : Told) (ts : List Told) → slice_get ds object ≡ Some d
-    → text_from s object (drop object ds) (t ∷ ts) ≡ head_text d ++ told_text s object d.is_space t ++ text_from s (object + 1) (drop (object + 1) ds) ts
+    → text_from s object (drop object ds) (t ∷ ts) ≡ declaration_text d ++ told_text s object d.is_space t ++ text_from s (object + 1) (drop (object + 1) ds) ts
 text_step s object ds d t ts at = ap (λ es. text_from s object es (t ∷ ts)) (drop_at ds object d at)
 
 -- what was written, the text of an object and the text behind it are all
 pub text_split : (s : Listing) (object : ℕ) (ds : List Declared) (d : Declared) (t : Told) (ts told : List Told) (done all : List ℕ) → slice_get ds object ≡ Some d → told ≡ t ∷ ts
-    → done ++ text_from s object (drop object ds) told ≡ all → (done ++ (head_text d ++ told_text s object d.is_space t)) ++ text_from s (object + 1) (drop (object + 1) ds) ts ≡ all
+    → done ++ text_from s object (drop object ds) told ≡ all → (done ++ (declaration_text d ++ told_text s object d.is_space t)) ++ text_from s (object + 1) (drop (object + 1) ds) ts ≡ all
 text_split s object ds d t ts told done all at is whole =
-    append_assoc done (head_text d ++ told_text s object d.is_space t) (text_from s (object + 1) (drop (object + 1) ds) ts)
+    append_assoc done (declaration_text d ++ told_text s object d.is_space t) (text_from s (object + 1) (drop (object + 1) ds) ts)
     ∙ ap (λ l. done ++ l) (sym (text_step s object ds d t ts at) ∙ ap (text_from s object (drop object ds)) (sym is)) ∙ whole
-
--- at each place below the length something stands
-pub at_place : {X : Type 0} (xs : List X) (i : ℕ) → i < length xs → (x : X) × (slice_get xs i ≡ Some x)
-at_place [] i within = absurd (omega arith)
-at_place (x ∷ xs) zero within = (x, refl)
-at_place (x ∷ xs) (suc i) within = at_place xs i (omega arith)

@@ -1,13 +1,12 @@
 -- What stands at a place of a filtered list, of a task's events and of their text.
-use Rattle.std.proofs.Common.{◌≡◌, ℕ, ◌+◌, ◌<◌, Bool, true, false, cond, zero, suc, List, [], ◌∷◌, ◌++◌, length, take, map, ◌-◌, refl, sym, ap, ◌∙◌, length-append, min, add-zero, zero-add, nat_eq, nat_lt, get_or, arith, Some}
+use Rattle.std.proofs.Common.{◌≡◌, ℕ, ◌+◌, ◌<◌, Bool, true, false, cond, zero, suc, List, [], ◌∷◌, ◌++◌, length, take, map, ◌-◌, refl, sym, ap, ◌∙◌, length-append, min, add-zero, zero-add, nat_eq, arith, Some, subst}
 use Rattle.std.specs.Prelude.{slice_get, filter, count_by}
-use Rattle.std.specs.List.{AllByRecursion}
-use Rattle.std.proofs.lemmas.Option.{same_Some, slice_get-map, slice_get-get_or, slice_get_read}
-use Rattle.std.proofs.lemmas.List.Sums.{sum_by-cons}
+use Rattle.std.proofs.lemmas.Option.{same_Some, slice_get-map, slice_get_within}
+use Rattle.std.proofs.lemmas.List.Sums.{sum_by-cons, length-filter}
 use Rattle.std.proofs.lemmas.Bool.Decides.{nat_tests}
 use Rattle.word_bits.specs.declared.call.CallWords.{CallWords}
 use Rattle.word_bits.specs.declared.rec.Rec.{Rec}
-use Rattle.word_bits.specs.Histories.{Event, task_events}
+use Rattle.word_bits.specs.Histories.{task_events}
 use Rattle.task_script.specs.declared.script.Line.{Line}
 use Rattle.task_script.specs.Scripts.{call_words, is_on}
 use Rattle.std.proofs.lemmas.List.{length-map}
@@ -16,7 +15,9 @@ use Rattle.word_bits.specs.declared.area.Area.{Area}
 use Rattle.word_bits.specs.AreaWord.{area_word}
 use Rattle.word_bits.specs.RecWord.{IsRec, rec_word}
 use Rattle.task_script.proofs.Pieces.{mapped_at}
-use Rattle.mm_report.specs.Text.{number_of, event_line, task_event_text}
+use Rattle.mm_report.specs.Text.{number_of}
+use Rattle.mm_report.specs.Cursors.{HasRecords, calls_before, events_of}
+use Rattle.task_script.proofs.Pieces.{at_place}
 
 -- what one more element in front counts
 pub count_cons : {X : Type 0} (p : X → Bool) (x : X) (xs : List X) → count_by p (x ∷ xs) ≡ cond (p x) 1 0 + count_by p xs
@@ -64,32 +65,44 @@ events_length task call [] rs same = refl
 events_length task call (w ∷ ws) [] same = absurd (omega arith)
 events_length task call (w ∷ ws) (r ∷ rs) same = ap suc (events_length task (call + 1) ws rs (omega arith))
 
--- the text of the event of a call that is read from the lines of its task and from its record's word
-pub event_of : (object task : ℕ) (ls : List Line) (rs : List Rec) (recs : List ℕ) (n call word : ℕ) (l : Line) → slice_get ls n ≡ Some l → is_on object l ≡ true → call ≡ count_by (is_on object) (take n ls)
-    → AllByRecursion IsRec rs → recs ≡ map rec_word rs → slice_get recs call ≡ Some word
-    → (r : Rec) × IsRec r × (rec_word r ≡ word) × (v : Event) × (slice_get (task_events task 0 (map call_words (filter (is_on object) ls)) rs) call ≡ Some v)
-    × (task_event_text object ls v ≡ event_line task n (call_words l) r.reply)
-event_of object task ls rs recs n call word l at passes counted each is found =
-    let m = mapped_at IsRec rec_word rs recs call word each is found in
-    let w : slice_get (map call_words (filter (is_on object) ls)) call ≡ Some (call_words l) = slice_get-map call_words (filter (is_on object) ls) call ∙ rw (counted, filter_at (is_on object) ls n l at passes) refl in
-    let number : number_of object ls (0 + call) ≡ n = rw (zero-add call, counted) (number_at object ls n l at passes) in (
-      m.0,
-      m.2,
-      m.3,
-      record { entry = record { task = task; call = 0 + call }; words = call_words l; told = m.0 },
-      event_at task 0 (map call_words (filter (is_on object) ls)) rs call (call_words l) m.0 w m.1,
-      ap (λ k. event_line task k (call_words l) m.0.reply) number,
-    )
+-- what stands behind a list
+behind_list : {X : Type 0} (xs ys : List X) (i : ℕ) → slice_get (xs ++ ys) (length xs + i) ≡ slice_get ys i
+behind_list [] ys i = ap (slice_get ys) (zero-add i)
+behind_list (x ∷ xs) ys i = let later : suc (length xs) + i ≡ suc (length xs + i) = omega arith in rw later (behind_list xs ys i)
 
--- the same as a loop over the lines knows it
-pub event_read : (object task : ℕ) (ls : List Line) (rs : List Rec) (recs : List ℕ) (n call word : ℕ) (d : Line) → n < length ls → (get_or ls n d).object ≡ object → call ≡ count_by (is_on object) (take n ls)
-    → AllByRecursion IsRec rs → recs ≡ map rec_word rs → true ≡ nat_lt call (length recs) → word ≡ get_or recs call word
-    → (r : Rec) × IsRec r × (rec_word r ≡ word) × (v : Event) × (slice_get (task_events task 0 (map call_words (filter (is_on object) ls)) rs) call ≡ Some v)
-    × (task_event_text object ls v ≡ event_line task n (call_words (get_or ls n d)) r.reply)
-event_read object task ls rs recs n call word d within same counted each is test word-is =
-    let passes : is_on object (get_or ls n d) ≡ true = grind (arith, nat_tests) in
-    let short : call < length recs = grind (arith, nat_tests) in
-    event_of object task ls rs recs n call word (get_or ls n d) (slice_get-get_or ls n d within) passes counted each is (slice_get_read recs (length recs) call word refl short word-is)
+-- what stands in the first of two lists
+in_first : {X : Type 0} (xs ys : List X) (i : ℕ) (x : X) → slice_get xs i ≡ Some x → slice_get (xs ++ ys) i ≡ Some x
+in_first [] ys i x is = cc
+in_first (z ∷ xs) ys zero x is = is
+in_first (z ∷ xs) ys (suc i) x is = in_first xs ys i x is
+
+-- a call on the object as it stands among its task's, and its record as it stands among the words
+pub record IsCallAt (object task : ℕ) (ls : List Line) (rs : List Rec) (recs : List ℕ) (n place : ℕ) (l : Line) : Type 0 where
+  pub told : Rec
+  pub fit : IsRec told
+  pub read : slice_get recs place ≡ Some (rec_word told)
+  pub at : slice_get (events_of object task ls rs) (calls_before object ls n) ≡ Some (record { entry = record { task = task; call = calls_before object ls n }; words = call_words l; told = told })
+  pub number : number_of object ls (calls_before object ls n) ≡ n
+
+pub call_at : (object task : ℕ) (ls : List Line) (rs : List Rec) (recs : List ℕ) (first n place : ℕ) (l : Line) → slice_get ls n ≡ Some l → is_on object l ≡ true → HasRecords object ls recs first rs → place ≡ first + calls_before object ls n
+    → IsCallAt object task ls rs recs n place l
+call_at object task ls rs recs first n place l at passes has is =
+    let call = calls_before object ls n in
+    let on = filter_at (is_on object) ls n l at passes in
+    let within : call < length rs = omega (arith, slice_get_within (filter (is_on object) ls) call l on, length-filter (is_on object) ls, has.each) in
+    let r = at_place rs call within in
+    let m = mapped_at IsRec rec_word rs (map rec_word rs) call (rec_word r.0) has.fit refl (slice_get-map rec_word rs call ∙ rw r.1 refl) in
+    let same = same_Some r.0 m.0 (sym r.1 ∙ m.1) in
+    let w : slice_get (map call_words (filter (is_on object) ls)) call ≡ Some (call_words l) = slice_get-map call_words (filter (is_on object) ls) call ∙ rw on refl in
+    let word : slice_get (map rec_word rs) call ≡ Some (rec_word r.0) = slice_get-map rec_word rs call ∙ rw r.1 refl in
+    let there : length has.others + call ≡ place = omega (arith, has.starts, is) in
+    let here = event_at task 0 (map call_words (filter (is_on object) ls)) rs call (call_words l) r.0 w r.1 in record {
+      told = r.0;
+      fit = subst IsRec (sym same) m.2;
+      read = ap (λ ws. slice_get ws place) has.words ∙ ap (slice_get (has.others ++ (map rec_word rs ++ has.more))) (sym there) ∙ behind_list has.others (map rec_word rs ++ has.more) call ∙ in_first (map rec_word rs) has.more call (rec_word r.0) word;
+      at = here ∙ ap (λ k. Some (record { entry = record { task = task; call = k }; words = call_words l; told = r.0 })) (zero-add call);
+      number = number_at object ls n l at passes;
+    }
 
 -- behind the number of areas stand their words
 pub areas_of : (areas : List Area) (rest state words : List ℕ) (count n : ℕ) → state ≡ length areas ∷ (map area_word areas ++ rest) → state ≡ count ∷ words → n ≡ min (length words) count

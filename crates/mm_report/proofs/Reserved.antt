@@ -33,13 +33,8 @@ more_room s i is_space made all w kind is so =
     append_assoc made (w ∷ []) (empty_from s (i + 1) (drop (i + 1) s.objects)) ∙ ap (λ v. made ++ v ∷ empty_from s (i + 1) (drop (i + 1) s.objects)) (is ∙ ap (λ b. no_words (calls_on s i) (calls_on s i) (words_of_kind b)) (sym d.2))
     ∙ (rw (drop_at s.objects i d.0 d.1) at so)
 
--- what was mapped at a place is what stands there, mapped
-pub mapped_same : {X Y : Type 0} (f : X → Y) (xs : List X) (i : ℕ) (x : X) (y : Y) → slice_get xs i ≡ Some x → slice_get (map f xs) i ≡ Some y → y ≡ f x
-mapped_same f [] i x y at is = cc
-mapped_same f (z ∷ xs) zero x y at is = sym (same_Some (f z) y is) ∙ ap f (same_Some z x at)
-mapped_same f (z ∷ xs) (suc i) x y at is = mapped_same f xs i x y at is
-
--- the lines of task 0 are the first of all
-pub first_lines : (tasks : List (List Line)) (ls : List Line) → slice_get tasks 0 ≡ Some ls → ls ≡ task_lines tasks 0
-first_lines [] ls at = cc
-first_lines (ms ∷ more) ls at = sym (same_Some ms ls at)
+-- the lines of a task are those at its place
+pub lines_at : (tasks : List (List Line)) (task : ℕ) (ls : List Line) → slice_get tasks task ≡ Some ls → task_lines tasks task ≡ ls
+lines_at [] task ls at = cc
+lines_at (ms ∷ more) zero ls at = same_Some ms ls at
+lines_at (ms ∷ more) (suc task) ls at = lines_at more task ls at

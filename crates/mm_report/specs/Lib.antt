@@ -1,3 +1,5 @@
 pub mod Results
 pub mod Text
 pub mod Lending
+pub mod Merged
+pub mod Cursors

@@ -1,11 +1,12 @@
 -- The results of a script: what each of its objects leaves.
 use Rattle.std.specs.Prelude.{◌≡◌, ℕ, ◌+◌, Bool, true, false, List, [], ◌∷◌, length, sum_by, count_by}
 use Rattle.word_bits.specs.declared.entry.Entry.{Entry}
-use Rattle.word_bits.specs.LockWords.{counted}
+use Rattle.word_bits.specs.LockWords.{counted, owned}
 use Rattle.word_bits.specs.Snapshots.{Words, no_words}
 use Rattle.word_bits.specs.Histories.{Plan, Records}
 use Rattle.word_bits.specs.Legal.{IsLegal, Tells}
 use Rattle.vma_map.specs.Spaces.{space}
+use Rattle.fd_table.specs.Tables.{table}
 use Rattle.task_script.specs.Scripts.{Declared, Listing, plan_of, is_on}
 
 -- how many words store the state of an object
@@ -31,10 +32,10 @@ pub record Told : Type 0 where
   pub records : Records
   pub log : List Entry
 
--- A space stands under a count. No table can be declared yet.
+-- A space stands under a count, a table under an owner word.
 abbrev pub IsLegalOn : (is_space : Bool) → Plan → Told → List ℕ → Type 0
 IsLegalOn true plan t state = IsLegal space counted plan t.records t.log state
-IsLegalOn false plan t state = ⊥
+IsLegalOn false plan t state = IsLegal table owned plan t.records t.log state
 
 -- the words of each object tell a legal history of the script's calls on it
 abbrev pub AreLegalFrom : Listing → ℕ → List Declared → List Words → List Told → Type 0

@@ -6,6 +6,7 @@ ghost use Rattle.mm_report.specs.Results.{empty_results, calls_on, words_of_kind
 ghost use Rattle.std.specs.Borrow.{sem};
 ghost use Rattle.mm_report.specs.Lending.{LendsSnapshot};
 
+use fd_table::Fds;
 use std::alloc::{AllocError, Global};
 use std::marker::Model;
 use task_script::{Line, Script};
@@ -27,19 +28,16 @@ impl Model for Results {
     ghost view = { λ r. r.snapshots.items };
 }
 
-fn count_on(lines: &[Line], object: u32) -> usize
+pub(crate) fn count_on(lines: &[Line], object: u32) -> usize
     ensures { result ≡ count_by (is_on object) lines.now }
 {
     lines.iter().filter(|line| line.object == object).count()
 }
 
-/// The words of a table's state: one for each descriptor.
-const TABLE_WORDS: usize = 64;
-
-fn state_words(is_space: bool) -> usize
+pub(crate) fn state_words(is_space: bool) -> usize
     ensures { result ≡ words_of_kind is_space }
 {
-    if is_space { Areas::WORDS } else { TABLE_WORDS }
+    if is_space { Areas::WORDS } else { Fds::WORDS }
 }
 
 // How many calls of the script are on the object. More than a `usize` counts can't be reserved.

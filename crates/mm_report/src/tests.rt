@@ -1,14 +1,26 @@
-ghost use Rattle.std.specs.Prelude.{◌≡◌, ◌+◌, ◌≤◌, ◌++◌, [], length, IfOk};
-ghost use Rattle.mm_report.specs.Results.{AreComplete};
+ghost use Rattle.std.specs.Prelude.{◌≡◌, ◌+◌, ◌<◌, ◌≤◌, ◌++◌, [], length, slice_get, Bool, Some};
+ghost use Rattle.std.specs.Prelude.{IfOk, OnOk};
+ghost use Rattle.word_bits.specs.Snapshots.{no_words};
+ghost use Rattle.task_script.specs.Scripts.{kinds_of};
+ghost use Rattle.mm_report.specs.Results.{AreComplete, calls_on, words_of_kind};
 
 use super::*;
 use crate::line::add_event;
-use crate::results::calls_of;
+use crate::results::{calls_of, state_words};
+use crate::state::write_table;
 use std::alloc::{AllocError, Global};
 use std::process::Abort;
 use std::test::Fail;
 use task_script::{Failed, MemSink, Outbox, Script, read};
 use word_bits::{CallWords, Errno, Reply, Snapshot};
+
+/// What one object leaves: the words of its records and of its log, and the front of its state's.
+#[derive(Clone, Copy)]
+struct Left<'a> {
+    recs: &'a [u64],
+    log: &'a [u64],
+    state: &'a [u64],
+}
 
 fn push_recs(snapshot: &mut Snapshot, recs: &[u64])
     requires { length snapshot.old.recs + length recs.now ≤ snapshot.old.recs_room }
@@ -19,75 +31,237 @@ fn push_recs(snapshot: &mut Snapshot, recs: &[u64])
     }
 }
 
-/// The state's first words. The others stay 0.
-fn push_state(snapshot: &mut Snapshot, front: &[u64])
-    requires room { 257 ≤ snapshot.old.state_room }
+fn push_log(snapshot: &mut Snapshot, log: &[u64])
+    requires { length snapshot.old.log + length log.now ≤ snapshot.old.log_room }
+    ensures { snapshot.new ≡ record snapshot.old { log = snapshot.old.log ++ log.now } }
+{
+    for word in log {
+        snapshot.push_log(*word);
+    }
+}
+
+/// So many words of the state, which begins with these. The others are 0.
+fn push_state(snapshot: &mut Snapshot, front: &[u64], words: usize)
+    requires room { words ≤ snapshot.old.state_room }
     requires empty { snapshot.old.state ≡ [] }
     ensures { snapshot.new.recs ≡ snapshot.old.recs }
 {
-    for place in 0..257 {
+    for place in 0..words {
         snapshot.push_state(front.get(place).copied().unwrap_or(0));
     }
 }
 
-/// The results of a script of one space, with these records, an empty log, and a state that begins
-/// with these words.
+fn fill(
+    rt: &impl Abort,
+    script: &Script,
+    object: u32,
+    left: &Left<'_>,
+    snapshot: &mut Snapshot,
+) -> Result<(), AllocError>
+    requires object { object < length script.now.objects }
+    requires fresh { (is_space : Bool) → slice_get (kinds_of script.now) object ≡ Some is_space →
+        snapshot.old ≡ no_words (calls_on script.now object) (calls_on script.now object)
+        (words_of_kind is_space) }
+    ensures { OnOk result (length snapshot.new.recs ≡ calls_on script.now object) }
+{
+    let state = state_words(script.is_space(object as usize));
+    let calls = calls_of(script, object)?;
+    assert!(rt; left.recs.len() == calls);
+    assert!(rt; left.log.len() <= calls);
+    push_recs(snapshot, left.recs);
+    push_log(snapshot, left.log);
+    push_state(snapshot, left.state, state);
+    Ok(())
+}
+
+/// The results of a script whose objects leave this.
 fn filled(
     rt: &impl Abort,
     alloc: Global,
     script: &Script,
-    recs: &[u64],
-    state: &[u64],
+    left: &[Left<'_>],
 ) -> Result<Results, AllocError>
     ensures { IfOk result (λ r. AreComplete script.now r) }
 {
-    assert!(rt; script.objects() == 1);
-    assert!(rt; script.is_space(0));
-    let calls = calls_of(script, 0)?;
-    assert!(rt; recs.len() == calls);
+    assert!(rt; script.objects() == left.len());
     let mut results = Results::new(alloc, script)?;
-    let snapshot = results.snapshot_mut(0);
-    push_recs(snapshot, recs);
-    push_state(snapshot, state);
+    for object in 0..script.objects() {
+        let snapshot = results.snapshot_mut(object);
+        fill(rt, script, object as u32, &left[object], snapshot)?;
+    }
     Ok(results)
 }
 
-// Records and areas are packed here by hand: a record has its reply's kind from bit 18 on and its
-// value from bit 22 on, an area its end from bit 3 on and its start from bit 24 on.
+// Words are packed here by hand. A record has its reply's kind from bit 18 on and its value from bit
+// 22 on, an entry its task from bit 18 on, and an area its end from bit 3 on and its start from bit
+// 24 on.
 #[test]
-fn reports_a_space(rt: HostRuntime) -> Result<(), Fail> {
+fn reports_spaces(rt: HostRuntime) -> Result<(), Fail> {
     let alloc = rt.alloc();
-    for (text, recs, state, expected) in [
+    for (text, left, expected) in [
+        (b"".as_slice(), [].as_slice(), b"".as_slice()),
         (
-            b"space a\n".as_slice(),
-            [].as_slice(),
-            [0].as_slice(),
-            b"space a\nleft 0\n".as_slice(),
+            b"space a\n",
+            &[Left {
+                recs: &[],
+                log: &[],
+                state: &[0],
+            }],
+            b"space a\nleft 0\n",
         ),
         (
-            b"space a\ntask\na fault 5 r\n",
-            &[4 << 18],
-            &[0],
-            b"space a\n0.0 fault 5 r = maperr\nleft 0\n",
-        ),
-        (
-            b"space b_2\ntask\nb_2 fault 16 r\nb_2 fault 4294967295 w\nb_2 fault 0 x\n",
-            &[1 << 18, 5 << 18, 6 << 18 | 9 << 22],
-            &[2, 5 | 20 << 3 | 16 << 24, 2 | 1_048_576 << 3 | 20 << 24],
-            b"space b_2\n\
+            b"space a\nspace b_2\ntask\n\
+              b_2 fault 16 r\na fault 5 r\nb_2 fault 4294967295 w\nb_2 fault 0 x\n",
+            &[
+                Left {
+                    recs: &[4 << 18],
+                    log: &[],
+                    state: &[0],
+                },
+                Left {
+                    recs: &[1 << 18, 5 << 18, 6 << 18 | 9 << 22],
+                    log: &[],
+                    state: &[2, 5 | 20 << 3 | 16 << 24, 2 | 1_048_576 << 3 | 20 << 24],
+                },
+            ],
+            b"space a\n\
+              0.1 fault 5 r = maperr\n\
+              left 0\n\
+              space b_2\n\
               0.0 fault 16 r = ok\n\
-              0.1 fault 4294967295 w = accerr\n\
-              0.2 fault 0 x = busy 9\n\
+              0.2 fault 4294967295 w = accerr\n\
+              0.3 fault 0 x = busy 9\n\
               left 2\n\
               16-20 r-x\n\
               20-1048576 -w-\n",
         ),
     ] {
         let script = read(alloc, text)?;
-        let mut results = filled(&rt, alloc, &script, recs, state)?;
+        let mut results = filled(&rt, alloc, &script, left)?;
         let mut sink = MemSink::new(alloc, 1000, 7, &[])?;
         assert_eq!(rt; report(&script, &mut results, false, &mut sink), Ok(()));
         assert_eq!(rt; sink.written(), expected, "of {text:?}");
+    }
+    Ok(())
+}
+
+// Three tasks, of which two map: calls that read, a try that found the lock held, a signal and a call
+// that it interrupted, before and behind the logged ones.
+#[test]
+fn reports_tasks_in_the_order_of_the_log(rt: HostRuntime) -> Result<(), Fail> {
+    let alloc = rt.alloc();
+    let script = read(
+        alloc,
+        b"space a\n\
+          task\na map 0 2 rw-\na fault 0 r\na unmap 0 1\nint a fault 1 r\n\
+          task\na fault 0 w\na map 4 1 r--\na fault 0 r\n\
+          task\na fault 4 r\ntry a fault 0 r\na fault 1 w\na signal 0\n",
+    )?;
+    let left = [Left {
+        recs: &[
+            2 << 18,
+            1 | 1 << 18,
+            2 | 1 << 18,
+            3 | 7 << 18,
+            4 << 18,
+            1 | 2 << 18 | 4 << 22,
+            3 | 4 << 18,
+            4 << 18,
+            6 << 18 | 9 << 22,
+            1 | 1 << 18,
+            1 | 8 << 18,
+        ],
+        log: &[0, 1 | 1 << 18, 2],
+        state: &[2, 3 | 2 << 3 | 1 << 24, 1 | 5 << 3 | 4 << 24],
+    }];
+    let mut results = filled(&rt, alloc, &script, &left)?;
+    let mut sink = MemSink::new(alloc, 1000, 7, &[])?;
+    assert_eq!(rt; report(&script, &mut results, false, &mut sink), Ok(()));
+    let expected = b"space a\n\
+        1.0 fault 0 w = maperr\n\
+        2.0 fault 4 r = maperr\n\
+        2.1 try fault 0 r = busy 9\n\
+        0.0 map 0 2 rw- = 0\n\
+        0.1 fault 0 r = ok\n\
+        2.2 fault 1 w = ok\n\
+        2.3 signal 0 = sent\n\
+        1.1 map 4 1 r-- = 4\n\
+        0.2 unmap 0 1 = ok\n\
+        0.3 int fault 1 r = EINTR\n\
+        1.2 fault 0 r = maperr\n\
+        left 2\n\
+        1-2 rw-\n\
+        4-5 r--\n";
+    assert_eq!(rt; sink.written(), expected.as_slice());
+    Ok(())
+}
+
+// Two tasks on a table, beside a space: a call that reads between logged ones, a logged one that was
+// refused, and a try that found the lock held.
+#[test]
+fn reports_a_table_beside_a_space(rt: HostRuntime) -> Result<(), Fail> {
+    let alloc = rt.alloc();
+    let script = read(
+        alloc,
+        b"space a\ntable f\n\
+          task\nf open 7\na fault 3 x\nf get 0\n\
+          task\nf dup 0\nf close 0\nint f close 9\ntry f get 1\n",
+    )?;
+    let left = [
+        Left {
+            recs: &[4 << 18],
+            log: &[],
+            state: &[0],
+        },
+        Left {
+            recs: &[
+                2 << 18,
+                3 | 3 << 18 | 9 << 22,
+                1 | 2 << 18 | 1 << 22,
+                2 | 1 << 18,
+                3 | 3 << 18 | 9 << 22,
+                4 | 6 << 18 | 8 << 22,
+            ],
+            log: &[0, 1 << 18, 1 | 1 << 18, 2 | 1 << 18],
+            state: &[0, 8],
+        },
+    ];
+    let mut results = filled(&rt, alloc, &script, &left)?;
+    let mut sink = MemSink::new(alloc, 1000, 7, &[])?;
+    assert_eq!(rt; report(&script, &mut results, false, &mut sink), Ok(()));
+    let expected = b"space a\n\
+        0.1 fault 3 x = maperr\n\
+        left 0\n\
+        table f\n\
+        0.0 open 7 = 0\n\
+        1.0 dup 0 = 1\n\
+        1.1 close 0 = ok\n\
+        0.2 get 0 = EBADF\n\
+        1.2 int close 9 = EBADF\n\
+        1.3 try get 1 = busy 8\n\
+        left 1\n\
+        1 7\n";
+    assert_eq!(rt; sink.written(), expected.as_slice());
+    Ok(())
+}
+
+// A descriptor has the word 0 where it is free, and else its file's number plus 1.
+#[test]
+fn writes_what_a_table_is_left_with(rt: HostRuntime) -> Result<(), Fail> {
+    let alloc = rt.alloc();
+    let mut state = [0; 64];
+    state[0] = 8;
+    state[2] = 1;
+    state[63] = 65_536;
+    for (state, expected) in [
+        (&state, b"left 3\n0 7\n2 0\n63 65535\n".as_slice()),
+        (&[0; 64], b"left 0\n"),
+    ] {
+        let mut out = Outbox::new();
+        let mut sink = MemSink::new(alloc, 1000, 1000, &[])?;
+        write_table(state, &mut out, &mut sink)?;
+        out.flush(&mut sink)?;
+        assert_eq!(rt; sink.written(), expected);
     }
     Ok(())
 }
@@ -96,7 +270,12 @@ fn reports_a_space(rt: HostRuntime) -> Result<(), Fail> {
 fn writes_what_the_sink_takes(rt: HostRuntime) -> Result<(), Fail> {
     let alloc = rt.alloc();
     let script = read(alloc, b"space a\n")?;
-    let mut results = filled(&rt, alloc, &script, &[], &[0])?;
+    let left = [Left {
+        recs: &[],
+        log: &[],
+        state: &[0],
+    }];
+    let mut results = filled(&rt, alloc, &script, &left)?;
 
     let mut narrow = MemSink::new(alloc, 10, 7, &[])?;
     assert_eq!(rt;

@@ -1,16 +1,21 @@
 -- Why a script has few calls.
-use Rattle.std.proofs.Common.{◌≡◌, ℕ, ◌+◌, ◌-◌, ◌*◌, ◌<◌, ◌≤◌, Bool, true, false, cond, ◌&&◌, ◌==◌, List, [], ◌∷◌, ◌++◌, length, length-append, sum_by, refl, ap, ◌∙◌, arith, codes, Option, Some, None, Ok, Err, nat_lt}
-use Rattle.std.proofs.lemmas.List.Sums.{sum_by-cons}
-use Rattle.std.specs.List.{slice_split, onto_first}
-use Rattle.std.specs.Str.{bytes_eq}
-use Rattle.std.proofs.lemmas.Slice.Eq.{bytes_eq-Decides}
-use Rattle.word_bits.specs.declared.call.CallWords.{CallWords}
+use Rattle.std.proofs.Common.{◌≡◌, ℕ, ◌+◌, ◌*◌, ◌<◌, ◌≤◌, Bool, true, false, cond, not, ◌==◌, List, [], ◌∷◌, ◌++◌, filter, length, length-append, sum_by, refl, arith, Option, Some, None, Result, Ok, Err, is_some, nat_le, ok_or}
+use Rattle.std.proofs.lemmas.List.Sums.{sum_by-cons, sum_by-append, prefix_len-le-length}
+use Rattle.std.proofs.lemmas.List.Folds.{length-prefix_len}
+use Rattle.std.specs.List.{AllByRecursion, slice_split, onto_first, list_all}
+use Rattle.word_bits.specs.declared.call.Mode.{Mode}
+use Rattle.word_bits.specs.declared.call.Mode.TheVariants.{Plain, Int, Try}
 use Rattle.task_script.specs.declared.script.Line.{Line}
-use Rattle.task_script.specs.declared.reader.Reason.TheVariants.{TooLong}
-use Rattle.task_script.specs.Cuts.{lines, words}
-use Rattle.task_script.specs.Tokens.{is_name, number, prot}
-use Rattle.task_script.specs.Scripts.{Declared, Listing, nothing, count_of_calls}
-use Rattle.task_script.specs.Grammar.{place_of, with_call, fault_call, map_words, map_call, plain_call, with_words, space_line, task_line, call_line, line_after, lines_after, then_lines, refused_at, script_of, is_empty}
+use Rattle.task_script.specs.declared.reason.Reason.{Reason}
+use Rattle.task_script.specs.declared.reason.Reason.TheVariants.{Byte, Place, Name, Twice, Limit, Unknown}
+use Rattle.task_script.specs.declared.token.Keyword.{Keyword}
+use Rattle.task_script.specs.declared.token.Keyword.TheVariants.{Version as KVersion, Space as KSpace, Table as KTable, Task as KTask, Int as KInt, Try as KTry}
+use Rattle.task_script.specs.Cuts.{is_blank, is_empty, is_plain, lines, without_return, words}
+use Rattle.task_script.specs.Tokens.{is_name, keyword_of}
+use Rattle.task_script.specs.Verbs.{call_on}
+use Rattle.task_script.specs.Scripts.{Listing, nothing, count_of_calls}
+use Rattle.task_script.specs.Grammar.{place_of, with_call, line_of, is_space_at, declare_line, task_line, object_line, call_line, line_of_words, line_after, said, text_after, then_lines, lines_after}
+use Rattle.task_script.proofs.Accepted.{and_then_ok, unless_refused, accepted_call}
 
 -- the bytes of parts, each with the one that closes it
 abbrev closed_size : List (List ℕ) → ℕ
@@ -31,124 +36,115 @@ closed_size-slice_split p (b ∷ bs) = go (p b) (closed_size-slice_split p bs)
     go true rest = omega arith
     go false rest = let grown = closed_size-onto_first b (slice_split p bs) (omega arith) in omega arith
 
--- a call that is added adds one to the count
-count-with_call : (objects : List Declared) (tasks : List (List Line)) (line : Line) (t : Listing) → with_call (record { objects = objects; tasks = tasks }) line ≡ Some t → count_of_calls t ≡ sum_by length tasks + 1
-count-with_call objects [] line t is = cc
-count-with_call objects (calls ∷ more) line t is =
-    let same : (calls ++ line ∷ []) ∷ more ≡ t.tasks = cc in
-    rw (← same) (sum_by-cons length (calls ++ line ∷ []) more ∙ omega (arith, sum_by-cons length calls more, length-append calls (line ∷ [])))
+-- words are parts, and none is empty
+kept_size : (parts : List (List ℕ)) → closed_size (filter (λ w. not (is_empty w)) parts) ≤ closed_size parts
+kept_size [] = omega arith
+kept_size ([] ∷ parts) = let rest = kept_size parts in omega arith
+kept_size ((b ∷ bs) ∷ parts) = let rest = kept_size parts in omega arith
 
--- so where a call's words have 8 bytes, its line adds no more calls than they allow
-calls_of_words : (s t : Listing) (object : Option ℕ) (call : Option CallWords) (size : ℕ) → ((w : CallWords) → call ≡ Some w → 8 ≤ size) → with_words s object call ≡ Some t
-    → 8 * count_of_calls t ≤ 8 * count_of_calls s + size
-calls_of_words s t (Some object) (Some w) size enough is =
-    let count = count-with_call s.objects s.tasks _ t is in
-    let large = enough w refl in
-    omega arith
-calls_of_words s t None call size enough is = cc
-calls_of_words s t (Some object) None size enough is = cc
+kept_full : (parts : List (List ℕ)) → AllByRecursion (λ w. 1 ≤ length w) (filter (λ w. not (is_empty w)) parts)
+kept_full [] = tt
+kept_full ([] ∷ parts) = kept_full parts
+kept_full ((b ∷ bs) ∷ parts) = (omega arith, kept_full parts)
 
--- a protection has three bytes
-length-prot : (word : List ℕ) (bits : ℕ) → prot word ≡ Some bits → length word ≡ 3
-length-prot [] bits is = cc
-length-prot (r ∷ []) bits is = cc
-length-prot (r ∷ w ∷ []) bits is = cc
-length-prot (r ∷ w ∷ x ∷ []) bits is = refl
-length-prot (r ∷ w ∷ x ∷ more ∷ others) bits is = cc
+full_size : (ws : List (List ℕ)) → AllByRecursion (λ w. 1 ≤ length w) ws → 2 * length ws ≤ closed_size ws
+full_size [] full = omega arith
+full_size (w ∷ ws) full = let rest = full_size ws full.1 in let here = full.0 in omega arith
 
--- what stands behind fault has two bytes, with one behind each word
-size-fault_call : (ws : List (List ℕ)) (w : CallWords) → fault_call ws ≡ Some w → 2 ≤ closed_size ws
-size-fault_call [] w is = cc
-size-fault_call (page ∷ []) w is = cc
-size-fault_call (page ∷ bits ∷ ws) w is = omega arith
-
--- and what stands behind map has more
-size-map_call : (ws : List (List ℕ)) (w : CallWords) → map_call ws ≡ Some w → 6 ≤ closed_size ws
-size-map_call [] w is = cc
-size-map_call (start ∷ []) w is = cc
-size-map_call (start ∷ len ∷ []) w is = cc
-size-map_call (start ∷ len ∷ bits ∷ []) w is = go (number start) (number len) (prot bits) (length-prot bits) is
+-- what a line says has no more bytes
+length-without_return : (line : List ℕ) → length (without_return line) ≤ length line
+length-without_return [] = omega arith
+length-without_return (b ∷ []) = go (b == 13)
   where
-    go : (s l p : Option ℕ) → ((n : ℕ) → p ≡ Some n → length bits ≡ 3) → map_words s l p ≡ Some w → 6 ≤ closed_size (start ∷ len ∷ bits ∷ [])
-    go (Some s) (Some l) (Some p) three is = let size = three p refl in omega arith
-    go None l p three is = cc
-    go (Some s) None p three is = cc
-    go (Some s) (Some l) None three is = cc
-size-map_call (start ∷ len ∷ bits ∷ word ∷ more) w is = cc
+    go : (t : Bool) → length (cond t [] (b ∷ [])) ≤ 1
+    go true = omega arith
+    go false = omega arith
+length-without_return (b ∷ c ∷ bs) = let rest = length-without_return (c ∷ bs) in omega arith
 
--- the words of a call have no fewer than 8 bytes, with one behind each
-size-plain_call : (verb : List ℕ) (ws : List (List ℕ)) (w : CallWords) → plain_call verb ws ≡ Some w → 8 ≤ closed_size (verb ∷ ws)
-size-plain_call verb ws w is = go (bytes_eq verb (codes "fault")) (bytes_eq verb (codes "map")) refl refl is
+length-said : (line : List ℕ) → length (said line) ≤ length line
+length-said line =
+    let cut = length-prefix_len (λ b. not (b == 35)) (without_return line) in
+    omega (arith, prefix_len-le-length (λ b. not (b == 35)) (without_return line), length-without_return line)
+
+-- a call that is added adds at most one to the count
+count-with_call : (tasks : List (List Line)) (l : Line) → sum_by length (with_call tasks l) ≤ sum_by length tasks + 1
+count-with_call [] l = omega arith
+count-with_call (calls ∷ []) l = omega (arith, sum_by-cons length (calls ++ l ∷ []) [], sum_by-cons length calls [], length-append calls (l ∷ []))
+count-with_call (calls ∷ more ∷ others) l =
+    omega (arith, sum_by-cons length calls (with_call (more ∷ others) l), sum_by-cons length calls (more ∷ others), count-with_call (more ∷ others) l)
+
+-- a line has at most as many calls as an eighth of its bytes
+abbrev IsWithin : Listing → Listing → List (List ℕ) → Type 0
+IsWithin s t ws = 8 * count_of_calls t ≤ 8 * count_of_calls s + closed_size ws
+
+few-declare : (is_space : Bool) (s t : Listing) (ws : List (List ℕ)) → declare_line is_space s ws ≡ Ok t → count_of_calls t ≡ count_of_calls s
+few-declare is_space s t [] is = cc
+few-declare is_space s t (name ∷ []) is =
+    let place = unless_refused (not (is_empty s.tasks)) Place _ t is in
+    let named = unless_refused (not (is_name name)) Name _ t place.1 in
+    let twice = unless_refused (is_some (place_of name s.objects)) Twice _ t named.1 in
+    let limit = unless_refused (nat_le 16 (length s.objects)) Limit _ t twice.1 in
+    let same : record { objects = s.objects ++ record { name = name; is_space = is_space } ∷ []; tasks = s.tasks } ≡ t = cc (limit.1) in
+    rw (← same) refl
+few-declare is_space s t (name ∷ word ∷ more) is = cc
+
+few-task : (s t : Listing) (ws : List (List ℕ)) → task_line s ws ≡ Ok t → count_of_calls t ≡ count_of_calls s
+few-task s t [] is =
+    let limit = unless_refused (nat_le 64 (length s.tasks)) Limit _ t is in
+    let same : record { objects = s.objects; tasks = s.tasks ++ [] ∷ [] } ≡ t = cc (limit.1) in
+    rw (← same) (omega (arith, sum_by-append length s.tasks ([] ∷ []), sum_by-cons {X = List Line} length [] []))
+few-task s t (word ∷ ws) is = cc
+
+few-object : (mode : Mode) (s t : Listing) (object : ℕ) (name : List ℕ) (ws : List (List ℕ)) → AllByRecursion (λ w. 1 ≤ length w) (name ∷ ws) → object_line mode s object ws ≡ Ok t → IsWithin s t (name ∷ ws)
+few-object mode s t object name [] full is = cc
+few-object mode s t object name (verb ∷ ws) full is =
+    let read = and_then_ok (call_on (is_space_at s.objects object) mode verb ws) (λ w. Ok (record { objects = s.objects; tasks = with_call s.tasks (line_of object w) })) t is in
+    let call = accepted_call (is_space_at s.objects object) mode verb ws read.0 read.1 in
+    let same : record { objects = s.objects; tasks = with_call s.tasks (line_of object read.0) } ≡ t = cc (read.2) in
+    let here = full.0 in
+    let letters = call.verb in
+    let some = call.arguments in
+    rw (← same) (omega (arith, count-with_call s.tasks (line_of object read.0), full_size ws full.1.1))
+
+few-call : (mode : Mode) (s t : Listing) (ws : List (List ℕ)) → AllByRecursion (λ w. 1 ≤ length w) ws → call_line mode s ws ≡ Ok t → IsWithin s t ws
+few-call mode s t [] full is = cc
+few-call mode s t (name ∷ ws) full is =
+    let place = unless_refused (is_empty s.tasks) Place _ t is in
+    let named = unless_refused (not (is_name name)) Name _ t place.1 in
+    let read = and_then_ok (ok_or (place_of name s.objects) Unknown) (λ object. object_line mode s object ws) t named.1 in
+    few-object mode s t read.0 name ws full read.2
+
+few-words : (keyword : Option Keyword) (s t : Listing) (word : List ℕ) (ws : List (List ℕ)) → AllByRecursion (λ w. 1 ≤ length w) (word ∷ ws) → line_of_words keyword s word ws ≡ Ok t → IsWithin s t (word ∷ ws)
+few-words (Some KVersion) s t word ws full is = cc
+few-words (Some KSpace) s t word ws full is = let same = few-declare true s t ws is in omega arith
+few-words (Some KTable) s t word ws full is = let same = few-declare false s t ws is in omega arith
+few-words (Some KTask) s t word ws full is = let same = few-task s t ws is in omega arith
+few-words (Some KInt) s t word ws full is = let few = few-call Int s t ws full.1 is in omega arith
+few-words (Some KTry) s t word ws full is = let few = few-call Try s t ws full.1 is in omega arith
+few-words None s t word ws full is = few-call Plain s t (word ∷ ws) full is
+
+few-line : (s t : Listing) (ws : List (List ℕ)) → AllByRecursion (λ w. 1 ≤ length w) ws → line_after s ws ≡ Ok t → IsWithin s t ws
+few-line s t [] full is = let same : s ≡ t = cc in rw same (omega arith)
+few-line s t (word ∷ ws) full is = few-words (keyword_of word) s t word ws full is
+
+few-text : (s t : Listing) (line : List ℕ) → text_after s line ≡ Ok t → 8 * count_of_calls t ≤ 8 * count_of_calls s + (length line + 1)
+few-text s t line is = go (list_all is_plain (said line)) is
   where
-    named : (name : List ℕ) → bytes_eq verb name ≡ true → length verb ≡ length name
-    named name same = ap length ((bytes_eq-Decides verb name).0 same)
-
-    go : (a b : Bool) → bytes_eq verb (codes "fault") ≡ a → bytes_eq verb (codes "map") ≡ b → cond a (fault_call ws) (cond b (map_call ws) None) ≡ Some w → 8 ≤ closed_size (verb ∷ ws)
-    go true b fault map is = let size = size-fault_call ws w is in omega (arith, named (codes "fault") fault)
-    go false true fault map is = let size = size-map_call ws w is in omega (arith, named (codes "map") map)
-    go false false fault map is = cc
-
--- so a call's line adds no more calls than its bytes allow
-calls_of_call : (s t : Listing) (name : List ℕ) (ws : List (List ℕ)) → call_line s name ws ≡ Some t → 8 * count_of_calls t ≤ 8 * count_of_calls s + closed_size ws
-calls_of_call s t name [] is = cc
-calls_of_call s t name (verb ∷ ws) is = calls_of_words s t (place_of name s.objects) (plain_call verb ws) (closed_size (verb ∷ ws)) (size-plain_call verb ws) is
-
--- a script that ends in the line of a space has no calls
-calls_of_space : (s t : Listing) (ws : List (List ℕ)) → space_line s ws ≡ Some t → count_of_calls t ≡ 0
-calls_of_space s t [] is = cc
-calls_of_space s t (name ∷ []) is = go ((is_empty s.objects && is_empty s.tasks) && is_name name) is
-  where
-    go : (b : Bool) → cond b (Some (record { objects = record { name = name; is_space = true } ∷ []; tasks = [] })) None ≡ Some t → count_of_calls t ≡ 0
-    go true is = let none : [] ≡ t.tasks = cc in rw (← none) refl
+    go : (b : Bool) → cond b (line_after s (words (said line))) (Err Byte) ≡ Ok t → 8 * count_of_calls t ≤ 8 * count_of_calls s + (length line + 1)
+    go true is =
+        let few = few-line s t (words (said line)) (kept_full (slice_split is_blank (said line))) is in
+        omega (arith, kept_size (slice_split is_blank (said line)), closed_size-slice_split is_blank (said line), length-said line)
     go false is = cc
-calls_of_space s t (name ∷ word ∷ more) is = cc
 
--- nor has one that ends in the line of a task
-calls_of_task : (s t : Listing) (ws : List (List ℕ)) → task_line s ws ≡ Some t → count_of_calls t ≡ 0
-calls_of_task s t [] is = go (is_empty s.tasks) is
+few-lines : (n : ℕ) (s t : Listing) (ls : List (List ℕ)) → lines_after n s ls ≡ Ok t → 8 * count_of_calls t ≤ 8 * count_of_calls s + closed_size ls
+few-lines n s t [] is = let same : s ≡ t = cc in rw same (omega arith)
+few-lines n s t (l ∷ ls) is = go (text_after s l) refl is (λ u more. few-lines (n + 1) u t ls more)
   where
-    go : (b : Bool) → cond b (Some (record { objects = s.objects; tasks = [] ∷ [] })) None ≡ Some t → count_of_calls t ≡ 0
-    go true is = let one : [] ∷ [] ≡ t.tasks = cc in rw (← one) refl
-    go false is = cc
-calls_of_task s t (word ∷ more) is = cc
+    go : (next : Result Listing Reason) → text_after s l ≡ next → then_lines n next (λ u. lines_after (n + 1) u ls) ≡ Ok t → ((u : Listing) → lines_after (n + 1) u ls ≡ Ok t → 8 * count_of_calls t ≤ 8 * count_of_calls u + closed_size ls)
+        → 8 * count_of_calls t ≤ 8 * count_of_calls s + closed_size (l ∷ ls)
+    go (Ok u) one is rest = let few = few-text s u l one in let more = rest u is in omega arith
+    go (Err reason) one is rest = cc
 
--- a line adds no more calls than its bytes allow
-calls_of_line : (s t : Listing) (ws : List (List ℕ)) → line_after s ws ≡ Some t → 8 * count_of_calls t ≤ 8 * count_of_calls s + closed_size ws
-calls_of_line s t [] is = cc
-calls_of_line s t (word ∷ ws) is = go (bytes_eq word (codes "space")) (bytes_eq word (codes "task")) is
-  where
-    go : (a b : Bool) → cond a (space_line s ws) (cond b (task_line s ws) (call_line s word ws)) ≡ Some t → 8 * count_of_calls t ≤ 8 * count_of_calls s + closed_size (word ∷ ws)
-    go true b is = let none = calls_of_space s t ws is in omega arith
-    go false true is = let none = calls_of_task s t ws is in omega arith
-    go false false is = let few = calls_of_call s t word ws is in omega arith
-
--- nor do lines, behind whose last one stands no line end
-calls_of_lines : (n : ℕ) (s t : Listing) (ls : List (List ℕ)) → lines_after n s ls ≡ Ok t → 8 * count_of_calls t ≤ 8 * count_of_calls s + (closed_size ls - 1)
-calls_of_lines n s t [] is = let same : s ≡ t = cc in rw same (omega arith)
-calls_of_lines n s t (last ∷ []) is = go (is_empty last) is
-  where
-    go : (b : Bool) → cond b (Ok s) (refused_at n) ≡ Ok t → 8 * count_of_calls t ≤ 8 * count_of_calls s + (closed_size (last ∷ []) - 1)
-    go true is = let same : s ≡ t = cc in rw same (omega arith)
-    go false is = cc
-calls_of_lines n s t (l ∷ m ∷ ls) is = go (line_after s (words l)) refl is (λ u. calls_of_lines (n + 1) u t (m ∷ ls))
-  where
-    go : (after : Option Listing) → line_after s (words l) ≡ after → then_lines n after (λ u. lines_after (n + 1) u (m ∷ ls)) ≡ Ok t
-        → ((u : Listing) → lines_after (n + 1) u (m ∷ ls) ≡ Ok t → 8 * count_of_calls t ≤ 8 * count_of_calls u + (closed_size (m ∷ ls) - 1))
-        → 8 * count_of_calls t ≤ 8 * count_of_calls s + (closed_size (l ∷ m ∷ ls) - 1)
-    go (Some u) one is rest =
-        let size = closed_size-slice_split (λ b. b == 32) l in
-        let first = calls_of_line s u (words l) one in
-        let others = rest u is in
-        omega arith
-    go None one is rest = cc
-
--- a script that is accepted has few calls
-pub few_calls : (text : List ℕ) (s : Listing) → script_of text ≡ Ok s → 8 * count_of_calls s ≤ length text
-few_calls text s is = go (nat_lt 1048576 (length text)) is
-  where
-    go : (long : Bool) → cond long (Err record { line = 0; reason = TooLong }) (lines_after 1 nothing (lines text)) ≡ Ok s → 8 * count_of_calls s ≤ length text
-    go true is = cc
-    go false is =
-        let few = calls_of_lines 1 nothing s (lines text) is in
-        let size = closed_size-slice_split (λ b. b == 10) text in
-        omega arith
+-- a script has a call for each 8 bytes at most
+pub few_calls : (text : List ℕ) (s : Listing) → lines_after 1 nothing (lines text) ≡ Ok s → 8 * count_of_calls s ≤ length text + 1
+few_calls text s is = omega (arith, few-lines 1 nothing s (lines text) is, closed_size-slice_split (λ b. b == 10) text)

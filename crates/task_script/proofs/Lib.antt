@@ -1,10 +1,15 @@
+mod CallTexts
 mod Cutting
+mod Decimals
 mod FewCalls
-mod Grammar
 mod Listings
+mod Accepted
 mod Names
 mod Numbers
 mod Reading
+mod ReadingBack
 mod Soundness
+mod Splitting
+mod Verbs
 pub mod Ways
 pub mod Pieces

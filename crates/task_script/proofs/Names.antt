@@ -1,10 +1,10 @@
 -- What a name is.
-use Rattle.std.proofs.Common.{◌≡◌, ℕ, ◌<◌, ◌≤◌, Bool, true, false, not, ◌&&◌, List, [], ◌∷◌, length, refl, arith, nat_le, get_or, zero, suc, lit<}
+use Rattle.std.proofs.Common.{◌≡◌, ℕ, ◌<◌, ◌≤◌, Bool, true, false, is_none, ◌&&◌, List, [], ◌∷◌, length, refl, arith, nat_le, get_or, zero, suc, lit<}
 use Rattle.std.specs.Str.{IsUtf8}
 use Rattle.std.proofs.lemmas.Bool.Decides.{nat_tests}
 use Rattle.std.specs.List.{list_all}
 use Rattle.std.proofs.lemmas.Str.{IsUtf8-from_ascii}
-use Rattle.task_script.specs.Tokens.{is_name, has_name_bytes, is_name_byte, is_lower, is_reserved}
+use Rattle.task_script.specs.Tokens.{is_name, has_name_bytes, is_name_byte, is_lower, keyword_of}
 
 -- both tests hold where their conjunction does
 both : (a b : Bool) → (a && b) ≡ true → (a ≡ true) × (b ≡ true)
@@ -25,7 +25,7 @@ ascii_bytes (b ∷ bs) (suc i) all = ascii_bytes bs i (both (is_name_byte b) (li
 pub name_is_text : (word : List ℕ) → is_name word ≡ true → IsUtf8 word
 name_is_text [] is = cc
 name_is_text (b ∷ bs) is =
-    let form = both (is_lower b && nat_le (length bs) 15) (list_all is_name_byte bs) (both (has_name_bytes (b ∷ bs)) (not (is_reserved (b ∷ bs))) is).0 in
+    let form = both (is_lower b && nat_le (length bs) 15) (list_all is_name_byte bs) (both (has_name_bytes (b ∷ bs)) (is_none (keyword_of (b ∷ bs))) is).0 in
     IsUtf8-from_ascii (b ∷ bs) (at (both (is_lower b) (nat_le (length bs) 15) form.0).0 form.1)
   where
     at : is_lower b ≡ true → list_all is_name_byte bs ≡ true → (i : ℕ) → get_or (b ∷ bs) i 0 < 128

@@ -1,5 +1,5 @@
 -- A text that is added behind what waits, piece by piece.
-use Rattle.std.proofs.Common.{◌≡◌, ℕ, ◌+◌, ◌≤◌, zero, suc, List, [], ◌∷◌, ◌++◌, length, get_or, take, drop, map, refl, sym, ap, ◌∙◌, append_assoc, append-nil, Option, Some, Result, Ok, Err, subst, take-append-drop}
+use Rattle.std.proofs.Common.{◌≡◌, ℕ, ◌+◌, ◌<◌, ◌≤◌, zero, suc, List, [], ◌∷◌, ◌++◌, length, get_or, take, drop, map, refl, sym, ap, ◌∙◌, append_assoc, append-nil, Option, Some, Result, Ok, Err, subst, arith, take-append-drop}
 use Rattle.std.specs.Prelude.{flat_map, slice_get}
 use Rattle.std.specs.List.{AllByRecursion}
 use Rattle.std.proofs.lemmas.Option.{slice_get_within, get_or_from_slice_get, same_Some, none-some}
@@ -76,3 +76,15 @@ pub mapped_at : {X Y : Type 0} (P : X → Type 0) (f : X → Y) (xs : List X) (y
 mapped_at P f [] ys i y each is at = absurd (none-some y (ap (λ l. slice_get l i) (sym is) ∙ at))
 mapped_at P f (x ∷ xs) ys zero y each is at = (x, refl, each.0, same_Some (f x) y (ap (λ l. slice_get l 0) (sym is) ∙ at))
 mapped_at P f (x ∷ xs) ys (suc i) y each is at = mapped_at P f xs (map f xs) i y each.1 refl (ap (λ l. slice_get l (suc i)) (sym is) ∙ at)
+
+-- at each place below the length something stands
+pub at_place : {X : Type 0} (xs : List X) (i : ℕ) → i < length xs → (x : X) × (slice_get xs i ≡ Some x)
+at_place [] i within = absurd (omega arith)
+at_place (x ∷ xs) zero within = (x, refl)
+at_place (x ∷ xs) (suc i) within = at_place xs i (omega arith)
+
+-- what was mapped at a place is what stands there, mapped
+pub mapped_same : {X Y : Type 0} (f : X → Y) (xs : List X) (i : ℕ) (x : X) (y : Y) → slice_get xs i ≡ Some x → slice_get (map f xs) i ≡ Some y → y ≡ f x
+mapped_same f [] i x y at is = cc
+mapped_same f (z ∷ xs) zero x y at is = sym (same_Some (f z) y is) ∙ ap f (same_Some z x at)
+mapped_same f (z ∷ xs) (suc i) x y at is = mapped_same f xs i x y at is

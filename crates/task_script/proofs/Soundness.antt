@@ -1,185 +1,179 @@
 -- What every accepted script is.
-use Rattle.std.proofs.Common.{◌≡◌, ℕ, ◌+◌, ◌^◌, ◌<◌, ◌≤◌, Bool, true, false, cond, ◌&&◌, ◌==◌, List, [], ◌∷◌, ◌++◌, length, refl, sym, subst, arith, codes, Option, Some, None, Ok, Err, nat_lt, inl, inr}
-use Rattle.std.specs.List.{AllByRecursion}
+use Rattle.std.proofs.Common.{◌≡◌, ℕ, ◌+◌, ◌<◌, Bool, true, false, cond, not, zero, suc, List, [], ◌∷◌, ◌++◌, length, refl, sym, subst, arith, Option, Some, None, is_some, Result, Ok, Err, nat_lt, nat_le, ok_or, append-nil, append_assoc, length-append}
+use Rattle.std.specs.Prelude.{slice_get}
+use Rattle.std.specs.List.{AllByRecursion, list_all, position_or_len}
 use Rattle.std.specs.Str.{bytes_eq}
-use Rattle.std.specs.Char.{is_ascii_digit}
-use Rattle.std.specs.List.{list_all}
 use Rattle.std.proofs.lemmas.Bool.Decides.{nat_tests}
-use Rattle.std.proofs.lemmas.Option.{same_Some}
-use Rattle.word_bits.specs.declared.call.CallWords.{CallWords}
-use Rattle.word_bits.specs.Calls.{words_of}
+use Rattle.word_bits.specs.declared.call.Mode.{Mode}
+use Rattle.word_bits.specs.declared.call.Mode.TheVariants.{Plain, Int, Try}
 use Rattle.task_script.specs.declared.script.Line.{Line}
-use Rattle.task_script.specs.declared.reader.Reason.TheVariants.{TooLong}
-use Rattle.task_script.specs.Cuts.{lines, words}
-use Rattle.task_script.specs.Tokens.{is_name, number, access, flag, all_flags, prot, leads_zero, value_after}
+use Rattle.task_script.specs.declared.reason.Reason.{Reason}
+use Rattle.task_script.specs.declared.reason.Reason.TheVariants.{Byte, Place, Name, Twice, Limit, Unknown}
+use Rattle.task_script.specs.declared.token.Keyword.{Keyword}
+use Rattle.task_script.specs.declared.token.Keyword.TheVariants.{Version as KVersion, Space as KSpace, Table as KTable, Task as KTask, Int as KInt, Try as KTry}
+use Rattle.task_script.specs.Cuts.{is_empty, is_plain, lines, words}
+use Rattle.task_script.specs.Tokens.{is_name, keyword_of}
+use Rattle.task_script.specs.Verbs.{call_on}
 use Rattle.task_script.specs.Scripts.{Declared, Listing, nothing}
-use Rattle.task_script.specs.Sound.{IsAccess, IsFault, IsMap, IsPlainCall, IsSound}
-use Rattle.task_script.specs.Grammar.{place_of, with_call, fault_words, map_words, fault_call, map_call, plain_call, with_words, space_line, task_line, call_line, line_after, lines_after, then_lines, refused_at, script_of, is_empty}
+use Rattle.task_script.specs.Sound.{IsCall, IsLine, AreNamed, IsSound}
+use Rattle.task_script.specs.Grammar.{place_of, with_call, line_of, is_space_at, declare_line, task_line, object_line, call_line, line_of_words, line_after, said, text_after, then_lines, lines_after}
+use Rattle.task_script.proofs.Accepted.{and_then_ok, ok_or_ok, unless_refused, accepted_call}
 
--- an access is one of three bits
-access_is : (w : List ℕ) (bits : ℕ) → access w ≡ Some bits → IsAccess bits
-access_is w bits is = go (bytes_eq w (codes "r")) (bytes_eq w (codes "w")) (bytes_eq w (codes "x")) is
+-- an empty list
+none_there : {X : Type 0} (xs : List X) → is_empty xs ≡ true → xs ≡ []
+none_there [] is = refl
+none_there (x ∷ xs) is = cc
+
+-- one more object with a name of its own
+name_added : (before ds : List Declared) (d : Declared) → AreNamed before ds → is_name d.name ≡ true → place_of d.name (before ++ ds) ≡ None → AreNamed before (ds ++ d ∷ [])
+name_added before [] d named is none = (is, subst (λ ds. place_of d.name ds ≡ None) (append-nil before) none, tt)
+name_added before (e ∷ ds) d named is none = (
+  named.0,
+  named.1,
+  name_added (before ++ e ∷ []) ds d named.2 is (subst (λ ds. place_of d.name ds ≡ None) (sym (append_assoc before (e ∷ []) ds)) none),
+)
+
+-- what a test found to be none
+is_none_so : {X : Type 0} (o : Option X) → is_some o ≡ false → o ≡ None
+is_none_so None is = refl
+is_none_so (Some x) is = cc
+
+declared_sound : (is_space : Bool) (s : Listing) (name : List ℕ) → IsSound s → is_empty s.tasks ≡ true → is_name name ≡ true → place_of name s.objects ≡ None → length s.objects < 16
+    → IsSound (record { objects = s.objects ++ record { name = name; is_space = is_space } ∷ []; tasks = s.tasks })
+declared_sound is_space s name sound empty is none few = record {
+  few_objects = omega (arith, length-append s.objects (record { name = name; is_space = is_space } ∷ []));
+  few_tasks = sound.few_tasks;
+  named = name_added [] s.objects (record { name = name; is_space = is_space }) sound.named is none;
+  calls = rw (none_there s.tasks empty) tt;
+}
+
+-- a declaration leaves a sound script
+sound-declare : (is_space : Bool) (s t : Listing) (ws : List (List ℕ)) → IsSound s → declare_line is_space s ws ≡ Ok t → IsSound t
+sound-declare is_space s t [] sound is = cc
+sound-declare is_space s t (name ∷ []) sound is =
+    let place = unless_refused (not (is_empty s.tasks)) Place _ t is in
+    let named = unless_refused (not (is_name name)) Name _ t place.1 in
+    let twice = unless_refused (is_some (place_of name s.objects)) Twice _ t named.1 in
+    let limit = unless_refused (nat_le 16 (length s.objects)) Limit _ t twice.1 in
+    let few : length s.objects < 16 = below limit.0 in
+    let same : record { objects = s.objects ++ record { name = name; is_space = is_space } ∷ []; tasks = s.tasks } ≡ t = cc (limit.1) in
+    subst IsSound same (declared_sound is_space s name sound (truly (is_empty s.tasks) place.0) (truly (is_name name) named.0) (is_none_so (place_of name s.objects) twice.0) few)
   where
-    go : (r w x : Bool) → cond r (Some 1) (cond w (Some 2) (cond x (Some 4) None)) ≡ Some bits → IsAccess bits
-    go true w x is = inl (sym (same_Some 1 bits is))
-    go false true x is = inr (inl (sym (same_Some 2 bits is)))
-    go false false true is = inr (inr (sym (same_Some 4 bits is)))
-    go false false false is = cc
+    truly : (b : Bool) → not b ≡ false → b ≡ true
+    truly true is = refl
+    truly false is = cc
 
--- a number has 32 bits
-number_fits : (w : List ℕ) (n : ℕ) → number w ≡ Some n → n < 2 ^ 32
-number_fits w n is = go (leads_zero w) (list_all is_ascii_digit w) (nat_lt (value_after 0 w) (2 ^ 32)) refl is
+    below : nat_le 16 (length s.objects) ≡ false → length s.objects < 16
+    below is = grind (arith, nat_tests)
+sound-declare is_space s t (name ∷ word ∷ more) sound is = cc
+
+-- one more task without calls
+task_added : (P : List Line → Type 0) (tasks : List (List Line)) → AllByRecursion P tasks → P [] → AllByRecursion P (tasks ++ [] ∷ [])
+task_added P [] each none = (none, tt)
+task_added P (ls ∷ tasks) each none = (each.0, task_added P tasks each.1 none)
+
+sound-task : (s t : Listing) (ws : List (List ℕ)) → IsSound s → task_line s ws ≡ Ok t → IsSound t
+sound-task s t [] sound is =
+    let limit = unless_refused (nat_le 64 (length s.tasks)) Limit _ t is in
+    let few : length s.tasks < 64 = below limit.0 in
+    let same : record { objects = s.objects; tasks = s.tasks ++ [] ∷ [] } ≡ t = cc (limit.1) in
+    subst IsSound same (record {
+      few_objects = sound.few_objects;
+      few_tasks = omega (arith, length-append s.tasks ([] ∷ []));
+      named = sound.named;
+      calls = task_added (AllByRecursion (IsLine s.objects)) s.tasks sound.calls tt;
+    })
   where
-    go : (zero digits small : Bool) → nat_lt (value_after 0 w) (2 ^ 32) ≡ small → cond zero None (cond (digits && small) (Some (value_after 0 w)) None) ≡ Some n → n < 2 ^ 32
-    go true digits small test is = cc
-    go false false small test is = cc
-    go false true true test is = let same = same_Some (value_after 0 w) n is in grind (arith, nat_tests)
-    go false true false test is = cc
+    below : nat_le 64 (length s.tasks) ≡ false → length s.tasks < 64
+    below is = grind (arith, nat_tests)
+sound-task s t (word ∷ ws) sound is = cc
 
--- a flag is at most its bit
-flag_at_most : (letter bit byte n : ℕ) → flag letter bit byte ≡ Some n → n ≤ bit
-flag_at_most letter bit byte n is = go (byte == 45) (byte == letter) is
+-- one more call of the last task
+line_added : (P : Line → Type 0) (ls : List Line) (l : Line) → AllByRecursion P ls → P l → AllByRecursion P (ls ++ l ∷ [])
+line_added P [] l each is = (is, tt)
+line_added P (m ∷ ls) l each is = (each.0, line_added P ls l each.1 is)
+
+call_added : (P : Line → Type 0) (tasks : List (List Line)) (l : Line) → AllByRecursion (AllByRecursion P) tasks → P l → AllByRecursion (AllByRecursion P) (with_call tasks l)
+call_added P [] l each is = tt
+call_added P (ls ∷ []) l each is = (line_added P ls l each.0 is, tt)
+call_added P (ls ∷ ms ∷ more) l each is = (each.0, call_added P (ms ∷ more) l each.1 is)
+
+pub length-with_call : (tasks : List (List Line)) (l : Line) → length (with_call tasks l) ≡ length tasks
+length-with_call [] l = refl
+length-with_call (ls ∷ []) l = refl
+length-with_call (ls ∷ ms ∷ more) l = let rest = length-with_call (ms ∷ more) l in omega arith
+
+-- what stands at a place that was found
+object_at : (ds : List Declared) (i : ℕ) → i < length ds → (d : Declared) × (slice_get ds i ≡ Some d) × (is_space_at ds i ≡ d.is_space)
+object_at [] i within = absurd (omega arith)
+object_at (d ∷ ds) zero within = (d, refl, refl)
+object_at (d ∷ ds) (suc i) within = object_at ds i (omega arith)
+
+place_within : (name : List ℕ) (ds : List Declared) (i : ℕ) → place_of name ds ≡ Some i → i < length ds
+place_within name ds i is = go (nat_lt (position_or_len (λ (d : Declared). bytes_eq name d.name) ds) (length ds)) refl is
   where
-    go : (a b : Bool) → cond a (Some 0) (cond b (Some bit) None) ≡ Some n → n ≤ bit
-    go true b is = let same = same_Some 0 n is in omega arith
-    go false true is = let same = same_Some bit n is in omega arith
-    go false false is = cc
+    go : (b : Bool) → nat_lt (position_or_len (λ (d : Declared). bytes_eq name d.name) ds) (length ds) ≡ b → cond b (Some (position_or_len (λ (d : Declared). bytes_eq name d.name) ds)) None ≡ Some i → i < length ds
+    go true test is = let same : position_or_len (λ (d : Declared). bytes_eq name d.name) ds ≡ i = cc in grind (arith, nat_tests)
+    go false test is = cc
 
--- a protection has three bits
-prot_fits : (word : List ℕ) (bits : ℕ) → prot word ≡ Some bits → bits < 8
-prot_fits [] bits is = cc
-prot_fits (r ∷ []) bits is = cc
-prot_fits (r ∷ w ∷ []) bits is = cc
-prot_fits (r ∷ w ∷ x ∷ []) bits is = go (flag 114 1 r) (flag 119 2 w) (flag 120 4 x) (flag_at_most 114 1 r) (flag_at_most 119 2 w) (flag_at_most 120 4 x) is
-  where
-    go : (a b c : Option ℕ) → ((n : ℕ) → a ≡ Some n → n ≤ 1) → ((n : ℕ) → b ≡ Some n → n ≤ 2) → ((n : ℕ) → c ≡ Some n → n ≤ 4) → all_flags a b c ≡ Some bits → bits < 8
-    go (Some a) (Some b) (Some c) read write execute is = let same = same_Some (a + b + c) bits is in omega (arith, read a refl, write b refl, execute c refl)
-    go None b c read write execute is = cc
-    go (Some a) None c read write execute is = cc
-    go (Some a) (Some b) None read write execute is = cc
-prot_fits (r ∷ w ∷ x ∷ more ∷ others) bits is = cc
-
--- the line of a call that has these words
-abbrev line_of : ℕ → CallWords → Line
-line_of object w = record { object = object; words = w.a ∷ w.b ∷ [] }
-
--- what stands behind fault is a plain fault
-fault_is : (object : ℕ) (ws : List (List ℕ)) (w : CallWords) → fault_call ws ≡ Some w → IsFault (line_of object w)
-fault_is object [] w is = cc
-fault_is object (page ∷ []) w is = cc
-fault_is object (page ∷ bits ∷ []) w is = go (number page) (access bits) (number_fits page) (access_is bits) is
-  where
-    go : (p b : Option ℕ) → ((n : ℕ) → p ≡ Some n → n < 2 ^ 32) → ((n : ℕ) → b ≡ Some n → IsAccess n) → fault_words p b ≡ Some w → IsFault (line_of object w)
-    go (Some p) (Some b) fits access is = record { page = p; bits = b; fits = fits p refl; access = access b refl; words = sym (same_Some (words_of 7 p 0 0 b 0) w is) }
-    go None b fits access is = cc
-    go (Some p) None fits access is = cc
-fault_is object (page ∷ bits ∷ word ∷ more) w is = cc
-
--- what stands behind map is a plain map
-map_is : (object : ℕ) (ws : List (List ℕ)) (w : CallWords) → map_call ws ≡ Some w → IsMap (line_of object w)
-map_is object [] w is = cc
-map_is object (start ∷ []) w is = cc
-map_is object (start ∷ len ∷ []) w is = cc
-map_is object (start ∷ len ∷ bits ∷ []) w is = go (number start) (number len) (prot bits) (number_fits start) (number_fits len) (prot_fits bits) is
-  where
-    go : (s l b : Option ℕ) → ((n : ℕ) → s ≡ Some n → n < 2 ^ 32) → ((n : ℕ) → l ≡ Some n → n < 2 ^ 32) → ((n : ℕ) → b ≡ Some n → n < 8) → map_words s l b ≡ Some w → IsMap (line_of object w)
-    go (Some s) (Some l) (Some b) start len prot is = record {
-      start = s;
-      len = l;
-      prot = b;
-      start_fits = start s refl;
-      len_fits = len l refl;
-      prot_fits = prot b refl;
-      words = sym (same_Some (words_of 1 s l b 0 0) w is);
-    }
-    go None l b start len prot is = cc
-    go (Some s) None b start len prot is = cc
-    go (Some s) (Some l) None start len prot is = cc
-map_is object (start ∷ len ∷ bits ∷ word ∷ more) w is = cc
-
--- each call is one of both
-call_is : (object : ℕ) (verb : List ℕ) (ws : List (List ℕ)) (w : CallWords) → plain_call verb ws ≡ Some w → IsPlainCall (line_of object w)
-call_is object verb ws w is = go (bytes_eq verb (codes "fault")) (bytes_eq verb (codes "map")) is
-  where
-    go : (a b : Bool) → cond a (fault_call ws) (cond b (map_call ws) None) ≡ Some w → IsPlainCall (line_of object w)
-    go true b is = inl (fault_is object ws w is)
-    go false true is = inr (map_is object ws w is)
-    go false false is = cc
-
--- and stays so where one is added
-add_call : (calls : List Line) (line : Line) → AllByRecursion IsPlainCall calls → IsPlainCall line → AllByRecursion IsPlainCall (calls ++ line ∷ [])
-add_call [] line each is = (is, tt)
-add_call (c ∷ calls) line each is = (each.0, add_call calls line each.1 is)
-
--- a line that joins the one task leaves a sound script
-sound-with_call : (objects : List Declared) (tasks : List (List Line)) (line : Line) (t : Listing) → IsSound (record { objects = objects; tasks = tasks }) → IsPlainCall line
-    → with_call (record { objects = objects; tasks = tasks }) line ≡ Some t → IsSound t
-sound-with_call objects [] line t sound is after = cc
-sound-with_call objects (calls ∷ more) line t sound is after =
-    subst IsSound (same_Some (record { objects = objects; tasks = (calls ++ line ∷ []) ∷ more }) t after) (record {
-      spaces = sound.spaces;
-      single = sound.single;
-      calls = (add_call calls line sound.calls.0 is, sound.calls.1);
+sound-object : (mode : Mode) (s t : Listing) (object : ℕ) (ws : List (List ℕ)) → IsSound s → object < length s.objects → object_line mode s object ws ≡ Ok t → IsSound t
+sound-object mode s t object [] sound within is = cc
+sound-object mode s t object (verb ∷ ws) sound within is =
+    let at = object_at s.objects object within in
+    let read = and_then_ok (call_on (is_space_at s.objects object) mode verb ws) (λ w. Ok (record { objects = s.objects; tasks = with_call s.tasks (line_of object w) })) t is in
+    let call = accepted_call (is_space_at s.objects object) mode verb ws read.0 read.1 in
+    let same : record { objects = s.objects; tasks = with_call s.tasks (line_of object read.0) } ≡ t = cc (read.2) in
+    subst IsSound same (record {
+      few_objects = sound.few_objects;
+      few_tasks = let len = length-with_call s.tasks (line_of object read.0) in let few = sound.few_tasks in omega arith;
+      named = sound.named;
+      calls = call_added (IsLine s.objects) s.tasks (line_of object read.0) sound.calls (record {
+        declared = at.0;
+        call = read.0;
+        place = at.1;
+        is = subst (λ b. IsCall b read.0) at.2 call.call;
+        words = refl;
+      });
     })
 
--- so does a call that is known
-sound-with_words : (s t : Listing) (object : Option ℕ) (call : Option CallWords) → IsSound s → ((k : ℕ) (w : CallWords) → call ≡ Some w → IsPlainCall (line_of k w)) → with_words s object call ≡ Some t → IsSound t
-sound-with_words s t (Some object) (Some w) sound plain after = sound-with_call s.objects s.tasks (line_of object w) t sound (plain object w refl) after
-sound-with_words s t None call sound plain after = cc
-sound-with_words s t (Some object) None sound plain after = cc
-
--- so do the lines of calls
-sound-call : (s t : Listing) (name : List ℕ) (ws : List (List ℕ)) → IsSound s → call_line s name ws ≡ Some t → IsSound t
-sound-call s t name [] sound after = cc
-sound-call s t name (verb ∷ ws) sound after = sound-with_words s t (place_of name s.objects) (plain_call verb ws) sound (λ k. call_is k verb ws) after
-
--- of spaces
-sound-space : (s t : Listing) (ws : List (List ℕ)) → space_line s ws ≡ Some t → IsSound t
-sound-space s t [] after = cc
-sound-space s t (name ∷ []) after = go ((is_empty s.objects && is_empty s.tasks) && is_name name) after
-  where
-    go : (b : Bool) → cond b (Some (record { objects = record { name = name; is_space = true } ∷ []; tasks = [] })) None ≡ Some t → IsSound t
-    go true after = subst IsSound (same_Some (record { objects = record { name = name; is_space = true } ∷ []; tasks = [] }) t after) (record { spaces = (refl, tt); single = omega arith; calls = tt })
-    go false after = cc
-sound-space s t (name ∷ word ∷ more) after = cc
-
--- and of tasks
-sound-task : (s t : Listing) (ws : List (List ℕ)) → IsSound s → task_line s ws ≡ Some t → IsSound t
-sound-task s t [] sound after = go (is_empty s.tasks) after
-  where
-    go : (b : Bool) → cond b (Some (record { objects = s.objects; tasks = [] ∷ [] })) None ≡ Some t → IsSound t
-    go true after = subst IsSound (same_Some (record { objects = s.objects; tasks = [] ∷ [] }) t after) (record { spaces = sound.spaces; single = omega arith; calls = (tt, tt) })
-    go false after = cc
-sound-task s t (word ∷ more) sound after = cc
+sound-call : (mode : Mode) (s t : Listing) (ws : List (List ℕ)) → IsSound s → call_line mode s ws ≡ Ok t → IsSound t
+sound-call mode s t [] sound is = cc
+sound-call mode s t (name ∷ ws) sound is =
+    let place = unless_refused (is_empty s.tasks) Place _ t is in
+    let named = unless_refused (not (is_name name)) Name _ t place.1 in
+    let read = and_then_ok (ok_or (place_of name s.objects) Unknown) (λ object. object_line mode s object ws) t named.1 in
+    sound-object mode s t read.0 ws sound (place_within name s.objects read.0 (ok_or_ok (place_of name s.objects) Unknown read.0 read.1)) read.2
 
 -- so does each line
-sound-line : (s t : Listing) (ws : List (List ℕ)) → IsSound s → line_after s ws ≡ Some t → IsSound t
-sound-line s t [] sound after = cc
-sound-line s t (word ∷ ws) sound after = go (bytes_eq word (codes "space")) (bytes_eq word (codes "task")) after
+sound-words : (keyword : Option Keyword) (s t : Listing) (word : List ℕ) (ws : List (List ℕ)) → IsSound s → line_of_words keyword s word ws ≡ Ok t → IsSound t
+sound-words (Some KVersion) s t word ws sound is = cc
+sound-words (Some KSpace) s t word ws sound is = sound-declare true s t ws sound is
+sound-words (Some KTable) s t word ws sound is = sound-declare false s t ws sound is
+sound-words (Some KTask) s t word ws sound is = sound-task s t ws sound is
+sound-words (Some KInt) s t word ws sound is = sound-call Int s t ws sound is
+sound-words (Some KTry) s t word ws sound is = sound-call Try s t ws sound is
+sound-words None s t word ws sound is = sound-call Plain s t (word ∷ ws) sound is
+
+sound-line : (s t : Listing) (ws : List (List ℕ)) → IsSound s → line_after s ws ≡ Ok t → IsSound t
+sound-line s t [] sound is = let same : s ≡ t = cc in subst IsSound same sound
+sound-line s t (word ∷ ws) sound is = sound-words (keyword_of word) s t word ws sound is
+
+sound-text : (s t : Listing) (line : List ℕ) → IsSound s → text_after s line ≡ Ok t → IsSound t
+sound-text s t line sound is = go (list_all is_plain (said line)) is
   where
-    go : (a b : Bool) → cond a (space_line s ws) (cond b (task_line s ws) (call_line s word ws)) ≡ Some t → IsSound t
-    go true b after = sound-space s t ws after
-    go false true after = sound-task s t ws sound after
-    go false false after = sound-call s t word ws sound after
+    go : (b : Bool) → cond b (line_after s (words (said line))) (Err Byte) ≡ Ok t → IsSound t
+    go true is = sound-line s t (words (said line)) sound is
+    go false is = cc
 
 -- and all of them
 sound-lines : (n : ℕ) (s t : Listing) (ls : List (List ℕ)) → IsSound s → lines_after n s ls ≡ Ok t → IsSound t
-sound-lines n s t [] sound after = let same : s ≡ t = cc in subst IsSound same sound
-sound-lines n s t (last ∷ []) sound after = go (is_empty last) after
+sound-lines n s t [] sound is = let same : s ≡ t = cc in subst IsSound same sound
+sound-lines n s t (l ∷ ls) sound is = go (text_after s l) refl is (λ u sound more. sound-lines (n + 1) u t ls sound more)
   where
-    go : (b : Bool) → cond b (Ok s) (refused_at n) ≡ Ok t → IsSound t
-    go true after = let same : s ≡ t = cc in subst IsSound same sound
-    go false after = cc
-sound-lines n s t (l ∷ m ∷ ls) sound after = go (line_after s (words l)) refl after (λ u is. sound-lines (n + 1) u t (m ∷ ls) is)
-  where
-    go : (next : Option Listing) → line_after s (words l) ≡ next → then_lines n next (λ u. lines_after (n + 1) u (m ∷ ls)) ≡ Ok t → ((u : Listing) → IsSound u → lines_after (n + 1) u (m ∷ ls) ≡ Ok t → IsSound t) → IsSound t
-    go (Some u) one after rest = rest u (sound-line s u (words l) sound one) after
-    go None one after rest = cc
+    go : (next : Result Listing Reason) → text_after s l ≡ next → then_lines n next (λ u. lines_after (n + 1) u ls) ≡ Ok t → ((u : Listing) → IsSound u → lines_after (n + 1) u ls ≡ Ok t → IsSound t) → IsSound t
+    go (Ok u) one is rest = rest u (sound-text s u l sound one) is
+    go (Err reason) one is rest = cc
 
 -- an accepted script is sound
-pub accepted_sound : (text : List ℕ) (s : Listing) → script_of text ≡ Ok s → IsSound s
-accepted_sound text s is = go (nat_lt 1048576 (length text)) is
-  where
-    go : (long : Bool) → cond long (Err record { line = 0; reason = TooLong }) (lines_after 1 nothing (lines text)) ≡ Ok s → IsSound s
-    go true is = cc
-    go false is = sound-lines 1 nothing s (lines text) (record { spaces = tt; single = omega arith; calls = tt }) is
+pub accepted_sound : (text : List ℕ) (s : Listing) → lines_after 1 nothing (lines text) ≡ Ok s → IsSound s
+accepted_sound text s is = sound-lines 1 nothing s (lines text) (record { few_objects = omega arith; few_tasks = omega arith; named = tt; calls = tt }) is

@@ -1,123 +1,110 @@
--- The grammar: from a text to a script, or to its first refused line.
-use Rattle.std.specs.Prelude.{◌≡◌, ℕ, ◌+◌, ◌&&◌, nat_lt, Bool, true, false, List, [], ◌∷◌, ◌++◌, length, if◌then◌else◌, Option, Some, None, Result, Ok, Err, codes}
-use Rattle.std.specs.Option.{option_map}
+-- The grammar: from a text to a script, or to its first refused line with the reason.
+use Rattle.std.specs.Prelude.{ℕ, ◌+◌, nat_lt, nat_le, not, Bool, true, false, List, [], ◌∷◌, ◌++◌, slice_get, length, position, is_some, ok_or, if◌then◌else◌, Option, Some, None, Result, Ok, Err}
+use Rattle.std.specs.List.{list_all}
+use Rattle.std.specs.Option.{option_map_or}
 use Rattle.std.specs.Str.{bytes_eq}
 use Rattle.word_bits.specs.declared.call.CallWords.{CallWords}
-use Rattle.word_bits.specs.Calls.{words_of}
+use Rattle.word_bits.specs.declared.call.Mode.{Mode}
+use Rattle.word_bits.specs.declared.call.Mode.TheVariants.{Plain, Int, Try}
 use Rattle.task_script.specs.declared.script.Line.{Line}
-use Rattle.task_script.specs.declared.script.Script.{Script}
-use Rattle.task_script.specs.declared.reader.Reason.{Reason}
-use Rattle.task_script.specs.declared.reader.Reason.TheVariants.{TooLong, Later}
-use Rattle.task_script.specs.declared.reader.ScriptError.{ScriptError}
-use Rattle.task_script.specs.declared.reader.ScriptError.TheVariants.{Refused, Memory}
-use Rattle.task_script.specs.Cuts.{lines, words}
-use Rattle.task_script.specs.Tokens.{is_name, number, access, prot}
+use Rattle.task_script.specs.declared.reason.Reason.{Reason}
+use Rattle.task_script.specs.declared.reason.Reason.TheVariants.{TooLong, Byte, Version, Words, Place, Name, Twice, Limit, Unknown}
+use Rattle.task_script.specs.Cuts.{is_empty, is_plain, lines, uncommented, without_return, words}
+use Rattle.task_script.specs.declared.token.Keyword.{Keyword}
+use Rattle.task_script.specs.declared.token.Keyword.TheVariants.{Version as KVersion, Space as KSpace, Table as KTable, Task as KTask, Int as KInt, Try as KTry}
+use Rattle.task_script.specs.Tokens.{is_name, keyword_of}
+use Rattle.task_script.specs.Verbs.{and_then, call_on}
 use Rattle.task_script.specs.Scripts.{Declared, Listing, nothing}
 
--- a line that is accepted gives the script with it, any other nothing
+-- a line that is accepted gives the script with it, any other a reason
 abbrev pub Accepted : Type 0
-Accepted = Option Listing
-
-abbrev pub is_empty : {X : Type 0} → List X → Bool
-is_empty [] = true
-is_empty (x ∷ xs) = false
+Accepted = Result Listing Reason
 
 -- where the name is declared
 abbrev pub place_of : List ℕ → List Declared → Option ℕ
-place_of name [] = None
-place_of name (d ∷ ds) = if bytes_eq d.name name then Some 0 else option_map (λ k. k + 1) (place_of name ds)
+place_of name objects = position (λ d. bytes_eq name d.name) objects
 
--- space NAME, if no space is declared and no task came
-abbrev pub space_line : Listing → List (List ℕ) → Accepted
-space_line s [] = None
-space_line s (name ∷ []) =
-    if (is_empty s.objects && is_empty s.tasks) && is_name name then Some (record { objects = record { name = name; is_space = true } ∷ []; tasks = [] })
-    else None
-space_line s (name ∷ word ∷ more) = None
+-- space NAME or table NAME, in front of all tasks
+abbrev pub declare_line : (is_space : Bool) → Listing → List (List ℕ) → Accepted
+declare_line is_space s (name ∷ []) =
+    if not (is_empty s.tasks) then Err Place
+    else if not (is_name name) then Err Name
+    else if is_some (place_of name s.objects) then Err Twice
+    else if nat_le 16 (length s.objects) then Err Limit
+    else Ok (record { objects = s.objects ++ record { name = name; is_space = is_space } ∷ []; tasks = s.tasks })
+declare_line is_space s ws = Err Words
 
--- task, if none came
+-- task, alone
 abbrev pub task_line : Listing → List (List ℕ) → Accepted
-task_line s [] = if is_empty s.tasks then Some (record { objects = s.objects; tasks = [] ∷ [] }) else None
-task_line s (word ∷ more) = None
+task_line s [] = if nat_le 64 (length s.tasks) then Err Limit else Ok (record { objects = s.objects; tasks = s.tasks ++ [] ∷ [] })
+task_line s (word ∷ ws) = Err Words
 
--- a line of a task that has come
-abbrev pub with_call : Listing → Line → Accepted
-with_call s line = go s.tasks
-  where
-    go : List (List Line) → Accepted
-    go [] = None
-    go (calls ∷ more) = Some (record { objects = s.objects; tasks = (calls ++ line ∷ []) ∷ more })
+-- one more call of the last task
+abbrev pub with_call : List (List Line) → Line → List (List Line)
+with_call [] line = []
+with_call (calls ∷ []) line = (calls ++ line ∷ []) ∷ []
+with_call (calls ∷ more ∷ others) line = calls ∷ with_call (more ∷ others) line
 
--- the words of a fault of a page
-abbrev pub fault_words : (page access : Option ℕ) → Option CallWords
-fault_words (Some page) (Some bits) = Some (words_of 7 page 0 0 bits 0)
-fault_words page bits = None
+abbrev pub line_of : ℕ → CallWords → Line
+line_of object w = record { object = object; words = w.a ∷ w.b ∷ [] }
 
--- the words of a map of so many pages from one on
-abbrev pub map_words : (start len prot : Option ℕ) → Option CallWords
-map_words (Some start) (Some len) (Some bits) = Some (words_of 1 start len bits 0 0)
-map_words start len bits = None
+-- whether the object at a place is a space
+abbrev pub is_space_at : List Declared → ℕ → Bool
+is_space_at objects place = option_map_or (λ d. d.is_space) (slice_get objects place) false
 
--- what stands behind fault: NUMBER ACCESS
-abbrev pub fault_call : List (List ℕ) → Option CallWords
-fault_call (page ∷ bits ∷ []) = fault_words (number page) (access bits)
-fault_call arguments = None
+-- a call on a declared object, from the words behind its name
+abbrev pub object_line : Mode → Listing → ℕ → List (List ℕ) → Accepted
+object_line mode s object [] = Err Words
+object_line mode s object (verb ∷ arguments) =
+    and_then (call_on (is_space_at s.objects object) mode verb arguments) (λ w. Ok (record { objects = s.objects; tasks = with_call s.tasks (line_of object w) }))
 
--- what stands behind map: NUMBER NUMBER PROT
-abbrev pub map_call : List (List ℕ) → Option CallWords
-map_call (start ∷ len ∷ bits ∷ []) = map_words (number start) (number len) (prot bits)
-map_call arguments = None
+-- NAME and a call, behind the mode
+abbrev pub call_line : Mode → Listing → List (List ℕ) → Accepted
+call_line mode s [] = Err Words
+call_line mode s (name ∷ ws) =
+    if is_empty s.tasks then Err Place
+    else if not (is_name name) then Err Name
+    else and_then (ok_or (place_of name s.objects) Unknown) (λ object. object_line mode s object ws)
 
--- a call, from its verb and what stands behind it
-abbrev pub plain_call : List ℕ → List (List ℕ) → Option CallWords
-plain_call verb arguments =
-    if bytes_eq verb (codes "fault") then fault_call arguments
-    else if bytes_eq verb (codes "map") then map_call arguments
-    else None
+-- the script after one more line, from its first word and those behind it
+abbrev pub line_of_words : Option Keyword → Listing → List ℕ → List (List ℕ) → Accepted
+line_of_words (Some KVersion) s word ws = Err Version
+line_of_words (Some KSpace) s word ws = declare_line true s ws
+line_of_words (Some KTable) s word ws = declare_line false s ws
+line_of_words (Some KTask) s word ws = task_line s ws
+line_of_words (Some KInt) s word ws = call_line Int s ws
+line_of_words (Some KTry) s word ws = call_line Try s ws
+line_of_words None s word ws = call_line Plain s (word ∷ ws)
 
--- a line of a task that has come, where its object and its call are known
-abbrev pub with_words : Listing → (object : Option ℕ) → Option CallWords → Accepted
-with_words s (Some object) (Some w) = with_call s (record { object = object; words = w.a ∷ w.b ∷ [] })
-with_words s object w = None
-
--- NAME and a call
-abbrev pub call_line : Listing → List ℕ → List (List ℕ) → Accepted
-call_line s name [] = None
-call_line s name (verb ∷ arguments) = with_words s (place_of name s.objects) (plain_call verb arguments)
-
--- the script after one more line
+-- the script after one more line of these words
 abbrev pub line_after : Listing → List (List ℕ) → Accepted
-line_after s [] = None
-line_after s (word ∷ ws) =
-    if bytes_eq word (codes "space") then space_line s ws
-    else if bytes_eq word (codes "task") then task_line s ws
-    else call_line s word ws
+line_after s [] = Ok s
+line_after s (word ∷ ws) = line_of_words (keyword_of word) s word ws
+
+-- the words that a line says, without its return and its comment
+abbrev pub said : List ℕ → List ℕ
+said line = uncommented (without_return line)
+
+-- the script after one more line of these bytes
+abbrev pub text_after : Listing → List ℕ → Accepted
+text_after s line = if list_all is_plain (said line) then line_after s (words (said line)) else Err Byte
 
 pub record Refusal : Type 0 where
   pub line : ℕ
   pub reason : Reason
 
-abbrev pub refused_at : ℕ → Result Listing Refusal
-refused_at n = Err (record { line = n; reason = Later })
-
+-- what is read behind line n, unless it was refused
 abbrev pub then_lines : ℕ → Accepted → (Listing → Result Listing Refusal) → Result Listing Refusal
-then_lines n (Some s) rest = rest s
-then_lines n None rest = refused_at n
+then_lines n (Ok s) rest = rest s
+then_lines n (Err reason) rest = Err (record { line = n; reason = reason })
 
--- The lines from number n on. What stands behind the last line end must be empty.
+-- the lines from number n on
 abbrev pub lines_after : ℕ → Listing → List (List ℕ) → Result Listing Refusal
 lines_after n s [] = Ok s
-lines_after n s (last ∷ []) = if is_empty last then Ok s else refused_at n
-lines_after n s (l ∷ m ∷ ls) = then_lines n (line_after s (words l)) (λ t. lines_after (n + 1) t (m ∷ ls))
+lines_after n s (l ∷ ls) = then_lines n (text_after s l) (λ t. lines_after (n + 1) t ls)
 
 -- the script that a text is, or its first refused line; line 0 stands for the whole of a text that is too long
 abbrev pub script_of : List ℕ → Result Listing Refusal
 script_of text =
     if nat_lt 1048576 (length text) then Err (record { line = 0; reason = TooLong })
     else lines_after 1 nothing (lines text)
-
--- a reader's answer is the grammar's, unless memory ran out
-abbrev pub Reads : Result Script ScriptError → Result Listing Refusal → Type 0
-Reads (Ok s) r = r ≡ Ok s
-Reads (Err (Refused line reason)) r = r ≡ Err (record { line = line; reason = reason })
-Reads (Err Memory) r = Unit {0}

@@ -1,24 +1,24 @@
--- What a script keeps, and what of it contracts see.
-use Rattle.std.specs.Prelude.{◌<◌, ◌≤◌, Bool, true, List, length, map, All}
+-- What of a script is kept, and what of it contracts see.
+use Rattle.std.specs.Prelude.{◌≡◌, ℕ, Bool, true, false, List, map, Option, Some, None}
 use Rattle.std.specs.Global.{Vec}
+use Rattle.arrayvec.specs.ArrayString.{ArrayString}
 use Rattle.task_script.specs.declared.script.Line.{Line}
 use Rattle.task_script.specs.declared.script.Kind.{Kind}
-use Rattle.task_script.specs.declared.script.Kind.TheVariants.{Space}
-use Rattle.task_script.specs.declared.script.Object.{Object}
+use Rattle.task_script.specs.declared.script.Kind.TheVariants.{Space, Table}
 use Rattle.task_script.specs.Scripts.{Declared, Listing}
+use Rattle.task_script.specs.Tokens.{is_name}
 
 abbrev pub is_space_kind : Kind → Bool
 is_space_kind Space = true
+is_space_kind Table = false
 
-abbrev pub declared_of : Object → Declared
-declared_of o = record { name = o.name.bytes; is_space = is_space_kind o.kind }
+abbrev pub declared_of : ArrayString × Kind → Declared
+declared_of entry = record { name = entry.0.bytes; is_space = is_space_kind entry.1 }
 
-abbrev pub listing : List Object → List (Vec Line) → Listing
+abbrev pub listing : List (ArrayString × Kind) → List (Vec Line) → Listing
 listing objects tasks = record { objects = map declared_of objects; tasks = map (λ v. v.items) tasks }
 
--- within the limits, and each call is on a declared object
-pub record IsScript (s : Listing) : Type 0 where
-  pub few_objects : length s.objects ≤ 16
-  pub few_tasks : length s.tasks ≤ 64
-  pub named : All (λ d. 0 < length d.name) s.objects
-  pub on_objects : All (All (λ l. l.object < length s.objects)) s.tasks
+-- the name that a word is, if it is one
+abbrev pub NameIs : List ℕ → Option ArrayString → Type 0
+NameIs word None = is_name word ≡ false
+NameIs word (Some name) = (is_name word ≡ true) × (name.bytes ≡ word)

@@ -4,8 +4,10 @@ pub mod Parts
 pub mod Scripts
 pub mod Inside
 pub mod Tokens
+pub mod Verbs
+pub mod Texts
 pub mod Grammar
-pub mod Steps
+pub mod Readings
 pub mod Rooms
 pub mod Memories
 pub mod Sound

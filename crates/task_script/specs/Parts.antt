@@ -1,15 +1,20 @@
 -- What is left of a text that is being cut.
-use Rattle.std.specs.Prelude.{◌≡◌, ℕ, ◌==◌, true, false, List, [], Option, Some, None}
+use Rattle.std.specs.Prelude.{◌≡◌, ℕ, Bool, false, List, [], ◌∷◌, Option, Some, None}
 use Rattle.std.specs.Borrow.{Bor}
 use Rattle.std.specs.List.{slice_split}
-use Rattle.task_script.specs.Tokens.{is_name}
+use Rattle.std.specs.Str.{bytes_eq}
 
--- the parts, cut at a byte, of what is left; none where nothing is left
-abbrev pub parts_of : ℕ → Option (Bor (List ℕ)) → List (List ℕ)
-parts_of at None = []
-parts_of at (Some rest) = slice_split (λ b. b == at) rest.now
+-- the parts, cut where the test passes, of what is left; none where nothing is left
+abbrev pub parts_of : (ℕ → Bool) → Option (Bor (List ℕ)) → List (List ℕ)
+parts_of cuts None = []
+parts_of cuts (Some rest) = slice_split cuts rest.now
 
--- the name that a word is, if it is one
-abbrev pub NameIs : List ℕ → Option (Bor (List ℕ)) → Type 0
-NameIs word None = is_name word ≡ false
-NameIs word (Some name) = (is_name word ≡ true) × (name.now ≡ word)
+-- no words are left, or the first isn't this one
+abbrev pub IsBegunOtherwise : List ℕ → List (List ℕ) → Type 0
+IsBegunOtherwise word [] = Unit {0}
+IsBegunOtherwise word (w ∷ ws) = bytes_eq w word ≡ false
+
+-- a word that was taken, if there was one, and those behind it
+abbrev pub all_words : Option (Bor (List ℕ)) → List (List ℕ) → List (List ℕ)
+all_words None ws = []
+all_words (Some w) ws = w.now ∷ ws

@@ -1,38 +1,66 @@
--- What every accepted script is.
-use Rattle.std.specs.Prelude.{◌≡◌, ℕ, ◌^◌, ◌<◌, ◌≤◌, ◌⊎◌, true, length}
+-- What every script is.
+use Rattle.std.specs.Prelude.{◌≡◌, ℕ, ◌^◌, ◌<◌, ◌≤◌, ◌⊎◌, Bool, true, List, [], ◌∷◌, ◌++◌, length, slice_get, None, Some}
 use Rattle.std.specs.List.{AllByRecursion}
-use Rattle.word_bits.specs.Calls.{words_of}
+use Rattle.word_bits.specs.declared.call.CallWords.{CallWords}
+use Rattle.word_bits.specs.declared.call.Mode.{Mode}
 use Rattle.task_script.specs.declared.script.Line.{Line}
-use Rattle.task_script.specs.Scripts.{Listing, call_words}
+use Rattle.task_script.specs.declared.verb.Verb.{Verb}
+use Rattle.task_script.specs.declared.verb.Argument.{Argument}
+use Rattle.task_script.specs.declared.verb.Argument.TheVariants.{First, Second, File, Target, Protection, AccessBit}
+use Rattle.task_script.specs.declared.verb.Values.{Values}
+use Rattle.task_script.specs.Tokens.{is_name}
+use Rattle.task_script.specs.Verbs.{no_values, arguments_of, call_words_of, is_on_kind, takes_mode}
+use Rattle.task_script.specs.Scripts.{Declared, Listing}
+use Rattle.task_script.specs.Grammar.{line_of, place_of}
 
 -- one of r 1, w 2, x 4
 abbrev pub IsAccess : ℕ → Type 0
 IsAccess bits = (bits ≡ 1) ⊎ (bits ≡ 2) ⊎ (bits ≡ 4)
 
--- a plain fault
-pub record IsFault (l : Line) : Type 0 where
-  pub page : ℕ
-  pub bits : ℕ
-  pub fits : page < 2 ^ 32
-  pub access : IsAccess bits
-  pub words : call_words l ≡ words_of 7 page 0 0 bits 0
+-- what the argument says is in its range
+abbrev pub IsInRange : Values → Argument → Type 0
+IsInRange v First = v.first < 2 ^ 32
+IsInRange v Second = v.second < 2 ^ 32
+IsInRange v File = v.first < 65536
+IsInRange v Target = v.first < 64
+IsInRange v Protection = v.prot < 8
+IsInRange v AccessBit = IsAccess v.access
 
--- a plain map
-pub record IsMap (l : Line) : Type 0 where
-  pub start : ℕ
-  pub len : ℕ
-  pub prot : ℕ
-  pub start_fits : start < 2 ^ 32
-  pub len_fits : len < 2 ^ 32
-  pub prot_fits : prot < 8
-  pub words : call_words l ≡ words_of 1 start len prot 0 0
+-- what the arguments say of these values, and 0 for the others
+abbrev pub only : List Argument → Values → Values
+only [] v = no_values
+only (First ∷ arguments) v = record (only arguments v) { first = v.first }
+only (Second ∷ arguments) v = record (only arguments v) { second = v.second }
+only (File ∷ arguments) v = record (only arguments v) { first = v.first }
+only (Target ∷ arguments) v = record (only arguments v) { first = v.first }
+only (Protection ∷ arguments) v = record (only arguments v) { prot = v.prot }
+only (AccessBit ∷ arguments) v = record (only arguments v) { access = v.access }
 
--- a call in the plain mode
-abbrev pub IsPlainCall : Line → Type 0
-IsPlainCall l = IsFault l ⊎ IsMap l
+-- the words of a call on this kind of object
+pub record IsCall (is_space : Bool) (w : CallWords) : Type 0 where
+  pub verb : Verb
+  pub mode : Mode
+  pub values : Values
+  pub known : is_on_kind is_space verb ≡ true
+  pub moded : takes_mode verb mode ≡ true
+  pub ranged : AllByRecursion (IsInRange values) (arguments_of verb)
+  pub words : w ≡ call_words_of verb mode (only (arguments_of verb) values)
 
--- all objects are spaces, there is one task at most, and its calls are faults and maps
+-- a call on a declared object
+pub record IsLine (objects : List Declared) (l : Line) : Type 0 where
+  pub declared : Declared
+  pub call : CallWords
+  pub place : slice_get objects l.object ≡ Some declared
+  pub is : IsCall declared.is_space call
+  pub words : l ≡ line_of l.object call
+
+-- each is named, and none as one in front of it
+abbrev pub AreNamed : (before : List Declared) → List Declared → Type 0
+AreNamed before [] = Unit {0}
+AreNamed before (d ∷ ds) = (is_name d.name ≡ true) × (place_of d.name before ≡ None) × AreNamed (before ++ d ∷ []) ds
+
 pub record IsSound (s : Listing) : Type 0 where
-  pub spaces : AllByRecursion (λ d. d.is_space ≡ true) s.objects
-  pub single : length s.tasks ≤ 1
-  pub calls : AllByRecursion (AllByRecursion IsPlainCall) s.tasks
+  pub few_objects : length s.objects ≤ 16
+  pub few_tasks : length s.tasks ≤ 64
+  pub named : AreNamed [] s.objects
+  pub calls : AllByRecursion (AllByRecursion (IsLine s.objects)) s.tasks

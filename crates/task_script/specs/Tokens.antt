@@ -1,8 +1,10 @@
 -- What a single word is.
-use Rattle.std.specs.Prelude.{ℕ, ◌+◌, ◌-◌, ◌*◌, ◌^◌, ◌==◌, ◌||◌, ◌&&◌, nat_lt, nat_le, Bool, true, false, not, List, [], ◌∷◌, length, if◌then◌else◌, Option, Some, None, codes}
+use Rattle.std.specs.Prelude.{ℕ, ◌+◌, ◌-◌, ◌*◌, ◌^◌, ◌==◌, ◌||◌, ◌&&◌, nat_lt, nat_le, Bool, true, false, List, [], ◌∷◌, length, if◌then◌else◌, Option, Some, None, is_none, codes}
 use Rattle.std.specs.Char.{is_ascii_digit}
-use Rattle.std.specs.List.{list_all, list_any}
+use Rattle.std.specs.List.{list_all}
 use Rattle.std.specs.Str.{bytes_eq}
+use Rattle.task_script.specs.declared.token.Keyword.{Keyword}
+use Rattle.task_script.specs.declared.token.Keyword.TheVariants.{Version, Space, Table, Task, Int, Try}
 
 abbrev pub is_lower : ℕ → Bool
 is_lower b = nat_le 97 b && nat_le b 122
@@ -10,18 +12,25 @@ is_lower b = nat_le 97 b && nat_le b 122
 abbrev pub is_name_byte : ℕ → Bool
 is_name_byte b = (is_lower b || is_ascii_digit b) || (b == 95)
 
--- words that begin other lines, or that stand in front of a call
-abbrev pub is_reserved : List ℕ → Bool
-is_reserved w =
-    list_any (bytes_eq w) (codes "space" ∷ codes "table" ∷ codes "task" ∷ codes "version" ∷ codes "int" ∷ codes "try" ∷ [])
+-- the words that begin other lines, or that stand in front of a call
+abbrev pub keyword_of : List ℕ → Option Keyword
+keyword_of w =
+    if bytes_eq w (codes "version") then Some Version
+    else if bytes_eq w (codes "space") then Some Space
+    else if bytes_eq w (codes "table") then Some Table
+    else if bytes_eq w (codes "task") then Some Task
+    else if bytes_eq w (codes "int") then Some Int
+    else if bytes_eq w (codes "try") then Some Try
+    else None
 
 -- a lower-case letter, and then up to 15 lower-case letters, digits or _
 abbrev pub has_name_bytes : List ℕ → Bool
 has_name_bytes [] = false
 has_name_bytes (b ∷ bs) = (is_lower b && nat_le (length bs) 15) && list_all is_name_byte bs
 
+-- such a word, but no keyword
 abbrev pub is_name : List ℕ → Bool
-is_name w = has_name_bytes w && not (is_reserved w)
+is_name w = has_name_bytes w && is_none (keyword_of w)
 
 -- the number that the digits stand for, after others
 abbrev pub value_after : ℕ → List ℕ → ℕ

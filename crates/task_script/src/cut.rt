@@ -1,26 +1,89 @@
-//! Cutting a text at a byte, into lines and into words.
-ghost use Rattle.std.specs.Prelude.{◌≡◌, ◌==◌, ◌∷◌, ◌<◌, [], length, position, MatchOption, IfSome};
-ghost use Rattle.std.specs.List.{slice_split};
-ghost use Rattle.task_script.specs.Parts.{parts_of};
+//! Cutting a text into lines, and a line into words.
+ghost use Rattle.std.specs.Prelude.{◌≡◌, ◌==◌, ◌∷◌, ◌<◌, ℕ, Bool, [], length, position, MatchBool, MatchOption, IfSome};
+ghost use Rattle.std.specs.List.{list_all, slice_split};
+ghost use Rattle.task_script.specs.Cuts.{is_blank, is_plain, lines, uncommented, without_return};
+ghost use Rattle.task_script.specs.Parts.{IsBegunOtherwise, parts_of};
 
 use std::marker::Model;
 
-fn first_place(bytes: &[u8], at: u8) -> Option<usize>
-    ensures { result ≡ position (λ b. b == at) bytes.now }
+fn blank(byte: u8) -> bool
+    ensures { result ≡ is_blank byte }
+{
+    byte == b' ' || byte == b'\t'
+}
+
+fn plain(byte: u8) -> bool
+    ensures { result ≡ is_plain byte }
+{
+    blank(byte) || (b'!'..=b'~').contains(&byte)
+}
+
+/// Whether each byte is a blank or a visible character.
+pub(crate) fn is_plain_text(bytes: &[u8]) -> bool
+    ensures { result ≡ list_all is_plain bytes.now }
+{
+    bytes.iter().all(|byte| plain(*byte))
+}
+
+fn place_of(bytes: &[u8], at: u8) -> Option<usize>
+    ensures place { result ≡ position (λ b. b == at) bytes.now }
+    ensures within { IfSome result (λ place. place < length bytes.now) }
 {
     bytes.iter().position(|byte| *byte == at)
 }
 
-/// What stands before the first byte that is `at`, and what stands behind it, if there is one.
+fn first_blank(bytes: &[u8]) -> Option<usize>
+    ensures place { result ≡ position is_blank bytes.now }
+    ensures within { IfSome result (λ place. place < length bytes.now) }
+{
+    bytes.iter().position(|byte| blank(*byte))
+}
+
+/// What stands before a place, and what stands behind it. Without a place all stands before.
 #[tactic(auto, using(crate::proofs::Cutting::cut_at, crate::proofs::Cutting::uncut))]
-pub(crate) fn cut(bytes: &[u8], at: u8) -> (&[u8], Option<&[u8]>)
-    ensures parts { slice_split (λ b. b == at) bytes.now ≡ result.0.now ∷ parts_of at result.1 }
+fn cut(bytes: &[u8], place: Option<usize>) -> (&[u8], Option<&[u8]>)
+    requires { IfSome place (λ place. place < length bytes.now) }
+    ensures parts { (cuts : ℕ → Bool) → position cuts bytes.now ≡ place →
+        slice_split cuts bytes.now ≡ result.0.now ∷ parts_of cuts result.1 }
     ensures shorter { IfSome result.1 (λ rest. length rest.now < length bytes.now) }
 {
-    match first_place(bytes, at) {
+    match place {
         Some(place) => (&bytes[..place], Some(&bytes[place + 1..])),
         None => (bytes, None),
     }
+}
+
+/// The first line of a text, and what stands behind its line feed, if there is one.
+pub(crate) fn first_line(text: &[u8]) -> (&[u8], Option<&[u8]>)
+    ensures parts { lines text.now ≡ result.0.now ∷ parts_of (λ b. b == 10) result.1 }
+    ensures shorter { IfSome result.1 (λ rest. length rest.now < length text.now) }
+{
+    cut(text, place_of(text, b'\n'))
+}
+
+fn without_return(line: &[u8]) -> &[u8]
+    ensures { result.now ≡ without_return line.now }
+{
+    let Some((last, front)) = line.split_last() else {
+        return line;
+    };
+    if *last == b'\r' { front } else { line }
+}
+
+fn uncommented(line: &[u8]) -> &[u8]
+    ensures { result.now ≡ uncommented line.now }
+{
+    match place_of(line, b'#') {
+        Some(place) => &line[..place],
+        None => line,
+    }
+}
+
+/// What a line says: without a carriage return at its end, and without a comment.
+pub(crate) fn said(line: &[u8]) -> &[u8]
+    ensures { result.now ≡ uncommented (without_return line.now) }
+{
+    uncommented(without_return(line))
 }
 
 /// The words of a line that weren't taken yet. Contracts see their list.
@@ -30,13 +93,13 @@ pub(crate) struct Words<'a> {
 }
 
 impl<'a> Model for Words<'a> {
-    ghost use Rattle.std.specs.Prelude.{ℕ, List};
+    ghost use Rattle.std.specs.Prelude.{ℕ, List, not, filter};
+    ghost use Rattle.task_script.specs.Cuts.{is_blank, is_empty};
+    ghost use Rattle.task_script.specs.Parts.{IsBegunOtherwise, parts_of};
 
     ghost Value = { List (List ℕ) };
 
-    ghost use Rattle.task_script.specs.Parts.{parts_of};
-
-    ghost view = { λ w. parts_of 32 w.rest };
+    ghost view = { λ w. filter (λ v. not (is_empty v)) (parts_of is_blank w.rest) };
 }
 
 impl<'a> Words<'a> {
@@ -53,8 +116,41 @@ impl<'a> Words<'a> {
             ((self.old ≡ []) × (self.new ≡ []))
             (λ word. self.old ≡ word.now ∷ self.new) }
     {
-        let (word, rest) = cut(self.rest?, b' ');
+        while let Some(rest) = self.rest {
+            let (word, behind) = cut(rest, first_blank(rest));
+            self.rest = behind;
+            if !word.is_empty() {
+                return Some(word);
+            }
+        }
+        None
+    }
+
+    /// Takes the next word if it is this one, and answers whether it was.
+    pub(crate) fn skip(&mut self, word: &[u8]) -> bool
+        ensures { MatchBool result
+            (self.old ≡ word.now ∷ self.new)
+            (IsBegunOtherwise word.now self.old × (self.new ≡ self.old)) }
+    {
+        let rest = self.rest;
+        if self.next().is_some_and(|next| next == word) {
+            return true;
+        }
         self.rest = rest;
-        Some(word)
+        false
+    }
+
+    /// Whether so many words are left.
+    pub(crate) fn count_is(&self, count: usize) -> bool
+        ensures { result ≡ (length self.now == count) }
+    {
+        let mut left = Words { rest: self.rest };
+        for taken in 0..count {
+            prove!(taken < count);
+            if left.next().is_none() {
+                return false;
+            }
+        }
+        left.next().is_none()
     }
 }

@@ -3,22 +3,29 @@
 #![tactic(auto)]
 
 mod cut;
+mod draft;
 mod memory;
 mod outbox;
 mod reader;
+mod reason;
 mod script;
 mod sink;
 mod source;
 mod stream;
+mod text;
 mod token;
+mod verb;
+mod writer;
 
 pub use memory::{MemSink, MemSource};
 pub use outbox::Outbox;
-pub use reader::{Reason, ScriptError, read};
+pub use reader::{ScriptError, read};
+pub use reason::Reason;
 pub use script::{Line, Script};
 pub use sink::{Sink, put};
 pub use source::{Failed, Source};
 pub use stream::{ReadSource, WriteSink};
+pub use writer::{write, write_declaration};
 
 #[cfg(test)]
 mod tests;

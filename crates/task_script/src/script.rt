@@ -1,7 +1,8 @@
 //! A script: its objects, and the calls of its tasks.
 ghost use Rattle.std.specs.Prelude.{◌≡◌, ◌<◌, ◌≤◌, length, slice_get, Some, All};
 
-use arrayvec::ArrayString;
+use crate::token::Name;
+use indexmap::IndexMap;
 use std::marker::Model;
 
 /// A call of a task on an object.
@@ -17,41 +18,38 @@ pub struct Line {
 #[derive(Clone, Copy, Debug, PartialEq, Eq)]
 pub(crate) enum Kind {
     Space,
-}
-
-#[derive(Drop)]
-pub(crate) struct Object {
-    pub(crate) name: ArrayString<16>,
-    pub(crate) kind: Kind,
+    Table,
 }
 
 /// A script that was read. Contracts see its objects, each with its name and whether it is a space,
 /// and for each task the list of its calls.
 #[derive(Drop)]
 pub struct Script {
-    pub(crate) objects: Vec<Object>,
+    pub(crate) objects: IndexMap<Name, Kind>,
     pub(crate) tasks: Vec<Vec<Line>>,
 }
 
 impl Model for Script {
+    ghost use Rattle.task_script.specs.Inside.{listing};
     ghost use Rattle.task_script.specs.Scripts.{Listing};
+    ghost use Rattle.task_script.specs.Sound.{IsSound};
 
     ghost Value = { Listing };
 
-    ghost use Rattle.task_script.specs.Inside.{listing, IsScript};
+    ghost view = { λ s. listing s.objects.entries s.tasks.items };
 
-    ghost view = { λ s. listing s.objects.items s.tasks.items };
-
-    ghost invariant = { λ s. IsScript (listing s.objects.items s.tasks.items) };
+    ghost invariant = { λ s. IsSound (listing s.objects.entries s.tasks.items) };
 }
 
 impl Script {
     ghost use Rattle.task_script.specs.Scripts.{names_of, kinds_of};
+    ghost use Rattle.task_script.specs.Sound.{IsSound};
 
     /// How many objects there are, at most 16.
     pub fn objects(&self) -> usize
         ensures count { result ≡ length self.now.objects }
         ensures few { result ≤ 16 }
+        ensures sound { IsSound self.now }
     {
         self.objects.len()
     }
@@ -71,7 +69,8 @@ impl Script {
         ensures some { 0 < length result.now }
         ensures short { length result.now ≤ 16 }
     {
-        self.objects[object].name.as_str()
+        let (name, _) = self.objects.get_index(object).unwrap();
+        name.as_str()
     }
 
     /// Whether an object is a space.
@@ -79,7 +78,7 @@ impl Script {
         requires { object < length self.now.objects }
         ensures { slice_get (kinds_of self.now) object ≡ Some result }
     {
-        matches!(self.objects[object].kind, Kind::Space)
+        matches!(self.objects[object], Kind::Space)
     }
 
     /// The calls of a task, in order.

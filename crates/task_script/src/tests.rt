@@ -15,12 +15,16 @@ fn refusal(alloc: Global, text: &[u8]) -> Result<Option<(u32, Reason)>, AllocErr
 fn reads_texts(rt: HostRuntime) -> Result<(), Fail> {
     for text in [
         b"".as_slice(),
-        b"task\n",
-        b"space a\n",
-        b"space sixteen_bytes_0k\n",
-        b"space a\ntask\n",
-        b"space a\ntask\na fault 4294967295 x\n",
-        b"space a\ntask\na map 4294967295 4294967295 --x\n",
+        b"\n\n",
+        b"\r",
+        b"\t \n # \xff\r\r\n",
+        b"# caf\xc3\xa9\r\n# caf\xe9",
+        b"task",
+        b"space a\ntable b # space\n",
+        b" space\t\tsixteen_bytes_0k \r\n",
+        b"space a\ntask\ntask\na fault 4294967295 x\n",
+        b"space a\ntask\nint a map any 4294967295 --x\r\ntry a unmap 0 0\n",
+        b"table f\ntask\nf open 65535\ntry f dup2 4294967295 0\nf signal 63",
     ] {
         assert_eq!(rt; refusal(rt.alloc(), text)?, None, "in {text:?}");
     }
@@ -29,100 +33,158 @@ fn reads_texts(rt: HostRuntime) -> Result<(), Fail> {
 
 #[test]
 fn refuses_lines(rt: HostRuntime) -> Result<(), Fail> {
-    for (text, line) in [
-        (b"\n".as_slice(), 1),
-        (b"space a\n\n", 2),
-        (b"space  a\n", 1),
-        (b" space a\n", 1),
-        (b"space a \n", 1),
-        (b"space a\r\n", 1),
-        (b"# a\n", 1),
-        (b"space a", 1),
-        (b"task\ntask", 2),
-        (b"space A\n", 1),
-        (b"space int\n", 1),
-        (b"space seventeen_bytes_0k\n", 1),
-        (b"space a\nspace b\n", 2),
-        (b"task\nspace a\n", 2),
-        (b"space a\ntask\ntask\n", 3),
-        (b"space a\na fault 1 r\n", 2),
-        (b"space a\ntask\nb fault 1 r\n", 3),
-        (b"space a\ntask\na fault 01 r\n", 3),
-        (b"space a\ntask\na fault 4294967296 r\n", 3),
-        (b"space a\ntask\na fault 1 rw\n", 3),
-        (b"space a\ntask\na fault 1\n", 3),
-        (b"space a\ntask\na read 1 r\n", 3),
-        (b"space a\ntask\na fault 1 r--\n", 3),
-        (b"space a\ntask\na map any 1 r--\n", 3),
-        (b"space a\ntask\na map 1 1 rw\n", 3),
-        (b"space a\ntask\na map 1 1 rw-x\n", 3),
-        (b"space a\ntask\na map 1 1 wr-\n", 3),
-        (b"space a\ntask\na map 01 1 r--\n", 3),
-        (b"space a\ntask\na map 1 r--\n", 3),
-        (b"space a\ntask\na map 1 1\n", 3),
-        (b"space a\ntask\na map 1 1 r-- x\n", 3),
-        (b"space a\ntask\na map 4294967296 1 r--\n", 3),
-        (b"space a\na map 1 1 r--\n", 2),
-        (b"space a\ntask\nb map 1 1 r--\n", 3),
+    for (text, line, reason) in [
+        (b"a\0\n".as_slice(), 1, Reason::Byte),
+        (b"\x0b\n", 1, Reason::Byte),
+        (b"\n\r\r\n", 2, Reason::Byte),
+        (b"space a\r # \n", 1, Reason::Byte),
+        (b"version 1 \x7f\n", 1, Reason::Byte),
+        (b"version 1\n", 1, Reason::Version),
+        (b"version\n", 1, Reason::Version),
+        (b"space\n", 1, Reason::Words),
+        (b"space A b\n", 1, Reason::Words),
+        (b"task\nspace A\n", 2, Reason::Place),
+        (b"space A\n", 1, Reason::Name),
+        (b"space seventeen_bytes_0k\n", 1, Reason::Name),
+        (b"table try\n", 1, Reason::Name),
+        (b"space a\nspace a\n", 2, Reason::Twice),
+        (b"space a\ntable a", 2, Reason::Twice),
+        (b"task x\n", 1, Reason::Words),
+        (b"int\n", 1, Reason::Words),
+        (b"a fault 1 r\n", 1, Reason::Place),
+        (b"int A\n", 1, Reason::Place),
+        (b"task\nA\n", 2, Reason::Name),
+        (b"task\nint int a fault 1 r\n", 2, Reason::Name),
+        (b"task\na\n", 2, Reason::Unknown),
+        (b"space a\ntask\na\n", 3, Reason::Words),
+        (b"space a\ntask\na open 1\n", 3, Reason::Call),
+        (b"table a\ntask\na map\n", 3, Reason::Call),
+        (b"space a\ntask\na any 1 r--\n", 3, Reason::Call),
+        (b"space a\ntask\ntry a signal 0\n", 3, Reason::Mode),
+        (b"space a\ntask\nint a signal\n", 3, Reason::Mode),
+        (b"space a\ntask\na map 16 4", 3, Reason::Words),
+        (b"space a\ntask\na map any\n", 3, Reason::Words),
+        (b"space a\ntask\na map 1 1 rwx r\n", 3, Reason::Words),
+        (b"space a\ntask\na fault 01 r\n", 3, Reason::Number),
+        (
+            b"space a\ntask\na map 4294967296 +1 rw\n",
+            3,
+            Reason::Number,
+        ),
+        (b"table f\ntask\nf open 65536\n", 3, Reason::Number),
+        (b"space a\ntask\na map 1 1 rw\n", 3, Reason::Prot),
+        (b"space a\ntask\na map 1 1 wr-\n", 3, Reason::Prot),
+        (b"space a\ntask\na fault 1 rw\n", 3, Reason::Access),
+        (b"space a\ntask\na signal 64\n", 3, Reason::Limit),
     ] {
-        let later = Some((line, Reason::Later));
-        assert_eq!(rt; refusal(rt.alloc(), text)?, later, "in {text:?}");
+        let refused = Some((line, reason));
+        assert_eq!(rt; refusal(rt.alloc(), text)?, refused, "in {text:?}");
     }
     Ok(())
 }
 
 #[test]
-fn refuses_long_texts(rt: HostRuntime) -> Result<(), Fail> {
+fn refuses_past_its_limits(rt: HostRuntime) -> Result<(), Fail> {
     let alloc = rt.alloc();
     let mut text = vec![in alloc; b'#'; 1_048_576]?;
-    assert_eq!(rt; refusal(alloc, text.as_slice())?, Some((1, Reason::Later)));
+    assert_eq!(rt; refusal(alloc, text.as_slice())?, None);
     text.push(b'#')?;
-    assert_eq!(rt;
-        refusal(alloc, text.as_slice())?,
-        Some((0, Reason::TooLong))
-    );
+    let too_long = Some((0, Reason::TooLong));
+    assert_eq!(rt; refusal(alloc, text.as_slice())?, too_long);
+
+    let tasks = vec![in alloc; b"task\n".as_slice(); 65]?;
+    let text = tasks.as_slice().concat(alloc)?;
+    assert_eq!(rt; refusal(alloc, text.as_slice())?, Some((65, Reason::Limit)));
+
+    let mut text = Vec::new(alloc);
+    for letter in b'a'..=b'q' {
+        text.extend_from_slice(&[b'\n', b's', b'p', b'a', b'c', b'e', b' ', letter])?;
+    }
+    assert_eq!(rt; refusal(alloc, text.as_slice())?, Some((18, Reason::Limit)));
     Ok(())
 }
 
 #[test]
 fn keeps_what_it_reads(rt: HostRuntime) -> Result<(), Fail> {
-    let text = b"space a\ntask\na fault 5 r\na fault 0 w\n";
+    let text = b"space a\ntable f_2\ntask\ntask\na map any 4 rw-\ntry f_2 dup2 9 1\na signal 63\n";
     let script = read(rt.alloc(), text)?;
-    assert_eq!(rt; (script.objects(), script.tasks()), (1, 1));
-    assert_eq!(rt; script.name(0), "a");
-    assert!(rt; script.is_space(0));
+    assert_eq!(rt; (script.objects(), script.tasks()), (2, 2));
+    assert_eq!(rt; (script.name(0), script.name(1)), ("a", "f_2"));
+    assert_eq!(rt; (script.is_space(0), script.is_space(1)), (true, false));
+    assert!(rt; script.calls(0).is_empty());
+    // A second number stands from bit 32 of a call's first word on; its second word has the kind,
+    // the protection from bit 8 on and the mode from bit 24 on.
     let lines = [
-        Line {
-            object: 0,
-            words: [5, 65543],
-        },
-        Line {
-            object: 0,
-            words: [0, 131079],
-        },
-    ];
-    assert_eq!(rt; script.calls(0), lines.as_slice());
+        (0, 4, 2 | 3 << 8),
+        (1, 9 | 1 << 32, 11 | 2 << 24),
+        (0, 63, 15),
+    ]
+    .map(|(object, a, b)| Line {
+        object,
+        words: [a, b],
+    });
+    assert_eq!(rt; script.calls(1), lines.as_slice());
     Ok(())
 }
 
+/// Each call in a mode, out of its canonical form.
+const LENIENT: &[u8] = b"\tspace a # pages\r\n\
+    table f_2\n\
+    task\n\n\
+    a  map 16 4 rw-\n\
+    int a map any 4294967295 --x\n\
+    a mapnew 0 1 r--\n\
+    try a unmap 0 0\n\
+    a protect 1 2 rwx\n\
+    a populate 1048575 1 ---\n\
+    a fault 5 r # read\n\
+    try a fault 5 w\n\
+    int a fault 5 x\n\
+    task\n\
+    task\n\
+    f_2 open 65535\n\
+    int f_2 close 9\n\
+    f_2 dup 0\n\
+    try f_2 dup2 10 4294967295\n\
+    f_2 get 63\n\
+    f_2 signal 63\n\
+    a signal 0";
+
+/// The same script in its canonical form.
+const CANONICAL: &[u8] = b"space a\n\
+    table f_2\n\
+    task\n\
+    a map 16 4 rw-\n\
+    int a map any 4294967295 --x\n\
+    a mapnew 0 1 r--\n\
+    try a unmap 0 0\n\
+    a protect 1 2 rwx\n\
+    a populate 1048575 1 ---\n\
+    a fault 5 r\n\
+    try a fault 5 w\n\
+    int a fault 5 x\n\
+    task\n\
+    task\n\
+    f_2 open 65535\n\
+    int f_2 close 9\n\
+    f_2 dup 0\n\
+    try f_2 dup2 10 4294967295\n\
+    f_2 get 63\n\
+    f_2 signal 63\n\
+    a signal 0\n";
+
 #[test]
-fn keeps_maps(rt: HostRuntime) -> Result<(), Fail> {
-    for (text, words) in [
-        (
-            b"space a\ntask\na map 16 4 rw-\n".as_slice(),
-            [17_179_869_200, 769],
-        ),
-        (
-            b"space a\ntask\na map 0 1048576 r--\n",
-            [4_503_599_627_370_496, 257],
-        ),
-        (b"space a\ntask\na map 1 1 rwx\n", [4_294_967_297, 1793]),
-        (b"space a\ntask\na map 1 1 ---\n", [4_294_967_297, 1]),
-    ] {
-        let script = read(rt.alloc(), text)?;
-        assert_eq!(rt; script.tasks(), 1);
-        let lines = [Line { object: 0, words }];
-        assert_eq!(rt; script.calls(0), lines.as_slice(), "in {text:?}");
+fn writes_in_canonical_form(rt: HostRuntime) -> Result<(), Fail> {
+    let alloc = rt.alloc();
+    for text in [LENIENT, CANONICAL] {
+        let script = read(alloc, text)?;
+        let mut sink = MemSink::new(alloc, 1000, 7, &[])?;
+        assert_eq!(rt; write(&script, &mut sink), Ok(()));
+        assert_eq!(rt; sink.written(), CANONICAL);
+
+        let mut narrow = MemSink::new(alloc, 13, 7, &[])?;
+        assert_eq!(rt; write(&script, &mut narrow), Err(Failed));
+        assert_eq!(rt; narrow.written(), b"space a\ntable".as_slice());
     }
     Ok(())
 }

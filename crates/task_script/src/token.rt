@@ -1,10 +1,11 @@
 //! What a single word is.
 ghost use Rattle.std.specs.Prelude.{◌≡◌, ◌<◌, ◌^◌, ◌≤◌, length, IfSome};
-ghost use Rattle.std.specs.List.{list_all, list_any};
-ghost use Rattle.std.specs.Str.{bytes_eq};
-ghost use Rattle.task_script.specs.Parts.{NameIs};
-ghost use Rattle.task_script.specs.Tokens.{is_name_byte, has_name_bytes, is_reserved, is_name};
+ghost use Rattle.std.specs.List.{list_all};
+ghost use Rattle.task_script.specs.Inside.{NameIs};
+ghost use Rattle.task_script.specs.Tokens.{is_name_byte, has_name_bytes, is_name, keyword_of};
 ghost use Rattle.task_script.specs.Tokens.{leads_zero, number, access, flag, prot};
+
+use arrayvec::ArrayString;
 
 fn name_byte(byte: u8) -> bool
     ensures { result ≡ is_name_byte byte }
@@ -27,37 +28,51 @@ fn has_form_of_name(word: &[u8]) -> bool
     }
 }
 
-const RESERVED: [&[u8]; 6] = [b"space", b"table", b"task", b"version", b"int", b"try"];
-
-fn is_one_of(word: &[u8], others: &[&[u8]]) -> bool
-    ensures { result ≡ list_any (λ other. bytes_eq word.now other.now) others.now }
-{
-    others.iter().any(|other| word == *other)
+/// A word that begins a line and isn't a name.
+#[derive(Clone, Copy, Debug, PartialEq, Eq)]
+pub(crate) enum Keyword {
+    Version,
+    Space,
+    Table,
+    Task,
+    Int,
+    Try,
 }
 
-fn is_reserved_word(word: &[u8]) -> bool
-    ensures { result ≡ is_reserved word.now }
+/// The keyword that a word is, if it is one.
+pub(crate) fn keyword_of(word: &[u8]) -> Option<Keyword>
+    ensures { result ≡ keyword_of word.now }
 {
-    is_one_of(word, &RESERVED)
+    match word {
+        b"version" => Some(Keyword::Version),
+        b"space" => Some(Keyword::Space),
+        b"table" => Some(Keyword::Table),
+        b"task" => Some(Keyword::Task),
+        b"int" => Some(Keyword::Int),
+        b"try" => Some(Keyword::Try),
+        _ => None,
+    }
 }
 
 fn names_object(word: &[u8]) -> bool
     ensures { result ≡ is_name word.now }
 {
-    has_form_of_name(word) && !is_reserved_word(word)
+    has_form_of_name(word) && keyword_of(word).is_none()
 }
+
+/// The name of an object: a lower-case letter and up to 15 lower-case letters, digits or `_`.
+pub(crate) type Name = ArrayString<16>;
 
 /// The word as the name of an object, if it may be one.
 #[tactic(auto, using(crate::proofs::Names::name_is_text, crate::proofs::Names::name_is_short))]
-pub(crate) fn name_of(word: &[u8]) -> Option<&str>
-    ensures name { NameIs word.now result }
-    ensures some { IfSome result (λ name. 0 < length name.now) }
-    ensures short { IfSome result (λ name. length name.now ≤ 16) }
+pub(crate) fn name_of(word: &[u8]) -> Option<Name>
+    ensures { NameIs word.now result }
 {
     if !names_object(word) {
         return None;
     }
-    str::from_utf8(word).ok()
+    let text = str::from_utf8(word).ok()?;
+    Name::from(text).ok()
 }
 
 fn has_leading_zero(word: &[u8]) -> bool
@@ -92,9 +107,8 @@ pub(crate) fn number_of(word: &[u8]) -> Option<u32>
 }
 
 /// The access that the word stands for, as the bits of its protection.
-pub(crate) fn access_of(word: &[u8]) -> Option<u64>
-    ensures bits { result ≡ access word.now }
-    ensures small { IfSome result (λ bits. bits < 8) }
+pub(crate) fn access_of(word: &[u8]) -> Option<u8>
+    ensures { result ≡ access word.now }
 {
     match word {
         b"r" => Some(1),
@@ -104,8 +118,9 @@ pub(crate) fn access_of(word: &[u8]) -> Option<u64>
     }
 }
 
-fn flag_of(byte: u8, letter: u8, bit: u64) -> Option<u64>
-    ensures { result ≡ flag letter bit byte }
+fn flag_of(byte: u8, letter: u8, bit: u8) -> Option<u8>
+    ensures value { result ≡ flag letter bit byte }
+    ensures most { IfSome result (λ value. value ≤ bit) }
 {
     match byte {
         b'-' => Some(0),
@@ -115,9 +130,8 @@ fn flag_of(byte: u8, letter: u8, bit: u64) -> Option<u64>
 }
 
 /// The bits of the protection that the word stands for.
-pub(crate) fn prot_of(word: &[u8]) -> Option<u64>
-    ensures bits { result ≡ prot word.now }
-    ensures small { IfSome result (λ bits. bits < 8) }
+pub(crate) fn prot_of(word: &[u8]) -> Option<u8>
+    ensures { result ≡ prot word.now }
 {
     let [read, write, execute] = word else {
         return None;

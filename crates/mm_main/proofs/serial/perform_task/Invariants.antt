@@ -13,9 +13,10 @@ invariant-loop-line g l =
       counted : l.call ≡ count_by (is_on l.object) (take l.line-index l.lines);
       does : (plan : Plan) (log : List Entry) → slice_get plan l.task ≡ Some (map call_words (filter (is_on l.object) l.lines)) → Stands o plan log l.fn.snapshot (g.O.Object.state l.fn.value) →
           (now : List Entry) × Stands o plan now l.snapshot (g.O.Object.state l.value)
-          × (l.snapshot.recs ++ map rec_word (task_records o plan now l.task l.call (map call_words (filter (is_on l.object) (drop l.line-index l.lines))))
-          ≡ l.fn.snapshot.recs ++ map rec_word (task_records o plan log l.task 0 (map call_words (filter (is_on l.object) l.lines))))
+          × (l.snapshot.recs ++ map rec_word (task_records o plan now l.task l.call l.seen (map call_words (filter (is_on l.object) (drop l.line-index l.lines))))
+          ≡ l.fn.snapshot.recs ++ map rec_word (task_records o plan log l.task 0 0 (map call_words (filter (is_on l.object) l.lines))))
           × (task_log o now l.task l.call (map call_words (filter (is_on l.object) (drop l.line-index l.lines))) ≡ task_log o log l.task 0 (map call_words (filter (is_on l.object) l.lines)));
+      seen : l.seen ≤ length l.snapshot.log;
       recs : length l.snapshot.recs ≡ length l.fn.snapshot.recs + l.call;
       log : length l.snapshot.log ≤ length l.fn.snapshot.log + l.call;
       kept : Keeps l.fn.snapshot l.snapshot;

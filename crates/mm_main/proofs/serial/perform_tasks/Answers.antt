@@ -1,10 +1,9 @@
 use Rattle.std.proofs.Common.{◌+◌, length, drop, [], ap, ◌∙◌, arith, refl}
 use Rattle.std.specs.Prelude.{count_by}
-use Rattle.std.specs.List.{AllByRecursion}
 use Rattle.task_script.specs.Scripts.{is_on, plan_of}
 use Rattle.mm_report.proofs.Reserved.{drop_at, more_sum}
-use Rattle.mm_main.specs.Serial.{IsCallOf, task_log}
-use Rattle.mm_main.proofs.Steps.{on_object, all_get, plan_at, sum_at, tasks_recs_step, tasks_log_step}
+use Rattle.mm_main.specs.Serial.{task_log}
+use Rattle.mm_main.proofs.Steps.{on_object, plan_at, sum_at, tasks_recs_step, tasks_log_step}
 use Rattle.mm_main.proofs.serial.perform_tasks.Goals as goal
 
 pub loop-task-init : goal.loop-task-init
@@ -15,11 +14,6 @@ loop-task-init g c = record {
   kept = record { recs_room = refl; log_room = refl; state_room = refl; state = refl };
   sound = rw c.requires.begins g.met.O.Object.starts;
 }
-
-pub perform_task-requires-clause-called : goal.perform_task-requires-clause-called
-perform_task-requires-clause-called g c =
-    all_get (AllByRecursion (IsCallOf g.O.Object.object)) (plan_of c.args.script.now c.args.object) c.loop-task.task (on_object c.args.object c.calls.result.now) c.requires.called
-    (plan_at c.args.script.now.tasks c.args.object c.loop-task.task c.calls.result.now c.calls.ensures.calls)
 
 pub perform_task-requires-clause-few : goal.perform_task-requires-clause-few
 perform_task-requires-clause-few g c = let all = sum_at c.args.object c.args.script.now.tasks c.loop-task.task c.calls.result.now c.calls.ensures.calls in omega (arith, c.requires.few)
@@ -47,8 +41,8 @@ loop-task-preserved g c =
       does = (
         task_log o inv.does.0 i 0 ws,
         did.stands,
-        tasks_recs_step o plan inv.does.0 i ws (drop i plan) (drop (i + 1) plan) _ _ _ left did.recs inv.does.2,
-        tasks_log_step o inv.does.0 i ws (drop i plan) (drop (i + 1) plan) _ left inv.does.3,
+        tasks_recs_step o plan inv.does.0 i ws (drop i plan) (drop (i + 1) plan) c.loop-task.snapshot.recs c.perform_task.new.snapshot.recs left did.recs ∙ inv.does.2,
+        tasks_log_step o inv.does.0 i ws (drop i plan) (drop (i + 1) plan) left ∙ inv.does.3,
       );
       recs = omega (arith, c.perform_task.ensures.recs, inv.recs);
       log = omega (arith, c.perform_task.ensures.log, inv.log);

@@ -1,11 +1,15 @@
-use Rattle.task_script.proofs.Reading.{reads_whole, few_read, sound_read}
+use Rattle.std.proofs.Common.{◌+◌, ◌*◌, ◌≤◌, length, sym, subst}
+use Rattle.task_script.specs.Scripts.{count_of_calls}
+use Rattle.task_script.specs.Sound.{IsSound}
+use Rattle.task_script.proofs.FewCalls.{few_calls}
+use Rattle.task_script.proofs.Soundness.{accepted_sound}
 use Rattle.task_script.proofs.reader.read.Goals as goal
 
-pub returns-clause-reads : goal.returns-clause-reads
-returns-clause-reads c = reads_whole c.args.bytes.now c.read_lines.result c.if-bytes-gt-LONGEST_TEXT.false c.read_lines.ensures
+pub invariant_of-result : goal.invariant_of-result
+invariant_of-result c = subst IsSound (sym c.objects.view_is) (accepted_sound c.args.bytes.now c.in_ok-objects.field-0 c.in_ok-objects.ensures)
 
 pub returns-clause-few : goal.returns-clause-few
-returns-clause-few c = few_read c.args.bytes.now c.read_lines.result (reads_whole c.args.bytes.now c.read_lines.result c.if-bytes-gt-LONGEST_TEXT.false c.read_lines.ensures)
+returns-clause-few c = subst (λ s. 8 * count_of_calls s ≤ length c.args.bytes.now + 1) (sym c.objects.view_is) (few_calls c.args.bytes.now c.in_ok-objects.field-0 c.in_ok-objects.ensures)
 
 pub returns-clause-sound : goal.returns-clause-sound
-returns-clause-sound c = sound_read c.args.bytes.now c.read_lines.result (reads_whole c.args.bytes.now c.read_lines.result c.if-bytes-gt-LONGEST_TEXT.false c.read_lines.ensures)
+returns-clause-sound c = subst IsSound (sym c.objects.view_is) (accepted_sound c.args.bytes.now c.in_ok-objects.field-0 c.in_ok-objects.ensures)

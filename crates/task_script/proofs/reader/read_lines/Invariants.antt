@@ -1,14 +1,16 @@
-use Rattle.std.proofs.Common.{◌≡◌, ◌+◌, ◌≤◌, length}
+use Rattle.std.proofs.Common.{◌≡◌, ◌+◌, ◌==◌, ◌≤◌, length}
+use Rattle.std.specs.Option.{option_map_or}
 use Rattle.task_script.specs.Cuts.{lines}
+use Rattle.task_script.specs.Parts.{parts_of}
 use Rattle.task_script.specs.Scripts.{nothing}
 use Rattle.task_script.specs.Grammar.{lines_after}
 use Rattle.task_script.proofs.reader.read_lines.Given as goal
 
-abbrev pub invariant-loop-after : goal.invariant-loop-after
-invariant-loop-after l = record {
-  goes_on : lines_after l.number l.script (lines l.rest) ≡ lines_after 1 nothing (lines l.bytes);
-  counted : l.number + length l.rest ≤ 1048577;
+abbrev pub invariant-loop-rest : goal.invariant-loop-rest
+invariant-loop-rest l = record {
+  goes_on : lines_after l.number l.draft (parts_of (λ b. b == 10) l.rest) ≡ lines_after 1 nothing (lines l.bytes);
+  counted : l.number + option_map_or (λ text. length text.now + 1) l.rest 0 ≤ 1048578;
 }
 
-abbrev pub decreases-loop-after : goal.decreases-loop-after
-decreases-loop-after l = length l.rest
+abbrev pub decreases-loop-rest : goal.decreases-loop-rest
+decreases-loop-rest l = option_map_or (λ text. length text.now + 1) l.rest 0

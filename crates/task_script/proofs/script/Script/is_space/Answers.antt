@@ -1,9 +1,14 @@
-use Rattle.task_script.specs.Scripts.{Declared}
-use Rattle.task_script.proofs.Listings.{declared_at, is_space_kind-true}
+use Rattle.std.proofs.Common.{◌≡◌, true, false}
+use Rattle.task_script.specs.Inside.{is_space_kind}
+use Rattle.task_script.proofs.Listings.{kind_kept, table_other}
 use Rattle.task_script.proofs.script.Script.is_space.Goals as goal
 
-pub returns : goal.returns
-returns c =
-    let inside = rw (← c.self.view_is) at c.requires in
-    let found = declared_at (λ (d : Declared). d.is_space) c.self.inside.objects.items c.args.object c.index.result.now inside c.index.ensures in
-    rw (← c.self.view_is) (rw (is_space_kind-true c.index.result.now.kind) at found)
+pub returns-in-Space : goal.returns-in-Space
+returns-in-Space c =
+    let kind : is_space_kind c.index.result.now ≡ true = rw c.in-Space.is in
+    rw (← c.self.view_is, ← kind) (kind_kept c.self.inside.objects.entries c.args.object c.index.result.now c.index.ensures)
+
+pub returns-in_default : goal.returns-in_default
+returns-in_default c =
+    let kind : is_space_kind c.index.result.now ≡ false = table_other c.index.result.now c.in_default.not-Space in
+    rw (← c.self.view_is, ← kind) (kind_kept c.self.inside.objects.entries c.args.object c.index.result.now c.index.ensures)

@@ -1,0 +1,192 @@
+-- The cursors of all tasks, and what is left of the history.
+use Rattle.std.proofs.Common.{◌≡◌, ℕ, ◌+◌, ◌<◌, ◌≤◌, zero, suc, true, cond, List, [], ◌∷◌, ◌++◌, take, drop, map, get_or, length, refl, sym, ap, ◌∙◌, subst, arith, append_assoc, length-append, zero-add, add-zero, nat_lt, Option, Some, ◌⊎◌, inl, inr}
+use Rattle.std.specs.Prelude.{flat_map, slice_get, filter, count_by, sum_by}
+use Rattle.std.specs.List.{AllByRecursion}
+use Rattle.std.proofs.lemmas.Option.{same_Some, slice_get-map, slice_get_within}
+use Rattle.std.proofs.Math.ListN.{set}
+use Rattle.std.proofs.lemmas.Bool.{cases_eq}
+use Rattle.std.proofs.lemmas.Bool.Decides.{nat_tests}
+use Rattle.std.proofs.lemmas.List.{length-map, get_or-set_other}
+use Rattle.std.proofs.lemmas.List.Sums.{sum_by-cons}
+use Rattle.std.proofs.lemmas.Grind.{flat_map-append, get_or-set_at}
+use Rattle.word_bits.specs.declared.call.CallWords.{CallWords}
+use Rattle.word_bits.specs.declared.rec.Rec.{Rec}
+use Rattle.word_bits.specs.RecWord.{IsRec, rec_word}
+use Rattle.word_bits.specs.Objects.{Obj}
+use Rattle.word_bits.specs.Histories.{Plan, Records, Event, task_events}
+use Rattle.task_script.specs.declared.script.Line.{Line}
+use Rattle.task_script.specs.Causes.{Fronts, IsOnItsWay}
+use Rattle.task_script.specs.Scripts.{Listing, call_words, is_on, plan_of}
+use Rattle.task_script.proofs.Pieces.{flat_map_split}
+use Rattle.mm_report.specs.declared.cursor.Cursor.{Cursor}
+use Rattle.mm_report.specs.Text.{event_text}
+use Rattle.mm_report.specs.Merged.{front, behind, merged, task_lists, NextFrom}
+use Rattle.mm_report.specs.Cursors.{at_start, first_record, HasRecords, HaveRecords, AreRead, IsAt, AreAt}
+use Rattle.mm_report.proofs.Remaining.{Remains, remains_all, remains_added, remains_failed, remains_none}
+
+-- what holds of each holds at a place
+all_at : {X : Type 0} (P : X → Type 0) (xs : List X) (i : ℕ) (x : X) → AllByRecursion P xs → slice_get xs i ≡ Some x → P x
+all_at P [] i x all at = cc
+all_at P (y ∷ xs) zero x all at = subst P (same_Some y x at) all.0
+all_at P (y ∷ xs) (suc i) x all at = all_at P xs i x all.1 at
+
+-- the records of a task, and how many stand before them
+record HasPlace (object task : ℕ) (tasks : List (List Line)) (records : Records) (lines : List Line) : Type 0 where
+  told : List Rec
+  at : slice_get records task ≡ Some told
+  each : length told ≡ count_by (is_on object) lines
+  before : length (flat_map (map rec_word) (take task records)) ≡ sum_by (count_by (is_on object)) (take task tasks)
+
+place_of : (object task : ℕ) (tasks : List (List Line)) (records : Records) (lines : List Line) → HaveRecords object tasks records → slice_get tasks task ≡ Some lines → HasPlace object task tasks records lines
+place_of object task [] records lines have at = cc
+place_of object task (ls ∷ tasks) [] lines have at = absurd have
+place_of object zero (ls ∷ tasks) (rs ∷ rss) lines have at = record { told = rs; at = refl; each = have.0 ∙ ap (count_by (is_on object)) (same_Some ls lines at); before = refl }
+place_of object (suc task) (ls ∷ tasks) (rs ∷ rss) lines have at =
+    let rest = place_of object task tasks rss lines have.1 at in record {
+      told = rest.told;
+      at = rest.at;
+      each = rest.each;
+      before =
+          let words : length (map rec_word rs) ≡ length rs = simp length-map in
+          omega (arith, length-append (map rec_word rs) (flat_map (map rec_word) (take task rss)), words, have.0, rest.before, sum_by-cons (count_by (is_on object)) ls (take task tasks));
+    }
+
+-- of records that are read a task has its own
+pub record IsTaskRead (s : Listing) (object task : ℕ) (recs : List ℕ) (records : Records) (lines : List Line) : Type 0 where
+  pub told : List Rec
+  pub at : slice_get records task ≡ Some told
+  pub has : HasRecords object lines recs (first_record s object task) told
+
+pub task_read : (s : Listing) (object task : ℕ) (recs : List ℕ) (records : Records) (lines : List Line) → AreRead s object recs records → slice_get s.tasks task ≡ Some lines → IsTaskRead s object task recs records lines
+task_read s object task recs records lines read at =
+    let place = place_of object task s.tasks records lines read.each at in record {
+      told = place.told;
+      at = place.at;
+      has = record {
+        fit = all_at (AllByRecursion IsRec) records task place.told read.fit place.at;
+        each = place.each;
+        others = flat_map (map rec_word) (take task records);
+        more = flat_map (map rec_word) (drop (task + 1) records);
+        starts = place.before;
+        words = read.words ∙ sym (flat_map_split (map rec_word) records task place.told place.at) ∙ append_assoc (flat_map (map rec_word) (take task records)) (map rec_word place.told) (flat_map (map rec_word) (drop (task + 1) records));
+      };
+    }
+
+pub task_has : (s : Listing) (object task : ℕ) (recs : List ℕ) (records : Records) (lines : List Line) (rs : List Rec) → AreRead s object recs records → slice_get s.tasks task ≡ Some lines → slice_get records task ≡ Some rs → HasRecords object lines recs (first_record s object task) rs
+task_has s object task recs records lines rs read at-lines at-rs =
+    let own = task_read s object task recs records lines read at-lines in
+    subst (HasRecords object lines recs (first_record s object task)) (same_Some own.told rs (sym own.at ∙ at-rs)) own.has
+
+-- one list of events a task
+lists_length : (object task : ℕ) (tasks : List (List Line)) (records : Records) → HaveRecords object tasks records → length (task_lists task (map (λ ls. map call_words (filter (is_on object) ls)) tasks) records) ≡ length tasks
+lists_length object task [] records have = refl
+lists_length object task (ls ∷ tasks) [] have = absurd have
+lists_length object task (ls ∷ tasks) (rs ∷ rss) have = ap suc (lists_length object (task + 1) tasks rss have.1)
+
+list_at : (from task : ℕ) (plan : Plan) (records : Records) (ws : List CallWords) (rs : List Rec) → slice_get plan task ≡ Some ws → slice_get records task ≡ Some rs → slice_get (task_lists from plan records) task ≡ Some (task_events (from + task) 0 ws rs)
+list_at from task [] records ws rs at-w at-r = cc
+list_at from task (vs ∷ plan) [] ws rs at-w at-r = cc
+list_at from zero (vs ∷ plan) (qs ∷ records) ws rs at-w at-r = rw (same_Some vs ws at-w, same_Some qs rs at-r, add-zero from) refl
+list_at from (suc task) (vs ∷ plan) (qs ∷ records) ws rs at-w at-r =
+    let later : from + 1 + task ≡ from + suc task = omega arith in
+    list_at (from + 1) task plan records ws rs at-w at-r ∙ ap (λ t. Some (task_events t 0 ws rs)) later
+
+module _ {Call : Type 0} (o : Obj Call) where
+  -- every call stands at position 0 or behind it
+  next_zero : (left : List Event) → NextFrom o 0 left
+  next_zero [] = tt
+  next_zero (v ∷ vs) = omega arith
+
+  -- cursors before all lines have all calls left
+  pub all_at_start : (s : Listing) (object : ℕ) (records : Records) (cursors : List Cursor) → ((task : ℕ) → task < length s.tasks → get_or cursors task at_start ≡ record { line = 0; rec = first_record s object task; position = 0 })
+      → AreAt o s object records cursors (task_lists 0 (plan_of s object) records)
+  all_at_start s object records cursors start task lines rs left at-lines at-rs at-left =
+      let within = slice_get_within s.tasks task lines at-lines in
+      let ws = map call_words (filter (is_on object) lines) in
+      let at-ws : slice_get (plan_of s object) task ≡ Some ws = slice_get-map (λ ls. map call_words (filter (is_on object) ls)) s.tasks task ∙ rw at-lines refl in
+      let is = same_Some left (task_events task 0 ws rs) (sym at-left ∙ list_at 0 task (plan_of s object) records ws rs at-ws at-rs ∙ ap (λ t. Some (task_events t 0 ws rs)) (zero-add task)) in
+      subst (λ c. IsAt o object task lines (first_record s object task) rs c left) (sym (start task within)) (record {
+        rec = sym (add-zero (first_record s object task));
+        is = is;
+        next = next_zero left;
+      })
+
+  -- the cursor of one task has gone on, those of the others stay
+  pub one_further : (s : Listing) (object bound i : ℕ) (cursors : List Cursor) (new : Cursor) (task : ℕ) (lines : List Line) (rs : List Rec) (left : List Event) → i < length cursors
+      → IsAt o object task lines (first_record s object task) rs (get_or cursors task at_start) (cond (nat_lt task i) (behind o bound left) left)
+      → (task ≡ i → IsAt o object task lines (first_record s object task) rs new (behind o bound left))
+      → IsAt o object task lines (first_record s object task) rs (get_or (set cursors i new) task at_start) (cond (nat_lt task (i + 1)) (behind o bound left) left)
+  one_further s object bound i cursors new task lines rs left within was now = go (cases_eq task i)
+    where
+      go : (task ≡ i) ⊎ (task ≡ i → ⊥) → IsAt o object task lines (first_record s object task) rs (get_or (set cursors i new) task at_start) (cond (nat_lt task (i + 1)) (behind o bound left) left)
+      go (inl same) =
+          let test : nat_lt task (i + 1) ≡ true = grind (arith, nat_tests) in
+          subst (λ b. IsAt o object task lines (first_record s object task) rs (get_or (set cursors i new) task at_start) (cond b (behind o bound left) left)) (sym test)
+          (subst (λ c. IsAt o object task lines (first_record s object task) rs c (behind o bound left)) (sym (get_or-set_at cursors i task new at_start same within)) (now same))
+      go (inr other) =
+          let test : nat_lt task (i + 1) ≡ nat_lt task i = grind (arith, nat_tests) in
+          subst (λ b. IsAt o object task lines (first_record s object task) rs (get_or (set cursors i new) task at_start) (cond b (behind o bound left) left)) (sym test)
+          (subst (λ c. IsAt o object task lines (first_record s object task) rs c (cond (nat_lt task i) (behind o bound left) left)) (sym (get_or-set_other cursors i task new at_start other)) was)
+
+  -- what is left of the history from a position on
+  pub record HistoryLeft (s : Listing) (object : ℕ) (records : Records) (end position : ℕ) (cursors : List Cursor) (old new : Option (List ℕ)) (before now : List ℕ) : Type 0 where
+    pub lefts : List (List Event)
+    pub count : ℕ
+    pub sum : count + position ≡ end
+    pub at : AreAt o s object records cursors lefts
+    pub each : length lefts ≡ length s.tasks
+    pub text : Remains old new before now (flat_map (event_text s object) (merged o position count lefts)) (flat_map (event_text s object) (merged o 0 end (task_lists 0 (plan_of s object) records)))
+
+  pub history_begins : (s : Listing) (object : ℕ) (recs : List ℕ) (records : Records) (end : ℕ) (cursors : List Cursor) (old : Option (List ℕ)) (before : List ℕ) → AreRead s object recs records
+      → ((task : ℕ) → task < length s.tasks → get_or cursors task at_start ≡ record { line = 0; rec = first_record s object task; position = 0 }) → HistoryLeft s object records end 0 cursors old old before before
+  history_begins s object recs records end cursors old before read start = record {
+    lefts = task_lists 0 (plan_of s object) records;
+    count = end;
+    sum = add-zero end;
+    at = all_at_start s object records cursors start;
+    each = lists_length object 0 s.tasks records read.each;
+    text = remains_all old before (flat_map (event_text s object) (merged o 0 end (task_lists 0 (plan_of s object) records)));
+  }
+
+  -- the text of the calls at the first position, and that of the others
+  split_text : (s : Listing) (object position count : ℕ) (lefts : List (List Event)) → flat_map (event_text s object) (merged o position (suc count) lefts)
+      ≡ flat_map (event_text s object) (flat_map (front o (position + 1)) lefts) ++ flat_map (event_text s object) (merged o (position + 1) count (map (behind o (position + 1)) lefts))
+  split_text s object position count lefts = flat_map-append (event_text s object) (flat_map (front o (position + 1)) lefts) (merged o (position + 1) count (map (behind o (position + 1)) lefts))
+
+  pub history_added : (s : Listing) (object : ℕ) (records : Records) (end position : ℕ) (cursors later : List Cursor) (a b c : Option (List ℕ)) (w0 w1 w2 : List ℕ) (h : HistoryLeft s object records end position cursors a b w0 w1) → position < end
+      → IsOnItsWay b c w2 (w1 ++ flat_map (event_text s object) (flat_map (front o (position + 1)) h.lefts)) → AreAt o s object records later (map (behind o (position + 1)) h.lefts) → HistoryLeft s object records end (position + 1) later a c w0 w2
+  history_added s object records end position cursors later a b c w0 w1 w2 h within way at = go h.count h.sum h.text
+    where
+      go : (count : ℕ) → count + position ≡ end → Remains a b w0 w1 (flat_map (event_text s object) (merged o position count h.lefts)) (flat_map (event_text s object) (merged o 0 end (task_lists 0 (plan_of s object) records))) → HistoryLeft s object records end (position + 1) later a c w0 w2
+      go zero sum text = absurd (omega (arith, sum, within))
+      go (suc count) sum text = record {
+        lefts = map (behind o (position + 1)) h.lefts;
+        count = count;
+        sum = omega (arith, sum);
+        at = at;
+        each = simp length-map h.each;
+        text = remains_added a b c w0 w1 w2 (flat_map (event_text s object) (flat_map (front o (position + 1)) h.lefts)) (flat_map (event_text s object) (merged o (position + 1) count (map (behind o (position + 1)) h.lefts))) (flat_map (event_text s object) (merged o 0 end (task_lists 0 (plan_of s object) records)))
+            (subst (λ t. Remains a b w0 w1 t (flat_map (event_text s object) (merged o 0 end (task_lists 0 (plan_of s object) records)))) (split_text s object position count h.lefts) text) way;
+      }
+
+  pub history_failed : (s : Listing) (object : ℕ) (records : Records) (end position : ℕ) (cursors : List Cursor) (a b c : Option (List ℕ)) (w0 w1 : List ℕ) (h : HistoryLeft s object records end position cursors a b w0 w1) → position < end
+      → Fronts b c (w1 ++ flat_map (event_text s object) (flat_map (front o (position + 1)) h.lefts)) → Fronts a c (w0 ++ flat_map (event_text s object) (merged o 0 end (task_lists 0 (plan_of s object) records)))
+  history_failed s object records end position cursors a b c w0 w1 h within way = go h.count h.sum h.text
+    where
+      go : (count : ℕ) → count + position ≡ end → Remains a b w0 w1 (flat_map (event_text s object) (merged o position count h.lefts)) (flat_map (event_text s object) (merged o 0 end (task_lists 0 (plan_of s object) records))) → Fronts a c (w0 ++ flat_map (event_text s object) (merged o 0 end (task_lists 0 (plan_of s object) records)))
+      go zero sum text = absurd (omega (arith, sum, within))
+      go (suc count) sum text =
+          remains_failed a b c w0 w1 (flat_map (event_text s object) (flat_map (front o (position + 1)) h.lefts)) (flat_map (event_text s object) (merged o (position + 1) count (map (behind o (position + 1)) h.lefts))) (flat_map (event_text s object) (merged o 0 end (task_lists 0 (plan_of s object) records)))
+          (subst (λ t. Remains a b w0 w1 t (flat_map (event_text s object) (merged o 0 end (task_lists 0 (plan_of s object) records)))) (split_text s object position count h.lefts) text) way
+
+  pub history_done : (s : Listing) (object : ℕ) (records : Records) (end position : ℕ) (cursors : List Cursor) (a b : Option (List ℕ)) (w0 w1 : List ℕ) → HistoryLeft s object records end position cursors a b w0 w1 → end ≤ position
+      → IsOnItsWay a b w1 (w0 ++ flat_map (event_text s object) (merged o 0 end (task_lists 0 (plan_of s object) records)))
+  history_done s object records end position cursors a b w0 w1 h past =
+      let none : h.count ≡ 0 = omega (arith, h.sum) in
+      remains_none a b w0 w1 (flat_map (event_text s object) (merged o 0 end (task_lists 0 (plan_of s object) records)))
+      (subst (λ n. Remains a b w0 w1 (flat_map (event_text s object) (merged o position n h.lefts)) (flat_map (event_text s object) (merged o 0 end (task_lists 0 (plan_of s object) records)))) none h.text)
+
+-- a text of texts
+pub text_of_texts : {X Y : Type 0} (f : Y → List ℕ) (g : X → List Y) (xs : List X) → flat_map f (flat_map g xs) ≡ flat_map (λ x. flat_map f (g x)) xs
+text_of_texts f g [] = refl
+text_of_texts f g (x ∷ xs) = flat_map-append f (g x) (flat_map g xs) ∙ ap (λ t. flat_map f (g x) ++ t) (text_of_texts f g xs)

@@ -1,0 +1,22 @@
+use Rattle.std.proofs.Common.{◌≡◌, ◌≤◌, ◌++◌, ℕ, List, length, take, get_or, cond, nat_lt, Some}
+use Rattle.std.specs.Prelude.{flat_map, slice_get}
+use Rattle.word_bits.specs.declared.rec.Rec.{Rec}
+use Rattle.word_bits.specs.Histories.{Records, Event}
+use Rattle.task_script.specs.declared.script.Line.{Line}
+use Rattle.task_script.specs.Causes.{IsOnItsWay}
+use Rattle.mm_report.specs.Text.{event_text}
+use Rattle.mm_report.specs.Merged.{front, behind}
+use Rattle.mm_report.specs.Cursors.{AreRead, AreAt, IsAt, at_start, first_record}
+use Rattle.mm_report.proofs.history.write_position.Given as goal
+
+abbrev pub invariant-loop-task : goal.invariant-loop-task
+invariant-loop-task g l =
+    let o = g.O.Object.object in record {
+      text : (records : Records) (lefts : List (List Event)) → AreRead l.calls.script.now l.calls.object l.calls.recs.now records → length lefts ≡ length l.calls.script.now.tasks → AreAt o l.calls.script.now l.calls.object records l.fn.cursors lefts →
+          IsOnItsWay (g.K.Sink.written l.fn.sink) (g.K.Sink.written l.sink) l.out (l.fn.out ++ flat_map (λ left. flat_map (event_text l.calls.script.now l.calls.object) (front o l.bound left)) (take l.task lefts));
+      at : (records : Records) (lefts : List (List Event)) → AreRead l.calls.script.now l.calls.object l.calls.recs.now records → length lefts ≡ length l.calls.script.now.tasks → AreAt o l.calls.script.now l.calls.object records l.fn.cursors lefts →
+          (task : ℕ) (lines : List Line) (rs : List Rec) (left : List Event) → slice_get l.calls.script.now.tasks task ≡ Some lines → slice_get records task ≡ Some rs → slice_get lefts task ≡ Some left
+          → IsAt o l.calls.object task lines (first_record l.calls.script.now l.calls.object task) rs (get_or l.cursors task at_start) (cond (nat_lt task l.task) (behind o l.bound left) left);
+      all : length l.cursors ≡ length l.fn.cursors;
+      later : g.K.Sink.faults l.fn.sink ≤ g.K.Sink.faults l.sink;
+    }

@@ -1,7 +1,0 @@
-use Rattle.std.proofs.lemmas.Result.{err_from_is_err_and}
-use Rattle.task_script.proofs.Pieces.{fronts_line}
-use Rattle.mm_report.specs.Text.{left_text}
-use Rattle.mm_report.proofs.text.write_count.Goals as goal
-
-pub returns-in_err-make_room-clause-text : goal.returns-in_err-make_room-clause-text
-returns-in_err-make_room-clause-text g c = rw (err_from_is_err_and c.from_residual.result c.from_residual.ensures.1).1 (fronts_line (g.K.Sink.written c.args.sink.now) (g.K.Sink.written c.make_room.new.sink) c.args.out.now (left_text c.args.count) c.in_err-make_room.ensures.bytes)

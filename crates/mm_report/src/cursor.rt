@@ -1,0 +1,47 @@
+//! How far each task's calls on an object are told.
+ghost use Rattle.std.specs.Prelude.{◌≡◌, ◌≤◌, ◌<◌, ℕ, length, get_or};
+ghost use Rattle.mm_report.specs.Results.{calls_on};
+ghost use Rattle.mm_report.specs.Cursors.{at_start, first_record};
+
+use crate::results::count_on;
+use task_script::Script;
+use word_bits::MAX_TASKS;
+
+/// How far a task's calls on one object are told.
+#[derive(Clone, Copy)]
+pub(crate) struct Cursor {
+    /// The line of the task's next call on the object, or one before it.
+    pub(crate) line: usize,
+    /// The place of that call's record.
+    pub(crate) rec: usize,
+    /// No call that is left stands below this position.
+    pub(crate) position: u64,
+}
+
+const START: Cursor = Cursor {
+    line: 0,
+    rec: 0,
+    position: 0,
+};
+
+/// The cursors of all tasks, each before its task's first line.
+pub(crate) fn first_cursors(
+    script: &Script,
+    object: u32,
+    recs: &[u64],
+) -> [Cursor; MAX_TASKS as usize]
+    requires complete { length recs.now ≡ calls_on script.now object }
+    ensures all { length result ≡ 64 }
+    ensures room { length script.now.tasks ≤ 64 }
+    ensures starts { (task : ℕ) → task < length script.now.tasks →
+        get_or result task at_start ≡
+        record { line = 0; rec = first_record script.now object task; position = 0 } }
+{
+    let mut cursors = [START; MAX_TASKS as usize];
+    let mut rec = 0;
+    for task in 0..script.tasks() {
+        cursors[task].rec = rec;
+        rec += count_on(script.calls(task), object);
+    }
+    cursors
+}

@@ -1,0 +1,305 @@
+-- The text of a call is read as that call.
+use Rattle.std.proofs.Common.{◌≡◌, ℕ, ◌/◌, ◌%◌, ◌^◌, ◌<◌, Bool, true, false, cond, ◌&&◌, ◌==◌, zero, suc, List, [], ◌∷◌, ◌++◌, map, length, refl, sym, ap, ◌∙◌, arith, append_assoc, append-nil, codes, Some, None, Ok, nat_lt, inl, inr, ◌⊎◌}
+use Rattle.std.specs.Prelude.{decimal}
+use Rattle.std.specs.Char.{is_ascii_digit}
+use Rattle.std.specs.List.{AllByRecursion, list_all}
+use Rattle.std.specs.Str.{bytes_eq}
+use Rattle.std.proofs.lemmas.Bool.{cases_Bool}
+use Rattle.std.proofs.lemmas.Bool.Decides.{nat_tests}
+use Rattle.std.proofs.lemmas.List.{length-map}
+use Rattle.word_bits.specs.declared.call.CallWords.{CallWords}
+use Rattle.word_bits.specs.declared.call.Mode.{Mode}
+use Rattle.word_bits.specs.declared.call.Mode.TheVariants.{Plain, Int, Try}
+use Rattle.word_bits.specs.Calls.{mode_of, mode_number}
+use Rattle.task_script.specs.declared.verb.Verb.{Verb}
+use Rattle.task_script.specs.declared.verb.Verb.TheVariants.{Map, MapAny, MapNew, Unmap, Protect, Populate, Fault, Open, Close, Dup, Dup2, Get, Signal}
+use Rattle.task_script.specs.declared.verb.Argument.{Argument}
+use Rattle.task_script.specs.declared.verb.Argument.TheVariants.{First, Second, File, Target, Protection, AccessBit}
+use Rattle.task_script.specs.declared.verb.Values.{Values}
+use Rattle.task_script.specs.Cuts.{words}
+use Rattle.task_script.specs.Tokens.{number, prot, access}
+use Rattle.task_script.specs.Verbs.{with_argument, with_arguments, arguments_of, no_values, is_on_kind, takes_mode, kind_of, verb_text, call_with, call_on, call_words_of}
+use Rattle.task_script.specs.Sound.{IsAccess, IsInRange, only, IsCall}
+use Rattle.task_script.specs.Texts.{prot_text, access_text, argument_text, arguments_text, verb_of_kind, values_of, verb_and_arguments}
+use Rattle.task_script.proofs.Accepted.{text_same}
+use Rattle.task_script.proofs.Decimals.{number-decimal, digits-decimal, some-decimal}
+use Rattle.task_script.proofs.Splitting.{is_visible, is_clean, words-cut, words-visible, clean-visible, clean-append}
+
+-- values whose fields can be packed
+pub record AreSmall (v : Values) : Type 0 where
+  pub first : v.first < 2 ^ 32
+  pub second : v.second < 2 ^ 32
+  pub prot : v.prot < 8
+  pub access : v.access < 8
+
+access_small : (n : ℕ) → IsAccess n → n < 8
+access_small n (inl is) = omega arith
+access_small n (inr (inl is)) = omega arith
+access_small n (inr (inr is)) = omega arith
+
+only_small : (arguments : List Argument) (v : Values) → AllByRecursion (IsInRange v) arguments → AreSmall (only arguments v)
+only_small [] v each = record { first = omega arith; second = omega arith; prot = omega arith; access = omega arith }
+only_small (First ∷ arguments) v each = let rest = only_small arguments v each.1 in record { first = each.0; second = rest.second; prot = rest.prot; access = rest.access }
+only_small (Second ∷ arguments) v each = let rest = only_small arguments v each.1 in record { first = rest.first; second = each.0; prot = rest.prot; access = rest.access }
+only_small (File ∷ arguments) v each = let rest = only_small arguments v each.1 in let here = each.0 in record { first = omega arith; second = rest.second; prot = rest.prot; access = rest.access }
+only_small (Target ∷ arguments) v each = let rest = only_small arguments v each.1 in let here = each.0 in record { first = omega arith; second = rest.second; prot = rest.prot; access = rest.access }
+only_small (Protection ∷ arguments) v each = let rest = only_small arguments v each.1 in record { first = rest.first; second = rest.second; prot = each.0; access = rest.access }
+only_small (AccessBit ∷ arguments) v each = let rest = only_small arguments v each.1 in record { first = rest.first; second = rest.second; prot = rest.prot; access = access_small v.access each.0 }
+
+kind_small : (verb : Verb) → kind_of verb < 16
+kind_small Map = omega arith
+kind_small MapAny = omega arith
+kind_small MapNew = omega arith
+kind_small Unmap = omega arith
+kind_small Protect = omega arith
+kind_small Populate = omega arith
+kind_small Fault = omega arith
+kind_small Open = omega arith
+kind_small Close = omega arith
+kind_small Dup = omega arith
+kind_small Dup2 = omega arith
+kind_small Get = omega arith
+kind_small Signal = omega arith
+
+verb_of_kind-kind_of : (verb : Verb) → verb_of_kind (kind_of verb) ≡ Some verb
+verb_of_kind-kind_of Map = refl
+verb_of_kind-kind_of MapAny = refl
+verb_of_kind-kind_of MapNew = refl
+verb_of_kind-kind_of Unmap = refl
+verb_of_kind-kind_of Protect = refl
+verb_of_kind-kind_of Populate = refl
+verb_of_kind-kind_of Fault = refl
+verb_of_kind-kind_of Open = refl
+verb_of_kind-kind_of Close = refl
+verb_of_kind-kind_of Dup = refl
+verb_of_kind-kind_of Dup2 = refl
+verb_of_kind-kind_of Get = refl
+verb_of_kind-kind_of Signal = refl
+
+-- the fields of a call's words are read again
+fields : (verb : Verb) (mode : Mode) (v : Values) → AreSmall v → (verb_of_kind ((call_words_of verb mode v).b % 2 ^ 8) ≡ Some verb) × (values_of (call_words_of verb mode v) ≡ v)
+fields verb mode v small =
+    let kind = kind_small verb in
+    let b = (call_words_of verb mode v).b in
+    let low : b % 2 ^ 8 ≡ kind_of verb = omega (arith, small.prot, small.access) in
+    let first : (call_words_of verb mode v).a % 2 ^ 32 ≡ v.first = omega (arith, small.first) in
+    let second : (call_words_of verb mode v).a / 2 ^ 32 % 2 ^ 32 ≡ v.second = omega (arith, small.first, small.second) in
+    let bits : b / 2 ^ 8 % 2 ^ 8 ≡ v.prot = omega (arith, small.prot, small.access) in
+    let accesses : b / 2 ^ 16 % 2 ^ 8 ≡ v.access = omega (arith, small.prot, small.access) in
+    (ap verb_of_kind low ∙ verb_of_kind-kind_of verb, λ i. record { first = first i; second = second i; prot = bits i; access = accesses i })
+
+pub mode_kept : (verb : Verb) (mode : Mode) (v : Values) → AreSmall v → mode_of (call_words_of verb mode v) ≡ mode
+mode_kept verb mode v small =
+    let kind = kind_small verb in
+    let high : (call_words_of verb mode v).b / 2 ^ 24 ≡ mode_number mode = omega (arith, small.prot, small.access) in
+    rw high (numbered mode)
+  where
+    numbered : (mode : Mode) → cond (mode_number mode == 1) Int (cond (mode_number mode == 2) Try Plain) ≡ mode
+    numbered Plain = refl
+    numbered Int = refl
+    numbered Try = refl
+
+-- a protection is read from its three letters, which are visible
+prot_read : (bits : ℕ) → bits < 8 → (prot (prot_text bits) ≡ Some bits) × (list_all is_visible (prot_text bits) ≡ true)
+prot_read zero small = (refl, refl)
+prot_read (suc zero) small = (refl, refl)
+prot_read (suc (suc zero)) small = (refl, refl)
+prot_read (suc (suc (suc zero))) small = (refl, refl)
+prot_read (suc (suc (suc (suc zero)))) small = (refl, refl)
+prot_read (suc (suc (suc (suc (suc zero))))) small = (refl, refl)
+prot_read (suc (suc (suc (suc (suc (suc zero)))))) small = (refl, refl)
+prot_read (suc (suc (suc (suc (suc (suc (suc zero))))))) small = (refl, refl)
+prot_read (suc (suc (suc (suc (suc (suc (suc (suc n)))))))) small = absurd (omega arith)
+
+-- an access from its letter
+access-text : (bits : ℕ) → IsAccess bits → (access (access_text bits) ≡ Some bits) × (words (access_text bits) ≡ access_text bits ∷ []) × (list_all is_visible (access_text bits) ≡ true)
+access-text bits (inl is) = rw is (refl, refl, refl)
+access-text bits (inr (inl is)) = rw is (refl, refl, refl)
+access-text bits (inr (inr is)) = rw is (refl, refl, refl)
+
+-- a number is one word of visible bytes
+digit_visible : (bs : List ℕ) → list_all is_ascii_digit bs ≡ true → list_all is_visible bs ≡ true
+digit_visible [] all = refl
+digit_visible (b ∷ bs) all = go (is_ascii_digit b) refl all (digit_visible bs)
+  where
+    go : (t : Bool) → is_ascii_digit b ≡ t → (t && list_all is_ascii_digit bs) ≡ true → (list_all is_ascii_digit bs ≡ true → list_all is_visible bs ≡ true) → (is_visible b && list_all is_visible bs) ≡ true
+    go true digit all rest = let here : is_visible b ≡ true = grind (arith, nat_tests) in rw (here, rest all) refl
+    go false digit all rest = cc
+
+some_word : (bs : List ℕ) → 0 < length bs → list_all is_visible bs ≡ true → words bs ≡ bs ∷ []
+some_word [] some all = absurd (omega arith)
+some_word (b ∷ bs) some all = words-visible b bs all
+
+-- the text of an argument in its range is one word, and is read as what the argument says
+abbrev said : Argument → Values → Values → Values
+said First v u = record u { first = v.first }
+said Second v u = record u { second = v.second }
+said File v u = record u { first = v.first }
+said Target v u = record u { first = v.first }
+said Protection v u = record u { prot = v.prot }
+said AccessBit v u = record u { access = v.access }
+
+record IsRead (v : Values) (a : Argument) : Type 0 where
+  visible : list_all is_visible (argument_text v a) ≡ true
+  word : words (argument_text v a) ≡ argument_text v a ∷ []
+  value : (u : Values) → with_argument a (argument_text v a) u ≡ Ok (said a v u)
+
+number_word : (n : ℕ) → n < 2 ^ 32 → (list_all is_visible (decimal n) ≡ true) × (words (decimal n) ≡ decimal n ∷ [])
+number_word n fits = let all = digit_visible (decimal n) (digits-decimal n fits) in (all, some_word (decimal n) (some-decimal n fits) all)
+
+is_read : (v : Values) (a : Argument) → IsInRange v a → IsRead v a
+is_read v First fits = let w = number_word v.first fits in record { visible = w.0; word = w.1; value = λ u. rw (number-decimal v.first fits) refl }
+is_read v Second fits = let w = number_word v.second fits in record { visible = w.0; word = w.1; value = λ u. rw (number-decimal v.second fits) refl }
+is_read v File fits =
+    let w = number_word v.first (omega arith) in
+    let small : nat_lt v.first 65536 ≡ true = grind (arith, nat_tests) in
+    record { visible = w.0; word = w.1; value = λ u. rw (number-decimal v.first (omega arith), small) refl }
+is_read v Target fits =
+    let w = number_word v.first (omega arith) in
+    let small : nat_lt v.first 64 ≡ true = grind (arith, nat_tests) in
+    record { visible = w.0; word = w.1; value = λ u. rw (number-decimal v.first (omega arith), small) refl }
+is_read v Protection fits = let p = prot_read v.prot fits in record { visible = p.1; word = words-visible _ _ p.1; value = λ u. rw p.0 refl }
+is_read v AccessBit fits = let w = access-text v.access fits in record { visible = w.2; word = w.1; value = λ u. rw w.0 refl }
+
+-- so are all of them
+abbrev say_all : List Argument → Values → Values → Values
+say_all [] v u = u
+say_all (a ∷ arguments) v u = say_all arguments v (said a v u)
+
+with_arguments-text : (arguments : List Argument) (v u : Values) → AllByRecursion (IsInRange v) arguments → with_arguments arguments (map (argument_text v) arguments) u ≡ Ok (say_all arguments v u)
+with_arguments-text [] v u each = refl
+with_arguments-text (a ∷ arguments) v u each = rw ((is_read v a each.0).value u) (with_arguments-text arguments v (said a v u) each.1)
+
+words-arguments : (arguments : List Argument) (v : Values) (xs : List ℕ) → AllByRecursion (IsInRange v) arguments → words (xs ++ arguments_text v arguments) ≡ words xs ++ map (argument_text v) arguments
+words-arguments [] v xs each = ap words (append-nil xs) ∙ sym (append-nil (words xs))
+words-arguments (a ∷ arguments) v xs each =
+    ap words (sym (append_assoc xs (32 ∷ argument_text v a) (arguments_text v arguments))) ∙ words-arguments arguments v (xs ++ 32 ∷ argument_text v a) each.1
+    ∙ ap (λ ws. ws ++ map (argument_text v) arguments) (words-cut xs (argument_text v a) ∙ ap (λ ws. words xs ++ ws) (is_read v a each.0).word)
+    ∙ append_assoc (words xs) (argument_text v a ∷ []) (map (argument_text v) arguments)
+
+clean-arguments : (arguments : List Argument) (v : Values) → AllByRecursion (IsInRange v) arguments → list_all is_clean (arguments_text v arguments) ≡ true
+clean-arguments [] v each = refl
+clean-arguments (a ∷ arguments) v each = clean-append (argument_text v a) (arguments_text v arguments) (clean-visible (argument_text v a) (is_read v a each.0).visible) (clean-arguments arguments v each.1)
+
+-- what a verb's arguments say of values is all that is kept of them
+kept : (verb : Verb) (v : Values) → say_all (arguments_of verb) (only (arguments_of verb) v) no_values ≡ only (arguments_of verb) v
+kept Map v = refl
+kept MapAny v = refl
+kept MapNew v = refl
+kept Unmap v = refl
+kept Protect v = refl
+kept Populate v = refl
+kept Fault v = refl
+kept Open v = refl
+kept Close v = refl
+kept Dup v = refl
+kept Dup2 v = refl
+kept Get v = refl
+kept Signal v = refl
+
+kept_ranged : (verb : Verb) (v : Values) → AllByRecursion (IsInRange v) (arguments_of verb) → AllByRecursion (IsInRange (only (arguments_of verb) v)) (arguments_of verb)
+kept_ranged Map v each = each
+kept_ranged MapAny v each = each
+kept_ranged MapNew v each = each
+kept_ranged Unmap v each = each
+kept_ranged Protect v each = each
+kept_ranged Populate v each = each
+kept_ranged Fault v each = each
+kept_ranged Open v each = each
+kept_ranged Close v each = each
+kept_ranged Dup v each = each
+kept_ranged Dup2 v each = each
+kept_ranged Get v each = each
+kept_ranged Signal v each = each
+
+-- any isn't a number
+not_any : (n : ℕ) → n < 2 ^ 32 → bytes_eq (decimal n) (codes "any") ≡ false
+not_any n fits = go (cases_Bool (bytes_eq (decimal n) (codes "any")))
+  where
+    go : (bytes_eq (decimal n) (codes "any") ≡ true) ⊎ (bytes_eq (decimal n) (codes "any") ≡ false) → bytes_eq (decimal n) (codes "any") ≡ false
+    go (inl same) = let read : None ≡ Some n = sym (ap number (text_same (decimal n) (codes "any") same)) ∙ number-decimal n fits in cc
+    go (inr other) = other
+
+-- a verb's word and those behind it
+record IsBegun (is_space : Bool) (mode : Mode) (verb : Verb) (arguments : List (List ℕ)) : Type 0 where
+  word : List ℕ
+  behind : List (List ℕ)
+  words : words (verb_text verb) ++ arguments ≡ word ∷ behind
+  is : call_on is_space mode word behind ≡ call_with mode (record { verb = verb; behind = arguments })
+
+begun : (is_space : Bool) (mode : Mode) (verb : Verb) (v : Values) → is_on_kind is_space verb ≡ true → AllByRecursion (IsInRange v) (arguments_of verb) → IsBegun is_space mode verb (map (argument_text v) (arguments_of verb))
+begun true mode Map v on each = record { word = codes "map"; behind = map (argument_text v) (arguments_of Map); words = refl; is = rw (not_any v.first each.0) refl }
+begun true mode MapAny v on each = record { word = codes "map"; behind = codes "any" ∷ map (argument_text v) (arguments_of MapAny); words = refl; is = refl }
+begun true mode MapNew v on each = record { word = codes "mapnew"; behind = map (argument_text v) (arguments_of MapNew); words = refl; is = refl }
+begun true mode Unmap v on each = record { word = codes "unmap"; behind = map (argument_text v) (arguments_of Unmap); words = refl; is = refl }
+begun true mode Protect v on each = record { word = codes "protect"; behind = map (argument_text v) (arguments_of Protect); words = refl; is = refl }
+begun true mode Populate v on each = record { word = codes "populate"; behind = map (argument_text v) (arguments_of Populate); words = refl; is = refl }
+begun true mode Fault v on each = record { word = codes "fault"; behind = map (argument_text v) (arguments_of Fault); words = refl; is = refl }
+begun true mode Signal v on each = record { word = codes "signal"; behind = map (argument_text v) (arguments_of Signal); words = refl; is = refl }
+begun true mode Open v on each = cc
+begun true mode Close v on each = cc
+begun true mode Dup v on each = cc
+begun true mode Dup2 v on each = cc
+begun true mode Get v on each = cc
+begun false mode Open v on each = record { word = codes "open"; behind = map (argument_text v) (arguments_of Open); words = refl; is = refl }
+begun false mode Close v on each = record { word = codes "close"; behind = map (argument_text v) (arguments_of Close); words = refl; is = refl }
+begun false mode Dup v on each = record { word = codes "dup"; behind = map (argument_text v) (arguments_of Dup); words = refl; is = refl }
+begun false mode Dup2 v on each = record { word = codes "dup2"; behind = map (argument_text v) (arguments_of Dup2); words = refl; is = refl }
+begun false mode Get v on each = record { word = codes "get"; behind = map (argument_text v) (arguments_of Get); words = refl; is = refl }
+begun false mode Signal v on each = record { word = codes "signal"; behind = map (argument_text v) (arguments_of Signal); words = refl; is = refl }
+begun false mode Map v on each = cc
+begun false mode MapAny v on each = cc
+begun false mode MapNew v on each = cc
+begun false mode Unmap v on each = cc
+begun false mode Protect v on each = cc
+begun false mode Populate v on each = cc
+begun false mode Fault v on each = cc
+
+-- the call of a verb, from the words of its arguments
+call_with-text : (mode : Mode) (verb : Verb) (v : Values) → takes_mode verb mode ≡ true → AllByRecursion (IsInRange v) (arguments_of verb)
+    → call_with mode (record { verb = verb; behind = map (argument_text (only (arguments_of verb) v)) (arguments_of verb) }) ≡ Ok (call_words_of verb mode (only (arguments_of verb) v))
+call_with-text mode verb v moded each =
+    let counted : (length (map (argument_text (only (arguments_of verb) v)) (arguments_of verb)) == length (arguments_of verb)) ≡ true = same_length (arguments_of verb) in
+    rw (moded, counted, with_arguments-text (arguments_of verb) (only (arguments_of verb) v) no_values (kept_ranged verb v each), kept verb v) refl
+  where
+    same_length : (arguments : List Argument) → (length (map (argument_text (only (arguments_of verb) v)) arguments) == length arguments) ≡ true
+    same_length arguments = rw length-map (grind (arith, nat_tests))
+
+verb_clean : (verb : Verb) → list_all is_clean (verb_text verb) ≡ true
+verb_clean Map = refl
+verb_clean MapAny = refl
+verb_clean MapNew = refl
+verb_clean Unmap = refl
+verb_clean Protect = refl
+verb_clean Populate = refl
+verb_clean Fault = refl
+verb_clean Open = refl
+verb_clean Close = refl
+verb_clean Dup = refl
+verb_clean Dup2 = refl
+verb_clean Get = refl
+verb_clean Signal = refl
+
+-- the words of a call's text, and what they are read as
+pub record IsCallText (is_space : Bool) (w : CallWords) : Type 0 where
+  pub word : List ℕ
+  pub behind : List (List ℕ)
+  pub words : words (verb_and_arguments w) ≡ word ∷ behind
+  pub clean : list_all is_clean (verb_and_arguments w) ≡ true
+  pub is : call_on is_space (mode_of w) word behind ≡ Ok w
+
+pub call_text_is : (is_space : Bool) (w : CallWords) → IsCall is_space w → IsCallText is_space w
+call_text_is is_space w call =
+    let v = only (arguments_of call.verb) call.values in
+    let small = only_small (arguments_of call.verb) call.values call.ranged in
+    let in_range = kept_ranged call.verb call.values call.ranged in
+    let read = fields call.verb call.mode v small in
+    let text : verb_and_arguments w ≡ verb_text call.verb ++ arguments_text v (arguments_of call.verb) = rw (call.words, read.0, read.1) refl in
+    let start = begun is_space call.mode call.verb v call.known in_range in
+    record {
+      word = start.word;
+      behind = start.behind;
+      words = ap words text ∙ words-arguments (arguments_of call.verb) v (verb_text call.verb) in_range ∙ start.words;
+      clean = rw text (clean-append (verb_text call.verb) (arguments_text v (arguments_of call.verb)) (verb_clean call.verb) (clean-arguments (arguments_of call.verb) v in_range));
+      is = ap (λ m. call_on is_space m start.word start.behind) (ap mode_of call.words ∙ mode_kept call.verb call.mode v small) ∙ start.is ∙ call_with-text call.mode call.verb call.values call.moded call.ranged ∙ ap Ok (sym call.words);
+    }

@@ -1,0 +1,11 @@
+use Rattle.std.proofs.Common.{◌∙◌, sym}
+use Rattle.task_script.proofs.Listings.{place_kept}
+use Rattle.task_script.proofs.draft.Draft.place.Goals as goal
+
+pub returns-in_err-place-clause-place : goal.returns-in_err-place-clause-place
+returns-in_err-place-clause-place c =
+    rw (← c.self.view_is) (c.from_residual.ensures ∙ sym c.in_err-place.was ∙ c.get_index_of.ensures.index ∙ place_kept c.args.name.now.bytes c.self.inside.objects.entries)
+
+pub returns-clause-place : goal.returns-clause-place
+returns-clause-place c =
+    rw (← c.self.view_is) (sym (c.in_ok-place.was) ∙ c.get_index_of.ensures.index ∙ place_kept c.args.name.now.bytes c.self.inside.objects.entries)

@@ -1,0 +1,198 @@
+//! A script while its lines are read.
+ghost use Rattle.std.specs.Prelude.{◌≡◌, ◌<◌, ◌++◌, ◌∷◌, [], length, IfSome, None, Ok};
+ghost use Rattle.task_script.specs.Cuts.{words};
+ghost use Rattle.task_script.specs.Grammar.{call_line, declare_line, line_after, line_of, object_line};
+ghost use Rattle.task_script.specs.Grammar.{is_space_at, place_of, task_line, text_after, with_call};
+ghost use Rattle.task_script.specs.Inside.{declared_of, is_space_kind};
+ghost use Rattle.task_script.specs.Parts.{all_words};
+ghost use Rattle.task_script.specs.Scripts.{nothing};
+ghost use Rattle.task_script.specs.Readings.{Becomes};
+
+use crate::cut::{Words, is_plain_text, said};
+use crate::reason::Reason;
+use crate::script::{Kind, Line};
+use crate::token::{Keyword, Name, keyword_of, name_of};
+use crate::verb::read_call;
+use indexmap::IndexMap;
+use std::alloc::Global;
+use std::marker::Model;
+use word_bits::{CallWords, MAX_TASKS, Mode};
+
+/// Why a line doesn't become part of the script.
+pub(crate) enum LineError {
+    Refused(Reason),
+    Memory,
+}
+
+/// The most objects of a script.
+const MAX_OBJECTS: usize = 16;
+
+/// What was read so far. Contracts see it as a script.
+#[derive(Drop)]
+pub(crate) struct Draft {
+    pub(crate) objects: IndexMap<Name, Kind>,
+    pub(crate) tasks: Vec<Vec<Line>>,
+}
+
+impl Model for Draft {
+    ghost use Rattle.std.specs.Prelude.{◌≤◌, length};
+    ghost use Rattle.task_script.specs.Inside.{listing};
+    ghost use Rattle.task_script.specs.Scripts.{Listing};
+
+    ghost Value = { Listing };
+
+    ghost view = { λ d. listing d.objects.entries d.tasks.items };
+
+    ghost invariant = { λ d. length d.objects.entries ≤ 16 };
+}
+
+impl Draft {
+    pub(crate) fn new(alloc: Global) -> Draft
+        ensures { result ≡ nothing }
+    {
+        Draft {
+            objects: IndexMap::new(alloc),
+            tasks: Vec::new(alloc),
+        }
+    }
+
+    fn place(&self, name: &Name) -> Option<u32>
+        ensures place { result ≡ place_of name.now.bytes self.now.objects }
+        ensures declared { IfSome result (λ place. place < length self.now.objects) }
+    {
+        let place = self.objects.get_index_of(name)?;
+        Some(place as u32)
+    }
+
+    fn is_space(&self, object: u32) -> bool
+        requires { object < length self.now.objects }
+        ensures { result ≡ is_space_at self.now.objects object }
+    {
+        matches!(self.objects[object as usize], Kind::Space)
+    }
+
+    fn push_object(&mut self, name: Name, kind: Kind) -> Result<(), LineError>
+        requires new { place_of name.bytes self.old.objects ≡ None }
+        requires few { length self.old.objects < 16 }
+        ensures { Becomes result self.new (Ok record { objects = self.old.objects ++ declared_of (name, kind) ∷ []; tasks = self.old.tasks }) }
+    {
+        if self.objects.insert(name, kind).is_err() {
+            return Err(LineError::Memory);
+        }
+        Ok(())
+    }
+
+    fn declare(&mut self, kind: Kind, mut words: Words) -> Result<(), LineError>
+        ensures { Becomes result self.new (declare_line (is_space_kind kind) self.old words.entry) }
+    {
+        let (Some(word), None) = (words.next(), words.next()) else {
+            return Err(LineError::Refused(Reason::Words));
+        };
+        if !self.tasks.is_empty() {
+            return Err(LineError::Refused(Reason::Place));
+        }
+        let Some(name) = name_of(word) else {
+            return Err(LineError::Refused(Reason::Name));
+        };
+        if self.place(&name).is_some() {
+            return Err(LineError::Refused(Reason::Twice));
+        }
+        if self.objects.len() >= MAX_OBJECTS {
+            return Err(LineError::Refused(Reason::Limit));
+        }
+        self.push_object(name, kind)
+    }
+
+    fn task(&mut self, alloc: Global, mut words: Words) -> Result<(), LineError>
+        ensures { Becomes result self.new (task_line self.old words.entry) }
+    {
+        if words.next().is_some() {
+            return Err(LineError::Refused(Reason::Words));
+        }
+        if self.tasks.len() >= MAX_TASKS as usize {
+            return Err(LineError::Refused(Reason::Limit));
+        }
+        self.tasks
+            .push(Vec::new(alloc))
+            .map_err(|_| LineError::Memory)
+    }
+
+    fn push_call(&mut self, object: u32, call: CallWords) -> Result<(), LineError>
+        ensures { Becomes result self.new (Ok record { objects = self.old.objects; tasks = with_call self.old.tasks (line_of object call) }) }
+    {
+        let Some(calls) = self.tasks.last_mut() else {
+            return Ok(());
+        };
+        let words = [call.a, call.b];
+        if calls.push(Line { object, words }).is_err() {
+            return Err(LineError::Memory);
+        }
+        Ok(())
+    }
+
+    fn call_on(&mut self, mode: Mode, object: u32, mut words: Words) -> Result<(), LineError>
+        requires { object < length self.old.objects }
+        ensures { Becomes result self.new (object_line mode self.old object words.entry) }
+    {
+        let Some(verb) = words.next() else {
+            return Err(LineError::Refused(Reason::Words));
+        };
+        match read_call(self.is_space(object), mode, verb, words) {
+            Ok(call) => self.push_call(object, call),
+            Err(reason) => Err(LineError::Refused(reason)),
+        }
+    }
+
+    fn call(&mut self, mode: Mode, name: Option<&[u8]>, words: Words) -> Result<(), LineError>
+        ensures { Becomes result self.new (call_line mode self.old (all_words name.entry words.entry)) }
+    {
+        let Some(name) = name else {
+            return Err(LineError::Refused(Reason::Words));
+        };
+        if self.tasks.is_empty() {
+            return Err(LineError::Refused(Reason::Place));
+        }
+        let Some(name) = name_of(name) else {
+            return Err(LineError::Refused(Reason::Name));
+        };
+        match self.place(&name) {
+            Some(object) => self.call_on(mode, object, words),
+            None => Err(LineError::Refused(Reason::Unknown)),
+        }
+    }
+
+    fn call_behind(&mut self, mode: Mode, mut words: Words) -> Result<(), LineError>
+        ensures { Becomes result self.new (call_line mode self.old words.entry) }
+    {
+        let name = words.next();
+        self.call(mode, name, words)
+    }
+
+    fn line_of(&mut self, alloc: Global, mut words: Words) -> Result<(), LineError>
+        ensures { Becomes result self.new (line_after self.old words.entry) }
+    {
+        let Some(first) = words.next() else {
+            return Ok(());
+        };
+        match keyword_of(first) {
+            Some(Keyword::Version) => Err(LineError::Refused(Reason::Version)),
+            Some(Keyword::Space) => self.declare(Kind::Space, words),
+            Some(Keyword::Table) => self.declare(Kind::Table, words),
+            Some(Keyword::Task) => self.task(alloc, words),
+            Some(Keyword::Int) => self.call_behind(Mode::Int, words),
+            Some(Keyword::Try) => self.call_behind(Mode::Try, words),
+            None => self.call(Mode::Plain, Some(first), words),
+        }
+    }
+
+    /// Reads one more line.
+    pub(crate) fn line(&mut self, alloc: Global, line: &[u8]) -> Result<(), LineError>
+        ensures { Becomes result self.new (text_after self.old line.now) }
+    {
+        let line = said(line);
+        if !is_plain_text(line) {
+            return Err(LineError::Refused(Reason::Byte));
+        }
+        self.line_of(alloc, Words::new(line))
+    }
+}

@@ -1,0 +1,332 @@
+//! The calls that a script can name, and their arguments.
+ghost use Rattle.std.specs.Prelude.{◌≡◌, ◌*◌, ◌/◌, ◌%◌, ◌^◌, ◌<◌, ◌≤◌, length, ok_or};
+ghost use Rattle.word_bits.specs.Calls.{mode_number};
+ghost use Rattle.task_script.specs.Tokens.{access, number, prot};
+ghost use Rattle.task_script.specs.Texts.{values_of, verb_of_kind};
+ghost use Rattle.task_script.specs.Verbs.{arguments_of, call_on, call_with, call_words_of, kind_of};
+ghost use Rattle.task_script.specs.Verbs.{no_values, number_below, space_verb, table_verb};
+ghost use Rattle.task_script.specs.Verbs.{takes_mode, verb_of, verb_text, with_any, with_argument};
+ghost use Rattle.task_script.specs.Verbs.{with_arguments};
+
+use crate::cut::Words;
+use crate::reason::Reason;
+use crate::token::{access_of, number_of, prot_of};
+use word_bits::{CallWords, MAX_TASKS, Mode};
+
+/// What a call does.
+#[derive(Clone, Copy, Debug, PartialEq, Eq)]
+pub(crate) enum Verb {
+    Map,
+    MapAny,
+    MapNew,
+    Unmap,
+    Protect,
+    Populate,
+    Fault,
+    Open,
+    Close,
+    Dup,
+    Dup2,
+    Get,
+    Signal,
+}
+
+/// What an argument is.
+#[derive(Clone, Copy, Debug, PartialEq, Eq)]
+pub(crate) enum Argument {
+    /// The call's first number.
+    First,
+    /// Its second number.
+    Second,
+    /// The number of a file, as the first number.
+    File,
+    /// The number of a task, as the first number.
+    Target,
+    Protection,
+    AccessBit,
+}
+
+/// What the arguments say; 0 for what isn't there.
+#[derive(Clone, Copy, Debug, PartialEq, Eq)]
+pub(crate) struct Values {
+    pub(crate) first: u32,
+    pub(crate) second: u32,
+    pub(crate) prot: u8,
+    pub(crate) access: u8,
+}
+
+impl Values {
+    const NONE: Values = Values {
+        first: 0,
+        second: 0,
+        prot: 0,
+        access: 0,
+    };
+
+    /// What the words of a call say.
+    pub(crate) fn of_words(words: CallWords) -> Values
+        ensures { result ≡ values_of words }
+    {
+        Values {
+            first: (words.a & 0xffff_ffff) as u32,
+            second: (words.a >> 32) as u32,
+            prot: byte(words.b, 1),
+            access: byte(words.b, 2),
+        }
+    }
+}
+
+fn byte(word: u64, index: u32) -> u8
+    requires { index < 8 }
+    ensures { result ≡ word / 2 ^ (8 * index) % 2 ^ 8 }
+{
+    ((word >> (8 * index)) & 0xff) as u8
+}
+
+fn number_in(word: &[u8]) -> Result<u32, Reason>
+    ensures { result ≡ ok_or (number word.now) Reason.Number }
+{
+    number_of(word).ok_or(Reason::Number)
+}
+
+fn number_below(word: &[u8], limit: u32, reason: Reason) -> Result<u32, Reason>
+    ensures { result ≡ number_below limit reason word.now }
+{
+    let number = number_in(word)?;
+    if number < limit {
+        Ok(number)
+    } else {
+        Err(reason)
+    }
+}
+
+impl Argument {
+    /// What the arguments in front say, and this one, which is the word.
+    fn read(self, word: &[u8], values: Values) -> Result<Values, Reason>
+        ensures { result ≡ with_argument self word.now values }
+    {
+        let mut values = values;
+        match self {
+            Argument::First => values.first = number_in(word)?,
+            Argument::Second => values.second = number_in(word)?,
+            Argument::File => values.first = number_below(word, 65_536, Reason::Number)?,
+            Argument::Target => values.first = number_below(word, MAX_TASKS, Reason::Limit)?,
+            Argument::Protection => values.prot = prot_of(word).ok_or(Reason::Prot)?,
+            Argument::AccessBit => values.access = access_of(word).ok_or(Reason::Access)?,
+        }
+        Ok(values)
+    }
+}
+
+fn read_arguments(arguments: &[Argument], mut words: Words) -> Result<Values, Reason>
+    ensures { result ≡ with_arguments arguments.now words.entry no_values }
+{
+    let mut values = Values::NONE;
+    for argument in arguments {
+        let Some(word) = words.next() else {
+            break;
+        };
+        values = argument.read(word, values)?;
+    }
+    Ok(values)
+}
+
+impl Verb {
+    /// The verb of a call on a space. `map any` is found by its second word.
+    fn of_space(word: &[u8]) -> Option<Verb>
+        ensures { result ≡ space_verb word.now }
+    {
+        match word {
+            b"map" => Some(Verb::Map),
+            b"mapnew" => Some(Verb::MapNew),
+            b"unmap" => Some(Verb::Unmap),
+            b"protect" => Some(Verb::Protect),
+            b"populate" => Some(Verb::Populate),
+            b"fault" => Some(Verb::Fault),
+            b"signal" => Some(Verb::Signal),
+            _ => None,
+        }
+    }
+
+    /// The verb of a call on a table.
+    fn of_table(word: &[u8]) -> Option<Verb>
+        ensures { result ≡ table_verb word.now }
+    {
+        match word {
+            b"open" => Some(Verb::Open),
+            b"close" => Some(Verb::Close),
+            b"dup" => Some(Verb::Dup),
+            b"dup2" => Some(Verb::Dup2),
+            b"get" => Some(Verb::Get),
+            b"signal" => Some(Verb::Signal),
+            _ => None,
+        }
+    }
+
+    fn of_word(is_space: bool, word: &[u8]) -> Option<Verb>
+        ensures { result ≡ verb_of is_space word.now }
+    {
+        if is_space {
+            Verb::of_space(word)
+        } else {
+            Verb::of_table(word)
+        }
+    }
+
+    fn takes(self, mode: Mode) -> bool
+        ensures { result ≡ takes_mode self mode }
+    {
+        self != Verb::Signal || mode == Mode::Plain
+    }
+
+    /// The kind in a call's words.
+    fn kind(self) -> u64
+        ensures kind { result ≡ kind_of self }
+        ensures small { result < 16 }
+    {
+        match self {
+            Verb::Map => 1,
+            Verb::MapAny => 2,
+            Verb::MapNew => 3,
+            Verb::Unmap => 4,
+            Verb::Protect => 5,
+            Verb::Populate => 6,
+            Verb::Fault => 7,
+            Verb::Open => 8,
+            Verb::Close => 9,
+            Verb::Dup => 10,
+            Verb::Dup2 => 11,
+            Verb::Get => 12,
+            Verb::Signal => 15,
+        }
+    }
+
+    /// The verb of a kind. `None` where no call has the kind.
+    pub(crate) fn of_kind(kind: u64) -> Option<Verb>
+        ensures { result ≡ verb_of_kind kind }
+    {
+        match kind {
+            1 => Some(Verb::Map),
+            2 => Some(Verb::MapAny),
+            3 => Some(Verb::MapNew),
+            4 => Some(Verb::Unmap),
+            5 => Some(Verb::Protect),
+            6 => Some(Verb::Populate),
+            7 => Some(Verb::Fault),
+            8 => Some(Verb::Open),
+            9 => Some(Verb::Close),
+            10 => Some(Verb::Dup),
+            11 => Some(Verb::Dup2),
+            12 => Some(Verb::Get),
+            15 => Some(Verb::Signal),
+            _ => None,
+        }
+    }
+
+    /// The verb as it stands in a script.
+    pub(crate) fn text(self) -> &'static [u8]
+        ensures text { result.now ≡ verb_text self }
+        ensures short { length result.now ≤ 8 }
+    {
+        match self {
+            Verb::Map => b"map",
+            Verb::MapAny => b"map any",
+            Verb::MapNew => b"mapnew",
+            Verb::Unmap => b"unmap",
+            Verb::Protect => b"protect",
+            Verb::Populate => b"populate",
+            Verb::Fault => b"fault",
+            Verb::Open => b"open",
+            Verb::Close => b"close",
+            Verb::Dup => b"dup",
+            Verb::Dup2 => b"dup2",
+            Verb::Get => b"get",
+            Verb::Signal => b"signal",
+        }
+    }
+
+    /// The arguments behind the verb, at most three.
+    pub(crate) fn arguments(self) -> &'static [Argument]
+        ensures list { result.now ≡ arguments_of self }
+        ensures few { length result.now ≤ 3 }
+    {
+        match self {
+            Verb::Map | Verb::MapNew | Verb::Protect | Verb::Populate => &[
+                Argument::First,
+                Argument::Second,
+                Argument::Protection,
+            ],
+            Verb::MapAny => &[Argument::First, Argument::Protection],
+            Verb::Unmap | Verb::Dup2 => &[Argument::First, Argument::Second],
+            Verb::Fault => &[Argument::First, Argument::AccessBit],
+            Verb::Open => &[Argument::File],
+            Verb::Close | Verb::Dup | Verb::Get => &[Argument::First],
+            Verb::Signal => &[Argument::Target],
+        }
+    }
+}
+
+fn mode_number(mode: Mode) -> u64
+    ensures number { result ≡ mode_number mode }
+    ensures small { result < 3 }
+{
+    match mode {
+        Mode::Plain => 0,
+        Mode::Int => 1,
+        Mode::Try => 2,
+    }
+}
+
+impl Verb {
+    /// The words of a call.
+    fn words(self, mode: Mode, values: Values) -> CallWords
+        ensures { result ≡ call_words_of self mode values }
+    {
+        let numbers = u64::from(values.first) + (u64::from(values.second) << 32);
+        let bits = (u64::from(values.prot) << 8) + (u64::from(values.access) << 16);
+        CallWords {
+            a: numbers,
+            b: self.kind() + bits + (mode_number(mode) << 24),
+        }
+    }
+
+    /// This verb, or `map any` where `any` is the next word, which is then taken.
+    fn with_any(self, words: &mut Words) -> Verb
+        ensures verb { result ≡ (with_any self words.old).verb }
+        ensures behind { words.new ≡ (with_any self words.old).behind }
+    {
+        if self == Verb::Map && words.skip(b"any") {
+            Verb::MapAny
+        } else {
+            self
+        }
+    }
+
+    /// The call of this verb with these arguments.
+    fn call(self, mode: Mode, words: Words) -> Result<CallWords, Reason>
+        ensures { result ≡ call_with mode record { verb = self; behind = words.entry } }
+    {
+        if !self.takes(mode) {
+            return Err(Reason::Mode);
+        }
+        if !words.count_is(self.arguments().len()) {
+            return Err(Reason::Words);
+        }
+        let values = read_arguments(self.arguments(), words)?;
+        Ok(self.words(mode, values))
+    }
+}
+
+/// The call on this kind of object that a word and those behind it stand for.
+pub(crate) fn read_call(
+    is_space: bool,
+    mode: Mode,
+    word: &[u8],
+    mut words: Words,
+) -> Result<CallWords, Reason>
+    ensures { result ≡ call_on is_space mode word.now words.entry }
+{
+    let verb = Verb::of_word(is_space, word).ok_or(Reason::Call)?;
+    let verb = verb.with_any(&mut words);
+    verb.call(mode, words)
+}
