@@ -2,9 +2,11 @@
 #![tactic(auto)]
 
 mod op;
+mod plan;
 mod shadow;
 
 pub use op::Op;
+pub use plan::Plan;
 pub use shadow::Shadow;
 
 #[cfg(test)]
