@@ -1,1 +1,10 @@
 pub mod Planning
+pub mod LayoutLaws
+pub mod RowLaws
+pub mod HandLaws
+pub mod SeatSteps
+pub mod RecordLaws
+pub mod Opening
+pub mod Living
+pub mod Steps
+pub mod SiteLaws

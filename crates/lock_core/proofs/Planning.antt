@@ -1,11 +1,11 @@
 -- Lists of calls in vectors.
-use Rattle.std.proofs.Common.{◌≡◌, ℕ, zero, suc, ◌+◌, ◌<◌, ◌≤◌, List, [], ◌∷◌, ◌++◌, length, get_or, set, ap, ◌∙◌, refl, arith, length-append, replicate}
+use Rattle.std.proofs.Common.{sym, ◌≡◌, ℕ, zero, suc, ◌+◌, ◌<◌, ◌≤◌, List, [], ◌∷◌, ◌++◌, length, get_or, set, ap, ◌∙◌, refl, sym, arith, length-append, replicate, drop, append_assoc}
 use Rattle.std.proofs.lemmas.List.{length-replicate}
 use Rattle.std.specs.Global.{Vec}
 use Rattle.word_bits.specs.declared.call.CallWords.{CallWords}
 use Rattle.word_bits.specs.Histories.{Plan}
 use Rattle.std.specs.Prelude.{Result, Ok, Err, IfErr}
-use Rattle.lock_core.specs.Plans.{appended, calls_in, calls_of, IsSmall}
+use Rattle.lock_core.specs.Plans.{appended, calls_in, calls_of, starts_from, task_words, call_words, IsSmall}
 
 module _ {X : Type 0} where
   pub length-appended : (xss : List (List X)) (t : ℕ) (x : X) → length (appended xss t x) ≡ length xss
@@ -45,3 +45,18 @@ calls_in-empty (suc n) = let e = calls_in-empty n in omega arith
 
 pub small-empty : (n : ℕ) → n ≤ 64 → IsSmall (replicate n [])
 small-empty n l = record { tasks = omega (arith, length-replicate {A = List CallWords} n []); calls = omega (arith, calls_in-empty n) }
+
+pub drop-calls : (vs : List (Vec CallWords)) (i : ℕ) (v : Vec CallWords) → v ≡ get_or vs i v → i < length vs → drop i (calls_of vs) ≡ v.items ∷ drop (i + 1) (calls_of vs)
+drop-calls [] i v is l = absurd (omega arith)
+drop-calls (x ∷ xs) zero v is l = ap (λ (z : Vec CallWords). z.items ∷ calls_of xs) (sym is)
+drop-calls (x ∷ xs) (suc i) v is l = let next : suc (i + 1) ≡ suc i + 1 = omega arith in drop-calls xs i v is (omega arith) ∙ ap (λ (n : ℕ). v.items ∷ drop n (calls_of (x ∷ xs))) next
+
+-- where the calls of the tasks start, one task further
+pub starts-further : (xs ys : List ℕ) (n m : ℕ) (ws : List CallWords) (k all : Plan) → ys ≡ xs ++ n ∷ [] → m ≡ length ws → all ≡ ws ∷ k → ys ++ starts_from (n + m) k ≡ xs ++ starts_from n all
+starts-further xs ys n m ws k all more is cut = (λ i. more i ++ starts_from (n + is i) k) ∙ (append_assoc xs (n ∷ []) (starts_from (n + length ws) k) ∙ ap (λ (z : Plan). xs ++ starts_from n z) (sym cut))
+
+pub calls-further : (m : ℕ) (ws : List CallWords) (k all : Plan) → m ≡ length ws → all ≡ ws ∷ k → m + calls_in k ≡ calls_in all
+calls-further m ws k all is cut = ap (λ (z : ℕ). z + calls_in k) is ∙ sym (ap calls_in cut)
+
+pub words-further : (xs ys : List ℕ) (ws : List CallWords) (k all : Plan) → ys ≡ xs ++ task_words ws → all ≡ ws ∷ k → ys ++ call_words k ≡ xs ++ call_words all
+words-further xs ys ws k all more cut = ap (λ (z : List ℕ). z ++ call_words k) more ∙ (append_assoc xs (task_words ws) (call_words k) ∙ ap (λ (z : Plan). xs ++ call_words z) (sym cut))

@@ -1,2 +1,15 @@
 pub mod Ops
 pub mod Plans
+pub mod Layout
+pub mod Records
+pub mod Totals
+pub mod Parts
+pub mod Views
+pub mod Sites
+pub mod Moves
+pub mod Pasts
+pub mod Spins
+pub mod Plays
+pub mod Passes
+pub mod Nothings
+pub mod Barely

@@ -1,7 +1,9 @@
 //! The calls that the tasks are to make on one object.
 ghost use Rattle.std.specs.Prelude.{◌≡◌, ◌+◌, ◌<◌, ◌≤◌, ◌++◌, length, replicate, [], IfOk, IfErr};
-ghost use Rattle.lock_core.specs.Plans.{appended, calls_in, call_words, starts_from};
+ghost use Rattle.lock_core.specs.Plans.{appended, calls_in, task_words, starts_from};
+ghost use Rattle.lock_core.specs.Layout.{fresh};
 
+use crate::layout::{ENTRIES_AT, LOCK_WORDS};
 use std::alloc::{AllocError, Global};
 use std::marker::Model;
 use word_bits::{CallWords, MAX_TASKS};
@@ -46,4 +48,52 @@ impl Plan {
         self.tasks[task as usize].push(call)?;
         Ok(())
     }
+
+    /// Where the calls of each task begin among all calls, and where the last task's end.
+    pub(crate) fn starts(&self, alloc: Global) -> Result<Vec<usize>, AllocError>
+        ensures { IfOk result (λ v. v.items ≡ starts_from 0 self.now) }
+    {
+        let mut starts = Vec::new(alloc);
+        let mut end = 0;
+        for calls in &self.tasks {
+            starts.push(end)?;
+            end += calls.len();
+        }
+        starts.push(end)?;
+        Ok(starts)
+    }
+
+    /// How many calls the tasks have together.
+    fn calls(&self) -> usize
+        ensures count { result ≡ calls_in self.now }
+        ensures few { result ≤ 131072 }
+    {
+        let mut calls = 0;
+        for task in &self.tasks {
+            calls += task.len();
+        }
+        calls
+    }
+
+    /// The words of a new table with this plan.
+    pub(crate) fn table_words(&self, alloc: Global) -> Result<Vec<u64>, AllocError>
+        ensures { IfOk result (λ v. v.items ≡ fresh self.now) }
+    {
+        let mut words = Vec::from_elem(alloc, 0, LOCK_WORDS + ENTRIES_AT + 2 * self.calls())?;
+        for task in &self.tasks {
+            push_calls(&mut words, task.as_slice())?;
+        }
+        Ok(words)
+    }
+}
+
+/// Appends the words of a task's calls.
+fn push_calls(words: &mut Vec<u64>, calls: &[CallWords]) -> Result<(), AllocError>
+    ensures { IfOk result (λ _. words.new.items ≡ words.old.items ++ task_words calls.now) }
+{
+    for call in calls {
+        words.push(call.a)?;
+        words.push(call.b)?;
+    }
+    Ok(())
 }

@@ -1,0 +1,65 @@
+-- What a step on a table asks, from what it makes of the words and the views. The table has no slots in use.
+use Rattle.std.proofs.Common.{◌≡◌, ◌≢◌, ℕ, ◌<◌, eq-eqb, ne_eqb, if◌then◌else◌, List, get_or, set, map, sym, subst}
+use mathlib.Core.Option.{some}
+use mathlib.Core.Logic.{dite}
+use native.Mathlib.Decide.{ℕ_discrete}
+use lib.ListN.{get_elem?}
+use lib.Seq.{set-get_or}
+use Rattle.atomic_table.specs.Table.{State, Me, keeps, Allows}
+use Rattle.atomic_table.proofs.Lists.{at_map}
+use Rattle.lock_core.specs.declared.op.Op.TheVariants.{Load, Store, Exchange}
+use Rattle.lock_core.specs.declared.op.Op.{Op}
+use Rattle.lock_core.specs.declared.view.View.{View}
+use Rattle.lock_core.specs.declared.view.Seen.{Seen}
+use Rattle.lock_core.specs.Ops.{word_after}
+use Rattle.lock_core.specs.Moves.{Goes, Lets}
+use Rattle.lock_core.specs.Pasts.{Lived, view_of, unseen}
+use Rattle.lock_core.proofs.Living.{grown, lived-after}
+
+module _ {V : Type 0} (holds : List ℕ → List V → Type 0) (moves : ℕ → List ℕ → List V → List ℕ → List V → Type 0) where
+  abbrev M : Type 0
+  M = Me (Unit {0}) V
+
+  -- a load, after which the view is w of what was found
+  pub loads : (slots id i : ℕ) (me : M) (w : ℕ → V) (tells : ℕ → M → Type 0)
+      → ((ws : List ℕ) (vs : List V) → holds ws vs → get_elem? vs id ≡ some me.0 → get_or ws i 0 < 18446744073709551616
+      → Goes holds moves id ws vs ws (set vs id (w (get_or ws i 0))) × tells (get_or ws i 0) (w (get_or ws i 0), me.1))
+      → Lets holds moves slots id me i Load tells
+  loads slots id i me w tells step s h _ at small = let t = step s.words s.views h at small in
+      (w (get_or s.words i 0), keeps, tt, subst (λ (ws : List ℕ). Goes holds moves id s.words s.views ws (set s.views id (w (get_or s.words i 0)))) (sym (set-get_or s.words i 0)) t.0, t.1)
+
+  pub stores : (slots id i new : ℕ) (me : M) (w : V) (tells : ℕ → M → Type 0)
+      → ((ws : List ℕ) (vs : List V) → holds ws vs → get_elem? vs id ≡ some me.0 → Goes holds moves id ws vs (set ws i new) (set vs id w) × tells (get_or ws i 0) (w, me.1))
+      → Lets holds moves slots id me i (Store new) tells
+  stores slots id i new me w tells step s h _ at small = let t = step s.words s.views h at in (w, keeps, tt, t.0, t.1)
+
+  -- a compare-exchange: the view where it finds the old word may be chosen by the words
+  pub exchanges : (slots id i old new : ℕ) (me : M) (miss : ℕ → V) (tells : ℕ → M → Type 0)
+      → ((ws : List ℕ) (vs : List V) → holds ws vs → get_elem? vs id ≡ some me.0 → get_or ws i 0 ≡ old → (w : V) × Goes holds moves id ws vs (set ws i new) (set vs id w) × tells old (w, me.1))
+      → ((ws : List ℕ) (vs : List V) → holds ws vs → get_elem? vs id ≡ some me.0 → get_or ws i 0 ≢ old → get_or ws i 0 < 18446744073709551616
+      → Goes holds moves id ws vs ws (set vs id (miss (get_or ws i 0))) × tells (get_or ws i 0) (miss (get_or ws i 0), me.1))
+      → Lets holds moves slots id me i (Exchange old new) tells
+  exchanges slots id i old new me miss tells yes_case no_case s h _ at small = let x : ℕ = get_or s.words i 0 in dite (ℕ_discrete x old)
+      (λ is. let t = yes_case s.words s.views h at is in (
+        t.0,
+        keeps,
+        tt,
+        subst (λ b. Goes holds moves id s.words s.views (set s.words i (if b then new else x)) (set s.views id t.0)) (sym (eq-eqb x old is)) t.1,
+        subst (λ (z : ℕ). tells z (t.0, me.1)) (sym is) t.2,
+      ))
+      (λ not. let t = no_case s.words s.views h at not small in (
+        miss x,
+        keeps,
+        tt,
+        subst (λ b. Goes holds moves id s.words s.views (set s.words i (if b then new else x)) (set s.views id (miss x))) (sym (ne_eqb x old not)) (subst (λ (ws : List ℕ). Goes holds moves id s.words s.views ws (set s.views id (miss x))) (sym (set-get_or s.words i 0)) t.0),
+        t.1,
+      ))
+
+module _ {E : Type 0} (holds : List ℕ → List (View E) → Type 0) (moves : ℕ → List ℕ → List (View E) → List ℕ → List (View E) → Type 0) where
+  abbrev Rule : State (Unit {0}) (Seen E) → Type 0
+  Rule s = Lived holds moves s.words s.views
+
+  -- a step that the rule lets a pass make is one that the table allows
+  pub allows : (slots id i : ℕ) (me : Me (Unit {0}) (Seen E)) (op : Op) (tells : ℕ → Me (Unit {0}) (View E) → Type 0) → Lets holds moves slots id (unseen me) i op tells → Allows Rule slots id me i (word_after op) (λ n m'. tells n (unseen m'))
+  allows slots id i me op tells lets s r l at small = let t = lets record { words = s.words; homes = s.homes; views = map view_of s.views } r.1 l (at_map view_of s.views id me.0 at) small in
+      let ws' : List ℕ = set s.words i (word_after op (get_or s.words i 0)) in (grown holds moves s.words ws' r.0 t.0, t.1, t.2, lived-after holds moves s.words ws' s.views id t.0 r t.3, t.4)

@@ -1,0 +1,18 @@
+use Rattle.std.proofs.Common.{arith, map, sym, ◌∙◌}
+use Rattle.atomic_table.proofs.Lists.{at_map, set_else}
+use Rattle.lock_core.specs.Pasts.{view_of}
+use Rattle.lock_core.proofs.Living.{lived-join}
+use Rattle.lock_core.proofs.SiteLaws.{joins-kept}
+use Rattle.lock_core.proofs.site.Site.gather.Goals as goal
+
+pub join_seat-requires : goal.join_seat-requires
+join_seat-requires g c = let k = c.args.self.now.table.shared.key in let w = c.args.self.now.wide in let R = g.R.SiteRule in let O = g.R.O.Object in let l = g.met.R.SiteRule in
+    let out = sym c.requires.others_own.task ∙ c.requires.numberless in (
+      c.requires.own.own,
+      c.requires.others_own.own,
+      c.requires.others_own.slots,
+      omega (arith, w),
+      λ s r at apart there. let here = at_map view_of s.views _ _ at in let other = at_map view_of s.views _ _ (sym (set_else s.views _ _ _ apart) ∙ there) in
+          lived-join (R.holds k) (R.moves k) s.words s.views _ _ _ _ _ at r (l.joins k s.words (map view_of s.views) _ _ _ _ r.1 here apart other c.requires.rests (c.requires.other_rests.0, c.requires.other_rests.1, out)
+          (joins-kept O.object R.unavailable O.WORDS k R.rests (R.holds k) (R.moves k) (l.site_kept k) (l.sites k) R.idle s.words (map view_of s.views) _ _ _ _ r.1 here apart other c.requires.other_rests.0.0 out)),
+    )

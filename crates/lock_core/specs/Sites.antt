@@ -1,0 +1,113 @@
+-- The site's own facts, over its words and the hands of all views.
+use Rattle.std.specs.Prelude.{◌≡◌, ◌≢◌, ℕ, ◌+◌, ◌-◌, ◌*◌, ◌<◌, ◌≤◌, true, false, List, length, take, map, slice_get, slice_index, Option, Some, None}
+use Rattle.word_bits.specs.declared.entry.Entry.{Entry}
+use Rattle.word_bits.specs.EntryWord.{entry_word}
+use Rattle.word_bits.specs.LockWords.{Unavailable}
+use Rattle.word_bits.specs.Objects.{Obj}
+use Rattle.word_bits.specs.Histories.{Plan, Records, state_after}
+use Rattle.lock_core.specs.declared.view.Hand.{Hand}
+use Rattle.lock_core.specs.declared.view.Told.{Told}
+use Rattle.lock_core.specs.declared.view.Saw.{Saw}
+use Rattle.lock_core.specs.declared.view.Held.TheVariants.{No, Alone}
+use Rattle.lock_core.specs.declared.view.Stage.TheVariants.{Entered, Logged}
+use Rattle.lock_core.specs.declared.layout.TheConstants.{LINES_AT}
+use Rattle.lock_core.specs.Plans.{IsSmall, calls_in, call_words}
+use Rattle.lock_core.specs.Layout.{SiteWords, site_width}
+use Rattle.lock_core.specs.Records.{row, rec_words, sends, intrs, IsPlan, IsLoggedAt, seen_by, AreNext}
+use Rattle.lock_core.specs.Views.{held_of, alone_of, writes_of, owed_of, named_of, sent_of, consumed_of}
+use Rattle.lock_core.specs.Totals.{total}
+use Rattle.lock_core.specs.Parts.{Each}
+
+-- the weights of all hands, added up
+pub record Tally : Type 0 where
+  pub held : ℕ
+  pub alone : ℕ
+  pub writes : ℕ
+  pub owed : ℕ
+  pub named : ℕ → ℕ
+  pub sent : ℕ → ℕ
+  pub consumed : ℕ → ℕ
+
+abbrev pub tally : List Hand → Tally
+tally hs = record {
+  held = total held_of hs;
+  alone = total alone_of hs;
+  writes = total writes_of hs;
+  owed = total owed_of hs;
+  named = λ t. total (named_of t) hs;
+  sent = λ t. total (sent_of t) hs;
+  consumed = λ t. total (consumed_of t) hs;
+}
+
+-- a live view has the table's plan
+abbrev pub HasPlan : Plan → Option Plan → Type 0
+HasPlan k None = Unit {0}
+HasPlan k (Some p) = p ≡ k
+
+-- the first of the three words of a task's line: whether its number is taken
+abbrev pub taken_at : ℕ → ℕ
+taken_at t = 8 * t
+
+abbrev pub sent_at : ℕ → ℕ
+sent_at t = 8 * t + 1
+
+abbrev pub consumed_at : ℕ → ℕ
+consumed_at t = 8 * t + 2
+
+module _ {Call : Type 0} (o : Obj Call) (unavailable : Unavailable) (size : ℕ) (k : Plan) where
+  -- what never changes
+  pub record IsLaid (w : SiteWords) : Type 0 where
+    pub wide : w.wide ≡ site_width k
+    pub calls : w.calls ≡ call_words k
+    pub planned : IsPlan o k
+    pub small : IsSmall k
+    pub guarded : length w.guarded ≡ LINES_AT
+    pub lines : length w.lines ≡ 512
+    pub room : length w.entries ≡ calls_in k
+
+  -- the words are those of this log and of these records
+  pub record Tells (len : ℕ) (entries recs : List ℕ) (log : List Entry) (told : Records) : Type 0 where
+    pub tasks : length told ≡ length k
+    pub many : len ≡ length log
+    pub entered : take (length log) entries ≡ map entry_word log
+    pub filled : recs ≡ rec_words k told
+    pub legal : (t : ℕ) → AreNext o unavailable k log t 0 0 (row k t) (row told t)
+
+  -- what the views are together
+  pub record Balances (guarded lines : List ℕ) (log : List Entry) (told : Records) (s : Tally) : Type 0 where
+    -- who holds alone has no other beside it
+    pub apart : 0 < s.alone → s.held ≤ 1
+    -- where nobody writes, the guarded words are the state after the log
+    pub quiet : s.writes ≡ 0 → take size guarded ≡ o.stores (state_after o k log)
+    -- each entry has its record, but for the last one where a view owes it
+    pub recorded : (j : ℕ) (e : Entry) → slice_get log j ≡ Some e → j + s.owed < length log → IsLoggedAt o k told e j
+    pub few : length log ≤ calls_in told + s.owed
+    pub named : (t : ℕ) → t < 64 → (slice_index lines (taken_at t) ≡ s.named t) × (s.named t ≤ 1)
+    pub sent : (t : ℕ) → t < 64 → slice_index lines (sent_at t) ≡ sends t k told + s.sent t
+    pub consumed : (t : ℕ) → t < 64 → slice_index lines (consumed_at t) ≡ intrs (row told t) + s.consumed t
+    pub pending : (t : ℕ) → t < 64 → slice_index lines (consumed_at t) ≤ slice_index lines (sent_at t)
+
+  -- what is so of each view; `next` is the word behind the log's last one
+  pub record HandOk (guarded : List ℕ) (next : ℕ) (log : List Entry) (told : Records) (h : Hand) : Type 0 where
+    pub plan : HasPlan k h.plan
+    pub known : h.held ≢ No → (h.known ≡ take size guarded) × (h.log ≡ log)
+    pub writer : h.writes ≡ true → h.held ≡ Alone
+    pub seen : (length h.seen ≤ length log) × (take (length h.seen) log ≡ h.seen)
+    pub entered : (e : Entry) → h.stage ≡ Entered e → (h.held ≡ Alone) × (next ≡ entry_word e)
+    pub logged : (e : Entry) → h.stage ≡ Logged e → (h.held ≡ Alone) × (h.task ≡ Some e.task) × (h.done ≡ e.call) × (slice_get log (length log - 1) ≡ Some e)
+    pub mine : (t : ℕ) → h.task ≡ Some t → (t < length k) × (h.done ≡ length (row told t)) × (seen_by o 0 (row k t) (row told t) ≤ length h.seen)
+    pub nameless : h.task ≡ None → (h.held ≡ No) × (h.sent ≡ None) × (h.consumed ≡ false)
+    pub knows : (i : ℕ) (x : Told) → slice_get h.records i ≡ Some x → slice_get (row told x.entry.task) x.entry.call ≡ Some x.rec
+    pub saw : (x : Saw) → h.saw ≡ Some x → x.word < 4194304
+
+  pub record SiteKept (w : SiteWords) (hs : List Hand) : Type 0 where
+    pub log : List Entry
+    pub told : Records
+    pub laid : IsLaid w
+    pub tells : Tells w.len w.entries w.recs log told
+    pub balances : Balances w.guarded w.lines log told (tally hs)
+    pub each : Each (HandOk w.guarded (slice_index w.entries w.len) log told) hs
+
+-- the log's entries stay, and more may come
+abbrev pub Grows : SiteWords → SiteWords → Type 0
+Grows w w' = (w.len ≤ w'.len) × (take w.len w'.entries ≡ take w.len w.entries)

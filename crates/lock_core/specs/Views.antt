@@ -1,0 +1,164 @@
+-- Views, and what each kind of step makes of them.
+use Rattle.std.specs.Prelude.{◌≡◌, ℕ, ◌+◌, ◌==◌, Bool, true, false, List, [], ◌∷◌, ◌++◌, length, slice_get, slice_set, leb, Option, Some, None, if◌then◌else◌}
+use Rattle.word_bits.specs.declared.entry.Entry.{Entry}
+use Rattle.word_bits.specs.declared.rec.Rec.{Rec}
+use Rattle.word_bits.specs.Histories.{Plan}
+use Rattle.lock_core.specs.declared.view.View.{View}
+use Rattle.lock_core.specs.declared.view.Hand.{Hand}
+use Rattle.lock_core.specs.declared.view.SpinHand.{SpinHand}
+use Rattle.lock_core.specs.declared.view.Held.{Held}
+use Rattle.lock_core.specs.declared.view.Held.TheVariants.{No, Shared, Alone}
+use Rattle.lock_core.specs.declared.view.Stage.{Stage}
+use Rattle.lock_core.specs.declared.view.Stage.TheVariants.{Rest, Entered, Logged}
+use Rattle.lock_core.specs.Records.{bit}
+
+-- a pass that has no number, holds nothing and has seen these entries
+abbrev pub stranger : Option Plan → List Entry → Hand
+stranger plan seen = record {
+  plan = plan;
+  task = None;
+  held = No;
+  known = [];
+  log = [];
+  seen = seen;
+  done = 0;
+  records = [];
+  writes = false;
+  stage = Rest;
+  sent = None;
+  consumed = false;
+  last = 0;
+  saw = None;
+  misses = 0;
+  freed = 0;
+}
+
+abbrev pub no_spin : SpinHand
+no_spin = record { holds = false; saw = None; entries = 0 }
+
+-- of two beginnings of one log the longer
+abbrev pub longer : List Entry → List Entry → List Entry
+longer xs ys = if leb (length xs) (length ys) then ys else xs
+
+-- It takes the number, with so many records; what it saw is forgotten.
+abbrev pub became : Hand → ℕ → ℕ → List Entry → Hand
+became h t done seen = record h { task = Some t; done = done; seen = seen; saw = None }
+
+abbrev pub gave_up : Hand → Hand
+gave_up h = record h { task = None }
+
+abbrev pub gathered : Hand → Hand → Hand
+gathered h g = record h { seen = longer h.seen g.seen; records = h.records ++ g.records }
+
+abbrev pub wrote : Hand → ℕ → ℕ → Hand
+wrote h at value = record h { writes = true; known = slice_set h.known at value }
+
+-- The next entry is stored behind the log.
+abbrev pub entered : Hand → Entry → Hand
+entered h e = record h { stage = Entered e }
+
+-- The log has the entry: the guarded words are now the state after it.
+abbrev pub logged : Hand → Entry → Hand
+logged h e = record h { stage = Logged e; writes = false; log = h.log ++ e ∷ []; seen = h.log ++ e ∷ [] }
+
+-- The record is stored, at the step of this number.
+abbrev pub recorded : Hand → ℕ → Entry → Rec → List Entry → Hand
+recorded h step e r seen = record h { stage = Rest; done = h.done + 1; seen = seen; records = record { entry = e; rec = r } ∷ h.records; last = step }
+
+-- It takes the lock, and learns the guarded words and the log.
+abbrev pub took : Hand → Held → List ℕ → List Entry → Hand
+took h held known log = record h { held = held; known = known; log = log }
+
+abbrev pub let_go : Hand → Hand
+let_go h = record h { held = No; known = []; log = [] }
+
+-- the pass knows this record
+abbrev pub Knows : Hand → Entry → Rec → Type 0
+Knows h e r = (i : ℕ) × (slice_get h.records i ≡ Some (record { entry = e; rec = r }))
+
+abbrev pub front : Hand → ℕ
+front h = length h.seen
+
+-- weights of a hand, which are added up over all views
+
+abbrev pub held_weight : Held → ℕ
+held_weight No = 0
+held_weight Shared = 1
+held_weight Alone = 1
+
+abbrev pub alone_weight : Held → ℕ
+alone_weight No = 0
+alone_weight Shared = 0
+alone_weight Alone = 1
+
+abbrev pub owed_weight : Stage → ℕ
+owed_weight Rest = 0
+owed_weight (Entered e) = 0
+owed_weight (Logged e) = 1
+
+abbrev pub is_number : ℕ → Option ℕ → ℕ
+is_number t None = 0
+is_number t (Some u) = bit (u == t)
+
+-- a signal that was consumed by the task's pass
+abbrev pub consumed_weight : ℕ → Option ℕ → Bool → ℕ
+consumed_weight t task false = 0
+consumed_weight t task true = is_number t task
+
+abbrev pub held_of : Hand → ℕ
+held_of h = held_weight h.held
+
+abbrev pub alone_of : Hand → ℕ
+alone_of h = alone_weight h.held
+
+abbrev pub writes_of : Hand → ℕ
+writes_of h = bit h.writes
+
+abbrev pub owed_of : Hand → ℕ
+owed_of h = owed_weight h.stage
+
+abbrev pub named_of : ℕ → Hand → ℕ
+named_of t h = is_number t h.task
+
+abbrev pub sent_of : ℕ → Hand → ℕ
+sent_of t h = is_number t h.sent
+
+abbrev pub consumed_of : ℕ → Hand → ℕ
+consumed_of t h = consumed_weight t h.task h.consumed
+
+module _ {E : Type 0} where
+  abbrev pub hand_of : View E → Hand
+  hand_of v = v.hand
+
+  abbrev pub spin_of : View E → SpinHand
+  spin_of v = v.spin
+
+  -- a step that changes the hand alone
+  abbrev pub handed : View E → Hand → View E
+  handed v h = record v { hand = h; steps = v.steps + 1 }
+
+  -- a step that changes nothing
+  abbrev pub ticked : View E → View E
+  ticked v = record v { steps = v.steps + 1 }
+
+  abbrev pub newcomer : Option Plan → List Entry → E → View E
+  newcomer plan seen ext = record { hand = stranger plan seen; spin = no_spin; steps = 0; fronts = 0; ext = ext }
+
+  -- of the pass that opens the table
+  abbrev pub first : Plan → E → View E
+  first plan ext = newcomer (Some plan) [] ext
+
+  -- of a pass that was split from one with this view
+  abbrev pub split_off : E → View E → View E
+  split_off ext v = newcomer v.hand.plan v.hand.seen ext
+
+  -- of a pass that was gathered
+  abbrev pub spent : E → View E
+  spent ext = newcomer None [] ext
+
+  abbrev pub merged : View E → View E → View E
+  merged v w = handed v (gathered v.hand w.hand)
+
+  -- it holds nothing, neither the lock nor the spin lock
+  abbrev pub HoldsNothing : View E → Type 0
+  HoldsNothing v = (v.hand.held ≡ No) × (v.spin.holds ≡ false)

@@ -1,0 +1,96 @@
+//! The rule of a table with a spin lock alone, and the object that has no words.
+ghost use Rattle.std.specs.Prelude.{◌≡◌, ℕ, List, refl};
+ghost use Rattle.word_bits.specs.declared.call.CallWords.{CallWords};
+ghost use Rattle.lock_core.specs.Nothings.{nothing, few, sized, apart};
+ghost use Rattle.lock_core.specs.Barely.{BareKept, BareMoves, never, bare-site, bare-sites, bare-opens, bare-splits, bare-joins, bare-spins, bare-inside, stays};
+
+use crate::rule::SiteRule;
+use word_bits::{CallWords, Object, Reply};
+
+/// An object without words and calls.
+pub struct Nothing;
+
+impl Object for Nothing {
+    type Call = ();
+
+    const WORDS: usize = 0;
+
+    ghost WORDS = { 0 };
+
+    ghost object = { nothing };
+
+    ghost state = { λ _. tt };
+
+    fn empty() -> Nothing {
+        Nothing
+    }
+
+    fn call_of(_words: CallWords) -> Option<()> {
+        None
+    }
+
+    fn reads(_call: ()) -> bool {
+        true
+    }
+
+    fn apply(&mut self, _call: ()) -> Reply {
+        Reply::Good
+    }
+
+    fn load(_words: &[u64]) -> Option<Nothing> {
+        Some(Nothing)
+    }
+
+    fn store(&self, _out: &mut [u64]) {}
+
+    ghost few_words = { few };
+
+    ghost sized = { sized };
+
+    ghost starts = { tt };
+
+    ghost zeros = { refl };
+
+    ghost apart = { apart };
+
+    ghost called = { λ words call e. tt };
+
+    ghost goes_on = { λ s call a b. tt };
+
+    ghost replies = { λ s call a b. tt };
+
+    ghost reading = { λ s call e. refl };
+
+    ghost refused = { λ s call errno e. refl };
+}
+
+/// The rule of a table with a spin lock and the object `Nothing`.
+pub struct Bare;
+
+impl SiteRule for Bare {
+    type O = Nothing;
+
+    type Ext = ();
+
+    ghost unavailable = { never };
+
+    ghost holds = { BareKept };
+
+    ghost moves = { BareMoves };
+
+    ghost idle = { tt };
+
+    ghost rests = { λ _. Unit {0} };
+
+    ghost site_kept = { bare-site };
+
+    ghost grows = { λ k id ws us vs vs' there step. step };
+
+    ghost sites = { λ k ws vs id i n v h r at same there grows. (bare-sites k ws vs id i n v h r at there, grows) };
+
+    ghost opens = { bare-opens };
+
+    ghost splits = { λ k ws vs id v r at there. (bare-splits k ws vs id v r at there, stays k ws) };
+
+    ghost joins = { λ k ws vs id other v w r at apart at' mine theirs there. (bare-joins k ws vs id other v w r at apart at' theirs.0.1 there, stays k ws) };
+}

@@ -1,0 +1,68 @@
+//! Passes: what a task makes the steps of one table with.
+ghost use Rattle.std.specs.Prelude.{◌≡◌, None};
+ghost use Rattle.lock_core.specs.declared.view.Held.TheVariants.{No};
+
+use crate::rule::SiteRule;
+use crate::view::{Held, Seen};
+use atomic_table::Seat;
+
+/// What a pass says of itself.
+#[derive(Clone, Copy, Debug, PartialEq, Eq)]
+pub(crate) struct Face {
+    pub(crate) task: Option<u32>,
+    pub(crate) held: Held,
+    pub(crate) done: u32,
+    pub(crate) front: u32,
+}
+
+impl Face {
+    /// That of a pass without a number.
+    pub(crate) fn stranger(front: u32) -> Face
+        ensures { result ≡ record { task = None; held = No; done = 0; front = front } }
+    {
+        Face {
+            task: None,
+            held: Held::No,
+            done: 0,
+            front,
+        }
+    }
+}
+
+/// A seat of a site's table. Contracts see what it knows, `seat.me.0.view`, and the moments of the
+/// table up to its last step, `seat.me.0.past`.
+#[derive(Drop)]
+pub struct Pass<R: SiteRule> {
+    pub(crate) seat: Seat<(), Seen<R::Ext>>,
+    pub(crate) face: Face,
+}
+
+impl<R: SiteRule> Pass<R> {
+    /// The task whose number it has.
+    pub fn task(&self) -> Option<u32>
+        ensures { result ≡ self.now.face.task }
+    {
+        self.face.task
+    }
+
+    /// How it holds what the site guards.
+    pub fn held(&self) -> Held
+        ensures { result ≡ self.now.face.held }
+    {
+        self.face.held
+    }
+
+    /// How many of its task's calls are recorded.
+    pub fn done(&self) -> u32
+        ensures { result ≡ self.now.face.done }
+    {
+        self.face.done
+    }
+
+    /// How many entries of the log it has seen. It never falls.
+    pub fn front(&self) -> u32
+        ensures { result ≡ self.now.face.front }
+    {
+        self.face.front
+    }
+}

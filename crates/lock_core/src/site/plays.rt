@@ -1,0 +1,100 @@
+//! What each step tells its pass. A call picks the facts and hands that it needs by `Brand`.
+ghost use Rattle.std.specs.Prelude.{◌≡◌, ℕ, None, []};
+ghost use Rattle.lock_core.specs.declared.view.Hand.{Hand};
+ghost use Rattle.lock_core.specs.Views.{stranger, ticked, split_off, merged, spent};
+ghost use Rattle.lock_core.specs.Plays.{Found, PutBy, Begun};
+ghost use Rattle.lock_core.specs.Pasts.{unseen, Paced};
+
+use crate::rule::SiteRule;
+use crate::site::Between;
+use crate::view::{Seen, View};
+use atomic_table::{Join, Play, Split};
+use std::marker::{Brand, PhantomData};
+
+/// What a load tells.
+pub trait Tells {
+    ghost tells: { ℕ → Type 0 };
+}
+
+impl Tells for Brand {
+    ghost tells = { λ _. Unit {0} };
+}
+
+/// The hand that a store leaves.
+pub trait Puts {
+    ghost hand: { Hand };
+}
+
+impl Puts for Brand {
+    ghost hand = { stranger None [] };
+}
+
+/// What hand a compare-exchange may leave where it finds what it expects.
+pub trait Becomes {
+    ghost becomes: { Hand → Type 0 };
+}
+
+impl Becomes for Brand {
+    ghost becomes = { λ _. Unit {0} };
+}
+
+pub(super) struct Find<T> {
+    told: PhantomData<T>,
+}
+
+impl<E, T: Tells> Play<(), View<E>> for Find<T> {
+    ghost then = { Found T.tells };
+}
+
+pub(super) struct Put<P> {
+    hand: PhantomData<P>,
+}
+
+impl<E, P: Puts> Play<(), View<E>> for Put<P> {
+    ghost then = { PutBy P.hand };
+}
+
+pub(super) struct Begin<B> {
+    hand: PhantomData<B>,
+}
+
+impl<E, B: Becomes> Play<(), View<E>> for Begin<B> {
+    ghost then = { Begun B.becomes };
+}
+
+/// The same, said of a view beside the run.
+pub(super) struct Lift<M> {
+    play: PhantomData<M>,
+}
+
+impl<E, M: Play<(), View<E>>> Play<(), Seen<E>> for Lift<M> {
+    ghost then = { λ st m n m'. M.then st (unseen m) n (unseen m') };
+}
+
+pub(super) struct Recall<N> {
+    between: PhantomData<N>,
+}
+
+impl<E, N: Between> Play<(), Seen<E>> for Recall<N> {
+    ghost then = { λ st m n m'. (m'.0.view ≡ ticked m.0.view) × (m'.1 ≡ m.1) × Paced N.between m'.0.past };
+}
+
+pub(super) struct Cut<R> {
+    rule: PhantomData<R>,
+}
+
+impl<R: SiteRule> Split<Seen<R::Ext>> for Cut<R> {
+    ghost left = { λ v. record v { view = ticked v.view } };
+
+    ghost right = { λ v. record { view = split_off R.idle v.view; past = [] } };
+}
+
+pub(super) struct Glue<R> {
+    rule: PhantomData<R>,
+}
+
+impl<R: SiteRule> Join<Seen<R::Ext>> for Glue<R> {
+    ghost both = { λ v w. record v { view = merged v.view w.view } };
+
+    ghost spent = { record { view = spent R.idle; past = [] } };
+}

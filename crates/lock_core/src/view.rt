@@ -1,0 +1,97 @@
+//! What a pass knows of its table. No value of these types but `Held` is ever made: they exist in
+//! proofs alone. A clause reads an array of length 0 as a list of any length.
+
+use crate::plan::Plan;
+use word_bits::{Entry, Rec};
+
+/// How a pass holds what its table guards.
+#[derive(Clone, Copy, Debug, PartialEq, Eq)]
+pub enum Held {
+    No,
+    /// Beside other passes that hold shared.
+    Shared,
+    /// With no other pass.
+    Alone,
+}
+
+/// How far a commit is.
+pub enum Stage {
+    Rest,
+    /// This entry stands behind the log's last one.
+    Entered(Entry),
+    /// This entry is the log's last one, and its record isn't written.
+    Logged(Entry),
+}
+
+/// A record of a call.
+pub struct Told {
+    pub entry: Entry,
+    pub rec: Rec,
+}
+
+/// A lock's word that a failed try saw, and the number of the step at which it did.
+pub struct Saw {
+    pub word: u64,
+    pub step: u64,
+}
+
+/// What concerns the site's own words.
+pub struct Hand {
+    /// None once the view is spent.
+    pub plan: Option<Plan>,
+    pub task: Option<u32>,
+    pub held: Held,
+    /// While it holds: the guarded words, and the log.
+    pub known: [u64; 0],
+    pub log: [Entry; 0],
+    /// The first entries of the log, as many as `front` says.
+    pub seen: [Entry; 0],
+    /// How many calls of its task are recorded.
+    pub done: u64,
+    /// The records that it made or gathered.
+    pub records: [Told; 0],
+    pub writes: bool,
+    pub stage: Stage,
+    /// A task that it sent a signal to, which isn't recorded.
+    pub sent: Option<u32>,
+    /// It consumed a signal, which isn't recorded.
+    pub consumed: bool,
+    /// The number of the step at which it last recorded a call.
+    pub last: u64,
+    /// Of the owner word or the count.
+    pub saw: Option<Saw>,
+    /// How often a failed try of the owner word or the count has set `saw`.
+    pub misses: u64,
+    /// The lock word as the last step left it that ended or downgraded a hold.
+    pub freed: u64,
+}
+
+/// What concerns the words of the spin lock.
+pub struct SpinHand {
+    pub holds: bool,
+    pub saw: Option<Saw>,
+    /// How often the pass has taken a spin lock of the table.
+    pub entries: u64,
+}
+
+pub struct View<E> {
+    pub hand: Hand,
+    pub spin: SpinHand,
+    /// How many steps the pass has made.
+    pub steps: u64,
+    /// How often it has been the front of the lock's spin queue.
+    pub fronts: u64,
+    /// What the crates above know.
+    pub ext: E,
+}
+
+/// The words of a table at one moment.
+pub struct Moment {
+    pub words: [u64; 0],
+}
+
+/// A view, and the moments of the table up to the pass's last step, the last one first.
+pub struct Seen<E> {
+    pub view: View<E>,
+    pub past: [Moment; 0],
+}
