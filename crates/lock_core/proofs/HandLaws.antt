@@ -81,7 +81,7 @@ tally-stranger hs plan seen = let g : Hand = stranger plan seen in
     let consumed : (t : ℕ) → total (consumed_of t) (hs ++ g ∷ []) ≡ total (consumed_of t) hs = λ t. omega (arith, total-snoc (consumed_of t) hs g) in
     λ i. record { held = held i; alone = alone i; writes = writes i; owed = owed i; named = λ t. named t i; sent = λ t. sent t i; consumed = λ t. consumed t i }
 
-longer-is : (xs ys : List Entry) (P : List Entry → Type 0) → (length xs ≤ length ys → P ys) → (length ys ≤ length xs → P xs) → P (longer xs ys)
+pub longer-is : (xs ys : List Entry) (P : List Entry → Type 0) → (length xs ≤ length ys → P ys) → (length ys ≤ length xs → P xs) → P (longer xs ys)
 longer-is xs ys P more less = false-or-true (leb (length xs) (length ys))
     (λ t. subst (λ (b : Bool). P (if b then ys else xs)) (sym t) (more (leb-true (length xs) (length ys) t)))
     (λ f. subst (λ (b : Bool). P (if b then ys else xs)) (sym f) (let l = leb-false (length xs) (length ys) f in less (omega (arith, l))))

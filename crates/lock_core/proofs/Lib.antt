@@ -8,3 +8,7 @@ pub mod Opening
 pub mod Living
 pub mod Steps
 pub mod SiteLaws
+pub mod SeatLaws
+pub mod Sitting
+pub mod Reading
+pub mod Numbering

@@ -1,19 +1,21 @@
 -- The steps of seats keep the site's facts: opening, splitting, gathering, taking a number and giving it back.
-use Rattle.std.proofs.Common.{◌≡◌, ℕ, ◌+◌, ◌<◌, ◌≤◌, false, List, [], ◌∷◌, ◌++◌, length, take, get_or, set, slice_get, Option, Some, None, sym, refl, ap, ◌∙◌, subst, arith, ⊎_elim, length-set, get_or-set_same, get_or-set_other, length-take-le}
+use Rattle.std.proofs.Common.{zero, suc, ◌≡◌, ℕ, ◌+◌, ◌<◌, ◌≤◌, false, List, [], ◌∷◌, ◌++◌, length, take, get_or, set, slice_get, Option, Some, None, sym, refl, ap, ◌∙◌, subst, arith, ⊎_elim, length-set, get_or-set_same, get_or-set_other, length-take-le}
 use mathlib.Core.Option.{some}
 use mathlib.Core.Logic.{dite}
 use native.Mathlib.Decide.{ℕ_discrete}
 use lib.ListN.{get_elem?}
 use Rattle.word_bits.specs.declared.entry.Entry.{Entry}
+use Rattle.word_bits.specs.declared.rec.Rec.{Rec}
 use Rattle.word_bits.specs.LockWords.{Unavailable}
 use Rattle.word_bits.specs.Objects.{Obj}
 use Rattle.word_bits.specs.Histories.{Plan, Records}
 use Rattle.lock_core.specs.declared.view.Hand.{Hand}
+use Rattle.lock_core.specs.declared.view.Told.{Told}
 use Rattle.lock_core.specs.declared.view.Held.TheVariants.{No, Alone}
 use Rattle.lock_core.specs.declared.view.Stage.TheVariants.{Rest, Entered, Logged}
 use Rattle.lock_core.specs.Layout.{SiteWords}
 use Rattle.lock_core.specs.Records.{row, seen_by}
-use Rattle.lock_core.specs.Views.{stranger, longer, became, gave_up, gathered, alone_weight, owed_weight, is_number, consumed_weight, held_of, alone_of, writes_of, owed_of, named_of, sent_of, consumed_of}
+use Rattle.lock_core.specs.Views.{told_from, stranger, longer, became, gave_up, gathered, alone_weight, owed_weight, is_number, consumed_weight, held_of, alone_of, writes_of, owed_of, named_of, sent_of, consumed_of}
 use Rattle.lock_core.specs.Sites.{HandOk, SiteKept, Balances, HasPlan, taken_at, sent_at, consumed_at}
 use Rattle.lock_core.specs.Totals.{total-set, total-same}
 use Rattle.lock_core.specs.Parts.{each-set, each-snoc}
@@ -26,6 +28,14 @@ stage-owes e eq = let w : owed_weight Rest ≡ owed_weight (Logged e) = ap owed_
 
 rest-entered : (e : Entry) {P : Type 0} → Rest ≡ Entered e → P
 rest-entered e eq = absurd cc
+
+-- the records of a task are those of its list
+told-from-is : (t c : ℕ) (rs all : List Rec) (i : ℕ) (x : Told) → ((j : ℕ) (y : Rec) → slice_get rs j ≡ Some y → slice_get all (c + j) ≡ Some y) → slice_get (told_from t c rs) i ≡ Some x
+    → (rows : ℕ → List Rec) → rows t ≡ all → slice_get (rows x.entry.task) x.entry.call ≡ Some x.rec
+told-from-is t c [] all i x in-all eq rows is = none-some x eq
+told-from-is t c (r ∷ rs) all zero x in-all eq rows is = let e : record { entry = record { task = t; call = c }; rec = r } ≡ x = same-some (record { entry = record { task = t; call = c }; rec = r }) x eq in
+    let first : slice_get all c ≡ Some r = (let n : c ≡ c + 0 = omega arith in ap (slice_get all) n) ∙ in-all 0 r refl in subst (λ (z : Told). slice_get (rows z.entry.task) z.entry.call ≡ Some z.rec) e (ap (λ (l : List Rec). slice_get l c) is ∙ first)
+told-from-is t c (r ∷ rs) all (suc i) x in-all eq rows is = told-from-is t (c + 1) rs all i x (λ j y there. (let n : c + 1 + j ≡ c + suc j = omega arith in ap (slice_get all) n) ∙ in-all (suc j) y there) eq rows is
 
 no-alone : {P : Type 0} → No ≡ Alone → P
 no-alone eq = let w : alone_weight No ≡ alone_weight Alone = ap alone_weight eq in absurd (omega (arith, w))
@@ -100,11 +110,11 @@ module _ {Call : Type 0} (o : Obj Call) (unavailable : Unavailable) (size : ℕ)
 
   -- a pass takes a number that nobody has, with its recorded calls
   pub site-begins : (w : SiteWords) (hs : List Hand) (id t : ℕ) (h : Hand) (r : Kept w hs) → get_elem? hs id ≡ some h → h.task ≡ None → t < length k → get_or w.lines (taken_at t) 0 ≡ 0
-      → Kept (record w { lines = set w.lines (taken_at t) 1 }) (set hs id (became h t (length (row r.told t)) (longer h.seen (take (seen_by o 0 (row k t) (row r.told t)) r.log))))
+      → Kept (record w { lines = set w.lines (taken_at t) 1 }) (set hs id (became h t (row r.told t) (longer h.seen (take (seen_by o 0 (row k t) (row r.told t)) r.log))))
   site-begins w hs id t h r at out inside zero_there = let a = r.each id h at in let idle = a.nameless out in let b = r.balances in let lines = r.laid.lines in let few = r.laid.small.tasks in
       let s : ℕ = seen_by o 0 (row k t) (row r.told t) in let short : s ≤ length r.log = seen_by-within o unavailable k r.log t 0 0 (row k t) (row r.told t) (r.tells.legal t) (omega arith) in
       let mine : List Entry = take s r.log in let long : length mine ≡ s = length-take-le s r.log short in
-      let g : Hand = became h t (length (row r.told t)) (longer h.seen mine) in
+      let g : Hand = became h t (row r.told t) (longer h.seen mine) in
       let held = total-same held_of hs id h g at refl in let alone = total-same alone_of hs id h g at refl in let writes = total-same writes_of hs id h g at refl in let owed = total-same owed_of hs id h g at refl in
       let P : Hand → Type 0 = Ok w.guarded (get_or w.entries w.len 0) r.log r.told in record {
         log = r.log;
@@ -135,7 +145,9 @@ module _ {Call : Type 0} (o : Obj Call) (unavailable : Unavailable) (size : ℕ)
           mine = λ u eq. let is : t ≡ u = same-some t u eq in let l = longer-right h.seen mine in
               subst (λ (z : ℕ). (z < length k) × (length (row r.told t) ≡ length (row r.told z)) × (seen_by o 0 (row k z) (row r.told z) ≤ length (longer h.seen mine))) is (inside, refl, omega arith);
           nameless = λ eq. none-some t (sym eq);
-          knows = a.knows;
+          knows = λ i x eq. ⊎_elim
+              (λ (mine : slice_get (told_from t 0 (row r.told t)) i ≡ Some x). told-from-is t 0 (row r.told t) (row r.told t) i x (λ j y there. subst (λ (z : ℕ). slice_get (row r.told t) z ≡ Some y) (let e : j ≡ 0 + j = omega arith in e) there) mine (row r.told) refl)
+              (λ (q : (j : ℕ) × (i ≡ length (told_from t 0 (row r.told t)) + j) × (slice_get h.records j ≡ Some x)). a.knows q.0 x q.2) (get-either (told_from t 0 (row r.told t)) h.records i x eq);
           saw = λ x eq. none-some x eq;
         } (λ j v _ _ p. p) r.each;
       }

@@ -1,5 +1,5 @@
 -- The steps on a site's words, from the laws of `SiteRule`.
-use Rattle.std.proofs.Common.{◌≡◌, ◌≢◌, ℕ, ◌+◌, inl, List, [], ◌∷◌, ◌++◌, get_or, map, set, drop, None, refl, sym, ap, subst, ◌∙◌, arith}
+use Rattle.std.proofs.Common.{◌-◌, ◌≡◌, ◌≢◌, ℕ, ◌+◌, inl, List, [], ◌∷◌, ◌++◌, get_or, map, set, drop, None, refl, sym, ap, subst, ◌∙◌, arith}
 use Rattle.std.proofs.lemmas.List.{get_or-drop, drop-set-add}
 use mathlib.Core.Option.{some, none}
 use mathlib.Core.List.{map-append}
@@ -45,10 +45,10 @@ module _ {E Call : Type 0} (o : Obj Call) (unavailable : Unavailable) (size : �
       subst (λ (z : List ℕ). Goes holds moves id ws vs z (set vs id (ticked v))) same (sites ws vs id at n v v.hand h there (refl, inl refl) keeps grows)
 
   -- a load that tells something
-  pub finds : (tells : ℕ → Type 0) (slots id at : ℕ) (me : M) → ((s : List ℕ) (hs : List Hand) → Kept (lay k s) hs → get_elem? hs id ≡ some me.0.hand → tells (get_or s at 0))
+  pub finds : (tells : Hand → ℕ → ℕ → Type 0) (slots id at : ℕ) (me : M) → ((s : List ℕ) (hs : List Hand) → Kept (lay k s) hs → get_elem? hs id ≡ some me.0.hand → tells me.0.hand at (get_or s at 0))
       → Lets holds moves slots id me (LOCK_WORDS + at) Load (Found tells (step slots (LOCK_WORDS + at) 0 0 none) me)
-  finds tells slots id at me told = loads holds moves slots id (LOCK_WORDS + at) me (λ _. ticked me.0) (Found tells (step slots (LOCK_WORDS + at) 0 0 none) me)
-      (λ ws vs h there _. (looks ws vs id at me.0 h there, ((refl, refl), subst tells (get_or-drop LOCK_WORDS ws at 0) (told (drop LOCK_WORDS ws) (map hand_of vs) (kept ws vs h) (at_map hand_of vs id me.0 there)))))
+  finds tells slots id at me told = let back : at ≡ (LOCK_WORDS + at) - LOCK_WORDS = omega arith in loads holds moves slots id (LOCK_WORDS + at) me (λ _. ticked me.0) (Found tells (step slots (LOCK_WORDS + at) 0 0 none) me)
+      (λ ws vs h there _. (looks ws vs id at me.0 h there, ((refl, refl), subst (λ (z : ℕ × ℕ). tells me.0.hand z.0 z.1) (λ i. (back i, get_or-drop LOCK_WORDS ws at 0 i)) (told (drop LOCK_WORDS ws) (map hand_of vs) (kept ws vs h) (at_map hand_of vs id me.0 there)))))
 
   -- a store that changes the hand
   changes : (ws : List ℕ) (vs : List (View E)) (id at new : ℕ) (v : View E) (g : Hand) → holds ws vs → get_elem? vs id ≡ some v → KeepsHold rests v g

@@ -1,18 +1,66 @@
 -- A pass with its seat.
-use Rattle.std.specs.Prelude.{◌≡◌, ◌<◌, [], Some}
+use Rattle.std.specs.Prelude.{◌≡◌, ◌≢◌, ℕ, zero, suc, ◌+◌, ◌*◌, ◌<◌, ◌≤◌, List, [], length, take, slice_get, Option, Some}
+use Rattle.word_bits.specs.declared.call.CallWords.{CallWords}
+use Rattle.word_bits.specs.declared.entry.Entry.{Entry}
+use Rattle.word_bits.specs.declared.rec.Rec.{Rec}
+use Rattle.word_bits.specs.RecWord.{IsRec, rec_word}
+use Rattle.word_bits.specs.LockWords.{Unavailable}
+use Rattle.word_bits.specs.Objects.{Obj}
+use Rattle.word_bits.specs.Histories.{Plan}
 use Rattle.atomic_table.specs.Table.{Me}
 use Rattle.atomic_table.specs.Seated.{TableId}
 use Rattle.lock_core.specs.declared.view.Seen.{Seen}
 use Rattle.lock_core.specs.declared.view.Saw.{Saw}
 use Rattle.lock_core.specs.declared.pass.Face.{Face}
-use Rattle.lock_core.specs.Views.{front}
+use Rattle.lock_core.specs.declared.view.Hand.{Hand}
+use Rattle.lock_core.specs.declared.view.Stage.TheVariants.{Rest}
+use Rattle.lock_core.specs.declared.layout.TheConstants.{ENTRIES_AT}
+use Rattle.word_bits.specs.EntryWord.{entry_word}
+use Rattle.lock_core.specs.Plans.{calls_in, start}
+use Rattle.lock_core.specs.Layout.{recs_at, calls_at}
+use Rattle.lock_core.specs.Records.{row, seen_by, AreNext}
+use Rattle.lock_core.specs.Views.{front, became, longer, Knows}
 
 -- the seat is one of the table's, and the pass says of itself what the view does
-pub record Sits {E : Type 0} (table : TableId) (seat : TableId) (me : Me (Unit {0}) (Seen E)) (face : Face) : Type 0 where
+pub record Sits {E : Type 0} (k : Plan) (table : TableId) (seat : TableId) (me : Me (Unit {0}) (Seen E)) (face : Face) : Type 0 where
   pub own : seat ≡ table
   pub slots : me.1 ≡ []
+  pub plan : me.0.view.hand.plan ≡ Some k
   pub task : face.task ≡ me.0.view.hand.task
   pub held : face.held ≡ me.0.view.hand.held
   pub done : face.done ≡ me.0.view.hand.done
   pub front : face.front ≡ front me.0.view.hand
+  pub planned : (t : ℕ) → face.task ≡ Some t → (t < length k) × (face.done ≤ length (row k t))
   pub saw : (x : Saw) → me.0.view.hand.saw ≡ Some x → x.word < 4194304
+
+-- what a load of the word of a call's record tells a pass with this hand
+pub record Shows (h : Hand) (e : Entry) (word : ℕ) : Type 0 where
+  -- a record that it knows is there
+  pub known : (r : Rec) → Knows h e r → word ≡ rec_word r
+  -- any word but 0 is that of a record
+  pub made : word ≢ 0 → (r : Rec) × IsRec r × (word ≡ rec_word r)
+  -- its own task's later calls have none
+  pub mine : h.task ≡ Some e.task → h.done ≤ e.call → word ≡ 0
+
+-- what a pass becomes that takes a number: it has the task's records, each as the rule says, and has seen what the task had
+abbrev pub Numbered : {Call : Type 0} → Obj Call → Unavailable → Plan → Hand → ℕ → Hand → Type 0
+Numbered o unavailable k h t g = (rs : List Rec) × (log : List Entry) × AreNext o unavailable k log t 0 0 (row k t) rs × (g ≡ became h t rs (longer h.seen (take (seen_by o 0 (row k t) rs) log)))
+
+-- the first or the second word of a call
+abbrev pub half_of : ℕ → CallWords → ℕ
+half_of zero w = w.a
+half_of (suc n) w = w.b
+
+-- what a load tells of the site's word at this place
+
+abbrev pub IsLength : Hand → ℕ → ℕ → Type 0
+IsLength h at n = (n ≡ length h.log) × (((k : Plan) → h.plan ≡ Some k → (n ≤ calls_in k) × ((t : ℕ) → h.task ≡ Some t → h.done < length (row k t) → h.stage ≡ Rest → n < calls_in k)))
+
+abbrev pub IsEntryAt : Hand → ℕ → ℕ → Type 0
+IsEntryAt h at n = (j : ℕ) (e : Entry) → at ≡ ENTRIES_AT + j → slice_get h.log j ≡ Some e → n ≡ entry_word e
+
+abbrev pub IsCallWord : Hand → ℕ → ℕ → Type 0
+IsCallWord h at n = (k : Plan) (t c half : ℕ) (w : CallWords) → h.plan ≡ Some k → half < 2 → at ≡ calls_at k + (2 * (start k t + c) + half) → slice_get (row k t) c ≡ Some w → n ≡ half_of half w
+
+abbrev pub IsRecWord : Hand → ℕ → ℕ → Type 0
+IsRecWord h at n = (k : Plan) (t c : ℕ) → h.plan ≡ Some k → c < length (row k t) → at ≡ recs_at k + (start k t + c) → Shows h (record { task = t; call = c }) n

@@ -6,6 +6,7 @@ use Rattle.word_bits.specs.Histories.{Plan}
 use Rattle.lock_core.specs.declared.view.View.{View}
 use Rattle.lock_core.specs.declared.view.Hand.{Hand}
 use Rattle.lock_core.specs.declared.view.SpinHand.{SpinHand}
+use Rattle.lock_core.specs.declared.view.Told.{Told}
 use Rattle.lock_core.specs.declared.view.Held.{Held}
 use Rattle.lock_core.specs.declared.view.Held.TheVariants.{No, Shared, Alone}
 use Rattle.lock_core.specs.declared.view.Stage.{Stage}
@@ -40,9 +41,14 @@ no_spin = record { holds = false; saw = None; entries = 0 }
 abbrev pub longer : List Entry → List Entry → List Entry
 longer xs ys = if leb (length xs) (length ys) then ys else xs
 
--- It takes the number, with so many records; what it saw is forgotten.
-abbrev pub became : Hand → ℕ → ℕ → List Entry → Hand
-became h t done seen = record h { task = Some t; done = done; seen = seen; saw = None }
+-- a task's records, from the call of this number on
+abbrev pub told_from : ℕ → ℕ → List Rec → List Told
+told_from t call [] = []
+told_from t call (r ∷ rs) = record { entry = record { task = t; call = call }; rec = r } ∷ told_from t (call + 1) rs
+
+-- It takes the number, with the task's records; what it saw is forgotten.
+abbrev pub became : Hand → ℕ → List Rec → List Entry → Hand
+became h t rs seen = record h { task = Some t; done = length rs; seen = seen; records = told_from t 0 rs ++ h.records; saw = None }
 
 abbrev pub gave_up : Hand → Hand
 gave_up h = record h { task = None }

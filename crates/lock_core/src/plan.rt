@@ -64,7 +64,7 @@ impl Plan {
     }
 
     /// How many calls the tasks have together.
-    fn calls(&self) -> usize
+    pub(crate) fn calls(&self) -> usize
         ensures count { result ≡ calls_in self.now }
         ensures few { result ≤ 131072 }
     {

@@ -1,5 +1,6 @@
 //! What each step tells its pass. A call picks the facts and hands that it needs by `Brand`.
-ghost use Rattle.std.specs.Prelude.{◌≡◌, ℕ, None, []};
+ghost use Rattle.std.specs.Prelude.{◌≡◌, ℕ, None, [], slice_index};
+ghost use Rattle.lock_core.specs.Passes.{IsLength, IsEntryAt, IsCallWord, IsRecWord};
 ghost use Rattle.lock_core.specs.declared.view.Hand.{Hand};
 ghost use Rattle.lock_core.specs.Views.{stranger, ticked, split_off, merged, spent};
 ghost use Rattle.lock_core.specs.Plays.{Found, PutBy, Begun};
@@ -11,13 +12,44 @@ use crate::view::{Seen, View};
 use atomic_table::{Join, Play, Split};
 use std::marker::{Brand, PhantomData};
 
-/// What a load tells.
+/// What a load of the site's word of some number tells a pass with some hand.
 pub trait Tells {
-    ghost tells: { ℕ → Type 0 };
+    ghost tells: { Hand → ℕ → ℕ → Type 0 };
 }
 
-impl Tells for Brand {
-    ghost tells = { λ _. Unit {0} };
+/// A guarded word, for a pass that holds.
+pub(super) struct Guarded;
+
+impl Tells for Guarded {
+    ghost tells = { λ h at n. n ≡ slice_index h.known at };
+}
+
+/// The length of the log, for a pass that holds.
+pub(super) struct Length;
+
+impl Tells for Length {
+    ghost tells = { IsLength };
+}
+
+/// The word of an entry of the log, for a pass that holds.
+pub(super) struct LogEntry;
+
+impl Tells for LogEntry {
+    ghost tells = { IsEntryAt };
+}
+
+/// A word of a call of the plan.
+pub(super) struct CallWord;
+
+impl Tells for CallWord {
+    ghost tells = { IsCallWord };
+}
+
+/// The word of a call's record.
+pub(super) struct RecWord;
+
+impl Tells for RecWord {
+    ghost tells = { IsRecWord };
 }
 
 /// The hand that a store leaves.

@@ -1,5 +1,5 @@
 use Rattle.std.proofs.Common.{◌≡◌, sym, subst, ◌∙◌, ap, length, List, ℕ, ◌∷◌, []}
-use Rattle.lock_core.specs.Plans.{IsSmall, starts_from}
+use Rattle.lock_core.specs.Plans.{IsSmall, calls_in, starts_from}
 use Rattle.lock_core.specs.Layout.{fresh, width}
 use Rattle.lock_core.specs.Views.{first}
 use Rattle.lock_core.proofs.Living.{lived-open}
@@ -16,5 +16,6 @@ pub invariant_of-result : goal.invariant_of-result
 invariant_of-result g c = let k = c.args.plan in let key = sym c.in_ok-table.ensures.5 in let there : c.as_slice.result.now ≡ fresh k = c.as_slice.ensures.value ∙ c.in_ok-words.ensures in record {
   started = c.in_ok-starts.ensures ∙ ap (starts_from 0) key;
   wide = c.in_ok-table.ensures.0 ∙ (ap length there ∙ (length-fresh k ∙ ap width key));
+  counted = c.calls-count.ensures.count ∙ ap calls_in key;
   small = subst IsSmall key (subst IsSmall c.plan.view_is c.plan.invariant);
 }
