@@ -12,3 +12,7 @@ pub mod SeatLaws
 pub mod Sitting
 pub mod Reading
 pub mod Numbering
+pub mod WordSteps
+pub mod Replies
+pub mod WordLaws
+pub mod Recording

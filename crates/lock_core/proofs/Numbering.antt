@@ -14,6 +14,7 @@ use Rattle.lock_core.specs.declared.view.Hand.{Hand}
 use Rattle.lock_core.specs.declared.view.View.{View}
 use Rattle.lock_core.specs.declared.view.Told.{Told}
 use Rattle.lock_core.specs.Layout.{SiteWords, lay}
+use Rattle.lock_core.specs.Plans.{calls_in}
 use Rattle.lock_core.specs.Records.{row, AreNext, seen_by}
 use Rattle.lock_core.specs.Views.{told_from, became, longer, Knows}
 use Rattle.lock_core.specs.Sites.{SiteKept, Grows}
@@ -100,6 +101,8 @@ sits-numbered o unavailable k table seat seat' me me' face t done seen front' he
   held = same-held ∙ (r.held ∙ sym (ap (λ (z : Hand). z.held) n.3));
   done = many;
   front = most ∙ ((λ i. max (r.front i) (front i)) ∙ sym (numbered-front o unavailable k me.0.view.hand me'.0.view.hand t n));
+  stage = ap (λ (z : Hand). z.stage) n.3 ∙ r.stage;
+  short = subst (λ (z : Hand). length z.log ≤ calls_in k) (sym n.3) r.short;
   planned = λ u e. let s = numbered-short o unavailable k me.0.view.hand me'.0.view.hand t n in subst (λ (z : ℕ). (z < length k) × (done ≤ length (row k z))) (same-some t u e) (inside, omega (arith, s, many));
   saw = λ x e. none-some x (sym (ap (λ (z : Hand). z.saw) n.3) ∙ e);
 }

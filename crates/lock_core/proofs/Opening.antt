@@ -113,6 +113,7 @@ module _ {Call : Type 0} (o : Obj Call) (unavailable : Unavailable) (size : ℕ)
         };
         tells = record {
           tasks = length-replicate {A = List Rec} (length k) [];
+          within = omega arith;
           many = zero-in n 776 cs (omega arith);
           entered = refl;
           filled = recs ∙ sym (rec_words-empty k);

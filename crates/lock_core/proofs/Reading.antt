@@ -70,7 +70,7 @@ module _ {Call : Type 0} (o : Obj Call) (unavailable : Unavailable) (size : ℕ)
   abbrev Kept : SiteWords → List Hand → Type 0
   Kept = SiteKept o unavailable size k
 
-  same-plan : (h : Hand) (p : Plan) → HasPlan k h.plan → h.plan ≡ Some p → p ≡ k
+  pub same-plan : (h : Hand) (p : Plan) → HasPlan k h.plan → h.plan ≡ Some p → p ≡ k
   same-plan h p has is = subst (HasPlan k) is has
 
   half-found : (s : List ℕ) (hs : List Hand) (t c half : ℕ) (w : CallWords) → Kept (lay k s) hs → half < 2 → slice_get (row k t) c ≡ Some w → get_or s (calls_at k + (2 * (start k t + c) + half)) 0 ≡ half_of half w

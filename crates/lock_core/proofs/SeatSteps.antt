@@ -83,14 +83,14 @@ module _ {Call : Type 0} (o : Obj Call) (unavailable : Unavailable) (size : ℕ)
   }
 
   -- a pass takes in what another knows
-  pub site-gathers : (w : SiteWords) (hs : List Hand) (id other : ℕ) (h g : Hand) → Kept w hs → get_elem? hs id ≡ some h → get_elem? hs other ≡ some g → Kept w (set hs id (gathered h g))
-  site-gathers w hs id other h g r at at' = let a = r.each id h at in let b = r.each other g at' in site-rehands w hs id h (gathered h g) r at record { held = refl; writes = refl; owed = refl; task = refl; sent = refl; consumed = refl } record {
+  pub site-gathers : (w : SiteWords) (hs : List Hand) (id other : ℕ) (h g : Hand) → Kept w hs → get_elem? hs id ≡ some h → get_elem? hs other ≡ some g → h.held ≡ No → Kept w (set hs id (gathered h g))
+  site-gathers w hs id other h g r at at' free = let a = r.each id h at in let b = r.each other g at' in site-rehands w hs id h (gathered h g) r at record { held = refl; writes = refl; owed = refl; task = refl; sent = refl; consumed = refl } record {
     plan = a.plan;
     known = a.known;
     writer = a.writer;
     seen = longer-both h.seen g.seen (λ (xs : List Entry). (length xs ≤ length r.log) × (take (length xs) r.log ≡ xs)) a.seen b.seen;
     entered = a.entered;
-    logged = a.logged;
+    logged = λ e eq. no-alone (sym free ∙ (a.logged e eq).0);
     mine = λ t eq. let m = a.mine t eq in let l = m.2 in let n = longer-left h.seen g.seen in (m.0, m.1, omega (arith, l, n));
     nameless = a.nameless;
     knows = λ i x eq. ⊎_elim (λ (l : slice_get h.records i ≡ Some x). a.knows i x l) (λ (q : (j : ℕ) × (i ≡ length h.records + j) × (slice_get g.records j ≡ Some x)). b.knows q.0 x q.2) (get-either h.records g.records i x eq);

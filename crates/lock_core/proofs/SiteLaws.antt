@@ -13,6 +13,7 @@ use Rattle.word_bits.specs.Histories.{Plan}
 use Rattle.lock_core.specs.declared.op.Op.TheVariants.{Load, Store, Exchange}
 use Rattle.lock_core.specs.declared.view.View.{View}
 use Rattle.lock_core.specs.declared.view.Hand.{Hand}
+use Rattle.lock_core.specs.declared.view.Held.TheVariants.{No}
 use Rattle.lock_core.specs.declared.layout.TheConstants.{LOCK_WORDS}
 use Rattle.lock_core.specs.Layout.{SiteWords, lay, site}
 use Rattle.lock_core.specs.Views.{hand_of, handed, ticked, split_off, merged, spent, stranger, gathered}
@@ -78,7 +79,7 @@ module _ {E Call : Type 0} (o : Obj Call) (unavailable : Unavailable) (size : �
       (site-splits o unavailable size k (site k ws) hs id v.hand (kept ws vs h) at)
 
   pub joins-kept : (idle : E) (ws : List ℕ) (vs : List (View E)) (id other : ℕ) (v w : View E) → holds ws vs → get_elem? vs id ≡ some v → other ≢ id → get_elem? vs other ≡ some w
-      → w.hand.held ≡ Rattle.lock_core.specs.declared.view.Held.TheVariants.No → w.hand.task ≡ None → Kept (site k ws) (map hand_of (set (set vs id (merged v w)) other (spent idle)))
-  joins-kept idle ws vs id other v w h there apart there' free out = let hs : List Hand = map hand_of vs in let at = at_map hand_of vs id v there in let at' = at_map hand_of vs other w there' in let g : Hand = gathered v.hand w.hand in
+      → v.hand.held ≡ No → w.hand.held ≡ No → w.hand.task ≡ None → Kept (site k ws) (map hand_of (set (set vs id (merged v w)) other (spent idle)))
+  joins-kept idle ws vs id other v w h there apart there' mine free out = let hs : List Hand = map hand_of vs in let at = at_map hand_of vs id v there in let at' = at_map hand_of vs other w there' in let g : Hand = gathered v.hand w.hand in
       subst (Kept (site k ws)) (sym (map-set hand_of (set vs id (merged v w)) other (spent idle) ∙ ap (λ (z : List Hand). set z other (stranger None [])) (map-set hand_of vs id (merged v w))))
-      (site-leaves o unavailable size k (site k ws) (set hs id g) other w.hand (site-gathers o unavailable size k (site k ws) hs id other v.hand w.hand (kept ws vs h) at at') (set_else hs id other g apart ∙ at') free out)
+      (site-leaves o unavailable size k (site k ws) (set hs id g) other w.hand (site-gathers o unavailable size k (site k ws) hs id other v.hand w.hand (kept ws vs h) at at' mine) (set_else hs id other g apart ∙ at') free out)

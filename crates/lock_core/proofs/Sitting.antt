@@ -1,12 +1,14 @@
 -- A pass goes on with its seat.
-use Rattle.std.proofs.Common.{◌≡◌, ℕ, ◌<◌, ◌≤◌, [], length, Option, Some, sym, ap, ◌∙◌, subst}
+use Rattle.std.proofs.Common.{List, ◌≡◌, ℕ, ◌<◌, ◌≤◌, [], length, Option, Some, sym, ap, ◌∙◌, subst}
 use Rattle.atomic_table.specs.Table.{Me}
 use Rattle.atomic_table.specs.Seated.{TableId}
+use Rattle.word_bits.specs.declared.entry.Entry.{Entry}
 use Rattle.word_bits.specs.Histories.{Plan}
 use Rattle.lock_core.specs.declared.view.Seen.{Seen}
 use Rattle.lock_core.specs.declared.view.Hand.{Hand}
 use Rattle.lock_core.specs.declared.view.Saw.{Saw}
 use Rattle.lock_core.specs.declared.pass.Face.{Face}
+use Rattle.lock_core.specs.Plans.{calls_in}
 use Rattle.lock_core.specs.Records.{row}
 use Rattle.lock_core.specs.Views.{front}
 use Rattle.lock_core.specs.Passes.{Sits}
@@ -21,6 +23,35 @@ sits-on k table seat seat' me me' face face' same slots hand says r = record {
   held = ap (λ (f : Face). f.held) says ∙ (r.held ∙ sym (ap (λ (h : Hand). h.held) hand));
   done = ap (λ (f : Face). f.done) says ∙ (r.done ∙ sym (ap (λ (h : Hand). h.done) hand));
   front = ap (λ (f : Face). f.front) says ∙ (r.front ∙ sym (ap front hand));
+  stage = ap (λ (h : Hand). h.stage) hand ∙ r.stage;
+  short = subst (λ (h : Hand). length h.log ≤ calls_in k) (sym hand) r.short;
   planned = subst (λ (f : Face). (t : ℕ) → f.task ≡ Some t → (t < length k) × (f.done ≤ length (row k t))) (sym says) r.planned;
   saw = subst (λ (h : Hand). (x : Saw) → h.saw ≡ Some x → x.word < 4194304) (sym hand) r.saw;
+}
+
+-- a hand that says the same of the pass
+pub record SameFace (h g : Hand) : Type 0 where
+  pub plan : g.plan ≡ h.plan
+  pub task : g.task ≡ h.task
+  pub held : g.held ≡ h.held
+  pub done : g.done ≡ h.done
+  pub seen : g.seen ≡ h.seen
+  pub stage : g.stage ≡ h.stage
+  pub log : g.log ≡ h.log
+  pub saw : g.saw ≡ h.saw
+
+-- after a step that leaves what the pass says of itself
+pub sits-same : {E : Type 0} (k : Plan) (table seat seat' : TableId) (me me' : Me (Unit {0}) (Seen E)) (face face' : Face) → seat' ≡ seat → me'.1 ≡ me.1 → SameFace me.0.view.hand me'.0.view.hand → face' ≡ face → Sits k table seat me face → Sits k table seat' me' face'
+sits-same k table seat seat' me me' face face' same slots hand says r = record {
+  own = same ∙ r.own;
+  slots = slots ∙ r.slots;
+  plan = hand.plan ∙ r.plan;
+  task = ap (λ (f : Face). f.task) says ∙ (r.task ∙ sym hand.task);
+  held = ap (λ (f : Face). f.held) says ∙ (r.held ∙ sym hand.held);
+  done = ap (λ (f : Face). f.done) says ∙ (r.done ∙ sym hand.done);
+  front = ap (λ (f : Face). f.front) says ∙ (r.front ∙ sym (ap length hand.seen));
+  stage = hand.stage ∙ r.stage;
+  short = subst (λ (l : List Entry). length l ≤ calls_in k) (sym hand.log) r.short;
+  planned = subst (λ (f : Face). (t : ℕ) → f.task ≡ Some t → (t < length k) × (f.done ≤ length (row k t))) (sym says) r.planned;
+  saw = λ x e. r.saw x (sym hand.saw ∙ e);
 }

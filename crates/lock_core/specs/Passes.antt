@@ -1,25 +1,31 @@
 -- A pass with its seat.
-use Rattle.std.specs.Prelude.{◌≡◌, ◌≢◌, ℕ, zero, suc, ◌+◌, ◌*◌, ◌<◌, ◌≤◌, List, [], length, take, slice_get, Option, Some}
+use Rattle.std.specs.Prelude.{◌≡◌, ◌≢◌, ℕ, zero, suc, ◌+◌, ◌*◌, ◌<◌, ◌≤◌, ◌⊎◌, true, false, List, [], length, take, slice_get, Option, Some}
 use Rattle.word_bits.specs.declared.call.CallWords.{CallWords}
 use Rattle.word_bits.specs.declared.entry.Entry.{Entry}
 use Rattle.word_bits.specs.declared.rec.Rec.{Rec}
 use Rattle.word_bits.specs.RecWord.{IsRec, rec_word}
 use Rattle.word_bits.specs.LockWords.{Unavailable}
 use Rattle.word_bits.specs.Objects.{Obj}
-use Rattle.word_bits.specs.Histories.{Plan}
+use Rattle.word_bits.specs.declared.reply.Reply.{Reply}
+use Rattle.word_bits.specs.declared.reply.Reply.TheVariants.{Busy, Intr, Sent}
+use Rattle.word_bits.specs.declared.call.Mode.TheVariants.{Try}
+use Rattle.word_bits.specs.Calls.{mode_of}
+use Rattle.word_bits.specs.Histories.{Plan, state_after, logs}
+use Rattle.word_bits.specs.Legal.{IsRecord, seen_after, is_intr}
 use Rattle.atomic_table.specs.Table.{Me}
 use Rattle.atomic_table.specs.Seated.{TableId}
 use Rattle.lock_core.specs.declared.view.Seen.{Seen}
 use Rattle.lock_core.specs.declared.view.Saw.{Saw}
 use Rattle.lock_core.specs.declared.pass.Face.{Face}
 use Rattle.lock_core.specs.declared.view.Hand.{Hand}
-use Rattle.lock_core.specs.declared.view.Stage.TheVariants.{Rest}
+use Rattle.lock_core.specs.declared.view.Held.TheVariants.{No, Alone}
+use Rattle.lock_core.specs.declared.view.Stage.TheVariants.{Rest, Logged}
 use Rattle.lock_core.specs.declared.layout.TheConstants.{ENTRIES_AT}
 use Rattle.word_bits.specs.EntryWord.{entry_word}
 use Rattle.lock_core.specs.Plans.{calls_in, start}
 use Rattle.lock_core.specs.Layout.{recs_at, calls_at}
-use Rattle.lock_core.specs.Records.{row, seen_by, AreNext}
-use Rattle.lock_core.specs.Views.{front, became, longer, Knows}
+use Rattle.lock_core.specs.Records.{row, seen_by, is_sent, AreNext}
+use Rattle.lock_core.specs.Views.{front, became, longer, owed_of, Knows}
 
 -- the seat is one of the table's, and the pass says of itself what the view does
 pub record Sits {E : Type 0} (k : Plan) (table : TableId) (seat : TableId) (me : Me (Unit {0}) (Seen E)) (face : Face) : Type 0 where
@@ -30,6 +36,8 @@ pub record Sits {E : Type 0} (k : Plan) (table : TableId) (seat : TableId) (me :
   pub held : face.held ≡ me.0.view.hand.held
   pub done : face.done ≡ me.0.view.hand.done
   pub front : face.front ≡ front me.0.view.hand
+  pub stage : me.0.view.hand.stage ≡ Rest
+  pub short : length me.0.view.hand.log ≤ calls_in k
   pub planned : (t : ℕ) → face.task ≡ Some t → (t < length k) × (face.done ≤ length (row k t))
   pub saw : (x : Saw) → me.0.view.hand.saw ≡ Some x → x.word < 4194304
 
@@ -53,8 +61,9 @@ half_of (suc n) w = w.b
 
 -- what a load tells of the site's word at this place
 
+-- the log's length, which leaves room for the pass's next call
 abbrev pub IsLength : Hand → ℕ → ℕ → Type 0
-IsLength h at n = (n ≡ length h.log) × (((k : Plan) → h.plan ≡ Some k → (n ≤ calls_in k) × ((t : ℕ) → h.task ≡ Some t → h.done < length (row k t) → h.stage ≡ Rest → n < calls_in k)))
+IsLength h at n = (n ≡ length h.log) × ((k : Plan) → h.plan ≡ Some k → (n ≤ calls_in k) × ((t : ℕ) → h.task ≡ Some t → h.done < length (row k t) → h.stage ≡ Rest → h.held ≡ Alone → n < calls_in k))
 
 abbrev pub IsEntryAt : Hand → ℕ → ℕ → Type 0
 IsEntryAt h at n = (j : ℕ) (e : Entry) → at ≡ ENTRIES_AT + j → slice_get h.log j ≡ Some e → n ≡ entry_word e
@@ -64,3 +73,61 @@ IsCallWord h at n = (k : Plan) (t c half : ℕ) (w : CallWords) → h.plan ≡ S
 
 abbrev pub IsRecWord : Hand → ℕ → ℕ → Type 0
 IsRecWord h at n = (k : Plan) (t c : ℕ) → h.plan ≡ Some k → c < length (row k t) → at ≡ recs_at k + (start k t + c) → Shows h (record { task = t; call = c }) n
+
+-- the record settles what the pass owes: nothing, or the record of the log's last entry, which it then is
+abbrev pub Settles : {Call : Type 0} → Obj Call → Hand → List Entry → Entry → CallWords → Rec → Type 0
+Settles o h log e w r = (owed_of h ≡ 0) ⊎ ((h.stage ≡ Logged e) × (r.k + 1 ≡ length log) × (logs o w r.reply ≡ true))
+
+-- what a pass may record of its task's next call: the record says, whatever the log is, what the call replied there
+pub record MayRecord {Call : Type 0} (o : Obj Call) (unavailable : Unavailable) (k : Plan) (h : Hand) (e : Entry) (w : CallWords) (r : Rec) (seen : List Entry) : Type 0 where
+  pub task : h.task ≡ Some e.task
+  pub call : h.done ≡ e.call
+  pub planned : slice_get (row k e.task) e.call ≡ Some w
+  pub fits : IsRec r
+  pub enough : seen_after (logs o w r.reply) r ≤ length seen
+  pub unsent : is_sent r.reply ≡ false
+  pub unintr : is_intr r.reply ≡ false
+  pub means : (log : List Entry) → (h.held ≢ No → h.log ≡ log) → (length h.seen ≤ length log) × (take (length h.seen) log ≡ h.seen)
+      → IsRecord o unavailable k log r.k e w r × (owed_of h ≡ 0 → length h.seen ≤ r.k) × (length seen ≤ length log) × (take (length seen) log ≡ seen) × Settles o h log e w r
+
+-- the task's next call changes the object, the guarded words store what it leaves of the state after the log, and this is its reply
+pub record IsChange {Call : Type 0} (o : Obj Call) (k : Plan) (h : Hand) (e : Entry) (reply : Reply) : Type 0 where
+  pub words : CallWords
+  pub call : Call
+  pub planned : slice_get (row k e.task) e.call ≡ Some words
+  pub is : o.call_of words ≡ Some call
+  pub changes : o.reads call ≡ false
+  pub stored : h.known ≡ o.stores ((o.meaning (state_after o k h.log) call).0)
+  pub replies : reply ≡ (o.meaning (state_after o k h.log) call).1
+
+-- the task's next call reads, and this is its reply on the state after the log, which the guarded words store
+pub record IsReading {Call : Type 0} (o : Obj Call) (k : Plan) (h : Hand) (e : Entry) (reply : Reply) : Type 0 where
+  pub words : CallWords
+  pub call : Call
+  pub planned : slice_get (row k e.task) e.call ≡ Some words
+  pub is : o.call_of words ≡ Some call
+  pub reads : o.reads call ≡ true
+  pub held : h.held ≢ No
+  pub stored : h.known ≡ o.stores (state_after o k h.log)
+  pub replies : reply ≡ (o.meaning (state_after o k h.log) call).1
+
+-- the task's next call doesn't wait, and a try since the pass's last record saw this word, which shows that the call can't have the lock
+pub record IsBusy {Call : Type 0} (o : Obj Call) (unavailable : Unavailable) (k : Plan) (h : Hand) (e : Entry) (word : ℕ) : Type 0 where
+  pub words : CallWords
+  pub call : Call
+  pub planned : slice_get (row k e.task) e.call ≡ Some words
+  pub is : o.call_of words ≡ Some call
+  pub tries : mode_of words ≡ Try
+  pub free : h.held ≡ No
+  pub saw : Saw
+  pub seen : h.saw ≡ Some saw
+  pub word_is : saw.word ≡ word
+  pub since : h.last < saw.step
+  pub shut : unavailable (o.reads call) word
+
+-- what a pass may note; interrupted calls and signals come with the locks that have them
+abbrev pub MayNote : {Call : Type 0} → Obj Call → Unavailable → Plan → Hand → Entry → Reply → Type 0
+MayNote o unavailable k h e (Busy word) = IsBusy o unavailable k h e word
+MayNote o unavailable k h e Intr = ⊥
+MayNote o unavailable k h e Sent = ⊥
+MayNote o unavailable k h e reply = IsReading o k h e reply

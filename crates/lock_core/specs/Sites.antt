@@ -69,6 +69,7 @@ module _ {Call : Type 0} (o : Obj Call) (unavailable : Unavailable) (size : ℕ)
   pub record Tells (len : ℕ) (entries recs : List ℕ) (log : List Entry) (told : Records) : Type 0 where
     pub tasks : length told ≡ length k
     pub many : len ≡ length log
+    pub within : length log ≤ calls_in k
     pub entered : take (length log) entries ≡ map entry_word log
     pub filled : recs ≡ rec_words k told
     pub legal : (t : ℕ) → AreNext o unavailable k log t 0 0 (row k t) (row told t)
@@ -94,7 +95,7 @@ module _ {Call : Type 0} (o : Obj Call) (unavailable : Unavailable) (size : ℕ)
     pub writer : h.writes ≡ true → h.held ≡ Alone
     pub seen : (length h.seen ≤ length log) × (take (length h.seen) log ≡ h.seen)
     pub entered : (e : Entry) → h.stage ≡ Entered e → (h.held ≡ Alone) × (next ≡ entry_word e)
-    pub logged : (e : Entry) → h.stage ≡ Logged e → (h.held ≡ Alone) × (h.task ≡ Some e.task) × (h.done ≡ e.call) × (slice_get log (length log - 1) ≡ Some e)
+    pub logged : (e : Entry) → h.stage ≡ Logged e → (h.held ≡ Alone) × (h.task ≡ Some e.task) × (h.done ≡ e.call) × (slice_get log (length log - 1) ≡ Some e) × (length h.seen < length log)
     pub mine : (t : ℕ) → h.task ≡ Some t → (t < length k) × (h.done ≡ length (row told t)) × (seen_by o 0 (row k t) (row told t) ≤ length h.seen)
     pub nameless : h.task ≡ None → (h.held ≡ No) × (h.sent ≡ None) × (h.consumed ≡ false)
     pub knows : (i : ℕ) (x : Told) → slice_get h.records i ≡ Some x → slice_get (row told x.entry.task) x.entry.call ≡ Some x.rec

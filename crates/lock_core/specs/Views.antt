@@ -1,7 +1,9 @@
 -- Views, and what each kind of step makes of them.
-use Rattle.std.specs.Prelude.{◌≡◌, ℕ, ◌+◌, ◌==◌, Bool, true, false, List, [], ◌∷◌, ◌++◌, length, slice_get, slice_set, leb, Option, Some, None, if◌then◌else◌}
+use Rattle.std.specs.Prelude.{◌≡◌, ℕ, ◌+◌, ◌==◌, Bool, true, false, List, [], ◌∷◌, ◌++◌, length, slice_get, slice_set, leb, Option, Some, None, if◌then◌else◌, ◌/◌, ◌%◌, ◌^◌}
 use Rattle.word_bits.specs.declared.entry.Entry.{Entry}
 use Rattle.word_bits.specs.declared.rec.Rec.{Rec}
+use Rattle.word_bits.specs.declared.reply.Reply.{Reply}
+use Rattle.word_bits.specs.declared.reply.Reply.TheVariants.{Busy, Intr, Sent}
 use Rattle.word_bits.specs.Histories.{Plan}
 use Rattle.lock_core.specs.declared.view.View.{View}
 use Rattle.lock_core.specs.declared.view.Hand.{Hand}
@@ -65,11 +67,35 @@ entered h e = record h { stage = Entered e }
 
 -- The log has the entry: the guarded words are now the state after it.
 abbrev pub logged : Hand → Entry → Hand
-logged h e = record h { stage = Logged e; writes = false; log = h.log ++ e ∷ []; seen = h.log ++ e ∷ [] }
+logged h e = record h { stage = Logged e; writes = false; log = h.log ++ e ∷ [] }
 
 -- The record is stored, at the step of this number.
 abbrev pub recorded : Hand → ℕ → Entry → Rec → List Entry → Hand
 recorded h step e r seen = record h { stage = Rest; done = h.done + 1; seen = seen; records = record { entry = e; rec = r } ∷ h.records; last = step }
+
+-- the entry of a word
+abbrev pub entry_of : ℕ → Entry
+entry_of n = record { task = n / 2 ^ 18; call = n % 2 ^ 18 }
+
+-- the entry that a commit is about
+abbrev pub entry_in : Stage → Entry
+entry_in Rest = record { task = 0; call = 0 }
+entry_in (Entered e) = e
+entry_in (Logged e) = e
+
+-- A commit: the log has the entry and its record, at the step of this number.
+abbrev pub committed : Hand → ℕ → Entry → Reply → Hand
+committed h step e reply = recorded (logged h e) step e (record { k = length h.log; reply = reply }) (h.log ++ e ∷ [])
+
+-- A call that isn't logged stands where the log ends, or where the pass saw it end if it never held.
+abbrev pub note_seen : Hand → Reply → List Entry
+note_seen h (Busy word) = h.seen
+note_seen h Intr = h.seen
+note_seen h Sent = h.seen
+note_seen h reply = h.log
+
+abbrev pub noted : Hand → ℕ → Entry → Reply → Hand
+noted h step e reply = recorded h step e (record { k = length (note_seen h reply); reply = reply }) (note_seen h reply)
 
 -- It takes the lock, and learns the guarded words and the log.
 abbrev pub took : Hand → Held → List ℕ → List Entry → Hand

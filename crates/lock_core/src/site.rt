@@ -29,6 +29,7 @@ mod plays;
 mod reading;
 mod seats;
 mod steps;
+mod words;
 
 /// A relation between the words of a table before and after a step.
 pub trait Between {

@@ -1,0 +1,23 @@
+use Rattle.std.proofs.Common.{◌≡◌, ap, sym, ◌∙◌}
+use Rattle.lock_core.specs.declared.view.Hand.{Hand}
+use Rattle.lock_core.specs.Views.{wrote}
+use Rattle.lock_core.proofs.Sitting.{sits-same}
+use Rattle.lock_core.proofs.WordLaws.{writes-there}
+use Rattle.lock_core.proofs.site.Site.set_word.Goals as goal
+
+pub put-requires-clause-keeps : goal.put-requires-clause-keeps
+put-requires-clause-keeps g c = λ s hs r at. writes-there g.R.O.Object.object g.R.SiteRule.unavailable g.R.O.Object.WORDS c.args.self.now.table.shared.key s hs c.args.pass.now.seat.id c.args.at c.args.value c.args.pass.now.seat.me.0.view.hand g.met.R.O.Object.few_words r at (sym c.requires.own.held ∙ c.requires.held) c.requires.inside
+
+pub returns-clause-own : goal.returns-clause-own
+returns-clause-own g c = let h : c.put.new.pass.seat.me.0.view.hand ≡ wrote c.args.pass.now.seat.me.0.view.hand c.args.at c.args.value = ap (λ v. v.hand) c.put.ensures.kept in
+    sits-same c.args.self.now.table.shared.key c.args.self.now.table.shared.table_id c.args.pass.now.seat.table_id c.put.new.pass.seat.table_id c.args.pass.now.seat.me c.put.new.pass.seat.me c.args.pass.now.face c.put.new.pass.face
+    c.put.ensures.own.0 c.put.ensures.own.2 record {
+      plan = ap (λ (z : Hand). z.plan) h;
+      task = ap (λ (z : Hand). z.task) h;
+      held = ap (λ (z : Hand). z.held) h;
+      done = ap (λ (z : Hand). z.done) h;
+      seen = ap (λ (z : Hand). z.seen) h;
+      stage = ap (λ (z : Hand). z.stage) h;
+      log = ap (λ (z : Hand). z.log) h;
+      saw = ap (λ (z : Hand). z.saw) h;
+    } c.put.ensures.face c.requires.own
