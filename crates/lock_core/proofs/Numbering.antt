@@ -74,35 +74,37 @@ module _ {E Call : Type 0} (o : Obj Call) (unavailable : Unavailable) (size : �
       → (g : Hand) × Numbered o unavailable k v.hand t g × KeepsHold rests v g × Kept (lay k (set s (264 + 8 * t) 1)) (set hs id g) × Grows (lay k s) (lay k (set s (264 + 8 * t) 1))
   begins-there s hs id t v inside r at out zero_there = let few = r.laid.small.tasks in let rs = row r.told t in let g : Hand = became v.hand t rs (longer v.hand.seen (take (seen_by o 0 (row k t) rs) r.log)) in
       let kept = line-stored o unavailable size k s (set hs id g) (8 * t) 1 (omega (arith, inside, few)) (site-begins o unavailable size k (lay k s) hs id t v.hand r at out inside (part-at s 264 512 (8 * t) (omega (arith, inside, few)) ∙ zero_there)) in
-      (g, (rs, r.log, r.tells.legal t, refl), (refl, inr (inl out)), kept.0, kept.1)
+      (g, (rs, r.log, r.tells.legal t, r.tells.within, refl), (refl, inr (inl out)), kept.0, kept.1)
 
 module _ {Call : Type 0} (o : Obj Call) (unavailable : Unavailable) (k : Plan) (h g : Hand) (t : ℕ) (n : Numbered o unavailable k h t g) where
   pub numbered-short : g.done ≤ length (row k t)
-  numbered-short = let l = next-short o unavailable k n.1 t 0 0 (row k t) n.0 n.2 in let d : g.done ≡ length n.0 = ap (λ (z : Hand). z.done) n.3 in omega (arith, l, d)
+  numbered-short = let l = next-short o unavailable k n.1 t 0 0 (row k t) n.0 n.2 in let d : g.done ≡ length n.0 = ap (λ (z : Hand). z.done) n.4 in omega (arith, l, d)
 
   pub numbered-known : (c : ℕ) → c < g.done → (r : Rec) × Knows g (record { task = t; call = c }) r
-  numbered-known c l = let d : g.done ≡ length n.0 = ap (λ (z : Hand). z.done) n.3 in let x = get-there n.0 c (omega (arith, l, d)) in
-      (x.0, subst (λ (z : Hand). Knows z (record { task = t; call = c }) x.0) (sym n.3) (became-knows h t n.0 (longer h.seen (take (seen_by o 0 (row k t) n.0) n.1)) c x.0 x.1))
+  numbered-known c l = let d : g.done ≡ length n.0 = ap (λ (z : Hand). z.done) n.4 in let x = get-there n.0 c (omega (arith, l, d)) in
+      (x.0, subst (λ (z : Hand). Knows z (record { task = t; call = c }) x.0) (sym n.4) (became-knows h t n.0 (longer h.seen (take (seen_by o 0 (row k t) n.0) n.1)) c x.0 x.1))
 
   pub numbered-knows : (c : ℕ) (r : Rec) → slice_get n.0 c ≡ Some r → Knows g (record { task = t; call = c }) r
-  numbered-knows c r e = subst (λ (z : Hand). Knows z (record { task = t; call = c }) r) (sym n.3) (became-knows h t n.0 (longer h.seen (take (seen_by o 0 (row k t) n.0) n.1)) c r e)
+  numbered-knows c r e = subst (λ (z : Hand). Knows z (record { task = t; call = c }) r) (sym n.4) (became-knows h t n.0 (longer h.seen (take (seen_by o 0 (row k t) n.0) n.1)) c r e)
 
   numbered-front : length g.seen ≡ max (length h.seen) (seen_by o 0 (row k t) n.0)
   numbered-front = let s = seen_by o 0 (row k t) n.0 in let short = seen_by-within o unavailable k n.1 t 0 0 (row k t) n.0 n.2 (omega arith) in
-      ap (λ (z : Hand). length z.seen) n.3 ∙ (length-longer h.seen (take s n.1) ∙ ap (max (length h.seen)) (length-take-le s n.1 short))
+      ap (λ (z : Hand). length z.seen) n.4 ∙ (length-longer h.seen (take s n.1) ∙ ap (max (length h.seen)) (length-take-le s n.1 short))
 
 pub sits-numbered : {E Call : Type 0} (o : Obj Call) (unavailable : Unavailable) (k : Plan) (table seat seat' : TableId) (me me' : Me (Unit {0}) (Seen E)) (face : Face) (t done seen front' : ℕ) (held' : Held) → Sits k table seat me face → seat' ≡ seat → me'.1 ≡ me.1 → t < length k
     → (n : Numbered o unavailable k me.0.view.hand t me'.0.view.hand) → done ≡ me'.0.view.hand.done → seen ≡ seen_by o 0 (row k t) n.0 → front' ≡ max face.front seen → held' ≡ face.held → Sits k table seat' me' (record { task = Some t; held = held'; done = done; front = front' })
 sits-numbered o unavailable k table seat seat' me me' face t done seen front' held' r same slots inside n many front most same-held = record {
   own = same ∙ r.own;
   slots = slots ∙ r.slots;
-  plan = ap (λ (z : Hand). z.plan) n.3 ∙ r.plan;
-  task = sym (ap (λ (z : Hand). z.task) n.3);
-  held = same-held ∙ (r.held ∙ sym (ap (λ (z : Hand). z.held) n.3));
+  plan = ap (λ (z : Hand). z.plan) n.4 ∙ r.plan;
+  task = sym (ap (λ (z : Hand). z.task) n.4);
+  held = same-held ∙ (r.held ∙ sym (ap (λ (z : Hand). z.held) n.4));
   done = many;
   front = most ∙ ((λ i. max (r.front i) (front i)) ∙ sym (numbered-front o unavailable k me.0.view.hand me'.0.view.hand t n));
-  stage = ap (λ (z : Hand). z.stage) n.3 ∙ r.stage;
-  short = subst (λ (z : Hand). length z.log ≤ calls_in k) (sym n.3) r.short;
+  stage = ap (λ (z : Hand). z.stage) n.4 ∙ r.stage;
+  short = subst (λ (z : Hand). length z.log ≤ calls_in k) (sym n.4) r.short;
+  shorter = subst (λ (z : Hand). length z.seen ≤ calls_in k) (sym n.4) (longer-is me.0.view.hand.seen (take (seen_by o 0 (row k t) n.0) n.1) (λ (zs : List Entry). length zs ≤ calls_in k)
+      (λ _. let s = seen_by-within o unavailable k n.1 t 0 0 (row k t) n.0 n.2 (omega arith) in let l = n.3 in omega (arith, length-take-le (seen_by o 0 (row k t) n.0) n.1 s, s, l)) (λ _. r.shorter));
   planned = λ u e. let s = numbered-short o unavailable k me.0.view.hand me'.0.view.hand t n in subst (λ (z : ℕ). (z < length k) × (done ≤ length (row k z))) (same-some t u e) (inside, omega (arith, s, many));
-  saw = λ x e. none-some x (sym (ap (λ (z : Hand). z.saw) n.3) ∙ e);
+  saw = λ x e. none-some x (sym (ap (λ (z : Hand). z.saw) n.4) ∙ e);
 }

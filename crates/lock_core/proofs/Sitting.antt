@@ -25,6 +25,7 @@ sits-on k table seat seat' me me' face face' same slots hand says r = record {
   front = ap (λ (f : Face). f.front) says ∙ (r.front ∙ sym (ap front hand));
   stage = ap (λ (h : Hand). h.stage) hand ∙ r.stage;
   short = subst (λ (h : Hand). length h.log ≤ calls_in k) (sym hand) r.short;
+  shorter = subst (λ (h : Hand). length h.seen ≤ calls_in k) (sym hand) r.shorter;
   planned = subst (λ (f : Face). (t : ℕ) → f.task ≡ Some t → (t < length k) × (f.done ≤ length (row k t))) (sym says) r.planned;
   saw = subst (λ (h : Hand). (x : Saw) → h.saw ≡ Some x → x.word < 4194304) (sym hand) r.saw;
 }
@@ -52,6 +53,7 @@ sits-same k table seat seat' me me' face face' same slots hand says r = record {
   front = ap (λ (f : Face). f.front) says ∙ (r.front ∙ sym (ap length hand.seen));
   stage = hand.stage ∙ r.stage;
   short = subst (λ (l : List Entry). length l ≤ calls_in k) (sym hand.log) r.short;
+  shorter = subst (λ (l : List Entry). length l ≤ calls_in k) (sym hand.seen) r.shorter;
   planned = subst (λ (f : Face). (t : ℕ) → f.task ≡ Some t → (t < length k) × (f.done ≤ length (row k t))) (sym says) r.planned;
   saw = λ x e. r.saw x (sym hand.saw ∙ e);
 }

@@ -38,6 +38,7 @@ pub record Sits {E : Type 0} (k : Plan) (table : TableId) (seat : TableId) (me :
   pub front : face.front ≡ front me.0.view.hand
   pub stage : me.0.view.hand.stage ≡ Rest
   pub short : length me.0.view.hand.log ≤ calls_in k
+  pub shorter : length me.0.view.hand.seen ≤ calls_in k
   pub planned : (t : ℕ) → face.task ≡ Some t → (t < length k) × (face.done ≤ length (row k t))
   pub saw : (x : Saw) → me.0.view.hand.saw ≡ Some x → x.word < 4194304
 
@@ -52,7 +53,7 @@ pub record Shows (h : Hand) (e : Entry) (word : ℕ) : Type 0 where
 
 -- what a pass becomes that takes a number: it has the task's records, each as the rule says, and has seen what the task had
 abbrev pub Numbered : {Call : Type 0} → Obj Call → Unavailable → Plan → Hand → ℕ → Hand → Type 0
-Numbered o unavailable k h t g = (rs : List Rec) × (log : List Entry) × AreNext o unavailable k log t 0 0 (row k t) rs × (g ≡ became h t rs (longer h.seen (take (seen_by o 0 (row k t) rs) log)))
+Numbered o unavailable k h t g = (rs : List Rec) × (log : List Entry) × AreNext o unavailable k log t 0 0 (row k t) rs × (length log ≤ calls_in k) × (g ≡ became h t rs (longer h.seen (take (seen_by o 0 (row k t) rs) log)))
 
 -- the first or the second word of a call
 abbrev pub half_of : ℕ → CallWords → ℕ

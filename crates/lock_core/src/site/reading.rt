@@ -1,6 +1,6 @@
 //! What a pass reads of the plan, the records and the log.
 ghost use Rattle.std.specs.Prelude.{◌≡◌, ◌≢◌, ◌+◌, ◌*◌, ◌<◌, ◌≤◌, ℕ, length, slice_get, Some};
-ghost use Rattle.word_bits.specs.declared.rec.Rec.{Rec};
+ghost use Rattle.word_bits.specs.declared.rec.Rec.{Rec as Record};
 ghost use Rattle.word_bits.specs.RecWord.{IsRec, rec_word};
 ghost use Rattle.lock_core.specs.Plans.{calls_in, start};
 ghost use Rattle.lock_core.specs.Records.{row};
@@ -51,6 +51,32 @@ impl<R: SiteRule> Site<R> {
 
     /// The words of a call of the plan.
     pub fn call(&self, pass: &mut Pass<R>, task: u32, call: u32) -> CallWords
+        requires own { Sits self.now.table.shared.key self.now.table.shared.table_id pass.old.seat.table_id pass.old.seat.me pass.old.face }
+        requires task { task < length self.now.table.shared.key }
+        requires call { call < length (row self.now.table.shared.key task) }
+        ensures own { Sits self.now.table.shared.key self.now.table.shared.table_id pass.new.seat.table_id pass.new.seat.me pass.new.face }
+        ensures kept { pass.new.seat.me.0.view ≡ ticked (ticked pass.old.seat.me.0.view) }
+        ensures words { slice_get (row self.now.table.shared.key task) call ≡ Some result }
+    {
+        self.load_call(pass, task, call)
+    }
+
+    /// The word of a call's record, and 0 where the call has none.
+    pub fn rec_word(&self, pass: &mut Pass<R>, task: u32, call: u32) -> u64
+        requires own { Sits self.now.table.shared.key self.now.table.shared.table_id pass.old.seat.table_id pass.old.seat.me pass.old.face }
+        requires task { task < length self.now.table.shared.key }
+        requires call { call < length (row self.now.table.shared.key task) }
+        ensures own { Sits self.now.table.shared.key self.now.table.shared.table_id pass.new.seat.table_id pass.new.seat.me pass.new.face }
+        ensures kept { pass.new.seat.me.0.view ≡ ticked pass.old.seat.me.0.view }
+        ensures known { (r : Record) → Knows pass.old.seat.me.0.view.hand (record { task = task; call = call }) r → result ≡ rec_word r }
+        ensures made { result ≢ 0 → (r : Record) × IsRec r × (result ≡ rec_word r) }
+        ensures mine { pass.old.face.task ≡ Some task → pass.old.face.done ≤ call → result ≡ 0 }
+    {
+        self.record(pass, task, call)
+    }
+
+    /// Loads the words of a call.
+    pub(crate) fn load_call(&self, pass: &mut Pass<R>, task: u32, call: u32) -> CallWords
         requires own { pass.old.seat.table_id ≡ self.now.table.shared.table_id }
         requires plan { pass.old.seat.me.0.view.hand.plan ≡ Some self.now.table.shared.key }
         requires task { task < length self.now.table.shared.key }

@@ -111,7 +111,7 @@ impl<R: SiteRule> Site<R> {
         ensures seen { (w : Words) (r : Record) → slice_get (row self.now.table.shared.key task) call ≡ Some w → Knows pass.old.seat.me.0.view.hand (record { task = task; call = call }) r → IsRec r → result ≡ seen_after (logs R.O.object w r.reply) r }
     {
         let word = self.record(pass, task, call);
-        let words = self.call(pass, task, call);
+        let words = self.load_call(pass, task, call);
         match Rec::unpack(word) {
             Some(rec) => rec.k + u32::from(is_logged::<R::O>(words, rec.reply)),
             None => 0,

@@ -3,6 +3,7 @@
 ghost use Rattle.std.specs.Prelude.{◌≡◌, ◌≢◌, ◌+◌, ◌*◌, ◌<◌, ◌≤◌, ℕ, List, length, slice_get, slice_index, Some};
 ghost use Rattle.word_bits.specs.declared.call.CallWords.{CallWords as Words};
 ghost use Rattle.word_bits.specs.declared.entry.Entry.{Entry as Logged};
+ghost use Rattle.word_bits.specs.declared.reply.Reply.TheVariants.{Busy};
 ghost use Rattle.word_bits.specs.EntryWord.{IsEntry, entry_word};
 ghost use Rattle.lock_core.specs.declared.view.Held.TheVariants.{No, Alone};
 ghost use Rattle.lock_core.specs.declared.view.Stage.TheVariants.{Rest, Entered};
@@ -86,6 +87,54 @@ impl<R: SiteRule> Site<R> {
         }
     }
 
+    /// Records the next call of the pass's task, which changes nothing. Where the pass holds, the call
+    /// reads, and stands where the log ends. Where it holds nothing, the reply says why: the call stands
+    /// where the pass saw the log end.
+    pub fn note(&self, pass: &mut Pass<R>, call: u32, reply: Reply)
+        requires own { Sits self.now.table.shared.key self.now.table.shared.table_id pass.old.seat.table_id pass.old.seat.me pass.old.face }
+        requires next { (task : ℕ) × (pass.old.face.task ≡ Some task) × (call ≡ pass.old.face.done) × (call < length (row self.now.table.shared.key task)) × MayNote R.O.object R.unavailable self.now.table.shared.key pass.old.seat.me.0.view.hand (record { task = task; call = call }) reply }
+        ensures own { Sits self.now.table.shared.key self.now.table.shared.table_id pass.new.seat.table_id pass.new.seat.me pass.new.face }
+        ensures kept { (task : ℕ) × (pass.old.face.task ≡ Some task) × (pass.new.seat.me.0.view ≡ record pass.old.seat.me.0.view { hand = noted pass.old.seat.me.0.view.hand pass.new.seat.me.0.view.steps (record { task = task; call = call }) reply; steps = pass.new.seat.me.0.view.steps }) }
+    {
+        match reply {
+            Reply::Busy(word) => self.note_busy(pass, call, word),
+            Reply::Good | Reply::Num(_) | Reply::Refused(_) | Reply::MapErr | Reply::AccErr => {
+                self.note_read(pass, call, reply)
+            }
+            Reply::Intr | Reply::Sent => {}
+        }
+    }
+
+    fn note_read(&self, pass: &mut Pass<R>, call: u32, reply: Reply)
+        requires own { Sits self.now.table.shared.key self.now.table.shared.table_id pass.old.seat.table_id pass.old.seat.me pass.old.face }
+        requires next { (task : ℕ) × (pass.old.face.task ≡ Some task) × (call ≡ pass.old.face.done) × (call < length (row self.now.table.shared.key task)) × IsReading R.O.object self.now.table.shared.key pass.old.seat.me.0.view.hand (record { task = task; call = call }) reply }
+        ensures own { Sits self.now.table.shared.key self.now.table.shared.table_id pass.new.seat.table_id pass.new.seat.me pass.new.face }
+        ensures kept { (task : ℕ) × (pass.old.face.task ≡ Some task) × (pass.new.seat.me.0.view ≡ record pass.old.seat.me.0.view { hand = recorded pass.old.seat.me.0.view.hand (pass.old.seat.me.0.view.steps + 2) (record { task = task; call = call }) (record { k = length pass.old.seat.me.0.view.hand.log; reply = reply }) pass.old.seat.me.0.view.hand.log; steps = pass.old.seat.me.0.view.steps + 2 }) }
+    {
+        if let Some(task) = pass.face.task {
+            let k = self.length(pass);
+            self.settle(pass, Entry { task, call }, Rec { k, reply });
+            pass.face.done += 1;
+            pass.face.front = k;
+        }
+    }
+
+    fn note_busy(&self, pass: &mut Pass<R>, call: u32, word: u64)
+        requires own { Sits self.now.table.shared.key self.now.table.shared.table_id pass.old.seat.table_id pass.old.seat.me pass.old.face }
+        requires next { (task : ℕ) × (pass.old.face.task ≡ Some task) × (call ≡ pass.old.face.done) × (call < length (row self.now.table.shared.key task)) × IsBusy R.O.object R.unavailable self.now.table.shared.key pass.old.seat.me.0.view.hand (record { task = task; call = call }) word }
+        ensures own { Sits self.now.table.shared.key self.now.table.shared.table_id pass.new.seat.table_id pass.new.seat.me pass.new.face }
+        ensures kept { (task : ℕ) × (pass.old.face.task ≡ Some task) × (pass.new.seat.me.0.view ≡ record pass.old.seat.me.0.view { hand = noted pass.old.seat.me.0.view.hand (pass.old.seat.me.0.view.steps + 1) (record { task = task; call = call }) (Busy word); steps = pass.old.seat.me.0.view.steps + 1 }) }
+    {
+        if let Some(task) = pass.face.task {
+            let rec = Rec {
+                k: pass.face.front,
+                reply: Reply::Busy(word),
+            };
+            self.settle_unheld(pass, Entry { task, call }, rec);
+            pass.face.done += 1;
+        }
+    }
+
     /// Loads the length of the log.
     fn length(&self, pass: &mut Pass<R>) -> u32
         requires own { pass.old.seat.table_id ≡ self.now.table.shared.table_id }
@@ -131,13 +180,24 @@ impl<R: SiteRule> Site<R> {
         self.put::<Brand>(pass, LENGTH_AT, u64::from(k) + 1);
     }
 
-    /// Stores the record of the log's last entry.
+    /// Stores the record of a call that held: the pass has then seen the whole log.
     fn settle(&self, pass: &mut Pass<R>, entry: Entry, rec: Rec)
         requires own { pass.old.seat.table_id ≡ self.now.table.shared.table_id }
         requires may { (words : Words) × MayRecord R.O.object R.unavailable self.now.table.shared.key pass.old.seat.me.0.view.hand entry words rec pass.old.seat.me.0.view.hand.log }
         ensures own { (pass.new.seat.table_id ≡ pass.old.seat.table_id) × (pass.new.seat.id ≡ pass.old.seat.id) × (pass.new.seat.me.1 ≡ pass.old.seat.me.1) }
         ensures face { pass.new.face ≡ pass.old.face }
         ensures kept { pass.new.seat.me.0.view ≡ handed pass.old.seat.me.0.view (recorded pass.old.seat.me.0.view.hand (pass.old.seat.me.0.view.steps + 1) entry rec pass.old.seat.me.0.view.hand.log) }
+    {
+        self.store_record::<Brand>(pass, entry, rec);
+    }
+
+    /// Stores the record of a call that never held.
+    fn settle_unheld(&self, pass: &mut Pass<R>, entry: Entry, rec: Rec)
+        requires own { pass.old.seat.table_id ≡ self.now.table.shared.table_id }
+        requires may { (words : Words) × MayRecord R.O.object R.unavailable self.now.table.shared.key pass.old.seat.me.0.view.hand entry words rec pass.old.seat.me.0.view.hand.seen }
+        ensures own { (pass.new.seat.table_id ≡ pass.old.seat.table_id) × (pass.new.seat.id ≡ pass.old.seat.id) × (pass.new.seat.me.1 ≡ pass.old.seat.me.1) }
+        ensures face { pass.new.face ≡ pass.old.face }
+        ensures kept { pass.new.seat.me.0.view ≡ handed pass.old.seat.me.0.view (recorded pass.old.seat.me.0.view.hand (pass.old.seat.me.0.view.steps + 1) entry rec pass.old.seat.me.0.view.hand.seen) }
     {
         self.store_record::<Brand>(pass, entry, rec);
     }

@@ -22,7 +22,7 @@ returns-clause-own g c = let k = c.args.self.now.table.shared.key in let o = g.R
     let face : c.task_seen-seen.new.pass.face ≡ c.args.pass.now.face = c.task_seen-seen.ensures.face ∙ (c.recorded-done.ensures.face ∙ c.take_number.ensures.face) in
     sits-numbered o u k c.args.self.now.table.shared.table_id c.args.pass.now.seat.table_id c.task_seen-seen.new.pass.seat.table_id c.args.pass.now.seat.me c.task_seen-seen.new.pass.seat.me c.args.pass.now.face c.args.task c.recorded-done.result c.task_seen-seen.result c.max.result c.task_seen-seen.new.pass.face.held
     c.requires.own (c.task_seen-seen.ensures.own.0 ∙ (c.recorded-done.ensures.own.0 ∙ c.take_number.ensures.own.0)) (c.task_seen-seen.ensures.own.2 ∙ (c.recorded-done.ensures.own.2 ∙ c.take_number.ensures.own.2)) c.requires.there
-    (n.0, n.1, n.2, hand ∙ n.3) (c.recorded-done.ensures.count ∙ sym (ap (λ (z : Hand). z.done) hand))
-    (c.task_seen-seen.ensures.seen n.0 n.1 (sym (c.recorded-done.ensures.count ∙ ap (λ (z : Hand). z.done) n.3)) n.2
+    (n.0, n.1, n.2, n.3, hand ∙ n.4) (c.recorded-done.ensures.count ∙ sym (ap (λ (z : Hand). z.done) hand))
+    (c.task_seen-seen.ensures.seen n.0 n.1 (sym (c.recorded-done.ensures.count ∙ ap (λ (z : Hand). z.done) n.4)) n.2
     (λ i r e. subst (λ (z : Hand). Knows z (record { task = c.args.task; call = i }) r) (sym kept) (numbered-knows o u k h c.take_number.new.pass.seat.me.0.view.hand c.args.task n i r e)))
     (c.max.ensures ∙ ap (λ z. max z.front c.task_seen-seen.result) face) (ap (λ z. z.held) face)

@@ -1,20 +1,7 @@
-use Rattle.std.proofs.Common.{◌≡◌, ◌+◌, ◌*◌, ap, ◌∙◌, sym, arith, length, Some}
-use Rattle.word_bits.specs.declared.call.CallWords.{CallWords}
-use Rattle.lock_core.specs.Plans.{start}
-use Rattle.lock_core.specs.Layout.{calls_at}
-use Rattle.lock_core.specs.Records.{row}
-use Rattle.lock_core.proofs.RowLaws.{get-there}
-use Rattle.lock_core.proofs.Reading.{call-found}
+use Rattle.std.proofs.Common.{ap}
+use Rattle.lock_core.proofs.Sitting.{sits-on}
 use Rattle.lock_core.proofs.site.Site.call.Goals as goal
 
-pub find-a-requires-clause-told : goal.find-a-requires-clause-told
-find-a-requires-clause-told g c = λ s hs r at. call-found g.R.O.Object.object g.R.SiteRule.unavailable g.R.O.Object.WORDS c.args.self.now.table.shared.key s hs _ _ _ r at
-
-pub find-b-requires-clause-told : goal.find-b-requires-clause-told
-find-b-requires-clause-told g c = λ s hs r at. call-found g.R.O.Object.object g.R.SiteRule.unavailable g.R.O.Object.WORDS c.args.self.now.table.shared.key s hs _ _ _ r at
-
-pub returns-clause-words : goal.returns-clause-words
-returns-clause-words g c = let k = c.args.self.now.table.shared.key in let x = get-there (row k c.args.task) c.args.call c.requires.call in let n = c.args.self.now.counted in let p = c.place.ensures.place in
-    let a : c.find-a.result ≡ x.0.a = c.find-a.ensures.told k c.args.task c.args.call 0 x.0 c.requires.plan (omega arith) (omega (arith, n, p)) x.1 in
-    let b : c.find-b.result ≡ x.0.b = c.find-b.ensures.told k c.args.task c.args.call 1 x.0 (ap (λ v. v.hand.plan) c.find-a.ensures.kept ∙ c.requires.plan) (omega arith) (omega (arith, n, p)) x.1 in
-    x.1 ∙ sym (λ i. Some (record { a = a i; b = b i }))
+pub returns-clause-own : goal.returns-clause-own
+returns-clause-own g c = sits-on c.args.self.now.table.shared.key c.args.self.now.table.shared.table_id c.args.pass.now.seat.table_id c.load_call.new.pass.seat.table_id c.args.pass.now.seat.me c.load_call.new.pass.seat.me c.args.pass.now.face c.load_call.new.pass.face
+    c.load_call.ensures.own.0 c.load_call.ensures.own.2 (ap (λ v. v.hand) c.load_call.ensures.kept) c.load_call.ensures.face c.requires.own
