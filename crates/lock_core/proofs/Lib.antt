@@ -16,3 +16,4 @@ pub mod WordSteps
 pub mod Replies
 pub mod WordLaws
 pub mod Recording
+pub mod Spinning

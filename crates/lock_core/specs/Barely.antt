@@ -84,3 +84,6 @@ bare-inside = omega arith
 
 pub stays : (k : Plan) (ws : List ℕ) → Grows (site k ws) (site k ws)
 stays k ws = (omega arith, refl)
+
+pub bare-spin : (k : Plan) (ws : List ℕ) (vs : List V) → BareKept k ws vs → SpinKept (get_or ws 0 0) (map spin_of vs)
+bare-spin k ws vs r = r.spin

@@ -1,9 +1,12 @@
 -- The plain spin lock: a word that is 1 where one view has the lock, and 0 where none has.
-use Rattle.std.specs.Prelude.{◌≡◌, ℕ, ◌+◌, ◌≤◌, true, false, List, Some}
+use Rattle.std.specs.Prelude.{◌≡◌, ◌≢◌, ℕ, ◌+◌, ◌≤◌, ◌⊎◌, Bool, true, false, List, Option, Some}
+use Rattle.atomic_table.specs.Table.{Step}
 use Rattle.lock_core.specs.declared.view.View.{View}
 use Rattle.lock_core.specs.declared.view.SpinHand.{SpinHand}
 use Rattle.lock_core.specs.Records.{bit}
 use Rattle.lock_core.specs.Totals.{total}
+use Rattle.lock_core.specs.Views.{ticked}
+use Rattle.lock_core.specs.Plays.{Sat, Turns}
 
 abbrev pub holds_of : SpinHand → ℕ
 holds_of s = bit s.holds
@@ -26,3 +29,21 @@ module _ {E : Type 0} where
   -- a step on the spin words
   abbrev pub spun : View E → SpinHand → View E
   spun v s = record v { spin = s; steps = v.steps + 1 }
+
+  -- a load of the word, or an exchange that missed: a word that isn't 0 is kept with the number of the step
+  abbrev pub SpinSaw : Sat E → ℕ → Sat E → Type 0
+  SpinSaw m n m' = Turns m (spun m.0 (spin_missed m.0.spin n (m.0.steps + 1))) m'
+
+  abbrev pub SpinLooked : Step (Unit {0}) → Sat E → ℕ → Sat E → Type 0
+  SpinLooked st m n m' = (n ≡ 0 → Turns m (ticked m.0) m') × (n ≢ 0 → SpinSaw m n m')
+
+  -- a compare-exchange from 0 to 1
+  abbrev pub SpinTried : Step (Unit {0}) → Sat E → ℕ → Sat E → Type 0
+  SpinTried st m n m' = (n ≡ 0 → Turns m (spun m.0 (spin_took m.0.spin)) m') × (n ≢ 0 → SpinSaw m n m')
+
+  abbrev pub SpinFreed : Step (Unit {0}) → Sat E → ℕ → Sat E → Type 0
+  SpinFreed st m n m' = Turns m (spun m.0 (spin_freed m.0.spin)) m'
+
+  -- of a try that made so many steps, the last of which saw this word
+  abbrev pub SpinMissed : View E → ℕ → View E → Type 0
+  SpinMissed v word u = (word ≢ 0) × ((u.steps ≡ v.steps + 1) ⊎ (u.steps ≡ v.steps + 2)) × (u ≡ record v { spin = spin_missed v.spin word u.steps; steps = u.steps })

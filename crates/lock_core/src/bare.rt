@@ -2,9 +2,10 @@
 ghost use Rattle.std.specs.Prelude.{◌≡◌, ℕ, List, refl};
 ghost use Rattle.word_bits.specs.declared.call.CallWords.{CallWords};
 ghost use Rattle.lock_core.specs.Nothings.{nothing, few, sized, apart};
-ghost use Rattle.lock_core.specs.Barely.{BareKept, BareMoves, never, bare-site, bare-sites, bare-opens, bare-splits, bare-joins, bare-spins, bare-inside, stays};
+ghost use Rattle.lock_core.specs.Barely.{BareKept, BareMoves, never, bare-site, bare-sites, bare-opens, bare-splits, bare-joins, bare-spins, bare-inside, bare-spin, stays};
 
 use crate::rule::SiteRule;
+use crate::spin::SpinHost;
 use word_bits::{CallWords, Object, Reply};
 
 /// An object without words and calls.
@@ -93,4 +94,18 @@ impl SiteRule for Bare {
     ghost splits = { λ k ws vs id v r at there. (bare-splits k ws vs id v r at there, stays k ws) };
 
     ghost joins = { λ k ws vs id other v w r at apart at' mine theirs there. (bare-joins k ws vs id other v w r at apart at' theirs.0.1 there, stays k ws) };
+}
+
+impl SpinHost for Bare {
+    const FIRST: usize = 0;
+
+    ghost FIRST = { 0 };
+
+    ghost may_free = { λ _. Unit {0} };
+
+    ghost spin_inside = { bare-inside };
+
+    ghost spin_kept = { bare-spin };
+
+    ghost spins = { λ k ws vs id n v s r at may spin. bare-spins k ws vs id n v s r at spin };
 }

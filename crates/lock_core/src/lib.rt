@@ -6,9 +6,10 @@ mod layout;
 mod op;
 mod pass;
 mod plan;
-pub mod rule;
+mod rule;
 mod shadow;
 mod site;
+mod spin;
 pub mod view;
 
 pub use bare::{Bare, Nothing};
@@ -16,8 +17,10 @@ pub use layout::LOCK_WORDS;
 pub use op::Op;
 pub use pass::Pass;
 pub use plan::Plan;
+pub use rule::SiteRule;
 pub use shadow::Shadow;
 pub use site::{Between, Site};
+pub use spin::{SpinHost, lock, trylock, unlock};
 pub use view::Held;
 
 #[cfg(test)]
