@@ -17,3 +17,4 @@ pub mod Replies
 pub mod WordLaws
 pub mod Recording
 pub mod Spinning
+pub mod Stating

@@ -1,18 +1,16 @@
 -- What a pass knows that has taken a number.
-use Rattle.std.proofs.Common.{◌≡◌, ◌≢◌, ℕ, zero, suc, ◌+◌, ◌*◌, ◌<◌, ◌≤◌, max, List, [], ◌∷◌, ◌++◌, length, take, get_or, set, slice_get, Option, Some, None, refl, sym, ap, subst, ◌∙◌, arith, length-take-le, inl, inr}
+use Rattle.std.proofs.Common.{◌≡◌, ℕ, zero, suc, ◌+◌, ◌*◌, ◌<◌, ◌≤◌, max, List, [], ◌∷◌, length, take, get_or, set, slice_get, Some, None, refl, sym, ap, subst, ◌∙◌, arith, length-take-le, inl, inr}
 use mathlib.Core.Option.{some}
 use lib.ListN.{get_elem?}
 use Rattle.word_bits.specs.declared.call.CallWords.{CallWords}
 use Rattle.word_bits.specs.declared.entry.Entry.{Entry}
 use Rattle.word_bits.specs.declared.rec.Rec.{Rec}
-use Rattle.word_bits.specs.RecWord.{IsRec}
 use Rattle.word_bits.specs.LockWords.{Unavailable}
 use Rattle.word_bits.specs.Objects.{Obj}
 use Rattle.word_bits.specs.Histories.{Plan, logs}
 use Rattle.word_bits.specs.Legal.{seen_after}
 use Rattle.lock_core.specs.declared.view.Hand.{Hand}
 use Rattle.lock_core.specs.declared.view.View.{View}
-use Rattle.lock_core.specs.declared.view.Told.{Told}
 use Rattle.lock_core.specs.Layout.{SiteWords, lay}
 use Rattle.lock_core.specs.Plans.{calls_in}
 use Rattle.lock_core.specs.Records.{row, AreNext, seen_by}
@@ -31,7 +29,6 @@ use Rattle.lock_core.proofs.HandLaws.{longer-is}
 use Rattle.lock_core.proofs.RecordLaws.{seen_by-within}
 use Rattle.lock_core.proofs.SeatSteps.{site-begins}
 use Rattle.lock_core.proofs.SeatLaws.{line-stored}
-use Rattle.lock_core.proofs.Reading.{recs-next}
 
 told-at : (t c : ℕ) (rs : List Rec) (i : ℕ) (r : Rec) → slice_get rs i ≡ Some r → slice_get (told_from t c rs) i ≡ Some (record { entry = record { task = t; call = c + i }; rec = r })
 told-at t c [] i r e = none-some r e

@@ -1,6 +1,5 @@
 -- What a load of each kind of word tells.
-use Rattle.std.proofs.Common.{◌≡◌, ◌≢◌, ℕ, zero, suc, ◌+◌, ◌*◌, ◌<◌, ◌≤◌, List, [], ◌∷◌, ◌++◌, length, take, drop, get_or, slice_get, Option, Some, None, refl, sym, ap, subst, ◌∙◌, arith}
-use Rattle.std.proofs.lemmas.List.{get_or-take, get_or-drop}
+use Rattle.std.proofs.Common.{◌≡◌, ◌≢◌, ℕ, zero, suc, ◌+◌, ◌*◌, ◌<◌, ◌≤◌, List, [], ◌∷◌, ◌++◌, length, get_or, slice_get, Some, refl, sym, ap, subst, ◌∙◌, arith}
 use mathlib.Core.Option.{some}
 use lib.ListN.{get_elem?}
 use Rattle.word_bits.specs.declared.call.CallWords.{CallWords}
@@ -11,16 +10,15 @@ use Rattle.word_bits.specs.declared.reply.Reply.TheVariants.{Good, Num, Refused,
 use Rattle.word_bits.specs.RecWord.{IsRec, rec_word, kind_of}
 use Rattle.word_bits.specs.LockWords.{Unavailable}
 use Rattle.word_bits.specs.Objects.{Obj}
-use Rattle.word_bits.specs.Histories.{Plan, Records}
+use Rattle.word_bits.specs.Histories.{Plan}
 use Rattle.lock_core.specs.declared.view.Hand.{Hand}
 use Rattle.lock_core.specs.Plans.{calls_in, start, starts_from, task_words, call_words}
-use Rattle.lock_core.specs.Layout.{SiteWords, lay, part, recs_at, calls_at}
-use Rattle.lock_core.specs.Records.{row, task_recs, rec_words, AreNext}
-use Rattle.lock_core.specs.Views.{Knows}
+use Rattle.lock_core.specs.Layout.{SiteWords, lay, recs_at, calls_at}
+use Rattle.lock_core.specs.Records.{row, task_recs, AreNext}
 use Rattle.lock_core.specs.Sites.{SiteKept, HasPlan}
-use Rattle.lock_core.specs.Passes.{Shows, half_of, IsCallWord, IsRecWord, IsLength, IsEntryAt}
+use Rattle.lock_core.specs.Passes.{Shows, half_of, IsCallWord, IsRecWord}
 use Rattle.lock_core.proofs.LayoutLaws.{part-at}
-use Rattle.lock_core.proofs.RowLaws.{none-some, same-some, some-inside, get-there, start-below, rec_words-at, task_recs-at, task_recs-none, length-task_recs, get-front, get-behind}
+use Rattle.lock_core.proofs.RowLaws.{none-some, same-some, some-inside, get-there, start-below, rec_words-at, task_recs-at, task_recs-none, get-front, get-behind}
 use Rattle.lock_core.proofs.Opening.{length-task_words}
 
 pub starts-at : {X : Type 0} (n : ℕ) (k : List (List X)) (t d : ℕ) → t ≤ length k → get_or (starts_from n k) t d ≡ n + start k t

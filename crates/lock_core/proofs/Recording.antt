@@ -1,24 +1,22 @@
 -- What a call's reply lets its pass record.
-use Rattle.std.proofs.Common.{◌≡◌, ◌≢◌, ℕ, zero, suc, ◌+◌, ◌^◌, ◌<◌, ◌≤◌, inl, inr, true, false, not, List, [], ◌∷◌, ◌++◌, length, take, slice_get, Option, Some, None, refl, sym, ap, ◌∙◌, subst, arith, length-append, take_at, take_all}
+use Rattle.std.proofs.Common.{◌≡◌, ◌≢◌, ℕ, ◌+◌, ◌^◌, ◌<◌, ◌≤◌, inl, inr, true, false, not, List, [], ◌∷◌, ◌++◌, length, take, slice_get, Some, refl, sym, ap, ◌∙◌, subst, arith, length-append, take_at, take_all}
 use Rattle.word_bits.specs.declared.call.CallWords.{CallWords}
 use Rattle.word_bits.specs.declared.entry.Entry.{Entry}
-use Rattle.word_bits.specs.declared.rec.Rec.{Rec}
 use Rattle.word_bits.specs.declared.reply.Reply.{Reply}
 use Rattle.word_bits.specs.declared.reply.Reply.TheVariants.{Busy}
 use Rattle.word_bits.specs.EntryWord.{IsEntry}
-use Rattle.word_bits.specs.RecWord.{IsRec, value_of}
 use Rattle.word_bits.specs.LockWords.{Unavailable}
 use Rattle.word_bits.specs.Objects.{Obj, IsObjectReply}
-use Rattle.word_bits.specs.Histories.{Plan, state_after, changes, logs}
-use Rattle.word_bits.specs.Legal.{IsRecord, seen_after}
+use Rattle.word_bits.specs.Histories.{Plan, state_after, logs}
+use Rattle.word_bits.specs.Legal.{seen_after}
 use Rattle.lock_core.specs.declared.view.Hand.{Hand}
 use Rattle.lock_core.specs.declared.view.Held.TheVariants.{No}
 use Rattle.lock_core.specs.declared.view.Stage.TheVariants.{Rest, Logged}
-use Rattle.lock_core.specs.Plans.{IsSmall, calls_in}
+use Rattle.lock_core.specs.Plans.{IsSmall}
 use Rattle.lock_core.specs.Records.{row}
-use Rattle.lock_core.specs.Views.{owed_weight, owed_of}
-use Rattle.lock_core.specs.Passes.{IsChange, IsReading, IsBusy, MayRecord, Settles}
-use Rattle.lock_core.proofs.RowLaws.{none-some, same-some, get-last, row-task, start-below}
+use Rattle.lock_core.specs.Views.{owed_weight}
+use Rattle.lock_core.specs.Passes.{IsChange, IsReading, IsBusy, MayRecord}
+use Rattle.lock_core.proofs.RowLaws.{get-last, row-task, start-below}
 use Rattle.lock_core.proofs.RecordLaws.{object-logs, changes-is}
 use Rattle.lock_core.proofs.Replies.{reply-small, reply-unsent, reply-unintr, reply-is}
 

@@ -5,13 +5,14 @@ use mathlib.Core.Option.{some, none}
 use mathlib.Core.List.{map-append}
 use lib.ListN.{get_elem?}
 use lib.Seq.{set-get_or, map-set}
-use Rattle.atomic_table.specs.Table.{Me, step}
+use Rattle.atomic_table.specs.Table.{Me, step, keeps, Allows}
 use Rattle.atomic_table.proofs.Lists.{at_map, set_again, set_else}
 use Rattle.word_bits.specs.LockWords.{Unavailable}
 use Rattle.word_bits.specs.Objects.{Obj}
 use Rattle.word_bits.specs.Histories.{Plan}
 use Rattle.lock_core.specs.declared.op.Op.TheVariants.{Load, Store, Exchange}
 use Rattle.lock_core.specs.declared.view.View.{View}
+use Rattle.lock_core.specs.declared.view.Seen.{Seen}
 use Rattle.lock_core.specs.declared.view.Hand.{Hand}
 use Rattle.lock_core.specs.declared.view.Held.TheVariants.{No}
 use Rattle.lock_core.specs.declared.layout.TheConstants.{LOCK_WORDS}
@@ -20,6 +21,8 @@ use Rattle.lock_core.specs.Views.{hand_of, handed, ticked, split_off, merged, sp
 use Rattle.lock_core.specs.Sites.{SiteKept, Grows}
 use Rattle.lock_core.specs.Moves.{Goes, Lets, KeepsHold}
 use Rattle.lock_core.specs.Plays.{Found, PutBy, Begun}
+use Rattle.lock_core.specs.Pasts.{view_of, moment, Moves, Lived, Paced}
+use Rattle.lock_core.proofs.Living.{grown, lived-after, paced}
 use Rattle.lock_core.proofs.Steps.{loads, stores, exchanges}
 use Rattle.lock_core.proofs.SeatSteps.{site-splits, site-gathers, site-leaves}
 
@@ -38,7 +41,7 @@ module _ {E Call : Type 0} (o : Obj Call) (unavailable : Unavailable) (size : �
   abbrev Kept : SiteWords → List Hand → Type 0
   Kept = SiteKept o unavailable size k
 
-  looks : (ws : List ℕ) (vs : List (View E)) (id at : ℕ) (v : View E) → holds ws vs → get_elem? vs id ≡ some v → Goes holds moves id ws vs ws (set vs id (ticked v))
+  pub looks : (ws : List ℕ) (vs : List (View E)) (id at : ℕ) (v : View E) → holds ws vs → get_elem? vs id ≡ some v → Goes holds moves id ws vs ws (set vs id (ticked v))
   looks ws vs id at v h there = let n : ℕ = get_or ws (LOCK_WORDS + at) 0 in let same : set ws (LOCK_WORDS + at) n ≡ ws = set-get_or ws (LOCK_WORDS + at) 0 in
       let keeps : Kept (site k (set ws (LOCK_WORDS + at) n)) (set (map hand_of vs) id v.hand) = subst (λ (z : List ℕ). Kept (site k z) (set (map hand_of vs) id v.hand)) (sym same)
       (subst (Kept (site k ws)) (sym (set_again (map hand_of vs) id v.hand (at_map hand_of vs id v there))) (kept ws vs h)) in
@@ -83,3 +86,11 @@ module _ {E Call : Type 0} (o : Obj Call) (unavailable : Unavailable) (size : �
   joins-kept idle ws vs id other v w h there apart there' mine free out = let hs : List Hand = map hand_of vs in let at = at_map hand_of vs id v there in let at' = at_map hand_of vs other w there' in let g : Hand = gathered v.hand w.hand in
       subst (Kept (site k ws)) (sym (map-set hand_of (set vs id (merged v w)) other (spent idle) ∙ ap (λ (z : List Hand). set z other (stranger None [])) (map-set hand_of vs id (merged v w))))
       (site-leaves o unavailable size k (site k ws) (set hs id g) other w.hand (site-gathers o unavailable size k (site k ws) hs id other v.hand w.hand (kept ws vs h) at at' mine) (set_else hs id other g apart ∙ at') free out)
+
+  -- a load that tells what each move of the rule does to the words
+  pub recalls : (P : List ℕ → List ℕ → Type 0) → ((x y : List ℕ) → Moves holds moves x y → P x y) → (slots id : ℕ) (me : Me (Unit {0}) (Seen E))
+      → Allows (λ s. Lived holds moves s.words s.views) slots id me 0 (λ n. n) (λ n m'. (m'.0.view ≡ ticked me.0.view) × (m'.1 ≡ me.1) × Paced P m'.0.past)
+  recalls P each slots id me s r l at small = let vs : List (View E) = map view_of s.views in let v = me.0.view in let there = at_map view_of s.views id me.0 at in let ws' : List ℕ = set s.words 0 (get_or s.words 0 0) in
+      let goes : Goes holds moves id s.words vs ws' (set vs id (ticked v)) = subst (λ (z : List ℕ). Goes holds moves id s.words vs z (set vs id (ticked v))) (sym (set-get_or s.words 0 0)) (looks s.words vs id 0 v r.1 there) in
+      let lived = lived-after holds moves s.words ws' s.views id (ticked v) r goes in
+      (grown holds moves s.words ws' r.0 (ticked v), keeps, tt, lived, (refl, refl, paced holds moves P each (moment ws' ∷ moment s.words ∷ r.0) ((id, vs, set vs id (ticked v), r.1, goes.0, goes.1), r.2)))

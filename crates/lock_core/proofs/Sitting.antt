@@ -1,5 +1,5 @@
 -- A pass goes on with its seat.
-use Rattle.std.proofs.Common.{List, ◌≡◌, ℕ, ◌<◌, ◌≤◌, [], length, Option, Some, sym, ap, ◌∙◌, subst}
+use Rattle.std.proofs.Common.{List, ◌≡◌, ℕ, ◌<◌, ◌≤◌, length, Some, sym, ap, ◌∙◌, subst}
 use Rattle.atomic_table.specs.Table.{Me}
 use Rattle.atomic_table.specs.Seated.{TableId}
 use Rattle.word_bits.specs.declared.entry.Entry.{Entry}

@@ -1,5 +1,5 @@
 -- The steps on the spin word keep the lock's own facts, and so the host's rule.
-use Rattle.std.proofs.Common.{◌≡◌, ◌≢◌, ◌∙◌, ℕ, ◌+◌, ◌≤◌, true, false, List, map, get_or, set, sym, refl, ap, subst, arith}
+use Rattle.std.proofs.Common.{◌≡◌, ◌∙◌, ℕ, ◌+◌, true, false, List, map, get_or, set, sym, refl, ap, subst, arith}
 use mathlib.Core.Option.{some, none}
 use mathlib.Core.Logic.{dite}
 use native.Mathlib.Decide.{ℕ_discrete}
@@ -16,7 +16,7 @@ use Rattle.lock_core.specs.Spins.{holds_of, SpinKept, spin_took, spin_missed, sp
 use Rattle.lock_core.specs.Moves.{Goes, Lets}
 use Rattle.lock_core.specs.Totals.{total-set, total-same, total-two}
 use Rattle.lock_core.proofs.HandLaws.{not-both}
-use Rattle.lock_core.proofs.Steps.{loads, stores, exchanges}
+use Rattle.lock_core.proofs.Steps.{stores, exchanges}
 
 spin-takes : (ss : List SpinHand) (id word : ℕ) (s : SpinHand) → SpinKept word ss → get_elem? ss id ≡ some s → s.holds ≡ false → word ≡ 0 → SpinKept 1 (set ss id (spin_took s))
 spin-takes ss id word s kept at out free = let t = total-set holds_of ss id s (spin_took s) at in let o : holds_of s ≡ 0 = ap bit out in let k = kept.0 in (omega arith, omega arith)

@@ -1,6 +1,6 @@
 -- The steps on the words of the object, and what their loads tell.
-use Rattle.std.proofs.Common.{◌≡◌, ◌≢◌, ℕ, zero, suc, ◌+◌, ◌-◌, ◌*◌, ◌<◌, ◌≤◌, List, [], ◌∷◌, ◌++◌, length, map, take, drop, get_or, set, slice_get, Option, Some, None, refl, sym, ap, subst, ◌∙◌, arith}
-use Rattle.std.proofs.lemmas.List.{take-set-le, get_or-take, length-drop, length-take-le}
+use Rattle.std.proofs.Common.{◌≡◌, ◌≢◌, ℕ, zero, suc, ◌+◌, ◌<◌, ◌≤◌, List, [], ◌∷◌, length, map, take, get_or, set, slice_get, Some, refl, sym, ap, subst, ◌∙◌, arith}
+use Rattle.std.proofs.lemmas.List.{take-set-le, get_or-take}
 use mathlib.Core.Option.{some}
 use lib.ListN.{get_elem?}
 use Rattle.word_bits.specs.declared.call.CallWords.{CallWords}
@@ -10,12 +10,12 @@ use Rattle.word_bits.specs.EntryWord.{entry_word}
 use Rattle.word_bits.specs.RecWord.{rec_word}
 use Rattle.word_bits.specs.LockWords.{Unavailable}
 use Rattle.word_bits.specs.Objects.{Obj}
-use Rattle.word_bits.specs.Histories.{Plan, Records, state_after}
+use Rattle.word_bits.specs.Histories.{Plan, state_after}
 use Rattle.lock_core.specs.declared.view.Hand.{Hand}
 use Rattle.lock_core.specs.declared.view.Held.TheVariants.{No, Alone}
 use Rattle.lock_core.specs.declared.view.Stage.TheVariants.{Rest, Entered}
 use Rattle.lock_core.specs.Plans.{calls_in, start}
-use Rattle.lock_core.specs.Layout.{SiteWords, lay, recs_at, site_width}
+use Rattle.lock_core.specs.Layout.{SiteWords, lay, recs_at}
 use Rattle.lock_core.specs.Records.{row}
 use Rattle.lock_core.specs.Views.{wrote, entered, logged, recorded, owed_weight}
 use Rattle.lock_core.specs.Sites.{SiteKept, Grows}

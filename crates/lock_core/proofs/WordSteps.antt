@@ -1,5 +1,5 @@
 -- The steps on the words of the object keep the site's facts.
-use Rattle.std.proofs.Common.{◌≡◌, ◌≢◌, ℕ, zero, suc, ◌+◌, ◌-◌, ◌*◌, ◌<◌, ◌≤◌, ◌⊎◌, inl, inr, Bool, true, false, List, [], ◌∷◌, ◌++◌, length, map, take, get_or, set, slice_get, Option, Some, None, sym, refl, ap, ◌∙◌, subst, arith, ⊎_elim, length-set, length-append, get_or-set_same, get_or-set_other, take_all}
+use Rattle.std.proofs.Common.{◌≡◌, ◌≢◌, ℕ, zero, suc, ◌+◌, ◌-◌, ◌<◌, ◌≤◌, ◌⊎◌, true, false, List, [], ◌∷◌, ◌++◌, length, take, get_or, set, slice_get, Some, sym, refl, ap, ◌∙◌, subst, arith, ⊎_elim, length-set, length-append, get_or-set_same}
 use Rattle.std.proofs.lemmas.List.{take-set-le, take_more, take-append-le}
 use Rattle.std.proofs.Math.Seq.{take-set-lt}
 use mathlib.Core.Option.{some}
@@ -19,18 +19,18 @@ use Rattle.word_bits.specs.Legal.{IsRecord, seen_after, is_intr}
 use Rattle.lock_core.specs.declared.view.Hand.{Hand}
 use Rattle.lock_core.specs.declared.view.Told.{Told}
 use Rattle.lock_core.specs.declared.view.Held.{Held}
-use Rattle.lock_core.specs.declared.view.Held.TheVariants.{No, Shared, Alone}
+use Rattle.lock_core.specs.declared.view.Held.TheVariants.{No, Alone}
 use Rattle.lock_core.specs.declared.view.Stage.{Stage}
 use Rattle.lock_core.specs.declared.view.Stage.TheVariants.{Rest, Entered, Logged}
 use Rattle.lock_core.specs.Plans.{appended, calls_in, start}
 use Rattle.lock_core.specs.Layout.{SiteWords}
-use Rattle.lock_core.specs.Records.{row, bit, is_sent, sends, intrs, rec_words, seen_by, IsNext, AreNext, IsLoggedAt}
+use Rattle.lock_core.specs.Records.{row, is_sent, intrs, seen_by, AreNext, IsLoggedAt}
 use Rattle.lock_core.specs.Views.{wrote, entered, logged, recorded, held_weight, alone_weight, owed_weight, held_of, alone_of, writes_of, owed_of, named_of, sent_of, consumed_of}
-use Rattle.lock_core.specs.Sites.{Tally, tally, HandOk, SiteKept, Balances, IsLaid, Tells, taken_at, sent_at, consumed_at}
+use Rattle.lock_core.specs.Sites.{HandOk, SiteKept, Balances}
 use Rattle.lock_core.specs.Totals.{total, total-set, total-same, total-at, total-two}
 use Rattle.lock_core.specs.Parts.{Each, each-set}
-use Rattle.lock_core.proofs.RowLaws.{none-some, same-some, some-inside, get-longer, get-last, get-either, row-appended, row-beside, row-outside, length-appended, calls_in-appended, rec_words-appended}
-use Rattle.lock_core.proofs.HandLaws.{alone-is-held, held-none, not-both, is_number-here, is_number-else, SameWeights, tally-same}
+use Rattle.lock_core.proofs.RowLaws.{none-some, same-some, some-inside, get-longer, get-last, get-either, row-appended, row-beside, length-appended, calls_in-appended, rec_words-appended}
+use Rattle.lock_core.proofs.HandLaws.{alone-is-held, held-none, not-both, is_number-here, tally-same}
 use Rattle.lock_core.proofs.RecordLaws.{grows-next, next-snoc, seen_by-snoc, state-snoc, sends-appended, intrs-snoc}
 
 no-alone : {P : Type 0} → No ≡ Alone → P
@@ -72,7 +72,7 @@ knows-cons told e x ks new old zero y eq = let is : record { entry = e; rec = x 
 knows-cons told e x ks new old (suc i) y eq = old i y eq
 
 -- a part of a sum that isn't 0 is some view's
-some-of : (f : Hand → ℕ) (hs : List Hand) → 0 < total f hs → (j : ℕ) × (h : Hand) × (get_elem? hs j ≡ some h) × (0 < f h)
+pub some-of : (f : Hand → ℕ) (hs : List Hand) → 0 < total f hs → (j : ℕ) × (h : Hand) × (get_elem? hs j ≡ some h) × (0 < f h)
 some-of f [] l = absurd (omega arith)
 some-of f (h ∷ hs) l = elim (native.Mathlib.Decide.dec_le (f h) 0) [
   | yes none ↦ let r = some-of f hs (omega (arith, l, none)) in (suc r.0, r.1, r.2, r.3)
@@ -87,7 +87,7 @@ module _ {Call : Type 0} (o : Obj Call) (unavailable : Unavailable) (size : ℕ)
   Ok = HandOk o unavailable size k
 
   -- beside one that holds alone all others hold nothing
-  others-free : (hs : List Hand) (id j : ℕ) (h g : Hand) → (0 < total alone_of hs → total held_of hs ≤ 1) → get_elem? hs id ≡ some h → h.held ≡ Alone → j ≢ id → get_elem? hs j ≡ some g → g.held ≡ No
+  pub others-free : (hs : List Hand) (id j : ℕ) (h g : Hand) → (0 < total alone_of hs → total held_of hs ≤ 1) → get_elem? hs id ≡ some h → h.held ≡ Alone → j ≢ id → get_elem? hs j ≡ some g → g.held ≡ No
   others-free hs id j h g apart at alone other at' = let a : alone_of h ≡ 1 = ap alone_weight alone in let b : held_of h ≡ 1 = ap held_weight alone in let c = total-at alone_of hs id h at in let d = apart (omega arith) in
       let e = total-two held_of hs id j h g at at' (λ z. other (sym z)) in held-none g.held (omega arith)
 
@@ -247,7 +247,7 @@ module _ {Call : Type 0} (o : Obj Call) (unavailable : Unavailable) (size : ℕ)
       one (Entered e) x f = omega arith
       one (Logged e) x f = let a : held_weight x ≡ 1 = ap held_weight (f e refl) in omega arith
 
-  owed-one : (w : SiteWords) (hs : List Hand) (id : ℕ) (h : Hand) → Kept w hs → get_elem? hs id ≡ some h → h.held ≡ Alone → total owed_of hs ≤ 1
+  pub owed-one : (w : SiteWords) (hs : List Hand) (id : ℕ) (h : Hand) → Kept w hs → get_elem? hs id ≡ some h → h.held ≡ Alone → total owed_of hs ≤ 1
   owed-one w hs id h r at alone = let a : alone_of h ≡ 1 = ap alone_weight alone in let c = total-at alone_of hs id h at in let d = r.balances.apart (omega arith) in
       let e = owed-least w.guarded (get_or w.entries w.len 0) r.log r.told hs r.each in omega arith
 

@@ -13,3 +13,4 @@ pub mod Plays
 pub mod Passes
 pub mod Nothings
 pub mod Barely
+pub mod Stated

@@ -1,5 +1,5 @@
 -- The plain spin lock: a word that is 1 where one view has the lock, and 0 where none has.
-use Rattle.std.specs.Prelude.{◌≡◌, ◌≢◌, ℕ, ◌+◌, ◌≤◌, ◌⊎◌, Bool, true, false, List, Option, Some}
+use Rattle.std.specs.Prelude.{◌≡◌, ◌≢◌, ℕ, ◌+◌, ◌≤◌, ◌⊎◌, true, false, List, Some}
 use Rattle.atomic_table.specs.Table.{Step}
 use Rattle.lock_core.specs.declared.view.View.{View}
 use Rattle.lock_core.specs.declared.view.SpinHand.{SpinHand}

@@ -21,20 +21,17 @@ use crate::plan::Plan;
 use crate::rule::{SiteRule, Under};
 use crate::view::{Seen, View};
 use atomic_table::{Play, Table};
-use plays::{Becomes, Begin, Cut, Find, Glue, Lift, Put, Puts, Recall, Tells};
+pub use laws::Between;
+use plays::{Becomes, Begin, Cut, Find, Glue, Lift, Put, Puts, Tells};
 use std::alloc::{AllocError, Global};
 
+mod laws;
 mod own;
 mod plays;
 mod reading;
 mod seats;
 mod steps;
 mod words;
-
-/// A relation between the words of a table before and after a step.
-pub trait Between {
-    ghost between: { List ℕ → List ℕ → Type 0 };
-}
 
 /// A table under the rule R. Its plan is `table.shared.key`.
 #[derive(Drop)]

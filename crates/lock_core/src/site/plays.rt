@@ -6,8 +6,8 @@ ghost use Rattle.lock_core.specs.Views.{stranger, ticked, split_off, merged, spe
 ghost use Rattle.lock_core.specs.Plays.{Found, PutBy, Begun};
 ghost use Rattle.lock_core.specs.Pasts.{unseen, Paced};
 
+use super::laws::Between;
 use crate::rule::SiteRule;
-use crate::site::Between;
 use crate::view::{Seen, View};
 use atomic_table::{Join, Play, Split};
 use std::marker::{Brand, PhantomData};

@@ -1,8 +1,6 @@
-use Rattle.std.proofs.Common.{◌≡◌, ◌≤◌, arith, sym, ap, ◌∙◌, length, max, subst}
+use Rattle.std.proofs.Common.{◌≡◌, arith, sym, ap, ◌∙◌, max, subst}
 use Rattle.lock_core.specs.declared.view.Hand.{Hand}
-use Rattle.lock_core.specs.Records.{row}
 use Rattle.lock_core.specs.Views.{Knows}
-use Rattle.lock_core.specs.Passes.{Numbered}
 use Rattle.lock_core.proofs.Numbering.{numbered-short, numbered-known, numbered-knows, sits-numbered}
 use Rattle.lock_core.proofs.site.Site.begin.Goals as goal
 

@@ -1,4 +1,4 @@
-use Rattle.std.proofs.Common.{◌≡◌, ℕ, ◌+◌, length, ap, sym, subst, ◌∙◌, arith}
+use Rattle.std.proofs.Common.{◌≡◌, ℕ, ap, sym, subst, ◌∙◌, arith}
 use Rattle.word_bits.specs.declared.entry.Entry.{Entry}
 use Rattle.lock_core.specs.Passes.{IsBusy}
 use Rattle.lock_core.proofs.RowLaws.{same-some, start-below}

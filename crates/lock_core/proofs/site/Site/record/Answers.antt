@@ -1,4 +1,3 @@
-use Rattle.std.proofs.Common.{◌≡◌, ◌+◌, ap, ◌∙◌, sym, arith, length}
 use Rattle.lock_core.proofs.Reading.{rec-found}
 use Rattle.lock_core.proofs.site.Site.record.Goals as goal
 

@@ -1,0 +1,55 @@
+-- What the rule of every site says of its words and views, whatever its lock is.
+use Rattle.std.specs.Prelude.{◌≡◌, ◌≢◌, ℕ, ◌+◌, ◌<◌, ◌≤◌, ◌⊎◌, true, false, List, length, take, map, slice_get, slice_index, Some}
+use mathlib.Core.Option.{some}
+use lib.ListN.{get_elem?}
+use Rattle.word_bits.specs.declared.entry.Entry.{Entry}
+use Rattle.word_bits.specs.EntryWord.{entry_word}
+use Rattle.word_bits.specs.LockWords.{Unavailable}
+use Rattle.word_bits.specs.Objects.{Obj}
+use Rattle.word_bits.specs.Histories.{Plan, Records, state_after}
+use Rattle.lock_core.specs.declared.view.Hand.{Hand}
+use Rattle.lock_core.specs.declared.view.Saw.{Saw}
+use Rattle.lock_core.specs.declared.view.Held.TheVariants.{No, Alone}
+use Rattle.lock_core.specs.declared.view.Stage.TheVariants.{Logged}
+use Rattle.lock_core.specs.Plans.{call_words}
+use Rattle.lock_core.specs.Layout.{SiteWords}
+use Rattle.lock_core.specs.Records.{row, rec_words, sends, intrs, IsLoggedAt, AreNext}
+use Rattle.lock_core.specs.Views.{named_of, sent_of, consumed_of}
+use Rattle.lock_core.specs.Sites.{HasPlan, taken_at, sent_at, consumed_at}
+use Rattle.lock_core.specs.Totals.{total}
+use Rattle.lock_core.specs.Parts.{Each}
+
+-- the pass's next step records the entry, which is the log's last one
+pub record Owes (h : Hand) (e : Entry) : Type 0 where
+  pub task : h.task ≡ Some e.task
+  pub call : h.done ≡ e.call
+  pub alone : h.held ≡ Alone
+  pub stage : h.stage ≡ Logged e
+
+module _ {Call : Type 0} (o : Obj Call) (unavailable : Unavailable) (size : ℕ) (k : Plan) where
+  pub record IsSite (w : SiteWords) (hs : List Hand) : Type 0 where
+    -- the log's entries and the records of the calls, task by task
+    pub log : List Entry
+    pub told : Records
+    -- the constant words are the plan, and so is that of every live view
+    pub plan : w.calls ≡ call_words k
+    pub plans : Each (λ h. HasPlan k h.plan) hs
+    -- a number is taken exactly where one view has it
+    pub numbers : (t : ℕ) → t < length k → (slice_index w.lines (taken_at t) ≡ total (named_of t) hs) × (total (named_of t) hs ≤ 1)
+    -- whenever no view writes, the guarded words are the state after the log; who writes holds alone, and no other view holds
+    pub guarded : Each (λ h. h.writes ≡ false) hs → take size w.guarded ≡ o.stores (state_after o k log)
+    pub writers : Each (λ h. h.writes ≡ true → h.held ≡ Alone) hs
+    pub apart : (i j : ℕ) (g h : Hand) → get_elem? hs i ≡ some g → get_elem? hs j ≡ some h → i ≢ j → g.writes ≡ true → h.held ≡ No
+    -- what each pass has seen begins the log
+    pub entries : (w.len ≡ length log) × (take (length log) w.entries ≡ map entry_word log)
+    pub seen : Each (λ h. take (length h.seen) log ≡ h.seen) hs
+    -- each record says what its call replied at its place; each entry has its record, or a view is about to store it
+    pub records : w.recs ≡ rec_words k told
+    pub legal : (t : ℕ) → AreNext o unavailable k log t 0 0 (row k t) (row told t)
+    pub logged : (j : ℕ) (e : Entry) → slice_get log j ≡ Some e → IsLoggedAt o k told e j ⊎ ((i : ℕ) × (h : Hand) × (get_elem? hs i ≡ some h) × Owes h e)
+    -- signals add up
+    pub sent : (t : ℕ) → t < 64 → slice_index w.lines (sent_at t) ≡ sends t k told + total (sent_of t) hs
+    pub consumed : (t : ℕ) → t < 64 → slice_index w.lines (consumed_at t) ≡ intrs (row told t) + total (consumed_of t) hs
+    pub pending : (t : ℕ) → t < 64 → slice_index w.lines (consumed_at t) ≤ slice_index w.lines (sent_at t)
+    -- a word that a failed try saw fits a record
+    pub saw : Each (λ h. (x : Saw) → h.saw ≡ Some x → x.word < 4194304) hs
