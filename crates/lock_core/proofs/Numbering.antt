@@ -89,8 +89,8 @@ module _ {Call : Type 0} (o : Obj Call) (unavailable : Unavailable) (k : Plan) (
       ap (λ (z : Hand). length z.seen) n.4 ∙ (length-longer h.seen (take s n.1) ∙ ap (max (length h.seen)) (length-take-le s n.1 short))
 
 pub sits-numbered : {E Call : Type 0} (o : Obj Call) (unavailable : Unavailable) (k : Plan) (table seat seat' : TableId) (me me' : Me (Unit {0}) (Seen E)) (face : Face) (t done seen front' : ℕ) (held' : Held) → Sits k table seat me face → seat' ≡ seat → me'.1 ≡ me.1 → t < length k
-    → (n : Numbered o unavailable k me.0.view.hand t me'.0.view.hand) → done ≡ me'.0.view.hand.done → seen ≡ seen_by o 0 (row k t) n.0 → front' ≡ max face.front seen → held' ≡ face.held → Sits k table seat' me' (record { task = Some t; held = held'; done = done; front = front' })
-sits-numbered o unavailable k table seat seat' me me' face t done seen front' held' r same slots inside n many front most same-held = record {
+    → (n : Numbered o unavailable k me.0.view.hand t me'.0.view.hand) → done ≡ me'.0.view.hand.done → seen ≡ seen_by o 0 (row k t) n.0 → front' ≡ max face.front seen → held' ≡ face.held → me.0.view.steps ≤ me'.0.view.steps → Sits k table seat' me' (record { task = Some t; held = held'; done = done; front = front' })
+sits-numbered o unavailable k table seat seat' me me' face t done seen front' held' r same slots inside n many front most same-held later = record {
   own = same ∙ r.own;
   slots = slots ∙ r.slots;
   plan = ap (λ (z : Hand). z.plan) n.4 ∙ r.plan;
@@ -99,6 +99,7 @@ sits-numbered o unavailable k table seat seat' me me' face t done seen front' he
   done = many;
   front = most ∙ ((λ i. max (r.front i) (front i)) ∙ sym (numbered-front o unavailable k me.0.view.hand me'.0.view.hand t n));
   stage = ap (λ (z : Hand). z.stage) n.4 ∙ r.stage;
+  latest = let l = r.latest in let e = ap (λ (z : Hand). z.last) n.4 in omega (arith, l, e, later);
   short = subst (λ (z : Hand). length z.log ≤ calls_in k) (sym n.4) r.short;
   shorter = subst (λ (z : Hand). length z.seen ≤ calls_in k) (sym n.4) (longer-is me.0.view.hand.seen (take (seen_by o 0 (row k t) n.0) n.1) (λ (zs : List Entry). length zs ≤ calls_in k)
       (λ _. let s = seen_by-within o unavailable k n.1 t 0 0 (row k t) n.0 n.2 (omega arith) in let l = n.3 in omega (arith, length-take-le (seen_by o 0 (row k t) n.0) n.1 s, s, l)) (λ _. r.shorter));

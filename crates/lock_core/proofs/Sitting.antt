@@ -1,5 +1,5 @@
 -- A pass goes on with its seat.
-use Rattle.std.proofs.Common.{List, ◌≡◌, ℕ, ◌<◌, ◌≤◌, length, Some, sym, ap, ◌∙◌, subst}
+use Rattle.std.proofs.Common.{arith, List, ◌≡◌, ℕ, ◌<◌, ◌≤◌, length, Some, sym, ap, ◌∙◌, subst}
 use Rattle.atomic_table.specs.Table.{Me}
 use Rattle.atomic_table.specs.Seated.{TableId}
 use Rattle.word_bits.specs.declared.entry.Entry.{Entry}
@@ -14,8 +14,8 @@ use Rattle.lock_core.specs.Views.{front}
 use Rattle.lock_core.specs.Passes.{Sits}
 
 -- after a step that leaves its hand
-pub sits-on : {E : Type 0} (k : Plan) (table seat seat' : TableId) (me me' : Me (Unit {0}) (Seen E)) (face face' : Face) → seat' ≡ seat → me'.1 ≡ me.1 → me'.0.view.hand ≡ me.0.view.hand → face' ≡ face → Sits k table seat me face → Sits k table seat' me' face'
-sits-on k table seat seat' me me' face face' same slots hand says r = record {
+pub sits-on : {E : Type 0} (k : Plan) (table seat seat' : TableId) (me me' : Me (Unit {0}) (Seen E)) (face face' : Face) → seat' ≡ seat → me'.1 ≡ me.1 → me'.0.view.hand ≡ me.0.view.hand → me.0.view.steps ≤ me'.0.view.steps → face' ≡ face → Sits k table seat me face → Sits k table seat' me' face'
+sits-on k table seat seat' me me' face face' same slots hand later says r = record {
   own = same ∙ r.own;
   slots = slots ∙ r.slots;
   plan = ap (λ (h : Hand). h.plan) hand ∙ r.plan;
@@ -24,6 +24,7 @@ sits-on k table seat seat' me me' face face' same slots hand says r = record {
   done = ap (λ (f : Face). f.done) says ∙ (r.done ∙ sym (ap (λ (h : Hand). h.done) hand));
   front = ap (λ (f : Face). f.front) says ∙ (r.front ∙ sym (ap front hand));
   stage = ap (λ (h : Hand). h.stage) hand ∙ r.stage;
+  latest = let l = r.latest in let e = ap (λ (h : Hand). h.last) hand in omega (arith, l, e, later);
   short = subst (λ (h : Hand). length h.log ≤ calls_in k) (sym hand) r.short;
   shorter = subst (λ (h : Hand). length h.seen ≤ calls_in k) (sym hand) r.shorter;
   planned = subst (λ (f : Face). (t : ℕ) → f.task ≡ Some t → (t < length k) × (f.done ≤ length (row k t))) (sym says) r.planned;
@@ -40,10 +41,11 @@ pub record SameFace (h g : Hand) : Type 0 where
   pub stage : g.stage ≡ h.stage
   pub log : g.log ≡ h.log
   pub saw : g.saw ≡ h.saw
+  pub last : g.last ≡ h.last
 
 -- after a step that leaves what the pass says of itself
-pub sits-same : {E : Type 0} (k : Plan) (table seat seat' : TableId) (me me' : Me (Unit {0}) (Seen E)) (face face' : Face) → seat' ≡ seat → me'.1 ≡ me.1 → SameFace me.0.view.hand me'.0.view.hand → face' ≡ face → Sits k table seat me face → Sits k table seat' me' face'
-sits-same k table seat seat' me me' face face' same slots hand says r = record {
+pub sits-same : {E : Type 0} (k : Plan) (table seat seat' : TableId) (me me' : Me (Unit {0}) (Seen E)) (face face' : Face) → seat' ≡ seat → me'.1 ≡ me.1 → SameFace me.0.view.hand me'.0.view.hand → me.0.view.steps ≤ me'.0.view.steps → face' ≡ face → Sits k table seat me face → Sits k table seat' me' face'
+sits-same k table seat seat' me me' face face' same slots hand later says r = record {
   own = same ∙ r.own;
   slots = slots ∙ r.slots;
   plan = hand.plan ∙ r.plan;
@@ -52,6 +54,7 @@ sits-same k table seat seat' me me' face face' same slots hand says r = record {
   done = ap (λ (f : Face). f.done) says ∙ (r.done ∙ sym hand.done);
   front = ap (λ (f : Face). f.front) says ∙ (r.front ∙ sym (ap length hand.seen));
   stage = hand.stage ∙ r.stage;
+  latest = let l = r.latest in let e = hand.last in omega (arith, l, e, later);
   short = subst (λ (l : List Entry). length l ≤ calls_in k) (sym hand.log) r.short;
   shorter = subst (λ (l : List Entry). length l ≤ calls_in k) (sym hand.seen) r.shorter;
   planned = subst (λ (f : Face). (t : ℕ) → f.task ≡ Some t → (t < length k) × (f.done ≤ length (row k t))) (sym says) r.planned;

@@ -37,6 +37,7 @@ pub record Sits {E : Type 0} (k : Plan) (table : TableId) (seat : TableId) (me :
   pub done : face.done ≡ me.0.view.hand.done
   pub front : face.front ≡ front me.0.view.hand
   pub stage : me.0.view.hand.stage ≡ Rest
+  pub latest : me.0.view.hand.last ≤ me.0.view.steps
   pub short : length me.0.view.hand.log ≤ calls_in k
   pub shorter : length me.0.view.hand.seen ≤ calls_in k
   pub planned : (t : ℕ) → face.task ≡ Some t → (t < length k) × (face.done ≤ length (row k t))

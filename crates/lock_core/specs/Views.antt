@@ -1,5 +1,5 @@
 -- Views, and what each kind of step makes of them.
-use Rattle.std.specs.Prelude.{◌≡◌, ℕ, ◌+◌, ◌==◌, Bool, true, false, List, [], ◌∷◌, ◌++◌, length, slice_get, slice_set, leb, Option, Some, None, if◌then◌else◌, ◌/◌, ◌%◌, ◌^◌}
+use Rattle.std.specs.Prelude.{◌≤◌, ◌≡◌, ℕ, ◌+◌, ◌==◌, Bool, true, false, List, [], ◌∷◌, ◌++◌, length, slice_get, slice_set, leb, Option, Some, None, if◌then◌else◌, ◌/◌, ◌%◌, ◌^◌}
 use Rattle.word_bits.specs.declared.entry.Entry.{Entry}
 use Rattle.word_bits.specs.declared.rec.Rec.{Rec}
 use Rattle.word_bits.specs.declared.reply.Reply.{Reply}
@@ -194,3 +194,7 @@ module _ {E : Type 0} where
   -- it holds nothing, neither the lock nor the spin lock
   abbrev pub HoldsNothing : View E → Type 0
   HoldsNothing v = (v.hand.held ≡ No) × (v.spin.holds ≡ false)
+
+  -- all but the hand is as it was, after some steps
+  abbrev pub Beside : View E → View E → Type 0
+  Beside v u = (u.spin ≡ v.spin) × (u.fronts ≡ v.fronts) × (u.ext ≡ v.ext) × (v.steps ≤ u.steps)

@@ -1,5 +1,6 @@
-//! What each step does to a word.
+//! What no clause says: what a step does to a word, and a site with real passes.
 use super::*;
+use std::test::Fail;
 
 #[test]
 fn steps_as_a_processor_does(rt: HostRuntime) {
@@ -20,4 +21,25 @@ fn steps_as_a_processor_does(rt: HostRuntime) {
         assert_eq!(rt; shadow.words[63], after);
         assert_eq!(rt; shadow.words[62], 0);
     }
+}
+
+#[test]
+fn a_second_pass_finds_the_spin_lock_taken(rt: HostRuntime) -> Result<(), Fail> {
+    let plan = Plan::new(rt.alloc(), 2)?;
+    let (site, mut one) = Site::<Bare>::open(rt.alloc(), plan)?;
+    let mut two = site.split(&mut one);
+    site.begin(&rt, &mut one, 0);
+    site.begin(&rt, &mut two, 1);
+    lock(&site, &rt, &mut one);
+    assert_eq!(rt; trylock(&site, &mut two), Err(1));
+    unlock(&site, &mut one);
+    assert_eq!(rt; trylock(&site, &mut two), Ok(()));
+    unlock(&site, &mut two);
+    site.end(&mut two);
+    site.gather(&mut one, two);
+    assert_eq!(rt;
+        (one.task(), one.held(), one.done(), one.front()),
+        (Some(0), Held::No, 0, 0)
+    );
+    Ok(())
 }

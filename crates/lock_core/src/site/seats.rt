@@ -8,7 +8,7 @@ ghost use Rattle.word_bits.specs.Legal.{seen_after};
 ghost use Rattle.lock_core.specs.declared.view.Hand.{Hand};
 ghost use Rattle.word_bits.specs.declared.entry.Entry.{Entry as Logged};
 ghost use Rattle.lock_core.specs.Records.{row, seen_by, AreNext};
-ghost use Rattle.lock_core.specs.Views.{handed, gave_up, HoldsNothing, Knows};
+ghost use Rattle.lock_core.specs.Views.{handed, gave_up, Beside, HoldsNothing, Knows};
 ghost use Rattle.lock_core.specs.Passes.{Sits, Numbered};
 
 use super::Site;
@@ -28,6 +28,7 @@ impl<R: SiteRule> Site<R> {
         requires there { task < length self.now.table.shared.key }
         ensures own { Sits self.now.table.shared.key self.now.table.shared.table_id pass.new.seat.table_id pass.new.seat.me pass.new.face }
         ensures became { Numbered R.O.object R.unavailable self.now.table.shared.key pass.old.seat.me.0.view.hand task pass.new.seat.me.0.view.hand }
+        ensures beside { Beside pass.old.seat.me.0.view pass.new.seat.me.0.view }
     {
         self.take_number(rt, pass, task);
         let done = self.recorded(pass, task);
@@ -47,6 +48,7 @@ impl<R: SiteRule> Site<R> {
         ensures own { (pass.new.seat.table_id ≡ pass.old.seat.table_id) × (pass.new.seat.id ≡ pass.old.seat.id) × (pass.new.seat.me.1 ≡ pass.old.seat.me.1) }
         ensures face { pass.new.face ≡ pass.old.face }
         ensures became { Numbered R.O.object R.unavailable self.now.table.shared.key pass.old.seat.me.0.view.hand task pass.new.seat.me.0.view.hand }
+        ensures beside { Beside pass.old.seat.me.0.view pass.new.seat.me.0.view }
     {
         for _ in rt.forever() {
             if self.take::<Brand>(pass, task) {
@@ -68,6 +70,7 @@ impl<R: SiteRule> Site<R> {
         ensures face { pass.new.face ≡ pass.old.face }
         ensures kept { pass.new.seat.me.0.view.hand ≡ pass.old.seat.me.0.view.hand }
         ensures count { result ≡ pass.old.seat.me.0.view.hand.done }
+        ensures beside { Beside pass.old.seat.me.0.view pass.new.seat.me.0.view }
     {
         let mut low = 0;
         let mut high = self.calls(task);
@@ -92,6 +95,7 @@ impl<R: SiteRule> Site<R> {
         ensures face { pass.new.face ≡ pass.old.face }
         ensures kept { pass.new.seat.me.0.view.hand ≡ pass.old.seat.me.0.view.hand }
         ensures seen { (rs : List Record) (log : List Logged) → length rs ≡ done → AreNext R.O.object R.unavailable self.now.table.shared.key log task 0 0 (row self.now.table.shared.key task) rs → ((c : ℕ) (r : Record) → slice_get rs c ≡ Some r → Knows pass.old.seat.me.0.view.hand (record { task = task; call = c }) r) → result ≡ seen_by R.O.object 0 (row self.now.table.shared.key task) rs }
+        ensures beside { Beside pass.old.seat.me.0.view pass.new.seat.me.0.view }
     {
         if done == 0 {
             return 0;
@@ -109,6 +113,7 @@ impl<R: SiteRule> Site<R> {
         ensures face { pass.new.face ≡ pass.old.face }
         ensures kept { pass.new.seat.me.0.view.hand ≡ pass.old.seat.me.0.view.hand }
         ensures seen { (w : Words) (r : Record) → slice_get (row self.now.table.shared.key task) call ≡ Some w → Knows pass.old.seat.me.0.view.hand (record { task = task; call = call }) r → IsRec r → result ≡ seen_after (logs R.O.object w r.reply) r }
+        ensures beside { Beside pass.old.seat.me.0.view pass.new.seat.me.0.view }
     {
         let word = self.record(pass, task, call);
         let words = self.load_call(pass, task, call);

@@ -1,4 +1,4 @@
-use Rattle.std.proofs.Common.{◌≡◌, ap, sym, ◌∙◌}
+use Rattle.std.proofs.Common.{arith, ◌≡◌, ap, sym, ◌∙◌}
 use Rattle.lock_core.specs.declared.view.Hand.{Hand}
 use Rattle.lock_core.specs.Views.{wrote}
 use Rattle.lock_core.proofs.Sitting.{sits-same}
@@ -20,4 +20,5 @@ returns-clause-own g c = let h : c.put.new.pass.seat.me.0.view.hand ≡ wrote c.
       stage = ap (λ (z : Hand). z.stage) h;
       log = ap (λ (z : Hand). z.log) h;
       saw = ap (λ (z : Hand). z.saw) h;
-    } c.put.ensures.face c.requires.own
+      last = ap (λ (z : Hand). z.last) h;
+    } (let n = ap (λ v. v.steps) c.put.ensures.kept in omega (arith, n)) c.put.ensures.face c.requires.own
