@@ -65,4 +65,13 @@ impl<R: SiteRule> Pass<R> {
     {
         self.face.front
     }
+
+    /// Notes how the pass holds, after a step of a lock that changed it. Clauses that a pass sits at
+    /// a site speak of what it notes, so a pass that notes something else is of no use afterwards.
+    pub fn set_held(&mut self, held: Held)
+        ensures seat { self.new.seat ≡ self.old.seat }
+        ensures face { self.new.face ≡ record self.old.face { held = held } }
+    {
+        self.face.held = held;
+    }
 }
