@@ -90,7 +90,7 @@ fn answer<K: Sink>(alloc: Global, input: &[u8], sink: &mut K) -> Status
 }
 
 /// Reads a script from the source, does its calls one after the other, task by task, and writes
-/// their histories to the sink.
+/// their histories to the sink. No call has to wait, so none is busy or interrupted.
 ///
 /// `words` are the words of the command line after the program's name. None is taken yet.
 pub fn top<S: Source, K: Sink>(
