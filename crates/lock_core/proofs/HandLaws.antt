@@ -18,6 +18,15 @@ use Rattle.lock_core.proofs.RowLaws.{same-some}
 pub alone-is-held : (x : Held) → x ≡ Alone → x ≢ No
 alone-is-held x a n = let w : alone_weight Alone ≡ alone_weight No = ap alone_weight (sym a ∙ n) in omega (arith, w)
 
+pub no-alone : {P : Type 0} → No ≡ Alone → P
+no-alone eq = let w : alone_weight No ≡ alone_weight Alone = ap alone_weight eq in absurd (omega (arith, w))
+
+pub rest-logged : (e : Entry) {P : Type 0} → Rest ≡ Logged e → P
+rest-logged e eq = let w : owed_weight Rest ≡ owed_weight (Logged e) = ap owed_weight eq in absurd (omega (arith, w))
+
+pub rest-entered : (e : Entry) {P : Type 0} → Rest ≡ Entered e → P
+rest-entered e eq = absurd cc
+
 pub held-none : (x : Held) → held_weight x ≤ 0 → x ≡ No
 held-none No l = refl
 held-none Shared l = absurd (omega (arith, l))

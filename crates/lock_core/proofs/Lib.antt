@@ -18,3 +18,4 @@ pub mod WordLaws
 pub mod Recording
 pub mod Spinning
 pub mod Stating
+pub mod HoldSteps

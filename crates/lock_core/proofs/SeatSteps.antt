@@ -11,23 +11,16 @@ use Rattle.word_bits.specs.Objects.{Obj}
 use Rattle.word_bits.specs.Histories.{Plan, Records}
 use Rattle.lock_core.specs.declared.view.Hand.{Hand}
 use Rattle.lock_core.specs.declared.view.Told.{Told}
-use Rattle.lock_core.specs.declared.view.Held.TheVariants.{No, Alone}
-use Rattle.lock_core.specs.declared.view.Stage.TheVariants.{Rest, Entered, Logged}
+use Rattle.lock_core.specs.declared.view.Held.TheVariants.{No}
 use Rattle.lock_core.specs.Layout.{SiteWords}
 use Rattle.lock_core.specs.Records.{row, seen_by}
-use Rattle.lock_core.specs.Views.{told_from, stranger, longer, became, gave_up, gathered, alone_weight, owed_weight, is_number, consumed_weight, held_of, alone_of, writes_of, owed_of, named_of, sent_of, consumed_of}
+use Rattle.lock_core.specs.Views.{told_from, stranger, longer, became, gave_up, gathered, is_number, consumed_weight, held_of, alone_of, writes_of, owed_of, named_of, sent_of, consumed_of}
 use Rattle.lock_core.specs.Sites.{HandOk, SiteKept, Balances, HasPlan, taken_at, sent_at, consumed_at}
 use Rattle.lock_core.specs.Totals.{total-set, total-same}
 use Rattle.lock_core.specs.Parts.{each-set, each-snoc}
 use Rattle.lock_core.proofs.RowLaws.{none-some, same-some, get-either}
 use Rattle.lock_core.proofs.RecordLaws.{seen_by-within}
-use Rattle.lock_core.proofs.HandLaws.{not-both, false-or-true, stage-cases, is_number-here, is_number-else, SameWeights, tally-same, tally-stranger, longer-both, longer-left, longer-right}
-
-stage-owes : (e : Entry) {P : Type 0} → Rest ≡ Logged e → P
-stage-owes e eq = let w : owed_weight Rest ≡ owed_weight (Logged e) = ap owed_weight eq in absurd (omega (arith, w))
-
-rest-entered : (e : Entry) {P : Type 0} → Rest ≡ Entered e → P
-rest-entered e eq = absurd cc
+use Rattle.lock_core.proofs.HandLaws.{no-alone, rest-logged, rest-entered, not-both, false-or-true, stage-cases, is_number-here, is_number-else, SameWeights, tally-same, tally-stranger, longer-both, longer-left, longer-right}
 
 -- the records of a task are those of its list
 told-from-is : (t c : ℕ) (rs all : List Rec) (i : ℕ) (x : Told) → ((j : ℕ) (y : Rec) → slice_get rs j ≡ Some y → slice_get all (c + j) ≡ Some y) → slice_get (told_from t c rs) i ≡ Some x
@@ -36,9 +29,6 @@ told-from-is t c [] all i x in-all eq rows is = none-some x eq
 told-from-is t c (r ∷ rs) all zero x in-all eq rows is = let e : record { entry = record { task = t; call = c }; rec = r } ≡ x = same-some (record { entry = record { task = t; call = c }; rec = r }) x eq in
     let first : slice_get all c ≡ Some r = (let n : c ≡ c + 0 = omega arith in ap (slice_get all) n) ∙ in-all 0 r refl in subst (λ (z : Told). slice_get (rows z.entry.task) z.entry.call ≡ Some z.rec) e (ap (λ (l : List Rec). slice_get l c) is ∙ first)
 told-from-is t c (r ∷ rs) all (suc i) x in-all eq rows is = told-from-is t (c + 1) rs all i x (λ j y there. (let n : c + 1 + j ≡ c + suc j = omega arith in ap (slice_get all) n) ∙ in-all (suc j) y there) eq rows is
-
-no-alone : {P : Type 0} → No ≡ Alone → P
-no-alone eq = let w : alone_weight No ≡ alone_weight Alone = ap alone_weight eq in absurd (omega (arith, w))
 
 module _ {Call : Type 0} (o : Obj Call) (unavailable : Unavailable) (size : ℕ) (k : Plan) where
   abbrev Kept : SiteWords → List Hand → Type 0
@@ -65,7 +55,7 @@ module _ {Call : Type 0} (o : Obj Call) (unavailable : Unavailable) (size : ℕ)
     writer = λ yes_it. not-both false refl yes_it;
     seen = (short, front);
     entered = λ e eq. rest-entered e eq;
-    logged = λ e eq. stage-owes e eq;
+    logged = λ e eq. rest-logged e eq;
     mine = λ t eq. none-some t eq;
     nameless = λ _. (refl, refl, refl);
     knows = λ i x eq. none-some x eq;

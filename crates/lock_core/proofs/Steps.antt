@@ -1,5 +1,5 @@
 -- What a step on a table asks, from what it makes of the words and the views. The table has no slots in use.
-use Rattle.std.proofs.Common.{◌≡◌, ◌≢◌, ℕ, ◌<◌, eq-eqb, ne_eqb, if◌then◌else◌, List, get_or, set, map, sym, subst}
+use Rattle.std.proofs.Common.{refl, ◌≡◌, ◌≢◌, ℕ, ◌<◌, eq-eqb, ne_eqb, if◌then◌else◌, List, get_or, set, map, sym, subst}
 use mathlib.Core.Option.{some}
 use mathlib.Core.Logic.{dite}
 use native.Mathlib.Decide.{ℕ_discrete}
@@ -13,7 +13,7 @@ use Rattle.lock_core.specs.declared.view.View.{View}
 use Rattle.lock_core.specs.declared.view.Seen.{Seen}
 use Rattle.lock_core.specs.Ops.{word_after}
 use Rattle.lock_core.specs.Moves.{Goes, Lets}
-use Rattle.lock_core.specs.Pasts.{Lived, view_of, unseen}
+use Rattle.lock_core.specs.Pasts.{Lived, view_of, unseen, FoundAt}
 use Rattle.lock_core.proofs.Living.{grown, lived-after}
 
 module _ {V : Type 0} (holds : List ℕ → List V → Type 0) (moves : ℕ → List ℕ → List V → List ℕ → List V → Type 0) where
@@ -63,3 +63,9 @@ module _ {E : Type 0} (holds : List ℕ → List (View E) → Type 0) (moves : �
   pub allows : (slots id i : ℕ) (me : Me (Unit {0}) (Seen E)) (op : Op) (tells : ℕ → Me (Unit {0}) (View E) → Type 0) → Lets holds moves slots id (unseen me) i op tells → Allows Rule slots id me i (word_after op) (λ n m'. tells n (unseen m'))
   allows slots id i me op tells lets s r l at small = let t = lets record { words = s.words; homes = s.homes; views = map view_of s.views } r.1 l (at_map view_of s.views id me.0 at) small in
       let ws' : List ℕ = set s.words i (word_after op (get_or s.words i 0)) in (grown holds moves s.words ws' r.0 t.0, t.1, t.2, lived-after holds moves s.words ws' s.views id t.0 r t.3, t.4)
+
+  -- the same, where the pass remembers what it found
+  pub allows-found : (slots id i : ℕ) (me : Me (Unit {0}) (Seen E)) (op : Op) (tells : ℕ → Me (Unit {0}) (View E) → Type 0) → Lets holds moves slots id (unseen me) i op tells
+      → Allows Rule slots id me i (word_after op) (λ n m'. tells n (unseen m') × FoundAt i n m'.0.past)
+  allows-found slots id i me op tells lets s r l at small = let t = lets record { words = s.words; homes = s.homes; views = map view_of s.views } r.1 l (at_map view_of s.views id me.0 at) small in
+      let ws' : List ℕ = set s.words i (word_after op (get_or s.words i 0)) in (grown holds moves s.words ws' r.0 t.0, t.1, t.2, lived-after holds moves s.words ws' s.views id t.0 r t.3, (t.4, (ws', s.words, r.0, refl, refl)))

@@ -90,6 +90,7 @@ module _ {Call : Type 0} (o : Obj Call) (unavailable : Unavailable) (size : ℕ)
   pub length-found : (s : List ℕ) (hs : List Hand) (id : ℕ) (h : Hand) → Kept (lay k s) hs → get_elem? hs id ≡ some h → h.held ≢ No → IsLength h 776 (get_or s 776 0)
   length-found s hs id h r at holds = let many = r.tells.many in let within = r.tells.within in (
     holders-log s hs id h r at holds,
+    (let seen = (r.each id h at).seen.0 in omega (arith, many, seen)),
     λ p plan. subst (λ (z : Plan). (get_or s 776 0 ≤ calls_in z) × ((t : ℕ) → h.task ≡ Some t → h.done < length (row z t) → h.stage ≡ Rest → h.held ≡ Alone → get_or s 776 0 < calls_in z)) (sym (same-plan o unavailable size k h p (r.each id h at).plan plan)) (
       omega (arith, many, within),
       λ t named next rest alone. let none = none-owed o unavailable size k (lay k s) hs id h r at alone (ap owed_weight rest) in let few = r.balances.few in let done = ((r.each id h at).mine t named).1 in

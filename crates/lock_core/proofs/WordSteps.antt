@@ -30,23 +30,14 @@ use Rattle.lock_core.specs.Sites.{HandOk, SiteKept, Balances}
 use Rattle.lock_core.specs.Totals.{total, total-set, total-same, total-at, total-two}
 use Rattle.lock_core.specs.Parts.{Each, each-set}
 use Rattle.lock_core.proofs.RowLaws.{none-some, same-some, some-inside, get-longer, get-last, get-either, row-appended, row-beside, length-appended, calls_in-appended, rec_words-appended}
-use Rattle.lock_core.proofs.HandLaws.{alone-is-held, held-none, not-both, is_number-here, tally-same}
+use Rattle.lock_core.proofs.HandLaws.{no-alone, rest-logged, rest-entered, alone-is-held, held-none, not-both, is_number-here, tally-same}
 use Rattle.lock_core.proofs.RecordLaws.{grows-next, next-snoc, seen_by-snoc, state-snoc, sends-appended, intrs-snoc}
-
-no-alone : {P : Type 0} → No ≡ Alone → P
-no-alone eq = let w : alone_weight No ≡ alone_weight Alone = ap alone_weight eq in absurd (omega (arith, w))
-
-rest-logged : (e : Entry) {P : Type 0} → Rest ≡ Logged e → P
-rest-logged e eq = let w : owed_weight Rest ≡ owed_weight (Logged e) = ap owed_weight eq in absurd (omega (arith, w))
 
 entered-logged : (e x : Entry) {P : Type 0} → Entered e ≡ Logged x → P
 entered-logged e x eq = let w : owed_weight (Entered e) ≡ owed_weight (Logged x) = ap owed_weight eq in absurd (omega (arith, w))
 
 logged-entered : (e x : Entry) {P : Type 0} → Logged e ≡ Entered x → P
 logged-entered e x eq = let w : owed_weight (Logged e) ≡ owed_weight (Entered x) = ap owed_weight eq in absurd (omega (arith, w))
-
-rest-entered : (e : Entry) {P : Type 0} → Rest ≡ Entered e → P
-rest-entered e eq = absurd cc
 
 same-entered : (e x : Entry) → Entered e ≡ Entered x → e ≡ x
 same-entered e x eq = cc

@@ -65,7 +65,7 @@ half_of (suc n) w = w.b
 
 -- the log's length, which leaves room for the pass's next call
 abbrev pub IsLength : Hand → ℕ → ℕ → Type 0
-IsLength h at n = (n ≡ length h.log) × ((k : Plan) → h.plan ≡ Some k → (n ≤ calls_in k) × ((t : ℕ) → h.task ≡ Some t → h.done < length (row k t) → h.stage ≡ Rest → h.held ≡ Alone → n < calls_in k))
+IsLength h at n = (n ≡ length h.log) × (length h.seen ≤ n) × ((k : Plan) → h.plan ≡ Some k → (n ≤ calls_in k) × ((t : ℕ) → h.task ≡ Some t → h.done < length (row k t) → h.stage ≡ Rest → h.held ≡ Alone → n < calls_in k))
 
 abbrev pub IsEntryAt : Hand → ℕ → ℕ → Type 0
 IsEntryAt h at n = (j : ℕ) (e : Entry) → at ≡ ENTRIES_AT + j → slice_get h.log j ≡ Some e → n ≡ entry_word e

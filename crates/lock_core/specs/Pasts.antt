@@ -1,5 +1,5 @@
 -- The whole run of a table: the words at each moment, of which each follows from the one before by a move.
-use Rattle.std.specs.Prelude.{◌≡◌, ℕ, List, [], ◌∷◌, map, drop}
+use Rattle.std.specs.Prelude.{◌≡◌, ℕ, List, [], ◌∷◌, map, drop, slice_index}
 use Rattle.atomic_table.specs.Table.{Me}
 use Rattle.lock_core.specs.declared.view.View.{View}
 use Rattle.lock_core.specs.declared.view.Moment.{Moment}
@@ -46,3 +46,7 @@ After P y (x ∷ h) = P x.words y.words
 abbrev pub Paced : (List ℕ → List ℕ → Type 0) → List Moment → Type 0
 Paced P [] = Unit {0}
 Paced P (y ∷ h) = After P y h × Paced P h
+
+-- at the pass's last step this word had this number
+abbrev pub FoundAt : ℕ → ℕ → List Moment → Type 0
+FoundAt i n past = (new : List ℕ) × (old : List ℕ) × (h : List Moment) × (past ≡ moment new ∷ moment old ∷ h) × (slice_index old i ≡ n)

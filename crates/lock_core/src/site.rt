@@ -94,6 +94,7 @@ impl<R: SiteRule> Site<R> {
         requires numberless { other.face.task ≡ None }
         ensures own { Sits self.now.table.shared.key self.now.table.shared.table_id into.new.seat.table_id into.new.seat.me into.new.face }
         ensures kept { into.new.seat.me.0.view ≡ merged into.old.seat.me.0.view other.seat.me.0.view }
+        ensures rises { (into.old.face.front ≤ into.new.face.front) × (other.face.front ≤ into.new.face.front) }
     {
         let Pass { seat, face } = other;
         self.table.shared.join_seat::<Glue<R>>(&mut into.seat, seat);

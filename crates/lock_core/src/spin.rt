@@ -1,5 +1,5 @@
 //! The plain spin lock, in the table of any host: one word, which is 1 while a pass holds it.
-ghost use Rattle.std.specs.Prelude.{◌≡◌, ◌≢◌, ℕ, ◌+◌, ◌<◌, Bool, true, false, List, map, slice_index, slice_set, IsSome, MatchResult};
+ghost use Rattle.std.specs.Prelude.{◌≡◌, ◌≢◌, ℕ, ◌+◌, ◌<◌, ◌≤◌, Bool, true, false, List, map, slice_index, slice_set, IsSome, MatchResult};
 ghost use mathlib.Core.Option.{some};
 ghost use lib.ListN.{get_elem?};
 ghost use Rattle.word_bits.specs.Histories.{Plan as Calls};
@@ -83,6 +83,7 @@ pub fn lock<H: SpinHost, W: Wait>(site: &Site<H>, rt: &W, pass: &mut Pass<H>)
     ensures fronts { pass.new.seat.me.0.view.fronts ≡ pass.old.seat.me.0.view.fronts }
     ensures ext { pass.new.seat.me.0.view.ext ≡ pass.old.seat.me.0.view.ext }
     ensures face { pass.new.face ≡ pass.old.face }
+    ensures later { pass.old.seat.me.0.view.steps ≤ pass.new.seat.me.0.view.steps }
 {
     for _ in rt.forever() {
         if trylock(site, pass).is_ok() {

@@ -7,6 +7,7 @@ ghost use Rattle.lock_core.specs.Layout.{site_width, lay};
 ghost use Rattle.lock_core.specs.Views.{ticked, handed};
 ghost use Rattle.lock_core.specs.Sites.{SiteKept, Grows};
 ghost use Rattle.lock_core.specs.Moves.{KeepsHold};
+ghost use Rattle.lock_core.specs.Pasts.{FoundAt};
 ghost use Rattle.lock_core.specs.Passes.{Sits};
 
 use super::Site;
@@ -25,6 +26,7 @@ impl<R: SiteRule> Site<R> {
         ensures face { pass.new.face ≡ pass.old.face }
         ensures kept { pass.new.seat.me.0.view ≡ ticked pass.old.seat.me.0.view }
         ensures told { T.tells pass.old.seat.me.0.view.hand at result }
+        ensures found { FoundAt (LOCK_WORDS + at) result pass.new.seat.me.0.past }
     {
         self.load::<Find<T>>(pass, LOCK_WORDS + at)
     }
@@ -46,7 +48,7 @@ impl<R: SiteRule> Site<R> {
     pub(crate) fn take<B: Becomes>(&self, pass: &mut Pass<R>, task: u32) -> bool
         requires own { pass.old.seat.table_id ≡ self.now.table.shared.table_id }
         requires inside { task < 64 }
-        requires keeps { (s : List ℕ) (hs : List Hand) → SiteKept R.O.object R.unavailable R.O.WORDS self.now.table.shared.key (lay self.now.table.shared.key s) hs → get_elem? hs pass.old.seat.id ≡ some pass.old.seat.me.0.view.hand → slice_index s (264 + 8 * task) ≡ 0 → (g : Hand) × B.becomes g × KeepsHold R.rests pass.old.seat.me.0.view g × SiteKept R.O.object R.unavailable R.O.WORDS self.now.table.shared.key (lay self.now.table.shared.key (slice_set s (264 + 8 * task) 1)) (slice_set hs pass.old.seat.id g) × Grows (lay self.now.table.shared.key s) (lay self.now.table.shared.key (slice_set s (264 + 8 * task) 1)) }
+        requires keeps { (s : List ℕ) (hs : List Hand) → SiteKept R.O.object R.unavailable R.O.WORDS self.now.table.shared.key (lay self.now.table.shared.key s) hs → get_elem? hs pass.old.seat.id ≡ some pass.old.seat.me.0.view.hand → slice_index s (LINES_AT + 8 * task) ≡ 0 → (g : Hand) × B.becomes g × KeepsHold R.rests pass.old.seat.me.0.view g × SiteKept R.O.object R.unavailable R.O.WORDS self.now.table.shared.key (lay self.now.table.shared.key (slice_set s (LINES_AT + 8 * task) 1)) (slice_set hs pass.old.seat.id g) × Grows (lay self.now.table.shared.key s) (lay self.now.table.shared.key (slice_set s (LINES_AT + 8 * task) 1)) }
         ensures own { (pass.new.seat.table_id ≡ pass.old.seat.table_id) × (pass.new.seat.id ≡ pass.old.seat.id) × (pass.new.seat.me.1 ≡ pass.old.seat.me.1) }
         ensures face { pass.new.face ≡ pass.old.face }
         ensures taken { result ≡ true → (g : Hand) × B.becomes g × (pass.new.seat.me.0.view ≡ handed pass.old.seat.me.0.view g) }

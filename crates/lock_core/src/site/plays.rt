@@ -4,7 +4,7 @@ ghost use Rattle.lock_core.specs.Passes.{IsLength, IsEntryAt, IsCallWord, IsRecW
 ghost use Rattle.lock_core.specs.declared.view.Hand.{Hand};
 ghost use Rattle.lock_core.specs.Views.{stranger, ticked, split_off, merged, spent};
 ghost use Rattle.lock_core.specs.Plays.{Found, PutBy, Begun};
-ghost use Rattle.lock_core.specs.Pasts.{unseen, Paced};
+ghost use Rattle.lock_core.specs.Pasts.{unseen, FoundAt, Paced};
 
 use super::laws::Between;
 use crate::rule::SiteRule;
@@ -101,6 +101,15 @@ pub(super) struct Lift<M> {
 
 impl<E, M: Play<(), View<E>>> Play<(), Seen<E>> for Lift<M> {
     ghost then = { λ st m n m'. M.then st (unseen m) n (unseen m') };
+}
+
+/// The same, beside what the step found in its word.
+pub(super) struct LiftFound<M> {
+    play: PhantomData<M>,
+}
+
+impl<E, M: Play<(), View<E>>> Play<(), Seen<E>> for LiftFound<M> {
+    ghost then = { λ st m n m'. M.then st (unseen m) n (unseen m') × FoundAt st.word n m'.0.past };
 }
 
 pub(super) struct Recall<N> {

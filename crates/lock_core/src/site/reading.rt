@@ -3,7 +3,10 @@ ghost use Rattle.std.specs.Prelude.{◌≡◌, ◌≢◌, ◌+◌, ◌*◌, ◌<
 ghost use Rattle.word_bits.specs.declared.rec.Rec.{Rec as Record};
 ghost use Rattle.word_bits.specs.RecWord.{IsRec, rec_word};
 ghost use Rattle.lock_core.specs.Plans.{calls_in, start};
+ghost use Rattle.lock_core.specs.declared.layout.TheConstants.{LOCK_WORDS};
+ghost use Rattle.lock_core.specs.Layout.{recs_at};
 ghost use Rattle.lock_core.specs.Records.{row};
+ghost use Rattle.lock_core.specs.Pasts.{FoundAt};
 ghost use Rattle.lock_core.specs.Views.{ticked, Knows};
 ghost use Rattle.lock_core.specs.Passes.{Sits, Shows};
 
@@ -70,6 +73,7 @@ impl<R: SiteRule> Site<R> {
         ensures kept { pass.new.seat.me.0.view ≡ ticked pass.old.seat.me.0.view }
         ensures known { (r : Record) → Knows pass.old.seat.me.0.view.hand (record { task = task; call = call }) r → result ≡ rec_word r }
         ensures made { result ≢ 0 → (r : Record) × IsRec r × (result ≡ rec_word r) }
+        ensures there { FoundAt (LOCK_WORDS + (recs_at self.now.table.shared.key + (start self.now.table.shared.key task + call))) result pass.new.seat.me.0.past }
         ensures mine { pass.old.face.task ≡ Some task → pass.old.face.done ≤ call → result ≡ 0 }
     {
         self.record(pass, task, call)
@@ -101,6 +105,7 @@ impl<R: SiteRule> Site<R> {
         ensures own { (pass.new.seat.table_id ≡ pass.old.seat.table_id) × (pass.new.seat.id ≡ pass.old.seat.id) × (pass.new.seat.me.1 ≡ pass.old.seat.me.1) }
         ensures face { pass.new.face ≡ pass.old.face }
         ensures kept { pass.new.seat.me.0.view ≡ ticked pass.old.seat.me.0.view }
+        ensures there { FoundAt (LOCK_WORDS + (recs_at self.now.table.shared.key + (start self.now.table.shared.key task + call))) result pass.new.seat.me.0.past }
         ensures shows { Shows pass.old.seat.me.0.view.hand (record { task = task; call = call }) result }
     {
         self.find::<RecWord>(pass, ENTRIES_AT + self.count + self.place(task, call))

@@ -29,6 +29,7 @@ impl<R: SiteRule> Site<R> {
         ensures own { Sits self.now.table.shared.key self.now.table.shared.table_id pass.new.seat.table_id pass.new.seat.me pass.new.face }
         ensures became { Numbered R.O.object R.unavailable self.now.table.shared.key pass.old.seat.me.0.view.hand task pass.new.seat.me.0.view.hand }
         ensures beside { Beside pass.old.seat.me.0.view pass.new.seat.me.0.view }
+        ensures rises { pass.old.face.front ≤ pass.new.face.front }
     {
         self.take_number(rt, pass, task);
         let done = self.recorded(pass, task);

@@ -6,10 +6,10 @@ ghost use Rattle.atomic_table.specs.Table.{step};
 ghost use Rattle.lock_core.specs.declared.op.Op.TheVariants.{Load, Store, Swap, Add, Sub, Or, And, Exchange};
 ghost use Rattle.lock_core.specs.Layout.{width};
 ghost use Rattle.lock_core.specs.Moves.{Lets};
-ghost use Rattle.lock_core.specs.Pasts.{unseen};
+ghost use Rattle.lock_core.specs.Pasts.{unseen, FoundAt};
 
 use super::Site;
-use super::plays::Lift;
+use super::plays::{Lift, LiftFound};
 use crate::pass::Pass;
 use crate::rule::SiteRule;
 use crate::view::View;
@@ -24,8 +24,9 @@ impl<R: SiteRule> Site<R> {
         ensures own { (pass.new.seat.table_id ≡ pass.old.seat.table_id) × (pass.new.seat.id ≡ pass.old.seat.id) }
         ensures face { pass.new.face ≡ pass.old.face }
         ensures told { M.then (step self.now.table.shared.table_id.slots word 0 0 none) (unseen pass.old.seat.me) result (unseen pass.new.seat.me) }
+        ensures found { FoundAt word result pass.new.seat.me.0.past }
     {
-        self.table.shared.load::<Lift<M>>(&mut pass.seat, word)
+        self.table.shared.load::<LiftFound<M>>(&mut pass.seat, word)
     }
 
     /// A store.
@@ -50,8 +51,11 @@ impl<R: SiteRule> Site<R> {
         ensures own { (pass.new.seat.table_id ≡ pass.old.seat.table_id) × (pass.new.seat.id ≡ pass.old.seat.id) }
         ensures face { pass.new.face ≡ pass.old.face }
         ensures told { M.then (step self.now.table.shared.table_id.slots word new 0 none) (unseen pass.old.seat.me) result (unseen pass.new.seat.me) }
+        ensures found { FoundAt word result pass.new.seat.me.0.past }
     {
-        self.table.shared.swap::<Lift<M>>(&mut pass.seat, word, new)
+        self.table
+            .shared
+            .swap::<LiftFound<M>>(&mut pass.seat, word, new)
     }
 
     /// A compare-exchange.
@@ -68,10 +72,11 @@ impl<R: SiteRule> Site<R> {
         ensures own { (pass.new.seat.table_id ≡ pass.old.seat.table_id) × (pass.new.seat.id ≡ pass.old.seat.id) }
         ensures face { pass.new.face ≡ pass.old.face }
         ensures told { M.then (step self.now.table.shared.table_id.slots word old new none) (unseen pass.old.seat.me) result (unseen pass.new.seat.me) }
+        ensures found { FoundAt word result pass.new.seat.me.0.past }
     {
         self.table
             .shared
-            .compare_exchange::<Lift<M>>(&mut pass.seat, word, old, new)
+            .compare_exchange::<LiftFound<M>>(&mut pass.seat, word, old, new)
     }
 
     /// A fetch-add.
@@ -87,10 +92,11 @@ impl<R: SiteRule> Site<R> {
         ensures own { (pass.new.seat.table_id ≡ pass.old.seat.table_id) × (pass.new.seat.id ≡ pass.old.seat.id) }
         ensures face { pass.new.face ≡ pass.old.face }
         ensures told { M.then (step self.now.table.shared.table_id.slots word by 0 none) (unseen pass.old.seat.me) result (unseen pass.new.seat.me) }
+        ensures found { FoundAt word result pass.new.seat.me.0.past }
     {
         self.table
             .shared
-            .fetch_add::<Lift<M>>(&mut pass.seat, word, by)
+            .fetch_add::<LiftFound<M>>(&mut pass.seat, word, by)
     }
 
     /// A fetch-sub.
@@ -106,10 +112,11 @@ impl<R: SiteRule> Site<R> {
         ensures own { (pass.new.seat.table_id ≡ pass.old.seat.table_id) × (pass.new.seat.id ≡ pass.old.seat.id) }
         ensures face { pass.new.face ≡ pass.old.face }
         ensures told { M.then (step self.now.table.shared.table_id.slots word by 0 none) (unseen pass.old.seat.me) result (unseen pass.new.seat.me) }
+        ensures found { FoundAt word result pass.new.seat.me.0.past }
     {
         self.table
             .shared
-            .fetch_sub::<Lift<M>>(&mut pass.seat, word, by)
+            .fetch_sub::<LiftFound<M>>(&mut pass.seat, word, by)
     }
 
     /// A fetch-or.
@@ -125,10 +132,11 @@ impl<R: SiteRule> Site<R> {
         ensures own { (pass.new.seat.table_id ≡ pass.old.seat.table_id) × (pass.new.seat.id ≡ pass.old.seat.id) }
         ensures face { pass.new.face ≡ pass.old.face }
         ensures told { M.then (step self.now.table.shared.table_id.slots word bits 0 none) (unseen pass.old.seat.me) result (unseen pass.new.seat.me) }
+        ensures found { FoundAt word result pass.new.seat.me.0.past }
     {
         self.table
             .shared
-            .fetch_or::<Lift<M>>(&mut pass.seat, word, bits)
+            .fetch_or::<LiftFound<M>>(&mut pass.seat, word, bits)
     }
 
     /// A fetch-and.
@@ -144,9 +152,10 @@ impl<R: SiteRule> Site<R> {
         ensures own { (pass.new.seat.table_id ≡ pass.old.seat.table_id) × (pass.new.seat.id ≡ pass.old.seat.id) }
         ensures face { pass.new.face ≡ pass.old.face }
         ensures told { M.then (step self.now.table.shared.table_id.slots word bits 0 none) (unseen pass.old.seat.me) result (unseen pass.new.seat.me) }
+        ensures found { FoundAt word result pass.new.seat.me.0.past }
     {
         self.table
             .shared
-            .fetch_and::<Lift<M>>(&mut pass.seat, word, bits)
+            .fetch_and::<LiftFound<M>>(&mut pass.seat, word, bits)
     }
 }

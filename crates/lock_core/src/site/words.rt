@@ -75,6 +75,7 @@ impl<R: SiteRule> Site<R> {
         requires next { (task : ℕ) × (pass.old.face.task ≡ Some task) × (call ≡ pass.old.face.done) × (call < length (row self.now.table.shared.key task)) × IsChange R.O.object self.now.table.shared.key pass.old.seat.me.0.view.hand (record { task = task; call = call }) reply }
         ensures own { Sits self.now.table.shared.key self.now.table.shared.table_id pass.new.seat.table_id pass.new.seat.me pass.new.face }
         ensures kept { (task : ℕ) × (pass.old.face.task ≡ Some task) × (pass.new.seat.me.0.view ≡ record pass.old.seat.me.0.view { hand = committed pass.old.seat.me.0.view.hand (pass.old.seat.me.0.view.steps + 4) (record { task = task; call = call }) reply; steps = pass.old.seat.me.0.view.steps + 4 }) }
+        ensures rises { pass.old.face.front ≤ pass.new.face.front }
     {
         if let Some(task) = pass.face.task {
             let k = self.length(pass);
@@ -95,6 +96,7 @@ impl<R: SiteRule> Site<R> {
         requires next { (task : ℕ) × (pass.old.face.task ≡ Some task) × (call ≡ pass.old.face.done) × (call < length (row self.now.table.shared.key task)) × MayNote R.O.object R.unavailable self.now.table.shared.key pass.old.seat.me.0.view.hand (record { task = task; call = call }) reply }
         ensures own { Sits self.now.table.shared.key self.now.table.shared.table_id pass.new.seat.table_id pass.new.seat.me pass.new.face }
         ensures kept { (task : ℕ) × (pass.old.face.task ≡ Some task) × (pass.new.seat.me.0.view ≡ record pass.old.seat.me.0.view { hand = noted pass.old.seat.me.0.view.hand pass.new.seat.me.0.view.steps (record { task = task; call = call }) reply; steps = pass.new.seat.me.0.view.steps }) }
+        ensures rises { pass.old.face.front ≤ pass.new.face.front }
     {
         match reply {
             Reply::Busy(word) => self.note_busy(pass, call, word),
@@ -110,6 +112,7 @@ impl<R: SiteRule> Site<R> {
         requires next { (task : ℕ) × (pass.old.face.task ≡ Some task) × (call ≡ pass.old.face.done) × (call < length (row self.now.table.shared.key task)) × IsReading R.O.object self.now.table.shared.key pass.old.seat.me.0.view.hand (record { task = task; call = call }) reply }
         ensures own { Sits self.now.table.shared.key self.now.table.shared.table_id pass.new.seat.table_id pass.new.seat.me pass.new.face }
         ensures kept { (task : ℕ) × (pass.old.face.task ≡ Some task) × (pass.new.seat.me.0.view ≡ record pass.old.seat.me.0.view { hand = recorded pass.old.seat.me.0.view.hand (pass.old.seat.me.0.view.steps + 2) (record { task = task; call = call }) (record { k = length pass.old.seat.me.0.view.hand.log; reply = reply }) pass.old.seat.me.0.view.hand.log; steps = pass.old.seat.me.0.view.steps + 2 }) }
+        ensures rises { pass.old.face.front ≤ pass.new.face.front }
     {
         if let Some(task) = pass.face.task {
             let k = self.length(pass);
@@ -124,6 +127,7 @@ impl<R: SiteRule> Site<R> {
         requires next { (task : ℕ) × (pass.old.face.task ≡ Some task) × (call ≡ pass.old.face.done) × (call < length (row self.now.table.shared.key task)) × IsBusy R.O.object R.unavailable self.now.table.shared.key pass.old.seat.me.0.view.hand (record { task = task; call = call }) word }
         ensures own { Sits self.now.table.shared.key self.now.table.shared.table_id pass.new.seat.table_id pass.new.seat.me pass.new.face }
         ensures kept { (task : ℕ) × (pass.old.face.task ≡ Some task) × (pass.new.seat.me.0.view ≡ record pass.old.seat.me.0.view { hand = noted pass.old.seat.me.0.view.hand (pass.old.seat.me.0.view.steps + 1) (record { task = task; call = call }) (Busy word); steps = pass.old.seat.me.0.view.steps + 1 }) }
+        ensures rises { pass.old.face.front ≤ pass.new.face.front }
     {
         if let Some(task) = pass.face.task {
             let rec = Rec {
@@ -143,7 +147,7 @@ impl<R: SiteRule> Site<R> {
         ensures own { (pass.new.seat.table_id ≡ pass.old.seat.table_id) × (pass.new.seat.id ≡ pass.old.seat.id) × (pass.new.seat.me.1 ≡ pass.old.seat.me.1) }
         ensures face { pass.new.face ≡ pass.old.face }
         ensures kept { pass.new.seat.me.0.view ≡ ticked pass.old.seat.me.0.view }
-        ensures length { IsLength pass.old.seat.me.0.view.hand 776 result }
+        ensures length { IsLength pass.old.seat.me.0.view.hand LENGTH_AT result }
     {
         self.find::<Length>(pass, LENGTH_AT) as u32
     }

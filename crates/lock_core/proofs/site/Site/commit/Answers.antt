@@ -26,7 +26,7 @@ settle-requires-clause-may g c = let k = c.args.self.now.table.shared.key in let
     let q = subst (λ (z : ℕ). IsChange g.R.O.Object.object k h (record { task = z; call = c.args.call }) c.args.reply) t n.4 in
     let looked : c.length-k.new.pass.seat.me.0.view.hand ≡ h = ap (λ v. v.hand) c.length-k.ensures.kept in let put : c.enter.new.pass.seat.me.0.view.hand ≡ entered c.length-k.new.pass.seat.me.0.view.hand e = ap (λ v. v.hand) c.enter.ensures.kept in
     let grown : c.append.new.pass.seat.me.0.view.hand ≡ logged c.enter.new.pass.seat.me.0.view.hand e = ap (λ v. v.hand) c.append.ensures.kept in
-    let few = (c.length-k.ensures.length.1 k own.plan).0 in let limit = c.args.self.now.small.calls in (
+    let few = (c.length-k.ensures.length.2 k own.plan).0 in let limit = c.args.self.now.small.calls in (
       q.words,
       commit-may g.R.O.Object.object g.R.SiteRule.unavailable m.starts m.called m.goes_on m.replies k h c.append.new.pass.seat.me.0.view.hand e c.length-k.result c.args.reply q
           (ap (λ (z : Hand). z.task) grown ∙ (ap (λ (z : Hand). z.task) put ∙ (ap (λ (z : Hand). z.task) looked ∙ (sym own.task ∙ c.in-Some.is))))

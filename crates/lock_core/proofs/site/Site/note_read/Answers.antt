@@ -11,7 +11,7 @@ settle-requires-clause-may g c = let k = c.args.self.now.table.shared.key in let
     let h = c.args.pass.now.seat.me.0.view.hand in let e : Entry = record { task = c.in-Some.task; call = c.args.call } in let own = c.requires.own in
     let q = subst (λ (z : ℕ). IsReading o k h (record { task = z; call = c.args.call }) c.args.reply) t n.4 in
     let looked : c.length-k.new.pass.seat.me.0.view.hand ≡ h = ap (λ v. v.hand) c.length-k.ensures.kept in
-    let few = (c.length-k.ensures.length.1 k own.plan).0 in let limit = c.args.self.now.small.calls in (
+    let few = (c.length-k.ensures.length.2 k own.plan).0 in let limit = c.args.self.now.small.calls in (
       q.words,
       subst (λ (z : Hand). MayRecord o u k z e q.words (record { k = c.length-k.result; reply = c.args.reply }) z.log) (sym looked)
           (read-may o u m.starts m.called m.goes_on m.replies k h e c.length-k.result c.args.reply q (sym own.task ∙ c.in-Some.is) (sym own.done ∙ sym n.2) own.stage c.length-k.ensures.length.0 (omega (arith, few, limit))),
