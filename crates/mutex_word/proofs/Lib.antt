@@ -1,1 +1,4 @@
 mod Lawful
+pub mod HoldLaws
+pub mod Owning
+pub mod Sitting

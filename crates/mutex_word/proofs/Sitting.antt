@@ -1,0 +1,70 @@
+-- A pass goes on with its seat where a step changed how it holds.
+use Rattle.std.proofs.Common.{List, ◌≡◌, ℕ, ◌+◌, ◌<◌, ◌≤◌, length, Option, Some, None, IfSome, refl, sym, ap, ◌∙◌, subst, arith}
+use Rattle.atomic_table.specs.Table.{Me}
+use Rattle.atomic_table.specs.Seated.{TableId}
+use Rattle.word_bits.specs.declared.entry.Entry.{Entry}
+use Rattle.word_bits.specs.Histories.{Plan}
+use Rattle.lock_core.specs.declared.view.Seen.{Seen}
+use Rattle.lock_core.specs.declared.view.Hand.{Hand}
+use Rattle.lock_core.specs.declared.view.Saw.{Saw}
+use Rattle.lock_core.specs.declared.view.Held.{Held}
+use Rattle.lock_core.specs.declared.view.Held.TheVariants.{No, Alone}
+use Rattle.lock_core.specs.declared.pass.Face.{Face}
+use Rattle.lock_core.specs.Plans.{IsSmall, calls_in}
+use Rattle.lock_core.specs.Records.{row}
+use Rattle.lock_core.specs.Views.{handed, took}
+use Rattle.lock_core.specs.Passes.{Sits}
+use Rattle.lock_core.proofs.RowLaws.{same-some}
+use Rattle.mutex_word.specs.Holders.{missed, released}
+
+-- a hand that says the same of the pass but for how it holds, what it knows meanwhile and what it saw
+pub record SameButHold (h g : Hand) : Type 0 where
+  pub plan : g.plan ≡ h.plan
+  pub task : g.task ≡ h.task
+  pub done : g.done ≡ h.done
+  pub seen : g.seen ≡ h.seen
+  pub stage : g.stage ≡ h.stage
+  pub last : g.last ≡ h.last
+
+pub sits-held : {E : Type 0} (k : Plan) (table seat seat' : TableId) (me me' : Me (Unit {0}) (Seen E)) (face face' : Face) (held : Held)
+    → seat' ≡ seat → me'.1 ≡ me.1 → SameButHold me.0.view.hand me'.0.view.hand → me'.0.view.hand.held ≡ held → face' ≡ record face { held = held } → me.0.view.steps ≤ me'.0.view.steps
+    → length me'.0.view.hand.log ≤ calls_in k → ((x : Saw) → me'.0.view.hand.saw ≡ Some x → x.word < 4194304) → Sits k table seat me face → Sits k table seat' me' face'
+sits-held k table seat seat' me me' face face' held same slots hand holds says later short saw r = record {
+  own = same ∙ r.own;
+  slots = slots ∙ r.slots;
+  plan = hand.plan ∙ r.plan;
+  task = ap (λ (f : Face). f.task) says ∙ (r.task ∙ sym hand.task);
+  held = ap (λ (f : Face). f.held) says ∙ sym holds;
+  done = ap (λ (f : Face). f.done) says ∙ (r.done ∙ sym hand.done);
+  front = ap (λ (f : Face). f.front) says ∙ (r.front ∙ sym (ap length hand.seen));
+  stage = hand.stage ∙ r.stage;
+  latest = let l = r.latest in let e = hand.last in omega (arith, l, e, later);
+  short = short;
+  shorter = subst (λ (n : ℕ). n ≤ calls_in k) (sym (ap length hand.seen)) r.shorter;
+  planned = subst (λ (f : Face). (t : ℕ) → f.task ≡ Some t → (t < length k) × (f.done ≤ length (row k t))) (sym says) r.planned;
+  saw = saw;
+}
+
+module _ {E : Type 0} (k : Plan) (table seat seat' : TableId) (me me' : Me (Unit {0}) (Seen E)) (face face' : Face) where
+  pub sits-took : (known : List ℕ) (log : List Entry) → seat' ≡ seat → me'.1 ≡ me.1 → me'.0.view ≡ handed me.0.view (took me.0.view.hand Alone known log) → length log ≤ calls_in k → face' ≡ record face { held = Alone } → Sits k table seat me face → Sits k table seat' me' face'
+  sits-took known log same slots view short says r = subst (λ (m : Me (Unit {0}) (Seen E)). Sits k table seat' m face') (λ i. (record me'.0 { view = sym view i }, me'.1))
+      (sits-held k table seat seat' me (record me'.0 { view = handed me.0.view (took me.0.view.hand Alone known log) }, me'.1) face face' Alone same slots
+      record { plan = refl; task = refl; done = refl; seen = refl; stage = refl; last = refl } refl says (omega arith) short r.saw r)
+
+  pub sits-missed : (word : ℕ) → seat' ≡ seat → me'.1 ≡ me.1 → me'.0.view ≡ handed me.0.view (missed me.0.view.hand word (me.0.view.steps + 1)) → word < 520 → face' ≡ face → Sits k table seat me face → Sits k table seat' me' face'
+  sits-missed word same slots view small says r = subst (λ (m : Me (Unit {0}) (Seen E)). Sits k table seat' m face') (λ i. (record me'.0 { view = sym view i }, me'.1))
+      (sits-held k table seat seat' me (record me'.0 { view = handed me.0.view (missed me.0.view.hand word (me.0.view.steps + 1)) }, me'.1) face face' face.held same slots
+      record { plan = refl; task = refl; done = refl; seen = refl; stage = refl; last = refl } (sym r.held) says (omega arith) r.short (λ x is. let e : word ≡ x.word = ap (λ (y : Saw). y.word) (same-some (record { word = word; step = me.0.view.steps + 1 }) x is) in omega arith) r)
+
+  pub sits-released : (word : ℕ) → seat' ≡ seat → me'.1 ≡ me.1 → me'.0.view ≡ handed me.0.view (released me.0.view.hand word) → face' ≡ record face { held = No } → Sits k table seat me face → Sits k table seat' me' face'
+  sits-released word same slots view says r = subst (λ (m : Me (Unit {0}) (Seen E)). Sits k table seat' m face') (λ i. (record me'.0 { view = sym view i }, me'.1))
+      (sits-held k table seat seat' me (record me'.0 { view = handed me.0.view (released me.0.view.hand word) }, me'.1) face face' No same slots
+      record { plan = refl; task = refl; done = refl; seen = refl; stage = refl; last = refl } refl says (omega arith) (omega arith) r.saw r)
+
+-- a pass's number is that of a task
+pub its-number : {E : Type 0} (k : Plan) (table seat : TableId) (me : Me (Unit {0}) (Seen E)) (face : Face) → IsSmall k → Sits k table seat me face → IfSome face.task (λ task. task < 64)
+its-number k table seat me face small r = go face.task (λ t is. let l = (r.planned t is).0 in let few = small.tasks in omega arith)
+  where
+    go : (task : Option ℕ) → ((t : ℕ) → task ≡ Some t → t < 64) → IfSome task (λ task. task < 64)
+    go None each = tt
+    go (Some t) each = each t refl
