@@ -94,6 +94,13 @@ note_seen h Intr = h.seen
 note_seen h Sent = h.seen
 note_seen h reply = h.log
 
+-- how many steps that takes: a pass that holds loads the log's length first
+abbrev pub note_steps : Reply → ℕ
+note_steps (Busy word) = 1
+note_steps Intr = 1
+note_steps Sent = 1
+note_steps reply = 2
+
 abbrev pub noted : Hand → ℕ → Entry → Reply → Hand
 noted h step e reply = recorded h step e (record { k = length (note_seen h reply); reply = reply }) (note_seen h reply)
 

@@ -1,6 +1,7 @@
 //! What no clause says: what a step does to a word, and a site with real passes.
 use super::*;
 use std::test::Fail;
+use word_bits::CallWords;
 
 #[test]
 fn steps_as_a_processor_does(rt: HostRuntime) {
@@ -37,9 +38,25 @@ fn a_second_pass_finds_the_spin_lock_taken(rt: HostRuntime) -> Result<(), Fail> 
     unlock(&site, &mut two);
     site.end(&mut two);
     site.gather(&mut one, two);
+    one.set_held(Held::No);
     assert_eq!(rt;
         (one.task(), one.held(), one.done(), one.front()),
         (Some(0), Held::No, 0, 0)
     );
+    Ok(())
+}
+
+#[test]
+fn a_site_answers_its_plan(rt: HostRuntime) -> Result<(), Fail> {
+    let signal = CallWords { a: 1, b: 15 };
+    let mut plan = Plan::new(rt.alloc(), 2)?;
+    plan.push(0, signal)?;
+    let (site, mut pass) = Site::<Bare>::open(rt.alloc(), plan)?;
+    site.begin(&rt, &mut pass, 0);
+    assert_eq!(rt; (site.tasks(), site.calls(0), site.calls(1)), (2, 1, 0));
+    assert_eq!(rt; site.call(&mut pass, 0, 0), signal);
+    assert_eq!(rt; site.rec_word(&mut pass, 0, 0), 0);
+    site.grown(&mut pass);
+    site.stated();
     Ok(())
 }

@@ -9,7 +9,7 @@ ghost use Rattle.lock_core.specs.declared.view.Held.TheVariants.{No, Alone};
 ghost use Rattle.lock_core.specs.declared.view.Stage.TheVariants.{Rest, Entered};
 ghost use Rattle.lock_core.specs.Plans.{calls_in};
 ghost use Rattle.lock_core.specs.Records.{row};
-ghost use Rattle.lock_core.specs.Views.{ticked, handed, wrote, entered, logged, recorded, committed, noted};
+ghost use Rattle.lock_core.specs.Views.{ticked, handed, wrote, entered, logged, recorded, committed, noted, note_steps};
 ghost use Rattle.lock_core.specs.Passes.{Sits, IsLength, IsChange, IsReading, IsBusy, MayRecord, MayNote};
 
 use super::Site;
@@ -95,7 +95,7 @@ impl<R: SiteRule> Site<R> {
         requires own { Sits self.now.table.shared.key self.now.table.shared.table_id pass.old.seat.table_id pass.old.seat.me pass.old.face }
         requires next { (task : ℕ) × (pass.old.face.task ≡ Some task) × (call ≡ pass.old.face.done) × (call < length (row self.now.table.shared.key task)) × MayNote R.O.object R.unavailable self.now.table.shared.key pass.old.seat.me.0.view.hand (record { task = task; call = call }) reply }
         ensures own { Sits self.now.table.shared.key self.now.table.shared.table_id pass.new.seat.table_id pass.new.seat.me pass.new.face }
-        ensures kept { (task : ℕ) × (pass.old.face.task ≡ Some task) × (pass.new.seat.me.0.view ≡ record pass.old.seat.me.0.view { hand = noted pass.old.seat.me.0.view.hand pass.new.seat.me.0.view.steps (record { task = task; call = call }) reply; steps = pass.new.seat.me.0.view.steps }) }
+        ensures kept { (task : ℕ) × (pass.old.face.task ≡ Some task) × (pass.new.seat.me.0.view ≡ record pass.old.seat.me.0.view { hand = noted pass.old.seat.me.0.view.hand (pass.old.seat.me.0.view.steps + note_steps reply) (record { task = task; call = call }) reply; steps = pass.old.seat.me.0.view.steps + note_steps reply }) }
         ensures rises { pass.old.face.front ≤ pass.new.face.front }
     {
         match reply {
