@@ -1,5 +1,5 @@
 -- The steps on the owner word keep its own facts and the site's, and so the host's rule.
-use Rattle.std.proofs.Common.{◌≡◌, ◌≢◌, ◌∙◌, ℕ, ◌+◌, inl, false, List, map, get_or, set, Option, Some, None, sym, refl, subst, arith}
+use Rattle.std.proofs.Common.{◌≡◌, ◌≢◌, ◌∙◌, ℕ, ◌+◌, inl, false, List, map, take, get_or, set, Option, Some, None, sym, refl, subst, arith}
 use mathlib.Core.Option.{some, none}
 use lib.ListN.{get_elem?}
 use lib.Seq.{set-get_or}
@@ -7,21 +7,23 @@ use Rattle.atomic_table.specs.Table.{Me, step}
 use Rattle.atomic_table.proofs.Lists.{at_map, set_again}
 use Rattle.word_bits.specs.LockWords.{Unavailable}
 use Rattle.word_bits.specs.Objects.{Obj}
-use Rattle.word_bits.specs.Histories.{Plan, state_after}
+use Rattle.word_bits.specs.Histories.{Plan}
 use Rattle.lock_core.specs.declared.op.Op.TheVariants.{Exchange}
 use Rattle.lock_core.specs.declared.view.View.{View}
 use Rattle.lock_core.specs.declared.view.Hand.{Hand}
-use Rattle.lock_core.specs.declared.view.Held.TheVariants.{Alone}
+use Rattle.lock_core.specs.declared.view.Held.TheVariants.{No, Alone}
 use Rattle.lock_core.specs.declared.view.Stage.TheVariants.{Rest}
 use Rattle.lock_core.specs.Layout.{site}
 use Rattle.lock_core.specs.Views.{hand_of, handed, ticked, took}
 use Rattle.lock_core.specs.Sites.{SiteKept, HasPlan}
 use Rattle.lock_core.specs.Moves.{Goes, Lets}
+use Rattle.lock_core.proofs.HandLaws.{no-alone, alone-is-held}
+use Rattle.lock_core.proofs.HoldSteps.{quiet-state, site-takes, site-misses}
 use Rattle.lock_core.proofs.Steps.{exchanges}
 use Rattle.mutex_word.specs.Holders.{own_word, OwnKept, Learns, missed, released}
 use Rattle.mutex_word.specs.Plays.{Tried, Freed}
 use Rattle.mutex_word.specs.OwnLaws.{Named, none-holds, held-word, own-takes, own-frees, own-stays}
-use Rattle.mutex_word.proofs.HoldLaws.{no-alone, site-takes, site-frees, site-misses}
+use Rattle.mutex_word.proofs.HoldLaws.{none-alone, site-frees}
 
 -- a live view's plan is the table's
 its-plan : (k p : Plan) (plan : Option Plan) → HasPlan k plan → plan ≡ Some p → k ≡ p
@@ -46,19 +48,20 @@ module _ {E Call : Type 0} (o : Obj Call) (unavailable : Unavailable) (size : �
   stays ws vs id v g h at held task there = subst (λ (z : List ℕ). Goes holds moves id ws vs z (set vs id (handed v g))) (set-get_or ws place 0)
       (owns ws vs id (get_or ws place 0) v g h at task (λ not. absurd (not refl)) (own-stays (map hand_of vs) id (get_or ws place 0) v.hand g (own_kept ws vs h).0 (at_map hand_of vs id v at) held (inl task)) there)
 
-  takes-there : (slots id t : ℕ) (me : M) → me.0.hand.task ≡ Some t → may_own me.0 0 (own_word (Some t)) → Lets holds moves slots id me place (Exchange 0 (own_word (Some t))) (Tried o (step slots place 0 (own_word (Some t)) none) me)
-  takes-there slots id t me has may = let v = me.0 in let new : ℕ = own_word (Some t) in exchanges holds moves slots id place 0 new me (λ n. handed v (missed v.hand n (v.steps + 1))) (Tried o (step slots place 0 new none) me)
+  takes-there : (slots id t : ℕ) (me : M) → me.0.hand.task ≡ Some t → me.0.hand.held ≡ No → may_own me.0 0 (own_word (Some t)) → Lets holds moves slots id me place (Exchange 0 (own_word (Some t))) (Tried o (step slots place 0 (own_word (Some t)) none) me)
+  takes-there slots id t me has out may = let v = me.0 in let new : ℕ = own_word (Some t) in exchanges holds moves slots id place 0 new me (λ n. handed v (missed v.hand n (v.steps + 1))) (Tried o (step slots place 0 new none) me)
       (λ ws vs h at is. let hs : List Hand = map hand_of vs in let mine = at_map hand_of vs id v at in let r = kept ws vs h in let ok = r.each id v.hand mine in let own = (own_kept ws vs h).0 in let few = r.laid.small.tasks in
-      let free = none-holds hs (get_or ws place 0) own (named ws vs h) is in let there = (ok.mine t has).0 in let known : List ℕ = o.stores (state_after o k r.log) in let g : Hand = took v.hand Alone known r.log in (
+      let free = none-holds hs (get_or ws place 0) own (named ws vs h) is in let none = none-alone hs free in
+      let there = (ok.mine t has).0 in let known : List ℕ = take size (site k ws).guarded in let g : Hand = took v.hand Alone known r.log in (
         handed v g,
-        owns ws vs id new v g h at refl (λ _. subst (λ (z : ℕ). may_own v z new) (sym is) may) (own-takes hs id t (get_or ws place 0) v.hand g own (named ws vs h) mine is (omega arith) refl has) (site-takes o unavailable size k (site k ws) hs id t v.hand r mine has free),
+        owns ws vs id new v g h at refl (λ _. subst (λ (z : ℕ). may_own v z new) (sym is) may) (own-takes hs id t (get_or ws place 0) v.hand g own (named ws vs h) mine is (omega arith) refl has) (site-takes o unavailable size k (site k ws) hs id t v.hand Alone r mine out has (alone-is-held Alone refl) (λ _. free) none),
         (
-          (λ _. (known, r.log, (λ p plan. subst (λ (z : Plan). Learns o z v.hand known r.log) (its-plan k p v.hand.plan ok.plan plan) record { stored = refl; within = r.tells.within; begins = ok.seen }), (refl, refl))),
+          (λ _. (known, r.log, (λ p plan. subst (λ (z : Plan). Learns o z v.hand known r.log) (its-plan k p v.hand.plan ok.plan plan) record { stored = quiet-state o unavailable size k (site k ws) hs r none; within = r.tells.within; begins = ok.seen }), (refl, refl))),
           λ not. absurd (not refl),
         ),
       ))
       (λ ws vs h at not _. let r = kept ws vs h in let own = (own_kept ws vs h).0 in let n : ℕ = get_or ws place 0 in let mine = at_map hand_of vs id v at in (
-        stays ws vs id v (missed v.hand n (v.steps + 1)) h at refl refl (site-misses o unavailable size k (site k ws) (map hand_of vs) id n (v.steps + 1) v.hand r mine own.small),
+        stays ws vs id v (missed v.hand n (v.steps + 1)) h at refl refl (site-misses o unavailable size k (site k ws) (map hand_of vs) id n (v.steps + 1) v.hand r mine (let small = own.small in omega (arith, small))),
         ((λ is. absurd (not is)), λ _. (own.small, (refl, refl))),
       ))
 
@@ -67,7 +70,7 @@ module _ {E Call : Type 0} (o : Obj Call) (unavailable : Unavailable) (size : �
   frees-there slots id t me has alone quiet rests may = let v = me.0 in let old : ℕ = own_word (Some t) in let g : Hand = released v.hand 0 in exchanges holds moves slots id place old 0 me (λ _. ticked v) (Freed may_be (step slots place old 0 none) me)
       (λ ws vs h at is. let hs : List Hand = map hand_of vs in let mine = at_map hand_of vs id v at in (
         handed v g,
-        owns ws vs id 0 v g h at refl (λ _. subst (λ (z : ℕ). may_own v z 0) (sym is) may) (own-frees hs id (get_or ws place 0) v.hand g (own_kept ws vs h).0 mine alone refl) (site-frees o unavailable size k (site k ws) hs id 0 v.hand (kept ws vs h) mine alone quiet rests),
+        owns ws vs id 0 v g h at refl (λ _. subst (λ (z : ℕ). may_own v z 0) (sym is) may) (own-frees hs id (get_or ws place 0) v.hand g (own_kept ws vs h).0 mine alone refl) (site-frees o unavailable size k (site k ws) hs id 0 v.hand (kept ws vs h) mine quiet rests),
         ((λ _. (refl, refl)), λ not. absurd (not refl)),
       ))
       (λ ws vs h at not _. let hs : List Hand = map hand_of vs in let mine = at_map hand_of vs id v at in let own = own_kept ws vs h in let w = held-word hs id t (get_or ws place 0) v.hand own.0 mine alone has in let low = w.0 in let is = w.1 in (
@@ -76,9 +79,9 @@ module _ {E Call : Type 0} (o : Obj Call) (unavailable : Unavailable) (size : �
       ))
 
   -- the task's own code, whichever way it is written
-  pub takes : (slots id at code : ℕ) (task : Option ℕ) (me : M) → at ≡ place → code ≡ own_word task → task ≡ me.0.hand.task → (task ≢ None) → may_own me.0 0 (own_word task) → Lets holds moves slots id me at (Exchange 0 code) (Tried o (step slots at 0 code none) me)
-  takes slots id at code None me is same has numbered may = absurd (numbered refl)
-  takes slots id at code (Some t) me is same has numbered may = subst (λ (z : ℕ × ℕ). Lets holds moves slots id me z.0 (Exchange 0 z.1) (Tried o (step slots z.0 0 z.1 none) me)) (λ i. (sym is i, sym same i)) (takes-there slots id t me (sym has) may)
+  pub takes : (slots id at code : ℕ) (task : Option ℕ) (me : M) → at ≡ place → code ≡ own_word task → task ≡ me.0.hand.task → task ≢ None → me.0.hand.held ≡ No → may_own me.0 0 (own_word task) → Lets holds moves slots id me at (Exchange 0 code) (Tried o (step slots at 0 code none) me)
+  takes slots id at code None me is same has numbered out may = absurd (numbered refl)
+  takes slots id at code (Some t) me is same has numbered out may = subst (λ (z : ℕ × ℕ). Lets holds moves slots id me z.0 (Exchange 0 z.1) (Tried o (step slots z.0 0 z.1 none) me)) (λ i. (sym is i, sym same i)) (takes-there slots id t me (sym has) out may)
 
   pub frees : (slots id at code : ℕ) (task : Option ℕ) (me : M) → at ≡ place → code ≡ own_word task → task ≡ me.0.hand.task → me.0.hand.held ≡ Alone → me.0.hand.writes ≡ false → me.0.hand.stage ≡ Rest → may_own me.0 (own_word task) 0
       → Lets holds moves slots id me at (Exchange code 0) (Freed may_be (step slots at code 0 none) me)

@@ -1,13 +1,13 @@
 //! Sites with an owner word.
-ghost use Rattle.std.specs.Prelude.{◌≡◌, ◌≢◌, ℕ, ◌+◌, ◌<◌, false, List, None, Some, IsSome, IfOk, IfErr, [], length};
+ghost use Rattle.std.specs.Prelude.{◌≡◌, ◌≢◌, ℕ, ◌+◌, ◌<◌, false, List, None, Some, IsSome, IfOk, IfErr, MatchResult, ◌≤◌, [], length};
 ghost use Rattle.word_bits.specs.LockWords.{owned};
 ghost use Rattle.lock_core.specs.declared.view.View.{View};
 ghost use Rattle.lock_core.specs.declared.view.Held.TheVariants.{No, Alone};
 ghost use Rattle.lock_core.specs.Records.{IsPlan};
 ghost use Rattle.lock_core.specs.Views.{first, ticked, handed, split_off, merged, gave_up, Beside, HoldsNothing};
-ghost use Rattle.lock_core.specs.Pasts.{Paced};
+ghost use Rattle.lock_core.specs.Pasts.{FoundAt, Paced};
 ghost use Rattle.lock_core.specs.Passes.{Sits, Numbered};
-ghost use Rattle.mutex_word.specs.Holders.{Takes, Misses, Releases};
+ghost use Rattle.mutex_word.specs.Holders.{own_word, Takes, Misses, Releases};
 ghost use Rattle.mutex_word.specs.Ruled.{OwnerKept, IsOwnerSite};
 
 use crate::rule::OwnerRule;
@@ -62,6 +62,7 @@ impl<O: Object> OwnerSite<O> {
         ensures own { Sits self.now.site.table.shared.key self.now.site.table.shared.table_id pass.new.seat.table_id pass.new.seat.me pass.new.face }
         ensures became { Numbered O.object owned self.now.site.table.shared.key pass.old.seat.me.0.view.hand task pass.new.seat.me.0.view.hand }
         ensures beside { Beside pass.old.seat.me.0.view pass.new.seat.me.0.view }
+        ensures rises { pass.old.face.front ≤ pass.new.face.front }
     {
         self.site.begin(rt, pass, task);
     }
@@ -88,6 +89,7 @@ impl<O: Object> OwnerSite<O> {
         requires numberless { other.face.task ≡ None }
         ensures own { Sits self.now.site.table.shared.key self.now.site.table.shared.table_id into.new.seat.table_id into.new.seat.me into.new.face }
         ensures kept { into.new.seat.me.0.view ≡ merged into.old.seat.me.0.view other.seat.me.0.view }
+        ensures rises { (into.old.face.front ≤ into.new.face.front) × (other.face.front ≤ into.new.face.front) }
     {
         self.site.gather(into, other);
     }
@@ -101,6 +103,7 @@ impl<O: Object> OwnerSite<O> {
         ensures own { Sits self.now.site.table.shared.key self.now.site.table.shared.table_id pass.new.seat.table_id pass.new.seat.me pass.new.face }
         ensures took { IfOk result (λ _. Takes O.object self.now.site.table.shared.key pass.old.seat.me.0.view pass.new.seat.me.0.view) }
         ensures missed { IfErr result (λ word. Misses pass.old.seat.me.0.view word pass.new.seat.me.0.view) }
+        ensures found { MatchResult result (λ _. FoundAt 0 0 pass.new.seat.me.0.past) (λ word. FoundAt 0 word pass.new.seat.me.0.past) }
     {
         steps::take_free(&self.site, pass)
     }
@@ -113,6 +116,7 @@ impl<O: Object> OwnerSite<O> {
         requires quiet { pass.old.seat.me.0.view.hand.writes ≡ false }
         ensures own { Sits self.now.site.table.shared.key self.now.site.table.shared.table_id pass.new.seat.table_id pass.new.seat.me pass.new.face }
         ensures released { Releases pass.old.seat.me.0.view 0 pass.new.seat.me.0.view }
+        ensures found { FoundAt 0 (own_word pass.old.face.task) pass.new.seat.me.0.past }
     {
         let _ = steps::release_plain(&self.site, pass);
     }

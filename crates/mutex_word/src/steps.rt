@@ -1,7 +1,8 @@
 //! The single steps on the owner word of any host.
-ghost use Rattle.std.specs.Prelude.{◌≡◌, ◌≢◌, ℕ, ◌<◌, ◌/◌, false, IfSome, IsSome, IfOk, IfErr, Some};
+ghost use Rattle.std.specs.Prelude.{◌≡◌, ◌≢◌, ℕ, ◌<◌, ◌/◌, false, IfSome, IsSome, IfOk, IfErr, MatchResult, Some};
 ghost use Rattle.lock_core.specs.declared.view.Held.TheVariants.{No, Alone};
 ghost use Rattle.lock_core.specs.Views.{ticked};
+ghost use Rattle.lock_core.specs.Pasts.{FoundAt};
 ghost use Rattle.lock_core.specs.Passes.{Sits};
 ghost use Rattle.mutex_word.specs.Holders.{own_word, Takes, Misses, Releases};
 ghost use Rattle.mutex_word.specs.Plays.{Tried, Freed};
@@ -53,6 +54,7 @@ pub fn take_free<H: OwnerHost>(site: &Site<H>, pass: &mut Pass<H>) -> Result<(),
     ensures own { Sits site.now.table.shared.key site.now.table.shared.table_id pass.new.seat.table_id pass.new.seat.me pass.new.face }
     ensures took { IfOk result (λ _. Takes H.O.object site.now.table.shared.key pass.old.seat.me.0.view pass.new.seat.me.0.view) }
     ensures missed { IfErr result (λ word. Misses pass.old.seat.me.0.view word pass.new.seat.me.0.view) }
+    ensures found { MatchResult result (λ _. FoundAt H.OWNER 0 pass.new.seat.me.0.past) (λ word. FoundAt H.OWNER word pass.new.seat.me.0.past) }
 {
     let code = own_code(pass);
     let found = site.exchange::<Take<H>>(pass, H::OWNER, 0, code);
@@ -73,6 +75,7 @@ pub fn release_plain<H: OwnerHost>(site: &Site<H>, pass: &mut Pass<H>) -> Result
     ensures own { Sits site.now.table.shared.key site.now.table.shared.table_id pass.new.seat.table_id pass.new.seat.me pass.new.face }
     ensures released { IfOk result (λ _. Releases pass.old.seat.me.0.view 0 pass.new.seat.me.0.view) }
     ensures flagged { IfErr result (λ word. (word ≢ own_word pass.old.face.task) × (word / 8 ≡ own_word pass.old.face.task / 8) × H.may_be word × (pass.new.seat.me.0.view ≡ ticked pass.old.seat.me.0.view)) }
+    ensures found { MatchResult result (λ _. FoundAt H.OWNER (own_word pass.old.face.task) pass.new.seat.me.0.past) (λ word. FoundAt H.OWNER word pass.new.seat.me.0.past) }
 {
     let code = own_code(pass);
     let found = site.exchange::<Free<H>>(pass, H::OWNER, code, 0);

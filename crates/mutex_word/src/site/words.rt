@@ -6,6 +6,10 @@ ghost use Rattle.word_bits.specs.EntryWord.{entry_word};
 ghost use Rattle.word_bits.specs.RecWord.{IsRec, rec_word};
 ghost use Rattle.word_bits.specs.LockWords.{owned};
 ghost use Rattle.lock_core.specs.declared.view.Held.TheVariants.{No, Alone};
+ghost use Rattle.lock_core.specs.declared.layout.TheConstants.{LOCK_WORDS};
+ghost use Rattle.lock_core.specs.Plans.{start};
+ghost use Rattle.lock_core.specs.Layout.{recs_at};
+ghost use Rattle.lock_core.specs.Pasts.{FoundAt};
 ghost use Rattle.lock_core.specs.Records.{row};
 ghost use Rattle.lock_core.specs.Views.{ticked, handed, wrote, committed, noted, Knows};
 ghost use Rattle.lock_core.specs.Passes.{Sits, IsChange, MayNote};
@@ -45,6 +49,7 @@ impl<O: Object> OwnerSite<O> {
         requires next { (task : ℕ) × (pass.old.face.task ≡ Some task) × (call ≡ pass.old.face.done) × (call < length (row self.now.site.table.shared.key task)) × IsChange O.object self.now.site.table.shared.key pass.old.seat.me.0.view.hand (record { task = task; call = call }) reply }
         ensures own { Sits self.now.site.table.shared.key self.now.site.table.shared.table_id pass.new.seat.table_id pass.new.seat.me pass.new.face }
         ensures kept { (task : ℕ) × (pass.old.face.task ≡ Some task) × (pass.new.seat.me.0.view ≡ record pass.old.seat.me.0.view { hand = committed pass.old.seat.me.0.view.hand (pass.old.seat.me.0.view.steps + 4) (record { task = task; call = call }) reply; steps = pass.old.seat.me.0.view.steps + 4 }) }
+        ensures rises { pass.old.face.front ≤ pass.new.face.front }
     {
         self.site.commit(pass, call, reply);
     }
@@ -57,6 +62,7 @@ impl<O: Object> OwnerSite<O> {
         requires next { (task : ℕ) × (pass.old.face.task ≡ Some task) × (call ≡ pass.old.face.done) × (call < length (row self.now.site.table.shared.key task)) × MayNote O.object owned self.now.site.table.shared.key pass.old.seat.me.0.view.hand (record { task = task; call = call }) reply }
         ensures own { Sits self.now.site.table.shared.key self.now.site.table.shared.table_id pass.new.seat.table_id pass.new.seat.me pass.new.face }
         ensures kept { (task : ℕ) × (pass.old.face.task ≡ Some task) × (pass.new.seat.me.0.view ≡ record pass.old.seat.me.0.view { hand = noted pass.old.seat.me.0.view.hand pass.new.seat.me.0.view.steps (record { task = task; call = call }) reply; steps = pass.new.seat.me.0.view.steps }) }
+        ensures rises { pass.old.face.front ≤ pass.new.face.front }
     {
         self.site.note(pass, call, reply);
     }
@@ -97,6 +103,7 @@ impl<O: Object> OwnerSite<O> {
         ensures kept { pass.new.seat.me.0.view ≡ ticked pass.old.seat.me.0.view }
         ensures known { (r : Record) → Knows pass.old.seat.me.0.view.hand (record { task = task; call = call }) r → result ≡ rec_word r }
         ensures made { result ≢ 0 → (r : Record) × IsRec r × (result ≡ rec_word r) }
+        ensures there { FoundAt (LOCK_WORDS + (recs_at self.now.site.table.shared.key + (start self.now.site.table.shared.key task + call))) result pass.new.seat.me.0.past }
         ensures mine { pass.old.face.task ≡ Some task → pass.old.face.done ≤ call → result ≡ 0 }
     {
         self.site.rec_word(pass, task, call)
