@@ -9,6 +9,7 @@ use crate::spin::SpinHost;
 use word_bits::{CallWords, Object, Reply};
 
 /// An object without words and calls.
+#[derive(Drop)]
 pub struct Nothing;
 
 impl Object for Nothing {
