@@ -1,0 +1,2 @@
+mod Performing
+mod Planned
