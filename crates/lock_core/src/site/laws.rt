@@ -31,14 +31,14 @@ impl<R: SiteRule> Site<R> {
 
     /// A load, after which the pass knows of each step of the table so far what every move of the rule
     /// does to the words.
-    pub fn recall<N: Between>(&self, pass: &mut Pass<R>) -> u64
+    pub fn recall<N: Between>(&self, pass: &mut Pass<R>)
         requires own { Sits self.now.table.shared.key self.now.table.shared.table_id pass.old.seat.table_id pass.old.seat.me pass.old.face }
         requires moves { (x y : List ℕ) → Moves (R.holds self.now.table.shared.key) (R.moves self.now.table.shared.key) x y → N.between x y }
         ensures own { Sits self.now.table.shared.key self.now.table.shared.table_id pass.new.seat.table_id pass.new.seat.me pass.new.face }
         ensures kept { pass.new.seat.me.0.view ≡ ticked pass.old.seat.me.0.view }
         ensures run { Paced N.between pass.new.seat.me.0.past }
     {
-        self.table.shared.load::<Recall<N>>(&mut pass.seat, 0)
+        self.table.shared.load::<Recall<N>>(&mut pass.seat, 0);
     }
 
     /// A load, after which the pass knows that at no step so far an entry of the log was lost.
