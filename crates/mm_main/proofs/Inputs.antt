@@ -1,5 +1,5 @@
 -- What was read decides as the whole input does.
-use Rattle.std.proofs.Common.{◌≡◌, ℕ, ◌<◌, ◌≤◌, true, List, [], ◌++◌, length, length-append, sym, refl, ap, ◌∙◌, arith, append-nil, Option, Some, None, Result, Ok, Err, nat_lt, ◌⊎◌, inl, inr, subst}
+use Rattle.std.proofs.Common.{◌≡◌, ℕ, ◌+◌, ◌<◌, ◌≤◌, true, List, [], ◌++◌, length, length-append, append_assoc, sym, refl, ap, ◌∙◌, arith, append-nil, Option, Some, None, Result, Ok, Err, nat_lt, ◌⊎◌, inl, inr, subst}
 use Rattle.std.proofs.lemmas.Bool.{cases_lt}
 use Rattle.std.proofs.lemmas.Bool.Decides.{nat_tests}
 use Rattle.std.specs.Option.{IfSome}
@@ -9,7 +9,7 @@ use Rattle.task_script.specs.Grammar.{Refusal, script_of}
 use Rattle.mm_main.specs.declared.status.Status.{Status}
 use Rattle.mm_main.specs.declared.status.Status.TheVariants.{Done, Usage, Refused, ReadFault, WriteFault, NoMemory}
 use Rattle.mm_main.specs.Requests.{Request, misused, refused, accepted, request, request_of}
-use Rattle.mm_main.specs.Answers.{Says, OfResults, Answers, Completes}
+use Rattle.mm_main.specs.Answers.{Says, OfResults, Answers, Completes, TakesAtMost, read_faults}
 
 Keeps-refl : (a : Option (List ℕ)) → Keeps a a
 Keeps-refl None = tt
@@ -90,3 +90,35 @@ completes words None read write old new status answer none = tt
 completes words (Some told) read write old new status answer none = λ s is no_read no_write.
     let same : script_of answer.0 ≡ Ok s = ap script_of (sym answer.1) ∙ is in
     complete_for s read write old new status (subst (λ q. Says q read write old new status) (without_words words answer.0 none ∙ ap request_of same) answer.2) no_read no_write
+
+pub taken_nothing : (a : Option (List ℕ)) → TakesAtMost 1048577 a a
+taken_nothing None = ([], tt, omega arith)
+taken_nothing (Some xs) = ([], refl, omega arith)
+
+-- what the reads that went well took, and then one that failed
+pub taken_before : (a b c : Option (List ℕ)) (v : List ℕ) → Consumes a b v → Keeps b c → length v ≤ 1048577 → TakesAtMost 1048577 a c
+taken_before None b c v took kept most = (v, tt, most)
+taken_before (Some xs) None c v took kept most = absurd took
+taken_before (Some xs) (Some ys) None v took kept most = absurd kept
+taken_before (Some xs) (Some ys) (Some zs) v took kept most = (v, took ∙ ap (λ r. v ++ r) (sym kept), most)
+
+-- and then one more
+pub taken_more : (a b c : Option (List ℕ)) (v w : List ℕ) → Consumes a b v → Consumes b c w → length v + length w ≤ 1048577 → TakesAtMost 1048577 a c
+taken_more None b c v w took more most = (v, tt, omega arith)
+taken_more (Some xs) None c v w took more most = absurd took
+taken_more (Some xs) (Some ys) None v w took more most = absurd more
+taken_more (Some xs) (Some ys) (Some zs) v w took more most = (v ++ w, took ∙ ap (λ r. v ++ r) more ∙ sym (append_assoc v w zs), rw (length-append v w) most)
+
+-- where no read failed the status says so
+pub never_read : (r : Request) (write : Type 0) (old new : Option (List ℕ)) (s : Status) (before : ℕ) → Says r ⊥ write old new s → read_faults s before ≡ before
+never_read r write old new ReadFault before h = absurd (no_fault r h)
+  where
+    no_fault : (q : Request) → Says q ⊥ write old new ReadFault → ⊥
+    no_fault misused h = h
+    no_fault (refused p) h = h.0
+    no_fault (accepted p) h = h.0
+never_read r write old new Done before h = refl
+never_read r write old new Usage before h = refl
+never_read r write old new Refused before h = refl
+never_read r write old new WriteFault before h = refl
+never_read r write old new NoMemory before h = refl

@@ -1,8 +1,8 @@
 -- What the program answers, and what it has written then.
-use Rattle.std.specs.Prelude.{◌≡◌, ℕ, List, Option, IfSome, Ok, ◌⊎◌}
-use Rattle.std.specs.Io.KnownBytes.{Appends, Keeps}
+use Rattle.std.specs.Prelude.{◌≡◌, ◌≤◌, ℕ, List, length, Option, IfSome, Ok, ◌⊎◌}
+use Rattle.std.specs.Io.KnownBytes.{Appends, Consumes, Keeps}
 use Rattle.word_bits.specs.Snapshots.{Words}
-use Rattle.task_script.specs.Causes.{Fronts}
+use Rattle.task_script.specs.Causes.{Fronts, one_more}
 use Rattle.task_script.specs.Scripts.{Listing}
 use Rattle.task_script.specs.Grammar.{script_of}
 use Rattle.mm_report.specs.Results.{Told, AreLegal}
@@ -53,3 +53,17 @@ status_number NoMemory = 6
 abbrev pub Completes : (words : ℕ) → (left : Option (List ℕ)) → (read write : Type 0) → (old new : Option (List ℕ)) → Status → Type 0
 Completes words left read write old new status =
     words ≡ 0 → IfSome left (λ input. (s : Listing) → script_of input ≡ Ok s → ¬ read → ¬ write → (status ≡ NoMemory) ⊎ ((status ≡ Done) × OfResults s (Appends old new)))
+
+-- the count of the source's faults, which is one higher exactly where the status says that a read failed
+abbrev pub read_faults : Status → ℕ → ℕ
+read_faults ReadFault before = one_more before
+read_faults status before = before
+
+-- the same of the sink's and a write
+abbrev pub write_faults : Status → ℕ → ℕ
+write_faults WriteFault before = one_more before
+write_faults status before = before
+
+-- at most so many bytes were taken from a source that tells what is left
+abbrev pub TakesAtMost : (most : ℕ) → (old new : Option (List ℕ)) → Type 0
+TakesAtMost most old new = (taken : List ℕ) × Consumes old new taken × (length taken ≤ most)

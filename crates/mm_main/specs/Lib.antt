@@ -1,3 +1,4 @@
 pub mod Serial
 pub mod Requests
 pub mod Answers
+pub mod Inputs

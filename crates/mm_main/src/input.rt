@@ -1,7 +1,8 @@
 //! The whole input.
-ghost use Rattle.std.specs.Prelude.{◌≡◌, ◌<◌, ◌≤◌, ◌+◌, length, IfOk, IsErrOf};
+ghost use Rattle.std.specs.Prelude.{◌≡◌, ◌<◌, ◌≤◌, ◌+◌, length, IfOk};
 ghost use Rattle.std.specs.Io.KnownBytes.{Consumes, IsAtEnd};
-ghost use Rattle.task_script.specs.Causes.{Rose};
+ghost use Rattle.mm_main.specs.Answers.{TakesAtMost};
+ghost use Rattle.mm_main.specs.Inputs.{faults_after};
 
 use std::alloc::Global;
 use task_script::Source;
@@ -25,16 +26,16 @@ pub(crate) fn read_all<S: Source>(alloc: Global, source: &mut S) -> Result<Vec<u
     ensures most { IfOk result (λ v. length v.items ≤ 1048577) }
     ensures enough { IfOk result (λ v. length v.items < 1048577 → IsAtEnd (S.left source.new)) }
     ensures few_reads { S.gave source.new ≤ S.gave source.old + 1048577 }
-    ensures later { S.faults source.old ≤ S.faults source.new }
-    ensures failed { IsErrOf result InputError.Failed → Rose (S.faults source.old) (S.faults source.new) }
+    ensures taken { TakesAtMost 1048577 (S.left source.old) (S.left source.new) }
+    ensures faults { S.faults source.new ≡ faults_after result (S.faults source.old) }
 {
     let mut all = Vec::new(alloc);
     let mut piece = [0u8; PIECE];
     while all.len() < MOST {
         let room = (MOST - all.len()).min(PIECE);
-        let count = source
-            .read(&mut piece[..room])
-            .map_err(|_| InputError::Failed)?;
+        let Ok(count) = source.read(&mut piece[..room]) else {
+            return Err(InputError::Failed);
+        };
         if count == 0 {
             break;
         }

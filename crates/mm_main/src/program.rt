@@ -6,7 +6,7 @@ ghost use Rattle.task_script.specs.Grammar.{script_of};
 ghost use Rattle.task_script.specs.Scripts.{count_of_calls};
 ghost use Rattle.task_script.specs.Sound.{IsSound};
 ghost use Rattle.mm_main.specs.Requests.{misused, refused, accepted, reason_text, request_of};
-ghost use Rattle.mm_main.specs.Answers.{Answers, Completes, Says};
+ghost use Rattle.mm_main.specs.Answers.{Answers, Completes, Says, TakesAtMost, read_faults, write_faults};
 
 use crate::input::{InputError, read_all};
 use crate::serial::perform_all;
@@ -18,7 +18,9 @@ use task_script::{Outbox, Reason, Script, ScriptError, Sink, Source, put, read};
 const USAGE: &[u8] = b"usage: mm_main [--spin N] [--overdue N] [--generate N] [--summary]\n";
 
 fn usage<K: Sink>(sink: &mut K) -> Status
-    ensures { Says misused ⊥ (Rose (K.faults sink.old) (K.faults sink.new)) (K.written sink.old) (K.written sink.new) result }
+    ensures says { Says misused ⊥ (Rose (K.faults sink.old) (K.faults sink.new))
+        (K.written sink.old) (K.written sink.new) result }
+    ensures faults { K.faults sink.new ≡ write_faults result (K.faults sink.old) }
 {
     match put(sink, USAGE) {
         Ok(()) => Status::Usage,
@@ -49,7 +51,10 @@ fn reason_name(reason: Reason) -> &'static [u8]
 }
 
 fn refuse<K: Sink>(line: u32, reason: Reason, sink: &mut K) -> Status
-    ensures { Says (refused record { line = line; reason = reason }) ⊥ (Rose (K.faults sink.old) (K.faults sink.new)) (K.written sink.old) (K.written sink.new) result }
+    ensures says { Says (refused record { line = line; reason = reason }) ⊥
+        (Rose (K.faults sink.old) (K.faults sink.new))
+        (K.written sink.old) (K.written sink.new) result }
+    ensures faults { K.faults sink.new ≡ write_faults result (K.faults sink.old) }
 {
     let mut out = Outbox::new();
     out.add(b"refused ");
@@ -66,7 +71,9 @@ fn refuse<K: Sink>(line: u32, reason: Reason, sink: &mut K) -> Status
 fn run<K: Sink>(alloc: Global, script: &Script, sink: &mut K) -> Status
     requires sound { IsSound script.now }
     requires few { count_of_calls script.now ≤ 2 ^ 18 }
-    ensures { Says (accepted script.now) ⊥ (Rose (K.faults sink.old) (K.faults sink.new)) (K.written sink.old) (K.written sink.new) result }
+    ensures says { Says (accepted script.now) ⊥ (Rose (K.faults sink.old) (K.faults sink.new))
+        (K.written sink.old) (K.written sink.new) result }
+    ensures faults { K.faults sink.new ≡ write_faults result (K.faults sink.old) }
 {
     let Ok(mut results) = Results::new(alloc, script) else {
         return Status::NoMemory;
@@ -80,7 +87,10 @@ fn run<K: Sink>(alloc: Global, script: &Script, sink: &mut K) -> Status
 
 fn answer<K: Sink>(alloc: Global, input: &[u8], sink: &mut K) -> Status
     requires { length input.now ≤ 1048577 }
-    ensures { Says (request_of (script_of input.now)) ⊥ (Rose (K.faults sink.old) (K.faults sink.new)) (K.written sink.old) (K.written sink.new) result }
+    ensures says { Says (request_of (script_of input.now)) ⊥
+        (Rose (K.faults sink.old) (K.faults sink.new))
+        (K.written sink.old) (K.written sink.new) result }
+    ensures faults { K.faults sink.new ≡ write_faults result (K.faults sink.old) }
 {
     match read(alloc, input) {
         Ok(script) => run(alloc, &script, sink),
@@ -100,11 +110,16 @@ pub fn top<S: Source, K: Sink>(
     sink: &mut K,
 ) -> Status
     ensures answer { Answers (length words.now) (S.left source.old)
-        (Rose (S.faults source.old) (S.faults source.new)) (Rose (K.faults sink.old) (K.faults sink.new))
+        (Rose (S.faults source.old) (S.faults source.new))
+        (Rose (K.faults sink.old) (K.faults sink.new))
         (K.written sink.old) (K.written sink.new) result }
     ensures complete { Completes (length words.now) (S.left source.old)
-        (Rose (S.faults source.old) (S.faults source.new)) (Rose (K.faults sink.old) (K.faults sink.new))
+        (Rose (S.faults source.old) (S.faults source.new))
+        (Rose (K.faults sink.old) (K.faults sink.new))
         (K.written sink.old) (K.written sink.new) result }
+    ensures read_faults { S.faults source.new ≡ read_faults result (S.faults source.old) }
+    ensures write_faults { K.faults sink.new ≡ write_faults result (K.faults sink.old) }
+    ensures taken { TakesAtMost 1048577 (S.left source.old) (S.left source.new) }
     ensures unread { 0 < length words.now → source.new ≡ source.old }
     ensures few_reads { S.gave source.new ≤ S.gave source.old + 1048577 }
     ensures whole { result ≡ Status.Done → IsAtEnd (S.left source.new) }

@@ -8,7 +8,7 @@ ghost use Rattle.std.specs.Prelude.{slice_get, Some, IsSome, OnOk};
 ghost use Rattle.word_bits.specs.declared.rec.Rec.{Rec};
 ghost use Rattle.word_bits.specs.RecWord.{IsRec, rec_word};
 ghost use Rattle.word_bits.specs.Histories.{Event, Records, logs as is_logged};
-ghost use Rattle.task_script.specs.Causes.{HasCause, Adds};
+ghost use Rattle.task_script.specs.Causes.{CountsFailure, Adds};
 ghost use Rattle.task_script.specs.Scripts.{call_words, plan_of};
 ghost use Rattle.mm_report.specs.Results.{calls_on};
 ghost use Rattle.mm_report.specs.Text.{event_line, event_text, task_event_text};
@@ -69,7 +69,7 @@ fn write_event<K: Sink>(
 ) -> Result<(), Failed>
     ensures text { Adds (K.written sink.old) (K.written sink.new) out.old out.new
         (event_line task number words reply) result }
-    ensures cause { HasCause (K.faults sink.old) (K.faults sink.new) result }
+    ensures cause { CountsFailure (K.faults sink.old) (K.faults sink.new) result }
 {
     out.make_room(sink)?;
     add_event(out, task, number, words, reply);
@@ -104,7 +104,7 @@ fn write_calls<O: Object, K: Sink>(
         IsAt O.object calls.now.object task lines.now first rs cursor.old left →
         OnOk result (IsAt O.object calls.now.object task lines.now first rs cursor.new
         (behind O.object bound left)) }
-    ensures cause { HasCause (K.faults sink.old) (K.faults sink.new) result }
+    ensures cause { CountsFailure (K.faults sink.old) (K.faults sink.new) result }
 {
     for number in cursor.line..lines.len() {
         let line = lines[number];
@@ -155,7 +155,7 @@ fn write_task<O: Object, K: Sink>(
         OnOk result (IsAt O.object calls.now.object task lines
         (first_record calls.now.script.now calls.now.object task) rs cursor.new
         (behind O.object bound left)) }
-    ensures cause { HasCause (K.faults sink.old) (K.faults sink.new) result }
+    ensures cause { CountsFailure (K.faults sink.old) (K.faults sink.new) result }
 {
     if cursor.position >= bound {
         return Ok(());
@@ -187,7 +187,7 @@ fn write_position<O: Object, K: Sink>(
         OnOk result (AreAt O.object calls.now.script.now calls.now.object records cursors.new
         (map (behind O.object bound) lefts)) }
     ensures kept { length cursors.new ≡ length cursors.old }
-    ensures cause { HasCause (K.faults sink.old) (K.faults sink.new) result }
+    ensures cause { CountsFailure (K.faults sink.old) (K.faults sink.new) result }
 {
     for task in 0..calls.script.tasks() {
         let mut cursor = cursors[task];
@@ -211,7 +211,7 @@ pub(crate) fn write_history<O: Object, K: Sink>(
         (flat_map (event_text script.now object)
         (merged O.object 0 (length snapshot.now.log * 2 + 1)
         (task_lists 0 (plan_of script.now object) records))) result }
-    ensures cause { HasCause (K.faults sink.old) (K.faults sink.new) result }
+    ensures cause { CountsFailure (K.faults sink.old) (K.faults sink.new) result }
 {
     let recs = snapshot.recs();
     let mut cursors = first_cursors(script, object, recs);

@@ -4,7 +4,7 @@ ghost use Rattle.std.specs.List.{AllByRecursion};
 ghost use Rattle.word_bits.specs.declared.area.Area.{Area};
 ghost use Rattle.word_bits.specs.AreaWord.{IsArea, area_word};
 ghost use Rattle.fd_table.specs.Tables.{FdMap, IsFdMap, fd_map, stores};
-ghost use Rattle.task_script.specs.Causes.{HasCause, Adds};
+ghost use Rattle.task_script.specs.Causes.{CountsFailure, Adds};
 ghost use Rattle.mm_report.specs.Text.{area_text, descriptor_text, descriptors_text, left_text, table_text};
 
 use crate::line::{add_area, add_descriptor, add_left};
@@ -16,7 +16,7 @@ use word_bits::{Area, Object};
 fn write_area<K: Sink>(word: u64, out: &mut Outbox, sink: &mut K) -> Result<(), Failed>
     ensures text { (a : Area) → IsArea a → area_word a ≡ word →
         Adds (K.written sink.old) (K.written sink.new) out.old out.new (area_text a) result }
-    ensures cause { HasCause (K.faults sink.old) (K.faults sink.new) result }
+    ensures cause { CountsFailure (K.faults sink.old) (K.faults sink.new) result }
 {
     let Some(area) = Area::unpack(word) else {
         return Ok(());
@@ -32,7 +32,7 @@ fn write_areas<K: Sink>(words: &[u64], out: &mut Outbox, sink: &mut K) -> Result
         words.now ≡ map area_word areas →
         Adds (K.written sink.old) (K.written sink.new) out.old out.new
         (flat_map area_text areas) result }
-    ensures cause { HasCause (K.faults sink.old) (K.faults sink.new) result }
+    ensures cause { CountsFailure (K.faults sink.old) (K.faults sink.new) result }
 {
     for word in words {
         write_area(*word, out, sink)?;
@@ -43,7 +43,7 @@ fn write_areas<K: Sink>(words: &[u64], out: &mut Outbox, sink: &mut K) -> Result
 fn write_count<K: Sink>(count: u64, out: &mut Outbox, sink: &mut K) -> Result<(), Failed>
     ensures text { Adds (K.written sink.old) (K.written sink.new) out.old out.new
         (left_text count) result }
-    ensures cause { HasCause (K.faults sink.old) (K.faults sink.new) result }
+    ensures cause { CountsFailure (K.faults sink.old) (K.faults sink.new) result }
 {
     out.make_room(sink)?;
     add_left(out, count);
@@ -60,7 +60,7 @@ pub(crate) fn write_space<K: Sink>(
         state.now ≡ length areas ∷ (map area_word areas ++ rest) →
         Adds (K.written sink.old) (K.written sink.new) out.old out.new
         (left_text (length areas) ++ flat_map area_text areas) result }
-    ensures cause { HasCause (K.faults sink.old) (K.faults sink.new) result }
+    ensures cause { CountsFailure (K.faults sink.old) (K.faults sink.new) result }
 {
     let Some((count, words)) = state.split_first() else {
         return Ok(());
@@ -79,7 +79,7 @@ fn write_descriptor<K: Sink>(
 ) -> Result<(), Failed>
     ensures text { Adds (K.written sink.old) (K.written sink.new) out.old out.new
         (descriptor_text fd file) result }
-    ensures cause { HasCause (K.faults sink.old) (K.faults sink.new) result }
+    ensures cause { CountsFailure (K.faults sink.old) (K.faults sink.new) result }
 {
     let Some(file) = file else {
         return Ok(());
@@ -93,7 +93,7 @@ fn write_descriptor<K: Sink>(
 fn write_descriptors<K: Sink>(fds: &Fds, out: &mut Outbox, sink: &mut K) -> Result<(), Failed>
     ensures text { Adds (K.written sink.old) (K.written sink.new) out.old out.new
         (descriptors_text (fd_map fds.now) 0 64) result }
-    ensures cause { HasCause (K.faults sink.old) (K.faults sink.new) result }
+    ensures cause { CountsFailure (K.faults sink.old) (K.faults sink.new) result }
 {
     for fd in 0..DESCRIPTORS as u32 {
         write_descriptor(fd, fds.file(fd), out, sink)?;
@@ -104,7 +104,7 @@ fn write_descriptors<K: Sink>(fds: &Fds, out: &mut Outbox, sink: &mut K) -> Resu
 fn write_fds<K: Sink>(fds: &Fds, out: &mut Outbox, sink: &mut K) -> Result<(), Failed>
     ensures text { Adds (K.written sink.old) (K.written sink.new) out.old out.new
         (table_text (fd_map fds.now)) result }
-    ensures cause { HasCause (K.faults sink.old) (K.faults sink.new) result }
+    ensures cause { CountsFailure (K.faults sink.old) (K.faults sink.new) result }
 {
     write_count(u64::from(fds.used()), out, sink)?;
     write_descriptors(fds, out, sink)
@@ -118,7 +118,7 @@ pub(crate) fn write_table<K: Sink>(
 ) -> Result<(), Failed>
     ensures text { (m : FdMap) → IsFdMap m → stores m ≡ state.now →
         Adds (K.written sink.old) (K.written sink.new) out.old out.new (table_text m) result }
-    ensures cause { HasCause (K.faults sink.old) (K.faults sink.new) result }
+    ensures cause { CountsFailure (K.faults sink.old) (K.faults sink.new) result }
 {
     if state.len() != Fds::WORDS {
         return Ok(());

@@ -1,7 +1,7 @@
 //! The text of a script's objects: what each was called, and what it is left in.
 ghost use Rattle.std.specs.Prelude.{◌≡◌, ◌<◌, ◌++◌, false, length, slice_get, Some, List};
 ghost use Rattle.word_bits.specs.Legal.{Tells};
-ghost use Rattle.task_script.specs.Causes.{HasCause, Adds, Puts};
+ghost use Rattle.task_script.specs.Causes.{CountsFailure, Adds, Puts};
 ghost use Rattle.task_script.specs.Scripts.{Declared, plan_of};
 ghost use Rattle.task_script.specs.Texts.{declaration_text};
 ghost use Rattle.mm_report.specs.Results.{Told, IsLegalOn, AreLegal, AreComplete, calls_on};
@@ -31,7 +31,7 @@ fn write_told<K: Sink>(
         IsLegalOn d.is_space (plan_of script.now object) t snapshot.now.state →
         Adds (K.written sink.old) (K.written sink.new) out.old out.new
         (told_text script.now object d.is_space t) result }
-    ensures cause { HasCause (K.faults sink.old) (K.faults sink.new) result }
+    ensures cause { CountsFailure (K.faults sink.old) (K.faults sink.new) result }
 {
     if script.is_space(object as usize) {
         write_history::<Areas, K>(script, object, snapshot, out, sink)?;
@@ -58,7 +58,7 @@ fn write_object<K: Sink>(
         IsLegalOn d.is_space (plan_of script.now object) t snapshot.now.state →
         Adds (K.written sink.old) (K.written sink.new) out.old out.new
         (declaration_text d ++ told_text script.now object d.is_space t) result }
-    ensures cause { HasCause (K.faults sink.old) (K.faults sink.new) result }
+    ensures cause { CountsFailure (K.faults sink.old) (K.faults sink.new) result }
 {
     write_declaration(script, object as usize, out, sink)?;
     write_told(script, object, snapshot, out, sink)
@@ -75,7 +75,7 @@ fn write_objects<K: Sink>(
         AreLegal script.now results.now told →
         Adds (K.written sink.old) (K.written sink.new) out.old out.new
         (text_of script.now told) result }
-    ensures cause { HasCause (K.faults sink.old) (K.faults sink.new) result }
+    ensures cause { CountsFailure (K.faults sink.old) (K.faults sink.new) result }
 {
     for object in 0..script.objects() {
         write_object(script, object as u32, results.snapshot(object), out, sink)?;
@@ -98,7 +98,7 @@ pub fn report<K: Sink>(
     ensures text { (told : List Told) →
         AreLegal script.now results.old told →
         Puts (K.written sink.old) (K.written sink.new) (text_of script.now told) result }
-    ensures cause { HasCause (K.faults sink.old) (K.faults sink.new) result }
+    ensures cause { CountsFailure (K.faults sink.old) (K.faults sink.new) result }
     ensures kept { results.new ≡ results.old }
 {
     let _ = summary;

@@ -10,10 +10,10 @@ one_more count = min (count + 1) (2 ^ 64 - 1)
 abbrev pub Rose : ℕ → ℕ → Type 0
 Rose before now = one_more before ≤ now
 
--- the count of faults never falls, and a call fails only where it rose
-pub record HasCause {T E : Type 0} (before now : ℕ) (result : Result T E) : Type 0 where
-  pub later : before ≤ now
-  pub failed : OnErr result (Rose before now)
+-- a call that went well leaves the count of faults, and one that failed raises it by one, as far as it goes
+abbrev pub CountsFailure : {T E : Type 0} → (before now : ℕ) → Result T E → Type 0
+CountsFailure before now (Ok v) = now ≡ before
+CountsFailure before now (Err e) = now ≡ one_more before
 
 -- only a read that gave a byte is counted
 abbrev pub Counts : {E : Type 0} → (before now : ℕ) → Result ℕ E → Type 0

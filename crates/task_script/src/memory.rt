@@ -3,7 +3,7 @@
 ghost use Rattle.std.specs.Prelude.{◌≡◌, ◌<◌, ◌≤◌, [], Some, length, IfOk};
 ghost use Rattle.std.specs.Io.{ReadsAtMost};
 ghost use Rattle.std.specs.Io.KnownBytes.{ReadConsumes, WriteAppends};
-ghost use Rattle.task_script.specs.Causes.{HasCause, Counts};
+ghost use Rattle.task_script.specs.Causes.{CountsFailure, Counts};
 ghost use Rattle.task_script.specs.Memories.{Supplies, Stores};
 
 use crate::sink::Sink;
@@ -83,7 +83,7 @@ impl Source for MemSource {
         requires { 0 < length into.old }
         ensures within { ReadsAtMost result into.new }
         ensures bytes { ReadConsumes (Some self.old.left) (Some self.new.left) result into.new }
-        ensures cause { HasCause self.old.faults self.new.faults result }
+        ensures cause { CountsFailure self.old.faults self.new.faults result }
         ensures counted { Counts self.old.gave self.new.gave result }
         ensures supplies { Supplies self.old self.new (length into.new) result }
     {
@@ -184,7 +184,7 @@ impl Sink for MemSink {
         ensures count { IfOk result (λ n. (0 < n) × (n ≤ length piece.now)) }
         ensures bytes { WriteAppends (Some self.old.written) (Some self.new.written)
             result piece.now }
-        ensures cause { HasCause self.old.faults self.new.faults result }
+        ensures cause { CountsFailure self.old.faults self.new.faults result }
         ensures stores { Stores self.old self.new piece.now result }
     {
         let call = self.calls;

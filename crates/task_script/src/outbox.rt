@@ -1,6 +1,6 @@
 //! Text on its way to a sink, gathered into large pieces, so that a line costs no call of the sink.
 ghost use Rattle.std.specs.Prelude.{◌≡◌, ◌+◌, ◌≤◌, ◌++◌, [], length, decimal, OnOk, OnErr};
-ghost use Rattle.task_script.specs.Causes.{HasCause, Flushes};
+ghost use Rattle.task_script.specs.Causes.{CountsFailure, Flushes};
 ghost use Rattle.task_script.specs.Rooms.{MakesRoom};
 
 use crate::sink::{Sink, put};
@@ -67,7 +67,7 @@ impl Outbox {
             self.old self.new result }
         ensures kept { OnErr result (self.new ≡ self.old) }
         ensures room { OnOk result (length self.new + 256 ≤ 4096) }
-        ensures cause { HasCause (K.faults sink.old) (K.faults sink.new) result }
+        ensures cause { CountsFailure (K.faults sink.old) (K.faults sink.new) result }
     {
         if self.bytes.remaining_capacity() >= ROOM {
             return Ok(());
@@ -83,7 +83,7 @@ impl Outbox {
     pub fn flush<K: Sink>(&mut self, sink: &mut K) -> Result<(), Failed>
         ensures bytes { Flushes (K.written sink.old) (K.written sink.new) self.old self.new result }
         ensures kept { OnErr result (self.new ≡ self.old) }
-        ensures cause { HasCause (K.faults sink.old) (K.faults sink.new) result }
+        ensures cause { CountsFailure (K.faults sink.old) (K.faults sink.new) result }
     {
         put(sink, self.bytes.as_slice())?;
         self.bytes.clear();

@@ -5,7 +5,7 @@
 //! that what it takes arrives there is trusted.
 ghost use Rattle.std.specs.Prelude.{◌<◌, ◌≤◌, ℕ, List, Option, length, IfOk};
 ghost use Rattle.std.specs.Io.KnownBytes.{WriteAppends};
-ghost use Rattle.task_script.specs.Causes.{HasCause, Puts};
+ghost use Rattle.task_script.specs.Causes.{CountsFailure, Puts};
 
 use crate::source::Failed;
 
@@ -23,7 +23,7 @@ pub trait Sink {
         requires { 0 < length piece.now }
         ensures count { IfOk result (λ n. (0 < n) × (n ≤ length piece.now)) }
         ensures bytes { WriteAppends (written self.old) (written self.new) result piece.now }
-        ensures cause { HasCause (faults self.old) (faults self.new) result };
+        ensures cause { CountsFailure (faults self.old) (faults self.new) result };
 }
 
 /// Writes a whole piece.
@@ -33,7 +33,7 @@ pub trait Sink {
 /// The sink's first failure. It has then taken a front of the piece.
 pub fn put<K: Sink>(sink: &mut K, piece: &[u8]) -> Result<(), Failed>
     ensures bytes { Puts (K.written sink.old) (K.written sink.new) piece.now result }
-    ensures cause { HasCause (K.faults sink.old) (K.faults sink.new) result }
+    ensures cause { CountsFailure (K.faults sink.old) (K.faults sink.new) result }
 {
     let mut rest = piece;
     while !rest.is_empty() {

@@ -6,7 +6,7 @@
 ghost use Rattle.std.specs.Prelude.{◌<◌, ℕ, List, Option, length};
 ghost use Rattle.std.specs.Io.{ReadsAtMost};
 ghost use Rattle.std.specs.Io.KnownBytes.{ReadConsumes};
-ghost use Rattle.task_script.specs.Causes.{HasCause, Counts};
+ghost use Rattle.task_script.specs.Causes.{CountsFailure, Counts};
 
 /// A call of a source or a sink that failed.
 #[derive(Clone, Copy, Debug, PartialEq, Eq)]
@@ -29,6 +29,6 @@ pub trait Source {
         requires { 0 < length into.old }
         ensures within { ReadsAtMost result into.new }
         ensures bytes { ReadConsumes (left self.old) (left self.new) result into.new }
-        ensures cause { HasCause (faults self.old) (faults self.new) result }
+        ensures cause { CountsFailure (faults self.old) (faults self.new) result }
         ensures counted { Counts (gave self.old) (gave self.new) result };
 }

@@ -1,6 +1,6 @@
 //! Writes a script, line by line.
 ghost use Rattle.std.specs.Prelude.{◌≡◌, ◌<◌, ◌≤◌, ◌++◌, length, flat_map, slice_get, All, List, Ok, Some};
-ghost use Rattle.task_script.specs.Causes.{HasCause, Adds, Puts};
+ghost use Rattle.task_script.specs.Causes.{CountsFailure, Adds, Puts};
 ghost use Rattle.task_script.specs.Grammar.{script_of};
 ghost use Rattle.task_script.specs.Scripts.{Declared};
 ghost use Rattle.task_script.specs.Sound.{IsSound};
@@ -26,7 +26,7 @@ pub fn write_declaration<K: Sink>(
     requires { object < length script.now.objects }
     ensures text { (d : Declared) → slice_get script.now.objects object ≡ Some d →
         Adds (K.written sink.old) (K.written sink.new) out.old out.new (declaration_text d) result }
-    ensures cause { HasCause (K.faults sink.old) (K.faults sink.new) result }
+    ensures cause { CountsFailure (K.faults sink.old) (K.faults sink.new) result }
 {
     out.make_room(sink)?;
     out.add_declaration(script.is_space(object), script.name(object));
@@ -40,7 +40,7 @@ fn write_declarations<K: Sink>(
 ) -> Result<(), Failed>
     ensures text { Adds (K.written sink.old) (K.written sink.new) out.old out.new
         (flat_map declaration_text script.now.objects) result }
-    ensures cause { HasCause (K.faults sink.old) (K.faults sink.new) result }
+    ensures cause { CountsFailure (K.faults sink.old) (K.faults sink.new) result }
     ensures sound { IsSound script.now }
 {
     for object in 0..script.objects() {
@@ -58,7 +58,7 @@ fn write_line<K: Sink>(
     requires { line.object < length script.now.objects }
     ensures text { Adds (K.written sink.old) (K.written sink.new) out.old out.new
         (line_text script.now.objects line) result }
-    ensures cause { HasCause (K.faults sink.old) (K.faults sink.new) result }
+    ensures cause { CountsFailure (K.faults sink.old) (K.faults sink.new) result }
 {
     out.make_room(sink)?;
     let [a, b] = line.words;
@@ -75,7 +75,7 @@ fn write_calls<K: Sink>(
     requires { All (λ l. l.object < length script.now.objects) lines.now }
     ensures text { Adds (K.written sink.old) (K.written sink.new) out.old out.new
         (flat_map (line_text script.now.objects) lines.now) result }
-    ensures cause { HasCause (K.faults sink.old) (K.faults sink.new) result }
+    ensures cause { CountsFailure (K.faults sink.old) (K.faults sink.new) result }
 {
     for line in lines {
         write_line(script, *line, out, sink)?;
@@ -93,7 +93,7 @@ fn write_task<K: Sink>(
     ensures text { (ls : List Line) → slice_get script.now.tasks task ≡ Some ls →
         Adds (K.written sink.old) (K.written sink.new) out.old out.new
         (task_text script.now.objects ls) result }
-    ensures cause { HasCause (K.faults sink.old) (K.faults sink.new) result }
+    ensures cause { CountsFailure (K.faults sink.old) (K.faults sink.new) result }
 {
     out.make_room(sink)?;
     out.add(b"task\n");
@@ -103,7 +103,7 @@ fn write_task<K: Sink>(
 fn write_tasks<K: Sink>(script: &Script, out: &mut Outbox, sink: &mut K) -> Result<(), Failed>
     ensures text { Adds (K.written sink.old) (K.written sink.new) out.old out.new
         (flat_map (task_text script.now.objects) script.now.tasks) result }
-    ensures cause { HasCause (K.faults sink.old) (K.faults sink.new) result }
+    ensures cause { CountsFailure (K.faults sink.old) (K.faults sink.new) result }
 {
     for task in 0..script.tasks() {
         write_task(script, task, out, sink)?;
@@ -114,7 +114,7 @@ fn write_tasks<K: Sink>(script: &Script, out: &mut Outbox, sink: &mut K) -> Resu
 fn write_lines<K: Sink>(script: &Script, out: &mut Outbox, sink: &mut K) -> Result<(), Failed>
     ensures text { Adds (K.written sink.old) (K.written sink.new) out.old out.new
         (canonical_text script.now) result }
-    ensures cause { HasCause (K.faults sink.old) (K.faults sink.new) result }
+    ensures cause { CountsFailure (K.faults sink.old) (K.faults sink.new) result }
     ensures sound { IsSound script.now }
 {
     write_declarations(script, out, sink)?;
@@ -132,7 +132,7 @@ fn write_lines<K: Sink>(script: &Script, out: &mut Outbox, sink: &mut K) -> Resu
 pub fn write<K: Sink>(script: &Script, sink: &mut K) -> Result<(), Failed>
     ensures text { Puts (K.written sink.old) (K.written sink.new)
         (canonical_text script.now) result }
-    ensures cause { HasCause (K.faults sink.old) (K.faults sink.new) result }
+    ensures cause { CountsFailure (K.faults sink.old) (K.faults sink.new) result }
     ensures read_back { length (canonical_text script.now) ≤ 1048576 →
         script_of (canonical_text script.now) ≡ Ok script.now }
 {

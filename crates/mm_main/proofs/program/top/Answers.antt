@@ -2,7 +2,7 @@ use Rattle.std.proofs.Common.{◌≡◌, ◌<◌, ◌∙◌, length, ap, sym, ar
 use Rattle.std.proofs.lemmas.Bool.Decides.{nat_tests}
 use Rattle.task_script.specs.Grammar.{script_of}
 use Rattle.mm_main.specs.Requests.{request, request_of, misused}
-use Rattle.mm_main.proofs.Inputs.{same_input, any_input, with_words, without_words, said, said_failed, said_no_memory, completes}
+use Rattle.mm_main.proofs.Inputs.{same_input, any_input, with_words, without_words, said, said_failed, said_no_memory, completes, never_read, taken_nothing}
 use Rattle.mm_main.specs.declared.status.Status.TheVariants.{NoMemory, ReadFault}
 use Rattle.mm_main.proofs.program.top.Goals as goal
 
@@ -10,7 +10,7 @@ pub returns-then-not-is_empty-clause-answer : goal.returns-then-not-is_empty-cla
 returns-then-not-is_empty-clause-answer g c =
     let t = any_input (g.S.Source.left c.args.source.now) in
     let some : 0 < length c.args.words.now = grind (arith, nat_tests) in
-    (t.0, t.1, said misused (request (length c.args.words.now) t.0) _ _ _ _ c.usage.result (with_words (length c.args.words.now) t.0 some) c.usage.ensures)
+    (t.0, t.1, said misused (request (length c.args.words.now) t.0) _ _ _ _ c.usage.result (with_words (length c.args.words.now) t.0 some) c.usage.ensures.says)
 
 pub returns-in-Ok-clause-answer : goal.returns-in-Ok-clause-answer
 returns-in-Ok-clause-answer g c =
@@ -19,7 +19,7 @@ returns-in-Ok-clause-answer g c =
     let s = same_input (g.S.Source.left c.args.source.now) (g.S.Source.left c.read_all.new.source) c.in-Ok.input.items r.bytes r.most r.enough in (
       s.0,
       s.1,
-      said (request_of (script_of c.as_slice.result.now)) (request (length c.args.words.now) s.0) _ _ _ _ c.answer.result (without_words (length c.args.words.now) s.0 none ∙ ap request_of (s.2 ∙ ap script_of (sym c.as_slice.ensures.value))) c.answer.ensures,
+      said (request_of (script_of c.as_slice.result.now)) (request (length c.args.words.now) s.0) _ _ _ _ c.answer.result (without_words (length c.args.words.now) s.0 none ∙ ap request_of (s.2 ∙ ap script_of (sym c.as_slice.ensures.value))) c.answer.ensures.says,
     )
 
 pub returns-in-Err-Memory-clause-answer : goal.returns-in-Err-Memory-clause-answer
@@ -42,3 +42,12 @@ returns-in-Err-Memory-clause-complete g c = completes (length c.args.words.now) 
 
 pub returns-in-Err-Failed-clause-complete : goal.returns-in-Err-Failed-clause-complete
 returns-in-Err-Failed-clause-complete g c = completes (length c.args.words.now) (g.S.Source.left c.args.source.now) _ _ _ _ ReadFault (returns-in-Err-Failed-clause-answer g c)
+
+pub returns-in-Ok-clause-read_faults : goal.returns-in-Ok-clause-read_faults
+returns-in-Ok-clause-read_faults g c = c.in-Ok.ensures.faults ∙ sym (never_read (request_of (script_of c.as_slice.result.now)) _ _ _ c.answer.result (g.S.Source.faults c.args.source.now) c.answer.ensures.says)
+
+pub returns-then-not-is_empty-clause-read_faults : goal.returns-then-not-is_empty-clause-read_faults
+returns-then-not-is_empty-clause-read_faults g c = sym (never_read misused _ _ _ c.usage.result (g.S.Source.faults c.args.source.now) c.usage.ensures.says)
+
+pub returns-then-not-is_empty-clause-taken : goal.returns-then-not-is_empty-clause-taken
+returns-then-not-is_empty-clause-taken g c = taken_nothing (g.S.Source.left c.args.source.now)

@@ -23,7 +23,7 @@ loop-number-init g c =
           subst (λ us. Remains (g.K.Sink.written c.args.sink.now) (g.K.Sink.written c.args.sink.now) c.args.out.now c.args.out.now (flat_map f (front o c.args.bound us)) (flat_map f (front o c.args.bound left))) is.is
           (remains_all (g.K.Sink.written c.args.sink.now) c.args.out.now (flat_map f (front o c.args.bound left)));
       rest = λ first rs left has is. ap (behind o c.args.bound) (sym is.is);
-      later = omega arith;
+      kept = refl;
     }
 
 pub loop-number-preserved-then-line-calls : goal.loop-number-preserved-then-line-calls
@@ -40,7 +40,7 @@ loop-number-preserved-then-line-calls g c =
           subst (λ k. Remains (g.K.Sink.written c.args.sink.now) (g.K.Sink.written c.loop-number.sink) c.args.out.now c.loop-number.out (flat_map (task_event_text c.args.calls.now.object lines) (front o c.args.bound (drop k (events_of c.args.calls.now.object c.args.task lines rs)))) (flat_map (task_event_text c.args.calls.now.object lines) (front o c.args.bound left)))
           (sym same) (inv.text first rs left has is);
       rest = λ first rs left has is. ap (λ k. behind o c.args.bound (drop k (events_of c.args.calls.now.object c.args.task lines rs))) same ∙ inv.rest first rs left has is;
-      later = inv.later;
+      kept = inv.kept;
     }
 
 pub returns-in_default-clause-text : goal.returns-in_default-clause-text
@@ -119,7 +119,7 @@ loop-number-preserved g c = record {
       let stands = c.position-cursor.ensures in
       let low : position o c.words_of-words.result c.in-Some.rec < c.args.bound = omega (arith, stands, c.if-cursor-bound.false) in
       sym (next.below low) ∙ c.loop-number.invariant.rest first rs left has is;
-  later = omega (arith, c.in_ok-write_event.ensures.cause.later, c.loop-number.invariant.later);
+  kept = c.in_ok-write_event.ensures.cause ∙ c.loop-number.invariant.kept;
 }
 
 pub returns-clause-text : goal.returns-clause-text

@@ -1,4 +1,4 @@
-use Rattle.std.proofs.Common.{◌≡◌, ◌≤◌, ◌+◌, ℕ, List}
+use Rattle.std.proofs.Common.{◌≡◌, ◌+◌, ℕ, List}
 use Rattle.std.specs.Prelude.{flat_map}
 use Rattle.word_bits.specs.declared.rec.Rec.{Rec}
 use Rattle.word_bits.specs.Histories.{Event}
@@ -17,5 +17,5 @@ invariant-loop-number g l =
           Remains (g.K.Sink.written l.fn.sink) (g.K.Sink.written l.sink) l.fn.out l.out (front_text o l.calls.object l.task l.bound l.number l.lines rs) (flat_map (task_event_text l.calls.object l.lines) (front o l.bound left));
       rest : (first : ℕ) (rs : List Rec) (left : List Event) → HasRecords l.calls.object l.lines l.calls.recs.now first rs → IsAt o l.calls.object l.task l.lines first rs l.fn.cursor left →
           rest_behind o l.calls.object l.task l.bound l.number l.lines rs ≡ behind o l.bound left;
-      later : g.K.Sink.faults l.fn.sink ≤ g.K.Sink.faults l.sink;
+      kept : g.K.Sink.faults l.sink ≡ g.K.Sink.faults l.fn.sink;
     }

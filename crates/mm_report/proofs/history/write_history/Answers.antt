@@ -1,4 +1,4 @@
-use Rattle.std.proofs.Common.{◌+◌, ◌*◌, length, sym, ap, ◌∙◌, subst, arith}
+use Rattle.std.proofs.Common.{◌+◌, ◌*◌, length, sym, ap, ◌∙◌, subst, arith, refl}
 use Rattle.std.proofs.lemmas.Result.{err_from_is_err_and}
 use Rattle.mm_report.specs.Cursors.{AreRead}
 use Rattle.mm_report.proofs.Tasks.{history_begins, history_added, history_failed, history_done}
@@ -9,7 +9,7 @@ loop-position-init g c = record {
   text = λ records read.
       history_begins g.O.Object.object c.args.script.now c.args.object c.args.snapshot.now.recs records (length c.args.snapshot.now.log * 2 + 1) c.first_cursors-cursors.result (g.K.Sink.written c.args.sink.now) c.args.out.now read c.first_cursors-cursors.ensures.starts;
   all = c.first_cursors-cursors.ensures.all;
-  later = omega arith;
+  kept = refl;
 }
 
 pub write_position-requires : goal.write_position-requires
@@ -31,7 +31,7 @@ loop-position-preserved g c = record {
       (g.K.Sink.written c.write_position.new.sink) c.args.out.now c.loop-position.out c.write_position.new.out h (omega (arith, c.loop-position-test.true, ap length c.log.ensures)) (c.in_ok-write_position.ensures.text records h.lefts own h.each h.at)
       (c.in_ok-write_position.ensures.reached records h.lefts own h.each h.at);
   all = c.in_ok-write_position.ensures.kept ∙ c.loop-position.invariant.all;
-  later = omega (arith, c.in_ok-write_position.ensures.cause.later, c.loop-position.invariant.later);
+  kept = c.in_ok-write_position.ensures.cause ∙ c.loop-position.invariant.kept;
 }
 
 pub returns-clause-text : goal.returns-clause-text

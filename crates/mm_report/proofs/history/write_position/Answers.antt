@@ -24,7 +24,7 @@ loop-task-init g c =
           let test : nat_lt task 0 ≡ false = grind (arith, nat_tests) in
           subst (λ b. IsAt o c.args.calls.now.object task lines (first_record c.args.calls.now.script.now c.args.calls.now.object task) rs (get_or c.args.cursors.now task at_start) (cond b (behind o c.args.bound left) left)) (sym test) (at task lines rs left at-lines at-rs at-left);
       all = refl;
-      later = omega arith;
+      kept = refl;
     }
 
 pub returns-in_err-write_task-clause-text : goal.returns-in_err-write_task-clause-text
@@ -66,7 +66,7 @@ loop-task-preserved g c =
           subst (λ t. IsAt o c.args.calls.now.object t lines (first_record s c.args.calls.now.object t) rs c.write_task.new.cursor (behind o c.args.bound left)) (sym same)
           (c.in_ok-write_task.ensures.reached lines rs left lines_here (task_has s c.args.calls.now.object i c.args.calls.now.recs.now records lines rs read lines_here rs_here) (here records lefts read each at lines rs left lines_here rs_here left_here)));
       all = length-set c.loop-task.cursors i _ ∙ c.loop-task.invariant.all;
-      later = omega (arith, c.in_ok-write_task.ensures.cause.later, c.loop-task.invariant.later);
+      kept = c.in_ok-write_task.ensures.cause ∙ c.loop-task.invariant.kept;
     }
 
 pub returns-clause-text : goal.returns-clause-text

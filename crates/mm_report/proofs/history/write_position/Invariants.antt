@@ -1,4 +1,4 @@
-use Rattle.std.proofs.Common.{◌≡◌, ◌≤◌, ◌++◌, ℕ, List, length, take, get_or, cond, nat_lt, Some}
+use Rattle.std.proofs.Common.{◌≡◌, ◌++◌, ℕ, List, length, take, get_or, cond, nat_lt, Some}
 use Rattle.std.specs.Prelude.{flat_map, slice_get}
 use Rattle.word_bits.specs.declared.rec.Rec.{Rec}
 use Rattle.word_bits.specs.Histories.{Records, Event}
@@ -18,5 +18,5 @@ invariant-loop-task g l =
           (task : ℕ) (lines : List Line) (rs : List Rec) (left : List Event) → slice_get l.calls.script.now.tasks task ≡ Some lines → slice_get records task ≡ Some rs → slice_get lefts task ≡ Some left
           → IsAt o l.calls.object task lines (first_record l.calls.script.now l.calls.object task) rs (get_or l.cursors task at_start) (cond (nat_lt task l.task) (behind o l.bound left) left);
       all : length l.cursors ≡ length l.fn.cursors;
-      later : g.K.Sink.faults l.fn.sink ≤ g.K.Sink.faults l.sink;
+      kept : g.K.Sink.faults l.sink ≡ g.K.Sink.faults l.fn.sink;
     }

@@ -1,4 +1,5 @@
-use Rattle.std.proofs.Common.{◌≡◌, length, ap, ◌∙◌, arith}
+use Rattle.std.proofs.Common.{◌≡◌, length, ap, ◌∙◌, arith, refl}
+use Rattle.task_script.specs.Causes.{one_more}
 use Rattle.std.proofs.lemmas.Option.{slice_get-get_or}
 use Rattle.std.proofs.lemmas.List.{length-map}
 use Rattle.std.proofs.lemmas.Result.{err_from_is_err_and}
@@ -10,7 +11,7 @@ use Rattle.mm_report.proofs.state.write_areas.Goals as goal
 pub loop-word-init : goal.loop-word-init
 loop-word-init g c = record {
   text = λ areas each is. pieces_begin area_text areas (g.K.Sink.written c.args.sink.now) c.args.out.now;
-  later = omega arith;
+  kept = refl;
 }
 
 pub returns-in_err-write_area-clause-text : goal.returns-in_err-write_area-clause-text
@@ -21,10 +22,7 @@ returns-in_err-write_area-clause-text g c = rw (err_from_is_err_and c.from_resid
     (c.loop-word.invariant.text areas each is) (c.in_err-write_area.ensures.text a.0 a.2 a.3))
 
 pub returns-in_err-write_area-clause-cause : goal.returns-in_err-write_area-clause-cause
-returns-in_err-write_area-clause-cause g c = rw (err_from_is_err_and c.from_residual.result c.from_residual.ensures.1).1 (record {
-  later = omega (arith, c.in_err-write_area.ensures.cause.later, c.loop-word.invariant.later);
-  failed = omega (arith, c.in_err-write_area.ensures.cause.failed, c.loop-word.invariant.later);
-})
+returns-in_err-write_area-clause-cause g c = rw (err_from_is_err_and c.from_residual.result c.from_residual.ensures.1).1 (c.in_err-write_area.ensures.cause ∙ ap one_more c.loop-word.invariant.kept)
 
 pub loop-word-preserved : goal.loop-word-preserved
 loop-word-preserved g c = record {
@@ -33,7 +31,7 @@ loop-word-preserved g c = record {
       let a = mapped_at IsArea area_word areas c.args.words.now i _ each is (slice_get-get_or c.args.words.now i 0 c.loop-word-test.true) in
       piece_added area_text areas i a.0 (g.K.Sink.written c.args.sink.now) (g.K.Sink.written c.loop-word.sink) (g.K.Sink.written c.write_area.new.sink) c.args.out.now c.loop-word.out c.write_area.new.out a.1
       (c.loop-word.invariant.text areas each is) (c.in_ok-write_area.ensures.text a.0 a.2 a.3);
-  later = omega (arith, c.in_ok-write_area.ensures.cause.later, c.loop-word.invariant.later);
+  kept = c.in_ok-write_area.ensures.cause ∙ c.loop-word.invariant.kept;
 }
 
 pub returns-clause-text : goal.returns-clause-text

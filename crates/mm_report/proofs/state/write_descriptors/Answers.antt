@@ -1,4 +1,4 @@
-use Rattle.std.proofs.Common.{arith, refl, subst, ◌++◌, Option, ℕ}
+use Rattle.std.proofs.Common.{arith, refl, subst, ◌++◌, Option, ℕ, ◌∙◌}
 use Rattle.std.proofs.lemmas.Result.{err_from_is_err_and}
 use Rattle.task_script.specs.Causes.{Fronts, IsOnItsWay}
 use Rattle.fd_table.specs.Tables.{fd_map}
@@ -10,7 +10,7 @@ use Rattle.mm_report.proofs.state.write_descriptors.Goals as goal
 pub loop-fd-init : goal.loop-fd-init
 loop-fd-init g c = record {
   text = (64, refl, remains_all (g.K.Sink.written c.args.sink.now) c.args.out.now (descriptors_text (fd_map c.args.fds.now) 0 64));
-  later = omega arith;
+  kept = refl;
 }
 
 pub returns-in_err-write_descriptor-clause-text : goal.returns-in_err-write_descriptor-clause-text
@@ -22,7 +22,7 @@ pub loop-fd-preserved : goal.loop-fd-preserved
 loop-fd-preserved g c = record {
   text = left_added (fd_map c.args.fds.now) c.loop-fd.fd (g.K.Sink.written c.args.sink.now) (g.K.Sink.written c.loop-fd.sink) (g.K.Sink.written c.write_descriptor.new.sink) c.args.out.now c.loop-fd.out c.write_descriptor.new.out c.loop-fd-test.true c.loop-fd.invariant.text
       (subst (λ (f : Option ℕ). IsOnItsWay (g.K.Sink.written c.loop-fd.sink) (g.K.Sink.written c.write_descriptor.new.sink) c.write_descriptor.new.out (c.loop-fd.out ++ descriptor_text c.loop-fd.fd f)) c.file.ensures.value c.in_ok-write_descriptor.ensures.text);
-  later = omega (arith, c.in_ok-write_descriptor.ensures.cause.later, c.loop-fd.invariant.later);
+  kept = c.in_ok-write_descriptor.ensures.cause ∙ c.loop-fd.invariant.kept;
 }
 
 pub returns-clause-text : goal.returns-clause-text

@@ -47,5 +47,5 @@ loop-object-preserved g c = record {
         rw behind (text_split s i s.objects d.0 step.here step.behind (drop i told) inv.0 (text_of s told) d.1 step.is inv.2),
         rw behind step.rest,
       );
-  later = omega (arith, c.in_ok-write_object.ensures.cause.later, c.loop-object.invariant.later);
+  kept = c.in_ok-write_object.ensures.cause ∙ c.loop-object.invariant.kept;
 }

@@ -1,4 +1,4 @@
-use Rattle.std.proofs.Common.{◌≡◌, ◌≤◌, ◌++◌, drop, List, ℕ}
+use Rattle.std.proofs.Common.{◌≡◌, ◌++◌, drop, List, ℕ}
 use Rattle.task_script.specs.Causes.{IsOnItsWay}
 use Rattle.mm_report.specs.Results.{Told, AreLegal, AreLegalFrom}
 use Rattle.mm_report.specs.Text.{text_from, text_of}
@@ -10,5 +10,5 @@ invariant-loop-object g l = record {
       (done : List ℕ) × IsOnItsWay (g.K.Sink.written l.fn.sink) (g.K.Sink.written l.sink) l.out (l.fn.out ++ done)
       × (done ++ text_from l.script l.object (drop l.object l.script.objects) (drop l.object told) ≡ text_of l.script told)
       × AreLegalFrom l.script l.object (drop l.object l.script.objects) (drop l.object l.results) (drop l.object told);
-  later : g.K.Sink.faults l.fn.sink ≤ g.K.Sink.faults l.sink;
+  kept : g.K.Sink.faults l.sink ≡ g.K.Sink.faults l.fn.sink;
 }

@@ -1,4 +1,4 @@
-use Rattle.std.proofs.Common.{length, arith}
+use Rattle.std.proofs.Common.{length, ◌∙◌}
 use Rattle.std.specs.List.{between}
 use Rattle.task_script.proofs.Ways.{way_sent, taken_sent}
 use Rattle.task_script.proofs.sink.put.Goals as goal
@@ -10,5 +10,5 @@ loop-rest-preserved g c =
     let written = g.K.Sink.written in
     record {
       way = way_sent (written c.args.sink.now) (written loop.sink) (written c.write.new.self) loop.rest.now (between c.in_ok-count.count (length loop.rest.now) loop.rest.now) c.args.piece.now loop.invariant.way (taken_sent (written loop.sink) (written c.write.new.self) loop.rest.now c.in_ok-count.count wrote.bytes);
-      later = omega (arith, wrote.cause.later);
+      kept = wrote.cause ∙ loop.invariant.kept;
     }

@@ -1,4 +1,5 @@
-use Rattle.std.proofs.Common.{arith, []}
+use Rattle.std.proofs.Common.{arith, [], ◌∙◌, ap, refl}
+use Rattle.task_script.specs.Causes.{one_more}
 use Rattle.std.proofs.lemmas.Option.{slice_get-get_or}
 use Rattle.std.proofs.lemmas.Result.{err_from_is_err_and}
 use Rattle.task_script.specs.Texts.{line_text}
@@ -9,7 +10,7 @@ use Rattle.task_script.proofs.writer.write_calls.Goals as goal
 pub loop-line-init : goal.loop-line-init
 loop-line-init g c = record {
   text = pieces_begin (line_text c.args.script.now.objects) c.args.lines.now (g.K.Sink.written c.args.sink.now) c.args.out.now;
-  later = omega arith;
+  kept = refl;
 }
 
 pub returns-in_err-write_line-clause-text : goal.returns-in_err-write_line-clause-text
@@ -18,16 +19,13 @@ returns-in_err-write_line-clause-text g c = rw (err_from_is_err_and c.from_resid
     c.loop-line.invariant.text c.in_err-write_line.ensures.text)
 
 pub returns-in_err-write_line-clause-cause : goal.returns-in_err-write_line-clause-cause
-returns-in_err-write_line-clause-cause g c = rw (err_from_is_err_and c.from_residual.result c.from_residual.ensures.1).1 (record {
-  later = omega (arith, c.in_err-write_line.ensures.cause.later, c.loop-line.invariant.later);
-  failed = omega (arith, c.in_err-write_line.ensures.cause.failed, c.loop-line.invariant.later);
-})
+returns-in_err-write_line-clause-cause g c = rw (err_from_is_err_and c.from_residual.result c.from_residual.ensures.1).1 (c.in_err-write_line.ensures.cause ∙ ap one_more c.loop-line.invariant.kept)
 
 pub loop-line-preserved : goal.loop-line-preserved
 loop-line-preserved g c = record {
   text = piece_added (line_text c.args.script.now.objects) c.args.lines.now c.loop-line.line-index _ (g.K.Sink.written c.args.sink.now) (g.K.Sink.written c.loop-line.sink) (g.K.Sink.written c.write_line.new.sink) c.args.out.now c.loop-line.out c.write_line.new.out (slice_get-get_or c.args.lines.now c.loop-line.line-index (let l : Line = record { object = 0; words = [] } in l) c.loop-line-test.true)
       c.loop-line.invariant.text c.in_ok-write_line.ensures.text;
-  later = omega (arith, c.in_ok-write_line.ensures.cause.later, c.loop-line.invariant.later);
+  kept = c.in_ok-write_line.ensures.cause ∙ c.loop-line.invariant.kept;
 }
 
 pub returns-clause-text : goal.returns-clause-text

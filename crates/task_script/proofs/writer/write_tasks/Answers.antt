@@ -1,4 +1,5 @@
-use Rattle.std.proofs.Common.{arith}
+use Rattle.std.proofs.Common.{arith, ◌∙◌, ap, refl}
+use Rattle.task_script.specs.Causes.{one_more}
 use Rattle.std.proofs.lemmas.Result.{err_from_is_err_and}
 use Rattle.task_script.specs.Texts.{task_text}
 use Rattle.task_script.proofs.Pieces.{at_place, pieces_begin, piece_added, piece_failed, pieces_done}
@@ -7,7 +8,7 @@ use Rattle.task_script.proofs.writer.write_tasks.Goals as goal
 pub loop-task-init : goal.loop-task-init
 loop-task-init g c = record {
   text = pieces_begin (task_text c.args.script.now.objects) c.args.script.now.tasks (g.K.Sink.written c.args.sink.now) c.args.out.now;
-  later = omega arith;
+  kept = refl;
 }
 
 pub returns-in_err-write_task-clause-text : goal.returns-in_err-write_task-clause-text
@@ -16,16 +17,13 @@ returns-in_err-write_task-clause-text g c = rw (err_from_is_err_and c.from_resid
     c.loop-task.invariant.text (c.in_err-write_task.ensures.text at.0 at.1))
 
 pub returns-in_err-write_task-clause-cause : goal.returns-in_err-write_task-clause-cause
-returns-in_err-write_task-clause-cause g c = rw (err_from_is_err_and c.from_residual.result c.from_residual.ensures.1).1 (record {
-  later = omega (arith, c.in_err-write_task.ensures.cause.later, c.loop-task.invariant.later);
-  failed = omega (arith, c.in_err-write_task.ensures.cause.failed, c.loop-task.invariant.later);
-})
+returns-in_err-write_task-clause-cause g c = rw (err_from_is_err_and c.from_residual.result c.from_residual.ensures.1).1 (c.in_err-write_task.ensures.cause ∙ ap one_more c.loop-task.invariant.kept)
 
 pub loop-task-preserved : goal.loop-task-preserved
 loop-task-preserved g c = record {
   text = let at = at_place c.args.script.now.tasks c.loop-task.task (omega arith) in piece_added (task_text c.args.script.now.objects) c.args.script.now.tasks c.loop-task.task _ (g.K.Sink.written c.args.sink.now) (g.K.Sink.written c.loop-task.sink) (g.K.Sink.written c.write_task.new.sink) c.args.out.now c.loop-task.out c.write_task.new.out at.1
       c.loop-task.invariant.text (c.in_ok-write_task.ensures.text at.0 at.1);
-  later = omega (arith, c.in_ok-write_task.ensures.cause.later, c.loop-task.invariant.later);
+  kept = c.in_ok-write_task.ensures.cause ∙ c.loop-task.invariant.kept;
 }
 
 pub returns-clause-text : goal.returns-clause-text
