@@ -9,28 +9,28 @@ mod status;
 
 use crate::program::top;
 use crate::status::Status;
-use std::env::Env;
+use std::alloc::Global;
 use std::process::ExitCode;
 use std::{env, io};
 use task_script::{ReadSource, WriteSink};
 
 /// The words after the program's name. One that isn't text is still a word.
-fn words<R: Env + AllocGlobal>(rt: &R) -> io::Result<Vec<String>> {
-    let mut words = Vec::new(rt.alloc());
-    match env::args(rt) {
+fn words(alloc: Global, args: io::Result<env::Args>) -> io::Result<Vec<String>> {
+    let mut words = Vec::new(alloc);
+    match args {
         Ok(args) => {
             for word in args.skip(1) {
                 words.push(word)?;
             }
         }
         Err(error) if error.kind() == io::ErrorKind::OutOfMemory => return Err(error),
-        Err(_) => words.push(String::new(rt.alloc()))?,
+        Err(_) => words.push(String::new(alloc))?,
     }
     Ok(words)
 }
 
 fn run(rt: &HostRuntime) -> Status {
-    let Ok(words) = words(rt) else {
+    let Ok(words) = words(rt.alloc(), env::args(rt)) else {
         return Status::NoMemory;
     };
     let mut source = ReadSource::new(rt.reader());

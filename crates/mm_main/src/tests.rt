@@ -12,6 +12,7 @@ use std::alloc::{AllocError, Global};
 use std::test::Fail;
 use task_script::{MemSink, MemSource};
 
+mod command_line;
 mod examples;
 
 const ORDINARY: &str = "space a\ntask\na map 16 4 rw-\na fault 17 w\na fault 20 r\n";
