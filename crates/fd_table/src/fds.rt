@@ -119,7 +119,7 @@ impl Fds {
 
 impl Object for Fds {
     ghost use Rattle.fd_table.specs.Tables.{fd_map, table};
-    ghost use Rattle.fd_table.specs.TableLaws.{few_words, sized, starts, zeros, apart, called, goes_on, replies, reading, refused};
+    ghost use Rattle.fd_table.specs.TableLaws.{few_words, sized, starts, zeros, apart, called, signals, goes_on, replies, reading, refused};
 
     type Call = TableCall;
 
@@ -179,6 +179,8 @@ impl Object for Fds {
     ghost apart = { apart };
 
     ghost called = { called };
+
+    ghost signals = { signals };
 
     ghost goes_on = { goes_on };
 

@@ -57,6 +57,8 @@ impl Object for Nothing {
 
     ghost called = { λ words call e. tt };
 
+    ghost signals = { λ words task is. refl };
+
     ghost goes_on = { λ s call a b. tt };
 
     ghost replies = { λ s call a b. tt };

@@ -9,7 +9,9 @@ use Rattle.word_bits.specs.declared.reply.Reply.TheVariants.{Good, Num, Refused,
 use Rattle.word_bits.specs.declared.reply.Errno.{Errno}
 use Rattle.word_bits.specs.declared.reply.Errno.TheVariants.{NoMem, Exist, Inval}
 use Rattle.word_bits.specs.AreaWord.{area_word}
+use Rattle.word_bits.specs.Calls.{signal_of}
 use Rattle.word_bits.specs.Objects.{IsObjectReply}
+use Rattle.word_bits.proofs.Signals.{none_either, signal_kind}
 use Rattle.word_bits.specs.PageMaps.{PageMap, IsPageMap, no_pages, runs}
 use Rattle.vma_map.specs.declared.call.SpaceCall.{SpaceCall}
 use Rattle.vma_map.specs.declared.call.SpaceCall.TheVariants.{Map, MapAny, MapNew, Unmap, Protect, Populate, Fault}
@@ -186,6 +188,10 @@ reading s (Populate start len prot) e = absurd (false≢true e)
 pub refused : (s : PageMap) (call : SpaceCall) (errno : Errno) → (meaning s call).1 ≡ Refused errno → (meaning s call).0 ≡ s
 refused s call errno =
     meaning-cases s (λ r. r.1 ≡ Refused errno → r.0 ≡ s) (λ _ _. refl) call (λ start len prot reply c e. absurd (IsDone-refused reply errno c.done e)) (λ _ _ _. refl)
+
+-- the words of a signal are no call
+pub signals : (w : CallWords) (task : ℕ) → signal_of w ≡ Some task → call_of w ≡ None
+signals w task is = let kind = signal_kind w task is in rw kind (none_either _)
 
 -- the words are as many as may be
 pub few_words : 257 ≤ 257

@@ -199,7 +199,7 @@ fn readable(len: u32, prot: u8) -> u32
 impl Object for Areas {
     ghost use Rattle.vma_map.specs.Runs.{page_map};
     ghost use Rattle.vma_map.specs.Spaces.{space};
-    ghost use Rattle.vma_map.specs.SpaceLaws.{few_words, sized, starts, zeros, apart, called, goes_on, replies, reading, refused};
+    ghost use Rattle.vma_map.specs.SpaceLaws.{few_words, sized, starts, zeros, apart, called, signals, goes_on, replies, reading, refused};
 
     type Call = SpaceCall;
 
@@ -253,6 +253,8 @@ impl Object for Areas {
     ghost apart = { apart };
 
     ghost called = { called };
+
+    ghost signals = { signals };
 
     ghost goes_on = { goes_on };
 

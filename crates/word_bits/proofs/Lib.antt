@@ -1,3 +1,4 @@
 pub mod Fields
 pub mod Modes
 pub mod States
+pub mod Signals

@@ -1,5 +1,6 @@
 //! What a table guards.
-ghost use Rattle.std.specs.Prelude.{◌≡◌, ◌≢◌, ◌≤◌, ◌<◌, ◌^◌, ℕ, true, length, replicate, Some, IfSome, IfNone};
+ghost use Rattle.std.specs.Prelude.{◌≡◌, ◌≢◌, ◌≤◌, ◌<◌, ◌^◌, ℕ, true, length, replicate, None, Some, IfSome, IfNone};
+ghost use Rattle.word_bits.specs.Calls.{signal_of};
 ghost use Rattle.word_bits.specs.Objects.{Obj, IsObjectReply};
 ghost use Rattle.word_bits.specs.declared.call.CallWords.{CallWords};
 ghost use Rattle.word_bits.specs.declared.reply.Errno.{Errno};
@@ -66,6 +67,8 @@ pub trait Object: Sized {
     ghost apart: { (s t : object.State) → object.IsState s → object.IsState t → object.stores s ≡ object.stores t → s ≡ t };
 
     ghost called: { (words : CallWords) (call : Self.Call) → object.call_of words ≡ Some call → object.IsCall call };
+
+    ghost signals: { (words : CallWords) (task : ℕ) → signal_of words ≡ Some task → object.call_of words ≡ None };
 
     ghost goes_on: { (s : object.State) (call : Self.Call) → object.IsState s → object.IsCall call → object.IsState (object.meaning s call).0 };
 
