@@ -23,7 +23,8 @@ use Rattle.task_script.specs.Sound.{IsAccess, IsInRange, only, IsCall}
 use Rattle.task_script.specs.Texts.{prot_text, access_text, argument_text, arguments_text, verb_of_kind, values_of, verb_and_arguments}
 use Rattle.task_script.proofs.Accepted.{text_same}
 use Rattle.task_script.proofs.Decimals.{number-decimal, digits-decimal, some-decimal}
-use Rattle.task_script.proofs.Splitting.{is_visible, is_clean, words-cut, words-visible, clean-visible, clean-append}
+use Rattle.task_script.specs.Padding.{is_visible}
+use Rattle.task_script.proofs.Splitting.{is_clean, words-cut, words-visible, clean-visible, clean-append}
 
 -- values whose fields can be packed
 pub record AreSmall (v : Values) : Type 0 where

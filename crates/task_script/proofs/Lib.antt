@@ -13,3 +13,5 @@ mod Splitting
 mod Verbs
 pub mod Ways
 pub mod Pieces
+pub mod Padding
+pub mod Inner

@@ -19,7 +19,8 @@ use Rattle.task_script.specs.Texts.{mode_text, declaration_text, name_at, named_
 use Rattle.task_script.specs.Grammar.{place_of, with_call, line_of, declare_line, call_line, line_of_words, line_after, then_lines, lines_after, script_of}
 use Rattle.task_script.proofs.CallTexts.{IsCallText, call_text_is}
 use Rattle.task_script.proofs.Reading.{short_script}
-use Rattle.task_script.proofs.Splitting.{is_visible, is_clean, words-cut, words-visible, clean-visible, clean-append, clean_line}
+use Rattle.task_script.specs.Padding.{is_visible}
+use Rattle.task_script.proofs.Splitting.{is_clean, words-cut, words-visible, clean-visible, clean-append, clean_line}
 
 -- reading this text leads from a script to a script, whatever line it begins at and whatever stands behind it
 abbrev Reaches : (s t : Listing) → List ℕ → Type 0

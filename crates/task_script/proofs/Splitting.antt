@@ -8,6 +8,7 @@ use Rattle.std.proofs.lemmas.List.Elements.{filter-append}
 use Rattle.std.proofs.lemmas.List.Folds.{list_all-append}
 use Rattle.task_script.specs.Cuts.{is_blank, is_empty, is_plain, lines, uncommented, without_return, words}
 use Rattle.task_script.specs.Scripts.{Listing}
+use Rattle.task_script.specs.Padding.{is_visible}
 use Rattle.task_script.specs.Grammar.{said, text_after, line_after, then_lines, lines_after}
 
 -- there is a first part
@@ -33,13 +34,9 @@ slice_split-cut p (x ∷ xs) y ys cuts = go (p x) (some_part p xs) (slice_split-
 pub words-cut : (xs ys : List ℕ) → words (xs ++ 32 ∷ ys) ≡ words xs ++ words ys
 words-cut xs ys = ap (filter (λ w. not (is_empty w))) (slice_split-cut is_blank xs 32 ys refl) ∙ filter-append (λ w. not (is_empty w)) (slice_split is_blank xs) (slice_split is_blank ys)
 
--- a byte of a word: visible, and not that of a comment
-abbrev pub is_visible : ℕ → Bool
-is_visible b = (nat_le 33 b && nat_le b 126) && not (b == 35)
-
--- a byte of a line: that, or a space
+-- a byte of a line in front of a comment
 abbrev pub is_clean : ℕ → Bool
-is_clean b = (nat_le 32 b && nat_le b 126) && not (b == 35)
+is_clean b = is_plain b && not (b == 35)
 
 visible_clean : (b : ℕ) → is_visible b ≡ true → is_clean b ≡ true
 visible_clean b is = grind (arith, nat_tests)
@@ -47,11 +44,11 @@ visible_clean b is = grind (arith, nat_tests)
 visible_full : (b : ℕ) → is_visible b ≡ true → is_blank b ≡ false
 visible_full b is = grind (arith, nat_tests)
 
-clean_plain : (b : ℕ) → is_clean b ≡ true → is_plain b ≡ true
+pub clean_plain : (b : ℕ) → is_clean b ≡ true → is_plain b ≡ true
 clean_plain b is = grind (arith, nat_tests)
 
 -- where a test passes for each element that passes another
-list_all-weaker : (p q : ℕ → Bool) → ((b : ℕ) → p b ≡ true → q b ≡ true) → (bs : List ℕ) → list_all p bs ≡ true → list_all q bs ≡ true
+pub list_all-weaker : (p q : ℕ → Bool) → ((b : ℕ) → p b ≡ true → q b ≡ true) → (bs : List ℕ) → list_all p bs ≡ true → list_all q bs ≡ true
 list_all-weaker p q weaker [] all = refl
 list_all-weaker p q weaker (b ∷ bs) all =
     let parts = and_parts (p b) (list_all p bs) all in
@@ -80,7 +77,7 @@ clean_line_end b is = grind (arith, nat_tests)
 clean_return : (b : ℕ) → is_clean b ≡ true → (b == 13) ≡ false
 clean_return b is = grind (arith, nat_tests)
 
-clean_comment : (b : ℕ) → is_clean b ≡ true → (b == 35) ≡ false
+pub clean_comment : (b : ℕ) → is_clean b ≡ true → (b == 35) ≡ false
 clean_comment b is = grind (arith, nat_tests)
 
 -- a clean line says itself
@@ -95,8 +92,11 @@ all_before (b ∷ bs) all =
     let parts = and_parts (is_clean b) (list_all is_clean bs) all in
     rw (clean_comment b parts.0, all_before bs parts.1) (omega arith)
 
-said-clean : (bs : List ℕ) → list_all is_clean bs ≡ true → said bs ≡ bs
-said-clean bs all = ap uncommented (without_return-clean bs all) ∙ take_all (position_or_len (λ b. b == 35) bs) bs (omega (arith, all_before bs all))
+pub uncommented-clean : (bs : List ℕ) → list_all is_clean bs ≡ true → uncommented bs ≡ bs
+uncommented-clean bs all = take_all (position_or_len (λ b. b == 35) bs) bs (omega (arith, all_before bs all))
+
+pub said-clean : (bs : List ℕ) → list_all is_clean bs ≡ true → said bs ≡ bs
+said-clean bs all = ap uncommented (without_return-clean bs all) ∙ uncommented-clean bs all
 
 text_after-clean : (s : Listing) (bs : List ℕ) → list_all is_clean bs ≡ true → text_after s bs ≡ line_after s (words bs)
 text_after-clean s bs all = rw (said-clean bs all, list_all-weaker is_clean is_plain clean_plain bs all) refl

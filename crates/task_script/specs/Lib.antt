@@ -11,3 +11,4 @@ pub mod Readings
 pub mod Rooms
 pub mod Memories
 pub mod Sound
+pub mod Padding

@@ -4,6 +4,7 @@
 
 mod cut;
 mod draft;
+mod laws;
 mod memory;
 mod outbox;
 mod reader;
@@ -17,6 +18,7 @@ mod token;
 mod verb;
 mod writer;
 
+pub use laws::padding_is_passed_over;
 pub use memory::{MemSink, MemSource};
 pub use outbox::Outbox;
 pub use reader::{ScriptError, read};

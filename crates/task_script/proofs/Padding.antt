@@ -1,0 +1,108 @@
+-- Padded lines are read as their words.
+use Rattle.std.proofs.Common.{◌≡◌, ℕ, ◌+◌, ◌<◌, ◌≤◌, Bool, true, false, not, ◌==◌, List, [], ◌∷◌, ◌++◌, filter, length, refl, sym, ap, ◌∙◌, subst, arith, append_assoc, append-nil, ◌⊎◌, inl, inr, Result, Ok, Err}
+use Rattle.std.specs.List.{list_all, slice_split, position_or_len}
+use Rattle.std.proofs.lemmas.Bool.{and_parts}
+use Rattle.std.proofs.lemmas.Bool.Decides.{nat_tests}
+use Rattle.std.proofs.lemmas.List.{take_at}
+use Rattle.std.proofs.lemmas.List.Elements.{filter-append}
+use Rattle.task_script.specs.declared.reason.Reason.{Reason}
+use Rattle.task_script.specs.Cuts.{is_blank, is_empty, is_plain, lines, uncommented, without_return, words}
+use Rattle.task_script.specs.Verbs.{and_then}
+use Rattle.task_script.specs.Scripts.{Listing, nothing}
+use Rattle.task_script.specs.Grammar.{Accepted, said, line_after, text_after, then_lines, lines_after, script_of}
+use Rattle.task_script.specs.Padding.{is_visible, IsWord, IsCutOff, AreSpread, IsComment, IsPadded, ArePadded, worded, outcome, PaddingIsPassedOver}
+use Rattle.task_script.proofs.Cutting.{drops_return}
+use Rattle.task_script.proofs.Reading.{short_script}
+use Rattle.task_script.proofs.Splitting.{is_clean, clean-visible, clean-append, clean_comment, clean_plain, list_all-weaker, said-clean, slice_split-cut, uncommented-clean, words-visible}
+
+blank_clean : (b : ℕ) → is_blank b ≡ true → is_clean b ≡ true
+blank_clean b is = grind (arith, nat_tests)
+
+-- ---- words
+
+words_behind : (blanks xs : List ℕ) → list_all is_blank blanks ≡ true → words (blanks ++ xs) ≡ words xs
+words_behind [] xs all = refl
+words_behind (b ∷ blanks) xs all =
+    let parts = and_parts (is_blank b) (list_all is_blank blanks) all in
+    ap (filter (λ w. not (is_empty w))) (slice_split-cut is_blank [] b (blanks ++ xs) parts.0) ∙ words_behind blanks xs parts.1
+
+words_blank : (blanks : List ℕ) → list_all is_blank blanks ≡ true → words blanks ≡ []
+words_blank blanks all = ap words (sym (append-nil blanks)) ∙ words_behind blanks [] all
+
+words_word : (w : List ℕ) → IsWord w → words w ≡ w ∷ []
+words_word [] is = absurd (omega arith)
+words_word (b ∷ bs) is = words-visible b bs is.1
+
+words_first : (w rest : List ℕ) → IsWord w → IsCutOff rest → words (w ++ rest) ≡ w ∷ words rest
+words_first w [] is cut = ap words (append-nil w) ∙ words_word w is
+words_first w (b ∷ bs) is cut =
+    ap (filter (λ v. not (is_empty v))) (slice_split-cut is_blank w b bs cut) ∙ filter-append (λ v. not (is_empty v)) (slice_split is_blank w) (slice_split is_blank bs)
+    ∙ ap (λ ws. ws ++ words bs) (words_word w is) ∙ ap (λ ws. w ∷ ws) (sym (ap (filter (λ v. not (is_empty v))) (slice_split-cut is_blank [] b bs cut)))
+
+words_spread : (ws : List (List ℕ)) (line : List ℕ) → AreSpread ws line → words line ≡ ws
+words_spread [] line all = words_blank line all
+words_spread (w ∷ ws) line (blanks, rest, is, all, word, cut, more) =
+    ap words (is ∙ append_assoc blanks w rest) ∙ words_behind blanks (w ++ rest) all ∙ words_first w rest word cut ∙ ap (λ vs. w ∷ vs) (words_spread ws rest more)
+
+spread_clean : (ws : List (List ℕ)) (line : List ℕ) → AreSpread ws line → list_all is_clean line ≡ true
+spread_clean [] line all = list_all-weaker is_blank is_clean blank_clean line all
+spread_clean (w ∷ ws) line (blanks, rest, is, all, word, cut, more) =
+    ap (list_all is_clean) is ∙ clean-append (blanks ++ w) rest (clean-append blanks w (list_all-weaker is_blank is_clean blank_clean blanks all) (clean-visible w word.1)) (spread_clean ws rest more)
+
+-- ---- lines
+
+kept_front : (front xs : List ℕ) (x : ℕ) → without_return (front ++ x ∷ xs) ≡ front ++ without_return (x ∷ xs)
+kept_front [] xs x = refl
+kept_front (f ∷ []) xs x = refl
+kept_front (f ∷ g ∷ front) xs x = ap (λ l. f ∷ l) (kept_front (g ∷ front) xs x)
+
+comment_begins : (xs : List ℕ) → (ys : List ℕ) × (without_return (35 ∷ xs) ≡ 35 ∷ ys)
+comment_begins [] = ([], refl)
+comment_begins (x ∷ xs) = (without_return (x ∷ xs), refl)
+
+before_comment : (front ys : List ℕ) → list_all is_clean front ≡ true → position_or_len (λ b. b == 35) (front ++ 35 ∷ ys) ≡ length front
+before_comment [] ys all = refl
+before_comment (b ∷ bs) ys all =
+    let parts = and_parts (is_clean b) (list_all is_clean bs) all in
+    rw (clean_comment b parts.0, before_comment bs ys parts.1) (omega arith)
+
+cut_comment : (front ys : List ℕ) → list_all is_clean front ≡ true → uncommented (front ++ 35 ∷ ys) ≡ front
+cut_comment front ys all = take_at front (35 ∷ ys) (position_or_len (λ b. b == 35) (front ++ 35 ∷ ys)) (sym (before_comment front ys all))
+
+said_padded : (front comment end : List ℕ) → list_all is_clean front ≡ true → IsComment comment → (end ≡ []) ⊎ (end ≡ 13 ∷ []) → said (front ++ (comment ++ end)) ≡ front
+said_padded front [] end all is (inl none) = ap (λ e. said (front ++ e)) none ∙ ap said (append-nil front) ∙ said-clean front all
+said_padded front [] end all is (inr one) = ap (λ e. said (front ++ e)) one ∙ ap uncommented (sym (drops_return (front ++ 13 ∷ []) front refl)) ∙ uncommented-clean front all
+said_padded front (b ∷ bs) end all is ends =
+    let begun = comment_begins (bs ++ end) in
+    ap (λ c. said (front ++ c ∷ (bs ++ end))) is ∙ ap uncommented (kept_front front (bs ++ end) 35 ∙ ap (λ l. front ++ l) begun.1) ∙ cut_comment front begun.0 all
+
+text_after_padded : (s : Listing) (ws : List (List ℕ)) (line : List ℕ) → IsPadded ws line → text_after s line ≡ line_after s ws
+text_after_padded s ws line (front, comment, end, is, spread, commented, ends) =
+    let clean = spread_clean ws front spread in
+    let says : said line ≡ front = ap said is ∙ said_padded front comment end clean commented ends in
+    let plain : list_all is_plain front ≡ true = list_all-weaker is_clean is_plain clean_plain front clean in
+    rw (says, plain, words_spread ws front spread) refl
+
+-- ---- texts
+
+read_words : Listing → List (List (List ℕ)) → Accepted
+read_words s [] = Ok s
+read_words s (ws ∷ wss) = and_then (line_after s ws) (λ t. read_words t wss)
+
+outcome_lines : (n : ℕ) (s : Listing) (wss : List (List (List ℕ))) (ls : List (List ℕ)) → ArePadded wss ls → outcome (lines_after n s ls) ≡ read_words s (worded wss)
+unfolding read_words
+outcome_lines n s [] [] padded = refl
+outcome_lines n s [] (l ∷ ls) padded = absurd padded
+outcome_lines n s (ws ∷ wss) [] padded = absurd padded
+outcome_lines n s ([] ∷ wss) (l ∷ ls) (line, more) = rw (text_after_padded s [] l line) (outcome_lines (n + 1) s wss ls more)
+outcome_lines n s ((w ∷ ws) ∷ wss) (l ∷ ls) (line, more) = rw (text_after_padded s (w ∷ ws) l line) (go (line_after s (w ∷ ws)) (λ t. outcome_lines (n + 1) t wss ls more))
+  where
+    go : (a : Accepted) → ((t : Listing) → outcome (lines_after (n + 1) t ls) ≡ read_words t (worded wss)) → outcome (then_lines n a (λ t. lines_after (n + 1) t ls)) ≡ and_then a (λ t. read_words t (worded wss))
+    go (Ok t) rest = rest t
+    go (Err reason) rest = refl
+
+-- a text is read as the words of its lines
+pub padding_is_passed_over : PaddingIsPassedOver
+padding_is_passed_over text other wss vss short short_other padded padded_other same =
+    ap outcome (short_script text short) ∙ outcome_lines 1 nothing wss (lines text) padded ∙ ap (read_words nothing) same
+    ∙ sym (outcome_lines 1 nothing vss (lines other) padded_other) ∙ ap outcome (sym (short_script other short_other))
