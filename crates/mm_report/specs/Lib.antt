@@ -3,3 +3,4 @@ pub mod Text
 pub mod Lending
 pub mod Merged
 pub mod Cursors
+pub mod Telling

@@ -3,6 +3,7 @@
 
 mod cursor;
 mod history;
+mod laws;
 mod line;
 mod results;
 mod state;
@@ -10,5 +11,6 @@ mod state;
 mod tests;
 mod text;
 
+pub use laws::text_determines_histories;
 pub use results::Results;
 pub use text::report;
