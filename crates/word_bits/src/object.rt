@@ -47,8 +47,10 @@ pub trait Object: Sized {
     /// The value that the words store. `None` where they store no value.
     fn load(words: &[u64]) -> Option<Self>
         requires { length words.now ≡ WORDS }
-        ensures found { IfSome result (λ v. object.IsState (state v) × (object.stores (state v) ≡ words.now)) }
-        ensures none { IfNone result ((s : object.State) → object.IsState s → object.stores s ≢ words.now) };
+        ensures found { IfSome result (λ v.
+            object.IsState (state v) × (object.stores (state v) ≡ words.now)) }
+        ensures none { IfNone result ((s : object.State) →
+            object.IsState s → object.stores s ≢ words.now) };
 
     /// Writes the words that store the value.
     fn store(&self, out: &mut [u64])
@@ -64,17 +66,24 @@ pub trait Object: Sized {
 
     ghost zeros: { object.stores object.empty ≡ replicate WORDS 0 };
 
-    ghost apart: { (s t : object.State) → object.IsState s → object.IsState t → object.stores s ≡ object.stores t → s ≡ t };
+    ghost apart: { (s t : object.State) →
+        object.IsState s → object.IsState t → object.stores s ≡ object.stores t → s ≡ t };
 
-    ghost called: { (words : CallWords) (call : Self.Call) → object.call_of words ≡ Some call → object.IsCall call };
+    ghost called: { (words : CallWords) (call : Self.Call) →
+        object.call_of words ≡ Some call → object.IsCall call };
 
-    ghost signals: { (words : CallWords) (task : ℕ) → signal_of words ≡ Some task → object.call_of words ≡ None };
+    ghost signals: { (words : CallWords) (task : ℕ) →
+        signal_of words ≡ Some task → object.call_of words ≡ None };
 
-    ghost goes_on: { (s : object.State) (call : Self.Call) → object.IsState s → object.IsCall call → object.IsState (object.meaning s call).0 };
+    ghost goes_on: { (s : object.State) (call : Self.Call) →
+        object.IsState s → object.IsCall call → object.IsState (object.meaning s call).0 };
 
-    ghost replies: { (s : object.State) (call : Self.Call) → object.IsState s → object.IsCall call → IsObjectReply (object.meaning s call).1 };
+    ghost replies: { (s : object.State) (call : Self.Call) →
+        object.IsState s → object.IsCall call → IsObjectReply (object.meaning s call).1 };
 
-    ghost reading: { (s : object.State) (call : Self.Call) → object.reads call ≡ true → (object.meaning s call).0 ≡ s };
+    ghost reading: { (s : object.State) (call : Self.Call) →
+        object.reads call ≡ true → (object.meaning s call).0 ≡ s };
 
-    ghost refused: { (s : object.State) (call : Self.Call) (errno : Errno) → (object.meaning s call).1 ≡ Refused errno → (object.meaning s call).0 ≡ s };
+    ghost refused: { (s : object.State) (call : Self.Call) (errno : Errno) →
+        (object.meaning s call).1 ≡ Refused errno → (object.meaning s call).0 ≡ s };
 }
