@@ -5,6 +5,7 @@
 mod cut;
 mod draft;
 mod laws;
+mod generator;
 mod memory;
 mod outbox;
 mod reader;
@@ -19,6 +20,7 @@ mod verb;
 mod writer;
 
 pub use laws::padding_is_passed_over;
+pub use generator::generate;
 pub use memory::{MemSink, MemSource};
 pub use outbox::Outbox;
 pub use reader::{ScriptError, read};
