@@ -1,12 +1,12 @@
 -- What the program answers, and what it has written then.
-use Rattle.std.specs.Prelude.{◌≡◌, ◌≤◌, ℕ, List, length, Option, IfSome, Ok, ◌⊎◌}
+use Rattle.std.specs.Prelude.{◌≡◌, ◌≤◌, ℕ, false, List, length, Option, IfSome, Ok, ◌⊎◌}
 use Rattle.std.specs.Io.KnownBytes.{Appends, Consumes, Keeps}
 use Rattle.word_bits.specs.Snapshots.{Words}
 use Rattle.task_script.specs.Causes.{Fronts, one_more}
 use Rattle.task_script.specs.Scripts.{Listing}
 use Rattle.task_script.specs.Grammar.{script_of}
 use Rattle.mm_report.specs.Results.{Told, AreLegal}
-use Rattle.mm_report.specs.Text.{text_of}
+use Rattle.mm_report.specs.Reports.{report_of}
 use Rattle.mm_main.specs.declared.status.Status.{Status}
 use Rattle.mm_main.specs.declared.status.Status.TheVariants.{Done, Usage, Refused, ReadFault, WriteFault, NoMemory}
 use Rattle.mm_main.specs.Serial.{NoneKeptOff}
@@ -14,7 +14,7 @@ use Rattle.mm_main.specs.Requests.{Request, misused, refused, accepted, request,
 
 -- there are results, legal for the script and without a call that was kept off its object, of whose text this holds
 abbrev pub OfResults : Listing → (List ℕ → Type 0) → Type 0
-OfResults s P = (results : List Words) × (told : List Told) × AreLegal s results told × NoneKeptOff told × P (text_of s told)
+OfResults s P = (results : List Words) × (told : List Told) × AreLegal s results told × NoneKeptOff told × P (report_of false s told)
 
 -- Each status has its cause, and says what was written. Read and write say that the count of that stream's faults rose.
 abbrev pub Says : Request → (read write : Type 0) → (old new : Option (List ℕ)) → Status → Type 0
