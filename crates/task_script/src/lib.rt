@@ -29,6 +29,7 @@ pub use script::{Line, Script};
 pub use sink::{Sink, put};
 pub use source::{Failed, Source};
 pub use stream::{ReadSource, WriteSink};
+pub use token::number_of;
 pub use writer::{write, write_declaration};
 
 #[cfg(test)]
