@@ -94,3 +94,7 @@ options_are f spin overdue generate summary a b c d =
 -- the fault of a command that is this one
 pub fault_found : (a : App) (words : List Text) (k j : ErrorKind) → a ≡ the_command → k ≡ j → (j ≡ OutOfMemory) ⊎ IsAmong j (fault_of a words) → (k ≡ OutOfMemory) ⊎ IsAmong k (fault_of the_command words)
 fault_found a words k j is same fault = subst (λ b. (k ≡ OutOfMemory) ⊎ IsAmong k (fault_of b words)) is (subst (λ x. (x ≡ OutOfMemory) ⊎ IsAmong x (fault_of a words)) (sym same) fault)
+
+-- who answers that the words are no command line says so of them
+pub misused_says : (said : Option Options) (e : OptionsError) → e ≡ Misused → Gives said (Err e) → said ≡ None
+misused_says said e is gives = subst (λ x. Gives said (Err x)) is gives
