@@ -19,7 +19,7 @@ use Rattle.clap.proofs.WalkLemmas.{find_row, first_value-rows}
 use Rattle.mm_main.specs.declared.options.Options.{Options}
 use Rattle.mm_main.specs.declared.options.OptionsError.{OptionsError}
 use Rattle.mm_main.specs.declared.options.OptionsError.TheVariants.{Misused}
-use Rattle.mm_main.specs.CommandLine.{is_from_words, is_used, number_if_used, number_or, options_from, options_of, options_with, the_command, unless_faulty}
+use Rattle.mm_main.specs.CommandLine.{JoinedOptionsSay, is_from_words, is_used, number_if_used, number_or, options_from, options_of, options_with, the_command, unless_faulty}
 use Rattle.mm_main.specs.Parsed.{Gives, error_of}
 
 -- of this command clap says exactly what it takes
@@ -98,3 +98,12 @@ fault_found a words k j is same fault = subst (λ b. (k ≡ OutOfMemory) ⊎ IsA
 -- who answers that the words are no command line says so of them
 pub misused_says : (said : Option Options) (e : OptionsError) → e ≡ Misused → Gives said (Err e) → said ≡ None
 misused_says said e is gives = subst (λ x. Gives said (Err x)) is gives
+
+-- no words say what each option gives where it isn't used
+pub no_words : options_of [] ≡ Some (record { spin = 100; overdue = 4; generate = None; summary = false })
+unfolding options_of clap_on_literals
+no_words = refl
+
+pub joined_options_say : JoinedOptionsSay
+unfolding options_of clap_on_literals
+joined_options_say spin overdue generate = refl

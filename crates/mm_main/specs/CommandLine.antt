@@ -1,5 +1,5 @@
 -- The command line: four options, and which numbers they take.
-use Rattle.std.specs.Prelude.{ℕ, ◌-◌, ◌^◌, nat_le, Bool, true, false, List, [], ◌∷◌, Option, Some, None, find, option_and_then, option_map, if◌then◌else◌, codes}
+use Rattle.std.specs.Prelude.{◌≡◌, ℕ, ◌-◌, ◌^◌, ◌++◌, nat_le, Bool, true, false, List, [], ◌∷◌, Option, Some, None, find, option_and_then, option_map, if◌then◌else◌, codes}
 use Rattle.std.specs.Option.{option_map_or}
 use Rattle.std.specs.Str.{bytes_eq}
 use Rattle.clap.specs.Kinds.{Kinds}
@@ -66,3 +66,9 @@ unless_faulty (kind ∷ kinds) said = None
 -- what the words say, where the command takes them and each value is a number in its range
 unfoldable pub options_of : (words : List Text) → Option Options
 options_of words = unless_faulty (fault_of the_command words) (options_from (matches_of the_command words))
+
+-- each option, joined to its value, says it
+abbrev pub JoinedOptionsSay : Type 0
+JoinedOptionsSay =
+    (spin overdue generate : Text) → options_of ((codes "--spin=" ++ spin) ∷ (codes "--overdue=" ++ overdue) ∷ (codes "--generate=" ++ generate) ∷ codes "--summary" ∷ [])
+    ≡ options_with (number_up_to 1000000 spin) (number_up_to 1000000 overdue) (number_if_used (Some generate)) true

@@ -1,11 +1,11 @@
 //! The options of the command line.
-ghost use Rattle.std.specs.Prelude.{◌≡◌, IfOk, false, map, option_map, string_bytes};
+ghost use Rattle.std.specs.Prelude.{◌≡◌, [], IfOk, Some, false, map, option_map, string_bytes};
 ghost use Rattle.clap.specs.Matches.{found_of};
 ghost use Rattle.clap.specs.Simple.{app_of};
 ghost use Rattle.clap.specs.Walk.{rows_of, rule_of};
 ghost use Rattle.mm_main.specs.CommandLine.{flag_rule, is_from_words, number_if_used, number_or};
 ghost use Rattle.mm_main.specs.CommandLine.{number_up_to, options_from, options_of, the_command};
-ghost use Rattle.mm_main.specs.CommandLine.{value_rule};
+ghost use Rattle.mm_main.specs.CommandLine.{JoinedOptionsSay, value_rule};
 ghost use Rattle.mm_main.specs.Parsed.{Gives, error_of};
 
 use clap::error::ErrorKind;
@@ -113,6 +113,24 @@ impl Options {
             summary: is_from_words(matches.value_source("summary")),
         })
     }
+
+    /// What no words say.
+    pub(crate) fn of_no_words() -> Options
+        ensures { options_of [] ≡ Some result }
+    {
+        Options {
+            spin: 100,
+            overdue: 4,
+            generate: None,
+            summary: false,
+        }
+    }
+
+    /// Each option, joined to its value, says it.
+    #[tactic(auto, using(crate::proofs::CommandLines::joined_options_say))]
+    pub(crate) fn joined_options_say()
+        ensures { JoinedOptionsSay }
+    {}
 
     /// Reads the words behind the program's name.
     ///

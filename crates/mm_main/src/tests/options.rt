@@ -1,5 +1,6 @@
 //! What the words of the command line do.
 use super::{ORDINARY, ORDINARY_TEXT, Outcome};
+use crate::options::Options;
 use crate::program::top;
 use crate::status::Status;
 use std::alloc::{AllocError, Global};
@@ -72,4 +73,11 @@ fn refuses_other_words_unread(rt: HostRuntime) -> Result<(), Fail> {
         assert_eq!(rt; written.as_slice(), USAGE.as_bytes(), "{words:?}");
     }
     Ok(())
+}
+
+#[test]
+fn reads_no_words(rt: HostRuntime) {
+    Options::joined_options_say();
+    let options = Options::read(rt.alloc(), &[]);
+    assert_eq!(rt; options, Ok(Options::of_no_words()));
 }
