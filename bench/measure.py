@@ -1,7 +1,8 @@
 """Runs a program on scripts of two shapes, and prints the time and the memory that it takes.
 
 One task on one space, near 256 areas; and 64 tasks on 8 spaces and 8 tables. Of both shapes scripts
-of several lengths are run, so that a time that grows faster than the length shows.
+of several lengths are run, so that a time that grows faster than the length shows. Beside them a
+script that the program generates is run, with its summary.
 """
 import os
 import subprocess
@@ -73,15 +74,22 @@ SHAPES = {
 }
 
 
-def once(program, path):
+def once(command, path):
     """The seconds and the largest memory in KiB of one run."""
     before = time.perf_counter()
     with open(path, "rb") as text, open(os.devnull, "wb") as sink:
-        child = subprocess.Popen([program], stdin=text, stdout=sink)
+        child = subprocess.Popen(command, stdin=text, stdout=sink)
         _, status, usage = os.wait4(child.pid, 0)
     if status:
-        raise SystemExit(f"{program} ended with {status}")
+        raise SystemExit(f"{command} ended with {status}")
     return time.perf_counter() - before, usage.ru_maxrss
+
+
+def report(shape, size, command, path):
+    """Runs the command some times, and prints a row."""
+    runs = sorted(once(command, path) for _ in range(RUNS))
+    memory = max(m for _, m in runs)
+    print(f"{shape:<22} {size:>9} {runs[0][0] * 1000:>9.1f} {runs[RUNS // 2][0] * 1000:>10.1f} {memory:>8}")
 
 
 def main():
@@ -92,9 +100,8 @@ def main():
             with tempfile.NamedTemporaryFile("w", suffix=".script") as file:
                 file.write(script(size))
                 file.flush()
-                runs = sorted(once(program, file.name) for _ in range(RUNS))
-            memory = max(m for _, m in runs)
-            print(f"{shape:<22} {size:>9} {runs[0][0] * 1000:>9.1f} {runs[RUNS // 2][0] * 1000:>10.1f} {memory:>8}")
+                report(shape, size, [program], file.name)
+    report("generated, summary", "", [program, "--generate", "7", "--summary"], os.devnull)
 
 
 main()

@@ -1,5 +1,6 @@
 -- What was read decides as the whole input does.
-use Rattle.std.proofs.Common.{◌≡◌, ℕ, ◌+◌, ◌<◌, ◌≤◌, true, List, [], ◌++◌, length, length-append, append_assoc, sym, refl, ap, ◌∙◌, arith, append-nil, Option, Some, None, Result, Ok, Err, nat_lt, ◌⊎◌, inl, inr, subst}
+use Rattle.std.specs.Prelude.{is_none}
+use Rattle.std.proofs.Common.{◌≡◌, ℕ, ◌+◌, ◌<◌, ◌≤◌, Bool, true, List, [], ◌++◌, length, length-append, append_assoc, sym, refl, ap, ◌∙◌, arith, append-nil, Option, Some, None, Result, Ok, Err, nat_lt, ◌⊎◌, inl, inr, subst}
 use Rattle.std.proofs.lemmas.Bool.{cases_lt}
 use Rattle.std.proofs.lemmas.Bool.Decides.{nat_tests}
 use Rattle.std.specs.Option.{IfSome}
@@ -8,8 +9,10 @@ use Rattle.task_script.specs.Scripts.{Listing}
 use Rattle.task_script.specs.Grammar.{Refusal, script_of}
 use Rattle.mm_main.specs.declared.status.Status.{Status}
 use Rattle.mm_main.specs.declared.status.Status.TheVariants.{Done, Usage, Refused, ReadFault, WriteFault, NoMemory}
-use Rattle.mm_main.specs.Requests.{Request, misused, refused, accepted, request, request_of}
-use Rattle.mm_main.specs.Answers.{Says, OfResults, Answers, Completes, TakesAtMost, read_faults}
+use Rattle.task_script.specs.Generated.{generated}
+use Rattle.mm_main.specs.declared.options.Options.{Options}
+use Rattle.mm_main.specs.Requests.{Request, misused, refused, accepted, reads_input, request, request_of, script_for}
+use Rattle.mm_main.specs.Answers.{Says, OfResults, Answers, Completes, GivesScript, TakesAtMost, read_faults}
 
 Keeps-refl : (a : Option (List ℕ)) → Keeps a a
 Keeps-refl None = tt
@@ -32,12 +35,6 @@ pub any_input : (a : Option (List ℕ)) → (input : List ℕ) × IfSome a (λ t
 any_input None = ([], tt)
 any_input (Some told) = (told, refl)
 
-pub with_words : (words : ℕ) (input : List ℕ) → 0 < words → request words input ≡ misused
-with_words words input some = let p : nat_lt 0 words ≡ true = grind (arith, nat_tests) in rw p refl
-
-pub without_words : (words : ℕ) (input : List ℕ) → words ≡ 0 → request words input ≡ request_of (script_of input)
-without_words words input none = rw none refl
-
 -- what is said where no read failed is said
 pub said : (r t : Request) (read write : Type 0) (old new : Option (List ℕ)) (s : Status) → t ≡ r → Says r ⊥ write old new s → Says t read write old new s
 said r t read write old new s e h = subst (λ q. Says q read write old new s) (sym e) (more r s h)
@@ -55,18 +52,18 @@ said r t read write old new s e h = subst (λ q. Says q read write old new s) (s
     more (refused p) ReadFault h = absurd h.0
     more (refused p) WriteFault h = h
     more (refused p) NoMemory h = h
-    more (accepted p) Done h = h
-    more (accepted p) Usage h = h
-    more (accepted p) Refused h = h
-    more (accepted p) ReadFault h = absurd h.0
-    more (accepted p) WriteFault h = h
-    more (accepted p) NoMemory h = h
+    more (accepted summary p) Done h = h
+    more (accepted summary p) Usage h = h
+    more (accepted summary p) Refused h = h
+    more (accepted summary p) ReadFault h = absurd h.0
+    more (accepted summary p) WriteFault h = h
+    more (accepted summary p) NoMemory h = h
 
 -- where a read failed nothing was written, whatever the input
-pub said_failed : (input : List ℕ) (words : ℕ) (read write : Type 0) (old : Option (List ℕ)) → words ≡ 0 → read → Says (request words input) read write old old ReadFault
-said_failed input words read write old none cause = subst (λ q. Says q read write old old ReadFault) (sym (without_words words input none)) (failed (script_of input))
+pub said_failed : (input : List ℕ) (summary : Bool) (read write : Type 0) (old : Option (List ℕ)) → read → Says (request_of summary (script_of input)) read write old old ReadFault
+said_failed input summary read write old cause = failed (script_of input)
   where
-    failed : (q : Result Listing Refusal) → Says (request_of q) read write old old ReadFault
+    failed : (q : Result Listing Refusal) → Says (request_of summary q) read write old old ReadFault
     failed (Ok s) = (cause, Keeps-refl old)
     failed (Err e) = (cause, Keeps-refl old)
 
@@ -74,22 +71,51 @@ said_failed input words read write old none cause = subst (λ q. Says q read wri
 pub said_no_memory : (r : Request) (read write : Type 0) (old : Option (List ℕ)) → Says r read write old old NoMemory
 said_no_memory misused read write old = Keeps-refl old
 said_no_memory (refused r) read write old = Keeps-refl old
-said_no_memory (accepted s) read write old = Keeps-refl old
+said_no_memory (accepted summary s) read write old = Keeps-refl old
 
-complete_for : (s : Listing) (read write : Type 0) (old new : Option (List ℕ)) (status : Status) → Says (accepted s) read write old new status → ¬ read → ¬ write → (status ≡ NoMemory) ⊎ ((status ≡ Done) × OfResults s (Appends old new))
-complete_for s read write old new Done h r w = inr (refl, h)
-complete_for s read write old new Usage h r w = absurd h
-complete_for s read write old new Refused h r w = absurd h
-complete_for s read write old new ReadFault h r w = absurd (r h.0)
-complete_for s read write old new WriteFault h r w = absurd (w h.0)
-complete_for s read write old new NoMemory h r w = inl refl
+complete_for : (summary : Bool) (s : Listing) (read write : Type 0) (old new : Option (List ℕ)) (status : Status) → Says (accepted summary s) read write old new status → ¬ read → ¬ write
+    → (status ≡ NoMemory) ⊎ ((status ≡ Done) × OfResults summary s (Appends old new))
+complete_for summary s read write old new Done h r w = inr (refl, h)
+complete_for summary s read write old new Usage h r w = absurd h
+complete_for summary s read write old new Refused h r w = absurd h
+complete_for summary s read write old new ReadFault h r w = absurd (r h.0)
+complete_for summary s read write old new WriteFault h r w = absurd (w h.0)
+complete_for summary s read write old new NoMemory h r w = inl refl
+
+-- the script that there is is the one of the request
+gives_request : (generate : Option ℕ) (left : Option (List ℕ)) (input : List ℕ) (s : Listing) → IfSome left (λ told. told ≡ input) → GivesScript generate left s → script_for generate input ≡ Ok s
+gives_request (Some number) left input s told given = ap Ok (sym given)
+gives_request None None input s told given = absurd given
+gives_request None (Some xs) input s told given = ap script_of (sym told) ∙ given
 
 -- the table of statuses is complete
-pub completes : (words : ℕ) (left : Option (List ℕ)) (read write : Type 0) (old new : Option (List ℕ)) (status : Status) → Answers words left read write old new status → Completes words left read write old new status
-completes words None read write old new status answer none = tt
-completes words (Some told) read write old new status answer none = λ s is no_read no_write.
-    let same : script_of answer.0 ≡ Ok s = ap script_of (sym answer.1) ∙ is in
-    complete_for s read write old new status (subst (λ q. Says q read write old new status) (without_words words answer.0 none ∙ ap request_of same) answer.2) no_read no_write
+pub completes : (said : Option Options) (left : Option (List ℕ)) (read write : Type 0) (old new : Option (List ℕ)) (status : Status) → Answers (request said) left read write old new status → Completes said left read write old new status
+completes said left read write old new status answer = λ o s is given no_read no_write.
+    let asked : request said answer.0 ≡ accepted o.summary s = ap (λ q. request q answer.0) is ∙ ap (request_of o.summary) (gives_request o.generate left answer.0 s answer.1 given) in
+    complete_for o.summary s read write old new status (subst (λ q. Says q read write old new status) asked answer.2) no_read no_write
+
+-- what is answered to the request of these words
+pub answers_as : (said : Option Options) (asked : List ℕ → Request) (left : Option (List ℕ)) (read write : Type 0) (old new : Option (List ℕ)) (status : Status) → ((input : List ℕ) → asked input ≡ request said input)
+    → Answers asked left read write old new status → Answers (request said) left read write old new status
+answers_as said asked left read write old new status same answer = (answer.0, answer.1, subst (λ q. Says q read write old new status) (same answer.0) answer.2)
+
+-- what is said without the input
+pub answers_any : (asked : List ℕ → Request) (r : Request) (left : Option (List ℕ)) (read write : Type 0) (old new : Option (List ℕ)) (status : Status) → ((input : List ℕ) → asked input ≡ r) → Says r ⊥ write old new status
+    → Answers asked left read write old new status
+answers_any asked r left read write old new status same h = let t = any_input left in (t.0, t.1, said r (asked t.0) read write old new status (same t.0) h)
+
+pub answers_memory : (asked : List ℕ → Request) (left : Option (List ℕ)) (read write : Type 0) (old : Option (List ℕ)) → Answers asked left read write old old NoMemory
+answers_memory asked left read write old = let t = any_input left in (t.0, t.1, said_no_memory (asked t.0) read write old)
+
+-- what words call for, by what they say
+pub asks_generated : (said : Option Options) (o : Options) (number : ℕ) (input : List ℕ) → said ≡ Some o → o.generate ≡ Some number → request said input ≡ accepted o.summary (generated number)
+asks_generated said o number input is generate = ap (λ q. request q input) is ∙ ap (λ g. request_of o.summary (script_for g input)) generate
+
+pub asks_input : (said : Option Options) (o : Options) (input : List ℕ) → said ≡ Some o → o.generate ≡ None → request said input ≡ request_of o.summary (script_of input)
+asks_input said o input is generate = ap (λ q. request q input) is ∙ ap (λ g. request_of o.summary (script_for g input)) generate
+
+pub reads_as : (said : Option Options) (o : Options) (g : Option ℕ) → said ≡ Some o → o.generate ≡ g → reads_input said ≡ is_none g
+reads_as said o g is generate = ap reads_input is ∙ ap is_none generate
 
 pub taken_nothing : (a : Option (List ℕ)) → TakesAtMost 1048577 a a
 taken_nothing None = ([], tt, omega arith)
@@ -116,7 +142,7 @@ never_read r write old new ReadFault before h = absurd (no_fault r h)
     no_fault : (q : Request) → Says q ⊥ write old new ReadFault → ⊥
     no_fault misused h = h
     no_fault (refused p) h = h.0
-    no_fault (accepted p) h = h.0
+    no_fault (accepted summary p) h = h.0
 never_read r write old new Done before h = refl
 never_read r write old new Usage before h = refl
 never_read r write old new Refused before h = refl

@@ -1,5 +1,6 @@
 pub mod Serially
 pub mod Steps
 pub mod Wholly
+pub mod CommandLines
 pub mod Inputs
 pub mod Calls

@@ -1,20 +1,22 @@
 -- What the program answers, and what it has written then.
-use Rattle.std.specs.Prelude.{◌≡◌, ◌≤◌, ℕ, List, length, Option, IfSome, Ok, ◌⊎◌}
+use Rattle.std.specs.Prelude.{◌≡◌, ◌≤◌, ℕ, Bool, List, length, Option, Some, None, IfSome, Ok, ◌⊎◌}
 use Rattle.std.specs.Io.KnownBytes.{Appends, Consumes, Keeps}
 use Rattle.word_bits.specs.Snapshots.{Words}
 use Rattle.task_script.specs.Causes.{Fronts, one_more}
 use Rattle.task_script.specs.Scripts.{Listing}
+use Rattle.task_script.specs.Generated.{generated}
 use Rattle.task_script.specs.Grammar.{script_of}
 use Rattle.mm_report.specs.Results.{Told, AreLegal}
-use Rattle.mm_report.specs.Text.{text_of}
+use Rattle.mm_report.specs.Reports.{report_of}
+use Rattle.mm_main.specs.declared.options.Options.{Options}
 use Rattle.mm_main.specs.declared.status.Status.{Status}
 use Rattle.mm_main.specs.declared.status.Status.TheVariants.{Done, Usage, Refused, ReadFault, WriteFault, NoMemory}
 use Rattle.mm_main.specs.Serial.{NoneKeptOff}
-use Rattle.mm_main.specs.Requests.{Request, misused, refused, accepted, request, usage_text, refusal_text}
+use Rattle.mm_main.specs.Requests.{Request, misused, refused, accepted, usage_text, refusal_text}
 
--- there are results, legal for the script and without a call that was kept off its object, of whose text this holds
-abbrev pub OfResults : Listing → (List ℕ → Type 0) → Type 0
-OfResults s P = (results : List Words) × (told : List Told) × AreLegal s results told × NoneKeptOff told × P (text_of s told)
+-- there are results, legal for the script and without a call that was kept off its object, of whose text or summary this holds
+abbrev pub OfResults : (summary : Bool) → Listing → (List ℕ → Type 0) → Type 0
+OfResults summary s P = (results : List Words) × (told : List Told) × AreLegal s results told × NoneKeptOff told × P (report_of summary s told)
 
 -- Each status has its cause, and says what was written. Read and write say that the count of that stream's faults rose.
 abbrev pub Says : Request → (read write : Type 0) → (old new : Option (List ℕ)) → Status → Type 0
@@ -30,16 +32,16 @@ Says (refused r) read write old new WriteFault = write × Fronts old new (refusa
 Says (refused r) read write old new NoMemory = Keeps old new
 Says (refused r) read write old new Done = ⊥
 Says (refused r) read write old new Usage = ⊥
-Says (accepted s) read write old new Done = OfResults s (Appends old new)
-Says (accepted s) read write old new ReadFault = read × Keeps old new
-Says (accepted s) read write old new WriteFault = write × OfResults s (Fronts old new)
-Says (accepted s) read write old new NoMemory = Keeps old new
-Says (accepted s) read write old new Usage = ⊥
-Says (accepted s) read write old new Refused = ⊥
+Says (accepted summary s) read write old new Done = OfResults summary s (Appends old new)
+Says (accepted summary s) read write old new ReadFault = read × Keeps old new
+Says (accepted summary s) read write old new WriteFault = write × OfResults summary s (Fronts old new)
+Says (accepted summary s) read write old new NoMemory = Keeps old new
+Says (accepted summary s) read write old new Usage = ⊥
+Says (accepted summary s) read write old new Refused = ⊥
 
 -- the same of the input that the source told, or of some input where it tells none
-abbrev pub Answers : (words : ℕ) → (left : Option (List ℕ)) → (read write : Type 0) → (old new : Option (List ℕ)) → Status → Type 0
-Answers words left read write old new status = (input : List ℕ) × IfSome left (λ told. told ≡ input) × Says (request words input) read write old new status
+abbrev pub Answers : (calls_for : List ℕ → Request) → (left : Option (List ℕ)) → (read write : Type 0) → (old new : Option (List ℕ)) → Status → Type 0
+Answers calls_for left read write old new status = (input : List ℕ) × IfSome left (λ told. told ≡ input) × Says (calls_for input) read write old new status
 
 abbrev pub status_number : Status → ℕ
 status_number Done = 0
@@ -49,10 +51,16 @@ status_number ReadFault = 4
 status_number WriteFault = 5
 status_number NoMemory = 6
 
--- Where there are no words, the input is told and accepted and no count of faults rose, the whole text is written, or there was no memory.
-abbrev pub Completes : (words : ℕ) → (left : Option (List ℕ)) → (read write : Type 0) → (old new : Option (List ℕ)) → Status → Type 0
-Completes words left read write old new status =
-    words ≡ 0 → IfSome left (λ input. (s : Listing) → script_of input ≡ Ok s → ¬ read → ¬ write → (status ≡ NoMemory) ⊎ ((status ≡ Done) × OfResults s (Appends old new)))
+-- there is this script: that of a number, or the one that the source tells
+abbrev pub GivesScript : Option ℕ → (left : Option (List ℕ)) → Listing → Type 0
+GivesScript (Some number) left s = s ≡ generated number
+GivesScript None None s = ⊥
+GivesScript None (Some input) s = script_of input ≡ Ok s
+
+-- Where the words are a command line, there is a script and no count of faults rose, the whole text or summary is written, or there was no memory.
+abbrev pub Completes : Option Options → (left : Option (List ℕ)) → (read write : Type 0) → (old new : Option (List ℕ)) → Status → Type 0
+Completes said left read write old new status =
+    (o : Options) (s : Listing) → said ≡ Some o → GivesScript o.generate left s → ¬ read → ¬ write → (status ≡ NoMemory) ⊎ ((status ≡ Done) × OfResults o.summary s (Appends old new))
 
 -- the count of the source's faults, which is one higher exactly where the status says that a read failed
 abbrev pub read_faults : Status → ℕ → ℕ

@@ -2,3 +2,5 @@ pub mod Serial
 pub mod Requests
 pub mod Answers
 pub mod Inputs
+pub mod CommandLine
+pub mod Parsed

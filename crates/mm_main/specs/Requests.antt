@@ -1,23 +1,36 @@
 -- What the words of the command line and the input call for, and what is then said.
-use Rattle.std.specs.Prelude.{ℕ, nat_lt, List, ◌++◌, codes, decimal, Result, Ok, Err, if◌then◌else◌}
+use Rattle.std.specs.Prelude.{ℕ, Bool, false, List, ◌++◌, codes, decimal, Option, Some, None, is_none, Result, Ok, Err}
 use Rattle.task_script.specs.declared.reason.Reason.{Reason}
 use Rattle.task_script.specs.declared.reason.Reason.TheVariants.{TooLong, Byte, Version, Words, Place, Name, Twice, Limit, Unknown, Call, Mode, Number, Prot, Access}
 use Rattle.task_script.specs.Scripts.{Listing}
+use Rattle.task_script.specs.Generated.{generated}
 use Rattle.task_script.specs.Grammar.{Refusal, script_of}
+use Rattle.mm_main.specs.declared.options.Options.{Options}
 
--- the words are no command line, or the input is refused, or it is a script
+-- the words are no command line, or the input is refused, or it is a script, of which the text or the summary is asked for
 pub data Request : Type 0 where
   misused : Request
   refused : Refusal → Request
-  accepted : Listing → Request
+  accepted : (summary : Bool) → Listing → Request
 
-abbrev pub request_of : Result Listing Refusal → Request
-request_of (Ok s) = accepted s
-request_of (Err r) = refused r
+abbrev pub request_of : (summary : Bool) → Result Listing Refusal → Request
+request_of summary (Ok s) = accepted summary s
+request_of summary (Err r) = refused r
 
--- no word is taken yet
-abbrev pub request : (words : ℕ) (input : List ℕ) → Request
-request words input = if nat_lt 0 words then misused else request_of (script_of input)
+-- the script of a number, where there is one, and else of the input
+abbrev pub script_for : Option ℕ → (input : List ℕ) → Result Listing Refusal
+script_for (Some number) input = Ok (generated number)
+script_for None input = script_of input
+
+-- from what the words say, if they are a command line
+abbrev pub request : Option Options → (input : List ℕ) → Request
+request None input = misused
+request (Some o) input = request_of o.summary (script_for o.generate input)
+
+-- whether the input is read
+abbrev pub reads_input : Option Options → Bool
+reads_input None = false
+reads_input (Some o) = is_none o.generate
 
 abbrev pub usage_text : List ℕ
 usage_text = codes "usage: mm_main [--spin N] [--overdue N] [--generate N] [--summary]\n"

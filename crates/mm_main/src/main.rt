@@ -3,6 +3,7 @@
 #![tactic(auto)]
 
 mod input;
+mod options;
 mod program;
 mod serial;
 mod status;

@@ -1,19 +1,23 @@
 //! The program over any source and sink.
-ghost use Rattle.std.specs.Prelude.{◌≡◌, ◌<◌, ◌≤◌, ◌+◌, ◌^◌, length};
+ghost use Rattle.std.specs.Prelude.{◌≡◌, ◌≤◌, ◌+◌, ◌^◌, false, length, map, string_bytes, true};
 ghost use Rattle.std.specs.Io.KnownBytes.{IsAtEnd};
 ghost use Rattle.task_script.specs.Causes.{Rose};
+ghost use Rattle.task_script.specs.Generated.{generated};
 ghost use Rattle.task_script.specs.Grammar.{script_of};
 ghost use Rattle.task_script.specs.Scripts.{count_of_calls};
 ghost use Rattle.task_script.specs.Sound.{IsSound};
-ghost use Rattle.mm_main.specs.Requests.{misused, refused, accepted, reason_text, request_of};
+ghost use Rattle.mm_main.specs.CommandLine.{options_of};
+ghost use Rattle.mm_main.specs.Requests.{misused, refused, accepted, reads_input, reason_text};
+ghost use Rattle.mm_main.specs.Requests.{request, request_of};
 ghost use Rattle.mm_main.specs.Answers.{Answers, Completes, Says, TakesAtMost, read_faults, write_faults};
 
 use crate::input::{InputError, read_all};
+use crate::options::{Options, OptionsError};
 use crate::serial::perform_all;
 use crate::status::Status;
 use mm_report::{Results, report};
-use std::alloc::Global;
-use task_script::{Outbox, Reason, Script, ScriptError, Sink, Source, put, read};
+use std::alloc::{AllocError, Global};
+use task_script::{Outbox, Reason, Script, ScriptError, Sink, Source, generate, put, read};
 
 const USAGE: &[u8] = b"usage: mm_main [--spin N] [--overdue N] [--generate N] [--summary]\n";
 
@@ -68,10 +72,11 @@ fn refuse<K: Sink>(line: u32, reason: Reason, sink: &mut K) -> Status
     }
 }
 
-fn run<K: Sink>(alloc: Global, script: &Script, sink: &mut K) -> Status
+fn run<K: Sink>(alloc: Global, script: &Script, summary: bool, sink: &mut K) -> Status
     requires sound { IsSound script.now }
     requires few { count_of_calls script.now ≤ 2 ^ 18 }
-    ensures says { Says (accepted script.now) ⊥ (Rose (K.faults sink.old) (K.faults sink.new))
+    ensures says { Says (accepted summary script.now) ⊥
+        (Rose (K.faults sink.old) (K.faults sink.new))
         (K.written sink.old) (K.written sink.new) result }
     ensures faults { K.faults sink.new ≡ write_faults result (K.faults sink.old) }
 {
@@ -79,57 +84,101 @@ fn run<K: Sink>(alloc: Global, script: &Script, sink: &mut K) -> Status
         return Status::NoMemory;
     };
     perform_all(script, &mut results);
-    match report(script, &mut results, false, sink) {
+    match report(script, &mut results, summary, sink) {
         Ok(()) => Status::Done,
         Err(_) => Status::WriteFault,
     }
 }
 
-fn answer<K: Sink>(alloc: Global, input: &[u8], sink: &mut K) -> Status
+fn answer<K: Sink>(alloc: Global, input: &[u8], summary: bool, sink: &mut K) -> Status
     requires { length input.now ≤ 1048577 }
-    ensures says { Says (request_of (script_of input.now)) ⊥
+    ensures says { Says (request_of summary (script_of input.now)) ⊥
         (Rose (K.faults sink.old) (K.faults sink.new))
         (K.written sink.old) (K.written sink.new) result }
     ensures faults { K.faults sink.new ≡ write_faults result (K.faults sink.old) }
 {
     match read(alloc, input) {
-        Ok(script) => run(alloc, &script, sink),
+        Ok(script) => run(alloc, &script, summary, sink),
         Err(ScriptError::Refused { line, reason }) => refuse(line, reason, sink),
         Err(ScriptError::Memory) => Status::NoMemory,
     }
 }
 
-/// Reads a script from the source, does its calls one after the other, task by task, and writes
-/// their histories to the sink. No call has to wait, so none is busy or interrupted.
-///
-/// `words` are the words of the command line after the program's name. None is taken yet.
-pub fn top<S: Source, K: Sink>(
+// Answers the script of a number.
+fn answer_generated<K: Sink>(alloc: Global, number: u32, summary: bool, sink: &mut K) -> Status
+    ensures says { Says (accepted summary (generated number)) ⊥
+        (Rose (K.faults sink.old) (K.faults sink.new))
+        (K.written sink.old) (K.written sink.new) result }
+    ensures faults { K.faults sink.new ≡ write_faults result (K.faults sink.old) }
+{
+    match generate(alloc, number) {
+        Ok(script) => run(alloc, &script, summary, sink),
+        Err(AllocError) => Status::NoMemory,
+    }
+}
+
+// Answers the script that the source gives.
+fn answer_input<S: Source, K: Sink>(
     alloc: Global,
-    words: &[String],
+    summary: bool,
     source: &mut S,
     sink: &mut K,
 ) -> Status
-    ensures answer { Answers (length words.now) (S.left source.old)
-        (Rose (S.faults source.old) (S.faults source.new))
-        (Rose (K.faults sink.old) (K.faults sink.new))
-        (K.written sink.old) (K.written sink.new) result }
-    ensures complete { Completes (length words.now) (S.left source.old)
+    ensures answer { Answers (λ input. request_of summary (script_of input)) (S.left source.old)
         (Rose (S.faults source.old) (S.faults source.new))
         (Rose (K.faults sink.old) (K.faults sink.new))
         (K.written sink.old) (K.written sink.new) result }
     ensures read_faults { S.faults source.new ≡ read_faults result (S.faults source.old) }
     ensures write_faults { K.faults sink.new ≡ write_faults result (K.faults sink.old) }
     ensures taken { TakesAtMost 1048577 (S.left source.old) (S.left source.new) }
-    ensures unread { 0 < length words.now → source.new ≡ source.old }
     ensures few_reads { S.gave source.new ≤ S.gave source.old + 1048577 }
     ensures whole { result ≡ Status.Done → IsAtEnd (S.left source.new) }
 {
-    if !words.is_empty() {
-        return usage(sink);
-    }
     match read_all(alloc, source) {
-        Ok(input) => answer(alloc, input.as_slice(), sink),
+        Ok(input) => answer(alloc, input.as_slice(), summary, sink),
         Err(InputError::Memory) => Status::NoMemory,
         Err(InputError::Failed) => Status::ReadFault,
+    }
+}
+
+/// Reads a script from the source, or generates one, does its calls one after the other, task by
+/// task, and writes their histories to the sink, or the summary. No call has to wait, so none is
+/// busy or interrupted.
+///
+/// `words` are the words of the command line after the program's name. Nothing spins or sleeps yet,
+/// so the numbers of `--spin` and `--overdue` reach nothing.
+pub fn top<S: Source, K: Sink>(
+    alloc: Global,
+    words: &[String],
+    source: &mut S,
+    sink: &mut K,
+) -> Status
+    ensures answer { Answers (request (options_of (map string_bytes words.now)))
+        (S.left source.old)
+        (Rose (S.faults source.old) (S.faults source.new))
+        (Rose (K.faults sink.old) (K.faults sink.new))
+        (K.written sink.old) (K.written sink.new) result }
+    ensures complete { Completes (options_of (map string_bytes words.now)) (S.left source.old)
+        (Rose (S.faults source.old) (S.faults source.new))
+        (Rose (K.faults sink.old) (K.faults sink.new))
+        (K.written sink.old) (K.written sink.new) result }
+    ensures read_faults { S.faults source.new ≡ read_faults result (S.faults source.old) }
+    ensures write_faults { K.faults sink.new ≡ write_faults result (K.faults sink.old) }
+    ensures taken { TakesAtMost 1048577 (S.left source.old) (S.left source.new) }
+    ensures unread { reads_input (options_of (map string_bytes words.now)) ≡ false →
+        source.new ≡ source.old }
+    ensures few_reads { S.gave source.new ≤ S.gave source.old + 1048577 }
+    ensures whole { result ≡ Status.Done →
+        reads_input (options_of (map string_bytes words.now)) ≡ true →
+        IsAtEnd (S.left source.new) }
+{
+    let options = match Options::read(alloc, words) {
+        Ok(options) => options,
+        Err(OptionsError::Misused) => return usage(sink),
+        Err(OptionsError::Memory) => return Status::NoMemory,
+    };
+    match options.generate {
+        Some(number) => answer_generated(alloc, number, options.summary, sink),
+        None => answer_input(alloc, options.summary, source, sink),
     }
 }

@@ -14,6 +14,8 @@ use task_script::{MemSink, MemSource};
 
 mod command_line;
 mod examples;
+mod generated;
+mod options;
 
 const ORDINARY: &str = "space a\ntask\na map 16 4 rw-\na fault 17 w\na fault 20 r\n";
 
@@ -325,18 +327,6 @@ fn ends_at_a_fault_with_what_was_written(rt: HostRuntime) -> Result<(), Fail> {
     let (status, written) = run(rt.alloc(), b"space A\n", 8, &[], 4)?;
     assert_eq!(rt; status, Status::WriteFault);
     assert_eq!(rt; written.as_slice(), b"refu".as_slice());
-    Ok(())
-}
-
-#[test]
-fn takes_no_words_yet(rt: HostRuntime) -> Result<(), Fail> {
-    let alloc = rt.alloc();
-    let words = [String::from_str(alloc, "x")?];
-    let mut source = MemSource::new(alloc, b"space a\n", 8, &[0])?;
-    let mut sink = MemSink::new(alloc, 1000, 1000, &[])?;
-    assert_eq!(rt; top(alloc, &words, &mut source, &mut sink), Status::Usage);
-    let usage = "usage: mm_main [--spin N] [--overdue N] [--generate N] [--summary]\n";
-    assert_eq!(rt; sink.written(), usage.as_bytes());
     Ok(())
 }
 

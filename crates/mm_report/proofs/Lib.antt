@@ -8,6 +8,7 @@ pub mod Remaining
 pub mod Calls
 pub mod Tasks
 pub mod Legal
+pub mod Counted
 pub mod Filled
 pub mod Descriptors
 pub mod Telling

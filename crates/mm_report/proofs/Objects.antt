@@ -1,13 +1,12 @@
 -- What is told object by object.
-use Rattle.std.proofs.Common.{◌≡◌, ℕ, ◌+◌, zero, suc, List, [], ◌∷◌, ◌++◌, length, drop, refl, sym, ap, ◌∙◌, subst, arith, append_assoc, add-zero, Some}
+use Rattle.std.proofs.Common.{◌≡◌, ℕ, ◌+◌, Bool, zero, suc, List, [], ◌∷◌, ◌++◌, length, drop, refl, sym, ap, ◌∙◌, subst, arith, append_assoc, add-zero, Some}
 use Rattle.std.specs.Prelude.{slice_get}
 use Rattle.std.proofs.lemmas.Option.{same_Some}
 use Rattle.word_bits.specs.Snapshots.{Words}
 use Rattle.word_bits.specs.Legal.{Tells}
 use Rattle.task_script.specs.Scripts.{Declared, Listing, plan_of}
-use Rattle.task_script.specs.Texts.{declaration_text}
 use Rattle.mm_report.specs.Results.{Told, IsLegalOn, AreLegalFrom, AreCompleteFrom, calls_on}
-use Rattle.mm_report.specs.Text.{told_text, text_from}
+use Rattle.mm_report.specs.Reports.{object_report, report_from}
 use Rattle.mm_report.proofs.Reserved.{drop_at}
 
 -- there are as many snapshots as objects
@@ -55,14 +54,14 @@ behind_at [] (suc i) x rest is = cc
 behind_at (y ∷ ys) zero x rest is = cc
 behind_at (y ∷ ys) (suc i) x rest is = let e : suc (i + 1) ≡ suc i + 1 = omega arith in ap (λ n. drop n (y ∷ ys)) (sym e) ∙ behind_at ys i x rest is
 
--- the text of an object, and of those behind it
-pub text_step : (s : Listing) (object : ℕ) (ds : List Declared) (d : Declared) (t : Told) (ts : List Told) → slice_get ds object ≡ Some d
-    → text_from s object (drop object ds) (t ∷ ts) ≡ declaration_text d ++ told_text s object d.is_space t ++ text_from s (object + 1) (drop (object + 1) ds) ts
-text_step s object ds d t ts at = ap (λ es. text_from s object es (t ∷ ts)) (drop_at ds object d at)
+-- what is said of an object, and of those behind it
+pub report_step : (summary : Bool) (s : Listing) (object : ℕ) (ds : List Declared) (d : Declared) (t : Told) (ts : List Told) → slice_get ds object ≡ Some d
+    → report_from summary s object (drop object ds) (t ∷ ts) ≡ object_report summary s object d t ++ report_from summary s (object + 1) (drop (object + 1) ds) ts
+report_step summary s object ds d t ts at = ap (λ es. report_from summary s object es (t ∷ ts)) (drop_at ds object d at)
 
--- what was written, the text of an object and the text behind it are all
-pub text_split : (s : Listing) (object : ℕ) (ds : List Declared) (d : Declared) (t : Told) (ts told : List Told) (done all : List ℕ) → slice_get ds object ≡ Some d → told ≡ t ∷ ts
-    → done ++ text_from s object (drop object ds) told ≡ all → (done ++ (declaration_text d ++ told_text s object d.is_space t)) ++ text_from s (object + 1) (drop (object + 1) ds) ts ≡ all
-text_split s object ds d t ts told done all at is whole =
-    append_assoc done (declaration_text d ++ told_text s object d.is_space t) (text_from s (object + 1) (drop (object + 1) ds) ts)
-    ∙ ap (λ l. done ++ l) (sym (text_step s object ds d t ts at) ∙ ap (text_from s object (drop object ds)) (sym is)) ∙ whole
+-- what was written, what is said of an object and of those behind it are all
+pub report_split : (summary : Bool) (s : Listing) (object : ℕ) (ds : List Declared) (d : Declared) (t : Told) (ts told : List Told) (done all : List ℕ) → slice_get ds object ≡ Some d → told ≡ t ∷ ts
+    → done ++ report_from summary s object (drop object ds) told ≡ all → (done ++ object_report summary s object d t) ++ report_from summary s (object + 1) (drop (object + 1) ds) ts ≡ all
+report_split summary s object ds d t ts told done all at is whole =
+    append_assoc done (object_report summary s object d t) (report_from summary s (object + 1) (drop (object + 1) ds) ts)
+    ∙ ap (λ l. done ++ l) (sym (report_step summary s object ds d t ts at) ∙ ap (report_from summary s object (drop object ds)) (sym is)) ∙ whole

@@ -21,7 +21,8 @@ use Rattle.task_script.specs.Scripts.{Declared, Listing, plan_of}
 use Rattle.task_script.specs.Texts.{call_text, declaration_text, prot_text}
 use Rattle.task_script.proofs.Inner.{is_inner, IsInner, BeginsWithDigit, inner_both, decimal_inner, decimal_begins, prot_inner, call_inner}
 use Rattle.mm_report.specs.Results.{Told}
-use Rattle.mm_report.specs.Text.{errno_text, reply_text, event_line, event_text, number_of, task_lines, area_text, left_text, descriptor_text, descriptors_text, space_text, table_text, told_text, text_from}
+use Rattle.mm_report.specs.Text.{errno_text, reply_text, event_line, event_text, number_of, task_lines, area_text, left_text, descriptor_text, descriptors_text, space_text, table_text, told_text}
+use Rattle.mm_report.specs.Reports.{report_from}
 use Rattle.mm_report.specs.Telling.{lines_told, state_told, TellTheSame, TextDeterminesHistories}
 
 -- ---- lines
@@ -203,12 +204,12 @@ declaration_some d rest none = go d.is_space none
     go true e = cc
     go false e = cc
 
-from_begins : (s : Listing) (object : ℕ) (ds : List Declared) (ts : List Told) → BeginsOtherwise (text_from s object ds ts)
+from_begins : (s : Listing) (object : ℕ) (ds : List Declared) (ts : List Told) → BeginsOtherwise (report_from false s object ds ts)
 from_begins s object [] ts = tt
 from_begins s object (d ∷ ds) [] = tt
 from_begins s object (d ∷ ds) (t ∷ ts) =
     let told = told_text s object d.is_space t in
-    let rest = text_from s (object + 1) ds ts in
+    let rest = report_from false s (object + 1) ds ts in
     subst BeginsOtherwise (sym (append_assoc (declaration_text d) told rest)) (declaration_begins d (told ++ rest))
 
 -- how much is left, and what stands behind it
@@ -244,22 +245,22 @@ same_told s object is_space t u r q other other_q e =
     let states = same_state a b r q is is_b other other_q lines.1 in
     (lines.0, states.0, states.1)
 
-same_from : (s : Listing) (object : ℕ) (ds : List Declared) (ts us : List Told) → text_from s object ds ts ≡ text_from s object ds us → TellTheSame s object ds ts us
+same_from : (s : Listing) (object : ℕ) (ds : List Declared) (ts us : List Told) → report_from false s object ds ts ≡ report_from false s object ds us → TellTheSame s object ds ts us
 same_from s object [] ts us e = tt
 same_from s object (d ∷ ds) [] [] e = tt
 same_from s object (d ∷ ds) [] (u ∷ us) e =
     let told = told_text s object d.is_space u in
-    let rest = text_from s (object + 1) ds us in
+    let rest = report_from false s (object + 1) ds us in
     declaration_some d (told ++ rest) (sym (append_assoc (declaration_text d) told rest) ∙ sym e)
 same_from s object (d ∷ ds) (t ∷ ts) [] e =
     let told = told_text s object d.is_space t in
-    let rest = text_from s (object + 1) ds ts in
+    let rest = report_from false s (object + 1) ds ts in
     declaration_some d (told ++ rest) (sym (append_assoc (declaration_text d) told rest) ∙ e)
 same_from s object (d ∷ ds) (t ∷ ts) (u ∷ us) e =
     let a = told_text s object d.is_space t in
     let b = told_text s object d.is_space u in
-    let r = text_from s (object + 1) ds ts in
-    let q = text_from s (object + 1) ds us in
+    let r = report_from false s (object + 1) ds ts in
+    let q = report_from false s (object + 1) ds us in
     let behind : a ++ r ≡ b ++ q = append_cancel_left (declaration_text d) (a ++ r) (b ++ q) (sym (append_assoc (declaration_text d) a r) ∙ e ∙ append_assoc (declaration_text d) b q) in
     let here = same_told s object d.is_space t u r q (from_begins s (object + 1) ds ts) (from_begins s (object + 1) ds us) behind in
     (here.0, here.1, same_from s (object + 1) ds ts us here.2)

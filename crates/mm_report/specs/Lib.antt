@@ -4,3 +4,5 @@ pub mod Lending
 pub mod Merged
 pub mod Cursors
 pub mod Telling
+pub mod Summary
+pub mod Reports

@@ -5,7 +5,8 @@ use Rattle.vma_map.specs.Spaces.{space}
 use Rattle.fd_table.specs.Tables.{table}
 use Rattle.task_script.specs.Scripts.{Declared, Listing, plan_of}
 use Rattle.mm_report.specs.Results.{Told}
-use Rattle.mm_report.specs.Text.{event_text, space_text, table_text, text_of}
+use Rattle.mm_report.specs.Text.{event_text, space_text, table_text}
+use Rattle.mm_report.specs.Reports.{report_of}
 
 -- the lines of an object's history
 abbrev pub lines_told : Listing → ℕ → (is_space : Bool) → Told → List (List ℕ)
@@ -28,4 +29,4 @@ TellTheSame s object (d ∷ ds) (t ∷ ts) (u ∷ us) =
 
 -- The text determines the histories: what is told of a script in the same text is line by line the same.
 abbrev pub TextDeterminesHistories : Type 0
-TextDeterminesHistories = (s : Listing) (told other : List Told) → text_of s told ≡ text_of s other → TellTheSame s 0 s.objects told other
+TextDeterminesHistories = (s : Listing) (told other : List Told) → report_of false s told ≡ report_of false s other → TellTheSame s 0 s.objects told other

@@ -13,8 +13,8 @@ use Rattle.word_bits.specs.Objects.{Obj}
 use Rattle.vma_map.specs.Spaces.{space}
 use Rattle.fd_table.specs.Tables.{FdMap, table, used_from}
 use Rattle.task_script.specs.declared.script.Line.{Line}
-use Rattle.task_script.specs.Scripts.{Declared, Listing, plan_of, is_on}
-use Rattle.task_script.specs.Texts.{call_text, declaration_text, prot_text}
+use Rattle.task_script.specs.Scripts.{Listing, plan_of, is_on}
+use Rattle.task_script.specs.Texts.{call_text, prot_text}
 use Rattle.mm_report.specs.Results.{Told}
 
 -- an error's name
@@ -94,13 +94,3 @@ calls_text o s object t = flat_map (event_text s object) (history o (plan_of s o
 abbrev pub told_text : Listing → ℕ → (is_space : Bool) → Told → List ℕ
 told_text s object true t = calls_text space s object t ++ space_text (state_after space (plan_of s object) t.log)
 told_text s object false t = calls_text table s object t ++ table_text (state_after table (plan_of s object) t.log)
-
--- what is told of the objects from this one on
-abbrev pub text_from : Listing → ℕ → List Declared → List Told → List ℕ
-text_from s object [] ts = []
-text_from s object (d ∷ ds) [] = []
-text_from s object (d ∷ ds) (t ∷ ts) = declaration_text d ++ told_text s object d.is_space t ++ text_from s (object + 1) ds ts
-
--- what is told of all objects, in the order of declaration
-abbrev pub text_of : Listing → List Told → List ℕ
-text_of s told = text_from s 0 s.objects told

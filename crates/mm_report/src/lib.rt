@@ -7,6 +7,7 @@ mod laws;
 mod line;
 mod results;
 mod state;
+mod summary;
 #[cfg(test)]
 mod tests;
 mod text;

@@ -1,8 +1,10 @@
 //! The pieces of the text's lines.
 ghost use Rattle.std.specs.Prelude.{◌≡◌, ◌+◌, ◌≤◌, ◌++◌, length, Some};
 ghost use Rattle.mm_report.specs.Text.{area_text, descriptor_text, errno_text, event_line};
+ghost use Rattle.mm_report.specs.Summary.{counts_text};
 ghost use Rattle.mm_report.specs.Text.{left_text, reply_text};
 
+use crate::summary::Counts;
 use task_script::Outbox;
 use word_bits::{Area, CallWords, Errno, Reply};
 
@@ -86,4 +88,22 @@ pub(crate) fn add_descriptor(out: &mut Outbox, fd: u32, file: u16)
     out.add(b" ");
     out.add_number(u64::from(file));
     out.add(b"\n");
+}
+
+/// The summary of an object of this name.
+pub(crate) fn add_summary(out: &mut Outbox, name: &str, counts: Counts)
+    requires name { length name.now ≤ 16 }
+    requires room { length out.old + 256 ≤ 4096 }
+    ensures { out.new ≡ out.old ++ counts_text name.now counts }
+{
+    out.add(name.as_bytes());
+    out.add(b": ");
+    out.add_number(counts.calls);
+    out.add(b" calls, ");
+    out.add_number(counts.logged);
+    out.add(b" logged, ");
+    out.add_number(counts.refused);
+    out.add(b" refused, ");
+    out.add_number(counts.left);
+    out.add(b" left\n");
 }

@@ -98,8 +98,13 @@ fn filled(
 #[test]
 fn reports_spaces(rt: HostRuntime) -> Result<(), Fail> {
     let alloc = rt.alloc();
-    for (text, left, expected) in [
-        (b"".as_slice(), [].as_slice(), b"".as_slice()),
+    for (text, left, expected, summary) in [
+        (
+            b"".as_slice(),
+            [].as_slice(),
+            b"".as_slice(),
+            b"".as_slice(),
+        ),
         (
             b"space a\n",
             &[Left {
@@ -108,6 +113,7 @@ fn reports_spaces(rt: HostRuntime) -> Result<(), Fail> {
                 state: &[0],
             }],
             b"space a\nleft 0\n",
+            b"a: 0 calls, 0 logged, 0 refused, 0 left\n",
         ),
         (
             b"space a\nspace b_2\ntask\n\
@@ -134,6 +140,8 @@ fn reports_spaces(rt: HostRuntime) -> Result<(), Fail> {
               left 2\n\
               16-20 r-x\n\
               20-1048576 -w-\n",
+            b"a: 1 calls, 0 logged, 1 refused, 0 left\n\
+              b_2: 3 calls, 0 logged, 1 refused, 2 left\n",
         ),
     ] {
         let script = read(alloc, text)?;
@@ -141,6 +149,9 @@ fn reports_spaces(rt: HostRuntime) -> Result<(), Fail> {
         let mut sink = MemSink::new(alloc, 1000, 7, &[])?;
         assert_eq!(rt; report(&script, &mut results, false, &mut sink), Ok(()));
         assert_eq!(rt; sink.written(), expected, "of {text:?}");
+        let mut short = MemSink::new(alloc, 1000, 7, &[])?;
+        assert_eq!(rt; report(&script, &mut results, true, &mut short), Ok(()));
+        assert_eq!(rt; short.written(), summary, "of {text:?}");
     }
     Ok(())
 }
@@ -193,6 +204,10 @@ fn reports_tasks_in_the_order_of_the_log(rt: HostRuntime) -> Result<(), Fail> {
         1-2 rw-\n\
         4-5 r--\n";
     assert_eq!(rt; sink.written(), expected.as_slice());
+    let mut short = MemSink::new(alloc, 1000, 7, &[])?;
+    assert_eq!(rt; report(&script, &mut results, true, &mut short), Ok(()));
+    let summary = b"a: 11 calls, 3 logged, 3 refused, 2 left\n";
+    assert_eq!(rt; short.written(), summary.as_slice());
     Ok(())
 }
 
@@ -242,6 +257,11 @@ fn reports_a_table_beside_a_space(rt: HostRuntime) -> Result<(), Fail> {
         left 1\n\
         1 7\n";
     assert_eq!(rt; sink.written(), expected.as_slice());
+    let mut short = MemSink::new(alloc, 1000, 7, &[])?;
+    assert_eq!(rt; report(&script, &mut results, true, &mut short), Ok(()));
+    let summary = b"a: 1 calls, 0 logged, 1 refused, 0 left\n\
+        f: 6 calls, 4 logged, 2 refused, 1 left\n";
+    assert_eq!(rt; short.written(), summary.as_slice());
     Ok(())
 }
 

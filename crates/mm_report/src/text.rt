@@ -1,15 +1,17 @@
-//! The text of a script's objects: what each was called, and what it is left in.
-ghost use Rattle.std.specs.Prelude.{◌≡◌, ◌<◌, ◌++◌, false, length, slice_get, Some, List};
+//! The report of a script's objects: of each its calls and what it is left in, or its numbers.
+ghost use Rattle.std.specs.Prelude.{◌≡◌, ◌<◌, ◌++◌, length, slice_get, Some, List};
 ghost use Rattle.word_bits.specs.Legal.{Tells};
 ghost use Rattle.task_script.specs.Causes.{CountsFailure, Adds, Puts};
 ghost use Rattle.task_script.specs.Scripts.{Declared, plan_of};
 ghost use Rattle.task_script.specs.Texts.{declaration_text};
 ghost use Rattle.mm_report.specs.Results.{Told, IsLegalOn, AreLegal, AreComplete, calls_on};
-ghost use Rattle.mm_report.specs.Text.{told_text, text_of};
+ghost use Rattle.mm_report.specs.Reports.{object_report, report_of};
+ghost use Rattle.mm_report.specs.Text.{told_text};
 
 use crate::history::write_history;
 use crate::results::Results;
 use crate::state::{write_space, write_table};
+use crate::summary::write_summary;
 use fd_table::Fds;
 use task_script::{Failed, Outbox, Script, Sink, write_declaration};
 use vma_map::Areas;
@@ -64,9 +66,36 @@ fn write_object<K: Sink>(
     write_told(script, object, snapshot, out, sink)
 }
 
+// What is reported of an object: its history, or its summary.
+fn write_one<K: Sink>(
+    script: &Script,
+    object: u32,
+    snapshot: &Snapshot,
+    summary: bool,
+    out: &mut Outbox,
+    sink: &mut K,
+) -> Result<(), Failed>
+    requires object { object < length script.now.objects }
+    requires complete { length snapshot.now.recs ≡ calls_on script.now object }
+    ensures text { (d : Declared) (t : Told) →
+        slice_get script.now.objects object ≡ Some d →
+        Tells snapshot.now t.records t.log →
+        IsLegalOn d.is_space (plan_of script.now object) t snapshot.now.state →
+        Adds (K.written sink.old) (K.written sink.new) out.old out.new
+        (object_report summary script.now object d t) result }
+    ensures cause { CountsFailure (K.faults sink.old) (K.faults sink.new) result }
+{
+    if summary {
+        write_summary(script, object, snapshot, out, sink)
+    } else {
+        write_object(script, object, snapshot, out, sink)
+    }
+}
+
 fn write_objects<K: Sink>(
     script: &Script,
     results: &Results,
+    summary: bool,
     out: &mut Outbox,
     sink: &mut K,
 ) -> Result<(), Failed>
@@ -74,16 +103,24 @@ fn write_objects<K: Sink>(
     ensures text { (told : List Told) →
         AreLegal script.now results.now told →
         Adds (K.written sink.old) (K.written sink.new) out.old out.new
-        (text_of script.now told) result }
+        (report_of summary script.now told) result }
     ensures cause { CountsFailure (K.faults sink.old) (K.faults sink.new) result }
 {
     for object in 0..script.objects() {
-        write_object(script, object as u32, results.snapshot(object), out, sink)?;
+        write_one(
+            script,
+            object as u32,
+            results.snapshot(object),
+            summary,
+            out,
+            sink,
+        )?;
     }
     Ok(())
 }
 
-/// Writes the histories of a script's objects and the states that they leave.
+/// Writes the histories of a script's objects and the states that they leave, or the summaries of
+/// both.
 ///
 /// Where the sink fails a front of the text is written. The results stay as they were.
 pub fn report<K: Sink>(
@@ -92,17 +129,15 @@ pub fn report<K: Sink>(
     summary: bool,
     sink: &mut K,
 ) -> Result<(), Failed>
-    // There is no summary yet.
-    requires plain { summary ≡ false }
-    requires complete { AreComplete script.now results.old }
+    requires { AreComplete script.now results.old }
     ensures text { (told : List Told) →
         AreLegal script.now results.old told →
-        Puts (K.written sink.old) (K.written sink.new) (text_of script.now told) result }
+        Puts (K.written sink.old) (K.written sink.new)
+        (report_of summary script.now told) result }
     ensures cause { CountsFailure (K.faults sink.old) (K.faults sink.new) result }
     ensures kept { results.new ≡ results.old }
 {
-    let _ = summary;
     let mut out = Outbox::new();
-    write_objects(script, results, &mut out, sink)?;
+    write_objects(script, results, summary, &mut out, sink)?;
     out.flush(sink)
 }

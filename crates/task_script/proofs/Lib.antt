@@ -7,6 +7,7 @@ mod Accepted
 mod Names
 mod Numbers
 mod Reading
+mod Random
 mod ReadingBack
 mod Soundness
 mod Splitting

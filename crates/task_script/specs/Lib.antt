@@ -12,3 +12,4 @@ pub mod Rooms
 pub mod Memories
 pub mod Sound
 pub mod Padding
+pub mod Generated

@@ -5,6 +5,7 @@
 mod cut;
 mod draft;
 mod laws;
+mod generator;
 mod memory;
 mod outbox;
 mod reader;
@@ -19,6 +20,7 @@ mod verb;
 mod writer;
 
 pub use laws::padding_is_passed_over;
+pub use generator::generate;
 pub use memory::{MemSink, MemSource};
 pub use outbox::Outbox;
 pub use reader::{ScriptError, read};
@@ -27,6 +29,7 @@ pub use script::{Line, Script};
 pub use sink::{Sink, put};
 pub use source::{Failed, Source};
 pub use stream::{ReadSource, WriteSink};
+pub use token::number_of;
 pub use writer::{write, write_declaration};
 
 #[cfg(test)]

@@ -1,4 +1,5 @@
 use super::*;
+use crate::generator::next_random;
 use std::alloc::{AllocError, Global};
 use std::test::Fail;
 
@@ -252,5 +253,20 @@ fn streams_pass_bytes_on(rt: HostRuntime) -> Result<(), Fail> {
     let mut two = [0; 2];
     let mut small = WriteSink::new(two.as_mut_slice());
     assert_eq!(rt; put(&mut small, b"abc"), Err(Failed));
+    Ok(())
+}
+
+#[test]
+fn generates_by_numbers(rt: HostRuntime) -> Result<(), Fail> {
+    let mut x = 7;
+    for random in [1_025_555_898, 3_923_423_697, 2_630_631_676] {
+        x = next_random(x);
+        assert_eq!(rt; x, random);
+    }
+    let script = generate(rt.alloc(), 7)?;
+    let mut sink = MemSink::new(rt.alloc(), 399_999, 4_096, &[])?;
+    write(&script, &mut sink)?;
+    let front = "space m\ntask\nm protect 21 1 -w-\nm fault 1 x\nm map 16 5 --x\n";
+    assert!(rt; sink.written().starts_with(front.as_bytes()));
     Ok(())
 }

@@ -85,8 +85,8 @@ fn has_leading_zero(word: &[u8]) -> bool
     }
 }
 
-/// The number that the word is, if it is one of 32 bits.
-pub(crate) fn number_of(word: &[u8]) -> Option<u32>
+/// The number that a word is: `0`, or decimal digits that begin with 1 to 9, below 2^32.
+pub fn number_of(word: &[u8]) -> Option<u32>
     ensures { result ≡ number word.now }
 {
     if has_leading_zero(word) {

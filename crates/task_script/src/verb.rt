@@ -279,7 +279,7 @@ fn mode_number(mode: Mode) -> u64
 
 impl Verb {
     /// The words of a call.
-    fn words(self, mode: Mode, values: Values) -> CallWords
+    pub(crate) fn words(self, mode: Mode, values: Values) -> CallWords
         ensures { result ≡ call_words_of self mode values }
     {
         let numbers = u64::from(values.first) + (u64::from(values.second) << 32);

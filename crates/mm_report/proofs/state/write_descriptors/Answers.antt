@@ -1,4 +1,4 @@
-use Rattle.std.proofs.Common.{arith, refl, subst, ◌++◌, Option, ℕ, ◌∙◌}
+use Rattle.std.proofs.Common.{refl, subst, ◌++◌, Option, ℕ, ◌∙◌}
 use Rattle.std.proofs.lemmas.Result.{err_from_is_err_and}
 use Rattle.task_script.specs.Causes.{Fronts, IsOnItsWay}
 use Rattle.fd_table.specs.Tables.{fd_map}

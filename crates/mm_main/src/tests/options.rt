@@ -1,0 +1,83 @@
+//! What the words of the command line do.
+use super::{ORDINARY, ORDINARY_TEXT, Outcome};
+use crate::options::Options;
+use crate::program::top;
+use crate::status::Status;
+use std::alloc::{AllocError, Global};
+use std::test::Fail;
+use task_script::{MemSink, MemSource};
+
+const USAGE: &str = "usage: mm_main [--spin N] [--overdue N] [--generate N] [--summary]\n";
+
+fn run(alloc: Global, words: &[&str], fails: &[u64]) -> Result<Outcome, AllocError> {
+    let mut owned = Vec::new(alloc);
+    for word in words {
+        owned.push(String::from_str(alloc, word)?)?;
+    }
+    let mut source = MemSource::new(alloc, ORDINARY.as_bytes(), 8, fails)?;
+    let mut sink = MemSink::new(alloc, 1000, 1000, &[])?;
+    let status = top(alloc, owned.as_slice(), &mut source, &mut sink);
+    Ok((status, Vec::from_slice(alloc, sink.written())?))
+}
+
+#[test]
+fn takes_options(rt: HostRuntime) -> Result<(), Fail> {
+    let summary = "a: 3 calls, 1 logged, 1 refused, 1 left\n";
+    for (words, text) in [
+        (["--spin=0", "--overdue", "0"].as_slice(), ORDINARY_TEXT),
+        (&["--overdue=1000000", "--spin", "1000000"], ORDINARY_TEXT),
+        (&["--"], ORDINARY_TEXT),
+        (&["--summary"], summary),
+        (&["--spin", "7", "--summary", "--overdue=3", "--"], summary),
+    ] {
+        let (status, written) = run(rt.alloc(), words, &[])?;
+        assert_eq!(rt; status, Status::Done, "{words:?}");
+        assert_eq!(rt; written.as_slice(), text.as_bytes(), "{words:?}");
+    }
+    Ok(())
+}
+
+// The first read would fail.
+#[test]
+fn refuses_other_words_unread(rt: HostRuntime) -> Result<(), Fail> {
+    for words in [
+        ["--spin"].as_slice(),
+        &["--spin", "x"],
+        &["--spin", "1000001"],
+        &["--overdue=1000001"],
+        &["--generate", "4294967296"],
+        &["--colour"],
+        &["--summary", "--summary"],
+        &["--spin=1", "--summary", "--spin", "1"],
+        &["x"],
+        &[""],
+        &["-"],
+        &["--spin", "01"],
+        &["--spin=+1"],
+        &["--spin="],
+        &["--spin", ""],
+        &["--spin", "--summary"],
+        &["--spin", "--", "1"],
+        &["--summary="],
+        &["--summary=true"],
+        &["--summ"],
+        &["--", "--summary"],
+        &["--", "--"],
+        &["--help"],
+        &["-h"],
+        &["--version"],
+        &["-V"],
+    ] {
+        let (status, written) = run(rt.alloc(), words, &[0])?;
+        assert_eq!(rt; status, Status::Usage, "{words:?}");
+        assert_eq!(rt; written.as_slice(), USAGE.as_bytes(), "{words:?}");
+    }
+    Ok(())
+}
+
+#[test]
+fn reads_no_words(rt: HostRuntime) {
+    Options::joined_options_say();
+    let options = Options::read(rt.alloc(), &[]);
+    assert_eq!(rt; options, Ok(Options::of_no_words()));
+}

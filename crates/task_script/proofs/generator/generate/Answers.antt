@@ -1,0 +1,19 @@
+use Rattle.std.proofs.Common.{sym, ap, ◌∙◌, subst, arith}
+use Rattle.task_script.specs.Scripts.{count_of_calls}
+use Rattle.task_script.specs.Sound.{IsSound}
+use Rattle.task_script.proofs.Random.{generated_count, generated_is, generated_sound, tasks_more}
+use Rattle.task_script.proofs.generator.generate.Goals as goal
+
+pub loop-task-preserved : goal.loop-task-preserved
+loop-task-preserved c =
+    rw c.in_ok-push.ensures.items
+    (tasks_more c.args.number c.loop-task.task c.loop-task.tasks.items c.in_ok-random_lines.field-0 c.loop-task.invariant c.in_ok-random_lines.ensures)
+
+pub invariant_of-result : goal.invariant_of-result
+invariant_of-result c = subst IsSound (sym (generated_is c.args.number c.loop-task.task c.in_ok-objects.objects.entries c.loop-task.tasks.items (omega arith) c.in_ok-objects.ensures c.loop-task.invariant)) (generated_sound c.args.number)
+
+pub returns-clause-few : goal.returns-clause-few
+returns-clause-few c = ap count_of_calls (generated_is c.args.number c.loop-task.task c.in_ok-objects.objects.entries c.loop-task.tasks.items (omega arith) c.in_ok-objects.ensures c.loop-task.invariant) ∙ generated_count c.args.number
+
+pub returns-clause-sound : goal.returns-clause-sound
+returns-clause-sound c = subst IsSound (sym (generated_is c.args.number c.loop-task.task c.in_ok-objects.objects.entries c.loop-task.tasks.items (omega arith) c.in_ok-objects.ensures c.loop-task.invariant)) (generated_sound c.args.number)
