@@ -10,3 +10,4 @@ pub mod Tasks
 pub mod Legal
 pub mod Filled
 pub mod Descriptors
+mod Earliest
