@@ -15,7 +15,7 @@ fn blank(byte: u8) -> bool
 fn plain(byte: u8) -> bool
     ensures { result ≡ is_plain byte }
 {
-    blank(byte) || (b'!'..=b'~').contains(&byte)
+    byte == b'\t' || (b' '..=b'~').contains(&byte)
 }
 
 /// Whether each byte is a blank or a visible character.

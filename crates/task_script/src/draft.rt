@@ -1,5 +1,6 @@
 //! A script while its lines are read.
-ghost use Rattle.std.specs.Prelude.{◌≡◌, ◌<◌, ◌++◌, ◌∷◌, [], length, IfSome, None, Ok};
+ghost use Rattle.std.specs.Prelude.{◌≡◌, ◌<◌, ◌++◌, ◌∷◌, [], length, map, position, IfSome, None, Ok};
+ghost use Rattle.std.specs.Str.{bytes_eq};
 ghost use Rattle.task_script.specs.Cuts.{words};
 ghost use Rattle.task_script.specs.Grammar.{call_line, declare_line, line_after, line_of, object_line};
 ghost use Rattle.task_script.specs.Grammar.{is_space_at, place_of, task_line, text_after, with_call};
@@ -11,7 +12,7 @@ ghost use Rattle.task_script.specs.Readings.{Becomes};
 use crate::cut::{Words, is_plain_text, said};
 use crate::reason::Reason;
 use crate::script::{Kind, Line};
-use crate::token::{Keyword, Name, keyword_of, name_of};
+use crate::token::{Keyword, Name, keyword_of, name_of, names_object};
 use crate::verb::read_call;
 use indexmap::IndexMap;
 use std::alloc::Global;
@@ -46,6 +47,16 @@ impl Model for Draft {
     ghost invariant = { λ d. length d.objects.entries ≤ 16 };
 }
 
+/// The place of a name among those of the objects.
+fn place_of(objects: &IndexMap<Name, Kind>, name: &[u8]) -> Option<usize>
+    ensures { result ≡ position (λ key. bytes_eq name.now key.bytes)
+        (map (λ entry. entry.0) objects.now.entries) }
+{
+    objects
+        .keys()
+        .position(|key| name == key.as_str().as_bytes())
+}
+
 impl Draft {
     pub(crate) fn new(alloc: Global) -> Draft
         ensures { result ≡ nothing }
@@ -56,11 +67,11 @@ impl Draft {
         }
     }
 
-    fn place(&self, name: &Name) -> Option<u32>
-        ensures place { result ≡ place_of name.now.bytes self.now.objects }
+    fn place(&self, name: &[u8]) -> Option<u32>
+        ensures place { result ≡ place_of name.now self.now.objects }
         ensures declared { IfSome result (λ place. place < length self.now.objects) }
     {
-        let place = self.objects.get_index_of(name)?;
+        let place = place_of(&self.objects, name)?;
         Some(place as u32)
     }
 
@@ -94,7 +105,7 @@ impl Draft {
         let Some(name) = name_of(word) else {
             return Err(LineError::Refused(Reason::Name));
         };
-        if self.place(&name).is_some() {
+        if self.place(word).is_some() {
             return Err(LineError::Refused(Reason::Twice));
         }
         if self.objects.len() >= MAX_OBJECTS {
@@ -152,10 +163,10 @@ impl Draft {
         if self.tasks.is_empty() {
             return Err(LineError::Refused(Reason::Place));
         }
-        let Some(name) = name_of(name) else {
+        if !names_object(name) {
             return Err(LineError::Refused(Reason::Name));
-        };
-        match self.place(&name) {
+        }
+        match self.place(name) {
             Some(object) => self.call_on(mode, object, words),
             None => Err(LineError::Refused(Reason::Unknown)),
         }
