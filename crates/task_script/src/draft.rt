@@ -9,7 +9,7 @@ ghost use Rattle.task_script.specs.Parts.{all_words};
 ghost use Rattle.task_script.specs.Scripts.{nothing};
 ghost use Rattle.task_script.specs.Readings.{Becomes};
 
-use crate::cut::{Words, is_plain_text, said};
+use crate::cut::{Words, said};
 use crate::reason::Reason;
 use crate::script::{Kind, Line};
 use crate::token::{Keyword, Name, keyword_of, name_of, names_object};
@@ -23,6 +23,16 @@ use word_bits::{CallWords, MAX_TASKS, Mode};
 pub(crate) enum LineError {
     Refused(Reason),
     Memory,
+}
+
+impl From<Reason> for LineError {
+    ghost use Rattle.task_script.specs.declared.draft.LineError.TheVariants.{Refused};
+
+    ghost from_gives = { λ reason error. error ≡ Refused reason };
+
+    fn from(reason: Reason) -> LineError {
+        LineError::Refused(reason)
+    }
 }
 
 /// The most objects of a script.
@@ -97,19 +107,17 @@ impl Draft {
         ensures { Becomes result self.new (declare_line (is_space_kind kind) self.old words.entry) }
     {
         let (Some(word), None) = (words.next(), words.next()) else {
-            return Err(LineError::Refused(Reason::Words));
+            return Err(Reason::Words.into());
         };
         if !self.tasks.is_empty() {
-            return Err(LineError::Refused(Reason::Place));
+            return Err(Reason::Place.into());
         }
-        let Some(name) = name_of(word) else {
-            return Err(LineError::Refused(Reason::Name));
-        };
+        let name = name_of(word).ok_or(Reason::Name)?;
         if self.place(word).is_some() {
-            return Err(LineError::Refused(Reason::Twice));
+            return Err(Reason::Twice.into());
         }
         if self.objects.len() >= MAX_OBJECTS {
-            return Err(LineError::Refused(Reason::Limit));
+            return Err(Reason::Limit.into());
         }
         self.push_object(name, kind)
     }
@@ -118,10 +126,10 @@ impl Draft {
         ensures { Becomes result self.new (task_line self.old words.entry) }
     {
         if words.next().is_some() {
-            return Err(LineError::Refused(Reason::Words));
+            return Err(Reason::Words.into());
         }
         if self.tasks.len() >= MAX_TASKS as usize {
-            return Err(LineError::Refused(Reason::Limit));
+            return Err(Reason::Limit.into());
         }
         self.tasks
             .push(Vec::new(alloc))
@@ -129,11 +137,10 @@ impl Draft {
     }
 
     fn push_call(&mut self, object: u32, call: CallWords) -> Result<(), LineError>
+        requires { 0 < length self.old.tasks }
         ensures { Becomes result self.new (Ok record { objects = self.old.objects; tasks = with_call self.old.tasks (line_of object call) }) }
     {
-        let Some(calls) = self.tasks.last_mut() else {
-            return Ok(());
-        };
+        let calls = self.tasks.last_mut().unwrap();
         let words = [call.a, call.b];
         if calls.push(Line { object, words }).is_err() {
             return Err(LineError::Memory);
@@ -142,41 +149,27 @@ impl Draft {
     }
 
     fn call_on(&mut self, mode: Mode, object: u32, mut words: Words) -> Result<(), LineError>
-        requires { object < length self.old.objects }
+        requires declared { object < length self.old.objects }
+        requires some { 0 < length self.old.tasks }
         ensures { Becomes result self.new (object_line mode self.old object words.entry) }
     {
-        let Some(verb) = words.next() else {
-            return Err(LineError::Refused(Reason::Words));
-        };
-        match read_call(self.is_space(object), mode, verb, words) {
-            Ok(call) => self.push_call(object, call),
-            Err(reason) => Err(LineError::Refused(reason)),
-        }
+        let verb = words.next().ok_or(Reason::Words)?;
+        let call = read_call(self.is_space(object), mode, verb, words)?;
+        self.push_call(object, call)
     }
 
     fn call(&mut self, mode: Mode, name: Option<&[u8]>, words: Words) -> Result<(), LineError>
         ensures { Becomes result self.new (call_line mode self.old (all_words name.entry words.entry)) }
     {
-        let Some(name) = name else {
-            return Err(LineError::Refused(Reason::Words));
-        };
+        let name = name.ok_or(Reason::Words)?;
         if self.tasks.is_empty() {
-            return Err(LineError::Refused(Reason::Place));
+            return Err(Reason::Place.into());
         }
         if !names_object(name) {
-            return Err(LineError::Refused(Reason::Name));
+            return Err(Reason::Name.into());
         }
-        match self.place(name) {
-            Some(object) => self.call_on(mode, object, words),
-            None => Err(LineError::Refused(Reason::Unknown)),
-        }
-    }
-
-    fn call_behind(&mut self, mode: Mode, mut words: Words) -> Result<(), LineError>
-        ensures { Becomes result self.new (call_line mode self.old words.entry) }
-    {
-        let name = words.next();
-        self.call(mode, name, words)
+        let object = self.place(name).ok_or(Reason::Unknown)?;
+        self.call_on(mode, object, words)
     }
 
     fn line_of(&mut self, alloc: Global, mut words: Words) -> Result<(), LineError>
@@ -186,12 +179,12 @@ impl Draft {
             return Ok(());
         };
         match keyword_of(first) {
-            Some(Keyword::Version) => Err(LineError::Refused(Reason::Version)),
+            Some(Keyword::Version) => Err(Reason::Version.into()),
             Some(Keyword::Space) => self.declare(Kind::Space, words),
             Some(Keyword::Table) => self.declare(Kind::Table, words),
             Some(Keyword::Task) => self.task(alloc, words),
-            Some(Keyword::Int) => self.call_behind(Mode::Int, words),
-            Some(Keyword::Try) => self.call_behind(Mode::Try, words),
+            Some(Keyword::Int) => self.call(Mode::Int, words.next(), words),
+            Some(Keyword::Try) => self.call(Mode::Try, words.next(), words),
             None => self.call(Mode::Plain, Some(first), words),
         }
     }
@@ -200,10 +193,7 @@ impl Draft {
     pub(crate) fn line(&mut self, alloc: Global, line: &[u8]) -> Result<(), LineError>
         ensures { Becomes result self.new (text_after self.old line.now) }
     {
-        let line = said(line);
-        if !is_plain_text(line) {
-            return Err(LineError::Refused(Reason::Byte));
-        }
+        let line = said(line).ok_or(Reason::Byte)?;
         self.line_of(alloc, Words::new(line))
     }
 }
