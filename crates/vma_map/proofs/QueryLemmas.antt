@@ -1,10 +1,8 @@
 -- Ranges of pages, as areas in order have them.
-use Rattle.std.proofs.Common.{◌≡◌, ℕ, ◌+◌, ◌-◌, max, ◌<◌, ◌≤◌, List, [], ◌∷◌, ◌++◌, refl, zero, suc, Option, Some, None, Bool, true, false, ◌&&◌, ◌||◌, cond, eqb, leb, ltb, ◌⊎◌, inl, inr, sym, ap, ◌∙◌, arith}
+use Rattle.std.proofs.Common.{◌≡◌, ℕ, ◌+◌, ◌-◌, max, ◌<◌, ◌≤◌, List, [], ◌∷◌, ◌++◌, refl, zero, suc, Option, Some, None, Bool, true, false, eqb, leb, ◌⊎◌, inl, inr, sym, ap, ◌∙◌, arith}
 use Rattle.std.specs.Prelude.{is_some, is_none}
 use Rattle.std.specs.Bool.{then_some}
-use Rattle.std.specs.List.{list_all}
-use Rattle.std.proofs.lemmas.Bool.Decides.{nat_tests}
-use Rattle.std.proofs.lemmas.Bool.{cases_lt, cases_eq, cases_Bool, and_parts, and_from, and_cases, or_parts, false≢true, false_from_ne_true, cond-true, cond-false, ne_eqb, leb-false, leb-true}
+use Rattle.std.proofs.lemmas.Bool.{cases_lt, cases_eq, cases_Bool, and_parts, and_from, false≢true, false_from_ne_true, cond-true, cond-false, ne_eqb, leb-false, leb-true}
 use Rattle.word_bits.specs.declared.area.Area.{Area}
 use Rattle.word_bits.specs.PageMaps.{PageMap}
 use Rattle.vma_map.specs.Runs.{page_map, AreRuns}

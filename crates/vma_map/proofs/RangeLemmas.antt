@@ -1,14 +1,14 @@
 -- Lists of areas that grow at their end.
-use Rattle.std.proofs.Common.{◌≡◌, ℕ, ◌+◌, ◌-◌, min, max, ◌<◌, ◌≤◌, List, [], ◌∷◌, ◌++◌, length, take, drop, get_or, refl, Option, Some, None, Bool, true, false, ◌&&◌, cond, leb, ltb, ◌⊎◌, inl, inr, sym, ap, ◌∙◌, arith}
+use Rattle.std.proofs.Common.{◌≡◌, ℕ, ◌+◌, ◌-◌, ◌<◌, ◌≤◌, List, [], ◌∷◌, ◌++◌, length, take, drop, get_or, refl, Option, Some, None, Bool, true, false, ◌&&◌, cond, leb, ltb, ◌⊎◌, inl, inr, sym, ap, ◌∙◌, arith}
 use Rattle.std.specs.Option.{option_or}
-use Rattle.std.proofs.lemmas.List.{append_assoc, take-append-drop, drop_more, length_push}
+use Rattle.std.proofs.lemmas.List.{append_assoc, take-append-drop, drop_more}
 use Rattle.std.proofs.lemmas.Bool.Decides.{nat_tests}
-use Rattle.std.proofs.lemmas.Bool.{cases_lt, false≢true}
+use Rattle.std.proofs.lemmas.Bool.{cases_lt}
 use Rattle.word_bits.specs.declared.area.Area.{Area}
 use Rattle.word_bits.specs.AreaWord.{IsArea}
 use Rattle.vma_map.specs.Runs.{page_map, Follows, AreRuns}
 use Rattle.vma_map.specs.Spaces.{changed}
-use Rattle.vma_map.specs.AreaLaws.{changed-in, changed-below, changed-above, page_map-behind, AreRuns-head, AreRuns-tail}
+use Rattle.vma_map.specs.AreaLaws.{page_map-behind, AreRuns-head, AreRuns-tail}
 
 -- what stands in the place of no area
 abbrev pub no_area : Area

@@ -1,9 +1,9 @@
 -- Areas in order of which some are replaced.
-use Rattle.std.proofs.Common.{◌≡◌, ℕ, ◌+◌, ◌-◌, min, max, ◌<◌, ◌≤◌, List, [], ◌∷◌, ◌++◌, length, take, drop, refl, Option, Some, None, cond, leb, ltb, ◌⊎◌, inl, inr, sym, ap, ◌∙◌, arith}
-use Rattle.std.specs.List.{AllByRecursion, refill}
+use Rattle.std.proofs.Common.{◌≡◌, ℕ, ◌+◌, ◌-◌, min, max, ◌<◌, ◌≤◌, List, [], ◌∷◌, ◌++◌, length, take, drop, get_or, refl, Option, Some, None, cond, ltb, ◌⊎◌, inl, inr, sym, ap, ◌∙◌, arith}
+use Rattle.std.specs.List.{AllByRecursion, refill, insert}
 use Rattle.std.specs.Option.{option_or}
-use Rattle.std.proofs.lemmas.List.{append-nil, append_assoc, take-append-drop, drop-drop, take_at, drop_at, length-append, length-take, length-drop}
-use Rattle.std.proofs.Math.Seq.{take-append_seam, drop-append_seam, drop-append-add}
+use Rattle.std.proofs.lemmas.List.{append-nil, append_assoc, take-append-drop, drop-drop, take_at, drop_at, take_more, length-append, length-take, length-drop}
+use Rattle.std.proofs.Math.Seq.{take-append_seam, drop-append-add}
 use Rattle.std.proofs.Math.Path.{fun_ext}
 use Rattle.std.proofs.lemmas.Bool.Decides.{nat_tests}
 use Rattle.std.proofs.lemmas.Bool.{cases_lt}
@@ -198,10 +198,14 @@ moved_off : (front rest : List Area) (n : ℕ) → n ≤ length rest → take (l
 moved_off front rest n within =
     rw (take-append_seam front rest, drop-append-add front rest n) (take_at (front ++ drop n rest) _ _ (simp (length-append, length-drop) (omega arith)))
 
--- elements that were added behind the others are moved behind the front
-moved_in : (front rest more : List Area) (n : ℕ) → n ≡ length rest → take (length front) (front ++ rest ++ more) ++ drop (length front + n) (front ++ rest ++ more) ++ take n (drop (length front) (front ++ rest ++ more)) ≡ front ++ more ++ rest
-moved_in front rest more n is =
-    rw (append_assoc front rest more, take-append_seam front (rest ++ more), drop-append-add front (rest ++ more) n, drop-append_seam front (rest ++ more), drop_at rest more n (sym is), take_at rest more n (sym is)) refl
+-- one more element is put behind those that were put behind the front
+pub inserted_more : (front rest more xs : List Area) (i n : ℕ) (d : Area) → i < length more → n ≡ length front + i → xs ≡ front ++ (take i more ++ rest) → insert xs n (get_or more i d) ≡ front ++ (take (i + 1) more ++ rest)
+inserted_more front rest more xs i n d below place is =
+    let y = get_or more i d in
+    let pre = front ++ take i more in
+    let whole : xs ≡ pre ++ rest = is ∙ sym (append_assoc front (take i more) rest) in
+    let many : length pre ≡ n = simp (length-append, length-take) (omega arith) in
+    ap (λ ys. insert ys n y) whole ∙ rw (take_at pre rest n many, drop_at pre rest n many) (append_assoc front (take i more) (y ∷ rest) ∙ ap (λ ys. front ++ ys) (sym (append_assoc (take i more) (y ∷ []) rest) ∙ ap (λ ys. ys ++ rest) (sym (take_more more i d below))))
 
 -- pieces that aren't more than the areas in whose place they go
 pub spliced_fewer : (old pieces over more one two : List Area) (place count n : ℕ) → place + count ≤ length old → pieces ≡ over ++ more → length more ≡ 0 → length over + n ≡ count → one ≡ take place old ++ over ++ drop (place + length over) old → two ≡ take (place + length over) one ++ drop (place + length over + n) one ++ take n (drop (place + length over) one) → take (length one - n) two ≡ take place old ++ pieces ++ drop (place + count) old
@@ -215,13 +219,3 @@ spliced_fewer old pieces over [] one two place count n within is none left first
     let total : place + length over + n ≡ place + count = omega arith in
     rw (second, first) (off ∙ ap (λ zs. take place old ++ over ++ zs) (done ∙ ap (λ k. drop k old) total) ∙ ap (λ xs. take place old ++ xs ++ drop (place + count) old) (sym (is ∙ append-nil over)))
 spliced_fewer old pieces over (m ∷ more) one two place count n within is none left first second = absurd (omega arith)
-
--- pieces that are more
-pub spliced_more : (old pieces over more one two : List Area) (place count n : ℕ) → place + count ≤ length old → pieces ≡ over ++ more → length over ≡ count → one ≡ take place old ++ over ++ drop (place + length over) old → n ≡ length one - (place + length over) → two ≡ take (place + length over) (one ++ more) ++ drop (place + length over + n) (one ++ more) ++ take n (drop (place + length over) (one ++ more)) → two ≡ take place old ++ pieces ++ drop (place + count) old
-spliced_more old pieces over more one two place count n within is left first rest_is second =
-    let front = take place old ++ over in
-    let rest = drop (place + length over) old in
-    let many : length front ≡ place + length over = simp (length-append, length-take) (omega arith) in
-    let behind : n ≡ length rest = rest_is ∙ ap (λ xs. length xs - (place + length over)) first ∙ simp (length-append, length-take, length-drop) (omega arith) in
-    let moved = rw many at (moved_in front rest more n behind) in
-    second ∙ ap (λ xs. take (place + length over) (xs ++ more) ++ drop (place + length over + n) (xs ++ more) ++ take n (drop (place + length over) (xs ++ more))) first ∙ moved ∙ ap (λ k. take place old ++ over ++ more ++ drop (place + k) old) left ∙ ap (λ xs. xs ++ drop (place + count) old) (append_assoc (take place old) over more ∙ ap (λ xs. take place old ++ xs) (sym is))

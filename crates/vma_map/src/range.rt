@@ -155,14 +155,15 @@ fn splice(areas: &mut ArrayVec<Area, MAX_AREAS>, place: usize, count: usize, pie
     let (over, more) = pieces.split_at(pieces.len().min(count));
     write_over(areas.as_mut_slice(), place, over);
     let place = place + over.len();
-    let len = areas.len();
     if pieces.len() <= count {
+        let len = areas.len();
         let unused = count - pieces.len();
         move_behind(areas.as_mut_slice(), place, unused);
         areas.truncate(len - unused);
     } else {
-        let _ = areas.try_extend_from_slice(more);
-        move_behind(areas.as_mut_slice(), place, len - place);
+        for (i, piece) in more.iter().enumerate() {
+            areas.insert(place + i, *piece);
+        }
     }
 }
 

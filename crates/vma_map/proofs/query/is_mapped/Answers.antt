@@ -1,9 +1,8 @@
 -- Each area that begins at the next page or before it maps the pages up to its end.
-use Rattle.std.proofs.Common.{◌≡◌, ◌+◌, ◌<◌, None, get_or, take, drop, sym, ap, subst, ◌∙◌, arith}
+use Rattle.std.proofs.Common.{◌≡◌, ◌+◌, ◌<◌, None, get_or, take, drop, subst, ◌∙◌, arith}
 use Rattle.std.specs.Prelude.{is_some}
 use Rattle.std.proofs.lemmas.List.{take_more, take_all}
 use Rattle.vma_map.specs.Runs.{page_map}
-use Rattle.vma_map.specs.Spaces.{is_mapped}
 use Rattle.vma_map.proofs.RangeLemmas.{no_area, at_index}
 use Rattle.vma_map.proofs.QueryLemmas.{IsMappedTo, IsMappedTo-more, is_mapped-areas, next_unmapped, each_page-same}
 use Rattle.vma_map.proofs.query.is_mapped.Goals as goal

@@ -1,5 +1,5 @@
 -- The range is mapped up to the next page.
-use Rattle.std.proofs.Common.{◌≡◌, ◌+◌, take}
+use Rattle.std.proofs.Common.{take}
 use Rattle.vma_map.proofs.QueryLemmas.{IsMappedTo}
 use Rattle.vma_map.proofs.query.is_mapped.Given as goal
 

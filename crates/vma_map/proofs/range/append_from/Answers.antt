@@ -1,5 +1,5 @@
 -- The last area leaves what it has from the page on.
-use Rattle.std.proofs.Common.{[], length, take, drop, get_or, ◌+◌, ◌-◌, sym, ap, ◌∙◌, ◌≤◌, arith}
+use Rattle.std.proofs.Common.{[], length, take, ◌-◌, sym, ◌∙◌, ◌≤◌}
 use Rattle.vma_map.specs.AreaLaws.{AreRuns-head}
 use Rattle.vma_map.proofs.RangeLemmas.{AreRuns-from}
 use Rattle.vma_map.proofs.WordLemmas.{last_of}

@@ -1,15 +1,11 @@
 -- The pieces are written over, and the areas behind them move.
-use Rattle.std.proofs.Common.{◌≡◌, ◌+◌, ◌-◌, ◌++◌, length, take, drop, refl, Result, Ok, Err, OnOk, IsOk, sym, ap, ◌∙◌, arith}
-use Rattle.std.proofs.lemmas.Bool.{false≢true}
+use Rattle.std.proofs.Common.{◌≡◌, ◌+◌, ◌-◌, ◌++◌, length, take, drop, refl, sym, ap, ◌∙◌, arith}
+use Rattle.std.proofs.lemmas.List.{length-take-le}
 use Rattle.std.specs.List.{refill, length_refill}
-use Rattle.vma_map.proofs.SpliceLemmas.{refilled, spliced_fewer, spliced_more}
+use Rattle.vma_map.proofs.SpliceLemmas.{refilled, spliced_fewer, inserted_more}
+use Rattle.vma_map.proofs.RangeLemmas.{no_area}
 use Rattle.vma_map.proofs.range.splice.Goals as goal
 use Rattle.vma_map.proofs.range.splice.Goals.{After-write_over}
-
--- what holds of a success
-on_ok : {T E : Type 0} (r : Result T E) (P : Type 0) → OnOk r P → IsOk r → P
-on_ok (Ok v) P holds is = holds
-on_ok (Err e) P holds is = absurd (false≢true is)
 
 -- how many areas there are when pieces were written over
 kept : (c : After-write_over) → length c.write_over.new.areas ≡ length c.args.areas.now.items
@@ -39,22 +35,15 @@ returns-then-pieces-count c =
     let none : length c.split_at.result.1.now ≡ 0 = omega arith in
     c.truncate.ensures.items ∙ ap (λ xs. take (c.len-len.result - n) xs) (refilled (refill (length old) old c.write_over.new.areas) two moved) ∙ ap (λ k. take (k - n) two) count ∙ spliced_fewer old c.args.pieces.now over c.split_at.result.1.now one two c.args.place c.args.count n c.requires.within c.split_at.ensures.by_index.0 none (omega arith) first c.move_behind.ensures
 
-pub returns-else-pieces-count : goal.returns-else-pieces-count
-returns-else-pieces-count c =
-    let w = (goal.at.returns-else-pieces-count c).After-write_over in
+pub loop-i-preserved : goal.loop-i-preserved
+loop-i-preserved c =
     let old = c.args.areas.now.items in
     let over = c.split_at.result.0.now in
     let more = c.split_at.result.1.now in
     let one = refill (length old) old c.write_over.new.areas in
-    let two = c.move_behind-else-pieces-count.new.areas in
-    let n = c.len-len.result - (c.args.place + length over) in
-    let shown = c.as_mut_slice-else-pieces-count.ensures.value in
+    let place = c.args.place + length over in
     let many : length one ≡ length old = sym (length_refill (length old) old c.write_over.new.areas refl) in
-    let split = c.split_at.ensures.back_len in
     let room = c.split_at.ensures.front_len in
     let fewer = c.min.ensures in
-    let added : c.try_extend_from_slice.new.self.items ≡ one ++ more = on_ok _ _ c.try_extend_from_slice.ensures.ok (c.try_extend_from_slice.ensures.variant.1 (omega arith)) in
-    let moved : length two ≡ length c.try_extend_from_slice.new.self.items = c.move_behind-else-pieces-count.auto.areas ∙ ap length shown in
-    let second = c.move_behind-else-pieces-count.ensures ∙ ap (λ xs. take (c.args.place + length over) xs ++ drop (c.args.place + length over + n) xs ++ take n (drop (c.args.place + length over) xs)) (shown ∙ added) in
-    let full : length over ≡ c.args.count = omega arith in
-    refilled c.try_extend_from_slice.new.self.items two moved ∙ spliced_more old c.args.pieces.now over more one two c.args.place c.args.count n c.requires.within c.split_at.ensures.by_index.0 full (written w) (ap (λ k. k - (c.args.place + length over)) c.len-len.ensures.value) second
+    let front = length-take-le place one (omega arith) in
+    c.insert.ensures.items ∙ inserted_more (take place one) (drop place one) more c.loop-i.areas.items c.loop-i.i (place + c.loop-i.i) no_area (omega arith) (omega arith) c.loop-i.invariant
