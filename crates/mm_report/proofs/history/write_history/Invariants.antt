@@ -1,4 +1,4 @@
-use Rattle.std.proofs.Common.{◌≡◌, ◌≤◌, ◌+◌, ◌-◌, ◌*◌, length}
+use Rattle.std.proofs.Common.{◌≡◌, ◌≤◌, ◌-◌, length}
 use Rattle.word_bits.specs.Histories.{Records}
 use Rattle.mm_report.specs.Cursors.{AreRead}
 use Rattle.mm_report.proofs.Tasks.{HistoryLeft}
