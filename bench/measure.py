@@ -1,10 +1,14 @@
-"""Runs a program on scripts of two shapes, and prints the time and the memory that it takes.
+"""Runs a program on scripts of three shapes, and prints the time, the memory and, where valgrind is
+there, the instructions that it takes. These don't vary from run to run.
 
-One task on one space, near 256 areas; and 64 tasks on 8 spaces and 8 tables. Of both shapes scripts
-of several lengths are run, so that a time that grows faster than the length shows. Beside them a
-script that the program generates is run, with its summary.
+One task on one space, near 256 areas; 64 tasks on 8 spaces and 8 tables; and 64 tasks that map, unmap
+and touch the same 400 pages of one space. Of each shape scripts of several lengths are run, so that a
+cost that grows faster than the length shows. Beside them a script that the program generates is run,
+with its summary.
 """
 import os
+import re
+import shutil
 import subprocess
 import sys
 import tempfile
@@ -46,6 +50,22 @@ def many_objects(number):
     return f"{'' if call.startswith('signal') else mode}table_{number // 2 % 8} {call}"
 
 
+def full_space(number):
+    """Half are faults, and the others change one or two of 400 pages, so that about 130 areas are there."""
+    random = (number + 7) * 2654435761 % 2**32
+    page, length, prot = random >> 8 & 255, 1 + (random >> 16) % 2, "r" + "-w"[random >> 20 & 1] + "-"
+    page += 144 * (random >> 21 & 1)
+    if random >> 24 & 1:
+        return f"a fault {page} {'rwx'[random >> 25 & 1]}"
+    return [
+        f"a map {page} {length} {prot}",
+        f"a map any {length} {prot}",
+        f"a unmap {page} {length}",
+        f"a protect {page} {length} {prot}",
+        f"a populate {page} {length} {prot}",
+    ][(random >> 26) % 5]
+
+
 def cut(head, tasks, call, size):
     """A script of about so many bytes, whose calls are dealt out to the tasks in equal parts."""
     lines = []
@@ -71,6 +91,7 @@ SHAPES = {
         many_objects,
         size,
     ),
+    "64 tasks, full space": lambda size: cut(["space a"], 64, full_space, size),
 }
 
 
@@ -85,16 +106,29 @@ def once(command, path):
     return time.perf_counter() - before, usage.ru_maxrss
 
 
+def instructions(command, path):
+    """How many instructions one run takes, where there is valgrind."""
+    if not shutil.which("valgrind"):
+        return "-"
+    counted = ["valgrind", "--tool=callgrind", "--callgrind-out-file=/dev/null", *command]
+    with open(path, "rb") as text:
+        told = subprocess.run(counted, stdin=text, stdout=subprocess.DEVNULL, stderr=subprocess.PIPE)
+    return re.search(rb"Collected : (\d+)", told.stderr).group(1).decode()
+
+
 def report(shape, size, command, path):
     """Runs the command some times, and prints a row."""
     runs = sorted(once(command, path) for _ in range(RUNS))
     memory = max(m for _, m in runs)
-    print(f"{shape:<22} {size:>9} {runs[0][0] * 1000:>9.1f} {runs[RUNS // 2][0] * 1000:>10.1f} {memory:>8}")
+    best, median = runs[0][0] * 1000, runs[RUNS // 2][0] * 1000
+    count = instructions(command, path)
+    print(f"{shape:<22} {size:>9} {best:>9.1f} {median:>10.1f} {memory:>8} {count:>13}")
 
 
 def main():
     program = sys.argv[1]
-    print(f"{'shape':<22} {'bytes':>9} {'best ms':>9} {'median ms':>10} {'KiB':>8}")
+    head = ["shape", "bytes", "best ms", "median ms", "KiB", "instructions"]
+    print("{:<22} {:>9} {:>9} {:>10} {:>8} {:>13}".format(*head))
     for shape, script in SHAPES.items():
         for size in SIZES:
             with tempfile.NamedTemporaryFile("w", suffix=".script") as file:

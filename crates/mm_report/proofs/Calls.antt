@@ -83,15 +83,6 @@ module _ {Call : Type 0} (o : Obj Call) where
       let calls : length ws ≡ count_by (is_on object) lines = simp (length-map, length-filter) refl in
       drop_all (calls_before object lines n) (events_of object task lines rs) (omega (arith, events_length task 0 ws rs (has.each ∙ sym calls), all, calls))
 
-  -- where the next call stands no sooner than a position, none stands below it
-  pub none_in_front : (bound from : ℕ) (left : List Event) → bound ≤ from → NextFrom o from left → front o bound left ≡ []
-  none_in_front bound from [] low next = refl
-  none_in_front bound from (v ∷ vs) low next = front_no o bound v vs (omega (arith, next))
-
-  pub all_left : (bound from : ℕ) (left : List Event) → bound ≤ from → NextFrom o from left → behind o bound left ≡ left
-  all_left bound from [] low next = refl
-  all_left bound from (v ∷ vs) low next = behind_no o bound v vs (omega (arith, next))
-
   -- a task's calls are found in its own lines
   own_text : (s : Listing) (object task bound : ℕ) (lines : List Line) (vs : List Event) → task_lines s.tasks task ≡ lines → AllByRecursion (λ (v : Event). v.entry.task ≡ task) vs
       → flat_map (task_event_text object lines) (front o bound vs) ≡ flat_map (event_text s object) (front o bound vs)

@@ -1,22 +1,16 @@
 -- What legal results of an object tell.
-use Rattle.std.proofs.Common.{◌≡◌, ℕ, ◌+◌, ◌*◌, List, [], ◌∷◌, length, ap, ◌∙◌}
+use Rattle.std.proofs.Common.{◌≡◌, ℕ, ◌+◌, ◌*◌, List, length, ap, ◌∙◌}
 use Rattle.std.specs.Prelude.{flat_map}
-use Rattle.std.specs.List.{AllByRecursion}
 use Rattle.std.proofs.lemmas.List.{length-map}
-use Rattle.word_bits.specs.declared.area.Area.{Area}
-use Rattle.word_bits.specs.AreaWord.{IsArea}
 use Rattle.word_bits.specs.declared.entry.Entry.{Entry}
 use Rattle.word_bits.specs.LockWords.{Unavailable}
 use Rattle.word_bits.specs.Snapshots.{Words}
 use Rattle.word_bits.specs.Objects.{Obj}
 use Rattle.word_bits.specs.Histories.{Plan, state_after}
 use Rattle.word_bits.specs.Legal.{IsLegal, Tells}
-use Rattle.word_bits.specs.PageMaps.{runs}
+use Rattle.word_bits.specs.PageMaps.{IsPageMap}
 use Rattle.word_bits.proofs.States.{state_is_state}
 use Rattle.vma_map.specs.Spaces.{space}
-use Rattle.vma_map.specs.Runs.{AreRuns}
-use Rattle.vma_map.specs.AreaLaws.{AreRuns-head, AreRuns-tail}
-use Rattle.vma_map.specs.RunLaws.{runs-runs}
 use Rattle.fd_table.specs.Tables.{table, IsFdMap}
 use Rattle.task_script.specs.Scripts.{Listing, plan_of}
 use Rattle.mm_report.specs.Results.{Told}
@@ -26,14 +20,9 @@ use Rattle.mm_report.specs.Cursors.{AreRead}
 use Rattle.mm_report.proofs.Lawful.{space_lawful, table_lawful}
 use Rattle.mm_report.proofs.Ordered.{have_records, merged_legal}
 
--- each run is an area
-are_areas : (areas : List Area) → AreRuns areas → AllByRecursion IsArea areas
-are_areas [] runs = tt
-are_areas (a ∷ areas) runs = (AreRuns-head a areas runs, are_areas areas (AreRuns-tail a areas runs))
-
--- what any log leaves of a space are areas
-pub areas_left : (plan : Plan) (log : List Entry) → AllByRecursion IsArea (runs (state_after space plan log))
-areas_left plan log = are_areas (runs (state_after space plan log)) (runs-runs (state_after space plan log) (state_is_state space space_lawful plan log).prots)
+-- what any log leaves of a space is a space
+pub space_left : (plan : Plan) (log : List Entry) → IsPageMap (state_after space plan log)
+space_left plan log = state_is_state space space_lawful plan log
 
 -- what any log leaves of a table is a table
 pub table_left : (plan : Plan) (log : List Entry) → IsFdMap (state_after table plan log)

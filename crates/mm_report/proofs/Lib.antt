@@ -12,3 +12,4 @@ pub mod Counted
 pub mod Filled
 pub mod Descriptors
 pub mod Telling
+mod Earliest

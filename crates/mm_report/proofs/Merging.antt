@@ -1,5 +1,5 @@
 -- Tasks whose calls stand in their order are merged into all calls, position by position.
-use Rattle.std.proofs.Common.{◌≡◌, ℕ, ◌+◌, ◌*◌, ◌<◌, ◌≤◌, zero, suc, Bool, true, false, not, ◌&&◌, cond, List, [], ◌∷◌, ◌++◌, length, map, refl, sym, ap, ◌∙◌, arith, nat_eq, Some, append-nil, append_assoc, zero-add, add-zero, ◌⊎◌, inl, inr}
+use Rattle.std.proofs.Common.{◌≡◌, ℕ, ◌+◌, ◌*◌, ◌<◌, ◌≤◌, zero, suc, Bool, true, false, not, ◌&&◌, cond, List, [], ◌∷◌, ◌++◌, length, map, refl, sym, ap, subst, ◌∙◌, arith, nat_eq, Some, append-nil, append_assoc, zero-add, add-zero, ◌⊎◌, inl, inr}
 use Rattle.std.specs.Prelude.{filter, flat_map, slice_get}
 use Rattle.std.specs.List.{AllByRecursion}
 use Rattle.std.proofs.lemmas.Bool.{cases_lt, cases_Bool, ne_eqb, eq-eqb, eqb-true, eqb-false}
@@ -9,7 +9,7 @@ use Rattle.word_bits.specs.declared.entry.Entry.{Entry}
 use Rattle.word_bits.specs.EntryWord.{entry_eq}
 use Rattle.word_bits.specs.Objects.{Obj}
 use Rattle.word_bits.specs.Histories.{Plan, Records, Event, events_from, event_logs, history_from, unlogged_at}
-use Rattle.mm_report.specs.Merged.{task_lists, position, stands_below, front, behind, merged}
+use Rattle.mm_report.specs.Merged.{task_lists, position, stands_below, front, behind, merged, NextFrom}
 
 -- tests that agree on each element keep the same
 filter_same : {X : Type 0} (p q : X → Bool) (xs : List X) → AllByRecursion (λ x. p x ≡ q x) xs → filter p xs ≡ filter q xs
@@ -158,3 +158,94 @@ module _ {Call : Type 0} (o : Obj Call) where
       ap (merged o 0 (length log * 2 + 1)) (sym (all_behind_zero (task_lists 0 plan records)))
       ∙ merged_at plan records 0 (length log * 2 + 1) sorted
       ∙ sym (stands_so (events_from 0 plan records) log 0 log named (λ i. ap (slice_get log) (sym (add-zero i))))
+
+  -- ---- positions below which only one task has calls
+
+  -- each of the tasks has its calls from a position on
+  abbrev pub AreFrom : ℕ → List (List Event) → Type 0
+  AreFrom bound lefts = AllByRecursion (NextFrom o bound) lefts
+
+  -- so does each but one
+  abbrev pub OthersFrom : ℕ → ℕ → List (List Event) → Type 0
+  OthersFrom bound one [] = Unit {0}
+  OthersFrom bound zero (vs ∷ lefts) = AreFrom bound lefts
+  OthersFrom bound (suc one) (vs ∷ lefts) = NextFrom o bound vs × OthersFrom bound one lefts
+
+  -- where a task's next call stands no sooner than a position, none stands below it
+  pub none_in_front : (bound from : ℕ) (left : List Event) → bound ≤ from → NextFrom o from left → front o bound left ≡ []
+  none_in_front bound from [] low next = refl
+  none_in_front bound from (v ∷ vs) low next = front_no bound v vs (omega (arith, next))
+
+  pub all_left : (bound from : ℕ) (left : List Event) → bound ≤ from → NextFrom o from left → behind o bound left ≡ left
+  all_left bound from [] low next = refl
+  all_left bound from (v ∷ vs) low next = behind_no bound v vs (omega (arith, next))
+
+  -- the calls in front of a position, and then those in front of a later one
+  front_front : (p q : ℕ) (vs : List Event) → p ≤ q → front o p vs ++ front o q (behind o p vs) ≡ front o q vs
+  front_front p q [] low = refl
+  front_front p q (v ∷ vs) low = go (front_front p q vs low) (cases_lt (position o v.words v.told) p)
+    where
+      go : front o p vs ++ front o q (behind o p vs) ≡ front o q vs → (position o v.words v.told < p) ⊎ (p ≤ position o v.words v.told) → front o p (v ∷ vs) ++ front o q (behind o p (v ∷ vs)) ≡ front o q (v ∷ vs)
+      go rest (inl below) = rw (front_yes p v vs below, behind_yes p v vs below, front_yes q v vs (omega arith)) (ap (λ us. v ∷ us) rest)
+      go rest (inr from) = rw (front_no p v vs from, behind_no p v vs from) refl
+
+  -- tasks whose calls all stand behind a later position tell nothing in front of it
+  none_told : (p q : ℕ) (lefts : List (List Event)) → p ≤ q → AreFrom q lefts → flat_map (front o p) lefts ≡ []
+  none_told p q [] low from = refl
+  none_told p q (vs ∷ lefts) low from =
+      let first = none_in_front p q vs low from.0 in
+      let rest = none_told p q lefts low from.1 in
+      λ i. first i ++ rest i
+
+  all_stay : (p q : ℕ) (lefts : List (List Event)) → p ≤ q → AreFrom q lefts → map (behind o p) lefts ≡ lefts
+  all_stay p q [] low from = refl
+  all_stay p q (vs ∷ lefts) low from =
+      let first = all_left p q vs low from.0 in
+      let rest = all_stay p q lefts low from.1 in
+      λ i. first i ∷ rest i
+
+  -- one task's calls in front of a position and of a later one
+  told_twice : (p q one : ℕ) (lefts : List (List Event)) → p ≤ q → OthersFrom q one lefts → flat_map (front o p) lefts ++ flat_map (front o q) (map (behind o p) lefts) ≡ flat_map (front o q) lefts
+  told_twice p q one [] low from = refl
+  told_twice p q zero (vs ∷ lefts) low from =
+      let early = none_told p q lefts low from in
+      let later = none_told q q lefts (omega arith) from in
+      let stay = all_stay p q lefts low from in
+      let both = front_front p q vs low in
+      rw (stay, early, later) (rw (append-nil (front o p vs), append-nil (front o q (behind o p vs)), append-nil (front o q vs)) both)
+  told_twice p q (suc one) (vs ∷ lefts) low from =
+      let early = none_in_front p q vs low from.0 in
+      let stay = all_left p q vs low from.0 in
+      let later = none_in_front q q vs (omega arith) from.0 in
+      rw (early, stay, later) (told_twice p q one lefts low from.1)
+
+  others_stay : (p q one : ℕ) (lefts : List (List Event)) → p ≤ q → OthersFrom q one lefts → OthersFrom q one (map (behind o p) lefts)
+  others_stay p q one [] low from = tt
+  others_stay p q zero (vs ∷ lefts) low from = subst (AreFrom q) (sym (all_stay p q lefts low from)) from
+  others_stay p q (suc one) (vs ∷ lefts) low from =
+      (subst (NextFrom o q) (sym (all_left p q vs low from.0)) from.0, others_stay p q one lefts low from.1)
+
+  all_behind_later : (p q : ℕ) (lists : List (List Event)) → p ≤ q → map (behind o q) (map (behind o p) lists) ≡ map (behind o q) lists
+  all_behind_later p q [] low = refl
+  all_behind_later p q (vs ∷ lists) low =
+      let first = behind_behind p q vs low in
+      let rest = all_behind_later p q lists low in
+      λ i. first i ∷ rest i
+
+  -- where only one task has calls below a position, they are told at once
+  pub merged_at_once : (n p one count : ℕ) (lefts : List (List Event)) → OthersFrom (p + suc n) one lefts → merged o p (suc n + count) lefts ≡ flat_map (front o (p + suc n)) lefts ++ merged o (p + suc n) count (map (behind o (p + suc n)) lefts)
+  merged_at_once zero p one count lefts from =
+      let more : 1 + count ≡ suc count = omega arith in
+      ap (λ n. merged o p n lefts) more
+  merged_at_once (suc n) p one count lefts from =
+      let more : suc (suc n) + count ≡ suc (suc n + count) = omega arith in
+      let q : p + 1 + suc n ≡ p + suc (suc n) = omega arith in
+      let from' = others_stay (p + 1) (p + suc (suc n)) one lefts (omega arith) from in
+      let rest = merged_at_once n (p + 1) one count (map (behind o (p + 1)) lefts) (subst (λ b. OthersFrom b one (map (behind o (p + 1)) lefts)) (sym q) from') in
+      let later = all_behind_later (p + 1) (p + suc (suc n)) lefts (omega arith) in
+      let twice = told_twice (p + 1) (p + suc (suc n)) one lefts (omega arith) from in
+      ap (λ k. merged o p k lefts) more
+      ∙ ap (λ vs. flat_map (front o (p + 1)) lefts ++ vs) (rest ∙ ap (λ b. flat_map (front o b) (map (behind o (p + 1)) lefts) ++ merged o b count (map (behind o b) (map (behind o (p + 1)) lefts))) q)
+      ∙ sym (append_assoc (flat_map (front o (p + 1)) lefts) (flat_map (front o (p + suc (suc n))) (map (behind o (p + 1)) lefts)) (merged o (p + suc (suc n)) count (map (behind o (p + suc (suc n))) (map (behind o (p + 1)) lefts))))
+      ∙ ap (λ vs. vs ++ merged o (p + suc (suc n)) count (map (behind o (p + suc (suc n))) (map (behind o (p + 1)) lefts))) twice
+      ∙ ap (λ ls. flat_map (front o (p + suc (suc n))) lefts ++ merged o (p + suc (suc n)) count ls) later

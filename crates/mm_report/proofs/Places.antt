@@ -1,5 +1,5 @@
 -- What stands at a place of a filtered list, of a task's events and of their text.
-use Rattle.std.proofs.Common.{◌≡◌, ℕ, ◌+◌, ◌<◌, Bool, true, false, cond, zero, suc, List, [], ◌∷◌, ◌++◌, length, take, map, ◌-◌, refl, sym, ap, ◌∙◌, length-append, min, add-zero, zero-add, nat_eq, arith, Some, subst}
+use Rattle.std.proofs.Common.{◌≡◌, ℕ, ◌+◌, ◌<◌, Bool, true, false, cond, zero, suc, List, [], ◌∷◌, ◌++◌, length, take, map, ◌-◌, refl, sym, ap, ◌∙◌, add-zero, zero-add, nat_eq, arith, Some, subst}
 use Rattle.std.specs.Prelude.{slice_get, filter, count_by}
 use Rattle.std.proofs.lemmas.Option.{same_Some, slice_get-map, slice_get_within}
 use Rattle.std.proofs.lemmas.List.Sums.{sum_by-cons, length-filter}
@@ -9,10 +9,6 @@ use Rattle.word_bits.specs.declared.rec.Rec.{Rec}
 use Rattle.word_bits.specs.Histories.{task_events}
 use Rattle.task_script.specs.declared.script.Line.{Line}
 use Rattle.task_script.specs.Scripts.{call_words, is_on}
-use Rattle.std.proofs.lemmas.List.{length-map}
-use Rattle.std.proofs.Math.Seq.{take-append_seam}
-use Rattle.word_bits.specs.declared.area.Area.{Area}
-use Rattle.word_bits.specs.AreaWord.{area_word}
 use Rattle.word_bits.specs.RecWord.{IsRec, rec_word}
 use Rattle.task_script.proofs.Pieces.{mapped_at}
 use Rattle.mm_report.specs.Text.{number_of}
@@ -103,15 +99,3 @@ call_at object task ls rs recs first n place l at passes has is =
       at = here ∙ ap (λ k. Some (record { entry = record { task = task; call = k }; words = call_words l; told = r.0 })) (zero-add call);
       number = number_at object ls n l at passes;
     }
-
--- behind the number of areas stand their words
-pub areas_of : (areas : List Area) (rest state words : List ℕ) (count n : ℕ) → state ≡ length areas ∷ (map area_word areas ++ rest) → state ≡ count ∷ words → n ≡ min (length words) count
-    → (count ≡ length areas) × (take n words ≡ map area_word areas)
-areas_of areas rest state words count n is begins n-is =
-    let both : count ∷ words ≡ length areas ∷ (map area_word areas ++ rest) = sym begins ∙ is in
-    let first : count ≡ length areas = cc in
-    let more : words ≡ map area_word areas ++ rest = cc in
-    let mapped : length (map area_word areas) ≡ length areas = simp length-map in
-    let len = ap length more in
-    let n-all : n ≡ length (map area_word areas) = omega (arith, length-append (map area_word areas) rest) in
-    (first, rw (n-all, more) (take-append_seam (map area_word areas) rest))

@@ -1,12 +1,12 @@
 -- The cursors of all tasks, and what is left of the history.
-use Rattle.std.proofs.Common.{◌≡◌, ℕ, ◌+◌, ◌<◌, ◌≤◌, zero, suc, true, cond, List, [], ◌∷◌, ◌++◌, take, drop, map, get_or, length, refl, sym, ap, ◌∙◌, subst, arith, append_assoc, length-append, zero-add, add-zero, nat_lt, Option, Some, ◌⊎◌, inl, inr}
+use Rattle.std.proofs.Common.{◌≡◌, ℕ, ◌+◌, ◌-◌, ◌<◌, ◌≤◌, zero, suc, true, cond, List, [], ◌∷◌, ◌++◌, take, drop, map, get_or, length, refl, sym, ap, ◌∙◌, subst, arith, append_assoc, length-append, zero-add, add-zero, nat_lt, Option, Some, ◌⊎◌, inl, inr}
 use Rattle.std.specs.Prelude.{flat_map, slice_get, filter, count_by, sum_by}
 use Rattle.std.specs.List.{AllByRecursion}
-use Rattle.std.proofs.lemmas.Option.{same_Some, slice_get-map, slice_get_within}
+use Rattle.std.proofs.lemmas.Option.{same_Some, slice_get-map, slice_get_within, slice_get-get_or}
 use Rattle.std.proofs.Math.ListN.{set}
 use Rattle.std.proofs.lemmas.Bool.{cases_eq}
 use Rattle.std.proofs.lemmas.Bool.Decides.{nat_tests}
-use Rattle.std.proofs.lemmas.List.{length-map, get_or-set_other}
+use Rattle.std.proofs.lemmas.List.{length-map, length-take, get_or-take, get_or-set_other}
 use Rattle.std.proofs.lemmas.List.Sums.{sum_by-cons}
 use Rattle.std.proofs.lemmas.Grind.{flat_map-append, get_or-set_at}
 use Rattle.word_bits.specs.declared.call.CallWords.{CallWords}
@@ -21,7 +21,8 @@ use Rattle.task_script.proofs.Pieces.{flat_map_split}
 use Rattle.mm_report.specs.declared.cursor.Cursor.{Cursor}
 use Rattle.mm_report.specs.Text.{event_text}
 use Rattle.mm_report.specs.Merged.{front, behind, merged, task_lists, NextFrom}
-use Rattle.mm_report.specs.Cursors.{at_start, first_record, HasRecords, HaveRecords, AreRead, IsAt, AreAt}
+use Rattle.mm_report.specs.Cursors.{at_start, first_record, HasRecords, HaveRecords, AreRead, IsAt, AreAt, IsOneBelow}
+use Rattle.mm_report.proofs.Merging.{AreFrom, OthersFrom, merged_at_once}
 use Rattle.mm_report.proofs.Remaining.{Remains, remains_all, remains_added, remains_failed, remains_none}
 
 -- what holds of each holds at a place
@@ -148,36 +149,78 @@ module _ {Call : Type 0} (o : Obj Call) where
     text = remains_all old before (flat_map (event_text s object) (merged o 0 end (task_lists 0 (plan_of s object) records)));
   }
 
-  -- the text of the calls at the first position, and that of the others
-  split_text : (s : Listing) (object position count : ℕ) (lefts : List (List Event)) → flat_map (event_text s object) (merged o position (suc count) lefts)
-      ≡ flat_map (event_text s object) (flat_map (front o (position + 1)) lefts) ++ flat_map (event_text s object) (merged o (position + 1) count (map (behind o (position + 1)) lefts))
-  split_text s object position count lefts = flat_map-append (event_text s object) (flat_map (front o (position + 1)) lefts) (merged o (position + 1) count (map (behind o (position + 1)) lefts))
+  -- calls up to a position can be told task by task: it is the next one, or only one task has calls below it
+  abbrev pub CanTell : (position bound : ℕ) → List (List Event) → Type 0
+  CanTell position bound lefts = (bound ≡ position + 1) ⊎ ((one : ℕ) × OthersFrom o bound one lefts)
 
-  pub history_added : (s : Listing) (object : ℕ) (records : Records) (end position : ℕ) (cursors later : List Cursor) (a b c : Option (List ℕ)) (w0 w1 w2 : List ℕ) (h : HistoryLeft s object records end position cursors a b w0 w1) → position < end
-      → IsOnItsWay b c w2 (w1 ++ flat_map (event_text s object) (flat_map (front o (position + 1)) h.lefts)) → AreAt o s object records later (map (behind o (position + 1)) h.lefts) → HistoryLeft s object records end (position + 1) later a c w0 w2
-  history_added s object records end position cursors later a b c w0 w1 w2 h within way at = go h.count h.sum h.text
-    where
-      go : (count : ℕ) → count + position ≡ end → Remains a b w0 w1 (flat_map (event_text s object) (merged o position count h.lefts)) (flat_map (event_text s object) (merged o 0 end (task_lists 0 (plan_of s object) records))) → HistoryLeft s object records end (position + 1) later a c w0 w2
-      go zero sum text = absurd (omega (arith, sum, within))
-      go (suc count) sum text = record {
-        lefts = map (behind o (position + 1)) h.lefts;
-        count = count;
-        sum = omega (arith, sum);
-        at = at;
-        each = simp length-map h.each;
-        text = remains_added a b c w0 w1 w2 (flat_map (event_text s object) (flat_map (front o (position + 1)) h.lefts)) (flat_map (event_text s object) (merged o (position + 1) count (map (behind o (position + 1)) h.lefts))) (flat_map (event_text s object) (merged o 0 end (task_lists 0 (plan_of s object) records)))
-            (subst (λ t. Remains a b w0 w1 t (flat_map (event_text s object) (merged o 0 end (task_lists 0 (plan_of s object) records)))) (split_text s object position count h.lefts) text) way;
-      }
+  -- the calls up to a position, and the others
+  split_merged : (position bound count more : ℕ) (lefts : List (List Event)) → position < bound → count + position ≡ more + bound → CanTell position bound lefts → merged o position count lefts ≡ flat_map (front o bound) lefts ++ merged o bound more (map (behind o bound) lefts)
+  split_merged position bound count more lefts further sum (inl next) =
+      let n : count ≡ suc more = omega arith in
+      ap (λ k. merged o position k lefts) n ∙ ap (λ b. flat_map (front o b) lefts ++ merged o b more (map (behind o b) lefts)) (sym next)
+  split_merged position bound count more lefts further sum (inr (one, from)) =
+      let n = bound - position - 1 in
+      let b : bound ≡ position + suc n = omega arith in
+      let k : count ≡ suc n + more = omega arith in
+      ap (λ k. merged o position k lefts) k ∙ merged_at_once o n position one more lefts (subst (λ q. OthersFrom o q one lefts) b from) ∙ ap (λ q. flat_map (front o q) lefts ++ merged o q more (map (behind o q) lefts)) (sym b)
 
-  pub history_failed : (s : Listing) (object : ℕ) (records : Records) (end position : ℕ) (cursors : List Cursor) (a b c : Option (List ℕ)) (w0 w1 : List ℕ) (h : HistoryLeft s object records end position cursors a b w0 w1) → position < end
-      → Fronts b c (w1 ++ flat_map (event_text s object) (flat_map (front o (position + 1)) h.lefts)) → Fronts a c (w0 ++ flat_map (event_text s object) (merged o 0 end (task_lists 0 (plan_of s object) records)))
-  history_failed s object records end position cursors a b c w0 w1 h within way = go h.count h.sum h.text
+  -- a task whose calls stand behind a position has them behind an earlier one
+  next_lower : (bound from : ℕ) (left : List Event) → bound ≤ from → NextFrom o from left → NextFrom o bound left
+  next_lower bound from [] low next = tt
+  next_lower bound from (v ∷ vs) low next = omega (arith, next)
+
+  all_from : (bound : ℕ) (lefts : List (List Event)) → ((task : ℕ) (left : List Event) → slice_get lefts task ≡ Some left → NextFrom o bound left) → AreFrom o bound lefts
+  all_from bound [] each = tt
+  all_from bound (vs ∷ lefts) each = (each 0 vs refl, all_from bound lefts (λ task left at. each (suc task) left at))
+
+  others_from : (bound one : ℕ) (lefts : List (List Event)) → ((task : ℕ) (left : List Event) → (task ≡ one → ⊥) → slice_get lefts task ≡ Some left → NextFrom o bound left) → OthersFrom o bound one lefts
+  others_from bound one [] each = tt
+  others_from bound zero (vs ∷ lefts) each = all_from bound lefts (λ task left at. each (suc task) left (λ same. omega (arith, same)) at)
+  others_from bound (suc one) (vs ∷ lefts) each =
+      (each 0 vs (λ same. omega (arith, same)) refl, others_from bound one lefts (λ task left other at. each (suc task) left (λ same. other (omega (arith, same))) at))
+
+  -- the cursors tell what can be told
+  pub can_tell : (s : Listing) (object : ℕ) (recs : List ℕ) (records : Records) (cursors : List Cursor) (lefts : List (List Event)) (position bound : ℕ) → AreRead s object recs records → length lefts ≡ length s.tasks → AreAt o s object records cursors lefts → length s.tasks ≤ length cursors
+      → (bound ≡ position + 1) ⊎ IsOneBelow bound (take (length s.tasks) cursors) → CanTell position bound lefts
+  can_tell s object recs records cursors lefts position bound read each at all (inl next) = inl next
+  can_tell s object recs records cursors lefts position bound read each at all (inr (one, below)) = inr (one, others_from bound one lefts from)
     where
-      go : (count : ℕ) → count + position ≡ end → Remains a b w0 w1 (flat_map (event_text s object) (merged o position count h.lefts)) (flat_map (event_text s object) (merged o 0 end (task_lists 0 (plan_of s object) records))) → Fronts a c (w0 ++ flat_map (event_text s object) (merged o 0 end (task_lists 0 (plan_of s object) records)))
-      go zero sum text = absurd (omega (arith, sum, within))
-      go (suc count) sum text =
-          remains_failed a b c w0 w1 (flat_map (event_text s object) (flat_map (front o (position + 1)) h.lefts)) (flat_map (event_text s object) (merged o (position + 1) count (map (behind o (position + 1)) h.lefts))) (flat_map (event_text s object) (merged o 0 end (task_lists 0 (plan_of s object) records)))
-          (subst (λ t. Remains a b w0 w1 t (flat_map (event_text s object) (merged o 0 end (task_lists 0 (plan_of s object) records)))) (split_text s object position count h.lefts) text) way
+      from : (task : ℕ) (left : List Event) → (task ≡ one → ⊥) → slice_get lefts task ≡ Some left → NextFrom o bound left
+      from task left other is =
+          let within = slice_get_within lefts task left is in
+          let lines = get_or s.tasks task [] in
+          let at-lines : slice_get s.tasks task ≡ Some lines = slice_get-get_or s.tasks task [] (omega arith) in
+          let own = task_read s object task recs records lines read at-lines in
+          let here = at task lines own.told left at-lines own.at is in
+          let low = below task other (simp length-take (omega arith)) in
+          let same = get_or-take (length s.tasks) cursors task at_start (omega arith) in
+          next_lower bound (get_or cursors task at_start).position left (omega (arith, low, ap (λ (c : Cursor). c.position) same)) here.next
+
+  -- the text of the calls up to a position, and that of the others
+  split_text : (s : Listing) (object position bound count more : ℕ) (lefts : List (List Event)) → position < bound → count + position ≡ more + bound → CanTell position bound lefts → flat_map (event_text s object) (merged o position count lefts)
+      ≡ flat_map (event_text s object) (flat_map (front o bound) lefts) ++ flat_map (event_text s object) (merged o bound more (map (behind o bound) lefts))
+  split_text s object position bound count more lefts further sum can =
+      ap (flat_map (event_text s object)) (split_merged position bound count more lefts further sum can) ∙ flat_map-append (event_text s object) (flat_map (front o bound) lefts) (merged o bound more (map (behind o bound) lefts))
+
+  module _ (s : Listing) (object : ℕ) (records : Records) (end position bound : ℕ) (cursors : List Cursor) (a b c : Option (List ℕ)) (w0 w1 : List ℕ) (h : HistoryLeft s object records end position cursors a b w0 w1) (further : position < bound) (within : bound ≤ end) (can : CanTell position bound h.lefts) where
+    split : Remains a b w0 w1 (flat_map (event_text s object) (flat_map (front o bound) h.lefts) ++ flat_map (event_text s object) (merged o bound (end - bound) (map (behind o bound) h.lefts))) (flat_map (event_text s object) (merged o 0 end (task_lists 0 (plan_of s object) records)))
+    split =
+        let sum = h.sum in
+        subst (λ t. Remains a b w0 w1 t (flat_map (event_text s object) (merged o 0 end (task_lists 0 (plan_of s object) records)))) (split_text s object position bound h.count (end - bound) h.lefts further (omega arith) can) h.text
+
+    pub history_added : (later : List Cursor) (w2 : List ℕ) → IsOnItsWay b c w2 (w1 ++ flat_map (event_text s object) (flat_map (front o bound) h.lefts)) → AreAt o s object records later (map (behind o bound) h.lefts) → HistoryLeft s object records end bound later a c w0 w2
+    history_added later w2 way at = record {
+      lefts = map (behind o bound) h.lefts;
+      count = end - bound;
+      sum = omega arith;
+      at = at;
+      each = simp length-map h.each;
+      text = remains_added a b c w0 w1 w2 (flat_map (event_text s object) (flat_map (front o bound) h.lefts)) (flat_map (event_text s object) (merged o bound (end - bound) (map (behind o bound) h.lefts))) (flat_map (event_text s object) (merged o 0 end (task_lists 0 (plan_of s object) records))) split way;
+    }
+
+    pub history_failed : Fronts b c (w1 ++ flat_map (event_text s object) (flat_map (front o bound) h.lefts)) → Fronts a c (w0 ++ flat_map (event_text s object) (merged o 0 end (task_lists 0 (plan_of s object) records)))
+    history_failed way =
+        remains_failed a b c w0 w1 (flat_map (event_text s object) (flat_map (front o bound) h.lefts)) (flat_map (event_text s object) (merged o bound (end - bound) (map (behind o bound) h.lefts))) (flat_map (event_text s object) (merged o 0 end (task_lists 0 (plan_of s object) records))) split way
 
   pub history_done : (s : Listing) (object : ℕ) (records : Records) (end position : ℕ) (cursors : List Cursor) (a b : Option (List ℕ)) (w0 w1 : List ℕ) → HistoryLeft s object records end position cursors a b w0 w1 → end ≤ position
       → IsOnItsWay a b w1 (w0 ++ flat_map (event_text s object) (merged o 0 end (task_lists 0 (plan_of s object) records)))

@@ -1,5 +1,5 @@
 -- How far the calls of each task on an object are told.
-use Rattle.std.specs.Prelude.{◌≡◌, ℕ, ◌+◌, List, [], ◌∷◌, ◌++◌, length, take, drop, map, filter, flat_map, sum_by, count_by, slice_get, get_or, Some}
+use Rattle.std.specs.Prelude.{◌≡◌, ℕ, ◌+◌, ◌<◌, ◌≤◌, List, [], ◌∷◌, ◌++◌, length, take, drop, map, filter, flat_map, sum_by, count_by, slice_get, get_or, Some}
 use Rattle.std.specs.List.{AllByRecursion}
 use Rattle.word_bits.specs.declared.rec.Rec.{Rec}
 use Rattle.word_bits.specs.RecWord.{IsRec, rec_word}
@@ -13,6 +13,11 @@ use Rattle.mm_report.specs.Merged.{NextFrom}
 -- before any line
 abbrev pub at_start : Cursor
 at_start = record { line = 0; rec = 0; position = 0 }
+
+-- no task but one has calls left below a position
+abbrev pub IsOneBelow : ℕ → List Cursor → Type 0
+IsOneBelow bound cursors =
+    (one : ℕ) × ((task : ℕ) → (task ≡ one → ⊥) → task < length cursors → bound ≤ (get_or cursors task at_start).position)
 
 -- how many calls on the object stand before a line
 abbrev pub calls_before : ℕ → List Line → ℕ → ℕ

@@ -1,7 +1,7 @@
 //! How far each task's calls on an object are told.
-ghost use Rattle.std.specs.Prelude.{◌≡◌, ◌≤◌, ◌<◌, ℕ, length, get_or};
+ghost use Rattle.std.specs.Prelude.{◌≡◌, ◌≤◌, ◌<◌, ◌+◌, ◌⊎◌, ℕ, length, get_or};
 ghost use Rattle.mm_report.specs.Results.{calls_on};
-ghost use Rattle.mm_report.specs.Cursors.{at_start, first_record};
+ghost use Rattle.mm_report.specs.Cursors.{at_start, first_record, IsOneBelow};
 
 use crate::results::count_on;
 use task_script::Script;
@@ -44,4 +44,28 @@ pub(crate) fn first_cursors(
         rec += count_on(script.calls(task), object);
     }
     cursors
+}
+
+/// The position of the second task that has a call left. Below it stand the calls of one task.
+fn second_position(cursors: &[Cursor]) -> u64
+    ensures { IsOneBelow result cursors.now }
+{
+    let mut least = u64::MAX;
+    let mut second = u64::MAX;
+    for cursor in cursors {
+        second = second.min(cursor.position.max(least));
+        least = least.min(cursor.position);
+    }
+    second
+}
+
+/// A position up to which the tasks' calls can be told task by task: the next one, or one below which
+/// only one task has calls left.
+pub(crate) fn next_bound(cursors: &[Cursor], position: u64, end: u64) -> u64
+    requires { position < end }
+    ensures further { position < result }
+    ensures within { result ≤ end }
+    ensures alone { (result ≡ position + 1) ⊎ IsOneBelow result cursors.now }
+{
+    second_position(cursors).min(end).max(position + 1)
 }

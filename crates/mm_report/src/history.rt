@@ -16,7 +16,7 @@ ghost use Rattle.mm_report.specs.Merged.{position as where_it_stands, front, beh
 ghost use Rattle.task_script.specs.declared.script.Line.{Line};
 ghost use Rattle.mm_report.specs.Cursors.{HasRecords, AreRead, IsAt, AreAt, first_record};
 
-use crate::cursor::{Cursor, first_cursors};
+use crate::cursor::{Cursor, first_cursors, next_bound};
 use crate::line::add_event;
 use task_script::{Failed, Line, Outbox, Script, Sink};
 use word_bits::{CallWords, Object, Rec, Reply, Snapshot};
@@ -220,8 +220,13 @@ pub(crate) fn write_history<O: Object, K: Sink>(
         object,
         recs,
     };
-    for position in 0..snapshot.log().len() as u64 * 2 + 1 {
-        write_position::<O, K>(&calls, position + 1, &mut cursors, out, sink)?;
+    let tasks = script.tasks();
+    let end = snapshot.log().len() as u64 * 2 + 1;
+    let mut position = 0;
+    while position < end {
+        let bound = next_bound(&cursors[..tasks], position, end);
+        write_position::<O, K>(&calls, bound, &mut cursors, out, sink)?;
+        position = bound;
     }
     Ok(())
 }

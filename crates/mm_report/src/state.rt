@@ -1,42 +1,36 @@
 //! The state that an object is left in.
-ghost use Rattle.std.specs.Prelude.{◌≡◌, ◌++◌, ◌∷◌, length, map, flat_map, List, ℕ, Option};
-ghost use Rattle.std.specs.List.{AllByRecursion};
-ghost use Rattle.word_bits.specs.declared.area.Area.{Area};
-ghost use Rattle.word_bits.specs.AreaWord.{IsArea, area_word};
+ghost use Rattle.std.specs.Prelude.{◌≡◌, ◌++◌, length, flat_map};
+ghost use Rattle.word_bits.specs.PageMaps.{PageMap, IsPageMap};
+ghost use Rattle.vma_map.specs.Spaces.{stores as stores_space};
 ghost use Rattle.fd_table.specs.Tables.{FdMap, IsFdMap, fd_map, stores};
 ghost use Rattle.task_script.specs.Causes.{CountsFailure, Adds};
-ghost use Rattle.mm_report.specs.Text.{area_text, descriptor_text, descriptors_text, left_text, table_text};
+ghost use Rattle.mm_report.specs.Text.{area_text, descriptor_text, descriptors_text, left_text, space_text, table_text};
 
 use crate::line::{add_area, add_descriptor, add_left};
 use fd_table::{DESCRIPTORS, Fds};
 use task_script::{Failed, Outbox, Sink};
+use vma_map::Areas;
 use word_bits::{Area, Object};
 
-// The line of an area, from its word.
-fn write_area<K: Sink>(word: u64, out: &mut Outbox, sink: &mut K) -> Result<(), Failed>
-    ensures text { (a : Area) → IsArea a → area_word a ≡ word →
-        Adds (K.written sink.old) (K.written sink.new) out.old out.new (area_text a) result }
+// The lines of these areas.
+fn write_areas<K: Sink>(areas: &[Area], out: &mut Outbox, sink: &mut K) -> Result<(), Failed>
+    ensures text { Adds (K.written sink.old) (K.written sink.new) out.old out.new
+        (flat_map area_text areas.now) result }
     ensures cause { CountsFailure (K.faults sink.old) (K.faults sink.new) result }
 {
-    let Some(area) = Area::unpack(word) else {
-        return Ok(());
-    };
-    out.make_room(sink)?;
-    add_area(out, area);
+    for area in areas {
+        write_area(*area, out, sink)?;
+    }
     Ok(())
 }
 
-// The lines of these areas.
-fn write_areas<K: Sink>(words: &[u64], out: &mut Outbox, sink: &mut K) -> Result<(), Failed>
-    ensures text { (areas : List Area) → AllByRecursion IsArea areas →
-        words.now ≡ map area_word areas →
-        Adds (K.written sink.old) (K.written sink.new) out.old out.new
-        (flat_map area_text areas) result }
+fn write_area<K: Sink>(area: Area, out: &mut Outbox, sink: &mut K) -> Result<(), Failed>
+    ensures text { Adds (K.written sink.old) (K.written sink.new) out.old out.new
+        (area_text area) result }
     ensures cause { CountsFailure (K.faults sink.old) (K.faults sink.new) result }
 {
-    for word in words {
-        write_area(*word, out, sink)?;
-    }
+    out.make_room(sink)?;
+    add_area(out, area);
     Ok(())
 }
 
@@ -50,24 +44,32 @@ fn write_count<K: Sink>(count: u64, out: &mut Outbox, sink: &mut K) -> Result<()
     Ok(())
 }
 
+fn write_runs<K: Sink>(runs: &[Area], out: &mut Outbox, sink: &mut K) -> Result<(), Failed>
+    ensures text { Adds (K.written sink.old) (K.written sink.new) out.old out.new
+        (left_text (length runs.now) ++ flat_map area_text runs.now) result }
+    ensures cause { CountsFailure (K.faults sink.old) (K.faults sink.new) result }
+{
+    write_count(runs.len() as u64, out, sink)?;
+    write_areas(runs, out, sink)
+}
+
 // The areas that a space is left with, from its words.
 pub(crate) fn write_space<K: Sink>(
     state: &[u64],
     out: &mut Outbox,
     sink: &mut K,
 ) -> Result<(), Failed>
-    ensures text { (areas : List Area) (rest : List ℕ) → AllByRecursion IsArea areas →
-        state.now ≡ length areas ∷ (map area_word areas ++ rest) →
-        Adds (K.written sink.old) (K.written sink.new) out.old out.new
-        (left_text (length areas) ++ flat_map area_text areas) result }
+    ensures text { (m : PageMap) → IsPageMap m → stores_space m ≡ state.now →
+        Adds (K.written sink.old) (K.written sink.new) out.old out.new (space_text m) result }
     ensures cause { CountsFailure (K.faults sink.old) (K.faults sink.new) result }
 {
-    let Some((count, words)) = state.split_first() else {
+    if state.len() != Areas::WORDS {
+        return Ok(());
+    }
+    let Some(space) = Areas::load(state) else {
         return Ok(());
     };
-    write_count(*count, out, sink)?;
-    let (areas, _) = words.split_at(words.len().min(*count as usize));
-    write_areas(areas, out, sink)
+    write_runs(space.runs(), out, sink)
 }
 
 // The line of a descriptor, where it is open.

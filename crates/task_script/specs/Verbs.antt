@@ -110,6 +110,11 @@ with_arguments arguments [] v = Ok v
 with_arguments [] (w ∷ ws) v = Ok v
 with_arguments (a ∷ arguments) (w ∷ ws) v = and_then (with_argument a w v) (with_arguments arguments ws)
 
+-- the same of as many words as there are arguments
+abbrev pub counted_arguments : List Argument → List (List ℕ) → Result Values Reason
+counted_arguments arguments ws =
+    if length ws == length arguments then with_arguments arguments ws no_values else Err Words
+
 -- the verb of a call on a space that a word is
 abbrev pub space_verb : List ℕ → Option Verb
 space_verb w =

@@ -1,7 +1,8 @@
 //! Cutting a text into lines, and a line into words.
-ghost use Rattle.std.specs.Prelude.{◌≡◌, ◌==◌, ◌∷◌, ◌<◌, ℕ, Bool, [], length, position, MatchBool, MatchOption, IfSome};
+ghost use Rattle.std.specs.Prelude.{◌≡◌, ◌==◌, ◌∷◌, ◌<◌, ℕ, Bool, true, false, [], length, position, MatchBool, MatchOption, IfSome};
 ghost use Rattle.std.specs.List.{list_all, slice_split};
 ghost use Rattle.task_script.specs.Cuts.{is_blank, is_plain, lines, uncommented, without_return};
+ghost use Rattle.task_script.specs.Grammar.{said};
 ghost use Rattle.task_script.specs.Parts.{IsBegunOtherwise, parts_of};
 
 use std::marker::Model;
@@ -15,14 +16,7 @@ fn blank(byte: u8) -> bool
 fn plain(byte: u8) -> bool
     ensures { result ≡ is_plain byte }
 {
-    blank(byte) || (b'!'..=b'~').contains(&byte)
-}
-
-/// Whether each byte is a blank or a visible character.
-pub(crate) fn is_plain_text(bytes: &[u8]) -> bool
-    ensures { result ≡ list_all is_plain bytes.now }
-{
-    bytes.iter().all(|byte| plain(*byte))
+    byte == b'\t' || (b' '..=b'~').contains(&byte)
 }
 
 fn place_of(bytes: &[u8], at: u8) -> Option<usize>
@@ -70,20 +64,31 @@ fn without_return(line: &[u8]) -> &[u8]
     if *last == b'\r' { front } else { line }
 }
 
-fn uncommented(line: &[u8]) -> &[u8]
-    ensures { result.now ≡ uncommented line.now }
+/// What stands in front of a comment, where each byte of it is a blank or a visible character.
+fn plain_front(line: &[u8]) -> Option<&[u8]>
+    ensures { MatchOption result
+        (list_all is_plain (uncommented line.now) ≡ false)
+        (λ front. (front.now ≡ uncommented line.now) × (list_all is_plain front.now ≡ true)) }
 {
-    match place_of(line, b'#') {
-        Some(place) => &line[..place],
-        None => line,
+    for (place, byte) in line.iter().enumerate() {
+        if *byte == b'#' {
+            return Some(&line[..place]);
+        }
+        if !plain(*byte) {
+            return None;
+        }
     }
+    Some(line)
 }
 
-/// What a line says: without a carriage return at its end, and without a comment.
-pub(crate) fn said(line: &[u8]) -> &[u8]
-    ensures { result.now ≡ uncommented (without_return line.now) }
+/// What a line says: without a carriage return at its end, and without a comment. `None` where a
+/// byte of it is neither a blank nor a visible character.
+pub(crate) fn said(line: &[u8]) -> Option<&[u8]>
+    ensures { MatchOption result
+        (list_all is_plain (said line.now) ≡ false)
+        (λ front. (front.now ≡ said line.now) × (list_all is_plain front.now ≡ true)) }
 {
-    uncommented(without_return(line))
+    plain_front(without_return(line))
 }
 
 /// The words of a line that weren't taken yet. Contracts see their list.

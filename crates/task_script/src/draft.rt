@@ -1,5 +1,6 @@
 //! A script while its lines are read.
-ghost use Rattle.std.specs.Prelude.{◌≡◌, ◌<◌, ◌++◌, ◌∷◌, [], length, IfSome, None, Ok};
+ghost use Rattle.std.specs.Prelude.{◌≡◌, ◌<◌, ◌++◌, ◌∷◌, [], length, map, position, IfSome, None, Ok};
+ghost use Rattle.std.specs.Str.{bytes_eq};
 ghost use Rattle.task_script.specs.Cuts.{words};
 ghost use Rattle.task_script.specs.Grammar.{call_line, declare_line, line_after, line_of, object_line};
 ghost use Rattle.task_script.specs.Grammar.{is_space_at, place_of, task_line, text_after, with_call};
@@ -8,10 +9,10 @@ ghost use Rattle.task_script.specs.Parts.{all_words};
 ghost use Rattle.task_script.specs.Scripts.{nothing};
 ghost use Rattle.task_script.specs.Readings.{Becomes};
 
-use crate::cut::{Words, is_plain_text, said};
+use crate::cut::{Words, said};
 use crate::reason::Reason;
 use crate::script::{Kind, Line};
-use crate::token::{Keyword, Name, keyword_of, name_of};
+use crate::token::{Keyword, Name, keyword_of, name_of, names_object};
 use crate::verb::read_call;
 use indexmap::IndexMap;
 use std::alloc::Global;
@@ -22,6 +23,16 @@ use word_bits::{CallWords, MAX_TASKS, Mode};
 pub(crate) enum LineError {
     Refused(Reason),
     Memory,
+}
+
+impl From<Reason> for LineError {
+    ghost use Rattle.task_script.specs.declared.draft.LineError.TheVariants.{Refused};
+
+    ghost from_gives = { λ reason error. error ≡ Refused reason };
+
+    fn from(reason: Reason) -> LineError {
+        LineError::Refused(reason)
+    }
 }
 
 /// The most objects of a script.
@@ -46,6 +57,16 @@ impl Model for Draft {
     ghost invariant = { λ d. length d.objects.entries ≤ 16 };
 }
 
+/// The place of a name among those of the objects.
+fn place_of(objects: &IndexMap<Name, Kind>, name: &[u8]) -> Option<usize>
+    ensures { result ≡ position (λ key. bytes_eq name.now key.bytes)
+        (map (λ entry. entry.0) objects.now.entries) }
+{
+    objects
+        .keys()
+        .position(|key| name == key.as_str().as_bytes())
+}
+
 impl Draft {
     pub(crate) fn new(alloc: Global) -> Draft
         ensures { result ≡ nothing }
@@ -56,11 +77,11 @@ impl Draft {
         }
     }
 
-    fn place(&self, name: &Name) -> Option<u32>
-        ensures place { result ≡ place_of name.now.bytes self.now.objects }
+    fn place(&self, name: &[u8]) -> Option<u32>
+        ensures place { result ≡ place_of name.now self.now.objects }
         ensures declared { IfSome result (λ place. place < length self.now.objects) }
     {
-        let place = self.objects.get_index_of(name)?;
+        let place = place_of(&self.objects, name)?;
         Some(place as u32)
     }
 
@@ -86,19 +107,17 @@ impl Draft {
         ensures { Becomes result self.new (declare_line (is_space_kind kind) self.old words.entry) }
     {
         let (Some(word), None) = (words.next(), words.next()) else {
-            return Err(LineError::Refused(Reason::Words));
+            return Err(Reason::Words.into());
         };
         if !self.tasks.is_empty() {
-            return Err(LineError::Refused(Reason::Place));
+            return Err(Reason::Place.into());
         }
-        let Some(name) = name_of(word) else {
-            return Err(LineError::Refused(Reason::Name));
-        };
-        if self.place(&name).is_some() {
-            return Err(LineError::Refused(Reason::Twice));
+        let name = name_of(word).ok_or(Reason::Name)?;
+        if self.place(word).is_some() {
+            return Err(Reason::Twice.into());
         }
         if self.objects.len() >= MAX_OBJECTS {
-            return Err(LineError::Refused(Reason::Limit));
+            return Err(Reason::Limit.into());
         }
         self.push_object(name, kind)
     }
@@ -107,10 +126,10 @@ impl Draft {
         ensures { Becomes result self.new (task_line self.old words.entry) }
     {
         if words.next().is_some() {
-            return Err(LineError::Refused(Reason::Words));
+            return Err(Reason::Words.into());
         }
         if self.tasks.len() >= MAX_TASKS as usize {
-            return Err(LineError::Refused(Reason::Limit));
+            return Err(Reason::Limit.into());
         }
         self.tasks
             .push(Vec::new(alloc))
@@ -118,11 +137,10 @@ impl Draft {
     }
 
     fn push_call(&mut self, object: u32, call: CallWords) -> Result<(), LineError>
+        requires { 0 < length self.old.tasks }
         ensures { Becomes result self.new (Ok record { objects = self.old.objects; tasks = with_call self.old.tasks (line_of object call) }) }
     {
-        let Some(calls) = self.tasks.last_mut() else {
-            return Ok(());
-        };
+        let calls = self.tasks.last_mut().unwrap();
         let words = [call.a, call.b];
         if calls.push(Line { object, words }).is_err() {
             return Err(LineError::Memory);
@@ -131,41 +149,27 @@ impl Draft {
     }
 
     fn call_on(&mut self, mode: Mode, object: u32, mut words: Words) -> Result<(), LineError>
-        requires { object < length self.old.objects }
+        requires declared { object < length self.old.objects }
+        requires some { 0 < length self.old.tasks }
         ensures { Becomes result self.new (object_line mode self.old object words.entry) }
     {
-        let Some(verb) = words.next() else {
-            return Err(LineError::Refused(Reason::Words));
-        };
-        match read_call(self.is_space(object), mode, verb, words) {
-            Ok(call) => self.push_call(object, call),
-            Err(reason) => Err(LineError::Refused(reason)),
-        }
+        let verb = words.next().ok_or(Reason::Words)?;
+        let call = read_call(self.is_space(object), mode, verb, words)?;
+        self.push_call(object, call)
     }
 
     fn call(&mut self, mode: Mode, name: Option<&[u8]>, words: Words) -> Result<(), LineError>
         ensures { Becomes result self.new (call_line mode self.old (all_words name.entry words.entry)) }
     {
-        let Some(name) = name else {
-            return Err(LineError::Refused(Reason::Words));
-        };
+        let name = name.ok_or(Reason::Words)?;
         if self.tasks.is_empty() {
-            return Err(LineError::Refused(Reason::Place));
+            return Err(Reason::Place.into());
         }
-        let Some(name) = name_of(name) else {
-            return Err(LineError::Refused(Reason::Name));
-        };
-        match self.place(&name) {
-            Some(object) => self.call_on(mode, object, words),
-            None => Err(LineError::Refused(Reason::Unknown)),
+        if !names_object(name) {
+            return Err(Reason::Name.into());
         }
-    }
-
-    fn call_behind(&mut self, mode: Mode, mut words: Words) -> Result<(), LineError>
-        ensures { Becomes result self.new (call_line mode self.old words.entry) }
-    {
-        let name = words.next();
-        self.call(mode, name, words)
+        let object = self.place(name).ok_or(Reason::Unknown)?;
+        self.call_on(mode, object, words)
     }
 
     fn line_of(&mut self, alloc: Global, mut words: Words) -> Result<(), LineError>
@@ -175,12 +179,12 @@ impl Draft {
             return Ok(());
         };
         match keyword_of(first) {
-            Some(Keyword::Version) => Err(LineError::Refused(Reason::Version)),
+            Some(Keyword::Version) => Err(Reason::Version.into()),
             Some(Keyword::Space) => self.declare(Kind::Space, words),
             Some(Keyword::Table) => self.declare(Kind::Table, words),
             Some(Keyword::Task) => self.task(alloc, words),
-            Some(Keyword::Int) => self.call_behind(Mode::Int, words),
-            Some(Keyword::Try) => self.call_behind(Mode::Try, words),
+            Some(Keyword::Int) => self.call(Mode::Int, words.next(), words),
+            Some(Keyword::Try) => self.call(Mode::Try, words.next(), words),
             None => self.call(Mode::Plain, Some(first), words),
         }
     }
@@ -189,10 +193,7 @@ impl Draft {
     pub(crate) fn line(&mut self, alloc: Global, line: &[u8]) -> Result<(), LineError>
         ensures { Becomes result self.new (text_after self.old line.now) }
     {
-        let line = said(line);
-        if !is_plain_text(line) {
-            return Err(LineError::Refused(Reason::Byte));
-        }
+        let line = said(line).ok_or(Reason::Byte)?;
         self.line_of(alloc, Words::new(line))
     }
 }

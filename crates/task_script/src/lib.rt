@@ -4,8 +4,8 @@
 
 mod cut;
 mod draft;
-mod laws;
 mod generator;
+mod laws;
 mod memory;
 mod outbox;
 mod reader;
@@ -19,8 +19,8 @@ mod token;
 mod verb;
 mod writer;
 
-pub use laws::padding_is_passed_over;
 pub use generator::generate;
+pub use laws::padding_is_passed_over;
 pub use memory::{MemSink, MemSource};
 pub use outbox::Outbox;
 pub use reader::{ScriptError, read};

@@ -54,7 +54,8 @@ pub(crate) fn keyword_of(word: &[u8]) -> Option<Keyword>
     }
 }
 
-fn names_object(word: &[u8]) -> bool
+/// Whether the word may be the name of an object.
+pub(crate) fn names_object(word: &[u8]) -> bool
     ensures { result ≡ is_name word.now }
 {
     has_form_of_name(word) && keyword_of(word).is_none()

@@ -4,9 +4,8 @@ ghost use Rattle.word_bits.specs.Calls.{mode_number};
 ghost use Rattle.task_script.specs.Tokens.{access, number, prot};
 ghost use Rattle.task_script.specs.Texts.{values_of, verb_of_kind};
 ghost use Rattle.task_script.specs.Verbs.{arguments_of, call_on, call_with, call_words_of, kind_of};
-ghost use Rattle.task_script.specs.Verbs.{no_values, number_below, space_verb, table_verb};
+ghost use Rattle.task_script.specs.Verbs.{counted_arguments, number_below, space_verb, table_verb};
 ghost use Rattle.task_script.specs.Verbs.{takes_mode, verb_of, verb_text, with_any, with_argument};
-ghost use Rattle.task_script.specs.Verbs.{with_arguments};
 
 use crate::cut::Words;
 use crate::reason::Reason;
@@ -118,15 +117,25 @@ impl Argument {
     }
 }
 
+/// What the words say, which are to be as many as the arguments.
 fn read_arguments(arguments: &[Argument], mut words: Words) -> Result<Values, Reason>
-    ensures { result ≡ with_arguments arguments.now words.entry no_values }
+    ensures { result ≡ counted_arguments arguments.now words.entry }
 {
     let mut values = Values::NONE;
+    let mut left = arguments.len();
     for argument in arguments {
+        left -= 1;
         let Some(word) = words.next() else {
-            break;
+            return Err(Reason::Words);
         };
-        values = argument.read(word, values)?;
+        values = match argument.read(word, values) {
+            Ok(values) => values,
+            Err(reason) if words.count_is(left) => return Err(reason),
+            Err(_) => return Err(Reason::Words),
+        };
+    }
+    if words.next().is_some() {
+        return Err(Reason::Words);
     }
     Ok(values)
 }
@@ -308,9 +317,6 @@ impl Verb {
     {
         if !self.takes(mode) {
             return Err(Reason::Mode);
-        }
-        if !words.count_is(self.arguments().len()) {
-            return Err(Reason::Words);
         }
         let values = read_arguments(self.arguments(), words)?;
         Ok(self.words(mode, values))

@@ -4,3 +4,5 @@ pub mod CountLemmas
 pub mod FaultLemmas
 pub mod QueryLemmas
 pub mod FindLemmas
+mod CutLemmas
+mod SpliceLemmas

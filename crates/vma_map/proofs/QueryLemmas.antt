@@ -1,10 +1,8 @@
 -- Ranges of pages, as areas in order have them.
-use Rattle.std.proofs.Common.{◌≡◌, ℕ, ◌+◌, ◌-◌, max, ◌<◌, ◌≤◌, List, [], ◌∷◌, ◌++◌, refl, zero, suc, Option, Some, None, Bool, true, false, ◌&&◌, ◌||◌, cond, eqb, leb, ltb, ◌⊎◌, inl, inr, sym, ap, ◌∙◌, arith}
+use Rattle.std.proofs.Common.{◌≡◌, ℕ, ◌+◌, ◌-◌, max, ◌<◌, ◌≤◌, List, [], ◌∷◌, ◌++◌, refl, zero, suc, Option, Some, None, Bool, true, false, eqb, leb, ◌⊎◌, inl, inr, sym, ap, ◌∙◌, arith}
 use Rattle.std.specs.Prelude.{is_some, is_none}
 use Rattle.std.specs.Bool.{then_some}
-use Rattle.std.specs.List.{list_all}
-use Rattle.std.proofs.lemmas.Bool.Decides.{nat_tests}
-use Rattle.std.proofs.lemmas.Bool.{cases_lt, cases_eq, cases_Bool, and_parts, and_from, and_cases, or_parts, false≢true, false_from_ne_true, cond-true, cond-false, ne_eqb, leb-false, leb-true}
+use Rattle.std.proofs.lemmas.Bool.{cases_lt, cases_eq, cases_Bool, and_parts, and_from, false≢true, false_from_ne_true, cond-true, cond-false, ne_eqb, leb-false, leb-true}
 use Rattle.word_bits.specs.declared.area.Area.{Area}
 use Rattle.word_bits.specs.PageMaps.{PageMap}
 use Rattle.vma_map.specs.Runs.{page_map, AreRuns}
@@ -57,62 +55,32 @@ first_free-none m len page zero none = refl
 first_free-none m len page (suc count) none =
     cond-false (is_free m page len) (Some page) (first_free m len (page + 1) count) (none page (omega arith) (omega arith)) ∙ first_free-none m len (page + 1) count (λ q low high. none q (omega arith) (omega arith))
 
--- the area has no page of the range
-abbrev pub is_apart : (start len : ℕ) → Area → Bool
-is_apart start len a = leb a.end start || leb (start + len) a.start
+-- ranges of pages that are the same pass the same tests
+pub each_page-same : (test : Option ℕ → Bool) (m n : PageMap) (page count : ℕ) → ((q : ℕ) → page ≤ q → m q ≡ n q) → each_page test m page count ≡ each_page test n page count
+unfolding each_page
+each_page-same test m n page zero same = refl
+each_page-same test m n page (suc count) same =
+    let first = same page (omega arith) in
+    let rest = each_page-same test m n (page + 1) count (λ q low. same q (omega arith)) in
+    rw (first, rest) refl
 
--- a page of the range is in no area that is apart from it
-apart-page : (a : Area) (areas : List Area) (start len q : ℕ) → is_apart start len a ≡ true → start ≤ q → q < start + len → page_map (a ∷ areas) q ≡ page_map areas q
-apart-page a areas start len q apart low high = grind (arith, nat_tests)
-
--- areas that are apart from a range leave it free
-apart-none : (areas : List Area) (start len : ℕ) → list_all (is_apart start len) areas ≡ true → (q : ℕ) → start ≤ q → q < start + len → page_map areas q ≡ None
-apart-none [] start len all q low high = refl
-apart-none (a ∷ areas) start len all q low high =
-    let parts = and_parts (is_apart start len a) (list_all (is_apart start len) areas) all in
-    apart-page a areas start len q parts.0 low high ∙ apart-none areas start len parts.1 q low high
-
--- a page of a range
-record IsPageOf (start len q : ℕ) : Type 0 where
-  low : start ≤ q
-  high : q < start + len
-
--- a page that an area has is mapped
-mapped-first : (a : Area) (areas : List Area) (q : ℕ) → is_none (page_map areas q) ≡ false → is_none (page_map (a ∷ areas) q) ≡ false
-mapped-first a areas q mapped = go (leb a.start q && ltb q a.end)
+-- a range is free exactly if it ends before the first area that ends behind its start
+pub is_free-first : (a : Area) (areas : List Area) (start len : ℕ) → AreRuns (a ∷ areas) → start < a.end → 0 < len → leb (start + len) a.start ≡ is_free (page_map (a ∷ areas)) start len
+is_free-first a areas start len runs behind some = go (cases_Bool (leb (start + len) a.start))
   where
-    go : (test : Bool) → is_none (cond test (Some a.prot) (page_map areas q)) ≡ false
-    go true = refl
-    go false = mapped
-
--- areas of which one is not apart from a range map a page of it
-overlap : (areas : List Area) (start len : ℕ) → AreRuns areas → 0 < len → list_all (is_apart start len) areas ≡ false → (q : ℕ) × IsPageOf start len q × (is_none (page_map areas q) ≡ false)
-overlap [] start len runs some fails = absurd (false≢true (sym fails))
-overlap (a ∷ areas) start len runs some fails =
-    go (and_cases (is_apart start len a) (list_all (is_apart start len) areas) fails) (overlap areas start len (AreRuns-tail a areas runs) some)
-  where
-    go : (is_apart start len a ≡ false) ⊎ (list_all (is_apart start len) areas ≡ false) → (list_all (is_apart start len) areas ≡ false → (q : ℕ) × IsPageOf start len q × (is_none (page_map areas q) ≡ false)) → (q : ℕ) × IsPageOf start len q × (is_none (page_map (a ∷ areas) q) ≡ false)
-    go (inl meets) rest =
-        let parts = or_parts (leb a.end start) (leb (start + len) a.start) meets in
-        let over = leb-false a.end start parts.0 in
-        let under = leb-false (start + len) a.start parts.1 in
+    go : (leb (start + len) a.start ≡ true) ⊎ (leb (start + len) a.start ≡ false) → leb (start + len) a.start ≡ is_free (page_map (a ∷ areas)) start len
+    go (inl before) =
+        let ends = leb-true (start + len) a.start before in
+        before ∙ sym (each_page-from is_none (page_map (a ∷ areas)) start len (λ q low high. ap is_none (page_map-before a areas runs q (omega arith))))
+    go (inr meets) =
+        let under = leb-false (start + len) a.start meets in
         let some' = (AreRuns-head a areas runs).some in
         let here = page_map-in a areas (max a.start start) (omega arith) (omega arith) in
-        (max a.start start, record { low = omega arith; high = omega arith }, ap is_none here)
-    go (inr others) rest =
-        let page = rest others in
-        (page.0, page.1, mapped-first a areas page.0 page.2)
+        meets ∙ sym (each_page-not is_none (page_map (a ∷ areas)) start len (max a.start start) (omega arith) (omega arith) (ap is_none here))
 
--- a range is free exactly if all areas are apart from it
-pub is_free-areas : (areas : List Area) (start len : ℕ) → AreRuns areas → 0 < len → list_all (is_apart start len) areas ≡ is_free (page_map areas) start len
-is_free-areas areas start len runs some = go (cases_Bool (list_all (is_apart start len) areas))
-  where
-    go : (list_all (is_apart start len) areas ≡ true) ⊎ (list_all (is_apart start len) areas ≡ false) → list_all (is_apart start len) areas ≡ is_free (page_map areas) start len
-    go (inl all) =
-        all ∙ sym (each_page-from is_none (page_map areas) start len (λ q low high. ap is_none (apart-none areas start len all q low high)))
-    go (inr fails) =
-        let (q, is, mapped) = overlap areas start len runs some fails in
-        fails ∙ sym (each_page-not is_none (page_map areas) start len q is.low is.high mapped)
+-- no areas leave a range free
+pub is_free-none : (start len : ℕ) → is_free (page_map []) start len ≡ true
+is_free-none start len = each_page-from is_none (page_map []) start len (λ q low high. refl)
 
 -- a page of one of the areas
 pub page_map-at : (areas front : List Area) (a : Area) (rest : List Area) → areas ≡ front ++ a ∷ rest → AreRuns areas → (q : ℕ) → a.start ≤ q → q < a.end → page_map areas q ≡ Some a.prot
@@ -152,9 +120,9 @@ module _ (areas front : List Area) (a : Area) (rest : List Area) (start next : �
           let same : max next a.end ≡ next = omega arith in
           rw same so_far.ends
 
--- behind the last area, the range is mapped exactly if it ends there
-pub is_mapped-areas : (areas : List Area) (start len next : ℕ) → IsMappedTo areas areas start next → leb (start + len) next ≡ is_mapped (page_map areas) start len
-is_mapped-areas areas start len next all = go (cases_Bool (leb (start + len) next))
+-- the range is mapped exactly if it ends by the next page, where that isn't mapped
+pub is_mapped-areas : (areas front : List Area) (start len next : ℕ) → IsMappedTo areas front start next → (next < start + len → page_map areas next ≡ None) → leb (start + len) next ≡ is_mapped (page_map areas) start len
+is_mapped-areas areas front start len next all stops = go (cases_Bool (leb (start + len) next))
   where
     go : (leb (start + len) next ≡ true) ⊎ (leb (start + len) next ≡ false) → leb (start + len) next ≡ is_mapped (page_map areas) start len
     go (inl ended) =
@@ -162,7 +130,12 @@ is_mapped-areas areas start len next all = go (cases_Bool (leb (start + len) nex
         ended ∙ sym (each_page-from is_some (page_map areas) start len (λ q low high. all.mapped q low (omega arith)))
     go (inr not_yet) =
         let beyond = leb-false (start + len) next not_yet in
-        not_yet ∙ sym (each_page-not is_some (page_map areas) start len next all.from beyond (ap is_some all.ends))
+        not_yet ∙ sym (each_page-not is_some (page_map areas) start len next all.from beyond (ap is_some (stops beyond)))
+
+-- the next page isn't mapped where the next area begins behind it
+pub next_unmapped : (areas front : List Area) (a : Area) (rest : List Area) (start next : ℕ) → areas ≡ front ++ a ∷ rest → AreRuns areas → IsMappedTo areas front start next → next < a.start → page_map areas next ≡ None
+next_unmapped areas front a rest start next is runs so_far before =
+    ap (λ xs. page_map xs next) is ∙ page_map-append front (a ∷ rest) next ∙ rw so_far.ends (page_map-before a rest (AreRuns-from front a rest (rw is at runs)) next before)
 
 -- the end of the last area, or else a page
 abbrev last_end : ℕ → List Area → ℕ

@@ -13,7 +13,7 @@ use Rattle.vma_map.specs.AreaLaws.{AreRuns-head, map-area_word-injective}
 use Rattle.vma_map.proofs.RangeLemmas.{no_area, at_index, AreRuns-at, AreRuns-from, AreRuns-after}
 
 -- a list that has a last element
-last_of : {X : Type 0} (xs : List X) (x : X) → slice_get xs (length xs - 1) ≡ Some x → xs ≡ take (length xs - 1) xs ++ x ∷ []
+pub last_of : {X : Type 0} (xs : List X) (x : X) → slice_get xs (length xs - 1) ≡ Some x → xs ≡ take (length xs - 1) xs ++ x ∷ []
 last_of xs x is =
     let within = slice_get_within xs (length xs - 1) x is in
     let here = get_or_from_slice_get xs (length xs - 1) x x is in

@@ -5,8 +5,8 @@ ghost use Rattle.vma_map.specs.Runs.{page_map};
 ghost use Rattle.vma_map.specs.Spaces.{IsAccess, IsCall, changed, mapped, mapped_any, mapped_new, unmapped, protected, populated, readable, access_reply, meaning, reply_of};
 
 use crate::call::SpaceCall;
-use crate::query::{is_free, is_mapped, lowest_free};
-use crate::range::with_change;
+use crate::query::{is_free, is_mapped, lowest_free, prot_of};
+use crate::range::change;
 use crate::words::{self, SPACE_WORDS};
 use crate::{MAX_AREAS, PAGES};
 use arrayvec::ArrayVec;
@@ -29,18 +29,6 @@ impl Model for Areas {
     ghost view = { λ s. s.areas.items };
 
     ghost invariant = { λ s. IsSpace s.areas.items };
-}
-
-/// What the areas say of a page.
-fn prot_of(areas: &[Area], page: u32) -> Option<u8>
-    ensures { result ≡ page_map areas.now page }
-{
-    for area in areas {
-        if area.start <= page && page < area.end {
-            return Some(area.prot);
-        }
-    }
-    None
 }
 
 impl Areas {
@@ -73,9 +61,7 @@ impl Areas {
         ensures err { OnErr result (self.new ≡ self.old) }
         ensures errno { IfErr result (λ errno. errno ≡ Errno.NoMem) }
     {
-        let next = with_change(self.areas.as_slice(), start, end, prot);
-        self.areas = ArrayVec::try_from(next.as_slice()).map_err(|_| Errno::NoMem)?;
-        Ok(())
+        change(&mut self.areas, start, end, prot)
     }
 
     fn map(&mut self, start: u32, len: u32, prot: u8) -> Result<Reply, Errno>

@@ -1,20 +1,25 @@
-//! Changes of a range of pages, over areas in order.
-ghost use Rattle.std.specs.Prelude.{◌≡◌, ℕ, ◌+◌, ◌<◌, ◌≤◌, length, None, Some, IfSome};
+//! Changes of a range of pages, in place over areas in order.
+ghost use Rattle.std.specs.Prelude.{◌≡◌, ℕ, ◌+◌, ◌-◌, ◌<◌, ◌≤◌, ◌↔◌, ◌++◌, nat_lt, if◌then◌else◌, take, drop, length, None, Some, IfSome, IsOk, OnOk, OnErr, IfErr};
+ghost use Rattle.std.specs.List.{AllByRecursion};
 ghost use Rattle.arrayvec.specs.ArrayVec.{array_vec_len};
-ghost use Rattle.vma_map.specs.Runs.{page_map, AreRuns};
+ghost use Rattle.word_bits.specs.PageMaps.{runs};
+ghost use Rattle.vma_map.specs.Runs.{page_map, AreRuns, IsSpace};
 ghost use Rattle.vma_map.specs.Spaces.{changed};
 
+use crate::MAX_AREAS;
+use crate::query::{count_begun, count_ended};
 use arrayvec::ArrayVec;
-use word_bits::Area;
+use word_bits::{Area, Errno};
 
-/// Room for the areas that a change makes of 256: one inside an area makes three of it.
-pub(crate) const CHANGED_AREAS: usize = 258;
+/// The most areas that a change makes of those that meet its range: what they leave in front of it,
+/// the range, and what they leave behind it.
+const PIECES: usize = 3;
 
 /// Adds a piece behind the others. An empty one is dropped, and one that touches the last area and
 /// has its protection is joined with it.
-fn append(next: &mut ArrayVec<Area, CHANGED_AREAS>, piece: Area)
+fn append(next: &mut ArrayVec<Area, PIECES>, piece: Area)
     requires runs { AreRuns next.old.items }
-    requires room { array_vec_len next.old < 258 }
+    requires room { array_vec_len next.old < 3 }
     requires within { piece.end ≤ 1048576 }
     requires prot { piece.prot < 8 }
     requires behind { piece.start < piece.end →
@@ -44,9 +49,9 @@ fn append(next: &mut ArrayVec<Area, CHANGED_AREAS>, piece: Area)
 }
 
 /// Adds a range of pages behind the areas, if they are to have a protection.
-fn append_range(next: &mut ArrayVec<Area, CHANGED_AREAS>, start: u32, end: u32, prot: Option<u8>)
+fn append_range(next: &mut ArrayVec<Area, PIECES>, start: u32, end: u32, prot: Option<u8>)
     requires runs { AreRuns next.old.items }
-    requires room { array_vec_len next.old < 258 }
+    requires room { array_vec_len next.old < 3 }
     requires some { start < end }
     requires within { end ≤ 1048576 }
     requires prot { IfSome prot (λ bits. bits < 8) }
@@ -61,45 +66,134 @@ fn append_range(next: &mut ArrayVec<Area, CHANGED_AREAS>, start: u32, end: u32, 
     }
 }
 
-/// The areas after a change: each page of the range has this protection, or none.
-pub(crate) fn with_change(
-    areas: &[Area],
-    start: u32,
-    end: u32,
-    prot: Option<u8>,
-) -> ArrayVec<Area, CHANGED_AREAS>
+/// What areas leave in front of a page, where no one ends before it.
+fn piece_before(areas: &[Area], page: u32) -> ArrayVec<Area, PIECES>
     requires runs { AreRuns areas.now }
-    requires few { length areas.now ≤ 256 }
+    requires reach { AllByRecursion (λ area. page ≤ area.end) areas.now }
+    ensures runs { AreRuns result.items }
+    ensures few { array_vec_len result ≤ 1 }
+    ensures pages { (q : ℕ) → page_map result.items q
+        ≡ (if nat_lt q page then page_map areas.now q else None) }
+{
+    let mut pieces = ArrayVec::new();
+    if let Some(area) = areas.first() {
+        append(
+            &mut pieces,
+            Area {
+                end: area.end.min(page),
+                ..*area
+            },
+        );
+    }
+    pieces
+}
+
+/// Adds what areas leave from a page on, where no one begins behind it.
+fn append_from(next: &mut ArrayVec<Area, PIECES>, areas: &[Area], page: u32)
+    requires runs { AreRuns next.old.items }
+    requires room { array_vec_len next.old < 3 }
+    requires before { (q : ℕ) → page ≤ q → page_map next.old.items q ≡ None }
+    requires areas { AreRuns areas.now }
+    requires reach { AllByRecursion (λ area. area.start ≤ page) areas.now }
+    ensures runs { AreRuns next.new.items }
+    ensures pages { (q : ℕ) → page_map next.new.items q
+        ≡ (if nat_lt q page then page_map next.old.items q else page_map areas.now q) }
+{
+    if let Some(area) = areas.last() {
+        append(
+            next,
+            Area {
+                start: area.start.max(page),
+                ..*area
+            },
+        );
+    }
+}
+
+/// What the areas that meet a range become: each page of the range has this protection, or none.
+fn pieces_of(met: &[Area], start: u32, end: u32, prot: Option<u8>) -> ArrayVec<Area, PIECES>
+    requires runs { AreRuns met.now }
     requires some { start < end }
     requires within { end ≤ 1048576 }
     requires prot { IfSome prot (λ bits. bits < 8) }
+    requires ends { AllByRecursion (λ area. start ≤ area.end) met.now }
+    requires starts { AllByRecursion (λ area. area.start ≤ end) met.now }
     ensures runs { AreRuns result.items }
-    ensures pages { page_map result.items ≡ changed (page_map areas.now) start end prot }
+    ensures pages { (q : ℕ) → page_map result.items q ≡ changed (page_map met.now) start end prot q }
 {
-    let mut next = ArrayVec::new();
-    let mut placed = false;
-    for area in areas {
-        append(
-            &mut next,
-            Area {
-                end: area.end.min(start),
-                ..*area
-            },
-        );
-        if !placed && end < area.end {
-            append_range(&mut next, start, end, prot);
-            placed = true;
+    let mut pieces = piece_before(met, start);
+    append_range(&mut pieces, start, end, prot);
+    append_from(&mut pieces, met, end);
+    pieces
+}
+
+/// Moves the areas at a place behind those that follow them.
+fn move_behind(areas: &mut [Area], place: usize, count: usize)
+    requires { place + count ≤ length areas.old }
+    ensures { areas.new ≡ take place areas.old ++ drop (place + count) areas.old
+        ++ take count (drop place areas.old) }
+{
+    areas[place..].rotate_left(count);
+}
+
+/// Writes pieces over the areas at a place.
+fn write_over(areas: &mut [Area], place: usize, pieces: &[Area])
+    requires { place + length pieces.now ≤ length areas.old }
+    ensures { areas.new ≡ take place areas.old ++ pieces.now
+        ++ drop (place + length pieces.now) areas.old }
+{
+    areas[place..place + pieces.len()].copy_from_slice(pieces);
+}
+
+/// Puts pieces in the place of so many areas.
+fn splice(areas: &mut ArrayVec<Area, MAX_AREAS>, place: usize, count: usize, pieces: &[Area])
+    requires within { place + count ≤ array_vec_len areas.old }
+    requires room { array_vec_len areas.old + length pieces.now ≤ 256 + count }
+    ensures { areas.new.items ≡ take place areas.old.items ++ pieces.now
+        ++ drop (place + count) areas.old.items }
+{
+    let (over, more) = pieces.split_at(pieces.len().min(count));
+    write_over(areas.as_mut_slice(), place, over);
+    let place = place + over.len();
+    if pieces.len() <= count {
+        let len = areas.len();
+        let unused = count - pieces.len();
+        move_behind(areas.as_mut_slice(), place, unused);
+        areas.truncate(len - unused);
+    } else {
+        for (i, piece) in more.iter().enumerate() {
+            areas.insert(place + i, *piece);
         }
-        append(
-            &mut next,
-            Area {
-                start: area.start.max(end),
-                ..*area
-            },
-        );
     }
-    if !placed {
-        append_range(&mut next, start, end, prot);
+}
+
+/// Gives each page of a range this protection, or none, unless there are too many areas then.
+pub(crate) fn change(
+    areas: &mut ArrayVec<Area, MAX_AREAS>,
+    start: u32,
+    end: u32,
+    prot: Option<u8>,
+) -> Result<(), Errno>
+    requires space { IsSpace areas.old.items }
+    requires some { start < end }
+    requires within { end ≤ 1048576 }
+    requires prot { IfSome prot (λ bits. bits < 8) }
+    ensures space { IsSpace areas.new.items }
+    ensures few { IsOk result
+        ↔ (length (runs (changed (page_map areas.old.items) start end prot)) ≤ 256) }
+    ensures ok { OnOk result (page_map areas.new.items
+        ≡ changed (page_map areas.old.items) start end prot) }
+    ensures err { OnErr result (areas.new ≡ areas.old) }
+    ensures errno { IfErr result (λ errno. errno ≡ Errno.NoMem) }
+{
+    let place = count_ended(areas.as_slice(), start);
+    let (_, rest) = areas.as_slice().split_at(place);
+    let count = count_begun(rest, end);
+    let (met, _) = rest.split_at(count);
+    let pieces = pieces_of(met, start, end, prot);
+    if areas.len() - count + pieces.len() > MAX_AREAS {
+        return Err(Errno::NoMem);
     }
-    next
+    splice(areas, place, count, pieces.as_slice());
+    Ok(())
 }

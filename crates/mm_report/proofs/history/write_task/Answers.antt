@@ -6,7 +6,8 @@ use Rattle.task_script.proofs.Pieces.{adds_waiting}
 use Rattle.mm_report.specs.Text.{event_text}
 use Rattle.mm_report.specs.Merged.{front, behind}
 use Rattle.mm_report.specs.Cursors.{HasRecords, IsAt, first_record}
-use Rattle.mm_report.proofs.Calls.{none_in_front, all_left, left_text}
+use Rattle.mm_report.proofs.Merging.{none_in_front, all_left}
+use Rattle.mm_report.proofs.Calls.{left_text}
 use Rattle.mm_report.proofs.history.write_task.Goals as goal
 
 pub returns-then-cursor-bound-clause-text : goal.returns-then-cursor-bound-clause-text

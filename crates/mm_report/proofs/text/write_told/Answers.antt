@@ -1,8 +1,7 @@
-use Rattle.std.proofs.Common.{◌-◌, ◌++◌, length, replicate, sym, ◌∙◌, subst}
+use Rattle.std.proofs.Common.{◌++◌, sym, ◌∙◌, subst}
 use Rattle.std.proofs.lemmas.Result.{err_from_is_err_and}
 use Rattle.word_bits.specs.Histories.{state_after}
 use Rattle.word_bits.specs.LockWords.{counted, owned}
-use Rattle.word_bits.specs.PageMaps.{runs}
 use Rattle.vma_map.specs.Spaces.{space}
 use Rattle.fd_table.specs.Tables.{table}
 use Rattle.task_script.specs.Causes.{Fronts, IsOnItsWay, Adds}
@@ -11,7 +10,7 @@ use Rattle.task_script.proofs.Pieces.{adds_then, fronts_more}
 use Rattle.mm_report.specs.Results.{IsLegalOn}
 use Rattle.mm_report.specs.Text.{calls_text, space_text, table_text, told_text}
 use Rattle.task_script.proofs.Pieces.{mapped_same}
-use Rattle.mm_report.proofs.Legal.{areas_left, table_left, legal_read, legal_text}
+use Rattle.mm_report.proofs.Legal.{space_left, table_left, legal_read, legal_text}
 use Rattle.mm_report.proofs.text.write_told.Goals as goal
 
 pub returns-in_err-write_history-clause-text : goal.returns-in_err-write_history-clause-text
@@ -50,7 +49,7 @@ returns-in_ok-write_history-clause-text g c = λ d t at tells legal.
     (adds_then (g.K.Sink.written c.args.sink.now) (g.K.Sink.written c.write_history.new.sink) (g.K.Sink.written c.write_space.new.sink) c.args.out.now c.write_history.new.out c.write_space.new.out
     (calls_text space s object t) (space_text (state_after space (plan_of s object) t.log)) c.write_space.result
     (subst (λ text. IsOnItsWay (g.K.Sink.written c.args.sink.now) (g.K.Sink.written c.write_history.new.sink) c.write_history.new.out (c.args.out.now ++ text)) calls (c.in_ok-write_history.ensures.text t.records read))
-    (c.write_space.ensures.text (runs (state_after space (plan_of s object) t.log)) (replicate (256 - length (runs (state_after space (plan_of s object) t.log))) 0) (areas_left (plan_of s object) t.log) (c.state.ensures ∙ legal_here.stored)))
+    (c.write_space.ensures.text (state_after space (plan_of s object) t.log) (space_left (plan_of s object) t.log) (sym (c.state.ensures ∙ legal_here.stored))))
 
 pub returns-in_ok-write_history-2-clause-text : goal.returns-in_ok-write_history-2-clause-text
 returns-in_ok-write_history-2-clause-text g c = λ d t at tells legal.

@@ -4,4 +4,4 @@ use Rattle.vma_map.proofs.QueryLemmas.{IsMappedTo}
 use Rattle.vma_map.proofs.query.is_mapped.Given as goal
 
 abbrev pub invariant-loop-area : goal.invariant-loop-area
-invariant-loop-area l = IsMappedTo l.areas (take l.area-index l.areas) l.start l.next
+invariant-loop-area l = IsMappedTo l.area-items (take l.area-index l.area-items) l.start l.next

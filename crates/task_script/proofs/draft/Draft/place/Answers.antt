@@ -4,8 +4,8 @@ use Rattle.task_script.proofs.draft.Draft.place.Goals as goal
 
 pub returns-in_err-place-clause-place : goal.returns-in_err-place-clause-place
 returns-in_err-place-clause-place c =
-    rw (← c.self.view_is) (c.from_residual.ensures ∙ sym c.in_err-place.was ∙ c.get_index_of.ensures.index ∙ place_kept c.args.name.now.bytes c.self.inside.objects.entries)
+    rw (← c.self.view_is) (c.from_residual.ensures ∙ sym c.in_err-place.was ∙ c.place_of.ensures ∙ place_kept c.args.name.now c.self.inside.objects.entries)
 
 pub returns-clause-place : goal.returns-clause-place
 returns-clause-place c =
-    rw (← c.self.view_is) (sym (c.in_ok-place.was) ∙ c.get_index_of.ensures.index ∙ place_kept c.args.name.now.bytes c.self.inside.objects.entries)
+    rw (← c.self.view_is) (sym (c.in_ok-place.was) ∙ c.place_of.ensures ∙ place_kept c.args.name.now c.self.inside.objects.entries)
