@@ -15,8 +15,8 @@ pub struct Turns {
 
 /// The CPUs of all tasks that run together. Task t runs on the CPU of number t.
 pub trait Crew {
-    /// The CPU of one task, which can go to that task's thread.
-    type C: Cpu + Send + Drop;
+    /// The CPU of one task. Who makes the tasks' threads asks that it can go to one (`Send`).
+    type C: Cpu + Drop;
 
     /// A CPU for the task, whose counts are 0.
     fn cpu(&mut self, alloc: Global, task: u32, turns: Turns) -> Result<Self::C, AllocError>

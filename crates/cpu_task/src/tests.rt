@@ -23,7 +23,7 @@ fn answers<C: Cpu>(cpu: &mut C) -> ([bool; 5], [bool; 5]) {
 
 /// One thread sleeps, and another raises a flag before it wakes the task. Answers whether the flag
 /// was up after the sleep.
-fn sleeps_until_woken<R: Threads + Wait + Sync, C: Crew + Sync>(
+fn sleeps_until_woken<R: Threads + Wait + Sync, C: Crew<C: Send> + Sync>(
     rt: &R,
     crew: &C,
     cpu: &mut C::C,
