@@ -1,5 +1,5 @@
 -- Hands: their weights, and what stays of a hand while the log and the records grow.
-use Rattle.std.proofs.Common.{◌≡◌, ◌≢◌, ℕ, ◌≤◌, Bool, true, false, leb, List, [], ◌∷◌, ◌++◌, length, set, Option, Some, None, sym, refl, ap, ◌∙◌, subst, arith, eq-eqb, ne_eqb, leb-true, leb-false, if◌then◌else◌}
+use Rattle.std.proofs.Common.{◌≡◌, ◌≢◌, ℕ, ◌≤◌, Bool, true, false, leb, List, [], ◌∷◌, ◌++◌, length, set, Option, Some, None, sym, refl, ap, ◌∙◌, subst, arith, eq-eqb, ne_eqb, leb-true, leb-false, if◌then◌else◌, ◌+◌, suc}
 use mathlib.Core.Option.{some}
 use lib.ListN.{get_elem?}
 use Rattle.word_bits.specs.declared.entry.Entry.{Entry}
@@ -58,7 +58,18 @@ stage-cases Rest rest owes = rest refl
 stage-cases (Entered e) rest owes = rest refl
 stage-cases (Logged e) rest owes = owes e refl
 
+pub consumed-more : (u : ℕ) (task : Option ℕ) (n : ℕ) → consumed_weight u task (n + 1) ≡ consumed_weight u task n + is_number u task
+consumed-more u task n = let e : suc n ≡ n + 1 = omega arith in subst (λ (z : ℕ). consumed_weight u task z ≡ consumed_weight u task n + is_number u task) e refl
+
 -- a hand that counts as much as another
+-- a number that the hands add up to stays where one of them weighs as before
+module _ (f : Hand → ℕ) (hs : List Hand) (id : ℕ) (h g : Hand) where
+  pub sum-stays : (n m : ℕ) → get_elem? hs id ≡ some h → f g ≡ f h → n ≡ m + total f hs → n ≡ m + total f (set hs id g)
+  sum-stays n m at same is = let c = total-same f hs id h g at same in omega (arith, c, is)
+
+  pub one-stays : (n : ℕ) → get_elem? hs id ≡ some h → f g ≡ f h → (n ≡ total f hs) × (total f hs ≤ 1) → (n ≡ total f (set hs id g)) × (total f (set hs id g) ≤ 1)
+  one-stays n at same is = let c = total-same f hs id h g at same in let a = is.0 in let b = is.1 in (omega (arith, c, a), omega (arith, c, b))
+
 pub record SameWeights (h g : Hand) : Type 0 where
   pub held : g.held ≡ h.held
   pub writes : g.writes ≡ h.writes

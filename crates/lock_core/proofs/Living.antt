@@ -1,63 +1,86 @@
 -- A step that is a move lengthens the run.
-use Rattle.std.proofs.Common.{◌≡◌, ℕ, zero, suc, List, [], ◌∷◌, ◌++◌, length, map, set, sym, refl, ap, ◌∙◌, subst, arith}
-use Rattle.std.proofs.lemmas.List.{drop_all}
+use Rattle.std.proofs.Common.{◌≡◌, ℕ, zero, suc, ◌+◌, drop, List, [], ◌∷◌, ◌++◌, length, map, set, sym, refl, ap, ◌∙◌, subst, arith}
+use Rattle.std.proofs.lemmas.List.{drop_all, drop-drop}
 use mathlib.Core.Option.{some, some-ne-none}
 use mathlib.Core.List.{map-append}
 use lib.ListN.{get_elem?}
 use lib.Seq.{map-set}
+use Rattle.atomic_table.proofs.Lists.{at_map}
 use Rattle.lock_core.specs.declared.view.View.{View}
 use Rattle.lock_core.specs.declared.view.Moment.{Moment}
 use Rattle.lock_core.specs.declared.view.Seen.{Seen}
 use Rattle.lock_core.specs.Moves.{Goes}
-use Rattle.lock_core.specs.Parts.{each-set, each-snoc}
-use Rattle.lock_core.specs.Pasts.{Tail, view_of, moment, Moves, Run, Lived, Paced}
+use Rattle.lock_core.specs.Parts.{each-set, each-snoc, set-there}
+use Rattle.lock_core.specs.Views.{hand_of, spin_of}
+use Rattle.lock_core.specs.Pasts.{Tail, GoesOn, Instant, instant, view_of, steps_of, fronts_of, moment, Moves, Lived, IsOwnStep}
 
-older : (x : Moment) (h p : List Moment) → Tail p h → Tail p (x ∷ h)
+pub older : (x : Moment) (h p : List Moment) → Tail p h → Tail p (x ∷ h)
 older x h p t = (suc t.0, t.1)
+
+-- what goes back to a past goes back to all that the past goes back to
+pub goes-on : {A : Type 0} (old new : List A) → Tail old new → GoesOn old new
+goes-on old new t p s = (t.0 + s.0, sym (drop-drop s.0 t.0 new) ∙ (ap (drop s.0) t.1 ∙ s.1))
 
 none-seen : (h : List Moment) → Tail [] h
 none-seen h = (length h, drop_all (length h) h (omega arith))
 
-module _ {E : Type 0} (holds : List ℕ → List (View E) → Type 0) (moves : ℕ → List ℕ → List (View E) → List ℕ → List (View E) → Type 0) where
+module _ {E : Type 0} (marks : E → List ℕ) (begun : Moment) (holds : List ℕ → List (View E) → Type 0) (moves : ℕ → List ℕ → List (View E) → List ℕ → List (View E) → Type 0) where
   -- the pass has seen the moments before and after its step
-  abbrev pub grown : List ℕ → List ℕ → List Moment → View E → Seen E
-  grown ws ws' h w = record { view = w; past = moment ws' ∷ moment ws ∷ h }
+  abbrev pub grown : List ℕ → List (View E) → List ℕ → List (Instant E) → ℕ → View E → Seen E
+  grown ws vs ws' h id w = record { view = w; past = moment marks (instant ws' (set vs id w)) ∷ map (moment marks) (instant ws vs ∷ h) }
 
-  pub lived-after : (ws ws' : List ℕ) (vs : List (Seen E)) (id : ℕ) (w : View E) (r : Lived holds moves ws vs) → Goes holds moves id ws (map view_of vs) ws' (set (map view_of vs) id w) → Lived holds moves ws' (set vs id (grown ws ws' r.0 w))
-  lived-after ws ws' vs id w r goes = let now : Moment = moment ws in let new : Moment = moment ws' in let g : Seen E = grown ws ws' r.0 w in (
-    now ∷ r.0,
-    subst (holds ws') (sym (map-set view_of vs id g)) goes.0,
-    ((id, map view_of vs, set (map view_of vs) id w, r.1, goes.0, goes.1), r.2),
-    each-set (λ (v : Seen E). Tail v.past (now ∷ r.0)) (λ (v : Seen E). Tail v.past (new ∷ now ∷ r.0)) vs id g (zero, refl) (λ j v _ _ t. older new (now ∷ r.0) v.past t) r.3,
-  )
-
-  pub lived-split : (ws : List ℕ) (vs : List (Seen E)) (id : ℕ) (v : Seen E) (a b : View E) → get_elem? vs id ≡ some v → (r : Lived holds moves ws vs)
-      → Goes holds moves id ws (map view_of vs) ws (set (map view_of vs) id a ++ b ∷ []) → Lived holds moves ws (set vs id (record v { view = a }) ++ record { view = b; past = [] } ∷ [])
-  lived-split ws vs id v a b at r goes = let now : Moment = moment ws in let h : List Moment = now ∷ now ∷ r.0 in let x : Seen E = record v { view = a } in let y : Seen E = record { view = b; past = [] } in
-      let is : map view_of (set vs id x ++ y ∷ []) ≡ set (map view_of vs) id a ++ b ∷ [] = map-append view_of (set vs id x) (y ∷ []) ∙ ap (λ (z : List (View E)). z ++ b ∷ []) (map-set view_of vs id x) in (
+  pub lived-after : (ws ws' : List ℕ) (vs : List (Seen E)) (id : ℕ) (w : View E) (r : Lived marks begun holds moves ws vs) → Goes holds moves id ws (map view_of vs) ws' (set (map view_of vs) id w) → Lived marks begun holds moves ws' (set vs id (grown ws (map view_of vs) ws' r.0 id w))
+  lived-after ws ws' vs id w r goes = let us : List (View E) = map view_of vs in let now : Instant E = instant ws us in let new : Instant E = instant ws' (set us id w) in let g : Seen E = grown ws us ws' r.0 id w in let h : List Moment = map (moment marks) (now ∷ r.0) in
+      subst (λ (z : List (View E)). (h : List (Instant E)) × holds ws' z × Rattle.lock_core.specs.Pasts.Paced (Moves holds moves) (instant ws' z ∷ h) × Tail (begun ∷ []) (map (moment marks) (instant ws' z ∷ h)) × Rattle.lock_core.specs.Parts.Each (λ (v : Seen E). Tail v.past (map (moment marks) (instant ws' z ∷ h))) (set vs id g)) (sym (map-set view_of vs id g)) (
         now ∷ r.0,
-        subst (holds ws) (sym is) goes.0,
-        ((id, map view_of vs, set (map view_of vs) id a ++ b ∷ [], r.1, goes.0, goes.1), r.2),
-        each-snoc (λ (v : Seen E). Tail v.past h) (set vs id x) y (none-seen h)
-            (each-set (λ (v : Seen E). Tail v.past (now ∷ r.0)) (λ (v : Seen E). Tail v.past h) vs id x (older now (now ∷ r.0) v.past (r.3 id v at)) (λ j v _ _ t. older now (now ∷ r.0) v.past t) r.3),
+        goes.0,
+        ((id, r.1, goes.0, goes.1), r.2),
+        older (moment marks new) h (begun ∷ []) r.3,
+        each-set (λ (v : Seen E). Tail v.past h) (λ (v : Seen E). Tail v.past (moment marks new ∷ h)) vs id g (zero, refl) (λ j v _ _ t. older (moment marks new) h v.past t) r.4,
       )
 
-  pub lived-join : (ws : List ℕ) (vs : List (Seen E)) (id other : ℕ) (v : Seen E) (a b : View E) → get_elem? vs id ≡ some v → (r : Lived holds moves ws vs)
-      → Goes holds moves id ws (map view_of vs) ws (set (set (map view_of vs) id a) other b) → Lived holds moves ws (set (set vs id (record v { view = a })) other (record { view = b; past = [] }))
-  lived-join ws vs id other v a b at r goes = let now : Moment = moment ws in let h : List Moment = now ∷ now ∷ r.0 in let x : Seen E = record v { view = a } in let y : Seen E = record { view = b; past = [] } in
-      let is : map view_of (set (set vs id x) other y) ≡ set (set (map view_of vs) id a) other b = map-set view_of (set vs id x) other y ∙ ap (λ (z : List (View E)). set z other b) (map-set view_of vs id x) in (
+  pub lived-split : (ws : List ℕ) (vs : List (Seen E)) (id : ℕ) (v : Seen E) (a b : View E) → get_elem? vs id ≡ some v → (r : Lived marks begun holds moves ws vs)
+      → Goes holds moves id ws (map view_of vs) ws (set (map view_of vs) id a ++ b ∷ []) → Lived marks begun holds moves ws (set vs id (record v { view = a }) ++ record { view = b; past = v.past } ∷ [])
+  lived-split ws vs id v a b at r goes = let us : List (View E) = map view_of vs in let now : Instant E = instant ws us in let new : Instant E = instant ws (set us id a ++ b ∷ []) in let h : List Moment = map (moment marks) (now ∷ r.0) in let x : Seen E = record v { view = a } in let y : Seen E = record { view = b; past = v.past } in
+      let is : map view_of (set vs id x ++ y ∷ []) ≡ set us id a ++ b ∷ [] = map-append view_of (set vs id x) (y ∷ []) ∙ ap (λ (z : List (View E)). z ++ b ∷ []) (map-set view_of vs id x) in
+      subst (λ (z : List (View E)). (h : List (Instant E)) × holds ws z × Rattle.lock_core.specs.Pasts.Paced (Moves holds moves) (instant ws z ∷ h) × Tail (begun ∷ []) (map (moment marks) (instant ws z ∷ h)) × Rattle.lock_core.specs.Parts.Each (λ (v : Seen E). Tail v.past (map (moment marks) (instant ws z ∷ h))) (set vs id x ++ y ∷ [])) (sym is) (
         now ∷ r.0,
-        subst (holds ws) (sym is) goes.0,
-        ((id, map view_of vs, set (set (map view_of vs) id a) other b, r.1, goes.0, goes.1), r.2),
-        each-set (λ (v : Seen E). Tail v.past h) (λ (v : Seen E). Tail v.past h) (set vs id x) other y (none-seen h) (λ j v _ _ t. t)
-            (each-set (λ (v : Seen E). Tail v.past (now ∷ r.0)) (λ (v : Seen E). Tail v.past h) vs id x (older now (now ∷ r.0) v.past (r.3 id v at)) (λ j v _ _ t. older now (now ∷ r.0) v.past t) r.3),
+        goes.0,
+        ((id, r.1, goes.0, goes.1), r.2),
+        older (moment marks new) h (begun ∷ []) r.3,
+        each-snoc (λ (v : Seen E). Tail v.past (moment marks new ∷ h)) (set vs id x) y (older (moment marks new) h v.past (r.4 id v at))
+            (each-set (λ (v : Seen E). Tail v.past h) (λ (v : Seen E). Tail v.past (moment marks new ∷ h)) vs id x (older (moment marks new) h v.past (r.4 id v at)) (λ j v _ _ t. older (moment marks new) h v.past t) r.4),
       )
 
-  pub lived-open : (ws : List ℕ) (v : View E) → holds ws (v ∷ []) → Lived holds moves ws (record { view = v; past = [] } ∷ [])
-  lived-open ws v h = ([], h, (tt, tt), each-snoc (λ (v : Seen E). Tail v.past (moment ws ∷ [])) [] (record { view = v; past = [] }) (none-seen (moment ws ∷ [])) (λ j v e. absurd (some-ne-none v (sym e))))
+  pub lived-join : (ws : List ℕ) (vs : List (Seen E)) (id other : ℕ) (v : Seen E) (a b : View E) → get_elem? vs id ≡ some v → (r : Lived marks begun holds moves ws vs)
+      → Goes holds moves id ws (map view_of vs) ws (set (set (map view_of vs) id a) other b) → Lived marks begun holds moves ws (set (set vs id (record v { view = a })) other (record { view = b; past = [] }))
+  lived-join ws vs id other v a b at r goes = let us : List (View E) = map view_of vs in let now : Instant E = instant ws us in let new : Instant E = instant ws (set (set us id a) other b) in let h : List Moment = map (moment marks) (now ∷ r.0) in let x : Seen E = record v { view = a } in let y : Seen E = record { view = b; past = [] } in
+      let is : map view_of (set (set vs id x) other y) ≡ set (set us id a) other b = map-set view_of (set vs id x) other y ∙ ap (λ (z : List (View E)). set z other b) (map-set view_of vs id x) in
+      subst (λ (z : List (View E)). (h : List (Instant E)) × holds ws z × Rattle.lock_core.specs.Pasts.Paced (Moves holds moves) (instant ws z ∷ h) × Tail (begun ∷ []) (map (moment marks) (instant ws z ∷ h)) × Rattle.lock_core.specs.Parts.Each (λ (v : Seen E). Tail v.past (map (moment marks) (instant ws z ∷ h))) (set (set vs id x) other y)) (sym is) (
+        now ∷ r.0,
+        goes.0,
+        ((id, r.1, goes.0, goes.1), r.2),
+        older (moment marks new) h (begun ∷ []) r.3,
+        each-set (λ (v : Seen E). Tail v.past (moment marks new ∷ h)) (λ (v : Seen E). Tail v.past (moment marks new ∷ h)) (set vs id x) other y (none-seen (moment marks new ∷ h)) (λ j v _ _ t. t)
+            (each-set (λ (v : Seen E). Tail v.past h) (λ (v : Seen E). Tail v.past (moment marks new ∷ h)) vs id x (older (moment marks new) h v.past (r.4 id v at)) (λ j v _ _ t. older (moment marks new) h v.past t) r.4),
+      )
 
-  -- what each move does, each step of the run did
-  pub paced : (P : List ℕ → List ℕ → Type 0) → ((x y : List ℕ) → Moves holds moves x y → P x y) → (h : List Moment) → Run holds moves h → Paced P h
-  paced P each [] r = tt
-  paced P each (y ∷ []) r = (tt, tt)
-  paced P each (y ∷ x ∷ h) r = (each x.words y.words r.0, paced P each (x ∷ h) r.1)
+  pub own-step : (ws ws' : List ℕ) (vs : List (View E)) (h : List (Instant E)) (id : ℕ) (v w : View E) → get_elem? vs id ≡ some v → w.steps ≡ v.steps + 1 → IsOwnStep w (grown ws vs ws' h id w).past
+  own-step ws ws' vs h id v w at counts = let new : Instant E = instant ws' (set vs id w) in let there = set-there vs id v w at in record {
+    now = moment marks new;
+    before = moment marks (instant ws vs);
+    rest = map (moment marks) h;
+    seat = id;
+    past_is = refl;
+    hand = at_map hand_of (set vs id w) id w there;
+    spin = at_map spin_of (set vs id w) id w there;
+    steps = at_map steps_of (set vs id w) id w there;
+    fronts = at_map fronts_of (set vs id w) id w there;
+    had = v.steps;
+    had_steps = at_map steps_of vs id v at;
+    counts = counts;
+  }
+
+module _ {E : Type 0} (marks : E → List ℕ) (holds : List ℕ → List (View E) → Type 0) (moves : ℕ → List ℕ → List (View E) → List ℕ → List (View E) → Type 0) where
+  pub lived-open : (ws : List ℕ) (v : View E) → holds ws (v ∷ []) → let new : Moment = moment marks (instant ws (v ∷ [])) in Lived marks new holds moves ws (record { view = v; past = new ∷ [] } ∷ [])
+  lived-open ws v h = let new : Moment = moment marks (instant ws (v ∷ [])) in ([], h, (tt, tt), (zero, refl), each-snoc (λ (v : Seen E). Tail v.past (new ∷ [])) [] (record { view = v; past = new ∷ [] }) (zero, refl) (λ j v e. absurd (some-ne-none v (sym e))))

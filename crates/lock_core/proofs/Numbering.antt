@@ -15,7 +15,7 @@ use Rattle.lock_core.specs.Layout.{SiteWords, lay}
 use Rattle.lock_core.specs.Plans.{calls_in}
 use Rattle.lock_core.specs.Records.{row, AreNext, seen_by}
 use Rattle.lock_core.specs.Views.{told_from, became, longer, Knows}
-use Rattle.lock_core.specs.Sites.{SiteKept, Grows}
+use Rattle.lock_core.specs.Sites.{SiteKept, SiteStep}
 use Rattle.lock_core.specs.Moves.{KeepsHold}
 use Rattle.atomic_table.specs.Table.{Me}
 use Rattle.atomic_table.specs.Seated.{TableId}
@@ -23,12 +23,14 @@ use Rattle.lock_core.specs.declared.view.Seen.{Seen}
 use Rattle.lock_core.specs.declared.view.Held.{Held}
 use Rattle.lock_core.specs.declared.pass.Face.{Face}
 use Rattle.lock_core.specs.Passes.{Sits, Numbered}
-use Rattle.lock_core.proofs.LayoutLaws.{part-at}
+use Rattle.lock_core.specs.Regions.{part-at}
 use Rattle.lock_core.proofs.RowLaws.{none-some, same-some, get-longer, get-there}
 use Rattle.lock_core.proofs.HandLaws.{longer-is}
 use Rattle.lock_core.proofs.RecordLaws.{seen_by-within}
 use Rattle.lock_core.proofs.SeatSteps.{site-begins}
 use Rattle.lock_core.proofs.SeatLaws.{line-stored}
+use Rattle.lock_core.specs.declared.layout.TheConstants.{LINES_AT}
+use Rattle.word_bits.specs.declared.TheConstants.{MAX_TASKS}
 
 told-at : (t c : ℕ) (rs : List Rec) (i : ℕ) (r : Rec) → slice_get rs i ≡ Some r → slice_get (told_from t c rs) i ≡ Some (record { entry = record { task = t; call = c + i }; rec = r })
 told-at t c [] i r e = none-some r e
@@ -67,10 +69,10 @@ module _ {E Call : Type 0} (o : Obj Call) (unavailable : Unavailable) (size : �
   abbrev Kept : SiteWords → List Hand → Type 0
   Kept = SiteKept o unavailable size k
 
-  pub begins-there : (s : List ℕ) (hs : List Hand) (id t : ℕ) (v : View E) → t < length k → Kept (lay k s) hs → get_elem? hs id ≡ some v.hand → v.hand.task ≡ None → get_or s (264 + 8 * t) 0 ≡ 0
-      → (g : Hand) × Numbered o unavailable k v.hand t g × KeepsHold rests v g × Kept (lay k (set s (264 + 8 * t) 1)) (set hs id g) × Grows (lay k s) (lay k (set s (264 + 8 * t) 1))
+  pub begins-there : (s : List ℕ) (hs : List Hand) (id t : ℕ) (v : View E) → t < length k → Kept (lay k s) hs → get_elem? hs id ≡ some v.hand → v.hand.task ≡ None → get_or s (LINES_AT + 8 * t) 0 ≡ 0
+      → (g : Hand) × Numbered o unavailable k v.hand t g × KeepsHold rests v g × Kept (lay k (set s (LINES_AT + 8 * t) 1)) (set hs id g) × SiteStep (lay k s) (lay k (set s (LINES_AT + 8 * t) 1)) v.hand g
   begins-there s hs id t v inside r at out zero_there = let few = r.laid.small.tasks in let rs = row r.told t in let g : Hand = became v.hand t rs (longer v.hand.seen (take (seen_by o 0 (row k t) rs) r.log)) in
-      let kept = line-stored o unavailable size k s (set hs id g) (8 * t) 1 (omega (arith, inside, few)) (site-begins o unavailable size k (lay k s) hs id t v.hand r at out inside (part-at s 264 512 (8 * t) (omega (arith, inside, few)) ∙ zero_there)) in
+      let kept = line-stored o unavailable size k s (set hs id g) (8 * t) 1 v.hand g (omega (arith, inside, few)) (omega arith) (site-begins o unavailable size k (lay k s) hs id t v.hand r at out inside (part-at s LINES_AT (8 * MAX_TASKS) (8 * t) (omega (arith, inside, few)) ∙ zero_there)) in
       (g, (rs, r.log, r.tells.legal t, r.tells.within, refl), (refl, inr (inl out)), kept.0, kept.1)
 
 module _ {Call : Type 0} (o : Obj Call) (unavailable : Unavailable) (k : Plan) (h g : Hand) (t : ℕ) (n : Numbered o unavailable k h t g) where
@@ -105,4 +107,6 @@ sits-numbered o unavailable k table seat seat' me me' face t done seen front' he
       (λ _. let s = seen_by-within o unavailable k n.1 t 0 0 (row k t) n.0 n.2 (omega arith) in let l = n.3 in omega (arith, length-take-le (seen_by o 0 (row k t) n.0) n.1 s, s, l)) (λ _. r.shorter));
   planned = λ u e. let s = numbered-short o unavailable k me.0.view.hand me'.0.view.hand t n in subst (λ (z : ℕ). (z < length k) × (done ≤ length (row k z))) (same-some t u e) (inside, omega (arith, s, many));
   saw = λ x e. none-some x (sym (ap (λ (z : Hand). z.saw) n.4) ∙ e);
+  writer = λ e. ap (λ (z : Hand). z.held) n.4 ∙ r.writer (sym (ap (λ (z : Hand). z.writes) n.4) ∙ e);
+  nameless = λ e. none-some t (sym e ∙ ap (λ (z : Hand). z.task) n.4);
 }

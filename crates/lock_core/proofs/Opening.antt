@@ -8,15 +8,18 @@ use Rattle.word_bits.specs.LockWords.{Unavailable}
 use Rattle.word_bits.specs.Objects.{Obj}
 use Rattle.word_bits.specs.Histories.{Plan, Records}
 use Rattle.lock_core.specs.declared.view.Hand.{Hand}
-use Rattle.lock_core.specs.declared.layout.TheConstants.{LOCK_WORDS}
+use Rattle.lock_core.specs.declared.layout.TheConstants.{LOCK_WORDS, ENTRIES_AT, LENGTH_AT, LINES_AT}
 use Rattle.lock_core.specs.Plans.{calls_in, task_words, call_words, IsSmall}
 use Rattle.lock_core.specs.Layout.{SiteWords, part, calls_at, width, lay, fresh, site}
 use Rattle.lock_core.specs.Records.{row, task_recs, rec_words, sends, task_sends, intrs, IsPlan, AreNext}
 use Rattle.lock_core.specs.Views.{stranger}
-use Rattle.lock_core.specs.Sites.{SiteKept, HandOk, taken_at, sent_at, consumed_at}
+use Rattle.lock_core.specs.Stated.{IsNew}
+use Rattle.lock_core.specs.Pasts.{opening}
+use Rattle.lock_core.specs.Sites.{HeardOk, SiteKept, HandOk, taken_at, sent_at, consumed_at}
 use Rattle.lock_core.specs.Parts.{each-snoc}
 use Rattle.lock_core.proofs.RowLaws.{none-some, get-front}
 use Rattle.lock_core.proofs.SeatSteps.{stranger-ok}
+use Rattle.word_bits.specs.declared.TheConstants.{MAX_TASKS}
 
 pub length-task_words : (ws : List CallWords) → length (task_words ws) ≡ 2 * length ws
 length-task_words [] = refl
@@ -93,13 +96,13 @@ module _ {Call : Type 0} (o : Obj Call) (unavailable : Unavailable) (size : ℕ)
   opens : IsSmall k → IsPlan o k → size ≤ 257 → o.stores o.empty ≡ replicate size 0 → SiteKept o unavailable size k (lay k (replicate {A = ℕ} (calls_at k) 0 ++ call_words k)) (stranger (Some k) [] ∷ [])
   opens small planned fits zeros = let n : ℕ = calls_at k in let cs : List ℕ = call_words k in let s : List ℕ = replicate {A = ℕ} n 0 ++ cs in let w : SiteWords = lay k s in
       let told : Records = replicate {A = List Rec} (length k) [] in let h : Hand = stranger (Some k) [] in
-      let guarded : w.guarded ≡ replicate {A = ℕ} 264 0 = take-zeros 264 n cs (omega arith) in
-      let lines : w.lines ≡ replicate {A = ℕ} 512 0 = part-zeros 264 512 n cs (omega arith) in
-      let entries : w.entries ≡ replicate {A = ℕ} (calls_in k) 0 = part-zeros 784 (calls_in k) n cs (omega arith) in
-      let recs : w.recs ≡ replicate {A = ℕ} (calls_in k) 0 = part-zeros (784 + calls_in k) (calls_in k) n cs (omega arith) in
+      let guarded : w.guarded ≡ replicate {A = ℕ} LINES_AT 0 = take-zeros LINES_AT n cs (omega arith) in
+      let lines : w.lines ≡ replicate {A = ℕ} (8 * MAX_TASKS) 0 = part-zeros LINES_AT (8 * MAX_TASKS) n cs (omega arith) in
+      let entries : w.entries ≡ replicate {A = ℕ} (calls_in k) 0 = part-zeros ENTRIES_AT (calls_in k) n cs (omega arith) in
+      let recs : w.recs ≡ replicate {A = ℕ} (calls_in k) 0 = part-zeros (ENTRIES_AT + calls_in k) (calls_in k) n cs (omega arith) in
       let none : n - calls_at k ≡ 0 = omega arith in
       let calls : w.calls ≡ cs = ap (take (2 * calls_in k)) (drop-zeros n n cs (omega arith) ∙ ap (λ (z : ℕ). replicate {A = ℕ} z 0 ++ cs) none) ∙ take_all (2 * calls_in k) cs (omega (arith, length-call_words k)) in
-      let line : (i : ℕ) → get_or w.lines i 0 ≡ 0 = λ i. ap (λ (z : List ℕ). get_or z i 0) lines ∙ zero-at 512 i in record {
+      let line : (i : ℕ) → get_or w.lines i 0 ≡ 0 = λ i. ap (λ (z : List ℕ). get_or z i 0) lines ∙ zero-at (8 * MAX_TASKS) i in record {
         log = [];
         told = told;
         laid = record {
@@ -107,14 +110,14 @@ module _ {Call : Type 0} (o : Obj Call) (unavailable : Unavailable) (size : ℕ)
           calls = calls;
           planned = planned;
           small = small;
-          guarded = ap length guarded ∙ length-replicate {A = ℕ} 264 0;
-          lines = ap length lines ∙ length-replicate {A = ℕ} 512 0;
+          guarded = ap length guarded ∙ length-replicate {A = ℕ} LINES_AT 0;
+          lines = ap length lines ∙ length-replicate {A = ℕ} (8 * MAX_TASKS) 0;
           room = ap length entries ∙ length-replicate {A = ℕ} (calls_in k) 0;
         };
         tells = record {
           tasks = length-replicate {A = List Rec} (length k) [];
           within = omega arith;
-          many = zero-in n 776 cs (omega arith);
+          many = zero-in n LENGTH_AT cs (omega arith);
           entered = refl;
           filled = recs ∙ sym (rec_words-empty k);
           legal = λ t. subst (λ (rs : List Rec). AreNext o unavailable k [] t 0 0 (row k t) rs) (sym (empty-row (length k) t)) (none-next t (row k t));
@@ -129,12 +132,13 @@ module _ {Call : Type 0} (o : Obj Call) (unavailable : Unavailable) (size : ℕ)
           consumed = λ t l. let a = line (consumed_at t) in let b : intrs (row told t) ≡ 0 = ap intrs (empty-row (length k) t) in omega arith;
           pending = λ t l. let a = line (consumed_at t) in omega arith;
         };
+        heard = each-snoc (HeardOk (lay k (replicate {A = ℕ} (calls_at k) 0 ++ call_words k)).lines) [] h (λ p t is. none-some p is) (λ j v e. absurd (some-ne-none v (sym e)));
         each = each-snoc (HandOk o unavailable size k w.guarded (get_or w.entries w.len 0) [] told) [] h (stranger-ok o unavailable size k w.guarded (get_or w.entries w.len 0) [] told (Some k) [] refl (omega arith) refl)
             (λ j v e. absurd (some-ne-none v (sym e)));
       }
     where
-      take-front : (m : ℕ) → m ≤ 264 → take m (replicate {A = ℕ} 264 0) ≡ replicate {A = ℕ} m 0
-      take-front m l = ap (take m) (sym (mathlib.Core.List.append-nil (replicate {A = ℕ} 264 0))) ∙ take-zeros m 264 [] l
+      take-front : (m : ℕ) → m ≤ LINES_AT → take m (replicate {A = ℕ} LINES_AT 0) ≡ replicate {A = ℕ} m 0
+      take-front m l = ap (take m) (sym (mathlib.Core.List.append-nil (replicate {A = ℕ} LINES_AT 0))) ∙ take-zeros m LINES_AT [] l
 
       none-next : (t : ℕ) (ws : List CallWords) → AreNext o unavailable k [] t 0 0 ws []
       none-next t [] = tt
@@ -143,3 +147,18 @@ module _ {Call : Type 0} (o : Obj Call) (unavailable : Unavailable) (size : ℕ)
   -- the site's facts hold of a new table
   pub site-opens : IsSmall k → IsPlan o k → size ≤ 257 → o.stores o.empty ≡ replicate size 0 → SiteKept o unavailable size k (site k (fresh k)) (stranger (Some k) [] ∷ [])
   site-opens small planned fits zeros = subst (λ (s : List ℕ). SiteKept o unavailable size k (lay k s) (stranger (Some k) [] ∷ [])) (sym (fresh-site k)) (opens small planned fits zeros)
+
+  -- such a table is new
+  pub fresh-new : {E : Type 0} (marks : E → List ℕ) (idle : E) → size ≤ 257 → o.stores o.empty ≡ replicate size 0 → IsNew o size k (opening marks k idle)
+  fresh-new marks idle fits zeros = let n : ℕ = calls_at k in let cs : List ℕ = call_words k in let there = fresh-site k in record {
+    free = fresh-free k;
+    lines = λ i. ap (λ (s : List ℕ). get_or (take (8 * MAX_TASKS) (drop LINES_AT s)) i 0) there ∙ (ap (λ (s : List ℕ). get_or s i 0) (part-zeros LINES_AT (8 * MAX_TASKS) n cs (omega arith)) ∙ zero-at (8 * MAX_TASKS) i);
+    stored = ap (λ (s : List ℕ). take size (take LINES_AT s)) there ∙ (ap (take size) (take-zeros LINES_AT n cs (omega arith)) ∙ (front size (omega (arith, fits)) ∙ sym zeros));
+    logged = ap (λ (s : List ℕ). get_or s LENGTH_AT 0) there ∙ zero-in n LENGTH_AT cs (omega arith);
+    recorded = ap (λ (s : List ℕ). take (calls_in k) (drop (ENTRIES_AT + calls_in k) s)) there ∙ part-zeros (ENTRIES_AT + calls_in k) (calls_in k) n cs (omega arith);
+    hands = refl;
+    spins = refl;
+  }
+    where
+      front : (m : ℕ) → m ≤ LINES_AT → take m (replicate {A = ℕ} LINES_AT 0) ≡ replicate {A = ℕ} m 0
+      front m l = ap (take m) (sym (mathlib.Core.List.append-nil (replicate {A = ℕ} LINES_AT 0))) ∙ take-zeros m LINES_AT [] l

@@ -1,5 +1,5 @@
 -- A pass goes on with its seat.
-use Rattle.std.proofs.Common.{arith, List, ◌≡◌, ℕ, ◌<◌, ◌≤◌, length, Some, sym, ap, ◌∙◌, subst}
+use Rattle.std.proofs.Common.{arith, List, ◌≡◌, ℕ, ◌<◌, ◌≤◌, length, Some, None, true, sym, ap, ◌∙◌, subst}
 use Rattle.atomic_table.specs.Table.{Me}
 use Rattle.atomic_table.specs.Seated.{TableId}
 use Rattle.word_bits.specs.declared.entry.Entry.{Entry}
@@ -7,6 +7,7 @@ use Rattle.word_bits.specs.Histories.{Plan}
 use Rattle.lock_core.specs.declared.view.Seen.{Seen}
 use Rattle.lock_core.specs.declared.view.Hand.{Hand}
 use Rattle.lock_core.specs.declared.view.Saw.{Saw}
+use Rattle.lock_core.specs.declared.view.Held.TheVariants.{No, Alone}
 use Rattle.lock_core.specs.declared.pass.Face.{Face}
 use Rattle.lock_core.specs.Plans.{calls_in}
 use Rattle.lock_core.specs.Records.{row}
@@ -29,6 +30,8 @@ sits-on k table seat seat' me me' face face' same slots hand later says r = reco
   shorter = subst (λ (h : Hand). length h.seen ≤ calls_in k) (sym hand) r.shorter;
   planned = subst (λ (f : Face). (t : ℕ) → f.task ≡ Some t → (t < length k) × (f.done ≤ length (row k t))) (sym says) r.planned;
   saw = subst (λ (h : Hand). (x : Saw) → h.saw ≡ Some x → x.word < 4194304) (sym hand) r.saw;
+  writer = subst (λ (h : Hand). h.writes ≡ true → h.held ≡ Alone) (sym hand) r.writer;
+  nameless = subst (λ (h : Hand). h.task ≡ None → (h.held ≡ No) × (h.sent ≡ None) × (h.consumed ≡ 0)) (sym hand) r.nameless;
 }
 
 -- a hand that says the same of the pass
@@ -42,6 +45,8 @@ pub record SameFace (h g : Hand) : Type 0 where
   pub log : g.log ≡ h.log
   pub saw : g.saw ≡ h.saw
   pub last : g.last ≡ h.last
+  pub writer : g.writes ≡ true → g.held ≡ Alone
+  pub nameless : g.task ≡ None → (g.held ≡ No) × (g.sent ≡ None) × (g.consumed ≡ 0)
 
 -- after a step that leaves what the pass says of itself
 pub sits-same : {E : Type 0} (k : Plan) (table seat seat' : TableId) (me me' : Me (Unit {0}) (Seen E)) (face face' : Face) → seat' ≡ seat → me'.1 ≡ me.1 → SameFace me.0.view.hand me'.0.view.hand → me.0.view.steps ≤ me'.0.view.steps → face' ≡ face → Sits k table seat me face → Sits k table seat' me' face'
@@ -59,4 +64,6 @@ sits-same k table seat seat' me me' face face' same slots hand later says r = re
   shorter = subst (λ (l : List Entry). length l ≤ calls_in k) (sym hand.seen) r.shorter;
   planned = subst (λ (f : Face). (t : ℕ) → f.task ≡ Some t → (t < length k) × (f.done ≤ length (row k t))) (sym says) r.planned;
   saw = λ x e. r.saw x (sym hand.saw ∙ e);
+  writer = hand.writer;
+  nameless = hand.nameless;
 }

@@ -28,15 +28,17 @@ owes (Logged e) l f = f e refl
 
 module _ {Call : Type 0} (o : Obj Call) (unavailable : Unavailable) (size : ℕ) (k : Plan) where
   pub kept-states : (w : SiteWords) (hs : List Hand) → SiteKept o unavailable size k w hs → IsSite o unavailable size k w hs
-  kept-states w hs r = let few = r.laid.small.tasks in record {
+  kept-states w hs r = record {
     log = r.log;
     told = r.told;
     plan = r.laid.calls;
     plans = λ j h at. (r.each j h at).plan;
-    numbers = λ t l. r.balances.named t (omega arith);
+    numbers = r.balances.named;
     guarded = λ none. r.balances.quiet (none-writes hs none);
     writers = λ j h at. (r.each j h at).writer;
     apart = λ i j g h at at' other writes. others-free o unavailable size k hs i j g h r.balances.apart at ((r.each i g at).writer writes) (λ e. other (sym e)) at';
+    alone = λ i j g h at at' other alone. others-free o unavailable size k hs i j g h r.balances.apart at alone (λ e. other (sym e)) at';
+    known = λ j h at. (r.each j h at).known;
     entries = (r.tells.many, r.tells.entered);
     seen = λ j h at. (r.each j h at).seen.1;
     records = r.tells.filled;

@@ -1,5 +1,5 @@
 -- The steps on the words of the object keep the site's facts.
-use Rattle.std.proofs.Common.{◌≡◌, ◌≢◌, ℕ, zero, suc, ◌+◌, ◌-◌, ◌<◌, ◌≤◌, ◌⊎◌, true, false, List, [], ◌∷◌, ◌++◌, length, take, get_or, set, slice_get, Some, sym, refl, ap, ◌∙◌, subst, arith, ⊎_elim, length-set, length-append, get_or-set_same}
+use Rattle.std.proofs.Common.{Option, ◌≡◌, ◌≢◌, ℕ, zero, suc, ◌+◌, ◌-◌, ◌<◌, ◌≤◌, ◌⊎◌, true, false, List, [], ◌∷◌, ◌++◌, length, take, get_or, set, slice_get, Some, sym, refl, ap, ◌∙◌, subst, arith, ⊎_elim, length-set, length-append, get_or-set_same, None}
 use Rattle.std.proofs.lemmas.List.{take-set-le, take_more, take-append-le}
 use Rattle.std.proofs.Math.Seq.{take-set-lt}
 use mathlib.Core.Option.{some}
@@ -24,14 +24,14 @@ use Rattle.lock_core.specs.declared.view.Stage.{Stage}
 use Rattle.lock_core.specs.declared.view.Stage.TheVariants.{Rest, Entered, Logged}
 use Rattle.lock_core.specs.Plans.{appended, calls_in, start}
 use Rattle.lock_core.specs.Layout.{SiteWords}
-use Rattle.lock_core.specs.Records.{row, is_sent, intrs, seen_by, AreNext, IsLoggedAt}
-use Rattle.lock_core.specs.Views.{wrote, entered, logged, recorded, held_weight, alone_weight, owed_weight, held_of, alone_of, writes_of, owed_of, named_of, sent_of, consumed_of}
-use Rattle.lock_core.specs.Sites.{HandOk, SiteKept, Balances}
+use Rattle.lock_core.specs.Records.{row, sends, intrs, seen_by, AreNext, IsLoggedAt}
+use Rattle.lock_core.specs.Views.{wrote, entered, logged, recorded, is_number, consumed_weight, held_weight, alone_weight, owed_weight, held_of, alone_of, writes_of, owed_of, named_of, sent_of, consumed_of}
+use Rattle.lock_core.specs.Sites.{HeardOk, HandOk, SiteKept, Balances}
 use Rattle.lock_core.specs.Totals.{total, total-set, total-same, total-at, total-two}
 use Rattle.lock_core.specs.Parts.{Each, each-set}
 use Rattle.lock_core.proofs.RowLaws.{none-some, same-some, some-inside, get-longer, get-last, get-either, row-appended, row-beside, length-appended, calls_in-appended, rec_words-appended}
-use Rattle.lock_core.proofs.HandLaws.{no-alone, rest-logged, rest-entered, alone-is-held, held-none, not-both, is_number-here, tally-same}
-use Rattle.lock_core.proofs.RecordLaws.{grows-next, next-snoc, seen_by-snoc, state-snoc, sends-appended, intrs-snoc}
+use Rattle.lock_core.proofs.HandLaws.{no-alone, rest-logged, rest-entered, alone-is-held, held-none, not-both, is_number-here, tally-same, one-stays, sum-stays}
+use Rattle.lock_core.proofs.RecordLaws.{grows-next, next-snoc, seen_by-snoc, state-snoc, intrs-snoc}
 
 entered-logged : (e x : Entry) {P : Type 0} → Entered e ≡ Logged x → P
 entered-logged e x eq = let w : owed_weight (Entered e) ≡ owed_weight (Logged x) = ap owed_weight eq in absurd (omega (arith, w))
@@ -50,7 +50,7 @@ owed-most Rest = omega arith
 owed-most (Entered e) = omega arith
 owed-most (Logged e) = omega arith
 
-intrs-appended : (u t : ℕ) (told : Records) (x : Rec) → is_intr x.reply ≡ false → intrs (row (appended told t x) u) ≡ intrs (row told u)
+pub intrs-appended : (u t : ℕ) (told : Records) (x : Rec) → is_intr x.reply ≡ false → intrs (row (appended told t x) u) ≡ intrs (row told u)
 intrs-appended u t [] x e = refl
 intrs-appended zero zero (rs ∷ rss) x e = intrs-snoc rs x e
 intrs-appended (suc u) zero (rs ∷ rss) x e = refl
@@ -109,6 +109,7 @@ module _ {Call : Type 0} (o : Obj Call) (unavailable : Unavailable) (size : ℕ)
     nameless = ok.nameless;
     knows = ok.knows;
     saw = ok.saw;
+    signals = ok.signals;
   }
 
   -- the same with the log as it was
@@ -124,6 +125,7 @@ module _ {Call : Type 0} (o : Obj Call) (unavailable : Unavailable) (size : ℕ)
     nameless = ok.nameless;
     knows = ok.knows;
     saw = ok.saw;
+    signals = ok.signals;
   }
 
   pub site-writes : (w : SiteWords) (hs : List Hand) (id i n : ℕ) (h : Hand) → Kept w hs → get_elem? hs id ≡ some h → h.held ≡ Alone → i < size → Kept (record w { guarded = set w.guarded i n }) (set hs id (wrote h i n))
@@ -139,11 +141,12 @@ module _ {Call : Type 0} (o : Obj Call) (unavailable : Unavailable) (size : ℕ)
           quiet = λ q. let t = total-set writes_of hs id h g at in let u = total-at writes_of hs id h at in absurd (omega arith);
           recorded = λ j e there l. b.recorded j e there (omega arith);
           few = let f = b.few in omega arith;
-          named = λ u l. let old = b.named u l in let x = old.0 in let y = old.1 in let c = total-same (named_of u) hs id h g at refl in (omega arith, omega arith);
-          sent = λ u l. let c = total-same (sent_of u) hs id h g at refl in let d = b.sent u l in omega arith;
-          consumed = λ u l. let c = total-same (consumed_of u) hs id h g at refl in let d = b.consumed u l in omega arith;
+          named = λ u l. one-stays (named_of u) hs id h g _ at refl (b.named u l);
+          sent = λ u l. sum-stays (sent_of u) hs id h g _ _ at refl (b.sent u l);
+          consumed = λ u l. sum-stays (consumed_of u) hs id h g _ _ at refl (b.consumed u l);
           pending = b.pending;
         };
+        heard = each-set (HeardOk w.lines) (HeardOk w.lines) hs id g (r.heard id h at) (λ j v _ _ p. p) r.heard;
         each = each-set P Q hs id g record {
           plan = a.plan;
           known = λ _. let t = a.known not_no in (ap (λ (z : List ℕ). set z i n) t.0 ∙ sym (take-set-lt size w.guarded i n inside), t.1);
@@ -155,6 +158,7 @@ module _ {Call : Type 0} (o : Obj Call) (unavailable : Unavailable) (size : ℕ)
           nameless = a.nameless;
           knows = a.knows;
           saw = a.saw;
+          signals = a.signals;
         } (λ j v other at' ok. free-same w.guarded (set w.guarded i n) (get_or w.entries w.len 0) (get_or w.entries w.len 0) r.log r.told v (others-free hs id j h v b.apart at alone other at') ok) r.each;
       }
 
@@ -169,6 +173,7 @@ module _ {Call : Type 0} (o : Obj Call) (unavailable : Unavailable) (size : ℕ)
         laid = record { wide = r.laid.wide; calls = r.laid.calls; planned = r.laid.planned; small = r.laid.small; guarded = r.laid.guarded; lines = r.laid.lines; room = length-set w.entries w.len x ∙ wide };
         tells = record { tasks = r.tells.tasks; many = r.tells.many; within = r.tells.within; entered = take-set-le (length r.log) w.entries w.len x (omega (arith, many)) ∙ r.tells.entered; filled = r.tells.filled; legal = r.tells.legal };
         balances = subst (Balances o unavailable size k w.guarded w.lines r.log r.told) (sym (tally-same hs id h g at record { held = refl; writes = refl; owed = sym was; task = refl; sent = refl; consumed = refl })) b;
+        heard = each-set (HeardOk w.lines) (HeardOk w.lines) hs id g (r.heard id h at) (λ j v _ _ p. p) r.heard;
         each = each-set P Q hs id g record {
           plan = a.plan;
           known = a.known;
@@ -180,6 +185,7 @@ module _ {Call : Type 0} (o : Obj Call) (unavailable : Unavailable) (size : ℕ)
           nameless = a.nameless;
           knows = a.knows;
           saw = a.saw;
+          signals = a.signals;
         } (λ j v other at' ok. free-same w.guarded w.guarded (get_or w.entries w.len 0) (get_or (set w.entries w.len x) w.len 0) r.log r.told v (others-free hs id j h v b.apart at alone other at') ok) r.each;
       }
 
@@ -210,11 +216,12 @@ module _ {Call : Type 0} (o : Obj Call) (unavailable : Unavailable) (size : ℕ)
           recorded = λ j x there l. ⊎_elim (λ (old : slice_get r.log j ≡ Some x). b.recorded j x old (let m = some-inside r.log j x old in omega arith))
               (λ (new : (i : ℕ) × (j ≡ length r.log + i) × (slice_get (e ∷ []) i ≡ Some x)). let p = new.1 in absurd (omega arith)) (get-either r.log (e ∷ []) j x there);
           few = let f = b.few in omega arith;
-          named = λ u l. let old = b.named u l in let x = old.0 in let y = old.1 in let d = total-same (named_of u) hs id h g at refl in (omega arith, omega arith);
-          sent = λ u l. let d = total-same (sent_of u) hs id h g at refl in let f = b.sent u l in omega arith;
-          consumed = λ u l. let d = total-same (consumed_of u) hs id h g at refl in let f = b.consumed u l in omega arith;
+          named = λ u l. one-stays (named_of u) hs id h g _ at refl (b.named u l);
+          sent = λ u l. sum-stays (sent_of u) hs id h g _ _ at refl (b.sent u l);
+          consumed = λ u l. sum-stays (consumed_of u) hs id h g _ _ at refl (b.consumed u l);
           pending = b.pending;
         };
+        heard = each-set (HeardOk w.lines) (HeardOk w.lines) hs id g (r.heard id h at) (λ j v _ _ p. p) r.heard;
         each = each-set P Q hs id g record {
           plan = a.plan;
           known = λ _. (t.0, same);
@@ -226,6 +233,7 @@ module _ {Call : Type 0} (o : Obj Call) (unavailable : Unavailable) (size : ℕ)
           nameless = a.nameless;
           knows = a.knows;
           saw = a.saw;
+          signals = a.signals;
         } (λ j v other at' ok. free-ok w.guarded w.guarded (get_or w.entries w.len 0) (get_or w.entries (w.len + 1) 0) r.log (e ∷ []) r.told v (others-free hs id j h v b.apart at alone other at') ok) r.each;
       }
 
@@ -243,7 +251,7 @@ module _ {Call : Type 0} (o : Obj Call) (unavailable : Unavailable) (size : ℕ)
       let e = owed-least w.guarded (get_or w.entries w.len 0) r.log r.told hs r.each in omega arith
 
   -- a number is one pass's
-  twice : (w : SiteWords) (hs : List Hand) (id j t : ℕ) (h v : Hand) → Kept w hs → get_elem? hs id ≡ some h → get_elem? hs j ≡ some v → h.task ≡ Some t → v.task ≡ Some t → j ≢ id → ⊥
+  pub twice : (w : SiteWords) (hs : List Hand) (id j t : ℕ) (h v : Hand) → Kept w hs → get_elem? hs id ≡ some h → get_elem? hs j ≡ some v → h.task ≡ Some t → v.task ≡ Some t → j ≢ id → ⊥
   twice w hs id j t h v r at at' has has' other = let inside = ((r.each id h at).mine t has).0 in let few = r.laid.small.tasks in let one = (r.balances.named t (omega arith)).1 in
       let a : named_of t h ≡ 1 = ap (Rattle.lock_core.specs.Views.is_number t) has ∙ is_number-here t in let b : named_of t v ≡ 1 = ap (Rattle.lock_core.specs.Views.is_number t) has' ∙ is_number-here t in
       let c = total-two (named_of t) hs id j h v at at' (λ z. other (sym z)) in omega arith
@@ -262,16 +270,18 @@ module _ {Call : Type 0} (o : Obj Call) (unavailable : Unavailable) (size : ℕ)
     nameless = ok.nameless;
     knows = λ i x e. more x.entry.task x.entry.call x.rec (ok.knows i x e);
     saw = ok.saw;
+    signals = ok.signals;
   }
 
   -- a record more of the pass's own task: its place is one that the pass has seen, and it has seen as much afterwards
-  pub site-records : (w : SiteWords) (hs : List Hand) (id t n : ℕ) (h : Hand) (words : CallWords) (x : Rec) (seen : List Entry) (r : Kept w hs) → get_elem? hs id ≡ some h → h.task ≡ Some t → slice_get (row k t) h.done ≡ Some words
-      → IsRec x → IsRecord o unavailable k r.log x.k (record { task = t; call = h.done }) words x → (owed_of h ≡ 0 → length h.seen ≤ x.k) → is_sent x.reply ≡ false → is_intr x.reply ≡ false
+  pub site-records : (w : SiteWords) (hs : List Hand) (id t n : ℕ) (h : Hand) (words : CallWords) (x : Rec) (seen : List Entry) (sent : Option ℕ) (consumed : ℕ) (r : Kept w hs) → get_elem? hs id ≡ some h → h.task ≡ Some t → slice_get (row k t) h.done ≡ Some words
+      → sent ≡ None → IsRec x → IsRecord o unavailable k r.log x.k (record { task = t; call = h.done }) words x → (owed_of h ≡ 0 → length h.seen ≤ x.k)
+      → ((u : ℕ) → sends u k (appended r.told t x) + is_number u sent ≡ sends u k r.told + sent_of u h) → ((u : ℕ) → intrs (row (appended r.told t x) u) + consumed_weight u h.task consumed ≡ intrs (row r.told u) + consumed_of u h)
       → (length seen ≤ length r.log) × (take (length seen) r.log ≡ seen) → seen_after (logs o words x.reply) x ≤ length seen
       → (owed_of h ≡ 0) ⊎ ((h.stage ≡ Logged (record { task = t; call = h.done })) × (x.k + 1 ≡ length r.log) × (logs o words x.reply ≡ true))
-      → Kept (record w { recs = set w.recs (start k t + h.done) (rec_word x) }) (set hs id (recorded h n (record { task = t; call = h.done }) x seen))
-  site-records w hs id t n h words x seen r at has planned fits means after unsent unintr prefix enough settles = let a = r.each id h at in let b = r.balances in let mine = a.mine t has in let me = mine.1 in
-      let e : Entry = record { task = t; call = h.done } in let g : Hand = recorded h n e x seen in let told' : Records = appended r.told t x in let tasks = r.tells.tasks in let inside = mine.0 in
+      → Kept (record w { recs = set w.recs (start k t + h.done) (rec_word x) }) (set hs id (record (recorded h n (record { task = t; call = h.done }) x seen) { sent = sent; consumed = consumed }))
+  site-records w hs id t n h words x seen sent consumed r at has planned unsent fits means after sends_is intrs_is prefix enough settles = let a = r.each id h at in let b = r.balances in let mine = a.mine t has in let me = mine.1 in
+      let e : Entry = record { task = t; call = h.done } in let g : Hand = record (recorded h n e x seen) { sent = sent; consumed = consumed } in let told' : Records = appended r.told t x in let tasks = r.tells.tasks in let inside = mine.0 in
       let row' : row told' t ≡ row r.told t ++ x ∷ [] = row-appended r.told t x (omega (arith, tasks, inside)) in
       let beside : (u : ℕ) → u ≢ t → row told' u ≡ row r.told u = λ u not. row-beside r.told t u x not in
       let there : slice_get (row k t) (length (row r.told t)) ≡ Some words = ap (slice_get (row k t)) (sym me) ∙ planned in
@@ -313,10 +323,11 @@ module _ {Call : Type 0} (o : Obj Call) (unavailable : Unavailable) (size : ℕ)
               settles;
           few = let f = b.few in let c = calls_in-appended r.told t x (omega (arith, tasks, inside)) in let o1 = owed-most h.stage in omega arith;
           named = λ u l. let old = b.named u l in let p = old.0 in let q = old.1 in let c = total-same (named_of u) hs id h g at refl in (omega arith, omega arith);
-          sent = λ u l. let c = total-same (sent_of u) hs id h g at refl in let d = b.sent u l in let s = sends-appended u k r.told t x unsent in omega arith;
-          consumed = λ u l. let c = total-same (consumed_of u) hs id h g at refl in let d = b.consumed u l in let i = intrs-appended u t r.told x unintr in omega arith;
+          sent = λ u l. let c = total-set (sent_of u) hs id h g at in let d = b.sent u l in let s = sends_is u in omega arith;
+          consumed = λ u l. let c = total-set (consumed_of u) hs id h g at in let d = b.consumed u l in let i = intrs_is u in omega arith;
           pending = b.pending;
         };
+        heard = each-set (HeardOk w.lines) (HeardOk w.lines) hs id g (r.heard id h at) (λ j v _ _ p. p) r.heard;
         each = each-set P Q hs id g record {
           plan = a.plan;
           known = a.known;
@@ -332,5 +343,6 @@ module _ {Call : Type 0} (o : Obj Call) (unavailable : Unavailable) (size : ℕ)
           nameless = λ eq. none-some t (sym eq ∙ has);
           knows = knows-cons told' e x h.records new (λ i y eq. more y.entry.task y.entry.call y.rec (a.knows i y eq));
           saw = a.saw;
+          signals = λ u eq. none-some u (sym unsent ∙ eq);
         } (λ j v other at' ok. told-ok w.guarded (get_or w.entries w.len 0) r.log r.told told' v more (λ u is. beside u (λ same. twice w hs id j t h v r at at' has (is ∙ ap Some same) other)) ok) r.each;
       }

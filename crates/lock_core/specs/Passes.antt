@@ -1,5 +1,5 @@
 -- A pass with its seat.
-use Rattle.std.specs.Prelude.{◌≡◌, ◌≢◌, ℕ, zero, suc, ◌+◌, ◌*◌, ◌<◌, ◌≤◌, ◌⊎◌, true, false, List, [], length, take, slice_get, Some}
+use Rattle.std.specs.Prelude.{◌≡◌, ◌≢◌, ℕ, zero, suc, ◌+◌, ◌*◌, ◌<◌, ◌≤◌, ◌⊎◌, true, false, List, [], length, take, slice_get, Some, None}
 use Rattle.word_bits.specs.declared.call.CallWords.{CallWords}
 use Rattle.word_bits.specs.declared.entry.Entry.{Entry}
 use Rattle.word_bits.specs.declared.rec.Rec.{Rec}
@@ -8,24 +8,28 @@ use Rattle.word_bits.specs.LockWords.{Unavailable}
 use Rattle.word_bits.specs.Objects.{Obj}
 use Rattle.word_bits.specs.declared.reply.Reply.{Reply}
 use Rattle.word_bits.specs.declared.reply.Reply.TheVariants.{Busy, Intr, Sent}
-use Rattle.word_bits.specs.declared.call.Mode.TheVariants.{Try}
-use Rattle.word_bits.specs.Calls.{mode_of}
+use Rattle.word_bits.specs.declared.call.Mode.TheVariants.{Int, Try}
+use Rattle.word_bits.specs.Calls.{mode_of, signal_of}
 use Rattle.word_bits.specs.Histories.{Plan, state_after, logs}
-use Rattle.word_bits.specs.Legal.{IsRecord, seen_after, is_intr}
+use Rattle.word_bits.specs.Legal.{IsRecord, seen_after}
 use Rattle.atomic_table.specs.Table.{Me}
 use Rattle.atomic_table.specs.Seated.{TableId}
 use Rattle.lock_core.specs.declared.view.Seen.{Seen}
 use Rattle.lock_core.specs.declared.view.Saw.{Saw}
+use Rattle.lock_core.specs.declared.view.Heard.{Heard}
+use Rattle.lock_core.specs.declared.view.View.{View}
+use Rattle.lock_core.specs.declared.how.Interrupted.{Interrupted}
 use Rattle.lock_core.specs.declared.pass.Face.{Face}
 use Rattle.lock_core.specs.declared.view.Hand.{Hand}
 use Rattle.lock_core.specs.declared.view.Held.TheVariants.{No, Alone}
 use Rattle.lock_core.specs.declared.view.Stage.TheVariants.{Rest, Logged}
-use Rattle.lock_core.specs.declared.layout.TheConstants.{ENTRIES_AT}
+use Rattle.lock_core.specs.declared.layout.TheConstants.{ENTRIES_AT, LINES_AT}
 use Rattle.word_bits.specs.EntryWord.{entry_word}
+use Rattle.lock_core.specs.Sites.{SawSince, consumed_at}
 use Rattle.lock_core.specs.Plans.{calls_in, start}
 use Rattle.lock_core.specs.Layout.{recs_at, calls_at}
-use Rattle.lock_core.specs.Records.{row, seen_by, is_sent, AreNext}
-use Rattle.lock_core.specs.Views.{front, became, longer, owed_of, Knows}
+use Rattle.lock_core.specs.Records.{row, seen_by, AreNext}
+use Rattle.lock_core.specs.Views.{front, became, hearing, consuming, longer, owed_of, Knows}
 
 -- the seat is one of the table's, and the pass says of itself what the view does
 pub record Sits {E : Type 0} (k : Plan) (table : TableId) (seat : TableId) (me : Me (Unit {0}) (Seen E)) (face : Face) : Type 0 where
@@ -42,6 +46,8 @@ pub record Sits {E : Type 0} (k : Plan) (table : TableId) (seat : TableId) (me :
   pub shorter : length me.0.view.hand.seen ≤ calls_in k
   pub planned : (t : ℕ) → face.task ≡ Some t → (t < length k) × (face.done ≤ length (row k t))
   pub saw : (x : Saw) → me.0.view.hand.saw ≡ Some x → x.word < 4194304
+  pub writer : me.0.view.hand.writes ≡ true → me.0.view.hand.held ≡ Alone
+  pub nameless : me.0.view.hand.task ≡ None → (me.0.view.hand.held ≡ No) × (me.0.view.hand.sent ≡ None) × (me.0.view.hand.consumed ≡ 0)
 
 -- what a load of the word of a call's record tells a pass with this hand
 pub record Shows (h : Hand) (e : Entry) (word : ℕ) : Type 0 where
@@ -76,9 +82,33 @@ IsCallWord h at n = (k : Plan) (t c half : ℕ) (w : CallWords) → h.plan ≡ S
 abbrev pub IsRecWord : Hand → ℕ → ℕ → Type 0
 IsRecWord h at n = (k : Plan) (t c : ℕ) → h.plan ≡ Some k → c < length (row k t) → at ≡ recs_at k + (start k t + c) → Shows h (record { task = t; call = c }) n
 
+-- how many signals its task has consumed, for a pass that heard of them
+abbrev pub IsTaken : Hand → ℕ → ℕ → Type 0
+IsTaken h at n = (p : Heard) (t : ℕ) → h.heard ≡ Some p → h.task ≡ Some t → at ≡ LINES_AT + consumed_at t → n ≡ p.taken
+
+-- a load found that so many signals were sent to the pass's task
+abbrev pub Hears : Hand → ℕ → Hand → Type 0
+Hears h n g = (p : Heard) × (p.sent ≡ n) × (g ≡ hearing h p)
+
+-- it consumed one of more signals than its task had consumed, in three steps
+pub record Consumes {E : Type 0} (why : Interrupted) (v u : View E) : Type 0 where
+  pub pending : why.taken < why.sent
+  pub now : u ≡ record v { hand = consuming v.hand; steps = v.steps + 3 }
+
+-- two loads saw that no more were sent than its task had consumed
+pub record HearsOfNone {E : Type 0} (why : Interrupted) (v u : View E) : Type 0 where
+  pub none_pending : why.sent ≤ why.taken
+  pub now : u ≡ record v { hand = hearing v.hand (record { sent = why.sent; taken = why.taken }); steps = v.steps + 2 }
+
 -- the record settles what the pass owes: nothing, or the record of the log's last entry, which it then is
 abbrev pub Settles : {Call : Type 0} → Obj Call → Hand → List Entry → Entry → CallWords → Rec → Type 0
 Settles o h log e w r = (owed_of h ≡ 0) ⊎ ((h.stage ≡ Logged e) × (r.k + 1 ≡ length log) × (logs o w r.reply ≡ true))
+
+-- how a record with this reply accounts for signals: none that was sent is left unrecorded
+abbrev pub Accounts : Hand → CallWords → Reply → Type 0
+Accounts h w Intr = (h.sent ≡ None) × (0 < h.consumed)
+Accounts h w Sent = (t : ℕ) × (h.sent ≡ Some t) × (signal_of w ≡ Some t)
+Accounts h w reply = h.sent ≡ None
 
 -- what a pass may record of its task's next call: the record says, whatever the log is, what the call replied there
 pub record MayRecord {Call : Type 0} (o : Obj Call) (unavailable : Unavailable) (k : Plan) (h : Hand) (e : Entry) (w : CallWords) (r : Rec) (seen : List Entry) : Type 0 where
@@ -87,8 +117,8 @@ pub record MayRecord {Call : Type 0} (o : Obj Call) (unavailable : Unavailable) 
   pub planned : slice_get (row k e.task) e.call ≡ Some w
   pub fits : IsRec r
   pub enough : seen_after (logs o w r.reply) r ≤ length seen
-  pub unsent : is_sent r.reply ≡ false
-  pub unintr : is_intr r.reply ≡ false
+  pub busy : (word : ℕ) → r.reply ≡ Busy word → SawSince h word
+  pub accounts : Accounts h w r.reply
   pub means : (log : List Entry) → (h.held ≢ No → h.log ≡ log) → (length h.seen ≤ length log) × (take (length h.seen) log ≡ h.seen)
       → IsRecord o unavailable k log r.k e w r × (owed_of h ≡ 0 → length h.seen ≤ r.k) × (length seen ≤ length log) × (take (length seen) log ≡ seen) × Settles o h log e w r
 
@@ -127,9 +157,38 @@ pub record IsBusy {Call : Type 0} (o : Obj Call) (unavailable : Unavailable) (k 
   pub since : h.last < saw.step
   pub shut : unavailable (o.reads call) word
 
--- what a pass may note; interrupted calls and signals come with the locks that have them
+-- the task's next call is a signal to this task
+pub record IsSignal (k : Plan) (e : Entry) (target : ℕ) : Type 0 where
+  pub words : CallWords
+  pub planned : slice_get (row k e.task) e.call ≡ Some words
+  pub is : signal_of words ≡ Some target
+
+-- the task's next call waits for signals, and its pass has consumed one that isn't recorded
+pub record IsInterrupted {Call : Type 0} (o : Obj Call) (k : Plan) (h : Hand) (e : Entry) : Type 0 where
+  pub words : CallWords
+  pub call : Call
+  pub planned : slice_get (row k e.task) e.call ≡ Some words
+  pub is : o.call_of words ≡ Some call
+  pub waits : mode_of words ≡ Int
+  pub free : h.held ≡ No
+  pub consumed : 0 < h.consumed
+
+-- the task's next call is a signal, which its pass has sent and not recorded
+pub record IsSent (k : Plan) (h : Hand) (e : Entry) : Type 0 where
+  pub target : ℕ
+  pub words : CallWords
+  pub planned : slice_get (row k e.task) e.call ≡ Some words
+  pub is : signal_of words ≡ Some target
+  pub free : h.held ≡ No
+  pub sent : h.sent ≡ Some target
+
+-- it is the word of the log's entry at this place
+abbrev pub IsEntryWord : Hand → ℕ → ℕ → Type 0
+IsEntryWord h at word = (e : Entry) → slice_get h.log at ≡ Some e → word ≡ entry_word e
+
+-- what a pass may note
 abbrev pub MayNote : {Call : Type 0} → Obj Call → Unavailable → Plan → Hand → Entry → Reply → Type 0
 MayNote o unavailable k h e (Busy word) = IsBusy o unavailable k h e word
-MayNote o unavailable k h e Intr = ⊥
-MayNote o unavailable k h e Sent = ⊥
+MayNote o unavailable k h e Intr = IsInterrupted o k h e
+MayNote o unavailable k h e Sent = IsSent k h e
 MayNote o unavailable k h e reply = IsReading o k h e reply

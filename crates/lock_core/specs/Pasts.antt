@@ -1,52 +1,119 @@
--- The whole run of a table: the words at each moment, of which each follows from the one before by a move.
-use Rattle.std.specs.Prelude.{◌≡◌, ℕ, List, [], ◌∷◌, map, drop, slice_index}
+-- The whole run of a table: it has come to be from a new table, each moment from the one before by a move.
+use Rattle.std.specs.Prelude.{◌≡◌, ℕ, ◌+◌, List, [], ◌∷◌, map, drop, slice_index}
+use mathlib.Core.Option.{some}
+use lib.ListN.{get_elem?}
 use Rattle.atomic_table.specs.Table.{Me}
+use Rattle.word_bits.specs.Histories.{Plan}
 use Rattle.lock_core.specs.declared.view.View.{View}
+use Rattle.lock_core.specs.declared.view.Marks.{Marks}
 use Rattle.lock_core.specs.declared.view.Moment.{Moment}
 use Rattle.lock_core.specs.declared.view.Seen.{Seen}
+use Rattle.lock_core.specs.declared.op.Op.{Op}
+use Rattle.lock_core.specs.declared.op.Op.TheVariants.{Load, Store, Swap, Add, Sub, Or, And, Exchange}
+use Rattle.lock_core.specs.Layout.{fresh}
+use Rattle.lock_core.specs.Views.{hand_of, spin_of, first}
 use Rattle.lock_core.specs.Parts.{Each}
 
 abbrev pub Tail : {A : Type 0} → List A → List A → Type 0
 Tail p h = (n : ℕ) × (drop n h ≡ p)
 
-abbrev pub moment : List ℕ → Moment
-moment ws = record { words = ws }
+-- the new past goes back to the old one, and so to all that the old one goes back to
+abbrev pub GoesOn : {A : Type 0} → List A → List A → Type 0
+GoesOn {A} old new = (p : List A) → Tail p old → Tail p new
+
+-- a table at one moment
+pub record Instant (E : Type 0) : Type 0 where
+  pub words : List ℕ
+  pub views : List (View E)
+
+-- each stands in the relation to the one before; the last one stands first
+abbrev pub After : {X : Type 0} → (X → X → Type 0) → X → List X → Type 0
+After P y [] = Unit {0}
+After P y (x ∷ h) = P x y
+
+abbrev pub Paced : {X : Type 0} → (X → X → Type 0) → List X → Type 0
+Paced P [] = Unit {0}
+Paced P (y ∷ h) = After P y h × Paced P h
 
 module _ {E : Type 0} where
   abbrev pub view_of : Seen E → View E
   view_of v = v.view
 
+  abbrev pub steps_of : View E → ℕ
+  steps_of v = v.steps
+
+  abbrev pub fronts_of : View E → ℕ
+  fronts_of v = v.fronts
+
   -- the seat, without what its pass saw of the run
   abbrev pub unseen : Me (Unit {0}) (Seen E) → Me (Unit {0}) (View E)
   unseen m = (m.0.view, m.1)
 
+  abbrev pub instant : List ℕ → List (View E) → Instant E
+  instant ws vs = record { words = ws; views = vs }
+
+module _ {E : Type 0} (marks : E → List ℕ) where
+  abbrev pub marks_of : View E → Marks
+  marks_of v = record { numbers = marks v.ext }
+
+  -- what a pass keeps of a moment: all that has no type of the rule's own
+  abbrev pub moment : Instant E → Moment
+  moment x = record { words = x.words; hands = map hand_of x.views; spins = map spin_of x.views; steps = map steps_of x.views; fronts = map fronts_of x.views; marks = map marks_of x.views }
+
+  -- a new table
+  abbrev pub opening : Plan → E → Moment
+  opening k idle = moment (instant (fresh k) (first k idle ∷ []))
+
+  -- the moments are those of a run that began with this one, and each of its instants stands in the relation to the one before
+  abbrev pub Ran : Moment → (Instant E → Instant E → Type 0) → List Moment → Type 0
+  Ran new P past = (run : List (Instant E)) × (past ≡ map moment run) × Tail (new ∷ []) past × Paced P run
+
 module _ {E : Type 0} (holds : List ℕ → List (View E) → Type 0) (moves : ℕ → List ℕ → List (View E) → List ℕ → List (View E) → Type 0) where
-  -- a step of some seat led from the words x to the words y, and was a move
-  abbrev pub Moves : List ℕ → List ℕ → Type 0
-  Moves x y = (id : ℕ) × (vs : List (View E)) × (us : List (View E)) × holds x vs × holds y us × moves id x vs y us
+  -- a step of some seat led from the one to the other, and was a move
+  abbrev pub Moves : Instant E → Instant E → Type 0
+  Moves x y = (id : ℕ) × holds x.words x.views × holds y.words y.views × moves id x.words x.views y.words y.views
 
-  abbrev pub Follows : Moment → List Moment → Type 0
-  Follows y [] = Unit {0}
-  Follows y (x ∷ h) = Moves x.words y.words
-
-  -- the last moment stands first
-  abbrev pub Run : List Moment → Type 0
-  Run [] = Unit {0}
-  Run (y ∷ h) = Follows y h × Run h
-
-  -- the table has come to be by moves, and what each pass has seen is how its run began
-  abbrev pub Lived : List ℕ → List (Seen E) → Type 0
-  Lived ws vs = (h : List Moment) × holds ws (map view_of vs) × Run (moment ws ∷ h) × Each (λ (v : Seen E). Tail v.past (moment ws ∷ h)) vs
-
--- each moment stands in the relation to the one before
-abbrev pub After : (List ℕ → List ℕ → Type 0) → Moment → List Moment → Type 0
-After P y [] = Unit {0}
-After P y (x ∷ h) = P x.words y.words
-
-abbrev pub Paced : (List ℕ → List ℕ → Type 0) → List Moment → Type 0
-Paced P [] = Unit {0}
-Paced P (y ∷ h) = After P y h × Paced P h
+-- the table has come to be by moves from a new one, and what each pass has seen is how its run began
+abbrev pub Lived : {E : Type 0} → (E → List ℕ) → Moment → (List ℕ → List (View E) → Type 0) → (ℕ → List ℕ → List (View E) → List ℕ → List (View E) → Type 0) → List ℕ → List (Seen E) → Type 0
+Lived {E} marks new holds moves ws vs = let now : Instant E = instant ws (map view_of vs) in
+    (h : List (Instant E)) × holds ws (map view_of vs) × Paced (Moves holds moves) (now ∷ h) × Tail (new ∷ []) (map (moment marks) (now ∷ h)) × Each (λ (v : Seen E). Tail v.past (map (moment marks) (now ∷ h))) vs
 
 -- at the pass's last step this word had this number
 abbrev pub FoundAt : ℕ → ℕ → List Moment → Type 0
-FoundAt i n past = (new : List ℕ) × (old : List ℕ) × (h : List Moment) × (past ≡ moment new ∷ moment old ∷ h) × (slice_index old i ≡ n)
+FoundAt i n past = (new : Moment) × (old : Moment) × (h : List Moment) × (past ≡ new ∷ old ∷ h) × (slice_index old.words i ≡ n)
+
+-- of each of these moments
+abbrev pub EachMoment : (Moment → Type 0) → List Moment → Type 0
+EachMoment P [] = Unit {0}
+EachMoment P (m ∷ past) = P m × EachMoment P past
+
+-- so it was where the step tells; a store doesn't
+abbrev pub FindsAt : Op → ℕ → ℕ → List Moment → Type 0
+FindsAt Load i n past = FoundAt i n past
+FindsAt (Store new) i n past = Unit {0}
+FindsAt (Swap new) i n past = FoundAt i n past
+FindsAt (Add by) i n past = FoundAt i n past
+FindsAt (Sub by) i n past = FoundAt i n past
+FindsAt (Or bits) i n past = FoundAt i n past
+FindsAt (And bits) i n past = FoundAt i n past
+FindsAt (Exchange from to) i n past = FoundAt i n past
+
+-- it had this number at one of the steps that the pass made since
+abbrev pub FoundSince : ℕ → ℕ → List Moment → List Moment → Type 0
+FoundSince i n old new = (p : List Moment) × FoundAt i n p × GoesOn old p × GoesOn p new
+
+-- the last moment is that of the step which left the pass this view, at some seat, and the one before is that at which the step was made
+pub record IsOwnStep {E : Type 0} (v : View E) (past : List Moment) : Type 0 where
+  pub now : Moment
+  pub before : Moment
+  pub rest : List Moment
+  pub seat : ℕ
+  pub past_is : past ≡ now ∷ before ∷ rest
+  pub hand : get_elem? now.hands seat ≡ some v.hand
+  pub spin : get_elem? now.spins seat ≡ some v.spin
+  pub steps : get_elem? now.steps seat ≡ some v.steps
+  pub fronts : get_elem? now.fronts seat ≡ some v.fronts
+  -- the step is counted
+  pub had : ℕ
+  pub had_steps : get_elem? before.steps seat ≡ some had
+  pub counts : v.steps ≡ had + 1

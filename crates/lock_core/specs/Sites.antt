@@ -1,16 +1,23 @@
 -- The site's own facts, over its words and the hands of all views.
-use Rattle.std.specs.Prelude.{◌≡◌, ◌≢◌, ℕ, ◌+◌, ◌-◌, ◌*◌, ◌<◌, ◌≤◌, true, false, List, length, take, map, slice_get, slice_index, Option, Some, None}
+use Rattle.std.specs.Prelude.{◌≡◌, ◌≢◌, ℕ, ◌+◌, ◌-◌, ◌*◌, ◌<◌, ◌≤◌, true, List, length, take, map, slice_get, slice_index, Option, Some, None}
+use Rattle.word_bits.specs.declared.TheConstants.{MAX_TASKS}
+use Rattle.word_bits.specs.declared.call.CallWords.{CallWords}
+use Rattle.word_bits.specs.Calls.{signal_of}
 use Rattle.word_bits.specs.declared.entry.Entry.{Entry}
+use Rattle.word_bits.specs.declared.rec.Rec.{Rec}
+use Rattle.word_bits.specs.declared.reply.Reply.TheVariants.{Busy}
+use Rattle.word_bits.specs.RecWord.{IsRec, rec_word}
 use Rattle.word_bits.specs.EntryWord.{entry_word}
 use Rattle.word_bits.specs.LockWords.{Unavailable}
 use Rattle.word_bits.specs.Objects.{Obj}
 use Rattle.word_bits.specs.Histories.{Plan, Records, state_after}
 use Rattle.lock_core.specs.declared.view.Hand.{Hand}
+use Rattle.lock_core.specs.declared.view.Heard.{Heard}
 use Rattle.lock_core.specs.declared.view.Told.{Told}
 use Rattle.lock_core.specs.declared.view.Saw.{Saw}
 use Rattle.lock_core.specs.declared.view.Held.TheVariants.{No, Alone}
 use Rattle.lock_core.specs.declared.view.Stage.TheVariants.{Entered, Logged}
-use Rattle.lock_core.specs.declared.layout.TheConstants.{LINES_AT}
+use Rattle.lock_core.specs.declared.layout.TheConstants.{LOCK_WORDS, LINES_AT}
 use Rattle.lock_core.specs.Plans.{IsSmall, calls_in, call_words}
 use Rattle.lock_core.specs.Layout.{SiteWords, site_width}
 use Rattle.lock_core.specs.Records.{row, rec_words, sends, intrs, IsPlan, IsLoggedAt, seen_by, AreNext}
@@ -54,6 +61,17 @@ sent_at t = 8 * t + 1
 abbrev pub consumed_at : ℕ → ℕ
 consumed_at t = 8 * t + 2
 
+-- the words of a table that count them
+abbrev pub sent_place : ℕ → ℕ
+sent_place t = LOCK_WORDS + (LINES_AT + sent_at t)
+
+abbrev pub consumed_place : ℕ → ℕ
+consumed_place t = LOCK_WORDS + (LINES_AT + consumed_at t)
+
+-- what a pass heard of the signals to its task: as many are consumed, and no fewer are sent
+abbrev pub HeardOk : List ℕ → Hand → Type 0
+HeardOk lines h = (p : Heard) (t : ℕ) → h.heard ≡ Some p → h.task ≡ Some t → (slice_index lines (consumed_at t) ≡ p.taken) × (p.sent ≤ slice_index lines (sent_at t))
+
 module _ {Call : Type 0} (o : Obj Call) (unavailable : Unavailable) (size : ℕ) (k : Plan) where
   -- what never changes
   pub record IsLaid (w : SiteWords) : Type 0 where
@@ -62,7 +80,7 @@ module _ {Call : Type 0} (o : Obj Call) (unavailable : Unavailable) (size : ℕ)
     pub planned : IsPlan o k
     pub small : IsSmall k
     pub guarded : length w.guarded ≡ LINES_AT
-    pub lines : length w.lines ≡ 512
+    pub lines : length w.lines ≡ 8 * MAX_TASKS
     pub room : length w.entries ≡ calls_in k
 
   -- the words are those of this log and of these records
@@ -83,10 +101,10 @@ module _ {Call : Type 0} (o : Obj Call) (unavailable : Unavailable) (size : ℕ)
     -- each entry has its record, but for the last one where a view owes it
     pub recorded : (j : ℕ) (e : Entry) → slice_get log j ≡ Some e → j + s.owed < length log → IsLoggedAt o k told e j
     pub few : length log ≤ calls_in told + s.owed
-    pub named : (t : ℕ) → t < 64 → (slice_index lines (taken_at t) ≡ s.named t) × (s.named t ≤ 1)
-    pub sent : (t : ℕ) → t < 64 → slice_index lines (sent_at t) ≡ sends t k told + s.sent t
-    pub consumed : (t : ℕ) → t < 64 → slice_index lines (consumed_at t) ≡ intrs (row told t) + s.consumed t
-    pub pending : (t : ℕ) → t < 64 → slice_index lines (consumed_at t) ≤ slice_index lines (sent_at t)
+    pub named : (t : ℕ) → t < MAX_TASKS → (slice_index lines (taken_at t) ≡ s.named t) × (s.named t ≤ 1)
+    pub sent : (t : ℕ) → t < MAX_TASKS → slice_index lines (sent_at t) ≡ sends t k told + s.sent t
+    pub consumed : (t : ℕ) → t < MAX_TASKS → slice_index lines (consumed_at t) ≡ intrs (row told t) + s.consumed t
+    pub pending : (t : ℕ) → t < MAX_TASKS → slice_index lines (consumed_at t) ≤ slice_index lines (sent_at t)
 
   -- what is so of each view; `next` is the word behind the log's last one
   pub record HandOk (guarded : List ℕ) (next : ℕ) (log : List Entry) (told : Records) (h : Hand) : Type 0 where
@@ -97,7 +115,9 @@ module _ {Call : Type 0} (o : Obj Call) (unavailable : Unavailable) (size : ℕ)
     pub entered : (e : Entry) → h.stage ≡ Entered e → (h.held ≡ Alone) × (next ≡ entry_word e)
     pub logged : (e : Entry) → h.stage ≡ Logged e → (h.held ≡ Alone) × (h.task ≡ Some e.task) × (h.done ≡ e.call) × (slice_get log (length log - 1) ≡ Some e) × (length h.seen < length log)
     pub mine : (t : ℕ) → h.task ≡ Some t → (t < length k) × (h.done ≡ length (row told t)) × (seen_by o 0 (row k t) (row told t) ≤ length h.seen)
-    pub nameless : h.task ≡ None → (h.held ≡ No) × (h.sent ≡ None) × (h.consumed ≡ false)
+    pub nameless : h.task ≡ None → (h.held ≡ No) × (h.sent ≡ None) × (h.consumed ≡ 0)
+    -- who sent a signal that isn't recorded is at the call that sends it
+    pub signals : (t : ℕ) → h.sent ≡ Some t → (u : ℕ) × (words : CallWords) × (h.task ≡ Some u) × (slice_get (row k u) h.done ≡ Some words) × (signal_of words ≡ Some t)
     pub knows : (i : ℕ) (x : Told) → slice_get h.records i ≡ Some x → slice_get (row told x.entry.task) x.entry.call ≡ Some x.rec
     pub saw : (x : Saw) → h.saw ≡ Some x → x.word < 4194304
 
@@ -107,8 +127,20 @@ module _ {Call : Type 0} (o : Obj Call) (unavailable : Unavailable) (size : ℕ)
     pub laid : IsLaid w
     pub tells : Tells w.len w.entries w.recs log told
     pub balances : Balances w.guarded w.lines log told (tally hs)
+    pub heard : Each (HeardOk w.lines) hs
     pub each : Each (HandOk w.guarded (slice_index w.entries w.len) log told) hs
 
 -- the log's entries stay, and more may come
 abbrev pub Grows : SiteWords → SiteWords → Type 0
 Grows w w' = (w.len ≤ w'.len) × (take w.len w'.entries ≡ take w.len w.entries)
+
+-- at a step after it last recorded, a pass with this hand saw this word
+abbrev pub SawSince : Hand → ℕ → Type 0
+SawSince h word = (saw : Saw) × (h.saw ≡ Some saw) × (saw.word ≡ word) × (h.last < saw.step)
+
+-- what a step of a pass with the first hand, which then has the second, does to the site's words
+pub record SiteStep (w w' : SiteWords) (h g : Hand) : Type 0 where
+  pub grows : Grows w w'
+  -- a record which comes and says that the lock was taken has a word that the pass saw
+  pub busy : (j : ℕ) (r : Rec) (word : ℕ) → slice_index w'.recs j ≢ slice_index w.recs j → IsRec r → slice_index w'.recs j ≡ rec_word r → r.reply ≡ Busy word → SawSince h word
+  pub misses : h.misses ≤ g.misses

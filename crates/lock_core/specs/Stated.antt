@@ -1,5 +1,6 @@
 -- What the rule of every site says of its words and views, whatever its lock is.
-use Rattle.std.specs.Prelude.{◌≡◌, ◌≢◌, ℕ, ◌+◌, ◌<◌, ◌≤◌, ◌⊎◌, true, false, List, length, take, map, slice_get, slice_index, Some}
+use Rattle.std.specs.Prelude.{◌≡◌, ◌≢◌, ℕ, ◌+◌, ◌<◌, ◌≤◌, ◌⊎◌, true, false, List, [], ◌∷◌, length, take, map, slice_get, slice_index, replicate, Some}
+use Rattle.word_bits.specs.declared.TheConstants.{MAX_TASKS}
 use mathlib.Core.Option.{some}
 use lib.ListN.{get_elem?}
 use Rattle.word_bits.specs.declared.entry.Entry.{Entry}
@@ -11,11 +12,15 @@ use Rattle.lock_core.specs.declared.view.Hand.{Hand}
 use Rattle.lock_core.specs.declared.view.Saw.{Saw}
 use Rattle.lock_core.specs.declared.view.Held.TheVariants.{No, Alone}
 use Rattle.lock_core.specs.declared.view.Stage.TheVariants.{Logged}
-use Rattle.lock_core.specs.Plans.{call_words}
-use Rattle.lock_core.specs.Layout.{SiteWords}
+use Rattle.lock_core.specs.declared.view.Moment.{Moment}
+use Rattle.lock_core.specs.declared.layout.TheConstants.{LOCK_WORDS}
+use Rattle.lock_core.specs.Plans.{calls_in, call_words}
+use Rattle.lock_core.specs.Layout.{SiteWords, site}
 use Rattle.lock_core.specs.Records.{row, rec_words, sends, intrs, IsLoggedAt, AreNext}
-use Rattle.lock_core.specs.Views.{named_of, sent_of, consumed_of}
+use Rattle.lock_core.specs.Views.{stranger, no_spin, named_of, sent_of, consumed_of}
 use Rattle.lock_core.specs.Sites.{HasPlan, taken_at, sent_at, consumed_at}
+use Rattle.lock_core.specs.Moves.{SiteMove}
+use Rattle.lock_core.specs.Pasts.{Instant}
 use Rattle.lock_core.specs.Totals.{total}
 use Rattle.lock_core.specs.Parts.{Each}
 
@@ -35,11 +40,15 @@ module _ {Call : Type 0} (o : Obj Call) (unavailable : Unavailable) (size : ℕ)
     pub plan : w.calls ≡ call_words k
     pub plans : Each (λ h. HasPlan k h.plan) hs
     -- a number is taken exactly where one view has it
-    pub numbers : (t : ℕ) → t < length k → (slice_index w.lines (taken_at t) ≡ total (named_of t) hs) × (total (named_of t) hs ≤ 1)
+    pub numbers : (t : ℕ) → t < MAX_TASKS → (slice_index w.lines (taken_at t) ≡ total (named_of t) hs) × (total (named_of t) hs ≤ 1)
     -- whenever no view writes, the guarded words are the state after the log; who writes holds alone, and no other view holds
     pub guarded : Each (λ h. h.writes ≡ false) hs → take size w.guarded ≡ o.stores (state_after o k log)
     pub writers : Each (λ h. h.writes ≡ true → h.held ≡ Alone) hs
     pub apart : (i j : ℕ) (g h : Hand) → get_elem? hs i ≡ some g → get_elem? hs j ≡ some h → i ≢ j → g.writes ≡ true → h.held ≡ No
+    -- who holds alone has no other beside it
+    pub alone : (i j : ℕ) (g h : Hand) → get_elem? hs i ≡ some g → get_elem? hs j ≡ some h → i ≢ j → g.held ≡ Alone → h.held ≡ No
+    -- who holds knows the guarded words and the log
+    pub known : Each (λ h. h.held ≢ No → (h.known ≡ take size w.guarded) × (h.log ≡ log)) hs
     -- what each pass has seen begins the log
     pub entries : (w.len ≡ length log) × (take (length log) w.entries ≡ map entry_word log)
     pub seen : Each (λ h. take (length h.seen) log ≡ h.seen) hs
@@ -48,8 +57,26 @@ module _ {Call : Type 0} (o : Obj Call) (unavailable : Unavailable) (size : ℕ)
     pub legal : (t : ℕ) → AreNext o unavailable k log t 0 0 (row k t) (row told t)
     pub logged : (j : ℕ) (e : Entry) → slice_get log j ≡ Some e → IsLoggedAt o k told e j ⊎ ((i : ℕ) × (h : Hand) × (get_elem? hs i ≡ some h) × Owes h e)
     -- signals add up
-    pub sent : (t : ℕ) → t < 64 → slice_index w.lines (sent_at t) ≡ sends t k told + total (sent_of t) hs
-    pub consumed : (t : ℕ) → t < 64 → slice_index w.lines (consumed_at t) ≡ intrs (row told t) + total (consumed_of t) hs
-    pub pending : (t : ℕ) → t < 64 → slice_index w.lines (consumed_at t) ≤ slice_index w.lines (sent_at t)
+    pub sent : (t : ℕ) → t < MAX_TASKS → slice_index w.lines (sent_at t) ≡ sends t k told + total (sent_of t) hs
+    pub consumed : (t : ℕ) → t < MAX_TASKS → slice_index w.lines (consumed_at t) ≡ intrs (row told t) + total (consumed_of t) hs
+    pub pending : (t : ℕ) → t < MAX_TASKS → slice_index w.lines (consumed_at t) ≤ slice_index w.lines (sent_at t)
     -- a word that a failed try saw fits a record
     pub saw : Each (λ h. (x : Saw) → h.saw ≡ Some x → x.word < 4194304) hs
+
+  -- so they were at this moment
+  abbrev pub IsSiteThen : Moment → Type 0
+  IsSiteThen m = IsSite (site k m.words) m.hands
+
+-- one of the table's moments came of the other by such a step
+abbrev pub IsSiteMove : {E : Type 0} → Plan → Instant E → Instant E → Type 0
+IsSiteMove k x y = (id : ℕ) × SiteMove id (site k x.words) x.views (site k y.words) y.views
+
+-- a new table: all lock words are free, no number is taken, the guarded words store the empty state, nothing is logged or recorded, and one pass is there, which has no number
+pub record IsNew {Call : Type 0} (o : Obj Call) (size : ℕ) (k : Plan) (m : Moment) : Type 0 where
+  pub free : (i : ℕ) → i < LOCK_WORDS → slice_index m.words i ≡ 0
+  pub lines : (i : ℕ) → slice_index (site k m.words).lines i ≡ 0
+  pub stored : take size (site k m.words).guarded ≡ o.stores o.empty
+  pub logged : (site k m.words).len ≡ 0
+  pub recorded : (site k m.words).recs ≡ replicate {A = ℕ} (calls_in k) 0
+  pub hands : m.hands ≡ stranger (Some k) [] ∷ []
+  pub spins : m.spins ≡ no_spin ∷ []

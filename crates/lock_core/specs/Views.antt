@@ -1,5 +1,6 @@
 -- Views, and what each kind of step makes of them.
-use Rattle.std.specs.Prelude.{◌≤◌, ◌≡◌, ℕ, ◌+◌, ◌==◌, Bool, true, false, List, [], ◌∷◌, ◌++◌, length, slice_get, slice_set, leb, Option, Some, None, if◌then◌else◌, ◌/◌, ◌%◌, ◌^◌}
+use Rattle.std.specs.Prelude.{◌≤◌, ◌≡◌, ℕ, zero, suc, ◌+◌, ◌-◌, ◌==◌, true, false, List, [], ◌∷◌, ◌++◌, length, slice_get, slice_set, leb, Option, Some, None, if◌then◌else◌, ◌/◌, ◌%◌, ◌^◌}
+use Rattle.std.specs.Option.{option_map_or}
 use Rattle.word_bits.specs.declared.entry.Entry.{Entry}
 use Rattle.word_bits.specs.declared.rec.Rec.{Rec}
 use Rattle.word_bits.specs.declared.reply.Reply.{Reply}
@@ -8,6 +9,7 @@ use Rattle.word_bits.specs.Histories.{Plan}
 use Rattle.lock_core.specs.declared.view.View.{View}
 use Rattle.lock_core.specs.declared.view.Hand.{Hand}
 use Rattle.lock_core.specs.declared.view.SpinHand.{SpinHand}
+use Rattle.lock_core.specs.declared.view.Heard.{Heard}
 use Rattle.lock_core.specs.declared.view.Told.{Told}
 use Rattle.lock_core.specs.declared.view.Held.{Held}
 use Rattle.lock_core.specs.declared.view.Held.TheVariants.{No, Shared, Alone}
@@ -29,7 +31,8 @@ stranger plan seen = record {
   writes = false;
   stage = Rest;
   sent = None;
-  consumed = false;
+  consumed = 0;
+  heard = None;
   last = 0;
   saw = None;
   misses = 0;
@@ -38,6 +41,22 @@ stranger plan seen = record {
 
 abbrev pub no_spin : SpinHand
 no_spin = record { holds = false; saw = None; entries = 0 }
+
+-- it has nothing to do with the spin lock
+abbrev pub SpinRests : SpinHand → Type 0
+SpinRests s = s.holds ≡ false
+
+abbrev pub SpinHolds : SpinHand → Type 0
+SpinHolds s = s.holds ≡ true
+
+-- what the spin lock's own facts see of a view
+pub record SpinPart : Type 0 where
+  pub task : Option ℕ
+  pub spin : SpinHand
+
+-- of a pass without a number
+abbrev pub no_part : SpinPart
+no_part = record { task = None; spin = no_spin }
 
 -- of two beginnings of one log the longer
 abbrev pub longer : List Entry → List Entry → List Entry
@@ -50,10 +69,10 @@ told_from t call (r ∷ rs) = record { entry = record { task = t; call = call };
 
 -- It takes the number, with the task's records; what it saw is forgotten.
 abbrev pub became : Hand → ℕ → List Rec → List Entry → Hand
-became h t rs seen = record h { task = Some t; done = length rs; seen = seen; records = told_from t 0 rs ++ h.records; saw = None }
+became h t rs seen = record h { task = Some t; done = length rs; seen = seen; records = told_from t 0 rs ++ h.records; saw = None; heard = None }
 
 abbrev pub gave_up : Hand → Hand
-gave_up h = record h { task = None }
+gave_up h = record h { task = None; heard = None }
 
 abbrev pub gathered : Hand → Hand → Hand
 gathered h g = record h { seen = longer h.seen g.seen; records = h.records ++ g.records }
@@ -72,6 +91,39 @@ logged h e = record h { stage = Logged e; writes = false; log = h.log ++ e ∷ [
 -- The record is stored, at the step of this number.
 abbrev pub recorded : Hand → ℕ → Entry → Rec → List Entry → Hand
 recorded h step e r seen = record h { stage = Rest; done = h.done + 1; seen = seen; records = record { entry = e; rec = r } ∷ h.records; last = step }
+
+-- what a record with this reply leaves of the signals that aren't recorded
+abbrev pub sent_after : Option ℕ → Reply → Option ℕ
+sent_after sent Sent = None
+sent_after sent reply = sent
+
+abbrev pub consumed_after : ℕ → Reply → ℕ
+consumed_after n Intr = n - 1
+consumed_after n reply = n
+
+abbrev pub settled : Hand → Reply → Hand
+settled h reply = record h { sent = sent_after h.sent reply; consumed = consumed_after h.consumed reply }
+
+-- such a record leaves no signal unrecorded
+abbrev pub Unsent : Hand → Reply → Type 0
+Unsent h Sent = Unit {0}
+Unsent h reply = h.sent ≡ None
+
+-- the next call of the pass's task
+abbrev pub next_entry : Hand → Entry
+next_entry h = record { task = option_map_or (λ t. t) h.task 0; call = h.done }
+
+-- It sent a signal to this task, which isn't recorded.
+abbrev pub sending : Hand → ℕ → Hand
+sending h t = record h { sent = Some t }
+
+-- It loaded how many signals were sent to its task.
+abbrev pub hearing : Hand → Heard → Hand
+hearing h p = record h { heard = Some p }
+
+-- It consumed one, which isn't recorded.
+abbrev pub consuming : Hand → Hand
+consuming h = record h { consumed = h.consumed + 1; heard = None }
 
 -- the entry of a word
 abbrev pub entry_of : ℕ → Entry
@@ -102,7 +154,7 @@ note_steps Sent = 1
 note_steps reply = 2
 
 abbrev pub noted : Hand → ℕ → Entry → Reply → Hand
-noted h step e reply = recorded h step e (record { k = length (note_seen h reply); reply = reply }) (note_seen h reply)
+noted h step e reply = recorded (settled h reply) step e (record { k = length (note_seen h reply); reply = reply }) (note_seen h reply)
 
 -- It takes the lock, and learns the guarded words and the log.
 abbrev pub took : Hand → Held → List ℕ → List Entry → Hand
@@ -139,10 +191,10 @@ abbrev pub is_number : ℕ → Option ℕ → ℕ
 is_number t None = 0
 is_number t (Some u) = bit (u == t)
 
--- a signal that was consumed by the task's pass
-abbrev pub consumed_weight : ℕ → Option ℕ → Bool → ℕ
-consumed_weight t task false = 0
-consumed_weight t task true = is_number t task
+-- signals that were consumed by the task's pass
+abbrev pub consumed_weight : ℕ → Option ℕ → ℕ → ℕ
+consumed_weight t task zero = 0
+consumed_weight t task (suc n) = consumed_weight t task n + is_number t task
 
 abbrev pub held_of : Hand → ℕ
 held_of h = held_weight h.held
@@ -172,6 +224,13 @@ module _ {E : Type 0} where
   abbrev pub spin_of : View E → SpinHand
   spin_of v = v.spin
 
+  -- the part of a view with this spin hand
+  abbrev pub part_with : View E → SpinHand → SpinPart
+  part_with v s = record { task = v.hand.task; spin = s }
+
+  abbrev pub spin_part : View E → SpinPart
+  spin_part v = part_with v v.spin
+
   -- a step that changes the hand alone
   abbrev pub handed : View E → Hand → View E
   handed v h = record v { hand = h; steps = v.steps + 1 }
@@ -200,8 +259,16 @@ module _ {E : Type 0} where
 
   -- it holds nothing, neither the lock nor the spin lock
   abbrev pub HoldsNothing : View E → Type 0
-  HoldsNothing v = (v.hand.held ≡ No) × (v.spin.holds ≡ false)
+  HoldsNothing v = (v.hand.held ≡ No) × SpinRests v.spin
 
   -- all but the hand is as it was, after some steps
   abbrev pub Beside : View E → View E → Type 0
   Beside v u = (u.spin ≡ v.spin) × (u.fronts ≡ v.fronts) × (u.ext ≡ v.ext) × (v.steps ≤ u.steps)
+
+  -- the record of the next call of its task, which changed the object, in four steps
+  abbrev pub after_commit : View E → Reply → View E
+  after_commit v reply = record v { hand = committed v.hand (v.steps + 4) (next_entry v.hand) reply; steps = v.steps + 4 }
+
+  -- that of its next call, which changed nothing
+  abbrev pub after_note : View E → Reply → View E
+  after_note v reply = record v { hand = noted v.hand (v.steps + note_steps reply) (next_entry v.hand) reply; steps = v.steps + note_steps reply }

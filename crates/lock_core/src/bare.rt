@@ -1,8 +1,8 @@
 //! The rule of a table with a spin lock alone, and the object that has no words.
-ghost use Rattle.std.specs.Prelude.{◌≡◌, ℕ, List, refl};
+ghost use Rattle.std.specs.Prelude.{◌≡◌, ℕ, List, [], refl};
 ghost use Rattle.word_bits.specs.declared.call.CallWords.{CallWords};
 ghost use Rattle.lock_core.specs.Nothings.{nothing, few, sized, apart};
-ghost use Rattle.lock_core.specs.Barely.{BareKept, BareMoves, never, bare-site, bare-sites, bare-opens, bare-splits, bare-joins, bare-spins, bare-inside, bare-spin, stays};
+ghost use Rattle.lock_core.specs.Barely.{BareKept, BareMoves, never, bare-site, bare-sites, bare-opens, bare-splits, bare-joins, bare-spins, bare-inside, bare-spin};
 
 use crate::rule::SiteRule;
 use crate::spin::SpinHost;
@@ -82,21 +82,23 @@ impl SiteRule for Bare {
 
     ghost moves = { BareMoves };
 
+    ghost marks = { λ _. [] };
+
     ghost idle = { tt };
 
     ghost rests = { λ _. Unit {0} };
 
     ghost site_kept = { bare-site };
 
-    ghost grows = { λ k id ws us vs vs' there step. step };
+    ghost site_moves = { λ k id ws us vs vs' there step. step.site };
 
-    ghost sites = { λ k ws vs id i n v h r at same there grows. (bare-sites k ws vs id i n v h r at there, grows) };
+    ghost sites = { bare-sites };
 
     ghost opens = { bare-opens };
 
-    ghost splits = { λ k ws vs id v r at there. (bare-splits k ws vs id v r at there, stays k ws) };
+    ghost splits = { bare-splits };
 
-    ghost joins = { λ k ws vs id other v w r at apart at' mine theirs there. (bare-joins k ws vs id other v w r at apart at' theirs.0.1 there, stays k ws) };
+    ghost joins = { λ k ws vs id other v w r at apart at' mine theirs there step. bare-joins k ws vs id other v w r at apart at' theirs.2 theirs.0.1 there step };
 }
 
 impl SpinHost for Bare {
@@ -110,5 +112,7 @@ impl SpinHost for Bare {
 
     ghost spin_kept = { bare-spin };
 
-    ghost spins = { λ k ws vs id n v s r at may spin. bare-spins k ws vs id n v s r at spin };
+    ghost spin_moves = { λ k id ws us vs vs' step. step.spin };
+
+    ghost spins = { λ k ws vs id i n v s r at within goes may spin. bare-spins k ws vs id i n v s r at within goes spin };
 }

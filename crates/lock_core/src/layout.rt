@@ -7,6 +7,13 @@ use word_bits::MAX_TASKS;
 /// a task spins, or by which it sleeps, has a line of its own.
 pub const LOCK_WORDS: usize = 128 + 64 * MAX_TASKS as usize;
 
+/// How many of them are those of a spin lock.
+pub const SPIN_WORDS: usize = 1;
+
+/// How many of them are left to spin locks: a line for each of eight, and for each task the nodes of
+/// the four that it may wait for at once, a line for each. A rule's other words stand behind them.
+pub const SPIN_ROOM: usize = 64 + 32 * MAX_TASKS as usize;
+
 // Behind the locks' words, and counted from there: the guarded words, the lines of the tasks, the
 // length of the log, the log's entries, the records of all calls, the words of all calls.
 pub(crate) const LINES_AT: usize = 264;

@@ -2,6 +2,7 @@
 #![tactic(auto)]
 
 mod bare;
+mod how;
 mod layout;
 mod op;
 mod pass;
@@ -13,13 +14,14 @@ mod spin;
 pub mod view;
 
 pub use bare::{Bare, Nothing};
-pub use layout::LOCK_WORDS;
+pub use how::{How, Interrupted};
+pub use layout::{LOCK_WORDS, SPIN_ROOM, SPIN_WORDS};
 pub use op::Op;
 pub use pass::Pass;
 pub use plan::Plan;
 pub use rule::SiteRule;
 pub use shadow::Shadow;
-pub use site::{Between, Site};
+pub use site::Site;
 pub use spin::{SpinHost, lock, trylock, unlock};
 pub use view::Held;
 

@@ -1,6 +1,7 @@
 //! Passes: what a task makes the steps of one table with.
 ghost use Rattle.std.specs.Prelude.{◌≡◌, None};
 ghost use Rattle.lock_core.specs.declared.view.Held.TheVariants.{No};
+ghost use Rattle.lock_core.specs.Handles.{view_of, hand_in, past_of, task_in, held_in, done_in, front_in, NotesHold};
 
 use crate::rule::SiteRule;
 use crate::view::{Held, Seen};
@@ -29,8 +30,9 @@ impl Face {
     }
 }
 
-/// A seat of a site's table. Contracts see what it knows, `seat.me.0.view`, and the moments of the
-/// table up to its last step, `seat.me.0.past`.
+/// A seat of a site's table. Contracts see what it knows (`view_of`), the moments of the table up to
+/// its last step (`past_of`), and what it says of itself (`task_in`, `held_in`, `done_in`,
+/// `front_in`).
 #[derive(Drop)]
 pub struct Pass<R: SiteRule> {
     pub(crate) seat: Seat<(), Seen<R::Ext>>,
@@ -40,28 +42,28 @@ pub struct Pass<R: SiteRule> {
 impl<R: SiteRule> Pass<R> {
     /// The task whose number it has.
     pub fn task(&self) -> Option<u32>
-        ensures { result ≡ self.now.face.task }
+        ensures { result ≡ (task_in self.now) }
     {
         self.face.task
     }
 
     /// How it holds what the site guards.
     pub fn held(&self) -> Held
-        ensures { result ≡ self.now.face.held }
+        ensures { result ≡ (held_in self.now) }
     {
         self.face.held
     }
 
     /// How many of its task's calls are recorded.
     pub fn done(&self) -> u32
-        ensures { result ≡ self.now.face.done }
+        ensures { result ≡ (done_in self.now) }
     {
         self.face.done
     }
 
     /// How many entries of the log it has seen. It never falls.
     pub fn front(&self) -> u32
-        ensures { result ≡ self.now.face.front }
+        ensures { result ≡ (front_in self.now) }
     {
         self.face.front
     }
@@ -69,8 +71,8 @@ impl<R: SiteRule> Pass<R> {
     /// Notes how the pass holds, after a step of a lock that changed it. Clauses that a pass sits at
     /// a site speak of what it notes, so a pass that notes something else is of no use afterwards.
     pub fn set_held(&mut self, held: Held)
-        ensures seat { self.new.seat ≡ self.old.seat }
-        ensures face { self.new.face ≡ record self.old.face { held = held } }
+        requires { (hand_in self.old).held ≡ held }
+        ensures { NotesHold held self.old self.new }
     {
         self.face.held = held;
     }

@@ -1,5 +1,5 @@
 //! Sites: tables under a rule, and the steps of their passes.
-ghost use Rattle.std.specs.Prelude.{◌≡◌, ◌≢◌, ℕ, ◌+◌, ◌<◌, ◌≤◌, List, [], None, Some, IfOk, slice_index, slice_set, max};
+ghost use Rattle.std.specs.Prelude.{◌≡◌, ◌≢◌, ℕ, ◌+◌, ◌<◌, ◌≤◌, List, [], ◌∷◌, None, Some, IfOk, slice_index, slice_set, max};
 ghost use lib.ListN.{get_elem?};
 ghost use mathlib.Core.Option.{none, some};
 ghost use Rattle.atomic_table.specs.Table.{step};
@@ -12,8 +12,8 @@ ghost use Rattle.lock_core.specs.Records.{IsPlan};
 ghost use Rattle.lock_core.specs.Views.{first, ticked, handed, split_off, merged, HoldsNothing};
 ghost use Rattle.lock_core.specs.Sites.{SiteKept, Grows};
 ghost use Rattle.lock_core.specs.Moves.{Lets, KeepsHold};
-ghost use Rattle.lock_core.specs.Pasts.{unseen, Moves, Paced};
-ghost use Rattle.lock_core.specs.Passes.{Sits};
+ghost use Rattle.lock_core.specs.Pasts.{unseen, Moves, Paced, opening};
+ghost use Rattle.lock_core.specs.Stated.{IsNew};
 
 use crate::layout::LOCK_WORDS;
 use crate::pass::{Face, Pass};
@@ -21,7 +21,6 @@ use crate::plan::Plan;
 use crate::rule::{SiteRule, Under};
 use crate::view::{Seen, View};
 use atomic_table::{Play, Table};
-pub use laws::Between;
 use plays::{Becomes, Begin, Cut, Find, Glue, Lift, Put, Puts, Tells};
 use std::alloc::{AllocError, Global};
 
@@ -30,6 +29,7 @@ mod own;
 mod plays;
 mod reading;
 mod seats;
+mod signals;
 mod steps;
 mod words;
 
@@ -48,13 +48,18 @@ pub struct Site<R: SiteRule> {
 }
 
 impl<R: SiteRule> Site<R> {
+    ghost use Rattle.lock_core.specs.Handles.{plan_of, view_of, past_of, task_in, front_in, SitsAt, KeepsPast};
+
     /// A new site: all lock words are 0, the state is empty, no call is logged or recorded. The pass
     /// has no task number.
     pub fn open(alloc: Global, plan: Plan) -> Result<(Site<R>, Pass<R>), AllocError>
         requires { IsPlan R.O.object plan }
-        ensures own { IfOk result (λ t. Sits t.0.table.shared.key t.0.table.shared.table_id t.1.seat.table_id t.1.seat.me t.1.face) }
-        ensures plan { IfOk result (λ t. t.0.table.shared.key ≡ plan) }
-        ensures view { IfOk result (λ t. t.1.seat.me.0 ≡ record { view = first plan R.idle; past = [] }) }
+        ensures own { IfOk result (λ t. SitsAt t.0 t.1) }
+        ensures plan { IfOk result (λ t. (plan_of t.0) ≡ plan) }
+        ensures view { IfOk result (λ t. view_of t.1 ≡ first plan R.idle) }
+        ensures past { IfOk result (λ t. past_of t.1 ≡ opening R.marks plan R.idle ∷ []) }
+        ensures new { IfOk result (λ _.
+            IsNew R.O.object R.O.WORDS plan (opening R.marks plan R.idle)) }
     {
         let starts = plan.starts(alloc)?;
         let count = plan.calls();
@@ -73,11 +78,13 @@ impl<R: SiteRule> Site<R> {
 
     /// A pass without a task number, which has seen as many entries.
     pub fn split(&self, pass: &mut Pass<R>) -> Pass<R>
-        requires own { Sits self.now.table.shared.key self.now.table.shared.table_id pass.old.seat.table_id pass.old.seat.me pass.old.face }
-        ensures own { Sits self.now.table.shared.key self.now.table.shared.table_id pass.new.seat.table_id pass.new.seat.me pass.new.face }
-        ensures kept { pass.new.seat.me.0.view ≡ ticked pass.old.seat.me.0.view }
-        ensures its_own { Sits self.now.table.shared.key self.now.table.shared.table_id result.seat.table_id result.seat.me result.face }
-        ensures given { result.seat.me.0.view ≡ split_off R.idle pass.old.seat.me.0.view }
+        requires own { SitsAt self.now pass.old }
+        ensures own { SitsAt self.now pass.new }
+        ensures goes_on { KeepsPast pass.old pass.new }
+        ensures kept { view_of pass.new ≡ ticked (view_of pass.old) }
+        ensures its_own { SitsAt self.now result }
+        ensures given { view_of result ≡ split_off R.idle (view_of pass.old) }
+        ensures past { past_of result ≡ past_of pass.old }
     {
         let seat = self.table.shared.split_seat::<Cut<R>>(&mut pass.seat);
         let face = Face::stranger(pass.face.front);
@@ -87,14 +94,16 @@ impl<R: SiteRule> Site<R> {
     /// Takes in another pass, which is spent: `into` then knows the records that `other` knew, and
     /// has seen as many entries as either.
     pub fn gather(&self, into: &mut Pass<R>, other: Pass<R>)
-        requires own { Sits self.now.table.shared.key self.now.table.shared.table_id into.old.seat.table_id into.old.seat.me into.old.face }
-        requires others_own { Sits self.now.table.shared.key self.now.table.shared.table_id other.seat.table_id other.seat.me other.face }
-        requires rests { HoldsNothing into.old.seat.me.0.view × R.rests into.old.seat.me.0.view }
-        requires other_rests { HoldsNothing other.seat.me.0.view × R.rests other.seat.me.0.view }
-        requires numberless { other.face.task ≡ None }
-        ensures own { Sits self.now.table.shared.key self.now.table.shared.table_id into.new.seat.table_id into.new.seat.me into.new.face }
-        ensures kept { into.new.seat.me.0.view ≡ merged into.old.seat.me.0.view other.seat.me.0.view }
-        ensures rises { (into.old.face.front ≤ into.new.face.front) × (other.face.front ≤ into.new.face.front) }
+        requires own { SitsAt self.now into.old }
+        requires others_own { SitsAt self.now other }
+        requires rests { HoldsNothing (view_of into.old) × R.rests (view_of into.old) }
+        requires other_rests { HoldsNothing (view_of other) × R.rests (view_of other) }
+        requires numberless { task_in other ≡ None }
+        ensures own { SitsAt self.now into.new }
+        ensures goes_on { KeepsPast into.old into.new }
+        ensures kept { view_of into.new ≡ merged (view_of into.old) (view_of other) }
+        ensures rises { front_in into.old ≤ front_in into.new }
+        ensures others { front_in other ≤ front_in into.new }
     {
         let Pass { seat, face } = other;
         self.table.shared.join_seat::<Glue<R>>(&mut into.seat, seat);

@@ -1,16 +1,19 @@
 //! The plain spin lock, in the table of any host: one word, which is 1 while a pass holds it.
-ghost use Rattle.std.specs.Prelude.{◌≡◌, ◌≢◌, ℕ, ◌+◌, ◌<◌, ◌≤◌, Bool, true, false, List, map, slice_index, slice_set, IsSome, MatchResult};
+ghost use Rattle.std.specs.Prelude.{◌≡◌, ◌≢◌, ℕ, ◌+◌, ◌<◌, ◌≤◌, Bool, true, false, List, map, slice_index, slice_set, IsSome, MatchResult, IfErr, IfOk};
 ghost use mathlib.Core.Option.{some};
 ghost use lib.ListN.{get_elem?};
 ghost use Rattle.word_bits.specs.Histories.{Plan as Calls};
 ghost use Rattle.lock_core.specs.declared.view.View.{View};
 ghost use Rattle.lock_core.specs.declared.view.SpinHand.{SpinHand};
-ghost use Rattle.lock_core.specs.declared.layout.TheConstants.{LOCK_WORDS};
-ghost use Rattle.lock_core.specs.Views.{spin_of};
-ghost use Rattle.lock_core.specs.Spins.{SpinKept, spun, spin_took, spin_freed, SpinLooked, SpinTried, SpinFreed, SpinMissed};
+ghost use Rattle.lock_core.specs.declared.layout.TheConstants.{LOCK_WORDS, SPIN_WORDS};
+ghost use Rattle.lock_core.specs.Layout.{part};
+ghost use Rattle.lock_core.specs.Views.{SpinRests, SpinHolds, spin_part, part_with};
+ghost use Rattle.lock_core.specs.Spins.{SpinKept, SpinGoes, SpinMoves, SpinFrees, spun, spin_took, spin_freed, SpinLooked, SpinTried, SpinFreed, SpinMissed, SpinTaken};
 ghost use Rattle.lock_core.specs.Moves.{Goes};
-ghost use Rattle.lock_core.specs.Passes.{Sits};
+ghost use Rattle.lock_core.specs.Pasts.{FoundAt};
+ghost use Rattle.lock_core.specs.Handles.{view_of, hand_in, past_of, task_in, SitsAt, KeepsPast, SaysSame, IsLatest};
 
+use crate::op::Op;
 use crate::pass::Pass;
 use crate::rule::SiteRule;
 use crate::site::Site;
@@ -18,7 +21,7 @@ use crate::view::View;
 use atomic_table::Play;
 use std::sync::Wait;
 
-/// A rule whose table has the words of a spin lock.
+/// A rule whose table has the words of a spin lock, of which no other fact of the rule speaks.
 pub trait SpinHost: SiteRule {
     /// The place of the first of them.
     const FIRST: usize;
@@ -28,12 +31,15 @@ pub trait SpinHost: SiteRule {
     // Where a pass may release the spin lock.
     ghost may_free: { View Self.Ext → Type 0 };
 
-    ghost spin_inside: { FIRST < LOCK_WORDS };
+    ghost spin_inside: { FIRST + SPIN_WORDS ≤ LOCK_WORDS };
 
-    ghost spin_kept: { (k : Calls) (ws : List ℕ) (vs : List (View Self.Ext)) → Self.holds k ws vs → SpinKept (slice_index ws FIRST) (map spin_of vs) };
+    ghost spin_kept: { (k : Calls) (ws : List ℕ) (vs : List (View Self.Ext)) → Self.holds k ws vs → SpinKept (part FIRST SPIN_WORDS ws) (map spin_part vs) };
+
+    // Each move of the rule is one of the spin lock.
+    ghost spin_moves: { (k : Calls) (id : ℕ) (ws us : List ℕ) (vs vs' : List (View Self.Ext)) → Self.moves k id ws vs us vs' → SpinMoves id (part FIRST SPIN_WORDS ws) (map spin_part vs) (part FIRST SPIN_WORDS us) (map spin_part vs') };
 
     // A step on the spin words that keeps the lock's own facts keeps every other fact of the rule.
-    ghost spins: { (k : Calls) (ws : List ℕ) (vs : List (View Self.Ext)) (id n : ℕ) (v : View Self.Ext) (s : SpinHand) → Self.holds k ws vs → get_elem? vs id ≡ some v → (v.spin.holds ≡ true → s.holds ≡ false → may_free v) → SpinKept n (slice_set (map spin_of vs) id s) → Goes (Self.holds k) (Self.moves k) id ws vs (slice_set ws FIRST n) (slice_set vs id (spun v s)) };
+    ghost spins: { (k : Calls) (ws : List ℕ) (vs : List (View Self.Ext)) (id i n : ℕ) (v : View Self.Ext) (s : SpinHand) → Self.holds k ws vs → get_elem? vs id ≡ some v → i < SPIN_WORDS → SpinGoes v.spin s → (SpinFrees v.spin s → may_free v) → SpinMoves id (part FIRST SPIN_WORDS ws) (map spin_part vs) (slice_set (part FIRST SPIN_WORDS ws) i n) (slice_set (map spin_part vs) id (part_with v s)) → Goes (Self.holds k) (Self.moves k) id ws vs (slice_set ws (FIRST + i) n) (slice_set vs id (spun v s)) };
 }
 
 struct Look;
@@ -57,33 +63,43 @@ impl<E> Play<(), View<E>> for Free {
 /// Takes the spin lock where it is free, by one load and, if that saw 0, one compare-exchange from 0
 /// to 1. `Err` has the word, not 0, that the load or the exchange saw.
 pub fn trylock<H: SpinHost>(site: &Site<H>, pass: &mut Pass<H>) -> Result<(), u64>
-    requires own { Sits site.now.table.shared.key site.now.table.shared.table_id pass.old.seat.table_id pass.old.seat.me pass.old.face }
-    requires numbered { IsSome pass.old.face.task }
-    requires out { pass.old.seat.me.0.view.spin.holds ≡ false }
-    ensures own { Sits site.now.table.shared.key site.now.table.shared.table_id pass.new.seat.table_id pass.new.seat.me pass.new.face }
-    ensures kept { MatchResult result (λ _. pass.new.seat.me.0.view ≡ record pass.old.seat.me.0.view { spin = spin_took pass.old.seat.me.0.view.spin; steps = pass.old.seat.me.0.view.steps + 2 }) (λ w. SpinMissed pass.old.seat.me.0.view w pass.new.seat.me.0.view) }
+    requires own { SitsAt site.now pass.old }
+    requires numbered { IsSome (task_in pass.old) }
+    requires out { SpinRests (view_of pass.old).spin }
+    ensures own { SitsAt site.now pass.new }
+    ensures goes_on { KeepsPast pass.old pass.new }
+    ensures last { IsLatest pass.new }
+    ensures took { IfOk result (λ _. SpinTaken (view_of pass.old) (view_of pass.new)) }
+    ensures missed { IfErr result (λ word. SpinMissed (view_of pass.old) word (view_of pass.new)) }
+    ensures free { IfOk result (λ _. FoundAt H.FIRST 0 (past_of pass.new)) }
+    ensures found { IfErr result (λ word. FoundAt H.FIRST word (past_of pass.new)) }
 {
-    let seen = site.load::<Look>(pass, H::FIRST);
+    // While the lock is taken contenders only load, and leave its line with the one who has it.
+    let seen = site.step::<Look>(pass, H::FIRST, Op::Load);
     if seen != 0 {
         return Err(seen);
     }
-    let found = site.exchange::<Take>(pass, H::FIRST, 0, 1);
+    // Another may have taken it since: the exchange decides.
+    let found = site.step::<Take>(pass, H::FIRST, Op::Exchange(0, 1));
     if found == 0 { Ok(()) } else { Err(found) }
 }
 
 /// Waits until the spin lock is free, and takes it.
 pub fn lock<H: SpinHost, W: Wait>(site: &Site<H>, rt: &W, pass: &mut Pass<H>)
-    requires own { Sits site.now.table.shared.key site.now.table.shared.table_id pass.old.seat.table_id pass.old.seat.me pass.old.face }
-    requires numbered { IsSome pass.old.face.task }
-    requires out { pass.old.seat.me.0.view.spin.holds ≡ false }
-    ensures own { Sits site.now.table.shared.key site.now.table.shared.table_id pass.new.seat.table_id pass.new.seat.me pass.new.face }
-    ensures holds { pass.new.seat.me.0.view.spin.holds ≡ true }
-    ensures counted { pass.new.seat.me.0.view.spin.entries ≡ pass.old.seat.me.0.view.spin.entries + 1 }
-    ensures hand { pass.new.seat.me.0.view.hand ≡ pass.old.seat.me.0.view.hand }
-    ensures fronts { pass.new.seat.me.0.view.fronts ≡ pass.old.seat.me.0.view.fronts }
-    ensures ext { pass.new.seat.me.0.view.ext ≡ pass.old.seat.me.0.view.ext }
-    ensures face { pass.new.face ≡ pass.old.face }
-    ensures later { pass.old.seat.me.0.view.steps ≤ pass.new.seat.me.0.view.steps }
+    requires own { SitsAt site.now pass.old }
+    requires numbered { IsSome (task_in pass.old) }
+    requires out { SpinRests (view_of pass.old).spin }
+    ensures own { SitsAt site.now pass.new }
+    ensures goes_on { KeepsPast pass.old pass.new }
+    ensures last { IsLatest pass.new }
+    ensures holds { SpinHolds (view_of pass.new).spin }
+    ensures counted { (view_of pass.new).spin.entries ≡ (view_of pass.old).spin.entries + 1 }
+    ensures hand { hand_in pass.new ≡ hand_in pass.old }
+    ensures fronts { (view_of pass.new).fronts ≡ (view_of pass.old).fronts }
+    ensures ext { (view_of pass.new).ext ≡ (view_of pass.old).ext }
+    ensures face { SaysSame pass.old pass.new }
+    ensures free { FoundAt H.FIRST 0 (past_of pass.new) }
+    ensures later { (view_of pass.old).steps + 2 ≤ (view_of pass.new).steps }
 {
     for _ in rt.forever() {
         if trylock(site, pass).is_ok() {
@@ -95,12 +111,15 @@ pub fn lock<H: SpinHost, W: Wait>(site: &Site<H>, rt: &W, pass: &mut Pass<H>)
 
 /// Releases the spin lock, in one step.
 pub fn unlock<H: SpinHost>(site: &Site<H>, pass: &mut Pass<H>)
-    requires own { Sits site.now.table.shared.key site.now.table.shared.table_id pass.old.seat.table_id pass.old.seat.me pass.old.face }
-    requires numbered { IsSome pass.old.face.task }
-    requires held { pass.old.seat.me.0.view.spin.holds ≡ true }
-    requires free { H.may_free pass.old.seat.me.0.view }
-    ensures own { Sits site.now.table.shared.key site.now.table.shared.table_id pass.new.seat.table_id pass.new.seat.me pass.new.face }
-    ensures kept { pass.new.seat.me.0.view ≡ spun pass.old.seat.me.0.view (spin_freed pass.old.seat.me.0.view.spin) }
+    requires own { SitsAt site.now pass.old }
+    requires numbered { IsSome (task_in pass.old) }
+    requires held { SpinHolds (view_of pass.old).spin }
+    requires free { H.may_free (view_of pass.old) }
+    ensures own { SitsAt site.now pass.new }
+    ensures goes_on { KeepsPast pass.old pass.new }
+    ensures last { IsLatest pass.new }
+    ensures kept { view_of pass.new ≡ spun (view_of pass.old) (spin_freed (view_of pass.old).spin) }
 {
-    site.store::<Free>(pass, H::FIRST, 0);
+    // All that was done under the lock comes before this store, for whoever sees it.
+    site.step::<Free>(pass, H::FIRST, Op::Store(0));
 }

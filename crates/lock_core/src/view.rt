@@ -35,6 +35,14 @@ pub struct Saw {
     pub step: u64,
 }
 
+/// What a pass heard of the signals to its task, since it last took its number or consumed one.
+pub struct Heard {
+    /// How many were sent.
+    pub sent: u64,
+    /// How many the task has consumed.
+    pub taken: u64,
+}
+
 /// What concerns the site's own words.
 pub struct Hand {
     /// None once the view is spent.
@@ -54,8 +62,9 @@ pub struct Hand {
     pub stage: Stage,
     /// A task that it sent a signal to, which isn't recorded.
     pub sent: Option<u32>,
-    /// It consumed a signal, which isn't recorded.
-    pub consumed: bool,
+    /// How many signals it consumed that aren't recorded.
+    pub consumed: u64,
+    pub heard: Option<Heard>,
     /// The number of the step at which it last recorded a call.
     pub last: u64,
     /// Of the owner word or the count.
@@ -85,9 +94,25 @@ pub struct View<E> {
     pub ext: E,
 }
 
-/// The words of a table at one moment.
+/// How a pass has stood in line for its lock, beside what its hand says.
+pub struct Line {
+    /// How often it has appended itself to the list of waiters.
+    pub appends: u64,
+}
+
+/// What a rule tells of the part of a view that it adds.
+pub struct Marks {
+    pub numbers: [u64; 0],
+}
+
+/// A table at one moment: its words, and of each view in turn what has no type of the rule's own.
 pub struct Moment {
     pub words: [u64; 0],
+    pub hands: [Hand; 0],
+    pub spins: [SpinHand; 0],
+    pub steps: [u64; 0],
+    pub fronts: [u64; 0],
+    pub marks: [Marks; 0],
 }
 
 /// A view, and the moments of the table up to the pass's last step, the last one first.

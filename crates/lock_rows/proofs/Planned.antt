@@ -6,7 +6,7 @@ use Rattle.word_bits.specs.declared.call.CallWords.{CallWords}
 use Rattle.word_bits.specs.Objects.{Obj}
 use Rattle.word_bits.specs.Histories.{Plan}
 use Rattle.lock_core.specs.Plans.{appended, calls_in}
-use Rattle.lock_core.specs.Records.{row, IsPlan}
+use Rattle.lock_core.specs.Records.{row, IsPlan, IsCallOrSignal}
 use Rattle.lock_core.proofs.RowLaws.{none-some, same-some, get-either, row-appended, row-beside}
 
 pub empty-calls : (n : ℕ) → calls_in {X = CallWords} (replicate n []) ≡ 0
@@ -26,8 +26,8 @@ module _ {Call : Type 0} (o : Obj Call) where
   pub empty-plan : (n : ℕ) → IsPlan o (replicate n [])
   empty-plan n t c w at = none-some w (ap (λ (ws : List CallWords). slice_get ws c) (sym (empty-row n t)) ∙ at)
 
-  pub plan-appended : (k : Plan) (t : ℕ) (w : CallWords) → t < length k → IsPlan o k → IsSome (o.call_of w) → IsPlan o (appended k t w)
+  pub plan-appended : (k : Plan) (t : ℕ) (w : CallWords) → t < length k → IsPlan o k → IsCallOrSignal o w → IsPlan o (appended k t w)
   plan-appended k t w inside plan is u c x at = dite (ℕ_discrete u t)
-      (λ same. ⊎_elim (λ (l : slice_get (row k t) c ≡ Some x). plan t c x l) (λ (r : (j : ℕ) × (c ≡ length (row k t) + j) × (slice_get (w ∷ []) j ≡ Some x)). inr (subst (λ (z : CallWords). IsSome (o.call_of z)) (only-one w x r.0 r.2) is))
+      (λ same. ⊎_elim (λ (l : slice_get (row k t) c ≡ Some x). plan t c x l) (λ (r : (j : ℕ) × (c ≡ length (row k t) + j) × (slice_get (w ∷ []) j ≡ Some x)). subst (IsCallOrSignal o) (only-one w x r.0 r.2) is)
       (get-either (row k t) (w ∷ []) c x (ap (λ (ws : List CallWords). slice_get ws c) (sym (row-appended k t w inside)) ∙ (ap (λ (v : ℕ). slice_get (row (appended k t w) v) c) (sym same) ∙ at))))
       (λ other. plan u c x (ap (λ (ws : List CallWords). slice_get ws c) (sym (row-beside k t u w other)) ∙ at))

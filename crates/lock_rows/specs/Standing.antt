@@ -1,19 +1,29 @@
--- A pass between two of its tasks.
-use Rattle.std.specs.Prelude.{◌≡◌, false, None}
-use Rattle.lock_core.specs.declared.view.Held.TheVariants.{No}
-use Rattle.word_bits.specs.Histories.{Plan}
-use Rattle.lock_core.specs.declared.view.Seen.{Seen}
-use Rattle.lock_core.specs.declared.pass.Face.{Face}
-use Rattle.lock_core.specs.Passes.{Sits}
-use Rattle.atomic_table.specs.Table.{Me}
-use Rattle.atomic_table.specs.Seated.{TableId}
+-- How a pass stands between two calls of its task, and between two tasks.
+use Rattle.std.specs.Prelude.{◌≡◌, None}
+use Rattle.lock_core.specs.declared.pass.Pass.{Pass}
+use Rattle.lock_core.specs.Views.{SpinRests}
+use Rattle.lock_core.specs.Handles.{hand_in, task_in, view_of}
+use Rattle.mutex_word.specs.declared.rule.OwnerRule.{OwnerRule}
+use Rattle.mutex_word.specs.declared.site.OwnerSite.{OwnerSite}
+use Rattle.mutex_word.specs.Handles.{SitsAt}
 
--- it has no number, holds nothing, doesn't write, and owes no record of a signal
-pub record Idles (k : Plan) (table : TableId) (seat : TableId) (me : Me (Unit {0}) (Seen (Unit {0}))) (face : Face) : Type 0 where
-  pub own : Sits k table seat me face
-  pub numberless : face.task ≡ None
-  pub out : face.held ≡ No
-  pub quiet : me.0.view.hand.writes ≡ false
-  pub unspun : me.0.view.spin.holds ≡ false
-  pub unsent : me.0.view.hand.sent ≡ None
-  pub unconsumed : me.0.view.hand.consumed ≡ false
+module _ {R O E C : Type 0} where
+  -- each signal that it sent or consumed is recorded
+  pub record OwesNothing (pass : Pass R O E C) : Type 0 where
+    pub sent : (hand_in pass).sent ≡ None
+    pub consumed : (hand_in pass).consumed ≡ 0
+
+  -- as many signals as before aren't
+  pub record OwesSame (old new : Pass R O E C) : Type 0 where
+    pub sent : (hand_in new).sent ≡ (hand_in old).sent
+    pub consumed : (hand_in new).consumed ≡ (hand_in old).consumed
+
+  -- what it has to do with the spin lock is as before
+  abbrev pub SameSpin : Pass R O E C → Pass R O E C → Type 0
+  SameSpin old new = (view_of new).spin ≡ (view_of old).spin
+
+-- it is one of the site's, has no number, and so holds nothing and owes nothing; nor has it the spin lock
+pub record Idles {O C : Type 0} (site : OwnerSite O C) (pass : Pass (OwnerRule O) O (Unit {0}) C) : Type 0 where
+  pub own : SitsAt site pass
+  pub numberless : task_in pass ≡ None
+  pub unspun : SpinRests (view_of pass).spin

@@ -5,8 +5,10 @@ mod calls;
 mod plans;
 mod rounds;
 
-pub use calls::{perform, take};
-pub use plans::{each_maps, fault_page, map_page, push_calls};
+pub use calls::{await_signal, interrupt, perform, send, take, try_next};
+pub use plans::{
+    each_maps, fault_page, int_fault_page, map_page, push_calls, signal_task, try_map_page,
+};
 pub use rounds::{all_calls, four_at_once};
 
 #[cfg(test)]

@@ -1,30 +1,54 @@
 //! Passes that do all calls of their tasks, on threads.
-ghost use Rattle.std.specs.Prelude.{◌≡◌, ◌+◌, ◌<◌, ◌≤◌, length};
-ghost use Rattle.lock_rows.specs.Standing.{Idles};
+ghost use Rattle.std.specs.Prelude.{◌≡◌, ◌+◌, ◌<◌, ◌≤◌, false, length, IsSome};
+ghost use Rattle.lock_core.specs.declared.view.Held.TheVariants.{No};
+ghost use Rattle.lock_core.specs.Handles.{hand_in, held_in, task_in};
+ghost use Rattle.mutex_word.specs.Handles.{plan_of, SitsAt};
+ghost use Rattle.lock_rows.specs.Standing.{Idles, OwesNothing, SameSpin};
 
-use crate::calls::{perform, take};
+use crate::calls::{await_signal, perform, send, take};
 use mutex_word::{OwnerPass, OwnerSite};
 use std::sync::Wait;
 use std::thread::{Threads, join};
 use vma_map::Areas;
 
-/// Takes the lock for each call of the task in turn, and gives the number back at the end.
+/// Does the task's next call: a signal is sent, a call that waits for signals is interrupted by one,
+/// and any other takes the lock.
+fn do_next(site: &OwnerSite<Areas>, pass: &mut OwnerPass<Areas>)
+    requires own { SitsAt site.now pass.old }
+    requires numbered { IsSome (task_in pass.old) }
+    requires out { held_in pass.old ≡ No }
+    requires quiet { (hand_in pass.old).writes ≡ false }
+    requires owes { OwesNothing pass.old }
+    ensures own { SitsAt site.now pass.new }
+    ensures task { task_in pass.new ≡ task_in pass.old }
+    ensures out { held_in pass.new ≡ No }
+    ensures quiet { (hand_in pass.new).writes ≡ false }
+    ensures owes { OwesNothing pass.new }
+    ensures spin { SameSpin pass.old pass.new }
+{
+    if send(site, pass).is_some() || await_signal(site, pass) {
+        return;
+    }
+    if take(site, pass) {
+        perform(site, pass);
+        site.unlock_once(pass);
+    }
+}
+
+/// Does all calls of the task, and gives the number back.
 pub fn all_calls<W: Wait>(
     rt: &W,
     site: &OwnerSite<Areas>,
     mut pass: OwnerPass<Areas>,
     task: u32,
 ) -> OwnerPass<Areas>
-    requires idles { Idles site.now.site.table.shared.key site.now.site.table.shared.table_id pass.seat.table_id pass.seat.me pass.face }
-    requires there { task < length site.now.site.table.shared.key }
-    ensures idles { Idles site.now.site.table.shared.key site.now.site.table.shared.table_id result.seat.table_id result.seat.me result.face }
+    requires idles { Idles site.now pass }
+    requires there { task < length (plan_of site.now) }
+    ensures idles { Idles site.now result }
 {
     site.begin(rt, &mut pass, task);
     for _ in 0..site.calls(task) {
-        if take(site, &mut pass) {
-            perform(site, &mut pass);
-            site.unlock_once(&mut pass);
-        }
+        do_next(site, &mut pass);
     }
     site.end(&mut pass);
     pass
@@ -38,23 +62,23 @@ fn two_at_once<R: Threads + Wait + Sync>(
     two: OwnerPass<Areas>,
     task: u32,
 ) -> (OwnerPass<Areas>, OwnerPass<Areas>)
-    requires one { Idles site.now.site.table.shared.key site.now.site.table.shared.table_id one.seat.table_id one.seat.me one.face }
-    requires two { Idles site.now.site.table.shared.key site.now.site.table.shared.table_id two.seat.table_id two.seat.me two.face }
-    requires there { task + 1 < length site.now.site.table.shared.key }
-    ensures one { Idles site.now.site.table.shared.key site.now.site.table.shared.table_id result.0.seat.table_id result.0.seat.me result.0.face }
-    ensures two { Idles site.now.site.table.shared.key site.now.site.table.shared.table_id result.1.seat.table_id result.1.seat.me result.1.face }
+    requires one { Idles site.now one }
+    requires two { Idles site.now two }
+    requires there { task + 1 < length (plan_of site.now) }
+    ensures one { Idles site.now result.0 }
+    ensures two { Idles site.now result.1 }
 {
     join(
         rt,
         || -> OwnerPass<Areas>
-            requires idles { Idles site.now.site.table.shared.key site.now.site.table.shared.table_id one.seat.table_id one.seat.me one.face }
-            requires there { task < length site.now.site.table.shared.key }
-            ensures { Idles site.entry.now.site.table.shared.key site.entry.now.site.table.shared.table_id result.seat.table_id result.seat.me result.face }
+            requires idles { Idles site.now one }
+            requires there { task < length (plan_of site.now) }
+            ensures { Idles site.entry.now result }
         { all_calls(rt, site, one, task) },
         || -> OwnerPass<Areas>
-            requires idles { Idles site.now.site.table.shared.key site.now.site.table.shared.table_id two.seat.table_id two.seat.me two.face }
-            requires there { task + 1 < length site.now.site.table.shared.key }
-            ensures { Idles site.entry.now.site.table.shared.key site.entry.now.site.table.shared.table_id result.seat.table_id result.seat.me result.face }
+            requires idles { Idles site.now two }
+            requires there { task + 1 < length (plan_of site.now) }
+            ensures { Idles site.entry.now result }
         { all_calls(rt, site, two, task + 1) },
     )
 }
@@ -65,9 +89,9 @@ pub fn four_at_once<R: Threads + Wait + Sync>(
     site: &OwnerSite<Areas>,
     mut first: OwnerPass<Areas>,
 ) -> OwnerPass<Areas>
-    requires first { Idles site.now.site.table.shared.key site.now.site.table.shared.table_id first.seat.table_id first.seat.me first.face }
-    requires there { 4 ≤ length site.now.site.table.shared.key }
-    ensures { Idles site.now.site.table.shared.key site.now.site.table.shared.table_id result.seat.table_id result.seat.me result.face }
+    requires first { Idles site.now first }
+    requires there { 4 ≤ length (plan_of site.now) }
+    ensures { Idles site.now result }
 {
     let two = site.split(&mut first);
     let three = site.split(&mut first);
@@ -75,18 +99,18 @@ pub fn four_at_once<R: Threads + Wait + Sync>(
     let ((mut one, two), (three, four)) = join(
         rt,
         || -> (OwnerPass<Areas>, OwnerPass<Areas>)
-            requires one { Idles site.now.site.table.shared.key site.now.site.table.shared.table_id first.seat.table_id first.seat.me first.face }
-            requires two { Idles site.now.site.table.shared.key site.now.site.table.shared.table_id two.seat.table_id two.seat.me two.face }
-            requires there { 4 ≤ length site.now.site.table.shared.key }
-            ensures one { Idles site.entry.now.site.table.shared.key site.entry.now.site.table.shared.table_id result.0.seat.table_id result.0.seat.me result.0.face }
-            ensures two { Idles site.entry.now.site.table.shared.key site.entry.now.site.table.shared.table_id result.1.seat.table_id result.1.seat.me result.1.face }
+            requires one { Idles site.now first }
+            requires two { Idles site.now two }
+            requires there { 4 ≤ length (plan_of site.now) }
+            ensures one { Idles site.entry.now result.0 }
+            ensures two { Idles site.entry.now result.1 }
         { two_at_once(rt, site, first, two, 0) },
         || -> (OwnerPass<Areas>, OwnerPass<Areas>)
-            requires one { Idles site.now.site.table.shared.key site.now.site.table.shared.table_id three.seat.table_id three.seat.me three.face }
-            requires two { Idles site.now.site.table.shared.key site.now.site.table.shared.table_id four.seat.table_id four.seat.me four.face }
-            requires there { 4 ≤ length site.now.site.table.shared.key }
-            ensures one { Idles site.entry.now.site.table.shared.key site.entry.now.site.table.shared.table_id result.0.seat.table_id result.0.seat.me result.0.face }
-            ensures two { Idles site.entry.now.site.table.shared.key site.entry.now.site.table.shared.table_id result.1.seat.table_id result.1.seat.me result.1.face }
+            requires one { Idles site.now three }
+            requires two { Idles site.now four }
+            requires there { 4 ≤ length (plan_of site.now) }
+            ensures one { Idles site.entry.now result.0 }
+            ensures two { Idles site.entry.now result.1 }
         { two_at_once(rt, site, three, four, 2) },
     );
     site.gather(&mut one, two);

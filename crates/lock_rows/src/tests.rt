@@ -1,10 +1,14 @@
 //! Sites with an owner word over address spaces.
 ghost use Rattle.std.specs.Prelude.{◌≡◌, ◌≢◌, ◌<◌, ◌≤◌, length};
 ghost use Rattle.lock_core.specs.declared.view.Held.TheVariants.{No};
-ghost use Rattle.lock_core.specs.Passes.{Sits};
+ghost use Rattle.lock_core.specs.Handles.{hand_in, held_in, SaysSame};
+ghost use Rattle.mutex_word.specs.Handles.{plan_of, SitsAt};
 
-use crate::{each_maps, fault_page, four_at_once, perform, push_calls, take};
-use lock_core::Held;
+use crate::{
+    each_maps, fault_page, four_at_once, int_fault_page, interrupt, map_page, perform, push_calls,
+    send, signal_task, take, try_map_page, try_next,
+};
+use lock_core::{Held, Interrupted, Plan};
 use mutex_word::{OwnerPass, OwnerSite};
 use std::test::Fail;
 use vma_map::Areas;
@@ -15,8 +19,8 @@ const ROUNDS: u32 = 10_000;
 
 /// Whether these are the guarded words.
 fn stores(site: &OwnerSite<Areas>, pass: &mut OwnerPass<Areas>, want: &[u64; 257]) -> bool
-    requires own { Sits site.now.site.table.shared.key site.now.site.table.shared.table_id pass.old.seat.table_id pass.old.seat.me pass.old.face }
-    requires held { pass.old.face.held ≢ No }
+    requires own { SitsAt site.now pass.old }
+    requires held { (held_in pass.old) ≢ No }
 {
     for at in 0..257 {
         if site.word(pass, at) != want[at] {
@@ -34,10 +38,10 @@ fn replay(
     done: &mut [u32; 4],
     words: &mut [u64; 257],
 ) -> bool
-    requires own { Sits site.now.site.table.shared.key site.now.site.table.shared.table_id pass.old.seat.table_id pass.old.seat.me pass.old.face }
-    requires held { pass.old.face.held ≢ No }
-    ensures own { Sits site.now.site.table.shared.key site.now.site.table.shared.table_id pass.new.seat.table_id pass.new.seat.me pass.new.face }
-    ensures face { pass.new.face ≡ pass.old.face }
+    requires own { SitsAt site.now pass.old }
+    requires held { (held_in pass.old) ≢ No }
+    ensures own { SitsAt site.now pass.new }
+    ensures face { SaysSame pass.old pass.new }
 {
     let mut space = Areas::empty();
     for at in 0..site.log_len(pass) {
@@ -58,6 +62,33 @@ fn replay(
         space.apply(call);
     }
     space.store(words);
+    true
+}
+
+/// The word of a call's record. `None` where the plan has no such call.
+fn record_word(site: &OwnerSite<Areas>, pass: &mut OwnerPass<Areas>, entry: Entry) -> Option<u64>
+    requires own { SitsAt site.now pass.old }
+    ensures own { SitsAt site.now pass.new }
+    ensures face { SaysSame pass.old pass.new }
+    ensures hand { hand_in pass.new ≡ hand_in pass.old }
+{
+    if entry.task >= site.tasks() || entry.call >= site.calls(entry.task) {
+        return None;
+    }
+    Some(site.rec_word(pass, entry.task, entry.call))
+}
+
+/// Whether each call of the task has the record of this word.
+fn records_are(site: &OwnerSite<Areas>, pass: &mut OwnerPass<Areas>, task: u32, want: u64) -> bool
+    requires own { SitsAt site.now pass.old }
+    requires there { task < length (plan_of site.now) }
+    ensures own { SitsAt site.now pass.new }
+{
+    for call in 0..site.calls(task) {
+        if site.rec_word(pass, task, call) != want {
+            return false;
+        }
+    }
     true
 }
 
@@ -82,6 +113,64 @@ fn a_second_task_takes_the_lock_once_the_first_lets_it_go(rt: HostRuntime) -> Re
     assert_eq!(rt; perform(&site, &mut two), None);
     site.unlock_once(&mut two);
     assert_eq!(rt; (two.done(), two.front(), two.held()), (2, 2, Held::No));
+    site.recall_holders(&mut two);
+    site.grown(&mut two);
+    Ok(())
+}
+
+// A record's word has the place in the log, the kind of the reply times 262,144 (busy 6, interrupted 7,
+// sent 8), and its value times 4,194,304.
+#[test]
+fn a_call_that_does_not_wait_is_busy(rt: HostRuntime) -> Result<(), Fail> {
+    let mut plan = Plan::new(rt.alloc(), 2)?;
+    push_calls(&mut plan, 0, 1, map_page(0))?;
+    push_calls(&mut plan, 1, 2, try_map_page(1))?;
+    let (site, mut one) = OwnerSite::<Areas>::open(rt.alloc(), plan)?;
+    let mut two = site.split(&mut one);
+    site.begin(&rt, &mut one, 0);
+    site.begin(&rt, &mut two, 1);
+    assert_eq!(rt; site.trylock_once(&mut one), Ok(()));
+    assert_eq!(rt; try_next(&site, &mut two), Some(false));
+    let entry = Entry { task: 1, call: 0 };
+    assert_eq!(rt;
+        record_word(&site, &mut two, entry),
+        Some(6 * 262_144 + 8 * 4_194_304)
+    );
+    site.unlock_once(&mut one);
+    assert_eq!(rt; try_next(&site, &mut two), Some(true));
+    assert_eq!(rt; (two.done(), two.held()), (1, Held::Alone));
+    Ok(())
+}
+
+#[test]
+fn a_signal_interrupts_a_call_that_waits(rt: HostRuntime) -> Result<(), Fail> {
+    let mut plan = Plan::new(rt.alloc(), 2)?;
+    push_calls(&mut plan, 0, 2, signal_task(1))?;
+    push_calls(&mut plan, 1, 2, int_fault_page(0))?;
+    let (site, mut one) = OwnerSite::<Areas>::open(rt.alloc(), plan)?;
+    let mut two = site.split(&mut one);
+    site.begin(&rt, &mut one, 0);
+    site.begin(&rt, &mut two, 1);
+    assert_eq!(rt; interrupt(&site, &mut two), None);
+    assert_eq!(rt; send(&site, &mut one), Some(1));
+    assert_eq!(rt;
+        interrupt(&site, &mut two),
+        Some(Interrupted { sent: 1, taken: 0 })
+    );
+    assert_eq!(rt; interrupt(&site, &mut two), None);
+    assert_eq!(rt; send(&site, &mut one), Some(1));
+    assert_eq!(rt;
+        interrupt(&site, &mut two),
+        Some(Interrupted { sent: 2, taken: 1 })
+    );
+    assert_eq!(rt; send(&site, &mut one), None);
+    let (sent, interrupted) = (Entry { task: 0, call: 1 }, Entry { task: 1, call: 1 });
+    assert_eq!(rt; record_word(&site, &mut two, sent), Some(8 * 262_144));
+    assert_eq!(rt;
+        record_word(&site, &mut two, interrupted),
+        Some(7 * 262_144)
+    );
+    assert_eq!(rt; (one.done(), two.done(), two.front()), (2, 2, 0));
     Ok(())
 }
 
@@ -99,5 +188,24 @@ fn the_log_of_four_threads_has_each_commit_once(rt: HostRuntime) -> Result<(), F
     assert!(rt; replay(&site, &mut pass, &mut done, &mut words));
     assert_eq!(rt; done, [ROUNDS; 4]);
     assert!(rt; stores(&site, &mut pass, &words));
+    Ok(())
+}
+
+#[test]
+fn each_signal_of_two_threads_interrupts_a_call_of_another(rt: HostRuntime) -> Result<(), Fail> {
+    let mut plan = Plan::new(rt.alloc(), 4)?;
+    push_calls(&mut plan, 0, ROUNDS, signal_task(2))?;
+    push_calls(&mut plan, 1, ROUNDS, signal_task(3))?;
+    push_calls(&mut plan, 2, ROUNDS, int_fault_page(0))?;
+    push_calls(&mut plan, 3, ROUNDS, int_fault_page(0))?;
+    let (site, pass) = OwnerSite::<Areas>::open(rt.alloc(), plan)?;
+    let mut pass = four_at_once(&rt, &site, pass);
+    for task in 0..4 {
+        site.begin(&rt, &mut pass, task);
+        assert_eq!(rt; (pass.done(), pass.front()), (ROUNDS, 0));
+        site.end(&mut pass);
+    }
+    assert!(rt; records_are(&site, &mut pass, 1, 8 * 262_144));
+    assert!(rt; records_are(&site, &mut pass, 3, 7 * 262_144));
     Ok(())
 }

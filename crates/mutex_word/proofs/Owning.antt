@@ -1,14 +1,14 @@
 -- The steps on the owner word keep its own facts and the site's, and so the host's rule.
-use Rattle.std.proofs.Common.{◌≡◌, ◌≢◌, ◌∙◌, ℕ, ◌+◌, inl, false, List, map, take, get_or, set, Option, Some, None, sym, refl, subst, arith}
+use Rattle.std.proofs.Common.{◌/◌, ◌%◌, ◌≤◌, inr, ◌≡◌, ◌≢◌, ◌∙◌, ℕ, ◌+◌, inl, false, List, map, take, get_or, set, Option, Some, None, sym, refl, subst, arith}
 use mathlib.Core.Option.{some, none}
 use lib.ListN.{get_elem?}
 use lib.Seq.{set-get_or}
-use Rattle.atomic_table.specs.Table.{Me, step}
+use Rattle.atomic_table.specs.Table.{Me, step, keeps}
 use Rattle.atomic_table.proofs.Lists.{at_map, set_again}
 use Rattle.word_bits.specs.LockWords.{Unavailable}
 use Rattle.word_bits.specs.Objects.{Obj}
 use Rattle.word_bits.specs.Histories.{Plan}
-use Rattle.lock_core.specs.declared.op.Op.TheVariants.{Exchange}
+use Rattle.lock_core.specs.declared.op.Op.TheVariants.{Exchange, Or, And, Load}
 use Rattle.lock_core.specs.declared.view.View.{View}
 use Rattle.lock_core.specs.declared.view.Hand.{Hand}
 use Rattle.lock_core.specs.declared.view.Held.TheVariants.{No, Alone}
@@ -18,24 +18,43 @@ use Rattle.lock_core.specs.Views.{hand_of, handed, ticked, took}
 use Rattle.lock_core.specs.Sites.{SiteKept, HasPlan}
 use Rattle.lock_core.specs.Moves.{Goes, Lets}
 use Rattle.lock_core.proofs.HandLaws.{no-alone, alone-is-held}
-use Rattle.lock_core.proofs.HoldSteps.{quiet-state, site-takes, site-misses}
-use Rattle.lock_core.proofs.Steps.{exchanges}
-use Rattle.mutex_word.specs.Holders.{own_word, OwnKept, Learns, missed, released}
-use Rattle.mutex_word.specs.Plays.{Tried, Freed}
+use Rattle.lock_core.proofs.HoldSteps.{none-alone, quiet-state, site-takes, site-misses, site-frees}
+use Rattle.lock_core.proofs.Steps.{exchanges, modifies}
+use Rattle.mutex_word.specs.Holders.{own_word, OwnKept, IsTurn, IsShut, turns}
+use Rattle.lock_core.specs.Holding.{Learns, missed, released}
+use Rattle.mutex_word.specs.declared.host.Turn.{Turn}
+use Rattle.mutex_word.specs.declared.host.Turn.TheVariants.{Take, Free, Flag, Clear, Fail}
+use Rattle.mutex_word.specs.Plays.{Tried, Freed, Flagged, Looked}
+use Rattle.mutex_word.specs.OwnKinds.{own-flags, own-clears, or-one, or-odd, and-clears}
+use Rattle.word_bits.specs.OwnerWord.{task_code}
+use lib.Bits.{bit_and, bit_or}
+use mathlib.Core.Logic.{dite}
+use native.Mathlib.Decide.{ℕ_discrete}
 use Rattle.mutex_word.specs.OwnLaws.{Named, none-holds, held-word, own-takes, own-frees, own-stays}
-use Rattle.mutex_word.proofs.HoldLaws.{none-alone, site-frees}
 
 -- a live view's plan is the table's
 its-plan : (k p : Plan) (plan : Option Plan) → HasPlan k plan → plan ≡ Some p → k ≡ p
 its-plan k p plan has is = sym (subst (HasPlan k) is has)
 
+-- a try fails at the word or doesn't
+pub shut-or-open : (task : Option ℕ) (n : ℕ) {P : Type 0} → (IsShut task n → P) → ((IsShut task n → ⊥) → P) → P
+shut-or-open task n shut open_it = elim (native.Mathlib.Decide.dec_le 8 n) [
+  | yes big ↦ elim (native.Mathlib.Decide.dec_le 4 (n % 8)) [
+    | no low ↦ shut (big, inl (omega (arith, low)))
+    | yes high ↦ dite (ℕ_discrete (n / 8) (task_code task)) (λ is. open_it (λ s. elim s.1 [ inl low ↦ omega (arith, low, high) | inr other ↦ other is ])) (λ other. shut (big, inr other))
+  ]
+  | no free ↦ open_it (λ s. let b = s.0 in omega (arith, b, free))
+]
+
 module _ {E Call : Type 0} (o : Obj Call) (unavailable : Unavailable) (size : ℕ) (k : Plan)
     (holds : List ℕ → List (View E) → Type 0) (moves : ℕ → List ℕ → List (View E) → List ℕ → List (View E) → Type 0)
-    (place : ℕ) (may_be : ℕ → Type 0) (may_own : View E → ℕ → ℕ → Type 0)
+    (place : ℕ) (may_be : ℕ → Type 0) (may_own : Turn → View E → ℕ → ℕ → Type 0) (turned : Turn → View E → E)
     (kept : (ws : List ℕ) (vs : List (View E)) → holds ws vs → SiteKept o unavailable size k (site k ws) (map hand_of vs))
     (own_kept : (ws : List ℕ) (vs : List (View E)) → holds ws vs → OwnKept (get_or ws place 0) (map hand_of vs) × may_be (get_or ws place 0))
-    (owns : (ws : List ℕ) (vs : List (View E)) (id n : ℕ) (v : View E) (h : Hand) → holds ws vs → get_elem? vs id ≡ some v → h.task ≡ v.hand.task → (get_or ws place 0 ≢ n → may_own v (get_or ws place 0) n)
-    → OwnKept n (set (map hand_of vs) id h) → SiteKept o unavailable size k (site k ws) (set (map hand_of vs) id h) → Goes holds moves id ws vs (set ws place n) (set vs id (handed v h))) where
+    (owns : (ws : List ℕ) (vs : List (View E)) (id n : ℕ) (v : View E) (h : Hand) (t : Turn) → holds ws vs → get_elem? vs id ≡ some v → h.task ≡ v.hand.task → v.hand.misses ≤ h.misses → may_own t v (get_or ws place 0) n
+    → OwnKept n (set (map hand_of vs) id h) → SiteKept o unavailable size k (site k ws) (set (map hand_of vs) id h) → Goes holds moves id ws vs (set ws place n) (set vs id (turns turned t v h)))
+    (own_may : (ws : List ℕ) (vs : List (View E)) (id n : ℕ) (v : View E) (t : Turn) → holds ws vs → get_elem? vs id ≡ some v → may_own t v (get_or ws place 0) n → IsTurn t (get_or ws place 0) n)
+    (own_looks : (ws : List ℕ) (vs : List (View E)) (id : ℕ) (v : View E) (h : Hand) → holds ws vs → get_elem? vs id ≡ some v → h.task ≡ v.hand.task → h.held ≡ v.hand.held → v.hand.misses ≤ h.misses → SiteKept o unavailable size k (site k ws) (set (map hand_of vs) id h) → Goes holds moves id ws vs ws (set vs id (handed v h))) where
   abbrev M : Type 0
   M = Me (Unit {0}) (View E)
 
@@ -43,47 +62,94 @@ module _ {E Call : Type 0} (o : Obj Call) (unavailable : Unavailable) (size : �
   named ws vs h j g at out = (((kept ws vs h).each j g at).nameless out).0
 
   -- a step that leaves the word, and how the pass holds
-  stays : (ws : List ℕ) (vs : List (View E)) (id : ℕ) (v : View E) (g : Hand) → holds ws vs → get_elem? vs id ≡ some v → g.held ≡ v.hand.held → g.task ≡ v.hand.task → SiteKept o unavailable size k (site k ws) (set (map hand_of vs) id g)
+  stays : (ws : List ℕ) (vs : List (View E)) (id : ℕ) (v : View E) (g : Hand) → holds ws vs → get_elem? vs id ≡ some v → g.held ≡ v.hand.held → g.task ≡ v.hand.task → v.hand.misses ≤ g.misses → SiteKept o unavailable size k (site k ws) (set (map hand_of vs) id g)
       → Goes holds moves id ws vs ws (set vs id (handed v g))
-  stays ws vs id v g h at held task there = subst (λ (z : List ℕ). Goes holds moves id ws vs z (set vs id (handed v g))) (set-get_or ws place 0)
-      (owns ws vs id (get_or ws place 0) v g h at task (λ not. absurd (not refl)) (own-stays (map hand_of vs) id (get_or ws place 0) v.hand g (own_kept ws vs h).0 (at_map hand_of vs id v at) held (inl task)) there)
+  stays ws vs id v g h at held task misses there = own_looks ws vs id v g h at task held misses there
 
-  takes-there : (slots id t : ℕ) (me : M) → me.0.hand.task ≡ Some t → me.0.hand.held ≡ No → may_own me.0 0 (own_word (Some t)) → Lets holds moves slots id me place (Exchange 0 (own_word (Some t))) (Tried o (step slots place 0 (own_word (Some t)) none) me)
-  takes-there slots id t me has out may = let v = me.0 in let new : ℕ = own_word (Some t) in exchanges holds moves slots id place 0 new me (λ n. handed v (missed v.hand n (v.steps + 1))) (Tried o (step slots place 0 new none) me)
+  takes-there : (slots id t : ℕ) (me : M) → me.0.hand.task ≡ Some t → me.0.hand.held ≡ No → may_own Take me.0 0 (own_word (Some t)) → Lets holds moves slots id me place (Exchange 0 (own_word (Some t))) (Tried turned may_be o (step slots place 0 (own_word (Some t)) none) me)
+  takes-there slots id t me has out may = let v = me.0 in let new : ℕ = own_word (Some t) in exchanges holds moves slots id place 0 new me (λ n. handed v (missed v.hand n (v.steps + 1))) (Tried turned may_be o (step slots place 0 new none) me) (λ _. refl)
       (λ ws vs h at is. let hs : List Hand = map hand_of vs in let mine = at_map hand_of vs id v at in let r = kept ws vs h in let ok = r.each id v.hand mine in let own = (own_kept ws vs h).0 in let few = r.laid.small.tasks in
       let free = none-holds hs (get_or ws place 0) own (named ws vs h) is in let none = none-alone hs free in
       let there = (ok.mine t has).0 in let known : List ℕ = take size (site k ws).guarded in let g : Hand = took v.hand Alone known r.log in (
-        handed v g,
-        owns ws vs id new v g h at refl (λ _. subst (λ (z : ℕ). may_own v z new) (sym is) may) (own-takes hs id t (get_or ws place 0) v.hand g own (named ws vs h) mine is (omega arith) refl has) (site-takes o unavailable size k (site k ws) hs id t v.hand Alone r mine out has (alone-is-held Alone refl) (λ _. free) none),
+        turns turned Take v g,
+        refl,
+        owns ws vs id new v g Take h at refl (omega arith) (subst (λ (z : ℕ). may_own Take v z new) (sym is) may) (own-takes hs id t (get_or ws place 0) v.hand g own (named ws vs h) mine is (omega arith) refl has) (site-takes o unavailable size k (site k ws) hs id t v.hand Alone r mine out has (alone-is-held Alone refl) (λ _. free) none),
         (
           (λ _. (known, r.log, (λ p plan. subst (λ (z : Plan). Learns o z v.hand known r.log) (its-plan k p v.hand.plan ok.plan plan) record { stored = quiet-state o unavailable size k (site k ws) hs r none; within = r.tells.within; begins = ok.seen }), (refl, refl))),
           λ not. absurd (not refl),
         ),
       ))
       (λ ws vs h at not _. let r = kept ws vs h in let own = (own_kept ws vs h).0 in let n : ℕ = get_or ws place 0 in let mine = at_map hand_of vs id v at in (
-        stays ws vs id v (missed v.hand n (v.steps + 1)) h at refl refl (site-misses o unavailable size k (site k ws) (map hand_of vs) id n (v.steps + 1) v.hand r mine (let small = own.small in omega (arith, small))),
-        ((λ is. absurd (not is)), λ _. (own.small, (refl, refl))),
+        stays ws vs id v (missed v.hand n (v.steps + 1)) h at refl refl (omega arith) (site-misses o unavailable size k (site k ws) (map hand_of vs) id n (v.steps + 1) v.hand r mine (let small = own.small in omega (arith, small))),
+        ((λ is. absurd (not is)), λ _. (own.small, (own_kept ws vs h).1, (refl, refl))),
       ))
 
-  frees-there : (slots id t : ℕ) (me : M) → me.0.hand.task ≡ Some t → me.0.hand.held ≡ Alone → me.0.hand.writes ≡ false → me.0.hand.stage ≡ Rest → may_own me.0 (own_word (Some t)) 0
-      → Lets holds moves slots id me place (Exchange (own_word (Some t)) 0) (Freed may_be (step slots place (own_word (Some t)) 0 none) me)
-  frees-there slots id t me has alone quiet rests may = let v = me.0 in let old : ℕ = own_word (Some t) in let g : Hand = released v.hand 0 in exchanges holds moves slots id place old 0 me (λ _. ticked v) (Freed may_be (step slots place old 0 none) me)
+  frees-there : (slots id t : ℕ) (me : M) → me.0.hand.task ≡ Some t → me.0.hand.held ≡ Alone → me.0.hand.writes ≡ false → me.0.hand.stage ≡ Rest → may_own Free me.0 (own_word (Some t)) 0
+      → Lets holds moves slots id me place (Exchange (own_word (Some t)) 0) (Freed turned may_be (step slots place (own_word (Some t)) 0 none) me)
+  frees-there slots id t me has alone quiet rests may = let v = me.0 in let old : ℕ = own_word (Some t) in let g : Hand = released v.hand 0 in exchanges holds moves slots id place old 0 me (λ _. ticked v) (Freed turned may_be (step slots place old 0 none) me) (λ _. refl)
       (λ ws vs h at is. let hs : List Hand = map hand_of vs in let mine = at_map hand_of vs id v at in (
-        handed v g,
-        owns ws vs id 0 v g h at refl (λ _. subst (λ (z : ℕ). may_own v z 0) (sym is) may) (own-frees hs id (get_or ws place 0) v.hand g (own_kept ws vs h).0 mine alone refl) (site-frees o unavailable size k (site k ws) hs id 0 v.hand (kept ws vs h) mine quiet rests),
+        turns turned Free v g,
+        refl,
+        owns ws vs id 0 v g Free h at refl (omega arith) (subst (λ (z : ℕ). may_own Free v z 0) (sym is) may) (own-frees hs id (get_or ws place 0) v.hand g (own_kept ws vs h).0 mine alone refl) (site-frees o unavailable size k (site k ws) hs id 0 v.hand (kept ws vs h) mine quiet rests),
         ((λ _. (refl, refl)), λ not. absurd (not refl)),
       ))
       (λ ws vs h at not _. let hs : List Hand = map hand_of vs in let mine = at_map hand_of vs id v at in let own = own_kept ws vs h in let w = held-word hs id t (get_or ws place 0) v.hand own.0 mine alone has in let low = w.0 in let is = w.1 in (
-        stays ws vs id v v.hand h at refl refl (subst (SiteKept o unavailable size k (site k ws)) (sym (set_again hs id v.hand mine)) (kept ws vs h)),
+        stays ws vs id v v.hand h at refl refl (omega arith) (subst (SiteKept o unavailable size k (site k ws)) (sym (set_again hs id v.hand mine)) (kept ws vs h)),
         ((λ is. absurd (not is)), λ _. (own.1, omega arith, (refl, refl))),
       ))
 
   -- the task's own code, whichever way it is written
-  pub takes : (slots id at code : ℕ) (task : Option ℕ) (me : M) → at ≡ place → code ≡ own_word task → task ≡ me.0.hand.task → task ≢ None → me.0.hand.held ≡ No → may_own me.0 0 (own_word task) → Lets holds moves slots id me at (Exchange 0 code) (Tried o (step slots at 0 code none) me)
+  pub takes : (slots id at code : ℕ) (task : Option ℕ) (me : M) → at ≡ place → code ≡ own_word task → task ≡ me.0.hand.task → task ≢ None → me.0.hand.held ≡ No → may_own Take me.0 0 (own_word task) → Lets holds moves slots id me at (Exchange 0 code) (Tried turned may_be o (step slots at 0 code none) me)
   takes slots id at code None me is same has numbered out may = absurd (numbered refl)
-  takes slots id at code (Some t) me is same has numbered out may = subst (λ (z : ℕ × ℕ). Lets holds moves slots id me z.0 (Exchange 0 z.1) (Tried o (step slots z.0 0 z.1 none) me)) (λ i. (sym is i, sym same i)) (takes-there slots id t me (sym has) out may)
+  takes slots id at code (Some t) me is same has numbered out may = subst (λ (z : ℕ × ℕ). Lets holds moves slots id me z.0 (Exchange 0 z.1) (Tried turned may_be o (step slots z.0 0 z.1 none) me)) (λ i. (sym is i, sym same i)) (takes-there slots id t me (sym has) out may)
 
-  pub frees : (slots id at code : ℕ) (task : Option ℕ) (me : M) → at ≡ place → code ≡ own_word task → task ≡ me.0.hand.task → me.0.hand.held ≡ Alone → me.0.hand.writes ≡ false → me.0.hand.stage ≡ Rest → may_own me.0 (own_word task) 0
-      → Lets holds moves slots id me at (Exchange code 0) (Freed may_be (step slots at code 0 none) me)
+  pub frees : (slots id at code : ℕ) (task : Option ℕ) (me : M) → at ≡ place → code ≡ own_word task → task ≡ me.0.hand.task → me.0.hand.held ≡ Alone → me.0.hand.writes ≡ false → me.0.hand.stage ≡ Rest → may_own Free me.0 (own_word task) 0
+      → Lets holds moves slots id me at (Exchange code 0) (Freed turned may_be (step slots at code 0 none) me)
   frees slots id at code None me is same has alone quiet rests may = λ s h _ there _. no-alone (sym (named s.words s.views h id me.0.hand (at_map hand_of s.views id me.0 there) (sym has)) ∙ alone)
-  frees slots id at code (Some t) me is same has alone quiet rests may = subst (λ (z : ℕ × ℕ). Lets holds moves slots id me z.0 (Exchange z.1 0) (Freed may_be (step slots z.0 z.1 0 none) me)) (λ i. (sym is i, sym same i)) (frees-there slots id t me (sym has) alone quiet rests may)
+  frees slots id at code (Some t) me is same has alone quiet rests may = subst (λ (z : ℕ × ℕ). Lets holds moves slots id me z.0 (Exchange z.1 0) (Freed turned may_be (step slots z.0 z.1 0 none) me)) (λ i. (sym is i, sym same i)) (frees-there slots id t me (sym has) alone quiet rests may)
+
+  -- the hand stays
+  same-hand : (ws : List ℕ) (vs : List (View E)) (id : ℕ) (v : View E) → holds ws vs → get_elem? vs id ≡ some v → SiteKept o unavailable size k (site k ws) (set (map hand_of vs) id v.hand)
+  same-hand ws vs id v h at = subst (SiteKept o unavailable size k (site k ws)) (sym (set_again (map hand_of vs) id v.hand (at_map hand_of vs id v at))) (kept ws vs h)
+
+  marks-there : (slots id : ℕ) (me : M) → ((n : ℕ) → may_own Flag me.0 n (bit_or n 1)) → Lets holds moves slots id me place (Or 1) (Flagged turned Flag (step slots place 1 0 none) me)
+  marks-there slots id me may = let v = me.0 in modifies holds moves slots id place me (Or 1) (turns turned Flag v v.hand) (Flagged turned Flag (step slots place 1 0 none) me) refl
+      (λ ws vs h at small. let n : ℕ = get_or ws place 0 in let hs : List Hand = map hand_of vs in let mine = at_map hand_of vs id v at in let own = (own_kept ws vs h).0 in (
+        owns ws vs id (bit_or n 1) v v.hand Flag h at refl (omega arith) (may n) (dite (ℕ_discrete (n % 2) 0)
+            (λ even. subst (λ (z : ℕ). OwnKept z (set hs id v.hand)) (sym (or-one n even)) (own-flags hs id n v.hand v.hand own mine refl refl even))
+            (λ not. subst (λ (z : ℕ). OwnKept z (set hs id v.hand)) (sym (or-odd n (omega (arith, not)))) (own-stays hs id n v.hand v.hand own mine refl (inl refl)))) (same-hand ws vs id v h at),
+        (refl, refl),
+      ))
+
+  wipes-there : (slots id : ℕ) (me : M) → ((n m : ℕ) → m + n % 8 ≡ n → may_own Clear me.0 n m) → Lets holds moves slots id me place (And 18446744073709551608) (Flagged turned Clear (step slots place 18446744073709551608 0 none) me)
+  wipes-there slots id me may = let v = me.0 in modifies holds moves slots id place me (And 18446744073709551608) (turns turned Clear v v.hand) (Flagged turned Clear (step slots place 18446744073709551608 0 none) me) refl
+      (λ ws vs h at small. let n : ℕ = get_or ws place 0 in let m : ℕ = bit_and n 18446744073709551608 in let hs : List Hand = map hand_of vs in let mine = at_map hand_of vs id v at in let own = (own_kept ws vs h).0 in let is = and-clears n small in let yes_may = may n m is in
+      (owns ws vs id m v v.hand Clear h at refl (omega arith) yes_may (own-clears hs id n v.hand v.hand own mine m refl refl (own_may ws vs id m v Clear h at yes_may) is) (same-hand ws vs id v h at), (refl, refl)))
+
+  sees-there : (slots id : ℕ) (me : M) → ((n : ℕ) → IsShut me.0.hand.task n → may_own Fail me.0 n n) → Lets holds moves slots id me place Load (Looked turned (step slots place 0 0 none) me)
+  sees-there slots id me may s h l at small = let ws = s.words in let vs = s.views in let v = me.0 in let n : ℕ = get_or ws place 0 in let own = (own_kept ws vs h).0 in let mine = at_map hand_of vs id v at in shut-or-open v.hand.task n
+      (λ shut. (
+        turns turned Fail v v.hand,
+        keeps,
+        tt,
+        owns ws vs id n v v.hand Fail h at refl (omega arith) (may n shut) (own-stays (map hand_of vs) id n v.hand v.hand own mine refl (inl refl)) (same-hand ws vs id v h at),
+        refl,
+        (own.small, (λ _. (refl, refl)), λ open_it. absurd (open_it shut)),
+      ))
+      (λ open_it. (
+        ticked v,
+        keeps,
+        tt,
+        subst (λ (z : List ℕ). Goes holds moves id ws vs z (set vs id (ticked v))) (sym (set-get_or ws place 0)) (stays ws vs id v v.hand h at refl refl (omega arith) (same-hand ws vs id v h at)),
+        refl,
+        (own.small, (λ shut. absurd (open_it shut)), λ _. (refl, refl)),
+      ))
+
+  pub marks : (slots id at : ℕ) (me : M) → at ≡ place → ((n : ℕ) → may_own Flag me.0 n (bit_or n 1)) → Lets holds moves slots id me at (Or 1) (Flagged turned Flag (step slots at 1 0 none) me)
+  marks slots id at me is may = subst (λ (z : ℕ). Lets holds moves slots id me z (Or 1) (Flagged turned Flag (step slots z 1 0 none) me)) (sym is) (marks-there slots id me may)
+
+  pub wipes : (slots id at mask : ℕ) (me : M) → at ≡ place → mask ≡ 18446744073709551608 → ((n m : ℕ) → m + n % 8 ≡ n → may_own Clear me.0 n m) → Lets holds moves slots id me at (And mask) (Flagged turned Clear (step slots at mask 0 none) me)
+  wipes slots id at mask me is same may = subst (λ (z : ℕ × ℕ). Lets holds moves slots id me z.0 (And z.1) (Flagged turned Clear (step slots z.0 z.1 0 none) me)) (λ i. (sym is i, sym same i)) (wipes-there slots id me may)
+
+  pub sees : (slots id at : ℕ) (me : M) → at ≡ place → ((n : ℕ) → IsShut me.0.hand.task n → may_own Fail me.0 n n) → Lets holds moves slots id me at Load (Looked turned (step slots at 0 0 none) me)
+  sees slots id at me is may = subst (λ (z : ℕ). Lets holds moves slots id me z Load (Looked turned (step slots z 0 0 none) me)) (sym is) (sees-there slots id me may)

@@ -1,5 +1,5 @@
 -- A pass goes on with its seat where a step changed how it holds.
-use Rattle.std.proofs.Common.{List, ◌≡◌, ℕ, ◌+◌, ◌<◌, ◌≤◌, length, Option, Some, None, IfSome, refl, sym, ap, ◌∙◌, subst, arith}
+use Rattle.std.proofs.Common.{List, ◌≡◌, ◌≢◌, true, false, ℕ, ◌+◌, ◌*◌, ◌<◌, ◌≤◌, length, Option, Some, None, IfSome, refl, sym, ap, ◌∙◌, subst, arith}
 use Rattle.atomic_table.specs.Table.{Me}
 use Rattle.atomic_table.specs.Seated.{TableId}
 use Rattle.word_bits.specs.declared.entry.Entry.{Entry}
@@ -15,7 +15,9 @@ use Rattle.lock_core.specs.Records.{row}
 use Rattle.lock_core.specs.Views.{handed, took}
 use Rattle.lock_core.specs.Passes.{Sits}
 use Rattle.lock_core.proofs.RowLaws.{same-some}
-use Rattle.mutex_word.specs.Holders.{missed, released}
+use Rattle.lock_core.proofs.HandLaws.{not-both}
+use Rattle.lock_core.specs.Holding.{missed, released}
+use Rattle.word_bits.specs.declared.TheConstants.{MAX_TASKS}
 
 -- a hand that says the same of the pass but for how it holds, what it knows meanwhile and what it saw
 pub record SameButHold (h g : Hand) : Type 0 where
@@ -25,6 +27,8 @@ pub record SameButHold (h g : Hand) : Type 0 where
   pub seen : g.seen ≡ h.seen
   pub stage : g.stage ≡ h.stage
   pub last : g.last ≡ h.last
+  pub writer : g.writes ≡ true → g.held ≡ Alone
+  pub nameless : g.task ≡ None → (g.held ≡ No) × (g.sent ≡ None) × (g.consumed ≡ 0)
 
 pub sits-held : {E : Type 0} (k : Plan) (table seat seat' : TableId) (me me' : Me (Unit {0}) (Seen E)) (face face' : Face) (held : Held)
     → seat' ≡ seat → me'.1 ≡ me.1 → SameButHold me.0.view.hand me'.0.view.hand → me'.0.view.hand.held ≡ held → face' ≡ record face { held = held } → me.0.view.steps ≤ me'.0.view.steps
@@ -43,28 +47,30 @@ sits-held k table seat seat' me me' face face' held same slots hand holds says l
   shorter = subst (λ (n : ℕ). n ≤ calls_in k) (sym (ap length hand.seen)) r.shorter;
   planned = subst (λ (f : Face). (t : ℕ) → f.task ≡ Some t → (t < length k) × (f.done ≤ length (row k t))) (sym says) r.planned;
   saw = saw;
+  writer = hand.writer;
+  nameless = hand.nameless;
 }
 
 module _ {E : Type 0} (k : Plan) (table seat seat' : TableId) (me me' : Me (Unit {0}) (Seen E)) (face face' : Face) where
-  pub sits-took : (known : List ℕ) (log : List Entry) → seat' ≡ seat → me'.1 ≡ me.1 → me'.0.view ≡ handed me.0.view (took me.0.view.hand Alone known log) → length log ≤ calls_in k → face' ≡ record face { held = Alone } → Sits k table seat me face → Sits k table seat' me' face'
-  sits-took known log same slots view short says r = subst (λ (m : Me (Unit {0}) (Seen E)). Sits k table seat' m face') (λ i. (record me'.0 { view = sym view i }, me'.1))
-      (sits-held k table seat seat' me (record me'.0 { view = handed me.0.view (took me.0.view.hand Alone known log) }, me'.1) face face' Alone same slots
-      record { plan = refl; task = refl; done = refl; seen = refl; stage = refl; last = refl } refl says (omega arith) short r.saw r)
+  pub sits-took : (known : List ℕ) (log : List Entry) → seat' ≡ seat → me'.1 ≡ me.1 → (ext : E) → me'.0.view ≡ record (handed me.0.view (took me.0.view.hand Alone known log)) { ext = ext } → length log ≤ calls_in k → me.0.view.hand.task ≢ None → face' ≡ record face { held = Alone } → Sits k table seat me face → Sits k table seat' me' face'
+  sits-took known log same slots ext view short numbered says r = subst (λ (m : Me (Unit {0}) (Seen E)). Sits k table seat' m face') (λ i. (record me'.0 { view = sym view i }, me'.1))
+      (sits-held k table seat seat' me (record me'.0 { view = record (handed me.0.view (took me.0.view.hand Alone known log)) { ext = ext } }, me'.1) face face' Alone same slots
+      record { plan = refl; task = refl; done = refl; seen = refl; stage = refl; last = refl; writer = λ _. refl; nameless = λ none. absurd (numbered none) } refl says (omega arith) short r.saw r)
 
-  pub sits-missed : (word : ℕ) → seat' ≡ seat → me'.1 ≡ me.1 → me'.0.view ≡ handed me.0.view (missed me.0.view.hand word (me.0.view.steps + 1)) → word < 520 → face' ≡ face → Sits k table seat me face → Sits k table seat' me' face'
+  pub sits-missed : (word : ℕ) → seat' ≡ seat → me'.1 ≡ me.1 → me'.0.view ≡ handed me.0.view (missed me.0.view.hand word (me.0.view.steps + 1)) → word < 8 * MAX_TASKS + 8 → face' ≡ face → Sits k table seat me face → Sits k table seat' me' face'
   sits-missed word same slots view small says r = subst (λ (m : Me (Unit {0}) (Seen E)). Sits k table seat' m face') (λ i. (record me'.0 { view = sym view i }, me'.1))
       (sits-held k table seat seat' me (record me'.0 { view = handed me.0.view (missed me.0.view.hand word (me.0.view.steps + 1)) }, me'.1) face face' face.held same slots
-      record { plan = refl; task = refl; done = refl; seen = refl; stage = refl; last = refl } (sym r.held) says (omega arith) r.short (λ x is. let e : word ≡ x.word = ap (λ (y : Saw). y.word) (same-some (record { word = word; step = me.0.view.steps + 1 }) x is) in omega arith) r)
+      record { plan = refl; task = refl; done = refl; seen = refl; stage = refl; last = refl; writer = r.writer; nameless = r.nameless } (sym r.held) says (omega arith) r.short (λ x is. let e : word ≡ x.word = ap (λ (y : Saw). y.word) (same-some (record { word = word; step = me.0.view.steps + 1 }) x is) in omega arith) r)
 
-  pub sits-released : (word : ℕ) → seat' ≡ seat → me'.1 ≡ me.1 → me'.0.view ≡ handed me.0.view (released me.0.view.hand word) → face' ≡ record face { held = No } → Sits k table seat me face → Sits k table seat' me' face'
-  sits-released word same slots view says r = subst (λ (m : Me (Unit {0}) (Seen E)). Sits k table seat' m face') (λ i. (record me'.0 { view = sym view i }, me'.1))
-      (sits-held k table seat seat' me (record me'.0 { view = handed me.0.view (released me.0.view.hand word) }, me'.1) face face' No same slots
-      record { plan = refl; task = refl; done = refl; seen = refl; stage = refl; last = refl } refl says (omega arith) (omega arith) r.saw r)
+  pub sits-released : (word : ℕ) → seat' ≡ seat → me'.1 ≡ me.1 → (ext : E) → me'.0.view ≡ record (handed me.0.view (released me.0.view.hand word)) { ext = ext } → me.0.view.hand.writes ≡ false → face' ≡ record face { held = No } → Sits k table seat me face → Sits k table seat' me' face'
+  sits-released word same slots ext view quiet says r = subst (λ (m : Me (Unit {0}) (Seen E)). Sits k table seat' m face') (λ i. (record me'.0 { view = sym view i }, me'.1))
+      (sits-held k table seat seat' me (record me'.0 { view = record (handed me.0.view (released me.0.view.hand word)) { ext = ext } }, me'.1) face face' No same slots
+      record { plan = refl; task = refl; done = refl; seen = refl; stage = refl; last = refl; writer = λ e. not-both me.0.view.hand.writes quiet e; nameless = λ none. let n = r.nameless none in (refl, n.1, n.2) } refl says (omega arith) (omega arith) r.saw r)
 
 -- a pass's number is that of a task
-pub its-number : {E : Type 0} (k : Plan) (table seat : TableId) (me : Me (Unit {0}) (Seen E)) (face : Face) → IsSmall k → Sits k table seat me face → IfSome face.task (λ task. task < 64)
+pub its-number : {E : Type 0} (k : Plan) (table seat : TableId) (me : Me (Unit {0}) (Seen E)) (face : Face) → IsSmall k → Sits k table seat me face → IfSome face.task (λ task. task < MAX_TASKS)
 its-number k table seat me face small r = go face.task (λ t is. let l = (r.planned t is).0 in let few = small.tasks in omega arith)
   where
-    go : (task : Option ℕ) → ((t : ℕ) → task ≡ Some t → t < 64) → IfSome task (λ task. task < 64)
+    go : (task : Option ℕ) → ((t : ℕ) → task ≡ Some t → t < MAX_TASKS) → IfSome task (λ task. task < MAX_TASKS)
     go None each = tt
     go (Some t) each = each t refl

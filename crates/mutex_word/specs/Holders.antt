@@ -1,23 +1,30 @@
 -- The owner word and the passes of a table: who holds, as the word states it.
-use Rattle.std.specs.Prelude.{◌≡◌, ◌≢◌, ℕ, ◌+◌, ◌*◌, ◌%◌, ◌<◌, ◌≤◌, false, List, length, take, Option, Some, None}
+use Rattle.std.specs.Prelude.{◌/◌, ◌⊎◌, ◌≡◌, ◌≢◌, ℕ, ◌+◌, ◌*◌, ◌%◌, ◌<◌, ◌≤◌, false, List, Option, Some, None}
+use Rattle.word_bits.specs.declared.TheConstants.{MAX_TASKS}
 use mathlib.Core.Option.{some}
 use lib.ListN.{get_elem?}
 use Rattle.word_bits.specs.declared.entry.Entry.{Entry}
 use Rattle.word_bits.specs.OwnerWord.{task_code, owner_word}
 use Rattle.word_bits.specs.Objects.{Obj}
-use Rattle.word_bits.specs.Histories.{Plan, state_after}
+use Rattle.word_bits.specs.Histories.{Plan}
+use Rattle.mutex_word.specs.declared.host.Turn.{Turn}
+use Rattle.mutex_word.specs.declared.host.Turn.TheVariants.{Fail, Take, Ask, Free, Hand as HandOn, Flag, Clear}
 use Rattle.lock_core.specs.declared.view.View.{View}
 use Rattle.lock_core.specs.declared.view.Hand.{Hand}
 use Rattle.lock_core.specs.declared.view.Held.{Held}
 use Rattle.lock_core.specs.declared.view.Held.TheVariants.{No, Shared, Alone}
-use Rattle.lock_core.specs.Plans.{calls_in}
 use Rattle.lock_core.specs.Totals.{total}
 use Rattle.lock_core.specs.Parts.{Each}
-use Rattle.lock_core.specs.Views.{held_of, handed, took, let_go}
+use Rattle.lock_core.specs.Views.{held_of, handed, took}
+use Rattle.lock_core.specs.Holding.{Learns, missed, released}
 
 -- a task's own code: its word without flags
 abbrev pub own_word : Option ℕ → ℕ
 own_word task = owner_word (record { task = task; waiters = false; handoff = false; pickup = false })
+
+-- its own code with some flag
+abbrev pub HasFlags : Option ℕ → ℕ → Type 0
+HasFlags task word = (word ≢ own_word task) × (word / 8 ≡ own_word task / 8)
 
 -- who holds: nobody, or the one pass that has the task's number
 abbrev pub IsHolder : List Hand → Option ℕ → Type 0
@@ -41,7 +48,7 @@ code_of h = held_code h.held h.task
 
 -- The owner word's own facts: three flags below a task's code, which is that of the pass that holds unless the word picks the task.
 pub record OwnKept (word : ℕ) (hs : List Hand) : Type 0 where
-  pub small : word < 520
+  pub small : word < 8 * MAX_TASKS + 8
   pub nobody : word < 8 → word < 2
   pub flags : word % 8 < 6
   pub one : total held_of hs ≤ 1
@@ -49,29 +56,35 @@ pub record OwnKept (word : ℕ) (hs : List Hand) : Type 0 where
   pub held : word % 8 < 4 → word ≡ total code_of hs + word % 8
   pub picked : 4 ≤ word % 8 → total held_of hs ≡ 0
 
--- what a pass learns that takes the lock: the guarded words, which store the state after the log, and the log, which begins with what it had seen
-pub record Learns {Call : Type 0} (o : Obj Call) (k : Plan) (h : Hand) (known : List ℕ) (log : List Entry) : Type 0 where
-  pub stored : known ≡ o.stores (state_after o k log)
-  pub within : length log ≤ calls_in k
-  pub begins : (length h.seen ≤ length log) × (take (length h.seen) log ≡ h.seen)
+-- a try without asking fails at the word: it names another task, or names this one as its holder
+abbrev pub IsShut : Option ℕ → ℕ → Type 0
+IsShut task n = (8 ≤ n) × ((n % 8 < 4) ⊎ (n / 8 ≢ task_code task))
 
--- a failed try saw the word at the step of this number
-abbrev pub missed : Hand → ℕ → ℕ → Hand
-missed h word step = record h { saw = Some (record { word = word; step = step }); misses = h.misses + 1 }
+-- what a change must be for the word's own facts
+abbrev pub IsTurn : Turn → ℕ → ℕ → Type 0
+IsTurn Fail n m = m ≡ n
+IsTurn Take n m = Unit {0}
+IsTurn Ask n m = (n % 8 < 2) × (8 ≤ n) × (m ≡ n + 2)
+IsTurn Free n m = Unit {0}
+IsTurn HandOn n m = Unit {0}
+IsTurn Flag n m = Unit {0}
+IsTurn Clear n m = n % 8 < 4
 
--- the pass ends its hold, and leaves this word
-abbrev pub released : Hand → ℕ → Hand
-released h word = record (let_go h) { freed = word }
+module _ {E : Type 0} (turned : Turn → View E → E) where
+  -- a step on the owner word
+  abbrev pub turns : Turn → View E → Hand → View E
+  turns t v h = record v { hand = h; steps = v.steps + 1; ext = turned t v }
 
-module _ {E : Type 0} where
+module _ {E : Type 0} (turned : Turn → View E → E) where
   -- it holds alone, and has learnt what the lock guards
-  abbrev pub Takes : {Call : Type 0} → Obj Call → Plan → View E → View E → Type 0
-  Takes o k v u = (known : List ℕ) × (log : List Entry) × Learns o k v.hand known log × (u ≡ handed v (took v.hand Alone known log))
-
-  -- it saw this word, which isn't 0
-  abbrev pub Misses : View E → ℕ → View E → Type 0
-  Misses v word u = (word ≢ 0) × (u ≡ handed v (missed v.hand word (v.steps + 1)))
+  abbrev pub TakesOwner : {Call : Type 0} → Obj Call → Plan → View E → View E → Type 0
+  TakesOwner o k v u = (known : List ℕ) × (log : List Entry) × Learns o k v.hand known log × (u ≡ turns turned Take v (took v.hand Alone known log))
 
   -- it holds nothing, and has left this word
-  abbrev pub Releases : View E → ℕ → View E → Type 0
-  Releases v word u = u ≡ handed v (released v.hand word)
+  abbrev pub ReleasesOwner : View E → ℕ → View E → Type 0
+  ReleasesOwner v word u = u ≡ turns turned Free v (released v.hand word)
+
+module _ {E : Type 0} where
+  -- it saw this word, which isn't 0
+  abbrev pub MissesOwner : View E → ℕ → View E → Type 0
+  MissesOwner v word u = (word ≢ 0) × (u ≡ handed v (missed v.hand word (v.steps + 1)))

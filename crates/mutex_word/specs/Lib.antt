@@ -1,7 +1,9 @@
 pub mod Owners
-pub mod Steps
+pub mod WordSteps
 pub mod Holders
 pub mod Plays
 pub mod OwnLaws
+pub mod OwnKinds
 pub mod Ruled
 pub mod RuledLaws
+pub mod Handles

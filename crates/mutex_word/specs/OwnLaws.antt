@@ -13,12 +13,13 @@ use Rattle.lock_core.specs.Parts.{Each, each-set, each-snoc}
 use Rattle.lock_core.proofs.HandLaws.{held-none, number-or-not}
 use Rattle.lock_core.proofs.WordSteps.{some-of}
 use Rattle.mutex_word.specs.Holders.{own_word, held_code, code_of, OwnKept, StatesHolder}
+use Rattle.word_bits.specs.declared.TheConstants.{MAX_TASKS}
 
 -- a pass without a number holds nothing
 abbrev pub Named : List Hand → Type 0
 Named = Each (λ h. h.task ≡ None → h.held ≡ No)
 
-free-code : (x : Held) (task : Option ℕ) → x ≡ No → held_code x task ≡ 0
+pub free-code : (x : Held) (task : Option ℕ) → x ≡ No → held_code x task ≡ 0
 free-code x task free = ap (λ (z : Held). held_code z task) free
 
 held-code : (x : Held) (task : Option ℕ) → (task ≡ None → x ≡ No) → held_weight x ≤ held_code x task
@@ -32,7 +33,7 @@ held-codes : (hs : List Hand) → Named hs → total held_of hs ≤ total code_o
 held-codes [] named = omega arith
 held-codes (h ∷ hs) named = let a : held_of h ≤ code_of h = held-code h.held h.task (named zero h refl) in let b = held-codes hs (λ j g at. named (suc j) g at) in omega arith
 
-no-codes : (hs : List Hand) → total held_of hs ≤ 0 → total code_of hs ≡ 0
+pub no-codes : (hs : List Hand) → total held_of hs ≤ 0 → total code_of hs ≡ 0
 no-codes [] l = refl
 no-codes (h ∷ hs) l = let a : code_of h ≡ 0 = free-code h.held h.task (held-none h.held (omega arith)) in let b = no-codes hs (omega arith) in omega arith
 
@@ -47,6 +48,10 @@ only-code (x ∷ xs) (suc id) h at alone one = let e : held_of h ≡ 1 = ap held
 pub none-holds : (hs : List Hand) (word : ℕ) → OwnKept word hs → Named hs → word ≡ 0 → total held_of hs ≡ 0
 none-holds hs word r named is = let a = held-codes hs named in let b = r.held (omega arith) in omega arith
 
+-- a word without a task
+pub no-holders : (hs : List Hand) (word : ℕ) → OwnKept word hs → Named hs → word < 8 → total held_of hs ≡ 0
+no-holders hs word r named free = let a = held-codes hs named in let two = r.nobody free in let b = r.held (omega (arith, two)) in omega (arith, a, b, two)
+
 pub alone-code : (h : Hand) (t : ℕ) → h.held ≡ Alone → h.task ≡ Some t → code_of h ≡ (t + 1) * 8
 alone-code h t alone has = λ i. held_code (alone i) (has i)
 
@@ -57,7 +62,7 @@ held-word hs id t word h r at alone has = let a : held_of h ≡ 1 = ap held_weig
     let c = r.held low in let d = only-code hs id h at alone r.one in let e = alone-code h t alone has in (low, omega arith)
 
 -- a free word becomes the code of a pass that takes
-pub own-takes : (hs : List Hand) (id t word : ℕ) (h g : Hand) → OwnKept word hs → Named hs → get_elem? hs id ≡ some h → word ≡ 0 → t < 64 → g.held ≡ Alone → g.task ≡ Some t → OwnKept (own_word (Some t)) (set hs id g)
+pub own-takes : (hs : List Hand) (id t word : ℕ) (h g : Hand) → OwnKept word hs → Named hs → get_elem? hs id ≡ some h → word ≡ 0 → t < MAX_TASKS → g.held ≡ Alone → g.task ≡ Some t → OwnKept (own_word (Some t)) (set hs id g)
 own-takes hs id t word h g r named at is small alone has = let none = none-holds hs word r named is in let a = total-set held_of hs id h g at in let b = total-set code_of hs id h g at in let c = total-at held_of hs id h at in
     let d = total-at code_of hs id h at in let e = no-codes hs (omega arith) in let f : held_of g ≡ 1 = ap held_weight alone in let i = alone-code g t alone has in record {
       small = omega arith;

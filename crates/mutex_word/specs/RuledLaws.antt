@@ -1,9 +1,7 @@
 -- The laws of the rule of a table with an owner word alone.
-use Rattle.std.proofs.Common.{◌≡◌, ◌≢◌, ℕ, ◌+◌, ◌<◌, ◌⊎◌, inl, inr, List, [], ◌∷◌, ◌++◌, length, map, get_or, set, None, sym, refl, ap, ◌∙◌, subst, arith, length-set, get_or-set_same, get_or-set_other}
+use Rattle.std.proofs.Common.{◌≡◌, ◌≢◌, ℕ, ◌+◌, ◌<◌, ◌≤◌, ◌⊎◌, inl, inr, List, [], ◌∷◌, ◌++◌, length, map, get_or, set, None, sym, refl, ap, ◌∙◌, subst, arith, length-set, get_or-set_same, get_or-set_other}
 use Rattle.std.proofs.lemmas.List.{drop-set-lt}
 use mathlib.Core.Option.{some}
-use mathlib.Core.Logic.{dite}
-use native.Mathlib.Decide.{ℕ_discrete}
 use lib.ListN.{get_elem?}
 use Rattle.atomic_table.proofs.Lists.{at_map, set_else}
 use Rattle.word_bits.specs.LockWords.{owned}
@@ -14,22 +12,20 @@ use Rattle.lock_core.specs.declared.view.Held.TheVariants.{No}
 use Rattle.lock_core.specs.declared.layout.TheConstants.{LOCK_WORDS}
 use Rattle.lock_core.specs.Layout.{SiteWords, fresh, site, lay, width}
 use Rattle.lock_core.specs.Views.{hand_of, handed, ticked, first, split_off, merged, spent, stranger}
-use Rattle.lock_core.specs.Sites.{SiteKept, Grows}
-use Rattle.lock_core.specs.Moves.{Goes, KeepsHold}
+use Rattle.lock_core.specs.Sites.{SiteKept}
+use Rattle.lock_core.specs.Moves.{Goes, KeepsHold, SiteMove}
+use Rattle.lock_core.specs.MoveLaws.{set-moves, hold-moved}
 use Rattle.lock_core.specs.Parts.{keep_part, set_part, snoc_part}
 use Rattle.lock_core.proofs.Stating.{kept-states}
 use Rattle.mutex_word.specs.Holders.{OwnKept}
 use Rattle.mutex_word.specs.OwnLaws.{Named, own-stays, own-strangers, own-opens, own-states}
-use Rattle.mutex_word.specs.Ruled.{V, IsPlain, IsOwnerSite, OwnerKept, OwnerMoves}
+use Rattle.mutex_word.specs.Ruled.{V, IsPlain, IsOwnerSite, OwnerKept, OwnerMoves, owner_at}
 
 abbrev Rests : V → Type 0
 Rests v = Unit {0}
 
-pub own-inside : 0 < LOCK_WORDS
+pub own-inside : owner_at < LOCK_WORDS
 own-inside = omega arith
-
-pub stays : (k : Plan) (ws : List ℕ) → Grows (site k ws) (site k ws)
-stays k ws = (omega arith, refl)
 
 module _ {Call : Type 0} (o : Obj Call) (size : ℕ) where
   abbrev Kept : Plan → List ℕ → List V → Type 0
@@ -41,7 +37,7 @@ module _ {Call : Type 0} (o : Obj Call) (size : ℕ) where
   pub owner-site : (k : Plan) (ws : List ℕ) (vs : List V) → Kept k ws vs → Site k ws (map hand_of vs)
   owner-site k ws vs r = r.site_holds
 
-  pub owner-own : (k : Plan) (ws : List ℕ) (vs : List V) → Kept k ws vs → OwnKept (get_or ws 0 0) (map hand_of vs) × IsPlain (get_or ws 0 0)
+  pub owner-own : (k : Plan) (ws : List ℕ) (vs : List V) → Kept k ws vs → OwnKept (get_or ws owner_at 0) (map hand_of vs) × IsPlain (get_or ws owner_at 0)
   owner-own k ws vs r = (r.own, r.plain)
 
   pub named : (k : Plan) (ws : List ℕ) (hs : List Hand) → Site k ws hs → Named hs
@@ -50,16 +46,16 @@ module _ {Call : Type 0} (o : Obj Call) (size : ℕ) where
   pub owner-sites : (k : Plan) (ws : List ℕ) (vs : List V) (id i n : ℕ) (v : V) (h : Hand) → Kept k ws vs → get_elem? vs id ≡ some v → KeepsHold Rests v h → Site k (set ws (LOCK_WORDS + i) n) (set (map hand_of vs) id h)
       → Kept k (set ws (LOCK_WORDS + i) n) (set vs id (handed v h))
   owner-sites k ws vs id i n v h r at same there = let w : V = handed v h in let hs : List Hand = map hand_of vs in let mine = at_map hand_of vs id v at in
-      let word : get_or (set ws (LOCK_WORDS + i) n) 0 0 ≡ get_or ws 0 0 = get_or-set_other ws (LOCK_WORDS + i) 0 n 0 (λ e. omega arith) in
+      let word : get_or (set ws (LOCK_WORDS + i) n) owner_at 0 ≡ get_or ws owner_at 0 = get_or-set_other ws (LOCK_WORDS + i) owner_at n 0 (λ e. omega arith) in
       let task : (h.task ≡ v.hand.task) ⊎ (v.hand.held ≡ No) = elim same.1 [ inl e ↦ inl e | inr s ↦ elim s [ inl out ↦ inr (named k ws hs r.site_holds id v.hand mine out) | inr q ↦ inr q.0.0 ] ] in record {
         wide = length-set ws (LOCK_WORDS + i) n ∙ r.wide;
         site_holds = set_part hand_of (Site k (set ws (LOCK_WORDS + i) n)) vs id w there;
-        own = subst (λ (z : ℕ). OwnKept z (map hand_of (set vs id w))) (sym word) (set_part hand_of (OwnKept (get_or ws 0 0)) vs id w (own-stays hs id (get_or ws 0 0) v.hand h r.own mine same.0 task));
+        own = subst (λ (z : ℕ). OwnKept z (map hand_of (set vs id w))) (sym word) (set_part hand_of (OwnKept (get_or ws owner_at 0)) vs id w (own-stays hs id (get_or ws owner_at 0) v.hand h r.own mine same.0 task));
         plain = subst IsPlain (sym word) r.plain;
       }
 
   pub owner-opens : (k : Plan) → length (fresh k) ≡ width k → ((i : ℕ) → i < LOCK_WORDS → get_or (fresh k) i 0 ≡ 0) → Site k (fresh k) (map hand_of (first {E = Unit {0}} k tt ∷ [])) → Kept k (fresh k) (first k tt ∷ [])
-  owner-opens k wide zeros there = let free = zeros 0 (omega arith) in let v : V = first k tt in record {
+  owner-opens k wide zeros there = let free = zeros owner_at (omega arith) in let v : V = first k tt in record {
     wide = wide;
     site_holds = there;
     own = subst (λ (z : ℕ). OwnKept z (v.hand ∷ [])) (sym free) (own-opens v.hand.plan v.hand.seen);
@@ -70,13 +66,13 @@ module _ {Call : Type 0} (o : Obj Call) (size : ℕ) where
   owner-splits k ws vs id v r at there = let us : List V = set vs id (ticked v) in record {
     wide = r.wide;
     site_holds = there;
-    own = snoc_part hand_of (OwnKept (get_or ws 0 0)) us (split_off tt v) (own-strangers (map hand_of us) (get_or ws 0 0) v.hand.plan v.hand.seen (keep_part hand_of (OwnKept (get_or ws 0 0)) vs id v (ticked v) at refl r.own));
+    own = snoc_part hand_of (OwnKept (get_or ws owner_at 0)) us (split_off tt v) (own-strangers (map hand_of us) (get_or ws owner_at 0) v.hand.plan v.hand.seen (keep_part hand_of (OwnKept (get_or ws owner_at 0)) vs id v (ticked v) at refl r.own));
     plain = r.plain;
   }
 
   pub owner-joins : (k : Plan) (ws : List ℕ) (vs : List V) (id other : ℕ) (v w : V) → Kept k ws vs → get_elem? vs id ≡ some v → other ≢ id → get_elem? vs other ≡ some w → w.hand.held ≡ No
       → Site k ws (map hand_of (set (set vs id (merged v w)) other (spent tt))) → Kept k ws (set (set vs id (merged v w)) other (spent tt))
-  owner-joins k ws vs id other v w r at apart at' free there = let u : V = merged v w in let us : List V = set vs id u in let word : ℕ = get_or ws 0 0 in
+  owner-joins k ws vs id other v w r at apart at' free there = let u : V = merged v w in let us : List V = set vs id u in let word : ℕ = get_or ws owner_at 0 in
       let own : OwnKept word (map hand_of us) = set_part hand_of (OwnKept word) vs id u (own-stays (map hand_of vs) id word v.hand u.hand r.own (at_map hand_of vs id v at) refl (inl refl)) in record {
         wide = r.wide;
         site_holds = there;
@@ -85,21 +81,32 @@ module _ {Call : Type 0} (o : Obj Call) (size : ℕ) where
       }
 
   -- a step on the owner word leaves the site's words
-  pub owner-owns : (k : Plan) (ws : List ℕ) (vs : List V) (id n : ℕ) (v : V) (h : Hand) → Kept k ws vs → get_elem? vs id ≡ some v → (get_or ws 0 0 ≢ n → IsPlain n) → OwnKept n (set (map hand_of vs) id h) → Site k ws (set (map hand_of vs) id h)
-      → Goes (Kept k) (OwnerMoves k) id ws vs (set ws 0 n) (set vs id (handed v h))
-  owner-owns k ws vs id n v h r at may own there = let w : V = handed v h in let wide = r.wide in let same : site k (set ws 0 n) ≡ site k ws = ap (lay k) (drop-set-lt LOCK_WORDS ws 0 n (omega arith)) in
-      let word : get_or (set ws 0 n) 0 0 ≡ n = get_or-set_same ws 0 n 0 (omega (arith, wide)) in (
+  pub owner-owns : (k : Plan) (ws : List ℕ) (vs : List V) (id n : ℕ) (v : V) (h : Hand) → Kept k ws vs → get_elem? vs id ≡ some v → v.hand.misses ≤ h.misses → IsPlain n → OwnKept n (set (map hand_of vs) id h) → Site k ws (set (map hand_of vs) id h)
+      → Goes (Kept k) (OwnerMoves k) id ws vs (set ws owner_at n) (set vs id (handed v h))
+  owner-owns k ws vs id n v h r at misses may own there = let w : V = handed v h in let wide = r.wide in let same : site k (set ws owner_at n) ≡ site k ws = ap (lay k) (drop-set-lt LOCK_WORDS ws owner_at n (omega arith)) in
+      let word : get_or (set ws owner_at n) owner_at 0 ≡ n = get_or-set_same ws owner_at n 0 (omega (arith, wide)) in (
         record {
-          wide = length-set ws 0 n ∙ wide;
+          wide = length-set ws owner_at n ∙ wide;
           site_holds = subst (λ (z : SiteWords). SiteKept o owned size k z (map hand_of (set vs id w))) (sym same) (set_part hand_of (Site k ws) vs id w there);
           own = subst (λ (z : ℕ). OwnKept z (map hand_of (set vs id w))) (sym word) (set_part hand_of (OwnKept n) vs id w own);
-          plain = subst IsPlain (sym word) (dite (ℕ_discrete (get_or ws 0 0) n) (λ is. subst IsPlain is r.plain) may);
+          plain = subst IsPlain (sym word) may;
         },
-        subst (λ (z : SiteWords). Grows (site k ws) z) (sym same) (stays k ws),
+        subst (λ (z : SiteWords). SiteMove id (site k ws) vs z (set vs id w)) (sym same) (set-moves id (site k ws) (site k ws) vs v w at (hold-moved (site k ws) v h tt misses)),
       )
 
-  pub owner-states : (k : Plan) (ws : List ℕ) (vs : List V) → Kept k ws vs → IsOwnerSite o size k ws vs
+  pub owner-looks : (k : Plan) (ws : List ℕ) (vs : List V) (id : ℕ) (v : V) (h : Hand) → Kept k ws vs → get_elem? vs id ≡ some v → h.task ≡ v.hand.task → h.held ≡ v.hand.held → v.hand.misses ≤ h.misses → Site k ws (set (map hand_of vs) id h) → Goes (Kept k) (OwnerMoves k) id ws vs ws (set vs id (handed v h))
+  owner-looks k ws vs id v h r at task held misses there = let w : V = handed v h in (
+    record {
+      wide = r.wide;
+      site_holds = set_part hand_of (Site k ws) vs id w there;
+      own = set_part hand_of (OwnKept (get_or ws owner_at 0)) vs id w (own-stays (map hand_of vs) id (get_or ws owner_at 0) v.hand h r.own (at_map hand_of vs id v at) held (inl task));
+      plain = r.plain;
+    },
+    set-moves id (site k ws) (site k ws) vs v w at (hold-moved (site k ws) v h tt misses),
+  )
+
+  pub owner-states : (k : Plan) (ws : List ℕ) (vs : List V) → Kept k ws vs → IsOwnerSite o size k ws (map hand_of vs)
   owner-states k ws vs r = record {
     is_site = kept-states o owned size k (site k ws) (map hand_of vs) r.site_holds;
-    owner = own-states (map hand_of vs) (get_or ws 0 0) r.own (named k ws (map hand_of vs) r.site_holds) r.plain;
+    owner = own-states (map hand_of vs) (get_or ws owner_at 0) r.own (named k ws (map hand_of vs) r.site_holds) r.plain;
   }

@@ -1,11 +1,11 @@
 //! The rule of a table with an owner word alone.
 ghost use Rattle.std.specs.Prelude.{◌≡◌, ◌<◌};
 ghost use Rattle.word_bits.specs.LockWords.{owned};
-ghost use Rattle.mutex_word.specs.Ruled.{OwnerKept, OwnerMoves, IsPlain, leaves_plain};
-ghost use Rattle.mutex_word.specs.RuledLaws.{own-inside, stays, owner-site, owner-own, owner-sites, owner-opens, owner-splits, owner-joins, owner-owns};
+ghost use Rattle.mutex_word.specs.Ruled.{OwnerKept, OwnerMoves, IsPlain, leaves_plain, owner_at, unmarked, unturned};
+ghost use Rattle.mutex_word.specs.RuledLaws.{own-inside, owner-site, owner-own, owner-sites, owner-opens, owner-splits, owner-joins, owner-owns, owner-looks};
 
 use crate::host::OwnerHost;
-use lock_core::SiteRule;
+use lock_core::{SPIN_ROOM, SiteRule};
 use std::marker::PhantomData;
 use word_bits::Object;
 
@@ -26,35 +26,43 @@ impl<O: Object> SiteRule for OwnerRule<O> {
 
     ghost moves = { OwnerMoves };
 
+    ghost marks = { unmarked };
+
     ghost idle = { tt };
 
     ghost rests = { λ _. Unit {0} };
 
     ghost site_kept = { owner-site O.object O.WORDS };
 
-    ghost grows = { λ k id ws us vs vs' there step. step };
+    ghost site_moves = { λ k id ws us vs vs' there step. step };
 
-    ghost sites = { λ k ws vs id i n v h r at same there grows. (owner-sites O.object O.WORDS k ws vs id i n v h r at same there, grows) };
+    ghost sites = { λ k ws vs id i n v h r at same there step. (owner-sites O.object O.WORDS k ws vs id i n v h r at same there, step) };
 
     ghost opens = { owner-opens O.object O.WORDS };
 
-    ghost splits = { λ k ws vs id v r at there. (owner-splits O.object O.WORDS k ws vs id v r at there, stays k ws) };
+    ghost splits = { λ k ws vs id v r at there step. (owner-splits O.object O.WORDS k ws vs id v r at there, step) };
 
-    ghost joins = { λ k ws vs id other v w r at apart at' mine theirs there. (owner-joins O.object O.WORDS k ws vs id other v w r at apart at' theirs.0.0 there, stays k ws) };
+    ghost joins = { λ k ws vs id other v w r at apart at' mine theirs there step. (owner-joins O.object O.WORDS k ws vs id other v w r at apart at' theirs.0.0 there, step) };
 }
 
 impl<O: Object> OwnerHost for OwnerRule<O> {
-    const OWNER: usize = 0;
+    const OWNER: usize = SPIN_ROOM;
 
-    ghost OWNER = { 0 };
+    ghost OWNER = { owner_at };
 
     ghost may_be = { IsPlain };
 
     ghost may_own = { leaves_plain };
 
+    ghost turned = { unturned };
+
     ghost own_inside = { own-inside };
 
     ghost own_kept = { owner-own O.object O.WORDS };
 
-    ghost owns = { λ k ws vs id n v h r at same may own there. owner-owns O.object O.WORDS k ws vs id n v h r at may own there };
+    ghost owns = { λ k ws vs id n v h t r at same misses may own there. owner-owns O.object O.WORDS k ws vs id n v h r at misses may.0 own there };
+
+    ghost own_may = { λ k ws vs id n v t r at may. may.1 };
+
+    ghost own_looks = { λ k ws vs id v h r at task held misses there. owner-looks O.object O.WORDS k ws vs id v h r at task held misses there };
 }

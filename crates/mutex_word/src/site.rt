@@ -1,26 +1,27 @@
 //! Sites with an owner word.
-ghost use Rattle.std.specs.Prelude.{◌≡◌, ◌≢◌, ℕ, ◌+◌, ◌<◌, false, List, None, Some, IsSome, IfOk, IfErr, MatchResult, ◌≤◌, [], length};
+ghost use Rattle.std.specs.Prelude.{◌≡◌, ◌≢◌, ℕ, ◌+◌, ◌<◌, false, List, None, Some, IsSome, Bool, IfOk, IfErr, ◌≤◌, [], ◌∷◌, length, map};
 ghost use Rattle.word_bits.specs.LockWords.{owned};
 ghost use Rattle.lock_core.specs.declared.view.View.{View};
 ghost use Rattle.lock_core.specs.declared.view.Held.TheVariants.{No, Alone};
+ghost use Rattle.lock_core.specs.Kinds.{mutex};
+ghost use Rattle.lock_core.specs.Locking.{Misses, Releases, Takes};
 ghost use Rattle.lock_core.specs.Records.{IsPlan};
-ghost use Rattle.lock_core.specs.Views.{first, ticked, handed, split_off, merged, gave_up, Beside, HoldsNothing};
-ghost use Rattle.lock_core.specs.Pasts.{FoundAt, Paced};
-ghost use Rattle.lock_core.specs.Passes.{Sits, Numbered};
-ghost use Rattle.mutex_word.specs.Holders.{own_word, Takes, Misses, Releases};
-ghost use Rattle.mutex_word.specs.Ruled.{OwnerKept, IsOwnerSite};
+ghost use Rattle.lock_core.specs.Views.{hand_of, first, ticked, handed, split_off, merged, gave_up, Beside, HoldsNothing};
+ghost use Rattle.lock_core.specs.Pasts.{EachMoment, FoundAt, Ran, Tail};
+ghost use Rattle.lock_core.specs.Stated.{IsNew, IsSiteMove};
+ghost use Rattle.mutex_word.specs.Holders.{own_word, TakesOwner, MissesOwner, ReleasesOwner};
+ghost use Rattle.mutex_word.specs.Ruled.{IsOwnerSiteThen, newest, owner_at, shown_of, unmarked, unturned};
 
 use crate::rule::OwnerRule;
-use crate::steps;
+use crate::site_steps;
 use lock_core::{Pass, Plan, Site};
 use std::alloc::{AllocError, Global};
-use std::marker::Brand;
 use std::sync::Wait;
 use word_bits::Object;
 
 mod words;
 
-/// A site whose lock is an owner word alone. Its plan is `site.table.shared.key`.
+/// A site whose lock is an owner word alone. Contracts see its plan (`plan_of`).
 #[derive(Drop)]
 pub struct OwnerSite<O: Object> {
     site: Site<OwnerRule<O>>,
@@ -30,13 +31,18 @@ pub struct OwnerSite<O: Object> {
 pub type OwnerPass<O> = Pass<OwnerRule<O>>;
 
 impl<O: Object> OwnerSite<O> {
+    ghost use Rattle.lock_core.specs.Handles.{IsLatest, view_of, hand_in, past_of, task_in, held_in, front_in, KeepsPast};
+    ghost use Rattle.mutex_word.specs.Handles.{plan_of, SitsAt, TakesNumber};
+
     /// A new site: nobody holds, the state is empty, no call is logged or recorded. The pass has no
     /// task number.
     pub fn open(alloc: Global, plan: Plan) -> Result<(OwnerSite<O>, OwnerPass<O>), AllocError>
         requires { IsPlan O.object plan }
-        ensures own { IfOk result (λ t. Sits t.0.site.table.shared.key t.0.site.table.shared.table_id t.1.seat.table_id t.1.seat.me t.1.face) }
-        ensures plan { IfOk result (λ t. t.0.site.table.shared.key ≡ plan) }
-        ensures view { IfOk result (λ t. t.1.seat.me.0 ≡ record { view = first plan tt; past = [] }) }
+        ensures own { IfOk result (λ t. SitsAt t.0 t.1) }
+        ensures plan { IfOk result (λ t. (plan_of t.0) ≡ plan) }
+        ensures new { IfOk result (λ _. IsNew O.object O.WORDS plan (newest plan)) }
+        ensures view { IfOk result (λ t. view_of t.1 ≡ first plan tt) }
+        ensures past { IfOk result (λ t. past_of t.1 ≡ newest plan ∷ []) }
     {
         let (site, pass) = Site::open(alloc, plan)?;
         Ok((OwnerSite { site }, pass))
@@ -44,11 +50,13 @@ impl<O: Object> OwnerSite<O> {
 
     /// A pass without a task number, which has seen as many entries.
     pub fn split(&self, pass: &mut OwnerPass<O>) -> OwnerPass<O>
-        requires own { Sits self.now.site.table.shared.key self.now.site.table.shared.table_id pass.old.seat.table_id pass.old.seat.me pass.old.face }
-        ensures own { Sits self.now.site.table.shared.key self.now.site.table.shared.table_id pass.new.seat.table_id pass.new.seat.me pass.new.face }
-        ensures kept { pass.new.seat.me.0.view ≡ ticked pass.old.seat.me.0.view }
-        ensures its_own { Sits self.now.site.table.shared.key self.now.site.table.shared.table_id result.seat.table_id result.seat.me result.face }
-        ensures given { result.seat.me.0.view ≡ split_off tt pass.old.seat.me.0.view }
+        requires own { SitsAt self.now pass.old }
+        ensures own { SitsAt self.now pass.new }
+        ensures goes_on { KeepsPast pass.old pass.new }
+        ensures kept { view_of pass.new ≡ ticked (view_of pass.old) }
+        ensures its_own { SitsAt self.now result }
+        ensures given { view_of result ≡ split_off tt (view_of pass.old) }
+        ensures past { past_of result ≡ past_of pass.old }
     {
         self.site.split(pass)
     }
@@ -56,25 +64,29 @@ impl<O: Object> OwnerSite<O> {
     /// Waits until nobody has the task's number, and takes it with the task's records. What the pass
     /// saw of the lock is forgotten, and it has seen as many entries as the task.
     pub fn begin<W: Wait>(&self, rt: &W, pass: &mut OwnerPass<O>, task: u32)
-        requires own { Sits self.now.site.table.shared.key self.now.site.table.shared.table_id pass.old.seat.table_id pass.old.seat.me pass.old.face }
-        requires numberless { pass.old.face.task ≡ None }
-        requires there { task < length self.now.site.table.shared.key }
-        ensures own { Sits self.now.site.table.shared.key self.now.site.table.shared.table_id pass.new.seat.table_id pass.new.seat.me pass.new.face }
-        ensures became { Numbered O.object owned self.now.site.table.shared.key pass.old.seat.me.0.view.hand task pass.new.seat.me.0.view.hand }
-        ensures beside { Beside pass.old.seat.me.0.view pass.new.seat.me.0.view }
-        ensures rises { pass.old.face.front ≤ pass.new.face.front }
+        requires own { SitsAt self.now pass.old }
+        requires numberless { task_in pass.old ≡ None }
+        requires there { task < length (plan_of self.now) }
+        ensures own { SitsAt self.now pass.new }
+        ensures goes_on { KeepsPast pass.old pass.new }
+        ensures last { IsLatest pass.new }
+        ensures became { TakesNumber O.object owned self.now task pass.old pass.new }
+        ensures beside { Beside (view_of pass.old) (view_of pass.new) }
+        ensures rises { (front_in pass.old) ≤ (front_in pass.new) }
     {
         self.site.begin(rt, pass, task);
     }
 
     /// Gives the pass's number back.
     pub fn end(&self, pass: &mut OwnerPass<O>)
-        requires own { Sits self.now.site.table.shared.key self.now.site.table.shared.table_id pass.old.seat.table_id pass.old.seat.me pass.old.face }
-        requires numbered { IsSome pass.old.face.task }
-        requires rests { HoldsNothing pass.old.seat.me.0.view }
-        requires recorded { (pass.old.seat.me.0.view.hand.sent ≡ None) × (pass.old.seat.me.0.view.hand.consumed ≡ false) }
-        ensures own { Sits self.now.site.table.shared.key self.now.site.table.shared.table_id pass.new.seat.table_id pass.new.seat.me pass.new.face }
-        ensures kept { pass.new.seat.me.0.view ≡ handed pass.old.seat.me.0.view (gave_up pass.old.seat.me.0.view.hand) }
+        requires own { SitsAt self.now pass.old }
+        requires numbered { IsSome (task_in pass.old) }
+        requires rests { HoldsNothing (view_of pass.old) }
+        requires recorded { ((hand_in pass.old).sent ≡ None) × ((hand_in pass.old).consumed ≡ 0) }
+        ensures own { SitsAt self.now pass.new }
+        ensures goes_on { KeepsPast pass.old pass.new }
+        ensures last { IsLatest pass.new }
+        ensures kept { view_of pass.new ≡ handed (view_of pass.old) (gave_up (hand_in pass.old)) }
     {
         self.site.end(pass);
     }
@@ -82,14 +94,16 @@ impl<O: Object> OwnerSite<O> {
     /// Takes in another pass, which is spent: `into` then knows the records that `other` knew, and
     /// has seen as many entries as either.
     pub fn gather(&self, into: &mut OwnerPass<O>, other: OwnerPass<O>)
-        requires own { Sits self.now.site.table.shared.key self.now.site.table.shared.table_id into.old.seat.table_id into.old.seat.me into.old.face }
-        requires others_own { Sits self.now.site.table.shared.key self.now.site.table.shared.table_id other.seat.table_id other.seat.me other.face }
-        requires rests { HoldsNothing into.old.seat.me.0.view }
-        requires other_rests { HoldsNothing other.seat.me.0.view }
-        requires numberless { other.face.task ≡ None }
-        ensures own { Sits self.now.site.table.shared.key self.now.site.table.shared.table_id into.new.seat.table_id into.new.seat.me into.new.face }
-        ensures kept { into.new.seat.me.0.view ≡ merged into.old.seat.me.0.view other.seat.me.0.view }
-        ensures rises { (into.old.face.front ≤ into.new.face.front) × (other.face.front ≤ into.new.face.front) }
+        requires own { SitsAt self.now into.old }
+        requires others_own { SitsAt self.now other }
+        requires rests { HoldsNothing (view_of into.old) }
+        requires other_rests { HoldsNothing (view_of other) }
+        requires numberless { task_in other ≡ None }
+        ensures own { SitsAt self.now into.new }
+        ensures goes_on { KeepsPast into.old into.new }
+        ensures kept { view_of into.new ≡ merged (view_of into.old) (view_of other) }
+        ensures rises { front_in into.old ≤ front_in into.new }
+        ensures others { front_in other ≤ front_in into.new }
     {
         self.site.gather(into, other);
     }
@@ -97,43 +111,70 @@ impl<O: Object> OwnerSite<O> {
     /// Takes the lock where it is free, by one compare-exchange of the owner word from 0. `Err` has the
     /// word, not 0, that the exchange saw.
     pub fn trylock_once(&self, pass: &mut OwnerPass<O>) -> Result<(), u64>
-        requires own { Sits self.now.site.table.shared.key self.now.site.table.shared.table_id pass.old.seat.table_id pass.old.seat.me pass.old.face }
-        requires numbered { IsSome pass.old.face.task }
-        requires out { pass.old.face.held ≡ No }
-        ensures own { Sits self.now.site.table.shared.key self.now.site.table.shared.table_id pass.new.seat.table_id pass.new.seat.me pass.new.face }
-        ensures took { IfOk result (λ _. Takes O.object self.now.site.table.shared.key pass.old.seat.me.0.view pass.new.seat.me.0.view) }
-        ensures missed { IfErr result (λ word. Misses pass.old.seat.me.0.view word pass.new.seat.me.0.view) }
-        ensures found { MatchResult result (λ _. FoundAt 0 0 pass.new.seat.me.0.past) (λ word. FoundAt 0 word pass.new.seat.me.0.past) }
+        requires own { SitsAt self.now pass.old }
+        requires numbered { IsSome (task_in pass.old) }
+        requires out { held_in pass.old ≡ No }
+        ensures own { SitsAt self.now pass.new }
+        ensures goes_on { KeepsPast pass.old pass.new }
+        ensures last { IsLatest pass.new }
+        ensures took { IfOk result (λ _.
+            TakesOwner unturned O.object (plan_of self.now) (view_of pass.old) (view_of pass.new)) }
+        ensures missed { IfErr result (λ word.
+            MissesOwner (view_of pass.old) word (view_of pass.new)) }
+        ensures takes { IfOk result (λ _. Takes O.object (plan_of self.now) Alone
+            (shown_of (view_of pass.old)) (shown_of (view_of pass.new))) }
+        ensures misses { IfErr result (λ word. (reads : Bool) → Misses mutex reads word
+            (shown_of (view_of pass.old)) (shown_of (view_of pass.new))) }
+        ensures names { IfErr result (λ word. (reads : Bool) → owned reads word) }
+        ensures free { IfOk result (λ _. FoundAt owner_at 0 (past_of pass.new)) }
+        ensures found { IfErr result (λ word. FoundAt owner_at word (past_of pass.new)) }
     {
-        steps::take_free(&self.site, pass)
+        site_steps::take_free(&self.site, pass)
     }
 
     /// Ends the pass's hold, by one compare-exchange of the owner word from the own code to 0. It always
     /// succeeds, since nothing sets a flag.
     pub fn unlock_once(&self, pass: &mut OwnerPass<O>)
-        requires own { Sits self.now.site.table.shared.key self.now.site.table.shared.table_id pass.old.seat.table_id pass.old.seat.me pass.old.face }
-        requires held { pass.old.face.held ≡ Alone }
-        requires quiet { pass.old.seat.me.0.view.hand.writes ≡ false }
-        ensures own { Sits self.now.site.table.shared.key self.now.site.table.shared.table_id pass.new.seat.table_id pass.new.seat.me pass.new.face }
-        ensures released { Releases pass.old.seat.me.0.view 0 pass.new.seat.me.0.view }
-        ensures found { FoundAt 0 (own_word pass.old.face.task) pass.new.seat.me.0.past }
+        requires own { SitsAt self.now pass.old }
+        requires held { held_in pass.old ≡ Alone }
+        requires quiet { (hand_in pass.old).writes ≡ false }
+        ensures own { SitsAt self.now pass.new }
+        ensures goes_on { KeepsPast pass.old pass.new }
+        ensures last { IsLatest pass.new }
+        ensures releases { Releases mutex.wakes_alone
+            (shown_of (view_of pass.old)) (shown_of (view_of pass.new)) }
+        ensures released { ReleasesOwner unturned (view_of pass.old) 0 (view_of pass.new) }
+        ensures found { FoundAt owner_at (own_word (task_in pass.old)) (past_of pass.new) }
     {
-        let _ = steps::release_plain(&self.site, pass);
+        let _ = site_steps::release_plain(&self.site, pass);
     }
 
-    /// Says what the rule of the site implies, between any two steps: the facts of every site, and that
-    /// the owner word states who holds. It does nothing.
-    pub fn stated(&self)
-        ensures { (ws : List ℕ) (vs : List (View (Unit {0}))) → OwnerKept O.object O.WORDS self.now.site.table.shared.key ws vs → IsOwnerSite O.object O.WORDS self.now.site.table.shared.key ws vs }
-    {}
-
-    /// A load, after which the pass knows that so it was at each moment of the table so far.
+    /// A load, after which the pass knows that at each moment of the table so far, from the new table
+    /// on, the facts of every site were so, and the owner word stated who held.
     pub fn recall_holders(&self, pass: &mut OwnerPass<O>)
-        requires own { Sits self.now.site.table.shared.key self.now.site.table.shared.table_id pass.old.seat.table_id pass.old.seat.me pass.old.face }
-        ensures own { Sits self.now.site.table.shared.key self.now.site.table.shared.table_id pass.new.seat.table_id pass.new.seat.me pass.new.face }
-        ensures kept { pass.new.seat.me.0.view ≡ ticked pass.old.seat.me.0.view }
-        ensures run { Paced (λ before after. (vs : List (View (Unit {0}))) × IsOwnerSite O.object O.WORDS self.now.site.table.shared.key after vs) pass.new.seat.me.0.past }
+        requires own { SitsAt self.now pass.old }
+        ensures own { SitsAt self.now pass.new }
+        ensures goes_on { KeepsPast pass.old pass.new }
+        ensures kept { view_of pass.new ≡ ticked (view_of pass.old) }
+        ensures last { IsLatest pass.new }
+        ensures begins { Tail (newest (plan_of self.now) ∷ []) (past_of pass.new) }
+        ensures always { EachMoment (IsOwnerSiteThen O.object O.WORDS (plan_of self.now))
+            (past_of pass.new) }
     {
-        self.site.recall::<Brand>(pass);
+        self.site.recall(pass);
+    }
+
+    /// A load, after which the pass knows what each step of the table so far did to the site's words
+    /// and to what the passes count: no entry of the log was lost, and no count fell.
+    pub fn grown(&self, pass: &mut OwnerPass<O>)
+        requires own { SitsAt self.now pass.old }
+        ensures own { SitsAt self.now pass.new }
+        ensures goes_on { KeepsPast pass.old pass.new }
+        ensures kept { view_of pass.new ≡ ticked (view_of pass.old) }
+        ensures last { IsLatest pass.new }
+        ensures moves { Ran unmarked (newest (plan_of self.now)) (IsSiteMove (plan_of self.now))
+            (past_of pass.new) }
+    {
+        self.site.grown(pass);
     }
 }

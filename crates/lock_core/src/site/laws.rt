@@ -1,53 +1,57 @@
 //! What is so of every site at each moment, and of each step of its table.
-ghost use Rattle.std.specs.Prelude.{◌≡◌, ℕ, List, map};
-ghost use Rattle.lock_core.specs.declared.view.View.{View};
+ghost use Rattle.std.specs.Prelude.{◌≡◌, ℕ, [], ◌∷◌};
 ghost use Rattle.lock_core.specs.Layout.{site};
-ghost use Rattle.lock_core.specs.Views.{hand_of, ticked};
-ghost use Rattle.lock_core.specs.Sites.{Grows};
-ghost use Rattle.lock_core.specs.Stated.{IsSite};
-ghost use Rattle.lock_core.specs.Pasts.{Moves, Paced};
-ghost use Rattle.lock_core.specs.Passes.{Sits};
+ghost use Rattle.lock_core.specs.Views.{ticked};
+ghost use Rattle.lock_core.specs.Stated.{IsSiteThen, IsSiteMove};
+ghost use Rattle.lock_core.specs.Pasts.{EachMoment, IsOwnStep, Moves, Ran, Tail, opening};
+ghost use Rattle.lock_core.specs.Handles.{plan_of, view_of, past_of, SitsAt, KeepsPast, IsLatest};
 
 use super::Site;
 use super::plays::Recall;
 use crate::pass::Pass;
 use crate::rule::SiteRule;
-use std::marker::Brand;
-
-/// A relation between the words of a table before and after a step.
-pub trait Between {
-    ghost between: { List ℕ → List ℕ → Type 0 };
-}
-
-impl Between for Brand {
-    ghost between = { λ _ _. Unit {0} };
-}
 
 impl<R: SiteRule> Site<R> {
-    /// Says what the rule of every site implies, between any two steps. It does nothing.
-    pub fn stated(&self)
-        ensures { (ws : List ℕ) (vs : List (View R.Ext)) → R.holds self.now.table.shared.key ws vs → IsSite R.O.object R.unavailable R.O.WORDS self.now.table.shared.key (site self.now.table.shared.key ws) (map hand_of vs) }
-    {}
-
-    /// A load, after which the pass knows of each step of the table so far what every move of the rule
-    /// does to the words.
-    pub fn recall<N: Between>(&self, pass: &mut Pass<R>)
-        requires own { Sits self.now.table.shared.key self.now.table.shared.table_id pass.old.seat.table_id pass.old.seat.me pass.old.face }
-        requires moves { (x y : List ℕ) → Moves (R.holds self.now.table.shared.key) (R.moves self.now.table.shared.key) x y → N.between x y }
-        ensures own { Sits self.now.table.shared.key self.now.table.shared.table_id pass.new.seat.table_id pass.new.seat.me pass.new.face }
-        ensures kept { pass.new.seat.me.0.view ≡ ticked pass.old.seat.me.0.view }
-        ensures run { Paced N.between pass.new.seat.me.0.past }
+    /// A load, after which the pass knows the whole run of the table, from the new table to this
+    /// step: at each moment the rule held, and each step was one of its moves.
+    pub fn recall(&self, pass: &mut Pass<R>)
+        requires own { SitsAt self.now pass.old }
+        ensures own { SitsAt self.now pass.new }
+        ensures goes_on { KeepsPast pass.old pass.new }
+        ensures kept { view_of pass.new ≡ ticked (view_of pass.old) }
+        ensures last { IsLatest pass.new }
+        ensures run { Ran R.marks (opening R.marks (plan_of self.now) R.idle)
+            (Moves (R.holds (plan_of self.now)) (R.moves (plan_of self.now))) (past_of pass.new) }
     {
-        self.table.shared.load::<Recall<N>>(&mut pass.seat, 0);
+        self.table.shared.load::<Recall<R>>(&mut pass.seat, 0);
     }
 
-    /// A load, after which the pass knows that at no step so far an entry of the log was lost.
-    pub fn grown(&self, pass: &mut Pass<R>)
-        requires own { Sits self.now.table.shared.key self.now.table.shared.table_id pass.old.seat.table_id pass.old.seat.me pass.old.face }
-        ensures own { Sits self.now.table.shared.key self.now.table.shared.table_id pass.new.seat.table_id pass.new.seat.me pass.new.face }
-        ensures kept { pass.new.seat.me.0.view ≡ ticked pass.old.seat.me.0.view }
-        ensures log { Paced (λ x y. Grows (site self.now.table.shared.key x) (site self.now.table.shared.key y)) pass.new.seat.me.0.past }
+    /// A load, after which the pass knows that the facts of every site were so at each moment of the
+    /// table so far, from the new table on.
+    pub fn stated(&self, pass: &mut Pass<R>)
+        requires own { SitsAt self.now pass.old }
+        ensures own { SitsAt self.now pass.new }
+        ensures goes_on { KeepsPast pass.old pass.new }
+        ensures kept { view_of pass.new ≡ ticked (view_of pass.old) }
+        ensures last { IsLatest pass.new }
+        ensures begins { Tail (opening R.marks (plan_of self.now) R.idle ∷ []) (past_of pass.new) }
+        ensures always { EachMoment
+            (IsSiteThen R.O.object R.unavailable R.O.WORDS (plan_of self.now)) (past_of pass.new) }
     {
-        self.recall::<Brand>(pass);
+        self.recall(pass);
+    }
+
+    /// A load, after which the pass knows what each step of the table so far did to the site's words
+    /// and to what the passes count: no entry of the log was lost, and no count fell.
+    pub fn grown(&self, pass: &mut Pass<R>)
+        requires own { SitsAt self.now pass.old }
+        ensures own { SitsAt self.now pass.new }
+        ensures goes_on { KeepsPast pass.old pass.new }
+        ensures kept { view_of pass.new ≡ ticked (view_of pass.old) }
+        ensures last { IsLatest pass.new }
+        ensures moves { Ran R.marks (opening R.marks (plan_of self.now) R.idle)
+            (IsSiteMove (plan_of self.now)) (past_of pass.new) }
+    {
+        self.recall(pass);
     }
 }

@@ -5,55 +5,76 @@ ghost use lib.ListN.{get_elem?};
 ghost use Rattle.lock_core.specs.declared.view.Hand.{Hand};
 ghost use Rattle.lock_core.specs.Layout.{site_width, lay};
 ghost use Rattle.lock_core.specs.Views.{ticked, handed};
-ghost use Rattle.lock_core.specs.Sites.{SiteKept, Grows};
+ghost use Rattle.lock_core.specs.Sites.{SiteKept, SiteStep};
 ghost use Rattle.lock_core.specs.Moves.{KeepsHold};
 ghost use Rattle.lock_core.specs.Pasts.{FoundAt};
-ghost use Rattle.lock_core.specs.Passes.{Sits};
+ghost use Rattle.lock_core.specs.Handles.{plan_of, view_of, hand_in, past_of, IsOneOf, KeepsSeat, SaysSame, MayFind, MayPut, MayAdd, MayTake};
 
 use super::Site;
 use super::plays::{Becomes, Begin, Find, Put, Puts, Tells};
 use crate::layout::{LINES_AT, LOCK_WORDS};
+use crate::op::Op;
 use crate::pass::Pass;
 use crate::rule::SiteRule;
+use word_bits::MAX_TASKS;
 
 impl<R: SiteRule> Site<R> {
     /// Loads a word, of which the site's facts tell something.
     pub(crate) fn find<T: Tells>(&self, pass: &mut Pass<R>, at: usize) -> u64
-        requires own { pass.old.seat.table_id ≡ self.now.table.shared.table_id }
-        requires inside { at < site_width self.now.table.shared.key }
-        requires told { (s : List ℕ) (hs : List Hand) → SiteKept R.O.object R.unavailable R.O.WORDS self.now.table.shared.key (lay self.now.table.shared.key s) hs → get_elem? hs pass.old.seat.id ≡ some pass.old.seat.me.0.view.hand → T.tells pass.old.seat.me.0.view.hand at (slice_index s at) }
-        ensures own { (pass.new.seat.table_id ≡ pass.old.seat.table_id) × (pass.new.seat.id ≡ pass.old.seat.id) × (pass.new.seat.me.1 ≡ pass.old.seat.me.1) }
-        ensures face { pass.new.face ≡ pass.old.face }
-        ensures kept { pass.new.seat.me.0.view ≡ ticked pass.old.seat.me.0.view }
-        ensures told { T.tells pass.old.seat.me.0.view.hand at result }
-        ensures found { FoundAt (LOCK_WORDS + at) result pass.new.seat.me.0.past }
+        requires own { IsOneOf self.now pass.old }
+        requires inside { at < site_width (plan_of self.now) }
+        requires told { MayFind R.O.object R.unavailable R.O.WORDS self.now pass.old at T.tells }
+        ensures own { KeepsSeat pass.old pass.new }
+        ensures face { SaysSame pass.old pass.new }
+        ensures kept { view_of pass.new ≡ ticked (view_of pass.old) }
+        ensures told { T.tells (hand_in pass.old) at result }
+        ensures found { FoundAt (LOCK_WORDS + at) result (past_of pass.new) }
     {
-        self.load::<Find<T>>(pass, LOCK_WORDS + at)
+        self.step::<Find<T>>(pass, LOCK_WORDS + at, Op::Load)
     }
 
     /// Stores a word, after which the pass has another hand.
     pub(crate) fn put<P: Puts>(&self, pass: &mut Pass<R>, at: usize, new: u64)
-        requires own { (pass.old.seat.table_id ≡ self.now.table.shared.table_id) }
-        requires inside { at < site_width self.now.table.shared.key }
-        requires holds { KeepsHold R.rests pass.old.seat.me.0.view P.hand }
-        requires keeps { (s : List ℕ) (hs : List Hand) → SiteKept R.O.object R.unavailable R.O.WORDS self.now.table.shared.key (lay self.now.table.shared.key s) hs → get_elem? hs pass.old.seat.id ≡ some pass.old.seat.me.0.view.hand → SiteKept R.O.object R.unavailable R.O.WORDS self.now.table.shared.key (lay self.now.table.shared.key (slice_set s at new)) (slice_set hs pass.old.seat.id P.hand) × Grows (lay self.now.table.shared.key s) (lay self.now.table.shared.key (slice_set s at new)) }
-        ensures own { (pass.new.seat.table_id ≡ pass.old.seat.table_id) × (pass.new.seat.id ≡ pass.old.seat.id) × (pass.new.seat.me.1 ≡ pass.old.seat.me.1) }
-        ensures face { pass.new.face ≡ pass.old.face }
-        ensures kept { pass.new.seat.me.0.view ≡ handed pass.old.seat.me.0.view P.hand }
+        requires own { IsOneOf self.now pass.old }
+        requires inside { at < site_width (plan_of self.now) }
+        requires holds { KeepsHold R.rests (view_of pass.old) P.hand }
+        requires keeps { MayPut R.O.object R.unavailable R.O.WORDS self.now pass.old at new P.hand }
+        ensures own { KeepsSeat pass.old pass.new }
+        ensures face { SaysSame pass.old pass.new }
+        ensures kept { view_of pass.new ≡ handed (view_of pass.old) P.hand }
     {
-        self.store::<Put<P>>(pass, LOCK_WORDS + at, new)
+        self.step::<Put<P>>(pass, LOCK_WORDS + at, Op::Store(new));
+    }
+
+    /// Adds to a word, after which the pass has another hand.
+    pub(crate) fn add<P: Puts>(&self, pass: &mut Pass<R>, at: usize, by: u64)
+        requires own { IsOneOf self.now pass.old }
+        requires inside { at < site_width (plan_of self.now) }
+        requires holds { KeepsHold R.rests (view_of pass.old) P.hand }
+        requires keeps { MayAdd R.O.object R.unavailable R.O.WORDS self.now pass.old at by P.hand }
+        ensures own { KeepsSeat pass.old pass.new }
+        ensures face { SaysSame pass.old pass.new }
+        ensures kept { view_of pass.new ≡ handed (view_of pass.old) P.hand }
+    {
+        self.step::<Put<P>>(pass, LOCK_WORDS + at, Op::Add(by));
     }
 
     /// Takes a task's number where nobody has it, and says whether it did. The pass then has such a hand.
     pub(crate) fn take<B: Becomes>(&self, pass: &mut Pass<R>, task: u32) -> bool
-        requires own { pass.old.seat.table_id ≡ self.now.table.shared.table_id }
-        requires inside { task < 64 }
-        requires keeps { (s : List ℕ) (hs : List Hand) → SiteKept R.O.object R.unavailable R.O.WORDS self.now.table.shared.key (lay self.now.table.shared.key s) hs → get_elem? hs pass.old.seat.id ≡ some pass.old.seat.me.0.view.hand → slice_index s (LINES_AT + 8 * task) ≡ 0 → (g : Hand) × B.becomes g × KeepsHold R.rests pass.old.seat.me.0.view g × SiteKept R.O.object R.unavailable R.O.WORDS self.now.table.shared.key (lay self.now.table.shared.key (slice_set s (LINES_AT + 8 * task) 1)) (slice_set hs pass.old.seat.id g) × Grows (lay self.now.table.shared.key s) (lay self.now.table.shared.key (slice_set s (LINES_AT + 8 * task) 1)) }
-        ensures own { (pass.new.seat.table_id ≡ pass.old.seat.table_id) × (pass.new.seat.id ≡ pass.old.seat.id) × (pass.new.seat.me.1 ≡ pass.old.seat.me.1) }
-        ensures face { pass.new.face ≡ pass.old.face }
-        ensures taken { result ≡ true → (g : Hand) × B.becomes g × (pass.new.seat.me.0.view ≡ handed pass.old.seat.me.0.view g) }
-        ensures missed { result ≡ false → pass.new.seat.me.0.view ≡ ticked pass.old.seat.me.0.view }
+        requires own { IsOneOf self.now pass.old }
+        requires inside { task < MAX_TASKS }
+        requires keeps { MayTake R.O.object R.unavailable R.O.WORDS self.now pass.old
+            (LINES_AT + 8 * task) B.becomes R.rests }
+        ensures own { KeepsSeat pass.old pass.new }
+        ensures face { SaysSame pass.old pass.new }
+        ensures taken { result ≡ true →
+            (g : Hand) × B.becomes g × (view_of pass.new ≡ handed (view_of pass.old) g) }
+        ensures missed { result ≡ false → view_of pass.new ≡ ticked (view_of pass.old) }
     {
-        self.exchange::<Begin<B>>(pass, LOCK_WORDS + (LINES_AT + 8 * task as usize), 0, 1) == 0
+        self.step::<Begin<B>>(
+            pass,
+            LOCK_WORDS + (LINES_AT + 8 * task as usize),
+            Op::Exchange(0, 1),
+        ) == 0
     }
 }

@@ -1,12 +1,13 @@
 //! What each step tells its pass. A call picks the facts and hands that it needs by `Brand`.
-ghost use Rattle.std.specs.Prelude.{◌≡◌, ℕ, None, [], slice_index};
-ghost use Rattle.lock_core.specs.Passes.{IsLength, IsEntryAt, IsCallWord, IsRecWord};
+ghost use Rattle.std.specs.Prelude.{◌≡◌, ℕ, None, Some, [], slice_index};
+ghost use Rattle.lock_core.specs.Passes.{IsLength, IsEntryAt, IsCallWord, IsRecWord, IsTaken};
+ghost use Rattle.lock_core.specs.Chronicles.{Chronicles};
 ghost use Rattle.lock_core.specs.declared.view.Hand.{Hand};
 ghost use Rattle.lock_core.specs.Views.{stranger, ticked, split_off, merged, spent};
 ghost use Rattle.lock_core.specs.Plays.{Found, PutBy, Begun};
-ghost use Rattle.lock_core.specs.Pasts.{unseen, FoundAt, Paced};
+ghost use Rattle.lock_core.specs.Pasts.{unseen, FoundAt, IsOwnStep, Moves, Ran, GoesOn, opening};
+ghost use Rattle.word_bits.specs.Histories.{Plan as Calls};
 
-use super::laws::Between;
 use crate::rule::SiteRule;
 use crate::view::{Seen, View};
 use atomic_table::{Join, Play, Split};
@@ -31,6 +32,15 @@ impl Tells for Length {
     ghost tells = { IsLength };
 }
 
+/// The length of the log and what it says of all calls, for a pass that holds.
+pub(super) struct Chronicle<R> {
+    rule: PhantomData<R>,
+}
+
+impl<R: SiteRule> Tells for Chronicle<R> {
+    ghost tells = { λ h at n. IsLength h at n × ((k : Calls) → h.plan ≡ Some k → Chronicles R.O.object R.unavailable k h.records h.log) };
+}
+
 /// The word of an entry of the log, for a pass that holds.
 pub(super) struct LogEntry;
 
@@ -50,6 +60,13 @@ pub(super) struct RecWord;
 
 impl Tells for RecWord {
     ghost tells = { IsRecWord };
+}
+
+/// How many signals the pass's task has consumed.
+pub(super) struct Taken;
+
+impl Tells for Taken {
+    ghost tells = { IsTaken };
 }
 
 /// The hand that a store leaves.
@@ -100,7 +117,7 @@ pub(super) struct Lift<M> {
 }
 
 impl<E, M: Play<(), View<E>>> Play<(), Seen<E>> for Lift<M> {
-    ghost then = { λ st m n m'. M.then st (unseen m) n (unseen m') };
+    ghost then = { λ st m n m'. M.then st (unseen m) n (unseen m') × GoesOn m.0.past m'.0.past × IsOwnStep m'.0.view m'.0.past };
 }
 
 /// The same, beside what the step found in its word.
@@ -109,15 +126,15 @@ pub(super) struct LiftFound<M> {
 }
 
 impl<E, M: Play<(), View<E>>> Play<(), Seen<E>> for LiftFound<M> {
-    ghost then = { λ st m n m'. M.then st (unseen m) n (unseen m') × FoundAt st.word n m'.0.past };
+    ghost then = { λ st m n m'. M.then st (unseen m) n (unseen m') × FoundAt st.word n m'.0.past × GoesOn m.0.past m'.0.past × IsOwnStep m'.0.view m'.0.past };
 }
 
-pub(super) struct Recall<N> {
-    between: PhantomData<N>,
+pub(super) struct Recall<R> {
+    rule: PhantomData<R>,
 }
 
-impl<E, N: Between> Play<(), Seen<E>> for Recall<N> {
-    ghost then = { λ st m n m'. (m'.0.view ≡ ticked m.0.view) × (m'.1 ≡ m.1) × Paced N.between m'.0.past };
+impl<R: SiteRule> Play<(), Seen<R::Ext>> for Recall<R> {
+    ghost then = { λ st m n m'. (m'.0.view ≡ ticked m.0.view) × (m'.1 ≡ m.1) × GoesOn m.0.past m'.0.past × IsOwnStep m'.0.view m'.0.past × ((k : Calls) → m.0.view.hand.plan ≡ Some k → Ran R.marks (opening R.marks k R.idle) (Moves (R.holds k) (R.moves k)) m'.0.past) };
 }
 
 pub(super) struct Cut<R> {
@@ -127,7 +144,7 @@ pub(super) struct Cut<R> {
 impl<R: SiteRule> Split<Seen<R::Ext>> for Cut<R> {
     ghost left = { λ v. record v { view = ticked v.view } };
 
-    ghost right = { λ v. record { view = split_off R.idle v.view; past = [] } };
+    ghost right = { λ v. record { view = split_off R.idle v.view; past = v.past } };
 }
 
 pub(super) struct Glue<R> {

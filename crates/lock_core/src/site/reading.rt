@@ -4,11 +4,12 @@ ghost use Rattle.word_bits.specs.declared.rec.Rec.{Rec as Record};
 ghost use Rattle.word_bits.specs.RecWord.{IsRec, rec_word};
 ghost use Rattle.lock_core.specs.Plans.{calls_in, start};
 ghost use Rattle.lock_core.specs.declared.layout.TheConstants.{LOCK_WORDS};
-ghost use Rattle.lock_core.specs.Layout.{recs_at};
+ghost use Rattle.lock_core.specs.Layout.{recs_at, record_place};
 ghost use Rattle.lock_core.specs.Records.{row};
 ghost use Rattle.lock_core.specs.Pasts.{FoundAt};
 ghost use Rattle.lock_core.specs.Views.{ticked, Knows};
-ghost use Rattle.lock_core.specs.Passes.{Sits, Shows};
+ghost use Rattle.lock_core.specs.Passes.{Shows};
+ghost use Rattle.lock_core.specs.Handles.{plan_of, view_of, hand_in, past_of, task_in, done_in, SitsAt, IsOneOf, KeepsSeat, KeepsPast, SaysSame, IsLatest};
 
 use super::Site;
 use super::plays::{CallWord, RecWord};
@@ -20,33 +21,33 @@ use word_bits::CallWords;
 impl<R: SiteRule> Site<R> {
     /// How many tasks the plan has.
     pub fn tasks(&self) -> u32
-        ensures { result ≡ length self.now.table.shared.key }
+        ensures { result ≡ length (plan_of self.now) }
     {
         (self.starts.len() - 1) as u32
     }
 
     /// How many calls stand before those of a task. Behind the last task it is how many there are.
     fn start(&self, task: usize) -> usize
-        requires { task ≤ length self.now.table.shared.key }
-        ensures { result ≡ start self.now.table.shared.key task }
+        requires { task ≤ length (plan_of self.now) }
+        ensures { result ≡ start (plan_of self.now) task }
     {
         self.starts[task]
     }
 
     /// How many calls a task has.
     pub fn calls(&self, task: u32) -> u32
-        requires { task < length self.now.table.shared.key }
-        ensures { result ≡ length (row self.now.table.shared.key task) }
+        requires { task < length (plan_of self.now) }
+        ensures { result ≡ length (row (plan_of self.now) task) }
     {
         (self.start(task as usize + 1) - self.start(task as usize)) as u32
     }
 
     /// The number of a call among the calls of all tasks.
     pub(crate) fn place(&self, task: u32, call: u32) -> usize
-        requires task { task < length self.now.table.shared.key }
-        requires call { call < length (row self.now.table.shared.key task) }
-        ensures place { result ≡ start self.now.table.shared.key task + call }
-        ensures inside { result < calls_in self.now.table.shared.key }
+        requires task { task < length (plan_of self.now) }
+        requires call { call < length (row (plan_of self.now) task) }
+        ensures place { result ≡ start (plan_of self.now) task + call }
+        ensures inside { result < calls_in (plan_of self.now) }
         ensures few { result < 131072 }
     {
         self.start(task as usize) + call as usize
@@ -54,41 +55,47 @@ impl<R: SiteRule> Site<R> {
 
     /// The words of a call of the plan.
     pub fn call(&self, pass: &mut Pass<R>, task: u32, call: u32) -> CallWords
-        requires own { Sits self.now.table.shared.key self.now.table.shared.table_id pass.old.seat.table_id pass.old.seat.me pass.old.face }
-        requires task { task < length self.now.table.shared.key }
-        requires call { call < length (row self.now.table.shared.key task) }
-        ensures own { Sits self.now.table.shared.key self.now.table.shared.table_id pass.new.seat.table_id pass.new.seat.me pass.new.face }
-        ensures kept { pass.new.seat.me.0.view ≡ ticked (ticked pass.old.seat.me.0.view) }
-        ensures words { slice_get (row self.now.table.shared.key task) call ≡ Some result }
+        requires own { SitsAt self.now pass.old }
+        requires task { task < length (plan_of self.now) }
+        requires call { call < length (row (plan_of self.now) task) }
+        ensures own { SitsAt self.now pass.new }
+        ensures goes_on { KeepsPast pass.old pass.new }
+        ensures last { IsLatest pass.new }
+        ensures kept { view_of pass.new ≡ ticked (ticked (view_of pass.old)) }
+        ensures words { slice_get (row (plan_of self.now) task) call ≡ Some result }
     {
         self.load_call(pass, task, call)
     }
 
     /// The word of a call's record, and 0 where the call has none.
     pub fn rec_word(&self, pass: &mut Pass<R>, task: u32, call: u32) -> u64
-        requires own { Sits self.now.table.shared.key self.now.table.shared.table_id pass.old.seat.table_id pass.old.seat.me pass.old.face }
-        requires task { task < length self.now.table.shared.key }
-        requires call { call < length (row self.now.table.shared.key task) }
-        ensures own { Sits self.now.table.shared.key self.now.table.shared.table_id pass.new.seat.table_id pass.new.seat.me pass.new.face }
-        ensures kept { pass.new.seat.me.0.view ≡ ticked pass.old.seat.me.0.view }
-        ensures known { (r : Record) → Knows pass.old.seat.me.0.view.hand (record { task = task; call = call }) r → result ≡ rec_word r }
+        requires own { SitsAt self.now pass.old }
+        requires task { task < length (plan_of self.now) }
+        requires call { call < length (row (plan_of self.now) task) }
+        ensures own { SitsAt self.now pass.new }
+        ensures goes_on { KeepsPast pass.old pass.new }
+        ensures last { IsLatest pass.new }
+        ensures kept { view_of pass.new ≡ ticked (view_of pass.old) }
+        ensures known { (r : Record) →
+            Knows (hand_in pass.old) (record { task = task; call = call }) r → result ≡ rec_word r }
         ensures made { result ≢ 0 → (r : Record) × IsRec r × (result ≡ rec_word r) }
-        ensures there { FoundAt (LOCK_WORDS + (recs_at self.now.table.shared.key + (start self.now.table.shared.key task + call))) result pass.new.seat.me.0.past }
-        ensures mine { pass.old.face.task ≡ Some task → pass.old.face.done ≤ call → result ≡ 0 }
+        ensures there { FoundAt
+            (record_place (plan_of self.now) task call) result (past_of pass.new) }
+        ensures mine { task_in pass.old ≡ Some task → (done_in pass.old) ≤ call → result ≡ 0 }
     {
         self.record(pass, task, call)
     }
 
     /// Loads the words of a call.
     pub(crate) fn load_call(&self, pass: &mut Pass<R>, task: u32, call: u32) -> CallWords
-        requires own { pass.old.seat.table_id ≡ self.now.table.shared.table_id }
-        requires plan { pass.old.seat.me.0.view.hand.plan ≡ Some self.now.table.shared.key }
-        requires task { task < length self.now.table.shared.key }
-        requires call { call < length (row self.now.table.shared.key task) }
-        ensures own { (pass.new.seat.table_id ≡ pass.old.seat.table_id) × (pass.new.seat.id ≡ pass.old.seat.id) × (pass.new.seat.me.1 ≡ pass.old.seat.me.1) }
-        ensures face { pass.new.face ≡ pass.old.face }
-        ensures kept { pass.new.seat.me.0.view ≡ ticked (ticked pass.old.seat.me.0.view) }
-        ensures words { slice_get (row self.now.table.shared.key task) call ≡ Some result }
+        requires own { IsOneOf self.now pass.old }
+        requires plan { (hand_in pass.old).plan ≡ Some (plan_of self.now) }
+        requires task { task < length (plan_of self.now) }
+        requires call { call < length (row (plan_of self.now) task) }
+        ensures own { KeepsSeat pass.old pass.new }
+        ensures face { SaysSame pass.old pass.new }
+        ensures kept { view_of pass.new ≡ ticked (ticked (view_of pass.old)) }
+        ensures words { slice_get (row (plan_of self.now) task) call ≡ Some result }
     {
         let at = ENTRIES_AT + 2 * self.count + 2 * self.place(task, call);
         let a = self.find::<CallWord>(pass, at);
@@ -98,15 +105,16 @@ impl<R: SiteRule> Site<R> {
 
     /// Loads the word of a call's record.
     pub(crate) fn record(&self, pass: &mut Pass<R>, task: u32, call: u32) -> u64
-        requires own { pass.old.seat.table_id ≡ self.now.table.shared.table_id }
-        requires plan { pass.old.seat.me.0.view.hand.plan ≡ Some self.now.table.shared.key }
-        requires task { task < length self.now.table.shared.key }
-        requires call { call < length (row self.now.table.shared.key task) }
-        ensures own { (pass.new.seat.table_id ≡ pass.old.seat.table_id) × (pass.new.seat.id ≡ pass.old.seat.id) × (pass.new.seat.me.1 ≡ pass.old.seat.me.1) }
-        ensures face { pass.new.face ≡ pass.old.face }
-        ensures kept { pass.new.seat.me.0.view ≡ ticked pass.old.seat.me.0.view }
-        ensures there { FoundAt (LOCK_WORDS + (recs_at self.now.table.shared.key + (start self.now.table.shared.key task + call))) result pass.new.seat.me.0.past }
-        ensures shows { Shows pass.old.seat.me.0.view.hand (record { task = task; call = call }) result }
+        requires own { IsOneOf self.now pass.old }
+        requires plan { (hand_in pass.old).plan ≡ Some (plan_of self.now) }
+        requires task { task < length (plan_of self.now) }
+        requires call { call < length (row (plan_of self.now) task) }
+        ensures own { KeepsSeat pass.old pass.new }
+        ensures face { SaysSame pass.old pass.new }
+        ensures kept { view_of pass.new ≡ ticked (view_of pass.old) }
+        ensures there { FoundAt
+            (record_place (plan_of self.now) task call) result (past_of pass.new) }
+        ensures shows { Shows (hand_in pass.old) (record { task = task; call = call }) result }
     {
         self.find::<RecWord>(pass, ENTRIES_AT + self.count + self.place(task, call))
     }

@@ -9,7 +9,8 @@ ghost use Rattle.lock_core.specs.declared.view.Hand.{Hand};
 ghost use Rattle.word_bits.specs.declared.entry.Entry.{Entry as Logged};
 ghost use Rattle.lock_core.specs.Records.{row, seen_by, AreNext};
 ghost use Rattle.lock_core.specs.Views.{handed, gave_up, Beside, HoldsNothing, Knows};
-ghost use Rattle.lock_core.specs.Passes.{Sits, Numbered};
+ghost use Rattle.lock_core.specs.Passes.{Numbered};
+ghost use Rattle.lock_core.specs.Handles.{plan_of, view_of, hand_in, task_in, front_in, SitsAt, IsOneOf, KeepsSeat, KeepsPast, SaysSame, IsLatest, TakesNumber};
 
 use super::Site;
 use crate::layout::LINES_AT;
@@ -21,15 +22,17 @@ use word_bits::{CallWords, Object, Rec, Reply};
 
 impl<R: SiteRule> Site<R> {
     /// Waits until nobody has the task's number, and takes it with the task's records. What the pass
-    /// saw of the lock is forgotten, and it has seen as many entries as the task.
+    /// saw of the lock's word is forgotten, and it has seen as many entries as the task.
     pub fn begin<W: Wait>(&self, rt: &W, pass: &mut Pass<R>, task: u32)
-        requires own { Sits self.now.table.shared.key self.now.table.shared.table_id pass.old.seat.table_id pass.old.seat.me pass.old.face }
-        requires numberless { pass.old.face.task ≡ None }
-        requires there { task < length self.now.table.shared.key }
-        ensures own { Sits self.now.table.shared.key self.now.table.shared.table_id pass.new.seat.table_id pass.new.seat.me pass.new.face }
-        ensures became { Numbered R.O.object R.unavailable self.now.table.shared.key pass.old.seat.me.0.view.hand task pass.new.seat.me.0.view.hand }
-        ensures beside { Beside pass.old.seat.me.0.view pass.new.seat.me.0.view }
-        ensures rises { pass.old.face.front ≤ pass.new.face.front }
+        requires own { SitsAt self.now pass.old }
+        requires numberless { task_in pass.old ≡ None }
+        requires there { task < length (plan_of self.now) }
+        ensures own { SitsAt self.now pass.new }
+        ensures goes_on { KeepsPast pass.old pass.new }
+        ensures last { IsLatest pass.new }
+        ensures became { TakesNumber R.O.object R.unavailable self.now task pass.old pass.new }
+        ensures beside { Beside (view_of pass.old) (view_of pass.new) }
+        ensures rises { (front_in pass.old) ≤ (front_in pass.new) }
     {
         self.take_number(rt, pass, task);
         let done = self.recorded(pass, task);
@@ -43,15 +46,16 @@ impl<R: SiteRule> Site<R> {
     }
 
     fn take_number<W: Wait>(&self, rt: &W, pass: &mut Pass<R>, task: u32)
-        requires own { pass.old.seat.table_id ≡ self.now.table.shared.table_id }
-        requires numberless { pass.old.seat.me.0.view.hand.task ≡ None }
-        requires there { task < length self.now.table.shared.key }
-        ensures own { (pass.new.seat.table_id ≡ pass.old.seat.table_id) × (pass.new.seat.id ≡ pass.old.seat.id) × (pass.new.seat.me.1 ≡ pass.old.seat.me.1) }
-        ensures face { pass.new.face ≡ pass.old.face }
-        ensures became { Numbered R.O.object R.unavailable self.now.table.shared.key pass.old.seat.me.0.view.hand task pass.new.seat.me.0.view.hand }
-        ensures beside { Beside pass.old.seat.me.0.view pass.new.seat.me.0.view }
+        requires own { IsOneOf self.now pass.old }
+        requires numberless { (hand_in pass.old).task ≡ None }
+        requires there { task < length (plan_of self.now) }
+        ensures own { KeepsSeat pass.old pass.new }
+        ensures face { SaysSame pass.old pass.new }
+        ensures became { TakesNumber R.O.object R.unavailable self.now task pass.old pass.new }
+        ensures beside { Beside (view_of pass.old) (view_of pass.new) }
     {
         for _ in rt.forever() {
+            // Of two passes that want the number, one finds the other's 1.
             if self.take::<Brand>(pass, task) {
                 return;
             }
@@ -61,18 +65,22 @@ impl<R: SiteRule> Site<R> {
 
     /// How many of its task's calls are recorded: the first of so many, and no other.
     fn recorded(&self, pass: &mut Pass<R>, task: u32) -> u32
-        requires own { pass.old.seat.table_id ≡ self.now.table.shared.table_id }
-        requires plan { pass.old.seat.me.0.view.hand.plan ≡ Some self.now.table.shared.key }
-        requires there { task < length self.now.table.shared.key }
-        requires mine { pass.old.seat.me.0.view.hand.task ≡ Some task }
-        requires short { pass.old.seat.me.0.view.hand.done ≤ length (row self.now.table.shared.key task) }
-        requires known { (c : ℕ) → c < pass.old.seat.me.0.view.hand.done → (r : Record) × Knows pass.old.seat.me.0.view.hand (record { task = task; call = c }) r }
-        ensures own { (pass.new.seat.table_id ≡ pass.old.seat.table_id) × (pass.new.seat.id ≡ pass.old.seat.id) × (pass.new.seat.me.1 ≡ pass.old.seat.me.1) }
-        ensures face { pass.new.face ≡ pass.old.face }
-        ensures kept { pass.new.seat.me.0.view.hand ≡ pass.old.seat.me.0.view.hand }
-        ensures count { result ≡ pass.old.seat.me.0.view.hand.done }
-        ensures beside { Beside pass.old.seat.me.0.view pass.new.seat.me.0.view }
+        requires own { IsOneOf self.now pass.old }
+        requires latest { IsLatest pass.old }
+        requires plan { (hand_in pass.old).plan ≡ Some (plan_of self.now) }
+        requires there { task < length (plan_of self.now) }
+        requires mine { (hand_in pass.old).task ≡ Some task }
+        requires short { (hand_in pass.old).done ≤ length (row (plan_of self.now) task) }
+        requires known { (c : ℕ) → c < (hand_in pass.old).done →
+            (r : Record) × Knows (hand_in pass.old) (record { task = task; call = c }) r }
+        ensures own { KeepsSeat pass.old pass.new }
+        ensures face { SaysSame pass.old pass.new }
+        ensures kept { hand_in pass.new ≡ hand_in pass.old }
+        ensures count { result ≡ (hand_in pass.old).done }
+        ensures beside { Beside (view_of pass.old) (view_of pass.new) }
     {
+        // Nobody else records for the task while its number is taken, so the border between its calls
+        // with and without a record stays where it is during the search.
         let mut low = 0;
         let mut high = self.calls(task);
         while low < high {
@@ -88,15 +96,21 @@ impl<R: SiteRule> Site<R> {
 
     /// How many entries a task has seen whose first calls have these records.
     fn task_seen(&self, pass: &mut Pass<R>, task: u32, done: u32) -> u32
-        requires own { pass.old.seat.table_id ≡ self.now.table.shared.table_id }
-        requires plan { pass.old.seat.me.0.view.hand.plan ≡ Some self.now.table.shared.key }
-        requires there { task < length self.now.table.shared.key }
-        requires short { done ≤ length (row self.now.table.shared.key task) }
-        ensures own { (pass.new.seat.table_id ≡ pass.old.seat.table_id) × (pass.new.seat.id ≡ pass.old.seat.id) × (pass.new.seat.me.1 ≡ pass.old.seat.me.1) }
-        ensures face { pass.new.face ≡ pass.old.face }
-        ensures kept { pass.new.seat.me.0.view.hand ≡ pass.old.seat.me.0.view.hand }
-        ensures seen { (rs : List Record) (log : List Logged) → length rs ≡ done → AreNext R.O.object R.unavailable self.now.table.shared.key log task 0 0 (row self.now.table.shared.key task) rs → ((c : ℕ) (r : Record) → slice_get rs c ≡ Some r → Knows pass.old.seat.me.0.view.hand (record { task = task; call = c }) r) → result ≡ seen_by R.O.object 0 (row self.now.table.shared.key task) rs }
-        ensures beside { Beside pass.old.seat.me.0.view pass.new.seat.me.0.view }
+        requires own { IsOneOf self.now pass.old }
+        requires latest { IsLatest pass.old }
+        requires plan { (hand_in pass.old).plan ≡ Some (plan_of self.now) }
+        requires there { task < length (plan_of self.now) }
+        requires short { done ≤ length (row (plan_of self.now) task) }
+        ensures own { KeepsSeat pass.old pass.new }
+        ensures face { SaysSame pass.old pass.new }
+        ensures kept { hand_in pass.new ≡ hand_in pass.old }
+        ensures seen { (rs : List Record) (log : List Logged) → length rs ≡ done →
+            AreNext R.O.object R.unavailable (plan_of self.now) log task 0 0
+            (row (plan_of self.now) task) rs →
+            ((c : ℕ) (r : Record) → slice_get rs c ≡ Some r →
+            Knows (hand_in pass.old) (record { task = task; call = c }) r) →
+            result ≡ seen_by R.O.object 0 (row (plan_of self.now) task) rs }
+        ensures beside { Beside (view_of pass.old) (view_of pass.new) }
     {
         if done == 0 {
             return 0;
@@ -106,15 +120,18 @@ impl<R: SiteRule> Site<R> {
 
     /// How many entries a task had seen after a call.
     fn seen(&self, pass: &mut Pass<R>, task: u32, call: u32) -> u32
-        requires own { pass.old.seat.table_id ≡ self.now.table.shared.table_id }
-        requires plan { pass.old.seat.me.0.view.hand.plan ≡ Some self.now.table.shared.key }
-        requires there { task < length self.now.table.shared.key }
-        requires call { call < length (row self.now.table.shared.key task) }
-        ensures own { (pass.new.seat.table_id ≡ pass.old.seat.table_id) × (pass.new.seat.id ≡ pass.old.seat.id) × (pass.new.seat.me.1 ≡ pass.old.seat.me.1) }
-        ensures face { pass.new.face ≡ pass.old.face }
-        ensures kept { pass.new.seat.me.0.view.hand ≡ pass.old.seat.me.0.view.hand }
-        ensures seen { (w : Words) (r : Record) → slice_get (row self.now.table.shared.key task) call ≡ Some w → Knows pass.old.seat.me.0.view.hand (record { task = task; call = call }) r → IsRec r → result ≡ seen_after (logs R.O.object w r.reply) r }
-        ensures beside { Beside pass.old.seat.me.0.view pass.new.seat.me.0.view }
+        requires own { IsOneOf self.now pass.old }
+        requires plan { (hand_in pass.old).plan ≡ Some (plan_of self.now) }
+        requires there { task < length (plan_of self.now) }
+        requires call { call < length (row (plan_of self.now) task) }
+        ensures own { KeepsSeat pass.old pass.new }
+        ensures face { SaysSame pass.old pass.new }
+        ensures kept { hand_in pass.new ≡ hand_in pass.old }
+        ensures seen { (w : Words) (r : Record) →
+            slice_get (row (plan_of self.now) task) call ≡ Some w →
+            Knows (hand_in pass.old) (record { task = task; call = call }) r → IsRec r →
+            result ≡ seen_after (logs R.O.object w r.reply) r }
+        ensures beside { Beside (view_of pass.old) (view_of pass.new) }
     {
         let word = self.record(pass, task, call);
         let words = self.load_call(pass, task, call);
@@ -126,12 +143,14 @@ impl<R: SiteRule> Site<R> {
 
     /// Gives the pass's number back.
     pub fn end(&self, pass: &mut Pass<R>)
-        requires own { Sits self.now.table.shared.key self.now.table.shared.table_id pass.old.seat.table_id pass.old.seat.me pass.old.face }
-        requires numbered { IsSome pass.old.face.task }
-        requires rests { HoldsNothing pass.old.seat.me.0.view × R.rests pass.old.seat.me.0.view }
-        requires recorded { (pass.old.seat.me.0.view.hand.sent ≡ None) × (pass.old.seat.me.0.view.hand.consumed ≡ false) }
-        ensures own { Sits self.now.table.shared.key self.now.table.shared.table_id pass.new.seat.table_id pass.new.seat.me pass.new.face }
-        ensures kept { pass.new.seat.me.0.view ≡ handed pass.old.seat.me.0.view (gave_up pass.old.seat.me.0.view.hand) }
+        requires own { SitsAt self.now pass.old }
+        requires numbered { IsSome (task_in pass.old) }
+        requires rests { HoldsNothing (view_of pass.old) × R.rests (view_of pass.old) }
+        requires recorded { ((hand_in pass.old).sent ≡ None) × ((hand_in pass.old).consumed ≡ 0) }
+        ensures own { SitsAt self.now pass.new }
+        ensures goes_on { KeepsPast pass.old pass.new }
+        ensures last { IsLatest pass.new }
+        ensures kept { view_of pass.new ≡ handed (view_of pass.old) (gave_up (hand_in pass.old)) }
     {
         if let Some(task) = pass.face.task {
             self.put::<Brand>(pass, LINES_AT + 8 * task as usize, 0);

@@ -1,19 +1,23 @@
 //! The words of the object, the log and the records: what a holder reads and writes, and how a call
 //! is recorded.
-ghost use Rattle.std.specs.Prelude.{◌≡◌, ◌≢◌, ◌+◌, ◌*◌, ◌<◌, ◌≤◌, ℕ, List, length, slice_get, slice_index, Some};
+ghost use Rattle.std.specs.Prelude.{◌≡◌, ◌≢◌, ◌+◌, ◌*◌, ◌<◌, ◌≤◌, ℕ, List, length, slice_get, slice_index, Some, None, IsSome};
 ghost use Rattle.word_bits.specs.declared.call.CallWords.{CallWords as Words};
 ghost use Rattle.word_bits.specs.declared.entry.Entry.{Entry as Logged};
-ghost use Rattle.word_bits.specs.declared.reply.Reply.TheVariants.{Busy};
+ghost use Rattle.word_bits.specs.declared.reply.Reply.TheVariants.{Busy, Intr, Sent};
 ghost use Rattle.word_bits.specs.EntryWord.{IsEntry, entry_word};
 ghost use Rattle.lock_core.specs.declared.view.Held.TheVariants.{No, Alone};
 ghost use Rattle.lock_core.specs.declared.view.Stage.TheVariants.{Rest, Entered};
+ghost use Rattle.lock_core.specs.declared.layout.TheConstants.{LOCK_WORDS};
+ghost use Rattle.lock_core.specs.Layout.{entry_place, length_place};
+ghost use Rattle.lock_core.specs.Pasts.{FoundAt};
 ghost use Rattle.lock_core.specs.Plans.{calls_in};
-ghost use Rattle.lock_core.specs.Records.{row};
-ghost use Rattle.lock_core.specs.Views.{ticked, handed, wrote, entered, logged, recorded, committed, noted, note_steps};
-ghost use Rattle.lock_core.specs.Passes.{Sits, IsLength, IsChange, IsReading, IsBusy, MayRecord, MayNote};
+ghost use Rattle.lock_core.specs.Views.{ticked, handed, wrote, entered, logged, recorded, committed, noted, note_steps, settled, next_entry, Unsent, after_commit, after_note};
+ghost use Rattle.lock_core.specs.Chronicles.{Chronicles};
+ghost use Rattle.lock_core.specs.Passes.{IsLength, IsChange, IsReading, IsBusy, IsInterrupted, IsSent, MayRecord, MayNote, IsEntryWord};
+ghost use Rattle.lock_core.specs.Handles.{plan_of, view_of, hand_in, past_of, task_in, held_in, done_in, front_in, SitsAt, IsOneOf, KeepsSeat, KeepsPast, SaysSame, IsLatest, IsNextChange, IsNextReading, MayNoteNext};
 
 use super::Site;
-use super::plays::{Guarded, Length, LogEntry, Puts};
+use super::plays::{Chronicle, Guarded, Length, LogEntry, Puts};
 use crate::layout::{ENTRIES_AT, LENGTH_AT};
 use crate::pass::Pass;
 use crate::rule::SiteRule;
@@ -23,46 +27,61 @@ use word_bits::{Entry, Rec, Reply};
 impl<R: SiteRule> Site<R> {
     /// A guarded word.
     pub fn word(&self, pass: &mut Pass<R>, at: usize) -> u64
-        requires own { Sits self.now.table.shared.key self.now.table.shared.table_id pass.old.seat.table_id pass.old.seat.me pass.old.face }
-        requires held { pass.old.face.held ≢ No }
+        requires own { SitsAt self.now pass.old }
+        requires held { (held_in pass.old) ≢ No }
         requires inside { at < R.O.WORDS }
-        ensures own { Sits self.now.table.shared.key self.now.table.shared.table_id pass.new.seat.table_id pass.new.seat.me pass.new.face }
-        ensures kept { pass.new.seat.me.0.view ≡ ticked pass.old.seat.me.0.view }
-        ensures value { result ≡ slice_index pass.old.seat.me.0.view.hand.known at }
+        ensures own { SitsAt self.now pass.new }
+        ensures goes_on { KeepsPast pass.old pass.new }
+        ensures last { IsLatest pass.new }
+        ensures kept { view_of pass.new ≡ ticked (view_of pass.old) }
+        ensures value { result ≡ slice_index (hand_in pass.old).known at }
+        ensures found { FoundAt (LOCK_WORDS + at) result (past_of pass.new) }
     {
         self.find::<Guarded>(pass, at)
     }
 
-    /// The length of the log.
+    /// The length of the log. With it the pass knows that each entry has its record, and that all
+    /// records are legal.
     pub fn log_len(&self, pass: &mut Pass<R>) -> u32
-        requires own { Sits self.now.table.shared.key self.now.table.shared.table_id pass.old.seat.table_id pass.old.seat.me pass.old.face }
-        requires held { pass.old.face.held ≢ No }
-        ensures own { Sits self.now.table.shared.key self.now.table.shared.table_id pass.new.seat.table_id pass.new.seat.me pass.new.face }
-        ensures kept { pass.new.seat.me.0.view ≡ ticked pass.old.seat.me.0.view }
-        ensures value { result ≡ length pass.old.seat.me.0.view.hand.log }
+        requires own { SitsAt self.now pass.old }
+        requires held { (held_in pass.old) ≢ No }
+        ensures own { SitsAt self.now pass.new }
+        ensures goes_on { KeepsPast pass.old pass.new }
+        ensures last { IsLatest pass.new }
+        ensures kept { view_of pass.new ≡ ticked (view_of pass.old) }
+        ensures history { Chronicles R.O.object R.unavailable (plan_of self.now)
+            (hand_in pass.old).records (hand_in pass.old).log }
+        ensures value { result ≡ length (hand_in pass.old).log }
+        ensures found { FoundAt length_place result (past_of pass.new) }
     {
-        self.length(pass)
+        self.find::<Chronicle<R>>(pass, LENGTH_AT) as u32
     }
 
     /// The word of an entry of the log.
     pub fn log_word(&self, pass: &mut Pass<R>, at: u32) -> u64
-        requires own { Sits self.now.table.shared.key self.now.table.shared.table_id pass.old.seat.table_id pass.old.seat.me pass.old.face }
-        requires held { pass.old.face.held ≢ No }
-        requires inside { at < length pass.old.seat.me.0.view.hand.log }
-        ensures own { Sits self.now.table.shared.key self.now.table.shared.table_id pass.new.seat.table_id pass.new.seat.me pass.new.face }
-        ensures kept { pass.new.seat.me.0.view ≡ ticked pass.old.seat.me.0.view }
-        ensures value { (e : Logged) → slice_get pass.old.seat.me.0.view.hand.log at ≡ Some e → result ≡ entry_word e }
+        requires own { SitsAt self.now pass.old }
+        requires held { (held_in pass.old) ≢ No }
+        requires inside { at < length (hand_in pass.old).log }
+        ensures own { SitsAt self.now pass.new }
+        ensures goes_on { KeepsPast pass.old pass.new }
+        ensures last { IsLatest pass.new }
+        ensures kept { view_of pass.new ≡ ticked (view_of pass.old) }
+        ensures value { IsEntryWord (hand_in pass.old) at result }
+        ensures found { FoundAt (entry_place at) result (past_of pass.new) }
     {
         self.find::<LogEntry>(pass, ENTRIES_AT + at as usize)
     }
 
     /// Writes a guarded word. Until its next commit the pass writes.
     pub fn set_word(&self, pass: &mut Pass<R>, at: usize, value: u64)
-        requires own { Sits self.now.table.shared.key self.now.table.shared.table_id pass.old.seat.table_id pass.old.seat.me pass.old.face }
-        requires held { pass.old.face.held ≡ Alone }
+        requires own { SitsAt self.now pass.old }
+        requires held { held_in pass.old ≡ Alone }
         requires inside { at < R.O.WORDS }
-        ensures own { Sits self.now.table.shared.key self.now.table.shared.table_id pass.new.seat.table_id pass.new.seat.me pass.new.face }
-        ensures kept { pass.new.seat.me.0.view ≡ handed pass.old.seat.me.0.view (wrote pass.old.seat.me.0.view.hand at value) }
+        ensures own { SitsAt self.now pass.new }
+        ensures goes_on { KeepsPast pass.old pass.new }
+        ensures last { IsLatest pass.new }
+        ensures kept { view_of pass.new ≡
+            handed (view_of pass.old) (wrote (hand_in pass.old) at value) }
     {
         self.put::<Brand>(pass, at, value);
     }
@@ -70,17 +89,26 @@ impl<R: SiteRule> Site<R> {
     /// Records the next call of the pass's task, which changes the object: the guarded words store what
     /// it leaves of the state after the log. The call is appended to the log.
     pub fn commit(&self, pass: &mut Pass<R>, call: u32, reply: Reply)
-        requires own { Sits self.now.table.shared.key self.now.table.shared.table_id pass.old.seat.table_id pass.old.seat.me pass.old.face }
-        requires held { pass.old.face.held ≡ Alone }
-        requires next { (task : ℕ) × (pass.old.face.task ≡ Some task) × (call ≡ pass.old.face.done) × (call < length (row self.now.table.shared.key task)) × IsChange R.O.object self.now.table.shared.key pass.old.seat.me.0.view.hand (record { task = task; call = call }) reply }
-        ensures own { Sits self.now.table.shared.key self.now.table.shared.table_id pass.new.seat.table_id pass.new.seat.me pass.new.face }
-        ensures kept { (task : ℕ) × (pass.old.face.task ≡ Some task) × (pass.new.seat.me.0.view ≡ record pass.old.seat.me.0.view { hand = committed pass.old.seat.me.0.view.hand (pass.old.seat.me.0.view.steps + 4) (record { task = task; call = call }) reply; steps = pass.old.seat.me.0.view.steps + 4 }) }
-        ensures rises { pass.old.face.front ≤ pass.new.face.front }
+        requires own { SitsAt self.now pass.old }
+        requires held { held_in pass.old ≡ Alone }
+        requires numbered { IsSome (task_in pass.old) }
+        requires call { call ≡ (done_in pass.old) }
+        requires unsent { (hand_in pass.old).sent ≡ None }
+        requires next { IsNextChange R.O.object self.now pass.old reply }
+        ensures own { SitsAt self.now pass.new }
+        ensures goes_on { KeepsPast pass.old pass.new }
+        ensures last { IsLatest pass.new }
+        ensures kept { view_of pass.new ≡ after_commit (view_of pass.old) reply }
+        ensures rises { (front_in pass.old) ≤ (front_in pass.new) }
     {
         if let Some(task) = pass.face.task {
             let k = self.length(pass);
             let entry = Entry { task, call };
+            // The entry comes before the length that counts it: whoever reads as far as the length
+            // says never finds a word that isn't there yet.
             self.enter(pass, k, entry);
+            // The length comes before the record: whoever finds the record finds its entry in the
+            // log. Until the record is stored the pass owes it.
             self.append(pass, k, entry);
             self.settle(pass, entry, Rec { k, reply });
             pass.face.done += 1;
@@ -92,27 +120,44 @@ impl<R: SiteRule> Site<R> {
     /// reads, and stands where the log ends. Where it holds nothing, the reply says why: the call stands
     /// where the pass saw the log end.
     pub fn note(&self, pass: &mut Pass<R>, call: u32, reply: Reply)
-        requires own { Sits self.now.table.shared.key self.now.table.shared.table_id pass.old.seat.table_id pass.old.seat.me pass.old.face }
-        requires next { (task : ℕ) × (pass.old.face.task ≡ Some task) × (call ≡ pass.old.face.done) × (call < length (row self.now.table.shared.key task)) × MayNote R.O.object R.unavailable self.now.table.shared.key pass.old.seat.me.0.view.hand (record { task = task; call = call }) reply }
-        ensures own { Sits self.now.table.shared.key self.now.table.shared.table_id pass.new.seat.table_id pass.new.seat.me pass.new.face }
-        ensures kept { (task : ℕ) × (pass.old.face.task ≡ Some task) × (pass.new.seat.me.0.view ≡ record pass.old.seat.me.0.view { hand = noted pass.old.seat.me.0.view.hand (pass.old.seat.me.0.view.steps + note_steps reply) (record { task = task; call = call }) reply; steps = pass.old.seat.me.0.view.steps + note_steps reply }) }
-        ensures rises { pass.old.face.front ≤ pass.new.face.front }
+        requires own { SitsAt self.now pass.old }
+        requires numbered { IsSome (task_in pass.old) }
+        requires call { call ≡ (done_in pass.old) }
+        requires unsent { Unsent (hand_in pass.old) reply }
+        requires next { MayNoteNext R.O.object R.unavailable self.now pass.old reply }
+        ensures own { SitsAt self.now pass.new }
+        ensures goes_on { KeepsPast pass.old pass.new }
+        ensures last { IsLatest pass.new }
+        ensures kept { view_of pass.new ≡ after_note (view_of pass.old) reply }
+        ensures rises { (front_in pass.old) ≤ (front_in pass.new) }
     {
         match reply {
             Reply::Busy(word) => self.note_busy(pass, call, word),
             Reply::Good | Reply::Num(_) | Reply::Refused(_) | Reply::MapErr | Reply::AccErr => {
                 self.note_read(pass, call, reply)
             }
-            Reply::Intr | Reply::Sent => {}
+            Reply::Intr => self.note_intr(pass, call),
+            Reply::Sent => self.note_sent(pass, call),
         }
     }
 
     fn note_read(&self, pass: &mut Pass<R>, call: u32, reply: Reply)
-        requires own { Sits self.now.table.shared.key self.now.table.shared.table_id pass.old.seat.table_id pass.old.seat.me pass.old.face }
-        requires next { (task : ℕ) × (pass.old.face.task ≡ Some task) × (call ≡ pass.old.face.done) × (call < length (row self.now.table.shared.key task)) × IsReading R.O.object self.now.table.shared.key pass.old.seat.me.0.view.hand (record { task = task; call = call }) reply }
-        ensures own { Sits self.now.table.shared.key self.now.table.shared.table_id pass.new.seat.table_id pass.new.seat.me pass.new.face }
-        ensures kept { (task : ℕ) × (pass.old.face.task ≡ Some task) × (pass.new.seat.me.0.view ≡ record pass.old.seat.me.0.view { hand = recorded pass.old.seat.me.0.view.hand (pass.old.seat.me.0.view.steps + 2) (record { task = task; call = call }) (record { k = length pass.old.seat.me.0.view.hand.log; reply = reply }) pass.old.seat.me.0.view.hand.log; steps = pass.old.seat.me.0.view.steps + 2 }) }
-        ensures rises { pass.old.face.front ≤ pass.new.face.front }
+        requires own { SitsAt self.now pass.old }
+        requires numbered { IsSome (task_in pass.old) }
+        requires call { call ≡ (done_in pass.old) }
+        requires unsent { (hand_in pass.old).sent ≡ None }
+        requires next { IsNextReading R.O.object self.now pass.old reply }
+        ensures own { SitsAt self.now pass.new }
+        ensures goes_on { KeepsPast pass.old pass.new }
+        ensures last { IsLatest pass.new }
+        ensures kept { view_of pass.new ≡ record (view_of pass.old) {
+          hand = recorded (hand_in pass.old) ((view_of pass.old).steps + 2)
+              (next_entry (hand_in pass.old))
+              (record { k = length (hand_in pass.old).log; reply = reply })
+              (hand_in pass.old).log;
+          steps = (view_of pass.old).steps + 2;
+        } }
+        ensures rises { (front_in pass.old) ≤ (front_in pass.new) }
     {
         if let Some(task) = pass.face.task {
             let k = self.length(pass);
@@ -123,13 +168,20 @@ impl<R: SiteRule> Site<R> {
     }
 
     fn note_busy(&self, pass: &mut Pass<R>, call: u32, word: u64)
-        requires own { Sits self.now.table.shared.key self.now.table.shared.table_id pass.old.seat.table_id pass.old.seat.me pass.old.face }
-        requires next { (task : ℕ) × (pass.old.face.task ≡ Some task) × (call ≡ pass.old.face.done) × (call < length (row self.now.table.shared.key task)) × IsBusy R.O.object R.unavailable self.now.table.shared.key pass.old.seat.me.0.view.hand (record { task = task; call = call }) word }
-        ensures own { Sits self.now.table.shared.key self.now.table.shared.table_id pass.new.seat.table_id pass.new.seat.me pass.new.face }
-        ensures kept { (task : ℕ) × (pass.old.face.task ≡ Some task) × (pass.new.seat.me.0.view ≡ record pass.old.seat.me.0.view { hand = noted pass.old.seat.me.0.view.hand (pass.old.seat.me.0.view.steps + 1) (record { task = task; call = call }) (Busy word); steps = pass.old.seat.me.0.view.steps + 1 }) }
-        ensures rises { pass.old.face.front ≤ pass.new.face.front }
+        requires own { SitsAt self.now pass.old }
+        requires numbered { IsSome (task_in pass.old) }
+        requires call { call ≡ (done_in pass.old) }
+        requires unsent { (hand_in pass.old).sent ≡ None }
+        requires next { MayNoteNext R.O.object R.unavailable self.now pass.old (Busy word) }
+        ensures own { SitsAt self.now pass.new }
+        ensures goes_on { KeepsPast pass.old pass.new }
+        ensures last { IsLatest pass.new }
+        ensures kept { view_of pass.new ≡ after_note (view_of pass.old) (Busy word) }
+        ensures rises { (front_in pass.old) ≤ (front_in pass.new) }
     {
         if let Some(task) = pass.face.task {
+            // The log may be longer by now: without a hold the call stands where the pass last saw
+            // it end.
             let rec = Rec {
                 k: pass.face.front,
                 reply: Reply::Busy(word),
@@ -139,81 +191,140 @@ impl<R: SiteRule> Site<R> {
         }
     }
 
+    fn note_intr(&self, pass: &mut Pass<R>, call: u32)
+        requires own { SitsAt self.now pass.old }
+        requires numbered { IsSome (task_in pass.old) }
+        requires call { call ≡ (done_in pass.old) }
+        requires unsent { (hand_in pass.old).sent ≡ None }
+        requires next { MayNoteNext R.O.object R.unavailable self.now pass.old Intr }
+        ensures own { SitsAt self.now pass.new }
+        ensures goes_on { KeepsPast pass.old pass.new }
+        ensures last { IsLatest pass.new }
+        ensures kept { view_of pass.new ≡ after_note (view_of pass.old) Intr }
+        ensures rises { (front_in pass.old) ≤ (front_in pass.new) }
+    {
+        if let Some(task) = pass.face.task {
+            let rec = Rec {
+                k: pass.face.front,
+                reply: Reply::Intr,
+            };
+            self.settle_unheld(pass, Entry { task, call }, rec);
+            pass.face.done += 1;
+        }
+    }
+
+    fn note_sent(&self, pass: &mut Pass<R>, call: u32)
+        requires own { SitsAt self.now pass.old }
+        requires numbered { IsSome (task_in pass.old) }
+        requires call { call ≡ (done_in pass.old) }
+        requires next { MayNoteNext R.O.object R.unavailable self.now pass.old Sent }
+        ensures own { SitsAt self.now pass.new }
+        ensures goes_on { KeepsPast pass.old pass.new }
+        ensures last { IsLatest pass.new }
+        ensures kept { view_of pass.new ≡ after_note (view_of pass.old) Sent }
+        ensures rises { (front_in pass.old) ≤ (front_in pass.new) }
+    {
+        if let Some(task) = pass.face.task {
+            let rec = Rec {
+                k: pass.face.front,
+                reply: Reply::Sent,
+            };
+            self.settle_unheld(pass, Entry { task, call }, rec);
+            pass.face.done += 1;
+        }
+    }
+
     /// Loads the length of the log.
     fn length(&self, pass: &mut Pass<R>) -> u32
-        requires own { pass.old.seat.table_id ≡ self.now.table.shared.table_id }
-        requires plan { pass.old.seat.me.0.view.hand.plan ≡ Some self.now.table.shared.key }
-        requires held { pass.old.seat.me.0.view.hand.held ≢ No }
-        ensures own { (pass.new.seat.table_id ≡ pass.old.seat.table_id) × (pass.new.seat.id ≡ pass.old.seat.id) × (pass.new.seat.me.1 ≡ pass.old.seat.me.1) }
-        ensures face { pass.new.face ≡ pass.old.face }
-        ensures kept { pass.new.seat.me.0.view ≡ ticked pass.old.seat.me.0.view }
-        ensures length { IsLength pass.old.seat.me.0.view.hand LENGTH_AT result }
+        requires own { IsOneOf self.now pass.old }
+        requires plan { (hand_in pass.old).plan ≡ Some (plan_of self.now) }
+        requires held { (hand_in pass.old).held ≢ No }
+        ensures own { KeepsSeat pass.old pass.new }
+        ensures face { SaysSame pass.old pass.new }
+        ensures kept { view_of pass.new ≡ ticked (view_of pass.old) }
+        ensures length { IsLength (hand_in pass.old) LENGTH_AT result }
     {
         self.find::<Length>(pass, LENGTH_AT) as u32
     }
 
     /// Stores the next entry behind the log.
     fn enter(&self, pass: &mut Pass<R>, k: u32, entry: Entry)
-        requires own { pass.old.seat.table_id ≡ self.now.table.shared.table_id }
-        requires held { pass.old.seat.me.0.view.hand.held ≡ Alone }
-        requires rest { pass.old.seat.me.0.view.hand.stage ≡ Rest }
-        requires length { k ≡ length pass.old.seat.me.0.view.hand.log }
-        requires room { k < calls_in self.now.table.shared.key }
+        requires own { IsOneOf self.now pass.old }
+        requires held { (hand_in pass.old).held ≡ Alone }
+        requires rest { (hand_in pass.old).stage ≡ Rest }
+        requires length { k ≡ length (hand_in pass.old).log }
+        requires room { k < calls_in (plan_of self.now) }
         requires fits { IsEntry entry }
-        ensures own { (pass.new.seat.table_id ≡ pass.old.seat.table_id) × (pass.new.seat.id ≡ pass.old.seat.id) × (pass.new.seat.me.1 ≡ pass.old.seat.me.1) }
-        ensures face { pass.new.face ≡ pass.old.face }
-        ensures kept { pass.new.seat.me.0.view ≡ handed pass.old.seat.me.0.view (entered pass.old.seat.me.0.view.hand entry) }
+        ensures own { KeepsSeat pass.old pass.new }
+        ensures face { SaysSame pass.old pass.new }
+        ensures kept { view_of pass.new ≡
+            handed (view_of pass.old) (entered (hand_in pass.old) entry) }
     {
         self.put::<Brand>(pass, ENTRIES_AT + k as usize, entry.pack());
     }
 
     /// Counts the entry behind the log among it.
     fn append(&self, pass: &mut Pass<R>, k: u32, entry: Entry)
-        requires own { pass.old.seat.table_id ≡ self.now.table.shared.table_id }
-        requires held { pass.old.seat.me.0.view.hand.held ≡ Alone }
-        requires entered { pass.old.seat.me.0.view.hand.stage ≡ Entered entry }
-        requires task { pass.old.seat.me.0.view.hand.task ≡ Some entry.task }
-        requires call { pass.old.seat.me.0.view.hand.done ≡ entry.call }
-        requires length { k ≡ length pass.old.seat.me.0.view.hand.log }
-        requires room { k < calls_in self.now.table.shared.key }
-        requires change { (reply : _) × IsChange R.O.object self.now.table.shared.key pass.old.seat.me.0.view.hand entry reply }
-        ensures own { (pass.new.seat.table_id ≡ pass.old.seat.table_id) × (pass.new.seat.id ≡ pass.old.seat.id) × (pass.new.seat.me.1 ≡ pass.old.seat.me.1) }
-        ensures face { pass.new.face ≡ pass.old.face }
-        ensures kept { pass.new.seat.me.0.view ≡ handed pass.old.seat.me.0.view (logged pass.old.seat.me.0.view.hand entry) }
+        requires own { IsOneOf self.now pass.old }
+        requires held { (hand_in pass.old).held ≡ Alone }
+        requires entered { (hand_in pass.old).stage ≡ Entered entry }
+        requires task { (hand_in pass.old).task ≡ Some entry.task }
+        requires call { (hand_in pass.old).done ≡ entry.call }
+        requires length { k ≡ length (hand_in pass.old).log }
+        requires room { k < calls_in (plan_of self.now) }
+        requires change { (reply : _)
+            × IsChange R.O.object (plan_of self.now) (hand_in pass.old) entry reply }
+        ensures own { KeepsSeat pass.old pass.new }
+        ensures face { SaysSame pass.old pass.new }
+        ensures kept { view_of pass.new ≡
+            handed (view_of pass.old) (logged (hand_in pass.old) entry) }
     {
         self.put::<Brand>(pass, LENGTH_AT, u64::from(k) + 1);
     }
 
     /// Stores the record of a call that held: the pass has then seen the whole log.
     fn settle(&self, pass: &mut Pass<R>, entry: Entry, rec: Rec)
-        requires own { pass.old.seat.table_id ≡ self.now.table.shared.table_id }
-        requires may { (words : Words) × MayRecord R.O.object R.unavailable self.now.table.shared.key pass.old.seat.me.0.view.hand entry words rec pass.old.seat.me.0.view.hand.log }
-        ensures own { (pass.new.seat.table_id ≡ pass.old.seat.table_id) × (pass.new.seat.id ≡ pass.old.seat.id) × (pass.new.seat.me.1 ≡ pass.old.seat.me.1) }
-        ensures face { pass.new.face ≡ pass.old.face }
-        ensures kept { pass.new.seat.me.0.view ≡ handed pass.old.seat.me.0.view (recorded pass.old.seat.me.0.view.hand (pass.old.seat.me.0.view.steps + 1) entry rec pass.old.seat.me.0.view.hand.log) }
+        requires own { IsOneOf self.now pass.old }
+        requires plain { settled (hand_in pass.old) rec.reply ≡ hand_in pass.old }
+        requires may { (words : Words)
+            × MayRecord R.O.object R.unavailable (plan_of self.now)
+            (hand_in pass.old) entry words rec (hand_in pass.old).log }
+        ensures own { KeepsSeat pass.old pass.new }
+        ensures face { SaysSame pass.old pass.new }
+        ensures kept { view_of pass.new ≡ handed (view_of pass.old)
+            (recorded (hand_in pass.old) ((view_of pass.old).steps + 1) entry rec
+            (hand_in pass.old).log) }
     {
         self.store_record::<Brand>(pass, entry, rec);
     }
 
     /// Stores the record of a call that never held.
     fn settle_unheld(&self, pass: &mut Pass<R>, entry: Entry, rec: Rec)
-        requires own { pass.old.seat.table_id ≡ self.now.table.shared.table_id }
-        requires may { (words : Words) × MayRecord R.O.object R.unavailable self.now.table.shared.key pass.old.seat.me.0.view.hand entry words rec pass.old.seat.me.0.view.hand.seen }
-        ensures own { (pass.new.seat.table_id ≡ pass.old.seat.table_id) × (pass.new.seat.id ≡ pass.old.seat.id) × (pass.new.seat.me.1 ≡ pass.old.seat.me.1) }
-        ensures face { pass.new.face ≡ pass.old.face }
-        ensures kept { pass.new.seat.me.0.view ≡ handed pass.old.seat.me.0.view (recorded pass.old.seat.me.0.view.hand (pass.old.seat.me.0.view.steps + 1) entry rec pass.old.seat.me.0.view.hand.seen) }
+        requires own { IsOneOf self.now pass.old }
+        requires may { (words : Words)
+            × MayRecord R.O.object R.unavailable (plan_of self.now)
+            (hand_in pass.old) entry words rec (hand_in pass.old).seen }
+        ensures own { KeepsSeat pass.old pass.new }
+        ensures face { SaysSame pass.old pass.new }
+        ensures kept { view_of pass.new ≡ handed (view_of pass.old)
+            (recorded (settled (hand_in pass.old) rec.reply) ((view_of pass.old).steps + 1)
+            entry rec (hand_in pass.old).seen) }
     {
         self.store_record::<Brand>(pass, entry, rec);
     }
 
     /// Stores a record, after which the pass has the hand `P.hand`.
     fn store_record<P: Puts>(&self, pass: &mut Pass<R>, entry: Entry, rec: Rec)
-        requires own { pass.old.seat.table_id ≡ self.now.table.shared.table_id }
-        requires hand { P.hand ≡ recorded pass.old.seat.me.0.view.hand (pass.old.seat.me.0.view.steps + 1) entry rec P.hand.seen }
-        requires may { (words : Words) × MayRecord R.O.object R.unavailable self.now.table.shared.key pass.old.seat.me.0.view.hand entry words rec P.hand.seen }
-        ensures own { (pass.new.seat.table_id ≡ pass.old.seat.table_id) × (pass.new.seat.id ≡ pass.old.seat.id) × (pass.new.seat.me.1 ≡ pass.old.seat.me.1) }
-        ensures face { pass.new.face ≡ pass.old.face }
-        ensures kept { pass.new.seat.me.0.view ≡ handed pass.old.seat.me.0.view P.hand }
+        requires own { IsOneOf self.now pass.old }
+        requires hand { P.hand ≡
+            recorded (settled (hand_in pass.old) rec.reply) ((view_of pass.old).steps + 1)
+            entry rec P.hand.seen }
+        requires may { (words : Words)
+            × MayRecord R.O.object R.unavailable (plan_of self.now)
+            (hand_in pass.old) entry words rec P.hand.seen }
+        ensures own { KeepsSeat pass.old pass.new }
+        ensures face { SaysSame pass.old pass.new }
+        ensures kept { view_of pass.new ≡ handed (view_of pass.old) P.hand }
     {
         let at = ENTRIES_AT + self.count + self.place(entry.task, entry.call);
         self.put::<P>(pass, at, rec.pack());

@@ -1,14 +1,16 @@
-use Rattle.std.proofs.Common.{◌≡◌, false, Some, None}
+use Rattle.std.proofs.Common.{◌≡◌, false, Some}
 use Rattle.lock_core.specs.declared.view.Held.TheVariants.{No}
-use Rattle.lock_core.specs.Passes.{Sits}
+use Rattle.lock_core.specs.Views.{SpinRests}
+use Rattle.lock_core.specs.Handles.{hand_in, held_in, task_in, view_of}
+use Rattle.mutex_word.specs.Handles.{SitsAt}
+use Rattle.lock_rows.specs.Standing.{OwesNothing}
 use Rattle.lock_rows.proofs.rounds.all_calls.Given as goal
 
 abbrev pub invariant-loop : goal.invariant-loop
 invariant-loop g l =
-    Sits l.site.site.table.shared.key l.site.site.table.shared.table_id l.pass.seat.table_id l.pass.seat.me l.pass.face
-    × (l.pass.face.task ≡ Some l.task)
-    × (l.pass.face.held ≡ No)
-    × (l.pass.seat.me.0.view.hand.writes ≡ false)
-    × (l.pass.seat.me.0.view.spin.holds ≡ false)
-    × (l.pass.seat.me.0.view.hand.sent ≡ None)
-    × (l.pass.seat.me.0.view.hand.consumed ≡ false)
+    SitsAt l.site l.pass
+    × (task_in l.pass ≡ Some l.task)
+    × (held_in l.pass ≡ No)
+    × ((hand_in l.pass).writes ≡ false)
+    × SpinRests (view_of l.pass).spin
+    × OwesNothing l.pass

@@ -1,6 +1,7 @@
-use Rattle.std.proofs.Common.{arith, map, sym, ◌∙◌}
+use Rattle.std.proofs.Common.{arith, map, sym, ap, ◌∙◌, subst}
 use Rattle.atomic_table.proofs.Lists.{at_map, set_else}
-use Rattle.lock_core.specs.Pasts.{view_of}
+use Rattle.lock_core.specs.Pasts.{Tail, view_of, opening}
+use Rattle.lock_core.specs.MoveLaws.{join-moves}
 use Rattle.lock_core.proofs.Living.{lived-join}
 use Rattle.lock_core.proofs.SiteLaws.{joins-kept}
 use Rattle.lock_core.proofs.site.Site.gather.Goals as goal
@@ -13,6 +14,9 @@ join_seat-requires g c = let k = c.args.self.now.table.shared.key in let w = c.a
       c.requires.others_own.slots,
       omega (arith, w),
       λ s r at apart there. let here = at_map view_of s.views _ _ at in let other = at_map view_of s.views _ _ (sym (set_else s.views _ _ _ apart) ∙ there) in
-          lived-join (R.holds k) (R.moves k) s.words s.views _ _ _ _ _ at r (l.joins k s.words (map view_of s.views) _ _ _ _ r.1 here apart other c.requires.rests (c.requires.other_rests.0, c.requires.other_rests.1, out)
-          (joins-kept O.object R.unavailable O.WORDS k R.rests (R.holds k) (R.moves k) (l.site_kept k) (l.sites k) R.idle s.words (map view_of s.views) _ _ _ _ r.1 here apart other c.requires.rests.0.0 c.requires.other_rests.0.0 out)),
+          lived-join R.marks (opening R.marks k R.idle) (R.holds k) (R.moves k) s.words s.views _ _ _ _ _ at r (l.joins k s.words (map view_of s.views) _ _ _ _ r.1 here apart other c.requires.rests (c.requires.other_rests.0, c.requires.other_rests.1, out)
+          (joins-kept O.object R.unavailable O.WORDS k R.rests (R.holds k) (R.moves k) (l.site_kept k) (l.sites k) R.idle s.words (map view_of s.views) _ _ _ _ r.1 here apart other c.requires.rests.0.0 c.requires.other_rests.0.0 out) (join-moves _ _ _ (map view_of s.views) _ _ R.idle here apart other)),
     )
+
+pub returns-clause-goes_on : goal.returns-clause-goes_on
+returns-clause-goes_on g c = λ p t. subst (Tail p) (sym (ap (λ m. m.0.past) c.join_seat.ensures.2)) t

@@ -1,4 +1,8 @@
+use Rattle.lock_core.specs.RunLaws.{ran-so}
+use Rattle.lock_core.specs.Stated.{IsSiteMove}
+use Rattle.lock_core.specs.Pasts.{opening, Moves}
 use Rattle.lock_core.proofs.site.Site.grown.Goals as goal
 
-pub recall-requires-clause-moves : goal.recall-requires-clause-moves
-recall-requires-clause-moves g c = λ x y m. let k = c.args.self.now.table.shared.key in g.met.R.SiteRule.grows k m.0 x y m.1 m.2 (g.met.R.SiteRule.site_kept k x m.1 m.3) m.5
+pub returns-clause-moves : goal.returns-clause-moves
+returns-clause-moves g c = let k = c.args.self.now.table.shared.key in let R = g.R.SiteRule in let l = g.met.R.SiteRule in
+    ran-so R.marks (opening R.marks k R.idle) (Moves (R.holds k) (R.moves k)) (IsSiteMove k) (λ x y m. (m.0, l.site_moves k m.0 x.words y.words x.views y.views (l.site_kept k x.words x.views m.1) m.3)) _ c.recall.ensures.run

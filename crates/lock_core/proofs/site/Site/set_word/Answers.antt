@@ -21,4 +21,6 @@ returns-clause-own g c = let h : c.put.new.pass.seat.me.0.view.hand ≡ wrote c.
       log = ap (λ (z : Hand). z.log) h;
       saw = ap (λ (z : Hand). z.saw) h;
       last = ap (λ (z : Hand). z.last) h;
+      writer = λ _. ap (λ (z : Hand). z.held) h ∙ (sym c.requires.own.held ∙ c.requires.held);
+      nameless = λ e. let n = c.requires.own.nameless (sym (ap (λ (z : Hand). z.task) h) ∙ e) in (ap (λ (z : Hand). z.held) h ∙ n.0, ap (λ (z : Hand). z.sent) h ∙ n.1, ap (λ (z : Hand). z.consumed) h ∙ n.2);
     } (let n = ap (λ v. v.steps) c.put.ensures.kept in omega (arith, n)) c.put.ensures.face c.requires.own

@@ -1,6 +1,7 @@
-use Rattle.std.proofs.Common.{arith, map}
+use Rattle.std.proofs.Common.{arith, map, sym, ap, subst}
 use Rattle.atomic_table.proofs.Lists.{at_map}
-use Rattle.lock_core.specs.Pasts.{view_of}
+use Rattle.lock_core.specs.Pasts.{Tail, view_of, opening}
+use Rattle.lock_core.specs.MoveLaws.{split-moves}
 use Rattle.lock_core.proofs.Living.{lived-split}
 use Rattle.lock_core.proofs.SiteLaws.{splits-kept}
 use Rattle.lock_core.proofs.site.Site.split.Goals as goal
@@ -10,6 +11,12 @@ split_seat-seat-requires g c = let k = c.args.self.now.table.shared.key in let w
   c.requires.own.own,
   omega (arith, w),
   λ s r at. let there = at_map view_of s.views _ _ at in
-      lived-split (R.holds k) (R.moves k) s.words s.views _ _ _ _ at r (l.splits k s.words (map view_of s.views) _ _ r.1 there
-      (splits-kept O.object R.unavailable O.WORDS k R.rests (R.holds k) (R.moves k) (l.site_kept k) (l.sites k) R.idle s.words (map view_of s.views) _ _ r.1 there)),
+      lived-split R.marks (opening R.marks k R.idle) (R.holds k) (R.moves k) s.words s.views _ _ _ _ at r (l.splits k s.words (map view_of s.views) _ _ r.1 there
+      (splits-kept O.object R.unavailable O.WORDS k R.rests (R.holds k) (R.moves k) (l.site_kept k) (l.sites k) R.idle s.words (map view_of s.views) _ _ r.1 there) (split-moves _ _ (map view_of s.views) _ R.idle there)),
 )
+
+pub returns-clause-goes_on : goal.returns-clause-goes_on
+returns-clause-goes_on g c = λ p t. subst (Tail p) (sym (ap (λ m. m.0.past) c.split_seat-seat.ensures.2)) t
+
+pub returns-clause-past : goal.returns-clause-past
+returns-clause-past g c = ap (λ m. m.0.past) c.split_seat-seat.ensures.4

@@ -1,0 +1,123 @@
+-- What each call of a lock does to its pass, whatever the lock is.
+use Rattle.std.specs.Prelude.{◌≡◌, ℕ, ◌+◌, ◌<◌, ◌≤◌, ◌⊎◌, Bool, true, false, List, length, take, Some, if◌then◌else◌}
+use Rattle.word_bits.specs.declared.entry.Entry.{Entry}
+use Rattle.word_bits.specs.Objects.{Obj}
+use Rattle.word_bits.specs.Histories.{Plan, state_after}
+use Rattle.lock_core.specs.declared.view.Hand.{Hand}
+use Rattle.lock_core.specs.declared.view.Saw.{Saw}
+use Rattle.lock_core.specs.declared.view.Held.{Held}
+use Rattle.lock_core.specs.declared.view.Held.TheVariants.{No, Alone}
+use Rattle.lock_core.specs.declared.how.How.{How}
+use Rattle.lock_core.specs.declared.how.How.TheVariants.{Fast, Spun, Slept}
+use Rattle.lock_core.specs.declared.how.Interrupted.{Interrupted}
+use Rattle.lock_core.specs.Views.{Beside}
+use Rattle.lock_core.specs.Shown.{Shown, NoCountFalls}
+use Rattle.lock_core.specs.Kinds.{Kind}
+
+-- it only looked: all is as before but for the number of its steps
+abbrev pub Looks : Shown → Shown → Type 0
+Looks v u = (u.hand ≡ v.hand) × Beside v u
+
+-- it has this hand now, after some steps
+abbrev pub Has : Hand → Shown → Shown → Type 0
+Has h v u = (u.hand ≡ h) × Beside v u
+
+-- the same, and the hand is that of the step of this number, one of those steps
+abbrev pub HasSince : (ℕ → Hand) → Shown → Shown → Type 0
+HasSince h v u = (step : ℕ) × (v.steps < step) × (step ≤ u.steps) × Has (h step) v u
+
+-- it recorded nothing: its number, its calls that are done, the log that it has seen, its records and the signals that it sent are as before
+pub record Keeps (v u : Shown) : Type 0 where
+  pub task : u.hand.task ≡ v.hand.task
+  pub done : u.hand.done ≡ v.hand.done
+  pub seen : u.hand.seen ≡ v.hand.seen
+  pub records : u.hand.records ≡ v.hand.records
+  pub sent : u.hand.sent ≡ v.hand.sent
+  pub last : u.hand.last ≡ v.hand.last
+  pub counts : NoCountFalls v u
+
+-- the guarded words store the state after the log
+abbrev pub IsStored : {Call : Type 0} → Obj Call → Plan → Hand → Type 0
+IsStored o k h = h.known ≡ o.stores (state_after o k h.log)
+
+-- the log begins with what this pass had seen
+abbrev pub Begins : Hand → List Entry → Type 0
+Begins h log = (length h.seen ≤ length log) × (take (length h.seen) log ≡ h.seen)
+
+-- it holds in this way, and has learnt the guarded words, which store the state after the log, and the log, which begins with what it had seen
+pub record Takes {Call : Type 0} (o : Obj Call) (k : Plan) (held : Held) (v u : Shown) : Type 0 where
+  pub keeps : Keeps v u
+  pub consumed : u.hand.consumed ≡ v.hand.consumed
+  pub holds : u.hand.held ≡ held
+  pub quiet : u.hand.writes ≡ false
+  pub stored : IsStored o k u.hand
+  pub begins : Begins v.hand u.hand.log
+  pub freed : u.hand.freed ≡ v.hand.freed
+
+-- how a call holds that reads, or that changes
+abbrev pub held_by : Kind → Bool → Held
+held_by kind reads = if reads then kind.shares else Alone
+
+-- a try of this call saw the word, which shows that such a call can't have the lock
+pub record Sees (kind : Kind) (reads : Bool) (word : ℕ) (v u : Shown) : Type 0 where
+  pub saw : Saw
+  pub is : u.hand.saw ≡ Some saw
+  pub word_is : saw.word ≡ word
+  pub since : v.steps < saw.step
+  pub by_now : saw.step ≤ u.steps
+  pub shut : kind.unavailable reads word
+
+-- it didn't wait, and holds nothing
+pub record Misses (kind : Kind) (reads : Bool) (word : ℕ) (v u : Shown) : Type 0 where
+  pub keeps : Keeps v u
+  pub consumed : u.hand.consumed ≡ v.hand.consumed
+  pub out : u.hand.held ≡ No
+  pub sees : Sees kind reads word v u
+  pub once : u.hand.misses ≡ v.hand.misses + 1
+  pub freed : u.hand.freed ≡ v.hand.freed
+
+-- it waited until loads saw more signals than were consumed; it has consumed one more, and holds nothing
+pub record Interrupts (kind : Kind) (reads : Bool) (why : Interrupted) (v u : Shown) : Type 0 where
+  pub keeps : Keeps v u
+  pub pending : why.taken < why.sent
+  pub consumed : u.hand.consumed ≡ v.hand.consumed + 1
+  pub out : u.hand.held ≡ No
+  pub word : ℕ
+  pub sees : Sees kind reads word v u
+  pub freed : u.hand.freed ≡ v.hand.freed
+
+-- what a call that ends or downgrades a hold leaves; where its word has waiters to be woken it has gone through the wait lock
+pub record Frees (wakes : ℕ → Type 0) (v u : Shown) : Type 0 where
+  pub keeps : Keeps v u
+  pub consumed : u.hand.consumed ≡ v.hand.consumed
+  pub quiet : u.hand.writes ≡ false
+  pub saw : u.hand.saw ≡ v.hand.saw
+  pub misses : u.hand.misses ≡ v.hand.misses
+  pub fronts : u.fronts ≡ v.fronts
+  pub woken : wakes u.hand.freed → v.spin.entries < u.spin.entries
+
+-- it holds nothing
+abbrev pub Releases : (ℕ → Type 0) → Shown → Shown → Type 0
+Releases wakes v u = Frees wakes v u × (u.hand.held ≡ No)
+
+-- it holds as after a shared call, and what it knows of the object is as before
+abbrev pub Downgrades : Kind → Shown → Shown → Type 0
+Downgrades kind v u = Frees kind.wakes_down v u × (u.hand.held ≡ kind.shares) × (u.hand.known ≡ v.hand.known) × (u.hand.log ≡ v.hand.log)
+
+-- how it got the lock: by its first try, after it had appended itself to the list, or by a later try
+abbrev pub Got : How → Shown → Shown → Type 0
+Got Fast v u = (u.hand.misses ≡ v.hand.misses) × (u.spin.entries ≡ v.spin.entries) × (u.fronts ≡ v.fronts) × (u.ext ≡ v.ext)
+Got Spun v u = (v.hand.misses < u.hand.misses) × (u.ext ≡ v.ext)
+Got Slept v u = v.ext.appends < u.ext.appends
+
+-- a shared call's first try, which missed, let it in
+pub record IsLetIn (kind : Kind) (v u : Shown) : Type 0 where
+  pub once : u.hand.misses ≡ v.hand.misses + 1
+  pub saw : Saw
+  pub is : u.hand.saw ≡ Some saw
+  pub opens : kind.lets_in saw.word
+
+-- a call that waits keeps its place in line: after a failed try it goes through the wait lock or the spin queue. `shared`: it may have been let in.
+pub record KeepsPlace (kind : Kind) (shared : Bool) (v u : Shown) : Type 0 where
+  pub queues : v.hand.misses < u.hand.misses → u.fronts ≡ v.fronts → (v.spin.entries < u.spin.entries) ⊎ ((shared ≡ true) × IsLetIn kind v u)
+  pub few : u.fronts ≡ v.fronts → u.hand.misses ≤ v.hand.misses + kind.tries

@@ -1,0 +1,98 @@
+//! Signals: a pass sends one, hears of those to its task, and consumes them.
+ghost use Rattle.std.specs.Prelude.{◌≡◌, ◌+◌, ◌<◌, ◌≤◌, ℕ, None, Some, IsSome, IfSome, IfNone};
+ghost use Rattle.lock_core.specs.declared.view.Hand.{Hand};
+ghost use Rattle.lock_core.specs.Sites.{sent_place};
+ghost use Rattle.lock_core.specs.Pasts.{FoundAt};
+ghost use Rattle.lock_core.specs.declared.how.Interrupted.{Interrupted as Numbers};
+ghost use Rattle.lock_core.specs.Plays.{Heeded};
+ghost use Rattle.lock_core.specs.Views.{handed, sending, next_entry};
+ghost use Rattle.lock_core.specs.Passes.{IsSignal, Hears, Consumes, HearsOfNone};
+ghost use Rattle.lock_core.specs.Handles.{view_of, hand_in, past_of, task_in, SitsAt, IsOneOf, KeepsSeat, KeepsPast, SaysSame, IsLatest, IsNextSignal, SawSignals};
+
+use super::Site;
+use super::plays::Taken;
+use crate::how::Interrupted;
+use crate::layout::{LINES_AT, LOCK_WORDS};
+use crate::op::Op;
+use crate::pass::Pass;
+use crate::rule::SiteRule;
+use crate::view::View;
+use atomic_table::Play;
+use std::marker::Brand;
+use word_bits::MAX_TASKS;
+
+/// A load, after which the pass knows how many signals were sent to its task.
+pub(super) struct Hear;
+
+impl<E> Play<(), View<E>> for Hear {
+    ghost then = { Heeded Hears };
+}
+
+impl<R: SiteRule> Site<R> {
+    /// Sends the signal that the next call of the pass's task is.
+    pub fn signal(&self, pass: &mut Pass<R>, target: u32)
+        requires own { SitsAt self.now pass.old }
+        requires numbered { IsSome (task_in pass.old) }
+        requires there { target < MAX_TASKS }
+        requires unsent { (hand_in pass.old).sent ≡ None }
+        requires next { IsNextSignal self.now pass.old target }
+        ensures own { SitsAt self.now pass.new }
+        ensures goes_on { KeepsPast pass.old pass.new }
+        ensures last { IsLatest pass.new }
+        ensures kept { view_of pass.new ≡
+            handed (view_of pass.old) (sending (hand_in pass.old) target) }
+    {
+        // Two tasks may send at once: each addition counts.
+        self.add::<Brand>(pass, LINES_AT + 8 * target as usize + 1, 1);
+    }
+
+    /// Consumes a signal where more were sent to the pass's task than it has consumed, and tells both
+    /// numbers. `None` where no more were sent. The kernel's `signal_pending_state`, and what its
+    /// caller does on return.
+    pub fn consume(&self, pass: &mut Pass<R>) -> Option<Interrupted>
+        requires own { SitsAt self.now pass.old }
+        requires numbered { IsSome (task_in pass.old) }
+        ensures own { SitsAt self.now pass.new }
+        ensures goes_on { KeepsPast pass.old pass.new }
+        ensures last { IsLatest pass.new }
+        ensures consumed { IfSome result (λ why.
+            Consumes why (view_of pass.old) (view_of pass.new)) }
+        ensures saw { IfSome result (λ why.
+            (t : ℕ) → task_in pass.old ≡ Some t → SawSignals t why pass.old pass.new) }
+        ensures none { IfNone result ((why : Numbers)
+            × HearsOfNone why (view_of pass.old) (view_of pass.new)
+            × ((t : ℕ) → task_in pass.old ≡ Some t → SawSignals t why pass.old pass.new)) }
+    {
+        let Some(task) = pass.face.task else {
+            return None;
+        };
+        let consumed = LINES_AT + (8 * task as usize + 2);
+        // The number of signals that were sent only rises, and no other pass consumes for this task:
+        // what is pending at the first load still is at the store.
+        let sent = self.load_sent(pass, task);
+        let taken = self.find::<Taken>(pass, consumed);
+        if sent <= taken {
+            return None;
+        }
+        self.put::<Brand>(pass, consumed, taken + 1);
+        Some(Interrupted { sent, taken })
+    }
+
+    /// Loads how many signals were sent to the pass's task.
+    fn load_sent(&self, pass: &mut Pass<R>, task: u32) -> u64
+        requires own { IsOneOf self.now pass.old }
+        requires there { task < MAX_TASKS }
+        requires mine { (hand_in pass.old).task ≡ Some task }
+        ensures own { KeepsSeat pass.old pass.new }
+        ensures face { SaysSame pass.old pass.new }
+        ensures heard { (g : Hand)
+            × Hears (hand_in pass.old) result g × (view_of pass.new ≡ handed (view_of pass.old) g) }
+        ensures found { FoundAt (sent_place task) result (past_of pass.new) }
+    {
+        self.step::<Hear>(
+            pass,
+            LOCK_WORDS + (LINES_AT + (8 * task as usize + 1)),
+            Op::Load,
+        )
+    }
+}
