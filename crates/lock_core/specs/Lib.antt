@@ -24,3 +24,5 @@ pub mod Kinds
 pub mod Shown
 pub mod Locking
 pub mod Handles
+pub mod NodeLists
+pub mod NodeListLaws
