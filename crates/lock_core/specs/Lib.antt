@@ -6,6 +6,8 @@ pub mod Records
 pub mod Totals
 pub mod Parts
 pub mod Views
+pub mod SpinFrames
+pub mod SpinQueues
 pub mod Holding
 pub mod Sites
 pub mod Moves
