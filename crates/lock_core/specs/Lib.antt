@@ -23,4 +23,6 @@ pub mod Stated
 pub mod Kinds
 pub mod Shown
 pub mod Locking
+pub mod Locked
+pub mod LockedLaws
 pub mod Handles
