@@ -77,12 +77,16 @@ pub record Misses (kind : Kind) (reads : Bool) (at word : ℕ) (v u : Shown) : T
   pub once : u.hand.misses ≡ v.hand.misses + 1
   pub freed : u.hand.freed ≡ v.hand.freed
 
--- it waited until steps of this call found more signals sent to its task than were consumed; it has consumed one more, and holds nothing
-pub record Interrupts (kind : Kind) (reads : Bool) (at : ℕ) (why : Interrupted) (v u : Shown) : Type 0 where
-  pub keeps : Keeps v u
+-- steps of this call found these numbers of signals sent to its task, and consumed by it; more were sent
+pub record SawPending (why : Interrupted) (v u : Shown) : Type 0 where
   pub sent : (t : ℕ) → v.hand.task ≡ Some t → FindsSince (sent_place t) why.sent v u
   pub taken : (t : ℕ) → v.hand.task ≡ Some t → FindsSince (consumed_place t) why.taken v u
   pub pending : why.taken < why.sent
+
+-- it waited until it saw that a signal was pending; it has consumed one, and holds nothing
+pub record Interrupts (kind : Kind) (reads : Bool) (at : ℕ) (why : Interrupted) (v u : Shown) : Type 0 where
+  pub keeps : Keeps v u
+  pub heard : SawPending why v u
   pub consumed : u.hand.consumed ≡ v.hand.consumed + 1
   pub out : u.hand.held ≡ No
   pub word : ℕ

@@ -12,7 +12,7 @@ use Rattle.lock_core.specs.declared.view.Held.TheVariants.{No, Alone}
 use Rattle.lock_core.specs.Plans.{calls_in}
 use Rattle.lock_core.specs.Records.{row}
 use Rattle.lock_core.specs.Views.{SpinRests, no_spin, stranger, next_entry}
-use Rattle.lock_core.specs.Pasts.{GoesOn, FoundAtStep, FoundSince}
+use Rattle.lock_core.specs.Pasts.{GoesOn, IsStepBy, FoundAtStep, FoundSince}
 
 -- a pass, whatever its lock is
 pub record Shown : Type 0 where
@@ -52,6 +52,10 @@ FindsAtStep step at n v u = FoundAtStep v.hand.task step at n v.past u.past
 -- so it was at one of the steps that the pass made since
 abbrev pub FindsSince : (at n : ℕ) → Shown → Shown → Type 0
 FindsSince at n v u = FoundSince v.hand.task v.steps u.steps at n v.past u.past
+
+-- the last moment of its past is that of its own last step
+abbrev pub IsLatestStep : Shown → Type 0
+IsLatestStep v = IsStepBy v.hand.task v.steps v.past
 
 -- it is one of a site with this plan, and no call of the lock is under way
 pub record Stands (k : Plan) (v : Shown) : Type 0 where
