@@ -1,0 +1,4 @@
+pub mod Serving
+pub mod Copying
+pub mod Gathering
+pub mod Performing

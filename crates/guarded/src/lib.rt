@@ -1,0 +1,6 @@
+//! Objects under locks.
+#![tactic(auto)]
+
+mod lock;
+
+pub use lock::SleepLock;
