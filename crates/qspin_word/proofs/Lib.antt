@@ -1,0 +1,7 @@
+pub mod Bits
+pub mod Codes
+pub mod WordSteps
+pub mod Regions
+pub mod Turning
+pub mod SpinSteps
+pub mod Refusing
