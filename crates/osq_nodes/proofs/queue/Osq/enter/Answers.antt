@@ -1,0 +1,24 @@
+use Rattle.std.proofs.Common.{◌≡◌, ◌-◌, ◌∙◌, ℕ, suc, sym, ap, subst, arith}
+use Rattle.lock_core.specs.Pasts.{FoundAt}
+use Rattle.osq_nodes.specs.Words.{tail_at}
+use Rattle.osq_nodes.specs.Ruled.{V}
+use Rattle.osq_nodes.proofs.Owning.{swap-found}
+use Rattle.osq_nodes.proofs.queue.Osq.enter.Goals as goal
+
+pub returns-then-found-eq0-clause-found : goal.returns-then-found-eq0-clause-found
+returns-then-found-eq0-clause-found c = let past = c.swap_tail-found.new.pass.pass.seat.me.0.past in let is = ap (λ (v : V). v.ext.found) c.swap_tail-found.ensures.kept ∙ swap-found c.clear_next.new.pass.pass.seat.me.0.view c.swap_tail-found.result in
+    (past, subst (λ (n : ℕ). FoundAt tail_at n past) (sym is) c.swap_tail-found.ensures.found, λ p t. c.swap_tail-found.ensures.goes_on p (c.clear_next.ensures.goes_on p (c.clear_locked.ensures.goes_on p t)), λ p t. t)
+
+pub overflow_cast-prev : goal.overflow_cast-prev
+overflow_cast-prev c = let few = c.args.self.now.site.small.tasks in let f = c.if-found-eq0.false in let e : c.swap_tail-found.result ≡ suc (c.swap_tail-found.result - 1) = omega (arith, f) in let s = c.swap_tail-found.ensures.code (c.swap_tail-found.result - 1) e in omega (arith, s, few)
+
+pub link-requires-clause-there : goal.link-requires-clause-there
+link-requires-clause-there c = let few = c.args.self.now.site.small.tasks in let f = c.if-found-eq0.false in let e : c.swap_tail-found.result ≡ suc (c.swap_tail-found.result - 1) = omega (arith, f) in let s = c.swap_tail-found.ensures.code (c.swap_tail-found.result - 1) e in omega (arith, s, few)
+
+pub returns-clause-there : goal.returns-clause-there
+returns-clause-there c = let few = c.args.self.now.site.small.tasks in let f = c.if-found-eq0.false in let e : c.swap_tail-found.result ≡ suc (c.swap_tail-found.result - 1) = omega (arith, f) in let s = c.swap_tail-found.ensures.code (c.swap_tail-found.result - 1) e in omega (arith, s, few)
+
+pub returns-clause-found : goal.returns-clause-found
+returns-clause-found c = let past = c.swap_tail-found.new.pass.pass.seat.me.0.past in let swapped = ap (λ (v : V). v.ext.found) c.swap_tail-found.ensures.kept ∙ swap-found c.clear_next.new.pass.pass.seat.me.0.view c.swap_tail-found.result in
+    let is = ap (λ (v : V). v.ext.found) c.link.ensures.kept ∙ (ap (λ (v : V). v.ext.found) c.store_prev.ensures.kept ∙ swapped) in
+    (past, subst (λ (n : ℕ). FoundAt tail_at n past) (sym is) c.swap_tail-found.ensures.found, λ p t. c.swap_tail-found.ensures.goes_on p (c.clear_next.ensures.goes_on p (c.clear_locked.ensures.goes_on p t)), λ p t. c.link.ensures.goes_on p (c.store_prev.ensures.goes_on p t))
