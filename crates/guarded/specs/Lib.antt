@@ -1,4 +1,1 @@
 pub mod Serving
-pub mod Copying
-pub mod Gathering
-pub mod Performing

@@ -7,6 +7,7 @@ ghost use Rattle.lock_core.specs.declared.view.Held.TheVariants.{No, Alone};
 ghost use Rattle.lock_core.specs.declared.view.Moment.{Moment};
 ghost use Rattle.lock_core.specs.declared.layout.TheConstants.{LOCK_WORDS};
 ghost use Rattle.lock_core.specs.Layout.{entry_place, length_place, record_place};
+ghost use Rattle.lock_core.specs.Plans.{IsSmall};
 ghost use Rattle.lock_core.specs.Records.{row, IsPlan, IsCallOrSignal};
 ghost use Rattle.lock_core.specs.Views.{next_entry, wrote, committed, noted, sending, gave_up, gathered, Knows, Unsent};
 ghost use Rattle.lock_core.specs.Passes.{IsChange, IsSignal, MayNote, Numbered, IsEntryWord};
@@ -393,6 +394,8 @@ pub trait SleepLock<O: Object>: Sized {
         ensures goes_on { PastGoesOn (view pass.old) (view pass.new) }
         ensures downgraded { Downgrades kind (view pass.old) (view pass.new) };
 
-    // A law: what a pass of the lock is.
+    // Laws: entries and records of its calls fit into words, and what a pass of the lock is.
+    ghost small: { (l : Self) → IsSmall (calls_on l) };
+
     ghost stands: { (l : Self) (p : Self.Pass) → sits l p → Stands (calls_on l) (view p) };
 }
