@@ -5,3 +5,4 @@ pub mod Regions
 pub mod Turning
 pub mod SpinSteps
 pub mod Refusing
+pub mod Going
