@@ -1,5 +1,5 @@
 -- What the guarded words tell of the object.
-use Rattle.std.proofs.Common.{◌≡◌, ◌≢◌, ℕ, zero, suc, add-one, add-zero, ◌+◌, List, Some, length, sym, ap, ◌∙◌, subst, arith}
+use Rattle.std.proofs.Common.{◌≡◌, ℕ, false, List, Some, length, sym, ap, ◌∙◌, subst, arith}
 use Rattle.word_bits.specs.declared.call.CallWords.{CallWords}
 use Rattle.word_bits.specs.declared.entry.Entry.{Entry}
 use Rattle.word_bits.specs.declared.reply.Reply.{Reply}
@@ -9,8 +9,12 @@ use Rattle.word_bits.proofs.States.{IsLawful, state_is_state}
 use Rattle.lock_core.specs.declared.view.Hand.{Hand}
 use Rattle.lock_core.specs.Views.{committed, next_entry}
 use Rattle.lock_core.proofs.RecordLaws.{state-snoc}
-use Rattle.lock_core.specs.Shown.{IsNextCall}
-use Rattle.lock_core.specs.Locking.{IsStored}
+use Rattle.lock_core.specs.Passes.{IsChange}
+use Rattle.lock_core.specs.Shown.{Shown, IsNextCall}
+use Rattle.lock_core.specs.Locking.{IsStored, Looks, HasSince}
+use Rattle.guarded.specs.declared.next.Next.{Next}
+use Rattle.guarded.specs.Performing.{IsNext, HasStored}
+use Rattle.guarded.proofs.Passing.{beside-trans}
 
 module _ {Call : Type 0} (o : Obj Call) (lawful : IsLawful o) (k : Plan) (h : Hand) (stored : IsStored o k h) where
   -- the words that a holder loaded store the state after the log
@@ -32,3 +36,21 @@ module _ {Call : Type 0} (o : Obj Call) (lawful : IsLawful o) (k : Plan) (log : 
 
     pub still-stored : IsStored o k g
     still-stored = ap {A = Hand} (λ (x : Hand). x.known) now ∙ ap o.stores state-changed
+
+-- a pass that loaded the words, stored others and committed
+module _ (v w m u : Shown) (xs ys : List ℕ) (looks : Looks v w) (stored : HasStored xs w m) (same : xs ≡ ys) where
+  now-stored : m.hand ≡ record v.hand { writes = stored.0; known = ys }
+  now-stored = stored.1.0 ∙ (λ i. record (looks.0 i) { writes = stored.0; known = same i })
+
+  pub change-kept : (reply : Reply) → HasSince (λ step. committed m.hand step (next_entry m.hand) reply) m u → HasSince (λ step. committed (record v.hand { known = ys }) step (next_entry v.hand) reply) v u
+  change-kept reply c = (
+    c.0,
+    (let a = looks.1.3 in let b = stored.1.1.3 in let l = c.1 in omega (arith, a, b, l)),
+    c.2,
+    (c.3.0 ∙ ap {B = Hand} (λ (h : Hand). committed h c.0 (next_entry h) reply) now-stored, beside-trans v w u looks.1 (beside-trans w m u stored.1.1 c.3.1)),
+  )
+
+  pub may-commit : {Call : Type 0} (o : Obj Call) (k : Plan) (n : Next Call) (reply : Reply) → IsNext o k v.hand n → o.reads n.call ≡ false → ys ≡ o.stores (o.meaning (state_after o k v.hand.log) n.call).0 → reply ≡ (o.meaning (state_after o k v.hand.log) n.call).1
+      → IsChange o k m.hand (next_entry m.hand) reply
+  may-commit o k n reply next changes store replies = subst (λ (h : Hand). IsChange o k h (next_entry h) reply) (sym now-stored)
+      (record { words = n.words; call = n.call; planned = next.planned.1; is = next.is; changes = changes; stored = store; replies = replies })

@@ -1,9 +1,13 @@
 //! Objects under locks.
 #![tactic(auto)]
 
+mod guarded;
 mod loading;
 mod lock;
+mod next;
+mod perform;
 mod served;
 
+pub use guarded::Guarded;
 pub use lock::SleepLock;
 pub use served::Served;
