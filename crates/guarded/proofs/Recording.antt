@@ -14,7 +14,6 @@ use Rattle.word_bits.specs.Objects.{Obj, IsObjectReply}
 use Rattle.word_bits.specs.Histories.{Plan, logs, changes, state_after}
 use Rattle.word_bits.specs.Legal.{IsRecord, IsUnheldReply, is_intr, seen_after}
 use Rattle.lock_core.specs.declared.view.Hand.{Hand}
-use Rattle.lock_core.specs.declared.view.SpinHand.{SpinHand}
 use Rattle.lock_core.specs.declared.view.Held.{Held}
 use Rattle.lock_core.specs.declared.view.Held.TheVariants.{No}
 use Rattle.lock_core.specs.Records.{is_sent}
@@ -48,7 +47,7 @@ pub counts-beside : (v u : Shown) → u.hand.misses ≡ v.hand.misses → AllBut
 counts-beside v u misses b = record {
   steps = b.3;
   misses = eq-le _ _ misses;
-  entries = eq-le _ _ (ap {A = SpinHand} (λ s. s.entries) b.0);
+  entries = eq-le _ _ b.0;
   fronts = eq-le _ _ b.1;
   appends = eq-le _ _ (ap {A = Line} (λ l. l.appends) b.2);
 }
@@ -341,7 +340,7 @@ module _ {Call : Type 0} (o : Obj Call) (kind : Kind) (at : ℕ) (k : Plan) wher
       (λ word e. absurd (false≢true (subst (λ r. is_intr r ≡ true) e refl)))
       (λ e. (c, why.1.0, cut.word, is, pending-on why.1.0 v m u beside.3 goes cut.heard, subst (λ b. Sees kind b at cut.word v u) same (sees-on kind reads at cut.word v m u (ap {A = Hand} (λ h. h.saw) hand) beside.3 goes cut.sees)))
       (λ waits. subst (λ b. KeepsPlace kind b v u) (and-false (not (changes o words)))
-      (place-after kind false v m u (line (λ tries. waits (sym says ∙ tries))) misses beside.1 (ap {A = Hand} (λ h. h.saw) hand) (eq-le _ _ (ap {A = SpinHand} (λ s. s.entries) beside.0))))
+      (place-after kind false v m u (line (λ tries. waits (sym says ∙ tries))) misses beside.1 (ap {A = Hand} (λ h. h.saw) hand) (eq-le _ _ beside.0)))
 
 -- what a call did after a look, it did from before the look on
 module _ (v w u : Shown) (looks : Looks v w) (goes : PastGoesOn v w) where
@@ -369,7 +368,7 @@ module _ (v w u : Shown) (looks : Looks v w) (goes : PastGoesOn v w) where
   place-from : (kind : Kind) (s : Bool) → KeepsPlace kind s w u → KeepsPlace kind s v u
   place-from kind s p =
       let misses : w.hand.misses ≡ v.hand.misses = ap {A = Hand} (λ h. h.misses) looks.0 in
-      let entries : w.spin.entries ≡ v.spin.entries = ap {A = SpinHand} (λ x. x.entries) looks.1.0 in record {
+      let entries : w.spin.entries ≡ v.spin.entries = looks.1.0 in record {
         queues = λ rise same. ⊎_elim (λ (l : w.spin.entries < u.spin.entries). inl (omega (arith, l, entries)))
             (λ (r : (s ≡ true) × IsLetIn kind w u). inr (r.0, record { once = (let o = r.1.once in omega (arith, o, misses)); saw = r.1.saw; is = r.1.is; opens = r.1.opens }))
             (p.queues (omega (arith, rise, misses)) (same ∙ sym looks.1.1));

@@ -1,6 +1,7 @@
 //! Objects under locks.
 #![tactic(auto)]
 
+mod copying;
 mod guarded;
 mod loading;
 mod lock;

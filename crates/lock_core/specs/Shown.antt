@@ -76,9 +76,9 @@ pub record NoCountFalls (v u : Shown) : Type 0 where
   pub fronts : v.fronts ≤ u.fronts
   pub appends : v.line.appends ≤ u.line.appends
 
--- all but the hand is as it was, after some steps
+-- beside the hand, its counts are as they were, after some steps
 abbrev pub AllButHand : Shown → Shown → Type 0
-AllButHand v u = (u.spin ≡ v.spin) × (u.fronts ≡ v.fronts) × (u.line ≡ v.line) × (v.steps ≤ u.steps)
+AllButHand v u = (u.spin.entries ≡ v.spin.entries) × (u.fronts ≡ v.fronts) × (u.line ≡ v.line) × (v.steps ≤ u.steps)
 
 -- the pass has a number, and these are the words of its task's next call
 abbrev pub IsNextCall : Plan → Hand → CallWords → Type 0
