@@ -1,5 +1,5 @@
 -- A call as two words.
-use Rattle.std.specs.Prelude.{◌≡◌, ℕ, ◌+◌, ◌*◌, ◌/◌, ◌%◌, ◌^◌, ◌<◌, ◌==◌, if◌then◌else◌, Option, Some, None}
+use Rattle.std.specs.Prelude.{◌≡◌, ℕ, ◌+◌, ◌*◌, ◌/◌, ◌%◌, ◌^◌, ◌==◌, nat_lt, Bool, true, if◌then◌else◌, Option, Some, None}
 use Rattle.word_bits.specs.declared.call.CallWords.{CallWords}
 use Rattle.word_bits.specs.declared.call.Mode.{Mode}
 use Rattle.word_bits.specs.declared.call.Mode.TheVariants.{Plain, Int, Try}
@@ -26,8 +26,8 @@ abbrev pub access_in : CallWords → ℕ
 access_in w = w.b / 2 ^ 16 % 2 ^ 8
 
 -- the words have one of the modes
-abbrev pub HasMode : CallWords → Type 0
-HasMode w = w.b / 2 ^ 24 < 3
+abbrev pub has_mode : CallWords → Bool
+has_mode w = nat_lt (w.b / 2 ^ 24) 3
 
 abbrev pub mode_of : CallWords → Mode
 mode_of w = if (w.b / 2 ^ 24) == 1 then Int else if (w.b / 2 ^ 24) == 2 then Try else Plain
@@ -46,8 +46,8 @@ pub record Says (w : CallWords) (kind first second prot access : ℕ) (mode : Mo
   pub has_second : second_in w ≡ second
   pub has_prot : prot_in w ≡ prot
   pub has_access : access_in w ≡ access
-  pub has_a_mode : HasMode w
-  pub has_mode : mode_of w ≡ mode
+  pub moded : has_mode w ≡ true
+  pub mode_is : mode_of w ≡ mode
 
 -- the task that a signal is sent to
 abbrev pub signal_of : CallWords → Option ℕ

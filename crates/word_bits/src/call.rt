@@ -1,6 +1,6 @@
 //! A call as two constant words.
-ghost use Rattle.std.specs.Prelude.{◌≡◌, ◌<◌, ◌↔◌, IsTrue};
-ghost use Rattle.word_bits.specs.Calls.{HasMode, Says, mode_number, mode_of, signal_of, words_of};
+ghost use Rattle.std.specs.Prelude.{◌≡◌, ◌<◌};
+ghost use Rattle.word_bits.specs.Calls.{Says, has_mode, mode_number, mode_of, signal_of, words_of};
 ghost use Rattle.word_bits.specs.Calls.{access_in, first_in, kind_in, prot_in, second_in};
 
 use crate::bits::field;
@@ -93,7 +93,7 @@ impl CallWords {
 
     /// Whether the words have a mode.
     pub fn has_mode(self) -> bool
-        ensures { IsTrue result ↔ HasMode self }
+        ensures { result ≡ has_mode self }
     {
         self.b >> 24 < 3
     }
