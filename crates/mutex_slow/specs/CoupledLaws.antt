@@ -8,10 +8,10 @@ use Rattle.lock_core.specs.declared.view.View.{View}
 use Rattle.lock_core.specs.declared.view.Hand.{Hand}
 use Rattle.lock_core.specs.declared.view.SpinHand.{SpinHand}
 use Rattle.lock_core.specs.declared.view.Held.TheVariants.{No, Alone}
-use Rattle.lock_core.specs.Views.{SpinStays, handed, seated, is_number}
+use Rattle.lock_core.specs.Views.{SpinStays, forgot, handed, seated, is_number}
 use Rattle.lock_core.specs.SpinFrames.{when}
 use Rattle.lock_core.specs.Records.{bit}
-use Rattle.lock_core.specs.Spins.{SpinGoes, spun, holds_in}
+use Rattle.lock_core.specs.Spins.{spun, holds_in}
 use Rattle.lock_core.specs.Totals.{total, total-set, total-same, total-snoc, total-at, total-two}
 use Rattle.lock_core.specs.Parts.{Each, each-set, each-snoc}
 use Rattle.lock_core.proofs.HandLaws.{not-both, false-or-true, is_number-here, is_number-else}
@@ -151,7 +151,7 @@ module _ (n : ℕ) (l : List Waiter) (vs : List V) (id : ℕ) (v : V) (r : Coupl
       same
 
   -- the spin lock is taken or released
-  pub coupled-spins : (s : SpinHand) → SpinGoes v.spin s → (HasLock v → holds_in s ≡ 0 → v.ext.point ≡ Rest) → Coupled n l (set vs id (spun v s))
+  pub coupled-spins : (s : SpinHand) → s.entries ≡ v.spin.entries + (holds_in s - holds_in v.spin) → (HasLock v → holds_in s ≡ 0 → v.ext.point ≡ Rest) → Coupled n l (set vs id (spun v s))
   coupled-spins s goes may = let past = mine.past in
       let held : point_of v ≢ 0 → HasLock v → holds_in s ≡ 1 = λ some has. holds-or-not s (λ t. t) (λ f. absurd (some (ap point_weight (may has f)))) in
       let back : v.ext.failed ≡ s.entries → holds_in s ≡ 1 → HasLock v = λ stamp has. holds-or-not v.spin (λ t. t) (λ f. absurd (omega (arith, stamp, has, f, goes, past))) in
@@ -170,7 +170,10 @@ module _ (n : ℕ) (l : List Waiter) (vs : List V) (id : ℕ) (v : V) (r : Coupl
   coupled-seats h s stays same = let c = coupled-hands h same in coupled-same c
     where
       moved : SeatOk n l (handed v h) → SeatOk n l (seated v h s)
-      moved ok = subst (λ (x : SpinHand). SeatOk n l (seated v h x)) (sym stays) (record { joins = ok.joins; empties = ok.empties; first = ok.first; failed = ok.failed; past = ok.past; leaver = ok.leaver; named = ok.named })
+      moved ok = ⊎_elim
+          (λ (e : s ≡ v.spin). subst (λ (x : SpinHand). SeatOk n l (seated v h x)) (sym e) ok)
+          (λ (e : s ≡ forgot v.spin). subst (λ (x : SpinHand). SeatOk n l (seated v h x)) (sym e) (record { joins = ok.joins; empties = ok.empties; first = ok.first; failed = ok.failed; past = ok.past; leaver = ok.leaver; named = ok.named }))
+          stays
 
       coupled-same : Coupled n l (set vs id (handed v h)) → Coupled n l (set vs id (seated v h s))
       coupled-same c = let ok = c.each id (handed v h) (set-there vs id v (handed v h) at) in coupled-stays (seated v h s) (moved ok) (λ t. ⊎_elim (λ (e : h.task ≡ v.hand.task). ap (λ (z : Option ℕ). when v.ext.queued (is_number t z)) e) (λ (q : IsOut v). (λ i. when (q.0 i) (is_number t h.task)) ∙ sym (λ i. when (q.0 i) (is_number t v.hand.task))) same) refl

@@ -181,10 +181,10 @@ module _ {Call : Type 0} (o : Obj Call) (size : ℕ) where
       (get_or-set_other ws (LOCK_WORDS + i) owner_at n 0 (λ e. omega (arith, e)))
       (set_part hand_of (OwnKept (owner_in ws)) vs id w (own-stays hs id (owner_in ws) v.hand h r.own mine same.0 task))
       (subst (λ (z : List ℕ). ListKept z l (map parted (set vs id w))) (sym (part-below ws list_at LIST_WORDS (LOCK_WORDS + i) n (omega arith)))
-      (set_part parted (ListKept (list_words ws) l) vs id w (list-keeps (list_words ws) l (map parted vs) id (parted v) r.list (at_map parted vs id v at) s (ap (λ (z : SpinHand). z.entries) stays) (ap (λ (z : SpinHand). z.frame) stays))))
+      (set_part parted (ListKept (list_words ws) l) vs id w (list-keeps (list_words ws) l (map parted vs) id (parted v) r.list (at_map parted vs id v at) s (⊎_elim (λ e. ap (λ (z : SpinHand). z.entries) e) (λ e. ap (λ (z : SpinHand). z.entries) e) stays) (⊎_elim (λ e. ap (λ (z : SpinHand). z.frame) e) (λ e. ap (λ (z : SpinHand). z.frame) e) stays))))
       (coupled-seats (owner_in ws) l vs id v r.coupled at h s stays (same-or-out k ws vs l id v r at h same)) tt tt tt
 
-  pub mutex-spins : (k : Plan) (ws : List ℕ) (vs : List V) (id i n : ℕ) (v : V) (s : SpinHand) → Kept o size k ws vs → get_elem? vs id ≡ some v → i < SPIN_WORDS → SpinGoes v.spin s → (SpinFrees v.spin s → may_free v)
+  pub mutex-spins : (k : Plan) (ws : List ℕ) (vs : List V) (id i n : ℕ) (v : V) (s : SpinHand) → Kept o size k ws vs → get_elem? vs id ≡ some v → i < SPIN_WORDS → SpinGoes (v.steps + 1) v.spin s → (SpinFrees v.spin s → may_free v)
       → SpinMoves id (spin_words ws) (map spin_part vs) (set (spin_words ws) i n) (set (map spin_part vs) id (part_with v s)) → Go k id ws vs (set ws (0 + i) n) (set vs id (spun v s))
   mutex-spins k ws vs id i n v s (l, r) at within turn may spin = let w : V = spun v s in let us : List ℕ = set ws (0 + i) n in let same : site k us ≡ site k ws = ap (lay k) (drop-set-lt LOCK_WORDS ws (0 + i) n (omega (arith, within))) in
       goes-on k ws vs l id v r at us (set vs id w) Stay (length-set ws (0 + i) n ∙ r.wide)
@@ -194,8 +194,8 @@ module _ {Call : Type 0} (o : Obj Call) (size : ℕ) where
       (get_or-set_other ws (0 + i) owner_at n 0 (λ e. omega (arith, e, within)))
       (keep_part hand_of (OwnKept (owner_in ws)) vs id v w at refl r.own)
       (subst (λ (z : List ℕ). ListKept z l (map parted (set vs id w))) (sym (part-above ws list_at LIST_WORDS (0 + i) n (omega (arith, within))))
-      (set_part parted (ListKept (list_words ws) l) vs id w (list-spins (list_words ws) l (map parted vs) id (parted v) r.list (at_map parted vs id v at) s turn (λ frees. (may frees).1))))
-      (coupled-spins (owner_in ws) l vs id v r.coupled at s turn (λ has out. (may (has, out)).0)) tt tt tt
+      (set_part parted (ListKept (list_words ws) l) vs id w (list-spins (list_words ws) l (map parted vs) id (parted v) r.list (at_map parted vs id v at) s turn.entries (λ frees. (may frees).1))))
+      (coupled-spins (owner_in ws) l vs id v r.coupled at s turn.entries (λ has out. (may (has, out)).0)) tt tt tt
 
   -- a step on the owner word leaves everything but the word and the hand, once the coupled facts are there
   owns-by : (k : Plan) (ws : List ℕ) (vs : List V) (l : List Waiter) (id n : ℕ) (v : V) (h : Hand) (t : Turn) → Queue k ws vs l → get_elem? vs id ≡ some v → h.task ≡ v.hand.task → v.hand.misses ≤ h.misses → OwnKept n (set (map hand_of vs) id h) → Site k ws (set (map hand_of vs) id h)
