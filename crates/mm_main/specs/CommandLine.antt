@@ -67,6 +67,16 @@ unless_faulty (kind ∷ kinds) said = None
 unfoldable pub options_of : (words : List Text) → Option Options
 options_of words = unless_faulty (fault_of the_command words) (options_from (matches_of the_command words))
 
+-- an option that stands alone, its value joined to it, says it, and the others say their defaults; one -- may stand behind it
+abbrev pub LoneOptionsSay : Type 0
+LoneOptionsSay =
+    (value : Text)
+    → (options_of ((codes "--spin=" ++ value) ∷ []) ≡ options_with (number_up_to 1000000 value) (Some 4) (Some None) false)
+    × (options_of ((codes "--overdue=" ++ value) ∷ []) ≡ options_with (Some 100) (number_up_to 1000000 value) (Some None) false)
+    × (options_of ((codes "--generate=" ++ value) ∷ []) ≡ options_with (Some 100) (Some 4) (number_if_used (Some value)) false)
+    × (options_of (codes "--summary" ∷ []) ≡ options_with (Some 100) (Some 4) (Some None) true)
+    × (options_of (codes "--summary" ∷ codes "--" ∷ []) ≡ options_with (Some 100) (Some 4) (Some None) true)
+
 -- an option that is used twice, whatever its values, makes the words no command line
 abbrev pub RepeatedOptionsSayNothing : Type 0
 RepeatedOptionsSayNothing =

@@ -5,7 +5,8 @@ ghost use Rattle.clap.specs.Simple.{app_of};
 ghost use Rattle.clap.specs.Walk.{rows_of, rule_of};
 ghost use Rattle.mm_main.specs.CommandLine.{flag_rule, is_from_words, number_if_used, number_or};
 ghost use Rattle.mm_main.specs.CommandLine.{number_up_to, options_from, options_of, the_command};
-ghost use Rattle.mm_main.specs.CommandLine.{JoinedOptionsSay, RepeatedOptionsSayNothing, value_rule};
+ghost use Rattle.mm_main.specs.CommandLine.{JoinedOptionsSay, LoneOptionsSay};
+ghost use Rattle.mm_main.specs.CommandLine.{RepeatedOptionsSayNothing, value_rule};
 ghost use Rattle.mm_main.specs.Parsed.{Gives, error_of};
 
 use clap::error::ErrorKind;
@@ -130,6 +131,11 @@ impl Options {
     #[tactic(auto, using(crate::proofs::CommandLines::joined_options_say))]
     pub(crate) fn joined_options_say()
         ensures { JoinedOptionsSay }
+    {}
+
+    /// Each option alone says it.
+    pub(crate) fn lone_options_say()
+        ensures { LoneOptionsSay }
     {}
 
     /// An option that is used twice makes the words no command line.
