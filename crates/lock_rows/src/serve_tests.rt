@@ -22,7 +22,7 @@ const VALUE: u64 = 4_194_304;
 const TRIES: u32 = 10_000;
 
 /// Counts the tasks that hold the object of number 3 alone.
-#[derive(Default)]
+#[derive(Default, Drop)]
 struct Seen {
     seen: AtomicU32,
 }
