@@ -6,6 +6,8 @@ pub mod Records
 pub mod Totals
 pub mod Parts
 pub mod Views
+pub mod SpinFrames
+pub mod SpinQueues
 pub mod Holding
 pub mod Sites
 pub mod Moves
@@ -20,9 +22,12 @@ pub mod Chronicles
 pub mod Nothings
 pub mod Barely
 pub mod Stated
+pub mod SpinStated
 pub mod Kinds
 pub mod Shown
 pub mod Locking
 pub mod Locked
 pub mod LockedLaws
 pub mod Handles
+pub mod NodeLists
+pub mod NodeListLaws

@@ -6,7 +6,7 @@ ghost use Rattle.lock_core.specs.declared.view.Held.TheVariants.{No, Alone};
 ghost use Rattle.lock_core.specs.Kinds.{mutex, wakes_alone};
 ghost use Rattle.lock_core.specs.Locking.{Misses, Releases, Takes};
 ghost use Rattle.lock_core.specs.Records.{IsPlan};
-ghost use Rattle.lock_core.specs.Views.{hand_of, first, ticked, handed, split_off, merged, gave_up, Beside, HoldsNothing};
+ghost use Rattle.lock_core.specs.Views.{hand_of, first, ticked, handed, split_off, merged, gave_up, BesideForgetting, HoldsNothing};
 ghost use Rattle.lock_core.specs.Pasts.{EachMoment, FoundAt, Ran, Tail};
 ghost use Rattle.lock_core.specs.Stated.{IsNew, IsSiteMove};
 ghost use Rattle.mutex_word.specs.Holders.{own_word, TakesOwner, MissesOwner, ReleasesOwner};
@@ -62,7 +62,7 @@ impl<O: Object> OwnerSite<O> {
     }
 
     /// Waits until nobody has the task's number, and takes it with the task's records. What the pass
-    /// saw of the lock is forgotten, and it has seen as many entries as the task.
+    /// saw of the lock and of the spin word is forgotten, and it has seen as many entries as the task.
     pub fn begin<W: Wait>(&self, rt: &W, pass: &mut OwnerPass<O>, task: u32)
         requires own { SitsAt self.now pass.old }
         requires numberless { task_in pass.old ≡ None }
@@ -71,7 +71,7 @@ impl<O: Object> OwnerSite<O> {
         ensures goes_on { KeepsPast pass.old pass.new }
         ensures last { IsLatest pass.new }
         ensures became { TakesNumber O.object owned self.now task pass.old pass.new }
-        ensures beside { Beside (view_of pass.old) (view_of pass.new) }
+        ensures beside { BesideForgetting (view_of pass.old) (view_of pass.new) }
         ensures rises { (front_in pass.old) ≤ (front_in pass.new) }
     {
         self.site.begin(rt, pass, task);
