@@ -30,6 +30,7 @@ pub struct Guarded<L: SleepLock<O>, O: Served> {
 
 impl<L: SleepLock<O>, O: Served + Drop> Guarded<L, O> {
     ghost use Rattle.guarded.specs.Handles.{lock_of};
+    ghost use Rattle.guarded.specs.Gathering.{KeepsDone};
 
     /// A new object under a lock that nobody holds: its state is empty, and no call is logged or
     /// recorded. The pass has no task number. Gates know the object by the number given.
@@ -76,6 +77,8 @@ impl<L: SleepLock<O>, O: Served + Drop> Guarded<L, O> {
         ensures became { Numbered O.object (unavailable L.kind) (L.calls_on (lock_of self.now))
             (L.view pass.old).hand task (L.view pass.new).hand }
         ensures beside { AllButHand (L.view pass.old) (L.view pass.new) }
+        ensures fresh { (L.view pass.old).hand.seen ≡ [] → (L.view pass.new).hand.done ≡ 0 →
+            length (L.view pass.new).hand.seen ≡ 0 }
     {
         self.lock.begin(rt, pass, task);
     }
@@ -104,6 +107,8 @@ impl<L: SleepLock<O>, O: Served + Drop> Guarded<L, O> {
         ensures goes_on { PastGoesOn (L.view into.old) (L.view into.new) }
         ensures kept { Has (gathered (L.view into.old).hand (L.view other).hand)
             (L.view into.old) (L.view into.new) }
+        ensures done { KeepsDone O.object (unavailable L.kind) (L.calls_on (lock_of self.now))
+            (L.view into.old).hand (L.view other).hand (L.view into.new).hand }
     {
         self.lock.gather(into, other);
     }

@@ -31,8 +31,8 @@ pub(crate) fn value_of<O: Object>(words: &[u64; 257]) -> O
     requires long { length words.now ≡ 257 }
     requires stored { (s : O.object.State) ×
         O.object.IsState s × (O.object.stores s ≡ take O.WORDS words.now) }
-    ensures state { (s : O.object.State) →
-        O.object.IsState s → O.object.stores s ≡ take O.WORDS words.now → O.state result ≡ s }
+    ensures state { (s : O.object.State) → O.object.IsState s →
+        O.object.stores s ≡ take O.WORDS words.now → O.state result ≡ s }
 {
     match O::load(&words[..O::WORDS]) {
         Some(value) => value,

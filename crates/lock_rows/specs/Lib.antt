@@ -1,3 +1,4 @@
 pub mod Standing
 pub mod OwnerLocks
 pub mod OwnerLockLaws
+pub mod Between

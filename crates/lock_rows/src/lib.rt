@@ -5,13 +5,18 @@ mod calls;
 mod owner_lock;
 mod plans;
 mod rounds;
+mod serve;
 
 pub use calls::{await_signal, interrupt, perform, send, take, try_next};
 pub use owner_lock::OwnerLock;
 pub use plans::{
-    each_maps, fault_page, int_fault_page, map_page, push_calls, signal_task, try_map_page,
+    close_file, dup_file, each_maps, fault_page, get_file, int_fault_page, map_page, open_file,
+    populate_pages, push_calls, signal_task, try_map_page,
 };
 pub use rounds::{all_calls, four_at_once};
+pub use serve::{copy_of, replies_of, two_serve_at_once};
 
+#[cfg(test)]
+mod serve_tests;
 #[cfg(test)]
 mod tests;

@@ -1,12 +1,14 @@
-//! Plans of calls on address spaces.
+//! Plans of calls on address spaces and descriptor tables.
 ghost use Rattle.std.specs.Prelude.{◌≡◌, ◌≤◌, ◌<◌, ◌+◌, ◌*◌, IfOk, length};
 ghost use Rattle.lock_core.specs.Plans.{calls_in};
 ghost use Rattle.lock_core.specs.Records.{IsPlan, IsCallOrSignal};
 ghost use Rattle.vma_map.specs.Spaces.{space};
+ghost use Rattle.fd_table.specs.Tables.{table};
 
 use lock_core::Plan;
 use std::alloc::{AllocError, Global};
-use word_bits::{CallWords, MAX_TASKS};
+use vma_map::Areas;
+use word_bits::{CallWords, MAX_TASKS, Object};
 
 /// The call `map START 1 rw-` in plain mode.
 pub fn map_page(start: u32) -> CallWords
@@ -59,15 +61,71 @@ pub fn signal_task(task: u32) -> CallWords
     }
 }
 
+/// The call `populate START LEN PROT` in plain mode.
+pub fn populate_pages(start: u32, len: u32, prot: u8) -> CallWords
+    requires { prot < 8 }
+    ensures { IsCallOrSignal space result }
+{
+    CallWords {
+        a: u64::from(start) + (u64::from(len) << 32),
+        b: 6 + (u64::from(prot) << 8),
+    }
+}
+
+/// The call `open FILE` in plain mode.
+pub fn open_file(file: u16) -> CallWords
+    ensures { IsCallOrSignal table result }
+{
+    CallWords {
+        a: u64::from(file),
+        b: 8,
+    }
+}
+
+/// The call `close FD` in plain mode.
+pub fn close_file(fd: u32) -> CallWords
+    ensures { IsCallOrSignal table result }
+{
+    CallWords {
+        a: u64::from(fd),
+        b: 9,
+    }
+}
+
+/// The call `dup FD` in plain mode.
+pub fn dup_file(fd: u32) -> CallWords
+    ensures { IsCallOrSignal table result }
+{
+    CallWords {
+        a: u64::from(fd),
+        b: 10,
+    }
+}
+
+/// The call `get FD` in plain mode.
+pub fn get_file(fd: u32) -> CallWords
+    ensures { IsCallOrSignal table result }
+{
+    CallWords {
+        a: u64::from(fd),
+        b: 12,
+    }
+}
+
 /// Appends so many calls to a task's list.
-pub fn push_calls(plan: &mut Plan, task: u32, count: u32, call: CallWords) -> Result<(), AllocError>
+pub fn push_calls<O: Object>(
+    plan: &mut Plan,
+    task: u32,
+    count: u32,
+    call: CallWords,
+) -> Result<(), AllocError>
     requires there { task < length plan.old }
     requires room { calls_in plan.old + count ≤ 131072 }
-    requires calls { IsPlan space plan.old }
-    requires call { IsCallOrSignal space call }
+    requires calls { IsPlan O.object plan.old }
+    requires call { IsCallOrSignal O.object call }
     ensures tasks { IfOk result (λ _. length plan.new ≡ length plan.old) }
     ensures count { IfOk result (λ _. calls_in plan.new ≡ calls_in plan.old + count) }
-    ensures calls { IfOk result (λ _. IsPlan space plan.new) }
+    ensures calls { IfOk result (λ _. IsPlan O.object plan.new) }
 {
     for _ in 0..count {
         plan.push(task, call)?;
@@ -85,7 +143,7 @@ pub fn each_maps(alloc: Global, tasks: u32, count: u32) -> Result<Plan, AllocErr
 {
     let mut plan = Plan::new(alloc, tasks)?;
     for task in 0..tasks {
-        push_calls(&mut plan, task, count, map_page(task))?;
+        push_calls::<Areas>(&mut plan, task, count, map_page(task))?;
     }
     Ok(plan)
 }

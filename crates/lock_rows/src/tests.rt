@@ -95,7 +95,7 @@ fn records_are(site: &OwnerSite<Areas>, pass: &mut OwnerPass<Areas>, task: u32, 
 #[test]
 fn a_second_task_takes_the_lock_once_the_first_lets_it_go(rt: HostRuntime) -> Result<(), Fail> {
     let mut plan = each_maps(rt.alloc(), 3, 1)?;
-    push_calls(&mut plan, 2, 1, fault_page(0))?;
+    push_calls::<Areas>(&mut plan, 2, 1, fault_page(0))?;
     let (site, mut one) = OwnerSite::<Areas>::open(rt.alloc(), plan)?;
     let mut two = site.split(&mut one);
     site.begin(&rt, &mut one, 0);
@@ -123,8 +123,8 @@ fn a_second_task_takes_the_lock_once_the_first_lets_it_go(rt: HostRuntime) -> Re
 #[test]
 fn a_call_that_does_not_wait_is_busy(rt: HostRuntime) -> Result<(), Fail> {
     let mut plan = Plan::new(rt.alloc(), 2)?;
-    push_calls(&mut plan, 0, 1, map_page(0))?;
-    push_calls(&mut plan, 1, 2, try_map_page(1))?;
+    push_calls::<Areas>(&mut plan, 0, 1, map_page(0))?;
+    push_calls::<Areas>(&mut plan, 1, 2, try_map_page(1))?;
     let (site, mut one) = OwnerSite::<Areas>::open(rt.alloc(), plan)?;
     let mut two = site.split(&mut one);
     site.begin(&rt, &mut one, 0);
@@ -145,8 +145,8 @@ fn a_call_that_does_not_wait_is_busy(rt: HostRuntime) -> Result<(), Fail> {
 #[test]
 fn a_signal_interrupts_a_call_that_waits(rt: HostRuntime) -> Result<(), Fail> {
     let mut plan = Plan::new(rt.alloc(), 2)?;
-    push_calls(&mut plan, 0, 2, signal_task(1))?;
-    push_calls(&mut plan, 1, 2, int_fault_page(0))?;
+    push_calls::<Areas>(&mut plan, 0, 2, signal_task(1))?;
+    push_calls::<Areas>(&mut plan, 1, 2, int_fault_page(0))?;
     let (site, mut one) = OwnerSite::<Areas>::open(rt.alloc(), plan)?;
     let mut two = site.split(&mut one);
     site.begin(&rt, &mut one, 0);
@@ -194,10 +194,10 @@ fn the_log_of_four_threads_has_each_commit_once(rt: HostRuntime) -> Result<(), F
 #[test]
 fn each_signal_of_two_threads_interrupts_a_call_of_another(rt: HostRuntime) -> Result<(), Fail> {
     let mut plan = Plan::new(rt.alloc(), 4)?;
-    push_calls(&mut plan, 0, ROUNDS, signal_task(2))?;
-    push_calls(&mut plan, 1, ROUNDS, signal_task(3))?;
-    push_calls(&mut plan, 2, ROUNDS, int_fault_page(0))?;
-    push_calls(&mut plan, 3, ROUNDS, int_fault_page(0))?;
+    push_calls::<Areas>(&mut plan, 0, ROUNDS, signal_task(2))?;
+    push_calls::<Areas>(&mut plan, 1, ROUNDS, signal_task(3))?;
+    push_calls::<Areas>(&mut plan, 2, ROUNDS, int_fault_page(0))?;
+    push_calls::<Areas>(&mut plan, 3, ROUNDS, int_fault_page(0))?;
     let (site, pass) = OwnerSite::<Areas>::open(rt.alloc(), plan)?;
     let mut pass = four_at_once(&rt, &site, pass);
     for task in 0..4 {
