@@ -6,6 +6,8 @@ pub mod Records
 pub mod Totals
 pub mod Parts
 pub mod Views
+pub mod SpinFrames
+pub mod SpinQueues
 pub mod Holding
 pub mod Sites
 pub mod Moves
@@ -23,6 +25,8 @@ pub mod Stated
 pub mod Kinds
 pub mod Shown
 pub mod Locking
+pub mod Locked
+pub mod LockedLaws
 pub mod Handles
 pub mod NodeLists
 pub mod NodeListLaws

@@ -1,73 +1,121 @@
--- The plain spin lock: a word that is 1 where one view has the lock, and 0 where none has.
-use Rattle.std.specs.Prelude.{◌≡◌, ◌≢◌, ℕ, ◌+◌, ◌-◌, ◌≤◌, ◌⊎◌, true, false, List, length, slice_index, Some}
-use Rattle.atomic_table.specs.Table.{Step}
+-- The queued spin lock in the words of a table: what is so of it between two steps, and what a step may do.
+use Rattle.std.specs.Prelude.{◌≡◌, ◌≢◌, ℕ, ◌+◌, ◌-◌, ◌*◌, ◌/◌, ◌%◌, ◌<◌, ◌≤◌, ◌⊎◌, Bool, true, false, List, [], ◌∷◌, ◌++◌, length, map, slice_index, slice_set, Some}
+use mathlib.Core.Option.{some}
+use lib.ListN.{get_elem?}
 use Rattle.lock_core.specs.declared.view.View.{View}
 use Rattle.lock_core.specs.declared.view.SpinHand.{SpinHand}
-use Rattle.lock_core.specs.Records.{bit}
-use Rattle.lock_core.specs.Totals.{total}
-use Rattle.lock_core.specs.Views.{SpinPart, ticked}
+use Rattle.lock_core.specs.declared.view.Frame.{Frame}
+use Rattle.lock_core.specs.declared.view.Point.{Point}
+use Rattle.lock_core.specs.declared.view.Point.TheVariants.{Out, Undoing, Pending, Taking, Cleared, Ready, Passing, Holding}
 use Rattle.lock_core.specs.declared.layout.TheConstants.{SPIN_WORDS}
-use Rattle.lock_core.specs.Plays.{Sat, Turns}
+use Rattle.lock_core.specs.Views.{SpinPart, SpinRests}
+use Rattle.lock_core.specs.SpinFrames.{uses, stands, holds_of, owns_at}
+use Rattle.lock_core.specs.SpinQueues.{LockKept, tail_unit}
+use Rattle.lock_core.specs.Parts.{Each}
 
-abbrev pub holds_of : SpinHand → ℕ
-holds_of s = bit s.holds
+-- the parts of the spin word: the locked byte, the pending bit, and the code of the tail
+abbrev pub byte_in : ℕ → ℕ
+byte_in word = word % 256
 
-abbrev pub holds_in : SpinPart → ℕ
-holds_in p = holds_of p.spin
+abbrev pub pending_in : ℕ → ℕ
+pending_in word = (word / 256) % 2
 
--- the spin words, and what each view has to do with them
-pub record SpinKept (w : List ℕ) (ps : List SpinPart) : Type 0 where
+abbrev pub tail_in : ℕ → ℕ
+tail_in word = word / tail_unit
+
+-- where a node's words stand: a line for each code
+abbrev pub next_at : ℕ → ℕ
+next_at c = 8 * c + 8
+
+abbrev pub locked_at : ℕ → ℕ
+locked_at c = 8 * c + 9
+
+abbrev pub next_in : List ℕ → ℕ → ℕ
+next_in w c = slice_index w (next_at c)
+
+abbrev pub locked_in : List ℕ → ℕ → ℕ
+locked_in w c = slice_index w (locked_at c)
+
+abbrev pub frame_of : SpinPart → Frame
+frame_of p = p.spin.frame
+
+-- the node that a pass uses is that of its task
+abbrev pub OwnNode : SpinPart → Type 0
+OwnNode p = uses p.spin.frame.point ≡ true → (t : ℕ) × (p.task ≡ Some t) × (p.spin.frame.code ≡ t + 1)
+
+-- the spin words, and what each view has to do with them, while this is the queue
+pub record SpinFacts (w queue : List ℕ) (ps : List SpinPart) : Type 0 where
   pub wide : length w ≡ SPIN_WORDS
-  pub word : slice_index w 0 ≡ total holds_in ps
-  pub most : slice_index w 0 ≤ 1
+  pub lock : LockKept (slice_index w 0) (next_in w) (locked_in w) queue (map frame_of ps)
+  pub own : Each OwnNode ps
 
--- what a step of the pass of this number does to them
+abbrev pub SpinKept : List ℕ → List SpinPart → Type 0
+SpinKept w ps = (queue : List ℕ) × SpinFacts w queue ps
+
+-- whose node comes to stand in the queue, stands last in it; whose node no longer does, stood first; and no other step changes the queue
+abbrev pub QueueMoves : Bool → Bool → ℕ → List ℕ → List ℕ → Type 0
+QueueMoves false true code queue queue' = queue' ≡ queue ++ code ∷ []
+QueueMoves true false code queue queue' = queue ≡ code ∷ queue'
+QueueMoves true true code queue queue' = queue' ≡ queue
+QueueMoves false false code queue queue' = queue' ≡ queue
+
+-- where a pass may come to hold from, by the word: an exchange from 0, the owner of the pending bit or a ready front while the byte is 0
+abbrev pub TakesFrom : Point → ℕ → Type 0
+TakesFrom Out word = word ≡ 0
+TakesFrom Cleared word = word ≡ 0
+TakesFrom Taking word = byte_in word ≡ 0
+TakesFrom Ready word = byte_in word ≡ 0
+TakesFrom Passing word = Unit {0}
+TakesFrom Holding word = Unit {0}
+TakesFrom _ word = ⊥
+
+-- what a pass may become by setting the pending bit, by the word: a taker where it saw neither tail nor pending, or one that is to undo where it saw a tail
+abbrev pub SetsTo : Point → ℕ → Type 0
+SetsTo Pending word = (pending_in word ≡ 0) × (tail_in word ≡ 0)
+SetsTo Undoing word = (pending_in word ≡ 0) × (tail_in word ≢ 0)
+SetsTo Taking word = ⊥
+SetsTo _ word = Unit {0}
+
+-- a step of the pass of this number, while this is the word
+pub record SpinStep (word id : ℕ) (ps : List SpinPart) (queue : List ℕ) (ps' : List SpinPart) (queue' : List ℕ) : Type 0 where
+  pub before : SpinPart
+  pub after : SpinPart
+  pub at : get_elem? ps id ≡ some before
+  pub others : slice_set ps id after ≡ ps'
+  pub takes : holds_of (frame_of after) ≡ 1 → TakesFrom before.spin.frame.point word
+  pub sets : owns_at before.spin.frame.point ≡ 0 → SetsTo after.spin.frame.point word
+  pub queues : QueueMoves (stands before.spin.frame.point) (stands after.spin.frame.point) before.spin.frame.code queue queue'
+
+-- what a step elsewhere leaves of a pass: where it is with the lock
+abbrev pub StaysAt : SpinPart → SpinPart → Type 0
+StaysAt p p' = (frame_of p' ≡ frame_of p) ⊎ (SpinRests p.spin × SpinRests p'.spin)
+
+-- a step elsewhere
+pub record SpinLeaves (w : List ℕ) (ps : List SpinPart) (queue w' : List ℕ) (ps' : List SpinPart) (queue' : List ℕ) : Type 0 where
+  pub words : w' ≡ w
+  pub queues : queue' ≡ queue
+  pub passes : (j : ℕ) (p : SpinPart) → get_elem? ps j ≡ some p → (p' : SpinPart) × (get_elem? ps' j ≡ some p') × StaysAt p p'
+
+-- what a step of the pass of this number does to the spin words
 pub record SpinMoves (id : ℕ) (w : List ℕ) (ps : List SpinPart) (w' : List ℕ) (ps' : List SpinPart) : Type 0 where
-  pub old : SpinKept w ps
-  pub new : SpinKept w' ps'
+  pub queue : List ℕ
+  pub queue' : List ℕ
+  pub old : SpinFacts w queue ps
+  pub new : SpinFacts w' queue' ps'
+  pub step : SpinLeaves w ps queue w' ps' queue' ⊎ SpinStep (slice_index w 0) id ps queue ps' queue'
+
+abbrev pub holds_in : SpinHand → ℕ
+holds_in s = holds_of s.frame
 
 -- a step that ends a hold
 abbrev pub SpinFrees : SpinHand → SpinHand → Type 0
-SpinFrees s g = (holds_of s ≡ 1) × (holds_of g ≡ 0)
+SpinFrees s g = (holds_in s ≡ 1) × (holds_in g ≡ 0)
 
 -- how a step may change the spin part of a view: who takes the lock has taken it once more, and no other step changes that number
 abbrev pub SpinGoes : SpinHand → SpinHand → Type 0
-SpinGoes s g = g.entries ≡ s.entries + (holds_of g - holds_of s)
-
--- it takes the lock
-abbrev pub spin_took : SpinHand → SpinHand
-spin_took s = record s { holds = true; entries = s.entries + 1 }
-
--- it saw the word at the step of this number
-abbrev pub spin_missed : SpinHand → ℕ → ℕ → SpinHand
-spin_missed s word step = record s { saw = Some (record { word = word; step = step }) }
-
-abbrev pub spin_freed : SpinHand → SpinHand
-spin_freed s = record s { holds = false }
+SpinGoes s g = g.entries ≡ s.entries + (holds_in g - holds_in s)
 
 module _ {E : Type 0} where
   -- a step on the spin words
   abbrev pub spun : View E → SpinHand → View E
   spun v s = record v { spin = s; steps = v.steps + 1 }
-
-  -- a load of the word, or an exchange that missed: a word that isn't 0 is kept with the number of the step
-  abbrev pub SpinSaw : Sat E → ℕ → Sat E → Type 0
-  SpinSaw m n m' = Turns m (spun m.0 (spin_missed m.0.spin n (m.0.steps + 1))) m'
-
-  abbrev pub SpinLooked : Step (Unit {0}) → Sat E → ℕ → Sat E → Type 0
-  SpinLooked st m n m' = (n ≡ 0 → Turns m (ticked m.0) m') × (n ≢ 0 → SpinSaw m n m')
-
-  -- a compare-exchange from 0 to 1
-  abbrev pub SpinTried : Step (Unit {0}) → Sat E → ℕ → Sat E → Type 0
-  SpinTried st m n m' = (n ≡ 0 → Turns m (spun m.0 (spin_took m.0.spin)) m') × (n ≢ 0 → SpinSaw m n m')
-
-  abbrev pub SpinFreed : Step (Unit {0}) → Sat E → ℕ → Sat E → Type 0
-  SpinFreed st m n m' = Turns m (spun m.0 (spin_freed m.0.spin)) m'
-
-  -- a load that found the lock free, and the exchange that took it
-  abbrev pub SpinTaken : View E → View E → Type 0
-  SpinTaken v u = u ≡ record v { spin = spin_took v.spin; steps = v.steps + 2 }
-
-  -- of a try that made so many steps, the last of which saw this word
-  abbrev pub SpinMissed : View E → ℕ → View E → Type 0
-  SpinMissed v word u = (word ≢ 0) × ((u.steps ≡ v.steps + 1) ⊎ (u.steps ≡ v.steps + 2)) × (u ≡ record v { spin = spin_missed v.spin word u.steps; steps = u.steps })

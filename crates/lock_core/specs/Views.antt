@@ -9,6 +9,8 @@ use Rattle.word_bits.specs.Histories.{Plan}
 use Rattle.lock_core.specs.declared.view.View.{View}
 use Rattle.lock_core.specs.declared.view.Hand.{Hand}
 use Rattle.lock_core.specs.declared.view.SpinHand.{SpinHand}
+use Rattle.lock_core.specs.declared.view.Frame.{Frame}
+use Rattle.lock_core.specs.declared.view.Point.TheVariants.{Out, Holding}
 use Rattle.lock_core.specs.declared.view.Heard.{Heard}
 use Rattle.lock_core.specs.declared.view.Told.{Told}
 use Rattle.lock_core.specs.declared.view.Held.{Held}
@@ -39,15 +41,27 @@ stranger plan seen = record {
   freed = 0;
 }
 
+-- at no spin lock
+abbrev pub no_frame : Frame
+no_frame = record { point = Out; code = 0; found = 0; next = 0 }
+
 abbrev pub no_spin : SpinHand
-no_spin = record { holds = false; saw = None; entries = 0 }
+no_spin = record { frame = no_frame; saw = None; entries = 0; took = 0; from = Out }
 
 -- it has nothing to do with the spin lock
 abbrev pub SpinRests : SpinHand → Type 0
-SpinRests s = s.holds ≡ false
+SpinRests s = s.frame.point ≡ Out
 
 abbrev pub SpinHolds : SpinHand → Type 0
-SpinHolds s = s.holds ≡ true
+SpinHolds s = s.frame.point ≡ Holding
+
+-- what it saw of the spin word is forgotten
+abbrev pub forgot : SpinHand → SpinHand
+forgot s = record s { saw = None }
+
+-- all but what it saw of the spin word is as before
+abbrev pub SpinStays : SpinHand → SpinHand → Type 0
+SpinStays s g = g ≡ record s { saw = g.saw }
 
 -- what the spin lock's own facts see of a view
 pub record SpinPart : Type 0 where
@@ -235,6 +249,14 @@ module _ {E : Type 0} where
   abbrev pub handed : View E → Hand → View E
   handed v h = record v { hand = h; steps = v.steps + 1 }
 
+  -- a step on the site's words, which may forget what the pass saw of the spin word
+  abbrev pub seated : View E → Hand → SpinHand → View E
+  seated v h s = record v { hand = h; spin = s; steps = v.steps + 1 }
+
+  -- a step that takes a number
+  abbrev pub with_number : View E → Hand → View E
+  with_number v h = seated v h (forgot v.spin)
+
   -- a step that changes nothing
   abbrev pub ticked : View E → View E
   ticked v = record v { steps = v.steps + 1 }
@@ -257,13 +279,17 @@ module _ {E : Type 0} where
   abbrev pub merged : View E → View E → View E
   merged v w = handed v (gathered v.hand w.hand)
 
-  -- it holds nothing, neither the lock nor the spin lock
+  -- it holds nothing, neither the lock nor the spin lock, and is at no point of the spin lock
   abbrev pub HoldsNothing : View E → Type 0
   HoldsNothing v = (v.hand.held ≡ No) × SpinRests v.spin
 
   -- all but the hand is as it was, after some steps
   abbrev pub Beside : View E → View E → Type 0
   Beside v u = (u.spin ≡ v.spin) × (u.fronts ≡ v.fronts) × (u.ext ≡ v.ext) × (v.steps ≤ u.steps)
+
+  -- the same, but what it saw of the spin word is forgotten
+  abbrev pub BesideForgetting : View E → View E → Type 0
+  BesideForgetting v u = Beside (record v { spin = forgot v.spin }) u
 
   -- the record of the next call of its task, which changed the object, in four steps
   abbrev pub after_commit : View E → Reply → View E

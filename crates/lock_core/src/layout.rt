@@ -7,8 +7,9 @@ use word_bits::MAX_TASKS;
 /// a task spins, or by which it sleeps, has a line of its own.
 pub const LOCK_WORDS: usize = 128 + 64 * MAX_TASKS as usize;
 
-/// How many of them are those of a spin lock.
-pub const SPIN_WORDS: usize = 1;
+/// How many of them are those of a spin lock: a line that begins with its word, one that is unused,
+/// and a line for the node of each task.
+pub const SPIN_WORDS: usize = 16 + 8 * MAX_TASKS as usize;
 
 /// How many of them are left to spin locks: a line for each of eight, and for each task the nodes of
 /// the four that it may wait for at once, a line for each. A rule's other words stand behind them.

@@ -22,7 +22,7 @@ pub use plan::Plan;
 pub use rule::SiteRule;
 pub use shadow::Shadow;
 pub use site::Site;
-pub use spin::{SpinHost, lock, trylock, unlock};
+pub use spin::SpinHost;
 pub use view::Held;
 
 #[cfg(test)]

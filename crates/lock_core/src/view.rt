@@ -75,12 +75,53 @@ pub struct Hand {
     pub freed: u64,
 }
 
+/// How far a pass is with a spin lock.
+pub enum Point {
+    /// It has nothing to do with the lock, or was refused so far.
+    Out,
+    /// It set the pending bit while others stood in the queue, and is to clear it.
+    Undoing,
+    /// It owns the pending bit, and waits until the locked byte is 0.
+    Pending,
+    /// It owns the pending bit, has seen the locked byte 0, and is to take the lock.
+    Taking,
+    /// It has cleared `locked` of its node.
+    Clearing,
+    /// It has cleared its node.
+    Cleared,
+    /// It stands in the queue, and is to tell its predecessor.
+    Linking,
+    /// It waits to be the front of the queue.
+    Waiting,
+    /// It is the front of the queue.
+    Front,
+    /// It is the front, has seen the locked byte and the pending bit 0, and is to take the lock.
+    Ready,
+    /// It holds the lock, and is to make its successor the front.
+    Passing,
+    Holding,
+}
+
+/// A pass at a spin lock.
+pub struct Frame {
+    pub point: Point,
+    /// The code of its node.
+    pub code: u64,
+    /// The tail that it found when it entered the queue: the code of its predecessor, or 0.
+    pub found: u64,
+    /// The code of its successor, or 0 while it hasn't seen one.
+    pub next: u64,
+}
+
 /// What concerns the words of the spin lock.
 pub struct SpinHand {
-    pub holds: bool,
+    pub frame: Frame,
     pub saw: Option<Saw>,
     /// How often the pass has taken a spin lock of the table.
     pub entries: u64,
+    /// The number of the step at which it last took it, and where it stood before.
+    pub took: u64,
+    pub from: Point,
 }
 
 pub struct View<E> {

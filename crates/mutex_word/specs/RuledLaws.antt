@@ -8,10 +8,11 @@ use Rattle.word_bits.specs.LockWords.{owned}
 use Rattle.word_bits.specs.Objects.{Obj}
 use Rattle.word_bits.specs.Histories.{Plan}
 use Rattle.lock_core.specs.declared.view.Hand.{Hand}
+use Rattle.lock_core.specs.declared.view.SpinHand.{SpinHand}
 use Rattle.lock_core.specs.declared.view.Held.TheVariants.{No}
 use Rattle.lock_core.specs.declared.layout.TheConstants.{LOCK_WORDS}
 use Rattle.lock_core.specs.Layout.{SiteWords, fresh, site, lay, width}
-use Rattle.lock_core.specs.Views.{hand_of, handed, ticked, first, split_off, merged, spent, stranger}
+use Rattle.lock_core.specs.Views.{hand_of, handed, seated, ticked, first, split_off, merged, spent, stranger}
 use Rattle.lock_core.specs.Sites.{SiteKept}
 use Rattle.lock_core.specs.Moves.{Goes, KeepsHold, SiteMove}
 use Rattle.lock_core.specs.MoveLaws.{set-moves, hold-moved}
@@ -43,11 +44,11 @@ module _ {Call : Type 0} (o : Obj Call) (size : ℕ) where
   pub named : (k : Plan) (ws : List ℕ) (hs : List Hand) → Site k ws hs → Named hs
   named k ws hs r j h at out = ((r.each j h at).nameless out).0
 
-  pub owner-sites : (k : Plan) (ws : List ℕ) (vs : List V) (id i n : ℕ) (v : V) (h : Hand) → Kept k ws vs → get_elem? vs id ≡ some v → KeepsHold Rests v h → Site k (set ws (LOCK_WORDS + i) n) (set (map hand_of vs) id h)
-      → Kept k (set ws (LOCK_WORDS + i) n) (set vs id (handed v h))
-  owner-sites k ws vs id i n v h r at same there = let w : V = handed v h in let hs : List Hand = map hand_of vs in let mine = at_map hand_of vs id v at in
+  pub owner-sites : (k : Plan) (ws : List ℕ) (vs : List V) (id i n : ℕ) (v : V) (h : Hand) (s : SpinHand) → Kept k ws vs → get_elem? vs id ≡ some v → KeepsHold Rests v h → Site k (set ws (LOCK_WORDS + i) n) (set (map hand_of vs) id h)
+      → Kept k (set ws (LOCK_WORDS + i) n) (set vs id (seated v h s))
+  owner-sites k ws vs id i n v h s r at same there = let w : V = seated v h s in let hs : List Hand = map hand_of vs in let mine = at_map hand_of vs id v at in
       let word : get_or (set ws (LOCK_WORDS + i) n) owner_at 0 ≡ get_or ws owner_at 0 = get_or-set_other ws (LOCK_WORDS + i) owner_at n 0 (λ e. omega arith) in
-      let task : (h.task ≡ v.hand.task) ⊎ (v.hand.held ≡ No) = elim same.1 [ inl e ↦ inl e | inr s ↦ elim s [ inl out ↦ inr (named k ws hs r.site_holds id v.hand mine out) | inr q ↦ inr q.0.0 ] ] in record {
+      let task : (h.task ≡ v.hand.task) ⊎ (v.hand.held ≡ No) = elim same.1 [ inl e ↦ inl e | inr u ↦ elim u [ inl out ↦ inr (named k ws hs r.site_holds id v.hand mine out) | inr q ↦ inr q.0.0 ] ] in record {
         wide = length-set ws (LOCK_WORDS + i) n ∙ r.wide;
         site_holds = set_part hand_of (Site k (set ws (LOCK_WORDS + i) n)) vs id w there;
         own = subst (λ (z : ℕ). OwnKept z (map hand_of (set vs id w))) (sym word) (set_part hand_of (OwnKept (get_or ws owner_at 0)) vs id w (own-stays hs id (get_or ws owner_at 0) v.hand h r.own mine same.0 task));

@@ -36,7 +36,7 @@ impl<O: Object> SiteRule for OwnerRule<O> {
 
     ghost site_moves = { λ k id ws us vs vs' there step. step };
 
-    ghost sites = { λ k ws vs id i n v h r at same there step. (owner-sites O.object O.WORDS k ws vs id i n v h r at same there, step) };
+    ghost sites = { λ k ws vs id i n v h s r at same stays there step. (owner-sites O.object O.WORDS k ws vs id i n v h s r at same there, step) };
 
     ghost opens = { owner-opens O.object O.WORDS };
 

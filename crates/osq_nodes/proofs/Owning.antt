@@ -19,7 +19,9 @@ use Rattle.lock_core.specs.Barely.{never}
 use Rattle.lock_core.specs.Nothings.{nothing}
 use Rattle.lock_core.specs.Ops.{word_after, told_by}
 use Rattle.lock_core.specs.Plays.{Turns}
-use Rattle.lock_core.specs.Pasts.{FoundAt, FoundSince, GoesOn}
+use Rattle.lock_core.specs.Pasts.{FoundAt, FoundAtStep, GoesOn, IsOwnStep}
+use Rattle.lock_core.specs.RunLaws.{found-at-step}
+use Rattle.osq_nodes.specs.Handles.{FoundBy}
 use Rattle.lock_core.specs.Layout.{SiteWords, site, lay}
 use Rattle.lock_core.specs.Views.{hand_of, named_of}
 use Rattle.lock_core.specs.Sites.{SiteKept}
@@ -141,6 +143,10 @@ pub swap-found : (v : V) (n : ℕ) → (swapped v n).ext.found ≡ n
 swap-found v zero = refl
 swap-found v (suc p) = refl
 
--- what a step found since is still known later
-pub since-later : (i n n' : ℕ) (old between new : List Moment) → n' ≡ n → FoundSince i n old between → GoesOn between new → FoundSince i n' old new
-since-later i n n' old between new same (past, found, before, after) on = (past, subst (λ (m : ℕ). FoundAt i m past) (sym same) found, before, λ p t. on p (after p t))
+-- what a step of the pass found, it found since the call began
+pub found-by : (task : Option ℕ) (begun i n : ℕ) (v : V) (old past new : List Moment) → v.hand.task ≡ task → begun < v.steps → IsOwnStep v past → FoundAt i n past → GoesOn old past → GoesOn past new → FoundBy task begun i n old new
+found-by task begun i n v old past new named later own found after goes_on = (v.steps, later, found-at-step v task i n old past new named own found after goes_on)
+
+-- and it is still known later
+pub since-later : (task : Option ℕ) (begun i n n' : ℕ) (old between new : List Moment) → n' ≡ n → FoundBy task begun i n old between → GoesOn between new → FoundBy task begun i n' old new
+since-later task begun i n n' old between new same (step, later, f) on = (step, later, subst (λ (m : ℕ). FoundAtStep task step i m old new) (sym same) (record { past = f.past; by = f.by; found = f.found; after = f.after; goes_on = λ p t. on p (f.goes_on p t) }))

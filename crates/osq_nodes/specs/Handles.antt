@@ -1,8 +1,8 @@
 -- What a clause reads of a spin queue and of a pass.
-use Rattle.std.specs.Prelude.{◌≡◌, ◌≢◌, ℕ, suc, List, Option, Some, length}
+use Rattle.std.specs.Prelude.{◌≡◌, ◌≢◌, ◌<◌, ℕ, suc, List, Option, Some, length}
 use Rattle.lock_core.specs.declared.view.Moment.{Moment}
 use Rattle.lock_core.specs.Handles as inner
-use Rattle.lock_core.specs.Pasts.{FoundSince}
+use Rattle.lock_core.specs.Pasts.{FoundAtStep}
 use Rattle.osq_nodes.specs.declared.node.Place.{Place}
 use Rattle.osq_nodes.specs.declared.pass.OsqPass.{OsqPass}
 use Rattle.osq_nodes.specs.declared.queue.Osq.{Osq}
@@ -61,10 +61,14 @@ KeepsPast old new = inner.KeepsPast old.pass new.pass
 abbrev pub IsLatest : OsqPass → Type 0
 IsLatest pass = inner.IsLatest pass.pass
 
+-- a step of the pass that has the task's number, after its first so many, found this number at the place
+abbrev pub FoundBy : Option ℕ → (begun : ℕ) → ℕ → ℕ → List Moment → List Moment → Type 0
+FoundBy task begun place n old new = (step : ℕ) × (begun < step) × FoundAtStep task step place n old new
+
 -- a step that it made since found another code in the tail than its own
 abbrev pub SawOther : OsqPass → OsqPass → Type 0
-SawOther old new = (word : ℕ) × FoundSince tail_at word (past_of old) (past_of new) × ((t : ℕ) → task_in old ≡ Some t → word ≢ suc t)
+SawOther old new = (word : ℕ) × FoundBy (task_in old) (steps_in old) tail_at word (past_of old) (past_of new) × ((t : ℕ) → task_in old ≡ Some t → word ≢ suc t)
 
--- since then a step of it found this in the tail, as it says of its tail swap
+-- a step that it made since found this in the tail, as it says of its tail swap
 abbrev pub SawTail : OsqPass → OsqPass → Type 0
-SawTail old new = FoundSince tail_at (found_in new) (past_of old) (past_of new)
+SawTail old new = FoundBy (task_in old) (steps_in old) tail_at (found_in new) (past_of old) (past_of new)

@@ -12,7 +12,8 @@ use Rattle.lock_core.specs.declared.layout.TheConstants.{LOCK_WORDS}
 use Rattle.lock_core.specs.Barely.{never}
 use Rattle.lock_core.specs.Nothings.{nothing}
 use Rattle.lock_core.specs.Layout.{site, width, fresh}
-use Rattle.lock_core.specs.Views.{hand_of, named_of, is_number, handed, ticked, first, split_off, merged, spent}
+use Rattle.lock_core.specs.declared.view.SpinHand.{SpinHand}
+use Rattle.lock_core.specs.Views.{hand_of, named_of, is_number, SpinStays, seated, ticked, first, split_off, merged, spent}
 use Rattle.lock_core.specs.Sites.{SiteKept}
 use Rattle.lock_core.specs.Moves.{Goes, KeepsHold, SiteMove}
 use Rattle.lock_core.specs.Pasts.{marks_of}
@@ -162,9 +163,9 @@ module _ (place : ℕ → Place) (vs : List V) (id : ℕ) (v w : V) (r : Seated 
 pub osq-site : (k : Plan) (ws : List ℕ) (vs : List V) → OsqKept k ws vs → SiteKept nothing never 0 k (site k ws) (map hand_of vs)
 osq-site k ws vs r = r.site_holds
 
-pub osq-sites : (k : Plan) (ws : List ℕ) (vs : List V) (id i n : ℕ) (v : V) (h : Hand) → OsqKept k ws vs → get_elem? vs id ≡ some v → KeepsHold (λ (u : V). u.ext.place ≡ Out) v h
-    → SiteKept nothing never 0 k (site k (set ws (LOCK_WORDS + i) n)) (set (map hand_of vs) id h) → SiteMove id (site k ws) vs (site k (set ws (LOCK_WORDS + i) n)) (set vs id (handed v h)) → Goes (OsqKept k) (OsqMoves k) id ws vs (set ws (LOCK_WORDS + i) n) (set vs id (handed v h))
-osq-sites k ws vs id i n v h r at holds there move = let w : V = handed v h in let us : List ℕ = set ws (LOCK_WORDS + i) n in
+pub osq-sites : (k : Plan) (ws : List ℕ) (vs : List V) (id i n : ℕ) (v : V) (h : Hand) (s : SpinHand) → OsqKept k ws vs → get_elem? vs id ≡ some v → KeepsHold (λ (u : V). u.ext.place ≡ Out) v h → SpinStays v.spin s
+    → SiteKept nothing never 0 k (site k (set ws (LOCK_WORDS + i) n)) (set (map hand_of vs) id h) → SiteMove id (site k ws) vs (site k (set ws (LOCK_WORDS + i) n)) (set vs id (seated v h s)) → Goes (OsqKept k) (OsqMoves k) id ws vs (set ws (LOCK_WORDS + i) n) (set vs id (seated v h s))
+osq-sites k ws vs id i n v h s r at holds stays there move = let w : V = seated v h s in let us : List ℕ = set ws (LOCK_WORDS + i) n in
     let same : row_of us ≡ row_of ws = take-set-le LOCK_WORDS ws (LOCK_WORDS + i) n (omega arith) in
     let one : (t : ℕ) → h.task ≡ Some t → total (named_of t) (set (map hand_of vs) id h) ≤ 1 = λ t e. (let few = there.laid.small.tasks in
     let mine = (((there.each id h (set-there (map hand_of vs) id v.hand h (at_map hand_of vs id v at))).mine t e).0) in (there.balances.named t (omega arith)).1) in

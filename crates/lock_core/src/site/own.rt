@@ -4,7 +4,7 @@ ghost use mathlib.Core.Option.{some};
 ghost use lib.ListN.{get_elem?};
 ghost use Rattle.lock_core.specs.declared.view.Hand.{Hand};
 ghost use Rattle.lock_core.specs.Layout.{site_width, lay};
-ghost use Rattle.lock_core.specs.Views.{ticked, handed};
+ghost use Rattle.lock_core.specs.Views.{ticked, handed, with_number};
 ghost use Rattle.lock_core.specs.Sites.{SiteKept, SiteStep};
 ghost use Rattle.lock_core.specs.Moves.{KeepsHold};
 ghost use Rattle.lock_core.specs.Pasts.{FoundAt};
@@ -59,7 +59,8 @@ impl<R: SiteRule> Site<R> {
         self.step::<Put<P>>(pass, LOCK_WORDS + at, Op::Add(by));
     }
 
-    /// Takes a task's number where nobody has it, and says whether it did. The pass then has such a hand.
+    /// Takes a task's number where nobody has it, and says whether it did. The pass then has such a
+    /// hand, and what it saw of the spin word is forgotten.
     pub(crate) fn take<B: Becomes>(&self, pass: &mut Pass<R>, task: u32) -> bool
         requires own { IsOneOf self.now pass.old }
         requires inside { task < MAX_TASKS }
@@ -68,7 +69,7 @@ impl<R: SiteRule> Site<R> {
         ensures own { KeepsSeat pass.old pass.new }
         ensures face { SaysSame pass.old pass.new }
         ensures taken { result ≡ true →
-            (g : Hand) × B.becomes g × (view_of pass.new ≡ handed (view_of pass.old) g) }
+            (g : Hand) × B.becomes g × (view_of pass.new ≡ with_number (view_of pass.old) g) }
         ensures missed { result ≡ false → view_of pass.new ≡ ticked (view_of pass.old) }
     {
         self.step::<Begin<B>>(

@@ -8,7 +8,7 @@ ghost use Rattle.word_bits.specs.Legal.{seen_after};
 ghost use Rattle.lock_core.specs.declared.view.Hand.{Hand};
 ghost use Rattle.word_bits.specs.declared.entry.Entry.{Entry as Logged};
 ghost use Rattle.lock_core.specs.Records.{row, seen_by, AreNext};
-ghost use Rattle.lock_core.specs.Views.{handed, gave_up, Beside, HoldsNothing, Knows};
+ghost use Rattle.lock_core.specs.Views.{handed, gave_up, Beside, BesideForgetting, HoldsNothing, Knows};
 ghost use Rattle.lock_core.specs.Passes.{Numbered};
 ghost use Rattle.lock_core.specs.Handles.{plan_of, view_of, hand_in, task_in, front_in, SitsAt, IsOneOf, KeepsSeat, KeepsPast, SaysSame, IsLatest, TakesNumber};
 
@@ -22,7 +22,8 @@ use word_bits::{CallWords, Object, Rec, Reply};
 
 impl<R: SiteRule> Site<R> {
     /// Waits until nobody has the task's number, and takes it with the task's records. What the pass
-    /// saw of the lock's word is forgotten, and it has seen as many entries as the task.
+    /// saw of the lock's word and of the spin word is forgotten, and it has seen as many entries as the
+    /// task.
     pub fn begin<W: Wait>(&self, rt: &W, pass: &mut Pass<R>, task: u32)
         requires own { SitsAt self.now pass.old }
         requires numberless { task_in pass.old ≡ None }
@@ -31,7 +32,7 @@ impl<R: SiteRule> Site<R> {
         ensures goes_on { KeepsPast pass.old pass.new }
         ensures last { IsLatest pass.new }
         ensures became { TakesNumber R.O.object R.unavailable self.now task pass.old pass.new }
-        ensures beside { Beside (view_of pass.old) (view_of pass.new) }
+        ensures beside { BesideForgetting (view_of pass.old) (view_of pass.new) }
         ensures rises { (front_in pass.old) ≤ (front_in pass.new) }
     {
         self.take_number(rt, pass, task);
@@ -52,7 +53,7 @@ impl<R: SiteRule> Site<R> {
         ensures own { KeepsSeat pass.old pass.new }
         ensures face { SaysSame pass.old pass.new }
         ensures became { TakesNumber R.O.object R.unavailable self.now task pass.old pass.new }
-        ensures beside { Beside (view_of pass.old) (view_of pass.new) }
+        ensures beside { BesideForgetting (view_of pass.old) (view_of pass.new) }
     {
         for _ in rt.forever() {
             // Of two passes that want the number, one finds the other's 1.

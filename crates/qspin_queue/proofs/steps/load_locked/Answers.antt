@@ -1,0 +1,15 @@
+use Rattle.std.proofs.Common.{ap, sym, ◌∙◌, ℕ, subst}
+use Rattle.lock_core.specs.declared.op.Op.TheVariants.{Load}
+use Rattle.lock_core.specs.SpinFrames.{holds_at}
+use Rattle.lock_core.specs.Spins.{locked_at}
+use Rattle.qspin_word.specs.Allows.{SpinAllows}
+use Rattle.qspin_word.proofs.SpinSteps.{ends-none}
+use Rattle.qspin_queue.specs.Hands.{heard}
+use Rattle.qspin_queue.proofs.QueueSteps.{hears}
+use Rattle.qspin_queue.proofs.steps.load_locked.Goals as goal
+
+pub spin_step-requires-clause-may : goal.spin_step-requires-clause-may
+spin_step-requires-clause-may g c = λ n ends. ends-none c.args.pass.now.seat.me.0.view.spin (heard n c.args.pass.now.seat.me.0.view) (g.H.SpinHost.may_free c.args.pass.now.seat.me.0.view) (ap holds_at c.requires.point) ends
+
+pub spin_step-requires-clause-lock : goal.spin_step-requires-clause-lock
+spin_step-requires-clause-lock g c = subst (λ (z : ℕ). SpinAllows c.args.pass.now.seat.id c.args.pass.now.seat.me.0.view z (Load) (λ n. heard n c.args.pass.now.seat.me.0.view) (λ n. Unit {0})) (sym (c.locked_place.ensures ∙ ap locked_at (sym c.requires.node))) (hears c.args.pass.now.seat.me.0.view c.args.pass.now.seat.id c.requires.point)

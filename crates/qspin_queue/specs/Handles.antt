@@ -1,0 +1,33 @@
+-- What a clause reads of a pass in the queue of a spin lock.
+use Rattle.std.specs.Prelude.{◌≡◌, ◌≢◌, ℕ, ◌+◌, ◌<◌, Some}
+use Rattle.word_bits.specs.declared.TheConstants.{MAX_TASKS}
+use Rattle.lock_core.specs.declared.pass.Pass.{Pass}
+use Rattle.lock_core.specs.declared.view.Point.TheVariants.{Taking}
+use Rattle.lock_core.specs.Handles.{view_of, hand_in}
+use Rattle.qspin_word.specs.Ways.{SpinGained}
+
+module _ {R O E C : Type 0} where
+  -- the code of its node
+  abbrev pub code_in : Pass R O E C → ℕ
+  code_in pass = (view_of pass).spin.frame.code
+
+  -- the code of its predecessor: the tail that it found
+  abbrev pub found_in : Pass R O E C → ℕ
+  found_in pass = (view_of pass).spin.frame.found
+
+  -- the code of its successor, or 0 while it hasn't seen one
+  abbrev pub successor_in : Pass R O E C → ℕ
+  successor_in pass = (view_of pass).spin.frame.next
+
+  -- this is the code of the node of its task
+  pub record IsOwnNode (pass : Pass R O E C) (code : ℕ) : Type 0 where
+    pub task : ℕ
+    pub named : (hand_in pass).task ≡ Some task
+    pub is : code ≡ task + 1
+    pub small : task < MAX_TASKS
+
+  -- after some steps it holds the spin lock, by the queue or by a try before it; what it saw of the word is as before
+  pub record TakesQueued (old new : Pass R O E C) : Type 0 where
+    pub gained : SpinGained (view_of old) (view_of new)
+    pub saw : (view_of new).spin.saw ≡ (view_of old).spin.saw
+    pub from : (view_of new).spin.from ≢ Taking

@@ -1,0 +1,43 @@
+-- What a try, and a way to the lock, leave of a view.
+use Rattle.std.specs.Prelude.{◌≡◌, ◌≢◌, ℕ, ◌+◌, ◌<◌, ◌≤◌, ◌⊎◌, Some}
+use Rattle.lock_core.specs.declared.view.View.{View}
+use Rattle.lock_core.specs.declared.view.Saw.{Saw}
+use Rattle.lock_core.specs.declared.view.Point.TheVariants.{Holding}
+use Rattle.lock_core.specs.Views.{SpinRests, SpinHolds}
+use Rattle.qspin_word.specs.Hands.{took_at, saw_word}
+
+module _ {E : Type 0} where
+  -- a load that found the lock free, and the exchange that took it
+  abbrev pub SpinTaken : View E → View E → Type 0
+  SpinTaken v u = u ≡ record v { spin = took_at v.spin (v.steps + 2) Holding; steps = v.steps + 2 }
+
+  -- a try that made so many steps, the last of which saw this word
+  abbrev pub SpinMissed : View E → ℕ → View E → Type 0
+  SpinMissed v word u = (word ≢ 0) × ((u.steps ≡ v.steps + 1) ⊎ (u.steps ≡ v.steps + 2)) × (u ≡ record v { spin = saw_word v.spin word u.steps; steps = u.steps })
+
+  -- after some steps it holds the spin lock, taken once more; all but that is as before
+  pub record SpinGained (v u : View E) : Type 0 where
+    pub hand : u.hand ≡ v.hand
+    pub fronts : u.fronts ≡ v.fronts
+    pub ext : u.ext ≡ v.ext
+    pub holds : SpinHolds u.spin
+    pub counted : u.spin.entries ≡ v.spin.entries + 1
+    pub took : (v.steps < u.spin.took) × (u.spin.took ≤ u.steps)
+
+  -- a step since saw a tail, or a pending bit that isn't the pass's own
+  pub record SawRival (v u : View E) : Type 0 where
+    pub saw : Saw
+    pub is : u.spin.saw ≡ Some saw
+    pub rival : 256 ≤ saw.word
+    pub since : v.steps < saw.step
+    pub by_now : saw.step ≤ u.steps
+
+  -- it has nothing to do with the lock, since it saw a rival; all but that is as before
+  pub record SpinRefused (v u : View E) : Type 0 where
+    pub hand : u.hand ≡ v.hand
+    pub fronts : u.fronts ≡ v.fronts
+    pub ext : u.ext ≡ v.ext
+    pub out : SpinRests u.spin
+    pub counted : u.spin.entries ≡ v.spin.entries
+    pub later : v.steps < u.steps
+    pub saw : SawRival v u

@@ -1,0 +1,58 @@
+//! A step on one of the spin words of any table, which asks for the lock's own facts alone.
+ghost use Rattle.std.specs.Prelude.{◌≡◌, ◌<◌, ◌+◌, ℕ};
+ghost use Rattle.lock_core.specs.declared.view.SpinHand.{SpinHand};
+ghost use Rattle.lock_core.specs.declared.layout.TheConstants.{SPIN_WORDS};
+ghost use Rattle.lock_core.specs.Views.{no_spin};
+ghost use Rattle.lock_core.specs.Spins.{SpinFrees};
+ghost use Rattle.lock_core.specs.Pasts.{FindsAt, FoundAt};
+ghost use Rattle.lock_core.specs.Handles.{view_of, past_of, SitsAt};
+ghost use Rattle.qspin_word.specs.Allows.{SpunBy};
+ghost use Rattle.qspin_word.specs.Handles.{spin_in, MaySpin, SpinSteps};
+
+use atomic_table::Play;
+use lock_core::view::View;
+use lock_core::{Op, Pass, Site, SpinHost};
+use std::marker::{Brand, PhantomData};
+
+/// What a step on a spin word leaves the spin part of its pass's view as, by what the step tells, and
+/// what is so of what it tells. A call picks both by `Brand`.
+pub trait SpinAfter {
+    ghost after: { ℕ → SpinHand };
+
+    ghost tells: { ℕ → Type 0 };
+}
+
+impl SpinAfter for Brand {
+    ghost after = { λ _. no_spin };
+
+    ghost tells = { λ _. Unit {0} };
+}
+
+struct By<A> {
+    after: PhantomData<A>,
+}
+
+impl<E, A: SpinAfter> Play<(), View<E>> for By<A> {
+    ghost then = { SpunBy A.after A.tells };
+}
+
+/// Does one operation on a spin word, counted from the first of them, and answers what the word was
+/// before; a store answers what it stored.
+#[inline]
+pub fn spin_step<H: SpinHost, A: SpinAfter>(
+    site: &Site<H>,
+    pass: &mut Pass<H>,
+    at: usize,
+    op: Op,
+) -> u64
+    requires own { SitsAt site.now pass.old }
+    requires inside { at < SPIN_WORDS }
+    requires may { (n : ℕ) →
+        SpinFrees (spin_in pass.old) (A.after n) → H.may_free (view_of pass.old) }
+    requires lock { MaySpin pass.old at op A.after A.tells }
+    ensures steps { SpinSteps site.now pass.old pass.new (A.after result) }
+    ensures tells { A.tells result }
+    ensures found { FindsAt op (H.FIRST + at) result (past_of pass.new) }
+{
+    site.step::<By<A>>(pass, H::FIRST + at, op)
+}

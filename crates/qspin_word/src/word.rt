@@ -1,0 +1,87 @@
+//! The try and the release of the spin lock, and its way by the pending bit.
+ghost use Rattle.std.specs.Prelude.{◌≡◌, ℕ, ◌+◌, ◌<◌, true, false, IfErr, IfOk, IsSome};
+ghost use Rattle.lock_core.specs.declared.view.Point.TheVariants.{Taking};
+ghost use Rattle.lock_core.specs.Views.{SpinRests, SpinHolds};
+ghost use Rattle.lock_core.specs.Spins.{spun};
+ghost use Rattle.lock_core.specs.Pasts.{FoundAt};
+ghost use Rattle.lock_core.specs.Handles.{view_of, past_of, task_in, SitsAt, SaysSame, KeepsPast, IsLatest};
+ghost use Rattle.qspin_word.specs.Hands.{freed};
+ghost use Rattle.qspin_word.specs.Handles.{spin_in};
+ghost use Rattle.qspin_word.specs.Ways.{SpinTaken, SpinMissed, SpinGained, SpinRefused};
+
+use crate::steps::{
+    clear_pending, clear_pending_set_locked, exchange_free, fetch_set_pending, look, release,
+    wait_unlocked,
+};
+use lock_core::{Pass, Site, SpinHost};
+use std::sync::Wait;
+
+/// Takes the spin lock where its word is 0, by one load and, if that saw 0, one compare-exchange from
+/// 0 to 1. `Err` has the word, not 0, that the load or the exchange saw. (`queued_spin_trylock`)
+pub fn trylock<H: SpinHost>(site: &Site<H>, pass: &mut Pass<H>) -> Result<(), u64>
+    requires own { SitsAt site.now pass.old }
+    requires numbered { IsSome (task_in pass.old) }
+    requires out { SpinRests (spin_in pass.old) }
+    ensures own { SitsAt site.now pass.new }
+    ensures face { SaysSame pass.old pass.new }
+    ensures goes_on { KeepsPast pass.old pass.new }
+    ensures last { IsLatest pass.new }
+    ensures took { IfOk result (λ _. SpinTaken (view_of pass.old) (view_of pass.new)) }
+    ensures missed { IfErr result (λ word. SpinMissed (view_of pass.old) word (view_of pass.new)) }
+    ensures free { IfOk result (λ _. FoundAt H.FIRST 0 (past_of pass.new)) }
+    ensures found { IfErr result (λ word. FoundAt H.FIRST word (past_of pass.new)) }
+{
+    // While the lock is taken contenders only load, and leave its line with the one who has it.
+    let seen = look(site, pass);
+    if seen != 0 {
+        return Err(seen);
+    }
+    // Another may have taken it since: the exchange decides.
+    let found = exchange_free(site, pass);
+    if found == 0 { Ok(()) } else { Err(found) }
+}
+
+/// Releases the spin lock, in one step. (`queued_spin_unlock`)
+pub fn unlock<H: SpinHost>(site: &Site<H>, pass: &mut Pass<H>)
+    requires own { SitsAt site.now pass.old }
+    requires numbered { IsSome (task_in pass.old) }
+    requires held { SpinHolds (spin_in pass.old) }
+    requires free { H.may_free (view_of pass.old) }
+    ensures own { SitsAt site.now pass.new }
+    ensures face { SaysSame pass.old pass.new }
+    ensures goes_on { KeepsPast pass.old pass.new }
+    ensures last { IsLatest pass.new }
+    ensures kept { view_of pass.new ≡ spun (view_of pass.old) (freed (view_of pass.old)) }
+{
+    // A subtraction, and no store: a contender may set the pending bit or the tail meanwhile.
+    release(site, pass);
+}
+
+/// Tries the way by the pending bit, which the first contender of a holder takes: it needs no node.
+/// True where the pass then holds; false where a tail or another's pending bit stood before it.
+pub fn take_by_pending<H: SpinHost, W: Wait>(site: &Site<H>, rt: &W, pass: &mut Pass<H>) -> bool
+    requires own { SitsAt site.now pass.old }
+    requires out { SpinRests (spin_in pass.old) }
+    ensures own { SitsAt site.now pass.new }
+    ensures face { SaysSame pass.old pass.new }
+    ensures goes_on { KeepsPast pass.old pass.new }
+    ensures last { IsLatest pass.new }
+    ensures gained { result ≡ true → SpinGained (view_of pass.old) (view_of pass.new) }
+    ensures from { result ≡ true → (spin_in pass.new).from ≡ Taking }
+    ensures later { result ≡ true → (view_of pass.old).steps + 1 < (spin_in pass.new).took }
+    ensures refused { result ≡ false → SpinRefused (view_of pass.old) (view_of pass.new) }
+{
+    // Of several contenders one finds neither tail nor pending, and owns the bit that it set.
+    let seen = fetch_set_pending(site, pass);
+    if seen < 256 {
+        wait_unlocked(site, rt, pass);
+        // While the bit is set nobody else takes the lock: who comes queues, and the front waits.
+        clear_pending_set_locked(site, pass);
+        return true;
+    }
+    // The bit was clear, so this pass set it, beside a tail. Whoever finds it set leaves it.
+    if seen / 256 % 2 == 0 {
+        clear_pending(site, pass);
+    }
+    false
+}
