@@ -140,7 +140,8 @@ impl Osq {
     }
 
     /// Waits until the task is the last, and leaves, or until it has a successor, whose code it
-    /// takes out of its own `next`. `prev` is its predecessor, and None where it is the front.
+    /// takes out of its own `next`. `prev` is its predecessor, and None where it is the front. The
+    /// kernel's `osq_wait_next`.
     pub fn wait_next<W: Wait>(
         &self,
         rt: &W,
@@ -204,7 +205,8 @@ impl Osq {
         unreachable!()
     }
 
-    /// Leaves the queue as its front, and grants the successor, where it has one.
+    /// Leaves the queue as its front, and grants the successor, where it has one. The kernel's
+    /// `osq_unlock`.
     pub fn unlock<W: Wait>(&self, rt: &W, pass: &mut OsqPass)
         requires own { SitsAt self.now pass.old }
         requires numbered { IsSome (task_in pass.old) }
