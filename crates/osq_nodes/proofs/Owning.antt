@@ -1,5 +1,6 @@
 -- A step of a pass on a word of the queue, which keeps the queue's own rule, keeps the rule of the table.
-use Rattle.std.proofs.Common.{◌≡◌, ℕ, zero, suc, ◌+◌, ◌<◌, ◌≤◌, Bool, true, false, if◌then◌else◌, List, length, map, get_or, set, Option, Some, None, IsSome, sym, refl, ap, ◌∙◌, subst, arith, length-set}
+use mathlib.Core.Bool.{not}
+use Rattle.std.proofs.Common.{nat_eq, ◌≡◌, ℕ, zero, suc, ◌+◌, ◌<◌, ◌≤◌, Bool, true, false, if◌then◌else◌, List, length, map, get_or, set, Option, Some, None, IsSome, sym, refl, ap, ◌∙◌, subst, arith, length-set, ne_eqb}
 use Rattle.std.proofs.Math.Seq.{take-set-lt}
 use Rattle.std.proofs.lemmas.List.{drop-set-lt, get_or-take, length-take-le}
 use mathlib.Core.Option.{some}
@@ -21,7 +22,7 @@ use Rattle.lock_core.specs.Ops.{word_after, told_by}
 use Rattle.lock_core.specs.Plays.{Turns}
 use Rattle.lock_core.specs.Pasts.{FoundAt, FoundAtStep, GoesOn, IsOwnStep}
 use Rattle.lock_core.specs.RunLaws.{found-at-step}
-use Rattle.osq_nodes.specs.Handles.{FoundBy}
+use Rattle.osq_nodes.specs.Handles.{FoundBy, FoundNext, past_of}
 use Rattle.lock_core.specs.Layout.{SiteWords, site, lay}
 use Rattle.lock_core.specs.Views.{hand_of, named_of}
 use Rattle.lock_core.specs.Sites.{SiteKept}
@@ -33,10 +34,11 @@ use Rattle.lock_core.proofs.HandLaws.{not-both}
 use Rattle.osq_nodes.specs.declared.node.Place.{Place}
 use Rattle.osq_nodes.specs.declared.node.Place.TheVariants.{Out}
 use Rattle.osq_nodes.specs.declared.node.Node.{Node}
+use Rattle.osq_nodes.specs.declared.pass.OsqPass.{OsqPass}
 use Rattle.osq_nodes.specs.Places.{is_swap, is_coming_first, waits_at, takes_at}
 use Rattle.osq_nodes.specs.Steps.{placed, swapped, taking_of}
 use Rattle.osq_nodes.specs.Kept.{RowKept, with_at}
-use Rattle.osq_nodes.specs.Words.{row_of, tail_in}
+use Rattle.osq_nodes.specs.Words.{next_at, row_of, tail_in}
 use Rattle.osq_nodes.specs.Stated.{Changes}
 use Rattle.osq_nodes.specs.Ruled.{V, Seated, OsqKept, OsqMoves, NodeStep, FindsTail, Local, stepped}
 use Rattle.osq_nodes.specs.RuledLaws.{goes, number-one}
@@ -93,7 +95,7 @@ module _ (k : Plan) where
       → Goes (OsqKept k) (OsqMoves k) id ws vs (set ws at n) (set vs id (stepped v.ext.place v p told))
   own-step ws vs id at n t told v p q' r there has inside kept changes finds = let small = its-small ws vs id t v r there has in let lt = small.0 in let few = small.1 in let wide = r.wide in let w : V = stepped v.ext.place v p told in
       let stays : site k (set ws at n) ≡ site k ws = ap (lay k) (drop-set-lt LOCK_WORDS ws at n inside) in
-      let moved : Moved (site k ws) (site k ws) v w = record { site = leaves-site (site k ws) v.hand v.hand (omega arith); spin = spin-idle v.spin; fronts = no-fewer (is_coming_first v.ext.place p) v.fronts; counts = refl } in
+      let moved : Moved (site k ws) (site k ws) v w = record { site = leaves-site (site k ws) v.hand v.hand (omega arith); spin = spin-idle (v.steps + 1) v.spin; fronts = no-fewer (is_coming_first v.ext.place p) v.fronts; counts = refl } in
       goes k id ws (set ws at n) vs (set vs id w) r
       record {
         wide = length-set ws at n ∙ r.wide;
@@ -150,3 +152,7 @@ found-by task begun i n v old past new named later own found after goes_on = (v.
 -- and it is still known later
 pub since-later : (task : Option ℕ) (begun i n n' : ℕ) (old between new : List Moment) → n' ≡ n → FoundBy task begun i n old between → GoesOn between new → FoundBy task begun i n' old new
 since-later task begun i n n' old between new same (step, later, f) on = (step, later, subst (λ (m : ℕ). FoundAtStep task step i m old new) (sym same) (record { past = f.past; by = f.by; found = f.found; after = f.after; goes_on = λ p t. on p (f.goes_on p t) }))
+
+pub found-next : (at n task : ℕ) (pass : OsqPass) → at ≡ next_at task → FoundAt at n (past_of pass) → FoundNext (not (nat_eq n 0)) task pass
+found-next at zero task pass same found = subst (λ (i : ℕ). FoundAt i 0 (past_of pass)) same found
+found-next at (suc next) task pass same found = subst (λ (b : Bool). FoundNext (not b) task pass) (sym (ne_eqb (suc next) 0 (λ e. omega (arith, e)))) (next, subst (λ (i : ℕ). FoundAt i (suc next) (past_of pass)) same found)
