@@ -6,8 +6,8 @@ use Rattle.osq_nodes.specs.declared.node.Place.{Place}
 use Rattle.osq_nodes.specs.declared.node.Place.TheVariants.{Out, Cleared, Swapped, Linking, Waiting, Unlinked, Splicing, Relinking, Front, Granting}
 use Rattle.lock_core.specs.NodeLists.{Has, IsFirst, Precedes, last_from, without}
 use Rattle.osq_nodes.specs.Places.{Owes}
-use Rattle.osq_nodes.specs.Kept.{IsBehind, IsHead, IsCode, Owed, IsAt, Sets, QueueKept, upd}
-use Rattle.osq_nodes.proofs.Updating.{upd-sets}
+use Rattle.osq_nodes.specs.Kept.{IsBehind, IsHead, IsCode, Owed, IsAt, Sets, QueueKept, with_at}
+use Rattle.osq_nodes.proofs.Updating.{with_at-sets}
 use Rattle.lock_core.specs.NodeListLaws.{left-has, right-has, same-successor, has-kept, kept-has, once-kept, first-kept, precedes-kept, kept-precedes}
 
 -- a fact of each task, where one goes to another place
@@ -71,7 +71,7 @@ module _ (size tail : ℕ) (next prev locked : ℕ → ℕ) (place place' : ℕ 
   pub takes : (P P' : Place) (x y : ℕ) (next' : ℕ → ℕ) → place t ≡ P → Sets place place' t P' → next x ≡ suc y → Sets next next' x 0 → ((a c : ℕ) → Owes t P a c → Owes t P' a c) → Owes t P' x y
       → ((a : ℕ) → IsBehind a P (prev t) (locked t) → IsBehind a P' (prev t) (locked t)) → (IsFirst q t → IsHead P (locked t) → IsHead P' (locked t))
       → ((b' : ℕ → ℕ) → Sets r.debtor b' x (suc t) → IsAt size q b' t P' (prev t) (locked t)) → QueueKept size tail next' prev locked place' q
-  takes P P' x y next' is s link set owes this behind front mine = let b' : ℕ → ℕ = upd r.debtor x (suc t) in let sets = upd-sets r.debtor x (suc t) in let l = r.links x y link in record {
+  takes P P' x y next' is s link set owes this behind front mine = let b' : ℕ → ℕ = with_at r.debtor x (suc t) in let sets = with_at-sets r.debtor x (suc t) in let l = r.links x y link in record {
     debtor = b';
     once = r.once;
     ends = r.ends;
@@ -89,7 +89,7 @@ module _ (size tail : ℕ) (next prev locked : ℕ → ℕ) (place place' : ℕ 
   pub puts : (P P' : Place) (x y : ℕ) (next' : ℕ → ℕ) → place t ≡ P → Sets place place' t P' → Owed size q r.debtor x y t → Sets next next' x (suc y) → ((a c : ℕ) → a ≢ x → Owes t P a c → Owes t P' a c)
       → ((a : ℕ) → IsBehind a P (prev t) (locked t) → IsBehind a P' (prev t) (locked t)) → (IsFirst q t → IsHead P (locked t) → IsHead P' (locked t))
       → ((b' : ℕ → ℕ) → IsAt size q b' t P' (prev t) (locked t)) → QueueKept size tail next' prev locked place' q
-  puts P P' x y next' is s link set owes behind front mine = let b' : ℕ → ℕ = upd r.debtor x 0 in let sets = upd-sets r.debtor x 0 in record {
+  puts P P' x y next' is s link set owes behind front mine = let b' : ℕ → ℕ = with_at r.debtor x 0 in let sets = with_at-sets r.debtor x 0 in record {
     debtor = b';
     once = r.once;
     ends = r.ends;

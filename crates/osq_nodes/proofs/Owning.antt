@@ -1,5 +1,6 @@
 -- A step of a pass on a word of the queue, which keeps the queue's own rule, keeps the rule of the table.
-use Rattle.std.proofs.Common.{◌≡◌, ℕ, zero, suc, ◌+◌, ◌<◌, ◌≤◌, Bool, true, false, if◌then◌else◌, List, length, map, get_or, set, Option, Some, None, IsSome, sym, refl, ap, ◌∙◌, subst, arith, length-set}
+use mathlib.Core.Bool.{not}
+use Rattle.std.proofs.Common.{nat_eq, ◌≡◌, ℕ, zero, suc, ◌+◌, ◌<◌, ◌≤◌, Bool, true, false, if◌then◌else◌, List, length, map, get_or, set, Option, Some, None, IsSome, sym, refl, ap, ◌∙◌, subst, arith, length-set, ne_eqb}
 use Rattle.std.proofs.Math.Seq.{take-set-lt}
 use Rattle.std.proofs.lemmas.List.{drop-set-lt, get_or-take, length-take-le}
 use mathlib.Core.Option.{some}
@@ -21,7 +22,7 @@ use Rattle.lock_core.specs.Ops.{word_after, told_by}
 use Rattle.lock_core.specs.Plays.{Turns}
 use Rattle.lock_core.specs.Pasts.{FoundAt, FoundAtStep, GoesOn, IsOwnStep}
 use Rattle.lock_core.specs.RunLaws.{found-at-step}
-use Rattle.osq_nodes.specs.Handles.{FoundBy}
+use Rattle.osq_nodes.specs.Handles.{FoundBy, FoundNext, past_of}
 use Rattle.lock_core.specs.Layout.{SiteWords, site, lay}
 use Rattle.lock_core.specs.Views.{hand_of, named_of}
 use Rattle.lock_core.specs.Sites.{SiteKept}
@@ -33,15 +34,16 @@ use Rattle.lock_core.proofs.HandLaws.{not-both}
 use Rattle.osq_nodes.specs.declared.node.Place.{Place}
 use Rattle.osq_nodes.specs.declared.node.Place.TheVariants.{Out}
 use Rattle.osq_nodes.specs.declared.node.Node.{Node}
+use Rattle.osq_nodes.specs.declared.pass.OsqPass.{OsqPass}
 use Rattle.osq_nodes.specs.Places.{is_swap, is_coming_first, waits_at, takes_at}
 use Rattle.osq_nodes.specs.Steps.{placed, swapped, taking_of}
-use Rattle.osq_nodes.specs.Kept.{RowKept, upd}
-use Rattle.osq_nodes.specs.Words.{row_of, tail_in}
+use Rattle.osq_nodes.specs.Kept.{RowKept, with_at}
+use Rattle.osq_nodes.specs.Words.{next_at, row_of, tail_in}
 use Rattle.osq_nodes.specs.Stated.{Changes}
 use Rattle.osq_nodes.specs.Ruled.{V, Seated, OsqKept, OsqMoves, NodeStep, FindsTail, Local, stepped}
 use Rattle.osq_nodes.specs.RuledLaws.{goes, number-one}
 use Rattle.osq_nodes.specs.Passes.{OnQueue}
-use Rattle.osq_nodes.proofs.Updating.{upd-sets}
+use Rattle.osq_nodes.proofs.Updating.{with_at-sets}
 use Rattle.osq_nodes.proofs.Locals.{relocate}
 
 pub same-number : (x : Option ℕ) (t u : ℕ) → x ≡ Some t → x ≡ Some u → u ≡ t
@@ -51,10 +53,10 @@ some-none : (x : Option ℕ) (t : ℕ) {P : Type 0} → x ≡ Some t → x ≡ N
 some-none x t {P} e f = absurd cc
 
 -- the task's place changes
-seat-moves : (place : ℕ → Place) (vs : List V) (id t : ℕ) (v w : V) → Seated place vs → get_elem? vs id ≡ some v → w.hand ≡ v.hand → v.hand.task ≡ Some t → total (named_of t) (map hand_of vs) ≤ 1 → Seated (upd place t w.ext.place) (set vs id w)
-seat-moves place vs id t v w r at same has one = let hs : List Hand = map hand_of vs in let at' = at_map hand_of vs id v at in let sets = upd-sets place t w.ext.place in let mine : named_of t v.hand ≡ 1 = number-one t v.hand.task has in record {
-  mine = each-set (λ (u : V). (t' : ℕ) → u.hand.task ≡ Some t' → place t' ≡ u.ext.place) (λ (u : V). (t' : ℕ) → u.hand.task ≡ Some t' → upd place t w.ext.place t' ≡ u.ext.place) vs id w
-      (λ t' e. ap (upd place t w.ext.place) (same-number v.hand.task t t' has (sym (ap (λ (h : Hand). h.task) same) ∙ e)) ∙ sets.0)
+seat-moves : (place : ℕ → Place) (vs : List V) (id t : ℕ) (v w : V) → Seated place vs → get_elem? vs id ≡ some v → w.hand ≡ v.hand → v.hand.task ≡ Some t → total (named_of t) (map hand_of vs) ≤ 1 → Seated (with_at place t w.ext.place) (set vs id w)
+seat-moves place vs id t v w r at same has one = let hs : List Hand = map hand_of vs in let at' = at_map hand_of vs id v at in let sets = with_at-sets place t w.ext.place in let mine : named_of t v.hand ≡ 1 = number-one t v.hand.task has in record {
+  mine = each-set (λ (u : V). (t' : ℕ) → u.hand.task ≡ Some t' → place t' ≡ u.ext.place) (λ (u : V). (t' : ℕ) → u.hand.task ≡ Some t' → with_at place t w.ext.place t' ≡ u.ext.place) vs id w
+      (λ t' e. ap (with_at place t w.ext.place) (same-number v.hand.task t t' has (sym (ap (λ (h : Hand). h.task) same) ∙ e)) ∙ sets.0)
       (λ j u other at'' p t' e. sets.1 t' (λ is. let two = total-two (named_of t) hs id j v.hand u.hand at' (at_map hand_of vs j u at'') (λ k. other (sym k)) in let b : named_of t u.hand ≡ 1 = number-one t u.hand.task (e ∙ ap Some is) in omega (arith, two, b, mine, one)) ∙ p t' e) r.mine;
   free = λ t' z. let before : total (named_of t') hs ≡ 0 = sym (keep_part hand_of (λ (gs : List Hand). total (named_of t') gs ≡ total (named_of t') hs) vs id v w at same refl) ∙ z in
       sets.1 t' (λ is. let a = total-at (named_of t) hs id v.hand at' in let b : total (named_of t) hs ≡ 0 = subst (λ (u : ℕ). total (named_of u) hs ≡ 0) is before in omega (arith, a, b, mine)) ∙ r.free t' before;
@@ -89,7 +91,7 @@ module _ (k : Plan) where
   }
 
   own-step : (ws : List ℕ) (vs : List V) (id at n t told : ℕ) (v : V) (p : Place) (q' : List ℕ) (r : OsqKept k ws vs) → get_elem? vs id ≡ some v → v.hand.task ≡ Some t → at < LOCK_WORDS
-      → RowKept (length k) (set (row_of ws) at n) (upd r.place t p) q' → Changes (row_of ws) (set (row_of ws) at n) r.place r.queue q' → FindsTail (is_swap v.ext.place p) told (tail_in (row_of ws))
+      → RowKept (length k) (set (row_of ws) at n) (with_at r.place t p) q' → Changes (row_of ws) (set (row_of ws) at n) r.place r.queue q' → FindsTail (is_swap v.ext.place p) told (tail_in (row_of ws))
       → Goes (OsqKept k) (OsqMoves k) id ws vs (set ws at n) (set vs id (stepped v.ext.place v p told))
   own-step ws vs id at n t told v p q' r there has inside kept changes finds = let small = its-small ws vs id t v r there has in let lt = small.0 in let few = small.1 in let wide = r.wide in let w : V = stepped v.ext.place v p told in
       let stays : site k (set ws at n) ≡ site k ws = ap (lay k) (drop-set-lt LOCK_WORDS ws at n inside) in
@@ -98,10 +100,10 @@ module _ (k : Plan) where
       record {
         wide = length-set ws at n ∙ r.wide;
         site_holds = subst (λ (z : SiteWords). SiteKept nothing never 0 k z (map hand_of (set vs id w))) (sym stays) (keep_part hand_of (SiteKept nothing never 0 k (site k ws)) vs id v w there refl r.site_holds);
-        place = upd r.place t p;
+        place = with_at r.place t p;
         queue = q';
         seated = seat-moves r.place vs id t v w r.seated there refl has ((r.site_holds.balances.named t (omega arith)).1);
-        kept = subst (λ (row : List ℕ). RowKept (length k) row (upd r.place t p) q') (sym (take-set-lt LOCK_WORDS ws at n inside)) kept;
+        kept = subst (λ (row : List ℕ). RowKept (length k) row (with_at r.place t p) q') (sym (take-set-lt LOCK_WORDS ws at n inside)) kept;
       }
       (subst (λ (z : SiteWords). SiteMove id (site k ws) vs z (set vs id w)) (sym stays) (set-moves id (site k ws) (site k ws) vs v w there moved))
       (node-steps (tail_in (row_of ws)) id vs v p told there finds)
@@ -113,7 +115,7 @@ module _ (k : Plan) where
   lets slots id t at me op to tells has inside local s r _ there _ = let v = me.0 in let row : List ℕ = row_of s.words in let n : ℕ = get_or s.words at 0 in let found : get_or row at 0 ≡ n = get_or-take LOCK_WORDS s.words at 0 inside in
       let small = its-small s.words s.views id t v r there has in
       let l = local row r.place r.queue (row-long s.words s.views r) small.0 small.1 r.kept (r.seated.mine id v there t has) in
-      let F : ℕ → Type 0 = λ m. RowKept (length k) (set row at (word_after op m)) (upd r.place t (to (told_by op m))) l.0 × Changes row (set row at (word_after op m)) r.place r.queue l.0 × FindsTail (is_swap v.ext.place (to (told_by op m))) (told_by op m) (tail_in row) × tells (told_by op m) in
+      let F : ℕ → Type 0 = λ m. RowKept (length k) (set row at (word_after op m)) (with_at r.place t (to (told_by op m))) l.0 × Changes row (set row at (word_after op m)) r.place r.queue l.0 × FindsTail (is_swap v.ext.place (to (told_by op m))) (told_by op m) (tail_in row) × tells (told_by op m) in
       let kept = subst F found (l.1, l.2, l.3, l.4) in let told : ℕ = told_by op n in
       (stepped v.ext.place v (to told) told, keeps, tt, own-step s.words s.views id at (word_after op n) t told v (to told) l.0 r there has inside kept.0 kept.1 kept.2, refl, ((refl, refl), kept.3))
 
@@ -150,3 +152,7 @@ found-by task begun i n v old past new named later own found after goes_on = (v.
 -- and it is still known later
 pub since-later : (task : Option ℕ) (begun i n n' : ℕ) (old between new : List Moment) → n' ≡ n → FoundBy task begun i n old between → GoesOn between new → FoundBy task begun i n' old new
 since-later task begun i n n' old between new same (step, later, f) on = (step, later, subst (λ (m : ℕ). FoundAtStep task step i m old new) (sym same) (record { past = f.past; by = f.by; found = f.found; after = f.after; goes_on = λ p t. on p (f.goes_on p t) }))
+
+pub found-next : (at n task : ℕ) (pass : OsqPass) → at ≡ next_at task → FoundAt at n (past_of pass) → FoundNext (not (nat_eq n 0)) task pass
+found-next at zero task pass same found = subst (λ (i : ℕ). FoundAt i 0 (past_of pass)) same found
+found-next at (suc next) task pass same found = subst (λ (b : Bool). FoundNext (not b) task pass) (sym (ne_eqb (suc next) 0 (λ e. omega (arith, e)))) (next, subst (λ (i : ℕ). FoundAt i (suc next) (past_of pass)) same found)

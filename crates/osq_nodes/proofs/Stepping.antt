@@ -4,10 +4,10 @@ use Rattle.osq_nodes.specs.declared.node.Place.{Place}
 use Rattle.osq_nodes.specs.declared.node.Place.TheVariants.{Out, Cleared, Swapped, Linking, Waiting, Unlinked, Splicing, Relinking, Front, Granting}
 use Rattle.lock_core.specs.NodeLists.{Has, IsFirst, Precedes, last_from, without}
 use Rattle.osq_nodes.specs.Places.{Owes}
-use Rattle.osq_nodes.specs.Kept.{IsBehind, IsHead, IsCode, Owed, IsAt, Sets, QueueKept, upd}
+use Rattle.osq_nodes.specs.Kept.{IsBehind, IsHead, IsCode, Owed, IsAt, Sets, QueueKept, with_at}
 use Rattle.osq_nodes.specs.Walks.{owes-one}
 use Rattle.osq_nodes.specs.Stated.{OwnsLinks}
-use Rattle.osq_nodes.proofs.Updating.{upd-sets}
+use Rattle.osq_nodes.proofs.Updating.{with_at-sets}
 use Rattle.lock_core.specs.NodeListLaws.{first-has, first-same, first-before, left-has, right-has, same-predecessor, same-successor, precedes-apart, has-cases, last-precedes, last-none, last-snoc, last-stays, last-leaves, alone, once-snoc, precedes-snoc, snoc-precedes, snoc-links, snoc-has, has-snoc, first-snoc, snoc-first, kept-has, kept-first, kept-precedes}
 use Rattle.osq_nodes.proofs.Keeping.{carry, at-keeps, same-task, no-code, there, keeps-behind, keeps-front, keeps-each, takes, puts, removes}
 
@@ -97,7 +97,7 @@ module _ (size tail : ℕ) (next prev locked : ℕ → ℕ) (place place' : ℕ 
   -- it swaps the tail of a queue whose last is z
   pub enters : (z : ℕ) → place t ≡ Cleared → tail ≡ suc z → t < size → Sets place place' t (Swapped z) → QueueKept size (suc t) next prev locked place' (q ++ t ∷ [])
   enters z is last small s = let out : (¬ Has q t) × (locked t ≡ 0) = there size tail next prev locked place place' q t r Cleared is in let ends : last_from 0 q ≡ suc z = sym r.ends ∙ last in
-      let q' : List ℕ = q ++ t ∷ [] in let b' : ℕ → ℕ = upd r.debtor z (suc t) in let sets = upd-sets r.debtor z (suc t) in
+      let q' : List ℕ = q ++ t ∷ [] in let b' : ℕ → ℕ = with_at r.debtor z (suc t) in let sets = with_at-sets r.debtor z (suc t) in
       let same : (x y : ℕ) → Precedes q x y → b' x ≡ r.debtor x = λ x y h. sets.1 x (λ e. last-precedes 0 q z y r.once ends (subst (λ (v : ℕ). Precedes q v y) e h)) in
       let other : (u : ℕ) → Has q u → u ≢ t = λ u m e. out.0 (subst (Has q) e m) in record {
         debtor = b';

@@ -3,11 +3,11 @@ use Rattle.std.proofs.Common.{◌≡◌, ℕ, ◌<◌, Bool, if◌then◌else◌
 use Rattle.word_bits.specs.declared.TheConstants.{MAX_TASKS}
 use Rattle.lock_core.specs.declared.layout.TheConstants.{LOCK_WORDS}
 use Rattle.osq_nodes.specs.declared.node.Place.{Place}
-use Rattle.osq_nodes.specs.Kept.{Sets, QueueKept, RowKept, upd}
+use Rattle.osq_nodes.specs.Kept.{Sets, QueueKept, RowKept, with_at}
 use Rattle.osq_nodes.specs.Words.{next_at, prev_at, locked_at, tail_in, next_in, prev_in, locked_in}
 
-pub upd-sets : {A : Type 0} (f : ℕ → A) (i : ℕ) (v : A) → Sets f (upd f i v) i v
-upd-sets {A} f i v = (ap (λ (b : Bool). if b then v else f i) (eq-eqb i i refl), λ u n. ap (λ (b : Bool). if b then v else f u) (ne_eqb u i n))
+pub with_at-sets : {A : Type 0} (f : ℕ → A) (i : ℕ) (v : A) → Sets f (with_at f i v) i v
+with_at-sets {A} f i v = (ap (λ (b : Bool). if b then v else f i) (eq-eqb i i refl), λ u n. ap (λ (b : Bool). if b then v else f u) (ne_eqb u i n))
 
 module _ (size : ℕ) (row : List ℕ) (place : ℕ → Place) (q : List ℕ) (x n : ℕ) (long : length row ≡ LOCK_WORDS) (small : x < MAX_TASKS) where
   pub sets-next : Sets (next_in row) (next_in (set row (next_at x) n)) x n

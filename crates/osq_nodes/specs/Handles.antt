@@ -1,14 +1,14 @@
 -- What a clause reads of a spin queue and of a pass.
-use Rattle.std.specs.Prelude.{◌≡◌, ◌≢◌, ◌<◌, ℕ, suc, List, Option, Some, length}
+use Rattle.std.specs.Prelude.{◌≡◌, ◌≢◌, ◌<◌, ℕ, suc, Bool, true, false, List, Option, Some, length}
 use Rattle.lock_core.specs.declared.view.Moment.{Moment}
 use Rattle.lock_core.specs.Handles as inner
-use Rattle.lock_core.specs.Pasts.{FoundAtStep}
+use Rattle.lock_core.specs.Pasts.{FoundAt, FoundAtStep}
 use Rattle.osq_nodes.specs.declared.node.Place.{Place}
 use Rattle.osq_nodes.specs.declared.pass.OsqPass.{OsqPass}
 use Rattle.osq_nodes.specs.declared.queue.Osq.{Osq}
 use Rattle.osq_nodes.specs.Passes.{OnQueue}
 use Rattle.osq_nodes.specs.Ruled.{V}
-use Rattle.osq_nodes.specs.Words.{tail_at}
+use Rattle.osq_nodes.specs.Words.{tail_at, next_at}
 
 -- for how many tasks the queue is
 abbrev pub tasks_of : Osq → ℕ
@@ -72,3 +72,13 @@ SawOther old new = (word : ℕ) × FoundBy (task_in old) (steps_in old) tail_at 
 -- a step that it made since found this in the tail, as it says of its tail swap
 abbrev pub SawTail : OsqPass → OsqPass → Type 0
 SawTail old new = FoundBy (task_in old) (steps_in old) tail_at (found_in new) (past_of old) (past_of new)
+
+-- at its last step the pass found its own code in the tail, or, where the answer is false, another word
+abbrev pub FoundOwn : Bool → ℕ → OsqPass → Type 0
+FoundOwn true task pass = FoundAt tail_at (suc task) (past_of pass)
+FoundOwn false task pass = (word : ℕ) × FoundAt tail_at word (past_of pass) × (word ≢ suc task)
+
+-- there it found a code in its own `next`, or, where the answer is false, 0
+abbrev pub FoundNext : Bool → ℕ → OsqPass → Type 0
+FoundNext true task pass = (next : ℕ) × FoundAt (next_at task) (suc next) (past_of pass)
+FoundNext false task pass = FoundAt (next_at task) 0 (past_of pass)

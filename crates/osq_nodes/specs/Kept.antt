@@ -59,8 +59,8 @@ abbrev pub Sets : {A : Type 0} → (ℕ → A) → (ℕ → A) → ℕ → A →
 Sets f f' i v = (f' i ≡ v) × ((u : ℕ) → u ≢ i → f' u ≡ f u)
 
 -- f with another value at i
-abbrev pub upd : {A : Type 0} → (ℕ → A) → ℕ → A → ℕ → A
-upd f i v u = if u == i then v else f u
+abbrev pub with_at : {A : Type 0} → (ℕ → A) → ℕ → A → ℕ → A
+with_at f i v u = if u == i then v else f u
 
 pub record QueueKept (size tail : ℕ) (next prev locked : ℕ → ℕ) (place : ℕ → Place) (queue : List ℕ) : Type 0 where
   -- the code of the one task that owes the link behind a task, 0 where it is there

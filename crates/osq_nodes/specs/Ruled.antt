@@ -24,7 +24,7 @@ use Rattle.osq_nodes.specs.declared.node.Node.{Node}
 use Rattle.osq_nodes.specs.Words.{row_of, tail_in}
 use Rattle.osq_nodes.specs.Places.{is_swap, is_coming_first, node_marks}
 use Rattle.osq_nodes.specs.Stated.{Changes, QueueStep}
-use Rattle.osq_nodes.specs.Kept.{RowKept, upd}
+use Rattle.osq_nodes.specs.Kept.{RowKept, with_at}
 
 abbrev pub V : Type 0
 V = View Node
@@ -50,6 +50,7 @@ pub record Seated (place : ℕ → Place) (vs : List V) : Type 0 where
   pub free : (t : ℕ) → total (named_of t) (map hand_of vs) ≡ 0 → place t ≡ Out
   pub nameless : Each (λ (v : V). v.hand.task ≡ None → v.ext.place ≡ Out) vs
 
+-- the rule: the site's own, and that of a queue over the words of the locks and where each task is
 pub record OsqKept (k : Plan) (ws : List ℕ) (vs : List V) : Type 0 where
   pub wide : length ws ≡ width k
   pub site_holds : SiteKept nothing never 0 k (site k ws) (map hand_of vs)
@@ -78,6 +79,7 @@ pub record NodeStep (tail id : ℕ) (vs vs' : List V) : Type 0 where
   pub node : after.ext ≡ node_after before.ext.place before.ext after.ext.place tail
   pub fronts : after.fronts ≡ fronts_after before.ext.place after.ext.place before.fronts
 
+-- what each step does, to the site, to its own pass and to the queue
 pub record OsqMoves (k : Plan) (id : ℕ) (ws : List ℕ) (vs : List V) (us : List ℕ) (vs' : List V) : Type 0 where
   pub site : SiteMove id (site k ws) vs (site k us) vs'
   pub node : NodeStep (tail_in (row_of ws)) id vs vs'
@@ -96,4 +98,4 @@ FindsTail false found tail = Unit {0}
 abbrev pub Local : ℕ → ℕ → Place → ℕ → Op → (ℕ → Place) → (ℕ → Type 0) → Type 0
 Local size t P at op to tells = (row : List ℕ) (place : ℕ → Place) (q : List ℕ) → length row ≡ LOCK_WORDS → t < size → size ≤ MAX_TASKS → RowKept size row place q → place t ≡ P
     → let n : ℕ = slice_index row at in let told : ℕ = told_by op n in let row' : List ℕ = slice_set row at (word_after op n) in
-    (q' : List ℕ) × RowKept size row' (upd place t (to told)) q' × Changes row row' place q q' × FindsTail (is_swap P (to told)) told (tail_in row) × tells told
+    (q' : List ℕ) × RowKept size row' (with_at place t (to told)) q' × Changes row row' place q q' × FindsTail (is_swap P (to told)) told (tail_in row) × tells told

@@ -1,6 +1,7 @@
 //! Spin queues.
 ghost use Rattle.std.specs.Prelude.{◌≡◌, ◌+◌, ◌<◌, ◌≤◌, ◌⊎◌, List, [], ◌∷◌, IfOk, IsSome, MatchOption, None, Some, length, ℕ};
 ghost use Rattle.word_bits.specs.declared.TheConstants.{MAX_TASKS};
+ghost use Rattle.lock_core.specs.Handles.{plan_of};
 ghost use Rattle.lock_core.specs.Pasts.{EachMoment, Ran, Tail};
 ghost use Rattle.osq_nodes.specs.declared.node.Place.TheVariants.{Out, Waiting, Front};
 ghost use Rattle.osq_nodes.specs.Places.{node_marks, waits_at, takes_at};
@@ -18,7 +19,7 @@ use std::sync::Wait;
 #[derive(Drop)]
 pub struct Osq {
     pub(crate) site: Site<QueueRule>,
-    ghost plain: { site.table.shared.key ≡ no_calls (length site.table.shared.key) },
+    ghost plain: { plan_of site ≡ no_calls (length (plan_of site)) },
 }
 
 impl Osq {
@@ -139,7 +140,8 @@ impl Osq {
     }
 
     /// Waits until the task is the last, and leaves, or until it has a successor, whose code it
-    /// takes out of its own `next`. `prev` is its predecessor, and None where it is the front.
+    /// takes out of its own `next`. `prev` is its predecessor, and None where it is the front. The
+    /// kernel's `osq_wait_next`.
     pub fn wait_next<W: Wait>(
         &self,
         rt: &W,
@@ -203,7 +205,8 @@ impl Osq {
         unreachable!()
     }
 
-    /// Leaves the queue as its front, and grants the successor, where it has one.
+    /// Leaves the queue as its front, and grants the successor, where it has one. The kernel's
+    /// `osq_unlock`.
     pub fn unlock<W: Wait>(&self, rt: &W, pass: &mut OsqPass)
         requires own { SitsAt self.now pass.old }
         requires numbered { IsSome (task_in pass.old) }

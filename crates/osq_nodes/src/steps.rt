@@ -1,10 +1,10 @@
 //! The steps of a spin queue, each one atomic operation.
-ghost use Rattle.std.specs.Prelude.{◌≡◌, ◌≢◌, ◌<◌, ◌+◌, ℕ, suc, true, false, Some, None, MatchOption, MatchBool};
+ghost use Rattle.std.specs.Prelude.{◌≡◌, ◌<◌, Some, MatchOption, MatchBool};
 ghost use Rattle.word_bits.specs.declared.TheConstants.{MAX_TASKS};
 ghost use Rattle.lock_core.specs.Pasts.{FoundAt};
 ghost use Rattle.lock_core.specs.Views.{ticked};
 ghost use Rattle.osq_nodes.specs.declared.node.Place.TheVariants.{Out, Cleared, Swapped, Linking, Waiting, Granting};
-ghost use Rattle.osq_nodes.specs.Handles.{tasks_of, view_of, task_in, place_in, past_of, SitsAt, KeepsNumber, KeepsPast, IsLatest};
+ghost use Rattle.osq_nodes.specs.Handles.{tasks_of, view_of, task_in, place_in, past_of, FoundNext, FoundOwn, SitsAt, KeepsNumber, KeepsPast, IsLatest};
 ghost use Rattle.osq_nodes.specs.Places.{waits_at, takes_at};
 ghost use Rattle.osq_nodes.specs.Steps.{placed, fronted, swapped, IsCodeOrNone};
 ghost use Rattle.osq_nodes.specs.Words.{tail_at};
@@ -126,9 +126,7 @@ pub fn leave_tail(osq: &Osq, pass: &mut OsqPass, task: u32, prev: Option<u32>) -
     ensures kept { MatchBool result
         (view_of pass.new ≡ placed (view_of pass.old) Out)
         (view_of pass.new ≡ ticked (view_of pass.old)) }
-    ensures found { MatchBool result
-        (FoundAt tail_at (suc task) (past_of pass.new))
-        ((word : ℕ) × FoundAt tail_at word (past_of pass.new) × (word ≢ suc task)) }
+    ensures found { FoundOwn result task pass.new }
 {
     // An exchange, as another may have swapped the tail since it was looked at. It goes back to the
     // predecessor: whoever enters next must stand behind the task that is the last then.
@@ -146,6 +144,7 @@ pub fn has_next(osq: &Osq, pass: &mut OsqPass, task: u32, prev: Option<u32>) -> 
     ensures goes_on { KeepsPast pass.old pass.new }
     ensures last { IsLatest pass.new }
     ensures kept { view_of pass.new ≡ ticked (view_of pass.old) }
+    ensures found { FoundNext result task pass.new }
 {
     step::<Brand>(osq, pass, next_of(task), Op::Load) != 0
 }
@@ -160,6 +159,7 @@ pub fn is_last(osq: &Osq, pass: &mut OsqPass, task: u32, prev: Option<u32>) -> b
     ensures goes_on { KeepsPast pass.old pass.new }
     ensures last { IsLatest pass.new }
     ensures kept { view_of pass.new ≡ ticked (view_of pass.old) }
+    ensures found { FoundOwn result task pass.new }
 {
     step::<Brand>(osq, pass, TAIL, Op::Load) == code(task)
 }

@@ -9,9 +9,9 @@ use std::sync::Wait;
 use std::test::Fail;
 use std::thread::{Threads, join};
 
-/// Three CPUs enter in order and hand the front on. The tail is word 0, and the node of a CPU has the
-/// words `next`, `prev`, `locked` from 8, 16 and 24 on. Each line has a word, a step on it, what the
-/// step finds there, and the tail after it.
+/// Three CPUs enter in order and hand the front on. The tail is word 0, and the node of a CPU has
+/// the words `next`, `prev`, `locked` from 8, 16 and 24 on. Each line has a word, a step on it,
+/// what the step finds there, and the tail after it.
 #[test]
 fn three_enter_and_hand_the_front_on(rt: HostRuntime) {
     let mut shadow = Shadow::new();

@@ -9,12 +9,12 @@ use Rattle.lock_core.specs.NodeListLaws.{first-has, first-before, left-has, righ
 use Rattle.osq_nodes.specs.declared.node.Place.{Place}
 use Rattle.osq_nodes.specs.declared.node.Place.TheVariants.{Out, Cleared, Swapped, Linking, Waiting, Unlinked, Splicing, Relinking, Front, Granting}
 use Rattle.osq_nodes.specs.Places.{Owes}
-use Rattle.osq_nodes.specs.Kept.{IsBehind, IsHead, IsCode, Owed, IsAt, Sets, QueueKept, upd}
+use Rattle.osq_nodes.specs.Kept.{IsBehind, IsHead, IsCode, Owed, IsAt, Sets, QueueKept, with_at}
 use Rattle.osq_nodes.specs.Stated.{OwnsLinks}
 use Rattle.osq_nodes.specs.Words.{tail_in, next_in, prev_in, locked_in, next_at, prev_at}
 use Rattle.osq_nodes.specs.Ruled.{Local}
 use Rattle.osq_nodes.specs.Steps.{try_place}
-use Rattle.osq_nodes.proofs.Updating.{upd-sets, sets-next, sets-prev, wrote-next, wrote-prev}
+use Rattle.osq_nodes.proofs.Updating.{with_at-sets, sets-next, sets-prev, wrote-next, wrote-prev}
 use Rattle.osq_nodes.proofs.Keeping.{same-task, there, takes, puts, removes}
 use Rattle.osq_nodes.proofs.Stepping.{Owns, owns-links}
 use Rattle.osq_nodes.proofs.Locals.{same-row, inside-owed, exchanges-at}
@@ -75,7 +75,7 @@ module _ (size t : ℕ) where
   pub takes-code-back : (p : ℕ) → p < MAX_TASKS → Local size t Waiting (next_at p) (Exchange (suc t) 0) (try_place Waiting (Unlinked p) (suc t)) (λ _. Unit {0})
   takes-code-back p small = exchanges-at size t Waiting (Unlinked p) (next_at p) (suc t) 0 (λ n tail. tt) (λ row place q long lt few r is e. (
     q,
-    wrote-next size row (upd place t (Unlinked p)) q p 0 long small (takes-back size (tail_in row) (next_in row) (prev_in row) (locked_in row) place (upd place t (Unlinked p)) q t r p (next_in (set row (next_at p) 0)) is e (sets-next size row place q p 0 long small) (upd-sets place t (Unlinked p))),
+    wrote-next size row (with_at place t (Unlinked p)) q p 0 long small (takes-back size (tail_in row) (next_in row) (prev_in row) (locked_in row) place (with_at place t (Unlinked p)) q t r p (next_in (set row (next_at p) 0)) is e (sets-next size row place q p 0 long small) (with_at-sets place t (Unlinked p))),
     inl refl,
   ))
 
@@ -88,8 +88,8 @@ module _ (size t : ℕ) where
   pub splices-prev : (p n : ℕ) → Local size t (Splicing p n) (prev_at n) (Store (suc p)) (λ _. Relinking p n) (λ _. Unit {0})
   splices-prev p n row place q long lt few r is = let at : Owed size q r.debtor p t t × Owed size q r.debtor t n t = there size (tail_in row) (next_in row) (prev_in row) (locked_in row) place place q t r (Splicing p n) is in let in_n = (inside-owed size t row place q r t n t at.1).1 in (
     without t q,
-    wrote-prev size row (upd place t (Relinking p n)) (without t q) n (suc p) long (omega (arith, in_n, few)) (splices size (tail_in row) (next_in row) (prev_in row) (locked_in row) place (upd place t (Relinking p n)) q t r p n (prev_in (set row (prev_at n) (suc p))) is (sets-prev size row place q n (suc p) long (omega (arith, in_n, few))) (upd-sets place t (Relinking p n))),
-    inr (inr (record { task = t; there = left-has q t n at.1.0; free = leaves-splicing size (tail_in row) (next_in row) (prev_in row) (locked_in row) place (upd place t (Relinking p n)) q t r p n is; leaves = inr (inl (p, n, is, refl)); new = refl })),
+    wrote-prev size row (with_at place t (Relinking p n)) (without t q) n (suc p) long (omega (arith, in_n, few)) (splices size (tail_in row) (next_in row) (prev_in row) (locked_in row) place (with_at place t (Relinking p n)) q t r p n (prev_in (set row (prev_at n) (suc p))) is (sets-prev size row place q n (suc p) long (omega (arith, in_n, few))) (with_at-sets place t (Relinking p n))),
+    inr (inr (record { task = t; there = left-has q t n at.1.0; free = leaves-splicing size (tail_in row) (next_in row) (prev_in row) (locked_in row) place (with_at place t (Relinking p n)) q t r p n is; leaves = inr (inl (p, n, is, refl)); new = refl })),
     tt,
     tt,
   )
@@ -98,7 +98,7 @@ module _ (size t : ℕ) where
   pub relinks-next : (p n : ℕ) → Local size t (Relinking p n) (next_at p) (Store (suc n)) (λ _. Out) (λ _. Unit {0})
   relinks-next p n row place q long lt few r is = let at : (¬ Has q t) × Owed size q r.debtor p n t = there size (tail_in row) (next_in row) (prev_in row) (locked_in row) place place q t r (Relinking p n) is in let in_p = (inside-owed size t row place q r p n t at.1).0 in (
     q,
-    wrote-next size row (upd place t Out) q p (suc n) long (omega (arith, in_p, few)) (relinks size (tail_in row) (next_in row) (prev_in row) (locked_in row) place (upd place t Out) q t r p n (next_in (set row (next_at p) (suc n))) is (sets-next size row place q p (suc n) long (omega (arith, in_p, few))) (upd-sets place t Out)),
+    wrote-next size row (with_at place t Out) q p (suc n) long (omega (arith, in_p, few)) (relinks size (tail_in row) (next_in row) (prev_in row) (locked_in row) place (with_at place t Out) q t r p n (next_in (set row (next_at p) (suc n))) is (sets-next size row place q p (suc n) long (omega (arith, in_p, few))) (with_at-sets place t Out)),
     inl refl,
     tt,
     tt,

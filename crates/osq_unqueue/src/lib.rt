@@ -81,8 +81,8 @@ fn unlink<W: Wait>(osq: &Osq, rt: &W, pass: &mut OsqPass, task: u32, mut prev: u
 }
 
 /// Enters the queue, and returns true as its front. It answers false only where the queue wasn't
-/// empty and the CPU needed rescheduling before the turn came: then the task has left, and all others
-/// stand in the order that they had. The kernel's `osq_lock`.
+/// empty and the CPU needed rescheduling before the turn came: then the task has left, and all
+/// others stand in the order that they had. The kernel's `osq_lock`.
 pub fn lock<C: Cpu, W: Wait>(osq: &Osq, rt: &W, pass: &mut OsqPass, cpu: &mut C) -> bool
     requires own { SitsAt osq.now pass.old }
     requires numbered { IsSome (task_in pass.old) }

@@ -1,5 +1,5 @@
-//! What no clause says: the words of a queue that tasks leave before their turn, and passes that give
-//! up, one after the other and on threads.
+//! What no clause says: the words of a queue that tasks leave before their turn, and passes that
+//! give up, one after the other and on threads.
 ghost use Rattle.std.specs.Prelude.{◌≡◌, ◌<◌, ◌+◌, None};
 ghost use Rattle.osq_nodes.specs.declared.node.Place.TheVariants.{Out};
 ghost use Rattle.osq_nodes.specs.Handles.{place_in, task_in, tasks_of, SitsAt};
@@ -96,8 +96,8 @@ fn a_cpu_that_needs_rescheduling_leaves_behind_a_front_that_stays(
 
 const ROUNDS: u32 = 20_000;
 
-/// Takes the queue's front many times, and answers how often. Only the front adds to the shared count,
-/// by a load and a store.
+/// Takes the queue's front many times, and answers how often. Only the front adds to the shared
+/// count, by a load and a store.
 fn rounds<C: Cpu + Drop, W: Wait>(
     rt: &W,
     osq: &Osq,

@@ -2,7 +2,7 @@ use Rattle.std.proofs.Common.{arith, length, refl, sym}
 use Rattle.lock_core.specs.declared.op.Op.TheVariants.{Load}
 use Rattle.osq_nodes.specs.Words.{next_at}
 use Rattle.osq_nodes.specs.Places.{waits_at}
-use Rattle.osq_nodes.proofs.Owning.{its-task, moves-by}
+use Rattle.osq_nodes.proofs.Owning.{found-next, its-task, moves-by}
 use Rattle.osq_nodes.proofs.Locals
 use Rattle.osq_nodes.proofs.steps.has_next.Goals as goal
 
@@ -15,3 +15,6 @@ step-requires-clause-inside c = let l = its-task c.args.osq.now.site.table.share
 pub step-requires-clause-keeps : goal.step-requires-clause-keeps
 step-requires-clause-keeps c = moves-by (length c.args.osq.now.site.table.shared.key) c.args.task c.args.pass.now.pass.face.task (waits_at c.args.prev) c.args.pass.now.pass.seat.me.0.view.ext.place (next_at c.args.task) c.next_of.result Load Load (λ _. waits_at c.args.prev) (λ _. c.args.pass.now.pass.seat.me.0.view.ext.place) (λ _. Unit {0})
     c.requires.mine c.requires.here c.next_of.ensures refl (λ i _. sym c.requires.here i) (Locals.looks (length c.args.osq.now.site.table.shared.key) c.args.task (waits_at c.args.prev) (next_at c.args.task))
+
+pub returns-clause-found : goal.returns-clause-found
+returns-clause-found c = found-next c.next_of.result c.step.result c.args.task c.step.new.pass c.next_of.ensures c.step.ensures.found
