@@ -4,7 +4,7 @@ use Rattle.std.proofs.lemmas.Bool.Decides.{nat_tests}
 use Rattle.word_bits.specs.declared.call.CallWords.{CallWords}
 use Rattle.word_bits.specs.declared.call.Mode.{Mode}
 use Rattle.word_bits.proofs.Modes.{mode_number-lt, mode_at}
-use Rattle.word_bits.specs.Calls.{words_of, mode_number}
+use Rattle.word_bits.specs.Calls.{words_of, mode_number, kind_in, first_in, second_in, prot_in, access_in}
 use Rattle.word_bits.specs.Packed.{IsFound}
 use Rattle.fd_table.specs.declared.call.TableCall.{TableCall}
 use Rattle.fd_table.specs.declared.call.TableCall.TheVariants.{Open, Close, Dup, Dup2, Get}
@@ -17,10 +17,11 @@ call_of-words_of kind first second mode k f m =
     let a = first + second * 2 ^ 32 in
     let e0 : b / 2 ^ 24 ≡ mode = omega arith in
     let e1 : b % 2 ^ 8 ≡ kind = omega arith in
-    let e2 : b / 2 ^ 8 % 2 ^ 16 ≡ 0 = omega arith in
+    let e2 : b / 2 ^ 8 % 2 ^ 8 ≡ 0 = omega arith in
+    let e2' : b / 2 ^ 16 % 2 ^ 8 ≡ 0 = omega arith in
     let e3 : a % 2 ^ 32 ≡ first = omega arith in
     let e4 : a / 2 ^ 32 ≡ second = omega arith in
-    rw (e0, e1, e2, e3, e4) (grind (arith, nat_tests))
+    rw (e0, e1, e2, e2', e3, e4) (grind (arith, nat_tests))
 
 -- words that are packed from a valid call tell it
 call_of-packed : (call : TableCall) (mode : Mode) → IsCall call → call_of (words_of_call call mode) ≡ Some call
@@ -47,8 +48,12 @@ tests kind first second (Dup2 fd to) e = grind (arith, nat_tests)
 tests kind first second (Get fd) e = grind (arith, nat_tests)
 
 -- a call is read from words of a mode, with no protection and no access
-mode_test : (w : CallWords) (call : TableCall) → call_of w ≡ Some call → (w.b / 2 ^ 24 < 3) × (w.b / 2 ^ 8 % 2 ^ 16 ≡ 0) × (call_with (w.b % 2 ^ 8) (w.a % 2 ^ 32) (w.a / 2 ^ 32) ≡ Some call)
-mode_test w call e = grind (arith, nat_tests)
+mode_test : (w : CallWords) (call : TableCall) → call_of w ≡ Some call → (w.b / 2 ^ 24 < 3) × (w.b / 2 ^ 8 % 2 ^ 16 ≡ 0) × (call_with (kind_in w) (first_in w) (second_in w) ≡ Some call)
+mode_test w call e =
+    let t : (w.b / 2 ^ 24 < 3) × (prot_in w ≡ 0) × (access_in w ≡ 0) × (call_with (kind_in w) (first_in w) (second_in w) ≡ Some call) = grind (arith, nat_tests) in
+    let prot = t.1 in
+    let access = t.2 in
+    (t.0, omega arith, t.3)
 
 -- the words of a call's kind and numbers are the words that were read
 words_of-fields : (w : CallWords) (kind first second mode : ℕ) → w.b / 2 ^ 8 % 2 ^ 16 ≡ 0 → w.b % 2 ^ 8 ≡ kind → w.a % 2 ^ 32 ≡ first → w.a / 2 ^ 32 ≡ second → mode ≡ w.b / 2 ^ 24 → words_of kind first second 0 0 mode ≡ w
@@ -58,7 +63,7 @@ words_of-fields w kind first second mode none k f s m =
     λ i. record { a = a i; b = b i }
 
 -- what the tests leave is a valid call with these words
-tested-sound : (w : CallWords) (call : TableCall) → w.b / 2 ^ 8 % 2 ^ 16 ≡ 0 → (m : (mode : Mode) × (mode_number mode ≡ w.b / 2 ^ 24)) → Tested (w.b % 2 ^ 8) (w.a % 2 ^ 32) (w.a / 2 ^ 32) call → IsCallOf w call
+tested-sound : (w : CallWords) (call : TableCall) → w.b / 2 ^ 8 % 2 ^ 16 ≡ 0 → (m : (mode : Mode) × (mode_number mode ≡ w.b / 2 ^ 24)) → Tested (kind_in w) (first_in w) (second_in w) call → IsCallOf w call
 tested-sound w (Open file) none m t = (omega arith, (m.0, words_of-fields w 8 file 0 (mode_number m.0) none t.0 t.1 t.2 m.1))
 tested-sound w (Close fd) none m t = (omega arith, (m.0, words_of-fields w 9 fd 0 (mode_number m.0) none t.0 t.1 t.2 m.1))
 tested-sound w (Dup fd) none m t = (omega arith, (m.0, words_of-fields w 10 fd 0 (mode_number m.0) none t.0 t.1 t.2 m.1))

@@ -26,12 +26,11 @@ impl TableCall {
         ensures value { result ≡ call_of words }
         ensures exact { IsFound (IsCallOf words) result }
     {
-        if words.b >> 24 > 2 || (words.b >> 8) & 0xffff != 0 {
+        if !words.has_mode() || words.prot() != 0 || words.access() != 0 {
             return None;
         }
-        let first = (words.a & 0xffff_ffff) as u32;
-        let second = (words.a >> 32) as u32;
-        match (words.b & 0xff, second) {
+        let first = words.first();
+        match (words.kind(), words.second()) {
             (8, 0) => Some(TableCall::Open {
                 file: u16::try_from(first).ok()?,
             }),

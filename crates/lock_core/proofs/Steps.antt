@@ -34,13 +34,13 @@ module _ {E : Type 0} (holds : List ℕ → List (View E) → Type 0) (moves : �
       → Lets holds moves slots id me i (Store new) tells
   stores slots id i new me w tells counts step s h _ at small = let t = step s.words s.views h at in (w, keeps, tt, t.0, counts, t.1)
 
-  -- a compare-exchange: the view where it finds the old word may be chosen by the words
-  pub exchanges : (slots id i old new : ℕ) (me : M) (miss : ℕ → View E) (tells : ℕ → M → Type 0) → ((n : ℕ) → (miss n).steps ≡ me.0.steps + 1)
+  -- a compare-exchange, of which both views may be chosen by the words
+  pub chooses : (slots id i old new : ℕ) (me : M) (tells : ℕ → M → Type 0)
       → ((ws : List ℕ) (vs : List (View E)) → holds ws vs → get_elem? vs id ≡ some me.0 → get_or ws i 0 ≡ old → (w : View E) × (w.steps ≡ me.0.steps + 1) × Goes holds moves id ws vs (set ws i new) (set vs id w) × tells old (w, me.1))
       → ((ws : List ℕ) (vs : List (View E)) → holds ws vs → get_elem? vs id ≡ some me.0 → get_or ws i 0 ≢ old → get_or ws i 0 < 18446744073709551616
-      → Goes holds moves id ws vs ws (set vs id (miss (get_or ws i 0))) × tells (get_or ws i 0) (miss (get_or ws i 0), me.1))
+      → (w : View E) × (w.steps ≡ me.0.steps + 1) × Goes holds moves id ws vs ws (set vs id w) × tells (get_or ws i 0) (w, me.1))
       → Lets holds moves slots id me i (Exchange old new) tells
-  exchanges slots id i old new me miss tells counts yes_case no_case s h _ at small = let x : ℕ = get_or s.words i 0 in dite (ℕ_discrete x old)
+  chooses slots id i old new me tells yes_case no_case s h _ at small = let x : ℕ = get_or s.words i 0 in dite (ℕ_discrete x old)
       (λ is. let t = yes_case s.words s.views h at is in (
         t.0,
         keeps,
@@ -50,13 +50,21 @@ module _ {E : Type 0} (holds : List ℕ → List (View E) → Type 0) (moves : �
         subst (λ (z : ℕ). tells z (t.0, me.1)) (sym is) t.3,
       ))
       (λ not. let t = no_case s.words s.views h at not small in (
-        miss x,
+        t.0,
         keeps,
         tt,
-        subst (λ b. Goes holds moves id s.words s.views (set s.words i (if b then new else x)) (set s.views id (miss x))) (sym (ne_eqb x old not)) (subst (λ (ws : List ℕ). Goes holds moves id s.words s.views ws (set s.views id (miss x))) (sym (set-get_or s.words i 0)) t.0),
-        counts x,
+        subst (λ b. Goes holds moves id s.words s.views (set s.words i (if b then new else x)) (set s.views id t.0)) (sym (ne_eqb x old not)) (subst (λ (ws : List ℕ). Goes holds moves id s.words s.views ws (set s.views id t.0)) (sym (set-get_or s.words i 0)) t.2),
         t.1,
+        t.3,
       ))
+
+  -- the same, where only the view after the old word was found is chosen by the words
+  pub exchanges : (slots id i old new : ℕ) (me : M) (miss : ℕ → View E) (tells : ℕ → M → Type 0) → ((n : ℕ) → (miss n).steps ≡ me.0.steps + 1)
+      → ((ws : List ℕ) (vs : List (View E)) → holds ws vs → get_elem? vs id ≡ some me.0 → get_or ws i 0 ≡ old → (w : View E) × (w.steps ≡ me.0.steps + 1) × Goes holds moves id ws vs (set ws i new) (set vs id w) × tells old (w, me.1))
+      → ((ws : List ℕ) (vs : List (View E)) → holds ws vs → get_elem? vs id ≡ some me.0 → get_or ws i 0 ≢ old → get_or ws i 0 < 18446744073709551616
+      → Goes holds moves id ws vs ws (set vs id (miss (get_or ws i 0))) × tells (get_or ws i 0) (miss (get_or ws i 0), me.1))
+      → Lets holds moves slots id me i (Exchange old new) tells
+  exchanges slots id i old new me miss tells counts yes_case no_case = chooses slots id i old new me tells yes_case (λ ws vs h at not small. let t = no_case ws vs h at not small in let x : ℕ = get_or ws i 0 in (miss x, counts x, t.0, t.1))
 
 module _ {E : Type 0} (holds : List ℕ → List (View E) → Type 0) (moves : ℕ → List ℕ → List (View E) → List ℕ → List (View E) → Type 0) where
   -- any step whose view doesn't depend on what was found

@@ -87,10 +87,14 @@ module _ {R O E C : Type 0} where
   abbrev pub KeepsPast : Pass R O E C → Pass R O E C → Type 0
   KeepsPast old new = GoesOn (past_of old) (past_of new)
 
+  -- the word had this number at one of the steps that the pass made since
+  abbrev pub Finds : ℕ → ℕ → Pass R O E C → Pass R O E C → Type 0
+  Finds at n old new = FoundSince (hand_in old).task (view_of old).steps (view_of new).steps at n (past_of old) (past_of new)
+
   -- steps since found these numbers of signals sent to the task, and consumed by it
   pub record SawSignals (t : ℕ) (why : Interrupted) (old new : Pass R O E C) : Type 0 where
-    pub sent : FoundSince (sent_place t) why.sent (past_of old) (past_of new)
-    pub taken : FoundSince (consumed_place t) why.taken (past_of old) (past_of new)
+    pub sent : Finds (sent_place t) why.sent old new
+    pub taken : Finds (consumed_place t) why.taken old new
 
   -- its task's next call changes the object, and this is its reply
   abbrev pub IsNextChange : {Call : Type 0} → Obj Call → Site R O E C → Pass R O E C → Reply → Type 0

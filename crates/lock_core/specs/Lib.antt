@@ -26,4 +26,8 @@ pub mod SpinStated
 pub mod Kinds
 pub mod Shown
 pub mod Locking
+pub mod Locked
+pub mod LockedLaws
 pub mod Handles
+pub mod NodeLists
+pub mod NodeListLaws

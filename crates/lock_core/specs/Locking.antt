@@ -10,17 +10,17 @@ use Rattle.lock_core.specs.declared.view.Held.TheVariants.{No, Alone}
 use Rattle.lock_core.specs.declared.how.How.{How}
 use Rattle.lock_core.specs.declared.how.How.TheVariants.{Fast, Spun, Slept}
 use Rattle.lock_core.specs.declared.how.Interrupted.{Interrupted}
-use Rattle.lock_core.specs.Views.{Beside}
-use Rattle.lock_core.specs.Shown.{Shown, NoCountFalls}
-use Rattle.lock_core.specs.Kinds.{Kind}
+use Rattle.lock_core.specs.Sites.{sent_place, consumed_place}
+use Rattle.lock_core.specs.Shown.{Shown, NoCountFalls, AllButHand, FindsAtStep, FindsSince}
+use Rattle.lock_core.specs.Kinds.{Kind, shares, unavailable, tries, lets_in, wakes_down}
 
 -- it only looked: all is as before but for the number of its steps
 abbrev pub Looks : Shown → Shown → Type 0
-Looks v u = (u.hand ≡ v.hand) × Beside v u
+Looks v u = (u.hand ≡ v.hand) × AllButHand v u
 
 -- it has this hand now, after some steps
 abbrev pub Has : Hand → Shown → Shown → Type 0
-Has h v u = (u.hand ≡ h) × Beside v u
+Has h v u = (u.hand ≡ h) × AllButHand v u
 
 -- the same, and the hand is that of the step of this number, one of those steps
 abbrev pub HasSince : (ℕ → Hand) → Shown → Shown → Type 0
@@ -56,34 +56,41 @@ pub record Takes {Call : Type 0} (o : Obj Call) (k : Plan) (held : Held) (v u : 
 
 -- how a call holds that reads, or that changes
 abbrev pub held_by : Kind → Bool → Held
-held_by kind reads = if reads then kind.shares else Alone
+held_by kind reads = if reads then shares kind else Alone
 
--- a try of this call saw the word, which shows that such a call can't have the lock
-pub record Sees (kind : Kind) (reads : Bool) (word : ℕ) (v u : Shown) : Type 0 where
+-- a try of this call saw the lock's word, which stands at this place and shows that such a call can't have the lock
+pub record Sees (kind : Kind) (reads : Bool) (at word : ℕ) (v u : Shown) : Type 0 where
   pub saw : Saw
   pub is : u.hand.saw ≡ Some saw
   pub word_is : saw.word ≡ word
   pub since : v.steps < saw.step
   pub by_now : saw.step ≤ u.steps
-  pub shut : kind.unavailable reads word
+  pub found : FindsAtStep saw.step at word v u
+  pub shut : unavailable kind reads word
 
 -- it didn't wait, and holds nothing
-pub record Misses (kind : Kind) (reads : Bool) (word : ℕ) (v u : Shown) : Type 0 where
+pub record Misses (kind : Kind) (reads : Bool) (at word : ℕ) (v u : Shown) : Type 0 where
   pub keeps : Keeps v u
   pub consumed : u.hand.consumed ≡ v.hand.consumed
   pub out : u.hand.held ≡ No
-  pub sees : Sees kind reads word v u
+  pub sees : Sees kind reads at word v u
   pub once : u.hand.misses ≡ v.hand.misses + 1
   pub freed : u.hand.freed ≡ v.hand.freed
 
--- it waited until loads saw more signals than were consumed; it has consumed one more, and holds nothing
-pub record Interrupts (kind : Kind) (reads : Bool) (why : Interrupted) (v u : Shown) : Type 0 where
-  pub keeps : Keeps v u
+-- steps of this call found these numbers of signals sent to its task, and consumed by it; more were sent
+pub record SawPending (why : Interrupted) (v u : Shown) : Type 0 where
+  pub sent : (t : ℕ) → v.hand.task ≡ Some t → FindsSince (sent_place t) why.sent v u
+  pub taken : (t : ℕ) → v.hand.task ≡ Some t → FindsSince (consumed_place t) why.taken v u
   pub pending : why.taken < why.sent
+
+-- it waited until it saw that a signal was pending; it has consumed one, and holds nothing
+pub record Interrupts (kind : Kind) (reads : Bool) (at : ℕ) (why : Interrupted) (v u : Shown) : Type 0 where
+  pub keeps : Keeps v u
+  pub heard : SawPending why v u
   pub consumed : u.hand.consumed ≡ v.hand.consumed + 1
   pub out : u.hand.held ≡ No
   pub word : ℕ
-  pub sees : Sees kind reads word v u
+  pub sees : Sees kind reads at word v u
   pub freed : u.hand.freed ≡ v.hand.freed
 
 -- what a call that ends or downgrades a hold leaves; where its word has waiters to be woken it has gone through the wait lock
@@ -102,22 +109,22 @@ Releases wakes v u = Frees wakes v u × (u.hand.held ≡ No)
 
 -- it holds as after a shared call, and what it knows of the object is as before
 abbrev pub Downgrades : Kind → Shown → Shown → Type 0
-Downgrades kind v u = Frees kind.wakes_down v u × (u.hand.held ≡ kind.shares) × (u.hand.known ≡ v.hand.known) × (u.hand.log ≡ v.hand.log)
+Downgrades kind v u = Frees (wakes_down kind) v u × (u.hand.held ≡ shares kind) × (u.hand.known ≡ v.hand.known) × (u.hand.log ≡ v.hand.log)
 
 -- how it got the lock: by its first try, after it had appended itself to the list, or by a later try
 abbrev pub Got : How → Shown → Shown → Type 0
-Got Fast v u = (u.hand.misses ≡ v.hand.misses) × (u.spin.entries ≡ v.spin.entries) × (u.fronts ≡ v.fronts) × (u.ext ≡ v.ext)
-Got Spun v u = (v.hand.misses < u.hand.misses) × (u.ext ≡ v.ext)
-Got Slept v u = v.ext.appends < u.ext.appends
+Got Fast v u = (u.hand.misses ≡ v.hand.misses) × (u.spin.entries ≡ v.spin.entries) × (u.fronts ≡ v.fronts) × (u.line ≡ v.line)
+Got Spun v u = (v.hand.misses < u.hand.misses) × (u.line ≡ v.line)
+Got Slept v u = v.line.appends < u.line.appends
 
 -- a shared call's first try, which missed, let it in
 pub record IsLetIn (kind : Kind) (v u : Shown) : Type 0 where
   pub once : u.hand.misses ≡ v.hand.misses + 1
   pub saw : Saw
   pub is : u.hand.saw ≡ Some saw
-  pub opens : kind.lets_in saw.word
+  pub opens : lets_in kind saw.word
 
 -- a call that waits keeps its place in line: after a failed try it goes through the wait lock or the spin queue. `shared`: it may have been let in.
 pub record KeepsPlace (kind : Kind) (shared : Bool) (v u : Shown) : Type 0 where
   pub queues : v.hand.misses < u.hand.misses → u.fronts ≡ v.fronts → (v.spin.entries < u.spin.entries) ⊎ ((shared ≡ true) × IsLetIn kind v u)
-  pub few : u.fronts ≡ v.fronts → u.hand.misses ≤ v.hand.misses + kind.tries
+  pub few : u.fronts ≡ v.fronts → u.hand.misses ≤ v.hand.misses + tries kind

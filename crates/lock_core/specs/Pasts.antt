@@ -1,10 +1,11 @@
 -- The whole run of a table: it has come to be from a new table, each moment from the one before by a move.
-use Rattle.std.specs.Prelude.{◌≡◌, ℕ, ◌+◌, List, [], ◌∷◌, map, drop, slice_index}
+use Rattle.std.specs.Prelude.{◌≡◌, ℕ, ◌+◌, ◌<◌, ◌≤◌, List, [], ◌∷◌, Option, map, drop, slice_index}
 use mathlib.Core.Option.{some}
 use lib.ListN.{get_elem?}
 use Rattle.atomic_table.specs.Table.{Me}
 use Rattle.word_bits.specs.Histories.{Plan}
 use Rattle.lock_core.specs.declared.view.View.{View}
+use Rattle.lock_core.specs.declared.view.Hand.{Hand}
 use Rattle.lock_core.specs.declared.view.Marks.{Marks}
 use Rattle.lock_core.specs.declared.view.Moment.{Moment}
 use Rattle.lock_core.specs.declared.view.Seen.{Seen}
@@ -98,9 +99,33 @@ FindsAt (Or bits) i n past = FoundAt i n past
 FindsAt (And bits) i n past = FoundAt i n past
 FindsAt (Exchange from to) i n past = FoundAt i n past
 
--- it had this number at one of the steps that the pass made since
-abbrev pub FoundSince : ℕ → ℕ → List Moment → List Moment → Type 0
-FoundSince i n old new = (p : List Moment) × FoundAt i n p × GoesOn old p × GoesOn p new
+-- the last moment is that of this step of the pass which has the task's number, and the one before is that at which the step was made
+pub record IsStepBy (task : Option ℕ) (step : ℕ) (past : List Moment) : Type 0 where
+  pub now : Moment
+  pub before : Moment
+  pub rest : List Moment
+  pub seat : ℕ
+  pub past_is : past ≡ now ∷ before ∷ rest
+  pub hand : Hand
+  pub is : get_elem? now.hands seat ≡ some hand
+  pub named : hand.task ≡ task
+  pub steps : get_elem? now.steps seat ≡ some step
+  -- the step is counted
+  pub had : ℕ
+  pub had_steps : get_elem? before.steps seat ≡ some had
+  pub counts : step ≡ had + 1
+
+-- at this step of the pass which has the task's number, made since its past was the old one, the word had this number
+pub record FoundAtStep (task : Option ℕ) (step i n : ℕ) (old new : List Moment) : Type 0 where
+  pub past : List Moment
+  pub by : IsStepBy task step past
+  pub found : FoundAt i n past
+  pub after : GoesOn old past
+  pub goes_on : GoesOn past new
+
+-- so it was at one of the steps behind the first number, up to the second
+abbrev pub FoundSince : Option ℕ → (begun done : ℕ) → ℕ → ℕ → List Moment → List Moment → Type 0
+FoundSince task begun done i n old new = (step : ℕ) × (begun < step) × (step ≤ done) × FoundAtStep task step i n old new
 
 -- the last moment is that of the step which left the pass this view, at some seat, and the one before is that at which the step was made
 pub record IsOwnStep {E : Type 0} (v : View E) (past : List Moment) : Type 0 where

@@ -1,8 +1,8 @@
 -- What each step of a run does, the run tells.
-use Rattle.std.proofs.Common.{◌≡◌, ℕ, List, [], ◌∷◌, length, map, sym, ap, ◌∙◌, subst, arith}
+use Rattle.std.proofs.Common.{◌≡◌, ℕ, Option, List, [], ◌∷◌, length, map, sym, ap, ◌∙◌, subst, arith}
 use Rattle.lock_core.specs.declared.view.Moment.{Moment}
 use Rattle.lock_core.specs.declared.view.View.{View}
-use Rattle.lock_core.specs.Pasts.{Instant, instant, moment, Moves, EachMoment, Paced, Ran}
+use Rattle.lock_core.specs.Pasts.{Instant, instant, moment, Moves, EachMoment, Paced, Ran, GoesOn, FoundAt, IsOwnStep, IsStepBy, FoundAtStep}
 
 pub paced-so : {X : Type 0} (P Q : X → X → Type 0) → ((x y : X) → P x y → Q x y) → (h : List X) → Paced P h → Paced Q h
 paced-so P Q each [] r = tt
@@ -26,3 +26,26 @@ module _ {E : Type 0} (marks : E → List ℕ) (holds : List ℕ → List (View 
       long [] e is p = absurd (let l = ap length e in omega (arith, l))
       long (y ∷ []) e is p = absurd (let l = ap length e in omega (arith, l))
       long (y ∷ x ∷ k) e is p = subst (EachMoment Q) (sym is) (each-so y x k p)
+
+-- what the last step of a pass found, it finds at that step
+pub found-at-step : {E : Type 0} (v : View E) (task : Option ℕ) (i n : ℕ) (old past new : List Moment) → v.hand.task ≡ task → IsOwnStep v past → FoundAt i n past → GoesOn old past → GoesOn past new → FoundAtStep task v.steps i n old new
+found-at-step v task i n old past new named own found after goes = record {
+  past = past;
+  by = record {
+    now = own.now;
+    before = own.before;
+    rest = own.rest;
+    seat = own.seat;
+    past_is = own.past_is;
+    hand = v.hand;
+    is = own.hand;
+    named = named;
+    steps = own.steps;
+    had = own.had;
+    had_steps = own.had_steps;
+    counts = own.counts;
+  };
+  found = found;
+  after = after;
+  goes_on = goes;
+}

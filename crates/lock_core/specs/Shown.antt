@@ -1,25 +1,61 @@
 -- What callers of any lock see of a pass.
-use Rattle.std.specs.Prelude.{◌≡◌, ℕ, ◌<◌, ◌≤◌, true, length, slice_get, Some, None, IsSome}
+use Rattle.std.specs.Prelude.{◌≡◌, ℕ, ◌<◌, ◌≤◌, true, length, List, [], Option, slice_get, Some, None, IsSome}
 use Rattle.word_bits.specs.declared.call.CallWords.{CallWords}
+use Rattle.word_bits.specs.declared.entry.Entry.{Entry}
 use Rattle.word_bits.specs.Histories.{Plan}
 use Rattle.lock_core.specs.declared.view.View.{View}
 use Rattle.lock_core.specs.declared.view.Line.{Line}
 use Rattle.lock_core.specs.declared.view.Hand.{Hand}
+use Rattle.lock_core.specs.declared.view.SpinHand.{SpinHand}
+use Rattle.lock_core.specs.declared.view.Moment.{Moment}
 use Rattle.lock_core.specs.declared.view.Held.TheVariants.{No, Alone}
 use Rattle.lock_core.specs.Plans.{calls_in}
 use Rattle.lock_core.specs.Records.{row}
-use Rattle.lock_core.specs.Views.{SpinRests, next_entry}
+use Rattle.lock_core.specs.Views.{SpinRests, no_spin, stranger, next_entry}
+use Rattle.lock_core.specs.Pasts.{GoesOn, IsStepBy, FoundAtStep, FoundSince}
 
 -- a pass, whatever its lock is
-abbrev pub Shown : Type 0
-Shown = View Line
+pub record Shown : Type 0 where
+  pub hand : Hand
+  pub spin : SpinHand
+  -- how many steps it has made, and how often it has been the front of its lock's spin queue
+  pub steps : ℕ
+  pub fronts : ℕ
+  -- how it has stood in line
+  pub line : Line
+  -- the moments of the table up to its last step, the last one first
+  pub past : List Moment
 
 abbrev pub no_line : Line
 no_line = record { appends = 0 }
 
--- a view, with what its rule adds cut to how the pass has stood in line, and with its count of a spin queue of the lock's own
-abbrev pub shown : {E : Type 0} → (E → Line) → ℕ → View E → Shown
-shown line fronts v = record { hand = v.hand; spin = v.spin; steps = v.steps; fronts = fronts; ext = line v.ext }
+-- what a pass with this view and past shows, whose lock tells so how it has stood in line, and how often it was the front of a spin queue of the lock's own
+abbrev pub shown : {E : Type 0} → (E → Line) → ℕ → View E → List Moment → Shown
+shown line fronts v past = record { hand = v.hand; spin = v.spin; steps = v.steps; fronts = fronts; line = line v.ext; past = past }
+
+-- of a pass without a number, which has seen these entries and this past
+abbrev pub shown_new : Option Plan → List Entry → List Moment → Shown
+shown_new plan seen past = record { hand = stranger plan seen; spin = no_spin; steps = 0; fronts = 0; line = no_line; past = past }
+
+-- of a pass that was split off
+abbrev pub shown_split : Shown → Shown
+shown_split v = shown_new v.hand.plan v.hand.seen v.past
+
+-- its past goes on
+abbrev pub PastGoesOn : Shown → Shown → Type 0
+PastGoesOn v u = GoesOn v.past u.past
+
+-- at this step, which the pass made since, the word had this number
+abbrev pub FindsAtStep : (step at n : ℕ) → Shown → Shown → Type 0
+FindsAtStep step at n v u = FoundAtStep v.hand.task step at n v.past u.past
+
+-- so it was at one of the steps that the pass made since
+abbrev pub FindsSince : (at n : ℕ) → Shown → Shown → Type 0
+FindsSince at n v u = FoundSince v.hand.task v.steps u.steps at n v.past u.past
+
+-- the last moment of its past is that of its own last step
+abbrev pub IsLatestStep : Shown → Type 0
+IsLatestStep v = IsStepBy v.hand.task v.steps v.past
 
 -- it is one of a site with this plan, and no call of the lock is under way
 pub record Stands (k : Plan) (v : Shown) : Type 0 where
@@ -38,7 +74,11 @@ pub record NoCountFalls (v u : Shown) : Type 0 where
   pub misses : v.hand.misses ≤ u.hand.misses
   pub entries : v.spin.entries ≤ u.spin.entries
   pub fronts : v.fronts ≤ u.fronts
-  pub appends : v.ext.appends ≤ u.ext.appends
+  pub appends : v.line.appends ≤ u.line.appends
+
+-- beside the hand, its counts are as they were, after some steps
+abbrev pub AllButHand : Shown → Shown → Type 0
+AllButHand v u = (u.spin.entries ≡ v.spin.entries) × (u.fronts ≡ v.fronts) × (u.line ≡ v.line) × (v.steps ≤ u.steps)
 
 -- the pass has a number, and these are the words of its task's next call
 abbrev pub IsNextCall : Plan → Hand → CallWords → Type 0

@@ -19,7 +19,7 @@ use Rattle.clap.proofs.WalkLemmas.{find_row, first_value-rows}
 use Rattle.mm_main.specs.declared.options.Options.{Options}
 use Rattle.mm_main.specs.declared.options.OptionsError.{OptionsError}
 use Rattle.mm_main.specs.declared.options.OptionsError.TheVariants.{Misused}
-use Rattle.mm_main.specs.CommandLine.{JoinedOptionsSay, is_from_words, is_used, number_if_used, number_or, options_from, options_of, options_with, the_command, unless_faulty}
+use Rattle.mm_main.specs.CommandLine.{JoinedOptionsSay, RepeatedOptionsSayNothing, is_from_words, is_used, number_if_used, number_or, options_from, options_of, options_with, the_command, unless_faulty}
 use Rattle.mm_main.specs.Parsed.{Gives, error_of}
 
 -- of this command clap says exactly what it takes
@@ -107,3 +107,7 @@ no_words = refl
 pub joined_options_say : JoinedOptionsSay
 unfolding options_of clap_on_literals
 joined_options_say spin overdue generate = refl
+
+pub repeated_options_say_nothing : RepeatedOptionsSayNothing
+unfolding options_of clap_on_literals
+repeated_options_say_nothing value other = (refl, refl, refl, refl)

@@ -11,37 +11,44 @@ use Rattle.mm_report.specs.Reports.{report_of}
 use Rattle.mm_main.specs.declared.options.Options.{Options}
 use Rattle.mm_main.specs.declared.status.Status.{Status}
 use Rattle.mm_main.specs.declared.status.Status.TheVariants.{Done, Usage, Refused, ReadFault, WriteFault, NoMemory}
-use Rattle.mm_main.specs.Serial.{NoneKeptOff}
 use Rattle.mm_main.specs.Requests.{Request, misused, refused, accepted, usage_text, refusal_text}
 
--- there are results, legal for the script and without a call that was kept off its object, of whose text or summary this holds
-abbrev pub OfResults : (summary : Bool) → Listing → (List ℕ → Type 0) → Type 0
-OfResults summary s P = (results : List Words) × (told : List Told) × AreLegal s results told × NoneKeptOff told × P (report_of summary s told)
+-- Which results may be told, beyond that they are legal.
+abbrev pub Tellable : Type 1
+Tellable = List Told → Type 0
+
+-- all of them
+abbrev pub AnyTold : Tellable
+AnyTold told = Unit {0}
+
+-- there are such results, legal for the script, of whose text or summary this holds
+abbrev pub OfResults : Tellable → (summary : Bool) → Listing → (List ℕ → Type 0) → Type 0
+OfResults May summary s P = (results : List Words) × (told : List Told) × AreLegal s results told × May told × P (report_of summary s told)
 
 -- Each status has its cause, and says what was written. Read and write say that the count of that stream's faults rose.
-abbrev pub Says : Request → (read write : Type 0) → (old new : Option (List ℕ)) → Status → Type 0
-Says misused read write old new Usage = Appends old new usage_text
-Says misused read write old new WriteFault = write × Fronts old new usage_text
-Says misused read write old new NoMemory = Keeps old new
-Says misused read write old new Done = ⊥
-Says misused read write old new Refused = ⊥
-Says misused read write old new ReadFault = ⊥
-Says (refused r) read write old new Refused = Appends old new (refusal_text r)
-Says (refused r) read write old new ReadFault = read × Keeps old new
-Says (refused r) read write old new WriteFault = write × Fronts old new (refusal_text r)
-Says (refused r) read write old new NoMemory = Keeps old new
-Says (refused r) read write old new Done = ⊥
-Says (refused r) read write old new Usage = ⊥
-Says (accepted summary s) read write old new Done = OfResults summary s (Appends old new)
-Says (accepted summary s) read write old new ReadFault = read × Keeps old new
-Says (accepted summary s) read write old new WriteFault = write × OfResults summary s (Fronts old new)
-Says (accepted summary s) read write old new NoMemory = Keeps old new
-Says (accepted summary s) read write old new Usage = ⊥
-Says (accepted summary s) read write old new Refused = ⊥
+abbrev pub Says : Tellable → Request → (read write : Type 0) → (old new : Option (List ℕ)) → Status → Type 0
+Says May misused read write old new Usage = Appends old new usage_text
+Says May misused read write old new WriteFault = write × Fronts old new usage_text
+Says May misused read write old new NoMemory = Keeps old new
+Says May misused read write old new Done = ⊥
+Says May misused read write old new Refused = ⊥
+Says May misused read write old new ReadFault = ⊥
+Says May (refused r) read write old new Refused = Appends old new (refusal_text r)
+Says May (refused r) read write old new ReadFault = read × Keeps old new
+Says May (refused r) read write old new WriteFault = write × Fronts old new (refusal_text r)
+Says May (refused r) read write old new NoMemory = Keeps old new
+Says May (refused r) read write old new Done = ⊥
+Says May (refused r) read write old new Usage = ⊥
+Says May (accepted summary s) read write old new Done = OfResults May summary s (Appends old new)
+Says May (accepted summary s) read write old new ReadFault = read × Keeps old new
+Says May (accepted summary s) read write old new WriteFault = write × OfResults May summary s (Fronts old new)
+Says May (accepted summary s) read write old new NoMemory = Keeps old new
+Says May (accepted summary s) read write old new Usage = ⊥
+Says May (accepted summary s) read write old new Refused = ⊥
 
 -- the same of the input that the source told, or of some input where it tells none
-abbrev pub Answers : (calls_for : List ℕ → Request) → (left : Option (List ℕ)) → (read write : Type 0) → (old new : Option (List ℕ)) → Status → Type 0
-Answers calls_for left read write old new status = (input : List ℕ) × IfSome left (λ told. told ≡ input) × Says (calls_for input) read write old new status
+abbrev pub Answers : Tellable → (calls_for : List ℕ → Request) → (left : Option (List ℕ)) → (read write : Type 0) → (old new : Option (List ℕ)) → Status → Type 0
+Answers May calls_for left read write old new status = (input : List ℕ) × IfSome left (λ told. told ≡ input) × Says May (calls_for input) read write old new status
 
 abbrev pub status_number : Status → ℕ
 status_number Done = 0
@@ -58,9 +65,9 @@ GivesScript None None s = ⊥
 GivesScript None (Some input) s = script_of input ≡ Ok s
 
 -- Where the words are a command line, there is a script and no count of faults rose, the whole text or summary is written, or there was no memory.
-abbrev pub Completes : Option Options → (left : Option (List ℕ)) → (read write : Type 0) → (old new : Option (List ℕ)) → Status → Type 0
-Completes said left read write old new status =
-    (o : Options) (s : Listing) → said ≡ Some o → GivesScript o.generate left s → ¬ read → ¬ write → (status ≡ NoMemory) ⊎ ((status ≡ Done) × OfResults o.summary s (Appends old new))
+abbrev pub Completes : Tellable → Option Options → (left : Option (List ℕ)) → (read write : Type 0) → (old new : Option (List ℕ)) → Status → Type 0
+Completes May said left read write old new status =
+    (o : Options) (s : Listing) → said ≡ Some o → GivesScript o.generate left s → ¬ read → ¬ write → (status ≡ NoMemory) ⊎ ((status ≡ Done) × OfResults May o.summary s (Appends old new))
 
 -- the count of the source's faults, which is one higher exactly where the status says that a read failed
 abbrev pub read_faults : Status → ℕ → ℕ

@@ -67,6 +67,15 @@ unless_faulty (kind ∷ kinds) said = None
 unfoldable pub options_of : (words : List Text) → Option Options
 options_of words = unless_faulty (fault_of the_command words) (options_from (matches_of the_command words))
 
+-- an option that is used twice, whatever its values, makes the words no command line
+abbrev pub RepeatedOptionsSayNothing : Type 0
+RepeatedOptionsSayNothing =
+    (value other : Text)
+    → (options_of ((codes "--spin=" ++ value) ∷ (codes "--spin=" ++ other) ∷ []) ≡ None)
+    × (options_of ((codes "--overdue=" ++ value) ∷ (codes "--overdue=" ++ other) ∷ []) ≡ None)
+    × (options_of ((codes "--generate=" ++ value) ∷ (codes "--generate=" ++ other) ∷ []) ≡ None)
+    × (options_of (codes "--summary" ∷ codes "--summary" ∷ []) ≡ None)
+
 -- each option, joined to its value, says it
 abbrev pub JoinedOptionsSay : Type 0
 JoinedOptionsSay =

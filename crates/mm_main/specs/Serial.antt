@@ -1,5 +1,5 @@
 -- The calls of a script done one after the other, task by task: what they leave on one object.
-use Rattle.std.specs.Prelude.{◌≡◌, ℕ, ◌+◌, ◌++◌, ◌^◌, ◌≤◌, Bool, true, false, List, [], ◌∷◌, length, map, flat_map, Option, Some, None, if◌then◌else◌}
+use Rattle.std.specs.Prelude.{◌≡◌, ℕ, ◌+◌, ◌++◌, ◌^◌, ◌≤◌, Bool, true, false, List, [], ◌∷◌, length, map, filter, flat_map, Option, Some, None, if◌then◌else◌}
 use Rattle.std.specs.List.{AllByRecursion}
 use Rattle.word_bits.specs.declared.call.CallWords.{CallWords}
 use Rattle.word_bits.specs.declared.entry.Entry.{Entry}
@@ -13,8 +13,14 @@ use Rattle.word_bits.specs.Snapshots.{Words}
 use Rattle.word_bits.specs.Histories.{Plan, Records, state_after, changes}
 use Rattle.word_bits.specs.Legal.{seen_after}
 use Rattle.vma_map.specs.Spaces.{space}
+use Rattle.task_script.specs.declared.script.Line.{Line}
+use Rattle.task_script.specs.Scripts.{call_words, is_on}
 use Rattle.fd_table.specs.Tables.{table}
 use Rattle.mm_report.specs.Results.{Told}
+
+-- a task's calls on the object
+abbrev pub task_calls : (object : ℕ) → List Line → List CallWords
+task_calls object lines = map call_words (filter (is_on object) lines)
 
 module _ {Call : Type 0} (o : Obj Call) where
   -- What is recorded of a call that is done behind a log: its reply is its meaning there. What is no call of the object is a signal, and stands at what its task has seen.

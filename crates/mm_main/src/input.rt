@@ -26,6 +26,7 @@ pub(crate) fn read_all<S: Source>(alloc: Global, source: &mut S) -> Result<Vec<u
     ensures most { IfOk result (λ v. length v.items ≤ 1048577) }
     ensures enough { IfOk result (λ v. length v.items < 1048577 → IsAtEnd (S.left source.new)) }
     ensures few_reads { S.gave source.new ≤ S.gave source.old + 1048577 }
+    ensures one_end { S.ended source.new ≤ S.ended source.old + 1 }
     ensures taken { TakesAtMost 1048577 (S.left source.old) (S.left source.new) }
     ensures faults { S.faults source.new ≡ faults_after result (S.faults source.old) }
 {

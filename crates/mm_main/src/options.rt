@@ -5,7 +5,7 @@ ghost use Rattle.clap.specs.Simple.{app_of};
 ghost use Rattle.clap.specs.Walk.{rows_of, rule_of};
 ghost use Rattle.mm_main.specs.CommandLine.{flag_rule, is_from_words, number_if_used, number_or};
 ghost use Rattle.mm_main.specs.CommandLine.{number_up_to, options_from, options_of, the_command};
-ghost use Rattle.mm_main.specs.CommandLine.{JoinedOptionsSay, value_rule};
+ghost use Rattle.mm_main.specs.CommandLine.{JoinedOptionsSay, RepeatedOptionsSayNothing, value_rule};
 ghost use Rattle.mm_main.specs.Parsed.{Gives, error_of};
 
 use clap::error::ErrorKind;
@@ -130,6 +130,11 @@ impl Options {
     #[tactic(auto, using(crate::proofs::CommandLines::joined_options_say))]
     pub(crate) fn joined_options_say()
         ensures { JoinedOptionsSay }
+    {}
+
+    /// An option that is used twice makes the words no command line.
+    pub(crate) fn repeated_options_say_nothing()
+        ensures { RepeatedOptionsSayNothing }
     {}
 
     /// Reads the words behind the program's name.

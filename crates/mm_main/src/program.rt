@@ -9,7 +9,9 @@ ghost use Rattle.task_script.specs.Sound.{IsSound};
 ghost use Rattle.mm_main.specs.CommandLine.{options_of};
 ghost use Rattle.mm_main.specs.Requests.{misused, refused, accepted, reads_input, reason_text};
 ghost use Rattle.mm_main.specs.Requests.{request, request_of};
-ghost use Rattle.mm_main.specs.Answers.{Answers, Completes, Says, TakesAtMost, read_faults, write_faults};
+ghost use Rattle.mm_main.specs.Answers.{Answers, AnyTold, Completes, Says, TakesAtMost};
+ghost use Rattle.mm_main.specs.Answers.{read_faults, write_faults};
+ghost use Rattle.mm_main.specs.Serial.{NoneKeptOff};
 
 use crate::input::{InputError, read_all};
 use crate::options::{Options, OptionsError};
@@ -22,7 +24,7 @@ use task_script::{Outbox, Reason, Script, ScriptError, Sink, Source, generate, p
 const USAGE: &[u8] = b"usage: mm_main [--spin N] [--overdue N] [--generate N] [--summary]\n";
 
 fn usage<K: Sink>(sink: &mut K) -> Status
-    ensures says { Says misused ⊥ (Rose (K.faults sink.old) (K.faults sink.new))
+    ensures says { Says NoneKeptOff misused ⊥ (Rose (K.faults sink.old) (K.faults sink.new))
         (K.written sink.old) (K.written sink.new) result }
     ensures faults { K.faults sink.new ≡ write_faults result (K.faults sink.old) }
 {
@@ -55,7 +57,7 @@ fn reason_name(reason: Reason) -> &'static [u8]
 }
 
 fn refuse<K: Sink>(line: u32, reason: Reason, sink: &mut K) -> Status
-    ensures says { Says (refused record { line = line; reason = reason }) ⊥
+    ensures says { Says NoneKeptOff (refused record { line = line; reason = reason }) ⊥
         (Rose (K.faults sink.old) (K.faults sink.new))
         (K.written sink.old) (K.written sink.new) result }
     ensures faults { K.faults sink.new ≡ write_faults result (K.faults sink.old) }
@@ -75,7 +77,7 @@ fn refuse<K: Sink>(line: u32, reason: Reason, sink: &mut K) -> Status
 fn run<K: Sink>(alloc: Global, script: &Script, summary: bool, sink: &mut K) -> Status
     requires sound { IsSound script.now }
     requires few { count_of_calls script.now ≤ 2 ^ 18 }
-    ensures says { Says (accepted summary script.now) ⊥
+    ensures says { Says NoneKeptOff (accepted summary script.now) ⊥
         (Rose (K.faults sink.old) (K.faults sink.new))
         (K.written sink.old) (K.written sink.new) result }
     ensures faults { K.faults sink.new ≡ write_faults result (K.faults sink.old) }
@@ -92,7 +94,7 @@ fn run<K: Sink>(alloc: Global, script: &Script, summary: bool, sink: &mut K) -> 
 
 fn answer<K: Sink>(alloc: Global, input: &[u8], summary: bool, sink: &mut K) -> Status
     requires { length input.now ≤ 1048577 }
-    ensures says { Says (request_of summary (script_of input.now)) ⊥
+    ensures says { Says NoneKeptOff (request_of summary (script_of input.now)) ⊥
         (Rose (K.faults sink.old) (K.faults sink.new))
         (K.written sink.old) (K.written sink.new) result }
     ensures faults { K.faults sink.new ≡ write_faults result (K.faults sink.old) }
@@ -106,7 +108,7 @@ fn answer<K: Sink>(alloc: Global, input: &[u8], summary: bool, sink: &mut K) -> 
 
 // Answers the script of a number.
 fn answer_generated<K: Sink>(alloc: Global, number: u32, summary: bool, sink: &mut K) -> Status
-    ensures says { Says (accepted summary (generated number)) ⊥
+    ensures says { Says NoneKeptOff (accepted summary (generated number)) ⊥
         (Rose (K.faults sink.old) (K.faults sink.new))
         (K.written sink.old) (K.written sink.new) result }
     ensures faults { K.faults sink.new ≡ write_faults result (K.faults sink.old) }
@@ -124,7 +126,8 @@ fn answer_input<S: Source, K: Sink>(
     source: &mut S,
     sink: &mut K,
 ) -> Status
-    ensures answer { Answers (λ input. request_of summary (script_of input)) (S.left source.old)
+    ensures answer { Answers NoneKeptOff (λ input. request_of summary (script_of input))
+        (S.left source.old)
         (Rose (S.faults source.old) (S.faults source.new))
         (Rose (K.faults sink.old) (K.faults sink.new))
         (K.written sink.old) (K.written sink.new) result }
@@ -132,6 +135,7 @@ fn answer_input<S: Source, K: Sink>(
     ensures write_faults { K.faults sink.new ≡ write_faults result (K.faults sink.old) }
     ensures taken { TakesAtMost 1048577 (S.left source.old) (S.left source.new) }
     ensures few_reads { S.gave source.new ≤ S.gave source.old + 1048577 }
+    ensures one_end { S.ended source.new ≤ S.ended source.old + 1 }
     ensures whole { result ≡ Status.Done → IsAtEnd (S.left source.new) }
 {
     match read_all(alloc, source) {
@@ -153,12 +157,20 @@ pub fn top<S: Source, K: Sink>(
     source: &mut S,
     sink: &mut K,
 ) -> Status
-    ensures answer { Answers (request (options_of (map string_bytes words.now)))
+    ensures answer { Answers AnyTold (request (options_of (map string_bytes words.now)))
         (S.left source.old)
         (Rose (S.faults source.old) (S.faults source.new))
         (Rose (K.faults sink.old) (K.faults sink.new))
         (K.written sink.old) (K.written sink.new) result }
-    ensures complete { Completes (options_of (map string_bytes words.now)) (S.left source.old)
+
+    // Task by task no call is kept off its object.
+    ensures none_kept_off { Answers NoneKeptOff (request (options_of (map string_bytes words.now)))
+        (S.left source.old)
+        (Rose (S.faults source.old) (S.faults source.new))
+        (Rose (K.faults sink.old) (K.faults sink.new))
+        (K.written sink.old) (K.written sink.new) result }
+
+    ensures complete { Completes AnyTold (options_of (map string_bytes words.now)) (S.left source.old)
         (Rose (S.faults source.old) (S.faults source.new))
         (Rose (K.faults sink.old) (K.faults sink.new))
         (K.written sink.old) (K.written sink.new) result }
@@ -168,6 +180,7 @@ pub fn top<S: Source, K: Sink>(
     ensures unread { reads_input (options_of (map string_bytes words.now)) ≡ false →
         source.new ≡ source.old }
     ensures few_reads { S.gave source.new ≤ S.gave source.old + 1048577 }
+    ensures one_end { S.ended source.new ≤ S.ended source.old + 1 }
     ensures whole { result ≡ Status.Done →
         reads_input (options_of (map string_bytes words.now)) ≡ true →
         IsAtEnd (S.left source.new) }

@@ -2,16 +2,19 @@
 //!
 //! Nobody else holds an object then, so a call that would not wait is never busy, and one that a
 //! signal may interrupt is never interrupted.
-ghost use Rattle.std.specs.Prelude.{◌≡◌, ◌+◌, ◌<◌, ◌≤◌, ◌^◌, length, map, filter, flat_map, sum_by, count_by, List, [], Some, slice_get};
+ghost use Rattle.std.specs.Prelude.{◌≡◌, ◌+◌, ◌<◌, ◌≤◌, ◌^◌, length, map, flat_map, count_by, List, [], Some, slice_get};
 ghost use Rattle.word_bits.specs.declared.entry.Entry.{Entry};
 ghost use Rattle.word_bits.specs.EntryWord.{IsEntry};
 ghost use Rattle.word_bits.specs.RecWord.{rec_word};
 ghost use Rattle.word_bits.specs.Snapshots.{no_words};
 ghost use Rattle.word_bits.specs.Histories.{Plan, at_entry};
-ghost use Rattle.task_script.specs.Scripts.{Declared, call_words, count_of_calls, is_on, plan_of};
+ghost use Rattle.task_script.specs.Scripts.{Declared, count_of_calls, is_on, plan_of};
 ghost use Rattle.task_script.specs.Sound.{IsSound};
-ghost use Rattle.mm_report.specs.Results.{Told, AreLegal, AreComplete, empty_results, words_of_kind};
-ghost use Rattle.mm_main.specs.Serial.{Stands, DoesCall, DoesTask, Keeps, HasRoom, IsSerial, IsSerialOn, NoneKeptOff, all_records, all_log};
+ghost use Rattle.mm_report.specs.Results.{Told, AreLegal, AreComplete, calls_on};
+ghost use Rattle.mm_report.specs.Results.{empty_results, words_of_kind};
+ghost use Rattle.mm_main.specs.Serial.{Stands, DoesCall, DoesTask, Keeps, HasRoom};
+ghost use Rattle.mm_main.specs.Serial.{IsSerial, IsSerialOn, NoneKeptOff, all_log, all_records};
+ghost use Rattle.mm_main.specs.Serial.{task_calls};
 
 use fd_table::Fds;
 use mm_report::Results;
@@ -34,7 +37,8 @@ fn perform<O: Object>(
     requires room { HasRoom snapshot.old 1 }
     ensures does { (plan : Plan) (log : List Entry) → at_entry plan entry ≡ Some words →
         Stands O.object plan log snapshot.old (O.state value.old) →
-        DoesCall O.object plan log entry seen words snapshot.old snapshot.new (O.state value.new) result }
+        DoesCall O.object plan log entry seen words snapshot.old snapshot.new
+        (O.state value.new) result }
     ensures seen { result ≤ length snapshot.new.log }
     ensures recs { length snapshot.new.recs ≡ length snapshot.old.recs + 1 }
     ensures log { length snapshot.new.log ≤ length snapshot.old.log + 1 }
@@ -71,11 +75,15 @@ fn perform_task<O: Object>(
     requires task { task < 64 }
     requires few { count_by (is_on object) lines.now ≤ 2 ^ 18 }
     requires room { HasRoom snapshot.old (count_by (is_on object) lines.now) }
-    ensures does { (plan : Plan) (log : List Entry) → slice_get plan task ≡ Some (map call_words (filter (is_on object) lines.now)) →
+    ensures does { (plan : Plan) (log : List Entry) →
+        slice_get plan task ≡ Some (task_calls object lines.now) →
         Stands O.object plan log snapshot.old (O.state value.old) →
-        DoesTask O.object plan log task (map call_words (filter (is_on object) lines.now)) snapshot.old snapshot.new (O.state value.new) }
-    ensures recs { length snapshot.new.recs ≡ length snapshot.old.recs + count_by (is_on object) lines.now }
-    ensures log { length snapshot.new.log ≤ length snapshot.old.log + count_by (is_on object) lines.now }
+        DoesTask O.object plan log task (task_calls object lines.now) snapshot.old snapshot.new
+        (O.state value.new) }
+    ensures recs { length snapshot.new.recs ≡
+        length snapshot.old.recs + count_by (is_on object) lines.now }
+    ensures log { length snapshot.new.log ≤
+        length snapshot.old.log + count_by (is_on object) lines.now }
     ensures kept { Keeps snapshot.old snapshot.new }
     ensures sound { O.object.IsState (O.state value.new) }
 {
@@ -85,9 +93,7 @@ fn perform_task<O: Object>(
         if line.object != object {
             continue;
         }
-        let [a, b] = line.words;
-        let words = CallWords { a, b };
-        seen = perform(value, words, Entry { task, call }, seen, snapshot);
+        seen = perform(value, line.call(), Entry { task, call }, seen, snapshot);
         call += 1;
     }
 }
@@ -95,12 +101,14 @@ fn perform_task<O: Object>(
 // Does all tasks' calls on the object, one task after the other.
 fn perform_tasks<O: Object>(value: &mut O, script: &Script, object: u32, snapshot: &mut Snapshot)
     requires begins { O.state value.old ≡ O.object.empty }
-    requires few { sum_by (count_by (is_on object)) script.now.tasks ≤ 2 ^ 18 }
-    requires room { HasRoom snapshot.old (sum_by (count_by (is_on object)) script.now.tasks) }
+    requires few { calls_on script.now object ≤ 2 ^ 18 }
+    requires room { HasRoom snapshot.old (calls_on script.now object) }
     requires no_recs { snapshot.old.recs ≡ [] }
     requires no_log { snapshot.old.log ≡ [] }
-    ensures recs { snapshot.new.recs ≡ flat_map (map rec_word) (all_records O.object (plan_of script.now object) [] 0 (plan_of script.now object)) }
-    ensures stands { Stands O.object (plan_of script.now object) (all_log O.object [] 0 (plan_of script.now object)) snapshot.new (O.state value.new) }
+    ensures recs { snapshot.new.recs ≡ flat_map (map rec_word)
+        (all_records O.object (plan_of script.now object) [] 0 (plan_of script.now object)) }
+    ensures stands { Stands O.object (plan_of script.now object)
+        (all_log O.object [] 0 (plan_of script.now object)) snapshot.new (O.state value.new) }
     ensures kept { Keeps snapshot.old snapshot.new }
 {
     for task in 0..script.tasks() {
@@ -124,8 +132,9 @@ fn store<O: Object>(value: &O, snapshot: &mut Snapshot)
 
 // Does all calls of a script on an object of this type, from its empty state on, and records them.
 fn perform_object<O: Object + Drop>(script: &Script, object: u32, snapshot: &mut Snapshot)
-    requires few { sum_by (count_by (is_on object)) script.now.tasks ≤ 2 ^ 18 }
-    requires empty { snapshot.old ≡ no_words (sum_by (count_by (is_on object)) script.now.tasks) (sum_by (count_by (is_on object)) script.now.tasks) O.WORDS }
+    requires few { calls_on script.now object ≤ 2 ^ 18 }
+    requires empty { snapshot.old ≡
+        no_words (calls_on script.now object) (calls_on script.now object) O.WORDS }
     ensures { IsSerial O.object (plan_of script.now object) snapshot.new }
 {
     let mut value = O::empty();
@@ -136,10 +145,12 @@ fn perform_object<O: Object + Drop>(script: &Script, object: u32, snapshot: &mut
 // The same of an object of the script, whatever its kind.
 fn perform_declared(script: &Script, object: u32, snapshot: &mut Snapshot)
     requires object { object < length script.now.objects }
-    requires few { sum_by (count_by (is_on object)) script.now.tasks ≤ 2 ^ 18 }
+    requires few { calls_on script.now object ≤ 2 ^ 18 }
     requires empty { (d : Declared) → slice_get script.now.objects object ≡ Some d →
-        snapshot.old ≡ no_words (sum_by (count_by (is_on object)) script.now.tasks) (sum_by (count_by (is_on object)) script.now.tasks) (words_of_kind d.is_space) }
-    ensures { (d : Declared) → slice_get script.now.objects object ≡ Some d → IsSerialOn d.is_space (plan_of script.now object) snapshot.new }
+        snapshot.old ≡ no_words (calls_on script.now object) (calls_on script.now object)
+        (words_of_kind d.is_space) }
+    ensures { (d : Declared) → slice_get script.now.objects object ≡ Some d →
+        IsSerialOn d.is_space (plan_of script.now object) snapshot.new }
 {
     if script.is_space(object as usize) {
         perform_object::<Areas>(script, object, snapshot);

@@ -11,5 +11,8 @@ pub mod Legal
 pub mod Counted
 pub mod Filled
 pub mod Descriptors
+pub mod Tallies
+pub mod LineTexts
+pub mod Replies
 pub mod Telling
 mod Earliest

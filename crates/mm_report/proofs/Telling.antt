@@ -19,7 +19,8 @@ use Rattle.vma_map.specs.Spaces.{space}
 use Rattle.fd_table.specs.Tables.{FdMap, table}
 use Rattle.task_script.specs.Scripts.{Declared, Listing, plan_of}
 use Rattle.task_script.specs.Texts.{call_text, declaration_text, prot_text}
-use Rattle.task_script.proofs.Inner.{is_inner, IsInner, BeginsWithDigit, inner_both, decimal_inner, decimal_begins, prot_inner, call_inner}
+use Rattle.task_script.proofs.Inner.{BeginsWithDigit, decimal_begins}
+use Rattle.mm_report.proofs.LineTexts.{IsInLine, line_both, decimal_in_line, prot_in_line, call_in_line, reply_in_line, same_front}
 use Rattle.mm_report.specs.Results.{Told}
 use Rattle.mm_report.specs.Text.{errno_text, reply_text, event_line, event_text, number_of, task_lines, area_text, left_text, descriptor_text, descriptors_text, space_text, table_text, told_text}
 use Rattle.mm_report.specs.Reports.{report_from}
@@ -39,25 +40,8 @@ begins_before (x ∷ xs) ys begins = begins
 record IsDigitLine (line : List ℕ) : Type 0 where
   front : List ℕ
   is : line ≡ front ++ 10 ∷ []
-  inner : IsInner front
+  inner : IsInLine front
   begins : BeginsWithDigit front
-
-inner_here : (b : ℕ) (bs : List ℕ) → IsInner (b ∷ bs) → (b ≡ 10 → ⊥) × IsInner bs
-inner_here b bs inner = go (b == 10) refl inner
-  where
-    go : (t : Bool) → (b == 10) ≡ t → list_all is_inner (b ∷ bs) ≡ true → (b ≡ 10 → ⊥) × IsInner bs
-    go t is inner = grind (arith, nat_tests)
-
--- the first line feed is in one place
-same_front : (f g xs ys : List ℕ) → IsInner f → IsInner g → f ++ 10 ∷ xs ≡ g ++ 10 ∷ ys → (f ≡ g) × (xs ≡ ys)
-same_front [] [] xs ys inner inner_g e = (refl, cc)
-same_front [] (g ∷ gs) xs ys inner inner_g e = let ten : 10 ≡ g = cc in absurd ((inner_here g gs inner_g).0 (sym ten))
-same_front (f ∷ fs) [] xs ys inner inner_g e = let ten : f ≡ 10 = cc in absurd ((inner_here f fs inner).0 ten)
-same_front (f ∷ fs) (g ∷ gs) xs ys inner inner_g e =
-    let first : f ≡ g = cc in
-    let rest : fs ++ 10 ∷ xs ≡ gs ++ 10 ∷ ys = cc in
-    let more = same_front fs gs xs ys (inner_here f fs inner).1 (inner_here g gs inner_g).1 rest in
-    (let h : f ∷ fs ≡ g ∷ gs = ap (λ l. f ∷ l) more.0 ∙ ap (λ b. b ∷ gs) first in h, more.1)
 
 abbrev joined : List (List ℕ) → List ℕ
 joined ls = flat_map (λ l. l) ls
@@ -77,29 +61,10 @@ same_lines [] [] r q all all_ms other other_q e = (refl, e)
 same_lines [] (m ∷ ms) r q all all_ms other other_q e = absurd (begun_apart r all_ms.0.front (10 ∷ (joined ms ++ q)) other all_ms.0.begins (e ∙ line_first m ms q all_ms.0))
 same_lines (l ∷ ls) [] r q all all_ms other other_q e = absurd (begun_apart q all.0.front (10 ∷ (joined ls ++ r)) other_q all.0.begins (sym e ∙ line_first l ls r all.0))
 same_lines (l ∷ ls) (m ∷ ms) r q all all_ms other other_q e =
-    let cut = same_front all.0.front all_ms.0.front (joined ls ++ r) (joined ms ++ q) all.0.inner all_ms.0.inner (sym (line_first l ls r all.0) ∙ e ∙ line_first m ms q all_ms.0) in
+    let cut = same_front 10 all.0.front all_ms.0.front (joined ls ++ r) (joined ms ++ q) all.0.inner all_ms.0.inner (sym (line_first l ls r all.0) ∙ e ∙ line_first m ms q all_ms.0) in
     let first : l ≡ m = all.0.is ∙ ap (λ f. f ++ 10 ∷ []) cut.0 ∙ sym all_ms.0.is in
     let more = same_lines ls ms r q all.1 all_ms.1 other other_q cut.1 in
     (let h : l ∷ ls ≡ m ∷ ms = ap (λ k. l ∷ k) more.0 ∙ ap (λ k. k ∷ ms) first in h, more.1)
-
--- ---- replies
-
-errno_inner : (e : Errno) → IsInner (errno_text e)
-errno_inner BadF = refl
-errno_inner NoMem = refl
-errno_inner Exist = refl
-errno_inner Inval = refl
-errno_inner MFile = refl
-
-reply_inner : (reply : Reply) → IsInner (reply_text reply)
-reply_inner Good = refl
-reply_inner (Num n) = decimal_inner n
-reply_inner (Refused e) = errno_inner e
-reply_inner MapErr = refl
-reply_inner AccErr = refl
-reply_inner (Busy word) = inner_both (codes "busy ") (decimal word) refl (decimal_inner word)
-reply_inner Intr = refl
-reply_inner Sent = refl
 
 -- ---- the lines of a history and of a state
 
@@ -113,7 +78,7 @@ event_is task number w reply =
     let f = e ++ codes " = " in record {
       front = f ++ reply_text reply;
       is = refl;
-      inner = inner_both f (reply_text reply) (inner_both e (codes " = ") (inner_both d (call_text w) (inner_both c (codes " ") (inner_both b (decimal number) (inner_both a (codes ".") (decimal_inner task) refl) (decimal_inner number)) refl) (call_inner w)) refl) (reply_inner reply);
+      inner = line_both f (reply_text reply) (line_both e (codes " = ") (line_both d (call_text w) (line_both c (codes " ") (line_both b (decimal number) (line_both a (codes ".") (decimal_in_line task) refl) (decimal_in_line number)) refl) (call_in_line w)) refl) (reply_in_line reply);
       begins = begins_before f (reply_text reply) (begins_before e (codes " = ") (begins_before d (call_text w) (begins_before c (codes " ") (begins_before b (decimal number) (begins_before a (codes ".") (decimal_begins task))))));
     }
 
@@ -129,7 +94,7 @@ area_is a =
     let e = d ++ codes " " in record {
       front = e ++ prot_text a.prot;
       is = refl;
-      inner = inner_both e (prot_text a.prot) (inner_both d (codes " ") (inner_both c (decimal a.end) (inner_both b (codes "-") (decimal_inner a.start) refl) (decimal_inner a.end)) refl) (prot_inner a.prot);
+      inner = line_both e (prot_text a.prot) (line_both d (codes " ") (line_both c (decimal a.end) (line_both b (codes "-") (decimal_in_line a.start) refl) (decimal_in_line a.end)) refl) (prot_in_line a.prot);
       begins = begins_before e (prot_text a.prot) (begins_before d (codes " ") (begins_before c (decimal a.end) (begins_before b (codes "-") (decimal_begins a.start))));
     }
 
@@ -139,7 +104,7 @@ file_is fd file =
     let c = b ++ codes " " in record {
       front = c ++ decimal file;
       is = refl;
-      inner = inner_both c (decimal file) (inner_both b (codes " ") (decimal_inner fd) refl) (decimal_inner file);
+      inner = line_both c (decimal file) (line_both b (codes " ") (decimal_in_line fd) refl) (decimal_in_line file);
       begins = begins_before c (decimal file) (begins_before b (codes " ") (decimal_begins fd));
     }
 
@@ -215,9 +180,9 @@ from_begins s object (d ∷ ds) (t ∷ ts) =
 -- how much is left, and what stands behind it
 same_left : (m n : ℕ) (xs ys : List ℕ) → left_text m ++ xs ≡ left_text n ++ ys → (left_text m ≡ left_text n) × (xs ≡ ys)
 same_left m n xs ys e =
-    let inner : (k : ℕ) → IsInner (codes "left " ++ decimal k) = λ (k : ℕ). inner_both (codes "left ") (decimal k) refl (decimal_inner k) in
+    let inner : (k : ℕ) → IsInLine (codes "left " ++ decimal k) = λ (k : ℕ). line_both (codes "left ") (decimal k) refl (decimal_in_line k) in
     let at : (k : ℕ) (zs : List ℕ) → left_text k ++ zs ≡ (codes "left " ++ decimal k) ++ 10 ∷ zs = λ (k : ℕ) (zs : List ℕ). append_assoc (codes "left " ++ decimal k) (10 ∷ []) zs in
-    let cut = same_front (codes "left " ++ decimal m) (codes "left " ++ decimal n) xs ys (inner m) (inner n) (sym (at m xs) ∙ e ∙ at n ys) in
+    let cut = same_front 10 (codes "left " ++ decimal m) (codes "left " ++ decimal n) xs ys (inner m) (inner n) (sym (at m xs) ∙ e ∙ at n ys) in
     (ap (λ f. f ++ 10 ∷ []) cut.0, cut.1)
 
 -- a state, and what stands behind it

@@ -1,11 +1,14 @@
 -- That the text of a script's histories tells them.
-use Rattle.std.specs.Prelude.{◌≡◌, ℕ, ◌+◌, Bool, true, false, List, [], ◌∷◌, map}
+use Rattle.std.specs.Prelude.{◌≡◌, ℕ, ◌+◌, ◌^◌, ◌<◌, Bool, true, false, List, [], ◌∷◌, map}
+use Rattle.word_bits.specs.declared.call.CallWords.{CallWords}
+use Rattle.word_bits.specs.declared.reply.Reply.{Reply}
 use Rattle.word_bits.specs.Histories.{history, state_after}
+use Rattle.word_bits.specs.RecWord.{value_of}
 use Rattle.vma_map.specs.Spaces.{space}
 use Rattle.fd_table.specs.Tables.{table}
 use Rattle.task_script.specs.Scripts.{Declared, Listing, plan_of}
 use Rattle.mm_report.specs.Results.{Told}
-use Rattle.mm_report.specs.Text.{event_text, space_text, table_text}
+use Rattle.mm_report.specs.Text.{event_line, event_text, space_text, table_text}
 use Rattle.mm_report.specs.Reports.{report_of}
 
 -- the lines of an object's history
@@ -26,6 +29,12 @@ TellTheSame s object (d ∷ ds) [] (u ∷ us) = ⊥
 TellTheSame s object (d ∷ ds) (t ∷ ts) [] = ⊥
 TellTheSame s object (d ∷ ds) (t ∷ ts) (u ∷ us) =
     (lines_told s object d.is_space t ≡ lines_told s object d.is_space u) × (state_told s object d.is_space t ≡ state_told s object d.is_space u) × TellTheSame s (object + 1) ds ts us
+
+-- A call's line tells its reply, where its value is in the range of a record.
+abbrev pub LineTellsReply : Type 0
+LineTellsReply =
+    (task number task' number' : ℕ) (w w' : CallWords) (reply reply' : Reply) → value_of reply < 2 ^ 22 → value_of reply' < 2 ^ 22
+    → event_line task number w reply ≡ event_line task' number' w' reply' → reply ≡ reply'
 
 -- The text determines the histories: what is told of a script in the same text is line by line the same.
 abbrev pub TextDeterminesHistories : Type 0

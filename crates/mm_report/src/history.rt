@@ -7,9 +7,9 @@ ghost use Rattle.std.specs.Prelude.{◌≡◌, ◌+◌, ◌*◌, ◌<◌, ◌≤
 ghost use Rattle.std.specs.Prelude.{slice_get, Some, IsSome, OnOk};
 ghost use Rattle.word_bits.specs.declared.rec.Rec.{Rec};
 ghost use Rattle.word_bits.specs.RecWord.{IsRec, rec_word};
-ghost use Rattle.word_bits.specs.Histories.{Event, Records, logs as is_logged};
+ghost use Rattle.word_bits.specs.Histories.{Event, Records};
 ghost use Rattle.task_script.specs.Causes.{CountsFailure, Adds};
-ghost use Rattle.task_script.specs.Scripts.{call_words, plan_of};
+ghost use Rattle.task_script.specs.Scripts.{plan_of};
 ghost use Rattle.mm_report.specs.Results.{calls_on};
 ghost use Rattle.mm_report.specs.Text.{event_line, event_text, task_event_text};
 ghost use Rattle.mm_report.specs.Merged.{position as where_it_stands, front, behind, merged, task_lists};
@@ -19,24 +19,14 @@ ghost use Rattle.mm_report.specs.Cursors.{HasRecords, AreRead, IsAt, AreAt, firs
 use crate::cursor::{Cursor, first_cursors, next_bound};
 use crate::line::add_event;
 use task_script::{Failed, Line, Outbox, Script, Sink};
-use word_bits::{CallWords, Object, Rec, Reply, Snapshot};
-
-// Whether a call with this reply is logged: a changing call that held the lock.
-fn logs<O: Object>(words: CallWords, reply: Reply) -> bool
-    ensures { result ≡ is_logged O.object words reply }
-{
-    match (reply, O::call_of(words)) {
-        (Reply::Busy(_) | Reply::Intr | Reply::Sent, _) | (_, None) => false,
-        (_, Some(call)) => !O::reads(call),
-    }
-}
+use word_bits::{CallWords, Object, Rec, Reply, Snapshot, is_logged};
 
 // Where a call stands: in front of an entry of the log, or as that entry.
 fn position<O: Object>(words: CallWords, rec: Rec) -> u64
     ensures { result ≡ where_it_stands O.object words rec }
 {
     let front = u64::from(rec.k) * 2;
-    if logs::<O>(words, rec.reply) {
+    if is_logged::<O>(words, rec.reply) {
         front + 1
     } else {
         front
@@ -50,13 +40,6 @@ fn rec_at(recs: &[u64], place: usize) -> Option<Rec>
         slice_get recs.now place ≡ Some (rec_word r) → result ≡ Some r }
 {
     Rec::unpack(*recs.get(place)?)
-}
-
-fn words_of(line: Line) -> CallWords
-    ensures { result ≡ call_words line }
-{
-    let [a, b] = line.words;
-    CallWords { a, b }
 }
 
 fn write_event<K: Sink>(
@@ -78,123 +61,128 @@ fn write_event<K: Sink>(
 
 /// An object's calls in a script, and the words of their records.
 #[derive(Clone, Copy)]
-struct Calls<'a> {
+struct History<'a> {
     script: &'a Script,
     object: u32,
     recs: &'a [u64],
 }
 
-// The next calls of a task, as long as they stand below a position.
-fn write_calls<O: Object, K: Sink>(
-    calls: &Calls<'_>,
-    lines: &[Line],
-    task: u32,
-    bound: u64,
-    cursor: &mut Cursor,
-    out: &mut Outbox,
-    sink: &mut K,
-) -> Result<(), Failed>
-    ensures text { (first : ℕ) (rs : List Rec) (left : List Event) →
-        HasRecords calls.now.object lines.now calls.now.recs.now first rs →
-        IsAt O.object calls.now.object task lines.now first rs cursor.old left →
-        Adds (K.written sink.old) (K.written sink.new) out.old out.new
-        (flat_map (task_event_text calls.now.object lines.now) (front O.object bound left)) result }
-    ensures reached { (first : ℕ) (rs : List Rec) (left : List Event) →
-        HasRecords calls.now.object lines.now calls.now.recs.now first rs →
-        IsAt O.object calls.now.object task lines.now first rs cursor.old left →
-        OnOk result (IsAt O.object calls.now.object task lines.now first rs cursor.new
-        (behind O.object bound left)) }
-    ensures cause { CountsFailure (K.faults sink.old) (K.faults sink.new) result }
-{
-    for number in cursor.line..lines.len() {
-        let line = lines[number];
-        if line.object != calls.object {
-            continue;
+impl History<'_> {
+    /// The next calls of a task, as long as they stand below a position.
+    fn write_calls<O: Object, K: Sink>(
+        &self,
+        lines: &[Line],
+        task: u32,
+        bound: u64,
+        cursor: &mut Cursor,
+        out: &mut Outbox,
+        sink: &mut K,
+    ) -> Result<(), Failed>
+        ensures text { (first : ℕ) (rs : List Rec) (left : List Event) →
+            HasRecords self.now.object lines.now self.now.recs.now first rs →
+            IsAt O.object self.now.object task lines.now first rs cursor.old left →
+            Adds (K.written sink.old) (K.written sink.new) out.old out.new
+            (flat_map (task_event_text self.now.object lines.now) (front O.object bound left))
+            result }
+        ensures reached { (first : ℕ) (rs : List Rec) (left : List Event) →
+            HasRecords self.now.object lines.now self.now.recs.now first rs →
+            IsAt O.object self.now.object task lines.now first rs cursor.old left →
+            OnOk result (IsAt O.object self.now.object task lines.now first rs cursor.new
+            (behind O.object bound left)) }
+        ensures cause { CountsFailure (K.faults sink.old) (K.faults sink.new) result }
+    {
+        for number in cursor.line..lines.len() {
+            let line = lines[number];
+            if line.object != self.object {
+                continue;
+            }
+            let words = line.call();
+            cursor.line = number;
+            let Some(rec) = rec_at(self.recs, cursor.rec) else {
+                return Ok(());
+            };
+            let position = position::<O>(words, rec);
+            cursor.position = Some(position);
+            if position >= bound {
+                return Ok(());
+            }
+            write_event(task, number, words, rec.reply, out, sink)?;
+            cursor.rec += 1;
         }
-        let words = words_of(line);
-        cursor.line = number;
-        let Some(rec) = rec_at(calls.recs, cursor.rec) else {
-            return Ok(());
-        };
-        cursor.position = position::<O>(words, rec);
-        if cursor.position >= bound {
+        cursor.line = lines.len();
+        cursor.position = None;
+        Ok(())
+    }
+
+    /// The same, where the task may have none.
+    fn write_task<O: Object, K: Sink>(
+        &self,
+        task: u32,
+        bound: u64,
+        cursor: &mut Cursor,
+        out: &mut Outbox,
+        sink: &mut K,
+    ) -> Result<(), Failed>
+        requires { task < length self.now.script.now.tasks }
+        ensures text { (lines : List Line) (rs : List Rec) (left : List Event) →
+            slice_get self.now.script.now.tasks task ≡ Some lines →
+            HasRecords self.now.object lines self.now.recs.now
+            (first_record self.now.script.now self.now.object task) rs →
+            IsAt O.object self.now.object task lines
+            (first_record self.now.script.now self.now.object task) rs cursor.old left →
+            Adds (K.written sink.old) (K.written sink.new) out.old out.new
+            (flat_map (event_text self.now.script.now self.now.object) (front O.object bound left))
+            result }
+        ensures reached { (lines : List Line) (rs : List Rec) (left : List Event) →
+            slice_get self.now.script.now.tasks task ≡ Some lines →
+            HasRecords self.now.object lines self.now.recs.now
+            (first_record self.now.script.now self.now.object task) rs →
+            IsAt O.object self.now.object task lines
+            (first_record self.now.script.now self.now.object task) rs cursor.old left →
+            OnOk result (IsAt O.object self.now.object task lines
+            (first_record self.now.script.now self.now.object task) rs cursor.new
+            (behind O.object bound left)) }
+        ensures cause { CountsFailure (K.faults sink.old) (K.faults sink.new) result }
+    {
+        if cursor.earliest() >= bound {
             return Ok(());
         }
-        write_event(task, number, words, rec.reply, out, sink)?;
-        cursor.rec += 1;
+        let lines = self.script.calls(task as usize);
+        self.write_calls::<O, K>(lines, task, bound, cursor, out, sink)
     }
-    cursor.line = lines.len();
-    cursor.position = u64::MAX;
-    Ok(())
-}
 
-// The same, where the task may have none.
-fn write_task<O: Object, K: Sink>(
-    calls: &Calls<'_>,
-    task: u32,
-    bound: u64,
-    cursor: &mut Cursor,
-    out: &mut Outbox,
-    sink: &mut K,
-) -> Result<(), Failed>
-    requires { task < length calls.now.script.now.tasks }
-    ensures text { (lines : List Line) (rs : List Rec) (left : List Event) →
-        slice_get calls.now.script.now.tasks task ≡ Some lines →
-        HasRecords calls.now.object lines calls.now.recs.now
-        (first_record calls.now.script.now calls.now.object task) rs →
-        IsAt O.object calls.now.object task lines
-        (first_record calls.now.script.now calls.now.object task) rs cursor.old left →
-        Adds (K.written sink.old) (K.written sink.new) out.old out.new
-        (flat_map (event_text calls.now.script.now calls.now.object) (front O.object bound left)) result }
-    ensures reached { (lines : List Line) (rs : List Rec) (left : List Event) →
-        slice_get calls.now.script.now.tasks task ≡ Some lines →
-        HasRecords calls.now.object lines calls.now.recs.now
-        (first_record calls.now.script.now calls.now.object task) rs →
-        IsAt O.object calls.now.object task lines
-        (first_record calls.now.script.now calls.now.object task) rs cursor.old left →
-        OnOk result (IsAt O.object calls.now.object task lines
-        (first_record calls.now.script.now calls.now.object task) rs cursor.new
-        (behind O.object bound left)) }
-    ensures cause { CountsFailure (K.faults sink.old) (K.faults sink.new) result }
-{
-    if cursor.position >= bound {
-        return Ok(());
+    /// The next calls of all tasks, as long as they stand below a position, task by task.
+    fn write_position<O: Object, K: Sink>(
+        &self,
+        bound: u64,
+        cursors: &mut [Cursor],
+        out: &mut Outbox,
+        sink: &mut K,
+    ) -> Result<(), Failed>
+        requires { length self.now.script.now.tasks ≤ length cursors.old }
+        ensures text { (records : Records) (lefts : List (List Event)) →
+            AreRead self.now.script.now self.now.object self.now.recs.now records →
+            length lefts ≡ length self.now.script.now.tasks →
+            AreAt O.object self.now.script.now self.now.object records cursors.old lefts →
+            Adds (K.written sink.old) (K.written sink.new) out.old out.new
+            (flat_map (event_text self.now.script.now self.now.object)
+            (flat_map (front O.object bound) lefts)) result }
+        ensures reached { (records : Records) (lefts : List (List Event)) →
+            AreRead self.now.script.now self.now.object self.now.recs.now records →
+            length lefts ≡ length self.now.script.now.tasks →
+            AreAt O.object self.now.script.now self.now.object records cursors.old lefts →
+            OnOk result (AreAt O.object self.now.script.now self.now.object records cursors.new
+            (map (behind O.object bound) lefts)) }
+        ensures kept { length cursors.new ≡ length cursors.old }
+        ensures cause { CountsFailure (K.faults sink.old) (K.faults sink.new) result }
+    {
+        for task in 0..self.script.tasks() {
+            let mut cursor = cursors[task];
+            self.write_task::<O, K>(task as u32, bound, &mut cursor, out, sink)?;
+            cursors[task] = cursor;
+        }
+        Ok(())
     }
-    let lines = calls.script.calls(task as usize);
-    write_calls::<O, K>(calls, lines, task, bound, cursor, out, sink)
-}
-
-// The next calls of all tasks, as long as they stand below a position, task by task.
-fn write_position<O: Object, K: Sink>(
-    calls: &Calls<'_>,
-    bound: u64,
-    cursors: &mut [Cursor],
-    out: &mut Outbox,
-    sink: &mut K,
-) -> Result<(), Failed>
-    requires { length calls.now.script.now.tasks ≤ length cursors.old }
-    ensures text { (records : Records) (lefts : List (List Event)) →
-        AreRead calls.now.script.now calls.now.object calls.now.recs.now records →
-        length lefts ≡ length calls.now.script.now.tasks →
-        AreAt O.object calls.now.script.now calls.now.object records cursors.old lefts →
-        Adds (K.written sink.old) (K.written sink.new) out.old out.new
-        (flat_map (event_text calls.now.script.now calls.now.object)
-        (flat_map (front O.object bound) lefts)) result }
-    ensures reached { (records : Records) (lefts : List (List Event)) →
-        AreRead calls.now.script.now calls.now.object calls.now.recs.now records →
-        length lefts ≡ length calls.now.script.now.tasks →
-        AreAt O.object calls.now.script.now calls.now.object records cursors.old lefts →
-        OnOk result (AreAt O.object calls.now.script.now calls.now.object records cursors.new
-        (map (behind O.object bound) lefts)) }
-    ensures kept { length cursors.new ≡ length cursors.old }
-    ensures cause { CountsFailure (K.faults sink.old) (K.faults sink.new) result }
-{
-    for task in 0..calls.script.tasks() {
-        let mut cursor = cursors[task];
-        write_task::<O, K>(calls, task as u32, bound, &mut cursor, out, sink)?;
-        cursors[task] = cursor;
-    }
-    Ok(())
 }
 
 /// Writes the calls on an object in the order of its history, each with its reply.
@@ -215,7 +203,7 @@ pub(crate) fn write_history<O: Object, K: Sink>(
 {
     let recs = snapshot.recs();
     let mut cursors = first_cursors(script, object, recs);
-    let calls = Calls {
+    let history = History {
         script,
         object,
         recs,
@@ -225,7 +213,7 @@ pub(crate) fn write_history<O: Object, K: Sink>(
     let mut position = 0;
     while position < end {
         let bound = next_bound(&cursors[..tasks], position, end);
-        write_position::<O, K>(&calls, bound, &mut cursors, out, sink)?;
+        history.write_position::<O, K>(bound, &mut cursors, out, sink)?;
         position = bound;
     }
     Ok(())

@@ -1,5 +1,5 @@
 -- The steps on the owner word keep its own facts and the site's, and so the host's rule.
-use Rattle.std.proofs.Common.{◌/◌, ◌%◌, ◌≤◌, inr, ◌≡◌, ◌≢◌, ◌∙◌, ℕ, ◌+◌, inl, false, List, map, take, get_or, set, Option, Some, None, sym, refl, subst, arith}
+use Rattle.std.proofs.Common.{IsSome, ap, ⊎_elim, ◌*◌, Bool, true, ◌/◌, ◌%◌, ◌<◌, ◌≤◌, ◌⊎◌, inr, ◌≡◌, ◌≢◌, ◌∙◌, ℕ, ◌+◌, inl, false, List, map, take, get_or, set, Option, Some, None, sym, refl, subst, arith}
 use mathlib.Core.Option.{some, none}
 use lib.ListN.{get_elem?}
 use lib.Seq.{set-get_or}
@@ -14,23 +14,26 @@ use Rattle.lock_core.specs.declared.view.Hand.{Hand}
 use Rattle.lock_core.specs.declared.view.Held.TheVariants.{No, Alone}
 use Rattle.lock_core.specs.declared.view.Stage.TheVariants.{Rest}
 use Rattle.lock_core.specs.Layout.{site}
-use Rattle.lock_core.specs.Views.{hand_of, handed, ticked, took}
+use Rattle.lock_core.specs.Views.{hand_of, held_of, handed, ticked, took}
 use Rattle.lock_core.specs.Sites.{SiteKept, HasPlan}
 use Rattle.lock_core.specs.Moves.{Goes, Lets}
-use Rattle.lock_core.proofs.HandLaws.{no-alone, alone-is-held}
+use Rattle.lock_core.proofs.HandLaws.{no-alone, alone-is-held, not-both}
 use Rattle.lock_core.proofs.HoldSteps.{none-alone, quiet-state, site-takes, site-misses, site-frees}
-use Rattle.lock_core.proofs.Steps.{exchanges, modifies}
-use Rattle.mutex_word.specs.Holders.{own_word, OwnKept, IsTurn, IsShut, turns}
+use Rattle.lock_core.proofs.Steps.{chooses, exchanges, modifies}
+use Rattle.mutex_word.specs.Holders.{own_word, OwnKept, IsTurn, IsShut, IsAsk, turns}
+use Rattle.mutex_word.specs.Tries.{IsFail, IsLawful, IsTake, IsLeft, IsMine, SawWord, missing}
+use Rattle.word_bits.specs.declared.TheConstants.{MAX_TASKS}
+use Rattle.lock_core.specs.Totals.{total}
 use Rattle.lock_core.specs.Holding.{Learns, missed, released}
 use Rattle.mutex_word.specs.declared.host.Turn.{Turn}
-use Rattle.mutex_word.specs.declared.host.Turn.TheVariants.{Take, Free, Flag, Clear, Fail}
-use Rattle.mutex_word.specs.Plays.{Tried, Freed, Flagged, Looked}
-use Rattle.mutex_word.specs.OwnKinds.{own-flags, own-clears, or-one, or-odd, and-clears}
+use Rattle.mutex_word.specs.declared.host.Turn.TheVariants.{Take, Ask, Free, Flag, Clear, Fail}
+use Rattle.mutex_word.specs.Plays.{Tried, Freed, Flagged, SeenBy, Looked, TookBy, AskedBy, Mine, LeftBy}
+use Rattle.mutex_word.specs.OwnKinds.{own-flags, own-clears, own-asks, own-takes-free, own-takes-picked, own-leaves, or-one, or-odd, and-clears}
 use Rattle.word_bits.specs.OwnerWord.{task_code}
 use lib.Bits.{bit_and, bit_or}
 use mathlib.Core.Logic.{dite}
 use native.Mathlib.Decide.{ℕ_discrete}
-use Rattle.mutex_word.specs.OwnLaws.{Named, none-holds, held-word, own-takes, own-frees, own-stays}
+use Rattle.mutex_word.specs.OwnLaws.{Named, none-holds, no-holders, held-word, own-takes, own-frees, own-stays}
 
 -- a live view's plan is the table's
 its-plan : (k p : Plan) (plan : Option Plan) → HasPlan k plan → plan ≡ Some p → k ≡ p
@@ -45,6 +48,34 @@ shut-or-open task n shut open_it = elim (native.Mathlib.Decide.dec_le 8 n) [
   ]
   | no free ↦ open_it (λ s. let b = s.0 in omega (arith, b, free))
 ]
+
+-- the same for a try that may ask
+pub fail-or-on : (asks : Bool) (task : Option ℕ) (n : ℕ) {P : Type 0} → (IsFail asks task n → P) → ((IsFail asks task n → ⊥) → P) → P
+fail-or-on asks task n {P} fails on = shut-or-open task n (λ shut. go asks shut fails on) (λ open_it. on (λ f. open_it f.0))
+  where
+    go : (a : Bool) → IsShut task n → (IsFail a task n → P) → ((IsFail a task n → ⊥) → P) → P
+    go false shut fails on = fails (shut, λ e. not-both false refl e)
+    go true shut fails on = elim (native.Mathlib.Decide.dec_le 2 (n % 8)) [
+      | yes l ↦ fails (shut, λ _. l)
+      | no few ↦ on (λ f. few (f.1 refl))
+    ]
+
+pub some-number : (task : Option ℕ) → IsSome task → (t : ℕ) × (task ≡ Some t)
+some-number (Some t) is = (t, refl)
+some-number None is = absurd (not-both false refl is)
+
+-- what a step tells of the word that a try saw
+pub saw-word : {E : Type 0} (turned : Turn → View E → E) (asks counts : Bool) (me me' : Me (Unit {0}) (View E)) (n : ℕ) → SeenBy turned asks counts me n me' → SawWord turned asks counts me.0 n me'.0 × (me'.1 ≡ me.1)
+saw-word turned asks counts me me' n told = let v = me.0 in fail-or-on asks v.hand.task n
+    (λ f. (record { step = v.steps; later = omega arith; lawful = told.0; fails = λ _. (told.1 f).0; on = λ not. absurd (not f) }, (told.1 f).1))
+    (λ on. (record { step = v.steps + 1; later = omega arith; lawful = told.0; fails = λ f. absurd (on f); on = λ _. (told.2 on).0 }, (told.2 on).1))
+
+-- a try that may take or ask doesn't fail
+pub take-on : (asks : Bool) (task : Option ℕ) (t n m : ℕ) → task ≡ Some t → IsTake t n m → IsFail asks task n → ⊥
+take-on asks task t n m has is f = let big = f.0.0 in ⊎_elim (λ (q : (n < 8) × (m ≡ 8 * (t + 1) + n)). let l = q.0 in omega (arith, l, big)) (λ (q : (4 ≤ n % 8) × (n / 8 ≡ t + 1) × (m + 4 ≡ n)). ⊎_elim (λ (l : n % 8 < 4). let h = q.0 in omega (arith, l, h)) (λ (other : n / 8 ≢ task_code task). other (q.1 ∙ sym (ap task_code has))) f.0.1) is
+
+pub ask-on : (asks : Bool) (task : Option ℕ) (n m : ℕ) → asks ≡ true → IsAsk n m → IsFail asks task n → ⊥
+ask-on asks task n m so is f = let a = f.1 so in let b = is.0 in omega (arith, a, b)
 
 module _ {E Call : Type 0} (o : Obj Call) (unavailable : Unavailable) (size : ℕ) (k : Plan)
     (holds : List ℕ → List (View E) → Type 0) (moves : ℕ → List ℕ → List (View E) → List ℕ → List (View E) → Type 0)
@@ -126,24 +157,97 @@ module _ {E Call : Type 0} (o : Obj Call) (unavailable : Unavailable) (size : �
       (λ ws vs h at small. let n : ℕ = get_or ws place 0 in let m : ℕ = bit_and n 18446744073709551608 in let hs : List Hand = map hand_of vs in let mine = at_map hand_of vs id v at in let own = (own_kept ws vs h).0 in let is = and-clears n small in let yes_may = may n m is in
       (owns ws vs id m v v.hand Clear h at refl (omega arith) yes_may (own-clears hs id n v.hand v.hand own mine m refl refl (own_may ws vs id m v Clear h at yes_may) is) (same-hand ws vs id v h at), (refl, refl)))
 
-  sees-there : (slots id : ℕ) (me : M) → ((n : ℕ) → IsShut me.0.hand.task n → may_own Fail me.0 n n) → Lets holds moves slots id me place Load (Looked turned (step slots place 0 0 none) me)
-  sees-there slots id me may s h l at small = let ws = s.words in let vs = s.views in let v = me.0 in let n : ℕ = get_or ws place 0 in let own = (own_kept ws vs h).0 in let mine = at_map hand_of vs id v at in shut-or-open v.hand.task n
+  word-lawful : (n : ℕ) (hs : List Hand) → OwnKept n hs → IsLawful n
+  word-lawful n hs own = record { small = own.small; nobody = own.nobody; flags = own.flags }
+
+  -- a failed try keeps the site's facts, whether it counts or not
+  site-missing : (counts : Bool) (ws : List ℕ) (vs : List (View E)) (id n step : ℕ) (v : View E) → holds ws vs → get_elem? vs id ≡ some v → n < 8 * MAX_TASKS + 8 → SiteKept o unavailable size k (site k ws) (set (map hand_of vs) id (missing counts v.hand n step))
+  site-missing true ws vs id n step v h at small = site-misses o unavailable size k (site k ws) (map hand_of vs) id n step v.hand (kept ws vs h) (at_map hand_of vs id v at) (omega (arith, small))
+  site-missing false ws vs id n step v h at small = same-hand ws vs id v h at
+
+  -- which changes of the hand a step on the owner word may make
+  abbrev IsMissing : Hand → Hand → Type 0
+  IsMissing h g = (g.task ≡ h.task) × (g.held ≡ h.held) × (h.misses ≤ g.misses)
+
+  is-missing : (counts : Bool) (h : Hand) (n step : ℕ) → IsMissing h (missing counts h n step)
+  is-missing true h n step = (refl, refl, omega arith)
+  is-missing false h n step = (refl, refl, omega arith)
+
+  -- what a try makes of a word that it sees and leaves
+  saw-there : (asks counts : Bool) (me : M) (ws : List ℕ) (vs : List (View E)) (id : ℕ) → holds ws vs → get_elem? vs id ≡ some me.0 → ((n : ℕ) → IsFail asks me.0.hand.task n → may_own Fail me.0 n n)
+      → (w : View E) × (w.steps ≡ me.0.steps + 1) × Goes holds moves id ws vs ws (set vs id w) × SeenBy turned asks counts me (get_or ws place 0) (w, me.1)
+  saw-there asks counts me ws vs id h at may = let v = me.0 in let n : ℕ = get_or ws place 0 in let own = (own_kept ws vs h).0 in let mine = at_map hand_of vs id v at in let g : Hand = missing counts v.hand n (v.steps + 1) in let lawful = word-lawful n (map hand_of vs) own in
+      let same = is-missing counts v.hand n (v.steps + 1) in fail-or-on asks v.hand.task n
       (λ shut. (
-        turns turned Fail v v.hand,
-        keeps,
-        tt,
-        owns ws vs id n v v.hand Fail h at refl (omega arith) (may n shut) (own-stays (map hand_of vs) id n v.hand v.hand own mine refl (inl refl)) (same-hand ws vs id v h at),
+        turns turned Fail v g,
         refl,
-        (own.small, (λ _. (refl, refl)), λ open_it. absurd (open_it shut)),
+        subst (λ (z : List ℕ). Goes holds moves id ws vs z (set vs id (turns turned Fail v g))) (set-get_or ws place 0) (owns ws vs id n v g Fail h at same.0 same.2 (may n shut) (own-stays (map hand_of vs) id n v.hand g own mine same.1 (inl same.0)) (site-missing counts ws vs id n (v.steps + 1) v h at own.small)),
+        (lawful, (λ _. (refl, refl)), λ on. absurd (on shut)),
       ))
-      (λ open_it. (
+      (λ on. (
         ticked v,
-        keeps,
-        tt,
-        subst (λ (z : List ℕ). Goes holds moves id ws vs z (set vs id (ticked v))) (sym (set-get_or ws place 0)) (stays ws vs id v v.hand h at refl refl (omega arith) (same-hand ws vs id v h at)),
         refl,
-        (own.small, (λ shut. absurd (open_it shut)), λ _. (refl, refl)),
+        stays ws vs id v v.hand h at refl refl (omega arith) (same-hand ws vs id v h at),
+        (lawful, (λ shut. absurd (on shut)), λ _. (refl, refl)),
       ))
+
+  sees-there : (slots id : ℕ) (asks counts : Bool) (me : M) → ((n : ℕ) → IsFail asks me.0.hand.task n → may_own Fail me.0 n n) → Lets holds moves slots id me place Load (Looked turned asks counts (step slots place 0 0 none) me)
+  sees-there slots id asks counts me may s h l at small = let t = saw-there asks counts me s.words s.views id h at may in
+      (t.0, keeps, tt, subst (λ (z : List ℕ). Goes holds moves id s.words s.views z (set s.views id t.0)) (sym (set-get_or s.words place 0)) t.2, t.1, t.3)
+
+  -- the word's own facts after a take, and before it nobody holds
+  take-keeps : (hs : List Hand) (id t n m : ℕ) (h g : Hand) → OwnKept n hs → Named hs → get_elem? hs id ≡ some h → t < MAX_TASKS → IsTake t n m → g.held ≡ Alone → g.task ≡ Some t → OwnKept m (set hs id g) × (total held_of hs ≡ 0)
+  take-keeps hs id t n m h g own named at small is alone has = ⊎_elim
+      (λ (q : (n < 8) × (m ≡ 8 * (t + 1) + n)). (subst (λ (z : ℕ). OwnKept z (set hs id g)) (sym q.1) (own-takes-free hs id n h g own at t named q.0 small alone has), no-holders hs n own named q.0))
+      (λ (q : (4 ≤ n % 8) × (n / 8 ≡ t + 1) × (m + 4 ≡ n)). (own-takes-picked hs id n h g own at t m q.0 q.1 q.2 alone has, own.picked q.0))
+      is
+
+  pub gets : (slots id at t old new : ℕ) (asks counts : Bool) (me : M) → at ≡ place → me.0.hand.task ≡ Some t → me.0.hand.held ≡ No → IsTake t old new → may_own Take me.0 old new → ((n : ℕ) → IsFail asks me.0.hand.task n → may_own Fail me.0 n n)
+      → Lets holds moves slots id me at (Exchange old new) (TookBy turned o asks counts (step slots at old new none) me)
+  gets slots id at t old new asks counts me place_is has out is may fails = subst (λ (z : ℕ). Lets holds moves slots id me z (Exchange old new) (TookBy turned o asks counts (step slots z old new none) me)) (sym place_is) (let v = me.0 in chooses holds moves slots id place old new me (TookBy turned o asks counts (step slots place old new none) me)
+      (λ ws vs h at found. let hs : List Hand = map hand_of vs in let mine = at_map hand_of vs id v at in let r = kept ws vs h in let ok = r.each id v.hand mine in let own = subst (λ (z : ℕ). OwnKept z hs) found (own_kept ws vs h).0 in let few = r.laid.small.tasks in
+      let there = (ok.mine t has).0 in let known : List ℕ = take size (site k ws).guarded in let g : Hand = took v.hand Alone known r.log in
+      let both = take-keeps hs id t old new v.hand g own (named ws vs h) mine (omega (arith, few, there)) is refl has in let free = both.1 in let none = none-alone hs free in (
+        turns turned Take v g,
+        refl,
+        owns ws vs id new v g Take h at refl (omega arith) (subst (λ (z : ℕ). may_own Take v z new) (sym found) may) both.0 (site-takes o unavailable size k (site k ws) hs id t v.hand Alone r mine out has (alone-is-held Alone refl) (λ _. free) none),
+        (
+          (λ _. (known, r.log, (λ p plan. subst (λ (z : Plan). Learns o z v.hand known r.log) (its-plan k p v.hand.plan ok.plan plan) record { stored = quiet-state o unavailable size k (site k ws) hs r none; within = r.tells.within; begins = ok.seen }), (refl, refl))),
+          λ not. absurd (not refl),
+        ),
+      ))
+      (λ ws vs h at not _. let t = saw-there asks counts me ws vs id h at fails in (t.0, t.1, t.2, ((λ is. absurd (not is)), λ _. t.3))))
+
+  pub begs : (slots id at old new : ℕ) (asks counts : Bool) (me : M) → at ≡ place → IsAsk old new → may_own Ask me.0 old new → ((n : ℕ) → IsFail asks me.0.hand.task n → may_own Fail me.0 n n)
+      → Lets holds moves slots id me at (Exchange old new) (AskedBy turned asks counts (step slots at old new none) me)
+  begs slots id at old new asks counts me place_is is may fails = subst (λ (z : ℕ). Lets holds moves slots id me z (Exchange old new) (AskedBy turned asks counts (step slots z old new none) me)) (sym place_is) (let v = me.0 in chooses holds moves slots id place old new me (AskedBy turned asks counts (step slots place old new none) me)
+      (λ ws vs h at found. let hs : List Hand = map hand_of vs in let mine = at_map hand_of vs id v at in let own = subst (λ (z : ℕ). OwnKept z hs) found (own_kept ws vs h).0 in (
+        turns turned Ask v v.hand,
+        refl,
+        owns ws vs id new v v.hand Ask h at refl (omega arith) (subst (λ (z : ℕ). may_own Ask v z new) (sym found) may) (subst (λ (z : ℕ). OwnKept z (set hs id v.hand)) (sym is.2) (own-asks hs id old v.hand v.hand own mine refl refl is.0 is.1)) (same-hand ws vs id v h at),
+        ((λ _. (refl, refl)), λ not. absurd (not refl)),
+      ))
+      (λ ws vs h at not _. let t = saw-there asks counts me ws vs id h at fails in (t.0, t.1, t.2, ((λ is. absurd (not is)), λ _. t.3))))
+
+  -- the word of the pass that holds
+  mine-there : (me : M) (t : ℕ) (ws : List ℕ) (vs : List (View E)) (id : ℕ) → holds ws vs → get_elem? vs id ≡ some me.0 → me.0.hand.task ≡ Some t → me.0.hand.held ≡ Alone → Goes holds moves id ws vs ws (set vs id (ticked me.0)) × IsMine me.0.hand.task (get_or ws place 0)
+  mine-there me t ws vs id h at has alone = let v = me.0 in let n : ℕ = get_or ws place 0 in let own = (own_kept ws vs h).0 in let w = held-word (map hand_of vs) id t n v.hand own (at_map hand_of vs id v at) alone has in let low = w.0 in let is = w.1 in let c : task_code v.hand.task ≡ t + 1 = ap task_code has in
+      (stays ws vs id v v.hand h at refl refl (omega arith) (same-hand ws vs id v h at), (own.small, low, omega (arith, low, is, c)))
+
+  pub reads : (slots id at t : ℕ) (me : M) → at ≡ place → me.0.hand.task ≡ Some t → me.0.hand.held ≡ Alone → Lets holds moves slots id me at Load (Mine (step slots at 0 0 none) me)
+  reads slots id at t me place_is has alone = subst (λ (z : ℕ). Lets holds moves slots id me z Load (Mine (step slots z 0 0 none) me)) (sym place_is)
+      (λ s h l there small. let r = mine-there me t s.words s.views id h there has alone in (ticked me.0, keeps, tt, subst (λ (z : List ℕ). Goes holds moves id s.words s.views z (set s.views id (ticked me.0))) (sym (set-get_or s.words place 0)) r.0, refl, (r.1, (refl, refl))))
+
+  pub leaves : (slots id at t old new : ℕ) (turn : Turn) (me : M) → at ≡ place → me.0.hand.task ≡ Some t → me.0.hand.held ≡ Alone → me.0.hand.writes ≡ false → me.0.hand.stage ≡ Rest → IsLeft new → may_own turn me.0 old new
+      → Lets holds moves slots id me at (Exchange old new) (LeftBy turned turn (step slots at old new none) me)
+  leaves slots id at t old new turn me place_is has alone quiet rests left may = subst (λ (z : ℕ). Lets holds moves slots id me z (Exchange old new) (LeftBy turned turn (step slots z old new none) me)) (sym place_is) (let v = me.0 in let g : Hand = released v.hand new in chooses holds moves slots id place old new me (LeftBy turned turn (step slots place old new none) me)
+      (λ ws vs h at found. let hs : List Hand = map hand_of vs in let mine = at_map hand_of vs id v at in let n : ℕ = get_or ws place 0 in (
+        turns turned turn v g,
+        refl,
+        owns ws vs id new v g turn h at refl (omega arith) (subst (λ (z : ℕ). may_own turn v z new) (sym found) may) (own-leaves hs id n v.hand g (own_kept ws vs h).0 mine new alone refl left) (site-frees o unavailable size k (site k ws) hs id new v.hand (kept ws vs h) mine quiet rests),
+        ((λ _. (refl, refl)), λ not. absurd (not refl)),
+      ))
+      (λ ws vs h at not _. let r = mine-there me t ws vs id h at has alone in (ticked v, refl, r.0, ((λ is. absurd (not is)), λ _. (r.1, (refl, refl))))))
 
   pub marks : (slots id at : ℕ) (me : M) → at ≡ place → ((n : ℕ) → may_own Flag me.0 n (bit_or n 1)) → Lets holds moves slots id me at (Or 1) (Flagged turned Flag (step slots at 1 0 none) me)
   marks slots id at me is may = subst (λ (z : ℕ). Lets holds moves slots id me z (Or 1) (Flagged turned Flag (step slots z 1 0 none) me)) (sym is) (marks-there slots id me may)
@@ -151,5 +255,5 @@ module _ {E Call : Type 0} (o : Obj Call) (unavailable : Unavailable) (size : �
   pub wipes : (slots id at mask : ℕ) (me : M) → at ≡ place → mask ≡ 18446744073709551608 → ((n m : ℕ) → m + n % 8 ≡ n → may_own Clear me.0 n m) → Lets holds moves slots id me at (And mask) (Flagged turned Clear (step slots at mask 0 none) me)
   wipes slots id at mask me is same may = subst (λ (z : ℕ × ℕ). Lets holds moves slots id me z.0 (And z.1) (Flagged turned Clear (step slots z.0 z.1 0 none) me)) (λ i. (sym is i, sym same i)) (wipes-there slots id me may)
 
-  pub sees : (slots id at : ℕ) (me : M) → at ≡ place → ((n : ℕ) → IsShut me.0.hand.task n → may_own Fail me.0 n n) → Lets holds moves slots id me at Load (Looked turned (step slots at 0 0 none) me)
-  sees slots id at me is may = subst (λ (z : ℕ). Lets holds moves slots id me z Load (Looked turned (step slots z 0 0 none) me)) (sym is) (sees-there slots id me may)
+  pub sees : (slots id at : ℕ) (asks counts : Bool) (me : M) → at ≡ place → ((n : ℕ) → IsFail asks me.0.hand.task n → may_own Fail me.0 n n) → Lets holds moves slots id me at Load (Looked turned asks counts (step slots at 0 0 none) me)
+  sees slots id at asks counts me is may = subst (λ (z : ℕ). Lets holds moves slots id me z Load (Looked turned asks counts (step slots z 0 0 none) me)) (sym is) (sees-there slots id asks counts me may)

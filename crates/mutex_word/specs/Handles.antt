@@ -6,6 +6,7 @@ use Rattle.word_bits.specs.Objects.{Obj}
 use Rattle.word_bits.specs.Histories.{Plan}
 use Rattle.lock_core.specs.declared.pass.Pass.{Pass}
 use Rattle.lock_core.specs.Handles as inner
+use Rattle.lock_core.specs.Shown.{Shown, no_line, shown}
 use Rattle.mutex_word.specs.declared.rule.OwnerRule.{OwnerRule}
 use Rattle.mutex_word.specs.declared.site.OwnerSite.{OwnerSite}
 
@@ -33,3 +34,7 @@ module _ {O C : Type 0} where
   -- the pass is one of the site's
   abbrev pub SitsAt : OwnerSite O C → Pass (OwnerRule O) O (Unit {0}) C → Type 0
   SitsAt site pass = inner.SitsAt site.site pass
+
+  -- what callers of any lock see of a pass: nobody stands in line
+  abbrev pub shown_of : Pass (OwnerRule O) O (Unit {0}) C → Shown
+  shown_of pass = shown (λ x. no_line) (inner.view_of pass).fronts (inner.view_of pass) (inner.past_of pass)

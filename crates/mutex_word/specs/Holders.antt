@@ -60,11 +60,15 @@ pub record OwnKept (word : ℕ) (hs : List Hand) : Type 0 where
 abbrev pub IsShut : Option ℕ → ℕ → Type 0
 IsShut task n = (8 ≤ n) × ((n % 8 < 4) ⊎ (n / 8 ≢ task_code task))
 
+-- what a try that asks for a handoff makes of a word
+abbrev pub IsAsk : ℕ → ℕ → Type 0
+IsAsk n m = (n % 8 < 2) × (8 ≤ n) × (m ≡ n + 2)
+
 -- what a change must be for the word's own facts
 abbrev pub IsTurn : Turn → ℕ → ℕ → Type 0
 IsTurn Fail n m = m ≡ n
 IsTurn Take n m = Unit {0}
-IsTurn Ask n m = (n % 8 < 2) × (8 ≤ n) × (m ≡ n + 2)
+IsTurn Ask n m = IsAsk n m
 IsTurn Free n m = Unit {0}
 IsTurn HandOn n m = Unit {0}
 IsTurn Flag n m = Unit {0}

@@ -1,6 +1,7 @@
 pub mod Owners
 pub mod WordSteps
 pub mod Holders
+pub mod Tries
 pub mod Plays
 pub mod OwnLaws
 pub mod OwnKinds

@@ -6,7 +6,6 @@ use Rattle.word_bits.specs.Histories.{Plan}
 use Rattle.mutex_word.specs.declared.host.Turn.{Turn}
 use Rattle.lock_core.specs.declared.view.View.{View}
 use Rattle.lock_core.specs.declared.layout.TheConstants.{SPIN_ROOM}
-use Rattle.lock_core.specs.Shown.{Shown, no_line, shown}
 use Rattle.lock_core.specs.Layout.{site, width}
 use Rattle.lock_core.specs.Views.{hand_of}
 use Rattle.lock_core.specs.Sites.{SiteKept}
@@ -54,10 +53,6 @@ leaves_plain t v old new = IsPlain new × IsTurn t old new
 
 abbrev pub unturned : Turn → V → Unit {0}
 unturned t v = tt
-
--- what callers of any lock see of a pass: nobody stands in line
-abbrev pub shown_of : V → Shown
-shown_of v = shown (λ x. no_line) v.fronts v
 
 -- a moment keeps nothing beyond
 abbrev pub unmarked : Unit {0} → List ℕ

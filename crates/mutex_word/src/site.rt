@@ -3,14 +3,14 @@ ghost use Rattle.std.specs.Prelude.{◌≡◌, ◌≢◌, ℕ, ◌+◌, ◌<◌,
 ghost use Rattle.word_bits.specs.LockWords.{owned};
 ghost use Rattle.lock_core.specs.declared.view.View.{View};
 ghost use Rattle.lock_core.specs.declared.view.Held.TheVariants.{No, Alone};
-ghost use Rattle.lock_core.specs.Kinds.{mutex};
+ghost use Rattle.lock_core.specs.Kinds.{mutex, wakes_alone};
 ghost use Rattle.lock_core.specs.Locking.{Misses, Releases, Takes};
 ghost use Rattle.lock_core.specs.Records.{IsPlan};
 ghost use Rattle.lock_core.specs.Views.{hand_of, first, ticked, handed, split_off, merged, gave_up, BesideForgetting, HoldsNothing};
 ghost use Rattle.lock_core.specs.Pasts.{EachMoment, FoundAt, Ran, Tail};
 ghost use Rattle.lock_core.specs.Stated.{IsNew, IsSiteMove};
 ghost use Rattle.mutex_word.specs.Holders.{own_word, TakesOwner, MissesOwner, ReleasesOwner};
-ghost use Rattle.mutex_word.specs.Ruled.{IsOwnerSiteThen, newest, owner_at, shown_of, unmarked, unturned};
+ghost use Rattle.mutex_word.specs.Ruled.{IsOwnerSiteThen, newest, owner_at, unmarked, unturned};
 
 use crate::rule::OwnerRule;
 use crate::site_steps;
@@ -32,7 +32,7 @@ pub type OwnerPass<O> = Pass<OwnerRule<O>>;
 
 impl<O: Object> OwnerSite<O> {
     ghost use Rattle.lock_core.specs.Handles.{IsLatest, view_of, hand_in, past_of, task_in, held_in, front_in, KeepsPast};
-    ghost use Rattle.mutex_word.specs.Handles.{plan_of, SitsAt, TakesNumber};
+    ghost use Rattle.mutex_word.specs.Handles.{plan_of, shown_of, SitsAt, TakesNumber};
 
     /// A new site: nobody holds, the state is empty, no call is logged or recorded. The pass has no
     /// task number.
@@ -122,9 +122,9 @@ impl<O: Object> OwnerSite<O> {
         ensures missed { IfErr result (λ word.
             MissesOwner (view_of pass.old) word (view_of pass.new)) }
         ensures takes { IfOk result (λ _. Takes O.object (plan_of self.now) Alone
-            (shown_of (view_of pass.old)) (shown_of (view_of pass.new))) }
-        ensures misses { IfErr result (λ word. (reads : Bool) → Misses mutex reads word
-            (shown_of (view_of pass.old)) (shown_of (view_of pass.new))) }
+            (shown_of pass.old) (shown_of pass.new)) }
+        ensures misses { IfErr result (λ word. (reads : Bool) → Misses mutex reads owner_at word
+            (shown_of pass.old) (shown_of pass.new)) }
         ensures names { IfErr result (λ word. (reads : Bool) → owned reads word) }
         ensures free { IfOk result (λ _. FoundAt owner_at 0 (past_of pass.new)) }
         ensures found { IfErr result (λ word. FoundAt owner_at word (past_of pass.new)) }
@@ -141,8 +141,8 @@ impl<O: Object> OwnerSite<O> {
         ensures own { SitsAt self.now pass.new }
         ensures goes_on { KeepsPast pass.old pass.new }
         ensures last { IsLatest pass.new }
-        ensures releases { Releases mutex.wakes_alone
-            (shown_of (view_of pass.old)) (shown_of (view_of pass.new)) }
+        ensures releases { Releases (wakes_alone mutex)
+            (shown_of pass.old) (shown_of pass.new) }
         ensures released { ReleasesOwner unturned (view_of pass.old) 0 (view_of pass.new) }
         ensures found { FoundAt owner_at (own_word (task_in pass.old)) (past_of pass.new) }
     {
@@ -150,7 +150,8 @@ impl<O: Object> OwnerSite<O> {
     }
 
     /// A load, after which the pass knows that at each moment of the table so far, from the new table
-    /// on, the facts of every site were so, and the owner word stated who held.
+    /// on, the facts of every site were so, and the owner word stated who held; and what each step did
+    /// to the site's words and to what the passes count.
     pub fn recall_holders(&self, pass: &mut OwnerPass<O>)
         requires own { SitsAt self.now pass.old }
         ensures own { SitsAt self.now pass.new }
@@ -159,6 +160,8 @@ impl<O: Object> OwnerSite<O> {
         ensures last { IsLatest pass.new }
         ensures begins { Tail (newest (plan_of self.now) ∷ []) (past_of pass.new) }
         ensures always { EachMoment (IsOwnerSiteThen O.object O.WORDS (plan_of self.now))
+            (past_of pass.new) }
+        ensures moves { Ran unmarked (newest (plan_of self.now)) (IsSiteMove (plan_of self.now))
             (past_of pass.new) }
     {
         self.site.recall(pass);

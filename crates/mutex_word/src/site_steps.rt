@@ -1,11 +1,11 @@
 //! The single steps on the owner word of any host.
 ghost use Rattle.std.specs.Prelude.{bit_or, ◌+◌, ◌*◌, ◌%◌, ◌≡◌, ◌≢◌, ℕ, ◌<◌, ◌/◌, false, IfSome, IsSome, IfOk, IfErr, MatchResult, Some};
 ghost use Rattle.lock_core.specs.declared.view.Held.TheVariants.{No, Alone};
-ghost use Rattle.mutex_word.specs.declared.host.Turn.TheVariants.{Take as TakeTurn, Free as FreeTurn, Flag, Clear, Fail};
+ghost use Rattle.mutex_word.specs.declared.host.Turn.TheVariants.{Take as TakeTurn, Free as FreeTurn, Flag, Clear};
 ghost use Rattle.lock_core.specs.Views.{ticked};
 ghost use Rattle.lock_core.specs.Pasts.{FoundAt};
-ghost use Rattle.mutex_word.specs.Holders.{own_word, IsShut, turns, TakesOwner, MissesOwner, ReleasesOwner, HasFlags};
-ghost use Rattle.mutex_word.specs.Plays.{Tried, Freed, Flagged, Looked};
+ghost use Rattle.mutex_word.specs.Holders.{own_word, turns, TakesOwner, MissesOwner, ReleasesOwner, HasFlags};
+ghost use Rattle.mutex_word.specs.Plays.{Tried, Freed, Flagged};
 ghost use Rattle.lock_core.specs.Handles.{IsLatest, plan_of, view_of, hand_in, past_of, task_in, held_in, SitsAt, KeepsPast, SaysSame};
 
 use crate::host::OwnerHost;
@@ -140,31 +140,4 @@ pub fn clear_flags<H: OwnerHost>(site: &Site<H>, pass: &mut Pass<H>)
     ensures kept { view_of pass.new ≡ turns H.turned Clear (view_of pass.old) (hand_in pass.old) }
 {
     site.step::<Wipe<H>>(pass, H::OWNER, Op::And(!7));
-}
-
-struct Sees<H> {
-    host: PhantomData<H>,
-}
-
-impl<H: OwnerHost> Play<(), View<H::Ext>> for Sees<H> {
-    ghost then = { Looked H.turned };
-}
-
-/// The load of a try by a waiter. Where the try fails at what it saw, the pass knows so.
-pub fn look<H: OwnerHost>(site: &Site<H>, pass: &mut Pass<H>) -> u64
-    requires own { SitsAt site.now pass.old }
-    requires numbered { IsSome (task_in pass.old) }
-    requires may { (n : ℕ) → IsShut (task_in pass.old) n → H.may_own Fail (view_of pass.old) n n }
-    ensures own { SitsAt site.now pass.new }
-    ensures goes_on { KeepsPast pass.old pass.new }
-    ensures last { IsLatest pass.new }
-    ensures face { SaysSame pass.old pass.new }
-    ensures shut { IsShut (task_in pass.old) result →
-        view_of pass.new ≡ turns H.turned Fail (view_of pass.old) (hand_in pass.old) }
-    ensures open { (IsShut (task_in pass.old) result → ⊥) →
-        view_of pass.new ≡ ticked (view_of pass.old) }
-    ensures found { FoundAt H.OWNER result (past_of pass.new) }
-    ensures lawful { result < 8 * MAX_TASKS + 8 }
-{
-    site.step::<Sees<H>>(pass, H::OWNER, Op::Load)
 }

@@ -84,7 +84,7 @@ fields verb mode v small =
     let b = (call_words_of verb mode v).b in
     let low : b % 2 ^ 8 ≡ kind_of verb = omega (arith, small.prot, small.access) in
     let first : (call_words_of verb mode v).a % 2 ^ 32 ≡ v.first = omega (arith, small.first) in
-    let second : (call_words_of verb mode v).a / 2 ^ 32 % 2 ^ 32 ≡ v.second = omega (arith, small.first, small.second) in
+    let second : (call_words_of verb mode v).a / 2 ^ 32 ≡ v.second = omega (arith, small.first, small.second) in
     let bits : b / 2 ^ 8 % 2 ^ 8 ≡ v.prot = omega (arith, small.prot, small.access) in
     let accesses : b / 2 ^ 16 % 2 ^ 8 ≡ v.access = omega (arith, small.prot, small.access) in
     (ap verb_of_kind low ∙ verb_of_kind-kind_of verb, λ i. record { first = first i; second = second i; prot = bits i; access = accesses i })

@@ -1,5 +1,5 @@
--- The text of a number and of a call stands within a line.
-use Rattle.std.proofs.Common.{◌≡◌, ℕ, ◌/◌, ◌%◌, ◌==◌, Bool, true, false, cond, not, zero, suc, List, [], ◌∷◌, ◌++◌, refl, ◌∙◌, arith, codes, Option, Some, None}
+-- The text of a number and of a call stands within a line, in front of the equals sign.
+use Rattle.std.proofs.Common.{◌≡◌, ℕ, ◌/◌, ◌%◌, ◌==◌, ◌&&◌, Bool, true, false, cond, not, zero, suc, List, [], ◌∷◌, ◌++◌, refl, ◌∙◌, arith, codes, Option, Some, None}
 use Rattle.std.specs.Prelude.{decimal}
 use Rattle.std.specs.Char.{is_ascii_digit}
 use Rattle.std.specs.List.{list_all}
@@ -19,9 +19,9 @@ use Rattle.task_script.specs.declared.verb.Values.{Values}
 use Rattle.task_script.specs.Verbs.{verb_text, arguments_of}
 use Rattle.task_script.specs.Texts.{mode_text, letter, prot_text, access_text, verb_of_kind, values_of, argument_text, arguments_text, bare_text, call_text}
 
--- no line feed
+-- no line feed and no equals sign
 abbrev pub is_inner : ℕ → Bool
-is_inner b = not (b == 10)
+is_inner b = not (b == 10) && not (b == 61)
 
 abbrev pub IsInner : List ℕ → Type 0
 IsInner bs = list_all is_inner bs ≡ true

@@ -1,6 +1,6 @@
 mod CallTexts
 mod Cutting
-mod Decimals
+pub mod Decimals
 mod FewCalls
 mod Listings
 mod Accepted
@@ -10,7 +10,7 @@ mod Reading
 mod Random
 mod ReadingBack
 mod Soundness
-mod Splitting
+pub mod Splitting
 mod Verbs
 pub mod Ways
 pub mod Pieces

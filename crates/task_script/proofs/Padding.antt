@@ -1,5 +1,5 @@
 -- Padded lines are read as their words.
-use Rattle.std.proofs.Common.{◌≡◌, ℕ, ◌+◌, ◌<◌, ◌≤◌, Bool, true, false, not, ◌==◌, List, [], ◌∷◌, ◌++◌, filter, length, refl, sym, ap, ◌∙◌, subst, arith, append_assoc, append-nil, ◌⊎◌, inl, inr, Result, Ok, Err}
+use Rattle.std.proofs.Common.{◌≡◌, ℕ, ◌+◌, ◌-◌, ◌<◌, ◌≤◌, zero, suc, Bool, true, false, not, ◌==◌, List, [], ◌∷◌, ◌++◌, filter, length, take, refl, sym, ap, ◌∙◌, subst, arith, append_assoc, append-nil, ◌⊎◌, inl, inr, Result, Ok, Err}
 use Rattle.std.specs.List.{list_all, slice_split, position_or_len}
 use Rattle.std.proofs.lemmas.Bool.{and_parts}
 use Rattle.std.proofs.lemmas.Bool.Decides.{nat_tests}
@@ -7,10 +7,9 @@ use Rattle.std.proofs.lemmas.List.{take_at}
 use Rattle.std.proofs.lemmas.List.Elements.{filter-append}
 use Rattle.task_script.specs.declared.reason.Reason.{Reason}
 use Rattle.task_script.specs.Cuts.{is_blank, is_empty, is_plain, lines, uncommented, without_return, words}
-use Rattle.task_script.specs.Verbs.{and_then}
 use Rattle.task_script.specs.Scripts.{Listing, nothing}
-use Rattle.task_script.specs.Grammar.{Accepted, said, line_after, text_after, then_lines, lines_after, script_of}
-use Rattle.task_script.specs.Padding.{is_visible, IsWord, IsCutOff, AreSpread, IsComment, IsPadded, ArePadded, worded, outcome, PaddingIsPassedOver}
+use Rattle.task_script.specs.Grammar.{Accepted, Refusal, said, line_after, text_after, then_lines, lines_after, script_of}
+use Rattle.task_script.specs.Padding.{is_visible, IsWord, IsCutOff, AreSpread, IsComment, IsPadded, ArePadded, worded, RefusedAt, outcome, PaddingIsPassedOver}
 use Rattle.task_script.proofs.Cutting.{drops_return}
 use Rattle.task_script.proofs.Reading.{short_script}
 use Rattle.task_script.proofs.Splitting.{is_clean, clean-visible, clean-append, clean_comment, clean_plain, list_all-weaker, said-clean, slice_split-cut, uncommented-clean, words-visible}
@@ -85,24 +84,90 @@ text_after_padded s ws line (front, comment, end, is, spread, commented, ends) =
 
 -- ---- texts
 
-read_words : Listing → List (List (List ℕ)) → Accepted
-read_words s [] = Ok s
-read_words s (ws ∷ wss) = and_then (line_after s ws) (λ t. read_words t wss)
+-- a refusal by its place among lines with words, where the lines from number n on are these, and so many with words stand before them
+abbrev outcome_from : (n k : ℕ) → List (List (List ℕ)) → Result Listing Refusal → Result Listing RefusedAt
+outcome_from n k wss (Ok s) = Ok s
+outcome_from n k wss (Err r) = Err (record { before = k + length (worded (take (r.line - n) wss)); through = k + length (worded (take (r.line + 1 - n) wss)); reason = r.reason })
 
-outcome_lines : (n : ℕ) (s : Listing) (wss : List (List (List ℕ))) (ls : List (List ℕ)) → ArePadded wss ls → outcome (lines_after n s ls) ≡ read_words s (worded wss)
-unfolding read_words
-outcome_lines n s [] [] padded = refl
-outcome_lines n s [] (l ∷ ls) padded = absurd padded
-outcome_lines n s (ws ∷ wss) [] padded = absurd padded
-outcome_lines n s ([] ∷ wss) (l ∷ ls) (line, more) = rw (text_after_padded s [] l line) (outcome_lines (n + 1) s wss ls more)
-outcome_lines n s ((w ∷ ws) ∷ wss) (l ∷ ls) (line, more) = rw (text_after_padded s (w ∷ ws) l line) (go (line_after s (w ∷ ws)) (λ t. outcome_lines (n + 1) t wss ls more))
+-- no line before this one is refused
+abbrev IsFrom : ℕ → Result Listing Refusal → Type 0
+IsFrom n (Ok s) = Unit {0}
+IsFrom n (Err r) = n ≤ r.line
+
+earlier : (n : ℕ) (r : Result Listing Refusal) → IsFrom (n + 1) r → IsFrom n r
+earlier n (Ok s) from = tt
+earlier n (Err r) from = omega (arith, from)
+
+lines_from : (n : ℕ) (s : Listing) (ls : List (List ℕ)) → IsFrom n (lines_after n s ls)
+lines_from n s [] = tt
+lines_from n s (l ∷ ls) = go (text_after s l) (λ t. earlier n (lines_after (n + 1) t ls) (lines_from (n + 1) t ls))
   where
-    go : (a : Accepted) → ((t : Listing) → outcome (lines_after (n + 1) t ls) ≡ read_words t (worded wss)) → outcome (then_lines n a (λ t. lines_after (n + 1) t ls)) ≡ and_then a (λ t. read_words t (worded wss))
+    go : (a : Accepted) → ((t : Listing) → IsFrom n (lines_after (n + 1) t ls)) → IsFrom n (then_lines n a (λ t. lines_after (n + 1) t ls))
     go (Ok t) rest = rest t
-    go (Err reason) rest = refl
+    go (Err reason) rest = omega arith
+
+-- a line without words in front is not counted, and one with words is
+past_empty : (n k : ℕ) (wss : List (List (List ℕ))) (r : Result Listing Refusal) → IsFrom (n + 1) r → outcome_from n k ([] ∷ wss) r ≡ outcome_from (n + 1) k wss r
+past_empty n k wss (Ok s) from = refl
+past_empty n k wss (Err r) from =
+    let before : r.line - n ≡ suc (r.line - (n + 1)) = omega (arith, from) in
+    let through : r.line + 1 - n ≡ suc (r.line + 1 - (n + 1)) = omega (arith, from) in
+    rw (before, through) refl
+
+past_worded : (n k : ℕ) (w : List ℕ) (ws : List (List ℕ)) (wss : List (List (List ℕ))) (r : Result Listing Refusal) → IsFrom (n + 1) r → outcome_from n k ((w ∷ ws) ∷ wss) r ≡ outcome_from (n + 1) (k + 1) wss r
+past_worded n k w ws wss (Ok s) from = refl
+past_worded n k w ws wss (Err r) from =
+    let before : r.line - n ≡ suc (r.line - (n + 1)) = omega (arith, from) in
+    let through : r.line + 1 - n ≡ suc (r.line + 1 - (n + 1)) = omega (arith, from) in
+    let more : (c : ℕ) → k + suc c ≡ k + 1 + c = λ (c : ℕ). omega arith in
+    rw (before, through) (λ i. Err (record { before = more (length (worded (take (r.line - (n + 1)) wss))) i; through = more (length (worded (take (r.line + 1 - (n + 1)) wss))) i; reason = r.reason }))
+
+-- a refusal of the first line, which has words
+first_refused : (n k : ℕ) (w : List ℕ) (ws : List (List ℕ)) (wss : List (List (List ℕ))) (reason : Reason)
+    → outcome_from n k ((w ∷ ws) ∷ wss) (Err (record { line = n; reason = reason })) ≡ Err (record { before = k; through = k + 1; reason = reason })
+first_refused n k w ws wss reason =
+    let before : n - n ≡ zero = omega arith in
+    let through : n + 1 - n ≡ suc zero = omega arith in
+    let none : k + 0 ≡ k = omega arith in
+    rw (before, through) (λ i. Err (record { before = none i; through = k + 1; reason = reason }))
+
+-- what is read behind a line with words that stands behind so many others, unless it was refused
+abbrev then_words : ℕ → Accepted → (Listing → Result Listing RefusedAt) → Result Listing RefusedAt
+then_words k (Ok t) rest = rest t
+then_words k (Err reason) rest = Err (record { before = k; through = k + 1; reason = reason })
+
+-- what lines with words are read as, behind so many others
+read_words : ℕ → Listing → List (List (List ℕ)) → Result Listing RefusedAt
+read_words k s [] = Ok s
+read_words k s (ws ∷ wss) = then_words k (line_after s ws) (λ t. read_words (k + 1) t wss)
+
+outcome_lines : (n k : ℕ) (s : Listing) (wss : List (List (List ℕ))) (ls : List (List ℕ)) → ArePadded wss ls → outcome_from n k wss (lines_after n s ls) ≡ read_words k s (worded wss)
+unfolding read_words
+outcome_lines n k s [] [] padded = refl
+outcome_lines n k s [] (l ∷ ls) padded = absurd padded
+outcome_lines n k s (ws ∷ wss) [] padded = absurd padded
+outcome_lines n k s ([] ∷ wss) (l ∷ ls) (line, more) =
+    rw (text_after_padded s [] l line) (past_empty n k wss (lines_after (n + 1) s ls) (lines_from (n + 1) s ls) ∙ outcome_lines (n + 1) k s wss ls more)
+outcome_lines n k s ((w ∷ ws) ∷ wss) (l ∷ ls) (line, more) =
+    rw (text_after_padded s (w ∷ ws) l line) (go (line_after s (w ∷ ws)) (λ t. past_worded n k w ws wss (lines_after (n + 1) t ls) (lines_from (n + 1) t ls) ∙ outcome_lines (n + 1) (k + 1) t wss ls more))
+  where
+    go : (a : Accepted) → ((t : Listing) → outcome_from n k ((w ∷ ws) ∷ wss) (lines_after (n + 1) t ls) ≡ read_words (k + 1) t (worded wss))
+        → outcome_from n k ((w ∷ ws) ∷ wss) (then_lines n a (λ t. lines_after (n + 1) t ls)) ≡ then_words k a (λ t. read_words (k + 1) t (worded wss))
+    go (Ok t) rest = rest t
+    go (Err reason) rest = first_refused n k w ws wss reason
+
+-- of all lines
+outcome_all : (wss : List (List (List ℕ))) (r : Result Listing Refusal) → outcome wss r ≡ outcome_from 1 0 wss r
+outcome_all wss (Ok s) = refl
+outcome_all wss (Err r) =
+    let through : r.line + 1 - 1 ≡ r.line = omega arith in
+    let none : (c : ℕ) → c ≡ 0 + c = λ (c : ℕ). omega arith in
+    rw through (λ i. Err (record { before = none (length (worded (take (r.line - 1) wss))) i; through = none (length (worded (take r.line wss))) i; reason = r.reason }))
 
 -- a text is read as the words of its lines
+text_words : (text : List ℕ) (wss : List (List (List ℕ))) → length text ≤ 1048576 → ArePadded wss (lines text) → outcome wss (script_of text) ≡ read_words 0 nothing (worded wss)
+text_words text wss short padded = ap (outcome wss) (short_script text short) ∙ outcome_all wss (lines_after 1 nothing (lines text)) ∙ outcome_lines 1 0 nothing wss (lines text) padded
+
 pub padding_is_passed_over : PaddingIsPassedOver
 padding_is_passed_over text other wss vss short short_other padded padded_other same =
-    ap outcome (short_script text short) ∙ outcome_lines 1 nothing wss (lines text) padded ∙ ap (read_words nothing) same
-    ∙ sym (outcome_lines 1 nothing vss (lines other) padded_other) ∙ ap outcome (sym (short_script other short_other))
+    text_words text wss short padded ∙ ap (read_words 0 nothing) same ∙ sym (text_words other vss short_other padded_other)

@@ -20,6 +20,11 @@ abbrev pub Counts : {E : Type 0} → (before now : ℕ) → Result ℕ E → Typ
 Counts before now (Ok n) = (0 < n → now ≡ one_more before) × (n ≡ 0 → now ≡ before)
 Counts before now (Err e) = now ≡ before
 
+-- only a read that gave nothing, since nothing is left, is counted
+abbrev pub CountsEnd : {E : Type 0} → (before now : ℕ) → Result ℕ E → Type 0
+CountsEnd before now (Ok n) = (0 < n → now ≡ before) × (n ≡ 0 → now ≡ one_more before)
+CountsEnd before now (Err e) = now ≡ before
+
 -- a front of the bytes was written
 abbrev pub Fronts : Option (List ℕ) → Option (List ℕ) → List ℕ → Type 0
 Fronts old new bytes = (front : List ℕ) × (rest : List ℕ) × (front ++ rest ≡ bytes) × Appends old new front

@@ -11,6 +11,7 @@ pub record Supply : Type 0 where
   pub calls : ℕ
   pub faults : ℕ
   pub gave : ℕ
+  pub ended : ℕ
 
 -- the bytes that were taken, how many fit in all, how many a call takes at most, and which calls fail
 pub record Store : Type 0 where
@@ -36,7 +37,7 @@ taken s size = min (min s.step size) (s.room - length s.written)
 -- a read fails where its call does, and else gives as many bytes as it can
 abbrev pub Supplies : {E : Type 0} → (old new : Supply) → (room : ℕ) → Result ℕ E → Type 0
 Supplies old new room (Ok n) =
-    (is_among old.fails old.calls ≡ false) × (n ≡ given old room) × (new ≡ record old { left = drop n old.left; calls = one_more old.calls; gave = new.gave })
+    (is_among old.fails old.calls ≡ false) × (n ≡ given old room) × (new ≡ record old { left = drop n old.left; calls = one_more old.calls; gave = new.gave; ended = new.ended })
 Supplies old new room (Err e) = (is_among old.fails old.calls ≡ true) × (new ≡ record old { calls = one_more old.calls; faults = one_more old.faults })
 
 -- a write fails where its call does or no room is left, and else takes as many bytes as it can

@@ -1,5 +1,5 @@
 -- What may stand around the words of a text without a change of what is read.
-use Rattle.std.specs.Prelude.{◌≡◌, ℕ, ◌<◌, ◌≤◌, ◌==◌, ◌&&◌, nat_le, not, Bool, true, List, [], ◌∷◌, ◌++◌, filter, length, ◌⊎◌, Result, Ok, Err}
+use Rattle.std.specs.Prelude.{◌≡◌, ℕ, ◌-◌, ◌<◌, ◌≤◌, ◌==◌, ◌&&◌, nat_le, not, Bool, true, List, [], ◌∷◌, ◌++◌, filter, length, take, ◌⊎◌, Result, Ok, Err}
 use Rattle.std.specs.List.{list_all}
 use Rattle.task_script.specs.declared.reason.Reason.{Reason}
 use Rattle.task_script.specs.Cuts.{is_blank, is_empty, lines}
@@ -43,13 +43,19 @@ ArePadded (ws ∷ wss) (l ∷ ls) = IsPadded ws l × ArePadded wss ls
 abbrev pub worded : List (List (List ℕ)) → List (List (List ℕ))
 worded wss = filter (λ ws. not (is_empty ws)) wss
 
--- the script, or the reason of the first refusal, whatever its line
-abbrev pub outcome : Result Listing Refusal → Result Listing Reason
-outcome (Ok s) = Ok s
-outcome (Err r) = Err r.reason
+-- where a line is refused: how many lines with words stand in front of it, and how many with it, so that it is one of them
+pub record RefusedAt : Type 0 where
+  pub before : ℕ
+  pub through : ℕ
+  pub reason : Reason
+
+-- the script, or the first refusal, by its place among the lines with words
+abbrev pub outcome : List (List (List ℕ)) → Result Listing Refusal → Result Listing RefusedAt
+outcome wss (Ok s) = Ok s
+outcome wss (Err r) = Err (record { before = length (worded (take (r.line - 1) wss)); through = length (worded (take r.line wss)); reason = r.reason })
 
 -- Two texts whose lines have the same words, but for lines without words, are read alike.
 abbrev pub PaddingIsPassedOver : Type 0
 PaddingIsPassedOver =
     (text other : List ℕ) (wss vss : List (List (List ℕ))) → length text ≤ 1048576 → length other ≤ 1048576 → ArePadded wss (lines text) → ArePadded vss (lines other) → worded wss ≡ worded vss
-    → outcome (script_of text) ≡ outcome (script_of other)
+    → outcome wss (script_of text) ≡ outcome vss (script_of other)

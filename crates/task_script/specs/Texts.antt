@@ -4,7 +4,7 @@ use Rattle.std.specs.Option.{option_map_or}
 use Rattle.word_bits.specs.declared.call.CallWords.{CallWords}
 use Rattle.word_bits.specs.declared.call.Mode.{Mode}
 use Rattle.word_bits.specs.declared.call.Mode.TheVariants.{Plain, Int, Try}
-use Rattle.word_bits.specs.Calls.{mode_of}
+use Rattle.word_bits.specs.Calls.{mode_of, kind_in, first_in, second_in, prot_in, access_in}
 use Rattle.task_script.specs.declared.script.Line.{Line}
 use Rattle.task_script.specs.declared.verb.Verb.{Verb}
 use Rattle.task_script.specs.declared.verb.Verb.TheVariants.{Map, MapAny, MapNew, Unmap, Protect, Populate, Fault, Open, Close, Dup, Dup2, Get, Signal}
@@ -52,7 +52,7 @@ verb_of_kind kind =
 
 -- what the words of a call say
 abbrev pub values_of : CallWords → Values
-values_of w = record { first = w.a % 2 ^ 32; second = w.a / 2 ^ 32 % 2 ^ 32; prot = w.b / 2 ^ 8 % 2 ^ 8; access = w.b / 2 ^ 16 % 2 ^ 8 }
+values_of w = record { first = first_in w; second = second_in w; prot = prot_in w; access = access_in w }
 
 -- an argument of these values
 abbrev pub argument_text : Values → Argument → List ℕ
@@ -73,7 +73,7 @@ bare_text v (Some verb) = verb_text verb ++ arguments_text v (arguments_of verb)
 
 -- the verb and the arguments of a call
 abbrev pub verb_and_arguments : CallWords → List ℕ
-verb_and_arguments w = bare_text (values_of w) (verb_of_kind (w.b % 2 ^ 8))
+verb_and_arguments w = bare_text (values_of w) (verb_of_kind (kind_in w))
 
 -- a call without its object: its mode, its verb and its arguments
 abbrev pub call_text : CallWords → List ℕ

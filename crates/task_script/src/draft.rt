@@ -141,8 +141,7 @@ impl Draft {
         ensures { Becomes result self.new (Ok record { objects = self.old.objects; tasks = with_call self.old.tasks (line_of object call) }) }
     {
         let calls = self.tasks.last_mut().unwrap();
-        let words = [call.a, call.b];
-        if calls.push(Line { object, words }).is_err() {
+        if calls.push(Line::new(object, call)).is_err() {
             return Err(LineError::Memory);
         }
         Ok(())

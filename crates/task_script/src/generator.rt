@@ -69,11 +69,7 @@ fn random_line(task: u32, x: u32) -> Line
     let start = task * 4_096 + (x >> 8) % 24;
     let len = 1 + (x >> 16 & 7);
     let prot = (x >> 20 & 7) as u8;
-    let words = random_call(kind, start, len, prot);
-    Line {
-        object: 0,
-        words: [words.a, words.b],
-    }
+    Line::new(0, random_call(kind, start, len, prot))
 }
 
 fn random_lines(alloc: Global, task: u32, seed: u32, count: usize) -> Result<Vec<Line>, AllocError>

@@ -3,7 +3,7 @@
 ghost use Rattle.std.specs.Prelude.{◌≡◌, ◌<◌, ◌≤◌, [], Some, length, IfOk};
 ghost use Rattle.std.specs.Io.{ReadsAtMost};
 ghost use Rattle.std.specs.Io.KnownBytes.{ReadConsumes, WriteAppends};
-ghost use Rattle.task_script.specs.Causes.{CountsFailure, Counts};
+ghost use Rattle.task_script.specs.Causes.{CountsEnd, CountsFailure, Counts};
 ghost use Rattle.task_script.specs.Memories.{Supplies, Stores};
 
 use crate::sink::Sink;
@@ -21,6 +21,7 @@ pub struct MemSource {
     calls: u64,
     faults: u64,
     gave: u64,
+    ended: u64,
 }
 
 impl Model for MemSource {
@@ -36,6 +37,7 @@ impl Model for MemSource {
       calls = s.calls;
       faults = s.faults;
       gave = s.gave;
+      ended = s.ended;
     } };
 
     ghost invariant = { λ s. (s.at ≤ length s.bytes.items) × (0 < s.step) };
@@ -58,6 +60,7 @@ impl MemSource {
           calls = 0;
           faults = 0;
           gave = 0;
+          ended = 0;
         }) }
     {
         Ok(MemSource {
@@ -68,6 +71,7 @@ impl MemSource {
             calls: 0,
             faults: 0,
             gave: 0,
+            ended: 0,
         })
     }
 }
@@ -79,12 +83,15 @@ impl Source for MemSource {
 
     ghost gave = { λ s. s.gave };
 
+    ghost ended = { λ s. s.ended };
+
     fn read(&mut self, into: &mut [u8]) -> Result<usize, Failed>
         requires { 0 < length into.old }
         ensures within { ReadsAtMost result into.new }
         ensures bytes { ReadConsumes (Some self.old.left) (Some self.new.left) result into.new }
         ensures cause { CountsFailure self.old.faults self.new.faults result }
         ensures counted { Counts self.old.gave self.new.gave result }
+        ensures ends { CountsEnd self.old.ended self.new.ended result }
         ensures supplies { Supplies self.old self.new (length into.new) result }
     {
         let call = self.calls;
@@ -100,6 +107,8 @@ impl Source for MemSource {
         self.at += count;
         if count > 0 {
             self.gave = self.gave.saturating_add(1);
+        } else {
+            self.ended = self.ended.saturating_add(1);
         }
         Ok(count)
     }

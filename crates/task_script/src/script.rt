@@ -4,6 +4,7 @@ ghost use Rattle.std.specs.Prelude.{◌≡◌, ◌<◌, ◌≤◌, length, slice
 use crate::token::Name;
 use indexmap::IndexMap;
 use std::marker::Model;
+use word_bits::CallWords;
 
 /// A call of a task on an object.
 #[derive(Clone, Copy, Debug, PartialEq, Eq)]
@@ -12,6 +13,29 @@ pub struct Line {
     pub object: u32,
     /// The call's two words.
     pub words: [u64; 2],
+}
+
+impl Line {
+    ghost use Rattle.task_script.specs.Grammar.{line_of};
+    ghost use Rattle.task_script.specs.Scripts.{call_words};
+
+    /// A call on an object.
+    pub(crate) fn new(object: u32, call: CallWords) -> Line
+        ensures { result ≡ line_of object call }
+    {
+        Line {
+            object,
+            words: [call.a, call.b],
+        }
+    }
+
+    /// The call, in its words.
+    pub fn call(self) -> CallWords
+        ensures { result ≡ call_words self }
+    {
+        let [a, b] = self.words;
+        CallWords { a, b }
+    }
 }
 
 /// What kind of object a name stands for.

@@ -1,6 +1,10 @@
-//! A source over a reader, and a sink over a writer. They tell as much of the bytes as the reader
-//! and the writer do. It is proved that they hand these bytes on and count their failures and the
-//! reads that gave bytes. What a reader of the outside world gives, and where a writer puts it, is
+//! A source over a reader, and a sink over a writer.
+//!
+//! They tell the bytes that the reader or the writer tells, and it is proved that they count each
+//! failure that they answer, each read that gave bytes, and each that
+//! gave none. No clause says of a reader or a writer
+//! when it fails: that its failure is answered at once, and that its bytes are handed on where it
+//! tells none, is tested. What a reader of the outside world gives, and where a writer puts it, is
 //! trusted.
 ghost use Rattle.std.specs.Prelude.{◌≡◌};
 
@@ -14,6 +18,7 @@ pub struct ReadSource<R> {
     reader: R,
     faults: u64,
     gave: u64,
+    ended: u64,
 }
 
 impl<R: Read> ReadSource<R> {
@@ -21,11 +26,13 @@ impl<R: Read> ReadSource<R> {
         ensures left { ⟦<ReadSource<R> as Source>⟧.left result ≡ R.remaining reader }
         ensures faults { ⟦<ReadSource<R> as Source>⟧.faults result ≡ 0 }
         ensures gave { ⟦<ReadSource<R> as Source>⟧.gave result ≡ 0 }
+        ensures ended { ⟦<ReadSource<R> as Source>⟧.ended result ≡ 0 }
     {
         ReadSource {
             reader,
             faults: 0,
             gave: 0,
+            ended: 0,
         }
     }
 }
@@ -37,11 +44,15 @@ impl<R: Read> Source for ReadSource<R> {
 
     ghost gave = { λ s. s.gave };
 
+    ghost ended = { λ s. s.ended };
+
     fn read(&mut self, into: &mut [u8]) -> Result<usize, Failed> {
         match self.reader.read(into) {
             Ok(count) => {
                 if count > 0 {
                     self.gave = self.gave.saturating_add(1);
+                } else {
+                    self.ended = self.ended.saturating_add(1);
                 }
                 Ok(count)
             }

@@ -1,6 +1,7 @@
 use super::*;
 use crate::generator::next_random;
 use std::alloc::{AllocError, Global};
+use std::io::{self, ErrorKind, Read, Write};
 use std::test::Fail;
 
 /// The first refused line, or `None` where the text is read.
@@ -254,6 +255,57 @@ fn streams_pass_bytes_on(rt: HostRuntime) -> Result<(), Fail> {
     let mut small = WriteSink::new(two.as_mut_slice());
     assert_eq!(rt; put(&mut small, b"abc"), Err(Failed));
     Ok(())
+}
+
+/// A stream whose first call is interrupted. Each later one gives or takes a byte.
+#[derive(Drop)]
+struct InterruptedOnce {
+    was: bool,
+}
+
+impl InterruptedOnce {
+    fn call(&mut self) -> io::Result<()> {
+        if self.was {
+            return Ok(());
+        }
+        self.was = true;
+        Err(io::Error::from(ErrorKind::Interrupted))
+    }
+}
+
+impl Read for InterruptedOnce {
+    fn read(&mut self, buf: &mut [u8]) -> io::Result<usize> {
+        self.call()?;
+        let Some(first) = buf.first_mut() else {
+            return Ok(0);
+        };
+        *first = b'r';
+        Ok(1)
+    }
+}
+
+impl Write for InterruptedOnce {
+    fn write(&mut self, buf: &[u8]) -> io::Result<usize> {
+        self.call()?;
+        Ok(buf.len().min(1))
+    }
+
+    fn flush(&mut self) -> io::Result<()> {
+        Ok(())
+    }
+}
+
+#[test]
+fn streams_answer_a_failure_and_go_on(rt: HostRuntime) {
+    let mut source = ReadSource::new(InterruptedOnce { was: false });
+    let mut buffer = [0; 2];
+    assert_eq!(rt; source.read(&mut buffer), Err(Failed));
+    assert_eq!(rt; source.read(&mut buffer), Ok(1));
+    assert_eq!(rt; buffer.as_slice(), b"r\0".as_slice());
+
+    let mut sink = WriteSink::new(InterruptedOnce { was: false });
+    assert_eq!(rt; put(&mut sink, b"ab"), Err(Failed));
+    assert_eq!(rt; put(&mut sink, b"ab"), Ok(()));
 }
 
 #[test]

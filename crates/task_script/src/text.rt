@@ -95,8 +95,7 @@ impl Outbox {
         ensures text { self.new ≡ self.old ++ verb_and_arguments words }
         ensures short { length self.new ≤ length self.old + 71 }
     {
-        let kind = words.b & 0xff;
-        self.add_verb(Verb::of_kind(kind), Values::of_words(words));
+        self.add_verb(Verb::of_kind(words.kind()), Values::of_words(words));
     }
 
     fn add_mode(&mut self, mode: Mode)

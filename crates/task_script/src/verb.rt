@@ -1,6 +1,5 @@
 //! The calls that a script can name, and their arguments.
-ghost use Rattle.std.specs.Prelude.{◌≡◌, ◌*◌, ◌/◌, ◌%◌, ◌^◌, ◌<◌, ◌≤◌, length, ok_or};
-ghost use Rattle.word_bits.specs.Calls.{mode_number};
+ghost use Rattle.std.specs.Prelude.{◌≡◌, ◌<◌, ◌≤◌, length, ok_or};
 ghost use Rattle.task_script.specs.Tokens.{access, number, prot};
 ghost use Rattle.task_script.specs.Texts.{values_of, verb_of_kind};
 ghost use Rattle.task_script.specs.Verbs.{arguments_of, call_on, call_with, call_words_of, kind_of};
@@ -67,19 +66,12 @@ impl Values {
         ensures { result ≡ values_of words }
     {
         Values {
-            first: (words.a & 0xffff_ffff) as u32,
-            second: (words.a >> 32) as u32,
-            prot: byte(words.b, 1),
-            access: byte(words.b, 2),
+            first: words.first(),
+            second: words.second(),
+            prot: words.prot(),
+            access: words.access(),
         }
     }
-}
-
-fn byte(word: u64, index: u32) -> u8
-    requires { index < 8 }
-    ensures { result ≡ word / 2 ^ (8 * index) % 2 ^ 8 }
-{
-    ((word >> (8 * index)) & 0xff) as u8
 }
 
 fn number_in(word: &[u8]) -> Result<u32, Reason>
@@ -189,9 +181,8 @@ impl Verb {
     }
 
     /// The kind in a call's words.
-    fn kind(self) -> u64
-        ensures kind { result ≡ kind_of self }
-        ensures small { result < 16 }
+    fn kind(self) -> u8
+        ensures { result ≡ kind_of self }
     {
         match self {
             Verb::Map => 1,
@@ -211,7 +202,7 @@ impl Verb {
     }
 
     /// The verb of a kind. `None` where no call has the kind.
-    pub(crate) fn of_kind(kind: u64) -> Option<Verb>
+    pub(crate) fn of_kind(kind: u8) -> Option<Verb>
         ensures { result ≡ verb_of_kind kind }
     {
         match kind {
@@ -275,28 +266,19 @@ impl Verb {
     }
 }
 
-fn mode_number(mode: Mode) -> u64
-    ensures number { result ≡ mode_number mode }
-    ensures small { result < 3 }
-{
-    match mode {
-        Mode::Plain => 0,
-        Mode::Int => 1,
-        Mode::Try => 2,
-    }
-}
-
 impl Verb {
     /// The words of a call.
     pub(crate) fn words(self, mode: Mode, values: Values) -> CallWords
         ensures { result ≡ call_words_of self mode values }
     {
-        let numbers = u64::from(values.first) + (u64::from(values.second) << 32);
-        let bits = (u64::from(values.prot) << 8) + (u64::from(values.access) << 16);
-        CallWords {
-            a: numbers,
-            b: self.kind() + bits + (mode_number(mode) << 24),
-        }
+        CallWords::new(
+            self.kind(),
+            values.first,
+            values.second,
+            values.prot,
+            values.access,
+            mode,
+        )
     }
 
     /// This verb, or `map any` where `any` is the next word, which is then taken.

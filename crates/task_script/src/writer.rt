@@ -10,7 +10,6 @@ use crate::outbox::Outbox;
 use crate::script::{Line, Script};
 use crate::sink::Sink;
 use crate::source::Failed;
-use word_bits::CallWords;
 
 /// Adds the line that declares an object to the outbox, for which room is made.
 ///
@@ -61,8 +60,7 @@ fn write_line<K: Sink>(
     ensures cause { CountsFailure (K.faults sink.old) (K.faults sink.new) result }
 {
     out.make_room(sink)?;
-    let [a, b] = line.words;
-    out.add_line(script.name(line.object as usize), CallWords { a, b });
+    out.add_line(script.name(line.object as usize), line.call());
     Ok(())
 }
 

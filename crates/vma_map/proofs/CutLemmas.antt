@@ -45,15 +45,15 @@ ends_ascend areas runs =
         rw add-one (omega arith)
 
 -- so do their starts
+pub starts_in_order : (areas : List Area) → AreRuns areas → (k : ℕ) (d : Area) → k + 1 < length areas → (get_or areas k d).start ≤ (get_or areas (k + 1) d).start
+starts_in_order areas runs k d below =
+    let next = adjacent areas runs k d (omega arith) in
+    let some = (AreRuns-at areas k d (omega arith) runs).some in
+    rw add-one (omega arith)
+
 pub starts_ascend : (areas : List Area) → AreRuns areas → IsNonDecreasingBy (λ (a : Area). a.start) areas
 starts_ascend areas runs =
-    IsNonDecreasingBy-from_all_adjacent (λ (a : Area). a.start) areas (λ k d below. step k d below)
-  where
-    step : (k : ℕ) (d : Area) → k + 1 < length areas → (get_or areas k d).start ≤ (get_or areas (k + 1) d).start
-    step k d below =
-        let next = adjacent areas runs k d (omega arith) in
-        let some = (AreRuns-at areas k d (omega arith) runs).some in
-        rw add-one (omega arith)
+    IsNonDecreasingBy-from_all_adjacent (λ (a : Area). a.start) areas (λ k d below. starts_in_order areas runs k d below)
 
 -- the runs behind others are runs
 pub AreRuns-rest : (xs ys : List Area) → AreRuns (xs ++ ys) → AreRuns ys

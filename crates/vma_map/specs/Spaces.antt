@@ -7,7 +7,7 @@ use Rattle.word_bits.specs.declared.reply.Reply.{Reply}
 use Rattle.word_bits.specs.declared.reply.Reply.TheVariants.{Good, Num, Refused, MapErr, AccErr}
 use Rattle.word_bits.specs.declared.reply.Errno.{Errno}
 use Rattle.word_bits.specs.declared.reply.Errno.TheVariants.{NoMem, Exist, Inval}
-use Rattle.word_bits.specs.Calls.{words_of, mode_number}
+use Rattle.word_bits.specs.Calls.{words_of, mode_number, has_mode, kind_in, first_in, second_in, prot_in, access_in}
 use Rattle.word_bits.specs.Objects.{Obj}
 use Rattle.word_bits.specs.PageMaps.{PageMap, IsPageMap, no_pages, runs}
 use Rattle.vma_map.specs.Runs.{words_of_areas}
@@ -166,7 +166,7 @@ call_with kind first second prot access =
 
 -- the call whose words in some mode these are
 abbrev pub call_of : CallWords → Option SpaceCall
-call_of w = if nat_lt (w.b / 2 ^ 24) 3 then call_with (w.b % 2 ^ 8) (w.a % 2 ^ 32) (w.a / 2 ^ 32) (w.b / 2 ^ 8 % 2 ^ 8) (w.b / 2 ^ 16 % 2 ^ 8) else None
+call_of w = if has_mode w then call_with (kind_in w) (first_in w) (second_in w) (prot_in w) (access_in w) else None
 
 -- the words that store a space are those of its runs
 abbrev pub stores : PageMap → List ℕ

@@ -57,7 +57,8 @@ impl Areas {
         requires prot { IfSome prot (λ bits. bits < 8) }
         ensures few { IsOk result
             ↔ (length (runs (changed (page_map self.old) start end prot)) ≤ 256) }
-        ensures ok { OnOk result (page_map self.new ≡ changed (page_map self.old) start end prot) }
+        ensures ok { OnOk result
+            (page_map self.new ≡ changed (page_map self.old) start end prot) }
         ensures err { OnErr result (self.new ≡ self.old) }
         ensures errno { IfErr result (λ errno. errno ≡ Errno.NoMem) }
     {

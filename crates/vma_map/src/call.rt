@@ -1,5 +1,5 @@
 //! The calls on an address space.
-ghost use Rattle.std.specs.Prelude.{◌≡◌, ◌*◌, ◌/◌, ◌%◌, ◌^◌, ◌<◌};
+ghost use Rattle.std.specs.Prelude.{◌≡◌};
 ghost use Rattle.word_bits.specs.Packed.{IsFound};
 ghost use Rattle.vma_map.specs.Spaces.{IsCallOf, call_of, call_with};
 
@@ -22,13 +22,6 @@ pub enum SpaceCall {
     Populate { start: u32, len: u32, prot: u8 },
     /// Touches a page by an access: r 1, w 2 or x 4.
     Fault { page: u32, access: u8 },
-}
-
-fn byte(word: u64, index: u32) -> u8
-    requires { index < 8 }
-    ensures { result ≡ word / 2 ^ (8 * index) % 2 ^ 8 }
-{
-    ((word >> (8 * index)) & 0xff) as u8
 }
 
 /// The call of a kind, from 1, with these numbers, protection and access. What it doesn't have must
@@ -59,13 +52,15 @@ impl SpaceCall {
         ensures value { result ≡ call_of words }
         ensures exact { IsFound (IsCallOf words) result }
     {
-        if words.b >> 24 > 2 {
+        if !words.has_mode() {
             return None;
         }
-        let first = (words.a & 0xffff_ffff) as u32;
-        let second = (words.a >> 32) as u32;
-        let prot = byte(words.b, 1);
-        let access = byte(words.b, 2);
-        call_with(byte(words.b, 0), first, second, prot, access)
+        call_with(
+            words.kind(),
+            words.first(),
+            words.second(),
+            words.prot(),
+            words.access(),
+        )
     }
 }

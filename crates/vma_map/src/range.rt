@@ -119,7 +119,8 @@ fn pieces_of(met: &[Area], start: u32, end: u32, prot: Option<u8>) -> ArrayVec<A
     requires ends { AllByRecursion (λ area. start ≤ area.end) met.now }
     requires starts { AllByRecursion (λ area. area.start ≤ end) met.now }
     ensures runs { AreRuns result.items }
-    ensures pages { (q : ℕ) → page_map result.items q ≡ changed (page_map met.now) start end prot q }
+    ensures pages { (q : ℕ) →
+        page_map result.items q ≡ changed (page_map met.now) start end prot q }
 {
     let mut pieces = piece_before(met, start);
     append_range(&mut pieces, start, end, prot);

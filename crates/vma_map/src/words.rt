@@ -1,6 +1,7 @@
 //! The words that store an address space.
-ghost use Rattle.std.specs.Prelude.{◌≡◌, ◌==◌, ◌≤◌, ◌↔◌, List, [], ◌∷◌, ◌++◌, length, map, IsTrue};
-ghost use Rattle.std.specs.List.{list_all};
+ghost use Rattle.std.specs.Prelude.{◌≡◌, ◌==◌, ◌<◌, ◌≤◌, ◌↔◌, List, [], ◌∷◌, ◌++◌};
+ghost use Rattle.std.specs.Prelude.{drop, length, map, take, IsTrue};
+ghost use Rattle.std.specs.List.{AllByRecursion, list_all};
 ghost use Rattle.word_bits.specs.AreaWord.{IsArea, area_word};
 ghost use Rattle.word_bits.specs.Packed.{IsFound};
 ghost use Rattle.word_bits.specs.PageMaps.{PageMap, IsPageMap, runs};
@@ -45,7 +46,8 @@ fn can_follow(areas: &[Area], area: Area) -> bool
 /// The areas in order that have these words. `None` where none have.
 fn load_areas(words: &[u64]) -> Option<ArrayVec<Area, MAX_AREAS>>
     requires { length words.now ≤ 256 }
-    ensures { IsFound (λ areas. AreRuns areas.items × (map area_word areas.items ≡ words.now)) result }
+    ensures { IsFound (λ areas.
+        AreRuns areas.items × (map area_word areas.items ≡ words.now)) result }
 {
     let mut areas = ArrayVec::new();
     for word in words {
@@ -67,7 +69,8 @@ fn all_zero(words: &[u64]) -> bool
 /// The areas that the words store. `None` where they store none.
 pub(crate) fn load(words: &[u64]) -> Option<ArrayVec<Area, MAX_AREAS>>
     requires { length words.now ≡ 257 }
-    ensures { IsFound (λ areas. IsSpace areas.items × (words_of_areas areas.items ≡ words.now)) result }
+    ensures { IsFound (λ areas.
+        IsSpace areas.items × (words_of_areas areas.items ≡ words.now)) result }
 {
     if words[0] > MAX_AREAS as u64 {
         return None;
@@ -79,25 +82,37 @@ pub(crate) fn load(words: &[u64]) -> Option<ArrayVec<Area, MAX_AREAS>>
     load_areas(used)
 }
 
+/// How many of the areas that have these words begin at the page or before it. A start stands above
+/// all else in its word, so the words ascend as the areas do.
+fn count_begun(words: &[u64], page: u32) -> usize
+    ensures within { result ≤ length words.now }
+    ensures begun { (areas : List Area) → AreRuns areas → map area_word areas ≡ words.now →
+        AllByRecursion (λ area. area.start ≤ page) (take result areas) }
+    ensures others { (areas : List Area) → AreRuns areas → map area_word areas ≡ words.now →
+        AllByRecursion (λ area. page < area.start) (drop result areas) }
+{
+    words.partition_point(|word| word >> 24 <= u64::from(page))
+}
+
 /// The area that has the page, among those that have these words.
 fn find_area(words: &[u64], page: u32) -> Option<Area>
     ensures { (areas : List Area) → AreRuns areas → map area_word areas ≡ words.now
         → IsRunAt areas (page_map areas) page result }
 {
-    for word in words {
-        let area = Area::unpack(*word)?;
-        if area.start <= page && page < area.end {
-            return Some(area);
-        }
+    let begun = count_begun(words, page);
+    if begun == 0 {
+        return None;
     }
-    None
+    let area = Area::unpack(words[begun - 1])?;
+    if page < area.end { Some(area) } else { None }
 }
 
 /// The run that has the page, in the address space that the words store. `None` where the page is
 /// unmapped.
 pub fn find(words: &[u64], page: u32) -> Option<Area>
     requires { AreSpaceWords words.now }
-    ensures { (m : PageMap) → IsPageMap m → stores m ≡ words.now → IsRunAt (runs m) m page result }
+    ensures { (m : PageMap) → IsPageMap m → stores m ≡ words.now →
+        IsRunAt (runs m) m page result }
 {
     let count = words[0] as usize;
     find_area(&words[1..1 + count], page)

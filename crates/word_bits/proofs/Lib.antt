@@ -2,3 +2,4 @@ pub mod Fields
 pub mod Modes
 pub mod States
 pub mod Signals
+pub mod Unavailables

@@ -1,5 +1,5 @@
 -- A call as two words.
-use Rattle.std.specs.Prelude.{ℕ, ◌+◌, ◌*◌, ◌/◌, ◌%◌, ◌^◌, ◌==◌, if◌then◌else◌, Option, Some, None}
+use Rattle.std.specs.Prelude.{◌≡◌, ℕ, ◌+◌, ◌*◌, ◌/◌, ◌%◌, ◌^◌, ◌==◌, nat_lt, Bool, true, if◌then◌else◌, Option, Some, None}
 use Rattle.word_bits.specs.declared.call.CallWords.{CallWords}
 use Rattle.word_bits.specs.declared.call.Mode.{Mode}
 use Rattle.word_bits.specs.declared.call.Mode.TheVariants.{Plain, Int, Try}
@@ -8,6 +8,26 @@ abbrev pub mode_number : Mode → ℕ
 mode_number Plain = 0
 mode_number Int = 1
 mode_number Try = 2
+
+-- the parts of a call's words
+abbrev pub kind_in : CallWords → ℕ
+kind_in w = w.b % 2 ^ 8
+
+abbrev pub first_in : CallWords → ℕ
+first_in w = w.a % 2 ^ 32
+
+abbrev pub second_in : CallWords → ℕ
+second_in w = w.a / 2 ^ 32
+
+abbrev pub prot_in : CallWords → ℕ
+prot_in w = w.b / 2 ^ 8 % 2 ^ 8
+
+abbrev pub access_in : CallWords → ℕ
+access_in w = w.b / 2 ^ 16 % 2 ^ 8
+
+-- the words have one of the modes
+abbrev pub has_mode : CallWords → Bool
+has_mode w = nat_lt (w.b / 2 ^ 24) 3
 
 abbrev pub mode_of : CallWords → Mode
 mode_of w = if (w.b / 2 ^ 24) == 1 then Int else if (w.b / 2 ^ 24) == 2 then Try else Plain
@@ -19,6 +39,16 @@ words_of kind first second prot access mode = record {
   b = kind + prot * 2 ^ 8 + access * 2 ^ 16 + mode * 2 ^ 24;
 }
 
+-- words say this of each part of a call
+pub record Says (w : CallWords) (kind first second prot access : ℕ) (mode : Mode) : Type 0 where
+  pub has_kind : kind_in w ≡ kind
+  pub has_first : first_in w ≡ first
+  pub has_second : second_in w ≡ second
+  pub has_prot : prot_in w ≡ prot
+  pub has_access : access_in w ≡ access
+  pub moded : has_mode w ≡ true
+  pub mode_is : mode_of w ≡ mode
+
 -- the task that a signal is sent to
 abbrev pub signal_of : CallWords → Option ℕ
-signal_of w = if (w.b % 2 ^ 8) == 15 then Some (w.a % 2 ^ 32) else None
+signal_of w = if kind_in w == 15 then Some (first_in w) else None

@@ -3,9 +3,12 @@ pub mod Replies
 pub mod AreaWord
 pub mod EntryWord
 pub mod OwnerWord
+pub mod CountWord
+pub mod SpinWord
 pub mod RecWord
 pub mod Calls
 pub mod LockWords
+pub mod Unavailables
 pub mod Snapshots
 pub mod Objects
 pub mod Histories

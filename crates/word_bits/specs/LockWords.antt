@@ -10,11 +10,11 @@ Unavailable = Bool → ℕ → Type 0
 abbrev pub owned : Unavailable
 owned reads word = (8 ≤ word) × (word ≤ 8 * MAX_TASKS + 7)
 
--- a count word: the flags writer 1, waiters 2 and handoff 4, and from 256 on how many readers there are, at most one more than tasks
-abbrev pub IsCount : ℕ → Type 0
-IsCount word = (word % 256 < 8) × (word / 256 ≤ MAX_TASKS + 1)
+-- a count word of a lawful count: the flags writer 1, waiters 2 and handoff 4, and from 256 on how many readers there are, at most one more than tasks
+abbrev pub IsLawfulCount : ℕ → Type 0
+IsLawfulCount word = (word % 256 < 8) × (word / 256 ≤ MAX_TASKS + 1)
 
 -- a count with a flag is closed to a call that reads, and any but 0 to one that changes
 abbrev pub counted : Unavailable
-counted true word = IsCount word × (word % 8 ≢ 0)
-counted false word = IsCount word × (word ≢ 0)
+counted true word = IsLawfulCount word × (word % 8 ≢ 0)
+counted false word = IsLawfulCount word × (word ≢ 0)

@@ -1,5 +1,6 @@
 //! Fields of a packed word.
 ghost use Rattle.std.specs.Prelude.{◌≡◌, ◌+◌, ◌*◌, ◌/◌, ◌%◌, ◌^◌, ◌<◌, ◌≤◌};
+ghost use Rattle.word_bits.specs.OwnerWord.{bit};
 
 #[tactic(auto, using(crate::proofs::Fields::masked))]
 /// The field of `width` bits that begins at bit `low`.
@@ -20,4 +21,12 @@ pub(crate) fn join(low: u64, high: u64, at: u32) -> u64
     ensures { result ≡ low + high * 2 ^ at }
 {
     (high << at) | low
+}
+
+/// Whether the bit is 1.
+pub(crate) fn is_set(word: u64, at: u32) -> bool
+    requires { at < 64 }
+    ensures { bit result ≡ word / 2 ^ at % 2 }
+{
+    field(word, at, 1) == 1
 }

@@ -1,6 +1,7 @@
 //! A call as two constant words.
-ghost use Rattle.std.specs.Prelude.{◌≡◌};
-ghost use Rattle.word_bits.specs.Calls.{mode_of, signal_of};
+ghost use Rattle.std.specs.Prelude.{◌≡◌, ◌<◌};
+ghost use Rattle.word_bits.specs.Calls.{Says, has_mode, mode_number, mode_of, signal_of, words_of};
+ghost use Rattle.word_bits.specs.Calls.{access_in, first_in, kind_in, prot_in, second_in};
 
 use crate::bits::field;
 
@@ -15,6 +16,23 @@ pub enum Mode {
     Try,
 }
 
+impl Mode {
+    /// The number of the mode in a call's words.
+    fn number(self) -> u64
+        ensures number { result ≡ mode_number self }
+        ensures small { result < 3 }
+    {
+        match self {
+            Mode::Plain => 0,
+            Mode::Int => 1,
+            Mode::Try => 2,
+        }
+    }
+}
+
+/// The kind of a signal's words.
+const SIGNAL: u8 = 15;
+
 /// A call as two words. `a` has its first number, and its second one times 2^32. `b` has its kind in
 /// bits 0 to 7, the protection from bit 8 on, the access from bit 16 on, and the mode from bit 24 on.
 #[derive(Clone, Copy, Debug, PartialEq, Eq)]
@@ -24,6 +42,62 @@ pub struct CallWords {
 }
 
 impl CallWords {
+    /// The words of a call. What it doesn't have is 0.
+    pub fn new(kind: u8, first: u32, second: u32, prot: u8, access: u8, mode: Mode) -> CallWords
+        ensures words { result ≡ words_of kind first second prot access (mode_number mode) }
+        ensures says { Says result kind first second prot access mode }
+    {
+        CallWords {
+            a: u64::from(first) + (u64::from(second) << 32),
+            b: u64::from(kind)
+                + (u64::from(prot) << 8)
+                + (u64::from(access) << 16)
+                + (mode.number() << 24),
+        }
+    }
+
+    /// The kind, which says what the call does.
+    pub fn kind(self) -> u8
+        ensures { result ≡ kind_in self }
+    {
+        field(self.b, 0, 8) as u8
+    }
+
+    /// The first number.
+    pub fn first(self) -> u32
+        ensures { result ≡ first_in self }
+    {
+        field(self.a, 0, 32) as u32
+    }
+
+    /// The second number.
+    pub fn second(self) -> u32
+        ensures { result ≡ second_in self }
+    {
+        (self.a >> 32) as u32
+    }
+
+    /// The protection: r 1, w 2, x 4.
+    pub fn prot(self) -> u8
+        ensures { result ≡ prot_in self }
+    {
+        field(self.b, 8, 8) as u8
+    }
+
+    /// The access, in the same bits.
+    pub fn access(self) -> u8
+        ensures { result ≡ access_in self }
+    {
+        field(self.b, 16, 8) as u8
+    }
+
+    /// Whether the words have a mode.
+    pub fn has_mode(self) -> bool
+        ensures { result ≡ has_mode self }
+    {
+        self.b >> 24 < 3
+    }
+
     /// The mode. Words of no mode are read as plain ones.
     pub fn mode(self) -> Mode
         ensures { result ≡ mode_of self }
@@ -39,9 +113,9 @@ impl CallWords {
     pub fn signal(self) -> Option<u32>
         ensures { result ≡ signal_of self }
     {
-        if field(self.b, 0, 8) != 15 {
+        if self.kind() != SIGNAL {
             return None;
         }
-        Some(field(self.a, 0, 32) as u32)
+        Some(self.first())
     }
 }

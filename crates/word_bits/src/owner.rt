@@ -1,7 +1,9 @@
 //! Who owns a mutex, and the owner word.
-ghost use Rattle.std.specs.Prelude.{◌≡◌, ◌/◌, ◌%◌, ◌<◌};
+ghost use Rattle.std.specs.Prelude.{◌≡◌, ◌<◌};
 ghost use Rattle.word_bits.specs.Packed.{Unpacks};
-ghost use Rattle.word_bits.specs.OwnerWord.{IsOwner, bit, owner_word, task_code};
+ghost use Rattle.word_bits.specs.OwnerWord.{IsOwner, owner_word, task_code};
+
+use crate::bits::is_set;
 
 /// What an owner word says. With `pickup` the task is the waiter that is to take the mutex, and
 /// without it the task holds the mutex.
@@ -36,13 +38,6 @@ fn task_of(code: u64) -> Option<u32>
     }
 }
 
-fn is_set(flags: u64, at: u64) -> bool
-    requires { 0 < at }
-    ensures { bit result ≡ flags / at % 2 }
-{
-    flags / at % 2 == 1
-}
-
 impl Owner {
     /// The word of an owner: the flags `waiters`, `handoff` and `pickup` in bits 0 to 2, and above
     /// them the task's number plus 1, or 0 without a task. It is below 520.
@@ -65,9 +60,9 @@ impl Owner {
         }
         Some(Owner {
             task: task_of(word / 8),
-            waiters: is_set(word, 1),
-            handoff: is_set(word, 2),
-            pickup: is_set(word, 4),
+            waiters: is_set(word, 0),
+            handoff: is_set(word, 1),
+            pickup: is_set(word, 2),
         })
     }
 }

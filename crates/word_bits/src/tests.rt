@@ -68,12 +68,72 @@ fn packs_the_words_of_the_layouts(rt: HostRuntime) {
 }
 
 #[test]
+fn packs_the_words_of_locks(rt: HostRuntime) {
+    for (spin, word) in [
+        (
+            Spin {
+                locked: true,
+                pending: true,
+                tail: Some(Tail { cpu: 2, index: 0 }),
+            },
+            6401,
+        ),
+        (
+            Spin {
+                locked: true,
+                pending: false,
+                tail: Some(Tail { cpu: 2, index: 1 }),
+            },
+            6657,
+        ),
+        (Spin::default(), 0),
+    ] {
+        assert_eq!(rt; spin.pack(), word);
+        assert_eq!(rt; Spin::unpack(word), Some(spin));
+    }
+    for (count, word) in [
+        (
+            Count {
+                writer: true,
+                waiters: true,
+                ..Count::default()
+            },
+            3,
+        ),
+        (
+            Count {
+                waiters: true,
+                handoff: true,
+                readers: 2,
+                ..Count::default()
+            },
+            518,
+        ),
+        (Count::default(), 0),
+    ] {
+        assert_eq!(rt; count.pack(), word);
+        assert_eq!(rt; Count::unpack(word), Some(count));
+    }
+    let many = Count {
+        readers: (1 << 55) - 1,
+        read_fail: true,
+        ..Count::default()
+    };
+    assert_eq!(rt; many.pack(), u64::MAX - 255);
+}
+
+#[test]
 fn unpacks_no_other_word(rt: HostRuntime) {
     // An empty run, a run past the last page, and a bit above the layout.
     for word in [0, 16 << 24 | 16 << 3, 1_048_577 << 3, 1 << 44 | 1 << 3] {
         assert_eq!(rt; Area::unpack(word), None, "area {word}");
     }
     assert_eq!(rt; Entry::unpack(1 << 24), None);
+    assert_eq!(rt; Count::unpack(8), None);
+    // A locked byte of 2, a node of no CPU, and a bit above the layout.
+    for word in [2, 512, 1 << 32] {
+        assert_eq!(rt; Spin::unpack(word), None, "spin lock {word}");
+    }
     // No record, a kind that isn't there, a value where none belongs, the error of an interrupted
     // call, and a bit above the layout.
     for word in [
@@ -96,6 +156,17 @@ fn reads_modes_signals_and_errors(rt: HostRuntime) {
     ] {
         assert_eq!(rt; CallWords { a: 5, b }.mode(), mode);
     }
+    let words = CallWords::new(11, 5, 7, 3, 4, Mode::Try);
+    assert_eq!(rt;
+        (words.a, words.b),
+        (5 | 7 << 32, 11 | 3 << 8 | 4 << 16 | 2 << 24)
+    );
+    assert_eq!(rt; (words.kind(), words.first(), words.second()), (11, 5, 7));
+    assert_eq!(rt;
+        (words.prot(), words.access(), words.mode()),
+        (3, 4, Mode::Try)
+    );
+    assert!(rt; words.has_mode() && !CallWords { a: 0, b: 3 << 24 }.has_mode());
     assert_eq!(rt; CallWords { a: 5, b: 15 }.signal(), Some(5));
     assert_eq!(rt; CallWords { a: 5, b: 7 }.signal(), None);
     for (errno, number) in [

@@ -50,9 +50,11 @@ fn takes_the_words_behind_the_name(rt: HostRuntime) -> Result<(), Fail> {
 }
 
 #[test]
-fn takes_what_is_no_text_for_a_word(rt: HostRuntime) -> Result<(), Fail> {
+fn takes_what_is_no_text_for_an_empty_word(rt: HostRuntime) -> Result<(), Fail> {
     for line in [[b"mm_main".as_slice(), b"\xff"], [b"\xff", b"word"]] {
-        assert!(rt; !words_of(rt.alloc(), &line)?.is_empty());
+        let words = words_of(rt.alloc(), &line)?;
+        assert_eq!(rt; words.len(), 1, "{line:?}");
+        assert!(rt; words[0].is_empty(), "{line:?}");
     }
     Ok(())
 }

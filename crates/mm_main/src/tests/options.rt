@@ -78,6 +78,7 @@ fn refuses_other_words_unread(rt: HostRuntime) -> Result<(), Fail> {
 #[test]
 fn reads_no_words(rt: HostRuntime) {
     Options::joined_options_say();
+    Options::repeated_options_say_nothing();
     let options = Options::read(rt.alloc(), &[]);
     assert_eq!(rt; options, Ok(Options::of_no_words()));
 }

@@ -7,6 +7,7 @@ invariant-loop-piece g l = record {
   bytes : Consumes (g.S.Source.left l.fn.source) (g.S.Source.left l.source) l.all.items;
   most : length l.all.items ≤ 1048577;
   few_reads : g.S.Source.gave l.source ≤ g.S.Source.gave l.fn.source + length l.all.items;
+  ended : g.S.Source.ended l.source ≡ g.S.Source.ended l.fn.source;
   faults : g.S.Source.faults l.source ≡ g.S.Source.faults l.fn.source;
 }
 

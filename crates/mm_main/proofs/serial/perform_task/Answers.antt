@@ -1,4 +1,4 @@
-use Rattle.std.proofs.Common.{◌≡◌, ◌+◌, drop, get_or, [], ◌∙◌, arith, Some}
+use Rattle.std.proofs.Common.{◌≡◌, ◌+◌, drop, get_or, [], sym, ap, ◌∙◌, arith, Some}
 use Rattle.std.specs.Prelude.{slice_get}
 use Rattle.std.proofs.lemmas.List.Sums.{count_by_more_yes}
 use Rattle.task_script.specs.declared.script.Line.{Line}
@@ -21,7 +21,7 @@ loop-line-preserved g c =
       does = λ plan log at stands.
           let so = inv.does plan log at stands in
           let here : slice_get (on_object c.args.object c.args.lines.now) c.loop-line.call ≡ Some (call_words l) = rw inv.counted (at_count c.args.object c.args.lines.now i default_line c.loop-line-test.true c.if-line-object.false) in
-          let did = c.perform-seen.ensures.does plan so.0 (entry_at plan c.args.task c.loop-line.call (on_object c.args.object c.args.lines.now) (call_words l) at here) so.1 in
+          let did = rw c.call.ensures at (c.perform-seen.ensures.does plan so.0 (entry_at plan c.args.task c.loop-line.call (on_object c.args.object c.args.lines.now) c.call.result at (here ∙ ap (λ w. Some w) (sym c.call.ensures))) so.1) in
           let here_on = on_object c.args.object (drop i c.args.lines.now) in
           let rest_on = on_object c.args.object (drop (i + 1) c.args.lines.now) in
           let left = left_at c.args.object c.args.lines.now i default_line c.loop-line-test.true c.if-line-object.false in (

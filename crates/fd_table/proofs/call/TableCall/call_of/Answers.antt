@@ -19,16 +19,16 @@ returns-in_ok-ok-in-8-eq0-clause-exact c =
 
 pub returns-in-9-eq0-clause-exact : goal.returns-in-9-eq0-clause-exact
 returns-in-9-eq0-clause-exact c =
-    exact_as c.args.words (Some (Close (bit_and c.args.words.a 4294967295))) (grind (arith, common_steps))
+    exact_as c.args.words (Some (Close c.first-first.result)) (grind (arith, common_steps))
 
 pub returns-in-10-eq0-clause-exact : goal.returns-in-10-eq0-clause-exact
 returns-in-10-eq0-clause-exact c =
-    exact_as c.args.words (Some (Dup (bit_and c.args.words.a 4294967295))) (grind (arith, common_steps))
+    exact_as c.args.words (Some (Dup c.first-first.result)) (grind (arith, common_steps))
 
 pub returns-in-11-default-clause-exact : goal.returns-in-11-default-clause-exact
 returns-in-11-default-clause-exact c =
-    exact_as c.args.words (Some (Dup2 (bit_and c.args.words.a 4294967295) (c.args.words.a / 4294967296))) (grind (arith, common_steps))
+    exact_as c.args.words (Some (Dup2 c.first-first.result c.second.result)) (grind (arith, common_steps))
 
 pub returns-in-12-eq0-clause-exact : goal.returns-in-12-eq0-clause-exact
 returns-in-12-eq0-clause-exact c =
-    exact_as c.args.words (Some (Get (bit_and c.args.words.a 4294967295))) (grind (arith, common_steps))
+    exact_as c.args.words (Some (Get c.first-first.result)) (grind (arith, common_steps))

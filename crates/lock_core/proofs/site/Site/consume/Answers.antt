@@ -3,6 +3,7 @@ use Rattle.lock_core.specs.declared.view.Hand.{Hand}
 use Rattle.lock_core.specs.declared.view.View.{View}
 use Rattle.lock_core.specs.Views.{hearing, consuming}
 use Rattle.lock_core.specs.Handles.{SawSignals}
+use Rattle.lock_core.specs.RunLaws.{found-at-step}
 use Rattle.lock_core.proofs.Sitting.{SameFace, sits-same}
 use Rattle.lock_core.proofs.RowLaws.{none-some}
 use Rattle.lock_core.proofs.HandLaws.{same-number}
@@ -54,25 +55,55 @@ returns-clause-own g c = let heard = c.load_sent-sent.ensures.heard in let own =
     (omega (arith, later)) (c.put.ensures.face ∙ (c.find-taken.ensures.face ∙ c.load_sent-sent.ensures.face)) own
 
 pub returns-clause-saw : goal.returns-clause-saw
-returns-clause-saw g c = λ t is. let same = same-number c.in-Some.task t (sym c.in-Some.is ∙ is) in subst (λ (t : ℕ). SawSignals t record { sent = c.load_sent-sent.result; taken = c.find-taken.result } c.args.pass.now c.put.new.pass) same record {
-  sent = (c.load_sent-sent.new.pass.seat.me.0.past, c.load_sent-sent.ensures.found, c.load_sent-sent.ensures.own.3, λ p t. c.put.ensures.own.3 p (c.find-taken.ensures.own.3 p t));
-  taken = (c.find-taken.new.pass.seat.me.0.past, c.find-taken.ensures.found, λ p t. c.find-taken.ensures.own.3 p (c.load_sent-sent.ensures.own.3 p t), c.put.ensures.own.3);
-}
+returns-clause-saw g c = λ t is. let same = same-number c.in-Some.task t (sym c.in-Some.is ∙ is) in let v = c.args.pass.now.seat.me.0.view in let heard = c.load_sent-sent.ensures.heard in
+    let here = c.load_sent-sent.new.pass.seat.me.0 in let next = c.find-taken.new.pass.seat.me.0 in let last = c.put.new.pass.seat.me.0 in
+    let named : here.view.hand.task ≡ v.hand.task = ap (λ (u : View _). u.hand.task) heard.2 ∙ ap (λ (h : Hand). h.task) heard.1.2 in
+    let one : here.view.steps ≡ v.steps + 1 = ap (λ (u : View _). u.steps) heard.2 in
+    let two : next.view.steps ≡ here.view.steps + 1 = ap (λ (u : View _). u.steps) c.find-taken.ensures.kept in
+    let three : last.view.steps ≡ next.view.steps + 1 = ap (λ (u : View _). u.steps) c.put.ensures.kept in
+    subst (λ (t : ℕ). SawSignals t record { sent = c.load_sent-sent.result; taken = c.find-taken.result } c.args.pass.now c.put.new.pass) same record {
+      sent = (
+        here.view.steps,
+        omega (arith, one),
+        omega (arith, two, three),
+        found-at-step here.view v.hand.task _ _ c.args.pass.now.seat.me.0.past here.past last.past named c.load_sent-sent.ensures.own.4 c.load_sent-sent.ensures.found c.load_sent-sent.ensures.own.3 (λ p t. c.put.ensures.own.3 p (c.find-taken.ensures.own.3 p t)),
+      );
+      taken = (
+        next.view.steps,
+        omega (arith, one, two),
+        omega (arith, three),
+        found-at-step next.view v.hand.task _ _ c.args.pass.now.seat.me.0.past next.past last.past (ap (λ (u : View _). u.hand.task) c.find-taken.ensures.kept ∙ named) c.find-taken.ensures.own.4 c.find-taken.ensures.found (λ p t. c.find-taken.ensures.own.3 p (c.load_sent-sent.ensures.own.3 p t)) c.put.ensures.own.3,
+      );
+    }
 
 pub returns-then-sent-taken-clause-none : goal.returns-then-sent-taken-clause-none
 returns-then-sent-taken-clause-none g c = let heard = c.load_sent-sent.ensures.heard in let v = c.args.pass.now.seat.me.0.view in
     let here : c.load_sent-sent.new.pass.seat.me.0.view.hand ≡ hearing v.hand heard.1.0 = ap (λ v. v.hand) heard.2 ∙ heard.1.2 in
     let taken : c.find-taken.result ≡ heard.1.0.taken = c.find-taken.ensures.told heard.1.0 c.in-Some.task (ap (λ (h : Hand). h.heard) here) (ap (λ (h : Hand). h.task) here ∙ (sym c.requires.own.task ∙ c.in-Some.is)) refl in
-    let none = c.if-sent-taken.true in let w = c.load_sent-sent.new.pass.seat.me.0.past in (
+    let none = c.if-sent-taken.true in (
       record { sent = c.load_sent-sent.result; taken = c.find-taken.result },
       record {
         none_pending = none;
         now = c.find-taken.ensures.kept ∙ (ap (λ (u : View _). record u { steps = u.steps + 1 }) heard.2 ∙ (λ i. record v { hand = (heard.1.2 ∙ (λ j. hearing v.hand (record { sent = heard.1.1 j; taken = sym taken j }))) i; steps = two i }));
       },
-      λ t is. let same = same-number c.in-Some.task t (sym c.in-Some.is ∙ is) in subst (λ (t : ℕ). SawSignals t record { sent = c.load_sent-sent.result; taken = c.find-taken.result } c.args.pass.now c.find-taken.new.pass) same record {
-        sent = (w, c.load_sent-sent.ensures.found, c.load_sent-sent.ensures.own.3, c.find-taken.ensures.own.3);
-        taken = (c.find-taken.new.pass.seat.me.0.past, c.find-taken.ensures.found, (λ p q. c.find-taken.ensures.own.3 p (c.load_sent-sent.ensures.own.3 p q)), λ p q. q);
-      },
+      λ t is. let same = same-number c.in-Some.task t (sym c.in-Some.is ∙ is) in let old = c.args.pass.now.seat.me.0.past in let first = c.load_sent-sent.new.pass.seat.me.0 in let next = c.find-taken.new.pass.seat.me.0 in
+          let named : first.view.hand.task ≡ v.hand.task = ap (λ (u : View _). u.hand.task) heard.2 ∙ ap (λ (h : Hand). h.task) heard.1.2 in
+          let one : first.view.steps ≡ v.steps + 1 = ap (λ (u : View _). u.steps) heard.2 in
+          let more : next.view.steps ≡ first.view.steps + 1 = ap (λ (u : View _). u.steps) c.find-taken.ensures.kept in
+          subst (λ (t : ℕ). SawSignals t record { sent = c.load_sent-sent.result; taken = c.find-taken.result } c.args.pass.now c.find-taken.new.pass) same record {
+            sent = (
+              first.view.steps,
+              omega (arith, one),
+              omega (arith, more),
+              found-at-step first.view v.hand.task _ _ old first.past next.past named c.load_sent-sent.ensures.own.4 c.load_sent-sent.ensures.found c.load_sent-sent.ensures.own.3 c.find-taken.ensures.own.3,
+            );
+            taken = (
+              next.view.steps,
+              omega (arith, one, more),
+              omega arith,
+              found-at-step next.view v.hand.task _ _ old next.past next.past (ap (λ (u : View _). u.hand.task) c.find-taken.ensures.kept ∙ named) c.find-taken.ensures.own.4 c.find-taken.ensures.found (λ p q. c.find-taken.ensures.own.3 p (c.load_sent-sent.ensures.own.3 p q)) (λ p q. q),
+            );
+          },
     )
   where
     two : c.args.pass.now.seat.me.0.view.steps + 1 + 1 ≡ c.args.pass.now.seat.me.0.view.steps + 2

@@ -1,0 +1,9 @@
+pub mod Serving
+pub mod Passing
+pub mod Counting
+pub mod Recording
+pub mod Chained
+pub mod Copied
+pub mod Once
+pub mod Legally
+pub mod Joining

@@ -1,0 +1,398 @@
+-- What a call of `perform` records, from what each of its steps does.
+use Rattle.std.proofs.Common.{◌≡◌, ◌≢◌, ℕ, ◌+◌, ◌<◌, ◌≤◌, ⊎_elim, inl, inr, Bool, true, false, not, ◌&&◌, List, [], ◌∷◌, ◌++◌, length, take, slice_get, Option, Some, None, IsSome, refl, sym, ap, ◌∙◌, subst, arith, length-append, length-take, take-take, take_at, take_all}
+use Rattle.std.specs.Option.{option_map_or}
+use Rattle.std.proofs.lemmas.Bool.{false≢true}
+use Rattle.word_bits.specs.declared.call.CallWords.{CallWords}
+use Rattle.word_bits.specs.declared.call.Mode.{Mode}
+use Rattle.word_bits.specs.declared.call.Mode.TheVariants.{Try}
+use Rattle.word_bits.specs.declared.entry.Entry.{Entry}
+use Rattle.word_bits.specs.declared.rec.Rec.{Rec}
+use Rattle.word_bits.specs.declared.reply.Reply.{Reply}
+use Rattle.word_bits.specs.declared.reply.Reply.TheVariants.{Good, Num, Refused, MapErr, AccErr, Busy, Intr, Sent}
+use Rattle.word_bits.specs.Calls.{mode_of, signal_of}
+use Rattle.word_bits.specs.Objects.{Obj, IsObjectReply}
+use Rattle.word_bits.specs.Histories.{Plan, logs, changes, state_after}
+use Rattle.word_bits.specs.Legal.{IsRecord, IsUnheldReply, is_intr, seen_after}
+use Rattle.lock_core.specs.declared.view.Hand.{Hand}
+use Rattle.lock_core.specs.declared.view.Held.{Held}
+use Rattle.lock_core.specs.declared.view.Held.TheVariants.{No}
+use Rattle.lock_core.specs.Records.{is_sent}
+use Rattle.lock_core.specs.Views.{recorded, committed, noted, next_entry}
+use Rattle.lock_core.specs.Passes.{IsReading, MayNote}
+use Rattle.lock_core.proofs.RowLaws.{get-last}
+use Rattle.lock_core.proofs.RecordLaws.{object-logs, changes-is}
+use Rattle.guarded.proofs.Passing.{beside-trans}
+use Rattle.lock_core.specs.declared.view.Line.{Line}
+use Rattle.lock_core.specs.declared.view.Moment.{Moment}
+use Rattle.lock_core.specs.declared.how.Interrupted.{Interrupted}
+use Rattle.lock_core.specs.Pasts.{FoundAtStep}
+use Rattle.lock_core.specs.Kinds.{Kind, unavailable, wakes_shared}
+use Rattle.lock_core.specs.Shown.{Shown, NoCountFalls, AllButHand, PastGoesOn, IsNextCall}
+use Rattle.lock_core.specs.Locking.{Begins, Looks, Takes, Frees, Releases, Sees, SawPending, KeepsPlace, IsLetIn}
+use Rattle.guarded.specs.Performing.{Refuses, AddsRecord, Serves, Performs}
+
+eq-le : (m n : ℕ) → m ≡ n → n ≤ m
+eq-le m n e = omega arith
+
+pub counts-trans : (v u w : Shown) → NoCountFalls v u → NoCountFalls u w → NoCountFalls v w
+counts-trans v u w a b = record {
+  steps = let x = a.steps in let y = b.steps in omega arith;
+  misses = let x = a.misses in let y = b.misses in omega arith;
+  entries = let x = a.entries in let y = b.entries in omega arith;
+  fronts = let x = a.fronts in let y = b.fronts in omega arith;
+  appends = let x = a.appends in let y = b.appends in omega arith;
+}
+
+pub counts-beside : (v u : Shown) → u.hand.misses ≡ v.hand.misses → AllButHand v u → NoCountFalls v u
+counts-beside v u misses b = record {
+  steps = b.3;
+  misses = eq-le _ _ misses;
+  entries = eq-le _ _ b.0;
+  fronts = eq-le _ _ b.1;
+  appends = eq-le _ _ (ap {A = Line} (λ l. l.appends) b.2);
+}
+
+-- a pass that made a record ends or downgrades its hold
+pub adds-freed : (wakes : ℕ → Type 0) (rec : Rec) (seen : List Entry) (v m u : Shown) → AddsRecord rec seen v m → Frees wakes m u → AddsRecord rec u.hand.seen v u
+adds-freed wakes rec seen v m u a f = record {
+  task = f.keeps.task ∙ a.task;
+  done = f.keeps.done ∙ a.done;
+  records = f.keeps.records ∙ a.records;
+  seen_is = refl;
+  sent = f.keeps.sent ∙ a.sent;
+  consumed = f.consumed ∙ a.consumed;
+  saw = f.saw ∙ a.saw;
+  misses = f.misses ∙ a.misses;
+  fronts = f.fronts ∙ a.fronts;
+  counts = counts-trans v m u a.counts f.keeps.counts;
+}
+
+pub adds-read : (v m : Shown) (step : ℕ) (rec : Rec) (seen : List Entry) → m.hand ≡ recorded v.hand step (next_entry v.hand) rec seen → AllButHand v m → AddsRecord rec seen v m
+adds-read v m step rec seen e b = record {
+  task = ap {A = Hand} (λ h. h.task) e;
+  done = ap {A = Hand} (λ h. h.done) e;
+  records = ap {A = Hand} (λ h. h.records) e;
+  seen_is = ap {A = Hand} (λ h. h.seen) e;
+  sent = ap {A = Hand} (λ h. h.sent) e;
+  consumed = ap {A = Hand} (λ h. h.consumed) e;
+  saw = ap {A = Hand} (λ h. h.saw) e;
+  misses = ap {A = Hand} (λ h. h.misses) e;
+  fronts = b.1;
+  counts = counts-beside v m (ap {A = Hand} (λ h. h.misses) e) b;
+}
+
+pub adds-change : (v m : Shown) (step : ℕ) (xs : List ℕ) (reply : Reply) → m.hand ≡ committed (record v.hand { known = xs }) step (next_entry v.hand) reply → AllButHand v m
+    → AddsRecord (record { k = length v.hand.log; reply = reply }) (v.hand.log ++ next_entry v.hand ∷ []) v m
+adds-change v m step xs reply e b = record {
+  task = ap {A = Hand} (λ h. h.task) e;
+  done = ap {A = Hand} (λ h. h.done) e;
+  records = ap {A = Hand} (λ h. h.records) e;
+  seen_is = ap {A = Hand} (λ h. h.seen) e;
+  sent = ap {A = Hand} (λ h. h.sent) e;
+  consumed = ap {A = Hand} (λ h. h.consumed) e;
+  saw = ap {A = Hand} (λ h. h.saw) e;
+  misses = ap {A = Hand} (λ h. h.misses) e;
+  fronts = b.1;
+  counts = counts-beside v m (ap {A = Hand} (λ h. h.misses) e) b;
+}
+
+-- a reply of an object is recorded at the end of the log
+pub noted-is : (h : Hand) (e : Entry) (reply : Reply) (step : ℕ) → IsObjectReply reply → noted h step e reply ≡ recorded h step e (record { k = length h.log; reply = reply }) h.log
+noted-is h e Good step is = refl
+noted-is h e (Num n) step is = refl
+noted-is h e (Refused x) step is = refl
+noted-is h e MapErr step is = refl
+noted-is h e AccErr step is = refl
+noted-is h e (Busy w) step is = absurd is
+noted-is h e Intr step is = absurd is
+noted-is h e Sent step is = absurd is
+
+module _ {Call : Type 0} (o : Obj Call) (kind : Kind) (k : Plan) where
+  pub may-note : (h : Hand) (e : Entry) (reply : Reply) → IsObjectReply reply → IsReading o k h e reply → MayNote o (unavailable kind) k h e reply
+  may-note h e Good is r = r
+  may-note h e (Num n) is r = r
+  may-note h e (Refused x) is r = r
+  may-note h e MapErr is r = r
+  may-note h e AccErr is r = r
+  may-note h e (Busy _) is r = absurd is
+  may-note h e Intr is r = absurd is
+  may-note h e Sent is r = absurd is
+
+  -- a call that reads, done by a holder
+  pub serves-read : (v m u : Shown) (words : CallWords) (c : Call) (reply : Reply) (step : ℕ) → o.call_of words ≡ Some c → o.reads c ≡ true → IsObjectReply reply → reply ≡ (o.meaning (state_after o k v.hand.log) c).1
+      → m.hand ≡ noted v.hand step (next_entry v.hand) reply → AllButHand v m → Releases (wakes_shared kind) m u → Serves o kind k words reply v u
+  serves-read v m u words c reply step is reads object replies hand beside ends =
+      let marks = adds-read v m step (record { k = length v.hand.log; reply = reply }) v.hand.log (hand ∙ noted-is v.hand (next_entry v.hand) reply step object) beside in
+      let seen : u.hand.seen ≡ v.hand.log = ends.0.keeps.seen ∙ marks.seen_is in
+      let whole : take (length v.hand.log) u.hand.seen ≡ v.hand.log = ap (take (length v.hand.log)) seen ∙ take_all (length v.hand.log) v.hand.log (omega arith) in
+      let unlogged : logs o words reply ≡ false = object-logs o words reply object ∙ (changes-is o words c is ∙ ap not reads) in record {
+        rec = record { k = length v.hand.log; reply = reply };
+        says = refl;
+        means = λ s. inr (inl record { call = c; is = is; reads = reads; place = let l = ap length seen in omega arith; reply = replies ∙ ap (λ (z : List Entry). (o.meaning (state_after o k z) c).1) (sym whole) });
+        replies = object;
+        begins = whole;
+        sees = ap length seen ∙ sym (ap (λ (b : Bool). seen_after b (record { k = length v.hand.log; reply = reply })) unlogged);
+        adds = adds-freed (wakes_shared kind) _ _ v m u marks ends.0;
+        out = ends.1;
+      }
+
+  -- a call that changes the object, done by a holder
+  pub serves-change : (wakes : ℕ → Type 0) (v m u : Shown) (words : CallWords) (c : Call) (reply : Reply) (step : ℕ) (xs : List ℕ) → o.call_of words ≡ Some c → o.reads c ≡ false → IsObjectReply reply → reply ≡ (o.meaning (state_after o k v.hand.log) c).1
+      → m.hand ≡ committed (record v.hand { known = xs }) step (next_entry v.hand) reply → AllButHand v m → Releases wakes m u → Serves o kind k words reply v u
+  serves-change wakes v m u words c reply step xs is reads object replies hand beside ends =
+      let e = next_entry v.hand in
+      let marks = adds-change v m step xs reply hand beside in
+      let seen : u.hand.seen ≡ v.hand.log ++ e ∷ [] = ends.0.keeps.seen ∙ marks.seen_is in
+      let whole : take (length v.hand.log) u.hand.seen ≡ v.hand.log = ap (take (length v.hand.log)) seen ∙ take_at v.hand.log (e ∷ []) (length v.hand.log) refl in
+      let logged : logs o words reply ≡ true = object-logs o words reply object ∙ (changes-is o words c is ∙ ap not reads) in record {
+        rec = record { k = length v.hand.log; reply = reply };
+        says = refl;
+        means = λ s. inl record { call = c; is = is; changes = reads; place = ap (λ (z : List Entry). slice_get z (length v.hand.log)) seen ∙ get-last v.hand.log e (length v.hand.log) refl; reply = replies ∙ ap (λ (z : List Entry). (o.meaning (state_after o k z) c).1) (sym whole) };
+        replies = object;
+        begins = whole;
+        sees = ap length seen ∙ (let l = length-append v.hand.log (e ∷ []) in l) ∙ sym (ap (λ (b : Bool). seen_after b (record { k = length v.hand.log; reply = reply })) logged);
+        adds = adds-freed wakes _ _ v m u marks ends.0;
+        out = ends.1;
+      }
+
+  -- what a holder that looked may note
+  pub reading-note : (h g : Hand) (words : CallWords) (c : Call) (reply : Reply) → g ≡ h → IsNextCall k h words → o.call_of words ≡ Some c → o.reads c ≡ true → h.held ≢ No → h.known ≡ o.stores (state_after o k h.log) → IsObjectReply reply → reply ≡ (o.meaning (state_after o k h.log) c).1 → MayNote o (unavailable kind) k g (next_entry g) reply
+  reading-note h g words c reply same next is reads held stored object replies = subst (λ (x : Hand). MayNote o (unavailable kind) k x (next_entry x) reply) (sym same)
+      (may-note h (next_entry h) reply object (record { words = words; call = c; planned = next.1; is = is; reads = reads; held = held; stored = stored; replies = replies }))
+
+  pub serves-looked : (v w m u : Shown) (words : CallWords) (c : Call) (reply : Reply) (step : ℕ) → o.call_of words ≡ Some c → o.reads c ≡ true → IsObjectReply reply → reply ≡ (o.meaning (state_after o k v.hand.log) c).1
+      → Looks v w → m.hand ≡ noted w.hand step (next_entry w.hand) reply → AllButHand w m → Releases (wakes_shared kind) m u → Serves o kind k words reply v u
+  serves-looked v w m u words c reply step is reads object replies looks hand beside ends =
+      serves-read v m u words c reply step is reads object replies (hand ∙ ap {B = Hand} (λ (x : Hand). noted x step (next_entry x) reply) looks.0) (beside-trans v w m looks.1 beside) ends
+
+abbrev busy_word : Reply → ℕ
+busy_word Good = 0
+busy_word (Num n) = 0
+busy_word (Refused x) = 0
+busy_word MapErr = 0
+busy_word AccErr = 0
+busy_word (Busy w) = w
+busy_word Intr = 0
+busy_word Sent = 0
+
+reply-unintr : (reply : Reply) → IsObjectReply reply → is_intr reply ≡ false
+reply-unintr Good is = refl
+reply-unintr (Num n) is = refl
+reply-unintr (Refused x) is = refl
+reply-unintr MapErr is = refl
+reply-unintr AccErr is = refl
+reply-unintr (Busy w) is = refl
+reply-unintr Intr is = absurd is
+reply-unintr Sent is = refl
+
+abbrev is_busy : Reply → Bool
+is_busy Good = false
+is_busy (Num n) = false
+is_busy (Refused x) = false
+is_busy MapErr = false
+is_busy AccErr = false
+is_busy (Busy w) = true
+is_busy Intr = false
+is_busy Sent = false
+
+and-false : (b : Bool) → false ≡ b && false
+and-false true = refl
+and-false false = refl
+
+is-reads : (r c i : Bool) → c ≡ not r → i ≡ false → r ≡ not c && not i
+is-reads true c i e f = cc
+is-reads false c i e f = cc
+
+same-entry : (h g : Hand) → g.task ≡ h.task → g.done ≡ h.done → next_entry g ≡ next_entry h
+same-entry h g task done i = record { task = option_map_or (λ t. t) (task i) 0; call = done i }
+
+-- a place in line is kept where the call goes on without a try
+pub place-after : (kind : Kind) (s : Bool) (v m u : Shown) → KeepsPlace kind s v m → u.hand.misses ≡ m.hand.misses → u.fronts ≡ m.fronts → u.hand.saw ≡ m.hand.saw → m.spin.entries ≤ u.spin.entries → KeepsPlace kind s v u
+place-after kind s v m u p misses fronts saw entries = record {
+  queues = λ rise same. ⊎_elim (λ (l : v.spin.entries < m.spin.entries). inl (omega arith))
+      (λ (r : (s ≡ true) × IsLetIn kind v m). inr (r.0, record { once = misses ∙ r.1.once; saw = r.1.saw; is = saw ∙ r.1.is; opens = r.1.opens }))
+      (p.queues (omega arith) (sym fronts ∙ same));
+  few = λ same. let l = p.few (sym fronts ∙ same) in omega arith;
+}
+
+-- what a step found, it has found also once the call has gone on
+found-on : {task : Option ℕ} {step at n : ℕ} {past : List Moment} (m u : Shown) → PastGoesOn m u → FoundAtStep task step at n past m.past → FoundAtStep task step at n past u.past
+found-on m u goes f = record { past = f.past; by = f.by; found = f.found; after = f.after; goes_on = λ p t. goes p (f.goes_on p t) }
+
+-- so has what a try of it saw
+sees-on : (kind : Kind) (reads : Bool) (at word : ℕ) (v m u : Shown) → u.hand.saw ≡ m.hand.saw → m.steps ≤ u.steps → PastGoesOn m u → Sees kind reads at word v m → Sees kind reads at word v u
+sees-on kind reads at word v m u saw later goes s = record {
+  saw = s.saw;
+  is = saw ∙ s.is;
+  word_is = s.word_is;
+  since = s.since;
+  by_now = let l = s.by_now in omega (arith, l, later);
+  found = found-on m u goes s.found;
+  shut = s.shut;
+}
+
+pending-on : (why : Interrupted) (v m u : Shown) → m.steps ≤ u.steps → PastGoesOn m u → SawPending why v m → SawPending why v u
+pending-on why v m u later goes s = record {
+  sent = λ t is. let f = s.sent t is in (f.0, f.1, (let l = f.2 in omega (arith, l, later)), found-on m u goes f.3);
+  taken = λ t is. let f = s.taken t is in (f.0, f.1, (let l = f.2 in omega (arith, l, later)), found-on m u goes f.3);
+  pending = s.pending;
+}
+
+module _ {Call : Type 0} (o : Obj Call) (kind : Kind) (at : ℕ) (k : Plan) where
+  -- a call that held
+  pub performs-served : (v m u : Shown) (words : CallWords) (c : Call) (reads : Bool) (reply : Reply) (how : Held) → IsNextCall k v.hand words → o.call_of words ≡ Some c → reads ≡ o.reads c → signal_of words ≡ None → (v.hand.sent ≡ None) × (v.hand.consumed ≡ 0)
+      → Takes o k how v m → (mode_of words ≢ Try → KeepsPlace kind reads v m) → Serves o kind k words reply m u → Performs o kind at k reply v u
+  performs-served v m u words c reads reply how next is same unsent accounted takes line serves =
+      let entry = same-entry v.hand m.hand takes.keeps.task takes.keeps.done in
+      let place : serves.rec.k ≡ length m.hand.log = ap {A = Rec} (λ r. r.k) serves.says in
+      let long = takes.begins.0 in
+      let within : length m.hand.log ≤ length u.hand.seen = (let l = length-take (length m.hand.log) u.hand.seen in let e = ap length serves.begins in omega (arith, l, e)) in record {
+        words = words;
+        rec = serves.rec;
+        next = next;
+        says = ap {A = Rec} (λ r. r.reply) serves.says;
+        means = subst (λ e. IsRecord o (unavailable kind) k u.hand.seen (length v.hand.seen) e words serves.rec) entry (serves.means (length v.hand.seen));
+        after = omega arith;
+        sees = serves.sees;
+        begins = (omega arith, sym (take-take (length v.hand.seen) (length m.hand.log) u.hand.seen long) ∙ (ap (take (length v.hand.seen)) serves.begins ∙ takes.begins.1));
+        records = serves.adds.records ∙ (λ i. record { entry = entry i; rec = serves.rec } ∷ takes.keeps.records i);
+        task = serves.adds.task ∙ takes.keeps.task;
+        done = serves.adds.done ∙ ap (λ n. n + 1) takes.keeps.done;
+        out = serves.out;
+        accounted = (serves.adds.sent ∙ (takes.keeps.sent ∙ accounted.0), serves.adds.consumed ∙ (takes.consumed ∙ accounted.1));
+        counts = counts-trans v m u takes.keeps.counts serves.adds.counts;
+        signals = λ some. absurd (false≢true (subst IsSome unsent some));
+        busy = λ word e. absurd (subst IsObjectReply e serves.replies);
+        interrupted = λ e. absurd (subst IsObjectReply e serves.replies);
+        line = λ waits. place-after kind _ v m u (subst (λ b. KeepsPlace kind b v m) (is-reads reads (changes o words) (is_intr reply) (changes-is o words c is ∙ ap not (sym same)) (reply-unintr reply serves.replies)) (line waits))
+            serves.adds.misses serves.adds.fronts serves.adds.saw serves.adds.counts.entries;
+      }
+
+  -- a call that never held
+  pub performs-unheld : (v u : Shown) (words : CallWords) (reply : Reply) → IsNextCall k v.hand words → IsUnheldReply o (unavailable kind) words reply → logs o words reply ≡ false → u.hand.seen ≡ v.hand.seen
+      → u.hand.records ≡ record { entry = next_entry v.hand; rec = record { k = length v.hand.seen; reply = reply } } ∷ v.hand.records → u.hand.task ≡ v.hand.task → u.hand.done ≡ v.hand.done + 1 → u.hand.held ≡ No → (u.hand.sent ≡ None) × (u.hand.consumed ≡ 0) → NoCountFalls v u
+      → (IsSome (signal_of words) → reply ≡ Sent) → ((word : ℕ) → reply ≡ Busy word → (c : Call) × (o.call_of words ≡ Some c) × Sees kind (o.reads c) at word v u)
+      → (reply ≡ Intr → (c : Call) × (why : Interrupted) × (word : ℕ) × (o.call_of words ≡ Some c) × SawPending why v u × Sees kind (o.reads c) at word v u)
+      → (mode_of words ≢ Try → KeepsPlace kind (not (changes o words) && not (is_intr reply)) v u) → Performs o kind at k reply v u
+  performs-unheld v u words reply next why unlogged seen records task done out accounted goes signals busy interrupted line = record {
+    words = words;
+    rec = record { k = length v.hand.seen; reply = reply };
+    next = next;
+    says = refl;
+    means = inr (inr record { reply = why; place = refl; within = let l = ap length seen in omega arith });
+    after = omega arith;
+    sees = ap length seen ∙ sym (ap (λ (b : Bool). seen_after b (record { k = length v.hand.seen; reply = reply })) unlogged);
+    begins = (let l = ap length seen in omega arith, ap (take (length v.hand.seen)) seen ∙ take_all (length v.hand.seen) v.hand.seen (omega arith));
+    records = records;
+    task = task;
+    done = done;
+    out = out;
+    accounted = accounted;
+    counts = goes;
+    signals = signals;
+    busy = busy;
+    interrupted = interrupted;
+    line = line;
+  }
+
+  pub performs-sent : (v w u : Shown) (words : CallWords) (target step : ℕ) → IsNextCall k v.hand words → signal_of words ≡ Some target → v.hand.held ≡ No → v.hand.consumed ≡ 0
+      → w.hand ≡ record v.hand { sent = Some target } → AllButHand v w → u.hand ≡ noted w.hand step (next_entry w.hand) Sent → AllButHand w u → Performs o kind at k Sent v u
+  performs-sent v w u words target step next is out consumed sent beside hand after =
+      let now : u.hand ≡ noted (record v.hand { sent = Some target }) step (next_entry v.hand) Sent = hand ∙ ap {B = Hand} (λ (x : Hand). noted x step (next_entry x) Sent) sent in
+      let along = beside-trans v w u beside after in
+      let misses = ap {A = Hand} (λ h. h.misses) now in
+      performs-unheld v u words Sent next (subst IsSome (sym is) refl) refl (ap {A = Hand} (λ h. h.seen) now) (ap {A = Hand} (λ h. h.records) now) (ap {A = Hand} (λ h. h.task) now) (ap {A = Hand} (λ h. h.done) now) (ap {A = Hand} (λ h. h.held) now ∙ out)
+      (ap {A = Hand} (λ h. h.sent) now, ap {A = Hand} (λ h. h.consumed) now ∙ consumed) (counts-beside v u misses along) (λ _. refl) (λ word e. absurd (false≢true (subst (λ r. is_sent r ≡ true) e refl))) (λ e. absurd (false≢true (subst (λ r. is_sent r ≡ true) e refl)))
+      (λ _. record { queues = λ rise. absurd (omega arith); few = λ _. omega arith })
+
+  -- a call that couldn't have the lock
+  pub performs-refused : (v m u : Shown) (words : CallWords) (c : Call) (reads : Bool) (mode : Mode) (reply : Reply) (step : ℕ) → IsNextCall k v.hand words → o.call_of words ≡ Some c → reads ≡ o.reads c → mode ≡ mode_of words → signal_of words ≡ None → (v.hand.sent ≡ None) × (v.hand.consumed ≡ 0)
+      → Refuses kind at mode reads reply v m → (mode ≢ Try → KeepsPlace kind false v m) → u.hand ≡ noted m.hand step (next_entry m.hand) reply → AllButHand m u → PastGoesOn m u → Performs o kind at k reply v u
+  performs-refused v m u words c reads mode Good step next is same says unsent accounted why line hand beside goes = absurd why
+  performs-refused v m u words c reads mode (Num n) step next is same says unsent accounted why line hand beside goes = absurd why
+  performs-refused v m u words c reads mode (Refused x) step next is same says unsent accounted why line hand beside goes = absurd why
+  performs-refused v m u words c reads mode MapErr step next is same says unsent accounted why line hand beside goes = absurd why
+  performs-refused v m u words c reads mode AccErr step next is same says unsent accounted why line hand beside goes = absurd why
+  performs-refused v m u words c reads mode Sent step next is same says unsent accounted why line hand beside goes = absurd why
+  performs-refused v m u words c reads mode (Busy w) step next is same says unsent accounted why line hand beside goes =
+      let keeps = why.1.keeps in
+      let entry = same-entry v.hand m.hand keeps.task keeps.done in
+      let sees = why.1.sees in
+      let misses = ap {A = Hand} (λ h. h.misses) hand in
+      performs-unheld v u words (Busy w) next (sym says ∙ why.0, (c, is, subst (λ b. (unavailable kind) b w) same sees.shut)) refl (ap {A = Hand} (λ h. h.seen) hand ∙ keeps.seen)
+      (ap {A = Hand} (λ h. h.records) hand ∙ (λ i. record { entry = entry i; rec = record { k = length (keeps.seen i); reply = Busy w } } ∷ keeps.records i))
+      (ap {A = Hand} (λ h. h.task) hand ∙ keeps.task) (ap {A = Hand} (λ h. h.done) hand ∙ ap (λ n. n + 1) keeps.done) (ap {A = Hand} (λ h. h.held) hand ∙ why.1.out)
+      (ap {A = Hand} (λ h. h.sent) hand ∙ (keeps.sent ∙ accounted.0), ap {A = Hand} (λ h. h.consumed) hand ∙ (why.1.consumed ∙ accounted.1))
+      (counts-trans v m u keeps.counts (counts-beside m u misses beside)) (λ some. absurd (false≢true (subst IsSome unsent some)))
+      (λ word e. (c, is, subst (λ b. Sees kind b at word v u) same (subst (λ n. Sees kind reads at n v u) (ap busy_word e) (sees-on kind reads at w v m u (ap {A = Hand} (λ h. h.saw) hand) beside.3 goes sees))))
+      (λ e. absurd (false≢true (subst (λ r. is_busy r ≡ true) e refl)))
+      (λ waits. absurd (waits (sym says ∙ why.0)))
+  performs-refused v m u words c reads mode Intr step next is same says unsent accounted why line hand beside goes =
+      let cut = why.1.1 in
+      let keeps = cut.keeps in
+      let entry = same-entry v.hand m.hand keeps.task keeps.done in
+      let misses = ap {A = Hand} (λ h. h.misses) hand in
+      performs-unheld v u words Intr next (sym says ∙ why.0, subst IsSome (sym is) refl) refl (ap {A = Hand} (λ h. h.seen) hand ∙ keeps.seen)
+      (ap {A = Hand} (λ h. h.records) hand ∙ (λ i. record { entry = entry i; rec = record { k = length (keeps.seen i); reply = Intr } } ∷ keeps.records i))
+      (ap {A = Hand} (λ h. h.task) hand ∙ keeps.task) (ap {A = Hand} (λ h. h.done) hand ∙ ap (λ n. n + 1) keeps.done) (ap {A = Hand} (λ h. h.held) hand ∙ cut.out)
+      (ap {A = Hand} (λ h. h.sent) hand ∙ (keeps.sent ∙ accounted.0), ap {A = Hand} (λ h. h.consumed) hand ∙ (let more = cut.consumed in let none = accounted.1 in omega (arith, more, none)))
+      (counts-trans v m u keeps.counts (counts-beside m u misses beside)) (λ some. absurd (false≢true (subst IsSome unsent some)))
+      (λ word e. absurd (false≢true (subst (λ r. is_intr r ≡ true) e refl)))
+      (λ e. (c, why.1.0, cut.word, is, pending-on why.1.0 v m u beside.3 goes cut.heard, subst (λ b. Sees kind b at cut.word v u) same (sees-on kind reads at cut.word v m u (ap {A = Hand} (λ h. h.saw) hand) beside.3 goes cut.sees)))
+      (λ waits. subst (λ b. KeepsPlace kind b v u) (and-false (not (changes o words)))
+      (place-after kind false v m u (line (λ tries. waits (sym says ∙ tries))) misses beside.1 (ap {A = Hand} (λ h. h.saw) hand) (eq-le _ _ beside.0)))
+
+-- what a call did after a look, it did from before the look on
+module _ (v w u : Shown) (looks : Looks v w) (goes : PastGoesOn v w) where
+  found-from : {step at n : ℕ} → FoundAtStep w.hand.task step at n w.past u.past → FoundAtStep v.hand.task step at n v.past u.past
+  found-from {step} {at} {n} f = subst (λ (h : Hand). FoundAtStep h.task step at n v.past u.past) looks.0 (record { past = f.past; by = f.by; found = f.found; after = λ p t. f.after p (goes p t); goes_on = f.goes_on })
+
+  sees-from : (kind : Kind) (reads : Bool) (at word : ℕ) → Sees kind reads at word w u → Sees kind reads at word v u
+  sees-from kind reads at word s = record {
+    saw = s.saw;
+    is = s.is;
+    word_is = s.word_is;
+    since = let l = s.since in let m = looks.1.3 in omega (arith, l, m);
+    by_now = s.by_now;
+    found = found-from s.found;
+    shut = s.shut;
+  }
+
+  pending-from : (why : Interrupted) → SawPending why w u → SawPending why v u
+  pending-from why s = let m = looks.1.3 in record {
+    sent = λ t is. let f = s.sent t (ap {A = Hand} (λ h. h.task) looks.0 ∙ is) in (f.0, (let l = f.1 in omega (arith, l, m)), f.2, found-from f.3);
+    taken = λ t is. let f = s.taken t (ap {A = Hand} (λ h. h.task) looks.0 ∙ is) in (f.0, (let l = f.1 in omega (arith, l, m)), f.2, found-from f.3);
+    pending = s.pending;
+  }
+
+  place-from : (kind : Kind) (s : Bool) → KeepsPlace kind s w u → KeepsPlace kind s v u
+  place-from kind s p =
+      let misses : w.hand.misses ≡ v.hand.misses = ap {A = Hand} (λ h. h.misses) looks.0 in
+      let entries : w.spin.entries ≡ v.spin.entries = looks.1.0 in record {
+        queues = λ rise same. ⊎_elim (λ (l : w.spin.entries < u.spin.entries). inl (omega (arith, l, entries)))
+            (λ (r : (s ≡ true) × IsLetIn kind w u). inr (r.0, record { once = (let o = r.1.once in omega (arith, o, misses)); saw = r.1.saw; is = r.1.is; opens = r.1.opens }))
+            (p.queues (omega (arith, rise, misses)) (same ∙ sym looks.1.1));
+        few = λ same. let l = p.few (same ∙ sym looks.1.1) in omega (arith, l, misses);
+      }
+
+  pub performs-looked : {Call : Type 0} (o : Obj Call) (kind : Kind) (at : ℕ) (k : Plan) (reply : Reply) → Performs o kind at k reply w u → Performs o kind at k reply v u
+  performs-looked o kind at k reply p = let e = looks.0 in record {
+    words = p.words;
+    rec = p.rec;
+    next = subst (λ (h : Hand). IsNextCall k h p.words) e p.next;
+    says = p.says;
+    means = subst (λ (h : Hand). IsRecord o (unavailable kind) k u.hand.seen (length h.seen) (next_entry h) p.words p.rec) e p.means;
+    after = subst (λ (h : Hand). length h.seen ≤ p.rec.k) e p.after;
+    sees = p.sees;
+    begins = subst (λ (h : Hand). Begins h u.hand.seen) e p.begins;
+    records = subst (λ (h : Hand). u.hand.records ≡ record { entry = next_entry h; rec = p.rec } ∷ h.records) e p.records;
+    task = subst (λ (h : Hand). u.hand.task ≡ h.task) e p.task;
+    done = subst (λ (h : Hand). u.hand.done ≡ h.done + 1) e p.done;
+    out = p.out;
+    accounted = p.accounted;
+    counts = counts-trans v w u (counts-beside v w (ap {A = Hand} (λ h. h.misses) e) looks.1) p.counts;
+    signals = p.signals;
+    busy = λ word is. let b = p.busy word is in (b.0, b.1, sees-from kind (o.reads b.0) at word b.2);
+    interrupted = λ is. let b = p.interrupted is in (b.0, b.1, b.2, b.3, pending-from b.1 b.4, sees-from kind (o.reads b.0) at b.2 b.5);
+    line = λ waits. place-from kind _ (p.line waits);
+  }

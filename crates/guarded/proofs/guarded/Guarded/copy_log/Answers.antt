@@ -1,0 +1,20 @@
+use Rattle.std.proofs.Common.{slice_get, ap, ◌∙◌, arith}
+use Rattle.lock_core.specs.declared.view.Hand.{Hand}
+use Rattle.guarded.proofs.Passing.{looks-trans}
+use Rattle.guarded.proofs.Copied.{log-more, log-pushed}
+use Rattle.guarded.proofs.guarded.Guarded.copy_log.Goals as goal
+
+pub loop-at-preserved : goal.loop-at-preserved
+loop-at-preserved g c =
+    let v = g.L.SleepLock.view c.args.pass.now in
+    let u = g.L.SleepLock.view c.loop-at.pass in
+    let w = g.L.SleepLock.view c.log_word.new.pass in
+    let same = c.loop-at.invariant.1.0 in
+    let inside = c.loop-at-test.true in
+    let end = c.log_len-len.ensures.value in (
+      c.log_word.ensures.own,
+      looks-trans v u w c.loop-at.invariant.1 c.log_word.ensures.kept,
+      (λ p t. c.log_word.ensures.goes_on p (c.loop-at.invariant.2 p t)),
+      log-pushed c.args.out.now c.loop-at.out c.push_log.new.self _ _ c.log_word.result c.loop-at.invariant.3 c.push_log.ensures
+          (log-more v.hand.log c.loop-at.at c.log_word.result (omega (arith, inside, end)) (λ e at. c.log_word.ensures.value e (ap {A = Hand} (λ h. slice_get h.log c.loop-at.at) same ∙ at))),
+    )

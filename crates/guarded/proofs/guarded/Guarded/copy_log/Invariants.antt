@@ -1,0 +1,12 @@
+use Rattle.std.proofs.Common.{◌≡◌, take, map}
+use Rattle.word_bits.specs.EntryWord.{entry_word}
+use Rattle.lock_core.specs.Shown.{PastGoesOn}
+use Rattle.lock_core.specs.Locking.{Looks}
+use Rattle.guarded.proofs.guarded.Guarded.copy_log.Given as goal
+
+abbrev pub invariant-loop-at : goal.invariant-loop-at
+invariant-loop-at g l =
+    g.L.SleepLock.sits l.self.lock l.pass
+    × Looks (g.L.SleepLock.view l.fn.pass) (g.L.SleepLock.view l.pass)
+    × PastGoesOn (g.L.SleepLock.view l.fn.pass) (g.L.SleepLock.view l.pass)
+    × (l.out ≡ record l.fn.out { log = map entry_word (take l.at (g.L.SleepLock.view l.fn.pass).hand.log) })

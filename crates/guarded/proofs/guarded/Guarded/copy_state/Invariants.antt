@@ -1,0 +1,11 @@
+use Rattle.std.proofs.Common.{◌≡◌, take}
+use Rattle.lock_core.specs.Shown.{PastGoesOn}
+use Rattle.lock_core.specs.Locking.{Looks}
+use Rattle.guarded.proofs.guarded.Guarded.copy_state.Given as goal
+
+abbrev pub invariant-loop-at : goal.invariant-loop-at
+invariant-loop-at g l =
+    g.L.SleepLock.sits l.self.lock l.pass
+    × Looks (g.L.SleepLock.view l.fn.pass) (g.L.SleepLock.view l.pass)
+    × PastGoesOn (g.L.SleepLock.view l.fn.pass) (g.L.SleepLock.view l.pass)
+    × (l.out ≡ record l.fn.out { state = take l.at (g.L.SleepLock.view l.fn.pass).hand.known })

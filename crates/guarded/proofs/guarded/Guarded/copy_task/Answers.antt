@@ -1,0 +1,23 @@
+use Rattle.std.proofs.Common.{◌++◌, ◌∷◌, [], sym, subst, append_assoc}
+use Rattle.lock_core.specs.declared.view.Hand.{Hand}
+use Rattle.lock_core.specs.Views.{Knows}
+use Rattle.guarded.proofs.Passing.{looks-trans}
+use Rattle.guarded.proofs.Copied.{words-more, recs-pushed}
+use Rattle.guarded.proofs.guarded.Guarded.copy_task.Goals as goal
+
+pub loop-call-preserved : goal.loop-call-preserved
+loop-call-preserved g c =
+    let v = g.L.SleepLock.view c.args.pass.now in
+    let u = g.L.SleepLock.view c.loop-call.pass in
+    let w = g.L.SleepLock.view c.rec_word.new.pass in
+    let same = c.loop-call.invariant.1.0 in
+    let words = c.loop-call.invariant.3.0 in (
+      c.rec_word.ensures.own,
+      looks-trans v u w c.loop-call.invariant.1 c.rec_word.ensures.kept,
+      (λ p t. c.rec_word.ensures.goes_on p (c.loop-call.invariant.2 p t)),
+      (
+        words ++ c.rec_word.result ∷ [],
+        words-more (g.L.SleepLock.calls_on c.args.self.now.lock) v.hand c.args.task c.loop-call.call c.rec_word.result words c.loop-call.invariant.3.1 (λ r knows. c.rec_word.ensures.known r (subst (λ (h : Hand). Knows h (record { task = c.args.task; call = c.loop-call.call }) r) (sym same) knows)) c.rec_word.ensures.made,
+        recs-pushed c.args.out.now c.loop-call.out c.push_rec.new.self (c.args.out.now.recs ++ words) (c.rec_word.result ∷ []) _ c.loop-call.invariant.3.2 c.push_rec.ensures (append_assoc c.args.out.now.recs words (c.rec_word.result ∷ [])),
+      ),
+    )

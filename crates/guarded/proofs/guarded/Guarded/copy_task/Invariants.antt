@@ -1,0 +1,12 @@
+use Rattle.std.proofs.Common.{◌≡◌, ℕ, List, ◌++◌}
+use Rattle.lock_core.specs.Shown.{PastGoesOn}
+use Rattle.lock_core.specs.Locking.{Looks}
+use Rattle.guarded.specs.Copying.{AreTaskWords}
+use Rattle.guarded.proofs.guarded.Guarded.copy_task.Given as goal
+
+abbrev pub invariant-loop-call : goal.invariant-loop-call
+invariant-loop-call g l =
+    g.L.SleepLock.sits l.self.lock l.pass
+    × Looks (g.L.SleepLock.view l.fn.pass) (g.L.SleepLock.view l.pass)
+    × PastGoesOn (g.L.SleepLock.view l.fn.pass) (g.L.SleepLock.view l.pass)
+    × ((words : List ℕ) × AreTaskWords (g.L.SleepLock.calls_on l.self.lock) (g.L.SleepLock.view l.fn.pass).hand l.task l.call words × (l.out ≡ record l.fn.out { recs = l.fn.out.recs ++ words }))

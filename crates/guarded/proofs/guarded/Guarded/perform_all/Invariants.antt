@@ -1,0 +1,17 @@
+use Rattle.std.proofs.Common.{◌≡◌, List, Some, None}
+use Rattle.word_bits.specs.declared.rec.Rec.{Rec}
+use Rattle.lock_core.specs.declared.view.Held.TheVariants.{No}
+use Rattle.lock_core.specs.Kinds.{unavailable}
+use Rattle.lock_core.specs.Shown.{PastGoesOn}
+use Rattle.guarded.specs.Gathering.{HasDoneSoFar}
+use Rattle.guarded.proofs.guarded.Guarded.perform_all.Given as goal
+
+abbrev pub invariant-loop-call : goal.invariant-loop-call
+invariant-loop-call g l =
+    g.L.SleepLock.sits l.self.lock l.pass
+    × PastGoesOn (g.L.SleepLock.view l.fn.pass) (g.L.SleepLock.view l.pass)
+    × ((g.L.SleepLock.view l.pass).hand.task ≡ Some l.task)
+    × ((g.L.SleepLock.view l.pass).hand.held ≡ No)
+    × ((g.L.SleepLock.view l.pass).hand.sent ≡ None)
+    × ((g.L.SleepLock.view l.pass).hand.consumed ≡ 0)
+    × ((rs : List Rec) × HasDoneSoFar g.O.Object.object (unavailable g.L.SleepLock.kind) (g.L.SleepLock.calls_on l.self.lock) (g.L.SleepLock.view l.pass).hand l.task l.call rs)

@@ -1,0 +1,33 @@
+use Rattle.std.proofs.Common.{sym, ◌∙◌}
+use Rattle.lock_core.specs.Locking.{held_by}
+use Rattle.guarded.proofs.Recording.{performs-served, performs-refused}
+use Rattle.guarded.proofs.guarded.Guarded.perform_known.Goals as goal
+
+pub returns-in-Err-clause-performs : goal.returns-in-Err-clause-performs
+returns-in-Err-clause-performs g c =
+    let v = g.L.SleepLock.view c.args.pass.now in
+    let m = g.L.SleepLock.view c.enter.new.pass in
+    let u = g.L.SleepLock.view c.note.new.pass in
+    let next = c.requires.next in
+    performs-refused g.O.Object.object g.L.SleepLock.kind g.L.SleepLock.word_at (g.L.SleepLock.calls_on c.args.self.now.lock) v m u c.args.next.words c.args.next.call c.reads-reads.result c.mode.result c.in-Err.reply c.note.ensures.kept.0
+    next.planned next.is c.reads-reads.ensures c.mode.ensures c.requires.no_signal (c.requires.sent, c.requires.consumed) c.in-Err.ensures.refused c.in-Err.ensures.stood c.note.ensures.kept.3.0 c.note.ensures.kept.3.1 c.note.ensures.goes_on
+
+pub returns-then-reads-clause-performs : goal.returns-then-reads-clause-performs
+returns-then-reads-clause-performs g c =
+    let v = g.L.SleepLock.view c.args.pass.now in
+    let m = g.L.SleepLock.view c.enter.new.pass in
+    let u = g.L.SleepLock.view c.serve_reading.new.pass in
+    let next = c.requires.next in
+    let got = c.in-Ok.ensures in
+    performs-served g.O.Object.object g.L.SleepLock.kind g.L.SleepLock.word_at (g.L.SleepLock.calls_on c.args.self.now.lock) v m u c.args.next.words c.args.next.call c.reads-reads.result c.serve_reading.result (held_by g.L.SleepLock.kind c.reads-reads.result)
+    next.planned next.is c.reads-reads.ensures c.requires.no_signal (c.requires.sent, c.requires.consumed) got.took (λ waits. got.line (λ tries. waits (sym c.mode.ensures ∙ tries))) c.serve_reading.ensures.served
+
+pub returns-else-reads-clause-performs : goal.returns-else-reads-clause-performs
+returns-else-reads-clause-performs g c =
+    let v = g.L.SleepLock.view c.args.pass.now in
+    let m = g.L.SleepLock.view c.enter.new.pass in
+    let u = g.L.SleepLock.view c.serve_change.new.pass in
+    let next = c.requires.next in
+    let got = c.in-Ok.ensures in
+    performs-served g.O.Object.object g.L.SleepLock.kind g.L.SleepLock.word_at (g.L.SleepLock.calls_on c.args.self.now.lock) v m u c.args.next.words c.args.next.call c.reads-reads.result c.serve_change.result (held_by g.L.SleepLock.kind c.reads-reads.result)
+    next.planned next.is c.reads-reads.ensures c.requires.no_signal (c.requires.sent, c.requires.consumed) got.took (λ waits. got.line (λ tries. waits (sym c.mode.ensures ∙ tries))) c.serve_change.ensures.served

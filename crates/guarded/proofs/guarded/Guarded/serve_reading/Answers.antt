@@ -1,0 +1,36 @@
+use Rattle.std.proofs.Common.{sym, ◌∙◌}
+use Rattle.word_bits.proofs.States.{IsLawful}
+use Rattle.guarded.proofs.Recording.{serves-looked, reading-note}
+use Rattle.lock_core.specs.LockedLaws.{shares-holds}
+use Rattle.guarded.proofs.Serving.{is-object}
+use Rattle.guarded.proofs.guarded.Guarded.serve_reading.Given as given
+use Rattle.guarded.proofs.guarded.Guarded.serve_reading.Goals as goal
+
+lawful : (g : given.Over) → IsLawful g.O.Object.object
+lawful g = record {
+  starts = g.met.O.Object.starts;
+  called = g.met.O.Object.called;
+  goes_on = g.met.O.Object.goes_on;
+  replies = g.met.O.Object.replies;
+}
+
+pub note-requires-clause-may : goal.note-requires-clause-may
+note-requires-clause-may g c =
+    let o = g.O.Object.object in
+    let k = g.L.SleepLock.calls_on c.args.self.now.lock in
+    let v = g.L.SleepLock.view c.args.pass.now in
+    let w = g.L.SleepLock.view c.look-reply.new.pass in
+    let replies = c.look-reply.ensures.read c.requires.reads in
+    reading-note o g.L.SleepLock.kind k v.hand w.hand c.args.next.words c.args.next.call c.look-reply.result c.look-reply.ensures.kept.0 c.requires.next.planned c.requires.next.is c.requires.reads (λ none. shares-holds g.L.SleepLock.kind (sym c.requires.held ∙ none)) c.requires.stored (is-object o (lawful g) k v.hand.log c.args.next.words c.args.next.call c.requires.next.is c.look-reply.result replies) replies
+
+pub returns-clause-served : goal.returns-clause-served
+returns-clause-served g c =
+    let o = g.O.Object.object in
+    let k = g.L.SleepLock.calls_on c.args.self.now.lock in
+    let v = g.L.SleepLock.view c.args.pass.now in
+    let w = g.L.SleepLock.view c.look-reply.new.pass in
+    let m = g.L.SleepLock.view c.note.new.pass in
+    let u = g.L.SleepLock.view c.release_shared.new.pass in
+    let replies = c.look-reply.ensures.read c.requires.reads in
+    serves-looked o g.L.SleepLock.kind k v w m u c.args.next.words c.args.next.call c.look-reply.result c.note.ensures.kept.0 c.requires.next.is c.requires.reads (is-object o (lawful g) k v.hand.log c.args.next.words c.args.next.call c.requires.next.is c.look-reply.result replies) replies
+    c.look-reply.ensures.kept c.note.ensures.kept.3.0 c.note.ensures.kept.3.1 c.release_shared.ensures.released

@@ -1,0 +1,46 @@
+-- What `snapshot` copies.
+use Rattle.std.specs.Prelude.{◌≡◌, ◌≢◌, ℕ, ◌<◌, List, [], ◌∷◌, ◌++◌, length, map, slice_get, Some}
+use Rattle.word_bits.specs.declared.entry.Entry.{Entry}
+use Rattle.word_bits.specs.declared.rec.Rec.{Rec}
+use Rattle.word_bits.specs.EntryWord.{entry_word}
+use Rattle.word_bits.specs.RecWord.{IsRec, rec_word}
+use Rattle.word_bits.specs.LockWords.{Unavailable}
+use Rattle.word_bits.specs.Objects.{Obj}
+use Rattle.word_bits.specs.Snapshots.{Words}
+use Rattle.word_bits.specs.Histories.{Plan, Records, state_after}
+use Rattle.word_bits.specs.Legal.{IsLegal, Tells}
+use Rattle.lock_core.specs.declared.view.Hand.{Hand}
+use Rattle.lock_core.specs.Records.{row}
+use Rattle.lock_core.specs.Views.{Knows}
+use Rattle.lock_core.specs.Chronicles.{Chronicles}
+use Rattle.lock_core.specs.Locking.{Begins}
+
+abbrev pub joined : List (List ℕ) → List ℕ
+joined [] = []
+joined (xs ∷ xss) = xs ++ joined xss
+
+-- a word for each call of a task: that of each record that the pass knows, and no other word than a record's or 0
+pub record AreTaskWords (k : Plan) (h : Hand) (t : ℕ) (count : ℕ) (words : List ℕ) : Type 0 where
+  pub many : length words ≡ count
+  pub known : (c : ℕ) (r : Rec) → c < count → Knows h (record { task = t; call = c }) r → slice_get words c ≡ Some (rec_word r)
+  pub made : (c word : ℕ) → slice_get words c ≡ Some word → word ≢ 0 → (r : Rec) × IsRec r × (word ≡ rec_word r)
+
+-- the same for so many tasks
+pub record AreRecWords (k : Plan) (h : Hand) (count : ℕ) (rows : List (List ℕ)) : Type 0 where
+  pub many : length rows ≡ count
+  pub each : (t : ℕ) → t < count → AreTaskWords k h t (length (row k t)) (row rows t)
+
+-- The words are a log that begins with what the pass had seen, the state after it, and a word for each call: that of its record, if the pass knows it.
+pub record Copies {Call : Type 0} (o : Obj Call) (unavailable : Unavailable) (k : Plan) (h : Hand) (w : Words) : Type 0 where
+  pub entries : List Entry
+  pub rows : List (List ℕ)
+  pub begins : Begins h entries
+  pub log_is : w.log ≡ map entry_word entries
+  pub state_is : w.state ≡ o.stores (state_after o k entries)
+  pub recs_are : w.recs ≡ joined rows
+  pub words : AreRecWords k h (length k) rows
+  pub chronicle : Chronicles o unavailable k h.records entries
+
+-- the words are those of records and of a log that are one thread's history, with each call once, and of the state that it leaves
+abbrev pub IsHistory : {Call : Type 0} → Obj Call → Unavailable → Plan → Words → Type 0
+IsHistory o unavailable k w = (told : Records) × (entries : List Entry) × Tells w told entries × IsLegal o unavailable k told entries w.state

@@ -1,0 +1,5 @@
+pub mod Serving
+pub mod Handles
+pub mod Performing
+pub mod Copying
+pub mod Gathering

@@ -1,0 +1,91 @@
+-- What `perform` does.
+use Rattle.std.specs.Prelude.{◌≡◌, ◌≢◌, ℕ, ◌+◌, ◌<◌, ◌≤◌, ◌&&◌, not, Bool, List, ◌∷◌, length, take, Some, None, IsSome}
+use Rattle.word_bits.specs.declared.call.CallWords.{CallWords}
+use Rattle.word_bits.specs.declared.call.Mode.{Mode}
+use Rattle.word_bits.specs.declared.call.Mode.TheVariants.{Int, Try}
+use Rattle.word_bits.specs.declared.entry.Entry.{Entry}
+use Rattle.word_bits.specs.declared.rec.Rec.{Rec}
+use Rattle.word_bits.specs.declared.reply.Reply.{Reply}
+use Rattle.word_bits.specs.declared.reply.Reply.TheVariants.{Busy, Intr, Sent}
+use Rattle.word_bits.specs.Calls.{mode_of, signal_of}
+use Rattle.word_bits.specs.Objects.{Obj, IsObjectReply}
+use Rattle.word_bits.specs.Histories.{Plan, logs, changes}
+use Rattle.word_bits.specs.Legal.{IsRecord, is_intr, seen_after}
+use Rattle.lock_core.specs.declared.how.Interrupted.{Interrupted}
+use Rattle.lock_core.specs.declared.view.Held.TheVariants.{No}
+use Rattle.lock_core.specs.declared.view.Hand.{Hand}
+use Rattle.lock_core.specs.Views.{next_entry}
+use Rattle.guarded.specs.declared.next.Next.{Next}
+use Rattle.lock_core.specs.Kinds.{Kind, unavailable}
+use Rattle.lock_core.specs.Shown.{Shown, NoCountFalls, IsNextCall}
+use Rattle.lock_core.specs.Locking.{Has, Begins, Sees, SawPending, Misses, Interrupts, KeepsPlace}
+
+-- it is the next call of the pass's task
+pub record IsNext {Call : Type 0} (o : Obj Call) (k : Plan) (h : Hand) (n : Next Call) : Type 0 where
+  pub planned : IsNextCall k h n.words
+  pub number : n.number ≡ h.done
+  pub is : o.call_of n.words ≡ Some n.call
+
+-- the guarded words are these now, and all else is as before, but that the pass may write
+abbrev pub HasStored : List ℕ → Shown → Shown → Type 0
+HasStored words v u = (writes : Bool) × Has (record v.hand { writes = writes; known = words }) v u
+
+-- no word
+abbrev pub no_word : ℕ → Type 0
+no_word word = ⊥
+
+-- why a call never held the lock, by its reply
+abbrev pub Refuses : Kind → ℕ → Mode → Bool → Reply → Shown → Shown → Type 0
+Refuses kind at mode reads (Busy word) v u = (mode ≡ Try) × Misses kind reads at word v u
+Refuses kind at mode reads Intr v u = (mode ≡ Int) × ((why : Interrupted) × Interrupts kind reads at why v u)
+Refuses kind at mode reads reply v u = ⊥
+
+-- it made this record of its task's next call, and has then seen this log
+pub record AddsRecord (rec : Rec) (seen : List Entry) (v u : Shown) : Type 0 where
+  pub task : u.hand.task ≡ v.hand.task
+  pub done : u.hand.done ≡ v.hand.done + 1
+  pub records : u.hand.records ≡ record { entry = next_entry v.hand; rec = rec } ∷ v.hand.records
+  pub seen_is : u.hand.seen ≡ seen
+  pub sent : u.hand.sent ≡ v.hand.sent
+  pub consumed : u.hand.consumed ≡ v.hand.consumed
+  pub saw : u.hand.saw ≡ v.hand.saw
+  pub misses : u.hand.misses ≡ v.hand.misses
+  pub fronts : u.fronts ≡ v.fronts
+  pub counts : NoCountFalls v u
+
+-- a pass that holds did the call, recorded it at the end of the log that it knew, and holds nothing
+pub record Serves {Call : Type 0} (o : Obj Call) (kind : Kind) (k : Plan) (words : CallWords) (reply : Reply) (v u : Shown) : Type 0 where
+  pub rec : Rec
+  pub says : rec ≡ record { k = length v.hand.log; reply = reply }
+  pub means : (seen : ℕ) → IsRecord o (unavailable kind) k u.hand.seen seen (next_entry v.hand) words rec
+  pub replies : IsObjectReply reply
+  pub begins : take (length v.hand.log) u.hand.seen ≡ v.hand.log
+  pub sees : length u.hand.seen ≡ seen_after (logs o words reply) rec
+  pub adds : AddsRecord rec u.hand.seen v u
+  pub out : u.hand.held ≡ No
+
+-- it added one record of its task's next call, which says what the call replied at its place, and holds nothing
+pub record Performs {Call : Type 0} (o : Obj Call) (kind : Kind) (at : ℕ) (k : Plan) (reply : Reply) (v u : Shown) : Type 0 where
+  pub words : CallWords
+  pub rec : Rec
+  pub next : IsNextCall k v.hand words
+  pub says : rec.reply ≡ reply
+  -- the record is lawful on the log as far as the pass has seen it now, and so on every later one
+  pub means : IsRecord o (unavailable kind) k u.hand.seen (length v.hand.seen) (next_entry v.hand) words rec
+  pub after : length v.hand.seen ≤ rec.k
+  -- it has seen what its task has seen with this record, and what it had seen begins that
+  pub sees : length u.hand.seen ≡ seen_after (logs o words reply) rec
+  pub begins : Begins v.hand u.hand.seen
+  pub records : u.hand.records ≡ record { entry = next_entry v.hand; rec = rec } ∷ v.hand.records
+  pub task : u.hand.task ≡ v.hand.task
+  pub done : u.hand.done ≡ v.hand.done + 1
+  pub out : u.hand.held ≡ No
+  pub accounted : (u.hand.sent ≡ None) × (u.hand.consumed ≡ 0)
+  pub counts : NoCountFalls v u
+  -- a signal is sent, and nothing else is
+  pub signals : IsSome (signal_of words) → reply ≡ Sent
+  -- a try of this call saw the word of a busy call, and steps of an interrupted one saw the signal and that the lock was taken
+  pub busy : (word : ℕ) → reply ≡ Busy word → (c : Call) × (o.call_of words ≡ Some c) × Sees kind (o.reads c) at word v u
+  pub interrupted : reply ≡ Intr → (c : Call) × (why : Interrupted) × (word : ℕ) × (o.call_of words ≡ Some c) × SawPending why v u × Sees kind (o.reads c) at word v u
+  -- a call that waits keeps its place in line
+  pub line : mode_of words ≢ Try → KeepsPlace kind (not (changes o words) && not (is_intr reply)) v u

@@ -1,0 +1,170 @@
+//! Copies of what an object's table has, and what a copy is that was made when all calls were done.
+ghost use Rattle.std.specs.Prelude.{◌≡◌, ◌≢◌, ℕ, ◌+◌, ◌<◌, ◌≤◌, List, [], ◌++◌, length, map, None, Some, IsSome};
+ghost use Rattle.word_bits.specs.declared.rec.Rec.{Rec as Record};
+ghost use Rattle.word_bits.specs.EntryWord.{entry_word};
+ghost use Rattle.lock_core.specs.declared.view.Held.TheVariants.{No};
+ghost use Rattle.lock_core.specs.Plans.{calls_in};
+ghost use Rattle.lock_core.specs.Records.{row};
+ghost use Rattle.lock_core.specs.Chronicles.{Chronicles};
+ghost use Rattle.lock_core.specs.Kinds.{unavailable};
+ghost use Rattle.lock_core.specs.Shown.{PastGoesOn};
+ghost use Rattle.lock_core.specs.Locking.{Looks, Keeps};
+ghost use Rattle.guarded.specs.Handles.{lock_of};
+ghost use Rattle.guarded.specs.Copying.{Copies, IsHistory, AreTaskWords, AreRecWords, joined};
+ghost use Rattle.guarded.specs.Gathering.{IsGathered, HasDone};
+
+use crate::guarded::Guarded;
+use crate::lock::SleepLock;
+use crate::served::Served;
+use cpu_task::{Crew, Gate};
+use std::sync::Wait;
+use word_bits::{Object, Snapshot};
+
+impl<L: SleepLock<O>, O: Served + Drop> Guarded<L, O> {
+    /// Copies the records, the log and the state after it, with the lock held alone. The log begins
+    /// with what the pass had seen, and each record that the pass knows is there.
+    ///
+    /// If the pass knows the records that all tasks made, the copy is a legal history: one thread's,
+    /// with each call once.
+    pub fn snapshot<W: Wait, C: Crew>(
+        &self,
+        rt: &W,
+        pass: &mut L::Pass,
+        cpu: &mut C::C,
+        crew: &C,
+        out: &mut Snapshot,
+    )
+        requires own { L.sits (lock_of self.now) pass.old }
+        requires numbered { IsSome (L.view pass.old).hand.task }
+        requires out { (L.view pass.old).hand.held ≡ No }
+        requires empty { (out.old.recs ≡ []) × (out.old.log ≡ []) × (out.old.state ≡ []) }
+        requires recs_room { calls_in (L.calls_on (lock_of self.now)) ≤ out.old.recs_room }
+        requires log_room { calls_in (L.calls_on (lock_of self.now)) ≤ out.old.log_room }
+        requires state_room { O.WORDS ≤ out.old.state_room }
+        ensures own { L.sits (lock_of self.now) pass.new }
+        ensures goes_on { PastGoesOn (L.view pass.old) (L.view pass.new) }
+        ensures kept { Keeps (L.view pass.old) (L.view pass.new) }
+        ensures signals { (L.view pass.new).hand.consumed ≡ (L.view pass.old).hand.consumed }
+        ensures out { (L.view pass.new).hand.held ≡ No }
+        ensures copied { Copies O.object (unavailable L.kind) (L.calls_on (lock_of self.now))
+            (L.view pass.old).hand out.new }
+        ensures legal { IsGathered O.object (unavailable L.kind) (L.calls_on (lock_of self.now))
+            (L.view pass.old).hand →
+            IsHistory O.object (unavailable L.kind) (L.calls_on (lock_of self.now)) out.new }
+    {
+        self.lock.alone(rt, pass, cpu, crew);
+        // While the pass holds alone nobody records a call that held, so records, log and words are
+        // those of one moment.
+        self.copy_log(pass, out);
+        self.copy_records(pass, out);
+        self.copy_state(pass, out);
+        self.lock.release_alone(rt, pass, crew);
+    }
+
+    /// Copies the log, which the pass knows.
+    fn copy_log(&self, pass: &mut L::Pass, out: &mut Snapshot)
+        requires own { L.sits (lock_of self.now) pass.old }
+        requires held { (L.view pass.old).hand.held ≢ No }
+        requires empty { out.old.log ≡ [] }
+        requires room { length (L.view pass.old).hand.log ≤ out.old.log_room }
+        ensures own { L.sits (lock_of self.now) pass.new }
+        ensures goes_on { PastGoesOn (L.view pass.old) (L.view pass.new) }
+        ensures kept { Looks (L.view pass.old) (L.view pass.new) }
+        ensures copied { out.new ≡
+            record out.old { log = map entry_word (L.view pass.old).hand.log } }
+        ensures history { Chronicles O.object (unavailable L.kind)
+            (L.calls_on (lock_of self.now))
+            (L.view pass.old).hand.records (L.view pass.old).hand.log }
+    {
+        let len = self.lock.log_len(pass);
+        for at in 0..len {
+            out.push_log(self.lock.log_word(pass, at));
+        }
+    }
+
+    /// Copies the words of all records, task by task.
+    fn copy_records(&self, pass: &mut L::Pass, out: &mut Snapshot)
+        requires own { L.sits (lock_of self.now) pass.old }
+        requires empty { out.old.recs ≡ [] }
+        requires room { calls_in (L.calls_on (lock_of self.now)) ≤ out.old.recs_room }
+        ensures own { L.sits (lock_of self.now) pass.new }
+        ensures goes_on { PastGoesOn (L.view pass.old) (L.view pass.new) }
+        ensures kept { Looks (L.view pass.old) (L.view pass.new) }
+        ensures copied { (rows : List (List ℕ)) × AreRecWords (L.calls_on (lock_of self.now))
+            (L.view pass.old).hand (length (L.calls_on (lock_of self.now))) rows ×
+            (out.new ≡ record out.old { recs = joined rows }) }
+    {
+        for task in 0..self.lock.tasks() {
+            self.copy_task(pass, task, out);
+        }
+    }
+
+    /// Appends the word of each record of a task's calls, and 0 for a call without one.
+    fn copy_task(&self, pass: &mut L::Pass, task: u32, out: &mut Snapshot)
+        requires own { L.sits (lock_of self.now) pass.old }
+        requires there { task < length (L.calls_on (lock_of self.now)) }
+        requires room { length out.old.recs +
+            length (row (L.calls_on (lock_of self.now)) task) ≤ out.old.recs_room }
+        ensures own { L.sits (lock_of self.now) pass.new }
+        ensures goes_on { PastGoesOn (L.view pass.old) (L.view pass.new) }
+        ensures kept { Looks (L.view pass.old) (L.view pass.new) }
+        ensures copied { (words : List ℕ) × AreTaskWords (L.calls_on (lock_of self.now))
+            (L.view pass.old).hand task
+            (length (row (L.calls_on (lock_of self.now)) task)) words ×
+            (out.new ≡ record out.old { recs = out.old.recs ++ words }) }
+    {
+        for call in 0..self.lock.calls(task) {
+            out.push_rec(self.lock.rec_word(pass, task, call));
+        }
+    }
+
+    /// Copies the guarded words.
+    fn copy_state(&self, pass: &mut L::Pass, out: &mut Snapshot)
+        requires own { L.sits (lock_of self.now) pass.old }
+        requires held { (L.view pass.old).hand.held ≢ No }
+        requires sized { length (L.view pass.old).hand.known ≡ O.WORDS }
+        requires empty { out.old.state ≡ [] }
+        requires room { O.WORDS ≤ out.old.state_room }
+        ensures own { L.sits (lock_of self.now) pass.new }
+        ensures goes_on { PastGoesOn (L.view pass.old) (L.view pass.new) }
+        ensures kept { Looks (L.view pass.old) (L.view pass.new) }
+        ensures copied { out.new ≡ record out.old { state = (L.view pass.old).hand.known } }
+    {
+        for at in 0..O::WORDS {
+            out.push_state(self.lock.word(pass, at));
+        }
+    }
+
+    /// Does all calls of a task, of which none is done.
+    pub fn perform_all<W: Wait, C: Crew, G: Gate>(
+        &self,
+        rt: &W,
+        pass: &mut L::Pass,
+        cpu: &mut C::C,
+        crew: &C,
+        gate: &G,
+        task: u32,
+    )
+        requires own { L.sits (lock_of self.now) pass.old }
+        requires there { task < length (L.calls_on (lock_of self.now)) }
+        requires numbered { (L.view pass.old).hand.task ≡ Some task }
+        requires none_done { (L.view pass.old).hand.done ≡ 0 }
+        requires none_seen { length (L.view pass.old).hand.seen ≡ 0 }
+        requires out { (L.view pass.old).hand.held ≡ No }
+        requires sent { (L.view pass.old).hand.sent ≡ None }
+        requires consumed { (L.view pass.old).hand.consumed ≡ 0 }
+        ensures own { L.sits (lock_of self.now) pass.new }
+        ensures goes_on { PastGoesOn (L.view pass.old) (L.view pass.new) }
+        ensures numbered { (L.view pass.new).hand.task ≡ Some task }
+        ensures out { (L.view pass.new).hand.held ≡ No }
+        ensures sent { (L.view pass.new).hand.sent ≡ None }
+        ensures consumed { (L.view pass.new).hand.consumed ≡ 0 }
+        ensures done { (rs : List Record) × HasDone O.object (unavailable L.kind)
+            (L.calls_on (lock_of self.now)) (L.view pass.new).hand task rs ×
+            (length rs ≡ length (row (L.calls_on (lock_of self.now)) task)) }
+    {
+        for call in 0..self.lock.calls(task) {
+            self.perform(rt, pass, cpu, crew, gate, call);
+        }
+    }
+}

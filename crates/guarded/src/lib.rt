@@ -1,0 +1,14 @@
+//! Objects under locks.
+#![tactic(auto)]
+
+mod copying;
+mod guarded;
+mod loading;
+mod lock;
+mod next;
+mod perform;
+mod served;
+
+pub use guarded::Guarded;
+pub use lock::SleepLock;
+pub use served::Served;

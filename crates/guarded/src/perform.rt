@@ -1,0 +1,453 @@
+//! Calls on an object, under its lock.
+ghost use Rattle.std.specs.Prelude.{◌≡◌, ◌≢◌, ◌<◌, ◌≤◌, Bool, true, false, length, slice_index, slice_set, take, None, Some, IsSome, IfOk, IfErr};
+ghost use Rattle.word_bits.specs.declared.call.Mode.TheVariants.{Int, Try};
+ghost use Rattle.word_bits.specs.Calls.{signal_of};
+ghost use Rattle.word_bits.specs.Histories.{state_after};
+ghost use Rattle.lock_core.specs.declared.view.Held.TheVariants.{No, Alone};
+ghost use Rattle.lock_core.specs.Records.{row};
+ghost use Rattle.lock_core.specs.Views.{committed, next_entry};
+ghost use Rattle.lock_core.specs.Kinds.{shares};
+ghost use Rattle.lock_core.specs.Shown.{IsNextCall, PastGoesOn};
+ghost use Rattle.lock_core.specs.Locking.{HasSince, Looks, Takes, KeepsPlace, Releases, IsStored, held_by};
+ghost use Rattle.guarded.specs.Handles.{lock_of};
+ghost use Rattle.guarded.specs.Performing.{IsNext, Refuses, Serves, Performs, HasStored, no_word};
+
+use crate::guarded::Guarded;
+use crate::loading::{load_words, value_of};
+use crate::lock::SleepLock;
+use crate::next::Next;
+use crate::served::Served;
+use cpu_task::{Crew, Gate};
+use lock_core::Held;
+use std::sync::Wait;
+use word_bits::{CallWords, Mode, Object, Reply};
+
+impl<L: SleepLock<O>, O: Served + Drop> Guarded<L, O> {
+    /// Does the next call of the pass's task on the object, and records it: under a shared hold where
+    /// it reads, alone where it changes the object. A call that downgrades is recorded while the pass
+    /// holds alone, and looks at the object again beside others.
+    ///
+    /// The gate sees the task once, while it holds, unless the call couldn't have the lock. `Busy` is
+    /// the reply of a call that doesn't wait, `Intr` of one that a signal interrupted, and `Sent` of a
+    /// signal. The pass holds nothing afterwards.
+    pub fn perform<W: Wait, C: Crew, G: Gate>(
+        &self,
+        rt: &W,
+        pass: &mut L::Pass,
+        cpu: &mut C::C,
+        crew: &C,
+        gate: &G,
+        call: u32,
+    ) -> Reply
+        requires own { L.sits (lock_of self.now) pass.old }
+        requires numbered { IsSome (L.view pass.old).hand.task }
+        requires next { call ≡ (L.view pass.old).hand.done }
+        requires there { call <
+            length (row (L.calls_on (lock_of self.now)) (next_entry (L.view pass.old).hand).task) }
+        requires out { (L.view pass.old).hand.held ≡ No }
+        requires sent { (L.view pass.old).hand.sent ≡ None }
+        requires consumed { (L.view pass.old).hand.consumed ≡ 0 }
+        ensures own { L.sits (lock_of self.now) pass.new }
+        ensures goes_on { PastGoesOn (L.view pass.old) (L.view pass.new) }
+        ensures performs { Performs O.object L.kind L.word_at (L.calls_on (lock_of self.now))
+            result (L.view pass.old) (L.view pass.new) }
+    {
+        let task = match self.lock.task(pass) {
+            Some(task) => task,
+            None => unreachable!(),
+        };
+        let words = self.lock.call(pass, task, call);
+        match (words.signal(), O::call_of(words)) {
+            (Some(target), _) => self.send(pass, call, words, target),
+            (None, Some(known)) => {
+                let next = Next {
+                    number: call,
+                    words,
+                    call: known,
+                };
+                self.perform_known(rt, pass, cpu, crew, gate, next)
+            }
+            (None, None) => unreachable!(),
+        }
+    }
+
+    /// Sends a signal, and records it.
+    fn send(&self, pass: &mut L::Pass, call: u32, words: CallWords, target: u32) -> Reply
+        requires own { L.sits (lock_of self.now) pass.old }
+        requires next { IsNextCall (L.calls_on (lock_of self.now)) (L.view pass.old).hand words }
+        requires call { call ≡ (L.view pass.old).hand.done }
+        requires out { (L.view pass.old).hand.held ≡ No }
+        requires sent { (L.view pass.old).hand.sent ≡ None }
+        requires consumed { (L.view pass.old).hand.consumed ≡ 0 }
+        requires there { target < 64 }
+        requires signal { signal_of words ≡ Some target }
+        ensures own { L.sits (lock_of self.now) pass.new }
+        ensures goes_on { PastGoesOn (L.view pass.old) (L.view pass.new) }
+        ensures performs { Performs O.object L.kind L.word_at (L.calls_on (lock_of self.now))
+            result (L.view pass.old) (L.view pass.new) }
+    {
+        let _ = words;
+        self.lock.signal(pass, target);
+        // Until its record is there the signal counts as sent by this pass, so none is lost or counted
+        // twice whoever consumes it first.
+        self.lock.note(pass, call, Reply::Sent);
+        Reply::Sent
+    }
+
+    /// Does a call of the object, and records it.
+    fn perform_known<W: Wait, C: Crew, G: Gate>(
+        &self,
+        rt: &W,
+        pass: &mut L::Pass,
+        cpu: &mut C::C,
+        crew: &C,
+        gate: &G,
+        next: Next<O::Call>,
+    ) -> Reply
+        requires own { L.sits (lock_of self.now) pass.old }
+        requires next { IsNext O.object (L.calls_on (lock_of self.now))
+            (L.view pass.old).hand next }
+        requires out { (L.view pass.old).hand.held ≡ No }
+        requires sent { (L.view pass.old).hand.sent ≡ None }
+        requires consumed { (L.view pass.old).hand.consumed ≡ 0 }
+        requires no_signal { signal_of next.words ≡ None }
+        ensures own { L.sits (lock_of self.now) pass.new }
+        ensures goes_on { PastGoesOn (L.view pass.old) (L.view pass.new) }
+        ensures performs { Performs O.object L.kind L.word_at (L.calls_on (lock_of self.now))
+            result (L.view pass.old) (L.view pass.new) }
+    {
+        let reads = O::reads(next.call);
+        match self.enter(rt, pass, cpu, crew, next.words.mode(), reads) {
+            Err(reply) => {
+                self.lock.note(pass, next.number, reply);
+                reply
+            }
+            Ok(()) => {
+                if reads {
+                    self.serve_reading(rt, pass, crew, gate, next)
+                } else {
+                    self.serve_change(rt, pass, crew, gate, next)
+                }
+            }
+        }
+    }
+
+    /// Takes the lock as a call of this mode does. `Err` has the reply of one that couldn't have it.
+    fn enter<W: Wait, C: Crew>(
+        &self,
+        rt: &W,
+        pass: &mut L::Pass,
+        cpu: &mut C::C,
+        crew: &C,
+        mode: Mode,
+        reads: bool,
+    ) -> Result<(), Reply>
+        requires own { L.sits (lock_of self.now) pass.old }
+        requires numbered { IsSome (L.view pass.old).hand.task }
+        requires out { (L.view pass.old).hand.held ≡ No }
+        ensures own { L.sits (lock_of self.now) pass.new }
+        ensures goes_on { PastGoesOn (L.view pass.old) (L.view pass.new) }
+        ensures took { IfOk result (λ _. Takes O.object (L.calls_on (lock_of self.now))
+            (held_by L.kind reads) (L.view pass.old) (L.view pass.new)) }
+        ensures line { IfOk result (λ _. mode ≢ Try →
+            KeepsPlace L.kind reads (L.view pass.old) (L.view pass.new)) }
+        ensures refused { IfErr result (λ reply. Refuses L.kind L.word_at mode reads reply
+            (L.view pass.old) (L.view pass.new)) }
+        ensures stood { IfErr result (λ _. mode ≢ Try →
+            KeepsPlace L.kind false (L.view pass.old) (L.view pass.new)) }
+    {
+        match mode {
+            Mode::Plain => {
+                self.wait(rt, pass, cpu, crew, reads);
+                Ok(())
+            }
+            Mode::Int => self.wait_int(rt, pass, cpu, crew, reads),
+            Mode::Try => self.try_once(rt, pass, reads),
+        }
+    }
+
+    /// Waits for the lock.
+    fn wait<W: Wait, C: Crew>(
+        &self,
+        rt: &W,
+        pass: &mut L::Pass,
+        cpu: &mut C::C,
+        crew: &C,
+        reads: bool,
+    )
+        requires own { L.sits (lock_of self.now) pass.old }
+        requires numbered { IsSome (L.view pass.old).hand.task }
+        requires out { (L.view pass.old).hand.held ≡ No }
+        ensures own { L.sits (lock_of self.now) pass.new }
+        ensures goes_on { PastGoesOn (L.view pass.old) (L.view pass.new) }
+        ensures took { Takes O.object (L.calls_on (lock_of self.now))
+            (held_by L.kind reads) (L.view pass.old) (L.view pass.new) }
+        ensures line { KeepsPlace L.kind reads (L.view pass.old) (L.view pass.new) }
+    {
+        if reads {
+            self.lock.shared(rt, pass, cpu, crew);
+        } else {
+            self.lock.alone(rt, pass, cpu, crew);
+        }
+    }
+
+    /// Waits for the lock until a signal interrupts it.
+    fn wait_int<W: Wait, C: Crew>(
+        &self,
+        rt: &W,
+        pass: &mut L::Pass,
+        cpu: &mut C::C,
+        crew: &C,
+        reads: bool,
+    ) -> Result<(), Reply>
+        requires own { L.sits (lock_of self.now) pass.old }
+        requires numbered { IsSome (L.view pass.old).hand.task }
+        requires out { (L.view pass.old).hand.held ≡ No }
+        ensures own { L.sits (lock_of self.now) pass.new }
+        ensures goes_on { PastGoesOn (L.view pass.old) (L.view pass.new) }
+        ensures took { IfOk result (λ _. Takes O.object (L.calls_on (lock_of self.now))
+            (held_by L.kind reads) (L.view pass.old) (L.view pass.new)) }
+        ensures line { IfOk result (λ _.
+            KeepsPlace L.kind reads (L.view pass.old) (L.view pass.new)) }
+        ensures refused { IfErr result (λ reply. Refuses L.kind L.word_at Int reads reply
+            (L.view pass.old) (L.view pass.new)) }
+        ensures stood { IfErr result (λ _.
+            KeepsPlace L.kind false (L.view pass.old) (L.view pass.new)) }
+    {
+        let got = if reads {
+            self.lock.shared_int(rt, pass, cpu, crew)
+        } else {
+            self.lock.alone_int(rt, pass, cpu, crew)
+        };
+        match got {
+            Ok(_) => Ok(()),
+            Err(_) => Err(Reply::Intr),
+        }
+    }
+
+    /// Takes the lock if that is possible at once.
+    fn try_once<W: Wait>(&self, rt: &W, pass: &mut L::Pass, reads: bool) -> Result<(), Reply>
+        requires own { L.sits (lock_of self.now) pass.old }
+        requires numbered { IsSome (L.view pass.old).hand.task }
+        requires out { (L.view pass.old).hand.held ≡ No }
+        ensures own { L.sits (lock_of self.now) pass.new }
+        ensures goes_on { PastGoesOn (L.view pass.old) (L.view pass.new) }
+        ensures took { IfOk result (λ _. Takes O.object (L.calls_on (lock_of self.now))
+            (held_by L.kind reads) (L.view pass.old) (L.view pass.new)) }
+        ensures refused { IfErr result (λ reply. Refuses L.kind L.word_at Try reads reply
+            (L.view pass.old) (L.view pass.new)) }
+    {
+        let got = if reads {
+            self.lock.try_shared(rt, pass)
+        } else {
+            self.lock.try_alone(rt, pass)
+        };
+        match got {
+            Ok(()) => Ok(()),
+            Err(word) => Err(Reply::Busy(word)),
+        }
+    }
+
+    /// Does a call that reads, with the lock held, and lets go.
+    fn serve_reading<W: Wait, C: Crew, G: Gate>(
+        &self,
+        rt: &W,
+        pass: &mut L::Pass,
+        crew: &C,
+        gate: &G,
+        next: Next<O::Call>,
+    ) -> Reply
+        requires own { L.sits (lock_of self.now) pass.old }
+        requires held { (L.view pass.old).hand.held ≡ shares L.kind }
+        requires quiet { (L.view pass.old).hand.writes ≡ false }
+        requires stored { IsStored O.object (L.calls_on (lock_of self.now))
+            (L.view pass.old).hand }
+        requires unsent { (L.view pass.old).hand.sent ≡ None }
+        requires next { IsNext O.object (L.calls_on (lock_of self.now))
+            (L.view pass.old).hand next }
+        requires reads { O.object.reads next.call ≡ true }
+        ensures own { L.sits (lock_of self.now) pass.new }
+        ensures goes_on { PastGoesOn (L.view pass.old) (L.view pass.new) }
+        ensures served { Serves O.object L.kind (L.calls_on (lock_of self.now)) next.words result
+            (L.view pass.old) (L.view pass.new) }
+    {
+        self.show(rt, pass, gate);
+        let reply = O::look(&self.lock, pass, next.call);
+        // Recorded before the hold ends: no change can come between the call and its place in the log.
+        self.lock.note(pass, next.number, reply);
+        self.lock.release_shared(rt, pass, crew);
+        reply
+    }
+
+    /// Does a call that changes the object, with the lock held alone, and lets go.
+    fn serve_change<W: Wait, C: Crew, G: Gate>(
+        &self,
+        rt: &W,
+        pass: &mut L::Pass,
+        crew: &C,
+        gate: &G,
+        next: Next<O::Call>,
+    ) -> Reply
+        requires own { L.sits (lock_of self.now) pass.old }
+        requires held { (L.view pass.old).hand.held ≡ Alone }
+        requires quiet { (L.view pass.old).hand.writes ≡ false }
+        requires stored { IsStored O.object (L.calls_on (lock_of self.now))
+            (L.view pass.old).hand }
+        requires unsent { (L.view pass.old).hand.sent ≡ None }
+        requires next { IsNext O.object (L.calls_on (lock_of self.now))
+            (L.view pass.old).hand next }
+        requires changes { O.object.reads next.call ≡ false }
+        ensures own { L.sits (lock_of self.now) pass.new }
+        ensures goes_on { PastGoesOn (L.view pass.old) (L.view pass.new) }
+        ensures served { Serves O.object L.kind (L.calls_on (lock_of self.now)) next.words result
+            (L.view pass.old) (L.view pass.new) }
+    {
+        let reply = self.change(pass, next);
+        if O::downgrades(next.call) {
+            self.look_again(rt, pass, crew, gate, next.call, reply)
+        } else {
+            self.show(rt, pass, gate);
+            self.lock.release_alone(rt, pass, crew);
+            reply
+        }
+    }
+
+    /// Looks at what a call has just changed, beside others that look, and lets go. The reply is the
+    /// one that the call had.
+    fn look_again<W: Wait, C: Crew, G: Gate>(
+        &self,
+        rt: &W,
+        pass: &mut L::Pass,
+        crew: &C,
+        gate: &G,
+        known: O::Call,
+        reply: Reply,
+    ) -> Reply
+        requires own { L.sits (lock_of self.now) pass.old }
+        requires held { (L.view pass.old).hand.held ≡ Alone }
+        requires quiet { (L.view pass.old).hand.writes ≡ false }
+        requires stored { IsStored O.object (L.calls_on (lock_of self.now))
+            (L.view pass.old).hand }
+        requires valid { O.object.IsCall known }
+        requires downgrades { O.downgrades known ≡ true }
+        requires done { (s : O.object.State) × O.object.IsState s ×
+            ((O.object.meaning s known).0 ≡ state_after O.object
+            (L.calls_on (lock_of self.now)) (L.view pass.old).hand.log) ×
+            (reply ≡ (O.object.meaning s known).1) }
+        ensures own { L.sits (lock_of self.now) pass.new }
+        ensures goes_on { PastGoesOn (L.view pass.old) (L.view pass.new) }
+        ensures reply { result ≡ reply }
+        ensures released { Releases no_word (L.view pass.old) (L.view pass.new) }
+    {
+        // No moment without the lock: another change could come in between, and the pages that are
+        // counted would not be those that the call left.
+        self.lock.downgrade(rt, pass, crew);
+        self.show(rt, pass, gate);
+        let found = self.found(pass, known, reply);
+        self.lock.release_shared(rt, pass, crew);
+        found
+    }
+
+    /// What a call finds that has just replied so. A refused one doesn't look.
+    fn found(&self, pass: &mut L::Pass, known: O::Call, reply: Reply) -> Reply
+        requires own { L.sits (lock_of self.now) pass.old }
+        requires held { (L.view pass.old).hand.held ≢ No }
+        requires stored { IsStored O.object (L.calls_on (lock_of self.now))
+            (L.view pass.old).hand }
+        requires valid { O.object.IsCall known }
+        requires downgrades { O.downgrades known ≡ true }
+        requires done { (s : O.object.State) × O.object.IsState s ×
+            ((O.object.meaning s known).0 ≡ state_after O.object
+            (L.calls_on (lock_of self.now)) (L.view pass.old).hand.log) ×
+            (reply ≡ (O.object.meaning s known).1) }
+        ensures own { L.sits (lock_of self.now) pass.new }
+        ensures goes_on { PastGoesOn (L.view pass.old) (L.view pass.new) }
+        ensures kept { Looks (L.view pass.old) (L.view pass.new) }
+        ensures reply { result ≡ reply }
+    {
+        match reply {
+            Reply::Refused(_) => reply,
+            _ => O::look(&self.lock, pass, known),
+        }
+    }
+
+    /// Does a call that changes the object, and records it.
+    fn change(&self, pass: &mut L::Pass, next: Next<O::Call>) -> Reply
+        requires own { L.sits (lock_of self.now) pass.old }
+        requires held { (L.view pass.old).hand.held ≡ Alone }
+        requires stored { IsStored O.object (L.calls_on (lock_of self.now))
+            (L.view pass.old).hand }
+        requires unsent { (L.view pass.old).hand.sent ≡ None }
+        requires next { IsNext O.object (L.calls_on (lock_of self.now))
+            (L.view pass.old).hand next }
+        requires changes { O.object.reads next.call ≡ false }
+        ensures own { L.sits (lock_of self.now) pass.new }
+        ensures goes_on { PastGoesOn (L.view pass.old) (L.view pass.new) }
+        ensures reply { let s = state_after O.object
+            (L.calls_on (lock_of self.now)) (L.view pass.old).hand.log in
+            result ≡ (O.object.meaning s next.call).1 }
+        ensures kept { let s = state_after O.object
+            (L.calls_on (lock_of self.now)) (L.view pass.old).hand.log in
+            HasSince (λ step. committed (record (L.view pass.old).hand {
+              known = O.object.stores (O.object.meaning s next.call).0;
+            })
+            step (next_entry (L.view pass.old).hand) result)
+            (L.view pass.old) (L.view pass.new) }
+    {
+        let words = load_words::<O, L>(&self.lock, pass);
+        let mut value = value_of::<O>(&words);
+        let reply = value.apply(next.call);
+        self.store(pass, &words, &value);
+        // The words and the log change under one hold, so whoever holds next finds that they agree.
+        self.lock.commit(pass, next.number, reply);
+        reply
+    }
+
+    /// Writes those words that store the value and that aren't there yet. `old` has the words that
+    /// are there.
+    fn store(&self, pass: &mut L::Pass, old: &[u64; 257], value: &O)
+        requires own { L.sits (lock_of self.now) pass.old }
+        requires held { (L.view pass.old).hand.held ≡ Alone }
+        requires long { length old.now ≡ 257 }
+        requires sized { length (L.view pass.old).hand.known ≡ O.WORDS }
+        requires there { take O.WORDS old.now ≡ (L.view pass.old).hand.known }
+        ensures own { L.sits (lock_of self.now) pass.new }
+        ensures goes_on { PastGoesOn (L.view pass.old) (L.view pass.new) }
+        ensures stored { HasStored (O.object.stores (O.state value.now))
+            (L.view pass.old) (L.view pass.new) }
+    {
+        let mut words = [0; 257];
+        let stored = &mut words[..O::WORDS];
+        value.store(stored);
+        for at in 0..O::WORDS {
+            self.store_word(pass, at, old[at], stored[at]);
+        }
+    }
+
+    /// Writes a guarded word where it changes.
+    fn store_word(&self, pass: &mut L::Pass, at: usize, old: u64, new: u64)
+        requires own { L.sits (lock_of self.now) pass.old }
+        requires held { (L.view pass.old).hand.held ≡ Alone }
+        requires inside { at < O.WORDS }
+        requires within { at < length (L.view pass.old).hand.known }
+        requires there { slice_index (L.view pass.old).hand.known at ≡ old }
+        ensures own { L.sits (lock_of self.now) pass.new }
+        ensures goes_on { PastGoesOn (L.view pass.old) (L.view pass.new) }
+        ensures stored { HasStored (slice_set (L.view pass.old).hand.known at new)
+            (L.view pass.old) (L.view pass.new) }
+    {
+        if new != old {
+            self.lock.set_word(pass, at, new);
+        }
+    }
+
+    /// Lets the gate see the task, which holds.
+    fn show<W: Wait, G: Gate>(&self, rt: &W, pass: &L::Pass, gate: &G)
+        requires { L.sits (lock_of self.now) pass.now }
+    {
+        let shared = self.lock.held(pass) == Held::Shared;
+        if let Some(task) = self.lock.task(pass) {
+            gate.inside(rt, self.object, task, shared);
+        }
+    }
+}

@@ -1,0 +1,140 @@
+//! The objects that tasks are served.
+ghost use Rattle.std.specs.Prelude.{◌≡◌, ◌≢◌, ◌⊎◌, Bool, true, false};
+ghost use Rattle.word_bits.specs.PageMaps.{PageMap, IsPageMap};
+ghost use Rattle.word_bits.specs.declared.reply.Errno.{Errno};
+ghost use Rattle.word_bits.specs.declared.reply.Reply.TheVariants.{Refused};
+ghost use Rattle.word_bits.specs.Histories.{state_after};
+ghost use Rattle.lock_core.specs.declared.view.Held.TheVariants.{No};
+ghost use Rattle.lock_core.specs.Shown.{PastGoesOn};
+ghost use Rattle.lock_core.specs.Locking.{Looks, IsStored};
+ghost use Rattle.vma_map.specs.Runs.{AreRuns, page_map};
+ghost use Rattle.vma_map.specs.Spaces.{IsAccess, AreSpaceWords, access_reply, stores};
+ghost use Rattle.guarded.specs.Serving.{readable_from, share};
+
+use crate::loading::{load_words, value_of};
+use crate::lock::SleepLock;
+use fd_table::{Fds, TableCall};
+use vma_map::{Areas, SpaceCall, find};
+use word_bits::{Area, Object, Reply};
+
+/// An object that a task looks at while others may do so too.
+pub trait Served: Object {
+    ghost downgrades: { Self.Call → Bool };
+
+    /// Whether the call changes the object and then looks at it, for which a shared hold is enough.
+    fn downgrades(call: Self::Call) -> bool
+        ensures { result ≡ downgrades call };
+
+    /// What the call finds, by the guarded words: what a reading call replies, and what a call that
+    /// downgrades has replied if it has just been done and wasn't refused.
+    fn look<L: SleepLock<Self>>(lock: &L, pass: &mut L::Pass, call: Self::Call) -> Reply
+        requires own { L.sits lock.now pass.old }
+        requires held { (L.view pass.old).hand.held ≢ No }
+        requires stored { IsStored Self.object (L.calls_on lock.now) (L.view pass.old).hand }
+        requires valid { Self.object.IsCall call }
+        requires looks { (Self.object.reads call ≡ true) ⊎ (downgrades call ≡ true) }
+        ensures own { L.sits lock.now pass.new }
+        ensures goes_on { PastGoesOn (L.view pass.old) (L.view pass.new) }
+        ensures kept { Looks (L.view pass.old) (L.view pass.new) }
+        ensures read { Self.object.reads call ≡ true →
+            let s = state_after Self.object (L.calls_on lock.now) (L.view pass.old).hand.log in
+            result ≡ (Self.object.meaning s call).1 }
+        ensures done { downgrades call ≡ true →
+            (s : Self.object.State) → Self.object.IsState s →
+            (Self.object.meaning s call).0 ≡
+            state_after Self.object (L.calls_on lock.now) (L.view pass.old).hand.log →
+            ((errno : Errno) → (Self.object.meaning s call).1 ≢ Refused errno) →
+            result ≡ (Self.object.meaning s call).1 };
+
+    // A call that downgrades doesn't read.
+    ghost changes: { (call : Self.Call) →
+        downgrades call ≡ true → Self.object.reads call ≡ false };
+}
+
+impl Served for Fds {
+    ghost use Rattle.guarded.specs.Serving.{no_call, nothing_downgrades};
+
+    ghost downgrades = { no_call };
+
+    fn downgrades(_call: TableCall) -> bool {
+        false
+    }
+
+    fn look<L: SleepLock<Fds>>(lock: &L, pass: &mut L::Pass, call: TableCall) -> Reply {
+        let words = load_words::<Fds, L>(lock, pass);
+        let mut table = value_of::<Fds>(&words);
+        table.apply(call)
+    }
+
+    ghost changes = { nothing_downgrades };
+}
+
+/// What an access meets at a page of this protection.
+fn meet(prot: Option<u8>, access: u8) -> Reply
+    requires { IsAccess access }
+    ensures { result ≡ access_reply prot access }
+{
+    match prot {
+        None => Reply::MapErr,
+        Some(prot) if prot / access % 2 == 1 => Reply::Good,
+        Some(_) => Reply::AccErr,
+    }
+}
+
+/// What a fault finds, by the words that store a space.
+fn fault(words: &[u64], page: u32, access: u8) -> Reply
+    requires space { AreSpaceWords words.now }
+    requires access { IsAccess access }
+    ensures { (m : PageMap) → IsPageMap m → stores m ≡ words.now →
+        result ≡ access_reply (m page) access }
+{
+    meet(find(words, page).map(|area| area.prot), access)
+}
+
+/// How many pages of a range admit reading, run by run.
+fn readable_pages(areas: &[Area], start: u32, len: u32) -> u32
+    requires { AreRuns areas.now }
+    ensures { result ≡ readable_from (page_map areas.now) start len }
+{
+    let end = start.saturating_add(len);
+    let mut count = 0;
+    for area in areas {
+        count += readable_between(*area, start, end);
+    }
+    count
+}
+
+/// How many pages of the area lie between two and admit reading.
+fn readable_between(area: Area, start: u32, end: u32) -> u32
+    ensures { result ≡ share area start end }
+{
+    if area.prot % 2 == 1 {
+        area.end.min(end).saturating_sub(area.start.max(start))
+    } else {
+        0
+    }
+}
+
+impl Served for Areas {
+    ghost use Rattle.guarded.specs.Serving.{is_populate, populates_change};
+
+    ghost downgrades = { is_populate };
+
+    fn downgrades(call: SpaceCall) -> bool {
+        matches!(call, SpaceCall::Populate { .. })
+    }
+
+    fn look<L: SleepLock<Areas>>(lock: &L, pass: &mut L::Pass, call: SpaceCall) -> Reply {
+        let words = load_words::<Areas, L>(lock, pass);
+        match call {
+            SpaceCall::Fault { page, access } => fault(&words, page, access),
+            SpaceCall::Populate { start, len, .. } => {
+                let space = value_of::<Areas>(&words);
+                Reply::Num(readable_pages(space.runs(), start, len))
+            }
+            _ => unreachable!(),
+        }
+    }
+
+    ghost changes = { populates_change };
+}

@@ -1,0 +1,75 @@
+-- What the word of a lock states of its passes, whatever else its table has.
+use Rattle.std.specs.Prelude.{◌≡◌, ◌≢◌, ℕ, ◌+◌, ◌/◌, ◌%◌, ◌^◌, ◌<◌, ◌≤◌, List, [], Contains, slice_index, Some}
+use mathlib.Core.Option.{some}
+use lib.ListN.{get_elem?}
+use Rattle.word_bits.specs.Objects.{Obj}
+use Rattle.word_bits.specs.Histories.{Plan}
+use Rattle.lock_core.specs.declared.view.Hand.{Hand}
+use Rattle.lock_core.specs.declared.view.SpinHand.{SpinHand}
+use Rattle.lock_core.specs.declared.view.Held.{Held}
+use Rattle.lock_core.specs.declared.view.Held.TheVariants.{No, Shared, Alone}
+use Rattle.lock_core.specs.declared.view.Moment.{Moment}
+use Rattle.lock_core.specs.Layout.{site}
+use Rattle.lock_core.specs.Parts.{Each}
+use Rattle.lock_core.specs.Pasts.{After, Paced}
+use Rattle.lock_core.specs.Sites.{SiteStep}
+use Rattle.lock_core.specs.Stated.{IsSiteThen}
+use Rattle.lock_core.specs.Totals.{total}
+use Rattle.lock_core.specs.Views.{SpinHolds, alone_of}
+use Rattle.lock_core.specs.Kinds.{Kind, mutex, semaphore, unavailable}
+
+-- no pass holds the wait lock
+abbrev pub IsWaitLockFree : List SpinHand → Type 0
+IsWaitLockFree spins = Each (λ s. SpinHolds s → ⊥) spins
+
+-- a pass that doesn't hold has the task's number
+abbrev pub IsOutside : List Hand → ℕ → Type 0
+IsOutside hs t = (i : ℕ) × (h : Hand) × (get_elem? hs i ≡ some h) × (h.task ≡ Some t) × (h.held ≡ No)
+
+-- While the wait lock is free, the flag is set exactly where tasks wait, each of them outside.
+pub record FlagStates (flag : ℕ) (hs : List Hand) (spins : List SpinHand) (waiting : List ℕ) : Type 0 where
+  pub set : IsWaitLockFree spins → flag ≡ 1 → waiting ≢ []
+  pub clear : IsWaitLockFree spins → flag ≢ 1 → waiting ≡ []
+  pub outside : IsWaitLockFree spins → (t : ℕ) → Contains waiting t → IsOutside hs t
+
+-- An owner word names exactly the task that holds, unless it picks one.
+pub record OwnerStates (word : ℕ) (hs : List Hand) : Type 0 where
+  pub named : Each (λ h. h.held ≢ No → (h.held ≡ Alone) × (word % 8 < 4) × ((t : ℕ) × (h.task ≡ Some t) × (word / 8 ≡ t + 1))) hs
+  pub held : 8 ≤ word → word % 8 < 4 → (i : ℕ) × (h : Hand) × (get_elem? hs i ≡ some h) × (h.held ≡ Alone)
+
+abbrev pub shared_of : Hand → ℕ
+shared_of h = go h.held
+  where
+    go : Held → ℕ
+    go No = 0
+    go Shared = 1
+    go Alone = 0
+
+-- A count has its writer's bit exactly where a pass holds alone, and counts each pass that holds shared.
+pub record CountStates (word : ℕ) (hs : List Hand) : Type 0 where
+  pub writer : word % 2 ≡ total alone_of hs
+  pub readers : total shared_of hs ≤ word % 2 ^ 63 / 256
+
+-- the lock's word states who holds, and whether tasks wait
+abbrev pub WordStates : Kind → ℕ → List Hand → List SpinHand → List ℕ → Type 0
+WordStates mutex word hs spins waiting = OwnerStates word hs × FlagStates (word % 2) hs spins waiting
+WordStates semaphore word hs spins waiting = CountStates word hs × FlagStates (word / 2 % 2) hs spins waiting
+
+-- what is so of a lock's table at this moment, where these tasks wait: the facts of every site, and that its word, which stands at this place, states who holds and whether tasks wait
+pub record IsLockedThen {Call : Type 0} (o : Obj Call) (kind : Kind) (size : ℕ) (k : Plan) (at : ℕ) (waits : Plan → Moment → List ℕ → Type 0) (m : Moment) : Type 0 where
+  pub is_site : IsSiteThen o (unavailable kind) size k m
+  pub waiting : List ℕ
+  pub are : waits k m waiting
+  pub states : WordStates kind (slice_index m.words at) m.hands m.spins waiting
+
+-- one pass led from the first moment to the second, in one counted step that did to the site's words what every step of a site does
+pub record IsSiteStep (k : Plan) (x y : Moment) : Type 0 where
+  pub id : ℕ
+  pub before : Hand
+  pub after : Hand
+  pub at : get_elem? x.hands id ≡ some before
+  pub at' : get_elem? y.hands id ≡ some after
+  pub steps : SiteStep (site k x.words) (site k y.words) before after
+  pub had : ℕ
+  pub had_steps : get_elem? x.steps id ≡ some had
+  pub has_steps : get_elem? y.steps id ≡ some (had + 1)

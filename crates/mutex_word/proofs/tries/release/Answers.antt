@@ -1,0 +1,24 @@
+use Rattle.std.proofs.Common.{subst, sym, ap, refl, ◌∙◌, ◌<◌, ◌≤◌, ◌≡◌, Option, Some, None, Bool, ℕ, IfSome, inl, arith}
+use Rattle.lock_core.specs.declared.pass.Face.{Face}
+use Rattle.lock_core.specs.declared.view.View.{View}
+use Rattle.mutex_word.specs.declared.host.Turn.TheVariants.{Free, Hand as HandOn}
+use Rattle.mutex_word.specs.Tries.{IsReleased, IsHanded, IsMine, Left}
+use Rattle.mutex_word.proofs.Table.{owner-of, released-flags, handed-on, handed-left}
+use Rattle.mutex_word.proofs.tries.release.Goals as goal
+
+pub release_step-requires : goal.release_step-requires
+release_step-requires g c = owner-of c.loop.word c.loop.invariant.7.0
+
+pub returns-in_default-clause-asked : goal.returns-in_default-clause-asked
+returns-in_default-clause-asked g c = (subst (λ (t : Option ℕ). IsMine t c.loop.word) c.requires.own.task c.loop.invariant.7, subst (IsReleased c.loop.word) c.in_default.is (released-flags c.loop.word c.loop.invariant.7.0 c.loop.invariant.7.1 c.release_step.result c.release_step.ensures.flags), (c.loop.invariant.8, c.loop.invariant.9, c.loop.invariant.10))
+
+pub leave-found-requires-clause-left : goal.leave-found-requires-clause-left
+leave-found-requires-clause-left g c = let r = subst (IsReleased c.loop.word) c.in-Some-release_step.is (released-flags c.loop.word c.loop.invariant.7.0 c.loop.invariant.7.1 c.release_step.result c.release_step.ensures.flags) in let few = r.0 in let is = r.1 in inl (omega (arith, few, is))
+
+pub leave-found-requires-clause-may : goal.leave-found-requires-clause-may
+leave-found-requires-clause-may g c = let r = subst (IsReleased c.loop.word) c.in-Some-release_step.is (released-flags c.loop.word c.loop.invariant.7.0 c.loop.invariant.7.1 c.release_step.result c.release_step.ensures.flags) in
+    subst (λ (v : View _). g.H.OwnerHost.may_own Free v c.loop.word c.in-Some-release_step.flags) (sym c.loop.invariant.10) (c.requires.may c.loop.invariant.8 c.loop.word c.in-Some-release_step.flags (subst (λ (t : Option ℕ). IsMine t c.loop.word) c.requires.own.task c.loop.invariant.7) r.0 r.1)
+
+pub returns-then-found-word-clause-left : goal.returns-then-found-word-clause-left
+returns-then-found-word-clause-left g c = let r = subst (IsReleased c.loop.word) c.in-Some-release_step.is (released-flags c.loop.word c.loop.invariant.7.0 c.loop.invariant.7.1 c.release_step.result c.release_step.ensures.flags) in let few = r.0 in let is = r.1 in
+    (omega (arith, few, is), (c.loop.invariant.8, c.loop.invariant.9, subst (λ (v : View _). Left g.H.OwnerHost.turned Free v c.in-Some-release_step.flags c.leave-found.new.pass.seat.me.0.view) c.loop.invariant.10 (c.leave-found.ensures.left c.if-found-word.true)))

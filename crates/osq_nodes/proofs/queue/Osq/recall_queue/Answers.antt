@@ -1,0 +1,22 @@
+use Rattle.std.proofs.Common.{subst, length}
+use Rattle.word_bits.specs.Histories.{Plan}
+use Rattle.lock_core.specs.Pasts.{Moves, Ran, opening}
+use Rattle.lock_core.specs.RunLaws.{ran-each, ran-so}
+use Rattle.osq_nodes.specs.Places.{node_marks}
+use Rattle.osq_nodes.specs.Stated.{IsSpinQueue}
+use Rattle.osq_nodes.specs.Ruled.{OsqKept, OsqMoves, IsOsqMove, idle, newest, no_calls}
+use Rattle.osq_nodes.specs.RuledLaws.{osq-states}
+use Rattle.osq_nodes.proofs.Chaining.{becomes}
+use Rattle.osq_nodes.proofs.queue.Osq.recall_queue.Goals as goal
+
+pub returns-clause-always : goal.returns-clause-always
+returns-clause-always c = let k = c.args.self.now.site.table.shared.key in let own = c.recall.ensures.last in
+    ran-each node_marks (OsqKept k) (OsqMoves k) (IsSpinQueue (length k)) (osq-states k) (opening node_marks k idle) own.now own.before own.rest _ own.past_is c.recall.ensures.run
+
+pub returns-clause-queues : goal.returns-clause-queues
+returns-clause-queues c = let k = c.args.self.now.site.table.shared.key in let past = c.recall.new.pass.seat.me.0.past in
+    becomes (length k) past (subst (λ (z : Plan). Ran node_marks (opening node_marks z idle) (Moves (OsqKept z) (OsqMoves z)) past) c.args.self.now.plain c.recall.ensures.run)
+
+pub returns-clause-counts : goal.returns-clause-counts
+returns-clause-counts c = let k = c.args.self.now.site.table.shared.key in let n = length k in let past = c.recall.new.pass.seat.me.0.past in
+    ran-so node_marks (newest n) (Moves (OsqKept (no_calls n)) (OsqMoves (no_calls n))) (IsOsqMove n) (λ x y m. (m.0, m.3)) past (subst (λ (z : Plan). Ran node_marks (opening node_marks z idle) (Moves (OsqKept z) (OsqMoves z)) past) c.args.self.now.plain c.recall.ensures.run)

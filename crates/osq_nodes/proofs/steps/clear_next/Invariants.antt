@@ -1,0 +1,5 @@
+use Rattle.osq_nodes.specs.declared.node.Place.TheVariants.{Cleared}
+use Rattle.osq_nodes.proofs.steps.clear_next.Given as goal
+
+abbrev pub ghosts-step : goal.ghosts-step
+ghosts-step a = record { to = λ p n. Cleared; tells = λ _. Unit {0} }

@@ -1,0 +1,18 @@
+use Rattle.std.proofs.Common.{arith, length, refl}
+use Rattle.lock_core.specs.declared.op.Op.TheVariants.{Load}
+use Rattle.osq_nodes.specs.declared.node.Place.TheVariants.{Waiting}
+use Rattle.osq_nodes.specs.Words.{locked_at}
+use Rattle.osq_nodes.specs.Steps.{look_place}
+use Rattle.osq_nodes.proofs.Owning.{its-task, moves-by}
+use Rattle.osq_nodes.proofs.Locals
+use Rattle.osq_nodes.proofs.steps.is_granted.Goals as goal
+
+pub locked_of-requires : goal.locked_of-requires
+locked_of-requires c = its-task c.args.osq.now.site.table.shared.key c.args.osq.now.site.table.shared.table_id c.args.pass.now.pass.seat.table_id c.args.pass.now.pass.seat.me c.args.pass.now.pass.face c.args.task c.args.osq.now.site.small.tasks c.requires.own c.requires.mine
+
+pub step-requires-clause-inside : goal.step-requires-clause-inside
+step-requires-clause-inside c = let l = its-task c.args.osq.now.site.table.shared.key c.args.osq.now.site.table.shared.table_id c.args.pass.now.pass.seat.table_id c.args.pass.now.pass.seat.me c.args.pass.now.pass.face c.args.task c.args.osq.now.site.small.tasks c.requires.own c.requires.mine in let e = c.locked_of.ensures in omega (arith, l, e)
+
+pub step-requires-clause-keeps : goal.step-requires-clause-keeps
+step-requires-clause-keeps c = moves-by (length c.args.osq.now.site.table.shared.key) c.args.task c.args.pass.now.pass.face.task Waiting c.args.pass.now.pass.seat.me.0.view.ext.place (locked_at c.args.task) c.locked_of.result Load Load look_place look_place (λ _. Unit {0})
+    c.requires.mine c.requires.here c.locked_of.ensures refl refl (Locals.looks-granted (length c.args.osq.now.site.table.shared.key) c.args.task)

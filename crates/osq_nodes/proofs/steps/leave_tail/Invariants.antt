@@ -1,0 +1,7 @@
+use Rattle.osq_nodes.specs.Steps.{try_place}
+use Rattle.lock_core.specs.Ops.{first_of}
+use Rattle.osq_nodes.specs.declared.node.Place.TheVariants.{Out}
+use Rattle.osq_nodes.proofs.steps.leave_tail.Given as goal
+
+abbrev pub ghosts-step : goal.ghosts-step
+ghosts-step a = record { to = λ p n. try_place p Out (first_of a.op) n; tells = λ _. Unit {0} }

@@ -1,0 +1,15 @@
+use Rattle.std.proofs.Common.{ap, arith}
+use Rattle.lock_core.specs.Pasts.{unseen}
+use Rattle.osq_nodes.proofs.Sitting.{stays-on}
+use Rattle.osq_nodes.proofs.Owning.{lets-numbered}
+use Rattle.osq_nodes.proofs.words.step.Goals as goal
+
+pub step-requires-clause-lets : goal.step-requires-clause-lets
+step-requires-clause-lets g c = let pass = c.args.pass.now.pass in
+    lets-numbered c.args.osq.now.site.table.shared.key c.args.osq.now.site.table.shared.table_id.slots pass.seat.id c.args.word pass.face.task (unseen pass.seat.me) c.args.op (g.L.Leads.to pass.seat.me.0.view.ext.place) g.L.Leads.tells
+    c.requires.numbered c.requires.own.sits.task c.requires.inside c.requires.keeps
+
+pub returns-clause-own : goal.returns-clause-own
+returns-clause-own g c = let told = c.step.ensures.told in let pass = c.args.pass.now.pass in let new = c.step.new.pass in
+    stays-on c.args.osq.now.site.table.shared.key c.args.osq.now.site.table.shared.table_id pass.seat.table_id new.seat.table_id pass.seat.me new.seat.me pass.face new.face
+    c.step.ensures.own.0 told.0.1 (ap (λ v. v.hand) told.0.0) (ap (λ v. v.spin) told.0.0) (let e = ap (λ v. v.steps) told.0.0 in omega (arith, e)) c.step.ensures.face c.requires.own

@@ -1,0 +1,10 @@
+pub mod Words
+pub mod Places
+pub mod Stated
+pub mod Kept
+pub mod Walks
+pub mod Ruled
+pub mod RuledLaws
+pub mod Steps
+pub mod Passes
+pub mod Handles

@@ -1,0 +1,43 @@
+//! The rule of a table that is a spin queue.
+ghost use Rattle.std.specs.Prelude.{◌≡◌};
+ghost use Rattle.osq_nodes.specs.declared.node.Place.TheVariants.{Out};
+ghost use Rattle.lock_core.specs.Barely.{never};
+ghost use Rattle.osq_nodes.specs.Places.{node_marks};
+ghost use Rattle.osq_nodes.specs.Ruled.{OsqKept, OsqMoves, idle};
+ghost use Rattle.osq_nodes.specs.RuledLaws.{osq-site, osq-sites, osq-opens, osq-splits, osq-joins};
+
+use crate::node::Node;
+use lock_core::{Nothing, SiteRule};
+
+/// The rule of a spin queue. It guards nothing, and no task has a call.
+pub struct QueueRule;
+
+impl SiteRule for QueueRule {
+    type O = Nothing;
+
+    type Ext = Node;
+
+    ghost unavailable = { never };
+
+    ghost holds = { OsqKept };
+
+    ghost moves = { OsqMoves };
+
+    ghost marks = { node_marks };
+
+    ghost idle = { idle };
+
+    ghost rests = { λ v. v.ext.place ≡ Out };
+
+    ghost site_kept = { osq-site };
+
+    ghost site_moves = { λ k id ws us vs vs' there step. step.site };
+
+    ghost sites = { osq-sites };
+
+    ghost opens = { osq-opens };
+
+    ghost splits = { osq-splits };
+
+    ghost joins = { λ k ws vs id other v w r at apart at' mine theirs there step. osq-joins k ws vs id other v w r at apart at' theirs.2 there step };
+}

@@ -1,0 +1,14 @@
+use Rattle.std.proofs.Common.{◌≡◌, ℕ, suc, length, refl, ap, arith}
+use Rattle.lock_core.specs.declared.op.Op.TheVariants.{Store}
+use Rattle.osq_nodes.specs.declared.node.Place.TheVariants.{Out, Relinking}
+use Rattle.osq_nodes.specs.Words.{next_at}
+use Rattle.osq_nodes.proofs.Owning.{kept-by, moves-by}
+use Rattle.osq_unqueue.proofs.Unqueueing.{relinks-next}
+use Rattle.osq_unqueue.proofs.steps.relink.Goals as goal
+
+pub step-requires-clause-keeps : goal.step-requires-clause-keeps
+step-requires-clause-keeps c = moves-by (length c.args.osq.now.site.table.shared.key) c.args.task c.args.pass.now.pass.face.task (Relinking c.args.prev c.args.next) c.args.pass.now.pass.seat.me.0.view.ext.place (next_at c.args.prev) c.next_of.result (Store (suc c.args.next)) (Store c.code.result) (λ _. Out) (λ _. Out) (λ _. Unit {0})
+    c.requires.mine c.requires.here c.next_of.ensures (ap (λ (x : ℕ). Store x) (let e : suc c.args.next ≡ c.code.result = omega (arith, c.code.ensures) in e)) refl (relinks-next (length c.args.osq.now.site.table.shared.key) c.args.task c.args.prev c.args.next)
+
+pub returns-clause-kept : goal.returns-clause-kept
+returns-clause-kept c = kept-by c.args.pass.now.pass.seat.me.0.view c.step.new.pass.pass.seat.me.0.view (Relinking c.args.prev c.args.next) (λ p n. Out) c.step.result c.step.ensures.kept c.requires.here

@@ -1,0 +1,5 @@
+use Rattle.osq_nodes.specs.declared.node.Place.TheVariants.{Out}
+use Rattle.osq_unqueue.proofs.steps.relink.Given as goal
+
+abbrev pub ghosts-step : goal.ghosts-step
+ghosts-step a = record { to = λ p n. Out; tells = λ _. Unit {0} }

@@ -1,0 +1,6 @@
+pub mod Tickets
+pub mod Listing
+pub mod Appending
+pub mod Removing
+pub mod Parting
+pub mod Finding

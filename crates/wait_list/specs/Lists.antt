@@ -1,0 +1,298 @@
+-- A list of waiters, and its words: the code of the first waiter, how many there are, and from the eighth on a ticket for each task.
+use Rattle.std.specs.Prelude.{nat_lt, Option, Some, None, IsTrue, ◌↔◌, ◌/◌, ◌≡◌, ◌≢◌, ℕ, ◌+◌, ◌-◌, ◌*◌, ◌%◌, ◌<◌, ◌≤◌, ◌==◌, ◌⊎◌, Bool, true, false, List, [], ◌∷◌, ◌++◌, length, slice_index, slice_set, if◌then◌else◌}
+use Rattle.lock_core.specs.declared.view.SpinHand.{SpinHand}
+use Rattle.lock_core.specs.declared.view.View.{View}
+use Rattle.lock_core.specs.Records.{bit}
+use Rattle.lock_core.specs.Totals.{total}
+use Rattle.lock_core.specs.Spins.{holds_in}
+use Rattle.lock_core.specs.declared.view.Moment.{Moment}
+use Rattle.lock_core.specs.Pasts.{FoundAt}
+use Rattle.word_bits.specs.declared.TheConstants.{MAX_TASKS}
+use Rattle.wait_list.specs.declared.words.TheConstants.{LIST_WORDS}
+use mathlib.Core.Option.{some}
+use lib.ListN.{get_elem?}
+use Rattle.lock_core.specs.Parts.{Each}
+use Rattle.wait_list.specs.declared.view.Waiter.{Waiter}
+use Rattle.wait_list.specs.declared.view.Change.{Change}
+use Rattle.wait_list.specs.declared.view.Change.TheVariants.{Stay, Enter, Leave}
+use Rattle.wait_list.specs.declared.view.ListHand.{ListHand}
+
+abbrev pub first_code : List Waiter → ℕ
+first_code [] = 0
+first_code (w ∷ ws) = w.task + 1
+
+-- the code of a waiter's task
+abbrev pub waiter_code : Option Waiter → ℕ
+waiter_code None = 0
+waiter_code (Some w) = w.task + 1
+
+-- who waits first
+abbrev pub first_of : List Waiter → Option Waiter
+first_of [] = None
+first_of (w ∷ ws) = Some w
+
+-- who waits behind a task
+abbrev pub next_of : ℕ → List Waiter → Option Waiter
+next_of t [] = None
+next_of t (w ∷ ws) = if w.task == t then first_of ws else next_of t ws
+
+-- the ticket of a task whose list begins at a place: 0 where it isn't there
+abbrev pub ticket_from : ℕ → List Waiter → ℕ → ℕ
+ticket_from n [] t = 0
+ticket_from n (w ∷ ws) t = if w.task == t then 2 * n + bit w.writer else ticket_from (n + 1) ws t
+
+-- the list without a task
+abbrev pub without : ℕ → List Waiter → List Waiter
+without t [] = []
+without t (w ∷ ws) = if w.task == t then ws else w ∷ without t ws
+
+-- how often the task stands in it
+abbrev pub counted : ℕ → List Waiter → ℕ
+counted t [] = 0
+counted t (w ∷ ws) = bit (w.task == t) + counted t ws
+
+abbrev pub changed : Change → List Waiter → List Waiter
+changed Stay l = l
+changed (Enter w) l = l ++ w ∷ []
+changed (Leave t) l = without t l
+
+abbrev pub AreTasks : List Waiter → Type 0
+AreTasks [] = Unit {0}
+AreTasks (w ∷ ws) = (w.task < MAX_TASKS) × AreTasks ws
+
+-- tasks, none twice
+pub record IsList (l : List Waiter) : Type 0 where
+  pub small : AreTasks l
+  pub once : (t : ℕ) → counted t l ≤ 1
+
+-- the words are those of the list
+pub record Lists (words : List ℕ) (l : List Waiter) : Type 0 where
+  pub first : slice_index words 0 ≡ first_code l
+  pub number : slice_index words 1 ≡ length l
+  pub tickets : (t : ℕ) → t < MAX_TASKS → slice_index words (8 + t) ≡ ticket_from 1 l t
+
+-- what concerns the list of a view
+abbrev pub Part : Type 0
+Part = SpinHand × ListHand
+
+abbrev pub changes_of : Part → ℕ
+changes_of p = bit p.1.changes
+
+abbrev pub takes_of : Part → ℕ
+takes_of p = holds_in p.0
+
+abbrev pub no_list : ListHand
+no_list = record { list = []; words = []; since = 0; changes = false; leaver = 0 }
+
+-- while the words change, the first word is that of the list, or 0, or names the waiter that leaves
+abbrev pub IsNear : List ℕ → List Waiter → ℕ → Type 0
+IsNear words l leaver = (slice_index words 0 ≡ first_code l) ⊎ (slice_index words 0 ≡ 0) ⊎ (slice_index words 0 ≡ leaver)
+
+-- it knows the list since it took the spin lock
+abbrev pub Knows : Part → Type 0
+Knows p = (holds_in p.0 ≡ 1) × (p.1.since ≡ p.0.entries)
+
+pub record PartOk (words : List ℕ) (l : List Waiter) (p : Part) : Type 0 where
+  pub past : p.1.since ≤ p.0.entries
+  pub knows : Knows p → (p.1.list ≡ l) × (p.1.words ≡ words)
+  pub changes : p.1.changes ≡ true → Knows p × IsNear words l p.1.leaver
+
+pub record ListKept (words : List ℕ) (l : List Waiter) (ps : List Part) : Type 0 where
+  pub wide : length words ≡ LIST_WORDS
+  pub sound : IsList l
+  pub quiet : total changes_of ps ≡ 0 → Lists words l
+  pub each : Each (PartOk words l) ps
+
+-- the words that it knows are those of the list that it knows
+abbrev pub HasWords : ListHand → Type 0
+HasWords b = Lists b.words b.list
+
+-- a change that leaves a list of tasks, none twice
+abbrev pub Allowed : Change → List Waiter → Type 0
+Allowed Stay l = Unit {0}
+Allowed (Enter w) l = (w.task < MAX_TASKS) × (counted w.task l ≡ 0)
+Allowed (Leave t) l = 0 < counted t l
+
+-- who makes the change: a pass with the spin lock
+abbrev pub HasLock : ℕ → List Part → Type 0
+HasLock id ps = (p : Part) × (get_elem? ps id ≡ some p) × (holds_in p.0 ≡ 1)
+
+abbrev pub MadeBy : Change → ℕ → List Part → Type 0
+MadeBy Stay id ps = Unit {0}
+MadeBy (Enter w) id ps = HasLock id ps
+MadeBy (Leave t) id ps = HasLock id ps
+
+-- what a step of the pass of this number does to the list: nothing, or it appends one waiter, or removes one
+pub record ListMoves (id : ℕ) (words : List ℕ) (ps : List Part) (words' : List ℕ) (ps' : List Part) : Type 0 where
+  pub list : List Waiter
+  pub list' : List Waiter
+  pub old : ListKept words list ps
+  pub new : ListKept words' list' ps'
+  pub change : Change
+  pub allowed : Allowed change list
+  pub made : MadeBy change id ps
+  pub is : list' ≡ changed change list
+
+module _ {E : Type 0} where
+  abbrev pub list_part : (E → ListHand) → View E → Part
+  list_part list v = (v.spin, list v.ext)
+
+  -- what its view knows of the list
+  abbrev pub hand_at : (E → ListHand) → View E → ListHand
+  hand_at list v = list v.ext
+
+  -- it is between no two stores of a change
+  abbrev pub IsStill : (E → ListHand) → View E → Type 0
+  IsStill list v = (list v.ext).changes ≡ false
+
+  -- it has only made steps
+  abbrev pub only_steps : View E → View E → Type 0
+  only_steps v u = u ≡ record v { steps = u.steps }
+
+  -- a step on the list
+  abbrev pub listed : (Change → View E → ListHand → E) → Change → View E → ListHand → View E
+  listed with_list c v b = record v { steps = v.steps + 1; ext = with_list c v b }
+
+  -- a load of the first word
+  abbrev pub sighted : (View E → ℕ → E) → View E → ℕ → View E
+  sighted saw_first v n = record v { steps = v.steps + 1; ext = saw_first v n }
+
+-- whose code the first word may still be
+abbrev pub LeaverGoes : Change → ℕ → ℕ → Type 0
+LeaverGoes Stay old new = (new ≡ old) ⊎ (new ≡ 0)
+LeaverGoes (Enter w) old new = new ≡ 0
+LeaverGoes (Leave t) old new = new ≡ t + 1
+
+-- What a load under the spin lock tells: it knows the list from then on, and stays by what it knew.
+pub record Learnt (p : Part) (b : ListHand) : Type 0 where
+  pub knows : Knows (p.0, b)
+  pub same : Knows p → b ≡ p.1
+  pub changes : b.changes ≡ p.1.changes
+  pub leaver : LeaverGoes Stay p.1.leaver b.leaver
+  pub wide : length b.words ≡ LIST_WORDS
+  pub sound : IsList b.list
+  pub lists : b.changes ≡ false → Lists b.words b.list
+
+-- a pass that knows the list may store a word, and knows this then
+pub record MayStore (p : Part) (i n : ℕ) (c : Change) (b : ListHand) : Type 0 where
+  pub knows : Knows p
+  pub since : b.since ≡ p.1.since
+  pub list : b.list ≡ changed c p.1.list
+  pub words : b.words ≡ slice_set p.1.words i n
+  pub leaver : LeaverGoes c p.1.leaver b.leaver
+  pub near : b.changes ≡ true → IsNear b.words b.list b.leaver
+  pub done : b.changes ≡ false → Lists b.words b.list
+
+-- the waiter of a ticket that is stored at this place
+abbrev pub waiter_of : ℕ → ℕ → Waiter
+waiter_of at ticket = record { task = at - 8; writer = ticket % 2 == 1 }
+
+-- of a pass that begins to append, or to remove, by the ticket that it stores
+abbrev pub entering : ListHand → ℕ → ℕ → ListHand
+entering b at n = record b { list = b.list ++ waiter_of at n ∷ []; words = slice_set b.words at n; changes = true; leaver = 0 }
+
+abbrev pub leaving : ListHand → ℕ → ℕ → ListHand
+leaving b at n = record b { list = without (at - 8) b.list; words = slice_set b.words at n; changes = true; leaver = at - 8 + 1 }
+
+-- it goes on, and ends
+abbrev pub going_on : ListHand → ℕ → ℕ → ListHand
+going_on b at n = record b { words = slice_set b.words at n }
+
+abbrev pub ending : ListHand → ℕ → ℕ → ListHand
+ending b at n = record b { words = slice_set b.words at n; changes = false; leaver = 0 }
+
+module _ {E : Type 0} (list : E → ListHand) (with_list : Change → View E → ListHand → E) where
+  -- the waiter is the last
+  pub record Appends (v : View E) (w : Waiter) (u : View E) : Type 0 where
+    pub was : List Waiter
+    pub hand : ListHand
+    pub before : Knows (list_part list v) → was ≡ (list v.ext).list
+    pub sound : IsList was
+    pub fresh : counted w.task was ≡ 0
+    pub now : hand.list ≡ was ++ w ∷ []
+    pub since : hand.since ≡ v.spin.entries
+    pub still : hand.changes ≡ false
+    pub wide : length hand.words ≡ LIST_WORDS
+    pub is : Lists hand.words hand.list
+    pub view : u ≡ record v { steps = u.steps; ext = with_list (Enter w) v hand }
+
+module _ {E : Type 0} (list : E → ListHand) where
+  -- it knows the words, which it is changing
+  pub record ChangesWords (v : View E) : Type 0 where
+    pub changes : (list v.ext).changes ≡ true
+    pub knows : Knows (list_part list v)
+    pub near : IsNear (list v.ext).words (list v.ext).list (list v.ext).leaver
+
+module _ {E : Type 0} (list : E → ListHand) (with_list : Change → View E → ListHand → E) where
+  -- it has learnt what this word is
+  abbrev pub LearntWord : View E → ℕ → ℕ → View E → Type 0
+  LearntWord v at n u = (b : ListHand) × Learnt (list_part list v) b × (n ≡ slice_index b.words at) × (u ≡ listed with_list Stay v b)
+
+-- a ticket after the waiter at this place left
+abbrev pub shifted : ℕ → ℕ → ℕ
+shifted place ticket = if nat_lt place (ticket / 2) then ticket - 2 else ticket
+
+abbrev pub shift_at : ListHand → ℕ → ℕ → ListHand
+shift_at b at place = record b { words = slice_set b.words at (shifted place (slice_index b.words at)) }
+
+module _ {E : Type 0} (list : E → ListHand) (with_list : Change → View E → ListHand → E) where
+  -- the ticket at this word is lowered where it lies behind
+  abbrev pub Shifts : View E → ℕ → ℕ → View E → Type 0
+  Shifts v at place u = u ≡ record v { steps = u.steps; ext = with_list Stay v (shift_at (list v.ext) at place) }
+
+  -- so are the first so many tickets
+  pub record ShiftsAll (v : View E) (place i : ℕ) (u : View E) : Type 0 where
+    pub view : u ≡ record v { steps = u.steps; ext = with_list Stay v (list u.ext) }
+    pub list_is : (list u.ext).list ≡ (list v.ext).list
+    pub since : (list u.ext).since ≡ (list v.ext).since
+    pub changes : (list u.ext).changes ≡ (list v.ext).changes
+    pub leaver : (list u.ext).leaver ≡ (list v.ext).leaver
+    pub wide : length (list u.ext).words ≡ length (list v.ext).words
+    pub done : (t : ℕ) → t < i → slice_index (list u.ext).words (8 + t) ≡ shifted place (slice_index (list v.ext).words (8 + t))
+    pub left : (j : ℕ) → (j < 8) ⊎ (8 + i ≤ j) → slice_index (list u.ext).words j ≡ slice_index (list v.ext).words j
+
+-- the waiter whose ticket has this place, where one has
+abbrev pub IsAtPlace : List ℕ → ℕ → Option Waiter → Type 0
+IsAtPlace words place (Some w) = (w.task < MAX_TASKS) × (slice_index words (8 + w.task) ≡ 2 * place + bit w.writer)
+IsAtPlace words place None = (t : ℕ) → t < MAX_TASKS → slice_index words (8 + t) / 2 ≢ place
+
+-- of a pass that begins to remove a task
+abbrev pub parting : ListHand → ℕ → ListHand
+parting b t = record b { list = without t b.list; words = slice_set b.words (8 + t) 0; changes = true; leaver = t + 1 }
+
+module _ {E : Type 0} (list : E → ListHand) (with_list : Change → View E → ListHand → E) where
+  -- the list is without the task
+  pub record Removes (v : View E) (t : ℕ) (u : View E) : Type 0 where
+    pub was : List Waiter
+    pub hand : ListHand
+    pub before : Knows (list_part list v) → was ≡ (list v.ext).list
+    pub sound : IsList was
+    pub there : 0 < counted t was
+    pub now : hand.list ≡ without t was
+    pub since : hand.since ≡ v.spin.entries
+    pub still : hand.changes ≡ false
+    pub gone : hand.leaver ≡ 0
+    pub is : Lists hand.words hand.list
+    pub view : u ≡ record v { steps = u.steps; ext = with_list (Leave t) v hand }
+
+  -- it knows the list, and who is first in it
+  pub record FindsFirst (v : View E) (first : Option Waiter) (u : View E) : Type 0 where
+    pub hand : ListHand
+    pub learnt : Learnt (list_part list v) hand
+    pub is : first ≡ first_of hand.list
+    pub view : u ≡ record v { steps = u.steps; ext = with_list Stay v hand }
+
+  -- it knows the list, and who stands in it behind the task
+  pub record FindsNext (v : View E) (t : ℕ) (next : Option Waiter) (u : View E) : Type 0 where
+    pub hand : ListHand
+    pub learnt : Learnt (list_part list v) hand
+    pub is : 0 < counted t hand.list → next ≡ next_of t hand.list
+    pub view : u ≡ record v { steps = u.steps; ext = with_list Stay v hand }
+
+module _ {E : Type 0} (saw_first : View E → ℕ → E) where
+  -- it saw the first word, and says whether that was its task's code
+  pub record TellsFirst (place : ℕ) (v : View E) (task : Option ℕ) (first : Bool) (u : View E) (past : List Moment) : Type 0 where
+    pub word : ℕ
+    pub view : u ≡ sighted saw_first v word
+    pub found : FoundAt place word past
+    pub tells : (t : ℕ) → task ≡ Some t → IsTrue first ↔ (word ≡ t + 1)
