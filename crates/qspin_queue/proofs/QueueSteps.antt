@@ -42,7 +42,7 @@ module _ (w q : List ℕ) (ps : List SpinPart) (k : SpinFacts w q ps) (named : A
   small-own : (id : ℕ) (p : SpinPart) → get_elem? ps id ≡ some p → uses p.spin.frame.point ≡ true → p.spin.frame.code ≤ MAX_TASKS
   small-own id p at used = let o = k.own id p at used in let l = named.few id p at o.0 o.1 in let e = o.2 in omega (arith, l, e)
 
-  small-tail : get_or w 0 0 / tail_unit ≤ MAX_TASKS
+  pub small-tail : get_or w 0 0 / tail_unit ≤ MAX_TASKS
   small-tail = let b = k.lock.balanced in ⊎_elim (λ e. let z = ap tail_of e in omega arith) (λ t. let l = small-queued t.0 (tail_of q) t.1 in omega arith) (tail-in q)
 
   small-next : (code : ℕ) → get_elem? q 0 ≡ some code → get_or w (next_at code) 0 ≤ MAX_TASKS

@@ -122,11 +122,3 @@ module _ (word : ℕ) (next locked : ℕ → ℕ) (q : List ℕ) (fs : List Fram
     told = told;
     ready = λ some. (omega arith, omega arith, omega arith);
   }
-
-map-frames : {E : Type 0} (vs : List (View E)) → map frame_of (map spin_part vs) ≡ map frame_in (map spin_of vs)
-map-frames [] = refl
-map-frames (v ∷ vs) = ap (λ (z : List Frame). v.spin.frame ∷ z) (map-frames vs)
-
--- the same of the views of a table
-pub says : {E : Type 0} (w : List ℕ) (vs : List (View E)) → SpinKept w (map spin_part vs) → (queue : List ℕ) × SpinWordsSay w queue (map frame_in (map spin_of vs))
-says w vs (q, k) = (q, subst (λ (fs : List Frame). SpinWordsSay w q fs) (map-frames vs) (states (get_or w 0 0) (next_in w) (locked_in w) q (map frame_of (map spin_part vs)) k.lock))

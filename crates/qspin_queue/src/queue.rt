@@ -174,7 +174,7 @@ fn take_front<H: SpinHost, W: Wait>(
     if next != 0 {
         pass_front(site, pass, next);
     } else {
-        // Another exchanged the tail after this pass looked for a successor, and tells its code yet.
+        // Another exchanged the tail since this pass looked, and may not have told its code yet.
         let late = wait_successor(site, rt, pass, code);
         pass_front(site, pass, late);
     }

@@ -121,7 +121,8 @@ pub fn exchange_last<H: SpinHost>(site: &Site<H>, pass: &mut Pass<H>, from: u64)
     requires own { SitsAt site.now pass.old }
     requires point { point_in pass.old ≡ Ready }
     requires alone { from ≡ 2048 * code_in pass.old }
-    ensures steps { SpinSteps site.now pass.old pass.new (took_last from result (view_of pass.old)) }
+    ensures steps { SpinSteps site.now pass.old pass.new
+        (took_last from result (view_of pass.old)) }
 {
     spin_step::<H, Brand>(site, pass, 0, Op::Exchange(from, 1))
 }

@@ -14,6 +14,7 @@ use std::marker::Brand;
 use std::sync::Wait;
 
 /// Does one operation on the spin word itself.
+#[inline]
 fn word_step<H: SpinHost, A: SpinAfter>(site: &Site<H>, pass: &mut Pass<H>, op: Op) -> u64
     requires own { SitsAt site.now pass.old }
     requires may { (n : ℕ) →
