@@ -1,5 +1,5 @@
 -- The lock's own facts imply what its words state of the passes.
-use Rattle.std.proofs.Common.{◌≡◌, ◌≢◌, ℕ, zero, suc, ◌/◌, ◌==◌, ◌≤◌, ◌⊎◌, Bool, true, false, List, [], ◌∷◌, length, sym, refl, ap, ◌∙◌, subst, inl, inr, ⊎_elim, arith, eq-eqb, ne_eqb, ◌+◌, map, get_or}
+use Rattle.std.proofs.Common.{◌≡◌, ◌≢◌, ℕ, zero, suc, ◌/◌, ◌==◌, ◌≤◌, ◌⊎◌, Bool, true, false, List, [], ◌∷◌, length, sym, refl, ap, ◌∙◌, subst, inl, inr, ⊎_elim, arith, eq-eqb, ne_eqb, ◌+◌}
 use mathlib.Core.Option.{some, some-injective, some-ne-none}
 use mathlib.Core.List.{reverse_aux}
 use lib.ListN.{get_elem?}
@@ -11,10 +11,7 @@ use Rattle.lock_core.specs.declared.view.Point.TheVariants.{Linking, Waiting, Fr
 use Rattle.lock_core.specs.Totals.{total}
 use Rattle.lock_core.specs.SpinFrames.{when, code_is, stands, stands_as, takes_of, pends_of, undoes_of}
 use Rattle.lock_core.specs.SpinQueues.{tail_of, tail_unit, Before, PointOk, Queued, LockKept}
-use Rattle.lock_core.specs.SpinStated.{owns_of, found_at, found_by, frame_in, Walks, IsSpinLock, SpinWordsSay}
-use Rattle.lock_core.specs.declared.view.View.{View}
-use Rattle.lock_core.specs.Views.{spin_part, spin_of}
-use Rattle.lock_core.specs.Spins.{SpinKept, frame_of, next_in, locked_in}
+use Rattle.lock_core.specs.SpinStated.{owns_of, found_at, found_by, Walks, IsSpinLock}
 use Rattle.qspin_word.proofs.Codes.{one_place, no_tail, some_summand}
 use Rattle.qspin_queue.proofs.Standing.{once, other_code, counted, counts-stands, stands-uses}
 

@@ -11,7 +11,7 @@ ghost use Rattle.qspin_queue.specs.Hands.{retried, cleared_locked, cleared_next,
 ghost use Rattle.qspin_queue.specs.Handles.{code_in, found_in, successor_in, IsOwnNode};
 
 use lock_core::{Op, Pass, Site, SpinHost};
-use qspin_word::spin_step;
+use qspin_word::{LOCKED, TAIL, TAILLESS, spin_step};
 use std::marker::Brand;
 
 /// The place of `next` of a node among the spin words.
@@ -36,7 +36,7 @@ pub fn retry<H: SpinHost>(site: &Site<H>, pass: &mut Pass<H>) -> u64
     requires point { point_in pass.old ≡ Cleared }
     ensures steps { SpinSteps site.now pass.old pass.new (retried result (view_of pass.old)) }
 {
-    spin_step::<H, Brand>(site, pass, 0, Op::Exchange(0, 1))
+    spin_step::<H, Brand>(site, pass, 0, Op::Exchange(0, LOCKED))
 }
 
 /// Clears `locked` of the pass's node.
@@ -69,7 +69,12 @@ pub fn exchange_tail<H: SpinHost>(site: &Site<H>, pass: &mut Pass<H>, from: u64,
     ensures steps { SpinSteps site.now pass.old pass.new (queued from result (view_of pass.old)) }
     ensures tail { tail_in result ≤ MAX_TASKS }
 {
-    spin_step::<H, Brand>(site, pass, 0, Op::Exchange(from, from % 512 + 2048 * code))
+    spin_step::<H, Brand>(
+        site,
+        pass,
+        0,
+        Op::Exchange(from, from % TAILLESS + TAIL * code),
+    )
 }
 
 /// Stores the pass's code in `next` of its predecessor.
@@ -124,7 +129,7 @@ pub fn exchange_last<H: SpinHost>(site: &Site<H>, pass: &mut Pass<H>, from: u64)
     ensures steps { SpinSteps site.now pass.old pass.new
         (took_last from result (view_of pass.old)) }
 {
-    spin_step::<H, Brand>(site, pass, 0, Op::Exchange(from, 1))
+    spin_step::<H, Brand>(site, pass, 0, Op::Exchange(from, LOCKED))
 }
 
 /// Sets the locked byte, as a ready front.
@@ -133,7 +138,7 @@ pub fn set_locked<H: SpinHost>(site: &Site<H>, pass: &mut Pass<H>)
     requires point { point_in pass.old ≡ Ready }
     ensures steps { SpinSteps site.now pass.old pass.new (took_front (view_of pass.old)) }
 {
-    spin_step::<H, Brand>(site, pass, 0, Op::Or(1));
+    spin_step::<H, Brand>(site, pass, 0, Op::Or(LOCKED));
 }
 
 /// A load of `next` of the pass's node, by the holder that came from the queue.

@@ -16,7 +16,7 @@ use Rattle.lock_core.specs.declared.view.Point.{Point}
 use Rattle.lock_core.specs.declared.view.Point.TheVariants.{Out, Undoing, Pending, Taking, Passing, Holding}
 use Rattle.lock_core.specs.Totals.{total, total-at}
 use Rattle.lock_core.specs.Views.{SpinPart, spin_part, part_with}
-use Rattle.lock_core.specs.SpinFrames.{uses, stands, owns_at, holds_at, takes_of, undoes_of, holds_of}
+use Rattle.lock_core.specs.SpinFrames.{stands, owns_at, holds_at, takes_of, undoes_of, holds_of}
 use Rattle.lock_core.specs.SpinQueues.{LockKept}
 use Rattle.lock_core.specs.Spins.{SpinFacts, SpinGoes, SpinMoves, tail_in, QueueMoves, TakesFrom, SetsTo, frame_of, next_in, locked_in, holds_in}
 use Rattle.qspin_word.specs.Allows.{SpinAllows}

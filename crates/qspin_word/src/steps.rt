@@ -9,6 +9,7 @@ ghost use Rattle.qspin_word.specs.Hands.{went, tried, looked, freed, pended, und
 ghost use Rattle.qspin_word.specs.Handles.{spin_in, point_in, MaySpin, SpinSteps, SpinWaits};
 
 use crate::moves::{SpinAfter, spin_step};
+use crate::{LOCKED, PENDING};
 use lock_core::{Op, Pass, Site, SpinHost};
 use std::marker::Brand;
 use std::sync::Wait;
@@ -33,7 +34,7 @@ pub fn exchange_free<H: SpinHost>(site: &Site<H>, pass: &mut Pass<H>) -> u64
     ensures steps { SpinSteps site.now pass.old pass.new (tried result (view_of pass.old)) }
     ensures found { FoundAt H.FIRST result (past_of pass.new) }
 {
-    word_step::<H, Brand>(site, pass, Op::Exchange(0, 1))
+    word_step::<H, Brand>(site, pass, Op::Exchange(0, LOCKED))
 }
 
 /// A load of the word by a pass that doesn't hold the lock. A word that isn't 0 is kept as seen.
@@ -62,7 +63,7 @@ pub fn release<H: SpinHost>(site: &Site<H>, pass: &mut Pass<H>)
     requires free { H.may_free (view_of pass.old) }
     ensures steps { SpinSteps site.now pass.old pass.new (freed (view_of pass.old)) }
 {
-    word_step::<H, Brand>(site, pass, Op::Sub(1));
+    word_step::<H, Brand>(site, pass, Op::Sub(LOCKED));
 }
 
 /// Sets the pending bit.
@@ -72,7 +73,7 @@ pub fn fetch_set_pending<H: SpinHost>(site: &Site<H>, pass: &mut Pass<H>) -> u64
     ensures steps { SpinSteps site.now pass.old pass.new (pended result (view_of pass.old)) }
     ensures found { FoundAt H.FIRST result (past_of pass.new) }
 {
-    word_step::<H, Brand>(site, pass, Op::Or(256))
+    word_step::<H, Brand>(site, pass, Op::Or(PENDING))
 }
 
 /// Clears the pending bit, as the pass that set it beside a tail.
@@ -81,7 +82,7 @@ pub fn clear_pending<H: SpinHost>(site: &Site<H>, pass: &mut Pass<H>)
     requires point { point_in pass.old ≡ Undoing }
     ensures steps { SpinSteps site.now pass.old pass.new (undone (view_of pass.old)) }
 {
-    word_step::<H, Brand>(site, pass, Op::And(!256));
+    word_step::<H, Brand>(site, pass, Op::And(!PENDING));
 }
 
 /// A load of the word by the owner of the pending bit.
@@ -101,7 +102,7 @@ pub fn wait_unlocked<H: SpinHost, W: Wait>(site: &Site<H>, rt: &W, pass: &mut Pa
     ensures waits { SpinWaits site.now pass.old pass.new (went (spin_in pass.old) Taking) }
 {
     for _ in rt.forever() {
-        if load_pending(site, pass) % 256 == 0 {
+        if load_pending(site, pass) % PENDING == 0 {
             return;
         }
     }
@@ -114,5 +115,5 @@ pub fn clear_pending_set_locked<H: SpinHost>(site: &Site<H>, pass: &mut Pass<H>)
     requires point { point_in pass.old ≡ Taking }
     ensures steps { SpinSteps site.now pass.old pass.new (turned (view_of pass.old)) }
 {
-    word_step::<H, Brand>(site, pass, Op::Add(1u64.wrapping_sub(256)));
+    word_step::<H, Brand>(site, pass, Op::Add(LOCKED.wrapping_sub(PENDING)));
 }

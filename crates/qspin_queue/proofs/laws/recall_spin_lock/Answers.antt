@@ -1,8 +1,7 @@
-use Rattle.std.proofs.Common.{map, get_or, ◌≡◌, subst, List}
+use Rattle.std.proofs.Common.{map}
 use Rattle.lock_core.specs.declared.layout.TheConstants.{SPIN_WORDS}
 use Rattle.lock_core.specs.Layout.{part, site}
-use Rattle.lock_core.specs.Views.{spin_part, spin_of}
-use Rattle.lock_core.specs.Spins.{frame_of, next_in, locked_in}
+use Rattle.lock_core.specs.Views.{spin_part}
 use Rattle.lock_core.specs.Pasts.{opening, Moves}
 use Rattle.lock_core.specs.RunLaws.{ran-each, ran-so}
 use Rattle.lock_core.specs.SpinStated.{IsSpinLockThen, IsSpinMove}
