@@ -17,5 +17,5 @@ pub const TAILLESS: u64 = 512;
 /// What the code of a CPU's first node counts for in the word. (`_Q_TAIL_CPU_OFFSET`)
 pub const TAIL: u64 = 2_048;
 
-pub use moves::{SpinAfter, spin_step};
+pub use moves::{SpinAfter, spin_step, word_step};
 pub use word::{take_by_pending, trylock, unlock};

@@ -2,30 +2,17 @@
 ghost use Rattle.std.specs.Prelude.{◌≡◌, ℕ, ◌%◌};
 ghost use Rattle.lock_core.specs.declared.view.Point.TheVariants.{Undoing, Pending, Taking};
 ghost use Rattle.lock_core.specs.Views.{SpinRests, SpinHolds};
-ghost use Rattle.lock_core.specs.Spins.{holds_in, SpinFrees};
-ghost use Rattle.lock_core.specs.Pasts.{FindsAt, FoundAt};
+ghost use Rattle.lock_core.specs.Spins.{holds_in};
+ghost use Rattle.lock_core.specs.Pasts.{FoundAt};
 ghost use Rattle.lock_core.specs.Handles.{view_of, past_of, SitsAt};
 ghost use Rattle.qspin_word.specs.Hands.{went, tried, looked, freed, pended, undone, awaited, turned};
-ghost use Rattle.qspin_word.specs.Handles.{spin_in, point_in, MaySpin, SpinSteps, SpinWaits};
+ghost use Rattle.qspin_word.specs.Handles.{spin_in, point_in, SpinSteps, SpinWaits};
 
-use crate::moves::{SpinAfter, spin_step};
+use crate::moves::word_step;
 use crate::{LOCKED, PENDING};
 use lock_core::{Op, Pass, Site, SpinHost};
 use std::marker::Brand;
 use std::sync::Wait;
-
-/// Does one operation on the spin word itself.
-#[inline]
-fn word_step<H: SpinHost, A: SpinAfter>(site: &Site<H>, pass: &mut Pass<H>, op: Op) -> u64
-    requires own { SitsAt site.now pass.old }
-    requires may { (n : ℕ) →
-        SpinFrees (spin_in pass.old) (A.after n) → H.may_free (view_of pass.old) }
-    requires lock { MaySpin pass.old 0 op A.after A.tells }
-    ensures steps { SpinSteps site.now pass.old pass.new (A.after result) }
-    ensures found { FindsAt op H.FIRST result (past_of pass.new) }
-{
-    spin_step::<H, A>(site, pass, 0, op)
-}
 
 /// A compare-exchange of the word from 0 to 1, by a pass that is at no point of the lock.
 pub fn exchange_free<H: SpinHost>(site: &Site<H>, pass: &mut Pass<H>) -> u64
