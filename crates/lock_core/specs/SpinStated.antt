@@ -1,14 +1,17 @@
 -- What a spin lock's words state of the passes at each moment, and what each step does.
-use Rattle.std.specs.Prelude.{◌≡◌, ◌≢◌, ℕ, suc, ◌+◌, ◌*◌, ◌==◌, ◌≤◌, ◌⊎◌, List, [], ◌∷◌, map, reverse, slice_index}
+use Rattle.std.specs.Prelude.{◌≡◌, ◌≢◌, ℕ, true, Some, suc, ◌+◌, ◌*◌, ◌==◌, ◌≤◌, ◌⊎◌, List, [], ◌∷◌, map, reverse, slice_index}
 use mathlib.Core.Option.{some}
 use lib.ListN.{get_elem?}
+use Rattle.word_bits.specs.declared.spin.Spin.{Spin}
+use Rattle.word_bits.specs.SpinWord.{IsSpin, spin_word}
+use Rattle.lock_core.specs.declared.view.Hand.{Hand}
 use Rattle.lock_core.specs.declared.view.Frame.{Frame}
 use Rattle.lock_core.specs.declared.view.SpinHand.{SpinHand}
 use Rattle.lock_core.specs.declared.view.Moment.{Moment}
 use Rattle.lock_core.specs.declared.layout.TheConstants.{SPIN_WORDS}
 use Rattle.lock_core.specs.Layout.{part}
 use Rattle.lock_core.specs.Totals.{total}
-use Rattle.lock_core.specs.SpinFrames.{when, code_is, stands, stands_as, owns_at, holds_of, takes_of, ready_of, pends_of, undoes_of}
+use Rattle.lock_core.specs.SpinFrames.{when, code_is, stands, uses, stands_as, owns_at, holds_of, takes_of, ready_of, pends_of, undoes_of}
 use Rattle.lock_core.specs.SpinQueues.{tail_unit}
 use Rattle.lock_core.specs.Views.{SpinPart, spin_part}
 use Rattle.lock_core.specs.Spins.{byte_in, pending_in, tail_in, next_in, locked_in, frame_of, TakesFrom, SetsTo, SpinLeaves, SpinStep}
@@ -59,9 +62,22 @@ SpinWordsSay w queue fs = IsSpinLock (slice_index w 0) (next_in w) (locked_in w)
 abbrev pub frame_in : SpinHand → Frame
 frame_in s = s.frame
 
+-- the word of a spin lock
+pub record IsSpinWord (word : ℕ) : Type 0 where
+  pub spin : Spin
+  pub ranged : IsSpin spin
+  pub is : spin_word spin ≡ word
+
+-- the node that a pass uses is that of its task
+abbrev pub UsesOwnNode : Hand → SpinHand → Type 0
+UsesOwnNode h s = uses s.frame.point ≡ true → (t : ℕ) × (h.task ≡ Some t) × (s.frame.code ≡ t + 1)
+
 -- so it was at this moment, in a table whose first spin word stands at this place
-abbrev pub IsSpinLockThen : ℕ → Moment → Type 0
-IsSpinLockThen first m = (queue : List ℕ) × SpinWordsSay (part first SPIN_WORDS m.words) queue (map frame_in m.spins)
+pub record IsSpinLockThen (first : ℕ) (m : Moment) : Type 0 where
+  pub queue : List ℕ
+  pub says : SpinWordsSay (part first SPIN_WORDS m.words) queue (map frame_in m.spins)
+  pub packed : IsSpinWord (slice_index (part first SPIN_WORDS m.words) 0)
+  pub nodes : (j : ℕ) (h : Hand) (s : SpinHand) → get_elem? m.hands j ≡ some h → get_elem? m.spins j ≡ some s → UsesOwnNode h s
 
 -- What one step of the pass of this number does
 pub record IsSpinStep (id : ℕ) (w : List ℕ) (ps : List SpinPart) (w' : List ℕ) (ps' : List SpinPart) : Type 0 where

@@ -53,12 +53,12 @@ pub record SpinFacts (w queue : List ℕ) (ps : List SpinPart) : Type 0 where
 abbrev pub SpinKept : List ℕ → List SpinPart → Type 0
 SpinKept w ps = (queue : List ℕ) × SpinFacts w queue ps
 
--- whose node comes to stand in the queue, stands last in it; whose node no longer does, stood first; and no other step changes the queue
-abbrev pub QueueMoves : Bool → Bool → ℕ → List ℕ → List ℕ → Type 0
-QueueMoves false true code queue queue' = queue' ≡ queue ++ code ∷ []
-QueueMoves true false code queue queue' = queue ≡ code ∷ queue'
-QueueMoves true true code queue queue' = queue' ≡ queue
-QueueMoves false false code queue queue' = queue' ≡ queue
+-- whose node comes to stand in the queue, stands last in it and has found this tail; whose node no longer does, stood first; and no other step changes the queue, or what a node that stands in it found
+abbrev pub QueueMoves : Bool → Bool → (code tail found found' : ℕ) → List ℕ → List ℕ → Type 0
+QueueMoves false true code tail found found' queue queue' = (queue' ≡ queue ++ code ∷ []) × (found' ≡ tail)
+QueueMoves true false code tail found found' queue queue' = queue ≡ code ∷ queue'
+QueueMoves true true code tail found found' queue queue' = (queue' ≡ queue) × (found' ≡ found)
+QueueMoves false false code tail found found' queue queue' = queue' ≡ queue
 
 -- where a pass may come to hold from, by the word: an exchange from 0, the owner of the pending bit or a ready front while the byte is 0
 abbrev pub TakesFrom : Point → ℕ → Type 0
@@ -85,7 +85,7 @@ pub record SpinStep (word id : ℕ) (ps : List SpinPart) (queue : List ℕ) (ps'
   pub others : slice_set ps id after ≡ ps'
   pub takes : holds_of (frame_of after) ≡ 1 → TakesFrom before.spin.frame.point word
   pub sets : owns_at before.spin.frame.point ≡ 0 → SetsTo after.spin.frame.point word
-  pub queues : QueueMoves (stands before.spin.frame.point) (stands after.spin.frame.point) before.spin.frame.code queue queue'
+  pub queues : QueueMoves (stands before.spin.frame.point) (stands after.spin.frame.point) before.spin.frame.code (tail_in word) before.spin.frame.found after.spin.frame.found queue queue'
   -- what it now has as seen, it saw before, or is the word
   pub saw : (x : Saw) → after.spin.saw ≡ Some x → (before.spin.saw ≡ Some x) ⊎ (x.word ≡ word)
 

@@ -3,4 +3,5 @@ pub mod Standing
 pub mod NodeSteps
 pub mod QueueSteps
 pub mod Stating
+pub mod Saying
 pub mod Moving

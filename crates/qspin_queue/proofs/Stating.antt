@@ -1,5 +1,5 @@
 -- The lock's own facts imply what its words state of the passes.
-use Rattle.std.proofs.Common.{◌≡◌, ◌≢◌, ℕ, zero, suc, ◌/◌, ◌==◌, ◌≤◌, ◌⊎◌, Bool, true, false, List, [], ◌∷◌, length, sym, refl, ap, ◌∙◌, subst, inl, inr, ⊎_elim, arith, eq-eqb, ne_eqb, ◌+◌, map, get_or}
+use Rattle.std.proofs.Common.{◌≡◌, ◌≢◌, ℕ, zero, suc, ◌/◌, ◌==◌, ◌≤◌, ◌⊎◌, Bool, true, false, List, [], ◌∷◌, length, sym, refl, ap, ◌∙◌, subst, inl, inr, ⊎_elim, arith, eq-eqb, ne_eqb, ◌+◌}
 use mathlib.Core.Option.{some, some-injective, some-ne-none}
 use mathlib.Core.List.{reverse_aux}
 use lib.ListN.{get_elem?}
@@ -11,10 +11,7 @@ use Rattle.lock_core.specs.declared.view.Point.TheVariants.{Linking, Waiting, Fr
 use Rattle.lock_core.specs.Totals.{total}
 use Rattle.lock_core.specs.SpinFrames.{when, code_is, stands, stands_as, takes_of, pends_of, undoes_of}
 use Rattle.lock_core.specs.SpinQueues.{tail_of, tail_unit, Before, PointOk, Queued, LockKept}
-use Rattle.lock_core.specs.SpinStated.{owns_of, found_at, found_by, frame_in, Walks, IsSpinLock, SpinWordsSay}
-use Rattle.lock_core.specs.declared.view.View.{View}
-use Rattle.lock_core.specs.Views.{spin_part, spin_of}
-use Rattle.lock_core.specs.Spins.{SpinKept, frame_of, next_in, locked_in}
+use Rattle.lock_core.specs.SpinStated.{owns_of, found_at, found_by, Walks, IsSpinLock}
 use Rattle.qspin_word.proofs.Codes.{one_place, no_tail, some_summand}
 use Rattle.qspin_queue.proofs.Standing.{once, other_code, counted, counts-stands, stands-uses}
 
@@ -122,11 +119,3 @@ module _ (word : ℕ) (next locked : ℕ → ℕ) (q : List ℕ) (fs : List Fram
     told = told;
     ready = λ some. (omega arith, omega arith, omega arith);
   }
-
-map-frames : {E : Type 0} (vs : List (View E)) → map frame_of (map spin_part vs) ≡ map frame_in (map spin_of vs)
-map-frames [] = refl
-map-frames (v ∷ vs) = ap (λ (z : List Frame). v.spin.frame ∷ z) (map-frames vs)
-
--- the same of the views of a table
-pub says : {E : Type 0} (w : List ℕ) (vs : List (View E)) → SpinKept w (map spin_part vs) → (queue : List ℕ) × SpinWordsSay w queue (map frame_in (map spin_of vs))
-says w vs (q, k) = (q, subst (λ (fs : List Frame). SpinWordsSay w q fs) (map-frames vs) (states (get_or w 0 0) (next_in w) (locked_in w) q (map frame_of (map spin_part vs)) k.lock))

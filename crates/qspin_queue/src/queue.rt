@@ -17,7 +17,7 @@ use crate::steps::{
 };
 use lock_core::{Pass, Site, SpinHost};
 use qspin_word::steps::{exchange_free, peek};
-use qspin_word::take_by_pending;
+use qspin_word::{PENDING, TAIL, TAILLESS, take_by_pending};
 use std::sync::Wait;
 
 /// How a call got the lock.
@@ -114,7 +114,7 @@ fn wait_ready<H: SpinHost, W: Wait>(site: &Site<H>, rt: &W, pass: &mut Pass<H>) 
         let seen = load_front(site, pass);
         // The owner of the pending bit came first, and takes once the byte is 0: so the front waits
         // for both.
-        if seen % 512 == 0 {
+        if seen % TAILLESS == 0 {
             return seen;
         }
     }
@@ -166,7 +166,7 @@ fn take_front<H: SpinHost, W: Wait>(
     let seen = wait_ready(site, rt, pass);
     // Nobody stands behind it, so it may clear the tail with the same exchange: one that another
     // tail or an undoer's pending bit makes fail.
-    if seen == 2048 * code && exchange_last(site, pass, seen) == seen {
+    if seen == TAIL * code && exchange_last(site, pass, seen) == seen {
         return;
     }
     // Nobody else takes while a front is ready, so a plain or is enough.
@@ -174,7 +174,7 @@ fn take_front<H: SpinHost, W: Wait>(
     if next != 0 {
         pass_front(site, pass, next);
     } else {
-        // Another exchanged the tail after this pass looked for a successor, and tells its code yet.
+        // Another exchanged the tail since this pass looked, and may not have told its code yet.
         let late = wait_successor(site, rt, pass, code);
         pass_front(site, pass, late);
     }
@@ -195,10 +195,10 @@ fn take_with<H: SpinHost, W: Wait>(site: &Site<H>, rt: &W, pass: &mut Pass<H>, c
         return;
     }
     let seen = enter_queue(site, rt, pass, code);
-    if seen < 512 {
+    if seen < TAILLESS {
         take_front(site, rt, pass, 0, code);
     } else {
-        let next = become_front(site, rt, pass, seen / 2048, code);
+        let next = become_front(site, rt, pass, seen / TAIL, code);
         take_front(site, rt, pass, next, code);
     }
 }
@@ -239,7 +239,7 @@ pub fn lock<H: SpinHost, W: Wait>(site: &Site<H>, rt: &W, pass: &mut Pass<H>) ->
         return Way::Fast;
     }
     // Only a holder stands before it: the first contender needs no node.
-    if seen < 256 && take_by_pending(site, rt, pass) {
+    if seen < PENDING && take_by_pending(site, rt, pass) {
         return Way::Pending;
     }
     take_by_queue(site, rt, pass);

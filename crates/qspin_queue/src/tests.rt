@@ -9,6 +9,7 @@ use qspin_word::{trylock, unlock};
 use std::sync::Wait;
 use std::test::Fail;
 use std::thread::{Threads, join};
+use word_bits::{Spin, Tail};
 
 /// Many rounds for each of four threads.
 const ROUNDS: u32 = 10_000;
@@ -38,6 +39,16 @@ fn the_pending_bit_is_undone_beside_a_tail(rt: HostRuntime) {
         assert_eq!(rt; shadow.step(0, op), before);
         assert_eq!(rt; shadow.words[0], after);
     }
+    let queued = |cpu, pending| {
+        Some(Spin {
+            locked: true,
+            pending,
+            tail: Some(Tail { cpu, index: 0 }),
+        })
+    };
+    assert_eq!(rt; Spin::unpack(6401), queued(2, true));
+    assert_eq!(rt; Spin::unpack(6145), queued(2, false));
+    assert_eq!(rt; Spin::unpack(8193), queued(3, false));
 }
 
 #[test]

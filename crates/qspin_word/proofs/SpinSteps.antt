@@ -16,9 +16,9 @@ use Rattle.lock_core.specs.declared.view.Point.{Point}
 use Rattle.lock_core.specs.declared.view.Point.TheVariants.{Out, Undoing, Pending, Taking, Passing, Holding}
 use Rattle.lock_core.specs.Totals.{total, total-at}
 use Rattle.lock_core.specs.Views.{SpinPart, spin_part, part_with}
-use Rattle.lock_core.specs.SpinFrames.{uses, stands, owns_at, holds_at, takes_of, undoes_of, holds_of}
+use Rattle.lock_core.specs.SpinFrames.{stands, owns_at, holds_at, takes_of, undoes_of, holds_of}
 use Rattle.lock_core.specs.SpinQueues.{LockKept}
-use Rattle.lock_core.specs.Spins.{SpinFacts, SpinGoes, SpinMoves, QueueMoves, TakesFrom, SetsTo, frame_of, next_in, locked_in, holds_in}
+use Rattle.lock_core.specs.Spins.{SpinFacts, SpinGoes, SpinMoves, tail_in, QueueMoves, TakesFrom, SetsTo, frame_of, next_in, locked_in, holds_in}
 use Rattle.qspin_word.specs.Allows.{SpinAllows}
 use Rattle.qspin_word.specs.Hands.{at_point, went, took_at, saw_word, tried, looked, freed, pended, undone, awaited, turned}
 use Rattle.qspin_word.proofs.Bits.{or_pending, or_pending_again, and_pending}
@@ -90,7 +90,7 @@ module _ {E : Type 0} (v : View E) (id : ℕ) where
     -- a load that leaves the frame
     looks-on : (i : ℕ) (saw : Option Saw) → ((x : Saw) → saw ≡ Some x → (v.spin.saw ≡ Some x) ⊎ (x.word ≡ word)) → ((x : Saw) → saw ≡ Some x → (v.spin.saw ≡ Some x) ⊎ (x.step ≡ v.steps + 1)) → After (set w i (get_or w i 0)) (record v.spin { saw = saw })
     looks-on i saw seen then_step = (
-      goes-look w q q ps id (spin_part v) (record v.spin { saw = saw }) k seen at (k.own id (spin_part v) at) f.point refl (queue-stays (stands f.point) f.code q) (held-takes f.point word) (no-owner f.point word) i
+      goes-look w q q ps id (spin_part v) (record v.spin { saw = saw }) k seen at (k.own id (spin_part v) at) f.point refl (queue-stays (stands f.point) f.code (tail_in word) f.found q) (held-takes f.point word) (no-owner f.point word) i
           (subst (λ (z : List Frame). LockKept word (next_in w) (locked_in w) q z) (sym (set_again fs id f (at_map frame_of ps id (spin_part v) at))) k.lock),
       counts-idle (v.steps + 1) v.spin f saw (omega arith) then_step,
     )
@@ -106,7 +106,7 @@ module _ {E : Type 0} (v : View E) (id : ℕ) where
     pub takes-free : (s : SpinHand) (p : Point) → f.point ≡ p → stands p ≡ false → holds_at p ≡ 0 → (word ≡ 0 → TakesFrom p word) → s ≡ took_at v.spin (v.steps + 1) Holding → (LockKept 0 (next_in w) (locked_in w) q fs → LockKept 1 (next_in w) (locked_in w) q (set fs id (at_point f Holding))) → word ≡ 0 → After (set w 0 1) s
     takes-free s p e out free from is takes zero_word = subst (After (set w 0 1)) (sym is) (
       goes-word w q q ps id (spin_part v) (took_at v.spin (v.steps + 1) Holding) k (λ x e. inl e) at (λ used. absurd cc) p e
-          (subst (λ (b : Bool). QueueMoves b false f.code q q) (sym out) refl) (λ _. from zero_word) (λ _. tt) 1
+          (subst (λ (b : Bool). QueueMoves b false f.code (tail_in word) f.found f.found q q) (sym out) refl) (λ _. from zero_word) (λ _. tt) 1
           (takes (subst (λ (z : ℕ). LockKept z (next_in w) (locked_in w) q fs) zero_word k.lock)),
       counts-took v.spin (v.steps + 1) Holding (ap holds_at e ∙ free) refl,
     )

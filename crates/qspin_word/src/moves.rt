@@ -56,3 +56,17 @@ pub fn spin_step<H: SpinHost, A: SpinAfter>(
 {
     site.step::<By<A>>(pass, H::FIRST + at, op)
 }
+
+/// The same on the spin word itself.
+#[inline]
+pub fn word_step<H: SpinHost, A: SpinAfter>(site: &Site<H>, pass: &mut Pass<H>, op: Op) -> u64
+    requires own { SitsAt site.now pass.old }
+    requires may { (n : ℕ) →
+        SpinFrees (spin_in pass.old) (A.after n) → H.may_free (view_of pass.old) }
+    requires lock { MaySpin pass.old 0 op A.after A.tells }
+    ensures steps { SpinSteps site.now pass.old pass.new (A.after result) }
+    ensures tells { A.tells result }
+    ensures found { FindsAt op H.FIRST result (past_of pass.new) }
+{
+    spin_step::<H, A>(site, pass, 0, op)
+}

@@ -2,28 +2,17 @@
 ghost use Rattle.std.specs.Prelude.{◌≡◌, ℕ, ◌%◌};
 ghost use Rattle.lock_core.specs.declared.view.Point.TheVariants.{Undoing, Pending, Taking};
 ghost use Rattle.lock_core.specs.Views.{SpinRests, SpinHolds};
-ghost use Rattle.lock_core.specs.Spins.{holds_in, SpinFrees};
-ghost use Rattle.lock_core.specs.Pasts.{FindsAt, FoundAt};
+ghost use Rattle.lock_core.specs.Spins.{holds_in};
+ghost use Rattle.lock_core.specs.Pasts.{FoundAt};
 ghost use Rattle.lock_core.specs.Handles.{view_of, past_of, SitsAt};
 ghost use Rattle.qspin_word.specs.Hands.{went, tried, looked, freed, pended, undone, awaited, turned};
-ghost use Rattle.qspin_word.specs.Handles.{spin_in, point_in, MaySpin, SpinSteps, SpinWaits};
+ghost use Rattle.qspin_word.specs.Handles.{spin_in, point_in, SpinSteps, SpinWaits};
 
-use crate::moves::{SpinAfter, spin_step};
+use crate::moves::word_step;
+use crate::{LOCKED, PENDING};
 use lock_core::{Op, Pass, Site, SpinHost};
 use std::marker::Brand;
 use std::sync::Wait;
-
-/// Does one operation on the spin word itself.
-fn word_step<H: SpinHost, A: SpinAfter>(site: &Site<H>, pass: &mut Pass<H>, op: Op) -> u64
-    requires own { SitsAt site.now pass.old }
-    requires may { (n : ℕ) →
-        SpinFrees (spin_in pass.old) (A.after n) → H.may_free (view_of pass.old) }
-    requires lock { MaySpin pass.old 0 op A.after A.tells }
-    ensures steps { SpinSteps site.now pass.old pass.new (A.after result) }
-    ensures found { FindsAt op H.FIRST result (past_of pass.new) }
-{
-    spin_step::<H, A>(site, pass, 0, op)
-}
 
 /// A compare-exchange of the word from 0 to 1, by a pass that is at no point of the lock.
 pub fn exchange_free<H: SpinHost>(site: &Site<H>, pass: &mut Pass<H>) -> u64
@@ -32,7 +21,7 @@ pub fn exchange_free<H: SpinHost>(site: &Site<H>, pass: &mut Pass<H>) -> u64
     ensures steps { SpinSteps site.now pass.old pass.new (tried result (view_of pass.old)) }
     ensures found { FoundAt H.FIRST result (past_of pass.new) }
 {
-    word_step::<H, Brand>(site, pass, Op::Exchange(0, 1))
+    word_step::<H, Brand>(site, pass, Op::Exchange(0, LOCKED))
 }
 
 /// A load of the word by a pass that doesn't hold the lock. A word that isn't 0 is kept as seen.
@@ -61,7 +50,7 @@ pub fn release<H: SpinHost>(site: &Site<H>, pass: &mut Pass<H>)
     requires free { H.may_free (view_of pass.old) }
     ensures steps { SpinSteps site.now pass.old pass.new (freed (view_of pass.old)) }
 {
-    word_step::<H, Brand>(site, pass, Op::Sub(1));
+    word_step::<H, Brand>(site, pass, Op::Sub(LOCKED));
 }
 
 /// Sets the pending bit.
@@ -71,7 +60,7 @@ pub fn fetch_set_pending<H: SpinHost>(site: &Site<H>, pass: &mut Pass<H>) -> u64
     ensures steps { SpinSteps site.now pass.old pass.new (pended result (view_of pass.old)) }
     ensures found { FoundAt H.FIRST result (past_of pass.new) }
 {
-    word_step::<H, Brand>(site, pass, Op::Or(256))
+    word_step::<H, Brand>(site, pass, Op::Or(PENDING))
 }
 
 /// Clears the pending bit, as the pass that set it beside a tail.
@@ -80,7 +69,7 @@ pub fn clear_pending<H: SpinHost>(site: &Site<H>, pass: &mut Pass<H>)
     requires point { point_in pass.old ≡ Undoing }
     ensures steps { SpinSteps site.now pass.old pass.new (undone (view_of pass.old)) }
 {
-    word_step::<H, Brand>(site, pass, Op::And(!256));
+    word_step::<H, Brand>(site, pass, Op::And(!PENDING));
 }
 
 /// A load of the word by the owner of the pending bit.
@@ -100,7 +89,7 @@ pub fn wait_unlocked<H: SpinHost, W: Wait>(site: &Site<H>, rt: &W, pass: &mut Pa
     ensures waits { SpinWaits site.now pass.old pass.new (went (spin_in pass.old) Taking) }
 {
     for _ in rt.forever() {
-        if load_pending(site, pass) % 256 == 0 {
+        if load_pending(site, pass) % PENDING == 0 {
             return;
         }
     }
@@ -113,5 +102,5 @@ pub fn clear_pending_set_locked<H: SpinHost>(site: &Site<H>, pass: &mut Pass<H>)
     requires point { point_in pass.old ≡ Taking }
     ensures steps { SpinSteps site.now pass.old pass.new (turned (view_of pass.old)) }
 {
-    word_step::<H, Brand>(site, pass, Op::Add(1u64.wrapping_sub(256)));
+    word_step::<H, Brand>(site, pass, Op::Add(LOCKED.wrapping_sub(PENDING)));
 }

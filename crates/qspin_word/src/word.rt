@@ -9,6 +9,7 @@ ghost use Rattle.qspin_word.specs.Hands.{freed};
 ghost use Rattle.qspin_word.specs.Handles.{spin_in};
 ghost use Rattle.qspin_word.specs.Ways.{SpinTaken, SpinMissed, SpinGained, SpinRefused};
 
+use crate::PENDING;
 use crate::steps::{
     clear_pending, clear_pending_set_locked, exchange_free, fetch_set_pending, look, release,
     wait_unlocked,
@@ -73,14 +74,14 @@ pub fn take_by_pending<H: SpinHost, W: Wait>(site: &Site<H>, rt: &W, pass: &mut 
 {
     // Of several contenders one finds neither tail nor pending, and owns the bit that it set.
     let seen = fetch_set_pending(site, pass);
-    if seen < 256 {
+    if seen < PENDING {
         wait_unlocked(site, rt, pass);
         // While the bit is set nobody else takes the lock: who comes queues, and the front waits.
         clear_pending_set_locked(site, pass);
         return true;
     }
     // The bit was clear, so this pass set it, beside a tail. Whoever finds it set leaves it.
-    if seen / 256 % 2 == 0 {
+    if seen / PENDING % 2 == 0 {
         clear_pending(site, pass);
     }
     false

@@ -1,12 +1,12 @@
-use Rattle.std.proofs.Common.{map, get_or, ◌≡◌, subst, List}
+use Rattle.std.proofs.Common.{map}
 use Rattle.lock_core.specs.declared.layout.TheConstants.{SPIN_WORDS}
-use Rattle.lock_core.specs.Layout.{part}
-use Rattle.lock_core.specs.Views.{spin_part, spin_of}
-use Rattle.lock_core.specs.Spins.{frame_of, next_in, locked_in}
+use Rattle.lock_core.specs.Layout.{part, site}
+use Rattle.lock_core.specs.Views.{spin_part}
 use Rattle.lock_core.specs.Pasts.{opening, Moves}
 use Rattle.lock_core.specs.RunLaws.{ran-each, ran-so}
 use Rattle.lock_core.specs.SpinStated.{IsSpinLockThen, IsSpinMove}
-use Rattle.qspin_queue.proofs.Stating.{says}
+use Rattle.qspin_word.proofs.Turning.{numbers}
+use Rattle.qspin_queue.proofs.Saying.{says}
 use Rattle.qspin_queue.proofs.Moving.{moved}
 use Rattle.qspin_queue.proofs.laws.recall_spin_lock.Goals as goal
 
@@ -15,7 +15,7 @@ returns-clause-begins g c = c.recall.ensures.run.2
 
 pub returns-clause-always : goal.returns-clause-always
 returns-clause-always g c = let k = c.args.site.now.table.shared.key in let R = g.H.SiteRule in let own = c.recall.ensures.last in let f = g.H.SpinHost.FIRST in
-    ran-each R.marks (R.holds k) (R.moves k) (IsSpinLockThen f) (λ ws vs h. says (part f SPIN_WORDS ws) vs (g.met.H.SpinHost.spin_kept k ws vs h)) (opening R.marks k R.idle) own.now own.before own.rest _ own.past_is c.recall.ensures.run
+    ran-each R.marks (R.holds k) (R.moves k) (IsSpinLockThen f) (λ ws vs h. says R.marks f ws vs (g.met.H.SpinHost.spin_kept k ws vs h) (numbers g.H.O.Object.object R.unavailable g.H.O.Object.WORDS k (site k ws) vs (g.met.H.SiteRule.site_kept k ws vs h))) (opening R.marks k R.idle) own.now own.before own.rest _ own.past_is c.recall.ensures.run
 
 pub returns-clause-moves : goal.returns-clause-moves
 returns-clause-moves g c = let k = c.args.site.now.table.shared.key in let R = g.H.SiteRule in let f = g.H.SpinHost.FIRST in

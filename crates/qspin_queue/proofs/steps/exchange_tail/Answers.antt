@@ -8,8 +8,8 @@ use Rattle.qspin_queue.specs.Hands.{queued}
 use Rattle.qspin_queue.proofs.QueueSteps.{queues}
 use Rattle.qspin_queue.proofs.steps.exchange_tail.Goals as goal
 
-pub spin_step-requires-clause-may : goal.spin_step-requires-clause-may
-spin_step-requires-clause-may g c = λ n ends. ends-none c.args.pass.now.seat.me.0.view.spin (queued c.args.from n c.args.pass.now.seat.me.0.view) (g.H.SpinHost.may_free c.args.pass.now.seat.me.0.view) (ap holds_at c.requires.point) ends
+pub word_step-requires-clause-may : goal.word_step-requires-clause-may
+word_step-requires-clause-may g c = λ n ends. ends-none c.args.pass.now.seat.me.0.view.spin (queued c.args.from n c.args.pass.now.seat.me.0.view) (g.H.SpinHost.may_free c.args.pass.now.seat.me.0.view) (ap holds_at c.requires.point) ends
 
-pub spin_step-requires-clause-lock : goal.spin_step-requires-clause-lock
-spin_step-requires-clause-lock g c = subst (λ (z : ℕ). SpinAllows c.args.pass.now.seat.id c.args.pass.now.seat.me.0.view 0 (Exchange c.args.from (c.args.from % 512 + 2048 * z)) (λ n. queued c.args.from n c.args.pass.now.seat.me.0.view) (λ n. n / 2048 ≤ MAX_TASKS)) c.requires.node (queues c.args.pass.now.seat.me.0.view c.args.pass.now.seat.id c.args.from c.requires.point)
+pub word_step-requires-clause-lock : goal.word_step-requires-clause-lock
+word_step-requires-clause-lock g c = subst (λ (z : ℕ). SpinAllows c.args.pass.now.seat.id c.args.pass.now.seat.me.0.view 0 (Exchange c.args.from (c.args.from % 512 + 2048 * z)) (λ n. queued c.args.from n c.args.pass.now.seat.me.0.view) (λ n. n / 2048 ≤ MAX_TASKS)) c.requires.node (queues c.args.pass.now.seat.me.0.view c.args.pass.now.seat.id c.args.from c.requires.point)

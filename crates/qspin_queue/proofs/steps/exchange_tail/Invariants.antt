@@ -4,5 +4,5 @@ use Rattle.lock_core.specs.Ops.{first_of}
 use Rattle.qspin_queue.specs.Hands.{queued}
 use Rattle.qspin_queue.proofs.steps.exchange_tail.Given as goal
 
-abbrev pub ghosts-spin_step : goal.ghosts-spin_step
-ghosts-spin_step g a = record { after = λ n. queued (first_of a.op) n a.pass.now.seat.me.0.view; tells = λ n. n / 2048 ≤ MAX_TASKS }
+abbrev pub ghosts-word_step : goal.ghosts-word_step
+ghosts-word_step g a = record { after = λ n. queued (first_of a.op) n a.pass.now.seat.me.0.view; tells = λ n. n / 2048 ≤ MAX_TASKS }

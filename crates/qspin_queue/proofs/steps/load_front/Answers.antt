@@ -5,8 +5,8 @@ use Rattle.qspin_queue.specs.Hands.{readied}
 use Rattle.qspin_queue.proofs.QueueSteps.{readies}
 use Rattle.qspin_queue.proofs.steps.load_front.Goals as goal
 
-pub spin_step-requires-clause-may : goal.spin_step-requires-clause-may
-spin_step-requires-clause-may g c = λ n ends. ends-none c.args.pass.now.seat.me.0.view.spin (readied n c.args.pass.now.seat.me.0.view) (g.H.SpinHost.may_free c.args.pass.now.seat.me.0.view) (ap holds_at c.requires.point) ends
+pub word_step-requires-clause-may : goal.word_step-requires-clause-may
+word_step-requires-clause-may g c = λ n ends. ends-none c.args.pass.now.seat.me.0.view.spin (readied n c.args.pass.now.seat.me.0.view) (g.H.SpinHost.may_free c.args.pass.now.seat.me.0.view) (ap holds_at c.requires.point) ends
 
-pub spin_step-requires-clause-lock : goal.spin_step-requires-clause-lock
-spin_step-requires-clause-lock g c = readies c.args.pass.now.seat.me.0.view c.args.pass.now.seat.id c.requires.point
+pub word_step-requires-clause-lock : goal.word_step-requires-clause-lock
+word_step-requires-clause-lock g c = readies c.args.pass.now.seat.me.0.view c.args.pass.now.seat.id c.requires.point
