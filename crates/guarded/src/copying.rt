@@ -76,7 +76,8 @@ impl<L: SleepLock<O>, O: Served + Drop> Guarded<L, O> {
             (L.calls_on (lock_of self.now))
             (L.view pass.old).hand.records (L.view pass.old).hand.log }
     {
-        for at in 0..self.lock.log_len(pass) {
+        let len = self.lock.log_len(pass);
+        for at in 0..len {
             out.push_log(self.lock.log_word(pass, at));
         }
     }

@@ -1,7 +1,7 @@
 //! An object under its lock.
 ghost use Rattle.std.specs.Prelude.{◌≡◌, ◌<◌, [], ◌∷◌, length, None, Some, IsSome, IfOk};
 ghost use Rattle.lock_core.specs.declared.view.Held.TheVariants.{No};
-ghost use Rattle.lock_core.specs.Records.{IsPlan};
+ghost use Rattle.lock_core.specs.Records.{row, IsPlan};
 ghost use Rattle.lock_core.specs.Views.{gave_up, gathered};
 ghost use Rattle.lock_core.specs.Passes.{Numbered};
 ghost use Rattle.lock_core.specs.Pasts.{EachMoment, Paced, Tail};
@@ -125,6 +125,21 @@ impl<L: SleepLock<O>, O: Served + Drop> Guarded<L, O> {
             (L.view pass.new).past }
     {
         self.lock.recall(pass);
+    }
+
+    /// How many tasks the plan has.
+    pub fn tasks(&self) -> u32
+        ensures { result ≡ length (L.calls_on (lock_of self.now)) }
+    {
+        self.lock.tasks()
+    }
+
+    /// How many calls a task has.
+    pub fn calls(&self, task: u32) -> u32
+        requires { task < length (L.calls_on (lock_of self.now)) }
+        ensures { result ≡ length (row (L.calls_on (lock_of self.now)) task) }
+    {
+        self.lock.calls(task)
     }
 
     /// How many of its task's calls are recorded.

@@ -8,7 +8,7 @@ ghost use Rattle.lock_core.specs.Records.{row};
 ghost use Rattle.lock_core.specs.Views.{committed, next_entry};
 ghost use Rattle.lock_core.specs.Kinds.{shares};
 ghost use Rattle.lock_core.specs.Shown.{IsNextCall, PastGoesOn};
-ghost use Rattle.lock_core.specs.Locking.{Has, HasSince, Takes, KeepsPlace, Releases, IsStored, held_by};
+ghost use Rattle.lock_core.specs.Locking.{HasSince, Looks, Takes, KeepsPlace, Releases, IsStored, held_by};
 ghost use Rattle.guarded.specs.Handles.{lock_of};
 ghost use Rattle.guarded.specs.Performing.{IsNext, Refuses, Serves, Performs, HasStored, no_word};
 
@@ -343,12 +343,32 @@ impl<L: SleepLock<O>, O: Served + Drop> Guarded<L, O> {
         // counted would not be those that the call left.
         self.lock.downgrade(rt, pass, crew);
         self.show(rt, pass, gate);
-        let found = match reply {
-            Reply::Refused(_) => reply,
-            _ => O::look(&self.lock, pass, known),
-        };
+        let found = self.found(pass, known, reply);
         self.lock.release_shared(rt, pass, crew);
         found
+    }
+
+    /// What a call finds that has just replied so. A refused one doesn't look.
+    fn found(&self, pass: &mut L::Pass, known: O::Call, reply: Reply) -> Reply
+        requires own { L.sits (lock_of self.now) pass.old }
+        requires held { (L.view pass.old).hand.held ≢ No }
+        requires stored { IsStored O.object (L.calls_on (lock_of self.now))
+            (L.view pass.old).hand }
+        requires valid { O.object.IsCall known }
+        requires downgrades { O.downgrades known ≡ true }
+        requires done { (s : O.object.State) × O.object.IsState s ×
+            ((O.object.meaning s known).0 ≡ state_after O.object
+            (L.calls_on (lock_of self.now)) (L.view pass.old).hand.log) ×
+            (reply ≡ (O.object.meaning s known).1) }
+        ensures own { L.sits (lock_of self.now) pass.new }
+        ensures goes_on { PastGoesOn (L.view pass.old) (L.view pass.new) }
+        ensures kept { Looks (L.view pass.old) (L.view pass.new) }
+        ensures reply { result ≡ reply }
+    {
+        match reply {
+            Reply::Refused(_) => reply,
+            _ => O::look(&self.lock, pass, known),
+        }
     }
 
     /// Does a call that changes the object, and records it.

@@ -1,5 +1,5 @@
 -- The steps on a site's words, from the laws of `SiteRule`.
-use Rattle.std.proofs.Common.{◌-◌, ◌≡◌, ◌≢◌, ℕ, ◌+◌, inl, List, [], ◌∷◌, ◌++◌, get_or, map, set, drop, None, Some, refl, sym, ap, subst, ◌∙◌, arith, ◌%◌, ◌<◌, ◌≤◌}
+use Rattle.std.proofs.Common.{◌-◌, ◌≡◌, ◌≢◌, ℕ, ◌+◌, inl, inr, List, [], ◌∷◌, ◌++◌, get_or, map, set, drop, None, Some, refl, sym, ap, subst, ◌∙◌, arith, ◌%◌, ◌<◌, ◌≤◌}
 use Rattle.std.proofs.lemmas.List.{get_or-drop, drop-set-add}
 use mathlib.Core.Option.{some, none}
 use mathlib.Core.List.{map-append}
@@ -47,7 +47,7 @@ module _ {E Call : Type 0} (o : Obj Call) (unavailable : Unavailable) (size : �
       let keeps : Kept (site k (set ws (LOCK_WORDS + at) n)) (set (map hand_of vs) id v.hand) = subst (λ (z : List ℕ). Kept (site k z) (set (map hand_of vs) id v.hand)) (sym same)
       (subst (Kept (site k ws)) (sym (set_again (map hand_of vs) id v.hand (at_map hand_of vs id v there))) (kept ws vs h)) in
       let step : SiteMove id (site k ws) vs (site k (set ws (LOCK_WORDS + at) n)) (set vs id (ticked v)) = subst (λ (z : List ℕ). SiteMove id (site k ws) vs (site k z) (set vs id (ticked v))) (sym same) (set-moves id (site k ws) (site k ws) vs v (ticked v) there (tick-moved (site k ws) v)) in
-      subst (λ (z : List ℕ). Goes holds moves id ws vs z (set vs id (ticked v))) same (sites ws vs id at n v v.hand v.spin h there (refl, inl refl) refl keeps step)
+      subst (λ (z : List ℕ). Goes holds moves id ws vs z (set vs id (ticked v))) same (sites ws vs id at n v v.hand v.spin h there (refl, inl refl) (inl refl) keeps step)
 
   -- a load that tells something
   pub finds : (tells : Hand → ℕ → ℕ → Type 0) (slots id at : ℕ) (me : M) → ((s : List ℕ) (hs : List Hand) → Kept (lay k s) hs → get_elem? hs id ≡ some me.0.hand → tells me.0.hand at (get_or s at 0))
@@ -65,7 +65,7 @@ module _ {E Call : Type 0} (o : Obj Call) (unavailable : Unavailable) (size : �
       → ((s : List ℕ) (hs : List Hand) → Kept (lay k s) hs → get_elem? hs id ≡ some me.0.hand → Kept (lay k (set s at new)) (set hs id g) × SiteStep (lay k s) (lay k (set s at new)) me.0.hand g)
       → Lets holds moves slots id me (LOCK_WORDS + at) (Store new) (λ _. PutBy g (step slots (LOCK_WORDS + at) new 0 none) me new)
   puts slots id at new me g same law = stores holds moves slots id (LOCK_WORDS + at) new me (handed me.0 g) (λ _. PutBy g (step slots (LOCK_WORDS + at) new 0 none) me new) refl
-      (λ ws vs h there. (changes ws vs id at new me.0 g me.0.spin h there same refl (law (drop LOCK_WORDS ws) (map hand_of vs) (kept ws vs h) (at_map hand_of vs id me.0 there)), (refl, refl)))
+      (λ ws vs h there. (changes ws vs id at new me.0 g me.0.spin h there same (inl refl) (law (drop LOCK_WORDS ws) (map hand_of vs) (kept ws vs h) (at_map hand_of vs id me.0 there)), (refl, refl)))
 
   -- a fetch-add that changes the hand
   pub adds : (slots id at by : ℕ) (me : M) (g : Hand) → KeepsHold rests me.0 g
@@ -74,7 +74,7 @@ module _ {E Call : Type 0} (o : Obj Call) (unavailable : Unavailable) (size : �
   adds slots id at by me g same law = modifies holds moves slots id (LOCK_WORDS + at) me (Add by) (handed me.0 g) (PutBy g (step slots (LOCK_WORDS + at) by 0 none) me) refl
       (λ ws vs h there small. let t = law (drop LOCK_WORDS ws) (map hand_of vs) (kept ws vs h) (at_map hand_of vs id me.0 there) in let fits = t.0 in let here : get_or (drop LOCK_WORDS ws) at 0 ≡ get_or ws (LOCK_WORDS + at) 0 = get_or-drop LOCK_WORDS ws at 0 in
       let sum : get_or (drop LOCK_WORDS ws) at 0 + by ≡ (get_or ws (LOCK_WORDS + at) 0 + by) % 18446744073709551616 = omega (arith, fits, here) in
-      (subst (λ (n : ℕ). Goes holds moves id ws vs (set ws (LOCK_WORDS + at) n) (set vs id (handed me.0 g))) sum (changes ws vs id at (get_or (drop LOCK_WORDS ws) at 0 + by) me.0 g me.0.spin h there same refl (t.1, t.2)), (refl, refl)))
+      (subst (λ (n : ℕ). Goes holds moves id ws vs (set ws (LOCK_WORDS + at) n) (set vs id (handed me.0 g))) sum (changes ws vs id at (get_or (drop LOCK_WORDS ws) at 0 + by) me.0 g me.0.spin h there same (inl refl) (t.1, t.2)), (refl, refl)))
 
   -- a load that changes the hand, by what it finds
   pub heeds : (becomes : Hand → ℕ → Hand → Type 0) (slots id at : ℕ) (me : M)
@@ -85,7 +85,7 @@ module _ {E Call : Type 0} (o : Obj Call) (unavailable : Unavailable) (size : �
         w,
         keeps,
         tt,
-        sites ws vs id at n v t.0 v.spin h there t.2 refl (subst (λ (z : List ℕ). Kept (site k z) (set (map hand_of vs) id t.0)) (sym same) t.3) (subst (λ (z : List ℕ). SiteMove id (site k ws) vs (site k z) (set vs id w)) (sym same) (set-moves id (site k ws) (site k ws) vs v w there (hand-moved (site k ws) (site k ws) v t.0 (leaves-site (site k ws) v.hand t.0 t.4)))),
+        sites ws vs id at n v t.0 v.spin h there t.2 (inl refl) (subst (λ (z : List ℕ). Kept (site k z) (set (map hand_of vs) id t.0)) (sym same) t.3) (subst (λ (z : List ℕ). SiteMove id (site k ws) vs (site k z) (set vs id w)) (sym same) (set-moves id (site k ws) (site k ws) vs v w there (hand-moved (site k ws) (site k ws) v t.0 (leaves-site (site k ws) v.hand t.0 t.4)))),
         refl,
         (t.0, subst (λ (z : ℕ). becomes v.hand z t.0) (get_or-drop LOCK_WORDS ws at 0) t.1, (refl, refl)),
       )
@@ -97,7 +97,7 @@ module _ {E Call : Type 0} (o : Obj Call) (unavailable : Unavailable) (size : �
       → Lets holds moves slots id me (LOCK_WORDS + at) (Exchange old new) (Begun becomes (step slots (LOCK_WORDS + at) old new none) me)
   begins becomes slots id at old new me law = exchanges holds moves slots id (LOCK_WORDS + at) old new me (λ _. ticked me.0) (Begun becomes (step slots (LOCK_WORDS + at) old new none) me) (λ _. refl)
       (λ ws vs h there is. let t = law (drop LOCK_WORDS ws) (map hand_of vs) (kept ws vs h) (at_map hand_of vs id me.0 there) (get_or-drop LOCK_WORDS ws at 0 ∙ is) in
-      (with_number me.0 t.0, refl, changes ws vs id at new me.0 t.0 (forgot me.0.spin) h there t.2 refl (t.3, t.4), ((λ _. (t.0, t.1, (refl, refl))), λ not. absurd (not refl))))
+      (with_number me.0 t.0, refl, changes ws vs id at new me.0 t.0 (forgot me.0.spin) h there t.2 (inr refl) (t.3, t.4), ((λ _. (t.0, t.1, (refl, refl))), λ not. absurd (not refl))))
       (λ ws vs h there not _. (looks ws vs id at me.0 h there, ((λ is. absurd (not is)), λ _. (refl, refl))))
 
   pub splits-kept : (idle : E) (ws : List ℕ) (vs : List (View E)) (id : ℕ) (v : View E) → holds ws vs → get_elem? vs id ≡ some v → Kept (site k ws) (map hand_of (set vs id (ticked v) ++ split_off idle v ∷ []))

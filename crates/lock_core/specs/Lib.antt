@@ -22,6 +22,7 @@ pub mod Chronicles
 pub mod Nothings
 pub mod Barely
 pub mod Stated
+pub mod SpinStated
 pub mod Kinds
 pub mod Shown
 pub mod Locking

@@ -5,10 +5,11 @@ use lib.ListN.{get_elem?}
 use Rattle.lock_core.specs.declared.view.View.{View}
 use Rattle.lock_core.specs.declared.view.SpinHand.{SpinHand}
 use Rattle.lock_core.specs.declared.view.Frame.{Frame}
+use Rattle.lock_core.specs.declared.view.Saw.{Saw}
 use Rattle.lock_core.specs.declared.view.Point.{Point}
 use Rattle.lock_core.specs.declared.view.Point.TheVariants.{Out, Undoing, Pending, Taking, Cleared, Ready, Passing, Holding}
 use Rattle.lock_core.specs.declared.layout.TheConstants.{SPIN_WORDS}
-use Rattle.lock_core.specs.Views.{SpinPart, SpinRests}
+use Rattle.lock_core.specs.Views.{SpinPart, SpinRests, SpinStays, no_spin}
 use Rattle.lock_core.specs.SpinFrames.{uses, stands, holds_of, owns_at}
 use Rattle.lock_core.specs.SpinQueues.{LockKept, tail_unit}
 use Rattle.lock_core.specs.Parts.{Each}
@@ -85,10 +86,12 @@ pub record SpinStep (word id : ℕ) (ps : List SpinPart) (queue : List ℕ) (ps'
   pub takes : holds_of (frame_of after) ≡ 1 → TakesFrom before.spin.frame.point word
   pub sets : owns_at before.spin.frame.point ≡ 0 → SetsTo after.spin.frame.point word
   pub queues : QueueMoves (stands before.spin.frame.point) (stands after.spin.frame.point) before.spin.frame.code queue queue'
+  -- what it now has as seen, it saw before, or is the word
+  pub saw : (x : Saw) → after.spin.saw ≡ Some x → (before.spin.saw ≡ Some x) ⊎ (x.word ≡ word)
 
--- what a step elsewhere leaves of a pass: where it is with the lock
+-- what a step elsewhere leaves of a pass: what it knows of the lock, unless it is at no point of it and is spent
 abbrev pub StaysAt : SpinPart → SpinPart → Type 0
-StaysAt p p' = (frame_of p' ≡ frame_of p) ⊎ (SpinRests p.spin × SpinRests p'.spin)
+StaysAt p p' = SpinStays p.spin p'.spin ⊎ (SpinRests p.spin × (p'.spin ≡ no_spin))
 
 -- a step elsewhere
 pub record SpinLeaves (w : List ℕ) (ps : List SpinPart) (queue w' : List ℕ) (ps' : List SpinPart) (queue' : List ℕ) : Type 0 where
@@ -111,9 +114,14 @@ holds_in s = holds_of s.frame
 abbrev pub SpinFrees : SpinHand → SpinHand → Type 0
 SpinFrees s g = (holds_in s ≡ 1) × (holds_in g ≡ 0)
 
--- how a step may change the spin part of a view: who takes the lock has taken it once more, and no other step changes that number
-abbrev pub SpinGoes : SpinHand → SpinHand → Type 0
-SpinGoes s g = g.entries ≡ s.entries + (holds_in g - holds_in s)
+-- how the step of this number may change the spin part of a view
+pub record SpinGoes (step : ℕ) (s g : SpinHand) : Type 0 where
+  -- who takes the lock has taken it once more, at this step and from the point where it was
+  pub entries : g.entries ≡ s.entries + (holds_in g - holds_in s)
+  pub takes : holds_in s ≡ 0 → holds_in g ≡ 1 → (g.took ≡ step) × (g.from ≡ s.frame.point)
+  pub keeps : holds_in g ≤ holds_in s → (g.took ≡ s.took) × (g.from ≡ s.from)
+  -- what it now has as seen, it saw before, or at this step
+  pub saw : (x : Saw) → g.saw ≡ Some x → (s.saw ≡ Some x) ⊎ (x.step ≡ step)
 
 module _ {E : Type 0} where
   -- a step on the spin words

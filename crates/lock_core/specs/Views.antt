@@ -1,5 +1,5 @@
 -- Views, and what each kind of step makes of them.
-use Rattle.std.specs.Prelude.{◌≤◌, ◌≡◌, ℕ, zero, suc, ◌+◌, ◌-◌, ◌==◌, true, false, List, [], ◌∷◌, ◌++◌, length, slice_get, slice_set, leb, Option, Some, None, if◌then◌else◌, ◌/◌, ◌%◌, ◌^◌}
+use Rattle.std.specs.Prelude.{◌≤◌, ◌≡◌, ◌⊎◌, ℕ, zero, suc, ◌+◌, ◌-◌, ◌==◌, true, false, List, [], ◌∷◌, ◌++◌, length, slice_get, slice_set, leb, Option, Some, None, if◌then◌else◌, ◌/◌, ◌%◌, ◌^◌}
 use Rattle.std.specs.Option.{option_map_or}
 use Rattle.word_bits.specs.declared.entry.Entry.{Entry}
 use Rattle.word_bits.specs.declared.rec.Rec.{Rec}
@@ -59,9 +59,9 @@ SpinHolds s = s.frame.point ≡ Holding
 abbrev pub forgot : SpinHand → SpinHand
 forgot s = record s { saw = None }
 
--- all but what it saw of the spin word is as before
+-- it is as before, or has forgotten what it saw of the spin word
 abbrev pub SpinStays : SpinHand → SpinHand → Type 0
-SpinStays s g = g ≡ record s { saw = g.saw }
+SpinStays s g = (g ≡ s) ⊎ (g ≡ forgot s)
 
 -- what the spin lock's own facts see of a view
 pub record SpinPart : Type 0 where

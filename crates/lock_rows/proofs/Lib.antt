@@ -1,2 +1,3 @@
 mod Performing
 mod Planned
+pub mod Locked

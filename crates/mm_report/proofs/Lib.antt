@@ -11,6 +11,7 @@ pub mod Legal
 pub mod Counted
 pub mod Filled
 pub mod Descriptors
+pub mod Tallies
 pub mod LineTexts
 pub mod Replies
 pub mod Telling

@@ -21,7 +21,7 @@ use Rattle.task_script.proofs.Pieces.{flat_map_split}
 use Rattle.mm_report.specs.declared.cursor.Cursor.{Cursor}
 use Rattle.mm_report.specs.Text.{event_text}
 use Rattle.mm_report.specs.Merged.{front, behind, merged, task_lists, NextFrom}
-use Rattle.mm_report.specs.Cursors.{at_start, first_record, HasRecords, HaveRecords, AreRead, IsAt, AreAt, IsOneBelow}
+use Rattle.mm_report.specs.Cursors.{no_cursor, earliest, first_record, HasRecords, HaveRecords, AreRead, IsAt, AreAt, IsOneBelow}
 use Rattle.mm_report.proofs.Merging.{AreFrom, OthersFrom, merged_at_once}
 use Rattle.mm_report.proofs.Remaining.{Remains, remains_all, remains_added, remains_failed, remains_none}
 
@@ -99,7 +99,7 @@ module _ {Call : Type 0} (o : Obj Call) where
   next_zero (v ∷ vs) = omega arith
 
   -- cursors before all lines have all calls left
-  pub all_at_start : (s : Listing) (object : ℕ) (records : Records) (cursors : List Cursor) → ((task : ℕ) → task < length s.tasks → get_or cursors task at_start ≡ record { line = 0; rec = first_record s object task; position = 0 })
+  pub all_at_start : (s : Listing) (object : ℕ) (records : Records) (cursors : List Cursor) → ((task : ℕ) → task < length s.tasks → get_or cursors task no_cursor ≡ record { line = 0; rec = first_record s object task; position = Some 0 })
       → AreAt o s object records cursors (task_lists 0 (plan_of s object) records)
   all_at_start s object records cursors start task lines rs left at-lines at-rs at-left =
       let within = slice_get_within s.tasks task lines at-lines in
@@ -114,20 +114,20 @@ module _ {Call : Type 0} (o : Obj Call) where
 
   -- the cursor of one task has gone on, those of the others stay
   pub one_further : (s : Listing) (object bound i : ℕ) (cursors : List Cursor) (new : Cursor) (task : ℕ) (lines : List Line) (rs : List Rec) (left : List Event) → i < length cursors
-      → IsAt o object task lines (first_record s object task) rs (get_or cursors task at_start) (cond (nat_lt task i) (behind o bound left) left)
+      → IsAt o object task lines (first_record s object task) rs (get_or cursors task no_cursor) (cond (nat_lt task i) (behind o bound left) left)
       → (task ≡ i → IsAt o object task lines (first_record s object task) rs new (behind o bound left))
-      → IsAt o object task lines (first_record s object task) rs (get_or (set cursors i new) task at_start) (cond (nat_lt task (i + 1)) (behind o bound left) left)
+      → IsAt o object task lines (first_record s object task) rs (get_or (set cursors i new) task no_cursor) (cond (nat_lt task (i + 1)) (behind o bound left) left)
   one_further s object bound i cursors new task lines rs left within was now = go (cases_eq task i)
     where
-      go : (task ≡ i) ⊎ (task ≡ i → ⊥) → IsAt o object task lines (first_record s object task) rs (get_or (set cursors i new) task at_start) (cond (nat_lt task (i + 1)) (behind o bound left) left)
+      go : (task ≡ i) ⊎ (task ≡ i → ⊥) → IsAt o object task lines (first_record s object task) rs (get_or (set cursors i new) task no_cursor) (cond (nat_lt task (i + 1)) (behind o bound left) left)
       go (inl same) =
           let test : nat_lt task (i + 1) ≡ true = grind (arith, nat_tests) in
-          subst (λ b. IsAt o object task lines (first_record s object task) rs (get_or (set cursors i new) task at_start) (cond b (behind o bound left) left)) (sym test)
-          (subst (λ c. IsAt o object task lines (first_record s object task) rs c (behind o bound left)) (sym (get_or-set_at cursors i task new at_start same within)) (now same))
+          subst (λ b. IsAt o object task lines (first_record s object task) rs (get_or (set cursors i new) task no_cursor) (cond b (behind o bound left) left)) (sym test)
+          (subst (λ c. IsAt o object task lines (first_record s object task) rs c (behind o bound left)) (sym (get_or-set_at cursors i task new no_cursor same within)) (now same))
       go (inr other) =
           let test : nat_lt task (i + 1) ≡ nat_lt task i = grind (arith, nat_tests) in
-          subst (λ b. IsAt o object task lines (first_record s object task) rs (get_or (set cursors i new) task at_start) (cond b (behind o bound left) left)) (sym test)
-          (subst (λ c. IsAt o object task lines (first_record s object task) rs c (cond (nat_lt task i) (behind o bound left) left)) (sym (get_or-set_other cursors i task new at_start other)) was)
+          subst (λ b. IsAt o object task lines (first_record s object task) rs (get_or (set cursors i new) task no_cursor) (cond b (behind o bound left) left)) (sym test)
+          (subst (λ c. IsAt o object task lines (first_record s object task) rs c (cond (nat_lt task i) (behind o bound left) left)) (sym (get_or-set_other cursors i task new no_cursor other)) was)
 
   -- what is left of the history from a position on
   pub record HistoryLeft (s : Listing) (object : ℕ) (records : Records) (end position : ℕ) (cursors : List Cursor) (old new : Option (List ℕ)) (before now : List ℕ) : Type 0 where
@@ -139,7 +139,7 @@ module _ {Call : Type 0} (o : Obj Call) where
     pub text : Remains old new before now (flat_map (event_text s object) (merged o position count lefts)) (flat_map (event_text s object) (merged o 0 end (task_lists 0 (plan_of s object) records)))
 
   pub history_begins : (s : Listing) (object : ℕ) (recs : List ℕ) (records : Records) (end : ℕ) (cursors : List Cursor) (old : Option (List ℕ)) (before : List ℕ) → AreRead s object recs records
-      → ((task : ℕ) → task < length s.tasks → get_or cursors task at_start ≡ record { line = 0; rec = first_record s object task; position = 0 }) → HistoryLeft s object records end 0 cursors old old before before
+      → ((task : ℕ) → task < length s.tasks → get_or cursors task no_cursor ≡ record { line = 0; rec = first_record s object task; position = Some 0 }) → HistoryLeft s object records end 0 cursors old old before before
   history_begins s object recs records end cursors old before read start = record {
     lefts = task_lists 0 (plan_of s object) records;
     count = end;
@@ -193,8 +193,8 @@ module _ {Call : Type 0} (o : Obj Call) where
           let own = task_read s object task recs records lines read at-lines in
           let here = at task lines own.told left at-lines own.at is in
           let low = below task other (simp length-take (omega arith)) in
-          let same = get_or-take (length s.tasks) cursors task at_start (omega arith) in
-          next_lower bound (get_or cursors task at_start).position left (omega (arith, low, ap (λ (c : Cursor). c.position) same)) here.next
+          let same = get_or-take (length s.tasks) cursors task no_cursor (omega arith) in
+          next_lower bound (earliest (get_or cursors task no_cursor).position) left (omega (arith, low, ap (λ (c : Cursor). earliest c.position) same)) here.next
 
   -- the text of the calls up to a position, and that of the others
   split_text : (s : Listing) (object position bound count more : ℕ) (lefts : List (List Event)) → position < bound → count + position ≡ more + bound → CanTell position bound lefts → flat_map (event_text s object) (merged o position count lefts)

@@ -1,5 +1,5 @@
 -- How far the calls of each task on an object are told.
-use Rattle.std.specs.Prelude.{◌≡◌, ℕ, ◌+◌, ◌<◌, ◌≤◌, List, [], ◌∷◌, ◌++◌, length, take, drop, map, filter, flat_map, sum_by, count_by, slice_get, get_or, Some}
+use Rattle.std.specs.Prelude.{◌≡◌, ℕ, ◌+◌, ◌<◌, ◌≤◌, List, [], ◌∷◌, ◌++◌, length, take, drop, map, filter, flat_map, sum_by, count_by, slice_get, get_or, Option, Some, None}
 use Rattle.std.specs.List.{AllByRecursion}
 use Rattle.word_bits.specs.declared.rec.Rec.{Rec}
 use Rattle.word_bits.specs.RecWord.{IsRec, rec_word}
@@ -10,14 +10,23 @@ use Rattle.task_script.specs.Scripts.{Listing, call_words, is_on}
 use Rattle.mm_report.specs.declared.cursor.Cursor.{Cursor}
 use Rattle.mm_report.specs.Merged.{NextFrom}
 
--- before any line
+-- before any line, and before any call
 abbrev pub at_start : Cursor
-at_start = record { line = 0; rec = 0; position = 0 }
+at_start = record { line = 0; rec = 0; position = Some 0 }
+
+-- what stands for a cursor that isn't there
+abbrev pub no_cursor : Cursor
+no_cursor = record { line = 0; rec = 0; position = None }
+
+-- where the next call stands at the earliest, which is past all positions where none is left
+abbrev pub earliest : Option ℕ → ℕ
+earliest None = 18446744073709551615
+earliest (Some position) = position
 
 -- no task but one has calls left below a position
 abbrev pub IsOneBelow : ℕ → List Cursor → Type 0
 IsOneBelow bound cursors =
-    (one : ℕ) × ((task : ℕ) → (task ≡ one → ⊥) → task < length cursors → bound ≤ (get_or cursors task at_start).position)
+    (one : ℕ) × ((task : ℕ) → (task ≡ one → ⊥) → task < length cursors → bound ≤ earliest (get_or cursors task no_cursor).position)
 
 -- how many calls on the object stand before a line
 abbrev pub calls_before : ℕ → List Line → ℕ → ℕ
@@ -58,10 +67,10 @@ module _ {Call : Type 0} (o : Obj Call) where
   pub record IsAt (object task : ℕ) (lines : List Line) (first : ℕ) (rs : List Rec) (c : Cursor) (left : List Event) : Type 0 where
     pub rec : c.rec ≡ first + calls_before object lines c.line
     pub is : left ≡ drop (calls_before object lines c.line) (events_of object task lines rs)
-    pub next : NextFrom o c.position left
+    pub next : NextFrom o (earliest c.position) left
 
   -- the cursors of all tasks, where these calls of each are left
   abbrev pub AreAt : Listing → ℕ → Records → List Cursor → List (List Event) → Type 0
   AreAt s object records cursors lefts =
       (task : ℕ) (lines : List Line) (rs : List Rec) (left : List Event) → slice_get s.tasks task ≡ Some lines → slice_get records task ≡ Some rs → slice_get lefts task ≡ Some left
-      → IsAt object task lines (first_record s object task) rs (get_or cursors task at_start) left
+      → IsAt object task lines (first_record s object task) rs (get_or cursors task no_cursor) left

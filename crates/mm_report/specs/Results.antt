@@ -1,5 +1,5 @@
 -- The results of a script: what each of its objects leaves.
-use Rattle.std.specs.Prelude.{◌≡◌, ℕ, ◌+◌, Bool, true, false, List, [], ◌∷◌, length, sum_by, count_by}
+use Rattle.std.specs.Prelude.{◌≡◌, ℕ, ◌+◌, ◌<◌, Bool, true, false, List, [], ◌∷◌, length, sum_by, count_by, get_or}
 use Rattle.word_bits.specs.declared.entry.Entry.{Entry}
 use Rattle.word_bits.specs.LockWords.{counted, owned}
 use Rattle.word_bits.specs.Snapshots.{Words, no_words}
@@ -7,6 +7,7 @@ use Rattle.word_bits.specs.Histories.{Plan, Records}
 use Rattle.word_bits.specs.Legal.{IsLegal, Tells}
 use Rattle.vma_map.specs.Spaces.{space}
 use Rattle.fd_table.specs.Tables.{table}
+use Rattle.task_script.specs.declared.script.Line.{Line}
 use Rattle.task_script.specs.Scripts.{Declared, Listing, plan_of, is_on}
 
 -- how many words store the state of an object
@@ -17,6 +18,10 @@ words_of_kind false = 64
 -- how many calls of the script are on the object
 abbrev pub calls_on : Listing → ℕ → ℕ
 calls_on s object = sum_by (count_by (is_on object)) s.tasks
+
+-- the calls of these lines are counted, each on its object
+abbrev pub AddsCalls : List Line → (old new : List ℕ) → Type 0
+AddsCalls lines old new = (object : ℕ) → object < 16 → get_or new object 0 ≡ get_or old object 0 + count_by (is_on object) lines
 
 -- empty results, with room for a record and an entry of each call and for the state
 abbrev pub empty_from : Listing → ℕ → List Declared → List Words

@@ -1,7 +1,7 @@
 //! How far each task's calls on an object are told.
-ghost use Rattle.std.specs.Prelude.{◌≡◌, ◌≤◌, ◌<◌, ◌+◌, ◌⊎◌, ℕ, length, get_or};
+ghost use Rattle.std.specs.Prelude.{◌≡◌, ◌≤◌, ◌<◌, ◌+◌, ◌⊎◌, ℕ, Some, length, get_or};
 ghost use Rattle.mm_report.specs.Results.{calls_on};
-ghost use Rattle.mm_report.specs.Cursors.{at_start, first_record, IsOneBelow};
+ghost use Rattle.mm_report.specs.Cursors.{earliest, no_cursor, first_record, IsOneBelow};
 
 use crate::results::count_on;
 use task_script::Script;
@@ -14,14 +14,23 @@ pub(crate) struct Cursor {
     pub(crate) line: usize,
     /// The place of that call's record.
     pub(crate) rec: usize,
-    /// No call that is left stands below this position.
-    pub(crate) position: u64,
+    /// No call that is left stands below this position. `None` where no call is left.
+    pub(crate) position: Option<u64>,
+}
+
+impl Cursor {
+    /// Where the next call stands at the earliest, which is past all positions where none is left.
+    pub(crate) fn earliest(&self) -> u64
+        ensures { result ≡ earliest self.now.position }
+    {
+        self.position.unwrap_or(u64::MAX)
+    }
 }
 
 const START: Cursor = Cursor {
     line: 0,
     rec: 0,
-    position: 0,
+    position: Some(0),
 };
 
 /// The cursors of all tasks, each before its task's first line.
@@ -34,8 +43,8 @@ pub(crate) fn first_cursors(
     ensures all { length result ≡ 64 }
     ensures room { length script.now.tasks ≤ 64 }
     ensures starts { (task : ℕ) → task < length script.now.tasks →
-        get_or result task at_start ≡
-        record { line = 0; rec = first_record script.now object task; position = 0 } }
+        get_or result task no_cursor ≡
+        record { line = 0; rec = first_record script.now object task; position = Some 0 } }
 {
     let mut cursors = [START; MAX_TASKS as usize];
     let mut rec = 0;
@@ -53,8 +62,9 @@ fn second_position(cursors: &[Cursor]) -> u64
     let mut least = u64::MAX;
     let mut second = u64::MAX;
     for cursor in cursors {
-        second = second.min(cursor.position.max(least));
-        least = least.min(cursor.position);
+        let earliest = cursor.earliest();
+        second = second.min(earliest.max(least));
+        least = least.min(earliest);
     }
     second
 }

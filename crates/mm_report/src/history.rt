@@ -101,15 +101,16 @@ impl History<'_> {
             let Some(rec) = rec_at(self.recs, cursor.rec) else {
                 return Ok(());
             };
-            cursor.position = position::<O>(words, rec);
-            if cursor.position >= bound {
+            let position = position::<O>(words, rec);
+            cursor.position = Some(position);
+            if position >= bound {
                 return Ok(());
             }
             write_event(task, number, words, rec.reply, out, sink)?;
             cursor.rec += 1;
         }
         cursor.line = lines.len();
-        cursor.position = u64::MAX;
+        cursor.position = None;
         Ok(())
     }
 
@@ -143,7 +144,7 @@ impl History<'_> {
             (behind O.object bound left)) }
         ensures cause { CountsFailure (K.faults sink.old) (K.faults sink.new) result }
     {
-        if cursor.position >= bound {
+        if cursor.earliest() >= bound {
             return Ok(());
         }
         let lines = self.script.calls(task as usize);

@@ -1,8 +1,9 @@
 //! What each object of a script leaves.
 ghost use Rattle.std.specs.Prelude.{◌≡◌, ◌<◌, ◌^◌, ◌≤◌, length, slice_get, slice_set, Some, IfOk};
-ghost use Rattle.std.specs.Prelude.{count_by};
+ghost use Rattle.std.specs.Prelude.{ℕ, List, OnOk, count_by, get_or};
 ghost use Rattle.task_script.specs.Scripts.{is_on};
-ghost use Rattle.mm_report.specs.Results.{empty_results, calls_on, words_of_kind};
+ghost use Rattle.task_script.specs.declared.script.Line.{Line};
+ghost use Rattle.mm_report.specs.Results.{AddsCalls, empty_results, calls_on, words_of_kind};
 ghost use Rattle.std.specs.Borrow.{sem};
 ghost use Rattle.mm_report.specs.Lending.{LendsSnapshot};
 
@@ -12,6 +13,9 @@ use std::marker::Model;
 use task_script::{Line, Script};
 use vma_map::Areas;
 use word_bits::{Object, Snapshot};
+
+/// The most objects of a script.
+const MAX_OBJECTS: usize = 16;
 
 /// A snapshot of each object of a script, in the order of declaration.
 #[derive(Drop)]
@@ -40,16 +44,35 @@ pub(crate) fn state_words(is_space: bool) -> usize
     if is_space { Areas::WORDS } else { Fds::WORDS }
 }
 
-// How many calls of the script are on the object. More than a `usize` counts can't be reserved.
-pub(crate) fn calls_of(script: &Script, object: u32) -> Result<usize, AllocError>
-    ensures { IfOk result (λ count. count ≡ calls_on script.now object) }
+/// Counts a task's calls on each object. More than a `usize` counts can't be reserved.
+fn count_task(
+    script: &Script,
+    task: usize,
+    counts: &mut [usize; MAX_OBJECTS],
+) -> Result<(), AllocError>
+    requires task { task < length script.now.tasks }
+    requires few { length script.now.objects ≤ 16 }
+    ensures counted { (lines : List Line) → slice_get script.now.tasks task ≡ Some lines →
+        OnOk result (AddsCalls lines counts.old counts.new) }
 {
-    let mut count = 0usize;
-    for task in 0..script.tasks() {
-        let calls = count_on(script.calls(task), object);
-        count = count.checked_add(calls).ok_or(AllocError)?;
+    for line in script.calls(task) {
+        let object = line.object as usize;
+        counts[object] = counts[object].checked_add(1).ok_or(AllocError)?;
     }
-    Ok(count)
+    Ok(())
+}
+
+/// How many calls of the script are on each object.
+pub(crate) fn count_calls(script: &Script) -> Result<[usize; MAX_OBJECTS], AllocError>
+    requires { length script.now.objects ≤ 16 }
+    ensures { IfOk result (λ counts. (object : ℕ) → object < 16 →
+        get_or counts object 0 ≡ calls_on script.now object) }
+{
+    let mut counts = [0; MAX_OBJECTS];
+    for task in 0..script.tasks() {
+        count_task(script, task, &mut counts)?;
+    }
+    Ok(counts)
 }
 
 impl Results {
@@ -58,9 +81,11 @@ impl Results {
     pub fn new(alloc: Global, script: &Script) -> Result<Results, AllocError>
         ensures { IfOk result (λ r. r ≡ empty_results script.now) }
     {
+        let objects = script.objects();
+        let counts = count_calls(script)?;
         let mut snapshots = Vec::new(alloc);
-        for object in 0..script.objects() {
-            let calls = calls_of(script, object as u32)?;
+        for object in 0..objects {
+            let calls = counts[object];
             let state = state_words(script.is_space(object));
             snapshots.push(Snapshot::new(alloc, calls, calls, state)?)?;
         }

@@ -6,7 +6,7 @@ ghost use Rattle.mm_report.specs.Results.{AreComplete, calls_on, words_of_kind};
 
 use super::*;
 use crate::line::add_event;
-use crate::results::{calls_of, state_words};
+use crate::results::{count_calls, state_words};
 use crate::state::write_table;
 use std::alloc::{AllocError, Global};
 use std::process::Abort;
@@ -65,7 +65,8 @@ fn fill(
     ensures { OnOk result (length snapshot.new.recs ≡ calls_on script.now object) }
 {
     let state = state_words(script.is_space(object as usize));
-    let calls = calls_of(script, object)?;
+    assert!(rt; (object as usize) < script.objects());
+    let calls = count_calls(script)?[object as usize];
     assert!(rt; left.recs.len() == calls);
     assert!(rt; left.log.len() <= calls);
     push_recs(snapshot, left.recs);

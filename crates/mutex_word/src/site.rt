@@ -150,7 +150,8 @@ impl<O: Object> OwnerSite<O> {
     }
 
     /// A load, after which the pass knows that at each moment of the table so far, from the new table
-    /// on, the facts of every site were so, and the owner word stated who held.
+    /// on, the facts of every site were so, and the owner word stated who held; and what each step did
+    /// to the site's words and to what the passes count.
     pub fn recall_holders(&self, pass: &mut OwnerPass<O>)
         requires own { SitsAt self.now pass.old }
         ensures own { SitsAt self.now pass.new }
@@ -159,6 +160,8 @@ impl<O: Object> OwnerSite<O> {
         ensures last { IsLatest pass.new }
         ensures begins { Tail (newest (plan_of self.now) ∷ []) (past_of pass.new) }
         ensures always { EachMoment (IsOwnerSiteThen O.object O.WORDS (plan_of self.now))
+            (past_of pass.new) }
+        ensures moves { Ran unmarked (newest (plan_of self.now)) (IsSiteMove (plan_of self.now))
             (past_of pass.new) }
     {
         self.site.recall(pass);

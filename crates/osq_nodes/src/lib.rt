@@ -11,3 +11,6 @@ pub mod words;
 
 pub use pass::OsqPass;
 pub use queue::Osq;
+
+#[cfg(test)]
+mod tests;

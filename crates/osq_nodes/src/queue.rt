@@ -47,6 +47,7 @@ impl Osq {
         ensures goes_on { KeepsPast pass.old pass.new }
         ensures number { KeepsNumber pass.old pass.new }
         ensures node { KeepsNode pass.old pass.new }
+        ensures step { steps_in pass.new ≡ steps_in pass.old + 1 }
         ensures its_own { SitsAt self.now result }
         ensures numberless { task_in result ≡ None }
         ensures out { place_in result ≡ Out }
@@ -82,6 +83,7 @@ impl Osq {
         ensures last { IsLatest pass.new }
         ensures numberless { task_in pass.new ≡ None }
         ensures node { KeepsNode pass.old pass.new }
+        ensures step { steps_in pass.new ≡ steps_in pass.old + 1 }
     {
         self.site.end(&mut pass.pass);
     }
@@ -97,6 +99,7 @@ impl Osq {
         ensures goes_on { KeepsPast into.old into.new }
         ensures same { task_in into.new ≡ task_in into.old }
         ensures node { KeepsNode into.old into.new }
+        ensures step { steps_in into.new ≡ steps_in into.old + 1 }
     {
         self.site.gather(&mut into.pass, other.pass);
     }
@@ -242,6 +245,7 @@ impl Osq {
         ensures number { KeepsNumber pass.old pass.new }
         ensures goes_on { KeepsPast pass.old pass.new }
         ensures node { KeepsNode pass.old pass.new }
+        ensures step { steps_in pass.new ≡ steps_in pass.old + 1 }
         ensures last { IsLatest pass.new }
         ensures begins { Tail (newest (tasks_of self.now) ∷ []) (past_of pass.new) }
         ensures always { EachMoment (IsSpinQueue (tasks_of self.now)) (past_of pass.new) }

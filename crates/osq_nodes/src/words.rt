@@ -38,6 +38,7 @@ impl<L: Leads> Play<(), View<Node>> for Does<L> {
 }
 
 /// Does one operation on a word, which keeps the queue's rule with one of the changes.
+#[inline]
 pub fn step<L: Leads>(osq: &Osq, pass: &mut OsqPass, word: usize, op: Op) -> u64
     requires own { SitsAt osq.now pass.old }
     requires numbered { IsSome (task_in pass.old) }

@@ -15,6 +15,7 @@ use osq_nodes::{Osq, OsqPass};
 use std::sync::Wait;
 
 /// Waits until the pass is the front, where the answer is true, or the CPU needs rescheduling.
+#[tactic(auto, using(crate::proofs::Rising::rises))]
 fn spin<C: Cpu, W: Wait>(osq: &Osq, rt: &W, pass: &mut OsqPass, cpu: &mut C, task: u32) -> bool
     requires own { SitsAt osq.now pass.old }
     requires mine { task_in pass.old ≡ Some task }
@@ -120,3 +121,6 @@ pub fn lock<C: Cpu, W: Wait>(osq: &Osq, rt: &W, pass: &mut OsqPass, cpu: &mut C)
     }
     false
 }
+
+#[cfg(test)]
+mod tests;

@@ -2,3 +2,5 @@ pub mod Fronts
 pub mod Standing
 pub mod NodeSteps
 pub mod QueueSteps
+pub mod Stating
+pub mod Moving

@@ -1,9 +1,11 @@
 -- What a clause reads of a pass in the queue of a spin lock.
-use Rattle.std.specs.Prelude.{◌≡◌, ◌≢◌, ℕ, ◌+◌, ◌<◌, Some}
+use Rattle.std.specs.Prelude.{◌≡◌, ◌≢◌, ℕ, ◌+◌, ◌<◌, Some, None, IsSome}
 use Rattle.word_bits.specs.declared.TheConstants.{MAX_TASKS}
 use Rattle.lock_core.specs.declared.pass.Pass.{Pass}
 use Rattle.lock_core.specs.declared.view.Point.TheVariants.{Taking}
-use Rattle.lock_core.specs.Handles.{view_of, hand_in}
+use Rattle.lock_core.specs.declared.site.Site.{Site}
+use Rattle.lock_core.specs.Views.{SpinRests, SpinHolds}
+use Rattle.lock_core.specs.Handles.{view_of, hand_in, task_in, SitsAt}
 use Rattle.qspin_word.specs.Ways.{SpinGained}
 
 module _ {R O E C : Type 0} where
@@ -31,3 +33,21 @@ module _ {R O E C : Type 0} where
     pub gained : SpinGained (view_of old) (view_of new)
     pub saw : (view_of new).spin.saw ≡ (view_of old).spin.saw
     pub from : (view_of new).spin.from ≢ Taking
+
+  -- a pass of the site with a number, which is at no point of the spin lock
+  pub record IsReady (site : Site R O E C) (pass : Pass R O E C) : Type 0 where
+    pub own : SitsAt site pass
+    pub numbered : IsSome (task_in pass)
+    pub out : SpinRests (view_of pass).spin
+
+  -- one that holds it
+  pub record IsHolder (site : Site R O E C) (pass : Pass R O E C) : Type 0 where
+    pub own : SitsAt site pass
+    pub numbered : IsSome (task_in pass)
+    pub holds : SpinHolds (view_of pass).spin
+
+  -- one without a number, which is at no point of the spin lock
+  pub record IsIdle (site : Site R O E C) (pass : Pass R O E C) : Type 0 where
+    pub own : SitsAt site pass
+    pub numberless : task_in pass ≡ None
+    pub out : SpinRests (view_of pass).spin

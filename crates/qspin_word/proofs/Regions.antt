@@ -1,5 +1,5 @@
 -- A step on one of the spin words, from what it makes of the lock.
-use Rattle.std.proofs.Common.{◌≡◌, ℕ, ◌≤◌, Bool, true, false, List, length, map, get_or, set, sym, refl, ap, ◌∙◌, subst, inr, arith, length-set, get_or-set_same, get_or-set_other}
+use Rattle.std.proofs.Common.{◌≡◌, ℕ, ◌≤◌, ◌⊎◌, Bool, true, false, List, length, map, get_or, set, sym, refl, ap, ◌∙◌, subst, inr, arith, length-set, get_or-set_same, get_or-set_other, Some}
 use mathlib.Core.Option.{some}
 use lib.ListN.{get_elem?}
 use lib.Seq.{set-get_or}
@@ -7,6 +7,7 @@ use Rattle.word_bits.specs.declared.TheConstants.{MAX_TASKS}
 use Rattle.lock_core.specs.declared.layout.TheConstants.{SPIN_WORDS}
 use Rattle.lock_core.specs.declared.view.SpinHand.{SpinHand}
 use Rattle.lock_core.specs.declared.view.Frame.{Frame}
+use Rattle.lock_core.specs.declared.view.Saw.{Saw}
 use Rattle.lock_core.specs.declared.view.Point.{Point}
 use Rattle.lock_core.specs.Parts.{each-set, set_part}
 use Rattle.lock_core.specs.Views.{SpinPart}
@@ -26,7 +27,7 @@ queue-stays true code q = refl
 queue-stays false code q = refl
 
 -- a step of the pass id from the point `before`, after which it has the spin hand s and the queue is q'
-module _ (w q q' : List ℕ) (ps : List SpinPart) (id : ℕ) (p : SpinPart) (s : SpinHand) (k : SpinFacts w q ps) (at : get_elem? ps id ≡ some p) (own : OwnNode (record p { spin = s })) (before : Point) (is : p.spin.frame.point ≡ before)
+module _ (w q q' : List ℕ) (ps : List SpinPart) (id : ℕ) (p : SpinPart) (s : SpinHand) (k : SpinFacts w q ps) (sees : (x : Saw) → s.saw ≡ Some x → (p.spin.saw ≡ Some x) ⊎ (x.word ≡ get_or w 0 0)) (at : get_elem? ps id ≡ some p) (own : OwnNode (record p { spin = s })) (before : Point) (is : p.spin.frame.point ≡ before)
     (moves : QueueMoves (stands before) (stands s.frame.point) p.spin.frame.code q q') (takes : holds_of s.frame ≡ 1 → TakesFrom before (get_or w 0 0)) (sets : owns_at before ≡ 0 → SetsTo s.frame.point (get_or w 0 0)) where
   abbrev fs' : List Frame
   fs' = set (map frame_of ps) id s.frame
@@ -51,6 +52,7 @@ module _ (w q q' : List ℕ) (ps : List SpinPart) (id : ℕ) (p : SpinPart) (s :
       others = refl;
       takes = λ holds. subst (λ (z : Point). TakesFrom z (get_or w 0 0)) (sym is) (takes holds);
       sets = λ none. sets (ap owns_at (sym is) ∙ none);
+      saw = sees;
       queues = subst (λ (z : Point). QueueMoves (stands z) (stands s.frame.point) p.spin.frame.code q q') (sym is) moves;
     };
   }

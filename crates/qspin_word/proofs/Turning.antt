@@ -46,7 +46,7 @@ numbers {E} o unavailable size k w vs r = record {
 module _ {E : Type 0} (holds : List ℕ → List (View E) → Type 0) (moves : ℕ → List ℕ → List (View E) → List ℕ → List (View E) → Type 0) (first : ℕ) (may_free : View E → Type 0)
     (kept : (ws : List ℕ) (vs : List (View E)) → holds ws vs → SpinKept (part first SPIN_WORDS ws) (map spin_part vs))
     (numbered : (ws : List ℕ) (vs : List (View E)) → holds ws vs → AreNumbered (map spin_part vs))
-    (spins : (ws : List ℕ) (vs : List (View E)) (id i n : ℕ) (v : View E) (s : SpinHand) → holds ws vs → get_elem? vs id ≡ some v → i < SPIN_WORDS → SpinGoes v.spin s → (SpinFrees v.spin s → may_free v)
+    (spins : (ws : List ℕ) (vs : List (View E)) (id i n : ℕ) (v : View E) (s : SpinHand) → holds ws vs → get_elem? vs id ≡ some v → i < SPIN_WORDS → SpinGoes (v.steps + 1) v.spin s → (SpinFrees v.spin s → may_free v)
     → SpinMoves id (part first SPIN_WORDS ws) (map spin_part vs) (set (part first SPIN_WORDS ws) i n) (set (map spin_part vs) id (part_with v s)) → Goes holds moves id ws vs (set ws (first + i) n) (set vs id (spun v s))) where
   lets-there : (slots id i : ℕ) (me : Me (Unit {0}) (View E)) (op : Op) (after : ℕ → SpinHand) (tells : ℕ → Type 0) → i < SPIN_WORDS → ((n : ℕ) → SpinFrees me.0.spin (after n) → may_free me.0) → SpinAllows id me.0 i op after tells
       → Lets holds moves slots id me (first + i) op (λ n. SpunBy after tells (step slots (first + i) (first_of op) (second_of op) none) me (told_by op n))
@@ -55,7 +55,7 @@ module _ {E : Type 0} (holds : List ℕ → List (View E) → Type 0) (moves : �
         spun v (after (told_by op n)),
         keeps,
         tt,
-        spins s.words s.views id i (word_after op n) v (after (told_by op n)) h at within (subst (λ (z : ℕ). SpinGoes v.spin (after (told_by op z))) is t.1) (may (told_by op n))
+        spins s.words s.views id i (word_after op n) v (after (told_by op n)) h at within (subst (λ (z : ℕ). SpinGoes (v.steps + 1) v.spin (after (told_by op z))) is t.1) (may (told_by op n))
             (subst (λ (z : ℕ). SpinMoves id w (map spin_part s.views) (set w i (word_after op z)) (set (map spin_part s.views) id (part_with v (after (told_by op z))))) is t.0),
         refl,
         ((refl, refl), subst (λ (z : ℕ). tells (told_by op z)) is t.2),

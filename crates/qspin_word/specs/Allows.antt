@@ -1,5 +1,5 @@
 -- What a step on a spin word asks and tells.
-use Rattle.std.specs.Prelude.{◌≡◌, ℕ, ◌<◌, ◌^◌, List, Some, slice_index, slice_set}
+use Rattle.std.specs.Prelude.{◌≡◌, ℕ, ◌+◌, ◌<◌, ◌^◌, List, Some, slice_index, slice_set}
 use mathlib.Core.Option.{some}
 use lib.ListN.{get_elem?}
 use Rattle.word_bits.specs.declared.TheConstants.{MAX_TASKS}
@@ -22,7 +22,7 @@ module _ {E : Type 0} where
   abbrev pub SpinAllows : ℕ → View E → ℕ → Op → (ℕ → SpinHand) → (ℕ → Type 0) → Type 0
   SpinAllows id v at op after tells = (w queue : List ℕ) (ps : List SpinPart) → SpinFacts w queue ps → AreNumbered ps → get_elem? ps id ≡ some (spin_part v) → slice_index w at < 2 ^ 64
       → SpinMoves id w ps (slice_set w at (word_after op (slice_index w at))) (slice_set ps id (part_with v (after (told_by op (slice_index w at)))))
-      × SpinGoes v.spin (after (told_by op (slice_index w at)))
+      × SpinGoes (v.steps + 1) v.spin (after (told_by op (slice_index w at)))
       × tells (told_by op (slice_index w at))
 
   -- the spin part of the view is as this says of what the step tells, and so is that

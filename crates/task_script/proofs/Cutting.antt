@@ -1,10 +1,12 @@
 -- A text, cut at the first byte that passes.
-use Rattle.std.proofs.Common.{◌≡◌, ℕ, ◌+◌, ◌≤◌, Bool, true, false, List, [], ◌∷◌, ◌++◌, length, take, refl, ap, arith, nat_lt, Some, None}
+use Rattle.std.proofs.Common.{◌≡◌, ℕ, ◌+◌, ◌<◌, ◌≤◌, zero, suc, Bool, true, false, List, [], ◌∷◌, ◌++◌, length, take, refl, ap, arith, nat_lt, Option, Some, None}
+use Rattle.std.specs.Prelude.{slice_index}
 use Rattle.std.proofs.lemmas.Bool.Decides.{nat_tests}
 use Rattle.std.specs.List.{between, slice_split, position, position_or_len}
 use Rattle.std.proofs.lemmas.List.Splits.{slice_split_first}
 use Rattle.std.proofs.lemmas.Slice.{between_to_end}
 use Rattle.std.proofs.lemmas.Bool.{ne_eqb}
+use Rattle.memchr.specs.Find.{IsFirstByte}
 use Rattle.task_script.specs.Cuts.{without_return}
 
 -- a text in which no byte passes is one part
@@ -59,3 +61,32 @@ keeps_other line front last is other = rw is (go front)
 pub keeps_nothing : (line : List ℕ) → length line ≡ 0 → line ≡ without_return line
 keeps_nothing [] none = refl
 keeps_nothing (b ∷ bs) none = absurd (omega arith)
+
+-- how many bytes stand before the first that passes
+before_first : (p : ℕ → Bool) (bs : List ℕ) (k : ℕ) → k < length bs → p (slice_index bs k) ≡ true → ((j : ℕ) → j < k → p (slice_index bs j) ≡ true → ⊥) → position_or_len p bs ≡ k
+before_first p [] k within passes none = absurd (omega arith)
+before_first p (b ∷ bs) zero within passes none = rw passes refl
+before_first p (b ∷ bs) (suc k) within passes none = go (p b) refl (before_first p bs k (omega arith) passes (λ j below. none (suc j) (omega arith)))
+  where
+    go : (t : Bool) → p b ≡ t → position_or_len p bs ≡ k → position_or_len p (b ∷ bs) ≡ suc k
+    go true here rest = absurd (none 0 (omega arith) here)
+    go false here rest = rw (here, rest) (omega arith)
+
+before_none : (p : ℕ → Bool) (bs : List ℕ) → ((j : ℕ) → j < length bs → p (slice_index bs j) ≡ true → ⊥) → position_or_len p bs ≡ length bs
+before_none p [] none = refl
+before_none p (b ∷ bs) none = go (p b) refl (before_none p bs (λ j below. none (suc j) (omega arith)))
+  where
+    go : (t : Bool) → p b ≡ t → position_or_len p bs ≡ length bs → position_or_len p (b ∷ bs) ≡ length (b ∷ bs)
+    go true here rest = absurd (none 0 (omega arith) here)
+    go false here rest = rw (here, rest) (omega arith)
+
+-- the first place of a byte that passes is its position
+pub first_place : (p : ℕ → Bool) (bs : List ℕ) (r : Option ℕ) → IsFirstByte p bs r → r ≡ position p bs
+first_place p bs None none =
+    let all : position_or_len p bs ≡ length bs = before_none p bs (λ j below. none j (omega arith) below) in
+    let test : nat_lt (length bs) (length bs) ≡ false = grind (arith, nat_tests) in
+    rw (all, test) refl
+first_place p bs (Some k) first =
+    let at : position_or_len p bs ≡ k = before_first p bs k first.0.high first.1 (λ j below. first.0.before j (omega arith) below) in
+    let test : nat_lt k (length bs) ≡ true = grind (arith, nat_tests, first.0.high) in
+    rw (at, test) refl

@@ -5,6 +5,7 @@ ghost use Rattle.task_script.specs.Cuts.{is_blank, is_plain, lines, uncommented,
 ghost use Rattle.task_script.specs.Grammar.{said};
 ghost use Rattle.task_script.specs.Parts.{IsBegunOtherwise, parts_of};
 
+use memchr::memchr;
 use std::marker::Model;
 
 fn blank(byte: u8) -> bool
@@ -23,7 +24,7 @@ fn place_of(bytes: &[u8], at: u8) -> Option<usize>
     ensures place { result ≡ position (λ b. b == at) bytes.now }
     ensures within { IfSome result (λ place. place < length bytes.now) }
 {
-    bytes.iter().position(|byte| *byte == at)
+    memchr(at, bytes)
 }
 
 fn first_blank(bytes: &[u8]) -> Option<usize>

@@ -5,7 +5,7 @@ use lib.ListN.{get_elem?}
 use Rattle.lock_core.specs.declared.view.SpinHand.{SpinHand}
 use Rattle.lock_core.specs.Records.{bit}
 use Rattle.lock_core.specs.Views.{no_spin, SpinHolds}
-use Rattle.lock_core.specs.Spins.{SpinGoes, SpinFrees}
+use Rattle.lock_core.specs.Spins.{SpinFrees}
 use Rattle.lock_core.specs.SpinFrames.{holds_at, holds_of}
 use Rattle.lock_core.specs.declared.view.Frame.{Frame}
 use Rattle.lock_core.specs.declared.view.Point.{Point}
@@ -107,7 +107,7 @@ module _ (words : List ℕ) (l : List Waiter) (ps : List Part) (id : ℕ) (p : P
   }
 
   -- the spin lock is taken or released
-  pub list-spins : (s : SpinHand) → SpinGoes p.0 s → (SpinFrees p.0 s → p.1.changes ≡ false) → ListKept words l (set ps id (s, p.1))
+  pub list-spins : (s : SpinHand) → s.entries ≡ p.0.entries + (holds_in s - holds_in p.0) → (SpinFrees p.0 s → p.1.changes ≡ false) → ListKept words l (set ps id (s, p.1))
   list-spins s goes may = let q : Part = (s, p.1) in let ok = r.each id p at in let before = ok.past in
       let back : Knows q → Knows p = λ k. let has' = k.0 in let since = k.1 in holds-or-not p.0 (λ has. (has, omega (arith, has', since, has, goes))) (λ out. absurd (omega (arith, has', since, out, goes, before))) in record {
         wide = r.wide;

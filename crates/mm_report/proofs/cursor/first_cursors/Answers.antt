@@ -1,12 +1,12 @@
-use Rattle.std.proofs.Common.{◌≡◌, ◌<◌, ◌≤◌, ℕ, ◌+◌, length, get_or, refl, sym, ap, ◌∙◌, arith, replicate, ◌⊎◌, inl, inr, List}
+use Rattle.std.proofs.Common.{◌≡◌, ◌<◌, ◌≤◌, ℕ, ◌+◌, length, get_or, refl, sym, ap, ◌∙◌, arith, replicate, ◌⊎◌, inl, inr, List, Some}
 use Rattle.std.specs.Prelude.{count_by}
 use Rattle.std.proofs.Math.ListN.{set}
-use Rattle.std.proofs.lemmas.Bool.{cases_eq, cases_lt}
-use Rattle.std.proofs.lemmas.List.{length-set, get_or-set_other, get_or-replicate, get_or_past, length-replicate}
+use Rattle.std.proofs.lemmas.Bool.{cases_eq}
+use Rattle.std.proofs.lemmas.List.{length-set, get_or-set_other, get_or-replicate}
 use Rattle.std.proofs.lemmas.Grind.{get_or-set_at}
 use Rattle.task_script.specs.Scripts.{is_on}
 use Rattle.mm_report.specs.declared.cursor.Cursor.{Cursor}
-use Rattle.mm_report.specs.Cursors.{first_record, at_start}
+use Rattle.mm_report.specs.Cursors.{at_start, first_record, no_cursor}
 use Rattle.mm_report.proofs.Reserved.{more_sum}
 use Rattle.mm_report.proofs.cursor.first_cursors.Goals as goal
 
@@ -15,30 +15,26 @@ abbrev at_record : Cursor → ℕ → Cursor
 at_record c rec = record { line = c.line; rec = rec; position = c.position }
 
 -- at first no task has one
-fresh : (task : ℕ) → get_or (replicate 64 at_start) task at_start ≡ at_start
-fresh task = go (cases_lt task 64)
-  where
-    go : (task < 64) ⊎ (64 ≤ task) → get_or (replicate 64 at_start) task at_start ≡ at_start
-    go (inl within) = get_or-replicate 64 task at_start at_start within
-    go (inr past) = get_or_past (replicate 64 at_start) task at_start (omega (arith, length-replicate 64 at_start))
+fresh : (task : ℕ) → task < 64 → get_or (replicate 64 at_start) task no_cursor ≡ at_start
+fresh task within = get_or-replicate 64 task at_start no_cursor within
 
 -- one more task has its place
-set_more : (cursors : List Cursor) (i : ℕ) (first : ℕ → ℕ) (rec : ℕ) → i < length cursors → rec ≡ first i → get_or cursors i at_start ≡ at_start → ((task : ℕ) → task < i → get_or cursors task at_start ≡ record { line = 0; rec = first task; position = 0 })
-    → (task : ℕ) → task < i + 1 → get_or (set cursors i (at_record (get_or cursors i at_start) rec)) task at_start ≡ record { line = 0; rec = first task; position = 0 }
+set_more : (cursors : List Cursor) (i : ℕ) (first : ℕ → ℕ) (rec : ℕ) → i < length cursors → rec ≡ first i → get_or cursors i no_cursor ≡ at_start → ((task : ℕ) → task < i → get_or cursors task no_cursor ≡ record { line = 0; rec = first task; position = Some 0 })
+    → (task : ℕ) → task < i + 1 → get_or (set cursors i (at_record (get_or cursors i no_cursor) rec)) task no_cursor ≡ record { line = 0; rec = first task; position = Some 0 }
 set_more cursors i first rec within is fresh before task below = go (cases_eq task i)
   where
-    go : (task ≡ i) ⊎ (task ≡ i → ⊥) → get_or (set cursors i (at_record (get_or cursors i at_start) rec)) task at_start ≡ record { line = 0; rec = first task; position = 0 }
+    go : (task ≡ i) ⊎ (task ≡ i → ⊥) → get_or (set cursors i (at_record (get_or cursors i no_cursor) rec)) task no_cursor ≡ record { line = 0; rec = first task; position = Some 0 }
     go (inl same) =
-        get_or-set_at cursors i task (at_record (get_or cursors i at_start) rec) at_start same within
-        ∙ ap (λ c. at_record c rec) fresh ∙ ap (λ r. record { line = 0; rec = r; position = 0 }) (is ∙ ap first (sym same))
-    go (inr other) = get_or-set_other cursors i task (at_record (get_or cursors i at_start) rec) at_start other ∙ before task (omega arith)
+        get_or-set_at cursors i task (at_record (get_or cursors i no_cursor) rec) no_cursor same within
+        ∙ ap (λ c. at_record c rec) fresh ∙ ap (λ r. record { line = 0; rec = r; position = Some 0 }) (is ∙ ap first (sym same))
+    go (inr other) = get_or-set_other cursors i task (at_record (get_or cursors i no_cursor) rec) no_cursor other ∙ before task (omega arith)
 
 pub loop-task-init : goal.loop-task-init
 loop-task-init c = record {
   rec = refl;
   all = refl;
   set = λ task below. absurd (omega arith);
-  unset = λ task above. fresh task;
+  unset = λ task above below. fresh task below;
 }
 
 pub loop-task-preserved : goal.loop-task-preserved
@@ -49,6 +45,6 @@ loop-task-preserved c =
     let more = more_sum (count_by (is_on c.args.object)) c.args.script.now.tasks i c.calls.result.now c.calls.ensures.calls in record {
       rec = omega (arith, more, inv.rec, c.count_on-rec.ensures);
       all = length-set c.loop-task.cursors i _ ∙ inv.all;
-      set = set_more c.loop-task.cursors i (first_record c.args.script.now c.args.object) c.loop-task.rec within inv.rec (inv.unset i (omega arith)) inv.set;
-      unset = λ task above. get_or-set_other c.loop-task.cursors i task _ at_start (λ same. omega (arith, same)) ∙ inv.unset task (omega arith);
+      set = set_more c.loop-task.cursors i (first_record c.args.script.now c.args.object) c.loop-task.rec within inv.rec (inv.unset i (omega arith) (omega arith)) inv.set;
+      unset = λ task above below. get_or-set_other c.loop-task.cursors i task _ no_cursor (λ same. omega (arith, same)) ∙ inv.unset task (omega arith) below;
     }

@@ -11,7 +11,7 @@ loop-at-preserved g c =
     let w = g.L.SleepLock.view c.log_word.new.pass in
     let same = c.loop-at.invariant.1.0 in
     let inside = c.loop-at-test.true in
-    let end = c.log_len-at-end.ensures.value in (
+    let end = c.log_len-len.ensures.value in (
       c.log_word.ensures.own,
       looks-trans v u w c.loop-at.invariant.1 c.log_word.ensures.kept,
       (λ p t. c.log_word.ensures.goes_on p (c.loop-at.invariant.2 p t)),

@@ -53,31 +53,31 @@ returns-in_default-clause-reached g c = λ first rs left has is.
     let read = record_read g.O.Object.object c.args.self.now.object c.args.task c.loop-number.number c.loop-number.cursor.rec c.args.lines.now rs c.args.self.now.recs.now first (record { object = 0; words = [] }) c.args.cursor.now left c.loop-number-test.true c.if-line-self.false has is c.loop-number.invariant.rec in
     absurd (none-some read.told (c.in_default.ensures.found read.told read.fit read.read))
 
-pub returns-then-cursor-bound-clause-text : goal.returns-then-cursor-bound-clause-text
-returns-then-cursor-bound-clause-text g c = λ first rs left has is.
+pub returns-then-position-bound-clause-text : goal.returns-then-position-bound-clause-text
+returns-then-position-bound-clause-text g c = λ first rs left has is.
     let o = g.O.Object.object in
     let n = c.loop-number.number in
     let lines = c.args.lines.now in
     let all = flat_map (task_event_text c.args.self.now.object lines) (front o c.args.bound left) in
     let next = next_read o c.args.self.now.object c.args.task c.args.bound c.loop-number.number c.loop-number.cursor.rec c.args.lines.now rs c.args.self.now.recs.now first (record { object = 0; words = [] }) c.args.cursor.now left c.call-words.result c.in-Some.rec c.loop-number-test.true c.if-line-self.false has is c.loop-number.invariant.rec c.call-words.ensures c.in-Some.ensures.found in
-    let stands = c.position-cursor.ensures in
-    let high : c.args.bound ≤ position o c.call-words.result c.in-Some.rec = omega (arith, stands, c.if-cursor-bound.true) in
+    let stands = c.position-position.ensures in
+    let high : c.args.bound ≤ position o c.call-words.result c.in-Some.rec = omega (arith, stands, c.if-position-bound.true) in
     remains_none (g.K.Sink.written c.args.sink.now) (g.K.Sink.written c.loop-number.sink) c.args.out.now c.loop-number.out all
     (subst (λ t. Remains (g.K.Sink.written c.args.sink.now) (g.K.Sink.written c.loop-number.sink) c.args.out.now c.loop-number.out t all) (next.none high) (c.loop-number.invariant.text first rs left has is))
 
-pub returns-then-cursor-bound-clause-reached : goal.returns-then-cursor-bound-clause-reached
-returns-then-cursor-bound-clause-reached g c = λ first rs left has is.
+pub returns-then-position-bound-clause-reached : goal.returns-then-position-bound-clause-reached
+returns-then-position-bound-clause-reached g c = λ first rs left has is.
     let o = g.O.Object.object in
     let n = c.loop-number.number in
     let lines = c.args.lines.now in
     let next = next_read o c.args.self.now.object c.args.task c.args.bound c.loop-number.number c.loop-number.cursor.rec c.args.lines.now rs c.args.self.now.recs.now first (record { object = 0; words = [] }) c.args.cursor.now left c.call-words.result c.in-Some.rec c.loop-number-test.true c.if-line-self.false has is c.loop-number.invariant.rec c.call-words.ensures c.in-Some.ensures.found in
-    let stands = c.position-cursor.ensures in
-    let high : c.args.bound ≤ position o c.call-words.result c.in-Some.rec = omega (arith, stands, c.if-cursor-bound.true) in
+    let stands = c.position-position.ensures in
+    let high : c.args.bound ≤ position o c.call-words.result c.in-Some.rec = omega (arith, stands, c.if-position-bound.true) in
     let left_is = sym (c.loop-number.invariant.rest first rs left has is) ∙ next.above high in
     let before = is.rec in record {
       rec = omega (arith, c.loop-number.invariant.rec);
       is = left_is;
-      next = subst (NextFrom o c.position-cursor.result) (sym left_is) (subst (λ p. NextFrom o p (drop (calls_before c.args.self.now.object lines n) (events_of c.args.self.now.object c.args.task lines rs))) (sym stands) next.from);
+      next = subst (NextFrom o c.position-position.result) (sym left_is) (subst (λ p. NextFrom o p (drop (calls_before c.args.self.now.object lines n) (events_of c.args.self.now.object c.args.task lines rs))) (sym stands) next.from);
     }
 
 pub returns-in_err-write_event-clause-text : goal.returns-in_err-write_event-clause-text
@@ -87,8 +87,8 @@ returns-in_err-write_event-clause-text g c = rw (err_from_is_err_and c.from_resi
     let lines = c.args.lines.now in
     let all = flat_map (task_event_text c.args.self.now.object lines) (front o c.args.bound left) in
     let next = next_read o c.args.self.now.object c.args.task c.args.bound c.loop-number.number c.loop-number.cursor.rec c.args.lines.now rs c.args.self.now.recs.now first (record { object = 0; words = [] }) c.args.cursor.now left c.call-words.result c.in-Some.rec c.loop-number-test.true c.if-line-self.false has is c.loop-number.invariant.rec c.call-words.ensures c.in-Some.ensures.found in
-    let stands = c.position-cursor.ensures in
-    let low : position o c.call-words.result c.in-Some.rec < c.args.bound = omega (arith, stands, c.if-cursor-bound.false) in
+    let stands = c.position-position.ensures in
+    let low : position o c.call-words.result c.in-Some.rec < c.args.bound = omega (arith, stands, c.if-position-bound.false) in
     remains_failed (g.K.Sink.written c.args.sink.now) (g.K.Sink.written c.loop-number.sink) (g.K.Sink.written c.write_event.new.sink) c.args.out.now c.loop-number.out (event_line c.args.task n c.call-words.result c.in-Some.rec.reply)
     (front_text o c.args.self.now.object c.args.task c.args.bound (n + 1) lines rs) all
     (subst (λ t. Remains (g.K.Sink.written c.args.sink.now) (g.K.Sink.written c.loop-number.sink) c.args.out.now c.loop-number.out t all) (next.text low) (c.loop-number.invariant.text first rs left has is))
@@ -105,8 +105,8 @@ loop-number-preserved g c = record {
       let lines = c.args.lines.now in
       let all = flat_map (task_event_text c.args.self.now.object lines) (front o c.args.bound left) in
       let next = next_read o c.args.self.now.object c.args.task c.args.bound c.loop-number.number c.loop-number.cursor.rec c.args.lines.now rs c.args.self.now.recs.now first (record { object = 0; words = [] }) c.args.cursor.now left c.call-words.result c.in-Some.rec c.loop-number-test.true c.if-line-self.false has is c.loop-number.invariant.rec c.call-words.ensures c.in-Some.ensures.found in
-      let stands = c.position-cursor.ensures in
-      let low : position o c.call-words.result c.in-Some.rec < c.args.bound = omega (arith, stands, c.if-cursor-bound.false) in
+      let stands = c.position-position.ensures in
+      let low : position o c.call-words.result c.in-Some.rec < c.args.bound = omega (arith, stands, c.if-position-bound.false) in
       remains_added (g.K.Sink.written c.args.sink.now) (g.K.Sink.written c.loop-number.sink) (g.K.Sink.written c.write_event.new.sink) c.args.out.now c.loop-number.out c.write_event.new.out (event_line c.args.task n c.call-words.result c.in-Some.rec.reply)
       (front_text o c.args.self.now.object c.args.task c.args.bound (n + 1) lines rs) all
       (subst (λ t. Remains (g.K.Sink.written c.args.sink.now) (g.K.Sink.written c.loop-number.sink) c.args.out.now c.loop-number.out t all) (next.text low) (c.loop-number.invariant.text first rs left has is))
@@ -116,8 +116,8 @@ loop-number-preserved g c = record {
       let n = c.loop-number.number in
       let lines = c.args.lines.now in
       let next = next_read o c.args.self.now.object c.args.task c.args.bound c.loop-number.number c.loop-number.cursor.rec c.args.lines.now rs c.args.self.now.recs.now first (record { object = 0; words = [] }) c.args.cursor.now left c.call-words.result c.in-Some.rec c.loop-number-test.true c.if-line-self.false has is c.loop-number.invariant.rec c.call-words.ensures c.in-Some.ensures.found in
-      let stands = c.position-cursor.ensures in
-      let low : position o c.call-words.result c.in-Some.rec < c.args.bound = omega (arith, stands, c.if-cursor-bound.false) in
+      let stands = c.position-position.ensures in
+      let low : position o c.call-words.result c.in-Some.rec < c.args.bound = omega (arith, stands, c.if-position-bound.false) in
       sym (next.below low) ∙ c.loop-number.invariant.rest first rs left has is;
   kept = c.in_ok-write_event.ensures.cause ∙ c.loop-number.invariant.kept;
 }

@@ -10,7 +10,7 @@ use Rattle.task_script.specs.declared.script.Line.{Line}
 use Rattle.task_script.proofs.Pieces.{pieces_begin, piece_added, piece_failed, pieces_done}
 use Rattle.mm_report.specs.Text.{event_text}
 use Rattle.mm_report.specs.Merged.{front, behind}
-use Rattle.mm_report.specs.Cursors.{AreRead, AreAt, IsAt, at_start, first_record}
+use Rattle.mm_report.specs.Cursors.{AreRead, AreAt, IsAt, no_cursor, first_record}
 use Rattle.task_script.proofs.Pieces.{at_place}
 use Rattle.mm_report.proofs.Tasks.{task_read, task_has, one_further, text_of_texts}
 use Rattle.mm_report.proofs.Reserved.{unmapped_at}
@@ -22,7 +22,7 @@ loop-task-init g c =
       text = λ records lefts read each at. pieces_begin (λ left. flat_map (event_text c.args.self.now.script.now c.args.self.now.object) (front o c.args.bound left)) lefts (g.K.Sink.written c.args.sink.now) c.args.out.now;
       at = λ records lefts read each at task lines rs left at-lines at-rs at-left.
           let test : nat_lt task 0 ≡ false = grind (arith, nat_tests) in
-          subst (λ b. IsAt o c.args.self.now.object task lines (first_record c.args.self.now.script.now c.args.self.now.object task) rs (get_or c.args.cursors.now task at_start) (cond b (behind o c.args.bound left) left)) (sym test) (at task lines rs left at-lines at-rs at-left);
+          subst (λ b. IsAt o c.args.self.now.object task lines (first_record c.args.self.now.script.now c.args.self.now.object task) rs (get_or c.args.cursors.now task no_cursor) (cond b (behind o c.args.bound left) left)) (sym test) (at task lines rs left at-lines at-rs at-left);
       all = refl;
       kept = refl;
     }
@@ -37,7 +37,7 @@ returns-in_err-write_task-clause-text g c = rw (err_from_is_err_and c.from_resid
     let left = at_place lefts i (omega (arith, each)) in
     let rs = task_read s c.args.self.now.object i c.args.self.now.recs.now records lines.0 read lines.1 in
     let test : nat_lt i i ≡ false = grind (arith, nat_tests) in
-    let here = subst (λ b. IsAt o c.args.self.now.object i lines.0 (first_record s c.args.self.now.object i) rs.told (get_or c.loop-task.cursors i at_start) (cond b (behind o c.args.bound left.0) left.0)) test (c.loop-task.invariant.at records lefts read each at i lines.0 rs.told left.0 lines.1 rs.at left.1) in
+    let here = subst (λ b. IsAt o c.args.self.now.object i lines.0 (first_record s c.args.self.now.object i) rs.told (get_or c.loop-task.cursors i no_cursor) (cond b (behind o c.args.bound left.0) left.0)) test (c.loop-task.invariant.at records lefts read each at i lines.0 rs.told left.0 lines.1 rs.at left.1) in
     rw (text_of_texts (event_text s c.args.self.now.object) (front o c.args.bound) lefts)
     (piece_failed (λ us. flat_map (event_text s c.args.self.now.object) (front o c.args.bound us)) lefts i left.0 (g.K.Sink.written c.args.sink.now) (g.K.Sink.written c.loop-task.sink) (g.K.Sink.written c.write_task.new.sink) c.args.out.now c.loop-task.out left.1
     (c.loop-task.invariant.text records lefts read each at) (c.in_err-write_task.ensures.text lines.0 rs.told left.0 lines.1 rs.has here)))
@@ -51,7 +51,7 @@ loop-task-preserved g c =
     let room : i < length c.loop-task.cursors = omega (arith, c.loop-task.invariant.all, c.requires) in
     let test : nat_lt i i ≡ false = grind (arith, nat_tests) in
     let here = λ (records : Records) (lefts : List (List Event)) (read : AreRead s c.args.self.now.object c.args.self.now.recs.now records) (each : length lefts ≡ length s.tasks) (at : AreAt o s c.args.self.now.object records c.args.cursors.now lefts) (lines : List Line) (rs : List Rec) (left : List Event) (at-lines : slice_get s.tasks i ≡ Some lines) (at-rs : slice_get records i ≡ Some rs) (at-left : slice_get lefts i ≡ Some left).
-    subst (λ b. IsAt o c.args.self.now.object i lines (first_record s c.args.self.now.object i) rs (get_or c.loop-task.cursors i at_start) (cond b (behind o c.args.bound left) left)) test (c.loop-task.invariant.at records lefts read each at i lines rs left at-lines at-rs at-left) in record {
+    subst (λ b. IsAt o c.args.self.now.object i lines (first_record s c.args.self.now.object i) rs (get_or c.loop-task.cursors i no_cursor) (cond b (behind o c.args.bound left) left)) test (c.loop-task.invariant.at records lefts read each at i lines rs left at-lines at-rs at-left) in record {
       text = λ records lefts read each at.
           let lines = at_place s.tasks i within in
           let left = at_place lefts i (omega (arith, each)) in
@@ -83,6 +83,6 @@ returns-clause-reached g c = λ records lefts read each at task lines rs left at
     let s = c.args.self.now.script.now in
     let was = unmapped_at (behind o c.args.bound) lefts task left at-left in
     let test : nat_lt task c.loop-task.task ≡ true = grind (arith, nat_tests, slice_get_within s.tasks task lines at-lines, c.tasks-task-end.ensures.count) in
-    subst (IsAt o c.args.self.now.object task lines (first_record s c.args.self.now.object task) rs (get_or c.loop-task.cursors task at_start)) was.2
-    (subst (λ b. IsAt o c.args.self.now.object task lines (first_record s c.args.self.now.object task) rs (get_or c.loop-task.cursors task at_start) (cond b (behind o c.args.bound was.0) was.0)) test
+    subst (IsAt o c.args.self.now.object task lines (first_record s c.args.self.now.object task) rs (get_or c.loop-task.cursors task no_cursor)) was.2
+    (subst (λ b. IsAt o c.args.self.now.object task lines (first_record s c.args.self.now.object task) rs (get_or c.loop-task.cursors task no_cursor) (cond b (behind o c.args.bound was.0) was.0)) test
     (c.loop-task.invariant.at records lefts read each at task lines rs was.0 at-lines at-rs was.1))

@@ -1,25 +1,27 @@
-use Rattle.std.proofs.Common.{◌++◌, subst, sym, ap, ◌∙◌, append-nil}
+use Rattle.std.proofs.Common.{◌≤◌, ◌++◌, arith, subst, sym, ap, ◌∙◌, append-nil}
 use Rattle.std.specs.Prelude.{flat_map, OnOk}
 use Rattle.std.proofs.lemmas.Option.{same_Some}
 use Rattle.task_script.specs.Causes.{Adds}
 use Rattle.task_script.proofs.Pieces.{adds_waiting}
 use Rattle.mm_report.specs.Text.{event_text}
 use Rattle.mm_report.specs.Merged.{front, behind}
-use Rattle.mm_report.specs.Cursors.{HasRecords, IsAt, first_record}
+use Rattle.mm_report.specs.Cursors.{earliest, HasRecords, IsAt, first_record}
 use Rattle.mm_report.proofs.Merging.{none_in_front, all_left}
 use Rattle.mm_report.proofs.Calls.{left_text}
 use Rattle.mm_report.proofs.history.History.write_task.Goals as goal
 
-pub returns-then-cursor-bound-clause-text : goal.returns-then-cursor-bound-clause-text
-returns-then-cursor-bound-clause-text g c = λ lines rs left at has is.
-    let none = none_in_front g.O.Object.object c.args.bound c.args.cursor.now.position left c.if-cursor-bound.true is.next in
+pub returns-then-earliest-bound-clause-text : goal.returns-then-earliest-bound-clause-text
+returns-then-earliest-bound-clause-text g c = λ lines rs left at has is.
+    let low : c.args.bound ≤ earliest c.args.cursor.now.position = omega (arith, c.earliest.ensures, c.if-earliest-bound.true) in
+    let none = none_in_front g.O.Object.object c.args.bound (earliest c.args.cursor.now.position) left low is.next in
     adds_waiting (g.K.Sink.written c.args.sink.now) c.args.out.now c.args.out.now (flat_map (event_text c.args.self.now.script.now c.args.self.now.object) (front g.O.Object.object c.args.bound left))
     (sym (append-nil c.args.out.now) ∙ ap (λ us. c.args.out.now ++ flat_map (event_text c.args.self.now.script.now c.args.self.now.object) us) (sym none))
 
-pub returns-then-cursor-bound-clause-reached : goal.returns-then-cursor-bound-clause-reached
-returns-then-cursor-bound-clause-reached g c = λ lines rs left at has is.
+pub returns-then-earliest-bound-clause-reached : goal.returns-then-earliest-bound-clause-reached
+returns-then-earliest-bound-clause-reached g c = λ lines rs left at has is.
     let task = c.args.task in
-    subst (IsAt g.O.Object.object c.args.self.now.object task lines (first_record c.args.self.now.script.now c.args.self.now.object task) rs c.args.cursor.now) (sym (all_left g.O.Object.object c.args.bound c.args.cursor.now.position left c.if-cursor-bound.true is.next)) is
+    let low : c.args.bound ≤ earliest c.args.cursor.now.position = omega (arith, c.earliest.ensures, c.if-earliest-bound.true) in
+    subst (IsAt g.O.Object.object c.args.self.now.object task lines (first_record c.args.self.now.script.now c.args.self.now.object task) rs c.args.cursor.now) (sym (all_left g.O.Object.object c.args.bound (earliest c.args.cursor.now.position) left low is.next)) is
 
 pub returns-clause-text : goal.returns-clause-text
 returns-clause-text g c = λ lines rs left at has is.

@@ -1,0 +1,14 @@
+use Rattle.lock_core.specs.Kinds.{mutex}
+use Rattle.lock_core.specs.Locked.{IsLockedThen}
+use Rattle.lock_core.specs.LockedLaws.{ran-steps}
+use Rattle.mutex_word.specs.Ruled.{IsOwnerSiteThen, newest, owner_at, unmarked}
+use Rattle.lock_rows.specs.OwnerLocks.{nobody_waits}
+use Rattle.lock_rows.proofs.Locked.{each-moment, owner-locked}
+use Rattle.lock_rows.proofs.owner_lock.OwnerLockSleepLock.recall.Goals as goal
+
+pub returns-clause-always : goal.returns-clause-always
+returns-clause-always g c = let k = c.args.self.now.site.site.table.shared.key in let o = g.O.Object.object in let n = g.O.Object.WORDS in
+    each-moment (IsOwnerSiteThen o n k) (IsLockedThen o mutex n k owner_at nobody_waits) (owner-locked o n k) _ c.recall_holders.ensures.always
+
+pub returns-clause-moves : goal.returns-clause-moves
+returns-clause-moves g c = let k = c.args.self.now.site.site.table.shared.key in ran-steps unmarked k (newest k) _ c.recall_holders.ensures.moves

@@ -1,0 +1,381 @@
+-- The laws of the rule of a mutex.
+use Rattle.std.proofs.Common.{◌≡◌, ◌≢◌, ℕ, zero, suc, ◌+◌, ◌*◌, ◌/◌, ◌%◌, ◌<◌, ◌≤◌, ◌==◌, ◌&&◌, ◌⊎◌, inl, inr, Bool, true, false, List, [], ◌∷◌, ◌++◌, length, map, get_or, set, Option, Some, None, sym, refl, ap, ◌∙◌, subst, arith, ⊎_elim, length-set, get_or-set_same, get_or-set_other, eq-eqb, ne_eqb}
+use Rattle.std.proofs.lemmas.List.{drop-set-lt}
+use mathlib.Core.Option.{some, some-injective, some-ne-none}
+use mathlib.Core.Logic.{dite}
+use native.Mathlib.Decide.{ℕ_discrete}
+use lib.ListN.{get_elem?}
+use Rattle.atomic_table.proofs.Lists.{at_map, set_else, set_again}
+use Rattle.word_bits.specs.declared.TheConstants.{MAX_TASKS}
+use Rattle.word_bits.specs.LockWords.{owned}
+use Rattle.word_bits.specs.Objects.{Obj}
+use Rattle.word_bits.specs.Histories.{Plan}
+use Rattle.lock_core.specs.declared.view.View.{View}
+use Rattle.lock_core.specs.declared.view.Hand.{Hand}
+use Rattle.lock_core.specs.declared.view.SpinHand.{SpinHand}
+use Rattle.lock_core.specs.declared.view.Frame.{Frame}
+use Rattle.lock_core.specs.declared.view.Held.TheVariants.{No, Alone}
+use Rattle.lock_core.specs.declared.layout.TheConstants.{LOCK_WORDS, SPIN_WORDS, SPIN_ROOM}
+use Rattle.lock_core.specs.Records.{bit}
+use Rattle.lock_core.specs.Layout.{SiteWords, fresh, site, lay, width, part}
+use Rattle.lock_core.specs.Views.{SpinHolds, SpinPart, SpinRests, SpinStays, hand_of, spin_part, part_with, no_part, handed, seated, ticked, first, split_off, merged, spent, stranger, named_of, is_number, HoldsNothing}
+use Rattle.lock_core.specs.Sites.{SiteKept}
+use Rattle.lock_core.specs.Moves.{Goes, KeepsHold, SiteMove}
+use Rattle.lock_core.specs.MoveLaws.{set-moves, hold-moved, spin-moved, leaves-site}
+use Rattle.lock_core.specs.SpinFrames.{when, holds_at, holds_of}
+use Rattle.lock_core.specs.Spins.{SpinKept, SpinGoes, SpinFrees, SpinMoves, spun, holds_in, frame_of}
+use Rattle.lock_core.specs.SpinLaws.{spin-same, spin-renames, spin-comes, spin-ends, spin-opens}
+use Rattle.lock_core.specs.Totals.{total, total-two}
+use Rattle.lock_core.specs.Parts.{keep_part, set_part, snoc_part}
+use Rattle.lock_core.specs.Regions.{part-in, part-above, part-below, part-at, wide-part}
+use Rattle.lock_core.proofs.HandLaws.{not-both, false-or-true, is_number-here}
+use Rattle.mutex_word.specs.declared.host.Turn.{Turn}
+use Rattle.mutex_word.specs.declared.host.Turn.TheVariants.{Fail, Take, Ask, Free, Hand as HandOn, Flag, Clear}
+use Rattle.mutex_word.specs.Holders.{OwnKept, IsTurn, turns}
+use Rattle.mutex_word.specs.OwnLaws.{Named, own-stays, own-strangers, own-opens, held-word}
+use Rattle.wait_list.specs.declared.view.Waiter.{Waiter}
+use Rattle.wait_list.specs.declared.view.Change.{Change}
+use Rattle.wait_list.specs.declared.view.Change.TheVariants.{Stay, Enter, Leave}
+use Rattle.wait_list.specs.declared.view.ListHand.{ListHand}
+use Rattle.wait_list.specs.declared.words.TheConstants.{LIST_WORDS}
+use Rattle.wait_list.specs.Lists.{Part, ListKept, ListMoves, MadeBy, Knows, IsNear, Lists, LeaverGoes, Allowed, changed, list_part, listed, sighted, no_list, first_code, counted, changes_of, takes_of}
+use Rattle.wait_list.specs.ListLaws.{list-spins, list-keeps, list-leaves, list-strangers, list-opens, list-known, holds-or-not}
+use Rattle.mutex_slow.specs.declared.view.MutexHand.{MutexHand}
+use Rattle.mutex_slow.specs.declared.view.Point.TheVariants.{Rest, Joins, Empties}
+use Rattle.mutex_slow.specs.Mutexes.{V, HasLock, idle, list_of, queued_of, IsOut, SeatOk, Coupled, MutexKept, Kept, Leaves, PicksFirst, TookUp, IsOwnChange, MutexMoves, owner_at, list_at, spin_words, owner_in, list_words, may_free, rests, may_own, turned, with_list, may_change, is_code, saw_first}
+use Rattle.mutex_slow.specs.CoupledLaws.{Apart, coupled-stays, coupled-hands, coupled-seats, coupled-spins, coupled-fails, coupled-takes-free, coupled-takes-picked, coupled-asks, coupled-frees, coupled-hands-over, coupled-flags, coupled-clears, coupled-enters, coupled-leaves, coupled-opens, coupled-snoc, idle-ok, flagged, not-in, is-in, locked-free}
+use Rattle.mutex_word.specs.Tries.{IsTake}
+
+pub spin-inside : 0 + SPIN_WORDS ≤ LOCK_WORDS
+spin-inside = omega arith
+
+pub own-inside : owner_at < LOCK_WORDS
+own-inside = omega arith
+
+pub list-inside : list_at + LIST_WORDS ≤ LOCK_WORDS
+list-inside = omega arith
+
+abbrev parted : V → Part
+parted v = list_part list_of v
+
+pub turned-list : (t : Turn) (v : V) → (turned t v).list ≡ v.ext.list
+turned-list Fail v = refl
+turned-list Take v = refl
+turned-list Ask v = refl
+turned-list Free v = refl
+turned-list HandOn v = refl
+turned-list Flag v = refl
+turned-list Clear v = refl
+
+pub list-back : (c : Change) (v : V) (b : ListHand) → list_of (with_list c v b) ≡ b
+list-back Stay v b = refl
+list-back (Enter w) v b = refl
+list-back (Leave t) v b = refl
+
+pub list-same : (v : V) → with_list Stay v (list_of v.ext) ≡ v.ext
+list-same v = refl
+
+pub list-over : (c : Change) (v : V) (n : ℕ) (b d : ListHand) → with_list c (record v { steps = n; ext = with_list Stay v b }) d ≡ with_list c v d
+list-over Stay v n b d = refl
+list-over (Enter w) v n b d = refl
+list-over (Leave t) v n b d = refl
+
+pub list-again : (c : Change) (v : V) (n : ℕ) (b d : ListHand) → d.list ≡ b.list → with_list Stay (record v { steps = n; ext = with_list c v b }) d ≡ with_list c v d
+list-again Stay v n b d e = refl
+list-again (Enter w) v n b d e = λ i. record (with_list (Enter w) v d) { point = (with_list (Enter w) v (record d { list = sym e i })).point }
+list-again (Leave t) v n b d e = λ i. record (with_list (Leave t) v d) { point = (with_list (Leave t) v (record d { list = sym e i })).point }
+
+pub may-stay : (v : V) → may_change Stay v
+may-stay v = tt
+
+pub may-on : (c : Change) (v : V) (b : ListHand) → may_change c v → may_change c (listed with_list Stay v b)
+may-on Stay v b m = m
+may-on (Enter w) v b m = m
+may-on (Leave t) v b m = m
+
+-- a part of a sum that isn't 0 is some view's
+some-of : {X : Type 0} (f : X → ℕ) (xs : List X) → 0 < total f xs → (j : ℕ) × (x : X) × (get_elem? xs j ≡ some x) × (0 < f x)
+some-of f [] l = absurd (omega (arith, l))
+some-of f (x ∷ xs) l = elim (native.Mathlib.Decide.dec_le (f x) 0) [ yes none ↦ let r = some-of f xs (omega (arith, l, none)) in (suc r.0, r.1, r.2, r.3) | no has ↦ (zero, x, refl, omega (arith, has)) ]
+
+-- a place of a map
+at_unmap : {X Y : Type 0} (f : X → Y) (xs : List X) (j : ℕ) (y : Y) → get_elem? (map f xs) j ≡ some y → (x : X) × (get_elem? xs j ≡ some x) × (f x ≡ y)
+at_unmap f [] j y e = absurd (some-ne-none y (sym e))
+at_unmap f (x ∷ xs) zero y e = (x, refl, some-injective (f x) y e)
+at_unmap f (x ∷ xs) (suc j) y e = at_unmap f xs j y e
+
+module _ {Call : Type 0} (o : Obj Call) (size : ℕ) where
+  abbrev Queue : Plan → List ℕ → List V → List Waiter → Type 0
+  Queue = MutexKept o size
+
+  abbrev Site : Plan → List ℕ → List Hand → Type 0
+  Site k ws hs = SiteKept o owned size k (site k ws) hs
+
+  abbrev Go : Plan → ℕ → List ℕ → List V → List ℕ → List V → Type 0
+  Go k = Goes (Kept o size k) (MutexMoves k)
+
+  pub mutex-site : (k : Plan) (ws : List ℕ) (vs : List V) → Kept o size k ws vs → Site k ws (map hand_of vs)
+  mutex-site k ws vs r = r.1.site_holds
+
+  pub mutex-spin : (k : Plan) (ws : List ℕ) (vs : List V) → Kept o size k ws vs → SpinKept (spin_words ws) (map spin_part vs)
+  mutex-spin k ws vs r = r.1.spin
+
+  pub mutex-own : (k : Plan) (ws : List ℕ) (vs : List V) → Kept o size k ws vs → OwnKept (owner_in ws) (map hand_of vs) × Unit {0}
+  mutex-own k ws vs r = (r.1.own, tt)
+
+  pub mutex-list : (k : Plan) (ws : List ℕ) (vs : List V) (l : List Waiter) → Queue k ws vs l → ListKept (list_words ws) l (map (list_part list_of) vs)
+  mutex-list k ws vs l r = r.list
+
+  pub mutex-queued : (k : Plan) (ws : List ℕ) (vs : List V) → Kept o size k ws vs → (l : List Waiter) × Queue k ws vs l
+  mutex-queued k ws vs r = r
+
+  named : (k : Plan) (ws : List ℕ) (hs : List Hand) → Site k ws hs → Named hs
+  named k ws hs r j h at out = ((r.each j h at).nameless out).0
+
+  takes-total : (vs : List V) → total takes_of (map parted vs) ≡ total holds_of (map frame_of (map spin_part vs))
+  takes-total [] = refl
+  takes-total (v ∷ vs) = ap (λ (z : ℕ). holds_in v.spin + z) (takes-total vs)
+
+  module _ (k : Plan) (ws : List ℕ) (vs : List V) (l : List Waiter) (id : ℕ) (v : V) (r : Queue k ws vs l) (at : get_elem? vs id ≡ some v) where
+    one-takes : total takes_of (map parted vs) ≤ 1
+    one-takes = let b = r.spin.1.lock.balanced.comes in let t = takes-total vs in omega (arith, b, t)
+
+    small : (t : ℕ) → v.hand.task ≡ Some t → t < MAX_TASKS
+    small t is = let a = ((r.site_holds.each id v.hand (at_map hand_of vs id v at)).mine t is).0 in let b = r.site_holds.laid.small.tasks in omega (arith, a, b)
+
+    pub apart : Apart vs id v
+    apart = record {
+      numbers = λ j t w at' other is is'. let hs : List Hand = map hand_of vs in let two = total-two (named_of t) hs id j v.hand w.hand (at_map hand_of vs id v at) (at_map hand_of vs j w at') (λ e. other (sym e)) in
+          let a : named_of t v.hand ≡ 1 = ap (is_number t) is ∙ is_number-here t in let b : named_of t w.hand ≡ 1 = ap (is_number t) is' ∙ is_number-here t in let c = (r.site_holds.balances.named t (small t is)).1 in omega (arith, two, a, b, c);
+      locks = λ j w at' other has. let ps : List Part = map parted vs in let two = total-two takes_of ps id j (parted v) (parted w) (at_map parted vs id v at) (at_map parted vs j w at') (λ e. other (sym e)) in let one = one-takes in let a : takes_of (parted v) ≡ 1 = has in omega (arith, two, one, a);
+    }
+
+    -- it keeps its number, or is out of everything
+    same-or-out : (h : Hand) → KeepsHold rests v h → (h.task ≡ v.hand.task) ⊎ IsOut v
+    same-or-out h same = elim same.1 [ inl e ↦ inl e | inr s ↦ elim s [ inl none ↦ inr ((r.coupled.each id v at).named none) | inr q ↦ inr (q.1.0, q.1.1, q.1.2, q.1.3, λ has. locked-free v (ap holds_at q.0.1) has) ] ]
+
+    known : Knows (parted v) → (v.ext.list.list ≡ l) × (v.ext.list.words ≡ list_words ws) × (v.ext.list.changes ≡ false → Lists (list_words ws) l)
+    known knows = list-known (list_words ws) l (map parted vs) id (parted v) r.list (at_map parted vs id v at) one-takes knows
+
+    -- a step that changes the list so, and all that it leaves
+    goes : (us : List ℕ) (vs' : List V) (c : Change) → length us ≡ width k → Site k us (map hand_of vs') → SiteMove id (site k ws) vs (site k us) vs' → SpinMoves id (spin_words ws) (map spin_part vs) (spin_words us) (map spin_part vs') → OwnKept (owner_in us) (map hand_of vs')
+        → ListKept (list_words us) (changed c l) (map parted vs') → Coupled (owner_in us) (changed c l) vs' → Allowed c l → MadeBy c id (map parted vs) → IsOwnChange id vs c → (Leaves (owner_in ws) (owner_in us) → PicksFirst (owner_in us) l) → (4 ≤ owner_in ws % 8 → (owner_in us ≡ owner_in ws) ⊎ TookUp id vs (owner_in ws) (owner_in us)) → Go k id ws vs us vs'
+    goes us vs' c wide there move spin own list coupled may made mine hands picks = (
+      (changed c l, record { wide = wide; site_holds = there; spin = (spin.queue', spin.new); own = own; list = list; coupled = coupled }),
+      record { site = move; spin = spin; list = record { list = l; list' = changed c l; old = r.list; new = list; change = c; allowed = may; made = made; is = refl }; own = mine; hands = hands; picks = picks },
+    )
+
+    -- the same, where the owner word stays
+    goes-on : (us : List ℕ) (vs' : List V) (c : Change) → length us ≡ width k → Site k us (map hand_of vs') → SiteMove id (site k ws) vs (site k us) vs' → SpinMoves id (spin_words ws) (map spin_part vs) (spin_words us) (map spin_part vs') → owner_in us ≡ owner_in ws → OwnKept (owner_in ws) (map hand_of vs')
+        → ListKept (list_words us) (changed c l) (map parted vs') → Coupled (owner_in ws) (changed c l) vs' → Allowed c l → MadeBy c id (map parted vs) → IsOwnChange id vs c → Go k id ws vs us vs'
+    goes-on us vs' c wide there move spin same own list coupled may made mine = goes us vs' c wide there move spin (subst (λ (z : ℕ). OwnKept z (map hand_of vs')) (sym same) own) list (subst (λ (z : ℕ). Coupled z (changed c l) vs') (sym same) coupled) may made mine
+        (λ leaves. absurd (leaves.3 (ap (λ (z : ℕ). z / 8) same))) (λ _. inl same)
+
+  pub mutex-sites : (k : Plan) (ws : List ℕ) (vs : List V) (id i n : ℕ) (v : V) (h : Hand) (s : SpinHand) → Kept o size k ws vs → get_elem? vs id ≡ some v → KeepsHold rests v h → SpinStays v.spin s → Site k (set ws (LOCK_WORDS + i) n) (set (map hand_of vs) id h)
+      → SiteMove id (site k ws) vs (site k (set ws (LOCK_WORDS + i) n)) (set vs id (seated v h s)) → Go k id ws vs (set ws (LOCK_WORDS + i) n) (set vs id (seated v h s))
+  mutex-sites k ws vs id i n v h s (l, r) at same stays there move = let w : V = seated v h s in let us : List ℕ = set ws (LOCK_WORDS + i) n in let hs : List Hand = map hand_of vs in let mine = at_map hand_of vs id v at in
+      let task : (h.task ≡ v.hand.task) ⊎ (v.hand.held ≡ No) = elim same.1 [ inl e ↦ inl e | inr s ↦ elim s [ inl out ↦ inr (named k ws hs r.site_holds id v.hand mine out) | inr q ↦ inr q.0.0 ] ] in
+      goes-on k ws vs l id v r at us (set vs id w) Stay (length-set ws (LOCK_WORDS + i) n ∙ r.wide) (set_part hand_of (Site k us) vs id w there) move
+      (subst (λ (z : List ℕ). SpinMoves id (spin_words ws) (map spin_part vs) z (map spin_part (set vs id w))) (sym (part-below ws 0 SPIN_WORDS (LOCK_WORDS + i) n (omega arith)))
+      (set_part spin_part (SpinMoves id (spin_words ws) (map spin_part vs) (spin_words ws)) vs id w (spin-renames id (spin_words ws) (map spin_part vs) (spin_part v) h.task s r.spin (at_map spin_part vs id v at) stays (⊎_elim (λ a. inl a) (λ b. ⊎_elim (λ c. inr (inl c)) (λ t. inr (inr t.0.1)) b) same.1))))
+      (get_or-set_other ws (LOCK_WORDS + i) owner_at n 0 (λ e. omega (arith, e)))
+      (set_part hand_of (OwnKept (owner_in ws)) vs id w (own-stays hs id (owner_in ws) v.hand h r.own mine same.0 task))
+      (subst (λ (z : List ℕ). ListKept z l (map parted (set vs id w))) (sym (part-below ws list_at LIST_WORDS (LOCK_WORDS + i) n (omega arith)))
+      (set_part parted (ListKept (list_words ws) l) vs id w (list-keeps (list_words ws) l (map parted vs) id (parted v) r.list (at_map parted vs id v at) s (⊎_elim (λ e. ap (λ (z : SpinHand). z.entries) e) (λ e. ap (λ (z : SpinHand). z.entries) e) stays) (⊎_elim (λ e. ap (λ (z : SpinHand). z.frame) e) (λ e. ap (λ (z : SpinHand). z.frame) e) stays))))
+      (coupled-seats (owner_in ws) l vs id v r.coupled at h s stays (same-or-out k ws vs l id v r at h same)) tt tt tt
+
+  pub mutex-spins : (k : Plan) (ws : List ℕ) (vs : List V) (id i n : ℕ) (v : V) (s : SpinHand) → Kept o size k ws vs → get_elem? vs id ≡ some v → i < SPIN_WORDS → SpinGoes (v.steps + 1) v.spin s → (SpinFrees v.spin s → may_free v)
+      → SpinMoves id (spin_words ws) (map spin_part vs) (set (spin_words ws) i n) (set (map spin_part vs) id (part_with v s)) → Go k id ws vs (set ws (0 + i) n) (set vs id (spun v s))
+  mutex-spins k ws vs id i n v s (l, r) at within turn may spin = let w : V = spun v s in let us : List ℕ = set ws (0 + i) n in let same : site k us ≡ site k ws = ap (lay k) (drop-set-lt LOCK_WORDS ws (0 + i) n (omega (arith, within))) in
+      goes-on k ws vs l id v r at us (set vs id w) Stay (length-set ws (0 + i) n ∙ r.wide)
+      (subst (λ (z : SiteWords). SiteKept o owned size k z (map hand_of (set vs id w))) (sym same) (keep_part hand_of (Site k ws) vs id v w at refl r.site_holds))
+      (subst (λ (z : SiteWords). SiteMove id (site k ws) vs z (set vs id w)) (sym same) (set-moves id (site k ws) (site k ws) vs v w at (spin-moved (site k ws) v s turn)))
+      (subst (λ (z : List ℕ). SpinMoves id (spin_words ws) (map spin_part vs) z (map spin_part (set vs id w))) (sym (part-in ws 0 SPIN_WORDS i n within)) (set_part spin_part (SpinMoves id (spin_words ws) (map spin_part vs) (set (spin_words ws) i n)) vs id w spin))
+      (get_or-set_other ws (0 + i) owner_at n 0 (λ e. omega (arith, e, within)))
+      (keep_part hand_of (OwnKept (owner_in ws)) vs id v w at refl r.own)
+      (subst (λ (z : List ℕ). ListKept z l (map parted (set vs id w))) (sym (part-above ws list_at LIST_WORDS (0 + i) n (omega (arith, within))))
+      (set_part parted (ListKept (list_words ws) l) vs id w (list-spins (list_words ws) l (map parted vs) id (parted v) r.list (at_map parted vs id v at) s turn.entries (λ frees. (may frees).1))))
+      (coupled-spins (owner_in ws) l vs id v r.coupled at s turn.entries (λ has out. (may (has, out)).0)) tt tt tt
+
+  -- a step on the owner word leaves everything but the word and the hand, once the coupled facts are there
+  owns-by : (k : Plan) (ws : List ℕ) (vs : List V) (l : List Waiter) (id n : ℕ) (v : V) (h : Hand) (t : Turn) → Queue k ws vs l → get_elem? vs id ≡ some v → h.task ≡ v.hand.task → v.hand.misses ≤ h.misses → OwnKept n (set (map hand_of vs) id h) → Site k ws (set (map hand_of vs) id h)
+      → Coupled n l (set vs id (turns turned t v h)) → (Leaves (owner_in ws) n → PicksFirst n l) → (4 ≤ owner_in ws % 8 → (n ≡ owner_in ws) ⊎ TookUp id vs (owner_in ws) n) → Go k id ws vs (set ws owner_at n) (set vs id (turns turned t v h))
+  owns-by k ws vs l id n v h t r at task misses own there coupled hands picks = let w : V = turns turned t v h in let us : List ℕ = set ws owner_at n in let wide = r.wide in let same : site k us ≡ site k ws = ap (lay k) (drop-set-lt LOCK_WORDS ws owner_at n (omega arith)) in
+      let word : owner_in us ≡ n = get_or-set_same ws owner_at n 0 (omega (arith, wide)) in
+      goes k ws vs l id v r at us (set vs id w) Stay (length-set ws owner_at n ∙ wide)
+      (subst (λ (z : SiteWords). SiteKept o owned size k z (map hand_of (set vs id w))) (sym same) (set_part hand_of (Site k ws) vs id w there))
+      (subst (λ (z : SiteWords). SiteMove id (site k ws) vs z (set vs id w)) (sym same) (set-moves id (site k ws) (site k ws) vs v w at (hold-moved (site k ws) v h (turned t v) misses)))
+      (subst (λ (z : List ℕ). SpinMoves id (spin_words ws) (map spin_part vs) z (map spin_part (set vs id w))) (sym (part-below ws 0 SPIN_WORDS owner_at n (omega arith)))
+      (keep_part spin_part (SpinMoves id (spin_words ws) (map spin_part vs) (spin_words ws)) vs id v w at (λ i. record { task = task i; spin = v.spin }) (spin-same id (spin_words ws) (map spin_part vs) r.spin)))
+      (subst (λ (z : ℕ). OwnKept z (map hand_of (set vs id w))) (sym word) (set_part hand_of (OwnKept n) vs id w own))
+      (subst (λ (z : List ℕ). ListKept z l (map parted (set vs id w))) (sym (part-above ws list_at LIST_WORDS owner_at n (omega arith))) (keep_part parted (ListKept (list_words ws) l) vs id v w at (λ i. (v.spin, turned-list t v i)) r.list))
+      (subst (λ (z : ℕ). Coupled z l (set vs id w)) (sym word) coupled) tt tt tt
+      (subst (λ (z : ℕ). Leaves (owner_in ws) z → PicksFirst z l) (sym word) hands)
+      (subst (λ (z : ℕ). 4 ≤ owner_in ws % 8 → (z ≡ owner_in ws) ⊎ TookUp id vs (owner_in ws) z) (sym word) picks)
+
+  pub mutex-owns : (k : Plan) (ws : List ℕ) (vs : List V) (id n : ℕ) (v : V) (h : Hand) (t : Turn) → Kept o size k ws vs → get_elem? vs id ≡ some v → h.task ≡ v.hand.task → v.hand.misses ≤ h.misses → may_own t v (owner_in ws) n → OwnKept n (set (map hand_of vs) id h) → Site k ws (set (map hand_of vs) id h)
+      → Go k id ws vs (set ws owner_at n) (set vs id (turns turned t v h))
+  mutex-owns k ws vs id n v h Fail (l, r) at task misses may own there = let m : ℕ = owner_in ws in
+      owns-by k ws vs l id n v h Fail r at task misses own there (subst (λ (z : ℕ). Coupled z l (set vs id (turns turned Fail v h))) (sym may.0) (coupled-fails m l vs id v r.coupled at (apart k ws vs l id v r at) may.1.0 may.1.1 may.1.2 h task)) (λ leaves. absurd (leaves.3 (ap (λ (z : ℕ). z / 8) may.0))) (λ _. inl may.0)
+  mutex-owns k ws vs id n v h Take (l, r) at task misses may own there = let m : ℕ = owner_in ws in let nobody = r.own.nobody in let flags = r.own.flags in ⊎_elim
+      (λ (q : (m < 8) × (n ≡ 8 * (may.1.0 + 1) + m)). let free = q.0 in let few = nobody free in owns-by k ws vs l id n v h Take r at task misses own there (coupled-takes-free m l vs id v r.coupled at (apart k ws vs l id v r at) may.1.0 n h q.0 (nobody q.0) q.1 task) (λ leaves. let big = leaves.2 in absurd (omega (arith, big, free))) (λ high. absurd (omega (arith, high, few))))
+      (λ (q : (4 ≤ m % 8) × (m / 8 ≡ may.1.0 + 1) × (n + 4 ≡ m)). let high = q.0 in owns-by k ws vs l id n v h Take r at task misses own there (coupled-takes-picked m l vs id v r.coupled at (apart k ws vs l id v r at) n h q.0 flags q.2 task) (λ leaves. let low = leaves.0 in absurd (omega (arith, low, high))) (λ _. inr (v, at, (may.1.0, may.1.1, q.1), q.2)))
+      may.1.2
+  mutex-owns k ws vs id n v h Ask (l, r) at task misses may own there = let m : ℕ = owner_in ws in let few = may.2.0 in let is = may.2.2 in
+      owns-by k ws vs l id n v h Ask r at task misses own there (coupled-asks m l vs id v r.coupled at (apart k ws vs l id v r at) n h may.0 may.1 may.2.0 may.2.2 task) (λ leaves. absurd (leaves.3 (omega (arith, few, is)))) (λ high. absurd (omega (arith, high, few)))
+  mutex-owns k ws vs id n v h Free (l, r) at task misses may own there = let m : ℕ = owner_in ws in let few = may.1 in
+      owns-by k ws vs l id n v h Free r at task misses own there (coupled-frees m l vs id v r.coupled at (apart k ws vs l id v r at) n h may.1 may.2 task) (λ leaves. let x = leaves.1 in absurd (omega (arith, x, few))) (λ high. absurd (omega (arith, high, few)))
+  mutex-owns k ws vs id n v h HandOn (l, r) at task misses may own there = let m : ℕ = owner_in ws in let kn = known k ws vs l id v r at may.2.0 in let a = apart k ws vs l id v r at in let is : v.ext.list.list ≡ l = kn.0 in let few = may.3 in
+      let none_is : length l ≡ 0 → n ≡ m % 2 = λ z. may.4.0 (ap length is ∙ z) in let some_is : 0 < length l → n ≡ 8 * first_code l + 4 + m % 2 = λ lo. subst (λ (y : List Waiter). 0 < length y → n ≡ 8 * first_code y + 4 + m % 2) is may.4.1 lo in
+      owns-by k ws vs l id n v h HandOn r at task misses own there (coupled-hands-over m l vs id v r.coupled at a n h may.2.0.0 may.2.2 may.3 none_is some_is task may.1)
+      (λ leaves. let fl = flagged m l vs id v r.coupled at a may.2.0.0 may.2.2 in let asks = leaves.1 in elim (native.Mathlib.Decide.dec_le (length l) 0) [
+        | yes z ↦ let e = fl.none (omega (arith, z)) in absurd (omega (arith, e, asks))
+        | no lo ↦ let e = some_is (omega (arith, lo)) in (omega (arith, e), omega (arith, e))
+      ])
+      (λ high. absurd (omega (arith, high, few)))
+  mutex-owns k ws vs id n v h Flag (l, r) at task misses may own there = let m : ℕ = owner_in ws in let low = ((r.coupled.each id v at).joins may.0).3 in let is = may.1 (omega (arith, low)) in
+      owns-by k ws vs l id n v h Flag r at task misses own there (coupled-flags m l vs id v r.coupled at (apart k ws vs l id v r at) n h may.0 is task) (λ leaves. let x = leaves.1 in absurd (omega (arith, x, low))) (λ high. absurd (omega (arith, high, low)))
+  mutex-owns k ws vs id n v h Clear (l, r) at task misses may own there = let m : ℕ = owner_in ws in let is = may.1 in let low = ((r.coupled.each id v at).empties may.0).3 in
+      owns-by k ws vs l id n v h Clear r at task misses own there (coupled-clears m l vs id v r.coupled at (apart k ws vs l id v r at) n h may.0 may.1 task) (λ leaves. absurd (leaves.3 (omega (arith, is)))) (λ high. absurd (omega (arith, high, low)))
+
+  pub mutex-own-looks : (k : Plan) (ws : List ℕ) (vs : List V) (id : ℕ) (v : V) (h : Hand) → Kept o size k ws vs → get_elem? vs id ≡ some v → h.task ≡ v.hand.task → h.held ≡ v.hand.held → v.hand.misses ≤ h.misses → Site k ws (set (map hand_of vs) id h) → Go k id ws vs ws (set vs id (handed v h))
+  mutex-own-looks k ws vs id v h (l, r) at task held misses there = let w : V = handed v h in goes-on k ws vs l id v r at ws (set vs id w) Stay r.wide (set_part hand_of (Site k ws) vs id w there)
+      (set-moves id (site k ws) (site k ws) vs v w at (hold-moved (site k ws) v h v.ext misses))
+      (keep_part spin_part (SpinMoves id (spin_words ws) (map spin_part vs) (spin_words ws)) vs id v w at (λ i. record { task = task i; spin = v.spin }) (spin-same id (spin_words ws) (map spin_part vs) r.spin))
+      refl
+      (set_part hand_of (OwnKept (owner_in ws)) vs id w (own-stays (map hand_of vs) id (owner_in ws) v.hand h r.own (at_map hand_of vs id v at) held (inl task)))
+      (keep_part parted (ListKept (list_words ws) l) vs id v w at refl r.list)
+      (coupled-hands (owner_in ws) l vs id v r.coupled at h (inl task)) tt tt tt
+
+  pub mutex-opens : (k : Plan) → length (fresh k) ≡ width k → ((i : ℕ) → i < LOCK_WORDS → get_or (fresh k) i 0 ≡ 0) → Site k (fresh k) (map hand_of (first k idle ∷ [])) → Kept o size k (fresh k) (first k idle ∷ [])
+  mutex-opens k wide zeros there = let v : V = first k idle in let own = zeros owner_at (omega arith) in let ws : List ℕ = list_words (fresh k) in (
+    [],
+    record {
+      wide = wide;
+      site_holds = there;
+      spin = spin-opens (spin_words (fresh k)) (wide-part (fresh k) 0 SPIN_WORDS (omega (arith, wide))) (part-at (fresh k) 0 SPIN_WORDS 0 (omega arith) ∙ zeros 0 (omega arith));
+      own = subst (λ (z : ℕ). OwnKept z (v.hand ∷ [])) (sym own) (own-opens v.hand.plan v.hand.seen);
+      list = list-opens ws (wide-part (fresh k) list_at LIST_WORDS (omega (arith, wide))) (λ i few. part-at (fresh k) list_at LIST_WORDS i few ∙ zeros (list_at + i) (omega (arith, few)));
+      coupled = subst (λ (z : ℕ). Coupled z [] (v ∷ [])) (sym own) (coupled-opens v refl refl refl);
+    },
+  )
+
+  pub mutex-splits : (k : Plan) (ws : List ℕ) (vs : List V) (id : ℕ) (v : V) → Kept o size k ws vs → get_elem? vs id ≡ some v → Site k ws (map hand_of (set vs id (ticked v) ++ split_off idle v ∷ [])) → SiteMove id (site k ws) vs (site k ws) (set vs id (ticked v) ++ split_off idle v ∷ []) → Go k id ws vs ws (set vs id (ticked v) ++ split_off idle v ∷ [])
+  mutex-splits k ws vs id v (l, r) at there move = let us : List V = set vs id (ticked v) in let w : V = split_off idle v in goes-on k ws vs l id v r at ws (us ++ w ∷ []) Stay r.wide there move
+      (snoc_part spin_part (SpinMoves id (spin_words ws) (map spin_part vs) (spin_words ws)) us w
+      (keep_part spin_part (λ ps. SpinMoves id (spin_words ws) (map spin_part vs) (spin_words ws) (ps ++ no_part ∷ [])) vs id v (ticked v) at refl (spin-comes id (spin_words ws) (map spin_part vs) r.spin)))
+      refl
+      (snoc_part hand_of (OwnKept (owner_in ws)) us w (own-strangers (map hand_of us) (owner_in ws) v.hand.plan v.hand.seen (keep_part hand_of (OwnKept (owner_in ws)) vs id v (ticked v) at refl r.own)))
+      (snoc_part parted (ListKept (list_words ws) l) us w (list-strangers (list_words ws) l (map parted us) (keep_part parted (ListKept (list_words ws) l) vs id v (ticked v) at refl r.list)))
+      (coupled-snoc (owner_in ws) l us w (coupled-hands (owner_in ws) l vs id v r.coupled at v.hand (inl refl)) refl refl) tt tt tt
+
+  pub mutex-joins : (k : Plan) (ws : List ℕ) (vs : List V) (id other : ℕ) (v w : V) → Kept o size k ws vs → get_elem? vs id ≡ some v → other ≢ id → get_elem? vs other ≡ some w → HoldsNothing w × rests w × (w.hand.task ≡ None)
+      → Site k ws (map hand_of (set (set vs id (merged v w)) other (spent idle))) → SiteMove id (site k ws) vs (site k ws) (set (set vs id (merged v w)) other (spent idle)) → Go k id ws vs ws (set (set vs id (merged v w)) other (spent idle))
+  mutex-joins k ws vs id other v w (l, r) at apart' at' (free, out, nameless) there move = let u : V = merged v w in let us : List V = set vs id u in let x : V = spent idle in let n : ℕ = owner_in ws in
+      let there' : get_elem? us other ≡ some w = set_else vs id other u apart' ∙ at' in
+      let own : OwnKept n (map hand_of us) = set_part hand_of (OwnKept n) vs id u (own-stays (map hand_of vs) id n v.hand u.hand r.own (at_map hand_of vs id v at) refl (inl refl)) in
+      let coupled = coupled-hands n l vs id v r.coupled at u.hand (inl refl) in goes-on k ws vs l id v r at ws (set us other x) Stay r.wide there move
+      (set_part spin_part (SpinMoves id (spin_words ws) (map spin_part vs) (spin_words ws)) us other x
+      (keep_part spin_part (λ ps. SpinMoves id (spin_words ws) (map spin_part vs) (spin_words ws) (set ps other no_part)) vs id v u at refl (spin-ends id (spin_words ws) (map spin_part vs) other (spin_part w) r.spin (at_map spin_part vs other w at') nameless free.1)))
+      refl
+      (set_part hand_of (OwnKept n) us other x (own-stays (map hand_of us) other n w.hand (stranger None []) own (at_map hand_of us other w there') (sym free.0) (inr free.0)))
+      (set_part parted (ListKept (list_words ws) l) us other x (list-leaves (list_words ws) l (map parted us) other (parted w) (keep_part parted (ListKept (list_words ws) l) vs id v u at refl r.list) (at_map parted us other w there') (ap holds_at free.1)))
+      (coupled-stays n l us other w coupled there' x (idle-ok n l x refl refl) (λ t. sym (λ i. when (out.0 i) (is_number t w.hand.task))) (sym out.1)) tt tt tt
+
+  -- what a change of the list needs of it
+  pub mutex-list-may : (k : Plan) (ws : List ℕ) (vs : List V) (l : List Waiter) (id : ℕ) (v : V) (c : Change) → Queue k ws vs l → get_elem? vs id ≡ some v → SpinHolds v.spin → may_change c v → Allowed c l
+  mutex-list-may k ws vs l id v Stay r at has may = tt
+  mutex-list-may k ws vs l id v (Enter w) r at has may = (small k ws vs l id v r at w.task may.0, not-in (owner_in ws) l vs id v r.coupled at (apart k ws vs l id v r at) may.1 w.task may.0)
+  mutex-list-may k ws vs l id v (Leave t) r at has may = is-in (owner_in ws) l vs id v r.coupled at (apart k ws vs l id v r at) may.1 t may.0
+
+  lists-by : (k : Plan) (ws : List ℕ) (vs : List V) (l : List Waiter) (id i n : ℕ) (v : V) (c : Change) (b : ListHand) → Queue k ws vs l → get_elem? vs id ≡ some v → i < LIST_WORDS → ListKept (set (list_words ws) i n) (changed c l) (set (map parted vs) id (v.spin, b))
+      → Coupled (owner_in ws) (changed c l) (set vs id (listed with_list c v b)) → Allowed c l → MadeBy c id (map parted vs) → IsOwnChange id vs c → Go k id ws vs (set ws (list_at + i) n) (set vs id (listed with_list c v b))
+  lists-by k ws vs l id i n v c b r at inside list coupled may made mine = let w : V = listed with_list c v b in let us : List ℕ = set ws (list_at + i) n in let same : site k us ≡ site k ws = ap (lay k) (drop-set-lt LOCK_WORDS ws (list_at + i) n (omega (arith, inside))) in
+      goes-on k ws vs l id v r at us (set vs id w) c (length-set ws (list_at + i) n ∙ r.wide)
+      (subst (λ (z : SiteWords). SiteKept o owned size k z (map hand_of (set vs id w))) (sym same) (keep_part hand_of (Site k ws) vs id v w at refl r.site_holds))
+      (subst (λ (z : SiteWords). SiteMove id (site k ws) vs z (set vs id w)) (sym same) (set-moves id (site k ws) (site k ws) vs v w at (hold-moved (site k ws) v v.hand (with_list c v b) (omega arith))))
+      (subst (λ (z : List ℕ). SpinMoves id (spin_words ws) (map spin_part vs) z (map spin_part (set vs id w))) (sym (part-below ws 0 SPIN_WORDS (list_at + i) n (omega arith)))
+      (keep_part spin_part (SpinMoves id (spin_words ws) (map spin_part vs) (spin_words ws)) vs id v w at refl (spin-same id (spin_words ws) (map spin_part vs) r.spin)))
+      (get_or-set_other ws (list_at + i) owner_at n 0 (λ e. omega (arith, e)))
+      (keep_part hand_of (OwnKept (owner_in ws)) vs id v w at refl r.own)
+      (subst (λ (z : List ℕ). ListKept z (changed c l) (map parted (set vs id w))) (sym (part-in ws list_at LIST_WORDS i n inside))
+      (set_part parted (ListKept (set (list_words ws) i n) (changed c l)) vs id w (subst (λ (z : ListHand). ListKept (set (list_words ws) i n) (changed c l) (set (map parted vs) id (v.spin, z))) (sym (list-back c v b)) list)))
+      coupled may made mine
+
+  pub mutex-lists : (k : Plan) (ws : List ℕ) (vs : List V) (l : List Waiter) (id i n : ℕ) (v : V) (c : Change) (b : ListHand) → Queue k ws vs l → get_elem? vs id ≡ some v → i < LIST_WORDS → SpinHolds v.spin → may_change c v → b.list ≡ changed c l → LeaverGoes c v.ext.list.leaver b.leaver
+      → ListKept (set (list_words ws) i n) (changed c l) (set (map parted vs) id (v.spin, b)) → Go k id ws vs (set ws (list_at + i) n) (set vs id (listed with_list c v b))
+  mutex-lists k ws vs l id i n v Stay b r at inside has may is leaver list = let m : ℕ = owner_in ws in let ok = r.coupled.each id v at in lists-by k ws vs l id i n v Stay b r at inside list (coupled-stays m l vs id v r.coupled at (listed with_list Stay v b) record {
+    joins = ok.joins;
+    empties = ok.empties;
+    first = ok.first;
+    failed = ok.failed;
+    past = ok.past;
+    leaver = λ some_is. ⊎_elim (λ (e : b.leaver ≡ v.ext.list.leaver). let k = ok.leaver (λ z. some_is (e ∙ z)) in (k.0, k.1, e ∙ k.2)) (λ (z : b.leaver ≡ 0). absurd (some_is z)) leaver;
+    named = λ none. let q = ok.named none in (q.0, q.1, q.2, ⊎_elim (λ (e : b.leaver ≡ v.ext.list.leaver). e ∙ q.3) (λ (z : b.leaver ≡ 0). z) leaver, q.4);
+  } (λ t. refl) refl) tt tt tt
+  mutex-lists k ws vs l id i n v (Enter w) b r at inside has may is leaver list = let m : ℕ = owner_in ws in let a = apart k ws vs l id v r at in lists-by k ws vs l id i n v (Enter w) b r at inside list (coupled-enters m l vs id v r.coupled at a w b (ap holds_at has) may.0 may.1 may.2 is leaver)
+      (mutex-list-may k ws vs l id v (Enter w) r at has may) (parted v, at_map parted vs id v at, ap holds_at has) (v, at, may.0)
+  mutex-lists k ws vs l id i n v (Leave t) b r at inside has may is leaver list = let m : ℕ = owner_in ws in let a = apart k ws vs l id v r at in
+      let unpicked : 4 ≤ m % 8 → m / 8 ≢ t + 1 = λ high. ⊎_elim
+      (λ (alone : v.hand.held ≡ Alone). let low = (held-word (map hand_of vs) id t m v.hand r.own (at_map hand_of vs id v at) alone may.0).0 in absurd (omega (arith, low, high)))
+      (λ (stamp : v.ext.failed ≡ v.spin.entries). (r.coupled.each id v at).failed (ap holds_at has) stamp t may.0 high)
+      may.3 in
+      lists-by k ws vs l id i n v (Leave t) b r at inside list (coupled-leaves m l vs id v r.coupled at a t b (ap holds_at has) may.0 may.1 may.2 unpicked is leaver)
+      (mutex-list-may k ws vs l id v (Leave t) r at has may) (parted v, at_map parted vs id v at, ap holds_at has) (v, at, may.0)
+
+  both : (a b : Bool) → (a && b) ≡ true → (a ≡ true) × (b ≡ true)
+  both true true e = (refl, refl)
+  both true false e = (refl, e)
+  both false b e = (e, absurd cc)
+
+  is-code : (n h : ℕ) (task : Option ℕ) → (is_code task n && (h == 0)) ≡ true → (t : ℕ) × (task ≡ Some t) × (n ≡ t + 1) × (h ≡ 0)
+  is-code n h None e = absurd cc
+  is-code n h (Some t) e = let q = both (n == t + 1) (h == 0) e in dite (ℕ_discrete n (t + 1))
+      (λ is. dite (ℕ_discrete h 0) (λ out. (t, refl, is, out)) (λ other. not-both (h == 0) (ne_eqb h 0 other) q.1))
+      (λ other. not-both (n == t + 1) (ne_eqb n (t + 1) other) q.0)
+
+  -- a load of the first word, by which a pass sees that it is the first waiter
+  pub mutex-firsts : (k : Plan) (ws : List ℕ) (vs : List V) (l : List Waiter) (id : ℕ) (v : V) → Queue k ws vs l → get_elem? vs id ≡ some v → Go k id ws vs ws (set vs id (sighted saw_first v (get_or (list_words ws) 0 0)))
+  mutex-firsts k ws vs l id v r at = let n : ℕ = get_or (list_words ws) 0 0 in let w : V = sighted saw_first v n in let ok = r.coupled.each id v at in goes-on k ws vs l id v r at ws (set vs id w) Stay r.wide
+      (keep_part hand_of (Site k ws) vs id v w at refl r.site_holds)
+      (set-moves id (site k ws) (site k ws) vs v w at (hold-moved (site k ws) v v.hand w.ext (omega arith)))
+      (keep_part spin_part (SpinMoves id (spin_words ws) (map spin_part vs) (spin_words ws)) vs id v w at refl (spin-same id (spin_words ws) (map spin_part vs) r.spin))
+      refl
+      (keep_part hand_of (OwnKept (owner_in ws)) vs id v w at refl r.own)
+      (keep_part parted (ListKept (list_words ws) l) vs id v w at refl r.list)
+      (coupled-stays (owner_in ws) l vs id v r.coupled at w record {
+        joins = ok.joins;
+        empties = ok.empties;
+        first = λ f. let c = is-code n (holds_in v.spin) v.hand.task f in (c.0, c.1, heads c.0 c.1 c.2 c.3);
+        failed = ok.failed;
+        past = ok.past;
+        leaver = ok.leaver;
+        named = λ none. let q = ok.named none in (q.0, q.1, ap (λ (z : Option ℕ). is_code z n && (holds_in v.spin == 0)) none, q.3, q.4);
+      } (λ t. refl) refl) tt tt tt
+    where
+      heads : (t : ℕ) → v.hand.task ≡ Some t → get_or (list_words ws) 0 0 ≡ t + 1 → holds_in v.spin ≡ 0 → first_code l ≡ t + 1
+      heads t is word out = elim (native.Mathlib.Decide.dec_le (total changes_of (map parted vs)) 0) [
+        | yes none ↦ sym (r.list.quiet (omega (arith, none))).first ∙ word
+        | no some_do ↦ let s = some-of changes_of (map parted vs) (omega (arith, some_do)) in let p = at_unmap parted vs s.0 s.1 s.2 in let weighs = s.3 in
+            let ch : s.1.1.changes ≡ true = false-or-true s.1.1.changes (λ t. t) (λ f. let z : changes_of s.1 ≡ 0 = ap bit f in absurd (omega (arith, z, weighs))) in let q = (r.list.each s.0 s.1 s.2).changes ch in ⊎_elim
+            (λ (e : get_or (list_words ws) 0 0 ≡ first_code l). sym e ∙ word)
+            (λ (rest : (get_or (list_words ws) 0 0 ≡ 0) ⊎ (get_or (list_words ws) 0 0 ≡ s.1.1.leaver)). ⊎_elim
+            (λ (z : get_or (list_words ws) 0 0 ≡ 0). absurd (omega (arith, z, word)))
+            (λ (z : get_or (list_words ws) 0 0 ≡ s.1.1.leaver). let x : V = p.0 in let same : x.ext.list.leaver ≡ s.1.1.leaver = ap (λ (y : Part). y.1.leaver) p.2 in
+            let o = (r.coupled.each s.0 x p.1).leaver (λ zero_it. omega (arith, zero_it, same, z, word)) in let t' = o.2 in let e : o.0 ≡ t = omega (arith, t', same, z, word) in
+            let holds : HasLock x = ap (λ (y : Part). holds_in y.0) p.2 ∙ q.0.0 in dite (ℕ_discrete s.0 id)
+            (λ mine. let f : x ≡ v = some-injective x v (sym p.1 ∙ (ap (get_elem? vs) mine ∙ at)) in locked-free v out (ap (λ (y : V). holds_in y.spin) (sym f) ∙ holds))
+            (λ other. absurd ((apart k ws vs l id v r at).numbers s.0 t x p.1 other is (o.1 ∙ ap Some e))))
+            rest)
+            q.1
+      ]
+
+  -- a change that a pass may make is one for which the word's own facts are enough
+  pub mutex-own-may : (k : Plan) (ws : List ℕ) (vs : List V) (id n : ℕ) (v : V) (t : Turn) → Kept o size k ws vs → get_elem? vs id ≡ some v → may_own t v (owner_in ws) n → IsTurn t (owner_in ws) n
+  mutex-own-may k ws vs id n v Fail r at may = may.0
+  mutex-own-may k ws vs id n v Take r at may = tt
+  mutex-own-may k ws vs id n v Ask r at may = may.2
+  mutex-own-may k ws vs id n v Free r at may = tt
+  mutex-own-may k ws vs id n v HandOn r at may = tt
+  mutex-own-may k ws vs id n v Flag r at may = tt
+  mutex-own-may k ws vs id n v Clear r at may = ((r.1.coupled.each id v at).empties may.0).3

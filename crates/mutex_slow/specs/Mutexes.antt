@@ -1,0 +1,185 @@
+-- The rule of a mutex: the facts of its parts, and those that couple the owner word, the list and the passes.
+use Rattle.std.specs.Prelude.{◌≡◌, ◌≢◌, ℕ, ◌+◌, ◌*◌, ◌/◌, ◌%◌, ◌<◌, ◌≤◌, ◌==◌, ◌⊎◌, Bool, true, false, List, [], length, map, slice_index, ◌&&◌, Option, Some, None, if◌then◌else◌}
+use mathlib.Core.Option.{some}
+use lib.ListN.{get_elem?}
+use Rattle.word_bits.specs.LockWords.{owned}
+use Rattle.word_bits.specs.Objects.{Obj}
+use Rattle.word_bits.specs.Histories.{Plan}
+use Rattle.lock_core.specs.declared.view.View.{View}
+use Rattle.lock_core.specs.declared.view.Held.TheVariants.{No, Alone}
+use Rattle.lock_core.specs.declared.layout.TheConstants.{SPIN_ROOM, SPIN_WORDS}
+use Rattle.lock_core.specs.Layout.{site, width, part}
+use Rattle.lock_core.specs.Views.{hand_of, spin_part, is_number}
+use Rattle.lock_core.specs.Sites.{SiteKept}
+use Rattle.lock_core.specs.Moves.{SiteMove}
+use Rattle.lock_core.specs.SpinFrames.{when}
+use Rattle.lock_core.specs.Spins.{SpinKept, SpinMoves, holds_in}
+use Rattle.lock_core.specs.Totals.{total}
+use Rattle.lock_core.specs.Parts.{Each}
+use Rattle.mutex_word.specs.declared.host.Turn.{Turn}
+use Rattle.mutex_word.specs.declared.host.Turn.TheVariants.{Fail, Take, Ask, Free, Hand as HandOn, Flag, Clear}
+use Rattle.mutex_word.specs.Holders.{OwnKept, IsAsk}
+use Rattle.mutex_word.specs.Tries.{IsTake}
+use Rattle.wait_list.specs.declared.view.Waiter.{Waiter}
+use Rattle.wait_list.specs.declared.view.Change.{Change}
+use Rattle.wait_list.specs.declared.view.Change.TheVariants.{Stay, Enter, Leave}
+use Rattle.wait_list.specs.declared.view.ListHand.{ListHand}
+use Rattle.wait_list.specs.declared.words.TheConstants.{LIST_WORDS}
+use Rattle.wait_list.specs.Lists.{ListKept, ListMoves, Knows, list_part, no_list, first_code, counted}
+use Rattle.mutex_slow.specs.declared.view.MutexHand.{MutexHand}
+use Rattle.mutex_slow.specs.declared.view.Point.{Point}
+use Rattle.mutex_slow.specs.declared.view.Point.TheVariants.{Rest, Joins, Empties}
+
+abbrev pub V : Type 0
+V = View MutexHand
+
+abbrev pub idle : MutexHand
+idle = record { list = no_list; queued = false; point = Rest; first = false; failed = 0; appends = 0 }
+
+-- a moment keeps nothing of what concerns the list
+abbrev pub unmarked : MutexHand → List ℕ
+unmarked e = []
+
+abbrev pub list_of : MutexHand → ListHand
+list_of e = e.list
+
+abbrev pub point_weight : Point → ℕ
+point_weight Rest = 0
+point_weight Joins = 1
+point_weight Empties = 1
+
+abbrev pub point_of : V → ℕ
+point_of v = point_weight v.ext.point
+
+abbrev pub queued_of : ℕ → V → ℕ
+queued_of t v = when v.ext.queued (is_number t v.hand.task)
+
+-- it has the wait lock
+abbrev pub HasLock : V → Type 0
+HasLock v = holds_in v.spin ≡ 1
+
+-- it isn't in the list, and nothing is under way
+abbrev pub IsOut : V → Type 0
+IsOut v = (v.ext.queued ≡ false) × (v.ext.point ≡ Rest) × (v.ext.first ≡ false) × (v.ext.list.leaver ≡ 0) × (HasLock v → v.ext.failed < v.spin.entries)
+
+-- the flags fit the list
+pub record Flagged (n : ℕ) (l : List Waiter) : Type 0 where
+  pub some : 0 < length l → n % 2 ≡ 1
+  pub none : length l ≡ 0 → n % 8 ≡ 0
+
+pub record SeatOk (n : ℕ) (l : List Waiter) (v : V) : Type 0 where
+  pub joins : v.ext.point ≡ Joins → (HasLock v) × ((t : ℕ) × (v.hand.task ≡ Some t) × (first_code l ≡ t + 1)) × (length l ≡ 1) × (n % 8 ≡ 0)
+  pub empties : v.ext.point ≡ Empties → (HasLock v) × (length l ≡ 0) × (n % 2 ≡ 1) × (n % 8 < 4)
+  pub first : v.ext.first ≡ true → (t : ℕ) × (v.hand.task ≡ Some t) × (first_code l ≡ t + 1)
+  pub failed : HasLock v → v.ext.failed ≡ v.spin.entries → (t : ℕ) → v.hand.task ≡ Some t → 4 ≤ n % 8 → n / 8 ≢ t + 1
+  pub past : v.ext.failed ≤ v.spin.entries
+  pub leaver : v.ext.list.leaver ≢ 0 → (t : ℕ) × (v.hand.task ≡ Some t) × (v.ext.list.leaver ≡ t + 1)
+  pub named : v.hand.task ≡ None → IsOut v
+
+-- the owner word, the list and the passes
+pub record Coupled (n : ℕ) (l : List Waiter) (vs : List V) : Type 0 where
+  pub places : (t : ℕ) → counted t l ≡ total (queued_of t) vs
+  pub flags : total point_of vs ≡ 0 → Flagged n l
+  pub picked : 4 ≤ n % 8 → n / 8 ≡ first_code l
+  pub each : Each (SeatOk n l) vs
+
+-- where the words stand: the spin lock's, the owner word, and those of the list
+abbrev pub owner_at : ℕ
+owner_at = SPIN_ROOM
+
+abbrev pub list_at : ℕ
+list_at = SPIN_ROOM + 8
+
+abbrev pub spin_words : List ℕ → List ℕ
+spin_words ws = part 0 SPIN_WORDS ws
+
+abbrev pub owner_in : List ℕ → ℕ
+owner_in ws = slice_index ws owner_at
+
+abbrev pub list_words : List ℕ → List ℕ
+list_words ws = part list_at LIST_WORDS ws
+
+module _ {Call : Type 0} (o : Obj Call) (size : ℕ) where
+  pub record MutexKept (k : Plan) (ws : List ℕ) (vs : List V) (l : List Waiter) : Type 0 where
+    pub wide : length ws ≡ width k
+    pub site_holds : SiteKept o owned size k (site k ws) (map hand_of vs)
+    pub spin : SpinKept (spin_words ws) (map spin_part vs)
+    pub own : OwnKept (owner_in ws) (map hand_of vs)
+    pub list : ListKept (list_words ws) l (map (list_part list_of) vs)
+    pub coupled : Coupled (owner_in ws) l vs
+
+  abbrev pub Kept : Plan → List ℕ → List V → Type 0
+  Kept k ws vs = (l : List Waiter) × MutexKept k ws vs l
+
+-- ends a hold while a handoff is asked for
+abbrev pub Leaves : ℕ → ℕ → Type 0
+Leaves n m = (n % 8 < 4) × (2 ≤ n % 4) × (8 ≤ n) × (m / 8 ≢ n / 8)
+
+-- the word picks the first waiter
+abbrev pub PicksFirst : ℕ → List Waiter → Type 0
+PicksFirst m l = (4 ≤ m % 8) × (m / 8 ≡ first_code l)
+
+-- a pass of this number took up what the word picks it for
+abbrev pub TookUp : ℕ → List V → ℕ → ℕ → Type 0
+TookUp id vs n m = (v : V) × (get_elem? vs id ≡ some v) × ((t : ℕ) × (v.hand.task ≡ Some t) × (n / 8 ≡ t + 1)) × (m + 4 ≡ n)
+
+-- a pass changes the list by its own task alone
+abbrev pub IsOwnChange : ℕ → List V → Change → Type 0
+IsOwnChange id vs Stay = Unit {0}
+IsOwnChange id vs (Enter w) = (v : V) × (get_elem? vs id ≡ some v) × (v.hand.task ≡ Some w.task)
+IsOwnChange id vs (Leave t) = (v : V) × (get_elem? vs id ≡ some v) × (v.hand.task ≡ Some t)
+
+-- what a step may do: all that each step of a site, of a spin lock and of a list does; where it ends a hold while a handoff is asked for, it picks the first waiter; and a word that picks a waiter is changed by that waiter alone, which takes
+pub record MutexMoves (k : Plan) (id : ℕ) (ws : List ℕ) (vs : List V) (us : List ℕ) (vs' : List V) : Type 0 where
+  pub site : SiteMove id (site k ws) vs (site k us) vs'
+  pub spin : SpinMoves id (spin_words ws) (map spin_part vs) (spin_words us) (map spin_part vs')
+  pub list : ListMoves id (list_words ws) (map (list_part list_of) vs) (list_words us) (map (list_part list_of) vs')
+  pub own : IsOwnChange id vs list.change
+  pub hands : Leaves (owner_in ws) (owner_in us) → PicksFirst (owner_in us) list.list
+  pub picks : 4 ≤ owner_in ws % 8 → (owner_in us ≡ owner_in ws) ⊎ TookUp id vs (owner_in ws) (owner_in us)
+
+abbrev pub may_free : V → Type 0
+may_free v = (v.ext.point ≡ Rest) × (v.ext.list.changes ≡ false)
+
+abbrev pub rests : V → Type 0
+rests v = (v.ext.queued ≡ false) × (v.ext.point ≡ Rest) × (v.ext.first ≡ false) × (v.ext.list.leaver ≡ 0)
+
+-- it knows the list, whose words say so
+abbrev pub KnowsList : V → Type 0
+KnowsList v = Knows (v.spin, v.ext.list) × (v.ext.list.changes ≡ false) × (v.ext.point ≡ Rest)
+
+abbrev pub may_own : Turn → V → ℕ → ℕ → Type 0
+may_own Fail v n m = (m ≡ n) × ((t : ℕ) × (v.hand.task ≡ Some t) × (4 ≤ n % 8 → n / 8 ≢ t + 1))
+may_own Take v n m = (v.hand.held ≡ No) × ((t : ℕ) × (v.hand.task ≡ Some t) × IsTake t n m)
+may_own Ask v n m = (v.ext.first ≡ true) × (v.ext.point ≡ Rest) × IsAsk n m
+may_own Free v n m = (v.hand.held ≡ Alone) × (n % 8 < 2) × (m ≡ n % 8)
+may_own HandOn v n m = (v.hand.held ≡ Alone) × (v.ext.queued ≡ false) × KnowsList v × (n % 8 < 4) × ((length v.ext.list.list ≡ 0 → m ≡ n % 2) × (0 < length v.ext.list.list → m ≡ 8 * first_code v.ext.list.list + 4 + n % 2))
+may_own Flag v n m = (v.ext.point ≡ Joins) × (n % 2 ≡ 0 → m ≡ n + 1)
+may_own Clear v n m = (v.ext.point ≡ Empties) × (m + n % 8 ≡ n)
+
+abbrev pub turned : Turn → V → MutexHand
+turned Fail v = record v.ext { failed = v.spin.entries }
+turned Take v = v.ext
+turned Ask v = v.ext
+turned Free v = v.ext
+turned HandOn v = v.ext
+turned Flag v = record v.ext { point = Rest }
+turned Clear v = record v.ext { point = Rest }
+
+abbrev pub with_list : Change → V → ListHand → MutexHand
+with_list Stay v b = record v.ext { list = b }
+with_list (Enter w) v b = record v.ext { list = b; queued = true; first = false; point = if length b.list == 1 then Joins else Rest; appends = v.ext.appends + 1 }
+with_list (Leave t) v b = record v.ext { list = b; queued = false; first = false; point = if length b.list == 0 then Empties else Rest }
+
+abbrev pub may_change : Change → V → Type 0
+may_change Stay v = Unit {0}
+may_change (Enter w) v = (v.hand.task ≡ Some w.task) × (v.ext.queued ≡ false) × (v.ext.point ≡ Rest)
+may_change (Leave t) v = (v.hand.task ≡ Some t) × (v.ext.queued ≡ true) × (v.ext.point ≡ Rest) × ((v.hand.held ≡ Alone) ⊎ (v.ext.failed ≡ v.spin.entries))
+
+abbrev pub is_code : Option ℕ → ℕ → Bool
+is_code None n = false
+is_code (Some t) n = n == t + 1
+
+-- a pass that sees its own code as the first word is the first waiter
+abbrev pub saw_first : V → ℕ → MutexHand
+saw_first v n = record v.ext { first = is_code v.hand.task n && (holds_in v.spin == 0) }
