@@ -1,5 +1,5 @@
 //! The list of a site, on which passes work that hold its spin lock.
-ghost use Rattle.std.specs.Prelude.{◌≡◌, ◌<◌, ◌↔◌, length, true, false, Option, IfSome, IsSome, IsTrue, Some, ℕ, ◌+◌};
+ghost use Rattle.std.specs.Prelude.{◌≡◌, ◌<◌, ◌≤◌, ◌↔◌, length, true, false, Option, IfSome, IsSome, IsTrue, Some, ℕ, ◌+◌};
 ghost use Rattle.lock_core.specs.Handles.{IsLatest, view_of, past_of, task_in, SitsAt, KeepsPast, SaysSame};
 ghost use Rattle.lock_core.specs.Pasts.{FoundAt};
 ghost use Rattle.lock_core.specs.Views.{SpinHolds};
@@ -25,6 +25,7 @@ pub fn append<H: ListHost>(site: &Site<H>, pass: &mut Pass<H>, waiter: Waiter)
     ensures goes_on { KeepsPast pass.old pass.new }
     ensures last { IsLatest pass.new }
     ensures face { SaysSame pass.old pass.new }
+    ensures later { (view_of pass.old).steps ≤ (view_of pass.new).steps }
     ensures kept { Appends H.list H.with_list (view_of pass.old) waiter (view_of pass.new) }
 {
     let number = word(site, pass, NUMBER_AT);
@@ -50,6 +51,7 @@ fn shift<H: ListHost>(site: &Site<H>, pass: &mut Pass<H>, other: usize, place: u
     ensures goes_on { KeepsPast pass.old pass.new }
     ensures last { IsLatest pass.new }
     ensures face { SaysSame pass.old pass.new }
+    ensures later { (view_of pass.old).steps ≤ (view_of pass.new).steps }
     ensures kept { Shifts H.list H.with_list
         (view_of pass.old) (TICKETS_AT + other) place (view_of pass.new) }
 {
@@ -70,6 +72,7 @@ fn shift_all<H: ListHost>(site: &Site<H>, pass: &mut Pass<H>, place: u64)
     ensures goes_on { KeepsPast pass.old pass.new }
     ensures last { IsLatest pass.new }
     ensures face { SaysSame pass.old pass.new }
+    ensures later { (view_of pass.old).steps ≤ (view_of pass.new).steps }
     ensures kept { ShiftsAll H.list H.with_list
         (view_of pass.old) place MAX_TASKS (view_of pass.new) }
 {
@@ -88,6 +91,7 @@ fn waiter_at<H: ListHost>(site: &Site<H>, pass: &mut Pass<H>, place: u64) -> Opt
     ensures goes_on { KeepsPast pass.old pass.new }
     ensures last { IsLatest pass.new }
     ensures face { SaysSame pass.old pass.new }
+    ensures later { (view_of pass.old).steps ≤ (view_of pass.new).steps }
     ensures at { IsAtPlace (hand_at H.list (view_of pass.old)).words place result }
     ensures kept { only_steps (view_of pass.old) (view_of pass.new) }
 {
@@ -113,6 +117,7 @@ pub fn remove<H: ListHost>(site: &Site<H>, pass: &mut Pass<H>, task: u32)
     ensures goes_on { KeepsPast pass.old pass.new }
     ensures last { IsLatest pass.new }
     ensures face { SaysSame pass.old pass.new }
+    ensures later { (view_of pass.old).steps ≤ (view_of pass.new).steps }
     ensures kept { Removes H.list H.with_list (view_of pass.old) task (view_of pass.new) }
 {
     let at = TICKETS_AT + task as usize;
@@ -135,6 +140,7 @@ pub fn first<H: ListHost>(site: &Site<H>, pass: &mut Pass<H>) -> Option<Waiter>
     ensures goes_on { KeepsPast pass.old pass.new }
     ensures last { IsLatest pass.new }
     ensures face { SaysSame pass.old pass.new }
+    ensures later { (view_of pass.old).steps ≤ (view_of pass.new).steps }
     ensures told { FindsFirst H.list H.with_list (view_of pass.old) result (view_of pass.new) }
 {
     let code = word(site, pass, FIRST_AT);
@@ -157,6 +163,7 @@ pub fn next<H: ListHost>(site: &Site<H>, pass: &mut Pass<H>, task: u32) -> Optio
     ensures goes_on { KeepsPast pass.old pass.new }
     ensures last { IsLatest pass.new }
     ensures face { SaysSame pass.old pass.new }
+    ensures later { (view_of pass.old).steps ≤ (view_of pass.new).steps }
     ensures told { FindsNext H.list H.with_list (view_of pass.old) task result (view_of pass.new) }
 {
     let ticket = word(site, pass, TICKETS_AT + task as usize);

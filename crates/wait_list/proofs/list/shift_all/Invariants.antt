@@ -1,4 +1,4 @@
-use Rattle.std.proofs.Common.{◌≡◌, true, length}
+use Rattle.std.proofs.Common.{◌≡◌, ◌≤◌, true, length}
 use Rattle.lock_core.specs.Passes.{Sits}
 use Rattle.lock_core.specs.Pasts.{GoesOn, IsOwnStep}
 use Rattle.wait_list.specs.Lists.{Knows, IsNear, ShiftsAll, list_part}
@@ -11,3 +11,4 @@ invariant-loop-other g l =
     × GoesOn l.fn.pass.seat.me.0.past l.pass.seat.me.0.past
     × IsOwnStep l.pass.seat.me.0.view l.pass.seat.me.0.past
     × ShiftsAll g.H.ListHost.list g.H.ListHost.with_list l.fn.pass.seat.me.0.view l.place l.other l.pass.seat.me.0.view
+    × (l.fn.pass.seat.me.0.view.steps ≤ l.pass.seat.me.0.view.steps)

@@ -1,4 +1,4 @@
-use Rattle.std.proofs.Common.{◌≡◌, ◌≢◌, ◌<◌, ◌+◌, ◌/◌, ℕ, get_or}
+use Rattle.std.proofs.Common.{◌≡◌, ◌≢◌, ◌<◌, ◌≤◌, ◌+◌, ◌/◌, ℕ, get_or}
 use Rattle.lock_core.specs.Passes.{Sits}
 use Rattle.lock_core.specs.Pasts.{GoesOn, IsOwnStep}
 use Rattle.wait_list.proofs.list.waiter_at.Given as goal
@@ -11,3 +11,4 @@ invariant-loop-task g l =
     × IsOwnStep l.pass.seat.me.0.view l.pass.seat.me.0.past
     × (l.pass.seat.me.0.view ≡ record l.fn.pass.seat.me.0.view { steps = l.pass.seat.me.0.view.steps })
     × ((t : ℕ) → t < l.task → get_or (g.H.ListHost.list l.fn.pass.seat.me.0.view.ext).words (8 + t) 0 / 2 ≢ l.place)
+    × (l.fn.pass.seat.me.0.view.steps ≤ l.pass.seat.me.0.view.steps)

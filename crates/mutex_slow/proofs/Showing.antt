@@ -1,0 +1,151 @@
+-- What the parts of a call show to callers of any lock.
+use Rattle.std.proofs.Common.{◌≡◌, ◌≢◌, ℕ, ◌+◌, ◌*◌, ◌<◌, ◌≤◌, ◌⊎◌, Bool, true, false, List, length, take, Option, Some, refl, sym, ap, ◌∙◌, subst, arith}
+use Rattle.word_bits.specs.declared.TheConstants.{MAX_TASKS}
+use Rattle.lock_core.specs.declared.view.Hand.{Hand}
+use Rattle.lock_core.specs.declared.view.Moment.{Moment}
+use Rattle.lock_core.specs.declared.view.Held.TheVariants.{No}
+use Rattle.lock_core.specs.Holding.{missed}
+use Rattle.lock_core.specs.Pasts.{GoesOn, FoundAt, FoundAtStep, IsOwnStep, IsStepBy}
+use Rattle.lock_core.specs.RunLaws.{found-at-step}
+use Rattle.lock_core.specs.Kinds.{Kind, mutex}
+use Rattle.lock_core.specs.declared.how.Interrupted.{Interrupted}
+use Rattle.lock_core.specs.Shown.{Shown, FindsSince, NoCountFalls, PastGoesOn, shown}
+use Rattle.lock_core.specs.Locking.{Misses, Keeps, Sees, SawPending, Takes, IsStored, Begins}
+use Rattle.lock_core.specs.declared.view.Held.{Held}
+use Rattle.word_bits.specs.declared.entry.Entry.{Entry}
+use Rattle.word_bits.specs.Objects.{Obj}
+use Rattle.word_bits.specs.Histories.{Plan}
+use Rattle.mutex_word.specs.declared.host.Turn.TheVariants.{Fail}
+use Rattle.mutex_word.specs.Holders.{turns}
+use Rattle.mutex_word.specs.Tries.{at_step}
+use Rattle.mutex_slow.specs.Mutexes.{V, owner_at, turned}
+use Rattle.mutex_slow.specs.Places.{OnlyTried, line_of}
+
+same-le : (m n : ℕ) → m ≡ n → n ≤ m
+same-le m n e = omega arith
+
+-- a try that failed at a word which names a task, and counts
+pub failed-misses : (v u : V) (p q : List Moment) (n s : ℕ) → v.steps ≤ s → u ≡ turns turned Fail (at_step v s) (missed v.hand n (s + 1)) → v.hand.held ≡ No → IsOwnStep u q → FoundAt owner_at n q → GoesOn p q → 8 ≤ n → n < 8 * MAX_TASKS + 8
+    → (reads : Bool) → Misses mutex reads owner_at n (shown line_of v.fronts v p) (shown line_of u.fronts u q)
+failed-misses v u p q n s later now out own found goes names small reads = record {
+  keeps = record {
+    task = part (λ w. w.hand.task);
+    done = part (λ w. w.hand.done);
+    seen = part (λ w. w.hand.seen);
+    records = part (λ w. w.hand.records);
+    sent = part (λ w. w.hand.sent);
+    last = part (λ w. w.hand.last);
+    counts = record {
+      steps = omega (arith, counted, later);
+      misses = omega (arith, more);
+      entries = same-le _ _ (part (λ w. w.spin.entries));
+      fronts = same-le _ _ (part (λ w. w.fronts));
+      appends = same-le _ _ (part (λ w. w.ext.appends));
+    };
+  };
+  consumed = part (λ w. w.hand.consumed);
+  out = part (λ w. w.hand.held) ∙ out;
+  sees = record {
+    saw = record { word = n; step = s + 1 };
+    is = part (λ w. w.hand.saw);
+    word_is = refl;
+    since = omega (arith, later);
+    by_now = omega (arith, counted);
+    found = subst (λ (z : ℕ). FoundAtStep v.hand.task z owner_at n p q) counted (found-at-step u v.hand.task owner_at n p q q (part (λ w. w.hand.task)) own found goes (λ p t. t));
+    shut = (names, omega (arith, small));
+  };
+  once = more;
+  freed = part (λ w. w.hand.freed);
+}
+  where
+    part : {A : Type 0} (f : V → A) → f u ≡ f (turns turned Fail (at_step v s) (missed v.hand n (s + 1)))
+    part f = ap f now
+
+    counted : u.steps ≡ s + 1
+    counted = part (λ w. w.steps)
+
+    more : u.hand.misses ≡ v.hand.misses + 1
+    more = part (λ w. w.hand.misses)
+
+pub misses-tried : {reads : Bool} {n : ℕ} {v u : Shown} → Misses mutex reads owner_at n v u → OnlyTried v u
+misses-tried m = record { keeps = m.keeps; consumed = m.consumed; freed = m.freed }
+
+pub counts-then : {v w u : Shown} → NoCountFalls v w → NoCountFalls w u → NoCountFalls v u
+counts-then {v} {w} {u} a b = record {
+  steps = (let x = a.steps in let y = b.steps in omega (arith, x, y));
+  misses = (let x = a.misses in let y = b.misses in omega (arith, x, y));
+  entries = (let x = a.entries in let y = b.entries in omega (arith, x, y));
+  fronts = (let x = a.fronts in let y = b.fronts in omega (arith, x, y));
+  appends = (let x = a.appends in let y = b.appends in omega (arith, x, y));
+}
+
+pub keeps-then : {v w u : Shown} → Keeps v w → Keeps w u → Keeps v u
+keeps-then a b = record { task = b.task ∙ a.task; done = b.done ∙ a.done; seen = b.seen ∙ a.seen; records = b.records ∙ a.records; sent = b.sent ∙ a.sent; last = b.last ∙ a.last; counts = counts-then a.counts b.counts }
+
+pub tried-then : {v w u : Shown} → OnlyTried v w → OnlyTried w u → OnlyTried v u
+tried-then a b = record { keeps = keeps-then a.keeps b.keeps; consumed = b.consumed ∙ a.consumed; freed = b.freed ∙ a.freed }
+
+pub same-keeps : {v u : Shown} → u.hand ≡ v.hand → NoCountFalls v u → Keeps v u
+same-keeps e counts = record { task = ap (λ (h : Hand). h.task) e; done = ap (λ (h : Hand). h.done) e; seen = ap (λ (h : Hand). h.seen) e; records = ap (λ (h : Hand). h.records) e; sent = ap (λ (h : Hand). h.sent) e; last = ap (λ (h : Hand). h.last) e; counts = counts }
+
+-- the same hand, after some steps
+pub same-tried : {v u : Shown} → u.hand ≡ v.hand → NoCountFalls v u → OnlyTried v u
+same-tried e counts = record { keeps = same-keeps e counts; consumed = ap (λ (h : Hand). h.consumed) e; freed = ap (λ (h : Hand). h.freed) e }
+
+module _ {Call : Type 0} {o : Obj Call} {k : Plan} {held : Held} where
+  -- a hold taken after failed tries
+  pub tried-takes : {v w u : Shown} → OnlyTried v w → Takes o k held w u → Takes o k held v u
+  tried-takes {v} {w} {u} a b = record {
+    keeps = keeps-then a.keeps b.keeps;
+    consumed = b.consumed ∙ a.consumed;
+    holds = b.holds;
+    quiet = b.quiet;
+    stored = b.stored;
+    begins = subst (λ (seen : List Entry). (length seen ≤ length u.hand.log) × (take (length seen) u.hand.log ≡ seen)) a.keeps.seen b.begins;
+    freed = b.freed ∙ a.freed;
+  }
+
+  -- a hold that stays after some steps more
+  pub takes-then : {v w u : Shown} → Takes o k held v w → u.hand ≡ w.hand → NoCountFalls w u → Takes o k held v u
+  takes-then {v} {w} {u} a e counts = record {
+    keeps = keeps-then a.keeps (same-keeps e counts);
+    consumed = ap (λ (h : Hand). h.consumed) e ∙ a.consumed;
+    holds = ap (λ (h : Hand). h.held) e ∙ a.holds;
+    quiet = ap (λ (h : Hand). h.writes) e ∙ a.quiet;
+    stored = subst (λ (h : Hand). IsStored o k h) (sym e) a.stored;
+    begins = subst (λ (h : Hand). Begins v.hand h.log) (sym e) a.begins;
+    freed = ap (λ (h : Hand). h.freed) e ∙ a.freed;
+  }
+
+-- what a step found is found also of a stretch that holds it
+found-within : {task task' : Option ℕ} {step at n : ℕ} {p q r s : List Moment} → task' ≡ task → GoesOn p q → GoesOn r s → FoundAtStep task' step at n q r → FoundAtStep task step at n p s
+found-within {step = step} same before after f = record {
+  past = f.past;
+  by = subst (λ (t : Option ℕ). IsStepBy t step f.past) same f.by;
+  found = f.found;
+  after = λ t e. f.after t (before t e);
+  goes_on = λ t e. after t (f.goes_on t e);
+}
+
+-- the word that a try saw is that of the whole call, whose later tries don't count
+pub sees-within : {kind : Kind} {reads : Bool} {at n : ℕ} (v a b u : Shown) → a.hand.task ≡ v.hand.task → v.steps ≤ a.steps → PastGoesOn v a → Sees kind reads at n a b → u.hand.saw ≡ b.hand.saw → b.steps ≤ u.steps → PastGoesOn b u → Sees kind reads at n v u
+sees-within v a b u same steps before s saw more after = record {
+  saw = s.saw;
+  is = saw ∙ s.is;
+  word_is = s.word_is;
+  since = (let e = s.since in omega (arith, e, steps));
+  by_now = (let e = s.by_now in omega (arith, e, more));
+  found = found-within same before after s.found;
+  shut = s.shut;
+}
+
+since-within : (v a b u : Shown) {at n : ℕ} → a.hand.task ≡ v.hand.task → v.steps ≤ a.steps → PastGoesOn v a → FindsSince at n a b → b.steps ≤ u.steps → PastGoesOn b u → FindsSince at n v u
+since-within v a b u same steps before f more after = let e = f.1 in let d = f.2 in (f.0, omega (arith, e, steps), omega (arith, d, more), found-within same before after f.3)
+
+-- so are the signals that it heard of
+pub pending-within : {why : Interrupted} (v a b u : Shown) → a.hand.task ≡ v.hand.task → v.steps ≤ a.steps → PastGoesOn v a → SawPending why a b → b.steps ≤ u.steps → PastGoesOn b u → SawPending why v u
+pending-within {why} v a b u same steps before s more after = record {
+  sent = λ t is. since-within v a b u same steps before (s.sent t (same ∙ is)) more after;
+  taken = λ t is. since-within v a b u same steps before (s.taken t (same ∙ is)) more after;
+  pending = s.pending;
+}

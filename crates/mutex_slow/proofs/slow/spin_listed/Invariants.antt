@@ -1,0 +1,10 @@
+use Rattle.std.proofs.Common.{◌≡◌, IsSome}
+use Rattle.lock_core.specs.declared.view.Held.TheVariants.{No}
+use Rattle.mutex_slow.specs.Places.{StepsOn, StandsSame, IsInLine}
+use Rattle.mutex_slow.proofs.slow.spin_listed.Given as goal
+
+abbrev pub invariant-loop : goal.invariant-loop
+invariant-loop g l = let v = l.fn.pass.seat.me.0.view in let u = l.pass.seat.me.0.view in
+    (goal.iterator-loop g).can_next l.iterator' × (goal.iterator-loop g).is_finite l.iterator'
+    × StepsOn l.site l.fn.pass l.pass × IsSome l.pass.face.task × (l.pass.face.held ≡ No)
+    × IsInLine u × StandsSame v u × (u.hand ≡ v.hand)

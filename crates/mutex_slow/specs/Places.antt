@@ -1,0 +1,94 @@
+-- Where a pass stands in a call on a mutex, and what callers of any lock see of it.
+use Rattle.std.specs.Prelude.{◌≡◌, ℕ, ◌+◌, ◌<◌, ◌≤◌, ◌/◌, ◌%◌, Bool, true, false, Option, Some, None}
+use Rattle.lock_core.specs.declared.view.Line.{Line}
+use Rattle.lock_core.specs.declared.pass.Pass.{Pass}
+use Rattle.lock_core.specs.declared.site.Site.{Site}
+use Rattle.lock_core.specs.Handles.{view_of, past_of, task_in, SitsAt, KeepsPast}
+use Rattle.lock_core.specs.declared.how.How.{How}
+use Rattle.lock_core.specs.declared.how.How.TheVariants.{Fast, Spun, Slept}
+use Rattle.lock_core.specs.Shown.{Shown, shown}
+use Rattle.lock_core.specs.Locking.{Keeps}
+use Rattle.wait_list.specs.declared.view.Waiter.{Waiter}
+use Rattle.mutex_slow.specs.declared.view.MutexHand.{MutexHand}
+use Rattle.mutex_slow.specs.declared.view.Point.TheVariants.{Rest}
+use Rattle.wait_list.specs.Lists.{Knows, list_part, first_of}
+use Rattle.lock_core.specs.Holding.{released}
+use Rattle.mutex_slow.specs.Mutexes.{V, list_of}
+
+-- how a pass has stood in line
+abbrev pub line_of : MutexHand → Line
+line_of e = record { appends = e.appends }
+
+-- its task isn't in the list, and it is between no two steps that belong together
+pub record IsOutside (v : V) : Type 0 where
+  pub out : v.ext.queued ≡ false
+  pub rests : v.ext.point ≡ Rest
+  pub still : v.ext.list.changes ≡ false
+  pub gone : v.ext.list.leaver ≡ 0
+  pub unseen : v.ext.first ≡ false
+
+-- the same, but its task is in the list
+pub record IsInLine (v : V) : Type 0 where
+  pub queued : v.ext.queued ≡ true
+  pub rests : v.ext.point ≡ Rest
+  pub still : v.ext.list.changes ≡ false
+
+-- a try failed since it last took the wait lock
+abbrev pub HasFailed : V → Type 0
+HasFailed v = v.ext.failed ≡ v.spin.entries
+
+module _ {R O C : Type 0} where
+  -- a pass of the site, as callers of any lock see it
+  abbrev pub seen_of : Pass R O MutexHand C → Shown
+  seen_of pass = shown line_of (view_of pass).fronts (view_of pass) (past_of pass)
+
+  -- it made some steps, and is one of the site's as before
+  pub record StepsOn (site : Site R O MutexHand C) (old new : Pass R O MutexHand C) : Type 0 where
+    pub own : SitsAt site new
+    pub task : task_in new ≡ task_in old
+    pub goes_on : KeepsPast old new
+    pub steps : (view_of old).steps ≤ (view_of new).steps
+
+-- how it stands in line, beside its misses: it has neither taken the wait lock nor appended itself
+pub record StandsSame (v u : V) : Type 0 where
+  pub spin : u.spin ≡ v.spin
+  pub entries : u.spin.entries ≡ v.spin.entries
+  pub fronts : u.fronts ≡ v.fronts
+  pub appends : u.ext.appends ≡ v.ext.appends
+
+-- the hand is as before, but for what loads of its signals heard
+abbrev pub OnlyHeard : V → V → Type 0
+OnlyHeard v u = u.hand ≡ record v.hand { heard = u.hand.heard }
+
+-- the same, and it has consumed a signal to its task
+abbrev pub OnlyConsumed : V → V → Type 0
+OnlyConsumed v u = u.hand ≡ record v.hand { heard = u.hand.heard; consumed = v.hand.consumed + 1 }
+
+-- it holds nothing, and has left a word
+abbrev pub IsFreed : V → V → Type 0
+IsFreed v u = u.hand ≡ released v.hand u.hand.freed
+
+-- it knows the list, of which this is the first waiter, and the word that it left picks it; where nobody waits, that word names nobody
+pub record HandedTo (first : Option Waiter) (u : V) : Type 0 where
+  pub knows : Knows (list_part list_of u)
+  pub is : first ≡ first_of u.ext.list.list
+  pub picks : (w : Waiter) → first ≡ Some w → (u.hand.freed / 8 ≡ w.task + 1) × (4 ≤ u.hand.freed % 8)
+  pub nobody : first ≡ None → u.hand.freed < 2
+
+-- it recorded nothing, and has taken and ended no hold: tries failed, and loads heard of signals
+pub record OnlyTried (v u : Shown) : Type 0 where
+  pub keeps : Keeps v u
+  pub consumed : u.hand.consumed ≡ v.hand.consumed
+  pub freed : u.hand.freed ≡ v.hand.freed
+
+-- how a call got the mutex that came to the wait lock
+abbrev pub GotInLine : How → Shown → Shown → Type 0
+GotInLine Fast v u = ⊥
+GotInLine Spun v u = u.line ≡ v.line
+GotInLine Slept v u = v.line.appends < u.line.appends
+
+-- of a call that went through the wait lock, after one more failed try at most
+pub record WentInLine (v u : Shown) : Type 0 where
+  pub entries : v.spin.entries < u.spin.entries
+  pub fronts : u.fronts ≡ v.fronts
+  pub few : u.hand.misses ≤ v.hand.misses + 1

@@ -1,0 +1,279 @@
+//! The parts of the calls of a mutex.
+ghost use Rattle.std.specs.Prelude.{◌≡◌, ◌≢◌, ◌<◌, ◌+◌, ◌%◌, ◌*◌, ◌⊎◌, ℕ, Bool, true, false, Some, None, IsSome, IfOk, IfErr, IfSome, IfNone, MatchBool};
+ghost use Rattle.lock_core.specs.declared.view.Held.TheVariants.{No, Alone};
+ghost use Rattle.lock_core.specs.Views.{SpinHolds, SpinRests};
+ghost use Rattle.lock_core.specs.Kinds.{mutex};
+ghost use Rattle.lock_core.specs.Locking.{Misses, Takes, SawPending};
+ghost use Rattle.lock_core.specs.Handles.{plan_of, view_of, hand_in, task_in, held_in, SitsAt};
+ghost use Rattle.mutex_slow.specs.Mutexes.{owner_at};
+ghost use Rattle.qspin_word.specs.Ways.{SpinGained};
+ghost use Rattle.mutex_slow.specs.Places.{seen_of, StepsOn, StandsSame, IsOutside, IsInLine, HasFailed, OnlyHeard, OnlyConsumed, OnlyTried, IsFreed, HandedTo};
+
+use crate::rule::MutexRule;
+use lock_core::{Interrupted, Pass, Site};
+use mutex_word::site_steps::{clear_flags, release_plain, set_waiters};
+use mutex_word::tries::{self, Tried, attempt};
+use std::marker::Brand;
+use std::sync::Wait;
+use wait_list::{Waiter, list};
+use word_bits::Object;
+
+/// A try of a pass that isn't in the list. It counts a failure, and keeps the word that it saw.
+pub fn try_outside<O: Object, W: Wait>(
+    site: &Site<MutexRule<O>>,
+    rt: &W,
+    pass: &mut Pass<MutexRule<O>>,
+) -> Result<(), u64>
+    requires own { SitsAt site.now pass.old }
+    requires numbered { IsSome (task_in pass.old) }
+    requires out { held_in pass.old ≡ No }
+    requires outside { IsOutside (view_of pass.old) }
+    ensures on { StepsOn site.now pass.old pass.new }
+    ensures outside { IsOutside (view_of pass.new) }
+    ensures same { StandsSame (view_of pass.old) (view_of pass.new) }
+    ensures took { IfOk result (λ _. Takes O.object (plan_of site.now) Alone
+        (seen_of pass.old) (seen_of pass.new)) }
+    ensures at_once { IfOk result (λ _. (hand_in pass.new).misses ≡ (hand_in pass.old).misses) }
+    ensures missed { IfErr result (λ word. (reads : Bool) → Misses mutex reads owner_at word
+        (seen_of pass.old) (seen_of pass.new)) }
+    ensures still_out { IfErr result (λ _. held_in pass.new ≡ No) }
+    ensures tried { IfErr result (λ _. OnlyTried (seen_of pass.old) (seen_of pass.new)) }
+    ensures once { IfErr result (λ _.
+        (hand_in pass.new).misses ≡ (hand_in pass.old).misses + 1) }
+{
+    let Some(me) = pass.task() else {
+        unreachable!()
+    };
+    match attempt::<MutexRule<O>, Brand, W>(site, rt, pass, me, false) {
+        Tried::Took => Ok(()),
+        Tried::Asked => unreachable!(),
+        Tried::Failed(word) => Err(word),
+    }
+}
+
+/// A try of a pass that is in the list. Where it asks, the pass has seen that it is the first, and the
+/// word has the flag of the handoff unless the try takes.
+pub fn try_listed<O: Object, W: Wait>(
+    site: &Site<MutexRule<O>>,
+    rt: &W,
+    pass: &mut Pass<MutexRule<O>>,
+    asks: bool,
+) -> bool
+    requires own { SitsAt site.now pass.old }
+    requires numbered { IsSome (task_in pass.old) }
+    requires out { held_in pass.old ≡ No }
+    requires listed { IsInLine (view_of pass.old) }
+    requires first { asks ≡ true → (view_of pass.old).ext.first ≡ true }
+    ensures on { StepsOn site.now pass.old pass.new }
+    ensures listed { IsInLine (view_of pass.new) }
+    ensures same { StandsSame (view_of pass.old) (view_of pass.new) }
+    ensures took { result ≡ true → Takes O.object (plan_of site.now) Alone
+        (seen_of pass.old) (seen_of pass.new) }
+    ensures uncounted { result ≡ true →
+        ((hand_in pass.new).misses ≡ (hand_in pass.old).misses) }
+    ensures missed { result ≡ false → (hand_in pass.new) ≡ (hand_in pass.old) }
+    ensures failed { result ≡ false → asks ≡ false → HasFailed (view_of pass.new) }
+{
+    let Some(me) = pass.task() else {
+        unreachable!()
+    };
+    match attempt::<MutexRule<O>, Brand, W>(site, rt, pass, me, asks) {
+        Tried::Took => true,
+        Tried::Asked => false,
+        Tried::Failed(_) => false,
+    }
+}
+
+/// Takes the wait lock.
+pub fn enter<O: Object, W: Wait>(site: &Site<MutexRule<O>>, rt: &W, pass: &mut Pass<MutexRule<O>>)
+    requires own { SitsAt site.now pass.old }
+    requires numbered { IsSome (task_in pass.old) }
+    requires unspun { SpinRests (view_of pass.old).spin }
+    ensures on { StepsOn site.now pass.old pass.new }
+    ensures gained { SpinGained (view_of pass.old) (view_of pass.new) }
+{
+    qspin_queue::lock(site, rt, pass);
+}
+
+/// Releases the wait lock.
+pub fn leave<O: Object>(site: &Site<MutexRule<O>>, pass: &mut Pass<MutexRule<O>>)
+    requires own { SitsAt site.now pass.old }
+    requires numbered { IsSome (task_in pass.old) }
+    requires locked { SpinHolds (view_of pass.old).spin }
+    requires still { IsOutside (view_of pass.old) ⊎ IsInLine (view_of pass.old) }
+    ensures on { StepsOn site.now pass.old pass.new }
+    ensures unspun { SpinRests (view_of pass.new).spin }
+    ensures entries { (view_of pass.new).spin.entries ≡ (view_of pass.old).spin.entries }
+    ensures fronts { (view_of pass.new).fronts ≡ (view_of pass.old).fronts }
+    ensures hand { (hand_in pass.new) ≡ (hand_in pass.old) }
+    ensures ext { (view_of pass.new).ext ≡ (view_of pass.old).ext }
+{
+    qspin_word::unlock(site, pass);
+}
+
+/// Appends the pass's own task to the list, and sets the flag of the waiters where it is the first.
+pub fn join<O: Object>(site: &Site<MutexRule<O>>, pass: &mut Pass<MutexRule<O>>)
+    requires own { SitsAt site.now pass.old }
+    requires numbered { IsSome (task_in pass.old) }
+    requires out { held_in pass.old ≡ No }
+    requires locked { SpinHolds (view_of pass.old).spin }
+    requires outside { IsOutside (view_of pass.old) }
+    ensures on { StepsOn site.now pass.old pass.new }
+    ensures listed { IsInLine (view_of pass.new) }
+    ensures hand { (hand_in pass.new) ≡ (hand_in pass.old) }
+    ensures spin { (view_of pass.new).spin ≡ (view_of pass.old).spin }
+    ensures fronts { (view_of pass.new).fronts ≡ (view_of pass.old).fronts }
+    ensures appended { (view_of pass.new).ext.appends ≡ (view_of pass.old).ext.appends + 1 }
+{
+    let Some(task) = pass.task() else {
+        unreachable!()
+    };
+    list::append(site, pass, Waiter { task, writer: true });
+    let Some(first) = list::first(site, pass) else {
+        return;
+    };
+    if first.task == task {
+        set_waiters(site, pass);
+    }
+}
+
+/// Removes the pass's own task from the list, and clears the flags where the list is then empty.
+pub fn quit<O: Object>(site: &Site<MutexRule<O>>, pass: &mut Pass<MutexRule<O>>)
+    requires own { SitsAt site.now pass.old }
+    requires numbered { IsSome (task_in pass.old) }
+    requires locked { SpinHolds (view_of pass.old).spin }
+    requires listed { IsInLine (view_of pass.old) }
+    requires may { (held_in pass.old ≡ Alone) ⊎ HasFailed (view_of pass.old) }
+    ensures on { StepsOn site.now pass.old pass.new }
+    ensures outside { IsOutside (view_of pass.new) }
+    ensures hand { (hand_in pass.new) ≡ (hand_in pass.old) }
+    ensures same { StandsSame (view_of pass.old) (view_of pass.new) }
+{
+    let Some(task) = pass.task() else {
+        unreachable!()
+    };
+    list::remove(site, pass, task);
+    if list::first(site, pass).is_none() {
+        clear_flags(site, pass);
+    }
+}
+
+/// Whether the pass's task is the first waiter, by one load.
+pub fn sees_first<O: Object>(site: &Site<MutexRule<O>>, pass: &mut Pass<MutexRule<O>>) -> bool
+    requires own { SitsAt site.now pass.old }
+    requires numbered { IsSome (task_in pass.old) }
+    requires unspun { SpinRests (view_of pass.old).spin }
+    requires listed { IsInLine (view_of pass.old) }
+    ensures on { StepsOn site.now pass.old pass.new }
+    ensures listed { IsInLine (view_of pass.new) }
+    ensures first { result ≡ true → (view_of pass.new).ext.first ≡ true }
+    ensures hand { (hand_in pass.new) ≡ (hand_in pass.old) }
+    ensures same { StandsSame (view_of pass.old) (view_of pass.new) }
+{
+    list::is_first(site, pass)
+}
+
+/// Consumes a signal to the pass's task, where one is pending.
+pub fn interrupted<O: Object>(
+    site: &Site<MutexRule<O>>,
+    pass: &mut Pass<MutexRule<O>>,
+) -> Option<Interrupted>
+    requires own { SitsAt site.now pass.old }
+    requires numbered { IsSome (task_in pass.old) }
+    requires listed { IsInLine (view_of pass.old) }
+    ensures on { StepsOn site.now pass.old pass.new }
+    ensures ext { (view_of pass.new).ext ≡ (view_of pass.old).ext }
+    ensures same { StandsSame (view_of pass.old) (view_of pass.new) }
+    ensures heard { IfNone result (OnlyHeard (view_of pass.old) (view_of pass.new)) }
+    ensures consumed { IfSome result (λ why. OnlyConsumed (view_of pass.old) (view_of pass.new)) }
+    ensures pending { IfSome result (λ why.
+        SawPending why (seen_of pass.old) (seen_of pass.new)) }
+{
+    site.consume(pass)
+}
+
+/// The first waiter, by a look under the wait lock.
+pub fn first_waiter<O: Object>(
+    site: &Site<MutexRule<O>>,
+    pass: &mut Pass<MutexRule<O>>,
+) -> Option<Waiter>
+    requires own { SitsAt site.now pass.old }
+    requires numbered { IsSome (task_in pass.old) }
+    requires locked { SpinHolds (view_of pass.old).spin }
+    requires outside { IsOutside (view_of pass.old) }
+    ensures on { StepsOn site.now pass.old pass.new }
+    ensures outside { IsOutside (view_of pass.new) }
+    ensures hand { (hand_in pass.new) ≡ (hand_in pass.old) }
+    ensures same { StandsSame (view_of pass.old) (view_of pass.new) }
+{
+    list::first(site, pass)
+}
+
+/// What the releasing part of an unlock came to.
+#[derive(Clone, Copy, Debug, PartialEq, Eq)]
+pub enum Released {
+    /// Nobody waits.
+    Done,
+    /// The word has the flag of the waiters.
+    Waiters,
+    /// A handoff is asked for, and the pass still holds.
+    Asked,
+}
+
+/// Exchanges the own code for 0, or the word for its flags alone, unless a handoff is asked for.
+pub fn release<O: Object, W: Wait>(
+    site: &Site<MutexRule<O>>,
+    rt: &W,
+    pass: &mut Pass<MutexRule<O>>,
+) -> Released
+    requires own { SitsAt site.now pass.old }
+    requires numbered { IsSome (task_in pass.old) }
+    requires held { held_in pass.old ≡ Alone }
+    requires quiet { (hand_in pass.old).writes ≡ false }
+    requires outside { IsOutside (view_of pass.old) }
+    ensures on { StepsOn site.now pass.old pass.new }
+    ensures outside { IsOutside (view_of pass.new) }
+    ensures same { StandsSame (view_of pass.old) (view_of pass.new) }
+    ensures done { result ≡ Released.Done → (IsFreed (view_of pass.old) (view_of pass.new)
+        × ((hand_in pass.new).freed % 2 ≡ 0)) }
+    ensures waiters { result ≡ Released.Waiters →
+        IsFreed (view_of pass.old) (view_of pass.new) }
+    ensures asked { result ≡ Released.Asked → (hand_in pass.new) ≡ (hand_in pass.old) }
+{
+    // One exchange is enough where nobody waits.
+    if release_plain(site, pass).is_ok() {
+        return Released::Done;
+    }
+    match tries::release(site, rt, pass) {
+        Ok(0) => Released::Done,
+        Ok(_) => Released::Waiters,
+        Err(_) => Released::Asked,
+    }
+}
+
+/// Hands over to the first waiter, under the wait lock, and answers it.
+pub fn hand_over<O: Object, W: Wait>(
+    site: &Site<MutexRule<O>>,
+    rt: &W,
+    pass: &mut Pass<MutexRule<O>>,
+) -> Option<Waiter>
+    requires own { SitsAt site.now pass.old }
+    requires numbered { IsSome (task_in pass.old) }
+    requires held { held_in pass.old ≡ Alone }
+    requires quiet { (hand_in pass.old).writes ≡ false }
+    requires locked { SpinHolds (view_of pass.old).spin }
+    requires outside { IsOutside (view_of pass.old) }
+    ensures on { StepsOn site.now pass.old pass.new }
+    ensures outside { IsOutside (view_of pass.new) }
+    ensures same { StandsSame (view_of pass.old) (view_of pass.new) }
+    ensures freed { IsFreed (view_of pass.old) (view_of pass.new) }
+    ensures handed { HandedTo result (view_of pass.new) }
+{
+    let Some(first) = list::first(site, pass) else {
+        tries::hand_over(site, rt, pass, None);
+        return None;
+    };
+    // The wait lock is held: nobody comes before this waiter, nor leaves, until the word names it.
+    tries::hand_over(site, rt, pass, Some(first.task));
+    Some(first)
+}

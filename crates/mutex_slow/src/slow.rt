@@ -1,0 +1,339 @@
+//! The slow path of a mutex: its wait lock, its list, and the sleep of a waiter.
+ghost use Rattle.std.specs.Prelude.{◌≡◌, ◌≢◌, ◌<◌, ◌≤◌, ◌+◌, ◌⊎◌, ℕ, Bool, true, false, Some, None, IsSome, IfOk, IfErr, MatchBool};
+ghost use Rattle.lock_core.specs.declared.view.Held.TheVariants.{No, Alone};
+ghost use Rattle.lock_core.specs.Views.{SpinHolds, SpinRests};
+ghost use Rattle.lock_core.specs.Kinds.{mutex, wakes_alone};
+ghost use Rattle.lock_core.specs.Locking.{Interrupts, Takes, Releases, SawPending};
+ghost use Rattle.lock_core.specs.Handles.{plan_of, view_of, hand_in, task_in, held_in, SitsAt};
+ghost use Rattle.mutex_slow.specs.Mutexes.{owner_at};
+ghost use Rattle.mutex_slow.specs.Places.{seen_of, StepsOn, StandsSame, IsOutside, IsInLine, HasFailed, OnlyHeard, OnlyConsumed, OnlyTried, GotInLine, WentInLine};
+
+use crate::parts;
+use crate::parts::Released;
+use crate::rule::MutexRule;
+use cpu_task::{Cpu, Crew};
+use lock_core::{How, Interrupted, Pass, Site};
+use std::sync::Wait;
+use wait_list::Waiter;
+use word_bits::Object;
+
+/// Tries of a pass that is in no list, until one takes or the CPU needs rescheduling.
+pub fn spin_outside<O: Object, W: Wait, C: Cpu>(
+    site: &Site<MutexRule<O>>,
+    rt: &W,
+    pass: &mut Pass<MutexRule<O>>,
+    cpu: &mut C,
+) -> bool
+    requires own { SitsAt site.now pass.old }
+    requires numbered { IsSome (task_in pass.old) }
+    requires out { held_in pass.old ≡ No }
+    requires outside { IsOutside (view_of pass.old) }
+    ensures on { StepsOn site.now pass.old pass.new }
+    ensures outside { IsOutside (view_of pass.new) }
+    ensures same { StandsSame (view_of pass.old) (view_of pass.new) }
+    ensures took { result ≡ true → Takes O.object (plan_of site.now) Alone
+        (seen_of pass.old) (seen_of pass.new) }
+    ensures missed { result ≡ false → OnlyTried (seen_of pass.old) (seen_of pass.new) }
+    ensures out { result ≡ false → held_in pass.new ≡ No }
+{
+    for _ in rt.forever() {
+        let Err(_) = parts::try_outside(site, rt, pass) else {
+            return true;
+        };
+        if cpu.need_resched() {
+            return false;
+        }
+    }
+    unreachable!()
+}
+
+/// Tries of the first waiter, until one takes or the CPU needs rescheduling.
+fn spin_listed<O: Object, W: Wait, C: Cpu>(
+    site: &Site<MutexRule<O>>,
+    rt: &W,
+    pass: &mut Pass<MutexRule<O>>,
+    cpu: &mut C,
+) -> bool
+    requires own { SitsAt site.now pass.old }
+    requires numbered { IsSome (task_in pass.old) }
+    requires out { held_in pass.old ≡ No }
+    requires listed { IsInLine (view_of pass.old) }
+    ensures on { StepsOn site.now pass.old pass.new }
+    ensures listed { IsInLine (view_of pass.new) }
+    ensures same { StandsSame (view_of pass.old) (view_of pass.new) }
+    ensures took { result ≡ true → Takes O.object (plan_of site.now) Alone
+        (seen_of pass.old) (seen_of pass.new) }
+    ensures uncounted { result ≡ true →
+        ((hand_in pass.new).misses ≡ (hand_in pass.old).misses) }
+    ensures missed { result ≡ false → (hand_in pass.new) ≡ (hand_in pass.old) }
+{
+    if cpu.need_resched() {
+        return false;
+    }
+    for _ in rt.forever() {
+        if parts::try_listed(site, rt, pass, false) {
+            return true;
+        }
+        if cpu.need_resched() {
+            return false;
+        }
+    }
+    unreachable!()
+}
+
+/// What a waiter tries that was woken.
+fn try_awake<O: Object, W: Wait, C: Cpu>(
+    site: &Site<MutexRule<O>>,
+    rt: &W,
+    pass: &mut Pass<MutexRule<O>>,
+    cpu: &mut C,
+) -> bool
+    requires own { SitsAt site.now pass.old }
+    requires numbered { IsSome (task_in pass.old) }
+    requires out { held_in pass.old ≡ No }
+    requires unspun { SpinRests (view_of pass.old).spin }
+    requires listed { IsInLine (view_of pass.old) }
+    ensures on { StepsOn site.now pass.old pass.new }
+    ensures listed { IsInLine (view_of pass.new) }
+    ensures same { StandsSame (view_of pass.old) (view_of pass.new) }
+    ensures took { result ≡ true → Takes O.object (plan_of site.now) Alone
+        (seen_of pass.old) (seen_of pass.new) }
+    ensures uncounted { result ≡ true →
+        ((hand_in pass.new).misses ≡ (hand_in pass.old).misses) }
+    ensures missed { result ≡ false → (hand_in pass.new) ≡ (hand_in pass.old) }
+{
+    let first = parts::sees_first(site, pass);
+    // Others take the mutex again and again before a woken waiter runs: the first one asks, and then
+    // whoever releases names it.
+    if parts::try_listed(site, rt, pass, first) {
+        return true;
+    }
+    if !first {
+        return false;
+    }
+    spin_listed(site, rt, pass, cpu)
+}
+
+/// Releases the wait lock, sleeps, tries, and takes the wait lock again.
+fn sleep_and_try<O: Object, W: Wait, C: Cpu>(
+    site: &Site<MutexRule<O>>,
+    rt: &W,
+    pass: &mut Pass<MutexRule<O>>,
+    cpu: &mut C,
+) -> bool
+    requires own { SitsAt site.now pass.old }
+    requires numbered { IsSome (task_in pass.old) }
+    requires out { held_in pass.old ≡ No }
+    requires locked { SpinHolds (view_of pass.old).spin }
+    requires listed { IsInLine (view_of pass.old) }
+    ensures on { StepsOn site.now pass.old pass.new }
+    ensures locked { SpinHolds (view_of pass.new).spin }
+    ensures listed { IsInLine (view_of pass.new) }
+    ensures entries { (view_of pass.old).spin.entries ≤ (view_of pass.new).spin.entries }
+    ensures fronts { (view_of pass.new).fronts ≡ (view_of pass.old).fronts }
+    ensures appends { (view_of pass.new).ext.appends ≡ (view_of pass.old).ext.appends }
+    ensures took { result ≡ true → Takes O.object (plan_of site.now) Alone
+        (seen_of pass.old) (seen_of pass.new) }
+    ensures uncounted { result ≡ true →
+        ((hand_in pass.new).misses ≡ (hand_in pass.old).misses) }
+    ensures missed { result ≡ false → (hand_in pass.new) ≡ (hand_in pass.old) }
+{
+    parts::leave(site, pass);
+    cpu.sleep(rt);
+    let took = try_awake(site, rt, pass, cpu);
+    parts::enter(site, rt, pass);
+    took
+}
+
+/// Waits in the list until the pass holds. It then has the wait lock.
+fn wait<O: Object, W: Wait, C: Cpu>(
+    site: &Site<MutexRule<O>>,
+    rt: &W,
+    pass: &mut Pass<MutexRule<O>>,
+    cpu: &mut C,
+)
+    requires own { SitsAt site.now pass.old }
+    requires numbered { IsSome (task_in pass.old) }
+    requires out { held_in pass.old ≡ No }
+    requires locked { SpinHolds (view_of pass.old).spin }
+    requires listed { IsInLine (view_of pass.old) }
+    ensures on { StepsOn site.now pass.old pass.new }
+    ensures locked { SpinHolds (view_of pass.new).spin }
+    ensures listed { IsInLine (view_of pass.new) }
+    ensures entries { (view_of pass.old).spin.entries ≤ (view_of pass.new).spin.entries }
+    ensures fronts { (view_of pass.new).fronts ≡ (view_of pass.old).fronts }
+    ensures appends { (view_of pass.new).ext.appends ≡ (view_of pass.old).ext.appends }
+    ensures took { Takes O.object (plan_of site.now) Alone (seen_of pass.old) (seen_of pass.new) }
+    ensures uncounted { (hand_in pass.new).misses ≡ (hand_in pass.old).misses }
+{
+    for _ in rt.forever() {
+        // A waiter that was picked, or finds the mutex free, must take it before it sleeps: nobody
+        // wakes it a second time.
+        if parts::try_listed(site, rt, pass, false) {
+            return;
+        }
+        if sleep_and_try(site, rt, pass, cpu) {
+            return;
+        }
+    }
+    unreachable!()
+}
+
+/// Takes the mutex by way of the wait lock and the list. The kernel's `__mutex_lock_common`.
+pub fn lock_in_line<O: Object, W: Wait, C: Cpu>(
+    site: &Site<MutexRule<O>>,
+    rt: &W,
+    pass: &mut Pass<MutexRule<O>>,
+    cpu: &mut C,
+) -> How
+    requires own { SitsAt site.now pass.old }
+    requires numbered { IsSome (task_in pass.old) }
+    requires out { held_in pass.old ≡ No }
+    requires unspun { SpinRests (view_of pass.old).spin }
+    requires outside { IsOutside (view_of pass.old) }
+    ensures on { StepsOn site.now pass.old pass.new }
+    ensures unspun { SpinRests (view_of pass.new).spin }
+    ensures outside { IsOutside (view_of pass.new) }
+    ensures took { Takes O.object (plan_of site.now) Alone (seen_of pass.old) (seen_of pass.new) }
+    ensures how { GotInLine result (seen_of pass.old) (seen_of pass.new) }
+    ensures line { WentInLine (seen_of pass.old) (seen_of pass.new) }
+{
+    parts::enter(site, rt, pass);
+    // A release before this may have seen no waiter, and wakes nobody.
+    let Err(_) = parts::try_outside(site, rt, pass) else {
+        parts::leave(site, pass);
+        return How::Spun;
+    };
+    parts::join(site, pass);
+    wait(site, rt, pass, cpu);
+    parts::quit(site, pass);
+    parts::leave(site, pass);
+    How::Slept
+}
+
+/// Waits in the list until the pass holds, or has consumed a signal. It then has the wait lock.
+fn wait_interruptible<O: Object, W: Wait, C: Cpu>(
+    site: &Site<MutexRule<O>>,
+    rt: &W,
+    pass: &mut Pass<MutexRule<O>>,
+    cpu: &mut C,
+) -> Result<(), Interrupted>
+    requires own { SitsAt site.now pass.old }
+    requires numbered { IsSome (task_in pass.old) }
+    requires out { held_in pass.old ≡ No }
+    requires locked { SpinHolds (view_of pass.old).spin }
+    requires listed { IsInLine (view_of pass.old) }
+    ensures on { StepsOn site.now pass.old pass.new }
+    ensures locked { SpinHolds (view_of pass.new).spin }
+    ensures listed { IsInLine (view_of pass.new) }
+    ensures entries { (view_of pass.old).spin.entries ≤ (view_of pass.new).spin.entries }
+    ensures fronts { (view_of pass.new).fronts ≡ (view_of pass.old).fronts }
+    ensures appends { (view_of pass.new).ext.appends ≡ (view_of pass.old).ext.appends }
+    ensures misses { (hand_in pass.new).misses ≡ (hand_in pass.old).misses }
+    ensures took { IfOk result (λ _. Takes O.object (plan_of site.now) Alone
+        (seen_of pass.old) (seen_of pass.new)) }
+    ensures interrupted { IfErr result (λ _.
+        OnlyConsumed (view_of pass.old) (view_of pass.new)) }
+    ensures pending { IfErr result (λ why.
+        SawPending why (seen_of pass.old) (seen_of pass.new)) }
+    ensures failed { IfErr result (λ _. HasFailed (view_of pass.new)) }
+{
+    for _ in rt.forever() {
+        // The try comes before the look at the signals: a waiter that was picked takes, and doesn't
+        // leave what it was given to nobody.
+        if parts::try_listed(site, rt, pass, false) {
+            return Ok(());
+        }
+        if let Some(why) = parts::interrupted(site, pass) {
+            return Err(why);
+        }
+        if sleep_and_try(site, rt, pass, cpu) {
+            return Ok(());
+        }
+    }
+    unreachable!()
+}
+
+/// Takes the mutex by way of the wait lock and the list, until a signal interrupts it. The kernel's
+/// `__mutex_lock_common` in the state `TASK_INTERRUPTIBLE`.
+pub fn lock_in_line_interruptible<O: Object, W: Wait, C: Cpu>(
+    site: &Site<MutexRule<O>>,
+    rt: &W,
+    pass: &mut Pass<MutexRule<O>>,
+    cpu: &mut C,
+) -> Result<How, Interrupted>
+    requires own { SitsAt site.now pass.old }
+    requires numbered { IsSome (task_in pass.old) }
+    requires out { held_in pass.old ≡ No }
+    requires unspun { SpinRests (view_of pass.old).spin }
+    requires outside { IsOutside (view_of pass.old) }
+    ensures on { StepsOn site.now pass.old pass.new }
+    ensures unspun { SpinRests (view_of pass.new).spin }
+    ensures outside { IsOutside (view_of pass.new) }
+    ensures took { IfOk result (λ _. Takes O.object (plan_of site.now) Alone
+        (seen_of pass.old) (seen_of pass.new)) }
+    ensures how { IfOk result (λ how. GotInLine how (seen_of pass.old) (seen_of pass.new)) }
+    ensures interrupted { IfErr result (λ why. (reads : Bool) →
+        Interrupts mutex reads owner_at why (seen_of pass.old) (seen_of pass.new)) }
+    ensures line { WentInLine (seen_of pass.old) (seen_of pass.new) }
+{
+    parts::enter(site, rt, pass);
+    // A release before this may have seen no waiter, and wakes nobody.
+    let Err(_) = parts::try_outside(site, rt, pass) else {
+        parts::leave(site, pass);
+        return Ok(How::Spun);
+    };
+    parts::join(site, pass);
+    let Err(why) = wait_interruptible(site, rt, pass, cpu) else {
+        parts::quit(site, pass);
+        parts::leave(site, pass);
+        return Ok(How::Slept);
+    };
+    parts::quit(site, pass);
+    parts::leave(site, pass);
+    Err(why)
+}
+
+/// Wakes the waiter, where there is one.
+fn wake<C: Crew>(crew: &C, waiter: Option<Waiter>) {
+    if let Some(waiter) = waiter {
+        crew.wake(waiter.task);
+    }
+}
+
+/// Ends the pass's hold, and wakes the first waiter where there may be one. The kernel's
+/// `__mutex_unlock_slowpath`.
+pub fn unlock<O: Object, W: Wait, C: Crew>(
+    site: &Site<MutexRule<O>>,
+    rt: &W,
+    pass: &mut Pass<MutexRule<O>>,
+    crew: &C,
+)
+    requires own { SitsAt site.now pass.old }
+    requires numbered { IsSome (task_in pass.old) }
+    requires held { held_in pass.old ≡ Alone }
+    requires quiet { (hand_in pass.old).writes ≡ false }
+    requires unspun { SpinRests (view_of pass.old).spin }
+    requires outside { IsOutside (view_of pass.old) }
+    ensures on { StepsOn site.now pass.old pass.new }
+    ensures unspun { SpinRests (view_of pass.new).spin }
+    ensures outside { IsOutside (view_of pass.new) }
+    ensures released { Releases (wakes_alone mutex) (seen_of pass.old) (seen_of pass.new) }
+    ensures appends { (view_of pass.new).ext.appends ≡ (view_of pass.old).ext.appends }
+{
+    match parts::release(site, rt, pass) {
+        Released::Done => {}
+        Released::Waiters => {
+            parts::enter(site, rt, pass);
+            let first = parts::first_waiter(site, pass);
+            parts::leave(site, pass);
+            wake(crew, first);
+        }
+        Released::Asked => {
+            parts::enter(site, rt, pass);
+            let first = parts::hand_over(site, rt, pass);
+            parts::leave(site, pass);
+            wake(crew, first);
+        }
+    }
+}
