@@ -1,0 +1,12 @@
+-- A pass of a spin queue that is in no call.
+use Rattle.std.specs.Prelude.{◌≡◌, None}
+use Rattle.osq_nodes.specs.declared.node.Place.TheVariants.{Out}
+use Rattle.osq_nodes.specs.declared.pass.OsqPass.{OsqPass}
+use Rattle.osq_nodes.specs.declared.queue.Osq.{Osq}
+use Rattle.osq_nodes.specs.Handles.{place_in, task_in, SitsAt}
+
+-- it has no number, and no node in the queue
+pub record IsIdle (osq : Osq) (pass : OsqPass) : Type 0 where
+  pub own : SitsAt osq pass
+  pub numberless : task_in pass ≡ None
+  pub out : place_in pass ≡ Out
