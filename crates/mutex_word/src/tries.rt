@@ -112,12 +112,7 @@ fn look<H: OwnerHost, A: TryKind>(site: &Site<H>, pass: &mut Pass<H>) -> u64
 }
 
 /// The exchange of a try that takes. It answers what it found.
-fn take<H: OwnerHost, A: TryKind>(
-    site: &Site<H>,
-    pass: &mut Pass<H>,
-    word: u64,
-    new: u64,
-) -> u64
+fn take<H: OwnerHost, A: TryKind>(site: &Site<H>, pass: &mut Pass<H>, word: u64, new: u64) -> u64
     requires own { SitsAt site.now pass.old }
     requires numbered { IsSome (task_in pass.old) }
     requires out { held_in pass.old ≡ No }
@@ -143,12 +138,7 @@ fn take<H: OwnerHost, A: TryKind>(
 }
 
 /// The exchange of a try that asks for a handoff. It answers what it found.
-fn ask<H: OwnerHost, A: TryKind>(
-    site: &Site<H>,
-    pass: &mut Pass<H>,
-    word: u64,
-    new: u64,
-) -> u64
+fn ask<H: OwnerHost, A: TryKind>(site: &Site<H>, pass: &mut Pass<H>, word: u64, new: u64) -> u64
     requires own { SitsAt site.now pass.old }
     requires asks { IsAsk word new }
     requires may { H.may_own AskTurn (view_of pass.old) word new }
@@ -266,12 +256,7 @@ fn load_own<H: OwnerHost>(site: &Site<H>, pass: &mut Pass<H>) -> u64
 }
 
 /// The exchange that ends a hold. It answers what it found.
-fn leave<H: OwnerHost, L: EndKind>(
-    site: &Site<H>,
-    pass: &mut Pass<H>,
-    word: u64,
-    new: u64,
-) -> u64
+fn leave<H: OwnerHost, L: EndKind>(site: &Site<H>, pass: &mut Pass<H>, word: u64, new: u64) -> u64
     requires own { SitsAt site.now pass.old }
     requires numbered { IsSome (task_in pass.old) }
     requires held { held_in pass.old ≡ Alone }
