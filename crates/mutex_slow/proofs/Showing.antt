@@ -1,5 +1,6 @@
 -- What the parts of a call show to callers of any lock.
 use Rattle.std.proofs.Common.{◌≡◌, ◌≢◌, ℕ, ◌+◌, ◌*◌, ◌<◌, ◌≤◌, ◌⊎◌, Bool, true, false, List, length, take, Option, Some, refl, sym, ap, ◌∙◌, subst, arith}
+use Rattle.std.specs.Prelude.{Result, Ok, Err, IfErr}
 use Rattle.word_bits.specs.declared.TheConstants.{MAX_TASKS}
 use Rattle.lock_core.specs.declared.view.Hand.{Hand}
 use Rattle.lock_core.specs.declared.view.Moment.{Moment}
@@ -10,7 +11,7 @@ use Rattle.lock_core.specs.RunLaws.{found-at-step}
 use Rattle.lock_core.specs.Kinds.{Kind, mutex}
 use Rattle.lock_core.specs.declared.how.Interrupted.{Interrupted}
 use Rattle.lock_core.specs.Shown.{Shown, FindsSince, NoCountFalls, PastGoesOn, shown}
-use Rattle.lock_core.specs.Locking.{Misses, Keeps, Sees, SawPending, Takes, IsStored, Begins}
+use Rattle.lock_core.specs.Locking.{Interrupts, Misses, Keeps, Sees, SawPending, Takes, IsStored, Begins}
 use Rattle.lock_core.specs.declared.view.Held.{Held}
 use Rattle.word_bits.specs.declared.entry.Entry.{Entry}
 use Rattle.word_bits.specs.Objects.{Obj}
@@ -149,3 +150,43 @@ pending-within {why} v a b u same steps before s more after = record {
   taken = λ t is. since-within v a b u same steps before (s.taken t (same ∙ is)) more after;
   pending = s.pending;
 }
+
+-- how often the pass was the front of the spin queue is counted apart
+pub keeps-at : (v u : V) (p q : List Moment) (f f' : ℕ) → f ≤ f' → Keeps (shown line_of v.fronts v p) (shown line_of u.fronts u q) → Keeps (shown line_of f v p) (shown line_of f' u q)
+keeps-at v u p q f f' more k = record { task = k.task; done = k.done; seen = k.seen; records = k.records; sent = k.sent; last = k.last; counts = record { steps = k.counts.steps; misses = k.counts.misses; entries = k.counts.entries; fronts = more; appends = k.counts.appends } }
+
+pub sees-at : {reads : Bool} {n : ℕ} (v u : V) (p q : List Moment) (f f' : ℕ) → Sees mutex reads owner_at n (shown line_of v.fronts v p) (shown line_of u.fronts u q) → Sees mutex reads owner_at n (shown line_of f v p) (shown line_of f' u q)
+sees-at v u p q f f' s = record { saw = s.saw; is = s.is; word_is = s.word_is; since = s.since; by_now = s.by_now; found = s.found; shut = s.shut }
+
+pub misses-at : {reads : Bool} {n : ℕ} (v u : V) (p q : List Moment) (f f' : ℕ) → f ≤ f' → Misses mutex reads owner_at n (shown line_of v.fronts v p) (shown line_of u.fronts u q) → Misses mutex reads owner_at n (shown line_of f v p) (shown line_of f' u q)
+misses-at v u p q f f' more m = record { keeps = keeps-at v u p q f f' more m.keeps; consumed = m.consumed; out = m.out; sees = sees-at v u p q f f' m.sees; once = m.once; freed = m.freed }
+
+pub interrupts-at : {reads : Bool} {why : Interrupted} (v u : V) (p q : List Moment) (f f' : ℕ) → f ≤ f' → Interrupts mutex reads owner_at why (shown line_of v.fronts v p) (shown line_of u.fronts u q) → Interrupts mutex reads owner_at why (shown line_of f v p) (shown line_of f' u q)
+interrupts-at v u p q f f' more i = record {
+  keeps = keeps-at v u p q f f' more i.keeps;
+  heard = record { sent = i.heard.sent; taken = i.heard.taken; pending = i.heard.pending };
+  consumed = i.consumed;
+  out = i.out;
+  word = i.word;
+  sees = sees-at v u p q f f' i.sees;
+  freed = i.freed;
+}
+
+pub tried-at : (v u : V) (p q : List Moment) (f f' : ℕ) → f ≤ f' → OnlyTried (shown line_of v.fronts v p) (shown line_of u.fronts u q) → OnlyTried (shown line_of f v p) (shown line_of f' u q)
+tried-at v u p q f f' more t = record { keeps = keeps-at v u p q f f' more t.keeps; consumed = t.consumed; freed = t.freed }
+
+-- an interruption after failed tries
+pub tried-interrupts : {reads : Bool} {why : Interrupted} (v w u : Shown) → OnlyTried v w → PastGoesOn v w → Interrupts mutex reads owner_at why w u → Interrupts mutex reads owner_at why v u
+tried-interrupts v w u t before i = record {
+  keeps = keeps-then t.keeps i.keeps;
+  heard = pending-within v w u u t.keeps.task t.keeps.counts.steps before i.heard (omega arith) (λ p e. e);
+  consumed = i.consumed ∙ ap (λ (n : ℕ). n + 1) t.consumed;
+  out = i.out;
+  word = i.word;
+  sees = sees-within v w u u t.keeps.task t.keeps.counts.steps before i.sees refl (omega arith) (λ p e. e);
+  freed = i.freed ∙ t.freed;
+}
+
+pub err-map : {A E : Type 0} (P Q : E → Type 0) (r : Result A E) → ((e : E) → P e → Q e) → IfErr r P → IfErr r Q
+err-map P Q (Ok a) f h = tt
+err-map P Q (Err e) f h = f e h

@@ -1,0 +1,272 @@
+//! Mutexes, their passes, and their calls.
+ghost use Rattle.std.specs.Prelude.{◌≡◌, ◌≢◌, ◌<◌, ◌≤◌, ◌+◌, ℕ, Bool, true, false, [], ◌∷◌, length, Some, None, IsSome, IfOk, IfErr};
+ghost use Rattle.word_bits.specs.LockWords.{owned};
+ghost use Rattle.lock_core.specs.declared.view.Held.TheVariants.{No, Alone};
+ghost use Rattle.lock_core.specs.Kinds.{mutex, unavailable, wakes_alone};
+ghost use Rattle.lock_core.specs.Holding.{missed};
+ghost use Rattle.lock_core.specs.Pasts.{FoundAt};
+ghost use Rattle.lock_core.specs.Locking.{Looks, Has, HasSince, Takes, Misses, Interrupts, Releases, Got, KeepsPlace};
+ghost use Rattle.lock_core.specs.Passes.{Numbered};
+ghost use Rattle.lock_core.specs.Records.{IsPlan};
+ghost use Rattle.lock_core.specs.Shown.{AllButHand, PastGoesOn, shown_new, shown_split};
+ghost use Rattle.lock_core.specs.Stated.{IsNew};
+ghost use Rattle.lock_core.specs.Views.{gathered, gave_up};
+ghost use Rattle.osq_nodes.specs.Handles.{tasks_of};
+ghost use Rattle.lock_core.specs.Handles as inner;
+ghost use Rattle.mutex_slow.specs.Mutexes.{owner_at};
+ghost use Rattle.mutex_slow.specs.Places.{OnlyTried};
+
+use crate::rule::MutexRule;
+use crate::{parts, slow};
+use cpu_task::{Cpu, Crew};
+use lock_core::{How, Interrupted, Pass, Plan, Site};
+use mutex_word::site_steps::take_free;
+use osq_nodes::{Osq, OsqPass};
+use std::alloc::{AllocError, Global};
+use std::sync::Wait;
+use word_bits::Object;
+
+mod words;
+
+/// A mutex that guards an object of the kind `O`, with the object's plan, records and log. Contracts
+/// see its plan (`plan_of`).
+#[derive(Drop)]
+pub struct Mutex<O: Object> {
+    site: Site<MutexRule<O>>,
+    osq: Osq,
+    ghost sized: { tasks_of osq ≡ length (inner.plan_of site) },
+}
+
+/// A pass of a mutex, with one of its spin queue. Contracts see what callers of any lock see of a pass
+/// (`shown_of`).
+#[derive(Drop)]
+pub struct MutexPass<O: Object> {
+    pass: Pass<MutexRule<O>>,
+    queue: OsqPass,
+}
+
+impl<O: Object> Mutex<O> {
+    ghost use Rattle.mutex_slow.specs.Handles.{newest, plan_of, shown_of, hand_in, SitsAt};
+
+    /// A new mutex: nobody holds, the state is empty, no call is logged or recorded. The pass has no
+    /// task number.
+    pub fn open(alloc: Global, plan: Plan) -> Result<(Mutex<O>, MutexPass<O>), AllocError>
+        requires { IsPlan O.object plan }
+        ensures own { IfOk result (λ t. SitsAt t.0 t.1) }
+        ensures plan { IfOk result (λ t. plan_of t.0 ≡ plan) }
+        ensures new { IfOk result (λ _. IsNew O.object O.WORDS plan (newest plan)) }
+        ensures view { IfOk result (λ t.
+            shown_of t.1 ≡ shown_new (Some plan) [] (newest plan ∷ [])) }
+    {
+        let (site, pass) = Site::open(alloc, plan)?;
+        let (osq, queue) = Osq::open(alloc, site.tasks())?;
+        Ok((Mutex { site, osq }, MutexPass { pass, queue }))
+    }
+
+    /// A pass without a task number, which has seen as many entries.
+    pub fn split(&self, pass: &mut MutexPass<O>) -> MutexPass<O>
+        requires own { SitsAt self.now pass.old }
+        ensures own { SitsAt self.now pass.new }
+        ensures its_own { SitsAt self.now result }
+        ensures goes_on { PastGoesOn (shown_of pass.old) (shown_of pass.new) }
+        ensures kept { Looks (shown_of pass.old) (shown_of pass.new) }
+        ensures given { shown_of result ≡ shown_split (shown_of pass.old) }
+    {
+        let other = self.site.split(&mut pass.pass);
+        let queue = self.osq.split(&mut pass.queue);
+        MutexPass { pass: other, queue }
+    }
+
+    /// Waits until nobody has the task's number, and takes it with the task's records. What the pass
+    /// saw of the lock is forgotten, and it has seen as many entries as the task.
+    pub fn begin<W: Wait>(&self, rt: &W, pass: &mut MutexPass<O>, task: u32)
+        requires own { SitsAt self.now pass.old }
+        requires numberless { (hand_in pass.old).task ≡ None }
+        requires there { task < length (plan_of self.now) }
+        ensures own { SitsAt self.now pass.new }
+        ensures goes_on { PastGoesOn (shown_of pass.old) (shown_of pass.new) }
+        ensures became { Numbered O.object (unavailable mutex) (plan_of self.now)
+            (hand_in pass.old) task (hand_in pass.new) }
+        ensures beside { AllButHand (shown_of pass.old) (shown_of pass.new) }
+    {
+        self.site.begin(rt, &mut pass.pass, task);
+        self.osq.begin(rt, &mut pass.queue, task);
+    }
+
+    /// Gives the pass's number back.
+    pub fn end(&self, pass: &mut MutexPass<O>)
+        requires own { SitsAt self.now pass.old }
+        requires numbered { IsSome (hand_in pass.old).task }
+        requires out { (hand_in pass.old).held ≡ No }
+        requires sent { (hand_in pass.old).sent ≡ None }
+        requires consumed { (hand_in pass.old).consumed ≡ 0 }
+        ensures own { SitsAt self.now pass.new }
+        ensures goes_on { PastGoesOn (shown_of pass.old) (shown_of pass.new) }
+        ensures kept { Has (gave_up (hand_in pass.old)) (shown_of pass.old) (shown_of pass.new) }
+    {
+        self.osq.end(&mut pass.queue);
+        self.site.end(&mut pass.pass);
+    }
+
+    /// Takes in another pass, which is spent: `into` then knows the records that `other` knew, and
+    /// has seen as many entries as either.
+    pub fn gather(&self, into: &mut MutexPass<O>, other: MutexPass<O>)
+        requires own { SitsAt self.now into.old }
+        requires others_own { SitsAt self.now other }
+        requires out { (hand_in into.old).held ≡ No }
+        requires numberless { (hand_in other).task ≡ None }
+        ensures own { SitsAt self.now into.new }
+        ensures goes_on { PastGoesOn (shown_of into.old) (shown_of into.new) }
+        ensures kept { Has (gathered (hand_in into.old) (hand_in other))
+            (shown_of into.old) (shown_of into.new) }
+    {
+        let MutexPass { pass, queue } = other;
+        self.site.gather(&mut into.pass, pass);
+        self.osq.gather(&mut into.queue, queue);
+    }
+
+    /// Spins in the queue of those that do, and as its front until a try takes or the CPU needs
+    /// rescheduling. The kernel's `mutex_optimistic_spin`.
+    fn spin<W: Wait, C: Cpu>(&self, rt: &W, pass: &mut MutexPass<O>, cpu: &mut C) -> bool
+        requires own { SitsAt self.now pass.old }
+        requires numbered { IsSome (hand_in pass.old).task }
+        requires out { (hand_in pass.old).held ≡ No }
+        ensures own { SitsAt self.now pass.new }
+        ensures goes_on { PastGoesOn (shown_of pass.old) (shown_of pass.new) }
+        ensures numbered { (hand_in pass.new).task ≡ (hand_in pass.old).task }
+        ensures line { (shown_of pass.new).line ≡ (shown_of pass.old).line }
+        ensures took { result ≡ true → Takes O.object (plan_of self.now) Alone
+            (shown_of pass.old) (shown_of pass.new) }
+        ensures front { result ≡ true →
+            ((shown_of pass.new).fronts ≡ (shown_of pass.old).fronts + 1) }
+        ensures missed { result ≡ false → OnlyTried (shown_of pass.old) (shown_of pass.new) }
+        ensures out { result ≡ false → (hand_in pass.new).held ≡ No }
+        ensures stood { result ≡ false → (shown_of pass.new).fronts ≡ (shown_of pass.old).fronts →
+            (hand_in pass.new).misses ≡ (hand_in pass.old).misses }
+    {
+        if cpu.need_resched() {
+            return false;
+        }
+        // One spinner at a time tries: the others spin on words of their own.
+        if !osq_unqueue::lock(&self.osq, rt, &mut pass.queue, cpu) {
+            return false;
+        }
+        let took = slow::spin_outside(&self.site, rt, &mut pass.pass, cpu);
+        self.osq.unlock(rt, &mut pass.queue);
+        took
+    }
+
+    /// Waits until the pass holds alone. The kernel's `mutex_lock`.
+    pub fn lock<W: Wait, C: Crew>(
+        &self,
+        rt: &W,
+        pass: &mut MutexPass<O>,
+        cpu: &mut C::C,
+        _crew: &C,
+    ) -> How
+        requires own { SitsAt self.now pass.old }
+        requires numbered { IsSome (hand_in pass.old).task }
+        requires out { (hand_in pass.old).held ≡ No }
+        ensures own { SitsAt self.now pass.new }
+        ensures goes_on { PastGoesOn (shown_of pass.old) (shown_of pass.new) }
+        ensures took { Takes O.object (plan_of self.now) Alone
+            (shown_of pass.old) (shown_of pass.new) }
+        ensures how { Got result (shown_of pass.old) (shown_of pass.new) }
+        ensures line { (shared : Bool) → KeepsPlace mutex shared
+            (shown_of pass.old) (shown_of pass.new) }
+    {
+        let Err(_) = parts::try_outside(&self.site, rt, &mut pass.pass) else {
+            return How::Fast;
+        };
+        if self.spin(rt, pass, cpu) {
+            return How::Spun;
+        }
+        slow::lock_in_line(&self.site, rt, &mut pass.pass, cpu)
+    }
+
+    /// As `lock`, until a signal interrupts it. The kernel's `mutex_lock_interruptible`.
+    pub fn lock_interruptible<W: Wait, C: Crew>(
+        &self,
+        rt: &W,
+        pass: &mut MutexPass<O>,
+        cpu: &mut C::C,
+        _crew: &C,
+    ) -> Result<How, Interrupted>
+        requires own { SitsAt self.now pass.old }
+        requires numbered { IsSome (hand_in pass.old).task }
+        requires out { (hand_in pass.old).held ≡ No }
+        ensures own { SitsAt self.now pass.new }
+        ensures goes_on { PastGoesOn (shown_of pass.old) (shown_of pass.new) }
+        ensures took { IfOk result (λ _. Takes O.object (plan_of self.now) Alone
+            (shown_of pass.old) (shown_of pass.new)) }
+        ensures how { IfOk result (λ how. Got how (shown_of pass.old) (shown_of pass.new)) }
+        ensures interrupted { IfErr result (λ why. (reads : Bool) →
+            Interrupts mutex reads owner_at why (shown_of pass.old) (shown_of pass.new)) }
+        ensures line { (shared : Bool) → KeepsPlace mutex shared
+            (shown_of pass.old) (shown_of pass.new) }
+    {
+        let Err(_) = parts::try_outside(&self.site, rt, &mut pass.pass) else {
+            return Ok(How::Fast);
+        };
+        if self.spin(rt, pass, cpu) {
+            return Ok(How::Spun);
+        }
+        slow::lock_in_line_interruptible(&self.site, rt, &mut pass.pass, cpu)
+    }
+
+    /// Holds alone where that is possible at once. `Err` has the word, which names a task, that says
+    /// why not. It tries again where only flags changed. The kernel's `mutex_trylock`.
+    pub fn trylock<W: Wait>(&self, rt: &W, pass: &mut MutexPass<O>) -> Result<(), u64>
+        requires own { SitsAt self.now pass.old }
+        requires numbered { IsSome (hand_in pass.old).task }
+        requires out { (hand_in pass.old).held ≡ No }
+        ensures own { SitsAt self.now pass.new }
+        ensures goes_on { PastGoesOn (shown_of pass.old) (shown_of pass.new) }
+        ensures took { IfOk result (λ _. Takes O.object (plan_of self.now) Alone
+            (shown_of pass.old) (shown_of pass.new)) }
+        ensures missed { IfErr result (λ word. (reads : Bool) → Misses mutex reads owner_at word
+            (shown_of pass.old) (shown_of pass.new)) }
+    {
+        match parts::try_outside(&self.site, rt, &mut pass.pass) {
+            Ok(()) => Ok(()),
+            Err(word) => Err(word),
+        }
+    }
+
+    /// Takes the mutex where its word is 0, by one compare-exchange. `Err` has the word, not 0, that the
+    /// exchange saw: one that names a task, or the flag of the waiters alone.
+    pub fn trylock_once(&self, pass: &mut MutexPass<O>) -> Result<(), u64>
+        requires own { SitsAt self.now pass.old }
+        requires numbered { IsSome (hand_in pass.old).task }
+        requires out { (hand_in pass.old).held ≡ No }
+        ensures own { SitsAt self.now pass.new }
+        ensures goes_on { PastGoesOn (shown_of pass.old) (shown_of pass.new) }
+        ensures took { IfOk result (λ _. Takes O.object (plan_of self.now) Alone
+            (shown_of pass.old) (shown_of pass.new)) }
+        ensures free { IfOk result (λ _. FoundAt owner_at 0 (shown_of pass.new).past) }
+        ensures some { IfErr result (λ word. word ≢ 0) }
+        ensures saw { IfErr result (λ word. HasSince (λ step. missed (hand_in pass.old) word step)
+            (shown_of pass.old) (shown_of pass.new)) }
+        ensures found { IfErr result (λ word. FoundAt owner_at word (shown_of pass.new).past) }
+        ensures missed { IfErr result (λ word. (reads : Bool) → owned reads word →
+            Misses mutex reads owner_at word (shown_of pass.old) (shown_of pass.new)) }
+    {
+        match take_free(&self.site, &mut pass.pass) {
+            Ok(()) => Ok(()),
+            Err(word) => Err(word),
+        }
+    }
+
+    /// Ends the pass's hold. Where a handoff is asked for and tasks wait, the word then picks the
+    /// first of them. The kernel's `mutex_unlock`.
+    pub fn unlock<W: Wait, C: Crew>(&self, rt: &W, pass: &mut MutexPass<O>, crew: &C)
+        requires own { SitsAt self.now pass.old }
+        requires held { (hand_in pass.old).held ≡ Alone }
+        requires quiet { (hand_in pass.old).writes ≡ false }
+        ensures own { SitsAt self.now pass.new }
+        ensures goes_on { PastGoesOn (shown_of pass.old) (shown_of pass.new) }
+        ensures released { Releases (wakes_alone mutex) (shown_of pass.old) (shown_of pass.new) }
+    {
+        slow::unlock(&self.site, rt, &mut pass.pass, crew);
+    }
+}
