@@ -4,17 +4,18 @@ ghost use Rattle.word_bits.specs.LockWords.{owned};
 ghost use Rattle.lock_core.specs.declared.view.Held.TheVariants.{No, Alone};
 ghost use Rattle.lock_core.specs.Kinds.{mutex, unavailable, wakes_alone};
 ghost use Rattle.lock_core.specs.Holding.{missed};
-ghost use Rattle.lock_core.specs.Pasts.{FoundAt};
+ghost use Rattle.lock_core.specs.Pasts.{EachMoment, FoundAt, Tail};
 ghost use Rattle.lock_core.specs.Locking.{Looks, Has, HasSince, Takes, Misses, Interrupts, Releases, Got, KeepsPlace};
 ghost use Rattle.lock_core.specs.Passes.{Numbered};
 ghost use Rattle.lock_core.specs.Records.{IsPlan};
-ghost use Rattle.lock_core.specs.Shown.{AllButHand, PastGoesOn, shown_new, shown_split};
+ghost use Rattle.lock_core.specs.Shown.{AllButHand, IsLatestStep, PastGoesOn, shown_new, shown_split};
 ghost use Rattle.lock_core.specs.Stated.{IsNew};
 ghost use Rattle.lock_core.specs.Views.{gathered, gave_up};
 ghost use Rattle.osq_nodes.specs.Handles.{tasks_of};
 ghost use Rattle.lock_core.specs.Handles as inner;
 ghost use Rattle.mutex_slow.specs.Mutexes.{owner_at};
 ghost use Rattle.mutex_slow.specs.Places.{OnlyTried};
+ghost use Rattle.mutex_slow.specs.Stated.{IsMutexThen};
 
 use crate::rule::MutexRule;
 use crate::{parts, slow};
@@ -268,5 +269,21 @@ impl<O: Object> Mutex<O> {
         ensures released { Releases (wakes_alone mutex) (shown_of pass.old) (shown_of pass.new) }
     {
         slow::unlock(&self.site, rt, &mut pass.pass, crew);
+    }
+
+    /// A load, after which the pass knows what was so of the table at each moment so far, from the new
+    /// table on: the facts of every site, which tasks wait, and that the owner word states who holds,
+    /// who is picked, and whether tasks wait.
+    pub fn recall(&self, pass: &mut MutexPass<O>)
+        requires own { SitsAt self.now pass.old }
+        ensures own { SitsAt self.now pass.new }
+        ensures goes_on { PastGoesOn (shown_of pass.old) (shown_of pass.new) }
+        ensures kept { Looks (shown_of pass.old) (shown_of pass.new) }
+        ensures last { IsLatestStep (shown_of pass.new) }
+        ensures begins { Tail (newest (plan_of self.now) ∷ []) (shown_of pass.new).past }
+        ensures always { EachMoment (IsMutexThen O.object O.WORDS (plan_of self.now))
+            (shown_of pass.new).past }
+    {
+        self.site.recall(&mut pass.pass);
     }
 }
