@@ -69,9 +69,9 @@ HasBecome [] l = ⊥
 HasBecome (m ∷ []) l = IsListed m l
 HasBecome (m ∷ before ∷ past) l = IsListed m l × ((old : List Waiter) × HasBecome (before ∷ past) old × IsMutexStep before old m l)
 
+abbrev pub task_of : Waiter → ℕ
+task_of w = w.task
+
 -- the tasks of the list, which its words state while the wait lock is free, first to last
 abbrev pub waits_on : Plan → Moment → List ℕ → Type 0
 waits_on k m waiting = (l : List Waiter) × IsList l × (waiting ≡ map task_of l) × (IsWaitLockFree m.spins → Lists (list_words m.words) l)
-  where
-    task_of : Waiter → ℕ
-    task_of w = w.task

@@ -1,10 +1,10 @@
 //! Mutexes, their passes, and their calls.
-ghost use Rattle.std.specs.Prelude.{◌≡◌, ◌≢◌, ◌<◌, ◌≤◌, ◌+◌, ℕ, Bool, true, false, [], ◌∷◌, length, Some, None, IsSome, IfOk, IfErr};
+ghost use Rattle.std.specs.Prelude.{◌≡◌, ◌≢◌, ◌<◌, ◌≤◌, ◌+◌, ℕ, Bool, true, false, List, [], ◌∷◌, length, Some, None, IsSome, IfOk, IfErr};
 ghost use Rattle.word_bits.specs.LockWords.{owned};
 ghost use Rattle.lock_core.specs.declared.view.Held.TheVariants.{No, Alone};
 ghost use Rattle.lock_core.specs.Kinds.{mutex, unavailable, wakes_alone};
 ghost use Rattle.lock_core.specs.Holding.{missed};
-ghost use Rattle.lock_core.specs.Pasts.{EachMoment, FoundAt, Tail};
+ghost use Rattle.lock_core.specs.Pasts.{EachMoment, FoundAt, Paced, Tail};
 ghost use Rattle.lock_core.specs.Locking.{Looks, Has, HasSince, Takes, Misses, Interrupts, Releases, Got, KeepsPlace};
 ghost use Rattle.lock_core.specs.Passes.{Numbered};
 ghost use Rattle.lock_core.specs.Records.{IsPlan};
@@ -15,7 +15,9 @@ ghost use Rattle.osq_nodes.specs.Handles.{tasks_of};
 ghost use Rattle.lock_core.specs.Handles as inner;
 ghost use Rattle.mutex_slow.specs.Mutexes.{owner_at};
 ghost use Rattle.mutex_slow.specs.Places.{OnlyTried};
-ghost use Rattle.mutex_slow.specs.Stated.{IsMutexThen};
+ghost use Rattle.mutex_slow.specs.Stated.{HasBecome, IsMutexThen, waits_on};
+ghost use Rattle.lock_core.specs.Locked.{IsLockedThen, IsSiteStep};
+ghost use Rattle.wait_list.specs.declared.view.Waiter.{Waiter as Waiters};
 
 use crate::rule::MutexRule;
 use crate::{parts, slow};
@@ -273,7 +275,9 @@ impl<O: Object> Mutex<O> {
 
     /// A load, after which the pass knows what was so of the table at each moment so far, from the new
     /// table on: the facts of every site, which tasks wait, and that the owner word states who holds,
-    /// who is picked, and whether tasks wait.
+    /// who is picked, and whether tasks wait; and what each step did to the list and to the owner word:
+    /// the list changes by one append or one removal, a step that ends a hold while a handoff is asked
+    /// for picks the first waiter, and nobody but a picked waiter takes.
     pub fn recall(&self, pass: &mut MutexPass<O>)
         requires own { SitsAt self.now pass.old }
         ensures own { SitsAt self.now pass.new }
@@ -283,6 +287,11 @@ impl<O: Object> Mutex<O> {
         ensures begins { Tail (newest (plan_of self.now) ∷ []) (shown_of pass.new).past }
         ensures always { EachMoment (IsMutexThen O.object O.WORDS (plan_of self.now))
             (shown_of pass.new).past }
+        ensures states { EachMoment
+            (IsLockedThen O.object mutex O.WORDS (plan_of self.now) owner_at waits_on)
+            (shown_of pass.new).past }
+        ensures moves { Paced (IsSiteStep (plan_of self.now)) (shown_of pass.new).past }
+        ensures lists { (l : List Waiters) × HasBecome (shown_of pass.new).past l }
     {
         self.site.recall(&mut pass.pass);
     }
