@@ -227,6 +227,8 @@ impl<O: Object> Mutex<O> {
         ensures goes_on { PastGoesOn (shown_of pass.old) (shown_of pass.new) }
         ensures took { IfOk result (λ _. Takes O.object (plan_of self.now) Alone
             (shown_of pass.old) (shown_of pass.new)) }
+        ensures numbered { (hand_in pass.new).task ≡ (hand_in pass.old).task }
+        ensures still_out { IfErr result (λ _. (hand_in pass.new).held ≡ No) }
         ensures missed { IfErr result (λ word. (reads : Bool) → Misses mutex reads owner_at word
             (shown_of pass.old) (shown_of pass.new)) }
     {
@@ -247,6 +249,8 @@ impl<O: Object> Mutex<O> {
         ensures took { IfOk result (λ _. Takes O.object (plan_of self.now) Alone
             (shown_of pass.old) (shown_of pass.new)) }
         ensures free { IfOk result (λ _. FoundAt owner_at 0 (shown_of pass.new).past) }
+        ensures numbered { (hand_in pass.new).task ≡ (hand_in pass.old).task }
+        ensures still_out { IfErr result (λ _. (hand_in pass.new).held ≡ No) }
         ensures some { IfErr result (λ word. word ≢ 0) }
         ensures saw { IfErr result (λ word. HasSince (λ step. missed (hand_in pass.old) word step)
             (shown_of pass.old) (shown_of pass.new)) }
