@@ -15,22 +15,23 @@ use Rattle.lock_core.specs.Pasts.{After, Paced}
 use Rattle.lock_core.specs.Sites.{SiteStep}
 use Rattle.lock_core.specs.Stated.{IsSiteThen}
 use Rattle.lock_core.specs.Totals.{total}
-use Rattle.lock_core.specs.Views.{SpinHolds, alone_of}
+use Rattle.lock_core.specs.Views.{alone_of}
+use Rattle.lock_core.specs.Spins.{holds_in}
 use Rattle.lock_core.specs.Kinds.{Kind, mutex, semaphore, unavailable}
 
 -- no pass holds the wait lock
 abbrev pub IsWaitLockFree : List SpinHand → Type 0
-IsWaitLockFree spins = Each (λ s. SpinHolds s → ⊥) spins
+IsWaitLockFree spins = Each (λ s. holds_in s ≡ 0) spins
 
--- a pass that doesn't hold has the task's number
-abbrev pub IsOutside : List Hand → ℕ → Type 0
-IsOutside hs t = (i : ℕ) × (h : Hand) × (get_elem? hs i ≡ some h) × (h.task ≡ Some t) × (h.held ≡ No)
+-- a pass has the task's number
+abbrev pub HasPass : List Hand → ℕ → Type 0
+HasPass hs t = (i : ℕ) × (h : Hand) × (get_elem? hs i ≡ some h) × (h.task ≡ Some t)
 
--- While the wait lock is free, the flag is set exactly where tasks wait, each of them outside.
+-- While the wait lock is free, the flag is set exactly where tasks wait, each of which has a pass: one that took before it could leave the list may hold already.
 pub record FlagStates (flag : ℕ) (hs : List Hand) (spins : List SpinHand) (waiting : List ℕ) : Type 0 where
   pub set : IsWaitLockFree spins → flag ≡ 1 → waiting ≢ []
   pub clear : IsWaitLockFree spins → flag ≢ 1 → waiting ≡ []
-  pub outside : IsWaitLockFree spins → (t : ℕ) → Contains waiting t → IsOutside hs t
+  pub passes : IsWaitLockFree spins → (t : ℕ) → Contains waiting t → HasPass hs t
 
 -- An owner word names exactly the task that holds, unless it picks one.
 pub record OwnerStates (word : ℕ) (hs : List Hand) : Type 0 where

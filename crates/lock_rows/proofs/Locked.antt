@@ -49,7 +49,7 @@ owner-locked o size k m r = let none = plain (slice_index m.words owner_at) r.ow
     record {
       set = λ free flag. absurd (omega (arith, none, flag));
       clear = λ free flag. refl;
-      outside = λ free t in_list. absurd (let l = in_list.1 in omega (arith, l));
+      passes = λ free t in_list. absurd (let l = in_list.1 in omega (arith, l));
     },
   );
 }

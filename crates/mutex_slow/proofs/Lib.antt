@@ -1,2 +1,5 @@
 pub mod Showing
 pub mod Queueing
+pub mod Stating
+pub mod Chaining
+pub mod Locking

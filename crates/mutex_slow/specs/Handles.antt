@@ -1,6 +1,5 @@
 -- What a clause reads of a mutex and of a pass of it.
-use Rattle.std.specs.Prelude.{◌≡◌, ℕ, Option}
-use Rattle.word_bits.specs.declared.reply.Reply.{Reply}
+use Rattle.std.specs.Prelude.{◌≡◌, ℕ, None}
 use Rattle.word_bits.specs.Histories.{Plan}
 use Rattle.lock_core.specs.declared.view.Hand.{Hand}
 use Rattle.lock_core.specs.declared.view.Moment.{Moment}
@@ -39,3 +38,8 @@ module _ {O C : Type 0} where
     pub queued : queue.SitsAt mutex.osq pass.queue
     pub off : queue.place_in pass.queue ≡ Out
     pub same : queue.task_in pass.queue ≡ inner.task_in pass.pass
+
+  -- a pass between two tasks
+  pub record IsIdle (mutex : Mutex O C) (pass : MutexPass O C) : Type 0 where
+    pub own : SitsAt mutex pass
+    pub numberless : (hand_in pass).task ≡ None

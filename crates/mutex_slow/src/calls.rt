@@ -1,20 +1,23 @@
 //! Mutexes, their passes, and their calls.
-ghost use Rattle.std.specs.Prelude.{◌≡◌, ◌≢◌, ◌<◌, ◌≤◌, ◌+◌, ℕ, Bool, true, false, [], ◌∷◌, length, Some, None, IsSome, IfOk, IfErr};
+ghost use Rattle.std.specs.Prelude.{◌≡◌, ◌≢◌, ◌<◌, ◌≤◌, ◌+◌, ℕ, Bool, true, false, List, [], ◌∷◌, length, Some, None, IsSome, IfOk, IfErr};
 ghost use Rattle.word_bits.specs.LockWords.{owned};
 ghost use Rattle.lock_core.specs.declared.view.Held.TheVariants.{No, Alone};
 ghost use Rattle.lock_core.specs.Kinds.{mutex, unavailable, wakes_alone};
 ghost use Rattle.lock_core.specs.Holding.{missed};
-ghost use Rattle.lock_core.specs.Pasts.{FoundAt};
+ghost use Rattle.lock_core.specs.Pasts.{EachMoment, FoundAt, Paced, Tail};
 ghost use Rattle.lock_core.specs.Locking.{Looks, Has, HasSince, Takes, Misses, Interrupts, Releases, Got, KeepsPlace};
 ghost use Rattle.lock_core.specs.Passes.{Numbered};
 ghost use Rattle.lock_core.specs.Records.{IsPlan};
-ghost use Rattle.lock_core.specs.Shown.{AllButHand, PastGoesOn, shown_new, shown_split};
+ghost use Rattle.lock_core.specs.Shown.{AllButHand, IsLatestStep, PastGoesOn, shown_new, shown_split};
 ghost use Rattle.lock_core.specs.Stated.{IsNew};
 ghost use Rattle.lock_core.specs.Views.{gathered, gave_up};
 ghost use Rattle.osq_nodes.specs.Handles.{tasks_of};
 ghost use Rattle.lock_core.specs.Handles as inner;
 ghost use Rattle.mutex_slow.specs.Mutexes.{owner_at};
 ghost use Rattle.mutex_slow.specs.Places.{OnlyTried};
+ghost use Rattle.mutex_slow.specs.Stated.{HasBecome, IsMutexThen, waits_on};
+ghost use Rattle.lock_core.specs.Locked.{IsLockedThen, IsSiteStep};
+ghost use Rattle.wait_list.specs.declared.view.Waiter.{Waiter as Waiters};
 
 use crate::rule::MutexRule;
 use crate::{parts, slow};
@@ -224,6 +227,8 @@ impl<O: Object> Mutex<O> {
         ensures goes_on { PastGoesOn (shown_of pass.old) (shown_of pass.new) }
         ensures took { IfOk result (λ _. Takes O.object (plan_of self.now) Alone
             (shown_of pass.old) (shown_of pass.new)) }
+        ensures numbered { (hand_in pass.new).task ≡ (hand_in pass.old).task }
+        ensures still_out { IfErr result (λ _. (hand_in pass.new).held ≡ No) }
         ensures missed { IfErr result (λ word. (reads : Bool) → Misses mutex reads owner_at word
             (shown_of pass.old) (shown_of pass.new)) }
     {
@@ -244,6 +249,8 @@ impl<O: Object> Mutex<O> {
         ensures took { IfOk result (λ _. Takes O.object (plan_of self.now) Alone
             (shown_of pass.old) (shown_of pass.new)) }
         ensures free { IfOk result (λ _. FoundAt owner_at 0 (shown_of pass.new).past) }
+        ensures numbered { (hand_in pass.new).task ≡ (hand_in pass.old).task }
+        ensures still_out { IfErr result (λ _. (hand_in pass.new).held ≡ No) }
         ensures some { IfErr result (λ word. word ≢ 0) }
         ensures saw { IfErr result (λ word. HasSince (λ step. missed (hand_in pass.old) word step)
             (shown_of pass.old) (shown_of pass.new)) }
@@ -268,5 +275,28 @@ impl<O: Object> Mutex<O> {
         ensures released { Releases (wakes_alone mutex) (shown_of pass.old) (shown_of pass.new) }
     {
         slow::unlock(&self.site, rt, &mut pass.pass, crew);
+    }
+
+    /// A load, after which the pass knows what was so of the table at each moment so far, from the new
+    /// table on: the facts of every site, which tasks wait, and that the owner word states who holds,
+    /// who is picked, and whether tasks wait; and what each step did to the list and to the owner word:
+    /// the list changes by one append or one removal, a step that ends a hold while a handoff is asked
+    /// for picks the first waiter, and nobody but a picked waiter takes.
+    pub fn recall(&self, pass: &mut MutexPass<O>)
+        requires own { SitsAt self.now pass.old }
+        ensures own { SitsAt self.now pass.new }
+        ensures goes_on { PastGoesOn (shown_of pass.old) (shown_of pass.new) }
+        ensures kept { Looks (shown_of pass.old) (shown_of pass.new) }
+        ensures last { IsLatestStep (shown_of pass.new) }
+        ensures begins { Tail (newest (plan_of self.now) ∷ []) (shown_of pass.new).past }
+        ensures always { EachMoment (IsMutexThen O.object O.WORDS (plan_of self.now))
+            (shown_of pass.new).past }
+        ensures states { EachMoment
+            (IsLockedThen O.object mutex O.WORDS (plan_of self.now) owner_at waits_on)
+            (shown_of pass.new).past }
+        ensures moves { Paced (IsSiteStep (plan_of self.now)) (shown_of pass.new).past }
+        ensures lists { (l : List Waiters) × HasBecome (shown_of pass.new).past l }
+    {
+        self.site.recall(&mut pass.pass);
     }
 }

@@ -10,3 +10,6 @@ mod view;
 pub use calls::{Mutex, MutexPass};
 pub use rule::MutexRule;
 pub use view::{MutexHand, Point};
+
+#[cfg(test)]
+mod tests;

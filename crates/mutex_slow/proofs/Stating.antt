@@ -1,0 +1,112 @@
+-- The rule of a mutex implies what is stated of it.
+use Rattle.std.proofs.Common.{◌≡◌, ◌≢◌, ◌∙◌, ℕ, zero, suc, ◌+◌, ◌*◌, ◌/◌, ◌%◌, ◌==◌, ◌<◌, ◌≤◌, ◌⊎◌, inl, inr, Bool, true, false, List, [], ◌∷◌, length, map, get_or, Option, Some, None, refl, sym, ap, subst, arith}
+use mathlib.Core.Option.{some}
+use lib.ListN.{get_elem?}
+use Rattle.atomic_table.proofs.Lists.{at_map}
+use Rattle.word_bits.specs.OwnerWord.{task_code}
+use Rattle.word_bits.specs.LockWords.{owned}
+use Rattle.word_bits.specs.Objects.{Obj}
+use Rattle.word_bits.specs.Histories.{Plan}
+use Rattle.lock_core.specs.declared.view.Hand.{Hand}
+use Rattle.lock_core.specs.declared.view.SpinHand.{SpinHand}
+use Rattle.lock_core.specs.declared.view.Held.TheVariants.{No}
+use Rattle.lock_core.specs.Layout.{site}
+use Rattle.lock_core.specs.Locked.{HasPass, IsWaitLockFree}
+use Rattle.lock_core.specs.SpinFrames.{when}
+use Rattle.lock_core.specs.Spins.{holds_in}
+use Rattle.lock_core.specs.Totals.{total, total-at, total-two}
+use Rattle.lock_core.specs.Parts.{Each}
+use Rattle.lock_core.specs.Records.{bit}
+use Rattle.lock_core.specs.Stated.{IsSite}
+use Rattle.lock_core.specs.Views.{hand_of, spin_of, held_weight, held_of, is_number}
+use Rattle.lock_core.specs.Pasts.{instant, moment}
+use Rattle.lock_core.proofs.HandLaws.{false-or-true, held-none, number-or-not, not-both}
+use Rattle.lock_core.proofs.Stating.{kept-states}
+use Rattle.lock_core.proofs.WordSteps.{some-of}
+use Rattle.mutex_word.specs.Holders.{OwnKept, IsHolder, code_of}
+use Rattle.mutex_word.specs.OwnLaws.{Named, no-codes, only-code, alone-code}
+use Rattle.wait_list.specs.declared.view.Waiter.{Waiter}
+use Rattle.wait_list.specs.Lists.{Part, PartOk, changes_of, counted, first_code, list_part}
+use Rattle.mutex_slow.specs.Mutexes.{V, Flagged, Kept, MutexKept, SeatOk, list_of, owner_in, point_of, queued_of, unmarked}
+use Rattle.mutex_slow.specs.CoupledLaws.{point-held}
+use Rattle.mutex_slow.specs.Stated.{IsListed, IsMutexThen, StatesOwner}
+
+-- who holds, by a word that picks nobody
+holder-of : (hs : List Hand) (word : ℕ) → OwnKept word hs → Named hs → word % 8 < 4 → (task : Option ℕ) × (word / 8 ≡ task_code task) × IsHolder hs task
+holder-of hs word r named low = let held = r.held low in elim (native.Mathlib.Decide.dec_le (total held_of hs) 0) [
+  | yes none ↦ let a = no-codes hs none in (None, omega (arith, a, held, low), λ j h at. let l = total-at held_of hs j h at in held-none h.held (omega (arith, l, none)))
+  | no some_hold ↦ let s = some-of held_of hs (omega (arith, some_hold)) in let weighs = s.3 in let one = r.one in
+      let is_held : s.1.held ≢ No = λ n. (let w : held_of s.1 ≡ 0 = ap held_weight n in omega (arith, w, weighs)) in let alone = r.alone s.0 s.1 s.2 is_held in
+      number-or-not s.1.task (λ out. absurd (is_held (named s.0 s.1 s.2 out))) (λ t has. let a = only-code hs s.0 s.1 s.2 alone one in let b = alone-code s.1 t alone has in
+      (Some t, omega (arith, a, b, held, low), (s.0, s.1, s.2, alone, has, λ j g other at. let two = total-two held_of hs s.0 j s.1 g s.2 at (λ e. other (sym e)) in held-none g.held (omega (arith, two, weighs, one)))))
+]
+
+-- whose weight in a total isn't 0
+view-of : (f : V → ℕ) (vs : List V) → 0 < total f vs → (j : ℕ) × (v : V) × (get_elem? vs j ≡ some v) × (0 < f v)
+view-of f [] more = absurd (omega (arith, more))
+view-of f (v ∷ vs) more = elim (native.Mathlib.Decide.dec_le (f v) 0) [
+  | yes none ↦ let s = view-of f vs (omega (arith, more, none)) in (suc s.0, s.1, s.2, s.3)
+  | no weighs ↦ (zero, v, refl, omega (arith, weighs))
+]
+
+number-is : (t : ℕ) (task : Option ℕ) → 0 < is_number t task → task ≡ Some t
+number-is t None more = absurd (omega (arith, more))
+number-is t (Some u) more = false-or-true (u == t) (λ same. ap Some (eqb-eq u t same)) (λ other. absurd (let b : bit (u == t) ≡ 0 = ap bit other in omega (arith, b, more)))
+  where
+    eqb-eq : (m n : ℕ) → (m == n) ≡ true → m ≡ n
+    eqb-eq m n e = elim (native.Mathlib.Decide.ℕ_discrete m n) [ yes same ↦ same | no other ↦ not-both (m == n) (Rattle.std.proofs.Common.ne_eqb m n other) e ]
+
+queued-task : (t : ℕ) (v : V) → 0 < queued_of t v → v.hand.task ≡ Some t
+queued-task t v more = false-or-true v.ext.queued (λ is. number-is t v.hand.task (let b : when v.ext.queued (is_number t v.hand.task) ≡ is_number t v.hand.task = ap (λ (b : Bool). when b (is_number t v.hand.task)) is in omega (arith, b, more)))
+    (λ out. absurd (let b : when v.ext.queued (is_number t v.hand.task) ≡ 0 = ap (λ (b : Bool). when b (is_number t v.hand.task)) out in omega (arith, b, more)))
+
+module _ {Call : Type 0} (o : Obj Call) (size : ℕ) (k : Plan) (ws : List ℕ) (vs : List V) (l : List Waiter) (r : MutexKept o size k ws vs l) where
+  changes : {words : List ℕ} {p : Part} → PartOk words l p → holds_in p.0 ≡ 0 → p.1.changes ≡ false
+  changes {words} {p} ok out = false-or-true p.1.changes (λ t. let h = (ok.changes t).0.0 in absurd (omega (arith, h, out))) (λ f. f)
+
+  all : IsWaitLockFree (map spin_of vs) → Each (λ v. holds_in v.spin ≡ 0) vs
+  all free j v at = free j v.spin (at_map spin_of vs j v at)
+
+  quiet : (vs : List V) → Each (λ v. v.ext.list.changes ≡ false) vs → total changes_of (map (list_part list_of) vs) ≡ 0
+  quiet [] each = refl
+  quiet (v ∷ vs) each = let a : bit v.ext.list.changes ≡ 0 = ap bit (each zero v refl) in let b = quiet vs (λ j x at. each (suc j) x at) in omega (arith, a, b)
+
+  points : (vs : List V) → Each (λ v. point_of v ≡ 0) vs → total point_of vs ≡ 0
+  points [] each = refl
+  points (v ∷ vs) each = let a = each zero v refl in let b = points vs (λ j x at. each (suc j) x at) in omega (arith, a, b)
+
+  flagged : IsWaitLockFree (map spin_of vs) → Flagged (owner_in ws) l
+  flagged free = r.coupled.flags (points vs (λ j v at. point-held (owner_in ws) l v (r.coupled.each j v at) (all free j v at)))
+
+  named : Named (map hand_of vs)
+  named j h at out = ((r.site_holds.each j h at).nameless out).0
+
+  named-word : 4 ≤ owner_in ws % 8 → 8 ≤ owner_in ws
+  named-word high = let n = r.own.nobody in elim (native.Mathlib.Decide.dec_le 8 (owner_in ws)) [ yes big ↦ big | no small ↦ let two = n (omega (arith, small)) in absurd (omega (arith, two, high)) ]
+
+  some-first : (l : List Waiter) → 0 < first_code l → 0 < length l
+  some-first [] more = absurd (omega (arith, more))
+  some-first (w ∷ ws) more = omega arith
+
+  has-pass : (t : ℕ) → 0 < counted t l → HasPass (map hand_of vs) t
+  has-pass t more = let p = r.coupled.places t in let s = view-of (queued_of t) vs (omega (arith, p, more)) in (s.0, s.1.hand, at_map hand_of vs s.0 s.1 s.2, queued-task t s.1 s.3)
+
+  pub listed : IsListed (moment unmarked (instant ws vs)) l
+  listed = let own = r.own in record {
+    sound = r.list.sound;
+    states = λ free. r.list.quiet (quiet vs (λ j v at. changes (r.list.each j (list_part list_of v) (at_map (list_part list_of) vs j v at)) (all free j v at)));
+    passes = has-pass;
+    owner = record {
+      holder = holder-of (map hand_of vs) (owner_in ws) own named;
+      picked = λ high. let none = own.picked high in let first = r.coupled.picked high in let big = named-word high in
+          ((λ j h at. let w = total-at held_of (map hand_of vs) j h at in held-none h.held (omega (arith, w, none))), (high, first), some-first l (omega (arith, first, big)));
+      nobody = own.nobody;
+      apart = own.flags;
+      waited = λ free. (flagged free).some;
+      unwaited = λ free. (flagged free).none;
+    };
+  }
+
+module _ {Call : Type 0} (o : Obj Call) (size : ℕ) where
+  pub mutex-states : (k : Plan) (ws : List ℕ) (vs : List V) → Kept o size k ws vs → IsMutexThen o size k (moment unmarked (instant ws vs))
+  mutex-states k ws vs r = (kept-states o owned size k (site k ws) (map hand_of vs) r.1.site_holds, (r.0, listed o size k ws vs r.0 r.1))
