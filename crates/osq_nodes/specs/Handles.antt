@@ -73,10 +73,14 @@ SawOther old new = (word : ℕ) × FoundBy (task_in old) (steps_in old) tail_at 
 abbrev pub SawTail : OsqPass → OsqPass → Type 0
 SawTail old new = FoundBy (task_in old) (steps_in old) tail_at (found_in new) (past_of old) (past_of new)
 
--- at its last step the pass found its own code in the tail, or, where the answer is false, another word
+-- at its last step the pass found this number at the place, or, where the answer is false, another one
+abbrev pub FoundThere : Bool → ℕ → ℕ → OsqPass → Type 0
+FoundThere true place n pass = FoundAt place n (past_of pass)
+FoundThere false place n pass = (word : ℕ) × FoundAt place word (past_of pass) × (word ≢ n)
+
+-- so of its own code in the tail
 abbrev pub FoundOwn : Bool → ℕ → OsqPass → Type 0
-FoundOwn true task pass = FoundAt tail_at (suc task) (past_of pass)
-FoundOwn false task pass = (word : ℕ) × FoundAt tail_at word (past_of pass) × (word ≢ suc task)
+FoundOwn so task pass = FoundThere so tail_at (suc task) pass
 
 -- there it found a code in its own `next`, or, where the answer is false, 0
 abbrev pub FoundNext : Bool → ℕ → OsqPass → Type 0
