@@ -30,6 +30,19 @@ IsFrontNode (Relinking p n) locked = ⊥
 IsFrontNode Front locked = Unit {0}
 IsFrontNode (Granting n) locked = Unit {0}
 
+-- the node of a task at this place stands in the queue
+abbrev pub is_queued : Place → Bool
+is_queued Out = false
+is_queued Cleared = false
+is_queued (Swapped p) = true
+is_queued (Linking p) = true
+is_queued Waiting = true
+is_queued (Unlinked p) = true
+is_queued (Splicing p n) = true
+is_queued (Relinking p n) = false
+is_queued Front = true
+is_queued (Granting n) = true
+
 -- the task d, at this place, owes the link from x to y: it stores it, or leaves, before it returns
 abbrev pub Owes : ℕ → Place → ℕ → ℕ → Type 0
 Owes d Out x y = ⊥
