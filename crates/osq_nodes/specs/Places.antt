@@ -101,3 +101,10 @@ place_by kind p n = if kind == 1 then Cleared else if kind == 2 then Swapped p e
 -- the place that they say
 abbrev pub place_in : List ℕ → Place
 place_in ns = place_by (slice_index ns 0) (slice_index ns 1) (slice_index ns 2)
+
+-- and the counts
+abbrev pub swaps_in : List ℕ → ℕ
+swaps_in ns = slice_index ns 3
+
+abbrev pub found_in : List ℕ → ℕ
+found_in ns = slice_index ns 4

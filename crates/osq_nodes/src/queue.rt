@@ -24,7 +24,7 @@ pub struct Osq {
 }
 
 impl Osq {
-    ghost use Rattle.osq_nodes.specs.Handles.{tasks_of, view_of, task_in, place_in, fronts_in, swaps_in, found_in, steps_in, past_of, SawOther, SawTail, SitsAt, KeepsNode, KeepsNumber, KeepsPast, IsLatest};
+    ghost use Rattle.osq_nodes.specs.Handles.{tasks_of, view_of, task_in, place_in, fronts_in, swaps_in, found_in, steps_in, past_of, SawOther, SawTail, SitsAt, KeepsNode, KeepsNumber, KeepsPast, IsLatest, StatesOwn};
 
     /// An empty queue for so many tasks. The pass has no task number.
     pub fn open(alloc: Global, tasks: u32) -> Result<(Osq, OsqPass), AllocError>
@@ -255,6 +255,7 @@ impl Osq {
         ensures begins { Tail (newest (tasks_of self.now) ∷ []) (past_of pass.new) }
         ensures always { EachMoment (IsSpinQueue (tasks_of self.now)) (past_of pass.new) }
         ensures queues { (queue : List ℕ) × HasBecome (past_of pass.new) queue }
+        ensures mine { StatesOwn pass.new }
         ensures counts { Ran node_marks (newest (tasks_of self.now)) (IsOsqMove (tasks_of self.now))
             (past_of pass.new) }
     {
