@@ -12,7 +12,7 @@ use Rattle.lock_core.specs.declared.view.Seen.{Seen}
 use Rattle.lock_core.specs.Moves.{Goes}
 use Rattle.lock_core.specs.Parts.{each-set, each-snoc, set-there}
 use Rattle.lock_core.specs.Views.{hand_of, spin_of}
-use Rattle.lock_core.specs.Pasts.{Tail, GoesOn, Instant, instant, view_of, steps_of, fronts_of, moment, Moves, Lived, IsOwnStep}
+use Rattle.lock_core.specs.Pasts.{Tail, GoesOn, Instant, instant, view_of, steps_of, fronts_of, marks_of, moment, Moves, Lived, IsMarked, IsOwnStep}
 
 pub older : (x : Moment) (h p : List Moment) → Tail p h → Tail p (x ∷ h)
 older x h p t = (suc t.0, t.1)
@@ -79,6 +79,16 @@ module _ {E : Type 0} (marks : E → List ℕ) (begun : Moment) (holds : List �
     had = v.steps;
     had_steps = at_map steps_of vs id v at;
     counts = counts;
+  }
+
+  pub own-marks : (ws ws' : List ℕ) (vs : List (View E)) (h : List (Instant E)) (id : ℕ) (v w : View E) → get_elem? vs id ≡ some v → IsMarked marks w (grown ws vs ws' h id w).past
+  own-marks ws ws' vs h id v w at = let there = set-there vs id v w at in record {
+    now = moment marks (instant ws' (set vs id w));
+    rest = map (moment marks) (instant ws vs ∷ h);
+    seat = id;
+    past_is = refl;
+    hand = at_map hand_of (set vs id w) id w there;
+    kept = at_map (marks_of marks) (set vs id w) id w there;
   }
 
 module _ {E : Type 0} (marks : E → List ℕ) (holds : List ℕ → List (View E) → Type 0) (moves : ℕ → List ℕ → List (View E) → List ℕ → List (View E) → Type 0) where

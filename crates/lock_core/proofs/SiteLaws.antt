@@ -24,9 +24,9 @@ use Rattle.lock_core.specs.Moves.{Goes, Lets, KeepsHold, SiteMove}
 use Rattle.lock_core.specs.MoveLaws.{set-moves, tick-moved, seat-moved, hand-moved, leaves-site}
 use Rattle.lock_core.specs.Plays.{Found, PutBy, Begun, Heeded}
 use Rattle.lock_core.specs.declared.view.Moment.{Moment}
-use Rattle.lock_core.specs.Pasts.{GoesOn, Instant, instant, view_of, moment, Moves, Lived, Ran, IsOwnStep}
+use Rattle.lock_core.specs.Pasts.{GoesOn, Instant, instant, view_of, moment, Moves, Lived, Ran, IsMarked, IsOwnStep}
 use Rattle.lock_core.proofs.RowLaws.{same-some}
-use Rattle.lock_core.proofs.Living.{older, goes-on, grown, lived-after, own-step}
+use Rattle.lock_core.proofs.Living.{older, goes-on, grown, lived-after, own-step, own-marks}
 use Rattle.lock_core.proofs.Steps.{loads, stores, exchanges, modifies}
 use Rattle.lock_core.proofs.SeatSteps.{site-splits, site-gathers, site-leaves}
 
@@ -116,7 +116,7 @@ module _ {E : Type 0} (k : Plan) (marks : E → List ℕ) (begun : Plan → Mome
   pub recalls : (slots id : ℕ) (me : Me (Unit {0}) (Seen E)) → me.0.view.hand.plan ≡ Some k
       → ((ws : List ℕ) (vs : List (View E)) (id at : ℕ) (v : View E) → holds k ws vs → get_elem? vs id ≡ some v → Goes (holds k) (moves k) id ws vs ws (set vs id (ticked v)))
       → Allows (λ s. Lived marks (begun k) (holds k) (moves k) s.words s.views) slots id me 0 (λ n. n)
-      (λ n m'. (m'.0.view ≡ ticked me.0.view) × (m'.1 ≡ me.1) × GoesOn me.0.past m'.0.past × IsOwnStep m'.0.view m'.0.past × ((p : Plan) → me.0.view.hand.plan ≡ Some p → Ran marks (begun p) (Moves (holds p) (moves p)) m'.0.past))
+      (λ n m'. (m'.0.view ≡ ticked me.0.view) × (m'.1 ≡ me.1) × GoesOn me.0.past m'.0.past × IsOwnStep m'.0.view m'.0.past × IsMarked marks m'.0.view m'.0.past × ((p : Plan) → me.0.view.hand.plan ≡ Some p → Ran marks (begun p) (Moves (holds p) (moves p)) m'.0.past))
   recalls slots id me plan looks s r l at small = let vs : List (View E) = map view_of s.views in let v = me.0.view in let there = at_map view_of s.views id me.0 at in let ws' : List ℕ = set s.words 0 (get_or s.words 0 0) in
       let goes : Goes (holds k) (moves k) id s.words vs ws' (set vs id (ticked v)) = subst (λ (z : List ℕ). Goes (holds k) (moves k) id s.words vs z (set vs id (ticked v))) (sym (set-get_or s.words 0 0)) (looks s.words vs id 0 v r.1 there) in
       let lived = lived-after marks (begun k) (holds k) (moves k) s.words ws' s.views id (ticked v) r goes in let g : Seen E = grown marks (begun k) (holds k) (moves k) s.words vs ws' r.0 id (ticked v) in let new : Instant E = instant ws' (set vs id (ticked v)) in let now : Instant E = instant s.words vs in
@@ -131,6 +131,7 @@ module _ {E : Type 0} (k : Plan) (marks : E → List ℕ) (begun : Plan → Mome
           refl,
           goes-on me.0.past (moment marks new ∷ h) (older (moment marks new) h me.0.past (r.4 id me.0 at)),
           own-step marks (begun k) (holds k) (moves k) s.words ws' vs r.0 id v (ticked v) there refl,
+          own-marks marks (begun k) (holds k) (moves k) s.words ws' vs r.0 id v (ticked v) there,
           λ p is. subst (λ (z : Plan). Ran marks (begun z) (Moves (holds z) (moves z)) g.past) (same-some k p (sym plan ∙ is)) ran,
         ),
       )

@@ -142,3 +142,12 @@ pub record IsOwnStep {E : Type 0} (v : View E) (past : List Moment) : Type 0 whe
   pub had : ℕ
   pub had_steps : get_elem? before.steps seat ≡ some had
   pub counts : v.steps ≡ had + 1
+
+-- at one seat of the last moment stand this view's hand and what the moment keeps of what the rule adds to it
+pub record IsMarked {E : Type 0} (marks : E → List ℕ) (v : View E) (past : List Moment) : Type 0 where
+  pub now : Moment
+  pub rest : List Moment
+  pub seat : ℕ
+  pub past_is : past ≡ now ∷ rest
+  pub hand : get_elem? now.hands seat ≡ some v.hand
+  pub kept : get_elem? now.marks seat ≡ some (marks_of marks v)

@@ -1,9 +1,11 @@
 -- A step of a pass on a word of the queue, which keeps the queue's own rule, keeps the rule of the table.
 use mathlib.Core.Bool.{not}
-use Rattle.std.proofs.Common.{nat_eq, ◌≡◌, ℕ, zero, suc, ◌+◌, ◌<◌, ◌≤◌, Bool, true, false, if◌then◌else◌, List, length, map, get_or, set, Option, Some, None, IsSome, sym, refl, ap, ◌∙◌, subst, arith, length-set, ne_eqb}
+use Rattle.std.proofs.Common.{nat_eq, ◌≡◌, ℕ, zero, suc, ◌+◌, ◌<◌, ◌≤◌, Bool, true, false, if◌then◌else◌, List, length, map, get_or, set, Option, Some, None, IsSome, sym, refl, ap, ◌∙◌, subst, arith, length-set, eq-eqb, ne_eqb}
 use Rattle.std.proofs.Math.Seq.{take-set-lt}
 use Rattle.std.proofs.lemmas.List.{drop-set-lt, get_or-take, length-take-le}
 use mathlib.Core.Option.{some}
+use mathlib.Core.Logic.{dite}
+use native.Mathlib.Decide.{ℕ_discrete}
 use lib.ListN.{get_elem?}
 use Rattle.word_bits.specs.declared.TheConstants.{MAX_TASKS}
 use Rattle.word_bits.specs.Histories.{Plan}
@@ -22,7 +24,7 @@ use Rattle.lock_core.specs.Ops.{word_after, told_by}
 use Rattle.lock_core.specs.Plays.{Turns}
 use Rattle.lock_core.specs.Pasts.{FoundAt, FoundAtStep, GoesOn, IsOwnStep}
 use Rattle.lock_core.specs.RunLaws.{found-at-step}
-use Rattle.osq_nodes.specs.Handles.{FoundBy, FoundNext, past_of}
+use Rattle.osq_nodes.specs.Handles.{FoundBy, FoundNext, FoundThere, past_of}
 use Rattle.lock_core.specs.Layout.{SiteWords, site, lay}
 use Rattle.lock_core.specs.Views.{hand_of, named_of}
 use Rattle.lock_core.specs.Sites.{SiteKept}
@@ -156,3 +158,9 @@ since-later task begun i n n' old between new same (step, later, f) on = (step, 
 pub found-next : (at n task : ℕ) (pass : OsqPass) → at ≡ next_at task → FoundAt at n (past_of pass) → FoundNext (not (nat_eq n 0)) task pass
 found-next at zero task pass same found = subst (λ (i : ℕ). FoundAt i 0 (past_of pass)) same found
 found-next at (suc next) task pass same found = subst (λ (b : Bool). FoundNext (not b) task pass) (sym (ne_eqb (suc next) 0 (λ e. omega (arith, e)))) (next, subst (λ (i : ℕ). FoundAt i (suc next) (past_of pass)) same found)
+
+pub found-there : (at at' n m m' : ℕ) (pass : OsqPass) → at ≡ at' → m ≡ m' → FoundAt at n (past_of pass) → FoundThere (nat_eq n m) at' m' pass
+found-there at at' n m m' pass same-place same found = let there = subst (λ (i : ℕ). FoundAt i n (past_of pass)) same-place found in
+    subst (λ (k : ℕ). FoundThere (nat_eq n m) at' k pass) same (dite (ℕ_discrete n m)
+    (λ e. subst (λ (b : Bool). FoundThere b at' m pass) (sym (eq-eqb n m e)) (subst (λ (k : ℕ). FoundAt at' k (past_of pass)) e there))
+    (λ ne. subst (λ (b : Bool). FoundThere b at' m pass) (sym (ne_eqb n m ne)) (n, there, ne)))

@@ -1,5 +1,8 @@
 -- What a clause reads of a spin queue and of a pass.
-use Rattle.std.specs.Prelude.{◌≡◌, ◌≢◌, ◌<◌, ℕ, suc, Bool, true, false, List, Option, Some, length}
+use Rattle.std.specs.Prelude.{◌≡◌, ◌≢◌, ◌<◌, ℕ, suc, Bool, true, false, List, ◌∷◌, Option, Some, length}
+use mathlib.Core.Option.{some}
+use lib.ListN.{get_elem?}
+use Rattle.lock_core.specs.declared.view.Marks.{Marks}
 use Rattle.lock_core.specs.declared.view.Moment.{Moment}
 use Rattle.lock_core.specs.Handles as inner
 use Rattle.lock_core.specs.Pasts.{FoundAt, FoundAtStep}
@@ -7,6 +10,8 @@ use Rattle.osq_nodes.specs.declared.node.Place.{Place}
 use Rattle.osq_nodes.specs.declared.pass.OsqPass.{OsqPass}
 use Rattle.osq_nodes.specs.declared.queue.Osq.{Osq}
 use Rattle.osq_nodes.specs.Passes.{OnQueue}
+use Rattle.osq_nodes.specs.Places as Marked
+use Rattle.osq_nodes.specs.Stated.{places_at}
 use Rattle.osq_nodes.specs.Ruled.{V}
 use Rattle.osq_nodes.specs.Words.{tail_at, next_at}
 
@@ -73,12 +78,30 @@ SawOther old new = (word : ℕ) × FoundBy (task_in old) (steps_in old) tail_at 
 abbrev pub SawTail : OsqPass → OsqPass → Type 0
 SawTail old new = FoundBy (task_in old) (steps_in old) tail_at (found_in new) (past_of old) (past_of new)
 
--- at its last step the pass found its own code in the tail, or, where the answer is false, another word
+-- at its last step the pass found this number at the place, or, where the answer is false, another one
+abbrev pub FoundThere : Bool → ℕ → ℕ → OsqPass → Type 0
+FoundThere true place n pass = FoundAt place n (past_of pass)
+FoundThere false place n pass = (word : ℕ) × FoundAt place word (past_of pass) × (word ≢ n)
+
+-- so of its own code in the tail
 abbrev pub FoundOwn : Bool → ℕ → OsqPass → Type 0
-FoundOwn true task pass = FoundAt tail_at (suc task) (past_of pass)
-FoundOwn false task pass = (word : ℕ) × FoundAt tail_at word (past_of pass) × (word ≢ suc task)
+FoundOwn so task pass = FoundThere so tail_at (suc task) pass
 
 -- there it found a code in its own `next`, or, where the answer is false, 0
 abbrev pub FoundNext : Bool → ℕ → OsqPass → Type 0
 FoundNext true task pass = (next : ℕ) × FoundAt (next_at task) (suc next) (past_of pass)
 FoundNext false task pass = FoundAt (next_at task) 0 (past_of pass)
+
+-- The last moment of its past says of the pass what the pass does: at one seat stand its hand, its place, its swaps and what the last one found; and its task is at that place.
+pub record StatesOwn (pass : OsqPass) : Type 0 where
+  pub now : Moment
+  pub rest : List Moment
+  pub past_is : past_of pass ≡ now ∷ rest
+  pub seat : ℕ
+  pub hand : get_elem? now.hands seat ≡ some (inner.hand_in pass.pass)
+  pub node : Marks
+  pub node_is : get_elem? now.marks seat ≡ some node
+  pub place : Marked.place_in node.numbers ≡ place_in pass
+  pub swaps : Marked.swaps_in node.numbers ≡ swaps_in pass
+  pub found : Marked.found_in node.numbers ≡ found_in pass
+  pub task : (t : ℕ) → task_in pass ≡ Some t → places_at now t ≡ place_in pass

@@ -30,6 +30,19 @@ IsFrontNode (Relinking p n) locked = ⊥
 IsFrontNode Front locked = Unit {0}
 IsFrontNode (Granting n) locked = Unit {0}
 
+-- the node of a task at this place stands in the queue
+abbrev pub is_queued : Place → Bool
+is_queued Out = false
+is_queued Cleared = false
+is_queued (Swapped p) = true
+is_queued (Linking p) = true
+is_queued Waiting = true
+is_queued (Unlinked p) = true
+is_queued (Splicing p n) = true
+is_queued (Relinking p n) = false
+is_queued Front = true
+is_queued (Granting n) = true
+
 -- the task d, at this place, owes the link from x to y: it stores it, or leaves, before it returns
 abbrev pub Owes : ℕ → Place → ℕ → ℕ → Type 0
 Owes d Out x y = ⊥
@@ -88,3 +101,10 @@ place_by kind p n = if kind == 1 then Cleared else if kind == 2 then Swapped p e
 -- the place that they say
 abbrev pub place_in : List ℕ → Place
 place_in ns = place_by (slice_index ns 0) (slice_index ns 1) (slice_index ns 2)
+
+-- and the counts
+abbrev pub swaps_in : List ℕ → ℕ
+swaps_in ns = slice_index ns 3
+
+abbrev pub found_in : List ℕ → ℕ
+found_in ns = slice_index ns 4

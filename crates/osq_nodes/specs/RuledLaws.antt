@@ -1,32 +1,34 @@
 -- The steps of seats and of the site's own words keep the rule of a spin queue.
-use Rattle.std.proofs.Common.{◌≡◌, ◌≢◌, ℕ, suc, ◌+◌, ◌<◌, ◌≤◌, Bool, false, if◌then◌else◌, List, [], ◌∷◌, ◌++◌, length, map, get_or, set, Option, Some, None, sym, refl, ap, ◌∙◌, subst, inl, inr, arith, length-set, eq-eqb, ne_eqb}
+use Rattle.std.proofs.Common.{MatchBool, ◌≡◌, ◌≢◌, ℕ, zero, suc, ◌+◌, ◌<◌, ◌≤◌, Bool, false, if◌then◌else◌, List, [], ◌∷◌, ◌++◌, length, map, get_or, set, Option, Some, None, sym, refl, ap, ◌∙◌, subst, inl, inr, arith, length-set, eq-eqb, ne_eqb}
 use Rattle.std.proofs.lemmas.List.{take-set-le, get_or-take, get_or_past, length-take}
-use mathlib.Core.Option.{some, some-ne-none}
+use mathlib.Core.Option.{some, some-injective, some-ne-none}
 use mathlib.Core.Logic.{dite}
 use native.Mathlib.Decide.{ℕ_discrete, dec_le}
 use lib.ListN.{get_elem?}
 use Rattle.atomic_table.proofs.Lists.{at_longer, at_map, set_else}
+use Rattle.word_bits.specs.declared.TheConstants.{MAX_TASKS}
 use Rattle.word_bits.specs.Histories.{Plan}
 use Rattle.lock_core.specs.declared.view.Hand.{Hand}
+use Rattle.lock_core.specs.declared.view.Marks.{Marks}
 use Rattle.lock_core.specs.declared.layout.TheConstants.{LOCK_WORDS}
 use Rattle.lock_core.specs.Barely.{never}
 use Rattle.lock_core.specs.Nothings.{nothing}
-use Rattle.lock_core.specs.Layout.{site, width, fresh}
+use Rattle.lock_core.specs.Layout.{SiteWords, site, width, fresh}
 use Rattle.lock_core.specs.declared.view.SpinHand.{SpinHand}
 use Rattle.lock_core.specs.Views.{hand_of, named_of, is_number, SpinStays, seated, ticked, first, split_off, merged, spent}
 use Rattle.lock_core.specs.Sites.{SiteKept}
 use Rattle.lock_core.specs.Moves.{Goes, KeepsHold, SiteMove}
 use Rattle.lock_core.specs.Pasts.{marks_of}
-use Rattle.lock_core.specs.Totals.{total, total-set, total-same, total-snoc}
+use Rattle.lock_core.specs.Totals.{total, total-at, total-set, total-same, total-snoc}
 use Rattle.lock_core.specs.Parts.{Each, each-set, each-snoc, set_part, snoc_part, set-there}
 use Rattle.lock_core.proofs.HandLaws.{is_number-here, is_number-else}
 use Rattle.lock_core.specs.NodeLists.{Has, IsFirst, last_from}
-use Rattle.lock_core.specs.NodeListLaws.{last-none}
+use Rattle.lock_core.specs.NodeListLaws.{first-has, right-has, last-none}
 use Rattle.osq_nodes.specs.declared.node.Place.{Place}
 use Rattle.osq_nodes.specs.declared.node.Place.TheVariants.{Out, Cleared, Swapped, Linking, Waiting, Unlinked, Splicing, Relinking, Front, Granting}
 use Rattle.osq_nodes.specs.declared.node.Node.{Node}
 use Rattle.osq_nodes.specs.Kept.{IsAt, RowKept}
-use Rattle.osq_nodes.specs.Places.{is_swap, is_coming_first, numbers_of, node_marks, place_in}
+use Rattle.osq_nodes.specs.Places.{is_swap, is_coming_first, is_queued, numbers_of, node_marks, place_in, swaps_in, found_in}
 use Rattle.osq_nodes.specs.Walks.{is-queue, are-linked, queue-same}
 use Rattle.osq_nodes.specs.Words.{row_of, tail_in, next_in, prev_in, locked_in, next_at}
 use Rattle.osq_nodes.specs.Stated.{IsQueue, AreLinked, IsSpinQueue, Changes, seat_place, places}
@@ -41,7 +43,7 @@ module _ (size : ℕ) (row : List ℕ) (place : ℕ → Place) (q : List ℕ) (r
 
 -- what the passes say of each task, its moment keeps
 
-place-back : (p : Place) (s f : ℕ) → place_in (numbers_of p s f) ≡ p
+pub place-back : (p : Place) (s f : ℕ) → place_in (numbers_of p s f) ≡ p
 place-back Out s f = refl
 place-back Cleared s f = refl
 place-back (Swapped p) s f = refl
@@ -62,6 +64,23 @@ seat-here t u p others e = ap (λ (b : Bool). if b then p else others) (eq-eqb u
 
 seat-else : (t u : ℕ) (p others : Place) → u ≢ t → seat_place t (Some u) p others ≡ others
 seat-else t u p others n = ap (λ (b : Bool). if b then p else others) (ne_eqb u t n)
+
+pub swaps-back : (p : Place) (s f : ℕ) → (swaps_in (numbers_of p s f) ≡ s) × (found_in (numbers_of p s f) ≡ f)
+swaps-back Out s f = (refl, refl)
+swaps-back Cleared s f = (refl, refl)
+swaps-back (Swapped p) s f = (refl, refl)
+swaps-back (Linking p) s f = (refl, refl)
+swaps-back Waiting s f = (refl, refl)
+swaps-back (Unlinked p) s f = (refl, refl)
+swaps-back (Splicing p n) s f = (refl, refl)
+swaps-back (Relinking p n) s f = (refl, refl)
+swaps-back Front s f = (refl, refl)
+swaps-back (Granting n) s f = (refl, refl)
+
+-- a seat without the task's number says nothing of it
+seat-passes : (t : ℕ) (task : Option ℕ) (p others : Place) → is_number t task ≡ 0 → seat_place t task p others ≡ others
+seat-passes t None p others z = refl
+seat-passes t (Some u) p others z = seat-else t u p others (λ e. let one = is_number-here t in let is = ap (λ (x : ℕ). is_number t (Some x)) e in omega (arith, z, one, is))
 
 place-said-by : (t : ℕ) (P : Place) (x : Node) (others : Place) (task : Option ℕ) → (task ≡ Some t → P ≡ x.place) → (is_number t task ≡ 0 → P ≡ others) → P ≡ seat_place t task (place_in (node_marks x)) others
 place-said-by t P x others None mine rest = rest refl
@@ -242,6 +261,41 @@ osq-joins k ws vs id other v w r at apart at' none there move = let u : V = merg
     }
     move (node-stays (tail_in (row_of ws)) id vs (set us other (spent idle)) v u at (set_else us other id (spent idle) (λ e. apart (sym e)) ∙ set-there vs id v u at) refl refl) (inl refl)
 
+-- a task's place says whether it stands in the queue
+place-stands : (size : ℕ) (q : List ℕ) (b : ℕ → ℕ) (t : ℕ) (p : Place) (w l : ℕ) → IsAt size q b t p w l → MatchBool (is_queued p) (Has q t) (¬ Has q t)
+place-stands size q b t Out w l at = at
+place-stands size q b t Cleared w l at = at.0
+place-stands size q b t (Swapped p) w l at = right-has q p t at.0
+place-stands size q b t (Linking p) w l at = right-has q p t at.0
+place-stands size q b t Waiting w l at = at.0
+place-stands size q b t (Unlinked p) w l at = right-has q p t at.0
+place-stands size q b t (Splicing p n) w l at = right-has q p t at.0.0
+place-stands size q b t (Relinking p n) w l at = at.0
+place-stands size q b t Front w l at = first-has q t at
+place-stands size q b t (Granting n) w l at = first-has q t at.0
+
+-- a number beyond those of the tasks nobody has, and any other one pass at most
+
+none-named : (t : ℕ) (hs : List Hand) → Each (λ (h : Hand). h.task ≡ Some t → ⊥) hs → total (named_of t) hs ≡ 0
+none-named t [] each = refl
+none-named t (h ∷ hs) each = let a = has-number t h.task {P = named_of t h ≡ 0} (λ e. absurd (each 0 h refl e)) (λ z. z) in let b = none-named t hs (λ j g at. each (suc j) g at) in omega (arith, a, b)
+
+named-once : (k : Plan) (w : SiteWords) (hs : List Hand) → SiteKept nothing never 0 k w hs → (t : ℕ) → total (named_of t) hs ≤ 1
+named-once k w hs r t = elim (dec_le (suc t) MAX_TASKS) [
+  | yes l ↦ (r.balances.named t (omega (arith, l))).1
+  | no n ↦ let few = r.laid.small.tasks in let none = none-named t hs (λ j h at e. absurd (let l = ((r.each j h at).mine t e).0 in omega (arith, l, few, n))) in omega (arith, none)
+]
+
+-- the place of a task whose number one pass has is what that pass's seat says
+pub its-place : (t : ℕ) (hs : List Hand) (ms : List Marks) (seat : ℕ) (h : Hand) (m : Marks) → get_elem? hs seat ≡ some h → get_elem? ms seat ≡ some m → h.task ≡ Some t → total (named_of t) hs ≤ 1 → places hs ms t ≡ place_in m.numbers
+its-place t [] ms seat h m at is mine few = absurd (some-ne-none h (sym at))
+its-place t (g ∷ hs) [] seat h m at is mine few = absurd (some-ne-none m (sym is))
+its-place t (g ∷ hs) (n ∷ ms) zero h m at is mine few = let others = places hs ms t in
+    ap (λ (task : Option ℕ). seat_place t task (place_in n.numbers) others) (ap (λ (x : Hand). x.task) (some-injective g h at) ∙ mine) ∙ (seat-here t t (place_in n.numbers) others refl ∙ ap (λ (x : Marks). place_in x.numbers) (some-injective n m is))
+its-place t (g ∷ hs) (n ∷ ms) (suc seat) h m at is mine few = let rest = its-place t hs ms seat h m at is mine (omega (arith, few)) in
+    let here = total-at (named_of t) hs seat h at in let one = number-one t h.task mine in
+    let other : is_number t g.task ≡ 0 = omega (arith, here, one, few) in seat-passes t g.task (place_in n.numbers) (places hs ms t) other ∙ rest
+
 -- what is stated of a spin queue, its rule implies
 pub osq-states : (k : Plan) (ws : List ℕ) (vs : List V) → OsqKept k ws vs → IsSpinQueue (length k) (table_at ws vs)
 osq-states k ws vs r = let row : List ℕ = row_of ws in let said = places-said r.place vs r.seated in
@@ -253,5 +307,6 @@ osq-states k ws vs r = let row : List ℕ = row_of ws in let said = places-said 
       inside = r.kept.inside;
       linked = subst (λ (place : ℕ → Place). AreLinked (next_in row) place r.queue) said (row-linked (length k) row r.place r.queue r.kept);
       front = subst (λ (place : ℕ → Place). (t : ℕ) → place t ≡ Front → IsFirst r.queue t) said (λ t e. subst (λ (p : Place). IsAt (length k) r.queue r.kept.debtor t p (prev_in row t) (locked_in row t)) e (r.kept.each t));
-      out = subst (λ (place : ℕ → Place). (t : ℕ) → place t ≡ Out → ¬ Has r.queue t) said (λ t e. subst (λ (p : Place). IsAt (length k) r.queue r.kept.debtor t p (prev_in row t) (locked_in row t)) e (r.kept.each t));
+      stands = subst (λ (place : ℕ → Place). (t : ℕ) → MatchBool (is_queued (place t)) (Has r.queue t) (¬ Has r.queue t)) said (λ t. place-stands (length k) r.queue r.kept.debtor t (r.place t) (prev_in row t) (locked_in row t) (r.kept.each t));
+      named = named-once k (site k ws) (map hand_of vs) r.site_holds;
     }

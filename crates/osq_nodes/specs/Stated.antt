@@ -1,13 +1,15 @@
 -- What the words and the views of a spin queue's table state, at each moment and of each step.
-use Rattle.std.specs.Prelude.{◌≡◌, ℕ, suc, ◌==◌, ◌⊎◌, ◌<◌, List, [], ◌∷◌, ◌++◌, reverse, slice_set, if◌then◌else◌, Option, None, Some}
+use Rattle.std.specs.Prelude.{◌≡◌, ℕ, suc, ◌==◌, ◌⊎◌, ◌<◌, ◌≤◌, MatchBool, List, [], ◌∷◌, ◌++◌, reverse, slice_set, if◌then◌else◌, Option, None, Some}
 use Rattle.lock_core.specs.declared.view.Hand.{Hand}
 use Rattle.lock_core.specs.declared.view.Marks.{Marks}
 use Rattle.lock_core.specs.declared.view.Moment.{Moment}
+use Rattle.lock_core.specs.Totals.{total}
+use Rattle.lock_core.specs.Views.{named_of}
 use Rattle.lock_core.specs.NodeLists.{Has, IsFirst, Precedes, IsOnce, without}
 use Rattle.osq_nodes.specs.declared.node.Place.{Place}
 use Rattle.osq_nodes.specs.declared.node.Place.TheVariants.{Out, Cleared, Splicing, Front, Granting}
 use Rattle.osq_nodes.specs.Words.{code_in, row_of, tail_at, prev_at, locked_at, tail_in, next_in, prev_in, locked_in}
-use Rattle.osq_nodes.specs.Places.{back_of, IsFrontNode, Owes, waits_at, place_in}
+use Rattle.osq_nodes.specs.Places.{back_of, IsFrontNode, is_queued, Owes, waits_at, place_in}
 
 module _ (prev locked : ℕ → ℕ) (place : ℕ → Place) where
   -- the walk from a code, each time to the node that the last one stands behind, up to the first front node
@@ -57,9 +59,11 @@ pub record IsSpinQueue (tasks : ℕ) (m : Moment) : Type 0 where
   pub empty : (queue ≡ [] → tail_in (row_at m) ≡ 0) × (tail_in (row_at m) ≡ 0 → queue ≡ [])
   pub inside : (t : ℕ) → Has queue t → t < tasks
   pub linked : AreLinked (next_in (row_at m)) (places_at m) queue
-  -- whoever was told that it is the front stands first, and whoever is out doesn't stand in the queue
+  -- whoever was told that it is the front stands first, and a task stands in the queue exactly where its place says so
   pub front : (t : ℕ) → places_at m t ≡ Front → IsFirst queue t
-  pub out : (t : ℕ) → places_at m t ≡ Out → ¬ Has queue t
+  pub stands : (t : ℕ) → MatchBool (is_queued (places_at m t)) (Has queue t) (¬ Has queue t)
+  -- no two passes have one task's number
+  pub named : (t : ℕ) → total (named_of t) m.hands ≤ 1
 
 -- The three steps by which a task leaves: the exchange of the tail from its code to that of its predecessor, or to 0; its store of the predecessor's code in the `prev` of its successor; the front's store of 1 in the `locked` of its successor.
 

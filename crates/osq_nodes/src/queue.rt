@@ -3,6 +3,7 @@ ghost use Rattle.std.specs.Prelude.{◌≡◌, ◌+◌, ◌<◌, ◌≤◌, ◌�
 ghost use Rattle.word_bits.specs.declared.TheConstants.{MAX_TASKS};
 ghost use Rattle.lock_core.specs.Handles.{plan_of};
 ghost use Rattle.lock_core.specs.Pasts.{EachMoment, Ran, Tail};
+ghost use Rattle.lock_core.specs.Views.{merged};
 ghost use Rattle.osq_nodes.specs.declared.node.Place.TheVariants.{Out, Waiting, Front};
 ghost use Rattle.osq_nodes.specs.Places.{node_marks, waits_at, takes_at};
 ghost use Rattle.osq_nodes.specs.Ruled.{IsOsqMove, newest, no_calls};
@@ -23,7 +24,7 @@ pub struct Osq {
 }
 
 impl Osq {
-    ghost use Rattle.osq_nodes.specs.Handles.{tasks_of, task_in, place_in, fronts_in, swaps_in, found_in, steps_in, past_of, SawOther, SawTail, SitsAt, KeepsNode, KeepsNumber, KeepsPast, IsLatest};
+    ghost use Rattle.osq_nodes.specs.Handles.{tasks_of, view_of, task_in, place_in, fronts_in, swaps_in, found_in, steps_in, past_of, SawOther, SawTail, SitsAt, KeepsNode, KeepsNumber, KeepsPast, IsLatest, StatesOwn};
 
     /// An empty queue for so many tasks. The pass has no task number.
     pub fn open(alloc: Global, tasks: u32) -> Result<(Osq, OsqPass), AllocError>
@@ -98,6 +99,7 @@ impl Osq {
         requires numberless { task_in other ≡ None }
         ensures own { SitsAt self.now into.new }
         ensures goes_on { KeepsPast into.old into.new }
+        ensures kept { view_of into.new ≡ merged (view_of into.old) (view_of other) }
         ensures same { task_in into.new ≡ task_in into.old }
         ensures node { KeepsNode into.old into.new }
         ensures step { steps_in into.new ≡ steps_in into.old + 1 }
@@ -253,6 +255,7 @@ impl Osq {
         ensures begins { Tail (newest (tasks_of self.now) ∷ []) (past_of pass.new) }
         ensures always { EachMoment (IsSpinQueue (tasks_of self.now)) (past_of pass.new) }
         ensures queues { (queue : List ℕ) × HasBecome (past_of pass.new) queue }
+        ensures mine { StatesOwn pass.new }
         ensures counts { Ran node_marks (newest (tasks_of self.now)) (IsOsqMove (tasks_of self.now))
             (past_of pass.new) }
     {

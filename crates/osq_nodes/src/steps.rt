@@ -4,10 +4,10 @@ ghost use Rattle.word_bits.specs.declared.TheConstants.{MAX_TASKS};
 ghost use Rattle.lock_core.specs.Pasts.{FoundAt};
 ghost use Rattle.lock_core.specs.Views.{ticked};
 ghost use Rattle.osq_nodes.specs.declared.node.Place.TheVariants.{Out, Cleared, Swapped, Linking, Waiting, Granting};
-ghost use Rattle.osq_nodes.specs.Handles.{tasks_of, view_of, task_in, place_in, past_of, FoundNext, FoundOwn, SitsAt, KeepsNumber, KeepsPast, IsLatest};
+ghost use Rattle.osq_nodes.specs.Handles.{tasks_of, view_of, task_in, place_in, past_of, FoundNext, FoundOwn, FoundThere, SitsAt, KeepsNumber, KeepsPast, IsLatest};
 ghost use Rattle.osq_nodes.specs.Places.{waits_at, takes_at};
 ghost use Rattle.osq_nodes.specs.Steps.{placed, fronted, swapped, IsCodeOrNone};
-ghost use Rattle.osq_nodes.specs.Words.{tail_at};
+ghost use Rattle.osq_nodes.specs.Words.{tail_at, locked_at};
 
 use crate::layout::{TAIL, code, code_of, locked_of, next_of, prev_of};
 use crate::pass::OsqPass;
@@ -109,6 +109,7 @@ pub fn is_granted(osq: &Osq, pass: &mut OsqPass, task: u32) -> bool
     ensures kept { MatchBool result
         (view_of pass.new ≡ fronted (view_of pass.old))
         (view_of pass.new ≡ ticked (view_of pass.old)) }
+    ensures found { FoundThere result (locked_at task) 1 pass.new }
 {
     step::<Brand>(osq, pass, locked_of(task), Op::Load) == 1
 }

@@ -1,10 +1,12 @@
 //! The steps by which a task leaves the queue before its turn, each one atomic operation.
-ghost use Rattle.std.specs.Prelude.{◌≡◌, ◌<◌, Some, MatchBool};
+ghost use Rattle.std.specs.Prelude.{◌≡◌, ◌+◌, ◌<◌, Some, MatchBool};
 ghost use Rattle.word_bits.specs.declared.TheConstants.{MAX_TASKS};
+ghost use Rattle.lock_core.specs.Pasts.{FoundAt};
 ghost use Rattle.lock_core.specs.Views.{ticked};
 ghost use Rattle.osq_nodes.specs.declared.node.Place.TheVariants.{Out, Waiting, Unlinked, Splicing, Relinking};
-ghost use Rattle.osq_nodes.specs.Handles.{view_of, task_in, place_in, SitsAt, KeepsNumber, KeepsPast, IsLatest};
+ghost use Rattle.osq_nodes.specs.Handles.{view_of, task_in, place_in, past_of, FoundThere, SitsAt, KeepsNumber, KeepsPast, IsLatest};
 ghost use Rattle.osq_nodes.specs.Steps.{placed};
+ghost use Rattle.osq_nodes.specs.Words.{next_at, prev_at};
 
 use lock_core::Op;
 use osq_nodes::layout::{code, next_of, prev_of};
@@ -25,6 +27,7 @@ pub fn take_back(osq: &Osq, pass: &mut OsqPass, task: u32, prev: u32) -> bool
     ensures kept { MatchBool result
         (view_of pass.new ≡ placed (view_of pass.old) (Unlinked prev))
         (view_of pass.new ≡ ticked (view_of pass.old)) }
+    ensures found { FoundThere result (next_at prev) (task + 1) pass.new }
 {
     // An exchange: the predecessor may be taking the code too, and one of the two has it then.
     let own = code(task);
@@ -42,6 +45,7 @@ pub fn reread(osq: &Osq, pass: &mut OsqPass, task: u32) -> u32
     ensures last { IsLatest pass.new }
     ensures kept { view_of pass.new ≡ ticked (view_of pass.old) }
     ensures there { result < MAX_TASKS }
+    ensures found { FoundAt (prev_at task) (result + 1) (past_of pass.new) }
 {
     (step::<Brand>(osq, pass, prev_of(task), Op::Load) - 1) as u32
 }

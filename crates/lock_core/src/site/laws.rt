@@ -3,7 +3,7 @@ ghost use Rattle.std.specs.Prelude.{◌≡◌, ℕ, [], ◌∷◌};
 ghost use Rattle.lock_core.specs.Layout.{site};
 ghost use Rattle.lock_core.specs.Views.{ticked};
 ghost use Rattle.lock_core.specs.Stated.{IsSiteThen, IsSiteMove};
-ghost use Rattle.lock_core.specs.Pasts.{EachMoment, IsOwnStep, Moves, Ran, Tail, opening};
+ghost use Rattle.lock_core.specs.Pasts.{EachMoment, IsMarked, IsOwnStep, Moves, Ran, Tail, opening};
 ghost use Rattle.lock_core.specs.Handles.{plan_of, view_of, past_of, SitsAt, KeepsPast, IsLatest};
 
 use super::Site;
@@ -20,6 +20,7 @@ impl<R: SiteRule> Site<R> {
         ensures goes_on { KeepsPast pass.old pass.new }
         ensures kept { view_of pass.new ≡ ticked (view_of pass.old) }
         ensures last { IsLatest pass.new }
+        ensures marked { IsMarked R.marks (view_of pass.new) (past_of pass.new) }
         ensures run { Ran R.marks (opening R.marks (plan_of self.now) R.idle)
             (Moves (R.holds (plan_of self.now)) (R.moves (plan_of self.now))) (past_of pass.new) }
     {

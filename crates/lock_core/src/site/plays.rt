@@ -5,7 +5,7 @@ ghost use Rattle.lock_core.specs.Chronicles.{Chronicles};
 ghost use Rattle.lock_core.specs.declared.view.Hand.{Hand};
 ghost use Rattle.lock_core.specs.Views.{stranger, ticked, split_off, merged, spent};
 ghost use Rattle.lock_core.specs.Plays.{Found, PutBy, Begun};
-ghost use Rattle.lock_core.specs.Pasts.{unseen, FoundAt, IsOwnStep, Moves, Ran, GoesOn, opening};
+ghost use Rattle.lock_core.specs.Pasts.{unseen, FoundAt, IsMarked, IsOwnStep, Moves, Ran, GoesOn, opening};
 ghost use Rattle.word_bits.specs.Histories.{Plan as Calls};
 
 use crate::rule::SiteRule;
@@ -134,7 +134,7 @@ pub(super) struct Recall<R> {
 }
 
 impl<R: SiteRule> Play<(), Seen<R::Ext>> for Recall<R> {
-    ghost then = { λ st m n m'. (m'.0.view ≡ ticked m.0.view) × (m'.1 ≡ m.1) × GoesOn m.0.past m'.0.past × IsOwnStep m'.0.view m'.0.past × ((k : Calls) → m.0.view.hand.plan ≡ Some k → Ran R.marks (opening R.marks k R.idle) (Moves (R.holds k) (R.moves k)) m'.0.past) };
+    ghost then = { λ st m n m'. (m'.0.view ≡ ticked m.0.view) × (m'.1 ≡ m.1) × GoesOn m.0.past m'.0.past × IsOwnStep m'.0.view m'.0.past × IsMarked R.marks m'.0.view m'.0.past × ((k : Calls) → m.0.view.hand.plan ≡ Some k → Ran R.marks (opening R.marks k R.idle) (Moves (R.holds k) (R.moves k)) m'.0.past) };
 }
 
 pub(super) struct Cut<R> {

@@ -3,7 +3,7 @@ use Rattle.lock_core.specs.declared.op.Op.TheVariants.{Load}
 use Rattle.osq_nodes.specs.declared.node.Place.TheVariants.{Waiting}
 use Rattle.osq_nodes.specs.Words.{locked_at}
 use Rattle.osq_nodes.specs.Steps.{look_place}
-use Rattle.osq_nodes.proofs.Owning.{its-task, moves-by}
+use Rattle.osq_nodes.proofs.Owning.{found-there, its-task, moves-by}
 use Rattle.osq_nodes.proofs.Locals
 use Rattle.osq_nodes.proofs.steps.is_granted.Goals as goal
 
@@ -16,3 +16,6 @@ step-requires-clause-inside c = let l = its-task c.args.osq.now.site.table.share
 pub step-requires-clause-keeps : goal.step-requires-clause-keeps
 step-requires-clause-keeps c = moves-by (length c.args.osq.now.site.table.shared.key) c.args.task c.args.pass.now.pass.face.task Waiting c.args.pass.now.pass.seat.me.0.view.ext.place (locked_at c.args.task) c.locked_of.result Load Load look_place look_place (λ _. Unit {0})
     c.requires.mine c.requires.here c.locked_of.ensures refl refl (Locals.looks-granted (length c.args.osq.now.site.table.shared.key) c.args.task)
+
+pub returns-clause-found : goal.returns-clause-found
+returns-clause-found c = found-there c.locked_of.result (locked_at c.args.task) c.step.result 1 1 c.step.new.pass c.locked_of.ensures refl c.step.ensures.found

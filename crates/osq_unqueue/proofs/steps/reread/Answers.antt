@@ -1,7 +1,9 @@
-use Rattle.std.proofs.Common.{length, refl, sym, arith}
+use Rattle.std.proofs.Common.{◌≡◌, ◌+◌, ◌-◌, ℕ, length, refl, sym, subst, arith}
 use Rattle.lock_core.specs.declared.op.Op.TheVariants.{Load}
 use Rattle.osq_nodes.specs.declared.node.Place.TheVariants.{Waiting}
+use Rattle.lock_core.specs.Pasts.{FoundAt}
 use Rattle.osq_nodes.specs.Kept.{IsCode}
+use Rattle.osq_nodes.specs.Handles.{past_of}
 use Rattle.osq_nodes.specs.Words.{prev_at}
 use Rattle.osq_nodes.proofs.Owning.{its-task, moves-by}
 use Rattle.osq_unqueue.proofs.Unqueueing.{rereads}
@@ -25,3 +27,7 @@ overflow_cast-result c = let few = c.args.osq.now.site.small.tasks in let e = c.
 
 pub returns-clause-there : goal.returns-clause-there
 returns-clause-there c = let few = c.args.osq.now.site.small.tasks in let e = c.step.ensures.told.1 in let s = c.step.ensures.told.2 in omega (arith, e, s, few)
+
+pub returns-clause-found : goal.returns-clause-found
+returns-clause-found c = let n = c.step.result in let past = past_of c.step.new.pass in let code : n ≡ (n - 1) + 1 = (let e = c.step.ensures.told.1 in omega (arith, e)) in
+    subst (λ (m : ℕ). FoundAt (prev_at c.args.task) m past) code (subst (λ (i : ℕ). FoundAt i n past) c.prev_of.ensures c.step.ensures.found)

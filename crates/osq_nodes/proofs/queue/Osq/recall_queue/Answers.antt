@@ -1,11 +1,11 @@
-use Rattle.std.proofs.Common.{subst, length}
+use Rattle.std.proofs.Common.{subst, length, sym, ◌∙◌}
 use Rattle.word_bits.specs.Histories.{Plan}
-use Rattle.lock_core.specs.Pasts.{Moves, Ran, opening}
+use Rattle.lock_core.specs.Pasts.{EachMoment, Moves, Ran, opening}
 use Rattle.lock_core.specs.RunLaws.{ran-each, ran-so}
 use Rattle.osq_nodes.specs.Places.{node_marks}
 use Rattle.osq_nodes.specs.Stated.{IsSpinQueue}
 use Rattle.osq_nodes.specs.Ruled.{OsqKept, OsqMoves, IsOsqMove, idle, newest, no_calls}
-use Rattle.osq_nodes.specs.RuledLaws.{osq-states}
+use Rattle.osq_nodes.specs.RuledLaws.{osq-states, place-back, swaps-back, its-place}
 use Rattle.osq_nodes.proofs.Chaining.{becomes}
 use Rattle.osq_nodes.proofs.queue.Osq.recall_queue.Goals as goal
 
@@ -20,3 +20,19 @@ returns-clause-queues c = let k = c.args.self.now.site.table.shared.key in let p
 pub returns-clause-counts : goal.returns-clause-counts
 returns-clause-counts c = let k = c.args.self.now.site.table.shared.key in let n = length k in let past = c.recall.new.pass.seat.me.0.past in
     ran-so node_marks (newest n) (Moves (OsqKept (no_calls n)) (OsqMoves (no_calls n))) (IsOsqMove n) (λ x y m. (m.0, m.3)) past (subst (λ (z : Plan). Ran node_marks (opening node_marks z idle) (Moves (OsqKept z) (OsqMoves z)) past) c.args.self.now.plain c.recall.ensures.run)
+
+pub returns-clause-mine : goal.returns-clause-mine
+returns-clause-mine c = let n = length c.args.self.now.site.table.shared.key in let v = c.recall.new.pass.seat.me.0.view in let x = v.ext in let is = c.recall.ensures.marked in let counts = swaps-back x.place x.swaps x.found in
+    let so : IsSpinQueue n is.now = (subst (EachMoment (IsSpinQueue n)) is.past_is (returns-clause-always c)).0 in record {
+      now = is.now;
+      rest = is.rest;
+      past_is = is.past_is;
+      seat = is.seat;
+      hand = is.hand;
+      node = record { numbers = node_marks x };
+      node_is = is.kept;
+      place = place-back x.place x.swaps x.found;
+      swaps = counts.0;
+      found = counts.1;
+      task = λ t e. its-place t is.now.hands is.now.marks is.seat v.hand (record { numbers = node_marks x }) is.hand is.kept (sym c.recall.ensures.own.task ∙ e) (so.named t) ∙ place-back x.place x.swaps x.found;
+    }
