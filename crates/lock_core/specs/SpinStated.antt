@@ -14,7 +14,7 @@ use Rattle.lock_core.specs.Totals.{total}
 use Rattle.lock_core.specs.SpinFrames.{when, code_is, stands, uses, stands_as, owns_at, holds_of, takes_of, ready_of, pends_of, undoes_of}
 use Rattle.lock_core.specs.SpinQueues.{tail_unit}
 use Rattle.lock_core.specs.Views.{SpinPart, spin_part}
-use Rattle.lock_core.specs.Spins.{byte_in, pending_in, tail_in, next_in, locked_in, frame_of, TakesFrom, SetsTo, SpinLeaves, SpinStep}
+use Rattle.lock_core.specs.Spins.{byte_in, pending_in, tail_in, next_in, locked_in, frame_of, TakesFrom, ComesTo, SpinLeaves, SpinStep}
 use Rattle.lock_core.specs.Pasts.{Instant}
 
 -- it owns the pending bit
@@ -90,9 +90,11 @@ pub record IsSpinStep (id : ℕ) (w : List ℕ) (ps : List SpinPart) (w' : List 
   -- the locked byte is set by an exchange from 0, by the owner of the pending bit while the byte is 0 or by a ready front, and cleared by the holder
   pub takes : byte_in (slice_index w 0) ≡ 0 → byte_in (slice_index w' 0) ≡ 1 → (p : SpinPart) × (get_elem? ps id ≡ some p) × TakesFrom p.spin.frame.point (slice_index w 0)
   pub frees : byte_in (slice_index w 0) ≡ 1 → byte_in (slice_index w' 0) ≡ 0 → (p : SpinPart) × (get_elem? ps id ≡ some p) × (holds_of (frame_of p) ≡ 1)
-  -- the pending bit is set by a pass that then owns it, as a taker if it saw neither tail nor bit, or to undo it if it saw a tail; and cleared by its owner
-  pub sets : pending_in (slice_index w 0) ≡ 0 → pending_in (slice_index w' 0) ≡ 1 → (p : SpinPart) × (get_elem? ps' id ≡ some p) × (owns_of (frame_of p) ≡ 1) × SetsTo p.spin.frame.point (slice_index w 0)
+  -- the pending bit is set by a pass that then owns it, and cleared by its owner
+  pub sets : pending_in (slice_index w 0) ≡ 0 → pending_in (slice_index w' 0) ≡ 1 → (p : SpinPart) × (get_elem? ps' id ≡ some p) × (owns_of (frame_of p) ≡ 1)
   pub clears : pending_in (slice_index w 0) ≡ 1 → pending_in (slice_index w' 0) ≡ 0 → (p : SpinPart) × (get_elem? ps id ≡ some p) × (owns_of (frame_of p) ≡ 1)
+  -- each pass comes to own the bit as a taker if it saw neither tail nor bit, or to undo it if it saw a tail, and from the one to the other by no step; and to be a ready front if it saw the byte and the bit 0
+  pub comes : (j : ℕ) (p p' : SpinPart) → get_elem? ps j ≡ some p → get_elem? ps' j ≡ some p' → ComesTo p.spin.frame.point p'.spin.frame.point (slice_index w 0)
 
 -- one of the table's moments came of the other by such a step
 abbrev pub IsSpinMove : {E : Type 0} → ℕ → Instant E → Instant E → Type 0

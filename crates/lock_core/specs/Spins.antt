@@ -7,10 +7,10 @@ use Rattle.lock_core.specs.declared.view.SpinHand.{SpinHand}
 use Rattle.lock_core.specs.declared.view.Frame.{Frame}
 use Rattle.lock_core.specs.declared.view.Saw.{Saw}
 use Rattle.lock_core.specs.declared.view.Point.{Point}
-use Rattle.lock_core.specs.declared.view.Point.TheVariants.{Out, Undoing, Pending, Taking, Cleared, Ready, Passing, Holding}
+use Rattle.lock_core.specs.declared.view.Point.TheVariants.{Out, Undoing, Pending, Taking, Cleared, Front, Ready, Passing, Holding}
 use Rattle.lock_core.specs.declared.layout.TheConstants.{SPIN_WORDS}
 use Rattle.lock_core.specs.Views.{SpinPart, SpinRests, SpinStays, no_spin}
-use Rattle.lock_core.specs.SpinFrames.{uses, stands, holds_of, owns_at}
+use Rattle.lock_core.specs.SpinFrames.{uses, stands, holds_of}
 use Rattle.lock_core.specs.SpinQueues.{LockKept, tail_unit}
 use Rattle.lock_core.specs.Parts.{Each}
 
@@ -70,12 +70,19 @@ TakesFrom Passing word = Unit {0}
 TakesFrom Holding word = Unit {0}
 TakesFrom _ word = ⊥
 
--- what a pass may become by setting the pending bit, by the word: a taker where it saw neither tail nor pending, or one that is to undo where it saw a tail
-abbrev pub SetsTo : Point → ℕ → Type 0
-SetsTo Pending word = (pending_in word ≡ 0) × (tail_in word ≡ 0)
-SetsTo Undoing word = (pending_in word ≡ 0) × (tail_in word ≢ 0)
-SetsTo Taking word = ⊥
-SetsTo _ word = Unit {0}
+-- what a pass may come to, by the word: to own the pending bit as a taker where it saw neither tail nor bit, or to undo it where it saw a tail and no bit; as the taker, to go on to take the lock where it saw the byte 0; and as the front, to be ready where it saw the byte and the bit 0
+abbrev pub ComesTo : Point → Point → ℕ → Type 0
+ComesTo Pending Pending word = Unit {0}
+ComesTo _ Pending word = (pending_in word ≡ 0) × (tail_in word ≡ 0)
+ComesTo Undoing Undoing word = Unit {0}
+ComesTo _ Undoing word = (pending_in word ≡ 0) × (tail_in word ≢ 0)
+ComesTo Taking Taking word = Unit {0}
+ComesTo Pending Taking word = byte_in word ≡ 0
+ComesTo _ Taking word = ⊥
+ComesTo Ready Ready word = Unit {0}
+ComesTo Front Ready word = (byte_in word ≡ 0) × (pending_in word ≡ 0)
+ComesTo _ Ready word = ⊥
+ComesTo _ _ word = Unit {0}
 
 -- a step of the pass of this number, while this is the word
 pub record SpinStep (word id : ℕ) (ps : List SpinPart) (queue : List ℕ) (ps' : List SpinPart) (queue' : List ℕ) : Type 0 where
@@ -84,7 +91,7 @@ pub record SpinStep (word id : ℕ) (ps : List SpinPart) (queue : List ℕ) (ps'
   pub at : get_elem? ps id ≡ some before
   pub others : slice_set ps id after ≡ ps'
   pub takes : holds_of (frame_of after) ≡ 1 → TakesFrom before.spin.frame.point word
-  pub sets : owns_at before.spin.frame.point ≡ 0 → SetsTo after.spin.frame.point word
+  pub comes : ComesTo before.spin.frame.point after.spin.frame.point word
   pub queues : QueueMoves (stands before.spin.frame.point) (stands after.spin.frame.point) before.spin.frame.code (tail_in word) before.spin.frame.found after.spin.frame.found queue queue'
   -- what it now has as seen, it saw before, or is the word
   pub saw : (x : Saw) → after.spin.saw ≡ Some x → (before.spin.saw ≡ Some x) ⊎ (x.word ≡ word)
@@ -120,8 +127,8 @@ pub record SpinGoes (step : ℕ) (s g : SpinHand) : Type 0 where
   pub entries : g.entries ≡ s.entries + (holds_in g - holds_in s)
   pub takes : holds_in s ≡ 0 → holds_in g ≡ 1 → (g.took ≡ step) × (g.from ≡ s.frame.point)
   pub keeps : holds_in g ≤ holds_in s → (g.took ≡ s.took) × (g.from ≡ s.from)
-  -- what it now has as seen, it saw before, or at this step
-  pub saw : (x : Saw) → g.saw ≡ Some x → (s.saw ≡ Some x) ⊎ (x.step ≡ step)
+  -- what it now has as seen, it saw before, or at this step, while it was at no point of the lock: so a tail or a bit that it saw isn't its own
+  pub saw : (x : Saw) → g.saw ≡ Some x → (s.saw ≡ Some x) ⊎ ((x.step ≡ step) × SpinRests s)
 
 module _ {E : Type 0} where
   -- a step on the spin words

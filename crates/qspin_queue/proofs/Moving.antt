@@ -1,17 +1,22 @@
 -- What the lock's own facts tell of each step.
-use Rattle.std.proofs.Common.{◌≡◌, ℕ, ◌+◌, ◌/◌, ◌%◌, List, map, get_or, set, sym, ap, ◌∙◌, ⊎_elim, arith}
-use mathlib.Core.Option.{some}
+use Rattle.std.proofs.Common.{◌≡◌, ℕ, ◌+◌, ◌/◌, ◌%◌, List, map, get_or, set, sym, ap, ◌∙◌, subst, ⊎_elim, arith}
+use mathlib.Core.Option.{some, some-injective}
+use mathlib.Core.Logic.{dite}
+use native.Mathlib.Decide.{ℕ_discrete}
 use lib.ListN.{get_elem?}
 use lib.Seq.{map-set}
-use Rattle.atomic_table.proofs.Lists.{at_map}
+use Rattle.atomic_table.proofs.Lists.{at_map, set_else}
 use Rattle.lock_core.specs.declared.view.Frame.{Frame}
+use Rattle.lock_core.specs.declared.view.Point.{Point}
+use Rattle.lock_core.specs.declared.view.SpinHand.{SpinHand}
 use Rattle.lock_core.specs.Parts.{set-there}
 use Rattle.lock_core.specs.Totals.{total, total-set, total-at}
 use Rattle.lock_core.specs.Views.{SpinPart}
 use Rattle.lock_core.specs.SpinFrames.{holds_of, takes_of, pends_of, undoes_of}
 use Rattle.lock_core.specs.SpinLaws.{recount}
-use Rattle.lock_core.specs.Spins.{SpinMoves, SpinLeaves, SpinStep, TakesFrom, SetsTo, frame_of, next_in, locked_in}
+use Rattle.lock_core.specs.Spins.{SpinMoves, SpinLeaves, SpinStep, TakesFrom, ComesTo, StaysAt, frame_of, next_in, locked_in}
 use Rattle.lock_core.specs.SpinStated.{owns_of, IsSpinStep}
+use Rattle.qspin_word.proofs.SpinSteps.{stays-at}
 use Rattle.qspin_queue.proofs.Stating.{states}
 
 module _ (id : ℕ) (w w' : List ℕ) (ps ps' : List SpinPart) (g : SpinMoves id w ps w' ps') where
@@ -49,12 +54,26 @@ module _ (id : ℕ) (w w' : List ℕ) (ps ps' : List SpinPart) (g : SpinMoves id
       let u = ap (total undoes_of) (frames m) in let v = ap (total pends_of) (frames m) in let x = ap (total takes_of) (frames m) in
       let lu = total-at undoes_of fs id (frame_of m.before) (mine m) in let lp = total-at pends_of fs id (frame_of m.before) (mine m) in let lt = total-at takes_of fs id (frame_of m.before) (mine m) in (m.before, m.at, omega arith))
 
-  who-sets : (word / 256) % 2 ≡ 0 → (word' / 256) % 2 ≡ 1 → (p : SpinPart) × (get_elem? ps' id ≡ some p) × (owns_of (frame_of p) ≡ 1) × SetsTo p.spin.frame.point word
-  who-sets unset is_set = mover ((p : SpinPart) × (get_elem? ps' id ≡ some p) × (owns_of (frame_of p) ≡ 1) × SetsTo p.spin.frame.point word) (λ e. absurd (omega (arith, e, unset, is_set)))
+  who-sets : (word / 256) % 2 ≡ 0 → (word' / 256) % 2 ≡ 1 → (p : SpinPart) × (get_elem? ps' id ≡ some p) × (owns_of (frame_of p) ≡ 1)
+  who-sets unset is_set = mover ((p : SpinPart) × (get_elem? ps' id ≡ some p) × (owns_of (frame_of p) ≡ 1)) (λ e. absurd (omega (arith, e, unset, is_set)))
       (λ m. let fs : List Frame = map frame_of ps in let r = recount fs id (frame_of m.before) (frame_of m.after) (mine m) in let b = g.old.lock.balanced in let b' = g.new.lock.balanced in
       let u = ap (total undoes_of) (frames m) in let v = ap (total pends_of) (frames m) in let x = ap (total takes_of) (frames m) in
       let lu = total-at undoes_of fs id (frame_of m.before) (mine m) in let lp = total-at pends_of fs id (frame_of m.before) (mine m) in let lt = total-at takes_of fs id (frame_of m.before) (mine m) in
-      (m.after, ap (λ (z : List SpinPart). get_elem? z id) (sym m.others) ∙ set-there ps id m.before m.after m.at, omega arith, m.sets (omega arith)))
+      (m.after, ap (λ (z : List SpinPart). get_elem? z id) (sym m.others) ∙ set-there ps id m.before m.after m.at, omega arith))
+
+  -- a pass that makes no step at the lock is at the point where it was
+  stays : (p p' : SpinPart) → StaysAt p p' → ComesTo p.spin.frame.point p'.spin.frame.point word
+  stays p p' s = ⊎_elim
+      (λ t. let e : p'.spin.frame.point ≡ p.spin.frame.point = ⊎_elim (λ e. ap (λ (z : SpinHand). z.frame.point) e) (λ e. ap (λ (z : SpinHand). z.frame.point) e) t in subst (λ (z : Point). ComesTo p.spin.frame.point z word) (sym e) (stays-at p.spin.frame.point word))
+      (λ t. let e : p'.spin.frame.point ≡ p.spin.frame.point = ap (λ (z : SpinHand). z.frame.point) t.1 ∙ sym t.0 in subst (λ (z : Point). ComesTo p.spin.frame.point z word) (sym e) (stays-at p.spin.frame.point word)) s
+
+  who-comes : (j : ℕ) (p p' : SpinPart) → get_elem? ps j ≡ some p → get_elem? ps' j ≡ some p' → ComesTo p.spin.frame.point p'.spin.frame.point word
+  who-comes j p p' at at' = ⊎_elim
+      (λ (l : SpinLeaves w ps g.queue w' ps' g.queue'). let r = l.passes j p at in subst (λ (z : SpinPart). ComesTo p.spin.frame.point z.spin.frame.point word) (some-injective r.0 p' (sym r.1 ∙ at')) (stays p r.0 r.2))
+      (λ (m : SpinStep word id ps g.queue ps' g.queue'). let there : get_elem? (set ps id m.after) j ≡ some p' = ap (λ (z : List SpinPart). get_elem? z j) m.others ∙ at' in dite (ℕ_discrete j id)
+      (λ same. let e : m.before ≡ p = some-injective m.before p (sym m.at ∙ (ap (get_elem? ps) (sym same) ∙ at)) in let e' : m.after ≡ p' = some-injective m.after p' (sym (set-there ps id m.before m.after m.at) ∙ (ap (get_elem? (set ps id m.after)) (sym same) ∙ there)) in
+      subst (λ (z : SpinPart). ComesTo p.spin.frame.point z.spin.frame.point word) e' (subst (λ (z : SpinPart). ComesTo z.spin.frame.point m.after.spin.frame.point word) e m.comes))
+      (λ apart. let e : p ≡ p' = some-injective p p' (sym at ∙ (sym (set_else ps id j m.after apart) ∙ there)) in subst (λ (z : SpinPart). ComesTo p.spin.frame.point z.spin.frame.point word) e (stays-at p.spin.frame.point word))) g.step
 
   pub moved : IsSpinStep id w ps w' ps'
   moved = record {
@@ -67,4 +86,5 @@ module _ (id : ℕ) (w w' : List ℕ) (ps ps' : List SpinPart) (g : SpinMoves id
     frees = who-frees;
     sets = who-sets;
     clears = who-clears;
+    comes = who-comes;
   }

@@ -11,9 +11,9 @@ use Rattle.lock_core.specs.declared.view.Saw.{Saw}
 use Rattle.lock_core.specs.declared.view.Point.{Point}
 use Rattle.lock_core.specs.Parts.{each-set, set_part}
 use Rattle.lock_core.specs.Views.{SpinPart}
-use Rattle.lock_core.specs.SpinFrames.{stands, holds_of, owns_at}
+use Rattle.lock_core.specs.SpinFrames.{stands, holds_of}
 use Rattle.lock_core.specs.SpinQueues.{LockKept, Put}
-use Rattle.lock_core.specs.Spins.{SpinFacts, SpinMoves, OwnNode, tail_in, QueueMoves, TakesFrom, SetsTo, frame_of, next_in, locked_in, next_at, locked_at}
+use Rattle.lock_core.specs.Spins.{SpinFacts, SpinMoves, OwnNode, tail_in, QueueMoves, TakesFrom, ComesTo, frame_of, next_in, locked_in, next_at, locked_at}
 
 pub put-next : (w : List ℕ) (c n : ℕ) → length w ≡ SPIN_WORDS → c ≤ MAX_TASKS → Put (next_in w) (next_in (set w (next_at c) n)) c n
 put-next w c n wide small = record { here = get_or-set_same w (next_at c) n 0 (omega arith); other = λ d far. get_or-set_other w (next_at c) (next_at d) n 0 (λ e. far (omega arith)) }
@@ -28,7 +28,7 @@ queue-stays false code tail found q = refl
 
 -- a step of the pass id from the point `before`, after which it has the spin hand s and the queue is q'
 module _ (w q q' : List ℕ) (ps : List SpinPart) (id : ℕ) (p : SpinPart) (s : SpinHand) (k : SpinFacts w q ps) (sees : (x : Saw) → s.saw ≡ Some x → (p.spin.saw ≡ Some x) ⊎ (x.word ≡ get_or w 0 0)) (at : get_elem? ps id ≡ some p) (own : OwnNode (record p { spin = s })) (before : Point) (is : p.spin.frame.point ≡ before)
-    (moves : QueueMoves (stands before) (stands s.frame.point) p.spin.frame.code (tail_in (get_or w 0 0)) p.spin.frame.found s.frame.found q q') (takes : holds_of s.frame ≡ 1 → TakesFrom before (get_or w 0 0)) (sets : owns_at before ≡ 0 → SetsTo s.frame.point (get_or w 0 0)) where
+    (moves : QueueMoves (stands before) (stands s.frame.point) p.spin.frame.code (tail_in (get_or w 0 0)) p.spin.frame.found s.frame.found q q') (takes : holds_of s.frame ≡ 1 → TakesFrom before (get_or w 0 0)) (comes : ComesTo before s.frame.point (get_or w 0 0)) where
   abbrev fs' : List Frame
   fs' = set (map frame_of ps) id s.frame
 
@@ -51,7 +51,7 @@ module _ (w q q' : List ℕ) (ps : List SpinPart) (id : ℕ) (p : SpinPart) (s :
       at = at;
       others = refl;
       takes = λ holds. subst (λ (z : Point). TakesFrom z (get_or w 0 0)) (sym is) (takes holds);
-      sets = λ none. sets (ap owns_at (sym is) ∙ none);
+      comes = subst (λ (z : Point). ComesTo z s.frame.point (get_or w 0 0)) (sym is) comes;
       saw = sees;
       queues = subst (λ (z : Point). QueueMoves (stands z) (stands s.frame.point) p.spin.frame.code (tail_in (get_or w 0 0)) p.spin.frame.found s.frame.found q q') (sym is) moves;
     };

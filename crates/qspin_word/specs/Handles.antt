@@ -1,12 +1,13 @@
 -- What a clause reads of a pass at a spin lock.
-use Rattle.std.specs.Prelude.{◌≡◌, ℕ, ◌<◌}
+use Rattle.std.specs.Prelude.{◌≡◌, ℕ, ◌+◌, ◌<◌}
 use Rattle.lock_core.specs.declared.op.Op.{Op}
 use Rattle.lock_core.specs.declared.view.SpinHand.{SpinHand}
 use Rattle.lock_core.specs.declared.view.Point.{Point}
 use Rattle.lock_core.specs.declared.pass.Pass.{Pass}
 use Rattle.lock_core.specs.declared.site.Site.{Site}
 use Rattle.lock_core.specs.Spins.{spun}
-use Rattle.lock_core.specs.Handles.{view_of, SitsAt, SaysSame, KeepsPast, IsLatest}
+use Rattle.lock_core.specs.Pasts.{FoundAtStep}
+use Rattle.lock_core.specs.Handles.{view_of, hand_in, past_of, SitsAt, SaysSame, KeepsPast, IsLatest}
 use Rattle.qspin_word.specs.Allows.{SpinAllows}
 
 module _ {R O E C : Type 0} where
@@ -17,6 +18,10 @@ module _ {R O E C : Type 0} where
   -- how far it is with the lock
   abbrev pub point_in : Pass R O E C → Point
   point_in pass = (view_of pass).spin.frame.point
+
+  -- the first of the steps that it made since found the word at this place 0
+  abbrev pub FirstFoundFree : ℕ → Pass R O E C → Pass R O E C → Type 0
+  FirstFoundFree at old new = FoundAtStep (hand_in old).task ((view_of old).steps + 1) at 0 (past_of old) (past_of new)
 
   -- whatever the spin words are, the pass may do the operation on the one at this place
   abbrev pub MaySpin : Pass R O E C → ℕ → Op → (ℕ → SpinHand) → (ℕ → Type 0) → Type 0

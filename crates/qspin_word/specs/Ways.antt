@@ -24,7 +24,7 @@ module _ {E : Type 0} where
     pub counted : u.spin.entries ≡ v.spin.entries + 1
     pub took : (v.steps < u.spin.took) × (u.spin.took ≤ u.steps)
 
-  -- a step since saw a tail, or a pending bit that isn't the pass's own
+  -- a step since, made at no point of the lock, saw a tail or a pending bit: so neither is the pass's own
   pub record SawRival (v u : View E) : Type 0 where
     pub saw : Saw
     pub is : u.spin.saw ≡ Some saw

@@ -2,7 +2,6 @@
 ghost use Rattle.std.specs.Prelude.{◌≡◌, ℕ, ◌%◌};
 ghost use Rattle.lock_core.specs.declared.view.Point.TheVariants.{Undoing, Pending, Taking};
 ghost use Rattle.lock_core.specs.Views.{SpinRests, SpinHolds};
-ghost use Rattle.lock_core.specs.Spins.{holds_in};
 ghost use Rattle.lock_core.specs.Pasts.{FoundAt};
 ghost use Rattle.lock_core.specs.Handles.{view_of, past_of, SitsAt};
 ghost use Rattle.qspin_word.specs.Hands.{went, tried, looked, freed, pended, undone, awaited, turned};
@@ -24,10 +23,10 @@ pub fn exchange_free<H: SpinHost>(site: &Site<H>, pass: &mut Pass<H>) -> u64
     word_step::<H, Brand>(site, pass, Op::Exchange(0, LOCKED))
 }
 
-/// A load of the word by a pass that doesn't hold the lock. A word that isn't 0 is kept as seen.
+/// A load of the word by a pass that is at no point of the lock. A word that isn't 0 is kept as seen.
 pub fn look<H: SpinHost>(site: &Site<H>, pass: &mut Pass<H>) -> u64
     requires own { SitsAt site.now pass.old }
-    requires out { holds_in (spin_in pass.old) ≡ 0 }
+    requires out { SpinRests (spin_in pass.old) }
     ensures steps { SpinSteps site.now pass.old pass.new (looked result (view_of pass.old)) }
     ensures found { FoundAt H.FIRST result (past_of pass.new) }
 {

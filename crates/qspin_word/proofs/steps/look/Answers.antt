@@ -1,9 +1,11 @@
+use Rattle.std.proofs.Common.{ap}
+use Rattle.lock_core.specs.SpinFrames.{holds_at}
 use Rattle.qspin_word.specs.Hands.{looked}
 use Rattle.qspin_word.proofs.SpinSteps.{ends-none, looks}
 use Rattle.qspin_word.proofs.steps.look.Goals as goal
 
 pub word_step-requires-clause-may : goal.word_step-requires-clause-may
-word_step-requires-clause-may g c = λ n ends. ends-none c.args.pass.now.seat.me.0.view.spin (looked n c.args.pass.now.seat.me.0.view) (g.H.SpinHost.may_free c.args.pass.now.seat.me.0.view) c.requires.out ends
+word_step-requires-clause-may g c = λ n ends. ends-none c.args.pass.now.seat.me.0.view.spin (looked n c.args.pass.now.seat.me.0.view) (g.H.SpinHost.may_free c.args.pass.now.seat.me.0.view) (ap holds_at c.requires.out) ends
 
 pub word_step-requires-clause-lock : goal.word_step-requires-clause-lock
-word_step-requires-clause-lock g c = looks c.args.pass.now.seat.me.0.view c.args.pass.now.seat.id
+word_step-requires-clause-lock g c = looks c.args.pass.now.seat.me.0.view c.args.pass.now.seat.id c.requires.out
