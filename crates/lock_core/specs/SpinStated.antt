@@ -14,7 +14,7 @@ use Rattle.lock_core.specs.Totals.{total}
 use Rattle.lock_core.specs.SpinFrames.{when, code_is, stands, uses, stands_as, owns_at, holds_of, takes_of, ready_of, pends_of, undoes_of}
 use Rattle.lock_core.specs.SpinQueues.{tail_unit}
 use Rattle.lock_core.specs.Views.{SpinPart, spin_part}
-use Rattle.lock_core.specs.Spins.{byte_in, pending_in, tail_in, next_in, locked_in, frame_of, TakesFrom, ComesTo, SpinLeaves, SpinStep}
+use Rattle.lock_core.specs.Spins.{byte_in, pending_in, tail_in, next_in, locked_in, frame_of, TakesFrom, ComesTo, LeavesBy, SpinLeaves, SpinStep}
 use Rattle.lock_core.specs.Pasts.{Instant}
 
 -- it owns the pending bit
@@ -86,7 +86,7 @@ pub record IsSpinStep (id : ℕ) (w : List ℕ) (ps : List SpinPart) (w' : List 
   pub before : SpinWordsSay w queue (map frame_of ps)
   pub after : SpinWordsSay w' queue' (map frame_of ps')
   -- it leaves the spin words and the queue, and where each pass is with the lock; or it is one of a pass at the lock, which leaves all others where they are
-  pub step : SpinLeaves w ps queue w' ps' queue' ⊎ SpinStep (slice_index w 0) id ps queue ps' queue'
+  pub step : SpinLeaves w ps queue w' ps' queue' ⊎ SpinStep id w ps queue w' ps' queue'
   -- the locked byte is set by an exchange from 0, by the owner of the pending bit while the byte is 0 or by a ready front, and cleared by the holder
   pub takes : byte_in (slice_index w 0) ≡ 0 → byte_in (slice_index w' 0) ≡ 1 → (p : SpinPart) × (get_elem? ps id ≡ some p) × TakesFrom p.spin.frame.point (slice_index w 0)
   pub frees : byte_in (slice_index w 0) ≡ 1 → byte_in (slice_index w' 0) ≡ 0 → (p : SpinPart) × (get_elem? ps id ≡ some p) × (holds_of (frame_of p) ≡ 1)
@@ -95,6 +95,8 @@ pub record IsSpinStep (id : ℕ) (w : List ℕ) (ps : List SpinPart) (w' : List 
   pub clears : pending_in (slice_index w 0) ≡ 1 → pending_in (slice_index w' 0) ≡ 0 → (p : SpinPart) × (get_elem? ps id ≡ some p) × (owns_of (frame_of p) ≡ 1)
   -- each pass comes to own the bit as a taker if it saw neither tail nor bit, or to undo it if it saw a tail, and from the one to the other by no step; and to be a ready front if it saw the byte and the bit 0
   pub comes : (j : ℕ) (p p' : SpinPart) → get_elem? ps j ≡ some p → get_elem? ps' j ≡ some p' → ComesTo p.spin.frame.point p'.spin.frame.point (slice_index w 0)
+  -- and its node leaves the queue by the exchange of the word for 1, or by the store that tells the node behind it that it is the front
+  pub leaves : (j : ℕ) (p p' : SpinPart) → get_elem? ps j ≡ some p → get_elem? ps' j ≡ some p' → LeavesBy (stands p.spin.frame.point) (stands p'.spin.frame.point) w queue' w'
 
 -- one of the table's moments came of the other by such a step
 abbrev pub IsSpinMove : {E : Type 0} → ℕ → Instant E → Instant E → Type 0

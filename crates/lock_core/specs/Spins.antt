@@ -84,17 +84,24 @@ ComesTo Front Ready word = (byte_in word ≡ 0) × (pending_in word ≡ 0)
 ComesTo _ Ready word = ⊥
 ComesTo _ _ word = Unit {0}
 
--- a step of the pass of this number, while this is the word
-pub record SpinStep (word id : ℕ) (ps : List SpinPart) (queue : List ℕ) (ps' : List SpinPart) (queue' : List ℕ) : Type 0 where
+-- how a node leaves the queue: by the exchange of the word for 1, or by the store that tells the node behind it that it is the front
+abbrev pub LeavesBy : Bool → Bool → (w queue' w' : List ℕ) → Type 0
+LeavesBy true false w queue' w' = (slice_index w' 0 ≡ 1) ⊎ ((next : ℕ) × (get_elem? queue' 0 ≡ some next) × (locked_in w next ≢ 1) × (locked_in w' next ≡ 1))
+LeavesBy true true w queue' w' = Unit {0}
+LeavesBy false _ w queue' w' = Unit {0}
+
+-- a step of the pass of this number, from these words to those
+pub record SpinStep (id : ℕ) (w : List ℕ) (ps : List SpinPart) (queue w' : List ℕ) (ps' : List SpinPart) (queue' : List ℕ) : Type 0 where
   pub before : SpinPart
   pub after : SpinPart
   pub at : get_elem? ps id ≡ some before
   pub others : slice_set ps id after ≡ ps'
-  pub takes : holds_of (frame_of after) ≡ 1 → TakesFrom before.spin.frame.point word
-  pub comes : ComesTo before.spin.frame.point after.spin.frame.point word
-  pub queues : QueueMoves (stands before.spin.frame.point) (stands after.spin.frame.point) before.spin.frame.code (tail_in word) before.spin.frame.found after.spin.frame.found queue queue'
+  pub takes : holds_of (frame_of after) ≡ 1 → TakesFrom before.spin.frame.point (slice_index w 0)
+  pub comes : ComesTo before.spin.frame.point after.spin.frame.point (slice_index w 0)
+  pub queues : QueueMoves (stands before.spin.frame.point) (stands after.spin.frame.point) before.spin.frame.code (tail_in (slice_index w 0)) before.spin.frame.found after.spin.frame.found queue queue'
+  pub leaves : LeavesBy (stands before.spin.frame.point) (stands after.spin.frame.point) w queue' w'
   -- what it now has as seen, it saw before, or is the word
-  pub saw : (x : Saw) → after.spin.saw ≡ Some x → (before.spin.saw ≡ Some x) ⊎ (x.word ≡ word)
+  pub saw : (x : Saw) → after.spin.saw ≡ Some x → (before.spin.saw ≡ Some x) ⊎ (x.word ≡ slice_index w 0)
 
 -- what a step elsewhere leaves of a pass: what it knows of the lock, unless it is at no point of it and is spent
 abbrev pub StaysAt : SpinPart → SpinPart → Type 0
@@ -112,7 +119,7 @@ pub record SpinMoves (id : ℕ) (w : List ℕ) (ps : List SpinPart) (w' : List �
   pub queue' : List ℕ
   pub old : SpinFacts w queue ps
   pub new : SpinFacts w' queue' ps'
-  pub step : SpinLeaves w ps queue w' ps' queue' ⊎ SpinStep (slice_index w 0) id ps queue ps' queue'
+  pub step : SpinLeaves w ps queue w' ps' queue' ⊎ SpinStep id w ps queue w' ps' queue'
 
 abbrev pub holds_in : SpinHand → ℕ
 holds_in s = holds_of s.frame

@@ -12,11 +12,12 @@ use Rattle.lock_core.specs.declared.view.SpinHand.{SpinHand}
 use Rattle.lock_core.specs.Parts.{set-there}
 use Rattle.lock_core.specs.Totals.{total, total-set, total-at}
 use Rattle.lock_core.specs.Views.{SpinPart}
-use Rattle.lock_core.specs.SpinFrames.{holds_of, takes_of, pends_of, undoes_of}
+use Rattle.lock_core.specs.SpinFrames.{stands, holds_of, takes_of, pends_of, undoes_of}
 use Rattle.lock_core.specs.SpinLaws.{recount}
-use Rattle.lock_core.specs.Spins.{SpinMoves, SpinLeaves, SpinStep, TakesFrom, ComesTo, StaysAt, frame_of, next_in, locked_in}
+use Rattle.lock_core.specs.Spins.{SpinMoves, SpinLeaves, SpinStep, TakesFrom, ComesTo, LeavesBy, StaysAt, frame_of, next_in, locked_in}
 use Rattle.lock_core.specs.SpinStated.{owns_of, IsSpinStep}
 use Rattle.qspin_word.proofs.SpinSteps.{stays-at}
+use Rattle.qspin_word.proofs.Regions.{stays-in}
 use Rattle.qspin_queue.proofs.Stating.{states}
 
 module _ (id : ℕ) (w w' : List ℕ) (ps ps' : List SpinPart) (g : SpinMoves id w ps w' ps') where
@@ -27,10 +28,10 @@ module _ (id : ℕ) (w w' : List ℕ) (ps ps' : List SpinPart) (g : SpinMoves id
   word' = get_or w' 0 0
 
   -- a step that changes the word is one of a pass at the lock
-  mover : (P : Type 0) → (word' ≡ word → P) → (SpinStep word id ps g.queue ps' g.queue' → P) → P
+  mover : (P : Type 0) → (word' ≡ word → P) → (SpinStep id w ps g.queue w' ps' g.queue' → P) → P
   mover P same step = ⊎_elim (λ (l : SpinLeaves w ps g.queue w' ps' g.queue'). same (ap (λ (z : List ℕ). get_or z 0 0) l.words)) step g.step
 
-  module _ (m : SpinStep word id ps g.queue ps' g.queue') where
+  module _ (m : SpinStep id w ps g.queue w' ps' g.queue') where
     frames : map frame_of ps' ≡ set (map frame_of ps) id (frame_of m.after)
     frames = ap (map frame_of) (sym m.others) ∙ map-set frame_of ps id m.after
 
@@ -62,18 +63,23 @@ module _ (id : ℕ) (w w' : List ℕ) (ps ps' : List SpinPart) (g : SpinMoves id
       (m.after, ap (λ (z : List SpinPart). get_elem? z id) (sym m.others) ∙ set-there ps id m.before m.after m.at, omega arith))
 
   -- a pass that makes no step at the lock is at the point where it was
-  stays : (p p' : SpinPart) → StaysAt p p' → ComesTo p.spin.frame.point p'.spin.frame.point word
+  stays : (p p' : SpinPart) → StaysAt p p' → p.spin.frame.point ≡ p'.spin.frame.point
   stays p p' s = ⊎_elim
-      (λ t. let e : p'.spin.frame.point ≡ p.spin.frame.point = ⊎_elim (λ e. ap (λ (z : SpinHand). z.frame.point) e) (λ e. ap (λ (z : SpinHand). z.frame.point) e) t in subst (λ (z : Point). ComesTo p.spin.frame.point z word) (sym e) (stays-at p.spin.frame.point word))
-      (λ t. let e : p'.spin.frame.point ≡ p.spin.frame.point = ap (λ (z : SpinHand). z.frame.point) t.1 ∙ sym t.0 in subst (λ (z : Point). ComesTo p.spin.frame.point z word) (sym e) (stays-at p.spin.frame.point word)) s
+      (λ t. ⊎_elim (λ e. sym (ap (λ (z : SpinHand). z.frame.point) e)) (λ e. sym (ap (λ (z : SpinHand). z.frame.point) e)) t)
+      (λ t. t.0 ∙ sym (ap (λ (z : SpinHand). z.frame.point) t.1)) s
 
-  who-comes : (j : ℕ) (p p' : SpinPart) → get_elem? ps j ≡ some p → get_elem? ps' j ≡ some p' → ComesTo p.spin.frame.point p'.spin.frame.point word
-  who-comes j p p' at at' = ⊎_elim
-      (λ (l : SpinLeaves w ps g.queue w' ps' g.queue'). let r = l.passes j p at in subst (λ (z : SpinPart). ComesTo p.spin.frame.point z.spin.frame.point word) (some-injective r.0 p' (sym r.1 ∙ at')) (stays p r.0 r.2))
-      (λ (m : SpinStep word id ps g.queue ps' g.queue'). let there : get_elem? (set ps id m.after) j ≡ some p' = ap (λ (z : List SpinPart). get_elem? z j) m.others ∙ at' in dite (ℕ_discrete j id)
-      (λ same. let e : m.before ≡ p = some-injective m.before p (sym m.at ∙ (ap (get_elem? ps) (sym same) ∙ at)) in let e' : m.after ≡ p' = some-injective m.after p' (sym (set-there ps id m.before m.after m.at) ∙ (ap (get_elem? (set ps id m.after)) (sym same) ∙ there)) in
-      subst (λ (z : SpinPart). ComesTo p.spin.frame.point z.spin.frame.point word) e' (subst (λ (z : SpinPart). ComesTo z.spin.frame.point m.after.spin.frame.point word) e m.comes))
-      (λ apart. let e : p ≡ p' = some-injective p p' (sym at ∙ (sym (set_else ps id j m.after apart) ∙ there)) in subst (λ (z : SpinPart). ComesTo p.spin.frame.point z.spin.frame.point word) e (stays-at p.spin.frame.point word))) g.step
+  -- what is so of staying and of the step itself is so of each pass
+  module _ (P : Point → Point → Type 0) (still : (r : Point) → P r r) (goes : (m : SpinStep id w ps g.queue w' ps' g.queue') → P m.before.spin.frame.point m.after.spin.frame.point) where
+    same : (a b : Point) → a ≡ b → P a b
+    same a b e = subst (P a) e (still a)
+
+    each : (j : ℕ) (p p' : SpinPart) → get_elem? ps j ≡ some p → get_elem? ps' j ≡ some p' → P p.spin.frame.point p'.spin.frame.point
+    each j p p' at at' = ⊎_elim
+        (λ (l : SpinLeaves w ps g.queue w' ps' g.queue'). let r = l.passes j p at in same p.spin.frame.point p'.spin.frame.point (stays p r.0 r.2 ∙ ap (λ (z : SpinPart). z.spin.frame.point) (some-injective r.0 p' (sym r.1 ∙ at'))))
+        (λ (m : SpinStep id w ps g.queue w' ps' g.queue'). let there : get_elem? (set ps id m.after) j ≡ some p' = ap (λ (z : List SpinPart). get_elem? z j) m.others ∙ at' in dite (ℕ_discrete j id)
+        (λ here. let e : m.before ≡ p = some-injective m.before p (sym m.at ∙ (ap (get_elem? ps) (sym here) ∙ at)) in let e' : m.after ≡ p' = some-injective m.after p' (sym (set-there ps id m.before m.after m.at) ∙ (ap (get_elem? (set ps id m.after)) (sym here) ∙ there)) in
+        subst (λ (z : SpinPart). P p.spin.frame.point z.spin.frame.point) e' (subst (λ (z : SpinPart). P z.spin.frame.point m.after.spin.frame.point) e (goes m)))
+        (λ apart. same p.spin.frame.point p'.spin.frame.point (ap (λ (z : SpinPart). z.spin.frame.point) (some-injective p p' (sym at ∙ (sym (set_else ps id j m.after apart) ∙ there)))))) g.step
 
   pub moved : IsSpinStep id w ps w' ps'
   moved = record {
@@ -86,5 +92,6 @@ module _ (id : ℕ) (w w' : List ℕ) (ps ps' : List SpinPart) (g : SpinMoves id
     frees = who-frees;
     sets = who-sets;
     clears = who-clears;
-    comes = who-comes;
+    comes = each (λ a b. ComesTo a b word) (λ r. stays-at r word) (λ m. m.comes);
+    leaves = each (λ a b. LeavesBy (stands a) (stands b) w g.queue' w') (λ r. stays-in (stands r) w g.queue' w') (λ m. m.leaves);
   }

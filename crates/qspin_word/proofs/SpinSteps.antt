@@ -18,12 +18,12 @@ use Rattle.lock_core.specs.Totals.{total, total-at}
 use Rattle.lock_core.specs.Views.{SpinPart, SpinRests, spin_part, part_with}
 use Rattle.lock_core.specs.SpinFrames.{stands, holds_at, takes_of, undoes_of, holds_of}
 use Rattle.lock_core.specs.SpinQueues.{LockKept}
-use Rattle.lock_core.specs.Spins.{SpinFacts, SpinGoes, SpinMoves, tail_in, QueueMoves, TakesFrom, ComesTo, frame_of, next_in, locked_in, holds_in}
+use Rattle.lock_core.specs.Spins.{SpinFacts, SpinGoes, SpinMoves, tail_in, QueueMoves, TakesFrom, ComesTo, LeavesBy, frame_of, next_in, locked_in, holds_in}
 use Rattle.qspin_word.specs.Allows.{SpinAllows}
 use Rattle.qspin_word.specs.Hands.{at_point, went, took_at, saw_word, tried, looked, freed, pended, undone, awaited, turned}
 use Rattle.qspin_word.proofs.Bits.{or_pending, or_pending_again, and_pending}
 use Rattle.qspin_word.proofs.WordSteps as step
-use Rattle.qspin_word.proofs.Regions.{goes-word, goes-look, queue-stays}
+use Rattle.qspin_word.proofs.Regions.{goes-word, goes-look, queue-stays, stays-in}
 
 pub by_test : (b : Bool) (P : Bool → Type 0) → (b ≡ true → P true) → (b ≡ false → P false) → P b
 by_test true P yes_case no_case = yes_case refl
@@ -101,7 +101,7 @@ module _ {E : Type 0} (v : View E) (id : ℕ) where
     -- a load that leaves the frame
     looks-on : (i : ℕ) (saw : Option Saw) → ((x : Saw) → saw ≡ Some x → (v.spin.saw ≡ Some x) ⊎ (x.word ≡ word)) → ((x : Saw) → saw ≡ Some x → (v.spin.saw ≡ Some x) ⊎ ((x.step ≡ v.steps + 1) × SpinRests v.spin)) → After (set w i (get_or w i 0)) (record v.spin { saw = saw })
     looks-on i saw seen then_step = (
-      goes-look w q q ps id (spin_part v) (record v.spin { saw = saw }) k seen at (k.own id (spin_part v) at) f.point refl (queue-stays (stands f.point) f.code (tail_in word) f.found q) (held-takes f.point word) (stays-at f.point word) i
+      goes-look w q q ps id (spin_part v) (record v.spin { saw = saw }) k seen at (k.own id (spin_part v) at) f.point refl (queue-stays (stands f.point) f.code (tail_in word) f.found q) (held-takes f.point word) (stays-at f.point word) i (stays-in (stands f.point) w q (set w i (get_or w i 0)))
           (subst (λ (z : List Frame). LockKept word (next_in w) (locked_in w) q z) (sym (set_again fs id f (at_map frame_of ps id (spin_part v) at))) k.lock),
       counts-idle (v.steps + 1) v.spin f saw (omega arith) then_step,
     )
@@ -117,7 +117,7 @@ module _ {E : Type 0} (v : View E) (id : ℕ) where
     pub takes-free : (s : SpinHand) (p : Point) → f.point ≡ p → stands p ≡ false → holds_at p ≡ 0 → (word ≡ 0 → TakesFrom p word) → s ≡ took_at v.spin (v.steps + 1) Holding → (LockKept 0 (next_in w) (locked_in w) q fs → LockKept 1 (next_in w) (locked_in w) q (set fs id (at_point f Holding))) → word ≡ 0 → After (set w 0 1) s
     takes-free s p e out free from is takes zero_word = subst (After (set w 0 1)) (sym is) (
       goes-word w q q ps id (spin_part v) (took_at v.spin (v.steps + 1) Holding) k (λ x e. inl e) at (λ used. absurd cc) p e
-          (subst (λ (b : Bool). QueueMoves b false f.code (tail_in word) f.found f.found q q) (sym out) refl) (λ _. from zero_word) (to-holding p word) 1
+          (subst (λ (b : Bool). QueueMoves b false f.code (tail_in word) f.found f.found q q) (sym out) refl) (λ _. from zero_word) (to-holding p word) 1 (subst (λ (b : Bool). LeavesBy b false w q (set w 0 1)) (sym out) tt)
           (takes (subst (λ (z : ℕ). LockKept z (next_in w) (locked_in w) q fs) zero_word k.lock)),
       counts-took v.spin (v.steps + 1) Holding (ap holds_at e ∙ free) refl,
     )
@@ -139,7 +139,7 @@ module _ {E : Type 0} (v : View E) (id : ℕ) where
   pub frees : f.point ≡ Holding → SpinAllows id v 0 (Sub 1) (λ n. freed v) (λ n. Unit {0})
   frees e w q ps k named at small = let n : ℕ = get_or w 0 0 in let old = here w q ps k at Holding e in let b = k.lock.balanced in let h : 1 ≤ total holds_of (map frame_of ps) = total-at holds_of (map frame_of ps) id (at_point f Holding) old in (
     subst (λ (m : ℕ). SpinMoves id w ps (set w 0 m) (set ps id (part_with v (went v.spin Out)))) (let m : n - 1 ≡ (n + 18446744073709551615) % 18446744073709551616 = omega arith in m)
-        (goes-word w q q ps id (spin_part v) (went v.spin Out) k (λ x e. inl e) at (λ used. absurd cc) Holding e refl (λ no. absurd (omega arith)) tt (n - 1) (step.frees (next_in w) (locked_in w) q (map frame_of ps) id f n k.lock old)),
+        (goes-word w q q ps id (spin_part v) (went v.spin Out) k (λ x e. inl e) at (λ used. absurd cc) Holding e refl (λ no. absurd (omega arith)) tt (n - 1) tt (step.frees (next_in w) (locked_in w) q (map frame_of ps) id f n k.lock old)),
     counts-idle (v.steps + 1) v.spin (at_point f Out) v.spin.saw (omega arith) (λ x e. inl e),
     tt,
   )
@@ -149,12 +149,12 @@ module _ {E : Type 0} (v : View E) (id : ℕ) where
   pends e w q ps k named at small = let n : ℕ = get_or w 0 0 in let old = here w q ps k at Out e in
       let t : After w q ps k at (set w 0 (bit_or n 256)) (pended n v) = by_test (ltb n 256) (λ b. After w q ps k at (set w 0 (bit_or n 256)) (if b then went v.spin Pending else if (n / 256) % 2 == 0 then saw_word (went v.spin Undoing) n (v.steps + 1) else saw_word v.spin n (v.steps + 1)))
       (λ low. let l = ltb-true n 256 low in subst (λ (m : ℕ). After w q ps k at (set w 0 m) (went v.spin Pending)) (sym (or_pending n (omega arith))) (
-        goes-word w q q ps id (spin_part v) (went v.spin Pending) k (λ x e. inl e) at (λ used. absurd cc) Out e refl (λ no. absurd (omega arith)) (omega arith, omega arith) (n + 256) (step.pends (next_in w) (locked_in w) q (map frame_of ps) id f n l k.lock old),
+        goes-word w q q ps id (spin_part v) (went v.spin Pending) k (λ x e. inl e) at (λ used. absurd cc) Out e refl (λ no. absurd (omega arith)) (omega arith, omega arith) (n + 256) tt (step.pends (next_in w) (locked_in w) q (map frame_of ps) id f n l k.lock old),
         counts-idle (v.steps + 1) v.spin (at_point f Pending) v.spin.saw (omega arith) (λ x e. inl e),
       ))
       (λ high. let h = ltb-false n 256 high in by_test (eqb ((n / 256) % 2) 0) (λ b. After w q ps k at (set w 0 (bit_or n 256)) (if b then saw_word (went v.spin Undoing) n (v.steps + 1) else saw_word v.spin n (v.steps + 1)))
       (λ unset. let u = eqb-true ((n / 256) % 2) 0 unset in subst (λ (m : ℕ). After w q ps k at (set w 0 m) (saw_word (went v.spin Undoing) n (v.steps + 1))) (sym (or_pending n u)) (
-        goes-word w q q ps id (spin_part v) (saw_word (went v.spin Undoing) n (v.steps + 1)) k (seen-word n (v.steps + 1) v.spin.saw) at (λ used. absurd cc) Out e refl (λ no. absurd (omega arith)) (u, λ none. tail-there w q ps k h u none) (n + 256) (step.undoes (next_in w) (locked_in w) q (map frame_of ps) id f n h u k.lock old),
+        goes-word w q q ps id (spin_part v) (saw_word (went v.spin Undoing) n (v.steps + 1)) k (seen-word n (v.steps + 1) v.spin.saw) at (λ used. absurd cc) Out e refl (λ no. absurd (omega arith)) (u, λ none. tail-there w q ps k h u none) (n + 256) tt (step.undoes (next_in w) (locked_in w) q (map frame_of ps) id f n h u k.lock old),
         counts-idle (v.steps + 1) v.spin (at_point f Undoing) (Some (record { word = n; step = v.steps + 1 })) (omega arith) (λ x. seen-at n (v.steps + 1) v.spin x e),
       ))
       (λ pending. let u = eqb-false ((n / 256) % 2) 0 pending in subst (λ (m : ℕ). After w q ps k at (set w 0 m) (saw_word v.spin n (v.steps + 1))) (sym (or_pending_again n (omega arith))) (looks-seen w q ps k at e))) in
@@ -167,7 +167,7 @@ module _ {E : Type 0} (v : View E) (id : ℕ) where
   pub undoes : f.point ≡ Undoing → SpinAllows id v 0 (And 18446744073709551359) (λ n. undone v) (λ n. Unit {0})
   undoes e w q ps k named at small = let n : ℕ = get_or w 0 0 in let old = here w q ps k at Undoing e in let b = k.lock.balanced in let h : 1 ≤ total undoes_of (map frame_of ps) = total-at undoes_of (map frame_of ps) id (at_point f Undoing) old in (
     subst (λ (m : ℕ). SpinMoves id w ps (set w 0 m) (set ps id (part_with v (went v.spin Out)))) (sym (and_pending n small (omega arith)))
-        (goes-word w q q ps id (spin_part v) (went v.spin Out) k (λ x e. inl e) at (λ used. absurd cc) Undoing e refl (λ no. absurd (omega arith)) tt (n - 256) (step.clears (next_in w) (locked_in w) q (map frame_of ps) id f n k.lock old)),
+        (goes-word w q q ps id (spin_part v) (went v.spin Out) k (λ x e. inl e) at (λ used. absurd cc) Undoing e refl (λ no. absurd (omega arith)) tt (n - 256) tt (step.clears (next_in w) (locked_in w) q (map frame_of ps) id f n k.lock old)),
     counts-idle (v.steps + 1) v.spin (at_point f Out) v.spin.saw (omega arith) (λ x e. inl e),
     tt,
   )
@@ -176,7 +176,7 @@ module _ {E : Type 0} (v : View E) (id : ℕ) where
   pub awaits : f.point ≡ Pending → SpinAllows id v 0 Load (λ n. awaited n v) (λ n. Unit {0})
   awaits e w q ps k named at small = let n : ℕ = get_or w 0 0 in let t : After w q ps k at (set w 0 n) (awaited n v) = by_test (eqb (n % 256) 0) (λ b. After w q ps k at (set w 0 n) (if b then went v.spin Taking else v.spin))
       (λ free. (
-        goes-look w q q ps id (spin_part v) (went v.spin Taking) k (λ x e. inl e) at (λ used. absurd cc) Pending e refl (λ no. absurd (omega arith)) (eqb-true (n % 256) 0 free) 0 (step.turns (next_in w) (locked_in w) q (map frame_of ps) id f n (eqb-true (n % 256) 0 free) k.lock (here w q ps k at Pending e)),
+        goes-look w q q ps id (spin_part v) (went v.spin Taking) k (λ x e. inl e) at (λ used. absurd cc) Pending e refl (λ no. absurd (omega arith)) (eqb-true (n % 256) 0 free) 0 tt (step.turns (next_in w) (locked_in w) q (map frame_of ps) id f n (eqb-true (n % 256) 0 free) k.lock (here w q ps k at Pending e)),
         counts-idle (v.steps + 1) v.spin (at_point f Taking) v.spin.saw (omega arith) (λ x e. inl e),
       ))
       (λ held. looks-still w q ps k at 0) in (t.0, t.1, tt)
@@ -185,7 +185,7 @@ module _ {E : Type 0} (v : View E) (id : ℕ) where
   pub turns : f.point ≡ Taking → SpinAllows id v 0 (Add 18446744073709551361) (λ n. turned v) (λ n. Unit {0})
   turns e w q ps k named at small = let n : ℕ = get_or w 0 0 in let old = here w q ps k at Taking e in let b = k.lock.balanced in let h : 1 ≤ total takes_of (map frame_of ps) = total-at takes_of (map frame_of ps) id (at_point f Taking) old in (
     subst (λ (m : ℕ). SpinMoves id w ps (set w 0 m) (set ps id (part_with v (took_at v.spin (v.steps + 1) Holding)))) (let m : n - 255 ≡ (n + 18446744073709551361) % 18446744073709551616 = omega arith in m)
-        (goes-word w q q ps id (spin_part v) (took_at v.spin (v.steps + 1) Holding) k (λ x e. inl e) at (λ used. absurd cc) Taking e refl (λ _. let m : n % 256 ≡ 0 = omega arith in m) tt (n - 255) (step.takes-turn (next_in w) (locked_in w) q (map frame_of ps) id f n k.lock old)),
+        (goes-word w q q ps id (spin_part v) (took_at v.spin (v.steps + 1) Holding) k (λ x e. inl e) at (λ used. absurd cc) Taking e refl (λ _. let m : n % 256 ≡ 0 = omega arith in m) tt (n - 255) tt (step.takes-turn (next_in w) (locked_in w) q (map frame_of ps) id f n k.lock old)),
     counts-took v.spin (v.steps + 1) Holding (ap holds_at e) refl,
     tt,
   )

@@ -23,7 +23,8 @@ pub fn exchange_free<H: SpinHost>(site: &Site<H>, pass: &mut Pass<H>) -> u64
     word_step::<H, Brand>(site, pass, Op::Exchange(0, LOCKED))
 }
 
-/// A load of the word by a pass that is at no point of the lock. A word that isn't 0 is kept as seen.
+/// A load of the word by a pass that is at no point of the lock, so that it sees no tail or bit of
+/// its own. A word that isn't 0 is kept as seen.
 pub fn look<H: SpinHost>(site: &Site<H>, pass: &mut Pass<H>) -> u64
     requires own { SitsAt site.now pass.old }
     requires out { SpinRests (spin_in pass.old) }
