@@ -83,7 +83,7 @@ pub record SawPending (why : Interrupted) (v u : Shown) : Type 0 where
   pub taken : (t : ℕ) → v.hand.task ≡ Some t → FindsSince (consumed_place t) why.taken v u
   pub pending : why.taken < why.sent
 
--- it waited until it saw that a signal was pending; it has consumed one, and holds nothing
+-- it had appended itself to the list, once, and waited until it saw that a signal was pending; it has consumed one, and holds nothing
 pub record Interrupts (kind : Kind) (reads : Bool) (at : ℕ) (why : Interrupted) (v u : Shown) : Type 0 where
   pub keeps : Keeps v u
   pub heard : SawPending why v u
@@ -92,6 +92,7 @@ pub record Interrupts (kind : Kind) (reads : Bool) (at : ℕ) (why : Interrupted
   pub word : ℕ
   pub sees : Sees kind reads at word v u
   pub freed : u.hand.freed ≡ v.hand.freed
+  pub waited : u.line.appends ≡ v.line.appends + 1
 
 -- what a call that ends or downgrades a hold leaves; where its word has waiters to be woken it has gone through the wait lock
 pub record Frees (wakes : ℕ → Type 0) (v u : Shown) : Type 0 where
@@ -111,11 +112,11 @@ Releases wakes v u = Frees wakes v u × (u.hand.held ≡ No)
 abbrev pub Downgrades : Kind → Shown → Shown → Type 0
 Downgrades kind v u = Frees (wakes_down kind) v u × (u.hand.held ≡ shares kind) × (u.hand.known ≡ v.hand.known) × (u.hand.log ≡ v.hand.log)
 
--- how it got the lock: by its first try, after it had appended itself to the list, or by a later try
+-- how it got the lock: by its first try, by a later one before it was in the list, or after it had appended itself once
 abbrev pub Got : How → Shown → Shown → Type 0
 Got Fast v u = (u.hand.misses ≡ v.hand.misses) × (u.spin.entries ≡ v.spin.entries) × (u.fronts ≡ v.fronts) × (u.line ≡ v.line)
 Got Spun v u = (v.hand.misses < u.hand.misses) × (u.line ≡ v.line)
-Got Slept v u = v.line.appends < u.line.appends
+Got Slept v u = u.line.appends ≡ v.line.appends + 1
 
 -- a shared call's first try, which missed, let it in
 pub record IsLetIn (kind : Kind) (v u : Shown) : Type 0 where

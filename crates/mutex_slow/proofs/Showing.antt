@@ -3,6 +3,7 @@ use Rattle.std.proofs.Common.{◌≡◌, ◌≢◌, ℕ, ◌+◌, ◌*◌, ◌<�
 use Rattle.std.specs.Prelude.{Result, Ok, Err, IfErr}
 use Rattle.word_bits.specs.declared.TheConstants.{MAX_TASKS}
 use Rattle.lock_core.specs.declared.view.Hand.{Hand}
+use Rattle.lock_core.specs.declared.view.Line.{Line}
 use Rattle.lock_core.specs.declared.view.Moment.{Moment}
 use Rattle.lock_core.specs.declared.view.Held.TheVariants.{No}
 use Rattle.lock_core.specs.Holding.{missed}
@@ -170,14 +171,15 @@ interrupts-at v u p q f f' more i = record {
   word = i.word;
   sees = sees-at v u p q f f' i.sees;
   freed = i.freed;
+  waited = i.waited;
 }
 
 pub tried-at : (v u : V) (p q : List Moment) (f f' : ℕ) → f ≤ f' → OnlyTried (shown line_of v.fronts v p) (shown line_of u.fronts u q) → OnlyTried (shown line_of f v p) (shown line_of f' u q)
 tried-at v u p q f f' more t = record { keeps = keeps-at v u p q f f' more t.keeps; consumed = t.consumed; freed = t.freed }
 
 -- an interruption after failed tries
-pub tried-interrupts : {reads : Bool} {why : Interrupted} (v w u : Shown) → OnlyTried v w → PastGoesOn v w → Interrupts mutex reads owner_at why w u → Interrupts mutex reads owner_at why v u
-tried-interrupts v w u t before i = record {
+pub tried-interrupts : {reads : Bool} {why : Interrupted} (v w u : Shown) → OnlyTried v w → w.line ≡ v.line → PastGoesOn v w → Interrupts mutex reads owner_at why w u → Interrupts mutex reads owner_at why v u
+tried-interrupts v w u t line before i = record {
   keeps = keeps-then t.keeps i.keeps;
   heard = pending-within v w u u t.keeps.task t.keeps.counts.steps before i.heard (omega arith) (λ p e. e);
   consumed = i.consumed ∙ ap (λ (n : ℕ). n + 1) t.consumed;
@@ -185,6 +187,7 @@ tried-interrupts v w u t before i = record {
   word = i.word;
   sees = sees-within v w u u t.keeps.task t.keeps.counts.steps before i.sees refl (omega arith) (λ p e. e);
   freed = i.freed ∙ t.freed;
+  waited = i.waited ∙ ap (λ (l : Line). l.appends + 1) line;
 }
 
 pub err-map : {A E : Type 0} (P Q : E → Type 0) (r : Result A E) → ((e : E) → P e → Q e) → IfErr r P → IfErr r Q

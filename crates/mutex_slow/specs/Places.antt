@@ -85,7 +85,7 @@ pub record OnlyTried (v u : Shown) : Type 0 where
 abbrev pub GotInLine : How → Shown → Shown → Type 0
 GotInLine Fast v u = ⊥
 GotInLine Spun v u = u.line ≡ v.line
-GotInLine Slept v u = v.line.appends < u.line.appends
+GotInLine Slept v u = u.line.appends ≡ v.line.appends + 1
 
 -- of a call that went through the wait lock, after one more failed try at most
 pub record WentInLine (v u : Shown) : Type 0 where

@@ -1,6 +1,7 @@
 //! Mutexes, their passes, and their calls.
 ghost use Rattle.std.specs.Prelude.{◌≡◌, ◌≢◌, ◌<◌, ◌≤◌, ◌+◌, ℕ, Bool, true, false, List, [], ◌∷◌, length, Some, None, IsSome, IfOk, IfErr};
 ghost use Rattle.word_bits.specs.LockWords.{owned};
+ghost use Rattle.lock_core.specs.declared.how.How.TheVariants.{Fast};
 ghost use Rattle.lock_core.specs.declared.view.Held.TheVariants.{No, Alone};
 ghost use Rattle.lock_core.specs.Kinds.{mutex, unavailable, wakes_alone};
 ghost use Rattle.lock_core.specs.Holding.{missed};
@@ -227,6 +228,7 @@ impl<O: Object> Mutex<O> {
         ensures goes_on { PastGoesOn (shown_of pass.old) (shown_of pass.new) }
         ensures took { IfOk result (λ _. Takes O.object (plan_of self.now) Alone
             (shown_of pass.old) (shown_of pass.new)) }
+        ensures at_once { IfOk result (λ _. Got Fast (shown_of pass.old) (shown_of pass.new)) }
         ensures numbered { (hand_in pass.new).task ≡ (hand_in pass.old).task }
         ensures still_out { IfErr result (λ _. (hand_in pass.new).held ≡ No) }
         ensures missed { IfErr result (λ word. (reads : Bool) → Misses mutex reads owner_at word
@@ -248,6 +250,8 @@ impl<O: Object> Mutex<O> {
         ensures goes_on { PastGoesOn (shown_of pass.old) (shown_of pass.new) }
         ensures took { IfOk result (λ _. Takes O.object (plan_of self.now) Alone
             (shown_of pass.old) (shown_of pass.new)) }
+        ensures at_once { IfOk result (λ _. Got Fast (shown_of pass.old) (shown_of pass.new)) }
+        ensures step { (shown_of pass.new).steps ≡ (shown_of pass.old).steps + 1 }
         ensures free { IfOk result (λ _. FoundAt owner_at 0 (shown_of pass.new).past) }
         ensures numbered { (hand_in pass.new).task ≡ (hand_in pass.old).task }
         ensures still_out { IfErr result (λ _. (hand_in pass.new).held ≡ No) }

@@ -1,5 +1,6 @@
 use Rattle.std.proofs.Common.{arith, ap, ◌≤◌, ◌∙◌, ◌+◌, ℕ, rules}
 use Rattle.lock_core.specs.declared.view.Hand.{Hand}
+use Rattle.mutex_slow.specs.declared.view.MutexHand.{MutexHand}
 use Rattle.mutex_slow.specs.Places.{seen_of}
 use Rattle.mutex_slow.proofs.Showing.{pending-within, sees-within}
 use Rattle.mutex_slow.proofs.slow.lock_in_line_interruptible.Goals as goal
@@ -18,4 +19,6 @@ returns-clause-interrupted g c = λ reads. let missed = c.in-Err.ensures.missed 
       (ap (λ (h : Hand). h.saw) last ∙ (ap (λ (h : Hand). h.saw) c.in-Err-wait_interruptible.ensures.interrupted ∙ ap (λ (h : Hand). h.saw) c.join.ensures.hand))
       (omega (arith, joins, waits, more, quits)) (λ p t. c.leave-2.ensures.on.goes_on p (c.quit-2.ensures.on.goes_on p (c.wait_interruptible.ensures.on.goes_on p (c.join.ensures.on.goes_on p t))));
   freed = search rules;
+  waited = ap (λ (e : MutexHand). e.appends) c.leave-2.ensures.ext ∙ (c.quit-2.ensures.same.appends ∙ (c.wait_interruptible.ensures.appends ∙ (c.join.ensures.appended
+      ∙ ap (λ (n : ℕ). n + 1) (c.try_outside.ensures.same.appends ∙ ap (λ (e : MutexHand). e.appends) c.enter.ensures.gained.ext))));
 }

@@ -1,4 +1,4 @@
-use Rattle.std.proofs.Common.{arith, ◌≤◌, Bool, rules}
+use Rattle.std.proofs.Common.{arith, ap, ◌∙◌, ◌≤◌, ℕ, Bool, rules}
 use Rattle.lock_core.specs.declared.how.Interrupted.{Interrupted}
 use Rattle.lock_core.specs.Kinds.{mutex}
 use Rattle.lock_core.specs.Locking.{Interrupts}
@@ -14,5 +14,6 @@ returns-clause-interrupted g c = let before = shown_of c.args.pass.now in let sp
     err-map (λ (why : Interrupted). (reads : Bool) → Interrupts mutex reads owner_at why (seen_of c.spin.new.pass.pass) (seen_of c.lock_in_line_interruptible.new.pass)) (λ (why : Interrupted). (reads : Bool) → Interrupts mutex reads owner_at why before after) c.lock_in_line_interruptible.result
     (λ why i reads. tried-interrupts before spun after
     (tried-then (tried-at c.args.pass.now.pass.seat.me.0.view c.try_outside.new.pass.seat.me.0.view c.args.pass.now.pass.seat.me.0.past c.try_outside.new.pass.seat.me.0.past (fronts_in c.args.pass.now.queue) (fronts_in c.args.pass.now.queue) (omega arith) c.in-Err.ensures.tried) (c.spin.ensures.missed c.if-spin.false))
+    (c.spin.ensures.line ∙ ap (λ (n : ℕ). record { appends = n }) c.try_outside.ensures.same.appends)
     (λ p t. c.spin.ensures.goes_on p (c.try_outside.ensures.on.goes_on p t)) (interrupts-at c.spin.new.pass.pass.seat.me.0.view c.lock_in_line_interruptible.new.pass.seat.me.0.view c.spin.new.pass.pass.seat.me.0.past c.lock_in_line_interruptible.new.pass.seat.me.0.past (fronts_in c.spin.new.pass.queue) (fronts_in c.spin.new.pass.queue) (omega arith) (i reads)))
     c.lock_in_line_interruptible.ensures.interrupted
