@@ -157,6 +157,10 @@ may_own HandOn v n m = (v.hand.held ≡ Alone) × (v.ext.queued ≡ false) × Kn
 may_own Flag v n m = (v.ext.point ≡ Joins) × (n % 2 ≡ 0 → m ≡ n + 1)
 may_own Clear v n m = (v.ext.point ≡ Empties) × (m + n % 8 ≡ n)
 
+-- a failed try is counted, unless its pass stands in the list
+abbrev pub uncounted : V → Type 0
+uncounted v = v.ext.queued ≡ true
+
 abbrev pub turned : Turn → V → MutexHand
 turned Fail v = record v.ext { failed = v.spin.entries }
 turned Take v = v.ext

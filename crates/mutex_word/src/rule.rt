@@ -54,6 +54,8 @@ impl<O: Object> OwnerHost for OwnerRule<O> {
 
     ghost may_own = { leaves_plain };
 
+    ghost uncounted = { λ _. ⊥ };
+
     ghost turned = { unturned };
 
     ghost own_inside = { own-inside };

@@ -36,7 +36,7 @@ pub trait TryKind {
     // Whether it asks for a handoff.
     ghost asks: { Bool };
 
-    // Whether the pass counts a failure, and keeps the word that it saw: not where it stands in a list.
+    // Whether the pass counts a failure, and keeps the word that it saw. The host says where it need not.
     ghost counts: { Bool };
 }
 
@@ -219,6 +219,7 @@ pub fn attempt<H: OwnerHost, A: TryKind, W: Wait>(
     requires out { held_in pass.old ≡ No }
     requires asks { asks ≡ A.asks }
     requires may { MayTry H.may_own A.asks (view_of pass.old) }
+    requires counted { A.counts ≡ false → H.uncounted (view_of pass.old) }
     ensures own { SitsAt site.now pass.new }
     ensures goes_on { KeepsPast pass.old pass.new }
     ensures last { IsLatest pass.new }
