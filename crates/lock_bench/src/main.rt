@@ -5,8 +5,12 @@
 ghost use Rattle.std.specs.Prelude.{◌≤◌};
 
 mod front;
+mod plan;
 mod spin;
+mod timed;
 
+use lock_core::{Bare, Site};
+use osq_nodes::Osq;
 use std::alloc::{AllocError, Global};
 use std::process::ExitCode;
 use std::sync::Wait;
@@ -54,8 +58,8 @@ fn pairs<R: Threads + Wait + Sync>(
     requires { threads ≤ MAX_TASKS }
 {
     match case {
-        Case::Spin => spin::pairs(rt, alloc, threads, rounds),
-        Case::Front => front::pairs(rt, alloc, threads, rounds),
+        Case::Spin => timed::pairs::<Site<Bare>, R>(rt, alloc, threads, rounds),
+        Case::Front => timed::pairs::<Osq, R>(rt, alloc, threads, rounds),
     }
 }
 

@@ -1,7 +1,7 @@
 use Rattle.std.proofs.Common.{◌≡◌}
 use Rattle.lock_core.specs.Handles.{hand_in}
 use Rattle.qspin_queue.specs.Handles.{IsReady}
-use Rattle.lock_bench.proofs.spin.rounds.Given as goal
+use Rattle.lock_bench.proofs.spin.SiteBareTimed.rounds.Given as goal
 
 abbrev pub invariant-loop : goal.invariant-loop
-invariant-loop g l = IsReady l.site l.pass × (hand_in l.pass ≡ hand_in l.initial.pass)
+invariant-loop g l = IsReady l.self l.worker × (hand_in l.worker ≡ hand_in l.initial.worker)
