@@ -21,7 +21,8 @@ impl<R: SiteRule> Site<R> {
         ensures kept { view_of pass.new ≡ ticked (view_of pass.old) }
         ensures last { IsLatest pass.new }
         ensures marked { IsMarked R.marks (view_of pass.new) (past_of pass.new) }
-        ensures run { RanByRule R.marks R.idle R.holds R.moves (plan_of self.now) (past_of pass.new) }
+        ensures run { RanByRule R.marks R.idle R.holds R.moves
+            (plan_of self.now) (past_of pass.new) }
     {
         self.table.shared.load::<Recall<R>>(&mut pass.seat, 0);
     }

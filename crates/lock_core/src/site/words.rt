@@ -132,12 +132,10 @@ impl<R: SiteRule> Site<R> {
         ensures rises { (front_in pass.old) ≤ (front_in pass.new) }
     {
         match reply {
-            Reply::Busy(word) => self.note_busy(pass, call, word),
             Reply::Good | Reply::Num(_) | Reply::Refused(_) | Reply::MapErr | Reply::AccErr => {
                 self.note_read(pass, call, reply)
             }
-            Reply::Intr => self.note_intr(pass, call),
-            Reply::Sent => self.note_sent(pass, call),
+            Reply::Busy(_) | Reply::Intr | Reply::Sent => self.note_unheld(pass, call, reply),
         }
     }
 
@@ -161,16 +159,18 @@ impl<R: SiteRule> Site<R> {
         }
     }
 
-    fn note_busy(&self, pass: &mut Pass<R>, call: u32, word: u64)
+    /// Records a call that never held, where the pass last saw the log end.
+    fn note_unheld(&self, pass: &mut Pass<R>, call: u32, reply: Reply)
         requires own { SitsAt self.now pass.old }
         requires numbered { IsSome (task_in pass.old) }
         requires call { call ≡ (done_in pass.old) }
-        requires unsent { (hand_in pass.old).sent ≡ None }
-        requires next { MayNoteNext R.O.object R.unavailable self.now pass.old (Busy word) }
+        requires unsent { Unsent (hand_in pass.old) reply }
+        requires unheld { note_steps reply ≡ 1 }
+        requires next { MayNoteNext R.O.object R.unavailable self.now pass.old reply }
         ensures own { SitsAt self.now pass.new }
         ensures goes_on { KeepsPast pass.old pass.new }
         ensures last { IsLatest pass.new }
-        ensures kept { view_of pass.new ≡ after_note (view_of pass.old) (Busy word) }
+        ensures kept { view_of pass.new ≡ after_note (view_of pass.old) reply }
         ensures rises { (front_in pass.old) ≤ (front_in pass.new) }
     {
         if let Some(task) = pass.face.task {
@@ -178,50 +178,7 @@ impl<R: SiteRule> Site<R> {
             // it end.
             let rec = Rec {
                 k: pass.face.front,
-                reply: Reply::Busy(word),
-            };
-            self.settle_unheld(pass, Entry { task, call }, rec);
-            pass.face.done += 1;
-        }
-    }
-
-    fn note_intr(&self, pass: &mut Pass<R>, call: u32)
-        requires own { SitsAt self.now pass.old }
-        requires numbered { IsSome (task_in pass.old) }
-        requires call { call ≡ (done_in pass.old) }
-        requires unsent { (hand_in pass.old).sent ≡ None }
-        requires next { MayNoteNext R.O.object R.unavailable self.now pass.old Intr }
-        ensures own { SitsAt self.now pass.new }
-        ensures goes_on { KeepsPast pass.old pass.new }
-        ensures last { IsLatest pass.new }
-        ensures kept { view_of pass.new ≡ after_note (view_of pass.old) Intr }
-        ensures rises { (front_in pass.old) ≤ (front_in pass.new) }
-    {
-        if let Some(task) = pass.face.task {
-            let rec = Rec {
-                k: pass.face.front,
-                reply: Reply::Intr,
-            };
-            self.settle_unheld(pass, Entry { task, call }, rec);
-            pass.face.done += 1;
-        }
-    }
-
-    fn note_sent(&self, pass: &mut Pass<R>, call: u32)
-        requires own { SitsAt self.now pass.old }
-        requires numbered { IsSome (task_in pass.old) }
-        requires call { call ≡ (done_in pass.old) }
-        requires next { MayNoteNext R.O.object R.unavailable self.now pass.old Sent }
-        ensures own { SitsAt self.now pass.new }
-        ensures goes_on { KeepsPast pass.old pass.new }
-        ensures last { IsLatest pass.new }
-        ensures kept { view_of pass.new ≡ after_note (view_of pass.old) Sent }
-        ensures rises { (front_in pass.old) ≤ (front_in pass.new) }
-    {
-        if let Some(task) = pass.face.task {
-            let rec = Rec {
-                k: pass.face.front,
-                reply: Reply::Sent,
+                reply,
             };
             self.settle_unheld(pass, Entry { task, call }, rec);
             pass.face.done += 1;
