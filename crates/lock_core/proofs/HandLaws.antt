@@ -61,7 +61,6 @@ stage-cases (Logged e) rest owes = owes e refl
 pub consumed-more : (u : ℕ) (task : Option ℕ) (n : ℕ) → consumed_weight u task (n + 1) ≡ consumed_weight u task n + is_number u task
 consumed-more u task n = let e : suc n ≡ n + 1 = omega arith in subst (λ (z : ℕ). consumed_weight u task z ≡ consumed_weight u task n + is_number u task) e refl
 
--- a hand that counts as much as another
 -- a number that the hands add up to stays where one of them weighs as before
 module _ (f : Hand → ℕ) (hs : List Hand) (id : ℕ) (h g : Hand) where
   pub sum-stays : (n m : ℕ) → get_elem? hs id ≡ some h → f g ≡ f h → n ≡ m + total f hs → n ≡ m + total f (set hs id g)
@@ -70,6 +69,7 @@ module _ (f : Hand → ℕ) (hs : List Hand) (id : ℕ) (h g : Hand) where
   pub one-stays : (n : ℕ) → get_elem? hs id ≡ some h → f g ≡ f h → (n ≡ total f hs) × (total f hs ≤ 1) → (n ≡ total f (set hs id g)) × (total f (set hs id g) ≤ 1)
   one-stays n at same is = let c = total-same f hs id h g at same in let a = is.0 in let b = is.1 in (omega (arith, c, a), omega (arith, c, b))
 
+-- a hand that counts as much as another
 pub record SameWeights (h g : Hand) : Type 0 where
   pub held : g.held ≡ h.held
   pub writes : g.writes ≡ h.writes

@@ -1,8 +1,11 @@
 -- What a clause reads of a site and of a pass.
-use Rattle.std.specs.Prelude.{◌≡◌, ℕ, ◌+◌, ◌<◌, List, Option, slice_index, slice_set}
+use Rattle.std.specs.Prelude.{◌≡◌, ℕ, ◌+◌, ◌<◌, ◌≤◌, List, Option, Some, slice_index, slice_set}
 use mathlib.Core.Option.{none, some}
 use lib.ListN.{get_elem?}
 use Rattle.atomic_table.specs.Table.{Step, step}
+use Rattle.word_bits.specs.declared.call.CallWords.{CallWords}
+use Rattle.word_bits.specs.declared.entry.Entry.{Entry}
+use Rattle.word_bits.specs.declared.rec.Rec.{Rec}
 use Rattle.word_bits.specs.declared.reply.Reply.{Reply}
 use Rattle.word_bits.specs.LockWords.{Unavailable}
 use Rattle.word_bits.specs.Objects.{Obj}
@@ -20,7 +23,7 @@ use Rattle.lock_core.specs.Ops.{first_of, second_of}
 use Rattle.lock_core.specs.Moves.{Lets, KeepsHold}
 use Rattle.lock_core.specs.Pasts.{unseen, GoesOn, FoundSince, IsOwnStep}
 use Rattle.lock_core.specs.Plays.{Sat}
-use Rattle.lock_core.specs.Passes.{Sits, IsChange, IsReading, IsSignal, MayNote, Numbered}
+use Rattle.lock_core.specs.Passes.{Sits, IsChange, IsReading, IsSignal, MayNote, MayRecord, HearsOfNone, Numbered}
 use Rattle.lock_core.specs.Views.{next_entry}
 use Rattle.lock_core.specs.Layout.{lay}
 
@@ -95,6 +98,22 @@ module _ {R O E C : Type 0} where
   pub record SawSignals (t : ℕ) (why : Interrupted) (old new : Pass R O E C) : Type 0 where
     pub sent : Finds (sent_place t) why.sent old new
     pub taken : Finds (consumed_place t) why.taken old new
+
+  -- the same of signals to the pass's task
+  abbrev pub SawOwnSignals : Interrupted → Pass R O E C → Pass R O E C → Type 0
+  SawOwnSignals why old new = (t : ℕ) → task_in old ≡ Some t → SawSignals t why old new
+
+  -- two steps since found that no signal to its task was pending
+  abbrev pub SawNonePending : Pass R O E C → Pass R O E C → Type 0
+  SawNonePending old new = (why : Interrupted) × HearsOfNone why (view_of old) (view_of new) × SawOwnSignals why old new
+
+  -- a call of its task that isn't done has no record, and so the word 0
+  abbrev pub UndoneIsZero : Pass R O E C → (task call word : ℕ) → Type 0
+  UndoneIsZero pass task call word = task_in pass ≡ Some task → done_in pass ≤ call → word ≡ 0
+
+  -- the pass may record a call so, and has then seen these entries
+  abbrev pub MayStoreRecord : {Call : Type 0} → Obj Call → Unavailable → Site R O E C → Pass R O E C → Entry → Rec → List Entry → Type 0
+  MayStoreRecord o unavailable site pass e r seen = (words : CallWords) × MayRecord o unavailable (plan_of site) (hand_in pass) e words r seen
 
   -- its task's next call changes the object, and this is its reply
   abbrev pub IsNextChange : {Call : Type 0} → Obj Call → Site R O E C → Pass R O E C → Reply → Type 0

@@ -11,7 +11,6 @@ use Rattle.lock_core.specs.declared.view.Held.TheVariants.{No, Shared, Alone}
 use Rattle.lock_core.specs.declared.view.Moment.{Moment}
 use Rattle.lock_core.specs.Layout.{site}
 use Rattle.lock_core.specs.Parts.{Each}
-use Rattle.lock_core.specs.Pasts.{After, Paced}
 use Rattle.lock_core.specs.Sites.{SiteStep}
 use Rattle.lock_core.specs.Stated.{IsSiteThen}
 use Rattle.lock_core.specs.Totals.{total}

@@ -29,7 +29,7 @@ use Rattle.lock_core.specs.Sites.{SawSince, consumed_at}
 use Rattle.lock_core.specs.Plans.{calls_in, start}
 use Rattle.lock_core.specs.Layout.{recs_at, calls_at}
 use Rattle.lock_core.specs.Records.{row, seen_by, AreNext}
-use Rattle.lock_core.specs.Views.{front, became, hearing, consuming, longer, owed_of, Knows}
+use Rattle.lock_core.specs.Views.{front, became, hearing, consuming, longer, owed_of, Knows, KnowsFirst, handed}
 
 -- the seat is one of the table's, and the pass says of itself what the view does
 pub record Sits {E : Type 0} (k : Plan) (table : TableId) (seat : TableId) (me : Me (Unit {0}) (Seen E)) (face : Face) : Type 0 where
@@ -49,10 +49,14 @@ pub record Sits {E : Type 0} (k : Plan) (table : TableId) (seat : TableId) (me :
   pub writer : me.0.view.hand.writes ≡ true → me.0.view.hand.held ≡ Alone
   pub nameless : me.0.view.hand.task ≡ None → (me.0.view.hand.held ≡ No) × (me.0.view.hand.sent ≡ None) × (me.0.view.hand.consumed ≡ 0)
 
+-- the word is that of the call's record, where the pass knows it
+abbrev pub TellsKnown : Hand → Entry → ℕ → Type 0
+TellsKnown h e word = (r : Rec) → Knows h e r → word ≡ rec_word r
+
 -- what a load of the word of a call's record tells a pass with this hand
 pub record Shows (h : Hand) (e : Entry) (word : ℕ) : Type 0 where
   -- a record that it knows is there
-  pub known : (r : Rec) → Knows h e r → word ≡ rec_word r
+  pub known : TellsKnown h e word
   -- any word but 0 is that of a record
   pub made : word ≢ 0 → (r : Rec) × IsRec r × (word ≡ rec_word r)
   -- its own task's later calls have none
@@ -61,6 +65,14 @@ pub record Shows (h : Hand) (e : Entry) (word : ℕ) : Type 0 where
 -- what a pass becomes that takes a number: it has the task's records, each as the rule says, and has seen what the task had
 abbrev pub Numbered : {Call : Type 0} → Obj Call → Unavailable → Plan → Hand → ℕ → Hand → Type 0
 Numbered o unavailable k h t g = (rs : List Rec) × (log : List Entry) × AreNext o unavailable k log t 0 0 (row k t) rs × (length log ≤ calls_in k) × (g ≡ became h t rs (longer h.seen (take (seen_by o 0 (row k t) rs) log)))
+
+-- a task has seen so many entries, so many of whose calls are recorded, by the records that the pass knows
+abbrev pub HasSeenAfter : {Call : Type 0} → Obj Call → Unavailable → Plan → Hand → (task done n : ℕ) → Type 0
+HasSeenAfter o unavailable k h t done n = (rs : List Rec) (log : List Entry) → length rs ≡ done → AreNext o unavailable k log t 0 0 (row k t) rs → KnowsFirst h t rs → n ≡ seen_by o 0 (row k t) rs
+
+-- it had seen so many after this call, by the record that the pass knows
+abbrev pub HasSeenAfterCall : {Call : Type 0} → Obj Call → Plan → Hand → (task call n : ℕ) → Type 0
+HasSeenAfterCall o k h t c n = (w : CallWords) (r : Rec) → slice_get (row k t) c ≡ Some w → Knows h (record { task = t; call = c }) r → IsRec r → n ≡ seen_after (logs o w r.reply) r
 
 -- the first or the second word of a call
 abbrev pub half_of : ℕ → CallWords → ℕ
@@ -89,6 +101,10 @@ IsTaken h at n = (p : Heard) (t : ℕ) → h.heard ≡ Some p → h.task ≡ Som
 -- a load found that so many signals were sent to the pass's task
 abbrev pub Hears : Hand → ℕ → Hand → Type 0
 Hears h n g = (p : Heard) × (p.sent ≡ n) × (g ≡ hearing h p)
+
+-- such a load is all that came between the two views
+abbrev pub HearsOf : {E : Type 0} → ℕ → View E → View E → Type 0
+HearsOf n v u = (g : Hand) × Hears v.hand n g × (u ≡ handed v g)
 
 -- it consumed one of more signals than its task had consumed, in three steps
 pub record Consumes {E : Type 0} (why : Interrupted) (v u : View E) : Type 0 where

@@ -18,6 +18,10 @@ use Rattle.lock_core.specs.Parts.{Each}
 abbrev pub Tail : {A : Type 0} → List A → List A → Type 0
 Tail p h = (n : ℕ) × (drop n h ≡ p)
 
+-- the run whose moments these are began with this one
+abbrev pub BeganWith : {A : Type 0} → A → List A → Type 0
+BeganWith new past = Tail (new ∷ []) past
+
 -- the new past goes back to the old one, and so to all that the old one goes back to
 abbrev pub GoesOn : {A : Type 0} → List A → List A → Type 0
 GoesOn {A} old new = (p : List A) → Tail p old → Tail p new
@@ -67,12 +71,16 @@ module _ {E : Type 0} (marks : E → List ℕ) where
 
   -- the moments are those of a run that began with this one, and each of its instants stands in the relation to the one before
   abbrev pub Ran : Moment → (Instant E → Instant E → Type 0) → List Moment → Type 0
-  Ran new P past = (run : List (Instant E)) × (past ≡ map moment run) × Tail (new ∷ []) past × Paced P run
+  Ran new P past = (run : List (Instant E)) × (past ≡ map moment run) × BeganWith new past × Paced P run
 
 module _ {E : Type 0} (holds : List ℕ → List (View E) → Type 0) (moves : ℕ → List ℕ → List (View E) → List ℕ → List (View E) → Type 0) where
   -- a step of some seat led from the one to the other, and was a move
   abbrev pub Moves : Instant E → Instant E → Type 0
   Moves x y = (id : ℕ) × holds x.words x.views × holds y.words y.views × moves id x.words x.views y.words y.views
+
+-- these are the moments of a run from the new table on, at each of which the rule held, and each of whose steps was one of the rule's moves
+abbrev pub RanByRule : {E : Type 0} → (E → List ℕ) → E → (Plan → List ℕ → List (View E) → Type 0) → (Plan → ℕ → List ℕ → List (View E) → List ℕ → List (View E) → Type 0) → Plan → List Moment → Type 0
+RanByRule marks idle holds moves k past = Ran marks (opening marks k idle) (Moves (holds k) (moves k)) past
 
 -- the table has come to be by moves from a new one, and what each pass has seen is how its run began
 abbrev pub Lived : {E : Type 0} → (E → List ℕ) → Moment → (List ℕ → List (View E) → Type 0) → (ℕ → List ℕ → List (View E) → List ℕ → List (View E) → Type 0) → List ℕ → List (Seen E) → Type 0

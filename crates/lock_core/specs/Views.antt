@@ -123,6 +123,10 @@ abbrev pub Unsent : Hand → Reply → Type 0
 Unsent h Sent = Unit {0}
 Unsent h reply = h.sent ≡ None
 
+-- each signal that it sent or consumed is recorded
+abbrev pub OwesNoSignal : Hand → Type 0
+OwesNoSignal h = (h.sent ≡ None) × (h.consumed ≡ 0)
+
 -- the next call of the pass's task
 abbrev pub next_entry : Hand → Entry
 next_entry h = record { task = option_map_or (λ t. t) h.task 0; call = h.done }
@@ -180,6 +184,10 @@ let_go h = record h { held = No; known = []; log = [] }
 -- the pass knows this record
 abbrev pub Knows : Hand → Entry → Rec → Type 0
 Knows h e r = (i : ℕ) × (slice_get h.records i ≡ Some (record { entry = e; rec = r }))
+
+-- the pass knows these records of a task's first calls
+abbrev pub KnowsFirst : Hand → ℕ → List Rec → Type 0
+KnowsFirst h t rs = (c : ℕ) (r : Rec) → slice_get rs c ≡ Some r → Knows h (record { task = t; call = c }) r
 
 abbrev pub front : Hand → ℕ
 front h = length h.seen
@@ -257,6 +265,10 @@ module _ {E : Type 0} where
   abbrev pub with_number : View E → Hand → View E
   with_number v h = seated v h (forgot v.spin)
 
+  -- a step that stores a record, of a pass that has this hand before it
+  abbrev pub with_record : View E → Hand → Entry → Rec → List Entry → View E
+  with_record v h e r seen = handed v (recorded h (v.steps + 1) e r seen)
+
   -- a step that changes nothing
   abbrev pub ticked : View E → View E
   ticked v = record v { steps = v.steps + 1 }
@@ -298,3 +310,7 @@ module _ {E : Type 0} where
   -- that of its next call, which changed nothing
   abbrev pub after_note : View E → Reply → View E
   after_note v reply = record v { hand = noted v.hand (v.steps + note_steps reply) (next_entry v.hand) reply; steps = v.steps + note_steps reply }
+
+  -- that of its next call, which read, in two steps
+  abbrev pub after_read : View E → Reply → View E
+  after_read v reply = record v { hand = recorded v.hand (v.steps + 2) (next_entry v.hand) (record { k = length v.hand.log; reply = reply }) v.hand.log; steps = v.steps + 2 }

@@ -2,7 +2,7 @@
 ghost use Rattle.std.specs.Prelude.{◌≡◌, ◌+◌, ◌<◌, ◌≤◌, ◌⊎◌, List, [], ◌∷◌, IfOk, IsSome, MatchOption, None, Some, length, ℕ};
 ghost use Rattle.word_bits.specs.declared.TheConstants.{MAX_TASKS};
 ghost use Rattle.lock_core.specs.Handles.{plan_of};
-ghost use Rattle.lock_core.specs.Pasts.{EachMoment, Ran, Tail};
+ghost use Rattle.lock_core.specs.Pasts.{BeganWith, EachMoment, Ran};
 ghost use Rattle.lock_core.specs.Views.{merged};
 ghost use Rattle.osq_nodes.specs.declared.node.Place.TheVariants.{Out, Waiting, Front};
 ghost use Rattle.osq_nodes.specs.Places.{node_marks, waits_at, takes_at};
@@ -252,7 +252,7 @@ impl Osq {
         ensures node { KeepsNode pass.old pass.new }
         ensures step { steps_in pass.new ≡ steps_in pass.old + 1 }
         ensures last { IsLatest pass.new }
-        ensures begins { Tail (newest (tasks_of self.now) ∷ []) (past_of pass.new) }
+        ensures begins { BeganWith (newest (tasks_of self.now)) (past_of pass.new) }
         ensures always { EachMoment (IsSpinQueue (tasks_of self.now)) (past_of pass.new) }
         ensures queues { (queue : List ℕ) × HasBecome (past_of pass.new) queue }
         ensures mine { StatesOwn pass.new }

@@ -106,8 +106,7 @@ pub fn is_granted(osq: &Osq, pass: &mut OsqPass, task: u32) -> bool
     ensures number { KeepsNumber pass.old pass.new }
     ensures goes_on { KeepsPast pass.old pass.new }
     ensures last { IsLatest pass.new }
-    ensures kept { MatchBool result
-        (view_of pass.new ≡ fronted (view_of pass.old))
+    ensures kept { MatchBool result (view_of pass.new ≡ fronted (view_of pass.old))
         (view_of pass.new ≡ ticked (view_of pass.old)) }
     ensures found { FoundThere result (locked_at task) 1 pass.new }
 {
@@ -124,8 +123,7 @@ pub fn leave_tail(osq: &Osq, pass: &mut OsqPass, task: u32, prev: Option<u32>) -
     ensures number { KeepsNumber pass.old pass.new }
     ensures goes_on { KeepsPast pass.old pass.new }
     ensures last { IsLatest pass.new }
-    ensures kept { MatchBool result
-        (view_of pass.new ≡ placed (view_of pass.old) Out)
+    ensures kept { MatchBool result (view_of pass.new ≡ placed (view_of pass.old) Out)
         (view_of pass.new ≡ ticked (view_of pass.old)) }
     ensures found { FoundOwn result task pass.new }
 {
@@ -174,9 +172,8 @@ pub fn take_next(osq: &Osq, pass: &mut OsqPass, task: u32, prev: Option<u32>) ->
     ensures number { KeepsNumber pass.old pass.new }
     ensures goes_on { KeepsPast pass.old pass.new }
     ensures last { IsLatest pass.new }
-    ensures kept { MatchOption result (view_of pass.new ≡ ticked (view_of pass.old))
-        (λ next. (next < MAX_TASKS) ×
-        (view_of pass.new ≡ placed (view_of pass.old) (takes_at prev next))) }
+    ensures kept { MatchOption result (view_of pass.new ≡ ticked (view_of pass.old)) (λ n.
+        (n < MAX_TASKS) × (view_of pass.new ≡ placed (view_of pass.old) (takes_at prev n))) }
 {
     // A swap, and no load: the successor may be taking its code back in order to leave, and one of
     // the two has the code, not both.

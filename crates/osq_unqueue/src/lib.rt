@@ -27,8 +27,7 @@ fn spin<C: Cpu, W: Wait>(osq: &Osq, rt: &W, pass: &mut OsqPass, cpu: &mut C, tas
     ensures swaps { swaps_in pass.new ≡ swaps_in pass.old }
     ensures found { found_in pass.new ≡ found_in pass.old }
     ensures place { MatchBool result (place_in pass.new ≡ Front) (place_in pass.new ≡ Waiting) }
-    ensures fronts { MatchBool result
-        (fronts_in pass.new ≡ fronts_in pass.old + 1)
+    ensures fronts { MatchBool result (fronts_in pass.new ≡ fronts_in pass.old + 1)
         (fronts_in pass.new ≡ fronts_in pass.old) }
     ensures stops { result ≡ false → Rises (C.rescheds cpu.old) (C.rescheds cpu.new) }
     ensures rescheds { C.rescheds cpu.old ≤ C.rescheds cpu.new }
@@ -94,8 +93,7 @@ pub fn lock<C: Cpu, W: Wait>(osq: &Osq, rt: &W, pass: &mut OsqPass, cpu: &mut C)
     ensures swapped { swaps_in pass.new ≡ swaps_in pass.old + 1 }
     ensures found { SawTail pass.old pass.new }
     ensures place { MatchBool result (place_in pass.new ≡ Front) (place_in pass.new ≡ Out) }
-    ensures fronts { MatchBool result
-        (fronts_in pass.new ≡ fronts_in pass.old + 1)
+    ensures fronts { MatchBool result (fronts_in pass.new ≡ fronts_in pass.old + 1)
         (fronts_in pass.new ≡ fronts_in pass.old) }
     ensures queued { result ≡ false → found_in pass.new ≢ 0 }
     ensures stops { result ≡ false → Rises (C.rescheds cpu.old) (C.rescheds cpu.new) }

@@ -24,8 +24,7 @@ pub fn take_back(osq: &Osq, pass: &mut OsqPass, task: u32, prev: u32) -> bool
     ensures number { KeepsNumber pass.old pass.new }
     ensures goes_on { KeepsPast pass.old pass.new }
     ensures last { IsLatest pass.new }
-    ensures kept { MatchBool result
-        (view_of pass.new ≡ placed (view_of pass.old) (Unlinked prev))
+    ensures kept { MatchBool result (view_of pass.new ≡ placed (view_of pass.old) (Unlinked prev))
         (view_of pass.new ≡ ticked (view_of pass.old)) }
     ensures found { FoundThere result (next_at prev) (task + 1) pass.new }
 {

@@ -85,26 +85,46 @@ fn a_cpu_that_needs_rescheduling_leaves_behind_a_front_that_stays(
         spin: 0,
         overdue: 0,
     };
-    let mut cpu = crew.cpu(rt.alloc(), 1, turns)?;
+    let mut second = crew.cpu(rt.alloc(), 1, turns)?;
+    let mut third = crew.cpu(rt.alloc(), 2, turns)?;
     osq.wait(&rt, &mut one);
-    assert_eq!(rt; lock(&osq, &rt, &mut two, &mut cpu), false);
-    assert_eq!(rt; lock(&osq, &rt, &mut three, &mut cpu), false);
+    assert_eq!(rt; lock(&osq, &rt, &mut two, &mut second), false);
+    assert_eq!(rt; lock(&osq, &rt, &mut three, &mut third), false);
     osq.unlock(&rt, &mut one);
-    assert_eq!(rt; lock(&osq, &rt, &mut two, &mut cpu), true);
+    assert_eq!(rt; lock(&osq, &rt, &mut two, &mut second), true);
     Ok(())
 }
 
 const ROUNDS: u32 = 20_000;
 
-/// Takes the queue's front many times, and answers how often. Only the front adds to the shared
-/// count, by a load and a store.
+/// What the tasks count together.
+#[derive(Drop)]
+struct Tally {
+    /// How often one was the front. Only the front adds to it, by a load and a store.
+    fronts: AtomicU64,
+    /// How often one gave up.
+    given_up: AtomicU64,
+}
+
+/// Waits until a task has given up.
+fn wait_for_one<W: Wait>(rt: &W, tally: &Tally) {
+    for _ in rt.forever() {
+        if tally.given_up.load(SeqCst) != 0 {
+            return;
+        }
+    }
+    unreachable!()
+}
+
+/// Tries many times to be the queue's front, and answers how often it was. The first front of all
+/// stays until another task has given up.
 fn rounds<C: Cpu + Drop, W: Wait>(
     rt: &W,
     osq: &Osq,
     mut pass: OsqPass,
     mut cpu: C,
     task: u32,
-    shared: &AtomicU64,
+    tally: &Tally,
 ) -> u64
     requires own { SitsAt osq.now pass }
     requires numberless { task_in pass ≡ None }
@@ -115,10 +135,13 @@ fn rounds<C: Cpu + Drop, W: Wait>(
     let mut fronts: u64 = 0;
     for _ in 0..ROUNDS {
         if lock(osq, rt, &mut pass, &mut cpu) {
-            let seen = shared.load(SeqCst);
-            shared.store(seen.wrapping_add(1), SeqCst);
+            wait_for_one(rt, tally);
+            let seen = tally.fronts.load(SeqCst);
+            tally.fronts.store(seen.wrapping_add(1), SeqCst);
             fronts = fronts.wrapping_add(1);
             osq.unlock(rt, &mut pass);
+        } else {
+            tally.given_up.fetch_add(1, SeqCst);
         }
     }
     osq.recall_queue(&mut pass);
@@ -139,7 +162,7 @@ fn two_at_once<R: Threads + Wait + Sync, C: Cpu + Drop + Send>(
     osq: &Osq,
     one: Runner<C>,
     two: Runner<C>,
-    shared: &AtomicU64,
+    tally: &Tally,
 ) -> u64
     requires one { SitsAt osq.now one.pass }
     requires two { SitsAt osq.now two.pass }
@@ -154,13 +177,13 @@ fn two_at_once<R: Threads + Wait + Sync, C: Cpu + Drop + Send>(
             requires numberless { task_in one.pass ≡ None }
             requires out { place_in one.pass ≡ Out }
             requires there { one.task < tasks_of osq.now }
-        { rounds(rt, osq, one.pass, one.cpu, one.task, shared) },
+        { rounds(rt, osq, one.pass, one.cpu, one.task, tally) },
         || -> u64
             requires own { SitsAt osq.now two.pass }
             requires numberless { task_in two.pass ≡ None }
             requires out { place_in two.pass ≡ Out }
             requires there { two.task < tasks_of osq.now }
-        { rounds(rt, osq, two.pass, two.cpu, two.task, shared) },
+        { rounds(rt, osq, two.pass, two.cpu, two.task, tally) },
     );
     first.wrapping_add(second)
 }
@@ -170,7 +193,7 @@ fn four_at_once<R: Threads + Wait + Sync, C: Cpu + Drop + Send>(
     osq: &Osq,
     one: (Runner<C>, Runner<C>),
     two: (Runner<C>, Runner<C>),
-    shared: &AtomicU64,
+    tally: &Tally,
 ) -> u64
     requires own { (SitsAt osq.now one.0.pass) × (SitsAt osq.now one.1.pass) }
     requires others_own { (SitsAt osq.now two.0.pass) × (SitsAt osq.now two.1.pass) }
@@ -188,24 +211,27 @@ fn four_at_once<R: Threads + Wait + Sync, C: Cpu + Drop + Send>(
             requires numberless { (task_in one.0.pass ≡ None) × (task_in one.1.pass ≡ None) }
             requires out { (place_in one.0.pass ≡ Out) × (place_in one.1.pass ≡ Out) }
             requires there { (one.0.task < tasks_of osq.now) × (one.1.task < tasks_of osq.now) }
-        { two_at_once(rt, osq, one.0, one.1, shared) },
+        { two_at_once(rt, osq, one.0, one.1, tally) },
         || -> u64
             requires own { (SitsAt osq.now two.0.pass) × (SitsAt osq.now two.1.pass) }
             requires numberless { (task_in two.0.pass ≡ None) × (task_in two.1.pass ≡ None) }
             requires out { (place_in two.0.pass ≡ Out) × (place_in two.1.pass ≡ Out) }
             requires there { (two.0.task < tasks_of osq.now) × (two.1.task < tasks_of osq.now) }
-        { two_at_once(rt, osq, two.0, two.1, shared) },
+        { two_at_once(rt, osq, two.0, two.1, tally) },
     );
     first.wrapping_add(second)
 }
 
 #[test]
-fn only_the_front_counts(rt: HostRuntime) -> Result<(), Fail> {
+fn only_the_front_counts_while_others_give_up(rt: HostRuntime) -> Result<(), Fail> {
     let (osq, mut pass) = Osq::open(rt.alloc(), 4)?;
     let one = osq.split(&mut pass);
     let two = osq.split(&mut pass);
     let three = osq.split(&mut pass);
-    let shared = AtomicU64::new(0);
+    let tally = Tally {
+        fronts: AtomicU64::new(0),
+        given_up: AtomicU64::new(0),
+    };
     let mut crew = ParkCrew::new(rt.alloc(), 4)?;
     let overdue = 0;
     let zeroth = Runner {
@@ -228,7 +254,10 @@ fn only_the_front_counts(rt: HostRuntime) -> Result<(), Fail> {
         cpu: crew.cpu(rt.alloc(), 3, Turns { spin: 300, overdue })?,
         task: 3,
     };
-    let fronts = four_at_once(&rt, &osq, (zeroth, first), (second, third), &shared);
-    assert_eq!(rt; shared.load(SeqCst), fronts);
+    let fronts = four_at_once(&rt, &osq, (zeroth, first), (second, third), &tally);
+    let given_up = tally.given_up.load(SeqCst);
+    assert_eq!(rt; tally.fronts.load(SeqCst), fronts);
+    assert!(rt; given_up != 0);
+    assert_eq!(rt; fronts.wrapping_add(given_up), u64::from(4 * ROUNDS));
     Ok(())
 }

@@ -23,6 +23,10 @@ module _ {R O E C : Type 0} where
   abbrev pub FirstFoundFree : ℕ → Pass R O E C → Pass R O E C → Type 0
   FirstFoundFree at old new = FoundAtStep (hand_in old).task ((view_of old).steps + 1) at 0 (past_of old) (past_of new)
 
+  -- where it made a second step, the first found the word 0
+  abbrev pub TriesOnlyFree : ℕ → Pass R O E C → Pass R O E C → Type 0
+  TriesOnlyFree at old new = (view_of new).steps ≡ (view_of old).steps + 2 → FirstFoundFree at old new
+
   -- whatever the spin words are, the pass may do the operation on the one at this place
   abbrev pub MaySpin : Pass R O E C → ℕ → Op → (ℕ → SpinHand) → (ℕ → Type 0) → Type 0
   MaySpin pass at op after tells = SpinAllows pass.seat.id (view_of pass) at op after tells

@@ -24,7 +24,7 @@ module _ {E : Type 0} where
     pub counted : u.spin.entries ≡ v.spin.entries + 1
     pub took : (v.steps < u.spin.took) × (u.spin.took ≤ u.steps)
 
-  -- a step since, made at no point of the lock, saw a tail or a pending bit: so neither is the pass's own
+  -- the word that the pass has as seen has a tail or a pending bit, and a step since saw it; that neither is the pass's own follows from `SpinGoes`, by which it keeps only what it saw at no point of the lock
   pub record SawRival (v u : View E) : Type 0 where
     pub saw : Saw
     pub is : u.spin.saw ≡ Some saw

@@ -6,7 +6,7 @@ ghost use Rattle.lock_core.specs.Spins.{spun};
 ghost use Rattle.lock_core.specs.Pasts.{FoundAt};
 ghost use Rattle.lock_core.specs.Handles.{view_of, past_of, task_in, SitsAt, SaysSame, KeepsPast, IsLatest};
 ghost use Rattle.qspin_word.specs.Hands.{freed};
-ghost use Rattle.qspin_word.specs.Handles.{spin_in, FirstFoundFree};
+ghost use Rattle.qspin_word.specs.Handles.{spin_in, FirstFoundFree, TriesOnlyFree};
 ghost use Rattle.qspin_word.specs.Ways.{SpinTaken, SpinMissed, SpinGained, SpinRefused};
 
 use crate::PENDING;
@@ -34,9 +34,7 @@ pub fn trylock<H: SpinHost>(site: &Site<H>, pass: &mut Pass<H>) -> Result<(), u6
 
     // It exchanges only where the load saw 0.
     ensures loaded { IfOk result (λ _. FirstFoundFree H.FIRST pass.old pass.new) }
-    ensures exchanged { IfErr result (λ word.
-        (view_of pass.new).steps ≡ (view_of pass.old).steps + 2 →
-        FirstFoundFree H.FIRST pass.old pass.new) }
+    ensures exchanged { IfErr result (λ _. TriesOnlyFree H.FIRST pass.old pass.new) }
 {
     // While the lock is taken contenders only load, and leave its line with the one who has it.
     let seen = look(site, pass);

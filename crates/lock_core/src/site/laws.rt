@@ -1,9 +1,9 @@
 //! What is so of every site at each moment, and of each step of its table.
-ghost use Rattle.std.specs.Prelude.{◌≡◌, ℕ, [], ◌∷◌};
+ghost use Rattle.std.specs.Prelude.{◌≡◌, ℕ};
 ghost use Rattle.lock_core.specs.Layout.{site};
 ghost use Rattle.lock_core.specs.Views.{ticked};
 ghost use Rattle.lock_core.specs.Stated.{IsSiteThen, IsSiteMove};
-ghost use Rattle.lock_core.specs.Pasts.{EachMoment, IsMarked, IsOwnStep, Moves, Ran, Tail, opening};
+ghost use Rattle.lock_core.specs.Pasts.{BeganWith, EachMoment, IsMarked, IsOwnStep, Ran, RanByRule, opening};
 ghost use Rattle.lock_core.specs.Handles.{plan_of, view_of, past_of, SitsAt, KeepsPast, IsLatest};
 
 use super::Site;
@@ -21,8 +21,8 @@ impl<R: SiteRule> Site<R> {
         ensures kept { view_of pass.new ≡ ticked (view_of pass.old) }
         ensures last { IsLatest pass.new }
         ensures marked { IsMarked R.marks (view_of pass.new) (past_of pass.new) }
-        ensures run { Ran R.marks (opening R.marks (plan_of self.now) R.idle)
-            (Moves (R.holds (plan_of self.now)) (R.moves (plan_of self.now))) (past_of pass.new) }
+        ensures run { RanByRule R.marks R.idle R.holds R.moves
+            (plan_of self.now) (past_of pass.new) }
     {
         self.table.shared.load::<Recall<R>>(&mut pass.seat, 0);
     }
@@ -35,7 +35,7 @@ impl<R: SiteRule> Site<R> {
         ensures goes_on { KeepsPast pass.old pass.new }
         ensures kept { view_of pass.new ≡ ticked (view_of pass.old) }
         ensures last { IsLatest pass.new }
-        ensures begins { Tail (opening R.marks (plan_of self.now) R.idle ∷ []) (past_of pass.new) }
+        ensures begins { BeganWith (opening R.marks (plan_of self.now) R.idle) (past_of pass.new) }
         ensures always { EachMoment
             (IsSiteThen R.O.object R.unavailable R.O.WORDS (plan_of self.now)) (past_of pass.new) }
     {

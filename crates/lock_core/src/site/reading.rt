@@ -7,9 +7,9 @@ ghost use Rattle.lock_core.specs.declared.layout.TheConstants.{LOCK_WORDS};
 ghost use Rattle.lock_core.specs.Layout.{recs_at, record_place};
 ghost use Rattle.lock_core.specs.Records.{row};
 ghost use Rattle.lock_core.specs.Pasts.{FoundAt};
-ghost use Rattle.lock_core.specs.Views.{ticked, Knows};
-ghost use Rattle.lock_core.specs.Passes.{Shows};
-ghost use Rattle.lock_core.specs.Handles.{plan_of, view_of, hand_in, past_of, task_in, done_in, SitsAt, IsOneOf, KeepsSeat, KeepsPast, SaysSame, IsLatest};
+ghost use Rattle.lock_core.specs.Views.{ticked};
+ghost use Rattle.lock_core.specs.Passes.{Shows, TellsKnown};
+ghost use Rattle.lock_core.specs.Handles.{plan_of, view_of, hand_in, past_of, SitsAt, IsOneOf, KeepsSeat, KeepsPast, SaysSame, IsLatest, UndoneIsZero};
 
 use super::Site;
 use super::plays::{CallWord, RecWord};
@@ -76,12 +76,11 @@ impl<R: SiteRule> Site<R> {
         ensures goes_on { KeepsPast pass.old pass.new }
         ensures last { IsLatest pass.new }
         ensures kept { view_of pass.new ≡ ticked (view_of pass.old) }
-        ensures known { (r : Record) →
-            Knows (hand_in pass.old) (record { task = task; call = call }) r → result ≡ rec_word r }
+        ensures known { TellsKnown (hand_in pass.old) (record { task = task; call = call }) result }
         ensures made { result ≢ 0 → (r : Record) × IsRec r × (result ≡ rec_word r) }
         ensures there { FoundAt
             (record_place (plan_of self.now) task call) result (past_of pass.new) }
-        ensures mine { task_in pass.old ≡ Some task → (done_in pass.old) ≤ call → result ≡ 0 }
+        ensures mine { UndoneIsZero pass.old task call result }
     {
         self.record(pass, task, call)
     }

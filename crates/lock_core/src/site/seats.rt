@@ -8,8 +8,8 @@ ghost use Rattle.word_bits.specs.Legal.{seen_after};
 ghost use Rattle.lock_core.specs.declared.view.Hand.{Hand};
 ghost use Rattle.word_bits.specs.declared.entry.Entry.{Entry as Logged};
 ghost use Rattle.lock_core.specs.Records.{row, seen_by, AreNext};
-ghost use Rattle.lock_core.specs.Views.{handed, gave_up, Beside, BesideForgetting, HoldsNothing, Knows};
-ghost use Rattle.lock_core.specs.Passes.{Numbered};
+ghost use Rattle.lock_core.specs.Views.{handed, gave_up, Beside, BesideForgetting, HoldsNothing, Knows, OwesNoSignal};
+ghost use Rattle.lock_core.specs.Passes.{Numbered, HasSeenAfter, HasSeenAfterCall};
 ghost use Rattle.lock_core.specs.Handles.{plan_of, view_of, hand_in, task_in, front_in, SitsAt, IsOneOf, KeepsSeat, KeepsPast, SaysSame, IsLatest, TakesNumber};
 
 use super::Site;
@@ -105,12 +105,8 @@ impl<R: SiteRule> Site<R> {
         ensures own { KeepsSeat pass.old pass.new }
         ensures face { SaysSame pass.old pass.new }
         ensures kept { hand_in pass.new ≡ hand_in pass.old }
-        ensures seen { (rs : List Record) (log : List Logged) → length rs ≡ done →
-            AreNext R.O.object R.unavailable (plan_of self.now) log task 0 0
-            (row (plan_of self.now) task) rs →
-            ((c : ℕ) (r : Record) → slice_get rs c ≡ Some r →
-            Knows (hand_in pass.old) (record { task = task; call = c }) r) →
-            result ≡ seen_by R.O.object 0 (row (plan_of self.now) task) rs }
+        ensures seen { HasSeenAfter R.O.object R.unavailable (plan_of self.now)
+            (hand_in pass.old) task done result }
         ensures beside { Beside (view_of pass.old) (view_of pass.new) }
     {
         if done == 0 {
@@ -128,10 +124,8 @@ impl<R: SiteRule> Site<R> {
         ensures own { KeepsSeat pass.old pass.new }
         ensures face { SaysSame pass.old pass.new }
         ensures kept { hand_in pass.new ≡ hand_in pass.old }
-        ensures seen { (w : Words) (r : Record) →
-            slice_get (row (plan_of self.now) task) call ≡ Some w →
-            Knows (hand_in pass.old) (record { task = task; call = call }) r → IsRec r →
-            result ≡ seen_after (logs R.O.object w r.reply) r }
+        ensures seen { HasSeenAfterCall R.O.object (plan_of self.now)
+            (hand_in pass.old) task call result }
         ensures beside { Beside (view_of pass.old) (view_of pass.new) }
     {
         let word = self.record(pass, task, call);
@@ -147,7 +141,7 @@ impl<R: SiteRule> Site<R> {
         requires own { SitsAt self.now pass.old }
         requires numbered { IsSome (task_in pass.old) }
         requires rests { HoldsNothing (view_of pass.old) × R.rests (view_of pass.old) }
-        requires recorded { ((hand_in pass.old).sent ≡ None) × ((hand_in pass.old).consumed ≡ 0) }
+        requires recorded { OwesNoSignal (hand_in pass.old) }
         ensures own { SitsAt self.now pass.new }
         ensures goes_on { KeepsPast pass.old pass.new }
         ensures last { IsLatest pass.new }

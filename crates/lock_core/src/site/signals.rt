@@ -6,8 +6,8 @@ ghost use Rattle.lock_core.specs.Pasts.{FoundAt};
 ghost use Rattle.lock_core.specs.declared.how.Interrupted.{Interrupted as Numbers};
 ghost use Rattle.lock_core.specs.Plays.{Heeded};
 ghost use Rattle.lock_core.specs.Views.{handed, sending, next_entry};
-ghost use Rattle.lock_core.specs.Passes.{IsSignal, Hears, Consumes, HearsOfNone};
-ghost use Rattle.lock_core.specs.Handles.{view_of, hand_in, past_of, task_in, SitsAt, IsOneOf, KeepsSeat, KeepsPast, SaysSame, IsLatest, IsNextSignal, SawSignals};
+ghost use Rattle.lock_core.specs.Passes.{IsSignal, Hears, HearsOf, Consumes};
+ghost use Rattle.lock_core.specs.Handles.{view_of, hand_in, past_of, task_in, SitsAt, IsOneOf, KeepsSeat, KeepsPast, SaysSame, IsLatest, IsNextSignal, SawOwnSignals, SawNonePending};
 
 use super::Site;
 use super::plays::Taken;
@@ -57,11 +57,8 @@ impl<R: SiteRule> Site<R> {
         ensures last { IsLatest pass.new }
         ensures consumed { IfSome result (λ why.
             Consumes why (view_of pass.old) (view_of pass.new)) }
-        ensures saw { IfSome result (λ why.
-            (t : ℕ) → task_in pass.old ≡ Some t → SawSignals t why pass.old pass.new) }
-        ensures none { IfNone result ((why : Numbers)
-            × HearsOfNone why (view_of pass.old) (view_of pass.new)
-            × ((t : ℕ) → task_in pass.old ≡ Some t → SawSignals t why pass.old pass.new)) }
+        ensures saw { IfSome result (λ why. SawOwnSignals why pass.old pass.new) }
+        ensures none { IfNone result (SawNonePending pass.old pass.new) }
     {
         let Some(task) = pass.face.task else {
             return None;
@@ -85,8 +82,7 @@ impl<R: SiteRule> Site<R> {
         requires mine { (hand_in pass.old).task ≡ Some task }
         ensures own { KeepsSeat pass.old pass.new }
         ensures face { SaysSame pass.old pass.new }
-        ensures heard { (g : Hand)
-            × Hears (hand_in pass.old) result g × (view_of pass.new ≡ handed (view_of pass.old) g) }
+        ensures heard { HearsOf result (view_of pass.old) (view_of pass.new) }
         ensures found { FoundAt (sent_place task) result (past_of pass.new) }
     {
         self.step::<Hear>(

@@ -11,10 +11,10 @@ ghost use Rattle.lock_core.specs.declared.layout.TheConstants.{LOCK_WORDS};
 ghost use Rattle.lock_core.specs.Layout.{entry_place, length_place};
 ghost use Rattle.lock_core.specs.Pasts.{FoundAt};
 ghost use Rattle.lock_core.specs.Plans.{calls_in};
-ghost use Rattle.lock_core.specs.Views.{ticked, handed, wrote, entered, logged, recorded, committed, noted, note_steps, settled, next_entry, Unsent, after_commit, after_note};
+ghost use Rattle.lock_core.specs.Views.{ticked, handed, wrote, entered, logged, recorded, committed, noted, note_steps, settled, next_entry, Unsent, after_commit, after_note, after_read, with_record};
 ghost use Rattle.lock_core.specs.Chronicles.{Chronicles};
 ghost use Rattle.lock_core.specs.Passes.{IsLength, IsChange, IsReading, IsBusy, IsInterrupted, IsSent, MayRecord, MayNote, IsEntryWord};
-ghost use Rattle.lock_core.specs.Handles.{plan_of, view_of, hand_in, past_of, task_in, held_in, done_in, front_in, SitsAt, IsOneOf, KeepsSeat, KeepsPast, SaysSame, IsLatest, IsNextChange, IsNextReading, MayNoteNext};
+ghost use Rattle.lock_core.specs.Handles.{plan_of, view_of, hand_in, past_of, task_in, held_in, done_in, front_in, SitsAt, IsOneOf, KeepsSeat, KeepsPast, SaysSame, IsLatest, IsNextChange, IsNextReading, MayNoteNext, MayStoreRecord};
 
 use super::Site;
 use super::plays::{Chronicle, Guarded, Length, LogEntry, Puts};
@@ -132,12 +132,10 @@ impl<R: SiteRule> Site<R> {
         ensures rises { (front_in pass.old) ≤ (front_in pass.new) }
     {
         match reply {
-            Reply::Busy(word) => self.note_busy(pass, call, word),
             Reply::Good | Reply::Num(_) | Reply::Refused(_) | Reply::MapErr | Reply::AccErr => {
                 self.note_read(pass, call, reply)
             }
-            Reply::Intr => self.note_intr(pass, call),
-            Reply::Sent => self.note_sent(pass, call),
+            Reply::Busy(_) | Reply::Intr | Reply::Sent => self.note_unheld(pass, call, reply),
         }
     }
 
@@ -150,13 +148,7 @@ impl<R: SiteRule> Site<R> {
         ensures own { SitsAt self.now pass.new }
         ensures goes_on { KeepsPast pass.old pass.new }
         ensures last { IsLatest pass.new }
-        ensures kept { view_of pass.new ≡ record (view_of pass.old) {
-          hand = recorded (hand_in pass.old) ((view_of pass.old).steps + 2)
-              (next_entry (hand_in pass.old))
-              (record { k = length (hand_in pass.old).log; reply = reply })
-              (hand_in pass.old).log;
-          steps = (view_of pass.old).steps + 2;
-        } }
+        ensures kept { view_of pass.new ≡ after_read (view_of pass.old) reply }
         ensures rises { (front_in pass.old) ≤ (front_in pass.new) }
     {
         if let Some(task) = pass.face.task {
@@ -167,16 +159,18 @@ impl<R: SiteRule> Site<R> {
         }
     }
 
-    fn note_busy(&self, pass: &mut Pass<R>, call: u32, word: u64)
+    /// Records a call that never held, where the pass last saw the log end.
+    fn note_unheld(&self, pass: &mut Pass<R>, call: u32, reply: Reply)
         requires own { SitsAt self.now pass.old }
         requires numbered { IsSome (task_in pass.old) }
         requires call { call ≡ (done_in pass.old) }
-        requires unsent { (hand_in pass.old).sent ≡ None }
-        requires next { MayNoteNext R.O.object R.unavailable self.now pass.old (Busy word) }
+        requires unsent { Unsent (hand_in pass.old) reply }
+        requires unheld { note_steps reply ≡ 1 }
+        requires next { MayNoteNext R.O.object R.unavailable self.now pass.old reply }
         ensures own { SitsAt self.now pass.new }
         ensures goes_on { KeepsPast pass.old pass.new }
         ensures last { IsLatest pass.new }
-        ensures kept { view_of pass.new ≡ after_note (view_of pass.old) (Busy word) }
+        ensures kept { view_of pass.new ≡ after_note (view_of pass.old) reply }
         ensures rises { (front_in pass.old) ≤ (front_in pass.new) }
     {
         if let Some(task) = pass.face.task {
@@ -184,50 +178,7 @@ impl<R: SiteRule> Site<R> {
             // it end.
             let rec = Rec {
                 k: pass.face.front,
-                reply: Reply::Busy(word),
-            };
-            self.settle_unheld(pass, Entry { task, call }, rec);
-            pass.face.done += 1;
-        }
-    }
-
-    fn note_intr(&self, pass: &mut Pass<R>, call: u32)
-        requires own { SitsAt self.now pass.old }
-        requires numbered { IsSome (task_in pass.old) }
-        requires call { call ≡ (done_in pass.old) }
-        requires unsent { (hand_in pass.old).sent ≡ None }
-        requires next { MayNoteNext R.O.object R.unavailable self.now pass.old Intr }
-        ensures own { SitsAt self.now pass.new }
-        ensures goes_on { KeepsPast pass.old pass.new }
-        ensures last { IsLatest pass.new }
-        ensures kept { view_of pass.new ≡ after_note (view_of pass.old) Intr }
-        ensures rises { (front_in pass.old) ≤ (front_in pass.new) }
-    {
-        if let Some(task) = pass.face.task {
-            let rec = Rec {
-                k: pass.face.front,
-                reply: Reply::Intr,
-            };
-            self.settle_unheld(pass, Entry { task, call }, rec);
-            pass.face.done += 1;
-        }
-    }
-
-    fn note_sent(&self, pass: &mut Pass<R>, call: u32)
-        requires own { SitsAt self.now pass.old }
-        requires numbered { IsSome (task_in pass.old) }
-        requires call { call ≡ (done_in pass.old) }
-        requires next { MayNoteNext R.O.object R.unavailable self.now pass.old Sent }
-        ensures own { SitsAt self.now pass.new }
-        ensures goes_on { KeepsPast pass.old pass.new }
-        ensures last { IsLatest pass.new }
-        ensures kept { view_of pass.new ≡ after_note (view_of pass.old) Sent }
-        ensures rises { (front_in pass.old) ≤ (front_in pass.new) }
-    {
-        if let Some(task) = pass.face.task {
-            let rec = Rec {
-                k: pass.face.front,
-                reply: Reply::Sent,
+                reply,
             };
             self.settle_unheld(pass, Entry { task, call }, rec);
             pass.face.done += 1;
@@ -286,14 +237,12 @@ impl<R: SiteRule> Site<R> {
     fn settle(&self, pass: &mut Pass<R>, entry: Entry, rec: Rec)
         requires own { IsOneOf self.now pass.old }
         requires plain { settled (hand_in pass.old) rec.reply ≡ hand_in pass.old }
-        requires may { (words : Words)
-            × MayRecord R.O.object R.unavailable (plan_of self.now)
-            (hand_in pass.old) entry words rec (hand_in pass.old).log }
+        requires may { MayStoreRecord R.O.object R.unavailable self.now pass.old
+            entry rec (hand_in pass.old).log }
         ensures own { KeepsSeat pass.old pass.new }
         ensures face { SaysSame pass.old pass.new }
-        ensures kept { view_of pass.new ≡ handed (view_of pass.old)
-            (recorded (hand_in pass.old) ((view_of pass.old).steps + 1) entry rec
-            (hand_in pass.old).log) }
+        ensures kept { view_of pass.new ≡ with_record (view_of pass.old) (hand_in pass.old)
+            entry rec (hand_in pass.old).log }
     {
         self.store_record::<Brand>(pass, entry, rec);
     }
@@ -301,14 +250,12 @@ impl<R: SiteRule> Site<R> {
     /// Stores the record of a call that never held.
     fn settle_unheld(&self, pass: &mut Pass<R>, entry: Entry, rec: Rec)
         requires own { IsOneOf self.now pass.old }
-        requires may { (words : Words)
-            × MayRecord R.O.object R.unavailable (plan_of self.now)
-            (hand_in pass.old) entry words rec (hand_in pass.old).seen }
+        requires may { MayStoreRecord R.O.object R.unavailable self.now pass.old
+            entry rec (hand_in pass.old).seen }
         ensures own { KeepsSeat pass.old pass.new }
         ensures face { SaysSame pass.old pass.new }
-        ensures kept { view_of pass.new ≡ handed (view_of pass.old)
-            (recorded (settled (hand_in pass.old) rec.reply) ((view_of pass.old).steps + 1)
-            entry rec (hand_in pass.old).seen) }
+        ensures kept { view_of pass.new ≡ with_record (view_of pass.old)
+            (settled (hand_in pass.old) rec.reply) entry rec (hand_in pass.old).seen }
     {
         self.store_record::<Brand>(pass, entry, rec);
     }
@@ -316,12 +263,10 @@ impl<R: SiteRule> Site<R> {
     /// Stores a record, after which the pass has the hand `P.hand`.
     fn store_record<P: Puts>(&self, pass: &mut Pass<R>, entry: Entry, rec: Rec)
         requires own { IsOneOf self.now pass.old }
-        requires hand { P.hand ≡
-            recorded (settled (hand_in pass.old) rec.reply) ((view_of pass.old).steps + 1)
+        requires hand { P.hand ≡ recorded (settled (hand_in pass.old) rec.reply)
+            ((view_of pass.old).steps + 1) entry rec P.hand.seen }
+        requires may { MayStoreRecord R.O.object R.unavailable self.now pass.old
             entry rec P.hand.seen }
-        requires may { (words : Words)
-            × MayRecord R.O.object R.unavailable (plan_of self.now)
-            (hand_in pass.old) entry words rec P.hand.seen }
         ensures own { KeepsSeat pass.old pass.new }
         ensures face { SaysSame pass.old pass.new }
         ensures kept { view_of pass.new ≡ handed (view_of pass.old) P.hand }
