@@ -3,3 +3,5 @@ pub mod Handles
 pub mod Performing
 pub mod Copying
 pub mod Gathering
+pub mod MutexLocks
+pub mod MutexLockLaws
