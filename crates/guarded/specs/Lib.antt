@@ -1,3 +1,4 @@
+pub mod States
 pub mod Serving
 pub mod Handles
 pub mod Performing
