@@ -1,9 +1,9 @@
 -- One call of a lock after another.
-use Rattle.std.proofs.Common.{◌≡◌, ℕ, zero, suc, ◌+◌, ◌<◌, ◌≤◌, Bool, true, List, [], ◌∷◌, length, take, slice_index, slice_set, sym, ap, ◌∙◌, arith}
+use Rattle.std.proofs.Common.{◌≡◌, ℕ, zero, suc, ◌+◌, ◌<◌, ◌≤◌, List, [], ◌∷◌, length, take, slice_index, slice_set, sym, ap, ◌∙◌, arith}
 use Rattle.std.proofs.lemmas.Grind.{common_steps}
 use Rattle.lock_core.specs.declared.view.Hand.{Hand}
 use Rattle.lock_core.specs.Shown.{Shown, AllButHand}
-use Rattle.lock_core.specs.Locking.{Looks, Has}
+use Rattle.lock_core.specs.Locking.{Looks}
 use Rattle.guarded.specs.Performing.{HasStored}
 
 pub beside-trans : (v u w : Shown) → AllButHand v u → AllButHand u w → AllButHand v w

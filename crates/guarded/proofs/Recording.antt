@@ -16,6 +16,8 @@ use Rattle.word_bits.specs.Legal.{IsRecord, IsUnheldReply, is_intr, seen_after}
 use Rattle.lock_core.specs.declared.view.Hand.{Hand}
 use Rattle.lock_core.specs.declared.view.Held.{Held}
 use Rattle.lock_core.specs.declared.view.Held.TheVariants.{No}
+use Rattle.lock_core.specs.declared.view.Stage.{Stage}
+use Rattle.lock_core.specs.declared.view.Stage.TheVariants.{Logged}
 use Rattle.lock_core.specs.Records.{is_sent}
 use Rattle.lock_core.specs.Views.{recorded, committed, noted, next_entry}
 use Rattle.lock_core.specs.Passes.{IsReading, MayNote}
@@ -67,8 +69,10 @@ adds-freed wakes rec seen v m u a f = record {
   counts = counts-trans v m u a.counts f.keeps.counts;
 }
 
-pub adds-read : (v m : Shown) (step : ℕ) (rec : Rec) (seen : List Entry) → m.hand ≡ recorded v.hand step (next_entry v.hand) rec seen → AllButHand v m → AddsRecord rec seen v m
-adds-read v m step rec seen e b = record {
+-- a pass made a record: beside what a record changes, what it knows of the object alone may be other than before
+adds : (v m : Shown) (stage : Stage) (writes : Bool) (known : List ℕ) (log : List Entry) (step : ℕ) (rec : Rec) (seen : List Entry) → m.hand ≡ recorded (record v.hand { stage = stage; writes = writes; known = known; log = log }) step (next_entry v.hand) rec seen → AllButHand v m
+    → AddsRecord rec seen v m
+adds v m stage writes known log step rec seen e b = record {
   task = ap {A = Hand} (λ h. h.task) e;
   done = ap {A = Hand} (λ h. h.done) e;
   records = ap {A = Hand} (λ h. h.records) e;
@@ -81,20 +85,14 @@ adds-read v m step rec seen e b = record {
   counts = counts-beside v m (ap {A = Hand} (λ h. h.misses) e) b;
 }
 
+pub adds-read : (v m : Shown) (step : ℕ) (rec : Rec) (seen : List Entry) → m.hand ≡ recorded v.hand step (next_entry v.hand) rec seen → AllButHand v m → AddsRecord rec seen v m
+adds-read v m = adds v m v.hand.stage v.hand.writes v.hand.known v.hand.log
+
 pub adds-change : (v m : Shown) (step : ℕ) (xs : List ℕ) (reply : Reply) → m.hand ≡ committed (record v.hand { known = xs }) step (next_entry v.hand) reply → AllButHand v m
     → AddsRecord (record { k = length v.hand.log; reply = reply }) (v.hand.log ++ next_entry v.hand ∷ []) v m
-adds-change v m step xs reply e b = record {
-  task = ap {A = Hand} (λ h. h.task) e;
-  done = ap {A = Hand} (λ h. h.done) e;
-  records = ap {A = Hand} (λ h. h.records) e;
-  seen_is = ap {A = Hand} (λ h. h.seen) e;
-  sent = ap {A = Hand} (λ h. h.sent) e;
-  consumed = ap {A = Hand} (λ h. h.consumed) e;
-  saw = ap {A = Hand} (λ h. h.saw) e;
-  misses = ap {A = Hand} (λ h. h.misses) e;
-  fronts = b.1;
-  counts = counts-beside v m (ap {A = Hand} (λ h. h.misses) e) b;
-}
+adds-change v m step xs reply =
+    let log = v.hand.log ++ next_entry v.hand ∷ [] in
+    adds v m (Logged (next_entry v.hand)) false xs log step (record { k = length v.hand.log; reply = reply }) log
 
 -- a reply of an object is recorded at the end of the log
 pub noted-is : (h : Hand) (e : Entry) (reply : Reply) (step : ℕ) → IsObjectReply reply → noted h step e reply ≡ recorded h step e (record { k = length h.log; reply = reply }) h.log

@@ -14,6 +14,7 @@ use Rattle.lock_core.specs.Records.{row}
 use Rattle.lock_core.specs.Views.{Knows}
 use Rattle.lock_core.specs.Chronicles.{Chronicles}
 use Rattle.lock_core.specs.Locking.{Begins}
+use Rattle.guarded.specs.Gathering.{IsGathered}
 
 abbrev pub joined : List (List ℕ) → List ℕ
 joined [] = []
@@ -30,6 +31,18 @@ pub record AreRecWords (k : Plan) (h : Hand) (count : ℕ) (rows : List (List �
   pub many : length rows ≡ count
   pub each : (t : ℕ) → t < count → AreTaskWords k h t (length (row k t)) (row rows t)
 
+-- so many words came behind those of the records: a word for each call of the task
+abbrev pub AddsTaskWords : Plan → Hand → ℕ → Words → Words → Type 0
+AddsTaskWords k h t w w' = (words : List ℕ) × AreTaskWords k h t (length (row k t)) words × (w' ≡ record w { recs = w.recs ++ words })
+
+-- the words of the records are there: a word for each call of the plan
+abbrev pub AddsRecWords : Plan → Hand → Words → Words → Type 0
+AddsRecWords k h w w' = (rows : List (List ℕ)) × AreRecWords k h (length k) rows × (w' ≡ record w { recs = joined rows })
+
+-- what the rule of a site says of all records is so with those that the pass knows, and with its log
+abbrev pub KnowsChronicle : {Call : Type 0} → Obj Call → Unavailable → Plan → Hand → Type 0
+KnowsChronicle o unavailable k h = Chronicles o unavailable k h.records h.log
+
 -- The words are a log that begins with what the pass had seen, the state after it, and a word for each call: that of its record, if the pass knows it.
 pub record Copies {Call : Type 0} (o : Obj Call) (unavailable : Unavailable) (k : Plan) (h : Hand) (w : Words) : Type 0 where
   pub entries : List Entry
@@ -44,3 +57,7 @@ pub record Copies {Call : Type 0} (o : Obj Call) (unavailable : Unavailable) (k 
 -- the words are those of records and of a log that are one thread's history, with each call once, and of the state that it leaves
 abbrev pub IsHistory : {Call : Type 0} → Obj Call → Unavailable → Plan → Words → Type 0
 IsHistory o unavailable k w = (told : Records) × (entries : List Entry) × Tells w told entries × IsLegal o unavailable k told entries w.state
+
+-- they are, if the pass knows the records that all tasks made
+abbrev pub GatheredIsHistory : {Call : Type 0} → Obj Call → Unavailable → Plan → Hand → Words → Type 0
+GatheredIsHistory o unavailable k h w = IsGathered o unavailable k h → IsHistory o unavailable k w

@@ -1,5 +1,5 @@
 -- What `perform` does.
-use Rattle.std.specs.Prelude.{◌≡◌, ◌≢◌, ℕ, ◌+◌, ◌<◌, ◌≤◌, ◌&&◌, not, Bool, List, ◌∷◌, length, take, Some, None, IsSome}
+use Rattle.std.specs.Prelude.{◌≡◌, ◌≢◌, ℕ, ◌+◌, ◌≤◌, ◌&&◌, not, Bool, List, ◌∷◌, length, take, Some, None, IsSome}
 use Rattle.word_bits.specs.declared.call.CallWords.{CallWords}
 use Rattle.word_bits.specs.declared.call.Mode.{Mode}
 use Rattle.word_bits.specs.declared.call.Mode.TheVariants.{Int, Try}
@@ -14,11 +14,12 @@ use Rattle.word_bits.specs.Legal.{IsRecord, is_intr, seen_after}
 use Rattle.lock_core.specs.declared.how.Interrupted.{Interrupted}
 use Rattle.lock_core.specs.declared.view.Held.TheVariants.{No}
 use Rattle.lock_core.specs.declared.view.Hand.{Hand}
-use Rattle.lock_core.specs.Views.{next_entry}
+use Rattle.lock_core.specs.Views.{committed, next_entry}
 use Rattle.guarded.specs.declared.next.Next.{Next}
 use Rattle.lock_core.specs.Kinds.{Kind, unavailable}
 use Rattle.lock_core.specs.Shown.{Shown, NoCountFalls, IsNextCall}
-use Rattle.lock_core.specs.Locking.{Has, Begins, Sees, SawPending, Misses, Interrupts, KeepsPlace}
+use Rattle.lock_core.specs.Locking.{Has, HasSince, Begins, Sees, SawPending, Misses, Interrupts, KeepsPlace}
+use Rattle.guarded.specs.States.{state_in}
 
 -- it is the next call of the pass's task
 pub record IsNext {Call : Type 0} (o : Obj Call) (k : Plan) (h : Hand) (n : Next Call) : Type 0 where
@@ -29,6 +30,10 @@ pub record IsNext {Call : Type 0} (o : Obj Call) (k : Plan) (h : Hand) (n : Next
 -- the guarded words are these now, and all else is as before, but that the pass may write
 abbrev pub HasStored : List ℕ → Shown → Shown → Type 0
 HasStored words v u = (writes : Bool) × Has (record v.hand { writes = writes; known = words }) v u
+
+-- it stored what the call makes of the state, and recorded the call at the end of the log
+abbrev pub Changes : {Call : Type 0} → Obj Call → Plan → Call → Reply → Shown → Shown → Type 0
+Changes o k call reply v u = HasSince (λ step. committed (record v.hand { known = o.stores (o.meaning (state_in o k v.hand) call).0 }) step (next_entry v.hand) reply) v u
 
 -- no word
 abbrev pub no_word : ℕ → Type 0

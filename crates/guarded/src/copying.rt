@@ -1,17 +1,15 @@
 //! Copies of what an object's table has, and what a copy is that was made when all calls were done.
-ghost use Rattle.std.specs.Prelude.{◌≡◌, ◌≢◌, ℕ, ◌+◌, ◌<◌, ◌≤◌, List, [], ◌++◌, length, map, None, Some, IsSome};
-ghost use Rattle.word_bits.specs.declared.rec.Rec.{Rec as Record};
+ghost use Rattle.std.specs.Prelude.{◌≡◌, ◌≢◌, ◌+◌, ◌<◌, ◌≤◌, [], length, map, None, Some, IsSome};
 ghost use Rattle.word_bits.specs.EntryWord.{entry_word};
 ghost use Rattle.lock_core.specs.declared.view.Held.TheVariants.{No};
 ghost use Rattle.lock_core.specs.Plans.{calls_in};
 ghost use Rattle.lock_core.specs.Records.{row};
-ghost use Rattle.lock_core.specs.Chronicles.{Chronicles};
 ghost use Rattle.lock_core.specs.Kinds.{unavailable};
 ghost use Rattle.lock_core.specs.Shown.{PastGoesOn};
 ghost use Rattle.lock_core.specs.Locking.{Looks, Keeps};
 ghost use Rattle.guarded.specs.Handles.{lock_of};
-ghost use Rattle.guarded.specs.Copying.{Copies, IsHistory, AreTaskWords, AreRecWords, joined};
-ghost use Rattle.guarded.specs.Gathering.{IsGathered, HasDone};
+ghost use Rattle.guarded.specs.Copying.{Copies, GatheredIsHistory, KnowsChronicle, AddsTaskWords, AddsRecWords};
+ghost use Rattle.guarded.specs.Gathering.{HasDoneAll};
 
 use crate::guarded::Guarded;
 use crate::lock::SleepLock;
@@ -24,8 +22,8 @@ impl<L: SleepLock<O>, O: Served + Drop> Guarded<L, O> {
     /// Copies the records, the log and the state after it, with the lock held alone. The log begins
     /// with what the pass had seen, and each record that the pass knows is there.
     ///
-    /// If the pass knows the records that all tasks made, the copy is a legal history: one thread's,
-    /// with each call once.
+    /// If the pass knows the records that all tasks made, the copy is a legal history: one
+    /// thread's, with each call once.
     pub fn snapshot<W: Wait, C: Crew>(
         &self,
         rt: &W,
@@ -48,9 +46,8 @@ impl<L: SleepLock<O>, O: Served + Drop> Guarded<L, O> {
         ensures out { (L.view pass.new).hand.held ≡ No }
         ensures copied { Copies O.object (unavailable L.kind) (L.calls_on (lock_of self.now))
             (L.view pass.old).hand out.new }
-        ensures legal { IsGathered O.object (unavailable L.kind) (L.calls_on (lock_of self.now))
-            (L.view pass.old).hand →
-            IsHistory O.object (unavailable L.kind) (L.calls_on (lock_of self.now)) out.new }
+        ensures legal { GatheredIsHistory O.object (unavailable L.kind)
+            (L.calls_on (lock_of self.now)) (L.view pass.old).hand out.new }
     {
         self.lock.alone(rt, pass, cpu, crew);
         // While the pass holds alone nobody records a call that held, so records, log and words are
@@ -72,9 +69,8 @@ impl<L: SleepLock<O>, O: Served + Drop> Guarded<L, O> {
         ensures kept { Looks (L.view pass.old) (L.view pass.new) }
         ensures copied { out.new ≡
             record out.old { log = map entry_word (L.view pass.old).hand.log } }
-        ensures history { Chronicles O.object (unavailable L.kind)
-            (L.calls_on (lock_of self.now))
-            (L.view pass.old).hand.records (L.view pass.old).hand.log }
+        ensures history { KnowsChronicle O.object (unavailable L.kind)
+            (L.calls_on (lock_of self.now)) (L.view pass.old).hand }
     {
         let len = self.lock.log_len(pass);
         for at in 0..len {
@@ -90,9 +86,8 @@ impl<L: SleepLock<O>, O: Served + Drop> Guarded<L, O> {
         ensures own { L.sits (lock_of self.now) pass.new }
         ensures goes_on { PastGoesOn (L.view pass.old) (L.view pass.new) }
         ensures kept { Looks (L.view pass.old) (L.view pass.new) }
-        ensures copied { (rows : List (List ℕ)) × AreRecWords (L.calls_on (lock_of self.now))
-            (L.view pass.old).hand (length (L.calls_on (lock_of self.now))) rows ×
-            (out.new ≡ record out.old { recs = joined rows }) }
+        ensures copied { AddsRecWords (L.calls_on (lock_of self.now)) (L.view pass.old).hand
+            out.old out.new }
     {
         for task in 0..self.lock.tasks() {
             self.copy_task(pass, task, out);
@@ -108,10 +103,8 @@ impl<L: SleepLock<O>, O: Served + Drop> Guarded<L, O> {
         ensures own { L.sits (lock_of self.now) pass.new }
         ensures goes_on { PastGoesOn (L.view pass.old) (L.view pass.new) }
         ensures kept { Looks (L.view pass.old) (L.view pass.new) }
-        ensures copied { (words : List ℕ) × AreTaskWords (L.calls_on (lock_of self.now))
-            (L.view pass.old).hand task
-            (length (row (L.calls_on (lock_of self.now)) task)) words ×
-            (out.new ≡ record out.old { recs = out.old.recs ++ words }) }
+        ensures copied { AddsTaskWords (L.calls_on (lock_of self.now)) (L.view pass.old).hand
+            task out.old out.new }
     {
         for call in 0..self.lock.calls(task) {
             out.push_rec(self.lock.rec_word(pass, task, call));
@@ -159,9 +152,8 @@ impl<L: SleepLock<O>, O: Served + Drop> Guarded<L, O> {
         ensures out { (L.view pass.new).hand.held ≡ No }
         ensures sent { (L.view pass.new).hand.sent ≡ None }
         ensures consumed { (L.view pass.new).hand.consumed ≡ 0 }
-        ensures done { (rs : List Record) × HasDone O.object (unavailable L.kind)
-            (L.calls_on (lock_of self.now)) (L.view pass.new).hand task rs ×
-            (length rs ≡ length (row (L.calls_on (lock_of self.now)) task)) }
+        ensures done { HasDoneAll O.object (unavailable L.kind) (L.calls_on (lock_of self.now))
+            (L.view pass.new).hand task }
     {
         for call in 0..self.lock.calls(task) {
             self.perform(rt, pass, cpu, crew, gate, call);

@@ -66,8 +66,8 @@ impl<L: SleepLock<O>, O: Served + Drop> Guarded<L, O> {
         self.lock.split(pass)
     }
 
-    /// Waits until nobody has the task's number, and takes it with the task's records. What the pass
-    /// saw of the lock is forgotten, and it has seen as many entries as the task.
+    /// Waits until nobody has the task's number, and takes it with the task's records. What the
+    /// pass saw of the lock is forgotten, and it has seen as many entries as the task.
     pub fn begin<W: Wait>(&self, rt: &W, pass: &mut L::Pass, task: u32)
         requires own { L.sits (lock_of self.now) pass.old }
         requires numberless { (L.view pass.old).hand.task ≡ None }

@@ -5,6 +5,7 @@ mod copying;
 mod guarded;
 mod loading;
 mod lock;
+mod mutex_lock;
 mod next;
 mod perform;
 mod served;

@@ -28,8 +28,8 @@ use word_bits::{CallWords, MAX_TASKS, Object, Reply};
 /// A lock, with the object of the kind `O` that it guards and with its plan, records and log.
 ///
 /// What a clause says of a pass it says of what the pass shows (`view`): its hand, its counts, and
-/// the moments of the table up to its last step. `recall` says what was so at each of these moments,
-/// whatever the lock is. So a lock whose table keeps no rule can't be one of these.
+/// the moments of the table up to its last step. `recall` says what was so at each of these
+/// moments, whatever the lock is. So a lock whose table keeps no rule can't be one of these.
 pub trait SleepLock<O: Object>: Sized {
     /// What a task makes its steps with.
     type Pass: Drop;
@@ -72,8 +72,8 @@ pub trait SleepLock<O: Object>: Sized {
         ensures kept { Looks (view pass.old) (view pass.new) }
         ensures given { view result ≡ shown_split (view pass.old) };
 
-    /// Waits until nobody has the task's number, and takes it with the task's records. What the pass
-    /// saw of the lock is forgotten, and it has seen as many entries as the task.
+    /// Waits until nobody has the task's number, and takes it with the task's records. What the
+    /// pass saw of the lock is forgotten, and it has seen as many entries as the task.
     fn begin<W: Wait>(&self, rt: &W, pass: &mut Self::Pass, task: u32)
         requires own { sits self.now pass.old }
         requires numberless { (view pass.old).hand.task ≡ None }
@@ -107,8 +107,8 @@ pub trait SleepLock<O: Object>: Sized {
             (view into.old) (view into.new) };
 
     /// Loads, after which the pass knows what was so of the table at each moment so far, from the
-    /// new table on: the facts of every site, that the lock's word stated who held and whether tasks
-    /// waited, and that each step did to the site's words what every step does.
+    /// new table on: the facts of every site, that the lock's word stated who held and whether
+    /// tasks waited, and that each step did to the site's words what every step does.
     fn recall(&self, pass: &mut Self::Pass)
         requires own { sits self.now pass.old }
         ensures own { sits self.now pass.new }
@@ -142,8 +142,8 @@ pub trait SleepLock<O: Object>: Sized {
         ensures kept { Has (wrote (view pass.old).hand at value)
             (view pass.old) (view pass.new) };
 
-    /// Records the next call of the pass's task, which changes the object: the guarded words store what
-    /// it leaves of the state after the log. The call is appended to the log.
+    /// Records the next call of the pass's task, which changes the object: the guarded words store
+    /// what it leaves of the state after the log. The call is appended to the log.
     fn commit(&self, pass: &mut Self::Pass, call: u32, reply: Reply)
         requires own { sits self.now pass.old }
         requires held { (view pass.old).hand.held ≡ Alone }
@@ -158,9 +158,9 @@ pub trait SleepLock<O: Object>: Sized {
             (λ step. committed (view pass.old).hand step (next_entry (view pass.old).hand) reply)
             (view pass.old) (view pass.new) };
 
-    /// Records the next call of the pass's task, which changes nothing. Where the pass holds, the call
-    /// reads, and stands where the log ends. Where it holds nothing, the reply says why: the call stands
-    /// where the pass saw the log end.
+    /// Records the next call of the pass's task, which changes nothing. Where the pass holds, the
+    /// call reads, and stands where the log ends. Where it holds nothing, the reply says why: the
+    /// call stands where the pass saw the log end.
     fn note(&self, pass: &mut Self::Pass, call: u32, reply: Reply)
         requires own { sits self.now pass.old }
         requires numbered { IsSome (view pass.old).hand.task }

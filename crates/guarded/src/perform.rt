@@ -2,15 +2,15 @@
 ghost use Rattle.std.specs.Prelude.{◌≡◌, ◌≢◌, ◌<◌, ◌≤◌, Bool, true, false, length, slice_index, slice_set, take, None, Some, IsSome, IfOk, IfErr};
 ghost use Rattle.word_bits.specs.declared.call.Mode.TheVariants.{Int, Try};
 ghost use Rattle.word_bits.specs.Calls.{signal_of};
-ghost use Rattle.word_bits.specs.Histories.{state_after};
 ghost use Rattle.lock_core.specs.declared.view.Held.TheVariants.{No, Alone};
 ghost use Rattle.lock_core.specs.Records.{row};
-ghost use Rattle.lock_core.specs.Views.{committed, next_entry};
+ghost use Rattle.lock_core.specs.Views.{next_entry};
 ghost use Rattle.lock_core.specs.Kinds.{shares};
 ghost use Rattle.lock_core.specs.Shown.{IsNextCall, PastGoesOn};
-ghost use Rattle.lock_core.specs.Locking.{HasSince, Looks, Takes, KeepsPlace, Releases, IsStored, held_by};
+ghost use Rattle.lock_core.specs.Locking.{Looks, Takes, KeepsPlace, Releases, IsStored, held_by};
 ghost use Rattle.guarded.specs.Handles.{lock_of};
-ghost use Rattle.guarded.specs.Performing.{IsNext, Refuses, Serves, Performs, HasStored, no_word};
+ghost use Rattle.guarded.specs.Performing.{IsNext, Refuses, Serves, Performs, Changes, HasStored, no_word};
+ghost use Rattle.guarded.specs.States.{WasDone, reply_in};
 
 use crate::guarded::Guarded;
 use crate::loading::{load_words, value_of};
@@ -23,13 +23,13 @@ use std::sync::Wait;
 use word_bits::{CallWords, Mode, Object, Reply};
 
 impl<L: SleepLock<O>, O: Served + Drop> Guarded<L, O> {
-    /// Does the next call of the pass's task on the object, and records it: under a shared hold where
-    /// it reads, alone where it changes the object. A call that downgrades is recorded while the pass
-    /// holds alone, and looks at the object again beside others.
+    /// Does the next call of the pass's task on the object, and records it: under a shared hold
+    /// where it reads, alone where it changes the object. A call that downgrades is recorded while
+    /// the pass holds alone, and looks at the object again beside others.
     ///
-    /// The gate sees the task once, while it holds, unless the call couldn't have the lock. `Busy` is
-    /// the reply of a call that doesn't wait, `Intr` of one that a signal interrupted, and `Sent` of a
-    /// signal. The pass holds nothing afterwards.
+    /// The gate sees the task once, while it holds, unless the call couldn't have the lock. `Busy`
+    /// is the reply of a call that doesn't wait, `Intr` of one that a signal interrupted, and
+    /// `Sent` of a signal. The pass holds nothing afterwards.
     pub fn perform<W: Wait, C: Crew, G: Gate>(
         &self,
         rt: &W,
@@ -88,8 +88,8 @@ impl<L: SleepLock<O>, O: Served + Drop> Guarded<L, O> {
     {
         let _ = words;
         self.lock.signal(pass, target);
-        // Until its record is there the signal counts as sent by this pass, so none is lost or counted
-        // twice whoever consumes it first.
+        // Until its record is there the signal counts as sent by this pass, so none is lost or
+        // counted twice whoever consumes it first.
         self.lock.note(pass, call, Reply::Sent);
         Reply::Sent
     }
@@ -132,7 +132,8 @@ impl<L: SleepLock<O>, O: Served + Drop> Guarded<L, O> {
         }
     }
 
-    /// Takes the lock as a call of this mode does. `Err` has the reply of one that couldn't have it.
+    /// Takes the lock as a call of this mode does. `Err` has the reply of one that couldn't have
+    /// it.
     fn enter<W: Wait, C: Crew>(
         &self,
         rt: &W,
@@ -273,7 +274,8 @@ impl<L: SleepLock<O>, O: Served + Drop> Guarded<L, O> {
     {
         self.show(rt, pass, gate);
         let reply = O::look(&self.lock, pass, next.call);
-        // Recorded before the hold ends: no change can come between the call and its place in the log.
+        // Recorded before the hold ends: no change can come between the call and its place in the
+        // log.
         self.lock.note(pass, next.number, reply);
         self.lock.release_shared(rt, pass, crew);
         reply
@@ -312,8 +314,8 @@ impl<L: SleepLock<O>, O: Served + Drop> Guarded<L, O> {
         }
     }
 
-    /// Looks at what a call has just changed, beside others that look, and lets go. The reply is the
-    /// one that the call had.
+    /// Looks at what a call has just changed, beside others that look, and lets go. The reply is
+    /// the one that the call had.
     fn look_again<W: Wait, C: Crew, G: Gate>(
         &self,
         rt: &W,
@@ -330,10 +332,8 @@ impl<L: SleepLock<O>, O: Served + Drop> Guarded<L, O> {
             (L.view pass.old).hand }
         requires valid { O.object.IsCall known }
         requires downgrades { O.downgrades known ≡ true }
-        requires done { (s : O.object.State) × O.object.IsState s ×
-            ((O.object.meaning s known).0 ≡ state_after O.object
-            (L.calls_on (lock_of self.now)) (L.view pass.old).hand.log) ×
-            (reply ≡ (O.object.meaning s known).1) }
+        requires done { WasDone O.object (L.calls_on (lock_of self.now))
+            (L.view pass.old).hand known reply }
         ensures own { L.sits (lock_of self.now) pass.new }
         ensures goes_on { PastGoesOn (L.view pass.old) (L.view pass.new) }
         ensures reply { result ≡ reply }
@@ -356,10 +356,8 @@ impl<L: SleepLock<O>, O: Served + Drop> Guarded<L, O> {
             (L.view pass.old).hand }
         requires valid { O.object.IsCall known }
         requires downgrades { O.downgrades known ≡ true }
-        requires done { (s : O.object.State) × O.object.IsState s ×
-            ((O.object.meaning s known).0 ≡ state_after O.object
-            (L.calls_on (lock_of self.now)) (L.view pass.old).hand.log) ×
-            (reply ≡ (O.object.meaning s known).1) }
+        requires done { WasDone O.object (L.calls_on (lock_of self.now))
+            (L.view pass.old).hand known reply }
         ensures own { L.sits (lock_of self.now) pass.new }
         ensures goes_on { PastGoesOn (L.view pass.old) (L.view pass.new) }
         ensures kept { Looks (L.view pass.old) (L.view pass.new) }
@@ -383,15 +381,9 @@ impl<L: SleepLock<O>, O: Served + Drop> Guarded<L, O> {
         requires changes { O.object.reads next.call ≡ false }
         ensures own { L.sits (lock_of self.now) pass.new }
         ensures goes_on { PastGoesOn (L.view pass.old) (L.view pass.new) }
-        ensures reply { let s = state_after O.object
-            (L.calls_on (lock_of self.now)) (L.view pass.old).hand.log in
-            result ≡ (O.object.meaning s next.call).1 }
-        ensures kept { let s = state_after O.object
-            (L.calls_on (lock_of self.now)) (L.view pass.old).hand.log in
-            HasSince (λ step. committed (record (L.view pass.old).hand {
-              known = O.object.stores (O.object.meaning s next.call).0;
-            })
-            step (next_entry (L.view pass.old).hand) result)
+        ensures reply { result ≡ reply_in O.object (L.calls_on (lock_of self.now))
+            (L.view pass.old).hand next.call }
+        ensures kept { Changes O.object (L.calls_on (lock_of self.now)) next.call result
             (L.view pass.old) (L.view pass.new) }
     {
         let words = load_words::<O, L>(&self.lock, pass);

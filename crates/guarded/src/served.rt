@@ -1,15 +1,13 @@
 //! The objects that tasks are served.
 ghost use Rattle.std.specs.Prelude.{◌≡◌, ◌≢◌, ◌⊎◌, Bool, true, false};
 ghost use Rattle.word_bits.specs.PageMaps.{PageMap, IsPageMap};
-ghost use Rattle.word_bits.specs.declared.reply.Errno.{Errno};
-ghost use Rattle.word_bits.specs.declared.reply.Reply.TheVariants.{Refused};
-ghost use Rattle.word_bits.specs.Histories.{state_after};
 ghost use Rattle.lock_core.specs.declared.view.Held.TheVariants.{No};
 ghost use Rattle.lock_core.specs.Shown.{PastGoesOn};
 ghost use Rattle.lock_core.specs.Locking.{Looks, IsStored};
 ghost use Rattle.vma_map.specs.Runs.{AreRuns, page_map};
 ghost use Rattle.vma_map.specs.Spaces.{IsAccess, AreSpaceWords, access_reply, stores};
 ghost use Rattle.guarded.specs.Serving.{readable_from, share};
+ghost use Rattle.guarded.specs.States.{Confirms, reply_in};
 
 use crate::loading::{load_words, value_of};
 use crate::lock::SleepLock;
@@ -37,14 +35,9 @@ pub trait Served: Object {
         ensures goes_on { PastGoesOn (L.view pass.old) (L.view pass.new) }
         ensures kept { Looks (L.view pass.old) (L.view pass.new) }
         ensures read { Self.object.reads call ≡ true →
-            let s = state_after Self.object (L.calls_on lock.now) (L.view pass.old).hand.log in
-            result ≡ (Self.object.meaning s call).1 }
+            result ≡ reply_in Self.object (L.calls_on lock.now) (L.view pass.old).hand call }
         ensures done { downgrades call ≡ true →
-            (s : Self.object.State) → Self.object.IsState s →
-            (Self.object.meaning s call).0 ≡
-            state_after Self.object (L.calls_on lock.now) (L.view pass.old).hand.log →
-            ((errno : Errno) → (Self.object.meaning s call).1 ≢ Refused errno) →
-            result ≡ (Self.object.meaning s call).1 };
+            Confirms Self.object (L.calls_on lock.now) (L.view pass.old).hand call result };
 
     // A call that downgrades doesn't read.
     ghost changes: { (call : Self.Call) →

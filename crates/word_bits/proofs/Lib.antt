@@ -3,3 +3,4 @@ pub mod Modes
 pub mod States
 pub mod Signals
 pub mod Unavailables
+pub mod EventCounts

@@ -1,13 +1,10 @@
-use Rattle.std.proofs.Common.{◌≡◌, List, length, map, sym, ap, ◌∙◌, subst}
-use Rattle.word_bits.specs.EntryWord.{entry_word}
+use Rattle.std.proofs.Common.{List, length, sym, ap, ◌∙◌, subst}
 use Rattle.word_bits.specs.Snapshots.{Words}
-use Rattle.word_bits.specs.Histories.{state_after}
 use Rattle.word_bits.proofs.States.{IsLawful}
 use Rattle.lock_core.specs.declared.view.Hand.{Hand}
 use Rattle.lock_core.specs.declared.view.Told.{Told}
 use Rattle.lock_core.specs.Chronicles.{Chronicles}
 use Rattle.lock_core.specs.Kinds.{unavailable}
-use Rattle.guarded.specs.Copying.{Copies}
 use Rattle.guarded.proofs.Serving.{known-sized}
 use Rattle.guarded.proofs.Legally.{words-same, is-history}
 use Rattle.guarded.proofs.guarded.Guarded.snapshot.Given as given

@@ -1,4 +1,4 @@
-use Rattle.std.proofs.Common.{◌≡◌, ◌+◌, ◌<◌, length, take, slice_index, slice_set, refl, sym, ap, ◌∙◌, rules, arith}
+use Rattle.std.proofs.Common.{◌≡◌, length, slice_index, slice_set, refl, sym, ap, ◌∙◌, rules, arith}
 use Rattle.lock_core.specs.declared.view.Hand.{Hand}
 use Rattle.guarded.proofs.Passing.{stored-more, set-length, set-other, take-now, take-index}
 use Rattle.guarded.proofs.guarded.Guarded.store.Goals as goal

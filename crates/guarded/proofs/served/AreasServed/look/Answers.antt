@@ -1,4 +1,4 @@
-use Rattle.std.proofs.Common.{◌≡◌, ℕ, List, length, take, refl, sym, ap, ◌∙◌, subst, arith, take_all}
+use Rattle.std.proofs.Common.{◌≡◌, ℕ, List, length, take, sym, ap, ◌∙◌, subst, arith, take_all}
 use Rattle.word_bits.specs.Histories.{state_after}
 use Rattle.word_bits.specs.PageMaps.{PageMap, runs}
 use Rattle.word_bits.specs.declared.reply.Reply.TheVariants.{Num}
@@ -56,6 +56,6 @@ returns-in-Populate-clause-done g c =
     let is = state_is_state space lawful k h.log in
     let state = c.value_of-space.ensures.state m is (sym c.requires.stored ∙ sym c.load_words-words.ensures.words) in
     let areas : page_map c.runs.result.now ≡ m = ap page_map c.runs.ensures ∙ (ap (λ (n : PageMap). page_map (runs n)) state ∙ page_map-runs m is) in
-    λ downs s state next fine. ap Num (c.readable_pages.ensures ∙ ap (λ (n : PageMap). readable_from n c.in-Populate.start c.in-Populate.len) areas)
-    ∙ (populate-counts s m c.in-Populate.start c.in-Populate.len c.in-Populate.prot (ap (λ (x : SpaceCall). (meaning s x).0) (sym c.in-Populate.is) ∙ next) (λ errno e. fine errno (ap (λ (x : SpaceCall). (meaning s x).1) c.in-Populate.is ∙ e))
-    ∙ ap (λ (x : SpaceCall). (meaning s x).1) (sym c.in-Populate.is))
+    λ downs reply done fine. let s = done.0 in ap Num (c.readable_pages.ensures ∙ ap (λ (n : PageMap). readable_from n c.in-Populate.start c.in-Populate.len) areas)
+    ∙ (populate-counts s m c.in-Populate.start c.in-Populate.len c.in-Populate.prot (ap (λ (x : SpaceCall). (meaning s x).0) (sym c.in-Populate.is) ∙ done.2) (λ errno e. fine errno (done.3 ∙ (ap (λ (x : SpaceCall). (meaning s x).1) c.in-Populate.is ∙ e)))
+    ∙ (ap (λ (x : SpaceCall). (meaning s x).1) (sym c.in-Populate.is) ∙ sym done.3))

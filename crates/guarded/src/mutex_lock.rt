@@ -1,0 +1,180 @@
+//! The mutex, as one of the locks that tasks sleep on. A shared hold of it is an exclusive one.
+
+use crate::lock::SleepLock;
+use cpu_task::Crew;
+use lock_core::{Held, How, Interrupted, Plan};
+use mutex_slow::{Mutex, MutexPass};
+use std::alloc::{AllocError, Global};
+use std::sync::Wait;
+use word_bits::{CallWords, Object, Reply};
+
+impl<O: Object> SleepLock<O> for Mutex<O> {
+    ghost use Rattle.lock_core.specs.Kinds.{mutex as mutex_kind};
+    ghost use Rattle.mutex_slow.specs.Handles.{newest, plan_of, shown_of};
+    ghost use Rattle.mutex_slow.specs.Mutexes.{owner_at};
+    ghost use Rattle.mutex_slow.specs.Stated.{waits_on};
+    ghost use Rattle.guarded.specs.MutexLocks.{SitsIdle};
+    ghost use Rattle.guarded.specs.MutexLockLaws.{sits-stands};
+
+    type Pass = MutexPass<O>;
+
+    ghost kind = { mutex_kind };
+
+    ghost word_at = { owner_at };
+
+    ghost calls_on = { plan_of };
+
+    ghost opened = { newest };
+
+    ghost waits = { waits_on };
+
+    ghost view = { shown_of };
+
+    ghost sits = { λ m p. SitsIdle O.object m p };
+
+    fn open(alloc: Global, plan: Plan) -> Result<(Mutex<O>, MutexPass<O>), AllocError> {
+        Mutex::open(alloc, plan)
+    }
+
+    fn split(&self, pass: &mut MutexPass<O>) -> MutexPass<O> {
+        self.split(pass)
+    }
+
+    fn begin<W: Wait>(&self, rt: &W, pass: &mut MutexPass<O>, task: u32) {
+        self.begin(rt, pass, task);
+    }
+
+    fn end(&self, pass: &mut MutexPass<O>) {
+        self.end(pass);
+    }
+
+    fn gather(&self, into: &mut MutexPass<O>, other: MutexPass<O>) {
+        self.gather(into, other);
+    }
+
+    fn recall(&self, pass: &mut MutexPass<O>) {
+        self.recall(pass);
+    }
+
+    fn word(&self, pass: &mut MutexPass<O>, at: usize) -> u64 {
+        self.word(pass, at)
+    }
+
+    fn set_word(&self, pass: &mut MutexPass<O>, at: usize, value: u64) {
+        self.set_word(pass, at, value);
+    }
+
+    fn commit(&self, pass: &mut MutexPass<O>, call: u32, reply: Reply) {
+        self.commit(pass, call, reply);
+    }
+
+    fn note(&self, pass: &mut MutexPass<O>, call: u32, reply: Reply) {
+        self.note(pass, call, reply);
+    }
+
+    fn signal(&self, pass: &mut MutexPass<O>, target: u32) {
+        self.signal(pass, target);
+    }
+
+    fn tasks(&self) -> u32 {
+        self.tasks()
+    }
+
+    fn calls(&self, task: u32) -> u32 {
+        self.calls(task)
+    }
+
+    fn call(&self, pass: &mut MutexPass<O>, task: u32, call: u32) -> CallWords {
+        self.call(pass, task, call)
+    }
+
+    fn rec_word(&self, pass: &mut MutexPass<O>, task: u32, call: u32) -> u64 {
+        self.rec_word(pass, task, call)
+    }
+
+    fn log_len(&self, pass: &mut MutexPass<O>) -> u32 {
+        self.log_len(pass)
+    }
+
+    fn log_word(&self, pass: &mut MutexPass<O>, at: u32) -> u64 {
+        self.log_word(pass, at)
+    }
+
+    fn task(&self, pass: &MutexPass<O>) -> Option<u32> {
+        self.task(pass)
+    }
+
+    fn held(&self, pass: &MutexPass<O>) -> Held {
+        self.held(pass)
+    }
+
+    fn done(&self, pass: &MutexPass<O>) -> u32 {
+        self.done(pass)
+    }
+
+    fn front(&self, pass: &MutexPass<O>) -> u32 {
+        self.front(pass)
+    }
+
+    fn shared<W: Wait, C: Crew>(
+        &self,
+        rt: &W,
+        pass: &mut MutexPass<O>,
+        cpu: &mut C::C,
+        crew: &C,
+    ) -> How {
+        self.lock(rt, pass, cpu, crew)
+    }
+
+    fn alone<W: Wait, C: Crew>(
+        &self,
+        rt: &W,
+        pass: &mut MutexPass<O>,
+        cpu: &mut C::C,
+        crew: &C,
+    ) -> How {
+        self.lock(rt, pass, cpu, crew)
+    }
+
+    fn shared_int<W: Wait, C: Crew>(
+        &self,
+        rt: &W,
+        pass: &mut MutexPass<O>,
+        cpu: &mut C::C,
+        crew: &C,
+    ) -> Result<How, Interrupted> {
+        self.lock_interruptible(rt, pass, cpu, crew)
+    }
+
+    fn alone_int<W: Wait, C: Crew>(
+        &self,
+        rt: &W,
+        pass: &mut MutexPass<O>,
+        cpu: &mut C::C,
+        crew: &C,
+    ) -> Result<How, Interrupted> {
+        self.lock_interruptible(rt, pass, cpu, crew)
+    }
+
+    fn try_shared<W: Wait>(&self, rt: &W, pass: &mut MutexPass<O>) -> Result<(), u64> {
+        self.trylock(rt, pass)
+    }
+
+    fn try_alone<W: Wait>(&self, rt: &W, pass: &mut MutexPass<O>) -> Result<(), u64> {
+        self.trylock(rt, pass)
+    }
+
+    fn release_shared<W: Wait, C: Crew>(&self, rt: &W, pass: &mut MutexPass<O>, crew: &C) {
+        self.unlock(rt, pass, crew);
+    }
+
+    fn release_alone<W: Wait, C: Crew>(&self, rt: &W, pass: &mut MutexPass<O>, crew: &C) {
+        self.unlock(rt, pass, crew);
+    }
+
+    fn downgrade<W: Wait, C: Crew>(&self, _rt: &W, _pass: &mut MutexPass<O>, _crew: &C) {}
+
+    ghost small = { λ m. m.site.small };
+
+    ghost stands = { λ m p is. sits-stands O.object m p is };
+}
