@@ -30,7 +30,7 @@ random_call kind start len prot =
     else if kind == 3 then call_words_of Protect Plain (record { first = start; second = len; prot = prot; access = 0 })
     else call_words_of Fault Plain (record { first = start; second = 0; prot = 0; access = random_access (prot % 3) })
 
--- the call that a number makes of a task, on one of 31 pages of its own
+-- the call that a number makes of a task, on some of 31 pages of its own
 abbrev pub random_line : (task x : ℕ) → Line
 random_line task x = line_of 0 (random_call (x / 2 ^ 28 % 8) (task * 4096 + x / 2 ^ 8 % 24) (1 + x / 2 ^ 16 % 8) (x / 2 ^ 20 % 8))
 

@@ -1,5 +1,5 @@
 //! Writes a script, line by line.
-ghost use Rattle.std.specs.Prelude.{◌≡◌, ◌<◌, ◌≤◌, ◌++◌, length, flat_map, slice_get, All, List, Ok, Some};
+ghost use Rattle.std.specs.Prelude.{◌≡◌, ◌<◌, ◌≤◌, ◌++◌, length, flat_map, slice_get, All, List, Ok, OnErr, Some};
 ghost use Rattle.task_script.specs.Causes.{CountsFailure, Adds, Puts};
 ghost use Rattle.task_script.specs.Grammar.{script_of};
 ghost use Rattle.task_script.specs.Scripts.{Declared};
@@ -15,7 +15,8 @@ use crate::source::Failed;
 ///
 /// # Errors
 ///
-/// The sink's first failure. It has then taken a front of what waited.
+/// The sink's first failure. It has then taken a front of what waited, all of which stays in the
+/// outbox.
 pub fn write_declaration<K: Sink>(
     script: &Script,
     object: usize,
@@ -25,6 +26,7 @@ pub fn write_declaration<K: Sink>(
     requires { object < length script.now.objects }
     ensures text { (d : Declared) → slice_get script.now.objects object ≡ Some d →
         Adds (K.written sink.old) (K.written sink.new) out.old out.new (declaration_text d) result }
+    ensures kept { OnErr result (out.new ≡ out.old) }
     ensures cause { CountsFailure (K.faults sink.old) (K.faults sink.new) result }
 {
     out.make_room(sink)?;

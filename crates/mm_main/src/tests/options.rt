@@ -65,6 +65,8 @@ fn refuses_other_words_unread(rt: HostRuntime) -> Result<(), Fail> {
         &["--", "--"],
         &["--help"],
         &["-h"],
+        &["-s"],
+        &["-g", "1"],
         &["--version"],
         &["-V"],
     ] {
