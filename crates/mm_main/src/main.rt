@@ -2,6 +2,10 @@
 //! history with every reply and the state that it leaves.
 #![tactic(auto)]
 
+ghost use Rattle.std.specs.Prelude.{◌≡◌};
+ghost use Rattle.std.specs.Process.{exit_status};
+ghost use Rattle.mm_main.specs.Answers.{status_number};
+
 mod input;
 mod options;
 mod program;
@@ -15,7 +19,8 @@ use std::process::ExitCode;
 use std::{env, io};
 use task_script::{ReadSource, WriteSink};
 
-/// The words after the program's name. One that isn't text is still a word.
+/// The words after the program's name. Where one of them or the name isn't text, all are one empty
+/// word, which is no option.
 fn words(alloc: Global, args: io::Result<env::Args>) -> io::Result<Vec<String>> {
     let mut words = Vec::new(alloc);
     match args {
@@ -39,8 +44,15 @@ fn run(rt: &HostRuntime) -> Status {
     top(rt.alloc(), words.as_slice(), &mut source, &mut sink)
 }
 
+/// The exit status of the program's status.
+fn exit_code(status: Status) -> ExitCode
+    ensures { exit_status result ≡ status_number status }
+{
+    ExitCode::from(status.number())
+}
+
 fn main(rt: HostRuntime) -> ExitCode {
-    ExitCode::from(run(&rt).number())
+    exit_code(run(&rt))
 }
 
 #[cfg(test)]

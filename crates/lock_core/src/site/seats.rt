@@ -18,7 +18,7 @@ use crate::pass::{Face, Pass};
 use crate::rule::SiteRule;
 use std::marker::Brand;
 use std::sync::Wait;
-use word_bits::{CallWords, Object, Rec, Reply};
+use word_bits::{Rec, is_logged};
 
 impl<R: SiteRule> Site<R> {
     /// Waits until nobody has the task's number, and takes it with the task's records. What the pass
@@ -151,15 +151,5 @@ impl<R: SiteRule> Site<R> {
             self.put::<Brand>(pass, LINES_AT + 8 * task as usize, 0);
             pass.face.task = None;
         }
-    }
-}
-
-/// Whether a call with this reply stands in the log.
-fn is_logged<O: Object>(words: CallWords, reply: Reply) -> bool
-    ensures { result ≡ logs O.object words reply }
-{
-    match reply {
-        Reply::Busy(_) | Reply::Intr | Reply::Sent => false,
-        _ => O::call_of(words).is_some_and(|call| !O::reads(call)),
     }
 }
