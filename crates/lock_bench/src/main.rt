@@ -1,15 +1,17 @@
-//! Times locks: pairs of taking and releasing, on threads. The words are CASE THREADS ROUNDS. Without
-//! words each case runs a little and nothing is timed.
+//! Times locks: pairs of taking and releasing, on threads. The words are CASE THREADS ROUNDS.
+//! Without words each case runs a little and nothing is timed.
 #![tactic(auto)]
 
 ghost use Rattle.std.specs.Prelude.{◌≤◌};
 
 mod front;
+mod mutex;
 mod plan;
 mod spin;
 mod timed;
 
 use lock_core::{Bare, Site};
+use mutex::Crewed;
 use osq_nodes::Osq;
 use std::alloc::{AllocError, Global};
 use std::process::ExitCode;
@@ -26,6 +28,8 @@ enum Case {
     Spin,
     /// The front of the optimistic spin queue.
     Front,
+    /// The mutex, whose waiters sleep on parkers.
+    Mutex,
 }
 
 impl Case {
@@ -34,6 +38,7 @@ impl Case {
         match self {
             Case::Spin => "spin",
             Case::Front => "front",
+            Case::Mutex => "mutex",
         }
     }
 
@@ -42,6 +47,7 @@ impl Case {
         match word {
             "spin" => Some(Case::Spin),
             "front" => Some(Case::Front),
+            "mutex" => Some(Case::Mutex),
             _ => None,
         }
     }
@@ -60,6 +66,7 @@ fn pairs<R: Threads + Wait + Sync>(
     match case {
         Case::Spin => timed::pairs::<Site<Bare>, R>(rt, alloc, threads, rounds),
         Case::Front => timed::pairs::<Osq, R>(rt, alloc, threads, rounds),
+        Case::Mutex => timed::pairs::<Crewed, R>(rt, alloc, threads, rounds),
     }
 }
 
@@ -80,14 +87,14 @@ fn run<R: Threads + Wait + Sync>(rt: &HostRuntime, crew: &R) -> io::Result<ExitC
         words.push(word)?;
     }
     if words.is_empty() {
-        for case in [Case::Spin, Case::Front] {
+        for case in [Case::Spin, Case::Front, Case::Mutex] {
             pairs(crew, rt.alloc(), case, 2, 100)?;
             println!(rt; "{} 2 100", case.name())?;
         }
         return Ok(ExitCode::SUCCESS);
     }
     let Some((case, threads, rounds)) = asked(words.as_slice()) else {
-        println!(rt; "usage: lock_bench [spin|front THREADS ROUNDS]")?;
+        println!(rt; "usage: lock_bench [spin|front|mutex THREADS ROUNDS]")?;
         return Ok(ExitCode::from(2));
     };
     if threads > MAX_TASKS {

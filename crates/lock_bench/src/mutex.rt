@@ -1,0 +1,69 @@
+//! Pairs on the mutex.
+ghost use Rattle.std.specs.Prelude.{length};
+ghost use Rattle.mutex_slow.specs.Handles.{IsIdle, plan_of};
+
+use crate::plan::without_calls;
+use crate::timed::Timed;
+use cpu_task::{Crew, ParkCpu, ParkCrew, Turns};
+use lock_core::Nothing;
+use mutex_slow::{Mutex, MutexPass};
+use std::alloc::{AllocError, Global};
+use std::sync::Wait;
+
+/// How long a task spins before it sleeps, and waits before it is owed the mutex.
+const TURNS: Turns = Turns {
+    spin: 100,
+    overdue: 100,
+};
+
+/// A mutex, and the crew that wakes those who sleep on it.
+#[derive(Drop)]
+pub struct Crewed {
+    mutex: Mutex<Nothing>,
+    crew: ParkCrew,
+}
+
+/// A pass, and the CPU of its thread.
+#[derive(Drop)]
+pub struct Worker {
+    pass: MutexPass<Nothing>,
+    cpu: ParkCpu,
+}
+
+impl Timed for Crewed {
+    type Worker = Worker;
+
+    ghost idle = { λ crewed worker. IsIdle crewed.mutex worker.pass };
+
+    ghost tasks = { λ crewed. length (plan_of crewed.mutex) };
+
+    fn start(alloc: Global, threads: u32) -> Result<(Crewed, Worker), AllocError> {
+        let plan = without_calls(alloc, threads)?;
+        let (mutex, pass) = Mutex::<Nothing>::open(alloc, plan)?;
+        let mut crew = ParkCrew::new(alloc, threads)?;
+        let cpu = crew.cpu(alloc, 0, TURNS)?;
+        Ok((Crewed { mutex, crew }, Worker { pass, cpu }))
+    }
+
+    /// The crew then wakes the CPU of the new worker in the name of the task.
+    fn another(
+        &mut self,
+        alloc: Global,
+        first: &mut Worker,
+        task: u32,
+    ) -> Result<Worker, AllocError> {
+        let cpu = self.crew.cpu(alloc, task, TURNS)?;
+        let pass = self.mutex.split(&mut first.pass);
+        Ok(Worker { pass, cpu })
+    }
+
+    fn rounds<W: Wait>(&self, rt: &W, worker: &mut Worker, task: u32, count: u32) {
+        self.mutex.begin(rt, &mut worker.pass, task);
+        for _ in 0..count {
+            self.mutex
+                .lock(rt, &mut worker.pass, &mut worker.cpu, &self.crew);
+            self.mutex.unlock(rt, &mut worker.pass, &self.crew);
+        }
+        self.mutex.end(&mut worker.pass);
+    }
+}
