@@ -1,5 +1,5 @@
 -- What a clause reads of a mutex and of a pass of it.
-use Rattle.std.specs.Prelude.{◌≡◌, ℕ, None}
+use Rattle.std.specs.Prelude.{◌≡◌, None}
 use Rattle.word_bits.specs.Histories.{Plan}
 use Rattle.lock_core.specs.declared.view.Hand.{Hand}
 use Rattle.lock_core.specs.declared.view.Moment.{Moment}
@@ -11,12 +11,12 @@ use Rattle.osq_nodes.specs.declared.node.Place.TheVariants.{Out}
 use Rattle.osq_nodes.specs.Handles as queue
 use Rattle.mutex_slow.specs.declared.calls.Mutex.{Mutex}
 use Rattle.mutex_slow.specs.declared.calls.MutexPass.{MutexPass}
-use Rattle.mutex_slow.specs.Mutexes.{idle, unmarked}
+use Rattle.mutex_slow.specs.Mutexes.{idle, standing}
 use Rattle.mutex_slow.specs.Places.{IsOutside, line_of}
 
 -- a new table of this plan
 abbrev pub newest : Plan → Moment
-newest k = opening unmarked k idle
+newest k = opening standing k idle
 
 module _ {O C : Type 0} where
   -- the calls that the mutex's tasks make

@@ -15,8 +15,8 @@ ghost use Rattle.lock_core.specs.Views.{gathered, gave_up};
 ghost use Rattle.osq_nodes.specs.Handles.{tasks_of};
 ghost use Rattle.lock_core.specs.Handles as inner;
 ghost use Rattle.mutex_slow.specs.Mutexes.{owner_at};
-ghost use Rattle.mutex_slow.specs.Places.{OnlyTried};
-ghost use Rattle.mutex_slow.specs.Stated.{HasBecome, IsMutexThen, waits_on};
+ghost use Rattle.mutex_slow.specs.Places.{EndsHold, OnlyTried};
+ghost use Rattle.mutex_slow.specs.Stated.{HasBecome, IsMutexThen, IsOutOfList, waits_on};
 ghost use Rattle.lock_core.specs.Locked.{IsLockedThen, IsSiteStep};
 ghost use Rattle.wait_list.specs.declared.view.Waiter.{Waiter as Waiters};
 
@@ -155,7 +155,7 @@ impl<O: Object> Mutex<O> {
         if !osq_unqueue::lock(&self.osq, rt, &mut pass.queue, cpu) {
             return false;
         }
-        let took = slow::spin_outside(&self.site, rt, &mut pass.pass, cpu);
+        let took = slow::spin_outside(&self.site, rt, &mut pass.pass, &pass.queue, cpu);
         self.osq.unlock(rt, &mut pass.queue);
         took
     }
@@ -277,6 +277,9 @@ impl<O: Object> Mutex<O> {
         ensures own { SitsAt self.now pass.new }
         ensures goes_on { PastGoesOn (shown_of pass.old) (shown_of pass.new) }
         ensures released { Releases (wakes_alone mutex) (shown_of pass.old) (shown_of pass.new) }
+        ensures ended { EndsHold (shown_of pass.old) (shown_of pass.new) }
+        ensures line { (shown_of pass.new).line ≡ (shown_of pass.old).line }
+        ensures entries { (shown_of pass.new).spin.entries ≤ (shown_of pass.old).spin.entries + 1 }
     {
         slow::unlock(&self.site, rt, &mut pass.pass, crew);
     }
@@ -284,8 +287,9 @@ impl<O: Object> Mutex<O> {
     /// A load, after which the pass knows what was so of the table at each moment so far, from the new
     /// table on: the facts of every site, which tasks wait, and that the owner word states who holds,
     /// who is picked, and whether tasks wait; and what each step did to the list and to the owner word:
-    /// the list changes by one append or one removal, a step that ends a hold while a handoff is asked
-    /// for picks the first waiter, and nobody but a picked waiter takes.
+    /// the list changes by one append or one removal; the first waiter alone asks for a handoff, which
+    /// stays asked for until the holder picks that waiter or nobody waits; a step that ends a hold
+    /// meanwhile picks the first waiter, and nobody but a picked waiter takes.
     pub fn recall(&self, pass: &mut MutexPass<O>)
         requires own { SitsAt self.now pass.old }
         ensures own { SitsAt self.now pass.new }
@@ -298,8 +302,10 @@ impl<O: Object> Mutex<O> {
         ensures states { EachMoment
             (IsLockedThen O.object mutex O.WORDS (plan_of self.now) owner_at waits_on)
             (shown_of pass.new).past }
+        ensures out { IsOutOfList (shown_of pass.new) }
         ensures moves { Paced (IsSiteStep (plan_of self.now)) (shown_of pass.new).past }
-        ensures lists { (l : List Waiters) × HasBecome (shown_of pass.new).past l }
+        ensures lists { (l : List Waiters) ×
+            HasBecome (plan_of self.now) (shown_of pass.new).past l }
     {
         self.site.recall(&mut pass.pass);
     }

@@ -7,7 +7,7 @@ ghost use Rattle.lock_core.specs.Locking.{Misses, Takes, SawPending};
 ghost use Rattle.lock_core.specs.Handles.{plan_of, view_of, hand_in, task_in, held_in, SitsAt};
 ghost use Rattle.mutex_slow.specs.Mutexes.{owner_at};
 ghost use Rattle.qspin_word.specs.Ways.{SpinGained};
-ghost use Rattle.mutex_slow.specs.Places.{seen_of, StepsOn, StandsSame, IsOutside, IsInLine, HasFailed, OnlyHeard, OnlyConsumed, OnlyTried, IsFreed, HandedTo};
+ghost use Rattle.mutex_slow.specs.Places.{seen_of, StepsOn, StandsSame, IsOutside, IsInLine, HasFailed, OnlyHeard, OnlyConsumed, OnlyTried, IsFreed, HandedTo, EndsUnasked, FindsAsked, NamesFirst};
 
 use crate::rule::MutexRule;
 use lock_core::{Interrupted, Pass, Site};
@@ -238,12 +238,14 @@ pub fn release<O: Object, W: Wait>(
         × ((hand_in pass.new).freed % 2 ≡ 0)) }
     ensures waiters { result ≡ Released.Waiters →
         IsFreed (view_of pass.old) (view_of pass.new) }
+    ensures ended { result ≢ Released.Asked → EndsUnasked (seen_of pass.old) (seen_of pass.new) }
     ensures asked { result ≡ Released.Asked → (hand_in pass.new) ≡ (hand_in pass.old) }
+    ensures found { result ≡ Released.Asked → FindsAsked (seen_of pass.old) (seen_of pass.new) }
 {
     // One exchange is enough where nobody waits.
-    if release_plain(site, pass).is_ok() {
+    let Err(_) = release_plain(site, pass) else {
         return Released::Done;
-    }
+    };
     match tries::release(site, rt, pass) {
         Ok(0) => Released::Done,
         Ok(_) => Released::Waiters,
@@ -268,6 +270,7 @@ pub fn hand_over<O: Object, W: Wait>(
     ensures same { StandsSame (view_of pass.old) (view_of pass.new) }
     ensures freed { IsFreed (view_of pass.old) (view_of pass.new) }
     ensures handed { HandedTo result (view_of pass.new) }
+    ensures named { NamesFirst result (seen_of pass.old) (seen_of pass.new) }
 {
     let Some(first) = list::first(site, pass) else {
         tries::hand_over(site, rt, pass, None);

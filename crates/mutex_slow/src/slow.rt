@@ -5,26 +5,33 @@ ghost use Rattle.lock_core.specs.Views.{SpinHolds, SpinRests};
 ghost use Rattle.lock_core.specs.Kinds.{mutex, wakes_alone};
 ghost use Rattle.lock_core.specs.Locking.{Interrupts, Takes, Releases, SawPending};
 ghost use Rattle.lock_core.specs.Handles.{plan_of, view_of, hand_in, task_in, held_in, SitsAt};
+ghost use Rattle.osq_nodes.specs.declared.node.Place.TheVariants.{Front};
+ghost use Rattle.osq_nodes.specs.Handles as spinners;
 ghost use Rattle.mutex_slow.specs.Mutexes.{owner_at};
-ghost use Rattle.mutex_slow.specs.Places.{seen_of, StepsOn, StandsSame, IsOutside, IsInLine, HasFailed, OnlyHeard, OnlyConsumed, OnlyTried, GotInLine, WentInLine};
+ghost use Rattle.mutex_slow.specs.Places.{seen_of, StepsOn, StandsSame, IsOutside, IsInLine, HasFailed, OnlyHeard, OnlyConsumed, OnlyTried, GotInLine, WentInLine, EndsHold};
 
 use crate::parts;
 use crate::parts::Released;
 use crate::rule::MutexRule;
 use cpu_task::{Cpu, Crew};
 use lock_core::{How, Interrupted, Pass, Site};
+use osq_nodes::OsqPass;
 use std::sync::Wait;
 use wait_list::Waiter;
 use word_bits::Object;
 
-/// Tries of a pass that is in no list, until one takes or the CPU needs rescheduling.
+/// Tries of a pass that is in no list, until one takes or the CPU needs rescheduling. It is to be the
+/// front of the spin queue until it returns: one spinner at a time tries.
 pub fn spin_outside<O: Object, W: Wait, C: Cpu>(
     site: &Site<MutexRule<O>>,
     rt: &W,
     pass: &mut Pass<MutexRule<O>>,
+    queue: &OsqPass,
     cpu: &mut C,
 ) -> bool
     requires own { SitsAt site.now pass.old }
+    requires front { spinners.place_in queue.now ≡ Front }
+    requires its_own { spinners.task_in queue.now ≡ task_in pass.old }
     requires numbered { IsSome (task_in pass.old) }
     requires out { held_in pass.old ≡ No }
     requires outside { IsOutside (view_of pass.old) }
@@ -319,6 +326,8 @@ pub fn unlock<O: Object, W: Wait, C: Crew>(
     ensures unspun { SpinRests (view_of pass.new).spin }
     ensures outside { IsOutside (view_of pass.new) }
     ensures released { Releases (wakes_alone mutex) (seen_of pass.old) (seen_of pass.new) }
+    ensures ended { EndsHold (seen_of pass.old) (seen_of pass.new) }
+    ensures entries { (view_of pass.new).spin.entries ≤ (view_of pass.old).spin.entries + 1 }
     ensures appends { (view_of pass.new).ext.appends ≡ (view_of pass.old).ext.appends }
 {
     match parts::release(site, rt, pass) {
