@@ -4,11 +4,13 @@ use Rattle.word_bits.specs.OwnerWord.{task_code}
 use Rattle.lock_core.specs.declared.view.Line.{Line}
 use Rattle.lock_core.specs.declared.pass.Pass.{Pass}
 use Rattle.lock_core.specs.declared.site.Site.{Site}
-use Rattle.lock_core.specs.Handles.{view_of, past_of, task_in, SitsAt, KeepsPast}
+use Rattle.lock_core.specs.Handles.{plan_of, view_of, hand_in, past_of, task_in, SitsAt, KeepsPast}
+use Rattle.word_bits.specs.Objects.{Obj}
+use Rattle.lock_core.specs.declared.view.Held.TheVariants.{Alone}
 use Rattle.lock_core.specs.declared.how.How.{How}
 use Rattle.lock_core.specs.declared.how.How.TheVariants.{Fast, Spun, Slept}
 use Rattle.lock_core.specs.Shown.{Shown, FindsSince, shown}
-use Rattle.lock_core.specs.Locking.{Keeps}
+use Rattle.lock_core.specs.Locking.{Keeps, Takes}
 use Rattle.wait_list.specs.declared.view.Waiter.{Waiter}
 use Rattle.mutex_slow.specs.declared.view.MutexHand.{MutexHand}
 use Rattle.mutex_slow.specs.declared.view.Point.TheVariants.{Rest}
@@ -49,6 +51,25 @@ module _ {R O C : Type 0} where
     pub task : task_in new ≡ task_in old
     pub goes_on : KeepsPast old new
     pub steps : (view_of old).steps ≤ (view_of new).steps
+
+  -- it holds alone
+  abbrev pub TakesAlone : {Call : Type 0} → Obj Call → Site R O MutexHand C → Pass R O MutexHand C → Pass R O MutexHand C → Type 0
+  TakesAlone o site old new = Takes o (plan_of site) Alone (seen_of old) (seen_of new)
+
+  -- the part of its view that concerns the site's own words is as it was
+  abbrev pub KeepsHand : Pass R O MutexHand C → Pass R O MutexHand C → Type 0
+  KeepsHand old new = hand_in new ≡ hand_in old
+
+  -- no failed try was counted
+  abbrev pub KeepsMisses : Pass R O MutexHand C → Pass R O MutexHand C → Type 0
+  KeepsMisses old new = (hand_in new).misses ≡ (hand_in old).misses
+
+  -- it has not been the front of a spin queue, nor appended itself
+  abbrev pub KeepsFronts : Pass R O MutexHand C → Pass R O MutexHand C → Type 0
+  KeepsFronts old new = (view_of new).fronts ≡ (view_of old).fronts
+
+  abbrev pub KeepsAppends : Pass R O MutexHand C → Pass R O MutexHand C → Type 0
+  KeepsAppends old new = (view_of new).ext.appends ≡ (view_of old).ext.appends
 
 -- how it stands in line, beside its misses: it has neither taken the wait lock nor appended itself
 pub record StandsSame (v u : V) : Type 0 where

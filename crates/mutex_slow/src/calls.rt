@@ -1,12 +1,11 @@
 //! Mutexes, their passes, and their calls.
-ghost use Rattle.std.specs.Prelude.{◌≡◌, ◌≢◌, ◌<◌, ◌≤◌, ◌+◌, ℕ, Bool, true, false, List, [], ◌∷◌, length, Some, None, IsSome, IfOk, IfErr};
-ghost use Rattle.word_bits.specs.LockWords.{owned};
+ghost use Rattle.std.specs.Prelude.{◌≡◌, ◌≢◌, ◌<◌, ◌≤◌, ◌+◌, Bool, true, false, List, [], ◌∷◌, length, Some, None, IsSome, IfOk, IfErr};
 ghost use Rattle.lock_core.specs.declared.how.How.TheVariants.{Fast};
 ghost use Rattle.lock_core.specs.declared.view.Held.TheVariants.{No, Alone};
 ghost use Rattle.lock_core.specs.Kinds.{mutex, unavailable, wakes_alone};
 ghost use Rattle.lock_core.specs.Holding.{missed};
 ghost use Rattle.lock_core.specs.Pasts.{EachMoment, FoundAt, Paced, Tail};
-ghost use Rattle.lock_core.specs.Locking.{Looks, Has, HasSince, Takes, Misses, Interrupts, Releases, Got, KeepsPlace};
+ghost use Rattle.lock_core.specs.Locking.{Looks, Has, HasSince, Interrupts, Releases, Got, KeepsPlace};
 ghost use Rattle.lock_core.specs.Passes.{Numbered};
 ghost use Rattle.lock_core.specs.Records.{IsPlan};
 ghost use Rattle.lock_core.specs.Shown.{AllButHand, IsLatestStep, PastGoesOn, shown_new, shown_split};
@@ -50,7 +49,7 @@ pub struct MutexPass<O: Object> {
 }
 
 impl<O: Object> Mutex<O> {
-    ghost use Rattle.mutex_slow.specs.Handles.{newest, plan_of, shown_of, hand_in, SitsAt};
+    ghost use Rattle.mutex_slow.specs.Handles.{newest, plan_of, shown_of, hand_in, SitsAt, TakesAlone, KeepsFronts, KeepsMisses, EntersOnce, MissesAt, MissesIfShut};
 
     /// A new mutex: nobody holds, the state is empty, no call is logged or recorded. The pass has no
     /// task number.
@@ -139,14 +138,13 @@ impl<O: Object> Mutex<O> {
         ensures goes_on { PastGoesOn (shown_of pass.old) (shown_of pass.new) }
         ensures numbered { (hand_in pass.new).task ≡ (hand_in pass.old).task }
         ensures line { (shown_of pass.new).line ≡ (shown_of pass.old).line }
-        ensures took { result ≡ true → Takes O.object (plan_of self.now) Alone
-            (shown_of pass.old) (shown_of pass.new) }
+        ensures took { result ≡ true → TakesAlone O.object self.now pass.old pass.new }
         ensures front { result ≡ true →
             ((shown_of pass.new).fronts ≡ (shown_of pass.old).fronts + 1) }
         ensures missed { result ≡ false → OnlyTried (shown_of pass.old) (shown_of pass.new) }
         ensures out { result ≡ false → (hand_in pass.new).held ≡ No }
-        ensures stood { result ≡ false → (shown_of pass.new).fronts ≡ (shown_of pass.old).fronts →
-            (hand_in pass.new).misses ≡ (hand_in pass.old).misses }
+        ensures stood { result ≡ false → KeepsFronts pass.old pass.new →
+            KeepsMisses pass.old pass.new }
     {
         if cpu.need_resched() {
             return false;
@@ -173,8 +171,7 @@ impl<O: Object> Mutex<O> {
         requires out { (hand_in pass.old).held ≡ No }
         ensures own { SitsAt self.now pass.new }
         ensures goes_on { PastGoesOn (shown_of pass.old) (shown_of pass.new) }
-        ensures took { Takes O.object (plan_of self.now) Alone
-            (shown_of pass.old) (shown_of pass.new) }
+        ensures took { TakesAlone O.object self.now pass.old pass.new }
         ensures how { Got result (shown_of pass.old) (shown_of pass.new) }
         ensures line { (shared : Bool) → KeepsPlace mutex shared
             (shown_of pass.old) (shown_of pass.new) }
@@ -201,8 +198,7 @@ impl<O: Object> Mutex<O> {
         requires out { (hand_in pass.old).held ≡ No }
         ensures own { SitsAt self.now pass.new }
         ensures goes_on { PastGoesOn (shown_of pass.old) (shown_of pass.new) }
-        ensures took { IfOk result (λ _. Takes O.object (plan_of self.now) Alone
-            (shown_of pass.old) (shown_of pass.new)) }
+        ensures took { IfOk result (λ _. TakesAlone O.object self.now pass.old pass.new) }
         ensures how { IfOk result (λ how. Got how (shown_of pass.old) (shown_of pass.new)) }
         ensures interrupted { IfErr result (λ why. (reads : Bool) →
             Interrupts mutex reads owner_at why (shown_of pass.old) (shown_of pass.new)) }
@@ -226,13 +222,11 @@ impl<O: Object> Mutex<O> {
         requires out { (hand_in pass.old).held ≡ No }
         ensures own { SitsAt self.now pass.new }
         ensures goes_on { PastGoesOn (shown_of pass.old) (shown_of pass.new) }
-        ensures took { IfOk result (λ _. Takes O.object (plan_of self.now) Alone
-            (shown_of pass.old) (shown_of pass.new)) }
+        ensures took { IfOk result (λ _. TakesAlone O.object self.now pass.old pass.new) }
         ensures at_once { IfOk result (λ _. Got Fast (shown_of pass.old) (shown_of pass.new)) }
         ensures numbered { (hand_in pass.new).task ≡ (hand_in pass.old).task }
         ensures still_out { IfErr result (λ _. (hand_in pass.new).held ≡ No) }
-        ensures missed { IfErr result (λ word. (reads : Bool) → Misses mutex reads owner_at word
-            (shown_of pass.old) (shown_of pass.new)) }
+        ensures missed { IfErr result (λ word. MissesAt pass.old word pass.new) }
     {
         match parts::try_outside(&self.site, rt, &mut pass.pass) {
             Ok(()) => Ok(()),
@@ -248,8 +242,7 @@ impl<O: Object> Mutex<O> {
         requires out { (hand_in pass.old).held ≡ No }
         ensures own { SitsAt self.now pass.new }
         ensures goes_on { PastGoesOn (shown_of pass.old) (shown_of pass.new) }
-        ensures took { IfOk result (λ _. Takes O.object (plan_of self.now) Alone
-            (shown_of pass.old) (shown_of pass.new)) }
+        ensures took { IfOk result (λ _. TakesAlone O.object self.now pass.old pass.new) }
         ensures at_once { IfOk result (λ _. Got Fast (shown_of pass.old) (shown_of pass.new)) }
         ensures step { (shown_of pass.new).steps ≡ (shown_of pass.old).steps + 1 }
         ensures free { IfOk result (λ _. FoundAt owner_at 0 (shown_of pass.new).past) }
@@ -259,8 +252,7 @@ impl<O: Object> Mutex<O> {
         ensures saw { IfErr result (λ word. HasSince (λ step. missed (hand_in pass.old) word step)
             (shown_of pass.old) (shown_of pass.new)) }
         ensures found { IfErr result (λ word. FoundAt owner_at word (shown_of pass.new).past) }
-        ensures missed { IfErr result (λ word. (reads : Bool) → owned reads word →
-            Misses mutex reads owner_at word (shown_of pass.old) (shown_of pass.new)) }
+        ensures missed { IfErr result (λ word. MissesIfShut pass.old word pass.new) }
     {
         match take_free(&self.site, &mut pass.pass) {
             Ok(()) => Ok(()),
@@ -279,7 +271,7 @@ impl<O: Object> Mutex<O> {
         ensures released { Releases (wakes_alone mutex) (shown_of pass.old) (shown_of pass.new) }
         ensures ended { EndsHold (shown_of pass.old) (shown_of pass.new) }
         ensures line { (shown_of pass.new).line ≡ (shown_of pass.old).line }
-        ensures entries { (shown_of pass.new).spin.entries ≤ (shown_of pass.old).spin.entries + 1 }
+        ensures entries { EntersOnce pass.old pass.new }
     {
         slow::unlock(&self.site, rt, &mut pass.pass, crew);
     }

@@ -10,7 +10,7 @@ unasked e = cc
 
 pub returns-in-Waiters-clause-ended : goal.returns-in-Waiters-clause-ended
 returns-in-Waiters-clause-ended g c = let enters = c.enter.ensures.on.steps in let looks = c.first_waiter-first.ensures.on.steps in let leaves = c.leave.ensures.on.steps in
-    inl (unasked-then (seen_of c.args.pass.now) (seen_of c.release.new.pass) (seen_of c.leave.new.pass) (c.in-Waiters.ensures.ended unasked)
+    inl (unasked-then (seen_of c.args.pass.now) (seen_of c.release.new.pass) (seen_of c.leave.new.pass) (c.in-Waiters.ensures.ends unasked)
     (ap (λ (h : Hand). h.freed) (c.leave.ensures.hand ∙ (c.first_waiter-first.ensures.hand ∙ c.enter.ensures.gained.hand))) (omega (arith, enters, looks, leaves))
     (λ p t. c.leave.ensures.on.goes_on p (c.first_waiter-first.ensures.on.goes_on p (c.enter.ensures.on.goes_on p t))))
 
