@@ -1,5 +1,5 @@
 -- The lists of a run: each came of the one before it by one step.
-use Rattle.std.proofs.Common.{◌≡◌, ◌≢◌, ◌∙◌, ℕ, zero, suc, ◌+◌, ◌*◌, ◌/◌, ◌%◌, ◌==◌, ◌<◌, ◌≤◌, ◌⊎◌, inl, inr, Bool, true, false, List, [], ◌∷◌, length, map, get_or, Some, refl, sym, ap, subst, arith}
+use Rattle.std.proofs.Common.{◌≡◌, ◌∙◌, ℕ, zero, suc, ◌+◌, ◌*◌, ◌<◌, ◌≤◌, ◌⊎◌, inl, inr, Bool, true, false, List, [], ◌∷◌, length, map, get_or, refl, sym, ap, subst, arith}
 use mathlib.Core.Option.{some, some-injective}
 use lib.ListN.{get_elem?}
 use native.Mathlib.Decide.{ℕ_discrete}
@@ -8,9 +8,8 @@ use Rattle.word_bits.specs.declared.TheConstants.{MAX_TASKS}
 use Rattle.word_bits.specs.Objects.{Obj}
 use Rattle.word_bits.specs.Histories.{Plan}
 use Rattle.lock_core.specs.declared.view.Moment.{Moment}
-use Rattle.lock_core.specs.Layout.{site}
-use Rattle.lock_core.specs.Pasts.{Instant, Moves, Paced, Ran, instant, moment}
-use Rattle.lock_core.specs.Parts.{Each}
+use Rattle.lock_core.specs.declared.view.Marks.{Marks}
+use Rattle.lock_core.specs.Pasts.{Instant, Moves, marks_of, steps_of, Paced, Ran, instant, moment}
 use Rattle.lock_core.specs.Records.{bit}
 use Rattle.lock_core.specs.Spins.{holds_in}
 use Rattle.lock_core.specs.Totals.{total}
@@ -19,11 +18,11 @@ use Rattle.lock_core.proofs.HandLaws.{false-or-true}
 use Rattle.wait_list.specs.declared.view.Waiter.{Waiter}
 use Rattle.wait_list.specs.declared.view.Change.{Change}
 use Rattle.wait_list.specs.declared.view.Change.TheVariants.{Stay, Enter, Leave}
-use Rattle.wait_list.specs.Lists.{Allowed, AreTasks, IsList, ListKept, Lists, MadeBy as MadeUnderLock, Part, changed, changes_of, counted, first_code, list_part, ticket_from}
+use Rattle.wait_list.specs.Lists.{Allowed, AreTasks, ListKept, MadeBy as MadeUnderLock, Part, changed, changes_of, counted, first_code, list_part, ticket_from}
 use Rattle.wait_list.proofs.Tickets.{counted-here, first-place, ticket-else, ticket-here, ticket-none}
 use Rattle.mutex_slow.specs.declared.view.MutexHand.{MutexHand}
-use Rattle.mutex_slow.specs.Mutexes.{IsOwnChange, Kept, MutexKept, MutexMoves, PicksFirst, TookUp, V, list_of, owner_in, unmarked}
-use Rattle.mutex_slow.specs.Stated.{HasBecome, HasWaitLock, IsListed, IsMutexStep, MadeBy, TakesUp}
+use Rattle.mutex_slow.specs.Mutexes.{AnswersHandoff, HasHandoff, IsFirstTask, IsOwnChange, Kept, MutexKept, MutexMoves, PicksFirst, TookUp, V, entered, list_of, owner_in, standing}
+use Rattle.mutex_slow.specs.Stated.{line_marks, HasBecome, HasWaitLock, IsMutexStep, MadeBy, TakesUp}
 use Rattle.mutex_slow.proofs.Stating.{listed}
 
 bit-same : (a b : Bool) → bit a ≡ bit b → a ≡ b
@@ -84,35 +83,57 @@ kept-same words l m ps a b = elim (native.Mathlib.Decide.dec_le (total changes_o
       sym ((a.each s.0 s.1 s.2).knows ((a.each s.0 s.1 s.2).changes is).0).0 ∙ ((b.each s.0 s.1 s.2).knows ((b.each s.0 s.1 s.2).changes is).0).0
 ]
 
-has-lock : (id t : ℕ) (ws : List ℕ) (vs : List V) (v : V) (p : Part) → get_elem? vs id ≡ some v → v.hand.task ≡ Some t → get_elem? (map (list_part list_of) vs) id ≡ some p → holds_in p.0 ≡ 1 → HasWaitLock id t (moment unmarked (instant ws vs))
-has-lock id t ws vs v p at task there holds = let same : p ≡ list_part list_of v = some-injective p (list_part list_of v) (sym there ∙ at_map (list_part list_of) vs id v at) in
-    (v.spin, v.hand, at_map spin_of vs id v at, sym (ap (λ (q : Part). holds_in q.0) same) ∙ holds, at_map hand_of vs id v at, task)
+has-lock : (id : ℕ) (ws : List ℕ) (vs : List V) (v : V) (p : Part) → get_elem? vs id ≡ some v → get_elem? (map (list_part list_of) vs) id ≡ some p → holds_in p.0 ≡ 1 → HasWaitLock id (moment standing (instant ws vs))
+has-lock id ws vs v p at there holds = let same : p ≡ list_part list_of v = some-injective p (list_part list_of v) (sym there ∙ at_map (list_part list_of) vs id v at) in
+    (v.spin, at_map spin_of vs id v at, sym (ap (λ (q : Part). holds_in q.0) same) ∙ holds)
 
-made-by : (id : ℕ) (ws : List ℕ) (vs : List V) (c : Change) → IsOwnChange id vs c → MadeUnderLock c id (map (list_part list_of) vs) → MadeBy c id (moment unmarked (instant ws vs))
-made-by id ws vs Stay own made = tt
-made-by id ws vs (Enter w) own made = has-lock id w.task ws vs own.0 made.0 own.1 own.2 made.1 made.2
-made-by id ws vs (Leave t) own made = has-lock id t ws vs own.0 made.0 own.1 own.2 made.1 made.2
+module _ (id : ℕ) (ws : List ℕ) (vs : List V) (v : V) (at : get_elem? vs id ≡ some v) where
+  same-pass : (w : V) → get_elem? vs id ≡ some w → v ≡ w
+  same-pass w there = some-injective v w (sym at ∙ there)
 
-takes-up : (id n n' : ℕ) (ws : List ℕ) (vs : List V) → (n' ≡ n) ⊎ TookUp id vs n n' → (n' ≡ n) ⊎ TakesUp id (moment unmarked (instant ws vs)) n n'
-takes-up id n n' ws vs (inl same) = inl same
-takes-up id n n' ws vs (inr t) = inr (t.0.hand, at_map hand_of vs id t.0 t.1, t.2, t.3)
+  made-by : (c : Change) → IsOwnChange id vs c → MadeUnderLock c id (map (list_part list_of) vs) → MadeBy c id v.hand (moment standing (instant ws vs))
+  made-by Stay own made = tt
+  made-by (Enter w) own made = let same = same-pass own.0 own.1 in (has-lock id ws vs v made.0 at made.1 made.2, ap (λ (x : V). x.hand.task) same ∙ own.2, ap (λ (x : V). x.hand.held) same ∙ own.3, own.4)
+  made-by (Leave t) own made = (has-lock id ws vs v made.0 at made.1 made.2, ap (λ (x : V). x.hand.task) (same-pass own.0 own.1) ∙ own.2)
 
-mutex-step : (k : Plan) (id : ℕ) (ws us : List ℕ) (vs vs' : List V) (m : MutexMoves k id ws vs us vs') (l l' : List Waiter) → m.list.list ≡ l → l' ≡ m.list.list' → IsMutexStep (moment unmarked (instant ws vs)) l (moment unmarked (instant us vs')) l'
-mutex-step k id ws us vs vs' m l l' old new = record {
-  id = id;
+  takes-up : (n n' : ℕ) → (n' ≡ n) ⊎ TookUp id vs n n' → (n' ≡ n) ⊎ TakesUp v.hand n n'
+  takes-up n n' (inl same) = inl same
+  takes-up n n' (inr t) = inr ((t.2.0, ap (λ (x : V). x.hand.task) (same-pass t.0 t.1) ∙ t.2.1, t.2.2), t.3)
+
+mutex-step : (k : Plan) (id : ℕ) (ws us : List ℕ) (vs vs' : List V) (m : MutexMoves k id ws vs us vs') (l l' : List Waiter) → m.list.list ≡ l → l' ≡ m.list.list' → IsMutexStep k (moment standing (instant ws vs)) l (moment standing (instant us vs')) l'
+mutex-step k id ws us vs vs' m l l' old new = let v = m.site.before in record {
+  by = record {
+    id = id;
+    before = v.hand;
+    after = m.site.after.hand;
+    at = at_map hand_of vs id v m.site.at;
+    at' = at_map hand_of vs' id m.site.after m.site.at';
+    steps = m.site.moved.site;
+    had = v.steps;
+    had_steps = at_map steps_of vs id v m.site.at;
+    has_steps = at_map steps_of vs' id m.site.after m.site.at' ∙ ap some m.site.moved.counts;
+  };
   change = m.list.change;
   allowed = subst (Allowed m.list.change) old m.list.allowed;
-  made = made-by id ws vs m.list.change m.own m.list.made;
+  made = made-by id ws vs v m.site.at m.list.change m.own m.list.made;
   is = new ∙ (m.list.is ∙ ap (changed m.list.change) old);
   hands = λ leaves. subst (PicksFirst (owner_in us)) old (m.hands leaves);
-  picks = λ high. takes-up id (owner_in ws) (owner_in us) ws vs (m.picks high);
+  picks = λ high. takes-up id ws vs v m.site.at (owner_in ws) (owner_in us) (m.picks high);
+  asks = λ asked. subst (IsFirstTask v.hand.task) old (m.asks asked);
+  stays = λ asked. subst (λ (z : List Waiter). HasHandoff (owner_in us) ⊎ AnswersHandoff v.hand (owner_in us) z) old (m.stays asked);
+  freed = m.freed;
+  appends = λ queued appends there. counted-on (map (marks_of standing) vs') id v m.site.after (entered m.list.change) queued appends (sym (at_map (marks_of standing) vs id v m.site.at) ∙ there) (at_map (marks_of standing) vs' id m.site.after m.site.at') m.appends;
 }
+  where
+    counted-on : (ms : List Marks) (id : ℕ) (v u : V) (by queued appends : ℕ) → some (marks_of standing v) ≡ some (line_marks queued appends) → get_elem? ms id ≡ some (marks_of standing u) → u.ext.appends ≡ v.ext.appends + by → (queued' : ℕ) × (get_elem? ms id ≡ some (line_marks queued' (appends + by)))
+    counted-on ms id v u by queued appends was is goes = let e : v.ext.appends ≡ appends = ap (λ (m : Marks). get_or m.numbers 1 0) (some-injective (marks_of standing v) (line_marks queued appends) was) in
+        (bit u.ext.queued, is ∙ ap (λ (n : ℕ). some (line_marks (bit u.ext.queued) n)) (goes ∙ ap (λ (n : ℕ). n + by) e))
 
 module _ {Call : Type 0} (o : Obj Call) (size : ℕ) (k : Plan) where
   abbrev Steps : Instant MutexHand → Instant MutexHand → Type 0
   Steps = Moves (Kept o size k) (MutexMoves k)
 
-  chains : (y : Instant MutexHand) (run : List (Instant MutexHand)) → Kept o size k y.words y.views → Paced Steps (y ∷ run) → (l : List Waiter) × MutexKept o size k y.words y.views l × HasBecome (map (moment unmarked) (y ∷ run)) l
+  chains : (y : Instant MutexHand) (run : List (Instant MutexHand)) → Kept o size k y.words y.views → Paced Steps (y ∷ run) → (l : List Waiter) × MutexKept o size k y.words y.views l × HasBecome k (map (moment standing) (y ∷ run)) l
   chains y [] kept paced = (kept.0, kept.1, listed o size k y.words y.views kept.0 kept.1)
   chains y (x ∷ run) kept paced = let move = paced.0 in let before = chains x run move.1 paced.1 in let m = move.3 in (
     kept.0,
@@ -129,10 +150,10 @@ module _ {Call : Type 0} (o : Obj Call) (size : ℕ) (k : Plan) where
     ),
   )
 
-  pub becomes : (begun m n : Moment) (h past : List Moment) → past ≡ m ∷ n ∷ h → Ran unmarked begun Steps past → (l : List Waiter) × HasBecome past l
+  pub becomes : (begun m n : Moment) (h past : List Moment) → past ≡ m ∷ n ∷ h → Ran standing begun Steps past → (l : List Waiter) × HasBecome k past l
   becomes begun m n h past two r = long r.0 (sym r.1 ∙ two) r.1 r.3
     where
-      long : (run : List (Instant MutexHand)) → map (moment unmarked) run ≡ m ∷ n ∷ h → past ≡ map (moment unmarked) run → Paced Steps run → (l : List Waiter) × HasBecome past l
+      long : (run : List (Instant MutexHand)) → map (moment standing) run ≡ m ∷ n ∷ h → past ≡ map (moment standing) run → Paced Steps run → (l : List Waiter) × HasBecome k past l
       long [] e is p = absurd (let l = ap length e in omega (arith, l))
       long (y ∷ []) e is p = absurd (let l = ap length e in omega (arith, l))
-      long (y ∷ x ∷ rest) e is p = let c = chains y (x ∷ rest) p.0.2 p in (c.0, subst (λ (ms : List Moment). HasBecome ms c.0) (sym is) c.2)
+      long (y ∷ x ∷ rest) e is p = let c = chains y (x ∷ rest) p.0.2 p in (c.0, subst (λ (ms : List Moment). HasBecome k ms c.0) (sym is) c.2)

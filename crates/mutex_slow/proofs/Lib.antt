@@ -1,4 +1,5 @@
 pub mod Showing
+pub mod Ending
 pub mod Queueing
 pub mod Stating
 pub mod Chaining

@@ -1,18 +1,17 @@
 -- What appending itself makes of where a pass stands.
-use Rattle.std.proofs.Common.{◌≡◌, ◌≢◌, ◌∙◌, ℕ, ◌+◌, ◌==◌, ◌<◌, ◌≤◌, Bool, true, false, List, [], ◌∷◌, ◌++◌, length, Option, Some, None, sym, refl, ap, subst, arith, eq-eqb, ne_eqb, if◌then◌else◌}
+use Rattle.std.proofs.Common.{◌≡◌, ◌≢◌, ◌∙◌, ◌==◌, Bool, List, [], ◌∷◌, ◌++◌, length, Some, sym, refl, ap, subst, arith, eq-eqb, ne_eqb, if◌then◌else◌}
 use Rattle.lock_core.specs.Records.{bit}
 use Rattle.lock_core.specs.Spins.{holds_in}
 use Rattle.lock_core.specs.SpinFrames.{holds_at}
 use Rattle.lock_core.specs.Views.{SpinHolds}
 use Rattle.wait_list.specs.declared.view.Waiter.{Waiter}
-use Rattle.wait_list.specs.declared.view.Change.TheVariants.{Stay, Enter, Leave}
+use Rattle.wait_list.specs.declared.view.Change.TheVariants.{Enter}
 use Rattle.wait_list.specs.declared.view.ListHand.{ListHand}
-use Rattle.wait_list.specs.Lists.{Appends, Removes, FindsFirst, Knows, list_part, counted, first_of}
-use Rattle.mutex_slow.specs.declared.view.Point.{Point}
-use Rattle.mutex_slow.specs.declared.view.Point.TheVariants.{Rest, Joins, Empties}
+use Rattle.wait_list.specs.Lists.{Appends, FindsFirst, Knows, list_part, counted, first_of}
+use Rattle.mutex_slow.specs.declared.view.Point.TheVariants.{Rest, Joins}
 use Rattle.mutex_slow.specs.Mutexes.{V, list_of, with_list, turned}
-use Rattle.mutex_slow.specs.Places.{IsInLine, IsOutside}
-use Rattle.mutex_word.specs.declared.host.Turn.TheVariants.{Flag, Clear}
+use Rattle.mutex_slow.specs.Places.{IsInLine}
+use Rattle.mutex_word.specs.declared.host.Turn.TheVariants.{Flag}
 use Rattle.mutex_word.specs.Holders.{turns}
 
 holds-one : (v : V) → SpinHolds v.spin → holds_in v.spin ≡ 1

@@ -1,5 +1,5 @@
 -- What the parts of a call show to callers of any lock.
-use Rattle.std.proofs.Common.{◌≡◌, ◌≢◌, ℕ, ◌+◌, ◌*◌, ◌<◌, ◌≤◌, ◌⊎◌, Bool, true, false, List, length, take, Option, Some, refl, sym, ap, ◌∙◌, subst, arith}
+use Rattle.std.proofs.Common.{◌≡◌, ℕ, ◌+◌, ◌*◌, ◌<◌, ◌≤◌, Bool, List, length, take, Option, refl, sym, ap, ◌∙◌, subst, arith}
 use Rattle.std.specs.Prelude.{Result, Ok, Err, IfErr}
 use Rattle.word_bits.specs.declared.TheConstants.{MAX_TASKS}
 use Rattle.lock_core.specs.declared.view.Hand.{Hand}
@@ -141,7 +141,7 @@ sees-within v a b u same steps before s saw more after = record {
   shut = s.shut;
 }
 
-since-within : (v a b u : Shown) {at n : ℕ} → a.hand.task ≡ v.hand.task → v.steps ≤ a.steps → PastGoesOn v a → FindsSince at n a b → b.steps ≤ u.steps → PastGoesOn b u → FindsSince at n v u
+pub since-within : (v a b u : Shown) {at n : ℕ} → a.hand.task ≡ v.hand.task → v.steps ≤ a.steps → PastGoesOn v a → FindsSince at n a b → b.steps ≤ u.steps → PastGoesOn b u → FindsSince at n v u
 since-within v a b u same steps before f more after = let e = f.1 in let d = f.2 in (f.0, omega (arith, e, steps), omega (arith, d, more), found-within same before after f.3)
 
 -- so are the signals that it heard of

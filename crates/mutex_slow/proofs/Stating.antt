@@ -1,6 +1,6 @@
 -- The rule of a mutex implies what is stated of it.
 use Rattle.std.proofs.Common.{◌≡◌, ◌≢◌, ◌∙◌, ℕ, zero, suc, ◌+◌, ◌*◌, ◌/◌, ◌%◌, ◌==◌, ◌<◌, ◌≤◌, ◌⊎◌, inl, inr, Bool, true, false, List, [], ◌∷◌, length, map, get_or, Option, Some, None, refl, sym, ap, subst, arith}
-use mathlib.Core.Option.{some}
+use mathlib.Core.Option.{some, some-injective}
 use lib.ListN.{get_elem?}
 use Rattle.atomic_table.proofs.Lists.{at_map}
 use Rattle.word_bits.specs.OwnerWord.{task_code}
@@ -8,7 +8,6 @@ use Rattle.word_bits.specs.LockWords.{owned}
 use Rattle.word_bits.specs.Objects.{Obj}
 use Rattle.word_bits.specs.Histories.{Plan}
 use Rattle.lock_core.specs.declared.view.Hand.{Hand}
-use Rattle.lock_core.specs.declared.view.SpinHand.{SpinHand}
 use Rattle.lock_core.specs.declared.view.Held.TheVariants.{No}
 use Rattle.lock_core.specs.Layout.{site}
 use Rattle.lock_core.specs.Locked.{HasPass, IsWaitLockFree}
@@ -17,19 +16,20 @@ use Rattle.lock_core.specs.Spins.{holds_in}
 use Rattle.lock_core.specs.Totals.{total, total-at, total-two}
 use Rattle.lock_core.specs.Parts.{Each}
 use Rattle.lock_core.specs.Records.{bit}
-use Rattle.lock_core.specs.Stated.{IsSite}
 use Rattle.lock_core.specs.Views.{hand_of, spin_of, held_weight, held_of, is_number}
-use Rattle.lock_core.specs.Pasts.{instant, moment}
+use Rattle.lock_core.specs.declared.view.Marks.{Marks}
+use Rattle.lock_core.specs.Pasts.{instant, marks_of, moment}
 use Rattle.lock_core.proofs.HandLaws.{false-or-true, held-none, number-or-not, not-both}
 use Rattle.lock_core.proofs.Stating.{kept-states}
 use Rattle.lock_core.proofs.WordSteps.{some-of}
-use Rattle.mutex_word.specs.Holders.{OwnKept, IsHolder, code_of}
+use Rattle.mutex_word.specs.Holders.{OwnKept, IsHolder}
 use Rattle.mutex_word.specs.OwnLaws.{Named, no-codes, only-code, alone-code}
 use Rattle.wait_list.specs.declared.view.Waiter.{Waiter}
 use Rattle.wait_list.specs.Lists.{Part, PartOk, changes_of, counted, first_code, list_part}
-use Rattle.mutex_slow.specs.Mutexes.{V, Flagged, Kept, MutexKept, SeatOk, list_of, owner_in, point_of, queued_of, unmarked}
-use Rattle.mutex_slow.specs.CoupledLaws.{point-held}
-use Rattle.mutex_slow.specs.Stated.{IsListed, IsMutexThen, StatesOwner}
+use Rattle.mutex_slow.specs.Mutexes.{V, Flagged, Kept, MutexKept, list_of, owner_in, point_of, queued_of, standing}
+use Rattle.mutex_slow.specs.CoupledLaws.{is-in, not-in, point-held}
+use Rattle.mutex_slow.specs.MutexLaws.{apart, at_unmap}
+use Rattle.mutex_slow.specs.Stated.{line_marks, IsListed, IsMutexThen}
 
 -- who holds, by a word that picks nobody
 holder-of : (hs : List Hand) (word : ℕ) → OwnKept word hs → Named hs → word % 8 < 4 → (task : Option ℕ) × (word / 8 ≡ task_code task) × IsHolder hs task
@@ -91,11 +91,23 @@ module _ {Call : Type 0} (o : Obj Call) (size : ℕ) (k : Plan) (ws : List ℕ) 
   has-pass : (t : ℕ) → 0 < counted t l → HasPass (map hand_of vs) t
   has-pass t more = let p = r.coupled.places t in let s = view-of (queued_of t) vs (omega (arith, p, more)) in (s.0, s.1.hand, at_map hand_of vs s.0 s.1 s.2, queued-task t s.1 s.3)
 
-  pub listed : IsListed (moment unmarked (instant ws vs)) l
+  -- the mark of a pass with a number says how often its task stands in the list
+  marks-list : (id t queued appends : ℕ) (h : Hand) → get_elem? (map hand_of vs) id ≡ some h → h.task ≡ Some t → get_elem? (map (marks_of standing) vs) id ≡ some (line_marks queued appends) → counted t l ≡ queued
+  marks-list id t queued appends h at is there = let p = at_unmap hand_of vs id h at in let v : V = p.0 in let named : v.hand.task ≡ Some t = ap {A = Hand} (λ g. g.task) p.2 ∙ is in
+      let mark : bit v.ext.queued ≡ queued = first-number v queued appends (some-injective (marks_of standing v) (line_marks queued appends) (sym (at_map (marks_of standing) vs id v p.1) ∙ there)) in
+      let alone = apart o size k ws vs l id v r p.1 in let once = r.list.sound.once t in false-or-true v.ext.queued
+      (λ waits. let some_is = is-in (owner_in ws) l vs id v r.coupled p.1 alone waits t named in let one : bit v.ext.queued ≡ 1 = ap bit waits in omega (arith, some_is, one, mark, once))
+      (λ out. let none_is = not-in (owner_in ws) l vs id v r.coupled p.1 alone out t named in let zero_it : bit v.ext.queued ≡ 0 = ap bit out in omega (arith, none_is, zero_it, mark))
+    where
+      first-number : (v : V) (queued appends : ℕ) → marks_of standing v ≡ line_marks queued appends → bit v.ext.queued ≡ queued
+      first-number v queued appends e = ap (λ (m : Marks). get_or m.numbers 0 0) e
+
+  pub listed : IsListed (moment standing (instant ws vs)) l
   listed = let own = r.own in record {
     sound = r.list.sound;
     states = λ free. r.list.quiet (quiet vs (λ j v at. changes (r.list.each j (list_part list_of v) (at_map (list_part list_of) vs j v at)) (all free j v at)));
     passes = has-pass;
+    marked = marks-list;
     owner = record {
       holder = holder-of (map hand_of vs) (owner_in ws) own named;
       picked = λ high. let none = own.picked high in let first = r.coupled.picked high in let big = named-word high in
@@ -108,5 +120,5 @@ module _ {Call : Type 0} (o : Obj Call) (size : ℕ) (k : Plan) (ws : List ℕ) 
   }
 
 module _ {Call : Type 0} (o : Obj Call) (size : ℕ) where
-  pub mutex-states : (k : Plan) (ws : List ℕ) (vs : List V) → Kept o size k ws vs → IsMutexThen o size k (moment unmarked (instant ws vs))
+  pub mutex-states : (k : Plan) (ws : List ℕ) (vs : List V) → Kept o size k ws vs → IsMutexThen o size k (moment standing (instant ws vs))
   mutex-states k ws vs r = (kept-states o owned size k (site k ws) (map hand_of vs) r.1.site_holds, (r.0, listed o size k ws vs r.0 r.1))

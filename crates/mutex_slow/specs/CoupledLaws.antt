@@ -1,28 +1,25 @@
 -- Each kind of step keeps the facts that couple the owner word, the list and the passes.
-use Rattle.std.proofs.Common.{◌≡◌, ◌≢◌, ℕ, zero, suc, ◌+◌, ◌-◌, ◌*◌, ◌/◌, ◌%◌, ◌<◌, ◌≤◌, ◌==◌, ◌⊎◌, inl, inr, Bool, true, false, List, [], ◌∷◌, ◌++◌, length, map, get_or, set, Option, Some, None, sym, refl, ap, ◌∙◌, subst, arith, eq-eqb, ne_eqb, if◌then◌else◌, ⊎_elim, length-append}
+use Rattle.std.proofs.Common.{◌≡◌, ◌≢◌, ℕ, zero, suc, ◌+◌, ◌-◌, ◌*◌, ◌/◌, ◌%◌, ◌<◌, ◌≤◌, ◌==◌, ◌⊎◌, inl, inr, Bool, true, false, List, [], ◌∷◌, ◌++◌, length, set, Option, Some, None, sym, refl, ap, ◌∙◌, subst, arith, eq-eqb, ne_eqb, if◌then◌else◌, ⊎_elim, length-append}
 use mathlib.Core.Option.{some, some-injective, some-ne-none}
 use mathlib.Core.Logic.{dite}
 use native.Mathlib.Decide.{ℕ_discrete}
 use lib.ListN.{get_elem?}
-use Rattle.lock_core.specs.declared.view.View.{View}
 use Rattle.lock_core.specs.declared.view.Hand.{Hand}
 use Rattle.lock_core.specs.declared.view.SpinHand.{SpinHand}
-use Rattle.lock_core.specs.declared.view.Held.TheVariants.{No, Alone}
 use Rattle.lock_core.specs.Views.{SpinStays, forgot, handed, seated, is_number}
 use Rattle.lock_core.specs.SpinFrames.{when}
-use Rattle.lock_core.specs.Records.{bit}
 use Rattle.lock_core.specs.Spins.{spun, holds_in}
-use Rattle.lock_core.specs.Totals.{total, total-set, total-same, total-snoc, total-at, total-two}
-use Rattle.lock_core.specs.Parts.{Each, each-set, each-snoc}
-use Rattle.lock_core.proofs.HandLaws.{not-both, false-or-true, is_number-here, is_number-else}
+use Rattle.lock_core.specs.Totals.{total, total-set, total-same, total-snoc, total-at}
+use Rattle.lock_core.specs.Parts.{each-set, each-snoc}
+use Rattle.lock_core.proofs.HandLaws.{not-both, is_number-here, is_number-else}
 use Rattle.lock_core.proofs.RowLaws.{none-some, same-some}
 use Rattle.mutex_word.specs.declared.host.Turn.TheVariants.{Fail, Take, Ask, Free, Hand as HandOn, Flag, Clear}
 use Rattle.mutex_word.specs.Holders.{turns}
 use Rattle.wait_list.specs.declared.view.Waiter.{Waiter}
-use Rattle.wait_list.specs.declared.view.Change.TheVariants.{Stay, Enter, Leave}
+use Rattle.wait_list.specs.declared.view.Change.TheVariants.{Enter, Leave}
 use Rattle.wait_list.specs.declared.view.ListHand.{ListHand}
 use Rattle.wait_list.specs.ListLaws.{holds-or-not}
-use Rattle.wait_list.specs.Lists.{first_code, counted, without, listed, no_list}
+use Rattle.wait_list.specs.Lists.{first_code, counted, without, listed}
 use Rattle.wait_list.proofs.Tickets.{counted-append, counted-without-own, counted-without-other, counted-here, counted-else, length-without, first-without}
 use Rattle.mutex_slow.specs.declared.view.MutexHand.{MutexHand}
 use Rattle.mutex_slow.specs.declared.view.Point.{Point}

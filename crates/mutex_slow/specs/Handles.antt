@@ -1,22 +1,29 @@
 -- What a clause reads of a mutex and of a pass of it.
-use Rattle.std.specs.Prelude.{◌≡◌, ℕ, None}
+use Rattle.std.specs.Prelude.{◌≡◌, ℕ, ◌+◌, ◌≤◌, Bool, None}
+use Rattle.word_bits.specs.LockWords.{owned}
+use Rattle.word_bits.specs.Objects.{Obj}
 use Rattle.word_bits.specs.Histories.{Plan}
 use Rattle.lock_core.specs.declared.view.Hand.{Hand}
+use Rattle.lock_core.specs.declared.view.Held.TheVariants.{Alone}
 use Rattle.lock_core.specs.declared.view.Moment.{Moment}
 use Rattle.lock_core.specs.Handles as inner
+use Rattle.lock_core.specs.Kinds.{mutex as kind}
+use Rattle.lock_core.specs.Locking.{Misses, Takes}
 use Rattle.lock_core.specs.Pasts.{opening}
 use Rattle.lock_core.specs.Shown.{Shown, shown}
-use Rattle.lock_core.specs.Views.{SpinRests}
+use Rattle.word_bits.specs.declared.rec.Rec.{Rec}
+use Rattle.word_bits.specs.RecWord.{rec_word}
+use Rattle.lock_core.specs.Views.{Knows, SpinRests}
 use Rattle.osq_nodes.specs.declared.node.Place.TheVariants.{Out}
 use Rattle.osq_nodes.specs.Handles as queue
 use Rattle.mutex_slow.specs.declared.calls.Mutex.{Mutex}
 use Rattle.mutex_slow.specs.declared.calls.MutexPass.{MutexPass}
-use Rattle.mutex_slow.specs.Mutexes.{idle, unmarked}
+use Rattle.mutex_slow.specs.Mutexes.{idle, owner_at, standing}
 use Rattle.mutex_slow.specs.Places.{IsOutside, line_of}
 
 -- a new table of this plan
 abbrev pub newest : Plan → Moment
-newest k = opening unmarked k idle
+newest k = opening standing k idle
 
 module _ {O C : Type 0} where
   -- the calls that the mutex's tasks make
@@ -29,6 +36,33 @@ module _ {O C : Type 0} where
 
   abbrev pub hand_in : MutexPass O C → Hand
   hand_in pass = inner.hand_in pass.pass
+
+  -- it holds alone
+  abbrev pub TakesAlone : {Call : Type 0} → Obj Call → Mutex O C → MutexPass O C → MutexPass O C → Type 0
+  TakesAlone o mutex old new = Takes o (plan_of mutex) Alone (shown_of old) (shown_of new)
+
+  -- it has taken the wait lock once at most
+  abbrev pub EntersOnce : MutexPass O C → MutexPass O C → Type 0
+  EntersOnce old new = (shown_of new).spin.entries ≤ (shown_of old).spin.entries + 1
+
+  -- its try, of a call that reads or changes, failed at this word
+  abbrev pub MissesAt : MutexPass O C → ℕ → MutexPass O C → Type 0
+  MissesAt old word new = (reads : Bool) → Misses kind reads owner_at word (shown_of old) (shown_of new)
+
+  -- so it did where the word names a task
+  abbrev pub MissesIfShut : MutexPass O C → ℕ → MutexPass O C → Type 0
+  MissesIfShut old word new = (reads : Bool) → owned reads word → Misses kind reads owner_at word (shown_of old) (shown_of new)
+
+  -- the word is that of this call's record, where the pass knows it
+  abbrev pub TellsRecord : MutexPass O C → (task call word : ℕ) → Type 0
+  TellsRecord pass task call word = (r : Rec) → Knows (hand_in pass) (record { task = task; call = call }) r → word ≡ rec_word r
+
+  -- how often it was the front of the spin queue is as it was, and how often it missed
+  abbrev pub KeepsFronts : MutexPass O C → MutexPass O C → Type 0
+  KeepsFronts old new = (shown_of new).fronts ≡ (shown_of old).fronts
+
+  abbrev pub KeepsMisses : MutexPass O C → MutexPass O C → Type 0
+  KeepsMisses old new = (hand_in new).misses ≡ (hand_in old).misses
 
   -- the pass is one of the mutex's, and no call on it is under way
   pub record SitsAt (mutex : Mutex O C) (pass : MutexPass O C) : Type 0 where

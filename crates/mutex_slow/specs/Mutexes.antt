@@ -1,11 +1,12 @@
 -- The rule of a mutex: the facts of its parts, and those that couple the owner word, the list and the passes.
-use Rattle.std.specs.Prelude.{◌≡◌, ◌≢◌, ℕ, ◌+◌, ◌*◌, ◌/◌, ◌%◌, ◌<◌, ◌≤◌, ◌==◌, ◌⊎◌, Bool, true, false, List, [], length, map, slice_index, ◌&&◌, Option, Some, None, if◌then◌else◌}
+use Rattle.std.specs.Prelude.{◌≡◌, ◌≢◌, ℕ, ◌+◌, ◌*◌, ◌/◌, ◌%◌, ◌<◌, ◌≤◌, ◌==◌, ◌⊎◌, Bool, true, false, List, [], ◌∷◌, length, map, slice_index, ◌&&◌, Option, Some, None, if◌then◌else◌}
 use mathlib.Core.Option.{some}
 use lib.ListN.{get_elem?}
 use Rattle.word_bits.specs.LockWords.{owned}
 use Rattle.word_bits.specs.Objects.{Obj}
 use Rattle.word_bits.specs.Histories.{Plan}
 use Rattle.lock_core.specs.declared.view.View.{View}
+use Rattle.lock_core.specs.declared.view.Hand.{Hand}
 use Rattle.lock_core.specs.declared.view.Held.TheVariants.{No, Alone}
 use Rattle.lock_core.specs.declared.layout.TheConstants.{SPIN_ROOM, SPIN_WORDS}
 use Rattle.lock_core.specs.Layout.{site, width, part}
@@ -14,11 +15,12 @@ use Rattle.lock_core.specs.Sites.{SiteKept}
 use Rattle.lock_core.specs.Moves.{SiteMove}
 use Rattle.lock_core.specs.SpinFrames.{when}
 use Rattle.lock_core.specs.Spins.{SpinKept, SpinMoves, holds_in}
+use Rattle.lock_core.specs.Records.{bit}
 use Rattle.lock_core.specs.Totals.{total}
 use Rattle.lock_core.specs.Parts.{Each}
 use Rattle.mutex_word.specs.declared.host.Turn.{Turn}
 use Rattle.mutex_word.specs.declared.host.Turn.TheVariants.{Fail, Take, Ask, Free, Hand as HandOn, Flag, Clear}
-use Rattle.mutex_word.specs.Holders.{OwnKept, IsAsk}
+use Rattle.mutex_word.specs.Holders.{KeepsLeft, OwnKept, IsAsk}
 use Rattle.mutex_word.specs.Tries.{IsTake}
 use Rattle.wait_list.specs.declared.view.Waiter.{Waiter}
 use Rattle.wait_list.specs.declared.view.Change.{Change}
@@ -36,9 +38,15 @@ V = View MutexHand
 abbrev pub idle : MutexHand
 idle = record { list = no_list; queued = false; point = Rest; first = false; failed = 0; appends = 0 }
 
--- a moment keeps nothing of what concerns the list
-abbrev pub unmarked : MutexHand → List ℕ
-unmarked e = []
+-- what a moment keeps of how a pass stands in line: whether its task is in the list, and how often it has appended itself
+abbrev pub standing : MutexHand → List ℕ
+standing e = bit e.queued ∷ e.appends ∷ []
+
+-- how often a change appends the pass that makes it
+abbrev pub entered : Change → ℕ
+entered Stay = 0
+entered (Enter w) = 1
+entered (Leave t) = 0
 
 abbrev pub list_of : MutexHand → ListHand
 list_of e = e.list
@@ -119,17 +127,33 @@ Leaves n m = (n % 8 < 4) × (2 ≤ n % 4) × (8 ≤ n) × (m / 8 ≢ n / 8)
 abbrev pub PicksFirst : ℕ → List Waiter → Type 0
 PicksFirst m l = (4 ≤ m % 8) × (m / 8 ≡ first_code l)
 
+-- the word has the flag of the handoff
+abbrev pub HasHandoff : ℕ → Type 0
+HasHandoff n = 2 ≤ n % 4
+
+-- from the first word to the second the flag of the handoff is set
+abbrev pub Asks : ℕ → ℕ → Type 0
+Asks n m = (n % 4 < 2) × HasHandoff m
+
+-- the task is the first waiter
+abbrev pub IsFirstTask : Option ℕ → List Waiter → Type 0
+IsFirstTask task l = (t : ℕ) × (task ≡ Some t) × (first_code l ≡ t + 1)
+
+-- a pass with this hand names the first waiter by this word, or finds that nobody waits
+abbrev pub AnswersHandoff : Hand → ℕ → List Waiter → Type 0
+AnswersHandoff h m l = ((h.held ≡ Alone) × PicksFirst m l) ⊎ (length l ≡ 0)
+
 -- a pass of this number took up what the word picks it for
 abbrev pub TookUp : ℕ → List V → ℕ → ℕ → Type 0
 TookUp id vs n m = (v : V) × (get_elem? vs id ≡ some v) × ((t : ℕ) × (v.hand.task ≡ Some t) × (n / 8 ≡ t + 1)) × (m + 4 ≡ n)
 
--- a pass changes the list by its own task alone
+-- a pass changes the list by its own task alone, which enters to hold alone, and doesn't hold yet
 abbrev pub IsOwnChange : ℕ → List V → Change → Type 0
 IsOwnChange id vs Stay = Unit {0}
-IsOwnChange id vs (Enter w) = (v : V) × (get_elem? vs id ≡ some v) × (v.hand.task ≡ Some w.task)
+IsOwnChange id vs (Enter w) = (v : V) × (get_elem? vs id ≡ some v) × (v.hand.task ≡ Some w.task) × (v.hand.held ≡ No) × (w.writer ≡ true)
 IsOwnChange id vs (Leave t) = (v : V) × (get_elem? vs id ≡ some v) × (v.hand.task ≡ Some t)
 
--- what a step may do: all that each step of a site, of a spin lock and of a list does; where it ends a hold while a handoff is asked for, it picks the first waiter; and a word that picks a waiter is changed by that waiter alone, which takes
+-- what a step may do: all that each step of a site, of a spin lock and of a list does; where it ends a hold while a handoff is asked for, it picks the first waiter; a word that picks a waiter is changed by that waiter alone, which takes; the first waiter alone asks for a handoff; the flag of the handoff stays until the holder names the first waiter or nobody waits; who ends a hold keeps the word that it left; and an append is counted by the pass that enters
 pub record MutexMoves (k : Plan) (id : ℕ) (ws : List ℕ) (vs : List V) (us : List ℕ) (vs' : List V) : Type 0 where
   pub site : SiteMove id (site k ws) vs (site k us) vs'
   pub spin : SpinMoves id (spin_words ws) (map spin_part vs) (spin_words us) (map spin_part vs')
@@ -137,6 +161,10 @@ pub record MutexMoves (k : Plan) (id : ℕ) (ws : List ℕ) (vs : List V) (us : 
   pub own : IsOwnChange id vs list.change
   pub hands : Leaves (owner_in ws) (owner_in us) → PicksFirst (owner_in us) list.list
   pub picks : 4 ≤ owner_in ws % 8 → (owner_in us ≡ owner_in ws) ⊎ TookUp id vs (owner_in ws) (owner_in us)
+  pub asks : Asks (owner_in ws) (owner_in us) → IsFirstTask site.before.hand.task list.list
+  pub stays : HasHandoff (owner_in ws) → HasHandoff (owner_in us) ⊎ AnswersHandoff site.before.hand (owner_in us) list.list
+  pub freed : KeepsLeft site.before.hand site.after.hand (owner_in us)
+  pub appends : site.after.ext.appends ≡ site.before.ext.appends + entered list.change
 
 abbrev pub may_free : V → Type 0
 may_free v = (v.ext.point ≡ Rest) × (v.ext.list.changes ≡ false)
@@ -177,7 +205,7 @@ with_list (Leave t) v b = record v.ext { list = b; queued = false; first = false
 
 abbrev pub may_change : Change → V → Type 0
 may_change Stay v = Unit {0}
-may_change (Enter w) v = (v.hand.task ≡ Some w.task) × (v.ext.queued ≡ false) × (v.ext.point ≡ Rest)
+may_change (Enter w) v = (v.hand.task ≡ Some w.task) × (v.ext.queued ≡ false) × (v.ext.point ≡ Rest) × (v.hand.held ≡ No) × (w.writer ≡ true)
 may_change (Leave t) v = (v.hand.task ≡ Some t) × (v.ext.queued ≡ true) × (v.ext.point ≡ Rest) × ((v.hand.held ≡ Alone) ⊎ (v.ext.failed ≡ v.spin.entries))
 
 abbrev pub is_code : Option ℕ → ℕ → Bool

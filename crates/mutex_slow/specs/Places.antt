@@ -1,19 +1,22 @@
 -- Where a pass stands in a call on a mutex, and what callers of any lock see of it.
-use Rattle.std.specs.Prelude.{◌≡◌, ℕ, ◌+◌, ◌<◌, ◌≤◌, ◌/◌, ◌%◌, Bool, true, false, Option, Some, None}
+use Rattle.std.specs.Prelude.{◌≡◌, ℕ, ◌+◌, ◌<◌, ◌≤◌, ◌/◌, ◌%◌, ◌⊎◌, true, false, Option, Some, None}
+use Rattle.word_bits.specs.OwnerWord.{task_code}
 use Rattle.lock_core.specs.declared.view.Line.{Line}
 use Rattle.lock_core.specs.declared.pass.Pass.{Pass}
 use Rattle.lock_core.specs.declared.site.Site.{Site}
-use Rattle.lock_core.specs.Handles.{view_of, past_of, task_in, SitsAt, KeepsPast}
+use Rattle.lock_core.specs.Handles.{plan_of, view_of, hand_in, past_of, task_in, SitsAt, KeepsPast}
+use Rattle.word_bits.specs.Objects.{Obj}
+use Rattle.lock_core.specs.declared.view.Held.TheVariants.{Alone}
 use Rattle.lock_core.specs.declared.how.How.{How}
 use Rattle.lock_core.specs.declared.how.How.TheVariants.{Fast, Spun, Slept}
-use Rattle.lock_core.specs.Shown.{Shown, shown}
-use Rattle.lock_core.specs.Locking.{Keeps}
+use Rattle.lock_core.specs.Shown.{Shown, FindsSince, shown}
+use Rattle.lock_core.specs.Locking.{Keeps, Takes}
 use Rattle.wait_list.specs.declared.view.Waiter.{Waiter}
 use Rattle.mutex_slow.specs.declared.view.MutexHand.{MutexHand}
 use Rattle.mutex_slow.specs.declared.view.Point.TheVariants.{Rest}
-use Rattle.wait_list.specs.Lists.{Knows, list_part, first_of}
+use Rattle.wait_list.specs.Lists.{Knows, list_part, first_of, waiter_code}
 use Rattle.lock_core.specs.Holding.{released}
-use Rattle.mutex_slow.specs.Mutexes.{V, list_of}
+use Rattle.mutex_slow.specs.Mutexes.{V, list_at, list_of, owner_at}
 
 -- how a pass has stood in line
 abbrev pub line_of : MutexHand → Line
@@ -49,6 +52,25 @@ module _ {R O C : Type 0} where
     pub goes_on : KeepsPast old new
     pub steps : (view_of old).steps ≤ (view_of new).steps
 
+  -- it holds alone
+  abbrev pub TakesAlone : {Call : Type 0} → Obj Call → Site R O MutexHand C → Pass R O MutexHand C → Pass R O MutexHand C → Type 0
+  TakesAlone o site old new = Takes o (plan_of site) Alone (seen_of old) (seen_of new)
+
+  -- the part of its view that concerns the site's own words is as it was
+  abbrev pub KeepsHand : Pass R O MutexHand C → Pass R O MutexHand C → Type 0
+  KeepsHand old new = hand_in new ≡ hand_in old
+
+  -- no failed try was counted
+  abbrev pub KeepsMisses : Pass R O MutexHand C → Pass R O MutexHand C → Type 0
+  KeepsMisses old new = (hand_in new).misses ≡ (hand_in old).misses
+
+  -- it has not been the front of a spin queue, nor appended itself
+  abbrev pub KeepsFronts : Pass R O MutexHand C → Pass R O MutexHand C → Type 0
+  KeepsFronts old new = (view_of new).fronts ≡ (view_of old).fronts
+
+  abbrev pub KeepsAppends : Pass R O MutexHand C → Pass R O MutexHand C → Type 0
+  KeepsAppends old new = (view_of new).ext.appends ≡ (view_of old).ext.appends
+
 -- how it stands in line, beside its misses: it has neither taken the wait lock nor appended itself
 pub record StandsSame (v u : V) : Type 0 where
   pub spin : u.spin ≡ v.spin
@@ -74,6 +96,35 @@ pub record HandedTo (first : Option Waiter) (u : V) : Type 0 where
   pub is : first ≡ first_of u.ext.list.list
   pub picks : (w : Waiter) → first ≡ Some w → (u.hand.freed / 8 ≡ w.task + 1) × (4 ≤ u.hand.freed % 8)
   pub nobody : first ≡ None → u.hand.freed < 2
+
+-- a step that the pass made since found the task's code in the owner word, with these flags
+abbrev pub FindsFlags : ℕ → Shown → Shown → Type 0
+FindsFlags flags v u = (n : ℕ) × FindsSince owner_at n v u × (n / 8 ≡ task_code v.hand.task) × (n % 8 ≡ flags)
+
+-- the step that ended the hold found no handoff asked for, and left the flags alone
+abbrev pub EndsUnasked : Shown → Shown → Type 0
+EndsUnasked v u = (u.hand.freed < 2) × FindsFlags u.hand.freed v u
+
+-- a step found a handoff asked for, and the pass still held
+abbrev pub FindsAsked : Shown → Shown → Type 0
+FindsAsked v u = (flags : ℕ) × (2 ≤ flags) × (flags < 4) × FindsFlags flags v u
+
+-- a word that picks this waiter, or names nobody
+abbrev pub Names : Option Waiter → ℕ → Type 0
+Names None word = word < 2
+Names (Some w) word = (word / 8 ≡ w.task + 1) × (4 ≤ word % 8)
+
+-- a step found the list's first word, which has the code of this waiter or 0, and the word that the pass left names the waiter
+abbrev pub NamesFirst : Option Waiter → Shown → Shown → Type 0
+NamesFirst first v u = FindsSince list_at (waiter_code first) v u × Names first u.hand.freed
+
+-- it found a handoff asked for, went through the wait lock, and named the first waiter, or nobody where none waited
+abbrev pub EndsAsked : Shown → Shown → Type 0
+EndsAsked v u = FindsAsked v u × (v.spin.entries < u.spin.entries) × ((first : Option Waiter) × NamesFirst first v u)
+
+-- how a call that releases ends its hold
+abbrev pub EndsHold : Shown → Shown → Type 0
+EndsHold v u = EndsUnasked v u ⊎ EndsAsked v u
 
 -- it recorded nothing, and has taken and ended no hold: tries failed, and loads heard of signals
 pub record OnlyTried (v u : Shown) : Type 0 where

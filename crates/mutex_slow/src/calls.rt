@@ -1,12 +1,11 @@
 //! Mutexes, their passes, and their calls.
-ghost use Rattle.std.specs.Prelude.{◌≡◌, ◌≢◌, ◌<◌, ◌≤◌, ◌+◌, ℕ, Bool, true, false, List, [], ◌∷◌, length, Some, None, IsSome, IfOk, IfErr};
-ghost use Rattle.word_bits.specs.LockWords.{owned};
+ghost use Rattle.std.specs.Prelude.{◌≡◌, ◌≢◌, ◌<◌, ◌≤◌, ◌+◌, Bool, true, false, List, [], ◌∷◌, length, Some, None, IsSome, IfOk, IfErr};
 ghost use Rattle.lock_core.specs.declared.how.How.TheVariants.{Fast};
 ghost use Rattle.lock_core.specs.declared.view.Held.TheVariants.{No, Alone};
 ghost use Rattle.lock_core.specs.Kinds.{mutex, unavailable, wakes_alone};
 ghost use Rattle.lock_core.specs.Holding.{missed};
 ghost use Rattle.lock_core.specs.Pasts.{EachMoment, FoundAt, Paced, Tail};
-ghost use Rattle.lock_core.specs.Locking.{Looks, Has, HasSince, Takes, Misses, Interrupts, Releases, Got, KeepsPlace};
+ghost use Rattle.lock_core.specs.Locking.{Looks, Has, HasSince, Interrupts, Releases, Got, KeepsPlace};
 ghost use Rattle.lock_core.specs.Passes.{Numbered};
 ghost use Rattle.lock_core.specs.Records.{IsPlan};
 ghost use Rattle.lock_core.specs.Shown.{AllButHand, IsLatestStep, PastGoesOn, shown_new, shown_split};
@@ -15,8 +14,8 @@ ghost use Rattle.lock_core.specs.Views.{gathered, gave_up};
 ghost use Rattle.osq_nodes.specs.Handles.{tasks_of};
 ghost use Rattle.lock_core.specs.Handles as inner;
 ghost use Rattle.mutex_slow.specs.Mutexes.{owner_at};
-ghost use Rattle.mutex_slow.specs.Places.{OnlyTried};
-ghost use Rattle.mutex_slow.specs.Stated.{HasBecome, IsMutexThen, waits_on};
+ghost use Rattle.mutex_slow.specs.Places.{EndsHold, OnlyTried};
+ghost use Rattle.mutex_slow.specs.Stated.{HasBecome, IsMutexThen, IsOutOfList, waits_on};
 ghost use Rattle.lock_core.specs.Locked.{IsLockedThen, IsSiteStep};
 ghost use Rattle.wait_list.specs.declared.view.Waiter.{Waiter as Waiters};
 
@@ -50,7 +49,7 @@ pub struct MutexPass<O: Object> {
 }
 
 impl<O: Object> Mutex<O> {
-    ghost use Rattle.mutex_slow.specs.Handles.{newest, plan_of, shown_of, hand_in, SitsAt};
+    ghost use Rattle.mutex_slow.specs.Handles.{newest, plan_of, shown_of, hand_in, SitsAt, TakesAlone, KeepsFronts, KeepsMisses, EntersOnce, MissesAt, MissesIfShut};
 
     /// A new mutex: nobody holds, the state is empty, no call is logged or recorded. The pass has no
     /// task number.
@@ -139,14 +138,13 @@ impl<O: Object> Mutex<O> {
         ensures goes_on { PastGoesOn (shown_of pass.old) (shown_of pass.new) }
         ensures numbered { (hand_in pass.new).task ≡ (hand_in pass.old).task }
         ensures line { (shown_of pass.new).line ≡ (shown_of pass.old).line }
-        ensures took { result ≡ true → Takes O.object (plan_of self.now) Alone
-            (shown_of pass.old) (shown_of pass.new) }
+        ensures took { result ≡ true → TakesAlone O.object self.now pass.old pass.new }
         ensures front { result ≡ true →
             ((shown_of pass.new).fronts ≡ (shown_of pass.old).fronts + 1) }
         ensures missed { result ≡ false → OnlyTried (shown_of pass.old) (shown_of pass.new) }
         ensures out { result ≡ false → (hand_in pass.new).held ≡ No }
-        ensures stood { result ≡ false → (shown_of pass.new).fronts ≡ (shown_of pass.old).fronts →
-            (hand_in pass.new).misses ≡ (hand_in pass.old).misses }
+        ensures stood { result ≡ false → KeepsFronts pass.old pass.new →
+            KeepsMisses pass.old pass.new }
     {
         if cpu.need_resched() {
             return false;
@@ -155,7 +153,7 @@ impl<O: Object> Mutex<O> {
         if !osq_unqueue::lock(&self.osq, rt, &mut pass.queue, cpu) {
             return false;
         }
-        let took = slow::spin_outside(&self.site, rt, &mut pass.pass, cpu);
+        let took = slow::spin_outside(&self.site, rt, &mut pass.pass, &pass.queue, cpu);
         self.osq.unlock(rt, &mut pass.queue);
         took
     }
@@ -173,8 +171,7 @@ impl<O: Object> Mutex<O> {
         requires out { (hand_in pass.old).held ≡ No }
         ensures own { SitsAt self.now pass.new }
         ensures goes_on { PastGoesOn (shown_of pass.old) (shown_of pass.new) }
-        ensures took { Takes O.object (plan_of self.now) Alone
-            (shown_of pass.old) (shown_of pass.new) }
+        ensures took { TakesAlone O.object self.now pass.old pass.new }
         ensures how { Got result (shown_of pass.old) (shown_of pass.new) }
         ensures line { (shared : Bool) → KeepsPlace mutex shared
             (shown_of pass.old) (shown_of pass.new) }
@@ -201,8 +198,7 @@ impl<O: Object> Mutex<O> {
         requires out { (hand_in pass.old).held ≡ No }
         ensures own { SitsAt self.now pass.new }
         ensures goes_on { PastGoesOn (shown_of pass.old) (shown_of pass.new) }
-        ensures took { IfOk result (λ _. Takes O.object (plan_of self.now) Alone
-            (shown_of pass.old) (shown_of pass.new)) }
+        ensures took { IfOk result (λ _. TakesAlone O.object self.now pass.old pass.new) }
         ensures how { IfOk result (λ how. Got how (shown_of pass.old) (shown_of pass.new)) }
         ensures interrupted { IfErr result (λ why. (reads : Bool) →
             Interrupts mutex reads owner_at why (shown_of pass.old) (shown_of pass.new)) }
@@ -226,13 +222,11 @@ impl<O: Object> Mutex<O> {
         requires out { (hand_in pass.old).held ≡ No }
         ensures own { SitsAt self.now pass.new }
         ensures goes_on { PastGoesOn (shown_of pass.old) (shown_of pass.new) }
-        ensures took { IfOk result (λ _. Takes O.object (plan_of self.now) Alone
-            (shown_of pass.old) (shown_of pass.new)) }
+        ensures took { IfOk result (λ _. TakesAlone O.object self.now pass.old pass.new) }
         ensures at_once { IfOk result (λ _. Got Fast (shown_of pass.old) (shown_of pass.new)) }
         ensures numbered { (hand_in pass.new).task ≡ (hand_in pass.old).task }
         ensures still_out { IfErr result (λ _. (hand_in pass.new).held ≡ No) }
-        ensures missed { IfErr result (λ word. (reads : Bool) → Misses mutex reads owner_at word
-            (shown_of pass.old) (shown_of pass.new)) }
+        ensures missed { IfErr result (λ word. MissesAt pass.old word pass.new) }
     {
         match parts::try_outside(&self.site, rt, &mut pass.pass) {
             Ok(()) => Ok(()),
@@ -248,8 +242,7 @@ impl<O: Object> Mutex<O> {
         requires out { (hand_in pass.old).held ≡ No }
         ensures own { SitsAt self.now pass.new }
         ensures goes_on { PastGoesOn (shown_of pass.old) (shown_of pass.new) }
-        ensures took { IfOk result (λ _. Takes O.object (plan_of self.now) Alone
-            (shown_of pass.old) (shown_of pass.new)) }
+        ensures took { IfOk result (λ _. TakesAlone O.object self.now pass.old pass.new) }
         ensures at_once { IfOk result (λ _. Got Fast (shown_of pass.old) (shown_of pass.new)) }
         ensures step { (shown_of pass.new).steps ≡ (shown_of pass.old).steps + 1 }
         ensures free { IfOk result (λ _. FoundAt owner_at 0 (shown_of pass.new).past) }
@@ -259,8 +252,7 @@ impl<O: Object> Mutex<O> {
         ensures saw { IfErr result (λ word. HasSince (λ step. missed (hand_in pass.old) word step)
             (shown_of pass.old) (shown_of pass.new)) }
         ensures found { IfErr result (λ word. FoundAt owner_at word (shown_of pass.new).past) }
-        ensures missed { IfErr result (λ word. (reads : Bool) → owned reads word →
-            Misses mutex reads owner_at word (shown_of pass.old) (shown_of pass.new)) }
+        ensures missed { IfErr result (λ word. MissesIfShut pass.old word pass.new) }
     {
         match take_free(&self.site, &mut pass.pass) {
             Ok(()) => Ok(()),
@@ -277,6 +269,9 @@ impl<O: Object> Mutex<O> {
         ensures own { SitsAt self.now pass.new }
         ensures goes_on { PastGoesOn (shown_of pass.old) (shown_of pass.new) }
         ensures released { Releases (wakes_alone mutex) (shown_of pass.old) (shown_of pass.new) }
+        ensures ended { EndsHold (shown_of pass.old) (shown_of pass.new) }
+        ensures line { (shown_of pass.new).line ≡ (shown_of pass.old).line }
+        ensures entries { EntersOnce pass.old pass.new }
     {
         slow::unlock(&self.site, rt, &mut pass.pass, crew);
     }
@@ -284,8 +279,9 @@ impl<O: Object> Mutex<O> {
     /// A load, after which the pass knows what was so of the table at each moment so far, from the new
     /// table on: the facts of every site, which tasks wait, and that the owner word states who holds,
     /// who is picked, and whether tasks wait; and what each step did to the list and to the owner word:
-    /// the list changes by one append or one removal, a step that ends a hold while a handoff is asked
-    /// for picks the first waiter, and nobody but a picked waiter takes.
+    /// the list changes by one append or one removal; the first waiter alone asks for a handoff, which
+    /// stays asked for until the holder picks that waiter or nobody waits; a step that ends a hold
+    /// meanwhile picks the first waiter, and nobody but a picked waiter takes.
     pub fn recall(&self, pass: &mut MutexPass<O>)
         requires own { SitsAt self.now pass.old }
         ensures own { SitsAt self.now pass.new }
@@ -298,8 +294,10 @@ impl<O: Object> Mutex<O> {
         ensures states { EachMoment
             (IsLockedThen O.object mutex O.WORDS (plan_of self.now) owner_at waits_on)
             (shown_of pass.new).past }
+        ensures out { IsOutOfList (shown_of pass.new) }
         ensures moves { Paced (IsSiteStep (plan_of self.now)) (shown_of pass.new).past }
-        ensures lists { (l : List Waiters) × HasBecome (shown_of pass.new).past l }
+        ensures lists { (l : List Waiters) ×
+            HasBecome (plan_of self.now) (shown_of pass.new).past l }
     {
         self.site.recall(&mut pass.pass);
     }

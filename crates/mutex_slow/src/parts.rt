@@ -1,13 +1,13 @@
 //! The parts of the calls of a mutex.
-ghost use Rattle.std.specs.Prelude.{◌≡◌, ◌≢◌, ◌<◌, ◌+◌, ◌%◌, ◌*◌, ◌⊎◌, ℕ, Bool, true, false, Some, None, IsSome, IfOk, IfErr, IfSome, IfNone, MatchBool};
+ghost use Rattle.std.specs.Prelude.{◌≡◌, ◌≢◌, ◌<◌, ◌+◌, ◌%◌, ◌⊎◌, Bool, true, false, Some, None, IsSome, IfOk, IfErr, IfSome, IfNone};
 ghost use Rattle.lock_core.specs.declared.view.Held.TheVariants.{No, Alone};
 ghost use Rattle.lock_core.specs.Views.{SpinHolds, SpinRests};
 ghost use Rattle.lock_core.specs.Kinds.{mutex};
-ghost use Rattle.lock_core.specs.Locking.{Misses, Takes, SawPending};
-ghost use Rattle.lock_core.specs.Handles.{plan_of, view_of, hand_in, task_in, held_in, SitsAt};
+ghost use Rattle.lock_core.specs.Locking.{Misses, SawPending};
+ghost use Rattle.lock_core.specs.Handles.{view_of, hand_in, task_in, held_in, SitsAt};
 ghost use Rattle.mutex_slow.specs.Mutexes.{owner_at};
 ghost use Rattle.qspin_word.specs.Ways.{SpinGained};
-ghost use Rattle.mutex_slow.specs.Places.{seen_of, StepsOn, StandsSame, IsOutside, IsInLine, HasFailed, OnlyHeard, OnlyConsumed, OnlyTried, IsFreed, HandedTo};
+ghost use Rattle.mutex_slow.specs.Places.{seen_of, StepsOn, TakesAlone, KeepsHand, KeepsMisses, KeepsFronts, StandsSame, IsOutside, IsInLine, HasFailed, OnlyHeard, OnlyConsumed, OnlyTried, IsFreed, HandedTo, EndsUnasked, FindsAsked, NamesFirst};
 
 use crate::rule::MutexRule;
 use lock_core::{Interrupted, Pass, Site};
@@ -31,9 +31,8 @@ pub fn try_outside<O: Object, W: Wait>(
     ensures on { StepsOn site.now pass.old pass.new }
     ensures outside { IsOutside (view_of pass.new) }
     ensures same { StandsSame (view_of pass.old) (view_of pass.new) }
-    ensures took { IfOk result (λ _. Takes O.object (plan_of site.now) Alone
-        (seen_of pass.old) (seen_of pass.new)) }
-    ensures at_once { IfOk result (λ _. (hand_in pass.new).misses ≡ (hand_in pass.old).misses) }
+    ensures took { IfOk result (λ _. TakesAlone O.object site.now pass.old pass.new) }
+    ensures at_once { IfOk result (λ _. KeepsMisses pass.old pass.new) }
     ensures missed { IfErr result (λ word. (reads : Bool) → Misses mutex reads owner_at word
         (seen_of pass.old) (seen_of pass.new)) }
     ensures still_out { IfErr result (λ _. held_in pass.new ≡ No) }
@@ -67,11 +66,9 @@ pub fn try_listed<O: Object, W: Wait>(
     ensures on { StepsOn site.now pass.old pass.new }
     ensures listed { IsInLine (view_of pass.new) }
     ensures same { StandsSame (view_of pass.old) (view_of pass.new) }
-    ensures took { result ≡ true → Takes O.object (plan_of site.now) Alone
-        (seen_of pass.old) (seen_of pass.new) }
-    ensures uncounted { result ≡ true →
-        ((hand_in pass.new).misses ≡ (hand_in pass.old).misses) }
-    ensures missed { result ≡ false → (hand_in pass.new) ≡ (hand_in pass.old) }
+    ensures took { result ≡ true → TakesAlone O.object site.now pass.old pass.new }
+    ensures uncounted { result ≡ true → KeepsMisses pass.old pass.new }
+    ensures missed { result ≡ false → KeepsHand pass.old pass.new }
     ensures failed { result ≡ false → asks ≡ false → HasFailed (view_of pass.new) }
 {
     let Some(me) = pass.task() else {
@@ -104,8 +101,8 @@ pub fn leave<O: Object>(site: &Site<MutexRule<O>>, pass: &mut Pass<MutexRule<O>>
     ensures on { StepsOn site.now pass.old pass.new }
     ensures unspun { SpinRests (view_of pass.new).spin }
     ensures entries { (view_of pass.new).spin.entries ≡ (view_of pass.old).spin.entries }
-    ensures fronts { (view_of pass.new).fronts ≡ (view_of pass.old).fronts }
-    ensures hand { (hand_in pass.new) ≡ (hand_in pass.old) }
+    ensures fronts { KeepsFronts pass.old pass.new }
+    ensures hand { KeepsHand pass.old pass.new }
     ensures ext { (view_of pass.new).ext ≡ (view_of pass.old).ext }
 {
     qspin_word::unlock(site, pass);
@@ -120,9 +117,9 @@ pub fn join<O: Object>(site: &Site<MutexRule<O>>, pass: &mut Pass<MutexRule<O>>)
     requires outside { IsOutside (view_of pass.old) }
     ensures on { StepsOn site.now pass.old pass.new }
     ensures listed { IsInLine (view_of pass.new) }
-    ensures hand { (hand_in pass.new) ≡ (hand_in pass.old) }
+    ensures hand { KeepsHand pass.old pass.new }
     ensures spin { (view_of pass.new).spin ≡ (view_of pass.old).spin }
-    ensures fronts { (view_of pass.new).fronts ≡ (view_of pass.old).fronts }
+    ensures fronts { KeepsFronts pass.old pass.new }
     ensures appended { (view_of pass.new).ext.appends ≡ (view_of pass.old).ext.appends + 1 }
 {
     let Some(task) = pass.task() else {
@@ -146,7 +143,7 @@ pub fn quit<O: Object>(site: &Site<MutexRule<O>>, pass: &mut Pass<MutexRule<O>>)
     requires may { (held_in pass.old ≡ Alone) ⊎ HasFailed (view_of pass.old) }
     ensures on { StepsOn site.now pass.old pass.new }
     ensures outside { IsOutside (view_of pass.new) }
-    ensures hand { (hand_in pass.new) ≡ (hand_in pass.old) }
+    ensures hand { KeepsHand pass.old pass.new }
     ensures same { StandsSame (view_of pass.old) (view_of pass.new) }
 {
     let Some(task) = pass.task() else {
@@ -167,7 +164,7 @@ pub fn sees_first<O: Object>(site: &Site<MutexRule<O>>, pass: &mut Pass<MutexRul
     ensures on { StepsOn site.now pass.old pass.new }
     ensures listed { IsInLine (view_of pass.new) }
     ensures first { result ≡ true → (view_of pass.new).ext.first ≡ true }
-    ensures hand { (hand_in pass.new) ≡ (hand_in pass.old) }
+    ensures hand { KeepsHand pass.old pass.new }
     ensures same { StandsSame (view_of pass.old) (view_of pass.new) }
 {
     list::is_first(site, pass)
@@ -203,7 +200,7 @@ pub fn first_waiter<O: Object>(
     requires outside { IsOutside (view_of pass.old) }
     ensures on { StepsOn site.now pass.old pass.new }
     ensures outside { IsOutside (view_of pass.new) }
-    ensures hand { (hand_in pass.new) ≡ (hand_in pass.old) }
+    ensures hand { KeepsHand pass.old pass.new }
     ensures same { StandsSame (view_of pass.old) (view_of pass.new) }
 {
     list::first(site, pass)
@@ -238,12 +235,14 @@ pub fn release<O: Object, W: Wait>(
         × ((hand_in pass.new).freed % 2 ≡ 0)) }
     ensures waiters { result ≡ Released.Waiters →
         IsFreed (view_of pass.old) (view_of pass.new) }
-    ensures asked { result ≡ Released.Asked → (hand_in pass.new) ≡ (hand_in pass.old) }
+    ensures ends { result ≢ Released.Asked → EndsUnasked (seen_of pass.old) (seen_of pass.new) }
+    ensures asked { result ≡ Released.Asked → KeepsHand pass.old pass.new }
+    ensures found { result ≡ Released.Asked → FindsAsked (seen_of pass.old) (seen_of pass.new) }
 {
     // One exchange is enough where nobody waits.
-    if release_plain(site, pass).is_ok() {
+    let Err(_) = release_plain(site, pass) else {
         return Released::Done;
-    }
+    };
     match tries::release(site, rt, pass) {
         Ok(0) => Released::Done,
         Ok(_) => Released::Waiters,
@@ -268,6 +267,7 @@ pub fn hand_over<O: Object, W: Wait>(
     ensures same { StandsSame (view_of pass.old) (view_of pass.new) }
     ensures freed { IsFreed (view_of pass.old) (view_of pass.new) }
     ensures handed { HandedTo result (view_of pass.new) }
+    ensures named { NamesFirst result (seen_of pass.old) (seen_of pass.new) }
 {
     let Some(first) = list::first(site, pass) else {
         tries::hand_over(site, rt, pass, None);

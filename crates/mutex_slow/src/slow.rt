@@ -1,38 +1,44 @@
 //! The slow path of a mutex: its wait lock, its list, and the sleep of a waiter.
-ghost use Rattle.std.specs.Prelude.{◌≡◌, ◌≢◌, ◌<◌, ◌≤◌, ◌+◌, ◌⊎◌, ℕ, Bool, true, false, Some, None, IsSome, IfOk, IfErr, MatchBool};
+ghost use Rattle.std.specs.Prelude.{◌≡◌, ◌<◌, ◌≤◌, ◌+◌, Bool, true, false, Some, IsSome, IfOk, IfErr};
 ghost use Rattle.lock_core.specs.declared.view.Held.TheVariants.{No, Alone};
 ghost use Rattle.lock_core.specs.Views.{SpinHolds, SpinRests};
 ghost use Rattle.lock_core.specs.Kinds.{mutex, wakes_alone};
-ghost use Rattle.lock_core.specs.Locking.{Interrupts, Takes, Releases, SawPending};
-ghost use Rattle.lock_core.specs.Handles.{plan_of, view_of, hand_in, task_in, held_in, SitsAt};
+ghost use Rattle.lock_core.specs.Locking.{Interrupts, Releases, SawPending};
+ghost use Rattle.lock_core.specs.Handles.{view_of, hand_in, task_in, held_in, SitsAt};
+ghost use Rattle.osq_nodes.specs.declared.node.Place.TheVariants.{Front};
+ghost use Rattle.osq_nodes.specs.Handles as spinners;
 ghost use Rattle.mutex_slow.specs.Mutexes.{owner_at};
-ghost use Rattle.mutex_slow.specs.Places.{seen_of, StepsOn, StandsSame, IsOutside, IsInLine, HasFailed, OnlyHeard, OnlyConsumed, OnlyTried, GotInLine, WentInLine};
+ghost use Rattle.mutex_slow.specs.Places.{seen_of, StepsOn, TakesAlone, KeepsHand, KeepsMisses, KeepsFronts, KeepsAppends, StandsSame, IsOutside, IsInLine, HasFailed, OnlyConsumed, OnlyTried, GotInLine, WentInLine, EndsHold};
 
 use crate::parts;
 use crate::parts::Released;
 use crate::rule::MutexRule;
 use cpu_task::{Cpu, Crew};
 use lock_core::{How, Interrupted, Pass, Site};
+use osq_nodes::OsqPass;
 use std::sync::Wait;
 use wait_list::Waiter;
 use word_bits::Object;
 
-/// Tries of a pass that is in no list, until one takes or the CPU needs rescheduling.
+/// Tries of a pass that is in no list, until one takes or the CPU needs rescheduling. It is to be the
+/// front of the spin queue until it returns: one spinner at a time tries.
 pub fn spin_outside<O: Object, W: Wait, C: Cpu>(
     site: &Site<MutexRule<O>>,
     rt: &W,
     pass: &mut Pass<MutexRule<O>>,
+    queue: &OsqPass,
     cpu: &mut C,
 ) -> bool
     requires own { SitsAt site.now pass.old }
+    requires front { spinners.place_in queue.now ≡ Front }
+    requires its_own { spinners.task_in queue.now ≡ task_in pass.old }
     requires numbered { IsSome (task_in pass.old) }
     requires out { held_in pass.old ≡ No }
     requires outside { IsOutside (view_of pass.old) }
     ensures on { StepsOn site.now pass.old pass.new }
     ensures outside { IsOutside (view_of pass.new) }
     ensures same { StandsSame (view_of pass.old) (view_of pass.new) }
-    ensures took { result ≡ true → Takes O.object (plan_of site.now) Alone
-        (seen_of pass.old) (seen_of pass.new) }
+    ensures took { result ≡ true → TakesAlone O.object site.now pass.old pass.new }
     ensures missed { result ≡ false → OnlyTried (seen_of pass.old) (seen_of pass.new) }
     ensures out { result ≡ false → held_in pass.new ≡ No }
 {
@@ -61,11 +67,9 @@ fn spin_listed<O: Object, W: Wait, C: Cpu>(
     ensures on { StepsOn site.now pass.old pass.new }
     ensures listed { IsInLine (view_of pass.new) }
     ensures same { StandsSame (view_of pass.old) (view_of pass.new) }
-    ensures took { result ≡ true → Takes O.object (plan_of site.now) Alone
-        (seen_of pass.old) (seen_of pass.new) }
-    ensures uncounted { result ≡ true →
-        ((hand_in pass.new).misses ≡ (hand_in pass.old).misses) }
-    ensures missed { result ≡ false → (hand_in pass.new) ≡ (hand_in pass.old) }
+    ensures took { result ≡ true → TakesAlone O.object site.now pass.old pass.new }
+    ensures uncounted { result ≡ true → KeepsMisses pass.old pass.new }
+    ensures missed { result ≡ false → KeepsHand pass.old pass.new }
 {
     if cpu.need_resched() {
         return false;
@@ -96,11 +100,9 @@ fn try_awake<O: Object, W: Wait, C: Cpu>(
     ensures on { StepsOn site.now pass.old pass.new }
     ensures listed { IsInLine (view_of pass.new) }
     ensures same { StandsSame (view_of pass.old) (view_of pass.new) }
-    ensures took { result ≡ true → Takes O.object (plan_of site.now) Alone
-        (seen_of pass.old) (seen_of pass.new) }
-    ensures uncounted { result ≡ true →
-        ((hand_in pass.new).misses ≡ (hand_in pass.old).misses) }
-    ensures missed { result ≡ false → (hand_in pass.new) ≡ (hand_in pass.old) }
+    ensures took { result ≡ true → TakesAlone O.object site.now pass.old pass.new }
+    ensures uncounted { result ≡ true → KeepsMisses pass.old pass.new }
+    ensures missed { result ≡ false → KeepsHand pass.old pass.new }
 {
     let first = parts::sees_first(site, pass);
     // Others take the mutex again and again before a woken waiter runs: the first one asks, and then
@@ -130,13 +132,11 @@ fn sleep_and_try<O: Object, W: Wait, C: Cpu>(
     ensures locked { SpinHolds (view_of pass.new).spin }
     ensures listed { IsInLine (view_of pass.new) }
     ensures entries { (view_of pass.old).spin.entries ≤ (view_of pass.new).spin.entries }
-    ensures fronts { (view_of pass.new).fronts ≡ (view_of pass.old).fronts }
-    ensures appends { (view_of pass.new).ext.appends ≡ (view_of pass.old).ext.appends }
-    ensures took { result ≡ true → Takes O.object (plan_of site.now) Alone
-        (seen_of pass.old) (seen_of pass.new) }
-    ensures uncounted { result ≡ true →
-        ((hand_in pass.new).misses ≡ (hand_in pass.old).misses) }
-    ensures missed { result ≡ false → (hand_in pass.new) ≡ (hand_in pass.old) }
+    ensures fronts { KeepsFronts pass.old pass.new }
+    ensures appends { KeepsAppends pass.old pass.new }
+    ensures took { result ≡ true → TakesAlone O.object site.now pass.old pass.new }
+    ensures uncounted { result ≡ true → KeepsMisses pass.old pass.new }
+    ensures missed { result ≡ false → KeepsHand pass.old pass.new }
 {
     parts::leave(site, pass);
     cpu.sleep(rt);
@@ -161,10 +161,10 @@ fn wait<O: Object, W: Wait, C: Cpu>(
     ensures locked { SpinHolds (view_of pass.new).spin }
     ensures listed { IsInLine (view_of pass.new) }
     ensures entries { (view_of pass.old).spin.entries ≤ (view_of pass.new).spin.entries }
-    ensures fronts { (view_of pass.new).fronts ≡ (view_of pass.old).fronts }
-    ensures appends { (view_of pass.new).ext.appends ≡ (view_of pass.old).ext.appends }
-    ensures took { Takes O.object (plan_of site.now) Alone (seen_of pass.old) (seen_of pass.new) }
-    ensures uncounted { (hand_in pass.new).misses ≡ (hand_in pass.old).misses }
+    ensures fronts { KeepsFronts pass.old pass.new }
+    ensures appends { KeepsAppends pass.old pass.new }
+    ensures took { TakesAlone O.object site.now pass.old pass.new }
+    ensures uncounted { KeepsMisses pass.old pass.new }
 {
     for _ in rt.forever() {
         // A waiter that was picked, or finds the mutex free, must take it before it sleeps: nobody
@@ -194,7 +194,7 @@ pub fn lock_in_line<O: Object, W: Wait, C: Cpu>(
     ensures on { StepsOn site.now pass.old pass.new }
     ensures unspun { SpinRests (view_of pass.new).spin }
     ensures outside { IsOutside (view_of pass.new) }
-    ensures took { Takes O.object (plan_of site.now) Alone (seen_of pass.old) (seen_of pass.new) }
+    ensures took { TakesAlone O.object site.now pass.old pass.new }
     ensures how { GotInLine result (seen_of pass.old) (seen_of pass.new) }
     ensures line { WentInLine (seen_of pass.old) (seen_of pass.new) }
 {
@@ -227,11 +227,10 @@ fn wait_interruptible<O: Object, W: Wait, C: Cpu>(
     ensures locked { SpinHolds (view_of pass.new).spin }
     ensures listed { IsInLine (view_of pass.new) }
     ensures entries { (view_of pass.old).spin.entries ≤ (view_of pass.new).spin.entries }
-    ensures fronts { (view_of pass.new).fronts ≡ (view_of pass.old).fronts }
-    ensures appends { (view_of pass.new).ext.appends ≡ (view_of pass.old).ext.appends }
-    ensures misses { (hand_in pass.new).misses ≡ (hand_in pass.old).misses }
-    ensures took { IfOk result (λ _. Takes O.object (plan_of site.now) Alone
-        (seen_of pass.old) (seen_of pass.new)) }
+    ensures fronts { KeepsFronts pass.old pass.new }
+    ensures appends { KeepsAppends pass.old pass.new }
+    ensures misses { KeepsMisses pass.old pass.new }
+    ensures took { IfOk result (λ _. TakesAlone O.object site.now pass.old pass.new) }
     ensures interrupted { IfErr result (λ _.
         OnlyConsumed (view_of pass.old) (view_of pass.new)) }
     ensures pending { IfErr result (λ why.
@@ -270,8 +269,7 @@ pub fn lock_in_line_interruptible<O: Object, W: Wait, C: Cpu>(
     ensures on { StepsOn site.now pass.old pass.new }
     ensures unspun { SpinRests (view_of pass.new).spin }
     ensures outside { IsOutside (view_of pass.new) }
-    ensures took { IfOk result (λ _. Takes O.object (plan_of site.now) Alone
-        (seen_of pass.old) (seen_of pass.new)) }
+    ensures took { IfOk result (λ _. TakesAlone O.object site.now pass.old pass.new) }
     ensures how { IfOk result (λ how. GotInLine how (seen_of pass.old) (seen_of pass.new)) }
     ensures interrupted { IfErr result (λ why. (reads : Bool) →
         Interrupts mutex reads owner_at why (seen_of pass.old) (seen_of pass.new)) }
@@ -319,7 +317,9 @@ pub fn unlock<O: Object, W: Wait, C: Crew>(
     ensures unspun { SpinRests (view_of pass.new).spin }
     ensures outside { IsOutside (view_of pass.new) }
     ensures released { Releases (wakes_alone mutex) (seen_of pass.old) (seen_of pass.new) }
-    ensures appends { (view_of pass.new).ext.appends ≡ (view_of pass.old).ext.appends }
+    ensures ended { EndsHold (seen_of pass.old) (seen_of pass.new) }
+    ensures entries { (view_of pass.new).spin.entries ≤ (view_of pass.old).spin.entries + 1 }
+    ensures appends { KeepsAppends pass.old pass.new }
 {
     match parts::release(site, rt, pass) {
         Released::Done => {}

@@ -20,7 +20,7 @@ use Rattle.lock_core.specs.Moves.{Goes, Lets}
 use Rattle.lock_core.proofs.HandLaws.{no-alone, alone-is-held, not-both}
 use Rattle.lock_core.proofs.HoldSteps.{none-alone, quiet-state, site-takes, site-misses, site-frees}
 use Rattle.lock_core.proofs.Steps.{chooses, exchanges, modifies}
-use Rattle.mutex_word.specs.Holders.{own_word, OwnKept, IsTurn, IsShut, IsAsk, turns}
+use Rattle.mutex_word.specs.Holders.{KeepsLeft, own_word, OwnKept, IsTurn, IsShut, IsAsk, turns}
 use Rattle.mutex_word.specs.Tries.{IsFail, IsLawful, IsTake, IsLeft, IsMine, SawWord, missing}
 use Rattle.word_bits.specs.declared.TheConstants.{MAX_TASKS}
 use Rattle.lock_core.specs.Totals.{total}
@@ -82,7 +82,7 @@ module _ {E Call : Type 0} (o : Obj Call) (unavailable : Unavailable) (size : �
     (place : ℕ) (may_be : ℕ → Type 0) (may_own : Turn → View E → ℕ → ℕ → Type 0) (turned : Turn → View E → E)
     (kept : (ws : List ℕ) (vs : List (View E)) → holds ws vs → SiteKept o unavailable size k (site k ws) (map hand_of vs))
     (own_kept : (ws : List ℕ) (vs : List (View E)) → holds ws vs → OwnKept (get_or ws place 0) (map hand_of vs) × may_be (get_or ws place 0))
-    (owns : (ws : List ℕ) (vs : List (View E)) (id n : ℕ) (v : View E) (h : Hand) (t : Turn) → holds ws vs → get_elem? vs id ≡ some v → h.task ≡ v.hand.task → v.hand.misses ≤ h.misses → may_own t v (get_or ws place 0) n
+    (owns : (ws : List ℕ) (vs : List (View E)) (id n : ℕ) (v : View E) (h : Hand) (t : Turn) → holds ws vs → get_elem? vs id ≡ some v → h.task ≡ v.hand.task → v.hand.misses ≤ h.misses → KeepsLeft v.hand h n → may_own t v (get_or ws place 0) n
     → OwnKept n (set (map hand_of vs) id h) → SiteKept o unavailable size k (site k ws) (set (map hand_of vs) id h) → Goes holds moves id ws vs (set ws place n) (set vs id (turns turned t v h)))
     (own_may : (ws : List ℕ) (vs : List (View E)) (id n : ℕ) (v : View E) (t : Turn) → holds ws vs → get_elem? vs id ≡ some v → may_own t v (get_or ws place 0) n → IsTurn t (get_or ws place 0) n)
     (own_looks : (ws : List ℕ) (vs : List (View E)) (id : ℕ) (v : View E) (h : Hand) → holds ws vs → get_elem? vs id ≡ some v → h.task ≡ v.hand.task → h.held ≡ v.hand.held → v.hand.misses ≤ h.misses → SiteKept o unavailable size k (site k ws) (set (map hand_of vs) id h) → Goes holds moves id ws vs ws (set vs id (handed v h))) where
@@ -104,7 +104,7 @@ module _ {E Call : Type 0} (o : Obj Call) (unavailable : Unavailable) (size : �
       let there = (ok.mine t has).0 in let known : List ℕ = take size (site k ws).guarded in let g : Hand = took v.hand Alone known r.log in (
         turns turned Take v g,
         refl,
-        owns ws vs id new v g Take h at refl (omega arith) (subst (λ (z : ℕ). may_own Take v z new) (sym is) may) (own-takes hs id t (get_or ws place 0) v.hand g own (named ws vs h) mine is (omega arith) refl has) (site-takes o unavailable size k (site k ws) hs id t v.hand Alone r mine out has (alone-is-held Alone refl) (λ _. free) none),
+        owns ws vs id new v g Take h at refl (omega arith) (λ _ not. absurd (not refl)) (subst (λ (z : ℕ). may_own Take v z new) (sym is) may) (own-takes hs id t (get_or ws place 0) v.hand g own (named ws vs h) mine is (omega arith) refl has) (site-takes o unavailable size k (site k ws) hs id t v.hand Alone r mine out has (alone-is-held Alone refl) (λ _. free) none),
         (
           (λ _. (known, r.log, (λ p plan. subst (λ (z : Plan). Learns o z v.hand known r.log) (its-plan k p v.hand.plan ok.plan plan) record { stored = quiet-state o unavailable size k (site k ws) hs r none; within = r.tells.within; begins = ok.seen }), (refl, refl))),
           λ not. absurd (not refl),
@@ -121,7 +121,7 @@ module _ {E Call : Type 0} (o : Obj Call) (unavailable : Unavailable) (size : �
       (λ ws vs h at is. let hs : List Hand = map hand_of vs in let mine = at_map hand_of vs id v at in (
         turns turned Free v g,
         refl,
-        owns ws vs id 0 v g Free h at refl (omega arith) (subst (λ (z : ℕ). may_own Free v z 0) (sym is) may) (own-frees hs id (get_or ws place 0) v.hand g (own_kept ws vs h).0 mine alone refl) (site-frees o unavailable size k (site k ws) hs id 0 v.hand (kept ws vs h) mine quiet rests),
+        owns ws vs id 0 v g Free h at refl (omega arith) (λ _ _. refl) (subst (λ (z : ℕ). may_own Free v z 0) (sym is) may) (own-frees hs id (get_or ws place 0) v.hand g (own_kept ws vs h).0 mine alone refl) (site-frees o unavailable size k (site k ws) hs id 0 v.hand (kept ws vs h) mine quiet rests),
         ((λ _. (refl, refl)), λ not. absurd (not refl)),
       ))
       (λ ws vs h at not _. let hs : List Hand = map hand_of vs in let mine = at_map hand_of vs id v at in let own = own_kept ws vs h in let w = held-word hs id t (get_or ws place 0) v.hand own.0 mine alone has in let low = w.0 in let is = w.1 in (
@@ -146,7 +146,7 @@ module _ {E Call : Type 0} (o : Obj Call) (unavailable : Unavailable) (size : �
   marks-there : (slots id : ℕ) (me : M) → ((n : ℕ) → may_own Flag me.0 n (bit_or n 1)) → Lets holds moves slots id me place (Or 1) (Flagged turned Flag (step slots place 1 0 none) me)
   marks-there slots id me may = let v = me.0 in modifies holds moves slots id place me (Or 1) (turns turned Flag v v.hand) (Flagged turned Flag (step slots place 1 0 none) me) refl
       (λ ws vs h at small. let n : ℕ = get_or ws place 0 in let hs : List Hand = map hand_of vs in let mine = at_map hand_of vs id v at in let own = (own_kept ws vs h).0 in (
-        owns ws vs id (bit_or n 1) v v.hand Flag h at refl (omega arith) (may n) (dite (ℕ_discrete (n % 2) 0)
+        owns ws vs id (bit_or n 1) v v.hand Flag h at refl (omega arith) (λ alone not. absurd (not alone)) (may n) (dite (ℕ_discrete (n % 2) 0)
             (λ even. subst (λ (z : ℕ). OwnKept z (set hs id v.hand)) (sym (or-one n even)) (own-flags hs id n v.hand v.hand own mine refl refl even))
             (λ not. subst (λ (z : ℕ). OwnKept z (set hs id v.hand)) (sym (or-odd n (omega (arith, not)))) (own-stays hs id n v.hand v.hand own mine refl (inl refl)))) (same-hand ws vs id v h at),
         (refl, refl),
@@ -155,7 +155,7 @@ module _ {E Call : Type 0} (o : Obj Call) (unavailable : Unavailable) (size : �
   wipes-there : (slots id : ℕ) (me : M) → ((n m : ℕ) → m + n % 8 ≡ n → may_own Clear me.0 n m) → Lets holds moves slots id me place (And 18446744073709551608) (Flagged turned Clear (step slots place 18446744073709551608 0 none) me)
   wipes-there slots id me may = let v = me.0 in modifies holds moves slots id place me (And 18446744073709551608) (turns turned Clear v v.hand) (Flagged turned Clear (step slots place 18446744073709551608 0 none) me) refl
       (λ ws vs h at small. let n : ℕ = get_or ws place 0 in let m : ℕ = bit_and n 18446744073709551608 in let hs : List Hand = map hand_of vs in let mine = at_map hand_of vs id v at in let own = (own_kept ws vs h).0 in let is = and-clears n small in let yes_may = may n m is in
-      (owns ws vs id m v v.hand Clear h at refl (omega arith) yes_may (own-clears hs id n v.hand v.hand own mine m refl refl (own_may ws vs id m v Clear h at yes_may) is) (same-hand ws vs id v h at), (refl, refl)))
+      (owns ws vs id m v v.hand Clear h at refl (omega arith) (λ alone not. absurd (not alone)) yes_may (own-clears hs id n v.hand v.hand own mine m refl refl (own_may ws vs id m v Clear h at yes_may) is) (same-hand ws vs id v h at), (refl, refl)))
 
   word-lawful : (n : ℕ) (hs : List Hand) → OwnKept n hs → IsLawful n
   word-lawful n hs own = record { small = own.small; nobody = own.nobody; flags = own.flags }
@@ -181,7 +181,7 @@ module _ {E Call : Type 0} (o : Obj Call) (unavailable : Unavailable) (size : �
       (λ shut. (
         turns turned Fail v g,
         refl,
-        subst (λ (z : List ℕ). Goes holds moves id ws vs z (set vs id (turns turned Fail v g))) (set-get_or ws place 0) (owns ws vs id n v g Fail h at same.0 same.2 (may n shut) (own-stays (map hand_of vs) id n v.hand g own mine same.1 (inl same.0)) (site-missing counts ws vs id n (v.steps + 1) v h at own.small)),
+        subst (λ (z : List ℕ). Goes holds moves id ws vs z (set vs id (turns turned Fail v g))) (set-get_or ws place 0) (owns ws vs id n v g Fail h at same.0 same.2 (λ alone not. absurd (not (same.1 ∙ alone))) (may n shut) (own-stays (map hand_of vs) id n v.hand g own mine same.1 (inl same.0)) (site-missing counts ws vs id n (v.steps + 1) v h at own.small)),
         (lawful, (λ _. (refl, refl)), λ on. absurd (on shut)),
       ))
       (λ on. (
@@ -210,7 +210,7 @@ module _ {E Call : Type 0} (o : Obj Call) (unavailable : Unavailable) (size : �
       let both = take-keeps hs id t old new v.hand g own (named ws vs h) mine (omega (arith, few, there)) is refl has in let free = both.1 in let none = none-alone hs free in (
         turns turned Take v g,
         refl,
-        owns ws vs id new v g Take h at refl (omega arith) (subst (λ (z : ℕ). may_own Take v z new) (sym found) may) both.0 (site-takes o unavailable size k (site k ws) hs id t v.hand Alone r mine out has (alone-is-held Alone refl) (λ _. free) none),
+        owns ws vs id new v g Take h at refl (omega arith) (λ _ not. absurd (not refl)) (subst (λ (z : ℕ). may_own Take v z new) (sym found) may) both.0 (site-takes o unavailable size k (site k ws) hs id t v.hand Alone r mine out has (alone-is-held Alone refl) (λ _. free) none),
         (
           (λ _. (known, r.log, (λ p plan. subst (λ (z : Plan). Learns o z v.hand known r.log) (its-plan k p v.hand.plan ok.plan plan) record { stored = quiet-state o unavailable size k (site k ws) hs r none; within = r.tells.within; begins = ok.seen }), (refl, refl))),
           λ not. absurd (not refl),
@@ -224,7 +224,7 @@ module _ {E Call : Type 0} (o : Obj Call) (unavailable : Unavailable) (size : �
       (λ ws vs h at found. let hs : List Hand = map hand_of vs in let mine = at_map hand_of vs id v at in let own = subst (λ (z : ℕ). OwnKept z hs) found (own_kept ws vs h).0 in (
         turns turned Ask v v.hand,
         refl,
-        owns ws vs id new v v.hand Ask h at refl (omega arith) (subst (λ (z : ℕ). may_own Ask v z new) (sym found) may) (subst (λ (z : ℕ). OwnKept z (set hs id v.hand)) (sym is.2) (own-asks hs id old v.hand v.hand own mine refl refl is.0 is.1)) (same-hand ws vs id v h at),
+        owns ws vs id new v v.hand Ask h at refl (omega arith) (λ alone not. absurd (not alone)) (subst (λ (z : ℕ). may_own Ask v z new) (sym found) may) (subst (λ (z : ℕ). OwnKept z (set hs id v.hand)) (sym is.2) (own-asks hs id old v.hand v.hand own mine refl refl is.0 is.1)) (same-hand ws vs id v h at),
         ((λ _. (refl, refl)), λ not. absurd (not refl)),
       ))
       (λ ws vs h at not _. let t = saw-there asks counts me ws vs id h at fails in (t.0, t.1, t.2, ((λ is. absurd (not is)), λ _. t.3))))
@@ -244,7 +244,7 @@ module _ {E Call : Type 0} (o : Obj Call) (unavailable : Unavailable) (size : �
       (λ ws vs h at found. let hs : List Hand = map hand_of vs in let mine = at_map hand_of vs id v at in let n : ℕ = get_or ws place 0 in (
         turns turned turn v g,
         refl,
-        owns ws vs id new v g turn h at refl (omega arith) (subst (λ (z : ℕ). may_own turn v z new) (sym found) may) (own-leaves hs id n v.hand g (own_kept ws vs h).0 mine new alone refl left) (site-frees o unavailable size k (site k ws) hs id new v.hand (kept ws vs h) mine quiet rests),
+        owns ws vs id new v g turn h at refl (omega arith) (λ _ _. refl) (subst (λ (z : ℕ). may_own turn v z new) (sym found) may) (own-leaves hs id n v.hand g (own_kept ws vs h).0 mine new alone refl left) (site-frees o unavailable size k (site k ws) hs id new v.hand (kept ws vs h) mine quiet rests),
         ((λ _. (refl, refl)), λ not. absurd (not refl)),
       ))
       (λ ws vs h at not _. let r = mine-there me t ws vs id h at has alone in (ticked v, refl, r.0, ((λ is. absurd (not is)), λ _. (r.1, (refl, refl))))))

@@ -56,6 +56,10 @@ pub record OwnKept (word : ℕ) (hs : List Hand) : Type 0 where
   pub held : word % 8 < 4 → word ≡ total code_of hs + word % 8
   pub picked : 4 ≤ word % 8 → total held_of hs ≡ 0
 
+-- whoever ends its hold by a step keeps the word that the step left
+abbrev pub KeepsLeft : Hand → Hand → ℕ → Type 0
+KeepsLeft h g word = h.held ≡ Alone → g.held ≢ Alone → g.freed ≡ word
+
 -- a try without asking fails at the word: it names another task, or names this one as its holder
 abbrev pub IsShut : Option ℕ → ℕ → Type 0
 IsShut task n = (8 ≤ n) × ((n % 8 < 4) ⊎ (n / 8 ≢ task_code task))

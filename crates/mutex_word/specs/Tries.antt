@@ -1,12 +1,14 @@
 -- Tries and releases, which are loops of exchanges of the owner word: what they may do, and what they leave.
-use Rattle.std.specs.Prelude.{◌/◌, ◌⊎◌, ◌≡◌, ℕ, ◌+◌, ◌*◌, ◌%◌, ◌<◌, ◌≤◌, Bool, true, false, Option, Some, None}
+use Rattle.std.specs.Prelude.{◌/◌, ◌⊎◌, ◌≡◌, ℕ, ◌+◌, ◌*◌, ◌%◌, ◌<◌, ◌≤◌, Bool, true, false, List, Option, Some, None}
 use Rattle.word_bits.specs.declared.TheConstants.{MAX_TASKS}
 use Rattle.word_bits.specs.OwnerWord.{task_code}
 use Rattle.word_bits.specs.Objects.{Obj}
 use Rattle.word_bits.specs.Histories.{Plan}
 use Rattle.lock_core.specs.declared.view.View.{View}
 use Rattle.lock_core.specs.declared.view.Hand.{Hand}
+use Rattle.lock_core.specs.declared.view.Moment.{Moment}
 use Rattle.lock_core.specs.Holding.{missed, released}
+use Rattle.lock_core.specs.Pasts.{FoundAt}
 use Rattle.mutex_word.specs.declared.host.Turn.{Turn}
 use Rattle.mutex_word.specs.declared.host.Turn.TheVariants.{Fail, Take, Ask, Free, Hand as HandOn}
 use Rattle.mutex_word.specs.declared.tries.Tried.{Tried}
@@ -114,6 +116,10 @@ module _ {E : Type 0} (turned : Turn → View E → E) where
   -- it has handed its word over to this waiter, or to nobody
   abbrev pub HandsOver : Option ℕ → View E → View E → Type 0
   HandsOver first v u = (s n m : ℕ) × (v.steps ≤ s) × IsMine v.hand.task n × IsHanded first n m × Left HandOn (at_step v s) m u
+
+-- the pass's last step found its word at this place, with no handoff asked for, and left these flags of it
+abbrev pub LeavesFlags : (place : ℕ) → Option ℕ → ℕ → List Moment → Type 0
+LeavesFlags place task flags past = (n : ℕ) × FoundAt place n past × IsMine task n × (n % 8 < 2) × (flags ≡ n % 8)
 
 module _ {E : Type 0} where
   -- it found its word with a handoff asked for, and has only looked

@@ -3,8 +3,11 @@ use Rattle.std.proofs.Common.{◌≡◌, ◌≢◌, ◌∙◌, ℕ, ◌+◌, ◌
 use mathlib.Core.Logic.{dite}
 use native.Mathlib.Decide.{ℕ_discrete}
 use Rattle.word_bits.specs.declared.TheConstants.{MAX_TASKS}
+use Rattle.lock_core.specs.declared.view.Moment.{Moment}
 use Rattle.lock_core.specs.declared.view.View.{View}
+use Rattle.lock_core.specs.Pasts.{FoundAt, FoundSince, GoesOn, IsOwnStep}
 use Rattle.lock_core.specs.Records.{bit}
+use Rattle.lock_core.specs.RunLaws.{found-at-step}
 use Rattle.wait_list.specs.declared.view.Waiter.{Waiter}
 use Rattle.wait_list.specs.declared.view.Change.{Change}
 use Rattle.wait_list.specs.declared.view.Change.TheVariants.{Stay}
@@ -12,6 +15,15 @@ use Rattle.wait_list.specs.declared.view.ListHand.{ListHand}
 use Rattle.wait_list.specs.Lists.{Part, Knows, Lists, AreTasks, IsAtPlace, Learnt, FindsFirst, FindsNext, first_code, first_of, next_of, ticket_from, counted, list_part, listed, only_steps}
 use Rattle.wait_list.proofs.Tickets.{ticket-here, ticket-else, ticket-none, ticket-some, ticket-cases, counted-here, counted-else}
 use Rattle.wait_list.proofs.Removing.{bit-few, parity}
+
+-- what a step of a pass found, it has found since an earlier one
+pub found-since : {E : Type 0} (v : View E) (task : Option ℕ) (begun done i n : ℕ) (old past new : List Moment) → v.hand.task ≡ task → begun < v.steps → v.steps ≤ done → IsOwnStep v past → FoundAt i n past → GoesOn old past → GoesOn past new → FoundSince task begun done i n old new
+found-since v task begun done i n old past new named later by_now own found after goes = (v.steps, later, by_now, found-at-step v task i n old past new named own found after goes)
+
+-- the first word of the list, which a load found
+pub finds-code : {E : Type 0} (with_list : Change → View E → ListHand → E) (v u : View E) (b : ListHand) (place code n done : ℕ) (old past new : List Moment) → u ≡ listed with_list Stay v b → u.steps ≤ done → IsOwnStep u past → FoundAt (place + 0) code past → code ≡ n → GoesOn old past → GoesOn past new → FoundSince v.hand.task v.steps done place n old new
+finds-code {E} with_list v u b place code n done old past new is by_now own found same after goes = let there : place + 0 ≡ place = omega arith in
+    found-since u v.hand.task v.steps done place n old past new (ap (λ (w : View E). w.hand.task) is) (let s = ap (λ (w : View E). w.steps) is in omega (arith, s)) by_now own (subst (λ (z : ℕ). FoundAt z n past) there (subst (λ (z : ℕ). FoundAt (place + 0) z past) same found)) after goes
 
 same-bit : (p q : Bool) → bit p ≡ bit q → p ≡ q
 same-bit true true e = refl

@@ -1,6 +1,6 @@
 //! The list of a site, on which passes work that hold its spin lock.
 ghost use Rattle.std.specs.Prelude.{◌≡◌, ◌<◌, ◌≤◌, ◌↔◌, length, true, false, Option, IfSome, IsSome, IsTrue, Some, ℕ, ◌+◌};
-ghost use Rattle.lock_core.specs.Handles.{IsLatest, view_of, past_of, task_in, SitsAt, KeepsPast, SaysSame};
+ghost use Rattle.lock_core.specs.Handles.{Finds, IsLatest, view_of, past_of, task_in, SitsAt, KeepsPast, SaysSame};
 ghost use Rattle.lock_core.specs.Pasts.{FoundAt};
 ghost use Rattle.lock_core.specs.Views.{SpinHolds};
 ghost use Rattle.wait_list.specs.declared.view.Change.TheVariants.{Enter, Leave};
@@ -142,6 +142,7 @@ pub fn first<H: ListHost>(site: &Site<H>, pass: &mut Pass<H>) -> Option<Waiter>
     ensures face { SaysSame pass.old pass.new }
     ensures later { (view_of pass.old).steps ≤ (view_of pass.new).steps }
     ensures told { FindsFirst H.list H.with_list (view_of pass.old) result (view_of pass.new) }
+    ensures found { Finds H.LIST (waiter_code result) pass.old pass.new }
 {
     let code = word(site, pass, FIRST_AT);
     if code == 0 {

@@ -78,6 +78,7 @@ pub(crate) fn word<H: ListHost>(site: &Site<H>, pass: &mut Pass<H>, at: usize) -
     ensures last { IsLatest pass.new }
     ensures face { SaysSame pass.old pass.new }
     ensures told { LearntWord H.list H.with_list (view_of pass.old) at result (view_of pass.new) }
+    ensures found { FoundAt (H.LIST + at) result (past_of pass.new) }
 {
     site.step::<Get<H>>(pass, H::LIST + at, Op::Load)
 }

@@ -12,8 +12,8 @@ ghost use Rattle.lock_core.specs.Passes.{IsChange, IsSignal, MayNote, IsEntryWor
 ghost use Rattle.lock_core.specs.Pasts.{FoundAt};
 ghost use Rattle.lock_core.specs.Records.{row};
 ghost use Rattle.lock_core.specs.Shown.{PastGoesOn};
-ghost use Rattle.lock_core.specs.Views.{next_entry, wrote, committed, noted, sending, Knows, Unsent};
-ghost use Rattle.mutex_slow.specs.Handles.{plan_of, shown_of, hand_in, SitsAt};
+ghost use Rattle.lock_core.specs.Views.{next_entry, wrote, committed, noted, sending, Unsent};
+ghost use Rattle.mutex_slow.specs.Handles.{plan_of, shown_of, hand_in, SitsAt, TellsRecord};
 
 use super::{Mutex, MutexPass};
 use lock_core::Held;
@@ -136,8 +136,7 @@ impl<O: Object> Mutex<O> {
         ensures own { SitsAt self.now pass.new }
         ensures goes_on { PastGoesOn (shown_of pass.old) (shown_of pass.new) }
         ensures kept { Looks (shown_of pass.old) (shown_of pass.new) }
-        ensures known { (r : Record) →
-            Knows (hand_in pass.old) (record { task = task; call = call }) r → result ≡ rec_word r }
+        ensures known { TellsRecord pass.old task call result }
         ensures made { result ≢ 0 → (r : Record) × IsRec r × (result ≡ rec_word r) }
         ensures found { FoundAt (record_place (plan_of self.now) task call) result
             (shown_of pass.new).past }

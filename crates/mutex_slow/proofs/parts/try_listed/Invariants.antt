@@ -1,4 +1,4 @@
-use Rattle.std.proofs.Common.{true, false}
+use Rattle.std.proofs.Common.{false}
 use Rattle.mutex_slow.proofs.parts.try_listed.Given as goal
 
 abbrev pub ghosts-attempt : goal.ghosts-attempt

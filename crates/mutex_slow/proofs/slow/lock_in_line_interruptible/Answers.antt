@@ -1,4 +1,4 @@
-use Rattle.std.proofs.Common.{arith, ap, ◌≤◌, ◌∙◌, ◌+◌, ℕ, rules}
+use Rattle.std.proofs.Common.{arith, ap, ◌∙◌, ◌+◌, ℕ, rules}
 use Rattle.lock_core.specs.declared.view.Hand.{Hand}
 use Rattle.mutex_slow.specs.declared.view.MutexHand.{MutexHand}
 use Rattle.mutex_slow.specs.Places.{seen_of}

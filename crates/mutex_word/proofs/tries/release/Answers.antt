@@ -1,6 +1,7 @@
 use Rattle.std.proofs.Common.{subst, sym, ap, refl, ◌∙◌, ◌<◌, ◌≤◌, ◌≡◌, Option, Some, None, Bool, ℕ, IfSome, inl, arith}
 use Rattle.lock_core.specs.declared.pass.Face.{Face}
 use Rattle.lock_core.specs.declared.view.View.{View}
+use Rattle.lock_core.specs.Pasts.{FoundAt}
 use Rattle.mutex_word.specs.declared.host.Turn.TheVariants.{Free, Hand as HandOn}
 use Rattle.mutex_word.specs.Tries.{IsReleased, IsHanded, IsMine, Left}
 use Rattle.mutex_word.proofs.Table.{owner-of, released-flags, handed-on, handed-left}
@@ -18,6 +19,10 @@ leave-found-requires-clause-left g c = let r = subst (IsReleased c.loop.word) c.
 pub leave-found-requires-clause-may : goal.leave-found-requires-clause-may
 leave-found-requires-clause-may g c = let r = subst (IsReleased c.loop.word) c.in-Some-release_step.is (released-flags c.loop.word c.loop.invariant.7.0 c.loop.invariant.7.1 c.release_step.result c.release_step.ensures.flags) in
     subst (λ (v : View _). g.H.OwnerHost.may_own Free v c.loop.word c.in-Some-release_step.flags) (sym c.loop.invariant.10) (c.requires.may c.loop.invariant.8 c.loop.word c.in-Some-release_step.flags (subst (λ (t : Option ℕ). IsMine t c.loop.word) c.requires.own.task c.loop.invariant.7) r.0 r.1)
+
+pub returns-then-found-word-clause-flags : goal.returns-then-found-word-clause-flags
+returns-then-found-word-clause-flags g c = let r = subst (IsReleased c.loop.word) c.in-Some-release_step.is (released-flags c.loop.word c.loop.invariant.7.0 c.loop.invariant.7.1 c.release_step.result c.release_step.ensures.flags) in
+    (c.loop.word, subst (λ (n : ℕ). FoundAt g.H.OwnerHost.OWNER n c.leave-found.new.pass.seat.me.0.past) c.if-found-word.true c.leave-found.ensures.found, c.loop.invariant.7, r.0, r.1)
 
 pub returns-then-found-word-clause-left : goal.returns-then-found-word-clause-left
 returns-then-found-word-clause-left g c = let r = subst (IsReleased c.loop.word) c.in-Some-release_step.is (released-flags c.loop.word c.loop.invariant.7.0 c.loop.invariant.7.1 c.release_step.result c.release_step.ensures.flags) in let few = r.0 in let is = r.1 in

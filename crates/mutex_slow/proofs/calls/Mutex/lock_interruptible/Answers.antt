@@ -1,11 +1,11 @@
-use Rattle.std.proofs.Common.{arith, ap, ◌∙◌, ◌≤◌, ℕ, Bool, rules}
+use Rattle.std.proofs.Common.{arith, ap, ◌∙◌, ℕ, Bool}
 use Rattle.lock_core.specs.declared.how.Interrupted.{Interrupted}
 use Rattle.lock_core.specs.Kinds.{mutex}
 use Rattle.lock_core.specs.Locking.{Interrupts}
 use Rattle.osq_nodes.specs.Handles.{fronts_in}
 use Rattle.mutex_slow.specs.Mutexes.{owner_at}
 use Rattle.mutex_slow.specs.Handles.{shown_of}
-use Rattle.mutex_slow.specs.Places.{seen_of, OnlyTried}
+use Rattle.mutex_slow.specs.Places.{seen_of}
 use Rattle.mutex_slow.proofs.Showing.{err-map, tried-at, tried-then, tried-interrupts, interrupts-at}
 use Rattle.mutex_slow.proofs.calls.Mutex.lock_interruptible.Goals as goal
 

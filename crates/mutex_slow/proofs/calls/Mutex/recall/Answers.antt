@@ -1,12 +1,15 @@
+use Rattle.std.proofs.Common.{◌≡◌, ◌∙◌, ℕ, ap}
+use mathlib.Core.Option.{some}
+use Rattle.lock_core.specs.Records.{bit}
 use Rattle.lock_core.specs.Kinds.{mutex}
 use Rattle.lock_core.specs.Locked.{IsLockedThen}
 use Rattle.lock_core.specs.LockedLaws.{ran-steps}
 use Rattle.lock_core.specs.Pasts.{Moves}
 use Rattle.lock_core.specs.RunLaws.{ran-each, ran-so}
 use Rattle.lock_core.specs.Stated.{IsSiteMove}
-use Rattle.mutex_slow.specs.Mutexes.{Kept, MutexMoves, owner_at, unmarked}
+use Rattle.mutex_slow.specs.Mutexes.{Kept, MutexMoves, owner_at, standing}
 use Rattle.mutex_slow.specs.Handles.{newest}
-use Rattle.mutex_slow.specs.Stated.{IsMutexThen, waits_on}
+use Rattle.mutex_slow.specs.Stated.{IsMutexThen, line_marks, waits_on}
 use Rattle.mutex_slow.proofs.Stating.{mutex-states}
 use Rattle.mutex_slow.proofs.Chaining.{becomes}
 use Rattle.mutex_slow.proofs.Locking.{each-moment, mutex-locked}
@@ -14,16 +17,20 @@ use Rattle.mutex_slow.proofs.calls.Mutex.recall.Goals as goal
 
 pub returns-clause-always : goal.returns-clause-always
 returns-clause-always g c = let k = c.args.self.now.site.table.shared.key in let o = g.O.Object.object in let n = g.O.Object.WORDS in let own = c.recall.ensures.last in
-    ran-each unmarked (Kept o n k) (MutexMoves k) (IsMutexThen o n k) (mutex-states o n k) (newest k) own.now own.before own.rest _ own.past_is c.recall.ensures.run
+    ran-each standing (Kept o n k) (MutexMoves k) (IsMutexThen o n k) (mutex-states o n k) (newest k) own.now own.before own.rest _ own.past_is c.recall.ensures.run
 
 pub returns-clause-states : goal.returns-clause-states
 returns-clause-states g c = let k = c.args.self.now.site.table.shared.key in let o = g.O.Object.object in let n = g.O.Object.WORDS in let own = c.recall.ensures.last in
     each-moment (IsMutexThen o n k) (IsLockedThen o mutex n k owner_at waits_on) (mutex-locked o n k) _
-    (ran-each unmarked (Kept o n k) (MutexMoves k) (IsMutexThen o n k) (mutex-states o n k) (newest k) own.now own.before own.rest _ own.past_is c.recall.ensures.run)
+    (ran-each standing (Kept o n k) (MutexMoves k) (IsMutexThen o n k) (mutex-states o n k) (newest k) own.now own.before own.rest _ own.past_is c.recall.ensures.run)
 
 pub returns-clause-moves : goal.returns-clause-moves
 returns-clause-moves g c = let k = c.args.self.now.site.table.shared.key in let o = g.O.Object.object in let n = g.O.Object.WORDS in
-    ran-steps unmarked k (newest k) _ (ran-so unmarked (newest k) (Moves (Kept o n k) (MutexMoves k)) (IsSiteMove k) (λ x y m. (m.0, m.3.site)) _ c.recall.ensures.run)
+    ran-steps standing k (newest k) _ (ran-so standing (newest k) (Moves (Kept o n k) (MutexMoves k)) (IsSiteMove k) (λ x y m. (m.0, m.3.site)) _ c.recall.ensures.run)
+
+pub returns-clause-out : goal.returns-clause-out
+returns-clause-out g c = let m = c.recall.ensures.marked in let u = c.recall.new.pass.seat.me.0.view in let out : bit u.ext.queued ≡ 0 = ap (λ v. bit v.ext.queued) c.recall.ensures.kept ∙ ap bit c.requires.own.outside.out in
+    (m.now, m.rest, m.past_is, (m.seat, m.hand, m.kept ∙ ap (λ (n : ℕ). some (line_marks n u.ext.appends)) out))
 
 pub returns-clause-lists : goal.returns-clause-lists
 returns-clause-lists g c = let k = c.args.self.now.site.table.shared.key in let o = g.O.Object.object in let n = g.O.Object.WORDS in let own = c.recall.ensures.last in

@@ -1,4 +1,4 @@
-use Rattle.std.proofs.Common.{arith, ◌≤◌}
+use Rattle.std.proofs.Common.{arith}
 use Rattle.osq_nodes.specs.Handles.{fronts_in}
 use Rattle.mutex_slow.proofs.Showing.{misses-at}
 use Rattle.mutex_slow.proofs.calls.Mutex.trylock.Goals as goal

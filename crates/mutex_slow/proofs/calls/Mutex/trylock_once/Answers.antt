@@ -1,4 +1,4 @@
-use Rattle.std.proofs.Common.{arith, refl, sym, ◌∙◌}
+use Rattle.std.proofs.Common.{refl}
 use Rattle.lock_core.specs.Kinds.{mutex}
 use Rattle.lock_core.proofs.Showing.{missed-misses}
 use Rattle.osq_nodes.specs.Handles.{fronts_in}
