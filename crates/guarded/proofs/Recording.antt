@@ -210,7 +210,7 @@ same-entry h g task done i = record { task = option_map_or (λ t. t) (task i) 0;
 pub place-after : (kind : Kind) (s : Bool) (v m u : Shown) → KeepsPlace kind s v m → u.hand.misses ≡ m.hand.misses → u.fronts ≡ m.fronts → u.hand.saw ≡ m.hand.saw → m.spin.entries ≤ u.spin.entries → KeepsPlace kind s v u
 place-after kind s v m u p misses fronts saw entries = record {
   queues = λ rise same. ⊎_elim (λ (l : v.spin.entries < m.spin.entries). inl (omega arith))
-      (λ (r : (s ≡ true) × IsLetIn kind v m). inr (r.0, record { once = misses ∙ r.1.once; saw = r.1.saw; is = saw ∙ r.1.is; opens = r.1.opens }))
+      (λ (r : (s ≡ true) × IsLetIn kind v m). inr (r.0, record { once = misses ∙ r.1.once; saw = r.1.saw; is = saw ∙ r.1.is; since = r.1.since; opens = r.1.opens }))
       (p.queues (omega arith) (sym fronts ∙ same));
   few = λ same. let l = p.few (sym fronts ∙ same) in omega arith;
 }
@@ -370,7 +370,7 @@ module _ (v w u : Shown) (looks : Looks v w) (goes : PastGoesOn v w) where
       let misses : w.hand.misses ≡ v.hand.misses = ap {A = Hand} (λ h. h.misses) looks.0 in
       let entries : w.spin.entries ≡ v.spin.entries = looks.1.0 in record {
         queues = λ rise same. ⊎_elim (λ (l : w.spin.entries < u.spin.entries). inl (omega (arith, l, entries)))
-            (λ (r : (s ≡ true) × IsLetIn kind w u). inr (r.0, record { once = (let o = r.1.once in omega (arith, o, misses)); saw = r.1.saw; is = r.1.is; opens = r.1.opens }))
+            (λ (r : (s ≡ true) × IsLetIn kind w u). inr (r.0, record { once = (let o = r.1.once in omega (arith, o, misses)); saw = r.1.saw; is = r.1.is; since = (let n = r.1.since in let l = looks.1.3 in omega (arith, n, l)); opens = r.1.opens }))
             (p.queues (omega (arith, rise, misses)) (same ∙ sym looks.1.1));
         few = λ same. let l = p.few (same ∙ sym looks.1.1) in omega (arith, l, misses);
       }

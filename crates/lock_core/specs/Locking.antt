@@ -118,7 +118,7 @@ Got Fast v u = (u.hand.misses ≡ v.hand.misses) × (u.spin.entries ≡ v.spin.e
 Got Spun v u = (v.hand.misses < u.hand.misses) × (u.line ≡ v.line)
 Got Slept v u = u.line.appends ≡ v.line.appends + 1
 
--- a shared call's first try, which missed, let it in
+-- a shared call's first try, which missed, saw a word that let it in
 pub record IsLetIn (kind : Kind) (v u : Shown) : Type 0 where
   pub once : u.hand.misses ≡ v.hand.misses + 1
   pub saw : Saw
@@ -127,5 +127,6 @@ pub record IsLetIn (kind : Kind) (v u : Shown) : Type 0 where
 
 -- a call that waits keeps its place in line: after a failed try it goes through the wait lock or the spin queue. `shared`: it may have been let in.
 pub record KeepsPlace (kind : Kind) (shared : Bool) (v u : Shown) : Type 0 where
+  pub since : v.steps < saw.step
   pub queues : v.hand.misses < u.hand.misses → u.fronts ≡ v.fronts → (v.spin.entries < u.spin.entries) ⊎ ((shared ≡ true) × IsLetIn kind v u)
   pub few : u.fronts ≡ v.fronts → u.hand.misses ≤ v.hand.misses + tries kind
