@@ -271,7 +271,7 @@ impl<L: SleepLock<O>, O: Served + Drop> Guarded<L, O> {
         ensures served { Serves O.object L.kind (L.calls_on (lock_of self.now)) next.words result
             (L.view pass.old) (L.view pass.new) }
     {
-        self.show(rt, pass, gate);
+        self.show(rt, pass, gate, self.lock.held(pass));
         let reply = O::look(&self.lock, pass, next.call);
         // Recorded before the hold ends: no change can come between the call and its place in the log.
         self.lock.note(pass, next.number, reply);
@@ -306,7 +306,7 @@ impl<L: SleepLock<O>, O: Served + Drop> Guarded<L, O> {
         if O::downgrades(next.call) {
             self.look_again(rt, pass, crew, gate, next.call, reply)
         } else {
-            self.show(rt, pass, gate);
+            self.show(rt, pass, gate, Held::Alone);
             self.lock.release_alone(rt, pass, crew);
             reply
         }
@@ -342,7 +342,7 @@ impl<L: SleepLock<O>, O: Served + Drop> Guarded<L, O> {
         // No moment without the lock: another change could come in between, and the pages that are
         // counted would not be those that the call left.
         self.lock.downgrade(rt, pass, crew);
-        self.show(rt, pass, gate);
+        self.show(rt, pass, gate, self.lock.held(pass));
         let found = self.found(pass, known, reply);
         self.lock.release_shared(rt, pass, crew);
         found
@@ -441,13 +441,14 @@ impl<L: SleepLock<O>, O: Served + Drop> Guarded<L, O> {
         }
     }
 
-    /// Lets the gate see the task, which holds.
-    fn show<W: Wait, G: Gate>(&self, rt: &W, pass: &L::Pass, gate: &G)
-        requires { L.sits (lock_of self.now) pass.now }
+    /// Lets the gate see the task, which holds in this way.
+    fn show<W: Wait, G: Gate>(&self, rt: &W, pass: &L::Pass, gate: &G, how: Held)
+        requires own { L.sits (lock_of self.now) pass.now }
+        requires held { (L.view pass.now).hand.held ≡ how }
+        requires inside { how ≢ No }
     {
-        let shared = self.lock.held(pass) == Held::Shared;
         if let Some(task) = self.lock.task(pass) {
-            gate.inside(rt, self.object, task, shared);
+            gate.inside(rt, self.object, task, how == Held::Shared);
         }
     }
 }
