@@ -10,7 +10,7 @@ ghost use Rattle.lock_core.specs.Kinds.{shares};
 ghost use Rattle.lock_core.specs.Shown.{IsNextCall, PastGoesOn};
 ghost use Rattle.lock_core.specs.Locking.{HasSince, Looks, Takes, KeepsPlace, Releases, IsStored, held_by};
 ghost use Rattle.guarded.specs.Handles.{lock_of};
-ghost use Rattle.guarded.specs.Performing.{IsNext, Refuses, Serves, Performs, HasStored, no_word};
+ghost use Rattle.guarded.specs.Performing.{IsNext, Refuses, TriesOnce, Serves, Performs, HasStored, no_word};
 
 use crate::guarded::Guarded;
 use crate::loading::{load_words, value_of};
@@ -151,6 +151,7 @@ impl<L: SleepLock<O>, O: Served + Drop> Guarded<L, O> {
             (held_by L.kind reads) (L.view pass.old) (L.view pass.new)) }
         ensures line { IfOk result (λ _. mode ≢ Try →
             KeepsPlace L.kind reads (L.view pass.old) (L.view pass.new)) }
+        ensures at_once { mode ≡ Try → TriesOnce (L.view pass.old) (L.view pass.new) }
         ensures refused { IfErr result (λ reply. Refuses L.kind L.word_at mode reads reply
             (L.view pass.old) (L.view pass.new)) }
         ensures stood { IfErr result (λ _. mode ≢ Try →
@@ -236,6 +237,7 @@ impl<L: SleepLock<O>, O: Served + Drop> Guarded<L, O> {
             (held_by L.kind reads) (L.view pass.old) (L.view pass.new)) }
         ensures refused { IfErr result (λ reply. Refuses L.kind L.word_at Try reads reply
             (L.view pass.old) (L.view pass.new)) }
+        ensures at_once { TriesOnce (L.view pass.old) (L.view pass.new) }
     {
         let got = if reads {
             self.lock.try_shared(rt, pass)

@@ -60,4 +60,7 @@ module _ {E : Type 0} (line : E → Line) (fronts fronts' : ℕ) (stood : fronts
     sees = missed-sees;
     once = more;
     freed = part (λ w. w.hand.freed);
+    entries = part (λ w. w.spin.entries);
+    fronts = stood;
+    line = part (λ w. line w.ext);
   }

@@ -68,7 +68,7 @@ pub record Sees (kind : Kind) (reads : Bool) (at word : ℕ) (v u : Shown) : Typ
   pub found : FindsAtStep saw.step at word v u
   pub shut : unavailable kind reads word
 
--- it didn't wait, and holds nothing
+-- it didn't wait, and holds nothing: it took no wait lock, was in no list, and was no queue's front
 pub record Misses (kind : Kind) (reads : Bool) (at word : ℕ) (v u : Shown) : Type 0 where
   pub keeps : Keeps v u
   pub consumed : u.hand.consumed ≡ v.hand.consumed
@@ -76,6 +76,9 @@ pub record Misses (kind : Kind) (reads : Bool) (at word : ℕ) (v u : Shown) : T
   pub sees : Sees kind reads at word v u
   pub once : u.hand.misses ≡ v.hand.misses + 1
   pub freed : u.hand.freed ≡ v.hand.freed
+  pub entries : u.spin.entries ≡ v.spin.entries
+  pub fronts : u.fronts ≡ v.fronts
+  pub line : u.line ≡ v.line
 
 -- steps of this call found these numbers of signals sent to its task, and consumed by it; more were sent
 pub record SawPending (why : Interrupted) (v u : Shown) : Type 0 where
@@ -102,6 +105,7 @@ pub record Frees (wakes : ℕ → Type 0) (v u : Shown) : Type 0 where
   pub saw : u.hand.saw ≡ v.hand.saw
   pub misses : u.hand.misses ≡ v.hand.misses
   pub fronts : u.fronts ≡ v.fronts
+  pub line : u.line ≡ v.line
   pub woken : wakes u.hand.freed → v.spin.entries < u.spin.entries
 
 -- it holds nothing
@@ -123,10 +127,10 @@ pub record IsLetIn (kind : Kind) (v u : Shown) : Type 0 where
   pub once : u.hand.misses ≡ v.hand.misses + 1
   pub saw : Saw
   pub is : u.hand.saw ≡ Some saw
+  pub since : v.steps < saw.step
   pub opens : lets_in kind saw.word
 
 -- a call that waits keeps its place in line: after a failed try it goes through the wait lock or the spin queue. `shared`: it may have been let in.
 pub record KeepsPlace (kind : Kind) (shared : Bool) (v u : Shown) : Type 0 where
-  pub since : v.steps < saw.step
   pub queues : v.hand.misses < u.hand.misses → u.fronts ≡ v.fronts → (v.spin.entries < u.spin.entries) ⊎ ((shared ≡ true) × IsLetIn kind v u)
   pub few : u.fronts ≡ v.fronts → u.hand.misses ≤ v.hand.misses + tries kind
