@@ -31,7 +31,7 @@ use Rattle.lock_core.specs.Pasts.{FoundAtStep}
 use Rattle.lock_core.specs.Kinds.{Kind, unavailable, wakes_shared}
 use Rattle.lock_core.specs.Shown.{Shown, NoCountFalls, AllButHand, PastGoesOn, IsNextCall}
 use Rattle.lock_core.specs.Locking.{Begins, Looks, Takes, Frees, Releases, Sees, SawPending, KeepsPlace, IsLetIn}
-use Rattle.guarded.specs.Performing.{Refuses, AddsRecord, Serves, Performs}
+use Rattle.guarded.specs.Performing.{Refuses, TriesOnce, AddsRecord, Serves, Performs}
 
 eq-le : (m n : ℕ) → m ≡ n → n ≤ m
 eq-le m n e = omega arith
@@ -66,6 +66,7 @@ adds-freed wakes rec seen v m u a f = record {
   saw = f.saw ∙ a.saw;
   misses = f.misses ∙ a.misses;
   fronts = f.fronts ∙ a.fronts;
+  line = f.line ∙ a.line;
   counts = counts-trans v m u a.counts f.keeps.counts;
 }
 
@@ -82,6 +83,7 @@ adds v m stage writes known log step rec seen e b = record {
   saw = ap {A = Hand} (λ h. h.saw) e;
   misses = ap {A = Hand} (λ h. h.misses) e;
   fronts = b.1;
+  line = b.2;
   counts = counts-beside v m (ap {A = Hand} (λ h. h.misses) e) b;
 }
 
@@ -208,10 +210,14 @@ same-entry h g task done i = record { task = option_map_or (λ t. t) (task i) 0;
 pub place-after : (kind : Kind) (s : Bool) (v m u : Shown) → KeepsPlace kind s v m → u.hand.misses ≡ m.hand.misses → u.fronts ≡ m.fronts → u.hand.saw ≡ m.hand.saw → m.spin.entries ≤ u.spin.entries → KeepsPlace kind s v u
 place-after kind s v m u p misses fronts saw entries = record {
   queues = λ rise same. ⊎_elim (λ (l : v.spin.entries < m.spin.entries). inl (omega arith))
-      (λ (r : (s ≡ true) × IsLetIn kind v m). inr (r.0, record { once = misses ∙ r.1.once; saw = r.1.saw; is = saw ∙ r.1.is; opens = r.1.opens }))
+      (λ (r : (s ≡ true) × IsLetIn kind v m). inr (r.0, record { once = misses ∙ r.1.once; saw = r.1.saw; is = saw ∙ r.1.is; since = r.1.since; opens = r.1.opens }))
       (p.queues (omega arith) (sym fronts ∙ same));
   few = λ same. let l = p.few (sym fronts ∙ same) in omega arith;
 }
+
+-- a call that tried once, and then went on without a try
+tries-after : (v m u : Shown) → TriesOnce v m → u.line ≡ m.line → u.fronts ≡ m.fronts → u.hand.misses ≡ m.hand.misses → TriesOnce v u
+tries-after v m u t line fronts misses = (line ∙ t.0, fronts ∙ t.1, let l = t.2 in omega (arith, l, misses))
 
 -- what a step found, it has found also once the call has gone on
 found-on : {task : Option ℕ} {step at n : ℕ} {past : List Moment} (m u : Shown) → PastGoesOn m u → FoundAtStep task step at n past m.past → FoundAtStep task step at n past u.past
@@ -239,8 +245,8 @@ pending-on why v m u later goes s = record {
 module _ {Call : Type 0} (o : Obj Call) (kind : Kind) (at : ℕ) (k : Plan) where
   -- a call that held
   pub performs-served : (v m u : Shown) (words : CallWords) (c : Call) (reads : Bool) (reply : Reply) (how : Held) → IsNextCall k v.hand words → o.call_of words ≡ Some c → reads ≡ o.reads c → signal_of words ≡ None → (v.hand.sent ≡ None) × (v.hand.consumed ≡ 0)
-      → Takes o k how v m → (mode_of words ≢ Try → KeepsPlace kind reads v m) → Serves o kind k words reply m u → Performs o kind at k reply v u
-  performs-served v m u words c reads reply how next is same unsent accounted takes line serves =
+      → Takes o k how v m → (mode_of words ≡ Try → TriesOnce v m) → (mode_of words ≢ Try → KeepsPlace kind reads v m) → Serves o kind k words reply m u → Performs o kind at k reply v u
+  performs-served v m u words c reads reply how next is same unsent accounted takes once line serves =
       let entry = same-entry v.hand m.hand takes.keeps.task takes.keeps.done in
       let place : serves.rec.k ≡ length m.hand.log = ap {A = Rec} (λ r. r.k) serves.says in
       let long = takes.begins.0 in
@@ -262,6 +268,7 @@ module _ {Call : Type 0} (o : Obj Call) (kind : Kind) (at : ℕ) (k : Plan) wher
         signals = λ some. absurd (false≢true (subst IsSome unsent some));
         busy = λ word e. absurd (subst IsObjectReply e serves.replies);
         interrupted = λ e. absurd (subst IsObjectReply e serves.replies);
+        at_once = λ tries. tries-after v m u (once tries) serves.adds.line serves.adds.fronts serves.adds.misses;
         line = λ waits. place-after kind _ v m u (subst (λ b. KeepsPlace kind b v m) (is-reads reads (changes o words) (is_intr reply) (changes-is o words c is ∙ ap not (sym same)) (reply-unintr reply serves.replies)) (line waits))
             serves.adds.misses serves.adds.fronts serves.adds.saw serves.adds.counts.entries;
       }
@@ -271,8 +278,8 @@ module _ {Call : Type 0} (o : Obj Call) (kind : Kind) (at : ℕ) (k : Plan) wher
       → u.hand.records ≡ record { entry = next_entry v.hand; rec = record { k = length v.hand.seen; reply = reply } } ∷ v.hand.records → u.hand.task ≡ v.hand.task → u.hand.done ≡ v.hand.done + 1 → u.hand.held ≡ No → (u.hand.sent ≡ None) × (u.hand.consumed ≡ 0) → NoCountFalls v u
       → (IsSome (signal_of words) → reply ≡ Sent) → ((word : ℕ) → reply ≡ Busy word → (c : Call) × (o.call_of words ≡ Some c) × Sees kind (o.reads c) at word v u)
       → (reply ≡ Intr → (c : Call) × (why : Interrupted) × (word : ℕ) × (o.call_of words ≡ Some c) × SawPending why v u × Sees kind (o.reads c) at word v u)
-      → (mode_of words ≢ Try → KeepsPlace kind (not (changes o words) && not (is_intr reply)) v u) → Performs o kind at k reply v u
-  performs-unheld v u words reply next why unlogged seen records task done out accounted goes signals busy interrupted line = record {
+      → (mode_of words ≡ Try → TriesOnce v u) → (mode_of words ≢ Try → KeepsPlace kind (not (changes o words) && not (is_intr reply)) v u) → Performs o kind at k reply v u
+  performs-unheld v u words reply next why unlogged seen records task done out accounted goes signals busy interrupted once line = record {
     words = words;
     rec = record { k = length v.hand.seen; reply = reply };
     next = next;
@@ -290,6 +297,7 @@ module _ {Call : Type 0} (o : Obj Call) (kind : Kind) (at : ℕ) (k : Plan) wher
     signals = signals;
     busy = busy;
     interrupted = interrupted;
+    at_once = once;
     line = line;
   }
 
@@ -301,18 +309,19 @@ module _ {Call : Type 0} (o : Obj Call) (kind : Kind) (at : ℕ) (k : Plan) wher
       let misses = ap {A = Hand} (λ h. h.misses) now in
       performs-unheld v u words Sent next (subst IsSome (sym is) refl) refl (ap {A = Hand} (λ h. h.seen) now) (ap {A = Hand} (λ h. h.records) now) (ap {A = Hand} (λ h. h.task) now) (ap {A = Hand} (λ h. h.done) now) (ap {A = Hand} (λ h. h.held) now ∙ out)
       (ap {A = Hand} (λ h. h.sent) now, ap {A = Hand} (λ h. h.consumed) now ∙ consumed) (counts-beside v u misses along) (λ _. refl) (λ word e. absurd (false≢true (subst (λ r. is_sent r ≡ true) e refl))) (λ e. absurd (false≢true (subst (λ r. is_sent r ≡ true) e refl)))
+      (λ _. (along.2, along.1, omega (arith, misses)))
       (λ _. record { queues = λ rise. absurd (omega arith); few = λ _. omega arith })
 
   -- a call that couldn't have the lock
   pub performs-refused : (v m u : Shown) (words : CallWords) (c : Call) (reads : Bool) (mode : Mode) (reply : Reply) (step : ℕ) → IsNextCall k v.hand words → o.call_of words ≡ Some c → reads ≡ o.reads c → mode ≡ mode_of words → signal_of words ≡ None → (v.hand.sent ≡ None) × (v.hand.consumed ≡ 0)
-      → Refuses kind at mode reads reply v m → (mode ≢ Try → KeepsPlace kind false v m) → u.hand ≡ noted m.hand step (next_entry m.hand) reply → AllButHand m u → PastGoesOn m u → Performs o kind at k reply v u
-  performs-refused v m u words c reads mode Good step next is same says unsent accounted why line hand beside goes = absurd why
-  performs-refused v m u words c reads mode (Num n) step next is same says unsent accounted why line hand beside goes = absurd why
-  performs-refused v m u words c reads mode (Refused x) step next is same says unsent accounted why line hand beside goes = absurd why
-  performs-refused v m u words c reads mode MapErr step next is same says unsent accounted why line hand beside goes = absurd why
-  performs-refused v m u words c reads mode AccErr step next is same says unsent accounted why line hand beside goes = absurd why
-  performs-refused v m u words c reads mode Sent step next is same says unsent accounted why line hand beside goes = absurd why
-  performs-refused v m u words c reads mode (Busy w) step next is same says unsent accounted why line hand beside goes =
+      → Refuses kind at mode reads reply v m → (mode ≡ Try → TriesOnce v m) → (mode ≢ Try → KeepsPlace kind false v m) → u.hand ≡ noted m.hand step (next_entry m.hand) reply → AllButHand m u → PastGoesOn m u → Performs o kind at k reply v u
+  performs-refused v m u words c reads mode Good step next is same says unsent accounted why once line hand beside goes = absurd why
+  performs-refused v m u words c reads mode (Num n) step next is same says unsent accounted why once line hand beside goes = absurd why
+  performs-refused v m u words c reads mode (Refused x) step next is same says unsent accounted why once line hand beside goes = absurd why
+  performs-refused v m u words c reads mode MapErr step next is same says unsent accounted why once line hand beside goes = absurd why
+  performs-refused v m u words c reads mode AccErr step next is same says unsent accounted why once line hand beside goes = absurd why
+  performs-refused v m u words c reads mode Sent step next is same says unsent accounted why once line hand beside goes = absurd why
+  performs-refused v m u words c reads mode (Busy w) step next is same says unsent accounted why once line hand beside goes =
       let keeps = why.1.keeps in
       let entry = same-entry v.hand m.hand keeps.task keeps.done in
       let sees = why.1.sees in
@@ -324,8 +333,9 @@ module _ {Call : Type 0} (o : Obj Call) (kind : Kind) (at : ℕ) (k : Plan) wher
       (counts-trans v m u keeps.counts (counts-beside m u misses beside)) (λ some. absurd (false≢true (subst IsSome unsent some)))
       (λ word e. (c, is, subst (λ b. Sees kind b at word v u) same (subst (λ n. Sees kind reads at n v u) (ap busy_word e) (sees-on kind reads at w v m u (ap {A = Hand} (λ h. h.saw) hand) beside.3 goes sees))))
       (λ e. absurd (false≢true (subst (λ r. is_busy r ≡ true) e refl)))
+      (λ tries. tries-after v m u (once (says ∙ tries)) beside.2 beside.1 misses)
       (λ waits. absurd (waits (sym says ∙ why.0)))
-  performs-refused v m u words c reads mode Intr step next is same says unsent accounted why line hand beside goes =
+  performs-refused v m u words c reads mode Intr step next is same says unsent accounted why once line hand beside goes =
       let cut = why.1.1 in
       let keeps = cut.keeps in
       let entry = same-entry v.hand m.hand keeps.task keeps.done in
@@ -337,6 +347,7 @@ module _ {Call : Type 0} (o : Obj Call) (kind : Kind) (at : ℕ) (k : Plan) wher
       (counts-trans v m u keeps.counts (counts-beside m u misses beside)) (λ some. absurd (false≢true (subst IsSome unsent some)))
       (λ word e. absurd (false≢true (subst (λ r. is_intr r ≡ true) e refl)))
       (λ e. (c, why.1.0, cut.word, is, pending-on why.1.0 v m u beside.3 goes cut.heard, subst (λ b. Sees kind b at cut.word v u) same (sees-on kind reads at cut.word v m u (ap {A = Hand} (λ h. h.saw) hand) beside.3 goes cut.sees)))
+      (λ tries. tries-after v m u (once (says ∙ tries)) beside.2 beside.1 misses)
       (λ waits. subst (λ b. KeepsPlace kind b v u) (and-false (not (changes o words)))
       (place-after kind false v m u (line (λ tries. waits (sym says ∙ tries))) misses beside.1 (ap {A = Hand} (λ h. h.saw) hand) (eq-le _ _ beside.0)))
 
@@ -368,7 +379,7 @@ module _ (v w u : Shown) (looks : Looks v w) (goes : PastGoesOn v w) where
       let misses : w.hand.misses ≡ v.hand.misses = ap {A = Hand} (λ h. h.misses) looks.0 in
       let entries : w.spin.entries ≡ v.spin.entries = looks.1.0 in record {
         queues = λ rise same. ⊎_elim (λ (l : w.spin.entries < u.spin.entries). inl (omega (arith, l, entries)))
-            (λ (r : (s ≡ true) × IsLetIn kind w u). inr (r.0, record { once = (let o = r.1.once in omega (arith, o, misses)); saw = r.1.saw; is = r.1.is; opens = r.1.opens }))
+            (λ (r : (s ≡ true) × IsLetIn kind w u). inr (r.0, record { once = (let o = r.1.once in omega (arith, o, misses)); saw = r.1.saw; is = r.1.is; since = (let n = r.1.since in let l = looks.1.3 in omega (arith, n, l)); opens = r.1.opens }))
             (p.queues (omega (arith, rise, misses)) (same ∙ sym looks.1.1));
         few = λ same. let l = p.few (same ∙ sym looks.1.1) in omega (arith, l, misses);
       }
@@ -392,5 +403,6 @@ module _ (v w u : Shown) (looks : Looks v w) (goes : PastGoesOn v w) where
     signals = p.signals;
     busy = λ word is. let b = p.busy word is in (b.0, b.1, sees-from kind (o.reads b.0) at word b.2);
     interrupted = λ is. let b = p.interrupted is in (b.0, b.1, b.2, b.3, pending-from b.1 b.4, sees-from kind (o.reads b.0) at b.2 b.5);
+    at_once = λ tries. let t = p.at_once tries in (t.0 ∙ looks.1.2, t.1 ∙ looks.1.1, (let l = t.2 in let m = ap {A = Hand} (λ h. h.misses) e in omega (arith, l, m)));
     line = λ waits. place-from kind _ (p.line waits);
   }

@@ -45,6 +45,10 @@ Refuses kind at mode reads (Busy word) v u = (mode ≡ Try) × Misses kind reads
 Refuses kind at mode reads Intr v u = (mode ≡ Int) × ((why : Interrupted) × Interrupts kind reads at why v u)
 Refuses kind at mode reads reply v u = ⊥
 
+-- it failed one try at most, was in no list, and wasn't the front of a spin queue
+abbrev pub TriesOnce : Shown → Shown → Type 0
+TriesOnce v u = (u.line ≡ v.line) × (u.fronts ≡ v.fronts) × (u.hand.misses ≤ v.hand.misses + 1)
+
 -- it made this record of its task's next call, and has then seen this log
 pub record AddsRecord (rec : Rec) (seen : List Entry) (v u : Shown) : Type 0 where
   pub task : u.hand.task ≡ v.hand.task
@@ -56,6 +60,7 @@ pub record AddsRecord (rec : Rec) (seen : List Entry) (v u : Shown) : Type 0 whe
   pub saw : u.hand.saw ≡ v.hand.saw
   pub misses : u.hand.misses ≡ v.hand.misses
   pub fronts : u.fronts ≡ v.fronts
+  pub line : u.line ≡ v.line
   pub counts : NoCountFalls v u
 
 -- a pass that holds did the call, recorded it at the end of the log that it knew, and holds nothing
@@ -92,5 +97,7 @@ pub record Performs {Call : Type 0} (o : Obj Call) (kind : Kind) (at : ℕ) (k :
   -- a try of this call saw the word of a busy call, and steps of an interrupted one saw the signal and that the lock was taken
   pub busy : (word : ℕ) → reply ≡ Busy word → (c : Call) × (o.call_of words ≡ Some c) × Sees kind (o.reads c) at word v u
   pub interrupted : reply ≡ Intr → (c : Call) × (why : Interrupted) × (word : ℕ) × (o.call_of words ≡ Some c) × SawPending why v u × Sees kind (o.reads c) at word v u
-  -- a call that waits keeps its place in line
+  -- a call in mode try doesn't wait
+  pub at_once : mode_of words ≡ Try → TriesOnce v u
+  -- one that waits keeps its place in line
   pub line : mode_of words ≢ Try → KeepsPlace kind (not (changes o words) && not (is_intr reply)) v u

@@ -5,6 +5,7 @@ ghost use Rattle.word_bits.specs.RecWord.{IsRec, rec_word};
 ghost use Rattle.word_bits.specs.Histories.{Plan as Calls};
 ghost use Rattle.lock_core.specs.declared.view.Held.TheVariants.{No, Alone};
 ghost use Rattle.lock_core.specs.declared.view.Moment.{Moment};
+ghost use Rattle.lock_core.specs.declared.how.How.TheVariants.{Fast};
 ghost use Rattle.lock_core.specs.declared.layout.TheConstants.{LOCK_WORDS};
 ghost use Rattle.lock_core.specs.Layout.{entry_place, length_place, record_place};
 ghost use Rattle.lock_core.specs.Plans.{IsSmall};
@@ -352,6 +353,7 @@ pub trait SleepLock<O: Object>: Sized {
         ensures goes_on { PastGoesOn (view pass.old) (view pass.new) }
         ensures took { IfOk result (λ _. Takes O.object (calls_on self.now) (shares kind)
             (view pass.old) (view pass.new)) }
+        ensures at_once { IfOk result (λ _. Got Fast (view pass.old) (view pass.new)) }
         ensures missed { IfErr result (λ word.
             Misses kind true word_at word (view pass.old) (view pass.new)) };
 
@@ -364,6 +366,7 @@ pub trait SleepLock<O: Object>: Sized {
         ensures goes_on { PastGoesOn (view pass.old) (view pass.new) }
         ensures took { IfOk result (λ _. Takes O.object (calls_on self.now) Alone
             (view pass.old) (view pass.new)) }
+        ensures at_once { IfOk result (λ _. Got Fast (view pass.old) (view pass.new)) }
         ensures missed { IfErr result (λ word.
             Misses kind false word_at word (view pass.old) (view pass.new)) };
 

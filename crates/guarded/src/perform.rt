@@ -9,7 +9,7 @@ ghost use Rattle.lock_core.specs.Kinds.{shares};
 ghost use Rattle.lock_core.specs.Shown.{IsNextCall, PastGoesOn};
 ghost use Rattle.lock_core.specs.Locking.{Looks, Takes, KeepsPlace, Releases, IsStored, held_by};
 ghost use Rattle.guarded.specs.Handles.{lock_of};
-ghost use Rattle.guarded.specs.Performing.{IsNext, Refuses, Serves, Performs, Changes, HasStored, no_word};
+ghost use Rattle.guarded.specs.Performing.{IsNext, Refuses, TriesOnce, Serves, Performs, Changes, HasStored, no_word};
 ghost use Rattle.guarded.specs.States.{WasDone, reply_in};
 
 use crate::guarded::Guarded;
@@ -152,6 +152,7 @@ impl<L: SleepLock<O>, O: Served + Drop> Guarded<L, O> {
             (held_by L.kind reads) (L.view pass.old) (L.view pass.new)) }
         ensures line { IfOk result (λ _. mode ≢ Try →
             KeepsPlace L.kind reads (L.view pass.old) (L.view pass.new)) }
+        ensures at_once { mode ≡ Try → TriesOnce (L.view pass.old) (L.view pass.new) }
         ensures refused { IfErr result (λ reply. Refuses L.kind L.word_at mode reads reply
             (L.view pass.old) (L.view pass.new)) }
         ensures stood { IfErr result (λ _. mode ≢ Try →
@@ -237,6 +238,7 @@ impl<L: SleepLock<O>, O: Served + Drop> Guarded<L, O> {
             (held_by L.kind reads) (L.view pass.old) (L.view pass.new)) }
         ensures refused { IfErr result (λ reply. Refuses L.kind L.word_at Try reads reply
             (L.view pass.old) (L.view pass.new)) }
+        ensures at_once { TriesOnce (L.view pass.old) (L.view pass.new) }
     {
         let got = if reads {
             self.lock.try_shared(rt, pass)
@@ -272,7 +274,7 @@ impl<L: SleepLock<O>, O: Served + Drop> Guarded<L, O> {
         ensures served { Serves O.object L.kind (L.calls_on (lock_of self.now)) next.words result
             (L.view pass.old) (L.view pass.new) }
     {
-        self.show(rt, pass, gate);
+        self.show(rt, pass, gate, self.lock.held(pass));
         let reply = O::look(&self.lock, pass, next.call);
         // Recorded before the hold ends: no change can come between the call and its place in the
         // log.
@@ -308,7 +310,7 @@ impl<L: SleepLock<O>, O: Served + Drop> Guarded<L, O> {
         if O::downgrades(next.call) {
             self.look_again(rt, pass, crew, gate, next.call, reply)
         } else {
-            self.show(rt, pass, gate);
+            self.show(rt, pass, gate, Held::Alone);
             self.lock.release_alone(rt, pass, crew);
             reply
         }
@@ -342,7 +344,7 @@ impl<L: SleepLock<O>, O: Served + Drop> Guarded<L, O> {
         // No moment without the lock: another change could come in between, and the pages that are
         // counted would not be those that the call left.
         self.lock.downgrade(rt, pass, crew);
-        self.show(rt, pass, gate);
+        self.show(rt, pass, gate, self.lock.held(pass));
         let found = self.found(pass, known, reply);
         self.lock.release_shared(rt, pass, crew);
         found
@@ -433,13 +435,14 @@ impl<L: SleepLock<O>, O: Served + Drop> Guarded<L, O> {
         }
     }
 
-    /// Lets the gate see the task, which holds.
-    fn show<W: Wait, G: Gate>(&self, rt: &W, pass: &L::Pass, gate: &G)
-        requires { L.sits (lock_of self.now) pass.now }
+    /// Lets the gate see the task, which holds in this way.
+    fn show<W: Wait, G: Gate>(&self, rt: &W, pass: &L::Pass, gate: &G, how: Held)
+        requires own { L.sits (lock_of self.now) pass.now }
+        requires held { (L.view pass.now).hand.held ≡ how }
+        requires inside { how ≢ No }
     {
-        let shared = self.lock.held(pass) == Held::Shared;
         if let Some(task) = self.lock.task(pass) {
-            gate.inside(rt, self.object, task, shared);
+            gate.inside(rt, self.object, task, how == Held::Shared);
         }
     }
 }

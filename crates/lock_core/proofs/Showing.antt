@@ -7,13 +7,17 @@ use Rattle.lock_core.specs.declared.view.Held.TheVariants.{No}
 use Rattle.lock_core.specs.Views.{handed}
 use Rattle.lock_core.specs.Holding.{missed}
 use Rattle.lock_core.specs.Pasts.{GoesOn, FoundAt, IsOwnStep}
-use Rattle.lock_core.specs.RunLaws.{found-at-step}
+use Rattle.lock_core.specs.RunLaws.{found-at-step, step-by}
 use Rattle.lock_core.specs.Kinds.{Kind, unavailable}
-use Rattle.lock_core.specs.Shown.{shown}
+use Rattle.lock_core.specs.Shown.{IsLatestStep, shown}
 use Rattle.lock_core.specs.Locking.{Sees, Misses}
 
 same-le : (m n : ℕ) → m ≡ n → n ≤ m
 same-le m n e = omega arith
+
+-- a pass whose last step is the last moment that it saw shows that step
+pub latest-shown : {E : Type 0} (line : E → Line) (fronts : ℕ) (v : View E) (past : List Moment) → IsOwnStep v past → IsLatestStep (shown line fronts v past)
+latest-shown line fronts v past own = record { step = step-by v v.hand.task past refl own; hand = refl; spin = own.spin }
 
 -- a pass that held nothing, and whose one step was a failed try
 module _ {E : Type 0} (line : E → Line) (fronts fronts' : ℕ) (stood : fronts' ≡ fronts) (kind : Kind) (reads : Bool) (at word : ℕ) (v u : View E) (p q : List Moment)
@@ -54,4 +58,7 @@ module _ {E : Type 0} (line : E → Line) (fronts fronts' : ℕ) (stood : fronts
     sees = missed-sees;
     once = more;
     freed = part (λ w. w.hand.freed);
+    entries = part (λ w. w.spin.entries);
+    fronts = stood;
+    line = part (λ w. line w.ext);
   }

@@ -68,7 +68,7 @@ pub record Sees (kind : Kind) (reads : Bool) (at word : ℕ) (v u : Shown) : Typ
   pub found : FindsAtStep saw.step at word v u
   pub shut : unavailable kind reads word
 
--- it didn't wait, and holds nothing
+-- it didn't wait, and holds nothing: it took no wait lock, was in no list, and was no queue's front
 pub record Misses (kind : Kind) (reads : Bool) (at word : ℕ) (v u : Shown) : Type 0 where
   pub keeps : Keeps v u
   pub consumed : u.hand.consumed ≡ v.hand.consumed
@@ -76,6 +76,9 @@ pub record Misses (kind : Kind) (reads : Bool) (at word : ℕ) (v u : Shown) : T
   pub sees : Sees kind reads at word v u
   pub once : u.hand.misses ≡ v.hand.misses + 1
   pub freed : u.hand.freed ≡ v.hand.freed
+  pub entries : u.spin.entries ≡ v.spin.entries
+  pub fronts : u.fronts ≡ v.fronts
+  pub line : u.line ≡ v.line
 
 -- steps of this call found these numbers of signals sent to its task, and consumed by it; more were sent
 pub record SawPending (why : Interrupted) (v u : Shown) : Type 0 where
@@ -102,6 +105,7 @@ pub record Frees (wakes : ℕ → Type 0) (v u : Shown) : Type 0 where
   pub saw : u.hand.saw ≡ v.hand.saw
   pub misses : u.hand.misses ≡ v.hand.misses
   pub fronts : u.fronts ≡ v.fronts
+  pub line : u.line ≡ v.line
   pub woken : wakes u.hand.freed → v.spin.entries < u.spin.entries
 
 -- it holds nothing
@@ -118,11 +122,12 @@ Got Fast v u = (u.hand.misses ≡ v.hand.misses) × (u.spin.entries ≡ v.spin.e
 Got Spun v u = (v.hand.misses < u.hand.misses) × (u.line ≡ v.line)
 Got Slept v u = u.line.appends ≡ v.line.appends + 1
 
--- a shared call's first try, which missed, let it in
+-- a shared call's first try, which missed, saw a word that let it in
 pub record IsLetIn (kind : Kind) (v u : Shown) : Type 0 where
   pub once : u.hand.misses ≡ v.hand.misses + 1
   pub saw : Saw
   pub is : u.hand.saw ≡ Some saw
+  pub since : v.steps < saw.step
   pub opens : lets_in kind saw.word
 
 -- a call that waits keeps its place in line: after a failed try it goes through the wait lock or the spin queue. `shared`: it may have been let in.

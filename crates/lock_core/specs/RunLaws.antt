@@ -27,24 +27,28 @@ module _ {E : Type 0} (marks : E → List ℕ) (holds : List ℕ → List (View 
       long (y ∷ []) e is p = absurd (let l = ap length e in omega (arith, l))
       long (y ∷ x ∷ k) e is p = subst (EachMoment Q) (sym is) (each-so y x k p)
 
+-- its own last step is one of the pass that has its task's number
+abbrev pub step-by : {E : Type 0} (v : View E) (task : Option ℕ) (past : List Moment) → v.hand.task ≡ task → IsOwnStep v past → IsStepBy task v.steps past
+step-by v task past named own = record {
+  now = own.now;
+  before = own.before;
+  rest = own.rest;
+  seat = own.seat;
+  past_is = own.past_is;
+  hand = v.hand;
+  is = own.hand;
+  named = named;
+  steps = own.steps;
+  had = own.had;
+  had_steps = own.had_steps;
+  counts = own.counts;
+}
+
 -- what the last step of a pass found, it finds at that step
 pub found-at-step : {E : Type 0} (v : View E) (task : Option ℕ) (i n : ℕ) (old past new : List Moment) → v.hand.task ≡ task → IsOwnStep v past → FoundAt i n past → GoesOn old past → GoesOn past new → FoundAtStep task v.steps i n old new
 found-at-step v task i n old past new named own found after goes = record {
   past = past;
-  by = record {
-    now = own.now;
-    before = own.before;
-    rest = own.rest;
-    seat = own.seat;
-    past_is = own.past_is;
-    hand = v.hand;
-    is = own.hand;
-    named = named;
-    steps = own.steps;
-    had = own.had;
-    had_steps = own.had_steps;
-    counts = own.counts;
-  };
+  by = step-by v task past named own;
   found = found;
   after = after;
   goes_on = goes;

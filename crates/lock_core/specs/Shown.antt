@@ -1,5 +1,7 @@
 -- What callers of any lock see of a pass.
-use Rattle.std.specs.Prelude.{◌≡◌, ℕ, ◌<◌, ◌≤◌, true, length, List, Option, slice_get, Some, None, IsSome}
+use Rattle.std.specs.Prelude.{◌≡◌, ℕ, ◌<◌, ◌≤◌, true, length, List, [], Option, slice_get, Some, None, IsSome}
+use mathlib.Core.Option.{some}
+use lib.ListN.{get_elem?}
 use Rattle.word_bits.specs.declared.call.CallWords.{CallWords}
 use Rattle.word_bits.specs.declared.entry.Entry.{Entry}
 use Rattle.word_bits.specs.Histories.{Plan}
@@ -53,9 +55,11 @@ FindsAtStep step at n v u = FoundAtStep v.hand.task step at n v.past u.past
 abbrev pub FindsSince : (at n : ℕ) → Shown → Shown → Type 0
 FindsSince at n v u = FoundSince v.hand.task v.steps u.steps at n v.past u.past
 
--- the last moment of its past is that of its own last step
-abbrev pub IsLatestStep : Shown → Type 0
-IsLatestStep v = IsStepBy v.hand.task v.steps v.past
+-- the last moment of its past is that of its own last step, which left its seat so
+pub record IsLatestStep (v : Shown) : Type 0 where
+  pub step : IsStepBy v.hand.task v.steps v.past
+  pub hand : step.hand ≡ v.hand
+  pub spin : get_elem? step.now.spins step.seat ≡ some v.spin
 
 -- it is one of a site with this plan, and no call of the lock is under way
 pub record Stands (k : Plan) (v : Shown) : Type 0 where

@@ -58,6 +58,9 @@ failed-misses v u p q n s later now out own found goes names small reads = recor
   };
   once = more;
   freed = part (λ w. w.hand.freed);
+  entries = part (λ w. w.spin.entries);
+  fronts = part (λ w. w.fronts);
+  line = part (λ w. line_of w.ext);
 }
   where
     part : {A : Type 0} (f : V → A) → f u ≡ f (turns turned Fail (at_step v s) (missed v.hand n (s + 1)))
@@ -159,8 +162,8 @@ keeps-at v u p q f f' more k = record { task = k.task; done = k.done; seen = k.s
 pub sees-at : {reads : Bool} {n : ℕ} (v u : V) (p q : List Moment) (f f' : ℕ) → Sees mutex reads owner_at n (shown line_of v.fronts v p) (shown line_of u.fronts u q) → Sees mutex reads owner_at n (shown line_of f v p) (shown line_of f' u q)
 sees-at v u p q f f' s = record { saw = s.saw; is = s.is; word_is = s.word_is; since = s.since; by_now = s.by_now; found = s.found; shut = s.shut }
 
-pub misses-at : {reads : Bool} {n : ℕ} (v u : V) (p q : List Moment) (f f' : ℕ) → f ≤ f' → Misses mutex reads owner_at n (shown line_of v.fronts v p) (shown line_of u.fronts u q) → Misses mutex reads owner_at n (shown line_of f v p) (shown line_of f' u q)
-misses-at v u p q f f' more m = record { keeps = keeps-at v u p q f f' more m.keeps; consumed = m.consumed; out = m.out; sees = sees-at v u p q f f' m.sees; once = m.once; freed = m.freed }
+pub misses-at : {reads : Bool} {n : ℕ} (v u : V) (p q : List Moment) (f : ℕ) → Misses mutex reads owner_at n (shown line_of v.fronts v p) (shown line_of u.fronts u q) → Misses mutex reads owner_at n (shown line_of f v p) (shown line_of f u q)
+misses-at v u p q f m = record { keeps = keeps-at v u p q f f (omega arith) m.keeps; consumed = m.consumed; out = m.out; sees = sees-at v u p q f f m.sees; once = m.once; freed = m.freed; entries = m.entries; fronts = refl; line = m.line }
 
 pub interrupts-at : {reads : Bool} {why : Interrupted} (v u : V) (p q : List Moment) (f f' : ℕ) → f ≤ f' → Interrupts mutex reads owner_at why (shown line_of v.fronts v p) (shown line_of u.fronts u q) → Interrupts mutex reads owner_at why (shown line_of f v p) (shown line_of f' u q)
 interrupts-at v u p q f f' more i = record {

@@ -7,6 +7,9 @@ use Rattle.lock_core.specs.LockedLaws.{ran-steps}
 use Rattle.lock_core.specs.Pasts.{Moves}
 use Rattle.lock_core.specs.RunLaws.{ran-each, ran-so}
 use Rattle.lock_core.specs.Stated.{IsSiteMove}
+use Rattle.lock_core.proofs.Showing.{latest-shown}
+use Rattle.osq_nodes.specs.Handles.{fronts_in}
+use Rattle.mutex_slow.specs.Places.{line_of}
 use Rattle.mutex_slow.specs.Mutexes.{Kept, MutexMoves, owner_at, standing}
 use Rattle.mutex_slow.specs.Handles.{newest}
 use Rattle.mutex_slow.specs.Stated.{IsMutexThen, line_marks, waits_on}
@@ -14,6 +17,9 @@ use Rattle.mutex_slow.proofs.Stating.{mutex-states}
 use Rattle.mutex_slow.proofs.Chaining.{becomes}
 use Rattle.mutex_slow.proofs.Locking.{each-moment, mutex-locked}
 use Rattle.mutex_slow.proofs.calls.Mutex.recall.Goals as goal
+
+pub returns-clause-last : goal.returns-clause-last
+returns-clause-last g c = latest-shown line_of (fronts_in c.args.pass.now.queue) c.recall.new.pass.seat.me.0.view c.recall.new.pass.seat.me.0.past c.recall.ensures.last
 
 pub returns-clause-always : goal.returns-clause-always
 returns-clause-always g c = let k = c.args.self.now.site.table.shared.key in let o = g.O.Object.object in let n = g.O.Object.WORDS in let own = c.recall.ensures.last in
