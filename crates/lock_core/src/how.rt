@@ -11,8 +11,8 @@ pub enum How {
     Slept,
 }
 
-/// Why a call that waits ended without its lock: more signals were sent to its task than the task had
-/// consumed.
+/// Why a call that waits ended without its lock: more signals were sent to its task than the task
+/// had consumed.
 #[derive(Clone, Copy, Debug, PartialEq, Eq)]
 pub struct Interrupted {
     /// How many were sent, as a load of the call saw.

@@ -2,17 +2,18 @@
 
 use word_bits::MAX_TASKS;
 
-/// How many words a table has for its locks. They stand first, and a rule says what each of them is:
-/// 16 lines of 8 words for words of the whole lock, and 8 such lines for each task. A word on which
-/// a task spins, or by which it sleeps, has a line of its own.
+/// How many words a table has for its locks. They stand first, and a rule says what each of them
+/// is: 16 lines of 8 words for words of the whole lock, and 8 such lines for each task. A word on
+/// which a task spins, or by which it sleeps, has a line of its own.
 pub const LOCK_WORDS: usize = 128 + 64 * MAX_TASKS as usize;
 
 /// How many of them are those of a spin lock: a line that begins with its word, one that is unused,
 /// and a line for the node of each task.
 pub const SPIN_WORDS: usize = 16 + 8 * MAX_TASKS as usize;
 
-/// How many of them are left to spin locks: a line for each of eight, and for each task the nodes of
-/// the four that it may wait for at once, a line for each. A rule's other words stand behind them.
+/// How many of them are left to spin locks: a line for each of eight, and for each task the nodes
+/// of the four that it may wait for at once, a line for each. A rule's other words stand behind
+/// them.
 pub const SPIN_ROOM: usize = 64 + 32 * MAX_TASKS as usize;
 
 // Behind the locks' words, and counted from there: the guarded words, the lines of the tasks, the

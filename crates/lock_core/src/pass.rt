@@ -30,8 +30,8 @@ impl Face {
     }
 }
 
-/// A seat of a site's table. Contracts see what it knows (`view_of`), the moments of the table up to
-/// its last step (`past_of`), and what it says of itself (`task_in`, `held_in`, `done_in`,
+/// A seat of a site's table. Contracts see what it knows (`view_of`), the moments of the table up
+/// to its last step (`past_of`), and what it says of itself (`task_in`, `held_in`, `done_in`,
 /// `front_in`).
 #[derive(Drop)]
 pub struct Pass<R: SiteRule> {
@@ -68,8 +68,9 @@ impl<R: SiteRule> Pass<R> {
         self.face.front
     }
 
-    /// Notes how the pass holds, after a step of a lock that changed it. Clauses that a pass sits at
-    /// a site speak of what it notes, so a pass that notes something else is of no use afterwards.
+    /// Notes how the pass holds, after a step of a lock that changed it. Clauses that a pass sits
+    /// at a site speak of what it notes, so a pass that notes something else is of no use
+    /// afterwards.
     pub fn set_held(&mut self, held: Held)
         requires { (hand_in self.old).held ≡ held }
         ensures { NotesHold held self.old self.new }

@@ -50,8 +50,8 @@ pub struct Site<R: SiteRule> {
 impl<R: SiteRule> Site<R> {
     ghost use Rattle.lock_core.specs.Handles.{plan_of, view_of, past_of, task_in, front_in, SitsAt, KeepsPast};
 
-    /// A new site: all lock words are 0, the state is empty, no call is logged or recorded. The pass
-    /// has no task number.
+    /// A new site: all lock words are 0, the state is empty, no call is logged or recorded. The
+    /// pass has no task number.
     pub fn open(alloc: Global, plan: Plan) -> Result<(Site<R>, Pass<R>), AllocError>
         requires { IsPlan R.O.object plan }
         ensures own { IfOk result (λ t. SitsAt t.0 t.1) }

@@ -31,7 +31,7 @@ pub trait SpinHost: SiteRule {
     // Each move of the rule is one of the spin lock.
     ghost spin_moves: { (k : Calls) (id : ℕ) (ws us : List ℕ) (vs vs' : List (View Self.Ext)) → Self.moves k id ws vs us vs' → SpinMoves id (part FIRST SPIN_WORDS ws) (map spin_part vs) (part FIRST SPIN_WORDS us) (map spin_part vs') };
 
-    // A step on the spin words that keeps the lock's own facts, and is one of its moves, keeps every
-    // other fact of the rule.
+    // A step on the spin words that keeps the lock's own facts, and is one of its moves, keeps
+    // every other fact of the rule.
     ghost spins: { (k : Calls) (ws : List ℕ) (vs : List (View Self.Ext)) (id i n : ℕ) (v : View Self.Ext) (s : SpinHand) → Self.holds k ws vs → get_elem? vs id ≡ some v → i < SPIN_WORDS → SpinGoes (v.steps + 1) v.spin s → (SpinFrees v.spin s → may_free v) → SpinMoves id (part FIRST SPIN_WORDS ws) (map spin_part vs) (slice_set (part FIRST SPIN_WORDS ws) i n) (slice_set (map spin_part vs) id (part_with v s)) → Goes (Self.holds k) (Self.moves k) id ws vs (slice_set ws (FIRST + i) n) (slice_set vs id (spun v s)) };
 }

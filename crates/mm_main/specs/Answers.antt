@@ -2,7 +2,7 @@
 use Rattle.std.specs.Prelude.{◌≡◌, ◌≤◌, ℕ, Bool, List, length, Option, Some, None, IfSome, Ok, ◌⊎◌}
 use Rattle.std.specs.Io.KnownBytes.{Appends, Consumes, Keeps}
 use Rattle.word_bits.specs.Snapshots.{Words}
-use Rattle.task_script.specs.Causes.{Fronts, one_more}
+use Rattle.task_script.specs.Causes.{Fronts, Rose, one_more}
 use Rattle.task_script.specs.Scripts.{Listing}
 use Rattle.task_script.specs.Generated.{generated}
 use Rattle.task_script.specs.Grammar.{script_of}
@@ -68,6 +68,18 @@ GivesScript None (Some input) s = script_of input ≡ Ok s
 abbrev pub Completes : Tellable → Option Options → (left : Option (List ℕ)) → (read write : Type 0) → (old new : Option (List ℕ)) → Status → Type 0
 Completes May said left read write old new status =
     (o : Options) (s : Listing) → said ≡ Some o → GivesScript o.generate left s → ¬ read → ¬ write → (status ≡ NoMemory) ⊎ ((status ≡ Done) × OfResults May o.summary s (Appends old new))
+
+-- What is said to a sink, which tells how many of its writes failed and what was written to it. Nothing is read.
+abbrev pub SaysTo : {K : Type 0} → (faults : K → ℕ) → (written : K → Option (List ℕ)) → (old new : K) → Tellable → Request → Status → Type 0
+SaysTo faults written old new May asked status = Says May asked ⊥ (Rose (faults old) (faults new)) (written old) (written new) status
+
+-- the same beside a source, which tells what is left and how many of its reads failed
+module _ {S K : Type 0} (left : S → Option (List ℕ)) (reads : S → ℕ) (writes : K → ℕ) (written : K → Option (List ℕ)) (source read : S) (sink wrote : K) where
+  abbrev pub AnswersTo : Tellable → (calls_for : List ℕ → Request) → Status → Type 0
+  AnswersTo May calls_for status = Answers May calls_for (left source) (Rose (reads source) (reads read)) (Rose (writes sink) (writes wrote)) (written sink) (written wrote) status
+
+  abbrev pub CompletesTo : Tellable → Option Options → Status → Type 0
+  CompletesTo May said status = Completes May said (left source) (Rose (reads source) (reads read)) (Rose (writes sink) (writes wrote)) (written sink) (written wrote) status
 
 -- the count of the source's faults, which is one higher exactly where the status says that a read failed
 abbrev pub read_faults : Status → ℕ → ℕ

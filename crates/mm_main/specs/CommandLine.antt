@@ -1,5 +1,5 @@
 -- The command line: four options, and which numbers they take.
-use Rattle.std.specs.Prelude.{◌≡◌, ℕ, ◌-◌, ◌^◌, ◌++◌, nat_le, Bool, true, false, List, [], ◌∷◌, Option, Some, None, find, option_and_then, option_map, if◌then◌else◌, codes}
+use Rattle.std.specs.Prelude.{◌≡◌, ℕ, ◌-◌, ◌^◌, ◌++◌, nat_le, Bool, true, false, List, [], ◌∷◌, Option, Some, None, find, option_and_then, option_map, if◌then◌else◌, codes, map, String, string_bytes}
 use Rattle.std.specs.Option.{option_map_or}
 use Rattle.std.specs.Str.{bytes_eq}
 use Rattle.clap.specs.Kinds.{Kinds}
@@ -66,6 +66,10 @@ unless_faulty (kind ∷ kinds) said = None
 -- what the words say, where the command takes them and each value is a number in its range
 unfoldable pub options_of : (words : List Text) → Option Options
 options_of words = unless_faulty (fault_of the_command words) (options_from (matches_of the_command words))
+
+-- what the words of a command line say, each of them a text
+abbrev pub said_by : {Z : Type 0} → List (String Z) → Option Options
+said_by words = options_of (map string_bytes words)
 
 -- an option that stands alone, its value joined to it, says it, and the others say their defaults; one -- may stand behind it
 abbrev pub LoneOptionsSay : Type 0

@@ -1,5 +1,5 @@
 -- The calls of a script done one after the other, task by task: what they leave on one object.
-use Rattle.std.specs.Prelude.{◌≡◌, ℕ, ◌+◌, ◌++◌, ◌^◌, ◌≤◌, Bool, true, false, List, [], ◌∷◌, length, map, filter, flat_map, Option, Some, None, if◌then◌else◌}
+use Rattle.std.specs.Prelude.{◌≡◌, ℕ, ◌+◌, ◌++◌, ◌^◌, ◌≤◌, Bool, true, false, List, [], ◌∷◌, length, map, filter, flat_map, slice_get, Option, Some, None, if◌then◌else◌}
 use Rattle.std.specs.List.{AllByRecursion}
 use Rattle.word_bits.specs.declared.call.CallWords.{CallWords}
 use Rattle.word_bits.specs.declared.entry.Entry.{Entry}
@@ -10,7 +10,7 @@ use Rattle.word_bits.specs.EntryWord.{entry_word}
 use Rattle.word_bits.specs.RecWord.{rec_word}
 use Rattle.word_bits.specs.Objects.{Obj}
 use Rattle.word_bits.specs.Snapshots.{Words}
-use Rattle.word_bits.specs.Histories.{Plan, Records, state_after, changes}
+use Rattle.word_bits.specs.Histories.{Plan, Records, at_entry, state_after, changes}
 use Rattle.word_bits.specs.Legal.{seen_after}
 use Rattle.vma_map.specs.Spaces.{space}
 use Rattle.task_script.specs.declared.script.Line.{Line}
@@ -78,6 +78,14 @@ module _ {Call : Type 0} (o : Obj Call) where
   pub record DoesTask (plan : Plan) (log : List Entry) (task : ℕ) (ws : List CallWords) (old new : Words) (state : o.State) : Type 0 where
     pub recs : new.recs ≡ old.recs ++ map rec_word (task_records plan log task 0 0 ws)
     pub stands : Stands plan (task_log log task 0 ws) new state
+
+  -- so it does behind whatever log, for whatever plan has the call
+  abbrev pub PerformsCall : Entry → (seen : ℕ) → CallWords → (old new : Words) → (was state : o.State) → (seen_now : ℕ) → Type 0
+  PerformsCall e seen w old new was state seen_now = (plan : Plan) (log : List Entry) → at_entry plan e ≡ Some w → Stands plan log old was → DoesCall plan log e seen w old new state seen_now
+
+  -- so do the calls of a task
+  abbrev pub PerformsTask : (task : ℕ) → List CallWords → (old new : Words) → (was state : o.State) → Type 0
+  PerformsTask task ws old new was state = (plan : Plan) (log : List Entry) → slice_get plan task ≡ Some ws → Stands plan log old was → DoesTask plan log task ws old new state
 
 -- the same of an object that is a space, or else a table
 abbrev pub IsSerialOn : (is_space : Bool) → Plan → Words → Type 0

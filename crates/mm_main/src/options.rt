@@ -1,10 +1,10 @@
 //! The options of the command line.
-ghost use Rattle.std.specs.Prelude.{◌≡◌, [], IfOk, Some, false, map, option_map, string_bytes};
+ghost use Rattle.std.specs.Prelude.{◌≡◌, [], IfOk, Some, false, option_map};
 ghost use Rattle.clap.specs.Matches.{found_of};
 ghost use Rattle.clap.specs.Simple.{app_of};
 ghost use Rattle.clap.specs.Walk.{rows_of, rule_of};
 ghost use Rattle.mm_main.specs.CommandLine.{flag_rule, is_from_words, number_if_used, number_or};
-ghost use Rattle.mm_main.specs.CommandLine.{number_up_to, options_from, options_of, the_command};
+ghost use Rattle.mm_main.specs.CommandLine.{number_up_to, options_from, options_of, said_by, the_command};
 ghost use Rattle.mm_main.specs.CommandLine.{JoinedOptionsSay, LoneOptionsSay};
 ghost use Rattle.mm_main.specs.CommandLine.{RepeatedOptionsSayNothing, value_rule};
 ghost use Rattle.mm_main.specs.Parsed.{Gives, error_of};
@@ -149,7 +149,7 @@ impl Options {
     ///
     /// That the words are no command line, or that there is no memory.
     pub(crate) fn read(alloc: Global, words: &[String]) -> Result<Options, OptionsError>
-        ensures { Gives (options_of (map string_bytes words.now)) result }
+        ensures { Gives (said_by words.now) result }
     {
         let Ok(command) = command(alloc) else {
             return Err(OptionsError::Memory);

@@ -1,15 +1,14 @@
 //! The program over any source and sink.
-ghost use Rattle.std.specs.Prelude.{◌≡◌, ◌≤◌, ◌+◌, ◌^◌, false, length, map, string_bytes, true};
+ghost use Rattle.std.specs.Prelude.{◌≡◌, ◌≤◌, ◌+◌, ◌^◌, false, length, true};
 ghost use Rattle.std.specs.Io.KnownBytes.{IsAtEnd};
-ghost use Rattle.task_script.specs.Causes.{Rose};
 ghost use Rattle.task_script.specs.Generated.{generated};
 ghost use Rattle.task_script.specs.Grammar.{script_of};
 ghost use Rattle.task_script.specs.Scripts.{count_of_calls};
 ghost use Rattle.task_script.specs.Sound.{IsSound};
-ghost use Rattle.mm_main.specs.CommandLine.{options_of};
+ghost use Rattle.mm_main.specs.CommandLine.{said_by};
 ghost use Rattle.mm_main.specs.Requests.{misused, refused, accepted, reads_input, reason_text};
 ghost use Rattle.mm_main.specs.Requests.{request, request_of};
-ghost use Rattle.mm_main.specs.Answers.{Answers, AnyTold, Completes, Says, TakesAtMost};
+ghost use Rattle.mm_main.specs.Answers.{AnswersTo, AnyTold, CompletesTo, SaysTo, TakesAtMost};
 ghost use Rattle.mm_main.specs.Answers.{read_faults, write_faults};
 ghost use Rattle.mm_main.specs.Serial.{NoneKeptOff};
 
@@ -24,8 +23,7 @@ use task_script::{Outbox, Reason, Script, ScriptError, Sink, Source, generate, p
 const USAGE: &[u8] = b"usage: mm_main [--spin N] [--overdue N] [--generate N] [--summary]\n";
 
 fn usage<K: Sink>(sink: &mut K) -> Status
-    ensures says { Says NoneKeptOff misused ⊥ (Rose (K.faults sink.old) (K.faults sink.new))
-        (K.written sink.old) (K.written sink.new) result }
+    ensures says { SaysTo K.faults K.written sink.old sink.new NoneKeptOff misused result }
     ensures faults { K.faults sink.new ≡ write_faults result (K.faults sink.old) }
 {
     match put(sink, USAGE) {
@@ -57,9 +55,8 @@ fn reason_name(reason: Reason) -> &'static [u8]
 }
 
 fn refuse<K: Sink>(line: u32, reason: Reason, sink: &mut K) -> Status
-    ensures says { Says NoneKeptOff (refused record { line = line; reason = reason }) ⊥
-        (Rose (K.faults sink.old) (K.faults sink.new))
-        (K.written sink.old) (K.written sink.new) result }
+    ensures says { SaysTo K.faults K.written sink.old sink.new NoneKeptOff
+        (refused record { line = line; reason = reason }) result }
     ensures faults { K.faults sink.new ≡ write_faults result (K.faults sink.old) }
 {
     let mut out = Outbox::new();
@@ -77,9 +74,8 @@ fn refuse<K: Sink>(line: u32, reason: Reason, sink: &mut K) -> Status
 fn run<K: Sink>(alloc: Global, script: &Script, summary: bool, sink: &mut K) -> Status
     requires sound { IsSound script.now }
     requires few { count_of_calls script.now ≤ 2 ^ 18 }
-    ensures says { Says NoneKeptOff (accepted summary script.now) ⊥
-        (Rose (K.faults sink.old) (K.faults sink.new))
-        (K.written sink.old) (K.written sink.new) result }
+    ensures says { SaysTo K.faults K.written sink.old sink.new NoneKeptOff
+        (accepted summary script.now) result }
     ensures faults { K.faults sink.new ≡ write_faults result (K.faults sink.old) }
 {
     let Ok(mut results) = Results::new(alloc, script) else {
@@ -94,9 +90,8 @@ fn run<K: Sink>(alloc: Global, script: &Script, summary: bool, sink: &mut K) -> 
 
 fn answer<K: Sink>(alloc: Global, input: &[u8], summary: bool, sink: &mut K) -> Status
     requires { length input.now ≤ 1048577 }
-    ensures says { Says NoneKeptOff (request_of summary (script_of input.now)) ⊥
-        (Rose (K.faults sink.old) (K.faults sink.new))
-        (K.written sink.old) (K.written sink.new) result }
+    ensures says { SaysTo K.faults K.written sink.old sink.new NoneKeptOff
+        (request_of summary (script_of input.now)) result }
     ensures faults { K.faults sink.new ≡ write_faults result (K.faults sink.old) }
 {
     match read(alloc, input) {
@@ -108,9 +103,8 @@ fn answer<K: Sink>(alloc: Global, input: &[u8], summary: bool, sink: &mut K) -> 
 
 // Answers the script of a number.
 fn answer_generated<K: Sink>(alloc: Global, number: u32, summary: bool, sink: &mut K) -> Status
-    ensures says { Says NoneKeptOff (accepted summary (generated number)) ⊥
-        (Rose (K.faults sink.old) (K.faults sink.new))
-        (K.written sink.old) (K.written sink.new) result }
+    ensures says { SaysTo K.faults K.written sink.old sink.new NoneKeptOff
+        (accepted summary (generated number)) result }
     ensures faults { K.faults sink.new ≡ write_faults result (K.faults sink.old) }
 {
     match generate(alloc, number) {
@@ -126,11 +120,8 @@ fn answer_input<S: Source, K: Sink>(
     source: &mut S,
     sink: &mut K,
 ) -> Status
-    ensures answer { Answers NoneKeptOff (λ input. request_of summary (script_of input))
-        (S.left source.old)
-        (Rose (S.faults source.old) (S.faults source.new))
-        (Rose (K.faults sink.old) (K.faults sink.new))
-        (K.written sink.old) (K.written sink.new) result }
+    ensures answer { AnswersTo S.left S.faults K.faults K.written source.old source.new
+        sink.old sink.new NoneKeptOff (λ input. request_of summary (script_of input)) result }
     ensures read_faults { S.faults source.new ≡ read_faults result (S.faults source.old) }
     ensures write_faults { K.faults sink.new ≡ write_faults result (K.faults sink.old) }
     ensures taken { TakesAtMost 1048577 (S.left source.old) (S.left source.new) }
@@ -157,32 +148,22 @@ pub fn top<S: Source, K: Sink>(
     source: &mut S,
     sink: &mut K,
 ) -> Status
-    ensures answer { Answers AnyTold (request (options_of (map string_bytes words.now)))
-        (S.left source.old)
-        (Rose (S.faults source.old) (S.faults source.new))
-        (Rose (K.faults sink.old) (K.faults sink.new))
-        (K.written sink.old) (K.written sink.new) result }
+    ensures answer { AnswersTo S.left S.faults K.faults K.written source.old source.new
+        sink.old sink.new AnyTold (request (said_by words.now)) result }
 
     // Task by task no call is kept off its object.
-    ensures none_kept_off { Answers NoneKeptOff (request (options_of (map string_bytes words.now)))
-        (S.left source.old)
-        (Rose (S.faults source.old) (S.faults source.new))
-        (Rose (K.faults sink.old) (K.faults sink.new))
-        (K.written sink.old) (K.written sink.new) result }
+    ensures none_kept_off { AnswersTo S.left S.faults K.faults K.written source.old source.new
+        sink.old sink.new NoneKeptOff (request (said_by words.now)) result }
 
-    ensures complete { Completes AnyTold (options_of (map string_bytes words.now)) (S.left source.old)
-        (Rose (S.faults source.old) (S.faults source.new))
-        (Rose (K.faults sink.old) (K.faults sink.new))
-        (K.written sink.old) (K.written sink.new) result }
+    ensures complete { CompletesTo S.left S.faults K.faults K.written source.old source.new
+        sink.old sink.new AnyTold (said_by words.now) result }
     ensures read_faults { S.faults source.new ≡ read_faults result (S.faults source.old) }
     ensures write_faults { K.faults sink.new ≡ write_faults result (K.faults sink.old) }
     ensures taken { TakesAtMost 1048577 (S.left source.old) (S.left source.new) }
-    ensures unread { reads_input (options_of (map string_bytes words.now)) ≡ false →
-        source.new ≡ source.old }
+    ensures unread { reads_input (said_by words.now) ≡ false → source.new ≡ source.old }
     ensures few_reads { S.gave source.new ≤ S.gave source.old + 1048577 }
     ensures one_end { S.ended source.new ≤ S.ended source.old + 1 }
-    ensures whole { result ≡ Status.Done →
-        reads_input (options_of (map string_bytes words.now)) ≡ true →
+    ensures whole { result ≡ Status.Done → reads_input (said_by words.now) ≡ true →
         IsAtEnd (S.left source.new) }
 {
     let options = match Options::read(alloc, words) {

@@ -3,16 +3,14 @@
 //! Nobody else holds an object then, so a call that would not wait is never busy, and one that a
 //! signal may interrupt is never interrupted.
 ghost use Rattle.std.specs.Prelude.{◌≡◌, ◌+◌, ◌<◌, ◌≤◌, ◌^◌, length, map, flat_map, count_by, List, [], Some, slice_get};
-ghost use Rattle.word_bits.specs.declared.entry.Entry.{Entry};
 ghost use Rattle.word_bits.specs.EntryWord.{IsEntry};
 ghost use Rattle.word_bits.specs.RecWord.{rec_word};
 ghost use Rattle.word_bits.specs.Snapshots.{no_words};
-ghost use Rattle.word_bits.specs.Histories.{Plan, at_entry};
 ghost use Rattle.task_script.specs.Scripts.{Declared, count_of_calls, is_on, plan_of};
 ghost use Rattle.task_script.specs.Sound.{IsSound};
 ghost use Rattle.mm_report.specs.Results.{Told, AreLegal, AreComplete, calls_on};
-ghost use Rattle.mm_report.specs.Results.{empty_results, words_of_kind};
-ghost use Rattle.mm_main.specs.Serial.{Stands, DoesCall, DoesTask, Keeps, HasRoom};
+ghost use Rattle.mm_report.specs.Results.{empty_results, empty_snapshot};
+ghost use Rattle.mm_main.specs.Serial.{Stands, PerformsCall, PerformsTask, Keeps, HasRoom};
 ghost use Rattle.mm_main.specs.Serial.{IsSerial, IsSerialOn, NoneKeptOff, all_log, all_records};
 ghost use Rattle.mm_main.specs.Serial.{task_calls};
 
@@ -35,10 +33,8 @@ fn perform<O: Object>(
     requires entry { IsEntry entry }
     requires seen { seen ≤ length snapshot.old.log }
     requires room { HasRoom snapshot.old 1 }
-    ensures does { (plan : Plan) (log : List Entry) → at_entry plan entry ≡ Some words →
-        Stands O.object plan log snapshot.old (O.state value.old) →
-        DoesCall O.object plan log entry seen words snapshot.old snapshot.new
-        (O.state value.new) result }
+    ensures does { PerformsCall O.object entry seen words snapshot.old snapshot.new
+        (O.state value.old) (O.state value.new) result }
     ensures seen { result ≤ length snapshot.new.log }
     ensures recs { length snapshot.new.recs ≡ length snapshot.old.recs + 1 }
     ensures log { length snapshot.new.log ≤ length snapshot.old.log + 1 }
@@ -75,11 +71,8 @@ fn perform_task<O: Object>(
     requires task { task < 64 }
     requires few { count_by (is_on object) lines.now ≤ 2 ^ 18 }
     requires room { HasRoom snapshot.old (count_by (is_on object) lines.now) }
-    ensures does { (plan : Plan) (log : List Entry) →
-        slice_get plan task ≡ Some (task_calls object lines.now) →
-        Stands O.object plan log snapshot.old (O.state value.old) →
-        DoesTask O.object plan log task (task_calls object lines.now) snapshot.old snapshot.new
-        (O.state value.new) }
+    ensures does { PerformsTask O.object task (task_calls object lines.now)
+        snapshot.old snapshot.new (O.state value.old) (O.state value.new) }
     ensures recs { length snapshot.new.recs ≡
         length snapshot.old.recs + count_by (is_on object) lines.now }
     ensures log { length snapshot.new.log ≤
@@ -147,8 +140,7 @@ fn perform_declared(script: &Script, object: u32, snapshot: &mut Snapshot)
     requires object { object < length script.now.objects }
     requires few { calls_on script.now object ≤ 2 ^ 18 }
     requires empty { (d : Declared) → slice_get script.now.objects object ≡ Some d →
-        snapshot.old ≡ no_words (calls_on script.now object) (calls_on script.now object)
-        (words_of_kind d.is_space) }
+        snapshot.old ≡ empty_snapshot script.now object d.is_space }
     ensures { (d : Declared) → slice_get script.now.objects object ≡ Some d →
         IsSerialOn d.is_space (plan_of script.now object) snapshot.new }
 {

@@ -40,6 +40,10 @@ events_of object task lines rs = task_events task 0 (map call_words (filter (is_
 abbrev pub first_record : Listing → (object task : ℕ) → ℕ
 first_record s object task = sum_by (count_by (is_on object)) (take task s.tasks)
 
+-- the cursor of each task stands before the task's first line, and at its first record
+abbrev pub StandFirst : Listing → (object : ℕ) → List Cursor → Type 0
+StandFirst s object cursors = (task : ℕ) → task < length s.tasks → get_or cursors task no_cursor ≡ record { line = 0; rec = first_record s object task; position = Some 0 }
+
 -- from this place on stand the words of the records of a task's calls
 pub record HasRecords (object : ℕ) (lines : List Line) (recs : List ℕ) (first : ℕ) (rs : List Rec) : Type 0 where
   pub fit : AllByRecursion IsRec rs

@@ -4,5 +4,6 @@ pub mod Lending
 pub mod Merged
 pub mod Cursors
 pub mod Telling
+pub mod Writing
 pub mod Summary
 pub mod Reports

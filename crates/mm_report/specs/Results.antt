@@ -23,10 +23,14 @@ calls_on s object = sum_by (count_by (is_on object)) s.tasks
 abbrev pub AddsCalls : List Line → (old new : List ℕ) → Type 0
 AddsCalls lines old new = (object : ℕ) → object < 16 → get_or new object 0 ≡ get_or old object 0 + count_by (is_on object) lines
 
--- empty results, with room for a record and an entry of each call and for the state
+-- an object's empty snapshot, with room for a record and an entry of each call and for the state
+abbrev pub empty_snapshot : Listing → (object : ℕ) → (is_space : Bool) → Words
+empty_snapshot s object is_space = no_words (calls_on s object) (calls_on s object) (words_of_kind is_space)
+
+-- the same for each of these objects, from the one with this number on
 abbrev pub empty_from : Listing → ℕ → List Declared → List Words
 empty_from s object [] = []
-empty_from s object (d ∷ ds) = no_words (calls_on s object) (calls_on s object) (words_of_kind d.is_space) ∷ empty_from s (object + 1) ds
+empty_from s object (d ∷ ds) = empty_snapshot s object d.is_space ∷ empty_from s (object + 1) ds
 
 -- the same for each object of the script
 abbrev pub empty_results : Listing → List Words

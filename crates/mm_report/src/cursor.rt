@@ -1,7 +1,7 @@
 //! How far each task's calls on an object are told.
-ghost use Rattle.std.specs.Prelude.{◌≡◌, ◌≤◌, ◌<◌, ◌+◌, ◌⊎◌, ℕ, Some, length, get_or};
+ghost use Rattle.std.specs.Prelude.{◌≡◌, ◌≤◌, ◌<◌, ◌+◌, ◌⊎◌, length};
 ghost use Rattle.mm_report.specs.Results.{calls_on};
-ghost use Rattle.mm_report.specs.Cursors.{earliest, no_cursor, first_record, IsOneBelow};
+ghost use Rattle.mm_report.specs.Cursors.{earliest, IsOneBelow, StandFirst};
 
 use crate::results::count_on;
 use task_script::Script;
@@ -42,9 +42,7 @@ pub(crate) fn first_cursors(
     requires complete { length recs.now ≡ calls_on script.now object }
     ensures all { length result ≡ 64 }
     ensures room { length script.now.tasks ≤ 64 }
-    ensures starts { (task : ℕ) → task < length script.now.tasks →
-        get_or result task no_cursor ≡
-        record { line = 0; rec = first_record script.now object task; position = Some 0 } }
+    ensures starts { StandFirst script.now object result }
 {
     let mut cursors = [START; MAX_TASKS as usize];
     let mut rec = 0;
@@ -69,8 +67,8 @@ fn second_position(cursors: &[Cursor]) -> u64
     second
 }
 
-/// A position up to which the tasks' calls can be told task by task: the next one, or one below which
-/// only one task has calls left.
+/// A position up to which the tasks' calls can be told task by task: the next one, or one below
+/// which only one task has calls left.
 pub(crate) fn next_bound(cursors: &[Cursor], position: u64, end: u64) -> u64
     requires { position < end }
     ensures further { position < result }

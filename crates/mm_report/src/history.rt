@@ -1,20 +1,17 @@
 //! The history of an object, from the records of its calls.
 //!
 //! A logged call's record says at what place of the log its entry is, and each other call's record
-//! how many entries stand before it. So the records of all tasks are merged by where they stand, and
-//! of the log only the length is wanted.
-ghost use Rattle.std.specs.Prelude.{◌≡◌, ◌+◌, ◌*◌, ◌<◌, ◌≤◌, ℕ, List, flat_map, length, map};
-ghost use Rattle.std.specs.Prelude.{slice_get, Some, IsSome, OnOk};
+//! how many entries stand before it. So the records of all tasks are merged by where they stand,
+//! and of the log only the length is wanted.
+ghost use Rattle.std.specs.Prelude.{◌≡◌, ◌<◌, ◌≤◌, length, slice_get, Some, IsSome};
 ghost use Rattle.word_bits.specs.declared.rec.Rec.{Rec};
 ghost use Rattle.word_bits.specs.RecWord.{IsRec, rec_word};
-ghost use Rattle.word_bits.specs.Histories.{Event, Records};
 ghost use Rattle.task_script.specs.Causes.{CountsFailure, Adds};
-ghost use Rattle.task_script.specs.Scripts.{plan_of};
 ghost use Rattle.mm_report.specs.Results.{calls_on};
-ghost use Rattle.mm_report.specs.Text.{event_line, event_text, task_event_text};
-ghost use Rattle.mm_report.specs.Merged.{position as where_it_stands, front, behind, merged, task_lists};
-ghost use Rattle.task_script.specs.declared.script.Line.{Line};
-ghost use Rattle.mm_report.specs.Cursors.{HasRecords, AreRead, IsAt, AreAt, first_record};
+ghost use Rattle.mm_report.specs.Text.{event_line};
+ghost use Rattle.mm_report.specs.Merged.{position as where_it_stands};
+ghost use Rattle.mm_report.specs.Writing.{WritesCalls, WritesTask, WritesTasks, WritesHistory};
+ghost use Rattle.mm_report.specs.Writing.{PassesCalls, PassesTask, PassesTasks};
 
 use crate::cursor::{Cursor, first_cursors, next_bound};
 use crate::line::add_event;
@@ -78,17 +75,10 @@ impl History<'_> {
         out: &mut Outbox,
         sink: &mut K,
     ) -> Result<(), Failed>
-        ensures text { (first : ℕ) (rs : List Rec) (left : List Event) →
-            HasRecords self.now.object lines.now self.now.recs.now first rs →
-            IsAt O.object self.now.object task lines.now first rs cursor.old left →
-            Adds (K.written sink.old) (K.written sink.new) out.old out.new
-            (flat_map (task_event_text self.now.object lines.now) (front O.object bound left))
-            result }
-        ensures reached { (first : ℕ) (rs : List Rec) (left : List Event) →
-            HasRecords self.now.object lines.now self.now.recs.now first rs →
-            IsAt O.object self.now.object task lines.now first rs cursor.old left →
-            OnOk result (IsAt O.object self.now.object task lines.now first rs cursor.new
-            (behind O.object bound left)) }
+        ensures text { WritesCalls O.object self.now.object self.now.recs.now bound task lines.now
+            cursor.old (K.written sink.old) (K.written sink.new) out.old out.new result }
+        ensures reached { PassesCalls O.object self.now.object self.now.recs.now bound
+            task lines.now cursor.old cursor.new result }
         ensures cause { CountsFailure (K.faults sink.old) (K.faults sink.new) result }
     {
         for number in cursor.line..lines.len() {
@@ -124,24 +114,10 @@ impl History<'_> {
         sink: &mut K,
     ) -> Result<(), Failed>
         requires { task < length self.now.script.now.tasks }
-        ensures text { (lines : List Line) (rs : List Rec) (left : List Event) →
-            slice_get self.now.script.now.tasks task ≡ Some lines →
-            HasRecords self.now.object lines self.now.recs.now
-            (first_record self.now.script.now self.now.object task) rs →
-            IsAt O.object self.now.object task lines
-            (first_record self.now.script.now self.now.object task) rs cursor.old left →
-            Adds (K.written sink.old) (K.written sink.new) out.old out.new
-            (flat_map (event_text self.now.script.now self.now.object) (front O.object bound left))
-            result }
-        ensures reached { (lines : List Line) (rs : List Rec) (left : List Event) →
-            slice_get self.now.script.now.tasks task ≡ Some lines →
-            HasRecords self.now.object lines self.now.recs.now
-            (first_record self.now.script.now self.now.object task) rs →
-            IsAt O.object self.now.object task lines
-            (first_record self.now.script.now self.now.object task) rs cursor.old left →
-            OnOk result (IsAt O.object self.now.object task lines
-            (first_record self.now.script.now self.now.object task) rs cursor.new
-            (behind O.object bound left)) }
+        ensures text { WritesTask O.object self.now.script.now self.now.object self.now.recs.now
+            bound task cursor.old (K.written sink.old) (K.written sink.new) out.old out.new result }
+        ensures reached { PassesTask O.object self.now.script.now self.now.object
+            self.now.recs.now bound task cursor.old cursor.new result }
         ensures cause { CountsFailure (K.faults sink.old) (K.faults sink.new) result }
     {
         if cursor.earliest() >= bound {
@@ -160,19 +136,10 @@ impl History<'_> {
         sink: &mut K,
     ) -> Result<(), Failed>
         requires { length self.now.script.now.tasks ≤ length cursors.old }
-        ensures text { (records : Records) (lefts : List (List Event)) →
-            AreRead self.now.script.now self.now.object self.now.recs.now records →
-            length lefts ≡ length self.now.script.now.tasks →
-            AreAt O.object self.now.script.now self.now.object records cursors.old lefts →
-            Adds (K.written sink.old) (K.written sink.new) out.old out.new
-            (flat_map (event_text self.now.script.now self.now.object)
-            (flat_map (front O.object bound) lefts)) result }
-        ensures reached { (records : Records) (lefts : List (List Event)) →
-            AreRead self.now.script.now self.now.object self.now.recs.now records →
-            length lefts ≡ length self.now.script.now.tasks →
-            AreAt O.object self.now.script.now self.now.object records cursors.old lefts →
-            OnOk result (AreAt O.object self.now.script.now self.now.object records cursors.new
-            (map (behind O.object bound) lefts)) }
+        ensures text { WritesTasks O.object self.now.script.now self.now.object self.now.recs.now
+            bound cursors.old (K.written sink.old) (K.written sink.new) out.old out.new result }
+        ensures reached { PassesTasks O.object self.now.script.now self.now.object
+            self.now.recs.now bound cursors.old cursors.new result }
         ensures kept { length cursors.new ≡ length cursors.old }
         ensures cause { CountsFailure (K.faults sink.old) (K.faults sink.new) result }
     {
@@ -194,11 +161,8 @@ pub(crate) fn write_history<O: Object, K: Sink>(
     sink: &mut K,
 ) -> Result<(), Failed>
     requires complete { length snapshot.now.recs ≡ calls_on script.now object }
-    ensures text { (records : Records) → AreRead script.now object snapshot.now.recs records →
-        Adds (K.written sink.old) (K.written sink.new) out.old out.new
-        (flat_map (event_text script.now object)
-        (merged O.object 0 (length snapshot.now.log * 2 + 1)
-        (task_lists 0 (plan_of script.now object) records))) result }
+    ensures text { WritesHistory O.object script.now object snapshot.now
+        (K.written sink.old) (K.written sink.new) out.old out.new result }
     ensures cause { CountsFailure (K.faults sink.old) (K.faults sink.new) result }
 {
     let recs = snapshot.recs();

@@ -1,15 +1,16 @@
 //! The summary of an object's history.
-ghost use Rattle.std.specs.Prelude.{◌≡◌, ◌<◌, ◌∷◌, ℕ, List, Some, count_by, length, map, slice_get};
+ghost use Rattle.std.specs.Prelude.{◌≡◌, ◌<◌, ◌∷◌, ℕ, List, count_by, length, map, true};
 ghost use Rattle.std.specs.List.{AllByRecursion};
 ghost use Rattle.word_bits.specs.declared.rec.Rec.{Rec};
 ghost use Rattle.word_bits.specs.Histories.{Plan};
 ghost use Rattle.word_bits.specs.Legal.{Tells};
 ghost use Rattle.word_bits.specs.RecWord.{IsRec, rec_word};
 ghost use Rattle.fd_table.specs.Tables.{FdMap, IsFdMap, stores, used_from};
-ghost use Rattle.task_script.specs.Causes.{CountsFailure, Adds};
-ghost use Rattle.task_script.specs.Scripts.{Declared, plan_of};
+ghost use Rattle.task_script.specs.Causes.{CountsFailure};
 ghost use Rattle.mm_report.specs.Results.{Told, IsLegalOn};
-ghost use Rattle.mm_report.specs.Summary.{counts_of, counts_text, is_refused};
+ghost use Rattle.mm_report.specs.Reports.{object_report};
+ghost use Rattle.mm_report.specs.Summary.{counts_of, is_refused};
+ghost use Rattle.mm_report.specs.Writing.{WritesObject};
 
 use crate::line::add_summary;
 use fd_table::Fds;
@@ -54,7 +55,8 @@ fn count_refused(recs: &[u64]) -> u64
 
 // How many areas the words of a space have.
 fn count_areas(state: &[u64]) -> u64
-    ensures { (areas : ℕ) (words : List ℕ) → state.now ≡ areas ∷ words → result ≡ areas }
+    ensures { (areas : ℕ) (words : List ℕ) →
+        state.now ≡ areas ∷ words → result ≡ areas }
 {
     state.first().copied().unwrap_or(0)
 }
@@ -99,12 +101,8 @@ pub(crate) fn write_summary<K: Sink>(
     sink: &mut K,
 ) -> Result<(), Failed>
     requires { object < length script.now.objects }
-    ensures text { (d : Declared) (t : Told) →
-        slice_get script.now.objects object ≡ Some d →
-        Tells snapshot.now t.records t.log →
-        IsLegalOn d.is_space (plan_of script.now object) t snapshot.now.state →
-        Adds (K.written sink.old) (K.written sink.new) out.old out.new
-        (counts_text d.name (counts_of d.is_space (plan_of script.now object) t)) result }
+    ensures text { WritesObject (object_report true) script.now object snapshot.now
+        (K.written sink.old) (K.written sink.new) out.old out.new result }
     ensures cause { CountsFailure (K.faults sink.old) (K.faults sink.new) result }
 {
     let name = script.name(object as usize);

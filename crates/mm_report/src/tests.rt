@@ -93,9 +93,9 @@ fn filled(
     Ok(results)
 }
 
-// Words are packed here by hand. A record has its reply's kind from bit 18 on and its value from bit
-// 22 on, an entry its task from bit 18 on, and an area its end from bit 3 on and its start from bit
-// 24 on.
+// Words are packed here by hand. A record has its reply's kind from bit 18 on and its value from
+// bit 22 on, an entry its task from bit 18 on, and an area its end from bit 3 on and its start from
+// bit 24 on.
 #[test]
 fn reports_spaces(rt: HostRuntime) -> Result<(), Fail> {
     let alloc = rt.alloc();
@@ -157,8 +157,8 @@ fn reports_spaces(rt: HostRuntime) -> Result<(), Fail> {
     Ok(())
 }
 
-// Three tasks, of which two map: calls that read, a try that found the lock held, a signal and a call
-// that it interrupted, before and behind the logged ones.
+// Three tasks, of which two map: calls that read, a try that found the lock held, a signal and a
+// call that it interrupted, before and behind the logged ones.
 #[test]
 fn reports_tasks_in_the_order_of_the_log(rt: HostRuntime) -> Result<(), Fail> {
     let alloc = rt.alloc();
@@ -212,8 +212,8 @@ fn reports_tasks_in_the_order_of_the_log(rt: HostRuntime) -> Result<(), Fail> {
     Ok(())
 }
 
-// Two tasks on a table, beside a space: a call that reads between logged ones, a logged one that was
-// refused, and a try that found the lock held.
+// Two tasks on a table, beside a space: a call that reads between logged ones, a logged one that
+// was refused, and a try that found the lock held.
 #[test]
 fn reports_a_table_beside_a_space(rt: HostRuntime) -> Result<(), Fail> {
     let alloc = rt.alloc();

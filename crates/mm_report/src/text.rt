@@ -1,12 +1,10 @@
 //! The report of a script's objects: of each its calls and what it is left in, or its numbers.
-ghost use Rattle.std.specs.Prelude.{◌≡◌, ◌<◌, ◌++◌, length, slice_get, Some, List};
-ghost use Rattle.word_bits.specs.Legal.{Tells};
-ghost use Rattle.task_script.specs.Causes.{CountsFailure, Adds, Puts};
-ghost use Rattle.task_script.specs.Scripts.{Declared, plan_of};
-ghost use Rattle.task_script.specs.Texts.{declaration_text};
-ghost use Rattle.mm_report.specs.Results.{Told, IsLegalOn, AreLegal, AreComplete, calls_on};
-ghost use Rattle.mm_report.specs.Reports.{object_report, report_of};
+ghost use Rattle.std.specs.Prelude.{◌≡◌, ◌<◌, length};
+ghost use Rattle.task_script.specs.Causes.{CountsFailure};
+ghost use Rattle.mm_report.specs.Results.{AreComplete, calls_on};
+ghost use Rattle.mm_report.specs.Reports.{object_report};
 ghost use Rattle.mm_report.specs.Text.{told_text};
+ghost use Rattle.mm_report.specs.Writing.{PutsReport, WritesObject, WritesReport};
 
 use crate::history::write_history;
 use crate::results::Results;
@@ -27,12 +25,8 @@ fn write_told<K: Sink>(
 ) -> Result<(), Failed>
     requires object { object < length script.now.objects }
     requires complete { length snapshot.now.recs ≡ calls_on script.now object }
-    ensures text { (d : Declared) (t : Told) →
-        slice_get script.now.objects object ≡ Some d →
-        Tells snapshot.now t.records t.log →
-        IsLegalOn d.is_space (plan_of script.now object) t snapshot.now.state →
-        Adds (K.written sink.old) (K.written sink.new) out.old out.new
-        (told_text script.now object d.is_space t) result }
+    ensures text { WritesObject (λ s o d. told_text s o d.is_space) script.now object snapshot.now
+        (K.written sink.old) (K.written sink.new) out.old out.new result }
     ensures cause { CountsFailure (K.faults sink.old) (K.faults sink.new) result }
 {
     if script.is_space(object as usize) {
@@ -44,29 +38,8 @@ fn write_told<K: Sink>(
     }
 }
 
-// What a script tells of an object: its name, its history and the state that it leaves.
-fn write_object<K: Sink>(
-    script: &Script,
-    object: u32,
-    snapshot: &Snapshot,
-    out: &mut Outbox,
-    sink: &mut K,
-) -> Result<(), Failed>
-    requires object { object < length script.now.objects }
-    requires complete { length snapshot.now.recs ≡ calls_on script.now object }
-    ensures text { (d : Declared) (t : Told) →
-        slice_get script.now.objects object ≡ Some d →
-        Tells snapshot.now t.records t.log →
-        IsLegalOn d.is_space (plan_of script.now object) t snapshot.now.state →
-        Adds (K.written sink.old) (K.written sink.new) out.old out.new
-        (declaration_text d ++ told_text script.now object d.is_space t) result }
-    ensures cause { CountsFailure (K.faults sink.old) (K.faults sink.new) result }
-{
-    write_declaration(script, object as usize, out, sink)?;
-    write_told(script, object, snapshot, out, sink)
-}
-
-// What is reported of an object: its history, or its summary.
+// What is reported of an object: its summary, or its name, its history and the state that it
+// leaves.
 fn write_one<K: Sink>(
     script: &Script,
     object: u32,
@@ -77,19 +50,15 @@ fn write_one<K: Sink>(
 ) -> Result<(), Failed>
     requires object { object < length script.now.objects }
     requires complete { length snapshot.now.recs ≡ calls_on script.now object }
-    ensures text { (d : Declared) (t : Told) →
-        slice_get script.now.objects object ≡ Some d →
-        Tells snapshot.now t.records t.log →
-        IsLegalOn d.is_space (plan_of script.now object) t snapshot.now.state →
-        Adds (K.written sink.old) (K.written sink.new) out.old out.new
-        (object_report summary script.now object d t) result }
+    ensures text { WritesObject (object_report summary) script.now object snapshot.now
+        (K.written sink.old) (K.written sink.new) out.old out.new result }
     ensures cause { CountsFailure (K.faults sink.old) (K.faults sink.new) result }
 {
     if summary {
-        write_summary(script, object, snapshot, out, sink)
-    } else {
-        write_object(script, object, snapshot, out, sink)
+        return write_summary(script, object, snapshot, out, sink);
     }
+    write_declaration(script, object as usize, out, sink)?;
+    write_told(script, object, snapshot, out, sink)
 }
 
 fn write_objects<K: Sink>(
@@ -100,10 +69,8 @@ fn write_objects<K: Sink>(
     sink: &mut K,
 ) -> Result<(), Failed>
     requires { AreComplete script.now results.now }
-    ensures text { (told : List Told) →
-        AreLegal script.now results.now told →
-        Adds (K.written sink.old) (K.written sink.new) out.old out.new
-        (report_of summary script.now told) result }
+    ensures text { WritesReport summary script.now results.now
+        (K.written sink.old) (K.written sink.new) out.old out.new result }
     ensures cause { CountsFailure (K.faults sink.old) (K.faults sink.new) result }
 {
     for object in 0..script.objects() {
@@ -130,10 +97,8 @@ pub fn report<K: Sink>(
     sink: &mut K,
 ) -> Result<(), Failed>
     requires { AreComplete script.now results.old }
-    ensures text { (told : List Told) →
-        AreLegal script.now results.old told →
-        Puts (K.written sink.old) (K.written sink.new)
-        (report_of summary script.now told) result }
+    ensures text { PutsReport summary script.now results.old
+        (K.written sink.old) (K.written sink.new) result }
     ensures cause { CountsFailure (K.faults sink.old) (K.faults sink.new) result }
     ensures kept { results.new ≡ results.old }
 {

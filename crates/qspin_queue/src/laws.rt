@@ -7,9 +7,9 @@ ghost use Rattle.lock_core.specs.Handles.{plan_of, view_of, past_of, SitsAt, Kee
 
 use lock_core::{Pass, Site, SpinHost};
 
-/// A load, after which the pass knows that at each moment of the table so far, from the new table on,
-/// the spin words stated who held the lock, who owned the pending bit and who stood in the queue, and
-/// what each step did to them.
+/// A load, after which the pass knows that at each moment of the table so far, from the new table
+/// on, the spin words stated who held the lock, who owned the pending bit and who stood in the
+/// queue, and what each step did to them.
 pub fn recall_spin_lock<H: SpinHost>(site: &Site<H>, pass: &mut Pass<H>)
     requires own { SitsAt site.now pass.old }
     ensures own { SitsAt site.now pass.new }

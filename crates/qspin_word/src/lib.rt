@@ -11,7 +11,8 @@ pub const LOCKED: u64 = 1;
 /// The pending bit. The words below it have neither the bit nor a tail. (`_Q_PENDING_VAL`)
 pub const PENDING: u64 = 256;
 
-/// The words below it have no tail; what is left of a word by it has none. (`_Q_LOCKED_PENDING_MASK`)
+/// The words below it have no tail; what is left of a word by it has none.
+/// (`_Q_LOCKED_PENDING_MASK`)
 pub const TAILLESS: u64 = 512;
 
 /// What the code of a CPU's first node counts for in the word. (`_Q_TAIL_CPU_OFFSET`)

@@ -14,8 +14,8 @@ use lock_core::view::View;
 use lock_core::{Op, Pass, Site, SpinHost};
 use std::marker::{Brand, PhantomData};
 
-/// What a step on a spin word leaves the spin part of its pass's view as, by what the step tells, and
-/// what is so of what it tells. A call picks both by `Brand`.
+/// What a step on a spin word leaves the spin part of its pass's view as, by what the step tells,
+/// and what is so of what it tells. A call picks both by `Brand`.
 pub trait SpinAfter {
     ghost after: { ℕ → SpinHand };
 

@@ -17,8 +17,9 @@ use crate::steps::{
 use lock_core::{Pass, Site, SpinHost};
 use std::sync::Wait;
 
-/// Takes the spin lock where its word is 0, by one load and, if that saw 0, one compare-exchange from
-/// 0 to 1. `Err` has the word, not 0, that the load or the exchange saw. (`queued_spin_trylock`)
+/// Takes the spin lock where its word is 0, by one load and, if that saw 0, one compare-exchange
+/// from 0 to 1. `Err` has the word, not 0, that the load or the exchange saw.
+/// (`queued_spin_trylock`)
 pub fn trylock<H: SpinHost>(site: &Site<H>, pass: &mut Pass<H>) -> Result<(), u64>
     requires own { SitsAt site.now pass.old }
     requires numbered { IsSome (task_in pass.old) }

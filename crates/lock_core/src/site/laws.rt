@@ -27,8 +27,8 @@ impl<R: SiteRule> Site<R> {
         self.table.shared.load::<Recall<R>>(&mut pass.seat, 0);
     }
 
-    /// A load, after which the pass knows that the facts of every site were so at each moment of the
-    /// table so far, from the new table on.
+    /// A load, after which the pass knows that the facts of every site were so at each moment of
+    /// the table so far, from the new table on.
     pub fn stated(&self, pass: &mut Pass<R>)
         requires own { SitsAt self.now pass.old }
         ensures own { SitsAt self.now pass.new }
@@ -42,8 +42,8 @@ impl<R: SiteRule> Site<R> {
         self.recall(pass);
     }
 
-    /// A load, after which the pass knows what each step of the table so far did to the site's words
-    /// and to what the passes count: no entry of the log was lost, and no count fell.
+    /// A load, after which the pass knows what each step of the table so far did to the site's
+    /// words and to what the passes count: no entry of the log was lost, and no count fell.
     pub fn grown(&self, pass: &mut Pass<R>)
         requires own { SitsAt self.now pass.old }
         ensures own { SitsAt self.now pass.new }

@@ -21,9 +21,9 @@ use std::sync::Wait;
 use word_bits::{Rec, is_logged};
 
 impl<R: SiteRule> Site<R> {
-    /// Waits until nobody has the task's number, and takes it with the task's records. What the pass
-    /// saw of the lock's word and of the spin word is forgotten, and it has seen as many entries as the
-    /// task.
+    /// Waits until nobody has the task's number, and takes it with the task's records. What the
+    /// pass saw of the lock's word and of the spin word is forgotten, and it has seen as many
+    /// entries as the task.
     pub fn begin<W: Wait>(&self, rt: &W, pass: &mut Pass<R>, task: u32)
         requires own { SitsAt self.now pass.old }
         requires numberless { task_in pass.old ≡ None }
@@ -80,8 +80,8 @@ impl<R: SiteRule> Site<R> {
         ensures count { result ≡ (hand_in pass.old).done }
         ensures beside { Beside (view_of pass.old) (view_of pass.new) }
     {
-        // Nobody else records for the task while its number is taken, so the border between its calls
-        // with and without a record stays where it is during the search.
+        // Nobody else records for the task while its number is taken, so the border between its
+        // calls with and without a record stays where it is during the search.
         let mut low = 0;
         let mut high = self.calls(task);
         while low < high {

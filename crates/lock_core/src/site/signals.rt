@@ -46,9 +46,9 @@ impl<R: SiteRule> Site<R> {
         self.add::<Brand>(pass, LINES_AT + 8 * target as usize + 1, 1);
     }
 
-    /// Consumes a signal where more were sent to the pass's task than it has consumed, and tells both
-    /// numbers. `None` where no more were sent. The kernel's `signal_pending_state`, and what its
-    /// caller does on return.
+    /// Consumes a signal where more were sent to the pass's task than it has consumed, and tells
+    /// both numbers. `None` where no more were sent. The kernel's `signal_pending_state`, and what
+    /// its caller does on return.
     pub fn consume(&self, pass: &mut Pass<R>) -> Option<Interrupted>
         requires own { SitsAt self.now pass.old }
         requires numbered { IsSome (task_in pass.old) }
@@ -64,8 +64,8 @@ impl<R: SiteRule> Site<R> {
             return None;
         };
         let consumed = LINES_AT + (8 * task as usize + 2);
-        // The number of signals that were sent only rises, and no other pass consumes for this task:
-        // what is pending at the first load still is at the store.
+        // The number of signals that were sent only rises, and no other pass consumes for this
+        // task: what is pending at the first load still is at the store.
         let sent = self.load_sent(pass, task);
         let taken = self.find::<Taken>(pass, consumed);
         if sent <= taken {

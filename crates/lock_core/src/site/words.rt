@@ -86,8 +86,8 @@ impl<R: SiteRule> Site<R> {
         self.put::<Brand>(pass, at, value);
     }
 
-    /// Records the next call of the pass's task, which changes the object: the guarded words store what
-    /// it leaves of the state after the log. The call is appended to the log.
+    /// Records the next call of the pass's task, which changes the object: the guarded words store
+    /// what it leaves of the state after the log. The call is appended to the log.
     pub fn commit(&self, pass: &mut Pass<R>, call: u32, reply: Reply)
         requires own { SitsAt self.now pass.old }
         requires held { held_in pass.old ≡ Alone }
@@ -116,9 +116,9 @@ impl<R: SiteRule> Site<R> {
         }
     }
 
-    /// Records the next call of the pass's task, which changes nothing. Where the pass holds, the call
-    /// reads, and stands where the log ends. Where it holds nothing, the reply says why: the call stands
-    /// where the pass saw the log end.
+    /// Records the next call of the pass's task, which changes nothing. Where the pass holds, the
+    /// call reads, and stands where the log ends. Where it holds nothing, the reply says why: the
+    /// call stands where the pass saw the log end.
     pub fn note(&self, pass: &mut Pass<R>, call: u32, reply: Reply)
         requires own { SitsAt self.now pass.old }
         requires numbered { IsSome (task_in pass.old) }
