@@ -20,3 +20,5 @@ pub use serve::{copy_of, replies_of, two_serve_at_once};
 mod serve_tests;
 #[cfg(test)]
 mod tests;
+#[cfg(test)]
+mod threads_tests;
