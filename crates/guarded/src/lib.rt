@@ -12,4 +12,5 @@ mod served;
 
 pub use guarded::Guarded;
 pub use lock::SleepLock;
+pub use mutex_slow::{Mutex, MutexPass};
 pub use served::Served;

@@ -20,3 +20,5 @@ pub use serve::{copy_of, history_of_two, replies_of};
 mod serve_tests;
 #[cfg(test)]
 mod tests;
+#[cfg(test)]
+mod threads_tests;
