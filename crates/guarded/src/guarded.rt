@@ -77,6 +77,8 @@ impl<L: SleepLock<O>, O: Served + Drop> Guarded<L, O> {
         ensures became { Numbered O.object (unavailable L.kind) (L.calls_on (lock_of self.now))
             (L.view pass.old).hand task (L.view pass.new).hand }
         ensures beside { AllButHand (L.view pass.old) (L.view pass.new) }
+        ensures done { KeepsDone O.object (unavailable L.kind) (L.calls_on (lock_of self.now))
+            (L.view pass.old).hand (L.view pass.new).hand }
         ensures fresh { (L.view pass.old).hand.seen ≡ [] → (L.view pass.new).hand.done ≡ 0 →
             length (L.view pass.new).hand.seen ≡ 0 }
     {
@@ -93,6 +95,8 @@ impl<L: SleepLock<O>, O: Served + Drop> Guarded<L, O> {
         ensures own { L.sits (lock_of self.now) pass.new }
         ensures goes_on { PastGoesOn (L.view pass.old) (L.view pass.new) }
         ensures kept { Has (gave_up (L.view pass.old).hand) (L.view pass.old) (L.view pass.new) }
+        ensures done { KeepsDone O.object (unavailable L.kind) (L.calls_on (lock_of self.now))
+            (L.view pass.old).hand (L.view pass.new).hand }
     {
         self.lock.end(pass);
     }
@@ -108,7 +112,9 @@ impl<L: SleepLock<O>, O: Served + Drop> Guarded<L, O> {
         ensures kept { Has (gathered (L.view into.old).hand (L.view other).hand)
             (L.view into.old) (L.view into.new) }
         ensures done { KeepsDone O.object (unavailable L.kind) (L.calls_on (lock_of self.now))
-            (L.view into.old).hand (L.view other).hand (L.view into.new).hand }
+            (L.view into.old).hand (L.view into.new).hand }
+        ensures done_by_other { KeepsDone O.object (unavailable L.kind)
+            (L.calls_on (lock_of self.now)) (L.view other).hand (L.view into.new).hand }
     {
         self.lock.gather(into, other);
     }

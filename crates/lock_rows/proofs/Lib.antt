@@ -1,3 +1,4 @@
 mod Performing
 mod Planned
+mod Gathered
 pub mod Locked

@@ -14,7 +14,7 @@ pub use plans::{
     populate_pages, push_calls, signal_task, try_map_page,
 };
 pub use rounds::{all_calls, four_at_once};
-pub use serve::{copy_of, replies_of, two_serve_at_once};
+pub use serve::{copy_of, history_of_two, replies_of};
 
 #[cfg(test)]
 mod serve_tests;

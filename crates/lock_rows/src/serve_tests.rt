@@ -1,7 +1,7 @@
 //! Calls on an object under a lock, and copies of what they leave.
 use crate::{
-    OwnerLock, close_file, copy_of, dup_file, fault_page, get_file, map_page, open_file,
-    populate_pages, push_calls, replies_of, signal_task, try_map_page, two_serve_at_once,
+    OwnerLock, close_file, copy_of, dup_file, fault_page, get_file, history_of_two, map_page,
+    open_file, populate_pages, push_calls, replies_of, signal_task, try_map_page,
 };
 use cpu_task::{Gate, OpenGate};
 use fd_table::Fds;
@@ -145,15 +145,13 @@ fn numbers(recs: &[u64]) -> (u32, u32) {
 }
 
 // Which calls find the lock taken depends on the schedule: each call has its record all the same, and the
-// log has those that took it.
+// log has those that took it. That the copy is a legal history is proved.
 #[test]
 fn two_threads_leave_one_history(rt: HostRuntime) -> Result<(), Fail> {
     let mut plan = Plan::new(rt.alloc(), 2)?;
     push_calls::<Areas>(&mut plan, 0, TRIES, try_map_page(0))?;
     push_calls::<Areas>(&mut plan, 1, TRIES, try_map_page(7))?;
-    let (space, pass) = Guarded::<OwnerLock<Areas>, Areas>::open(rt.alloc(), 0, plan)?;
-    let mut pass = two_serve_at_once(&rt, rt.alloc(), &space, pass);
-    let copy = copy_of(&rt, rt.alloc(), &space, &mut pass)?;
+    let copy = history_of_two::<_, OwnerLock<Areas>, Areas>(&rt, rt.alloc(), plan)?;
     let (done, busy) = numbers(copy.recs());
     assert_eq!(rt; done.saturating_add(busy), 2 * TRIES);
     assert_eq!(rt; copy.log().len(), done as usize);
