@@ -12,4 +12,8 @@ pub use rule::MutexRule;
 pub use view::{MutexHand, Point};
 
 #[cfg(test)]
+mod how_tests;
+#[cfg(test)]
 mod tests;
+#[cfg(test)]
+mod watched;
