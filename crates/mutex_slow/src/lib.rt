@@ -12,6 +12,8 @@ pub use rule::MutexRule;
 pub use view::{MutexHand, Point};
 
 #[cfg(test)]
+mod handoff_tests;
+#[cfg(test)]
 mod how_tests;
 #[cfg(test)]
 mod tests;
