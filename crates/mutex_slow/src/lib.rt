@@ -19,3 +19,5 @@ mod how_tests;
 mod tests;
 #[cfg(test)]
 mod watched;
+#[cfg(test)]
+mod word_tests;
