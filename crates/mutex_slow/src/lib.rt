@@ -12,4 +12,12 @@ pub use rule::MutexRule;
 pub use view::{MutexHand, Point};
 
 #[cfg(test)]
+mod handoff_tests;
+#[cfg(test)]
+mod how_tests;
+#[cfg(test)]
 mod tests;
+#[cfg(test)]
+mod watched;
+#[cfg(test)]
+mod word_tests;
