@@ -1,5 +1,5 @@
 //! Calls on an object, under its lock.
-ghost use Rattle.std.specs.Prelude.{◌≡◌, ◌≢◌, ◌<◌, ◌≤◌, Bool, true, false, length, slice_index, slice_set, take, None, Some, IsSome, IfOk, IfErr};
+ghost use Rattle.std.specs.Prelude.{◌≡◌, ◌≢◌, ◌<◌, true, false, length, slice_index, slice_set, take, None, Some, IsSome, IfOk, IfErr};
 ghost use Rattle.word_bits.specs.declared.call.Mode.TheVariants.{Int, Try};
 ghost use Rattle.word_bits.specs.Calls.{signal_of};
 ghost use Rattle.lock_core.specs.declared.view.Held.TheVariants.{No, Alone};

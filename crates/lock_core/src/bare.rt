@@ -1,5 +1,5 @@
 //! The rule of a table with a spin lock alone, and the object that has no words.
-ghost use Rattle.std.specs.Prelude.{◌≡◌, ℕ, List, [], refl};
+ghost use Rattle.std.specs.Prelude.{[], refl};
 ghost use Rattle.word_bits.specs.declared.call.CallWords.{CallWords};
 ghost use Rattle.lock_core.specs.Nothings.{nothing, few, sized, apart};
 ghost use Rattle.lock_core.specs.Barely.{BareKept, BareMoves, never, bare-site, bare-sites, bare-opens, bare-splits, bare-joins, bare-spins, bare-inside, bare-spin};

@@ -1,18 +1,10 @@
 //! Sites: tables under a rule, and the steps of their passes.
-ghost use Rattle.std.specs.Prelude.{◌≡◌, ◌≢◌, ℕ, ◌+◌, ◌<◌, ◌≤◌, List, [], ◌∷◌, None, Some, IfOk, slice_index, slice_set, max};
-ghost use lib.ListN.{get_elem?};
-ghost use mathlib.Core.Option.{none, some};
-ghost use Rattle.atomic_table.specs.Table.{step};
-ghost use Rattle.lock_core.specs.declared.op.Op.TheVariants.{Load, Store, Exchange};
-ghost use Rattle.lock_core.specs.declared.view.Hand.{Hand};
-ghost use Rattle.lock_core.specs.declared.view.Held.TheVariants.{No};
+ghost use Rattle.std.specs.Prelude.{◌≡◌, ◌<◌, ◌≤◌, [], ◌∷◌, None, IfOk, max};
 ghost use Rattle.lock_core.specs.Plans.{IsSmall, calls_in, starts_from};
-ghost use Rattle.lock_core.specs.Layout.{width, site_width, lay};
+ghost use Rattle.lock_core.specs.Layout.{width};
 ghost use Rattle.lock_core.specs.Records.{IsPlan};
-ghost use Rattle.lock_core.specs.Views.{first, ticked, handed, split_off, merged, HoldsNothing};
-ghost use Rattle.lock_core.specs.Sites.{SiteKept, Grows};
-ghost use Rattle.lock_core.specs.Moves.{Lets, KeepsHold};
-ghost use Rattle.lock_core.specs.Pasts.{unseen, Moves, Paced, opening};
+ghost use Rattle.lock_core.specs.Views.{first, ticked, split_off, merged, HoldsNothing};
+ghost use Rattle.lock_core.specs.Pasts.{opening};
 ghost use Rattle.lock_core.specs.Stated.{IsNew};
 
 use crate::layout::LOCK_WORDS;

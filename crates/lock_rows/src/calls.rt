@@ -1,9 +1,9 @@
 //! What a task does with its next call, on a site with an owner word.
-ghost use Rattle.std.specs.Prelude.{◌≡◌, ◌≢◌, ℕ, List, length, true, false, IfSome, IsSome, Some, None};
+ghost use Rattle.std.specs.Prelude.{◌≡◌, ◌≢◌, length, true, false, IfSome, IsSome, Some, None};
 ghost use Rattle.lock_core.specs.declared.view.Held.TheVariants.{No, Alone};
 ghost use Rattle.lock_core.specs.Shown.{IsNextCall};
 ghost use Rattle.lock_core.specs.Locking.{IsStored};
-ghost use Rattle.lock_core.specs.Handles.{view_of, hand_in, task_in, held_in, done_in, SaysSame};
+ghost use Rattle.lock_core.specs.Handles.{hand_in, task_in, held_in, done_in, SaysSame};
 ghost use Rattle.mutex_word.specs.Handles.{plan_of, SitsAt};
 ghost use Rattle.lock_rows.specs.Standing.{OwesNothing, OwesSame, SameSpin};
 
@@ -63,8 +63,8 @@ pub fn take<O: Object>(site: &OwnerSite<O>, pass: &mut OwnerPass<O>) -> bool
     false
 }
 
-/// Does the next call of the pass's task, and records it. `None` where the task has no call left that
-/// the object has.
+/// Does the next call of the pass's task, and records it. `None` where the task has no call left
+/// that the object has.
 pub fn perform<O: Object + Drop>(site: &OwnerSite<O>, pass: &mut OwnerPass<O>) -> Option<Reply>
     requires own { SitsAt site.now pass.old }
     requires held { held_in pass.old ≡ Alone }
@@ -92,8 +92,8 @@ pub fn perform<O: Object + Drop>(site: &OwnerSite<O>, pass: &mut OwnerPass<O>) -
     Some(reply)
 }
 
-/// Tries once for the lock on behalf of a call that doesn't wait, and says whether it got it. Where it
-/// missed, the call is recorded as busy, with the word that the try saw.
+/// Tries once for the lock on behalf of a call that doesn't wait, and says whether it got it. Where
+/// it missed, the call is recorded as busy, with the word that the try saw.
 pub fn try_next<O: Object>(site: &OwnerSite<O>, pass: &mut OwnerPass<O>) -> Option<bool>
     requires own { SitsAt site.now pass.old }
     requires numbered { IsSome (task_in pass.old) }
@@ -143,8 +143,8 @@ pub fn send<O: Object>(site: &OwnerSite<O>, pass: &mut OwnerPass<O>) -> Option<u
     Some(target)
 }
 
-/// Records the next call of the pass's task as interrupted, where it is one that waits for signals and
-/// one is pending. Answers how many were sent and consumed then.
+/// Records the next call of the pass's task as interrupted, where it is one that waits for signals
+/// and one is pending. Answers how many were sent and consumed then.
 pub fn interrupt<O: Object>(site: &OwnerSite<O>, pass: &mut OwnerPass<O>) -> Option<Interrupted>
     requires own { SitsAt site.now pass.old }
     requires numbered { IsSome (task_in pass.old) }
@@ -166,8 +166,8 @@ pub fn interrupt<O: Object>(site: &OwnerSite<O>, pass: &mut OwnerPass<O>) -> Opt
     Some(why)
 }
 
-/// Looks for a signal again and again, until the next call of the pass's task is recorded as interrupted
-/// or its tries run out. Answers false where that call is none that waits for signals.
+/// Looks for a signal again and again, until the next call of the pass's task is recorded as
+/// interrupted or its tries run out. Answers false where that call is none that waits for signals.
 pub fn await_signal<O: Object>(site: &OwnerSite<O>, pass: &mut OwnerPass<O>) -> bool
     requires own { SitsAt site.now pass.old }
     requires numbered { IsSome (task_in pass.old) }

@@ -1,5 +1,5 @@
-//! A lock of an owner word alone, as one of those that tasks sleep on. A call that waits tries once,
-//! and waits for good where it missed: so it keeps its place in line.
+//! A lock of an owner word alone, as one of those that tasks sleep on. A call that waits tries
+//! once, and waits for good where it missed: so it keeps its place in line.
 
 use cpu_task::Crew;
 use guarded::SleepLock;

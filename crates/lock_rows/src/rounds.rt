@@ -11,8 +11,8 @@ use std::sync::Wait;
 use std::thread::{Threads, join};
 use vma_map::Areas;
 
-/// Does the task's next call: a signal is sent, a call that waits for signals is interrupted by one,
-/// and any other takes the lock.
+/// Does the task's next call: a signal is sent, a call that waits for signals is interrupted by
+/// one, and any other takes the lock.
 fn do_next(site: &OwnerSite<Areas>, pass: &mut OwnerPass<Areas>)
     requires own { SitsAt site.now pass.old }
     requires numbered { IsSome (task_in pass.old) }
@@ -83,7 +83,8 @@ fn two_at_once<R: Threads + Wait + Sync>(
     )
 }
 
-/// Four passes do the calls of tasks 0 to 3 at once. The first one is given, and gathers the others.
+/// Four passes do the calls of tasks 0 to 3 at once. The first one is given, and gathers the
+/// others.
 pub fn four_at_once<R: Threads + Wait + Sync>(
     rt: &R,
     site: &OwnerSite<Areas>,

@@ -144,8 +144,8 @@ fn numbers(recs: &[u64]) -> (u32, u32) {
     found
 }
 
-// Which calls find the lock taken depends on the schedule: each call has its record all the same, and the
-// log has those that took it. That the copy is a legal history is proved.
+// Which calls find the lock taken depends on the schedule: each call has its record all the same,
+// and the log has those that took it. That the copy is a legal history is proved.
 #[test]
 fn two_threads_leave_one_history(rt: HostRuntime) -> Result<(), Fail> {
     let mut plan = Plan::new(rt.alloc(), 2)?;

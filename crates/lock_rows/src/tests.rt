@@ -1,5 +1,5 @@
 //! Sites with an owner word over address spaces.
-ghost use Rattle.std.specs.Prelude.{◌≡◌, ◌≢◌, ◌<◌, ◌≤◌, length};
+ghost use Rattle.std.specs.Prelude.{◌≡◌, ◌≢◌, ◌<◌, length};
 ghost use Rattle.lock_core.specs.declared.view.Held.TheVariants.{No};
 ghost use Rattle.lock_core.specs.Handles.{hand_in, held_in, SaysSame};
 ghost use Rattle.mutex_word.specs.Handles.{plan_of, SitsAt};
@@ -30,8 +30,8 @@ fn stores(site: &OwnerSite<Areas>, pass: &mut OwnerPass<Areas>, want: &[u64; 257
     true
 }
 
-/// Does the log's calls one after the other on an empty space. Counts how many each task has, and gives
-/// what stores the space. Says whether each task's calls stand in their order.
+/// Does the log's calls one after the other on an empty space. Counts how many each task has, and
+/// gives what stores the space. Says whether each task's calls stand in their order.
 fn replay(
     site: &OwnerSite<Areas>,
     pass: &mut OwnerPass<Areas>,
@@ -118,8 +118,8 @@ fn a_second_task_takes_the_lock_once_the_first_lets_it_go(rt: HostRuntime) -> Re
     Ok(())
 }
 
-// A record's word has the place in the log, the kind of the reply times 262,144 (busy 6, interrupted 7,
-// sent 8), and its value times 4,194,304.
+// A record's word has the place in the log, the kind of the reply times 262,144 (busy 6,
+// interrupted 7, sent 8), and its value times 4,194,304.
 #[test]
 fn a_call_that_does_not_wait_is_busy(rt: HostRuntime) -> Result<(), Fail> {
     let mut plan = Plan::new(rt.alloc(), 2)?;

@@ -1,5 +1,5 @@
 //! What each object of a script leaves.
-ghost use Rattle.std.specs.Prelude.{◌≡◌, ◌<◌, ◌^◌, ◌≤◌, length, slice_get, slice_set, Some, IfOk};
+ghost use Rattle.std.specs.Prelude.{◌≡◌, ◌<◌, ◌≤◌, length, slice_get, Some, IfOk};
 ghost use Rattle.std.specs.Prelude.{ℕ, List, OnOk, count_by, get_or};
 ghost use Rattle.task_script.specs.Scripts.{is_on};
 ghost use Rattle.task_script.specs.declared.script.Line.{Line};

@@ -9,8 +9,8 @@ use std::sync::Wait;
 use std::test::Fail;
 use std::thread::{Threads, join};
 
-/// A scripted CPU takes its turns from its lists. Where they are empty it needs rescheduling at each
-/// one.
+/// A scripted CPU takes its turns from its lists. Where they are empty it needs rescheduling at
+/// each one.
 const NO_TURNS: Turns = Turns {
     spin: 0,
     overdue: 0,

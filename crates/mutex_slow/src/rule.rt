@@ -1,5 +1,5 @@
 //! The rule of a mutex.
-ghost use Rattle.std.specs.Prelude.{◌≡◌, ◌<◌, ◌≤◌, [], List, ℕ};
+ghost use Rattle.std.specs.Prelude.{◌<◌};
 ghost use Rattle.word_bits.specs.LockWords.{owned};
 ghost use Rattle.mutex_slow.specs.Mutexes.{Kept, MutexMoves, idle, list_at, list_of, may_change, may_free, may_own, owner_at, rests, saw_first, turned, uncounted, standing, with_list};
 ghost use Rattle.mutex_slow.specs.Mutexes.{MutexKept};
@@ -13,8 +13,8 @@ use std::marker::PhantomData;
 use wait_list::ListHost;
 use word_bits::Object;
 
-/// The rule of the table of a mutex that guards an object of the kind `O`: a spin lock, an owner word
-/// and a list of waiters, which change under the spin lock.
+/// The rule of the table of a mutex that guards an object of the kind `O`: a spin lock, an owner
+/// word and a list of waiters, which change under the spin lock.
 pub struct MutexRule<O> {
     object: PhantomData<O>,
 }

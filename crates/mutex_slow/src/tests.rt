@@ -1,6 +1,6 @@
 //! What no clause says: the words of a mutex that several contend for, and how its calls go on
 //! threads.
-ghost use Rattle.std.specs.Prelude.{◌≡◌, ◌<◌, ◌≤◌, ◌+◌, length};
+ghost use Rattle.std.specs.Prelude.{◌<◌, ◌+◌, length};
 ghost use Rattle.mutex_slow.specs.Handles.{IsIdle, plan_of};
 
 use crate::{Mutex, MutexPass};

@@ -1,5 +1,5 @@
 //! The rule of a table with an owner word alone.
-ghost use Rattle.std.specs.Prelude.{◌≡◌, ◌<◌};
+ghost use Rattle.std.specs.Prelude.{◌<◌};
 ghost use Rattle.word_bits.specs.LockWords.{owned};
 ghost use Rattle.mutex_word.specs.Ruled.{OwnerKept, OwnerMoves, IsPlain, leaves_plain, owner_at, unmarked, unturned};
 ghost use Rattle.mutex_word.specs.RuledLaws.{own-inside, owner-site, owner-own, owner-sites, owner-opens, owner-splits, owner-joins, owner-owns, owner-looks};
@@ -9,8 +9,8 @@ use lock_core::{SPIN_ROOM, SiteRule};
 use std::marker::PhantomData;
 use word_bits::Object;
 
-/// The rule of a table that guards an object of the kind `O` by an owner word, of which nothing sets a
-/// flag.
+/// The rule of a table that guards an object of the kind `O` by an owner word, of which nothing
+/// sets a flag.
 pub struct OwnerRule<O> {
     object: PhantomData<O>,
 }

@@ -1,5 +1,5 @@
 //! The single steps on the owner word of any host.
-ghost use Rattle.std.specs.Prelude.{bit_or, ◌+◌, ◌*◌, ◌%◌, ◌≡◌, ◌≢◌, ℕ, ◌<◌, ◌/◌, false, IfSome, IsSome, IfOk, IfErr, MatchResult, Some};
+ghost use Rattle.std.specs.Prelude.{bit_or, ◌+◌, ◌*◌, ◌%◌, ◌≡◌, ℕ, ◌<◌, ◌/◌, false, IfSome, IsSome, IfOk, IfErr};
 ghost use Rattle.lock_core.specs.declared.view.Held.TheVariants.{No, Alone};
 ghost use Rattle.mutex_word.specs.declared.host.Turn.TheVariants.{Take as TakeTurn, Free as FreeTurn, Flag, Clear};
 ghost use Rattle.lock_core.specs.Views.{ticked};
@@ -45,8 +45,8 @@ fn own_code<R: SiteRule>(pass: &Pass<R>) -> u64
     owner.pack()
 }
 
-/// One compare-exchange of the owner word from 0 to the own code. `Err` has the word, not 0, that it
-/// saw instead.
+/// One compare-exchange of the owner word from 0 to the own code. `Err` has the word, not 0, that
+/// it saw instead.
 pub fn take_free<H: OwnerHost>(site: &Site<H>, pass: &mut Pass<H>) -> Result<(), u64>
     requires own { SitsAt site.now pass.old }
     requires numbered { IsSome (task_in pass.old) }

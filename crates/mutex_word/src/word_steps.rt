@@ -19,8 +19,8 @@ pub enum Try {
     Fail,
 }
 
-/// The answer of a try by the task `me` that saw the word. It asks for a handoff where `ask` says so
-/// and nobody did. The kernel's `__mutex_trylock_common`.
+/// The answer of a try by the task `me` that saw the word. It asks for a handoff where `ask` says
+/// so and nobody did. The kernel's `__mutex_trylock_common`.
 pub fn try_step(word: u64, me: u32, ask: bool) -> Try
     requires word { IsOwnerWord word }
     requires me { me < MAX_TASKS }
@@ -47,8 +47,8 @@ pub fn try_step(word: u64, me: u32, ask: bool) -> Try
     }
 }
 
-/// The word that a release leaves: the flags alone. `None` exactly where a handoff is asked for. The
-/// first part of the kernel's `__mutex_unlock_slowpath`.
+/// The word that a release leaves: the flags alone. `None` exactly where a handoff is asked for.
+/// The first part of the kernel's `__mutex_unlock_slowpath`.
 pub fn release_step(word: u64) -> Option<u64>
     requires { IsOwnerWord word }
     ensures flags { (o : State) → IsOwner o → owner_word o ≡ word → result ≡ release_of o }
@@ -63,8 +63,8 @@ pub fn release_step(word: u64) -> Option<u64>
     Some(Owner { task, ..owner }.pack())
 }
 
-/// The word that hands the mutex to the first waiter, or to nobody where there is none. The kernel's
-/// `__mutex_handoff`.
+/// The word that hands the mutex to the first waiter, or to nobody where there is none. The
+/// kernel's `__mutex_handoff`.
 pub fn handoff_word(word: u64, first: Option<u32>) -> u64
     requires word { IsOwnerWord word }
     requires first { IfSome first (λ task. task < MAX_TASKS) }

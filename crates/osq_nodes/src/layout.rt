@@ -1,6 +1,6 @@
 //! Where the words of a spin queue stand among the words of the locks.
 ghost use Rattle.std.specs.Prelude.{◌≡◌, ◌+◌, ◌<◌};
-ghost use Rattle.osq_nodes.specs.Words.{tail_at, next_at, prev_at, locked_at, code_in};
+ghost use Rattle.osq_nodes.specs.Words.{next_at, prev_at, locked_at, code_in};
 
 use word_bits::MAX_TASKS;
 

@@ -1,5 +1,5 @@
 //! The one operation on a word of a spin queue, whatever it is for.
-ghost use Rattle.std.specs.Prelude.{◌≡◌, ◌≤◌, ◌<◌, ℕ, length, Some, IsSome};
+ghost use Rattle.std.specs.Prelude.{◌≡◌, ◌<◌, ℕ, Some, IsSome};
 ghost use Rattle.lock_core.specs.declared.layout.TheConstants.{LOCK_WORDS};
 ghost use Rattle.lock_core.specs.Pasts.{FindsAt};
 ghost use Rattle.lock_core.specs.Plays.{Turns};

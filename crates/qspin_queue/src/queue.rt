@@ -1,5 +1,5 @@
 //! The slow path of the queued spin lock, and the lock as a whole.
-ghost use Rattle.std.specs.Prelude.{◌≡◌, ◌≢◌, ℕ, ◌+◌, ◌%◌, ◌<◌, ◌≤◌, ◌↔◌, IsSome};
+ghost use Rattle.std.specs.Prelude.{◌≡◌, ◌≢◌, ◌+◌, ◌%◌, ◌<◌, ◌≤◌, ◌↔◌, IsSome};
 ghost use Rattle.word_bits.specs.declared.TheConstants.{MAX_TASKS};
 ghost use Rattle.lock_core.specs.declared.view.Point.TheVariants.{Taking, Cleared, Linking, Waiting, Front, Ready, Passing};
 ghost use Rattle.lock_core.specs.Views.{SpinRests};

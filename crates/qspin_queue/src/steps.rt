@@ -1,6 +1,6 @@
 //! The single steps of the slow path, each at the point of the lock at which a pass may make it.
 //! `code` is the code of the pass's node, which is that of its task: one more than its number.
-ghost use Rattle.std.specs.Prelude.{◌≡◌, ◌≢◌, ℕ, ◌+◌, ◌*◌, ◌/◌, ◌≤◌};
+ghost use Rattle.std.specs.Prelude.{◌≡◌, ◌≢◌, ◌+◌, ◌*◌, ◌/◌, ◌≤◌};
 ghost use Rattle.word_bits.specs.declared.TheConstants.{MAX_TASKS};
 ghost use Rattle.lock_core.specs.declared.view.Point.TheVariants.{Clearing, Cleared, Linking, Waiting, Front, Ready, Passing};
 ghost use Rattle.lock_core.specs.Views.{SpinRests};

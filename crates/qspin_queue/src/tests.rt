@@ -1,6 +1,6 @@
 //! What no clause says: the words of a lock that several contend for, and how its calls go on
 //! threads.
-ghost use Rattle.std.specs.Prelude.{◌≡◌, ◌<◌, ◌≤◌, ◌+◌, length};
+ghost use Rattle.std.specs.Prelude.{◌<◌, ◌≤◌, ◌+◌, length};
 ghost use Rattle.lock_core.specs.Handles.{plan_of};
 ghost use Rattle.qspin_queue.specs.Handles.{IsReady, IsHolder, IsIdle};
 

@@ -1,10 +1,10 @@
 //! A step on one of the spin words of any table, which asks for the lock's own facts alone.
-ghost use Rattle.std.specs.Prelude.{◌≡◌, ◌<◌, ◌+◌, ℕ};
+ghost use Rattle.std.specs.Prelude.{◌<◌, ◌+◌, ℕ};
 ghost use Rattle.lock_core.specs.declared.view.SpinHand.{SpinHand};
 ghost use Rattle.lock_core.specs.declared.layout.TheConstants.{SPIN_WORDS};
 ghost use Rattle.lock_core.specs.Views.{no_spin};
 ghost use Rattle.lock_core.specs.Spins.{SpinFrees};
-ghost use Rattle.lock_core.specs.Pasts.{FindsAt, FoundAt};
+ghost use Rattle.lock_core.specs.Pasts.{FindsAt};
 ghost use Rattle.lock_core.specs.Handles.{view_of, past_of, SitsAt};
 ghost use Rattle.qspin_word.specs.Allows.{SpunBy};
 ghost use Rattle.qspin_word.specs.Handles.{spin_in, MaySpin, SpinSteps};

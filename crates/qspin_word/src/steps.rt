@@ -1,5 +1,5 @@
 //! The single steps on the spin word, each at the point of the lock at which a pass may make it.
-ghost use Rattle.std.specs.Prelude.{◌≡◌, ℕ, ◌%◌};
+ghost use Rattle.std.specs.Prelude.{◌≡◌, ◌%◌};
 ghost use Rattle.lock_core.specs.declared.view.Point.TheVariants.{Undoing, Pending, Taking};
 ghost use Rattle.lock_core.specs.Views.{SpinRests, SpinHolds};
 ghost use Rattle.lock_core.specs.Pasts.{FoundAt};

@@ -1,5 +1,5 @@
 //! The try and the release of the spin lock, and its way by the pending bit.
-ghost use Rattle.std.specs.Prelude.{◌≡◌, ℕ, ◌+◌, ◌<◌, true, false, IfErr, IfOk, IsSome};
+ghost use Rattle.std.specs.Prelude.{◌≡◌, ◌+◌, ◌<◌, true, false, IfErr, IfOk, IsSome};
 ghost use Rattle.lock_core.specs.declared.view.Point.TheVariants.{Taking};
 ghost use Rattle.lock_core.specs.Views.{SpinRests, SpinHolds};
 ghost use Rattle.lock_core.specs.Spins.{spun};

@@ -52,10 +52,10 @@ fn read_lines(alloc: Global, bytes: &[u8]) -> Result<Draft, ScriptError>
 /// Reads a script. Lines end at a line feed or at a carriage return and a line feed, and `#` begins
 /// a comment. Words are separated by spaces and tabs.
 ///
-/// `space NAME` and `table NAME` declare an object, `task` begins a task, and its calls follow, each
-/// as `[int or try] NAME CALL ARGUMENTS`. A number is decimal, without leading zeros, and below
-/// 2^32. An access is `r`, `w` or `x`, and a protection is three bytes: `r` or `-`, `w` or `-`, `x`
-/// or `-`.
+/// `space NAME` and `table NAME` declare an object, `task` begins a task, and its calls follow,
+/// each as `[int or try] NAME CALL ARGUMENTS`. A number is decimal, without leading zeros, and
+/// below 2^32. An access is `r`, `w` or `x`, and a protection is three bytes: `r` or `-`, `w` or
+/// `-`, `x` or `-`.
 ///
 /// # Errors
 ///

@@ -1,8 +1,9 @@
 //! What texts are read from.
 //!
 //! A source tells in its ghost members which bytes it has left, if it knows them, how often it has
-//! failed, how many of its reads gave bytes, and how many found none left. Code that reads is proved against these clauses;
-//! for a source over the outside world, that it gives what the outside holds is trusted.
+//! failed, how many of its reads gave bytes, and how many found none left. Code that reads is
+//! proved against these clauses; for a source over the outside world, that it gives what the
+//! outside holds is trusted.
 ghost use Rattle.std.specs.Prelude.{◌<◌, ℕ, List, Option, length};
 ghost use Rattle.std.specs.Io.{ReadsAtMost};
 ghost use Rattle.std.specs.Io.KnownBytes.{ReadConsumes};

@@ -1,6 +1,5 @@
 //! The text of calls and of declarations.
-ghost use Rattle.std.specs.Prelude.{◌≡◌, ◌+◌, ◌*◌, ◌<◌, ◌≤◌, ◌++◌, ◌∷◌, [], length, flat_map};
-ghost use Rattle.task_script.specs.Scripts.{Declared};
+ghost use Rattle.std.specs.Prelude.{◌≡◌, ◌+◌, ◌*◌, ◌<◌, ◌≤◌, ◌++◌, length};
 ghost use Rattle.task_script.specs.Texts.{access_text, argument_text, arguments_text, bare_text};
 ghost use Rattle.task_script.specs.Texts.{call_text, declaration_text, letter, mode_text, named_text};
 ghost use Rattle.task_script.specs.Texts.{prot_text, verb_and_arguments};

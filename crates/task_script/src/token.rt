@@ -1,5 +1,5 @@
 //! What a single word is.
-ghost use Rattle.std.specs.Prelude.{◌≡◌, ◌<◌, ◌^◌, ◌≤◌, length, IfSome};
+ghost use Rattle.std.specs.Prelude.{◌≡◌, ◌<◌, ◌^◌, ◌≤◌, IfSome};
 ghost use Rattle.std.specs.List.{list_all};
 ghost use Rattle.task_script.specs.Inside.{NameIs};
 ghost use Rattle.task_script.specs.Tokens.{is_name_byte, has_name_bytes, is_name, keyword_of};

@@ -1,5 +1,5 @@
 //! Writes a script, line by line.
-ghost use Rattle.std.specs.Prelude.{◌≡◌, ◌<◌, ◌≤◌, ◌++◌, length, flat_map, slice_get, All, List, Ok, OnErr, Some};
+ghost use Rattle.std.specs.Prelude.{◌≡◌, ◌<◌, ◌≤◌, length, flat_map, slice_get, All, List, Ok, OnErr, Some};
 ghost use Rattle.task_script.specs.Causes.{CountsFailure, Adds, Puts};
 ghost use Rattle.task_script.specs.Grammar.{script_of};
 ghost use Rattle.task_script.specs.Scripts.{Declared};

@@ -1,5 +1,5 @@
 //! Calls whose replies and runs are known by hand.
-ghost use Rattle.std.specs.Prelude.{◌<◌, ◌≡◌, length};
+ghost use Rattle.std.specs.Prelude.{◌<◌};
 ghost use Rattle.vma_map.specs.Spaces.{IsAccess, AreSpaceWords};
 
 use crate::{Areas, SpaceCall, find};

@@ -1,10 +1,9 @@
 //! The list of a site, on which passes work that hold its spin lock.
-ghost use Rattle.std.specs.Prelude.{◌≡◌, ◌<◌, ◌≤◌, ◌↔◌, length, true, false, Option, IfSome, IsSome, IsTrue, Some, ℕ, ◌+◌};
+ghost use Rattle.std.specs.Prelude.{◌≡◌, ◌<◌, ◌≤◌, length, Option, IfSome, IsSome, Some, ◌+◌};
 ghost use Rattle.lock_core.specs.Handles.{Finds, IsLatest, view_of, past_of, task_in, SitsAt, KeepsPast, SaysSame};
-ghost use Rattle.lock_core.specs.Pasts.{FoundAt};
 ghost use Rattle.lock_core.specs.Views.{SpinHolds};
 ghost use Rattle.wait_list.specs.declared.view.Change.TheVariants.{Enter, Leave};
-ghost use Rattle.wait_list.specs.Lists.{Appends, ChangesWords, FindsFirst, FindsNext, IsAtPlace, IsNear, IsStill, Knows, Removes, Shifts, ShiftsAll, TellsFirst, hand_at, list_part, only_steps, waiter_code};
+ghost use Rattle.wait_list.specs.Lists.{Appends, ChangesWords, FindsFirst, FindsNext, IsAtPlace, IsStill, Knows, Removes, Shifts, ShiftsAll, TellsFirst, hand_at, list_part, only_steps, waiter_code};
 
 use crate::host::ListHost;
 use crate::view::Waiter;

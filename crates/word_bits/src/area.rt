@@ -17,8 +17,8 @@ pub struct Area {
 }
 
 impl Area {
-    /// The word of an area: the protection in bits 0 to 2, `end` in bits 3 to 23, `start` in bits 24
-    /// to 43.
+    /// The word of an area: the protection in bits 0 to 2, `end` in bits 3 to 23, `start` in bits
+    /// 24 to 43.
     pub fn pack(self) -> u64
         requires { IsArea self }
         ensures { result ≡ area_word self }

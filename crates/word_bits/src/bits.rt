@@ -1,5 +1,5 @@
 //! Fields of a packed word.
-ghost use Rattle.std.specs.Prelude.{◌≡◌, ◌+◌, ◌*◌, ◌/◌, ◌%◌, ◌^◌, ◌<◌, ◌≤◌};
+ghost use Rattle.std.specs.Prelude.{◌≡◌, ◌+◌, ◌*◌, ◌/◌, ◌%◌, ◌^◌, ◌<◌};
 ghost use Rattle.word_bits.specs.OwnerWord.{bit};
 
 #[tactic(auto, using(crate::proofs::Fields::masked))]

@@ -33,8 +33,9 @@ impl Mode {
 /// The kind of a signal's words.
 const SIGNAL: u8 = 15;
 
-/// A call as two words. `a` has its first number, and its second one times 2^32. `b` has its kind in
-/// bits 0 to 7, the protection from bit 8 on, the access from bit 16 on, and the mode from bit 24 on.
+/// A call as two words. `a` has its first number, and its second one times 2^32. `b` has its kind
+/// in bits 0 to 7, the protection from bit 8 on, the access from bit 16 on, and the mode from bit
+/// 24 on.
 #[derive(Clone, Copy, Debug, PartialEq, Eq)]
 pub struct CallWords {
     pub a: u64,

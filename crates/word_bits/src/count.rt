@@ -21,8 +21,8 @@ pub struct Count {
 }
 
 impl Count {
-    /// The word of a count: the flags `writer`, `waiters` and `handoff` in bits 0 to 2, `readers` in
-    /// bits 8 to 62, and `read_fail` in bit 63.
+    /// The word of a count: the flags `writer`, `waiters` and `handoff` in bits 0 to 2, `readers`
+    /// in bits 8 to 62, and `read_fail` in bit 63.
     pub fn pack(self) -> u64
         requires { IsCount self }
         ensures { result ≡ count_word self }

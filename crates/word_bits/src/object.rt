@@ -1,5 +1,5 @@
 //! What a table guards.
-ghost use Rattle.std.specs.Prelude.{◌≡◌, ◌≢◌, ◌≤◌, ◌<◌, ◌^◌, ℕ, true, length, replicate, None, Some, IfSome, IfNone};
+ghost use Rattle.std.specs.Prelude.{◌≡◌, ◌≢◌, ◌≤◌, ◌<◌, ℕ, true, length, replicate, None, Some, IfSome, IfNone};
 ghost use Rattle.word_bits.specs.Calls.{signal_of};
 ghost use Rattle.word_bits.specs.Objects.{Obj, IsObjectReply};
 ghost use Rattle.word_bits.specs.declared.call.CallWords.{CallWords};

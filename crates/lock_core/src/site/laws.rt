@@ -1,9 +1,9 @@
 //! What is so of every site at each moment, and of each step of its table.
-ghost use Rattle.std.specs.Prelude.{◌≡◌, ℕ};
+ghost use Rattle.std.specs.Prelude.{◌≡◌};
 ghost use Rattle.lock_core.specs.Layout.{site};
 ghost use Rattle.lock_core.specs.Views.{ticked};
 ghost use Rattle.lock_core.specs.Stated.{IsSiteThen, IsSiteMove};
-ghost use Rattle.lock_core.specs.Pasts.{BeganWith, EachMoment, IsMarked, IsOwnStep, Ran, RanByRule, opening};
+ghost use Rattle.lock_core.specs.Pasts.{BeganWith, EachMoment, IsMarked, Ran, RanByRule, opening};
 ghost use Rattle.lock_core.specs.Handles.{plan_of, view_of, past_of, SitsAt, KeepsPast, IsLatest};
 
 use super::Site;

@@ -1,11 +1,8 @@
 //! The steps on the site's own words, which keep the site's own facts and so the rule.
-ghost use Rattle.std.specs.Prelude.{◌≡◌, ◌<◌, ◌+◌, ◌*◌, ℕ, List, true, false, slice_index, slice_set};
-ghost use mathlib.Core.Option.{some};
-ghost use lib.ListN.{get_elem?};
+ghost use Rattle.std.specs.Prelude.{◌≡◌, ◌<◌, ◌+◌, ◌*◌, true, false};
 ghost use Rattle.lock_core.specs.declared.view.Hand.{Hand};
-ghost use Rattle.lock_core.specs.Layout.{site_width, lay};
+ghost use Rattle.lock_core.specs.Layout.{site_width};
 ghost use Rattle.lock_core.specs.Views.{ticked, handed, with_number};
-ghost use Rattle.lock_core.specs.Sites.{SiteKept, SiteStep};
 ghost use Rattle.lock_core.specs.Moves.{KeepsHold};
 ghost use Rattle.lock_core.specs.Pasts.{FoundAt};
 ghost use Rattle.lock_core.specs.Handles.{plan_of, view_of, hand_in, past_of, IsOneOf, KeepsSeat, SaysSame, MayFind, MayPut, MayAdd, MayTake};

@@ -1,10 +1,9 @@
 //! What a pass reads of the plan, the records and the log.
-ghost use Rattle.std.specs.Prelude.{◌≡◌, ◌≢◌, ◌+◌, ◌*◌, ◌<◌, ◌≤◌, ℕ, length, slice_get, Some};
+ghost use Rattle.std.specs.Prelude.{◌≡◌, ◌≢◌, ◌+◌, ◌*◌, ◌<◌, ◌≤◌, length, slice_get, Some};
 ghost use Rattle.word_bits.specs.declared.rec.Rec.{Rec as Record};
 ghost use Rattle.word_bits.specs.RecWord.{IsRec, rec_word};
 ghost use Rattle.lock_core.specs.Plans.{calls_in, start};
-ghost use Rattle.lock_core.specs.declared.layout.TheConstants.{LOCK_WORDS};
-ghost use Rattle.lock_core.specs.Layout.{recs_at, record_place};
+ghost use Rattle.lock_core.specs.Layout.{record_place};
 ghost use Rattle.lock_core.specs.Records.{row};
 ghost use Rattle.lock_core.specs.Pasts.{FoundAt};
 ghost use Rattle.lock_core.specs.Views.{ticked};

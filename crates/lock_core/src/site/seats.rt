@@ -1,15 +1,9 @@
 //! How a pass takes a task's number and gives it back.
-ghost use Rattle.std.specs.Prelude.{◌≡◌, ◌+◌, ◌<◌, ◌≤◌, ℕ, List, length, slice_get, false, None, Some, IsSome};
-ghost use Rattle.word_bits.specs.declared.call.CallWords.{CallWords as Words};
+ghost use Rattle.std.specs.Prelude.{◌≡◌, ◌+◌, ◌<◌, ◌≤◌, ℕ, length, None, Some, IsSome};
 ghost use Rattle.word_bits.specs.declared.rec.Rec.{Rec as Record};
-ghost use Rattle.word_bits.specs.RecWord.{IsRec};
-ghost use Rattle.word_bits.specs.Histories.{logs};
-ghost use Rattle.word_bits.specs.Legal.{seen_after};
-ghost use Rattle.lock_core.specs.declared.view.Hand.{Hand};
-ghost use Rattle.word_bits.specs.declared.entry.Entry.{Entry as Logged};
-ghost use Rattle.lock_core.specs.Records.{row, seen_by, AreNext};
+ghost use Rattle.lock_core.specs.Records.{row};
 ghost use Rattle.lock_core.specs.Views.{handed, gave_up, Beside, BesideForgetting, HoldsNothing, Knows, OwesNoSignal};
-ghost use Rattle.lock_core.specs.Passes.{Numbered, HasSeenAfter, HasSeenAfterCall};
+ghost use Rattle.lock_core.specs.Passes.{HasSeenAfter, HasSeenAfterCall};
 ghost use Rattle.lock_core.specs.Handles.{plan_of, view_of, hand_in, task_in, front_in, SitsAt, IsOneOf, KeepsSeat, KeepsPast, SaysSame, IsLatest, TakesNumber};
 
 use super::Site;

@@ -1,12 +1,10 @@
 //! Signals: a pass sends one, hears of those to its task, and consumes them.
-ghost use Rattle.std.specs.Prelude.{◌≡◌, ◌+◌, ◌<◌, ◌≤◌, ℕ, None, Some, IsSome, IfSome, IfNone};
-ghost use Rattle.lock_core.specs.declared.view.Hand.{Hand};
+ghost use Rattle.std.specs.Prelude.{◌≡◌, ◌+◌, ◌<◌, None, Some, IsSome, IfSome, IfNone};
 ghost use Rattle.lock_core.specs.Sites.{sent_place};
 ghost use Rattle.lock_core.specs.Pasts.{FoundAt};
-ghost use Rattle.lock_core.specs.declared.how.Interrupted.{Interrupted as Numbers};
 ghost use Rattle.lock_core.specs.Plays.{Heeded};
-ghost use Rattle.lock_core.specs.Views.{handed, sending, next_entry};
-ghost use Rattle.lock_core.specs.Passes.{IsSignal, Hears, HearsOf, Consumes};
+ghost use Rattle.lock_core.specs.Views.{handed, sending};
+ghost use Rattle.lock_core.specs.Passes.{Hears, HearsOf, Consumes};
 ghost use Rattle.lock_core.specs.Handles.{view_of, hand_in, past_of, task_in, SitsAt, IsOneOf, KeepsSeat, KeepsPast, SaysSame, IsLatest, IsNextSignal, SawOwnSignals, SawNonePending};
 
 use super::Site;

@@ -1,6 +1,6 @@
 //! The single step on a word. Nothing but this function changes a word of a table, and it asks that
 //! the step keeps the rule and is one of its moves.
-ghost use Rattle.std.specs.Prelude.{◌≡◌, ◌<◌};
+ghost use Rattle.std.specs.Prelude.{◌<◌};
 ghost use Rattle.lock_core.specs.Layout.{width};
 ghost use Rattle.lock_core.specs.Ops.{told_by};
 ghost use Rattle.lock_core.specs.Pasts.{FindsAt};

@@ -1,19 +1,17 @@
 //! The words of the object, the log and the records: what a holder reads and writes, and how a call
 //! is recorded.
-ghost use Rattle.std.specs.Prelude.{◌≡◌, ◌≢◌, ◌+◌, ◌*◌, ◌<◌, ◌≤◌, ℕ, List, length, slice_get, slice_index, Some, None, IsSome};
-ghost use Rattle.word_bits.specs.declared.call.CallWords.{CallWords as Words};
-ghost use Rattle.word_bits.specs.declared.entry.Entry.{Entry as Logged};
+ghost use Rattle.std.specs.Prelude.{◌≡◌, ◌≢◌, ◌+◌, ◌<◌, ◌≤◌, length, slice_index, Some, None, IsSome};
 ghost use Rattle.word_bits.specs.declared.reply.Reply.TheVariants.{Busy, Intr, Sent};
-ghost use Rattle.word_bits.specs.EntryWord.{IsEntry, entry_word};
+ghost use Rattle.word_bits.specs.EntryWord.{IsEntry};
 ghost use Rattle.lock_core.specs.declared.view.Held.TheVariants.{No, Alone};
 ghost use Rattle.lock_core.specs.declared.view.Stage.TheVariants.{Rest, Entered};
 ghost use Rattle.lock_core.specs.declared.layout.TheConstants.{LOCK_WORDS};
 ghost use Rattle.lock_core.specs.Layout.{entry_place, length_place};
 ghost use Rattle.lock_core.specs.Pasts.{FoundAt};
 ghost use Rattle.lock_core.specs.Plans.{calls_in};
-ghost use Rattle.lock_core.specs.Views.{ticked, handed, wrote, entered, logged, recorded, committed, noted, note_steps, settled, next_entry, Unsent, after_commit, after_note, after_read, with_record};
+ghost use Rattle.lock_core.specs.Views.{ticked, handed, wrote, entered, logged, recorded, note_steps, settled, Unsent, after_commit, after_note, after_read, with_record};
 ghost use Rattle.lock_core.specs.Chronicles.{Chronicles};
-ghost use Rattle.lock_core.specs.Passes.{IsLength, IsChange, IsReading, IsBusy, IsInterrupted, IsSent, MayRecord, MayNote, IsEntryWord};
+ghost use Rattle.lock_core.specs.Passes.{IsLength, IsChange, IsEntryWord};
 ghost use Rattle.lock_core.specs.Handles.{plan_of, view_of, hand_in, past_of, task_in, held_in, done_in, front_in, SitsAt, IsOneOf, KeepsSeat, KeepsPast, SaysSame, IsLatest, IsNextChange, IsNextReading, MayNoteNext, MayStoreRecord};
 
 use super::Site;
