@@ -1,5 +1,6 @@
 //! Pairs on the front of the optimistic spin queue.
-ghost use Rattle.osq_nodes.specs.Handles.{tasks_of};
+ghost use Rattle.std.specs.Prelude.{◌≡◌, ◌+◌};
+ghost use Rattle.osq_nodes.specs.Handles.{fronts_in, tasks_of};
 ghost use Rattle.lock_bench.specs.Idles.{IsIdle};
 
 use crate::timed::Timed;
@@ -11,6 +12,8 @@ impl Timed for Osq {
     type Worker = OsqPass;
 
     ghost idle = { IsIdle };
+
+    ghost took = { λ n v u. fronts_in u ≡ fronts_in v + n };
 
     ghost tasks = { tasks_of };
 

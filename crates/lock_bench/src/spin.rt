@@ -1,6 +1,6 @@
 //! Pairs on the queued spin lock.
-ghost use Rattle.std.specs.Prelude.{length};
-ghost use Rattle.lock_core.specs.Handles.{plan_of};
+ghost use Rattle.std.specs.Prelude.{◌≡◌, ◌+◌, length};
+ghost use Rattle.lock_core.specs.Handles.{plan_of, view_of};
 ghost use Rattle.qspin_queue.specs.Handles.{IsIdle};
 
 use crate::plan::without_calls;
@@ -15,6 +15,8 @@ impl Timed for Site<Bare> {
     type Worker = Pass<Bare>;
 
     ghost idle = { IsIdle };
+
+    ghost took = { λ n v u. (view_of u).spin.entries ≡ (view_of v).spin.entries + n };
 
     ghost tasks = { λ site. length (plan_of site) };
 

@@ -14,6 +14,9 @@ pub trait Timed: Sized {
     // The worker is one of the lock's, and is in no call.
     ghost idle: { Self → Self.Worker → Type 0 };
 
+    // The worker, first and last, has taken the lock so often between, where the lock counts that.
+    ghost took: { ℕ → Self.Worker → Self.Worker → Type 0 };
+
     // For how many tasks the lock is.
     ghost tasks: { Self → ℕ };
 
@@ -40,7 +43,8 @@ pub trait Timed: Sized {
     fn rounds<W: Wait>(&self, rt: &W, worker: &mut Self::Worker, task: u32, count: u32)
         requires idle { idle self.now worker.old }
         requires there { task < tasks self.now }
-        ensures { idle self.now worker.new };
+        ensures idle { idle self.now worker.new }
+        ensures took { took count worker.old worker.new };
 }
 
 /// Each worker does so on a thread of its own, in the name of the task of its place.
