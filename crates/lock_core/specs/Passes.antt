@@ -66,11 +66,11 @@ pub record Shows (h : Hand) (e : Entry) (word : ℕ) : Type 0 where
 abbrev pub Numbered : {Call : Type 0} → Obj Call → Unavailable → Plan → Hand → ℕ → Hand → Type 0
 Numbered o unavailable k h t g = (rs : List Rec) × (log : List Entry) × AreNext o unavailable k log t 0 0 (row k t) rs × (length log ≤ calls_in k) × (g ≡ became h t rs (longer h.seen (take (seen_by o 0 (row k t) rs) log)))
 
--- a task has seen so many entries, so many of whose calls are recorded, by the records that the pass knows
+-- a task of which so many calls are recorded has seen so many entries, by the records that the pass knows
 abbrev pub HasSeenAfter : {Call : Type 0} → Obj Call → Unavailable → Plan → Hand → (task done n : ℕ) → Type 0
 HasSeenAfter o unavailable k h t done n = (rs : List Rec) (log : List Entry) → length rs ≡ done → AreNext o unavailable k log t 0 0 (row k t) rs → KnowsFirst h t rs → n ≡ seen_by o 0 (row k t) rs
 
--- it had seen so many after this call, by the record that the pass knows
+-- after this call it had seen so many, by the record that the pass knows
 abbrev pub HasSeenAfterCall : {Call : Type 0} → Obj Call → Plan → Hand → (task call n : ℕ) → Type 0
 HasSeenAfterCall o k h t c n = (w : CallWords) (r : Rec) → slice_get (row k t) c ≡ Some w → Knows h (record { task = t; call = c }) r → IsRec r → n ≡ seen_after (logs o w r.reply) r
 
