@@ -1,8 +1,7 @@
 ghost use Rattle.std.specs.Prelude.{◌≡◌, ◌+◌, ◌<◌, ◌≤◌, ◌++◌, [], length, slice_get, Bool, Some};
 ghost use Rattle.std.specs.Prelude.{IfOk, OnOk};
-ghost use Rattle.word_bits.specs.Snapshots.{no_words};
 ghost use Rattle.task_script.specs.Scripts.{kinds_of};
-ghost use Rattle.mm_report.specs.Results.{AreComplete, calls_on, words_of_kind};
+ghost use Rattle.mm_report.specs.Results.{AreComplete, calls_on, empty_snapshot};
 
 use super::*;
 use crate::line::add_event;
@@ -59,9 +58,8 @@ fn fill(
     snapshot: &mut Snapshot,
 ) -> Result<(), AllocError>
     requires object { object < length script.now.objects }
-    requires fresh { (is_space : Bool) → slice_get (kinds_of script.now) object ≡ Some is_space →
-        snapshot.old ≡ no_words (calls_on script.now object) (calls_on script.now object)
-        (words_of_kind is_space) }
+    requires fresh { (is_space : Bool) → slice_get (kinds_of script.now) object ≡ Some is_space
+        → snapshot.old ≡ empty_snapshot script.now object is_space }
     ensures { OnOk result (length snapshot.new.recs ≡ calls_on script.now object) }
 {
     let state = state_words(script.is_space(object as usize));
