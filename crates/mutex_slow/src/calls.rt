@@ -31,8 +31,8 @@ use word_bits::Object;
 
 mod words;
 
-/// A mutex that guards an object of the kind `O`, with the object's plan, records and log. Contracts
-/// see its plan (`plan_of`).
+/// A mutex that guards an object of the kind `O`, with the object's plan, records and log.
+/// Contracts see its plan (`plan_of`).
 #[derive(Drop)]
 pub struct Mutex<O: Object> {
     site: Site<MutexRule<O>>,
@@ -40,8 +40,8 @@ pub struct Mutex<O: Object> {
     ghost sized: { tasks_of osq ≡ length (inner.plan_of site) },
 }
 
-/// A pass of a mutex, with one of its spin queue. Contracts see what callers of any lock see of a pass
-/// (`shown_of`).
+/// A pass of a mutex, with one of its spin queue. Contracts see what callers of any lock see of a
+/// pass (`shown_of`).
 #[derive(Drop)]
 pub struct MutexPass<O: Object> {
     pass: Pass<MutexRule<O>>,
@@ -51,8 +51,8 @@ pub struct MutexPass<O: Object> {
 impl<O: Object> Mutex<O> {
     ghost use Rattle.mutex_slow.specs.Handles.{newest, plan_of, shown_of, hand_in, SitsAt, TakesAlone, KeepsFronts, KeepsMisses, EntersOnce, MissesAt, MissesIfShut};
 
-    /// A new mutex: nobody holds, the state is empty, no call is logged or recorded. The pass has no
-    /// task number.
+    /// A new mutex: nobody holds, the state is empty, no call is logged or recorded. The pass has
+    /// no task number.
     pub fn open(alloc: Global, plan: Plan) -> Result<(Mutex<O>, MutexPass<O>), AllocError>
         requires { IsPlan O.object plan }
         ensures own { IfOk result (λ t. SitsAt t.0 t.1) }
@@ -80,8 +80,8 @@ impl<O: Object> Mutex<O> {
         MutexPass { pass: other, queue }
     }
 
-    /// Waits until nobody has the task's number, and takes it with the task's records. What the pass
-    /// saw of the lock is forgotten, and it has seen as many entries as the task.
+    /// Waits until nobody has the task's number, and takes it with the task's records. What the
+    /// pass saw of the lock is forgotten, and it has seen as many entries as the task.
     pub fn begin<W: Wait>(&self, rt: &W, pass: &mut MutexPass<O>, task: u32)
         requires own { SitsAt self.now pass.old }
         requires numberless { (hand_in pass.old).task ≡ None }
@@ -214,8 +214,8 @@ impl<O: Object> Mutex<O> {
         slow::lock_in_line_interruptible(&self.site, rt, &mut pass.pass, cpu)
     }
 
-    /// Holds alone where that is possible at once. `Err` has the word, which names a task, that says
-    /// why not. It tries again where only flags changed. The kernel's `mutex_trylock`.
+    /// Holds alone where that is possible at once. `Err` has the word, which names a task, that
+    /// says why not. It tries again where only flags changed. The kernel's `mutex_trylock`.
     pub fn trylock<W: Wait>(&self, rt: &W, pass: &mut MutexPass<O>) -> Result<(), u64>
         requires own { SitsAt self.now pass.old }
         requires numbered { IsSome (hand_in pass.old).task }
@@ -234,8 +234,8 @@ impl<O: Object> Mutex<O> {
         }
     }
 
-    /// Takes the mutex where its word is 0, by one compare-exchange. `Err` has the word, not 0, that the
-    /// exchange saw: one that names a task, or the flag of the waiters alone.
+    /// Takes the mutex where its word is 0, by one compare-exchange. `Err` has the word, not 0,
+    /// that the exchange saw: one that names a task, or the flag of the waiters alone.
     pub fn trylock_once(&self, pass: &mut MutexPass<O>) -> Result<(), u64>
         requires own { SitsAt self.now pass.old }
         requires numbered { IsSome (hand_in pass.old).task }
@@ -276,12 +276,13 @@ impl<O: Object> Mutex<O> {
         slow::unlock(&self.site, rt, &mut pass.pass, crew);
     }
 
-    /// A load, after which the pass knows what was so of the table at each moment so far, from the new
-    /// table on: the facts of every site, which tasks wait, and that the owner word states who holds,
-    /// who is picked, and whether tasks wait; and what each step did to the list and to the owner word:
-    /// the list changes by one append or one removal; the first waiter alone asks for a handoff, which
-    /// stays asked for until the holder picks that waiter or nobody waits; a step that ends a hold
-    /// meanwhile picks the first waiter, and nobody but a picked waiter takes.
+    /// A load, after which the pass knows what was so of the table at each moment so far, from the
+    /// new table on: the facts of every site, which tasks wait, and that the owner word states who
+    /// holds, who is picked, and whether tasks wait; and what each step did to the list and to the
+    /// owner word: the list changes by one append or one removal; the first waiter alone asks for a
+    /// handoff, which stays asked for until the holder picks that waiter or nobody waits; a step
+    /// that ends a hold meanwhile picks the first waiter, and nobody but a picked waiter takes. The
+    /// pass itself isn't in the list.
     pub fn recall(&self, pass: &mut MutexPass<O>)
         requires own { SitsAt self.now pass.old }
         ensures own { SitsAt self.now pass.new }

@@ -50,8 +50,8 @@ pub fn try_outside<O: Object, W: Wait>(
     }
 }
 
-/// A try of a pass that is in the list. Where it asks, the pass has seen that it is the first, and the
-/// word has the flag of the handoff unless the try takes.
+/// A try of a pass that is in the list. Where it asks, the pass has seen that it is the first, and
+/// the word has the flag of the handoff unless the try takes.
 pub fn try_listed<O: Object, W: Wait>(
     site: &Site<MutexRule<O>>,
     rt: &W,

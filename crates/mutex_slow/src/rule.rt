@@ -13,8 +13,8 @@ use std::marker::PhantomData;
 use wait_list::ListHost;
 use word_bits::Object;
 
-/// The rule of the table of a mutex that guards an object of the kind `O`: a spin lock, an owner word
-/// and a list of waiters, which change under the spin lock.
+/// The rule of the table of a mutex that guards an object of the kind `O`: a spin lock, an owner
+/// word and a list of waiters, which change under the spin lock.
 pub struct MutexRule<O> {
     object: PhantomData<O>,
 }

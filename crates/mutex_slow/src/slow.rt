@@ -20,8 +20,8 @@ use std::sync::Wait;
 use wait_list::Waiter;
 use word_bits::Object;
 
-/// Tries of a pass that is in no list, until one takes or the CPU needs rescheduling. It is to be the
-/// front of the spin queue until it returns: one spinner at a time tries.
+/// Tries of a pass that is in no list, until one takes or the CPU needs rescheduling. It is to be
+/// the front of the spin queue until it returns: one spinner at a time tries.
 pub fn spin_outside<O: Object, W: Wait, C: Cpu>(
     site: &Site<MutexRule<O>>,
     rt: &W,
@@ -105,8 +105,8 @@ fn try_awake<O: Object, W: Wait, C: Cpu>(
     ensures missed { result ≡ false → KeepsHand pass.old pass.new }
 {
     let first = parts::sees_first(site, pass);
-    // Others take the mutex again and again before a woken waiter runs: the first one asks, and then
-    // whoever releases names it.
+    // Others take the mutex again and again before a woken waiter runs: the first one asks, and
+    // then whoever releases names it.
     if parts::try_listed(site, rt, pass, first) {
         return true;
     }

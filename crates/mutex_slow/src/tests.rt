@@ -1,4 +1,5 @@
-//! What no clause says: the words of a mutex that several contend for, and how its calls go on threads.
+//! What no clause says: the words of a mutex that several contend for, and how its calls go on
+//! threads.
 ghost use Rattle.std.specs.Prelude.{◌≡◌, ◌<◌, ◌≤◌, ◌+◌, length};
 ghost use Rattle.mutex_slow.specs.Handles.{IsIdle, plan_of};
 
@@ -43,8 +44,8 @@ fn a_free_mutex_is_taken_at_once_and_others_are_told_its_word(rt: HostRuntime) -
     Ok(())
 }
 
-/// Takes the mutex, raises the counter by a load and a store, and releases it, as often, in the name of
-/// a task.
+/// Takes the mutex, raises the counter by a load and a store, and releases it, as often, in the
+/// name of a task.
 fn rounds<W: Wait>(
     rt: &W,
     shared: &Shared,

@@ -9,8 +9,8 @@ use lock_core::{SPIN_ROOM, SiteRule};
 use std::marker::PhantomData;
 use word_bits::Object;
 
-/// The rule of a table that guards an object of the kind `O` by an owner word, of which nothing sets a
-/// flag.
+/// The rule of a table that guards an object of the kind `O` by an owner word, of which nothing
+/// sets a flag.
 pub struct OwnerRule<O> {
     object: PhantomData<O>,
 }

@@ -61,8 +61,9 @@ impl<O: Object> OwnerSite<O> {
         self.site.split(pass)
     }
 
-    /// Waits until nobody has the task's number, and takes it with the task's records. What the pass
-    /// saw of the lock and of the spin word is forgotten, and it has seen as many entries as the task.
+    /// Waits until nobody has the task's number, and takes it with the task's records. What the
+    /// pass saw of the lock and of the spin word is forgotten, and it has seen as many entries as
+    /// the task.
     pub fn begin<W: Wait>(&self, rt: &W, pass: &mut OwnerPass<O>, task: u32)
         requires own { SitsAt self.now pass.old }
         requires numberless { task_in pass.old ≡ None }
@@ -108,8 +109,8 @@ impl<O: Object> OwnerSite<O> {
         self.site.gather(into, other);
     }
 
-    /// Takes the lock where it is free, by one compare-exchange of the owner word from 0. `Err` has the
-    /// word, not 0, that the exchange saw.
+    /// Takes the lock where it is free, by one compare-exchange of the owner word from 0. `Err` has
+    /// the word, not 0, that the exchange saw.
     pub fn trylock_once(&self, pass: &mut OwnerPass<O>) -> Result<(), u64>
         requires own { SitsAt self.now pass.old }
         requires numbered { IsSome (task_in pass.old) }
@@ -132,8 +133,8 @@ impl<O: Object> OwnerSite<O> {
         site_steps::take_free(&self.site, pass)
     }
 
-    /// Ends the pass's hold, by one compare-exchange of the owner word from the own code to 0. It always
-    /// succeeds, since nothing sets a flag.
+    /// Ends the pass's hold, by one compare-exchange of the owner word from the own code to 0. It
+    /// always succeeds, since nothing sets a flag.
     pub fn unlock_once(&self, pass: &mut OwnerPass<O>)
         requires own { SitsAt self.now pass.old }
         requires held { held_in pass.old ≡ Alone }
@@ -149,9 +150,9 @@ impl<O: Object> OwnerSite<O> {
         let _ = site_steps::release_plain(&self.site, pass);
     }
 
-    /// A load, after which the pass knows that at each moment of the table so far, from the new table
-    /// on, the facts of every site were so, and the owner word stated who held; and what each step did
-    /// to the site's words and to what the passes count.
+    /// A load, after which the pass knows that at each moment of the table so far, from the new
+    /// table on, the facts of every site were so, and the owner word stated who held; and what each
+    /// step did to the site's words and to what the passes count.
     pub fn recall_holders(&self, pass: &mut OwnerPass<O>)
         requires own { SitsAt self.now pass.old }
         ensures own { SitsAt self.now pass.new }
@@ -167,8 +168,8 @@ impl<O: Object> OwnerSite<O> {
         self.site.recall(pass);
     }
 
-    /// A load, after which the pass knows what each step of the table so far did to the site's words
-    /// and to what the passes count: no entry of the log was lost, and no count fell.
+    /// A load, after which the pass knows what each step of the table so far did to the site's
+    /// words and to what the passes count: no entry of the log was lost, and no count fell.
     pub fn grown(&self, pass: &mut OwnerPass<O>)
         requires own { SitsAt self.now pass.old }
         ensures own { SitsAt self.now pass.new }

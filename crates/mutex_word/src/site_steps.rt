@@ -45,8 +45,8 @@ fn own_code<R: SiteRule>(pass: &Pass<R>) -> u64
     owner.pack()
 }
 
-/// One compare-exchange of the owner word from 0 to the own code. `Err` has the word, not 0, that it
-/// saw instead.
+/// One compare-exchange of the owner word from 0 to the own code. `Err` has the word, not 0, that
+/// it saw instead.
 pub fn take_free<H: OwnerHost>(site: &Site<H>, pass: &mut Pass<H>) -> Result<(), u64>
     requires own { SitsAt site.now pass.old }
     requires numbered { IsSome (task_in pass.old) }
@@ -57,7 +57,7 @@ pub fn take_free<H: OwnerHost>(site: &Site<H>, pass: &mut Pass<H>) -> Result<(),
     ensures last { IsLatest pass.new }
     ensures took { IfOk result (λ _.
         TakesOwner H.turned H.O.object (plan_of site.now) (view_of pass.old) (view_of pass.new)) }
-    ensures missed { IfErr result (λ word. MissesOwner (view_of pass.old) word (view_of pass.new)) }
+    ensures missed { IfErr result (λ w. MissesOwner (view_of pass.old) w (view_of pass.new)) }
     ensures word { IfErr result (λ word. (word < 8 * MAX_TASKS + 8) × H.may_be word) }
     ensures free { IfOk result (λ _. FoundAt H.OWNER 0 (past_of pass.new)) }
     ensures found { IfErr result (λ word. FoundAt H.OWNER word (past_of pass.new)) }

@@ -36,7 +36,8 @@ pub trait TryKind {
     // Whether it asks for a handoff.
     ghost asks: { Bool };
 
-    // Whether the pass counts a failure, and keeps the word that it saw. The host says where it need not.
+    // Whether the pass counts a failure, and keeps the word that it saw. The host says where it
+    // need not.
     ghost counts: { Bool };
 }
 
@@ -283,8 +284,8 @@ fn leave<H: OwnerHost, L: EndKind>(site: &Site<H>, pass: &mut Pass<H>, word: u64
     found
 }
 
-/// Ends the hold by exchanges of the word for its flags alone, which `Ok` has. `Err` has a word with
-/// the flag of the handoff, by which the pass still holds. The first part of the kernel's
+/// Ends the hold by exchanges of the word for its flags alone, which `Ok` has. `Err` has a word
+/// with the flag of the handoff, by which the pass still holds. The first part of the kernel's
 /// `__mutex_unlock_slowpath`.
 pub fn release<H: OwnerHost, W: Wait>(
     site: &Site<H>,
@@ -321,8 +322,8 @@ pub fn release<H: OwnerHost, W: Wait>(
     unreachable!()
 }
 
-/// Ends the hold by exchanges of the word for one that picks the first waiter, or names nobody where
-/// none waits. The kernel's `__mutex_handoff`.
+/// Ends the hold by exchanges of the word for one that picks the first waiter, or names nobody
+/// where none waits. The kernel's `__mutex_handoff`.
 pub fn hand_over<H: OwnerHost, W: Wait>(
     site: &Site<H>,
     rt: &W,

@@ -19,9 +19,9 @@ use lock_core::SpinHost;
 
 /// A rule whose table has the words of a list of waiters, which change under its spin lock.
 ///
-/// The list's words, the list and what each pass knows of it have their own facts, `ListKept`, which
-/// the rule implies. Each kind of step on the words is proved once, against those facts; the law `lists`
-/// carries it to the rule. When a waiter may enter or leave is the host's condition.
+/// The list's words, the list and what each pass knows of it have their own facts, `ListKept`,
+/// which the rule implies. Each kind of step on the words is proved once, against those facts; the
+/// law `lists` carries it to the rule. When a waiter may enter or leave is the host's condition.
 pub trait ListHost: SpinHost {
     /// The place of the first of them among the words of the locks.
     const LIST: usize;
@@ -66,8 +66,8 @@ pub trait ListHost: SpinHost {
 
     ghost list_may: { (k : Calls) (ws : List ℕ) (vs : List (View Self.Ext)) (l : List Waiter) (id : ℕ) (v : View Self.Ext) (c : Change) → queue k ws vs l → get_elem? vs id ≡ some v → SpinHolds v.spin → may_change c v → Allowed c l };
 
-    // A step on a word of the list by a pass with the spin lock that keeps the list's own facts keeps
-    // every other fact of the rule.
+    // A step on a word of the list by a pass with the spin lock that keeps the list's own facts
+    // keeps every other fact of the rule.
     ghost lists: { (k : Calls) (ws : List ℕ) (vs : List (View Self.Ext)) (l : List Waiter) (id i n : ℕ) (v : View Self.Ext) (c : Change) (b : ListHand) → queue k ws vs l → get_elem? vs id ≡ some v → i < LIST_WORDS → SpinHolds v.spin → may_change c v → b.list ≡ changed c l → LeaverGoes c (list v.ext).leaver b.leaver → ListKept (slice_set (part LIST LIST_WORDS ws) i n) (changed c l) (slice_set (map (list_part list) vs) id (v.spin, b)) → Goes (Self.holds k) (Self.moves k) id ws vs (slice_set ws (LIST + i) n) (slice_set vs id (listed with_list c v b)) };
 
     // So does a load of the first word by any pass.

@@ -1,5 +1,5 @@
-//! Waiters, and what a pass knows of their list. But for `Waiter` no value of these types is ever made:
-//! they exist in proofs alone.
+//! Waiters, and what a pass knows of their list. But for `Waiter` no value of these types is ever
+//! made: they exist in proofs alone.
 
 /// One who waits for a lock.
 #[derive(Clone, Copy, Debug, PartialEq, Eq)]
@@ -19,7 +19,8 @@ pub enum Change {
     Leave(u32),
 }
 
-/// What concerns the words of the list. A clause reads an array of length 0 as a list of any length.
+/// What concerns the words of the list. A clause reads an array of length 0 as a list of any
+/// length.
 pub struct ListHand {
     /// While it holds the spin lock that it took for the `since`th time: the list, and its words.
     pub list: [Waiter; 0],

@@ -1,6 +1,6 @@
-//! The words of a list, and the single steps on them: the code of the first waiter, how many there are,
-//! and for each task a ticket. A ticket is 0 where the task isn't in the list, else twice its place,
-//! from 1, and 1 more where it waits as a writer.
+//! The words of a list, and the single steps on them: the code of the first waiter, how many there
+//! are, and for each task a ticket. A ticket is 0 where the task isn't in the list, else twice its
+//! place, from 1, and 1 more where it waits as a writer.
 ghost use Rattle.std.specs.Prelude.{◌≡◌, ◌<◌, ◌≤◌, ◌+◌, ◌-◌, ℕ, slice_index};
 ghost use Rattle.lock_core.specs.Handles.{IsLatest, view_of, past_of, SitsAt, KeepsPast, SaysSame};
 ghost use Rattle.lock_core.specs.Pasts.{FoundAt};

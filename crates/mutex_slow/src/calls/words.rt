@@ -47,8 +47,8 @@ impl<O: Object> Mutex<O> {
         self.site.set_word(&mut pass.pass, at, value);
     }
 
-    /// Records the next call of the pass's task, which changes the object: the guarded words store what
-    /// it leaves of the state after the log. The call is appended to the log.
+    /// Records the next call of the pass's task, which changes the object: the guarded words store
+    /// what it leaves of the state after the log. The call is appended to the log.
     pub fn commit(&self, pass: &mut MutexPass<O>, call: u32, reply: Reply)
         requires own { SitsAt self.now pass.old }
         requires held { (hand_in pass.old).held ≡ Alone }
@@ -66,9 +66,9 @@ impl<O: Object> Mutex<O> {
         self.site.commit(&mut pass.pass, call, reply);
     }
 
-    /// Records the next call of the pass's task, which changes nothing. Where the pass holds, the call
-    /// reads, and stands where the log ends. Where it holds nothing, the reply says why: the call stands
-    /// where the pass saw the log end.
+    /// Records the next call of the pass's task, which changes nothing. Where the pass holds, the
+    /// call reads, and stands where the log ends. Where it holds nothing, the reply says why: the
+    /// call stands where the pass saw the log end.
     pub fn note(&self, pass: &mut MutexPass<O>, call: u32, reply: Reply)
         requires own { SitsAt self.now pass.old }
         requires numbered { IsSome (hand_in pass.old).task }
