@@ -48,3 +48,7 @@ TriesLawfully m me Fail = Unit {0}
 abbrev pub ReleasesLawfully : Mutex → Option ℕ → Type 0
 ReleasesLawfully m None = Unit {0}
 ReleasesLawfully m (Some word) = States word (record m { holder = None })
+
+-- the word that a holder leaves which picks this task, or nobody
+abbrev pub HandsOverLawfully : Mutex → Option ℕ → ℕ → Type 0
+HandsOverLawfully m first word = States word (record m { holder = None; picked = first })

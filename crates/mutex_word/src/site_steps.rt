@@ -57,7 +57,7 @@ pub fn take_free<H: OwnerHost>(site: &Site<H>, pass: &mut Pass<H>) -> Result<(),
     ensures last { IsLatest pass.new }
     ensures took { IfOk result (λ _.
         TakesOwner H.turned H.O.object (plan_of site.now) (view_of pass.old) (view_of pass.new)) }
-    ensures missed { IfErr result (λ word. MissesOwner (view_of pass.old) word (view_of pass.new)) }
+    ensures missed { IfErr result (λ w. MissesOwner (view_of pass.old) w (view_of pass.new)) }
     ensures word { IfErr result (λ word. (word < 8 * MAX_TASKS + 8) × H.may_be word) }
     ensures free { IfOk result (λ _. FoundAt H.OWNER 0 (past_of pass.new)) }
     ensures found { IfErr result (λ word. FoundAt H.OWNER word (past_of pass.new)) }

@@ -1,10 +1,8 @@
 //! What one step makes of an owner word.
 ghost use Rattle.std.specs.Prelude.{◌≡◌, ◌<◌, ℕ, IfSome, None, Some};
-ghost use Rattle.word_bits.specs.declared.owner.Owner.{Owner as State};
-ghost use Rattle.word_bits.specs.OwnerWord.{IsOwner, owner_word};
-ghost use Rattle.mutex_word.specs.Owners.{IsOwnerWord, Mutex, States};
+ghost use Rattle.mutex_word.specs.Owners.{ForOwner, IsOwnerWord, Mutex, States};
 ghost use Rattle.mutex_word.specs.WordSteps.{first_of, handoff_of, release_of, try_of};
-ghost use Rattle.mutex_word.specs.WordSteps.{ReleasesLawfully, TriesLawfully};
+ghost use Rattle.mutex_word.specs.WordSteps.{HandsOverLawfully, ReleasesLawfully, TriesLawfully};
 
 use word_bits::{MAX_TASKS, Owner};
 
@@ -24,7 +22,7 @@ pub enum Try {
 pub fn try_step(word: u64, me: u32, ask: bool) -> Try
     requires word { IsOwnerWord word }
     requires me { me < MAX_TASKS }
-    ensures table { (o : State) → IsOwner o → owner_word o ≡ word → result ≡ try_of o me ask }
+    ensures table { ForOwner word (λ o. result ≡ try_of o me ask) }
     ensures lawful { (m : Mutex) → States word m → TriesLawfully m me result }
 {
     let Some(owner) = Owner::unpack(word) else {
@@ -51,7 +49,7 @@ pub fn try_step(word: u64, me: u32, ask: bool) -> Try
 /// The first part of the kernel's `__mutex_unlock_slowpath`.
 pub fn release_step(word: u64) -> Option<u64>
     requires { IsOwnerWord word }
-    ensures flags { (o : State) → IsOwner o → owner_word o ≡ word → result ≡ release_of o }
+    ensures flags { ForOwner word (λ o. result ≡ release_of o) }
     ensures lawful { (m : Mutex) (me : ℕ) → States word m → m.holder ≡ Some me →
         ReleasesLawfully m result }
 {
@@ -68,9 +66,9 @@ pub fn release_step(word: u64) -> Option<u64>
 pub fn handoff_word(word: u64, first: Option<u32>) -> u64
     requires word { IsOwnerWord word }
     requires first { IfSome first (λ task. task < MAX_TASKS) }
-    ensures picks { (o : State) → IsOwner o → owner_word o ≡ word → result ≡ handoff_of o first }
+    ensures picks { ForOwner word (λ o. result ≡ handoff_of o first) }
     ensures lawful { (m : Mutex) (me : ℕ) → States word m → m.holder ≡ Some me →
-        first ≡ first_of m.waiting → States result (record m { holder = None; picked = first }) }
+        first ≡ first_of m.waiting → HandsOverLawfully m first result }
 {
     let Some(owner) = Owner::unpack(word) else {
         return word;
