@@ -1,5 +1,5 @@
 -- The steps on a site's words, from the laws of `SiteRule`.
-use Rattle.std.proofs.Common.{◌-◌, ◌≡◌, ◌≢◌, ℕ, ◌+◌, inl, inr, List, [], ◌∷◌, ◌++◌, get_or, map, set, drop, None, Some, refl, sym, ap, subst, ◌∙◌, arith, ◌%◌, ◌<◌, ◌≤◌}
+use Rattle.std.proofs.Common.{◌-◌, ◌≡◌, ◌≢◌, ℕ, ◌+◌, inl, inr, List, [], ◌∷◌, ◌++◌, get_or, map, set, drop, None, Some, refl, sym, ap, subst, ◌∙◌, arith, ◌%◌, ◌<◌}
 use Rattle.std.proofs.lemmas.List.{get_or-drop, drop-set-add}
 use mathlib.Core.Option.{some, none}
 use mathlib.Core.List.{map-append}
@@ -19,7 +19,7 @@ use Rattle.lock_core.specs.declared.view.Held.TheVariants.{No}
 use Rattle.lock_core.specs.declared.layout.TheConstants.{LOCK_WORDS}
 use Rattle.lock_core.specs.Layout.{SiteWords, lay, site}
 use Rattle.lock_core.specs.Views.{SpinStays, hand_of, handed, seated, forgot, with_number, ticked, split_off, merged, spent, stranger, gathered}
-use Rattle.lock_core.specs.Sites.{SiteKept, SiteStep}
+use Rattle.lock_core.specs.Sites.{HandGoes, SiteKept, SiteStep}
 use Rattle.lock_core.specs.Moves.{Goes, Lets, KeepsHold, SiteMove}
 use Rattle.lock_core.specs.MoveLaws.{set-moves, tick-moved, seat-moved, hand-moved, leaves-site}
 use Rattle.lock_core.specs.Plays.{Found, PutBy, Begun, Heeded}
@@ -78,7 +78,7 @@ module _ {E Call : Type 0} (o : Obj Call) (unavailable : Unavailable) (size : �
 
   -- a load that changes the hand, by what it finds
   pub heeds : (becomes : Hand → ℕ → Hand → Type 0) (slots id at : ℕ) (me : M)
-      → ((s : List ℕ) (hs : List Hand) → Kept (lay k s) hs → get_elem? hs id ≡ some me.0.hand → (g : Hand) × becomes me.0.hand (get_or s at 0) g × KeepsHold rests me.0 g × Kept (lay k s) (set hs id g) × (me.0.hand.misses ≤ g.misses))
+      → ((s : List ℕ) (hs : List Hand) → Kept (lay k s) hs → get_elem? hs id ≡ some me.0.hand → (g : Hand) × becomes me.0.hand (get_or s at 0) g × KeepsHold rests me.0 g × Kept (lay k s) (set hs id g) × HandGoes me.0.hand g)
       → Lets holds moves slots id me (LOCK_WORDS + at) Load (Heeded becomes (step slots (LOCK_WORDS + at) 0 0 none) me)
   heeds becomes slots id at me law s h _ there small = let ws = s.words in let vs = s.views in let v = me.0 in let n : ℕ = get_or ws (LOCK_WORDS + at) 0 in let same : set ws (LOCK_WORDS + at) n ≡ ws = set-get_or ws (LOCK_WORDS + at) 0 in
       let t = law (drop LOCK_WORDS ws) (map hand_of vs) (kept ws vs h) (at_map hand_of vs id v there) in let w : View E = handed v t.0 in (

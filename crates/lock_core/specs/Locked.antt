@@ -1,5 +1,5 @@
 -- What the word of a lock states of its passes, whatever else its table has.
-use Rattle.std.specs.Prelude.{◌≡◌, ◌≢◌, ℕ, ◌+◌, ◌/◌, ◌%◌, ◌^◌, ◌<◌, ◌≤◌, List, [], Contains, slice_index, Some}
+use Rattle.std.specs.Prelude.{◌≡◌, ◌≢◌, ℕ, ◌+◌, ◌/◌, ◌%◌, ◌^◌, ◌<◌, ◌≤◌, List, [], Contains, slice_index, Some, None}
 use mathlib.Core.Option.{some}
 use lib.ListN.{get_elem?}
 use Rattle.word_bits.specs.Objects.{Obj}
@@ -62,7 +62,15 @@ pub record IsLockedThen {Call : Type 0} (o : Obj Call) (kind : Kind) (size : ℕ
   pub are : waits k m waiting
   pub states : WordStates kind (slice_index m.words at) m.hands m.spins waiting
 
--- one pass led from the first moment to the second, in one counted step that did to the site's words what every step of a site does
+-- all that is known of the pass of this number is as it was
+pub record SamePass (id : ℕ) (x y : Moment) : Type 0 where
+  pub hand : get_elem? y.hands id ≡ get_elem? x.hands id
+  pub spin : get_elem? y.spins id ≡ get_elem? x.spins id
+  pub steps : get_elem? y.steps id ≡ get_elem? x.steps id
+  pub fronts : get_elem? y.fronts id ≡ get_elem? x.fronts id
+  pub marks : get_elem? y.marks id ≡ get_elem? x.marks id
+
+-- one pass led from the first moment to the second, in one counted step that did to the site's words what every step of a site does; every other pass that is still there is as it was
 pub record IsSiteStep (k : Plan) (x y : Moment) : Type 0 where
   pub id : ℕ
   pub before : Hand
@@ -73,3 +81,4 @@ pub record IsSiteStep (k : Plan) (x y : Moment) : Type 0 where
   pub had : ℕ
   pub had_steps : get_elem? x.steps id ≡ some had
   pub has_steps : get_elem? y.steps id ≡ some (had + 1)
+  pub others : (j : ℕ) (h g : Hand) → j ≢ id → get_elem? x.hands j ≡ some h → get_elem? y.hands j ≡ some g → g.plan ≢ None → SamePass j x y

@@ -1,18 +1,29 @@
 -- Each step of a run is one of the site's, as its moments tell.
 use Rattle.std.proofs.Common.{◌≡◌, ◌≢◌, ℕ, List, [], ◌∷◌, map, sym, ap, ◌∙◌, subst, arith}
 use mathlib.Core.Option.{some}
+use lib.ListN.{get_elem?}
 use Rattle.atomic_table.proofs.Lists.{at_map}
 use Rattle.word_bits.specs.Histories.{Plan}
 use Rattle.lock_core.specs.declared.view.Moment.{Moment}
+use Rattle.lock_core.specs.declared.view.View.{View}
+use Rattle.lock_core.specs.declared.view.Hand.{Hand}
 use Rattle.lock_core.specs.declared.view.Held.TheVariants.{No, Shared, Alone}
-use Rattle.lock_core.specs.Views.{hand_of, held_weight}
-use Rattle.lock_core.specs.Pasts.{Instant, moment, steps_of, Paced, Ran}
+use Rattle.lock_core.specs.Parts.{at_unmap}
+use Rattle.lock_core.specs.Views.{hand_of, spin_of, held_weight}
+use Rattle.lock_core.specs.Pasts.{Instant, fronts_of, marks_of, moment, steps_of, Paced, Ran}
 use Rattle.lock_core.specs.Stated.{IsSiteMove}
 use Rattle.lock_core.specs.Kinds.{Kind, mutex, semaphore, shares}
-use Rattle.lock_core.specs.Locked.{IsSiteStep}
+use Rattle.lock_core.specs.Locked.{IsSiteStep, SamePass}
 
 module _ {E : Type 0} (marks : E → List ℕ) (k : Plan) where
-  pub move-steps : (x y : Instant E) → IsSiteMove k x y → IsSiteStep k (moment marks x) (moment marks y)
+  -- a view that stays leaves all that the moments have of its pass
+  pub same-view : (x y : Instant E) (j : ℕ) (v u : View E) → get_elem? x.views j ≡ some v → get_elem? y.views j ≡ some u → u ≡ v → SamePass j (moment marks x) (moment marks y)
+  same-view x y j v u at at' same = record { hand = part hand_of; spin = part spin_of; steps = part steps_of; fronts = part fronts_of; marks = part (marks_of marks) }
+    where
+      part : {A : Type 0} (f : View E → A) → get_elem? (map f y.views) j ≡ get_elem? (map f x.views) j
+      part f = at_map f y.views j u at' ∙ (ap (λ (w : View E). some (f w)) same ∙ sym (at_map f x.views j v at))
+
+  abbrev pub move-steps : (x y : Instant E) → IsSiteMove k x y → IsSiteStep k (moment marks x) (moment marks y)
   move-steps x y m = record {
     id = m.0;
     before = m.1.before.hand;
@@ -23,6 +34,8 @@ module _ {E : Type 0} (marks : E → List ℕ) (k : Plan) where
     had = m.1.before.steps;
     had_steps = at_map steps_of x.views m.0 m.1.before m.1.at;
     has_steps = at_map steps_of y.views m.0 m.1.after m.1.at' ∙ ap some m.1.moved.counts;
+    others = λ j h g apart at at' live. let v = at_unmap hand_of x.views j h at in let u = at_unmap hand_of y.views j g at' in
+        same-view x y j v.0 u.0 v.1 u.1 (m.1.others j v.0 u.0 apart v.1 u.1 (λ none. live (ap {A = Hand} (λ h. h.plan) (sym u.2) ∙ none)));
   }
 
   run-steps : (h : List (Instant E)) → Paced (IsSiteMove k) h → Paced (IsSiteStep k) (map (moment marks) h)

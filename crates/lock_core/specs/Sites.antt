@@ -138,9 +138,14 @@ Grows w w' = (w.len ≤ w'.len) × (take w.len w'.entries ≡ take w.len w.entri
 abbrev pub SawSince : Hand → ℕ → Type 0
 SawSince h word = (saw : Saw) × (h.saw ≡ Some saw) × (saw.word ≡ word) × (h.last < saw.step)
 
--- what a step of a pass with the first hand, which then has the second, does to the site's words
+-- what every step of a pass does to its hand: its misses don't fall, and what its last release left stays while it holds as before
+pub record HandGoes (h g : Hand) : Type 0 where
+  pub misses : h.misses ≤ g.misses
+  pub freed : g.held ≡ h.held → g.freed ≡ h.freed
+
+-- what a step of a pass with the first hand, which then has the second, does to the site's words and to the hand
 pub record SiteStep (w w' : SiteWords) (h g : Hand) : Type 0 where
   pub grows : Grows w w'
   -- a record which comes and says that the lock was taken has a word that the pass saw
   pub busy : (j : ℕ) (r : Rec) (word : ℕ) → slice_index w'.recs j ≢ slice_index w.recs j → IsRec r → slice_index w'.recs j ≡ rec_word r → r.reply ≡ Busy word → SawSince h word
-  pub misses : h.misses ≤ g.misses
+  pub hand : HandGoes h g

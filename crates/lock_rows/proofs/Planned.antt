@@ -9,23 +9,11 @@ use Rattle.lock_core.specs.Plans.{appended, calls_in}
 use Rattle.lock_core.specs.Records.{row, IsPlan, IsCallOrSignal}
 use Rattle.lock_core.proofs.RowLaws.{none-some, same-some, get-either, row-appended, row-beside}
 
-pub empty-calls : (n : ℕ) → calls_in {X = CallWords} (replicate n []) ≡ 0
-empty-calls zero = refl
-empty-calls (suc n) = let e = empty-calls n in omega arith
-
-empty-row : (n t : ℕ) → row {X = CallWords} (replicate n []) t ≡ []
-empty-row zero t = refl
-empty-row (suc n) zero = refl
-empty-row (suc n) (suc t) = empty-row n t
-
 only-one : (w x : CallWords) (j : ℕ) → slice_get (w ∷ []) j ≡ Some x → w ≡ x
 only-one w x zero e = same-some w x e
 only-one w x (suc j) e = none-some x e
 
 module _ {Call : Type 0} (o : Obj Call) where
-  pub empty-plan : (n : ℕ) → IsPlan o (replicate n [])
-  empty-plan n t c w at = none-some w (ap (λ (ws : List CallWords). slice_get ws c) (sym (empty-row n t)) ∙ at)
-
   pub plan-appended : (k : Plan) (t : ℕ) (w : CallWords) → t < length k → IsPlan o k → IsCallOrSignal o w → IsPlan o (appended k t w)
   plan-appended k t w inside plan is u c x at = dite (ℕ_discrete u t)
       (λ same. ⊎_elim (λ (l : slice_get (row k t) c ≡ Some x). plan t c x l) (λ (r : (j : ℕ) × (c ≡ length (row k t) + j) × (slice_get (w ∷ []) j ≡ Some x)). subst (IsCallOrSignal o) (only-one w x r.0 r.2) is)

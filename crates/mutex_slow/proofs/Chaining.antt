@@ -9,11 +9,12 @@ use Rattle.word_bits.specs.Objects.{Obj}
 use Rattle.word_bits.specs.Histories.{Plan}
 use Rattle.lock_core.specs.declared.view.Moment.{Moment}
 use Rattle.lock_core.specs.declared.view.Marks.{Marks}
-use Rattle.lock_core.specs.Pasts.{Instant, Moves, marks_of, steps_of, Paced, Ran, instant, moment}
+use Rattle.lock_core.specs.LockedLaws.{move-steps}
+use Rattle.lock_core.specs.Pasts.{Instant, Moves, marks_of, Paced, Ran, instant, moment}
 use Rattle.lock_core.specs.Records.{bit}
 use Rattle.lock_core.specs.Spins.{holds_in}
 use Rattle.lock_core.specs.Totals.{total}
-use Rattle.lock_core.specs.Views.{hand_of, spin_of}
+use Rattle.lock_core.specs.Views.{spin_of}
 use Rattle.lock_core.proofs.HandLaws.{false-or-true}
 use Rattle.wait_list.specs.declared.view.Waiter.{Waiter}
 use Rattle.wait_list.specs.declared.view.Change.{Change}
@@ -102,17 +103,7 @@ module _ (id : ℕ) (ws : List ℕ) (vs : List V) (v : V) (at : get_elem? vs id 
 
 mutex-step : (k : Plan) (id : ℕ) (ws us : List ℕ) (vs vs' : List V) (m : MutexMoves k id ws vs us vs') (l l' : List Waiter) → m.list.list ≡ l → l' ≡ m.list.list' → IsMutexStep k (moment standing (instant ws vs)) l (moment standing (instant us vs')) l'
 mutex-step k id ws us vs vs' m l l' old new = let v = m.site.before in record {
-  by = record {
-    id = id;
-    before = v.hand;
-    after = m.site.after.hand;
-    at = at_map hand_of vs id v m.site.at;
-    at' = at_map hand_of vs' id m.site.after m.site.at';
-    steps = m.site.moved.site;
-    had = v.steps;
-    had_steps = at_map steps_of vs id v m.site.at;
-    has_steps = at_map steps_of vs' id m.site.after m.site.at' ∙ ap some m.site.moved.counts;
-  };
+  by = move-steps standing k (instant ws vs) (instant us vs') (id, m.site);
   change = m.list.change;
   allowed = subst (Allowed m.list.change) old m.list.allowed;
   made = made-by id ws vs v m.site.at m.list.change m.own m.list.made;

@@ -14,7 +14,7 @@ use Rattle.lock_core.specs.Locked.{HasPass, IsWaitLockFree}
 use Rattle.lock_core.specs.SpinFrames.{when}
 use Rattle.lock_core.specs.Spins.{holds_in}
 use Rattle.lock_core.specs.Totals.{total, total-at, total-two}
-use Rattle.lock_core.specs.Parts.{Each}
+use Rattle.lock_core.specs.Parts.{Each, at_unmap}
 use Rattle.lock_core.specs.Records.{bit}
 use Rattle.lock_core.specs.Views.{hand_of, spin_of, held_weight, held_of, is_number}
 use Rattle.lock_core.specs.declared.view.Marks.{Marks}
@@ -28,7 +28,7 @@ use Rattle.wait_list.specs.declared.view.Waiter.{Waiter}
 use Rattle.wait_list.specs.Lists.{Part, PartOk, changes_of, counted, first_code, list_part}
 use Rattle.mutex_slow.specs.Mutexes.{V, Flagged, Kept, MutexKept, list_of, owner_in, point_of, queued_of, standing}
 use Rattle.mutex_slow.specs.CoupledLaws.{is-in, not-in, point-held}
-use Rattle.mutex_slow.specs.MutexLaws.{apart, at_unmap}
+use Rattle.mutex_slow.specs.MutexLaws.{apart}
 use Rattle.mutex_slow.specs.Stated.{line_marks, IsListed, IsMutexThen}
 
 -- who holds, by a word that picks nobody

@@ -17,14 +17,14 @@ use Rattle.lock_core.specs.declared.layout.TheConstants.{LOCK_WORDS, SPIN_WORDS}
 use Rattle.lock_core.specs.Records.{bit}
 use Rattle.lock_core.specs.Layout.{SiteWords, fresh, site, lay, width}
 use Rattle.lock_core.specs.Views.{SpinHolds, SpinStays, hand_of, spin_part, part_with, no_part, handed, seated, ticked, first, split_off, merged, spent, stranger, named_of, is_number, HoldsNothing}
-use Rattle.lock_core.specs.Sites.{SiteKept}
+use Rattle.lock_core.specs.Sites.{HandGoes, SiteKept}
 use Rattle.lock_core.specs.Moves.{Goes, KeepsHold, SiteMove}
-use Rattle.lock_core.specs.MoveLaws.{set-moves, hold-moved, spin-moved}
+use Rattle.lock_core.specs.MoveLaws.{hand-stays, set-moves, hold-moved, spin-moved}
 use Rattle.lock_core.specs.SpinFrames.{when, holds_at, holds_of}
 use Rattle.lock_core.specs.Spins.{SpinKept, SpinGoes, SpinFrees, SpinMoves, spun, holds_in, frame_of}
 use Rattle.lock_core.specs.SpinLaws.{spin-same, spin-renames, spin-comes, spin-ends, spin-opens}
 use Rattle.lock_core.specs.Totals.{total, total-two}
-use Rattle.lock_core.specs.Parts.{keep_part, set_part, set-there, snoc_part}
+use Rattle.lock_core.specs.Parts.{at_unmap, keep_part, set_part, set-there, snoc_part}
 use Rattle.lock_core.specs.Regions.{part-in, part-above, part-below, part-at, wide-part}
 use Rattle.lock_core.proofs.HandLaws.{not-both, false-or-true, is_number-here}
 use Rattle.mutex_word.specs.declared.host.Turn.{Turn}
@@ -106,12 +106,6 @@ may-on (Leave t) v b m = m
 some-of : {X : Type 0} (f : X → ℕ) (xs : List X) → 0 < total f xs → (j : ℕ) × (x : X) × (get_elem? xs j ≡ some x) × (0 < f x)
 some-of f [] l = absurd (omega (arith, l))
 some-of f (x ∷ xs) l = elim (native.Mathlib.Decide.dec_le (f x) 0) [ yes none ↦ let r = some-of f xs (omega (arith, l, none)) in (suc r.0, r.1, r.2, r.3) | no has ↦ (zero, x, refl, omega (arith, has)) ]
-
--- a place of a map
-pub at_unmap : {X Y : Type 0} (f : X → Y) (xs : List X) (j : ℕ) (y : Y) → get_elem? (map f xs) j ≡ some y → (x : X) × (get_elem? xs j ≡ some x) × (f x ≡ y)
-at_unmap f [] j y e = absurd (some-ne-none y (sym e))
-at_unmap f (x ∷ xs) zero y e = (x, refl, some-injective (f x) y e)
-at_unmap f (x ∷ xs) (suc j) y e = at_unmap f xs j y e
 
 -- a place of a list stays where one stands behind it
 still-there : (vs : List V) (x v : V) (j : ℕ) → get_elem? vs j ≡ some v → get_elem? (vs ++ x ∷ []) j ≡ some v
@@ -227,14 +221,14 @@ module _ {Call : Type 0} (o : Obj Call) (size : ℕ) where
       (coupled-spins (owner_in ws) l vs id v r.coupled at s turn.entries (λ has out. (may (has, out)).0)) tt tt tt
 
   -- a step on the owner word leaves everything but the word and the hand, once the coupled facts are there
-  owns-by : (k : Plan) (ws : List ℕ) (vs : List V) (l : List Waiter) (id n : ℕ) (v : V) (h : Hand) (t : Turn) → Queue k ws vs l → get_elem? vs id ≡ some v → h.task ≡ v.hand.task → v.hand.misses ≤ h.misses → OwnKept n (set (map hand_of vs) id h) → Site k ws (set (map hand_of vs) id h)
+  owns-by : (k : Plan) (ws : List ℕ) (vs : List V) (l : List Waiter) (id n : ℕ) (v : V) (h : Hand) (t : Turn) → Queue k ws vs l → get_elem? vs id ≡ some v → h.task ≡ v.hand.task → HandGoes v.hand h → OwnKept n (set (map hand_of vs) id h) → Site k ws (set (map hand_of vs) id h)
       → Coupled n l (set vs id (turns turned t v h)) → (Leaves (owner_in ws) n → PicksFirst n l) → (4 ≤ owner_in ws % 8 → (n ≡ owner_in ws) ⊎ TookUp id vs (owner_in ws) n)
       → (Asks (owner_in ws) n → IsFirstTask v.hand.task l) → (HasHandoff (owner_in ws) → HasHandoff n ⊎ AnswersHandoff v.hand n l) → KeepsLeft v.hand h n → Go k id ws vs (set ws owner_at n) (set vs id (turns turned t v h))
-  owns-by k ws vs l id n v h t r at task misses own there coupled hands picks asks stays left = let w : V = turns turned t v h in let us : List ℕ = set ws owner_at n in let wide = r.wide in let same : site k us ≡ site k ws = ap (lay k) (drop-set-lt LOCK_WORDS ws owner_at n (omega arith)) in
+  owns-by k ws vs l id n v h t r at task counts own there coupled hands picks asks stays left = let w : V = turns turned t v h in let us : List ℕ = set ws owner_at n in let wide = r.wide in let same : site k us ≡ site k ws = ap (lay k) (drop-set-lt LOCK_WORDS ws owner_at n (omega arith)) in
       let word : owner_in us ≡ n = get_or-set_same ws owner_at n 0 (omega (arith, wide)) in
       goes k ws vs l id v r at us (set vs id w) Stay (length-set ws owner_at n ∙ wide)
       (subst (λ (z : SiteWords). SiteKept o owned size k z (map hand_of (set vs id w))) (sym same) (set_part hand_of (Site k ws) vs id w there))
-      (subst (λ (z : SiteWords). SiteMove id (site k ws) vs z (set vs id w)) (sym same) (set-moves id (site k ws) (site k ws) vs v w at (hold-moved (site k ws) v h (turned t v) misses))) w (set-there vs id v w at)
+      (subst (λ (z : SiteWords). SiteMove id (site k ws) vs z (set vs id w)) (sym same) (set-moves id (site k ws) (site k ws) vs v w at (hold-moved (site k ws) v h (turned t v) counts))) w (set-there vs id v w at)
       (subst (λ (z : List ℕ). SpinMoves id (spin_words ws) (map spin_part vs) z (map spin_part (set vs id w))) (sym (part-below ws 0 SPIN_WORDS owner_at n (omega arith)))
       (keep_part spin_part (SpinMoves id (spin_words ws) (map spin_part vs) (spin_words ws)) vs id v w at (λ i. record { task = task i; spin = v.spin }) (spin-same id (spin_words ws) (map spin_part vs) r.spin)))
       (subst (λ (z : ℕ). OwnKept z (map hand_of (set vs id w))) (sym word) (set_part hand_of (OwnKept n) vs id w own))
@@ -246,26 +240,26 @@ module _ {Call : Type 0} (o : Obj Call) (size : ℕ) where
       (subst (λ (z : ℕ). HasHandoff (owner_in ws) → HasHandoff z ⊎ AnswersHandoff v.hand z l) (sym word) stays)
       (subst (KeepsLeft v.hand h) (sym word) left) (let e = turned-appends t v in omega (arith, e))
 
-  pub mutex-owns : (k : Plan) (ws : List ℕ) (vs : List V) (id n : ℕ) (v : V) (h : Hand) (t : Turn) → Kept o size k ws vs → get_elem? vs id ≡ some v → h.task ≡ v.hand.task → v.hand.misses ≤ h.misses → KeepsLeft v.hand h n → may_own t v (owner_in ws) n → OwnKept n (set (map hand_of vs) id h) → Site k ws (set (map hand_of vs) id h)
+  pub mutex-owns : (k : Plan) (ws : List ℕ) (vs : List V) (id n : ℕ) (v : V) (h : Hand) (t : Turn) → Kept o size k ws vs → get_elem? vs id ≡ some v → h.task ≡ v.hand.task → HandGoes v.hand h → KeepsLeft v.hand h n → may_own t v (owner_in ws) n → OwnKept n (set (map hand_of vs) id h) → Site k ws (set (map hand_of vs) id h)
       → Go k id ws vs (set ws owner_at n) (set vs id (turns turned t v h))
-  mutex-owns k ws vs id n v h Fail (l, r) at task misses left may own there = let m : ℕ = owner_in ws in
-      owns-by k ws vs l id n v h Fail r at task misses own there (subst (λ (z : ℕ). Coupled z l (set vs id (turns turned Fail v h))) (sym may.0) (coupled-fails m l vs id v r.coupled at (apart k ws vs l id v r at) may.1.0 may.1.1 may.1.2 h task)) (λ leaves. absurd (leaves.3 (ap (λ (z : ℕ). z / 8) may.0))) (λ _. inl may.0)
+  mutex-owns k ws vs id n v h Fail (l, r) at task counts left may own there = let m : ℕ = owner_in ws in
+      owns-by k ws vs l id n v h Fail r at task counts own there (subst (λ (z : ℕ). Coupled z l (set vs id (turns turned Fail v h))) (sym may.0) (coupled-fails m l vs id v r.coupled at (apart k ws vs l id v r at) may.1.0 may.1.1 may.1.2 h task)) (λ leaves. absurd (leaves.3 (ap (λ (z : ℕ). z / 8) may.0))) (λ _. inl may.0)
       (λ asked. let less = asked.0 in let more : 2 ≤ m % 4 = subst HasHandoff may.0 asked.1 in absurd (omega (arith, less, more))) (λ asked. inl (subst HasHandoff (sym may.0) asked)) left
-  mutex-owns k ws vs id n v h Take (l, r) at task misses left may own there = let m : ℕ = owner_in ws in let nobody = r.own.nobody in let flags = r.own.flags in ⊎_elim
-      (λ (q : (m < 8) × (n ≡ 8 * (may.1.0 + 1) + m)). let free = q.0 in let few = nobody free in owns-by k ws vs l id n v h Take r at task misses own there (coupled-takes-free m l vs id v r.coupled at (apart k ws vs l id v r at) may.1.0 n h q.0 (nobody q.0) q.1 task) (λ leaves. let big = leaves.2 in absurd (omega (arith, big, free))) (λ high. absurd (omega (arith, high, few)))
+  mutex-owns k ws vs id n v h Take (l, r) at task counts left may own there = let m : ℕ = owner_in ws in let nobody = r.own.nobody in let flags = r.own.flags in ⊎_elim
+      (λ (q : (m < 8) × (n ≡ 8 * (may.1.0 + 1) + m)). let free = q.0 in let few = nobody free in owns-by k ws vs l id n v h Take r at task counts own there (coupled-takes-free m l vs id v r.coupled at (apart k ws vs l id v r at) may.1.0 n h q.0 (nobody q.0) q.1 task) (λ leaves. let big = leaves.2 in absurd (omega (arith, big, free))) (λ high. absurd (omega (arith, high, few)))
       (λ asked. let more = asked.1 in let is = q.1 in absurd (omega (arith, more, is, few))) (λ asked. absurd (omega (arith, asked, few))) left)
-      (λ (q : (4 ≤ m % 8) × (m / 8 ≡ may.1.0 + 1) × (n + 4 ≡ m)). let high = q.0 in owns-by k ws vs l id n v h Take r at task misses own there (coupled-takes-picked m l vs id v r.coupled at (apart k ws vs l id v r at) n h q.0 flags q.2 task) (λ leaves. let low = leaves.0 in absurd (omega (arith, low, high))) (λ _. inr (v, at, (may.1.0, may.1.1, q.1), q.2))
+      (λ (q : (4 ≤ m % 8) × (m / 8 ≡ may.1.0 + 1) × (n + 4 ≡ m)). let high = q.0 in owns-by k ws vs l id n v h Take r at task counts own there (coupled-takes-picked m l vs id v r.coupled at (apart k ws vs l id v r at) n h q.0 flags q.2 task) (λ leaves. let low = leaves.0 in absurd (omega (arith, low, high))) (λ _. inr (v, at, (may.1.0, may.1.1, q.1), q.2))
       (λ asked. let more = asked.1 in let is = q.2 in absurd (omega (arith, more, is, high, flags))) (λ asked. absurd (omega (arith, asked, high, flags))) left)
       may.1.2
-  mutex-owns k ws vs id n v h Ask (l, r) at task misses left may own there = let m : ℕ = owner_in ws in let few = may.2.0 in let is = may.2.2 in
-      owns-by k ws vs l id n v h Ask r at task misses own there (coupled-asks m l vs id v r.coupled at (apart k ws vs l id v r at) n h may.0 may.1 may.2.0 may.2.2 task) (λ leaves. absurd (leaves.3 (omega (arith, few, is)))) (λ high. absurd (omega (arith, high, few)))
+  mutex-owns k ws vs id n v h Ask (l, r) at task counts left may own there = let m : ℕ = owner_in ws in let few = may.2.0 in let is = may.2.2 in
+      owns-by k ws vs l id n v h Ask r at task counts own there (coupled-asks m l vs id v r.coupled at (apart k ws vs l id v r at) n h may.0 may.1 may.2.0 may.2.2 task) (λ leaves. absurd (leaves.3 (omega (arith, few, is)))) (λ high. absurd (omega (arith, high, few)))
       (λ _. (r.coupled.each id v at).first may.0) (λ asked. absurd (omega (arith, asked, few))) left
-  mutex-owns k ws vs id n v h Free (l, r) at task misses left may own there = let m : ℕ = owner_in ws in let few = may.1 in
-      owns-by k ws vs l id n v h Free r at task misses own there (coupled-frees m l vs id v r.coupled at (apart k ws vs l id v r at) n h may.1 may.2 task) (λ leaves. let x = leaves.1 in absurd (omega (arith, x, few))) (λ high. absurd (omega (arith, high, few)))
+  mutex-owns k ws vs id n v h Free (l, r) at task counts left may own there = let m : ℕ = owner_in ws in let few = may.1 in
+      owns-by k ws vs l id n v h Free r at task counts own there (coupled-frees m l vs id v r.coupled at (apart k ws vs l id v r at) n h may.1 may.2 task) (λ leaves. let x = leaves.1 in absurd (omega (arith, x, few))) (λ high. absurd (omega (arith, high, few)))
       (λ asked. let more = asked.1 in let is = may.2 in absurd (omega (arith, more, is, few))) (λ asked. absurd (omega (arith, asked, few))) left
-  mutex-owns k ws vs id n v h HandOn (l, r) at task misses left may own there = let m : ℕ = owner_in ws in let kn = known k ws vs l id v r at may.2.0 in let a = apart k ws vs l id v r at in let is : v.ext.list.list ≡ l = kn.0 in let few = may.3 in
+  mutex-owns k ws vs id n v h HandOn (l, r) at task counts left may own there = let m : ℕ = owner_in ws in let kn = known k ws vs l id v r at may.2.0 in let a = apart k ws vs l id v r at in let is : v.ext.list.list ≡ l = kn.0 in let few = may.3 in
       let none_is : length l ≡ 0 → n ≡ m % 2 = λ z. may.4.0 (ap length is ∙ z) in let some_is : 0 < length l → n ≡ 8 * first_code l + 4 + m % 2 = λ lo. subst (λ (y : List Waiter). 0 < length y → n ≡ 8 * first_code y + 4 + m % 2) is may.4.1 lo in
-      owns-by k ws vs l id n v h HandOn r at task misses own there (coupled-hands-over m l vs id v r.coupled at a n h may.2.0.0 may.2.2 may.3 none_is some_is task may.1)
+      owns-by k ws vs l id n v h HandOn r at task counts own there (coupled-hands-over m l vs id v r.coupled at a n h may.2.0.0 may.2.2 may.3 none_is some_is task may.1)
       (λ leaves. let fl = flagged m l vs id v r.coupled at a may.2.0.0 may.2.2 in let asks = leaves.1 in elim (native.Mathlib.Decide.dec_le (length l) 0) [
         | yes z ↦ let e = fl.none (omega (arith, z)) in absurd (omega (arith, e, asks))
         | no lo ↦ let e = some_is (omega (arith, lo)) in (omega (arith, e), omega (arith, e))
@@ -280,16 +274,16 @@ module _ {Call : Type 0} (o : Obj Call) (size : ℕ) where
         | no lo ↦ let e = some_is (omega (arith, lo)) in inr (inl (may.0, (omega (arith, e), omega (arith, e))))
       ])
       left
-  mutex-owns k ws vs id n v h Flag (l, r) at task misses left may own there = let m : ℕ = owner_in ws in let low = ((r.coupled.each id v at).joins may.0).3 in let is = may.1 (omega (arith, low)) in
-      owns-by k ws vs l id n v h Flag r at task misses own there (coupled-flags m l vs id v r.coupled at (apart k ws vs l id v r at) n h may.0 is task) (λ leaves. let x = leaves.1 in absurd (omega (arith, x, low))) (λ high. absurd (omega (arith, high, low)))
+  mutex-owns k ws vs id n v h Flag (l, r) at task counts left may own there = let m : ℕ = owner_in ws in let low = ((r.coupled.each id v at).joins may.0).3 in let is = may.1 (omega (arith, low)) in
+      owns-by k ws vs l id n v h Flag r at task counts own there (coupled-flags m l vs id v r.coupled at (apart k ws vs l id v r at) n h may.0 is task) (λ leaves. let x = leaves.1 in absurd (omega (arith, x, low))) (λ high. absurd (omega (arith, high, low)))
       (λ asked. let more = asked.1 in absurd (omega (arith, more, is, low))) (λ asked. absurd (omega (arith, asked, low))) left
-  mutex-owns k ws vs id n v h Clear (l, r) at task misses left may own there = let m : ℕ = owner_in ws in let is = may.1 in let low = ((r.coupled.each id v at).empties may.0).3 in
-      owns-by k ws vs l id n v h Clear r at task misses own there (coupled-clears m l vs id v r.coupled at (apart k ws vs l id v r at) n h may.0 may.1 task) (λ leaves. absurd (leaves.3 (omega (arith, is)))) (λ high. absurd (omega (arith, high, low)))
+  mutex-owns k ws vs id n v h Clear (l, r) at task counts left may own there = let m : ℕ = owner_in ws in let is = may.1 in let low = ((r.coupled.each id v at).empties may.0).3 in
+      owns-by k ws vs l id n v h Clear r at task counts own there (coupled-clears m l vs id v r.coupled at (apart k ws vs l id v r at) n h may.0 may.1 task) (λ leaves. absurd (leaves.3 (omega (arith, is)))) (λ high. absurd (omega (arith, high, low)))
       (λ asked. let more = asked.1 in absurd (omega (arith, more, is))) (λ _. inr (inr ((r.coupled.each id v at).empties may.0).1)) left
 
-  pub mutex-own-looks : (k : Plan) (ws : List ℕ) (vs : List V) (id : ℕ) (v : V) (h : Hand) → Kept o size k ws vs → get_elem? vs id ≡ some v → h.task ≡ v.hand.task → h.held ≡ v.hand.held → v.hand.misses ≤ h.misses → Site k ws (set (map hand_of vs) id h) → Go k id ws vs ws (set vs id (handed v h))
-  mutex-own-looks k ws vs id v h (l, r) at task held misses there = let w : V = handed v h in goes-on k ws vs l id v r at ws (set vs id w) Stay r.wide (set_part hand_of (Site k ws) vs id w there)
-      (set-moves id (site k ws) (site k ws) vs v w at (hold-moved (site k ws) v h v.ext misses)) w (set-there vs id v w at) held (omega arith)
+  pub mutex-own-looks : (k : Plan) (ws : List ℕ) (vs : List V) (id : ℕ) (v : V) (h : Hand) → Kept o size k ws vs → get_elem? vs id ≡ some v → h.task ≡ v.hand.task → h.held ≡ v.hand.held → HandGoes v.hand h → Site k ws (set (map hand_of vs) id h) → Go k id ws vs ws (set vs id (handed v h))
+  mutex-own-looks k ws vs id v h (l, r) at task held counts there = let w : V = handed v h in goes-on k ws vs l id v r at ws (set vs id w) Stay r.wide (set_part hand_of (Site k ws) vs id w there)
+      (set-moves id (site k ws) (site k ws) vs v w at (hold-moved (site k ws) v h v.ext counts)) w (set-there vs id v w at) held (omega arith)
       (keep_part spin_part (SpinMoves id (spin_words ws) (map spin_part vs) (spin_words ws)) vs id v w at (λ i. record { task = task i; spin = v.spin }) (spin-same id (spin_words ws) (map spin_part vs) r.spin))
       refl
       (set_part hand_of (OwnKept (owner_in ws)) vs id w (own-stays (map hand_of vs) id (owner_in ws) v.hand h r.own (at_map hand_of vs id v at) held (inl task)))
@@ -342,7 +336,7 @@ module _ {Call : Type 0} (o : Obj Call) (size : ℕ) where
   lists-by k ws vs l id i n v c b r at inside list coupled may made mine = let w : V = listed with_list c v b in let us : List ℕ = set ws (list_at + i) n in let same : site k us ≡ site k ws = ap (lay k) (drop-set-lt LOCK_WORDS ws (list_at + i) n (omega (arith, inside))) in
       goes-on k ws vs l id v r at us (set vs id w) c (length-set ws (list_at + i) n ∙ r.wide)
       (subst (λ (z : SiteWords). SiteKept o owned size k z (map hand_of (set vs id w))) (sym same) (keep_part hand_of (Site k ws) vs id v w at refl r.site_holds))
-      (subst (λ (z : SiteWords). SiteMove id (site k ws) vs z (set vs id w)) (sym same) (set-moves id (site k ws) (site k ws) vs v w at (hold-moved (site k ws) v v.hand (with_list c v b) (omega arith)))) w (set-there vs id v w at) refl (list-appends c v b)
+      (subst (λ (z : SiteWords). SiteMove id (site k ws) vs z (set vs id w)) (sym same) (set-moves id (site k ws) (site k ws) vs v w at (hold-moved (site k ws) v v.hand (with_list c v b) (hand-stays v.hand)))) w (set-there vs id v w at) refl (list-appends c v b)
       (subst (λ (z : List ℕ). SpinMoves id (spin_words ws) (map spin_part vs) z (map spin_part (set vs id w))) (sym (part-below ws 0 SPIN_WORDS (list_at + i) n (omega arith)))
       (keep_part spin_part (SpinMoves id (spin_words ws) (map spin_part vs) (spin_words ws)) vs id v w at refl (spin-same id (spin_words ws) (map spin_part vs) r.spin)))
       (get_or-set_other ws (list_at + i) owner_at n 0 (λ e. omega (arith, e)))
@@ -387,7 +381,7 @@ module _ {Call : Type 0} (o : Obj Call) (size : ℕ) where
   pub mutex-firsts : (k : Plan) (ws : List ℕ) (vs : List V) (l : List Waiter) (id : ℕ) (v : V) → Queue k ws vs l → get_elem? vs id ≡ some v → Go k id ws vs ws (set vs id (sighted saw_first v (get_or (list_words ws) 0 0)))
   mutex-firsts k ws vs l id v r at = let n : ℕ = get_or (list_words ws) 0 0 in let w : V = sighted saw_first v n in let ok = r.coupled.each id v at in goes-on k ws vs l id v r at ws (set vs id w) Stay r.wide
       (keep_part hand_of (Site k ws) vs id v w at refl r.site_holds)
-      (set-moves id (site k ws) (site k ws) vs v w at (hold-moved (site k ws) v v.hand w.ext (omega arith))) w (set-there vs id v w at) refl (omega arith)
+      (set-moves id (site k ws) (site k ws) vs v w at (hold-moved (site k ws) v v.hand w.ext (hand-stays v.hand))) w (set-there vs id v w at) refl (omega arith)
       (keep_part spin_part (SpinMoves id (spin_words ws) (map spin_part vs) (spin_words ws)) vs id v w at refl (spin-same id (spin_words ws) (map spin_part vs) r.spin))
       refl
       (keep_part hand_of (OwnKept (owner_in ws)) vs id v w at refl r.own)

@@ -15,7 +15,8 @@ use Rattle.lock_core.specs.declared.view.Held.TheVariants.{No, Alone}
 use Rattle.lock_core.specs.declared.view.Stage.TheVariants.{Rest}
 use Rattle.lock_core.specs.Layout.{site}
 use Rattle.lock_core.specs.Views.{hand_of, held_of, handed, ticked, took}
-use Rattle.lock_core.specs.Sites.{SiteKept, HasPlan}
+use Rattle.lock_core.specs.Sites.{HandGoes, SiteKept, HasPlan}
+use Rattle.lock_core.specs.MoveLaws.{hand-stays}
 use Rattle.lock_core.specs.Moves.{Goes, Lets}
 use Rattle.lock_core.proofs.HandLaws.{no-alone, alone-is-held, not-both}
 use Rattle.lock_core.proofs.HoldSteps.{none-alone, quiet-state, site-takes, site-misses, site-frees}
@@ -34,6 +35,10 @@ use lib.Bits.{bit_and, bit_or}
 use mathlib.Core.Logic.{dite}
 use native.Mathlib.Decide.{ℕ_discrete}
 use Rattle.mutex_word.specs.OwnLaws.{Named, none-holds, no-holders, held-word, own-takes, own-frees, own-stays}
+
+-- a release leaves another way to hold
+hand-frees : (h : Hand) (word : ℕ) → h.held ≡ Alone → HandGoes h (released h word)
+hand-frees h word alone = record { misses = omega arith; freed = λ same. no-alone (same ∙ alone) }
 
 -- a live view's plan is the table's
 its-plan : (k p : Plan) (plan : Option Plan) → HasPlan k plan → plan ≡ Some p → k ≡ p
@@ -82,10 +87,10 @@ module _ {E Call : Type 0} (o : Obj Call) (unavailable : Unavailable) (size : �
     (place : ℕ) (may_be : ℕ → Type 0) (may_own : Turn → View E → ℕ → ℕ → Type 0) (turned : Turn → View E → E)
     (kept : (ws : List ℕ) (vs : List (View E)) → holds ws vs → SiteKept o unavailable size k (site k ws) (map hand_of vs))
     (own_kept : (ws : List ℕ) (vs : List (View E)) → holds ws vs → OwnKept (get_or ws place 0) (map hand_of vs) × may_be (get_or ws place 0))
-    (owns : (ws : List ℕ) (vs : List (View E)) (id n : ℕ) (v : View E) (h : Hand) (t : Turn) → holds ws vs → get_elem? vs id ≡ some v → h.task ≡ v.hand.task → v.hand.misses ≤ h.misses → KeepsLeft v.hand h n → may_own t v (get_or ws place 0) n
+    (owns : (ws : List ℕ) (vs : List (View E)) (id n : ℕ) (v : View E) (h : Hand) (t : Turn) → holds ws vs → get_elem? vs id ≡ some v → h.task ≡ v.hand.task → HandGoes v.hand h → KeepsLeft v.hand h n → may_own t v (get_or ws place 0) n
     → OwnKept n (set (map hand_of vs) id h) → SiteKept o unavailable size k (site k ws) (set (map hand_of vs) id h) → Goes holds moves id ws vs (set ws place n) (set vs id (turns turned t v h)))
     (own_may : (ws : List ℕ) (vs : List (View E)) (id n : ℕ) (v : View E) (t : Turn) → holds ws vs → get_elem? vs id ≡ some v → may_own t v (get_or ws place 0) n → IsTurn t (get_or ws place 0) n)
-    (own_looks : (ws : List ℕ) (vs : List (View E)) (id : ℕ) (v : View E) (h : Hand) → holds ws vs → get_elem? vs id ≡ some v → h.task ≡ v.hand.task → h.held ≡ v.hand.held → v.hand.misses ≤ h.misses → SiteKept o unavailable size k (site k ws) (set (map hand_of vs) id h) → Goes holds moves id ws vs ws (set vs id (handed v h))) where
+    (own_looks : (ws : List ℕ) (vs : List (View E)) (id : ℕ) (v : View E) (h : Hand) → holds ws vs → get_elem? vs id ≡ some v → h.task ≡ v.hand.task → h.held ≡ v.hand.held → HandGoes v.hand h → SiteKept o unavailable size k (site k ws) (set (map hand_of vs) id h) → Goes holds moves id ws vs ws (set vs id (handed v h))) where
   abbrev M : Type 0
   M = Me (Unit {0}) (View E)
 
@@ -93,9 +98,9 @@ module _ {E Call : Type 0} (o : Obj Call) (unavailable : Unavailable) (size : �
   named ws vs h j g at out = (((kept ws vs h).each j g at).nameless out).0
 
   -- a step that leaves the word, and how the pass holds
-  stays : (ws : List ℕ) (vs : List (View E)) (id : ℕ) (v : View E) (g : Hand) → holds ws vs → get_elem? vs id ≡ some v → g.held ≡ v.hand.held → g.task ≡ v.hand.task → v.hand.misses ≤ g.misses → SiteKept o unavailable size k (site k ws) (set (map hand_of vs) id g)
+  stays : (ws : List ℕ) (vs : List (View E)) (id : ℕ) (v : View E) (g : Hand) → holds ws vs → get_elem? vs id ≡ some v → g.held ≡ v.hand.held → g.task ≡ v.hand.task → HandGoes v.hand g → SiteKept o unavailable size k (site k ws) (set (map hand_of vs) id g)
       → Goes holds moves id ws vs ws (set vs id (handed v g))
-  stays ws vs id v g h at held task misses there = own_looks ws vs id v g h at task held misses there
+  stays ws vs id v g h at held task goes there = own_looks ws vs id v g h at task held goes there
 
   takes-there : (slots id t : ℕ) (me : M) → me.0.hand.task ≡ Some t → me.0.hand.held ≡ No → may_own Take me.0 0 (own_word (Some t)) → Lets holds moves slots id me place (Exchange 0 (own_word (Some t))) (Tried turned may_be o (step slots place 0 (own_word (Some t)) none) me)
   takes-there slots id t me has out may = let v = me.0 in let new : ℕ = own_word (Some t) in exchanges holds moves slots id place 0 new me (λ n. handed v (missed v.hand n (v.steps + 1))) (Tried turned may_be o (step slots place 0 new none) me) (λ _. refl)
@@ -104,14 +109,14 @@ module _ {E Call : Type 0} (o : Obj Call) (unavailable : Unavailable) (size : �
       let there = (ok.mine t has).0 in let known : List ℕ = take size (site k ws).guarded in let g : Hand = took v.hand Alone known r.log in (
         turns turned Take v g,
         refl,
-        owns ws vs id new v g Take h at refl (omega arith) (λ _ not. absurd (not refl)) (subst (λ (z : ℕ). may_own Take v z new) (sym is) may) (own-takes hs id t (get_or ws place 0) v.hand g own (named ws vs h) mine is (omega arith) refl has) (site-takes o unavailable size k (site k ws) hs id t v.hand Alone r mine out has (alone-is-held Alone refl) (λ _. free) none),
+        owns ws vs id new v g Take h at refl record { misses = omega arith; freed = λ _. refl } (λ _ not. absurd (not refl)) (subst (λ (z : ℕ). may_own Take v z new) (sym is) may) (own-takes hs id t (get_or ws place 0) v.hand g own (named ws vs h) mine is (omega arith) refl has) (site-takes o unavailable size k (site k ws) hs id t v.hand Alone r mine out has (alone-is-held Alone refl) (λ _. free) none),
         (
           (λ _. (known, r.log, (λ p plan. subst (λ (z : Plan). Learns o z v.hand known r.log) (its-plan k p v.hand.plan ok.plan plan) record { stored = quiet-state o unavailable size k (site k ws) hs r none; within = r.tells.within; begins = ok.seen }), (refl, refl))),
           λ not. absurd (not refl),
         ),
       ))
       (λ ws vs h at not _. let r = kept ws vs h in let own = (own_kept ws vs h).0 in let n : ℕ = get_or ws place 0 in let mine = at_map hand_of vs id v at in (
-        stays ws vs id v (missed v.hand n (v.steps + 1)) h at refl refl (omega arith) (site-misses o unavailable size k (site k ws) (map hand_of vs) id n (v.steps + 1) v.hand r mine (let small = own.small in omega (arith, small))),
+        stays ws vs id v (missed v.hand n (v.steps + 1)) h at refl refl record { misses = omega arith; freed = λ _. refl } (site-misses o unavailable size k (site k ws) (map hand_of vs) id n (v.steps + 1) v.hand r mine (let small = own.small in omega (arith, small))),
         ((λ is. absurd (not is)), λ _. (own.small, (own_kept ws vs h).1, (refl, refl))),
       ))
 
@@ -121,11 +126,11 @@ module _ {E Call : Type 0} (o : Obj Call) (unavailable : Unavailable) (size : �
       (λ ws vs h at is. let hs : List Hand = map hand_of vs in let mine = at_map hand_of vs id v at in (
         turns turned Free v g,
         refl,
-        owns ws vs id 0 v g Free h at refl (omega arith) (λ _ _. refl) (subst (λ (z : ℕ). may_own Free v z 0) (sym is) may) (own-frees hs id (get_or ws place 0) v.hand g (own_kept ws vs h).0 mine alone refl) (site-frees o unavailable size k (site k ws) hs id 0 v.hand (kept ws vs h) mine quiet rests),
+        owns ws vs id 0 v g Free h at refl (hand-frees v.hand 0 alone) (λ _ _. refl) (subst (λ (z : ℕ). may_own Free v z 0) (sym is) may) (own-frees hs id (get_or ws place 0) v.hand g (own_kept ws vs h).0 mine alone refl) (site-frees o unavailable size k (site k ws) hs id 0 v.hand (kept ws vs h) mine quiet rests),
         ((λ _. (refl, refl)), λ not. absurd (not refl)),
       ))
       (λ ws vs h at not _. let hs : List Hand = map hand_of vs in let mine = at_map hand_of vs id v at in let own = own_kept ws vs h in let w = held-word hs id t (get_or ws place 0) v.hand own.0 mine alone has in let low = w.0 in let is = w.1 in (
-        stays ws vs id v v.hand h at refl refl (omega arith) (subst (SiteKept o unavailable size k (site k ws)) (sym (set_again hs id v.hand mine)) (kept ws vs h)),
+        stays ws vs id v v.hand h at refl refl (hand-stays v.hand) (subst (SiteKept o unavailable size k (site k ws)) (sym (set_again hs id v.hand mine)) (kept ws vs h)),
         ((λ is. absurd (not is)), λ _. (own.1, omega arith, (refl, refl))),
       ))
 
@@ -146,7 +151,7 @@ module _ {E Call : Type 0} (o : Obj Call) (unavailable : Unavailable) (size : �
   marks-there : (slots id : ℕ) (me : M) → ((n : ℕ) → may_own Flag me.0 n (bit_or n 1)) → Lets holds moves slots id me place (Or 1) (Flagged turned Flag (step slots place 1 0 none) me)
   marks-there slots id me may = let v = me.0 in modifies holds moves slots id place me (Or 1) (turns turned Flag v v.hand) (Flagged turned Flag (step slots place 1 0 none) me) refl
       (λ ws vs h at small. let n : ℕ = get_or ws place 0 in let hs : List Hand = map hand_of vs in let mine = at_map hand_of vs id v at in let own = (own_kept ws vs h).0 in (
-        owns ws vs id (bit_or n 1) v v.hand Flag h at refl (omega arith) (λ alone not. absurd (not alone)) (may n) (dite (ℕ_discrete (n % 2) 0)
+        owns ws vs id (bit_or n 1) v v.hand Flag h at refl (hand-stays v.hand) (λ alone not. absurd (not alone)) (may n) (dite (ℕ_discrete (n % 2) 0)
             (λ even. subst (λ (z : ℕ). OwnKept z (set hs id v.hand)) (sym (or-one n even)) (own-flags hs id n v.hand v.hand own mine refl refl even))
             (λ not. subst (λ (z : ℕ). OwnKept z (set hs id v.hand)) (sym (or-odd n (omega (arith, not)))) (own-stays hs id n v.hand v.hand own mine refl (inl refl)))) (same-hand ws vs id v h at),
         (refl, refl),
@@ -155,7 +160,7 @@ module _ {E Call : Type 0} (o : Obj Call) (unavailable : Unavailable) (size : �
   wipes-there : (slots id : ℕ) (me : M) → ((n m : ℕ) → m + n % 8 ≡ n → may_own Clear me.0 n m) → Lets holds moves slots id me place (And 18446744073709551608) (Flagged turned Clear (step slots place 18446744073709551608 0 none) me)
   wipes-there slots id me may = let v = me.0 in modifies holds moves slots id place me (And 18446744073709551608) (turns turned Clear v v.hand) (Flagged turned Clear (step slots place 18446744073709551608 0 none) me) refl
       (λ ws vs h at small. let n : ℕ = get_or ws place 0 in let m : ℕ = bit_and n 18446744073709551608 in let hs : List Hand = map hand_of vs in let mine = at_map hand_of vs id v at in let own = (own_kept ws vs h).0 in let is = and-clears n small in let yes_may = may n m is in
-      (owns ws vs id m v v.hand Clear h at refl (omega arith) (λ alone not. absurd (not alone)) yes_may (own-clears hs id n v.hand v.hand own mine m refl refl (own_may ws vs id m v Clear h at yes_may) is) (same-hand ws vs id v h at), (refl, refl)))
+      (owns ws vs id m v v.hand Clear h at refl (hand-stays v.hand) (λ alone not. absurd (not alone)) yes_may (own-clears hs id n v.hand v.hand own mine m refl refl (own_may ws vs id m v Clear h at yes_may) is) (same-hand ws vs id v h at), (refl, refl)))
 
   word-lawful : (n : ℕ) (hs : List Hand) → OwnKept n hs → IsLawful n
   word-lawful n hs own = record { small = own.small; nobody = own.nobody; flags = own.flags }
@@ -167,11 +172,11 @@ module _ {E Call : Type 0} (o : Obj Call) (unavailable : Unavailable) (size : �
 
   -- which changes of the hand a step on the owner word may make
   abbrev IsMissing : Hand → Hand → Type 0
-  IsMissing h g = (g.task ≡ h.task) × (g.held ≡ h.held) × (h.misses ≤ g.misses)
+  IsMissing h g = (g.task ≡ h.task) × (g.held ≡ h.held) × HandGoes h g
 
   is-missing : (counts : Bool) (h : Hand) (n step : ℕ) → IsMissing h (missing counts h n step)
-  is-missing true h n step = (refl, refl, omega arith)
-  is-missing false h n step = (refl, refl, omega arith)
+  is-missing true h n step = (refl, refl, record { misses = omega arith; freed = λ _. refl })
+  is-missing false h n step = (refl, refl, hand-stays h)
 
   -- what a try makes of a word that it sees and leaves
   saw-there : (asks counts : Bool) (me : M) (ws : List ℕ) (vs : List (View E)) (id : ℕ) → holds ws vs → get_elem? vs id ≡ some me.0 → ((n : ℕ) → IsFail asks me.0.hand.task n → may_own Fail me.0 n n)
@@ -187,7 +192,7 @@ module _ {E Call : Type 0} (o : Obj Call) (unavailable : Unavailable) (size : �
       (λ on. (
         ticked v,
         refl,
-        stays ws vs id v v.hand h at refl refl (omega arith) (same-hand ws vs id v h at),
+        stays ws vs id v v.hand h at refl refl (hand-stays v.hand) (same-hand ws vs id v h at),
         (lawful, (λ shut. absurd (on shut)), λ _. (refl, refl)),
       ))
 
@@ -210,7 +215,7 @@ module _ {E Call : Type 0} (o : Obj Call) (unavailable : Unavailable) (size : �
       let both = take-keeps hs id t old new v.hand g own (named ws vs h) mine (omega (arith, few, there)) is refl has in let free = both.1 in let none = none-alone hs free in (
         turns turned Take v g,
         refl,
-        owns ws vs id new v g Take h at refl (omega arith) (λ _ not. absurd (not refl)) (subst (λ (z : ℕ). may_own Take v z new) (sym found) may) both.0 (site-takes o unavailable size k (site k ws) hs id t v.hand Alone r mine out has (alone-is-held Alone refl) (λ _. free) none),
+        owns ws vs id new v g Take h at refl record { misses = omega arith; freed = λ _. refl } (λ _ not. absurd (not refl)) (subst (λ (z : ℕ). may_own Take v z new) (sym found) may) both.0 (site-takes o unavailable size k (site k ws) hs id t v.hand Alone r mine out has (alone-is-held Alone refl) (λ _. free) none),
         (
           (λ _. (known, r.log, (λ p plan. subst (λ (z : Plan). Learns o z v.hand known r.log) (its-plan k p v.hand.plan ok.plan plan) record { stored = quiet-state o unavailable size k (site k ws) hs r none; within = r.tells.within; begins = ok.seen }), (refl, refl))),
           λ not. absurd (not refl),
@@ -224,7 +229,7 @@ module _ {E Call : Type 0} (o : Obj Call) (unavailable : Unavailable) (size : �
       (λ ws vs h at found. let hs : List Hand = map hand_of vs in let mine = at_map hand_of vs id v at in let own = subst (λ (z : ℕ). OwnKept z hs) found (own_kept ws vs h).0 in (
         turns turned Ask v v.hand,
         refl,
-        owns ws vs id new v v.hand Ask h at refl (omega arith) (λ alone not. absurd (not alone)) (subst (λ (z : ℕ). may_own Ask v z new) (sym found) may) (subst (λ (z : ℕ). OwnKept z (set hs id v.hand)) (sym is.2) (own-asks hs id old v.hand v.hand own mine refl refl is.0 is.1)) (same-hand ws vs id v h at),
+        owns ws vs id new v v.hand Ask h at refl (hand-stays v.hand) (λ alone not. absurd (not alone)) (subst (λ (z : ℕ). may_own Ask v z new) (sym found) may) (subst (λ (z : ℕ). OwnKept z (set hs id v.hand)) (sym is.2) (own-asks hs id old v.hand v.hand own mine refl refl is.0 is.1)) (same-hand ws vs id v h at),
         ((λ _. (refl, refl)), λ not. absurd (not refl)),
       ))
       (λ ws vs h at not _. let t = saw-there asks counts me ws vs id h at fails in (t.0, t.1, t.2, ((λ is. absurd (not is)), λ _. t.3))))
@@ -232,7 +237,7 @@ module _ {E Call : Type 0} (o : Obj Call) (unavailable : Unavailable) (size : �
   -- the word of the pass that holds
   mine-there : (me : M) (t : ℕ) (ws : List ℕ) (vs : List (View E)) (id : ℕ) → holds ws vs → get_elem? vs id ≡ some me.0 → me.0.hand.task ≡ Some t → me.0.hand.held ≡ Alone → Goes holds moves id ws vs ws (set vs id (ticked me.0)) × IsMine me.0.hand.task (get_or ws place 0)
   mine-there me t ws vs id h at has alone = let v = me.0 in let n : ℕ = get_or ws place 0 in let own = (own_kept ws vs h).0 in let w = held-word (map hand_of vs) id t n v.hand own (at_map hand_of vs id v at) alone has in let low = w.0 in let is = w.1 in let c : task_code v.hand.task ≡ t + 1 = ap task_code has in
-      (stays ws vs id v v.hand h at refl refl (omega arith) (same-hand ws vs id v h at), (own.small, low, omega (arith, low, is, c)))
+      (stays ws vs id v v.hand h at refl refl (hand-stays v.hand) (same-hand ws vs id v h at), (own.small, low, omega (arith, low, is, c)))
 
   pub reads : (slots id at t : ℕ) (me : M) → at ≡ place → me.0.hand.task ≡ Some t → me.0.hand.held ≡ Alone → Lets holds moves slots id me at Load (Mine (step slots at 0 0 none) me)
   reads slots id at t me place_is has alone = subst (λ (z : ℕ). Lets holds moves slots id me z Load (Mine (step slots z 0 0 none) me)) (sym place_is)
@@ -244,7 +249,7 @@ module _ {E Call : Type 0} (o : Obj Call) (unavailable : Unavailable) (size : �
       (λ ws vs h at found. let hs : List Hand = map hand_of vs in let mine = at_map hand_of vs id v at in let n : ℕ = get_or ws place 0 in (
         turns turned turn v g,
         refl,
-        owns ws vs id new v g turn h at refl (omega arith) (λ _ _. refl) (subst (λ (z : ℕ). may_own turn v z new) (sym found) may) (own-leaves hs id n v.hand g (own_kept ws vs h).0 mine new alone refl left) (site-frees o unavailable size k (site k ws) hs id new v.hand (kept ws vs h) mine quiet rests),
+        owns ws vs id new v g turn h at refl (hand-frees v.hand new alone) (λ _ _. refl) (subst (λ (z : ℕ). may_own turn v z new) (sym found) may) (own-leaves hs id n v.hand g (own_kept ws vs h).0 mine new alone refl left) (site-frees o unavailable size k (site k ws) hs id new v.hand (kept ws vs h) mine quiet rests),
         ((λ _. (refl, refl)), λ not. absurd (not refl)),
       ))
       (λ ws vs h at not _. let r = mine-there me t ws vs id h at has alone in (ticked v, refl, r.0, ((λ is. absurd (not is)), λ _. (r.1, (refl, refl))))))

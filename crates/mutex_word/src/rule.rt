@@ -62,9 +62,9 @@ impl<O: Object> OwnerHost for OwnerRule<O> {
 
     ghost own_kept = { owner-own O.object O.WORDS };
 
-    ghost owns = { λ k ws vs id n v h t r at same misses left may own there. owner-owns O.object O.WORDS k ws vs id n v h r at misses may.0 own there };
+    ghost owns = { λ k ws vs id n v h t r at same goes left may own there. owner-owns O.object O.WORDS k ws vs id n v h r at goes may.0 own there };
 
     ghost own_may = { λ k ws vs id n v t r at may. may.1 };
 
-    ghost own_looks = { λ k ws vs id v h r at task held misses there. owner-looks O.object O.WORDS k ws vs id v h r at task held misses there };
+    ghost own_looks = { λ k ws vs id v h r at task held goes there. owner-looks O.object O.WORDS k ws vs id v h r at task held goes there };
 }

@@ -29,7 +29,7 @@ use Rattle.lock_core.specs.Layout.{SiteWords, site, lay}
 use Rattle.lock_core.specs.Views.{hand_of, named_of}
 use Rattle.lock_core.specs.Sites.{SiteKept}
 use Rattle.lock_core.specs.Moves.{Goes, Lets, SiteMove, Moved}
-use Rattle.lock_core.specs.MoveLaws.{leaves-site, spin-idle, set-moves}
+use Rattle.lock_core.specs.MoveLaws.{hand-stays, leaves-site, spin-idle, set-moves}
 use Rattle.lock_core.specs.Totals.{total, total-at, total-two}
 use Rattle.lock_core.specs.Parts.{each-set, keep_part, set-there}
 use Rattle.lock_core.proofs.HandLaws.{not-both}
@@ -97,7 +97,7 @@ module _ (k : Plan) where
       → Goes (OsqKept k) (OsqMoves k) id ws vs (set ws at n) (set vs id (stepped v.ext.place v p told))
   own-step ws vs id at n t told v p q' r there has inside kept changes finds = let small = its-small ws vs id t v r there has in let lt = small.0 in let few = small.1 in let wide = r.wide in let w : V = stepped v.ext.place v p told in
       let stays : site k (set ws at n) ≡ site k ws = ap (lay k) (drop-set-lt LOCK_WORDS ws at n inside) in
-      let moved : Moved (site k ws) (site k ws) v w = record { site = leaves-site (site k ws) v.hand v.hand (omega arith); spin = spin-idle (v.steps + 1) v.spin; fronts = no-fewer (is_coming_first v.ext.place p) v.fronts; counts = refl } in
+      let moved : Moved (site k ws) (site k ws) v w = record { site = leaves-site (site k ws) v.hand v.hand (hand-stays v.hand); spin = spin-idle (v.steps + 1) v.spin; fronts = no-fewer (is_coming_first v.ext.place p) v.fronts; counts = refl } in
       goes k id ws (set ws at n) vs (set vs id w) r
       record {
         wide = length-set ws at n ∙ r.wide;
