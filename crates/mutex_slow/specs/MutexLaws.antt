@@ -94,13 +94,13 @@ list-again Stay v n b d e = refl
 list-again (Enter w) v n b d e = λ i. record (with_list (Enter w) v d) { point = (with_list (Enter w) v (record d { list = sym e i })).point }
 list-again (Leave t) v n b d e = λ i. record (with_list (Leave t) v d) { point = (with_list (Leave t) v (record d { list = sym e i })).point }
 
-pub may-stay : (v : V) → may_change Stay v
-may-stay v = tt
+pub may-stay : (v : V) (l : List Waiter) → may_change Stay v l
+may-stay v l = tt
 
-pub may-on : (c : Change) (v : V) (b : ListHand) → may_change c v → may_change c (listed with_list Stay v b)
-may-on Stay v b m = m
-may-on (Enter w) v b m = m
-may-on (Leave t) v b m = m
+pub may-on : (c : Change) (v : V) (b : ListHand) (l : List Waiter) → may_change c v l → may_change c (listed with_list Stay v b) l
+may-on Stay v b l m = m
+may-on (Enter w) v b l m = m
+may-on (Leave t) v b l m = m
 
 -- a part of a sum that isn't 0 is some view's
 some-of : {X : Type 0} (f : X → ℕ) (xs : List X) → 0 < total f xs → (j : ℕ) × (x : X) × (get_elem? xs j ≡ some x) × (0 < f x)
@@ -326,7 +326,7 @@ module _ {Call : Type 0} (o : Obj Call) (size : ℕ) where
       (coupled-stays n l us other w coupled there' x (idle-ok n l x refl refl) (λ t. sym (λ i. when (out.0 i) (is_number t w.hand.task))) (sym out.1)) tt tt tt
 
   -- what a change of the list needs of it
-  pub mutex-list-may : (k : Plan) (ws : List ℕ) (vs : List V) (l : List Waiter) (id : ℕ) (v : V) (c : Change) → Queue k ws vs l → get_elem? vs id ≡ some v → SpinHolds v.spin → may_change c v → Allowed c l
+  pub mutex-list-may : (k : Plan) (ws : List ℕ) (vs : List V) (l : List Waiter) (id : ℕ) (v : V) (c : Change) → Queue k ws vs l → get_elem? vs id ≡ some v → SpinHolds v.spin → may_change c v l → Allowed c l
   mutex-list-may k ws vs l id v Stay r at has may = tt
   mutex-list-may k ws vs l id v (Enter w) r at has may = (small k ws vs l id v r at w.task may.0, not-in (owner_in ws) l vs id v r.coupled at (apart k ws vs l id v r at) may.1 w.task may.0)
   mutex-list-may k ws vs l id v (Leave t) r at has may = is-in (owner_in ws) l vs id v r.coupled at (apart k ws vs l id v r at) may.1 t may.0
@@ -345,7 +345,7 @@ module _ {Call : Type 0} (o : Obj Call) (size : ℕ) where
       (set_part parted (ListKept (set (list_words ws) i n) (changed c l)) vs id w (subst (λ (z : ListHand). ListKept (set (list_words ws) i n) (changed c l) (set (map parted vs) id (v.spin, z))) (sym (list-back c v b)) list)))
       coupled may made mine
 
-  pub mutex-lists : (k : Plan) (ws : List ℕ) (vs : List V) (l : List Waiter) (id i n : ℕ) (v : V) (c : Change) (b : ListHand) → Queue k ws vs l → get_elem? vs id ≡ some v → i < LIST_WORDS → SpinHolds v.spin → may_change c v → b.list ≡ changed c l → LeaverGoes c v.ext.list.leaver b.leaver
+  pub mutex-lists : (k : Plan) (ws : List ℕ) (vs : List V) (l : List Waiter) (id i n : ℕ) (v : V) (c : Change) (b : ListHand) → Queue k ws vs l → get_elem? vs id ≡ some v → i < LIST_WORDS → SpinHolds v.spin → may_change c v l → b.list ≡ changed c l → LeaverGoes c v.ext.list.leaver b.leaver
       → ListKept (set (list_words ws) i n) (changed c l) (set (map parted vs) id (v.spin, b)) → Go k id ws vs (set ws (list_at + i) n) (set vs id (listed with_list c v b))
   mutex-lists k ws vs l id i n v Stay b r at inside has may is leaver list = let m : ℕ = owner_in ws in let ok = r.coupled.each id v at in lists-by k ws vs l id i n v Stay b r at inside list (coupled-stays m l vs id v r.coupled at (listed with_list Stay v b) record {
     joins = ok.joins;

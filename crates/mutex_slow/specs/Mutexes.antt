@@ -203,10 +203,10 @@ with_list Stay v b = record v.ext { list = b }
 with_list (Enter w) v b = record v.ext { list = b; queued = true; first = false; point = if length b.list == 1 then Joins else Rest; appends = v.ext.appends + 1 }
 with_list (Leave t) v b = record v.ext { list = b; queued = false; first = false; point = if length b.list == 0 then Empties else Rest }
 
-abbrev pub may_change : Change → V → Type 0
-may_change Stay v = Unit {0}
-may_change (Enter w) v = (v.hand.task ≡ Some w.task) × (v.ext.queued ≡ false) × (v.ext.point ≡ Rest) × (v.hand.held ≡ No) × (w.writer ≡ true)
-may_change (Leave t) v = (v.hand.task ≡ Some t) × (v.ext.queued ≡ true) × (v.ext.point ≡ Rest) × ((v.hand.held ≡ Alone) ⊎ (v.ext.failed ≡ v.spin.entries))
+abbrev pub may_change : Change → V → List Waiter → Type 0
+may_change Stay v l = Unit {0}
+may_change (Enter w) v l = (v.hand.task ≡ Some w.task) × (v.ext.queued ≡ false) × (v.ext.point ≡ Rest) × (v.hand.held ≡ No) × (w.writer ≡ true)
+may_change (Leave t) v l = (v.hand.task ≡ Some t) × (v.ext.queued ≡ true) × (v.ext.point ≡ Rest) × ((v.hand.held ≡ Alone) ⊎ (v.ext.failed ≡ v.spin.entries))
 
 abbrev pub is_code : Option ℕ → ℕ → Bool
 is_code None n = false

@@ -6,9 +6,9 @@ use Rattle.lock_core.specs.Records.{bit}
 use Rattle.lock_core.proofs.HandLaws.{not-both}
 use Rattle.wait_list.specs.declared.view.Waiter.{Waiter}
 use Rattle.wait_list.specs.declared.view.Change.{Change}
-use Rattle.wait_list.specs.declared.view.Change.TheVariants.{Stay, Enter, Leave}
+use Rattle.wait_list.specs.declared.view.Change.TheVariants.{Stay, Enter}
 use Rattle.wait_list.specs.declared.view.ListHand.{ListHand}
-use Rattle.wait_list.specs.Lists.{Part, Knows, Lists, IsList, IsNear, Learnt, MayStore, Appends, Allowed, first_code, counted, changed, list_part, listed, waiter_of, entering, going_on, ending}
+use Rattle.wait_list.specs.Lists.{Part, Knows, Lists, IsNear, Learnt, MayStore, Appends, Allowed, first_code, counted, list_part, listed, waiter_of, entering, going_on, ending}
 use Rattle.wait_list.proofs.Tickets.{appended-lists, few-tasks}
 use Rattle.wait_list.specs.declared.words.TheConstants.{LIST_WORDS}
 use Rattle.word_bits.specs.declared.TheConstants.{MAX_TASKS}

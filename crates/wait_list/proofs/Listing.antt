@@ -1,5 +1,5 @@
 -- The steps on the words of the list keep the host's rule.
-use Rattle.std.proofs.Common.{◌≡◌, ◌∙◌, ℕ, ◌+◌, ◌-◌, ◌<◌, ◌≤◌, inl, inr, true, false, List, [], ◌∷◌, length, map, get_or, set, sym, refl, ap, subst, arith}
+use Rattle.std.proofs.Common.{◌≡◌, ◌∙◌, ℕ, ◌+◌, ◌-◌, ◌<◌, ◌≤◌, inl, inr, false, List, [], ◌∷◌, length, map, get_or, set, sym, refl, ap, subst, arith}
 use mathlib.Core.Option.{some, none}
 use mathlib.Core.Logic.{dite}
 use native.Mathlib.Decide.{ℕ_discrete}
@@ -9,24 +9,20 @@ use Rattle.atomic_table.specs.Table.{Me, step, keeps}
 use Rattle.atomic_table.proofs.Lists.{at_map, set_again}
 use Rattle.lock_core.specs.declared.op.Op.TheVariants.{Load, Store}
 use Rattle.lock_core.specs.declared.view.View.{View}
-use Rattle.lock_core.specs.declared.view.SpinHand.{SpinHand}
-use Rattle.lock_core.specs.Records.{bit}
 use Rattle.lock_core.specs.Layout.{part}
 use Rattle.lock_core.specs.Views.{spin_part}
 use Rattle.lock_core.specs.SpinFrames.{holds_of, holds_at}
-use Rattle.lock_core.specs.declared.view.Frame.{Frame}
-use Rattle.lock_core.specs.declared.view.Point.{Point}
 use Rattle.lock_core.specs.declared.layout.TheConstants.{SPIN_WORDS}
 use Rattle.lock_core.specs.Spins.{frame_of, SpinKept}
 use Rattle.lock_core.specs.Moves.{Goes, Lets}
 use Rattle.lock_core.specs.Totals.{total}
-use Rattle.lock_core.proofs.HandLaws.{not-both, false-or-true}
+use Rattle.lock_core.proofs.HandLaws.{false-or-true}
 use Rattle.lock_core.specs.Regions.{part-at}
 use Rattle.lock_core.specs.Spins.{holds_in}
 use Rattle.lock_core.proofs.Steps.{loads, stores}
 use Rattle.wait_list.specs.declared.view.Waiter.{Waiter}
 use Rattle.wait_list.specs.declared.view.Change.{Change}
-use Rattle.wait_list.specs.declared.view.Change.TheVariants.{Stay, Enter, Leave}
+use Rattle.wait_list.specs.declared.view.Change.TheVariants.{Stay}
 use Rattle.wait_list.specs.declared.view.ListHand.{ListHand}
 use Rattle.wait_list.specs.Lists.{Part, Knows, ListKept, Allowed, IsList, Lists, IsNear, Learnt, LeaverGoes, MayStore, changed, list_part, listed, sighted, takes_of}
 use Rattle.wait_list.specs.ListLaws.{list-learns, list-known, list-stores}
@@ -36,12 +32,12 @@ use Rattle.lock_core.specs.Views.{SpinHolds}
 use Rattle.wait_list.specs.declared.words.TheConstants.{LIST_WORDS}
 
 module _ {E : Type 0} (holds : List ℕ → List (View E) → Type 0) (moves : ℕ → List ℕ → List (View E) → List ℕ → List (View E) → Type 0) (first place : ℕ) (list : E → ListHand) (with_list : Change → View E → ListHand → E) (saw_first : View E → ℕ → E)
-    (may_change : Change → View E → Type 0) (queue : List ℕ → List (View E) → List Waiter → Type 0)
+    (may_change : Change → View E → List Waiter → Type 0) (queue : List ℕ → List (View E) → List Waiter → Type 0)
     (spin_kept : (ws : List ℕ) (vs : List (View E)) → holds ws vs → SpinKept (part first SPIN_WORDS ws) (map spin_part vs))
     (queued : (ws : List ℕ) (vs : List (View E)) → holds ws vs → (l : List Waiter) × queue ws vs l)
     (list_kept : (ws : List ℕ) (vs : List (View E)) (l : List Waiter) → queue ws vs l → ListKept (part place LIST_WORDS ws) l (map (list_part list) vs))
-    (list_may : (ws : List ℕ) (vs : List (View E)) (l : List Waiter) (id : ℕ) (v : View E) (c : Change) → queue ws vs l → get_elem? vs id ≡ some v → SpinHolds v.spin → may_change c v → Allowed c l)
-    (lists : (ws : List ℕ) (vs : List (View E)) (l : List Waiter) (id i n : ℕ) (v : View E) (c : Change) (b : ListHand) → queue ws vs l → get_elem? vs id ≡ some v → i < LIST_WORDS → SpinHolds v.spin → may_change c v → b.list ≡ changed c l → LeaverGoes c (list v.ext).leaver b.leaver
+    (list_may : (ws : List ℕ) (vs : List (View E)) (l : List Waiter) (id : ℕ) (v : View E) (c : Change) → queue ws vs l → get_elem? vs id ≡ some v → SpinHolds v.spin → may_change c v l → Allowed c l)
+    (lists : (ws : List ℕ) (vs : List (View E)) (l : List Waiter) (id i n : ℕ) (v : View E) (c : Change) (b : ListHand) → queue ws vs l → get_elem? vs id ≡ some v → i < LIST_WORDS → SpinHolds v.spin → may_change c v l → b.list ≡ changed c l → LeaverGoes c (list v.ext).leaver b.leaver
     → ListKept (set (part place LIST_WORDS ws) i n) (changed c l) (set (map (list_part list) vs) id (v.spin, b)) → Goes holds moves id ws vs (set ws (place + i) n) (set vs id (listed with_list c v b)))
     (firsts : (ws : List ℕ) (vs : List (View E)) (l : List Waiter) (id : ℕ) (v : View E) → queue ws vs l → get_elem? vs id ≡ some v → Goes holds moves id ws vs ws (set vs id (sighted saw_first v (get_or (part place LIST_WORDS ws) 0 0)))) where
   abbrev M : Type 0
@@ -82,13 +78,13 @@ module _ {E : Type 0} (holds : List ℕ → List (View E) → Type 0) (moves : �
           → total Rattle.wait_list.specs.Lists.changes_of (map (list_part list) vs) ≡ 0
       none-now ws vs l id v h q at has still = Rattle.wait_list.specs.ListLaws.none-change (part place LIST_WORDS ws) l (map (list_part list) vs) id (list_part list v) (list_kept ws vs l q) (at_map (list_part list) vs id v at) (one-takes ws vs h) (has-lock v has) still
 
-  gets-there : (slots id i : ℕ) (me : M) → i < LIST_WORDS → SpinHolds me.0.spin → may_change Stay me.0 → Lets holds moves slots id me (place + i) Load (Got place list with_list (step slots (place + i) 0 0 none) me)
+  gets-there : (slots id i : ℕ) (me : M) → i < LIST_WORDS → SpinHolds me.0.spin → ((l : List Waiter) → may_change Stay me.0 l) → Lets holds moves slots id me (place + i) Load (Got place list with_list (step slots (place + i) 0 0 none) me)
   gets-there slots id i me inside has may s h len at small = let v = me.0 in let q = queued s.words s.views h in let t = learns s.words s.views q.0 id v h q.1 at has in let n : ℕ = get_or s.words (place + i) 0 in let ws : List ℕ = part place LIST_WORDS s.words in
       let back : i ≡ (place + i) - place = omega arith in let word : get_or ws i 0 ≡ n = part-at s.words place LIST_WORDS i inside in (
         listed with_list Stay v t.0,
         keeps,
         tt,
-        lists s.words s.views q.0 id i n v Stay t.0 q.1 at inside has may t.2 t.1.leaver (subst (λ (z : List ℕ). ListKept z q.0 (set (map (list_part list) s.views) id (v.spin, t.0))) (sym (ap (set ws i) (sym word) ∙ set-get_or ws i 0)) t.4),
+        lists s.words s.views q.0 id i n v Stay t.0 q.1 at inside has (may q.0) t.2 t.1.leaver (subst (λ (z : List ℕ). ListKept z q.0 (set (map (list_part list) s.views) id (v.spin, t.0))) (sym (ap (set ws i) (sym word) ∙ set-get_or ws i 0)) t.4),
         refl,
         (t.0, t.1, sym word ∙ (ap (λ (z : List ℕ). get_or z i 0) (sym t.3) ∙ ap (get_or' t.0) back), (refl, refl)),
       )
@@ -96,10 +92,10 @@ module _ {E : Type 0} (holds : List ℕ → List (View E) → Type 0) (moves : �
       get_or' : ListHand → ℕ → ℕ
       get_or' b j = get_or b.words j 0
 
-  puts-there : (slots id i new : ℕ) (me : M) (c : Change) (b : ListHand) → i < LIST_WORDS → SpinHolds me.0.spin → may_change c me.0 → MayStore (list_part list me.0) i new c b → Lets holds moves slots id me (place + i) (Store new) (λ _. Laid list with_list c b (step slots (place + i) new 0 none) me new)
-  puts-there slots id i new me c b inside has host may = let v = me.0 in stores holds moves slots id (place + i) new me (listed with_list c v b) (λ _. Laid list with_list c b (step slots (place + i) new 0 none) me new) refl
+  puts-there : (slots id i new : ℕ) (me : M) (c : Change) (b : ListHand) → i < LIST_WORDS → SpinHolds me.0.spin → may_change c me.0 (list me.0.ext).list → MayStore (list_part list me.0) i new c b → Lets holds moves slots id me (place + i) (Store new) (λ _. Laid list with_list c b (step slots (place + i) new 0 none) me new)
+  puts-there slots id i new me c b inside has allows may = let v = me.0 in stores holds moves slots id (place + i) new me (listed with_list c v b) (λ _. Laid list with_list c b (step slots (place + i) new 0 none) me new) refl
       (λ ws vs h at. let q = queued ws vs h in let p : Part = list_part list v in let ps : List Part = map (list_part list) vs in let r = list_kept ws vs q.0 q.1 in let mine = at_map (list_part list) vs id v at in let one = one-takes ws vs h in
-      let k = list-known (part place LIST_WORDS ws) q.0 ps id p r mine one may.knows in let is : b.list ≡ changed c q.0 = may.list ∙ ap (changed c) k.0 in (
+      let k = list-known (part place LIST_WORDS ws) q.0 ps id p r mine one may.knows in let is : b.list ≡ changed c q.0 = may.list ∙ ap (changed c) k.0 in let host : may_change c v q.0 = subst (may_change c v) k.0 allows in (
         lists ws vs q.0 id i new v c b q.1 at inside has host is may.leaver
             (list-stores (part place LIST_WORDS ws) q.0 ps id p r mine i new (changed c q.0) b one may.knows (sound-changed c q.0 r.sound (list_may ws vs q.0 id v c q.1 at has host)) may.since is may.words
             (λ t. subst (λ (z : List ℕ × List Waiter). IsNear z.0 z.1 b.leaver) (λ i. (may.words i, is i)) (may.near t)) (λ t. subst (λ (z : List ℕ × List Waiter). Lists z.0 z.1) (λ i. (may.words i, is i)) (may.done t))),
@@ -110,11 +106,11 @@ module _ {E : Type 0} (holds : List ℕ → List (View E) → Type 0) (moves : �
   sights-there slots id me = let v = me.0 in loads holds moves slots id place me (λ n. sighted saw_first v n) (Sighted saw_first (step slots place 0 0 none) me) (λ _. refl)
       (λ ws vs h at _. let q = queued ws vs h in let zero_at : place + 0 ≡ place = omega arith in (subst (λ (z : ℕ). Goes holds moves id ws vs ws (set vs id (sighted saw_first v z))) (part-at ws place LIST_WORDS 0 (omega arith) ∙ ap (λ (z : ℕ). get_or ws z 0) zero_at) (firsts ws vs q.0 id v q.1 at), (refl, refl)))
 
-  pub gets : (slots id at i : ℕ) (me : M) → at ≡ place + i → i < LIST_WORDS → SpinHolds me.0.spin → may_change Stay me.0 → Lets holds moves slots id me at Load (Got place list with_list (step slots at 0 0 none) me)
+  pub gets : (slots id at i : ℕ) (me : M) → at ≡ place + i → i < LIST_WORDS → SpinHolds me.0.spin → ((l : List Waiter) → may_change Stay me.0 l) → Lets holds moves slots id me at Load (Got place list with_list (step slots at 0 0 none) me)
   gets slots id at i me is inside has may = subst (λ (z : ℕ). Lets holds moves slots id me z Load (Got place list with_list (step slots z 0 0 none) me)) (sym is) (gets-there slots id i me inside has may)
 
-  pub puts : (slots id at i new : ℕ) (me : M) (c : Change) (b : ListHand) → at ≡ place + i → i < LIST_WORDS → SpinHolds me.0.spin → may_change c me.0 → MayStore (list_part list me.0) i new c b → Lets holds moves slots id me at (Store new) (λ _. Laid list with_list c b (step slots at new 0 none) me new)
-  puts slots id at i new me c b is inside has host may = subst (λ (z : ℕ). Lets holds moves slots id me z (Store new) (λ _. Laid list with_list c b (step slots z new 0 none) me new)) (sym is) (puts-there slots id i new me c b inside has host may)
+  pub puts : (slots id at i new : ℕ) (me : M) (c : Change) (b : ListHand) → at ≡ place + i → i < LIST_WORDS → SpinHolds me.0.spin → may_change c me.0 (list me.0.ext).list → MayStore (list_part list me.0) i new c b → Lets holds moves slots id me at (Store new) (λ _. Laid list with_list c b (step slots at new 0 none) me new)
+  puts slots id at i new me c b is inside has allows may = subst (λ (z : ℕ). Lets holds moves slots id me z (Store new) (λ _. Laid list with_list c b (step slots z new 0 none) me new)) (sym is) (puts-there slots id i new me c b inside has allows may)
 
   pub sights : (slots id at : ℕ) (me : M) → at ≡ place → Lets holds moves slots id me at Load (Sighted saw_first (step slots at 0 0 none) me)
   sights slots id at me is = subst (λ (z : ℕ). Lets holds moves slots id me z Load (Sighted saw_first (step slots z 0 0 none) me)) (sym is) (sights-there slots id me)

@@ -1,14 +1,14 @@
 -- A removal from its first load to its last store.
-use Rattle.std.proofs.Common.{Option, ◌≡◌, ◌≢◌, ◌∙◌, ℕ, ◌+◌, ◌-◌, ◌*◌, ◌/◌, ◌<◌, ◌≤◌, ◌⊎◌, inl, inr, Bool, true, false, List, [], ◌∷◌, ◌++◌, length, get_or, set, sym, refl, ap, subst, arith, length-set, get_or-set_same, get_or-set_other}
+use Rattle.std.proofs.Common.{Option, ◌≡◌, ◌∙◌, ℕ, ◌+◌, ◌-◌, ◌/◌, ◌<◌, ◌⊎◌, inl, inr, true, false, List, length, get_or, set, sym, refl, ap, subst, arith, length-set, get_or-set_same, get_or-set_other}
 use Rattle.lock_core.specs.declared.view.View.{View}
 use Rattle.lock_core.specs.declared.view.SpinHand.{SpinHand}
 use Rattle.lock_core.proofs.HandLaws.{not-both}
 use Rattle.lock_core.specs.Spins.{holds_in}
 use Rattle.wait_list.specs.declared.view.Waiter.{Waiter}
 use Rattle.wait_list.specs.declared.view.Change.{Change}
-use Rattle.wait_list.specs.declared.view.Change.TheVariants.{Stay, Enter, Leave}
+use Rattle.wait_list.specs.declared.view.Change.TheVariants.{Stay, Leave}
 use Rattle.wait_list.specs.declared.view.ListHand.{ListHand}
-use Rattle.wait_list.specs.Lists.{Part, ChangesWords, Knows, Lists, IsList, IsNear, IsAtPlace, waiter_code, Learnt, MayStore, Removes, Allowed, ShiftsAll, first_code, counted, without, ticket_from, shifted, list_part, listed, leaving, parting, going_on, ending}
+use Rattle.wait_list.specs.Lists.{AllowsChange, AllowsKnown, Part, ChangesWords, Knows, Lists, IsNear, IsAtPlace, waiter_code, Learnt, MayStore, Removes, Allowed, ShiftsAll, first_code, counted, without, shifted, list_part, listed, leaving, parting, going_on, ending}
 use Rattle.wait_list.proofs.Tickets.{length-without, sound-changed}
 use Rattle.wait_list.proofs.Removing.{leave-may, go-may, removed-lists, scanned, shifted-is, goes-on, parts-from}
 use Rattle.wait_list.specs.declared.words.TheConstants.{LIST_WORDS}
@@ -16,6 +16,19 @@ use Rattle.word_bits.specs.declared.TheConstants.{MAX_TASKS}
 
 near-same : (ws us : List ℕ) (l l' : List Waiter) (a b : ℕ) → get_or ws 0 0 ≡ get_or us 0 0 → l ≡ l' → a ≡ b → IsNear ws l a → IsNear us l' b
 near-same ws us l l' a b word list leaver near = subst (λ (p : ℕ × List Waiter × ℕ). (p.0 ≡ first_code p.1) ⊎ (p.0 ≡ 0) ⊎ (p.0 ≡ p.2)) (λ i. (word i, list i, leaver i)) near
+
+-- the host allows the change after two loads, where it allows it at every list that they may find
+pub still-allowed : {E : Type 0} (list : E → ListHand) (with_list : Change → View E → ListHand → E) (may_change : Change → View E → List Waiter → Type 0)
+    (back : (c : Change) (v : View E) (b : ListHand) → list (with_list c v b) ≡ b)
+    (over : (c : Change) (v : View E) (n : ℕ) (b d : ListHand) → with_list c (record v { steps = n; ext = with_list Stay v b }) d ≡ with_list c v d)
+    (may_on : (c : Change) (v : View E) (b : ListHand) (l : List Waiter) → may_change c v l → may_change c (listed with_list Stay v b) l)
+    (v w1 w2 : View E) (c : Change) (b b2 : ListHand) → Learnt (list_part list v) b → w1 ≡ listed with_list Stay v b → Learnt (list_part list w1) b2 → w2 ≡ listed with_list Stay w1 b2
+    → AllowsChange list may_change c v → AllowsKnown list may_change c w2
+still-allowed {E} list with_list may_change back over may_on v w1 w2 c b b2 learnt e1 learnt2 e2 allows =
+    let same : b2 ≡ b = Rattle.wait_list.proofs.Finding.same2 list with_list back over v w1 b learnt e1 w2 b2 learnt2 e2 in
+    let first : may_change c w1 b2.list = subst (λ (z : View E). may_change c z b2.list) (sym e1) (may_on c v b b2.list (allows b2.list (λ k. ap (λ (d : ListHand). d.list) (same ∙ learnt.same k)))) in
+    let hand : list w2.ext ≡ b2 = ap (λ (z : View E). list z.ext) e2 ∙ back Stay w1 b2 in
+    subst (λ (z : View E × ListHand). may_change c z.0 z.1.list) (λ i. (sym e2 i, sym hand i)) (may_on c w1 b2 b2.list first)
 
 module _ {E : Type 0} (list : E → ListHand) (with_list : Change → View E → ListHand → E)
     (back : (c : Change) (v : View E) (b : ListHand) → list (with_list c v b) ≡ b)

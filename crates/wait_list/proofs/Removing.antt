@@ -1,13 +1,13 @@
 -- The stores of a removal, one after the other.
-use Rattle.std.proofs.Common.{◌%◌, ◌==◌, Option, Some, None, eq-eqb, ne_eqb, ◌≡◌, ◌≢◌, ◌∙◌, ℕ, ◌+◌, ◌-◌, ◌*◌, ◌/◌, ◌<◌, ◌≤◌, ◌⊎◌, inl, inr, Bool, true, false, List, [], ◌∷◌, ◌++◌, length, get_or, set, sym, refl, ap, subst, arith, length-set, get_or-set_same, get_or-set_other, ⊎_elim, ltb, if◌then◌else◌}
+use Rattle.std.proofs.Common.{◌%◌, ◌==◌, Option, Some, None, eq-eqb, ne_eqb, ◌≡◌, ◌≢◌, ◌∙◌, ℕ, ◌+◌, ◌-◌, ◌/◌, ◌<◌, ◌≤◌, ◌⊎◌, inl, inr, Bool, true, false, List, [], ◌∷◌, length, get_or, set, sym, refl, ap, subst, arith, length-set, get_or-set_same, get_or-set_other, ⊎_elim, ltb, if◌then◌else◌}
 use Rattle.lock_core.specs.declared.view.View.{View}
 use Rattle.wait_list.specs.declared.view.Change.{Change}
 use Rattle.lock_core.specs.declared.view.SpinHand.{SpinHand}
 use Rattle.lock_core.proofs.HandLaws.{not-both}
 use Rattle.lock_core.specs.Records.{bit}
-use Rattle.wait_list.specs.declared.view.Change.TheVariants.{Stay, Enter, Leave}
+use Rattle.wait_list.specs.declared.view.Change.TheVariants.{Stay, Leave}
 use Rattle.wait_list.specs.declared.view.ListHand.{ListHand}
-use Rattle.wait_list.specs.Lists.{AreTasks, IsAtPlace, waiter_code, Learnt, Removes, parting, list_part, listed, ending, Knows, Lists, IsNear, MayStore, Shifts, ShiftsAll, going_on, shifted, shift_at, first_code, ticket_from, without, counted, IsList, leaving}
+use Rattle.wait_list.specs.Lists.{AreTasks, IsAtPlace, waiter_code, Learnt, parting, list_part, listed, Knows, Lists, IsNear, MayStore, Shifts, ShiftsAll, going_on, shifted, shift_at, first_code, ticket_from, without, counted, IsList, leaving}
 use Rattle.wait_list.proofs.Tickets.{ticket-here, first-place, first-without, length-without, counted-without-own, ticket-none, remove-before, remove-behind}
 use Rattle.wait_list.specs.declared.view.Waiter.{Waiter}
 use Rattle.std.proofs.lemmas.Bool.Decides.{nat_tests}

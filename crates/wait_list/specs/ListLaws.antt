@@ -4,7 +4,7 @@ use mathlib.Core.Option.{some, some-ne-none}
 use lib.ListN.{get_elem?}
 use Rattle.lock_core.specs.declared.view.SpinHand.{SpinHand}
 use Rattle.lock_core.specs.Records.{bit}
-use Rattle.lock_core.specs.Views.{no_spin, SpinHolds}
+use Rattle.lock_core.specs.Views.{no_spin}
 use Rattle.lock_core.specs.Spins.{SpinFrees}
 use Rattle.lock_core.specs.SpinFrames.{holds_at, holds_of}
 use Rattle.lock_core.specs.declared.view.Frame.{Frame}

@@ -145,6 +145,14 @@ module _ {E : Type 0} where
   abbrev pub IsStill : (E → ListHand) → View E → Type 0
   IsStill list v = (list v.ext).changes ≡ false
 
+  -- the host lets it make the change at every list that it may find
+  abbrev pub AllowsChange : (E → ListHand) → (Change → View E → List Waiter → Type 0) → Change → View E → Type 0
+  AllowsChange list may_change c v = (l : List Waiter) → (Knows (list_part list v) → l ≡ (list v.ext).list) → may_change c v l
+
+  -- the host lets it make the change at the list that it knows
+  abbrev pub AllowsKnown : (E → ListHand) → (Change → View E → List Waiter → Type 0) → Change → View E → Type 0
+  AllowsKnown list may_change c v = may_change c v (list v.ext).list
+
   -- it has only made steps
   abbrev pub only_steps : View E → View E → Type 0
   only_steps v u = u ≡ record v { steps = u.steps }

@@ -37,8 +37,8 @@ pub trait ListHost: SpinHost {
     // What a pass knows that has seen this first word, with or without the spin lock.
     ghost saw_first: { View Self.Ext → ℕ → Self.Ext };
 
-    // Where a pass with the spin lock may change the list so.
-    ghost may_change: { Change → View Self.Ext → Type 0 };
+    // Where a pass with the spin lock may change this list so.
+    ghost may_change: { Change → View Self.Ext → List Waiter → Type 0 };
 
     // The rule holds, and this is the list.
     ghost queue: { Calls → List ℕ → List (View Self.Ext) → List Waiter → Type 0 };
@@ -53,9 +53,9 @@ pub trait ListHost: SpinHost {
 
     ghost list_again: { (c : Change) (v : View Self.Ext) (n : ℕ) (b d : ListHand) → d.list ≡ b.list → with_list Stay (record v { steps = n; ext = with_list c v b }) d ≡ with_list c v d };
 
-    ghost may_stay: { (v : View Self.Ext) → may_change Stay v };
+    ghost may_stay: { (v : View Self.Ext) (l : List Waiter) → may_change Stay v l };
 
-    ghost may_on: { (c : Change) (v : View Self.Ext) (b : ListHand) → may_change c v → may_change c (listed with_list Stay v b) };
+    ghost may_on: { (c : Change) (v : View Self.Ext) (b : ListHand) (l : List Waiter) → may_change c v l → may_change c (listed with_list Stay v b) l };
 
     ghost queued: { (k : Calls) (ws : List ℕ) (vs : List (View Self.Ext)) → Self.holds k ws vs → (l : List Waiter) × queue k ws vs l };
 
@@ -64,11 +64,11 @@ pub trait ListHost: SpinHost {
     // Each move of the rule leaves the list, appends one waiter, or removes one.
     ghost list_moves: { (k : Calls) (id : ℕ) (ws us : List ℕ) (vs vs' : List (View Self.Ext)) → Self.moves k id ws vs us vs' → ListMoves id (part LIST LIST_WORDS ws) (map (list_part list) vs) (part LIST LIST_WORDS us) (map (list_part list) vs') };
 
-    ghost list_may: { (k : Calls) (ws : List ℕ) (vs : List (View Self.Ext)) (l : List Waiter) (id : ℕ) (v : View Self.Ext) (c : Change) → queue k ws vs l → get_elem? vs id ≡ some v → SpinHolds v.spin → may_change c v → Allowed c l };
+    ghost list_may: { (k : Calls) (ws : List ℕ) (vs : List (View Self.Ext)) (l : List Waiter) (id : ℕ) (v : View Self.Ext) (c : Change) → queue k ws vs l → get_elem? vs id ≡ some v → SpinHolds v.spin → may_change c v l → Allowed c l };
 
     // A step on a word of the list by a pass with the spin lock that keeps the list's own facts
     // keeps every other fact of the rule.
-    ghost lists: { (k : Calls) (ws : List ℕ) (vs : List (View Self.Ext)) (l : List Waiter) (id i n : ℕ) (v : View Self.Ext) (c : Change) (b : ListHand) → queue k ws vs l → get_elem? vs id ≡ some v → i < LIST_WORDS → SpinHolds v.spin → may_change c v → b.list ≡ changed c l → LeaverGoes c (list v.ext).leaver b.leaver → ListKept (slice_set (part LIST LIST_WORDS ws) i n) (changed c l) (slice_set (map (list_part list) vs) id (v.spin, b)) → Goes (Self.holds k) (Self.moves k) id ws vs (slice_set ws (LIST + i) n) (slice_set vs id (listed with_list c v b)) };
+    ghost lists: { (k : Calls) (ws : List ℕ) (vs : List (View Self.Ext)) (l : List Waiter) (id i n : ℕ) (v : View Self.Ext) (c : Change) (b : ListHand) → queue k ws vs l → get_elem? vs id ≡ some v → i < LIST_WORDS → SpinHolds v.spin → may_change c v l → b.list ≡ changed c l → LeaverGoes c (list v.ext).leaver b.leaver → ListKept (slice_set (part LIST LIST_WORDS ws) i n) (changed c l) (slice_set (map (list_part list) vs) id (v.spin, b)) → Goes (Self.holds k) (Self.moves k) id ws vs (slice_set ws (LIST + i) n) (slice_set vs id (listed with_list c v b)) };
 
     // So does a load of the first word by any pass.
     ghost firsts: { (k : Calls) (ws : List ℕ) (vs : List (View Self.Ext)) (l : List Waiter) (id : ℕ) (v : View Self.Ext) → queue k ws vs l → get_elem? vs id ≡ some v → Goes (Self.holds k) (Self.moves k) id ws vs ws (slice_set vs id (sighted saw_first v (slice_index (part LIST LIST_WORDS ws) 0))) };

@@ -3,7 +3,7 @@ ghost use Rattle.std.specs.Prelude.{◌≡◌, ◌<◌, ◌≤◌, length, Optio
 ghost use Rattle.lock_core.specs.Handles.{Finds, IsLatest, view_of, past_of, task_in, SitsAt, KeepsPast, SaysSame};
 ghost use Rattle.lock_core.specs.Views.{SpinHolds};
 ghost use Rattle.wait_list.specs.declared.view.Change.TheVariants.{Enter, Leave};
-ghost use Rattle.wait_list.specs.Lists.{Appends, ChangesWords, FindsFirst, FindsNext, IsAtPlace, IsStill, Knows, Removes, Shifts, ShiftsAll, TellsFirst, hand_at, list_part, only_steps, waiter_code};
+ghost use Rattle.wait_list.specs.Lists.{AllowsChange, Appends, ChangesWords, FindsFirst, FindsNext, IsAtPlace, IsStill, Knows, Removes, Shifts, ShiftsAll, TellsFirst, hand_at, list_part, only_steps, waiter_code};
 
 use crate::host::ListHost;
 use crate::view::Waiter;
@@ -19,7 +19,7 @@ pub fn append<H: ListHost>(site: &Site<H>, pass: &mut Pass<H>, waiter: Waiter)
     requires held { SpinHolds (view_of pass.old).spin }
     requires still { IsStill H.list (view_of pass.old) }
     requires task { waiter.task < MAX_TASKS }
-    requires host { H.may_change (Enter waiter) (view_of pass.old) }
+    requires host { AllowsChange H.list H.may_change (Enter waiter) (view_of pass.old) }
     ensures own { SitsAt site.now pass.new }
     ensures goes_on { KeepsPast pass.old pass.new }
     ensures last { IsLatest pass.new }
@@ -111,7 +111,7 @@ pub fn remove<H: ListHost>(site: &Site<H>, pass: &mut Pass<H>, task: u32)
     requires held { SpinHolds (view_of pass.old).spin }
     requires still { IsStill H.list (view_of pass.old) }
     requires task { task < MAX_TASKS }
-    requires host { H.may_change (Leave task) (view_of pass.old) }
+    requires host { AllowsChange H.list H.may_change (Leave task) (view_of pass.old) }
     ensures own { SitsAt site.now pass.new }
     ensures goes_on { KeepsPast pass.old pass.new }
     ensures last { IsLatest pass.new }

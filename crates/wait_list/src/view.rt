@@ -2,7 +2,7 @@
 //! made: they exist in proofs alone.
 
 /// One who waits for a lock.
-#[derive(Clone, Copy, Debug, PartialEq, Eq)]
+#[derive(Clone, Copy, Debug, Default, PartialEq, Eq)]
 pub struct Waiter {
     /// Its task, below `MAX_TASKS`.
     pub task: u32,

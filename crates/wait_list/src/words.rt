@@ -8,7 +8,7 @@ ghost use Rattle.lock_core.specs.Views.{SpinHolds};
 ghost use Rattle.wait_list.specs.declared.view.ListHand.{ListHand};
 ghost use Rattle.wait_list.specs.declared.view.Change.{Change};
 ghost use Rattle.wait_list.specs.declared.view.Change.TheVariants.{Stay, Enter, Leave};
-ghost use Rattle.wait_list.specs.Lists.{Allowed, HasWords, Knows, LearntWord, MayStore, list_part, listed, sighted, no_list, waiter_of, entering, leaving, going_on, ending};
+ghost use Rattle.wait_list.specs.Lists.{Allowed, AllowsKnown, HasWords, Knows, LearntWord, MayStore, list_part, listed, sighted, no_list, waiter_of, entering, leaving, going_on, ending};
 ghost use Rattle.wait_list.specs.Plays.{Got, Laid, Sighted};
 
 use crate::host::ListHost;
@@ -88,7 +88,7 @@ fn store<H: ListHost, L: StoreKind>(site: &Site<H>, pass: &mut Pass<H>, at: usiz
     requires own { SitsAt site.now pass.old }
     requires held { SpinHolds (view_of pass.old).spin }
     requires inside { at < LIST_WORDS }
-    requires host { H.may_change L.change (view_of pass.old) }
+    requires host { AllowsKnown H.list H.may_change L.change (view_of pass.old) }
     requires may { MayStore (list_part H.list (view_of pass.old)) at new L.change L.hand }
     ensures own { SitsAt site.now pass.new }
     ensures goes_on { KeepsPast pass.old pass.new }
@@ -107,7 +107,8 @@ pub(crate) fn enter<H: ListHost>(site: &Site<H>, pass: &mut Pass<H>, at: usize, 
     requires inside { (TICKETS_AT ≤ at) × (at < LIST_WORDS) }
     requires knows { Knows (list_part H.list (view_of pass.old)) }
     requires lists { HasWords (H.list (view_of pass.old).ext) }
-    requires host { H.may_change (Enter (waiter_of at ticket)) (view_of pass.old) }
+    requires host { AllowsKnown H.list H.may_change
+        (Enter (waiter_of at ticket)) (view_of pass.old) }
     ensures own { SitsAt site.now pass.new }
     ensures goes_on { KeepsPast pass.old pass.new }
     ensures last { IsLatest pass.new }
@@ -126,7 +127,8 @@ pub(crate) fn leave<H: ListHost>(site: &Site<H>, pass: &mut Pass<H>, at: usize)
     requires inside { (TICKETS_AT ≤ at) × (at < LIST_WORDS) }
     requires knows { Knows (list_part H.list (view_of pass.old)) }
     requires lists { HasWords (H.list (view_of pass.old).ext) }
-    requires host { H.may_change (Leave (at - TICKETS_AT)) (view_of pass.old) }
+    requires host { AllowsKnown H.list H.may_change
+        (Leave (at - TICKETS_AT)) (view_of pass.old) }
     ensures own { SitsAt site.now pass.new }
     ensures goes_on { KeepsPast pass.old pass.new }
     ensures last { IsLatest pass.new }

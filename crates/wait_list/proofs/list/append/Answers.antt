@@ -1,10 +1,10 @@
-use Rattle.std.proofs.Common.{arith, ◌≡◌, ℕ, ◌+◌, ◌*◌, Bool, true, false, sym, refl, ap, ◌∙◌, subst}
-use Rattle.lock_core.specs.Records.{bit}
+use Rattle.std.proofs.Common.{arith, ◌≡◌, ℕ, List, ◌+◌, ◌*◌, sym, refl, ap, ◌∙◌, subst}
 use Rattle.lock_core.specs.declared.view.View.{View}
 use Rattle.wait_list.specs.declared.view.Waiter.{Waiter}
+use Rattle.wait_list.specs.declared.view.ListHand.{ListHand}
 use Rattle.wait_list.specs.declared.view.Change.TheVariants.{Stay, Enter}
-use Rattle.wait_list.specs.Lists.{Part, Knows, Lists, MayStore, Appends, list_part, listed, waiter_of, entering, going_on, ending}
-use Rattle.wait_list.proofs.Appending.{byte-bit, part-after, enter-may, count-may, end-may, first-done, number-done, number-few, same-waiter, goes-on-may, closes-first-may, appends-first, closes-may, appends-behind}
+use Rattle.wait_list.specs.Lists.{Part, Knows, Lists, MayStore, list_part, listed, waiter_of, ending}
+use Rattle.wait_list.proofs.Appending.{byte-bit, part-after, number-few, same-waiter, goes-on-may, closes-first-may, appends-first, closes-may, appends-behind}
 use Rattle.wait_list.proofs.list.append.Goals as goal
 
 pub overflow_add-ticket : goal.overflow_add-ticket
@@ -25,7 +25,7 @@ enter-requires g c = let v = c.args.pass.now.seat.me.0.view in let t = c.word-nu
       inside = (omega arith, omega (arith, small));
       knows = subst Knows (sym part) t.1.knows;
       lists = subst (λ (p : Part). Lists p.1.words p.1.list) (sym part) (t.1.lists (t.1.changes ∙ c.requires.still));
-      host = subst (λ (z : Waiter × View _). g.H.ListHost.may_change (Enter z.0) z.1) (λ i. (sym same i, sym t.3 i)) (g.H.ListHost.may_on (Enter w) v t.0 c.requires.host);
+      host = subst (λ (z : Waiter × View _ × List Waiter). g.H.ListHost.may_change (Enter z.0) z.1 z.2) (λ i. (sym same i, sym t.3 i, (sym part i).1.list)) (g.H.ListHost.may_on (Enter w) v t.0 t.0.list (c.requires.host t.0.list (λ k. ap (λ (b : ListHand). b.list) (t.1.same k))));
     }
 
 pub overflow_add-number-else-number-eq0 : goal.overflow_add-number-else-number-eq0

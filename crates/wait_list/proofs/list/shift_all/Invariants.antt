@@ -1,7 +1,7 @@
-use Rattle.std.proofs.Common.{◌≡◌, ◌≤◌, true, length}
+use Rattle.std.proofs.Common.{◌≡◌, ◌≤◌}
 use Rattle.lock_core.specs.Passes.{Sits}
 use Rattle.lock_core.specs.Pasts.{GoesOn, IsOwnStep}
-use Rattle.wait_list.specs.Lists.{Knows, IsNear, ShiftsAll, list_part}
+use Rattle.wait_list.specs.Lists.{ShiftsAll}
 use Rattle.wait_list.proofs.list.shift_all.Given as goal
 
 abbrev pub invariant-loop-other : goal.invariant-loop-other

@@ -1,4 +1,4 @@
-use Rattle.std.proofs.Common.{arith, ap, ◌+◌}
+use Rattle.std.proofs.Common.{arith, ap}
 use Rattle.lock_core.proofs.Sitting.{sits-on}
 use Rattle.wait_list.proofs.Listing.{sights}
 use Rattle.wait_list.proofs.words.first_word.Goals as goal
