@@ -123,7 +123,7 @@ module _ {Call : Type 0} {o : Obj Call} {k : Plan} {held : Held} where
   }
 
 -- what a step found is found also of a stretch that holds it
-found-within : {task task' : Option ℕ} {step at n : ℕ} {p q r s : List Moment} → task' ≡ task → GoesOn p q → GoesOn r s → FoundAtStep task' step at n q r → FoundAtStep task step at n p s
+pub found-within : {task task' : Option ℕ} {step at n : ℕ} {p q r s : List Moment} → task' ≡ task → GoesOn p q → GoesOn r s → FoundAtStep task' step at n q r → FoundAtStep task step at n p s
 found-within {step = step} same before after f = record {
   past = f.past;
   by = subst (λ (t : Option ℕ). IsStepBy t step f.past) same f.by;

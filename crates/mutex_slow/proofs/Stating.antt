@@ -107,6 +107,7 @@ module _ {Call : Type 0} (o : Obj Call) (size : ℕ) (k : Plan) (ws : List ℕ) 
     sound = r.list.sound;
     states = λ free. r.list.quiet (quiet vs (λ j v at. changes (r.list.each j (list_part list_of v) (at_map (list_part list_of) vs j v at)) (all free j v at)));
     passes = has-pass;
+    has = λ id h at. let p = at_unmap hand_of vs id h at in (bit p.0.ext.queued, p.0.ext.appends, at_map (marks_of standing) vs id p.0 p.1);
     marked = marks-list;
     owner = record {
       holder = holder-of (map hand_of vs) (owner_in ws) own named;

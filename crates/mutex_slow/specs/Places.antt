@@ -9,14 +9,16 @@ use Rattle.word_bits.specs.Objects.{Obj}
 use Rattle.lock_core.specs.declared.view.Held.TheVariants.{Alone}
 use Rattle.lock_core.specs.declared.how.How.{How}
 use Rattle.lock_core.specs.declared.how.How.TheVariants.{Fast, Spun, Slept}
-use Rattle.lock_core.specs.Shown.{Shown, FindsSince, shown}
+use Rattle.lock_core.specs.Pasts.{FoundSince}
+use Rattle.lock_core.specs.Shown.{Shown, FindsAtStep, shown}
 use Rattle.lock_core.specs.Locking.{Keeps, Takes}
 use Rattle.wait_list.specs.declared.view.Waiter.{Waiter}
 use Rattle.mutex_slow.specs.declared.view.MutexHand.{MutexHand}
 use Rattle.mutex_slow.specs.declared.view.Point.TheVariants.{Rest}
-use Rattle.wait_list.specs.Lists.{Knows, list_part, first_of, waiter_code}
+use Rattle.wait_list.specs.Lists.{waiter_code}
 use Rattle.lock_core.specs.Holding.{released}
-use Rattle.mutex_slow.specs.Mutexes.{V, list_at, list_of, owner_at}
+use Rattle.mutex_word.specs.Tries.{FindsUnasked}
+use Rattle.mutex_slow.specs.Mutexes.{V, list_at, owner_at}
 
 -- how a pass has stood in line
 abbrev pub line_of : MutexHand → Line
@@ -90,37 +92,30 @@ OnlyConsumed v u = u.hand ≡ record v.hand { heard = u.hand.heard; consumed = v
 abbrev pub IsFreed : V → V → Type 0
 IsFreed v u = u.hand ≡ released v.hand u.hand.freed
 
--- it knows the list, of which this is the first waiter, and the word that it left picks it; where nobody waits, that word names nobody
-pub record HandedTo (first : Option Waiter) (u : V) : Type 0 where
-  pub knows : Knows (list_part list_of u)
-  pub is : first ≡ first_of u.ext.list.list
-  pub picks : (w : Waiter) → first ≡ Some w → (u.hand.freed / 8 ≡ w.task + 1) × (4 ≤ u.hand.freed % 8)
-  pub nobody : first ≡ None → u.hand.freed < 2
+-- the call's step of this number found the task's code in the owner word, with these flags; none of its steps before that, but for the first, found a handoff asked for
+abbrev pub DecidesAt : (step flags : ℕ) → Shown → Shown → Type 0
+DecidesAt step flags v u = (v.steps < step) × (step ≤ u.steps) × ((n : ℕ) × FindsAtStep step owner_at n v u × (n / 8 ≡ task_code v.hand.task) × (n % 8 ≡ flags)) × FindsUnasked v.hand.task owner_at (v.steps + 1) step v.past u.past
 
--- a step that the pass made since found the task's code in the owner word, with these flags
-abbrev pub FindsFlags : ℕ → Shown → Shown → Type 0
-FindsFlags flags v u = (n : ℕ) × FindsSince owner_at n v u × (n / 8 ≡ task_code v.hand.task) × (n % 8 ≡ flags)
-
--- the step that ended the hold found no handoff asked for, and left the flags alone
+-- the step that ended the hold found no handoff asked for, and left the flags alone; where it left none, the call didn't go through the wait lock
 abbrev pub EndsUnasked : Shown → Shown → Type 0
-EndsUnasked v u = (u.hand.freed < 2) × FindsFlags u.hand.freed v u
+EndsUnasked v u = (u.hand.freed < 2) × (u.hand.freed ≡ 0 → u.spin.entries ≡ v.spin.entries) × ((step : ℕ) × DecidesAt step u.hand.freed v u)
 
--- a step found a handoff asked for, and the pass still held
-abbrev pub FindsAsked : Shown → Shown → Type 0
-FindsAsked v u = (flags : ℕ) × (2 ≤ flags) × (flags < 4) × FindsFlags flags v u
+-- the call's step of this number found a handoff asked for, and the pass still held
+abbrev pub FindsAsked : ℕ → Shown → Shown → Type 0
+FindsAsked step v u = (flags : ℕ) × (2 ≤ flags) × (flags < 4) × DecidesAt step flags v u
 
 -- a word that picks this waiter, or names nobody
 abbrev pub Names : Option Waiter → ℕ → Type 0
 Names None word = word < 2
 Names (Some w) word = (word / 8 ≡ w.task + 1) × (4 ≤ word % 8)
 
--- a step found the list's first word, which has the code of this waiter or 0, and the word that the pass left names the waiter
-abbrev pub NamesFirst : Option Waiter → Shown → Shown → Type 0
-NamesFirst first v u = FindsSince list_at (waiter_code first) v u × Names first u.hand.freed
+-- a step behind the one of this number found the list's first word, which has the code of this waiter or 0, and the word that the pass left names the waiter
+abbrev pub NamesFirst : ℕ → Option Waiter → Shown → Shown → Type 0
+NamesFirst begun first v u = FoundSince v.hand.task begun u.steps list_at (waiter_code first) v.past u.past × Names first u.hand.freed
 
--- it found a handoff asked for, went through the wait lock, and named the first waiter, or nobody where none waited
+-- it found a handoff asked for; then it took the wait lock; and then it found the first waiter, and named it, or nobody where none waited
 abbrev pub EndsAsked : Shown → Shown → Type 0
-EndsAsked v u = FindsAsked v u × (v.spin.entries < u.spin.entries) × ((first : Option Waiter) × NamesFirst first v u)
+EndsAsked v u = (v.spin.entries < u.spin.entries) × ((step : ℕ) × FindsAsked step v u × (step < u.spin.took)) × ((first : Option Waiter) × NamesFirst u.spin.took first v u)
 
 -- how a call that releases ends its hold
 abbrev pub EndsHold : Shown → Shown → Type 0

@@ -39,11 +39,12 @@ line_marks queued appends = record { numbers = queued ∷ appends ∷ [] }
 abbrev pub StandsMarked : ℕ → (queued appends : ℕ) → Moment → Type 0
 StandsMarked id queued appends m = get_elem? m.marks id ≡ some (line_marks queued appends)
 
--- while this is the list: its words state it while the wait lock is free, each waiter has a pass, the mark of each pass says whether its task waits, and the owner word states who holds, who is picked, and whether tasks wait
+-- while this is the list: its words state it while the wait lock is free, each waiter has a pass, each pass has a mark, which says whether its task waits, and the owner word states who holds, who is picked, and whether tasks wait
 pub record IsListed (m : Moment) (l : List Waiter) : Type 0 where
   pub sound : IsList l
   pub states : IsWaitLockFree m.spins → Lists (list_words m.words) l
   pub passes : (t : ℕ) → 0 < counted t l → HasPass m.hands t
+  pub has : (id : ℕ) (h : Hand) → get_elem? m.hands id ≡ some h → (queued appends : ℕ) × StandsMarked id queued appends m
   pub marked : (id t queued appends : ℕ) (h : Hand) → get_elem? m.hands id ≡ some h → h.task ≡ Some t → StandsMarked id queued appends m → counted t l ≡ queued
   pub owner : StatesOwner (owner_in m.words) (IsWaitLockFree m.spins) l m.hands
 

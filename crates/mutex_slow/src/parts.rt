@@ -7,7 +7,7 @@ ghost use Rattle.lock_core.specs.Locking.{Misses, SawPending};
 ghost use Rattle.lock_core.specs.Handles.{view_of, hand_in, task_in, held_in, SitsAt};
 ghost use Rattle.mutex_slow.specs.Mutexes.{owner_at};
 ghost use Rattle.qspin_word.specs.Ways.{SpinGained};
-ghost use Rattle.mutex_slow.specs.Places.{seen_of, StepsOn, TakesAlone, KeepsHand, KeepsMisses, KeepsFronts, StandsSame, IsOutside, IsInLine, HasFailed, OnlyHeard, OnlyConsumed, OnlyTried, IsFreed, HandedTo, EndsUnasked, FindsAsked, NamesFirst};
+ghost use Rattle.mutex_slow.specs.Places.{seen_of, StepsOn, TakesAlone, KeepsHand, KeepsMisses, KeepsFronts, StandsSame, IsOutside, IsInLine, HasFailed, OnlyHeard, OnlyConsumed, OnlyTried, IsFreed, EndsUnasked, FindsAsked, NamesFirst};
 
 use crate::rule::MutexRule;
 use lock_core::{Interrupted, Pass, Site};
@@ -101,6 +101,7 @@ pub fn leave<O: Object>(site: &Site<MutexRule<O>>, pass: &mut Pass<MutexRule<O>>
     ensures on { StepsOn site.now pass.old pass.new }
     ensures unspun { SpinRests (view_of pass.new).spin }
     ensures entries { (view_of pass.new).spin.entries ≡ (view_of pass.old).spin.entries }
+    ensures since { (view_of pass.new).spin.took ≡ (view_of pass.old).spin.took }
     ensures fronts { KeepsFronts pass.old pass.new }
     ensures hand { KeepsHand pass.old pass.new }
     ensures ext { (view_of pass.new).ext ≡ (view_of pass.old).ext }
@@ -235,9 +236,11 @@ pub fn release<O: Object, W: Wait>(
         × ((hand_in pass.new).freed % 2 ≡ 0)) }
     ensures waiters { result ≡ Released.Waiters →
         IsFreed (view_of pass.old) (view_of pass.new) }
+    ensures some { result ≡ Released.Waiters → (hand_in pass.new).freed ≢ 0 }
     ensures ends { result ≢ Released.Asked → EndsUnasked (seen_of pass.old) (seen_of pass.new) }
     ensures asked { result ≡ Released.Asked → KeepsHand pass.old pass.new }
-    ensures found { result ≡ Released.Asked → FindsAsked (seen_of pass.old) (seen_of pass.new) }
+    ensures found { result ≡ Released.Asked →
+        FindsAsked (view_of pass.new).steps (seen_of pass.old) (seen_of pass.new) }
 {
     // One exchange is enough where nobody waits.
     let Err(_) = release_plain(site, pass) else {
@@ -266,8 +269,8 @@ pub fn hand_over<O: Object, W: Wait>(
     ensures outside { IsOutside (view_of pass.new) }
     ensures same { StandsSame (view_of pass.old) (view_of pass.new) }
     ensures freed { IsFreed (view_of pass.old) (view_of pass.new) }
-    ensures handed { HandedTo result (view_of pass.new) }
-    ensures named { NamesFirst result (seen_of pass.old) (seen_of pass.new) }
+    ensures named { NamesFirst (view_of pass.old).steps result
+        (seen_of pass.old) (seen_of pass.new) }
 {
     let Some(first) = list::first(site, pass) else {
         tries::hand_over(site, rt, pass, None);

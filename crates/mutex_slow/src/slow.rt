@@ -322,7 +322,6 @@ pub fn unlock<O: Object, W: Wait, C: Crew>(
     ensures appends { KeepsAppends pass.old pass.new }
 {
     match parts::release(site, rt, pass) {
-        Released::Done => {}
         Released::Waiters => {
             parts::enter(site, rt, pass);
             let first = parts::first_waiter(site, pass);
@@ -335,5 +334,6 @@ pub fn unlock<O: Object, W: Wait, C: Crew>(
             parts::leave(site, pass);
             wake(crew, first);
         }
+        Released::Done => {}
     }
 }

@@ -1,16 +1,31 @@
 -- A try goes on from word to word.
-use Rattle.std.proofs.Common.{◌≡◌, ◌≢◌, ◌∙◌, ℕ, ◌+◌, ◌%◌, ◌<◌, ◌≤◌, Bool, true, false, Option, Some, None, refl, sym, ap, subst, arith}
+use Rattle.std.proofs.Common.{◌≡◌, ◌≢◌, ◌∙◌, ℕ, ◌+◌, ◌%◌, ◌<◌, ◌≤◌, Bool, true, false, List, Option, Some, None, refl, sym, ap, subst, arith}
+use mathlib.Core.Logic.{dite}
+use native.Mathlib.Decide.{ℕ_discrete}
 use Rattle.word_bits.specs.Objects.{Obj}
 use Rattle.word_bits.specs.Histories.{Plan}
 use Rattle.lock_core.specs.declared.view.View.{View}
 use Rattle.lock_core.specs.declared.view.Hand.{Hand}
+use Rattle.lock_core.specs.declared.view.Moment.{Moment}
+use Rattle.lock_core.specs.Pasts.{FoundAt, FoundAtStep, GoesOn, IsOwnStep}
+use Rattle.lock_core.specs.RunLaws.{found-at-step}
 use Rattle.mutex_word.specs.declared.host.Turn.{Turn}
 use Rattle.mutex_word.specs.declared.host.Turn.TheVariants.{Ask}
 use Rattle.mutex_word.specs.declared.tries.Tried.{Tried}
 use Rattle.mutex_word.specs.declared.tries.Tried.TheVariants.{Took, Asked, Failed}
 use Rattle.mutex_word.specs.Holders.{TakesOwner, turns}
-use Rattle.mutex_word.specs.Tries.{IsFail, MayTry, SawWord, Acted, CameTo, missing}
+use Rattle.mutex_word.specs.Tries.{FindsUnasked, IsFail, MayTry, SawWord, Acted, CameTo, missing}
 use Rattle.mutex_word.proofs.Owning.{fail-or-on}
+
+-- a step that found no handoff asked for leaves it to the next one to tell
+pub unasked-on : {E : Type 0} (v u : View E) (task : Option ℕ) (place n begun : ℕ) (old past new : List Moment) → v.hand.task ≡ task → FindsUnasked task place begun v.steps old past → IsOwnStep v past → FoundAt place n past → n % 8 < 2 → GoesOn old past → GoesOn past new → u.steps ≡ v.steps + 1
+    → FindsUnasked task place begun u.steps old new
+unasked-on v u task place n begun old past new named unasked own found few before after next step later sooner = dite (ℕ_discrete step v.steps)
+    (λ last. (n, subst (λ (s : ℕ). FoundAtStep task s place n old new) (sym last) (found-at-step v task place n old past new named own found before after), few))
+    (λ earlier. let f = unasked step later (omega (arith, sooner, next, earlier)) in (f.0, stays-found f.1, f.2))
+  where
+    stays-found : {m : ℕ} → FoundAtStep task step place m old past → FoundAtStep task step place m old new
+    stays-found f = record { past = f.past; by = f.by; found = f.found; after = f.after; goes_on = λ p t. after p (f.goes_on p t) }
 
 module _ {E : Type 0} (turned : Turn → View E → E) (may_own : Turn → View E → ℕ → ℕ → Type 0) (asks counts : Bool) where
   pub may-later : (v u : View E) (s : ℕ) → u ≡ record v { steps = s } → MayTry may_own asks v → MayTry may_own asks u

@@ -8,7 +8,7 @@ use Rattle.lock_core.specs.declared.view.View.{View}
 use Rattle.lock_core.specs.declared.view.Hand.{Hand}
 use Rattle.lock_core.specs.declared.view.Moment.{Moment}
 use Rattle.lock_core.specs.Holding.{missed, released}
-use Rattle.lock_core.specs.Pasts.{FoundAt}
+use Rattle.lock_core.specs.Pasts.{FoundAt, FoundAtStep}
 use Rattle.mutex_word.specs.declared.host.Turn.{Turn}
 use Rattle.mutex_word.specs.declared.host.Turn.TheVariants.{Fail, Take, Ask, Free, Hand as HandOn}
 use Rattle.mutex_word.specs.declared.tries.Tried.{Tried}
@@ -116,6 +116,10 @@ module _ {E : Type 0} (turned : Turn → View E → E) where
   -- it has handed its word over to this waiter, or to nobody
   abbrev pub HandsOver : Option ℕ → View E → View E → Type 0
   HandsOver first v u = (s n m : ℕ) × (v.steps ≤ s) × IsMine v.hand.task n × IsHanded first n m × Left HandOn (at_step v s) m u
+
+-- each of the steps behind the first number and below the second, of the pass that has the task's number, found a word at this place by which no handoff is asked for
+abbrev pub FindsUnasked : Option ℕ → (place begun done : ℕ) → (old new : List Moment) → Type 0
+FindsUnasked task place begun done old new = (step : ℕ) → begun < step → step < done → (n : ℕ) × FoundAtStep task step place n old new × (n % 8 < 2)
 
 -- the pass's last step found its word at this place, with no handoff asked for, and left these flags of it
 abbrev pub LeavesFlags : (place : ℕ) → Option ℕ → ℕ → List Moment → Type 0

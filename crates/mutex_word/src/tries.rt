@@ -8,7 +8,7 @@ ghost use Rattle.mutex_word.specs.declared.host.Turn.{Turn};
 ghost use Rattle.mutex_word.specs.declared.host.Turn.TheVariants.{Take as TakeTurn, Ask as AskTurn, Free};
 ghost use Rattle.mutex_word.specs.declared.tries.Tried.TheVariants.{Failed};
 ghost use Rattle.mutex_word.specs.Holders.{IsAsk, TakesOwner, turns};
-ghost use Rattle.mutex_word.specs.Tries.{Acted, CameTo, FindsAsked, HandsOver, IsFail, IsLeft, IsMine, IsTake, LeavesFlags, Left, MayFail, MayHandOver, MayRelease, MayTry, ReleasedTo, Says, SawWord};
+ghost use Rattle.mutex_word.specs.Tries.{Acted, CameTo, FindsAsked, FindsUnasked, HandsOver, IsFail, IsLeft, IsMine, IsTake, LeavesFlags, Left, MayFail, MayHandOver, MayRelease, MayTry, ReleasedTo, Says, SawWord};
 ghost use Rattle.mutex_word.specs.Plays.{AskedBy, LeftBy, Looked, Mine, TookBy};
 
 use crate::host::OwnerHost;
@@ -307,6 +307,8 @@ pub fn release<H: OwnerHost, W: Wait>(
     ensures face { IfErr result (λ _. SaysSame pass.old pass.new) }
     ensures asked { IfErr result (λ n. FindsAsked (view_of pass.old) n (view_of pass.new)) }
     ensures found { IfErr result (λ n. FoundAt H.OWNER n (past_of pass.new)) }
+    ensures unasked { FindsUnasked (task_in pass.old) H.OWNER (view_of pass.old).steps
+        (view_of pass.new).steps (past_of pass.old) (past_of pass.new) }
 {
     let mut word = load_own(site, pass);
     for _ in rt.forever() {

@@ -8,13 +8,13 @@ returns-in_default-clause-ends g c = λ _. ends-plain c.args.pass.now.seat.me.0.
     c.in_default.ensures.released c.in_default.ensures.own_code c.release_plain.ensures.last c.release_plain.ensures.goes_on
 
 pub returns-in-Ok-eq0-clause-ends : goal.returns-in-Ok-eq0-clause-ends
-returns-in-Ok-eq0-clause-ends g c = λ _. ends-flags c.args.pass.now.seat.me.0.view c.release_plain.new.pass.seat.me.0.view c.release.new.pass.seat.me.0.view c.args.pass.now.seat.me.0.past c.release.new.pass.seat.me.0.past c.release_plain.new.pass.face.task c.in-Ok-eq0.field-0 (c.release_plain.ensures.own.task ∙ ap (λ (v : V). v.hand.task) c.in-Err.ensures.looked)
-    c.in-Err.ensures.looked c.in-Ok-eq0.ensures.flags c.in-Ok-eq0.ensures.left c.release.ensures.last (λ p t. c.release.ensures.goes_on p (c.release_plain.ensures.goes_on p t))
+returns-in-Ok-eq0-clause-ends g c = λ _. ends-flags c.args.pass.now.seat.me.0.view c.release_plain.new.pass.seat.me.0.view c.release.new.pass.seat.me.0.view c.args.pass.now.seat.me.0.past c.release_plain.new.pass.seat.me.0.past c.release.new.pass.seat.me.0.past c.release_plain.new.pass.face.task c.in-Ok-eq0.field-0 (c.release_plain.ensures.own.task ∙ ap (λ (v : V). v.hand.task) c.in-Err.ensures.looked)
+    c.in-Err.ensures.looked c.in-Ok-eq0.ensures.flags c.in-Ok-eq0.ensures.left c.release.ensures.last c.release_plain.ensures.goes_on c.release.ensures.goes_on c.release.ensures.unasked
 
 pub returns-in-Ok-clause-ends : goal.returns-in-Ok-clause-ends
-returns-in-Ok-clause-ends g c = λ _. ends-flags c.args.pass.now.seat.me.0.view c.release_plain.new.pass.seat.me.0.view c.release.new.pass.seat.me.0.view c.args.pass.now.seat.me.0.past c.release.new.pass.seat.me.0.past c.release_plain.new.pass.face.task c.in-Ok.field-0 (c.release_plain.ensures.own.task ∙ ap (λ (v : V). v.hand.task) c.in-Err.ensures.looked)
-    c.in-Err.ensures.looked c.in-Ok.ensures.flags c.in-Ok.ensures.left c.release.ensures.last (λ p t. c.release.ensures.goes_on p (c.release_plain.ensures.goes_on p t))
+returns-in-Ok-clause-ends g c = λ _. ends-flags c.args.pass.now.seat.me.0.view c.release_plain.new.pass.seat.me.0.view c.release.new.pass.seat.me.0.view c.args.pass.now.seat.me.0.past c.release_plain.new.pass.seat.me.0.past c.release.new.pass.seat.me.0.past c.release_plain.new.pass.face.task c.in-Ok.field-0 (c.release_plain.ensures.own.task ∙ ap (λ (v : V). v.hand.task) c.in-Err.ensures.looked)
+    c.in-Err.ensures.looked c.in-Ok.ensures.flags c.in-Ok.ensures.left c.release.ensures.last c.release_plain.ensures.goes_on c.release.ensures.goes_on c.release.ensures.unasked
 
 pub returns-in-Err-release-clause-found : goal.returns-in-Err-release-clause-found
-returns-in-Err-release-clause-found g c = λ _. looks-asked c.args.pass.now.seat.me.0.view c.release_plain.new.pass.seat.me.0.view c.release.new.pass.seat.me.0.view c.args.pass.now.seat.me.0.past c.release.new.pass.seat.me.0.past c.in-Err-release.field-0
-    c.in-Err.ensures.looked c.in-Err-release.ensures.asked c.in-Err-release.ensures.found c.release.ensures.last (λ p t. c.release.ensures.goes_on p (c.release_plain.ensures.goes_on p t))
+returns-in-Err-release-clause-found g c = λ _. looks-asked c.args.pass.now.seat.me.0.view c.release_plain.new.pass.seat.me.0.view c.release.new.pass.seat.me.0.view c.args.pass.now.seat.me.0.past c.release_plain.new.pass.seat.me.0.past c.release.new.pass.seat.me.0.past c.release_plain.new.pass.face.task c.in-Err-release.field-0 (c.release_plain.ensures.own.task ∙ ap (λ (v : V). v.hand.task) c.in-Err.ensures.looked)
+    c.in-Err.ensures.looked c.in-Err-release.ensures.asked c.in-Err-release.ensures.found c.release.ensures.last c.release_plain.ensures.goes_on c.release.ensures.goes_on c.release.ensures.unasked
