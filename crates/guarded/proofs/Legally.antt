@@ -16,12 +16,12 @@ use Rattle.word_bits.specs.Histories.{Plan, Records, logs}
 use Rattle.word_bits.specs.Legal.{IsLegal, IsRecord, IsUnheldReply, AreTaskRecords, AreRecords, seen_after, is_intr}
 use Rattle.lock_core.specs.declared.view.Hand.{Hand}
 use Rattle.lock_core.specs.Records.{row, bit, intrs, AreNext}
-use Rattle.lock_core.proofs.RowLaws.{none-some, same-some, some-inside}
+use Rattle.lock_core.proofs.RowLaws.{none-some, same-some, some-inside, row-task}
 use Rattle.lock_core.proofs.Recording.{entry-fits}
 use Rattle.lock_core.specs.Plans.{IsSmall}
 use Rattle.guarded.specs.Gathering.{AreExact, IsGathered}
 use Rattle.lock_core.specs.Chronicles.{Chronicles}
-use Rattle.guarded.specs.Copying.{Copies, AreRecWords, IsHistory, joined}
+use Rattle.guarded.specs.Copying.{Copies, AreRecWords, GatheredIsHistory, joined}
 
 module _ {Call : Type 0} (o : Obj Call) (unavailable : Unavailable) (k : Plan) (log : List Entry) where
   exact-record : (e : Entry) (seen : ℕ) (w : CallWords) (r : Rec) → IsRecord o unavailable k log r.k e w r → (IsUnheldReply o unavailable w r.reply → r.k ≡ seen) → IsRecord o unavailable k log seen e w r
@@ -150,8 +150,8 @@ words-same k h g count rows same are = record {
   };
 }
 
--- so the copy has the words of a legal history
-pub is-history : {Call : Type 0} (o : Obj Call) (unavailable : Unavailable) (k : Plan) (h : Hand) (w : Words) → IsSmall k → Copies o unavailable k h w → IsGathered o unavailable k h → IsHistory o unavailable k w
+-- so the copy has the words of a legal history, whose records the pass knows
+pub is-history : {Call : Type 0} (o : Obj Call) (unavailable : Unavailable) (k : Plan) (h : Hand) (w : Words) → IsSmall k → Copies o unavailable k h w → GatheredIsHistory o unavailable k h w
 is-history o unavailable k h w small copies gathered = let c = copies.chronicle in (
   c.told,
   copies.entries,
@@ -162,4 +162,9 @@ is-history o unavailable k h w small copies gathered = let c = copies.chronicle 
     entered = each-there IsEntry copies.entries (λ j e at. let l = c.logged j e at in entry-fits k e.task e.call small (some-inside (row k e.task) e.call l.words l.planned));
   },
   is-legal o unavailable k h w copies gathered,
+  λ t n r at.
+      let task = row-task c.told t n (some-inside (row c.told t) n r at) in
+      let many = c.tasks in
+      let inside : t < length k = omega (arith, task, many) in
+      (gathered.done t inside).known n r (subst (λ rs. slice_get rs n ≡ Some r) (sym (told-is o unavailable k h copies.entries c gathered t inside)) at),
 )

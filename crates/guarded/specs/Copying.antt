@@ -58,6 +58,14 @@ pub record Copies {Call : Type 0} (o : Obj Call) (unavailable : Unavailable) (k 
 abbrev pub IsHistory : {Call : Type 0} → Obj Call → Unavailable → Plan → Words → Type 0
 IsHistory o unavailable k w = (told : Records) × (entries : List Entry) × Tells w told entries × IsLegal o unavailable k told entries w.state
 
+-- each record that is told is one that the pass knows
+abbrev pub AreKnown : Hand → Records → Type 0
+AreKnown h told = (t c : ℕ) (r : Rec) → slice_get (row told t) c ≡ Some r → Knows h (record { task = t; call = c }) r
+
+-- beside that, the pass knows each record in this history
+abbrev pub IsKnownHistory : {Call : Type 0} → Obj Call → Unavailable → Plan → Hand → Words → Type 0
+IsKnownHistory o unavailable k h w = (told : Records) × (entries : List Entry) × Tells w told entries × IsLegal o unavailable k told entries w.state × AreKnown h told
+
 -- they are, if the pass knows the records that all tasks made
 abbrev pub GatheredIsHistory : {Call : Type 0} → Obj Call → Unavailable → Plan → Hand → Words → Type 0
-GatheredIsHistory o unavailable k h w = IsGathered o unavailable k h → IsHistory o unavailable k w
+GatheredIsHistory o unavailable k h w = IsGathered o unavailable k h → IsKnownHistory o unavailable k h w

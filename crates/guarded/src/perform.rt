@@ -5,11 +5,12 @@ ghost use Rattle.word_bits.specs.Calls.{signal_of};
 ghost use Rattle.lock_core.specs.declared.view.Held.TheVariants.{No, Alone};
 ghost use Rattle.lock_core.specs.Records.{row};
 ghost use Rattle.lock_core.specs.Views.{next_entry};
-ghost use Rattle.lock_core.specs.Kinds.{shares};
+ghost use Rattle.lock_core.specs.Kinds.{shares, unavailable};
 ghost use Rattle.lock_core.specs.Shown.{IsNextCall, PastGoesOn};
 ghost use Rattle.lock_core.specs.Locking.{Looks, Takes, KeepsPlace, Releases, IsStored, held_by};
 ghost use Rattle.guarded.specs.Handles.{lock_of};
 ghost use Rattle.guarded.specs.Performing.{IsNext, Refuses, TriesOnce, Serves, Performs, Changes, HasStored, no_word};
+ghost use Rattle.guarded.specs.Gathering.{DoesOneMore};
 ghost use Rattle.guarded.specs.States.{WasDone, reply_in};
 
 use crate::guarded::Guarded;
@@ -20,7 +21,7 @@ use crate::served::Served;
 use cpu_task::{Crew, Gate};
 use lock_core::Held;
 use std::sync::Wait;
-use word_bits::{CallWords, Mode, Object, Reply};
+use word_bits::{CallWords, MAX_TASKS, Mode, Object, Reply};
 
 impl<L: SleepLock<O>, O: Served + Drop> Guarded<L, O> {
     /// Does the next call of the pass's task on the object, and records it: under a shared hold
@@ -51,6 +52,8 @@ impl<L: SleepLock<O>, O: Served + Drop> Guarded<L, O> {
         ensures goes_on { PastGoesOn (L.view pass.old) (L.view pass.new) }
         ensures performs { Performs O.object L.kind L.word_at (L.calls_on (lock_of self.now))
             result (L.view pass.old) (L.view pass.new) }
+        ensures one_more { DoesOneMore O.object (unavailable L.kind) (L.calls_on (lock_of self.now))
+            (L.view pass.old).hand (L.view pass.new).hand }
     {
         let task = match self.lock.task(pass) {
             Some(task) => task,
@@ -79,7 +82,7 @@ impl<L: SleepLock<O>, O: Served + Drop> Guarded<L, O> {
         requires out { (L.view pass.old).hand.held ≡ No }
         requires sent { (L.view pass.old).hand.sent ≡ None }
         requires consumed { (L.view pass.old).hand.consumed ≡ 0 }
-        requires there { target < 64 }
+        requires there { target < MAX_TASKS }
         requires signal { signal_of words ≡ Some target }
         ensures own { L.sits (lock_of self.now) pass.new }
         ensures goes_on { PastGoesOn (L.view pass.old) (L.view pass.new) }

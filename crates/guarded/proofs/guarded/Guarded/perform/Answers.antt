@@ -1,5 +1,29 @@
+use Rattle.word_bits.proofs.States.{IsLawful}
+use Rattle.lock_core.specs.Kinds.{unavailable}
+use Rattle.guarded.proofs.Chained.{one-more}
 use Rattle.guarded.proofs.Recording.{performs-looked}
+use Rattle.guarded.proofs.guarded.Guarded.perform.Given as given
 use Rattle.guarded.proofs.guarded.Guarded.perform.Goals as goal
+
+lawful : (g : given.Over) → IsLawful g.O.Object.object
+lawful g = record {
+  starts = g.met.O.Object.starts;
+  called = g.met.O.Object.called;
+  goes_on = g.met.O.Object.goes_on;
+  replies = g.met.O.Object.replies;
+}
+
+pub returns-in-Some-default-clause-one_more : goal.returns-in-Some-default-clause-one_more
+returns-in-Some-default-clause-one_more g c = λ t count rs task done.
+    let v = g.L.SleepLock.view c.args.pass.now in
+    let w = g.L.SleepLock.view c.call-words.new.pass in
+    let u = g.L.SleepLock.view c.send.new.pass in
+    let o = g.O.Object.object in
+    let kind = g.L.SleepLock.kind in
+    let at = g.L.SleepLock.word_at in
+    let k = g.L.SleepLock.calls_on c.args.self.now.lock in
+    let p = performs-looked v w u c.call-words.ensures.kept c.call-words.ensures.goes_on o kind at k c.send.result c.send.ensures.performs in
+    (p.rec, one-more o (lawful g) kind at k t count c.send.result rs v u task p done)
 
 pub returns-in-None-Some-clause-performs : goal.returns-in-None-Some-clause-performs
 returns-in-None-Some-clause-performs g c =
@@ -7,3 +31,10 @@ returns-in-None-Some-clause-performs g c =
     let w = g.L.SleepLock.view c.call-words.new.pass in
     let u = g.L.SleepLock.view c.perform_known.new.pass in
     performs-looked v w u c.call-words.ensures.kept c.call-words.ensures.goes_on g.O.Object.object g.L.SleepLock.kind g.L.SleepLock.word_at (g.L.SleepLock.calls_on c.args.self.now.lock) c.perform_known.result c.perform_known.ensures.performs
+
+pub returns-in-None-Some-clause-one_more : goal.returns-in-None-Some-clause-one_more
+returns-in-None-Some-clause-one_more g c = λ t count rs task done.
+    let v = g.L.SleepLock.view c.args.pass.now in
+    let u = g.L.SleepLock.view c.perform_known.new.pass in
+    let p = returns-in-None-Some-clause-performs g c in
+    (p.rec, one-more g.O.Object.object (lawful g) g.L.SleepLock.kind g.L.SleepLock.word_at (g.L.SleepLock.calls_on c.args.self.now.lock) t count c.perform_known.result rs v u task p done)
