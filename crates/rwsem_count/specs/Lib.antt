@@ -1,2 +1,4 @@
 pub mod Counts
 pub mod CountLaws
+pub mod Semaphores
+pub mod WordSteps

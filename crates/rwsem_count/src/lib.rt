@@ -3,6 +3,8 @@
 
 mod host;
 mod view;
+mod word_steps;
 
 pub use host::CountHost;
 pub use view::Bias;
+pub use word_steps::{BIAS, HANDOFF, READ_FAIL, WAITERS, WRITER, Write, read_free, write_step};
