@@ -80,5 +80,9 @@ fn taken(word: u64, alone: bool) -> u64
 {
     let free = word - word % 8 + WRITER;
     let waiters = word / WAITERS % 2 == 1;
-    if waiters && !alone { free + WAITERS } else { free }
+    if waiters && !alone {
+        free + WAITERS
+    } else {
+        free
+    }
 }

@@ -1,0 +1,55 @@
+-- What a step or a try of a count leaves of its pass.
+use Rattle.std.specs.Prelude.{◌≡◌, ◌≢◌, ℕ, ◌+◌, ◌≤◌, List}
+use Rattle.word_bits.specs.declared.entry.Entry.{Entry}
+use Rattle.word_bits.specs.LockWords.{IsLawfulCount}
+use Rattle.word_bits.specs.Objects.{Obj}
+use Rattle.word_bits.specs.Histories.{Plan}
+use Rattle.lock_core.specs.declared.view.View.{View}
+use Rattle.lock_core.specs.declared.view.Hand.{Hand}
+use Rattle.lock_core.specs.declared.view.Held.{Held}
+use Rattle.lock_core.specs.declared.view.Moment.{Moment}
+use Rattle.lock_core.specs.Pasts.{FoundAt}
+use Rattle.lock_core.specs.Views.{handed, ticked, took}
+use Rattle.lock_core.specs.Holding.{Learns, missed}
+use Rattle.rwsem_count.specs.declared.view.Bias.{Bias}
+use Rattle.rwsem_count.specs.declared.view.Bias.TheVariants.{Clear}
+use Rattle.rwsem_count.specs.Counts.{based}
+use Rattle.rwsem_count.specs.WordSteps.{IsReadFree}
+
+module _ {E : Type 0} where
+  -- the same, after so many steps
+  abbrev pub at_step : View E → ℕ → View E
+  at_step v s = record v { steps = s }
+
+  -- a try saw this word, at which it failed
+  abbrev pub MissesCount : View E → ℕ → View E → Type 0
+  MissesCount v word u = u ≡ handed v (missed v.hand word (v.steps + 1))
+
+  -- a reader's try saw this word, at which it failed or not
+  pub record SawCount (v : View E) (word : ℕ) (u : View E) : Type 0 where
+    pub step : ℕ
+    pub later : v.steps ≤ step
+    pub lawful : IsLawfulCount word
+    pub on : IsReadFree word → u ≡ ticked (at_step v step)
+    pub fails : (IsReadFree word → ⊥) → MissesCount (at_step v step) word u
+
+  -- a try failed at this word, after so many looks
+  abbrev pub MissesSince : View E → ℕ → View E → Type 0
+  MissesSince v word u = (s : ℕ) × (v.steps ≤ s) × MissesCount (at_step v s) word u
+
+module _ {E : Type 0} (counted : View E → Hand → Bias → E) where
+  -- it holds in this way by its bias in the count, and has learnt what the lock guards
+  abbrev pub TakesCount : {Call : Type 0} → Obj Call → Plan → Held → View E → View E → Type 0
+  TakesCount o k held v u = (known : List ℕ) × (log : List Entry) × Learns o k v.hand known log × (u ≡ based counted v (took v.hand held known log) Clear)
+
+  -- the same, after so many looks
+  abbrev pub TakesSince : {Call : Type 0} → Obj Call → Plan → Held → View E → View E → Type 0
+  TakesSince o k held v u = (s : ℕ) × (v.steps ≤ s) × TakesCount o k held (at_step v s) u
+
+-- the step of the pass found a count that lets a reader in, before its own bias or with it
+abbrev pub FindsFree : (place added : ℕ) → List Moment → Type 0
+FindsFree place added past = (word : ℕ) × FoundAt place word past × IsReadFree (word + added)
+
+-- its step found this count
+abbrev pub LeavesBy : (place : ℕ) → (ℕ → ℕ) → (left : ℕ) → List Moment → Type 0
+LeavesBy place made left past = (word : ℕ) × FoundAt place word past × (left ≡ made word)
