@@ -1,13 +1,13 @@
 -- What a step makes of a word that states a semaphore.
-use Rattle.std.proofs.Common.{◌≡◌, ◌≢◌, ◌∙◌, ◌⊎◌, inr, if◌then◌else◌, ◌++◌, ◌↔◌, ℕ, zero, suc, ◌+◌, ◌-◌, ◌*◌, ◌/◌, ◌%◌, ◌^◌, ◌<◌, ◌≤◌, Bool, true, false, not, List, [], ◌∷◌, length, Option, Some, None, is_some, refl, sym, ap, subst, arith}
+use Rattle.std.proofs.Common.{◌≡◌, ◌≢◌, ◌∙◌, inr, if◌then◌else◌, ◌++◌, ◌↔◌, ℕ, ◌+◌, ◌/◌, ◌%◌, ◌^◌, ◌<◌, Bool, true, false, List, [], ◌∷◌, length, Some, is_some, refl, sym, ap, arith}
 use mathlib.Core.Logic.{dite}
 use native.Mathlib.Decide.{ℕ_discrete}
 use Rattle.word_bits.specs.declared.count.Count.{Count}
 use Rattle.word_bits.specs.declared.TheConstants.{MAX_TASKS}
 use Rattle.word_bits.specs.CountWord.{IsCount, count_word}
 use Rattle.word_bits.specs.OwnerWord.{bit}
-use Rattle.lock_core.proofs.HandLaws.{not-both, false-or-true}
-use Rattle.rwsem_count.specs.Semaphores.{Semaphore, Describes, States, is_waited}
+use Rattle.lock_core.proofs.HandLaws.{not-both}
+use Rattle.rwsem_count.specs.Semaphores.{Semaphore, States, is_waited}
 use Rattle.rwsem_count.specs.WordSteps.{HasFlags, IsLocked}
 
 bit-less : (b : Bool) → bit b < 2

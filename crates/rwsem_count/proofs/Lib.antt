@@ -1,1 +1,3 @@
 mod Lawful
+pub mod Counting
+pub mod Sitting

@@ -1,5 +1,5 @@
 -- What a step or a try of a count leaves of its pass.
-use Rattle.std.specs.Prelude.{◌≡◌, ◌≢◌, ℕ, ◌+◌, ◌≤◌, List}
+use Rattle.std.specs.Prelude.{◌≡◌, ℕ, ◌+◌, ◌≤◌, List}
 use Rattle.word_bits.specs.declared.entry.Entry.{Entry}
 use Rattle.word_bits.specs.LockWords.{IsLawfulCount}
 use Rattle.word_bits.specs.Objects.{Obj}
@@ -12,7 +12,7 @@ use Rattle.lock_core.specs.Pasts.{FoundAt}
 use Rattle.lock_core.specs.Views.{handed, ticked, took}
 use Rattle.lock_core.specs.Holding.{Learns, missed}
 use Rattle.rwsem_count.specs.declared.view.Bias.{Bias}
-use Rattle.rwsem_count.specs.declared.view.Bias.TheVariants.{Clear}
+use Rattle.rwsem_count.specs.declared.view.Bias.TheVariants.{Clear, Transit}
 use Rattle.rwsem_count.specs.Counts.{based}
 use Rattle.rwsem_count.specs.WordSteps.{IsReadFree}
 
@@ -46,10 +46,14 @@ module _ {E : Type 0} (counted : View E → Hand → Bias → E) where
   abbrev pub TakesSince : {Call : Type 0} → Obj Call → Plan → Held → View E → View E → Type 0
   TakesSince o k held v u = (s : ℕ) × (v.steps ≤ s) × TakesCount o k held (at_step v s) u
 
+  -- its bias was added to a count that doesn't let readers in, and left this one; it holds nothing
+  abbrev pub IsTransit : View E → (left : ℕ) → View E → Type 0
+  IsTransit v left u = (word : ℕ) × (left ≡ word + 256) × IsLawfulCount word × (u ≡ based counted v (missed v.hand word (v.steps + 1)) (Transit word))
+
 -- the step of the pass found a count that lets a reader in, before its own bias or with it
 abbrev pub FindsFree : (place added : ℕ) → List Moment → Type 0
 FindsFree place added past = (word : ℕ) × FoundAt place word past × IsReadFree (word + added)
 
--- its step found this count
-abbrev pub LeavesBy : (place : ℕ) → (ℕ → ℕ) → (left : ℕ) → List Moment → Type 0
-LeavesBy place made left past = (word : ℕ) × FoundAt place word past × (left ≡ made word)
+-- its step found a count of which it left this one
+abbrev pub LeftBy : (place : ℕ) → (ℕ → ℕ) → (left : ℕ) → List Moment → Type 0
+LeftBy place made left past = (word : ℕ) × FoundAt place word past × (left ≡ made word)

@@ -2,6 +2,7 @@
 #![tactic(auto)]
 
 mod host;
+pub mod steps;
 mod view;
 mod word_steps;
 

@@ -1,4 +1,4 @@
-use Rattle.std.proofs.Common.{◌≡◌, ◌≢◌, ◌/◌, ◌%◌, false, refl, arith}
+use Rattle.std.proofs.Common.{◌≢◌, ◌/◌, ◌%◌, false, refl, arith}
 use Rattle.std.proofs.lemmas.Bool.Decides.{nat_tests}
 use Rattle.lock_core.proofs.HandLaws.{not-both}
 use Rattle.rwsem_count.proofs.Lawful.{asked, took-lawfully}
