@@ -41,6 +41,9 @@ free-or-shut n m lawful flags few free shut = let low = lawful.0 in let high = l
     (λ is. free record { writer = omega (arith, is, flags); waiters = omega (arith, is, flags); handoff = omega (arith, is, flags); read_fail = omega (arith, high, few) } is)
     (λ not. shut (λ f. let w = f.writer in let x = f.waiters in let h = f.handoff in not (omega (arith, low, w, x, h, flags))) not)
 
+pub free-or-not : (n : ℕ) {P : Type 0} → IsLawfulCount n → (IsReadFree n → P) → ((IsReadFree n → ⊥) → P) → P
+free-or-not n lawful free shut = free-or-shut n n lawful refl (omega arith) (λ f is. free f) (λ s not. shut s)
+
 -- a live view's plan is the table's
 its-plan : (k p : Plan) (plan : Option Plan) → HasPlan k plan → plan ≡ Some p → k ≡ p
 its-plan k p plan has is = sym (subst (HasPlan k) is has)

@@ -1,3 +1,4 @@
 mod Lawful
 pub mod Counting
 pub mod Sitting
+mod Trying

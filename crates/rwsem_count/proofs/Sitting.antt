@@ -1,5 +1,5 @@
 -- A pass goes on with its seat where a step on a count changed how it holds, or its bias.
-use Rattle.std.proofs.Common.{◌≡◌, ◌≢◌, ◌∙◌, true, false, ℕ, ◌<◌, ◌≤◌, List, length, Option, Some, None, IsSome, refl, sym, ap, subst, arith}
+use Rattle.std.proofs.Common.{◌≡◌, ◌≢◌, ◌∙◌, true, false, ℕ, ◌+◌, ◌<◌, ◌≤◌, List, length, Option, Some, None, IsSome, refl, sym, ap, subst, arith}
 use Rattle.atomic_table.specs.Table.{Me}
 use Rattle.atomic_table.specs.Seated.{TableId}
 use Rattle.word_bits.specs.LockWords.{IsLawfulCount}
@@ -17,6 +17,10 @@ use Rattle.lock_core.specs.Records.{row}
 use Rattle.lock_core.specs.Views.{took}
 use Rattle.lock_core.specs.Holding.{missed, released, downgraded}
 use Rattle.lock_core.specs.Passes.{Sits}
+use Rattle.lock_core.specs.Pasts.{unseen}
+use Rattle.lock_core.proofs.Sitting.{sits-on}
+use Rattle.rwsem_count.specs.Plays.{SeenBy}
+use Rattle.rwsem_count.proofs.Counting.{free-or-not}
 use Rattle.lock_core.proofs.RowLaws.{same-some}
 use Rattle.lock_core.proofs.HandLaws.{no-alone, not-both}
 use Rattle.rwsem_count.specs.declared.view.Bias.{Bias}
@@ -74,6 +78,12 @@ module _ {E : Type 0} (k : Plan) (table seat seat' : TableId) (me me' : Me (Unit
   pub sits-missed : (word steps step : ℕ) (ext : E) → me'.0.view ≡ record me.0.view { hand = missed me.0.view.hand word step; steps = steps; ext = ext } → me.0.view.steps ≤ steps → IsLawfulCount word → seat' ≡ seat → me'.1 ≡ me.1 → face' ≡ face → Sits k table seat me face → Sits k table seat' me' face'
   sits-missed word steps step ext view later lawful same slots says r = sits-view (record me.0.view { hand = missed me.0.view.hand word step; steps = steps; ext = ext }) view same slots record { plan = refl; task = refl; done = refl; seen = refl; stage = refl; last = refl; writer = r.writer; nameless = r.nameless }
       (says ∙ ap (λ (z : Held). record face { held = z }) r.held) later r.short (small-saw word step lawful) r
+
+  -- a try that saw a count
+  pub sits-saw : (word : ℕ) → SeenBy (unseen me) word (unseen me') → seat' ≡ seat → face' ≡ face → Sits k table seat me face → Sits k table seat' me' face'
+  sits-saw word told same says r = free-or-not word told.0
+      (λ free. let turn = told.1 free in sits-on k table seat seat' me me' face face' same turn.1 (ap (λ (v : View E). v.hand) turn.0) (let n = ap (λ (v : View E). v.steps) turn.0 in omega (arith, n)) says r)
+      (λ shut. let turn = told.2 shut in sits-missed word (me.0.view.steps + 1) (me.0.view.steps + 1) me.0.view.ext turn.0 (omega arith) told.0 same turn.1 says r)
 
 module _ {E : Type 0} (counted : View E → Hand → Bias → E) (k : Plan) (table seat seat' : TableId) (me me' : Me (Unit {0}) (Seen E)) (face face' : Face) (b : Bias) where
   pub sits-took : (held : Held) (known : List ℕ) (log : List Entry) (steps : ℕ) (ext : E) → me'.0.view ≡ record me.0.view { hand = took me.0.view.hand held known log; steps = steps; ext = ext } → me.0.view.steps ≤ steps → length log ≤ calls_in k → face.held ≡ No → IsSome face.task → seat' ≡ seat → me'.1 ≡ me.1 → face' ≡ record face { held = held }

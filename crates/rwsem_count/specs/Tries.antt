@@ -7,13 +7,14 @@ use Rattle.word_bits.specs.Histories.{Plan}
 use Rattle.lock_core.specs.declared.view.View.{View}
 use Rattle.lock_core.specs.declared.view.Hand.{Hand}
 use Rattle.lock_core.specs.declared.view.Held.{Held}
+use Rattle.lock_core.specs.declared.view.Held.TheVariants.{Shared}
 use Rattle.lock_core.specs.declared.view.Moment.{Moment}
 use Rattle.lock_core.specs.Pasts.{FoundAt}
 use Rattle.lock_core.specs.Views.{handed, ticked, took}
 use Rattle.lock_core.specs.Holding.{Learns, missed}
 use Rattle.rwsem_count.specs.declared.view.Bias.{Bias}
 use Rattle.rwsem_count.specs.declared.view.Bias.TheVariants.{Clear, Transit}
-use Rattle.rwsem_count.specs.Counts.{based}
+use Rattle.rwsem_count.specs.Counts.{CountPart, based}
 use Rattle.rwsem_count.specs.WordSteps.{IsReadFree}
 
 module _ {E : Type 0} where
@@ -36,6 +37,11 @@ module _ {E : Type 0} where
   -- a try failed at this word, after so many looks
   abbrev pub MissesSince : View E → ℕ → View E → Type 0
   MissesSince v word u = (s : ℕ) × (v.steps ≤ s) × MissesCount (at_step v s) word u
+
+module _ {E : Type 0} (may_count : View E → CountPart → Type 0) where
+  -- a pass with this view may come to hold shared, whatever steps it makes meanwhile
+  abbrev pub MayReadSince : View E → Type 0
+  MayReadSince v = (s : ℕ) → may_count (at_step v s) (record { held = Shared; bias = Clear })
 
 module _ {E : Type 0} (counted : View E → Hand → Bias → E) where
   -- it holds in this way by its bias in the count, and has learnt what the lock guards

@@ -3,6 +3,7 @@
 
 mod host;
 pub mod steps;
+pub mod tries;
 mod view;
 mod word_steps;
 
