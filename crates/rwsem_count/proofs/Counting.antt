@@ -71,9 +71,9 @@ module _ {E : Type 0} (bias : E → Bias) where
 
 module _ {E Call : Type 0} (o : Obj Call) (unavailable : Unavailable) (size : ℕ) (k : Plan) (bias : E → Bias) (counted : View E → Hand → Bias → E)
     (holds : List ℕ → List (View E) → Type 0) (moves : ℕ → List ℕ → List (View E) → List ℕ → List (View E) → Type 0)
-    (place : ℕ) (more : List ℕ → List (View E) → ℕ) (may_count : View E → CountPart → Type 0)
+    (place : ℕ) (may_be : ℕ → Type 0) (more : List ℕ → List (View E) → ℕ) (may_count : View E → CountPart → Type 0)
     (kept : (ws : List ℕ) (vs : List (View E)) → holds ws vs → SiteKept o unavailable size k (site k ws) (map hand_of vs))
-    (count_kept : (ws : List ℕ) (vs : List (View E)) → holds ws vs → CountKept (get_or ws place 0) (more ws vs) (map (count_part bias) vs) × IsLawfulCount (get_or ws place 0))
+    (count_kept : (ws : List ℕ) (vs : List (View E)) → holds ws vs → CountKept (get_or ws place 0) (more ws vs) (map (count_part bias) vs) × IsLawfulCount (get_or ws place 0) × may_be (get_or ws place 0))
     (counts : (ws : List ℕ) (vs : List (View E)) (id n : ℕ) (v : View E) (h : Hand) (b : Bias) → holds ws vs → get_elem? vs id ≡ some v → HandStep v.hand h n → may_count v (part h b) → CountMove (get_or ws place 0) n (count_part bias v) (part h b)
     → CountKept n (more ws vs) (set (map (count_part bias) vs) id (part h b)) → SiteKept o unavailable size k (site k ws) (set (map hand_of vs) id h) → Goes holds moves id ws vs (set ws place n) (set vs id (based counted v h b)))
     (count_looks : (ws : List ℕ) (vs : List (View E)) (id n : ℕ) (v : View E) (h : Hand) → holds ws vs → get_elem? vs id ≡ some v → HandStep v.hand h n → h.held ≡ v.hand.held → SiteKept o unavailable size k (site k ws) (set (map hand_of vs) id h) → Goes holds moves id ws vs ws (set vs id (handed v h))) where
@@ -86,13 +86,13 @@ module _ {E Call : Type 0} (o : Obj Call) (unavailable : Unavailable) (size : �
   -- what a step on the count comes to, whatever the table is
   abbrev Comes : (id : ℕ) (me : M) → (op : Op) → (ℕ → M → Type 0) → Type 0
   Comes id me op tells = (n more : ℕ) (ps : List CountPart) (w : SiteWords) (hs : List Hand) → get_elem? ps id ≡ some (count_part bias me.0) → get_elem? hs id ≡ some me.0.hand → total alone_of hs ≡ total alone_in ps → total held_of hs ≡ total alone_in ps + total shared_in ps
-      → CountKept n more ps → IsLawfulCount n → Kept w hs
+      → CountKept n more ps → IsLawfulCount n → may_be n → Kept w hs
       → (h : Hand) × (b : Bias) × HandStep me.0.hand h (word_after op n) × may_count me.0 (part h b) × CountMove n (word_after op n) (count_part bias me.0) (part h b) × CountKept (word_after op n) more (set ps id (part h b)) × Kept w (set hs id h) × tells n (based counted me.0 h b, me.1)
 
   -- any step on the count whose hand and bias the found word chooses
   count-goes : (slots id : ℕ) (me : M) (op : Op) (tells : ℕ → M → Type 0) → Comes id me op tells → Lets holds moves slots id me place op tells
   count-goes slots id me op tells comes st there _ at small = let ws = st.words in let vs = st.views in let n : ℕ = get_or ws place 0 in let c = count_kept ws vs there in
-      let t = comes n (more ws vs) (map (count_part bias) vs) (site k ws) (map hand_of vs) (at_map (count_part bias) vs id me.0 at) (at_map hand_of vs id me.0 at) (alone-parts bias vs) (held-parts bias vs) c.0 c.1 (kept ws vs there) in
+      let t = comes n (more ws vs) (map (count_part bias) vs) (site k ws) (map hand_of vs) (at_map (count_part bias) vs id me.0 at) (at_map hand_of vs id me.0 at) (alone-parts bias vs) (held-parts bias vs) c.0 c.1 c.2 (kept ws vs there) in
       (based counted me.0 t.0 t.1, keeps, tt, counts ws vs id (word_after op n) me.0 t.0 t.1 there at t.2 t.3 t.4 t.5 t.6, refl, t.7)
 
   -- what it learns that takes a hold where nobody holds alone
@@ -103,7 +103,7 @@ module _ {E Call : Type 0} (o : Obj Call) (unavailable : Unavailable) (size : �
   -- a reader's bias is added
   reads-there : (slots id t : ℕ) (me : M) → me.0.hand.task ≡ Some t → me.0.hand.held ≡ No → bias me.0.ext ≡ Clear → may_count me.0 (record { held = Shared; bias = Clear }) → ((n : ℕ) → may_count me.0 (record { held = No; bias = Transit n }))
       → Lets holds moves slots id me place (Add 256) (ReadAdded counted o (step slots place 256 0 none) me)
-  reads-there slots id t me has out clear may wait = count-goes slots id me (Add 256) (ReadAdded counted o (step slots place 256 0 none) me) (λ n more ps w hs mine mine' alones helds c lawful r. let v = me.0 in let p : CountPart = count_part bias v in let low = lawful.0 in let high = lawful.1 in let numbered : v.hand.task ≢ None = λ e. none-some t (sym e ∙ has) in
+  reads-there slots id t me has out clear may wait = count-goes slots id me (Add 256) (ReadAdded counted o (step slots place 256 0 none) me) (λ n more ps w hs mine mine' alones helds c lawful fits r. let v = me.0 in let p : CountPart = count_part bias v in let low = lawful.0 in let high = lawful.1 in let numbered : v.hand.task ≢ None = λ e. none-some t (sym e ∙ has) in
       let sum : n + 256 ≡ word_after (Add 256) n = omega (arith, low, high) in let wr = c.writer in free-or-shut n (n + 256) lawful (omega arith) (omega arith)
       (λ free is. let none_alone : total alone_of hs ≡ 0 = omega (arith, alones, wr, is) in let g : Hand = took v.hand Shared (take size w.guarded) r.log in (
         g,
@@ -192,8 +192,8 @@ module _ {E Call : Type 0} (o : Obj Call) (unavailable : Unavailable) (size : �
 
   -- a bias is taken back
   backs-there : (slots id word : ℕ) (me : M) → me.0.hand.task ≢ None → bias me.0.ext ≡ Transit word → may_count me.0 (record { held = me.0.hand.held; bias = Clear })
-      → Lets holds moves slots id me place (Sub 256) (Leaves counted (λ h n. h) (step slots place 256 0 none) me)
-  backs-there slots id word me numbered biased may = count-goes slots id me (Sub 256) (Leaves counted (λ h n. h) (step slots place 256 0 none) me) (λ n more ps w hs mine mine' alones helds c lawful r. let v = me.0 in let p : CountPart = count_part bias v in let low = lawful.0 in let high = lawful.1 in
+      → Lets holds moves slots id me place (Sub 256) (Leaves counted may_be 256 (λ h n. h) (step slots place 256 0 none) me)
+  backs-there slots id word me numbered biased may = count-goes slots id me (Sub 256) (Leaves counted may_be 256 (λ h n. h) (step slots place 256 0 none) me) (λ n more ps w hs mine mine' alones helds c lawful fits r. let v = me.0 in let p : CountPart = count_part bias v in let low = lawful.0 in let high = lawful.1 in
       let one : early_in p + late_in p ≡ 1 = ap (λ (z : Bias). early_weight z + late_weight z) biased ∙ (let e : (1 - word % 2) + word % 2 ≡ 1 = omega arith in e) in let F = total-at early_in ps id p mine in let L = total-at late_in ps id p mine in let f = c.field in
       let less : word_after (Sub 256) n + 256 ≡ n = omega (arith, low, high, one, F, L, f) in (
         v.hand,
@@ -203,52 +203,52 @@ module _ {E Call : Type 0} (o : Obj Call) (unavailable : Unavailable) (size : �
         record { flags = omega (arith, less); writer = λ x y. absurd (omega (arith, x, y, less)); reader = λ e. inl e },
         count-backs ps id p (part v.hand Clear) mine n (word_after (Sub 256) n) more c (omega (arith, less)) (omega (arith, less, low)) (omega (arith, less)) refl one refl,
         subst (Kept w) (sym (set_again hs id v.hand mine')) r,
-        (lawful, (refl, refl)),
+        (lawful, fits, omega (arith, less), (refl, refl)),
       ))
 
   -- a shared hold ends
   frees-shared-there : (slots id : ℕ) (me : M) → me.0.hand.task ≢ None → me.0.hand.held ≡ Shared → bias me.0.ext ≡ Clear → me.0.hand.writes ≡ false → me.0.hand.stage ≡ Rest → may_count me.0 (record { held = No; bias = Clear })
-      → Lets holds moves slots id me place (Sub 256) (Leaves counted (λ h n. released h (word_after (Sub 256) n)) (step slots place 256 0 none) me)
-  frees-shared-there slots id me numbered shares clear quiet rest may = count-goes slots id me (Sub 256) (Leaves counted (λ h n. released h (word_after (Sub 256) n)) (step slots place 256 0 none) me) (λ n more ps w hs mine mine' alones helds c lawful r. let v = me.0 in let p : CountPart = count_part bias v in let low = lawful.0 in let high = lawful.1 in
-      let one : shared_in p ≡ 1 = ap shared_weight shares in let S = total-at shared_in ps id p mine in let f = c.field in let less : word_after (Sub 256) n + 256 ≡ n = omega (arith, low, high, one, S, f) in let g : Hand = released v.hand (word_after (Sub 256) n) in (
+      → Lets holds moves slots id me place (Sub 256) (Leaves counted may_be 256 (λ h n. released h (n - 256)) (step slots place 256 0 none) me)
+  frees-shared-there slots id me numbered shares clear quiet rest may = count-goes slots id me (Sub 256) (Leaves counted may_be 256 (λ h n. released h (n - 256)) (step slots place 256 0 none) me) (λ n more ps w hs mine mine' alones helds c lawful fits r. let v = me.0 in let p : CountPart = count_part bias v in let low = lawful.0 in let high = lawful.1 in
+      let one : shared_in p ≡ 1 = ap shared_weight shares in let S = total-at shared_in ps id p mine in let f = c.field in let less : word_after (Sub 256) n + 256 ≡ n = omega (arith, low, high, one, S, f) in let left : n - 256 ≡ word_after (Sub 256) n = omega (arith, less) in let g : Hand = released v.hand (n - 256) in (
         g,
         Clear,
-        record { numbered = numbered; task = refl; misses = omega arith; stays = λ e. shared-no (sym shares ∙ sym e); left = λ held other. refl },
+        record { numbered = numbered; task = refl; misses = omega arith; stays = λ e. shared-no (sym shares ∙ sym e); left = λ held other. left },
         may,
         record { flags = omega (arith, less); writer = λ x y. absurd (omega (arith, x, y, less)); reader = λ e. shared-no (sym e) },
         count-frees-shared ps id p (part g Clear) mine n (word_after (Sub 256) n) more c less shares clear refl refl,
-        site-frees o unavailable size k w hs id (word_after (Sub 256) n) v.hand r mine' quiet rest,
-        (lawful, (refl, refl)),
+        site-frees o unavailable size k w hs id (n - 256) v.hand r mine' quiet rest,
+        (lawful, fits, omega (arith, less), (refl, refl)),
       ))
 
   -- an exclusive hold ends
   frees-alone-there : (slots id : ℕ) (me : M) → me.0.hand.task ≢ None → me.0.hand.held ≡ Alone → bias me.0.ext ≡ Clear → me.0.hand.writes ≡ false → me.0.hand.stage ≡ Rest → may_count me.0 (record { held = No; bias = Clear })
-      → Lets holds moves slots id me place (Sub 1) (Leaves counted (λ h n. released h (word_after (Sub 1) n)) (step slots place 1 0 none) me)
-  frees-alone-there slots id me numbered alone clear quiet rest may = count-goes slots id me (Sub 1) (Leaves counted (λ h n. released h (word_after (Sub 1) n)) (step slots place 1 0 none) me) (λ n more ps w hs mine mine' alones helds c lawful r. let v = me.0 in let p : CountPart = count_part bias v in let low = lawful.0 in let high = lawful.1 in
-      let one : alone_in p ≡ 1 = ap alone_weight alone in let A = total-at alone_in ps id p mine in let wr = c.writer in let less : word_after (Sub 1) n + 1 ≡ n = omega (arith, low, high, one, A, wr) in let g : Hand = released v.hand (word_after (Sub 1) n) in (
+      → Lets holds moves slots id me place (Sub 1) (Leaves counted may_be 1 (λ h n. released h (n - 1)) (step slots place 1 0 none) me)
+  frees-alone-there slots id me numbered alone clear quiet rest may = count-goes slots id me (Sub 1) (Leaves counted may_be 1 (λ h n. released h (n - 1)) (step slots place 1 0 none) me) (λ n more ps w hs mine mine' alones helds c lawful fits r. let v = me.0 in let p : CountPart = count_part bias v in let low = lawful.0 in let high = lawful.1 in
+      let one : alone_in p ≡ 1 = ap alone_weight alone in let A = total-at alone_in ps id p mine in let wr = c.writer in let less : word_after (Sub 1) n + 1 ≡ n = omega (arith, low, high, one, A, wr) in let left : n - 1 ≡ word_after (Sub 1) n = omega (arith, less) in let g : Hand = released v.hand (n - 1) in (
         g,
         Clear,
-        record { numbered = numbered; task = refl; misses = omega arith; stays = λ e. no-alone (e ∙ alone); left = λ held other. refl },
+        record { numbered = numbered; task = refl; misses = omega arith; stays = λ e. no-alone (e ∙ alone); left = λ held other. left },
         may,
         record { flags = omega (arith, less, wr, A, one); writer = λ x y. absurd (omega (arith, x, wr, A, one)); reader = λ e. shared-no (sym e) },
         count-frees-alone ps id p (part g Clear) mine n (word_after (Sub 1) n) more c less alone clear refl refl,
-        site-frees o unavailable size k w hs id (word_after (Sub 1) n) v.hand r mine' quiet rest,
-        (lawful, (refl, refl)),
+        site-frees o unavailable size k w hs id (n - 1) v.hand r mine' quiet rest,
+        (lawful, fits, omega (arith, less), (refl, refl)),
       ))
 
   -- a writer goes on as a reader
   downs-there : (slots id : ℕ) (me : M) → me.0.hand.task ≢ None → me.0.hand.held ≡ Alone → bias me.0.ext ≡ Clear → me.0.hand.writes ≡ false → me.0.hand.stage ≡ Rest → may_count me.0 (record { held = Shared; bias = Clear })
-      → Lets holds moves slots id me place (Add 255) (Leaves counted (λ h n. downgraded h (word_after (Add 255) n)) (step slots place 255 0 none) me)
-  downs-there slots id me numbered alone clear quiet rest may = count-goes slots id me (Add 255) (Leaves counted (λ h n. downgraded h (word_after (Add 255) n)) (step slots place 255 0 none) me) (λ n more ps w hs mine mine' alones helds c lawful r. let v = me.0 in let p : CountPart = count_part bias v in let low = lawful.0 in let high = lawful.1 in
-      let one : alone_in p ≡ 1 = ap alone_weight alone in let A = total-at alone_in ps id p mine in let wr = c.writer in let sum : n + 255 ≡ word_after (Add 255) n = omega (arith, low, high) in let odd = writes-odd more ps n c A one in let g : Hand = downgraded v.hand (word_after (Add 255) n) in (
+      → Lets holds moves slots id me place (Add 255) (Leaves counted may_be 1 (λ h n. downgraded h (n + 255)) (step slots place 255 0 none) me)
+  downs-there slots id me numbered alone clear quiet rest may = count-goes slots id me (Add 255) (Leaves counted may_be 1 (λ h n. downgraded h (n + 255)) (step slots place 255 0 none) me) (λ n more ps w hs mine mine' alones helds c lawful fits r. let v = me.0 in let p : CountPart = count_part bias v in let low = lawful.0 in let high = lawful.1 in
+      let one : alone_in p ≡ 1 = ap alone_weight alone in let A = total-at alone_in ps id p mine in let wr = c.writer in let sum : n + 255 ≡ word_after (Add 255) n = omega (arith, low, high) in let odd = writes-odd more ps n c A one in let g : Hand = downgraded v.hand (n + 255) in (
         g,
         Clear,
-        record { numbered = numbered; task = refl; misses = omega arith; stays = λ e. alone-shared (sym alone ∙ sym e); left = λ held other. refl },
+        record { numbered = numbered; task = refl; misses = omega arith; stays = λ e. alone-shared (sym alone ∙ sym e); left = λ held other. sum },
         may,
         record { flags = omega (arith, sum, odd, low); writer = λ x y. absurd (omega (arith, x, odd)); reader = λ _. inr (inr (inr alone)) },
         subst (λ (z : ℕ). CountKept z more (set ps id (part g Clear))) sum (count-downgrades ps id p (part g Clear) mine n more c alone clear refl refl),
-        site-downgrades o unavailable size k w hs id (word_after (Add 255) n) v.hand r mine' alone quiet rest,
-        (lawful, (refl, refl)),
+        site-downgrades o unavailable size k w hs id (n + 255) v.hand r mine' alone quiet rest,
+        (lawful, fits, omega (arith, odd), (refl, refl)),
       ))
     where
       writes-odd : (more : ℕ) (ps : List CountPart) (n : ℕ) → CountKept n more ps → {x : ℕ} → x ≤ total alone_in ps → x ≡ 1 → n % 2 ≡ 1
@@ -269,17 +269,17 @@ module _ {E Call : Type 0} (o : Obj Call) (unavailable : Unavailable) (size : �
   pub writer-gets : (slots id at t : ℕ) (me : M) → at ≡ place → me.0.hand.task ≡ Some t → me.0.hand.held ≡ No → bias me.0.ext ≡ Clear → may_count me.0 (record { held = Alone; bias = Clear }) → Lets holds moves slots id me at (Exchange 0 1) (WriteTaken counted o (step slots at 0 1 none) me)
   writer-gets slots id at t me is has out clear may = subst (λ (z : ℕ). Lets holds moves slots id me z (Exchange 0 1) (WriteTaken counted o (step slots z 0 1 none) me)) (sym is) (writer-takes slots id t me has out clear may)
 
-  pub backs : (slots id at word : ℕ) (me : M) → at ≡ place → me.0.hand.task ≢ None → bias me.0.ext ≡ Transit word → may_count me.0 (record { held = me.0.hand.held; bias = Clear }) → Lets holds moves slots id me at (Sub 256) (Leaves counted (λ h n. h) (step slots at 256 0 none) me)
-  backs slots id at word me is numbered biased may = subst (λ (z : ℕ). Lets holds moves slots id me z (Sub 256) (Leaves counted (λ h n. h) (step slots z 256 0 none) me)) (sym is) (backs-there slots id word me numbered biased may)
+  pub backs : (slots id at word : ℕ) (me : M) → at ≡ place → me.0.hand.task ≢ None → bias me.0.ext ≡ Transit word → may_count me.0 (record { held = me.0.hand.held; bias = Clear }) → Lets holds moves slots id me at (Sub 256) (Leaves counted may_be 256 (λ h n. h) (step slots at 256 0 none) me)
+  backs slots id at word me is numbered biased may = subst (λ (z : ℕ). Lets holds moves slots id me z (Sub 256) (Leaves counted may_be 256 (λ h n. h) (step slots z 256 0 none) me)) (sym is) (backs-there slots id word me numbered biased may)
 
   pub frees-shared : (slots id at : ℕ) (me : M) → at ≡ place → me.0.hand.task ≢ None → me.0.hand.held ≡ Shared → bias me.0.ext ≡ Clear → me.0.hand.writes ≡ false → me.0.hand.stage ≡ Rest → may_count me.0 (record { held = No; bias = Clear })
-      → Lets holds moves slots id me at (Sub 256) (Leaves counted (λ h n. released h (word_after (Sub 256) n)) (step slots at 256 0 none) me)
-  frees-shared slots id at me is numbered shares clear quiet rest may = subst (λ (z : ℕ). Lets holds moves slots id me z (Sub 256) (Leaves counted (λ h n. released h (word_after (Sub 256) n)) (step slots z 256 0 none) me)) (sym is) (frees-shared-there slots id me numbered shares clear quiet rest may)
+      → Lets holds moves slots id me at (Sub 256) (Leaves counted may_be 256 (λ h n. released h (n - 256)) (step slots at 256 0 none) me)
+  frees-shared slots id at me is numbered shares clear quiet rest may = subst (λ (z : ℕ). Lets holds moves slots id me z (Sub 256) (Leaves counted may_be 256 (λ h n. released h (n - 256)) (step slots z 256 0 none) me)) (sym is) (frees-shared-there slots id me numbered shares clear quiet rest may)
 
   pub frees-alone : (slots id at : ℕ) (me : M) → at ≡ place → me.0.hand.task ≢ None → me.0.hand.held ≡ Alone → bias me.0.ext ≡ Clear → me.0.hand.writes ≡ false → me.0.hand.stage ≡ Rest → may_count me.0 (record { held = No; bias = Clear })
-      → Lets holds moves slots id me at (Sub 1) (Leaves counted (λ h n. released h (word_after (Sub 1) n)) (step slots at 1 0 none) me)
-  frees-alone slots id at me is numbered alone clear quiet rest may = subst (λ (z : ℕ). Lets holds moves slots id me z (Sub 1) (Leaves counted (λ h n. released h (word_after (Sub 1) n)) (step slots z 1 0 none) me)) (sym is) (frees-alone-there slots id me numbered alone clear quiet rest may)
+      → Lets holds moves slots id me at (Sub 1) (Leaves counted may_be 1 (λ h n. released h (n - 1)) (step slots at 1 0 none) me)
+  frees-alone slots id at me is numbered alone clear quiet rest may = subst (λ (z : ℕ). Lets holds moves slots id me z (Sub 1) (Leaves counted may_be 1 (λ h n. released h (n - 1)) (step slots z 1 0 none) me)) (sym is) (frees-alone-there slots id me numbered alone clear quiet rest may)
 
   pub downs : (slots id at : ℕ) (me : M) → at ≡ place → me.0.hand.task ≢ None → me.0.hand.held ≡ Alone → bias me.0.ext ≡ Clear → me.0.hand.writes ≡ false → me.0.hand.stage ≡ Rest → may_count me.0 (record { held = Shared; bias = Clear })
-      → Lets holds moves slots id me at (Add 255) (Leaves counted (λ h n. downgraded h (word_after (Add 255) n)) (step slots at 255 0 none) me)
-  downs slots id at me is numbered alone clear quiet rest may = subst (λ (z : ℕ). Lets holds moves slots id me z (Add 255) (Leaves counted (λ h n. downgraded h (word_after (Add 255) n)) (step slots z 255 0 none) me)) (sym is) (downs-there slots id me numbered alone clear quiet rest may)
+      → Lets holds moves slots id me at (Add 255) (Leaves counted may_be 1 (λ h n. downgraded h (n + 255)) (step slots at 255 0 none) me)
+  downs slots id at me is numbered alone clear quiet rest may = subst (λ (z : ℕ). Lets holds moves slots id me z (Add 255) (Leaves counted may_be 1 (λ h n. downgraded h (n + 255)) (step slots z 255 0 none) me)) (sym is) (downs-there slots id me numbered alone clear quiet rest may)

@@ -60,6 +60,10 @@ module _ {E : Type 0} (counted : View E → Hand → Bias → E) where
 abbrev pub FindsFree : (place added : ℕ) → List Moment → Type 0
 FindsFree place added past = (word : ℕ) × FoundAt place word past × IsReadFree (word + added)
 
--- its step found a count of which it left this one
-abbrev pub LeftBy : (place : ℕ) → (ℕ → ℕ) → (left : ℕ) → List Moment → Type 0
-LeftBy place made left past = (word : ℕ) × FoundAt place word past × (left ≡ made word)
+-- its step left this count, which has its own bias and doesn't let readers in
+abbrev pub FindsShut : (place left : ℕ) → List Moment → Type 0
+FindsShut place left past = (word : ℕ) × FoundAt place word past × (left ≡ word + 256) × (IsReadFree left → ⊥)
+
+-- its step found a count, such as may stand there, took so much from it and added so much, and left this one
+abbrev pub LeftBy : (place : ℕ) → (ℕ → Type 0) → (less more left : ℕ) → List Moment → Type 0
+LeftBy place may_be less more left past = (word : ℕ) × FoundAt place word past × IsLawfulCount word × may_be word × (left + less ≡ word + more)

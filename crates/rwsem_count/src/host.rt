@@ -29,6 +29,9 @@ pub trait CountHost: SiteRule {
 
     ghost COUNT: { ℕ };
 
+    // Which words may stand there.
+    ghost may_be: { ℕ → Type 0 };
+
     // The bias in what a pass knows beyond the site and the spin lock.
     ghost bias: { Self.Ext → ABias };
 
@@ -46,7 +49,7 @@ pub trait CountHost: SiteRule {
 
     ghost bias_back: { (v : View Self.Ext) (h : Hand) (b : ABias) → bias (counted v h b) ≡ b };
 
-    ghost count_kept: { (k : Calls) (ws : List ℕ) (vs : List (View Self.Ext)) → Self.holds k ws vs → CountKept (slice_index ws COUNT) (more k ws vs) (map (count_part bias) vs) × IsLawfulCount (slice_index ws COUNT) };
+    ghost count_kept: { (k : Calls) (ws : List ℕ) (vs : List (View Self.Ext)) → Self.holds k ws vs → CountKept (slice_index ws COUNT) (more k ws vs) (map (count_part bias) vs) × IsLawfulCount (slice_index ws COUNT) × may_be (slice_index ws COUNT) };
 
     // A step on the count that keeps its own facts, its flags and the site's facts keeps every
     // other fact of the rule. A step on another word, by which a pass comes to hold or not by a

@@ -1,17 +1,14 @@
 //! The single steps on the count of any host.
-ghost use Rattle.std.specs.Prelude.{◌≡◌, ◌≢◌, ◌+◌, ℕ, false, IsSome, IfOk, IfErr};
+ghost use Rattle.std.specs.Prelude.{◌≡◌, ◌≢◌, ◌+◌, ◌-◌, ℕ, false, IsSome, IfOk, IfErr};
 ghost use Rattle.word_bits.specs.LockWords.{IsLawfulCount};
-ghost use Rattle.lock_core.specs.declared.op.Op.TheVariants.{Add, Sub};
 ghost use Rattle.lock_core.specs.declared.view.Held.TheVariants.{No, Shared, Alone};
 ghost use Rattle.lock_core.specs.Handles.{IsLatest, plan_of, view_of, hand_in, past_of, task_in, held_in, SitsAt, KeepsPast, SaysSame};
 ghost use Rattle.lock_core.specs.Holding.{downgraded, missed, released};
-ghost use Rattle.lock_core.specs.Ops.{word_after};
 ghost use Rattle.lock_core.specs.Pasts.{FoundAt};
 ghost use Rattle.rwsem_count.specs.declared.view.Bias.TheVariants.{Clear, Transit};
 ghost use Rattle.rwsem_count.specs.Counts.{based};
 ghost use Rattle.rwsem_count.specs.Plays.{Leaves, ReadAdded, WriteTaken};
-ghost use Rattle.rwsem_count.specs.Tries.{FindsFree, LeftBy, MissesCount, TakesCount, IsTransit};
-ghost use Rattle.rwsem_count.specs.WordSteps.{IsReadFree};
+ghost use Rattle.rwsem_count.specs.Tries.{FindsFree, FindsShut, LeftBy, MissesCount, TakesCount, IsTransit};
 
 use crate::host::CountHost;
 use crate::word_steps::{BIAS, WRITER, read_free};
@@ -41,7 +38,7 @@ struct TakeBack<H> {
 }
 
 impl<H: CountHost> Play<(), View<H::Ext>> for TakeBack<H> {
-    ghost then = { Leaves H.counted (λ h n. h) };
+    ghost then = { Leaves H.counted H.may_be 256 (λ h n. h) };
 }
 
 struct EndShared<H> {
@@ -49,7 +46,7 @@ struct EndShared<H> {
 }
 
 impl<H: CountHost> Play<(), View<H::Ext>> for EndShared<H> {
-    ghost then = { Leaves H.counted (λ h n. released h (word_after (Sub 256) n)) };
+    ghost then = { Leaves H.counted H.may_be 256 (λ h n. released h (n - 256)) };
 }
 
 struct EndAlone<H> {
@@ -57,7 +54,7 @@ struct EndAlone<H> {
 }
 
 impl<H: CountHost> Play<(), View<H::Ext>> for EndAlone<H> {
-    ghost then = { Leaves H.counted (λ h n. released h (word_after (Sub 1) n)) };
+    ghost then = { Leaves H.counted H.may_be 1 (λ h n. released h (n - 1)) };
 }
 
 struct Lower<H> {
@@ -65,7 +62,7 @@ struct Lower<H> {
 }
 
 impl<H: CountHost> Play<(), View<H::Ext>> for Lower<H> {
-    ghost then = { Leaves H.counted (λ h n. downgraded h (word_after (Add 255) n)) };
+    ghost then = { Leaves H.counted H.may_be 1 (λ h n. downgraded h (n + 255)) };
 }
 
 /// Adds a reader's bias. `Err` has the count that the addition left, which doesn't let a reader in;
@@ -84,9 +81,7 @@ pub fn read_add<H: CountHost>(site: &Site<H>, pass: &mut Pass<H>) -> Result<(), 
     ensures took { IfOk result (λ _. TakesCount H.counted H.O.object (plan_of site.now) Shared
         (view_of pass.old) (view_of pass.new)) }
     ensures free { IfOk result (λ _. FindsFree H.COUNT 256 (past_of pass.new)) }
-    ensures left { IfErr result (λ count.
-        LeftBy H.COUNT (λ n. n + 256) count (past_of pass.new)) }
-    ensures shut { IfErr result (λ count. IsReadFree count → ⊥) }
+    ensures left { IfErr result (λ count. FindsShut H.COUNT count (past_of pass.new)) }
     ensures transit { IfErr result (λ count.
         IsTransit H.counted (view_of pass.old) count (view_of pass.new)) }
 {
@@ -140,10 +135,10 @@ pub fn read_back<H: CountHost>(site: &Site<H>, pass: &mut Pass<H>) -> u64
     ensures last { IsLatest pass.new }
     ensures face { SaysSame pass.old pass.new }
     ensures kept { view_of pass.new ≡ based H.counted (view_of pass.old) (hand_in pass.old) Clear }
-    ensures left { LeftBy H.COUNT (word_after (Sub 256)) result (past_of pass.new) }
+    ensures left { LeftBy H.COUNT H.may_be 256 0 result (past_of pass.new) }
 {
     let found = site.step::<TakeBack<H>>(pass, H::COUNT, Op::Sub(BIAS));
-    found.wrapping_sub(BIAS)
+    found - BIAS
 }
 
 /// Ends a shared hold. Answers the count that this leaves. The first step of the kernel's
@@ -160,11 +155,11 @@ pub fn up_read<H: CountHost>(site: &Site<H>, pass: &mut Pass<H>) -> u64
     ensures last { IsLatest pass.new }
     ensures kept { view_of pass.new ≡
         based H.counted (view_of pass.old) (released (hand_in pass.old) result) Clear }
-    ensures left { LeftBy H.COUNT (word_after (Sub 256)) result (past_of pass.new) }
+    ensures left { LeftBy H.COUNT H.may_be 256 0 result (past_of pass.new) }
 {
     let found = site.step::<EndShared<H>>(pass, H::COUNT, Op::Sub(BIAS));
     pass.set_held(Held::No);
-    found.wrapping_sub(BIAS)
+    found - BIAS
 }
 
 /// Ends an exclusive hold. Answers the count that this leaves. The first step of the kernel's
@@ -181,12 +176,12 @@ pub fn up_write<H: CountHost>(site: &Site<H>, pass: &mut Pass<H>) -> u64
     ensures last { IsLatest pass.new }
     ensures kept { view_of pass.new ≡
         based H.counted (view_of pass.old) (released (hand_in pass.old) result) Clear }
-    ensures left { LeftBy H.COUNT (word_after (Sub 1)) result (past_of pass.new) }
+    ensures left { LeftBy H.COUNT H.may_be 1 0 result (past_of pass.new) }
 {
     // A subtraction, and no store: biases and flags that others have just added must not be lost.
     let found = site.step::<EndAlone<H>>(pass, H::COUNT, Op::Sub(WRITER));
     pass.set_held(Held::No);
-    found.wrapping_sub(WRITER)
+    found - WRITER
 }
 
 /// Turns an exclusive hold into a shared one. Answers the count that this leaves. The first step of
@@ -203,7 +198,7 @@ pub fn downgrade<H: CountHost>(site: &Site<H>, pass: &mut Pass<H>) -> u64
     ensures last { IsLatest pass.new }
     ensures kept { view_of pass.new ≡
         based H.counted (view_of pass.old) (downgraded (hand_in pass.old) result) Clear }
-    ensures left { LeftBy H.COUNT (word_after (Add 255)) result (past_of pass.new) }
+    ensures left { LeftBy H.COUNT H.may_be 0 255 result (past_of pass.new) }
 {
     // The bias comes and the writer goes in one step: a writer that found neither would take.
     let found = site.step::<Lower<H>>(pass, H::COUNT, Op::Add(BIAS - WRITER));
