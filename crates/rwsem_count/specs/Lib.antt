@@ -4,3 +4,7 @@ pub mod Semaphores
 pub mod WordSteps
 pub mod Plays
 pub mod Tries
+pub mod Numbers
+pub mod Stated
+pub mod Ruled
+pub mod RuledLaws
