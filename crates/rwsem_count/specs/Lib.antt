@@ -8,3 +8,4 @@ pub mod Numbers
 pub mod Stated
 pub mod Ruled
 pub mod RuledLaws
+pub mod Handles

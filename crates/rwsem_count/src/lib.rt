@@ -2,11 +2,17 @@
 #![tactic(auto)]
 
 mod host;
+mod pass;
+mod rule;
+mod site;
 pub mod steps;
 pub mod tries;
 mod view;
 mod word_steps;
 
 pub use host::CountHost;
+pub use pass::CountPass;
+pub use rule::CountRule;
+pub use site::CountSite;
 pub use view::Bias;
 pub use word_steps::{BIAS, HANDOFF, READ_FAIL, WAITERS, WRITER, Write, read_free, write_step};
