@@ -36,7 +36,7 @@ use Rattle.rwsem_count.specs.WordSteps.{IsReadFree}
 use Rattle.rwsem_count.specs.Plays.{SeenBy, Looked, Gets, ReadAdded, ReadTaken, WriteTaken, Leaves}
 
 -- a lawful count lets a reader in exactly where it has no flag, and so it does with one bias more
-free-or-shut : (n m : ℕ) {P : Type 0} → IsLawfulCount n → m % 256 ≡ n % 256 → m ≤ n + 256 → (IsReadFree m → n % 8 ≡ 0 → P) → ((IsReadFree m → ⊥) → n % 8 ≢ 0 → P) → P
+pub free-or-shut : (n m : ℕ) {P : Type 0} → IsLawfulCount n → m % 256 ≡ n % 256 → m ≤ n + 256 → (IsReadFree m → n % 8 ≡ 0 → P) → ((IsReadFree m → ⊥) → n % 8 ≢ 0 → P) → P
 free-or-shut n m lawful flags few free shut = let low = lawful.0 in let high = lawful.1 in dite (ℕ_discrete (n % 8) 0)
     (λ is. free record { writer = omega (arith, is, flags); waiters = omega (arith, is, flags); handoff = omega (arith, is, flags); read_fail = omega (arith, high, few) } is)
     (λ not. shut (λ f. let w = f.writer in let x = f.waiters in let h = f.handoff in not (omega (arith, low, w, x, h, flags))) not)
@@ -192,8 +192,8 @@ module _ {E Call : Type 0} (o : Obj Call) (unavailable : Unavailable) (size : �
 
   -- a bias is taken back
   backs-there : (slots id word : ℕ) (me : M) → me.0.hand.task ≢ None → bias me.0.ext ≡ Transit word → may_count me.0 (record { held = me.0.hand.held; bias = Clear })
-      → Lets holds moves slots id me place (Sub 256) (Leaves counted may_be 256 (λ h n. h) (step slots place 256 0 none) me)
-  backs-there slots id word me numbered biased may = count-goes slots id me (Sub 256) (Leaves counted may_be 256 (λ h n. h) (step slots place 256 0 none) me) (λ n more ps w hs mine mine' alones helds c lawful fits r. let v = me.0 in let p : CountPart = count_part bias v in let low = lawful.0 in let high = lawful.1 in
+      → Lets holds moves slots id me place (Sub 256) (Leaves counted may_be 256 (λ n. n - 256) (λ h left. h) (step slots place 256 0 none) me)
+  backs-there slots id word me numbered biased may = count-goes slots id me (Sub 256) (Leaves counted may_be 256 (λ n. n - 256) (λ h left. h) (step slots place 256 0 none) me) (λ n more ps w hs mine mine' alones helds c lawful fits r. let v = me.0 in let p : CountPart = count_part bias v in let low = lawful.0 in let high = lawful.1 in
       let one : early_in p + late_in p ≡ 1 = ap (λ (z : Bias). early_weight z + late_weight z) biased ∙ (let e : (1 - word % 2) + word % 2 ≡ 1 = omega arith in e) in let F = total-at early_in ps id p mine in let L = total-at late_in ps id p mine in let f = c.field in
       let less : word_after (Sub 256) n + 256 ≡ n = omega (arith, low, high, one, F, L, f) in (
         v.hand,
@@ -203,13 +203,13 @@ module _ {E Call : Type 0} (o : Obj Call) (unavailable : Unavailable) (size : �
         record { flags = omega (arith, less); writer = λ x y. absurd (omega (arith, x, y, less)); reader = λ e. inl e },
         count-backs ps id p (part v.hand Clear) mine n (word_after (Sub 256) n) more c (omega (arith, less)) (omega (arith, less, low)) (omega (arith, less)) refl one refl,
         subst (Kept w) (sym (set_again hs id v.hand mine')) r,
-        (lawful, fits, omega (arith, less), (refl, refl)),
+        (lawful, fits, omega (arith, less), omega (arith, less), (refl, refl)),
       ))
 
   -- a shared hold ends
   frees-shared-there : (slots id : ℕ) (me : M) → me.0.hand.task ≢ None → me.0.hand.held ≡ Shared → bias me.0.ext ≡ Clear → me.0.hand.writes ≡ false → me.0.hand.stage ≡ Rest → may_count me.0 (record { held = No; bias = Clear })
-      → Lets holds moves slots id me place (Sub 256) (Leaves counted may_be 256 (λ h n. released h (n - 256)) (step slots place 256 0 none) me)
-  frees-shared-there slots id me numbered shares clear quiet rest may = count-goes slots id me (Sub 256) (Leaves counted may_be 256 (λ h n. released h (n - 256)) (step slots place 256 0 none) me) (λ n more ps w hs mine mine' alones helds c lawful fits r. let v = me.0 in let p : CountPart = count_part bias v in let low = lawful.0 in let high = lawful.1 in
+      → Lets holds moves slots id me place (Sub 256) (Leaves counted may_be 256 (λ n. n - 256) released (step slots place 256 0 none) me)
+  frees-shared-there slots id me numbered shares clear quiet rest may = count-goes slots id me (Sub 256) (Leaves counted may_be 256 (λ n. n - 256) released (step slots place 256 0 none) me) (λ n more ps w hs mine mine' alones helds c lawful fits r. let v = me.0 in let p : CountPart = count_part bias v in let low = lawful.0 in let high = lawful.1 in
       let one : shared_in p ≡ 1 = ap shared_weight shares in let S = total-at shared_in ps id p mine in let f = c.field in let less : word_after (Sub 256) n + 256 ≡ n = omega (arith, low, high, one, S, f) in let left : n - 256 ≡ word_after (Sub 256) n = omega (arith, less) in let g : Hand = released v.hand (n - 256) in (
         g,
         Clear,
@@ -218,13 +218,13 @@ module _ {E Call : Type 0} (o : Obj Call) (unavailable : Unavailable) (size : �
         record { flags = omega (arith, less); writer = λ x y. absurd (omega (arith, x, y, less)); reader = λ e. shared-no (sym e) },
         count-frees-shared ps id p (part g Clear) mine n (word_after (Sub 256) n) more c less shares clear refl refl,
         site-frees o unavailable size k w hs id (n - 256) v.hand r mine' quiet rest,
-        (lawful, fits, omega (arith, less), (refl, refl)),
+        (lawful, fits, omega (arith, less), omega (arith, less), (refl, refl)),
       ))
 
   -- an exclusive hold ends
   frees-alone-there : (slots id : ℕ) (me : M) → me.0.hand.task ≢ None → me.0.hand.held ≡ Alone → bias me.0.ext ≡ Clear → me.0.hand.writes ≡ false → me.0.hand.stage ≡ Rest → may_count me.0 (record { held = No; bias = Clear })
-      → Lets holds moves slots id me place (Sub 1) (Leaves counted may_be 1 (λ h n. released h (n - 1)) (step slots place 1 0 none) me)
-  frees-alone-there slots id me numbered alone clear quiet rest may = count-goes slots id me (Sub 1) (Leaves counted may_be 1 (λ h n. released h (n - 1)) (step slots place 1 0 none) me) (λ n more ps w hs mine mine' alones helds c lawful fits r. let v = me.0 in let p : CountPart = count_part bias v in let low = lawful.0 in let high = lawful.1 in
+      → Lets holds moves slots id me place (Sub 1) (Leaves counted may_be 1 (λ n. n - 1) released (step slots place 1 0 none) me)
+  frees-alone-there slots id me numbered alone clear quiet rest may = count-goes slots id me (Sub 1) (Leaves counted may_be 1 (λ n. n - 1) released (step slots place 1 0 none) me) (λ n more ps w hs mine mine' alones helds c lawful fits r. let v = me.0 in let p : CountPart = count_part bias v in let low = lawful.0 in let high = lawful.1 in
       let one : alone_in p ≡ 1 = ap alone_weight alone in let A = total-at alone_in ps id p mine in let wr = c.writer in let less : word_after (Sub 1) n + 1 ≡ n = omega (arith, low, high, one, A, wr) in let left : n - 1 ≡ word_after (Sub 1) n = omega (arith, less) in let g : Hand = released v.hand (n - 1) in (
         g,
         Clear,
@@ -233,13 +233,13 @@ module _ {E Call : Type 0} (o : Obj Call) (unavailable : Unavailable) (size : �
         record { flags = omega (arith, less, wr, A, one); writer = λ x y. absurd (omega (arith, x, wr, A, one)); reader = λ e. shared-no (sym e) },
         count-frees-alone ps id p (part g Clear) mine n (word_after (Sub 1) n) more c less alone clear refl refl,
         site-frees o unavailable size k w hs id (n - 1) v.hand r mine' quiet rest,
-        (lawful, fits, omega (arith, less), (refl, refl)),
+        (lawful, fits, omega (arith, less), omega (arith, wr, A, one), (refl, refl)),
       ))
 
   -- a writer goes on as a reader
   downs-there : (slots id : ℕ) (me : M) → me.0.hand.task ≢ None → me.0.hand.held ≡ Alone → bias me.0.ext ≡ Clear → me.0.hand.writes ≡ false → me.0.hand.stage ≡ Rest → may_count me.0 (record { held = Shared; bias = Clear })
-      → Lets holds moves slots id me place (Add 255) (Leaves counted may_be 1 (λ h n. downgraded h (n + 255)) (step slots place 255 0 none) me)
-  downs-there slots id me numbered alone clear quiet rest may = count-goes slots id me (Add 255) (Leaves counted may_be 1 (λ h n. downgraded h (n + 255)) (step slots place 255 0 none) me) (λ n more ps w hs mine mine' alones helds c lawful fits r. let v = me.0 in let p : CountPart = count_part bias v in let low = lawful.0 in let high = lawful.1 in
+      → Lets holds moves slots id me place (Add 255) (Leaves counted may_be 1 (λ n. n + 255) downgraded (step slots place 255 0 none) me)
+  downs-there slots id me numbered alone clear quiet rest may = count-goes slots id me (Add 255) (Leaves counted may_be 1 (λ n. n + 255) downgraded (step slots place 255 0 none) me) (λ n more ps w hs mine mine' alones helds c lawful fits r. let v = me.0 in let p : CountPart = count_part bias v in let low = lawful.0 in let high = lawful.1 in
       let one : alone_in p ≡ 1 = ap alone_weight alone in let A = total-at alone_in ps id p mine in let wr = c.writer in let sum : n + 255 ≡ word_after (Add 255) n = omega (arith, low, high) in let odd = writes-odd more ps n c A one in let g : Hand = downgraded v.hand (n + 255) in (
         g,
         Clear,
@@ -248,7 +248,7 @@ module _ {E Call : Type 0} (o : Obj Call) (unavailable : Unavailable) (size : �
         record { flags = omega (arith, sum, odd, low); writer = λ x y. absurd (omega (arith, x, odd)); reader = λ _. inr (inr (inr alone)) },
         subst (λ (z : ℕ). CountKept z more (set ps id (part g Clear))) sum (count-downgrades ps id p (part g Clear) mine n more c alone clear refl refl),
         site-downgrades o unavailable size k w hs id (n + 255) v.hand r mine' alone quiet rest,
-        (lawful, fits, omega (arith, odd), (refl, refl)),
+        (lawful, fits, omega (arith, odd), omega (arith, odd, low), (refl, refl)),
       ))
     where
       writes-odd : (more : ℕ) (ps : List CountPart) (n : ℕ) → CountKept n more ps → {x : ℕ} → x ≤ total alone_in ps → x ≡ 1 → n % 2 ≡ 1
@@ -269,17 +269,17 @@ module _ {E Call : Type 0} (o : Obj Call) (unavailable : Unavailable) (size : �
   pub writer-gets : (slots id at t : ℕ) (me : M) → at ≡ place → me.0.hand.task ≡ Some t → me.0.hand.held ≡ No → bias me.0.ext ≡ Clear → may_count me.0 (record { held = Alone; bias = Clear }) → Lets holds moves slots id me at (Exchange 0 1) (WriteTaken counted o (step slots at 0 1 none) me)
   writer-gets slots id at t me is has out clear may = subst (λ (z : ℕ). Lets holds moves slots id me z (Exchange 0 1) (WriteTaken counted o (step slots z 0 1 none) me)) (sym is) (writer-takes slots id t me has out clear may)
 
-  pub backs : (slots id at word : ℕ) (me : M) → at ≡ place → me.0.hand.task ≢ None → bias me.0.ext ≡ Transit word → may_count me.0 (record { held = me.0.hand.held; bias = Clear }) → Lets holds moves slots id me at (Sub 256) (Leaves counted may_be 256 (λ h n. h) (step slots at 256 0 none) me)
-  backs slots id at word me is numbered biased may = subst (λ (z : ℕ). Lets holds moves slots id me z (Sub 256) (Leaves counted may_be 256 (λ h n. h) (step slots z 256 0 none) me)) (sym is) (backs-there slots id word me numbered biased may)
+  pub backs : (slots id at word : ℕ) (me : M) → at ≡ place → me.0.hand.task ≢ None → bias me.0.ext ≡ Transit word → may_count me.0 (record { held = me.0.hand.held; bias = Clear }) → Lets holds moves slots id me at (Sub 256) (Leaves counted may_be 256 (λ n. n - 256) (λ h left. h) (step slots at 256 0 none) me)
+  backs slots id at word me is numbered biased may = subst (λ (z : ℕ). Lets holds moves slots id me z (Sub 256) (Leaves counted may_be 256 (λ n. n - 256) (λ h left. h) (step slots z 256 0 none) me)) (sym is) (backs-there slots id word me numbered biased may)
 
   pub frees-shared : (slots id at : ℕ) (me : M) → at ≡ place → me.0.hand.task ≢ None → me.0.hand.held ≡ Shared → bias me.0.ext ≡ Clear → me.0.hand.writes ≡ false → me.0.hand.stage ≡ Rest → may_count me.0 (record { held = No; bias = Clear })
-      → Lets holds moves slots id me at (Sub 256) (Leaves counted may_be 256 (λ h n. released h (n - 256)) (step slots at 256 0 none) me)
-  frees-shared slots id at me is numbered shares clear quiet rest may = subst (λ (z : ℕ). Lets holds moves slots id me z (Sub 256) (Leaves counted may_be 256 (λ h n. released h (n - 256)) (step slots z 256 0 none) me)) (sym is) (frees-shared-there slots id me numbered shares clear quiet rest may)
+      → Lets holds moves slots id me at (Sub 256) (Leaves counted may_be 256 (λ n. n - 256) released (step slots at 256 0 none) me)
+  frees-shared slots id at me is numbered shares clear quiet rest may = subst (λ (z : ℕ). Lets holds moves slots id me z (Sub 256) (Leaves counted may_be 256 (λ n. n - 256) released (step slots z 256 0 none) me)) (sym is) (frees-shared-there slots id me numbered shares clear quiet rest may)
 
   pub frees-alone : (slots id at : ℕ) (me : M) → at ≡ place → me.0.hand.task ≢ None → me.0.hand.held ≡ Alone → bias me.0.ext ≡ Clear → me.0.hand.writes ≡ false → me.0.hand.stage ≡ Rest → may_count me.0 (record { held = No; bias = Clear })
-      → Lets holds moves slots id me at (Sub 1) (Leaves counted may_be 1 (λ h n. released h (n - 1)) (step slots at 1 0 none) me)
-  frees-alone slots id at me is numbered alone clear quiet rest may = subst (λ (z : ℕ). Lets holds moves slots id me z (Sub 1) (Leaves counted may_be 1 (λ h n. released h (n - 1)) (step slots z 1 0 none) me)) (sym is) (frees-alone-there slots id me numbered alone clear quiet rest may)
+      → Lets holds moves slots id me at (Sub 1) (Leaves counted may_be 1 (λ n. n - 1) released (step slots at 1 0 none) me)
+  frees-alone slots id at me is numbered alone clear quiet rest may = subst (λ (z : ℕ). Lets holds moves slots id me z (Sub 1) (Leaves counted may_be 1 (λ n. n - 1) released (step slots z 1 0 none) me)) (sym is) (frees-alone-there slots id me numbered alone clear quiet rest may)
 
   pub downs : (slots id at : ℕ) (me : M) → at ≡ place → me.0.hand.task ≢ None → me.0.hand.held ≡ Alone → bias me.0.ext ≡ Clear → me.0.hand.writes ≡ false → me.0.hand.stage ≡ Rest → may_count me.0 (record { held = Shared; bias = Clear })
-      → Lets holds moves slots id me at (Add 255) (Leaves counted may_be 1 (λ h n. downgraded h (n + 255)) (step slots at 255 0 none) me)
-  downs slots id at me is numbered alone clear quiet rest may = subst (λ (z : ℕ). Lets holds moves slots id me z (Add 255) (Leaves counted may_be 1 (λ h n. downgraded h (n + 255)) (step slots z 255 0 none) me)) (sym is) (downs-there slots id me numbered alone clear quiet rest may)
+      → Lets holds moves slots id me at (Add 255) (Leaves counted may_be 1 (λ n. n + 255) downgraded (step slots at 255 0 none) me)
+  downs slots id at me is numbered alone clear quiet rest may = subst (λ (z : ℕ). Lets holds moves slots id me z (Add 255) (Leaves counted may_be 1 (λ n. n + 255) downgraded (step slots z 255 0 none) me)) (sym is) (downs-there slots id me numbered alone clear quiet rest may)

@@ -2,3 +2,4 @@ mod Lawful
 pub mod Counting
 pub mod Sitting
 mod Trying
+mod Showing

@@ -1,11 +1,10 @@
 -- A reader's try goes on from word to word.
-use Rattle.std.proofs.Common.{◌≡◌, ◌≢◌, ◌∙◌, ℕ, ◌+◌, ◌<◌, ◌≤◌, refl, sym, ap, subst, arith}
+use Rattle.std.proofs.Common.{◌≡◌, ℕ, ◌+◌, subst, arith}
 use Rattle.atomic_table.specs.Table.{Me}
 use Rattle.lock_core.specs.declared.view.View.{View}
-use Rattle.lock_core.specs.Views.{ticked}
 use Rattle.rwsem_count.specs.WordSteps.{IsReadFree}
 use Rattle.rwsem_count.specs.Plays.{SeenBy}
-use Rattle.rwsem_count.specs.Tries.{SawCount, at_step}
+use Rattle.rwsem_count.specs.Tries.{SawCount}
 
 module _ {E : Type 0} where
   -- what a step tells of the word that a try saw

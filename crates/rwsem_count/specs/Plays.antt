@@ -1,5 +1,5 @@
 -- What a step on a count tells its pass.
-use Rattle.std.specs.Prelude.{◌≡◌, ◌≢◌, ℕ, ◌+◌, ◌≤◌, List, Some}
+use Rattle.std.specs.Prelude.{◌≡◌, ◌≢◌, ℕ, ◌+◌, ◌/◌, ◌%◌, ◌≤◌, List, Some}
 use Rattle.word_bits.specs.declared.entry.Entry.{Entry}
 use Rattle.word_bits.specs.LockWords.{IsLawfulCount}
 use Rattle.word_bits.specs.Objects.{Obj}
@@ -43,6 +43,6 @@ module _ {E : Type 0} (counted : View E → Hand → Bias → E) where
   abbrev pub WriteTaken : {Call : Type 0} → Obj Call → Step (Unit {0}) → Sat E → ℕ → Sat E → Type 0
   WriteTaken o st m n m' = (n ≡ 0 → Gets o Alone m m') × (n ≢ 0 → IsLawfulCount n × Turns m (handed m.0 (missed m.0.hand n (m.0.steps + 1))) m')
 
-  -- A step that takes so much from the count, gives the pass this hand, and leaves it no bias. The count had as much.
-  abbrev pub Leaves : (may_be : ℕ → Type 0) (less : ℕ) → (Hand → ℕ → Hand) → Step (Unit {0}) → Sat E → ℕ → Sat E → Type 0
-  Leaves may_be less h st m n m' = IsLawfulCount n × may_be n × (less ≤ n) × Turns m (based counted m.0 (h m.0.hand n) Clear) m'
+  -- A step that leaves this of the count, which had as much as it takes, gives the pass this hand, and leaves it no bias. All flags but the writer's stay.
+  abbrev pub Leaves : (may_be : ℕ → Type 0) (less : ℕ) (left : ℕ → ℕ) → (Hand → ℕ → Hand) → Step (Unit {0}) → Sat E → ℕ → Sat E → Type 0
+  Leaves may_be less left h st m n m' = IsLawfulCount n × may_be n × (less ≤ n) × (left n / 2 % 128 ≡ n / 2 % 128) × Turns m (based counted m.0 (h m.0.hand (left n)) Clear) m'

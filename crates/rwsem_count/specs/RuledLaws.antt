@@ -1,5 +1,5 @@
 -- The laws of the rule of a table with a count alone.
-use Rattle.std.proofs.Common.{◌≡◌, ◌≢◌, ℕ, zero, suc, ◌+◌, ◌*◌, ◌%◌, ◌/◌, ◌<◌, ◌≤◌, inl, inr, List, [], ◌∷◌, ◌++◌, length, map, get_or, set, Bool, true, false, Option, Some, None, sym, refl, ap, ◌∙◌, subst, arith, length-set, get_or-set_same, get_or-set_other}
+use Rattle.std.proofs.Common.{◌≡◌, ◌≢◌, ℕ, zero, suc, ◌+◌, ◌%◌, ◌/◌, ◌<◌, ◌≤◌, inl, inr, List, [], ◌∷◌, ◌++◌, length, map, get_or, set, Bool, true, false, Option, Some, None, sym, refl, ap, ◌∙◌, subst, arith, length-set, get_or-set_same, get_or-set_other}
 use Rattle.std.proofs.lemmas.List.{drop-set-lt}
 use mathlib.Core.Option.{some, some-injective, some-ne-none}
 use lib.ListN.{get_elem?}
@@ -9,7 +9,6 @@ use Rattle.word_bits.specs.LockWords.{IsLawfulCount, counted}
 use Rattle.word_bits.specs.OwnerWord.{bit}
 use Rattle.word_bits.specs.Objects.{Obj}
 use Rattle.word_bits.specs.Histories.{Plan}
-use Rattle.lock_core.specs.declared.view.View.{View}
 use Rattle.lock_core.specs.declared.view.Hand.{Hand}
 use Rattle.lock_core.specs.declared.view.Held.{Held}
 use Rattle.lock_core.specs.declared.view.Marks.{Marks}
@@ -17,12 +16,12 @@ use Rattle.lock_core.specs.declared.view.Held.TheVariants.{No, Shared, Alone}
 use Rattle.lock_core.specs.declared.view.SpinHand.{SpinHand}
 use Rattle.lock_core.specs.declared.layout.TheConstants.{LOCK_WORDS}
 use Rattle.lock_core.specs.Layout.{SiteWords, fresh, site, lay, width}
-use Rattle.lock_core.specs.Views.{hand_of, handed, seated, ticked, first, split_off, merged, spent, is_number, named_of, held_weight, alone_weight, alone_of, HoldsNothing}
+use Rattle.lock_core.specs.Views.{hand_of, handed, seated, ticked, first, split_off, merged, spent, is_number, named_of, held_weight, alone_of, HoldsNothing}
 use Rattle.lock_core.specs.Sites.{SiteKept}
 use Rattle.lock_core.specs.Moves.{Goes, KeepsHold, SiteMove}
 use Rattle.lock_core.specs.MoveLaws.{set-moves, hold-moved}
 use Rattle.lock_core.specs.Pasts.{marks_of}
-use Rattle.lock_core.specs.Totals.{total, total-at}
+use Rattle.lock_core.specs.Totals.{total}
 use Rattle.lock_core.specs.Parts.{Each, each-set, each-snoc, keep_part, set_part, snoc_part}
 use Rattle.lock_core.proofs.Stating.{kept-states}
 use Rattle.lock_core.proofs.HandLaws.{held-none}
@@ -31,7 +30,7 @@ use Rattle.rwsem_count.specs.declared.view.Bias.TheVariants.{Clear, Transit, Res
 use Rattle.rwsem_count.specs.Counts.{CountKept, CountMove, CountPart, HandStep, shared_weight, early_weight, late_weight, shared_in, alone_in, early_in, late_in, based, count_part, part}
 use Rattle.rwsem_count.specs.CountLaws.{count-stays, count-strangers, count-opens}
 use Rattle.rwsem_count.specs.Numbers.{few-numbers, number_weight}
-use Rattle.rwsem_count.specs.Stated.{StatesCount, kept_bias, shared_of, transit_of}
+use Rattle.rwsem_count.specs.Stated.{kept_bias, shared_of, transit_of}
 use Rattle.rwsem_count.specs.Ruled.{V, same_bias, new_bias, IsPlain, bias_kind, IsLight, may_count, count_at, CountRuleKept, CountMoves, IsCountSite}
 
 pub count-inside : count_at < LOCK_WORDS

@@ -1,5 +1,5 @@
 -- What a step or a try of a count leaves of its pass.
-use Rattle.std.specs.Prelude.{◌≡◌, ℕ, ◌+◌, ◌≤◌, List}
+use Rattle.std.specs.Prelude.{◌≡◌, ℕ, ◌+◌, ◌/◌, ◌%◌, ◌≤◌, List}
 use Rattle.word_bits.specs.declared.entry.Entry.{Entry}
 use Rattle.word_bits.specs.LockWords.{IsLawfulCount}
 use Rattle.word_bits.specs.Objects.{Obj}
@@ -64,6 +64,11 @@ FindsFree place added past = (word : ℕ) × FoundAt place word past × IsReadFr
 abbrev pub FindsShut : (place left : ℕ) → List Moment → Type 0
 FindsShut place left past = (word : ℕ) × FoundAt place word past × (left ≡ word + 256) × (IsReadFree left → ⊥)
 
--- its step found a count, such as may stand there, took so much from it and added so much, and left this one
-abbrev pub LeftBy : (place : ℕ) → (ℕ → Type 0) → (less more left : ℕ) → List Moment → Type 0
-LeftBy place may_be less more left past = (word : ℕ) × FoundAt place word past × IsLawfulCount word × may_be word × (left + less ≡ word + more)
+-- its step found a count, such as may stand there, took so much from it and added so much, and left this one; all flags but the writer's stay
+pub record LeftBy (place : ℕ) (may_be : ℕ → Type 0) (less more left : ℕ) (past : List Moment) : Type 0 where
+  pub word : ℕ
+  pub found : FoundAt place word past
+  pub lawful : IsLawfulCount word
+  pub fits : may_be word
+  pub sum : left + less ≡ word + more
+  pub flags : left / 2 % 128 ≡ word / 2 % 128

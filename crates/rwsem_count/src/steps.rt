@@ -38,7 +38,7 @@ struct TakeBack<H> {
 }
 
 impl<H: CountHost> Play<(), View<H::Ext>> for TakeBack<H> {
-    ghost then = { Leaves H.counted H.may_be 256 (λ h n. h) };
+    ghost then = { Leaves H.counted H.may_be 256 (λ n. n - 256) (λ h left. h) };
 }
 
 struct EndShared<H> {
@@ -46,7 +46,7 @@ struct EndShared<H> {
 }
 
 impl<H: CountHost> Play<(), View<H::Ext>> for EndShared<H> {
-    ghost then = { Leaves H.counted H.may_be 256 (λ h n. released h (n - 256)) };
+    ghost then = { Leaves H.counted H.may_be 256 (λ n. n - 256) released };
 }
 
 struct EndAlone<H> {
@@ -54,7 +54,7 @@ struct EndAlone<H> {
 }
 
 impl<H: CountHost> Play<(), View<H::Ext>> for EndAlone<H> {
-    ghost then = { Leaves H.counted H.may_be 1 (λ h n. released h (n - 1)) };
+    ghost then = { Leaves H.counted H.may_be 1 (λ n. n - 1) released };
 }
 
 struct Lower<H> {
@@ -62,7 +62,7 @@ struct Lower<H> {
 }
 
 impl<H: CountHost> Play<(), View<H::Ext>> for Lower<H> {
-    ghost then = { Leaves H.counted H.may_be 1 (λ h n. downgraded h (n + 255)) };
+    ghost then = { Leaves H.counted H.may_be 1 (λ n. n + 255) downgraded };
 }
 
 /// Adds a reader's bias. `Err` has the count that the addition left, which doesn't let a reader in;

@@ -1,12 +1,11 @@
-use Rattle.std.proofs.Common.{◌≡◌, ◌∙◌, ◌≤◌, arith, ap, refl, subst, sym, IsSome}
+use Rattle.std.proofs.Common.{◌∙◌, arith, ap, subst, sym}
 use Rattle.lock_core.specs.declared.pass.Face.{Face}
-use Rattle.lock_core.specs.declared.view.Held.TheVariants.{No, Shared, Alone}
+use Rattle.lock_core.specs.declared.view.Held.TheVariants.{Shared}
 use Rattle.lock_core.specs.Pasts.{IsOwnStep, Tail}
 use Rattle.lock_core.proofs.HandLaws.{not-both}
-use Rattle.lock_core.proofs.Sitting.{sits-on}
-use Rattle.rwsem_count.specs.declared.view.Bias.TheVariants.{Clear, Transit}
-use Rattle.rwsem_count.proofs.Counting.{reads, looks, reader-gets, writer-gets, backs, frees-shared, frees-alone, downs}
-use Rattle.rwsem_count.proofs.Sitting.{has-number, some-number, sits-took, sits-missed, sits-released, sits-downgraded}
+use Rattle.rwsem_count.specs.declared.view.Bias.TheVariants.{Clear}
+use Rattle.rwsem_count.proofs.Counting.{reads}
+use Rattle.rwsem_count.proofs.Sitting.{some-number, sits-took, sits-missed}
 use Rattle.rwsem_count.proofs.steps.read_add.Goals as goal
 
 pub step-count-requires-clause-lets : goal.step-count-requires-clause-lets

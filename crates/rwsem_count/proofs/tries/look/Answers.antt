@@ -1,18 +1,7 @@
-use Rattle.std.proofs.Common.{◌≡◌, ◌∙◌, ◌≤◌, arith, ap, refl, subst, sym, IsSome}
-use Rattle.lock_core.specs.declared.pass.Face.{Face}
-use Rattle.lock_core.specs.declared.view.Held.TheVariants.{No, Shared, Alone}
-use Rattle.lock_core.specs.Pasts.{IsOwnStep, Tail}
-use Rattle.lock_core.proofs.HandLaws.{not-both}
-use Rattle.lock_core.proofs.Sitting.{sits-on}
-use Rattle.rwsem_count.specs.declared.view.Bias.TheVariants.{Clear, Transit}
-use Rattle.rwsem_count.proofs.Counting.{reads, looks, reader-gets, writer-gets, backs, frees-shared, frees-alone, downs}
-use Rattle.rwsem_count.proofs.Sitting.{has-number, some-number, sits-took, sits-missed, sits-released, sits-downgraded}
-use mathlib.Core.Logic.{dite}
+use Rattle.rwsem_count.proofs.Counting.{looks}
+use Rattle.rwsem_count.proofs.Sitting.{has-number}
 use Rattle.lock_core.specs.Pasts.{unseen}
-use Rattle.lock_core.specs.declared.view.View.{View}
-use Rattle.rwsem_count.specs.Tries.{SawCount}
-use Rattle.rwsem_count.proofs.Counting.{free-or-not}
-use Rattle.rwsem_count.proofs.Trying.{saw-word, saw-again}
+use Rattle.rwsem_count.proofs.Trying.{saw-word}
 use Rattle.rwsem_count.proofs.Sitting.{sits-saw}
 use Rattle.rwsem_count.proofs.tries.look.Goals as goal
 

@@ -1,0 +1,15 @@
+use Rattle.lock_core.specs.Pasts.{Moves}
+use Rattle.lock_core.specs.RunLaws.{ran-each, ran-so}
+use Rattle.lock_core.specs.Stated.{IsSiteMove}
+use Rattle.rwsem_count.specs.Ruled.{CountRuleKept, CountMoves, IsCountSiteThen, newest}
+use Rattle.rwsem_count.specs.RuledLaws.{rule-states}
+use Rattle.rwsem_count.specs.Stated.{kept_bias}
+use Rattle.rwsem_count.proofs.site.CountSite.recall_count.Goals as goal
+
+pub returns-clause-always : goal.returns-clause-always
+returns-clause-always g c = let k = c.args.self.now.site.table.shared.key in let o = g.O.Object.object in let n = g.O.Object.WORDS in let own = c.recall.ensures.last in
+    ran-each kept_bias (CountRuleKept o n k) (CountMoves k) (IsCountSiteThen o n k) (rule-states o n k) (newest k) own.now own.before own.rest _ own.past_is c.recall.ensures.run
+
+pub returns-clause-moves : goal.returns-clause-moves
+returns-clause-moves g c = let k = c.args.self.now.site.table.shared.key in let o = g.O.Object.object in let n = g.O.Object.WORDS in
+    ran-so kept_bias (newest k) (Moves (CountRuleKept o n k) (CountMoves k)) (IsSiteMove k) (λ x y m. (m.0, m.3)) _ c.recall.ensures.run
