@@ -13,7 +13,7 @@ ghost use Rattle.rwsem_count.specs.declared.view.Bias.TheVariants.{Clear};
 ghost use Rattle.rwsem_count.specs.Counts.{based};
 ghost use Rattle.rwsem_count.specs.Ruled.{IsCountSiteThen, IsPlain, count_at, new_bias, newest};
 ghost use Rattle.rwsem_count.specs.Stated.{kept_bias};
-ghost use Rattle.rwsem_count.specs.Tries.{FindsFree, FindsShut, IsTransit, LeftBy, MissesCount, TakesCount};
+ghost use Rattle.rwsem_count.specs.Tries.{FindsFree, FindsShut, IsTransit, LeftBy, MissesCount, MissesSince, TakesCount, TakesSince};
 ghost use Rattle.rwsem_count.specs.WordSteps.{IsReadFree};
 
 use crate::pass::CountPass;
@@ -133,6 +133,10 @@ impl<O: Object> CountSite<O> {
         ensures goes_on { KeepsPast pass.old pass.new }
         ensures last { IsLatest pass.new }
         ensures apart { transit_in pass.new ≡ false }
+        ensures took { IfOk result (λ _. TakesSince new_bias O.object (plan_of self.now) Shared
+            (view_of pass.old) (view_of pass.new)) }
+        ensures missed { IfErr result (λ word.
+            MissesSince (view_of pass.old) word (view_of pass.new)) }
         ensures takes { IfOk result (λ _. Takes O.object (plan_of self.now) Shared
             (shown_of pass.old) (shown_of pass.new)) }
         ensures free { IfOk result (λ _. FindsFree count_at 0 (past_of pass.new)) }
