@@ -1,10 +1,11 @@
 -- The count's own facts, over how each pass holds and which bias it has added.
-use Rattle.std.specs.Prelude.{◌≡◌, ◌≢◌, ℕ, ◌+◌, ◌-◌, ◌/◌, ◌%◌, ◌<◌, ◌≤◌, ◌⊎◌, List, None}
+use Rattle.std.specs.Prelude.{◌≡◌, ◌≢◌, ℕ, ◌+◌, ◌-◌, ◌/◌, ◌%◌, ◌<◌, ◌⊎◌, List, None}
 use Rattle.lock_core.specs.declared.view.View.{View}
 use Rattle.lock_core.specs.declared.view.Hand.{Hand}
 use Rattle.lock_core.specs.declared.view.Held.{Held}
 use Rattle.lock_core.specs.declared.view.Held.TheVariants.{No, Shared, Alone}
 use Rattle.lock_core.specs.Views.{alone_weight}
+use Rattle.lock_core.specs.Sites.{HandGoes}
 use Rattle.lock_core.specs.Totals.{total}
 use Rattle.rwsem_count.specs.declared.view.Bias.{Bias}
 use Rattle.rwsem_count.specs.declared.view.Bias.TheVariants.{Clear, Transit, Reserve}
@@ -62,8 +63,7 @@ pub record CountMove (n m : ℕ) (v u : CountPart) : Type 0 where
 pub record HandStep (h g : Hand) (word : ℕ) : Type 0 where
   pub numbered : h.task ≢ None
   pub task : g.task ≡ h.task
-  pub misses : h.misses ≤ g.misses
-  pub stays : g.held ≡ h.held → g.freed ≡ h.freed
+  pub goes : HandGoes h g
   pub left : h.held ≢ No → g.held ≢ h.held → g.freed ≡ word
 
 abbrev pub part : Hand → Bias → CountPart

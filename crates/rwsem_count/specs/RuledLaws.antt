@@ -152,7 +152,7 @@ module _ {Call : Type 0} (o : Obj Call) (size : ℕ) where
           plain = subst IsPlain (sym word) (move.flags ∙ r.plain);
           light = each-set IsLight IsLight vs id w (let l : 1 ≤ number_weight h.task = some-number h.task (λ e. step.numbered (sym step.task ∙ e)) in omega (arith, l, may)) (λ j x _ _ p. p) r.light;
         },
-        subst (λ (z : SiteWords). SiteMove id (site k ws) vs z (set vs id w)) (sym same) (set-moves id (site k ws) (site k ws) vs v w at (hold-moved (site k ws) v h b step.misses)),
+        subst (λ (z : SiteWords). SiteMove id (site k ws) vs z (set vs id w)) (sym same) (set-moves id (site k ws) (site k ws) vs v w at (hold-moved (site k ws) v h b step.goes)),
       )
 
   pub rule-looks : (k : Plan) (ws : List ℕ) (vs : List V) (id n : ℕ) (v : V) (h : Hand) → Kept k ws vs → get_elem? vs id ≡ some v → HandStep v.hand h n → h.held ≡ v.hand.held → Site k ws (set (map hand_of vs) id h) → Goes (Kept k) (CountMoves k) id ws vs ws (set vs id (handed v h))
@@ -164,7 +164,7 @@ module _ {Call : Type 0} (o : Obj Call) (size : ℕ) where
       plain = r.plain;
       light = each-set IsLight IsLight vs id w (let l = r.light id v at in let x : held_weight h.held ≡ held_weight v.hand.held = ap held_weight held in let y : number_weight h.task ≡ number_weight v.hand.task = ap number_weight step.task in omega (arith, l, x, y)) (λ j x _ _ p. p) r.light;
     },
-    set-moves id (site k ws) (site k ws) vs v w at (hold-moved (site k ws) v h v.ext step.misses),
+    set-moves id (site k ws) (site k ws) vs v w at (hold-moved (site k ws) v h v.ext step.goes),
   )
 
   -- what is kept implies what is stated
