@@ -1,0 +1,10 @@
+pub mod Copies
+pub mod Each
+pub mod Filling
+pub mod Gathers
+pub mod Opens
+pub mod Passes
+pub mod Planned
+pub mod Same
+pub mod Staffed
+pub mod Turns

@@ -1,0 +1,13 @@
+use Rattle.std.proofs.Common.{arith}
+use Rattle.mm_serve.specs.Workers.{KnowsAllDone}
+use Rattle.mm_serve.specs.Copying.{IsToCopy}
+use Rattle.mm_serve.proofs.Each.{each-map}
+use Rattle.mm_serve.proofs.running.run.Goals as goal
+
+pub snapshot_all-requires-clause-gathered : goal.snapshot_all-requires-clause-gathered
+snapshot_all-requires-clause-gathered g c =
+    each-map (λ k s p. g.S.SharedObject.idle s p × KnowsAllDone g.S.SharedObject.hand g.S.SharedObject.is_space g.S.SharedObject.calls_on s p) (IsToCopy g.S.SharedObject.idle g.S.SharedObject.hand g.S.SharedObject.is_space g.S.SharedObject.calls_on c.args.results.now) c.args.sites.now c.serve_and_gather.new.gathered.items c.serve_and_gather.ensures
+    (λ k s p lt at r. (r.0, r.1, (λ w. c.requires.blank.1 k s w at)))
+
+pub snapshot_all-requires-clause-some : goal.snapshot_all-requires-clause-some
+snapshot_all-requires-clause-some g c = λ k s at. let many = c.requires.tasks k s at in let some = c.requires.some in omega (arith, many, some)

@@ -1,0 +1,12 @@
+use Rattle.lock_core.specs.Kinds.{mutex, semaphore}
+use Rattle.vma_map.specs.Spaces.{space}
+use Rattle.fd_table.specs.Tables.{table}
+use Rattle.mm_serve.proofs.Same.{done-of}
+use Rattle.mm_serve.proofs.site.SiteGuardedAreasGuardedFdsSharedObject.end.Goals.{in-Space-OfSpace, in-Table-OfTable}
+use Rattle.mm_serve.proofs.site.SiteGuardedAreasGuardedFdsSharedObject.end.Goals as goal
+
+pub returns-clause-done : goal.returns-clause-done
+returns-clause-done g c = elim c.match-self.branch [
+  | in-Space-OfSpace w ↦ rw (w.in-Space-OfSpace.is-0, w.pass-is) (done-of space g.A.SleepLock.kind semaphore g.met.A.SpaceLock.counts (g.A.SleepLock.calls_on w.in-Space-OfSpace.site.lock) (g.A.SleepLock.view w.end.new.pass).hand c.args.task w.end.ensures.done)
+  | in-Table-OfTable w ↦ rw (w.in-Table-OfTable.is-0, w.pass-is) (done-of table g.T.SleepLock.kind mutex g.met.T.TableLock.owned (g.T.SleepLock.calls_on w.in-Table-OfTable.site.lock) (g.T.SleepLock.view w.end-in-Table-OfTable.new.pass).hand c.args.task w.end-in-Table-OfTable.ensures.done)
+]

@@ -1,0 +1,9 @@
+use Rattle.mm_serve.proofs.Same.{takes-in}
+use Rattle.mm_serve.proofs.site.SiteGuardedAreasGuardedFdsSharedObject.gather.Goals.{in-Space-OfSpace-OfSpace, in-Table-OfTable-OfTable}
+use Rattle.mm_serve.proofs.site.SiteGuardedAreasGuardedFdsSharedObject.gather.Goals as goal
+
+pub returns-clause-taken : goal.returns-clause-taken
+returns-clause-taken g c = elim c.match-self.branch [
+  | in-Space-OfSpace-OfSpace w ↦ rw (w.in-Space-OfSpace-OfSpace.is-2, w.into-is) (takes-in (g.A.SleepLock.view w.in-Space-OfSpace-OfSpace.into).hand (g.A.SleepLock.view w.in-Space-OfSpace-OfSpace.other).hand (g.A.SleepLock.view w.gather.new.into).hand w.gather.ensures.kept.0)
+  | in-Table-OfTable-OfTable w ↦ rw (w.in-Table-OfTable-OfTable.is-2, w.into-is) (takes-in (g.T.SleepLock.view w.in-Table-OfTable-OfTable.into).hand (g.T.SleepLock.view w.in-Table-OfTable-OfTable.other).hand (g.T.SleepLock.view w.gather-in-Table-OfTable-OfTable.new.into).hand w.gather-in-Table-OfTable-OfTable.ensures.kept.0)
+]

@@ -1,0 +1,26 @@
+-- Objects whose histories are copied one after the other.
+use Rattle.std.specs.Prelude.{◌≡◌, ℕ, ◌<◌, Bool, List, length, slice_get, slice_index_or, Some}
+use Rattle.word_bits.specs.Snapshots.{Words, no_words}
+use Rattle.word_bits.specs.Histories.{Plan}
+use Rattle.lock_core.specs.declared.view.Hand.{Hand}
+use Rattle.lock_core.specs.Plans.{calls_in}
+use Rattle.mm_report.specs.Results.{words_of_kind}
+use Rattle.mm_serve.specs.Histories.{IsKnownHistoryOn}
+use Rattle.mm_serve.specs.Workers.{KnowsAllDone}
+
+-- a snapshot without words, with room for those of an object of this kind whose calls are these
+abbrev pub blank : (is_space : Bool) → Plan → Words
+blank is_space k = no_words (calls_in k) (calls_in k) (words_of_kind is_space)
+
+-- there is a blank snapshot of each object
+abbrev pub AreBlank : {S : Type 0} → (S → Bool) → (S → Plan) → List S → List Words → Type 0
+AreBlank {S} is_space calls_on sites words = (length words ≡ length sites) × ((k : ℕ) (s : S) (w : Words) → slice_get sites k ≡ Some s → slice_index_or words k w ≡ blank (is_space s) (calls_on s))
+
+module _ {S P : Type 0} (idle : S → P → Type 0) (hand : P → Hand) (is_space : S → Bool) (calls_on : S → Plan) where
+  -- the words of the object's number are one thread's history, and the pass knows each record in it
+  abbrev pub IsCopied : List Words → ℕ → S → P → Type 0
+  IsCopied words k s p = idle s p × ((w : Words) → IsKnownHistoryOn (is_space s) (calls_on s) (hand p) (slice_index_or words k w))
+
+  -- all calls are done, and the snapshot of the object's number is blank
+  abbrev pub IsToCopy : List Words → ℕ → S → P → Type 0
+  IsToCopy words k s p = idle s p × KnowsAllDone hand is_space calls_on s p × ((w : Words) → slice_index_or words k w ≡ blank (is_space s) (calls_on s))

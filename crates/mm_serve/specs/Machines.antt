@@ -1,0 +1,77 @@
+-- What a machine is before and after it has run.
+use Rattle.std.specs.Prelude.{◌≡◌, ℕ, ◌<◌, Bool, List, [], ◌∷◌, All, length, slice_get, slice_index_or, Some}
+use Rattle.word_bits.specs.Histories.{Plan}
+use Rattle.word_bits.specs.Snapshots.{Words}
+use Rattle.guarded.specs.Copying.{AreKnown}
+use Rattle.lock_core.specs.declared.view.Hand.{Hand}
+use Rattle.mm_report.specs.Results.{Told, AreLegal, AreComplete}
+use Rattle.task_script.specs.Scripts.{Declared, Listing, plan_of}
+use Rattle.mm_serve.specs.declared.machine.Machine.{Machine}
+use Rattle.mm_serve.specs.Copying.{AreBlank, IsCopied}
+use Rattle.mm_serve.specs.Workers.{EachOf, IsReady, AreNumbered}
+
+-- one task at least, as which the histories are copied
+abbrev pub staffed : Plan → Plan
+staffed [] = [] ∷ []
+staffed (ws ∷ wss) = ws ∷ wss
+
+-- what is told of each object is known to the object's pass
+abbrev pub AreAllKnown : {P : Type 0} → (P → Hand) → List P → List Told → Type 0
+AreAllKnown {P} hand passes tolds = (k : ℕ) (t : Told) (p : P) → slice_get tolds k ≡ Some t → slice_get passes k ≡ Some p → AreKnown (hand p) t.records
+
+-- these are the objects of the script, each of its kind and with the calls on it
+pub record AreSitesOf {S : Type 0} (is_space : S → Bool) (calls_on : S → Plan) (script : Listing) (sites : List S) : Type 0 where
+  pub many : length sites ≡ length script.objects
+  pub plans : (k : ℕ) (s : S) → slice_get sites k ≡ Some s → calls_on s ≡ staffed (plan_of script k)
+  pub kinds : (k : ℕ) (s : S) (d : Declared) → slice_get sites k ≡ Some s → slice_get script.objects k ≡ Some d → is_space s ≡ d.is_space
+
+module _ {S C P U : Type 0} where
+  -- its objects
+  abbrev pub sites_of : Machine S C P U → List S
+  sites_of m = m.sites.items
+
+  -- the pass of each object that takes in those of all tasks
+  abbrev pub gathered_of : Machine S C P U → List P
+  gathered_of m = m.gathered.items
+
+  -- what each object leaves
+  abbrev pub results_of : Machine S C P U → List Words
+  results_of m = m.results
+
+  -- its objects are those of the script, each with the calls on it
+  abbrev pub IsMachineOf : (S → Bool) → (S → Plan) → Listing → Machine S C P U → Type 0
+  IsMachineOf is_space calls_on script m = AreSitesOf is_space calls_on script (sites_of m)
+
+  module _ (idle : S → P → Type 0) (hand : P → Hand) (is_space : S → Bool) (calls_on : S → Plan) where
+    -- No task has begun: each has its calls and a pass of each object, and the results are blank.
+    pub record IsFresh (m : Machine S C P U) : Type 0 where
+      pub gathered : EachOf (λ k s p. idle s p) (sites_of m) (gathered_of m)
+      pub ready : All (IsReady idle hand calls_on (sites_of m)) m.workers.items
+      pub numbered : AreNumbered m.workers.items
+      pub some : 0 < length m.workers.items
+      pub tasks : (k : ℕ) (s : S) → slice_get (sites_of m) k ≡ Some s → length (calls_on s) ≡ length m.workers.items
+      pub blank : AreBlank is_space calls_on (sites_of m) (results_of m)
+
+    -- The objects are the same. All tasks have done their calls, and the results of each object are one thread's history, of which the gathered pass knows each record.
+    pub record HasRun (old new : Machine S C P U) : Type 0 where
+      pub sites : sites_of new ≡ sites_of old
+      pub long : length (results_of new) ≡ length (sites_of new)
+      pub copied : EachOf (IsCopied idle hand is_space calls_on (results_of new)) (sites_of new) (gathered_of new)
+
+  -- The results are legal histories of the script, and each record in those of an object is one that the object's gathered pass knows.
+  pub record HasLegalResults (hand : P → Hand) (script : Listing) (m : Machine S C P U) : Type 0 where
+    pub complete : AreComplete script (results_of m)
+    pub told : List Told
+    pub legal : AreLegal script (results_of m) told
+    pub known : AreAllKnown hand (gathered_of m) told
+
+  -- no pass of an object has a task's number or owes anything
+  abbrev pub IsAtRest : (S → P → Type 0) → Machine S C P U → Type 0
+  IsAtRest idle m = EachOf (λ k s p. idle s p) (sites_of m) (gathered_of m)
+
+  -- The pass of one object knows the past of the object's table; all else is as before.
+  pub record HasRecalled (hand : P → Hand) (knows_past : S → P → Type 0) (object : ℕ) (old new : Machine S C P U) : Type 0 where
+    pub sites : sites_of new ≡ sites_of old
+    pub results : results_of new ≡ results_of old
+    pub hands : (k : ℕ) (p : P) → hand (slice_index_or (gathered_of new) k p) ≡ hand (slice_index_or (gathered_of old) k p)
+    pub past : (s : S) (p : P) → slice_get (sites_of new) object ≡ Some s → slice_get (gathered_of new) object ≡ Some p → knows_past s p

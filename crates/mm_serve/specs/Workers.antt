@@ -1,0 +1,61 @@
+-- Workers: what each has before and after it did its task.
+use Rattle.std.specs.Prelude.{◌≡◌, ℕ, ◌==◌, ◌<◌, ◌≤◌, Bool, List, [], All, count_by, length, slice_get, slice_index_or, Some}
+use Rattle.word_bits.specs.declared.entry.Entry.{Entry}
+use Rattle.word_bits.specs.declared.rec.Rec.{Rec}
+use Rattle.word_bits.specs.Histories.{Plan}
+use Rattle.lock_core.specs.declared.view.Hand.{Hand}
+use Rattle.lock_core.specs.Records.{row}
+use Rattle.lock_core.specs.Views.{Knows}
+use Rattle.mm_serve.specs.declared.worker.Worker.{Worker}
+use Rattle.mm_serve.specs.Histories.{HasDoneOn, AllHaveDone}
+
+-- there is a pass of each object, and this is so of each object's number, the object and its pass
+abbrev pub EachOf : {S P : Type 0} → (ℕ → S → P → Type 0) → List S → List P → Type 0
+EachOf {S} {P} R sites passes = (length passes ≡ length sites) × ((k : ℕ) (s : S) (p : P) → k < length sites → R k (slice_index_or sites k s) (slice_index_or passes k p))
+
+-- how many of the calls are on the object, where each is given by its object's number
+abbrev pub calls_to : ℕ → List ℕ → ℕ
+calls_to k objects = count_by (λ object. object == k) objects
+
+-- the first pass knew less than the second
+abbrev pub KnowsMore : Hand → Hand → Type 0
+KnowsMore old new = (e : Entry) (r : Rec) → Knows old e r → Knows new e r
+
+module _ {P Q S : Type 0} (idle : S → Q → Type 0) (hand : Q → Hand) (calls_on : S → Plan) (sites : List S) where
+  -- its task is one of each object's plan, its calls are those that the plans have of the task, and its passes have seen nothing
+  pub record IsReady (w : Worker P Q) : Type 0 where
+    pub task : (k : ℕ) (s : S) → slice_get sites k ≡ Some s → w.task < length (calls_on s)
+    pub objects : All (λ object. object < length sites) w.objects.items
+    pub calls : (k : ℕ) (s : S) → slice_get sites k ≡ Some s → length (row (calls_on s) w.task) ≡ calls_to k w.objects.items
+    pub passes : EachOf (λ k s p. idle s p × ((hand p).seen ≡ [])) sites w.passes.items
+
+module _ {P Q S : Type 0} (idle : S → Q → Type 0) (hand : Q → Hand) (is_space : S → Bool) (calls_on : S → Plan) (sites : List S) where
+  -- it has done all calls of its task
+  pub record HasServed (old new : Worker P Q) : Type 0 where
+    pub task : new.task ≡ old.task
+    pub passes : EachOf (λ k s p. idle s p × HasDoneOn (is_space s) (calls_on s) (hand p) new.task) sites new.passes.items
+
+  -- each of them has
+  abbrev pub HaveServed : (olds news : List (Worker P Q)) → Type 0
+  HaveServed olds news = (length news ≡ length olds) × ((i : ℕ) (d : Worker P Q) → i < length olds → HasServed (slice_index_or olds i d) (slice_index_or news i d))
+
+-- each worker's passes are idle
+abbrev pub AllIdle : {P Q S : Type 0} → (S → Q → Type 0) → List S → List (Worker P Q) → Type 0
+AllIdle {P} {Q} idle sites workers = (i : ℕ) (d : Worker P Q) → i < length workers → EachOf (λ k s p. idle s p) sites (slice_index_or workers i d).passes.items
+
+-- the workers are those of tasks 0, 1 and so on
+abbrev pub AreNumbered : {P Q : Type 0} → List (Worker P Q) → Type 0
+AreNumbered {P} {Q} workers = (i : ℕ) (d : Worker P Q) → i < length workers → (slice_index_or workers i d).task ≡ i
+
+-- from the object of this number on, each pass has taken in the other one of its object, and the others are as before
+abbrev pub HaveGathered : {S P : Type 0} → (S → P → Type 0) → (P → Hand) → ℕ → List S → (olds others news : List P) → Type 0
+HaveGathered {S} {P} idle hand n sites olds others news =
+    EachOf (λ k s p. idle s p × (k < n → p ≡ slice_index_or olds k p) × (n ≤ k → KnowsMore (hand (slice_index_or olds k p)) (hand p) × KnowsMore (hand (slice_index_or others k p)) (hand p))) sites news
+
+-- the pass knows all that the passes of the object of this number knew, from the worker of number n on
+abbrev pub KnowsFrom : {P Q : Type 0} → (Q → Hand) → (n : ℕ) → List (Worker P Q) → ℕ → Q → Type 0
+KnowsFrom {P} {Q} hand n workers k p = (i : ℕ) (d : Worker P Q) (q : Q) → n ≤ i → i < length workers → KnowsMore (hand (slice_index_or (slice_index_or workers i d).passes.items k q)) (hand p)
+
+-- the pass knows that all tasks have done all their calls on the object
+abbrev pub KnowsAllDone : {S P : Type 0} → (P → Hand) → (S → Bool) → (S → Plan) → S → P → Type 0
+KnowsAllDone hand is_space calls_on s p = AllHaveDone (is_space s) (calls_on s) (hand p)

@@ -1,0 +1,24 @@
+//! The machine: all tasks of a script on threads of their own, over objects under locks, and the
+//! histories that they leave.
+//!
+//! The machine meets an object through one trait (`SharedObject`), which a space and a table under
+//! any lock keep (`Site`). So the loops over objects, tasks and passes see neither kinds nor locks.
+#![tactic(auto)]
+
+mod copying;
+mod gathering;
+mod locks;
+mod machine;
+mod one_lock;
+mod opening;
+mod planning;
+mod running;
+mod shared_object;
+mod site;
+mod worker;
+
+pub use locks::{SpaceLock, TableLock};
+pub use machine::Machine;
+pub use shared_object::SharedObject;
+pub use site::{Site, SitePass};
+pub use worker::Worker;

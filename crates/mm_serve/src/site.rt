@@ -1,0 +1,161 @@
+//! A space or a table under its lock.
+ghost use Rattle.std.specs.Prelude.{◌≡◌};
+
+use crate::locks::{SpaceLock, TableLock};
+use crate::one_lock;
+use crate::shared_object::SharedObject;
+use cpu_task::{Crew, Gate};
+use fd_table::Fds;
+use guarded::Guarded;
+use lock_core::Plan;
+use std::alloc::{AllocError, Global};
+use std::sync::Wait;
+use vma_map::Areas;
+use word_bits::Snapshot;
+
+/// An object of either kind.
+#[derive(Drop)]
+pub enum Site<A, T> {
+    Space(A),
+    Table(T),
+}
+
+/// A pass of it.
+#[derive(Drop)]
+pub enum SitePass<P, Q> {
+    OfSpace(P),
+    OfTable(Q),
+}
+
+impl<A: SpaceLock, T: TableLock> SharedObject for Site<Guarded<A, Areas>, Guarded<T, Fds>> {
+    ghost use Rattle.lock_core.specs.Kinds.{unavailable};
+    ghost use Rattle.vma_map.specs.Spaces.{space};
+    ghost use Rattle.fd_table.specs.Tables.{table};
+    ghost use Rattle.guarded.specs.Handles.{lock_of};
+    ghost use Rattle.mm_serve.specs.Pasts.{KnowsPast};
+    ghost use Rattle.mm_serve.specs.Serving.{IsIdle, IsServing};
+    ghost use Rattle.mm_serve.specs.Sites.{Matches, calls_of, hand_of, holds_space};
+
+    type Pass = SitePass<A::Pass, T::Pass>;
+
+    ghost is_space = { holds_space };
+
+    ghost calls_on = { calls_of (λ s. A.calls_on (lock_of s)) (λ s. T.calls_on (lock_of s)) };
+
+    ghost hand = { hand_of A.view T.view };
+
+    ghost idle = { Matches
+        (λ s p. A.sits (lock_of s) p × IsIdle (A.view p).hand)
+        (λ s p. T.sits (lock_of s) p × IsIdle (T.view p).hand) };
+
+    ghost serving = { λ site pass task. Matches
+        (λ s p. A.sits (lock_of s) p ×
+        IsServing space (unavailable A.kind) (A.calls_on (lock_of s)) (A.view p).hand task)
+        (λ s p. T.sits (lock_of s) p ×
+        IsServing table (unavailable T.kind) (T.calls_on (lock_of s)) (T.view p).hand task)
+        site pass };
+
+    ghost knows_past = { Matches
+        (λ s p. KnowsPast space A.kind 257 A.word_at A.waits A.opened
+        (A.calls_on (lock_of s)) (A.view p))
+        (λ s p. KnowsPast table T.kind 64 T.word_at T.waits T.opened
+        (T.calls_on (lock_of s)) (T.view p)) };
+
+    fn open(
+        alloc: Global,
+        number: u32,
+        space: bool,
+        plan: Plan,
+    ) -> Result<(Self, SitePass<A::Pass, T::Pass>), AllocError> {
+        if space {
+            let (site, pass) = Guarded::open(alloc, number, plan)?;
+            Ok((Site::Space(site), SitePass::OfSpace(pass)))
+        } else {
+            let (site, pass) = Guarded::open(alloc, number, plan)?;
+            Ok((Site::Table(site), SitePass::OfTable(pass)))
+        }
+    }
+
+    fn split(&self, pass: &mut SitePass<A::Pass, T::Pass>) -> SitePass<A::Pass, T::Pass> {
+        match (self, pass) {
+            (Site::Space(site), SitePass::OfSpace(pass)) => SitePass::OfSpace(site.split(pass)),
+            (Site::Table(site), SitePass::OfTable(pass)) => SitePass::OfTable(site.split(pass)),
+            _ => unreachable!(),
+        }
+    }
+
+    fn begin<W: Wait>(&self, rt: &W, pass: &mut SitePass<A::Pass, T::Pass>, task: u32) {
+        match (self, pass) {
+            (Site::Space(site), SitePass::OfSpace(pass)) => one_lock::begin(site, rt, pass, task),
+            (Site::Table(site), SitePass::OfTable(pass)) => one_lock::begin(site, rt, pass, task),
+            _ => unreachable!(),
+        }
+    }
+
+    fn perform<W: Wait, C: Crew, G: Gate>(
+        &self,
+        rt: &W,
+        pass: &mut SitePass<A::Pass, T::Pass>,
+        cpu: &mut C::C,
+        crew: &C,
+        gate: &G,
+        task: u32,
+    ) {
+        match (self, pass) {
+            (Site::Space(site), SitePass::OfSpace(pass)) => {
+                one_lock::perform(site, rt, pass, cpu, crew, gate, task)
+            }
+            (Site::Table(site), SitePass::OfTable(pass)) => {
+                one_lock::perform(site, rt, pass, cpu, crew, gate, task)
+            }
+            _ => unreachable!(),
+        }
+    }
+
+    fn end(&self, pass: &mut SitePass<A::Pass, T::Pass>, task: u32) {
+        match (self, pass) {
+            (Site::Space(site), SitePass::OfSpace(pass)) => one_lock::end(site, pass, task),
+            (Site::Table(site), SitePass::OfTable(pass)) => one_lock::end(site, pass, task),
+            _ => unreachable!(),
+        }
+    }
+
+    fn gather(&self, into: &mut SitePass<A::Pass, T::Pass>, other: SitePass<A::Pass, T::Pass>) {
+        match (self, into, other) {
+            (Site::Space(site), SitePass::OfSpace(into), SitePass::OfSpace(other)) => {
+                site.gather(into, other)
+            }
+            (Site::Table(site), SitePass::OfTable(into), SitePass::OfTable(other)) => {
+                site.gather(into, other)
+            }
+            _ => unreachable!(),
+        }
+    }
+
+    fn snapshot<W: Wait, C: Crew>(
+        &self,
+        rt: &W,
+        pass: &mut SitePass<A::Pass, T::Pass>,
+        cpu: &mut C::C,
+        crew: &C,
+        out: &mut Snapshot,
+    ) {
+        match (self, pass) {
+            (Site::Space(site), SitePass::OfSpace(pass)) => {
+                one_lock::snapshot(site, rt, pass, cpu, crew, out)
+            }
+            (Site::Table(site), SitePass::OfTable(pass)) => {
+                one_lock::snapshot(site, rt, pass, cpu, crew, out)
+            }
+            _ => unreachable!(),
+        }
+    }
+
+    fn recall(&self, pass: &mut SitePass<A::Pass, T::Pass>) {
+        match (self, pass) {
+            (Site::Space(site), SitePass::OfSpace(pass)) => site.recall(pass),
+            (Site::Table(site), SitePass::OfTable(pass)) => site.recall(pass),
+            _ => unreachable!(),
+        }
+    }
+}
