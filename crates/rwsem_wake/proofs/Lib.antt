@@ -1,0 +1,12 @@
+pub mod Batching
+pub mod Counting
+pub mod Sums
+pub mod Places
+pub mod WakeLaws
+pub mod QueueLaws
+pub mod HandoffLaws
+pub mod LookLaws
+pub mod SeatLaws
+pub mod HandoffSteps
+pub mod Readers
+pub mod Stating

@@ -1,0 +1,5 @@
+pub mod Batches
+pub mod SemParts
+pub mod Semaphores
+pub mod Handoffs
+pub mod Stated
