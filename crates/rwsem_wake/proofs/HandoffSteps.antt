@@ -54,22 +54,23 @@ pub hands-sums : (id n n' : ℕ) (q : List Waiter) (marks grants : List ℕ) (vs
 hands-sums id n n' q marks grants vs us v b r at only stage = let f : FlagsAt (Counted b) v.task v.sem.rest (n / 2 % 2) (n / 4 % 2) q marks grants = subst (λ (z : Stage). FlagsAt z v.task v.sem.rest (n / 2 % 2) (n / 4 % 2) q marks grants) stage (mine-of (n / 2 % 2) (n / 4 % 2) q marks grants vs id v at only r.flags) in
     let z = f.1 in let l = first-least marks (tasks q) in hands-free id n q marks grants vs n' grants us (inr (omega (arith, z, l)))
 
+-- the readers by each of the three
+pub reads-apart : (gs : List ℕ) (t : ℕ) (vs : List SemPart) → total (reads_as gs t) vs ≡ total (shared_at t) vs + total (granted_at gs t) vs + total (granting_at t) vs
+reads-apart gs t [] = omega arith
+reads-apart gs t (v ∷ vs) = let e = reads-apart gs t vs in omega arith
+
 -- a grant word is cleared: the same tasks are readers
 pub hands-grants : (id n t : ℕ) (ts : List ℕ) (q : List Waiter) (marks grants : List ℕ) (vs : List SemPart) (v : SemPart) → SemKept n q marks grants vs → get_elem? vs id ≡ some v → v.sem.stage ≡ Granting → v.sem.rest ≡ t ∷ ts → total (reads_at t) vs ≤ 1 → t < length grants
     → KeepsHandoff id n q marks grants vs n (set grants t 0) (set vs id (batched v ts Granting))
 hands-grants id n t ts q marks grants vs v r at stage rest one inside = let u : SemPart = batched v ts Granting in let grants' : List ℕ = set grants t 0 in
     let mine : rest_at t v ≡ here t ts + 1 = ap (here t) rest ∙ here-mine t ts in let R = total-at (rest_at t) vs id v at in let a = r.reads t in let G = granted-all grants t vs in
     let waits : 1 ≤ get_or grants t 0 = elim (native.Mathlib.Decide.dec_le 1 (get_or grants t 0)) [ yes l ↦ l | no l ↦ let z = G.0 (omega (arith, l)) in absurd (omega (arith, z, a, R, mine, one)) ] in
-    let z = G.1 waits in hands-still id n q marks grants vs n grants' (set vs id u) (omega arith) (λ x. let A = apart grants x vs in let B = apart grants' x (set vs id u) in
+    let z = G.1 waits in hands-still id n q marks grants vs n grants' (set vs id u) (omega arith) (λ x. let A = reads-apart grants x vs in let B = reads-apart grants' x (set vs id u) in
     let S = total-same (shared_at x) vs id v u at refl in let D = total-same (granted_at grants' x) vs id v u at refl in let E = total-set (granting_at x) vs id v u at in
     let e : granting_at x v ≡ here x (t ∷ ts) = λ i. granting_weight (stage i) (here x (rest i)) in dite (ℕ_discrete x t)
     (λ is. let h : total (granted_at grants' x) vs ≡ total (reads_at x) vs = subst (λ (y : ℕ). total (granted_at grants' y) vs ≡ total (reads_at y) vs) (sym is) (grant-here grants t inside waits vs) in
     let k : here x (t ∷ ts) ≡ here x ts + 1 = subst (λ (y : ℕ). here y (t ∷ ts) ≡ here y ts + 1) (sym is) (here-mine t ts) in let o : total (reads_at x) vs ≤ 1 = subst (λ (y : ℕ). total (reads_at y) vs ≤ 1) (sym is) one in omega arith)
     (λ not. let h = grant-else grants t inside waits x not vs in let k = here-else t x ts not in omega arith))
-  where
-    apart : (gs : List ℕ) (t : ℕ) (vs : List SemPart) → total (reads_as gs t) vs ≡ total (shared_at t) vs + total (granted_at gs t) vs + total (granting_at t) vs
-    apart gs t [] = omega arith
-    apart gs t (v ∷ vs) = let e = apart gs t vs in omega arith
 
 -- a queued reader that finds its grant word 0 was a reader
 pub hands-granted : (id n own : ℕ) (q : List Waiter) (marks grants : List ℕ) (vs : List SemPart) (v : SemPart) → get_elem? vs id ≡ some v → v.task ≡ Some own → v.sem.wait ≡ Reads → v.held ≡ No → get_or grants own 0 ≡ 0

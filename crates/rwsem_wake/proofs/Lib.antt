@@ -10,3 +10,6 @@ pub mod SeatLaws
 pub mod HandoffSteps
 pub mod Readers
 pub mod Stating
+pub mod Lines
+pub mod Stepping
+pub mod Waking

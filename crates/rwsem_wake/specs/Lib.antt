@@ -3,3 +3,5 @@ pub mod SemParts
 pub mod Semaphores
 pub mod Handoffs
 pub mod Stated
+pub mod Lines
+pub mod Grants

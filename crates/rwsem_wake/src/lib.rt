@@ -2,8 +2,11 @@
 #![tactic(auto)]
 
 pub mod batches;
+mod host;
+pub mod steps;
 mod view;
 
+pub use host::GrantHost;
 pub use view::{SemHand, Stage, Wait};
 
 #[cfg(test)]

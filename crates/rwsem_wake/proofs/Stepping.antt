@@ -1,0 +1,202 @@
+-- A step on the count, a mark or a grant word, from what it makes of the semaphore's own facts.
+use Rattle.std.proofs.Common.{◌≡◌, ◌≢◌, ℕ, ◌+◌, ◌*◌, ◌<◌, ◌≤◌, List, [], ◌∷◌, length, map, get_or, set, None, sym, refl, ap, ◌∙◌, subst, arith, get_or-set_same, get_or-set_other}
+use mathlib.Core.Option.{some}
+use lib.ListN.{get_elem?}
+use Rattle.atomic_table.specs.Table.{Me, keeps}
+use Rattle.atomic_table.proofs.Lists.{at_map, set_again}
+use Rattle.word_bits.specs.declared.TheConstants.{MAX_TASKS}
+use Rattle.word_bits.specs.LockWords.{Unavailable, IsLawfulCount}
+use Rattle.word_bits.specs.Objects.{Obj}
+use Rattle.word_bits.specs.Histories.{Plan}
+use Rattle.lock_core.specs.declared.op.Op.{Op}
+use Rattle.lock_core.specs.declared.view.View.{View}
+use Rattle.lock_core.specs.declared.view.Hand.{Hand}
+use Rattle.lock_core.specs.declared.layout.TheConstants.{LOCK_WORDS, SPIN_WORDS}
+use Rattle.lock_core.specs.Layout.{SiteWords, site, part}
+use Rattle.lock_core.specs.Ops.{word_after}
+use Rattle.lock_core.specs.SpinFrames.{holds_of, holds_at}
+use Rattle.lock_core.specs.Spins.{SpinKept, frame_of, holds_in}
+use Rattle.lock_core.specs.Views.{SpinHolds, hand_of, spin_part, alone_of, named_of, is_number}
+use Rattle.lock_core.specs.Totals.{total}
+use Rattle.lock_core.specs.Sites.{SiteKept}
+use Rattle.lock_core.specs.Moves.{Goes, Lets}
+use Rattle.lock_core.specs.Plays.{Turns}
+use Rattle.wait_list.specs.declared.view.Waiter.{Waiter}
+use Rattle.wait_list.specs.declared.view.ListHand.{ListHand}
+use Rattle.wait_list.specs.declared.words.TheConstants.{LIST_WORDS}
+use Rattle.wait_list.specs.Lists.{Part, ListKept, IsList, Knows, list_part, takes_of}
+use Rattle.wait_list.specs.ListLaws.{list-known}
+use Rattle.rwsem_count.specs.Counts.{HandStep, alone_in}
+use Rattle.rwsem_wake.specs.declared.view.SemHand.{SemHand}
+use Rattle.rwsem_wake.specs.SemParts.{SemPart, part_of, busy_weight, busy_of}
+use Rattle.rwsem_wake.specs.Semaphores.{SemKept}
+use Rattle.rwsem_wake.specs.Handoffs.{KeepsHandoff}
+use Rattle.rwsem_wake.specs.Lines.{lines_in}
+use Rattle.rwsem_wake.specs.Grants.{sem_part, semmed}
+use Rattle.rwsem_wake.proofs.Sums.{busy-most}
+use Rattle.rwsem_wake.proofs.Lines.{length-lines, lines-at, lines-set, lines-else}
+
+abbrev pub named_in : ℕ → SemPart → ℕ
+named_in t v = is_number t v.task
+
+-- what a step of the pass of this number may use
+pub record Local (sees : List SemPart) (id : ℕ) (v : SemPart) (known : Part) (n : ℕ) (q : List Waiter) (marks grants : List ℕ) : Type 0 where
+  pub kept : SemKept n q marks grants sees
+  pub lawful : IsLawfulCount n
+  pub mine : get_elem? sees id ≡ some v
+  pub list : Knows known → known.1.list ≡ q
+  pub sound : IsList q
+  pub marks_wide : length marks ≡ 64
+  pub grants_wide : length grants ≡ 64
+  pub named : (t : ℕ) → t < 64 → total (named_in t) sees ≤ 1
+
+abbrev pub with_hand : SemPart → SemHand → SemPart
+with_hand v s = record v { sem = s }
+
+-- a view with this hand and this part
+abbrev pub turned : Hand → SemHand → SemPart
+turned h s = record { task = h.task; held = h.held; sem = s }
+
+module _ {E Call : Type 0} (o : Obj Call) (unavailable : Unavailable) (size : ℕ) (k : Plan) (first list_at count marks_at grants_at : ℕ) (list : E → ListHand) (sem : E → SemHand) (with_sem : E → SemHand → E)
+    (holds : List ℕ → List (View E) → Type 0) (moves : ℕ → List ℕ → List (View E) → List ℕ → List (View E) → Type 0) (queue : List ℕ → List (View E) → List Waiter → Type 0)
+    (site_kept : (ws : List ℕ) (vs : List (View E)) → holds ws vs → SiteKept o unavailable size k (site k ws) (map hand_of vs))
+    (spin_kept : (ws : List ℕ) (vs : List (View E)) → holds ws vs → SpinKept (part first SPIN_WORDS ws) (map spin_part vs))
+    (queued : (ws : List ℕ) (vs : List (View E)) → holds ws vs → (q : List Waiter) × queue ws vs q)
+    (list_kept : (ws : List ℕ) (vs : List (View E)) (q : List Waiter) → queue ws vs q → ListKept (part list_at LIST_WORDS ws) q (map (list_part list) vs))
+    (places : (count < marks_at) × (marks_at + 8 * MAX_TASKS ≤ grants_at) × (grants_at + 8 * MAX_TASKS ≤ LOCK_WORDS))
+    (sem_kept : (ws : List ℕ) (vs : List (View E)) (q : List Waiter) → queue ws vs q → SemKept (get_or ws count 0) q (lines_in marks_at ws) (lines_in grants_at ws) (map (sem_part sem) vs) × IsLawfulCount (get_or ws count 0) × (LOCK_WORDS ≤ length ws))
+    (sem_only : (ws : List ℕ) (vs : List (View E)) (q : List Waiter) (id : ℕ) (v : View E) → queue ws vs q → get_elem? vs id ≡ some v → SpinHolds v.spin → total busy_of (map (sem_part sem) vs) ≡ busy_weight (sem v.ext).stage)
+    (sems : (ws : List ℕ) (vs : List (View E)) (q : List Waiter) (id i n : ℕ) (v : View E) (h : Hand) (s : SemHand) → queue ws vs q → get_elem? vs id ≡ some v → count ≤ i → i < LOCK_WORDS → (count < i → marks_at ≤ i) → busy_weight s.stage ≤ holds_in v.spin → HandStep v.hand h (get_or (set ws i n) count 0)
+    → SemKept (get_or (set ws i n) count 0) q (lines_in marks_at (set ws i n)) (lines_in grants_at (set ws i n)) (set (map (sem_part sem) vs) id (record { task = h.task; held = h.held; sem = s }))
+    → KeepsHandoff id (get_or ws count 0) q (lines_in marks_at ws) (lines_in grants_at ws) (map (sem_part sem) vs) (get_or (set ws i n) count 0) (lines_in grants_at (set ws i n)) (set (map (sem_part sem) vs) id (record { task = h.task; held = h.held; sem = s }))
+    → SiteKept o unavailable size k (site k ws) (set (map hand_of vs) id h) → Goes holds moves id ws vs (set ws i n) (set vs id (semmed with_sem v h s))) where
+  abbrev M : Type 0
+  M = Me (Unit {0}) (View E)
+
+  abbrev Kept : SiteWords → List Hand → Type 0
+  Kept = SiteKept o unavailable size k
+
+  names-are : (t : ℕ) (vs : List (View E)) → total (named_in t) (map (sem_part sem) vs) ≡ total (named_of t) (map hand_of vs)
+  names-are t [] = refl
+  names-are t (v ∷ vs) = let e = names-are t vs in omega arith
+
+  alones-are : (vs : List (View E)) → total alone_of (map hand_of vs) ≡ total alone_in (map part_of (map (sem_part sem) vs))
+  alones-are [] = refl
+  alones-are (v ∷ vs) = let e = alones-are vs in omega arith
+
+  takes-total : (vs : List (View E)) → total takes_of (map (list_part list) vs) ≡ total holds_of (map frame_of (map spin_part vs))
+  takes-total [] = refl
+  takes-total (v ∷ vs) = ap (λ (z : ℕ). holds_in v.spin + z) (takes-total vs)
+
+  local : (ws : List ℕ) (vs : List (View E)) (q : List Waiter) (id : ℕ) (v : View E) → holds ws vs → queue ws vs q → get_elem? vs id ≡ some v → Local (map (sem_part sem) vs) id (sem_part sem v) (list_part list v) (get_or ws count 0) q (lines_in marks_at ws) (lines_in grants_at ws)
+  local ws vs q id v h r at = let kept = sem_kept ws vs q r in let l = list_kept ws vs q r in let b = (spin_kept ws vs h).1.lock.balanced.comes in record {
+    kept = kept.0;
+    lawful = kept.1;
+    mine = at_map (sem_part sem) vs id v at;
+    list = λ knows. (list-known (part list_at LIST_WORDS ws) q (map (list_part list) vs) id (list_part list v) l (at_map (list_part list) vs id v at) (let c = takes-total vs in omega (arith, b, c)) knows).0;
+    sound = l.sound;
+    marks_wide = length-lines marks_at ws;
+    grants_wide = length-lines grants_at ws;
+    named = λ t few. let a = ((site_kept ws vs h).balances.named t few).1 in let b = names-are t vs in omega (arith, a, b);
+  }
+
+  -- A word of these: how it is read off the count, the marks and the grant words, and what they are when this is stored in it
+  pub record Word (i : ℕ) (found : ℕ → List ℕ → List ℕ → ℕ) (word : ℕ → ℕ → ℕ) (ms gs : List ℕ → ℕ → List ℕ) : Type 0 where
+    pub above : count ≤ i
+    pub inside : i < LOCK_WORDS
+    pub apart : count < i → marks_at ≤ i
+    pub is : (ws : List ℕ) → LOCK_WORDS ≤ length ws → found (get_or ws count 0) (lines_in marks_at ws) (lines_in grants_at ws) ≡ get_or ws i 0
+    pub word_is : (ws : List ℕ) (x : ℕ) → LOCK_WORDS ≤ length ws → get_or (set ws i x) count 0 ≡ word (get_or ws count 0) x
+    pub marks_are : (ws : List ℕ) (x : ℕ) → LOCK_WORDS ≤ length ws → lines_in marks_at (set ws i x) ≡ ms (lines_in marks_at ws) x
+    pub grants_are : (ws : List ℕ) (x : ℕ) → LOCK_WORDS ≤ length ws → lines_in grants_at (set ws i x) ≡ gs (lines_in grants_at ws) x
+
+  module _ (i : ℕ) (found : ℕ → List ℕ → List ℕ → ℕ) (word : ℕ → ℕ → ℕ) (ms gs : List ℕ → ℕ → List ℕ) (there : Word i found word ms gs) where
+    -- what a step on it comes to, whatever the table is
+    abbrev pub Comes : (id : ℕ) (me : M) → Op → (ℕ → M → Type 0) → Type 0
+    Comes id me op tells = (n : ℕ) (q : List Waiter) (marks grants : List ℕ) (sees : List SemPart) (w : SiteWords) (hs : List Hand) → Local sees id (sem_part sem me.0) (list_part list me.0) n q marks grants → (SpinHolds me.0.spin → total busy_of sees ≡ busy_weight (sem me.0.ext).stage)
+        → Kept w hs → get_elem? hs id ≡ some me.0.hand → total alone_of hs ≡ total alone_in (map part_of sees)
+        → (let m = found n marks grants in let x = word_after op m in (h : Hand) × (s : SemHand) × HandStep me.0.hand h (word n x) × (busy_weight s.stage ≤ holds_in me.0.spin) × SemKept (word n x) q (ms marks x) (gs grants x) (set sees id (turned h s))
+        × KeepsHandoff id n q marks grants sees (word n x) (gs grants x) (set sees id (turned h s)) × Kept w (set hs id h) × tells m (semmed with_sem me.0 h s, me.1))
+
+    pub word-goes : (slots id : ℕ) (me : M) (op : Op) (tells : ℕ → M → Type 0) → Comes id me op tells → Lets holds moves slots id me i op tells
+    word-goes slots id me op tells comes st h _ at small = let v = me.0 in let ws = st.words in let vs = st.views in let q = queued ws vs h in let r = sem_kept ws vs q.0 q.1 in let wide = r.2 in
+        let sees : List SemPart = map (sem_part sem) vs in let n : ℕ = get_or ws count 0 in let marks = lines_in marks_at ws in let grants = lines_in grants_at ws in
+        let t = comes n q.0 marks grants sees (site k ws) (map hand_of vs) (local ws vs q.0 id v h q.1 at) (sem_only ws vs q.0 id v q.1 at) (site_kept ws vs h) (at_map hand_of vs id v at) (alones-are vs) in
+        let m = there.is ws wide in let y : ℕ = word_after op (found n marks grants) in let x : ℕ = word_after op (get_or ws i 0) in let xy : x ≡ y = ap (word_after op) (sym m) in
+        let wd : get_or (set ws i x) count 0 ≡ word n y = there.word_is ws x wide ∙ ap (word n) xy in let mk : lines_in marks_at (set ws i x) ≡ ms marks y = there.marks_are ws x wide ∙ ap (ms marks) xy in let gr : lines_in grants_at (set ws i x) ≡ gs grants y = there.grants_are ws x wide ∙ ap (gs grants) xy in (
+          semmed with_sem v t.0 t.1,
+          keeps,
+          tt,
+          sems ws vs q.0 id i x v t.0 t.1 q.1 at there.above there.inside there.apart t.3 (subst (HandStep v.hand t.0) (sym wd) t.2)
+              (subst (λ (z : ℕ × List ℕ × List ℕ). SemKept z.0 q.0 z.1 z.2 (set sees id (turned t.0 t.1))) (λ j. (sym wd j, sym mk j, sym gr j)) t.4)
+              (subst (λ (z : ℕ × List ℕ). KeepsHandoff id n q.0 marks grants sees z.0 z.1 (set sees id (turned t.0 t.1))) (λ j. (sym wd j, sym gr j)) t.5) t.6,
+          refl,
+          subst (λ (z : ℕ). tells z (semmed with_sem v t.0 t.1, me.1)) m t.7,
+        )
+
+    -- what a step under the wait lock comes to that leaves how its pass holds
+    abbrev pub OnWord : (id : ℕ) (me : M) → Op → (ℕ → SemHand) → (ℕ → Type 0) → Type 0
+    OnWord id me op does tells = (n : ℕ) (q : List Waiter) (marks grants : List ℕ) (sees : List SemPart) → Local sees id (sem_part sem me.0) (list_part list me.0) n q marks grants → total busy_of sees ≡ busy_weight (sem me.0.ext).stage
+        → (let m = found n marks grants in let x = word_after op m in let us = set sees id (with_hand (sem_part sem me.0) (does m)) in SemKept (word n x) q (ms marks x) (gs grants x) us × KeepsHandoff id n q marks grants sees (word n x) (gs grants x) us × tells m)
+
+    does-there : (slots id : ℕ) (me : M) (op : Op) (does : ℕ → SemHand) (tells : ℕ → Type 0) → SpinHolds me.0.spin → me.0.hand.task ≢ None → OnWord id me op does tells → Lets holds moves slots id me i op (λ n m'. tells n × Turns me (semmed with_sem me.0 me.0.hand (does n)) m')
+    does-there slots id me op does tells has numbered step = word-goes slots id me op (λ n m'. tells n × Turns me (semmed with_sem me.0 me.0.hand (does n)) m') (λ n q marks grants sees w hs loc only r mine alones.
+        let t = step n q marks grants sees loc (only has) in let m : ℕ = found n marks grants in let b = busy-most (does m).stage in let one : holds_in me.0.spin ≡ 1 = ap holds_at has in (
+          me.0.hand,
+          does m,
+          record { numbered = numbered; task = refl; goes = record { misses = omega arith; freed = λ e. refl }; left = λ held other. absurd (other refl) },
+          omega (arith, b, one),
+          t.0,
+          t.1,
+          subst (Kept w) (sym (set_again hs id me.0.hand mine)) r,
+          (t.2, (refl, refl)),
+        ))
+
+    pub word-does : (slots id at : ℕ) (me : M) (op : Op) (does : ℕ → SemHand) (tells : ℕ → Type 0) → at ≡ i → SpinHolds me.0.spin → me.0.hand.task ≢ None → OnWord id me op does tells → Lets holds moves slots id me at op (λ n m'. tells n × Turns me (semmed with_sem me.0 me.0.hand (does n)) m')
+    word-does slots id at me op does tells is has numbered step = subst (λ (z : ℕ). Lets holds moves slots id me z op (λ n m'. tells n × Turns me (semmed with_sem me.0 me.0.hand (does n)) m')) (sym is) (does-there slots id me op does tells has numbered step)
+
+  -- the count
+  pub count-word : Word count (λ n marks grants. n) (λ n x. x) (λ marks x. marks) (λ grants x. grants)
+  count-word = record {
+    above = omega arith;
+    inside = omega (arith, places);
+    apart = λ l. absurd (omega (arith, l));
+    is = λ ws wide. refl;
+    word_is = λ ws x wide. get_or-set_same ws count x 0 (omega (arith, places, wide));
+    marks_are = λ ws x wide. lines-else marks_at ws count x (λ t l e. omega (arith, places, e));
+    grants_are = λ ws x wide. lines-else grants_at ws count x (λ t l e. omega (arith, places, e));
+  }
+
+  -- the mark of a task
+  pub mark-word : (t : ℕ) → t < 64 → Word (marks_at + 8 * t) (λ n marks grants. get_or marks t 0) (λ n x. n) (λ marks x. set marks t x) (λ grants x. grants)
+  mark-word t few = record {
+    above = omega (arith, places);
+    inside = omega (arith, places, few);
+    apart = λ l. omega arith;
+    is = λ ws wide. lines-at marks_at ws t few;
+    word_is = λ ws x wide. get_or-set_other ws (marks_at + 8 * t) count x 0 (λ e. omega (arith, places, e));
+    marks_are = λ ws x wide. lines-set marks_at ws t x few (omega (arith, places, few, wide));
+    grants_are = λ ws x wide. lines-else grants_at ws (marks_at + 8 * t) x (λ u l e. omega (arith, places, few, e));
+  }
+
+  -- the grant word of a task
+  pub grant-word : (t : ℕ) → t < 64 → Word (grants_at + 8 * t) (λ n marks grants. get_or grants t 0) (λ n x. n) (λ marks x. marks) (λ grants x. set grants t x)
+  grant-word t few = record {
+    above = omega (arith, places);
+    inside = omega (arith, places, few);
+    apart = λ l. omega (arith, places);
+    is = λ ws wide. lines-at grants_at ws t few;
+    word_is = λ ws x wide. get_or-set_other ws (grants_at + 8 * t) count x 0 (λ e. omega (arith, places, e));
+    marks_are = λ ws x wide. lines-else marks_at ws (grants_at + 8 * t) x (λ u l e. omega (arith, places, l, e));
+    grants_are = λ ws x wide. lines-set grants_at ws t x few (omega (arith, places, few, wide));
+  }
+
+  -- steps on them
+  pub count-does : (slots id at : ℕ) (me : M) (op : Op) (does : ℕ → SemHand) (tells : ℕ → Type 0) → at ≡ count → SpinHolds me.0.spin → me.0.hand.task ≢ None → OnWord count (λ n marks grants. n) (λ n x. x) (λ marks x. marks) (λ grants x. grants) count-word id me op does tells → Lets holds moves slots id me at op (λ n m'. tells n × Turns me (semmed with_sem me.0 me.0.hand (does n)) m')
+  count-does = word-does count (λ n marks grants. n) (λ n x. x) (λ marks x. marks) (λ grants x. grants) count-word
+
+  pub mark-does : (t : ℕ) (few : t < 64) (slots id at : ℕ) (me : M) (op : Op) (does : ℕ → SemHand) (tells : ℕ → Type 0) → at ≡ marks_at + 8 * t → SpinHolds me.0.spin → me.0.hand.task ≢ None → OnWord (marks_at + 8 * t) (λ n marks grants. get_or marks t 0) (λ n x. n) (λ marks x. set marks t x) (λ grants x. grants) (mark-word t few) id me op does tells → Lets holds moves slots id me at op (λ n m'. tells n × Turns me (semmed with_sem me.0 me.0.hand (does n)) m')
+  mark-does t few = word-does (marks_at + 8 * t) (λ n marks grants. get_or marks t 0) (λ n x. n) (λ marks x. set marks t x) (λ grants x. grants) (mark-word t few)
+
+  pub grant-does : (t : ℕ) (few : t < 64) (slots id at : ℕ) (me : M) (op : Op) (does : ℕ → SemHand) (tells : ℕ → Type 0) → at ≡ grants_at + 8 * t → SpinHolds me.0.spin → me.0.hand.task ≢ None → OnWord (grants_at + 8 * t) (λ n marks grants. get_or grants t 0) (λ n x. n) (λ marks x. marks) (λ grants x. set grants t x) (grant-word t few) id me op does tells → Lets holds moves slots id me at op (λ n m'. tells n × Turns me (semmed with_sem me.0 me.0.hand (does n)) m')
+  grant-does t few = word-does (grants_at + 8 * t) (λ n marks grants. get_or grants t 0) (λ n x. n) (λ marks x. marks) (λ grants x. set grants t x) (grant-word t few)

@@ -1,0 +1,64 @@
+//! The rules whose tables have a count, a list of waiters, marks and grant words.
+ghost use Rattle.std.specs.Prelude.{◌≡◌, ℕ, ◌+◌, ◌*◌, ◌<◌, ◌≤◌, List, map, length, slice_index, slice_set};
+ghost use mathlib.Core.Option.{some};
+ghost use lib.ListN.{get_elem?};
+ghost use Rattle.word_bits.specs.declared.TheConstants.{MAX_TASKS};
+ghost use Rattle.word_bits.specs.LockWords.{IsLawfulCount};
+ghost use Rattle.word_bits.specs.Histories.{Plan as Calls};
+ghost use Rattle.lock_core.specs.declared.view.View.{View};
+ghost use Rattle.lock_core.specs.declared.view.Hand.{Hand};
+ghost use Rattle.lock_core.specs.declared.layout.TheConstants.{LOCK_WORDS};
+ghost use Rattle.lock_core.specs.Layout.{site};
+ghost use Rattle.lock_core.specs.Views.{SpinHolds, hand_of};
+ghost use Rattle.lock_core.specs.Spins.{holds_in};
+ghost use Rattle.lock_core.specs.Sites.{SiteKept};
+ghost use Rattle.lock_core.specs.Totals.{total};
+ghost use Rattle.lock_core.specs.Moves.{Goes};
+ghost use Rattle.wait_list.specs.declared.view.Waiter.{Waiter};
+ghost use Rattle.rwsem_count.specs.Counts.{HandStep};
+ghost use Rattle.rwsem_wake.specs.declared.view.SemHand.{SemHand as ASemHand};
+ghost use Rattle.rwsem_wake.specs.SemParts.{SemPart, busy_weight, busy_of};
+ghost use Rattle.rwsem_wake.specs.Semaphores.{SemKept};
+ghost use Rattle.rwsem_wake.specs.Handoffs.{KeepsHandoff};
+ghost use Rattle.rwsem_wake.specs.Lines.{lines_in};
+ghost use Rattle.rwsem_wake.specs.Grants.{sem_part, semmed};
+
+use crate::view::SemHand;
+use rwsem_count::CountHost;
+use wait_list::ListHost;
+
+/// A rule whose table has a count, a list of waiters, and for each task a mark and a grant word.
+///
+/// What these words say, and what each pass is about meanwhile, has its own facts, `SemKept`, which
+/// the rule implies. Each kind of step on the count, a mark or a grant word under the wait lock is
+/// proved once, against those facts; the law `sems` carries it to the rule. It asks of each step
+/// that it keeps to a handoff.
+pub trait GrantHost: ListHost + CountHost {
+    /// The place of the mark of task 0 among the words of the locks. That of each further task
+    /// stands 8 words behind.
+    const MARKS: usize;
+
+    /// The place of the grant word of task 0. That of each further task stands 8 words behind.
+    const GRANTS: usize;
+
+    ghost MARKS: { ℕ };
+
+    ghost GRANTS: { ℕ };
+
+    // The part of what a pass knows that concerns the semaphore.
+    ghost sem: { Self.Ext → ASemHand };
+
+    // What it knows where this is that part.
+    ghost with_sem: { Self.Ext → ASemHand → Self.Ext };
+
+    ghost sem_places: { (Self.COUNT < MARKS) × (MARKS + 8 * MAX_TASKS ≤ GRANTS) × (GRANTS + 8 * MAX_TASKS ≤ LOCK_WORDS) };
+
+    ghost sem_kept: { (k : Calls) (ws : List ℕ) (vs : List (View Self.Ext)) (q : List Waiter) → Self.queue k ws vs q → SemKept (slice_index ws Self.COUNT) q (lines_in MARKS ws) (lines_in GRANTS ws) (map (sem_part sem) vs) × IsLawfulCount (slice_index ws Self.COUNT) × (LOCK_WORDS ≤ length ws) };
+
+    // The holder of the wait lock alone may be at a stage.
+    ghost sem_only: { (k : Calls) (ws : List ℕ) (vs : List (View Self.Ext)) (q : List Waiter) (id : ℕ) (v : View Self.Ext) → Self.queue k ws vs q → get_elem? vs id ≡ some v → SpinHolds v.spin → total busy_of (map (sem_part sem) vs) ≡ busy_weight (sem v.ext).stage };
+
+    // A step on one of these words that keeps their own facts and the site's, and to a handoff,
+    // keeps every other fact of the rule.
+    ghost sems: { (k : Calls) (ws : List ℕ) (vs : List (View Self.Ext)) (q : List Waiter) (id i n : ℕ) (v : View Self.Ext) (h : Hand) (s : ASemHand) → Self.queue k ws vs q → get_elem? vs id ≡ some v → Self.COUNT ≤ i → i < LOCK_WORDS → (Self.COUNT < i → MARKS ≤ i) → busy_weight s.stage ≤ holds_in v.spin → HandStep v.hand h (slice_index (slice_set ws i n) Self.COUNT) → SemKept (slice_index (slice_set ws i n) Self.COUNT) q (lines_in MARKS (slice_set ws i n)) (lines_in GRANTS (slice_set ws i n)) (slice_set (map (sem_part sem) vs) id (record { task = h.task; held = h.held; sem = s })) → KeepsHandoff id (slice_index ws Self.COUNT) q (lines_in MARKS ws) (lines_in GRANTS ws) (map (sem_part sem) vs) (slice_index (slice_set ws i n) Self.COUNT) (lines_in GRANTS (slice_set ws i n)) (slice_set (map (sem_part sem) vs) id (record { task = h.task; held = h.held; sem = s })) → SiteKept Self.O.object Self.unavailable Self.O.WORDS k (site k ws) (slice_set (map hand_of vs) id h) → Goes (Self.holds k) (Self.moves k) id ws vs (slice_set ws i n) (slice_set vs id (semmed with_sem v h s)) };
+}
