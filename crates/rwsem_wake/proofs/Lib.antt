@@ -13,3 +13,4 @@ pub mod Stating
 pub mod Lines
 pub mod Stepping
 pub mod Waking
+pub mod Courses

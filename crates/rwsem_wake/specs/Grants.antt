@@ -1,5 +1,5 @@
 -- What a step of a wake makes of its pass, and when it may be made.
-use Rattle.std.specs.Prelude.{◌≡◌, ℕ, ◌+◌, ◌-◌, ◌*◌, ◌^◌, ◌/◌, ◌%◌, ◌≤◌, ◌==◌, Bool, false, List, [], ◌∷◌, length, if◌then◌else◌}
+use Rattle.std.specs.Prelude.{◌≡◌, ℕ, ◌+◌, ◌-◌, ◌*◌, ◌^◌, ◌/◌, ◌%◌, ◌≤◌, ◌==◌, Bool, false, List, [], ◌∷◌, length, slice_index, ◌<◌, if◌then◌else◌}
 use Rattle.atomic_table.specs.Table.{Step}
 use Rattle.lock_core.specs.declared.view.View.{View}
 use Rattle.lock_core.specs.declared.view.Hand.{Hand}
@@ -14,7 +14,7 @@ use Rattle.rwsem_count.specs.Counts.{shared_weight, early_weight, late_weight}
 use Rattle.rwsem_wake.specs.declared.view.SemHand.{SemHand}
 use Rattle.rwsem_wake.specs.declared.view.Wait.TheVariants.{Apart}
 use Rattle.rwsem_wake.specs.declared.view.Stage.{Stage}
-use Rattle.rwsem_wake.specs.declared.view.Stage.TheVariants.{Rest, Armed, Overdue, Marked, Summing, Counted, Granting}
+use Rattle.rwsem_wake.specs.declared.view.Stage.TheVariants.{Rest, Armed, Overdue, Marked, Removing, Summing, Counted, Granting}
 use Rattle.rwsem_wake.specs.SemParts.{SemPart, some_of}
 
 module _ {E : Type 0} (sem : E → SemHand) where
@@ -139,3 +139,36 @@ pub record MaySum {E : Type 0} (list : E → ListHand) (sem : E → SemHand) (v 
   pub stage : (sem v.ext).stage ≡ Counted handoff
   pub few : length (sem v.ext).rest ≤ 64
   pub is : by ≡ (gains (sem v.ext) (list v.ext).list + (2 ^ 64 - losses (sem v.ext) (bit handoff))) % 2 ^ 64
+
+-- a waker has reserved its bias, found this count, and done nothing since
+abbrev pub IsReserved : SemHand → ℕ → Type 0
+IsReserved s word = (s.bias ≡ Reserve word) × (s.stage ≡ Overdue (word / 4 % 2 == 1))
+
+abbrev pub AreTasks : List ℕ → Type 0
+AreTasks batch = (i : ℕ) → i < length batch → slice_index batch i < 64
+
+-- the batch is in the count, and none of it is granted
+pub record IsGranting (s : SemHand) (batch : List ℕ) : Type 0 where
+  pub stage : s.stage ≡ granting_on batch
+  pub clear : s.bias ≡ Clear
+  pub rest : s.rest ≡ batch
+
+-- the batch, which isn't empty, is removed from the list, and more of it has not been done
+pub record IsRemoved (s : SemHand) (batch : List ℕ) : Type 0 where
+  pub stage : s.stage ≡ Removing
+  pub rest : s.rest ≡ batch
+  pub some : 0 < length batch
+  pub few : length batch ≤ 64
+
+-- these of the batch aren't granted yet
+abbrev pub still_granting : SemHand → List ℕ → SemHand
+still_granting s rest = record s { bias = Clear; rest = rest; stage = granting_on rest }
+
+-- the whole batch is granted
+abbrev pub all_granted : SemHand → SemHand
+all_granted s = record s { bias = Clear; rest = []; stage = Rest }
+
+module _ {E : Type 0} (with_sem : E → SemHand → E) where
+  -- after some steps nothing but the part has changed
+  abbrev pub OnlySem : View E → SemHand → View E → Type 0
+  OnlySem v s u = u ≡ record v { steps = u.steps; ext = with_sem v.ext s }

@@ -51,6 +51,15 @@ pub trait GrantHost: ListHost + CountHost {
     // What it knows where this is that part.
     ghost with_sem: { Self.Ext → ASemHand → Self.Ext };
 
+    ghost sem_back: { (e : Self.Ext) (s : ASemHand) → sem (with_sem e s) ≡ s };
+
+    ghost sem_same: { (e : Self.Ext) → with_sem e (sem e) ≡ e };
+
+    ghost sem_over: { (e : Self.Ext) (s r : ASemHand) → with_sem (with_sem e s) r ≡ with_sem e r };
+
+    // The list is no part of it.
+    ghost sem_list: { (e : Self.Ext) (s : ASemHand) → Self.list (with_sem e s) ≡ Self.list e };
+
     ghost sem_places: { (Self.COUNT < MARKS) × (MARKS + 8 * MAX_TASKS ≤ GRANTS) × (GRANTS + 8 * MAX_TASKS ≤ LOCK_WORDS) };
 
     ghost sem_kept: { (k : Calls) (ws : List ℕ) (vs : List (View Self.Ext)) (q : List Waiter) → Self.queue k ws vs q → SemKept (slice_index ws Self.COUNT) q (lines_in MARKS ws) (lines_in GRANTS ws) (map (sem_part sem) vs) × IsLawfulCount (slice_index ws Self.COUNT) × (LOCK_WORDS ≤ length ws) };

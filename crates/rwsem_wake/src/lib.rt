@@ -5,6 +5,7 @@ pub mod batches;
 mod host;
 pub mod steps;
 mod view;
+pub mod wake;
 
 pub use host::GrantHost;
 pub use view::{SemHand, Stage, Wait};

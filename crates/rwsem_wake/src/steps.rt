@@ -1,5 +1,5 @@
-//! The single steps of queues and wakes on the count, the marks and the grant words of any host. But
-//! for those of `arm` each pass holds the wait lock for a wake.
+//! The single steps of queues and wakes on the count, the marks and the grant words of any host,
+//! under the wait lock.
 ghost use Rattle.std.specs.Prelude.{◌≡◌, ◌<◌, ◌≤◌, ◌+◌, ◌*◌, IsSome, Some, true};
 ghost use Rattle.word_bits.specs.LockWords.{IsLawfulCount};
 ghost use Rattle.lock_core.specs.Handles.{IsLatest, view_of, past_of, task_in, SitsAt, KeepsPast, SaysSame};
@@ -138,7 +138,7 @@ pub fn mark_first<H: GrantHost>(site: &Site<H>, pass: &mut Pass<H>, task: u32)
     ensures kept { TurnsTo H.with_sem (view_of pass.old)
         (marked (sem_at H.sem (view_of pass.old))) (view_of pass.new) }
 {
-    // The mark comes before HANDOFF: while the flag is set without a mark anybody in the list takes.
+    // The mark comes before HANDOFF: with the flag and no mark, any writer of the list would take.
     site.step::<MarkFirst<H>>(pass, H::MARKS + LINE * task as usize, Op::Store(MARKED));
 }
 
@@ -239,7 +239,8 @@ pub fn look_count<H: GrantHost>(site: &Site<H>, pass: &mut Pass<H>) -> u64
     ensures last { IsLatest pass.new }
     ensures face { SaysSame pass.old pass.new }
     ensures kept { TurnsTo H.with_sem (view_of pass.old)
-        (looked (sem_at H.sem (view_of pass.old)) (hand_at H.list (view_of pass.old)).list result) (view_of pass.new) }
+        (looked (sem_at H.sem (view_of pass.old)) (hand_at H.list (view_of pass.old)).list result)
+        (view_of pass.new) }
     ensures lawful { IsLawfulCount result }
     ensures found { FoundAt H.COUNT result (past_of pass.new) }
 {

@@ -18,7 +18,7 @@ pub enum Stage {
     Rest,
     /// A reader that is to queue: its own grant word is 1.
     Armed,
-    /// The reader stands in the list, and its bias is still in the count. Whether it is alone there.
+    /// The reader stands in the list, and its bias is still in the count. Whether it stands alone.
     Joining(bool),
     /// A writer stands alone in the list, and WAITERS isn't set yet.
     First,
