@@ -82,6 +82,14 @@ module _ {O C : Type 0} where
   abbrev pub TakesNumber : {Call : Type 0} → Obj Call → Unavailable → CountSite O C → ℕ → CountPass O C → CountPass O C → Type 0
   TakesNumber o unavailable site task old new = inner.TakesNumber o unavailable site.site task old.pass new.pass
 
-  -- steps found these numbers of signals sent to the task, and consumed by it
-  abbrev pub SawSignals : ℕ → Interrupted → CountPass O C → CountPass O C → Type 0
-  SawSignals task why old new = inner.SawSignals task why old.pass new.pass
+  -- steps since found these numbers of signals sent to the pass's task, and consumed by it
+  abbrev pub SawOwnSignals : Interrupted → CountPass O C → CountPass O C → Type 0
+  SawOwnSignals why old new = inner.SawOwnSignals why old.pass new.pass
+
+  -- two steps since found that no signal to its task was pending
+  abbrev pub SawNonePending : CountPass O C → CountPass O C → Type 0
+  SawNonePending old new = inner.SawNonePending old.pass new.pass
+
+  -- a call of its task that isn't done has no record, and so the word 0
+  abbrev pub UndoneIsZero : CountPass O C → (task call word : ℕ) → Type 0
+  UndoneIsZero pass task call word = inner.UndoneIsZero pass.pass task call word

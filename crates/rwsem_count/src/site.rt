@@ -123,7 +123,8 @@ impl<O: Object> CountSite<O> {
     }
 
     /// Takes the lock shared where the count lets a reader in. It tries again where others changed
-    /// the count meanwhile. `Err` has a count that a step of this call saw, which lets no reader in.
+    /// the count meanwhile. `Err` has a count that a step of this call saw, which lets no reader
+    /// in.
     pub fn read_try<W: Wait>(&self, rt: &W, pass: &mut CountPass<O>) -> Result<(), u64>
         requires own { SitsAt self.now pass.old }
         requires numbered { IsSome (task_in pass.old) }

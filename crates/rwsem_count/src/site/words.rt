@@ -7,12 +7,11 @@ ghost use Rattle.lock_core.specs.declared.view.Held.TheVariants.{No, Alone};
 ghost use Rattle.lock_core.specs.declared.layout.TheConstants.{LOCK_WORDS};
 ghost use Rattle.lock_core.specs.Layout.{entry_place, length_place, record_place};
 ghost use Rattle.lock_core.specs.Pasts.{FoundAt};
-ghost use Rattle.lock_core.specs.declared.how.Interrupted.{Interrupted as Numbers};
 ghost use Rattle.lock_core.specs.Records.{row};
-ghost use Rattle.lock_core.specs.Views.{ticked, handed, wrote, after_commit, after_note, sending, Unsent, Knows};
+ghost use Rattle.lock_core.specs.Views.{ticked, handed, wrote, after_commit, after_note, sending, Unsent};
 ghost use Rattle.lock_core.specs.Chronicles.{Chronicles};
-ghost use Rattle.lock_core.specs.Passes.{Consumes, HearsOfNone, IsEntryWord};
-ghost use Rattle.rwsem_count.specs.Handles.{plan_of, view_of, hand_in, past_of, task_in, held_in, done_in, front_in, transit_in, IsLatest, IsNextChange, IsNextSignal, KeepsPast, MayNoteNext, SawSignals, SitsAt};
+ghost use Rattle.lock_core.specs.Passes.{Consumes, IsEntryWord, TellsKnown};
+ghost use Rattle.rwsem_count.specs.Handles.{plan_of, view_of, hand_in, past_of, task_in, held_in, done_in, front_in, transit_in, IsLatest, IsNextChange, IsNextSignal, KeepsPast, MayNoteNext, SawNonePending, SawOwnSignals, SitsAt, UndoneIsZero};
 
 use super::CountSite;
 use crate::pass::CountPass;
@@ -117,11 +116,8 @@ impl<O: Object> CountSite<O> {
         ensures last { IsLatest pass.new }
         ensures consumed { IfSome result (λ why.
             Consumes why (view_of pass.old) (view_of pass.new)) }
-        ensures saw { IfSome result (λ why.
-            (t : ℕ) → task_in pass.old ≡ Some t → SawSignals t why pass.old pass.new) }
-        ensures none { IfNone result ((why : Numbers)
-            × HearsOfNone why (view_of pass.old) (view_of pass.new)
-            × ((t : ℕ) → task_in pass.old ≡ Some t → SawSignals t why pass.old pass.new)) }
+        ensures saw { IfSome result (λ why. SawOwnSignals why pass.old pass.new) }
+        ensures none { IfNone result (SawNonePending pass.old pass.new) }
     {
         self.site.consume(&mut pass.pass)
     }
@@ -166,12 +162,11 @@ impl<O: Object> CountSite<O> {
         ensures transit { transit_in pass.new ≡ transit_in pass.old }
         ensures last { IsLatest pass.new }
         ensures kept { view_of pass.new ≡ ticked (view_of pass.old) }
-        ensures known { (r : Record) →
-            Knows (hand_in pass.old) (record { task = task; call = call }) r → result ≡ rec_word r }
+        ensures known { TellsKnown (hand_in pass.old) (record { task = task; call = call }) result }
         ensures made { result ≢ 0 → (r : Record) × IsRec r × (result ≡ rec_word r) }
         ensures there { FoundAt
             (record_place (plan_of self.now) task call) result (past_of pass.new) }
-        ensures mine { task_in pass.old ≡ Some task → (done_in pass.old) ≤ call → result ≡ 0 }
+        ensures mine { UndoneIsZero pass.old task call result }
     {
         self.site.rec_word(&mut pass.pass, task, call)
     }
