@@ -6,7 +6,7 @@ ghost use Rattle.lock_core.specs.Holding.{downgraded, released};
 ghost use Rattle.lock_core.specs.Kinds.{semaphore, wakes_alone, wakes_shared};
 ghost use Rattle.lock_core.specs.Locking.{Downgrades, Misses, Releases, Takes};
 ghost use Rattle.lock_core.specs.Records.{IsPlan};
-ghost use Rattle.lock_core.specs.Views.{first, ticked, handed, split_off, merged, gave_up, BesideForgetting, HoldsNothing};
+ghost use Rattle.lock_core.specs.Views.{first, ticked, handed, split_off, merged, gave_up, BesideForgetting, HoldsNothing, OwesNoSignal};
 ghost use Rattle.lock_core.specs.Pasts.{EachMoment, FoundAt, IsMarked, Ran, Tail};
 ghost use Rattle.lock_core.specs.Stated.{IsNew, IsSiteMove};
 ghost use Rattle.rwsem_count.specs.declared.view.Bias.TheVariants.{Clear};
@@ -92,7 +92,7 @@ impl<O: Object> CountSite<O> {
         requires numbered { IsSome (task_in pass.old) }
         requires rests { HoldsNothing (view_of pass.old) }
         requires apart { transit_in pass.old ≡ false }
-        requires recorded { ((hand_in pass.old).sent ≡ None) × ((hand_in pass.old).consumed ≡ 0) }
+        requires recorded { OwesNoSignal (hand_in pass.old) }
         ensures own { SitsAt self.now pass.new }
         ensures goes_on { KeepsPast pass.old pass.new }
         ensures transit { transit_in pass.new ≡ transit_in pass.old }
@@ -273,8 +273,8 @@ impl<O: Object> CountSite<O> {
     }
 
     /// A load, after which the pass knows that at each moment of the table so far, from the new
-    /// table on, the facts of every site were so, and the count stated who held and who was in transit; and what each
-    /// step did to the site's words and to what the passes count.
+    /// table on, the facts of every site were so, and the count stated who held and who was in
+    /// transit; and what each step did to the site's words and to what the passes count.
     pub fn recall_count(&self, pass: &mut CountPass<O>)
         requires own { SitsAt self.now pass.old }
         ensures own { SitsAt self.now pass.new }

@@ -85,8 +85,8 @@ pub fn read_add<H: CountHost>(site: &Site<H>, pass: &mut Pass<H>) -> Result<(), 
     ensures transit { IfErr result (λ count.
         IsTransit H.counted (view_of pass.old) count (view_of pass.new)) }
 {
-    // The bias comes before the look: from then on no writer takes a free count, and none that
-    // looked before is there unseen.
+    // The bias comes before the look: a writer that comes after it finds the count taken, and one
+    // that was there before is seen.
     let count = site.step::<Read<H>>(pass, H::COUNT, Op::Add(BIAS)) + BIAS;
     if !read_free(count) {
         return Err(count);
@@ -134,7 +134,8 @@ pub fn read_back<H: CountHost>(site: &Site<H>, pass: &mut Pass<H>) -> u64
     ensures goes_on { KeepsPast pass.old pass.new }
     ensures last { IsLatest pass.new }
     ensures face { SaysSame pass.old pass.new }
-    ensures kept { view_of pass.new ≡ based H.counted (view_of pass.old) (hand_in pass.old) Clear }
+    ensures kept { view_of pass.new ≡
+        based H.counted (view_of pass.old) (hand_in pass.old) Clear }
     ensures left { LeftBy H.COUNT H.may_be 256 0 result (past_of pass.new) }
 {
     let found = site.step::<TakeBack<H>>(pass, H::COUNT, Op::Sub(BIAS));
