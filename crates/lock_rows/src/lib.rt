@@ -17,6 +17,8 @@ pub use rounds::{all_calls, four_at_once};
 pub use serve::{copy_of, history_of_two, replies_of};
 
 #[cfg(test)]
+mod interrupt_tests;
+#[cfg(test)]
 mod serve_tests;
 #[cfg(test)]
 mod tests;
