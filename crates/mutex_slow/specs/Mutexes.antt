@@ -91,7 +91,10 @@ pub record Coupled (n : ℕ) (l : List Waiter) (vs : List V) : Type 0 where
   pub picked : 4 ≤ n % 8 → n / 8 ≡ first_code l
   pub each : Each (SeatOk n l) vs
 
--- where the words stand: the spin lock's, the owner word, and those of the list
+-- where the words stand: the wait lock's, the owner word, and those of the list
+abbrev pub wait_lock_at : ℕ
+wait_lock_at = 0
+
 abbrev pub owner_at : ℕ
 owner_at = SPIN_ROOM
 
@@ -99,7 +102,7 @@ abbrev pub list_at : ℕ
 list_at = SPIN_ROOM + 8
 
 abbrev pub spin_words : List ℕ → List ℕ
-spin_words ws = part 0 SPIN_WORDS ws
+spin_words ws = part wait_lock_at SPIN_WORDS ws
 
 abbrev pub owner_in : List ℕ → ℕ
 owner_in ws = slice_index ws owner_at

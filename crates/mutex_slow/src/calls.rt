@@ -29,6 +29,7 @@ use std::alloc::{AllocError, Global};
 use std::sync::Wait;
 use word_bits::Object;
 
+mod laws;
 mod words;
 
 /// A mutex that guards an object of the kind `O`, with the object's plan, records and log.

@@ -1,37 +1,15 @@
 //! What a third task is told while a mutex is handed over on threads.
 ghost use Rattle.mutex_slow.specs.Standing.{IsHolder, IsReady};
 
+use crate::lockers::{NO_TURNS, how_it_locks};
 use crate::watched::{Watch, WatchedCrew, await_count};
 use crate::{Mutex, MutexPass};
-use cpu_task::{Crew, Turns};
+use cpu_task::Crew;
 use lock_core::{How, Nothing, Plan};
 use std::sync::Wait;
 use std::sync::atomic::Ordering;
 use std::test::Fail;
 use std::thread::{Threads, join};
-
-/// A task of a watched CPU doesn't spin.
-const NO_TURNS: Turns = Turns {
-    spin: 0,
-    overdue: 0,
-};
-
-/// What a try of one step is told. Where it takes, the mutex is released again.
-fn told_once<W: Wait, C: Crew>(
-    rt: &W,
-    mutex: &Mutex<Nothing>,
-    crew: &C,
-    pass: &mut MutexPass<Nothing>,
-) -> Result<(), u64>
-    requires { IsReady mutex.now pass.old }
-    ensures { IsReady mutex.now pass.new }
-{
-    let answer = mutex.trylock_once(pass);
-    if answer.is_ok() {
-        mutex.unlock(rt, pass, crew);
-    }
-    answer
-}
 
 /// What a try is told. Where it takes, the mutex is released again.
 fn told<W: Wait, C: Crew>(
@@ -65,28 +43,15 @@ fn hand_over<W: Wait, C: Crew>(
     ensures { IsReady mutex.now result.0 }
 {
     await_count(rt, &watch.sleeps, 1);
-    let waits = told_once(rt, mutex, crew, &mut other);
+    let waits = told(rt, mutex, crew, &mut other);
     // The waiter asks for the handoff, tries once more in vain, and sleeps.
     watch.ends.store(1, Ordering::SeqCst);
     await_count(rt, &watch.sleeps, 2);
-    let asks = told_once(rt, mutex, crew, &mut other);
+    let asks = told(rt, mutex, crew, &mut other);
     mutex.unlock(rt, &mut holder, crew);
     let picked = told(rt, mutex, crew, &mut other);
     watch.ends.store(2, Ordering::SeqCst);
     (other, [waits, asks, picked])
-}
-
-/// Takes the mutex.
-fn wait<W: Wait, C: Crew>(
-    rt: &W,
-    mutex: &Mutex<Nothing>,
-    crew: &C,
-    mut cpu: C::C,
-    mut waiter: MutexPass<Nothing>,
-) -> How
-    requires { IsReady mutex.now waiter }
-{
-    mutex.lock(rt, &mut waiter, &mut cpu, crew)
 }
 
 /// One task waits, and is handed the mutex. Gives how it got it, the pass of another task, and what
@@ -109,7 +74,7 @@ fn wait_and_hand_over<R: Threads + Wait + Sync, C: Crew<C: Send> + Sync>(
         rt,
         || -> How
             requires { IsReady mutex.now waiter }
-        { wait(rt, mutex, crew, cpu, waiter) },
+        { how_it_locks(rt, mutex, crew, cpu, waiter) },
         || -> (MutexPass<Nothing>, [Result<(), u64>; 3])
             requires holder { IsHolder mutex.now holder }
             requires other { IsReady mutex.now other }
@@ -147,5 +112,6 @@ fn a_third_task_is_told_of_the_handoff(rt: HostRuntime) -> Result<(), Fail> {
     // The waiter has taken, and left the list empty.
     assert_eq!(rt; mutex.trylock_once(&mut other), Err(16));
     assert_eq!(rt; watch.wakes.load(Ordering::SeqCst), 1);
+    assert_eq!(rt; watch.woken.load(Ordering::SeqCst), 2);
     Ok(())
 }

@@ -1,6 +1,7 @@
 //! By which way a call that waits gets the mutex.
 ghost use Rattle.mutex_slow.specs.Standing.{IsHolder, IsReady};
 
+use crate::lockers::{NO_TURNS, how_it_locks};
 use crate::watched::{Watch, WatchedCpu, WatchedCrew, await_count};
 use crate::{Mutex, MutexPass};
 use cpu_task::{Crew, ScriptedCrew, Turns};
@@ -8,13 +9,6 @@ use lock_core::{How, Nothing, Plan};
 use std::sync::Wait;
 use std::test::Fail;
 use std::thread::{Threads, join};
-
-/// A scripted CPU takes its turns from its lists. Where they are empty it needs rescheduling at
-/// each one.
-const NO_TURNS: Turns = Turns {
-    spin: 0,
-    overdue: 0,
-};
 
 /// A task spins for so many turns.
 const MANY_TURNS: Turns = Turns {
@@ -52,19 +46,6 @@ fn unlock_behind_spinner<'a, W: Wait>(
 {
     await_count(rt, &crew.watch.asked, 2);
     mutex.unlock(rt, &mut holder, crew);
-}
-
-/// How the pass's task gets the mutex.
-fn how_it_locks<W: Wait, C: Crew>(
-    rt: &W,
-    mutex: &Mutex<Nothing>,
-    crew: &C,
-    mut cpu: C::C,
-    mut pass: MutexPass<Nothing>,
-) -> How
-    requires { IsReady mutex.now pass }
-{
-    mutex.lock(rt, &mut pass, &mut cpu, crew)
 }
 
 /// How a task gets the mutex that another one holds until that task waits in the list.

@@ -16,6 +16,8 @@ pub struct Watch {
     pub ends: AtomicU64,
     /// How often the crew woke a task.
     pub wakes: AtomicU64,
+    /// One more than the number of the task that it woke last, and 0 before.
+    pub woken: AtomicU64,
 }
 
 /// Counts one more.
@@ -91,7 +93,10 @@ impl<'a> Crew for WatchedCrew<'a> {
         })
     }
 
-    fn wake(&self, _task: u32) {
+    fn wake(&self, task: u32) {
         count(&self.watch.wakes);
+        self.watch
+            .woken
+            .store(u64::from(task) + 1, Ordering::SeqCst);
     }
 }
