@@ -1,5 +1,6 @@
 pub mod Copying
 pub mod Histories
+pub mod Lending
 pub mod Machines
 pub mod Opening
 pub mod Pasts

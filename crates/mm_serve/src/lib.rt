@@ -22,3 +22,6 @@ pub use machine::Machine;
 pub use shared_object::SharedObject;
 pub use site::{Site, SitePass};
 pub use worker::Worker;
+
+#[cfg(test)]
+mod tests;

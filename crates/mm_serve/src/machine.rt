@@ -31,6 +31,8 @@ pub struct Machine<S: SharedObject, C: Crew> {
 }
 
 impl<S: SharedObject, C: Crew> Machine<S, C> {
+    ghost use Rattle.std.specs.Borrow.{sem};
+    ghost use Rattle.mm_serve.specs.Lending.{LendsResults};
     ghost use Rattle.mm_serve.specs.Machines.{HasRecalled, IsAtRest, results_of, sites_of};
 
     /// Looks at an object's table, after which the object's gathered pass knows its past: what was
@@ -46,7 +48,9 @@ impl<S: SharedObject, C: Crew> Machine<S, C> {
 
     /// What each object leaves. What a borrower leaves there are the results from then on.
     pub fn results(&mut self) -> &mut Results
-        ensures { result.now ≡ results_of self.old }
+        ensures* writes_back { sem 𝓛
+            (LendsResults S.row C.row S.Pass.row C.C.row self.entry result) }
+        ensures value { result.now ≡ results_of self.old }
     {
         &mut self.results
     }
@@ -58,7 +62,7 @@ impl<S: SharedObject + Drop, C: Crew> Machine<S, C> {
     /// All objects, passes, CPUs and buffers of a script. No task has begun, and none takes memory.
     ///
     /// A script with more calls than one plan has room for, 131,072, is refused as memory is. No
-    /// text of at most 1,048,576 bytes has as many.
+    /// text of at most 1,048,576 bytes has more.
     pub fn open(
         alloc: Global,
         script: &Script,

@@ -6,7 +6,7 @@ use lock_core::Plan;
 use std::alloc::{AllocError, Global};
 use task_script::{Line, Script};
 
-/// The most calls that a plan has room for. A script of at most 1,048,576 bytes has fewer.
+/// The most calls that a plan has room for. A text of at most 1,048,576 bytes has no more.
 const MOST_CALLS: u32 = 131_072;
 
 /// Puts a task's calls into the plans of their objects. `room` is how many calls each plan still
