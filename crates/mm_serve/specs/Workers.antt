@@ -13,6 +13,10 @@ use Rattle.mm_serve.specs.Histories.{HasDoneOn, AllHaveDone}
 abbrev pub EachOf : {S P : Type 0} → (ℕ → S → P → Type 0) → List S → List P → Type 0
 EachOf {S} {P} R sites passes = (length passes ≡ length sites) × ((k : ℕ) (s : S) (p : P) → k < length sites → R k (slice_index_or sites k s) (slice_index_or passes k p))
 
+-- each of the passes is idle, and has seen nothing
+abbrev pub HaveSeenNothing : {S P : Type 0} → (S → P → Type 0) → (P → Hand) → List S → List P → Type 0
+HaveSeenNothing idle hand sites passes = EachOf (λ k s p. idle s p × ((hand p).seen ≡ [])) sites passes
+
 -- how many of the calls are on the object, where each is given by its object's number
 abbrev pub calls_to : ℕ → List ℕ → ℕ
 calls_to k objects = count_by (λ object. object == k) objects
@@ -27,7 +31,7 @@ module _ {P Q S : Type 0} (idle : S → Q → Type 0) (hand : Q → Hand) (calls
     pub task : (k : ℕ) (s : S) → slice_get sites k ≡ Some s → w.task < length (calls_on s)
     pub objects : All (λ object. object < length sites) w.objects.items
     pub calls : (k : ℕ) (s : S) → slice_get sites k ≡ Some s → length (row (calls_on s) w.task) ≡ calls_to k w.objects.items
-    pub passes : EachOf (λ k s p. idle s p × ((hand p).seen ≡ [])) sites w.passes.items
+    pub passes : HaveSeenNothing idle hand sites w.passes.items
 
 module _ {P Q S : Type 0} (idle : S → Q → Type 0) (hand : Q → Hand) (is_space : S → Bool) (calls_on : S → Plan) (sites : List S) where
   -- it has done all calls of its task

@@ -1,8 +1,9 @@
 //! The objects and the tasks of a script, before any task has begun.
-ghost use Rattle.std.specs.Prelude.{◌≡◌, ◌<◌, [], All, IfOk, OnOk, length, map, max, slice_index_or};
+ghost use Rattle.std.specs.Prelude.{◌≡◌, ◌<◌, [], All, IfOk, OnOk, length};
+ghost use Rattle.std.specs.Prelude.{map, max, slice_index_or};
 ghost use Rattle.mm_serve.specs.Machines.{AreSitesOf};
 ghost use Rattle.mm_serve.specs.Opening.{ArePlansOf};
-ghost use Rattle.mm_serve.specs.Workers.{AreNumbered, EachOf, IsReady};
+ghost use Rattle.mm_serve.specs.Workers.{AreNumbered, HaveSeenNothing, IsReady};
 
 use crate::shared_object::SharedObject;
 use crate::worker::Worker;
@@ -20,8 +21,8 @@ pub(crate) fn open_sites<S: SharedObject + Drop>(
     requires { ArePlansOf script.now plans.items }
     ensures sites { IfOk result (λ opened.
         AreSitesOf S.is_space S.calls_on script.now opened.0.items) }
-    ensures passes { IfOk result (λ opened. EachOf (λ k s p. S.idle s p × ((S.hand p).seen ≡ []))
-        opened.0.items opened.1.items) }
+    ensures passes { IfOk result (λ opened.
+        HaveSeenNothing S.idle S.hand opened.0.items opened.1.items) }
 {
     let mut sites = Vec::with_capacity(alloc, script.objects())?;
     let mut passes = Vec::with_capacity(alloc, script.objects())?;
@@ -40,11 +41,10 @@ fn split_all<S: SharedObject>(
     sites: &[S],
     gathered: &mut Vec<S::Pass>,
 ) -> Result<Vec<S::Pass>, AllocError>
-    requires { EachOf (λ k s p. S.idle s p × ((S.hand p).seen ≡ [])) sites.now gathered.old.items }
-    ensures kept { OnOk result (EachOf (λ k s p. S.idle s p × ((S.hand p).seen ≡ []))
-        sites.now gathered.new.items) }
-    ensures passes { IfOk result (λ passes. EachOf (λ k s p. S.idle s p × ((S.hand p).seen ≡ []))
-        sites.now passes.items) }
+    requires { HaveSeenNothing S.idle S.hand sites.now gathered.old.items }
+    ensures kept { OnOk result (HaveSeenNothing S.idle S.hand sites.now gathered.new.items) }
+    ensures passes { IfOk result (λ passes.
+        HaveSeenNothing S.idle S.hand sites.now passes.items) }
 {
     let mut passes = Vec::new(alloc);
     for object in 0..sites.len() {
@@ -83,10 +83,8 @@ pub(crate) fn open_workers<S: SharedObject, C: Crew>(
     gathered: &mut Vec<S::Pass>,
 ) -> Result<Vec<Worker<C::C, S::Pass>>, AllocError>
     requires sites { AreSitesOf S.is_space S.calls_on script.now sites.now }
-    requires passes { EachOf (λ k s p. S.idle s p × ((S.hand p).seen ≡ []))
-        sites.now gathered.old.items }
-    ensures kept { OnOk result (EachOf (λ k s p. S.idle s p × ((S.hand p).seen ≡ []))
-        sites.now gathered.new.items) }
+    requires passes { HaveSeenNothing S.idle S.hand sites.now gathered.old.items }
+    ensures kept { OnOk result (HaveSeenNothing S.idle S.hand sites.now gathered.new.items) }
     ensures ready { IfOk result (λ workers.
         All (IsReady S.idle S.hand S.calls_on sites.now) workers.items) }
     ensures numbered { IfOk result (λ workers. AreNumbered workers.items) }

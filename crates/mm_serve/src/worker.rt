@@ -2,7 +2,8 @@
 ghost use Rattle.std.specs.Prelude.{◌≡◌, ℕ, ◌<◌, [], All, length, slice_get, Some};
 ghost use Rattle.lock_core.specs.Records.{row};
 ghost use Rattle.mm_serve.specs.Histories.{HasDoneOn};
-ghost use Rattle.mm_serve.specs.Workers.{EachOf, IsReady, HasServed, HaveServed, calls_to};
+ghost use Rattle.mm_serve.specs.Workers.{EachOf, HaveSeenNothing, IsReady, HasServed, HaveServed};
+ghost use Rattle.mm_serve.specs.Workers.{calls_to};
 
 use crate::shared_object::SharedObject;
 use cpu_task::{Crew, Gate};
@@ -23,8 +24,7 @@ pub struct Worker<P, Q> {
 
 /// Takes the task's number at each object.
 fn begin_all<S: SharedObject, W: Wait>(rt: &W, sites: &[S], passes: &mut Vec<S::Pass>, task: u32)
-    requires passes { EachOf (λ k s p. S.idle s p × ((S.hand p).seen ≡ []))
-        sites.now passes.old.items }
+    requires passes { HaveSeenNothing S.idle S.hand sites.now passes.old.items }
     requires there { (k : ℕ) (s : S) → slice_get sites.now k ≡ Some s →
         task < length (S.calls_on s) }
     ensures { EachOf (λ k s p. S.serving s p task × ((S.hand p).done ≡ 0))
