@@ -144,8 +144,8 @@ pub record MaySum {E : Type 0} (list : E → ListHand) (sem : E → SemHand) (v 
 abbrev pub IsReserved : SemHand → ℕ → Type 0
 IsReserved s word = (s.bias ≡ Reserve word) × (s.stage ≡ Overdue (word / 4 % 2 == 1))
 
-abbrev pub AreTasks : List ℕ → Type 0
-AreTasks batch = (i : ℕ) → i < length batch → slice_index batch i < 64
+abbrev pub AreTaskNumbers : List ℕ → Type 0
+AreTaskNumbers batch = (i : ℕ) → i < length batch → slice_index batch i < 64
 
 -- the batch is in the count, and none of it is granted
 pub record IsGranting (s : SemHand) (batch : List ℕ) : Type 0 where

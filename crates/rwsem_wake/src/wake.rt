@@ -7,7 +7,7 @@ ghost use Rattle.wait_list.specs.Lists.{Knows, hand_at, list_part};
 ghost use Rattle.rwsem_count.specs.Counts.{early_weight};
 ghost use Rattle.rwsem_wake.specs.declared.view.Stage.TheVariants.{Removing, Summing};
 ghost use Rattle.rwsem_wake.specs.SemParts.{some_of};
-ghost use Rattle.rwsem_wake.specs.Grants.{AreTasks, IsGranting, IsNext, IsRemoved, IsReserved, KeepsOut, KnowsFirst, OnlySem, all_granted, counted, sem_at, summing, unreserved};
+ghost use Rattle.rwsem_wake.specs.Grants.{AreTaskNumbers, IsGranting, IsNext, IsRemoved, IsReserved, KeepsOut, KnowsFirst, OnlySem, all_granted, counted, sem_at, summing, unreserved};
 
 use crate::host::GrantHost;
 use crate::steps;
@@ -106,7 +106,7 @@ pub fn grant_all<H: GrantHost>(site: &Site<H>, pass: &mut Pass<H>, batch: &[u32]
     requires numbered { IsSome (task_in pass.old) }
     requires held { SpinHolds (view_of pass.old).spin }
     requires granting { IsGranting (sem_at H.sem (view_of pass.old)) batch.now }
-    requires tasks { AreTasks batch.now }
+    requires tasks { AreTaskNumbers batch.now }
     ensures own { SitsAt site.now pass.new }
     ensures goes_on { KeepsPast pass.old pass.new }
     ensures last { IsLatest pass.new }
@@ -119,8 +119,8 @@ pub fn grant_all<H: GrantHost>(site: &Site<H>, pass: &mut Pass<H>, batch: &[u32]
     }
 }
 
-/// Grants a batch that is removed from the list, and not empty: its first waiter loses its mark, the
-/// count gets its biases, and only then its grant words are cleared.
+/// Grants a batch that is removed from the list, and not empty: its first waiter loses its mark,
+/// the count gets its biases, and only then its grant words are cleared.
 pub fn grant_removed<H: GrantHost>(
     site: &Site<H>,
     pass: &mut Pass<H>,
@@ -132,7 +132,7 @@ pub fn grant_removed<H: GrantHost>(
     requires numbered { IsSome (task_in pass.old) }
     requires held { SpinHolds (view_of pass.old).spin }
     requires removed { IsRemoved (sem_at H.sem (view_of pass.old)) batch.now }
-    requires tasks { AreTasks batch.now }
+    requires tasks { AreTaskNumbers batch.now }
     requires keeps { KeepsOut H.sem (view_of pass.old) }
     requires knows { Knows (list_part H.list (view_of pass.old)) }
     requires reserved { bit reserved ≡ early_weight (sem_at H.sem (view_of pass.old)).bias }
