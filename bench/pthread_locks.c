@@ -1,7 +1,8 @@
 /* Times pairs on the locks of the C library, as lock_bench does on the project's own.
-   The words are CASE THREADS ROUNDS, with the case spin or mutex. */
+   The words are CASE THREADS ROUNDS, with the case spin, mutex or work. */
 #define _GNU_SOURCE
 #include <pthread.h>
+#include <stdint.h>
 #include <stdio.h>
 #include <stdlib.h>
 #include <string.h>
@@ -27,13 +28,37 @@ static void *mutex_pairs(void *unused) {
     return unused;
 }
 
+static _Atomic uint64_t raised[4];
+
+static void *work_pairs(void *task) {
+    uint64_t number = (uintptr_t)task;
+    for (long i = 0; i < rounds; i++) {
+        pthread_mutex_lock(&mutex);
+        for (int word = 0; word < 4; word++) {
+            raised[word] = raised[word] + number;
+        }
+        pthread_mutex_unlock(&mutex);
+        for (int step = 0; step < 20; step++) {
+            number = number * 6364136223846793005u + 1442695040888963407u;
+        }
+    }
+    return NULL;
+}
+
+static void *(*pairs_of(const char *word))(void *) {
+    if (!strcmp(word, "work")) {
+        return work_pairs;
+    }
+    return strcmp(word, "mutex") ? spin_pairs : mutex_pairs;
+}
+
 int main(int count, char **words) {
     if (count != 4) {
         return 2;
     }
     int threads = atoi(words[2]);
     rounds = atol(words[3]);
-    void *(*pairs)(void *) = strcmp(words[1], "mutex") ? spin_pairs : mutex_pairs;
+    void *(*pairs)(void *) = pairs_of(words[1]);
     pthread_t made[64];
     struct timespec start, end;
     if (threads < 1 || threads > 64 || rounds < 1) {
@@ -42,7 +67,7 @@ int main(int count, char **words) {
     pthread_spin_init(&spin, PTHREAD_PROCESS_PRIVATE);
     clock_gettime(CLOCK_MONOTONIC, &start);
     for (int i = 0; i < threads; i++) {
-        pthread_create(&made[i], NULL, pairs, NULL);
+        pthread_create(&made[i], NULL, pairs, (void *)(uintptr_t)i);
     }
     for (int i = 0; i < threads; i++) {
         pthread_join(made[i], NULL);

@@ -11,7 +11,7 @@ mod spin;
 mod timed;
 
 use lock_core::{Bare, Site};
-use mutex::Crewed;
+use mutex::{Crewed, Guarding};
 use osq_nodes::Osq;
 use std::alloc::{AllocError, Global};
 use std::process::ExitCode;
@@ -30,6 +30,8 @@ enum Case {
     Front,
     /// The mutex, whose waiters sleep on parkers.
     Mutex,
+    /// The mutex, with four words raised inside and twenty dependent steps outside.
+    Work,
 }
 
 impl Case {
@@ -39,6 +41,7 @@ impl Case {
             Case::Spin => "spin",
             Case::Front => "front",
             Case::Mutex => "mutex",
+            Case::Work => "work",
         }
     }
 
@@ -48,6 +51,7 @@ impl Case {
             "spin" => Some(Case::Spin),
             "front" => Some(Case::Front),
             "mutex" => Some(Case::Mutex),
+            "work" => Some(Case::Work),
             _ => None,
         }
     }
@@ -67,6 +71,7 @@ fn pairs<R: Threads + Wait + Sync>(
         Case::Spin => timed::pairs::<Site<Bare>, R>(rt, alloc, threads, rounds),
         Case::Front => timed::pairs::<Osq, R>(rt, alloc, threads, rounds),
         Case::Mutex => timed::pairs::<Crewed, R>(rt, alloc, threads, rounds),
+        Case::Work => timed::pairs::<Guarding, R>(rt, alloc, threads, rounds),
     }
 }
 
@@ -87,14 +92,14 @@ fn run<R: Threads + Wait + Sync>(rt: &HostRuntime, crew: &R) -> io::Result<ExitC
         words.push(word)?;
     }
     if words.is_empty() {
-        for case in [Case::Spin, Case::Front, Case::Mutex] {
+        for case in [Case::Spin, Case::Front, Case::Mutex, Case::Work] {
             pairs(crew, rt.alloc(), case, 2, 100)?;
             println!(rt; "{} 2 100", case.name())?;
         }
         return Ok(ExitCode::SUCCESS);
     }
     let Some((case, threads, rounds)) = asked(words.as_slice()) else {
-        println!(rt; "usage: lock_bench [spin|front|mutex THREADS ROUNDS]")?;
+        println!(rt; "usage: lock_bench [spin|front|mutex|work THREADS ROUNDS]")?;
         return Ok(ExitCode::from(2));
     };
     if threads > MAX_TASKS {

@@ -1,4 +1,4 @@
-//! Pairs on the mutex.
+//! Pairs on the mutex, with nothing between them and with work inside and outside.
 ghost use Rattle.std.specs.Prelude.{length};
 ghost use Rattle.mutex_slow.specs.Handles.{IsIdle, plan_of};
 
@@ -9,6 +9,7 @@ use lock_core::Nothing;
 use mutex_slow::{Mutex, MutexPass};
 use std::alloc::{AllocError, Global};
 use std::sync::Wait;
+use std::sync::atomic::{AtomicU64, Ordering};
 
 /// How long a task spins before it sleeps, and waits before it is owed the mutex.
 const TURNS: Turns = Turns {
@@ -68,5 +69,80 @@ impl Timed for Crewed {
             self.mutex.unlock(rt, &mut worker.pass, &self.crew);
         }
         self.mutex.end(&mut worker.pass);
+    }
+}
+
+/// How many steps a thread makes between two pairs, each of which needs the result of the one
+/// before.
+const STEPS: u32 = 20;
+
+/// A mutex, and words that its threads raise while they hold it.
+#[derive(Drop)]
+pub struct Guarding {
+    crewed: Crewed,
+    words: [AtomicU64; 4],
+}
+
+impl Guarding {
+    /// Raises each word, by a load and a store.
+    fn raise(&self, by: u64) {
+        for word in &self.words {
+            let raised = word.load(Ordering::SeqCst).wrapping_add(by);
+            word.store(raised, Ordering::SeqCst);
+        }
+    }
+}
+
+/// What so many steps of a generator of numbers make of this one.
+fn stepped(mut number: u64) -> u64 {
+    for _ in 0..STEPS {
+        number = number
+            .wrapping_mul(6_364_136_223_846_793_005)
+            .wrapping_add(1_442_695_040_888_963_407);
+    }
+    number
+}
+
+impl Timed for Guarding {
+    type Worker = Worker;
+
+    ghost idle = { λ guarding worker. IsIdle guarding.crewed.mutex worker.pass };
+
+    // No count of a mutex's pass rises by each take.
+    ghost took = { λ n v u. Unit {0} };
+
+    ghost tasks = { λ guarding. length (plan_of guarding.crewed.mutex) };
+
+    fn start(alloc: Global, threads: u32) -> Result<(Guarding, Worker), AllocError> {
+        let (crewed, worker) = Crewed::start(alloc, threads)?;
+        let words = [
+            AtomicU64::new(0),
+            AtomicU64::new(0),
+            AtomicU64::new(0),
+            AtomicU64::new(0),
+        ];
+        Ok((Guarding { crewed, words }, worker))
+    }
+
+    fn another(
+        &mut self,
+        alloc: Global,
+        first: &mut Worker,
+        task: u32,
+    ) -> Result<Worker, AllocError> {
+        self.crewed.another(alloc, first, task)
+    }
+
+    fn rounds<W: Wait>(&self, rt: &W, worker: &mut Worker, task: u32, count: u32) {
+        let Crewed { mutex, crew } = &self.crewed;
+        let mut number = u64::from(task);
+        mutex.begin(rt, &mut worker.pass, task);
+        for _ in 0..count {
+            mutex.lock(rt, &mut worker.pass, &mut worker.cpu, crew);
+            self.raise(number);
+            mutex.unlock(rt, &mut worker.pass, crew);
+            number = stepped(number);
+        }
+        mutex.end(&mut worker.pass);
     }
 }
