@@ -1,4 +1,4 @@
-use Rattle.std.proofs.Common.{◌≡◌, ◌∙◌, ◌/◌, ◌%◌, ◌==◌, sym, ap, subst}
+use Rattle.std.proofs.Common.{◌/◌, ◌%◌, ◌==◌, sym, ap, subst}
 use Rattle.rwsem_count.specs.declared.view.Bias.{Bias}
 use Rattle.rwsem_wake.specs.declared.view.SemHand.{SemHand}
 use Rattle.rwsem_wake.specs.declared.view.Stage.TheVariants.{Marked}

@@ -1,4 +1,4 @@
-use Rattle.std.proofs.Common.{◌≡◌, ◌∙◌, ℕ, ◌+◌, ◌<◌, List, ◌∷◌, [], length, drop, get_or, sym, refl, ap, subst, arith, IsSome}
+use Rattle.std.proofs.Common.{◌∙◌, ℕ, ◌+◌, List, drop, sym, refl, ap, subst, IsSome}
 use Rattle.std.proofs.lemmas.List.{drop_more}
 use Rattle.lock_core.specs.declared.view.View.{View}
 use Rattle.lock_core.specs.declared.pass.Face.{Face}
