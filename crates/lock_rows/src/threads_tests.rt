@@ -19,10 +19,10 @@ use word_bits::{Entry, Object, Rec, Snapshot};
 
 /// How many times each of four tasks opens a file, closes the descriptor of the task's own number,
 /// and asks for the first one.
-const ROUNDS: u32 = 10_000;
+const ROUNDS: u32 = 4_000;
 
 /// A task's calls.
-const CALLS: usize = 30_000;
+const CALLS: usize = 12_000;
 
 const PATIENCE: Turns = Turns {
     spin: 100,
@@ -142,10 +142,10 @@ fn four_at_once<R: Threads + Wait + Sync>(
 /// The calls of a task.
 fn push_rounds(plan: &mut Plan, task: u32) -> Result<(), AllocError>
     requires there { task < length plan.old }
-    requires room { calls_in plan.old + 30000 ≤ 131072 }
+    requires room { calls_in plan.old + 12000 ≤ 131072 }
     requires calls { IsPlan table plan.old }
     ensures tasks { IfOk result (λ _. length plan.new ≡ length plan.old) }
-    ensures count { IfOk result (λ _. calls_in plan.new ≡ calls_in plan.old + 30000) }
+    ensures count { IfOk result (λ _. calls_in plan.new ≡ calls_in plan.old + 12000) }
     ensures calls { IfOk result (λ _. IsPlan table plan.new) }
 {
     push_calls::<Fds>(plan, task, ROUNDS, open_file(7))?;
