@@ -1,14 +1,13 @@
 -- One object after another is copied; then all of them are legal.
-use Rattle.std.proofs.Common.{◌≡◌, ℕ, zero, suc, ◌+◌, ◌<◌, Bool, true, false, List, [], ◌∷◌, length, get_or, set, slice_get, Some, sym, refl, ap, ◌∙◌, subst, arith, add-zero, zero-add}
+use Rattle.std.proofs.Common.{◌≡◌, ℕ, zero, suc, ◌+◌, ◌<◌, Bool, List, [], ◌∷◌, length, get_or, set, slice_get, Some, sym, refl, ap, ◌∙◌, subst, arith, add-zero, zero-add}
 use Rattle.std.proofs.lemmas.List.{get_or-set_same, get_or-set_other}
 use Rattle.word_bits.specs.Snapshots.{Words}
-use Rattle.word_bits.specs.Legal.{Tells}
 use Rattle.word_bits.specs.Histories.{Plan}
 use Rattle.guarded.specs.Copying.{AreKnown}
 use Rattle.lock_core.specs.declared.view.Hand.{Hand}
 use Rattle.lock_core.proofs.RowLaws.{none-some, same-some, get-there, some-inside}
 use Rattle.task_script.specs.Scripts.{Declared, Listing, plan_of}
-use Rattle.mm_report.specs.Results.{Told, AreLegalFrom, AreCompleteFrom, IsLegalOn, calls_on}
+use Rattle.mm_report.specs.Results.{Told, AreLegalFrom, AreCompleteFrom}
 use Rattle.mm_serve.specs.Histories.{IsKnownHistoryOn}
 use Rattle.mm_serve.specs.Workers.{EachOf}
 use Rattle.mm_serve.specs.Copying.{IsCopied, IsToCopy, blank}

@@ -1,5 +1,5 @@
 -- Plans that are filled line by line.
-use Rattle.std.proofs.Common.{◌≡◌, ◌≢◌, ℕ, zero, suc, ◌+◌, ◌-◌, ◌<◌, ◌≤◌, Bool, true, false, cond, List, [], ◌∷◌, ◌++◌, length, map, take, get_or, set, slice_get, Some, refl, sym, ap, ◌∙◌, subst, arith, append-nil, length-append}
+use Rattle.std.proofs.Common.{◌≡◌, ◌≢◌, ℕ, zero, suc, ◌+◌, ◌-◌, ◌<◌, ◌≤◌, Bool, true, false, cond, List, [], ◌∷◌, ◌++◌, length, map, take, get_or, set, slice_get, Some, refl, sym, ap, ◌∙◌, subst, arith, append-nil}
 use Rattle.std.specs.Prelude.{filter, fold, max, replicate, slice_index_or}
 use Rattle.std.proofs.lemmas.List.{length-map, get_or-set_same, get_or-set_other, get_or_default}
 use Rattle.std.proofs.lemmas.List.Sums.{fold_more}
@@ -10,7 +10,7 @@ use Rattle.word_bits.specs.declared.call.CallWords.{CallWords}
 use Rattle.word_bits.specs.Histories.{Plan}
 use Rattle.lock_core.specs.Plans.{appended, calls_in}
 use Rattle.lock_core.specs.Records.{row}
-use Rattle.lock_core.proofs.RowLaws.{none-some, same-some, row-appended, row-beside, row-outside, length-appended, calls_in-appended}
+use Rattle.lock_core.proofs.RowLaws.{none-some, same-some, row-appended, row-beside, length-appended, calls_in-appended}
 use Rattle.task_script.specs.declared.script.Line.{Line}
 use Rattle.task_script.specs.Scripts.{Listing, call_words, is_on, plan_of}
 use Rattle.mm_serve.specs.Machines.{staffed}

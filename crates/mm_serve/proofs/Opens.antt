@@ -1,17 +1,16 @@
 -- Objects and passes that are opened one after the other.
-use Rattle.std.proofs.Common.{cond, ◌≡◌, ℕ, zero, suc, ◌+◌, ◌<◌, ◌≤◌, Bool, List, [], ◌∷◌, ◌++◌, length, map, get_or, slice_get, Some, refl, sym, ap, ◌∙◌, subst, arith, length-append, add-zero, zero-add}
-use Rattle.std.specs.Prelude.{◌==◌, ◌⊎◌, All, count_by, filter, max, slice_index_or}
+use Rattle.std.proofs.Common.{cond, ◌≡◌, ℕ, zero, suc, ◌+◌, ◌<◌, Bool, List, [], ◌∷◌, ◌++◌, length, map, get_or, slice_get, Some, refl, sym, ap, ◌∙◌, subst, arith, length-append, add-zero, zero-add}
+use Rattle.std.specs.Prelude.{◌==◌, All, count_by, slice_index_or}
 use Rattle.std.proofs.lemmas.List.{length-map, get_or_default}
 use Rattle.std.proofs.lemmas.List.Sums.{length-filter, sum_by-cons}
 use Rattle.word_bits.specs.Histories.{Plan}
-use Rattle.lock_core.specs.declared.view.Hand.{Hand}
 use Rattle.lock_core.specs.Records.{row}
 use Rattle.lock_core.specs.Plans.{calls_in}
 use Rattle.lock_core.proofs.RowLaws.{none-some, same-some, get-there, some-inside}
 use Rattle.word_bits.specs.Snapshots.{Words, no_words}
 use Rattle.mm_report.specs.Results.{calls_on, empty_from, empty_results, words_of_kind}
 use Rattle.task_script.specs.declared.script.Line.{Line}
-use Rattle.task_script.specs.Scripts.{Declared, Listing, call_words, is_on, kinds_of, plan_of}
+use Rattle.task_script.specs.Scripts.{Declared, Listing, is_on, kinds_of, plan_of}
 use Rattle.mm_serve.specs.declared.worker.Worker.{Worker}
 use Rattle.mm_serve.specs.Copying.{AreBlank}
 use Rattle.std.proofs.Math.Seq.{get_or-append_seam}

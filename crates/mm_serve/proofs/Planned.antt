@@ -1,5 +1,5 @@
 -- The lines of a script are calls of their objects, or signals.
-use Rattle.std.proofs.Common.{◌≡◌, ℕ, zero, suc, ◌*◌, ◌+◌, ◌%◌, ◌^◌, ◌<◌, Bool, true, false, List, [], ◌∷◌, cond, map, refl, sym, ap, subst, ◌∙◌, arith, is_some, Some, inl, inr}
+use Rattle.std.proofs.Common.{◌≡◌, ℕ, zero, suc, ◌<◌, Bool, true, false, List, [], ◌∷◌, cond, map, refl, sym, ap, subst, ◌∙◌, arith, is_some, Some, inl, inr}
 use Rattle.std.specs.Prelude.{◌⊎◌, filter, slice_get}
 use Rattle.std.specs.List.{AllByRecursion}
 use Rattle.std.proofs.lemmas.Bool.Decides.{nat_tests}
@@ -15,7 +15,7 @@ use Rattle.fd_table.specs.declared.call.TableCall.{TableCall}
 use Rattle.fd_table.specs.declared.call.TableCall.TheVariants.{Open, Close, Dup, Dup2, Get}
 use Rattle.fd_table.specs.Tables.{table, IsCall as IsTableCall, IsCallOf as IsTableCallOf, words_of_call as table_words_of}
 use Rattle.fd_table.specs.CallLaws.{call_of-complete as table_call_of}
-use Rattle.lock_core.specs.Records.{row, IsCallOrSignal, IsPlan}
+use Rattle.lock_core.specs.Records.{row, IsCallOrSignal}
 use Rattle.lock_core.proofs.RowLaws.{none-some, same-some}
 use Rattle.task_script.specs.declared.script.Line.{Line}
 use Rattle.task_script.specs.Scripts.{Declared, Listing, call_words, is_on, plan_of}

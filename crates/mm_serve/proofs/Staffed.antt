@@ -1,5 +1,5 @@
 -- A history of a plan that has one task more than the script, where the script has none.
-use Rattle.std.proofs.Common.{◌≡◌, ℕ, zero, suc, ◌+◌, Bool, true, false, List, [], ◌∷◌, ◌++◌, length, map, slice_get, Option, Some, None, refl, sym, ap, ◌∙◌, arith, length-append}
+use Rattle.std.proofs.Common.{◌≡◌, ℕ, zero, suc, ◌+◌, Bool, true, false, List, [], ◌∷◌, length, map, slice_get, Option, None, refl, ap, ◌∙◌, arith, length-append}
 use Rattle.std.specs.Prelude.{◌&&◌, count_by, filter, flat_map, fold, sum_by}
 use Rattle.std.specs.Option.{option_and_then}
 use Rattle.std.proofs.lemmas.List.{length-map}
@@ -12,8 +12,8 @@ use Rattle.word_bits.specs.Objects.{Obj}
 use Rattle.word_bits.specs.RecWord.{rec_word}
 use Rattle.word_bits.specs.Snapshots.{Words}
 use Rattle.word_bits.specs.EntryWord.{entry_eq}
-use Rattle.word_bits.specs.Histories.{Plan, Records, at_entry, event_logs, events_from, next_state, state_after, logs}
-use Rattle.word_bits.specs.Legal.{AreTaskRecords, AreRecords, IsLegal, Tells, seen_after}
+use Rattle.word_bits.specs.Histories.{Plan, Records, at_entry, event_logs, events_from, next_state, logs}
+use Rattle.word_bits.specs.Legal.{AreTaskRecords, AreRecords, Tells, seen_after}
 use Rattle.vma_map.specs.Spaces.{space}
 use Rattle.fd_table.specs.Tables.{table}
 use Rattle.guarded.specs.Copying.{AreKnown, IsKnownHistory}

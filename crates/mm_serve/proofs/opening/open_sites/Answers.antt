@@ -1,7 +1,6 @@
 use Rattle.std.proofs.Common.{◌≡◌, ◌∙◌, ◌+◌, ◌++◌, ◌∷◌, ℕ, [], List, ap, arith, length, length-append, rules, subst, sym}
 use Rattle.std.specs.Prelude.{slice_get}
 use Rattle.task_script.specs.Scripts.{kinds_of}
-use Rattle.word_bits.specs.Histories.{Plan}
 use Rattle.mm_serve.specs.Workers.{EachOf}
 use Rattle.mm_serve.proofs.Opens.{OpenedTo, all-opened, each-more, next-plan, one-less, opened-more, plan-for}
 use Rattle.mm_serve.proofs.opening.open_sites.Goals as goal

@@ -1,4 +1,4 @@
-use Rattle.std.proofs.Common.{◌≡◌, ◌∙◌, ◌+◌, ◌∷◌, [], All, List, ap, arith, length, length-append, subst, sym, map}
+use Rattle.std.proofs.Common.{◌∙◌, ◌∷◌, [], All, List, ap, arith, length, length-append, subst, sym, map}
 use Rattle.word_bits.specs.Histories.{Plan}
 use Rattle.mm_serve.specs.declared.worker.Worker.{Worker}
 use Rattle.mm_serve.specs.Workers.{AreNumbered, IsReady}

@@ -1,4 +1,4 @@
-use Rattle.std.proofs.Common.{◌≡◌, ◌∙◌, [], ap, arith, length}
+use Rattle.std.proofs.Common.{arith, length}
 use Rattle.std.specs.Prelude.{max, slice_index_or}
 use Rattle.mm_serve.proofs.Filling.{all-planned, none-planned, planned-more, room-at-first}
 use Rattle.mm_serve.proofs.planning.plans_of.Goals as goal
