@@ -1,5 +1,5 @@
 -- What a machine is before and after it has run.
-use Rattle.std.specs.Prelude.{◌≡◌, ℕ, ◌<◌, Bool, List, [], ◌∷◌, All, length, slice_get, slice_index_or, Some}
+use Rattle.std.specs.Prelude.{◌≡◌, ◌≢◌, ℕ, ◌<◌, Bool, List, [], ◌∷◌, All, length, slice_get, slice_index_or, Some}
 use Rattle.word_bits.specs.Histories.{Plan}
 use Rattle.word_bits.specs.Snapshots.{Words}
 use Rattle.guarded.specs.Copying.{AreKnown}
@@ -43,7 +43,7 @@ module _ {S C P U : Type 0} where
   IsMachineOf is_space calls_on script m = AreSitesOf is_space calls_on script (sites_of m)
 
   module _ (idle : S → P → Type 0) (hand : P → Hand) (is_space : S → Bool) (calls_on : S → Plan) where
-    -- No task has begun: each has its calls and a pass of each object, and the results are blank.
+    -- No pass of the machine has a number or has seen an entry: there is a worker for each task of the plans, one at least, with its calls and with a pass of each object, and the results are blank.
     pub record IsFresh (m : Machine S C P U) : Type 0 where
       pub gathered : EachOf (λ k s p. idle s p) (sites_of m) (gathered_of m)
       pub ready : All (IsReady idle hand calls_on (sites_of m)) m.workers.items
@@ -69,9 +69,9 @@ module _ {S C P U : Type 0} where
   abbrev pub IsAtRest : (S → P → Type 0) → Machine S C P U → Type 0
   IsAtRest idle m = EachOf (λ k s p. idle s p) (sites_of m) (gathered_of m)
 
-  -- The pass of one object knows the past of the object's table; all else is as before.
+  -- The pass of one object knows the past of the object's table, and has the hand that it had; all else is as before.
   pub record HasRecalled (hand : P → Hand) (knows_past : S → P → Type 0) (object : ℕ) (old new : Machine S C P U) : Type 0 where
-    pub sites : sites_of new ≡ sites_of old
-    pub results : results_of new ≡ results_of old
+    pub rest : new ≡ record old { gathered = new.gathered }
+    pub others : (k : ℕ) → k ≢ object → slice_get (gathered_of new) k ≡ slice_get (gathered_of old) k
     pub hands : (k : ℕ) (p : P) → hand (slice_index_or (gathered_of new) k p) ≡ hand (slice_index_or (gathered_of old) k p)
     pub past : (s : S) (p : P) → slice_get (sites_of new) object ≡ Some s → slice_get (gathered_of new) object ≡ Some p → knows_past s p

@@ -1,5 +1,5 @@
 //! The copies of all objects' histories.
-ghost use Rattle.std.specs.Prelude.{◌≡◌, ℕ, ◌<◌, length, slice_get, slice_index_or, Some};
+ghost use Rattle.std.specs.Prelude.{◌≡◌, ◌≢◌, ℕ, ◌<◌, length, slice_get, slice_index_or, Some};
 ghost use Rattle.mm_serve.specs.Copying.{IsCopied, IsToCopy};
 ghost use Rattle.mm_serve.specs.Workers.{EachOf};
 
@@ -42,6 +42,8 @@ pub(crate) fn recall<S: SharedObject>(sites: &[S], gathered: &mut Vec<S::Pass>, 
     requires rest { EachOf (λ k s p. S.idle s p) sites.now gathered.old.items }
     requires there { object < length sites.now }
     ensures rest { EachOf (λ k s p. S.idle s p) sites.now gathered.new.items }
+    ensures others { (k : ℕ) → k ≢ object →
+        slice_get gathered.new.items k ≡ slice_get gathered.old.items k }
     ensures hands { (k : ℕ) (p : S.Pass) → S.hand (slice_index_or gathered.new.items k p) ≡
         S.hand (slice_index_or gathered.old.items k p) }
     ensures past { (s : S) (p : S.Pass) → slice_get sites.now object ≡ Some s →
