@@ -23,7 +23,7 @@ pub struct Machine<S: SharedObject, C: Crew> {
     pub(crate) sites: Vec<S>,
     /// A pass of each object, which takes in those of all tasks.
     pub(crate) gathered: Vec<S::Pass>,
-    /// The tasks that haven't begun.
+    /// The tasks that are still to run.
     pub(crate) workers: Vec<Worker<C::C, S::Pass>>,
     /// On it the histories are copied.
     pub(crate) cpu: C::C,
@@ -36,7 +36,7 @@ impl<S: SharedObject, C: Crew> Machine<S, C> {
     ghost use Rattle.mm_serve.specs.Machines.{HasRecalled, IsAtRest, results_of, sites_of};
 
     /// Looks at an object's table, after which the object's gathered pass knows its past: what was
-    /// so of the table at each moment, from the new table on.
+    /// so of the table at each moment, from the one on that its lock names as opened.
     pub fn recall(&mut self, object: usize)
         requires rest { IsAtRest S.idle self.old }
         requires there { object < length (sites_of self.old) }
@@ -59,7 +59,8 @@ impl<S: SharedObject, C: Crew> Machine<S, C> {
 impl<S: SharedObject + Drop, C: Crew> Machine<S, C> {
     ghost use Rattle.mm_serve.specs.Machines.{IsFresh, IsMachineOf};
 
-    /// All objects, passes, CPUs and buffers of a script. No task has begun, and none takes memory.
+    /// All objects, passes, CPUs and buffers of a script. No pass has a task's number, and the run
+    /// takes no memory.
     ///
     /// A script with more calls than one plan has room for, 131,072, is refused as memory is. No
     /// text of at most 1,048,576 bytes has more.
@@ -96,7 +97,8 @@ where
     S::Pass: Send,
     C::C: Send,
 {
-    ghost use Rattle.mm_serve.specs.Machines.{IsFresh, HasRun, HasLegalResults, IsMachineOf};
+    ghost use Rattle.mm_serve.specs.Machines.{IsFresh, HasRun, HasLegalResults};
+    ghost use Rattle.mm_serve.specs.Machines.{IsAtRest, IsMachineOf};
 
     /// Does all tasks at once, each on a thread of its own, and takes a snapshot of each object
     /// when all are done. The results are legal histories of the machine's script.
@@ -105,6 +107,7 @@ where
         ensures ran { HasRun S.idle S.hand S.is_space S.calls_on self.old self.new }
         ensures legal { (script : Listing) → IsMachineOf S.is_space S.calls_on script self.old →
             HasLegalResults S.hand script self.new }
+        ensures rest { IsAtRest S.idle self.new }
     {
         let none = Vec::new(*self.workers.allocator());
         let workers = mem::replace(&mut self.workers, none);

@@ -2,6 +2,7 @@ use Rattle.std.proofs.Common.{refl, ap, length, ◌∙◌, subst, List}
 use Rattle.mm_serve.specs.Copying.{IsCopied}
 use Rattle.mm_serve.specs.Workers.{EachOf}
 use Rattle.mm_serve.proofs.Copies.{all-legal, all-complete}
+use Rattle.mm_serve.proofs.Each.{each-map}
 use Rattle.mm_serve.proofs.machine.Machine.run.Goals as goal
 
 pub returns-clause-ran : goal.returns-clause-ran
@@ -21,3 +22,8 @@ returns-clause-legal g c = λ script is.
       legal = legal.1;
       known = legal.2;
     }
+
+pub returns-clause-rest : goal.returns-clause-rest
+returns-clause-rest g c =
+    each-map (IsCopied g.S.SharedObject.idle g.S.SharedObject.hand g.S.SharedObject.is_space g.S.SharedObject.calls_on c.run.new.results) (λ k s p. g.S.SharedObject.idle s p) c.args.self.now.sites.items c.run.new.gathered.items (returns-clause-ran g c).copied
+    (λ k s p lt at r. r.0)
