@@ -43,7 +43,7 @@ module _ {S C P U : Type 0} where
   IsMachineOf is_space calls_on script m = AreSitesOf is_space calls_on script (sites_of m)
 
   module _ (idle : S → P → Type 0) (hand : P → Hand) (is_space : S → Bool) (calls_on : S → Plan) where
-    -- No pass of the machine has a number or has seen an entry: there is a worker for each task of the plans, one at least, with its calls and with a pass of each object, and the results are blank.
+    -- No pass of the machine has a number or has seen an entry: there is a worker for each task of the plans, one at least, with the task's calls counted by object and with a pass of each object, and the results are blank.
     pub record IsFresh (m : Machine S C P U) : Type 0 where
       pub gathered : EachOf (λ k s p. idle s p) (sites_of m) (gathered_of m)
       pub ready : All (IsReady idle hand calls_on (sites_of m)) m.workers.items

@@ -8,7 +8,7 @@ use Rattle.lock_core.specs.Locked.{IsLockedThen, IsSiteStep}
 use Rattle.lock_core.specs.Pasts.{EachMoment, Paced, Tail}
 use Rattle.lock_core.specs.Shown.{Shown, IsLatestStep}
 
--- At each moment so far, from the new table on, the facts of every site were so, and the lock's word stated who held and whether tasks waited; each step did to the site's words what every step does.
+-- At each moment so far, from the one on that the lock names as opened, the facts of every site were so, and the lock's word stated who held and whether there were tasks that the lock names as waiting; each step did to the site's words what every step does.
 pub record KnowsPast {Call : Type 0} (o : Obj Call) (kind : Kind) (size : ℕ) (word_at : ℕ) (waits : Plan → Moment → List ℕ → Type 0) (opened : Plan → Moment) (k : Plan) (u : Shown) : Type 0 where
   pub last : IsLatestStep u
   pub begins : Tail (opened k ∷ []) u.past

@@ -13,7 +13,7 @@ use Rattle.mm_serve.specs.Histories.{HasDoneOn, AllHaveDone}
 abbrev pub EachOf : {S P : Type 0} → (ℕ → S → P → Type 0) → List S → List P → Type 0
 EachOf {S} {P} R sites passes = (length passes ≡ length sites) × ((k : ℕ) (s : S) (p : P) → k < length sites → R k (slice_index_or sites k s) (slice_index_or passes k p))
 
--- each of the passes is idle, and has seen nothing
+-- each of the passes is idle, and has seen no entry
 abbrev pub HaveSeenNothing : {S P : Type 0} → (S → P → Type 0) → (P → Hand) → List S → List P → Type 0
 HaveSeenNothing idle hand sites passes = EachOf (λ k s p. idle s p × ((hand p).seen ≡ [])) sites passes
 
@@ -26,7 +26,7 @@ abbrev pub KnowsMore : Hand → Hand → Type 0
 KnowsMore old new = (e : Entry) (r : Rec) → Knows old e r → Knows new e r
 
 module _ {P Q S : Type 0} (idle : S → Q → Type 0) (hand : Q → Hand) (calls_on : S → Plan) (sites : List S) where
-  -- its task is one of each object's plan, its calls are those that the plans have of the task, and its passes have seen nothing
+  -- its task is one of each object's plan, it has as many calls on each object as the plan has of the task, and its passes are idle and have seen no entry
   pub record IsReady (w : Worker P Q) : Type 0 where
     pub task : (k : ℕ) (s : S) → slice_get sites k ≡ Some s → w.task < length (calls_on s)
     pub objects : All (λ object. object < length sites) w.objects.items

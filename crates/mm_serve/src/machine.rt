@@ -102,6 +102,9 @@ where
 
     /// Does all tasks at once, each on a thread of its own, and takes a snapshot of each object
     /// when all are done. The results are legal histories of the machine's script.
+    ///
+    /// Where a thread can't be made, its task is done by another task's thread after that one's
+    /// own, so tasks that wait for each other can then wait for good.
     pub fn run<R: Threads + Wait + Sync, G: Gate + Sync>(&mut self, rt: &R, crew: &C, gate: &G)
         requires { IsFresh S.idle S.hand S.is_space S.calls_on self.old }
         ensures ran { HasRun S.idle S.hand S.is_space S.calls_on self.old self.new }

@@ -45,7 +45,7 @@ fn empty_plans(alloc: Global, script: &Script) -> Result<Vec<Plan>, AllocError>
     Ok(plans)
 }
 
-/// The calls on each object, task by task. More than a plan has room for are no script's, and are
+/// The calls on each object, task by task. More than a plan has room for are no text's, and are
 /// refused as memory is.
 pub(crate) fn plans_of(alloc: Global, script: &Script) -> Result<Vec<Plan>, AllocError>
     ensures { IfOk result (λ plans. ArePlansOf script.now plans.items) }

@@ -49,7 +49,7 @@ pub trait SharedObject: Sized {
         ensures kind { IfOk result (λ t. is_space t.0 ≡ space) }
         ensures plan { IfOk result (λ t. calls_on t.0 ≡ plan) };
 
-    /// A pass that knows nothing.
+    /// A pass that has seen no entry.
     fn split(&self, pass: &mut Self::Pass) -> Self::Pass
         requires own { idle self.now pass.old }
         requires unseen { (hand pass.old).seen ≡ [] }

@@ -97,7 +97,8 @@ pub(crate) fn serve<S: SharedObject, W: Wait, C: Crew, G: Gate>(
     end_all(sites, &mut worker.passes, worker.task);
 }
 
-/// Does all tasks at once, each on a thread of its own.
+/// Does all tasks at once, each on a thread of its own where one can be made, and else after
+/// another task on that one's thread.
 pub(crate) fn serve_all<
     S: SharedObject + Sync,
     R: Threads + Wait + Sync,
