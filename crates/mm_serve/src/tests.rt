@@ -3,7 +3,7 @@ ghost use Rattle.std.specs.Prelude.{◌≡◌, true};
 
 use super::*;
 use crate::one_lock;
-use cpu_task::{Crew, Gate, OpenGate, ParkCrew, Turns};
+use cpu_task::{Crew, Gate, OpenGate, ParkCpu, ParkCrew, Turns};
 use fd_table::Fds;
 use guarded::{Guarded, Mutex};
 use lock_core::Plan;
@@ -108,7 +108,7 @@ impl<T: TableLock> SharedObject for Tables<Guarded<T, Fds>> {
     }
 }
 
-/// Keeps the holder of each of the objects 0 and 1 inside until the other one has a holder too.
+/// Keeps the tasks 0 and 1 inside the objects of their numbers until both are there.
 #[derive(Default, Drop)]
 struct BothInside {
     came: AtomicU32,
@@ -116,14 +116,52 @@ struct BothInside {
 }
 
 impl Gate for BothInside {
-    fn inside<R: Wait>(&self, _rt: &R, object: u32, _task: u32, _shared: bool) {
-        let _ = self.came.fetch_or(1 << (object % 2), Ordering::SeqCst);
+    fn inside<R: Wait>(&self, _rt: &R, object: u32, task: u32, _shared: bool) {
+        if object > 1 || object != task {
+            return;
+        }
+        let _ = self.came.fetch_or(1 << object, Ordering::SeqCst);
         for _ in 0..100_000_000 {
             if self.came.load(Ordering::SeqCst) == 3 {
-                let _ = self.met.fetch_or(1 << (object % 2), Ordering::SeqCst);
+                let _ = self.met.fetch_or(1 << object, Ordering::SeqCst);
                 return;
             }
         }
+    }
+}
+
+/// Notes the objects that a single task is inside of, one decimal digit each, the last one last.
+#[derive(Default, Drop)]
+struct Route {
+    taken: AtomicU32,
+}
+
+impl Gate for Route {
+    fn inside<R: Wait>(&self, _rt: &R, object: u32, _task: u32, _shared: bool) {
+        let taken = self.taken.load(Ordering::SeqCst) % 1_000_000;
+        self.taken.store(taken * 10 + object % 10, Ordering::SeqCst);
+    }
+}
+
+/// Notes for which task each CPU is made, and with which turns.
+#[derive(Drop)]
+struct NotingCrew {
+    crew: ParkCrew,
+    tasks: Vec<u32>,
+    turns: Vec<Turns>,
+}
+
+impl Crew for NotingCrew {
+    type C = ParkCpu;
+
+    fn cpu(&mut self, alloc: Global, task: u32, turns: Turns) -> Result<ParkCpu, AllocError> {
+        self.tasks.push(task)?;
+        self.turns.push(turns)?;
+        self.crew.cpu(alloc, task, turns)
+    }
+
+    fn wake(&self, task: u32) {
+        self.crew.wake(task);
     }
 }
 
@@ -182,6 +220,35 @@ fn tasks_are_inside_two_tables_at_once(rt: HostRuntime) -> Result<(), Fail> {
     Ok(())
 }
 
+#[test]
+fn one_task_goes_from_table_to_table_in_its_order(rt: HostRuntime) -> Result<(), Fail> {
+    let alloc = rt.alloc();
+    let text = b"table f\ntable g\ntable h\ntask\ng open 7\nh open 8\nh get 0\nf open 9\ng get 0\n";
+    let gate = Route::default();
+    let mut sink = MemSink::new(alloc, 10_000, 100, &[])?;
+    serve(&rt, alloc, text, true, &gate, &mut sink)?;
+    assert_eq!(rt; gate.taken.load(Ordering::SeqCst), 12_201);
+    Ok(())
+}
+
+// The histories are copied as task 0, on a CPU of its own, which is made first.
+#[test]
+fn each_task_has_a_cpu_of_its_number(rt: HostRuntime) -> Result<(), Fail> {
+    let alloc = rt.alloc();
+    let script = read(alloc, b"table f\ntask\ntask\nf open 7\ntask\n")?;
+    let mut crew = NotingCrew {
+        crew: ParkCrew::new(alloc, 64)?,
+        tasks: Vec::new(alloc),
+        turns: Vec::new(alloc),
+    };
+    let _ = Machine::<Tables<Guarded<Mutex<Fds>, Fds>>, NotingCrew>::open(
+        alloc, &script, &mut crew, TURNS,
+    )?;
+    assert_eq!(rt; crew.tasks.as_slice(), [0, 0, 1, 2].as_slice());
+    assert_eq!(rt; crew.turns.as_slice(), [TURNS; 4].as_slice());
+    Ok(())
+}
+
 // Whichever task is first, its call stands first and has the lower number.
 #[test]
 fn two_tasks_leave_one_of_two_texts(rt: HostRuntime) -> Result<(), Fail> {
@@ -206,6 +273,22 @@ fn sixteen_tasks_fill_a_table(rt: HostRuntime) -> Result<(), Fail> {
     let mut sink = MemSink::new(alloc, 10_000, 100, &[])?;
     serve(&rt, alloc, text.as_slice(), true, &OpenGate, &mut sink)?;
     let expected = b"f: 80 calls, 64 logged, 16 refused, 64 left\n";
+    assert_eq!(rt; sink.written(), expected.as_slice());
+    Ok(())
+}
+
+// The most calls that a text has room for beside a table and a task.
+#[test]
+fn one_task_makes_the_most_calls_of_a_text(rt: HostRuntime) -> Result<(), Fail> {
+    let alloc = rt.alloc();
+    let mut text = Vec::new(alloc);
+    text.extend_from_slice(b"table f\ntask\n")?;
+    for _ in 0..131_070 {
+        text.extend_from_slice(b"f get 0\n")?;
+    }
+    let mut sink = MemSink::new(alloc, 10_000, 100, &[])?;
+    serve(&rt, alloc, text.as_slice(), true, &OpenGate, &mut sink)?;
+    let expected = b"f: 131070 calls, 0 logged, 131070 refused, 0 left\n";
     assert_eq!(rt; sink.written(), expected.as_slice());
     Ok(())
 }
