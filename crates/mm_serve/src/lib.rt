@@ -2,7 +2,8 @@
 //! histories that they leave.
 //!
 //! The machine meets an object through one trait (`SharedObject`), which a space and a table under
-//! any lock keep (`Site`). So the loops over objects, tasks and passes see neither kinds nor locks.
+//! any lock keep (`SpaceOrTable`). So the loops over objects, tasks and passes see neither kinds
+//! nor locks.
 #![tactic(auto)]
 
 mod copying;
@@ -14,13 +15,13 @@ mod opening;
 mod planning;
 mod running;
 mod shared_object;
-mod site;
+mod space_or_table;
 mod worker;
 
 pub use locks::{SpaceLock, TableLock};
 pub use machine::Machine;
 pub use shared_object::SharedObject;
-pub use site::{Site, SitePass};
+pub use space_or_table::{SpaceOrTable, SpaceOrTablePass};
 pub use worker::Worker;
 
 #[cfg(test)]

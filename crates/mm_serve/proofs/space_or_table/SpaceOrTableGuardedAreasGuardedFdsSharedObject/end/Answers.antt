@@ -2,8 +2,8 @@ use Rattle.lock_core.specs.Kinds.{mutex, semaphore}
 use Rattle.vma_map.specs.Spaces.{space}
 use Rattle.fd_table.specs.Tables.{table}
 use Rattle.mm_serve.proofs.Same.{done-of}
-use Rattle.mm_serve.proofs.site.SiteGuardedAreasGuardedFdsSharedObject.end.Goals.{in-Space-OfSpace, in-Table-OfTable}
-use Rattle.mm_serve.proofs.site.SiteGuardedAreasGuardedFdsSharedObject.end.Goals as goal
+use Rattle.mm_serve.proofs.space_or_table.SpaceOrTableGuardedAreasGuardedFdsSharedObject.end.Goals.{in-Space-OfSpace, in-Table-OfTable}
+use Rattle.mm_serve.proofs.space_or_table.SpaceOrTableGuardedAreasGuardedFdsSharedObject.end.Goals as goal
 
 pub returns-clause-done : goal.returns-clause-done
 returns-clause-done g c = elim c.match-self.branch [

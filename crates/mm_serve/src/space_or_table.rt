@@ -15,19 +15,19 @@ use word_bits::Snapshot;
 
 /// An object of either kind.
 #[derive(Drop)]
-pub enum Site<A, T> {
+pub enum SpaceOrTable<A, T> {
     Space(A),
     Table(T),
 }
 
 /// A pass of it.
 #[derive(Drop)]
-pub enum SitePass<P, Q> {
+pub enum SpaceOrTablePass<P, Q> {
     OfSpace(P),
     OfTable(Q),
 }
 
-impl<A: SpaceLock, T: TableLock> SharedObject for Site<Guarded<A, Areas>, Guarded<T, Fds>> {
+impl<A: SpaceLock, T: TableLock> SharedObject for SpaceOrTable<Guarded<A, Areas>, Guarded<T, Fds>> {
     ghost use Rattle.lock_core.specs.Kinds.{unavailable};
     ghost use Rattle.vma_map.specs.Spaces.{space};
     ghost use Rattle.fd_table.specs.Tables.{table};
@@ -36,7 +36,7 @@ impl<A: SpaceLock, T: TableLock> SharedObject for Site<Guarded<A, Areas>, Guarde
     ghost use Rattle.mm_serve.specs.Serving.{IsIdle, IsServing};
     ghost use Rattle.mm_serve.specs.Sites.{Matches, calls_of, hand_of, holds_space};
 
-    type Pass = SitePass<A::Pass, T::Pass>;
+    type Pass = SpaceOrTablePass<A::Pass, T::Pass>;
 
     ghost is_space = { holds_space };
 
@@ -66,28 +66,37 @@ impl<A: SpaceLock, T: TableLock> SharedObject for Site<Guarded<A, Areas>, Guarde
         number: u32,
         space: bool,
         plan: Plan,
-    ) -> Result<(Self, SitePass<A::Pass, T::Pass>), AllocError> {
+    ) -> Result<(Self, SpaceOrTablePass<A::Pass, T::Pass>), AllocError> {
         if space {
             let (site, pass) = Guarded::open(alloc, number, plan)?;
-            Ok((Site::Space(site), SitePass::OfSpace(pass)))
+            Ok((SpaceOrTable::Space(site), SpaceOrTablePass::OfSpace(pass)))
         } else {
             let (site, pass) = Guarded::open(alloc, number, plan)?;
-            Ok((Site::Table(site), SitePass::OfTable(pass)))
+            Ok((SpaceOrTable::Table(site), SpaceOrTablePass::OfTable(pass)))
         }
     }
 
-    fn split(&self, pass: &mut SitePass<A::Pass, T::Pass>) -> SitePass<A::Pass, T::Pass> {
+    fn split(
+        &self,
+        pass: &mut SpaceOrTablePass<A::Pass, T::Pass>,
+    ) -> SpaceOrTablePass<A::Pass, T::Pass> {
         match (self, pass) {
-            (Site::Space(site), SitePass::OfSpace(pass)) => SitePass::OfSpace(site.split(pass)),
-            (Site::Table(site), SitePass::OfTable(pass)) => SitePass::OfTable(site.split(pass)),
+            (SpaceOrTable::Space(site), SpaceOrTablePass::OfSpace(pass)) =>
+                SpaceOrTablePass::OfSpace(site.split(pass)),
+            (SpaceOrTable::Table(site), SpaceOrTablePass::OfTable(pass)) =>
+                SpaceOrTablePass::OfTable(site.split(pass)),
             _ => unreachable!(),
         }
     }
 
-    fn begin<W: Wait>(&self, rt: &W, pass: &mut SitePass<A::Pass, T::Pass>, task: u32) {
+    fn begin<W: Wait>(&self, rt: &W, pass: &mut SpaceOrTablePass<A::Pass, T::Pass>, task: u32) {
         match (self, pass) {
-            (Site::Space(site), SitePass::OfSpace(pass)) => one_lock::begin(site, rt, pass, task),
-            (Site::Table(site), SitePass::OfTable(pass)) => one_lock::begin(site, rt, pass, task),
+            (SpaceOrTable::Space(site), SpaceOrTablePass::OfSpace(pass)) => one_lock::begin(
+                site, rt, pass, task,
+            ),
+            (SpaceOrTable::Table(site), SpaceOrTablePass::OfTable(pass)) => one_lock::begin(
+                site, rt, pass, task,
+            ),
             _ => unreachable!(),
         }
     }
@@ -95,39 +104,51 @@ impl<A: SpaceLock, T: TableLock> SharedObject for Site<Guarded<A, Areas>, Guarde
     fn perform<W: Wait, C: Crew, G: Gate>(
         &self,
         rt: &W,
-        pass: &mut SitePass<A::Pass, T::Pass>,
+        pass: &mut SpaceOrTablePass<A::Pass, T::Pass>,
         cpu: &mut C::C,
         crew: &C,
         gate: &G,
         task: u32,
     ) {
         match (self, pass) {
-            (Site::Space(site), SitePass::OfSpace(pass)) => {
+            (SpaceOrTable::Space(site), SpaceOrTablePass::OfSpace(pass)) => {
                 one_lock::perform(site, rt, pass, cpu, crew, gate, task)
             }
-            (Site::Table(site), SitePass::OfTable(pass)) => {
+            (SpaceOrTable::Table(site), SpaceOrTablePass::OfTable(pass)) => {
                 one_lock::perform(site, rt, pass, cpu, crew, gate, task)
             }
             _ => unreachable!(),
         }
     }
 
-    fn end(&self, pass: &mut SitePass<A::Pass, T::Pass>, task: u32) {
+    fn end(&self, pass: &mut SpaceOrTablePass<A::Pass, T::Pass>, task: u32) {
         match (self, pass) {
-            (Site::Space(site), SitePass::OfSpace(pass)) => one_lock::end(site, pass, task),
-            (Site::Table(site), SitePass::OfTable(pass)) => one_lock::end(site, pass, task),
+            (SpaceOrTable::Space(site), SpaceOrTablePass::OfSpace(pass)) => one_lock::end(
+                site, pass, task,
+            ),
+            (SpaceOrTable::Table(site), SpaceOrTablePass::OfTable(pass)) => one_lock::end(
+                site, pass, task,
+            ),
             _ => unreachable!(),
         }
     }
 
-    fn gather(&self, into: &mut SitePass<A::Pass, T::Pass>, other: SitePass<A::Pass, T::Pass>) {
+    fn gather(
+        &self,
+        into: &mut SpaceOrTablePass<A::Pass, T::Pass>,
+        other: SpaceOrTablePass<A::Pass, T::Pass>,
+    ) {
         match (self, into, other) {
-            (Site::Space(site), SitePass::OfSpace(into), SitePass::OfSpace(other)) => {
-                site.gather(into, other)
-            }
-            (Site::Table(site), SitePass::OfTable(into), SitePass::OfTable(other)) => {
-                site.gather(into, other)
-            }
+            (
+                SpaceOrTable::Space(site),
+                SpaceOrTablePass::OfSpace(into),
+                SpaceOrTablePass::OfSpace(other),
+            ) => { site.gather(into, other) }
+            (
+                SpaceOrTable::Table(site),
+                SpaceOrTablePass::OfTable(into),
+                SpaceOrTablePass::OfTable(other),
+            ) => { site.gather(into, other) }
             _ => unreachable!(),
         }
     }
@@ -135,26 +156,26 @@ impl<A: SpaceLock, T: TableLock> SharedObject for Site<Guarded<A, Areas>, Guarde
     fn snapshot<W: Wait, C: Crew>(
         &self,
         rt: &W,
-        pass: &mut SitePass<A::Pass, T::Pass>,
+        pass: &mut SpaceOrTablePass<A::Pass, T::Pass>,
         cpu: &mut C::C,
         crew: &C,
         out: &mut Snapshot,
     ) {
         match (self, pass) {
-            (Site::Space(site), SitePass::OfSpace(pass)) => {
+            (SpaceOrTable::Space(site), SpaceOrTablePass::OfSpace(pass)) => {
                 one_lock::snapshot(site, rt, pass, cpu, crew, out)
             }
-            (Site::Table(site), SitePass::OfTable(pass)) => {
+            (SpaceOrTable::Table(site), SpaceOrTablePass::OfTable(pass)) => {
                 one_lock::snapshot(site, rt, pass, cpu, crew, out)
             }
             _ => unreachable!(),
         }
     }
 
-    fn recall(&self, pass: &mut SitePass<A::Pass, T::Pass>) {
+    fn recall(&self, pass: &mut SpaceOrTablePass<A::Pass, T::Pass>) {
         match (self, pass) {
-            (Site::Space(site), SitePass::OfSpace(pass)) => site.recall(pass),
-            (Site::Table(site), SitePass::OfTable(pass)) => site.recall(pass),
+            (SpaceOrTable::Space(site), SpaceOrTablePass::OfSpace(pass)) => site.recall(pass),
+            (SpaceOrTable::Table(site), SpaceOrTablePass::OfTable(pass)) => site.recall(pass),
             _ => unreachable!(),
         }
     }

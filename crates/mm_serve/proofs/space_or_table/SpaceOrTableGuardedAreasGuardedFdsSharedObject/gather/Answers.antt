@@ -1,6 +1,6 @@
 use Rattle.mm_serve.proofs.Same.{takes-in}
-use Rattle.mm_serve.proofs.site.SiteGuardedAreasGuardedFdsSharedObject.gather.Goals.{in-Space-OfSpace-OfSpace, in-Table-OfTable-OfTable}
-use Rattle.mm_serve.proofs.site.SiteGuardedAreasGuardedFdsSharedObject.gather.Goals as goal
+use Rattle.mm_serve.proofs.space_or_table.SpaceOrTableGuardedAreasGuardedFdsSharedObject.gather.Goals.{in-Space-OfSpace-OfSpace, in-Table-OfTable-OfTable}
+use Rattle.mm_serve.proofs.space_or_table.SpaceOrTableGuardedAreasGuardedFdsSharedObject.gather.Goals as goal
 
 pub returns-clause-taken : goal.returns-clause-taken
 returns-clause-taken g c = elim c.match-self.branch [

@@ -4,8 +4,8 @@ use Rattle.vma_map.specs.Spaces.{space}
 use Rattle.fd_table.specs.Tables.{table}
 use Rattle.mm_serve.specs.Histories.{HasDoneOn}
 use Rattle.mm_serve.proofs.Same.{done-of, history-of}
-use Rattle.mm_serve.proofs.site.SiteGuardedAreasGuardedFdsSharedObject.snapshot.Goals.{in-Space-OfSpace, in-Table-OfTable}
-use Rattle.mm_serve.proofs.site.SiteGuardedAreasGuardedFdsSharedObject.snapshot.Goals as goal
+use Rattle.mm_serve.proofs.space_or_table.SpaceOrTableGuardedAreasGuardedFdsSharedObject.snapshot.Goals.{in-Space-OfSpace, in-Table-OfTable}
+use Rattle.mm_serve.proofs.space_or_table.SpaceOrTableGuardedAreasGuardedFdsSharedObject.snapshot.Goals as goal
 
 pub snapshot-requires-clause-done : goal.snapshot-requires-clause-done
 snapshot-requires-clause-done g c =
