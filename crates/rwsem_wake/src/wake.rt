@@ -34,6 +34,7 @@ pub fn back_out<H: GrantHost>(
     ensures goes_on { KeepsPast pass.old pass.new }
     ensures last { IsLatest pass.new }
     ensures face { SaysSame pass.old pass.new }
+    ensures later { (view_of pass.old).steps ≤ (view_of pass.new).steps }
     ensures kept { OnlySem H.with_sem (view_of pass.old)
         (unreserved (sem_at H.sem (view_of pass.old))) (view_of pass.new) }
 {
@@ -56,6 +57,7 @@ pub fn clear_first<H: GrantHost>(site: &Site<H>, pass: &mut Pass<H>, task: u32)
     ensures goes_on { KeepsPast pass.old pass.new }
     ensures last { IsLatest pass.new }
     ensures face { SaysSame pass.old pass.new }
+    ensures later { (view_of pass.old).steps ≤ (view_of pass.new).steps }
     ensures kept { OnlySem H.with_sem (view_of pass.old)
         (summing (sem_at H.sem (view_of pass.old))) (view_of pass.new) }
 {
@@ -87,6 +89,7 @@ pub fn count_batch<H: GrantHost>(
     ensures goes_on { KeepsPast pass.old pass.new }
     ensures last { IsLatest pass.new }
     ensures face { SaysSame pass.old pass.new }
+    ensures later { (view_of pass.old).steps ≤ (view_of pass.new).steps }
     ensures kept { OnlySem H.with_sem (view_of pass.old)
         (counted (sem_at H.sem (view_of pass.old))) (view_of pass.new) }
 {
@@ -111,6 +114,7 @@ pub fn grant_all<H: GrantHost>(site: &Site<H>, pass: &mut Pass<H>, batch: &[u32]
     ensures goes_on { KeepsPast pass.old pass.new }
     ensures last { IsLatest pass.new }
     ensures face { SaysSame pass.old pass.new }
+    ensures later { (view_of pass.old).steps ≤ (view_of pass.new).steps }
     ensures kept { OnlySem H.with_sem (view_of pass.old)
         (all_granted (sem_at H.sem (view_of pass.old))) (view_of pass.new) }
 {
@@ -141,6 +145,7 @@ pub fn grant_removed<H: GrantHost>(
     ensures goes_on { KeepsPast pass.old pass.new }
     ensures last { IsLatest pass.new }
     ensures face { SaysSame pass.old pass.new }
+    ensures later { (view_of pass.old).steps ≤ (view_of pass.new).steps }
     ensures kept { OnlySem H.with_sem (view_of pass.old)
         (all_granted (sem_at H.sem (view_of pass.old))) (view_of pass.new) }
 {

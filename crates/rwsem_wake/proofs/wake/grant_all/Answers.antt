@@ -1,4 +1,4 @@
-use Rattle.std.proofs.Common.{◌∙◌, ℕ, ◌+◌, List, drop, sym, refl, ap, subst, IsSome}
+use Rattle.std.proofs.Common.{◌∙◌, ℕ, ◌+◌, List, drop, sym, refl, ap, subst, IsSome, arith}
 use Rattle.std.proofs.lemmas.List.{drop_more}
 use Rattle.lock_core.specs.declared.view.View.{View}
 use Rattle.lock_core.specs.declared.pass.Face.{Face}
@@ -13,6 +13,7 @@ loop-task-init g c = let v = c.args.pass.now.seat.me.0.view in record {
   face = refl;
   goes_on = λ p t. t;
   last = c.requires.last;
+  later = omega arith;
   kept = starts-granting g.H.GrantHost.with_sem g.H.GrantHost.sem g.H.GrantHost.sem_same v c.args.batch.now c.requires.granting;
 }
 
@@ -44,6 +45,7 @@ loop-task-preserved g c = let with_sem = g.H.GrantHost.with_sem in let u = c.arg
       face = c.clear_grant.ensures.face ∙ c.loop-task.invariant.face;
       goes_on = λ p t. c.clear_grant.ensures.goes_on p (c.loop-task.invariant.goes_on p t);
       last = c.clear_grant.ensures.last;
+      later = let more = ap (λ (z : View _). z.steps) c.clear_grant.ensures.kept in let before = c.loop-task.invariant.later in omega (arith, more, before);
       kept = only-more with_sem g.H.GrantHost.sem_over u (still_granting s (drop i batch)) (still_granting s (drop (i + 1) batch)) v w c.loop-task.invariant.kept
           (subst (λ (z : SemHand). OnlySem with_sem v z w) (ap granted after ∙ ap (λ (z : List ℕ). still_granting s (tail z)) next) (only-one-step with_sem v (granted (g.H.GrantHost.sem v.ext)) w c.clear_grant.ensures.kept));
     }

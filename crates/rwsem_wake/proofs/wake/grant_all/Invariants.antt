@@ -1,4 +1,4 @@
-use Rattle.std.proofs.Common.{◌≡◌, drop}
+use Rattle.std.proofs.Common.{◌≡◌, ◌≤◌, drop}
 use Rattle.lock_core.specs.Passes.{Sits}
 use Rattle.lock_core.specs.Pasts.{GoesOn, IsOwnStep}
 use Rattle.rwsem_wake.specs.Grants.{OnlySem, still_granting}
@@ -10,5 +10,6 @@ invariant-loop-task g l = record {
   face : l.pass.face ≡ l.fn.pass.face;
   goes_on : GoesOn l.fn.pass.seat.me.0.past l.pass.seat.me.0.past;
   last : IsOwnStep l.pass.seat.me.0.view l.pass.seat.me.0.past;
+  later : l.fn.pass.seat.me.0.view.steps ≤ l.pass.seat.me.0.view.steps;
   kept : OnlySem g.H.GrantHost.with_sem l.fn.pass.seat.me.0.view (still_granting (g.H.GrantHost.sem l.fn.pass.seat.me.0.view.ext) (drop l.task-index l.batch)) l.pass.seat.me.0.view;
 }
