@@ -35,6 +35,7 @@ pub fn back_out<H: GrantHost>(
     ensures last { IsLatest pass.new }
     ensures face { SaysSame pass.old pass.new }
     ensures later { (view_of pass.old).steps ≤ (view_of pass.new).steps }
+    ensures steps { (view_of pass.new).steps ≡ (view_of pass.old).steps + 1 + bit overdue }
     ensures kept { OnlySem H.with_sem (view_of pass.old)
         (unreserved (sem_at H.sem (view_of pass.old))) (view_of pass.new) }
 {
