@@ -125,12 +125,12 @@ module _ (vs : List SemPart) (id : ℕ) (v : SemPart) (at : get_elem? vs id ≡ 
       turns Removing Summing marks stage (sym (grants-not Removing stage refl)) (f.0, f.1 ∙ (e ∙ none)) (λ z. absurd (omega (arith, z))) (still Removing stage) most
 
   -- looks whether HANDOFF is set
-  pub sem-looks : (b : Bool) → bit b ≡ H → v.sem.stage ≡ Summing → SemKept n q marks grants (set vs id (staged v (Counted b)))
-  sem-looks b seen stage = let f = mine Summing stage in turns Summing (Counted b) marks stage (sym (grants-not Summing stage refl)) (f.0, f.1, sym seen) (λ z. absurd (omega (arith, z))) (still Summing stage) most
+  pub sem-looks : (b : Bool) → bit b ≡ H → v.sem.stage ≡ Summing → total reader_of q ≡ 0 → SemKept n q marks grants (set vs id (staged v (Counted b)))
+  sem-looks b seen stage whole = let f = mine Summing stage in turns Summing (Counted b) marks stage (sym (grants-not Summing stage refl)) (f.0, f.1, sym seen, whole) (λ z. absurd (omega (arith, z))) (still Summing stage) most
 
   -- and has granted all
   pub sem-done : v.sem.stage ≡ Granting → v.sem.rest ≡ [] → load_of v + reserve_of v ≤ 1 → SemKept n q marks grants (set vs id (staged v Rest))
-  sem-done stage none light = let f = mine Granting stage in turns Granting Rest marks stage (sym (ap (λ (x : Stage). granting_weight x (length v.sem.rest)) stage ∙ ap (λ (l : List ℕ). length l) none)) f (λ _. none) (omega arith) (let z = light-none light in omega arith)
+  sem-done stage none light = let f = mine Granting stage in turns Granting Rest marks stage (sym (ap (λ (x : Stage). granting_weight x (length v.sem.rest)) stage ∙ ap (λ (l : List ℕ). length l) none)) f.0 (λ _. none) (omega arith) (let z = light-none light in omega arith)
 
   -- a writer appends itself
   pub sem-enters : (b : Bool) → bit b + some_of q ≡ 1 → v.sem.stage ≡ Rest → v.sem.wait ≡ Apart → SemKept n (q ++ a_writer own ∷ []) marks grants (set vs id (waiting v Writes (if b then First else Rest)))

@@ -121,7 +121,7 @@ module _ (vs : List SemPart) (id : ℕ) (v : SemPart) (at : get_elem? vs id ≡ 
       let g0 : granting_of v ≡ 0 = ap (λ (z : Stage). granting_weight z (length v.sem.rest)) stage in let b0 : busy_of v ≡ 1 = ap busy_weight stage in
       let G = total-set granting_of vs id v u at in let D = total-same (granted_of grants) vs id v u at refl in let S = part-least shared_in vs id v at in let F = part-least early_in vs id v at in let ap' = r.count.apart in
       let quiet : Quiet (n' / 2 % 2) (n' / 4 % 2) q marks = record { waiters = omega arith; handoff = omega arith; first = omega arith; marked = omega arith } in
-      sem-moves u n n' q q marks marks grants r (of-mine (n' / 2 % 2) (n' / 4 % 2) q marks grants vs id v u at only quiet) (omega arith)
+      sem-moves u n n' q q marks marks grants r (of-mine (n' / 2 % 2) (n' / 4 % 2) q marks grants vs id v u at only (quiet, f.3)) (omega arith)
       (count-step vs id v u at n n' (more_of grants vs) (more_of grants (set vs id u)) (alone_of v) (shared_of v) (early_of v) (late_of v) (alone_of v) (shared_of v) 0 0 r.count
       record { alone_is = refl; shared_is = refl; early_is = refl; late_is = refl } record { alone_is = refl; shared_is = refl; early_is = refl; late_is = refl } (omega arith) (omega arith) (omega arith) (λ p. let e = ap' (omega arith) in absurd (omega arith)))
       (λ t. refl) (λ t. refl) refl (ok-of u t has (λ z. absurd (omega (arith, z))) (let x = shared-most v.held in let y = reads-most v.sem.wait in omega arith) (omega arith) (single-of v t has (r.each id v at)))
@@ -130,7 +130,7 @@ module _ (vs : List SemPart) (id : ℕ) (v : SemPart) (at : get_elem? vs id ≡ 
   pub sem-grants : (n t own : ℕ) (ts : List ℕ) (q : List Waiter) (marks grants : List ℕ) → SemKept n q marks grants vs → total busy_of vs ≡ busy_of v → v.task ≡ Some own → v.sem.stage ≡ Granting → v.sem.rest ≡ t ∷ ts
       → total (reads_at t) vs ≤ 1 → t < length grants → SemKept n q marks (set grants t 0) (set vs id (batched v ts Granting))
   sem-grants n t own ts q marks grants r only has stage rest one inside = let u : SemPart = batched v ts Granting in let mine = mine-of (n / 2 % 2) (n / 4 % 2) q marks grants vs id v at only r.flags in
-      let quiet : Quiet (n / 2 % 2) (n / 4 % 2) q marks = subst (λ (z : Stage). FlagsAt z v.task v.sem.rest (n / 2 % 2) (n / 4 % 2) q marks grants) stage mine in
+      let granting : FlagsAt Granting v.task v.sem.rest (n / 2 % 2) (n / 4 % 2) q marks grants = subst (λ (z : Stage). FlagsAt z v.task v.sem.rest (n / 2 % 2) (n / 4 % 2) q marks grants) stage mine in
       let mine_at : rest_at t v ≡ here t ts + 1 = ap (here t) rest ∙ here-mine t ts in let R = total-at (rest_at t) vs id v at in let a = r.reads t in let G = granted-all grants t vs in
       let waits : 1 ≤ get_or grants t 0 = elim (native.Mathlib.Decide.dec_le 1 (get_or grants t 0)) [ yes l ↦ l | no l ↦ let z = G.0 (omega (arith, l)) in absurd (omega (arith, z, a, R, mine_at, one)) ] in
       let z = G.1 waits in let b0 : busy_of v ≡ 1 = ap busy_weight stage in let all = grant-all grants t inside waits vs in
@@ -140,7 +140,7 @@ module _ (vs : List SemPart) (id : ℕ) (v : SemPart) (at : get_elem? vs id ≡ 
         count = subst (λ (z : ℕ). CountKept n z (map part_of (set vs id u))) (sym more) (count-step vs id v u at n n (more_of grants vs) (more_of grants vs) (alone_of v) (shared_of v) (early_of v) (late_of v) (alone_of v) (shared_of v) (early_of v) (late_of v) r.count
             record { alone_is = refl; shared_is = refl; early_is = refl; late_is = refl } record { alone_is = refl; shared_is = refl; early_is = refl; late_is = refl } r.count.low refl refl (λ p. let e = r.count.apart p in let S = part-least shared_in vs id v at in let F = part-least early_in vs id v at in omega arith));
         busy = omega arith;
-        flags = of-mine (n / 2 % 2) (n / 4 % 2) q marks grants' vs id v u at only quiet;
+        flags = of-mine (n / 2 % 2) (n / 4 % 2) q marks grants' vs id v u at only granting;
         reads = λ x. let ax = r.reads x in let rx = total-same (reads_at x) vs id v u at refl in let Z = total-set (rest_at x) vs id v u at in let gx = total-same (granted_at grants' x) vs id v u at refl in dite (ℕ_discrete x t)
             (λ is. subst (λ (y : ℕ). total (reader_at y) q + total (rest_at y) (set vs id u) + total (granted_at grants' y) (set vs id u) ≡ total (reads_at y) (set vs id u)) (sym is)
             (let ht = grant-here grants t inside waits vs in let rt = total-same (reads_at t) vs id v u at refl in let Zt = total-set (rest_at t) vs id v u at in let gt = total-same (granted_at grants' t) vs id v u at refl in omega arith))

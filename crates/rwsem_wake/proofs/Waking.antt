@@ -23,7 +23,7 @@ use Rattle.rwsem_wake.specs.declared.view.Stage.{Stage}
 use Rattle.rwsem_wake.specs.declared.view.Stage.TheVariants.{Rest, Overdue, Marked, Removing, Summing, Counted, Granting}
 use Rattle.rwsem_wake.specs.declared.view.SemHand.{SemHand}
 use Rattle.rwsem_count.specs.Counts.{early_weight, late_weight, early_in, late_in}
-use Rattle.rwsem_wake.specs.SemParts.{SemPart, busy_of, busy_weight, shared_of, early_of, late_of, reserve_weight, reserve_of, granting_weight, tasks, here, reads_weight, named_weight, granted_at, reads_at}
+use Rattle.rwsem_wake.specs.SemParts.{SemPart, busy_of, busy_weight, shared_of, early_of, late_of, reserve_weight, reserve_of, granting_weight, reader_of, tasks, here, reads_weight, named_weight, granted_at, reads_at}
 use Rattle.rwsem_wake.specs.Semaphores.{SemKept}
 use Rattle.rwsem_wake.proofs.Sums.{set-mine, total-least}
 use Rattle.rwsem_wake.proofs.Places.{first-least, some-length}
@@ -143,18 +143,18 @@ module _ (sees : List SemPart) (id : ℕ) (v : SemPart) (known : Part) (n : ℕ)
   )
 
   -- the count is loaded: the batch is in it at once where its sum is 0
-  pub on-look : v.sem.stage ≡ Summing → shared_of v + early_of v ≡ 1 → late_of v ≡ 0 → Knows known → After (word_after Load n) marks grants (looked v.sem known.1.list n) × IsLawfulCount n
-  on-look stage keeps tight knows = subst (λ (z : List Waiter). After n marks grants (looked v.sem z n) × IsLawfulCount n) (sym (loc.list knows)) (dite (ℕ_discrete (losses v.sem H) (gains v.sem q))
+  pub on-look : v.sem.stage ≡ Summing → shared_of v + early_of v ≡ 1 → late_of v ≡ 0 → Knows known → total reader_of known.1.list ≡ 0 → After (word_after Load n) marks grants (looked v.sem known.1.list n) × IsLawfulCount n
+  on-look stage keeps tight knows whole = let none_left : total reader_of q ≡ 0 = subst (λ (z : List Waiter). total reader_of z ≡ 0) (loc.list knows) whole in subst (λ (z : List Waiter). After n marks grants (looked v.sem z n) × IsLawfulCount n) (sym (loc.list knows)) (dite (ℕ_discrete (losses v.sem H) (gains v.sem q))
       (λ none. subst (λ (z : Bool). After n marks grants (if z then record v.sem { bias = Clear; stage = Granting } else record v.sem { stage = Counted (H == 1) }) × IsLawfulCount n) (sym (eq-eqb (losses v.sem H) (gains v.sem q) none)) (
         (
-          sem-sums-none sees id v loc.mine n own q marks grants (H == 1) loc.kept has only (bit-is H (omega arith)) stage keeps tight (let e = bit-is H (omega arith) in omega (arith, none, e)),
+          sem-sums-none sees id v loc.mine n own q marks grants (H == 1) loc.kept has only (bit-is H (omega arith)) stage none_left keeps tight (let e = bit-is H (omega arith) in omega (arith, none, e)),
           hands-free id n q marks grants sees n grants (set sees id (biased v Clear Granting)) (inr (let f = mine-at sees id v loc.mine n q marks grants loc.kept own has Summing only stage in let z = f.1 in let l = first-least marks (tasks q) in omega (arith, z, l))),
         ),
         loc.lawful,
       ))
       (λ some_sum. subst (λ (z : Bool). After n marks grants (if z then record v.sem { bias = Clear; stage = Granting } else record v.sem { stage = Counted (H == 1) }) × IsLawfulCount n) (sym (ne_eqb (losses v.sem H) (gains v.sem q) some_sum)) (
         (
-          sem-looks sees id v loc.mine n q marks grants loc.kept own has only (H == 1) (bit-is H (omega arith)) stage,
+          sem-looks sees id v loc.mine n q marks grants loc.kept own has only (H == 1) (bit-is H (omega arith)) stage none_left,
           hands-step id n q marks grants sees v (staged v (Counted (H == 1))) loc.mine n (omega arith) (λ t. omega arith),
         ),
         loc.lawful,

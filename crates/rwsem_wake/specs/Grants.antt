@@ -5,6 +5,7 @@ use Rattle.lock_core.specs.declared.view.View.{View}
 use Rattle.lock_core.specs.declared.view.Hand.{Hand}
 use Rattle.lock_core.specs.Records.{bit}
 use Rattle.lock_core.specs.Plays.{Sat, Turns}
+use Rattle.lock_core.specs.Totals.{total}
 use Rattle.wait_list.specs.declared.view.ListHand.{ListHand}
 use Rattle.wait_list.specs.declared.view.Waiter.{Waiter}
 use Rattle.wait_list.specs.Lists.{Knows, first_code, list_part}
@@ -15,7 +16,7 @@ use Rattle.rwsem_wake.specs.declared.view.SemHand.{SemHand}
 use Rattle.rwsem_wake.specs.declared.view.Wait.TheVariants.{Apart}
 use Rattle.rwsem_wake.specs.declared.view.Stage.{Stage}
 use Rattle.rwsem_wake.specs.declared.view.Stage.TheVariants.{Rest, Armed, Overdue, Marked, Removing, Summing, Counted, Granting}
-use Rattle.rwsem_wake.specs.SemParts.{SemPart, some_of}
+use Rattle.rwsem_wake.specs.SemParts.{SemPart, reader_of, some_of}
 
 module _ {E : Type 0} (sem : E → SemHand) where
   -- what of a host's view concerns the semaphore
@@ -132,6 +133,10 @@ IsNext s stage task = (s.stage ≡ stage) × ((ts : List ℕ) × (s.rest ≡ tas
 -- its own shared hold or its bias keeps writers out
 abbrev pub KeepsOut : {E : Type 0} → (E → SemHand) → View E → Type 0
 KeepsOut sem v = (shared_weight v.hand.held + early_weight (sem v.ext).bias ≡ 1) × (late_weight (sem v.ext).bias ≡ 0)
+
+-- its batch was the whole one: no reader is left in the list that it knows
+abbrev pub LeavesNoReader : {E : Type 0} → (E → ListHand) → View E → Type 0
+LeavesNoReader list v = total reader_of (list v.ext).list ≡ 0
 
 -- it has loaded the count, and is to add this for its batch
 pub record MaySum {E : Type 0} (list : E → ListHand) (sem : E → SemHand) (v : View E) (by : ℕ) : Type 0 where

@@ -42,8 +42,8 @@ FlagsAt (Overdue b) me rest w h q marks grants = Quiet w h q marks × (h ≡ bit
 FlagsAt (Marked b) me rest w h q marks grants = (w ≡ 1) × (h ≡ bit b) × (marks_sum marks ≡ first_mark marks (tasks q)) × (marks_sum marks ≡ 1) × (1 ≤ length q)
 FlagsAt Removing me rest w h q marks grants = (w ≡ 1) × (marks_sum marks ≡ first_mark marks (rest ++ tasks q))
 FlagsAt Summing me rest w h q marks grants = (w ≡ 1) × (marks_sum marks ≡ 0)
-FlagsAt (Counted b) me rest w h q marks grants = (w ≡ 1) × (marks_sum marks ≡ 0) × (h ≡ bit b)
-FlagsAt Granting me rest w h q marks grants = Quiet w h q marks
+FlagsAt (Counted b) me rest w h q marks grants = (w ≡ 1) × (marks_sum marks ≡ 0) × (h ≡ bit b) × (total reader_of q ≡ 0)
+FlagsAt Granting me rest w h q marks grants = Quiet w h q marks × (total reader_of q ≡ 0)
 
 abbrev pub FlagsOf : SemPart → (w h : ℕ) → List Waiter → List ℕ → List ℕ → Type 0
 FlagsOf v = FlagsAt v.sem.stage v.task v.sem.rest

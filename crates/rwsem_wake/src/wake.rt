@@ -7,7 +7,7 @@ ghost use Rattle.wait_list.specs.Lists.{Knows, hand_at, list_part};
 ghost use Rattle.rwsem_count.specs.Counts.{early_weight};
 ghost use Rattle.rwsem_wake.specs.declared.view.Stage.TheVariants.{Removing, Summing};
 ghost use Rattle.rwsem_wake.specs.SemParts.{some_of};
-ghost use Rattle.rwsem_wake.specs.Grants.{AreTaskNumbers, IsGranting, IsNext, IsRemoved, IsReserved, KeepsOut, KnowsFirst, OnlySem, all_granted, counted, sem_at, summing, unreserved};
+ghost use Rattle.rwsem_wake.specs.Grants.{AreTaskNumbers, IsGranting, IsNext, IsRemoved, IsReserved, KeepsOut, KnowsFirst, LeavesNoReader, OnlySem, all_granted, counted, sem_at, summing, unreserved};
 
 use crate::host::GrantHost;
 use crate::steps;
@@ -82,6 +82,7 @@ pub fn count_batch<H: GrantHost>(
     requires summing { (sem_at H.sem (view_of pass.old)).stage ≡ Summing }
     requires keeps { KeepsOut H.sem (view_of pass.old) }
     requires knows { Knows (list_part H.list (view_of pass.old)) }
+    requires whole { LeavesNoReader H.list (view_of pass.old) }
     requires readers { readers ≡ length (sem_at H.sem (view_of pass.old)).rest }
     requires few { readers ≤ MAX_TASKS }
     requires reserved { bit reserved ≡ early_weight (sem_at H.sem (view_of pass.old)).bias }
@@ -140,6 +141,7 @@ pub fn grant_removed<H: GrantHost>(
     requires tasks { AreTaskNumbers batch.now }
     requires keeps { KeepsOut H.sem (view_of pass.old) }
     requires knows { Knows (list_part H.list (view_of pass.old)) }
+    requires whole { LeavesNoReader H.list (view_of pass.old) }
     requires reserved { bit reserved ≡ early_weight (sem_at H.sem (view_of pass.old)).bias }
     requires empty { bit empty + some_of (hand_at H.list (view_of pass.old)).list ≡ 1 }
     ensures own { SitsAt site.now pass.new }
