@@ -5,6 +5,7 @@ use mathlib.Core.Option.{some}
 use lib.ListN.{get_elem?}
 use Rattle.wait_list.specs.Lists.{first_code}
 use Rattle.wait_list.specs.declared.view.Waiter.{Waiter}
+use Rattle.rwsem_wake.specs.declared.view.Stage.TheVariants.{Removing}
 use Rattle.rwsem_wake.specs.SemParts.{SemPart, shared_of, alone_of, transit_of, reserve_of, granting_of, granted_of, busy_of, granted_at, reads_at, writes_at, rest_at, reader_at, writer_at}
 use Rattle.rwsem_wake.specs.Semaphores.{Quiet}
 
@@ -49,10 +50,10 @@ abbrev pub IsFirstReader : ℕ → List Waiter → Type 0
 IsFirstReader t [] = ⊥
 IsFirstReader t (w ∷ ws) = ((w.writer ≡ false) × (w.task ≡ t)) ⊎ ((w.writer ≡ true) × IsFirstReader t ws)
 
--- a waker's batch goes on with this task: it is the first reader of the list, the batch began with the first waiter, and it has room
+-- a waker's batch begins or goes on with this task: it is the first reader of the list, the batch began with the first waiter, it has room, and isn't in the count yet
 abbrev pub Picks : SemPart → List Waiter → ℕ → Type 0
-Picks v q t = IsFirstReader t q × (v.sem.rest ≡ [] → first_code q ≡ t + 1) × (length v.sem.rest < 256)
+Picks v q t = IsFirstReader t q × (v.sem.rest ≡ [] → first_code q ≡ t + 1) × (length v.sem.rest < 256) × ((v.sem.rest ≡ []) ⊎ (v.sem.stage ≡ Removing))
 
--- what a step of the pass of this number does to the list: it stays, a waiter joins it at its end, or one leaves it, by itself or as the next of a waker's batch, and all others keep their order
+-- what a step of the pass of this number does to the list: it stays, the pass's own task joins it at its end, or one leaves it, by itself or as the next of a waker's batch, and all others keep their order
 abbrev pub OneChange : ℕ → List SemPart → List Waiter → List Waiter → Type 0
-OneChange id vs q q' = (q' ≡ q) ⊎ ((w : Waiter) × (q' ≡ q ++ w ∷ [])) ⊎ ((w : Waiter) × Without q w q' × ((v : SemPart) × (get_elem? vs id ≡ some v) × ((v.task ≡ Some w.task) ⊎ Picks v q w.task)))
+OneChange id vs q q' = (q' ≡ q) ⊎ ((w : Waiter) × (q' ≡ q ++ w ∷ []) × ((v : SemPart) × (get_elem? vs id ≡ some v) × (v.task ≡ Some w.task))) ⊎ ((w : Waiter) × Without q w q' × ((v : SemPart) × (get_elem? vs id ≡ some v) × ((v.task ≡ Some w.task) ⊎ Picks v q w.task)))
