@@ -1,6 +1,7 @@
 -- What a step of a wake makes of its pass, and when it may be made.
 use Rattle.std.specs.Prelude.{◌≡◌, ℕ, ◌+◌, ◌-◌, ◌*◌, ◌^◌, ◌/◌, ◌%◌, ◌≤◌, ◌==◌, Bool, false, List, [], ◌∷◌, length, slice_index, ◌<◌, if◌then◌else◌}
 use Rattle.atomic_table.specs.Table.{Step}
+use Rattle.word_bits.specs.declared.TheConstants.{MAX_TASKS}
 use Rattle.lock_core.specs.declared.view.View.{View}
 use Rattle.lock_core.specs.declared.view.Hand.{Hand}
 use Rattle.lock_core.specs.Records.{bit}
@@ -109,11 +110,13 @@ pub record MayReserve {E : Type 0} (list : E → ListHand) (sem : E → SemHand)
   pub knows : Knows (list_part list v)
   pub waiting : 1 ≤ length (list v.ext).list
 
--- it has reserved one, and done nothing since
-pub record HasReserved (s : SemHand) : Type 0 where
-  pub word : ℕ
-  pub bias : s.bias ≡ Reserve word
-  pub stage : s.stage ≡ Overdue (word / 4 % 2 == 1)
+-- it has reserved one, found this count, and done nothing since
+abbrev pub IsReserved : SemHand → ℕ → Type 0
+IsReserved s word = (s.bias ≡ Reserve word) × (s.stage ≡ Overdue (word / 4 % 2 == 1))
+
+-- the same, whatever the count was
+abbrev pub HasReserved : SemHand → Type 0
+HasReserved s = (word : ℕ) × IsReserved s word
 
 -- it has marked the first waiter since, and HANDOFF was set before or not
 pub record HasMarked (s : SemHand) (handoff : Bool) : Type 0 where
@@ -142,15 +145,11 @@ LeavesNoReader list v = total reader_of (list v.ext).list ≡ 0
 pub record MaySum {E : Type 0} (list : E → ListHand) (sem : E → SemHand) (v : View E) (by : ℕ) : Type 0 where
   pub handoff : Bool
   pub stage : (sem v.ext).stage ≡ Counted handoff
-  pub few : length (sem v.ext).rest ≤ 64
+  pub few : length (sem v.ext).rest ≤ MAX_TASKS
   pub is : by ≡ (gains (sem v.ext) (list v.ext).list + (2 ^ 64 - losses (sem v.ext) (bit handoff))) % 2 ^ 64
 
--- a waker has reserved its bias, found this count, and done nothing since
-abbrev pub IsReserved : SemHand → ℕ → Type 0
-IsReserved s word = (s.bias ≡ Reserve word) × (s.stage ≡ Overdue (word / 4 % 2 == 1))
-
 abbrev pub AreTaskNumbers : List ℕ → Type 0
-AreTaskNumbers batch = (i : ℕ) → i < length batch → slice_index batch i < 64
+AreTaskNumbers batch = (i : ℕ) → i < length batch → slice_index batch i < MAX_TASKS
 
 -- the batch is in the count, and none of it is granted
 pub record IsGranting (s : SemHand) (batch : List ℕ) : Type 0 where
@@ -163,7 +162,7 @@ pub record IsRemoved (s : SemHand) (batch : List ℕ) : Type 0 where
   pub stage : s.stage ≡ Removing
   pub rest : s.rest ≡ batch
   pub some : 0 < length batch
-  pub few : length batch ≤ 64
+  pub few : length batch ≤ MAX_TASKS
 
 -- these of the batch aren't granted yet
 abbrev pub still_granting : SemHand → List ℕ → SemHand

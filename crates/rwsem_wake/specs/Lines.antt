@@ -1,5 +1,6 @@
 -- Words of tasks, each on a line of its own.
 use Rattle.std.specs.Prelude.{ℕ, zero, suc, ◌+◌, ◌*◌, List, [], ◌∷◌, slice_index}
+use Rattle.word_bits.specs.declared.TheConstants.{MAX_TASKS}
 
 -- the place of a task's word, where task 0 has this one
 abbrev pub line_place : ℕ → ℕ → ℕ
@@ -12,4 +13,4 @@ gather place n (suc m) ws = slice_index ws (place n) ∷ gather place (suc n) m 
 
 -- the words of all tasks
 unfoldable pub lines_in : ℕ → List ℕ → List ℕ
-lines_in base ws = gather (line_place base) 0 64 ws
+lines_in base ws = gather (line_place base) 0 MAX_TASKS ws

@@ -3,6 +3,7 @@ use Rattle.std.proofs.Common.{◌≡◌, ◌⊎◌, true, false, Some, ℕ, zero
 use Rattle.lock_core.specs.Totals.{total}
 use mathlib.Core.Option.{some}
 use lib.ListN.{get_elem?}
+use Rattle.word_bits.specs.declared.TheConstants.{MAX_TASKS}
 use Rattle.wait_list.specs.Lists.{first_code}
 use Rattle.wait_list.specs.declared.view.Waiter.{Waiter}
 use Rattle.rwsem_wake.specs.declared.view.Stage.TheVariants.{Removing}
@@ -18,7 +19,7 @@ pub record StatesCount (n : ℕ) (q : List Waiter) (marks grants : List ℕ) (vs
   pub alone : 0 < total alone_of vs → readers grants vs ≡ 0
   pub field : n / 256 ≡ readers grants vs + total transit_of vs + total reserve_of vs
   pub reserved : total reserve_of vs ≤ 1
-  pub least : n ≤ 256 * 65 + 7
+  pub least : n ≤ 256 * (MAX_TASKS + 1) + 7
   pub low : n % 256 < 8
   -- while nobody changes flags, marks and list
   pub free : total busy_of vs ≡ 0 → Quiet (n / 2 % 2) (n / 4 % 2) q marks
