@@ -35,7 +35,8 @@ use wait_list::ListHost;
 /// that it keeps to a handoff.
 pub trait GrantHost: ListHost + CountHost {
     /// The place of the mark of task 0 among the words of the locks. That of each further task
-    /// stands 8 words behind.
+    /// stands 8 words behind. The law `sems` speaks of every word from here to `LOCK_WORDS`, also
+    /// of those between marks and grant words: no word of the list and no hint may stand there.
     const MARKS: usize;
 
     /// The place of the grant word of task 0. That of each further task stands 8 words behind.
