@@ -1,5 +1,5 @@
 -- What several steps make of a host's view.
-use Rattle.std.proofs.Common.{◌≡◌, ◌≢◌, ◌∙◌, ℕ, zero, suc, ◌+◌, ◌-◌, ◌*◌, ◌/◌, ◌%◌, ◌^◌, ◌==◌, ◌<◌, ◌≤◌, Bool, List, [], ◌∷◌, length, if◌then◌else◌, sym, refl, ap, subst, arith, eq-eqb, ne_eqb}
+use Rattle.std.proofs.Common.{◌≡◌, ◌≢◌, ◌∙◌, ℕ, zero, suc, ◌+◌, ◌*◌, ◌/◌, ◌%◌, ◌==◌, ◌<◌, ◌≤◌, Bool, List, [], ◌∷◌, length, if◌then◌else◌, sym, refl, ap, subst, arith, eq-eqb, ne_eqb}
 use Rattle.lock_core.specs.declared.view.View.{View}
 use Rattle.lock_core.specs.Records.{bit}
 use Rattle.wait_list.specs.declared.view.Waiter.{Waiter}
@@ -52,5 +52,5 @@ module _ (s : SemHand) (q : List Waiter) (word readers gain loss reserved empty 
   bit-one (suc zero) l = refl
   bit-one (suc (suc n)) l = absurd (omega arith)
 
-  pub sum-by : readers ≤ 64 → empty ≤ 1 → reserved ≤ 1 → (gain + (2 ^ 64 - loss)) % 2 ^ 64 ≡ (gains s q + (2 ^ 64 - losses s (bit (word / 4 % 2 == 1)))) % 2 ^ 64
-  sum-by few one few' = let b = bit-one (word / 4 % 2) (omega arith) in ap (λ (z : ℕ). z % 2 ^ 64) (omega (arith, b, few, one, few', gain_is, loss_is, long, own, rest))
+  pub sum-by : gain + losses s (bit (word / 4 % 2 == 1)) ≡ loss + gains s q
+  sum-by = let b = bit-one (word / 4 % 2) (omega arith) in omega (arith, b, gain_is, loss_is, long, own, rest)

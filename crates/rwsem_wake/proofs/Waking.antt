@@ -1,11 +1,12 @@
 -- What the steps of a wake keep.
-use Rattle.std.proofs.Common.{◌≡◌, ℕ, zero, suc, ◌+◌, ◌-◌, ◌*◌, ◌/◌, ◌%◌, ◌^◌, ◌<◌, ◌≤◌, ◌==◌, inr, Bool, true, false, List, [], ◌∷◌, length, get_or, set, Option, Some, sym, refl, ap, ◌∙◌, subst, arith, eq-eqb, ne_eqb, if◌then◌else◌}
+use Rattle.std.proofs.Common.{◌≡◌, ℕ, zero, suc, ◌+◌, ◌*◌, ◌/◌, ◌%◌, ◌^◌, ◌<◌, ◌≤◌, ◌==◌, inr, Bool, true, false, List, [], ◌∷◌, length, get_or, set, Option, Some, sym, refl, ap, ◌∙◌, subst, arith, eq-eqb, ne_eqb, if◌then◌else◌}
 use mathlib.Core.Option.{some, some-injective, some-ne-none}
 use mathlib.Core.Logic.{dite}
 use native.Mathlib.Decide.{ℕ_discrete}
 use lib.ListN.{get_elem?}
 use lib.Seq.{set-get_or}
 use Rattle.atomic_table.proofs.Lists.{set_again}
+use Rattle.lock_core.specs.declared.op.Op.{Op}
 use Rattle.lock_core.specs.declared.op.Op.TheVariants.{Load, Add, Sub}
 use Rattle.lock_core.specs.Ops.{word_after}
 use Rattle.lock_core.specs.Records.{bit}
@@ -51,10 +52,6 @@ twice (x ∷ vs) (suc id) v w = ap (λ (z : List SemPart). x ∷ z) (twice vs id
 pub head-is : (q : List Waiter) (t : ℕ) → first_code q ≡ t + 1 → (x : Waiter) × (xs : List Waiter) × (q ≡ x ∷ xs) × (x.task ≡ t)
 head-is [] t e = absurd (omega (arith, e))
 head-is (x ∷ xs) t e = (x, xs, refl, omega (arith, e))
-
--- what an addition of a difference makes of a word
-added : (n g l : ℕ) → n < 65536 → g < 65536 → l ≤ n → (n + (g + (2 ^ 64 - l)) % 2 ^ 64) % 2 ^ 64 + l ≡ n + g
-added n g l small few less = omega arith
 
 -- who reads has a name
 reads-name : (t : ℕ) (task : Option ℕ) (w : Wait) → named_weight t task (reads_weight w) ≤ is_number t task
@@ -161,12 +158,13 @@ module _ (sees : List SemPart) (id : ℕ) (v : SemPart) (known : Part) (n : ℕ)
       )))
 
   -- the batch's sum is added
-  pub on-sum : (by : ℕ) (b : Bool) → v.sem.stage ≡ Counted b → shared_of v + early_of v ≡ 1 → late_of v ≡ 0 → Knows known → length v.sem.rest ≤ 64
-      → by ≡ (gains v.sem known.1.list + (2 ^ 64 - losses v.sem (bit b))) % 2 ^ 64 → After (word_after (Add by) n) marks grants (counted v.sem) × IsLawfulCount n
-  on-sum by b stage keeps tight knows few is = let l = small in let f = mine-at sees id v loc.mine n q marks grants loc.kept own has (Counted b) only stage in let w = f.0 in let h = f.2 in let s = (some-length q).2 in
-      let fm = part-least early_in sees id v loc.mine in let field = loc.kept.count.field in let n' : ℕ = word_after (Add by) n in let g : ℕ = gains v.sem q in
-      let by' : by ≡ (g + (2 ^ 64 - losses v.sem (bit b))) % 2 ^ 64 = is ∙ ap (λ (z : List Waiter). (gains v.sem z + (2 ^ 64 - losses v.sem (bit b))) % 2 ^ 64) (loc.list knows) in
-      let sum : n' + losses v.sem (bit b) ≡ n + g = ap (λ (z : ℕ). (n + z) % 2 ^ 64 + losses v.sem (bit b)) by' ∙ added n g (losses v.sem (bit b)) (omega (arith, l)) (omega (arith, few, s)) (omega (arith, w, h, fm, field)) in (
+  pub on-sum : (gain loss : ℕ) (op : Op) → ((m : ℕ) → loss ≤ m + gain → m + gain < 2 ^ 64 + loss → word_after op m + loss ≡ m + gain) → (b : Bool) → v.sem.stage ≡ Counted b → shared_of v + early_of v ≡ 1 → late_of v ≡ 0 → Knows known → length v.sem.rest ≤ 64
+      → gain + losses v.sem (bit b) ≡ loss + gains v.sem known.1.list → After (word_after op n) marks grants (counted v.sem) × IsLawfulCount n
+  on-sum gain loss op does b stage keeps tight knows few is = let l = small in let f = mine-at sees id v loc.mine n q marks grants loc.kept own has (Counted b) only stage in let w = f.0 in let h = f.2 in let s = (some-length q).2 in
+      let fm = part-least early_in sees id v loc.mine in let field = loc.kept.count.field in let n' : ℕ = word_after op n in let g : ℕ = gains v.sem q in
+      let balance : gain + losses v.sem (bit b) ≡ loss + g = is ∙ ap (λ (z : List Waiter). loss + gains v.sem z) (loc.list knows) in
+      let least : losses v.sem (bit b) ≤ n = omega (arith, w, h, fm, field) in let most : n + g < 2 ^ 64 = omega (arith, l, few, s) in
+      let moved = does n (omega (arith, balance, least)) (omega (arith, balance, most)) in let sum : n' + losses v.sem (bit b) ≡ n + g = omega (arith, moved, balance) in (
         (
           sem-sums sees id v loc.mine n n' own q marks grants b loc.kept only has stage keeps tight (omega (arith, sum)),
           hands-sums id n n' q marks grants sees (set sees id (with_hand v (counted v.sem))) v b loc.kept loc.mine only stage,

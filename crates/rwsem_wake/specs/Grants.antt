@@ -1,5 +1,5 @@
 -- What a step of a wake makes of its pass, and when it may be made.
-use Rattle.std.specs.Prelude.{◌≡◌, ℕ, ◌+◌, ◌-◌, ◌*◌, ◌^◌, ◌/◌, ◌%◌, ◌≤◌, ◌==◌, Bool, false, List, [], ◌∷◌, length, slice_index, ◌<◌, if◌then◌else◌}
+use Rattle.std.specs.Prelude.{◌≡◌, ℕ, ◌+◌, ◌*◌, ◌/◌, ◌%◌, ◌≤◌, ◌==◌, Bool, false, List, [], ◌∷◌, length, slice_index, ◌<◌, if◌then◌else◌}
 use Rattle.atomic_table.specs.Table.{Step}
 use Rattle.word_bits.specs.declared.TheConstants.{MAX_TASKS}
 use Rattle.lock_core.specs.declared.view.View.{View}
@@ -141,12 +141,12 @@ KeepsOut sem v = (shared_weight v.hand.held + early_weight (sem v.ext).bias ≡ 
 abbrev pub LeavesNoReader : {E : Type 0} → (E → ListHand) → View E → Type 0
 LeavesNoReader list v = total reader_of (list v.ext).list ≡ 0
 
--- it has loaded the count, and is to add this for its batch
-pub record MaySum {E : Type 0} (list : E → ListHand) (sem : E → SemHand) (v : View E) (by : ℕ) : Type 0 where
+-- it has loaded the count, and is to add this for its batch, less that
+pub record MaySum {E : Type 0} (list : E → ListHand) (sem : E → SemHand) (v : View E) (gain loss : ℕ) : Type 0 where
   pub handoff : Bool
   pub stage : (sem v.ext).stage ≡ Counted handoff
   pub few : length (sem v.ext).rest ≤ MAX_TASKS
-  pub is : by ≡ (gains (sem v.ext) (list v.ext).list + (2 ^ 64 - losses (sem v.ext) (bit handoff))) % 2 ^ 64
+  pub is : gain + losses (sem v.ext) (bit handoff) ≡ loss + gains (sem v.ext) (list v.ext).list
 
 abbrev pub AreTaskNumbers : List ℕ → Type 0
 AreTaskNumbers batch = (i : ℕ) → i < length batch → slice_index batch i < MAX_TASKS

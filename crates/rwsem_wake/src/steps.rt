@@ -1,8 +1,9 @@
 //! The single steps of queues and wakes on the count, the marks and the grant words of any host,
 //! under the wait lock.
-ghost use Rattle.std.specs.Prelude.{◌≡◌, ◌<◌, ◌≤◌, ◌+◌, ◌*◌, IsSome, Some, true};
+ghost use Rattle.std.specs.Prelude.{◌≡◌, ℕ, ◌<◌, ◌≤◌, ◌+◌, ◌*◌, ◌^◌, IsSome, Some, true};
 ghost use Rattle.word_bits.specs.LockWords.{IsLawfulCount};
 ghost use Rattle.lock_core.specs.Handles.{IsLatest, view_of, past_of, task_in, SitsAt, KeepsPast, SaysSame};
+ghost use Rattle.lock_core.specs.Ops.{word_after};
 ghost use Rattle.lock_core.specs.Pasts.{FoundAt};
 ghost use Rattle.lock_core.specs.Records.{bit};
 ghost use Rattle.lock_core.specs.Views.{SpinHolds};
@@ -248,21 +249,33 @@ pub fn look_count<H: GrantHost>(site: &Site<H>, pass: &mut Pass<H>) -> u64
     site.step::<LookCount<H>>(pass, H::COUNT, Op::Load)
 }
 
+/// The operation by which a word gains one number and loses another, in one step.
+fn gain_and_lose(gain: u64, loss: u64) -> Op
+    ensures { (n : ℕ) → loss ≤ n + gain → n + gain < 2 ^ 64 + loss
+        → word_after result n + loss ≡ n + gain }
+{
+    if gain < loss {
+        Op::Sub(loss - gain)
+    } else {
+        Op::Add(gain - loss)
+    }
+}
+
 struct AddSum<H> {
     host: PhantomData<H>,
 }
 
 impl<H: GrantHost> Play<(), View<H::Ext>> for AddSum<H> {
-    ghost then = { Did H.with_sem (λ v n. counted (H.sem v.ext)) IsLawfulCount };
+    ghost then = { Did H.with_sem (λ v n. counted (H.sem v.ext)) anything };
 }
 
 /// Adds to the count, in one step, what the batch makes of it: the biases of its readers come and
 /// the reserved one goes, HANDOFF is answered, and WAITERS goes with the last waiter.
-pub fn add_sum<H: GrantHost>(site: &Site<H>, pass: &mut Pass<H>, by: u64)
+pub fn add_sum<H: GrantHost>(site: &Site<H>, pass: &mut Pass<H>, gain: u64, loss: u64)
     requires own { SitsAt site.now pass.old }
     requires numbered { IsSome (task_in pass.old) }
     requires held { SpinHolds (view_of pass.old).spin }
-    requires by { MaySum H.list H.sem (view_of pass.old) by }
+    requires sum { MaySum H.list H.sem (view_of pass.old) gain loss }
     requires keeps { KeepsOut H.sem (view_of pass.old) }
     requires knows { Knows (list_part H.list (view_of pass.old)) }
     ensures own { SitsAt site.now pass.new }
@@ -272,7 +285,7 @@ pub fn add_sum<H: GrantHost>(site: &Site<H>, pass: &mut Pass<H>, by: u64)
     ensures kept { TurnsTo H.with_sem (view_of pass.old)
         (counted (sem_at H.sem (view_of pass.old))) (view_of pass.new) }
 {
-    site.step::<AddSum<H>>(pass, H::COUNT, Op::Add(by));
+    site.step::<AddSum<H>>(pass, H::COUNT, gain_and_lose(gain, loss));
 }
 
 struct ClearGrant<H> {

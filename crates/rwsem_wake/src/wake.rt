@@ -100,7 +100,7 @@ pub fn count_batch<H: GrantHost>(
     let gain = BIAS * readers;
     let loss = BIAS * u64::from(reserved) + HANDOFF * handoff + WAITERS * u64::from(empty);
     if gain != loss {
-        steps::add_sum(site, pass, gain.wrapping_sub(loss));
+        steps::add_sum(site, pass, gain, loss);
     }
 }
 

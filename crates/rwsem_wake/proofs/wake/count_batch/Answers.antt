@@ -1,5 +1,6 @@
-use Rattle.std.proofs.Common.{◌≡◌, ◌∙◌, ℕ, ◌+◌, ◌-◌, ◌*◌, ◌/◌, ◌%◌, ◌^◌, ◌==◌, length, sym, refl, ap, subst, arith}
+use Rattle.std.proofs.Common.{◌≡◌, ◌∙◌, ℕ, ◌+◌, ◌*◌, ◌/◌, ◌%◌, ◌==◌, length, sym, refl, ap, subst, arith}
 use Rattle.lock_core.specs.Records.{bit}
+use Rattle.wait_list.specs.Lists.{Part}
 use Rattle.wait_list.proofs.Appending.{byte-bit}
 use Rattle.rwsem_wake.specs.declared.view.SemHand.{SemHand}
 use Rattle.rwsem_wake.specs.declared.view.Stage.TheVariants.{Counted}
@@ -8,8 +9,8 @@ use Rattle.rwsem_wake.specs.Grants.{OnlySem, TurnsTo, counted, gains, looked, lo
 use Rattle.rwsem_wake.proofs.Courses.{only-one-step, only-more, sem-after, list-after, sum-some, sum-by}
 use Rattle.rwsem_wake.proofs.wake.count_batch.Goals as goal
 
-pub add_sum-requires-clause-by : goal.add_sum-requires-clause-by
-add_sum-requires-clause-by g c = let with_sem = g.H.GrantHost.with_sem in let v = c.args.pass.now.seat.me.0.view in let s = g.H.GrantHost.sem v.ext in let q = (g.H.ListHost.list v.ext).list in let u = c.look_count.new.pass.seat.me.0.view in let n = c.look_count.result in let n1 = byte-bit c.args.reserved in let n2 = byte-bit c.args.empty in
+pub add_sum-requires-clause-sum : goal.add_sum-requires-clause-sum
+add_sum-requires-clause-sum g c = let with_sem = g.H.GrantHost.with_sem in let v = c.args.pass.now.seat.me.0.view in let s = g.H.GrantHost.sem v.ext in let q = (g.H.ListHost.list v.ext).list in let u = c.look_count.new.pass.seat.me.0.view in let n = c.look_count.result in let n1 = byte-bit c.args.reserved in let n2 = byte-bit c.args.empty in
     let own = c.from.ensures ∙ n1.0 ∙ c.requires.reserved in let rest : c.from-2.result + some_of q ≡ 1 = ap (λ (z : ℕ). z + some_of q) (c.from-2.ensures ∙ n2.0) ∙ c.requires.empty in let gain = 256 * c.args.readers in let loss = 256 * c.from.result + 4 * (n / 4 % 2) + 2 * c.from-2.result in
     let t = record s { stage = Counted (n / 4 % 2 == 1) } in let is : looked s q n ≡ t = sum-some s q n c.args.readers gain loss c.from.result c.from-2.result c.requires.readers own rest refl refl c.if-gain-loss.true in
     let first = only-one-step with_sem v t u (subst (λ (z : SemHand). TurnsTo with_sem v z u) is c.look_count.ensures.kept) in let after = sem-after with_sem g.H.GrantHost.sem g.H.GrantHost.sem_back v t u first in
@@ -17,8 +18,8 @@ add_sum-requires-clause-by g c = let with_sem = g.H.GrantHost.with_sem in let v 
       handoff = n / 4 % 2 == 1;
       stage = ap (λ (z : SemHand). z.stage) after;
       few = let e = ap (λ (z : SemHand). length z.rest) after in omega (arith, e, few, long);
-      is = sum-by s q n c.args.readers gain loss c.from.result c.from-2.result c.requires.readers own rest refl refl few (let a = c.from-2.ensures ∙ n2.0 in let b = n2.1 in omega (arith, a, b)) (let a = c.from.ensures ∙ n1.0 in let b = n1.1 in omega (arith, a, b))
-          ∙ (λ i. (gains (sym after i) (sym known i).1.list + (2 ^ 64 - losses (sym after i) (bit (n / 4 % 2 == 1)))) % 2 ^ 64);
+      is = subst (λ (z : SemHand). gain + losses z (bit (n / 4 % 2 == 1)) ≡ loss + gains z (g.H.ListHost.list u.ext).list) (sym after)
+          (subst (λ (z : Part). gain + losses s (bit (n / 4 % 2 == 1)) ≡ loss + gains s z.1.list) (sym known) (sum-by s q n c.args.readers gain loss c.from.result c.from-2.result c.requires.readers own rest refl refl));
     }
 
 pub returns-then-gain-loss-clause-kept : goal.returns-then-gain-loss-clause-kept
