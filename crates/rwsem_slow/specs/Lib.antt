@@ -1,0 +1,5 @@
+pub mod RwSems
+pub mod ListSteps
+pub mod RwSemLaws
+pub mod ListLaws
+pub mod CountHosting

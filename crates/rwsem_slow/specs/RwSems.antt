@@ -1,0 +1,248 @@
+-- The rule of a reader-writer semaphore: the facts of its parts, and what a step may do.
+use Rattle.std.specs.Prelude.{◌≡◌, ◌≢◌, ℕ, ◌+◌, ◌≤◌, ◌==◌, ◌⊎◌, true, false, List, [], ◌∷◌, ◌++◌, length, map, slice_index, Bool, Some, if◌then◌else◌}
+use mathlib.Core.Option.{some}
+use lib.ListN.{get_elem?}
+use Rattle.word_bits.specs.LockWords.{counted}
+use Rattle.word_bits.specs.Objects.{Obj}
+use Rattle.word_bits.specs.Histories.{Plan}
+use Rattle.lock_core.specs.declared.view.View.{View}
+use Rattle.lock_core.specs.declared.view.Hand.{Hand}
+use Rattle.lock_core.specs.declared.view.Held.TheVariants.{No}
+use Rattle.lock_core.specs.declared.layout.TheConstants.{SPIN_ROOM, SPIN_WORDS}
+use Rattle.lock_core.specs.Layout.{site, width, part}
+use Rattle.lock_core.specs.Views.{hand_of, spin_part}
+use Rattle.lock_core.specs.Sites.{SiteKept}
+use Rattle.lock_core.specs.Moves.{SiteMove}
+use Rattle.lock_core.specs.Spins.{SpinKept, SpinMoves, holds_in}
+use Rattle.lock_core.specs.Parts.{Each}
+use Rattle.wait_list.specs.declared.view.Waiter.{Waiter}
+use Rattle.wait_list.specs.declared.view.Change.{Change}
+use Rattle.wait_list.specs.declared.view.Change.TheVariants.{Stay, Enter, Leave}
+use Rattle.wait_list.specs.declared.view.ListHand.{ListHand}
+use Rattle.wait_list.specs.declared.words.TheConstants.{LIST_WORDS}
+use Rattle.wait_list.specs.Lists.{ListKept, ListMoves, list_part, no_list, first_code}
+use Rattle.rwsem_count.specs.declared.view.Bias.{Bias}
+use Rattle.rwsem_count.specs.declared.view.Bias.TheVariants.{Clear, Transit, Reserve}
+use Rattle.rwsem_count.specs.Counts.{CountPart, shared_weight, early_weight, late_weight}
+use Rattle.rwsem_wake.specs.declared.view.SemHand.{SemHand}
+use Rattle.rwsem_wake.specs.declared.view.Wait.{Wait}
+use Rattle.rwsem_wake.specs.declared.view.Wait.TheVariants.{Apart, Reads, Writes}
+use Rattle.rwsem_wake.specs.declared.view.Stage.{Stage}
+use Rattle.rwsem_wake.specs.declared.view.Stage.TheVariants.{Rest, Armed, Joining, First, Took, Removed, Emptied, Overdue, Removing, Summing, Granting}
+use Rattle.rwsem_wake.specs.SemParts.{SemPart, apart_hand, busy_weight, reserve_weight}
+use Rattle.rwsem_wake.specs.Semaphores.{SemKept, more_of}
+use Rattle.rwsem_wake.specs.Handoffs.{KeepsHandoff}
+use Rattle.rwsem_wake.specs.Stated.{Picks}
+use Rattle.rwsem_wake.specs.Lines.{lines_in}
+use Rattle.rwsem_wake.specs.Grants.{sem_part}
+use Rattle.rwsem_slow.specs.declared.view.RwSemHand.{RwSemHand}
+
+abbrev pub V : Type 0
+V = View RwSemHand
+
+abbrev pub idle : RwSemHand
+idle = record { list = no_list; sem = apart_hand; appends = 0 }
+
+abbrev pub list_of : RwSemHand → ListHand
+list_of e = e.list
+
+abbrev pub sem_of : RwSemHand → SemHand
+sem_of e = e.sem
+
+abbrev pub with_sem : RwSemHand → SemHand → RwSemHand
+with_sem e s = record e { sem = s }
+
+abbrev pub bias_of : RwSemHand → Bias
+bias_of e = e.sem.bias
+
+-- what of a view concerns the count, the marks and the grant words
+abbrev pub seen : V → SemPart
+seen v = sem_part sem_of v
+
+-- what a moment keeps of what a pass knows
+
+abbrev pub wait_code : Wait → ℕ
+wait_code Apart = 0
+wait_code Reads = 1
+wait_code Writes = 2
+
+-- which bias it has added, and the word that the addition saw
+abbrev pub bias_codes : Bias → List ℕ
+bias_codes Clear = 0 ∷ 0 ∷ []
+bias_codes (Transit word) = 1 ∷ word ∷ []
+bias_codes (Reserve word) = 2 ∷ word ∷ []
+
+-- nothing under way, something, or a batch that is in the count
+abbrev pub stage_code : Stage → ℕ
+stage_code Rest = 0
+stage_code Granting = 2
+stage_code _ = 1
+
+-- how it waits, its bias, how far it is under the wait lock, how often it has appended itself, and the tasks of its batch that aren't granted yet
+abbrev pub standing : RwSemHand → List ℕ
+standing e = wait_code e.sem.wait ∷ stage_code e.sem.stage ∷ e.appends ∷ (bias_codes e.sem.bias ++ e.sem.rest)
+
+-- where the words stand: the wait lock's, the count, the owner hint, those of the list, and the marks and the grant words of all tasks
+
+abbrev pub wait_lock_at : ℕ
+wait_lock_at = 0
+
+abbrev pub count_at : ℕ
+count_at = SPIN_ROOM
+
+abbrev pub hint_at : ℕ
+hint_at = SPIN_ROOM + 8
+
+abbrev pub list_at : ℕ
+list_at = SPIN_ROOM + 16
+
+abbrev pub marks_at : ℕ
+marks_at = SPIN_ROOM + 88
+
+abbrev pub grants_at : ℕ
+grants_at = SPIN_ROOM + 600
+
+abbrev pub spin_words : List ℕ → List ℕ
+spin_words ws = part wait_lock_at SPIN_WORDS ws
+
+abbrev pub count_in : List ℕ → ℕ
+count_in ws = slice_index ws count_at
+
+abbrev pub list_words : List ℕ → List ℕ
+list_words ws = part list_at LIST_WORDS ws
+
+abbrev pub marks_in : List ℕ → List ℕ
+marks_in ws = lines_in marks_at ws
+
+abbrev pub grants_in : List ℕ → List ℕ
+grants_in ws = lines_in grants_at ws
+
+-- how many readers of the count the grant words and the batches tell of
+abbrev pub more_in : Plan → List ℕ → List V → ℕ
+more_in k ws vs = more_of (grants_in ws) (map seen vs)
+
+-- only a pass that has the wait lock is at a stage
+abbrev pub IsLocked : V → Type 0
+IsLocked v = busy_weight v.ext.sem.stage ≤ holds_in v.spin
+
+module _ {Call : Type 0} (o : Obj Call) (size : ℕ) where
+  -- while this is the list
+  pub record RwSemKept (k : Plan) (ws : List ℕ) (vs : List V) (q : List Waiter) : Type 0 where
+    pub wide : length ws ≡ width k
+    pub site_holds : SiteKept o counted size k (site k ws) (map hand_of vs)
+    pub spin : SpinKept (spin_words ws) (map spin_part vs)
+    pub list : ListKept (list_words ws) q (map (list_part list_of) vs)
+    pub sem : SemKept (count_in ws) q (marks_in ws) (grants_in ws) (map seen vs)
+    pub locked : Each IsLocked vs
+
+  abbrev pub Kept : Plan → List ℕ → List V → Type 0
+  Kept k ws vs = (q : List Waiter) × RwSemKept k ws vs q
+
+-- how often a change appends the pass that makes it
+abbrev pub entered : Change → ℕ
+entered Stay = 0
+entered (Enter w) = 1
+entered (Leave t) = 0
+
+-- who changes the list: a waiter enters by itself, and holds nothing; it leaves by itself, or as the next of a waker's batch
+abbrev pub IsMadeBy : ℕ → List V → Change → List Waiter → Type 0
+IsMadeBy id vs Stay q = Unit {0}
+IsMadeBy id vs (Enter w) q = (v : V) × (get_elem? vs id ≡ some v) × (v.hand.task ≡ Some w.task) × (v.hand.held ≡ No)
+IsMadeBy id vs (Leave t) q = (v : V) × (get_elem? vs id ≡ some v) × ((v.hand.task ≡ Some t) ⊎ Picks (seen v) q t)
+
+-- who ends or downgrades a hold keeps the count that its step left
+abbrev pub KeepsCount : Hand → Hand → ℕ → Type 0
+KeepsCount h g word = h.held ≢ No → g.held ≢ h.held → g.freed ≡ word
+
+-- what a step may do: all that each step of a site, of a spin lock and of a list does; a waiter enters by itself, and leaves by itself or in a waker's batch; while the first waiter is marked and HANDOFF is set, nobody but it writes, and who reads had a bias since before, or held alone; who ends or downgrades a hold keeps the count that it left; and an append is counted by the pass that enters
+pub record RwSemMoves (k : Plan) (id : ℕ) (ws : List ℕ) (vs : List V) (us : List ℕ) (vs' : List V) : Type 0 where
+  pub site : SiteMove id (site k ws) vs (site k us) vs'
+  pub spin : SpinMoves id (spin_words ws) (map spin_part vs) (spin_words us) (map spin_part vs')
+  pub list : ListMoves id (list_words ws) (map (list_part list_of) vs) (list_words us) (map (list_part list_of) vs')
+  pub made : IsMadeBy id vs list.change list.list
+  pub hands : KeepsHandoff id (count_in ws) list.list (marks_in ws) (grants_in ws) (map seen vs) (count_in us) (grants_in us) (map seen vs')
+  pub freed : KeepsCount site.before.hand site.after.hand (count_in us)
+  pub appends : site.after.ext.appends ≡ site.before.ext.appends + entered list.change
+
+abbrev pub may_free : V → Type 0
+may_free v = (v.ext.sem.stage ≡ Rest) × (v.ext.list.changes ≡ false)
+
+abbrev pub rests : V → Type 0
+rests v = v.ext.sem ≡ apart_hand
+
+-- a step on the count gives a pass this bias
+abbrev pub biased : V → Hand → Bias → RwSemHand
+biased v h b = with_sem v.ext (record v.ext.sem { bias = b })
+
+-- a pass that waits for nothing may change how it holds and its bias: it has one of them at most, and reserves none
+abbrev pub may_count : V → CountPart → Type 0
+may_count v p = (v.ext.sem.wait ≡ Apart) × (shared_weight p.held + (early_weight p.bias + late_weight p.bias) ≤ 1) × (reserve_weight p.bias ≡ 0)
+
+-- any count may stand there
+abbrev pub any_count : ℕ → Type 0
+any_count word = Unit {0}
+
+-- what a change of the list makes of its pass
+
+-- who appends itself, to a list that is then so long
+abbrev pub joined : Bool → ℕ → SemHand → SemHand
+joined writer long s = record s { wait = if writer then Writes else Reads; stage = if writer then (if long == 1 then First else Rest) else Joining (long == 1) }
+
+-- it leaves the list at this stage
+abbrev pub gone : Stage → SemHand → SemHand
+gone stage s = record s { wait = Apart; stage = stage }
+
+-- it removes this task as the next of its batch
+abbrev pub picked : ℕ → SemHand → SemHand
+picked t s = record s { rest = s.rest ++ t ∷ []; stage = Removing }
+
+-- a task leaves a list that is then so long. From these stages it is the pass's own: a writer that took, a waiter that gives up as the first and isn't marked, and one that does so behind the first. From any other it is one of a batch.
+abbrev pub parted : Stage → Wait → (t long : ℕ) → SemHand → SemHand
+parted Took wait t long s = gone Removed s
+parted Summing wait t long s = gone (if long == 0 then Emptied else Rest) s
+parted Armed wait t long s = gone Rest s
+parted Rest Writes t long s = gone Rest s
+parted _ wait t long s = picked t s
+
+abbrev pub with_list : Change → V → ListHand → RwSemHand
+with_list Stay v b = record v.ext { list = b }
+with_list (Enter w) v b = record { list = b; sem = joined w.writer (length b.list) v.ext.sem; appends = v.ext.appends + 1 }
+with_list (Leave t) v b = record { list = b; sem = parted v.ext.sem.stage v.ext.sem.wait t (length b.list) v.ext.sem; appends = v.ext.appends }
+
+-- a look at the first word tells nothing
+abbrev pub saw_first : V → ℕ → RwSemHand
+saw_first v n = v.ext
+
+-- a writer enters with no bias; a reader with its own in the count, and with 1 in its grant word
+abbrev pub MayJoin : Bool → SemHand → Type 0
+MayJoin true s = (s.stage ≡ Rest) × (s.bias ≡ Clear)
+MayJoin false s = (s.stage ≡ Armed) × ((word : ℕ) × (s.bias ≡ Transit word))
+
+-- a writer that took leaves
+abbrev pub LeavesTaken : V → ℕ → Type 0
+LeavesTaken v t = (v.ext.sem.stage ≡ Took) × (v.hand.task ≡ Some t) × (v.ext.sem.wait ≡ Writes) × (v.ext.sem.bias ≡ Clear)
+
+-- it is the pass of this task, and has no bias
+abbrev pub GivesUp : V → ℕ → Type 0
+GivesUp v t = (v.hand.task ≡ Some t) × (v.ext.sem.bias ≡ Clear)
+
+-- it is the first, and nobody is marked
+abbrev pub LeavesFirst : V → List Waiter → ℕ → Type 0
+LeavesFirst v q t = GivesUp v t × (v.ext.sem.stage ≡ Summing) × (v.ext.sem.rest ≡ []) × ((v.ext.sem.wait ≡ Reads) ⊎ (v.ext.sem.wait ≡ Writes)) × (first_code q ≡ t + 1)
+
+-- it is another; a reader has seen that it isn't granted
+abbrev pub LeavesBehind : V → List Waiter → ℕ → Type 0
+LeavesBehind v q t = GivesUp v t × (first_code q ≢ t + 1) × (((v.ext.sem.stage ≡ Armed) × (v.ext.sem.wait ≡ Reads)) ⊎ ((v.ext.sem.stage ≡ Rest) × (v.ext.sem.wait ≡ Writes)))
+
+-- where a waker begins, or goes on, to remove its batch: one that holds shared without a reserved bias, one that has reserved one, and one whose batch has begun
+abbrev pub MayPick : SemHand → Type 0
+MayPick s = ((s.stage ≡ Rest) × (s.wait ≡ Apart)) ⊎ ((b : Bool) × (s.stage ≡ Overdue b)) ⊎ (s.stage ≡ Removing)
+
+-- a task leaves as the next of the pass's batch
+abbrev pub LeavesPicked : V → List Waiter → ℕ → Type 0
+LeavesPicked v q t = MayPick v.ext.sem × ((own : ℕ) × (v.hand.task ≡ Some own)) × Picks (seen v) q t
+
+abbrev pub may_change : Change → V → List Waiter → Type 0
+may_change Stay v q = Unit {0}
+may_change (Enter w) v q = (v.hand.task ≡ Some w.task) × (v.hand.held ≡ No) × (v.ext.sem.wait ≡ Apart) × MayJoin w.writer v.ext.sem
+may_change (Leave t) v q = LeavesTaken v t ⊎ LeavesFirst v q t ⊎ LeavesBehind v q t ⊎ LeavesPicked v q t

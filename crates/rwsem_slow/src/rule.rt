@@ -1,0 +1,166 @@
+//! The rule of a semaphore's table.
+ghost use Rattle.std.specs.Prelude.{◌≡◌, refl};
+ghost use Rattle.word_bits.specs.LockWords.{counted};
+ghost use Rattle.rwsem_slow.specs.RwSems.{Kept, RwSemKept, RwSemMoves, any_count, bias_of, biased, count_at, grants_at, idle, list_at, list_of, marks_at, may_change, may_count, may_free, more_in, rests, saw_first, sem_of, standing, with_list, with_sem};
+ghost use Rattle.rwsem_slow.specs.RwSemLaws.{count-inside, list-inside, sem-joins-rule, sem-looks, sem-opens-rule, sem-places, sem-sems, sem-site, sem-sites, sem-spin, sem-spins, sem-splits, spin-inside};
+ghost use Rattle.rwsem_slow.specs.ListLaws.{list-again, list-back, list-over, list-same, may-on, may-stay, sem-firsts, sem-list, sem-list-may, sem-lists, sem-queued};
+ghost use Rattle.rwsem_slow.specs.CountHosting.{bias-back, sem-alone, sem-count, sem-counted, sem-words};
+
+use crate::view::RwSemHand;
+use lock_core::{SPIN_ROOM, SiteRule, SpinHost};
+use rwsem_count::CountHost;
+use rwsem_wake::GrantHost;
+use std::marker::PhantomData;
+use wait_list::ListHost;
+use word_bits::Object;
+
+/// The rule of the table of a semaphore that guards an object of the kind `O`: a spin lock, a
+/// count, a list of waiters, which changes under the spin lock, and a mark and a grant word for
+/// each task.
+pub struct SemRule<O> {
+    object: PhantomData<O>,
+}
+
+impl<O: Object> SiteRule for SemRule<O> {
+    type O = O;
+
+    type Ext = RwSemHand;
+
+    ghost unavailable = { counted };
+
+    ghost holds = { Kept O.object O.WORDS };
+
+    ghost moves = { RwSemMoves };
+
+    ghost marks = { standing };
+
+    ghost idle = { idle };
+
+    ghost rests = { rests };
+
+    ghost site_kept = { sem-site O.object O.WORDS };
+
+    ghost site_moves = { λ k id ws us vs vs' there step. step.site };
+
+    ghost sites = { sem-sites O.object O.WORDS };
+
+    ghost opens = { sem-opens-rule O.object O.WORDS };
+
+    ghost splits = { sem-splits O.object O.WORDS };
+
+    ghost joins = { λ k ws vs id other v w r at apart at' mine theirs there step. sem-joins-rule O.object O.WORDS k ws vs id other v w r at apart at' theirs there step };
+}
+
+impl<O: Object> SpinHost for SemRule<O> {
+    const FIRST: usize = 0;
+
+    ghost FIRST = { 0 };
+
+    ghost may_free = { may_free };
+
+    ghost spin_inside = { spin-inside };
+
+    ghost spin_kept = { sem-spin O.object O.WORDS };
+
+    ghost spin_moves = { λ k id ws us vs vs' step. step.spin };
+
+    ghost spins = { sem-spins O.object O.WORDS };
+}
+
+impl<O: Object> ListHost for SemRule<O> {
+    const LIST: usize = SPIN_ROOM + 16;
+
+    ghost LIST = { list_at };
+
+    ghost list = { list_of };
+
+    ghost with_list = { with_list };
+
+    ghost saw_first = { saw_first };
+
+    ghost may_change = { may_change };
+
+    ghost queue = { RwSemKept O.object O.WORDS };
+
+    ghost list_inside = { list-inside };
+
+    ghost list_back = { list-back };
+
+    ghost list_same = { list-same };
+
+    ghost list_over = { list-over };
+
+    ghost list_again = { list-again };
+
+    ghost may_stay = { may-stay };
+
+    ghost may_on = { may-on };
+
+    ghost queued = { sem-queued O.object O.WORDS };
+
+    ghost list_kept = { sem-list O.object O.WORDS };
+
+    ghost list_moves = { λ k id ws us vs vs' step. step.list };
+
+    ghost list_may = { λ k ws vs q id v c r at has may. sem-list-may O.object O.WORDS k ws vs q id v r at c has may };
+
+    ghost lists = { λ k ws vs q id i n v c b r at inside has may is leaver list. sem-lists O.object O.WORDS k ws vs q id v r at i n c b inside has may is leaver list };
+
+    ghost firsts = { λ k ws vs q id v r at. sem-firsts O.object O.WORDS k ws vs q id v r at };
+}
+
+impl<O: Object> CountHost for SemRule<O> {
+    const COUNT: usize = SPIN_ROOM;
+
+    ghost COUNT = { count_at };
+
+    ghost may_be = { any_count };
+
+    ghost bias = { bias_of };
+
+    ghost counted = { biased };
+
+    ghost more = { more_in };
+
+    ghost may_count = { may_count };
+
+    ghost count_inside = { count-inside };
+
+    ghost bias_back = { bias-back };
+
+    ghost count_kept = { sem-count O.object O.WORDS };
+
+    ghost counts = { sem-counted O.object O.WORDS };
+
+    ghost count_looks = { sem-looks O.object O.WORDS };
+}
+
+impl<O: Object> GrantHost for SemRule<O> {
+    const MARKS: usize = SPIN_ROOM + 88;
+
+    const GRANTS: usize = SPIN_ROOM + 600;
+
+    ghost MARKS = { marks_at };
+
+    ghost GRANTS = { grants_at };
+
+    ghost sem = { sem_of };
+
+    ghost with_sem = { with_sem };
+
+    ghost sem_back = { λ e s. refl };
+
+    ghost sem_same = { λ e. refl };
+
+    ghost sem_over = { λ e s r. refl };
+
+    ghost sem_list = { λ e s. refl };
+
+    ghost sem_places = { sem-places };
+
+    ghost sem_kept = { sem-words O.object O.WORDS };
+
+    ghost sem_only = { sem-alone O.object O.WORDS };
+
+    ghost sems = { sem-sems O.object O.WORDS };
+}
