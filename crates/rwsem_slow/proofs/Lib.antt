@@ -1,0 +1,3 @@
+pub mod Stating
+pub mod Chaining
+pub mod Locking

@@ -78,9 +78,12 @@ stage_code Rest = 0
 stage_code Granting = 2
 stage_code _ = 1
 
--- how it waits, its bias, how far it is under the wait lock, how often it has appended itself, and the tasks of its batch that aren't granted yet
+-- how it waits, how far it is under the wait lock, how often it has appended itself, its bias, and the tasks of its batch that aren't granted yet
+abbrev pub numbers_of : SemHand → ℕ → List ℕ
+numbers_of s appends = wait_code s.wait ∷ stage_code s.stage ∷ appends ∷ (bias_codes s.bias ++ s.rest)
+
 abbrev pub standing : RwSemHand → List ℕ
-standing e = wait_code e.sem.wait ∷ stage_code e.sem.stage ∷ e.appends ∷ (bias_codes e.sem.bias ++ e.sem.rest)
+standing e = numbers_of e.sem e.appends
 
 -- where the words stand: the wait lock's, the count, the owner hint, those of the list, and the marks and the grant words of all tasks
 

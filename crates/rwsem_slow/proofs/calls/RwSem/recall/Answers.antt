@@ -1,0 +1,35 @@
+use Rattle.lock_core.specs.Kinds.{semaphore}
+use Rattle.lock_core.specs.Locked.{IsLockedThen}
+use Rattle.lock_core.specs.LockedLaws.{ran-steps}
+use Rattle.lock_core.specs.Pasts.{Moves}
+use Rattle.lock_core.specs.RunLaws.{ran-each, ran-so}
+use Rattle.lock_core.specs.Stated.{IsSiteMove}
+use Rattle.lock_core.proofs.Showing.{latest-shown}
+use Rattle.osq_nodes.specs.Handles.{fronts_in}
+use Rattle.rwsem_slow.specs.Places.{line_of}
+use Rattle.rwsem_slow.specs.RwSems.{Kept, RwSemMoves, count_at, standing}
+use Rattle.rwsem_slow.specs.Handles.{newest}
+use Rattle.rwsem_slow.specs.Stated.{IsRwSemThen, waits_on}
+use Rattle.rwsem_slow.proofs.Stating.{sem-then}
+use Rattle.rwsem_slow.proofs.Chaining.{becomes}
+use Rattle.rwsem_slow.proofs.Locking.{sem-locked}
+use Rattle.rwsem_slow.proofs.calls.RwSem.recall.Goals as goal
+
+pub returns-clause-last : goal.returns-clause-last
+returns-clause-last g c = latest-shown line_of (fronts_in c.args.pass.now.queue) c.recall.new.pass.seat.me.0.view c.recall.new.pass.seat.me.0.past c.recall.ensures.last
+
+pub returns-clause-always : goal.returns-clause-always
+returns-clause-always g c = let k = c.args.self.now.site.table.shared.key in let o = g.O.Object.object in let n = g.O.Object.WORDS in let own = c.recall.ensures.last in
+    ran-each standing (Kept o n k) (RwSemMoves k) (IsRwSemThen o n k) (sem-then o n k) (newest k) own.now own.before own.rest _ own.past_is c.recall.ensures.run
+
+pub returns-clause-states : goal.returns-clause-states
+returns-clause-states g c = let k = c.args.self.now.site.table.shared.key in let o = g.O.Object.object in let n = g.O.Object.WORDS in let own = c.recall.ensures.last in
+    ran-each standing (Kept o n k) (RwSemMoves k) (IsLockedThen o semaphore n k count_at waits_on) (sem-locked o n k) (newest k) own.now own.before own.rest _ own.past_is c.recall.ensures.run
+
+pub returns-clause-moves : goal.returns-clause-moves
+returns-clause-moves g c = let k = c.args.self.now.site.table.shared.key in let o = g.O.Object.object in let n = g.O.Object.WORDS in
+    ran-steps standing k (newest k) _ (ran-so standing (newest k) (Moves (Kept o n k) (RwSemMoves k)) (IsSiteMove k) (λ x y m. (m.0, m.3.site)) _ c.recall.ensures.run)
+
+pub returns-clause-lists : goal.returns-clause-lists
+returns-clause-lists g c = let k = c.args.self.now.site.table.shared.key in let o = g.O.Object.object in let n = g.O.Object.WORDS in let own = c.recall.ensures.last in
+    becomes o n k (newest k) own.now own.before own.rest _ own.past_is c.recall.ensures.run

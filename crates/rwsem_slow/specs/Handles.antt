@@ -1,0 +1,46 @@
+-- What a clause reads of a semaphore and of a pass of it.
+use Rattle.std.specs.Prelude.{◌≡◌, ℕ}
+use Rattle.word_bits.specs.declared.rec.Rec.{Rec}
+use Rattle.word_bits.specs.Histories.{Plan}
+use Rattle.word_bits.specs.RecWord.{rec_word}
+use Rattle.lock_core.specs.declared.view.Hand.{Hand}
+use Rattle.lock_core.specs.declared.view.Moment.{Moment}
+use Rattle.lock_core.specs.Handles as inner
+use Rattle.lock_core.specs.Pasts.{opening}
+use Rattle.lock_core.specs.Shown.{Shown, shown}
+use Rattle.lock_core.specs.Views.{Knows, SpinRests}
+use Rattle.osq_nodes.specs.declared.node.Place.TheVariants.{Out}
+use Rattle.osq_nodes.specs.Handles as queue
+use Rattle.rwsem_slow.specs.declared.calls.RwSem.{RwSem}
+use Rattle.rwsem_slow.specs.declared.calls.RwPass.{RwPass}
+use Rattle.rwsem_slow.specs.RwSems.{idle, standing}
+use Rattle.rwsem_slow.specs.Places.{IsOutside, line_of}
+
+-- a new table of this plan
+abbrev pub newest : Plan → Moment
+newest k = opening standing k idle
+
+module _ {O C : Type 0} where
+  -- the calls that the semaphore's tasks make
+  abbrev pub plan_of : RwSem O C → Plan
+  plan_of sem = inner.plan_of sem.site
+
+  -- what callers of any lock see of a pass
+  abbrev pub shown_of : RwPass O C → Shown
+  shown_of pass = shown line_of (queue.fronts_in pass.queue) (inner.view_of pass.pass) (inner.past_of pass.pass)
+
+  abbrev pub hand_in : RwPass O C → Hand
+  hand_in pass = inner.hand_in pass.pass
+
+  -- the word is that of this call's record, where the pass knows it
+  abbrev pub TellsRecord : RwPass O C → (task call word : ℕ) → Type 0
+  TellsRecord pass task call word = (r : Rec) → Knows (hand_in pass) (record { task = task; call = call }) r → word ≡ rec_word r
+
+  -- the pass is one of the semaphore's, and no call on it is under way
+  pub record SitsAt (sem : RwSem O C) (pass : RwPass O C) : Type 0 where
+    pub sits : inner.SitsAt sem.site pass.pass
+    pub unspun : SpinRests (inner.view_of pass.pass).spin
+    pub outside : IsOutside (inner.view_of pass.pass)
+    pub queued : queue.SitsAt sem.osq pass.queue
+    pub off : queue.place_in pass.queue ≡ Out
+    pub same : queue.task_in pass.queue ≡ inner.task_in pass.pass

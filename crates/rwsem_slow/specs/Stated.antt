@@ -1,0 +1,102 @@
+-- What is so of a semaphore at each moment, and of each step.
+use Rattle.std.specs.Prelude.{◌≡◌, ℕ, ◌+◌, ◌/◌, ◌%◌, ◌<◌, ◌≤◌, ◌⊎◌, List, [], ◌∷◌, length, map, Some}
+use mathlib.Core.Option.{some}
+use lib.ListN.{get_elem?}
+use Rattle.word_bits.specs.LockWords.{counted as shut}
+use Rattle.word_bits.specs.Objects.{Obj}
+use Rattle.word_bits.specs.Histories.{Plan}
+use Rattle.lock_core.specs.declared.view.Hand.{Hand}
+use Rattle.lock_core.specs.declared.view.SpinHand.{SpinHand}
+use Rattle.lock_core.specs.declared.view.Marks.{Marks}
+use Rattle.lock_core.specs.declared.view.Moment.{Moment}
+use Rattle.lock_core.specs.declared.view.Held.TheVariants.{No}
+use Rattle.lock_core.specs.Locked.{HasPass, IsSiteStep, IsWaitLockFree}
+use Rattle.lock_core.specs.Shown.{Shown}
+use Rattle.lock_core.specs.Spins.{holds_in}
+use Rattle.lock_core.specs.Stated.{IsSiteThen}
+use Rattle.lock_core.specs.Totals.{total}
+use Rattle.wait_list.specs.declared.view.Waiter.{Waiter}
+use Rattle.wait_list.specs.declared.view.Change.{Change}
+use Rattle.wait_list.specs.declared.view.Change.TheVariants.{Stay, Enter, Leave}
+use Rattle.wait_list.specs.Lists.{Allowed, IsList, Lists, changed, counted}
+use Rattle.rwsem_wake.specs.declared.view.SemHand.{SemHand}
+use Rattle.rwsem_wake.specs.SemParts.{SemPart, apart_hand}
+use Rattle.rwsem_wake.specs.Semaphores.{Quiet}
+use Rattle.rwsem_wake.specs.Handoffs.{KeepsHandoff, reads_as}
+use Rattle.rwsem_wake.specs.Stated.{OnlyFirst, Picks, StatesCount, StatesWaiters, over, readers}
+use Rattle.rwsem_slow.specs.RwSems.{KeepsCount, count_in, entered, grants_in, list_words, marks_in, numbers_of}
+
+-- what a moment keeps of a pass that stands so, and has appended itself so often
+abbrev pub stance : SemHand → ℕ → Marks
+stance s appends = record { numbers = numbers_of s appends }
+
+-- what concerns the semaphore of the pass of this number, as the moment has it
+pub record IsPartThen (m : Moment) (id : ℕ) (h : Hand) (p : SemPart) : Type 0 where
+  pub task : p.task ≡ h.task
+  pub held : p.held ≡ h.held
+  pub appends : ℕ
+  pub marked : get_elem? m.marks id ≡ some (stance p.sem appends)
+
+-- these are the parts of all passes, in turn
+pub record AreParts (m : Moment) (ps : List SemPart) : Type 0 where
+  pub many : length ps ≡ length m.hands
+  pub each : (id : ℕ) (h : Hand) → get_elem? m.hands id ≡ some h → (p : SemPart) × (get_elem? ps id ≡ some p) × IsPartThen m id h p
+
+-- Each reader is a task, once: it holds shared, its grant word is 0 while it waits, or it is in the rest of a batch that is in the count. `readers` is how many there are.
+pub record AreReaders (grants : List ℕ) (ps : List SemPart) : Type 0 where
+  pub once : (t : ℕ) → t < 64 → total (reads_as grants t) ps ≤ 1
+  pub are : over (λ t. total (reads_as grants t) ps) 64 ≡ readers grants ps
+
+-- While this is the list, and these are the parts of the passes. The list's words state it while the wait lock is free, and each waiter has a pass. The count states whether a task writes, which then is alone, how many read, which biases are in it, and, while the wait lock is free, that tasks wait. Then the first waiter alone may be marked, and HANDOFF is set where it is.
+pub record IsQueued (m : Moment) (q : List Waiter) (ps : List SemPart) : Type 0 where
+  pub parts : AreParts m ps
+  pub sound : IsList q
+  pub states : IsWaitLockFree m.spins → Lists (list_words m.words) q
+  pub passes : (t : ℕ) → 0 < counted t q → HasPass m.hands t
+  pub waiters : StatesWaiters q (grants_in m.words) ps
+  pub count : StatesCount (count_in m.words) q (marks_in m.words) (grants_in m.words) ps
+  pub read : AreReaders (grants_in m.words) ps
+  pub flags : IsWaitLockFree m.spins → Quiet (count_in m.words / 2 % 2) (count_in m.words / 4 % 2) q (marks_in m.words)
+  pub marked : IsWaitLockFree m.spins → OnlyFirst (count_in m.words / 4 % 2) q (marks_in m.words)
+
+-- the facts of a site, and a list
+abbrev pub IsRwSemThen : {Call : Type 0} → Obj Call → ℕ → Plan → Moment → Type 0
+IsRwSemThen o size k m = IsSiteThen o shut size k m × ((q : List Waiter) × (ps : List SemPart) × IsQueued m q ps)
+
+-- the pass of this number has the wait lock
+abbrev pub HasWaitLock : ℕ → Moment → Type 0
+HasWaitLock id m = (s : SpinHand) × (get_elem? m.spins id ≡ some s) × (holds_in s ≡ 1)
+
+-- a change of this list is made under the wait lock by the pass of this number, hand and part: a waiter enters by itself, and holds nothing; it leaves by itself, or as the next of the batch of the pass
+abbrev pub MadeBy : Change → ℕ → Hand → List SemPart → List Waiter → Moment → Type 0
+MadeBy Stay id h ps q m = Unit {0}
+MadeBy (Enter w) id h ps q m = HasWaitLock id m × (h.task ≡ Some w.task) × (h.held ≡ No)
+MadeBy (Leave t) id h ps q m = HasWaitLock id m × ((h.task ≡ Some t) ⊎ ((p : SemPart) × (get_elem? ps id ≡ some p) × Picks p q t))
+
+-- One step of one pass, made while this was the list and these the parts of the passes. The list changes by one append or one removal, which keeps the others in order. While the first waiter is marked and HANDOFF is set, the writer's bit comes by that waiter alone, and a task becomes a reader only by a bias whose addition saw no HANDOFF, or by a downgrade. Who ends or downgrades a hold keeps the count that its step left. Each append is counted by the pass that enters.
+pub record IsRwSemStep (k : Plan) (x : Moment) (q : List Waiter) (ps : List SemPart) (y : Moment) (q' : List Waiter) (ps' : List SemPart) : Type 0 where
+  pub by : IsSiteStep k x y
+  pub change : Change
+  pub allowed : Allowed change q
+  pub made : MadeBy change by.id by.before ps q x
+  pub is : q' ≡ changed change q
+  pub hands : KeepsHandoff by.id (count_in x.words) q (marks_in x.words) (grants_in x.words) ps (count_in y.words) (grants_in y.words) ps'
+  pub freed : KeepsCount by.before by.after (count_in y.words)
+  pub appends : (s : SemHand) (appends : ℕ) → get_elem? x.marks by.id ≡ some (stance s appends) → (s' : SemHand) × (get_elem? y.marks by.id ≡ some (stance s' (appends + entered change)))
+
+-- the last of these moments, which stands first, has this list and these parts, and has come to be by such steps from that of the first
+abbrev pub HasBecome : Plan → List Moment → List Waiter → List SemPart → Type 0
+HasBecome k [] q ps = ⊥
+HasBecome k (m ∷ []) q ps = IsQueued m q ps
+HasBecome k (m ∷ before ∷ past) q ps = IsQueued m q ps × ((old : List Waiter) × (were : List SemPart) × HasBecome k (before ∷ past) old were × IsRwSemStep k before old were m q ps)
+
+-- the last moment of its past has it at one seat, marked as waiting for nothing and without a bias in the count, and as having appended itself as often as it says
+abbrev pub IsOutOfLine : Shown → Type 0
+IsOutOfLine v = (now : Moment) × (rest : List Moment) × (v.past ≡ now ∷ rest) × ((id : ℕ) × (get_elem? now.hands id ≡ some v.hand) × (get_elem? now.marks id ≡ some (stance apart_hand v.line.appends)))
+
+abbrev pub task_of : Waiter → ℕ
+task_of w = w.task
+
+-- the tasks of the list, which its words state while the wait lock is free, first to last
+abbrev pub waits_on : Plan → Moment → List ℕ → Type 0
+waits_on k m waiting = (q : List Waiter) × IsList q × (waiting ≡ map task_of q) × (IsWaitLockFree m.spins → Lists (list_words m.words) q)

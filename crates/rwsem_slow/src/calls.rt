@@ -1,0 +1,154 @@
+//! Semaphores, their passes, and their calls.
+ghost use Rattle.std.specs.Prelude.{◌≡◌, ◌<◌, List, [], ◌∷◌, length, Some, None, IsSome, IfOk};
+ghost use Rattle.lock_core.specs.declared.view.Held.TheVariants.{No};
+ghost use Rattle.lock_core.specs.Kinds.{semaphore, unavailable};
+ghost use Rattle.lock_core.specs.Pasts.{EachMoment, Paced, Tail};
+ghost use Rattle.lock_core.specs.Locking.{Looks, Has};
+ghost use Rattle.lock_core.specs.Locked.{IsLockedThen, IsSiteStep};
+ghost use Rattle.lock_core.specs.Passes.{Numbered};
+ghost use Rattle.lock_core.specs.Records.{IsPlan};
+ghost use Rattle.lock_core.specs.Shown.{AllButHand, IsLatestStep, PastGoesOn, shown_new, shown_split};
+ghost use Rattle.lock_core.specs.Stated.{IsNew};
+ghost use Rattle.lock_core.specs.Views.{gathered, gave_up};
+ghost use Rattle.osq_nodes.specs.Handles.{tasks_of};
+ghost use Rattle.lock_core.specs.Handles as inner;
+ghost use Rattle.wait_list.specs.declared.view.Waiter.{Waiter as Waiters};
+ghost use Rattle.rwsem_wake.specs.SemParts.{SemPart};
+ghost use Rattle.rwsem_slow.specs.RwSems.{count_at};
+ghost use Rattle.rwsem_slow.specs.Stated.{HasBecome, IsOutOfLine, IsRwSemThen, waits_on};
+
+use crate::rule::SemRule;
+use lock_core::{Pass, Plan, Site};
+use osq_nodes::{Osq, OsqPass};
+use std::alloc::{AllocError, Global};
+use std::sync::Wait;
+use word_bits::Object;
+
+mod laws;
+mod words;
+
+/// A reader-writer semaphore that guards an object of the kind `O`, with the object's plan, records
+/// and log. Contracts see its plan (`plan_of`).
+#[derive(Drop)]
+pub struct RwSem<O: Object> {
+    site: Site<SemRule<O>>,
+    osq: Osq,
+    ghost sized: { tasks_of osq ≡ length (inner.plan_of site) },
+}
+
+/// A pass of a semaphore, with one of its spin queue. Contracts see what callers of any lock see of
+/// a pass (`shown_of`).
+#[derive(Drop)]
+pub struct RwPass<O: Object> {
+    pass: Pass<SemRule<O>>,
+    queue: OsqPass,
+}
+
+impl<O: Object> RwSem<O> {
+    ghost use Rattle.rwsem_slow.specs.Handles.{newest, plan_of, shown_of, hand_in, SitsAt};
+
+    /// A new semaphore: nobody holds, the state is empty, no call is logged or recorded. The pass
+    /// has no task number.
+    pub fn open(alloc: Global, plan: Plan) -> Result<(RwSem<O>, RwPass<O>), AllocError>
+        requires { IsPlan O.object plan }
+        ensures own { IfOk result (λ t. SitsAt t.0 t.1) }
+        ensures plan { IfOk result (λ t. plan_of t.0 ≡ plan) }
+        ensures new { IfOk result (λ _. IsNew O.object O.WORDS plan (newest plan)) }
+        ensures view { IfOk result (λ t.
+            shown_of t.1 ≡ shown_new (Some plan) [] (newest plan ∷ [])) }
+    {
+        let (site, pass) = Site::open(alloc, plan)?;
+        let (osq, queue) = Osq::open(alloc, site.tasks())?;
+        Ok((RwSem { site, osq }, RwPass { pass, queue }))
+    }
+
+    /// A pass without a task number, which has seen as many entries.
+    pub fn split(&self, pass: &mut RwPass<O>) -> RwPass<O>
+        requires own { SitsAt self.now pass.old }
+        ensures own { SitsAt self.now pass.new }
+        ensures its_own { SitsAt self.now result }
+        ensures goes_on { PastGoesOn (shown_of pass.old) (shown_of pass.new) }
+        ensures kept { Looks (shown_of pass.old) (shown_of pass.new) }
+        ensures given { shown_of result ≡ shown_split (shown_of pass.old) }
+    {
+        let other = self.site.split(&mut pass.pass);
+        let queue = self.osq.split(&mut pass.queue);
+        RwPass { pass: other, queue }
+    }
+
+    /// Waits until nobody has the task's number, and takes it with the task's records. What the
+    /// pass saw of the lock is forgotten, and it has seen as many entries as the task.
+    pub fn begin<W: Wait>(&self, rt: &W, pass: &mut RwPass<O>, task: u32)
+        requires own { SitsAt self.now pass.old }
+        requires numberless { (hand_in pass.old).task ≡ None }
+        requires there { task < length (plan_of self.now) }
+        ensures own { SitsAt self.now pass.new }
+        ensures goes_on { PastGoesOn (shown_of pass.old) (shown_of pass.new) }
+        ensures became { Numbered O.object (unavailable semaphore) (plan_of self.now)
+            (hand_in pass.old) task (hand_in pass.new) }
+        ensures beside { AllButHand (shown_of pass.old) (shown_of pass.new) }
+    {
+        self.site.begin(rt, &mut pass.pass, task);
+        self.osq.begin(rt, &mut pass.queue, task);
+    }
+
+    /// Gives the pass's number back.
+    pub fn end(&self, pass: &mut RwPass<O>)
+        requires own { SitsAt self.now pass.old }
+        requires numbered { IsSome (hand_in pass.old).task }
+        requires out { (hand_in pass.old).held ≡ No }
+        requires sent { (hand_in pass.old).sent ≡ None }
+        requires consumed { (hand_in pass.old).consumed ≡ 0 }
+        ensures own { SitsAt self.now pass.new }
+        ensures goes_on { PastGoesOn (shown_of pass.old) (shown_of pass.new) }
+        ensures kept { Has (gave_up (hand_in pass.old)) (shown_of pass.old) (shown_of pass.new) }
+    {
+        self.osq.end(&mut pass.queue);
+        self.site.end(&mut pass.pass);
+    }
+
+    /// Takes in another pass, which is spent: `into` then knows the records that `other` knew, and
+    /// has seen as many entries as either.
+    pub fn gather(&self, into: &mut RwPass<O>, other: RwPass<O>)
+        requires own { SitsAt self.now into.old }
+        requires others_own { SitsAt self.now other }
+        requires out { (hand_in into.old).held ≡ No }
+        requires numberless { (hand_in other).task ≡ None }
+        ensures own { SitsAt self.now into.new }
+        ensures goes_on { PastGoesOn (shown_of into.old) (shown_of into.new) }
+        ensures kept { Has (gathered (hand_in into.old) (hand_in other))
+            (shown_of into.old) (shown_of into.new) }
+    {
+        let RwPass { pass, queue } = other;
+        self.site.gather(&mut into.pass, pass);
+        self.osq.gather(&mut into.queue, queue);
+    }
+
+    /// A load, after which the pass knows what was so of the table at each moment so far, from the
+    /// new table on: the facts of every site, which tasks wait and as what, and that the count
+    /// states whether a task writes, which then is alone, how many tasks read and whose bias is in
+    /// it, and whether tasks wait; and what each step did: the list changes by one append or one
+    /// removal, which is the waiter's own or that of a waker whose batch goes on with it; and while
+    /// the first waiter is marked and HANDOFF is set, it alone may come to write, and a task comes
+    /// to read only by a bias that saw no HANDOFF, or by a downgrade. The pass itself waits for
+    /// nothing.
+    pub fn recall(&self, pass: &mut RwPass<O>)
+        requires own { SitsAt self.now pass.old }
+        ensures own { SitsAt self.now pass.new }
+        ensures goes_on { PastGoesOn (shown_of pass.old) (shown_of pass.new) }
+        ensures kept { Looks (shown_of pass.old) (shown_of pass.new) }
+        ensures last { IsLatestStep (shown_of pass.new) }
+        ensures begins { Tail (newest (plan_of self.now) ∷ []) (shown_of pass.new).past }
+        ensures always { EachMoment (IsRwSemThen O.object O.WORDS (plan_of self.now))
+            (shown_of pass.new).past }
+        ensures states { EachMoment
+            (IsLockedThen O.object semaphore O.WORDS (plan_of self.now) count_at waits_on)
+            (shown_of pass.new).past }
+        ensures out { IsOutOfLine (shown_of pass.new) }
+        ensures moves { Paced (IsSiteStep (plan_of self.now)) (shown_of pass.new).past }
+        ensures lists { (q : List Waiters) × (ps : List SemPart) ×
+            HasBecome (plan_of self.now) (shown_of pass.new).past q ps }
+    {
+        self.site.recall(&mut pass.pass);
+    }
+}
