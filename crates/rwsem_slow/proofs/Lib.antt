@@ -1,3 +1,4 @@
 pub mod Stating
 pub mod Chaining
 pub mod Locking
+pub mod Showing

@@ -3,7 +3,10 @@ use Rattle.std.specs.Prelude.{◌≡◌, ℕ}
 use Rattle.word_bits.specs.declared.rec.Rec.{Rec}
 use Rattle.word_bits.specs.Histories.{Plan}
 use Rattle.word_bits.specs.RecWord.{rec_word}
+use Rattle.word_bits.specs.Objects.{Obj}
 use Rattle.lock_core.specs.declared.view.Hand.{Hand}
+use Rattle.lock_core.specs.declared.view.Held.TheVariants.{Shared, Alone}
+use Rattle.lock_core.specs.Locking.{Takes}
 use Rattle.lock_core.specs.declared.view.Moment.{Moment}
 use Rattle.lock_core.specs.Handles as inner
 use Rattle.lock_core.specs.Pasts.{opening}
@@ -31,6 +34,13 @@ module _ {O C : Type 0} where
 
   abbrev pub hand_in : RwPass O C → Hand
   hand_in pass = inner.hand_in pass.pass
+
+  -- it holds alone, and shared
+  abbrev pub TakesAlone : {Call : Type 0} → Obj Call → RwSem O C → RwPass O C → RwPass O C → Type 0
+  TakesAlone o sem old new = Takes o (plan_of sem) Alone (shown_of old) (shown_of new)
+
+  abbrev pub TakesShared : {Call : Type 0} → Obj Call → RwSem O C → RwPass O C → RwPass O C → Type 0
+  TakesShared o sem old new = Takes o (plan_of sem) Shared (shown_of old) (shown_of new)
 
   -- the word is that of this call's record, where the pass knows it
   abbrev pub TellsRecord : RwPass O C → (task call word : ℕ) → Type 0

@@ -25,6 +25,7 @@ use std::sync::Wait;
 use word_bits::Object;
 
 mod laws;
+mod tries;
 mod words;
 
 /// A reader-writer semaphore that guards an object of the kind `O`, with the object's plan, records
