@@ -65,7 +65,7 @@ module _ {S C P U : Type 0} where
     pub legal : AreLegal script (results_of m) told
     pub known : AreAllKnown hand (gathered_of m) told
 
-  -- no pass of an object has a task's number or owes anything
+  -- no gathered pass has a task's number or owes anything
   abbrev pub IsAtRest : (S → P → Type 0) → Machine S C P U → Type 0
   IsAtRest idle m = EachOf (λ k s p. idle s p) (sites_of m) (gathered_of m)
 
