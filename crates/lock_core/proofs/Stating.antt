@@ -41,6 +41,7 @@ module _ {Call : Type 0} (o : Obj Call) (unavailable : Unavailable) (size : ℕ)
     known = λ j h at. (r.each j h at).known;
     entries = (r.tells.many, r.tells.entered);
     seen = λ j h at. (r.each j h at).seen.1;
+    knows = λ j h at e x knows. (r.each j h at).knows knows.0 (record { entry = e; rec = x }) knows.1;
     records = r.tells.filled;
     legal = r.tells.legal;
     logged = λ j e there. elim (native.Mathlib.Decide.dec_le (length r.log) (j + total owed_of hs)) [

@@ -4,6 +4,7 @@ use Rattle.word_bits.specs.declared.TheConstants.{MAX_TASKS}
 use mathlib.Core.Option.{some}
 use lib.ListN.{get_elem?}
 use Rattle.word_bits.specs.declared.entry.Entry.{Entry}
+use Rattle.word_bits.specs.declared.rec.Rec.{Rec}
 use Rattle.word_bits.specs.EntryWord.{entry_word}
 use Rattle.word_bits.specs.LockWords.{Unavailable}
 use Rattle.word_bits.specs.Objects.{Obj}
@@ -17,7 +18,7 @@ use Rattle.lock_core.specs.declared.layout.TheConstants.{LOCK_WORDS}
 use Rattle.lock_core.specs.Plans.{calls_in, call_words}
 use Rattle.lock_core.specs.Layout.{SiteWords, site}
 use Rattle.lock_core.specs.Records.{row, rec_words, sends, intrs, IsLoggedAt, AreNext}
-use Rattle.lock_core.specs.Views.{stranger, no_spin, named_of, sent_of, consumed_of}
+use Rattle.lock_core.specs.Views.{stranger, no_spin, named_of, sent_of, consumed_of, Knows}
 use Rattle.lock_core.specs.Sites.{HasPlan, taken_at, sent_at, consumed_at}
 use Rattle.lock_core.specs.Moves.{SiteMove}
 use Rattle.lock_core.specs.Pasts.{Instant}
@@ -52,6 +53,8 @@ module _ {Call : Type 0} (o : Obj Call) (unavailable : Unavailable) (size : ℕ)
     -- what each pass has seen begins the log
     pub entries : (w.len ≡ length log) × (take (length log) w.entries ≡ map entry_word log)
     pub seen : Each (λ h. take (length h.seen) log ≡ h.seen) hs
+    -- what each pass knows of records, which it made or gathered, stands among them
+    pub knows : Each (λ h. (e : Entry) (r : Rec) → Knows h e r → slice_get (row told e.task) e.call ≡ Some r) hs
     -- each record says what its call replied at its place; each entry has its record, or a view is about to store it
     pub records : w.recs ≡ rec_words k told
     pub legal : (t : ℕ) → AreNext o unavailable k log t 0 0 (row k t) (row told t)
