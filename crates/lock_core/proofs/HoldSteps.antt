@@ -64,13 +64,13 @@ module _ {Call : Type 0} (o : Obj Call) (unavailable : Unavailable) (size : ℕ)
       at_rest (Logged e) is = no-alone (sym free ∙ (ok.logged e is).0)
 
   -- a hand that holds in another way, or no more
-  abbrev reheld : Hand → Held → List ℕ → List Entry → ℕ → Hand
-  reheld h held known log freed = record h { held = held; known = known; log = log; freed = freed }
+  abbrev reheld : Hand → Held → List ℕ → List Entry → (takes freed : ℕ) → Hand
+  reheld h held known log takes freed = record h { held = held; known = known; log = log; takes = takes; freed = freed }
 
   -- a pass that doesn't write and owes nothing comes to hold in another way, or no more
-  site-reholds : (w : SiteWords) (hs : List Hand) (id : ℕ) (h : Hand) (held : Held) (known : List ℕ) (log : List Entry) (freed : ℕ) (r : Kept w hs) → get_elem? hs id ≡ some h → h.writes ≡ false → h.stage ≡ Rest → (h.task ≡ None → held ≡ No)
-      → (held ≢ No → (known ≡ take size w.guarded) × (log ≡ r.log)) → (0 < total alone_of (set hs id (reheld h held known log freed)) → total held_of (set hs id (reheld h held known log freed)) ≤ 1) → Kept w (set hs id (reheld h held known log freed))
-  site-reholds w hs id h held known log freed r at quiet rest nameless learns apart = let a = r.each id h at in let b = r.balances in let g : Hand = reheld h held known log freed in let P : Hand → Type 0 = HandOk o unavailable size k w.guarded (get_or w.entries w.len 0) r.log r.told in
+  site-reholds : (w : SiteWords) (hs : List Hand) (id : ℕ) (h : Hand) (held : Held) (known : List ℕ) (log : List Entry) (takes freed : ℕ) (r : Kept w hs) → get_elem? hs id ≡ some h → h.writes ≡ false → h.stage ≡ Rest → (h.task ≡ None → held ≡ No)
+      → (held ≢ No → (known ≡ take size w.guarded) × (log ≡ r.log)) → (0 < total alone_of (set hs id (reheld h held known log takes freed)) → total held_of (set hs id (reheld h held known log takes freed)) ≤ 1) → Kept w (set hs id (reheld h held known log takes freed))
+  site-reholds w hs id h held known log takes freed r at quiet rest nameless learns apart = let a = r.each id h at in let b = r.balances in let g : Hand = reheld h held known log takes freed in let P : Hand → Type 0 = HandOk o unavailable size k w.guarded (get_or w.entries w.len 0) r.log r.told in
       let wr = total-same writes_of hs id h g at refl in let owed = total-same owed_of hs id h g at refl in record {
         log = r.log;
         told = r.told;
@@ -108,7 +108,7 @@ module _ {Call : Type 0} (o : Obj Call) (unavailable : Unavailable) (size : ℕ)
   site-takes w hs id t h held r at free named takes nobody none = let a = r.each id h at in let g : Hand = took h held (take size w.guarded) r.log in
       let was : held_of h ≡ 0 = ap held_weight free in let was' : alone_of h ≡ 0 = ap alone_weight free in let sum = total-set held_of hs id h g at in let sum' = total-set alone_of hs id h g at in let one = most held in
       let quiet : h.writes ≡ false = false-or-true h.writes (λ yes_it. no-alone (sym free ∙ a.writer yes_it)) (λ f. f) in
-      site-reholds w hs id h held (take size w.guarded) r.log h.freed r at quiet (free-rests w.guarded (get_or w.entries w.len 0) r.log r.told h a free) (λ eq. none-some t (sym eq ∙ named)) (λ _. (refl, refl)) (λ l. let z = nobody (omega arith) in omega arith)
+      site-reholds w hs id h held (take size w.guarded) r.log (h.takes + 1) h.freed r at quiet (free-rests w.guarded (get_or w.entries w.len 0) r.log r.told h a free) (λ eq. none-some t (sym eq ∙ named)) (λ _. (refl, refl)) (λ l. let z = nobody (omega arith) in omega arith)
     where
       most : (x : Held) → held_weight x ≤ 1
       most No = omega arith
@@ -134,10 +134,10 @@ module _ {Call : Type 0} (o : Obj Call) (unavailable : Unavailable) (size : ℕ)
   -- a pass that doesn't write and owes nothing ends its hold, whoever holds beside it, and keeps the word that it leaves
   pub site-frees : (w : SiteWords) (hs : List Hand) (id word : ℕ) (h : Hand) → Kept w hs → get_elem? hs id ≡ some h → h.writes ≡ false → h.stage ≡ Rest → Kept w (set hs id (released h word))
   site-frees w hs id word h r at quiet rest = let g : Hand = released h word in let sum = total-set held_of hs id h g at in let sum' = total-set alone_of hs id h g at in
-      site-reholds w hs id h No [] [] word r at quiet rest (λ _. refl) (λ n. absurd (n refl)) (λ l. let c = r.balances.apart (omega arith) in omega arith)
+      site-reholds w hs id h No [] [] h.takes word r at quiet rest (λ _. refl) (λ n. absurd (n refl)) (λ l. let c = r.balances.apart (omega arith) in omega arith)
 
   -- a pass that holds alone, doesn't write and owes nothing goes on holding beside others
   pub site-downgrades : (w : SiteWords) (hs : List Hand) (id word : ℕ) (h : Hand) → Kept w hs → get_elem? hs id ≡ some h → h.held ≡ Alone → h.writes ≡ false → h.stage ≡ Rest → Kept w (set hs id (downgraded h word))
   site-downgrades w hs id word h r at alone quiet rest = let a = r.each id h at in let b = r.balances in let g : Hand = downgraded h word in
       let was : held_of h ≡ 1 = ap held_weight alone in let was' : alone_of h ≡ 1 = ap alone_weight alone in let sum = total-set held_of hs id h g at in let sum' = total-set alone_of hs id h g at in let mine = total-at alone_of hs id h at in let all = alone-all hs in
-      site-reholds w hs id h Shared h.known h.log word r at quiet rest (λ eq. no-alone (sym (a.nameless eq).0 ∙ alone)) (λ _. a.known (λ none. no-alone (sym none ∙ alone))) (λ l. let c = b.apart (omega arith) in omega arith)
+      site-reholds w hs id h Shared h.known h.log h.takes word r at quiet rest (λ eq. no-alone (sym (a.nameless eq).0 ∙ alone)) (λ _. a.known (λ none. no-alone (sym none ∙ alone))) (λ l. let c = b.apart (omega arith) in omega arith)

@@ -55,6 +55,7 @@ module _ {E : Type 0} (line : E → Line) (fronts fronts' : ℕ) (stood : fronts
     };
     consumed = part (λ w. w.hand.consumed);
     out = part (λ w. w.hand.held) ∙ out;
+    takes = part (λ w. w.hand.takes);
     sees = missed-sees;
     once = more;
     freed = part (λ w. w.hand.freed);

@@ -44,7 +44,7 @@ IsStored o k h = h.known ≡ o.stores (state_after o k h.log)
 abbrev pub Begins : Hand → List Entry → Type 0
 Begins h log = (length h.seen ≤ length log) × (take (length h.seen) log ≡ h.seen)
 
--- it holds in this way, and has learnt the guarded words, which store the state after the log, and the log, which begins with what it had seen
+-- it holds in this way, by one take, and has learnt the guarded words, which store the state after the log, and the log, which begins with what it had seen
 pub record Takes {Call : Type 0} (o : Obj Call) (k : Plan) (held : Held) (v u : Shown) : Type 0 where
   pub keeps : Keeps v u
   pub consumed : u.hand.consumed ≡ v.hand.consumed
@@ -52,6 +52,7 @@ pub record Takes {Call : Type 0} (o : Obj Call) (k : Plan) (held : Held) (v u : 
   pub quiet : u.hand.writes ≡ false
   pub stored : IsStored o k u.hand
   pub begins : Begins v.hand u.hand.log
+  pub takes : u.hand.takes ≡ v.hand.takes + 1
   pub freed : u.hand.freed ≡ v.hand.freed
 
 -- how a call holds that reads, or that changes
@@ -68,11 +69,12 @@ pub record Sees (kind : Kind) (reads : Bool) (at word : ℕ) (v u : Shown) : Typ
   pub found : FindsAtStep saw.step at word v u
   pub shut : unavailable kind reads word
 
--- it didn't wait, and holds nothing: it took no wait lock, was in no list, and was no queue's front
+-- it didn't wait, and holds nothing, nor did it at any step: it took no wait lock, was in no list, and was no queue's front
 pub record Misses (kind : Kind) (reads : Bool) (at word : ℕ) (v u : Shown) : Type 0 where
   pub keeps : Keeps v u
   pub consumed : u.hand.consumed ≡ v.hand.consumed
   pub out : u.hand.held ≡ No
+  pub takes : u.hand.takes ≡ v.hand.takes
   pub sees : Sees kind reads at word v u
   pub once : u.hand.misses ≡ v.hand.misses + 1
   pub freed : u.hand.freed ≡ v.hand.freed
@@ -86,24 +88,26 @@ pub record SawPending (why : Interrupted) (v u : Shown) : Type 0 where
   pub taken : (t : ℕ) → v.hand.task ≡ Some t → FindsSince (consumed_place t) why.taken v u
   pub pending : why.taken < why.sent
 
--- it had appended itself to the list, once, and waited until it saw that a signal was pending; it has consumed one, and holds nothing
+-- it had appended itself to the list, once, and waited until it saw that a signal was pending; it has consumed one, and holds nothing, nor did it at any step
 pub record Interrupts (kind : Kind) (reads : Bool) (at : ℕ) (why : Interrupted) (v u : Shown) : Type 0 where
   pub keeps : Keeps v u
   pub heard : SawPending why v u
   pub consumed : u.hand.consumed ≡ v.hand.consumed + 1
   pub out : u.hand.held ≡ No
+  pub takes : u.hand.takes ≡ v.hand.takes
   pub word : ℕ
   pub sees : Sees kind reads at word v u
   pub freed : u.hand.freed ≡ v.hand.freed
   pub waited : u.line.appends ≡ v.line.appends + 1
 
--- what a call that ends or downgrades a hold leaves; where its word has waiters to be woken it has gone through the wait lock
+-- what a call that ends or downgrades a hold leaves: it has not come to hold anew, so that it held at each step up to the one that ended the hold; where its word has waiters to be woken it has gone through the wait lock
 pub record Frees (wakes : ℕ → Type 0) (v u : Shown) : Type 0 where
   pub keeps : Keeps v u
   pub consumed : u.hand.consumed ≡ v.hand.consumed
   pub quiet : u.hand.writes ≡ false
   pub saw : u.hand.saw ≡ v.hand.saw
   pub misses : u.hand.misses ≡ v.hand.misses
+  pub takes : u.hand.takes ≡ v.hand.takes
   pub fronts : u.fronts ≡ v.fronts
   pub line : u.line ≡ v.line
   pub woken : wakes u.hand.freed → v.spin.entries < u.spin.entries
@@ -112,7 +116,7 @@ pub record Frees (wakes : ℕ → Type 0) (v u : Shown) : Type 0 where
 abbrev pub Releases : (ℕ → Type 0) → Shown → Shown → Type 0
 Releases wakes v u = Frees wakes v u × (u.hand.held ≡ No)
 
--- it holds as after a shared call, and what it knows of the object is as before
+-- it holds as after a shared call, and held at each step, as it holds now and has not come to hold anew; what it knows of the object is as before
 abbrev pub Downgrades : Kind → Shown → Shown → Type 0
 Downgrades kind v u = Frees (wakes_down kind) v u × (u.hand.held ≡ shares kind) × (u.hand.known ≡ v.hand.known) × (u.hand.log ≡ v.hand.log)
 

@@ -138,10 +138,12 @@ Grows w w' = (w.len ≤ w'.len) × (take w.len w'.entries ≡ take w.len w.entri
 abbrev pub SawSince : Hand → ℕ → Type 0
 SawSince h word = (saw : Saw) × (h.saw ≡ Some saw) × (saw.word ≡ word) × (h.last < saw.step)
 
--- what every step of a pass does to its hand: its misses don't fall, and what its last release left stays while it holds as before
+-- what every step of a pass does to its hand: its misses and the number of its takes don't fall, what its last release left stays while it holds as before, and it comes to hold by one take more alone
 pub record HandGoes (h g : Hand) : Type 0 where
   pub misses : h.misses ≤ g.misses
   pub freed : g.held ≡ h.held → g.freed ≡ h.freed
+  pub takes : h.takes ≤ g.takes
+  pub comes : h.held ≡ No → g.held ≢ No → h.takes < g.takes
 
 -- what a step of a pass with the first hand, which then has the second, does to the site's words and to the hand
 pub record SiteStep (w w' : SiteWords) (h g : Hand) : Type 0 where

@@ -38,6 +38,7 @@ stranger plan seen = record {
   last = 0;
   saw = None;
   misses = 0;
+  takes = 0;
   freed = 0;
 }
 
@@ -174,9 +175,9 @@ note_steps reply = 2
 abbrev pub noted : Hand → ℕ → Entry → Reply → Hand
 noted h step e reply = recorded (settled h reply) step e (record { k = length (note_seen h reply); reply = reply }) (note_seen h reply)
 
--- It takes the lock, and learns the guarded words and the log.
+-- It takes the lock, once more, and learns the guarded words and the log.
 abbrev pub took : Hand → Held → List ℕ → List Entry → Hand
-took h held known log = record h { held = held; known = known; log = log }
+took h held known log = record h { held = held; known = known; log = log; takes = h.takes + 1 }
 
 abbrev pub let_go : Hand → Hand
 let_go h = record h { held = No; known = []; log = [] }

@@ -71,6 +71,8 @@ pub struct Hand {
     pub saw: Option<Saw>,
     /// How often a failed try of the owner word or the count has set `saw`.
     pub misses: u64,
+    /// How often it has come to hold, in any way, when it held nothing.
+    pub takes: u64,
     /// The lock word as the last step left it that ended or downgraded a hold.
     pub freed: u64,
 }

@@ -47,6 +47,7 @@ failed-misses v u p q n s later now out own found goes names small reads = recor
   };
   consumed = part (λ w. w.hand.consumed);
   out = part (λ w. w.hand.held) ∙ out;
+  takes = part (λ w. w.hand.takes);
   sees = record {
     saw = record { word = n; step = s + 1 };
     is = part (λ w. w.hand.saw);
@@ -73,7 +74,7 @@ failed-misses v u p q n s later now out own found goes names small reads = recor
     more = part (λ w. w.hand.misses)
 
 pub misses-tried : {reads : Bool} {n : ℕ} {v u : Shown} → Misses mutex reads owner_at n v u → OnlyTried v u
-misses-tried m = record { keeps = m.keeps; consumed = m.consumed; freed = m.freed }
+misses-tried m = record { keeps = m.keeps; consumed = m.consumed; takes = m.takes; freed = m.freed }
 
 pub counts-then : {v w u : Shown} → NoCountFalls v w → NoCountFalls w u → NoCountFalls v u
 counts-then {v} {w} {u} a b = record {
@@ -88,14 +89,14 @@ pub keeps-then : {v w u : Shown} → Keeps v w → Keeps w u → Keeps v u
 keeps-then a b = record { task = b.task ∙ a.task; done = b.done ∙ a.done; seen = b.seen ∙ a.seen; records = b.records ∙ a.records; sent = b.sent ∙ a.sent; last = b.last ∙ a.last; counts = counts-then a.counts b.counts }
 
 pub tried-then : {v w u : Shown} → OnlyTried v w → OnlyTried w u → OnlyTried v u
-tried-then a b = record { keeps = keeps-then a.keeps b.keeps; consumed = b.consumed ∙ a.consumed; freed = b.freed ∙ a.freed }
+tried-then a b = record { keeps = keeps-then a.keeps b.keeps; consumed = b.consumed ∙ a.consumed; takes = b.takes ∙ a.takes; freed = b.freed ∙ a.freed }
 
 pub same-keeps : {v u : Shown} → u.hand ≡ v.hand → NoCountFalls v u → Keeps v u
 same-keeps e counts = record { task = ap (λ (h : Hand). h.task) e; done = ap (λ (h : Hand). h.done) e; seen = ap (λ (h : Hand). h.seen) e; records = ap (λ (h : Hand). h.records) e; sent = ap (λ (h : Hand). h.sent) e; last = ap (λ (h : Hand). h.last) e; counts = counts }
 
 -- the same hand, after some steps
 pub same-tried : {v u : Shown} → u.hand ≡ v.hand → NoCountFalls v u → OnlyTried v u
-same-tried e counts = record { keeps = same-keeps e counts; consumed = ap (λ (h : Hand). h.consumed) e; freed = ap (λ (h : Hand). h.freed) e }
+same-tried e counts = record { keeps = same-keeps e counts; consumed = ap (λ (h : Hand). h.consumed) e; takes = ap (λ (h : Hand). h.takes) e; freed = ap (λ (h : Hand). h.freed) e }
 
 module _ {Call : Type 0} {o : Obj Call} {k : Plan} {held : Held} where
   -- a hold taken after failed tries
@@ -107,6 +108,7 @@ module _ {Call : Type 0} {o : Obj Call} {k : Plan} {held : Held} where
     quiet = b.quiet;
     stored = b.stored;
     begins = subst (λ (seen : List Entry). (length seen ≤ length u.hand.log) × (take (length seen) u.hand.log ≡ seen)) a.keeps.seen b.begins;
+    takes = b.takes ∙ ap (λ (n : ℕ). n + 1) a.takes;
     freed = b.freed ∙ a.freed;
   }
 
@@ -119,6 +121,7 @@ module _ {Call : Type 0} {o : Obj Call} {k : Plan} {held : Held} where
     quiet = ap (λ (h : Hand). h.writes) e ∙ a.quiet;
     stored = subst (λ (h : Hand). IsStored o k h) (sym e) a.stored;
     begins = subst (λ (h : Hand). Begins v.hand h.log) (sym e) a.begins;
+    takes = ap (λ (h : Hand). h.takes) e ∙ a.takes;
     freed = ap (λ (h : Hand). h.freed) e ∙ a.freed;
   }
 
@@ -163,7 +166,7 @@ pub sees-at : {reads : Bool} {n : ℕ} (v u : V) (p q : List Moment) (f f' : ℕ
 sees-at v u p q f f' s = record { saw = s.saw; is = s.is; word_is = s.word_is; since = s.since; by_now = s.by_now; found = s.found; shut = s.shut }
 
 pub misses-at : {reads : Bool} {n : ℕ} (v u : V) (p q : List Moment) (f : ℕ) → Misses mutex reads owner_at n (shown line_of v.fronts v p) (shown line_of u.fronts u q) → Misses mutex reads owner_at n (shown line_of f v p) (shown line_of f u q)
-misses-at v u p q f m = record { keeps = keeps-at v u p q f f (omega arith) m.keeps; consumed = m.consumed; out = m.out; sees = sees-at v u p q f f m.sees; once = m.once; freed = m.freed; entries = m.entries; fronts = refl; line = m.line }
+misses-at v u p q f m = record { keeps = keeps-at v u p q f f (omega arith) m.keeps; consumed = m.consumed; out = m.out; takes = m.takes; sees = sees-at v u p q f f m.sees; once = m.once; freed = m.freed; entries = m.entries; fronts = refl; line = m.line }
 
 pub interrupts-at : {reads : Bool} {why : Interrupted} (v u : V) (p q : List Moment) (f f' : ℕ) → f ≤ f' → Interrupts mutex reads owner_at why (shown line_of v.fronts v p) (shown line_of u.fronts u q) → Interrupts mutex reads owner_at why (shown line_of f v p) (shown line_of f' u q)
 interrupts-at v u p q f f' more i = record {
@@ -172,13 +175,14 @@ interrupts-at v u p q f f' more i = record {
   consumed = i.consumed;
   out = i.out;
   word = i.word;
+  takes = i.takes;
   sees = sees-at v u p q f f' i.sees;
   freed = i.freed;
   waited = i.waited;
 }
 
 pub tried-at : (v u : V) (p q : List Moment) (f f' : ℕ) → f ≤ f' → OnlyTried (shown line_of v.fronts v p) (shown line_of u.fronts u q) → OnlyTried (shown line_of f v p) (shown line_of f' u q)
-tried-at v u p q f f' more t = record { keeps = keeps-at v u p q f f' more t.keeps; consumed = t.consumed; freed = t.freed }
+tried-at v u p q f f' more t = record { keeps = keeps-at v u p q f f' more t.keeps; consumed = t.consumed; takes = t.takes; freed = t.freed }
 
 -- an interruption after failed tries
 pub tried-interrupts : {reads : Bool} {why : Interrupted} (v w u : Shown) → OnlyTried v w → w.line ≡ v.line → PastGoesOn v w → Interrupts mutex reads owner_at why w u → Interrupts mutex reads owner_at why v u
@@ -189,6 +193,7 @@ tried-interrupts v w u t line before i = record {
   out = i.out;
   word = i.word;
   sees = sees-within v w u u t.keeps.task t.keeps.counts.steps before i.sees refl (omega arith) (λ p e. e);
+  takes = i.takes ∙ t.takes;
   freed = i.freed ∙ t.freed;
   waited = i.waited ∙ ap (λ (l : Line). l.appends + 1) line;
 }

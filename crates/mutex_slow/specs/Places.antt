@@ -125,6 +125,7 @@ EndsHold v u = EndsUnasked v u ⊎ EndsAsked v u
 pub record OnlyTried (v u : Shown) : Type 0 where
   pub keeps : Keeps v u
   pub consumed : u.hand.consumed ≡ v.hand.consumed
+  pub takes : u.hand.takes ≡ v.hand.takes
   pub freed : u.hand.freed ≡ v.hand.freed
 
 -- how a call got the mutex that came to the wait lock

@@ -33,6 +33,7 @@ misses-by reads word s e v u p q out later is own goes found shut = let z : V = 
       keeps = record { task = m.keeps.task; done = m.keeps.done; seen = m.keeps.seen; records = m.keeps.records; sent = m.keeps.sent; last = m.keeps.last; counts = record { steps = omega arith; misses = m.keeps.counts.misses; entries = m.keeps.counts.entries; fronts = m.keeps.counts.fronts; appends = m.keeps.counts.appends } };
       consumed = m.consumed;
       out = m.out;
+      takes = m.takes;
       sees = record { saw = m.sees.saw; is = m.sees.is; word_is = m.sees.word_is; since = omega arith; by_now = m.sees.by_now; found = m.sees.found; shut = m.sees.shut };
       once = m.once;
       freed = m.freed;

@@ -25,6 +25,7 @@ module _ (fronts : ℕ) (v u : V) (p q : List Moment) (out : v.hand.held ≡ No)
     keeps = record { task = m.keeps.task; done = m.keeps.done; seen = m.keeps.seen; records = m.keeps.records; sent = m.keeps.sent; last = m.keeps.last; counts = record { steps = (let n = m.keeps.counts.steps in omega (arith, n, later)); misses = m.keeps.counts.misses; entries = m.keeps.counts.entries; fronts = m.keeps.counts.fronts; appends = m.keeps.counts.appends } };
     consumed = m.consumed;
     out = m.out;
+    takes = m.takes;
     sees = record { saw = m.sees.saw; is = m.sees.is; word_is = m.sees.word_is; since = (let n = m.sees.since in omega (arith, n, later)); by_now = m.sees.by_now; found = m.sees.found; shut = m.sees.shut };
     once = m.once;
     freed = m.freed;

@@ -144,7 +144,7 @@ module _ {E Call : Type 0} (o : Obj Call) (unavailable : Unavailable) (size : �
         let t = step n q marks grants sees loc (only has) in let m : ℕ = found n marks grants in let b = busy-most (does m).stage in let one : holds_in me.0.spin ≡ 1 = ap holds_at has in (
           me.0.hand,
           does m,
-          record { numbered = numbered; task = refl; goes = record { misses = omega arith; freed = λ e. refl }; left = λ held other. absurd (other refl) },
+          record { numbered = numbered; task = refl; goes = record { misses = omega arith; freed = λ e. refl; takes = omega arith; comes = λ none holds. absurd (holds none) }; left = λ held other. absurd (other refl) },
           omega (arith, b, one),
           t.0,
           t.1,

@@ -13,6 +13,7 @@ returns-clause-interrupted g c = λ reads. let missed = c.in-Err.ensures.missed 
       c.in-Err-wait_interruptible.ensures.pending (omega (arith, more, quits)) (λ p t. c.leave-2.ensures.on.goes_on p (c.quit-2.ensures.on.goes_on p t));
   consumed = ap (λ (h : Hand). h.consumed) last ∙ (ap (λ (h : Hand). h.consumed) c.in-Err-wait_interruptible.ensures.interrupted ∙ ap (λ (n : ℕ). n + 1) (ap (λ (h : Hand). h.consumed) c.join.ensures.hand ∙ (missed.consumed ∙ ap (λ (h : Hand). h.consumed) hand)));
   out = search rules;
+  takes = search rules;
   word = c.in-Err.field-0;
   sees = sees-within (seen_of c.args.pass.now) (seen_of c.enter.new.pass) (seen_of c.try_outside.new.pass) (seen_of c.leave-2.new.pass)
       (ap (λ (h : Hand). h.task) hand) enters c.enter.ensures.on.goes_on missed.sees
