@@ -2,21 +2,23 @@
 use Rattle.std.proofs.Common.{◌≡◌, ◌∙◌, ℕ, ◌+◌, ◌/◌, ◌%◌, ◌<◌, ◌≤◌, List, Option, refl, sym, ap, subst, arith}
 use Rattle.word_bits.specs.OwnerWord.{task_code}
 use Rattle.lock_core.specs.declared.view.Moment.{Moment}
+use Rattle.lock_core.specs.declared.view.Held.{Held}
+use Rattle.lock_core.specs.declared.view.Held.TheVariants.{No, Alone}
 use Rattle.lock_core.specs.Pasts.{FoundAt, GoesOn, IsOwnStep}
 use Rattle.lock_core.specs.Shown.{Shown, PastGoesOn, shown}
-use Rattle.lock_core.specs.RunLaws.{found-at-step}
+use Rattle.lock_core.specs.RunLaws.{step-by}
 use Rattle.lock_core.specs.Views.{ticked}
 use Rattle.mutex_word.specs.Holders.{ReleasesOwner, own_word}
 use Rattle.mutex_word.specs.Tries.{FindsUnasked, LeavesFlags, ReleasedTo, FindsAsked as AsksThere}
 use Rattle.wait_list.specs.declared.view.Waiter.{Waiter}
 use Rattle.mutex_slow.specs.Mutexes.{V, owner_at, turned}
-use Rattle.mutex_slow.specs.Places.{DecidesAt, EndsUnasked, FindsAsked, Names, NamesFirst, line_of}
+use Rattle.mutex_slow.specs.Places.{DecidesAt, EndsUnasked, FindsAsked, FindsOwnCode, Names, NamesFirst, line_of}
 use Rattle.mutex_slow.proofs.Showing.{found-within}
 
 -- the pass's last step found its own code, with these flags
-pub decides : (v u : V) (p q : List Moment) (n flags : ℕ) → u.hand.task ≡ v.hand.task → v.steps < u.steps → IsOwnStep u q → FoundAt owner_at n q → GoesOn p q → n / 8 ≡ task_code v.hand.task → n % 8 ≡ flags → FindsUnasked v.hand.task owner_at (v.steps + 1) u.steps p q
-    → DecidesAt u.steps flags (shown line_of v.fronts v p) (shown line_of u.fronts u q)
-decides v u p q n flags same later own found goes code is unasked = (later, omega arith, (n, found-at-step u v.hand.task owner_at n p q q same own found goes (λ p t. t), code, is), unasked)
+pub decides : (v u : V) (p q : List Moment) (n flags : ℕ) (held : Held) → u.hand.task ≡ v.hand.task → u.hand.held ≡ held → v.steps < u.steps → IsOwnStep u q → FoundAt owner_at n q → GoesOn p q → n / 8 ≡ task_code v.hand.task → n % 8 ≡ flags → FindsUnasked v.hand.task owner_at (v.steps + 1) u.steps p q
+    → DecidesAt u.steps flags held (shown line_of v.fronts v p) (shown line_of u.fronts u q)
+decides v u p q n flags held same holds later own found goes code is unasked = ((n, (later, omega arith, (record { past = q; by = step-by u v.hand.task q same own; found = found; after = goes; goes_on = λ p t. t }, holds), code), is), unasked)
 
 -- the steps behind a look are those behind the call's first step
 behind-look : (v w : V) (p r q : List Moment) (task : Option ℕ) (done : ℕ) → task ≡ v.hand.task → w ≡ ticked v → GoesOn p r → FindsUnasked task owner_at w.steps done r q → FindsUnasked v.hand.task owner_at (v.steps + 1) done p q
@@ -27,7 +29,7 @@ pub ends-plain : (v u : V) (p q : List Moment) (task : Option ℕ) → task ≡ 
 ends-plain v u p q task named is found own goes = let same = ap task_code named in let steps = ap (λ (w : V). w.steps) is in let none : u.hand.freed ≡ 0 = ap (λ (w : V). w.hand.freed) is in (
   omega (arith, none),
   (λ _. ap (λ (w : V). w.spin.entries) is),
-  (u.steps, decides v u p q (own_word task) u.hand.freed (ap (λ (w : V). w.hand.task) is) (omega (arith, steps)) own found goes (omega (arith, same)) (omega (arith, none)) (λ step later sooner. absurd (omega (arith, later, sooner, steps)))),
+  (u.steps, decides v u p q (own_word task) u.hand.freed No (ap (λ (w : V). w.hand.task) is) (ap (λ (w : V). w.hand.held) is) (omega (arith, steps)) own found goes (omega (arith, same)) (omega (arith, none)) (λ step later sooner. absurd (omega (arith, later, sooner, steps)))),
 )
 
 -- the exchange of the word for its flags, after a look
@@ -37,31 +39,32 @@ ends-flags v w u p r q task m named looked flags left own before goes unasked = 
     let before_it = ap (λ (x : V). x.steps) looked in let steps = ap (λ (x : V). x.steps) is in let freed : u.hand.freed ≡ m = ap (λ (x : V). x.hand.freed) is in (
       omega (arith, few, freed),
       (λ _. ap (λ (x : V). x.spin.entries) is ∙ ap (λ (x : V). x.spin.entries) looked),
-      (u.steps, decides v u p q flags.0 u.hand.freed (ap (λ (x : V). x.hand.task) is ∙ ap (λ (x : V). x.hand.task) looked) (omega (arith, before_it, later, steps)) own flags.1 (λ t e. goes t (before t e)) (omega (arith, mine, same)) (omega (arith, flag, freed)) (behind-look v w p r q task u.steps named looked before unasked)),
+      (u.steps, decides v u p q flags.0 u.hand.freed No (ap (λ (x : V). x.hand.task) is ∙ ap (λ (x : V). x.hand.task) looked) (ap (λ (x : V). x.hand.held) is) (omega (arith, before_it, later, steps)) own flags.1 (λ t e. goes t (before t e)) (omega (arith, mine, same)) (omega (arith, flag, freed)) (behind-look v w p r q task u.steps named looked before unasked)),
     )
 
 -- the look that found a handoff asked for
-pub looks-asked : (v w u : V) (p r q : List Moment) (task : Option ℕ) (n : ℕ) → task ≡ v.hand.task → w ≡ ticked v → AsksThere w n u → FoundAt owner_at n q → IsOwnStep u q → GoesOn p r → GoesOn r q → FindsUnasked task owner_at w.steps u.steps r q
+pub looks-asked : (v w u : V) (p r q : List Moment) (task : Option ℕ) (n : ℕ) → task ≡ v.hand.task → v.hand.held ≡ Alone → w ≡ ticked v → AsksThere w n u → FoundAt owner_at n q → IsOwnStep u q → GoesOn p r → GoesOn r q → FindsUnasked task owner_at w.steps u.steps r q
     → FindsAsked u.steps (shown line_of v.fronts v p) (shown line_of u.fronts u q)
-looks-asked v w u p r q task n named looked asked found own before goes unasked = let is = asked.2.2 in let later = asked.2.1 in let mine = asked.0.2 in let low = asked.0.1 in
+looks-asked v w u p r q task n named holds looked asked found own before goes unasked = let is = asked.2.2 in let later = asked.2.1 in let mine = asked.0.2 in let low = asked.0.1 in
     let before_it = ap (λ (x : V). x.steps) looked in let steps = ap (λ (x : V). x.steps) is in let same = ap (λ (x : V). task_code x.hand.task) looked in
-    (n % 8, asked.1, low, decides v u p q n (n % 8) (ap (λ (x : V). x.hand.task) is ∙ ap (λ (x : V). x.hand.task) looked) (omega (arith, before_it, later, steps)) own found (λ t e. goes t (before t e)) (omega (arith, mine, same)) refl (behind-look v w p r q task u.steps named looked before unasked))
+    (n % 8, asked.1, low, decides v u p q n (n % 8) Alone (ap (λ (x : V). x.hand.task) is ∙ ap (λ (x : V). x.hand.task) looked) (ap (λ (x : V). x.hand.held) is ∙ (ap (λ (x : V). x.hand.held) looked ∙ holds)) (omega (arith, before_it, later, steps)) own found (λ t e. goes t (before t e)) (omega (arith, mine, same)) refl (behind-look v w p r q task u.steps named looked before unasked))
 
-decides-within : (step flags : ℕ) (v b u : Shown) → DecidesAt step flags v b → b.steps ≤ u.steps → PastGoesOn b u → DecidesAt step flags v u
-decides-within step flags v b u d more after = let by_now = d.1 in let f = d.2 in (
-  d.0,
-  omega (arith, by_now, more),
-  (f.0, found-within refl (λ p t. t) after f.1, f.2, f.3),
-  λ s later sooner. let e = d.3 s later sooner in (e.0, found-within refl (λ p t. t) after e.1, e.2),
+own-code-within : (step n : ℕ) (held : Held) (v b u : Shown) → FindsOwnCode step n held v b → b.steps ≤ u.steps → PastGoesOn b u → FindsOwnCode step n held v u
+own-code-within step n held v b u f more after = let by_now = f.1 in (f.0, omega (arith, by_now, more), (found-within refl (λ p t. t) after f.2.0, f.2.1), f.3)
+
+decides-within : (step flags : ℕ) (held : Held) (v b u : Shown) → DecidesAt step flags held v b → b.steps ≤ u.steps → PastGoesOn b u → DecidesAt step flags held v u
+decides-within step flags held v b u d more after = let f = d.0 in (
+  (f.0, own-code-within step f.0 held v b u f.1 more after, f.2),
+  λ s later sooner. let e = d.1 s later sooner in (e.0, found-within refl (λ p t. t) after e.1, e.2),
 )
 
 -- a call that ended its hold so goes on; it leaves the wait lock alone where no flag is left
 pub unasked-then : (v b u : Shown) → EndsUnasked v b → u.hand.freed ≡ b.hand.freed → (b.hand.freed ≡ 0 → u.spin.entries ≡ b.spin.entries) → b.steps ≤ u.steps → PastGoesOn b u → EndsUnasked v u
-unasked-then v b u e freed still more after = subst (λ (n : ℕ). (n < 2) × (n ≡ 0 → u.spin.entries ≡ v.spin.entries) × ((step : ℕ) × DecidesAt step n v u)) (sym freed)
-    (e.0, (λ none. still none ∙ e.1 none), (e.2.0, decides-within e.2.0 b.hand.freed v b u e.2.1 more after))
+unasked-then v b u e freed still more after = subst (λ (n : ℕ). (n < 2) × (n ≡ 0 → u.spin.entries ≡ v.spin.entries) × ((step : ℕ) × DecidesAt step n No v u)) (sym freed)
+    (e.0, (λ none. still none ∙ e.1 none), (e.2.0, decides-within e.2.0 b.hand.freed No v b u e.2.1 more after))
 
 pub asked-then : (step : ℕ) (v b u : Shown) → FindsAsked step v b → b.steps ≤ u.steps → PastGoesOn b u → FindsAsked step v u
-asked-then step v b u f more after = (f.0, f.1, f.2, decides-within step f.0 v b u f.3 more after)
+asked-then step v b u f more after = (f.0, f.1, f.2, decides-within step f.0 Alone v b u f.3 more after)
 
 pub named-within : (begun : ℕ) (first : Option Waiter) (v a b u : Shown) → a.hand.task ≡ v.hand.task → begun ≤ a.steps → PastGoesOn v a → NamesFirst a.steps first a b → u.hand.freed ≡ b.hand.freed → b.steps ≤ u.steps → PastGoesOn b u → NamesFirst begun first v u
 named-within begun first v a b u same steps before n freed more after = let f = n.0 in let later = f.1 in let by_now = f.2 in ((f.0, omega (arith, later, steps), omega (arith, by_now, more), found-within same before after f.3), subst (Names first) (sym freed) n.1)

@@ -126,10 +126,23 @@ module _ {Call : Type 0} {o : Obj Call} {k : Plan} {held : Held} where
   }
 
 -- what a step found is found also of a stretch that holds it
-pub found-within : {task task' : Option ℕ} {step at n : ℕ} {p q r s : List Moment} → task' ≡ task → GoesOn p q → GoesOn r s → FoundAtStep task' step at n q r → FoundAtStep task step at n p s
+abbrev pub found-within : {task task' : Option ℕ} {step at n : ℕ} {p q r s : List Moment} → task' ≡ task → GoesOn p q → GoesOn r s → FoundAtStep task' step at n q r → FoundAtStep task step at n p s
 found-within {step = step} same before after f = record {
   past = f.past;
-  by = subst (λ (t : Option ℕ). IsStepBy t step f.past) same f.by;
+  by = record {
+    now = f.by.now;
+    before = f.by.before;
+    rest = f.by.rest;
+    seat = f.by.seat;
+    past_is = f.by.past_is;
+    hand = f.by.hand;
+    is = f.by.is;
+    named = f.by.named ∙ same;
+    steps = f.by.steps;
+    had = f.by.had;
+    had_steps = f.by.had_steps;
+    counts = f.by.counts;
+  };
   found = f.found;
   after = λ t e. f.after t (before t e);
   goes_on = λ t e. after t (f.goes_on t e);

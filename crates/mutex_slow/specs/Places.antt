@@ -6,7 +6,8 @@ use Rattle.lock_core.specs.declared.pass.Pass.{Pass}
 use Rattle.lock_core.specs.declared.site.Site.{Site}
 use Rattle.lock_core.specs.Handles.{plan_of, view_of, hand_in, past_of, task_in, SitsAt, KeepsPast}
 use Rattle.word_bits.specs.Objects.{Obj}
-use Rattle.lock_core.specs.declared.view.Held.TheVariants.{Alone}
+use Rattle.lock_core.specs.declared.view.Held.{Held}
+use Rattle.lock_core.specs.declared.view.Held.TheVariants.{No, Alone}
 use Rattle.lock_core.specs.declared.how.How.{How}
 use Rattle.lock_core.specs.declared.how.How.TheVariants.{Fast, Spun, Slept}
 use Rattle.lock_core.specs.Pasts.{FoundSince}
@@ -92,17 +93,21 @@ OnlyConsumed v u = u.hand ≡ record v.hand { heard = u.hand.heard; consumed = v
 abbrev pub IsFreed : V → V → Type 0
 IsFreed v u = u.hand ≡ released v.hand u.hand.freed
 
--- the call's step of this number found the task's code in the owner word, with these flags; none of its steps before that, but for the first, found a handoff asked for
-abbrev pub DecidesAt : (step flags : ℕ) → Shown → Shown → Type 0
-DecidesAt step flags v u = (v.steps < step) × (step ≤ u.steps) × ((n : ℕ) × FindsAtStep step owner_at n v u × (n / 8 ≡ task_code v.hand.task) × (n % 8 ≡ flags)) × FindsUnasked v.hand.task owner_at (v.steps + 1) step v.past u.past
+-- the call's step of this number found this owner word, which has the task's code, and left the pass with this hold
+abbrev pub FindsOwnCode : (step n : ℕ) → Held → Shown → Shown → Type 0
+FindsOwnCode step n held v u = (v.steps < step) × (step ≤ u.steps) × ((f : FindsAtStep step owner_at n v u) × (f.by.hand.held ≡ held)) × (n / 8 ≡ task_code v.hand.task)
+
+-- so it found the owner word with these flags; none of its steps before that, but for the first, found a handoff asked for
+abbrev pub DecidesAt : (step flags : ℕ) → Held → Shown → Shown → Type 0
+DecidesAt step flags held v u = ((n : ℕ) × FindsOwnCode step n held v u × (n % 8 ≡ flags)) × FindsUnasked v.hand.task owner_at (v.steps + 1) step v.past u.past
 
 -- the step that ended the hold found no handoff asked for, and left the flags alone; where it left none, the call didn't go through the wait lock
 abbrev pub EndsUnasked : Shown → Shown → Type 0
-EndsUnasked v u = (u.hand.freed < 2) × (u.hand.freed ≡ 0 → u.spin.entries ≡ v.spin.entries) × ((step : ℕ) × DecidesAt step u.hand.freed v u)
+EndsUnasked v u = (u.hand.freed < 2) × (u.hand.freed ≡ 0 → u.spin.entries ≡ v.spin.entries) × ((step : ℕ) × DecidesAt step u.hand.freed No v u)
 
 -- the call's step of this number found a handoff asked for, and the pass still held
 abbrev pub FindsAsked : ℕ → Shown → Shown → Type 0
-FindsAsked step v u = (flags : ℕ) × (2 ≤ flags) × (flags < 4) × DecidesAt step flags v u
+FindsAsked step v u = (flags : ℕ) × (2 ≤ flags) × (flags < 4) × DecidesAt step flags Alone v u
 
 -- a word that picks this waiter, or names nobody
 abbrev pub Names : Option Waiter → ℕ → Type 0

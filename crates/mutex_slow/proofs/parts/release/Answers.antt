@@ -1,4 +1,4 @@
-use Rattle.std.proofs.Common.{ap, ◌∙◌}
+use Rattle.std.proofs.Common.{ap, sym, ◌∙◌}
 use Rattle.mutex_slow.specs.Mutexes.{V}
 use Rattle.mutex_slow.proofs.Ending.{ends-flags, ends-plain, looks-asked}
 use Rattle.mutex_slow.proofs.parts.release.Goals as goal
@@ -17,4 +17,4 @@ returns-in-Ok-clause-ends g c = λ _. ends-flags c.args.pass.now.seat.me.0.view 
 
 pub returns-in-Err-release-clause-found : goal.returns-in-Err-release-clause-found
 returns-in-Err-release-clause-found g c = λ _. looks-asked c.args.pass.now.seat.me.0.view c.release_plain.new.pass.seat.me.0.view c.release.new.pass.seat.me.0.view c.args.pass.now.seat.me.0.past c.release_plain.new.pass.seat.me.0.past c.release.new.pass.seat.me.0.past c.release_plain.new.pass.face.task c.in-Err-release.field-0 (c.release_plain.ensures.own.task ∙ ap (λ (v : V). v.hand.task) c.in-Err.ensures.looked)
-    c.in-Err.ensures.looked c.in-Err-release.ensures.asked c.in-Err-release.ensures.found c.release.ensures.last c.release_plain.ensures.goes_on c.release.ensures.goes_on c.release.ensures.unasked
+    (sym c.requires.own.held ∙ c.requires.held) c.in-Err.ensures.looked c.in-Err-release.ensures.asked c.in-Err-release.ensures.found c.release.ensures.last c.release_plain.ensures.goes_on c.release.ensures.goes_on c.release.ensures.unasked
