@@ -114,9 +114,9 @@ abbrev pub Names : Option Waiter → ℕ → Type 0
 Names None word = word < 2
 Names (Some w) word = (word / 8 ≡ w.task + 1) × (4 ≤ word % 8)
 
--- a step behind the one of this number found the list's first word, which has the code of this waiter or 0, and the word that the pass left names the waiter
+-- a step behind the one of this number found the list's first word, which has the code of this waiter or 0; a later one found the task's code in the owner word and ended the hold; and the word that the pass left names the waiter
 abbrev pub NamesFirst : ℕ → Option Waiter → Shown → Shown → Type 0
-NamesFirst begun first v u = FoundSince v.hand.task begun u.steps list_at (waiter_code first) v.past u.past × Names first u.hand.freed
+NamesFirst begun first v u = ((step n looked : ℕ) × FindsOwnCode step n No v u × (looked < step) × FoundSince v.hand.task begun looked list_at (waiter_code first) v.past u.past) × Names first u.hand.freed
 
 -- it found a handoff asked for; then it took the wait lock; and then it found the first waiter, and named it, or nobody where none waited
 abbrev pub EndsAsked : Shown → Shown → Type 0

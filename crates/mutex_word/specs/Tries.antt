@@ -125,6 +125,10 @@ FindsUnasked task place begun done old new = (step : ℕ) → begun < step → s
 abbrev pub LeavesFlags : (place : ℕ) → Option ℕ → ℕ → List Moment → Type 0
 LeavesFlags place task flags past = (n : ℕ) × FoundAt place n past × IsMine task n × (n % 8 < 2) × (flags ≡ n % 8)
 
+-- the pass's last step found its word at this place, and left what handing over to this waiter, or to nobody, makes of it
+abbrev pub LeavesHanded : (place : ℕ) → Option ℕ → (first : Option ℕ) → (left : ℕ) → List Moment → Type 0
+LeavesHanded place task first left past = (n : ℕ) × FoundAt place n past × IsMine task n × IsHanded first n left
+
 module _ {E : Type 0} where
   -- it found its word with a handoff asked for, and has only looked
   abbrev pub FindsAsked : View E → ℕ → View E → Type 0

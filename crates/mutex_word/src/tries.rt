@@ -8,7 +8,7 @@ ghost use Rattle.mutex_word.specs.declared.host.Turn.{Turn};
 ghost use Rattle.mutex_word.specs.declared.host.Turn.TheVariants.{Take as TakeTurn, Ask as AskTurn, Free};
 ghost use Rattle.mutex_word.specs.declared.tries.Tried.TheVariants.{Failed};
 ghost use Rattle.mutex_word.specs.Holders.{IsAsk, TakesOwner, turns};
-ghost use Rattle.mutex_word.specs.Tries.{Acted, CameTo, FindsAsked, FindsUnasked, HandsOver, IsFail, IsLeft, IsMine, IsTake, LeavesFlags, Left, MayFail, MayHandOver, MayRelease, MayTry, ReleasedTo, Says, SawWord};
+ghost use Rattle.mutex_word.specs.Tries.{Acted, CameTo, FindsAsked, FindsUnasked, HandsOver, IsFail, IsLeft, IsMine, IsTake, LeavesFlags, LeavesHanded, Left, MayFail, MayHandOver, MayRelease, MayTry, ReleasedTo, Says, SawWord};
 ghost use Rattle.mutex_word.specs.Plays.{AskedBy, LeftBy, Looked, Mine, TookBy};
 
 use crate::host::OwnerHost;
@@ -343,6 +343,8 @@ pub fn hand_over<H: OwnerHost, W: Wait>(
     ensures last { IsLatest pass.new }
     ensures numbered { task_in pass.new ≡ task_in pass.old }
     ensures left { HandsOver H.turned first (view_of pass.old) (view_of pass.new) }
+    ensures found { LeavesHanded H.OWNER (task_in pass.old) first
+        (hand_in pass.new).freed (past_of pass.new) }
 {
     let mut word = load_own(site, pass);
     for _ in rt.forever() {

@@ -1,6 +1,7 @@
 use Rattle.std.proofs.Common.{subst, sym, ap, refl, ◌∙◌, ◌<◌, ◌≤◌, ◌≡◌, Option, Some, None, Bool, ℕ, IfSome, inl, arith}
 use Rattle.lock_core.specs.declared.pass.Face.{Face}
 use Rattle.lock_core.specs.declared.view.View.{View}
+use Rattle.lock_core.specs.Pasts.{FoundAt}
 use Rattle.mutex_word.specs.declared.host.Turn.TheVariants.{Free, Hand as HandOn}
 use Rattle.mutex_word.specs.Tries.{IsReleased, IsHanded, IsMine, Left}
 use Rattle.mutex_word.proofs.Table.{owner-of, released-flags, handed-on, handed-left}
@@ -17,3 +18,11 @@ leave-found-requires-clause-may g c = subst (λ (v : View _). g.H.OwnerHost.may_
 
 pub returns-then-found-word-clause-left : goal.returns-then-found-word-clause-left
 returns-then-found-word-clause-left g c = (c.loop.invariant.8, c.loop.word, c.handoff_word-new.result, c.loop.invariant.9, (subst (λ (t : Option ℕ). IsMine t c.loop.word) c.requires.own.task c.loop.invariant.7), (handed-on c.loop.word c.loop.invariant.7.0 c.loop.invariant.7.1 c.args.first c.handoff_word-new.result c.handoff_word-new.ensures.picks), subst (λ (v : View _). Left g.H.OwnerHost.turned HandOn v c.handoff_word-new.result c.leave-found.new.pass.seat.me.0.view) c.loop.invariant.10 (c.leave-found.ensures.left c.if-found-word.true))
+
+pub returns-then-found-word-clause-found : goal.returns-then-found-word-clause-found
+returns-then-found-word-clause-found g c = (
+  c.loop.word,
+  subst (λ (n : ℕ). FoundAt g.H.OwnerHost.OWNER n c.leave-found.new.pass.seat.me.0.past) c.if-found-word.true c.leave-found.ensures.found,
+  c.loop.invariant.7,
+  subst (IsHanded c.args.first c.loop.word) (sym (ap (λ (v : View _). v.hand.freed) (c.leave-found.ensures.left c.if-found-word.true))) (handed-on c.loop.word c.loop.invariant.7.0 c.loop.invariant.7.1 c.args.first c.handoff_word-new.result c.handoff_word-new.ensures.picks),
+)
