@@ -5,7 +5,9 @@ ghost use Rattle.lock_core.specs.Views.{SpinHolds, SpinRests};
 ghost use Rattle.lock_core.specs.Kinds.{mutex};
 ghost use Rattle.lock_core.specs.Locking.{Misses, SawPending};
 ghost use Rattle.lock_core.specs.Handles.{view_of, hand_in, task_in, held_in, SitsAt};
-ghost use Rattle.mutex_slow.specs.Mutexes.{owner_at};
+ghost use Rattle.lock_core.specs.Shown.{FindsSince};
+ghost use Rattle.wait_list.specs.Lists.{waiter_code};
+ghost use Rattle.mutex_slow.specs.Mutexes.{list_at, owner_at};
 ghost use Rattle.qspin_word.specs.Ways.{SpinGained};
 ghost use Rattle.mutex_slow.specs.Places.{seen_of, StepsOn, TakesAlone, KeepsHand, KeepsMisses, KeepsFronts, StandsSame, IsOutside, IsInLine, HasFailed, OnlyHeard, OnlyConsumed, OnlyTried, IsFreed, EndsUnasked, FindsAsked, NamesFirst};
 
@@ -203,6 +205,7 @@ pub fn first_waiter<O: Object>(
     ensures outside { IsOutside (view_of pass.new) }
     ensures hand { KeepsHand pass.old pass.new }
     ensures same { StandsSame (view_of pass.old) (view_of pass.new) }
+    ensures found { FindsSince list_at (waiter_code result) (seen_of pass.old) (seen_of pass.new) }
 {
     list::first(site, pass)
 }
