@@ -281,9 +281,10 @@ impl<O: Object> Mutex<O> {
     /// new table on: the facts of every site, which tasks wait, and that the owner word states who
     /// holds, who is picked, and whether tasks wait; and what each step did to the list and to the
     /// owner word: the list changes by one append or one removal; the first waiter alone asks for a
-    /// handoff, which stays asked for until the holder picks that waiter or nobody waits; a step
-    /// that ends a hold meanwhile picks the first waiter, and nobody but a picked waiter takes. The
-    /// pass itself isn't in the list.
+    /// handoff, which stays asked for until the holder picks whoever is first then, or nobody
+    /// waits; a step that ends a hold meanwhile picks the first waiter, and a word that picks a
+    /// waiter is changed by that waiter's pass alone, which takes. The pass itself isn't in the
+    /// list.
     pub fn recall(&self, pass: &mut MutexPass<O>)
         requires own { SitsAt self.now pass.old }
         ensures own { SitsAt self.now pass.new }
