@@ -159,6 +159,37 @@ impl<O: Object> Mutex<O> {
         took
     }
 
+    /// Waits until the pass holds alone, or, where it is interruptible, until a signal interrupts
+    /// it. The kernel's `__mutex_lock`.
+    fn lock_common<W: Wait, C: Cpu>(
+        &self,
+        rt: &W,
+        pass: &mut MutexPass<O>,
+        cpu: &mut C,
+        interruptible: bool,
+    ) -> Result<How, Interrupted>
+        requires own { SitsAt self.now pass.old }
+        requires numbered { IsSome (hand_in pass.old).task }
+        requires out { (hand_in pass.old).held ≡ No }
+        ensures own { SitsAt self.now pass.new }
+        ensures goes_on { PastGoesOn (shown_of pass.old) (shown_of pass.new) }
+        ensures took { IfOk result (λ _. TakesAlone O.object self.now pass.old pass.new) }
+        ensures how { IfOk result (λ how. Got how (shown_of pass.old) (shown_of pass.new)) }
+        ensures interrupted { IfErr result (λ why. (reads : Bool) →
+            Interrupts mutex reads owner_at why (shown_of pass.old) (shown_of pass.new)) }
+        ensures asked { IfErr result (λ _. interruptible ≡ true) }
+        ensures line { (shared : Bool) → KeepsPlace mutex shared
+            (shown_of pass.old) (shown_of pass.new) }
+    {
+        let Err(_) = parts::try_outside(&self.site, rt, &mut pass.pass) else {
+            return Ok(How::Fast);
+        };
+        if self.spin(rt, pass, cpu) {
+            return Ok(How::Spun);
+        }
+        slow::lock_in_line(&self.site, rt, &mut pass.pass, cpu, interruptible)
+    }
+
     /// Waits until the pass holds alone. The kernel's `mutex_lock`.
     pub fn lock<W: Wait, C: Crew>(
         &self,
@@ -177,13 +208,10 @@ impl<O: Object> Mutex<O> {
         ensures line { (shared : Bool) → KeepsPlace mutex shared
             (shown_of pass.old) (shown_of pass.new) }
     {
-        let Err(_) = parts::try_outside(&self.site, rt, &mut pass.pass) else {
-            return How::Fast;
-        };
-        if self.spin(rt, pass, cpu) {
-            return How::Spun;
+        match self.lock_common(rt, pass, cpu, false) {
+            Ok(how) => how,
+            Err(_) => unreachable!(),
         }
-        slow::lock_in_line(&self.site, rt, &mut pass.pass, cpu)
     }
 
     /// As `lock`, until a signal interrupts it. The kernel's `mutex_lock_interruptible`.
@@ -206,13 +234,7 @@ impl<O: Object> Mutex<O> {
         ensures line { (shared : Bool) → KeepsPlace mutex shared
             (shown_of pass.old) (shown_of pass.new) }
     {
-        let Err(_) = parts::try_outside(&self.site, rt, &mut pass.pass) else {
-            return Ok(How::Fast);
-        };
-        if self.spin(rt, pass, cpu) {
-            return Ok(How::Spun);
-        }
-        slow::lock_in_line_interruptible(&self.site, rt, &mut pass.pass, cpu)
+        self.lock_common(rt, pass, cpu, true)
     }
 
     /// Holds alone where that is possible at once. `Err` has the word, which names a task, that

@@ -173,10 +173,11 @@ pub fn sees_first<O: Object>(site: &Site<MutexRule<O>>, pass: &mut Pass<MutexRul
     list::is_first(site, pass)
 }
 
-/// Consumes a signal to the pass's task, where one is pending.
+/// Consumes a signal to the pass's task, where one is pending and the call is interruptible.
 pub fn interrupted<O: Object>(
     site: &Site<MutexRule<O>>,
     pass: &mut Pass<MutexRule<O>>,
+    interruptible: bool,
 ) -> Option<Interrupted>
     requires own { SitsAt site.now pass.old }
     requires numbered { IsSome (task_in pass.old) }
@@ -188,7 +189,11 @@ pub fn interrupted<O: Object>(
     ensures consumed { IfSome result (λ why. OnlyConsumed (view_of pass.old) (view_of pass.new)) }
     ensures pending { IfSome result (λ why.
         SawPending why (seen_of pass.old) (seen_of pass.new)) }
+    ensures asked { IfSome result (λ _. interruptible ≡ true) }
 {
+    if !interruptible {
+        return None;
+    }
     site.consume(pass)
 }
 

@@ -145,78 +145,14 @@ fn sleep_and_try<O: Object, W: Wait, C: Cpu>(
     took
 }
 
-/// Waits in the list until the pass holds. It then has the wait lock.
+/// Waits in the list until the pass holds, or, where it is interruptible, has consumed a signal. It
+/// then has the wait lock.
 fn wait<O: Object, W: Wait, C: Cpu>(
     site: &Site<MutexRule<O>>,
     rt: &W,
     pass: &mut Pass<MutexRule<O>>,
     cpu: &mut C,
-)
-    requires own { SitsAt site.now pass.old }
-    requires numbered { IsSome (task_in pass.old) }
-    requires out { held_in pass.old ≡ No }
-    requires locked { SpinHolds (view_of pass.old).spin }
-    requires listed { IsInLine (view_of pass.old) }
-    ensures on { StepsOn site.now pass.old pass.new }
-    ensures locked { SpinHolds (view_of pass.new).spin }
-    ensures listed { IsInLine (view_of pass.new) }
-    ensures entries { (view_of pass.old).spin.entries ≤ (view_of pass.new).spin.entries }
-    ensures fronts { KeepsFronts pass.old pass.new }
-    ensures appends { KeepsAppends pass.old pass.new }
-    ensures took { TakesAlone O.object site.now pass.old pass.new }
-    ensures uncounted { KeepsMisses pass.old pass.new }
-{
-    for _ in rt.forever() {
-        // A waiter that was picked, or finds the mutex free, must take it before it sleeps: nobody
-        // wakes it a second time.
-        if parts::try_listed(site, rt, pass, false) {
-            return;
-        }
-        if sleep_and_try(site, rt, pass, cpu) {
-            return;
-        }
-    }
-    unreachable!()
-}
-
-/// Takes the mutex by way of the wait lock and the list. The kernel's `__mutex_lock_common`.
-pub fn lock_in_line<O: Object, W: Wait, C: Cpu>(
-    site: &Site<MutexRule<O>>,
-    rt: &W,
-    pass: &mut Pass<MutexRule<O>>,
-    cpu: &mut C,
-) -> How
-    requires own { SitsAt site.now pass.old }
-    requires numbered { IsSome (task_in pass.old) }
-    requires out { held_in pass.old ≡ No }
-    requires unspun { SpinRests (view_of pass.old).spin }
-    requires outside { IsOutside (view_of pass.old) }
-    ensures on { StepsOn site.now pass.old pass.new }
-    ensures unspun { SpinRests (view_of pass.new).spin }
-    ensures outside { IsOutside (view_of pass.new) }
-    ensures took { TakesAlone O.object site.now pass.old pass.new }
-    ensures how { GotInLine result (seen_of pass.old) (seen_of pass.new) }
-    ensures line { WentInLine (seen_of pass.old) (seen_of pass.new) }
-{
-    parts::enter(site, rt, pass);
-    // A release before this may have seen no waiter, and wakes nobody.
-    let Err(_) = parts::try_outside(site, rt, pass) else {
-        parts::leave(site, pass);
-        return How::Spun;
-    };
-    parts::join(site, pass);
-    wait(site, rt, pass, cpu);
-    parts::quit(site, pass);
-    parts::leave(site, pass);
-    How::Slept
-}
-
-/// Waits in the list until the pass holds, or has consumed a signal. It then has the wait lock.
-fn wait_interruptible<O: Object, W: Wait, C: Cpu>(
-    site: &Site<MutexRule<O>>,
-    rt: &W,
-    pass: &mut Pass<MutexRule<O>>,
-    cpu: &mut C,
+    interruptible: bool,
 ) -> Result<(), Interrupted>
     requires own { SitsAt site.now pass.old }
     requires numbered { IsSome (task_in pass.old) }
@@ -236,14 +172,15 @@ fn wait_interruptible<O: Object, W: Wait, C: Cpu>(
     ensures pending { IfErr result (λ why.
         SawPending why (seen_of pass.old) (seen_of pass.new)) }
     ensures failed { IfErr result (λ _. HasFailed (view_of pass.new)) }
+    ensures asked { IfErr result (λ _. interruptible ≡ true) }
 {
     for _ in rt.forever() {
-        // The try comes before the look at the signals: a waiter that was picked takes, and doesn't
-        // leave what it was given to nobody.
+        // A waiter that was picked, or finds the mutex free, takes it before it looks at its signals
+        // or sleeps: it would leave what it was given to nobody, and nobody wakes it a second time.
         if parts::try_listed(site, rt, pass, false) {
             return Ok(());
         }
-        if let Some(why) = parts::interrupted(site, pass) {
+        if let Some(why) = parts::interrupted(site, pass, interruptible) {
             return Err(why);
         }
         if sleep_and_try(site, rt, pass, cpu) {
@@ -253,13 +190,15 @@ fn wait_interruptible<O: Object, W: Wait, C: Cpu>(
     unreachable!()
 }
 
-/// Takes the mutex by way of the wait lock and the list, until a signal interrupts it. The kernel's
-/// `__mutex_lock_common` in the state `TASK_INTERRUPTIBLE`.
-pub fn lock_in_line_interruptible<O: Object, W: Wait, C: Cpu>(
+/// Takes the mutex by way of the wait lock and the list, until a signal interrupts it where it is
+/// interruptible. The kernel's `__mutex_lock_common` behind its optimistic spinning, in the state
+/// `TASK_INTERRUPTIBLE` or `TASK_UNINTERRUPTIBLE`.
+pub fn lock_in_line<O: Object, W: Wait, C: Cpu>(
     site: &Site<MutexRule<O>>,
     rt: &W,
     pass: &mut Pass<MutexRule<O>>,
     cpu: &mut C,
+    interruptible: bool,
 ) -> Result<How, Interrupted>
     requires own { SitsAt site.now pass.old }
     requires numbered { IsSome (task_in pass.old) }
@@ -273,6 +212,7 @@ pub fn lock_in_line_interruptible<O: Object, W: Wait, C: Cpu>(
     ensures how { IfOk result (λ how. GotInLine how (seen_of pass.old) (seen_of pass.new)) }
     ensures interrupted { IfErr result (λ why. (reads : Bool) →
         Interrupts mutex reads owner_at why (seen_of pass.old) (seen_of pass.new)) }
+    ensures asked { IfErr result (λ _. interruptible ≡ true) }
     ensures line { WentInLine (seen_of pass.old) (seen_of pass.new) }
 {
     parts::enter(site, rt, pass);
@@ -282,7 +222,7 @@ pub fn lock_in_line_interruptible<O: Object, W: Wait, C: Cpu>(
         return Ok(How::Spun);
     };
     parts::join(site, pass);
-    let Err(why) = wait_interruptible(site, rt, pass, cpu) else {
+    let Err(why) = wait(site, rt, pass, cpu, interruptible) else {
         parts::quit(site, pass);
         parts::leave(site, pass);
         return Ok(How::Slept);

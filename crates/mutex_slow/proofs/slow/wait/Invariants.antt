@@ -1,12 +1,12 @@
 use Rattle.std.proofs.Common.{◌≡◌, ◌≤◌, IsSome}
 use Rattle.lock_core.specs.declared.view.Held.TheVariants.{No}
 use Rattle.lock_core.specs.Views.{SpinHolds}
-use Rattle.mutex_slow.specs.Places.{StepsOn, IsInLine}
+use Rattle.mutex_slow.specs.Places.{StepsOn, IsInLine, OnlyHeard}
 use Rattle.mutex_slow.proofs.slow.wait.Given as goal
 
 abbrev pub invariant-loop : goal.invariant-loop
 invariant-loop g l = let v = l.fn.pass.seat.me.0.view in let u = l.pass.seat.me.0.view in
     (goal.iterator-loop g).can_next l.iterator' × (goal.iterator-loop g).is_finite l.iterator'
     × StepsOn l.site l.fn.pass l.pass × IsSome l.pass.face.task × (l.pass.face.held ≡ No)
-    × IsInLine u × SpinHolds u.spin × (u.hand ≡ v.hand)
+    × IsInLine u × SpinHolds u.spin × OnlyHeard v u × (u.hand.misses ≡ v.hand.misses)
     × (v.spin.entries ≤ u.spin.entries) × (u.fronts ≡ v.fronts) × (u.ext.appends ≡ v.ext.appends)

@@ -2,7 +2,7 @@ use Rattle.std.proofs.Common.{arith, ap, ◌∙◌}
 use Rattle.lock_core.specs.declared.view.Hand.{Hand}
 use Rattle.mutex_slow.specs.Places.{seen_of}
 use Rattle.mutex_slow.proofs.Showing.{pending-within}
-use Rattle.mutex_slow.proofs.slow.wait_interruptible.Goals as goal
+use Rattle.mutex_slow.proofs.slow.wait.Goals as goal
 
 pub returns-in-Some-interrupted-clause-pending : goal.returns-in-Some-interrupted-clause-pending
 returns-in-Some-interrupted-clause-pending g c = let i = c.loop.invariant in let a = i.2.steps in let b = c.try_listed.ensures.on.steps in
