@@ -69,7 +69,7 @@ module _ {E : Type 0} (list : E → ListHand) (with_list : Change → View E →
   there = subst (λ (p : ℕ × ListHand). 0 < counted p.0 p.1.list) (λ i. (q i, hand2 i)) allowed
 
   near-first : IsNear (parting b t).words (parting b t).list (parting b t).leaver
-  near-first = let m = (leave-may v.spin b (8 + t) learnt.knows lists (omega arith)).near refl in near-same (set b.words (8 + t) 0) (set b.words (8 + t) 0) (without (8 + t - 8) b.list) (without t b.list) (8 + t - 8 + 1) (t + 1) refl (λ i. without (q i) b.list) (λ i. q i + 1) m
+  near-first = let m = (leave-may v.spin b (8 + t) 0 learnt.knows lists (omega arith)).near refl in near-same (set b.words (8 + t) 0) (set b.words (8 + t) 0) (without (8 + t - 8) b.list) (without t b.list) (8 + t - 8 + 1) (t + 1) refl (λ i. without (q i) b.list) (λ i. q i + 1) m
 
   near-part : IsNear (list w3.ext).words (list w3.ext).list (list w3.ext).leaver
   near-part = subst (λ (z : ListHand). IsNear z.words z.list z.leaver) (sym hand3) near-first

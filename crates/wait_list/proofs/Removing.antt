@@ -17,14 +17,14 @@ use native.Mathlib.Decide.{ℕ_discrete}
 use Rattle.wait_list.specs.declared.words.TheConstants.{LIST_WORDS}
 use Rattle.word_bits.specs.declared.TheConstants.{MAX_TASKS}
 
-pub leave-may : (s : SpinHand) (b : ListHand) (at : ℕ) → Knows (s, b) → Lists b.words b.list → 8 ≤ at → MayStore (s, b) at 0 (Leave (at - 8)) (leaving b at 0)
-leave-may s b at knows is behind = record {
+pub leave-may : (s : SpinHand) (b : ListHand) (at n : ℕ) → Knows (s, b) → Lists b.words b.list → 8 ≤ at → MayStore (s, b) at n (Leave (at - 8)) (leaving b at n)
+leave-may s b at n knows is behind = record {
   knows = knows;
   since = refl;
   list = refl;
   words = refl;
   leaver = refl;
-  near = λ _. let word : get_or (set b.words at 0) 0 0 ≡ first_code b.list = get_or-set_other b.words at 0 0 0 (λ e. omega (arith, e, behind)) ∙ is.first in dite (ℕ_discrete (first_code b.list) (at - 8 + 1))
+  near = λ _. let word : get_or (set b.words at n) 0 0 ≡ first_code b.list = get_or-set_other b.words at 0 n 0 (λ e. omega (arith, e, behind)) ∙ is.first in dite (ℕ_discrete (first_code b.list) (at - 8 + 1))
       (λ e. inr (inr (word ∙ e)))
       (λ not. inl (word ∙ sym (first-without (at - 8) b.list not)));
   done = λ f. not-both true f refl;
