@@ -7,7 +7,7 @@ use Rattle.lock_core.specs.declared.view.Line.{Line}
 use Rattle.lock_core.specs.declared.view.Moment.{Moment}
 use Rattle.lock_core.specs.declared.view.Held.TheVariants.{No}
 use Rattle.lock_core.specs.Holding.{missed}
-use Rattle.lock_core.specs.Pasts.{GoesOn, FoundAt, FoundAtStep, IsOwnStep, IsStepBy}
+use Rattle.lock_core.specs.Pasts.{GoesOn, FoundAt, FoundAtStep, IsOwnStep}
 use Rattle.lock_core.specs.RunLaws.{found-at-step}
 use Rattle.lock_core.specs.Kinds.{Kind, mutex}
 use Rattle.lock_core.specs.declared.how.Interrupted.{Interrupted}

@@ -42,11 +42,11 @@ fn hand_over<W: Wait, C: Crew>(
     requires other { IsReady mutex.now other }
     ensures { IsReady mutex.now result.0 }
 {
-    await_count(rt, &watch.sleeps, 1);
+    await_count(&watch.sleeps, 1);
     let waits = told(rt, mutex, crew, &mut other);
     // The waiter asks for the handoff, tries once more in vain, and sleeps.
     watch.ends.store(1, Ordering::SeqCst);
-    await_count(rt, &watch.sleeps, 2);
+    await_count(&watch.sleeps, 2);
     let asks = told(rt, mutex, crew, &mut other);
     mutex.unlock(rt, &mut holder, crew);
     let picked = told(rt, mutex, crew, &mut other);

@@ -2,7 +2,7 @@
 ghost use Rattle.mutex_slow.specs.Standing.{IsHolder, IsReady};
 
 use crate::lockers::{NO_TURNS, how_it_locks};
-use crate::watched::{Watch, WatchedCpu, WatchedCrew, await_count};
+use crate::watched::{LOOKS, Watch, WatchedCpu, WatchedCrew, await_count};
 use crate::{Mutex, MutexPass};
 use cpu_task::{Crew, ScriptedCrew, Turns};
 use lock_core::{How, Nothing, Plan};
@@ -27,7 +27,7 @@ fn unlock_behind_waiter<W: Wait, C: Crew>(
     requires holder { IsHolder mutex.now holder }
     requires other { IsReady mutex.now other }
 {
-    for _ in rt.forever() {
+    for _ in 0..LOOKS {
         if mutex.trylock_once(&mut other) != Err(8) {
             break;
         }
@@ -44,7 +44,7 @@ fn unlock_behind_spinner<'a, W: Wait>(
 )
     requires { IsHolder mutex.now holder }
 {
-    await_count(rt, &crew.watch.asked, 2);
+    await_count(&crew.watch.asked, 2);
     mutex.unlock(rt, &mut holder, crew);
 }
 

@@ -16,6 +16,8 @@ mod handoff_tests;
 #[cfg(test)]
 mod how_tests;
 #[cfg(test)]
+mod interrupt_tests;
+#[cfg(test)]
 mod lockers;
 #[cfg(test)]
 mod tests;

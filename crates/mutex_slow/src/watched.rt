@@ -25,9 +25,12 @@ fn count(counter: &AtomicU64) {
     let _ = counter.fetch_update(Ordering::SeqCst, Ordering::SeqCst, |n| n.checked_add(1));
 }
 
-/// Waits until the counter has come so far.
-pub fn await_count<W: Wait>(rt: &W, counter: &AtomicU64, least: u64) {
-    for _ in rt.forever() {
+/// A thread looks so often for what another one does, which is longer than that takes.
+pub const LOOKS: u32 = 100_000_000;
+
+/// Waits until the counter has come so far, or the looks run out.
+pub fn await_count(counter: &AtomicU64, least: u64) {
+    for _ in 0..LOOKS {
         if counter.load(Ordering::SeqCst) >= least {
             return;
         }
@@ -63,10 +66,10 @@ impl<'a> Cpu for WatchedCpu<'a> {
     }
 
     /// Sleeps until as many sleeps may end as it began.
-    fn sleep<R: Wait>(&mut self, rt: &R) {
+    fn sleep<R: Wait>(&mut self, _rt: &R) {
         self.sleeps = self.sleeps.saturating_add(1);
         count(&self.watch.sleeps);
-        await_count(rt, &self.watch.ends, self.sleeps);
+        await_count(&self.watch.ends, self.sleeps);
     }
 }
 
