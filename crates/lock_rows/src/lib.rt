@@ -10,8 +10,8 @@ mod serve;
 pub use calls::{await_signal, interrupt, perform, send, take, try_next};
 pub use owner_lock::OwnerLock;
 pub use plans::{
-    close_file, dup_file, each_maps, fault_page, get_file, int_fault_page, map_page, open_file,
-    populate_pages, push_calls, signal_task, try_map_page,
+    close_file, dup_file, each_maps, fault_page, get_file, int_close_file, int_fault_page,
+    int_open_file, map_page, open_file, populate_pages, push_calls, signal_task, try_map_page,
 };
 pub use rounds::{all_calls, four_at_once};
 pub use serve::{copy_of, history_of_two, replies_of};

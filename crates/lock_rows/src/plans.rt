@@ -53,7 +53,8 @@ pub fn int_fault_page(page: u32) -> CallWords
 /// The call `signal TASK`.
 pub fn signal_task(task: u32) -> CallWords
     requires { task < MAX_TASKS }
-    ensures { IsCallOrSignal space result }
+    ensures space { IsCallOrSignal space result }
+    ensures table { IsCallOrSignal table result }
 {
     CallWords {
         a: u64::from(task),
@@ -89,6 +90,26 @@ pub fn close_file(fd: u32) -> CallWords
     CallWords {
         a: u64::from(fd),
         b: 9,
+    }
+}
+
+/// The call `open FILE`, which waits until a signal interrupts it.
+pub fn int_open_file(file: u16) -> CallWords
+    ensures { IsCallOrSignal table result }
+{
+    CallWords {
+        a: u64::from(file),
+        b: 8 + (1 << 24),
+    }
+}
+
+/// The call `close FD`, which waits until a signal interrupts it.
+pub fn int_close_file(fd: u32) -> CallWords
+    ensures { IsCallOrSignal table result }
+{
+    CallWords {
+        a: u64::from(fd),
+        b: 9 + (1 << 24),
     }
 }
 
