@@ -45,7 +45,7 @@ pub free-or-not : (n : ℕ) {P : Type 0} → IsLawfulCount n → (IsReadFree n �
 free-or-not n lawful free shut = free-or-shut n n lawful refl (omega arith) (λ f is. free f) (λ s not. shut s)
 
 -- a live view's plan is the table's
-its-plan : (k p : Plan) (plan : Option Plan) → HasPlan k plan → plan ≡ Some p → k ≡ p
+pub its-plan : (k p : Plan) (plan : Option Plan) → HasPlan k plan → plan ≡ Some p → k ≡ p
 its-plan k p plan has is = sym (subst (HasPlan k) is has)
 
 shared-no : {P : Type 0} → Shared ≡ No → P

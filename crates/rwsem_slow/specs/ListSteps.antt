@@ -22,7 +22,7 @@ use Rattle.rwsem_wake.specs.Semaphores.{FlagsAt, Quiet, SemKept, batch_weight, l
 use Rattle.rwsem_wake.specs.Handoffs.{KeepsHandoff, granting_at}
 use Rattle.rwsem_wake.specs.Stated.{IsFirstReader, Picks, Without}
 use Rattle.rwsem_wake.proofs.Sums.{busy-most}
-use Rattle.rwsem_wake.proofs.Places.{first-least, granted-all, some-length, total-without}
+use Rattle.rwsem_wake.proofs.Places.{first-least, granted-all, not-zero, some-length, total-without}
 use Rattle.rwsem_wake.proofs.WakeLaws.{batched, single-of}
 use Rattle.rwsem_wake.proofs.QueueLaws.{a_writer, reader, granted-at-w, mine-at, reads-at-w, sem-joins, writes-at-w}
 use Rattle.rwsem_wake.proofs.HandoffLaws.{sem-drops-reader, sem-drops-writer, sem-enters, sem-picks, took-left}
@@ -111,9 +111,9 @@ module _ (vs : List SemPart) (id : ℕ) (v : SemPart) (at : get_elem? vs id ≡ 
       still false m = refl
 
   pub enters-reader : (b : Bool) → bit b + some_of q ≡ 1 → v.sem.stage ≡ Armed → v.sem.wait ≡ Apart → v.held ≡ No → Both (q ++ reader own ∷ []) (record v.sem { wait = Reads; stage = Joining b })
-  enters-reader b empty stage wait out = let s : SemHand = record v.sem { wait = Reads; stage = Joining b } in let one = (mine-at vs id v at n q marks grants r own has Armed only stage).1 own has in (
+  enters-reader b empty stage wait out = let s : SemHand = record v.sem { wait = Reads; stage = Joining b } in let one = not-zero (get_or grants own 0) ((mine-at vs id v at n q marks grants r own has Armed only stage).1 own has) in (
     sem-joins vs id v at n q marks grants r own has b empty only stage wait out,
-    no-more s (λ t. granted-at-w (record v { sem = s }) own has Reads refl grants t ∙ ap (λ (z : ℕ). named_weight t (Some own) (is_zero z)) one) (λ t. refl),
+    no-more s (λ t. granted-at-w (record v { sem = s }) own has Reads refl grants t ∙ ap (named_weight t (Some own)) one) (λ t. refl),
   )
 
   -- the own waiter is of the kind as which the pass waits

@@ -1,15 +1,15 @@
 -- The steps on the count, of the views of a semaphore.
-use Rattle.std.proofs.Common.{◌≡◌, ℕ, ◌+◌, ◌/◌, ◌%◌, ◌<◌, ◌≤◌, List, [], ◌∷◌, map, set, sym, refl, subst, arith}
+use Rattle.std.proofs.Common.{◌≡◌, ℕ, ◌+◌, ◌/◌, ◌%◌, ◌<◌, ◌≤◌, ◌⊎◌, List, [], ◌∷◌, map, set, sym, refl, subst, arith}
 use mathlib.Core.Option.{some}
 use lib.ListN.{get_elem?}
 use lib.Seq.{map-set}
 use Rattle.atomic_table.proofs.Lists.{at_map}
 use Rattle.lock_core.specs.declared.view.Held.{Held}
-use Rattle.lock_core.specs.declared.view.Held.TheVariants.{No, Alone}
+use Rattle.lock_core.specs.declared.view.Held.TheVariants.{No, Shared, Alone}
 use Rattle.lock_core.specs.Views.{alone_weight}
 use Rattle.lock_core.specs.Totals.{total, total-at}
 use Rattle.rwsem_count.specs.declared.view.Bias.{Bias}
-use Rattle.rwsem_count.specs.declared.view.Bias.TheVariants.{Clear, Reserve}
+use Rattle.rwsem_count.specs.declared.view.Bias.TheVariants.{Clear, Transit, Reserve}
 use Rattle.rwsem_count.specs.Counts.{CountPart, CountKept, shared_weight, early_weight, late_weight, shared_in, early_in, late_in}
 use Rattle.rwsem_count.specs.CountLaws.{Adds, part-adds}
 use Rattle.rwsem_wake.specs.SemParts.{SemPart, part_of}
@@ -45,6 +45,10 @@ module _ (vs : List SemPart) (id : ℕ) (v u : SemPart) (at : get_elem? vs id �
   -- a bias is taken back, whatever else of the flags changes
   pub count-back : (n m more : ℕ) → CountKept n more (map part_of vs) → m / 256 + 1 ≡ n / 256 → m % 256 < 8 → m % 2 ≡ n % 2 → u.held ≡ v.held → early_in (part_of v) + late_in (part_of v) ≡ 1 → u.sem.bias ≡ Clear → CountKept m more (map part_of (set vs id u))
   count-back n m more r less low writer same biased clear = whole m more (laws.count-backs (map part_of vs) id (part_of v) (part_of u) there n m more r less low writer same biased clear)
+
+  -- a try in transit comes to hold by its bias
+  pub count-keeps : (n m more : ℕ) → CountKept n more (map part_of vs) → (n % 2 ≡ 0) ⊎ (m % 2 ≡ 0) → v.held ≡ No → v.sem.bias ≡ Transit m → u.held ≡ Shared → u.sem.bias ≡ Clear → CountKept n more (map part_of (set vs id u))
+  count-keeps n m more r sees out biased holds clear = whole n more (laws.count-keeps (map part_of vs) id (part_of v) (part_of u) there n m more r sees out biased holds clear)
 
   -- a writer takes
   pub count-writes : (n m more : ℕ) → CountKept n more (map part_of vs) → n / 256 ≡ 0 → n % 2 ≡ 0 → m % 2 ≡ 1 → m < 8 → v.held ≡ No → u.held ≡ Alone → u.sem.bias ≡ v.sem.bias → CountKept m more (map part_of (set vs id u))

@@ -14,3 +14,7 @@ pub mod Lines
 pub mod Stepping
 pub mod Waking
 pub mod Courses
+pub mod Flags
+pub mod FirstLaws
+pub mod QueueSteps
+pub mod Holding

@@ -23,7 +23,7 @@ use Rattle.rwsem_wake.specs.SemParts.{SemPart, reserve_weight, reads_weight, wri
 use Rattle.rwsem_wake.specs.Semaphores.{batch_weight, Quiet, Fresh, FlagsOf, FlagsAt, SemPartOk, SemKept, more_of}
 use Rattle.rwsem_wake.proofs.Sums.{busy-most, mine-of, of-mine, of-others}
 use Rattle.rwsem_wake.proofs.Counting.{adds, count-step, count-back, part-least}
-use Rattle.rwsem_wake.proofs.Places.{some-length, first-least, granted-all}
+use Rattle.rwsem_wake.proofs.Places.{some-length, first-least, granted-all, not-zero}
 use Rattle.rwsem_wake.proofs.WakeLaws.{staged, biased, waiting, holding, ok-of, slim-of, single-of, bias-most, reserve-most, sem-moves, more-same}
 
 -- where nobody reads with a number, its grant word is of no account
@@ -125,7 +125,7 @@ module _ (vs : List SemPart) (id : ℕ) (v : SemPart) (at : get_elem? vs id ≡ 
       let L = total-same reads_of vs id v u at refl in let G = total-set granting_of vs id v u at in let more : more_of grants' (set vs id u) ≡ more_of grants vs = omega arith in record {
         count = same-count u (more_of grants' (set vs id u)) more refl refl;
         busy = omega arith;
-        flags = of-mine W H q marks grants' vs id v u at only (f, λ t is. let e : own ≡ t = same-some own t (sym has ∙ is) in subst (λ (z : ℕ). get_or grants' z 0 ≡ 1) e (get_or-set_same grants own 1 0 inside));
+        flags = of-mine W H q marks grants' vs id v u at only (f, λ t is. let e : own ≡ t = same-some own t (sym has ∙ is) in subst (λ (z : ℕ). 1 ≤ get_or grants' z 0) e (let one = get_or-set_same grants own 1 0 inside in omega (arith, one)));
         reads = λ t. let x = r.reads t in let y = total-same (reads_at t) vs id v u at refl in let z = total-same (rest_at t) vs id v u at refl in let c = total-same (granted_at grants' t) vs id v u at refl in let d = unread-at grants own 1 vs alone t in omega arith;
         writes = λ t. r.writes t ∙ sym (total-same (writes_at t) vs id v u at refl);
         members = let m = r.members in omega arith;
@@ -134,12 +134,12 @@ module _ (vs : List SemPart) (id : ℕ) (v : SemPart) (at : get_elem? vs id ≡ 
 
   -- and appends itself
   pub sem-joins : (b : Bool) → bit b + some_of q ≡ 1 → total busy_of vs ≡ busy_of v → v.sem.stage ≡ Armed → v.sem.wait ≡ Apart → v.held ≡ No → SemKept n (q ++ reader own ∷ []) marks grants (set vs id (waiting v Reads (Joining b)))
-  sem-joins b empty only stage wait out = let u : SemPart = waiting v Reads (Joining b) in let f = mine-at Armed only stage in let own1 = f.1 own has in let b0 : busy_of v ≡ 1 = ap busy_weight stage in
-      let g0 : granting_of v ≡ 0 = ap (λ (z : Stage). granting_weight z (length v.sem.rest)) stage in let gu : granted_of grants u ≡ 0 = granted-w u own has Reads refl grants ∙ ap is_zero own1 in let gv : granted_of grants v ≡ 0 = granted-w v own has Apart wait grants in
+  sem-joins b empty only stage wait out = let u : SemPart = waiting v Reads (Joining b) in let f = mine-at Armed only stage in let own1 : is_zero (get_or grants own 0) ≡ 0 = not-zero (get_or grants own 0) (f.1 own has) in let b0 : busy_of v ≡ 1 = ap busy_weight stage in
+      let g0 : granting_of v ≡ 0 = ap (λ (z : Stage). granting_weight z (length v.sem.rest)) stage in let gu : granted_of grants u ≡ 0 = granted-w u own has Reads refl grants ∙ own1 in let gv : granted_of grants v ≡ 0 = granted-w v own has Apart wait grants in
       let more : more_of grants (set vs id u) ≡ more_of grants vs = (let x = total-set (granted_of grants) vs id v u at in let y = total-set granting_of vs id v u at in omega arith) in
       sem-moves vs id v at u n n q (q ++ reader own ∷ []) marks marks grants r (of-mine W H (q ++ reader own ∷ []) marks grants vs id v u at only (flags b empty f.0)) (omega arith) (same-count u (more_of grants (set vs id u)) more refl refl)
       (λ t. let x = total-snoc (reader_at t) q (reader own) in let y = reads-at-w u own has Reads refl t in let z = reads-at-w v own has Apart wait t in
-      let c : granted_at grants t u ≡ 0 = granted-at-w u own has Reads refl grants t ∙ ap (λ (z : ℕ). named_weight t (Some own) (is_zero z)) own1 in let d = granted-at-w v own has Apart wait grants t in omega arith)
+      let c : granted_at grants t u ≡ 0 = granted-at-w u own has Reads refl grants t ∙ ap (named_weight t (Some own)) own1 in let d = granted-at-w v own has Apart wait grants t in omega arith)
       (λ t. let x = total-snoc (writer_at t) q (reader own) in let y = writes-at-w u own has Reads refl t in let z = writes-at-w v own has Apart wait t in omega arith)
       (let x = total-snoc reader_of q (reader own) in let y = reads-w v own has Apart wait in omega arith) (ok-of u own has (λ _. (r.each id v at).rest (ap batch_weight stage)) (let x = bias-most v.sem.bias in let y : shared_of v ≡ 0 = ap shared_weight out in omega arith) (reserve-most v.sem.bias).0 (let y : shared_of v ≡ 0 = ap shared_weight out in omega arith))
     where

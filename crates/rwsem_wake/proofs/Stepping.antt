@@ -1,5 +1,5 @@
 -- A step on the count, a mark or a grant word, from what it makes of the semaphore's own facts.
-use Rattle.std.proofs.Common.{◌≡◌, ◌≢◌, ℕ, ◌+◌, ◌*◌, ◌<◌, ◌≤◌, List, [], ◌∷◌, length, map, get_or, set, None, sym, refl, ap, ◌∙◌, subst, arith, get_or-set_same, get_or-set_other}
+use Rattle.std.proofs.Common.{◌≡◌, ◌≢◌, ℕ, ◌+◌, ◌*◌, ◌<◌, ◌≤◌, Bool, true, if◌then◌else◌, List, [], ◌∷◌, length, map, take, get_or, set, Some, None, sym, refl, ap, ◌∙◌, subst, arith, get_or-set_same, get_or-set_other}
 use mathlib.Core.Option.{some}
 use lib.ListN.{get_elem?}
 use Rattle.atomic_table.specs.Table.{Me, keeps}
@@ -16,23 +16,31 @@ use Rattle.lock_core.specs.Layout.{SiteWords, site, part}
 use Rattle.lock_core.specs.Ops.{word_after}
 use Rattle.lock_core.specs.SpinFrames.{holds_of, holds_at}
 use Rattle.lock_core.specs.Spins.{SpinKept, frame_of, holds_in}
-use Rattle.lock_core.specs.Views.{SpinHolds, hand_of, spin_part, alone_of, named_of, is_number}
+use Rattle.lock_core.specs.declared.view.Held.{Held}
+use Rattle.lock_core.specs.declared.view.Held.TheVariants.{No}
+use Rattle.lock_core.specs.Holding.{Learns}
+use Rattle.lock_core.specs.Views.{SpinHolds, hand_of, spin_part, held_of, alone_of, alone_weight, named_of, is_number, took}
 use Rattle.lock_core.specs.Totals.{total}
 use Rattle.lock_core.specs.Sites.{SiteKept}
 use Rattle.lock_core.specs.Moves.{Goes, Lets}
 use Rattle.lock_core.specs.Plays.{Turns}
+use Rattle.lock_core.proofs.HandLaws.{false-or-true, not-both}
+use Rattle.lock_core.proofs.HoldSteps.{quiet-state, site-takes}
+use Rattle.lock_core.proofs.RowLaws.{none-some}
 use Rattle.wait_list.specs.declared.view.Waiter.{Waiter}
 use Rattle.wait_list.specs.declared.view.ListHand.{ListHand}
 use Rattle.wait_list.specs.declared.words.TheConstants.{LIST_WORDS}
 use Rattle.wait_list.specs.Lists.{Part, ListKept, IsList, Knows, list_part, takes_of}
 use Rattle.wait_list.specs.ListLaws.{list-known}
-use Rattle.rwsem_count.specs.Counts.{HandStep, alone_in}
+use Rattle.rwsem_count.specs.Counts.{CountPart, HandStep, alone_in, shared_in, count_part}
+use Rattle.rwsem_count.proofs.Counting.{held-parts, its-plan}
 use Rattle.rwsem_wake.specs.declared.view.SemHand.{SemHand}
 use Rattle.rwsem_wake.specs.SemParts.{SemPart, part_of, busy_weight, busy_of}
 use Rattle.rwsem_wake.specs.Semaphores.{SemKept}
 use Rattle.rwsem_wake.specs.Handoffs.{KeepsHandoff}
 use Rattle.rwsem_wake.specs.Lines.{lines_in}
 use Rattle.rwsem_wake.specs.Grants.{sem_part, semmed}
+use Rattle.rwsem_wake.specs.Queues.{HoldsWhere}
 use Rattle.rwsem_wake.proofs.Sums.{busy-most}
 use Rattle.rwsem_wake.proofs.Lines.{length-lines, lines-at, lines-set, lines-else}
 
@@ -84,6 +92,13 @@ module _ {E Call : Type 0} (o : Obj Call) (unavailable : Unavailable) (size : �
   alones-are [] = refl
   alones-are (v ∷ vs) = let e = alones-are vs in omega arith
 
+  parts-are : (vs : List (View E)) → map (count_part (λ e. (sem e).bias)) vs ≡ map part_of (map (sem_part sem) vs)
+  parts-are [] = refl
+  parts-are (v ∷ vs) = ap (λ (z : List CountPart). part_of (sem_part sem v) ∷ z) (parts-are vs)
+
+  helds-are : (vs : List (View E)) → total held_of (map hand_of vs) ≡ total alone_in (map part_of (map (sem_part sem) vs)) + total shared_in (map part_of (map (sem_part sem) vs))
+  helds-are vs = subst (λ (z : List CountPart). total held_of (map hand_of vs) ≡ total alone_in z + total shared_in z) (parts-are vs) (held-parts (λ e. (sem e).bias) vs)
+
   takes-total : (vs : List (View E)) → total takes_of (map (list_part list) vs) ≡ total holds_of (map frame_of (map spin_part vs))
   takes-total [] = refl
   takes-total (v ∷ vs) = ap (λ (z : ℕ). holds_in v.spin + z) (takes-total vs)
@@ -114,14 +129,14 @@ module _ {E Call : Type 0} (o : Obj Call) (unavailable : Unavailable) (size : �
     -- what a step on it comes to, whatever the table is
     abbrev pub Comes : (id : ℕ) (me : M) → Op → (ℕ → M → Type 0) → Type 0
     Comes id me op tells = (n : ℕ) (q : List Waiter) (marks grants : List ℕ) (sees : List SemPart) (w : SiteWords) (hs : List Hand) → Local sees id (sem_part sem me.0) (list_part list me.0) n q marks grants → (SpinHolds me.0.spin → total busy_of sees ≡ busy_weight (sem me.0.ext).stage)
-        → Kept w hs → get_elem? hs id ≡ some me.0.hand → total alone_of hs ≡ total alone_in (map part_of sees)
+        → Kept w hs → get_elem? hs id ≡ some me.0.hand → total alone_of hs ≡ total alone_in (map part_of sees) → total held_of hs ≡ total alone_in (map part_of sees) + total shared_in (map part_of sees)
         → (let m = found n marks grants in let x = word_after op m in (h : Hand) × (s : SemHand) × HandStep me.0.hand h (word n x) × (busy_weight s.stage ≤ holds_in me.0.spin) × SemKept (word n x) q (ms marks x) (gs grants x) (set sees id (turned h s))
         × KeepsHandoff id n q marks grants sees (word n x) (gs grants x) (set sees id (turned h s)) × Kept w (set hs id h) × tells m (semmed with_sem me.0 h s, me.1))
 
     pub word-goes : (slots id : ℕ) (me : M) (op : Op) (tells : ℕ → M → Type 0) → Comes id me op tells → Lets holds moves slots id me i op tells
     word-goes slots id me op tells comes st h _ at small = let v = me.0 in let ws = st.words in let vs = st.views in let q = queued ws vs h in let r = sem_kept ws vs q.0 q.1 in let wide = r.2 in
         let sees : List SemPart = map (sem_part sem) vs in let n : ℕ = get_or ws count 0 in let marks = lines_in marks_at ws in let grants = lines_in grants_at ws in
-        let t = comes n q.0 marks grants sees (site k ws) (map hand_of vs) (local ws vs q.0 id v h q.1 at) (sem_only ws vs q.0 id v q.1 at) (site_kept ws vs h) (at_map hand_of vs id v at) (alones-are vs) in
+        let t = comes n q.0 marks grants sees (site k ws) (map hand_of vs) (local ws vs q.0 id v h q.1 at) (sem_only ws vs q.0 id v q.1 at) (site_kept ws vs h) (at_map hand_of vs id v at) (alones-are vs) (helds-are vs) in
         let m = there.is ws wide in let y : ℕ = word_after op (found n marks grants) in let x : ℕ = word_after op (get_or ws i 0) in let xy : x ≡ y = ap (word_after op) (sym m) in
         let wd : get_or (set ws i x) count 0 ≡ word n y = there.word_is ws x wide ∙ ap (word n) xy in let mk : lines_in marks_at (set ws i x) ≡ ms marks y = there.marks_are ws x wide ∙ ap (ms marks) xy in let gr : lines_in grants_at (set ws i x) ≡ gs grants y = there.grants_are ws x wide ∙ ap (gs grants) xy in (
           semmed with_sem v t.0 t.1,
@@ -140,7 +155,7 @@ module _ {E Call : Type 0} (o : Obj Call) (unavailable : Unavailable) (size : �
         → (let m = found n marks grants in let x = word_after op m in let us = set sees id (with_hand (sem_part sem me.0) (does m)) in SemKept (word n x) q (ms marks x) (gs grants x) us × KeepsHandoff id n q marks grants sees (word n x) (gs grants x) us × tells m)
 
     does-there : (slots id : ℕ) (me : M) (op : Op) (does : ℕ → SemHand) (tells : ℕ → Type 0) → SpinHolds me.0.spin → me.0.hand.task ≢ None → OnWord id me op does tells → Lets holds moves slots id me i op (λ n m'. tells n × Turns me (semmed with_sem me.0 me.0.hand (does n)) m')
-    does-there slots id me op does tells has numbered step = word-goes slots id me op (λ n m'. tells n × Turns me (semmed with_sem me.0 me.0.hand (does n)) m') (λ n q marks grants sees w hs loc only r mine alones.
+    does-there slots id me op does tells has numbered step = word-goes slots id me op (λ n m'. tells n × Turns me (semmed with_sem me.0 me.0.hand (does n)) m') (λ n q marks grants sees w hs loc only r mine alones helds.
         let t = step n q marks grants sees loc (only has) in let m : ℕ = found n marks grants in let b = busy-most (does m).stage in let one : holds_in me.0.spin ≡ 1 = ap holds_at has in (
           me.0.hand,
           does m,
@@ -154,6 +169,45 @@ module _ {E Call : Type 0} (o : Obj Call) (unavailable : Unavailable) (size : �
 
     pub word-does : (slots id at : ℕ) (me : M) (op : Op) (does : ℕ → SemHand) (tells : ℕ → Type 0) → at ≡ i → SpinHolds me.0.spin → me.0.hand.task ≢ None → OnWord id me op does tells → Lets holds moves slots id me at op (λ n m'. tells n × Turns me (semmed with_sem me.0 me.0.hand (does n)) m')
     word-does slots id at me op does tells is has numbered step = subst (λ (z : ℕ). Lets holds moves slots id me z op (λ n m'. tells n × Turns me (semmed with_sem me.0 me.0.hand (does n)) m')) (sym is) (does-there slots id me op does tells has numbered step)
+
+    -- what a step comes to by which its pass may come to hold so: where it does, nobody holds alone, and nobody at all where it is to hold alone
+    abbrev pub OnHold : (id : ℕ) (me : M) → Op → Held → (gets : ℕ → Bool) → (does : ℕ → SemHand) → (ℕ → Type 0) → Type 0
+    OnHold id me op held gets does tells = (n : ℕ) (q : List Waiter) (marks grants : List ℕ) (sees : List SemPart) → Local sees id (sem_part sem me.0) (list_part list me.0) n q marks grants → (SpinHolds me.0.spin → total busy_of sees ≡ busy_weight (sem me.0.ext).stage)
+        → (let m = found n marks grants in let x = word_after op m in let us = set sees id (record { task = me.0.hand.task; held = if gets m then held else No; sem = does m }) in (busy_weight (does m).stage ≤ holds_in me.0.spin) × SemKept (word n x) q (ms marks x) (gs grants x) us
+        × KeepsHandoff id n q marks grants sees (word n x) (gs grants x) us × (gets m ≡ true → (total alone_in (map part_of sees) ≡ 0) × (0 < alone_weight held → total shared_in (map part_of sees) ≡ 0)) × tells m)
+
+    holds-there : (slots id t : ℕ) (me : M) (op : Op) (held : Held) (gets : ℕ → Bool) (does : ℕ → SemHand) (tells : ℕ → Type 0) → me.0.hand.task ≡ Some t → me.0.hand.held ≡ No → held ≢ No → OnHold id me op held gets does tells → Lets holds moves slots id me i op (HoldsWhere with_sem o held gets does tells me)
+    holds-there slots id t me op held gets does tells has out some_hold step = word-goes slots id me op (HoldsWhere with_sem o held gets does tells me) (λ n q marks grants sees w hs loc only r mine alones helds.
+        let m : ℕ = found n marks grants in let x : ℕ = word_after op m in let v = me.0 in let s = step n q marks grants sees loc only in let numbered : v.hand.task ≢ None = λ e. none-some t (sym e ∙ has) in
+        let After : Held → Type 0 = λ z. (let us = set sees id (record { task = v.hand.task; held = z; sem = does m }) in SemKept (word n x) q (ms marks x) (gs grants x) us × KeepsHandoff id n q marks grants sees (word n x) (gs grants x) us) in
+        let facts : After (if gets m then held else No) = (s.1, s.2) in false-or-true (gets m)
+        (λ yes_it. let now : After held = subst (λ (z : Bool). After (if z then held else No)) yes_it facts in let known : List ℕ = take size w.guarded in let none_alone : total alone_of hs ≡ 0 = (let z = (s.3 yes_it).0 in omega (arith, alones, z)) in (
+          took v.hand held known r.log,
+          does m,
+          record { numbered = numbered; task = refl; goes = record { misses = omega arith; freed = λ e. refl }; left = λ held. absurd (held out) },
+          s.0,
+          now.0,
+          now.1,
+          site-takes o unavailable size k w hs id t v.hand held r mine out has some_hold (λ l. let a = s.3 yes_it in let z = a.0 in let y = a.1 l in omega (arith, helds, z, y)) none_alone,
+          (
+            s.4,
+            (λ _. let ok = r.each id v.hand mine in (known, r.log, (λ p plan. subst (λ (z : Plan). Learns o z v.hand known r.log) (its-plan k p v.hand.plan ok.plan plan) record { stored = quiet-state o unavailable size k w hs r none_alone; within = r.tells.within; begins = ok.seen }), (refl, refl))),
+            λ no_it. not-both (gets m) no_it yes_it,
+          ),
+        ))
+        (λ no_it. let now : After v.hand.held = subst After (sym out) (subst (λ (z : Bool). After (if z then held else No)) no_it facts) in (
+          v.hand,
+          does m,
+          record { numbered = numbered; task = refl; goes = record { misses = omega arith; freed = λ e. refl }; left = λ held other. absurd (other refl) },
+          s.0,
+          now.0,
+          now.1,
+          subst (Kept w) (sym (set_again hs id v.hand mine)) r,
+          (s.4, (λ yes_it. not-both (gets m) no_it yes_it), λ _. (refl, refl)),
+        )))
+
+    pub word-holds : (slots id at t : ℕ) (me : M) (op : Op) (held : Held) (gets : ℕ → Bool) (does : ℕ → SemHand) (tells : ℕ → Type 0) → at ≡ i → me.0.hand.task ≡ Some t → me.0.hand.held ≡ No → held ≢ No → OnHold id me op held gets does tells → Lets holds moves slots id me at op (HoldsWhere with_sem o held gets does tells me)
+    word-holds slots id at t me op held gets does tells is has out some_hold step = subst (λ (z : ℕ). Lets holds moves slots id me z op (HoldsWhere with_sem o held gets does tells me)) (sym is) (holds-there slots id t me op held gets does tells has out some_hold step)
 
   -- the count
   pub count-word : Word count (λ n marks grants. n) (λ n x. x) (λ marks x. marks) (λ grants x. grants)
@@ -200,3 +254,11 @@ module _ {E Call : Type 0} (o : Obj Call) (unavailable : Unavailable) (size : �
 
   pub grant-does : (t : ℕ) (few : t < 64) (slots id at : ℕ) (me : M) (op : Op) (does : ℕ → SemHand) (tells : ℕ → Type 0) → at ≡ grants_at + 8 * t → SpinHolds me.0.spin → me.0.hand.task ≢ None → OnWord (grants_at + 8 * t) (λ n marks grants. get_or grants t 0) (λ n x. n) (λ marks x. marks) (λ grants x. set grants t x) (grant-word t few) id me op does tells → Lets holds moves slots id me at op (λ n m'. tells n × Turns me (semmed with_sem me.0 me.0.hand (does n)) m')
   grant-does t few = word-does (grants_at + 8 * t) (λ n marks grants. get_or grants t 0) (λ n x. n) (λ marks x. marks) (λ grants x. set grants t x) (grant-word t few)
+
+  -- steps on them by which their pass may come to hold
+  pub count-holds : (slots id at t : ℕ) (me : M) (op : Op) (held : Held) (gets : ℕ → Bool) (does : ℕ → SemHand) (tells : ℕ → Type 0) → at ≡ count → me.0.hand.task ≡ Some t → me.0.hand.held ≡ No → held ≢ No → OnHold count (λ n marks grants. n) (λ n x. x) (λ marks x. marks) (λ grants x. grants) count-word id me op held gets does tells → Lets holds moves slots id me at op (HoldsWhere with_sem o held gets does tells me)
+  count-holds = word-holds count (λ n marks grants. n) (λ n x. x) (λ marks x. marks) (λ grants x. grants) count-word
+
+  pub grant-holds : (t : ℕ) (few : t < 64) (slots id at own : ℕ) (me : M) (op : Op) (held : Held) (gets : ℕ → Bool) (does : ℕ → SemHand) (tells : ℕ → Type 0) → at ≡ grants_at + 8 * t → me.0.hand.task ≡ Some own → me.0.hand.held ≡ No → held ≢ No
+      → OnHold (grants_at + 8 * t) (λ n marks grants. get_or grants t 0) (λ n x. n) (λ marks x. marks) (λ grants x. set grants t x) (grant-word t few) id me op held gets does tells → Lets holds moves slots id me at op (HoldsWhere with_sem o held gets does tells me)
+  grant-holds t few = word-holds (grants_at + 8 * t) (λ n marks grants. get_or grants t 0) (λ n x. n) (λ marks x. marks) (λ grants x. set grants t x) (grant-word t few)

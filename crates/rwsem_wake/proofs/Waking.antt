@@ -43,7 +43,7 @@ bit-is zero l = refl
 bit-is (suc zero) l = refl
 bit-is (suc (suc n)) l = absurd (omega arith)
 
-twice : (vs : List SemPart) (id : ℕ) (v w : SemPart) → set (set vs id v) id w ≡ set vs id w
+pub twice : (vs : List SemPart) (id : ℕ) (v w : SemPart) → set (set vs id v) id w ≡ set vs id w
 twice [] id v w = refl
 twice (x ∷ vs) zero v w = refl
 twice (x ∷ vs) (suc id) v w = ap (λ (z : List SemPart). x ∷ z) (twice vs id v w)

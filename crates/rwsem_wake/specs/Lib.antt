@@ -5,3 +5,4 @@ pub mod Handoffs
 pub mod Stated
 pub mod Lines
 pub mod Grants
+pub mod Queues

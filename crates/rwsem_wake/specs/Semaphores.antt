@@ -29,7 +29,7 @@ IsFirst task (x ∷ xs) = task ≡ Some x.task
 -- what flags, marks and grant words say while a holder of the wait lock is at a stage
 abbrev pub FlagsAt : Stage → Option ℕ → List ℕ → (w h : ℕ) → List Waiter → List ℕ → List ℕ → Type 0
 FlagsAt Rest me rest w h q marks grants = Quiet w h q marks
-FlagsAt Armed me rest w h q marks grants = Quiet w h q marks × ((t : ℕ) → me ≡ Some t → slice_index grants t ≡ 1)
+FlagsAt Armed me rest w h q marks grants = Quiet w h q marks × ((t : ℕ) → me ≡ Some t → 1 ≤ slice_index grants t)
 FlagsAt (Joining true) me rest w h q marks grants = Fresh w h q marks
 FlagsAt (Joining false) me rest w h q marks grants = Quiet w h q marks
 FlagsAt First me rest w h q marks grants = Fresh w h q marks

@@ -3,6 +3,7 @@
 
 pub mod batches;
 mod host;
+pub mod queueing;
 pub mod steps;
 mod view;
 pub mod wake;

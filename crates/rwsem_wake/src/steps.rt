@@ -21,13 +21,13 @@ use std::marker::PhantomData;
 use word_bits::MAX_TASKS;
 
 /// How far the word of a task stands from that of the task before.
-const LINE: usize = 8;
+pub(crate) const LINE: usize = 8;
 
 /// The grant word of a reader that waits.
 const WAITING: u64 = 1;
 
 /// The mark of a waiter whose time is over.
-const MARKED: u64 = 1;
+pub(crate) const MARKED: u64 = 1;
 
 /// What is to be taken from a count so that a bias goes and HANDOFF, set or not, is set.
 fn bias_but_handoff(handoff: bool) -> u64

@@ -16,7 +16,7 @@ pub enum Wait {
 /// grant words is suspended, or what it loaded has to last.
 pub enum Stage {
     Rest,
-    /// A reader that is to queue: its own grant word is 1.
+    /// A reader whose own grant word is not 0: it is to queue, or has found that it isn't granted.
     Armed,
     /// The reader stands in the list, and its bias is still in the count. Whether it stands alone.
     Joining(bool),

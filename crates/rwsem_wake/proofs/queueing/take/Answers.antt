@@ -1,0 +1,40 @@
+use Rattle.std.proofs.Common.{◌∙◌, ◌==◌, IsSome, sym, refl, ap, subst, arith, eq-eqb, ne_eqb}
+use Rattle.word_bits.specs.LockWords.{IsLawfulCount}
+use Rattle.lock_core.specs.declared.op.Op.TheVariants.{Exchange}
+use Rattle.lock_core.specs.declared.pass.Face.{Face}
+use Rattle.lock_core.specs.declared.view.Held.TheVariants.{Alone}
+use Rattle.lock_core.specs.Pasts.{IsOwnStep, Tail}
+use Rattle.lock_core.proofs.Sitting.{sits-on}
+use Rattle.rwsem_count.specs.declared.view.Bias.TheVariants.{Clear}
+use Rattle.rwsem_count.proofs.Sitting.{sits-took}
+use Rattle.rwsem_wake.specs.Queues.{taken}
+use Rattle.rwsem_wake.proofs.Holding.{holds-by, alone-holds, busy-held}
+use Rattle.rwsem_wake.proofs.Stepping.{count-holds}
+use Rattle.rwsem_wake.proofs.QueueSteps.{on-take}
+use Rattle.rwsem_wake.proofs.queueing.take.Goals as goal
+
+pub step-found-requires-clause-lets : goal.step-found-requires-clause-lets
+step-found-requires-clause-lets g c = let k = c.args.site.now.table.shared.key in let v = c.args.pass.now.seat.me.0.view in let t0 = c.args.task in let has = sym c.requires.own.task ∙ c.requires.mine in
+    count-holds g.H.O.Object.object g.H.SiteRule.unavailable g.H.O.Object.WORDS k g.H.SpinHost.FIRST g.H.ListHost.LIST g.H.CountHost.COUNT g.H.GrantHost.MARKS g.H.GrantHost.GRANTS g.H.ListHost.list g.H.GrantHost.sem g.H.GrantHost.with_sem (g.H.SiteRule.holds k) (g.H.SiteRule.moves k) (g.H.ListHost.queue k) (g.met.H.SiteRule.site_kept k) (g.met.H.SpinHost.spin_kept k) (g.met.H.ListHost.queued k) (g.H.ListHost.list_kept k) g.met.H.GrantHost.sem_places (g.met.H.GrantHost.sem_kept k) (g.met.H.GrantHost.sem_only k) (g.met.H.GrantHost.sems k)
+    _ _ _ t0 _ (Exchange c.args.old c.args.new) Alone (λ n. n == c.args.old) (λ n. taken (g.H.GrantHost.sem v.ext) c.args.old n) IsLawfulCount c.COUNT.ensures has (sym c.requires.own.held ∙ c.requires.out) (λ e. alone-holds e)
+    (λ n q marks grants sees loc only. let m = c.requires.may in let t = on-take sees _ _ _ n q marks grants loc (only c.requires.held) t0 has (sym c.requires.own.held ∙ c.requires.out) m.clear m.rest m.knows m.waiting c.args.alone c.args.old c.args.new m.only m.may m.free m.flags in (busy-held v.spin _ c.requires.held, t.0.0, t.0.1, t.1, t.2))
+
+pub returns-then-found-old-clause-own : goal.returns-then-found-old-clause-own
+returns-then-found-old-clause-own g c = let gets = c.step-found.ensures.told.1 (eq-eqb _ _ c.if-found-old.true) in
+    sits-took g.H.CountHost.counted c.args.site.now.table.shared.key c.args.site.now.table.shared.table_id c.args.pass.now.seat.table_id c.set_held.new.self.seat.table_id c.args.pass.now.seat.me c.set_held.new.self.seat.me c.args.pass.now.face c.set_held.new.self.face Clear Alone gets.0 gets.1 _ _
+    (ap (λ s. s.me.0.view) c.set_held.ensures.seat ∙ gets.3.0) (omega arith) ((gets.2 c.args.site.now.table.shared.key c.requires.own.plan).within) c.requires.out (subst IsSome (sym c.requires.mine) refl) (ap (λ s. s.table_id) c.set_held.ensures.seat ∙ c.step-found.ensures.own.0) (ap (λ s. s.me.1) c.set_held.ensures.seat ∙ gets.3.1)
+    (c.set_held.ensures.face ∙ ap (λ (f : Face). record f { held = Alone }) c.step-found.ensures.face) c.requires.own
+
+pub returns-then-found-old-clause-took : goal.returns-then-found-old-clause-took
+returns-then-found-old-clause-took g c = λ is. holds-by g.H.GrantHost.with_sem g.H.O.Object.object c.args.site.now.table.shared.key Alone _ c.args.pass.now.seat.me c.step-found.new.pass.seat.me c.set_held.new.self.seat.me.0.view c.requires.own.plan (ap (λ s. s.me.0.view) c.set_held.ensures.seat) (c.step-found.ensures.told.1 (eq-eqb _ _ c.if-found-old.true))
+
+pub returns-then-found-old-clause-goes_on : goal.returns-then-found-old-clause-goes_on
+returns-then-found-old-clause-goes_on g c = λ p t. subst (Tail p) (sym (ap (λ s. s.me.0.past) c.set_held.ensures.seat)) (c.step-found.ensures.goes_on p t)
+
+pub returns-then-found-old-clause-last : goal.returns-then-found-old-clause-last
+returns-then-found-old-clause-last g c = subst (λ s. IsOwnStep s.me.0.view s.me.0.past) (sym c.set_held.ensures.seat) c.step-found.ensures.last
+
+pub returns-else-found-old-clause-own : goal.returns-else-found-old-clause-own
+returns-else-found-old-clause-own g c = let turn = c.step-found.ensures.told.2 (ne_eqb _ _ c.if-found-old.false) in
+    sits-on c.args.site.now.table.shared.key c.args.site.now.table.shared.table_id c.args.pass.now.seat.table_id c.step-found.new.pass.seat.table_id c.args.pass.now.seat.me c.step-found.new.pass.seat.me c.args.pass.now.face c.step-found.new.pass.face
+    c.step-found.ensures.own.0 turn.1 (ap (λ v. v.hand) turn.0) (let n = ap (λ v. v.steps) turn.0 in omega (arith, n)) c.step-found.ensures.face c.requires.own
