@@ -2,3 +2,8 @@ pub mod Stating
 pub mod Chaining
 pub mod Locking
 pub mod Showing
+pub mod Hinting
+pub mod Removing
+pub mod Walking
+pub mod Granting
+pub mod FirstLooks

@@ -6,3 +6,6 @@ pub mod CountHosting
 pub mod Places
 pub mod Handles
 pub mod Stated
+pub mod Plays
+pub mod Removals
+pub mod Wakes

@@ -1,6 +1,10 @@
 -- Where a pass stands in a call on a semaphore, and what callers of any lock see of it.
-use Rattle.std.specs.Prelude.{◌≡◌, false}
+use Rattle.std.specs.Prelude.{◌≡◌, ◌≤◌, false}
 use Rattle.lock_core.specs.declared.view.Line.{Line}
+use Rattle.lock_core.specs.declared.pass.Pass.{Pass}
+use Rattle.lock_core.specs.declared.site.Site.{Site}
+use Rattle.lock_core.specs.Handles.{view_of, past_of, task_in, SitsAt, KeepsPast}
+use Rattle.lock_core.specs.Shown.{Shown, shown}
 use Rattle.rwsem_wake.specs.SemParts.{apart_hand}
 use Rattle.rwsem_slow.specs.declared.view.RwSemHand.{RwSemHand}
 use Rattle.rwsem_slow.specs.RwSems.{V}
@@ -13,3 +17,15 @@ line_of e = record { appends = e.appends }
 pub record IsOutside (v : V) : Type 0 where
   pub apart : v.ext.sem ≡ apart_hand
   pub still : v.ext.list.changes ≡ false
+
+module _ {R O C : Type 0} where
+  -- a pass of the site, as callers of any lock see it
+  abbrev pub seen_of : Pass R O RwSemHand C → Shown
+  seen_of pass = shown line_of (view_of pass).fronts (view_of pass) (past_of pass)
+
+  -- it made some steps, and is one of the site's as before
+  pub record StepsOn (site : Site R O RwSemHand C) (old new : Pass R O RwSemHand C) : Type 0 where
+    pub own : SitsAt site new
+    pub task : task_in new ≡ task_in old
+    pub goes_on : KeepsPast old new
+    pub steps : (view_of old).steps ≤ (view_of new).steps

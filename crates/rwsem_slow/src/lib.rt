@@ -2,8 +2,11 @@
 #![tactic(auto)]
 
 mod calls;
+mod hint;
+mod removal;
 mod rule;
 mod view;
+mod waking;
 
 pub use calls::{RwPass, RwSem};
 pub use rule::SemRule;

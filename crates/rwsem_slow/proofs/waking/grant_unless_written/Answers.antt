@@ -1,0 +1,15 @@
+use Rattle.std.proofs.Common.{◌≤◌, ◌∙◌, true, false, ap, arith}
+use Rattle.rwsem_slow.specs.RwSems.{V}
+use Rattle.rwsem_slow.proofs.Granting.{backs-out, first-code, first-small, first-still, first-waits, grants-on, keeps-reserved, knows-reserved, knows-still, none-yet, picks-reserved, reserved-one, saw-writer}
+use Rattle.rwsem_slow.proofs.waking.grant_unless_written.Goals as goal
+
+pub reserve-seen-requires-clause-may : goal.reserve-seen-requires-clause-may
+reserve-seen-requires-clause-may g c = record { stage = c.requires.rests.stage; clear = c.requires.rests.clear; knows = c.requires.list.knows; waiting = first-waits c.args.pass.now.seat.me.0.view.ext.list.list c.args.first c.requires.first }
+
+pub returns-then-seen-eq1-clause-saw : goal.returns-then-seen-eq1-clause-saw
+returns-then-seen-eq1-clause-saw g c = let e = c.reserve-seen.ensures in let steps = ap (λ (z : V). z.steps) e.kept in let more = c.back_out.ensures.later in
+    saw-writer true c.reserve-seen.result c.args.pass.now.seat.me.0.view c.reserve-seen.new.pass.seat.me.0.view c.back_out.new.pass.seat.me.0.view c.args.pass.now.seat.me.0.past c.reserve-seen.new.pass.seat.me.0.past c.back_out.new.pass.seat.me.0.past (omega arith) (ap (λ (z : V). z.hand.task) e.kept) (omega (arith, steps)) (omega (arith, more)) e.last e.found e.goes_on (c.back_out.ensures.goes_on)
+
+pub returns-clause-saw : goal.returns-clause-saw
+returns-clause-saw g c = let e = c.reserve-seen.ensures in let steps = ap (λ (z : V). z.steps) e.kept in let hint = ap (λ (z : V). z.steps) c.set_hint.ensures.kept in let granted = c.grant.ensures.granted.beside.later in let more : c.reserve-seen.new.pass.seat.me.0.view.steps ≤ c.grant.new.pass.seat.me.0.view.steps = omega (arith, hint, granted) in
+    saw-writer false c.reserve-seen.result c.args.pass.now.seat.me.0.view c.reserve-seen.new.pass.seat.me.0.view c.grant.new.pass.seat.me.0.view c.args.pass.now.seat.me.0.past c.reserve-seen.new.pass.seat.me.0.past c.grant.new.pass.seat.me.0.past (omega arith) (ap (λ (z : V). z.hand.task) e.kept) (omega (arith, steps)) (omega (arith, more)) e.last e.found e.goes_on (λ p t. c.grant.ensures.goes_on p (c.set_hint.ensures.goes_on p t))

@@ -1,0 +1,78 @@
+-- What a wake does to its pass and to the list, and whom it wakes.
+use Rattle.std.specs.Prelude.{◌≡◌, ◌≢◌, ℕ, ◌%◌, Bool, true, false, List, [], ◌∷◌, if◌then◌else◌}
+use Rattle.lock_core.specs.Records.{bit}
+use Rattle.lock_core.specs.Shown.{Shown, FindsSince}
+use Rattle.lock_core.specs.declared.pass.Pass.{Pass}
+use Rattle.lock_core.specs.Handles.{view_of}
+use Rattle.wait_list.specs.declared.view.Waiter.{Waiter}
+use Rattle.wait_list.specs.Lists.{Knows, list_part}
+use Rattle.rwsem_count.specs.declared.view.Bias.TheVariants.{Clear}
+use Rattle.rwsem_count.specs.Counts.{shared_weight}
+use Rattle.rwsem_wake.specs.declared.view.Stage.TheVariants.{Rest}
+use Rattle.rwsem_wake.specs.declared.view.Wait.TheVariants.{Apart}
+use Rattle.rwsem_wake.specs.Batches.{batch_of, starts_with_reader}
+use Rattle.rwsem_slow.specs.declared.view.RwSemHand.{RwSemHand}
+use Rattle.rwsem_slow.specs.declared.waking.WakeType.{WakeType}
+use Rattle.rwsem_slow.specs.declared.waking.WakeType.TheVariants.{Any, Readers, ReadOwned}
+use Rattle.rwsem_slow.specs.RwSems.{V, count_at, list_of}
+use Rattle.rwsem_slow.specs.Places.{seen_of}
+use Rattle.rwsem_slow.specs.Removals.{KnowsList, StaysBeside, without_all}
+
+-- it has no bias in the count, is about no batch, and changes no list
+pub record IsAtRest (v : V) : Type 0 where
+  pub stage : v.ext.sem.stage ≡ Rest
+  pub clear : v.ext.sem.bias ≡ Clear
+  pub none : v.ext.sem.rest ≡ []
+  pub still : v.ext.list.changes ≡ false
+
+-- a pass may wake so: one that holds shared and waits for nothing keeps writers out by its hold, and any other, which holds nothing shared, by a bias that it reserves
+abbrev pub MayWake : WakeType → V → Type 0
+MayWake ReadOwned v = (shared_weight v.hand.held ≡ 1) × (v.ext.sem.wait ≡ Apart)
+MayWake Readers v = shared_weight v.hand.held ≡ 0
+MayWake Any v = shared_weight v.hand.held ≡ 0
+
+-- the list's batch
+abbrev pub batch_in : List Waiter → List ℕ
+batch_in q = batch_of 256 q
+
+-- whom a wake wakes that finds this list: the batch, unless there is a writer; and of a list with a writer first that writer, where the wake is of this kind
+abbrev pub first_woken : WakeType → List Waiter → List ℕ
+first_woken Any [] = []
+first_woken Any (w ∷ q) = w.task ∷ []
+first_woken Readers q = []
+first_woken ReadOwned q = []
+
+abbrev pub readers_woken : (written : Bool) → List Waiter → List ℕ
+readers_woken written q = if written then [] else batch_in q
+
+abbrev pub woken_of : WakeType → (written : Bool) → List Waiter → List ℕ
+woken_of kind written q = if starts_with_reader q then readers_woken written q else first_woken kind q
+
+-- the list that it leaves
+abbrev pub left_of : (written : Bool) → List Waiter → List Waiter
+left_of written q = if written then q else without_all (batch_in q) q
+
+-- a step since found whether there was a writer
+abbrev pub SawWriter : (written : Bool) → Shown → Shown → Type 0
+SawWriter written v u = (n : ℕ) × FindsSince count_at n v u × (n % 2 ≡ bit written)
+
+-- a wake has granted the batch of the list, which is then without it, unless there was a writer, and is at rest
+pub record Grants (written : Bool) (v u : V) : Type 0 where
+  pub beside : StaysBeside v u
+  pub rests : IsAtRest u
+  pub list : KnowsList u
+  pub left : u.ext.list.list ≡ left_of written v.ext.list.list
+
+module _ {R O C : Type 0} where
+  -- A wake of this kind has woken these tasks, is at rest, and knows the list that it left. Where a reader was first and the wake reserved a bias of its own, its look at the count said whether there was a writer.
+  pub record Wakes (kind : WakeType) (woken : List ℕ) (old new : Pass R O RwSemHand C) : Type 0 where
+    pub beside : StaysBeside (view_of old) (view_of new)
+    pub rests : IsAtRest (view_of new)
+    pub list : KnowsList (view_of new)
+    pub was : List Waiter
+    pub before : Knows (list_part list_of (view_of old)) → was ≡ (view_of old).ext.list.list
+    pub written : Bool
+    pub owned : kind ≡ ReadOwned → written ≡ false
+    pub saw : kind ≢ ReadOwned → starts_with_reader was ≡ true → SawWriter written (seen_of old) (seen_of new)
+    pub woken_are : woken ≡ woken_of kind written was
+    pub left : (view_of new).ext.list.list ≡ left_of written was

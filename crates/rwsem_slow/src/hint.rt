@@ -1,0 +1,52 @@
+//! The owner hint: who holds, where a task that has come to hold stored it. No fact rests on it.
+ghost use Rattle.std.specs.Prelude.{◌≡◌, ◌+◌, ◌*◌, ◌<◌};
+ghost use Rattle.lock_core.specs.Handles.{IsLatest, view_of, SitsAt, KeepsPast, SaysSame};
+ghost use Rattle.lock_core.specs.Views.{ticked};
+ghost use Rattle.rwsem_slow.specs.Plays.{Ticks};
+
+use crate::rule::SemRule;
+use crate::view::RwSemHand;
+use atomic_table::Play;
+use lock_core::view::View;
+use lock_core::{Op, Pass, SPIN_ROOM, Site};
+use word_bits::{MAX_TASKS, Object};
+
+/// The place of the hint among the words of the locks.
+const HINT: usize = SPIN_ROOM + 8;
+
+/// The hint that nobody holds.
+pub const NOBODY: u64 = 0;
+
+/// The hint that this task writes.
+pub fn writer_hint(task: u32) -> u64
+    requires { task < MAX_TASKS }
+    ensures { result ≡ 8 * (task + 1) }
+{
+    8 * (u64::from(task) + 1)
+}
+
+/// The hint that tasks read, of which this is one. The kernel's `RWSEM_READER_OWNED`.
+pub fn reader_hint(task: u32) -> u64
+    requires { task < MAX_TASKS }
+    ensures { result ≡ 8 * (task + 1) + 1 }
+{
+    writer_hint(task) + 1
+}
+
+struct StoreHint;
+
+impl Play<(), View<RwSemHand>> for StoreHint {
+    ghost then = { Ticks };
+}
+
+/// Stores the hint.
+pub fn set_hint<O: Object>(site: &Site<SemRule<O>>, pass: &mut Pass<SemRule<O>>, hint: u64)
+    requires own { SitsAt site.now pass.old }
+    ensures own { SitsAt site.now pass.new }
+    ensures goes_on { KeepsPast pass.old pass.new }
+    ensures last { IsLatest pass.new }
+    ensures face { SaysSame pass.old pass.new }
+    ensures kept { view_of pass.new ≡ ticked (view_of pass.old) }
+{
+    site.step::<StoreHint>(pass, HINT, Op::Store(hint));
+}

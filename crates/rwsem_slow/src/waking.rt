@@ -1,0 +1,215 @@
+//! Wakes of a semaphore's waiters, under its wait lock.
+ghost use Rattle.std.specs.Prelude.{◌≡◌, ◌<◌, ◌≤◌, ◌+◌, [], false, IsSome, Some, length};
+ghost use Rattle.lock_core.specs.Handles.{IsLatest, view_of, task_in, SitsAt, KeepsPast, SaysSame};
+ghost use Rattle.lock_core.specs.Records.{bit};
+ghost use Rattle.lock_core.specs.Views.{SpinHolds};
+ghost use Rattle.wait_list.specs.Lists.{first_of};
+ghost use Rattle.rwsem_count.specs.Counts.{early_weight, shared_weight};
+ghost use Rattle.rwsem_wake.specs.Grants.{AreTaskNumbers, KeepsOut};
+ghost use Rattle.rwsem_wake.specs.SemParts.{some_of};
+ghost use Rattle.rwsem_slow.specs.RwSems.{MayPick, sem_of};
+ghost use Rattle.rwsem_slow.specs.Places.{StepsOn, seen_of};
+ghost use Rattle.rwsem_slow.specs.Removals.{KnowsList, RemovesAll};
+ghost use Rattle.rwsem_slow.specs.Wakes.{Grants, IsAtRest, MayWake, SawWriter, Wakes, batch_in, readers_woken};
+
+use crate::hint::{reader_hint, set_hint};
+use crate::removal::{WAITERS, read_list, remove_all};
+use crate::rule::SemRule;
+use arrayvec::ArrayVec;
+use cpu_task::Cpu;
+use lock_core::{Pass, Site};
+use rwsem_wake::batches::{BATCH, batch};
+use rwsem_wake::steps::reserve;
+use rwsem_wake::wake::{back_out, grant_removed};
+use wait_list::{Waiter, list};
+use word_bits::Object;
+
+/// Whom a wake wakes. The kernel's `rwsem_wake_type`.
+#[derive(Clone, Copy, Debug, PartialEq, Eq)]
+pub enum WakeType {
+    /// The first waiter, whatever it is, and the batch where it reads.
+    Any,
+    /// The batch, where the first waiter reads.
+    Readers,
+    /// The same, by a waker that holds shared, and so keeps writers out.
+    ReadOwned,
+}
+
+/// Who says whether the time of the first waiter is over.
+pub trait Patience {
+    /// Is asked by a wake that finds a writer: where it is over, the lock is to be handed to the
+    /// first waiter.
+    fn is_over(&mut self) -> bool;
+}
+
+/// That of a release, which has no CPU of its own: a wake of it never asks for a handoff.
+#[derive(Drop)]
+pub struct Endless;
+
+impl Patience for Endless {
+    fn is_over(&mut self) -> bool {
+        false
+    }
+}
+
+/// That of a waiter, which its CPU counts.
+#[derive(Drop)]
+pub struct Waited<'a, C> {
+    pub cpu: &'a mut C,
+}
+
+impl<'a, C: Cpu> Patience for Waited<'a, C> {
+    fn is_over(&mut self) -> bool {
+        self.cpu.overdue()
+    }
+}
+
+/// Removes the batch of the list, which begins with this waiter, a reader. Answers whether nobody
+/// waits then.
+fn remove_batch<O: Object>(
+    site: &Site<SemRule<O>>,
+    pass: &mut Pass<SemRule<O>>,
+    first: Waiter,
+    readers: &mut ArrayVec<u32, BATCH>,
+) -> bool
+    requires own { SitsAt site.now pass.old }
+    requires last { IsLatest pass.old }
+    requires numbered { IsSome (task_in pass.old) }
+    requires held { SpinHolds (view_of pass.old).spin }
+    requires list { KnowsList (view_of pass.old) }
+    requires first { Some first ≡ first_of (view_of pass.old).ext.list.list }
+    requires reader { first.writer ≡ false }
+    requires may { MayPick (view_of pass.old).ext.sem }
+    requires none { (view_of pass.old).ext.sem.rest ≡ [] }
+    requires empty { readers.old.items ≡ [] }
+    ensures own { SitsAt site.now pass.new }
+    ensures goes_on { KeepsPast pass.old pass.new }
+    ensures last { IsLatest pass.new }
+    ensures face { SaysSame pass.old pass.new }
+    ensures batch { readers.new.items ≡ batch_in (view_of pass.old).ext.list.list }
+    ensures removed { RemovesAll (view_of pass.old)
+        (batch_in (view_of pass.old).ext.list.list) (view_of pass.new) }
+    ensures none_left { bit result + some_of (view_of pass.new).ext.list.list ≡ 1 }
+    ensures some { 0 < length readers.new.items }
+    ensures few { length readers.new.items ≤ WAITERS }
+    ensures tasks { AreTaskNumbers readers.new.items }
+{
+    let mut waiters: ArrayVec<Waiter, WAITERS> = ArrayVec::new();
+    read_list(site, pass, first, &mut waiters);
+    let known = waiters.as_slice();
+    batch(known, BATCH, readers);
+    let picked = readers.as_slice();
+    remove_all(site, pass, picked);
+    picked.len() == known.len()
+}
+
+/// Grants the batch of the list, which begins with this waiter, a reader. `reserved` says whether
+/// the waker has a bias of its own in the count.
+fn grant<O: Object>(
+    site: &Site<SemRule<O>>,
+    pass: &mut Pass<SemRule<O>>,
+    first: Waiter,
+    reserved: bool,
+    woken: &mut ArrayVec<u32, BATCH>,
+)
+    requires own { SitsAt site.now pass.old }
+    requires last { IsLatest pass.old }
+    requires numbered { IsSome (task_in pass.old) }
+    requires held { SpinHolds (view_of pass.old).spin }
+    requires list { KnowsList (view_of pass.old) }
+    requires first { Some first ≡ first_of (view_of pass.old).ext.list.list }
+    requires reader { first.writer ≡ false }
+    requires may { MayPick (view_of pass.old).ext.sem }
+    requires none { (view_of pass.old).ext.sem.rest ≡ [] }
+    requires keeps { KeepsOut sem_of (view_of pass.old) }
+    requires reserved { bit reserved ≡ early_weight (view_of pass.old).ext.sem.bias }
+    requires empty { woken.old.items ≡ [] }
+    ensures own { SitsAt site.now pass.new }
+    ensures goes_on { KeepsPast pass.old pass.new }
+    ensures last { IsLatest pass.new }
+    ensures face { SaysSame pass.old pass.new }
+    ensures granted { Grants false (view_of pass.old) (view_of pass.new) }
+    ensures woken { woken.new.items ≡ batch_in (view_of pass.old).ext.list.list }
+{
+    let empty = remove_batch(site, pass, first, woken);
+    let readers = woken.as_slice();
+    grant_removed(site, pass, readers, reserved, empty);
+}
+
+/// Grants the batch of the list, which begins with this waiter, a reader, unless there is a writer.
+/// Answers whether there is one.
+fn grant_unless_written<O: Object, P: Patience>(
+    site: &Site<SemRule<O>>,
+    pass: &mut Pass<SemRule<O>>,
+    first: Waiter,
+    patience: &mut P,
+    woken: &mut ArrayVec<u32, BATCH>,
+) -> bool
+    requires own { SitsAt site.now pass.old }
+    requires numbered { IsSome (task_in pass.old) }
+    requires held { SpinHolds (view_of pass.old).spin }
+    requires rests { IsAtRest (view_of pass.old) }
+    requires list { KnowsList (view_of pass.old) }
+    requires first { Some first ≡ first_of (view_of pass.old).ext.list.list }
+    requires reader { first.writer ≡ false }
+    requires may { shared_weight (view_of pass.old).hand.held ≡ 0 }
+    requires empty { woken.old.items ≡ [] }
+    ensures own { SitsAt site.now pass.new }
+    ensures goes_on { KeepsPast pass.old pass.new }
+    ensures last { IsLatest pass.new }
+    ensures face { SaysSame pass.old pass.new }
+    ensures granted { Grants result (view_of pass.old) (view_of pass.new) }
+    ensures woken { woken.new.items ≡
+        readers_woken result (view_of pass.old).ext.list.list }
+    ensures saw { SawWriter result (seen_of pass.old) (seen_of pass.new) }
+{
+    // A writer that comes after the reserved bias finds the count taken; one that was there before
+    // is seen here, and its release wakes the readers.
+    let seen = reserve(site, pass);
+    if seen % 2 == 1 {
+        let overdue = patience.is_over();
+        back_out(site, pass, first.task, seen, overdue);
+        return true;
+    }
+    // Spinning writers see early that readers have the lock.
+    set_hint(site, pass, reader_hint(first.task));
+    grant(site, pass, first, true, woken);
+    false
+}
+
+/// Wakes waiters under the wait lock: `woken`, which was empty, has the tasks that are to be woken
+/// once the wait lock is released. Nobody is woken where nobody waits. The kernel's
+/// `rwsem_mark_wake`.
+pub fn wake<O: Object, P: Patience>(
+    site: &Site<SemRule<O>>,
+    pass: &mut Pass<SemRule<O>>,
+    kind: WakeType,
+    patience: &mut P,
+    woken: &mut ArrayVec<u32, BATCH>,
+)
+    requires own { SitsAt site.now pass.old }
+    requires numbered { IsSome (task_in pass.old) }
+    requires held { SpinHolds (view_of pass.old).spin }
+    requires rests { IsAtRest (view_of pass.old) }
+    requires may { MayWake kind (view_of pass.old) }
+    requires empty { woken.old.items ≡ [] }
+    ensures on { StepsOn site.now pass.old pass.new }
+    ensures wakes { Wakes kind woken.new.items pass.old pass.new }
+{
+    let Some(first) = list::first(site, pass) else {
+        return;
+    };
+    if first.writer {
+        match kind {
+            WakeType::Any => woken.push(first.task),
+            WakeType::Readers | WakeType::ReadOwned => {}
+        }
+        return;
+    }
+    match kind {
+        WakeType::Any | WakeType::Readers => {
+            grant_unless_written(site, pass, first, patience, woken);
+        }
+        WakeType::ReadOwned => grant(site, pass, first, false, woken),
+    }
+}
