@@ -1,7 +1,6 @@
 -- What a wake comes to, from its look at the first waiter on.
-use Rattle.std.proofs.Common.{◌≡◌, ◌≢◌, ◌∙◌, ℕ, ◌+◌, ◌<◌, ◌≤◌, ◌⊎◌, inl, inr, Bool, true, false, List, [], ◌∷◌, map, filter, take, Option, Some, None, refl, sym, ap, subst, arith, if◌then◌else◌}
+use Rattle.std.proofs.Common.{◌≡◌, ◌≢◌, ◌∙◌, ℕ, ◌≤◌, ◌⊎◌, inl, inr, Bool, true, false, List, [], ◌∷◌, map, filter, take, Option, Some, None, refl, sym, ap, subst, arith, if◌then◌else◌}
 use Rattle.lock_core.specs.declared.pass.Pass.{Pass}
-use Rattle.lock_core.specs.declared.view.SpinHand.{SpinHand}
 use Rattle.lock_core.specs.Handles.{view_of, KeepsPast}
 use Rattle.lock_core.specs.Pasts.{IsStepBy}
 use Rattle.lock_core.specs.Records.{bit}
@@ -14,8 +13,8 @@ use Rattle.rwsem_slow.specs.declared.waking.WakeType.{WakeType}
 use Rattle.rwsem_slow.specs.declared.waking.WakeType.TheVariants.{Any, Readers, ReadOwned}
 use Rattle.rwsem_slow.specs.RwSems.{V, list_of, with_list}
 use Rattle.rwsem_slow.specs.Places.{seen_of}
-use Rattle.rwsem_slow.specs.Removals.{KnowsList, StaysBeside, without_all}
-use Rattle.rwsem_slow.specs.Wakes.{Grants, IsAtRest, SawWriter, Wakes, batch_in, first_woken, readers_woken}
+use Rattle.rwsem_slow.specs.Removals.{KnowsList, without_all}
+use Rattle.rwsem_slow.specs.Wakes.{Grants, IsAtRest, SawWriter, Wakes, first_woken, readers_woken}
 
 -- the first of a list
 

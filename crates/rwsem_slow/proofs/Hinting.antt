@@ -1,11 +1,10 @@
 -- A store of the owner hint is a move of the rule.
-use Rattle.std.proofs.Common.{◌≡◌, ℕ, ◌+◌, refl}
+use Rattle.std.proofs.Common.{ℕ, refl}
 use Rattle.atomic_table.specs.Table.{Me, keeps}
 use Rattle.word_bits.specs.Objects.{Obj}
 use Rattle.word_bits.specs.Histories.{Plan}
 use Rattle.lock_core.specs.declared.op.Op.TheVariants.{Store}
 use Rattle.lock_core.specs.Moves.{Lets}
-use Rattle.lock_core.specs.Ops.{word_after}
 use Rattle.lock_core.specs.Plays.{Turns}
 use Rattle.lock_core.specs.Views.{ticked}
 use Rattle.rwsem_slow.specs.RwSems.{V, Kept, RwSemMoves, hint_at}

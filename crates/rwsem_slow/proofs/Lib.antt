@@ -7,3 +7,4 @@ pub mod Removing
 pub mod Walking
 pub mod Granting
 pub mod FirstLooks
+pub mod Ending

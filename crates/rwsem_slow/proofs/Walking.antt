@@ -1,11 +1,9 @@
 -- The walk along a list, from waiter to waiter.
-use Rattle.std.proofs.Common.{◌≡◌, ◌≢◌, ℕ, ◌+◌, ◌<◌, ◌≤◌, ◌==◌, Bool, true, false, List, [], ◌∷◌, ◌++◌, length, Option, Some, None, sym, refl, ap, ◌∙◌, subst, arith, eq-eqb, ne_eqb, if◌then◌else◌, append_assoc, length-append}
-use mathlib.Core.Logic.{dite}
-use native.Mathlib.Decide.{ℕ_discrete}
+use Rattle.std.proofs.Common.{◌≡◌, ◌≢◌, ℕ, ◌<◌, ◌≤◌, ◌==◌, Bool, List, [], ◌∷◌, ◌++◌, length, Option, Some, None, sym, refl, ap, ◌∙◌, subst, arith, eq-eqb, ne_eqb, if◌then◌else◌, append_assoc, length-append}
 use Rattle.lock_core.specs.Records.{bit}
 use Rattle.wait_list.specs.declared.view.Waiter.{Waiter}
 use Rattle.wait_list.specs.declared.view.ListHand.{ListHand}
-use Rattle.wait_list.specs.Lists.{AreTasks, FindsNext, IsList, Knows, counted, first_of, list_part, next_of}
+use Rattle.wait_list.specs.Lists.{AreTasks, FindsNext, IsList, Knows, counted, first_of, next_of}
 use Rattle.rwsem_slow.specs.RwSems.{V, list_of, with_list}
 use Rattle.rwsem_slow.specs.Removals.{IsAlong, KnowsList}
 

@@ -9,3 +9,4 @@ pub mod Stated
 pub mod Plays
 pub mod Removals
 pub mod Wakes
+pub mod Releasing

@@ -25,6 +25,7 @@ use std::sync::Wait;
 use word_bits::Object;
 
 mod laws;
+mod releases;
 mod tries;
 mod words;
 

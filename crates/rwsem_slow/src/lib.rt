@@ -3,6 +3,7 @@
 
 mod calls;
 mod hint;
+mod releasing;
 mod removal;
 mod rule;
 mod view;

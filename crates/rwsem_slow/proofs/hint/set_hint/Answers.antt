@@ -1,4 +1,4 @@
-use Rattle.std.proofs.Common.{◌+◌, ap, arith}
+use Rattle.std.proofs.Common.{ap, arith}
 use Rattle.lock_core.proofs.Sitting.{sits-on}
 use Rattle.rwsem_slow.proofs.Hinting.{hint-does}
 use Rattle.rwsem_slow.proofs.hint.set_hint.Goals as goal

@@ -1,4 +1,4 @@
-use Rattle.std.proofs.Common.{◌∙◌, ℕ, List, length, sym, ap, subst, arith}
+use Rattle.std.proofs.Common.{◌∙◌, ℕ, List, length, ap, arith}
 use Rattle.rwsem_slow.proofs.Granting.{is-removed, keeps-out, leaves-no-reader}
 use Rattle.rwsem_slow.proofs.Removing.{first-reads, grants-removed}
 use Rattle.rwsem_slow.proofs.waking.grant.Goals as goal

@@ -1,6 +1,6 @@
-use Rattle.std.proofs.Common.{◌≤◌, ◌∙◌, true, false, ap, arith}
+use Rattle.std.proofs.Common.{◌≤◌, true, false, ap, arith}
 use Rattle.rwsem_slow.specs.RwSems.{V}
-use Rattle.rwsem_slow.proofs.Granting.{backs-out, first-code, first-small, first-still, first-waits, grants-on, keeps-reserved, knows-reserved, knows-still, none-yet, picks-reserved, reserved-one, saw-writer}
+use Rattle.rwsem_slow.proofs.Granting.{first-waits, saw-writer}
 use Rattle.rwsem_slow.proofs.waking.grant_unless_written.Goals as goal
 
 pub reserve-seen-requires-clause-may : goal.reserve-seen-requires-clause-may

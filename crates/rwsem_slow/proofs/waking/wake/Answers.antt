@@ -1,4 +1,4 @@
-use Rattle.std.proofs.Common.{◌≡◌, ◌∙◌, ◌++◌, [], ◌∷◌, false, None, Some, refl, sym, ap, arith}
+use Rattle.std.proofs.Common.{◌∙◌, ◌++◌, [], ◌∷◌, false, None, Some, refl, ap, arith}
 use Rattle.rwsem_slow.proofs.Removing.{first-reads}
 use Rattle.rwsem_slow.proofs.FirstLooks.{any-woken, looked-first, none-starts, none-woken, not-owned, others-woken, wakes-first, wakes-readers, writer-starts}
 use Rattle.rwsem_slow.proofs.waking.wake.Goals as goal

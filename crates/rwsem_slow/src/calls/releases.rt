@@ -1,0 +1,62 @@
+//! The releases of a semaphore, and downgrades.
+ghost use Rattle.std.specs.Prelude.{◌≡◌, false};
+ghost use Rattle.lock_core.specs.declared.view.Held.TheVariants.{Shared, Alone};
+ghost use Rattle.lock_core.specs.Kinds.{semaphore, wakes_alone, wakes_down, wakes_shared};
+ghost use Rattle.lock_core.specs.Locking.{Downgrades, Releases};
+ghost use Rattle.lock_core.specs.Shown.{PastGoesOn};
+ghost use Rattle.rwsem_slow.specs.Handles.{shown_of, hand_in, SitsAt};
+ghost use Rattle.rwsem_slow.specs.Releasing.{LeavesCount};
+
+use super::{RwPass, RwSem};
+use crate::releasing;
+use cpu_task::Crew;
+use std::sync::Wait;
+use word_bits::Object;
+
+impl<O: Object> RwSem<O> {
+    /// Ends the pass's shared hold. Where it leaves nobody who holds, and tasks wait, it wakes the
+    /// first of them, and with a reader all readers. The kernel's `up_read`.
+    pub fn up_read<W: Wait, C: Crew>(&self, rt: &W, pass: &mut RwPass<O>, crew: &C)
+        requires own { SitsAt self.now pass.old }
+        requires held { (hand_in pass.old).held ≡ Shared }
+        ensures own { SitsAt self.now pass.new }
+        ensures goes_on { PastGoesOn (shown_of pass.old) (shown_of pass.new) }
+        ensures released { Releases (wakes_shared semaphore)
+            (shown_of pass.old) (shown_of pass.new) }
+        ensures left { LeavesCount (wakes_shared semaphore) 256 0
+            (shown_of pass.old) (shown_of pass.new) }
+    {
+        releasing::up_read(&self.site, rt, &mut pass.pass, crew);
+    }
+
+    /// Ends the pass's exclusive hold. Where tasks wait, it wakes the first of them, and with a
+    /// reader all readers. The kernel's `up_write`.
+    pub fn up_write<W: Wait, C: Crew>(&self, rt: &W, pass: &mut RwPass<O>, crew: &C)
+        requires own { SitsAt self.now pass.old }
+        requires held { (hand_in pass.old).held ≡ Alone }
+        requires quiet { (hand_in pass.old).writes ≡ false }
+        ensures own { SitsAt self.now pass.new }
+        ensures goes_on { PastGoesOn (shown_of pass.old) (shown_of pass.new) }
+        ensures released { Releases (wakes_alone semaphore)
+            (shown_of pass.old) (shown_of pass.new) }
+        ensures left { LeavesCount (wakes_alone semaphore) 1 0
+            (shown_of pass.old) (shown_of pass.new) }
+    {
+        releasing::up_write(&self.site, rt, &mut pass.pass, crew);
+    }
+
+    /// Turns the pass's exclusive hold into a shared one. Where a reader waits first, it lets all
+    /// readers in. The kernel's `downgrade_write`.
+    pub fn downgrade_write<W: Wait, C: Crew>(&self, rt: &W, pass: &mut RwPass<O>, crew: &C)
+        requires own { SitsAt self.now pass.old }
+        requires held { (hand_in pass.old).held ≡ Alone }
+        requires quiet { (hand_in pass.old).writes ≡ false }
+        ensures own { SitsAt self.now pass.new }
+        ensures goes_on { PastGoesOn (shown_of pass.old) (shown_of pass.new) }
+        ensures downgraded { Downgrades semaphore (shown_of pass.old) (shown_of pass.new) }
+        ensures left { LeavesCount (wakes_down semaphore) 0 255
+            (shown_of pass.old) (shown_of pass.new) }
+    {
+        releasing::downgrade_write(&self.site, rt, &mut pass.pass, crew);
+    }
+}

@@ -1,0 +1,150 @@
+//! The ends of holds of a semaphore, and downgrades.
+ghost use Rattle.std.specs.Prelude.{◌≡◌, ◌↔◌, IsTrue, false, IsSome};
+ghost use Rattle.lock_core.specs.declared.view.Held.TheVariants.{Shared, Alone};
+ghost use Rattle.lock_core.specs.Handles.{view_of, hand_in, task_in, held_in, SitsAt};
+ghost use Rattle.lock_core.specs.Kinds.{semaphore, wakes_alone, wakes_down, wakes_shared};
+ghost use Rattle.lock_core.specs.Locking.{Downgrades, Releases};
+ghost use Rattle.lock_core.specs.Views.{SpinRests};
+ghost use Rattle.rwsem_slow.specs.Places.{IsOutside, StepsOn, seen_of};
+ghost use Rattle.rwsem_slow.specs.Releasing.{LeavesCount, WentThrough};
+ghost use Rattle.rwsem_slow.specs.Wakes.{MayWake};
+
+use crate::hint::{NOBODY, reader_hint, set_hint};
+use crate::rule::SemRule;
+use crate::waking::{Endless, WakeType, wake};
+use arrayvec::ArrayVec;
+use cpu_task::Crew;
+use lock_core::{Pass, Site};
+use rwsem_count::{BIAS, READ_FAIL, WAITERS, steps};
+use rwsem_wake::batches::BATCH;
+use std::sync::Wait;
+use word_bits::Object;
+
+/// Whether the count says that tasks wait.
+fn has_waiters(count: u64) -> bool
+    ensures { IsTrue result ↔ wakes_alone semaphore count }
+{
+    count / WAITERS % 2 == 1
+}
+
+/// Whether it says so, and that nobody holds who would wake them later.
+fn is_left_to_waiters(count: u64) -> bool
+    ensures { IsTrue result ↔ wakes_shared semaphore count }
+{
+    has_waiters(count) && count % 2 == 0 && count % READ_FAIL / BIAS == 0
+}
+
+/// Takes the wait lock, and wakes waiters. The kernel's `rwsem_wake` and `rwsem_downgrade_wake`.
+fn wake_waiters<O: Object, W: Wait, C: Crew>(
+    site: &Site<SemRule<O>>,
+    rt: &W,
+    pass: &mut Pass<SemRule<O>>,
+    crew: &C,
+    kind: WakeType,
+)
+    requires own { SitsAt site.now pass.old }
+    requires numbered { IsSome (task_in pass.old) }
+    requires unspun { SpinRests (view_of pass.old).spin }
+    requires outside { IsOutside (view_of pass.old) }
+    requires may { MayWake kind (view_of pass.old) }
+    ensures on { StepsOn site.now pass.old pass.new }
+    ensures unspun { SpinRests (view_of pass.new).spin }
+    ensures outside { IsOutside (view_of pass.new) }
+    ensures went { WentThrough (view_of pass.old) (view_of pass.new) }
+{
+    let mut woken: ArrayVec<u32, BATCH> = ArrayVec::new();
+    qspin_queue::lock(site, rt, pass);
+    wake(site, pass, kind, &mut Endless, &mut woken);
+    qspin_word::unlock(site, pass);
+    for task in woken.as_slice() {
+        crew.wake(*task);
+    }
+}
+
+/// Ends the pass's shared hold. The kernel's `__up_read`.
+pub fn up_read<O: Object, W: Wait, C: Crew>(
+    site: &Site<SemRule<O>>,
+    rt: &W,
+    pass: &mut Pass<SemRule<O>>,
+    crew: &C,
+)
+    requires own { SitsAt site.now pass.old }
+    requires numbered { IsSome (task_in pass.old) }
+    requires holds { held_in pass.old ≡ Shared }
+    requires quiet { (hand_in pass.old).writes ≡ false }
+    requires unspun { SpinRests (view_of pass.old).spin }
+    requires outside { IsOutside (view_of pass.old) }
+    ensures on { StepsOn site.now pass.old pass.new }
+    ensures unspun { SpinRests (view_of pass.new).spin }
+    ensures outside { IsOutside (view_of pass.new) }
+    ensures released { Releases (wakes_shared semaphore) (seen_of pass.old) (seen_of pass.new) }
+    ensures left { LeavesCount (wakes_shared semaphore) 256 0
+        (seen_of pass.old) (seen_of pass.new) }
+{
+    let left = steps::up_read(site, pass);
+    // The last reader alone wakes: a waiting writer couldn't take before, and readers that come
+    // after this step see WAITERS and queue.
+    if is_left_to_waiters(left) {
+        wake_waiters(site, rt, pass, crew, WakeType::Any);
+    }
+}
+
+/// Ends the pass's exclusive hold. The kernel's `__up_write`.
+pub fn up_write<O: Object, W: Wait, C: Crew>(
+    site: &Site<SemRule<O>>,
+    rt: &W,
+    pass: &mut Pass<SemRule<O>>,
+    crew: &C,
+)
+    requires own { SitsAt site.now pass.old }
+    requires numbered { IsSome (task_in pass.old) }
+    requires holds { held_in pass.old ≡ Alone }
+    requires quiet { (hand_in pass.old).writes ≡ false }
+    requires unspun { SpinRests (view_of pass.old).spin }
+    requires outside { IsOutside (view_of pass.old) }
+    ensures on { StepsOn site.now pass.old pass.new }
+    ensures unspun { SpinRests (view_of pass.new).spin }
+    ensures outside { IsOutside (view_of pass.new) }
+    ensures released { Releases (wakes_alone semaphore) (seen_of pass.old) (seen_of pass.new) }
+    ensures left { LeavesCount (wakes_alone semaphore) 1 0
+        (seen_of pass.old) (seen_of pass.new) }
+{
+    // While it still holds: behind the release the store could undo that of the next holder.
+    set_hint(site, pass, NOBODY);
+    let left = steps::up_write(site, pass);
+    if has_waiters(left) {
+        wake_waiters(site, rt, pass, crew, WakeType::Any);
+    }
+}
+
+/// Turns the pass's exclusive hold into a shared one. The kernel's `__downgrade_write`.
+pub fn downgrade_write<O: Object, W: Wait, C: Crew>(
+    site: &Site<SemRule<O>>,
+    rt: &W,
+    pass: &mut Pass<SemRule<O>>,
+    crew: &C,
+)
+    requires own { SitsAt site.now pass.old }
+    requires numbered { IsSome (task_in pass.old) }
+    requires holds { held_in pass.old ≡ Alone }
+    requires quiet { (hand_in pass.old).writes ≡ false }
+    requires unspun { SpinRests (view_of pass.old).spin }
+    requires outside { IsOutside (view_of pass.old) }
+    ensures on { StepsOn site.now pass.old pass.new }
+    ensures unspun { SpinRests (view_of pass.new).spin }
+    ensures outside { IsOutside (view_of pass.new) }
+    ensures downgraded { Downgrades semaphore (seen_of pass.old) (seen_of pass.new) }
+    ensures left { LeavesCount (wakes_down semaphore) 0 255
+        (seen_of pass.old) (seen_of pass.new) }
+{
+    let Some(me) = pass.task() else {
+        unreachable!()
+    };
+    let left = steps::downgrade(site, pass);
+    set_hint(site, pass, reader_hint(me));
+    // Readers that queued behind the writer wait for nobody now, and no later release need come
+    // before they are let in.
+    if has_waiters(left) {
+        wake_waiters(site, rt, pass, crew, WakeType::ReadOwned);
+    }
+}
