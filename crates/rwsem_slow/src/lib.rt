@@ -12,3 +12,6 @@ mod waking;
 pub use calls::{RwPass, RwSem};
 pub use rule::SemRule;
 pub use view::RwSemHand;
+
+#[cfg(test)]
+mod tests;
