@@ -8,3 +8,6 @@ pub mod Walking
 pub mod Granting
 pub mod FirstLooks
 pub mod Ending
+pub mod Joining
+pub mod Sitting
+pub mod WriterSteps

@@ -10,3 +10,4 @@ pub mod Plays
 pub mod Removals
 pub mod Wakes
 pub mod Releasing
+pub mod Queued

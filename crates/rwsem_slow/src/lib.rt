@@ -8,6 +8,8 @@ mod removal;
 mod rule;
 mod view;
 mod waking;
+mod write_path;
+mod writing;
 
 pub use calls::{RwPass, RwSem};
 pub use rule::SemRule;

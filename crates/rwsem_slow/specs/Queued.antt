@@ -1,0 +1,92 @@
+-- Where a pass stands that queues on a semaphore.
+use Rattle.std.specs.Prelude.{◌≡◌, ℕ, ◌+◌, ◌<◌, ◌≤◌, ◌⊎◌, Bool, true, false, List}
+use Rattle.word_bits.specs.declared.entry.Entry.{Entry}
+use Rattle.word_bits.specs.Objects.{Obj}
+use Rattle.word_bits.specs.Histories.{Plan}
+use Rattle.lock_core.specs.declared.view.Held.{Held}
+use Rattle.lock_core.specs.declared.view.Held.TheVariants.{Alone}
+use Rattle.lock_core.specs.Holding.{Learns}
+use Rattle.lock_core.specs.Views.{took}
+use Rattle.rwsem_count.specs.WordSteps.{HasHandoff, IsLocked}
+use Rattle.rwsem_wake.specs.declared.view.SemHand.{SemHand}
+use Rattle.rwsem_wake.specs.declared.view.Stage.TheVariants.{Took, Summing}
+use Rattle.rwsem_wake.specs.declared.view.Wait.{Wait}
+use Rattle.rwsem_wake.specs.declared.view.Wait.TheVariants.{Reads, Writes}
+use Rattle.rwsem_wake.specs.SemParts.{apart_hand}
+use Rattle.rwsem_slow.specs.RwSems.{V}
+use Rattle.rwsem_slow.specs.Removals.{KnowsList}
+
+-- its task waits so, has no bias in the count, and is about nothing
+abbrev pub waiting : Wait → SemHand
+waiting wait = record apart_hand { wait = wait }
+
+-- it stands in the list so, and is between no two steps that belong together
+pub record IsInLine (wait : Wait) (v : V) : Type 0 where
+  pub waits : v.ext.sem ≡ waiting wait
+  pub still : v.ext.list.changes ≡ false
+
+-- after some steps under the wait lock it knows the list, has this part of what concerns the semaphore, and has appended itself so often; all but that is as before
+pub record Becomes (v : V) (appends : ℕ) (s : SemHand) (u : V) : Type 0 where
+  pub later : v.steps ≤ u.steps
+  pub list : KnowsList u
+  pub is : u ≡ record v { steps = u.steps; ext = record { list = u.ext.list; sem = s; appends = v.ext.appends + appends } }
+
+-- it has only made steps
+abbrev pub Stays : V → V → Type 0
+Stays v u = u ≡ record v { steps = u.steps }
+
+-- a queued writer that tries: it may have seen that nobody is marked
+abbrev pub IsTrying : SemHand → Type 0
+IsTrying s = (s ≡ waiting Writes) ⊎ (s ≡ record (waiting Writes) { stage = Summing })
+
+-- it has made steps, and is a queued writer about nothing
+abbrev pub Rests : V → V → Type 0
+Rests v u = u ≡ record v { steps = u.steps; ext = record v.ext { sem = waiting Writes } }
+
+-- a queued writer saw that nobody is marked
+abbrev pub SeesUnmarked : V → V → Type 0
+SeesUnmarked v u = u ≡ record v { steps = u.steps; ext = record v.ext { sem = record (waiting Writes) { stage = Summing } } }
+
+-- What a writer knows of the first waiter's mark, before it tries a count that it saw. It has loaded the mark where its answer depends on it: where another is first, nobody holds and a handoff is asked for.
+abbrev pub KnowsMark : (me first count : ℕ) → (marked : Bool) → V → V → Type 0
+KnowsMark me first count true v u = Stays v u
+KnowsMark me first count false v u = (Stays v u × ((me ≡ first) ⊎ IsLocked count ⊎ (HasHandoff count → ⊥))) ⊎ (SeesUnmarked v u × (IsLocked count → ⊥))
+
+-- a queued writer has taken under the wait lock, and is to leave the list, which it knows
+pub record HasTaken {Call : Type 0} (o : Obj Call) (k : Plan) (v u : V) : Type 0 where
+  pub known : List ℕ
+  pub log : List Entry
+  pub learns : Learns o k v.hand known log
+  pub later : v.steps ≤ u.steps
+  pub list : KnowsList u
+  pub is : u ≡ record v { hand = took v.hand Alone known log; steps = u.steps; ext = record { list = u.ext.list; sem = record (waiting Writes) { stage = Took }; appends = v.ext.appends } }
+
+-- what a call knows of its pass beyond what it does in line: the hand but for what loads of its signals heard, and how often it has been the front of a spin queue and has appended itself
+pub record KeepsLine (v u : V) : Type 0 where
+  pub later : v.steps ≤ u.steps
+  pub entries : v.spin.entries ≤ u.spin.entries
+  pub fronts : u.fronts ≡ v.fronts
+  pub appends : u.ext.appends ≡ v.ext.appends
+
+-- it has slept perhaps, and waits on
+pub record WaitsOn (wait : Wait) (v u : V) : Type 0 where
+  pub keeps : KeepsLine v u
+  pub line : IsInLine wait u
+  pub hand : u.hand ≡ v.hand
+
+-- a writer that waited has taken, and is to leave the list
+pub record TookInLine {Call : Type 0} (o : Obj Call) (k : Plan) (v u : V) : Type 0 where
+  pub known : List ℕ
+  pub log : List Entry
+  pub learns : Learns o k v.hand known log
+  pub keeps : KeepsLine v u
+  pub hand : u.hand ≡ took v.hand Alone known log
+  pub sem : u.ext.sem ≡ record (waiting Writes) { stage = Took }
+  pub still : u.ext.list.changes ≡ false
+
+-- what a call that queued leaves of how often its pass has done what
+pub record WentInLine (v u : V) : Type 0 where
+  pub entries : v.spin.entries < u.spin.entries
+  pub fronts : u.fronts ≡ v.fronts
+  pub misses : u.hand.misses ≡ v.hand.misses
+  pub appends : u.ext.appends ≡ v.ext.appends + 1

@@ -1,0 +1,113 @@
+//! The slow path of a writer: its wait lock, its list and its sleep.
+ghost use Rattle.std.specs.Prelude.{◌≡◌, ◌≢◌, ◌<◌, ◌≤◌, ◌+◌, true, false, IsSome};
+ghost use Rattle.lock_core.specs.declared.view.Held.TheVariants.{No, Alone};
+ghost use Rattle.lock_core.specs.Handles.{plan_of, view_of, task_in, held_in, SitsAt};
+ghost use Rattle.lock_core.specs.Locking.{Takes};
+ghost use Rattle.lock_core.specs.Views.{SpinHolds, SpinRests};
+ghost use Rattle.rwsem_count.specs.Counts.{shared_weight};
+ghost use Rattle.rwsem_wake.specs.declared.view.Wait.TheVariants.{Writes};
+ghost use Rattle.rwsem_slow.specs.Places.{IsOutside, StepsOn, seen_of};
+ghost use Rattle.rwsem_slow.specs.Queued.{IsInLine, TookInLine, WaitsOn, WentInLine};
+ghost use Rattle.rwsem_slow.specs.Removals.{StaysBeside};
+ghost use Rattle.rwsem_slow.specs.Wakes.{IsAtRest};
+
+use crate::hint::{set_hint, writer_hint};
+use crate::rule::SemRule;
+use crate::waking::{WakeType, Waited, wake};
+use crate::writing;
+use arrayvec::ArrayVec;
+use cpu_task::{Cpu, Crew};
+use lock_core::{Pass, Site};
+use rwsem_count::{BIAS, READ_FAIL, WRITER};
+use rwsem_wake::batches::BATCH;
+use rwsem_wake::queueing::look_listed;
+use std::sync::Wait;
+use word_bits::Object;
+
+/// Whom a waiter wakes that found this count, without a writer: where readers hold, only readers
+/// may go on.
+fn kind_for(count: u64) -> WakeType
+    ensures { result ≢ WakeType.ReadOwned }
+{
+    if count % READ_FAIL / BIAS == 0 {
+        WakeType::Any
+    } else {
+        WakeType::Readers
+    }
+}
+
+/// Wakes those that may go on at this count, under the wait lock: nobody where there is a writer,
+/// whose release does.
+pub fn wake_others<O: Object, C: Cpu, K: Crew>(
+    site: &Site<SemRule<O>>,
+    pass: &mut Pass<SemRule<O>>,
+    cpu: &mut C,
+    crew: &K,
+    count: u64,
+)
+    requires own { SitsAt site.now pass.old }
+    requires numbered { IsSome (task_in pass.old) }
+    requires locked { SpinHolds (view_of pass.old).spin }
+    requires rests { IsAtRest (view_of pass.old) }
+    requires out { shared_weight (view_of pass.old).hand.held ≡ 0 }
+    ensures on { StepsOn site.now pass.old pass.new }
+    ensures beside { StaysBeside (view_of pass.old) (view_of pass.new) }
+    ensures rests { IsAtRest (view_of pass.new) }
+{
+    if count % 2 == WRITER {
+        return;
+    }
+    let mut woken: ArrayVec<u32, BATCH> = ArrayVec::new();
+    let kind = kind_for(count);
+    wake(site, pass, kind, &mut Waited { cpu }, &mut woken);
+    for task in woken.as_slice() {
+        crew.wake(*task);
+    }
+}
+
+/// Releases the wait lock, sleeps, and takes the wait lock again.
+fn sleep<O: Object, W: Wait, C: Cpu>(
+    site: &Site<SemRule<O>>,
+    rt: &W,
+    pass: &mut Pass<SemRule<O>>,
+    cpu: &mut C,
+)
+    requires own { SitsAt site.now pass.old }
+    requires numbered { IsSome (task_in pass.old) }
+    requires locked { SpinHolds (view_of pass.old).spin }
+    requires listed { IsInLine Writes (view_of pass.old) }
+    ensures on { StepsOn site.now pass.old pass.new }
+    ensures locked { SpinHolds (view_of pass.new).spin }
+    ensures waits { WaitsOn Writes (view_of pass.old) (view_of pass.new) }
+{
+    qspin_word::unlock(site, pass);
+    cpu.sleep(rt);
+    qspin_queue::lock(site, rt, pass);
+}
+
+/// Tries and sleeps in turn, until the writer holds.
+fn wait<O: Object, W: Wait, C: Cpu>(
+    site: &Site<SemRule<O>>,
+    rt: &W,
+    pass: &mut Pass<SemRule<O>>,
+    cpu: &mut C,
+)
+    requires own { SitsAt site.now pass.old }
+    requires numbered { IsSome (task_in pass.old) }
+    requires out { held_in pass.old ≡ No }
+    requires locked { SpinHolds (view_of pass.old).spin }
+    requires listed { IsInLine Writes (view_of pass.old) }
+    ensures on { StepsOn site.now pass.old pass.new }
+    ensures locked { SpinHolds (view_of pass.new).spin }
+    ensures took { TookInLine O.object (plan_of site.now) (view_of pass.old) (view_of pass.new) }
+{
+    for _ in rt.forever() {
+        // A release wakes once: a writer that finds the semaphore free must take it before it
+        // sleeps.
+        if writing::try_queued(site, rt, pass, cpu) {
+            return;
+        }
+        sleep(site, rt, pass, cpu);
+    }
+    unreachable!()
+}

@@ -1,0 +1,351 @@
+//! How a writer queues, and takes from the list.
+ghost use Rattle.std.specs.Prelude.{◌≡◌, ◌≢◌, ◌↔◌, ◌<◌, ◌≤◌, ◌+◌, ℕ, true, false, IfSome, IsSome, IsTrue, Some, length};
+ghost use Rattle.word_bits.specs.LockWords.{IsLawfulCount};
+ghost use Rattle.lock_core.specs.declared.view.Held.TheVariants.{No, Alone};
+ghost use Rattle.lock_core.specs.Handles.{plan_of, view_of, task_in, held_in, SitsAt, KeepsPast, SaysSame};
+ghost use Rattle.lock_core.specs.Views.{SpinHolds};
+ghost use Rattle.rwsem_wake.specs.declared.view.Wait.TheVariants.{Writes};
+ghost use Rattle.wait_list.specs.Lists.{first_code, first_of};
+ghost use Rattle.rwsem_count.specs.WordSteps.{HasHandoff, IsLocked};
+ghost use Rattle.rwsem_wake.specs.declared.view.Stage.TheVariants.{Took};
+ghost use Rattle.rwsem_wake.specs.SemParts.{apart_hand};
+ghost use Rattle.rwsem_wake.specs.Queues.{MayTake};
+ghost use Rattle.rwsem_slow.specs.RwSems.{list_of, sem_of};
+ghost use Rattle.rwsem_slow.specs.Removals.{KnowsList};
+ghost use Rattle.rwsem_slow.specs.Places.{IsOutside, StepsOn};
+ghost use Rattle.rwsem_slow.specs.Queued.{Becomes, HasTaken, IsInLine, IsTrying, KnowsMark, Rests, Stays, TookInLine, waiting};
+
+use crate::rule::SemRule;
+use cpu_task::Cpu;
+use lock_core::{Pass, Site};
+use rwsem_count::{BIAS, HANDOFF, READ_FAIL, WRITER, Write, write_step};
+use rwsem_wake::queueing;
+use std::sync::Wait;
+use wait_list::{Waiter, list};
+use word_bits::{MAX_TASKS, Object};
+
+/// Appends the pass's own task to the list as a writer, and sets WAITERS where it stands alone
+/// there. Answers whether it does.
+pub fn join<O: Object>(site: &Site<SemRule<O>>, pass: &mut Pass<SemRule<O>>) -> bool
+    requires own { SitsAt site.now pass.old }
+    requires numbered { IsSome (task_in pass.old) }
+    requires out { held_in pass.old ≡ No }
+    requires locked { SpinHolds (view_of pass.old).spin }
+    requires outside { IsOutside (view_of pass.old) }
+    ensures own { SitsAt site.now pass.new }
+    ensures goes_on { KeepsPast pass.old pass.new }
+    ensures face { SaysSame pass.old pass.new }
+    ensures came { Becomes (view_of pass.old) 1 (waiting Writes) (view_of pass.new) }
+{
+    let Some(task) = pass.task() else {
+        unreachable!()
+    };
+    list::append(site, pass, Waiter { task, writer: true });
+    let Some(first) = list::first(site, pass) else {
+        return false;
+    };
+    let alone = first.task == task;
+    if alone {
+        queueing::set_waiters(site, pass);
+    }
+    alone
+}
+
+/// Whether a writer that isn't the first waiter could take this count, but for a mark of the first:
+/// nobody holds, and a handoff is asked for.
+fn depends_on_mark(count: u64) -> bool
+    ensures { IsTrue result ↔ ((IsLocked count → ⊥) × HasHandoff count) }
+{
+    count % 2 != WRITER && count % READ_FAIL / BIAS == 0 && count / HANDOFF % 2 == 1
+}
+
+/// What an exchange of a queued writer came to.
+#[derive(Clone, Copy, Debug, PartialEq, Eq)]
+enum Attempt {
+    /// The writer holds.
+    Took,
+    /// The count can't be had.
+    Failed,
+    /// Others changed the count, to this one, since the look.
+    Again(u64),
+}
+
+/// Asks for a handoff, and marks the first waiter.
+fn ask<O: Object>(
+    site: &Site<SemRule<O>>,
+    pass: &mut Pass<SemRule<O>>,
+    first: u32,
+    old: u64,
+    new: u64,
+) -> Attempt
+    requires own { SitsAt site.now pass.old }
+    requires numbered { IsSome (task_in pass.old) }
+    requires locked { SpinHolds (view_of pass.old).spin }
+    requires queued { (view_of pass.old).ext.sem ≡ waiting Writes }
+    requires list { KnowsList (view_of pass.old) }
+    requires first { first_code (view_of pass.old).ext.list.list ≡ first + 1 }
+    requires task { first < MAX_TASKS }
+    requires unasked { HasHandoff old → ⊥ }
+    requires asks { new ≡ old + 4 }
+    ensures own { SitsAt site.now pass.new }
+    ensures goes_on { KeepsPast pass.old pass.new }
+    ensures face { SaysSame pass.old pass.new }
+    ensures later { (view_of pass.old).steps ≤ (view_of pass.new).steps }
+    ensures missed { Stays (view_of pass.old) (view_of pass.new) }
+    ensures untaken { result ≢ Attempt.Took }
+    ensures again { (word : ℕ) → result ≡ Attempt.Again word → IsLawfulCount word }
+{
+    let found = queueing::ask(site, pass, old, new);
+    if found != old {
+        return Attempt::Again(found);
+    }
+    // The mark follows HANDOFF under the same hold of the wait lock: with the flag and no mark, any
+    // writer of the list would take.
+    queueing::mark_asked(site, pass, first);
+    Attempt::Failed
+}
+
+/// Takes the semaphore.
+fn take<O: Object>(
+    site: &Site<SemRule<O>>,
+    pass: &mut Pass<SemRule<O>>,
+    me: u32,
+    alone: bool,
+    old: u64,
+    new: u64,
+) -> Attempt
+    requires own { SitsAt site.now pass.old }
+    requires mine { task_in pass.old ≡ Some me }
+    requires out { held_in pass.old ≡ No }
+    requires locked { SpinHolds (view_of pass.old).spin }
+    requires list { KnowsList (view_of pass.old) }
+    requires queued { IsTrying (view_of pass.old).ext.sem }
+    requires may { MayTake list_of sem_of (view_of pass.old) me alone old new }
+    ensures own { SitsAt site.now pass.new }
+    ensures goes_on { KeepsPast pass.old pass.new }
+    ensures task { task_in pass.new ≡ task_in pass.old }
+    ensures took { result ≡ Attempt.Took →
+        HasTaken O.object (plan_of site.now) (view_of pass.old) (view_of pass.new) }
+    ensures face { result ≢ Attempt.Took → SaysSame pass.old pass.new }
+    ensures later { (view_of pass.old).steps ≤ (view_of pass.new).steps }
+    ensures missed { result ≢ Attempt.Took → Rests (view_of pass.old) (view_of pass.new) }
+    ensures again { (word : ℕ) → result ≡ Attempt.Again word → IsLawfulCount word }
+{
+    let found = queueing::take(site, pass, me, alone, old, new);
+    if found == old {
+        Attempt::Took
+    } else {
+        Attempt::Again(found)
+    }
+}
+
+/// Where a queued writer stands while it has the wait lock.
+#[derive(Clone, Copy, Debug, PartialEq, Eq)]
+struct Standing {
+    me: u32,
+    first: u32,
+    alone: bool,
+}
+
+/// Whether the first waiter, which this is, is alone in the list.
+fn is_alone<O: Object>(
+    site: &Site<SemRule<O>>,
+    pass: &mut Pass<SemRule<O>>,
+    first: Waiter,
+) -> bool
+    requires own { SitsAt site.now pass.old }
+    requires locked { SpinHolds (view_of pass.old).spin }
+    requires list { KnowsList (view_of pass.old) }
+    requires first { Some first ≡ first_of (view_of pass.old).ext.list.list }
+    ensures own { SitsAt site.now pass.new }
+    ensures goes_on { KeepsPast pass.old pass.new }
+    ensures face { SaysSame pass.old pass.new }
+    ensures later { (view_of pass.old).steps ≤ (view_of pass.new).steps }
+    ensures kept { Stays (view_of pass.old) (view_of pass.new) }
+    ensures only { (result ≡ true) ↔ (length (view_of pass.old).ext.list.list ≡ 1) }
+{
+    match list::next(site, pass, first.task) {
+        None => true,
+        Some(_) => false,
+    }
+}
+
+/// Looks who is first in the list, and whether it is alone there.
+fn stand<O: Object>(site: &Site<SemRule<O>>, pass: &mut Pass<SemRule<O>>) -> Option<Standing>
+    requires own { SitsAt site.now pass.old }
+    requires numbered { IsSome (task_in pass.old) }
+    requires locked { SpinHolds (view_of pass.old).spin }
+    requires listed { IsInLine Writes (view_of pass.old) }
+    ensures own { SitsAt site.now pass.new }
+    ensures goes_on { KeepsPast pass.old pass.new }
+    ensures face { SaysSame pass.old pass.new }
+    ensures kept { Becomes (view_of pass.old) 0 (waiting Writes) (view_of pass.new) }
+    ensures mine { IfSome result (λ s. task_in pass.old ≡ Some s.me) }
+    ensures task { IfSome result (λ s. s.first < MAX_TASKS) }
+    ensures first { IfSome result (λ s.
+        first_code (view_of pass.new).ext.list.list ≡ s.first + 1) }
+    ensures only { IfSome result (λ s.
+        (s.alone ≡ true) ↔ (length (view_of pass.new).ext.list.list ≡ 1)) }
+{
+    let Some(me) = pass.task() else {
+        unreachable!()
+    };
+    let first = list::first(site, pass)?;
+    let alone = is_alone(site, pass, first);
+    Some(Standing {
+        me,
+        first: first.task,
+        alone,
+    })
+}
+
+/// Whether the first waiter is marked, where the answer to this count depends on that.
+fn sees_mark<O: Object>(
+    site: &Site<SemRule<O>>,
+    pass: &mut Pass<SemRule<O>>,
+    standing: Standing,
+    count: u64,
+) -> bool
+    requires own { SitsAt site.now pass.old }
+    requires numbered { IsSome (task_in pass.old) }
+    requires locked { SpinHolds (view_of pass.old).spin }
+    requires queued { (view_of pass.old).ext.sem ≡ waiting Writes }
+    requires list { KnowsList (view_of pass.old) }
+    requires first { first_code (view_of pass.old).ext.list.list ≡ standing.first + 1 }
+    requires task { standing.first < MAX_TASKS }
+    ensures own { SitsAt site.now pass.new }
+    ensures goes_on { KeepsPast pass.old pass.new }
+    ensures face { SaysSame pass.old pass.new }
+    ensures later { (view_of pass.old).steps ≤ (view_of pass.new).steps }
+    ensures knows { KnowsMark standing.me standing.first count result
+        (view_of pass.old) (view_of pass.new) }
+{
+    if standing.me == standing.first || !depends_on_mark(count) {
+        return false;
+    }
+    queueing::look_first(site, pass, standing.first) != 0
+}
+
+/// Answers a count that was seen by the exchange that it admits.
+fn exchange<O: Object>(
+    site: &Site<SemRule<O>>,
+    pass: &mut Pass<SemRule<O>>,
+    standing: Standing,
+    overdue: bool,
+    count: u64,
+) -> Attempt
+    requires own { SitsAt site.now pass.old }
+    requires mine { task_in pass.old ≡ Some standing.me }
+    requires out { held_in pass.old ≡ No }
+    requires locked { SpinHolds (view_of pass.old).spin }
+    requires queued { (view_of pass.old).ext.sem ≡ waiting Writes }
+    requires list { KnowsList (view_of pass.old) }
+    requires first { first_code (view_of pass.old).ext.list.list ≡ standing.first + 1 }
+    requires task { standing.first < MAX_TASKS }
+    requires only { (standing.alone ≡ true) ↔ (length (view_of pass.old).ext.list.list ≡ 1) }
+    requires lawful { IsLawfulCount count }
+    ensures own { SitsAt site.now pass.new }
+    ensures goes_on { KeepsPast pass.old pass.new }
+    ensures task { task_in pass.new ≡ task_in pass.old }
+    ensures took { result ≡ Attempt.Took →
+        HasTaken O.object (plan_of site.now) (view_of pass.old) (view_of pass.new) }
+    ensures face { result ≢ Attempt.Took → SaysSame pass.old pass.new }
+    ensures later { (view_of pass.old).steps ≤ (view_of pass.new).steps }
+    ensures missed { result ≢ Attempt.Took → Stays (view_of pass.old) (view_of pass.new) }
+    ensures again { (word : ℕ) → result ≡ Attempt.Again word → IsLawfulCount word }
+{
+    let me_first = standing.me == standing.first;
+    let marked = sees_mark(site, pass, standing, count);
+    match write_step(count, me_first, marked, standing.alone, overdue) {
+        Write::Fail => Attempt::Failed,
+        Write::Mark(new) => ask(site, pass, standing.first, count, new),
+        Write::Take(new) => take(site, pass, standing.me, standing.alone, count, new),
+    }
+}
+
+/// Looks at the count, and answers it by exchanges until one is done or the count can't be had.
+fn try_standing<O: Object, W: Wait>(
+    site: &Site<SemRule<O>>,
+    rt: &W,
+    pass: &mut Pass<SemRule<O>>,
+    standing: Standing,
+    overdue: bool,
+) -> bool
+    requires own { SitsAt site.now pass.old }
+    requires mine { task_in pass.old ≡ Some standing.me }
+    requires out { held_in pass.old ≡ No }
+    requires locked { SpinHolds (view_of pass.old).spin }
+    requires queued { (view_of pass.old).ext.sem ≡ waiting Writes }
+    requires list { KnowsList (view_of pass.old) }
+    requires first { first_code (view_of pass.old).ext.list.list ≡ standing.first + 1 }
+    requires task { standing.first < MAX_TASKS }
+    requires only { (standing.alone ≡ true) ↔ (length (view_of pass.old).ext.list.list ≡ 1) }
+    ensures own { SitsAt site.now pass.new }
+    ensures goes_on { KeepsPast pass.old pass.new }
+    ensures task { task_in pass.new ≡ task_in pass.old }
+    ensures took { result ≡ true →
+        HasTaken O.object (plan_of site.now) (view_of pass.old) (view_of pass.new) }
+    ensures face { result ≡ false → SaysSame pass.old pass.new }
+    ensures later { (view_of pass.old).steps ≤ (view_of pass.new).steps }
+    ensures missed { result ≡ false → Stays (view_of pass.old) (view_of pass.new) }
+{
+    let mut count = queueing::look_listed(site, pass);
+    for _ in rt.forever() {
+        match exchange(site, pass, standing, overdue, count) {
+            Attempt::Took => return true,
+            Attempt::Failed => return false,
+            Attempt::Again(found) => count = found,
+        }
+    }
+    unreachable!()
+}
+
+/// A try of a queued writer, under the wait lock. The kernel's `rwsem_try_write_lock`.
+pub fn try_queued<O: Object, W: Wait, C: Cpu>(
+    site: &Site<SemRule<O>>,
+    rt: &W,
+    pass: &mut Pass<SemRule<O>>,
+    cpu: &mut C,
+) -> bool
+    requires own { SitsAt site.now pass.old }
+    requires numbered { IsSome (task_in pass.old) }
+    requires out { held_in pass.old ≡ No }
+    requires locked { SpinHolds (view_of pass.old).spin }
+    requires listed { IsInLine Writes (view_of pass.old) }
+    ensures own { SitsAt site.now pass.new }
+    ensures goes_on { KeepsPast pass.old pass.new }
+    ensures task { task_in pass.new ≡ task_in pass.old }
+    ensures took { result ≡ true →
+        TookInLine O.object (plan_of site.now) (view_of pass.old) (view_of pass.new) }
+    ensures face { result ≡ false → SaysSame pass.old pass.new }
+    ensures locked { SpinHolds (view_of pass.new).spin }
+    ensures missed { result ≡ false →
+        Becomes (view_of pass.old) 0 (waiting Writes) (view_of pass.new) }
+{
+    let Some(standing) = stand(site, pass) else {
+        return false;
+    };
+    let overdue = cpu.overdue();
+    try_standing(site, rt, pass, standing, overdue)
+}
+
+/// Removes the pass's own task, which has taken, from the list, and clears its mark.
+pub fn quit_taken<O: Object>(site: &Site<SemRule<O>>, pass: &mut Pass<SemRule<O>>)
+    requires own { SitsAt site.now pass.old }
+    requires numbered { IsSome (task_in pass.old) }
+    requires locked { SpinHolds (view_of pass.old).spin }
+    requires still { (view_of pass.old).ext.list.changes ≡ false }
+    requires took { (view_of pass.old).ext.sem ≡ record (waiting Writes) { stage = Took } }
+    ensures own { SitsAt site.now pass.new }
+    ensures goes_on { KeepsPast pass.old pass.new }
+    ensures face { SaysSame pass.old pass.new }
+    ensures gone { Becomes (view_of pass.old) 0 apart_hand (view_of pass.new) }
+{
+    let Some(task) = pass.task() else {
+        unreachable!()
+    };
+    list::remove(site, pass, task);
+    if queueing::look_own(site, pass, task) != 0 {
+        queueing::clear_own(site, pass, task);
+    }
+}
