@@ -11,3 +11,4 @@ pub mod Ending
 pub mod Joining
 pub mod Sitting
 pub mod WriterSteps
+pub mod ReaderSteps

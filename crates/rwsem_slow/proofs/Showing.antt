@@ -1,11 +1,11 @@
 -- What a failed try shows to callers of any lock.
-use Rattle.std.proofs.Common.{◌≡◌, ◌≢◌, ℕ, ◌≤◌, Bool, true, false, List, refl, arith}
+use Rattle.std.proofs.Common.{◌≡◌, ◌≢◌, ℕ, ◌+◌, ◌<◌, ◌≤◌, Bool, true, false, List, inl, inr, refl, sym, ap, ◌∙◌, arith}
 use Rattle.std.specs.Prelude.{Result, Ok, Err, IfErr}
 use Rattle.word_bits.specs.LockWords.{IsLawfulCount}
 use Rattle.lock_core.specs.declared.view.Moment.{Moment}
 use Rattle.lock_core.specs.declared.view.Held.TheVariants.{No}
 use Rattle.lock_core.specs.Kinds.{semaphore, unavailable}
-use Rattle.lock_core.specs.Locking.{Misses}
+use Rattle.lock_core.specs.Locking.{KeepsPlace, Looks, Misses}
 use Rattle.lock_core.specs.Pasts.{GoesOn, FoundAt, IsOwnStep}
 use Rattle.lock_core.specs.Shown.{Shown, shown}
 use Rattle.lock_core.proofs.Showing.{missed-misses}
@@ -41,3 +41,13 @@ module _ (fronts : ℕ) (v u : V) (p q : List Moment) (out : v.hand.held ≡ No)
   pub writer-misses : (r : Result (Unit {0}) ℕ) → IfErr r (λ word. MissesCount v word u) → IfErr r (λ word. (word ≢ 0) × IsLawfulCount word) → IfErr r (λ word. FoundAt count_at word q) → IfErr r (λ word. Misses semaphore false count_at word (show v p) (show u q))
   writer-misses (Ok x) missed_it shut found = tt
   writer-misses (Err word) missed_it shut found = misses-by false word v.steps (omega arith) missed_it found (shut.1, shut.0)
+
+-- a look after a call keeps its place in line
+pub keeps-looks : (shared : Bool) (v u w : Shown) → KeepsPlace semaphore shared v u → Looks u w → KeepsPlace semaphore shared v w
+keeps-looks shared v u w k l = let misses = ap (λ h. h.misses) l.0 in let fronts = l.1.1 in let entries = l.1.0 in record {
+  queues = λ more same. let q = k.queues (omega (arith, more, misses)) (sym fronts ∙ same) in elim q [
+    | inl entered ↦ inl (omega (arith, entered, entries))
+    | inr (is_shared, in_it) ↦ inr (is_shared, record { once = misses ∙ in_it.once; saw = in_it.saw; is = ap (λ h. h.saw) l.0 ∙ in_it.is; since = in_it.since; opens = in_it.opens })
+  ];
+  few = λ same. let f = k.few (sym fronts ∙ same) in omega (arith, f, misses);
+}

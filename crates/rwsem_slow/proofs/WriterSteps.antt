@@ -175,16 +175,19 @@ module _ (v u : V) (queued : v.ext.sem ≡ waiting Writes) (list : KnowsList v) 
       sum not f = let a = f.rest in let b = f.writer_is in let c = f.waiters_is in let d = f.handoff_is in let n : count / 4 % 2 ≢ 1 = not in omega (arith, a, b, c, d, n)
 
   pub mark-takes : (new : ℕ) → WritesBy count (me == first) marked alone overdue (Take new) → IsTrying u.ext.sem × MayTake list_of sem_of u me alone count new
-  mark-takes new w = (t, record {
-    knows = mark-list.knows;
-    waiting = code-waits u.ext.list.list first mark-code;
-    only = subst (λ (h : ListHand). (alone ≡ true) ↔ (length h.list ≡ 1)) (sym steps-list.0) only;
-    clear = elim t [ inl is ↦ ap (λ (s : SemHand). s.bias) is | inr is ↦ ap (λ (s : SemHand). s.bias) is ];
-    rest = elim t [ inl is ↦ ap (λ (s : SemHand). s.rest) is | inr is ↦ ap (λ (s : SemHand). s.rest) is ];
-    may = may marked mark w;
-    free = w.0;
-    flags = w.2;
-  })
+  mark-takes new w = (
+    t,
+    record {
+      knows = mark-list.knows;
+      waiting = code-waits u.ext.list.list first mark-code;
+      only = subst (λ (h : ListHand). (alone ≡ true) ↔ (length h.list ≡ 1)) (sym steps-list.0) only;
+      clear = elim t [ inl is ↦ ap (λ (s : SemHand). s.bias) is | inr is ↦ ap (λ (s : SemHand). s.bias) is ];
+      rest = elim t [ inl is ↦ ap (λ (s : SemHand). s.rest) is | inr is ↦ ap (λ (s : SemHand). s.rest) is ];
+      may = may marked mark w;
+      free = w.0;
+      flags = w.2;
+    },
+  )
     where
       same : Stays v u → u.ext.sem ≡ waiting Writes
       same k = ap (λ (z : V). z.ext.sem) k ∙ queued

@@ -3,10 +3,12 @@ use Rattle.std.specs.Prelude.{◌≡◌, ℕ, ◌+◌, ◌<◌, ◌≤◌, ◌�
 use Rattle.word_bits.specs.declared.entry.Entry.{Entry}
 use Rattle.word_bits.specs.Objects.{Obj}
 use Rattle.word_bits.specs.Histories.{Plan}
-use Rattle.lock_core.specs.declared.view.Held.{Held}
-use Rattle.lock_core.specs.declared.view.Held.TheVariants.{Alone}
+use Rattle.lock_core.specs.declared.how.How.{How}
+use Rattle.lock_core.specs.declared.how.How.TheVariants.{Fast, Spun, Slept}
+use Rattle.lock_core.specs.declared.view.Held.TheVariants.{Shared, Alone}
 use Rattle.lock_core.specs.Holding.{Learns}
 use Rattle.lock_core.specs.Views.{took}
+use Rattle.rwsem_count.specs.declared.view.Bias.TheVariants.{Transit}
 use Rattle.rwsem_count.specs.WordSteps.{HasHandoff, IsLocked}
 use Rattle.rwsem_wake.specs.declared.view.SemHand.{SemHand}
 use Rattle.rwsem_wake.specs.declared.view.Stage.TheVariants.{Took, Summing}
@@ -90,3 +92,29 @@ pub record WentInLine (v u : V) : Type 0 where
   pub fronts : u.fronts ≡ v.fronts
   pub misses : u.hand.misses ≡ v.hand.misses
   pub appends : u.ext.appends ≡ v.ext.appends + 1
+
+-- a reader whose bias is in the count, and whose try saw that it may not hold by it at once
+abbrev pub IsInTransit : V → Type 0
+IsInTransit v = ((word : ℕ) × (v.ext.sem ≡ record apart_hand { bias = Transit word })) × (v.ext.list.changes ≡ false)
+
+-- it has looked at the list, which it knows since
+pub record LooksAt (v u : V) : Type 0 where
+  pub later : v.steps ≤ u.steps
+  pub list : KnowsList u
+  pub is : u ≡ record v { steps = u.steps; ext = record v.ext { list = u.ext.list } }
+
+-- a reader came to hold, and waits for nothing
+pub record Shares {Call : Type 0} (o : Obj Call) (k : Plan) (v u : V) : Type 0 where
+  pub known : List ℕ
+  pub log : List Entry
+  pub learns : Learns o k v.hand known log
+  pub keeps : KeepsLine v u
+  pub hand : u.hand ≡ took v.hand Shared known log
+  pub sem : u.ext.sem ≡ apart_hand
+  pub still : u.ext.list.changes ≡ false
+
+-- the same of a call that took by way of the wait lock, with the list or without
+abbrev pub WentThroughLine : How → V → V → Type 0
+WentThroughLine Fast v u = ⊥
+WentThroughLine Spun v u = (v.spin.entries < u.spin.entries) × (u.fronts ≡ v.fronts) × (u.hand.misses ≡ v.hand.misses) × (u.ext.appends ≡ v.ext.appends)
+WentThroughLine Slept v u = WentInLine v u

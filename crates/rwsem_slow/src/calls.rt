@@ -25,9 +25,11 @@ use std::sync::Wait;
 use word_bits::Object;
 
 mod laws;
+mod reads;
 mod releases;
 mod tries;
 mod words;
+mod writes;
 
 /// A reader-writer semaphore that guards an object of the kind `O`, with the object's plan, records
 /// and log. Contracts see its plan (`plan_of`).

@@ -3,6 +3,8 @@
 
 mod calls;
 mod hint;
+mod read_path;
+mod reading;
 mod releasing;
 mod removal;
 mod rule;

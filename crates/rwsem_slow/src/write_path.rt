@@ -11,9 +11,8 @@ ghost use Rattle.rwsem_slow.specs.Queued.{IsInLine, TookInLine, WaitsOn, WentInL
 ghost use Rattle.rwsem_slow.specs.Removals.{StaysBeside};
 ghost use Rattle.rwsem_slow.specs.Wakes.{IsAtRest};
 
-use crate::hint::{set_hint, writer_hint};
 use crate::rule::SemRule;
-use crate::waking::{WakeType, Waited, wake};
+use crate::waking::{Waited, WakeType, wake};
 use crate::writing;
 use arrayvec::ArrayVec;
 use cpu_task::{Cpu, Crew};
@@ -110,4 +109,58 @@ fn wait<O: Object, W: Wait, C: Cpu>(
         sleep(site, rt, pass, cpu);
     }
     unreachable!()
+}
+
+/// Appends the writer, and wakes others where it isn't the first and no writer holds.
+fn queue<O: Object, C: Cpu, K: Crew>(
+    site: &Site<SemRule<O>>,
+    pass: &mut Pass<SemRule<O>>,
+    cpu: &mut C,
+    crew: &K,
+)
+    requires own { SitsAt site.now pass.old }
+    requires numbered { IsSome (task_in pass.old) }
+    requires out { held_in pass.old ≡ No }
+    requires locked { SpinHolds (view_of pass.old).spin }
+    requires outside { IsOutside (view_of pass.old) }
+    ensures on { StepsOn site.now pass.old pass.new }
+    ensures listed { IsInLine Writes (view_of pass.new) }
+    ensures hand { (view_of pass.new).hand ≡ (view_of pass.old).hand }
+    ensures spin { (view_of pass.new).spin ≡ (view_of pass.old).spin }
+    ensures fronts { (view_of pass.new).fronts ≡ (view_of pass.old).fronts }
+    ensures appended { (view_of pass.new).ext.appends ≡ (view_of pass.old).ext.appends + 1 }
+{
+    if writing::join(site, pass) {
+        return;
+    }
+    // Readers may have been let in past the last wake, and wait behind a writer that is gone.
+    let count = look_listed(site, pass);
+    wake_others(site, pass, cpu, crew, count);
+}
+
+/// Takes the semaphore alone by way of the wait lock and the list. The kernel's
+/// `rwsem_down_write_slowpath`.
+pub fn write_in_line<O: Object, W: Wait, C: Cpu, K: Crew>(
+    site: &Site<SemRule<O>>,
+    rt: &W,
+    pass: &mut Pass<SemRule<O>>,
+    cpu: &mut C,
+    crew: &K,
+)
+    requires own { SitsAt site.now pass.old }
+    requires numbered { IsSome (task_in pass.old) }
+    requires out { held_in pass.old ≡ No }
+    requires unspun { SpinRests (view_of pass.old).spin }
+    requires outside { IsOutside (view_of pass.old) }
+    ensures on { StepsOn site.now pass.old pass.new }
+    ensures unspun { SpinRests (view_of pass.new).spin }
+    ensures outside { IsOutside (view_of pass.new) }
+    ensures took { Takes O.object (plan_of site.now) Alone (seen_of pass.old) (seen_of pass.new) }
+    ensures line { WentInLine (view_of pass.old) (view_of pass.new) }
+{
+    qspin_queue::lock(site, rt, pass);
+    queue(site, pass, cpu, crew);
+    wait(site, rt, pass, cpu);
+    writing::quit_taken(site, pass);
+    qspin_word::unlock(site, pass);
 }

@@ -148,11 +148,7 @@ struct Standing {
 }
 
 /// Whether the first waiter, which this is, is alone in the list.
-fn is_alone<O: Object>(
-    site: &Site<SemRule<O>>,
-    pass: &mut Pass<SemRule<O>>,
-    first: Waiter,
-) -> bool
+fn is_alone<O: Object>(site: &Site<SemRule<O>>, pass: &mut Pass<SemRule<O>>, first: Waiter) -> bool
     requires own { SitsAt site.now pass.old }
     requires locked { SpinHolds (view_of pass.old).spin }
     requires list { KnowsList (view_of pass.old) }

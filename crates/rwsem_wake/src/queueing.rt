@@ -359,7 +359,7 @@ pub fn settle<H: GrantHost>(site: &Site<H>, pass: &mut Pass<H>) -> bool
     ensures goes_on { KeepsPast pass.old pass.new }
     ensures last { IsLatest pass.new }
     ensures took { result ≡ true → (word : ℕ) × FoundAt H.COUNT word (past_of pass.new)
-        × HoldsBy H.with_sem H.O.object (plan_of site.now) Shared
+        × (word % 2 ≡ 0) × HoldsBy H.with_sem H.O.object (plan_of site.now) Shared
         (settled (sem_at H.sem (view_of pass.old)) word) (view_of pass.old) (view_of pass.new) }
     ensures face { result ≢ true → SaysSame pass.old pass.new }
     ensures missed { result ≢ true → TurnsTo H.with_sem (view_of pass.old)

@@ -26,7 +26,7 @@ returns-then-free-clause-own g c = let gets = c.step.ensures.told.1 (eq-eqb _ _ 
     (c.set_held.ensures.face ∙ ap (λ (f : Face). record f { held = Shared }) c.step.ensures.face) c.requires.own
 
 pub returns-then-free-clause-took : goal.returns-then-free-clause-took
-returns-then-free-clause-took g c = λ is. (c.step.result, subst (λ (p : ℕ). FoundAt p c.step.result c.set_held.new.self.seat.me.0.past) c.COUNT.ensures (subst (FoundAt _ _) (sym (ap (λ s. s.me.0.past) c.set_held.ensures.seat)) c.step.ensures.found), holds-by g.H.GrantHost.with_sem g.H.O.Object.object c.args.site.now.table.shared.key Shared _ c.args.pass.now.seat.me c.step.new.pass.seat.me c.set_held.new.self.seat.me.0.view c.requires.own.plan (ap (λ s. s.me.0.view) c.set_held.ensures.seat) (c.step.ensures.told.1 (eq-eqb _ _ c.if-free.true)))
+returns-then-free-clause-took g c = λ is. (c.step.result, subst (λ (p : ℕ). FoundAt p c.step.result c.set_held.new.self.seat.me.0.past) c.COUNT.ensures (subst (FoundAt _ _) (sym (ap (λ s. s.me.0.past) c.set_held.ensures.seat)) c.step.ensures.found), c.if-free.true, holds-by g.H.GrantHost.with_sem g.H.O.Object.object c.args.site.now.table.shared.key Shared _ c.args.pass.now.seat.me c.step.new.pass.seat.me c.set_held.new.self.seat.me.0.view c.requires.own.plan (ap (λ s. s.me.0.view) c.set_held.ensures.seat) (c.step.ensures.told.1 (eq-eqb _ _ c.if-free.true)))
 
 pub returns-then-free-clause-goes_on : goal.returns-then-free-clause-goes_on
 returns-then-free-clause-goes_on g c = λ p t. subst (Tail p) (sym (ap (λ s. s.me.0.past) c.set_held.ensures.seat)) (c.step.ensures.goes_on p t)

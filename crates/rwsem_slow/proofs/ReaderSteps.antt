@@ -1,0 +1,84 @@
+-- How a reader queues, and comes to hold.
+use Rattle.std.proofs.Common.{◌≡◌, ◌∙◌, ℕ, ◌+◌, ◌%◌, ◌<◌, ◌≤◌, ◌==◌, Bool, false, List, [], ◌∷◌, length, Option, None, sym, refl, ap, subst, arith, eq-eqb, if◌then◌else◌}
+use Rattle.word_bits.specs.Objects.{Obj}
+use Rattle.word_bits.specs.Histories.{Plan}
+use Rattle.lock_core.specs.declared.view.Hand.{Hand}
+use Rattle.lock_core.specs.declared.view.Held.TheVariants.{Shared}
+use Rattle.lock_core.specs.Holding.{Learns}
+use Rattle.lock_core.specs.Views.{SpinHolds, took}
+use Rattle.wait_list.specs.declared.view.Change.TheVariants.{Enter}
+use Rattle.wait_list.specs.declared.view.ListHand.{ListHand}
+use Rattle.wait_list.specs.declared.view.Waiter.{Waiter}
+use Rattle.wait_list.specs.Lists.{Appends, FindsFirst, IsList, Knows, first_of}
+use Rattle.wait_list.proofs.Tickets.{sound-changed}
+use Rattle.rwsem_count.specs.declared.view.Bias.TheVariants.{Clear, Transit}
+use Rattle.rwsem_wake.specs.declared.view.SemHand.{SemHand}
+use Rattle.rwsem_wake.specs.declared.view.Stage.TheVariants.{Armed}
+use Rattle.rwsem_wake.specs.declared.view.Wait.TheVariants.{Reads}
+use Rattle.rwsem_wake.specs.SemParts.{apart_hand}
+use Rattle.rwsem_wake.specs.Grants.{TurnsTo, armed, unreserved}
+use Rattle.rwsem_wake.specs.Queues.{HoldsBy, MaySettle, settled}
+use Rattle.rwsem_slow.specs.Queued.{Becomes, IsInTransit, Shares, waiting}
+use Rattle.rwsem_slow.specs.Removals.{KnowsList}
+use Rattle.rwsem_slow.specs.RwSems.{V, joined, list_of, sem_of, with_list, with_sem}
+use Rattle.rwsem_slow.proofs.Joining.{holds-one}
+use Rattle.rwsem_slow.proofs.WriterSteps.{knows-same}
+
+none-first : (q : List Waiter) → None ≡ first_of q → q ≡ []
+none-first [] e = refl
+none-first (x ∷ q) e = absurd cc
+
+-- a reader whose bias is in the count appends itself, and takes the bias back
+module _ (v u x y : V) (w : Waiter) (reads : w.writer ≡ false) (few : w.task < 64) (t : IsInTransit v) (arms : TurnsTo with_sem v (armed v.ext.sem) u) (a : Appends list_of with_list u w x) where
+  pub joins-bias : (word : ℕ) × (x.ext.sem.bias ≡ Transit word)
+  joins-bias = (t.0.0, ap (λ (z : V). z.ext.sem.bias) a.view ∙ (ap (λ (z : V). z.ext.sem.bias) arms ∙ ap (λ (s : SemHand). s.bias) t.0.1))
+
+  module _ (locked : SpinHolds v.spin) (later : u.steps ≤ x.steps) (backs : TurnsTo with_sem x (unreserved x.ext.sem) y) where
+    armed-sem : u.ext.sem ≡ record apart_hand { bias = Transit t.0.0; stage = Armed }
+    armed-sem = ap (λ (z : V). z.ext.sem) arms ∙ ap armed t.0.1
+
+    sem-is : unreserved x.ext.sem ≡ waiting Reads
+    sem-is = ap unreserved (ap (λ (z : V). z.ext.sem) a.view) ∙ (λ i. unreserved (joined (reads i) (length a.hand.list) (armed-sem i)))
+
+    knows-it : KnowsList x
+    knows-it = let spin = ap (λ (z : V). z.spin) a.view in let same = ap (λ (z : V). z.ext.list) a.view in record {
+      knows = subst Knows (λ i. (sym spin i, sym same i)) (holds-one u (subst SpinHolds (sym (ap (λ (z : V). z.spin) arms)) locked), a.since);
+      still = ap (λ (h : ListHand). h.changes) same ∙ a.still;
+      sound = subst IsList (sym (ap (λ (h : ListHand). h.list) same ∙ a.now)) (sound-changed (Enter w) a.was a.sound (few, a.fresh));
+    }
+
+    pub joins-reader : Becomes v 1 (waiting Reads) y
+    joins-reader = let first = ap (λ (z : V). z.steps) arms in let last = ap (λ (z : V). z.steps) backs in let same = ap (λ (z : V). z.ext.list) backs in record {
+      later = omega (arith, first, later, last);
+      list = knows-same x y knows-it (ap (λ (z : V). z.spin) backs) same;
+      is = backs ∙ ((λ i. record (a.view i) { steps = sym last i; ext = record { list = sym same i; sem = sem-is i; appends = (a.view i).ext.appends } })
+          ∙ (λ i. record (arms i) { steps = y.steps; ext = record { list = y.ext.list; sem = waiting Reads; appends = (arms i).ext.appends + 1 } }));
+    }
+
+-- it found that nobody waits
+module _ (v x : V) (t : IsInTransit v) (f : FindsFirst list_of with_list v None x) where
+  pub settle-may : MaySettle list_of sem_of x
+  settle-may = let spin = ap (λ (z : V). z.spin) f.view in let same = ap (λ (z : V). z.ext.list) f.view in record {
+    knows = subst Knows (λ i. (sym spin i, sym same i)) f.learnt.knows;
+    nobody = ap (λ (h : ListHand). h.list) same ∙ none-first f.hand.list f.is;
+    stage = ap (λ (z : V). z.ext.sem.stage) f.view ∙ ap (λ (s : SemHand). s.stage) t.0.1;
+    waits = ap (λ (z : V). z.ext.sem.wait) f.view ∙ ap (λ (s : SemHand). s.wait) t.0.1;
+    transit = (t.0.0, ap (λ (z : V). z.ext.sem.bias) f.view ∙ ap (λ (s : SemHand). s.bias) t.0.1);
+  }
+
+  -- and no writer
+  pub settle-shares : {Call : Type 0} (o : Obj Call) (k : Plan) (y : V) (word : ℕ) → v.steps ≤ x.steps → word % 2 ≡ 0 → HoldsBy with_sem o k Shared (settled x.ext.sem word) x y → Shares o k v y
+  settle-shares o k y word later even h = let hand = ap (λ (z : V). z.hand) f.view in let view = h.3 in let steps = ap (λ (z : V). z.steps) view in let entries = ap (λ (z : V). z.spin.entries) view ∙ ap (λ (z : V). z.spin.entries) f.view in record {
+    known = h.0;
+    log = h.1;
+    learns = subst (λ (z : Hand). Learns o k z h.0 h.1) hand h.2;
+    keeps = record {
+      later = omega (arith, later, steps);
+      entries = omega (arith, entries);
+      fronts = ap (λ (z : V). z.fronts) view ∙ ap (λ (z : V). z.fronts) f.view;
+      appends = ap (λ (z : V). z.ext.appends) view ∙ ap (λ (z : V). z.ext.appends) f.view;
+    };
+    hand = ap (λ (z : V). z.hand) view ∙ ap (λ (z : Hand). took z Shared h.0 h.1) hand;
+    sem = ap (λ (z : V). z.ext.sem) view ∙ (ap (λ (b : Bool). if b then record x.ext.sem { bias = Clear } else x.ext.sem) (eq-eqb (word % 2) 0 even) ∙ ap (λ (s : SemHand). record s { bias = Clear }) (ap (λ (z : V). z.ext.sem) f.view ∙ t.0.1));
+    still = ap (λ (z : V). z.ext.list.changes) view ∙ (ap (λ (z : V). z.ext.list.changes) f.view ∙ (f.learnt.changes ∙ t.1));
+  }

@@ -1,0 +1,106 @@
+//! The slow path of a reader: its wait lock, its list and its sleep.
+ghost use Rattle.std.specs.Prelude.{◌≡◌, ◌<◌, ◌+◌, IsSome};
+ghost use Rattle.lock_core.specs.declared.how.How.TheVariants.{Slept, Spun};
+ghost use Rattle.lock_core.specs.declared.view.Held.TheVariants.{No, Shared};
+ghost use Rattle.lock_core.specs.Handles.{plan_of, view_of, task_in, held_in, SitsAt};
+ghost use Rattle.lock_core.specs.Locking.{Takes};
+ghost use Rattle.lock_core.specs.Records.{bit};
+ghost use Rattle.lock_core.specs.Views.{SpinHolds, SpinRests};
+ghost use Rattle.rwsem_wake.specs.declared.view.Wait.TheVariants.{Reads};
+ghost use Rattle.rwsem_wake.specs.SemParts.{some_of};
+ghost use Rattle.rwsem_slow.specs.Places.{IsOutside, StepsOn, seen_of};
+ghost use Rattle.rwsem_slow.specs.Queued.{IsInLine, IsInTransit, Shares, WentThroughLine};
+ghost use Rattle.rwsem_slow.specs.Removals.{KnowsList};
+
+use crate::reading;
+use crate::rule::SemRule;
+use crate::write_path::wake_others;
+use cpu_task::{Cpu, Crew};
+use lock_core::{How, Pass, Site};
+use std::sync::Wait;
+use word_bits::Object;
+
+/// Appends the reader, and wakes others where no writer holds.
+fn queue<O: Object, C: Cpu, K: Crew>(
+    site: &Site<SemRule<O>>,
+    pass: &mut Pass<SemRule<O>>,
+    cpu: &mut C,
+    crew: &K,
+    empty: bool,
+)
+    requires own { SitsAt site.now pass.old }
+    requires numbered { IsSome (task_in pass.old) }
+    requires out { held_in pass.old ≡ No }
+    requires locked { SpinHolds (view_of pass.old).spin }
+    requires transit { IsInTransit (view_of pass.old) }
+    requires list { KnowsList (view_of pass.old) }
+    requires empty { bit empty + some_of (view_of pass.old).ext.list.list ≡ 1 }
+    ensures on { StepsOn site.now pass.old pass.new }
+    ensures listed { IsInLine Reads (view_of pass.new) }
+    ensures hand { (view_of pass.new).hand ≡ (view_of pass.old).hand }
+    ensures spin { (view_of pass.new).spin ≡ (view_of pass.old).spin }
+    ensures fronts { (view_of pass.new).fronts ≡ (view_of pass.old).fronts }
+    ensures appended { (view_of pass.new).ext.appends ≡ (view_of pass.old).ext.appends + 1 }
+{
+    // The count that its own bias leaves says who is to be woken: the writer that the bias kept out
+    // may be waiting for nobody else.
+    let count = reading::join(site, pass, empty);
+    wake_others(site, pass, cpu, crew, count);
+}
+
+/// Sleeps until a waker has granted the reader.
+fn wait<O: Object, W: Wait, C: Cpu>(
+    site: &Site<SemRule<O>>,
+    rt: &W,
+    pass: &mut Pass<SemRule<O>>,
+    cpu: &mut C,
+)
+    requires own { SitsAt site.now pass.old }
+    requires numbered { IsSome (task_in pass.old) }
+    requires out { held_in pass.old ≡ No }
+    requires unspun { SpinRests (view_of pass.old).spin }
+    requires listed { IsInLine Reads (view_of pass.old) }
+    ensures on { StepsOn site.now pass.old pass.new }
+    ensures unspun { SpinRests (view_of pass.new).spin }
+    ensures took { Shares O.object (plan_of site.now) (view_of pass.old) (view_of pass.new) }
+{
+    for _ in rt.forever() {
+        // A wake comes once: the load before each sleep sees a grant that came before it.
+        if reading::hear(site, pass) {
+            return;
+        }
+        cpu.sleep(rt);
+    }
+    unreachable!()
+}
+
+/// Takes the semaphore shared by way of the wait lock, for a reader whose bias is in the count. The
+/// kernel's `rwsem_down_read_slowpath`.
+pub fn read_in_line<O: Object, W: Wait, C: Cpu, K: Crew>(
+    site: &Site<SemRule<O>>,
+    rt: &W,
+    pass: &mut Pass<SemRule<O>>,
+    cpu: &mut C,
+    crew: &K,
+) -> How
+    requires own { SitsAt site.now pass.old }
+    requires numbered { IsSome (task_in pass.old) }
+    requires out { held_in pass.old ≡ No }
+    requires unspun { SpinRests (view_of pass.old).spin }
+    requires transit { IsInTransit (view_of pass.old) }
+    ensures on { StepsOn site.now pass.old pass.new }
+    ensures unspun { SpinRests (view_of pass.new).spin }
+    ensures outside { IsOutside (view_of pass.new) }
+    ensures took { Takes O.object (plan_of site.now) Shared (seen_of pass.old) (seen_of pass.new) }
+    ensures line { WentThroughLine result (view_of pass.old) (view_of pass.new) }
+{
+    qspin_queue::lock(site, rt, pass);
+    let Some(empty) = reading::settle(site, pass) else {
+        qspin_word::unlock(site, pass);
+        return How::Spun;
+    };
+    queue(site, pass, cpu, crew, empty);
+    qspin_word::unlock(site, pass);
+    wait(site, rt, pass, cpu);
+    How::Slept
+}
