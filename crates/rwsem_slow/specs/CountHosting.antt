@@ -22,7 +22,7 @@ use Rattle.rwsem_wake.specs.declared.view.SemHand.{SemHand}
 use Rattle.rwsem_wake.specs.SemParts.{SemPart, busy_of, busy_weight, granted_at, granted_weight, granting_weight, here, named_weight, part_of, reads_of, reads_weight}
 use Rattle.rwsem_wake.specs.Semaphores.{SemKept, SemPartOk, more_of}
 use Rattle.rwsem_wake.specs.Handoffs.{KeepsHandoff, granting_at, reads_as}
-use Rattle.rwsem_wake.proofs.HandoffSteps.{hands-free, hands-reads, hands-step}
+use Rattle.rwsem_wake.proofs.HandoffSteps.{hands-free, hands-reads, hands-step, own-comes}
 use Rattle.rwsem_wake.proofs.Lines.{lines-else}
 use Rattle.rwsem_wake.proofs.WakeLaws.{ok-of, sem-counts}
 use Rattle.rwsem_slow.specs.RwSems.{V, any_count, bias_of, biased, count_at, count_in, grants_at, grants_in, marks_at, marks_in, may_count, more_in, seen, RwSemKept, Kept as IsKept}
@@ -49,7 +49,7 @@ module _ (ps : List SemPart) (id : ℕ) (v u : SemPart) (at : get_elem? ps id �
   -- it keeps to a handoff
   counts-hands : (own : ℕ) → v.task ≡ Some own → KeepsHandoff id n q marks grants ps m grants (set ps id u)
   counts-hands own has = elim (native.Mathlib.Decide.dec_le (m % 2) (n % 2)) [
-    | no more ↦ hands-free id n q marks grants ps m grants (set ps id u) (inl (move.writer (omega (arith, more)) (omega (arith, more))))
+    | no more ↦ hands-free id n q marks grants ps m grants (set ps id u) (inl (move.writer (omega (arith, more)) (omega (arith, more)))) (own-comes id n q marks grants ps v u at own has elsewhere)
     | yes low ↦ by-hold u.held refl low
   ]
     where
@@ -78,7 +78,7 @@ module _ (ps : List SemPart) (id : ℕ) (v u : SemPart) (at : get_elem? ps id �
       shares low e = elim (move.reader e) [
         | inl was ↦ hands-step id n q marks grants ps v u at m low (λ t. no-more t (let a : shared_weight u.held ≡ shared_weight v.held = ap shared_weight (e ∙ sym was) in omega (arith, a)))
         | inr more ↦ elim more [
-          | inl none ↦ hands-free id n q marks grants ps m grants (set ps id u) (inl none)
+          | inl none ↦ hands-free id n q marks grants ps m grants (set ps id u) (inl none) (own-comes id n q marks grants ps v u at own has elsewhere)
           | inr may ↦ hands-reads id n q marks grants ps v u at m own low has may elsewhere
         ]
       ]

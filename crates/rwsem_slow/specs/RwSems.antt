@@ -157,7 +157,7 @@ IsMadeBy id vs (Leave t) q = (v : V) × (get_elem? vs id ≡ some v) × ((v.hand
 abbrev pub KeepsCount : Hand → Hand → ℕ → Type 0
 KeepsCount h g word = h.held ≢ No → g.held ≢ h.held → g.freed ≡ word
 
--- what a step may do: all that each step of a site, of a spin lock and of a list does; a waiter enters by itself, and leaves by itself or in a waker's batch; while the first waiter is marked and HANDOFF is set, nobody but it writes, and who reads had a bias since before, or held alone; who ends or downgrades a hold keeps the count that it left; and an append is counted by the pass that enters
+-- what a step may do: all that each step of a site, of a spin lock and of a list does; a waiter enters by itself, and leaves by itself or in a waker's batch; while the first waiter is marked and HANDOFF is set, nobody but it writes, and who reads had a bias since before, or held alone; at any time who reads comes to it by itself, or in a batch that leaves no reader waiting; who ends or downgrades a hold keeps the count that it left; and an append is counted by the pass that enters
 pub record RwSemMoves (k : Plan) (id : ℕ) (ws : List ℕ) (vs : List V) (us : List ℕ) (vs' : List V) : Type 0 where
   pub site : SiteMove id (site k ws) vs (site k us) vs'
   pub spin : SpinMoves id (spin_words ws) (map spin_part vs) (spin_words us) (map spin_part vs')

@@ -73,7 +73,7 @@ MadeBy Stay id h ps q m = Unit {0}
 MadeBy (Enter w) id h ps q m = HasWaitLock id m × (h.task ≡ Some w.task) × (h.held ≡ No)
 MadeBy (Leave t) id h ps q m = HasWaitLock id m × ((h.task ≡ Some t) ⊎ ((p : SemPart) × (get_elem? ps id ≡ some p) × Picks p q t))
 
--- One step of one pass, made while this was the list and these the parts of the passes. The list changes by one append or one removal, which keeps the others in order. While the first waiter is marked and HANDOFF is set, the writer's bit comes by that waiter alone, and a task becomes a reader only by a bias whose addition saw no HANDOFF, or by a downgrade. Who ends or downgrades a hold keeps the count that its step left. Each append is counted by the pass that enters.
+-- One step of one pass, made while this was the list and these the parts of the passes. The list changes by one append or one removal, which keeps the others in order. While the first waiter is marked and HANDOFF is set, the writer's bit comes by that waiter alone, and a task becomes a reader only by a bias whose addition saw no HANDOFF, or by a downgrade. At any time it becomes one by a step of its own pass, or in a waker's batch that leaves no reader in the list. Who ends or downgrades a hold keeps the count that its step left. Each append is counted by the pass that enters.
 pub record IsRwSemStep (k : Plan) (x : Moment) (q : List Waiter) (ps : List SemPart) (y : Moment) (q' : List Waiter) (ps' : List SemPart) : Type 0 where
   pub by : IsSiteStep k x y
   pub change : Change

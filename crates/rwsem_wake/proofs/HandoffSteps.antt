@@ -10,36 +10,46 @@ use Rattle.wait_list.specs.declared.view.Waiter.{Waiter}
 use Rattle.rwsem_wake.specs.declared.view.Wait.TheVariants.{Apart, Reads}
 use Rattle.rwsem_wake.specs.declared.view.Stage.{Stage}
 use Rattle.rwsem_wake.specs.declared.view.Stage.TheVariants.{Counted, Granting}
-use Rattle.rwsem_wake.specs.SemParts.{SemPart, named_weight, granting_weight, is_zero, granted_at, reads_at, rest_at, here, first_mark, tasks, busy_of}
+use Rattle.rwsem_wake.specs.SemParts.{SemPart, named_weight, granting_weight, is_zero, granted_at, reads_at, rest_at, here, first_mark, reader_of, tasks, busy_of}
 use Rattle.rwsem_wake.specs.Semaphores.{IsFirst, FlagsAt, SemKept}
 use Rattle.rwsem_wake.proofs.Sums.{mine-of}
 use Rattle.rwsem_wake.proofs.Places.{first-least, granted-all, grant-here, grant-else, here-mine, here-else}
 use Rattle.rwsem_wake.proofs.WakeLaws.{batched, holding}
 use Rattle.rwsem_wake.proofs.QueueLaws.{granted-at-w}
-use Rattle.rwsem_wake.specs.Handoffs.{shared_at, granting_at, reads_as, MayRead, KeepsHandoff}
+use Rattle.rwsem_wake.specs.Handoffs.{shared_at, granting_at, reads_as, MayRead, ComesToRead, KeepsHandoff}
 
 module _ (id n : ℕ) (q : List Waiter) (marks grants : List ℕ) (vs : List SemPart) where
   -- no handoff, or nobody is marked
-  pub hands-free : (n' : ℕ) (grants' : List ℕ) (us : List SemPart) → (n / 4 % 2 ≡ 0) ⊎ (first_mark marks (tasks q) ≡ 0) → KeepsHandoff id n q marks grants vs n' grants' us
-  hands-free n' grants' us none = record {
+  pub hands-free : (n' : ℕ) (grants' : List ℕ) (us : List SemPart) → (n / 4 % 2 ≡ 0) ⊎ (first_mark marks (tasks q) ≡ 0) → ComesToRead id q grants vs grants' us → KeepsHandoff id n q marks grants vs n' grants' us
+  hands-free n' grants' us none comes = record {
+    comes = comes;
     writer = λ h m _ _. absurd (elim none [ inl z ↦ omega (arith, z, h) | inr z ↦ omega (arith, z, m) ]);
     reader = λ h m _ _ _. absurd (elim none [ inl z ↦ omega (arith, z, h) | inr z ↦ omega (arith, z, m) ]);
   }
 
   -- nobody sets the writer bit or becomes a reader
   pub hands-still : (n' : ℕ) (grants' : List ℕ) (us : List SemPart) → n' % 2 ≤ n % 2 → ((t : ℕ) → total (reads_as grants' t) us ≤ total (reads_as grants t) vs) → KeepsHandoff id n q marks grants vs n' grants' us
-  hands-still n' grants' us low less = record { writer = λ h m a b. absurd (omega (arith, a, b, low)); reader = λ h m t z l. let x = less t in absurd (omega (arith, x, z, l)) }
+  hands-still n' grants' us low less = record { writer = λ h m a b. absurd (omega (arith, a, b, low)); reader = λ h m t z l. let x = less t in absurd (omega (arith, x, z, l)); comes = λ t z l. let x = less t in absurd (omega (arith, x, z, l)) }
 
   module _ (v u : SemPart) (at : get_elem? vs id ≡ some v) where
     -- a step of one view, which doesn't become a reader
     pub hands-step : (n' : ℕ) → n' % 2 ≤ n % 2 → ((t : ℕ) → reads_as grants t u ≤ reads_as grants t v) → KeepsHandoff id n q marks grants vs n' grants (set vs id u)
     hands-step n' low less = hands-still n' grants (set vs id u) low (λ t. let a = total-set (reads_as grants t) vs id v u at in let b = less t in omega arith)
 
+    -- its own task alone becomes one
+    pub own-comes : (own : ℕ) → v.task ≡ Some own → ((t : ℕ) → t ≢ own → reads_as grants t u ≤ reads_as grants t v) → ComesToRead id q grants vs grants (set vs id u)
+    own-comes own has less t z l = dite (ℕ_discrete t own) (λ is. (v, at, inl (has ∙ ap (λ (x : ℕ). Some x) (sym is)))) (λ not. let a = total-set (reads_as grants t) vs id v u at in let b = less t not in absurd (omega arith))
+
+    -- its batch alone does
+    pub batch-comes : ((t : ℕ) → reads_as grants t u ≤ shared_at t v + granted_at grants t v + here t v.sem.rest) → total reader_of q ≡ 0 → ComesToRead id q grants vs grants (set vs id u)
+    batch-comes is none t z l = let a = total-set (reads_as grants t) vs id v u at in let b = is t in elim (native.Mathlib.Decide.dec_le 1 (here t v.sem.rest)) [ yes there ↦ (v, at, inr (there, none)) | no out ↦ absurd (omega arith) ]
+
     -- or which may become one
     pub hands-reads : (n' own : ℕ) → n' % 2 ≤ n % 2 → v.task ≡ Some own → MayRead v → ((t : ℕ) → t ≢ own → reads_as grants t u ≤ reads_as grants t v) → KeepsHandoff id n q marks grants vs n' grants (set vs id u)
     hands-reads n' own low has may less = record {
       writer = λ h m a b. absurd (omega (arith, a, b, low));
       reader = λ h m t z l. dite (ℕ_discrete t own) (λ is. (v, at, (has ∙ ap (λ (x : ℕ). Some x) (sym is)), may)) (λ not. let a = total-set (reads_as grants t) vs id v u at in let b = less t not in absurd (omega arith));
+      comes = own-comes own has less;
     }
 
     -- a queued writer takes
@@ -47,12 +57,14 @@ module _ (id n : ℕ) (q : List Waiter) (marks grants : List ℕ) (vs : List Sem
     hands-takes n' may less = record {
       writer = λ h m a b. elim may [ inl first ↦ (v, at, first) | inr z ↦ absurd (omega (arith, z, m)) ];
       reader = λ h m t z l. let a = total-set (reads_as grants t) vs id v u at in let b = less t in absurd (omega arith);
+      comes = λ t z l. let a = total-set (reads_as grants t) vs id v u at in let b = less t in absurd (omega arith);
     }
 
 -- the batch's sum: nobody is marked then
-pub hands-sums : (id n n' : ℕ) (q : List Waiter) (marks grants : List ℕ) (vs us : List SemPart) (v : SemPart) (b : Bool) → SemKept n q marks grants vs → get_elem? vs id ≡ some v → total busy_of vs ≡ busy_of v → v.sem.stage ≡ Counted b → KeepsHandoff id n q marks grants vs n' grants us
-hands-sums id n n' q marks grants vs us v b r at only stage = let f : FlagsAt (Counted b) v.task v.sem.rest (n / 2 % 2) (n / 4 % 2) q marks grants = subst (λ (z : Stage). FlagsAt z v.task v.sem.rest (n / 2 % 2) (n / 4 % 2) q marks grants) stage (mine-of (n / 2 % 2) (n / 4 % 2) q marks grants vs id v at only r.flags) in
-    let z = f.1 in let l = first-least marks (tasks q) in hands-free id n q marks grants vs n' grants us (inr (omega (arith, z, l)))
+pub hands-sums : (id n n' : ℕ) (q : List Waiter) (marks grants : List ℕ) (vs : List SemPart) (v u : SemPart) (b : Bool) → SemKept n q marks grants vs → get_elem? vs id ≡ some v → total busy_of vs ≡ busy_of v → v.sem.stage ≡ Counted b → ((t : ℕ) → reads_as grants t u ≤ shared_at t v + granted_at grants t v + here t v.sem.rest)
+    → KeepsHandoff id n q marks grants vs n' grants (set vs id u)
+hands-sums id n n' q marks grants vs v u b r at only stage less = let f : FlagsAt (Counted b) v.task v.sem.rest (n / 2 % 2) (n / 4 % 2) q marks grants = subst (λ (z : Stage). FlagsAt z v.task v.sem.rest (n / 2 % 2) (n / 4 % 2) q marks grants) stage (mine-of (n / 2 % 2) (n / 4 % 2) q marks grants vs id v at only r.flags) in
+    let z = f.1 in let l = first-least marks (tasks q) in hands-free id n q marks grants vs n' grants (set vs id u) (inr (omega (arith, z, l))) (batch-comes id n q marks grants vs v u at less f.3)
 
 -- the readers by each of the three
 pub reads-apart : (gs : List ℕ) (t : ℕ) (vs : List SemPart) → total (reads_as gs t) vs ≡ total (shared_at t) vs + total (granted_at gs t) vs + total (granting_at t) vs

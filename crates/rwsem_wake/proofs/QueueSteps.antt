@@ -9,9 +9,9 @@ use Rattle.lock_core.specs.declared.view.Held.{Held}
 use Rattle.lock_core.specs.declared.view.Held.TheVariants.{No, Shared, Alone}
 use Rattle.lock_core.specs.Ops.{word_after}
 use Rattle.lock_core.specs.Records.{bit}
-use Rattle.lock_core.specs.Views.{alone_weight}
+use Rattle.lock_core.specs.Views.{alone_weight, is_number}
 use Rattle.lock_core.specs.Totals.{total, total-at, total-set}
-use Rattle.lock_core.proofs.HandLaws.{not-both}
+use Rattle.lock_core.proofs.HandLaws.{is_number-else, not-both}
 use Rattle.word_bits.specs.LockWords.{IsLawfulCount}
 use Rattle.wait_list.specs.declared.view.Waiter.{Waiter}
 use Rattle.wait_list.specs.Lists.{Part, Knows, first_code}
@@ -25,7 +25,7 @@ use Rattle.rwsem_wake.specs.declared.view.Stage.TheVariants.{Rest, Armed, Joinin
 use Rattle.rwsem_wake.specs.declared.view.SemHand.{SemHand}
 use Rattle.rwsem_wake.specs.SemParts.{SemPart, busy_of, early_of, late_of, first_mark, tasks, granted_of, granting_weight, here, is_zero, part_of, reads_of, reads_weight}
 use Rattle.rwsem_wake.specs.Semaphores.{FlagsAt, IsFirst, SemKept, batch_weight, more_of}
-use Rattle.rwsem_wake.specs.Handoffs.{KeepsHandoff}
+use Rattle.rwsem_wake.specs.Handoffs.{KeepsHandoff, shared_at}
 use Rattle.rwsem_wake.specs.Grants.{summing, unmarked, unreserved}
 use Rattle.rwsem_wake.specs.Queues.{rested, asked, taken, own_unmarked, heard, heard_locked, settled}
 use Rattle.rwsem_wake.proofs.Sums.{set-mine}
@@ -33,7 +33,7 @@ use Rattle.rwsem_wake.proofs.Places.{first-least, some-length}
 use Rattle.rwsem_wake.proofs.WakeLaws.{staged, ok-of}
 use Rattle.rwsem_wake.proofs.QueueLaws.{granted-w, mine-at, sem-backs, sem-granted, sem-stages}
 use Rattle.rwsem_wake.proofs.HandoffLaws.{sem-sets, sem-takes, sem-unmarks-own, sem-clears, sem-asks-write, sem-marks}
-use Rattle.rwsem_wake.proofs.HandoffSteps.{hands-free, hands-granted, hands-step, hands-takes}
+use Rattle.rwsem_wake.proofs.HandoffSteps.{hands-free, hands-granted, hands-step, hands-takes, own-comes}
 use Rattle.rwsem_wake.proofs.FirstLaws.{light-of, sem-arms-again, sem-clears-first, sem-first-clear, sem-own-clear, sem-rests}
 use Rattle.rwsem_wake.proofs.Flags.{sets_waiters, clears_waiters}
 use Rattle.rwsem_wake.proofs.Stepping.{Local, with_hand}
@@ -218,7 +218,7 @@ module _ (sees : List SemPart) (id : ℕ) (v : SemPart) (known : Part) (n : ℕ)
         sem-stages sees id v loc.mine n q marks grants loc.kept own has u n marks only refl refl refl refl (subst (λ (z : Stage). FlagsAt z v.task v.sem.rest W H q marks grants) (sym stage) f)
             (count-keeps sees id v u loc.mine n m (more_of grants sees) loc.kept.count (inl free) out bias refl refl)
             (ok-of u own has (λ _. (loc.kept.each id v loc.mine).rest (ap batch_weight stage)) (omega (arith, r0)) (omega arith) (omega (arith, r0))),
-        hands-free id n q marks grants sees n grants (set sees id u) (inr (ap (λ (z : List Waiter). first_mark marks (tasks z)) (sym (loc.list knows) ∙ none))),
+        hands-free id n q marks grants sees n grants (set sees id u) (inr (ap (λ (z : List Waiter). first_mark marks (tasks z)) (sym (loc.list knows) ∙ none))) (own-comes id n q marks grants sees v u loc.mine own has (λ t not. let z : shared_at t u ≡ 0 = ap (is_number t) has ∙ is_number-else t own (λ e. not (sym e)) in omega (arith, z))),
       )
 
 -- a queued reader loads its grant word, with or without the wait lock

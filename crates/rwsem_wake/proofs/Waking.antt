@@ -33,7 +33,7 @@ use Rattle.rwsem_wake.proofs.QueueLaws.{mine-at, sem-arms, unread-at, reads-at-w
 use Rattle.rwsem_wake.proofs.HandoffLaws.{sem-reserves, sem-unreserves, sem-overdue, sem-asks, sem-unmarks, sem-unmarked, sem-looks, sem-done}
 use Rattle.rwsem_wake.proofs.LookLaws.{sem-sums-none}
 use Rattle.rwsem_wake.specs.Handoffs.{KeepsHandoff, reads_as, shared_at, granting_at}
-use Rattle.rwsem_wake.proofs.HandoffSteps.{reads-apart, hands-free, hands-still, hands-step, hands-sums, hands-grants}
+use Rattle.rwsem_wake.proofs.HandoffSteps.{batch-comes, reads-apart, hands-free, hands-still, hands-step, hands-sums, hands-grants}
 use Rattle.rwsem_wake.specs.Grants.{tail, saw_handoff, armed, reserved, unreserved, marked, unmarked, summing, gains, losses, looked, counted, granting_on, granted}
 use Rattle.rwsem_wake.proofs.Stepping.{Local, with_hand, named_in}
 use Rattle.rwsem_wake.proofs.Counting.{part-least}
@@ -145,7 +145,7 @@ module _ (sees : List SemPart) (id : ℕ) (v : SemPart) (known : Part) (n : ℕ)
       (λ none. subst (λ (z : Bool). After n marks grants (if z then record v.sem { bias = Clear; stage = Granting } else record v.sem { stage = Counted (H == 1) }) × IsLawfulCount n) (sym (eq-eqb (losses v.sem H) (gains v.sem q) none)) (
         (
           sem-sums-none sees id v loc.mine n own q marks grants (H == 1) loc.kept has only (bit-is H (omega arith)) stage none_left keeps tight (let e = bit-is H (omega arith) in omega (arith, none, e)),
-          hands-free id n q marks grants sees n grants (set sees id (biased v Clear Granting)) (inr (let f = mine-at sees id v loc.mine n q marks grants loc.kept own has Summing only stage in let z = f.1 in let l = first-least marks (tasks q) in omega (arith, z, l))),
+          hands-free id n q marks grants sees n grants (set sees id (biased v Clear Granting)) (inr (let f = mine-at sees id v loc.mine n q marks grants loc.kept own has Summing only stage in let z = f.1 in let l = first-least marks (tasks q) in omega (arith, z, l))) (batch-comes id n q marks grants sees v (biased v Clear Granting) loc.mine (λ t. omega arith) none_left),
         ),
         loc.lawful,
       ))
@@ -167,7 +167,7 @@ module _ (sees : List SemPart) (id : ℕ) (v : SemPart) (known : Part) (n : ℕ)
       let moved = does n (omega (arith, balance, least)) (omega (arith, balance, most)) in let sum : n' + losses v.sem (bit b) ≡ n + g = omega (arith, moved, balance) in (
         (
           sem-sums sees id v loc.mine n n' own q marks grants b loc.kept only has stage keeps tight (omega (arith, sum)),
-          hands-sums id n n' q marks grants sees (set sees id (with_hand v (counted v.sem))) v b loc.kept loc.mine only stage,
+          hands-sums id n n' q marks grants sees v (with_hand v (counted v.sem)) b loc.kept loc.mine only stage (λ t. omega arith),
         ),
         loc.lawful,
       )
@@ -187,6 +187,7 @@ module _ (sees : List SemPart) (id : ℕ) (v : SemPart) (known : Part) (n : ℕ)
             record {
               writer = hands.writer;
               reader = λ h m u z l. hands.reader h m u z (let a = total-set (reads_as (set grants t 0) u) sees id v w loc.mine in let b = total-set (reads_as (set grants t 0) u) sees id v (staged w Rest) loc.mine in omega (arith, a, b, l));
+              comes = λ u z l. hands.comes u z (let a = total-set (reads_as (set grants t 0) u) sees id v w loc.mine in let b = total-set (reads_as (set grants t 0) u) sees id v (staged w Rest) loc.mine in omega (arith, a, b, l));
             },
           )
 
