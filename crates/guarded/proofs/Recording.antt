@@ -31,7 +31,7 @@ use Rattle.lock_core.specs.Pasts.{FoundAtStep}
 use Rattle.lock_core.specs.Kinds.{Kind, unavailable, wakes_shared}
 use Rattle.lock_core.specs.Shown.{Shown, NoCountFalls, AllButHand, PastGoesOn, IsNextCall}
 use Rattle.lock_core.specs.Locking.{Begins, Looks, Takes, Frees, Releases, Sees, SawPending, KeepsPlace, IsLetIn}
-use Rattle.guarded.specs.Performing.{Refuses, TriesOnce, AddsRecord, Serves, Performs}
+use Rattle.guarded.specs.Performing.{Refuses, TriesOnce, AddsRecord, Serves, Performs, takes_by}
 
 eq-le : (m n : ℕ) → m ≡ n → n ≤ m
 eq-le m n e = omega arith
@@ -65,6 +65,7 @@ adds-freed wakes rec seen v m u a f = record {
   consumed = f.consumed ∙ a.consumed;
   saw = f.saw ∙ a.saw;
   misses = f.misses ∙ a.misses;
+  takes = f.takes ∙ a.takes;
   fronts = f.fronts ∙ a.fronts;
   line = f.line ∙ a.line;
   counts = counts-trans v m u a.counts f.keeps.counts;
@@ -82,6 +83,7 @@ adds v m stage writes known log step rec seen e b = record {
   consumed = ap {A = Hand} (λ h. h.consumed) e;
   saw = ap {A = Hand} (λ h. h.saw) e;
   misses = ap {A = Hand} (λ h. h.misses) e;
+  takes = ap {A = Hand} (λ h. h.takes) e;
   fronts = b.1;
   line = b.2;
   counts = counts-beside v m (ap {A = Hand} (λ h. h.misses) e) b;
@@ -185,6 +187,16 @@ reply-unintr (Busy w) is = refl
 reply-unintr Intr is = absurd is
 reply-unintr Sent is = refl
 
+object-takes : (reply : Reply) → IsObjectReply reply → takes_by reply ≡ 1
+object-takes Good is = refl
+object-takes (Num n) is = refl
+object-takes (Refused x) is = refl
+object-takes MapErr is = refl
+object-takes AccErr is = refl
+object-takes (Busy w) is = absurd is
+object-takes Intr is = absurd is
+object-takes Sent is = absurd is
+
 abbrev is_busy : Reply → Bool
 is_busy Good = false
 is_busy (Num n) = false
@@ -263,6 +275,7 @@ module _ {Call : Type 0} (o : Obj Call) (kind : Kind) (at : ℕ) (k : Plan) wher
         task = serves.adds.task ∙ takes.keeps.task;
         done = serves.adds.done ∙ ap (λ n. n + 1) takes.keeps.done;
         out = serves.out;
+        takes = let one = object-takes reply serves.replies in let a = takes.takes in let b = serves.adds.takes in omega (arith, one, a, b);
         accounted = (serves.adds.sent ∙ (takes.keeps.sent ∙ accounted.0), serves.adds.consumed ∙ (takes.consumed ∙ accounted.1));
         counts = counts-trans v m u takes.keeps.counts serves.adds.counts;
         signals = λ some. absurd (false≢true (subst IsSome unsent some));
@@ -275,11 +288,11 @@ module _ {Call : Type 0} (o : Obj Call) (kind : Kind) (at : ℕ) (k : Plan) wher
 
   -- a call that never held
   pub performs-unheld : (v u : Shown) (words : CallWords) (reply : Reply) → IsNextCall k v.hand words → IsUnheldReply o (unavailable kind) words reply → logs o words reply ≡ false → u.hand.seen ≡ v.hand.seen
-      → u.hand.records ≡ record { entry = next_entry v.hand; rec = record { k = length v.hand.seen; reply = reply } } ∷ v.hand.records → u.hand.task ≡ v.hand.task → u.hand.done ≡ v.hand.done + 1 → u.hand.held ≡ No → (u.hand.sent ≡ None) × (u.hand.consumed ≡ 0) → NoCountFalls v u
+      → u.hand.records ≡ record { entry = next_entry v.hand; rec = record { k = length v.hand.seen; reply = reply } } ∷ v.hand.records → u.hand.task ≡ v.hand.task → u.hand.done ≡ v.hand.done + 1 → u.hand.held ≡ No → u.hand.takes ≡ v.hand.takes + takes_by reply → (u.hand.sent ≡ None) × (u.hand.consumed ≡ 0) → NoCountFalls v u
       → (IsSome (signal_of words) → reply ≡ Sent) → ((word : ℕ) → reply ≡ Busy word → (c : Call) × (o.call_of words ≡ Some c) × Sees kind (o.reads c) at word v u)
       → (reply ≡ Intr → (c : Call) × (why : Interrupted) × (word : ℕ) × (o.call_of words ≡ Some c) × SawPending why v u × Sees kind (o.reads c) at word v u)
       → (mode_of words ≡ Try → TriesOnce v u) → (mode_of words ≢ Try → KeepsPlace kind (not (changes o words) && not (is_intr reply)) v u) → Performs o kind at k reply v u
-  performs-unheld v u words reply next why unlogged seen records task done out accounted goes signals busy interrupted once line = record {
+  performs-unheld v u words reply next why unlogged seen records task done out takes accounted goes signals busy interrupted once line = record {
     words = words;
     rec = record { k = length v.hand.seen; reply = reply };
     next = next;
@@ -292,6 +305,7 @@ module _ {Call : Type 0} (o : Obj Call) (kind : Kind) (at : ℕ) (k : Plan) wher
     task = task;
     done = done;
     out = out;
+    takes = takes;
     accounted = accounted;
     counts = goes;
     signals = signals;
@@ -306,8 +320,8 @@ module _ {Call : Type 0} (o : Obj Call) (kind : Kind) (at : ℕ) (k : Plan) wher
   performs-sent v w u words target step next is out consumed sent beside hand after =
       let now : u.hand ≡ noted (record v.hand { sent = Some target }) step (next_entry v.hand) Sent = hand ∙ ap {B = Hand} (λ (x : Hand). noted x step (next_entry x) Sent) sent in
       let along = beside-trans v w u beside after in
-      let misses = ap {A = Hand} (λ h. h.misses) now in
-      performs-unheld v u words Sent next (subst IsSome (sym is) refl) refl (ap {A = Hand} (λ h. h.seen) now) (ap {A = Hand} (λ h. h.records) now) (ap {A = Hand} (λ h. h.task) now) (ap {A = Hand} (λ h. h.done) now) (ap {A = Hand} (λ h. h.held) now ∙ out)
+      let misses = ap {A = Hand} (λ h. h.misses) now in let takes = ap {A = Hand} (λ h. h.takes) now in
+      performs-unheld v u words Sent next (subst IsSome (sym is) refl) refl (ap {A = Hand} (λ h. h.seen) now) (ap {A = Hand} (λ h. h.records) now) (ap {A = Hand} (λ h. h.task) now) (ap {A = Hand} (λ h. h.done) now) (ap {A = Hand} (λ h. h.held) now ∙ out) (omega (arith, takes))
       (ap {A = Hand} (λ h. h.sent) now, ap {A = Hand} (λ h. h.consumed) now ∙ consumed) (counts-beside v u misses along) (λ _. refl) (λ word e. absurd (false≢true (subst (λ r. is_sent r ≡ true) e refl))) (λ e. absurd (false≢true (subst (λ r. is_sent r ≡ true) e refl)))
       (λ _. (along.2, along.1, omega (arith, misses)))
       (λ _. record { queues = λ rise. absurd (omega arith); few = λ _. omega arith })
@@ -325,10 +339,10 @@ module _ {Call : Type 0} (o : Obj Call) (kind : Kind) (at : ℕ) (k : Plan) wher
       let keeps = why.1.keeps in
       let entry = same-entry v.hand m.hand keeps.task keeps.done in
       let sees = why.1.sees in
-      let misses = ap {A = Hand} (λ h. h.misses) hand in
+      let misses = ap {A = Hand} (λ h. h.misses) hand in let takes = ap {A = Hand} (λ h. h.takes) hand in
       performs-unheld v u words (Busy w) next (sym says ∙ why.0, (c, is, subst (λ b. (unavailable kind) b w) same sees.shut)) refl (ap {A = Hand} (λ h. h.seen) hand ∙ keeps.seen)
       (ap {A = Hand} (λ h. h.records) hand ∙ (λ i. record { entry = entry i; rec = record { k = length (keeps.seen i); reply = Busy w } } ∷ keeps.records i))
-      (ap {A = Hand} (λ h. h.task) hand ∙ keeps.task) (ap {A = Hand} (λ h. h.done) hand ∙ ap (λ n. n + 1) keeps.done) (ap {A = Hand} (λ h. h.held) hand ∙ why.1.out)
+      (ap {A = Hand} (λ h. h.task) hand ∙ keeps.task) (ap {A = Hand} (λ h. h.done) hand ∙ ap (λ n. n + 1) keeps.done) (ap {A = Hand} (λ h. h.held) hand ∙ why.1.out) (let none = why.1.takes in omega (arith, takes, none))
       (ap {A = Hand} (λ h. h.sent) hand ∙ (keeps.sent ∙ accounted.0), ap {A = Hand} (λ h. h.consumed) hand ∙ (why.1.consumed ∙ accounted.1))
       (counts-trans v m u keeps.counts (counts-beside m u misses beside)) (λ some. absurd (false≢true (subst IsSome unsent some)))
       (λ word e. (c, is, subst (λ b. Sees kind b at word v u) same (subst (λ n. Sees kind reads at n v u) (ap busy_word e) (sees-on kind reads at w v m u (ap {A = Hand} (λ h. h.saw) hand) beside.3 goes sees))))
@@ -339,10 +353,10 @@ module _ {Call : Type 0} (o : Obj Call) (kind : Kind) (at : ℕ) (k : Plan) wher
       let cut = why.1.1 in
       let keeps = cut.keeps in
       let entry = same-entry v.hand m.hand keeps.task keeps.done in
-      let misses = ap {A = Hand} (λ h. h.misses) hand in
+      let misses = ap {A = Hand} (λ h. h.misses) hand in let takes = ap {A = Hand} (λ h. h.takes) hand in
       performs-unheld v u words Intr next (sym says ∙ why.0, subst IsSome (sym is) refl) refl (ap {A = Hand} (λ h. h.seen) hand ∙ keeps.seen)
       (ap {A = Hand} (λ h. h.records) hand ∙ (λ i. record { entry = entry i; rec = record { k = length (keeps.seen i); reply = Intr } } ∷ keeps.records i))
-      (ap {A = Hand} (λ h. h.task) hand ∙ keeps.task) (ap {A = Hand} (λ h. h.done) hand ∙ ap (λ n. n + 1) keeps.done) (ap {A = Hand} (λ h. h.held) hand ∙ cut.out)
+      (ap {A = Hand} (λ h. h.task) hand ∙ keeps.task) (ap {A = Hand} (λ h. h.done) hand ∙ ap (λ n. n + 1) keeps.done) (ap {A = Hand} (λ h. h.held) hand ∙ cut.out) (let none = cut.takes in omega (arith, takes, none))
       (ap {A = Hand} (λ h. h.sent) hand ∙ (keeps.sent ∙ accounted.0), ap {A = Hand} (λ h. h.consumed) hand ∙ (let more = cut.consumed in let none = accounted.1 in omega (arith, more, none)))
       (counts-trans v m u keeps.counts (counts-beside m u misses beside)) (λ some. absurd (false≢true (subst IsSome unsent some)))
       (λ word e. absurd (false≢true (subst (λ r. is_intr r ≡ true) e refl)))
@@ -398,6 +412,7 @@ module _ (v w u : Shown) (looks : Looks v w) (goes : PastGoesOn v w) where
     task = subst (λ (h : Hand). u.hand.task ≡ h.task) e p.task;
     done = subst (λ (h : Hand). u.hand.done ≡ h.done + 1) e p.done;
     out = p.out;
+    takes = let a = p.takes in let b = ap {A = Hand} (λ h. h.takes) e in omega (arith, a, b);
     accounted = p.accounted;
     counts = counts-trans v w u (counts-beside v w (ap {A = Hand} (λ h. h.misses) e) looks.1) p.counts;
     signals = p.signals;

@@ -6,7 +6,7 @@ use Rattle.word_bits.specs.declared.call.Mode.TheVariants.{Int, Try}
 use Rattle.word_bits.specs.declared.entry.Entry.{Entry}
 use Rattle.word_bits.specs.declared.rec.Rec.{Rec}
 use Rattle.word_bits.specs.declared.reply.Reply.{Reply}
-use Rattle.word_bits.specs.declared.reply.Reply.TheVariants.{Busy, Intr, Sent}
+use Rattle.word_bits.specs.declared.reply.Reply.TheVariants.{Good, Num, Refused, MapErr, AccErr, Busy, Intr, Sent}
 use Rattle.word_bits.specs.Calls.{mode_of, signal_of}
 use Rattle.word_bits.specs.Objects.{Obj, IsObjectReply}
 use Rattle.word_bits.specs.Histories.{Plan, logs, changes}
@@ -49,7 +49,18 @@ Refuses kind at mode reads reply v u = ⊥
 abbrev pub TriesOnce : Shown → Shown → Type 0
 TriesOnce v u = (u.line ≡ v.line) × (u.fronts ≡ v.fronts) × (u.hand.misses ≤ v.hand.misses + 1)
 
--- it made this record of its task's next call, and has then seen this log
+-- how often a call with this reply comes to hold: not at all where it is a signal or couldn't have the lock, and else once
+abbrev pub takes_by : Reply → ℕ
+takes_by Good = 1
+takes_by (Num n) = 1
+takes_by (Refused x) = 1
+takes_by MapErr = 1
+takes_by AccErr = 1
+takes_by (Busy word) = 0
+takes_by Intr = 0
+takes_by Sent = 0
+
+-- it made this record of its task's next call, and has then seen this log; it has not come to hold anew
 pub record AddsRecord (rec : Rec) (seen : List Entry) (v u : Shown) : Type 0 where
   pub task : u.hand.task ≡ v.hand.task
   pub done : u.hand.done ≡ v.hand.done + 1
@@ -59,6 +70,7 @@ pub record AddsRecord (rec : Rec) (seen : List Entry) (v u : Shown) : Type 0 whe
   pub consumed : u.hand.consumed ≡ v.hand.consumed
   pub saw : u.hand.saw ≡ v.hand.saw
   pub misses : u.hand.misses ≡ v.hand.misses
+  pub takes : u.hand.takes ≡ v.hand.takes
   pub fronts : u.fronts ≡ v.fronts
   pub line : u.line ≡ v.line
   pub counts : NoCountFalls v u
@@ -90,6 +102,8 @@ pub record Performs {Call : Type 0} (o : Obj Call) (kind : Kind) (at : ℕ) (k :
   pub task : u.hand.task ≡ v.hand.task
   pub done : u.hand.done ≡ v.hand.done + 1
   pub out : u.hand.held ≡ No
+  -- it held without a step between, from the one that took to the one that let go
+  pub takes : u.hand.takes ≡ v.hand.takes + takes_by reply
   pub accounted : (u.hand.sent ≡ None) × (u.hand.consumed ≡ 0)
   pub counts : NoCountFalls v u
   -- a signal is sent, and nothing else is
