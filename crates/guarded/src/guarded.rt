@@ -121,19 +121,23 @@ impl<L: SleepLock<O>, O: Served + Drop> Guarded<L, O> {
 
     /// Loads, after which the pass knows what was so of the object's table at each moment so far,
     /// from the new table on: the facts of every site, that the lock's word stated who held and
-    /// whether tasks waited, and that each step did to the site's words what every step does.
+    /// whether tasks waited, and that each step did to the site's words what every step does; and
+    /// what the lock tells of its own.
     pub fn recall(&self, pass: &mut L::Pass)
         requires own { L.sits (lock_of self.now) pass.old }
         ensures own { L.sits (lock_of self.now) pass.new }
         ensures goes_on { PastGoesOn (L.view pass.old) (L.view pass.new) }
         ensures kept { Looks (L.view pass.old) (L.view pass.new) }
         ensures last { IsLatestStep (L.view pass.new) }
+        ensures new { IsNew O.object O.WORDS (L.calls_on (lock_of self.now))
+            (L.opened (L.calls_on (lock_of self.now))) }
         ensures begins { Tail (L.opened (L.calls_on (lock_of self.now)) ∷ [])
             (L.view pass.new).past }
         ensures always { EachMoment (IsLockedThen O.object L.kind O.WORDS
             (L.calls_on (lock_of self.now)) L.word_at L.waits) (L.view pass.new).past }
         ensures moves { Paced (IsSiteStep (L.calls_on (lock_of self.now)))
             (L.view pass.new).past }
+        ensures told { L.tells (L.calls_on (lock_of self.now)) (L.view pass.new) }
     {
         self.lock.recall(pass);
     }

@@ -49,6 +49,9 @@ pub trait SleepLock<O: Object>: Sized {
     // The tasks that wait for the lock, first to last.
     ghost waits: { Calls → Moment → List ℕ → Type 0 };
 
+    // What this lock tells of its own, beside what every lock does, to a pass that looks back.
+    ghost tells: { Calls → Shown → Type 0 };
+
     // What callers see of a pass.
     ghost view: { Self.Pass → Shown };
 
@@ -109,18 +112,21 @@ pub trait SleepLock<O: Object>: Sized {
 
     /// Loads, after which the pass knows what was so of the table at each moment so far, from the
     /// new table on: the facts of every site, that the lock's word stated who held and whether
-    /// tasks waited, and that each step did to the site's words what every step does.
+    /// tasks waited, and that each step did to the site's words what every step does; and what
+    /// this lock tells of its own (`tells`).
     fn recall(&self, pass: &mut Self::Pass)
         requires own { sits self.now pass.old }
         ensures own { sits self.now pass.new }
         ensures goes_on { PastGoesOn (view pass.old) (view pass.new) }
         ensures kept { Looks (view pass.old) (view pass.new) }
         ensures last { IsLatestStep (view pass.new) }
+        ensures new { IsNew O.object O.WORDS (calls_on self.now) (opened (calls_on self.now)) }
         ensures begins { Tail (opened (calls_on self.now) ∷ []) (view pass.new).past }
         ensures always { EachMoment
             (IsLockedThen O.object kind O.WORDS (calls_on self.now) word_at waits)
             (view pass.new).past }
-        ensures moves { Paced (IsSiteStep (calls_on self.now)) (view pass.new).past };
+        ensures moves { Paced (IsSiteStep (calls_on self.now)) (view pass.new).past }
+        ensures told { tells (calls_on self.now) (view pass.new) };
 
     /// A guarded word.
     fn word(&self, pass: &mut Self::Pass, at: usize) -> u64

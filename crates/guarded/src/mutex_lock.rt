@@ -13,7 +13,7 @@ impl<O: Object> SleepLock<O> for Mutex<O> {
     ghost use Rattle.mutex_slow.specs.Handles.{newest, plan_of, shown_of};
     ghost use Rattle.mutex_slow.specs.Mutexes.{owner_at};
     ghost use Rattle.mutex_slow.specs.Stated.{waits_on};
-    ghost use Rattle.guarded.specs.MutexLocks.{SitsIdle};
+    ghost use Rattle.guarded.specs.MutexLocks.{KnowsMutex, SitsIdle};
     ghost use Rattle.guarded.specs.MutexLockLaws.{sits-stands};
 
     type Pass = MutexPass<O>;
@@ -27,6 +27,8 @@ impl<O: Object> SleepLock<O> for Mutex<O> {
     ghost opened = { newest };
 
     ghost waits = { waits_on };
+
+    ghost tells = { λ k v. KnowsMutex O.object O.WORDS k v };
 
     ghost view = { shown_of };
 

@@ -18,7 +18,8 @@ pub struct OwnerLock<O: Object> {
 impl<O: Object> SleepLock<O> for OwnerLock<O> {
     ghost use Rattle.lock_core.specs.Kinds.{mutex};
     ghost use Rattle.mutex_word.specs.Handles.{plan_of, shown_of};
-    ghost use Rattle.mutex_word.specs.Ruled.{newest, owner_at};
+    ghost use Rattle.lock_core.specs.Pasts.{EachMoment};
+    ghost use Rattle.mutex_word.specs.Ruled.{IsOwnerSiteThen, newest, owner_at};
     ghost use Rattle.lock_rows.specs.OwnerLocks.{nobody_waits, SitsIdle};
     ghost use Rattle.lock_rows.specs.OwnerLockLaws.{sits-stands};
 
@@ -33,6 +34,8 @@ impl<O: Object> SleepLock<O> for OwnerLock<O> {
     ghost opened = { newest };
 
     ghost waits = { nobody_waits };
+
+    ghost tells = { λ k v. EachMoment (IsOwnerSiteThen O.object O.WORDS k) v.past };
 
     ghost view = { shown_of };
 

@@ -56,9 +56,9 @@ impl<A: SpaceLock, T: TableLock> SharedObject for SpaceOrTable<Guarded<A, Areas>
         site pass };
 
     ghost knows_past = { Matches
-        (λ s p. KnowsPast space A.kind 257 A.word_at A.waits A.opened
+        (λ s p. KnowsPast space A.kind 257 A.word_at A.waits A.tells A.opened
         (A.calls_on (lock_of s)) (A.view p))
-        (λ s p. KnowsPast table T.kind 64 T.word_at T.waits T.opened
+        (λ s p. KnowsPast table T.kind 64 T.word_at T.waits T.tells T.opened
         (T.calls_on (lock_of s)) (T.view p)) };
 
     fn open(

@@ -48,7 +48,7 @@ impl<T: TableLock> SharedObject for Tables<Guarded<T, Fds>> {
     ghost serving = { λ t p task. T.sits (lock_of t.table) p × IsServing table
         (unavailable T.kind) (T.calls_on (lock_of t.table)) (T.view p).hand task };
 
-    ghost knows_past = { λ t p. KnowsPast table T.kind 64 T.word_at T.waits T.opened
+    ghost knows_past = { λ t p. KnowsPast table T.kind 64 T.word_at T.waits T.tells T.opened
         (T.calls_on (lock_of t.table)) (T.view p) };
 
     fn open(
