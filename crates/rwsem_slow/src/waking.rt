@@ -177,9 +177,8 @@ fn grant_unless_written<O: Object, P: Patience>(
     false
 }
 
-/// Wakes waiters under the wait lock: `woken`, which was empty, has the tasks that are to be woken
-/// once the wait lock is released. Nobody is woken where nobody waits. The kernel's
-/// `rwsem_mark_wake`.
+/// Wakes waiters under the wait lock: `woken`, which was empty, has the tasks that the caller is to
+/// wake. Nobody is woken where nobody waits. The kernel's `rwsem_mark_wake`.
 pub fn wake<O: Object, P: Patience>(
     site: &Site<SemRule<O>>,
     pass: &mut Pass<SemRule<O>>,
