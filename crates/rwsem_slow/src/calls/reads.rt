@@ -34,7 +34,11 @@ impl<O: Object> RwSem<O> {
         ensures line { KeepsPlace semaphore true (shown_of pass.old) (shown_of pass.new) }
     {
         let how = self.take_shared(rt, pass, cpu, crew);
-        self.note_reader(pass);
+        match how {
+            How::Fast | How::Spun => self.note_reader(pass),
+            // The waker has stored it for the first of its batch, and may have let others in since.
+            How::Slept => {}
+        }
         how
     }
 
