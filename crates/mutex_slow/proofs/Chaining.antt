@@ -92,10 +92,10 @@ module _ (id : ℕ) (ws : List ℕ) (vs : List V) (v : V) (at : get_elem? vs id 
   same-pass : (w : V) → get_elem? vs id ≡ some w → v ≡ w
   same-pass w there = some-injective v w (sym at ∙ there)
 
-  made-by : (c : Change) → IsOwnChange id vs c → MadeUnderLock c id (map (list_part list_of) vs) → MadeBy c id v.hand (moment standing (instant ws vs))
+  made-by : (c : Change) → IsOwnChange id vs (owner_in ws) c → MadeUnderLock c id (map (list_part list_of) vs) → MadeBy c id v.hand (moment standing (instant ws vs))
   made-by Stay own made = tt
   made-by (Enter w) own made = let same = same-pass own.0 own.1 in (has-lock id ws vs v made.0 at made.1 made.2, ap (λ (x : V). x.hand.task) same ∙ own.2, ap (λ (x : V). x.hand.held) same ∙ own.3, own.4)
-  made-by (Leave t) own made = (has-lock id ws vs v made.0 at made.1 made.2, ap (λ (x : V). x.hand.task) (same-pass own.0 own.1) ∙ own.2)
+  made-by (Leave t) own made = (has-lock id ws vs v made.0 at made.1 made.2, ap (λ (x : V). x.hand.task) (same-pass own.0 own.1) ∙ own.2, own.3)
 
   takes-up : (n n' : ℕ) → (n' ≡ n) ⊎ TookUp id vs n n' → (n' ≡ n) ⊎ TakesUp v.hand n n'
   takes-up n n' (inl same) = inl same

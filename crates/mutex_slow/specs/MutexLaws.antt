@@ -38,7 +38,7 @@ use Rattle.wait_list.specs.declared.view.ListHand.{ListHand}
 use Rattle.wait_list.specs.declared.words.TheConstants.{LIST_WORDS}
 use Rattle.wait_list.specs.Lists.{Part, ListKept, MadeBy, Knows, Lists, LeaverGoes, Allowed, changed, list_part, listed, sighted, first_code, changes_of, takes_of}
 use Rattle.wait_list.specs.ListLaws.{list-spins, list-keeps, list-leaves, list-strangers, list-opens, list-known}
-use Rattle.mutex_slow.specs.Mutexes.{V, HasLock, idle, list_of, IsOut, Coupled, MutexKept, Kept, Leaves, PicksFirst, Asks, HasHandoff, IsFirstTask, AnswersHandoff, TookUp, IsOwnChange, MutexMoves, entered, owner_at, list_at, spin_words, owner_in, list_words, may_free, rests, may_own, turned, with_list, may_change, is_code, saw_first}
+use Rattle.mutex_slow.specs.Mutexes.{V, HasLock, idle, list_of, IsOut, Coupled, MutexKept, Kept, Leaves, PicksFirst, Asks, HasHandoff, IsFirstTask, AnswersHandoff, TookUp, IsOwnChange, IsUnpicked, MutexMoves, entered, owner_at, list_at, spin_words, owner_in, list_words, may_free, rests, may_own, turned, with_list, may_change, is_code, saw_first}
 use Rattle.mutex_slow.specs.CoupledLaws.{Apart, coupled-stays, coupled-hands, coupled-seats, coupled-spins, coupled-fails, coupled-takes-free, coupled-takes-picked, coupled-asks, coupled-frees, coupled-hands-over, coupled-flags, coupled-clears, coupled-enters, coupled-leaves, coupled-opens, coupled-snoc, idle-ok, flagged, not-in, is-in, locked-free}
 
 pub spin-inside : 0 + SPIN_WORDS ≤ LOCK_WORDS
@@ -168,7 +168,7 @@ module _ {Call : Type 0} (o : Obj Call) (size : ℕ) where
 
     -- a step that changes the list so, and all that it leaves
     goes : (us : List ℕ) (vs' : List V) (c : Change) → length us ≡ width k → Site k us (map hand_of vs') → SiteMove id (site k ws) vs (site k us) vs' → (u : V) → get_elem? vs' id ≡ some u → SpinMoves id (spin_words ws) (map spin_part vs) (spin_words us) (map spin_part vs') → OwnKept (owner_in us) (map hand_of vs')
-        → ListKept (list_words us) (changed c l) (map parted vs') → Coupled (owner_in us) (changed c l) vs' → Allowed c l → MadeBy c id (map parted vs) → IsOwnChange id vs c → (Leaves (owner_in ws) (owner_in us) → PicksFirst (owner_in us) l) → (4 ≤ owner_in ws % 8 → (owner_in us ≡ owner_in ws) ⊎ TookUp id vs (owner_in ws) (owner_in us))
+        → ListKept (list_words us) (changed c l) (map parted vs') → Coupled (owner_in us) (changed c l) vs' → Allowed c l → MadeBy c id (map parted vs) → IsOwnChange id vs (owner_in ws) c → (Leaves (owner_in ws) (owner_in us) → PicksFirst (owner_in us) l) → (4 ≤ owner_in ws % 8 → (owner_in us ≡ owner_in ws) ⊎ TookUp id vs (owner_in ws) (owner_in us))
         → (Asks (owner_in ws) (owner_in us) → IsFirstTask v.hand.task l) → (HasHandoff (owner_in ws) → HasHandoff (owner_in us) ⊎ AnswersHandoff v.hand (owner_in us) l) → KeepsLeft v.hand u.hand (owner_in us) → u.ext.appends ≡ v.ext.appends + entered c → Go k id ws vs us vs'
     goes us vs' c wide there move u at' spin own list coupled may made mine hands picks asks stays freed counts = let before : v ≡ move.before = some-injective v move.before (sym at ∙ move.at) in let after : u ≡ move.after = some-injective u move.after (sym at' ∙ move.at') in (
       (changed c l, record { wide = wide; site_holds = there; spin = (spin.queue', spin.new); own = own; list = list; coupled = coupled }),
@@ -188,7 +188,7 @@ module _ {Call : Type 0} (o : Obj Call) (size : ℕ) where
 
     -- the same, where the owner word stays
     goes-on : (us : List ℕ) (vs' : List V) (c : Change) → length us ≡ width k → Site k us (map hand_of vs') → SiteMove id (site k ws) vs (site k us) vs' → (u : V) → get_elem? vs' id ≡ some u → u.hand.held ≡ v.hand.held → u.ext.appends ≡ v.ext.appends + entered c → SpinMoves id (spin_words ws) (map spin_part vs) (spin_words us) (map spin_part vs') → owner_in us ≡ owner_in ws → OwnKept (owner_in ws) (map hand_of vs')
-        → ListKept (list_words us) (changed c l) (map parted vs') → Coupled (owner_in ws) (changed c l) vs' → Allowed c l → MadeBy c id (map parted vs) → IsOwnChange id vs c → Go k id ws vs us vs'
+        → ListKept (list_words us) (changed c l) (map parted vs') → Coupled (owner_in ws) (changed c l) vs' → Allowed c l → MadeBy c id (map parted vs) → IsOwnChange id vs (owner_in ws) c → Go k id ws vs us vs'
     goes-on us vs' c wide there move u at' held counts spin same own list coupled may made mine = goes us vs' c wide there move u at' spin (subst (λ (z : ℕ). OwnKept z (map hand_of vs')) (sym same) own) list (subst (λ (z : ℕ). Coupled z (changed c l) vs') (sym same) coupled) may made mine
         (λ leaves. absurd (leaves.3 (ap (λ (z : ℕ). z / 8) same))) (λ _. inl same)
         (λ asked. let less = asked.0 in let more : 2 ≤ owner_in ws % 4 = subst HasHandoff same asked.1 in absurd (omega (arith, less, more)))
@@ -332,7 +332,7 @@ module _ {Call : Type 0} (o : Obj Call) (size : ℕ) where
   mutex-list-may k ws vs l id v (Leave t) r at has may = is-in (owner_in ws) l vs id v r.coupled at (apart k ws vs l id v r at) may.1 t may.0
 
   lists-by : (k : Plan) (ws : List ℕ) (vs : List V) (l : List Waiter) (id i n : ℕ) (v : V) (c : Change) (b : ListHand) → Queue k ws vs l → get_elem? vs id ≡ some v → i < LIST_WORDS → ListKept (set (list_words ws) i n) (changed c l) (set (map parted vs) id (v.spin, b))
-      → Coupled (owner_in ws) (changed c l) (set vs id (listed with_list c v b)) → Allowed c l → MadeBy c id (map parted vs) → IsOwnChange id vs c → Go k id ws vs (set ws (list_at + i) n) (set vs id (listed with_list c v b))
+      → Coupled (owner_in ws) (changed c l) (set vs id (listed with_list c v b)) → Allowed c l → MadeBy c id (map parted vs) → IsOwnChange id vs (owner_in ws) c → Go k id ws vs (set ws (list_at + i) n) (set vs id (listed with_list c v b))
   lists-by k ws vs l id i n v c b r at inside list coupled may made mine = let w : V = listed with_list c v b in let us : List ℕ = set ws (list_at + i) n in let same : site k us ≡ site k ws = ap (lay k) (drop-set-lt LOCK_WORDS ws (list_at + i) n (omega (arith, inside))) in
       goes-on k ws vs l id v r at us (set vs id w) c (length-set ws (list_at + i) n ∙ r.wide)
       (subst (λ (z : SiteWords). SiteKept o owned size k z (map hand_of (set vs id w))) (sym same) (keep_part hand_of (Site k ws) vs id v w at refl r.site_holds))
@@ -359,12 +359,12 @@ module _ {Call : Type 0} (o : Obj Call) (size : ℕ) where
   mutex-lists k ws vs l id i n v (Enter w) b r at inside has may is leaver list = let m : ℕ = owner_in ws in let a = apart k ws vs l id v r at in lists-by k ws vs l id i n v (Enter w) b r at inside list (coupled-enters m l vs id v r.coupled at a w b (ap holds_at has) may.0 may.1 may.2 is leaver)
       (mutex-list-may k ws vs l id v (Enter w) r at has may) (parted v, at_map parted vs id v at, ap holds_at has) (v, at, may.0, may.3, may.4)
   mutex-lists k ws vs l id i n v (Leave t) b r at inside has may is leaver list = let m : ℕ = owner_in ws in let a = apart k ws vs l id v r at in
-      let unpicked : 4 ≤ m % 8 → m / 8 ≢ t + 1 = λ high. ⊎_elim
+      let unpicked : IsUnpicked m t = λ high. ⊎_elim
       (λ (alone : v.hand.held ≡ Alone). let low = (held-word (map hand_of vs) id t m v.hand r.own (at_map hand_of vs id v at) alone may.0).0 in absurd (omega (arith, low, high)))
       (λ (stamp : v.ext.failed ≡ v.spin.entries). (r.coupled.each id v at).failed (ap holds_at has) stamp t may.0 high)
       may.3 in
       lists-by k ws vs l id i n v (Leave t) b r at inside list (coupled-leaves m l vs id v r.coupled at a t b (ap holds_at has) may.0 may.1 may.2 unpicked is leaver)
-      (mutex-list-may k ws vs l id v (Leave t) r at has may) (parted v, at_map parted vs id v at, ap holds_at has) (v, at, may.0)
+      (mutex-list-may k ws vs l id v (Leave t) r at has may) (parted v, at_map parted vs id v at, ap holds_at has) (v, at, may.0, unpicked)
 
   both : (a b : Bool) → (a && b) ≡ true → (a ≡ true) × (b ≡ true)
   both true true e = (refl, refl)

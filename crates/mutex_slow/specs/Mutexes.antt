@@ -70,6 +70,10 @@ HasLock v = holds_in v.spin ≡ 1
 abbrev pub IsOut : V → Type 0
 IsOut v = (v.ext.queued ≡ false) × (v.ext.point ≡ Rest) × (v.ext.first ≡ false) × (v.ext.list.leaver ≡ 0) × (HasLock v → v.ext.failed < v.spin.entries)
 
+-- the word doesn't pick the task
+abbrev pub IsUnpicked : ℕ → ℕ → Type 0
+IsUnpicked n t = 4 ≤ n % 8 → n / 8 ≢ t + 1
+
 -- the flags fit the list
 pub record Flagged (n : ℕ) (l : List Waiter) : Type 0 where
   pub some : 0 < length l → n % 2 ≡ 1
@@ -79,7 +83,7 @@ pub record SeatOk (n : ℕ) (l : List Waiter) (v : V) : Type 0 where
   pub joins : v.ext.point ≡ Joins → (HasLock v) × ((t : ℕ) × (v.hand.task ≡ Some t) × (first_code l ≡ t + 1)) × (length l ≡ 1) × (n % 8 ≡ 0)
   pub empties : v.ext.point ≡ Empties → (HasLock v) × (length l ≡ 0) × (n % 2 ≡ 1) × (n % 8 < 4)
   pub first : v.ext.first ≡ true → (t : ℕ) × (v.hand.task ≡ Some t) × (first_code l ≡ t + 1)
-  pub failed : HasLock v → v.ext.failed ≡ v.spin.entries → (t : ℕ) → v.hand.task ≡ Some t → 4 ≤ n % 8 → n / 8 ≢ t + 1
+  pub failed : HasLock v → v.ext.failed ≡ v.spin.entries → (t : ℕ) → v.hand.task ≡ Some t → IsUnpicked n t
   pub past : v.ext.failed ≤ v.spin.entries
   pub leaver : v.ext.list.leaver ≢ 0 → (t : ℕ) × (v.hand.task ≡ Some t) × (v.ext.list.leaver ≡ t + 1)
   pub named : v.hand.task ≡ None → IsOut v
@@ -150,18 +154,18 @@ AnswersHandoff h m l = ((h.held ≡ Alone) × PicksFirst m l) ⊎ (length l ≡ 
 abbrev pub TookUp : ℕ → List V → ℕ → ℕ → Type 0
 TookUp id vs n m = (v : V) × (get_elem? vs id ≡ some v) × ((t : ℕ) × (v.hand.task ≡ Some t) × (n / 8 ≡ t + 1)) × (m + 4 ≡ n)
 
--- a pass changes the list by its own task alone, which enters to hold alone, and doesn't hold yet
-abbrev pub IsOwnChange : ℕ → List V → Change → Type 0
-IsOwnChange id vs Stay = Unit {0}
-IsOwnChange id vs (Enter w) = (v : V) × (get_elem? vs id ≡ some v) × (v.hand.task ≡ Some w.task) × (v.hand.held ≡ No) × (w.writer ≡ true)
-IsOwnChange id vs (Leave t) = (v : V) × (get_elem? vs id ≡ some v) × (v.hand.task ≡ Some t)
+-- a pass changes the list by its own task alone, which enters to hold alone, and doesn't hold yet, and isn't picked by this word when it leaves
+abbrev pub IsOwnChange : ℕ → List V → ℕ → Change → Type 0
+IsOwnChange id vs n Stay = Unit {0}
+IsOwnChange id vs n (Enter w) = (v : V) × (get_elem? vs id ≡ some v) × (v.hand.task ≡ Some w.task) × (v.hand.held ≡ No) × (w.writer ≡ true)
+IsOwnChange id vs n (Leave t) = (v : V) × (get_elem? vs id ≡ some v) × (v.hand.task ≡ Some t) × IsUnpicked n t
 
 -- what a step may do: all that each step of a site, of a spin lock and of a list does; where it ends a hold while a handoff is asked for, it picks the first waiter; a word that picks a waiter is changed by that waiter alone, which takes; the first waiter alone asks for a handoff; the flag of the handoff stays until the holder names the first waiter or nobody waits; who ends a hold keeps the word that it left; and an append is counted by the pass that enters
 pub record MutexMoves (k : Plan) (id : ℕ) (ws : List ℕ) (vs : List V) (us : List ℕ) (vs' : List V) : Type 0 where
   pub site : SiteMove id (site k ws) vs (site k us) vs'
   pub spin : SpinMoves id (spin_words ws) (map spin_part vs) (spin_words us) (map spin_part vs')
   pub list : ListMoves id (list_words ws) (map (list_part list_of) vs) (list_words us) (map (list_part list_of) vs')
-  pub own : IsOwnChange id vs list.change
+  pub own : IsOwnChange id vs (owner_in ws) list.change
   pub hands : Leaves (owner_in ws) (owner_in us) → PicksFirst (owner_in us) list.list
   pub picks : 4 ≤ owner_in ws % 8 → (owner_in us ≡ owner_in ws) ⊎ TookUp id vs (owner_in ws) (owner_in us)
   pub asks : Asks (owner_in ws) (owner_in us) → IsFirstTask site.before.hand.task list.list
@@ -180,7 +184,7 @@ abbrev pub KnowsList : V → Type 0
 KnowsList v = Knows (v.spin, v.ext.list) × (v.ext.list.changes ≡ false) × (v.ext.point ≡ Rest)
 
 abbrev pub may_own : Turn → V → ℕ → ℕ → Type 0
-may_own Fail v n m = (m ≡ n) × ((t : ℕ) × (v.hand.task ≡ Some t) × (4 ≤ n % 8 → n / 8 ≢ t + 1))
+may_own Fail v n m = (m ≡ n) × ((t : ℕ) × (v.hand.task ≡ Some t) × IsUnpicked n t)
 may_own Take v n m = (v.hand.held ≡ No) × ((t : ℕ) × (v.hand.task ≡ Some t) × IsTake t n m)
 may_own Ask v n m = (v.ext.first ≡ true) × (v.ext.point ≡ Rest) × IsAsk n m
 may_own Free v n m = (v.hand.held ≡ Alone) × (n % 8 < 2) × (m ≡ n % 8)

@@ -20,7 +20,7 @@ use Rattle.wait_list.specs.declared.view.Waiter.{Waiter}
 use Rattle.wait_list.specs.declared.view.Change.{Change}
 use Rattle.wait_list.specs.declared.view.Change.TheVariants.{Stay, Enter, Leave}
 use Rattle.wait_list.specs.Lists.{Allowed, IsList, Lists, changed, counted}
-use Rattle.mutex_slow.specs.Mutexes.{AnswersHandoff, Asks, HasHandoff, entered, IsFirstTask, Leaves, PicksFirst, list_words, owner_in}
+use Rattle.mutex_slow.specs.Mutexes.{AnswersHandoff, Asks, HasHandoff, entered, IsFirstTask, IsUnpicked, Leaves, PicksFirst, list_words, owner_in}
 
 -- Without the pickup flag the word names the task that holds, or nobody where nobody does. With it nobody holds, and the word names the first waiter. The flags of the handoff and of the pickup are never both set. While the wait lock is free, the flag of the waiters is set exactly where tasks wait, and the other two only there.
 pub record StatesOwner (word : ℕ) (free : Type 0) (l : List Waiter) (hs : List Hand) : Type 0 where
@@ -56,11 +56,11 @@ IsMutexThen o size k m = IsSiteThen o owned size k m × ((l : List Waiter) × Is
 abbrev pub HasWaitLock : ℕ → Moment → Type 0
 HasWaitLock id m = (s : SpinHand) × (get_elem? m.spins id ≡ some s) × (holds_in s ≡ 1)
 
--- a change is made under the wait lock by the waiter's own pass, which has this number and hand; who enters is to hold alone, and doesn't hold yet
+-- a change is made under the wait lock by the waiter's own pass, which has this number and hand; who enters is to hold alone, and doesn't hold yet; who leaves isn't picked
 abbrev pub MadeBy : Change → ℕ → Hand → Moment → Type 0
 MadeBy Stay id h m = Unit {0}
 MadeBy (Enter w) id h m = HasWaitLock id m × (h.task ≡ Some w.task) × (h.held ≡ No) × (w.writer ≡ true)
-MadeBy (Leave t) id h m = HasWaitLock id m × (h.task ≡ Some t)
+MadeBy (Leave t) id h m = HasWaitLock id m × (h.task ≡ Some t) × IsUnpicked (owner_in m.words) t
 
 -- the pass with this hand took what the word picks its task for
 abbrev pub TakesUp : Hand → ℕ → ℕ → Type 0
