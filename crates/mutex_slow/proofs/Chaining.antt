@@ -22,7 +22,7 @@ use Rattle.wait_list.specs.declared.view.Change.TheVariants.{Stay, Enter, Leave}
 use Rattle.wait_list.specs.Lists.{Allowed, AreTasks, ListKept, MadeBy as MadeUnderLock, Part, changed, changes_of, counted, first_code, list_part, ticket_from}
 use Rattle.wait_list.proofs.Tickets.{counted-here, first-place, ticket-else, ticket-here, ticket-none}
 use Rattle.mutex_slow.specs.declared.view.MutexHand.{MutexHand}
-use Rattle.mutex_slow.specs.Mutexes.{AnswersHandoff, HasHandoff, IsFirstTask, IsOwnChange, Kept, MutexKept, MutexMoves, PicksFirst, TookUp, V, entered, list_of, owner_in, standing}
+use Rattle.mutex_slow.specs.Mutexes.{AnswersHandoff, HasHandoff, HasLock, IsFirstTask, IsOwnChange, Kept, LeavesToFirst, MutexKept, MutexMoves, PicksFirst, TookUp, V, entered, list_of, owner_in, standing}
 use Rattle.mutex_slow.specs.Stated.{line_marks, HasBecome, HasWaitLock, IsMutexStep, MadeBy, TakesUp}
 use Rattle.mutex_slow.proofs.Stating.{listed}
 
@@ -113,9 +113,13 @@ mutex-step k id ws us vs vs' m l l' old new = let v = m.site.before in record {
   asks = λ asked. subst (IsFirstTask v.hand.task) old (m.asks asked);
   stays = λ asked. subst (λ (z : List Waiter). HasHandoff (owner_in us) ⊎ AnswersHandoff v.hand (owner_in us) z) old (m.stays asked);
   freed = m.freed;
+  names = λ alone free lock. subst (LeavesToFirst (owner_in us)) old (m.names alone free (had-lock lock));
   appends = λ queued appends there. counted-on (map (marks_of standing) vs') id v m.site.after (entered m.list.change) queued appends (sym (at_map (marks_of standing) vs id v m.site.at) ∙ there) (at_map (marks_of standing) vs' id m.site.after m.site.at') m.appends;
 }
   where
+    had-lock : HasWaitLock id (moment standing (instant us vs')) → HasLock m.site.after
+    had-lock lock = ap holds_in (sym (some-injective lock.0 m.site.after.spin (sym lock.1 ∙ at_map spin_of vs' id m.site.after m.site.at'))) ∙ lock.2
+
     counted-on : (ms : List Marks) (id : ℕ) (v u : V) (by queued appends : ℕ) → some (marks_of standing v) ≡ some (line_marks queued appends) → get_elem? ms id ≡ some (marks_of standing u) → u.ext.appends ≡ v.ext.appends + by → (queued' : ℕ) × (get_elem? ms id ≡ some (line_marks queued' (appends + by)))
     counted-on ms id v u by queued appends was is goes = let e : v.ext.appends ≡ appends = ap (λ (m : Marks). get_or m.numbers 1 0) (some-injective (marks_of standing v) (line_marks queued appends) was) in
         (bit u.ext.queued, is ∙ ap (λ (n : ℕ). some (line_marks (bit u.ext.queued) n)) (goes ∙ ap (λ (n : ℕ). n + by) e))

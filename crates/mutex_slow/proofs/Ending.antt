@@ -7,6 +7,7 @@ use Rattle.lock_core.specs.declared.view.Held.TheVariants.{No, Alone}
 use Rattle.lock_core.specs.Pasts.{FoundAt, FoundSince, GoesOn, IsOwnStep}
 use Rattle.lock_core.specs.Shown.{Shown, PastGoesOn, shown}
 use Rattle.lock_core.specs.RunLaws.{step-by}
+use Rattle.lock_core.specs.Spins.{holds_in}
 use Rattle.lock_core.specs.Views.{ticked}
 use Rattle.mutex_word.specs.Holders.{ReleasesOwner, own_word}
 use Rattle.mutex_word.specs.Tries.{FindsUnasked, IsMine, LeavesFlags, ReleasedTo, FindsAsked as AsksThere}
@@ -50,7 +51,7 @@ looks-asked v w u p r q task n named holds looked asked found own before goes un
     let before_it = ap (λ (x : V). x.steps) looked in let steps = ap (λ (x : V). x.steps) is in let same = ap (λ (x : V). task_code x.hand.task) looked in
     (n % 8, asked.1, low, decides v u p q n (n % 8) Alone (ap (λ (x : V). x.hand.task) is ∙ ap (λ (x : V). x.hand.task) looked) (ap (λ (x : V). x.hand.held) is ∙ (ap (λ (x : V). x.hand.held) looked ∙ holds)) (omega (arith, before_it, later, steps)) own found (λ t e. goes t (before t e)) (omega (arith, mine, same)) refl (behind-look v w p r q task u.steps named looked before unasked))
 
-own-code-within : (step n : ℕ) (held : Held) (v a b u : Shown) → a.hand.task ≡ v.hand.task → v.steps ≤ a.steps → PastGoesOn v a → FindsOwnCode step n held a b → b.steps ≤ u.steps → PastGoesOn b u → FindsOwnCode step n held v u
+abbrev own-code-within : (step n : ℕ) (held : Held) (v a b u : Shown) → a.hand.task ≡ v.hand.task → v.steps ≤ a.steps → PastGoesOn v a → FindsOwnCode step n held a b → b.steps ≤ u.steps → PastGoesOn b u → FindsOwnCode step n held v u
 own-code-within step n held v a b u same steps before f more after = let later = f.0 in let by_now = f.1 in (omega (arith, later, steps), omega (arith, by_now, more), (found-within same before after f.2.0, f.2.1), f.3 ∙ ap task_code same)
 
 decides-within : (step flags : ℕ) (held : Held) (v b u : Shown) → DecidesAt step flags held v b → b.steps ≤ u.steps → PastGoesOn b u → DecidesAt step flags held v u
@@ -68,11 +69,11 @@ pub asked-then : (step : ℕ) (v b u : Shown) → FindsAsked step v b → b.step
 asked-then step v b u f more after = (f.0, f.1, f.2, decides-within step f.0 Alone v b u f.3 more after)
 
 -- the exchange that names the first waiter, or nobody, after a look at the list
-pub names-found : (v w u : V) (p r q : List Moment) (task : Option ℕ) (first : Option Waiter) (n : ℕ) → task ≡ v.hand.task → u.hand.task ≡ v.hand.task → u.hand.held ≡ No → v.steps ≤ w.steps → w.steps < u.steps → FoundSince v.hand.task v.steps w.steps list_at (waiter_code first) p r → FoundAt owner_at n q → IsMine task n → IsOwnStep u q → GoesOn p r → GoesOn r q → Names first u.hand.freed
+pub names-found : (v w u : V) (p r q : List Moment) (task : Option ℕ) (first : Option Waiter) (n : ℕ) → task ≡ v.hand.task → u.hand.task ≡ v.hand.task → u.hand.held ≡ No → v.steps ≤ w.steps → w.steps < u.steps → FoundSince v.hand.task v.steps w.steps list_at (waiter_code first) p r → FoundAt owner_at n q → IsMine task n → IsOwnStep u q → GoesOn p r → GoesOn r q → holds_in u.spin ≡ 1 → Names first u.hand.freed
     → NamesFirst v.steps first (shown line_of v.fronts v p) (shown line_of u.fronts u q)
-names-found v w u p r q task first n named same out before_it later looks found mine own before goes names = let code = mine.2 in let is = ap task_code named in
-    ((u.steps, n, w.steps, (omega (arith, before_it, later), omega arith, (record { past = q; by = step-by u v.hand.task q same own; found = found; after = λ t e. goes t (before t e); goes_on = λ t e. e }, out), code ∙ is), later, (looks.0, looks.1, looks.2, found-within refl (λ t e. e) goes looks.3)), names)
+names-found v w u p r q task first n named same out before_it later looks found mine own before goes lock names = let code = mine.2 in let is = ap task_code named in
+    ((u.steps, n, w.steps, (omega (arith, before_it, later), omega arith, (record { past = q; by = step-by u v.hand.task q same own; found = found; after = λ t e. goes t (before t e); goes_on = λ t e. e }, out), code ∙ is), (u.spin, own.spin, lock), later, (looks.0, looks.1, looks.2, found-within refl (λ t e. e) goes looks.3)), names)
 
 pub named-within : (begun : ℕ) (first : Option Waiter) (v a b u : Shown) → a.hand.task ≡ v.hand.task → v.steps ≤ a.steps → begun ≤ a.steps → PastGoesOn v a → NamesFirst a.steps first a b → u.hand.freed ≡ b.hand.freed → b.steps ≤ u.steps → PastGoesOn b u → NamesFirst begun first v u
-named-within begun first v a b u same steps since before n freed more after = let f = n.0 in let later = f.5.1 in
-    ((f.0, f.1, f.2, own-code-within f.0 f.1 No v a b u same steps before f.3 more after, f.4, (f.5.0, omega (arith, later, since), f.5.2, found-within same before after f.5.3)), subst (Names first) (sym freed) n.1)
+named-within begun first v a b u same steps since before n freed more after = let f = n.0 in let later = f.6.1 in
+    ((f.0, f.1, f.2, own-code-within f.0 f.1 No v a b u same steps before f.3 more after, f.4, f.5, (f.6.0, omega (arith, later, since), f.6.2, found-within same before after f.6.3)), subst (Names first) (sym freed) n.1)

@@ -16,7 +16,7 @@ use Rattle.lock_core.specs.declared.view.Held.TheVariants.{No, Alone}
 use Rattle.lock_core.specs.declared.layout.TheConstants.{LOCK_WORDS, SPIN_WORDS}
 use Rattle.lock_core.specs.Records.{bit}
 use Rattle.lock_core.specs.Layout.{SiteWords, fresh, site, lay, width}
-use Rattle.lock_core.specs.Views.{SpinHolds, SpinStays, hand_of, spin_part, part_with, no_part, handed, seated, ticked, first, split_off, merged, spent, stranger, named_of, is_number, HoldsNothing}
+use Rattle.lock_core.specs.Views.{SpinHolds, SpinStays, hand_of, spin_part, part_with, no_part, handed, seated, ticked, first, split_off, merged, spent, stranger, named_of, is_number, HoldsNothing, held_weight}
 use Rattle.lock_core.specs.Sites.{HandGoes, SiteKept}
 use Rattle.lock_core.specs.Moves.{Goes, KeepsHold, SiteMove}
 use Rattle.lock_core.specs.MoveLaws.{hand-stays, set-moves, hold-moved, spin-moved}
@@ -26,11 +26,11 @@ use Rattle.lock_core.specs.SpinLaws.{spin-same, spin-renames, spin-comes, spin-e
 use Rattle.lock_core.specs.Totals.{total, total-two}
 use Rattle.lock_core.specs.Parts.{at_unmap, keep_part, set_part, set-there, snoc_part}
 use Rattle.lock_core.specs.Regions.{part-in, part-above, part-below, part-at, wide-part}
-use Rattle.lock_core.proofs.HandLaws.{not-both, false-or-true, is_number-here}
+use Rattle.lock_core.proofs.HandLaws.{not-both, false-or-true, is_number-here, number-or-not}
 use Rattle.mutex_word.specs.declared.host.Turn.{Turn}
 use Rattle.mutex_word.specs.declared.host.Turn.TheVariants.{Fail, Take, Ask, Free, Hand as HandOn, Flag, Clear}
 use Rattle.mutex_word.specs.Holders.{KeepsLeft, OwnKept, IsTurn, turns}
-use Rattle.mutex_word.specs.OwnLaws.{Named, own-stays, own-strangers, own-opens, held-word}
+use Rattle.mutex_word.specs.OwnLaws.{Named, own-frees, own-stays, own-strangers, own-opens, held-word}
 use Rattle.wait_list.specs.declared.view.Waiter.{Waiter}
 use Rattle.wait_list.specs.declared.view.Change.{Change}
 use Rattle.wait_list.specs.declared.view.Change.TheVariants.{Stay, Enter, Leave}
@@ -38,7 +38,7 @@ use Rattle.wait_list.specs.declared.view.ListHand.{ListHand}
 use Rattle.wait_list.specs.declared.words.TheConstants.{LIST_WORDS}
 use Rattle.wait_list.specs.Lists.{Part, ListKept, MadeBy, Knows, Lists, LeaverGoes, Allowed, changed, list_part, listed, sighted, first_code, changes_of, takes_of}
 use Rattle.wait_list.specs.ListLaws.{list-spins, list-keeps, list-leaves, list-strangers, list-opens, list-known}
-use Rattle.mutex_slow.specs.Mutexes.{V, HasLock, idle, list_of, IsOut, Coupled, MutexKept, Kept, Leaves, PicksFirst, Asks, HasHandoff, IsFirstTask, AnswersHandoff, TookUp, IsOwnChange, IsUnpicked, MutexMoves, entered, owner_at, list_at, spin_words, owner_in, list_words, may_free, rests, may_own, turned, with_list, may_change, is_code, saw_first}
+use Rattle.mutex_slow.specs.Mutexes.{V, HasLock, idle, list_of, IsOut, Coupled, MutexKept, Kept, Leaves, LeavesToFirst, PicksFirst, Asks, HasHandoff, IsFirstTask, AnswersHandoff, TookUp, IsOwnChange, IsUnpicked, MutexMoves, entered, owner_at, list_at, spin_words, owner_in, list_words, may_free, rests, may_own, turned, with_list, may_change, is_code, saw_first}
 use Rattle.mutex_slow.specs.CoupledLaws.{Apart, coupled-stays, coupled-hands, coupled-seats, coupled-spins, coupled-fails, coupled-takes-free, coupled-takes-picked, coupled-asks, coupled-frees, coupled-hands-over, coupled-flags, coupled-clears, coupled-enters, coupled-leaves, coupled-opens, coupled-snoc, idle-ok, flagged, not-in, is-in, locked-free}
 
 pub spin-inside : 0 + SPIN_WORDS ≤ LOCK_WORDS
@@ -166,11 +166,17 @@ module _ {Call : Type 0} (o : Obj Call) (size : ℕ) where
     known : Knows (parted v) → (v.ext.list.list ≡ l) × (v.ext.list.words ≡ list_words ws) × (v.ext.list.changes ≡ false → Lists (list_words ws) l)
     known knows = list-known (list_words ws) l (map parted vs) id (parted v) r.list (at_map parted vs id v at) one-takes knows
 
+    -- what the owner word is before and behind a step by which the pass ends its hold
+    ended : (n : ℕ) (h : Hand) → v.hand.held ≡ Alone → h.held ≡ No → OwnKept n (set (map hand_of vs) id h) → (owner_in ws % 8 < 4) × (8 ≤ owner_in ws) × (n % 8 < 4 → n < 8)
+    ended n h alone free own = let hs : List Hand = map hand_of vs in let mine = at_map hand_of vs id v at in let none = (own-frees hs id (owner_in ws) v.hand h r.own mine alone free).held (omega arith) in number-or-not v.hand.task
+        (λ out. let w : held_weight No ≡ held_weight Alone = ap held_weight (sym (named k ws hs r.site_holds id v.hand mine out) ∙ alone) in absurd (omega (arith, w)))
+        (λ t has. let word = held-word hs id t (owner_in ws) v.hand r.own mine alone has in let low = word.0 in let is = word.1 in (low, omega (arith, is), λ few. let after = own.held few in omega (arith, after, none)))
+
     -- a step that changes the list so, and all that it leaves
     goes : (us : List ℕ) (vs' : List V) (c : Change) → length us ≡ width k → Site k us (map hand_of vs') → SiteMove id (site k ws) vs (site k us) vs' → (u : V) → get_elem? vs' id ≡ some u → SpinMoves id (spin_words ws) (map spin_part vs) (spin_words us) (map spin_part vs') → OwnKept (owner_in us) (map hand_of vs')
         → ListKept (list_words us) (changed c l) (map parted vs') → Coupled (owner_in us) (changed c l) vs' → Allowed c l → MadeBy c id (map parted vs) → IsOwnChange id vs (owner_in ws) c → (Leaves (owner_in ws) (owner_in us) → PicksFirst (owner_in us) l) → (4 ≤ owner_in ws % 8 → (owner_in us ≡ owner_in ws) ⊎ TookUp id vs (owner_in ws) (owner_in us))
-        → (Asks (owner_in ws) (owner_in us) → IsFirstTask v.hand.task l) → (HasHandoff (owner_in ws) → HasHandoff (owner_in us) ⊎ AnswersHandoff v.hand (owner_in us) l) → KeepsLeft v.hand u.hand (owner_in us) → u.ext.appends ≡ v.ext.appends + entered c → Go k id ws vs us vs'
-    goes us vs' c wide there move u at' spin own list coupled may made mine hands picks asks stays freed counts = let before : v ≡ move.before = some-injective v move.before (sym at ∙ move.at) in let after : u ≡ move.after = some-injective u move.after (sym at' ∙ move.at') in (
+        → (Asks (owner_in ws) (owner_in us) → IsFirstTask v.hand.task l) → (HasHandoff (owner_in ws) → HasHandoff (owner_in us) ⊎ AnswersHandoff v.hand (owner_in us) l) → KeepsLeft v.hand u.hand (owner_in us) → (v.hand.held ≡ Alone → u.hand.held ≡ No → HasLock u → LeavesToFirst (owner_in us) l) → u.ext.appends ≡ v.ext.appends + entered c → Go k id ws vs us vs'
+    goes us vs' c wide there move u at' spin own list coupled may made mine hands picks asks stays freed names counts = let before : v ≡ move.before = some-injective v move.before (sym at ∙ move.at) in let after : u ≡ move.after = some-injective u move.after (sym at' ∙ move.at') in (
       (changed c l, record { wide = wide; site_holds = there; spin = (spin.queue', spin.new); own = own; list = list; coupled = coupled }),
       record {
         site = move;
@@ -182,6 +188,7 @@ module _ {Call : Type 0} (o : Obj Call) (size : ℕ) where
         asks = subst (λ (x : V). Asks (owner_in ws) (owner_in us) → IsFirstTask x.hand.task l) before asks;
         stays = subst (λ (x : V). HasHandoff (owner_in ws) → HasHandoff (owner_in us) ⊎ AnswersHandoff x.hand (owner_in us) l) before stays;
         freed = subst (λ (x : V × V). KeepsLeft x.0.hand x.1.hand (owner_in us)) (λ i. (before i, after i)) freed;
+        names = subst (λ (x : V × V). x.0.hand.held ≡ Alone → x.1.hand.held ≡ No → HasLock x.1 → LeavesToFirst (owner_in us) l) (λ i. (before i, after i)) names;
         appends = subst (λ (x : V × V). x.1.ext.appends ≡ x.0.ext.appends + entered c) (λ i. (before i, after i)) counts;
       },
     )
@@ -192,7 +199,7 @@ module _ {Call : Type 0} (o : Obj Call) (size : ℕ) where
     goes-on us vs' c wide there move u at' held counts spin same own list coupled may made mine = goes us vs' c wide there move u at' spin (subst (λ (z : ℕ). OwnKept z (map hand_of vs')) (sym same) own) list (subst (λ (z : ℕ). Coupled z (changed c l) vs') (sym same) coupled) may made mine
         (λ leaves. absurd (leaves.3 (ap (λ (z : ℕ). z / 8) same))) (λ _. inl same)
         (λ asked. let less = asked.0 in let more : 2 ≤ owner_in ws % 4 = subst HasHandoff same asked.1 in absurd (omega (arith, less, more)))
-        (λ asked. inl (subst HasHandoff (sym same) asked)) (λ alone not. absurd (not (held ∙ alone))) counts
+        (λ asked. inl (subst HasHandoff (sym same) asked)) (λ alone not. absurd (not (held ∙ alone))) (λ alone free _. let w : held_weight No ≡ held_weight Alone = ap held_weight (sym free ∙ (held ∙ alone)) in absurd (omega (arith, w))) counts
 
   pub mutex-sites : (k : Plan) (ws : List ℕ) (vs : List V) (id i n : ℕ) (v : V) (h : Hand) (s : SpinHand) → Kept o size k ws vs → get_elem? vs id ≡ some v → KeepsHold rests v h → SpinStays v.spin s → Site k (set ws (LOCK_WORDS + i) n) (set (map hand_of vs) id h)
       → SiteMove id (site k ws) vs (site k (set ws (LOCK_WORDS + i) n)) (set vs id (seated v h s)) → Go k id ws vs (set ws (LOCK_WORDS + i) n) (set vs id (seated v h s))
@@ -223,8 +230,8 @@ module _ {Call : Type 0} (o : Obj Call) (size : ℕ) where
   -- a step on the owner word leaves everything but the word and the hand, once the coupled facts are there
   owns-by : (k : Plan) (ws : List ℕ) (vs : List V) (l : List Waiter) (id n : ℕ) (v : V) (h : Hand) (t : Turn) → Queue k ws vs l → get_elem? vs id ≡ some v → h.task ≡ v.hand.task → HandGoes v.hand h → OwnKept n (set (map hand_of vs) id h) → Site k ws (set (map hand_of vs) id h)
       → Coupled n l (set vs id (turns turned t v h)) → (Leaves (owner_in ws) n → PicksFirst n l) → (4 ≤ owner_in ws % 8 → (n ≡ owner_in ws) ⊎ TookUp id vs (owner_in ws) n)
-      → (Asks (owner_in ws) n → IsFirstTask v.hand.task l) → (HasHandoff (owner_in ws) → HasHandoff n ⊎ AnswersHandoff v.hand n l) → KeepsLeft v.hand h n → Go k id ws vs (set ws owner_at n) (set vs id (turns turned t v h))
-  owns-by k ws vs l id n v h t r at task counts own there coupled hands picks asks stays left = let w : V = turns turned t v h in let us : List ℕ = set ws owner_at n in let wide = r.wide in let same : site k us ≡ site k ws = ap (lay k) (drop-set-lt LOCK_WORDS ws owner_at n (omega arith)) in
+      → (Asks (owner_in ws) n → IsFirstTask v.hand.task l) → (HasHandoff (owner_in ws) → HasHandoff n ⊎ AnswersHandoff v.hand n l) → KeepsLeft v.hand h n → (v.hand.held ≡ Alone → h.held ≡ No → HasLock v → LeavesToFirst n l) → Go k id ws vs (set ws owner_at n) (set vs id (turns turned t v h))
+  owns-by k ws vs l id n v h t r at task counts own there coupled hands picks asks stays left names = let w : V = turns turned t v h in let us : List ℕ = set ws owner_at n in let wide = r.wide in let same : site k us ≡ site k ws = ap (lay k) (drop-set-lt LOCK_WORDS ws owner_at n (omega arith)) in
       let word : owner_in us ≡ n = get_or-set_same ws owner_at n 0 (omega (arith, wide)) in
       goes k ws vs l id v r at us (set vs id w) Stay (length-set ws owner_at n ∙ wide)
       (subst (λ (z : SiteWords). SiteKept o owned size k z (map hand_of (set vs id w))) (sym same) (set_part hand_of (Site k ws) vs id w there))
@@ -238,25 +245,28 @@ module _ {Call : Type 0} (o : Obj Call) (size : ℕ) where
       (subst (λ (z : ℕ). 4 ≤ owner_in ws % 8 → (z ≡ owner_in ws) ⊎ TookUp id vs (owner_in ws) z) (sym word) picks)
       (subst (λ (z : ℕ). Asks (owner_in ws) z → IsFirstTask v.hand.task l) (sym word) asks)
       (subst (λ (z : ℕ). HasHandoff (owner_in ws) → HasHandoff z ⊎ AnswersHandoff v.hand z l) (sym word) stays)
-      (subst (KeepsLeft v.hand h) (sym word) left) (let e = turned-appends t v in omega (arith, e))
+      (subst (KeepsLeft v.hand h) (sym word) left) (subst (λ (z : ℕ). v.hand.held ≡ Alone → h.held ≡ No → HasLock v → LeavesToFirst z l) (sym word) names) (let e = turned-appends t v in omega (arith, e))
 
   pub mutex-owns : (k : Plan) (ws : List ℕ) (vs : List V) (id n : ℕ) (v : V) (h : Hand) (t : Turn) → Kept o size k ws vs → get_elem? vs id ≡ some v → h.task ≡ v.hand.task → HandGoes v.hand h → KeepsLeft v.hand h n → may_own t v (owner_in ws) n → OwnKept n (set (map hand_of vs) id h) → Site k ws (set (map hand_of vs) id h)
       → Go k id ws vs (set ws owner_at n) (set vs id (turns turned t v h))
   mutex-owns k ws vs id n v h Fail (l, r) at task counts left may own there = let m : ℕ = owner_in ws in
       owns-by k ws vs l id n v h Fail r at task counts own there (subst (λ (z : ℕ). Coupled z l (set vs id (turns turned Fail v h))) (sym may.0) (coupled-fails m l vs id v r.coupled at (apart k ws vs l id v r at) may.1.0 may.1.1 may.1.2 h task)) (λ leaves. absurd (leaves.3 (ap (λ (z : ℕ). z / 8) may.0))) (λ _. inl may.0)
       (λ asked. let less = asked.0 in let more : 2 ≤ m % 4 = subst HasHandoff may.0 asked.1 in absurd (omega (arith, less, more))) (λ asked. inl (subst HasHandoff (sym may.0) asked)) left
-  mutex-owns k ws vs id n v h Take (l, r) at task counts left may own there = let m : ℕ = owner_in ws in let nobody = r.own.nobody in let flags = r.own.flags in ⊎_elim
+      (λ alone free _. let e = ended k ws vs l id v r at n h alone free own in let low = e.0 in let big = e.1 in let is = may.0 in let few = e.2 (omega (arith, is, low)) in absurd (omega (arith, few, big, is)))
+  mutex-owns k ws vs id n v h Take (l, r) at task counts left may own there = let m : ℕ = owner_in ws in let nobody = r.own.nobody in let flags = r.own.flags in
+      let names : v.hand.held ≡ Alone → h.held ≡ No → HasLock v → LeavesToFirst n l = λ alone _ _. let w : held_weight No ≡ held_weight Alone = ap held_weight (sym may.0 ∙ alone) in absurd (omega (arith, w)) in ⊎_elim
       (λ (q : (m < 8) × (n ≡ 8 * (may.1.0 + 1) + m)). let free = q.0 in let few = nobody free in owns-by k ws vs l id n v h Take r at task counts own there (coupled-takes-free m l vs id v r.coupled at (apart k ws vs l id v r at) may.1.0 n h q.0 (nobody q.0) q.1 task) (λ leaves. let big = leaves.2 in absurd (omega (arith, big, free))) (λ high. absurd (omega (arith, high, few)))
-      (λ asked. let more = asked.1 in let is = q.1 in absurd (omega (arith, more, is, few))) (λ asked. absurd (omega (arith, asked, few))) left)
+      (λ asked. let more = asked.1 in let is = q.1 in absurd (omega (arith, more, is, few))) (λ asked. absurd (omega (arith, asked, few))) left names)
       (λ (q : (4 ≤ m % 8) × (m / 8 ≡ may.1.0 + 1) × (n + 4 ≡ m)). let high = q.0 in owns-by k ws vs l id n v h Take r at task counts own there (coupled-takes-picked m l vs id v r.coupled at (apart k ws vs l id v r at) n h q.0 flags q.2 task) (λ leaves. let low = leaves.0 in absurd (omega (arith, low, high))) (λ _. inr (v, at, (may.1.0, may.1.1, q.1), q.2))
-      (λ asked. let more = asked.1 in let is = q.2 in absurd (omega (arith, more, is, high, flags))) (λ asked. absurd (omega (arith, asked, high, flags))) left)
+      (λ asked. let more = asked.1 in let is = q.2 in absurd (omega (arith, more, is, high, flags))) (λ asked. absurd (omega (arith, asked, high, flags))) left names)
       may.1.2
   mutex-owns k ws vs id n v h Ask (l, r) at task counts left may own there = let m : ℕ = owner_in ws in let few = may.2.0 in let is = may.2.2 in
       owns-by k ws vs l id n v h Ask r at task counts own there (coupled-asks m l vs id v r.coupled at (apart k ws vs l id v r at) n h may.0 may.1 may.2.0 may.2.2 task) (λ leaves. absurd (leaves.3 (omega (arith, few, is)))) (λ high. absurd (omega (arith, high, few)))
       (λ _. (r.coupled.each id v at).first may.0) (λ asked. absurd (omega (arith, asked, few))) left
-  mutex-owns k ws vs id n v h Free (l, r) at task counts left may own there = let m : ℕ = owner_in ws in let few = may.1 in
-      owns-by k ws vs l id n v h Free r at task counts own there (coupled-frees m l vs id v r.coupled at (apart k ws vs l id v r at) n h may.1 may.2 task) (λ leaves. let x = leaves.1 in absurd (omega (arith, x, few))) (λ high. absurd (omega (arith, high, few)))
-      (λ asked. let more = asked.1 in let is = may.2 in absurd (omega (arith, more, is, few))) (λ asked. absurd (omega (arith, asked, few))) left
+      (λ alone free _. let e = ended k ws vs l id v r at n h alone free own in let big = e.1 in let small = e.2 (omega (arith, few, is)) in absurd (omega (arith, small, big, is)))
+  mutex-owns k ws vs id n v h Free (l, r) at task counts left may own there = let m : ℕ = owner_in ws in let few = may.2 in
+      owns-by k ws vs l id n v h Free r at task counts own there (coupled-frees m l vs id v r.coupled at (apart k ws vs l id v r at) n h may.2 may.3 task) (λ leaves. let x = leaves.1 in absurd (omega (arith, x, few))) (λ high. absurd (omega (arith, high, few)))
+      (λ asked. let more = asked.1 in let is = may.3 in absurd (omega (arith, more, is, few))) (λ asked. absurd (omega (arith, asked, few))) left (λ _ _ has. locked-free v (ap holds_at may.1) has)
   mutex-owns k ws vs id n v h HandOn (l, r) at task counts left may own there = let m : ℕ = owner_in ws in let kn = known k ws vs l id v r at may.2.0 in let a = apart k ws vs l id v r at in let is : v.ext.list.list ≡ l = kn.0 in let few = may.3 in
       let none_is : length l ≡ 0 → n ≡ m % 2 = λ z. may.4.0 (ap length is ∙ z) in let some_is : 0 < length l → n ≡ 8 * first_code l + 4 + m % 2 = λ lo. subst (λ (y : List Waiter). 0 < length y → n ≡ 8 * first_code y + 4 + m % 2) is may.4.1 lo in
       owns-by k ws vs l id n v h HandOn r at task counts own there (coupled-hands-over m l vs id v r.coupled at a n h may.2.0.0 may.2.2 may.3 none_is some_is task may.1)
@@ -274,12 +284,18 @@ module _ {Call : Type 0} (o : Obj Call) (size : ℕ) where
         | no lo ↦ let e = some_is (omega (arith, lo)) in inr (inl (may.0, (omega (arith, e), omega (arith, e))))
       ])
       left
+      (λ _ _ _. elim (native.Mathlib.Decide.dec_le (length l) 0) [
+        | yes z ↦ let e = none_is (omega (arith, z)) in inr (omega (arith, e), omega (arith, z))
+        | no lo ↦ let e = some_is (omega (arith, lo)) in inl (omega (arith, e), omega (arith, e))
+      ])
   mutex-owns k ws vs id n v h Flag (l, r) at task counts left may own there = let m : ℕ = owner_in ws in let low = ((r.coupled.each id v at).joins may.0).3 in let is = may.1 (omega (arith, low)) in
       owns-by k ws vs l id n v h Flag r at task counts own there (coupled-flags m l vs id v r.coupled at (apart k ws vs l id v r at) n h may.0 is task) (λ leaves. let x = leaves.1 in absurd (omega (arith, x, low))) (λ high. absurd (omega (arith, high, low)))
       (λ asked. let more = asked.1 in absurd (omega (arith, more, is, low))) (λ asked. absurd (omega (arith, asked, low))) left
+      (λ alone free _. let e = ended k ws vs l id v r at n h alone free own in let big = e.1 in let small = e.2 (omega (arith, low, is)) in absurd (omega (arith, small, big, is)))
   mutex-owns k ws vs id n v h Clear (l, r) at task counts left may own there = let m : ℕ = owner_in ws in let is = may.1 in let low = ((r.coupled.each id v at).empties may.0).3 in
       owns-by k ws vs l id n v h Clear r at task counts own there (coupled-clears m l vs id v r.coupled at (apart k ws vs l id v r at) n h may.0 may.1 task) (λ leaves. absurd (leaves.3 (omega (arith, is)))) (λ high. absurd (omega (arith, high, low)))
       (λ asked. let more = asked.1 in absurd (omega (arith, more, is))) (λ _. inr (inr ((r.coupled.each id v at).empties may.0).1)) left
+      (λ alone free _. let e = ended k ws vs l id v r at n h alone free own in let big = e.1 in let small = e.2 (omega (arith, is)) in absurd (omega (arith, small, big, is)))
 
   pub mutex-own-looks : (k : Plan) (ws : List ℕ) (vs : List V) (id : ℕ) (v : V) (h : Hand) → Kept o size k ws vs → get_elem? vs id ≡ some v → h.task ≡ v.hand.task → h.held ≡ v.hand.held → HandGoes v.hand h → Site k ws (set (map hand_of vs) id h) → Go k id ws vs ws (set vs id (handed v h))
   mutex-own-looks k ws vs id v h (l, r) at task held counts there = let w : V = handed v h in goes-on k ws vs l id v r at ws (set vs id w) Stay r.wide (set_part hand_of (Site k ws) vs id w there)

@@ -10,7 +10,7 @@ use Rattle.lock_core.specs.declared.view.Hand.{Hand}
 use Rattle.lock_core.specs.declared.view.Held.TheVariants.{No, Alone}
 use Rattle.lock_core.specs.declared.layout.TheConstants.{SPIN_ROOM, SPIN_WORDS}
 use Rattle.lock_core.specs.Layout.{site, width, part}
-use Rattle.lock_core.specs.Views.{hand_of, spin_part, is_number}
+use Rattle.lock_core.specs.Views.{SpinRests, hand_of, spin_part, is_number}
 use Rattle.lock_core.specs.Sites.{SiteKept}
 use Rattle.lock_core.specs.Moves.{SiteMove}
 use Rattle.lock_core.specs.SpinFrames.{when}
@@ -134,6 +134,10 @@ Leaves n m = (n % 8 < 4) × (2 ≤ n % 4) × (8 ≤ n) × (m / 8 ≢ n / 8)
 abbrev pub PicksFirst : ℕ → List Waiter → Type 0
 PicksFirst m l = (4 ≤ m % 8) × (m / 8 ≡ first_code l)
 
+-- the word picks the first waiter, or names nobody where nobody waits
+abbrev pub LeavesToFirst : ℕ → List Waiter → Type 0
+LeavesToFirst m l = PicksFirst m l ⊎ ((m < 2) × (length l ≡ 0))
+
 -- the word has the flag of the handoff
 abbrev pub HasHandoff : ℕ → Type 0
 HasHandoff n = 2 ≤ n % 4
@@ -160,7 +164,7 @@ IsOwnChange id vs n Stay = Unit {0}
 IsOwnChange id vs n (Enter w) = (v : V) × (get_elem? vs id ≡ some v) × (v.hand.task ≡ Some w.task) × (v.hand.held ≡ No) × (w.writer ≡ true)
 IsOwnChange id vs n (Leave t) = (v : V) × (get_elem? vs id ≡ some v) × (v.hand.task ≡ Some t) × IsUnpicked n t
 
--- what a step may do: all that each step of a site, of a spin lock and of a list does; where it ends a hold while a handoff is asked for, it picks the first waiter; a word that picks a waiter is changed by that waiter alone, which takes; the first waiter alone asks for a handoff; the flag of the handoff stays until the holder names the first waiter or nobody waits; who ends a hold keeps the word that it left; and an append is counted by the pass that enters
+-- what a step may do: all that each step of a site, of a spin lock and of a list does; where it ends a hold while a handoff is asked for, it picks the first waiter; a word that picks a waiter is changed by that waiter alone, which takes; the first waiter alone asks for a handoff; the flag of the handoff stays until the holder names the first waiter or nobody waits; who ends a hold keeps the word that it left, which is the first waiter's where it has the wait lock; and an append is counted by the pass that enters
 pub record MutexMoves (k : Plan) (id : ℕ) (ws : List ℕ) (vs : List V) (us : List ℕ) (vs' : List V) : Type 0 where
   pub site : SiteMove id (site k ws) vs (site k us) vs'
   pub spin : SpinMoves id (spin_words ws) (map spin_part vs) (spin_words us) (map spin_part vs')
@@ -171,6 +175,7 @@ pub record MutexMoves (k : Plan) (id : ℕ) (ws : List ℕ) (vs : List V) (us : 
   pub asks : Asks (owner_in ws) (owner_in us) → IsFirstTask site.before.hand.task list.list
   pub stays : HasHandoff (owner_in ws) → HasHandoff (owner_in us) ⊎ AnswersHandoff site.before.hand (owner_in us) list.list
   pub freed : KeepsLeft site.before.hand site.after.hand (owner_in us)
+  pub names : site.before.hand.held ≡ Alone → site.after.hand.held ≡ No → HasLock site.after → LeavesToFirst (owner_in us) list.list
   pub appends : site.after.ext.appends ≡ site.before.ext.appends + entered list.change
 
 abbrev pub may_free : V → Type 0
@@ -187,7 +192,7 @@ abbrev pub may_own : Turn → V → ℕ → ℕ → Type 0
 may_own Fail v n m = (m ≡ n) × ((t : ℕ) × (v.hand.task ≡ Some t) × IsUnpicked n t)
 may_own Take v n m = (v.hand.held ≡ No) × ((t : ℕ) × (v.hand.task ≡ Some t) × IsTake t n m)
 may_own Ask v n m = (v.ext.first ≡ true) × (v.ext.point ≡ Rest) × IsAsk n m
-may_own Free v n m = (v.hand.held ≡ Alone) × (n % 8 < 2) × (m ≡ n % 8)
+may_own Free v n m = (v.hand.held ≡ Alone) × SpinRests v.spin × (n % 8 < 2) × (m ≡ n % 8)
 may_own HandOn v n m = (v.hand.held ≡ Alone) × (v.ext.queued ≡ false) × KnowsList v × (n % 8 < 4) × ((length v.ext.list.list ≡ 0 → m ≡ n % 2) × (0 < length v.ext.list.list → m ≡ 8 * first_code v.ext.list.list + 4 + n % 2))
 may_own Flag v n m = (v.ext.point ≡ Joins) × (n % 2 ≡ 0 → m ≡ n + 1)
 may_own Clear v n m = (v.ext.point ≡ Empties) × (m + n % 8 ≡ n)

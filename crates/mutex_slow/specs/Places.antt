@@ -20,6 +20,7 @@ use Rattle.wait_list.specs.Lists.{waiter_code}
 use Rattle.lock_core.specs.Holding.{released}
 use Rattle.mutex_word.specs.Tries.{FindsUnasked}
 use Rattle.mutex_slow.specs.Mutexes.{V, list_at, owner_at}
+use Rattle.mutex_slow.specs.Stated.{HasWaitLock}
 
 -- how a pass has stood in line
 abbrev pub line_of : MutexHand → Line
@@ -114,9 +115,9 @@ abbrev pub Names : Option Waiter → ℕ → Type 0
 Names None word = word < 2
 Names (Some w) word = (word / 8 ≡ w.task + 1) × (4 ≤ word % 8)
 
--- a step behind the one of this number found the list's first word, which has the code of this waiter or 0; a later one found the task's code in the owner word and ended the hold; and the word that the pass left names the waiter
+-- a step behind the one of this number found the list's first word, which has the code of this waiter or 0; a later one found the task's code in the owner word and ended the hold, and the pass had the wait lock then; and the word that the pass left names the waiter
 abbrev pub NamesFirst : ℕ → Option Waiter → Shown → Shown → Type 0
-NamesFirst begun first v u = ((step n looked : ℕ) × FindsOwnCode step n No v u × (looked < step) × FoundSince v.hand.task begun looked list_at (waiter_code first) v.past u.past) × Names first u.hand.freed
+NamesFirst begun first v u = ((step n looked : ℕ) × (own : FindsOwnCode step n No v u) × HasWaitLock own.2.0.by.seat own.2.0.by.now × (looked < step) × FoundSince v.hand.task begun looked list_at (waiter_code first) v.past u.past) × Names first u.hand.freed
 
 -- it found a handoff asked for; then it took the wait lock; and then it found the first waiter, and named it, or nobody where none waited
 abbrev pub EndsAsked : Shown → Shown → Type 0

@@ -227,6 +227,7 @@ pub enum Released {
 }
 
 /// Exchanges the own code for 0, or the word for its flags alone, unless a handoff is asked for.
+/// The wait lock isn't needed: the word that is left names nobody.
 pub fn release<O: Object, W: Wait>(
     site: &Site<MutexRule<O>>,
     rt: &W,
@@ -236,6 +237,7 @@ pub fn release<O: Object, W: Wait>(
     requires numbered { IsSome (task_in pass.old) }
     requires held { held_in pass.old ≡ Alone }
     requires quiet { (hand_in pass.old).writes ≡ false }
+    requires unspun { SpinRests (view_of pass.old).spin }
     requires outside { IsOutside (view_of pass.old) }
     ensures on { StepsOn site.now pass.old pass.new }
     ensures outside { IsOutside (view_of pass.new) }
