@@ -1,6 +1,6 @@
 //! Pairs on the mutex, with nothing between them and with work inside and outside.
-ghost use Rattle.std.specs.Prelude.{length};
-ghost use Rattle.mutex_slow.specs.Handles.{IsIdle, plan_of};
+ghost use Rattle.std.specs.Prelude.{◌≡◌, ◌+◌, length};
+ghost use Rattle.mutex_slow.specs.Handles.{IsIdle, hand_in, plan_of};
 
 use crate::plan::without_calls;
 use crate::timed::Timed;
@@ -36,8 +36,7 @@ impl Timed for Crewed {
 
     ghost idle = { λ crewed worker. IsIdle crewed.mutex worker.pass };
 
-    // No count of a mutex's pass rises by each take.
-    ghost took = { λ n v u. Unit {0} };
+    ghost took = { λ n v u. (hand_in u.pass).takes ≡ (hand_in v.pass).takes + n };
 
     ghost tasks = { λ crewed. length (plan_of crewed.mutex) };
 
@@ -108,8 +107,7 @@ impl Timed for Guarding {
 
     ghost idle = { λ guarding worker. IsIdle guarding.crewed.mutex worker.pass };
 
-    // No count of a mutex's pass rises by each take.
-    ghost took = { λ n v u. Unit {0} };
+    ghost took = { λ n v u. (hand_in u.pass).takes ≡ (hand_in v.pass).takes + n };
 
     ghost tasks = { λ guarding. length (plan_of guarding.crewed.mutex) };
 

@@ -14,7 +14,7 @@ pub trait Timed: Sized {
     // The worker is one of the lock's, and is in no call.
     ghost idle: { Self → Self.Worker → Type 0 };
 
-    // The worker, first and last, has taken the lock so often between, where the lock counts that.
+    // The worker, first and last, has taken the lock so often between.
     ghost took: { ℕ → Self.Worker → Self.Worker → Type 0 };
 
     // For how many tasks the lock is.

@@ -1,4 +1,4 @@
-use Rattle.std.proofs.Common.{◌≡◌, None, IsSome}
+use Rattle.std.proofs.Common.{◌≡◌, ◌+◌, None, IsSome}
 use Rattle.lock_core.specs.declared.view.Held.TheVariants.{No}
 use Rattle.mutex_slow.specs.Handles.{SitsAt, hand_in}
 use Rattle.lock_bench.proofs.mutex.GuardingTimed.rounds.Given as goal
@@ -10,4 +10,5 @@ invariant-loop g l = record {
   out : (hand_in l.worker.pass).held ≡ No;
   sent : (hand_in l.worker.pass).sent ≡ None;
   consumed : (hand_in l.worker.pass).consumed ≡ 0;
+  takes : (hand_in l.worker.pass).takes ≡ (hand_in l.fn.worker.pass).takes + l.counter;
 }
