@@ -67,6 +67,7 @@ pub fn try_listed<O: Object, W: Wait>(
     requires first { asks ≡ true → (view_of pass.old).ext.first ≡ true }
     ensures on { StepsOn site.now pass.old pass.new }
     ensures listed { IsInLine (view_of pass.new) }
+    ensures first { (view_of pass.new).ext.first ≡ (view_of pass.old).ext.first }
     ensures same { StandsSame (view_of pass.old) (view_of pass.new) }
     ensures took { result ≡ true → TakesAlone O.object site.now pass.old pass.new }
     ensures uncounted { result ≡ true → KeepsMisses pass.old pass.new }

@@ -53,7 +53,8 @@ pub fn spin_outside<O: Object, W: Wait, C: Cpu>(
     unreachable!()
 }
 
-/// Tries of the first waiter, until one takes or the CPU needs rescheduling.
+/// Tries of the first waiter, until one takes or the CPU needs rescheduling. A waiter behind the
+/// first isn't to spin: it would take the mutex from those before it.
 fn spin_listed<O: Object, W: Wait, C: Cpu>(
     site: &Site<MutexRule<O>>,
     rt: &W,
@@ -64,6 +65,7 @@ fn spin_listed<O: Object, W: Wait, C: Cpu>(
     requires numbered { IsSome (task_in pass.old) }
     requires out { held_in pass.old ≡ No }
     requires listed { IsInLine (view_of pass.old) }
+    requires first { (view_of pass.old).ext.first ≡ true }
     ensures on { StepsOn site.now pass.old pass.new }
     ensures listed { IsInLine (view_of pass.new) }
     ensures same { StandsSame (view_of pass.old) (view_of pass.new) }
@@ -85,7 +87,7 @@ fn spin_listed<O: Object, W: Wait, C: Cpu>(
     unreachable!()
 }
 
-/// What a waiter tries that was woken.
+/// What a waiter tries that was woken: once, and again and again where it is the first.
 fn try_awake<O: Object, W: Wait, C: Cpu>(
     site: &Site<MutexRule<O>>,
     rt: &W,
