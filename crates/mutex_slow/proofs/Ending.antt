@@ -31,7 +31,7 @@ pub ends-plain : (v u : V) (p q : List Moment) (task : Option ℕ) → task ≡ 
 ends-plain v u p q task named is found own goes = let same = ap task_code named in let steps = ap (λ (w : V). w.steps) is in let none : u.hand.freed ≡ 0 = ap (λ (w : V). w.hand.freed) is in (
   omega (arith, none),
   (λ _. ap (λ (w : V). w.spin.entries) is),
-  (u.steps, decides v u p q (own_word task) u.hand.freed No (ap (λ (w : V). w.hand.task) is) (ap (λ (w : V). w.hand.held) is) (omega (arith, steps)) own found goes (omega (arith, same)) (omega (arith, none)) (λ step later sooner. absurd (omega (arith, later, sooner, steps)))),
+  (u.steps, (λ _. refl), decides v u p q (own_word task) u.hand.freed No (ap (λ (w : V). w.hand.task) is) (ap (λ (w : V). w.hand.held) is) (omega (arith, steps)) own found goes (omega (arith, same)) (omega (arith, none)) (λ step later sooner. absurd (omega (arith, later, sooner, steps)))),
 )
 
 -- the exchange of the word for its flags, after a look
@@ -41,7 +41,7 @@ ends-flags v w u p r q task m named looked flags left own before goes unasked = 
     let before_it = ap (λ (x : V). x.steps) looked in let steps = ap (λ (x : V). x.steps) is in let freed : u.hand.freed ≡ m = ap (λ (x : V). x.hand.freed) is in (
       omega (arith, few, freed),
       (λ _. ap (λ (x : V). x.spin.entries) is ∙ ap (λ (x : V). x.spin.entries) looked),
-      (u.steps, decides v u p q flags.0 u.hand.freed No (ap (λ (x : V). x.hand.task) is ∙ ap (λ (x : V). x.hand.task) looked) (ap (λ (x : V). x.hand.held) is) (omega (arith, before_it, later, steps)) own flags.1 (λ t e. goes t (before t e)) (omega (arith, mine, same)) (omega (arith, flag, freed)) (behind-look v w p r q task u.steps named looked before unasked)),
+      (u.steps, (λ _. refl), decides v u p q flags.0 u.hand.freed No (ap (λ (x : V). x.hand.task) is ∙ ap (λ (x : V). x.hand.task) looked) (ap (λ (x : V). x.hand.held) is) (omega (arith, before_it, later, steps)) own flags.1 (λ t e. goes t (before t e)) (omega (arith, mine, same)) (omega (arith, flag, freed)) (behind-look v w p r q task u.steps named looked before unasked)),
     )
 
 -- the look that found a handoff asked for
@@ -60,10 +60,10 @@ decides-within step flags held v b u d more after = let f = d.0 in (
   λ s later sooner. let e = d.1 s later sooner in (e.0, found-within refl (λ p t. t) after e.1, e.2),
 )
 
--- a call that ended its hold so goes on; it leaves the wait lock alone where no flag is left
-pub unasked-then : (v b u : Shown) → EndsUnasked v b → u.hand.freed ≡ b.hand.freed → (b.hand.freed ≡ 0 → u.spin.entries ≡ b.spin.entries) → b.steps ≤ u.steps → PastGoesOn b u → EndsUnasked v u
-unasked-then v b u e freed still more after = subst (λ (n : ℕ). (n < 2) × (n ≡ 0 → u.spin.entries ≡ v.spin.entries) × ((step : ℕ) × DecidesAt step n No v u)) (sym freed)
-    (e.0, (λ none. still none ∙ e.1 none), (e.2.0, decides-within e.2.0 b.hand.freed No v b u e.2.1 more after))
+-- a call that ended its hold so goes on; where no flag is left it makes no further step
+pub unasked-then : (v b u : Shown) → EndsUnasked v b → u.hand.freed ≡ b.hand.freed → (b.hand.freed ≡ 0 → (u.spin.entries ≡ b.spin.entries) × (u.steps ≡ b.steps)) → b.steps ≤ u.steps → PastGoesOn b u → EndsUnasked v u
+unasked-then v b u e freed still more after = subst (λ (n : ℕ). (n < 2) × (n ≡ 0 → u.spin.entries ≡ v.spin.entries) × ((step : ℕ) × (n ≡ 0 → u.steps ≡ step) × DecidesAt step n No v u)) (sym freed)
+    (e.0, (λ none. (still none).0 ∙ e.1 none), (e.2.0, (λ none. (still none).1 ∙ e.2.1 none), decides-within e.2.0 b.hand.freed No v b u e.2.2 more after))
 
 pub asked-then : (step : ℕ) (v b u : Shown) → FindsAsked step v b → b.steps ≤ u.steps → PastGoesOn b u → FindsAsked step v u
 asked-then step v b u f more after = (f.0, f.1, f.2, decides-within step f.0 Alone v b u f.3 more after)

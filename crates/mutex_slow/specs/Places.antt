@@ -102,9 +102,9 @@ FindsOwnCode step n held v u = (v.steps < step) × (step ≤ u.steps) × ((f : F
 abbrev pub DecidesAt : (step flags : ℕ) → Held → Shown → Shown → Type 0
 DecidesAt step flags held v u = ((n : ℕ) × FindsOwnCode step n held v u × (n % 8 ≡ flags)) × FindsUnasked v.hand.task owner_at (v.steps + 1) step v.past u.past
 
--- the step that ended the hold found no handoff asked for, and left the flags alone; where it left none, the call didn't go through the wait lock
+-- the step that ended the hold found no handoff asked for, and left the flags alone; where it left none, the call ended with that step, and didn't go through the wait lock
 abbrev pub EndsUnasked : Shown → Shown → Type 0
-EndsUnasked v u = (u.hand.freed < 2) × (u.hand.freed ≡ 0 → u.spin.entries ≡ v.spin.entries) × ((step : ℕ) × DecidesAt step u.hand.freed No v u)
+EndsUnasked v u = (u.hand.freed < 2) × (u.hand.freed ≡ 0 → u.spin.entries ≡ v.spin.entries) × ((step : ℕ) × (u.hand.freed ≡ 0 → u.steps ≡ step) × DecidesAt step u.hand.freed No v u)
 
 -- the call's step of this number found a handoff asked for, and the pass still held
 abbrev pub FindsAsked : ℕ → Shown → Shown → Type 0
