@@ -258,7 +258,7 @@ impl<O: Object> Mutex<O> {
     }
 
     /// Takes the mutex where its word is 0, by one compare-exchange. `Err` has the word, not 0,
-    /// that the exchange saw: one that names a task, or the flag of the waiters alone.
+    /// that the exchange saw. At flags without a task it fails, where `trylock` takes.
     pub fn trylock_once(&self, pass: &mut MutexPass<O>) -> Result<(), u64>
         requires own { SitsAt self.now pass.old }
         requires numbered { IsSome (hand_in pass.old).task }

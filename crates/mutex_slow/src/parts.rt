@@ -134,6 +134,8 @@ pub fn join<O: Object>(site: &Site<MutexRule<O>>, pass: &mut Pass<MutexRule<O>>)
         return;
     };
     if first.task == task {
+        // The flag is set before the waiter tries again: a holder that releases behind this step
+        // sees it and wakes the waiter, and one that released before has left what the try takes.
         set_waiters(site, pass);
     }
 }
@@ -155,6 +157,8 @@ pub fn quit<O: Object>(site: &Site<MutexRule<O>>, pass: &mut Pass<MutexRule<O>>)
     };
     list::remove(site, pass, task);
     if list::first(site, pass).is_none() {
+        // The wait lock is held: a task that joined between the look and this step would sleep
+        // without its flag. One step clears all three, so that no handoff is asked for by nobody.
         clear_flags(site, pass);
     }
 }
