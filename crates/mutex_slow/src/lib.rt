@@ -22,6 +22,8 @@ mod lockers;
 #[cfg(test)]
 mod tests;
 #[cfg(test)]
+mod wake_tests;
+#[cfg(test)]
 mod watched;
 #[cfg(test)]
 mod word_tests;
