@@ -1,13 +1,15 @@
-//! What no clause says: a signal that came before ends a wait for a mutex, and the task leaves the
-//! list.
+//! What no clause says: a signal that came before ends a wait for a mutex before the task sleeps,
+//! and the task leaves the list.
 ghost use Rattle.std.specs.Prelude.{◌≡◌, None};
 ghost use Rattle.mutex_slow.specs.Handles.{hand_in};
 ghost use Rattle.mutex_slow.specs.Standing.{IsReady};
 
 use crate::lockers::NO_TURNS;
+use crate::watched::{Watch, WatchedCrew};
 use crate::{Mutex, MutexPass};
-use cpu_task::{Crew, ScriptedCrew};
+use cpu_task::Crew;
 use lock_core::{Interrupted, Nothing, Plan};
+use std::sync::atomic::Ordering;
 use std::test::Fail;
 use word_bits::{CallWords, MAX_TASKS};
 
@@ -32,7 +34,7 @@ fn send(mutex: &Mutex<Nothing>, pass: &mut MutexPass<Nothing>) -> Option<u32>
 }
 
 #[test]
-fn a_signal_that_came_before_ends_the_wait_and_nobody_waits_then(
+fn a_signal_that_came_before_ends_the_wait_without_a_sleep_and_nobody_waits_then(
     rt: HostRuntime,
 ) -> Result<(), Fail> {
     let mut plan = Plan::new(rt.alloc(), 3)?;
@@ -43,7 +45,8 @@ fn a_signal_that_came_before_ends_the_wait_and_nobody_waits_then(
     mutex.begin(&rt, &mut holder, 0);
     mutex.begin(&rt, &mut waiter, 1);
     mutex.begin(&rt, &mut other, 2);
-    let mut crew = ScriptedCrew::new(rt.alloc(), Vec::new(rt.alloc()), Vec::new(rt.alloc()))?;
+    let watch = Watch::default();
+    let mut crew = WatchedCrew { watch: &watch };
     let mut cpu = crew.cpu(rt.alloc(), 1, NO_TURNS)?;
     assert_eq!(rt; send(&mutex, &mut holder), Some(1));
     assert!(rt; mutex.trylock_once(&mut holder).is_ok());
@@ -51,6 +54,7 @@ fn a_signal_that_came_before_ends_the_wait_and_nobody_waits_then(
         mutex.lock_interruptible(&rt, &mut waiter, &mut cpu, &crew),
         Err(Interrupted { sent: 1, taken: 0 })
     );
+    assert_eq!(rt; watch.sleeps.load(Ordering::SeqCst), 0);
     assert_eq!(rt; mutex.trylock_once(&mut other), Err(8));
     Ok(())
 }
