@@ -12,3 +12,5 @@ pub mod Joining
 pub mod Sitting
 pub mod WriterSteps
 pub mod ReaderSteps
+pub mod BiasHolds
+pub mod Unqueued

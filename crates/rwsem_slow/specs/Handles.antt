@@ -46,6 +46,13 @@ module _ {O C : Type 0} where
   abbrev pub TellsRecord : RwPass O C → (task call word : ℕ) → Type 0
   TellsRecord pass task call word = (r : Rec) → Knows (hand_in pass) (record { task = task; call = call }) r → word ≡ rec_word r
 
+  -- how often it was the front of the spin queue is as it was, and how often it missed
+  abbrev pub KeepsFronts : RwPass O C → RwPass O C → Type 0
+  KeepsFronts old new = (shown_of new).fronts ≡ (shown_of old).fronts
+
+  abbrev pub KeepsMisses : RwPass O C → RwPass O C → Type 0
+  KeepsMisses old new = (hand_in new).misses ≡ (hand_in old).misses
+
   -- the pass is one of the semaphore's, and no call on it is under way
   pub record SitsAt (sem : RwSem O C) (pass : RwPass O C) : Type 0 where
     pub sits : inner.SitsAt sem.site pass.pass

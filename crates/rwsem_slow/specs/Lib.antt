@@ -11,3 +11,5 @@ pub mod Removals
 pub mod Wakes
 pub mod Releasing
 pub mod Queued
+pub mod Stealing
+pub mod Spinning

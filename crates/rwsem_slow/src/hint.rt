@@ -1,5 +1,5 @@
 //! The owner hint: who holds, where a task that has come to hold stored it. No fact rests on it.
-ghost use Rattle.std.specs.Prelude.{◌≡◌, ◌+◌, ◌*◌, ◌<◌};
+ghost use Rattle.std.specs.Prelude.{◌≡◌, ◌↔◌, ◌+◌, ◌*◌, ◌%◌, ◌<◌, IsTrue};
 ghost use Rattle.lock_core.specs.Handles.{IsLatest, view_of, SitsAt, KeepsPast, SaysSame};
 ghost use Rattle.lock_core.specs.Views.{ticked};
 ghost use Rattle.rwsem_slow.specs.Plays.{Ticks};
@@ -12,7 +12,7 @@ use lock_core::{Op, Pass, SPIN_ROOM, Site};
 use word_bits::{MAX_TASKS, Object};
 
 /// The place of the hint among the words of the locks.
-const HINT: usize = SPIN_ROOM + 8;
+pub const HINT: usize = SPIN_ROOM + 8;
 
 /// The hint that nobody holds.
 pub const NOBODY: u64 = 0;
@@ -33,6 +33,13 @@ pub fn reader_hint(task: u32) -> u64
     writer_hint(task) + 1
 }
 
+/// Whether the hint says that readers hold. The kernel's `is_rwsem_reader_owned`.
+pub fn is_reader_hint(hint: u64) -> bool
+    ensures { IsTrue result ↔ (hint % 8 ≡ 1) }
+{
+    hint % 8 == 1
+}
+
 struct StoreHint;
 
 impl Play<(), View<RwSemHand>> for StoreHint {
@@ -49,4 +56,22 @@ pub fn set_hint<O: Object>(site: &Site<SemRule<O>>, pass: &mut Pass<SemRule<O>>,
     ensures kept { view_of pass.new ≡ ticked (view_of pass.old) }
 {
     site.step::<StoreHint>(pass, HINT, Op::Store(hint));
+}
+
+struct LookHint;
+
+impl Play<(), View<RwSemHand>> for LookHint {
+    ghost then = { Ticks };
+}
+
+/// Loads the hint. Answers whether it says that readers hold.
+pub fn is_reader_owned<O: Object>(site: &Site<SemRule<O>>, pass: &mut Pass<SemRule<O>>) -> bool
+    requires own { SitsAt site.now pass.old }
+    ensures own { SitsAt site.now pass.new }
+    ensures goes_on { KeepsPast pass.old pass.new }
+    ensures last { IsLatest pass.new }
+    ensures face { SaysSame pass.old pass.new }
+    ensures kept { view_of pass.new ≡ ticked (view_of pass.old) }
+{
+    is_reader_hint(site.step::<LookHint>(pass, HINT, Op::Load))
 }

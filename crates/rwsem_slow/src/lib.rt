@@ -8,6 +8,8 @@ mod reading;
 mod releasing;
 mod removal;
 mod rule;
+mod spinning;
+mod stealing;
 mod view;
 mod waking;
 mod write_path;

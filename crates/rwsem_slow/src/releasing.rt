@@ -21,7 +21,7 @@ use std::sync::Wait;
 use word_bits::Object;
 
 /// Whether the count says that tasks wait.
-fn has_waiters(count: u64) -> bool
+pub fn has_waiters(count: u64) -> bool
     ensures { IsTrue result ↔ wakes_alone semaphore count }
 {
     count / WAITERS % 2 == 1
@@ -35,7 +35,7 @@ fn is_left_to_waiters(count: u64) -> bool
 }
 
 /// Takes the wait lock, and wakes waiters. The kernel's `rwsem_wake` and `rwsem_downgrade_wake`.
-fn wake_waiters<O: Object, W: Wait, C: Crew>(
+pub fn wake_waiters<O: Object, W: Wait, C: Crew>(
     site: &Site<SemRule<O>>,
     rt: &W,
     pass: &mut Pass<SemRule<O>>,

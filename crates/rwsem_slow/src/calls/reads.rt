@@ -8,7 +8,7 @@ ghost use Rattle.rwsem_slow.specs.Handles.{shown_of, hand_in, SitsAt, TakesShare
 
 use super::{RwPass, RwSem};
 use crate::hint::{reader_hint, set_hint};
-use crate::read_path::read_in_line;
+use crate::stealing::read_slowly;
 use cpu_task::Crew;
 use lock_core::How;
 use rwsem_count::steps;
@@ -42,7 +42,7 @@ impl<O: Object> RwSem<O> {
         how
     }
 
-    /// Takes it by one addition, or by way of the wait lock.
+    /// Takes it by one addition, at once or beside waiters, or by way of the wait lock.
     fn take_shared<W: Wait, C: Crew>(
         &self,
         rt: &W,
@@ -59,10 +59,10 @@ impl<O: Object> RwSem<O> {
         ensures how { Got result (shown_of pass.old) (shown_of pass.new) }
         ensures line { KeepsPlace semaphore true (shown_of pass.old) (shown_of pass.new) }
     {
-        let Err(_) = steps::read_add(&self.site, &mut pass.pass) else {
+        let Err(left) = steps::read_add(&self.site, &mut pass.pass) else {
             return How::Fast;
         };
-        read_in_line(&self.site, rt, &mut pass.pass, cpu, crew)
+        read_slowly(&self.site, rt, &mut pass.pass, cpu, crew, left)
     }
 
     /// Stores the hint that readers have it, of which the pass's task is one.

@@ -1,15 +1,17 @@
 //! The calls that take a semaphore alone.
-ghost use Rattle.std.specs.Prelude.{◌≡◌, Bool, IsSome};
+ghost use Rattle.std.specs.Prelude.{◌≡◌, ◌+◌, Bool, true, false, IsSome};
 ghost use Rattle.lock_core.specs.declared.view.Held.TheVariants.{No};
 ghost use Rattle.lock_core.specs.Kinds.{semaphore};
 ghost use Rattle.lock_core.specs.Locking.{Got, KeepsPlace, Looks};
 ghost use Rattle.lock_core.specs.Shown.{PastGoesOn};
-ghost use Rattle.rwsem_slow.specs.Handles.{shown_of, hand_in, SitsAt, TakesAlone};
+ghost use Rattle.rwsem_slow.specs.Handles.{shown_of, hand_in, KeepsFronts, KeepsMisses, SitsAt, TakesAlone};
+ghost use Rattle.rwsem_slow.specs.Spinning.{OnlyTried};
 
 use super::{RwPass, RwSem};
-use crate::hint::{set_hint, writer_hint};
+use crate::hint::{is_reader_owned, set_hint, writer_hint};
+use crate::spinning;
 use crate::write_path::write_in_line;
-use cpu_task::Crew;
+use cpu_task::{Cpu, Crew};
 use lock_core::How;
 use rwsem_count::steps;
 use std::sync::Wait;
@@ -39,7 +41,41 @@ impl<O: Object> RwSem<O> {
         how
     }
 
-    /// Takes it by one exchange, or by way of the list.
+    /// Spins in the queue of those that do, and as its front until a try takes, readers hold by the
+    /// owner hint, or the CPU needs rescheduling. The kernel's `rwsem_can_spin_on_owner` and
+    /// `rwsem_optimistic_spin`.
+    fn spin<W: Wait, C: Cpu>(&self, rt: &W, pass: &mut RwPass<O>, cpu: &mut C) -> bool
+        requires own { SitsAt self.now pass.old }
+        requires numbered { IsSome (hand_in pass.old).task }
+        requires out { (hand_in pass.old).held ≡ No }
+        ensures own { SitsAt self.now pass.new }
+        ensures goes_on { PastGoesOn (shown_of pass.old) (shown_of pass.new) }
+        ensures numbered { (hand_in pass.new).task ≡ (hand_in pass.old).task }
+        ensures line { (shown_of pass.new).line ≡ (shown_of pass.old).line }
+        ensures took { result ≡ true → TakesAlone O.object self.now pass.old pass.new }
+        ensures front { result ≡ true →
+            ((shown_of pass.new).fronts ≡ (shown_of pass.old).fronts + 1) }
+        ensures missed { result ≡ false → OnlyTried (shown_of pass.old) (shown_of pass.new) }
+        ensures out { result ≡ false → (hand_in pass.new).held ≡ No }
+        ensures stood { result ≡ false → KeepsFronts pass.old pass.new →
+            KeepsMisses pass.old pass.new }
+    {
+        if cpu.need_resched() {
+            return false;
+        }
+        if is_reader_owned(&self.site, &mut pass.pass) {
+            return false;
+        }
+        // One spinner at a time tries: the others spin on words of their own.
+        if !osq_unqueue::lock(&self.osq, rt, &mut pass.queue, cpu) {
+            return false;
+        }
+        let took = spinning::spin(&self.site, rt, &mut pass.pass, &pass.queue, cpu);
+        self.osq.unlock(rt, &mut pass.queue);
+        took
+    }
+
+    /// Takes it by one exchange, as a spinner, or by way of the list.
     fn take_alone<W: Wait, C: Crew>(
         &self,
         rt: &W,
@@ -60,6 +96,9 @@ impl<O: Object> RwSem<O> {
         let Err(_) = steps::write_try(&self.site, &mut pass.pass) else {
             return How::Fast;
         };
+        if self.spin(rt, pass, cpu) {
+            return How::Spun;
+        }
         write_in_line(&self.site, rt, &mut pass.pass, cpu, crew);
         How::Slept
     }

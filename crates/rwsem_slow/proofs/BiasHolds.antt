@@ -1,0 +1,189 @@
+-- A reader that comes to hold by the bias that its first addition left in the count.
+use Rattle.std.proofs.Common.{◌≡◌, ◌≢◌, ◌∙◌, ℕ, ◌+◌, ◌-◌, ◌/◌, ◌%◌, ◌^◌, ◌<◌, ◌≤◌, ◌⊎◌, inl, inr, true, false, List, map, take, get_or, set, Option, Some, None, sym, refl, ap, subst, arith}
+use mathlib.Core.Option.{some}
+use mathlib.Core.Logic.{dite}
+use native.Mathlib.Decide.{ℕ_discrete, dec_le}
+use lib.ListN.{get_elem?}
+use lib.Seq.{set-get_or}
+use Rattle.atomic_table.specs.Table.{Me, keeps}
+use Rattle.atomic_table.proofs.Lists.{at_map}
+use Rattle.word_bits.specs.LockWords.{counted}
+use Rattle.word_bits.specs.Objects.{Obj}
+use Rattle.word_bits.specs.Histories.{Plan}
+use Rattle.lock_core.specs.declared.how.How.{How}
+use Rattle.lock_core.specs.declared.how.How.TheVariants.{Fast, Spun, Slept}
+use Rattle.lock_core.specs.declared.op.Op.TheVariants.{Load}
+use Rattle.lock_core.specs.declared.view.Hand.{Hand}
+use Rattle.lock_core.specs.declared.view.Moment.{Moment}
+use Rattle.lock_core.specs.declared.view.Held.TheVariants.{No, Shared, Alone}
+use Rattle.lock_core.specs.Holding.{Learns, missed}
+use Rattle.lock_core.specs.Kinds.{lets_in, semaphore}
+use Rattle.lock_core.specs.Layout.{site}
+use Rattle.lock_core.specs.Locking.{Begins, Got, IsLetIn, IsStored, KeepsPlace, Takes}
+use Rattle.lock_core.specs.Moves.{Goes, Lets}
+use Rattle.lock_core.specs.Shown.{Shown, shown}
+use Rattle.lock_core.specs.Sites.{SiteKept}
+use Rattle.lock_core.specs.Totals.{total, total-at}
+use Rattle.lock_core.specs.Views.{alone_of, hand_of, ticked, took}
+use Rattle.lock_core.proofs.HandLaws.{false-or-true, no-alone}
+use Rattle.lock_core.proofs.HoldSteps.{quiet-state, site-takes}
+use Rattle.lock_core.proofs.RowLaws.{none-some}
+use Rattle.rwsem_count.specs.declared.view.Bias.TheVariants.{Clear, Transit}
+use Rattle.rwsem_count.specs.Counts.{CountKept, CountPart, count_part, early_in, early_weight, part}
+use Rattle.rwsem_count.specs.CountLaws.{count-keeps}
+use Rattle.rwsem_count.specs.Tries.{IsTransit}
+use Rattle.rwsem_count.proofs.Counting.{alone-parts, its-plan}
+use Rattle.rwsem_wake.specs.declared.view.SemHand.{SemHand}
+use Rattle.rwsem_wake.specs.declared.view.Wait.TheVariants.{Apart}
+use Rattle.rwsem_wake.specs.Grants.{semmed}
+use Rattle.rwsem_wake.specs.Queues.{HoldsBy}
+use Rattle.rwsem_wake.proofs.Holding.{shared-holds}
+use Rattle.rwsem_slow.specs.CountHosting.{sem-count, sem-counted}
+use Rattle.rwsem_slow.specs.Places.{IsOutside, line_of}
+use Rattle.rwsem_slow.specs.Queued.{IsInTransit, KeepsLine, Shares, WentInLine, WentThroughLine}
+use Rattle.rwsem_slow.specs.RwSemLaws.{sem-hints}
+use Rattle.rwsem_slow.specs.RwSems.{V, Kept, RwSemMoves, bias_of, biased, count_at, count_in, hint_at, more_in, with_sem}
+use Rattle.rwsem_slow.specs.Stealing.{IsShared, MaySteal, StealsBy, WentOn, left_by}
+
+-- it may, or it may not
+may-or-not : (left hint : ℕ) {P : Type 0} → (MaySteal left hint → P) → ((MaySteal left hint → ⊥) → P) → P
+may-or-not left hint may not = dite (ℕ_discrete (left % 2) 0)
+    (λ even. dite (ℕ_discrete (left / 4 % 2) 0)
+    (λ clear. dite (ℕ_discrete (hint % 8) 1)
+    (λ owned. elim (dec_le 2 (left % 2 ^ 63 / 256)) [ yes more ↦ not (λ m. m.1 (owned, omega (arith, more))) | no few ↦ may ((even, clear), λ s. let x = s.1 in few (omega (arith, x))) ])
+    (λ other. may ((even, clear), λ s. other s.0)))
+    (λ set_it. not (λ m. set_it m.0.1)))
+    (λ odd. not (λ m. odd m.0.0))
+
+module _ {Call : Type 0} (o : Obj Call) (size : ℕ) (k : Plan) where
+  abbrev Place : List ℕ → List V → Type 0
+  Place = Kept o size k
+
+  -- the look, after which it holds where it may
+  pub steals : (slots id t word : ℕ) (me : Me (Unit {0}) V) → me.0.hand.task ≡ Some t → me.0.hand.held ≡ No → me.0.ext.sem.wait ≡ Apart → me.0.ext.sem.bias ≡ Transit word → Lets Place (RwSemMoves k) slots id me hint_at Load (StealsBy o me)
+  steals slots id t word me has out wait transit st h _ at small = let v : V = me.0 in let ws : List ℕ = st.words in let vs : List V = st.views in let hint : ℕ = get_or ws hint_at 0 in let left : left_by v.ext.sem.bias ≡ word + 256 = ap left_by transit in may-or-not (left_by v.ext.sem.bias) hint
+      (λ may. let open_it = subst (lets_in semaphore) left may.0 in let even : word % 2 ≡ 0 = (let e = open_it.0 in omega (arith, e)) in let clear : word / 4 % 2 ≡ 0 = (let e = open_it.1 in omega (arith, e)) in
+      let r = h.1.site_holds in let hs : List Hand = map hand_of vs in let ps : List CountPart = map (count_part bias_of) vs in let n : ℕ = count_in ws in let mine = at_map hand_of vs id v at in let mine' = at_map (count_part bias_of) vs id v at in
+      let c = (sem-count o size k ws vs h).0 in let early : early_in (count_part bias_of v) ≡ 1 - word % 2 = ap early_weight transit in let F = total-at early_in ps id (count_part bias_of v) mine' in
+      let none : n % 2 ≡ 0 = elim (dec_le 1 (n % 2)) [ yes l ↦ (let a = c.apart (omega (arith, l)) in absurd (omega (arith, a, early, even, F))) | no l ↦ omega (arith, l) ] in
+      let wr = c.writer in let alones = alone-parts bias_of vs in let none_alone : total alone_of hs ≡ 0 = omega (arith, alones, wr, none) in
+      let g : Hand = took v.hand Shared (take size (site k ws).guarded) r.log in let ok = r.each id v.hand mine in (
+        semmed with_sem v g (record v.ext.sem { bias = Clear }),
+        keeps,
+        tt,
+        subst (λ (z : List ℕ). Goes Place (RwSemMoves k) id ws vs z (set vs id (semmed with_sem v g (record v.ext.sem { bias = Clear })))) (set-get_or ws count_at 0 ∙ sym (set-get_or ws hint_at 0))
+            (sem-counted o size k ws vs id n v g Clear h at record { numbered = λ e. none-some t (sym e ∙ has); task = refl; goes = record { misses = omega arith; freed = λ e. refl; takes = omega arith; comes = λ _ _. omega arith }; left = λ held. absurd (held out) }
+            (wait, omega arith, refl)
+            record { flags = refl; writer = λ x y. absurd (omega (arith, x, y)); reader = λ _. inr (inr (inl (word, transit, clear))) }
+            (count-keeps ps id (count_part bias_of v) (part g Clear) mine' n word (more_in k ws vs) c (inr even) out transit refl refl)
+            (site-takes o counted size k (site k ws) hs id t v.hand Shared r mine out has (λ e. shared-holds e) (λ l. absurd (omega (arith, l))) none_alone)),
+        refl,
+        (
+          (λ _. (take size (site k ws).guarded, r.log, (λ p plan. subst (λ (z : Plan). Learns o z v.hand (take size (site k ws).guarded) r.log) (its-plan k p v.hand.plan ok.plan plan) record { stored = quiet-state o counted size k (site k ws) hs r none_alone; within = r.tells.within; begins = ok.seen }), (refl, refl))),
+          λ not. absurd (not may),
+        ),
+      ))
+      (λ not. (ticked v, keeps, tt, sem-hints o size k ws vs id hint v h at, refl, ((λ may. absurd (not may)), λ _. (refl, refl))))
+
+-- it holds by its bias, and waits for nothing
+pub stolen : {Call : Type 0} (o : Obj Call) (k : Plan) (v u : V) → IsInTransit v → HoldsBy with_sem o k Shared (record v.ext.sem { bias = Clear }) v u → Shares o k v u
+stolen o k v u t h = let view = h.3 in let steps = ap (λ (z : V). z.steps) view in let entries = ap (λ (z : V). z.spin.entries) view in record {
+  known = h.0;
+  log = h.1;
+  learns = h.2;
+  keeps = record { later = omega (arith, steps); entries = omega (arith, entries); fronts = ap (λ (z : V). z.fronts) view; appends = ap (λ (z : V). z.ext.appends) view };
+  hand = ap (λ (z : V). z.hand) view;
+  sem = ap (λ (z : V). z.ext.sem) view ∙ ap (λ (s : SemHand). record s { bias = Clear }) t.0.1;
+  still = ap (λ (z : V). z.ext.list.changes) view ∙ t.1;
+}
+
+-- a look at the hint leaves it in transit
+pub still-transit : (v u : V) → u ≡ ticked v → IsInTransit v → IsInTransit u
+still-transit v u is t = subst IsInTransit (sym is) (t.0, t.1)
+
+-- from where its bias came to hold, and on through the wait lock or not
+module _ {Call : Type 0} (o : Obj Call) (k : Plan) (v m u : V) (p q : List Moment) (shares : Shares o k v m) (hand : u.hand ≡ m.hand) (on : KeepsLine m u) where
+  taken : u.hand ≡ took v.hand Shared shares.known shares.log
+  taken = hand ∙ shares.hand
+
+  pub shares-takes : v.hand.held ≡ No → (v.hand.writes ≡ true → v.hand.held ≡ Alone) → Takes o k Shared (shown line_of v.fronts v p) (shown line_of u.fronts u q)
+  shares-takes out writer = let a = shares.keeps.later in let b = on.later in let c = shares.keeps.entries in let d = on.entries in let e = shares.keeps.fronts in let f = on.fronts in let g = shares.keeps.appends in let l = on.appends in let misses = ap (λ (h : Hand). h.misses) taken in record {
+    keeps = record {
+      task = ap (λ (h : Hand). h.task) taken;
+      done = ap (λ (h : Hand). h.done) taken;
+      seen = ap (λ (h : Hand). h.seen) taken;
+      records = ap (λ (h : Hand). h.records) taken;
+      sent = ap (λ (h : Hand). h.sent) taken;
+      last = ap (λ (h : Hand). h.last) taken;
+      counts = record { steps = omega (arith, a, b); misses = omega (arith, misses); entries = omega (arith, c, d); fronts = omega (arith, e, f); appends = omega (arith, g, l) };
+    };
+    consumed = ap (λ (h : Hand). h.consumed) taken;
+    holds = ap (λ (h : Hand). h.held) taken;
+    quiet = ap (λ (h : Hand). h.writes) taken ∙ false-or-true v.hand.writes (λ t. no-alone (sym out ∙ writer t)) (λ f. f);
+    stored = subst (λ (h : Hand). IsStored o k h) (sym taken) shares.learns.stored;
+    begins = subst (λ (h : Hand). Begins v.hand h.log) (sym taken) shares.learns.begins;
+    takes = ap (λ (h : Hand). h.takes) taken;
+    freed = ap (λ (h : Hand). h.freed) taken;
+  }
+
+  pub shares-on : (left : ℕ) → lets_in semaphore left → WentOn left Spun v u
+  shares-on left open_it = let e = shares.keeps.fronts in let f = on.fronts in let g = shares.keeps.appends in let l = on.appends in (inr (open_it, ap (λ (h : Hand). h.saw) taken), f ∙ e, ap (λ (h : Hand). h.misses) taken, l ∙ g)
+
+-- after a look that didn't let it hold, by way of the wait lock
+pub line-on : (left : ℕ) (how : How) (v m u : V) → m ≡ ticked v → WentThroughLine how m u → WentOn left how v u
+line-on left how v m u is went = go how (subst (λ (z : V). WentThroughLine how z u) is went)
+  where
+    go : (x : How) → WentThroughLine x (ticked v) u → WentOn left x v u
+    go Fast w = w
+    go Spun w = (inl w.0, w.1, w.2, w.3)
+    go Slept w = record { entries = w.entries; fronts = w.fronts; misses = w.misses; appends = w.appends }
+
+-- what the whole call shows, from its addition on
+module _ (fronts left : ℕ) (how : How) (v m u : V) (p q : List Moment) (t : IsTransit biased v left m) (on : WentOn left how m u) where
+  abbrev Before : Shown
+  Before = shown line_of fronts v p
+
+  abbrev After : Shown
+  After = shown line_of fronts u q
+
+  once : m.hand.misses ≡ v.hand.misses + 1
+  once = ap (λ (z : V). z.hand.misses) t.3
+
+  same_entries : m.spin.entries ≡ v.spin.entries
+  same_entries = ap (λ (z : V). z.spin.entries) t.3
+
+  same_appends : m.ext.appends ≡ v.ext.appends
+  same_appends = ap (λ (z : V). z.ext.appends) t.3
+
+  pub went-got : Got how Before After
+  went-got = go how on
+    where
+      go : (x : How) → WentOn left x m u → Got x Before After
+      go Fast w = absurd w
+      go Spun w = let a = w.2 in let b = once in (omega (arith, a, b), ap (λ (n : ℕ). record { appends = n }) (w.3 ∙ same_appends))
+      go Slept w = let a = w.appends in let b = same_appends in omega (arith, a, b)
+
+  let-in : lets_in semaphore left → u.hand.saw ≡ m.hand.saw → u.hand.misses ≡ m.hand.misses → IsLetIn semaphore Before After
+  let-in open_it saw misses = let steps = ap (λ (z : V). z.steps) t.3 in let is = t.1 in let a = open_it.0 in let b = open_it.1 in record {
+    once = misses ∙ once;
+    saw = record { word = t.0; step = v.steps + 1 };
+    is = saw ∙ ap (λ (z : V). z.hand.saw) t.3;
+    since = omega arith;
+    opens = (omega (arith, is, a), omega (arith, is, b));
+  }
+
+  few-misses : (x : How) → WentOn left x m u → u.hand.misses ≡ m.hand.misses
+  few-misses Fast w = absurd w
+  few-misses Spun w = w.2
+  few-misses Slept w = w.misses
+
+  pub went-place : KeepsPlace semaphore true Before After
+  went-place = record {
+    queues = λ _ _. go how on;
+    few = λ _. let a = few-misses how on in let b = once in omega (arith, a, b);
+  }
+    where
+      go : (x : How) → WentOn left x m u → (v.spin.entries < u.spin.entries) ⊎ ((true ≡ true) × IsLetIn semaphore Before After)
+      go Fast w = absurd w
+      go Spun w = let e = same_entries in elim w.0 [ inl entered ↦ inl (omega (arith, entered, e)) | inr open_it ↦ inr (refl, let-in open_it.0 open_it.1 w.2) ]
+      go Slept w = let a = w.entries in let e = same_entries in inl (omega (arith, a, e))

@@ -1,0 +1,14 @@
+use Rattle.std.proofs.Common.{◌∙◌}
+use Rattle.rwsem_slow.proofs.Unqueued.{unqueued-again}
+use Rattle.rwsem_slow.proofs.spinning.try_unqueued.Goals as goal
+
+pub loop-preserved : goal.loop-preserved
+loop-preserved g c = let on = c.if-found-word.false in (
+  tt,
+  tt,
+  c.take-found.ensures.own,
+  c.take-found.ensures.face on ∙ c.loop.invariant.3,
+  (λ p t. c.take-found.ensures.goes_on p (c.loop.invariant.4 p t)),
+  c.take-found.ensures.last,
+  unqueued-again c.args.pass.now.seat.me.0.view c.loop.pass.seat.me.0.view c.take-found.new.pass.seat.me.0.view c.loop.word c.take-found.result c.loop.invariant.6 (c.is_unlocked.ensures.0 c.if-not-is_unlocked.false) (c.take-found.ensures.saw on),
+)

@@ -1,0 +1,144 @@
+//! A reader that comes to hold by the bias that its first addition left in the count, though tasks
+//! wait.
+ghost use Rattle.std.specs.Prelude.{◌≡◌, ◌↔◌, ◌≤◌, true, false, IsSome, IsTrue};
+ghost use Rattle.lock_core.specs.declared.view.Held.TheVariants.{No, Shared};
+ghost use Rattle.lock_core.specs.Handles.{plan_of, view_of, task_in, held_in, SitsAt, KeepsPast, SaysSame};
+ghost use Rattle.lock_core.specs.Kinds.{lets_in, semaphore};
+ghost use Rattle.lock_core.specs.Locking.{Takes};
+ghost use Rattle.lock_core.specs.Views.{SpinRests, ticked};
+ghost use Rattle.rwsem_slow.specs.Places.{IsOutside, StepsOn, seen_of};
+ghost use Rattle.rwsem_slow.specs.Queued.{IsInTransit, KeepsLine, Shares};
+ghost use Rattle.rwsem_slow.specs.Stealing.{IsShared, MaySteal, StealsBy, WentOn, left_by};
+ghost use Rattle.rwsem_slow.specs.Wakes.{MayWake};
+
+use crate::hint::{HINT, is_reader_hint};
+use crate::read_path::read_in_line;
+use crate::releasing::{has_waiters, wake_waiters};
+use crate::rule::SemRule;
+use crate::view::RwSemHand;
+use crate::waking::WakeType;
+use atomic_table::Play;
+use cpu_task::{Cpu, Crew};
+use lock_core::view::View;
+use lock_core::{Held, How, Op, Pass, Site};
+use rwsem_count::{BIAS, HANDOFF, READ_FAIL};
+use std::marker::PhantomData;
+use std::sync::Wait;
+use word_bits::Object;
+
+struct LookOwner<O> {
+    object: PhantomData<O>,
+}
+
+impl<O: Object> Play<(), View<RwSemHand>> for LookOwner<O> {
+    ghost then = { λ st m. StealsBy O.object m };
+}
+
+/// Whether the count has neither a writer nor HANDOFF.
+fn is_open(left: u64) -> bool
+    ensures { IsTrue result ↔ lets_in semaphore left }
+{
+    left % 2 == 0 && left / HANDOFF % 2 == 0
+}
+
+/// Whether readers are said to hold, beside which this count has one more.
+fn is_shared(left: u64, hint: u64) -> bool
+    ensures { IsTrue result ↔ IsShared left hint }
+{
+    is_reader_hint(hint) && left % READ_FAIL / BIAS > 1
+}
+
+/// Whether a reader whose addition left this count may hold by its bias where the hint is so.
+fn may_steal(left: u64, hint: u64) -> bool
+    ensures { IsTrue result ↔ MaySteal left hint }
+{
+    // Readers that come one after another beside those that hold would keep a waiting writer out
+    // for good.
+    if is_shared(left, hint) {
+        return false;
+    }
+    is_open(left)
+}
+
+/// Loads the owner hint. Where it and the count that the reader's own addition left let it, the
+/// reader holds. The kernel's `rwsem_down_read_slowpath`, where it steals.
+fn steal<O: Object>(site: &Site<SemRule<O>>, pass: &mut Pass<SemRule<O>>, left: u64) -> bool
+    requires own { SitsAt site.now pass.old }
+    requires numbered { IsSome (task_in pass.old) }
+    requires out { held_in pass.old ≡ No }
+    requires transit { IsInTransit (view_of pass.old) }
+    requires left { left ≡ left_by (view_of pass.old).ext.sem.bias }
+    ensures own { SitsAt site.now pass.new }
+    ensures goes_on { KeepsPast pass.old pass.new }
+    ensures task { task_in pass.new ≡ task_in pass.old }
+    ensures took { result ≡ true →
+        Shares O.object (plan_of site.now) (view_of pass.old) (view_of pass.new) }
+    ensures let_in { result ≡ true → lets_in semaphore left }
+    ensures spin { (view_of pass.new).spin ≡ (view_of pass.old).spin }
+    ensures face { result ≡ false → SaysSame pass.old pass.new }
+    ensures missed { result ≡ false → view_of pass.new ≡ ticked (view_of pass.old) }
+{
+    // The bias came where there was neither a writer nor HANDOFF, and has kept writers out since:
+    // the reader takes nothing that the first waiter was to have.
+    let hint = site.step::<LookOwner<O>>(pass, HINT, Op::Load);
+    if may_steal(left, hint) {
+        pass.set_held(Held::Shared);
+        return true;
+    }
+    false
+}
+
+/// Wakes the readers that wait, where the pass's own is the only bias of this count.
+fn wake_beside<O: Object, W: Wait, K: Crew>(
+    site: &Site<SemRule<O>>,
+    rt: &W,
+    pass: &mut Pass<SemRule<O>>,
+    crew: &K,
+    left: u64,
+)
+    requires own { SitsAt site.now pass.old }
+    requires numbered { IsSome (task_in pass.old) }
+    requires unspun { SpinRests (view_of pass.old).spin }
+    requires outside { IsOutside (view_of pass.old) }
+    requires may { MayWake WakeType.ReadOwned (view_of pass.old) }
+    ensures on { StepsOn site.now pass.old pass.new }
+    ensures unspun { SpinRests (view_of pass.new).spin }
+    ensures outside { IsOutside (view_of pass.new) }
+    ensures hand { (view_of pass.new).hand ≡ (view_of pass.old).hand }
+    ensures keeps { KeepsLine (view_of pass.old) (view_of pass.new) }
+{
+    // Readers that wait may share the hold. The first reader alone lets them in: those that come
+    // later find them there.
+    if left % READ_FAIL / BIAS == 1 && has_waiters(left) {
+        wake_waiters(site, rt, pass, crew, WakeType::ReadOwned);
+    }
+}
+
+/// Takes the semaphore shared, for a reader whose addition left this count, which didn't let it in
+/// at once. The kernel's `rwsem_down_read_slowpath`.
+pub fn read_slowly<O: Object, W: Wait, C: Cpu, K: Crew>(
+    site: &Site<SemRule<O>>,
+    rt: &W,
+    pass: &mut Pass<SemRule<O>>,
+    cpu: &mut C,
+    crew: &K,
+    left: u64,
+) -> How
+    requires own { SitsAt site.now pass.old }
+    requires numbered { IsSome (task_in pass.old) }
+    requires out { held_in pass.old ≡ No }
+    requires unspun { SpinRests (view_of pass.old).spin }
+    requires transit { IsInTransit (view_of pass.old) }
+    requires left { left ≡ left_by (view_of pass.old).ext.sem.bias }
+    ensures on { StepsOn site.now pass.old pass.new }
+    ensures unspun { SpinRests (view_of pass.new).spin }
+    ensures outside { IsOutside (view_of pass.new) }
+    ensures took { Takes O.object (plan_of site.now) Shared (seen_of pass.old) (seen_of pass.new) }
+    ensures line { WentOn left result (view_of pass.old) (view_of pass.new) }
+{
+    if steal(site, pass, left) {
+        wake_beside(site, rt, pass, crew, left);
+        return How::Spun;
+    }
+    read_in_line(site, rt, pass, cpu, crew)
+}
