@@ -1,9 +1,7 @@
 -- A reader that comes to hold by the bias that its first addition left in the count.
-use Rattle.std.proofs.Common.{◌≡◌, ◌≢◌, ◌∙◌, ℕ, ◌+◌, ◌-◌, ◌/◌, ◌%◌, ◌^◌, ◌<◌, ◌≤◌, ◌⊎◌, inl, inr, true, false, List, map, take, get_or, set, Option, Some, None, sym, refl, ap, subst, arith}
-use mathlib.Core.Option.{some}
+use Rattle.std.proofs.Common.{◌≡◌, ◌∙◌, ℕ, ◌+◌, ◌-◌, ◌/◌, ◌%◌, ◌^◌, ◌<◌, ◌⊎◌, inl, inr, true, List, map, take, get_or, set, Some, sym, refl, ap, subst, arith}
 use mathlib.Core.Logic.{dite}
 use native.Mathlib.Decide.{ℕ_discrete, dec_le}
-use lib.ListN.{get_elem?}
 use lib.Seq.{set-get_or}
 use Rattle.atomic_table.specs.Table.{Me, keeps}
 use Rattle.atomic_table.proofs.Lists.{at_map}
@@ -16,20 +14,19 @@ use Rattle.lock_core.specs.declared.op.Op.TheVariants.{Load}
 use Rattle.lock_core.specs.declared.view.Hand.{Hand}
 use Rattle.lock_core.specs.declared.view.Moment.{Moment}
 use Rattle.lock_core.specs.declared.view.Held.TheVariants.{No, Shared, Alone}
-use Rattle.lock_core.specs.Holding.{Learns, missed}
+use Rattle.lock_core.specs.Holding.{Learns}
 use Rattle.lock_core.specs.Kinds.{lets_in, semaphore}
 use Rattle.lock_core.specs.Layout.{site}
 use Rattle.lock_core.specs.Locking.{Begins, Got, IsLetIn, IsStored, KeepsPlace, Takes}
 use Rattle.lock_core.specs.Moves.{Goes, Lets}
 use Rattle.lock_core.specs.Shown.{Shown, shown}
-use Rattle.lock_core.specs.Sites.{SiteKept}
 use Rattle.lock_core.specs.Totals.{total, total-at}
 use Rattle.lock_core.specs.Views.{alone_of, hand_of, ticked, took}
 use Rattle.lock_core.proofs.HandLaws.{false-or-true, no-alone}
 use Rattle.lock_core.proofs.HoldSteps.{quiet-state, site-takes}
 use Rattle.lock_core.proofs.RowLaws.{none-some}
 use Rattle.rwsem_count.specs.declared.view.Bias.TheVariants.{Clear, Transit}
-use Rattle.rwsem_count.specs.Counts.{CountKept, CountPart, count_part, early_in, early_weight, part}
+use Rattle.rwsem_count.specs.Counts.{CountPart, count_part, early_in, early_weight, part}
 use Rattle.rwsem_count.specs.CountLaws.{count-keeps}
 use Rattle.rwsem_count.specs.Tries.{IsTransit}
 use Rattle.rwsem_count.proofs.Counting.{alone-parts, its-plan}
@@ -39,11 +36,11 @@ use Rattle.rwsem_wake.specs.Grants.{semmed}
 use Rattle.rwsem_wake.specs.Queues.{HoldsBy}
 use Rattle.rwsem_wake.proofs.Holding.{shared-holds}
 use Rattle.rwsem_slow.specs.CountHosting.{sem-count, sem-counted}
-use Rattle.rwsem_slow.specs.Places.{IsOutside, line_of}
-use Rattle.rwsem_slow.specs.Queued.{IsInTransit, KeepsLine, Shares, WentInLine, WentThroughLine}
+use Rattle.rwsem_slow.specs.Places.{line_of}
+use Rattle.rwsem_slow.specs.Queued.{IsInTransit, KeepsLine, Shares, WentThroughLine}
 use Rattle.rwsem_slow.specs.RwSemLaws.{sem-hints}
 use Rattle.rwsem_slow.specs.RwSems.{V, Kept, RwSemMoves, bias_of, biased, count_at, count_in, hint_at, more_in, with_sem}
-use Rattle.rwsem_slow.specs.Stealing.{IsShared, MaySteal, StealsBy, WentOn, left_by}
+use Rattle.rwsem_slow.specs.Stealing.{MaySteal, StealsBy, WentOn, left_by}
 
 -- it may, or it may not
 may-or-not : (left hint : ℕ) {P : Type 0} → (MaySteal left hint → P) → ((MaySteal left hint → ⊥) → P) → P

@@ -1,5 +1,5 @@
 -- A writer that stands in no list tries a count.
-use Rattle.std.proofs.Common.{◌≡◌, ◌≢◌, ℕ, ◌+◌, ◌/◌, ◌%◌, ◌^◌, ◌<◌, ◌≤◌, List, length, map, take, get_or, set, Option, Some, None, refl, sym, ap, ◌∙◌, subst, arith}
+use Rattle.std.proofs.Common.{◌≡◌, ◌≢◌, ℕ, ◌+◌, ◌/◌, ◌%◌, ◌^◌, ◌≤◌, List, length, map, take, set, Some, None, refl, sym, ap, ◌∙◌, subst, arith}
 use mathlib.Core.Option.{some, none}
 use mathlib.Core.Logic.{dite}
 use native.Mathlib.Decide.{ℕ_discrete}
@@ -37,7 +37,7 @@ use Rattle.lock_core.proofs.Steps.{chooses}
 use Rattle.rwsem_count.specs.declared.view.Bias.TheVariants.{Clear}
 use Rattle.rwsem_count.specs.Counts.{CountKept, CountMove, CountPart, based, count_part, part}
 use Rattle.rwsem_count.specs.CountLaws.{count-writes}
-use Rattle.rwsem_count.specs.Tries.{MissesSince, at_step}
+use Rattle.rwsem_count.specs.Tries.{MissesSince}
 use Rattle.rwsem_count.proofs.Counting.{alone-parts, held-parts, its-plan}
 use Rattle.rwsem_count.proofs.Sitting.{sits-missed}
 use Rattle.rwsem_wake.specs.declared.view.SemHand.{SemHand}

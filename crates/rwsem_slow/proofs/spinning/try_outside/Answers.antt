@@ -1,4 +1,4 @@
-use Rattle.std.proofs.Common.{◌≤◌, ap, arith}
+use Rattle.std.proofs.Common.{ap, arith}
 use Rattle.rwsem_slow.specs.RwSems.{V}
 use Rattle.rwsem_slow.proofs.Unqueued.{misses-tried}
 use Rattle.rwsem_slow.proofs.spinning.try_outside.Goals as goal
