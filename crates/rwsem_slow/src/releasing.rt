@@ -82,8 +82,8 @@ pub fn up_read<O: Object, W: Wait, C: Crew>(
         (seen_of pass.old) (seen_of pass.new) }
 {
     let left = steps::up_read(site, pass);
-    // The last reader alone wakes: a waiting writer couldn't take before, and readers that come
-    // after this step see WAITERS and queue.
+    // The last reader alone wakes, which it learns from the count that its own step left: two that
+    // looked afterwards could both find nobody, or a reader that came since.
     if is_left_to_waiters(left) {
         wake_waiters(site, rt, pass, crew, WakeType::Any);
     }

@@ -14,14 +14,14 @@ use wait_list::{Waiter, list};
 use word_bits::Object;
 
 /// How many waiters a list has at most: one for each task.
-pub const WAITERS: usize = 64;
+pub const MAX_WAITERS: usize = 64;
 
 /// Reads the whole list, which begins with this waiter.
 pub fn read_list<O: Object>(
     site: &Site<SemRule<O>>,
     pass: &mut Pass<SemRule<O>>,
     first: Waiter,
-    waiters: &mut ArrayVec<Waiter, WAITERS>,
+    waiters: &mut ArrayVec<Waiter, MAX_WAITERS>,
 )
     requires own { SitsAt site.now pass.old }
     requires last { IsLatest pass.old }
@@ -39,7 +39,7 @@ pub fn read_list<O: Object>(
 {
     waiters.push(first);
     let mut last = first;
-    'walk: while waiters.len() < WAITERS {
+    'walk: while waiters.len() < MAX_WAITERS {
         match list::next(site, pass, last.task) {
             None => return,
             Some(next) => {

@@ -13,7 +13,7 @@ ghost use Rattle.rwsem_slow.specs.Removals.{KnowsList, RemovesAll};
 ghost use Rattle.rwsem_slow.specs.Wakes.{Grants, IsAtRest, MayWake, SawWriter, Wakes, batch_in, readers_woken};
 
 use crate::hint::{reader_hint, set_hint};
-use crate::removal::{WAITERS, read_list, remove_all};
+use crate::removal::{MAX_WAITERS, read_list, remove_all};
 use crate::rule::SemRule;
 use arrayvec::ArrayVec;
 use cpu_task::Cpu;
@@ -91,10 +91,10 @@ fn remove_batch<O: Object>(
         (batch_in (view_of pass.old).ext.list.list) (view_of pass.new) }
     ensures none_left { bit result + some_of (view_of pass.new).ext.list.list ≡ 1 }
     ensures some { 0 < length readers.new.items }
-    ensures few { length readers.new.items ≤ WAITERS }
+    ensures few { length readers.new.items ≤ MAX_WAITERS }
     ensures tasks { AreTaskNumbers readers.new.items }
 {
-    let mut waiters: ArrayVec<Waiter, WAITERS> = ArrayVec::new();
+    let mut waiters: ArrayVec<Waiter, MAX_WAITERS> = ArrayVec::new();
     read_list(site, pass, first, &mut waiters);
     let known = waiters.as_slice();
     batch(known, BATCH, readers);

@@ -133,7 +133,8 @@ fn queue<O: Object, C: Cpu, K: Crew>(
     if writing::join(site, pass) {
         return;
     }
-    // Readers may have been let in past the last wake, and wait behind a writer that is gone.
+    // The writer behind whom those in front queued may be gone: readers among them may share the
+    // hold of readers, and where nobody holds the first of them may take.
     let count = look_listed(site, pass);
     wake_others(site, pass, cpu, crew, count);
 }

@@ -78,8 +78,9 @@ pub fn take_back<H: GrantHost>(site: &Site<H>, pass: &mut Pass<H>, alone: bool) 
     ensures left { (word : ℕ) × FoundAt H.COUNT word (past_of pass.new) × IsLawfulCount word
         × (result + 256 ≡ word + 2 * bit alone) }
 {
-    // The bias goes only once the reader stands in the list: a writer that releases in between
-    // finds the one or the other.
+    // The bias goes once the reader stands in the list. Until then the last reader that releases
+    // takes it for one that holds, and leaves the wake to it; the count that it leaves tells of
+    // such a release, and of that of a writer that found nobody waiting.
     let less = bias_but_waiters(alone);
     site.step::<TakeBack<H>>(pass, H::COUNT, Op::Sub(less)) - less
 }
