@@ -1,7 +1,8 @@
 /* Times pairs on the locks of the C library, as lock_bench does on the project's own.
-   The words are CASE THREADS ROUNDS, with the case spin, mutex or work. */
+   The words are CASE THREADS ROUNDS, with the case spin, mutex, work, read, write, mixed or exchange. */
 #define _GNU_SOURCE
 #include <pthread.h>
+#include <stdatomic.h>
 #include <stdint.h>
 #include <stdio.h>
 #include <stdlib.h>
@@ -10,6 +11,8 @@
 
 static pthread_spinlock_t spin;
 static pthread_mutex_t mutex = PTHREAD_MUTEX_INITIALIZER;
+static pthread_rwlock_t rwlock = PTHREAD_RWLOCK_INITIALIZER;
+static _Atomic uint64_t exchanged;
 static long rounds;
 
 static void *spin_pairs(void *unused) {
@@ -45,11 +48,64 @@ static void *work_pairs(void *task) {
     return NULL;
 }
 
-static void *(*pairs_of(const char *word))(void *) {
-    if (!strcmp(word, "work")) {
-        return work_pairs;
+static void read_pair(void) {
+    pthread_rwlock_rdlock(&rwlock);
+    pthread_rwlock_unlock(&rwlock);
+}
+
+static void write_pair(void) {
+    pthread_rwlock_wrlock(&rwlock);
+    pthread_rwlock_unlock(&rwlock);
+}
+
+static void *read_pairs(void *unused) {
+    for (long i = 0; i < rounds; i++) {
+        read_pair();
     }
-    return strcmp(word, "mutex") ? spin_pairs : mutex_pairs;
+    return unused;
+}
+
+static void *write_pairs(void *unused) {
+    for (long i = 0; i < rounds; i++) {
+        write_pair();
+    }
+    return unused;
+}
+
+static void *mixed_pairs(void *unused) {
+    for (long i = 0; i < rounds; i++) {
+        if (i % 10 == 9) {
+            write_pair();
+        } else {
+            read_pair();
+        }
+    }
+    return unused;
+}
+
+static void *exchange_pairs(void *task) {
+    for (long i = 0; i < rounds; i++) {
+        atomic_exchange(&exchanged, (uintptr_t)task);
+        atomic_exchange(&exchanged, 0);
+    }
+    return NULL;
+}
+
+static const struct {
+    const char *word;
+    void *(*pairs)(void *);
+} cases[] = {
+    {"spin", spin_pairs}, {"mutex", mutex_pairs}, {"work", work_pairs}, {"read", read_pairs},
+    {"write", write_pairs}, {"mixed", mixed_pairs}, {"exchange", exchange_pairs},
+};
+
+static void *(*pairs_of(const char *word))(void *) {
+    for (size_t i = 0; i < sizeof cases / sizeof *cases; i++) {
+        if (!strcmp(word, cases[i].word)) {
+            return cases[i].pairs;
+        }
+    }
+    return NULL;
 }
 
 int main(int count, char **words) {
@@ -61,7 +117,7 @@ int main(int count, char **words) {
     void *(*pairs)(void *) = pairs_of(words[1]);
     pthread_t made[64];
     struct timespec start, end;
-    if (threads < 1 || threads > 64 || rounds < 1) {
+    if (!pairs || threads < 1 || threads > 64 || rounds < 1) {
         return 2;
     }
     pthread_spin_init(&spin, PTHREAD_PROCESS_PRIVATE);

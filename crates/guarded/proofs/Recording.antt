@@ -218,15 +218,6 @@ is-reads false c i e f = cc
 same-entry : (h g : Hand) → g.task ≡ h.task → g.done ≡ h.done → next_entry g ≡ next_entry h
 same-entry h g task done i = record { task = option_map_or (λ t. t) (task i) 0; call = done i }
 
--- a place in line is kept where the call goes on without a try
-pub place-after : (kind : Kind) (s : Bool) (v m u : Shown) → KeepsPlace kind s v m → u.hand.misses ≡ m.hand.misses → u.fronts ≡ m.fronts → u.hand.saw ≡ m.hand.saw → m.spin.entries ≤ u.spin.entries → KeepsPlace kind s v u
-place-after kind s v m u p misses fronts saw entries = record {
-  queues = λ rise same. ⊎_elim (λ (l : v.spin.entries < m.spin.entries). inl (omega arith))
-      (λ (r : (s ≡ true) × IsLetIn kind v m). inr (r.0, record { once = misses ∙ r.1.once; saw = r.1.saw; is = saw ∙ r.1.is; since = r.1.since; opens = r.1.opens }))
-      (p.queues (omega arith) (sym fronts ∙ same));
-  few = λ same. let l = p.few (sym fronts ∙ same) in omega arith;
-}
-
 -- a call that tried once, and then went on without a try
 tries-after : (v m u : Shown) → TriesOnce v m → u.line ≡ m.line → u.fronts ≡ m.fronts → u.hand.misses ≡ m.hand.misses → TriesOnce v u
 tries-after v m u t line fronts misses = (line ∙ t.0, fronts ∙ t.1, let l = t.2 in omega (arith, l, misses))
@@ -247,6 +238,27 @@ sees-on kind reads at word v m u saw later goes s = record {
   shut = s.shut;
 }
 
+-- so has what let a call in
+let-in-on : (kind : Kind) (at : ℕ) (v m u : Shown) → u.hand.misses ≡ m.hand.misses → u.hand.saw ≡ m.hand.saw → m.steps ≤ u.steps → PastGoesOn m u → IsLetIn kind at v m → IsLetIn kind at v u
+let-in-on kind at v m u misses saw later goes r = record {
+  once = misses ∙ r.once;
+  saw = r.saw;
+  is = saw ∙ r.is;
+  since = r.since;
+  by_now = let l = r.by_now in omega (arith, l, later);
+  found = found-on m u goes r.found;
+  opens = r.opens;
+}
+
+-- a place in line is kept where the call goes on without a try
+pub place-after : (kind : Kind) (s : Bool) (at : ℕ) (v m u : Shown) → KeepsPlace kind s at v m → u.hand.misses ≡ m.hand.misses → u.fronts ≡ m.fronts → u.hand.saw ≡ m.hand.saw → m.spin.entries ≤ u.spin.entries → m.steps ≤ u.steps → PastGoesOn m u → KeepsPlace kind s at v u
+place-after kind s at v m u p misses fronts saw entries later goes = record {
+  queues = λ rise same. ⊎_elim (λ (l : v.spin.entries < m.spin.entries). inl (omega arith))
+      (λ (r : (s ≡ true) × IsLetIn kind at v m). inr (r.0, let-in-on kind at v m u misses saw later goes r.1))
+      (p.queues (omega arith) (sym fronts ∙ same));
+  few = λ same. let l = p.few (sym fronts ∙ same) in omega arith;
+}
+
 pending-on : (why : Interrupted) (v m u : Shown) → m.steps ≤ u.steps → PastGoesOn m u → SawPending why v m → SawPending why v u
 pending-on why v m u later goes s = record {
   sent = λ t is. let f = s.sent t is in (f.0, f.1, (let l = f.2 in omega (arith, l, later)), found-on m u goes f.3);
@@ -257,8 +269,8 @@ pending-on why v m u later goes s = record {
 module _ {Call : Type 0} (o : Obj Call) (kind : Kind) (at : ℕ) (k : Plan) where
   -- a call that held
   pub performs-served : (v m u : Shown) (words : CallWords) (c : Call) (reads : Bool) (reply : Reply) (how : Held) → IsNextCall k v.hand words → o.call_of words ≡ Some c → reads ≡ o.reads c → signal_of words ≡ None → (v.hand.sent ≡ None) × (v.hand.consumed ≡ 0)
-      → Takes o k how v m → (mode_of words ≡ Try → TriesOnce v m) → (mode_of words ≢ Try → KeepsPlace kind reads v m) → Serves o kind k words reply m u → Performs o kind at k reply v u
-  performs-served v m u words c reads reply how next is same unsent accounted takes once line serves =
+      → Takes o k how v m → (mode_of words ≡ Try → TriesOnce v m) → (mode_of words ≢ Try → KeepsPlace kind reads at v m) → Serves o kind k words reply m u → PastGoesOn m u → Performs o kind at k reply v u
+  performs-served v m u words c reads reply how next is same unsent accounted takes once line serves goes =
       let entry = same-entry v.hand m.hand takes.keeps.task takes.keeps.done in
       let place : serves.rec.k ≡ length m.hand.log = ap {A = Rec} (λ r. r.k) serves.says in
       let long = takes.begins.0 in
@@ -282,8 +294,8 @@ module _ {Call : Type 0} (o : Obj Call) (kind : Kind) (at : ℕ) (k : Plan) wher
         busy = λ word e. absurd (subst IsObjectReply e serves.replies);
         interrupted = λ e. absurd (subst IsObjectReply e serves.replies);
         at_once = λ tries. tries-after v m u (once tries) serves.adds.line serves.adds.fronts serves.adds.misses;
-        line = λ waits. place-after kind _ v m u (subst (λ b. KeepsPlace kind b v m) (is-reads reads (changes o words) (is_intr reply) (changes-is o words c is ∙ ap not (sym same)) (reply-unintr reply serves.replies)) (line waits))
-            serves.adds.misses serves.adds.fronts serves.adds.saw serves.adds.counts.entries;
+        line = λ waits. place-after kind _ at v m u (subst (λ b. KeepsPlace kind b at v m) (is-reads reads (changes o words) (is_intr reply) (changes-is o words c is ∙ ap not (sym same)) (reply-unintr reply serves.replies)) (line waits))
+            serves.adds.misses serves.adds.fronts serves.adds.saw serves.adds.counts.entries serves.adds.counts.steps goes;
       }
 
   -- a call that never held
@@ -291,7 +303,7 @@ module _ {Call : Type 0} (o : Obj Call) (kind : Kind) (at : ℕ) (k : Plan) wher
       → u.hand.records ≡ record { entry = next_entry v.hand; rec = record { k = length v.hand.seen; reply = reply } } ∷ v.hand.records → u.hand.task ≡ v.hand.task → u.hand.done ≡ v.hand.done + 1 → u.hand.held ≡ No → u.hand.takes ≡ v.hand.takes + takes_by reply → (u.hand.sent ≡ None) × (u.hand.consumed ≡ 0) → NoCountFalls v u
       → (IsSome (signal_of words) → reply ≡ Sent) → ((word : ℕ) → reply ≡ Busy word → (c : Call) × (o.call_of words ≡ Some c) × Sees kind (o.reads c) at word v u)
       → (reply ≡ Intr → (c : Call) × (why : Interrupted) × (word : ℕ) × (o.call_of words ≡ Some c) × SawPending why v u × Sees kind (o.reads c) at word v u)
-      → (mode_of words ≡ Try → TriesOnce v u) → (mode_of words ≢ Try → KeepsPlace kind (not (changes o words) && not (is_intr reply)) v u) → Performs o kind at k reply v u
+      → (mode_of words ≡ Try → TriesOnce v u) → (mode_of words ≢ Try → KeepsPlace kind (not (changes o words) && not (is_intr reply)) at v u) → Performs o kind at k reply v u
   performs-unheld v u words reply next why unlogged seen records task done out takes accounted goes signals busy interrupted once line = record {
     words = words;
     rec = record { k = length v.hand.seen; reply = reply };
@@ -328,7 +340,7 @@ module _ {Call : Type 0} (o : Obj Call) (kind : Kind) (at : ℕ) (k : Plan) wher
 
   -- a call that couldn't have the lock
   pub performs-refused : (v m u : Shown) (words : CallWords) (c : Call) (reads : Bool) (mode : Mode) (reply : Reply) (step : ℕ) → IsNextCall k v.hand words → o.call_of words ≡ Some c → reads ≡ o.reads c → mode ≡ mode_of words → signal_of words ≡ None → (v.hand.sent ≡ None) × (v.hand.consumed ≡ 0)
-      → Refuses kind at mode reads reply v m → (mode ≡ Try → TriesOnce v m) → (mode ≢ Try → KeepsPlace kind false v m) → u.hand ≡ noted m.hand step (next_entry m.hand) reply → AllButHand m u → PastGoesOn m u → Performs o kind at k reply v u
+      → Refuses kind at mode reads reply v m → (mode ≡ Try → TriesOnce v m) → (mode ≢ Try → KeepsPlace kind false at v m) → u.hand ≡ noted m.hand step (next_entry m.hand) reply → AllButHand m u → PastGoesOn m u → Performs o kind at k reply v u
   performs-refused v m u words c reads mode Good step next is same says unsent accounted why once line hand beside goes = absurd why
   performs-refused v m u words c reads mode (Num n) step next is same says unsent accounted why once line hand beside goes = absurd why
   performs-refused v m u words c reads mode (Refused x) step next is same says unsent accounted why once line hand beside goes = absurd why
@@ -362,8 +374,8 @@ module _ {Call : Type 0} (o : Obj Call) (kind : Kind) (at : ℕ) (k : Plan) wher
       (λ word e. absurd (false≢true (subst (λ r. is_intr r ≡ true) e refl)))
       (λ e. (c, why.1.0, cut.word, is, pending-on why.1.0 v m u beside.3 goes cut.heard, subst (λ b. Sees kind b at cut.word v u) same (sees-on kind reads at cut.word v m u (ap {A = Hand} (λ h. h.saw) hand) beside.3 goes cut.sees)))
       (λ tries. tries-after v m u (once (says ∙ tries)) beside.2 beside.1 misses)
-      (λ waits. subst (λ b. KeepsPlace kind b v u) (and-false (not (changes o words)))
-      (place-after kind false v m u (line (λ tries. waits (sym says ∙ tries))) misses beside.1 (ap {A = Hand} (λ h. h.saw) hand) (eq-le _ _ beside.0)))
+      (λ waits. subst (λ b. KeepsPlace kind b at v u) (and-false (not (changes o words)))
+      (place-after kind false at v m u (line (λ tries. waits (sym says ∙ tries))) misses beside.1 (ap {A = Hand} (λ h. h.saw) hand) (eq-le _ _ beside.0) beside.3 goes))
 
 -- what a call did after a look, it did from before the look on
 module _ (v w u : Shown) (looks : Looks v w) (goes : PastGoesOn v w) where
@@ -388,12 +400,23 @@ module _ (v w u : Shown) (looks : Looks v w) (goes : PastGoesOn v w) where
     pending = s.pending;
   }
 
-  place-from : (kind : Kind) (s : Bool) → KeepsPlace kind s w u → KeepsPlace kind s v u
-  place-from kind s p =
+  let-in-from : (kind : Kind) (at : ℕ) → IsLetIn kind at w u → IsLetIn kind at v u
+  let-in-from kind at r = record {
+    once = let o = r.once in let misses : w.hand.misses ≡ v.hand.misses = ap {A = Hand} (λ h. h.misses) looks.0 in omega (arith, o, misses);
+    saw = r.saw;
+    is = r.is;
+    since = let n = r.since in let l = looks.1.3 in omega (arith, n, l);
+    by_now = r.by_now;
+    found = found-from r.found;
+    opens = r.opens;
+  }
+
+  place-from : (kind : Kind) (s : Bool) (at : ℕ) → KeepsPlace kind s at w u → KeepsPlace kind s at v u
+  place-from kind s at p =
       let misses : w.hand.misses ≡ v.hand.misses = ap {A = Hand} (λ h. h.misses) looks.0 in
       let entries : w.spin.entries ≡ v.spin.entries = looks.1.0 in record {
         queues = λ rise same. ⊎_elim (λ (l : w.spin.entries < u.spin.entries). inl (omega (arith, l, entries)))
-            (λ (r : (s ≡ true) × IsLetIn kind w u). inr (r.0, record { once = (let o = r.1.once in omega (arith, o, misses)); saw = r.1.saw; is = r.1.is; since = (let n = r.1.since in let l = looks.1.3 in omega (arith, n, l)); opens = r.1.opens }))
+            (λ (r : (s ≡ true) × IsLetIn kind at w u). inr (r.0, let-in-from kind at r.1))
             (p.queues (omega (arith, rise, misses)) (same ∙ sym looks.1.1));
         few = λ same. let l = p.few (same ∙ sym looks.1.1) in omega (arith, l, misses);
       }
@@ -419,5 +442,5 @@ module _ (v w u : Shown) (looks : Looks v w) (goes : PastGoesOn v w) where
     busy = λ word is. let b = p.busy word is in (b.0, b.1, sees-from kind (o.reads b.0) at word b.2);
     interrupted = λ is. let b = p.interrupted is in (b.0, b.1, b.2, b.3, pending-from b.1 b.4, sees-from kind (o.reads b.0) at b.2 b.5);
     at_once = λ tries. let t = p.at_once tries in (t.0 ∙ looks.1.2, t.1 ∙ looks.1.1, (let l = t.2 in let m = ap {A = Hand} (λ h. h.misses) e in omega (arith, l, m)));
-    line = λ waits. place-from kind _ (p.line waits);
+    line = λ waits. place-from kind _ at (p.line waits);
   }

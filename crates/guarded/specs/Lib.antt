@@ -4,5 +4,7 @@ pub mod Handles
 pub mod Performing
 pub mod Copying
 pub mod Gathering
+pub mod SiteLocks
 pub mod MutexLocks
-pub mod MutexLockLaws
+pub mod RwSemLocks
+pub mod LockLaws

@@ -114,4 +114,4 @@ pub record Performs {Call : Type 0} (o : Obj Call) (kind : Kind) (at : ℕ) (k :
   -- a call in mode try doesn't wait
   pub at_once : mode_of words ≡ Try → TriesOnce v u
   -- one that waits keeps its place in line
-  pub line : mode_of words ≢ Try → KeepsPlace kind (not (changes o words) && not (is_intr reply)) v u
+  pub line : mode_of words ≢ Try → KeepsPlace kind (not (changes o words) && not (is_intr reply)) at v u

@@ -8,9 +8,11 @@ mod lock;
 mod mutex_lock;
 mod next;
 mod perform;
+mod rwsem_lock;
 mod served;
 
 pub use guarded::Guarded;
 pub use lock::SleepLock;
 pub use mutex_slow::{Mutex, MutexPass};
+pub use rwsem_slow::{RwPass, RwSem};
 pub use served::Served;

@@ -287,7 +287,7 @@ pub trait SleepLock<O: Object>: Sized {
         ensures took { Takes O.object (calls_on self.now) (shares kind)
             (view pass.old) (view pass.new) }
         ensures how { Got result (view pass.old) (view pass.new) }
-        ensures line { KeepsPlace kind true (view pass.old) (view pass.new) };
+        ensures line { KeepsPlace kind true word_at (view pass.old) (view pass.new) };
 
     /// Waits until the pass holds alone.
     fn alone<W: Wait, C: Crew>(
@@ -304,7 +304,7 @@ pub trait SleepLock<O: Object>: Sized {
         ensures goes_on { PastGoesOn (view pass.old) (view pass.new) }
         ensures took { Takes O.object (calls_on self.now) Alone (view pass.old) (view pass.new) }
         ensures how { Got result (view pass.old) (view pass.new) }
-        ensures line { KeepsPlace kind false (view pass.old) (view pass.new) };
+        ensures line { KeepsPlace kind false word_at (view pass.old) (view pass.new) };
 
     /// As `shared`, until a signal interrupts it.
     fn shared_int<W: Wait, C: Crew>(
@@ -322,11 +322,12 @@ pub trait SleepLock<O: Object>: Sized {
         ensures took { IfOk result (λ _. Takes O.object (calls_on self.now) (shares kind)
             (view pass.old) (view pass.new)) }
         ensures how { IfOk result (λ how. Got how (view pass.old) (view pass.new)) }
-        ensures line { IfOk result (λ _. KeepsPlace kind true (view pass.old) (view pass.new)) }
+        ensures line { IfOk result (λ _.
+            KeepsPlace kind true word_at (view pass.old) (view pass.new)) }
         ensures interrupted { IfErr result (λ why.
             Interrupts kind true word_at why (view pass.old) (view pass.new)) }
         ensures stood { IfErr result (λ _.
-            KeepsPlace kind false (view pass.old) (view pass.new)) };
+            KeepsPlace kind false word_at (view pass.old) (view pass.new)) };
 
     /// As `alone`, until a signal interrupts it.
     fn alone_int<W: Wait, C: Crew>(
@@ -344,11 +345,12 @@ pub trait SleepLock<O: Object>: Sized {
         ensures took { IfOk result (λ _. Takes O.object (calls_on self.now) Alone
             (view pass.old) (view pass.new)) }
         ensures how { IfOk result (λ how. Got how (view pass.old) (view pass.new)) }
-        ensures line { IfOk result (λ _. KeepsPlace kind false (view pass.old) (view pass.new)) }
+        ensures line { IfOk result (λ _.
+            KeepsPlace kind false word_at (view pass.old) (view pass.new)) }
         ensures interrupted { IfErr result (λ why.
             Interrupts kind false word_at why (view pass.old) (view pass.new)) }
         ensures stood { IfErr result (λ _.
-            KeepsPlace kind false (view pass.old) (view pass.new)) };
+            KeepsPlace kind false word_at (view pass.old) (view pass.new)) };
 
     /// Holds beside others where that is possible at once. `Err` has the word that says why not.
     fn try_shared<W: Wait>(&self, rt: &W, pass: &mut Self::Pass) -> Result<(), u64>

@@ -10,11 +10,12 @@ use word_bits::{CallWords, Object, Reply};
 
 impl<O: Object> SleepLock<O> for Mutex<O> {
     ghost use Rattle.lock_core.specs.Kinds.{mutex as mutex_kind};
-    ghost use Rattle.mutex_slow.specs.Handles.{newest, plan_of, shown_of};
+    ghost use Rattle.mutex_slow.specs.Handles.{newest, plan_of, shown_of, SitsAt};
     ghost use Rattle.mutex_slow.specs.Mutexes.{owner_at};
     ghost use Rattle.mutex_slow.specs.Stated.{waits_on};
-    ghost use Rattle.guarded.specs.MutexLocks.{KnowsMutex, SitsIdle};
-    ghost use Rattle.guarded.specs.MutexLockLaws.{sits-stands};
+    ghost use Rattle.guarded.specs.MutexLocks.{KnowsMutex};
+    ghost use Rattle.guarded.specs.SiteLocks.{SitsIdle};
+    ghost use Rattle.guarded.specs.LockLaws.{mutex-stands};
 
     type Pass = MutexPass<O>;
 
@@ -32,7 +33,7 @@ impl<O: Object> SleepLock<O> for Mutex<O> {
 
     ghost view = { shown_of };
 
-    ghost sits = { λ m p. SitsIdle O.object m p };
+    ghost sits = { λ m p. SitsIdle O.object (plan_of m) (SitsAt m p) };
 
     fn open(alloc: Global, plan: Plan) -> Result<(Mutex<O>, MutexPass<O>), AllocError> {
         Mutex::open(alloc, plan)
@@ -178,5 +179,5 @@ impl<O: Object> SleepLock<O> for Mutex<O> {
 
     ghost small = { λ m. m.site.small };
 
-    ghost stands = { λ m p is. sits-stands O.object m p is };
+    ghost stands = { λ m p is. mutex-stands O.object m p is };
 }

@@ -154,12 +154,12 @@ impl<L: SleepLock<O>, O: Served + Drop> Guarded<L, O> {
         ensures took { IfOk result (λ _. Takes O.object (L.calls_on (lock_of self.now))
             (held_by L.kind reads) (L.view pass.old) (L.view pass.new)) }
         ensures line { IfOk result (λ _. mode ≢ Try →
-            KeepsPlace L.kind reads (L.view pass.old) (L.view pass.new)) }
+            KeepsPlace L.kind reads L.word_at (L.view pass.old) (L.view pass.new)) }
         ensures at_once { mode ≡ Try → TriesOnce (L.view pass.old) (L.view pass.new) }
         ensures refused { IfErr result (λ reply. Refuses L.kind L.word_at mode reads reply
             (L.view pass.old) (L.view pass.new)) }
         ensures stood { IfErr result (λ _. mode ≢ Try →
-            KeepsPlace L.kind false (L.view pass.old) (L.view pass.new)) }
+            KeepsPlace L.kind false L.word_at (L.view pass.old) (L.view pass.new)) }
     {
         match mode {
             Mode::Plain => {
@@ -187,7 +187,7 @@ impl<L: SleepLock<O>, O: Served + Drop> Guarded<L, O> {
         ensures goes_on { PastGoesOn (L.view pass.old) (L.view pass.new) }
         ensures took { Takes O.object (L.calls_on (lock_of self.now))
             (held_by L.kind reads) (L.view pass.old) (L.view pass.new) }
-        ensures line { KeepsPlace L.kind reads (L.view pass.old) (L.view pass.new) }
+        ensures line { KeepsPlace L.kind reads L.word_at (L.view pass.old) (L.view pass.new) }
     {
         if reads {
             self.lock.shared(rt, pass, cpu, crew);
@@ -213,11 +213,11 @@ impl<L: SleepLock<O>, O: Served + Drop> Guarded<L, O> {
         ensures took { IfOk result (λ _. Takes O.object (L.calls_on (lock_of self.now))
             (held_by L.kind reads) (L.view pass.old) (L.view pass.new)) }
         ensures line { IfOk result (λ _.
-            KeepsPlace L.kind reads (L.view pass.old) (L.view pass.new)) }
+            KeepsPlace L.kind reads L.word_at (L.view pass.old) (L.view pass.new)) }
         ensures refused { IfErr result (λ reply. Refuses L.kind L.word_at Int reads reply
             (L.view pass.old) (L.view pass.new)) }
         ensures stood { IfErr result (λ _.
-            KeepsPlace L.kind false (L.view pass.old) (L.view pass.new)) }
+            KeepsPlace L.kind false L.word_at (L.view pass.old) (L.view pass.new)) }
     {
         let got = if reads {
             self.lock.shared_int(rt, pass, cpu, crew)

@@ -1,1 +1,2 @@
 pub mod Idles
+pub mod Between

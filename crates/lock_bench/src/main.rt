@@ -4,14 +4,18 @@
 
 ghost use Rattle.std.specs.Prelude.{◌≤◌};
 
+mod crewed;
+mod exchange;
 mod front;
-mod mutex;
 mod plan;
 mod spin;
 mod timed;
+mod work;
 
-use lock_core::{Bare, Site};
-use mutex::{Crewed, Guarding};
+use crewed::{Crewed, Mixed, Read, Write};
+use exchange::Exchanges;
+use guarded::{Mutex, RwSem};
+use lock_core::{Bare, Nothing, Site};
 use osq_nodes::Osq;
 use std::alloc::{AllocError, Global};
 use std::process::ExitCode;
@@ -20,6 +24,7 @@ use std::thread::Threads;
 use std::time::Instant;
 use std::{env, io};
 use word_bits::MAX_TASKS;
+use work::Guarding;
 
 /// A lock that is taken and released.
 #[derive(Clone, Copy, Debug, PartialEq, Eq)]
@@ -32,7 +37,27 @@ enum Case {
     Mutex,
     /// The mutex, with four words raised inside and twenty dependent steps outside.
     Work,
+    /// The semaphore, held by readers.
+    Read,
+    /// The semaphore, held by writers.
+    Write,
+    /// The semaphore, held by a writer in one round of ten.
+    Mixed,
+    /// No lock: two exchanges of a word, which is the least that any of them needs.
+    Exchange,
 }
+
+/// All cases.
+const CASES: [Case; 8] = [
+    Case::Spin,
+    Case::Front,
+    Case::Mutex,
+    Case::Work,
+    Case::Read,
+    Case::Write,
+    Case::Mixed,
+    Case::Exchange,
+];
 
 impl Case {
     /// The word of the case.
@@ -42,6 +67,10 @@ impl Case {
             Case::Front => "front",
             Case::Mutex => "mutex",
             Case::Work => "work",
+            Case::Read => "read",
+            Case::Write => "write",
+            Case::Mixed => "mixed",
+            Case::Exchange => "exchange",
         }
     }
 
@@ -52,6 +81,10 @@ impl Case {
             "front" => Some(Case::Front),
             "mutex" => Some(Case::Mutex),
             "work" => Some(Case::Work),
+            "read" => Some(Case::Read),
+            "write" => Some(Case::Write),
+            "mixed" => Some(Case::Mixed),
+            "exchange" => Some(Case::Exchange),
             _ => None,
         }
     }
@@ -70,8 +103,12 @@ fn pairs<R: Threads + Wait + Sync>(
     match case {
         Case::Spin => timed::pairs::<Site<Bare>, R>(rt, alloc, threads, rounds),
         Case::Front => timed::pairs::<Osq, R>(rt, alloc, threads, rounds),
-        Case::Mutex => timed::pairs::<Crewed, R>(rt, alloc, threads, rounds),
-        Case::Work => timed::pairs::<Guarding, R>(rt, alloc, threads, rounds),
+        Case::Mutex => timed::pairs::<Crewed<Mutex<Nothing>, Write>, R>(rt, alloc, threads, rounds),
+        Case::Work => timed::pairs::<Guarding<Mutex<Nothing>>, R>(rt, alloc, threads, rounds),
+        Case::Read => timed::pairs::<Crewed<RwSem<Nothing>, Read>, R>(rt, alloc, threads, rounds),
+        Case::Write => timed::pairs::<Crewed<RwSem<Nothing>, Write>, R>(rt, alloc, threads, rounds),
+        Case::Mixed => timed::pairs::<Crewed<RwSem<Nothing>, Mixed>, R>(rt, alloc, threads, rounds),
+        Case::Exchange => timed::pairs::<Exchanges, R>(rt, alloc, threads, rounds),
     }
 }
 
@@ -92,14 +129,16 @@ fn run<R: Threads + Wait + Sync>(rt: &HostRuntime, crew: &R) -> io::Result<ExitC
         words.push(word)?;
     }
     if words.is_empty() {
-        for case in [Case::Spin, Case::Front, Case::Mutex, Case::Work] {
+        for case in CASES {
             pairs(crew, rt.alloc(), case, 2, 100)?;
             println!(rt; "{} 2 100", case.name())?;
         }
         return Ok(ExitCode::SUCCESS);
     }
     let Some((case, threads, rounds)) = asked(words.as_slice()) else {
-        println!(rt; "usage: lock_bench [spin|front|mutex|work THREADS ROUNDS]")?;
+        println!(rt;
+            "usage: lock_bench [spin|front|mutex|work|read|write|mixed|exchange THREADS ROUNDS]"
+        )?;
         return Ok(ExitCode::from(2));
     };
     if threads > MAX_TASKS {

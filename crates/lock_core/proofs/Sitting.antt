@@ -3,13 +3,14 @@ use Rattle.std.proofs.Common.{arith, List, ◌≡◌, ℕ, ◌<◌, ◌≤◌, l
 use Rattle.atomic_table.specs.Table.{Me}
 use Rattle.atomic_table.specs.Seated.{TableId}
 use Rattle.word_bits.specs.declared.entry.Entry.{Entry}
+use Rattle.word_bits.specs.declared.TheConstants.{MAX_TASKS}
 use Rattle.word_bits.specs.Histories.{Plan}
 use Rattle.lock_core.specs.declared.view.Seen.{Seen}
 use Rattle.lock_core.specs.declared.view.Hand.{Hand}
 use Rattle.lock_core.specs.declared.view.Saw.{Saw}
 use Rattle.lock_core.specs.declared.view.Held.TheVariants.{No, Alone}
 use Rattle.lock_core.specs.declared.pass.Face.{Face}
-use Rattle.lock_core.specs.Plans.{calls_in}
+use Rattle.lock_core.specs.Plans.{IsSmall, calls_in}
 use Rattle.lock_core.specs.Records.{row}
 use Rattle.lock_core.specs.Views.{front}
 use Rattle.lock_core.specs.Passes.{Sits}
@@ -67,3 +68,7 @@ sits-same k table seat seat' me me' face face' same slots hand later says r = re
   writer = hand.writer;
   nameless = hand.nameless;
 }
+
+-- its number is that of a task
+pub its-number : {E : Type 0} (k : Plan) (table seat : TableId) (me : Me (Unit {0}) (Seen E)) (face : Face) → IsSmall k → Sits k table seat me face → (task : ℕ) → face.task ≡ Some task → task < MAX_TASKS
+its-number k table seat me face small r task is = let l = (r.planned task is).0 in let few = small.tasks in omega (arith, l, few)

@@ -31,3 +31,4 @@ pub mod LockedLaws
 pub mod Handles
 pub mod NodeLists
 pub mod NodeListLaws
+pub mod Signals

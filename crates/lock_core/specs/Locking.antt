@@ -36,6 +36,13 @@ pub record Keeps (v u : Shown) : Type 0 where
   pub last : u.hand.last ≡ v.hand.last
   pub counts : NoCountFalls v u
 
+-- it recorded nothing, and has taken and ended no hold: tries failed, and loads heard of signals
+pub record OnlyTried (v u : Shown) : Type 0 where
+  pub keeps : Keeps v u
+  pub consumed : u.hand.consumed ≡ v.hand.consumed
+  pub takes : u.hand.takes ≡ v.hand.takes
+  pub freed : u.hand.freed ≡ v.hand.freed
+
 -- the guarded words store the state after the log
 abbrev pub IsStored : {Call : Type 0} → Obj Call → Plan → Hand → Type 0
 IsStored o k h = h.known ≡ o.stores (state_after o k h.log)
@@ -126,15 +133,17 @@ Got Fast v u = (u.hand.misses ≡ v.hand.misses) × (u.spin.entries ≡ v.spin.e
 Got Spun v u = (v.hand.misses < u.hand.misses) × (u.line ≡ v.line)
 Got Slept v u = u.line.appends ≡ v.line.appends + 1
 
--- a shared call's first try, which missed, saw a word that let it in
-pub record IsLetIn (kind : Kind) (v u : Shown) : Type 0 where
+-- a shared call's one try, which missed, saw the lock's word, which stands at this place and lets such a call in
+pub record IsLetIn (kind : Kind) (at : ℕ) (v u : Shown) : Type 0 where
   pub once : u.hand.misses ≡ v.hand.misses + 1
   pub saw : Saw
   pub is : u.hand.saw ≡ Some saw
   pub since : v.steps < saw.step
+  pub by_now : saw.step ≤ u.steps
+  pub found : FindsAtStep saw.step at saw.word v u
   pub opens : lets_in kind saw.word
 
--- a call that waits keeps its place in line: after a failed try it goes through the wait lock or the spin queue. `shared`: it may have been let in.
-pub record KeepsPlace (kind : Kind) (shared : Bool) (v u : Shown) : Type 0 where
-  pub queues : v.hand.misses < u.hand.misses → u.fronts ≡ v.fronts → (v.spin.entries < u.spin.entries) ⊎ ((shared ≡ true) × IsLetIn kind v u)
+-- a call that waits keeps its place in line: after a failed try it goes through the wait lock or the spin queue. `shared`: it may have been let in, by the lock's word, which stands at this place.
+pub record KeepsPlace (kind : Kind) (shared : Bool) (at : ℕ) (v u : Shown) : Type 0 where
+  pub queues : v.hand.misses < u.hand.misses → u.fronts ≡ v.fronts → (v.spin.entries < u.spin.entries) ⊎ ((shared ≡ true) × IsLetIn kind at v u)
   pub few : u.fronts ≡ v.fronts → u.hand.misses ≤ v.hand.misses + tries kind

@@ -1,20 +1,21 @@
-//! A task that waits for a mutex until signals interrupt it, on threads.
-ghost use Rattle.std.specs.Prelude.{◌≡◌, ◌<◌, ◌≤◌, length, IfOk};
+//! A task that waits for a lock which another one holds, until signals interrupt it, on threads.
+ghost use Rattle.lock_core.specs.Records.{IsCallOrSignal};
 ghost use Rattle.vma_map.specs.Spaces.{space};
-ghost use Rattle.guarded.specs.Handles.{lock_of};
-ghost use Rattle.guarded.specs.MutexLocks.{IsBetweenTasks, calls_under};
 
-use crate::{copy_of, int_fault_page, map_page, push_calls, replies_of, signal_task};
-use cpu_task::{Gate, OpenGate};
-use guarded::{Guarded, Mutex, MutexPass};
+use crate::{
+    Start, fault_page, history_of_four, int_fault_page, int_map_page, map_page, push_calls,
+    signal_task, try_fault_page, try_map_page,
+};
+use cpu_task::{Gate, ScriptedCrew};
+use guarded::{Mutex, RwSem, SleepLock};
 use lock_core::Plan;
 use std::alloc::{AllocError, Global};
 use std::sync::Wait;
 use std::sync::atomic::{AtomicBool, Ordering};
 use std::test::Fail;
-use std::thread::{Threads, join};
+use std::thread::Threads;
 use vma_map::Areas;
-use word_bits::Reply;
+use word_bits::{CallWords, Snapshot};
 
 /// How many calls of task 1 wait while task 0 is inside, and how many signals task 2 sends to it.
 const SIGNALS: u32 = 10_000;
@@ -22,161 +23,144 @@ const SIGNALS: u32 = 10_000;
 /// A task stays inside for so many turns at most, which is longer than those calls take.
 const TURNS: u32 = 1_000_000_000;
 
-/// Keeps task 0 inside until the calls of another task are done.
+/// A record's word has the kind of the reply above its place in the log, and the value above both.
+const KIND: u64 = 262_144;
+
+const VALUE: u64 = 4_194_304;
+
+/// Keeps task 0 inside until task 1, which begins then, has done its calls.
 #[derive(Default, Drop)]
 struct KeepOut {
     came: AtomicBool,
     done: AtomicBool,
 }
 
-impl Gate for KeepOut {
-    fn inside<R: Wait>(&self, _rt: &R, _object: u32, task: u32, _shared: bool) {
-        if task != 0 {
+/// Waits until the flag is set, or the turns run out.
+fn await_flag(flag: &AtomicBool) {
+    for _ in 0..TURNS {
+        if flag.load(Ordering::SeqCst) {
             return;
         }
-        self.came.store(true, Ordering::SeqCst);
-        for _ in 0..TURNS {
-            if self.done.load(Ordering::SeqCst) {
-                return;
-            }
+    }
+}
+
+impl Gate for KeepOut {
+    fn inside<R: Wait>(&self, _rt: &R, _object: u32, task: u32, _shared: bool) {
+        if task == 0 {
+            self.came.store(true, Ordering::SeqCst);
+            await_flag(&self.done);
         }
     }
 }
 
-/// How many of the replies are this one.
-fn count(replies: &[Reply], wanted: Reply) -> usize {
-    let mut found = 0usize;
-    for reply in replies {
-        if *reply == wanted {
-            found = found.saturating_add(1);
+impl Start for KeepOut {
+    fn begins(&self, task: u32) {
+        if task == 1 {
+            await_flag(&self.came);
         }
     }
-    found
-}
 
-/// Does the calls of task 0, which is kept inside by its first one.
-fn hold<W: Wait>(
-    rt: &W,
-    alloc: Global,
-    pages: &Guarded<Mutex<Areas>, Areas>,
-    mut pass: MutexPass<Areas>,
-    gate: &KeepOut,
-) -> Result<MutexPass<Areas>, AllocError>
-    requires between { IsBetweenTasks space (lock_of pages.now) pass }
-    requires there { 0 < length (calls_under (lock_of pages.now)) }
-    ensures { IfOk result (λ p. IsBetweenTasks space (lock_of pages.now) p) }
-{
-    replies_of(rt, alloc, pages, &mut pass, gate, 0)?;
-    Ok(pass)
-}
-
-/// Does the calls of task 1 once task 0 is inside, and lets that one go. Gives how many of them
-/// were interrupted.
-fn wait<W: Wait>(
-    rt: &W,
-    alloc: Global,
-    pages: &Guarded<Mutex<Areas>, Areas>,
-    mut pass: MutexPass<Areas>,
-    gate: &KeepOut,
-) -> Result<usize, AllocError>
-    requires between { IsBetweenTasks space (lock_of pages.now) pass }
-    requires there { 1 < length (calls_under (lock_of pages.now)) }
-{
-    for _ in rt.forever() {
-        if gate.came.load(Ordering::SeqCst) {
-            break;
+    fn ended(&self, task: u32) {
+        if task == 1 {
+            self.done.store(true, Ordering::SeqCst);
         }
     }
-    let replies = replies_of(rt, alloc, pages, &mut pass, gate, 1);
-    gate.done.store(true, Ordering::SeqCst);
-    Ok(count(replies?.as_slice(), Reply::Intr))
 }
 
-/// Does the calls of task 2. Gives how many signals it sent.
-fn send<W: Wait>(
-    rt: &W,
-    alloc: Global,
-    pages: &Guarded<Mutex<Areas>, Areas>,
-    mut pass: MutexPass<Areas>,
-) -> Result<usize, AllocError>
-    requires between { IsBetweenTasks space (lock_of pages.now) pass }
-    requires there { 2 < length (calls_under (lock_of pages.now)) }
-{
-    let replies = replies_of(rt, alloc, pages, &mut pass, &OpenGate, 2)?;
-    Ok(count(replies.as_slice(), Reply::Sent))
+/// The calls of a test: the one that holds the space meanwhile, one that tries for it in front of
+/// those that wait and behind them, and the one that waits again and again.
+#[derive(Clone, Copy)]
+struct Calls {
+    holds: CallWords,
+    tries: CallWords,
+    waits: CallWords,
 }
 
-/// What the three tasks give that do so at once: the pass of task 0, how many calls were
-/// interrupted, and how many signals were sent.
-fn hold_wait_and_send<R: Threads + Wait + Sync>(
+/// A copy of what the tasks leave that do these calls on a space under such a lock.
+fn history_of<R: Threads + Wait + Sync, L: SleepLock<Areas, Pass: Send> + Sync + Drop>(
     rt: &R,
     alloc: Global,
-    pages: &Guarded<Mutex<Areas>, Areas>,
-    mut holder: MutexPass<Areas>,
-) -> Result<(MutexPass<Areas>, usize, usize), AllocError>
-    requires between { IsBetweenTasks space (lock_of pages.now) holder }
-    requires there { 3 ≤ length (calls_under (lock_of pages.now)) }
-    ensures { IfOk result (λ t. IsBetweenTasks space (lock_of pages.now) t.0) }
+    calls: Calls,
+) -> Result<Snapshot, AllocError>
+    requires holds { IsCallOrSignal space calls.holds }
+    requires tries { IsCallOrSignal space calls.tries }
+    requires waits { IsCallOrSignal space calls.waits }
 {
+    let mut plan = Plan::new(alloc, 4)?;
+    push_calls::<Areas>(&mut plan, 0, 1, calls.holds)?;
+    push_calls::<Areas>(&mut plan, 1, 1, calls.tries)?;
+    push_calls::<Areas>(&mut plan, 1, SIGNALS, calls.waits)?;
+    push_calls::<Areas>(&mut plan, 1, 1, calls.tries)?;
+    push_calls::<Areas>(&mut plan, 2, SIGNALS, signal_task(1))?;
+    let crew = ScriptedCrew::new(alloc, Vec::new(alloc), Vec::new(alloc))?;
     let gate = KeepOut::default();
-    let waiter = pages.split(&mut holder);
-    let sender = pages.split(&mut holder);
-    let (pass, (interrupted, sent)) = join(
-        rt,
-        || -> Result<MutexPass<Areas>, AllocError>
-            requires between { IsBetweenTasks space (lock_of pages.now) holder }
-            requires there { 3 ≤ length (calls_under (lock_of pages.now)) }
-            ensures { IfOk result (λ p. IsBetweenTasks space (lock_of pages.entry.now) p) }
-        { hold(rt, alloc, pages, holder, &gate) },
-        || -> (Result<usize, AllocError>, Result<usize, AllocError>)
-            requires waiter { IsBetweenTasks space (lock_of pages.now) waiter }
-            requires sender { IsBetweenTasks space (lock_of pages.now) sender }
-            requires there { 3 ≤ length (calls_under (lock_of pages.now)) }
-        { wait_and_send(rt, alloc, pages, &gate, waiter, sender) },
-    );
-    Ok((pass?, interrupted?, sent?))
+    history_of_four::<_, _, _, L, Areas>(rt, alloc, plan, crew, &gate)
 }
 
-/// Two of them at once, while the third one is inside.
-fn wait_and_send<R: Threads + Wait + Sync>(
-    rt: &R,
-    alloc: Global,
-    pages: &Guarded<Mutex<Areas>, Areas>,
-    gate: &KeepOut,
-    waiter: MutexPass<Areas>,
-    sender: MutexPass<Areas>,
-) -> (Result<usize, AllocError>, Result<usize, AllocError>)
-    requires waiter { IsBetweenTasks space (lock_of pages.now) waiter }
-    requires sender { IsBetweenTasks space (lock_of pages.now) sender }
-    requires there { 3 ≤ length (calls_under (lock_of pages.now)) }
-{
-    join(
-        rt,
-        || -> Result<usize, AllocError>
-            requires between { IsBetweenTasks space (lock_of pages.now) waiter }
-            requires there { 3 ≤ length (calls_under (lock_of pages.now)) }
-        { wait(rt, alloc, pages, waiter, gate) },
-        || -> Result<usize, AllocError>
-            requires between { IsBetweenTasks space (lock_of pages.now) sender }
-            requires there { 3 ≤ length (calls_under (lock_of pages.now)) }
-        { send(rt, alloc, pages, sender) },
-    )
+/// Whether these are the words of the records of the call that held, of those that were busy, of
+/// interrupted calls between them, and of the signals.
+fn are_records(recs: &[u64], held: u64, busy: u64) -> bool {
+    let mut at = 0u32;
+    for word in recs {
+        let wanted = if at == 0 {
+            held
+        } else if at == 1 || at == SIGNALS + 2 {
+            6 * KIND + busy * VALUE
+        } else if at < SIGNALS + 2 {
+            7 * KIND
+        } else {
+            8 * KIND
+        };
+        if *word != wanted {
+            return false;
+        }
+        at = at.saturating_add(1);
+    }
+    at == 2 * SIGNALS + 3
 }
 
-// Each call waits for a mutex that is never free meanwhile: it ends where a signal interrupts it,
-// and each signal ends one of them.
+// Each call waits for a lock that it can't have meanwhile: it ends where a signal interrupts it,
+// and each signal ends one of them. What a try sees behind them is what one saw in front of them:
+// whoever was interrupted left no flag. No call but that of task 0 held the space.
 #[test]
 fn each_signal_interrupts_one_call_that_waits_for_a_mutex(rt: HostRuntime) -> Result<(), Fail> {
-    let mut plan = Plan::new(rt.alloc(), 3)?;
-    push_calls::<Areas>(&mut plan, 0, 1, map_page(5))?;
-    push_calls::<Areas>(&mut plan, 1, SIGNALS, int_fault_page(5))?;
-    push_calls::<Areas>(&mut plan, 2, SIGNALS, signal_task(1))?;
-    let (pages, pass) = Guarded::<Mutex<Areas>, Areas>::open(rt.alloc(), 0, plan)?;
-    let (mut pass, interrupted, sent) = hold_wait_and_send(&rt, rt.alloc(), &pages, pass)?;
-    assert_eq!(rt; interrupted, SIGNALS as usize);
-    assert_eq!(rt; sent, SIGNALS as usize);
-    // No call but the one of task 0 held the space.
-    let copy = copy_of(&rt, rt.alloc(), &pages, &mut pass)?;
+    let calls = Calls {
+        holds: map_page(5),
+        tries: try_map_page(5),
+        waits: int_fault_page(5),
+    };
+    let copy = history_of::<_, Mutex<Areas>>(&rt, rt.alloc(), calls)?;
+    assert!(rt; are_records(copy.recs(), 2 * KIND + 5 * VALUE, 8));
     assert_eq!(rt; copy.log(), [0].as_slice());
+    Ok(())
+}
+
+#[test]
+fn each_signal_interrupts_one_reader_that_waits_behind_a_writer(
+    rt: HostRuntime,
+) -> Result<(), Fail> {
+    let calls = Calls {
+        holds: map_page(5),
+        tries: try_fault_page(5),
+        waits: int_fault_page(5),
+    };
+    let copy = history_of::<_, RwSem<Areas>>(&rt, rt.alloc(), calls)?;
+    assert!(rt; are_records(copy.recs(), 2 * KIND + 5 * VALUE, 1));
+    assert_eq!(rt; copy.log(), [0].as_slice());
+    Ok(())
+}
+
+#[test]
+fn each_signal_interrupts_one_writer_that_waits_behind_a_reader(
+    rt: HostRuntime,
+) -> Result<(), Fail> {
+    let calls = Calls {
+        holds: fault_page(5),
+        tries: try_map_page(5),
+        waits: int_map_page(5),
+    };
+    let copy = history_of::<_, RwSem<Areas>>(&rt, rt.alloc(), calls)?;
+    assert!(rt; are_records(copy.recs(), 4 * KIND, 256));
+    assert!(rt; copy.log().is_empty());
     Ok(())
 }

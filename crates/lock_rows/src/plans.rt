@@ -30,6 +30,16 @@ pub fn try_map_page(start: u32) -> CallWords
     }
 }
 
+/// The call `map START 1 rw-`, which waits until a signal interrupts it.
+pub fn int_map_page(start: u32) -> CallWords
+    ensures { IsCallOrSignal space result }
+{
+    CallWords {
+        a: u64::from(start) + (1 << 32),
+        b: 1 + (3 << 8) + (1 << 24),
+    }
+}
+
 /// The call `fault PAGE r` in plain mode.
 pub fn fault_page(page: u32) -> CallWords
     ensures { IsCallOrSignal space result }
@@ -47,6 +57,16 @@ pub fn int_fault_page(page: u32) -> CallWords
     CallWords {
         a: u64::from(page),
         b: 7 + (1 << 16) + (1 << 24),
+    }
+}
+
+/// The call `fault PAGE r`, which doesn't wait.
+pub fn try_fault_page(page: u32) -> CallWords
+    ensures { IsCallOrSignal space result }
+{
+    CallWords {
+        a: u64::from(page),
+        b: 7 + (1 << 16) + (2 << 24),
     }
 }
 
@@ -130,6 +150,16 @@ pub fn get_file(fd: u32) -> CallWords
     CallWords {
         a: u64::from(fd),
         b: 12,
+    }
+}
+
+/// The call `get FD`, which waits until a signal interrupts it.
+pub fn int_get_file(fd: u32) -> CallWords
+    ensures { IsCallOrSignal table result }
+{
+    CallWords {
+        a: u64::from(fd),
+        b: 12 + (1 << 24),
     }
 }
 

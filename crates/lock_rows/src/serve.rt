@@ -1,19 +1,16 @@
 //! Tasks that do their calls on an object under a lock.
 ghost use Rattle.std.specs.Prelude.{◌≡◌, ◌<◌, length, None, Some, IfOk};
 ghost use Rattle.lock_core.specs.declared.view.Held.TheVariants.{No};
-ghost use Rattle.lock_core.specs.Records.{row, IsPlan};
+ghost use Rattle.lock_core.specs.Records.{row};
 ghost use Rattle.lock_core.specs.Kinds.{unavailable};
 ghost use Rattle.guarded.specs.Handles.{lock_of};
 ghost use Rattle.guarded.specs.Copying.{IsHistory};
 ghost use Rattle.guarded.specs.Gathering.{IsGathered};
-ghost use Rattle.lock_rows.specs.Between.{IsFresh, HasServed};
 
-use cpu_task::{Crew, Gate, OpenGate, ScriptedCrew, Turns};
+use cpu_task::{Crew, Gate, ScriptedCrew, Turns};
 use guarded::{Guarded, Served, SleepLock};
-use lock_core::Plan;
 use std::alloc::{AllocError, Global};
 use std::sync::Wait;
-use std::thread::{Threads, join};
 use word_bits::{Reply, Snapshot};
 
 /// A plan has at most so many calls.
@@ -109,92 +106,4 @@ pub fn copy_of<W: Wait, L: SleepLock<O>, O: Served + Drop>(
     guarded.snapshot(rt, pass, &mut cpu, &crew, &mut out);
     guarded.end(pass);
     Ok(out)
-}
-
-/// Does all calls of the task, by a pass that has seen nothing, and gives the number back. Waits
-/// for good where there is no memory, or where a call of the task is done already.
-fn serve_all<W: Wait, L: SleepLock<O>, O: Served + Drop>(
-    rt: &W,
-    alloc: Global,
-    guarded: &Guarded<L, O>,
-    mut pass: L::Pass,
-    task: u32,
-) -> L::Pass
-    requires own { L.sits (lock_of guarded.now) pass }
-    requires fresh { IsFresh (L.view pass) }
-    requires there { task < length (L.calls_on (lock_of guarded.now)) }
-    ensures own { L.sits (lock_of guarded.now) result }
-    ensures served { HasServed O.object (unavailable L.kind) (L.calls_on (lock_of guarded.now))
-        task (L.view result) }
-{
-    let Ok(mut crew) = ScriptedCrew::new(alloc, Vec::new(alloc), Vec::new(alloc)) else {
-        for _ in rt.forever() {}
-        unreachable!()
-    };
-    let Ok(mut cpu) = crew.cpu(alloc, task, NO_TURNS) else {
-        for _ in rt.forever() {}
-        unreachable!()
-    };
-    guarded.begin(rt, &mut pass, task);
-    if guarded.done(&pass) != 0 {
-        for _ in rt.forever() {}
-        unreachable!()
-    }
-    guarded.perform_all(rt, &mut pass, &mut cpu, &crew, &OpenGate, task);
-    guarded.end(&mut pass);
-    pass
-}
-
-/// Two tasks do their calls on an object at once. The first pass gathers the other.
-fn two_serve_at_once<
-    R: Threads + Wait + Sync,
-    L: SleepLock<O, Pass: Send> + Sync,
-    O: Served<Call: Sync> + Drop + Sync,
->(rt: &R, alloc: Global, guarded: &Guarded<L, O>, mut first: L::Pass) -> L::Pass
-    requires own { L.sits (lock_of guarded.now) first }
-    requires fresh { IsFresh (L.view first) }
-    requires two { length (L.calls_on (lock_of guarded.now)) ≡ 2 }
-    ensures own { L.sits (lock_of guarded.now) result }
-    ensures numberless { (L.view result).hand.task ≡ None }
-    ensures gathered { IsGathered O.object (unavailable L.kind)
-        (L.calls_on (lock_of guarded.now)) (L.view result).hand }
-{
-    let second = guarded.split(&mut first);
-    let (mut one, two) = join(
-        rt,
-        || -> L::Pass
-            requires own { L.sits (lock_of guarded.now) first }
-            requires fresh { IsFresh (L.view first) }
-            requires there { 0 < length (L.calls_on (lock_of guarded.now)) }
-            ensures own { L.sits (lock_of guarded.entry.now) result }
-            ensures served { HasServed O.object (unavailable L.kind)
-                (L.calls_on (lock_of guarded.entry.now)) 0 (L.view result) }
-        { serve_all(rt, alloc, guarded, first, 0) },
-        || -> L::Pass
-            requires own { L.sits (lock_of guarded.now) second }
-            requires fresh { IsFresh (L.view second) }
-            requires there { 1 < length (L.calls_on (lock_of guarded.now)) }
-            ensures own { L.sits (lock_of guarded.entry.now) result }
-            ensures served { HasServed O.object (unavailable L.kind)
-                (L.calls_on (lock_of guarded.entry.now)) 1 (L.view result) }
-        { serve_all(rt, alloc, guarded, second, 1) },
-    );
-    guarded.gather(&mut one, two);
-    one
-}
-
-/// A copy of what two tasks leave that do all their calls on a new object at once: it is a legal
-/// history, one thread's, with each call once.
-pub fn history_of_two<
-    R: Threads + Wait + Sync,
-    L: SleepLock<O, Pass: Send> + Sync + Drop,
-    O: Served<Call: Sync> + Drop + Sync,
->(rt: &R, alloc: Global, plan: Plan) -> Result<Snapshot, AllocError>
-    requires plan { IsPlan O.object plan }
-    requires two { length plan ≡ 2 }
-    ensures { IfOk result (λ copy. IsHistory O.object (unavailable L.kind) plan copy) }
-{
-    let (guarded, first) = Guarded::<L, O>::open(alloc, 0, plan)?;
-    let mut pass = two_serve_at_once(rt, alloc, &guarded, first);
-    copy_of(rt, alloc, &guarded, &mut pass)
 }

@@ -1,17 +1,19 @@
 //! Calls on an object under a lock, and copies of what they leave.
 use crate::{
-    OwnerLock, close_file, copy_of, dup_file, fault_page, get_file, history_of_two, map_page,
+    OwnerLock, close_file, copy_of, dup_file, fault_page, get_file, history_of_four, map_page,
     open_file, populate_pages, push_calls, replies_of, signal_task, try_map_page,
 };
-use cpu_task::{Gate, OpenGate};
+use cpu_task::{Gate, OpenGate, ParkCrew};
 use fd_table::Fds;
-use guarded::Guarded;
+use guarded::{Guarded, Mutex, RwSem, SleepLock};
 use lock_core::Plan;
+use std::alloc::{AllocError, Global};
 use std::sync::Wait;
 use std::sync::atomic::{AtomicU32, Ordering};
 use std::test::Fail;
+use std::thread::Threads;
 use vma_map::Areas;
-use word_bits::{Errno, Rec, Reply};
+use word_bits::{Errno, Rec, Reply, Snapshot};
 
 /// A record's word has the kind of the reply above its place in the log, and the value above both.
 const KIND: u64 = 262_144;
@@ -21,49 +23,76 @@ const VALUE: u64 = 4_194_304;
 /// How many calls each of two threads makes.
 const TRIES: u32 = 10_000;
 
-/// Counts the tasks that hold the object of number 3 alone.
+/// Counts the tasks that hold the object of number 3 alone, and those that share it.
 #[derive(Default, Drop)]
 struct Seen {
-    seen: AtomicU32,
+    alone: AtomicU32,
+    shared: AtomicU32,
+}
+
+/// Counts one more.
+fn count(counter: &AtomicU32) {
+    let _ = counter.fetch_update(Ordering::SeqCst, Ordering::SeqCst, |n| n.checked_add(1));
+}
+
+impl Seen {
+    /// How often one held alone, and how often one shared.
+    fn counts(&self) -> (u32, u32) {
+        (
+            self.alone.load(Ordering::SeqCst),
+            self.shared.load(Ordering::SeqCst),
+        )
+    }
 }
 
 impl Gate for Seen {
     fn inside<R: Wait>(&self, _rt: &R, object: u32, task: u32, shared: bool) {
-        if object == 3 && task < 2 && !shared {
-            let _ = self
-                .seen
-                .fetch_update(Ordering::SeqCst, Ordering::SeqCst, |n| n.checked_add(1));
+        if object != 3 || task >= 2 {
+            return;
         }
+        count(if shared { &self.shared } else { &self.alone });
     }
 }
 
-#[test]
-fn calls_on_a_space_leave_one_history(rt: HostRuntime) -> Result<(), Fail> {
-    let mut plan = Plan::new(rt.alloc(), 2)?;
+/// What two tasks leave that do their calls on a space under a lock, one after the other.
+#[derive(Drop)]
+struct Left {
+    first: Vec<Reply>,
+    second: Vec<Reply>,
+    copy: Snapshot,
+}
+
+/// What they leave under such a lock.
+fn serve_a_space<W: Wait, L: SleepLock<Areas> + Drop>(
+    rt: &W,
+    alloc: Global,
+    gate: &Seen,
+) -> Result<Left, AllocError> {
+    let mut plan = Plan::new(alloc, 2)?;
     push_calls::<Areas>(&mut plan, 0, 1, map_page(5))?;
     push_calls::<Areas>(&mut plan, 0, 1, fault_page(5))?;
     push_calls::<Areas>(&mut plan, 0, 1, fault_page(6))?;
     push_calls::<Areas>(&mut plan, 1, 1, try_map_page(6))?;
     push_calls::<Areas>(&mut plan, 1, 1, signal_task(0))?;
     push_calls::<Areas>(&mut plan, 1, 1, fault_page(6))?;
-    let (space, mut one) = Guarded::<OwnerLock<Areas>, Areas>::open(rt.alloc(), 3, plan)?;
-    let gate = Seen::default();
+    let (space, mut one) = Guarded::<L, Areas>::open(alloc, 3, plan)?;
     let mut two = space.split(&mut one);
-    let replies = replies_of(&rt, rt.alloc(), &space, &mut one, &gate, 0)?;
-    assert_eq!(rt;
-        replies.as_slice(),
-        [Reply::Num(5), Reply::Good, Reply::MapErr].as_slice()
-    );
-    let replies = replies_of(&rt, rt.alloc(), &space, &mut two, &gate, 1)?;
-    assert_eq!(rt;
-        replies.as_slice(),
-        [Reply::Num(6), Reply::Sent, Reply::Good].as_slice()
-    );
-    // Once for each call but the signal, with the number that the space was opened with.
-    assert_eq!(rt; gate.seen.load(Ordering::SeqCst), 5);
+    let first = replies_of(rt, alloc, &space, &mut one, gate, 0)?;
+    let second = replies_of(rt, alloc, &space, &mut two, gate, 1)?;
     space.gather(&mut one, two);
     space.recall(&mut one);
-    let copy = copy_of(&rt, rt.alloc(), &space, &mut one)?;
+    let copy = copy_of(rt, alloc, &space, &mut one)?;
+    Ok(Left {
+        first,
+        second,
+        copy,
+    })
+}
+
+/// Whether that is what the calls leave under any lock.
+fn is_left(left: &Left) -> bool {
+    let first = [Reply::Num(5), Reply::Good, Reply::MapErr];
+    let second = [Reply::Num(6), Reply::Sent, Reply::Good];
     let recs = [
         5 * VALUE + 2 * KIND,
         KIND + 1,
@@ -72,34 +101,84 @@ fn calls_on_a_space_leave_one_history(rt: HostRuntime) -> Result<(), Fail> {
         8 * KIND + 2,
         KIND + 2,
     ];
-    assert_eq!(rt; copy.recs(), recs.as_slice());
-    assert_eq!(rt; copy.log(), [0, 262_144].as_slice());
     let mut state = [0; 257];
     state[0] = 1;
     state[1] = (5 << 24) + (7 << 3) + 3;
-    assert_eq!(rt; copy.state(), state.as_slice());
+    left.first.as_slice() == first.as_slice()
+        && left.second.as_slice() == second.as_slice()
+        && left.copy.recs() == recs.as_slice()
+        && left.copy.log() == [0, 262_144].as_slice()
+        && left.copy.state() == state.as_slice()
+}
+
+// The gate sees each call but the signal once, with the number that the space was opened with.
+#[test]
+fn calls_on_a_space_under_an_owner_word_leave_one_history(rt: HostRuntime) -> Result<(), Fail> {
+    let gate = Seen::default();
+    let left = serve_a_space::<_, OwnerLock<Areas>>(&rt, rt.alloc(), &gate)?;
+    assert!(rt; is_left(&left));
+    assert_eq!(rt; gate.counts(), (5, 0));
     Ok(())
 }
 
 #[test]
-fn populate_counts_the_pages_that_it_left(rt: HostRuntime) -> Result<(), Fail> {
-    let mut plan = Plan::new(rt.alloc(), 1)?;
+fn calls_on_a_space_under_a_mutex_leave_one_history(rt: HostRuntime) -> Result<(), Fail> {
+    let gate = Seen::default();
+    let left = serve_a_space::<_, Mutex<Areas>>(&rt, rt.alloc(), &gate)?;
+    assert!(rt; is_left(&left));
+    assert_eq!(rt; gate.counts(), (5, 0));
+    Ok(())
+}
+
+#[test]
+fn calls_on_a_space_under_a_semaphore_leave_one_history(rt: HostRuntime) -> Result<(), Fail> {
+    let gate = Seen::default();
+    let left = serve_a_space::<_, RwSem<Areas>>(&rt, rt.alloc(), &gate)?;
+    assert!(rt; is_left(&left));
+    // The faults share.
+    assert_eq!(rt; gate.counts(), (2, 3));
+    Ok(())
+}
+
+/// What one task replies that populates a space under such a lock.
+fn populate_a_space<W: Wait, L: SleepLock<Areas> + Drop>(
+    rt: &W,
+    alloc: Global,
+    gate: &Seen,
+) -> Result<Vec<Reply>, AllocError> {
+    let mut plan = Plan::new(alloc, 1)?;
     push_calls::<Areas>(&mut plan, 0, 1, map_page(2))?;
     push_calls::<Areas>(&mut plan, 0, 1, populate_pages(0, 4, 1))?;
     push_calls::<Areas>(&mut plan, 0, 1, populate_pages(1, 2, 2))?;
     push_calls::<Areas>(&mut plan, 0, 1, populate_pages(0, 0, 1))?;
-    let (space, mut pass) = Guarded::<OwnerLock<Areas>, Areas>::open(rt.alloc(), 0, plan)?;
-    let replies = replies_of(&rt, rt.alloc(), &space, &mut pass, &OpenGate, 0)?;
-    assert_eq!(rt;
-        replies.as_slice(),
-        [
-            Reply::Num(2),
-            Reply::Num(4),
-            Reply::Num(0),
-            Reply::Refused(Errno::Inval)
-        ]
-        .as_slice()
-    );
+    let (space, mut pass) = Guarded::<L, Areas>::open(alloc, 3, plan)?;
+    replies_of(rt, alloc, &space, &mut pass, gate, 0)
+}
+
+/// The replies to these calls under any lock.
+const POPULATED: [Reply; 4] = [
+    Reply::Num(2),
+    Reply::Num(4),
+    Reply::Num(0),
+    Reply::Refused(Errno::Inval),
+];
+
+#[test]
+fn populate_under_an_owner_word_counts_the_pages_that_it_left(rt: HostRuntime) -> Result<(), Fail> {
+    let gate = Seen::default();
+    let replies = populate_a_space::<_, OwnerLock<Areas>>(&rt, rt.alloc(), &gate)?;
+    assert_eq!(rt; replies.as_slice(), POPULATED.as_slice());
+    assert_eq!(rt; gate.counts(), (4, 0));
+    Ok(())
+}
+
+// It counts them while it shares, as does a refused call.
+#[test]
+fn populate_under_a_semaphore_counts_the_pages_that_it_left(rt: HostRuntime) -> Result<(), Fail> {
+    let gate = Seen::default();
+    let replies = populate_a_space::<_, RwSem<Areas>>(&rt, rt.alloc(), &gate)?;
+    assert_eq!(rt; replies.as_slice(), POPULATED.as_slice());
+    assert_eq!(rt; gate.counts(), (1, 3));
     Ok(())
 }
 
@@ -144,14 +223,32 @@ fn numbers(recs: &[u64]) -> (u32, u32) {
     found
 }
 
+/// What two tasks leave that try at once for a space under such a lock.
+fn try_at_once<R: Threads + Wait + Sync, L: SleepLock<Areas, Pass: Send> + Sync + Drop>(
+    rt: &R,
+    alloc: Global,
+) -> Result<Snapshot, AllocError> {
+    let mut plan = Plan::new(alloc, 4)?;
+    push_calls::<Areas>(&mut plan, 0, TRIES, try_map_page(0))?;
+    push_calls::<Areas>(&mut plan, 1, TRIES, try_map_page(7))?;
+    let crew = ParkCrew::new(alloc, 4)?;
+    history_of_four::<_, _, _, L, Areas>(rt, alloc, plan, crew, &OpenGate)
+}
+
 // Which calls find the lock taken depends on the schedule: each call has its record all the same,
 // and the log has those that took it. That the copy is a legal history is proved.
 #[test]
-fn two_threads_leave_one_history(rt: HostRuntime) -> Result<(), Fail> {
-    let mut plan = Plan::new(rt.alloc(), 2)?;
-    push_calls::<Areas>(&mut plan, 0, TRIES, try_map_page(0))?;
-    push_calls::<Areas>(&mut plan, 1, TRIES, try_map_page(7))?;
-    let copy = history_of_two::<_, OwnerLock<Areas>, Areas>(&rt, rt.alloc(), plan)?;
+fn two_threads_that_try_under_an_owner_word_leave_one_history(rt: HostRuntime) -> Result<(), Fail> {
+    let copy = try_at_once::<_, OwnerLock<Areas>>(&rt, rt.alloc())?;
+    let (done, busy) = numbers(copy.recs());
+    assert_eq!(rt; done.saturating_add(busy), 2 * TRIES);
+    assert_eq!(rt; copy.log().len(), done as usize);
+    Ok(())
+}
+
+#[test]
+fn two_threads_that_try_under_a_semaphore_leave_one_history(rt: HostRuntime) -> Result<(), Fail> {
+    let copy = try_at_once::<_, RwSem<Areas>>(&rt, rt.alloc())?;
     let (done, busy) = numbers(copy.recs());
     assert_eq!(rt; done.saturating_add(busy), 2 * TRIES);
     assert_eq!(rt; copy.log().len(), done as usize);

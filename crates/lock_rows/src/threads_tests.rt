@@ -1,171 +1,143 @@
-//! Calls on a descriptor table under a mutex, by tasks on threads of their own.
+//! Calls on a descriptor table and on a space under a lock, by four tasks on threads of their own.
 ghost use Rattle.std.specs.Prelude.{◌≡◌, ◌<◌, ◌≤◌, ◌+◌, length, IfOk, IfSome};
 ghost use Rattle.lock_core.specs.Plans.{calls_in};
 ghost use Rattle.lock_core.specs.Records.{IsPlan};
 ghost use Rattle.fd_table.specs.Tables.{table, IsCall};
-ghost use Rattle.guarded.specs.Handles.{lock_of};
-ghost use Rattle.guarded.specs.MutexLocks.{IsBetweenTasks, IsFresh, calls_under};
+ghost use Rattle.vma_map.specs.Spaces.{space};
 
 use crate::{
-    close_file, copy_of, get_file, int_close_file, int_open_file, open_file, push_calls,
-    signal_task,
+    Start, close_file, fault_page, get_file, history_of_four, int_close_file, int_get_file,
+    int_open_file, map_page, open_file, populate_pages, push_calls, signal_task,
 };
-use cpu_task::{Crew, OpenGate, ParkCpu, ParkCrew, Turns};
+use cpu_task::{Gate, ParkCrew};
 use fd_table::{Fds, TableCall};
-use guarded::{Guarded, Mutex, MutexPass};
+use guarded::{Mutex, RwSem, SleepLock};
 use lock_core::Plan;
-use std::alloc::AllocError;
+use std::alloc::{AllocError, Global};
 use std::sync::Wait;
+use std::sync::atomic::{AtomicBool, AtomicU64, Ordering};
 use std::test::Fail;
-use std::thread::{Threads, join};
-use word_bits::{Entry, MAX_TASKS, Object, Rec, Reply, Snapshot};
+use std::thread::Threads;
+use vma_map::Areas;
+use word_bits::{Entry, Object, Rec, Reply, Snapshot};
 
-/// How many times each of four tasks sends a signal to another one, opens a file, closes the
-/// descriptor of the task's own number, and asks for the first one. It opens and closes as often
-/// again by calls that a signal interrupts.
-const ROUNDS: u32 = 2_000;
+/// How many rounds each task makes.
+const ROUNDS: u32 = 2_500;
 
-/// A task's calls.
-const CALLS: usize = 12_000;
+/// A round on the table: a signal to another task, an open, a close and a get in plain mode, and
+/// the same three again by calls that a signal interrupts.
+const KINDS: u32 = 7;
 
-const PATIENCE: Turns = Turns {
-    spin: 100,
-    overdue: 100,
-};
+/// A task's calls on the table.
+const CALLS: usize = 17_500;
 
-/// What the threads share.
-#[derive(Drop)]
-struct Shared {
-    files: Guarded<Mutex<Fds>, Fds>,
-    crew: ParkCrew,
+/// How many rounds each task makes on a space, of which each call loads 257 words.
+const SPACE_ROUNDS: u32 = 1_000;
+
+/// Sees whether a task that holds alone is alone.
+#[derive(Default, Drop)]
+struct Exclusion {
+    /// Two more for each task that held alone, and odd while one does.
+    count: AtomicU64,
+    broken: AtomicBool,
 }
 
-/// Does all calls of a task.
-fn serve<W: Wait>(
-    rt: &W,
-    shared: &Shared,
-    mut pass: MutexPass<Fds>,
-    mut cpu: ParkCpu,
-    task: u32,
-) -> MutexPass<Fds>
-    requires fresh { IsFresh table (lock_of shared.now.files) pass }
-    requires there { task < length (calls_under (lock_of shared.now.files)) }
-    ensures { IsBetweenTasks table (lock_of shared.now.files) result }
-{
-    shared.files.begin(rt, &mut pass, task);
-    if shared.files.done(&pass) == 0 {
-        let gate = OpenGate;
-        shared
-            .files
-            .perform_all(rt, &mut pass, &mut cpu, &shared.crew, &gate, task);
+impl Exclusion {
+    /// How often a task held alone. `None` where another one was inside with it.
+    fn holds(&self) -> Option<u64> {
+        if self.broken.load(Ordering::SeqCst) {
+            return None;
+        }
+        Some(self.count.load(Ordering::SeqCst) / 2)
     }
-    shared.files.end(&mut pass);
-    pass
 }
 
-/// Two tasks do so at once, a task and the next one.
-fn two_at_once<R: Threads + Wait + Sync>(
-    rt: &R,
-    shared: &Shared,
-    one: (MutexPass<Fds>, ParkCpu),
-    two: (MutexPass<Fds>, ParkCpu),
-    task: u32,
-) -> (MutexPass<Fds>, MutexPass<Fds>)
-    requires one { IsFresh table (lock_of shared.now.files) one.0 }
-    requires two { IsFresh table (lock_of shared.now.files) two.0 }
-    requires there { task + 1 < length (calls_under (lock_of shared.now.files)) }
-    ensures one { IsBetweenTasks table (lock_of shared.now.files) result.0 }
-    ensures two { IsBetweenTasks table (lock_of shared.now.files) result.1 }
+impl Gate for Exclusion {
+    fn inside<R: Wait>(&self, _rt: &R, _object: u32, _task: u32, shared: bool) {
+        let count = self.count.load(Ordering::SeqCst);
+        if !shared {
+            self.count.store(count.wrapping_add(1), Ordering::SeqCst);
+        }
+        let odd = self.count.load(Ordering::SeqCst);
+        if count % 2 != 0 || odd != count.wrapping_add(u64::from(!shared)) {
+            self.broken.store(true, Ordering::SeqCst);
+        }
+        if !shared {
+            self.count.store(count.wrapping_add(2), Ordering::SeqCst);
+        }
+    }
+}
+
+impl Start for Exclusion {
+    fn begins(&self, _task: u32) {}
+
+    fn ended(&self, _task: u32) {}
+}
+
+/// A task's rounds on the table. It sends its signals to the other one.
+fn push_table_rounds(plan: &mut Plan, task: u32, other: u32) -> Result<(), AllocError>
+    requires there { task < length plan.old }
+    requires few { task < 4 }
+    requires other { other < 4 }
+    requires room { calls_in plan.old + 17500 ≤ 131072 }
+    requires calls { IsPlan table plan.old }
+    ensures tasks { IfOk result (λ _. length plan.new ≡ length plan.old) }
+    ensures count { IfOk result (λ _. calls_in plan.new ≡ calls_in plan.old + 17500) }
+    ensures calls { IfOk result (λ _. IsPlan table plan.new) }
 {
-    let (first, first_cpu) = one;
-    let (second, second_cpu) = two;
-    join(
-        rt,
-        || -> MutexPass<Fds>
-            requires fresh { IsFresh table (lock_of shared.now.files) first }
-            requires there { task < length (calls_under (lock_of shared.now.files)) }
-            ensures { IsBetweenTasks table (lock_of shared.entry.now.files) result }
-        { serve(rt, shared, first, first_cpu, task) },
-        || -> MutexPass<Fds>
-            requires fresh { IsFresh table (lock_of shared.now.files) second }
-            requires there { task + 1 < length (calls_under (lock_of shared.now.files)) }
-            ensures { IsBetweenTasks table (lock_of shared.entry.now.files) result }
-        { serve(rt, shared, second, second_cpu, task + 1) },
-    )
+    for _ in 0..ROUNDS {
+        push_calls::<Fds>(plan, task, 1, signal_task(other))?;
+        push_calls::<Fds>(plan, task, 1, open_file(7))?;
+        push_calls::<Fds>(plan, task, 1, int_get_file(0))?;
+        push_calls::<Fds>(plan, task, 1, int_open_file(7))?;
+        push_calls::<Fds>(plan, task, 1, close_file(task))?;
+        push_calls::<Fds>(plan, task, 1, get_file(0))?;
+        push_calls::<Fds>(plan, task, 1, int_close_file(task + 4))?;
+    }
+    Ok(())
 }
 
-/// A task's call of this number, if that changes the table.
+/// A task's call on the table of this number, if that changes the table.
 fn change_of(task: u32, call: u32) -> Option<TableCall>
+    requires { task < 4 }
     ensures { IfSome result (λ change. IsCall change) }
 {
-    match call / ROUNDS {
-        1 | 2 => Some(TableCall::Open { file: 7 }),
-        3 | 4 => Some(TableCall::Close { fd: task }),
+    match call % KINDS {
+        1 | 3 => Some(TableCall::Open { file: 7 }),
+        4 => Some(TableCall::Close { fd: task }),
+        6 => Some(TableCall::Close { fd: task + 4 }),
         _ => None,
     }
 }
 
-/// Four tasks do so at once. The first pass gathers the others.
-fn four_at_once<R: Threads + Wait + Sync>(
+/// What four tasks leave that make their rounds on a table under such a lock at once.
+fn table_rounds<R: Threads + Wait + Sync, L: SleepLock<Fds, Pass: Send> + Sync + Drop>(
     rt: &R,
-    shared: &Shared,
-    mut first: MutexPass<Fds>,
-    cpus: [ParkCpu; 4],
-) -> MutexPass<Fds>
-    requires fresh { IsFresh table (lock_of shared.now.files) first }
-    requires there { 4 ≤ length (calls_under (lock_of shared.now.files)) }
-    ensures { IsBetweenTasks table (lock_of shared.now.files) result }
-{
-    let second = shared.files.split(&mut first);
-    let third = shared.files.split(&mut first);
-    let fourth = shared.files.split(&mut first);
-    let [cpu, second_cpu, third_cpu, fourth_cpu] = cpus;
-    let ((mut one, two), (three, four)) = join(
-        rt,
-        || -> (MutexPass<Fds>, MutexPass<Fds>)
-            requires one { IsFresh table (lock_of shared.now.files) first }
-            requires two { IsFresh table (lock_of shared.now.files) second }
-            requires there { 4 ≤ length (calls_under (lock_of shared.now.files)) }
-            ensures one { IsBetweenTasks table (lock_of shared.entry.now.files) result.0 }
-            ensures two { IsBetweenTasks table (lock_of shared.entry.now.files) result.1 }
-        { two_at_once(rt, shared, (first, cpu), (second, second_cpu), 0) },
-        || -> (MutexPass<Fds>, MutexPass<Fds>)
-            requires one { IsFresh table (lock_of shared.now.files) third }
-            requires two { IsFresh table (lock_of shared.now.files) fourth }
-            requires there { 4 ≤ length (calls_under (lock_of shared.now.files)) }
-            ensures one { IsBetweenTasks table (lock_of shared.entry.now.files) result.0 }
-            ensures two { IsBetweenTasks table (lock_of shared.entry.now.files) result.1 }
-        { two_at_once(rt, shared, (third, third_cpu), (fourth, fourth_cpu), 2) },
-    );
-    shared.files.gather(&mut one, two);
-    shared.files.gather(&mut one, three);
-    shared.files.gather(&mut one, four);
-    one
+    alloc: Global,
+    gate: &Exclusion,
+) -> Result<Snapshot, AllocError> {
+    let mut plan = Plan::new(alloc, 4)?;
+    push_table_rounds(&mut plan, 0, 1)?;
+    push_table_rounds(&mut plan, 1, 2)?;
+    push_table_rounds(&mut plan, 2, 3)?;
+    push_table_rounds(&mut plan, 3, 0)?;
+    let crew = ParkCrew::new(alloc, 4)?;
+    history_of_four::<_, _, _, L, Fds>(rt, alloc, plan, crew, gate)
 }
 
-/// The calls of a task, which sends its signals to the other one.
-fn push_rounds(plan: &mut Plan, task: u32, other: u32) -> Result<(), AllocError>
-    requires there { task < length plan.old }
-    requires other { other < MAX_TASKS }
-    requires room { calls_in plan.old + 12000 ≤ 131072 }
-    requires calls { IsPlan table plan.old }
-    ensures tasks { IfOk result (λ _. length plan.new ≡ length plan.old) }
-    ensures count { IfOk result (λ _. calls_in plan.new ≡ calls_in plan.old + 12000) }
-    ensures calls { IfOk result (λ _. IsPlan table plan.new) }
-{
-    push_calls::<Fds>(plan, task, ROUNDS, signal_task(other))?;
-    push_calls::<Fds>(plan, task, ROUNDS, open_file(7))?;
-    push_calls::<Fds>(plan, task, ROUNDS, int_open_file(7))?;
-    push_calls::<Fds>(plan, task, ROUNDS, close_file(task))?;
-    push_calls::<Fds>(plan, task, ROUNDS, int_close_file(task))?;
-    push_calls::<Fds>(plan, task, ROUNDS, get_file(0))?;
-    Ok(())
+/// How many of each task's calls the log has, and how many were interrupted: of those that change
+/// the table, and of those that read it.
+#[derive(Clone, Copy, Default)]
+struct Counts {
+    done: [u32; 4],
+    changes: [u32; 4],
+    readings: [u32; 4],
 }
 
-/// Does the log's calls one after the other on an empty table. Counts how many each task has, and
-/// gives what stores the table. Says whether each task's calls stand in their order and change the
-/// table, and whether each call's record says what it replied, at its place.
-fn replay(copy: &Snapshot, done: &mut [u32; 4], state: &mut [u64; 64]) -> bool {
+/// Does the log's calls one after the other on an empty table. Counts them, and gives what stores
+/// the table. Says whether each task's calls stand in their order and change the table, and whether
+/// each call's record says what it replied, at its place.
+fn replay(copy: &Snapshot, counts: &mut Counts, state: &mut [u64; 64]) -> bool {
     let mut table = Fds::empty();
     let mut place = 0u32;
     let mut next = [0u32; 4];
@@ -178,7 +150,7 @@ fn replay(copy: &Snapshot, done: &mut [u32; 4], state: &mut [u64; 64]) -> bool {
             return false;
         }
         next[task] = entry.call.saturating_add(1);
-        done[task] = done[task].saturating_add(1);
+        counts.done[task] = counts.done[task].saturating_add(1);
         let Some(change) = change_of(entry.task, entry.call) else {
             return false;
         };
@@ -200,57 +172,137 @@ fn recorded(copy: &Snapshot, task: usize, call: u32) -> Option<Rec>
     Rec::unpack(*copy.recs().get(task * CALLS + call as usize)?)
 }
 
-/// How many records there are. Counts how many of each task's calls were interrupted.
-fn records(copy: &Snapshot, interrupted: &mut [u32; 4]) -> u32 {
+/// How many records there are. Counts the interrupted calls.
+fn records(copy: &Snapshot, counts: &mut Counts) -> u32 {
     let mut count = 0u32;
-    let mut place = 0usize;
+    let mut task = 0usize;
+    let mut call = 0u32;
     for word in copy.recs() {
         let Some(rec) = Rec::unpack(*word) else {
             return count;
         };
-        let task = place / CALLS;
-        if rec.reply == Reply::Intr && task < 4 {
-            interrupted[task] = interrupted[task].saturating_add(1);
+        if rec.reply == Reply::Intr && task < 4 && call % KINDS == 2 {
+            counts.readings[task] = counts.readings[task].saturating_add(1);
+        } else if rec.reply == Reply::Intr && task < 4 {
+            counts.changes[task] = counts.changes[task].saturating_add(1);
         }
         count = count.saturating_add(1);
-        place = place.saturating_add(1);
+        call = call.saturating_add(1);
+        if call as usize == CALLS {
+            call = 0;
+            task = task.saturating_add(1);
+        }
     }
     count
 }
 
+/// How many of all tasks' calls these are.
+fn all(counts: &[u32; 4]) -> u64 {
+    let mut sum = 0u64;
+    for count in counts {
+        sum = sum.saturating_add(u64::from(*count));
+    }
+    sum
+}
+
+/// Whether the log is one that a single thread could have left, has each change once that wasn't
+/// interrupted, and leaves the table; and whether each task was interrupted at most as often as
+/// signals were sent to it.
+fn is_one_history(copy: &Snapshot, counts: &mut Counts) -> bool {
+    let mut state = [0; 64];
+    if records(copy, counts) != 4 * KINDS * ROUNDS || !replay(copy, counts, &mut state) {
+        return false;
+    }
+    for task in 0..4 {
+        let interrupted = u64::from(counts.changes[task]) + u64::from(counts.readings[task]);
+        let changes = u64::from(counts.done[task]) + u64::from(counts.changes[task]);
+        if interrupted > u64::from(ROUNDS) || changes != 4 * u64::from(ROUNDS) {
+            return false;
+        }
+    }
+    copy.state() == state.as_slice()
+}
+
 // Which task opens which descriptor, and which of its calls are interrupted, depends on the
-// schedule. Whatever it is, the log is one that a single thread could have left, and has each
-// change once that wasn't interrupted; and each interruption has a signal of its own.
+// schedule. Under a mutex each call that had it held alone.
 #[test]
 fn four_threads_under_a_mutex_leave_what_one_thread_could(rt: HostRuntime) -> Result<(), Fail> {
-    let mut plan = Plan::new(rt.alloc(), 4)?;
-    push_rounds(&mut plan, 0, 1)?;
-    push_rounds(&mut plan, 1, 2)?;
-    push_rounds(&mut plan, 2, 3)?;
-    push_rounds(&mut plan, 3, 0)?;
-    let (files, pass) = Guarded::<Mutex<Fds>, Fds>::open(rt.alloc(), 0, plan)?;
-    let mut crew = ParkCrew::new(rt.alloc(), 4)?;
-    let cpus = [
-        crew.cpu(rt.alloc(), 0, PATIENCE)?,
-        crew.cpu(rt.alloc(), 1, PATIENCE)?,
-        crew.cpu(rt.alloc(), 2, PATIENCE)?,
-        crew.cpu(rt.alloc(), 3, PATIENCE)?,
-    ];
-    let shared = Shared { files, crew };
-    let mut pass = four_at_once(&rt, &shared, pass, cpus);
-    let copy = copy_of(&rt, rt.alloc(), &shared.files, &mut pass)?;
-    let mut interrupted = [0; 4];
-    assert_eq!(rt; records(&copy, &mut interrupted), 24 * ROUNDS);
-    let mut done = [0; 4];
-    let mut state = [0; 64];
-    assert!(rt; replay(&copy, &mut done, &mut state));
-    for task in 0..4 {
-        assert!(rt; interrupted[task] <= ROUNDS);
-        assert_eq!(rt;
-            u64::from(done[task]) + u64::from(interrupted[task]),
-            4 * u64::from(ROUNDS)
-        );
+    let gate = Exclusion::default();
+    let copy = table_rounds::<_, Mutex<Fds>>(&rt, rt.alloc(), &gate)?;
+    let mut counts = Counts::default();
+    assert!(rt; is_one_history(&copy, &mut counts));
+    let interrupted = all(&counts.changes).saturating_add(all(&counts.readings));
+    assert_eq!(rt;
+        gate.holds().map(|holds| holds.saturating_add(interrupted)),
+        Some(24 * u64::from(ROUNDS))
+    );
+    Ok(())
+}
+
+// Under a semaphore only those did that change the table.
+#[test]
+fn four_threads_under_a_semaphore_leave_what_one_thread_could(rt: HostRuntime) -> Result<(), Fail> {
+    let gate = Exclusion::default();
+    let copy = table_rounds::<_, RwSem<Fds>>(&rt, rt.alloc(), &gate)?;
+    let mut counts = Counts::default();
+    assert!(rt; is_one_history(&copy, &mut counts));
+    assert_eq!(rt; gate.holds(), Some(all(&counts.done)));
+    Ok(())
+}
+
+/// A task's rounds on a space: it populates two pages of its own, which it then shares, maps
+/// another one, and looks at one.
+fn push_space_rounds(plan: &mut Plan, task: u32) -> Result<(), AllocError>
+    requires there { task < length plan.old }
+    requires few { task < 4 }
+    requires room { calls_in plan.old + 3000 ≤ 131072 }
+    requires calls { IsPlan space plan.old }
+    ensures tasks { IfOk result (λ _. length plan.new ≡ length plan.old) }
+    ensures count { IfOk result (λ _. calls_in plan.new ≡ calls_in plan.old + 3000) }
+    ensures calls { IfOk result (λ _. IsPlan space plan.new) }
+{
+    for _ in 0..SPACE_ROUNDS {
+        push_calls::<Areas>(plan, task, 1, populate_pages(2 * task, 2, 1))?;
+        push_calls::<Areas>(plan, task, 1, map_page(8 + task))?;
+        push_calls::<Areas>(plan, task, 1, fault_page(2 * task))?;
     }
-    assert_eq!(rt; copy.state(), state.as_slice());
+    Ok(())
+}
+
+/// Whether these are the words of the records of such rounds of four tasks.
+fn are_space_records(recs: &[u64]) -> bool {
+    let mut place = 0u32;
+    for word in recs {
+        let task = place / (3 * SPACE_ROUNDS);
+        let wanted = match place % 3 {
+            0 => Reply::Num(2),
+            1 => Reply::Num(8u32.saturating_add(task)),
+            _ => Reply::Good,
+        };
+        if Rec::unpack(*word).map(|rec| rec.reply) != Some(wanted) {
+            return false;
+        }
+        place = place.saturating_add(1);
+    }
+    place == 12 * SPACE_ROUNDS
+}
+
+// A task that populates holds alone while it maps, and shares while it counts, with no moment
+// between at which another one could change what it counts.
+#[test]
+fn four_threads_that_populate_a_space_share_it_with_readers_alone(
+    rt: HostRuntime,
+) -> Result<(), Fail> {
+    let mut plan = Plan::new(rt.alloc(), 4)?;
+    push_space_rounds(&mut plan, 0)?;
+    push_space_rounds(&mut plan, 1)?;
+    push_space_rounds(&mut plan, 2)?;
+    push_space_rounds(&mut plan, 3)?;
+    let gate = Exclusion::default();
+    let crew = ParkCrew::new(rt.alloc(), 4)?;
+    let copy = history_of_four::<_, _, _, RwSem<Areas>, Areas>(&rt, rt.alloc(), plan, crew, &gate)?;
+    assert!(rt; are_space_records(copy.recs()));
+    assert_eq!(rt; copy.log().len(), 8 * SPACE_ROUNDS as usize);
+    assert_eq!(rt; gate.holds(), Some(4 * u64::from(SPACE_ROUNDS)));
     Ok(())
 }

@@ -15,7 +15,7 @@ use Rattle.wait_list.specs.declared.view.Waiter.{Waiter}
 use Rattle.wait_list.specs.Lists.{waiter_code}
 use Rattle.mutex_slow.specs.Mutexes.{V, list_at, owner_at, turned}
 use Rattle.mutex_slow.specs.Places.{DecidesAt, EndsUnasked, FindsAsked, FindsOwnCode, Names, NamesFirst, line_of}
-use Rattle.mutex_slow.proofs.Showing.{found-within}
+use Rattle.lock_core.proofs.Within.{found-within}
 
 -- the pass's last step found its own code, with these flags
 pub decides : (v u : V) (p q : List Moment) (n flags : ℕ) (held : Held) → u.hand.task ≡ v.hand.task → u.hand.held ≡ held → v.steps < u.steps → IsOwnStep u q → FoundAt owner_at n q → GoesOn p q → n / 8 ≡ task_code v.hand.task → n % 8 ≡ flags → FindsUnasked v.hand.task owner_at (v.steps + 1) u.steps p q

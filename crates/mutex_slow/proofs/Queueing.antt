@@ -1,40 +1,16 @@
 -- What appending itself makes of where a pass stands.
-use Rattle.std.proofs.Common.{◌≡◌, ◌≢◌, ◌∙◌, ◌==◌, Bool, List, [], ◌∷◌, ◌++◌, length, Some, sym, refl, ap, subst, arith, eq-eqb, ne_eqb, if◌then◌else◌}
-use Rattle.lock_core.specs.Records.{bit}
-use Rattle.lock_core.specs.Spins.{holds_in}
-use Rattle.lock_core.specs.SpinFrames.{holds_at}
+use Rattle.std.proofs.Common.{◌≡◌, ◌≢◌, ◌∙◌, Bool, [], ◌∷◌, ◌++◌, length, Some, sym, refl, ap, subst, eq-eqb, ne_eqb, if◌then◌else◌}
 use Rattle.lock_core.specs.Views.{SpinHolds}
 use Rattle.wait_list.specs.declared.view.Waiter.{Waiter}
 use Rattle.wait_list.specs.declared.view.Change.TheVariants.{Enter}
 use Rattle.wait_list.specs.declared.view.ListHand.{ListHand}
-use Rattle.wait_list.specs.Lists.{Appends, FindsFirst, Knows, list_part, counted, first_of}
+use Rattle.wait_list.specs.Lists.{Appends, FindsFirst, Knows, list_part, first_of}
+use Rattle.wait_list.proofs.Joining.{alone-first, holds-one, others-first}
 use Rattle.mutex_slow.specs.declared.view.Point.TheVariants.{Rest, Joins}
 use Rattle.mutex_slow.specs.Mutexes.{V, list_of, with_list, turned}
 use Rattle.mutex_slow.specs.Places.{IsInLine}
 use Rattle.mutex_word.specs.declared.host.Turn.TheVariants.{Flag}
 use Rattle.mutex_word.specs.Holders.{turns}
-
-holds-one : (v : V) → SpinHolds v.spin → holds_in v.spin ≡ 1
-holds-one v h = ap holds_at h
-
--- who is first in a list behind which it stands alone, and behind others
-alone-first : (was : List Waiter) (w x : Waiter) → counted w.task was ≡ 0 → Some x ≡ first_of (was ++ w ∷ []) → x.task ≡ w.task → length (was ++ w ∷ []) ≡ 1
-alone-first [] w x fresh is same = refl
-alone-first (y ∷ ys) w x fresh is same = let head : x.task ≡ y.task = task-of is in let b : bit (y.task == w.task) ≡ 1 = ap bit (eq-eqb y.task w.task (sym head ∙ same)) in absurd (omega (arith, fresh, b))
-  where
-    task-of : Some x ≡ Some y → x.task ≡ y.task
-    task-of e = cc
-
-others-first : (was : List Waiter) (w x : Waiter) → Some x ≡ first_of (was ++ w ∷ []) → x.task ≢ w.task → length (was ++ w ∷ []) ≢ 1
-others-first [] w x is other = λ _. other (task-of is)
-  where
-    task-of : Some x ≡ Some w → x.task ≡ w.task
-    task-of e = cc
-others-first (y ∷ ys) w x is other = λ one. longer ys (λ z. one)
-  where
-    longer : (ys : List Waiter) → (length ys ≡ length ys → length ((y ∷ ys) ++ w ∷ []) ≡ 1) → ⊥
-    longer [] one = let e = one refl in omega (arith, e)
-    longer (z ∷ zs) one = let e = one refl in omega (arith, e)
 
 module _ (v u x : V) (w : Waiter) (first : Waiter) (locked : SpinHolds v.spin) (a : Appends list_of with_list v w u) (f : FindsFirst list_of with_list u (Some first) x) where
   mine : list_part list_of u ≡ (v.spin, a.hand)

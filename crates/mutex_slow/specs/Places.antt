@@ -12,7 +12,7 @@ use Rattle.lock_core.specs.declared.how.How.{How}
 use Rattle.lock_core.specs.declared.how.How.TheVariants.{Fast, Spun, Slept}
 use Rattle.lock_core.specs.Pasts.{FoundSince}
 use Rattle.lock_core.specs.Shown.{Shown, FindsAtStep, shown}
-use Rattle.lock_core.specs.Locking.{Keeps, Takes}
+use Rattle.lock_core.specs.Locking.{Takes}
 use Rattle.wait_list.specs.declared.view.Waiter.{Waiter}
 use Rattle.mutex_slow.specs.declared.view.MutexHand.{MutexHand}
 use Rattle.mutex_slow.specs.declared.view.Point.TheVariants.{Rest}
@@ -82,14 +82,6 @@ pub record StandsSame (v u : V) : Type 0 where
   pub fronts : u.fronts ≡ v.fronts
   pub appends : u.ext.appends ≡ v.ext.appends
 
--- the hand is as before, but for what loads of its signals heard
-abbrev pub OnlyHeard : V → V → Type 0
-OnlyHeard v u = u.hand ≡ record v.hand { heard = u.hand.heard }
-
--- the same, and it has consumed a signal to its task
-abbrev pub OnlyConsumed : V → V → Type 0
-OnlyConsumed v u = u.hand ≡ record v.hand { heard = u.hand.heard; consumed = v.hand.consumed + 1 }
-
 -- it holds nothing, and has left a word
 abbrev pub IsFreed : V → V → Type 0
 IsFreed v u = u.hand ≡ released v.hand u.hand.freed
@@ -126,13 +118,6 @@ EndsAsked v u = (v.spin.entries < u.spin.entries) × ((step : ℕ) × FindsAsked
 -- how a call that releases ends its hold
 abbrev pub EndsHold : Shown → Shown → Type 0
 EndsHold v u = EndsUnasked v u ⊎ EndsAsked v u
-
--- it recorded nothing, and has taken and ended no hold: tries failed, and loads heard of signals
-pub record OnlyTried (v u : Shown) : Type 0 where
-  pub keeps : Keeps v u
-  pub consumed : u.hand.consumed ≡ v.hand.consumed
-  pub takes : u.hand.takes ≡ v.hand.takes
-  pub freed : u.hand.freed ≡ v.hand.freed
 
 -- how a call got the mutex that came to the wait lock
 abbrev pub GotInLine : How → Shown → Shown → Type 0

@@ -5,7 +5,7 @@ ghost use Rattle.lock_core.specs.declared.view.Held.TheVariants.{No, Alone};
 ghost use Rattle.lock_core.specs.Kinds.{mutex, unavailable, wakes_alone};
 ghost use Rattle.lock_core.specs.Holding.{missed};
 ghost use Rattle.lock_core.specs.Pasts.{EachMoment, FoundAt, Paced, Tail};
-ghost use Rattle.lock_core.specs.Locking.{Looks, Has, HasSince, Interrupts, Releases, Got, KeepsPlace};
+ghost use Rattle.lock_core.specs.Locking.{Looks, Has, HasSince, Interrupts, OnlyTried, Releases, Got, KeepsPlace};
 ghost use Rattle.lock_core.specs.Passes.{Numbered};
 ghost use Rattle.lock_core.specs.Records.{IsPlan};
 ghost use Rattle.lock_core.specs.Shown.{AllButHand, IsLatestStep, PastGoesOn, shown_new, shown_split};
@@ -14,7 +14,7 @@ ghost use Rattle.lock_core.specs.Views.{gathered, gave_up};
 ghost use Rattle.osq_nodes.specs.Handles.{tasks_of};
 ghost use Rattle.lock_core.specs.Handles as inner;
 ghost use Rattle.mutex_slow.specs.Mutexes.{owner_at};
-ghost use Rattle.mutex_slow.specs.Places.{EndsHold, OnlyTried};
+ghost use Rattle.mutex_slow.specs.Places.{EndsHold};
 ghost use Rattle.mutex_slow.specs.Stated.{HasBecome, IsMutexThen, IsOutOfList, waits_on};
 ghost use Rattle.lock_core.specs.Locked.{IsLockedThen, IsSiteStep};
 ghost use Rattle.wait_list.specs.declared.view.Waiter.{Waiter as Waiters};
@@ -178,7 +178,7 @@ impl<O: Object> Mutex<O> {
         ensures interrupted { IfErr result (λ why. (reads : Bool) →
             Interrupts mutex reads owner_at why (shown_of pass.old) (shown_of pass.new)) }
         ensures asked { IfErr result (λ _. interruptible ≡ true) }
-        ensures line { (shared : Bool) → KeepsPlace mutex shared
+        ensures line { (shared : Bool) → KeepsPlace mutex shared owner_at
             (shown_of pass.old) (shown_of pass.new) }
     {
         let Err(_) = parts::try_outside(&self.site, rt, &mut pass.pass) else {
@@ -205,7 +205,7 @@ impl<O: Object> Mutex<O> {
         ensures goes_on { PastGoesOn (shown_of pass.old) (shown_of pass.new) }
         ensures took { TakesAlone O.object self.now pass.old pass.new }
         ensures how { Got result (shown_of pass.old) (shown_of pass.new) }
-        ensures line { (shared : Bool) → KeepsPlace mutex shared
+        ensures line { (shared : Bool) → KeepsPlace mutex shared owner_at
             (shown_of pass.old) (shown_of pass.new) }
     {
         match self.lock_common(rt, pass, cpu, false) {
@@ -231,7 +231,7 @@ impl<O: Object> Mutex<O> {
         ensures how { IfOk result (λ how. Got how (shown_of pass.old) (shown_of pass.new)) }
         ensures interrupted { IfErr result (λ why. (reads : Bool) →
             Interrupts mutex reads owner_at why (shown_of pass.old) (shown_of pass.new)) }
-        ensures line { (shared : Bool) → KeepsPlace mutex shared
+        ensures line { (shared : Bool) → KeepsPlace mutex shared owner_at
             (shown_of pass.old) (shown_of pass.new) }
     {
         self.lock_common(rt, pass, cpu, true)

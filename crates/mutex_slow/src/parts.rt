@@ -3,13 +3,14 @@ ghost use Rattle.std.specs.Prelude.{◌≡◌, ◌≢◌, ◌<◌, ◌+◌, ◌%
 ghost use Rattle.lock_core.specs.declared.view.Held.TheVariants.{No, Alone};
 ghost use Rattle.lock_core.specs.Views.{SpinHolds, SpinRests};
 ghost use Rattle.lock_core.specs.Kinds.{mutex};
-ghost use Rattle.lock_core.specs.Locking.{Misses, SawPending};
+ghost use Rattle.lock_core.specs.Locking.{Misses, OnlyTried, SawPending};
+ghost use Rattle.lock_core.specs.Signals.{OnlyConsumed, OnlyHeard};
 ghost use Rattle.lock_core.specs.Handles.{view_of, hand_in, task_in, held_in, SitsAt};
 ghost use Rattle.lock_core.specs.Shown.{FindsSince};
 ghost use Rattle.wait_list.specs.Lists.{waiter_code};
 ghost use Rattle.mutex_slow.specs.Mutexes.{list_at, owner_at};
 ghost use Rattle.qspin_word.specs.Ways.{SpinGained};
-ghost use Rattle.mutex_slow.specs.Places.{seen_of, StepsOn, TakesAlone, KeepsHand, KeepsMisses, KeepsFronts, StandsSame, IsOutside, IsInLine, HasFailed, OnlyHeard, OnlyConsumed, OnlyTried, IsFreed, EndsUnasked, FindsAsked, NamesFirst};
+ghost use Rattle.mutex_slow.specs.Places.{seen_of, StepsOn, TakesAlone, KeepsHand, KeepsMisses, KeepsFronts, StandsSame, IsOutside, IsInLine, HasFailed, IsFreed, EndsUnasked, FindsAsked, NamesFirst};
 
 use crate::rule::MutexRule;
 use lock_core::{Interrupted, Pass, Site};

@@ -3,12 +3,13 @@ ghost use Rattle.std.specs.Prelude.{◌≡◌, ◌<◌, ◌≤◌, ◌+◌, Bool
 ghost use Rattle.lock_core.specs.declared.view.Held.TheVariants.{No, Alone};
 ghost use Rattle.lock_core.specs.Views.{SpinHolds, SpinRests};
 ghost use Rattle.lock_core.specs.Kinds.{mutex, wakes_alone};
-ghost use Rattle.lock_core.specs.Locking.{Interrupts, Releases, SawPending};
+ghost use Rattle.lock_core.specs.Locking.{Interrupts, OnlyTried, Releases, SawPending};
+ghost use Rattle.lock_core.specs.Signals.{OnlyConsumed};
 ghost use Rattle.lock_core.specs.Handles.{view_of, hand_in, task_in, held_in, SitsAt};
 ghost use Rattle.osq_nodes.specs.declared.node.Place.TheVariants.{Front};
 ghost use Rattle.osq_nodes.specs.Handles as spinners;
 ghost use Rattle.mutex_slow.specs.Mutexes.{owner_at};
-ghost use Rattle.mutex_slow.specs.Places.{seen_of, StepsOn, TakesAlone, KeepsHand, KeepsMisses, KeepsFronts, KeepsAppends, StandsSame, IsOutside, IsInLine, HasFailed, OnlyConsumed, OnlyTried, GotInLine, WentInLine, EndsHold};
+ghost use Rattle.mutex_slow.specs.Places.{seen_of, StepsOn, TakesAlone, KeepsHand, KeepsMisses, KeepsFronts, KeepsAppends, StandsSame, IsOutside, IsInLine, HasFailed, GotInLine, WentInLine, EndsHold};
 
 use crate::parts;
 use crate::parts::Released;

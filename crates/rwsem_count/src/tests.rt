@@ -59,6 +59,15 @@ fn tried(word: u64, alone: bool) -> Op {
     }
 }
 
+/// The step of the first waiter, a writer whose time is over. Where it asks for no handoff it leaves
+/// the word.
+fn asked(word: u64) -> Op {
+    match write_step(word, true, false, true, true) {
+        Write::Mark(new) => Op::Exchange(word, new),
+        Write::Take(_) | Write::Fail => Op::Load,
+    }
+}
+
 // Each line has the word that a step finds, the step, and the word that it leaves.
 #[test]
 fn a_whole_round_of_a_count(rt: HostRuntime) {
@@ -98,6 +107,64 @@ fn a_reader_in_transit_outlasts_its_writer(rt: HostRuntime) {
         (256, Op::Load, 256),
         (256, Op::Exchange(0, WRITER), 256),
         (256, Op::Sub(BIAS), 0),
+    ] {
+        assert_eq!(rt; shadow.step(0, op), found, "{op:?}");
+        assert_eq!(rt; shadow.words[0], left, "{op:?}");
+    }
+}
+
+#[test]
+fn a_downgrade_lets_in_the_reader_that_waits_first(rt: HostRuntime) {
+    let mut shadow = Shadow::new();
+    for (found, op, left) in [
+        // Task 0 writes. Reader 1 queues as the first, and writer 2 behind it.
+        (0, Op::Exchange(0, WRITER), 1),
+        (1, Op::Add(BIAS), 257),
+        (257, Op::Sub(BIAS - WAITERS), 3),
+        (3, Op::Exchange(0, WRITER), 3),
+        // Task 0 downgrades. Its own hold keeps writers out, and its wake adds reader 1's bias.
+        (3, Op::Add(BIAS - WRITER), 258),
+        (258, Op::Add(BIAS), 514),
+    ] {
+        assert_eq!(rt; shadow.step(0, op), found, "{op:?}");
+        assert_eq!(rt; shadow.words[0], left, "{op:?}");
+    }
+}
+
+#[test]
+fn a_writer_is_asked_to_hand_over(rt: HostRuntime) {
+    let mut shadow = Shadow::new();
+    for (found, op, left) in [
+        // Task 0 writes. Writer 1 queues, and asks when it is overdue.
+        (0, Op::Exchange(0, WRITER), 1),
+        (1, Op::Or(WAITERS), 3),
+        (3, asked(3), 7),
+        // Reader 2 adds its bias, and takes it back as it queues.
+        (7, Op::Add(BIAS), 263),
+        (263, Op::Sub(BIAS), 7),
+        // Task 0 releases, and writer 1 takes, with reader 2 behind it.
+        (7, Op::Sub(WRITER), 6),
+        (6, tried(6, false), 3),
+    ] {
+        assert_eq!(rt; shadow.step(0, op), found, "{op:?}");
+        assert_eq!(rt; shadow.words[0], left, "{op:?}");
+        assert!(rt; !read_free(left), "{left}");
+    }
+}
+
+#[test]
+fn a_marked_writer_is_interrupted(rt: HostRuntime) {
+    let mut shadow = Shadow::new();
+    for (found, op, left) in [
+        // A reader holds. Writer 1 queues, is overdue, and asks. Reader 2 queues behind it.
+        (0, Op::Add(BIAS), 256),
+        (256, Op::Or(WAITERS), 258),
+        (258, asked(258), 262),
+        (262, Op::Add(BIAS), 518),
+        (518, Op::Sub(BIAS), 262),
+        // Writer 1 leaves. Its wake reserves a bias, which reader 2 then has. Nobody waits.
+        (262, Op::Add(BIAS), 518),
+        (518, Op::Sub(WAITERS + HANDOFF), 512),
     ] {
         assert_eq!(rt; shadow.step(0, op), found, "{op:?}");
         assert_eq!(rt; shadow.words[0], left, "{op:?}");

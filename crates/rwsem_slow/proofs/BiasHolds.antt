@@ -1,5 +1,6 @@
 -- A reader that comes to hold by the bias that its first addition left in the count.
-use Rattle.std.proofs.Common.{◌≡◌, ◌∙◌, ℕ, ◌+◌, ◌-◌, ◌/◌, ◌%◌, ◌^◌, ◌<◌, ◌⊎◌, inl, inr, true, List, map, take, get_or, set, Some, sym, refl, ap, subst, arith}
+use Rattle.std.proofs.Common.{◌≡◌, ◌∙◌, ℕ, ◌+◌, ◌-◌, ◌/◌, ◌%◌, ◌^◌, ◌<◌, ◌≤◌, ◌⊎◌, inl, inr, true, false, List, map, take, get_or, set, Some, sym, refl, ap, subst, arith}
+use Rattle.std.specs.Prelude.{Result, Ok, Err, IfErr, IfOk}
 use mathlib.Core.Logic.{dite}
 use native.Mathlib.Decide.{ℕ_discrete, dec_le}
 use lib.Seq.{set-get_or}
@@ -10,6 +11,7 @@ use Rattle.word_bits.specs.Objects.{Obj}
 use Rattle.word_bits.specs.Histories.{Plan}
 use Rattle.lock_core.specs.declared.how.How.{How}
 use Rattle.lock_core.specs.declared.how.How.TheVariants.{Fast, Spun, Slept}
+use Rattle.lock_core.specs.declared.how.Interrupted.{Interrupted}
 use Rattle.lock_core.specs.declared.op.Op.TheVariants.{Load}
 use Rattle.lock_core.specs.declared.view.Hand.{Hand}
 use Rattle.lock_core.specs.declared.view.Moment.{Moment}
@@ -19,7 +21,10 @@ use Rattle.lock_core.specs.Kinds.{lets_in, semaphore}
 use Rattle.lock_core.specs.Layout.{site}
 use Rattle.lock_core.specs.Locking.{Begins, Got, IsLetIn, IsStored, KeepsPlace, Takes}
 use Rattle.lock_core.specs.Moves.{Goes, Lets}
+use Rattle.lock_core.specs.Pasts.{FoundAt, FoundAtStep, GoesOn, IsOwnStep}
+use Rattle.lock_core.specs.RunLaws.{found-at-step}
 use Rattle.lock_core.specs.Shown.{Shown, shown}
+use Rattle.lock_core.specs.Signals.{OnlyConsumed}
 use Rattle.lock_core.specs.Totals.{total, total-at}
 use Rattle.lock_core.specs.Views.{alone_of, hand_of, ticked, took}
 use Rattle.lock_core.proofs.HandLaws.{false-or-true, no-alone}
@@ -28,7 +33,7 @@ use Rattle.lock_core.proofs.RowLaws.{none-some}
 use Rattle.rwsem_count.specs.declared.view.Bias.TheVariants.{Clear, Transit}
 use Rattle.rwsem_count.specs.Counts.{CountPart, count_part, early_in, early_weight, part}
 use Rattle.rwsem_count.specs.CountLaws.{count-keeps}
-use Rattle.rwsem_count.specs.Tries.{IsTransit}
+use Rattle.rwsem_count.specs.Tries.{FindsShut, IsTransit}
 use Rattle.rwsem_count.proofs.Counting.{alone-parts, its-plan}
 use Rattle.rwsem_wake.specs.declared.view.SemHand.{SemHand}
 use Rattle.rwsem_wake.specs.declared.view.Wait.TheVariants.{Apart}
@@ -37,7 +42,7 @@ use Rattle.rwsem_wake.specs.Queues.{HoldsBy}
 use Rattle.rwsem_wake.proofs.Holding.{shared-holds}
 use Rattle.rwsem_slow.specs.CountHosting.{sem-count, sem-counted}
 use Rattle.rwsem_slow.specs.Places.{line_of}
-use Rattle.rwsem_slow.specs.Queued.{IsInTransit, KeepsLine, Shares, WentThroughLine}
+use Rattle.rwsem_slow.specs.Queued.{AppendedBy, EntersLock, IsInTransit, KeepsLine, Shares}
 use Rattle.rwsem_slow.specs.RwSemLaws.{sem-hints}
 use Rattle.rwsem_slow.specs.RwSems.{V, Kept, RwSemMoves, bias_of, biased, count_at, count_in, hint_at, more_in, with_sem}
 use Rattle.rwsem_slow.specs.Stealing.{MaySteal, StealsBy, WentOn, left_by}
@@ -126,17 +131,34 @@ module _ {Call : Type 0} (o : Obj Call) (k : Plan) (v m u : V) (p q : List Momen
   pub shares-on : (left : ℕ) → lets_in semaphore left → WentOn left Spun v u
   shares-on left open_it = let e = shares.keeps.fronts in let f = on.fronts in let g = shares.keeps.appends in let l = on.appends in (inr (open_it, ap (λ (h : Hand). h.saw) taken), f ∙ e, ap (λ (h : Hand). h.misses) taken, l ∙ g)
 
+-- a reader that left the hint behind it goes on as it stood
+pub keeps-line-on : (v m u : V) → m ≡ ticked v → KeepsLine m u → KeepsLine v u
+keeps-line-on v m u is k = let x = subst (λ (z : V). KeepsLine z u) is k in let l = x.later in record { later = omega (arith, l); entries = x.entries; fronts = x.fronts; appends = x.appends }
+
 -- after a look that didn't let it hold, by way of the wait lock
-pub line-on : (left : ℕ) (how : How) (v m u : V) → m ≡ ticked v → WentThroughLine how m u → WentOn left how v u
-line-on left how v m u is went = go how (subst (λ (z : V). WentThroughLine how z u) is went)
-  where
-    go : (x : How) → WentThroughLine x (ticked v) u → WentOn left x v u
-    go Fast w = w
-    go Spun w = (inl w.0, w.1, w.2, w.3)
-    go Slept w = record { entries = w.entries; fronts = w.fronts; misses = w.misses; appends = w.appends }
+module _ (v m u : V) (is : m ≡ ticked v) where
+  pub line-on : (left : ℕ) (x : Result How Interrupted) → EntersLock m u → IfOk x (λ how. AppendedBy how m u) → IfOk x (λ how. WentOn left how v u)
+  line-on left (Err why) lock appended = tt
+  line-on left (Ok how) lock appended = go how (subst (λ (z : V). EntersLock z u) is lock) (subst (λ (z : V). AppendedBy how z u) is appended)
+    where
+      go : (x : How) → EntersLock (ticked v) u → AppendedBy x (ticked v) u → WentOn left x v u
+      go Fast l a = a
+      go Spun l a = (inl l.entries, l.fronts, l.misses, a)
+      go Slept l a = (record { entries = l.entries; fronts = l.fronts; misses = l.misses }, a)
+
+  -- or until a signal interrupts it
+  pub lock-on : (x : Result How Interrupted) → EntersLock m u → IfErr x (λ _. EntersLock v u)
+  lock-on (Ok how) lock = tt
+  lock-on (Err why) lock = let l = subst (λ (z : V). EntersLock z u) is lock in record { entries = l.entries; fronts = l.fronts; misses = l.misses }
+
+  pub waited-on : (x : Result How Interrupted) → IfErr x (λ _. u.ext.appends ≡ m.ext.appends + 1) → IfErr x (λ _. u.ext.appends ≡ v.ext.appends + 1)
+  waited-on x w = subst (λ (z : V). IfErr x (λ _. u.ext.appends ≡ z.ext.appends + 1)) is w
+
+  pub consumed-on : (x : Result How Interrupted) → IfErr x (λ _. OnlyConsumed m u) → IfErr x (λ _. OnlyConsumed v u)
+  consumed-on x w = subst (λ (z : V). IfErr x (λ _. OnlyConsumed z u)) is w
 
 -- what the whole call shows, from its addition on
-module _ (fronts left : ℕ) (how : How) (v m u : V) (p q : List Moment) (t : IsTransit biased v left m) (on : WentOn left how m u) where
+module _ (fronts left : ℕ) (v m u : V) (p q : List Moment) (t : IsTransit biased v left m) where
   abbrev Before : Shown
   Before = shown line_of fronts v p
 
@@ -152,35 +174,52 @@ module _ (fronts left : ℕ) (how : How) (v m u : V) (p q : List Moment) (t : Is
   same_appends : m.ext.appends ≡ v.ext.appends
   same_appends = ap (λ (z : V). z.ext.appends) t.3
 
-  pub went-got : Got how Before After
-  went-got = go how on
+  pub went-got : (x : Result How Interrupted) → IfOk x (λ how. WentOn left how m u) → IfOk x (λ how. Got how Before After)
+  went-got (Err why) on = tt
+  went-got (Ok how) on = go how on
     where
       go : (x : How) → WentOn left x m u → Got x Before After
       go Fast w = absurd w
       go Spun w = let a = w.2 in let b = once in (omega (arith, a, b), ap (λ (n : ℕ). record { appends = n }) (w.3 ∙ same_appends))
-      go Slept w = let a = w.appends in let b = same_appends in omega (arith, a, b)
-
-  let-in : lets_in semaphore left → u.hand.saw ≡ m.hand.saw → u.hand.misses ≡ m.hand.misses → IsLetIn semaphore Before After
-  let-in open_it saw misses = let steps = ap (λ (z : V). z.steps) t.3 in let is = t.1 in let a = open_it.0 in let b = open_it.1 in record {
-    once = misses ∙ once;
-    saw = record { word = t.0; step = v.steps + 1 };
-    is = saw ∙ ap (λ (z : V). z.hand.saw) t.3;
-    since = omega arith;
-    opens = (omega (arith, is, a), omega (arith, is, b));
-  }
+      go Slept w = let a = w.1 in let b = same_appends in omega (arith, a, b)
 
   few-misses : (x : How) → WentOn left x m u → u.hand.misses ≡ m.hand.misses
   few-misses Fast w = absurd w
   few-misses Spun w = w.2
-  few-misses Slept w = w.misses
+  few-misses Slept w = w.0.misses
 
-  pub went-place : KeepsPlace semaphore true Before After
-  went-place = record {
-    queues = λ _ _. go how on;
-    few = λ _. let a = few-misses how on in let b = once in omega (arith, a, b);
+  -- where a signal interrupted it
+  pub quit-place : (x : Result How Interrupted) → IfErr x (λ _. EntersLock m u) → IfErr x (λ _. KeepsPlace semaphore false count_at Before After)
+  quit-place (Ok how) lock = tt
+  quit-place (Err why) lock = record {
+    queues = λ _ _. let a = lock.entries in let e = same_entries in inl (omega (arith, a, e));
+    few = λ _. let a = lock.misses in let b = once in omega (arith, a, b);
   }
-    where
-      go : (x : How) → WentOn left x m u → (v.spin.entries < u.spin.entries) ⊎ ((true ≡ true) × IsLetIn semaphore Before After)
-      go Fast w = absurd w
-      go Spun w = let e = same_entries in elim w.0 [ inl entered ↦ inl (omega (arith, entered, e)) | inr open_it ↦ inr (refl, let-in open_it.0 open_it.1 w.2) ]
-      go Slept w = let a = w.entries in let e = same_entries in inl (omega (arith, a, e))
+
+  -- the moments up to its addition, which found the count that let it in
+  module _ (r : List Moment) (own : IsOwnStep m r) (shut : FindsShut count_at left r) (later : m.steps ≤ u.steps) (before : GoesOn p r) (after : GoesOn r q) where
+    let-in : lets_in semaphore left → u.hand.saw ≡ m.hand.saw → u.hand.misses ≡ m.hand.misses → IsLetIn semaphore count_at Before After
+    let-in open_it saw misses = let steps = ap (λ (z : V). z.steps) t.3 in let is = t.1 in let a = open_it.0 in let b = open_it.1 in let left_it = shut.2 in let same : shut.0 ≡ t.0 = omega (arith, is, left_it) in record {
+      once = misses ∙ once;
+      saw = record { word = t.0; step = v.steps + 1 };
+      is = saw ∙ ap (λ (z : V). z.hand.saw) t.3;
+      since = omega arith;
+      by_now = omega (arith, steps, later);
+      found = subst (λ (n : ℕ). FoundAtStep v.hand.task n count_at t.0 p q) steps (found-at-step m v.hand.task count_at t.0 p r q (ap (λ (z : V). z.hand.task) t.3) own (subst (λ (n : ℕ). FoundAt count_at n r) same shut.1) before after);
+      opens = (omega (arith, is, a), omega (arith, is, b));
+    }
+
+    place-at : (how : How) → WentOn left how m u → KeepsPlace semaphore true count_at Before After
+    place-at how on = record {
+      queues = λ _ _. go how on;
+      few = λ _. let a = few-misses how on in let b = once in omega (arith, a, b);
+    }
+      where
+        go : (x : How) → WentOn left x m u → (v.spin.entries < u.spin.entries) ⊎ ((true ≡ true) × IsLetIn semaphore count_at Before After)
+        go Fast w = absurd w
+        go Spun w = let e = same_entries in elim w.0 [ inl entered ↦ inl (omega (arith, entered, e)) | inr open_it ↦ inr (refl, let-in open_it.0 open_it.1 w.2) ]
+        go Slept w = let a = w.0.entries in let e = same_entries in inl (omega (arith, a, e))
+
+    pub went-place : (x : Result How Interrupted) → IfOk x (λ how. WentOn left how m u) → IfOk x (λ _. KeepsPlace semaphore true count_at Before After)
+    went-place (Err why) on = tt
+    went-place (Ok how) on = place-at how on

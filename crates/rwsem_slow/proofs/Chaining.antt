@@ -10,6 +10,7 @@ use Rattle.word_bits.specs.Histories.{Plan}
 use Rattle.lock_core.specs.declared.view.Moment.{Moment}
 use Rattle.lock_core.specs.declared.view.Marks.{Marks}
 use Rattle.lock_core.specs.LockedLaws.{move-steps}
+use Rattle.lock_core.specs.Parts.{Each}
 use Rattle.lock_core.specs.Pasts.{Instant, Moves, marks_of, Paced, Ran, instant, moment}
 use Rattle.lock_core.specs.Records.{bit}
 use Rattle.lock_core.specs.Spins.{holds_in}
@@ -20,13 +21,14 @@ use Rattle.wait_list.specs.declared.view.Waiter.{Waiter}
 use Rattle.wait_list.specs.declared.view.Change.{Change}
 use Rattle.wait_list.specs.declared.view.Change.TheVariants.{Stay, Enter, Leave}
 use Rattle.wait_list.specs.Lists.{Allowed, AreTasks, ListKept, MadeBy as MadeUnderLock, Part, changed, changes_of, counted, first_code, list_part, ticket_from}
+use Rattle.wait_list.specs.ListLaws.{holds-or-not}
 use Rattle.wait_list.proofs.Tickets.{counted-here, first-place, ticket-else, ticket-here, ticket-none}
 use Rattle.rwsem_wake.specs.declared.view.SemHand.{SemHand}
-use Rattle.rwsem_wake.specs.SemParts.{SemPart}
+use Rattle.rwsem_wake.specs.SemParts.{SemPart, busy_of}
 use Rattle.rwsem_wake.specs.Handoffs.{KeepsHandoff}
 use Rattle.rwsem_wake.specs.Stated.{Picks}
 use Rattle.rwsem_slow.specs.declared.view.RwSemHand.{RwSemHand}
-use Rattle.rwsem_slow.specs.RwSems.{IsMadeBy, Kept, RwSemKept, RwSemMoves, V, count_in, entered, grants_in, list_of, marks_in, seen, standing}
+use Rattle.rwsem_slow.specs.RwSems.{IsLocked, IsMadeBy, Kept, RwSemKept, RwSemMoves, V, count_in, entered, grants_in, list_of, marks_in, seen, standing}
 use Rattle.rwsem_slow.specs.Stated.{HasBecome, HasWaitLock, IsRwSemStep, MadeBy, stance}
 use Rattle.rwsem_slow.proofs.Stating.{queued}
 
@@ -105,18 +107,23 @@ module _ (id : ℕ) (ws : List ℕ) (vs : List V) (v : V) (at : get_elem? vs id 
       by (inl mine) = inl (ap (λ (x : V). x.hand.task) (same-pass own.0 own.1) ∙ mine)
       by (inr picks) = inr (seen own.0, at_map seen vs id own.0 own.1, picks)
 
-sem-step : (k : Plan) (id : ℕ) (ws us : List ℕ) (vs vs' : List V) (m : RwSemMoves k id ws vs us vs') (q q' : List Waiter) → m.list.list ≡ q → q' ≡ m.list.list' → IsRwSemStep k (moment standing (instant ws vs)) q (map seen vs) (moment standing (instant us vs')) q' (map seen vs')
-sem-step k id ws us vs vs' m q q' old new = let v = m.site.before in record {
+sem-step : (k : Plan) (id : ℕ) (ws us : List ℕ) (vs vs' : List V) (m : RwSemMoves k id ws vs us vs') (q q' : List Waiter) → Each IsLocked vs → m.list.list ≡ q → q' ≡ m.list.list' → IsRwSemStep k (moment standing (instant ws vs)) q (map seen vs) (moment standing (instant us vs')) q' (map seen vs')
+sem-step k id ws us vs vs' m q q' each old new = let v = m.site.before in record {
   by = move-steps standing k (instant ws vs) (instant us vs') (id, m.site);
   change = m.list.change;
   allowed = subst (Allowed m.list.change) old m.list.allowed;
   made = subst (λ (z : List Waiter). MadeBy m.list.change id v.hand (map seen vs) z (moment standing (instant ws vs))) old (made-by id ws vs v m.site.at m.list.change m.list.list m.made m.list.made);
   is = new ∙ (m.list.is ∙ ap (changed m.list.change) old);
-  hands = subst (λ (z : List Waiter). KeepsHandoff id (count_in ws) z (marks_in ws) (grants_in ws) (map seen vs) (count_in us) (grants_in us) (map seen vs')) old m.hands;
+  hands = subst (λ (z : List Waiter). KeepsHandoff id (count_in ws) z (marks_in ws) (grants_in ws) (map seen vs) (count_in us) (marks_in us) (grants_in us) (map seen vs')) old m.hands;
+  locked = λ p p' is is' busy. about p p' is is' busy;
   freed = m.freed;
   appends = λ s appends there. counted-on (map (marks_of standing) vs') id v m.site.after (entered m.list.change) s appends (sym (at_map (marks_of standing) vs id v m.site.at) ∙ there) (at_map (marks_of standing) vs' id m.site.after m.site.at') m.appends;
 }
   where
+    about : (p p' : SemPart) → get_elem? (map seen vs) id ≡ some p → get_elem? (map seen vs') id ≡ some p' → 0 < busy_of p + busy_of p' → HasWaitLock id (moment standing (instant ws vs))
+    about p p' is is' busy = let v = m.site.before in let u = m.site.after in let e = ap {A = SemPart} (λ s. busy_of s) (some-injective p (seen v) (sym is ∙ at_map seen vs id v m.site.at)) in let f = ap {A = SemPart} (λ s. busy_of s) (some-injective p' (seen u) (sym is' ∙ at_map seen vs' id u m.site.at')) in
+        let a = each id v m.site.at in let b = m.locked in holds-or-not v.spin (λ one. (v.spin, at_map spin_of vs id v m.site.at, one)) (λ out. absurd (omega (arith, e, f, a, b, out, busy)))
+
     counted-on : (ms : List Marks) (id : ℕ) (v u : V) (by : ℕ) (s : SemHand) (appends : ℕ) → some (marks_of standing v) ≡ some (stance s appends) → get_elem? ms id ≡ some (marks_of standing u) → u.ext.appends ≡ v.ext.appends + by → (s' : SemHand) × (get_elem? ms id ≡ some (stance s' (appends + by)))
     counted-on ms id v u by s appends was is goes = let e : v.ext.appends ≡ appends = ap (λ (m : Marks). get_or m.numbers 2 0) (some-injective (marks_of standing v) (stance s appends) was) in
         (u.ext.sem, is ∙ ap (λ (n : ℕ). some (stance u.ext.sem n)) (goes ∙ ap (λ (n : ℕ). n + by) e))
@@ -136,7 +143,7 @@ module _ {Call : Type 0} (o : Obj Call) (size : ℕ) (k : Plan) where
         before.0,
         map seen x.views,
         before.2,
-        sem-step k move.0 x.words y.words x.views y.views m before.0 kept.0
+        sem-step k move.0 x.words y.words x.views y.views m before.0 kept.0 before.1.locked
             (kept-same _ m.list.list before.0 (map (list_part list_of) x.views) m.list.old before.1.list)
             (kept-same _ kept.0 m.list.list' (map (list_part list_of) y.views) kept.1.list m.list.new),
       ),

@@ -1,22 +1,26 @@
 -- What a wake comes to, from its look at the first waiter on.
 use Rattle.std.proofs.Common.{◌≡◌, ◌≢◌, ◌∙◌, ℕ, ◌≤◌, ◌⊎◌, inl, inr, Bool, true, false, List, [], ◌∷◌, map, filter, take, Option, Some, None, refl, sym, ap, subst, arith, if◌then◌else◌}
 use Rattle.lock_core.specs.declared.pass.Pass.{Pass}
-use Rattle.lock_core.specs.Handles.{view_of, KeepsPast}
+use Rattle.lock_core.specs.Handles.{view_of, Finds, KeepsPast}
 use Rattle.lock_core.specs.Pasts.{IsStepBy}
 use Rattle.lock_core.specs.Records.{bit}
 use Rattle.wait_list.specs.declared.view.Waiter.{Waiter}
 use Rattle.wait_list.specs.declared.view.ListHand.{ListHand}
-use Rattle.wait_list.specs.Lists.{FindsFirst, IsList, Knows, first_of}
+use Rattle.wait_list.specs.Lists.{FindsFirst, IsList, Knows, first_code, first_of, waiter_code}
 use Rattle.rwsem_wake.specs.Batches.{reads, starts_with_reader, task_of}
 use Rattle.rwsem_slow.specs.declared.view.RwSemHand.{RwSemHand}
 use Rattle.rwsem_slow.specs.declared.waking.WakeType.{WakeType}
 use Rattle.rwsem_slow.specs.declared.waking.WakeType.TheVariants.{Any, Readers, ReadOwned}
-use Rattle.rwsem_slow.specs.RwSems.{V, list_of, with_list}
+use Rattle.rwsem_slow.specs.RwSems.{V, list_at, list_of, with_list}
 use Rattle.rwsem_slow.specs.Places.{seen_of}
 use Rattle.rwsem_slow.specs.Removals.{KnowsList, without_all}
 use Rattle.rwsem_slow.specs.Wakes.{Grants, IsAtRest, SawWriter, Wakes, first_woken, readers_woken}
 
 -- the first of a list
+
+pub code-of : (q : List Waiter) → waiter_code (first_of q) ≡ first_code q
+code-of [] = refl
+code-of (w ∷ q) = refl
 
 pub none-starts : (q : List Waiter) → None ≡ first_of q → starts_with_reader q ≡ false
 none-starts [] e = refl
@@ -40,7 +44,7 @@ pub others-woken : (kind : WakeType) (q : List Waiter) → (kind ≡ Readers) �
 others-woken kind q (inl is) = sym (ap (λ (k : WakeType). first_woken k q) is)
 others-woken kind q (inr is) = sym (ap (λ (k : WakeType). first_woken k q) is)
 
-any-other : Any ≢ ReadOwned
+pub any-other : Any ≢ ReadOwned
 any-other e = cc
 
 readers-other : Readers ≢ ReadOwned
@@ -50,7 +54,7 @@ pub not-owned : (kind : WakeType) → (kind ≡ Any) ⊎ (kind ≡ Readers) → 
 not-owned kind (inl is) owned = any-other (sym is ∙ owned)
 not-owned kind (inr is) owned = readers-other (sym is ∙ owned)
 
-module _ {R O C : Type 0} (old mid : Pass R O RwSemHand C) (rests : IsAtRest (view_of old)) (first : Option Waiter) (f : FindsFirst list_of with_list (view_of old) first (view_of mid)) (later : (view_of old).steps ≤ (view_of mid).steps) where
+module _ {R O C : Type 0} (old mid : Pass R O RwSemHand C) (rests : IsAtRest (view_of old)) (first : Option Waiter) (f : FindsFirst list_of with_list (view_of old) first (view_of mid)) (later : (view_of old).steps ≤ (view_of mid).steps) (found : Finds list_at (waiter_code first) old mid) where
   list-is : (view_of mid).ext.list ≡ f.hand
   list-is = ap (λ (z : V). z.ext.list) f.view
 
@@ -75,6 +79,10 @@ module _ {R O C : Type 0} (old mid : Pass R O RwSemHand C) (rests : IsAtRest (vi
   before : Knows ((view_of old).spin, (view_of old).ext.list) → (view_of mid).ext.list.list ≡ (view_of old).ext.list.list
   before knows = ap (λ (b : ListHand). b.list) list-is ∙ ap (λ (b : ListHand). b.list) (f.learnt.same knows)
 
+  -- its look found the code of the first
+  finds-code : Finds list_at (first_code (view_of mid).ext.list.list) old mid
+  finds-code = subst (λ (n : ℕ). Finds list_at n old mid) (ap waiter_code looked-first ∙ code-of (view_of mid).ext.list.list) found
+
   -- no reader is first
   pub wakes-first : (kind : WakeType) (woken : List ℕ) → starts_with_reader (view_of mid).ext.list.list ≡ false → woken ≡ first_woken kind (view_of mid).ext.list.list → Wakes kind woken old mid
   wakes-first kind woken starts are = let q : List Waiter = (view_of mid).ext.list.list in record {
@@ -82,6 +90,7 @@ module _ {R O C : Type 0} (old mid : Pass R O RwSemHand C) (rests : IsAtRest (vi
     rests = looked-rests;
     list = looked-list;
     was = q;
+    first = finds-code;
     before = before;
     written = false;
     owned = λ _. refl;
@@ -92,8 +101,8 @@ module _ {R O C : Type 0} (old mid : Pass R O RwSemHand C) (rests : IsAtRest (vi
 
   -- a reader is first
   pub wakes-readers : (new : Pass R O RwSemHand C) (kind : WakeType) (written : Bool) (woken : List ℕ) → Grants written (view_of mid) (view_of new) → starts_with_reader (view_of mid).ext.list.list ≡ true → woken ≡ readers_woken written (view_of mid).ext.list.list
-      → (kind ≡ ReadOwned → written ≡ false) → (kind ≢ ReadOwned → SawWriter written (seen_of mid) (seen_of new)) → KeepsPast old mid → Wakes kind woken old new
-  wakes-readers new kind written woken g starts are owned saw goes = let q : List Waiter = (view_of mid).ext.list.list in record {
+      → (kind ≡ ReadOwned → written ≡ false) → (kind ≢ ReadOwned → SawWriter written (seen_of mid) (seen_of new)) → KeepsPast old mid → KeepsPast mid new → Wakes kind woken old new
+  wakes-readers new kind written woken g starts are owned saw goes on = let q : List Waiter = (view_of mid).ext.list.list in record {
     beside = record {
       later = (let l = g.beside.later in omega (arith, l, later));
       hand = g.beside.hand ∙ ap (λ (z : V). z.hand) f.view;
@@ -105,6 +114,7 @@ module _ {R O C : Type 0} (old mid : Pass R O RwSemHand C) (rests : IsAtRest (vi
     rests = g.rests;
     list = g.list;
     was = q;
+    first = later-found finds-code;
     before = before;
     written = written;
     owned = owned;
@@ -113,6 +123,9 @@ module _ {R O C : Type 0} (old mid : Pass R O RwSemHand C) (rests : IsAtRest (vi
     left = g.left;
   }
     where
+      later-found : {n : ℕ} → Finds list_at n old mid → Finds list_at n old new
+      later-found f = let by_now = f.2 in let more = g.beside.later in (f.0, f.1, omega (arith, by_now, more), record { past = f.3.past; by = f.3.by; found = f.3.found; after = f.3.after; goes_on = λ p t. on p (f.3.goes_on p t) })
+
       earlier : SawWriter written (seen_of mid) (seen_of new) → SawWriter written (seen_of old) (seen_of new)
       earlier s = let at = s.1.3 in let since = s.1.1 in (
         s.0,

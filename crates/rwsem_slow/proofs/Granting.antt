@@ -1,5 +1,5 @@
 -- A wake, from its look at the list to its last grant.
-use Rattle.std.proofs.Common.{◌≡◌, ◌≢◌, ◌∙◌, ℕ, ◌+◌, ◌/◌, ◌%◌, ◌<◌, ◌≤◌, ◌==◌, Bool, true, false, List, [], ◌∷◌, length, Some, sym, ap, subst, arith, inl, inr}
+use Rattle.std.proofs.Common.{◌≡◌, ◌≢◌, ◌∙◌, ℕ, ◌+◌, ◌/◌, ◌%◌, ◌<◌, ◌≤◌, ◌==◌, ◌||◌, Bool, true, false, List, [], ◌∷◌, length, Some, refl, sym, ap, subst, arith, inl, inr}
 use Rattle.lock_core.specs.declared.view.Moment.{Moment}
 use Rattle.lock_core.specs.Pasts.{FoundAt, GoesOn, IsOwnStep}
 use Rattle.lock_core.specs.RunLaws.{found-at-step}
@@ -21,6 +21,10 @@ use Rattle.rwsem_slow.specs.Places.{line_of}
 use Rattle.rwsem_slow.specs.Removals.{KnowsList, RemovesAll, without_all}
 use Rattle.rwsem_slow.specs.Wakes.{Grants, IsAtRest, SawWriter, batch_in}
 use Rattle.rwsem_slow.proofs.Removing.{batch-whole}
+
+pub or-false : (a b : Bool) → b ≡ false → (a || b) ≡ a
+or-false true b e = refl
+or-false false b e = e
 
 -- what a step of the call found of the count
 pub saw-writer : (written : Bool) (n : ℕ) (v b u : V) (p r q : List Moment) → n % 2 ≡ bit written → b.hand.task ≡ v.hand.task → v.steps < b.steps → b.steps ≤ u.steps → IsOwnStep b r → FoundAt count_at n r → GoesOn p r → GoesOn r q

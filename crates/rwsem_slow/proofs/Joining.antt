@@ -1,51 +1,24 @@
 -- What appending itself makes of where a pass stands.
-use Rattle.std.proofs.Common.{◌≡◌, ◌≢◌, ◌∙◌, ℕ, ◌+◌, ◌≤◌, ◌==◌, Bool, true, false, List, [], ◌∷◌, ◌++◌, length, Some, sym, refl, ap, subst, arith, eq-eqb, ne_eqb, if◌then◌else◌}
-use Rattle.lock_core.specs.Records.{bit}
-use Rattle.lock_core.specs.SpinFrames.{holds_at}
-use Rattle.lock_core.specs.Spins.{holds_in}
+use Rattle.std.proofs.Common.{◌≡◌, ◌≢◌, ◌∙◌, ℕ, ◌+◌, ◌≤◌, ◌==◌, Bool, true, false, List, [], ◌∷◌, ◌++◌, length, Some, sym, ap, subst, arith, eq-eqb, ne_eqb, if◌then◌else◌}
 use Rattle.lock_core.specs.Views.{SpinHolds}
 use Rattle.wait_list.specs.declared.view.Waiter.{Waiter}
 use Rattle.wait_list.specs.declared.view.Change.TheVariants.{Enter}
 use Rattle.wait_list.specs.declared.view.ListHand.{ListHand}
-use Rattle.wait_list.specs.Lists.{Appends, FindsFirst, IsList, Knows, counted, first_code, first_of, list_part}
-use Rattle.rwsem_wake.specs.declared.view.SemHand.{SemHand}
-use Rattle.rwsem_wake.specs.declared.view.Stage.{Stage}
+use Rattle.wait_list.specs.Lists.{Appends, FindsFirst, IsList, Knows, first_code, first_of, list_part}
+use Rattle.wait_list.proofs.Joining.{alone-first, holds-one, others-first}
 use Rattle.rwsem_wake.specs.declared.view.Stage.TheVariants.{Rest, First, Joining}
 use Rattle.rwsem_wake.specs.declared.view.Wait.TheVariants.{Reads, Writes}
 use Rattle.rwsem_wake.specs.SemParts.{apart_hand}
 use Rattle.rwsem_wake.specs.Grants.{TurnsTo}
 use Rattle.rwsem_wake.specs.Queues.{rested}
-use Rattle.rwsem_slow.specs.Places.{IsOutside}
 use Rattle.rwsem_slow.specs.Queued.{Becomes, waiting}
 use Rattle.rwsem_slow.specs.Removals.{KnowsList}
-use Rattle.rwsem_slow.specs.RwSems.{V, joined, list_of, with_list, with_sem}
-
-pub holds-one : (v : V) → SpinHolds v.spin → holds_in v.spin ≡ 1
-holds-one v h = ap holds_at h
+use Rattle.rwsem_slow.specs.RwSems.{V, list_of, with_list, with_sem}
 
 -- a list with a first waiter isn't empty
 pub code-waits : (q : List Waiter) (t : ℕ) → first_code q ≡ t + 1 → 1 ≤ length q
 code-waits [] t e = absurd (omega (arith, e))
 code-waits (w ∷ q) t e = omega arith
-
--- who is first in a list behind which it stands alone, and behind others
-alone-first : (was : List Waiter) (w x : Waiter) → counted w.task was ≡ 0 → Some x ≡ first_of (was ++ w ∷ []) → x.task ≡ w.task → length (was ++ w ∷ []) ≡ 1
-alone-first [] w x fresh is same = refl
-alone-first (y ∷ ys) w x fresh is same = let head : x.task ≡ y.task = task-of is in let b : bit (y.task == w.task) ≡ 1 = ap bit (eq-eqb y.task w.task (sym head ∙ same)) in absurd (omega (arith, fresh, b))
-  where
-    task-of : Some x ≡ Some y → x.task ≡ y.task
-    task-of e = cc
-
-others-first : (was : List Waiter) (w x : Waiter) → Some x ≡ first_of (was ++ w ∷ []) → x.task ≢ w.task → length (was ++ w ∷ []) ≢ 1
-others-first [] w x is other = λ _. other (task-of is)
-  where
-    task-of : Some x ≡ Some w → x.task ≡ w.task
-    task-of e = cc
-others-first (y ∷ ys) w x is other = λ one. longer ys one
-  where
-    longer : (ys : List Waiter) → length ((y ∷ ys) ++ w ∷ []) ≡ 1 → ⊥
-    longer [] one = omega (arith, one)
-    longer (z ∷ zs) one = omega (arith, one)
 
 -- it appended itself, and looked who is first
 module _ (v u x : V) (w first : Waiter) (locked : SpinHolds v.spin) (later : v.steps ≤ x.steps) (a : Appends list_of with_list v w u) (f : FindsFirst list_of with_list u (Some first) x) where

@@ -9,8 +9,8 @@ pub mod Granting
 pub mod FirstLooks
 pub mod Ending
 pub mod Joining
-pub mod Sitting
 pub mod WriterSteps
+pub mod Quitting
 pub mod ReaderSteps
 pub mod BiasHolds
 pub mod Unqueued

@@ -1,5 +1,5 @@
 -- How a reader queues, and comes to hold.
-use Rattle.std.proofs.Common.{◌≡◌, ◌∙◌, ℕ, ◌+◌, ◌%◌, ◌<◌, ◌≤◌, ◌==◌, Bool, false, List, [], ◌∷◌, length, Option, None, sym, refl, ap, subst, arith, eq-eqb, if◌then◌else◌}
+use Rattle.std.proofs.Common.{◌≡◌, ◌∙◌, ℕ, ◌+◌, ◌%◌, ◌<◌, ◌≤◌, Bool, false, List, [], ◌∷◌, length, None, sym, refl, ap, subst, arith, eq-eqb, if◌then◌else◌}
 use Rattle.word_bits.specs.Objects.{Obj}
 use Rattle.word_bits.specs.Histories.{Plan}
 use Rattle.lock_core.specs.declared.view.Hand.{Hand}
@@ -21,7 +21,7 @@ use Rattle.rwsem_wake.specs.Queues.{HoldsBy, MaySettle, settled}
 use Rattle.rwsem_slow.specs.Queued.{Becomes, IsInTransit, Shares, waiting}
 use Rattle.rwsem_slow.specs.Removals.{KnowsList}
 use Rattle.rwsem_slow.specs.RwSems.{V, joined, list_of, sem_of, with_list, with_sem}
-use Rattle.rwsem_slow.proofs.Joining.{holds-one}
+use Rattle.wait_list.proofs.Joining.{holds-one}
 use Rattle.rwsem_slow.proofs.WriterSteps.{knows-same}
 
 none-first : (q : List Waiter) → None ≡ first_of q → q ≡ []

@@ -1,5 +1,5 @@
 -- A writer that stands in no list tries a count.
-use Rattle.std.proofs.Common.{◌≡◌, ◌≢◌, ℕ, ◌+◌, ◌/◌, ◌%◌, ◌^◌, ◌≤◌, List, length, map, take, set, Some, None, refl, sym, ap, ◌∙◌, subst, arith}
+use Rattle.std.proofs.Common.{◌≡◌, ◌≢◌, ◌↔◌, ℕ, ◌+◌, ◌/◌, ◌%◌, ◌^◌, ◌≤◌, Bool, false, IsTrue, List, map, take, set, Some, None, refl, sym, ap, ◌∙◌, subst, arith}
 use mathlib.Core.Option.{some, none}
 use mathlib.Core.Logic.{dite}
 use native.Mathlib.Decide.{ℕ_discrete}
@@ -8,13 +8,11 @@ use lib.Seq.{set-get_or}
 use Rattle.atomic_table.specs.Table.{Me, step, keeps}
 use Rattle.atomic_table.specs.Seated.{TableId}
 use Rattle.atomic_table.proofs.Lists.{at_map, set_again}
-use Rattle.word_bits.specs.declared.entry.Entry.{Entry}
 use Rattle.word_bits.specs.LockWords.{IsLawfulCount, counted}
 use Rattle.word_bits.specs.Objects.{Obj}
 use Rattle.word_bits.specs.Histories.{Plan}
 use Rattle.lock_core.specs.declared.op.Op.TheVariants.{Load, Exchange}
 use Rattle.lock_core.specs.declared.view.Hand.{Hand}
-use Rattle.lock_core.specs.declared.view.Held.{Held}
 use Rattle.lock_core.specs.declared.view.Held.TheVariants.{No, Shared, Alone}
 use Rattle.lock_core.specs.declared.view.Moment.{Moment}
 use Rattle.lock_core.specs.declared.view.Seen.{Seen}
@@ -24,8 +22,10 @@ use Rattle.lock_core.specs.Layout.{site}
 use Rattle.lock_core.specs.Moves.{Goes, Lets}
 use Rattle.lock_core.specs.Passes.{Sits}
 use Rattle.lock_core.specs.Pasts.{unseen}
-use Rattle.lock_core.specs.Locking.{Keeps, Takes}
-use Rattle.lock_core.specs.Shown.{Shown, shown}
+use Rattle.lock_core.specs.Kinds.{semaphore, unavailable}
+use Rattle.lock_core.specs.Locking.{OnlyTried}
+use Rattle.lock_core.specs.Records.{bit}
+use Rattle.lock_core.specs.Shown.{shown}
 use Rattle.lock_core.specs.Sites.{SiteKept}
 use Rattle.lock_core.specs.Totals.{total}
 use Rattle.lock_core.specs.Views.{alone_of, alone_weight, hand_of, handed, held_of, ticked, took}
@@ -47,7 +47,7 @@ use Rattle.rwsem_slow.specs.CountHosting.{sem-count, sem-counted}
 use Rattle.rwsem_slow.specs.Places.{line_of}
 use Rattle.rwsem_slow.specs.RwSemLaws.{sem-looks}
 use Rattle.rwsem_slow.specs.RwSems.{V, Kept, RwSemMoves, bias_of, biased, count_at, count_in, more_in}
-use Rattle.rwsem_slow.specs.Spinning.{IsUnlocked, LookedUnqueued, OnlyTried, SawUnqueued, SeenUnqueued, TakenUnqueued}
+use Rattle.rwsem_slow.specs.Spinning.{IsUnlocked, LookedUnqueued, SawUnqueued, SeenUnqueued, TakenUnqueued}
 
 -- to hold alone isn't to share
 alone-shared : {P : Type 0} → Alone ≡ Shared → P
@@ -128,6 +128,10 @@ unqueued-again v w u n m saw free next = go w (saw.on free) next
     go : (z : V) → z ≡ record v { steps = saw.step + 1 } → SawUnqueued z m u → SawUnqueued v m u
     go z is x = let y : SawUnqueued (record v { steps = saw.step + 1 }) m u = subst (λ (q : V). SawUnqueued q m u) is x in let a = saw.later in let b = y.later in record { step = y.step; later = omega (arith, a, b); lawful = y.lawful; on = y.on; fails = y.fails }
 
+-- a lawful count that isn't free is unavailable to a writer
+pub shut-count : (word : ℕ) (free : Bool) → IsTrue free ↔ IsUnlocked word → free ≡ false → IsLawfulCount word → unavailable semaphore false word
+shut-count word free says shut lawful = (lawful, λ zero. absurd (let e = ap bit (sym shut ∙ says.1 (subst (λ (n : ℕ). IsUnlocked n) (sym zero) (refl, refl, refl))) in omega (arith, e)))
+
 -- a try that failed, as callers of any lock see it
 pub misses-tried : (fronts fronts' : ℕ) (v u : V) (p q : List Moment) (word : ℕ) → fronts ≤ fronts' → MissesSince v word u → OnlyTried (shown line_of fronts v p) (shown line_of fronts' u q)
 misses-tried fronts fronts' v u p q word more m = let later = m.1 in let is = m.2 in let steps = ap (λ (z : V). z.steps) is in let misses = ap (λ (z : V). z.hand.misses) is in let entries = ap (λ (z : V). z.spin.entries) is in let appends = ap (λ (z : V). z.ext.appends) is in record {
@@ -143,73 +147,4 @@ misses-tried fronts fronts' v u p q word more m = let later = m.1 in let is = m.
   consumed = ap (λ (z : V). z.hand.consumed) is;
   takes = ap (λ (z : V). z.hand.takes) is;
   freed = ap (λ (z : V). z.hand.freed) is;
-}
-
--- a look, which tries nothing
-pub looks-tried : (fronts fronts' : ℕ) (v m : V) (p q : List Moment) → fronts ≤ fronts' → m ≡ ticked v → OnlyTried (shown line_of fronts v p) (shown line_of fronts' m q)
-looks-tried fronts fronts' v m p q more is = subst (λ (z : V). OnlyTried (shown line_of fronts v p) (shown line_of fronts' z q)) (sym is) record {
-  keeps = record { task = refl; done = refl; seen = refl; records = refl; sent = refl; last = refl; counts = record { steps = omega arith; misses = omega arith; entries = omega arith; fronts = more; appends = omega arith } };
-  consumed = refl;
-  takes = refl;
-  freed = refl;
-}
-
--- after a look, and with another count of fronts
-module _ (fronts fronts' : ℕ) (more : fronts ≤ fronts') (v m u : V) (p q r s : List Moment) (is : m ≡ ticked v) where
-  abbrev Before : Shown
-  Before = shown line_of fronts v p
-
-  abbrev After : Shown
-  After = shown line_of fronts' u s
-
-  abbrev Between : V → Shown
-  Between z = shown line_of z.fronts z q
-
-  abbrev Later : Shown
-  Later = shown line_of u.fronts u r
-
-  keeps-after : Keeps (Between (ticked v)) Later → Keeps Before After
-  keeps-after k = let n = k.counts.steps in record {
-    task = k.task;
-    done = k.done;
-    seen = k.seen;
-    records = k.records;
-    sent = k.sent;
-    last = k.last;
-    counts = record { steps = omega (arith, n); misses = k.counts.misses; entries = k.counts.entries; fronts = more; appends = k.counts.appends };
-  }
-
-  pub tried-after : OnlyTried (Between m) Later → OnlyTried Before After
-  tried-after t = let x = subst (λ (z : V). OnlyTried (Between z) Later) is t in record { keeps = keeps-after x.keeps; consumed = x.consumed; takes = x.takes; freed = x.freed }
-
-  pub takes-after : {Call : Type 0} (o : Obj Call) (k : Plan) (held : Held) → Takes o k held (Between m) Later → Takes o k held Before After
-  takes-after o k held t = let x = subst (λ (z : V). Takes o k held (Between z) Later) is t in record { keeps = keeps-after x.keeps; consumed = x.consumed; holds = x.holds; quiet = x.quiet; stored = x.stored; begins = x.begins; takes = x.takes; freed = x.freed }
-
--- it records nothing in either of two parts
-keeps-on : (v m u : Shown) → Keeps v m → Keeps m u → Keeps v u
-keeps-on v m u a b = let x = a.counts in let y = b.counts in let s = x.steps in let s' = y.steps in let n = x.misses in let n' = y.misses in let e = x.entries in let e' = y.entries in let f = x.fronts in let f' = y.fronts in let l = x.appends in let l' = y.appends in record {
-  task = b.task ∙ a.task;
-  done = b.done ∙ a.done;
-  seen = b.seen ∙ a.seen;
-  records = b.records ∙ a.records;
-  sent = b.sent ∙ a.sent;
-  last = b.last ∙ a.last;
-  counts = record { steps = omega (arith, s, s'); misses = omega (arith, n, n'); entries = omega (arith, e, e'); fronts = omega (arith, f, f'); appends = omega (arith, l, l') };
-}
-
--- tries one after another
-pub tried-on : (v m u : Shown) → OnlyTried v m → OnlyTried m u → OnlyTried v u
-tried-on v m u a b = record { keeps = keeps-on v m u a.keeps b.keeps; consumed = b.consumed ∙ a.consumed; takes = b.takes ∙ a.takes; freed = b.freed ∙ a.freed }
-
--- a hold that was taken after tries
-pub tried-takes : {Call : Type 0} (o : Obj Call) (k : Plan) (held : Held) (v m u : Shown) → OnlyTried v m → Takes o k held m u → Takes o k held v u
-tried-takes o k held v m u a b = record {
-  keeps = keeps-on v m u a.keeps b.keeps;
-  consumed = b.consumed ∙ a.consumed;
-  holds = b.holds;
-  quiet = b.quiet;
-  stored = b.stored;
-  begins = subst (λ (s : List Entry). (length s ≤ length u.hand.log) × (take (length s) u.hand.log ≡ s)) a.keeps.seen b.begins;
-  takes = b.takes ∙ ap (λ (n : ℕ). n + 1) a.takes;
-  freed = b.freed ∙ a.freed;
 }

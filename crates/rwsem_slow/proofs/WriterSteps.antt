@@ -17,7 +17,7 @@ use Rattle.wait_list.specs.declared.view.Waiter.{Waiter}
 use Rattle.wait_list.specs.Lists.{FindsFirst, FindsNext, IsList, Knows, Removes, counted, first_code, first_of, next_of}
 use Rattle.wait_list.proofs.Tickets.{sound-changed}
 use Rattle.rwsem_count.specs.declared.word_steps.Write.TheVariants.{Fail, Mark, Take}
-use Rattle.rwsem_count.specs.WordSteps.{HasFlags, HasHandoff, IsLocked, Writes as WritesBy}
+use Rattle.rwsem_count.specs.WordSteps.{HasFlags, HasHandoff, Writes as WritesBy}
 use Rattle.rwsem_wake.specs.declared.view.SemHand.{SemHand}
 use Rattle.rwsem_wake.specs.declared.view.Stage.TheVariants.{Rest, Marking, Took, Removed, Summing}
 use Rattle.rwsem_wake.specs.declared.view.Wait.{Wait}
@@ -29,7 +29,8 @@ use Rattle.rwsem_wake.specs.Queues.{HoldsBy, MayTake, asked, own_unmarked, reste
 use Rattle.rwsem_slow.specs.Queued.{Becomes, HasTaken, IsInLine, IsTrying, KnowsMark, Rests, Stays, waiting}
 use Rattle.rwsem_slow.specs.Removals.{KnowsList}
 use Rattle.rwsem_slow.specs.RwSems.{V, list_of, parted, sem_of, with_list, with_sem}
-use Rattle.rwsem_slow.proofs.Joining.{code-waits, holds-one}
+use Rattle.wait_list.proofs.Joining.{holds-one}
+use Rattle.rwsem_slow.proofs.Joining.{code-waits}
 use Rattle.rwsem_slow.proofs.Walking.{finds-next}
 
 -- it knows the list as before where the list and the spin lock are
@@ -232,17 +233,21 @@ module _ (v u : V) (queued : v.ext.sem ≡ waiting Writes) (list : KnowsList v) 
       beside false (inl (k, why)) = (ap (λ (z : V). z.hand) k, λ x known log i. record (k i) { hand = took (k i).hand Alone known log; steps = x.steps; ext = record { list = x.ext.list; sem = record (waiting Writes) { stage = Took }; appends = (k i).ext.appends } })
       beside false (inr (k, why)) = (ap (λ (z : V). z.hand) k, λ x known log i. record (k i) { hand = took (k i).hand Alone known log; steps = x.steps; ext = record { list = x.ext.list; sem = record (waiting Writes) { stage = Took }; appends = (k i).ext.appends } })
 
+-- who removed a waiter knows the list
+pub removed-list : (v u : V) (t : ℕ) → SpinHolds v.spin → Removes list_of with_list v t u → KnowsList u
+removed-list v u t locked r = let spin = ap (λ (z : V). z.spin) r.view in let same = ap (λ (z : V). z.ext.list) r.view in record {
+  knows = subst Knows (λ i. (sym spin i, sym same i)) (holds-one v locked, r.since);
+  still = ap (λ (h : ListHand). h.changes) same ∙ r.still;
+  sound = subst IsList (sym (ap (λ (h : ListHand). h.list) same ∙ r.now)) (sound-changed (Leave t) r.was r.sound r.there);
+}
+
 -- a writer that took leaves the list
 module _ (v u : V) (t : ℕ) (took_it : v.ext.sem ≡ record (waiting Writes) { stage = Took }) (locked : SpinHolds v.spin) (later : v.steps ≤ u.steps) (r : Removes list_of with_list v t u) where
   pub quit-sem : u.ext.sem ≡ record apart_hand { stage = Removed }
   quit-sem = ap (λ (z : V). z.ext.sem) r.view ∙ ap (λ (s : SemHand). parted s.stage s.wait t (length r.hand.list) s) took_it
 
   pub quit-list : KnowsList u
-  quit-list = let spin = ap (λ (z : V). z.spin) r.view in let same = ap (λ (z : V). z.ext.list) r.view in record {
-    knows = subst Knows (λ i. (sym spin i, sym same i)) (holds-one v locked, r.since);
-    still = ap (λ (h : ListHand). h.changes) same ∙ r.still;
-    sound = subst IsList (sym (ap (λ (h : ListHand). h.list) same ∙ r.now)) (sound-changed (Leave t) r.was r.sound r.there);
-  }
+  quit-list = removed-list v u t locked r
 
   pub quit-rests : (w : V) (s : SemHand) → s ≡ apart_hand → TurnsTo with_sem u s w → Becomes v 0 apart_hand w
   quit-rests w s is turns = let same = ap (λ (z : V). z.ext.list) turns in let steps = ap (λ (z : V). z.steps) turns in record {

@@ -21,7 +21,7 @@ use Rattle.rwsem_count.specs.Counts.{CountKept, CountMove, CountPart, HandStep, 
 use Rattle.rwsem_wake.specs.declared.view.SemHand.{SemHand}
 use Rattle.rwsem_wake.specs.SemParts.{SemPart, busy_of, busy_weight, granted_at, granted_weight, granting_weight, here, named_weight, part_of, reads_of, reads_weight}
 use Rattle.rwsem_wake.specs.Semaphores.{SemKept, SemPartOk, more_of}
-use Rattle.rwsem_wake.specs.Handoffs.{KeepsHandoff, granting_at, reads_as}
+use Rattle.rwsem_wake.specs.Handoffs.{KeepsHandoff, Unasked, granting_at, reads_as}
 use Rattle.rwsem_wake.proofs.HandoffSteps.{hands-free, hands-reads, hands-step, own-comes}
 use Rattle.rwsem_wake.proofs.Lines.{lines-else}
 use Rattle.rwsem_wake.proofs.WakeLaws.{ok-of, sem-counts}
@@ -47,12 +47,15 @@ module _ (ps : List SemPart) (id : ℕ) (v u : SemPart) (at : get_elem? ps id �
   counts-kept count ok = let f = move.flags in sem-counts ps id v at u n m q marks grants r task wait rest stage (omega (arith, f)) (omega (arith, f)) (subst (CountKept m (more_of grants ps)) (sym (map-set ps id u)) count) ok
 
   -- it keeps to a handoff
-  counts-hands : (own : ℕ) → v.task ≡ Some own → KeepsHandoff id n q marks grants ps m grants (set ps id u)
+  counts-hands : (own : ℕ) → v.task ≡ Some own → KeepsHandoff id n q marks grants ps m marks grants (set ps id u)
   counts-hands own has = elim (native.Mathlib.Decide.dec_le (m % 2) (n % 2)) [
-    | no more ↦ hands-free id n q marks grants ps m grants (set ps id u) (inl (move.writer (omega (arith, more)) (omega (arith, more)))) (own-comes id n q marks grants ps v u at own has elsewhere)
+    | no more ↦ hands-free id n q marks grants ps m marks grants (set ps id u) (inl (move.writer (omega (arith, more)) (omega (arith, more)))) unasked (own-comes id n q marks grants ps v u at own has elsewhere)
     | yes low ↦ by-hold u.held refl low
   ]
     where
+      unasked : Unasked n marks m marks
+      unasked = (let f = move.flags in omega (arith, f), λ t. omega arith)
+
       granted : (t : ℕ) → granted_at grants t u ≡ granted_at grants t v
       granted t = λ i. named_weight t (task i) (granted_weight grants (task i) (wait i))
 
@@ -74,18 +77,18 @@ module _ (ps : List SemPart) (id : ℕ) (v u : SemPart) (at : get_elem? ps id �
           nobody zero = refl
           nobody (suc x) = ap (is_number t) (task ∙ has) ∙ is_number-else t own (λ e. not (sym e))
 
-      shares : m % 2 ≤ n % 2 → u.held ≡ Shared → KeepsHandoff id n q marks grants ps m grants (set ps id u)
+      shares : m % 2 ≤ n % 2 → u.held ≡ Shared → KeepsHandoff id n q marks grants ps m marks grants (set ps id u)
       shares low e = elim (move.reader e) [
-        | inl was ↦ hands-step id n q marks grants ps v u at m low (λ t. no-more t (let a : shared_weight u.held ≡ shared_weight v.held = ap shared_weight (e ∙ sym was) in omega (arith, a)))
+        | inl was ↦ hands-step id n q marks grants ps v u at m marks low (λ t. no-more t (let a : shared_weight u.held ≡ shared_weight v.held = ap shared_weight (e ∙ sym was) in omega (arith, a))) unasked
         | inr more ↦ elim more [
-          | inl none ↦ hands-free id n q marks grants ps m grants (set ps id u) (inl none) (own-comes id n q marks grants ps v u at own has elsewhere)
-          | inr may ↦ hands-reads id n q marks grants ps v u at m own low has may elsewhere
+          | inl none ↦ hands-free id n q marks grants ps m marks grants (set ps id u) (inl none) unasked (own-comes id n q marks grants ps v u at own has elsewhere)
+          | inr may ↦ hands-reads id n q marks grants ps v u at m own low has may elsewhere unasked
         ]
       ]
 
-      by-hold : (x : Held) → u.held ≡ x → m % 2 ≤ n % 2 → KeepsHandoff id n q marks grants ps m grants (set ps id u)
-      by-hold No e low = hands-step id n q marks grants ps v u at m low (λ t. no-more t (let a : shared_weight u.held ≡ 0 = ap shared_weight e in omega (arith, a)))
-      by-hold Alone e low = hands-step id n q marks grants ps v u at m low (λ t. no-more t (let a : shared_weight u.held ≡ 0 = ap shared_weight e in omega (arith, a)))
+      by-hold : (x : Held) → u.held ≡ x → m % 2 ≤ n % 2 → KeepsHandoff id n q marks grants ps m marks grants (set ps id u)
+      by-hold No e low = hands-step id n q marks grants ps v u at m marks low (λ t. no-more t (let a : shared_weight u.held ≡ 0 = ap shared_weight e in omega (arith, a))) unasked
+      by-hold Alone e low = hands-step id n q marks grants ps v u at m marks low (λ t. no-more t (let a : shared_weight u.held ≡ 0 = ap shared_weight e in omega (arith, a))) unasked
       by-hold Shared e low = shares low e
 
 module _ {Call : Type 0} (o : Obj Call) (size : ℕ) where
@@ -114,4 +117,4 @@ module _ {Call : Type 0} (o : Obj Call) (size : ℕ) where
       let hands = number-or-not v.hand.task (λ out. absurd (step.numbered out)) (λ t has. counts-hands ps id (seen v) u mine (count_in ws) n q (marks_in ws) (grants_in ws) r.sem step.task refl refl refl move t has) in
       sem-sems o size k ws vs q id count_at n v h s r at (omega arith) (omega arith) (λ l. absurd (omega (arith, l))) (r.locked id v at) (subst (HandStep v.hand h) (sym word) step)
       (subst (λ (z : SemWords). SemKept z.0 q z.1 z.2 (set ps id u)) (sym words) kept)
-      (subst (λ (z : SemWords). KeepsHandoff id (count_in ws) q (marks_in ws) (grants_in ws) ps z.0 z.2 (set ps id u)) (sym words) hands) there
+      (subst (λ (z : SemWords). KeepsHandoff id (count_in ws) q (marks_in ws) (grants_in ws) ps z.0 z.1 z.2 (set ps id u)) (sym words) hands) there

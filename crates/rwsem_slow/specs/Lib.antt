@@ -11,5 +11,7 @@ pub mod Removals
 pub mod Wakes
 pub mod Releasing
 pub mod Queued
+pub mod Leaving
+pub mod Standing
 pub mod Stealing
 pub mod Spinning

@@ -36,7 +36,7 @@ use Rattle.rwsem_wake.specs.Semaphores.{SemPartOk, batch_weight}
 use Rattle.rwsem_wake.proofs.Sums.{busy-most}
 use Rattle.rwsem_wake.proofs.QueueLaws.{a_writer, reader, mine-at, reads-at-w, writes-at-w}
 use Rattle.rwsem_wake.proofs.Places.{granted-all}
-use Rattle.rwsem_wake.proofs.HandoffSteps.{hands-still}
+use Rattle.rwsem_wake.proofs.HandoffSteps.{hands-still, unasked-same}
 use Rattle.rwsem_slow.specs.RwSems.{V, list_of, seen, list_at, spin_words, count_in, list_words, marks_in, grants_in, IsLocked, RwSemKept, Kept as IsKept, entered, IsMadeBy, joined, picked, parted as parted_at, with_list, saw_first, may_change, MayJoin, MayPick, LeavesTaken, LeavesFirst, LeavesBehind, LeavesPicked}
 use Rattle.rwsem_slow.specs.RwSemLaws.{SemWords, sem_words, sem-else, Go as Going, Sem, Hands, sem-only, goes, goes-on, hands-same, same-site}
 use Rattle.rwsem_slow.specs.ListSteps.{alone-long, counted-is, enters-reader, enters-writer, first-counts, leaves-first, leaves-picked, leaves-reader, leaves-taken, leaves-writer, reader-counts}
@@ -199,7 +199,7 @@ module _ {Call : Type 0} (o : Obj Call) (size : ℕ) where
         (subst (λ (z : SemWords). Sem o size z (changed c q) (map seen (set vs id w))) (sym words) (set_part seen (Sem o size (sem_words ws) (changed c q)) vs id w facts.0))
         (each-set IsLocked IsLocked vs id w (omega (arith, m, holds)) (λ j x _ _ p. p) r.locked) may made own
         (subst (λ (z : SemWords). Hands o size id (sem_words ws) q (map seen vs) z (map seen (set vs id w))) (sym words) (set_part seen (Hands o size id (sem_words ws) q (map seen vs) (sem_words ws)) vs id w facts.1))
-        (λ out other. absurd (other refl)) (list-appends c v b)
+        (λ out other. absurd (other refl)) (omega (arith, m, holds)) (list-appends c v b)
 
     module _ (has : SpinHolds v.spin) where
       only : total busy_of (map seen vs) ≡ busy_of (seen v)
@@ -208,7 +208,7 @@ module _ {Call : Type 0} (o : Obj Call) (size : ℕ) where
       -- what each change makes of the facts
       stays-facts : Facts q v.ext.sem
       stays-facts = let ps : List SemPart = map seen vs in subst (λ (z : List SemPart). Sem o size (sem_words ws) q z × Hands o size id (sem_words ws) q ps (sem_words ws) z) (sym (set_again ps id (seen v) mine))
-          (r.sem, hands-still id (count_in ws) q (marks_in ws) (grants_in ws) ps (count_in ws) (grants_in ws) ps (omega arith) (λ t. omega arith))
+          (r.sem, hands-still id (count_in ws) q (marks_in ws) (grants_in ws) ps (count_in ws) (marks_in ws) (grants_in ws) ps (omega arith) (λ t. omega arith) (unasked-same (count_in ws) (marks_in ws)))
 
       enters-facts : (w : Waiter) (b : ListHand) → may_change (Enter w) v q → b.list ≡ q ++ w ∷ [] → Facts (q ++ w ∷ []) (with_list (Enter w) v b).sem
       enters-facts w b may is = subst (λ (z : List Waiter). Facts (q ++ w ∷ []) (joined w.writer (length z) v.ext.sem)) (sym is) (go w.writer refl may.3)
@@ -282,4 +282,4 @@ module _ {Call : Type 0} (o : Obj Call) (size : ℕ) where
         refl
         (keep_part seen (Sem o size (sem_words ws) q) vs id v w at refl r.sem)
         (each-set IsLocked IsLocked vs id w (r.locked id v at) (λ j x _ _ p. p) r.locked)
-        (hands-same o size k ws vs q r id v at (set vs id w) (keep_part seen (λ z. z ≡ map seen vs) vs id v w at refl refl)) refl refl
+        (hands-same o size k ws vs q r id v at (set vs id w) (keep_part seen (λ z. z ≡ map seen vs) vs id v w at refl refl)) refl refl refl

@@ -17,7 +17,7 @@ use Rattle.rwsem_wake.specs.declared.view.SemHand.{SemHand}
 use Rattle.rwsem_wake.specs.declared.view.Wait.TheVariants.{Apart, Reads, Writes}
 use Rattle.rwsem_wake.specs.declared.view.Stage.{Stage}
 use Rattle.rwsem_wake.specs.declared.view.Stage.TheVariants.{Rest, Armed, Joining, First, Took, Removed, Emptied, Overdue, Removing, Summing}
-use Rattle.rwsem_wake.specs.SemParts.{SemPart, busy_of, named_weight, reads_at, writes_at, granted_at, granting_of, granting_weight, here, is_zero, reader_at, writer_at, reader_bit, reserve_weight, reserve_of, early_of, late_of, some_of, marks_sum, first_mark, tasks}
+use Rattle.rwsem_wake.specs.SemParts.{SemPart, busy_of, named_weight, reads_at, writes_at, granted_at, granting_of, granting_weight, here, reader_at, writer_at, reader_bit, reserve_weight, reserve_of, early_of, late_of, some_of, marks_sum, first_mark, tasks}
 use Rattle.rwsem_wake.specs.Semaphores.{FlagsAt, Quiet, SemKept, batch_weight, load_of}
 use Rattle.rwsem_wake.specs.Handoffs.{KeepsHandoff, granting_at}
 use Rattle.rwsem_wake.specs.Stated.{IsFirstReader, Picks, Without}
@@ -26,7 +26,7 @@ use Rattle.rwsem_wake.proofs.Places.{first-least, granted-all, not-zero, some-le
 use Rattle.rwsem_wake.proofs.WakeLaws.{batched, single-of}
 use Rattle.rwsem_wake.proofs.QueueLaws.{a_writer, reader, granted-at-w, mine-at, reads-at-w, sem-joins, writes-at-w}
 use Rattle.rwsem_wake.proofs.HandoffLaws.{sem-drops-reader, sem-drops-writer, sem-enters, sem-picks, took-left}
-use Rattle.rwsem_wake.proofs.HandoffSteps.{hands-step}
+use Rattle.rwsem_wake.proofs.HandoffSteps.{hands-step, unasked-same}
 use Rattle.rwsem_wake.proofs.Readers.{without-is}
 use Rattle.rwsem_slow.specs.RwSems.{gone, picked}
 
@@ -94,11 +94,11 @@ module _ (vs : List SemPart) (id : ℕ) (v : SemPart) (at : get_elem? vs id ≡ 
 
   -- the facts hold with this list and this part of the pass, and the step keeps to a handoff
   abbrev pub Both : List Waiter → SemHand → Type 0
-  Both q' s = let u : SemPart = record v { sem = s } in SemKept n q' marks grants (set vs id u) × KeepsHandoff id n q marks grants vs n grants (set vs id u)
+  Both q' s = let u : SemPart = record v { sem = s } in SemKept n q' marks grants (set vs id u) × KeepsHandoff id n q marks grants vs n marks grants (set vs id u)
 
   -- who isn't granted, and whose batch isn't in the count, is no more of a reader than before
-  no-more : (s : SemHand) → ((t : ℕ) → granted_at grants t (record v { sem = s }) ≡ 0) → ((t : ℕ) → granting_at t (record v { sem = s }) ≡ 0) → KeepsHandoff id n q marks grants vs n grants (set vs id (record v { sem = s }))
-  no-more s granted granting = hands-step id n q marks grants vs v (record v { sem = s }) at n (omega arith) (λ t. let a = granted t in let b = granting t in omega (arith, a, b))
+  no-more : (s : SemHand) → ((t : ℕ) → granted_at grants t (record v { sem = s }) ≡ 0) → ((t : ℕ) → granting_at t (record v { sem = s }) ≡ 0) → KeepsHandoff id n q marks grants vs n marks grants (set vs id (record v { sem = s }))
+  no-more s granted granting = hands-step id n q marks grants vs v (record v { sem = s }) at n marks (omega arith) (λ t. let a = granted t in let b = granting t in omega (arith, a, b)) (unasked-same n marks)
 
   pub enters-writer : (b : Bool) → bit b + some_of q ≡ 1 → v.sem.stage ≡ Rest → v.sem.wait ≡ Apart → Both (q ++ a_writer own ∷ []) (record v.sem { wait = Writes; stage = if b then First else Rest })
   enters-writer b empty stage wait = let s : SemHand = record v.sem { wait = Writes; stage = if b then First else Rest } in (
@@ -227,7 +227,7 @@ module _ (vs : List SemPart) (id : ℕ) (v : SemPart) (at : get_elem? vs id ≡ 
     p.1,
     (
       subst (λ (x : ℕ). SemKept n (without t q) marks grants (set vs id (batched v (v.sem.rest ++ x ∷ []) Removing))) p.1 (sem-picks vs id v at n q marks grants r own has only (without t q) w p.3.0 facts.0 facts.1 facts.2 p.2 (λ none. p.3.1 (picks.1 none)) m),
-      hands-step id n q marks grants vs v (record v { sem = picked t v.sem }) at n (omega arith) (λ t. omega arith),
+      hands-step id n q marks grants vs v (record v { sem = picked t v.sem }) at n marks (omega arith) (λ t. omega arith) (unasked-same n marks),
     ),
   )
     where

@@ -7,13 +7,14 @@ use Rattle.lock_core.specs.declared.how.How.{How}
 use Rattle.lock_core.specs.declared.how.How.TheVariants.{Fast, Spun, Slept}
 use Rattle.lock_core.specs.declared.view.Held.TheVariants.{Shared, Alone}
 use Rattle.lock_core.specs.Holding.{Learns}
+use Rattle.lock_core.specs.Signals.{OnlyHeard}
 use Rattle.lock_core.specs.Views.{took}
 use Rattle.rwsem_count.specs.declared.view.Bias.TheVariants.{Transit}
 use Rattle.rwsem_count.specs.WordSteps.{HasHandoff, IsLocked}
 use Rattle.rwsem_wake.specs.declared.view.SemHand.{SemHand}
 use Rattle.rwsem_wake.specs.declared.view.Stage.TheVariants.{Took, Summing}
 use Rattle.rwsem_wake.specs.declared.view.Wait.{Wait}
-use Rattle.rwsem_wake.specs.declared.view.Wait.TheVariants.{Reads, Writes}
+use Rattle.rwsem_wake.specs.declared.view.Wait.TheVariants.{Writes}
 use Rattle.rwsem_wake.specs.SemParts.{apart_hand}
 use Rattle.rwsem_slow.specs.RwSems.{V}
 use Rattle.rwsem_slow.specs.Removals.{KnowsList}
@@ -63,7 +64,7 @@ pub record HasTaken {Call : Type 0} (o : Obj Call) (k : Plan) (v u : V) : Type 0
   pub list : KnowsList u
   pub is : u ≡ record v { hand = took v.hand Alone known log; steps = u.steps; ext = record { list = u.ext.list; sem = record (waiting Writes) { stage = Took }; appends = v.ext.appends } }
 
--- what a call knows of its pass beyond what it does in line: the hand but for what loads of its signals heard, and how often it has been the front of a spin queue and has appended itself
+-- what a call knows of its pass beyond the hand and what it does in line: no count of its steps falls, and it was the front of no spin queue and has not appended itself
 pub record KeepsLine (v u : V) : Type 0 where
   pub later : v.steps ≤ u.steps
   pub entries : v.spin.entries ≤ u.spin.entries
@@ -74,7 +75,16 @@ pub record KeepsLine (v u : V) : Type 0 where
 pub record WaitsOn (wait : Wait) (v u : V) : Type 0 where
   pub keeps : KeepsLine v u
   pub line : IsInLine wait u
-  pub hand : u.hand ≡ v.hand
+  pub hand : OnlyHeard v u
+
+-- it has only made steps, and heard of its signals
+abbrev pub Listens : V → V → Type 0
+Listens v u = u ≡ record v { hand = record v.hand { heard = u.hand.heard }; steps = u.steps }
+
+-- a writer that has taken, and is to leave the list
+pub record IsToQuit (v : V) : Type 0 where
+  pub sem : v.ext.sem ≡ record (waiting Writes) { stage = Took }
+  pub still : v.ext.list.changes ≡ false
 
 -- a writer that waited has taken, and is to leave the list
 pub record TookInLine {Call : Type 0} (o : Obj Call) (k : Plan) (v u : V) : Type 0 where
@@ -86,12 +96,17 @@ pub record TookInLine {Call : Type 0} (o : Obj Call) (k : Plan) (v u : V) : Type
   pub sem : u.ext.sem ≡ record (waiting Writes) { stage = Took }
   pub still : u.ext.list.changes ≡ false
 
--- what a call that queued leaves of how often its pass has done what
-pub record WentInLine (v u : V) : Type 0 where
+-- a call has taken the wait lock, and counts no failed try more
+pub record EntersLock (v u : V) : Type 0 where
   pub entries : v.spin.entries < u.spin.entries
   pub fronts : u.fronts ≡ v.fronts
   pub misses : u.hand.misses ≡ v.hand.misses
-  pub appends : u.ext.appends ≡ v.ext.appends + 1
+
+-- how often a call has appended itself that took by way of the wait lock
+abbrev pub AppendedBy : How → V → V → Type 0
+AppendedBy Fast v u = ⊥
+AppendedBy Spun v u = u.ext.appends ≡ v.ext.appends
+AppendedBy Slept v u = u.ext.appends ≡ v.ext.appends + 1
 
 -- a reader whose bias is in the count, and whose try saw that it may not hold by it at once
 abbrev pub IsInTransit : V → Type 0
@@ -112,9 +127,3 @@ pub record Shares {Call : Type 0} (o : Obj Call) (k : Plan) (v u : V) : Type 0 w
   pub hand : u.hand ≡ took v.hand Shared known log
   pub sem : u.ext.sem ≡ apart_hand
   pub still : u.ext.list.changes ≡ false
-
--- the same of a call that took by way of the wait lock, with the list or without
-abbrev pub WentThroughLine : How → V → V → Type 0
-WentThroughLine Fast v u = ⊥
-WentThroughLine Spun v u = (v.spin.entries < u.spin.entries) × (u.fronts ≡ v.fronts) × (u.hand.misses ≡ v.hand.misses) × (u.ext.appends ≡ v.ext.appends)
-WentThroughLine Slept v u = WentInLine v u

@@ -36,7 +36,7 @@ use Rattle.rwsem_wake.specs.SemParts.{SemPart, apart_hand, busy_of, busy_weight,
 use Rattle.rwsem_wake.specs.Semaphores.{SemKept, batch_weight, number_of, number_weight}
 use Rattle.rwsem_wake.specs.Handoffs.{KeepsHandoff, reads_as}
 use Rattle.rwsem_wake.specs.Grants.{semmed}
-use Rattle.rwsem_wake.proofs.HandoffSteps.{hands-step, hands-still}
+use Rattle.rwsem_wake.proofs.HandoffSteps.{hands-step, hands-still, unasked-same}
 use Rattle.rwsem_wake.proofs.Lines.{lines-else, lines-zero}
 use Rattle.rwsem_wake.proofs.SeatLaws.{sem-opens, sem-renumbers, sem-strangers}
 use Rattle.rwsem_wake.proofs.Stating.{count-least}
@@ -116,7 +116,7 @@ module _ {Call : Type 0} (o : Obj Call) (size : ℕ) where
 
   -- the step keeps to a handoff, from these words to those
   abbrev pub Hands : ℕ → SemWords → List Waiter → List SemPart → SemWords → List SemPart → Type 0
-  Hands id w q ps u ps' = KeepsHandoff id w.0 q w.1 w.2 ps u.0 u.2 ps'
+  Hands id w q ps u ps' = KeepsHandoff id w.0 q w.1 w.2 ps u.0 u.1 u.2 ps'
 
   pub sem-site : (k : Plan) (ws : List ℕ) (vs : List V) → Kept k ws vs → Site k ws (map hand_of vs)
   sem-site k ws vs r = r.1.site_holds
@@ -175,8 +175,8 @@ module _ {Call : Type 0} (o : Obj Call) (size : ℕ) where
 
       -- a step, and all that it leaves
       pub goes : (us : List ℕ) (vs' : List V) (c : Change) → length us ≡ width k → Site k us (map hand_of vs') → SiteMove id (site k ws) vs (site k us) vs' → (u : V) → get_elem? vs' id ≡ some u → SpinMoves id (spin_words ws) (map spin_part vs) (spin_words us) (map spin_part vs') → ListKept (list_words us) (changed c q) (map parted vs')
-          → Sem (sem_words us) (changed c q) (map seen vs') → Each IsLocked vs' → Allowed c q → MadeBy c id (map parted vs) → IsMadeBy id vs c q → Hands id (sem_words ws) q (map seen vs) (sem_words us) (map seen vs') → KeepsCount v.hand u.hand (count_in us) → u.ext.appends ≡ v.ext.appends + entered c → Go k id ws vs us vs'
-      goes us vs' c wide there move u at' spin list sem locked may made mine hands freed counts = let before : v ≡ move.before = some-injective v move.before (sym at ∙ move.at) in let after : u ≡ move.after = some-injective u move.after (sym at' ∙ move.at') in (
+          → Sem (sem_words us) (changed c q) (map seen vs') → Each IsLocked vs' → Allowed c q → MadeBy c id (map parted vs) → IsMadeBy id vs c q → Hands id (sem_words ws) q (map seen vs) (sem_words us) (map seen vs') → KeepsCount v.hand u.hand (count_in us) → busy_weight u.ext.sem.stage ≤ holds_in v.spin → u.ext.appends ≡ v.ext.appends + entered c → Go k id ws vs us vs'
+      goes us vs' c wide there move u at' spin list sem locked may made mine hands freed lock counts = let before : v ≡ move.before = some-injective v move.before (sym at ∙ move.at) in let after : u ≡ move.after = some-injective u move.after (sym at' ∙ move.at') in (
         (changed c q, record { wide = wide; site_holds = there; spin = (spin.queue', spin.new); list = list; sem = sem; locked = locked }),
         record {
           site = move;
@@ -185,15 +185,16 @@ module _ {Call : Type 0} (o : Obj Call) (size : ℕ) where
           made = mine;
           hands = hands;
           freed = subst (λ (x : V × V). KeepsCount x.0.hand x.1.hand (count_in us)) (λ i. (before i, after i)) freed;
+          locked = subst (λ (x : V × V). busy_weight x.1.ext.sem.stage ≤ holds_in x.0.spin) (λ i. (before i, after i)) lock;
           appends = subst (λ (x : V × V). x.1.ext.appends ≡ x.0.ext.appends + entered c) (λ i. (before i, after i)) counts;
         },
       )
 
       -- the same of a step that leaves the list, and changes this word alone of the count, the marks and the grant words
       pub goes-on : (us : List ℕ) (vs' : List V) → length us ≡ width k → Site k us (map hand_of vs') → SiteMove id (site k ws) vs (site k us) vs' → (u : V) → get_elem? vs' id ≡ some u → SpinMoves id (spin_words ws) (map spin_part vs) (spin_words us) (map spin_part vs') → ListKept (list_words us) q (map parted vs')
-          → sem_words us ≡ sem_words ws → Sem (sem_words ws) q (map seen vs') → Each IsLocked vs' → Hands id (sem_words ws) q (map seen vs) (sem_words ws) (map seen vs') → u.hand.held ≡ v.hand.held → u.ext.appends ≡ v.ext.appends → Go k id ws vs us vs'
-      goes-on us vs' wide there move u at' spin list words sem locked hands held counts = goes us vs' Stay wide there move u at' spin list (subst (λ (z : SemWords). Sem z q (map seen vs')) (sym words) sem) locked tt tt tt
-          (subst (λ (z : SemWords). Hands id (sem_words ws) q (map seen vs) z (map seen vs')) (sym words) hands) (λ out other. absurd (other held)) (omega (arith, counts))
+          → sem_words us ≡ sem_words ws → Sem (sem_words ws) q (map seen vs') → Each IsLocked vs' → Hands id (sem_words ws) q (map seen vs) (sem_words ws) (map seen vs') → u.hand.held ≡ v.hand.held → u.ext.sem ≡ v.ext.sem → u.ext.appends ≡ v.ext.appends → Go k id ws vs us vs'
+      goes-on us vs' wide there move u at' spin list words sem locked hands held same counts = goes us vs' Stay wide there move u at' spin list (subst (λ (z : SemWords). Sem z q (map seen vs')) (sym words) sem) locked tt tt tt
+          (subst (λ (z : SemWords). Hands id (sem_words ws) q (map seen vs) z (map seen vs')) (sym words) hands) (λ out other. absurd (other held)) (let l = r.locked id v at in let e : busy_weight u.ext.sem.stage ≡ busy_weight v.ext.sem.stage = ap (λ (s : SemHand). busy_weight s.stage) same in omega (arith, l, e)) (omega (arith, counts))
 
       -- a step on a word outside of the site's leaves the site's words
       pub same-site : (j n : ℕ) → j < LOCK_WORDS → site k (set ws j n) ≡ site k ws
@@ -201,21 +202,21 @@ module _ {Call : Type 0} (o : Obj Call) (size : ℕ) where
 
       -- nobody is a reader that wasn't
       pub hands-same : (vs' : List V) → map seen vs' ≡ map seen vs → Hands id (sem_words ws) q (map seen vs) (sem_words ws) (map seen vs')
-      hands-same vs' same = hands-still id (count_in ws) q (marks_in ws) (grants_in ws) (map seen vs) (count_in ws) (grants_in ws) (map seen vs') (omega arith) (λ t. let e = ap (total (reads_as (grants_in ws) t)) same in omega (arith, e))
+      hands-same vs' same = hands-still id (count_in ws) q (marks_in ws) (grants_in ws) (map seen vs) (count_in ws) (marks_in ws) (grants_in ws) (map seen vs') (omega arith) (λ t. let e = ap (total (reads_as (grants_in ws) t)) same in omega (arith, e)) (unasked-same (count_in ws) (marks_in ws))
 
       -- a pass that is about nothing changes its number
       pub renumbers : (h : Hand) → h.held ≡ v.hand.held → v.ext.sem ≡ apart_hand → v.hand.held ≡ No → (let u : SemPart = record { task = h.task; held = h.held; sem = v.ext.sem } in Sem (sem_words ws) q (set (map seen vs) id u) × Hands id (sem_words ws) q (map seen vs) (sem_words ws) (set (map seen vs) id u))
       renumbers h held none out = let mine = at_map seen vs id v at in let u : SemPart = record (seen v) { task = h.task } in
           subst (λ (z : SemPart). Sem (sem_words ws) q (set (map seen vs) id z) × Hands id (sem_words ws) q (map seen vs) (sem_words ws) (set (map seen vs) id z)) (λ x. record { task = h.task; held = sym held x; sem = v.ext.sem }) (
             sem-renumbers (map seen vs) id (seen v) mine (count_in ws) q (marks_in ws) (grants_in ws) r.sem h.task none out,
-            hands-step id (count_in ws) q (marks_in ws) (grants_in ws) (map seen vs) (seen v) u mine (count_in ws) (omega arith) (λ t. let e = nothing-reads (grants_in ws) t (seen v) h.task none out in omega (arith, e)),
+            hands-step id (count_in ws) q (marks_in ws) (grants_in ws) (map seen vs) (seen v) u mine (count_in ws) (marks_in ws) (omega arith) (λ t. let e = nothing-reads (grants_in ws) t (seen v) h.task none out in omega (arith, e)) (unasked-same (count_in ws) (marks_in ws)),
           )
 
       -- a pass keeps its number and how it holds
       pub unchanged : (h : Hand) → h.held ≡ v.hand.held → h.task ≡ v.hand.task → (let u : SemPart = record { task = h.task; held = h.held; sem = v.ext.sem } in Sem (sem_words ws) q (set (map seen vs) id u) × Hands id (sem_words ws) q (map seen vs) (sem_words ws) (set (map seen vs) id u))
       unchanged h held task = let ps : List SemPart = map seen vs in let n : ℕ = count_in ws in
           subst (λ (z : SemPart). Sem (sem_words ws) q (set ps id z) × Hands id (sem_words ws) q ps (sem_words ws) (set ps id z)) (λ x. record { task = sym task x; held = sym held x; sem = v.ext.sem })
-          (subst (λ (z : List SemPart). Sem (sem_words ws) q z × Hands id (sem_words ws) q ps (sem_words ws) z) (sym (set_again ps id (seen v) (at_map seen vs id v at))) (r.sem, hands-still id n q (marks_in ws) (grants_in ws) ps n (grants_in ws) ps (omega arith) (λ t. omega arith)))
+          (subst (λ (z : List SemPart). Sem (sem_words ws) q z × Hands id (sem_words ws) q ps (sem_words ws) z) (sym (set_again ps id (seen v) (at_map seen vs id v at))) (r.sem, hands-still id n q (marks_in ws) (grants_in ws) ps n (marks_in ws) (grants_in ws) ps (omega arith) (λ t. omega arith) (unasked-same n (marks_in ws))))
 
   pub sem-sites : (k : Plan) (ws : List ℕ) (vs : List V) (id i n : ℕ) (v : V) (h : Hand) (s : SpinHand) → Kept k ws vs → get_elem? vs id ≡ some v → KeepsHold rests v h → SpinStays v.spin s → Site k (set ws (LOCK_WORDS + i) n) (set (map hand_of vs) id h)
       → SiteMove id (site k ws) vs (site k (set ws (LOCK_WORDS + i) n)) (set vs id (seated v h s)) → Go k id ws vs (set ws (LOCK_WORDS + i) n) (set vs id (seated v h s))
@@ -235,7 +236,7 @@ module _ {Call : Type 0} (o : Obj Call) (size : ℕ) where
       (sem-else ws j n (inr (omega arith)))
       (set_part seen (Sem (sem_words ws) q) vs id w both.0)
       (each-set IsLocked IsLocked vs id w (lock s stays (r.locked id v at)) (λ j x _ _ p. p) r.locked)
-      (set_part seen (Hands id (sem_words ws) q (map seen vs) (sem_words ws)) vs id w both.1) same.0 refl
+      (set_part seen (Hands id (sem_words ws) q (map seen vs) (sem_words ws)) vs id w both.1) same.0 refl refl
     where
       lock : (s : SpinHand) → SpinStays v.spin s → busy_weight v.ext.sem.stage ≤ holds_in v.spin → busy_weight v.ext.sem.stage ≤ holds_in s
       lock s stays l = let e : holds_in s ≡ holds_in v.spin = ⊎_elim (λ e. ap holds_in e) (λ e. ap holds_in e) stays in omega (arith, e, l)
@@ -252,7 +253,7 @@ module _ {Call : Type 0} (o : Obj Call) (size : ℕ) where
       (sem-else ws (0 + i) n (inl (λ e. omega (arith, e, within), omega (arith, within))))
       (keep_part seen (Sem (sem_words ws) q) vs id v w at refl r.sem)
       (each-set IsLocked IsLocked vs id w (lock (r.locked id v at)) (λ j x _ _ p. p) r.locked)
-      (hands-same k ws vs q r id v at (set vs id w) (keep_part seen (λ z. z ≡ map seen vs) vs id v w at refl refl)) refl refl
+      (hands-same k ws vs q r id v at (set vs id w) (keep_part seen (λ z. z ≡ map seen vs) vs id v w at refl refl)) refl refl refl
     where
       lock : busy_weight v.ext.sem.stage ≤ holds_in v.spin → busy_weight v.ext.sem.stage ≤ holds_in s
       lock l = holds-or-not v.spin
@@ -271,7 +272,7 @@ module _ {Call : Type 0} (o : Obj Call) (size : ℕ) where
       (keep_part spin_part (SpinMoves id (spin_words ws) (map spin_part vs) (spin_words ws)) vs id v w at (λ x. record { task = step.task x; spin = v.spin }) (spin-same id (spin_words ws) (map spin_part vs) r.spin)))
       (subst (λ (z : List ℕ). ListKept z q (map parted (set vs id w))) (sym list-same) (keep_part parted (ListKept (list_words ws) q) vs id v w at refl r.list))
       (set_part seen (Sem (sem_words us) q) vs id w sem) (each-set IsLocked IsLocked vs id w lock (λ j x _ _ p. p) r.locked) tt tt tt
-      (set_part seen (Hands id (sem_words ws) q (map seen vs) (sem_words us)) vs id w hands) step.left (omega arith)
+      (set_part seen (Hands id (sem_words ws) q (map seen vs) (sem_words us)) vs id w hands) step.left lock (omega arith)
     where
       list-same : list_words (set ws i n) ≡ list_words ws
       list-same = elim (native.Mathlib.Decide.dec_le (count_at + 1) i) [ yes far ↦ (let l = beyond (omega (arith, far)) in part-below ws list_at LIST_WORDS i n (omega (arith, l))) | no near ↦ part-above ws list_at LIST_WORDS i n (omega (arith, near, above)) ]
@@ -285,7 +286,7 @@ module _ {Call : Type 0} (o : Obj Call) (size : ℕ) where
       refl
       (set_part seen (Sem (sem_words ws) q) vs id w both.0)
       (each-set IsLocked IsLocked vs id w (r.locked id v at) (λ j x _ _ p. p) r.locked)
-      (set_part seen (Hands id (sem_words ws) q (map seen vs) (sem_words ws)) vs id w both.1) held refl
+      (set_part seen (Hands id (sem_words ws) q (map seen vs) (sem_words ws)) vs id w both.1) held refl refl
 
   -- a store of the owner hint, of which no fact speaks
   pub sem-hints : (k : Plan) (ws : List ℕ) (vs : List V) (id n : ℕ) (v : V) → Kept k ws vs → get_elem? vs id ≡ some v → Go k id ws vs (set ws hint_at n) (set vs id (ticked v))
@@ -298,7 +299,7 @@ module _ {Call : Type 0} (o : Obj Call) (size : ℕ) where
       (sem-else ws j n (inl (λ e. omega (arith, e), omega arith)))
       (keep_part seen (Sem (sem_words ws) q) vs id v w at refl r.sem)
       (each-set IsLocked IsLocked vs id w (r.locked id v at) (λ j x _ _ p. p) r.locked)
-      (hands-same k ws vs q r id v at (set vs id w) (keep_part seen (λ z. z ≡ map seen vs) vs id v w at refl refl)) refl refl
+      (hands-same k ws vs q r id v at (set vs id w) (keep_part seen (λ z. z ≡ map seen vs) vs id v w at refl refl)) refl refl refl
 
   pub sem-opens-rule : (k : Plan) → length (fresh k) ≡ width k → ((i : ℕ) → i < LOCK_WORDS → get_or (fresh k) i 0 ≡ 0) → Site k (fresh k) (map hand_of (first k idle ∷ [])) → Kept k (fresh k) (first k idle ∷ [])
   sem-opens-rule k wide zeros there = let v : V = first k idle in let ws : List ℕ = list_words (fresh k) in (
@@ -323,7 +324,7 @@ module _ {Call : Type 0} (o : Obj Call) (size : ℕ) where
       (each-snoc IsLocked us w (omega arith) (each-set IsLocked IsLocked vs id (ticked v) (r.locked id v at) (λ j x _ _ p. p) r.locked))
       (snoc_part seen (Hands id (sem_words ws) q (map seen vs) (sem_words ws)) us w
       (keep_part seen (λ (z : List SemPart). Hands id (sem_words ws) q (map seen vs) (sem_words ws) (z ++ nobody ∷ [])) vs id v (ticked v) at refl
-      (hands-still id n q (marks_in ws) (grants_in ws) (map seen vs) n (grants_in ws) (map seen vs ++ nobody ∷ []) (omega arith) (λ t. let a = total-snoc (reads_as (grants_in ws) t) (map seen vs) nobody in omega (arith, a))))) refl refl
+      (hands-still id n q (marks_in ws) (grants_in ws) (map seen vs) n (marks_in ws) (grants_in ws) (map seen vs ++ nobody ∷ []) (omega arith) (λ t. let a = total-snoc (reads_as (grants_in ws) t) (map seen vs) nobody in omega (arith, a)) (unasked-same n (marks_in ws))))) refl refl refl
 
   pub sem-joins-rule : (k : Plan) (ws : List ℕ) (vs : List V) (id other : ℕ) (v w : V) → Kept k ws vs → get_elem? vs id ≡ some v → other ≢ id → get_elem? vs other ≡ some w → HoldsNothing w × rests w × (w.hand.task ≡ None)
       → Site k ws (map hand_of (set (set vs id (merged v w)) other (spent idle))) → SiteMove id (site k ws) vs (site k ws) (set (set vs id (merged v w)) other (spent idle)) → Go k id ws vs ws (set (set vs id (merged v w)) other (spent idle))
@@ -336,4 +337,4 @@ module _ {Call : Type 0} (o : Obj Call) (size : ℕ) where
       refl
       (keep_part seen (Sem (sem_words ws) q) us other w x there' same (keep_part seen (Sem (sem_words ws) q) vs id v u at refl r.sem))
       (each-set IsLocked IsLocked us other x (omega arith) (λ j y _ _ p. p) (each-set IsLocked IsLocked vs id u (r.locked id v at) (λ j y _ _ p. p) r.locked))
-      (hands-same k ws vs q r id v at (set us other x) (keep_part seen (λ (z : List SemPart). z ≡ map seen vs) us other w x there' same (keep_part seen (λ (z : List SemPart). z ≡ map seen vs) vs id v u at refl refl))) refl refl
+      (hands-same k ws vs q r id v at (set us other x) (keep_part seen (λ (z : List SemPart). z ≡ map seen vs) us other w x there' same (keep_part seen (λ (z : List SemPart). z ≡ map seen vs) vs id v u at refl refl))) refl refl refl

@@ -157,14 +157,15 @@ IsMadeBy id vs (Leave t) q = (v : V) × (get_elem? vs id ≡ some v) × ((v.hand
 abbrev pub KeepsCount : Hand → Hand → ℕ → Type 0
 KeepsCount h g word = h.held ≢ No → g.held ≢ h.held → g.freed ≡ word
 
--- what a step may do: all that each step of a site, of a spin lock and of a list does; a waiter enters by itself, and leaves by itself or in a waker's batch; while the first waiter is marked and HANDOFF is set, nobody but it writes, and who reads had a bias since before, or held alone; at any time who reads comes to it by itself, or in a batch that leaves no reader waiting; who ends or downgrades a hold keeps the count that it left; and an append is counted by the pass that enters
+-- what a step may do: all that each step of a site, of a spin lock and of a list does; a waiter enters by itself, and leaves by itself or in a waker's batch; while the first waiter is marked and HANDOFF is set, nobody but it writes, and who reads had a bias since before, or held alone; at any time who reads comes to it by itself, or in a batch that leaves no reader waiting; a waker or a writer of the list asks for a handoff, and marks the first waiter; who ends or downgrades a hold keeps the count that it left; who is at a stage has the wait lock; and an append is counted by the pass that enters
 pub record RwSemMoves (k : Plan) (id : ℕ) (ws : List ℕ) (vs : List V) (us : List ℕ) (vs' : List V) : Type 0 where
   pub site : SiteMove id (site k ws) vs (site k us) vs'
   pub spin : SpinMoves id (spin_words ws) (map spin_part vs) (spin_words us) (map spin_part vs')
   pub list : ListMoves id (list_words ws) (map (list_part list_of) vs) (list_words us) (map (list_part list_of) vs')
   pub made : IsMadeBy id vs list.change list.list
-  pub hands : KeepsHandoff id (count_in ws) list.list (marks_in ws) (grants_in ws) (map seen vs) (count_in us) (grants_in us) (map seen vs')
+  pub hands : KeepsHandoff id (count_in ws) list.list (marks_in ws) (grants_in ws) (map seen vs) (count_in us) (marks_in us) (grants_in us) (map seen vs')
   pub freed : KeepsCount site.before.hand site.after.hand (count_in us)
+  pub locked : busy_weight site.after.ext.sem.stage ≤ holds_in site.before.spin
   pub appends : site.after.ext.appends ≡ site.before.ext.appends + entered list.change
 
 abbrev pub may_free : V → Type 0

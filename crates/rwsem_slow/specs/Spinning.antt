@@ -1,18 +1,19 @@
 -- What a writer tries that stands in no list, and what its tries leave of its pass.
-use Rattle.std.specs.Prelude.{◌≡◌, ◌≢◌, ℕ, ◌+◌, ◌/◌, ◌%◌, ◌^◌, ◌≤◌}
+use Rattle.std.specs.Prelude.{◌≡◌, ◌≢◌, ℕ, ◌+◌, ◌/◌, ◌%◌, ◌^◌, ◌≤◌, ◌⊎◌, false}
 use Rattle.atomic_table.specs.Table.{Step}
 use Rattle.word_bits.specs.LockWords.{IsLawfulCount}
 use Rattle.word_bits.specs.Objects.{Obj}
 use Rattle.lock_core.specs.declared.view.Held.TheVariants.{Alone}
 use Rattle.lock_core.specs.Holding.{missed}
-use Rattle.lock_core.specs.Locking.{Keeps}
+use Rattle.lock_core.specs.Kinds.{semaphore}
+use Rattle.lock_core.specs.Locking.{Sees}
 use Rattle.lock_core.specs.Plays.{Sat, Turns}
 use Rattle.lock_core.specs.Shown.{Shown}
 use Rattle.lock_core.specs.Views.{handed, ticked}
 use Rattle.rwsem_count.specs.Plays.{Gets}
 use Rattle.rwsem_count.specs.Tries.{MissesCount, at_step}
 use Rattle.rwsem_slow.specs.declared.view.RwSemHand.{RwSemHand}
-use Rattle.rwsem_slow.specs.RwSems.{V, biased}
+use Rattle.rwsem_slow.specs.RwSems.{V, biased, count_at}
 
 -- nobody holds, and no handoff is asked for: a writer may take this count without a place in the list
 abbrev pub IsUnlocked : ℕ → Type 0
@@ -45,9 +46,10 @@ pub record StandsSame (v u : V) : Type 0 where
   pub fronts : u.fronts ≡ v.fronts
   pub appends : u.ext.appends ≡ v.ext.appends
 
--- it recorded nothing, and has taken and ended no hold: tries failed
-pub record OnlyTried (v u : Shown) : Type 0 where
-  pub keeps : Keeps v u
-  pub consumed : u.hand.consumed ≡ v.hand.consumed
-  pub takes : u.hand.takes ≡ v.hand.takes
-  pub freed : u.hand.freed ≡ v.hand.freed
+-- a step of it, which is the last that the pass keeps, saw a count that a writer can't have
+abbrev pub SeesShut : Shown → Shown → Type 0
+SeesShut v u = (word : ℕ) × Sees semaphore false count_at word v u
+
+-- so it did, or it tried nothing: what the pass keeps is as it was
+abbrev pub SawIfTried : Shown → Shown → Type 0
+SawIfTried v u = (u.hand.saw ≡ v.hand.saw) ⊎ SeesShut v u

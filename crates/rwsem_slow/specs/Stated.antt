@@ -20,7 +20,7 @@ use Rattle.wait_list.specs.declared.view.Change.{Change}
 use Rattle.wait_list.specs.declared.view.Change.TheVariants.{Stay, Enter, Leave}
 use Rattle.wait_list.specs.Lists.{Allowed, IsList, Lists, changed, counted}
 use Rattle.rwsem_wake.specs.declared.view.SemHand.{SemHand}
-use Rattle.rwsem_wake.specs.SemParts.{SemPart, apart_hand}
+use Rattle.rwsem_wake.specs.SemParts.{SemPart, apart_hand, busy_of}
 use Rattle.rwsem_wake.specs.Semaphores.{Quiet}
 use Rattle.rwsem_wake.specs.Handoffs.{KeepsHandoff, reads_as}
 use Rattle.rwsem_wake.specs.Stated.{OnlyFirst, Picks, StatesCount, StatesWaiters, over, readers}
@@ -73,14 +73,15 @@ MadeBy Stay id h ps q m = Unit {0}
 MadeBy (Enter w) id h ps q m = HasWaitLock id m × (h.task ≡ Some w.task) × (h.held ≡ No)
 MadeBy (Leave t) id h ps q m = HasWaitLock id m × ((h.task ≡ Some t) ⊎ ((p : SemPart) × (get_elem? ps id ≡ some p) × Picks p q t))
 
--- One step of one pass, made while this was the list and these the parts of the passes. The list changes by one append or one removal, which keeps the others in order. While the first waiter is marked and HANDOFF is set, the writer's bit comes by that waiter alone, and a task becomes a reader only by a bias whose addition saw no HANDOFF, or by a downgrade. At any time it becomes one by a step of its own pass, or in a waker's batch that leaves no reader in the list. Who ends or downgrades a hold keeps the count that its step left. Each append is counted by the pass that enters.
+-- One step of one pass, made while this was the list and these the parts of the passes. The list changes by one append or one removal, which keeps the others in order. While the first waiter is marked and HANDOFF is set, the writer's bit comes by that waiter alone, and a task becomes a reader only by a bias whose addition saw no HANDOFF, or by a downgrade. At any time it becomes one by a step of its own pass, or in a waker's batch that leaves no reader in the list. HANDOFF is set by a waker that has marked the first waiter, or by a writer of the list that marks it next, and stays until a writer takes, a waker puts its batch into the count, or nobody waits; a mark is set by one of these, and is the first waiter's. Who is about something, before its step or behind it, has the wait lock. Who ends or downgrades a hold keeps the count that its step left. Each append is counted by the pass that enters.
 pub record IsRwSemStep (k : Plan) (x : Moment) (q : List Waiter) (ps : List SemPart) (y : Moment) (q' : List Waiter) (ps' : List SemPart) : Type 0 where
   pub by : IsSiteStep k x y
   pub change : Change
   pub allowed : Allowed change q
   pub made : MadeBy change by.id by.before ps q x
   pub is : q' ≡ changed change q
-  pub hands : KeepsHandoff by.id (count_in x.words) q (marks_in x.words) (grants_in x.words) ps (count_in y.words) (grants_in y.words) ps'
+  pub hands : KeepsHandoff by.id (count_in x.words) q (marks_in x.words) (grants_in x.words) ps (count_in y.words) (marks_in y.words) (grants_in y.words) ps'
+  pub locked : (p p' : SemPart) → get_elem? ps by.id ≡ some p → get_elem? ps' by.id ≡ some p' → 0 < busy_of p + busy_of p' → HasWaitLock by.id x
   pub freed : KeepsCount by.before by.after (count_in y.words)
   pub appends : (s : SemHand) (appends : ℕ) → get_elem? x.marks by.id ≡ some (stance s appends) → (s' : SemHand) × (get_elem? y.marks by.id ≡ some (stance s' (appends + entered change)))
 

@@ -12,7 +12,7 @@ use Rattle.rwsem_count.specs.declared.view.Bias.TheVariants.{Clear, Transit, Res
 use Rattle.rwsem_wake.specs.Queues.{GetsSem}
 use Rattle.rwsem_slow.specs.declared.view.RwSemHand.{RwSemHand}
 use Rattle.rwsem_slow.specs.RwSems.{V, with_sem}
-use Rattle.rwsem_slow.specs.Queued.{WentInLine}
+use Rattle.rwsem_slow.specs.Queued.{EntersLock}
 
 -- the count that the addition of a bias left
 abbrev pub left_by : Bias → ℕ
@@ -36,4 +36,4 @@ StealsBy o m n m' = (MaySteal (left_by m.0.ext.sem.bias) n → GetsSem with_sem 
 abbrev pub WentOn : (left : ℕ) → How → V → V → Type 0
 WentOn left Fast v u = ⊥
 WentOn left Spun v u = ((v.spin.entries < u.spin.entries) ⊎ (lets_in semaphore left × (u.hand.saw ≡ v.hand.saw))) × (u.fronts ≡ v.fronts) × (u.hand.misses ≡ v.hand.misses) × (u.ext.appends ≡ v.ext.appends)
-WentOn left Slept v u = WentInLine v u
+WentOn left Slept v u = EntersLock v u × (u.ext.appends ≡ v.ext.appends + 1)

@@ -5,7 +5,7 @@ use Rattle.lock_core.specs.Shown.{Shown, FindsSince}
 use Rattle.lock_core.specs.declared.pass.Pass.{Pass}
 use Rattle.lock_core.specs.Handles.{view_of}
 use Rattle.wait_list.specs.declared.view.Waiter.{Waiter}
-use Rattle.wait_list.specs.Lists.{Knows, list_part}
+use Rattle.wait_list.specs.Lists.{Knows, first_code, list_part}
 use Rattle.rwsem_count.specs.declared.view.Bias.TheVariants.{Clear}
 use Rattle.rwsem_count.specs.Counts.{shared_weight}
 use Rattle.rwsem_wake.specs.declared.view.Stage.TheVariants.{Rest}
@@ -14,7 +14,7 @@ use Rattle.rwsem_wake.specs.Batches.{batch_of, starts_with_reader}
 use Rattle.rwsem_slow.specs.declared.view.RwSemHand.{RwSemHand}
 use Rattle.rwsem_slow.specs.declared.waking.WakeType.{WakeType}
 use Rattle.rwsem_slow.specs.declared.waking.WakeType.TheVariants.{Any, Readers, ReadOwned}
-use Rattle.rwsem_slow.specs.RwSems.{V, count_at, list_of}
+use Rattle.rwsem_slow.specs.RwSems.{V, count_at, list_at, list_of}
 use Rattle.rwsem_slow.specs.Places.{seen_of}
 use Rattle.rwsem_slow.specs.Removals.{KnowsList, StaysBeside, without_all}
 
@@ -64,12 +64,13 @@ pub record Grants (written : Bool) (v u : V) : Type 0 where
   pub left : u.ext.list.list ≡ left_of written v.ext.list.list
 
 module _ {R O C : Type 0} where
-  -- A wake of this kind has woken these tasks, is at rest, and knows the list that it left. Where a reader was first and the wake reserved a bias of its own, its look at the count said whether there was a writer.
+  -- A wake of this kind has woken these tasks, is at rest, and knows the list that it left. A look of it at the list's first word found the code of the waiter that was first. Where a reader was first and the wake reserved a bias of its own, its look at the count said whether there was a writer.
   pub record Wakes (kind : WakeType) (woken : List ℕ) (old new : Pass R O RwSemHand C) : Type 0 where
     pub beside : StaysBeside (view_of old) (view_of new)
     pub rests : IsAtRest (view_of new)
     pub list : KnowsList (view_of new)
     pub was : List Waiter
+    pub first : FindsSince list_at (first_code was) (seen_of old) (seen_of new)
     pub before : Knows (list_part list_of (view_of old)) → was ≡ (view_of old).ext.list.list
     pub written : Bool
     pub owned : kind ≡ ReadOwned → written ≡ false

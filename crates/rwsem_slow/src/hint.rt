@@ -1,6 +1,6 @@
 //! The owner hint: who holds, where a task that has come to hold stored it. No fact rests on it.
-ghost use Rattle.std.specs.Prelude.{◌≡◌, ◌↔◌, ◌+◌, ◌*◌, ◌%◌, ◌<◌, IsTrue};
-ghost use Rattle.lock_core.specs.Handles.{IsLatest, view_of, SitsAt, KeepsPast, SaysSame};
+ghost use Rattle.std.specs.Prelude.{◌≡◌, ◌↔◌, ◌+◌, ◌*◌, ◌%◌, ◌<◌, IsSome, IsTrue};
+ghost use Rattle.lock_core.specs.Handles.{IsLatest, view_of, task_in, SitsAt, KeepsPast, SaysSame};
 ghost use Rattle.lock_core.specs.Views.{ticked};
 ghost use Rattle.rwsem_slow.specs.Plays.{Ticks};
 
@@ -56,6 +56,23 @@ pub fn set_hint<O: Object>(site: &Site<SemRule<O>>, pass: &mut Pass<SemRule<O>>,
     ensures kept { view_of pass.new ≡ ticked (view_of pass.old) }
 {
     site.step::<StoreHint>(pass, HINT, Op::Store(hint));
+}
+
+/// Stores the hint that readers have it, of which the pass's task is one. The kernel's
+/// `rwsem_set_reader_owned`.
+pub fn note_reader<O: Object>(site: &Site<SemRule<O>>, pass: &mut Pass<SemRule<O>>)
+    requires own { SitsAt site.now pass.old }
+    requires numbered { IsSome (task_in pass.old) }
+    ensures own { SitsAt site.now pass.new }
+    ensures goes_on { KeepsPast pass.old pass.new }
+    ensures last { IsLatest pass.new }
+    ensures face { SaysSame pass.old pass.new }
+    ensures kept { view_of pass.new ≡ ticked (view_of pass.old) }
+{
+    let Some(me) = pass.task() else {
+        unreachable!()
+    };
+    set_hint(site, pass, reader_hint(me));
 }
 
 struct LookHint;

@@ -3,6 +3,7 @@
 
 mod calls;
 mod hint;
+mod leaving;
 mod read_path;
 mod reading;
 mod releasing;
@@ -19,5 +20,7 @@ pub use calls::{RwPass, RwSem};
 pub use rule::SemRule;
 pub use view::RwSemHand;
 
+#[cfg(test)]
+mod interrupt_tests;
 #[cfg(test)]
 mod tests;

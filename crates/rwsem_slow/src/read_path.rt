@@ -1,22 +1,24 @@
 //! The slow path of a reader: its wait lock, its list and its sleep.
-ghost use Rattle.std.specs.Prelude.{◌≡◌, ◌<◌, ◌+◌, IsSome};
-ghost use Rattle.lock_core.specs.declared.how.How.TheVariants.{Slept, Spun};
+ghost use Rattle.std.specs.Prelude.{◌≡◌, ◌+◌, true, false, IfErr, IfOk, IsSome};
 ghost use Rattle.lock_core.specs.declared.view.Held.TheVariants.{No, Shared};
-ghost use Rattle.lock_core.specs.Handles.{plan_of, view_of, task_in, held_in, SitsAt};
-ghost use Rattle.lock_core.specs.Locking.{Takes};
+ghost use Rattle.lock_core.specs.Handles.{plan_of, view_of, hand_in, task_in, held_in, SitsAt};
+ghost use Rattle.lock_core.specs.Locking.{SawPending, Takes};
+ghost use Rattle.lock_core.specs.Signals.{HasHeard, OnlyConsumed};
 ghost use Rattle.lock_core.specs.Records.{bit};
 ghost use Rattle.lock_core.specs.Views.{SpinHolds, SpinRests};
 ghost use Rattle.rwsem_wake.specs.declared.view.Wait.TheVariants.{Reads};
 ghost use Rattle.rwsem_wake.specs.SemParts.{some_of};
 ghost use Rattle.rwsem_slow.specs.Places.{IsOutside, StepsOn, seen_of};
-ghost use Rattle.rwsem_slow.specs.Queued.{IsInLine, IsInTransit, Shares, WentThroughLine};
+ghost use Rattle.rwsem_slow.specs.Queued.{AppendedBy, EntersLock, IsInLine, IsInTransit, KeepsLine, Shares};
 ghost use Rattle.rwsem_slow.specs.Removals.{KnowsList};
 
+use crate::hint::note_reader;
+use crate::leaving::{interrupt, pending};
 use crate::reading;
 use crate::rule::SemRule;
 use crate::write_path::wake_others;
 use cpu_task::{Cpu, Crew};
-use lock_core::{How, Pass, Site};
+use lock_core::{How, Interrupted, Pass, Site};
 use std::sync::Wait;
 use word_bits::Object;
 
@@ -48,13 +50,51 @@ fn queue<O: Object, C: Cpu, K: Crew>(
     wake_others(site, pass, cpu, crew, count);
 }
 
-/// Sleeps until a waker has granted the reader.
-fn wait<O: Object, W: Wait, C: Cpu>(
+/// Leaves the list for a signal that is pending, unless the reader is granted meanwhile: then it
+/// holds, and the signal stays. Answers whether it left.
+fn quit<O: Object, W: Wait, C: Cpu, K: Crew>(
     site: &Site<SemRule<O>>,
     rt: &W,
     pass: &mut Pass<SemRule<O>>,
     cpu: &mut C,
-)
+    crew: &K,
+    why: Interrupted,
+) -> bool
+    requires own { SitsAt site.now pass.old }
+    requires numbered { IsSome (task_in pass.old) }
+    requires out { held_in pass.old ≡ No }
+    requires unspun { SpinRests (view_of pass.old).spin }
+    requires listed { IsInLine Reads (view_of pass.old) }
+    requires heard { HasHeard why (hand_in pass.old) }
+    ensures on { StepsOn site.now pass.old pass.new }
+    ensures unspun { SpinRests (view_of pass.new).spin }
+    ensures outside { IsOutside (view_of pass.new) }
+    ensures line { KeepsLine (view_of pass.old) (view_of pass.new) }
+    ensures took { result ≡ false →
+        Shares O.object (plan_of site.now) (view_of pass.old) (view_of pass.new) }
+    ensures consumed { result ≡ true → OnlyConsumed (view_of pass.old) (view_of pass.new) }
+{
+    qspin_queue::lock(site, rt, pass);
+    // The batch of a waker that came first has the reader's bias in the count: who left then would
+    // leave the bias there for ever.
+    if reading::hear_locked(site, pass) {
+        qspin_word::unlock(site, pass);
+        return false;
+    }
+    interrupt(site, pass, cpu, crew, why);
+    true
+}
+
+/// Sleeps until a waker has granted the reader, or, where it is interruptible, until a signal is
+/// pending.
+fn wait<O: Object, W: Wait, C: Cpu, K: Crew>(
+    site: &Site<SemRule<O>>,
+    rt: &W,
+    pass: &mut Pass<SemRule<O>>,
+    cpu: &mut C,
+    crew: &K,
+    interruptible: bool,
+) -> Result<(), Interrupted>
     requires own { SitsAt site.now pass.old }
     requires numbered { IsSome (task_in pass.old) }
     requires out { held_in pass.old ≡ No }
@@ -62,27 +102,44 @@ fn wait<O: Object, W: Wait, C: Cpu>(
     requires listed { IsInLine Reads (view_of pass.old) }
     ensures on { StepsOn site.now pass.old pass.new }
     ensures unspun { SpinRests (view_of pass.new).spin }
-    ensures took { Shares O.object (plan_of site.now) (view_of pass.old) (view_of pass.new) }
+    ensures outside { IsOutside (view_of pass.new) }
+    ensures line { KeepsLine (view_of pass.old) (view_of pass.new) }
+    ensures misses { (hand_in pass.new).misses ≡ (hand_in pass.old).misses }
+    ensures took { IfOk result (λ _. Takes O.object (plan_of site.now) Shared
+        (seen_of pass.old) (seen_of pass.new)) }
+    ensures consumed { IfErr result (λ _.
+        OnlyConsumed (view_of pass.old) (view_of pass.new)) }
+    ensures pending { IfErr result (λ why.
+        SawPending why (seen_of pass.old) (seen_of pass.new)) }
+    ensures asked { IfErr result (λ _. interruptible ≡ true) }
 {
     for _ in rt.forever() {
         // A wake comes once: the load before each sleep sees a grant that came before it.
         if reading::hear(site, pass) {
-            return;
+            return Ok(());
+        }
+        if let Some(why) = pending(site, pass, interruptible) {
+            if quit(site, rt, pass, cpu, crew, why) {
+                return Err(why);
+            }
+            return Ok(());
         }
         cpu.sleep(rt);
     }
     unreachable!()
 }
 
-/// Takes the semaphore shared by way of the wait lock, for a reader whose bias is in the count. The
-/// kernel's `rwsem_down_read_slowpath`.
+/// Takes the semaphore shared by way of the wait lock, for a reader whose bias is in the count,
+/// until a signal interrupts it where it is interruptible. The kernel's
+/// `rwsem_down_read_slowpath`, in the state `TASK_INTERRUPTIBLE` or `TASK_UNINTERRUPTIBLE`.
 pub fn read_in_line<O: Object, W: Wait, C: Cpu, K: Crew>(
     site: &Site<SemRule<O>>,
     rt: &W,
     pass: &mut Pass<SemRule<O>>,
     cpu: &mut C,
     crew: &K,
-) -> How
+    interruptible: bool,
+) -> Result<How, Interrupted>
     requires own { SitsAt site.now pass.old }
     requires numbered { IsSome (task_in pass.old) }
     requires out { held_in pass.old ≡ No }
@@ -91,16 +148,28 @@ pub fn read_in_line<O: Object, W: Wait, C: Cpu, K: Crew>(
     ensures on { StepsOn site.now pass.old pass.new }
     ensures unspun { SpinRests (view_of pass.new).spin }
     ensures outside { IsOutside (view_of pass.new) }
-    ensures took { Takes O.object (plan_of site.now) Shared (seen_of pass.old) (seen_of pass.new) }
-    ensures line { WentThroughLine result (view_of pass.old) (view_of pass.new) }
+    ensures lock { EntersLock (view_of pass.old) (view_of pass.new) }
+    ensures took { IfOk result (λ _. Takes O.object (plan_of site.now) Shared
+        (seen_of pass.old) (seen_of pass.new)) }
+    ensures how { IfOk result (λ how. AppendedBy how (view_of pass.old) (view_of pass.new)) }
+    ensures waited { IfErr result (λ _.
+        (view_of pass.new).ext.appends ≡ (view_of pass.old).ext.appends + 1) }
+    ensures consumed { IfErr result (λ _.
+        OnlyConsumed (view_of pass.old) (view_of pass.new)) }
+    ensures pending { IfErr result (λ why.
+        SawPending why (seen_of pass.old) (seen_of pass.new)) }
+    ensures asked { IfErr result (λ _. interruptible ≡ true) }
 {
     qspin_queue::lock(site, rt, pass);
     let Some(empty) = reading::settle(site, pass) else {
         qspin_word::unlock(site, pass);
-        return How::Spun;
+        note_reader(site, pass);
+        return Ok(How::Spun);
     };
     queue(site, pass, cpu, crew, empty);
     qspin_word::unlock(site, pass);
-    wait(site, rt, pass, cpu);
-    How::Slept
+    let Err(why) = wait(site, rt, pass, cpu, crew, interruptible) else {
+        return Ok(How::Slept);
+    };
+    Err(why)
 }

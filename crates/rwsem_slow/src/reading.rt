@@ -7,6 +7,7 @@ ghost use Rattle.lock_core.specs.Views.{SpinHolds};
 ghost use Rattle.rwsem_wake.specs.declared.view.Wait.TheVariants.{Reads};
 ghost use Rattle.rwsem_wake.specs.SemParts.{some_of};
 ghost use Rattle.rwsem_slow.specs.Queued.{Becomes, IsInLine, IsInTransit, LooksAt, Shares, Stays, waiting};
+ghost use Rattle.rwsem_slow.specs.Leaving.{SeesUngranted};
 ghost use Rattle.rwsem_slow.specs.Removals.{KnowsList};
 
 use crate::rule::SemRule;
@@ -95,4 +96,28 @@ pub fn hear<O: Object>(site: &Site<SemRule<O>>, pass: &mut Pass<SemRule<O>>) -> 
         unreachable!()
     };
     queueing::hear(site, pass, task) == 0
+}
+
+/// The same under the wait lock, which keeps wakers away: where the reader doesn't hold, it isn't
+/// granted until it releases that.
+pub fn hear_locked<O: Object>(site: &Site<SemRule<O>>, pass: &mut Pass<SemRule<O>>) -> bool
+    requires own { SitsAt site.now pass.old }
+    requires numbered { IsSome (task_in pass.old) }
+    requires out { held_in pass.old ≡ No }
+    requires locked { SpinHolds (view_of pass.old).spin }
+    requires listed { IsInLine Reads (view_of pass.old) }
+    ensures own { SitsAt site.now pass.new }
+    ensures goes_on { KeepsPast pass.old pass.new }
+    ensures task { task_in pass.new ≡ task_in pass.old }
+    ensures took { result ≡ true →
+        Shares O.object (plan_of site.now) (view_of pass.old) (view_of pass.new) }
+    ensures spin { (view_of pass.new).spin ≡ (view_of pass.old).spin }
+    ensures face { result ≡ false → SaysSame pass.old pass.new }
+    ensures later { (view_of pass.old).steps ≤ (view_of pass.new).steps }
+    ensures missed { result ≡ false → SeesUngranted (view_of pass.old) (view_of pass.new) }
+{
+    let Some(task) = pass.task() else {
+        unreachable!()
+    };
+    queueing::hear_locked(site, pass, task) == 0
 }

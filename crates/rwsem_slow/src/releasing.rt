@@ -1,6 +1,6 @@
 //! The ends of holds of a semaphore, and downgrades.
 ghost use Rattle.std.specs.Prelude.{◌≡◌, ◌↔◌, IsTrue, false, IsSome};
-ghost use Rattle.lock_core.specs.declared.view.Held.TheVariants.{Shared, Alone};
+ghost use Rattle.lock_core.specs.declared.view.Held.TheVariants.{No, Shared, Alone};
 ghost use Rattle.lock_core.specs.Handles.{view_of, hand_in, task_in, held_in, SitsAt};
 ghost use Rattle.lock_core.specs.Kinds.{semaphore, wakes_alone, wakes_down, wakes_shared};
 ghost use Rattle.lock_core.specs.Locking.{Downgrades, Releases};
@@ -11,7 +11,7 @@ ghost use Rattle.rwsem_slow.specs.Wakes.{MayWake};
 
 use crate::hint::{NOBODY, reader_hint, set_hint};
 use crate::rule::SemRule;
-use crate::waking::{Endless, WakeType, wake};
+use crate::waking::{Endless, WakeType, wake, wake_tasks};
 use arrayvec::ArrayVec;
 use cpu_task::Crew;
 use lock_core::{Pass, Site};
@@ -56,9 +56,7 @@ pub fn wake_waiters<O: Object, W: Wait, C: Crew>(
     qspin_queue::lock(site, rt, pass);
     wake(site, pass, kind, &mut Endless, &mut woken);
     qspin_word::unlock(site, pass);
-    for task in woken.as_slice() {
-        crew.wake(*task);
-    }
+    wake_tasks(crew, woken.as_slice());
 }
 
 /// Ends the pass's shared hold. The kernel's `__up_read`.
@@ -78,7 +76,7 @@ pub fn up_read<O: Object, W: Wait, C: Crew>(
     ensures unspun { SpinRests (view_of pass.new).spin }
     ensures outside { IsOutside (view_of pass.new) }
     ensures released { Releases (wakes_shared semaphore) (seen_of pass.old) (seen_of pass.new) }
-    ensures left { LeavesCount (wakes_shared semaphore) 256 0
+    ensures left { LeavesCount (wakes_shared semaphore) No 256 0
         (seen_of pass.old) (seen_of pass.new) }
 {
     let left = steps::up_read(site, pass);
@@ -106,7 +104,7 @@ pub fn up_write<O: Object, W: Wait, C: Crew>(
     ensures unspun { SpinRests (view_of pass.new).spin }
     ensures outside { IsOutside (view_of pass.new) }
     ensures released { Releases (wakes_alone semaphore) (seen_of pass.old) (seen_of pass.new) }
-    ensures left { LeavesCount (wakes_alone semaphore) 1 0
+    ensures left { LeavesCount (wakes_alone semaphore) No 1 0
         (seen_of pass.old) (seen_of pass.new) }
 {
     // While it still holds: behind the release the store could undo that of the next holder.
@@ -134,7 +132,7 @@ pub fn downgrade_write<O: Object, W: Wait, C: Crew>(
     ensures unspun { SpinRests (view_of pass.new).spin }
     ensures outside { IsOutside (view_of pass.new) }
     ensures downgraded { Downgrades semaphore (seen_of pass.old) (seen_of pass.new) }
-    ensures left { LeavesCount (wakes_down semaphore) 0 255
+    ensures left { LeavesCount (wakes_down semaphore) Shared 0 255
         (seen_of pass.old) (seen_of pass.new) }
 {
     let Some(me) = pass.task() else {

@@ -3,7 +3,8 @@ ghost use Rattle.std.specs.Prelude.{◌≡◌, ◌≢◌, ◌↔◌, ◌+◌, �
 ghost use Rattle.word_bits.specs.LockWords.{IsLawfulCount};
 ghost use Rattle.lock_core.specs.declared.view.Held.TheVariants.{No, Alone};
 ghost use Rattle.lock_core.specs.Handles.{IsLatest, plan_of, view_of, past_of, task_in, held_in, SitsAt, KeepsPast, SaysSame};
-ghost use Rattle.lock_core.specs.Locking.{Takes};
+ghost use Rattle.lock_core.specs.Kinds.{semaphore, unavailable};
+ghost use Rattle.lock_core.specs.Locking.{OnlyTried, Takes};
 ghost use Rattle.lock_core.specs.Pasts.{FoundAt};
 ghost use Rattle.osq_nodes.specs.declared.node.Place.TheVariants.{Front};
 ghost use Rattle.osq_nodes.specs.Handles as spinners;
@@ -11,7 +12,7 @@ ghost use Rattle.rwsem_count.specs.Tries.{MissesSince, TakesCount, TakesSince};
 ghost use Rattle.rwsem_wake.specs.SemParts.{apart_hand};
 ghost use Rattle.rwsem_slow.specs.Places.{IsOutside, StepsOn, seen_of};
 ghost use Rattle.rwsem_slow.specs.RwSems.{biased, count_at};
-ghost use Rattle.rwsem_slow.specs.Spinning.{IsUnlocked, LookedUnqueued, OnlyTried, SawUnqueued, StandsSame, TakenUnqueued};
+ghost use Rattle.rwsem_slow.specs.Spinning.{IsUnlocked, LookedUnqueued, SawUnqueued, SeesShut, StandsSame, TakenUnqueued};
 
 use crate::hint::is_reader_owned;
 use crate::rule::SemRule;
@@ -110,6 +111,8 @@ fn try_unqueued<O: Object, W: Wait>(
     ensures face { IfErr result (λ _. SaysSame pass.old pass.new) }
     ensures missed { IfErr result (λ word.
         MissesSince (view_of pass.old) word (view_of pass.new)) }
+    ensures shut { IfErr result (λ word. unavailable semaphore false word) }
+    ensures found { IfErr result (λ word. FoundAt count_at word (past_of pass.new)) }
 {
     let mut word = look(site, pass);
     for _ in rt.forever() {
@@ -143,6 +146,7 @@ fn try_outside<O: Object, W: Wait>(
     ensures took { result ≡ true →
         Takes O.object (plan_of site.now) Alone (seen_of pass.old) (seen_of pass.new) }
     ensures missed { result ≡ false → OnlyTried (seen_of pass.old) (seen_of pass.new) }
+    ensures saw { result ≡ false → SeesShut (seen_of pass.old) (seen_of pass.new) }
     ensures out { result ≡ false → held_in pass.new ≡ No }
 {
     match try_unqueued(site, rt, pass) {
@@ -173,6 +177,7 @@ pub fn spin<O: Object, W: Wait, C: Cpu>(
     ensures took { result ≡ true →
         Takes O.object (plan_of site.now) Alone (seen_of pass.old) (seen_of pass.new) }
     ensures missed { result ≡ false → OnlyTried (seen_of pass.old) (seen_of pass.new) }
+    ensures saw { result ≡ false → SeesShut (seen_of pass.old) (seen_of pass.new) }
     ensures out { result ≡ false → held_in pass.new ≡ No }
 {
     for _ in rt.forever() {

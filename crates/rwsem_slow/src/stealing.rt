@@ -1,17 +1,18 @@
 //! A reader that comes to hold by the bias that its first addition left in the count, though tasks
 //! wait.
-ghost use Rattle.std.specs.Prelude.{◌≡◌, ◌↔◌, ◌≤◌, true, false, IsSome, IsTrue};
+ghost use Rattle.std.specs.Prelude.{◌≡◌, ◌↔◌, ◌+◌, true, false, IfErr, IfOk, IsSome, IsTrue};
 ghost use Rattle.lock_core.specs.declared.view.Held.TheVariants.{No, Shared};
 ghost use Rattle.lock_core.specs.Handles.{plan_of, view_of, task_in, held_in, SitsAt, KeepsPast, SaysSame};
 ghost use Rattle.lock_core.specs.Kinds.{lets_in, semaphore};
-ghost use Rattle.lock_core.specs.Locking.{Takes};
+ghost use Rattle.lock_core.specs.Locking.{SawPending, Takes};
+ghost use Rattle.lock_core.specs.Signals.{OnlyConsumed};
 ghost use Rattle.lock_core.specs.Views.{SpinRests, ticked};
 ghost use Rattle.rwsem_slow.specs.Places.{IsOutside, StepsOn, seen_of};
-ghost use Rattle.rwsem_slow.specs.Queued.{IsInTransit, KeepsLine, Shares};
+ghost use Rattle.rwsem_slow.specs.Queued.{EntersLock, IsInTransit, KeepsLine, Shares};
 ghost use Rattle.rwsem_slow.specs.Stealing.{IsShared, MaySteal, StealsBy, WentOn, left_by};
 ghost use Rattle.rwsem_slow.specs.Wakes.{MayWake};
 
-use crate::hint::{HINT, is_reader_hint};
+use crate::hint::{HINT, is_reader_hint, note_reader};
 use crate::read_path::read_in_line;
 use crate::releasing::{has_waiters, wake_waiters};
 use crate::rule::SemRule;
@@ -20,7 +21,7 @@ use crate::waking::WakeType;
 use atomic_table::Play;
 use cpu_task::{Cpu, Crew};
 use lock_core::view::View;
-use lock_core::{Held, How, Op, Pass, Site};
+use lock_core::{Held, How, Interrupted, Op, Pass, Site};
 use rwsem_count::{BIAS, HANDOFF, READ_FAIL};
 use std::marker::PhantomData;
 use std::sync::Wait;
@@ -115,7 +116,8 @@ fn wake_beside<O: Object, W: Wait, K: Crew>(
 }
 
 /// Takes the semaphore shared, for a reader whose addition left this count, which didn't let it in
-/// at once. The kernel's `rwsem_down_read_slowpath`.
+/// at once, until a signal interrupts it where it is interruptible. The kernel's
+/// `rwsem_down_read_slowpath`.
 pub fn read_slowly<O: Object, W: Wait, C: Cpu, K: Crew>(
     site: &Site<SemRule<O>>,
     rt: &W,
@@ -123,7 +125,8 @@ pub fn read_slowly<O: Object, W: Wait, C: Cpu, K: Crew>(
     cpu: &mut C,
     crew: &K,
     left: u64,
-) -> How
+    interruptible: bool,
+) -> Result<How, Interrupted>
     requires own { SitsAt site.now pass.old }
     requires numbered { IsSome (task_in pass.old) }
     requires out { held_in pass.old ≡ No }
@@ -133,12 +136,24 @@ pub fn read_slowly<O: Object, W: Wait, C: Cpu, K: Crew>(
     ensures on { StepsOn site.now pass.old pass.new }
     ensures unspun { SpinRests (view_of pass.new).spin }
     ensures outside { IsOutside (view_of pass.new) }
-    ensures took { Takes O.object (plan_of site.now) Shared (seen_of pass.old) (seen_of pass.new) }
-    ensures line { WentOn left result (view_of pass.old) (view_of pass.new) }
+    ensures took { IfOk result (λ _. Takes O.object (plan_of site.now) Shared
+        (seen_of pass.old) (seen_of pass.new)) }
+    ensures line { IfOk result (λ how. WentOn left how (view_of pass.old) (view_of pass.new)) }
+    ensures lock { IfErr result (λ _. EntersLock (view_of pass.old) (view_of pass.new)) }
+    ensures waited { IfErr result (λ _.
+        (view_of pass.new).ext.appends ≡ (view_of pass.old).ext.appends + 1) }
+    ensures consumed { IfErr result (λ _.
+        OnlyConsumed (view_of pass.old) (view_of pass.new)) }
+    ensures pending { IfErr result (λ why.
+        SawPending why (seen_of pass.old) (seen_of pass.new)) }
+    ensures asked { IfErr result (λ _. interruptible ≡ true) }
 {
     if steal(site, pass, left) {
+        // Spinning writers see early that readers have the lock: not only once the readers that
+        // wait are let in too.
+        note_reader(site, pass);
         wake_beside(site, rt, pass, crew, left);
-        return How::Spun;
+        return Ok(How::Spun);
     }
-    read_in_line(site, rt, pass, cpu, crew)
+    read_in_line(site, rt, pass, cpu, crew, interruptible)
 }

@@ -1,5 +1,5 @@
 //! Wakes of a semaphore's waiters, under its wait lock.
-ghost use Rattle.std.specs.Prelude.{◌≡◌, ◌<◌, ◌≤◌, ◌+◌, [], false, IsSome, Some, length};
+ghost use Rattle.std.specs.Prelude.{◌≡◌, ◌<◌, ◌≤◌, ◌+◌, ◌||◌, [], Bool, true, false, IsSome, Some, length};
 ghost use Rattle.lock_core.specs.Handles.{IsLatest, view_of, task_in, SitsAt, KeepsPast, SaysSame};
 ghost use Rattle.lock_core.specs.Records.{bit};
 ghost use Rattle.lock_core.specs.Views.{SpinHolds};
@@ -16,7 +16,7 @@ use crate::hint::{reader_hint, set_hint};
 use crate::removal::{MAX_WAITERS, read_list, remove_all};
 use crate::rule::SemRule;
 use arrayvec::ArrayVec;
-use cpu_task::Cpu;
+use cpu_task::{Cpu, Crew};
 use lock_core::{Pass, Site};
 use rwsem_wake::batches::{BATCH, batch};
 use rwsem_wake::steps::reserve;
@@ -37,9 +37,13 @@ pub enum WakeType {
 
 /// Who says whether the time of the first waiter is over.
 pub trait Patience {
+    /// Whether it has said so.
+    ghost said: { Self → Bool };
+
     /// Is asked by a wake that finds a writer: where it is over, the lock is to be handed to the
     /// first waiter.
-    fn is_over(&mut self) -> bool;
+    fn is_over(&mut self) -> bool
+        ensures { said self.new ≡ (result || said self.old) };
 }
 
 /// That of a release, which has no CPU of its own: a wake of it never asks for a handoff.
@@ -47,6 +51,8 @@ pub trait Patience {
 pub struct Endless;
 
 impl Patience for Endless {
+    ghost said = { λ e. false };
+
     fn is_over(&mut self) -> bool {
         false
     }
@@ -56,11 +62,19 @@ impl Patience for Endless {
 #[derive(Drop)]
 pub struct Waited<'a, C> {
     pub cpu: &'a mut C,
+    /// Whether the CPU has said that its task is overdue.
+    pub over: bool,
 }
 
 impl<'a, C: Cpu> Patience for Waited<'a, C> {
+    ghost said = { λ w. w.over };
+
     fn is_over(&mut self) -> bool {
-        self.cpu.overdue()
+        if !self.cpu.overdue() {
+            return false;
+        }
+        self.over = true;
+        true
     }
 }
 
@@ -162,6 +176,9 @@ fn grant_unless_written<O: Object, P: Patience>(
     ensures woken { woken.new.items ≡
         readers_woken result (view_of pass.old).ext.list.list }
     ensures saw { SawWriter result (seen_of pass.old) (seen_of pass.new) }
+    ensures steps { result ≡ true → P.said patience.old ≡ false →
+        (view_of pass.new).steps ≡ (view_of pass.old).steps + 2 + bit (P.said patience.new) }
+    ensures unasked { result ≡ false → P.said patience.new ≡ P.said patience.old }
 {
     // A writer that comes after the reserved bias finds the count taken; one that was there before
     // is seen here, and its release wakes the readers.
@@ -175,6 +192,13 @@ fn grant_unless_written<O: Object, P: Patience>(
     set_hint(site, pass, reader_hint(first.task));
     grant(site, pass, first, true, woken);
     false
+}
+
+/// Wakes these tasks.
+pub fn wake_tasks<C: Crew>(crew: &C, tasks: &[u32]) {
+    for task in tasks {
+        crew.wake(*task);
+    }
 }
 
 /// Wakes waiters under the wait lock: `woken`, which was empty, has the tasks that the caller is to

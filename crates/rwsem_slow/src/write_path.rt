@@ -1,22 +1,24 @@
 //! The slow path of a writer: its wait lock, its list and its sleep.
-ghost use Rattle.std.specs.Prelude.{◌≡◌, ◌≢◌, ◌<◌, ◌≤◌, ◌+◌, true, false, IsSome};
+ghost use Rattle.std.specs.Prelude.{◌≡◌, ◌≢◌, ◌+◌, true, IfErr, IfOk, IfSome, IsSome};
 ghost use Rattle.lock_core.specs.declared.view.Held.TheVariants.{No, Alone};
-ghost use Rattle.lock_core.specs.Handles.{plan_of, view_of, task_in, held_in, SitsAt};
-ghost use Rattle.lock_core.specs.Locking.{Takes};
+ghost use Rattle.lock_core.specs.Handles.{plan_of, view_of, hand_in, task_in, held_in, SitsAt};
+ghost use Rattle.lock_core.specs.Locking.{SawPending, Takes};
+ghost use Rattle.lock_core.specs.Signals.{HasHeard, OnlyConsumed};
 ghost use Rattle.lock_core.specs.Views.{SpinHolds, SpinRests};
 ghost use Rattle.rwsem_count.specs.Counts.{shared_weight};
 ghost use Rattle.rwsem_wake.specs.declared.view.Wait.TheVariants.{Writes};
 ghost use Rattle.rwsem_slow.specs.Places.{IsOutside, StepsOn, seen_of};
-ghost use Rattle.rwsem_slow.specs.Queued.{IsInLine, TookInLine, WaitsOn, WentInLine};
+ghost use Rattle.rwsem_slow.specs.Queued.{AppendedBy, EntersLock, IsInLine, IsToQuit, KeepsLine, WaitsOn};
 ghost use Rattle.rwsem_slow.specs.Removals.{StaysBeside};
 ghost use Rattle.rwsem_slow.specs.Wakes.{IsAtRest};
 
+use crate::leaving::{interrupt, pending};
 use crate::rule::SemRule;
-use crate::waking::{Waited, WakeType, wake};
+use crate::waking::{Waited, WakeType, wake, wake_tasks};
 use crate::writing;
 use arrayvec::ArrayVec;
 use cpu_task::{Cpu, Crew};
-use lock_core::{Pass, Site};
+use lock_core::{How, Interrupted, Pass, Site};
 use rwsem_count::{BIAS, READ_FAIL, WRITER};
 use rwsem_wake::batches::BATCH;
 use rwsem_wake::queueing::look_listed;
@@ -58,19 +60,25 @@ pub fn wake_others<O: Object, C: Cpu, K: Crew>(
     }
     let mut woken: ArrayVec<u32, BATCH> = ArrayVec::new();
     let kind = kind_for(count);
-    wake(site, pass, kind, &mut Waited { cpu }, &mut woken);
-    for task in woken.as_slice() {
-        crew.wake(*task);
-    }
+    wake(
+        site,
+        pass,
+        kind,
+        &mut Waited { cpu, over: false },
+        &mut woken,
+    );
+    wake_tasks(crew, woken.as_slice());
 }
 
-/// Releases the wait lock, sleeps, and takes the wait lock again.
+/// Releases the wait lock, sleeps, and takes the wait lock again. It doesn't sleep where a signal
+/// is to interrupt the call, which it answers.
 fn sleep<O: Object, W: Wait, C: Cpu>(
     site: &Site<SemRule<O>>,
     rt: &W,
     pass: &mut Pass<SemRule<O>>,
     cpu: &mut C,
-)
+    interruptible: bool,
+) -> Option<Interrupted>
     requires own { SitsAt site.now pass.old }
     requires numbered { IsSome (task_in pass.old) }
     requires locked { SpinHolds (view_of pass.old).spin }
@@ -78,19 +86,30 @@ fn sleep<O: Object, W: Wait, C: Cpu>(
     ensures on { StepsOn site.now pass.old pass.new }
     ensures locked { SpinHolds (view_of pass.new).spin }
     ensures waits { WaitsOn Writes (view_of pass.old) (view_of pass.new) }
+    ensures heard { IfSome result (λ why. HasHeard why (hand_in pass.new)) }
+    ensures pending { IfSome result (λ why.
+        SawPending why (seen_of pass.old) (seen_of pass.new)) }
+    ensures asked { IfSome result (λ _. interruptible ≡ true) }
 {
     qspin_word::unlock(site, pass);
+    if let Some(why) = pending(site, pass, interruptible) {
+        qspin_queue::lock(site, rt, pass);
+        return Some(why);
+    }
     cpu.sleep(rt);
     qspin_queue::lock(site, rt, pass);
+    None
 }
 
-/// Tries and sleeps in turn, until the writer holds.
+/// Tries and sleeps in turn, until the writer holds, or, where it is interruptible, until a signal
+/// is pending.
 fn wait<O: Object, W: Wait, C: Cpu>(
     site: &Site<SemRule<O>>,
     rt: &W,
     pass: &mut Pass<SemRule<O>>,
     cpu: &mut C,
-)
+    interruptible: bool,
+) -> Result<(), Interrupted>
     requires own { SitsAt site.now pass.old }
     requires numbered { IsSome (task_in pass.old) }
     requires out { held_in pass.old ≡ No }
@@ -98,15 +117,26 @@ fn wait<O: Object, W: Wait, C: Cpu>(
     requires listed { IsInLine Writes (view_of pass.old) }
     ensures on { StepsOn site.now pass.old pass.new }
     ensures locked { SpinHolds (view_of pass.new).spin }
-    ensures took { TookInLine O.object (plan_of site.now) (view_of pass.old) (view_of pass.new) }
+    ensures line { KeepsLine (view_of pass.old) (view_of pass.new) }
+    ensures misses { (hand_in pass.new).misses ≡ (hand_in pass.old).misses }
+    ensures took { IfOk result (λ _. Takes O.object (plan_of site.now) Alone
+        (seen_of pass.old) (seen_of pass.new)) }
+    ensures quits { IfOk result (λ _. IsToQuit (view_of pass.new)) }
+    ensures waits { IfErr result (λ _. WaitsOn Writes (view_of pass.old) (view_of pass.new)) }
+    ensures heard { IfErr result (λ why. HasHeard why (hand_in pass.new)) }
+    ensures pending { IfErr result (λ why.
+        SawPending why (seen_of pass.old) (seen_of pass.new)) }
+    ensures asked { IfErr result (λ _. interruptible ≡ true) }
 {
     for _ in rt.forever() {
         // A release wakes once: a writer that finds the semaphore free must take it before it
-        // sleeps.
+        // sleeps, or leaves for a signal.
         if writing::try_queued(site, rt, pass, cpu) {
-            return;
+            return Ok(());
         }
-        sleep(site, rt, pass, cpu);
+        if let Some(why) = sleep(site, rt, pass, cpu, interruptible) {
+            return Err(why);
+        }
     }
     unreachable!()
 }
@@ -139,15 +169,17 @@ fn queue<O: Object, C: Cpu, K: Crew>(
     wake_others(site, pass, cpu, crew, count);
 }
 
-/// Takes the semaphore alone by way of the wait lock and the list. The kernel's
-/// `rwsem_down_write_slowpath`.
+/// Takes the semaphore alone by way of the wait lock and the list, until a signal interrupts it
+/// where it is interruptible. The kernel's `rwsem_down_write_slowpath`, in the state
+/// `TASK_INTERRUPTIBLE` or `TASK_UNINTERRUPTIBLE`.
 pub fn write_in_line<O: Object, W: Wait, C: Cpu, K: Crew>(
     site: &Site<SemRule<O>>,
     rt: &W,
     pass: &mut Pass<SemRule<O>>,
     cpu: &mut C,
     crew: &K,
-)
+    interruptible: bool,
+) -> Result<How, Interrupted>
     requires own { SitsAt site.now pass.old }
     requires numbered { IsSome (task_in pass.old) }
     requires out { held_in pass.old ≡ No }
@@ -156,12 +188,25 @@ pub fn write_in_line<O: Object, W: Wait, C: Cpu, K: Crew>(
     ensures on { StepsOn site.now pass.old pass.new }
     ensures unspun { SpinRests (view_of pass.new).spin }
     ensures outside { IsOutside (view_of pass.new) }
-    ensures took { Takes O.object (plan_of site.now) Alone (seen_of pass.old) (seen_of pass.new) }
-    ensures line { WentInLine (view_of pass.old) (view_of pass.new) }
+    ensures lock { EntersLock (view_of pass.old) (view_of pass.new) }
+    ensures took { IfOk result (λ _. Takes O.object (plan_of site.now) Alone
+        (seen_of pass.old) (seen_of pass.new)) }
+    ensures how { IfOk result (λ how. AppendedBy how (view_of pass.old) (view_of pass.new)) }
+    ensures waited { IfErr result (λ _.
+        (view_of pass.new).ext.appends ≡ (view_of pass.old).ext.appends + 1) }
+    ensures consumed { IfErr result (λ _.
+        OnlyConsumed (view_of pass.old) (view_of pass.new)) }
+    ensures pending { IfErr result (λ why.
+        SawPending why (seen_of pass.old) (seen_of pass.new)) }
+    ensures asked { IfErr result (λ _. interruptible ≡ true) }
 {
     qspin_queue::lock(site, rt, pass);
     queue(site, pass, cpu, crew);
-    wait(site, rt, pass, cpu);
-    writing::quit_taken(site, pass);
-    qspin_word::unlock(site, pass);
+    let Err(why) = wait(site, rt, pass, cpu, interruptible) else {
+        writing::quit_taken(site, pass);
+        qspin_word::unlock(site, pass);
+        return Ok(How::Slept);
+    };
+    interrupt(site, pass, cpu, crew, why);
+    Err(why)
 }

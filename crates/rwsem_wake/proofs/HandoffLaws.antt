@@ -12,7 +12,7 @@ use Rattle.rwsem_wake.specs.declared.view.Wait.TheVariants.{Apart, Reads, Writes
 use Rattle.rwsem_count.specs.declared.view.Bias.{Bias}
 use Rattle.rwsem_count.specs.declared.view.Bias.TheVariants.{Clear, Reserve}
 use Rattle.rwsem_wake.specs.declared.view.Stage.{Stage}
-use Rattle.rwsem_wake.specs.declared.view.Stage.TheVariants.{Rest, First, Marking, Took, Removed, Left, Emptied, Overdue, Marked, Removing, Summing, Counted, Granting}
+use Rattle.rwsem_wake.specs.declared.view.Stage.TheVariants.{Rest, First, Marking, Took, Removed, Emptied, Overdue, Marked, Removing, Summing, Counted, Granting}
 use Rattle.rwsem_count.specs.Counts.{shared_weight, early_weight, late_weight, shared_in, early_in, late_in}
 use Rattle.rwsem_wake.specs.SemParts.{SemPart, named_weight, granting_weight, busy_weight, shared_of, alone_of, early_of, late_of, reserve_of, reads_of, reads_at, writes_at, reader_at, writer_at, reader_of, busy_of, granting_of, granted_of, granted_at, is_zero, reader_bit, some_of, marks_sum, first_mark, tasks, own_mark}
 use Rattle.rwsem_wake.specs.Semaphores.{batch_weight, Quiet, IsFirst, FlagsAt, load_of, SemKept, more_of}
@@ -199,11 +199,7 @@ module _ (vs : List SemPart) (id : ℕ) (v : SemPart) (at : get_elem? vs id ≡ 
       (λ t. let x = total-without (writer_at t) q q' w gone in let e : writer_at t w ≡ 0 * bit (own == t) = ap (writer_at t) is in let y = writes-at-w u own has Apart refl t in let z = writes-at-w v own has Reads wait t in omega arith)
       (let x = total-without reader_of q q' w gone in let e : reader_of w ≡ 1 = ap reader_of is in let y = reads-w v own has Reads wait in omega arith) (ok-of u own has ok (omega arith) (let z = light-none light in omega arith) (let x9 = single in omega arith))
 
-  -- what the flags are where the first, or another, has left
-  pub left-first : (q' : List Waiter) (w : Waiter) (s : Without q w q') → v.sem.stage ≡ Rest → s.before ≡ [] → w.task ≡ own → FlagsAt Left v.task v.sem.rest W H q' marks grants
-  left-first q' w s stage e is = let f = mine Rest stage in let a = f.waiters in let l = length-without q q' w s in let some_there = (some-length q).0 (omega arith) in
-      (omega arith, f.first ∙ (first-left marks q q' w s e ∙ (ap (λ (t : ℕ). get_or marks t 0) is ∙ sym (ap (own_mark marks) has))))
-
+  -- what the flags are where another than the first has left
   pub left-later : (q' : List Waiter) (w : Waiter) (s : Without q w q') → v.sem.stage ≡ Rest → 1 ≤ length s.before → Quiet W H q' marks
   left-later q' w s stage l = let f = mine Rest stage in let e = later-left marks q q' w s l in record { waiters = f.waiters ∙ e.1; handoff = f.handoff; first = f.first ∙ e.0; marked = f.marked }
 
@@ -217,12 +213,6 @@ module _ (vs : List SemPart) (id : ℕ) (v : SemPart) (at : get_elem? vs id ≡ 
 
   pub sem-unmarks-own : v.sem.stage ≡ Removed → load_of v + reserve_of v ≤ 1 → own < length marks → SemKept n q (set marks own 0) grants (set vs id (staged v Rest))
   sem-unmarks-own stage light inside = let f = mine Removed stage in let z = cleared (set marks own 0) inside f.2 refl in let a = f.0 in turns Removed Rest (set marks own 0) stage (sym (grants-not Removed stage refl)) (quiet-none W H q (set marks own 0) f.1 (omega arith) z) (λ _. no-rest Removed stage refl) (omega arith) (let y = light-none light in omega arith)
-
-  pub sem-left-more : v.sem.stage ≡ Left → load_of v + reserve_of v ≤ 1 → own < length marks → 1 ≤ length q → SemKept n q (set marks own 0) grants (set vs id (staged v Rest))
-  sem-left-more stage light inside more = let f = mine Left stage in let z = cleared (set marks own 0) inside f.1 refl in let a = f.0 in let s = (some-length q).0 more in turns Left Rest (set marks own 0) stage (sym (grants-not Left stage refl)) (quiet-none W H q (set marks own 0) (omega arith) (omega arith) z) (λ _. no-rest Left stage refl) (omega arith) (let y = light-none light in omega arith)
-
-  pub sem-left-none : v.sem.stage ≡ Left → own < length marks → length q ≡ 0 → SemKept n q (set marks own 0) grants (set vs id (staged v Emptied))
-  sem-left-none stage inside none = let f = mine Left stage in let z = cleared (set marks own 0) inside f.1 refl in turns Left Emptied (set marks own 0) stage (sym (grants-not Left stage refl)) (f.0, z, none) (λ _. no-rest Left stage refl) (still Left stage) most
 
   -- WAITERS and HANDOFF are cleared
   pub sem-clears : (n' : ℕ) → n' + (2 + 4 * H) ≡ n → v.sem.stage ≡ Emptied → load_of v + reserve_of v ≤ 1 → SemKept n' q marks grants (set vs id (staged v Rest))

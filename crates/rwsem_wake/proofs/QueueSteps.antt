@@ -19,13 +19,13 @@ use Rattle.rwsem_count.specs.declared.view.Bias.{Bias}
 use Rattle.rwsem_count.specs.declared.view.Bias.TheVariants.{Clear, Transit}
 use Rattle.rwsem_count.specs.Counts.{early_weight, late_weight, early_in, late_in, alone_in, shared_in}
 use Rattle.rwsem_count.specs.WordSteps.{HasFlags, HasHandoff, IsLocked}
-use Rattle.rwsem_wake.specs.declared.view.Wait.TheVariants.{Apart, Reads}
+use Rattle.rwsem_wake.specs.declared.view.Wait.TheVariants.{Apart, Reads, Writes}
 use Rattle.rwsem_wake.specs.declared.view.Stage.{Stage}
 use Rattle.rwsem_wake.specs.declared.view.Stage.TheVariants.{Rest, Armed, Joining, First, Marking, Took, Removed, Emptied, Summing}
 use Rattle.rwsem_wake.specs.declared.view.SemHand.{SemHand}
 use Rattle.rwsem_wake.specs.SemParts.{SemPart, busy_of, early_of, late_of, first_mark, tasks, granted_of, granting_weight, here, is_zero, part_of, reads_of, reads_weight}
 use Rattle.rwsem_wake.specs.Semaphores.{FlagsAt, IsFirst, SemKept, batch_weight, more_of}
-use Rattle.rwsem_wake.specs.Handoffs.{KeepsHandoff, shared_at}
+use Rattle.rwsem_wake.specs.Handoffs.{KeepsHandoff, Unasked, shared_at}
 use Rattle.rwsem_wake.specs.Grants.{summing, unmarked, unreserved}
 use Rattle.rwsem_wake.specs.Queues.{rested, asked, taken, own_unmarked, heard, heard_locked, settled}
 use Rattle.rwsem_wake.proofs.Sums.{set-mine}
@@ -33,7 +33,7 @@ use Rattle.rwsem_wake.proofs.Places.{first-least, some-length}
 use Rattle.rwsem_wake.proofs.WakeLaws.{staged, ok-of}
 use Rattle.rwsem_wake.proofs.QueueLaws.{granted-w, mine-at, sem-backs, sem-granted, sem-stages}
 use Rattle.rwsem_wake.proofs.HandoffLaws.{sem-sets, sem-takes, sem-unmarks-own, sem-clears, sem-asks-write, sem-marks}
-use Rattle.rwsem_wake.proofs.HandoffSteps.{hands-free, hands-granted, hands-step, hands-takes, own-comes}
+use Rattle.rwsem_wake.proofs.HandoffSteps.{first-marked, hands-asks, hands-empties, hands-free, hands-granted, hands-step, hands-takes, own-comes, unasked-cleared, unasked-same}
 use Rattle.rwsem_wake.proofs.FirstLaws.{light-of, sem-arms-again, sem-clears-first, sem-first-clear, sem-own-clear, sem-rests}
 use Rattle.rwsem_wake.proofs.Flags.{sets_waiters, clears_waiters}
 use Rattle.rwsem_wake.proofs.Stepping.{Local, with_hand}
@@ -51,23 +51,23 @@ module _ (sees : List SemPart) (id : ℕ) (v : SemPart) (known : Part) (n : ℕ)
   small = let low = loc.lawful.0 in let high = loc.lawful.1 in omega (arith, low, high)
 
   abbrev After : ℕ → List ℕ → List ℕ → SemHand → Type 0
-  After n' marks' grants' s = let us : List SemPart = set sees id (with_hand v s) in SemKept n' q marks' grants' us × KeepsHandoff id n q marks grants sees n' grants' us
+  After n' marks' grants' s = let us : List SemPart = set sees id (with_hand v s) in SemKept n' q marks' grants' us × KeepsHandoff id n q marks grants sees n' marks' grants' us
 
   -- nobody comes to read
-  same-readers : (n' : ℕ) (s : Stage) → n' % 2 ≤ n % 2 → ((m : ℕ) → granting_weight s m ≡ 0) → KeepsHandoff id n q marks grants sees n' grants (set sees id (staged v s))
-  same-readers n' s low none = hands-step id n q marks grants sees v (staged v s) loc.mine n' low (λ t. let z = none (here t v.sem.rest) in omega (arith, z))
+  same-readers : (n' : ℕ) (marks' : List ℕ) (s : Stage) → n' % 2 ≤ n % 2 → ((m : ℕ) → granting_weight s m ≡ 0) → Unasked n marks n' marks' → KeepsHandoff id n q marks grants sees n' marks' grants (set sees id (staged v s))
+  same-readers n' marks' s low none un = hands-step id n q marks grants sees v (staged v s) loc.mine n' marks' low (λ t. let z = none (here t v.sem.rest) in omega (arith, z)) un
 
   -- it leaves all
   pub on-stay : After n marks grants v.sem
-  on-stay = (subst (SemKept n q marks grants) (sym (set_again sees id v loc.mine)) loc.kept, hands-step id n q marks grants sees v v loc.mine n (omega arith) (λ t. omega arith))
+  on-stay = (subst (SemKept n q marks grants) (sym (set_again sees id v loc.mine)) loc.kept, hands-step id n q marks grants sees v v loc.mine n marks (omega arith) (λ t. omega arith) (unasked-same n marks))
 
   there : Knows known → 1 ≤ length known.1.list → 1 ≤ length q
   there knows some_there = subst (λ (z : List Waiter). 1 ≤ length z) (loc.list knows) some_there
 
   -- who is alone in the list sets WAITERS
   pub on-set : v.sem.stage ≡ First → v.sem.bias ≡ Clear → After (word_after (Or 2) n) marks grants (rested v.sem) × IsLawfulCount n
-  on-set stage clear = let f = mine-at sees id v loc.mine n q marks grants loc.kept own has First only stage in let is = sets_waiters n f.0 in (
-    (sem-sets sees id v loc.mine n q marks grants loc.kept own has only (word_after (Or 2) n) is stage (light-of v own has clear n q marks grants sees id loc.kept loc.mine), same-readers (word_after (Or 2) n) Rest (omega (arith, is)) (λ m. refl)),
+  on-set stage clear = let f = mine-at sees id v loc.mine n q marks grants loc.kept own has First only stage in let clear_it = f.0 in let is = sets_waiters n clear_it in (
+    (sem-sets sees id v loc.mine n q marks grants loc.kept own has only (word_after (Or 2) n) is stage (light-of v own has clear n q marks grants sees id loc.kept loc.mine), same-readers (word_after (Or 2) n) marks Rest (omega (arith, is)) (λ m. refl) (omega (arith, is, clear_it), λ t. omega arith)),
     loc.lawful,
   )
 
@@ -76,31 +76,35 @@ module _ (sees : List SemPart) (id : ℕ) (v : SemPart) (known : Part) (n : ℕ)
   on-back m by b stage bias is = let l = small in let one : early_of v + late_of v ≡ 1 = ap (λ (z : Bias). early_weight z + late_weight z) bias ∙ (let e : (1 - m % 2) + m % 2 ≡ 1 = omega arith in e) in
       let F = part-least early_in sees id v loc.mine in let L = part-least late_in sees id v loc.mine in let rf = loc.kept.count.field in let g : 256 ≤ n = omega (arith, one, F, L, rf) in
       let o = bit-most b in let n' : ℕ = word_after (Sub by) n in let sum : n' + 256 ≡ n + 2 * bit b = omega (arith, l, g, is, o) in (
-        (sem-backs sees id v loc.mine n q marks grants loc.kept own has n' m b only stage bias sum, hands-step id n q marks grants sees v (with_hand v (unreserved v.sem)) loc.mine n' (omega (arith, sum)) (λ t. omega arith)),
+        (sem-backs sees id v loc.mine n q marks grants loc.kept own has n' m b only stage bias sum, hands-step id n q marks grants sees v (with_hand v (unreserved v.sem)) loc.mine n' marks (omega (arith, sum)) (λ t. omega arith) (let x = unset b stage in omega (arith, sum, x), λ t. omega arith)),
         loc.lawful,
         g,
       )
     where
+      unset : (b : Bool) → v.sem.stage ≡ Joining b → n / 2 % 2 + bit b ≤ 1
+      unset true is = let f = mine-at sees id v loc.mine n q marks grants loc.kept own has (Joining true) only is in let z = f.0 in omega (arith, z)
+      unset false is = omega arith
+
       bit-most : (b : Bool) → bit b ≤ 1
       bit-most true = omega arith
       bit-most false = omega arith
 
   -- a writer asks for a handoff
-  pub on-ask-write : (old new : ℕ) → v.sem.stage ≡ Rest → (HasHandoff old → ⊥) → new ≡ old + 4 → Knows known → 1 ≤ length known.1.list → After (word_after (Exchange old new) n) marks grants (asked v.sem old n) × IsLawfulCount n
-  on-ask-write old new stage unasked is knows some_there = dite (ℕ_discrete n old)
+  pub on-ask-write : (old new : ℕ) → v.sem.stage ≡ Rest → v.sem.wait ≡ Writes → (HasHandoff old → ⊥) → new ≡ old + 4 → Knows known → 1 ≤ length known.1.list → After (word_after (Exchange old new) n) marks grants (asked v.sem old n) × IsLawfulCount n
+  on-ask-write old new stage writes unasked is knows some_there = dite (ℕ_discrete n old)
       (λ found. let not : n / 4 % 2 ≢ 1 = λ e. unasked (ap (λ (x : ℕ). x / 4 % 2) (sym found) ∙ e) in let z : n / 4 % 2 ≡ 0 = omega (arith, not) in
       subst (λ (b : Bool). After (if b then new else n) marks grants (if b then record v.sem { stage = Marking } else v.sem) × IsLawfulCount n) (sym (eq-eqb n old found)) (
         subst (λ (x : ℕ). After x marks grants (record v.sem { stage = Marking })) (ap (λ (x : ℕ). x + 4) found ∙ sym is)
-            (sem-asks-write sees id v loc.mine n q marks grants loc.kept own has only z (there knows some_there) stage, same-readers (n + 4) Marking (omega arith) (λ m. refl)),
+            (sem-asks-write sees id v loc.mine n q marks grants loc.kept own has only z (there knows some_there) stage, hands-asks id n q marks grants sees v (staged v Marking) loc.mine (n + 4) marks (omega arith) (λ t. omega arith) (λ _ _. inr (writes, refl)) (λ _. omega (arith, z)) (λ t none more. absurd (omega (arith, none, more)))),
         loc.lawful,
       ))
       (λ other. subst (λ (b : Bool). After (if b then new else n) marks grants (if b then record v.sem { stage = Marking } else v.sem) × IsLawfulCount n) (sym (ne_eqb n old other)) (on-stay, loc.lawful))
 
   -- and marks the first waiter
-  pub on-mark-asked : (t : ℕ) → v.sem.stage ≡ Marking → v.sem.bias ≡ Clear → Knows known → first_code known.1.list ≡ t + 1 → t < 64 → After n (set marks t 1) grants (rested v.sem)
-  on-mark-asked t stage clear knows code few = let x = head-is q t (ap first_code (sym (loc.list knows)) ∙ code) in let wide = loc.marks_wide in (
+  pub on-mark-asked : (t : ℕ) → v.sem.stage ≡ Marking → v.sem.wait ≡ Writes → v.sem.bias ≡ Clear → Knows known → first_code known.1.list ≡ t + 1 → t < 64 → After n (set marks t 1) grants (rested v.sem)
+  on-mark-asked t stage writes clear knows code few = let x = head-is q t (ap first_code (sym (loc.list knows)) ∙ code) in let wide = loc.marks_wide in (
     subst (λ (z : ℕ). SemKept n q (set marks z 1) grants (set sees id (staged v Rest))) x.3 (sem-marks sees id v loc.mine n q marks grants loc.kept own has only x.0 x.1 stage (light-of v own has clear n q marks grants sees id loc.kept loc.mine) x.2 (let e = x.3 in omega (arith, e, few, wide))),
-    same-readers n Rest (omega arith) (λ m. refl),
+    hands-asks id n q marks grants sees v (staged v Rest) loc.mine n (set marks t 1) (omega arith) (λ s. omega arith) (λ z o. absurd (omega (arith, z, o))) (λ set_it. set_it) (λ s none more. (first-marked marks q t (ap first_code (sym (loc.list knows)) ∙ code) s none more, inr (writes, stage))),
   )
 
   -- the first's mark is loaded, or cleared
@@ -108,38 +112,38 @@ module _ (sees : List SemPart) (id : ℕ) (v : SemPart) (known : Part) (n : ℕ)
   on-look-first t stage knows code = let m : ℕ = get_or marks t 0 in let x = head-is q t (ap first_code (sym (loc.list knows)) ∙ code) in subst (λ (z : List ℕ). After n z grants (unmarked v.sem m)) (sym (set-get_or marks t 0)) (dite (ℕ_discrete m 0)
       (λ none. subst (λ (z : Bool). After n marks grants (if z then record v.sem { stage = Summing } else v.sem)) (sym (eq-eqb m 0 none)) (
         sem-first-clear sees id v loc.mine n q marks grants loc.kept own has only x.0 x.1 stage x.2 (ap (λ (z : ℕ). get_or marks z 0) x.3 ∙ none),
-        same-readers n Summing (omega arith) (λ m. refl),
+        same-readers n marks Summing (omega arith) (λ m. refl) (unasked-same n marks),
       ))
       (λ set_it. subst (λ (z : Bool). After n marks grants (if z then record v.sem { stage = Summing } else v.sem)) (sym (ne_eqb m 0 set_it)) on-stay))
 
   pub on-clear-first : (t : ℕ) → (v.sem.stage ≡ Rest) ⊎ (v.sem.stage ≡ Armed) → Knows known → first_code known.1.list ≡ t + 1 → t < 64 → After n (set marks t 0) grants (summing v.sem)
   on-clear-first t stage knows code few = let x = head-is q t (ap first_code (sym (loc.list knows)) ∙ code) in let wide = loc.marks_wide in (
     subst (λ (z : ℕ). SemKept n q (set marks z 0) grants (set sees id (staged v Summing))) x.3 (sem-clears-first sees id v loc.mine n q marks grants loc.kept own has only x.0 x.1 stage x.2 (let e = x.3 in omega (arith, e, few, wide))),
-    same-readers n Summing (omega arith) (λ m. refl),
+    same-readers n (set marks t 0) Summing (omega arith) (λ m. refl) (unasked-cleared n marks t (omega (arith, few, wide))),
   )
 
   -- so is the own mark of a writer that took and left
   pub on-look-own : v.sem.stage ≡ Removed → v.sem.bias ≡ Clear → let m = get_or marks own 0 in After n (set marks own (word_after Load m)) grants (own_unmarked v.sem m)
   on-look-own stage clear = let m : ℕ = get_or marks own 0 in subst (λ (z : List ℕ). After n z grants (own_unmarked v.sem m)) (sym (set-get_or marks own 0)) (dite (ℕ_discrete m 0)
-      (λ none. subst (λ (z : Bool). After n marks grants (if z then record v.sem { stage = Rest } else v.sem)) (sym (eq-eqb m 0 none)) (sem-own-clear sees id v loc.mine n q marks grants loc.kept own has only stage clear none, same-readers n Rest (omega arith) (λ m. refl)))
+      (λ none. subst (λ (z : Bool). After n marks grants (if z then record v.sem { stage = Rest } else v.sem)) (sym (eq-eqb m 0 none)) (sem-own-clear sees id v loc.mine n q marks grants loc.kept own has only stage clear none, same-readers n marks Rest (omega arith) (λ m. refl) (unasked-same n marks)))
       (λ set_it. subst (λ (z : Bool). After n marks grants (if z then record v.sem { stage = Rest } else v.sem)) (sym (ne_eqb m 0 set_it)) on-stay))
 
   pub on-clear-own : v.sem.stage ≡ Removed → v.sem.bias ≡ Clear → own < 64 → After n (set marks own 0) grants (rested v.sem)
   on-clear-own stage clear few = let wide = loc.marks_wide in (
     sem-unmarks-own sees id v loc.mine n q marks grants loc.kept own has only stage (light-of v own has clear n q marks grants sees id loc.kept loc.mine) (omega (arith, few, wide)),
-    same-readers n Rest (omega arith) (λ m. refl),
+    same-readers n (set marks own 0) Rest (omega arith) (λ m. refl) (unasked-cleared n marks own (omega (arith, few, wide))),
   )
 
   -- WAITERS and HANDOFF are cleared where the list is empty
   pub on-clear-flags : v.sem.stage ≡ Emptied → v.sem.bias ≡ Clear → After (word_after (And 18446744073709551609) n) marks grants (rested v.sem) × IsLawfulCount n
   on-clear-flags stage clear = let l = small in let f = mine-at sees id v loc.mine n q marks grants loc.kept own has Emptied only stage in let w = f.0 in let is = clears_waiters n (omega (arith, l)) in let n' : ℕ = word_after (And 18446744073709551609) n in let sum : n' + (2 + 4 * H) ≡ n = omega (arith, is, w) in (
-    (sem-clears sees id v loc.mine n q marks grants loc.kept own has only n' sum stage (light-of v own has clear n q marks grants sees id loc.kept loc.mine), same-readers n' Rest (omega (arith, sum)) (λ m. refl)),
+    (sem-clears sees id v loc.mine n q marks grants loc.kept own has only n' sum stage (light-of v own has clear n q marks grants sees id loc.kept loc.mine), hands-empties id n q marks grants sees v (staged v Rest) loc.mine n' (omega (arith, sum)) (λ t. omega arith) (omega (arith, sum, w)) f.2),
     loc.lawful,
   )
 
   -- how its pass holds and its part after a step that may make it hold
   abbrev Held-after : ℕ → List ℕ → Held → SemHand → Type 0
-  Held-after n' grants' h s = let us : List SemPart = set sees id (record { task = v.task; held = h; sem = s }) in SemKept n' q marks grants' us × KeepsHandoff id n q marks grants sees n' grants' us
+  Held-after n' grants' h s = let us : List SemPart = set sees id (record { task = v.task; held = h; sem = s }) in SemKept n' q marks grants' us × KeepsHandoff id n q marks grants sees n' marks grants' us
 
   -- nobody holds alone, and, where it is to hold so, nobody at all
   abbrev Lets-hold : Held → Type 0
@@ -148,7 +152,7 @@ module _ (sees : List SemPart) (id : ℕ) (v : SemPart) (known : Part) (n : ℕ)
   lets-share : n % 2 ≡ 0 → Lets-hold Shared
   lets-share none = let w = loc.kept.count.writer in (omega (arith, none, w), λ l. absurd (omega (arith, l)))
 
-  unheld : {h : Held} (s : SemHand) → v.held ≡ h → SemKept n q marks grants (set sees id (with_hand v s)) → KeepsHandoff id n q marks grants sees n grants (set sees id (with_hand v s)) → Held-after n grants h s
+  unheld : {h : Held} (s : SemHand) → v.held ≡ h → SemKept n q marks grants (set sees id (with_hand v s)) → KeepsHandoff id n q marks grants sees n marks grants (set sees id (with_hand v s)) → Held-after n grants h s
   unheld s out kept hands = subst (λ (z : Held). Held-after n grants z s) out (kept, hands)
 
   -- a writer of the list takes a free count
@@ -159,7 +163,7 @@ module _ (sees : List SemPart) (id : ℕ) (v : SemPart) (known : Part) (n : ℕ)
     -- it is about nothing from then on
     goes-on : (old : ℕ) → Unmarked old → Held-after n grants No (rested v.sem)
     goes-on old may = unheld (rested v.sem) out (elim may [ inl is ↦ sem-rests sees id v loc.mine n q marks grants loc.kept own has only is clear none (there knows some_there) | inr is ↦ subst (λ (z : Stage). SemKept n q marks grants (set sees id (staged v z))) is.0 on-stay.0 ])
-        (same-readers n Rest (omega arith) (λ m. refl))
+        (same-readers n marks Rest (omega arith) (λ m. refl) (unasked-same n marks))
 
     first-or-none : (old : ℕ) → n ≡ old → Unmarked old → IsFirst (Some own) q ⊎ (first_mark marks (tasks q) ≡ 0)
     first-or-none old found may = let l = first-least marks (tasks q) in elim may [
@@ -204,7 +208,7 @@ module _ (sees : List SemPart) (id : ℕ) (v : SemPart) (known : Part) (n : ℕ)
                 subst (SemKept new q marks grants) (twice sees id w u) (sem-takes us id w (set-mine sees id v w loc.mine) n q marks grants r own has (omega (arith, B, o)) new (bit alone) (readers-free found) (writer-free found) (sum-by alone found flags) ab.0 ab.1 (there knows some_there) refl out m)
             | inr is ↦ sem-takes sees id v loc.mine n q marks grants loc.kept own has only new (bit alone) (readers-free found) (writer-free found) (sum-by alone found flags) ab.0 ab.1 (there knows some_there) is.0 out m
           ],
-          hands-takes id n q marks grants sees v u loc.mine new (elim m [ inl first ↦ inl (subst (λ (z : Option ℕ). IsFirst z q) (sym has) first) | inr z ↦ inr z ]) (λ t. omega arith),
+          hands-takes id n q marks grants sees v u loc.mine new (elim m [ inl first ↦ inl (subst (λ (z : Option ℕ). IsFirst z q) (sym has) first) | inr z ↦ inr z ]) (λ t. omega arith) flags.handoff_is (writer-free found) flags.writer_is,
         )
 
   -- a reader whose bias is in the count sees no writer, under the wait lock with an empty list
@@ -218,19 +222,19 @@ module _ (sees : List SemPart) (id : ℕ) (v : SemPart) (known : Part) (n : ℕ)
         sem-stages sees id v loc.mine n q marks grants loc.kept own has u n marks only refl refl refl refl (subst (λ (z : Stage). FlagsAt z v.task v.sem.rest W H q marks grants) (sym stage) f)
             (count-keeps sees id v u loc.mine n m (more_of grants sees) loc.kept.count (inl free) out bias refl refl)
             (ok-of u own has (λ _. (loc.kept.each id v loc.mine).rest (ap batch_weight stage)) (omega (arith, r0)) (omega arith) (omega (arith, r0))),
-        hands-free id n q marks grants sees n grants (set sees id u) (inr (ap (λ (z : List Waiter). first_mark marks (tasks z)) (sym (loc.list knows) ∙ none))) (own-comes id n q marks grants sees v u loc.mine own has (λ t not. let z : shared_at t u ≡ 0 = ap (is_number t) has ∙ is_number-else t own (λ e. not (sym e)) in omega (arith, z))),
+        hands-free id n q marks grants sees n marks grants (set sees id u) (inr (ap (λ (z : List Waiter). first_mark marks (tasks z)) (sym (loc.list knows) ∙ none))) (unasked-same n marks) (own-comes id n q marks grants sees v u loc.mine own has (λ t not. let z : shared_at t u ≡ 0 = ap (is_number t) has ∙ is_number-else t own (λ e. not (sym e)) in omega (arith, z))),
       )
 
 -- a queued reader loads its grant word, with or without the wait lock
 module _ (sees : List SemPart) (id : ℕ) (v : SemPart) (known : Part) (n : ℕ) (q : List Waiter) (marks grants : List ℕ) (loc : Local sees id v known n q marks grants) (own : ℕ) (has : v.task ≡ Some own) (stage : v.sem.stage ≡ Rest) (waits : v.sem.wait ≡ Reads) (clear : v.sem.bias ≡ Clear) (out : v.held ≡ No) where
   abbrev Heard : Held → SemHand → Type 0
-  Heard h s = let us : List SemPart = set sees id (record { task = v.task; held = h; sem = s }) in SemKept n q marks (set grants own (word_after Load (get_or grants own 0))) us × KeepsHandoff id n q marks grants sees n (set grants own (word_after Load (get_or grants own 0))) us
+  Heard h s = let us : List SemPart = set sees id (record { task = v.task; held = h; sem = s }) in SemKept n q marks (set grants own (word_after Load (get_or grants own 0))) us × KeepsHandoff id n q marks grants sees n marks (set grants own (word_after Load (get_or grants own 0))) us
 
   abbrev Shares : Type 0
   Shares = (total alone_in (map part_of sees) ≡ 0) × (0 < alone_weight Shared → total shared_in (map part_of sees) ≡ 0)
 
-  heard-by : (h : Held) (s : SemHand) → SemKept n q marks grants (set sees id (record { task = v.task; held = h; sem = s })) → KeepsHandoff id n q marks grants sees n grants (set sees id (record { task = v.task; held = h; sem = s })) → Heard h s
-  heard-by h s kept hands = subst (λ (z : List ℕ). SemKept n q marks z (set sees id (record { task = v.task; held = h; sem = s })) × KeepsHandoff id n q marks grants sees n z (set sees id (record { task = v.task; held = h; sem = s }))) (sym (set-get_or grants own 0)) (kept, hands)
+  heard-by : (h : Held) (s : SemHand) → SemKept n q marks grants (set sees id (record { task = v.task; held = h; sem = s })) → KeepsHandoff id n q marks grants sees n marks grants (set sees id (record { task = v.task; held = h; sem = s })) → Heard h s
+  heard-by h s kept hands = subst (λ (z : List ℕ). SemKept n q marks z (set sees id (record { task = v.task; held = h; sem = s })) × KeepsHandoff id n q marks grants sees n marks z (set sees id (record { task = v.task; held = h; sem = s }))) (sym (set-get_or grants own 0)) (kept, hands)
 
   holds : get_or grants own 0 ≡ 0 → Heard Shared (record v.sem { wait = Apart })
   holds zero_it = heard-by Shared (record v.sem { wait = Apart }) (sem-granted sees id v loc.mine n q marks grants loc.kept own has stage waits clear out zero_it) (hands-granted id n own q marks grants sees v loc.mine has waits out zero_it)
@@ -244,7 +248,7 @@ module _ (sees : List SemPart) (id : ℕ) (v : SemPart) (known : Part) (n : ℕ)
   on-hear = let m : ℕ = get_or grants own 0 in dite (ℕ_discrete m 0)
       (λ zero_it. subst (λ (b : Bool). Heard (if b then Shared else No) (if b then record v.sem { wait = Apart } else v.sem) × (b ≡ true → Shares)) (sym (eq-eqb m 0 zero_it)) (holds zero_it, λ _. shares zero_it))
       (λ other. subst (λ (b : Bool). Heard (if b then Shared else No) (if b then record v.sem { wait = Apart } else v.sem) × (b ≡ true → Shares)) (sym (ne_eqb m 0 other)) (
-        subst (λ (z : Held). Heard z v.sem) out (heard-by v.held v.sem (subst (SemKept n q marks grants) (sym (set_again sees id v loc.mine)) loc.kept) (hands-step id n q marks grants sees v v loc.mine n (omega arith) (λ t. omega arith))),
+        subst (λ (z : Held). Heard z v.sem) out (heard-by v.held v.sem (subst (SemKept n q marks grants) (sym (set_again sees id v loc.mine)) loc.kept) (hands-step id n q marks grants sees v v loc.mine n marks (omega arith) (λ t. omega arith) (unasked-same n marks))),
         λ e. not-both false refl e,
       ))
 
@@ -252,6 +256,6 @@ module _ (sees : List SemPart) (id : ℕ) (v : SemPart) (known : Part) (n : ℕ)
   on-hear-locked only = let m : ℕ = get_or grants own 0 in dite (ℕ_discrete m 0)
       (λ zero_it. subst (λ (b : Bool). Heard (if b then Shared else No) (if b then record v.sem { wait = Apart } else record v.sem { stage = Armed }) × (b ≡ true → Shares)) (sym (eq-eqb m 0 zero_it)) (holds zero_it, λ _. shares zero_it))
       (λ other. subst (λ (b : Bool). Heard (if b then Shared else No) (if b then record v.sem { wait = Apart } else record v.sem { stage = Armed }) × (b ≡ true → Shares)) (sym (ne_eqb m 0 other)) (
-        subst (λ (z : Held). Heard z (record v.sem { stage = Armed })) out (heard-by v.held (record v.sem { stage = Armed }) (sem-arms-again sees id v loc.mine n q marks grants loc.kept own has only stage clear (omega (arith, other))) (hands-step id n q marks grants sees v (staged v Armed) loc.mine n (omega arith) (λ t. omega arith))),
+        subst (λ (z : Held). Heard z (record v.sem { stage = Armed })) out (heard-by v.held (record v.sem { stage = Armed }) (sem-arms-again sees id v loc.mine n q marks grants loc.kept own has only stage clear (omega (arith, other))) (hands-step id n q marks grants sees v (staged v Armed) loc.mine n marks (omega arith) (λ t. omega arith) (unasked-same n marks))),
         λ e. not-both false refl e,
       ))

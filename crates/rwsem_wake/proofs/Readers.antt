@@ -13,7 +13,7 @@ use Rattle.wait_list.specs.declared.view.Waiter.{Waiter}
 use Rattle.rwsem_wake.specs.declared.view.Wait.{Wait}
 use Rattle.rwsem_wake.specs.declared.view.Wait.TheVariants.{Apart, Reads, Writes}
 use Rattle.rwsem_wake.specs.declared.view.Stage.{Stage}
-use Rattle.rwsem_wake.specs.declared.view.Stage.TheVariants.{Rest, Armed, Joining, First, Marking, Took, Removed, Left, Emptied, Overdue, Marked, Removing, Summing, Counted, Granting}
+use Rattle.rwsem_wake.specs.declared.view.Stage.TheVariants.{Rest, Armed, Joining, First, Marking, Took, Removed, Emptied, Overdue, Marked, Removing, Summing, Counted, Granting}
 use Rattle.rwsem_wake.specs.SemParts.{SemPart, reader_bit, reader_at, writer_at, marks_sum, first_mark, tasks, named_weight, is_zero, shared_of, reads_of, reads_at, rest_at, granted_of, granted_weight, granted_at, granting_of, granting_weight, here}
 use Rattle.rwsem_wake.specs.Semaphores.{Quiet, number_weight, number_of, SemPartOk, SemKept}
 use Rattle.rwsem_wake.proofs.WakeLaws.{shared-most}
@@ -124,7 +124,6 @@ module _ (q : List Waiter) (n : ℕ) (marks grants : List ℕ) (vs : List SemPar
       granting-over Marking ts e = none-over
       granting-over Took ts e = none-over
       granting-over Removed ts e = none-over
-      granting-over Left ts e = none-over
       granting-over Emptied ts e = none-over
       granting-over (Overdue b) ts e = none-over
       granting-over (Marked b) ts e = none-over
@@ -158,7 +157,6 @@ module _ (q : List Waiter) (n : ℕ) (marks grants : List ℕ) (vs : List SemPar
       least Marking x = omega arith
       least Took x = omega arith
       least Removed x = omega arith
-      least Left x = omega arith
       least Emptied x = omega arith
       least (Overdue b) x = omega arith
       least (Marked b) x = omega arith

@@ -6,7 +6,7 @@ use Rattle.wait_list.specs.declared.view.Waiter.{Waiter}
 use Rattle.rwsem_count.specs.declared.view.Bias.{Bias}
 use Rattle.rwsem_count.specs.declared.view.Bias.TheVariants.{Clear, Transit, Reserve}
 use Rattle.rwsem_wake.specs.declared.view.Stage.{Stage}
-use Rattle.rwsem_wake.specs.declared.view.Stage.TheVariants.{Rest, Armed, Joining, First, Marking, Took, Removed, Left, Emptied, Overdue, Marked, Removing, Summing, Counted, Granting}
+use Rattle.rwsem_wake.specs.declared.view.Stage.TheVariants.{Rest, Armed, Joining, First, Marking, Took, Removed, Emptied, Overdue, Marked, Removing, Summing, Counted, Granting}
 use Rattle.rwsem_count.specs.Counts.{early_weight, late_weight, CountKept, shared_in, early_in, late_in, alone_in}
 use Rattle.rwsem_wake.specs.SemParts.{SemPart, nobody, transit_weight, reserve_weight, granting_weight, shared_of, alone_of, transit_of, reserve_of, early_of, late_of, reads_of, rest_of, granting_of, busy_of, part_of}
 use Rattle.rwsem_wake.specs.Semaphores.{number_of, FlagsOf, SemPartOk, SemKept, more_of}
@@ -37,7 +37,6 @@ granting-least = total-least granting_of rest_of (λ v. go v.sem.stage (length v
     go Marking n = omega arith
     go Took n = omega arith
     go Removed n = omega arith
-    go Left n = omega arith
     go Emptied n = omega arith
     go (Overdue b) n = omega arith
     go (Marked b) n = omega arith

@@ -76,7 +76,7 @@ module _ {E Call : Type 0} (o : Obj Call) (unavailable : Unavailable) (size : �
     (sem_only : (ws : List ℕ) (vs : List (View E)) (q : List Waiter) (id : ℕ) (v : View E) → queue ws vs q → get_elem? vs id ≡ some v → SpinHolds v.spin → total busy_of (map (sem_part sem) vs) ≡ busy_weight (sem v.ext).stage)
     (sems : (ws : List ℕ) (vs : List (View E)) (q : List Waiter) (id i n : ℕ) (v : View E) (h : Hand) (s : SemHand) → queue ws vs q → get_elem? vs id ≡ some v → count ≤ i → i < LOCK_WORDS → (count < i → marks_at ≤ i) → busy_weight s.stage ≤ holds_in v.spin → HandStep v.hand h (get_or (set ws i n) count 0)
     → SemKept (get_or (set ws i n) count 0) q (lines_in marks_at (set ws i n)) (lines_in grants_at (set ws i n)) (set (map (sem_part sem) vs) id (record { task = h.task; held = h.held; sem = s }))
-    → KeepsHandoff id (get_or ws count 0) q (lines_in marks_at ws) (lines_in grants_at ws) (map (sem_part sem) vs) (get_or (set ws i n) count 0) (lines_in grants_at (set ws i n)) (set (map (sem_part sem) vs) id (record { task = h.task; held = h.held; sem = s }))
+    → KeepsHandoff id (get_or ws count 0) q (lines_in marks_at ws) (lines_in grants_at ws) (map (sem_part sem) vs) (get_or (set ws i n) count 0) (lines_in marks_at (set ws i n)) (lines_in grants_at (set ws i n)) (set (map (sem_part sem) vs) id (record { task = h.task; held = h.held; sem = s }))
     → SiteKept o unavailable size k (site k ws) (set (map hand_of vs) id h) → Goes holds moves id ws vs (set ws i n) (set vs id (semmed with_sem v h s))) where
   abbrev M : Type 0
   M = Me (Unit {0}) (View E)
@@ -131,7 +131,7 @@ module _ {E Call : Type 0} (o : Obj Call) (unavailable : Unavailable) (size : �
     Comes id me op tells = (n : ℕ) (q : List Waiter) (marks grants : List ℕ) (sees : List SemPart) (w : SiteWords) (hs : List Hand) → Local sees id (sem_part sem me.0) (list_part list me.0) n q marks grants → (SpinHolds me.0.spin → total busy_of sees ≡ busy_weight (sem me.0.ext).stage)
         → Kept w hs → get_elem? hs id ≡ some me.0.hand → total alone_of hs ≡ total alone_in (map part_of sees) → total held_of hs ≡ total alone_in (map part_of sees) + total shared_in (map part_of sees)
         → (let m = found n marks grants in let x = word_after op m in (h : Hand) × (s : SemHand) × HandStep me.0.hand h (word n x) × (busy_weight s.stage ≤ holds_in me.0.spin) × SemKept (word n x) q (ms marks x) (gs grants x) (set sees id (turned h s))
-        × KeepsHandoff id n q marks grants sees (word n x) (gs grants x) (set sees id (turned h s)) × Kept w (set hs id h) × tells m (semmed with_sem me.0 h s, me.1))
+        × KeepsHandoff id n q marks grants sees (word n x) (ms marks x) (gs grants x) (set sees id (turned h s)) × Kept w (set hs id h) × tells m (semmed with_sem me.0 h s, me.1))
 
     pub word-goes : (slots id : ℕ) (me : M) (op : Op) (tells : ℕ → M → Type 0) → Comes id me op tells → Lets holds moves slots id me i op tells
     word-goes slots id me op tells comes st h _ at small = let v = me.0 in let ws = st.words in let vs = st.views in let q = queued ws vs h in let r = sem_kept ws vs q.0 q.1 in let wide = r.2 in
@@ -144,7 +144,7 @@ module _ {E Call : Type 0} (o : Obj Call) (unavailable : Unavailable) (size : �
           tt,
           sems ws vs q.0 id i x v t.0 t.1 q.1 at there.above there.inside there.apart t.3 (subst (HandStep v.hand t.0) (sym wd) t.2)
               (subst (λ (z : ℕ × List ℕ × List ℕ). SemKept z.0 q.0 z.1 z.2 (set sees id (turned t.0 t.1))) (λ j. (sym wd j, sym mk j, sym gr j)) t.4)
-              (subst (λ (z : ℕ × List ℕ). KeepsHandoff id n q.0 marks grants sees z.0 z.1 (set sees id (turned t.0 t.1))) (λ j. (sym wd j, sym gr j)) t.5) t.6,
+              (subst (λ (z : ℕ × List ℕ × List ℕ). KeepsHandoff id n q.0 marks grants sees z.0 z.1 z.2 (set sees id (turned t.0 t.1))) (λ j. (sym wd j, sym mk j, sym gr j)) t.5) t.6,
           refl,
           subst (λ (z : ℕ). tells z (semmed with_sem v t.0 t.1, me.1)) m t.7,
         )
@@ -152,7 +152,7 @@ module _ {E Call : Type 0} (o : Obj Call) (unavailable : Unavailable) (size : �
     -- what a step under the wait lock comes to that leaves how its pass holds
     abbrev pub OnWord : (id : ℕ) (me : M) → Op → (ℕ → SemHand) → (ℕ → Type 0) → Type 0
     OnWord id me op does tells = (n : ℕ) (q : List Waiter) (marks grants : List ℕ) (sees : List SemPart) → Local sees id (sem_part sem me.0) (list_part list me.0) n q marks grants → total busy_of sees ≡ busy_weight (sem me.0.ext).stage
-        → (let m = found n marks grants in let x = word_after op m in let us = set sees id (with_hand (sem_part sem me.0) (does m)) in SemKept (word n x) q (ms marks x) (gs grants x) us × KeepsHandoff id n q marks grants sees (word n x) (gs grants x) us × tells m)
+        → (let m = found n marks grants in let x = word_after op m in let us = set sees id (with_hand (sem_part sem me.0) (does m)) in SemKept (word n x) q (ms marks x) (gs grants x) us × KeepsHandoff id n q marks grants sees (word n x) (ms marks x) (gs grants x) us × tells m)
 
     does-there : (slots id : ℕ) (me : M) (op : Op) (does : ℕ → SemHand) (tells : ℕ → Type 0) → SpinHolds me.0.spin → me.0.hand.task ≢ None → OnWord id me op does tells → Lets holds moves slots id me i op (λ n m'. tells n × Turns me (semmed with_sem me.0 me.0.hand (does n)) m')
     does-there slots id me op does tells has numbered step = word-goes slots id me op (λ n m'. tells n × Turns me (semmed with_sem me.0 me.0.hand (does n)) m') (λ n q marks grants sees w hs loc only r mine alones helds.
@@ -174,12 +174,12 @@ module _ {E Call : Type 0} (o : Obj Call) (unavailable : Unavailable) (size : �
     abbrev pub OnHold : (id : ℕ) (me : M) → Op → Held → (gets : ℕ → Bool) → (does : ℕ → SemHand) → (ℕ → Type 0) → Type 0
     OnHold id me op held gets does tells = (n : ℕ) (q : List Waiter) (marks grants : List ℕ) (sees : List SemPart) → Local sees id (sem_part sem me.0) (list_part list me.0) n q marks grants → (SpinHolds me.0.spin → total busy_of sees ≡ busy_weight (sem me.0.ext).stage)
         → (let m = found n marks grants in let x = word_after op m in let us = set sees id (record { task = me.0.hand.task; held = if gets m then held else No; sem = does m }) in (busy_weight (does m).stage ≤ holds_in me.0.spin) × SemKept (word n x) q (ms marks x) (gs grants x) us
-        × KeepsHandoff id n q marks grants sees (word n x) (gs grants x) us × (gets m ≡ true → (total alone_in (map part_of sees) ≡ 0) × (0 < alone_weight held → total shared_in (map part_of sees) ≡ 0)) × tells m)
+        × KeepsHandoff id n q marks grants sees (word n x) (ms marks x) (gs grants x) us × (gets m ≡ true → (total alone_in (map part_of sees) ≡ 0) × (0 < alone_weight held → total shared_in (map part_of sees) ≡ 0)) × tells m)
 
     holds-there : (slots id t : ℕ) (me : M) (op : Op) (held : Held) (gets : ℕ → Bool) (does : ℕ → SemHand) (tells : ℕ → Type 0) → me.0.hand.task ≡ Some t → me.0.hand.held ≡ No → held ≢ No → OnHold id me op held gets does tells → Lets holds moves slots id me i op (HoldsWhere with_sem o held gets does tells me)
     holds-there slots id t me op held gets does tells has out some_hold step = word-goes slots id me op (HoldsWhere with_sem o held gets does tells me) (λ n q marks grants sees w hs loc only r mine alones helds.
         let m : ℕ = found n marks grants in let x : ℕ = word_after op m in let v = me.0 in let s = step n q marks grants sees loc only in let numbered : v.hand.task ≢ None = λ e. none-some t (sym e ∙ has) in
-        let After : Held → Type 0 = λ z. (let us = set sees id (record { task = v.hand.task; held = z; sem = does m }) in SemKept (word n x) q (ms marks x) (gs grants x) us × KeepsHandoff id n q marks grants sees (word n x) (gs grants x) us) in
+        let After : Held → Type 0 = λ z. (let us = set sees id (record { task = v.hand.task; held = z; sem = does m }) in SemKept (word n x) q (ms marks x) (gs grants x) us × KeepsHandoff id n q marks grants sees (word n x) (ms marks x) (gs grants x) us) in
         let facts : After (if gets m then held else No) = (s.1, s.2) in false-or-true (gets m)
         (λ yes_it. let now : After held = subst (λ (z : Bool). After (if z then held else No)) yes_it facts in let known : List ℕ = take size w.guarded in let none_alone : total alone_of hs ≡ 0 = (let z = (s.3 yes_it).0 in omega (arith, alones, z)) in (
           took v.hand held known r.log,

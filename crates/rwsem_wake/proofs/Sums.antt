@@ -1,18 +1,13 @@
 -- Laws of sums and of the view at a stage.
-use Rattle.std.proofs.Common.{◌≡◌, ℕ, zero, suc, ◌+◌, ◌≤◌, List, [], ◌∷◌, set, sym, refl, ap, ◌∙◌, subst, arith}
+use Rattle.std.proofs.Common.{◌≡◌, ℕ, zero, suc, ◌≤◌, List, [], ◌∷◌, set, sym, refl, ap, ◌∙◌, subst, arith}
 use mathlib.Core.Option.{some, some-injective, some-ne-none}
 use lib.ListN.{get_elem?}
 use Rattle.lock_core.specs.Totals.{total, total-set, total-at}
 use Rattle.wait_list.specs.declared.view.Waiter.{Waiter}
 use Rattle.rwsem_wake.specs.declared.view.Stage.{Stage}
-use Rattle.rwsem_wake.specs.declared.view.Stage.TheVariants.{Rest, Armed, Joining, First, Marking, Took, Removed, Left, Emptied, Overdue, Marked, Removing, Summing, Counted, Granting}
+use Rattle.rwsem_wake.specs.declared.view.Stage.TheVariants.{Rest, Armed, Joining, First, Marking, Took, Removed, Emptied, Overdue, Marked, Removing, Summing, Counted, Granting}
 use Rattle.rwsem_wake.specs.SemParts.{SemPart, nobody, busy_of, busy_weight}
 use Rattle.rwsem_wake.specs.Semaphores.{pick, now, FlagsAt, FlagsOf, Quiet}
-
--- a sum of two weights
-pub total-both : {V : Type 0} (f g : V → ℕ) (vs : List V) → total (λ v. f v + g v) vs ≡ total f vs + total g vs
-total-both f g [] = refl
-total-both f g (v ∷ vs) = let e = total-both f g vs in omega arith
 
 pub total-least : {V : Type 0} (f g : V → ℕ) → ((v : V) → f v ≤ g v) → (vs : List V) → total f vs ≤ total g vs
 total-least f g less [] = omega arith
@@ -29,7 +24,6 @@ busy-most First = omega arith
 busy-most Marking = omega arith
 busy-most Took = omega arith
 busy-most Removed = omega arith
-busy-most Left = omega arith
 busy-most Emptied = omega arith
 busy-most (Overdue b) = omega arith
 busy-most (Marked b) = omega arith
@@ -46,7 +40,6 @@ rests First e = absurd (omega (arith, e))
 rests Marking e = absurd (omega (arith, e))
 rests Took e = absurd (omega (arith, e))
 rests Removed e = absurd (omega (arith, e))
-rests Left e = absurd (omega (arith, e))
 rests Emptied e = absurd (omega (arith, e))
 rests (Overdue b) e = absurd (omega (arith, e))
 rests (Marked b) e = absurd (omega (arith, e))

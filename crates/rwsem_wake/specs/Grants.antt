@@ -118,6 +118,10 @@ IsReserved s word = (s.bias ≡ Reserve word) × (s.stage ≡ Overdue (word / 4 
 abbrev pub HasReserved : SemHand → Type 0
 HasReserved s = (word : ℕ) × IsReserved s word
 
+-- the same, where the count had a writer
+abbrev pub HasFoundWriter : SemHand → Type 0
+HasFoundWriter s = (word : ℕ) × IsReserved s word × (word % 2 ≡ 1)
+
 -- it has marked the first waiter since, and HANDOFF was set before or not
 pub record HasMarked (s : SemHand) (handoff : Bool) : Type 0 where
   pub word : ℕ

@@ -1,11 +1,14 @@
--- How a task becomes a reader, and what a step may do while HANDOFF is set and the first waiter is marked.
-use Rattle.std.proofs.Common.{◌≡◌, ℕ, ◌+◌, ◌/◌, ◌%◌, ◌<◌, ◌⊎◌, List, Some}
+-- How a task becomes a reader, who asks for a handoff, and what a step may do while HANDOFF is set and the first waiter is marked.
+use Rattle.std.proofs.Common.{◌≡◌, ℕ, ◌+◌, ◌/◌, ◌%◌, ◌<◌, ◌≤◌, ◌⊎◌, Bool, List, length, get_or, Some}
 use mathlib.Core.Option.{some}
 use lib.ListN.{get_elem?}
 use Rattle.lock_core.specs.declared.view.Held.TheVariants.{Alone}
 use Rattle.lock_core.specs.Totals.{total}
 use Rattle.wait_list.specs.declared.view.Waiter.{Waiter}
-use Rattle.rwsem_count.specs.declared.view.Bias.TheVariants.{Transit}
+use Rattle.wait_list.specs.Lists.{first_code}
+use Rattle.rwsem_count.specs.declared.view.Bias.TheVariants.{Transit, Reserve}
+use Rattle.rwsem_wake.specs.declared.view.Wait.TheVariants.{Writes}
+use Rattle.rwsem_wake.specs.declared.view.Stage.TheVariants.{Marking, Overdue, Marked, Counted}
 use Rattle.rwsem_wake.specs.SemParts.{SemPart, named_weight, granting_weight, shared_of, granted_at, here, first_mark, reader_of, tasks}
 use Rattle.rwsem_wake.specs.Semaphores.{IsFirst}
 
@@ -31,8 +34,27 @@ IsOfBatch v q t = (0 < here t v.sem.rest) × (total reader_of q ≡ 0)
 abbrev pub ComesToRead : ℕ → List Waiter → List ℕ → List SemPart → List ℕ → List SemPart → Type 0
 ComesToRead id q grants vs grants' us = (t : ℕ) → total (reads_as grants t) vs ≡ 0 → 0 < total (reads_as grants' t) us → (v : SemPart) × (get_elem? vs id ≡ some v) × ((v.task ≡ Some t) ⊎ IsOfBatch v q t)
 
--- While HANDOFF is set and the first waiter is marked, the writer bit is set by that waiter alone, and a task becomes a reader only by a bias whose addition saw no HANDOFF, or by a downgrade. At any time it becomes one by itself, or in a batch that leaves no reader waiting.
-pub record KeepsHandoff (id n : ℕ) (q : List Waiter) (marks grants : List ℕ) (vs : List SemPart) (n' : ℕ) (grants' : List ℕ) (us : List SemPart) : Type 0 where
+-- from this part to that a pass may set HANDOFF: a waker that has marked the first waiter, or a writer of the list, which is to mark it next
+abbrev pub MaySetHandoff : SemPart → SemPart → Type 0
+MaySetHandoff v u = ((m : ℕ) × (b : Bool) × (v.sem.bias ≡ Reserve m) × (v.sem.stage ≡ Marked b)) ⊎ ((v.sem.wait ≡ Writes) × (u.sem.stage ≡ Marking))
+
+-- a pass may mark a waiter: a waker whose bias came under a writer, or a writer of the list that has set HANDOFF
+abbrev pub MayMark : SemPart → Type 0
+MayMark v = ((m : ℕ) × (b : Bool) × (v.sem.bias ≡ Reserve m) × (m % 2 ≡ 1) × (v.sem.stage ≡ Overdue b)) ⊎ ((v.sem.wait ≡ Writes) × (v.sem.stage ≡ Marking))
+
+-- HANDOFF stays as it is, and nobody is marked anew
+abbrev pub Unasked : (n : ℕ) → List ℕ → (n' : ℕ) → List ℕ → Type 0
+Unasked n marks n' marks' = (n' / 4 % 2 ≡ n / 4 % 2) × ((t : ℕ) → get_or marks' t 0 ≤ get_or marks t 0)
+
+-- HANDOFF is answered: a writer takes, a waker puts its batch into the count, or nobody waits
+abbrev pub AnswersHandoff : (id n : ℕ) → List Waiter → List SemPart → (n' : ℕ) → Type 0
+AnswersHandoff id n q vs n' = ((n % 2 ≡ 0) × (n' % 2 ≡ 1)) ⊎ ((v : SemPart) × (get_elem? vs id ≡ some v) × ((b : Bool) × (v.sem.stage ≡ Counted b))) ⊎ (length q ≡ 0)
+
+-- While HANDOFF is set and the first waiter is marked, the writer bit is set by that waiter alone, and a task becomes a reader only by a bias whose addition saw no HANDOFF, or by a downgrade. At any time it becomes one by itself, or in a batch that leaves no reader waiting. HANDOFF is set by a waker that has marked the first waiter, or by a writer of the list that marks it next, and stays until it is answered. A mark is set by one of these, and is the first waiter's.
+pub record KeepsHandoff (id n : ℕ) (q : List Waiter) (marks grants : List ℕ) (vs : List SemPart) (n' : ℕ) (marks' grants' : List ℕ) (us : List SemPart) : Type 0 where
   pub writer : n / 4 % 2 ≡ 1 → first_mark marks (tasks q) ≡ 1 → n % 2 ≡ 0 → n' % 2 ≡ 1 → (v : SemPart) × (get_elem? vs id ≡ some v) × IsFirst v.task q
   pub reader : n / 4 % 2 ≡ 1 → first_mark marks (tasks q) ≡ 1 → (t : ℕ) → total (reads_as grants t) vs ≡ 0 → 0 < total (reads_as grants' t) us → (v : SemPart) × (get_elem? vs id ≡ some v) × (v.task ≡ Some t) × MayRead v
   pub comes : ComesToRead id q grants vs grants' us
+  pub asks : n / 4 % 2 ≡ 0 → n' / 4 % 2 ≡ 1 → (v u : SemPart) × (get_elem? vs id ≡ some v) × (get_elem? us id ≡ some u) × MaySetHandoff v u
+  pub stays : n / 4 % 2 ≡ 1 → (n' / 4 % 2 ≡ 1) ⊎ AnswersHandoff id n q vs n'
+  pub marked : (t : ℕ) → get_or marks t 0 ≡ 0 → 0 < get_or marks' t 0 → (first_code q ≡ t + 1) × ((v : SemPart) × (get_elem? vs id ≡ some v) × MayMark v)

@@ -13,7 +13,7 @@ use Rattle.wait_list.specs.Lists.{Knows, first_code, list_part}
 use Rattle.rwsem_count.specs.declared.view.Bias.TheVariants.{Clear, Transit}
 use Rattle.rwsem_count.specs.WordSteps.{HasFlags, HasHandoff, IsLocked}
 use Rattle.rwsem_wake.specs.declared.view.SemHand.{SemHand}
-use Rattle.rwsem_wake.specs.declared.view.Wait.TheVariants.{Apart, Reads}
+use Rattle.rwsem_wake.specs.declared.view.Wait.TheVariants.{Apart, Reads, Writes}
 use Rattle.rwsem_wake.specs.declared.view.Stage.TheVariants.{Rest, Armed, Marking, Took, Summing}
 use Rattle.rwsem_wake.specs.Grants.{KnowsFirst, semmed}
 
@@ -71,6 +71,7 @@ pub record MayAsk {E : Type 0} (list : E → ListHand) (sem : E → SemHand) (v 
   pub knows : Knows (list_part list v)
   pub waiting : 1 ≤ length (list v.ext).list
   pub stage : (sem v.ext).stage ≡ Rest
+  pub writes : (sem v.ext).wait ≡ Writes
   pub unasked : HasHandoff old → ⊥
   pub is : new ≡ old + 4
 

@@ -11,7 +11,7 @@ use Rattle.rwsem_wake.specs.declared.view.Wait.TheVariants.{Apart, Reads, Writes
 use Rattle.rwsem_count.specs.declared.view.Bias.{Bias}
 use Rattle.rwsem_count.specs.declared.view.Bias.TheVariants.{Clear, Transit, Reserve}
 use Rattle.rwsem_wake.specs.declared.view.Stage.{Stage}
-use Rattle.rwsem_wake.specs.declared.view.Stage.TheVariants.{Rest, Armed, Joining, First, Marking, Took, Removed, Left, Emptied, Overdue, Marked, Removing, Summing, Counted, Granting}
+use Rattle.rwsem_wake.specs.declared.view.Stage.TheVariants.{Rest, Armed, Joining, First, Marking, Took, Removed, Emptied, Overdue, Marked, Removing, Summing, Counted, Granting}
 use Rattle.rwsem_wake.specs.declared.view.SemHand.{SemHand}
 use Rattle.rwsem_count.specs.Counts.{CountPart, shared_weight, early_weight, late_weight}
 
@@ -61,7 +61,6 @@ busy_weight First = 1
 busy_weight Marking = 1
 busy_weight Took = 1
 busy_weight Removed = 1
-busy_weight Left = 1
 busy_weight Emptied = 1
 busy_weight (Overdue b) = 1
 busy_weight (Marked b) = 1
@@ -79,7 +78,6 @@ granting_weight First n = 0
 granting_weight Marking n = 0
 granting_weight Took n = 0
 granting_weight Removed n = 0
-granting_weight Left n = 0
 granting_weight Emptied n = 0
 granting_weight (Overdue b) n = 0
 granting_weight (Marked b) n = 0

@@ -8,7 +8,7 @@ use Rattle.rwsem_count.specs.Counts.{CountKept}
 use Rattle.rwsem_count.specs.declared.view.Bias.TheVariants.{Clear}
 use Rattle.rwsem_wake.specs.declared.view.Wait.TheVariants.{Apart}
 use Rattle.rwsem_wake.specs.declared.view.Stage.{Stage}
-use Rattle.rwsem_wake.specs.declared.view.Stage.TheVariants.{Rest, Armed, Joining, First, Marking, Took, Removed, Left, Emptied, Overdue, Marked, Removing, Summing, Counted, Granting}
+use Rattle.rwsem_wake.specs.declared.view.Stage.TheVariants.{Rest, Armed, Joining, First, Marking, Took, Removed, Emptied, Overdue, Marked, Removing, Summing, Counted, Granting}
 use Rattle.rwsem_wake.specs.SemParts.{SemPart, nobody, part_of, shared_of, early_of, late_of, reads_of, reserve_of, busy_of, granting_of, granted_of, rest_of, reads_at, writes_at, rest_at, granted_at, reader_at, writer_at, reader_of, some_of, marks_sum, first_mark, tasks, own_mark}
 
 -- WAITERS is set exactly where somebody waits, and HANDOFF only there. The first waiter alone may be marked, and then HANDOFF is set.
@@ -36,7 +36,6 @@ FlagsAt First me rest w h q marks grants = Fresh w h q marks
 FlagsAt Marking me rest w h q marks grants = (w ≡ 1) × (h ≡ 1) × (marks_sum marks ≡ 0) × (1 ≤ length q)
 FlagsAt Took me rest w h q marks grants = (h ≡ 0) × (w ≤ 1) × (2 ≤ length q → w ≡ 1) × (length q ≤ 1 → w ≡ 0) × (marks_sum marks ≡ own_mark marks me) × (0 < marks_sum marks → IsFirst me q)
 FlagsAt Removed me rest w h q marks grants = (h ≡ 0) × (w ≡ some_of q) × (marks_sum marks ≡ own_mark marks me)
-FlagsAt Left me rest w h q marks grants = (w ≡ 1) × (marks_sum marks ≡ own_mark marks me)
 FlagsAt Emptied me rest w h q marks grants = (w ≡ 1) × (marks_sum marks ≡ 0) × (length q ≡ 0)
 FlagsAt (Overdue b) me rest w h q marks grants = Quiet w h q marks × (h ≡ bit b) × (1 ≤ length q)
 FlagsAt (Marked b) me rest w h q marks grants = (w ≡ 1) × (h ≡ bit b) × (marks_sum marks ≡ first_mark marks (tasks q)) × (marks_sum marks ≡ 1) × (1 ≤ length q)
@@ -66,7 +65,6 @@ batch_weight First = 0
 batch_weight Marking = 0
 batch_weight Took = 0
 batch_weight Removed = 0
-batch_weight Left = 0
 batch_weight Emptied = 0
 batch_weight (Overdue b) = 0
 batch_weight (Marked b) = 0

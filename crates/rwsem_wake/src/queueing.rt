@@ -8,6 +8,7 @@ ghost use Rattle.lock_core.specs.Records.{bit};
 ghost use Rattle.lock_core.specs.Views.{SpinHolds};
 ghost use Rattle.rwsem_count.specs.declared.view.Bias.TheVariants.{Clear, Transit};
 ghost use Rattle.rwsem_wake.specs.declared.view.Stage.TheVariants.{First, Joining, Marking, Removed, Emptied};
+ghost use Rattle.rwsem_wake.specs.declared.view.Wait.TheVariants.{Writes};
 ghost use Rattle.rwsem_wake.specs.Grants.{Did, KnowsFirst, TurnsTo, anything, sem_at, summing, unmarked, unreserved};
 ghost use Rattle.rwsem_wake.specs.Queues.{HoldsBy, HoldsWhere, MayAsk, MayHear, MayLook, MaySettle, MayTake, asked, heard, heard_locked, own_unmarked, rested, settled, taken};
 
@@ -153,6 +154,7 @@ pub fn mark_asked<H: GrantHost>(site: &Site<H>, pass: &mut Pass<H>, task: u32)
     requires numbered { IsSome (task_in pass.old) }
     requires held { SpinHolds (view_of pass.old).spin }
     requires asked { (sem_at H.sem (view_of pass.old)).stage ≡ Marking }
+    requires writes { (sem_at H.sem (view_of pass.old)).wait ≡ Writes }
     requires clear { (sem_at H.sem (view_of pass.old)).bias ≡ Clear }
     requires first { KnowsFirst H.list (view_of pass.old) task }
     requires task { task < MAX_TASKS }

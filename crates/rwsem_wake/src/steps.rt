@@ -10,7 +10,7 @@ ghost use Rattle.lock_core.specs.Views.{SpinHolds};
 ghost use Rattle.wait_list.specs.Lists.{Knows, hand_at, list_part};
 ghost use Rattle.rwsem_count.specs.declared.view.Bias.TheVariants.{Clear};
 ghost use Rattle.rwsem_wake.specs.declared.view.Stage.TheVariants.{Granting, Removing, Summing};
-ghost use Rattle.rwsem_wake.specs.Grants.{Did, HasMarked, HasReserved, IsNext, KeepsOut, KnowsFirst, LeavesNoReader, MayArm, MayReserve, MaySum, TurnsTo, anything, armed, counted, granted, looked, marked, reserved, sem_at, summing, unmarked, unreserved};
+ghost use Rattle.rwsem_wake.specs.Grants.{Did, HasFoundWriter, HasMarked, HasReserved, IsNext, KeepsOut, KnowsFirst, LeavesNoReader, MayArm, MayReserve, MaySum, TurnsTo, anything, armed, counted, granted, looked, marked, reserved, sem_at, summing, unmarked, unreserved};
 
 use crate::host::GrantHost;
 use atomic_table::Play;
@@ -129,7 +129,7 @@ pub fn mark_first<H: GrantHost>(site: &Site<H>, pass: &mut Pass<H>, task: u32)
     requires own { SitsAt site.now pass.old }
     requires numbered { IsSome (task_in pass.old) }
     requires held { SpinHolds (view_of pass.old).spin }
-    requires reserved { HasReserved (sem_at H.sem (view_of pass.old)) }
+    requires written { HasFoundWriter (sem_at H.sem (view_of pass.old)) }
     requires first { KnowsFirst H.list (view_of pass.old) task }
     requires task { task < MAX_TASKS }
     ensures own { SitsAt site.now pass.new }

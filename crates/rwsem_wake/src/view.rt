@@ -28,9 +28,7 @@ pub enum Stage {
     Took,
     /// It took and has left the list. Its own mark may be set.
     Removed,
-    /// A waiter was interrupted, and has left the list as its first. Its own mark may be set.
-    Left,
-    /// It left the list empty, and WAITERS is still set.
+    /// A waiter was interrupted and has left the list empty. WAITERS is still set.
     Emptied,
     /// A waker has reserved its bias. Whether the addition saw HANDOFF.
     Overdue(bool),

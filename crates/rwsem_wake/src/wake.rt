@@ -1,5 +1,5 @@
 //! The parts of a wake that are steps on the count, the marks and the grant words.
-ghost use Rattle.std.specs.Prelude.{◌≡◌, ◌<◌, ◌≤◌, ◌+◌, IsSome, List, [], ◌∷◌, length, slice_index, ℕ};
+ghost use Rattle.std.specs.Prelude.{◌≡◌, ◌<◌, ◌≤◌, ◌+◌, ◌%◌, IsSome, List, [], ◌∷◌, length, slice_index, ℕ};
 ghost use Rattle.lock_core.specs.Handles.{IsLatest, view_of, task_in, SitsAt, KeepsPast, SaysSame};
 ghost use Rattle.lock_core.specs.Records.{bit};
 ghost use Rattle.lock_core.specs.Views.{SpinHolds};
@@ -28,6 +28,7 @@ pub fn back_out<H: GrantHost>(
     requires numbered { IsSome (task_in pass.old) }
     requires held { SpinHolds (view_of pass.old).spin }
     requires reserved { IsReserved (sem_at H.sem (view_of pass.old)) seen }
+    requires written { seen % 2 ≡ 1 }
     requires first { KnowsFirst H.list (view_of pass.old) first }
     requires task { first < MAX_TASKS }
     ensures own { SitsAt site.now pass.new }

@@ -4,3 +4,4 @@ pub mod Appending
 pub mod Removing
 pub mod Parting
 pub mod Finding
+pub mod Joining

@@ -3,8 +3,9 @@ ghost use Rattle.std.specs.Prelude.{◌≡◌, ◌+◌, ◌<◌, None, Some, IsS
 ghost use Rattle.lock_core.specs.Sites.{sent_place};
 ghost use Rattle.lock_core.specs.Pasts.{FoundAt};
 ghost use Rattle.lock_core.specs.Plays.{Heeded};
-ghost use Rattle.lock_core.specs.Views.{handed, sending};
+ghost use Rattle.lock_core.specs.Views.{consuming, handed, sending};
 ghost use Rattle.lock_core.specs.Passes.{Hears, HearsOf, Consumes};
+ghost use Rattle.lock_core.specs.Signals.{HearsOfSome, HasHeard};
 ghost use Rattle.lock_core.specs.Handles.{view_of, hand_in, past_of, task_in, SitsAt, IsOneOf, KeepsSeat, KeepsPast, SaysSame, IsLatest, IsNextSignal, SawOwnSignals, SawNonePending};
 
 use super::Site;
@@ -58,19 +59,54 @@ impl<R: SiteRule> Site<R> {
         ensures saw { IfSome result (λ why. SawOwnSignals why pass.old pass.new) }
         ensures none { IfNone result (SawNonePending pass.old pass.new) }
     {
+        let why = self.pending(pass)?;
+        self.consume_pending(pass, why);
+        Some(why)
+    }
+
+    /// Whether more signals were sent to the pass's task than it has consumed: both numbers, and
+    /// `None` where no more were sent. It consumes none. The kernel's `signal_pending_state`.
+    pub fn pending(&self, pass: &mut Pass<R>) -> Option<Interrupted>
+        requires own { SitsAt self.now pass.old }
+        requires numbered { IsSome (task_in pass.old) }
+        ensures own { SitsAt self.now pass.new }
+        ensures goes_on { KeepsPast pass.old pass.new }
+        ensures last { IsLatest pass.new }
+        ensures face { SaysSame pass.old pass.new }
+        ensures heard { IfSome result (λ why.
+            HearsOfSome why (view_of pass.old) (view_of pass.new)) }
+        ensures saw { IfSome result (λ why. SawOwnSignals why pass.old pass.new) }
+        ensures none { IfNone result (SawNonePending pass.old pass.new) }
+    {
         let Some(task) = pass.face.task else {
             return None;
         };
-        let consumed = LINES_AT + (8 * task as usize + 2);
-        // The number of signals that were sent only rises, and no other pass consumes for this
-        // task: what is pending at the first load still is at the store.
         let sent = self.load_sent(pass, task);
-        let taken = self.find::<Taken>(pass, consumed);
+        let taken = self.find::<Taken>(pass, LINES_AT + (8 * task as usize + 2));
         if sent <= taken {
             return None;
         }
-        self.put::<Brand>(pass, consumed, taken + 1);
         Some(Interrupted { sent, taken })
+    }
+
+    /// Consumes a signal that the pass has heard of, and not consumed since.
+    pub fn consume_pending(&self, pass: &mut Pass<R>, why: Interrupted)
+        requires own { SitsAt self.now pass.old }
+        requires numbered { IsSome (task_in pass.old) }
+        requires heard { HasHeard why (hand_in pass.old) }
+        ensures own { SitsAt self.now pass.new }
+        ensures goes_on { KeepsPast pass.old pass.new }
+        ensures last { IsLatest pass.new }
+        ensures face { SaysSame pass.old pass.new }
+        ensures kept { view_of pass.new ≡
+            handed (view_of pass.old) (consuming (hand_in pass.old)) }
+    {
+        let Some(task) = pass.face.task else {
+            unreachable!()
+        };
+        // The number of signals that were sent only rises, and no other pass consumes for this
+        // task: what was pending as the pass looked still is at this store.
+        self.put::<Brand>(pass, LINES_AT + (8 * task as usize + 2), why.taken + 1);
     }
 
     /// Loads how many signals were sent to the pass's task.

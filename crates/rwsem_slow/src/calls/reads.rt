@@ -1,16 +1,17 @@
 //! The calls that take a semaphore shared.
-ghost use Rattle.std.specs.Prelude.{◌≡◌, true, IsSome};
+ghost use Rattle.std.specs.Prelude.{◌≡◌, true, false, IfErr, IfOk, IsSome};
 ghost use Rattle.lock_core.specs.declared.view.Held.TheVariants.{No};
 ghost use Rattle.lock_core.specs.Kinds.{semaphore};
-ghost use Rattle.lock_core.specs.Locking.{Got, KeepsPlace, Looks};
+ghost use Rattle.lock_core.specs.Locking.{Got, Interrupts, KeepsPlace};
 ghost use Rattle.lock_core.specs.Shown.{PastGoesOn};
+ghost use Rattle.rwsem_slow.specs.RwSems.{count_at};
 ghost use Rattle.rwsem_slow.specs.Handles.{shown_of, hand_in, SitsAt, TakesShared};
 
 use super::{RwPass, RwSem};
-use crate::hint::{reader_hint, set_hint};
+use crate::hint::note_reader;
 use crate::stealing::read_slowly;
 use cpu_task::Crew;
-use lock_core::How;
+use lock_core::{How, Interrupted};
 use rwsem_count::steps;
 use std::sync::Wait;
 use word_bits::Object;
@@ -31,51 +32,81 @@ impl<O: Object> RwSem<O> {
         ensures goes_on { PastGoesOn (shown_of pass.old) (shown_of pass.new) }
         ensures took { TakesShared O.object self.now pass.old pass.new }
         ensures how { Got result (shown_of pass.old) (shown_of pass.new) }
-        ensures line { KeepsPlace semaphore true (shown_of pass.old) (shown_of pass.new) }
+        ensures line { KeepsPlace semaphore true count_at (shown_of pass.old) (shown_of pass.new) }
     {
-        let how = self.take_shared(rt, pass, cpu, crew);
-        match how {
-            How::Fast | How::Spun => self.note_reader(pass),
-            // The waker has stored it for the first of its batch, and may have let others in since.
-            How::Slept => {}
+        match self.read_common(rt, pass, cpu, crew, false) {
+            Ok(how) => how,
+            Err(_) => unreachable!(),
         }
-        how
     }
 
-    /// Takes it by one addition, at once or beside waiters, or by way of the wait lock.
-    fn take_shared<W: Wait, C: Crew>(
+    /// As `down_read`, until a signal interrupts it: the pass then holds nothing, waits in no list,
+    /// and has consumed one signal. A reader that is granted first holds, and its signal stays. The
+    /// kernel's `down_read_interruptible`.
+    pub fn down_read_interruptible<W: Wait, C: Crew>(
         &self,
         rt: &W,
         pass: &mut RwPass<O>,
         cpu: &mut C::C,
         crew: &C,
-    ) -> How
+    ) -> Result<How, Interrupted>
         requires own { SitsAt self.now pass.old }
         requires numbered { IsSome (hand_in pass.old).task }
         requires out { (hand_in pass.old).held ≡ No }
         ensures own { SitsAt self.now pass.new }
         ensures goes_on { PastGoesOn (shown_of pass.old) (shown_of pass.new) }
-        ensures took { TakesShared O.object self.now pass.old pass.new }
-        ensures how { Got result (shown_of pass.old) (shown_of pass.new) }
-        ensures line { KeepsPlace semaphore true (shown_of pass.old) (shown_of pass.new) }
+        ensures took { IfOk result (λ _. TakesShared O.object self.now pass.old pass.new) }
+        ensures how { IfOk result (λ how. Got how (shown_of pass.old) (shown_of pass.new)) }
+        ensures line { IfOk result (λ _. KeepsPlace semaphore true count_at
+            (shown_of pass.old) (shown_of pass.new)) }
+        ensures interrupted { IfErr result (λ why. Interrupts semaphore true count_at why
+            (shown_of pass.old) (shown_of pass.new)) }
+        ensures stood { IfErr result (λ _. KeepsPlace semaphore false count_at
+            (shown_of pass.old) (shown_of pass.new)) }
     {
-        let Err(left) = steps::read_add(&self.site, &mut pass.pass) else {
-            return How::Fast;
-        };
-        read_slowly(&self.site, rt, &mut pass.pass, cpu, crew, left)
+        self.read_common(rt, pass, cpu, crew, true)
     }
 
-    /// Stores the hint that readers have it, of which the pass's task is one.
-    fn note_reader(&self, pass: &mut RwPass<O>)
+    /// Waits until the pass holds shared, or, where it is interruptible, until a signal interrupts
+    /// it. It takes it by one addition, at once or beside waiters, or by way of the wait lock. The
+    /// kernel's `__down_read_common`.
+    fn read_common<W: Wait, C: Crew>(
+        &self,
+        rt: &W,
+        pass: &mut RwPass<O>,
+        cpu: &mut C::C,
+        crew: &C,
+        interruptible: bool,
+    ) -> Result<How, Interrupted>
         requires own { SitsAt self.now pass.old }
         requires numbered { IsSome (hand_in pass.old).task }
+        requires out { (hand_in pass.old).held ≡ No }
         ensures own { SitsAt self.now pass.new }
         ensures goes_on { PastGoesOn (shown_of pass.old) (shown_of pass.new) }
-        ensures kept { Looks (shown_of pass.old) (shown_of pass.new) }
+        ensures took { IfOk result (λ _. TakesShared O.object self.now pass.old pass.new) }
+        ensures how { IfOk result (λ how. Got how (shown_of pass.old) (shown_of pass.new)) }
+        ensures line { IfOk result (λ _. KeepsPlace semaphore true count_at
+            (shown_of pass.old) (shown_of pass.new)) }
+        ensures interrupted { IfErr result (λ why. Interrupts semaphore true count_at why
+            (shown_of pass.old) (shown_of pass.new)) }
+        ensures stood { IfErr result (λ _. KeepsPlace semaphore false count_at
+            (shown_of pass.old) (shown_of pass.new)) }
+        ensures asked { IfErr result (λ _. interruptible ≡ true) }
     {
-        let Some(me) = pass.pass.task() else {
-            unreachable!()
-        };
-        set_hint(&self.site, &mut pass.pass, reader_hint(me));
+        match steps::read_add(&self.site, &mut pass.pass) {
+            Ok(()) => {
+                note_reader(&self.site, &mut pass.pass);
+                Ok(How::Fast)
+            }
+            Err(left) => read_slowly(
+                &self.site,
+                rt,
+                &mut pass.pass,
+                cpu,
+                crew,
+                left,
+                interruptible,
+            ),
+        }
     }
 }

@@ -1,6 +1,6 @@
 //! The releases of a semaphore, and downgrades.
 ghost use Rattle.std.specs.Prelude.{◌≡◌, false};
-ghost use Rattle.lock_core.specs.declared.view.Held.TheVariants.{Shared, Alone};
+ghost use Rattle.lock_core.specs.declared.view.Held.TheVariants.{No, Shared, Alone};
 ghost use Rattle.lock_core.specs.Kinds.{semaphore, wakes_alone, wakes_down, wakes_shared};
 ghost use Rattle.lock_core.specs.Locking.{Downgrades, Releases};
 ghost use Rattle.lock_core.specs.Shown.{PastGoesOn};
@@ -23,7 +23,7 @@ impl<O: Object> RwSem<O> {
         ensures goes_on { PastGoesOn (shown_of pass.old) (shown_of pass.new) }
         ensures released { Releases (wakes_shared semaphore)
             (shown_of pass.old) (shown_of pass.new) }
-        ensures left { LeavesCount (wakes_shared semaphore) 256 0
+        ensures left { LeavesCount (wakes_shared semaphore) No 256 0
             (shown_of pass.old) (shown_of pass.new) }
     {
         releasing::up_read(&self.site, rt, &mut pass.pass, crew);
@@ -39,7 +39,7 @@ impl<O: Object> RwSem<O> {
         ensures goes_on { PastGoesOn (shown_of pass.old) (shown_of pass.new) }
         ensures released { Releases (wakes_alone semaphore)
             (shown_of pass.old) (shown_of pass.new) }
-        ensures left { LeavesCount (wakes_alone semaphore) 1 0
+        ensures left { LeavesCount (wakes_alone semaphore) No 1 0
             (shown_of pass.old) (shown_of pass.new) }
     {
         releasing::up_write(&self.site, rt, &mut pass.pass, crew);
@@ -54,7 +54,7 @@ impl<O: Object> RwSem<O> {
         ensures own { SitsAt self.now pass.new }
         ensures goes_on { PastGoesOn (shown_of pass.old) (shown_of pass.new) }
         ensures downgraded { Downgrades semaphore (shown_of pass.old) (shown_of pass.new) }
-        ensures left { LeavesCount (wakes_down semaphore) 0 255
+        ensures left { LeavesCount (wakes_down semaphore) Shared 0 255
             (shown_of pass.old) (shown_of pass.new) }
     {
         releasing::downgrade_write(&self.site, rt, &mut pass.pass, crew);

@@ -1,18 +1,19 @@
 //! The calls that take a semaphore alone.
-ghost use Rattle.std.specs.Prelude.{◌≡◌, ◌+◌, Bool, true, false, IsSome};
+ghost use Rattle.std.specs.Prelude.{◌≡◌, ◌+◌, Bool, true, false, IfErr, IfOk, IsSome};
 ghost use Rattle.lock_core.specs.declared.view.Held.TheVariants.{No};
 ghost use Rattle.lock_core.specs.Kinds.{semaphore};
-ghost use Rattle.lock_core.specs.Locking.{Got, KeepsPlace, Looks};
+ghost use Rattle.lock_core.specs.Locking.{Got, Interrupts, KeepsPlace, Looks, OnlyTried};
 ghost use Rattle.lock_core.specs.Shown.{PastGoesOn};
+ghost use Rattle.rwsem_slow.specs.RwSems.{count_at};
 ghost use Rattle.rwsem_slow.specs.Handles.{shown_of, hand_in, KeepsFronts, KeepsMisses, SitsAt, TakesAlone};
-ghost use Rattle.rwsem_slow.specs.Spinning.{OnlyTried};
+ghost use Rattle.rwsem_slow.specs.Spinning.{SawIfTried};
 
 use super::{RwPass, RwSem};
 use crate::hint::{is_reader_owned, set_hint, writer_hint};
 use crate::spinning;
 use crate::write_path::write_in_line;
 use cpu_task::{Cpu, Crew};
-use lock_core::How;
+use lock_core::{How, Interrupted};
 use rwsem_count::steps;
 use std::sync::Wait;
 use word_bits::Object;
@@ -33,12 +34,69 @@ impl<O: Object> RwSem<O> {
         ensures goes_on { PastGoesOn (shown_of pass.old) (shown_of pass.new) }
         ensures took { TakesAlone O.object self.now pass.old pass.new }
         ensures how { Got result (shown_of pass.old) (shown_of pass.new) }
-        ensures line { (shared : Bool) → KeepsPlace semaphore shared
+        ensures line { (shared : Bool) → KeepsPlace semaphore shared count_at
             (shown_of pass.old) (shown_of pass.new) }
     {
-        let how = self.take_alone(rt, pass, cpu, crew);
-        self.note_writer(pass);
-        how
+        match self.write_common(rt, pass, cpu, crew, false) {
+            Ok(how) => how,
+            Err(_) => unreachable!(),
+        }
+    }
+
+    /// As `down_write`, until a signal interrupts it: the pass then holds nothing, waits in no
+    /// list, and has consumed one signal. As the kernel's `down_write_killable`, for any signal.
+    pub fn down_write_interruptible<W: Wait, C: Crew>(
+        &self,
+        rt: &W,
+        pass: &mut RwPass<O>,
+        cpu: &mut C::C,
+        crew: &C,
+    ) -> Result<How, Interrupted>
+        requires own { SitsAt self.now pass.old }
+        requires numbered { IsSome (hand_in pass.old).task }
+        requires out { (hand_in pass.old).held ≡ No }
+        ensures own { SitsAt self.now pass.new }
+        ensures goes_on { PastGoesOn (shown_of pass.old) (shown_of pass.new) }
+        ensures took { IfOk result (λ _. TakesAlone O.object self.now pass.old pass.new) }
+        ensures how { IfOk result (λ how. Got how (shown_of pass.old) (shown_of pass.new)) }
+        ensures interrupted { IfErr result (λ why. Interrupts semaphore false count_at why
+            (shown_of pass.old) (shown_of pass.new)) }
+        ensures line { (shared : Bool) → KeepsPlace semaphore shared count_at
+            (shown_of pass.old) (shown_of pass.new) }
+    {
+        self.write_common(rt, pass, cpu, crew, true)
+    }
+
+    /// Waits until the pass holds alone, or, where it is interruptible, until a signal interrupts
+    /// it. The kernel's `__down_write_common`.
+    fn write_common<W: Wait, C: Crew>(
+        &self,
+        rt: &W,
+        pass: &mut RwPass<O>,
+        cpu: &mut C::C,
+        crew: &C,
+        interruptible: bool,
+    ) -> Result<How, Interrupted>
+        requires own { SitsAt self.now pass.old }
+        requires numbered { IsSome (hand_in pass.old).task }
+        requires out { (hand_in pass.old).held ≡ No }
+        ensures own { SitsAt self.now pass.new }
+        ensures goes_on { PastGoesOn (shown_of pass.old) (shown_of pass.new) }
+        ensures took { IfOk result (λ _. TakesAlone O.object self.now pass.old pass.new) }
+        ensures how { IfOk result (λ how. Got how (shown_of pass.old) (shown_of pass.new)) }
+        ensures interrupted { IfErr result (λ why. Interrupts semaphore false count_at why
+            (shown_of pass.old) (shown_of pass.new)) }
+        ensures asked { IfErr result (λ _. interruptible ≡ true) }
+        ensures line { (shared : Bool) → KeepsPlace semaphore shared count_at
+            (shown_of pass.old) (shown_of pass.new) }
+    {
+        match self.take_alone(rt, pass, cpu, crew, interruptible) {
+            Ok(how) => {
+                self.note_writer(pass);
+                Ok(how)
+            }
+            Err(why) => Err(why),
+        }
     }
 
     /// Spins in the queue of those that do, and as its front until a try takes, readers hold by the
@@ -56,6 +114,7 @@ impl<O: Object> RwSem<O> {
         ensures front { result ≡ true →
             ((shown_of pass.new).fronts ≡ (shown_of pass.old).fronts + 1) }
         ensures missed { result ≡ false → OnlyTried (shown_of pass.old) (shown_of pass.new) }
+        ensures saw { result ≡ false → SawIfTried (shown_of pass.old) (shown_of pass.new) }
         ensures out { result ≡ false → (hand_in pass.new).held ≡ No }
         ensures stood { result ≡ false → KeepsFronts pass.old pass.new →
             KeepsMisses pass.old pass.new }
@@ -82,25 +141,28 @@ impl<O: Object> RwSem<O> {
         pass: &mut RwPass<O>,
         cpu: &mut C::C,
         crew: &C,
-    ) -> How
+        interruptible: bool,
+    ) -> Result<How, Interrupted>
         requires own { SitsAt self.now pass.old }
         requires numbered { IsSome (hand_in pass.old).task }
         requires out { (hand_in pass.old).held ≡ No }
         ensures own { SitsAt self.now pass.new }
         ensures goes_on { PastGoesOn (shown_of pass.old) (shown_of pass.new) }
-        ensures took { TakesAlone O.object self.now pass.old pass.new }
-        ensures how { Got result (shown_of pass.old) (shown_of pass.new) }
-        ensures line { (shared : Bool) → KeepsPlace semaphore shared
+        ensures took { IfOk result (λ _. TakesAlone O.object self.now pass.old pass.new) }
+        ensures how { IfOk result (λ how. Got how (shown_of pass.old) (shown_of pass.new)) }
+        ensures interrupted { IfErr result (λ why. Interrupts semaphore false count_at why
+            (shown_of pass.old) (shown_of pass.new)) }
+        ensures asked { IfErr result (λ _. interruptible ≡ true) }
+        ensures line { (shared : Bool) → KeepsPlace semaphore shared count_at
             (shown_of pass.old) (shown_of pass.new) }
     {
         let Err(_) = steps::write_try(&self.site, &mut pass.pass) else {
-            return How::Fast;
+            return Ok(How::Fast);
         };
         if self.spin(rt, pass, cpu) {
-            return How::Spun;
+            return Ok(How::Spun);
         }
-        write_in_line(&self.site, rt, &mut pass.pass, cpu, crew);
-        How::Slept
+        write_in_line(&self.site, rt, &mut pass.pass, cpu, crew, interruptible)
     }
 
     /// Stores the hint that the pass's task writes.

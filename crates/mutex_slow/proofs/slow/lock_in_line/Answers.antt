@@ -2,7 +2,7 @@ use Rattle.std.proofs.Common.{arith, ap, ◌∙◌, ◌+◌, ℕ, rules}
 use Rattle.lock_core.specs.declared.view.Hand.{Hand}
 use Rattle.mutex_slow.specs.declared.view.MutexHand.{MutexHand}
 use Rattle.mutex_slow.specs.Places.{seen_of}
-use Rattle.mutex_slow.proofs.Showing.{pending-within, sees-within}
+use Rattle.lock_core.proofs.Within.{pending-within, sees-within}
 use Rattle.mutex_slow.proofs.slow.lock_in_line.Goals as goal
 
 pub returns-clause-interrupted : goal.returns-clause-interrupted

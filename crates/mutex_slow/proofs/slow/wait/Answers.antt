@@ -1,7 +1,7 @@
 use Rattle.std.proofs.Common.{arith, ap, ◌∙◌}
 use Rattle.lock_core.specs.declared.view.Hand.{Hand}
 use Rattle.mutex_slow.specs.Places.{seen_of}
-use Rattle.mutex_slow.proofs.Showing.{pending-within}
+use Rattle.lock_core.proofs.Within.{pending-within}
 use Rattle.mutex_slow.proofs.slow.wait.Goals as goal
 
 pub returns-in-Some-interrupted-clause-pending : goal.returns-in-Some-interrupted-clause-pending

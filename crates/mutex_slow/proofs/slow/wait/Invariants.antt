@@ -1,7 +1,8 @@
 use Rattle.std.proofs.Common.{◌≡◌, ◌≤◌, IsSome}
 use Rattle.lock_core.specs.declared.view.Held.TheVariants.{No}
 use Rattle.lock_core.specs.Views.{SpinHolds}
-use Rattle.mutex_slow.specs.Places.{StepsOn, IsInLine, OnlyHeard}
+use Rattle.lock_core.specs.Signals.{OnlyHeard}
+use Rattle.mutex_slow.specs.Places.{StepsOn, IsInLine}
 use Rattle.mutex_slow.proofs.slow.wait.Given as goal
 
 abbrev pub invariant-loop : goal.invariant-loop

@@ -1,9 +1,9 @@
 use Rattle.std.proofs.Common.{◌≡◌, IsSome}
 use Rattle.lock_core.specs.declared.view.Held.TheVariants.{No}
 use Rattle.rwsem_slow.specs.Places.{StepsOn}
-use Rattle.rwsem_slow.specs.Queued.{Stays}
+use Rattle.rwsem_slow.specs.Queued.{Listens}
 use Rattle.rwsem_slow.proofs.read_path.wait.Given as goal
 
 abbrev pub invariant-loop : goal.invariant-loop
 invariant-loop g l = (goal.iterator-loop g).can_next l.iterator' × (goal.iterator-loop g).is_finite l.iterator'
-    × StepsOn l.site l.fn.pass l.pass × IsSome l.pass.face.task × (l.pass.face.held ≡ No) × Stays l.fn.pass.seat.me.0.view l.pass.seat.me.0.view
+    × StepsOn l.site l.fn.pass l.pass × IsSome l.pass.face.task × (l.pass.face.held ≡ No) × Listens l.fn.pass.seat.me.0.view l.pass.seat.me.0.view

@@ -1,5 +1,5 @@
 use Rattle.std.proofs.Common.{◌∙◌, sym}
-use Rattle.rwsem_slow.proofs.Sitting.{its-number}
+use Rattle.lock_core.proofs.Sitting.{its-number}
 use Rattle.rwsem_slow.proofs.reading.hear.Goals as goal
 
 pub hear-requires-clause-task : goal.hear-requires-clause-task

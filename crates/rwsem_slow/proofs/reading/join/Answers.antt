@@ -1,6 +1,6 @@
 use Rattle.std.proofs.Common.{◌∙◌, false, refl, sym}
 use Rattle.rwsem_slow.proofs.ReaderSteps.{joins-bias, joins-reader}
-use Rattle.rwsem_slow.proofs.Sitting.{its-number}
+use Rattle.lock_core.proofs.Sitting.{its-number}
 use Rattle.rwsem_slow.proofs.reading.join.Goals as goal
 
 pub arm-requires-clause-task : goal.arm-requires-clause-task

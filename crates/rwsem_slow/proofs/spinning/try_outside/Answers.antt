@@ -1,7 +1,18 @@
-use Rattle.std.proofs.Common.{ap, arith}
+use Rattle.std.proofs.Common.{◌∙◌, false, sym, ap, arith}
+use Rattle.lock_core.specs.Shown.{shown}
+use Rattle.lock_core.proofs.Within.{sees-fronts}
+use Rattle.rwsem_slow.specs.Places.{line_of}
 use Rattle.rwsem_slow.specs.RwSems.{V}
+use Rattle.rwsem_slow.proofs.Showing.{misses-by}
 use Rattle.rwsem_slow.proofs.Unqueued.{misses-tried}
 use Rattle.rwsem_slow.proofs.spinning.try_outside.Goals as goal
 
 pub returns-in-Err-clause-missed : goal.returns-in-Err-clause-missed
 returns-in-Err-clause-missed g c = λ is. misses-tried c.args.pass.now.seat.me.0.view.fronts c.try_unqueued.new.pass.seat.me.0.view.fronts c.args.pass.now.seat.me.0.view c.try_unqueued.new.pass.seat.me.0.view c.args.pass.now.seat.me.0.past c.try_unqueued.new.pass.seat.me.0.past c.in-Err.field-0 (let e = ap (λ (z : V). z.fronts) c.in-Err.ensures.missed.2 in omega (arith, e)) c.in-Err.ensures.missed
+
+pub returns-in-Err-clause-saw : goal.returns-in-Err-clause-saw
+returns-in-Err-clause-saw g c = λ is. let v = c.args.pass.now.seat.me.0 in let u = c.try_unqueued.new.pass.seat.me.0 in let missed = c.in-Err.ensures.missed in (
+  c.in-Err.field-0,
+  sees-fronts (shown line_of v.view.fronts v.view v.past) (shown line_of v.view.fronts u.view u.past) v.view.fronts u.view.fronts
+      (misses-by v.view.fronts v.view u.view v.past u.past (sym c.requires.own.held ∙ c.requires.out) c.try_unqueued.ensures.last c.try_unqueued.ensures.goes_on false c.in-Err.field-0 missed.0 missed.1 missed.2 c.in-Err.ensures.found c.in-Err.ensures.shut).sees,
+)

@@ -1,5 +1,5 @@
 use Rattle.std.proofs.Common.{◌∙◌}
-use Rattle.rwsem_slow.proofs.Unqueued.{unqueued-again}
+use Rattle.rwsem_slow.proofs.Unqueued.{shut-count, unqueued-again}
 use Rattle.rwsem_slow.proofs.spinning.try_unqueued.Goals as goal
 
 pub loop-preserved : goal.loop-preserved
@@ -11,4 +11,8 @@ loop-preserved g c = let on = c.if-found-word.false in (
   (λ p t. c.take-found.ensures.goes_on p (c.loop.invariant.4 p t)),
   c.take-found.ensures.last,
   unqueued-again c.args.pass.now.seat.me.0.view c.loop.pass.seat.me.0.view c.take-found.new.pass.seat.me.0.view c.loop.word c.take-found.result c.loop.invariant.6 (c.is_unlocked.ensures.0 c.if-not-is_unlocked.false) (c.take-found.ensures.saw on),
+  c.take-found.ensures.found,
 )
+
+pub returns-then-not-is_unlocked-clause-shut : goal.returns-then-not-is_unlocked-clause-shut
+returns-then-not-is_unlocked-clause-shut g c = shut-count c.loop.word c.is_unlocked.result c.is_unlocked.ensures c.if-not-is_unlocked.true c.loop.invariant.6.lawful

@@ -1,6 +1,7 @@
-use Rattle.std.proofs.Common.{◌≤◌, true, false, ap, arith}
+use Rattle.std.proofs.Common.{◌∙◌, ◌≤◌, true, false, ap, arith}
+use Rattle.lock_core.specs.Records.{bit}
 use Rattle.rwsem_slow.specs.RwSems.{V}
-use Rattle.rwsem_slow.proofs.Granting.{first-waits, saw-writer}
+use Rattle.rwsem_slow.proofs.Granting.{first-waits, or-false, saw-writer}
 use Rattle.rwsem_slow.proofs.waking.grant_unless_written.Goals as goal
 
 pub reserve-seen-requires-clause-may : goal.reserve-seen-requires-clause-may
@@ -13,3 +14,7 @@ returns-then-seen-eq1-clause-saw g c = let e = c.reserve-seen.ensures in let ste
 pub returns-clause-saw : goal.returns-clause-saw
 returns-clause-saw g c = let e = c.reserve-seen.ensures in let steps = ap (λ (z : V). z.steps) e.kept in let hint = ap (λ (z : V). z.steps) c.set_hint.ensures.kept in let granted = c.grant.ensures.granted.beside.later in let more : c.reserve-seen.new.pass.seat.me.0.view.steps ≤ c.grant.new.pass.seat.me.0.view.steps = omega (arith, hint, granted) in
     saw-writer false c.reserve-seen.result c.args.pass.now.seat.me.0.view c.reserve-seen.new.pass.seat.me.0.view c.grant.new.pass.seat.me.0.view c.args.pass.now.seat.me.0.past c.reserve-seen.new.pass.seat.me.0.past c.grant.new.pass.seat.me.0.past (omega arith) (ap (λ (z : V). z.hand.task) e.kept) (omega (arith, steps)) (omega (arith, more)) e.last e.found e.goes_on (λ p t. c.grant.ensures.goes_on p (c.set_hint.ensures.goes_on p t))
+
+-- the answer alone decides whether it marks
+pub returns-then-seen-eq1-clause-steps : goal.returns-then-seen-eq1-clause-steps
+returns-then-seen-eq1-clause-steps g c = λ _ fresh. let s1 = ap (λ (z : V). z.steps) c.reserve-seen.ensures.kept in let s2 = c.back_out.ensures.steps in let said = ap bit (c.is_over-overdue.ensures ∙ or-false c.is_over-overdue.result (g.P.Patience.said c.args.patience.now) fresh) in omega (arith, s1, s2, said)

@@ -1,10 +1,10 @@
-use Rattle.std.proofs.Common.{arith, ◌+◌, ◌≤◌, true, ap, sym, refl, ◌∙◌, subst, Option}
+use Rattle.std.proofs.Common.{arith, true, ap, sym, refl, ◌∙◌, subst, Option}
 use Rattle.wait_list.specs.declared.view.Waiter.{Waiter}
 use Rattle.wait_list.specs.Lists.{FindsFirst}
 use Rattle.rwsem_slow.specs.RwSems.{list_of, with_list}
 use Rattle.rwsem_wake.specs.declared.view.SemHand.{SemHand}
 use Rattle.rwsem_slow.proofs.Joining.{writer-alone, writer-behind, writer-first}
-use Rattle.rwsem_slow.proofs.Sitting.{its-number}
+use Rattle.lock_core.proofs.Sitting.{its-number}
 use Rattle.rwsem_slow.proofs.writing.join.Goals as goal
 
 pub append-requires-clause-task : goal.append-requires-clause-task

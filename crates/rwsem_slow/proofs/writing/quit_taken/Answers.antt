@@ -1,6 +1,6 @@
-use Rattle.std.proofs.Common.{◌∙◌, sym, ap, inl, arith}
+use Rattle.std.proofs.Common.{◌∙◌, sym, ap, inl}
 use Rattle.rwsem_wake.specs.declared.view.SemHand.{SemHand}
-use Rattle.rwsem_slow.proofs.Sitting.{its-number}
+use Rattle.lock_core.proofs.Sitting.{its-number}
 use Rattle.rwsem_slow.proofs.WriterSteps.{quit-cleared, quit-sem, quit-unmarked}
 use Rattle.rwsem_slow.proofs.writing.quit_taken.Goals as goal
 

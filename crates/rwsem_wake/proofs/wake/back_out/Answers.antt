@@ -6,6 +6,9 @@ use Rattle.rwsem_wake.specs.Grants.{HasMarked, OnlySem, marked, unreserved, saw_
 use Rattle.rwsem_wake.proofs.Courses.{only-one-step, only-more, sem-after}
 use Rattle.rwsem_wake.proofs.wake.back_out.Goals as goal
 
+pub mark_first-requires-clause-written : goal.mark_first-requires-clause-written
+mark_first-requires-clause-written g c = (c.args.seen, c.requires.reserved, c.requires.written)
+
 pub ask_handoff-requires-clause-marked : goal.ask_handoff-requires-clause-marked
 ask_handoff-requires-clause-marked g c = let with_sem = g.H.GrantHost.with_sem in let v = c.args.pass.now.seat.me.0.view in let s = g.H.GrantHost.sem v.ext in let u = c.mark_first.new.pass.seat.me.0.view in
     let after = sem-after with_sem g.H.GrantHost.sem g.H.GrantHost.sem_back v (marked s) u (only-one-step with_sem v (marked s) u c.mark_first.ensures.kept) in

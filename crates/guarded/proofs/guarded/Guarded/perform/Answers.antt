@@ -13,17 +13,19 @@ lawful g = record {
   replies = g.met.O.Object.replies;
 }
 
-pub returns-in-Some-default-clause-one_more : goal.returns-in-Some-default-clause-one_more
-returns-in-Some-default-clause-one_more g c = λ t count rs task done.
+pub returns-in-Some-default-clause-performs : goal.returns-in-Some-default-clause-performs
+returns-in-Some-default-clause-performs g c =
     let v = g.L.SleepLock.view c.args.pass.now in
     let w = g.L.SleepLock.view c.call-words.new.pass in
     let u = g.L.SleepLock.view c.send.new.pass in
-    let o = g.O.Object.object in
-    let kind = g.L.SleepLock.kind in
-    let at = g.L.SleepLock.word_at in
-    let k = g.L.SleepLock.calls_on c.args.self.now.lock in
-    let p = performs-looked v w u c.call-words.ensures.kept c.call-words.ensures.goes_on o kind at k c.send.result c.send.ensures.performs in
-    (p.rec, one-more o (lawful g) kind at k t count c.send.result rs v u task p done)
+    performs-looked v w u c.call-words.ensures.kept c.call-words.ensures.goes_on g.O.Object.object g.L.SleepLock.kind g.L.SleepLock.word_at (g.L.SleepLock.calls_on c.args.self.now.lock) c.send.result c.send.ensures.performs
+
+pub returns-in-Some-default-clause-one_more : goal.returns-in-Some-default-clause-one_more
+returns-in-Some-default-clause-one_more g c = λ t count rs task done.
+    let v = g.L.SleepLock.view c.args.pass.now in
+    let u = g.L.SleepLock.view c.send.new.pass in
+    let p = returns-in-Some-default-clause-performs g c in
+    (p.rec, one-more g.O.Object.object (lawful g) g.L.SleepLock.kind g.L.SleepLock.word_at (g.L.SleepLock.calls_on c.args.self.now.lock) t count c.send.result rs v u task p done)
 
 pub returns-in-None-Some-clause-performs : goal.returns-in-None-Some-clause-performs
 returns-in-None-Some-clause-performs g c =

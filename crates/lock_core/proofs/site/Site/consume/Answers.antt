@@ -1,110 +1,21 @@
-use Rattle.std.proofs.Common.{◌≡◌, ◌+◌, ◌*◌, ℕ, refl, sym, ap, ◌∙◌, inl, subst, arith}
-use Rattle.lock_core.specs.declared.view.Hand.{Hand}
+use Rattle.std.proofs.Common.{◌≡◌, ◌+◌, refl, ap, ◌∙◌, arith}
 use Rattle.lock_core.specs.declared.view.View.{View}
-use Rattle.lock_core.specs.Views.{hearing, consuming}
-use Rattle.lock_core.specs.Handles.{SawSignals}
-use Rattle.lock_core.specs.RunLaws.{found-at-step}
-use Rattle.lock_core.proofs.Sitting.{SameFace, sits-same}
-use Rattle.lock_core.proofs.RowLaws.{none-some}
-use Rattle.lock_core.proofs.HandLaws.{same-number}
-use Rattle.lock_core.proofs.SignalWords.{taken-found, consumes-there}
+use Rattle.lock_core.specs.Views.{handed, consuming}
+use Rattle.lock_core.proofs.Within.{found-since-within}
 use Rattle.lock_core.proofs.site.Site.consume.Goals as goal
-use Rattle.lock_core.specs.declared.layout.TheConstants.{LINES_AT}
 
-pub load_sent-sent-requires-clause-there : goal.load_sent-sent-requires-clause-there
-load_sent-sent-requires-clause-there g c = let few = c.args.self.now.small.tasks in let p = (c.requires.own.planned c.in-Some.task c.in-Some.is).0 in omega (arith, few, p)
-
-pub find-taken-requires-clause-inside : goal.find-taken-requires-clause-inside
-find-taken-requires-clause-inside g c = let few = c.args.self.now.small.tasks in let p = (c.requires.own.planned c.in-Some.task c.in-Some.is).0 in omega (arith, few, p)
-
-pub find-taken-requires-clause-told : goal.find-taken-requires-clause-told
-find-taken-requires-clause-told g c = λ s hs r at. taken-found g.R.O.Object.object g.R.SiteRule.unavailable g.R.O.Object.WORDS c.args.self.now.table.shared.key s hs c.load_sent-sent.new.pass.seat.id (LINES_AT + (8 * c.in-Some.task + 2)) c.load_sent-sent.new.pass.seat.me.0.view.hand r at
-
-pub put-requires-clause-inside : goal.put-requires-clause-inside
-put-requires-clause-inside g c = let few = c.args.self.now.small.tasks in let p = (c.requires.own.planned c.in-Some.task c.in-Some.is).0 in omega (arith, few, p)
-
-pub put-requires-clause-holds : goal.put-requires-clause-holds
-put-requires-clause-holds g c = (refl, inl refl)
-
-pub put-requires-clause-keeps : goal.put-requires-clause-keeps
-put-requires-clause-keeps g c = λ s hs r at. let few = c.args.self.now.small.tasks in let l = (c.requires.own.planned c.in-Some.task c.in-Some.is).0 in let heard = c.load_sent-sent.ensures.heard in
-    let here : c.load_sent-sent.new.pass.seat.me.0.view.hand ≡ hearing c.args.pass.now.seat.me.0.view.hand heard.1.0 = ap (λ v. v.hand) heard.2 ∙ heard.1.2 in
-    let now : c.find-taken.new.pass.seat.me.0.view.hand ≡ hearing c.args.pass.now.seat.me.0.view.hand heard.1.0 = ap (λ v. v.hand) c.find-taken.ensures.kept ∙ here in
-    let has = sym c.requires.own.task ∙ c.in-Some.is in
-    let taken : c.find-taken.result ≡ heard.1.0.taken = c.find-taken.ensures.told heard.1.0 c.in-Some.task (ap (λ (h : Hand). h.heard) here) (ap (λ (h : Hand). h.task) here ∙ has) refl in
-    let more = c.if-sent-taken.false in let sent = heard.1.1 in
-    consumes-there g.R.O.Object.object g.R.SiteRule.unavailable g.R.O.Object.WORDS c.args.self.now.table.shared.key s hs c.find-taken.new.pass.seat.id c.in-Some.task (LINES_AT + (8 * c.in-Some.task + 2)) c.find-taken.result c.find-taken.new.pass.seat.me.0.view.hand heard.1.0
-    (ap (λ (h : Hand). h.task) now ∙ has) (omega (arith, few, l)) (omega arith) (ap (λ (h : Hand). h.heard) now) (omega (arith, more, sent, taken)) taken r at
-
-pub returns-then-sent-taken-clause-own : goal.returns-then-sent-taken-clause-own
-returns-then-sent-taken-clause-own g c = let heard = c.load_sent-sent.ensures.heard in let own = c.requires.own in let old = c.args.pass.now.seat.me.0.view.hand in
-    let now : c.find-taken.new.pass.seat.me.0.view.hand ≡ hearing old heard.1.0 = ap (λ v. v.hand) c.find-taken.ensures.kept ∙ (ap (λ v. v.hand) heard.2 ∙ heard.1.2) in
-    let later = ap (λ v. v.steps) c.find-taken.ensures.kept ∙ ap (λ v. v.steps + 1) heard.2 in
-    sits-same c.args.self.now.table.shared.key c.args.self.now.table.shared.table_id c.args.pass.now.seat.table_id c.find-taken.new.pass.seat.table_id c.args.pass.now.seat.me c.find-taken.new.pass.seat.me c.args.pass.now.face c.find-taken.new.pass.face
-    (c.find-taken.ensures.own.0 ∙ c.load_sent-sent.ensures.own.0) (c.find-taken.ensures.own.2 ∙ c.load_sent-sent.ensures.own.2)
-    (subst (SameFace old) (sym now) record { plan = refl; task = refl; held = refl; done = refl; seen = refl; stage = refl; log = refl; saw = refl; last = refl; writer = own.writer; nameless = own.nameless })
-    (omega (arith, later)) (c.find-taken.ensures.face ∙ c.load_sent-sent.ensures.face) own
-
-pub returns-clause-own : goal.returns-clause-own
-returns-clause-own g c = let heard = c.load_sent-sent.ensures.heard in let own = c.requires.own in let old = c.args.pass.now.seat.me.0.view.hand in
-    let now : c.put.new.pass.seat.me.0.view.hand ≡ consuming (hearing old heard.1.0) = ap (λ v. v.hand) c.put.ensures.kept ∙ ap consuming (ap (λ v. v.hand) c.find-taken.ensures.kept ∙ (ap (λ v. v.hand) heard.2 ∙ heard.1.2)) in
-    let later = ap (λ v. v.steps) c.put.ensures.kept ∙ (ap (λ v. v.steps + 1) c.find-taken.ensures.kept ∙ ap (λ v. v.steps + 1 + 1) heard.2) in
-    sits-same c.args.self.now.table.shared.key c.args.self.now.table.shared.table_id c.args.pass.now.seat.table_id c.put.new.pass.seat.table_id c.args.pass.now.seat.me c.put.new.pass.seat.me c.args.pass.now.face c.put.new.pass.face
-    (c.put.ensures.own.0 ∙ (c.find-taken.ensures.own.0 ∙ c.load_sent-sent.ensures.own.0)) (c.put.ensures.own.2 ∙ (c.find-taken.ensures.own.2 ∙ c.load_sent-sent.ensures.own.2))
-    (subst (SameFace old) (sym now) record { plan = refl; task = refl; held = refl; done = refl; seen = refl; stage = refl; log = refl; saw = refl; last = refl; writer = own.writer; nameless = λ e. none-some c.in-Some.task (sym e ∙ (sym own.task ∙ c.in-Some.is)) })
-    (omega (arith, later)) (c.put.ensures.face ∙ (c.find-taken.ensures.face ∙ c.load_sent-sent.ensures.face)) own
+pub returns-clause-consumed : goal.returns-clause-consumed
+returns-clause-consumed g c = let v = c.args.pass.now.seat.me.0.view in record {
+  pending = c.in_ok-why.ensures.heard.pending;
+  now = c.consume_pending.ensures.kept ∙ (ap (λ (u : View _). handed u (consuming u.hand)) c.in_ok-why.ensures.heard.now ∙ (λ i. record v { hand = consuming v.hand; steps = three i }));
+}
+  where
+    three : c.args.pass.now.seat.me.0.view.steps + 2 + 1 ≡ c.args.pass.now.seat.me.0.view.steps + 3
+    three = omega arith
 
 pub returns-clause-saw : goal.returns-clause-saw
-returns-clause-saw g c = λ t is. let same = same-number c.in-Some.task t (sym c.in-Some.is ∙ is) in let v = c.args.pass.now.seat.me.0.view in let heard = c.load_sent-sent.ensures.heard in
-    let here = c.load_sent-sent.new.pass.seat.me.0 in let next = c.find-taken.new.pass.seat.me.0 in let last = c.put.new.pass.seat.me.0 in
-    let named : here.view.hand.task ≡ v.hand.task = ap (λ (u : View _). u.hand.task) heard.2 ∙ ap (λ (h : Hand). h.task) heard.1.2 in
-    let one : here.view.steps ≡ v.steps + 1 = ap (λ (u : View _). u.steps) heard.2 in
-    let two : next.view.steps ≡ here.view.steps + 1 = ap (λ (u : View _). u.steps) c.find-taken.ensures.kept in
-    let three : last.view.steps ≡ next.view.steps + 1 = ap (λ (u : View _). u.steps) c.put.ensures.kept in
-    subst (λ (t : ℕ). SawSignals t record { sent = c.load_sent-sent.result; taken = c.find-taken.result } c.args.pass.now c.put.new.pass) same record {
-      sent = (
-        here.view.steps,
-        omega (arith, one),
-        omega (arith, two, three),
-        found-at-step here.view v.hand.task _ _ c.args.pass.now.seat.me.0.past here.past last.past named c.load_sent-sent.ensures.own.4 c.load_sent-sent.ensures.found c.load_sent-sent.ensures.own.3 (λ p t. c.put.ensures.own.3 p (c.find-taken.ensures.own.3 p t)),
-      );
-      taken = (
-        next.view.steps,
-        omega (arith, one, two),
-        omega (arith, three),
-        found-at-step next.view v.hand.task _ _ c.args.pass.now.seat.me.0.past next.past last.past (ap (λ (u : View _). u.hand.task) c.find-taken.ensures.kept ∙ named) c.find-taken.ensures.own.4 c.find-taken.ensures.found (λ p t. c.find-taken.ensures.own.3 p (c.load_sent-sent.ensures.own.3 p t)) c.put.ensures.own.3,
-      );
+returns-clause-saw g c = λ t is. let s = c.in_ok-why.ensures.saw t is in let v = c.args.pass.now.seat.me.0 in let w = c.pending.new.pass.seat.me.0 in let u = c.consume_pending.new.pass.seat.me.0 in
+    let more = ap (λ (x : View _). x.steps) c.consume_pending.ensures.kept in let after = c.consume_pending.ensures.goes_on in record {
+      sent = found-since-within v.view.hand.task v.view.hand.task v.view.steps v.view.steps u.view.steps w.view.steps _ _ v.past v.past w.past u.past refl (omega arith) (λ p q. q) (omega (arith, more)) after s.sent;
+      taken = found-since-within v.view.hand.task v.view.hand.task v.view.steps v.view.steps u.view.steps w.view.steps _ _ v.past v.past w.past u.past refl (omega arith) (λ p q. q) (omega (arith, more)) after s.taken;
     }
-
-pub returns-then-sent-taken-clause-none : goal.returns-then-sent-taken-clause-none
-returns-then-sent-taken-clause-none g c = let heard = c.load_sent-sent.ensures.heard in let v = c.args.pass.now.seat.me.0.view in
-    let here : c.load_sent-sent.new.pass.seat.me.0.view.hand ≡ hearing v.hand heard.1.0 = ap (λ v. v.hand) heard.2 ∙ heard.1.2 in
-    let taken : c.find-taken.result ≡ heard.1.0.taken = c.find-taken.ensures.told heard.1.0 c.in-Some.task (ap (λ (h : Hand). h.heard) here) (ap (λ (h : Hand). h.task) here ∙ (sym c.requires.own.task ∙ c.in-Some.is)) refl in
-    let none = c.if-sent-taken.true in (
-      record { sent = c.load_sent-sent.result; taken = c.find-taken.result },
-      record {
-        none_pending = none;
-        now = c.find-taken.ensures.kept ∙ (ap (λ (u : View _). record u { steps = u.steps + 1 }) heard.2 ∙ (λ i. record v { hand = (heard.1.2 ∙ (λ j. hearing v.hand (record { sent = heard.1.1 j; taken = sym taken j }))) i; steps = two i }));
-      },
-      λ t is. let same = same-number c.in-Some.task t (sym c.in-Some.is ∙ is) in let old = c.args.pass.now.seat.me.0.past in let first = c.load_sent-sent.new.pass.seat.me.0 in let next = c.find-taken.new.pass.seat.me.0 in
-          let named : first.view.hand.task ≡ v.hand.task = ap (λ (u : View _). u.hand.task) heard.2 ∙ ap (λ (h : Hand). h.task) heard.1.2 in
-          let one : first.view.steps ≡ v.steps + 1 = ap (λ (u : View _). u.steps) heard.2 in
-          let more : next.view.steps ≡ first.view.steps + 1 = ap (λ (u : View _). u.steps) c.find-taken.ensures.kept in
-          subst (λ (t : ℕ). SawSignals t record { sent = c.load_sent-sent.result; taken = c.find-taken.result } c.args.pass.now c.find-taken.new.pass) same record {
-            sent = (
-              first.view.steps,
-              omega (arith, one),
-              omega (arith, more),
-              found-at-step first.view v.hand.task _ _ old first.past next.past named c.load_sent-sent.ensures.own.4 c.load_sent-sent.ensures.found c.load_sent-sent.ensures.own.3 c.find-taken.ensures.own.3,
-            );
-            taken = (
-              next.view.steps,
-              omega (arith, one, more),
-              omega arith,
-              found-at-step next.view v.hand.task _ _ old next.past next.past (ap (λ (u : View _). u.hand.task) c.find-taken.ensures.kept ∙ named) c.find-taken.ensures.own.4 c.find-taken.ensures.found (λ p q. c.find-taken.ensures.own.3 p (c.load_sent-sent.ensures.own.3 p q)) (λ p q. q),
-            );
-          },
-    )
-  where
-    two : c.args.pass.now.seat.me.0.view.steps + 1 + 1 ≡ c.args.pass.now.seat.me.0.view.steps + 2
-    two = omega arith

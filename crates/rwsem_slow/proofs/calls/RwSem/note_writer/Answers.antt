@@ -1,5 +1,5 @@
 use Rattle.std.proofs.Common.{◌∙◌, sym}
-use Rattle.rwsem_slow.proofs.Sitting.{its-number}
+use Rattle.lock_core.proofs.Sitting.{its-number}
 use Rattle.rwsem_slow.proofs.calls.RwSem.note_writer.Goals as goal
 
 pub writer_hint-requires : goal.writer_hint-requires

@@ -1,0 +1,185 @@
+//! The semaphore, as one of the locks that tasks sleep on. Its readers share it.
+
+use crate::lock::SleepLock;
+use cpu_task::Crew;
+use lock_core::{Held, How, Interrupted, Plan};
+use rwsem_slow::{RwPass, RwSem};
+use std::alloc::{AllocError, Global};
+use std::sync::Wait;
+use word_bits::{CallWords, Object, Reply};
+
+impl<O: Object> SleepLock<O> for RwSem<O> {
+    ghost use Rattle.lock_core.specs.Kinds.{semaphore};
+    ghost use Rattle.rwsem_slow.specs.Handles.{newest, plan_of, shown_of, SitsAt};
+    ghost use Rattle.rwsem_slow.specs.RwSems.{count_at};
+    ghost use Rattle.rwsem_slow.specs.Stated.{waits_on};
+    ghost use Rattle.guarded.specs.RwSemLocks.{KnowsRwSem};
+    ghost use Rattle.guarded.specs.SiteLocks.{SitsIdle};
+    ghost use Rattle.guarded.specs.LockLaws.{rwsem-stands};
+
+    type Pass = RwPass<O>;
+
+    ghost kind = { semaphore };
+
+    ghost word_at = { count_at };
+
+    ghost calls_on = { plan_of };
+
+    ghost opened = { newest };
+
+    ghost waits = { waits_on };
+
+    ghost tells = { λ k v. KnowsRwSem O.object O.WORDS k v };
+
+    ghost view = { shown_of };
+
+    ghost sits = { λ s p. SitsIdle O.object (plan_of s) (SitsAt s p) };
+
+    fn open(alloc: Global, plan: Plan) -> Result<(RwSem<O>, RwPass<O>), AllocError> {
+        RwSem::open(alloc, plan)
+    }
+
+    fn split(&self, pass: &mut RwPass<O>) -> RwPass<O> {
+        self.split(pass)
+    }
+
+    fn begin<W: Wait>(&self, rt: &W, pass: &mut RwPass<O>, task: u32) {
+        self.begin(rt, pass, task);
+    }
+
+    fn end(&self, pass: &mut RwPass<O>) {
+        self.end(pass);
+    }
+
+    fn gather(&self, into: &mut RwPass<O>, other: RwPass<O>) {
+        self.gather(into, other);
+    }
+
+    fn recall(&self, pass: &mut RwPass<O>) {
+        self.recall(pass);
+    }
+
+    fn word(&self, pass: &mut RwPass<O>, at: usize) -> u64 {
+        self.word(pass, at)
+    }
+
+    fn set_word(&self, pass: &mut RwPass<O>, at: usize, value: u64) {
+        self.set_word(pass, at, value);
+    }
+
+    fn commit(&self, pass: &mut RwPass<O>, call: u32, reply: Reply) {
+        self.commit(pass, call, reply);
+    }
+
+    fn note(&self, pass: &mut RwPass<O>, call: u32, reply: Reply) {
+        self.note(pass, call, reply);
+    }
+
+    fn signal(&self, pass: &mut RwPass<O>, target: u32) {
+        self.signal(pass, target);
+    }
+
+    fn tasks(&self) -> u32 {
+        self.tasks()
+    }
+
+    fn calls(&self, task: u32) -> u32 {
+        self.calls(task)
+    }
+
+    fn call(&self, pass: &mut RwPass<O>, task: u32, call: u32) -> CallWords {
+        self.call(pass, task, call)
+    }
+
+    fn rec_word(&self, pass: &mut RwPass<O>, task: u32, call: u32) -> u64 {
+        self.rec_word(pass, task, call)
+    }
+
+    fn log_len(&self, pass: &mut RwPass<O>) -> u32 {
+        self.log_len(pass)
+    }
+
+    fn log_word(&self, pass: &mut RwPass<O>, at: u32) -> u64 {
+        self.log_word(pass, at)
+    }
+
+    fn task(&self, pass: &RwPass<O>) -> Option<u32> {
+        self.task(pass)
+    }
+
+    fn held(&self, pass: &RwPass<O>) -> Held {
+        self.held(pass)
+    }
+
+    fn done(&self, pass: &RwPass<O>) -> u32 {
+        self.done(pass)
+    }
+
+    fn front(&self, pass: &RwPass<O>) -> u32 {
+        self.front(pass)
+    }
+
+    fn shared<W: Wait, C: Crew>(
+        &self,
+        rt: &W,
+        pass: &mut RwPass<O>,
+        cpu: &mut C::C,
+        crew: &C,
+    ) -> How {
+        self.down_read(rt, pass, cpu, crew)
+    }
+
+    fn alone<W: Wait, C: Crew>(
+        &self,
+        rt: &W,
+        pass: &mut RwPass<O>,
+        cpu: &mut C::C,
+        crew: &C,
+    ) -> How {
+        self.down_write(rt, pass, cpu, crew)
+    }
+
+    fn shared_int<W: Wait, C: Crew>(
+        &self,
+        rt: &W,
+        pass: &mut RwPass<O>,
+        cpu: &mut C::C,
+        crew: &C,
+    ) -> Result<How, Interrupted> {
+        self.down_read_interruptible(rt, pass, cpu, crew)
+    }
+
+    fn alone_int<W: Wait, C: Crew>(
+        &self,
+        rt: &W,
+        pass: &mut RwPass<O>,
+        cpu: &mut C::C,
+        crew: &C,
+    ) -> Result<How, Interrupted> {
+        self.down_write_interruptible(rt, pass, cpu, crew)
+    }
+
+    fn try_shared<W: Wait>(&self, rt: &W, pass: &mut RwPass<O>) -> Result<(), u64> {
+        self.down_read_trylock(rt, pass)
+    }
+
+    fn try_alone<W: Wait>(&self, _rt: &W, pass: &mut RwPass<O>) -> Result<(), u64> {
+        self.down_write_trylock(pass)
+    }
+
+    fn release_shared<W: Wait, C: Crew>(&self, rt: &W, pass: &mut RwPass<O>, crew: &C) {
+        self.up_read(rt, pass, crew);
+    }
+
+    fn release_alone<W: Wait, C: Crew>(&self, rt: &W, pass: &mut RwPass<O>, crew: &C) {
+        self.up_write(rt, pass, crew);
+    }
+
+    fn downgrade<W: Wait, C: Crew>(&self, rt: &W, pass: &mut RwPass<O>, crew: &C) {
+        self.downgrade_write(rt, pass, crew);
+    }
+
+    ghost small = { λ s. s.site.small };
+
+    ghost stands = { λ s p is. rwsem-stands O.object s p is };
+}

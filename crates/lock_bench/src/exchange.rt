@@ -1,0 +1,49 @@
+//! Pairs of exchanges of a word, without a lock.
+use crate::timed::Timed;
+use std::alloc::{AllocError, Global};
+use std::sync::Wait;
+use std::sync::atomic::{AtomicU64, Ordering};
+
+/// A word, and how many threads exchange it.
+#[derive(Drop)]
+pub struct Exchanges {
+    word: AtomicU64,
+    threads: u32,
+}
+
+/// What exchanges it: a thread needs nothing of its own.
+#[derive(Drop)]
+pub struct Exchanger;
+
+impl Timed for Exchanges {
+    ghost use Rattle.std.specs.Prelude.{ℕ};
+
+    type Worker = Exchanger;
+
+    ghost idle = { λ _ _. Unit {0} };
+
+    ghost took = { λ _ _ _. Unit {0} };
+
+    ghost tasks = { λ e. e.threads };
+
+    fn start(_alloc: Global, threads: u32) -> Result<(Exchanges, Exchanger), AllocError> {
+        let word = AtomicU64::new(0);
+        Ok((Exchanges { word, threads }, Exchanger))
+    }
+
+    fn another(
+        &mut self,
+        _alloc: Global,
+        _first: &mut Exchanger,
+        _task: u32,
+    ) -> Result<Exchanger, AllocError> {
+        Ok(Exchanger)
+    }
+
+    fn rounds<W: Wait>(&self, _rt: &W, _worker: &mut Exchanger, task: u32, count: u32) {
+        for _ in 0..count {
+            self.word.swap(u64::from(task), Ordering::SeqCst);
+            self.word.swap(0, Ordering::SeqCst);
+        }
+    }
+}

@@ -1,0 +1,87 @@
+//! Pairs on a lock with work inside and outside.
+use crate::crewed::{Crewed, Worker, Write};
+use crate::timed::Timed;
+use guarded::SleepLock;
+use lock_core::Nothing;
+use std::alloc::{AllocError, Global};
+use std::sync::Wait;
+use std::sync::atomic::{AtomicU64, Ordering};
+
+/// How many steps a thread makes between two pairs, each of which needs the result of the one
+/// before.
+const STEPS: u32 = 20;
+
+/// A lock, and words that its threads raise while they hold it alone.
+#[derive(Drop)]
+pub struct Guarding<L: SleepLock<Nothing>> {
+    crewed: Crewed<L, Write>,
+    words: [AtomicU64; 4],
+}
+
+impl<L: SleepLock<Nothing>> Guarding<L> {
+    /// Raises each word, by a load and a store.
+    fn raise(&self, by: u64) {
+        for word in &self.words {
+            let raised = word.load(Ordering::SeqCst).wrapping_add(by);
+            word.store(raised, Ordering::SeqCst);
+        }
+    }
+}
+
+/// What so many steps of a generator of numbers make of this one.
+fn stepped(mut number: u64) -> u64 {
+    for _ in 0..STEPS {
+        number = number
+            .wrapping_mul(6_364_136_223_846_793_005)
+            .wrapping_add(1_442_695_040_888_963_407);
+    }
+    number
+}
+
+impl<L: SleepLock<Nothing> + Drop> Timed for Guarding<L> {
+    ghost use Rattle.std.specs.Prelude.{◌≡◌, ◌+◌, length};
+    ghost use Rattle.lock_bench.specs.Between.{IsIdle, takes_in};
+
+    type Worker = Worker<L::Pass>;
+
+    ghost idle = { λ guarding worker.
+        IsIdle (L.sits guarding.crewed.lock worker.pass) (L.view worker.pass) };
+
+    ghost took = { λ n v u. takes_in (L.view u.pass) ≡ takes_in (L.view v.pass) + n };
+
+    ghost tasks = { λ guarding. length (L.calls_on guarding.crewed.lock) };
+
+    fn start(alloc: Global, threads: u32) -> Result<(Guarding<L>, Worker<L::Pass>), AllocError> {
+        let (crewed, worker) = Crewed::<L, Write>::start(alloc, threads)?;
+        let words = [
+            AtomicU64::new(0),
+            AtomicU64::new(0),
+            AtomicU64::new(0),
+            AtomicU64::new(0),
+        ];
+        Ok((Guarding { crewed, words }, worker))
+    }
+
+    fn another(
+        &mut self,
+        alloc: Global,
+        first: &mut Worker<L::Pass>,
+        task: u32,
+    ) -> Result<Worker<L::Pass>, AllocError> {
+        self.crewed.another(alloc, first, task)
+    }
+
+    fn rounds<W: Wait>(&self, rt: &W, worker: &mut Worker<L::Pass>, task: u32, count: u32) {
+        let lock = &self.crewed.lock;
+        let crew = &self.crewed.crew;
+        let mut number = u64::from(task);
+        lock.begin(rt, &mut worker.pass, task);
+        for _ in 0..count {
+            lock.alone(rt, &mut worker.pass, &mut worker.cpu, crew);
+            self.raise(number);
+            lock.release_alone(rt, &mut worker.pass, crew);
+            number = stepped(number);
+        }
+        lock.end(&mut worker.pass);
+    }
+}

@@ -1,0 +1,37 @@
+use Rattle.std.proofs.Common.{◌≡◌, ◌∙◌, ℕ, ◌+◌, true, sym, ap, subst, arith}
+use Rattle.lock_core.specs.declared.view.Hand.{Hand}
+use Rattle.lock_core.specs.Pasts.{FoundAt}
+use Rattle.osq_nodes.specs.Handles.{fronts_in}
+use Rattle.rwsem_count.specs.WordSteps.{IsReadFree}
+use Rattle.rwsem_count.proofs.Counting.{free-or-shut}
+use Rattle.rwsem_slow.specs.Handles.{shown_of}
+use Rattle.rwsem_slow.specs.RwSems.{V, count_at}
+use Rattle.rwsem_slow.specs.Stealing.{left_by}
+use Rattle.rwsem_slow.proofs.BiasHolds.{quit-place, went-got, went-place}
+use Rattle.rwsem_slow.proofs.Showing.{first-sees, first-tried, waits-quit}
+use Rattle.rwsem_slow.proofs.calls.RwSem.read_common.Goals as goal
+
+pub read_slowly-requires-clause-left : goal.read_slowly-requires-clause-left
+read_slowly-requires-clause-left g c = let t = c.in-Err.ensures.transit in t.1 ∙ sym (ap (λ (z : V). left_by z.ext.sem.bias) t.3)
+
+pub returns-in-Err-clause-how : goal.returns-in-Err-clause-how
+returns-in-Err-clause-how g c = went-got (fronts_in c.args.pass.now.queue) c.in-Err.left c.args.pass.now.pass.seat.me.0.view c.read_add.new.pass.seat.me.0.view c.read_slowly.new.pass.seat.me.0.view c.args.pass.now.pass.seat.me.0.past c.read_slowly.new.pass.seat.me.0.past c.in-Err.ensures.transit c.read_slowly.result c.read_slowly.ensures.line
+
+pub returns-in-Err-clause-line : goal.returns-in-Err-clause-line
+returns-in-Err-clause-line g c = went-place (fronts_in c.args.pass.now.queue) c.in-Err.left c.args.pass.now.pass.seat.me.0.view c.read_add.new.pass.seat.me.0.view c.read_slowly.new.pass.seat.me.0.view c.args.pass.now.pass.seat.me.0.past c.read_slowly.new.pass.seat.me.0.past c.in-Err.ensures.transit
+    c.read_add.new.pass.seat.me.0.past c.read_add.ensures.last c.in-Err.ensures.left c.read_slowly.ensures.on.steps c.read_add.ensures.goes_on c.read_slowly.ensures.on.goes_on c.read_slowly.result c.read_slowly.ensures.line
+
+pub returns-in-Err-clause-stood : goal.returns-in-Err-clause-stood
+returns-in-Err-clause-stood g c = quit-place (fronts_in c.args.pass.now.queue) c.in-Err.left c.args.pass.now.pass.seat.me.0.view c.read_add.new.pass.seat.me.0.view c.read_slowly.new.pass.seat.me.0.view c.args.pass.now.pass.seat.me.0.past c.read_slowly.new.pass.seat.me.0.past c.in-Err.ensures.transit c.read_slowly.result c.read_slowly.ensures.lock
+
+pub returns-in-Err-clause-interrupted : goal.returns-in-Err-clause-interrupted
+returns-in-Err-clause-interrupted g c = let fronts = fronts_in c.args.pass.now.queue in let v = c.args.pass.now.pass.seat.me.0 in let a = c.read_add.new.pass.seat.me.0 in let u = c.read_slowly.new.pass.seat.me.0 in
+    let transit = c.in-Err.ensures.transit in let word = transit.0 in let left = c.in-Err.ensures.left in let is = transit.3 in let sum = transit.1 in let total = left.2 in let same : left.0 ≡ word = omega (arith, sum, total) in
+    let shut = subst (λ (n : ℕ). IsReadFree n → ⊥) sum left.3 in let hand = ap (λ (z : V). z.hand) is in let steps = ap (λ (z : V). z.steps) is in let appends = ap (λ (z : V). z.ext.appends) is in
+    waits-quit fronts true word (shown_of c.args.pass.now) a.view u.view a.past u.past
+    (first-tried fronts word v.view a.view v.past a.past hand steps (ap (λ (z : V). z.spin.entries) is) appends)
+    (ap (λ (n : ℕ). record { appends = n }) appends) c.read_add.ensures.goes_on (ap (λ (h : Hand). h.held) hand ∙ c.requires.out)
+    (first-sees fronts word v.view a.view v.past a.past hand steps true c.read_add.ensures.last (subst (λ (n : ℕ). FoundAt count_at n a.past) same left.1) c.read_add.ensures.goes_on
+    (free-or-shut word (word + 256) transit.2 (omega arith) (omega arith) (λ f none. absurd (shut f)) (λ not flags. (transit.2, flags))))
+    c.read_slowly.ensures.on.steps c.read_slowly.ensures.on.goes_on
+    c.read_slowly.result c.read_slowly.ensures.lock c.read_slowly.ensures.waited c.read_slowly.ensures.consumed c.read_slowly.ensures.pending

@@ -1,0 +1,23 @@
+use Rattle.std.proofs.Common.{inl, inr, refl, ap, arith}
+use Rattle.lock_core.proofs.Within.{sees-within}
+use Rattle.rwsem_slow.specs.Handles.{shown_of}
+use Rattle.rwsem_slow.specs.Places.{seen_of}
+use Rattle.rwsem_slow.specs.RwSems.{V}
+use Rattle.rwsem_slow.proofs.calls.RwSem.spin.Goals as goal
+
+pub returns-then-need_resched-clause-saw : goal.returns-then-need_resched-clause-saw
+returns-then-need_resched-clause-saw g c = λ _. inl refl
+
+pub returns-then-is_reader_owned-clause-saw : goal.returns-then-is_reader_owned-clause-saw
+returns-then-is_reader_owned-clause-saw g c = λ _. inl (ap (λ (z : V). z.hand.saw) c.is_reader_owned.ensures.kept)
+
+pub returns-then-not-lock-clause-saw : goal.returns-then-not-lock-clause-saw
+returns-then-not-lock-clause-saw g c = λ _. inl (ap (λ (z : V). z.hand.saw) c.is_reader_owned.ensures.kept)
+
+pub returns-clause-saw : goal.returns-clause-saw
+returns-clause-saw g c = λ failed. let looks = c.is_reader_owned.ensures.kept in let steps = ap (λ (z : V). z.steps) looks in let saw = c.spin-took.ensures.saw failed in
+    inr (
+      saw.0,
+      sees-within (shown_of c.args.pass.now) (seen_of c.is_reader_owned.new.pass) (seen_of c.spin-took.new.pass) (shown_of (record { pass = c.spin-took.new.pass; queue = c.unlock.new.pass }))
+          (ap (λ (z : V). z.hand.task) looks) (omega (arith, steps)) c.is_reader_owned.ensures.goes_on saw.1 refl (omega arith) (λ p e. e),
+    )

@@ -1,0 +1,19 @@
+use Rattle.std.proofs.Common.{ap, arith}
+use Rattle.lock_core.proofs.Within.{sees-within}
+use Rattle.rwsem_slow.specs.Places.{seen_of}
+use Rattle.rwsem_slow.specs.RwSems.{V}
+use Rattle.rwsem_slow.proofs.spinning.spin.Goals as goal
+
+pub returns-then-is_reader_owned-clause-saw : goal.returns-then-is_reader_owned-clause-saw
+returns-then-is_reader_owned-clause-saw g c = λ _. let i = c.loop.invariant in let saw = c.try_outside.ensures.saw c.if-try_outside.false in let looks = c.is_reader_owned.ensures.kept in let steps = ap (λ (z : V). z.steps) looks in (
+  saw.0,
+  sees-within (seen_of c.args.pass.now) (seen_of c.loop.pass) (seen_of c.try_outside.new.pass) (seen_of c.is_reader_owned.new.pass)
+      i.7.keeps.task i.7.keeps.counts.steps i.2.goes_on saw.1 (ap (λ (z : V). z.hand.saw) looks) (omega (arith, steps)) c.is_reader_owned.ensures.goes_on,
+)
+
+pub returns-then-need_resched-clause-saw : goal.returns-then-need_resched-clause-saw
+returns-then-need_resched-clause-saw g c = λ _. let i = c.loop.invariant in let saw = c.try_outside.ensures.saw c.if-try_outside.false in let looks = c.is_reader_owned.ensures.kept in let steps = ap (λ (z : V). z.steps) looks in (
+  saw.0,
+  sees-within (seen_of c.args.pass.now) (seen_of c.loop.pass) (seen_of c.try_outside.new.pass) (seen_of c.is_reader_owned.new.pass)
+      i.7.keeps.task i.7.keeps.counts.steps i.2.goes_on saw.1 (ap (λ (z : V). z.hand.saw) looks) (omega (arith, steps)) c.is_reader_owned.ensures.goes_on,
+)

@@ -1,0 +1,14 @@
+use Rattle.std.proofs.Common.{ap, arith}
+use Rattle.rwsem_slow.specs.RwSems.{V}
+use Rattle.rwsem_slow.specs.Places.{seen_of}
+use Rattle.rwsem_slow.proofs.Quitting.{heard-on}
+use Rattle.lock_core.proofs.Within.{pending-within}
+use Rattle.rwsem_slow.proofs.write_path.sleep.Goals as goal
+
+pub returns-in-Some-clause-heard : goal.returns-in-Some-clause-heard
+returns-in-Some-clause-heard g c = heard-on c.in-Some.why c.pending.new.pass.seat.me.0.view.hand c.lock.new.pass.seat.me.0.view.hand c.lock.ensures.gained.hand c.in-Some.ensures.heard
+
+pub returns-in-Some-clause-pending : goal.returns-in-Some-clause-pending
+returns-in-Some-clause-pending g c = let steps = ap (λ (z : V). z.steps) c.unlock.ensures.kept in let took = c.lock.ensures.gained.took in let since = took.0 in let by_now = took.1 in
+    pending-within (seen_of c.args.pass.now) (seen_of c.unlock.new.pass) (seen_of c.pending.new.pass) (seen_of c.lock.new.pass)
+    (ap (λ (z : V). z.hand.task) c.unlock.ensures.kept) (omega (arith, steps)) c.unlock.ensures.goes_on c.in-Some.ensures.pending (omega (arith, since, by_now)) c.lock.ensures.goes_on
