@@ -99,13 +99,13 @@ fn history_of<R: Threads + Wait + Sync, L: SleepLock<Areas, Pass: Send> + Sync +
 
 /// Whether these are the words of the records of the call that held, of those that were busy, of
 /// interrupted calls between them, and of the signals.
-fn are_records(recs: &[u64], held: u64, busy: u64) -> bool {
+fn are_records(recs: &[u64], held: u64, busy: u32) -> bool {
     let mut at = 0u32;
     for word in recs {
         let wanted = if at == 0 {
             held
         } else if at == 1 || at == SIGNALS + 2 {
-            6 * KIND + busy * VALUE
+            6 * KIND + u64::from(busy) * VALUE
         } else if at < SIGNALS + 2 {
             7 * KIND
         } else {
