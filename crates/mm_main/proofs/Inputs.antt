@@ -6,13 +6,17 @@ use Rattle.std.proofs.lemmas.Bool.Decides.{nat_tests}
 use Rattle.std.specs.Option.{IfSome}
 use Rattle.std.specs.Io.KnownBytes.{Consumes, IsAtEnd, Keeps, Appends}
 use Rattle.task_script.specs.Scripts.{Listing}
+use Rattle.task_script.specs.declared.reader.ScriptError.{ScriptError}
+use Rattle.task_script.specs.declared.reader.ScriptError.TheVariants.{Refused as RefusedLine}
+use Rattle.task_script.specs.declared.reason.Reason.{Reason}
 use Rattle.task_script.specs.Grammar.{Refusal, script_of}
+use Rattle.task_script.specs.Readings.{Reads}
 use Rattle.mm_main.specs.declared.status.Status.{Status}
 use Rattle.mm_main.specs.declared.status.Status.TheVariants.{Done, Usage, Refused, ReadFault, WriteFault, NoMemory}
 use Rattle.task_script.specs.Generated.{generated}
 use Rattle.mm_main.specs.declared.options.Options.{Options}
 use Rattle.mm_main.specs.Requests.{Request, misused, refused, accepted, reads_input, request, request_of, script_for}
-use Rattle.mm_main.specs.Answers.{Tellable, AnyTold, Says, OfResults, Answers, Completes, GivesScript, TakesAtMost, read_faults}
+use Rattle.mm_main.specs.Answers.{Service, NoService, Says, OfKept, Answers, Completes, GivesScript, TakesAtMost, read_faults}
 
 Keeps-refl : (a : Option (List ℕ)) → Keeps a a
 Keeps-refl None = tt
@@ -35,52 +39,78 @@ pub any_input : (a : Option (List ℕ)) → (input : List ℕ) × IfSome a (λ t
 any_input None = ([], tt)
 any_input (Some told) = (told, refl)
 
--- what is said where no read failed is said
-pub said : (May : Tellable) → (r t : Request) (read write : Type 0) (old new : Option (List ℕ)) (s : Status) → t ≡ r → Says May r ⊥ write old new s → Says May t read write old new s
-said May r t read write old new s e h = subst (λ q. Says May q read write old new s) (sym e) (more r s h)
-  where
-    more : (q : Request) (s : Status) → Says May q ⊥ write old new s → Says May q read write old new s
-    more misused Done h = h
-    more misused Usage h = h
-    more misused Refused h = h
-    more misused ReadFault h = h
-    more misused WriteFault h = h
-    more misused NoMemory h = h
-    more (refused p) Done h = h
-    more (refused p) Usage h = h
-    more (refused p) Refused h = h
-    more (refused p) ReadFault h = absurd h.0
-    more (refused p) WriteFault h = h
-    more (refused p) NoMemory h = h
-    more (accepted summary p) Done h = h
-    more (accepted summary p) Usage h = h
-    more (accepted summary p) Refused h = h
-    more (accepted summary p) ReadFault h = absurd h.0
-    more (accepted summary p) WriteFault h = h
-    more (accepted summary p) NoMemory h = h
+module _ {M : Type 0} (Serves : Service M) (kept : Option M) where
+  -- what is said where no read failed is said
+  pub said : (r t : Request) (read write : Type 0) (old new : Option (List ℕ)) (s : Status) → t ≡ r → Says Serves kept r ⊥ write old new s → Says Serves kept t read write old new s
+  said r t read write old new s e h = subst (λ q. Says Serves kept q read write old new s) (sym e) (more r s h)
+    where
+      more : (q : Request) (s : Status) → Says Serves kept q ⊥ write old new s → Says Serves kept q read write old new s
+      more misused Done h = h
+      more misused Usage h = h
+      more misused Refused h = h
+      more misused ReadFault h = h
+      more misused WriteFault h = h
+      more misused NoMemory h = h
+      more (refused p) Done h = h
+      more (refused p) Usage h = h
+      more (refused p) Refused h = h
+      more (refused p) ReadFault h = absurd h.1
+      more (refused p) WriteFault h = h
+      more (refused p) NoMemory h = h
+      more (accepted summary p) Done h = h
+      more (accepted summary p) Usage h = h
+      more (accepted summary p) Refused h = h
+      more (accepted summary p) ReadFault h = absurd h.1
+      more (accepted summary p) WriteFault h = h
+      more (accepted summary p) NoMemory h = h
 
--- where a read failed nothing was written, whatever the input
-pub said_failed : (May : Tellable) → (input : List ℕ) (summary : Bool) (read write : Type 0) (old : Option (List ℕ)) → read → Says May (request_of summary (script_of input)) read write old old ReadFault
-said_failed May input summary read write old cause = failed (script_of input)
-  where
-    failed : (q : Result Listing Refusal) → Says May (request_of summary q) read write old old ReadFault
-    failed (Ok s) = (cause, Keeps-refl old)
-    failed (Err e) = (cause, Keeps-refl old)
+  -- where a read failed nothing was written or kept, whatever the input
+  pub said_failed : (input : List ℕ) (summary : Bool) (read write : Type 0) (old : Option (List ℕ)) → kept ≡ None → read → Says Serves kept (request_of summary (script_of input)) read write old old ReadFault
+  said_failed input summary read write old none cause = failed (script_of input)
+    where
+      failed : (q : Result Listing Refusal) → Says Serves kept (request_of summary q) read write old old ReadFault
+      failed (Ok s) = (none, cause, Keeps-refl old)
+      failed (Err e) = (none, cause, Keeps-refl old)
 
--- and so it is where there was no memory
-pub said_no_memory : (May : Tellable) → (r : Request) (read write : Type 0) (old : Option (List ℕ)) → Says May r read write old old NoMemory
-said_no_memory May misused read write old = Keeps-refl old
-said_no_memory May (refused r) read write old = Keeps-refl old
-said_no_memory May (accepted summary s) read write old = Keeps-refl old
+  -- and so it is where there was no memory
+  pub said_no_memory : (r : Request) (read write : Type 0) (old : Option (List ℕ)) → kept ≡ None → Says Serves kept r read write old old NoMemory
+  said_no_memory misused read write old none = (none, Keeps-refl old)
+  said_no_memory (refused r) read write old none = (none, Keeps-refl old)
+  said_no_memory (accepted summary s) read write old none = (none, Keeps-refl old)
 
-complete_for : (May : Tellable) → (summary : Bool) (s : Listing) (read write : Type 0) (old new : Option (List ℕ)) (status : Status) → Says May (accepted summary s) read write old new status → ¬ read → ¬ write
-    → (status ≡ NoMemory) ⊎ ((status ≡ Done) × OfResults May summary s (Appends old new))
-complete_for May summary s read write old new Done h r w = inr (refl, h)
-complete_for May summary s read write old new Usage h r w = absurd h
-complete_for May summary s read write old new Refused h r w = absurd h
-complete_for May summary s read write old new ReadFault h r w = absurd (r h.0)
-complete_for May summary s read write old new WriteFault h r w = absurd (w h.0)
-complete_for May summary s read write old new NoMemory h r w = inl refl
+  complete_for : (summary : Bool) (s : Listing) (read write : Type 0) (old new : Option (List ℕ)) (status : Status) → Says Serves kept (accepted summary s) read write old new status → ¬ read → ¬ write
+      → (status ≡ NoMemory) ⊎ ((status ≡ Done) × OfKept Serves kept summary s (Appends old new))
+  complete_for summary s read write old new Done h r w = inr (refl, h)
+  complete_for summary s read write old new Usage h r w = absurd h
+  complete_for summary s read write old new Refused h r w = absurd h
+  complete_for summary s read write old new ReadFault h r w = absurd (r h.1)
+  complete_for summary s read write old new WriteFault h r w = absurd (w h.0)
+  complete_for summary s read write old new NoMemory h r w = inl refl
+
+  -- what is said where no machine is there is said where none is kept
+  pub said_unkept : (r : Request) (read write : Type 0) (old new : Option (List ℕ)) (s : Status) → kept ≡ None → Says NoService None r read write old new s → Says Serves kept r read write old new s
+  said_unkept misused read write old new Done none h = h
+  said_unkept misused read write old new Usage none h = (none, h.1)
+  said_unkept misused read write old new Refused none h = h
+  said_unkept misused read write old new ReadFault none h = h
+  said_unkept misused read write old new WriteFault none h = (none, h.1, h.2)
+  said_unkept misused read write old new NoMemory none h = (none, h.1)
+  said_unkept (refused p) read write old new Done none h = h
+  said_unkept (refused p) read write old new Usage none h = h
+  said_unkept (refused p) read write old new Refused none h = (none, h.1)
+  said_unkept (refused p) read write old new ReadFault none h = (none, h.1, h.2)
+  said_unkept (refused p) read write old new WriteFault none h = (none, h.1, h.2)
+  said_unkept (refused p) read write old new NoMemory none h = (none, h.1)
+  said_unkept (accepted summary p) read write old new Done none h = absurd h.3
+  said_unkept (accepted summary p) read write old new Usage none h = h
+  said_unkept (accepted summary p) read write old new Refused none h = h
+  said_unkept (accepted summary p) read write old new ReadFault none h = (none, h.1, h.2)
+  said_unkept (accepted summary p) read write old new WriteFault none h = absurd h.1.3
+  said_unkept (accepted summary p) read write old new NoMemory none h = (none, h.1)
+
+-- a reader that refuses says what the grammar does
+pub refused_by : (r : Result Listing Refusal) (e : ScriptError) (line : ℕ) (reason : Reason) → e ≡ RefusedLine line reason → Reads (Err e) r → r ≡ Err (record { line = line; reason = reason })
+refused_by r e line reason is reads = subst (λ (x : ScriptError). Reads (Err x) r) is reads
 
 -- the script that there is is the one of the request
 gives_request : (generate : Option ℕ) (left : Option (List ℕ)) (input : List ℕ) (s : Listing) → IfSome left (λ told. told ≡ input) → GivesScript generate left s → script_for generate input ≡ Ok s
@@ -88,24 +118,25 @@ gives_request (Some number) left input s told given = ap Ok (sym given)
 gives_request None None input s told given = absurd given
 gives_request None (Some xs) input s told given = ap script_of (sym told) ∙ given
 
--- the table of statuses is complete
-pub completes : (May : Tellable) → (said : Option Options) (left : Option (List ℕ)) (read write : Type 0) (old new : Option (List ℕ)) (status : Status) → Answers May (request said) left read write old new status → Completes May said left read write old new status
-completes May said left read write old new status answer = λ o s is given no_read no_write.
-    let asked : request said answer.0 ≡ accepted o.summary s = ap (λ q. request q answer.0) is ∙ ap (request_of o.summary) (gives_request o.generate left answer.0 s answer.1 given) in
-    complete_for May o.summary s read write old new status (subst (λ q. Says May q read write old new status) asked answer.2) no_read no_write
+module _ {M : Type 0} (Serves : Service M) (kept : Option M) where
+  -- the table of statuses is complete
+  pub completes : (said : Option Options) (left : Option (List ℕ)) (read write : Type 0) (old new : Option (List ℕ)) (status : Status) → Answers Serves kept (request said) left read write old new status → Completes Serves kept said left read write old new status
+  completes said left read write old new status answer = λ o s is given no_read no_write.
+      let asked : request said answer.0 ≡ accepted o.summary s = ap (λ q. request q answer.0) is ∙ ap (request_of o.summary) (gives_request o.generate left answer.0 s answer.1 given) in
+      complete_for Serves kept o.summary s read write old new status (subst (λ q. Says Serves kept q read write old new status) asked answer.2) no_read no_write
 
--- what is answered to the request of these words
-pub answers_as : (May : Tellable) → (said : Option Options) (asked : List ℕ → Request) (left : Option (List ℕ)) (read write : Type 0) (old new : Option (List ℕ)) (status : Status) → ((input : List ℕ) → asked input ≡ request said input)
-    → Answers May asked left read write old new status → Answers May (request said) left read write old new status
-answers_as May said asked left read write old new status same answer = (answer.0, answer.1, subst (λ q. Says May q read write old new status) (same answer.0) answer.2)
+  -- what is answered to the request of these words
+  pub answers_as : (said : Option Options) (asked : List ℕ → Request) (left : Option (List ℕ)) (read write : Type 0) (old new : Option (List ℕ)) (status : Status) → ((input : List ℕ) → asked input ≡ request said input)
+      → Answers Serves kept asked left read write old new status → Answers Serves kept (request said) left read write old new status
+  answers_as said asked left read write old new status same answer = (answer.0, answer.1, subst (λ q. Says Serves kept q read write old new status) (same answer.0) answer.2)
 
--- what is said without the input
-pub answers_any : (May : Tellable) → (asked : List ℕ → Request) (r : Request) (left : Option (List ℕ)) (read write : Type 0) (old new : Option (List ℕ)) (status : Status) → ((input : List ℕ) → asked input ≡ r) → Says May r ⊥ write old new status
-    → Answers May asked left read write old new status
-answers_any May asked r left read write old new status same h = let t = any_input left in (t.0, t.1, said May r (asked t.0) read write old new status (same t.0) h)
+  -- what is said without the input
+  pub answers_any : (asked : List ℕ → Request) (r : Request) (left : Option (List ℕ)) (read write : Type 0) (old new : Option (List ℕ)) (status : Status) → ((input : List ℕ) → asked input ≡ r) → Says Serves kept r ⊥ write old new status
+      → Answers Serves kept asked left read write old new status
+  answers_any asked r left read write old new status same h = let t = any_input left in (t.0, t.1, said Serves kept r (asked t.0) read write old new status (same t.0) h)
 
-pub answers_memory : (May : Tellable) → (asked : List ℕ → Request) (left : Option (List ℕ)) (read write : Type 0) (old : Option (List ℕ)) → Answers May asked left read write old old NoMemory
-answers_memory May asked left read write old = let t = any_input left in (t.0, t.1, said_no_memory May (asked t.0) read write old)
+  pub answers_memory : (asked : List ℕ → Request) (left : Option (List ℕ)) (read write : Type 0) (old : Option (List ℕ)) → kept ≡ None → Answers Serves kept asked left read write old old NoMemory
+  answers_memory asked left read write old none = let t = any_input left in (t.0, t.1, said_no_memory Serves kept (asked t.0) read write old none)
 
 -- what words call for, by what they say
 pub asks_generated : (said : Option Options) (o : Options) (number : ℕ) (input : List ℕ) → said ≡ Some o → o.generate ≡ Some number → request said input ≡ accepted o.summary (generated number)
@@ -136,39 +167,15 @@ taken_more (Some xs) (Some ys) None v w took more most = absurd more
 taken_more (Some xs) (Some ys) (Some zs) v w took more most = (v ++ w, took ∙ ap (λ r. v ++ r) more ∙ sym (append_assoc v w zs), rw (length-append v w) most)
 
 -- where no read failed the status says so
-pub never_read : (May : Tellable) → (r : Request) (write : Type 0) (old new : Option (List ℕ)) (s : Status) (before : ℕ) → Says May r ⊥ write old new s → read_faults s before ≡ before
-never_read May r write old new ReadFault before h = absurd (no_fault r h)
+pub never_read : {M : Type 0} (Serves : Service M) (kept : Option M) (r : Request) (write : Type 0) (old new : Option (List ℕ)) (s : Status) (before : ℕ) → Says Serves kept r ⊥ write old new s → read_faults s before ≡ before
+never_read Serves kept r write old new ReadFault before h = absurd (no_fault r h)
   where
-    no_fault : (q : Request) → Says May q ⊥ write old new ReadFault → ⊥
+    no_fault : (q : Request) → Says Serves kept q ⊥ write old new ReadFault → ⊥
     no_fault misused h = h
-    no_fault (refused p) h = h.0
-    no_fault (accepted summary p) h = h.0
-never_read May r write old new Done before h = refl
-never_read May r write old new Usage before h = refl
-never_read May r write old new Refused before h = refl
-never_read May r write old new WriteFault before h = refl
-never_read May r write old new NoMemory before h = refl
-
--- what is said of results that may be told is said of some results
-pub any_said : (May : Tellable) (r : Request) (read write : Type 0) (old new : Option (List ℕ)) (s : Status) → Says May r read write old new s → Says AnyTold r read write old new s
-any_said May misused read write old new Done h = h
-any_said May misused read write old new Usage h = h
-any_said May misused read write old new Refused h = h
-any_said May misused read write old new ReadFault h = h
-any_said May misused read write old new WriteFault h = h
-any_said May misused read write old new NoMemory h = h
-any_said May (refused p) read write old new Done h = h
-any_said May (refused p) read write old new Usage h = h
-any_said May (refused p) read write old new Refused h = h
-any_said May (refused p) read write old new ReadFault h = h
-any_said May (refused p) read write old new WriteFault h = h
-any_said May (refused p) read write old new NoMemory h = h
-any_said May (accepted summary p) read write old new Done h = (h.0, h.1, h.2, tt, h.4)
-any_said May (accepted summary p) read write old new Usage h = h
-any_said May (accepted summary p) read write old new Refused h = h
-any_said May (accepted summary p) read write old new ReadFault h = h
-any_said May (accepted summary p) read write old new WriteFault h = (h.0, (h.1.0, h.1.1, h.1.2, tt, h.1.4))
-any_said May (accepted summary p) read write old new NoMemory h = h
-
-pub any_answers : (May : Tellable) (asked : List ℕ → Request) (left : Option (List ℕ)) (read write : Type 0) (old new : Option (List ℕ)) (s : Status) → Answers May asked left read write old new s → Answers AnyTold asked left read write old new s
-any_answers May asked left read write old new s answer = (answer.0, answer.1, any_said May (asked answer.0) read write old new s answer.2)
+    no_fault (refused p) h = h.1
+    no_fault (accepted summary p) h = h.1
+never_read Serves kept r write old new Done before h = refl
+never_read Serves kept r write old new Usage before h = refl
+never_read Serves kept r write old new Refused before h = refl
+never_read Serves kept r write old new WriteFault before h = refl
+never_read Serves kept r write old new NoMemory before h = refl

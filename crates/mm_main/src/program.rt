@@ -1,29 +1,30 @@
 //! The program over any source and sink.
-ghost use Rattle.std.specs.Prelude.{◌≡◌, ◌≤◌, ◌+◌, ◌^◌, false, length, true};
+ghost use Rattle.std.specs.Prelude.{◌≡◌, ◌≤◌, ◌+◌, None, false, length, true};
 ghost use Rattle.std.specs.Io.KnownBytes.{IsAtEnd};
 ghost use Rattle.task_script.specs.Generated.{generated};
 ghost use Rattle.task_script.specs.Grammar.{script_of};
-ghost use Rattle.task_script.specs.Scripts.{count_of_calls};
-ghost use Rattle.task_script.specs.Sound.{IsSound};
 ghost use Rattle.mm_main.specs.CommandLine.{said_by};
 ghost use Rattle.mm_main.specs.Requests.{misused, refused, accepted, reads_input, reason_text};
 ghost use Rattle.mm_main.specs.Requests.{request, request_of};
-ghost use Rattle.mm_main.specs.Answers.{AnswersTo, AnyTold, CompletesTo, SaysTo, TakesAtMost};
+ghost use Rattle.mm_main.specs.Answers.{AnswersTo, CompletesTo, NoService, SaysTo, TakesAtMost};
 ghost use Rattle.mm_main.specs.Answers.{read_faults, write_faults};
-ghost use Rattle.mm_main.specs.Serial.{NoneKeptOff};
+ghost use Rattle.mm_main.specs.Kept.{HasServed};
 
 use crate::input::{InputError, read_all};
 use crate::options::{Options, OptionsError};
-use crate::serial::perform_all;
 use crate::status::Status;
-use mm_report::{Results, report};
+use crate::threads::run_on_threads;
+use cpu_task::{Crew, Gate};
+use mm_serve::{Machine, SharedObject};
 use std::alloc::{AllocError, Global};
-use task_script::{Outbox, Reason, Script, ScriptError, Sink, Source, generate, put, read};
+use std::sync::Wait;
+use std::thread::Threads;
+use task_script::{Outbox, Reason, ScriptError, Sink, Source, generate, put, read};
 
 const USAGE: &[u8] = b"usage: mm_main [--spin N] [--overdue N] [--generate N] [--summary]\n";
 
 fn usage<K: Sink>(sink: &mut K) -> Status
-    ensures says { SaysTo K.faults K.written sink.old sink.new NoneKeptOff misused result }
+    ensures says { SaysTo K.faults K.written sink.old sink.new NoService None misused result }
     ensures faults { K.faults sink.new ≡ write_faults result (K.faults sink.old) }
 {
     match put(sink, USAGE) {
@@ -55,7 +56,7 @@ fn reason_name(reason: Reason) -> &'static [u8]
 }
 
 fn refuse<K: Sink>(line: u32, reason: Reason, sink: &mut K) -> Status
-    ensures says { SaysTo K.faults K.written sink.old sink.new NoneKeptOff
+    ensures says { SaysTo K.faults K.written sink.old sink.new NoService None
         (refused record { line = line; reason = reason }) result }
     ensures faults { K.faults sink.new ≡ write_faults result (K.faults sink.old) }
 {
@@ -71,57 +72,95 @@ fn refuse<K: Sink>(line: u32, reason: Reason, sink: &mut K) -> Status
     }
 }
 
-fn run<K: Sink>(alloc: Global, script: &Script, summary: bool, sink: &mut K) -> Status
-    requires sound { IsSound script.now }
-    requires few { count_of_calls script.now ≤ 2 ^ 18 }
-    ensures says { SaysTo K.faults K.written sink.old sink.new NoneKeptOff
-        (accepted summary script.now) result }
-    ensures faults { K.faults sink.new ≡ write_faults result (K.faults sink.old) }
-{
-    let Ok(mut results) = Results::new(alloc, script) else {
-        return Status::NoMemory;
-    };
-    perform_all(script, &mut results);
-    match report(script, &mut results, summary, sink) {
-        Ok(()) => Status::Done,
-        Err(_) => Status::WriteFault,
-    }
-}
-
-fn answer<K: Sink>(alloc: Global, input: &[u8], summary: bool, sink: &mut K) -> Status
-    requires { length input.now ≤ 1048577 }
-    ensures says { SaysTo K.faults K.written sink.old sink.new NoneKeptOff
-        (request_of summary (script_of input.now)) result }
+fn answer<
+    O: SharedObject + Drop + Sync,
+    K: Sink,
+    R: Threads + Wait + Sync,
+    C: Crew + Sync,
+    G: Gate + Sync,
+>(
+    rt: &R,
+    alloc: Global,
+    input: &[u8],
+    options: &Options,
+    sink: &mut K,
+    crew: &mut C,
+    gate: &G,
+    kept: &mut Option<Machine<O, C>>,
+) -> Status
+where
+    O::Pass: Send,
+    C::C: Send,
+    requires { kept.old ≡ None }
+    ensures says { SaysTo K.faults K.written sink.old sink.new
+        (HasServed O.idle O.hand O.is_space O.calls_on O.knows_past) kept.new
+        (request_of options.now.summary (script_of input.now)) result }
     ensures faults { K.faults sink.new ≡ write_faults result (K.faults sink.old) }
 {
     match read(alloc, input) {
-        Ok(script) => run(alloc, &script, summary, sink),
+        Ok(script) => run_on_threads(rt, alloc, &script, options, sink, crew, gate, kept),
         Err(ScriptError::Refused { line, reason }) => refuse(line, reason, sink),
         Err(ScriptError::Memory) => Status::NoMemory,
     }
 }
 
 // Answers the script of a number.
-fn answer_generated<K: Sink>(alloc: Global, number: u32, summary: bool, sink: &mut K) -> Status
-    ensures says { SaysTo K.faults K.written sink.old sink.new NoneKeptOff
-        (accepted summary (generated number)) result }
+fn answer_generated<
+    O: SharedObject + Drop + Sync,
+    K: Sink,
+    R: Threads + Wait + Sync,
+    C: Crew + Sync,
+    G: Gate + Sync,
+>(
+    rt: &R,
+    alloc: Global,
+    number: u32,
+    options: &Options,
+    sink: &mut K,
+    crew: &mut C,
+    gate: &G,
+    kept: &mut Option<Machine<O, C>>,
+) -> Status
+where
+    O::Pass: Send,
+    C::C: Send,
+    requires { kept.old ≡ None }
+    ensures says { SaysTo K.faults K.written sink.old sink.new
+        (HasServed O.idle O.hand O.is_space O.calls_on O.knows_past) kept.new
+        (accepted options.now.summary (generated number)) result }
     ensures faults { K.faults sink.new ≡ write_faults result (K.faults sink.old) }
 {
     match generate(alloc, number) {
-        Ok(script) => run(alloc, &script, summary, sink),
+        Ok(script) => run_on_threads(rt, alloc, &script, options, sink, crew, gate, kept),
         Err(AllocError) => Status::NoMemory,
     }
 }
 
 // Answers the script that the source gives.
-fn answer_input<S: Source, K: Sink>(
+fn answer_input<
+    O: SharedObject + Drop + Sync,
+    S: Source,
+    K: Sink,
+    R: Threads + Wait + Sync,
+    C: Crew + Sync,
+    G: Gate + Sync,
+>(
+    rt: &R,
     alloc: Global,
-    summary: bool,
+    options: &Options,
     source: &mut S,
     sink: &mut K,
+    crew: &mut C,
+    gate: &G,
+    kept: &mut Option<Machine<O, C>>,
 ) -> Status
+where
+    O::Pass: Send,
+    C::C: Send,
+    requires { kept.old ≡ None }
     ensures answer { AnswersTo S.left S.faults K.faults K.written source.old source.new
-        sink.old sink.new NoneKeptOff (λ input. request_of summary (script_of input)) result }
+        sink.old sink.new (HasServed O.idle O.hand O.is_space O.calls_on O.knows_past) kept.new
+        (λ input. request_of options.now.summary (script_of input)) result }
     ensures read_faults { S.faults source.new ≡ read_faults result (S.faults source.old) }
     ensures write_faults { K.faults sink.new ≡ write_faults result (K.faults sink.old) }
     ensures taken { TakesAtMost 1048577 (S.left source.old) (S.left source.new) }
@@ -130,33 +169,46 @@ fn answer_input<S: Source, K: Sink>(
     ensures whole { result ≡ Status.Done → IsAtEnd (S.left source.new) }
 {
     match read_all(alloc, source) {
-        Ok(input) => answer(alloc, input.as_slice(), summary, sink),
+        Ok(input) => answer(rt, alloc, input.as_slice(), options, sink, crew, gate, kept),
         Err(InputError::Memory) => Status::NoMemory,
         Err(InputError::Failed) => Status::ReadFault,
     }
 }
 
-/// Reads a script from the source, or generates one, does its calls one after the other, task by
-/// task, and writes their histories to the sink, or the summary. No call has to wait, so none is
-/// busy or interrupted.
+/// Reads a script from the source, or generates one, does its tasks at once, each on a thread of
+/// its own, and writes their histories to the sink, or the summary. `kept` has the machine that
+/// did them then. Where no task began nothing is kept.
 ///
-/// `words` are the words of the command line after the program's name. Nothing spins or sleeps yet,
-/// so the numbers of `--spin` and `--overdue` reach nothing.
-pub fn top<S: Source, K: Sink>(
+/// `words` are the words of the command line after the program's name. No memory is taken once the
+/// first task has begun. Where a thread can't be made its task is done after another's, on that
+/// one's thread, so tasks that wait for each other can then wait for good.
+pub fn top<
+    O: SharedObject + Drop + Sync,
+    S: Source,
+    K: Sink,
+    R: Threads + Wait + Sync,
+    C: Crew + Sync,
+    G: Gate + Sync,
+>(
+    rt: &R,
     alloc: Global,
     words: &[String],
     source: &mut S,
     sink: &mut K,
+    crew: &mut C,
+    gate: &G,
+    kept: &mut Option<Machine<O, C>>,
 ) -> Status
+where
+    O::Pass: Send,
+    C::C: Send,
+    requires { kept.old ≡ None }
     ensures answer { AnswersTo S.left S.faults K.faults K.written source.old source.new
-        sink.old sink.new AnyTold (request (said_by words.now)) result }
-
-    // Task by task no call is kept off its object.
-    ensures none_kept_off { AnswersTo S.left S.faults K.faults K.written source.old source.new
-        sink.old sink.new NoneKeptOff (request (said_by words.now)) result }
-
+        sink.old sink.new (HasServed O.idle O.hand O.is_space O.calls_on O.knows_past) kept.new
+        (request (said_by words.now)) result }
     ensures complete { CompletesTo S.left S.faults K.faults K.written source.old source.new
-        sink.old sink.new AnyTold (said_by words.now) result }
+        sink.old sink.new (HasServed O.idle O.hand O.is_space O.calls_on O.knows_past) kept.new
+        (said_by words.now) result }
     ensures read_faults { S.faults source.new ≡ read_faults result (S.faults source.old) }
     ensures write_faults { K.faults sink.new ≡ write_faults result (K.faults sink.old) }
     ensures taken { TakesAtMost 1048577 (S.left source.old) (S.left source.new) }
@@ -172,7 +224,7 @@ pub fn top<S: Source, K: Sink>(
         Err(OptionsError::Memory) => return Status::NoMemory,
     };
     match options.generate {
-        Some(number) => answer_generated(alloc, number, options.summary, sink),
-        None => answer_input(alloc, options.summary, source, sink),
+        Some(number) => answer_generated(rt, alloc, number, &options, sink, crew, gate, kept),
+        None => answer_input(rt, alloc, &options, source, sink, crew, gate, kept),
     }
 }

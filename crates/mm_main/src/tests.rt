@@ -1,21 +1,32 @@
 //! The program over sources and sinks in memory.
 ghost use Rattle.std.specs.Prelude.{◌<◌};
 
+use crate::objects::ScriptMachine;
 use crate::program::top;
 use crate::status::Status;
+use cpu_task::{Crew, Gate, OpenGate, ParkCrew};
 use examples::{
     FIRST_SCRIPT, FIRST_TEXT, FULL_TABLE_SCRIPT, FULL_TABLE_TEXT, REFUSED_LINE_SCRIPT,
     REFUSED_LINE_TEXT, SPLIT_AND_JOIN_SCRIPT, SPLIT_AND_JOIN_TEXT, TWO_OBJECTS_SCRIPT,
     TWO_OBJECTS_TEXT,
 };
+use fd_table::Fds;
+use guarded::{Mutex, RwSem};
+use mm_serve::{SpaceLock, TableLock};
 use std::alloc::{AllocError, Global};
+use std::sync::Wait;
 use std::test::Fail;
+use std::thread::Threads;
 use task_script::{MemSink, MemSource};
+use vma_map::Areas;
+use word_bits::MAX_TASKS;
 
 mod command_line;
 mod examples;
 mod generated;
 mod options;
+mod replay;
+mod threads;
 
 const ORDINARY: &str = "space a\ntask\na map 16 4 rw-\na fault 17 w\na fault 20 r\n";
 
@@ -28,10 +39,78 @@ const ORDINARY_TEXT: &str = concat!(
     "16-20 rw-\n",
 );
 
+/// Runs the program over locks of these kinds. Answers how it ended, and whether a machine is kept.
+fn top_under<
+    A: SpaceLock + Drop + Sync,
+    T: TableLock + Drop + Sync,
+    R: Threads + Wait + Sync,
+    C: Crew + Sync,
+    G: Gate + Sync,
+>(
+    rt: &R,
+    alloc: Global,
+    words: &[String],
+    source: &mut MemSource,
+    sink: &mut MemSink,
+    crew: &mut C,
+    gate: &G,
+) -> (Status, bool)
+where
+    A::Pass: Send,
+    T::Pass: Send,
+    C::C: Send,
+{
+    let mut kept: Option<ScriptMachine<A, T, C>> = None;
+    let status = top(rt, alloc, words, source, sink, crew, gate, &mut kept);
+    (status, kept.is_some())
+}
+
+/// The same with these words, over the locks that the program has.
+fn run_with<R: Threads + Wait + Sync, C: Crew + Sync, G: Gate + Sync>(
+    rt: &R,
+    alloc: Global,
+    words: &[&str],
+    source: &mut MemSource,
+    sink: &mut MemSink,
+    crew: &mut C,
+    gate: &G,
+) -> Result<(Status, bool), AllocError>
+where
+    C::C: Send,
+{
+    let mut owned = Vec::new(alloc);
+    for word in words {
+        owned.push(String::from_str(alloc, word)?)?;
+    }
+    Ok(top_under::<RwSem<Areas>, Mutex<Fds>, R, C, G>(
+        rt,
+        alloc,
+        owned.as_slice(),
+        source,
+        sink,
+        crew,
+        gate,
+    ))
+}
+
+/// The same with CPUs that park.
+fn run_behind<R: Threads + Wait + Sync, G: Gate + Sync>(
+    rt: &R,
+    alloc: Global,
+    words: &[&str],
+    source: &mut MemSource,
+    sink: &mut MemSink,
+    gate: &G,
+) -> Result<(Status, bool), AllocError> {
+    let mut crew = ParkCrew::new(alloc, MAX_TASKS)?;
+    run_with(rt, alloc, words, source, sink, &mut crew, gate)
+}
+
 /// How a run ended, and what it wrote.
 type Outcome = (Status, Vec<u8>);
 
-fn run(
+fn run<R: Threads + Wait + Sync>(
+    rt: &R,
     alloc: Global,
     script: &[u8],
     step: usize,
@@ -42,13 +121,17 @@ fn run(
 {
     let mut source = MemSource::new(alloc, script, step, fails)?;
     let mut sink = MemSink::new(alloc, room, 3, &[])?;
-    let status = top(alloc, &[], &mut source, &mut sink);
+    let (status, _) = run_behind(rt, alloc, &[], &mut source, &mut sink, &OpenGate)?;
     Ok((status, Vec::from_slice(alloc, sink.written())?))
 }
 
 /// The outcome where nothing fails.
-fn text_of(alloc: Global, script: &[u8]) -> Result<Outcome, AllocError> {
-    run(alloc, script, 1000, &[], 100_000)
+fn text_of<R: Threads + Wait + Sync>(
+    rt: &R,
+    alloc: Global,
+    script: &[u8],
+) -> Result<Outcome, AllocError> {
+    run(rt, alloc, script, 1000, &[], 100_000)
 }
 
 #[test]
@@ -88,7 +171,7 @@ fn answers_scripts_with_their_text(rt: HostRuntime) -> Result<(), Fail> {
             "space a\n0.0 map 16 4 rw- = 16\n0.1 fault 16 x = accerr\n0.2 fault 15 r = maperr\n0.3 protect 16 1 --- = ok\n0.4 fault 16 r = accerr\nleft 2\n16-17 ---\n17-20 rw-\n",
         ),
     ] {
-        let (status, written) = text_of(rt.alloc(), script.as_bytes())?;
+        let (status, written) = text_of(&rt, rt.alloc(), script.as_bytes())?;
         assert_eq!(rt; status, Status::Done, "{script}");
         assert_eq!(rt; written.as_slice(), text.as_bytes(), "{script}");
     }
@@ -98,51 +181,66 @@ fn answers_scripts_with_their_text(rt: HostRuntime) -> Result<(), Fail> {
 // A signal stands at what its own task has seen of the object: in front of every logged call where
 // it is the first of its task there.
 #[test]
-fn does_calls_task_by_task(rt: HostRuntime) -> Result<(), Fail> {
+fn one_task_does_its_calls_in_order(rt: HostRuntime) -> Result<(), Fail> {
     let script = concat!(
         "space a\n",
         "table f\n",
         "task\n",
+        "a signal 0\n",
         "a map 16 4 rw-\n",
         "f open 7\n",
         "int a fault 16 x\n",
         "a signal 1\n",
-        "task\n",
-        "a signal 0\n",
         "try a map 20 1 r--\n",
         "f signal 9\n",
-        "a signal 1\n",
+        "a fault 20 w\n",
         "f dup 0\n",
         "f get 1\n",
-        "task\n",
-        "a fault 20 w\n",
         "int f close 0\n",
         "a unmap 18 8\n",
         "f signal 0\n",
     );
     let text = concat!(
         "space a\n",
-        "1.0 signal 0 = sent\n",
-        "0.0 map 16 4 rw- = 16\n",
-        "0.2 int fault 16 x = accerr\n",
-        "0.3 signal 1 = sent\n",
-        "1.1 try map 20 1 r-- = 20\n",
-        "1.3 signal 1 = sent\n",
-        "2.0 fault 20 w = accerr\n",
-        "2.2 unmap 18 8 = ok\n",
+        "0.0 signal 0 = sent\n",
+        "0.1 map 16 4 rw- = 16\n",
+        "0.3 int fault 16 x = accerr\n",
+        "0.4 signal 1 = sent\n",
+        "0.5 try map 20 1 r-- = 20\n",
+        "0.7 fault 20 w = accerr\n",
+        "0.11 unmap 18 8 = ok\n",
         "left 1\n",
         "16-18 rw-\n",
         "table f\n",
-        "1.2 signal 9 = sent\n",
-        "0.1 open 7 = 0\n",
-        "1.4 dup 0 = 1\n",
-        "1.5 get 1 = 7\n",
-        "2.1 int close 0 = ok\n",
-        "2.3 signal 0 = sent\n",
+        "0.2 open 7 = 0\n",
+        "0.6 signal 9 = sent\n",
+        "0.8 dup 0 = 1\n",
+        "0.9 get 1 = 7\n",
+        "0.10 int close 0 = ok\n",
+        "0.12 signal 0 = sent\n",
         "left 1\n",
         "1 7\n",
     );
-    let (status, written) = text_of(rt.alloc(), script.as_bytes())?;
+    let (status, written) = text_of(&rt, rt.alloc(), script.as_bytes())?;
+    assert_eq!(rt; status, Status::Done);
+    assert_eq!(rt; written.as_slice(), text.as_bytes());
+    Ok(())
+}
+
+// Calls that change nothing stand by task where they stand at one place.
+#[test]
+fn tasks_that_only_read_stand_by_their_numbers(rt: HostRuntime) -> Result<(), Fail> {
+    let script = "table f\ntask\nf get 3\nf get 4\ntask\nf get 5\nf signal 0\ntask\nf get 6\n";
+    let text = concat!(
+        "table f\n",
+        "0.0 get 3 = EBADF\n",
+        "0.1 get 4 = EBADF\n",
+        "1.0 get 5 = EBADF\n",
+        "1.1 signal 0 = sent\n",
+        "2.0 get 6 = EBADF\n",
+        "left 0\n",
+    );
+    let (status, written) = text_of(&rt, rt.alloc(), script.as_bytes())?;
     assert_eq!(rt; status, Status::Done);
     assert_eq!(rt; written.as_slice(), text.as_bytes());
     Ok(())
@@ -157,7 +255,7 @@ fn answers_the_examples(rt: HostRuntime) -> Result<(), Fail> {
         (TWO_OBJECTS_SCRIPT, TWO_OBJECTS_TEXT, Status::Done),
         (REFUSED_LINE_SCRIPT, REFUSED_LINE_TEXT, Status::Refused),
     ] {
-        let (answered, written) = text_of(rt.alloc(), script.as_bytes())?;
+        let (answered, written) = text_of(&rt, rt.alloc(), script.as_bytes())?;
         assert_eq!(rt; answered, status);
         assert_eq!(rt; written.as_slice(), text.as_bytes(), "{script}");
     }
@@ -196,7 +294,7 @@ fn joins_the_257th_page(rt: HostRuntime) -> Result<(), Fail> {
         add_call(alloc, &mut script, &mut text, number, call, reply)?;
     }
     text.push_str("left 1\n0-257 r--\n")?;
-    let (status, written) = text_of(alloc, script.as_bytes())?;
+    let (status, written) = text_of(&rt, alloc, script.as_bytes())?;
     assert_eq!(rt; status, Status::Done);
     assert_eq!(rt; written.as_slice(), text.as_bytes());
     Ok(())
@@ -231,7 +329,7 @@ fn fills_a_table(rt: HostRuntime) -> Result<(), Fail> {
         let file = if fd == 9 { 8 } else { 7 };
         text.push_str(&format!(in alloc; "{fd} {file}\n")?)?;
     }
-    let (status, written) = text_of(alloc, script.as_bytes())?;
+    let (status, written) = text_of(&rt, alloc, script.as_bytes())?;
     assert_eq!(rt; status, Status::Done);
     assert_eq!(rt; written.as_slice(), text.as_bytes());
     Ok(())
@@ -243,7 +341,7 @@ fn takes_lenient_input(rt: HostRuntime) -> Result<(), Fail> {
         b"space  a\r\n# caf\xc3\xa9\r\ntask\r\na  map  16  4  rw-\r\na  fault  17  w\r\na  fault  20  r".as_slice(),
         b"space  a\r\n# caf\xe9\r\ntask\r\na  map  16  4  rw-\r\na  fault  17  w\r\na  fault  20  r",
     ] {
-        let (status, written) = text_of(rt.alloc(), script)?;
+        let (status, written) = text_of(&rt, rt.alloc(), script)?;
         assert_eq!(rt; status, Status::Done);
         assert_eq!(rt; written.as_slice(), ORDINARY_TEXT.as_bytes());
     }
@@ -278,7 +376,7 @@ fn says_why_a_line_is_refused(rt: HostRuntime) -> Result<(), Fail> {
         ("space", "refused 1 Words\n"),
         ("space a\nt", "refused 2 Place\n"),
     ] {
-        let (status, written) = text_of(rt.alloc(), script.as_bytes())?;
+        let (status, written) = text_of(&rt, rt.alloc(), script.as_bytes())?;
         assert_eq!(rt; status, Status::Refused, "{script}");
         assert_eq!(rt; written.as_slice(), text.as_bytes(), "{script}");
     }
@@ -289,7 +387,7 @@ fn says_why_a_line_is_refused(rt: HostRuntime) -> Result<(), Fail> {
 fn refuses_past_the_limits(rt: HostRuntime) -> Result<(), Fail> {
     let alloc = rt.alloc();
     let mut long = vec![in alloc; b'#'; 1_048_576]?;
-    let (status, written) = text_of(alloc, &long)?;
+    let (status, written) = text_of(&rt, alloc, &long)?;
     assert_eq!(rt; status, Status::Done);
     assert!(rt; written.is_empty());
     long.push(b'#')?;
@@ -306,7 +404,7 @@ fn refuses_past_the_limits(rt: HostRuntime) -> Result<(), Fail> {
         (spaces.as_bytes(), "refused 17 Limit\n"),
         (tasks.as_bytes(), "refused 65 Limit\n"),
     ] {
-        let (status, written) = text_of(alloc, script)?;
+        let (status, written) = text_of(&rt, alloc, script)?;
         assert_eq!(rt; status, Status::Refused);
         assert_eq!(rt; written.as_slice(), text.as_bytes());
     }
@@ -317,14 +415,14 @@ fn refuses_past_the_limits(rt: HostRuntime) -> Result<(), Fail> {
 fn ends_at_a_fault_with_what_was_written(rt: HostRuntime) -> Result<(), Fail> {
     let script = ORDINARY.as_bytes();
     for fail in [0, 1, 2, 3] {
-        let (status, written) = run(rt.alloc(), script, 8, &[fail], 1000)?;
+        let (status, written) = run(&rt, rt.alloc(), script, 8, &[fail], 1000)?;
         assert_eq!(rt; status, Status::ReadFault, "read {fail}");
         assert_eq!(rt; written.len(), 0);
     }
-    let (status, written) = run(rt.alloc(), script, 8, &[], 10)?;
+    let (status, written) = run(&rt, rt.alloc(), script, 8, &[], 10)?;
     assert_eq!(rt; status, Status::WriteFault);
     assert_eq!(rt; written.as_slice(), b"space a\n0.".as_slice());
-    let (status, written) = run(rt.alloc(), b"space A\n", 8, &[], 4)?;
+    let (status, written) = run(&rt, rt.alloc(), b"space A\n", 8, &[], 4)?;
     assert_eq!(rt; status, Status::WriteFault);
     assert_eq!(rt; written.as_slice(), b"refu".as_slice());
     Ok(())

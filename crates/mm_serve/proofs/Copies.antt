@@ -31,6 +31,14 @@ module _ {S P : Type 0} (idle : S → P → Type 0) (hand : P → Hand) (is_spac
   still-blank sites passes words n s was w each below s-is was-is at =
       sym (get-some words n w at) ∙ (between-at (IsCopied idle hand is_space calls_on words) (IsToCopy idle hand is_space calls_on words) sites passes n s was each below s-is was-is).2 w
 
+  -- passes with the same hands know the same histories
+  pub still-copied : (sites : List S) (olds news : List P) (words : List Words) → EachOf (IsCopied idle hand is_space calls_on words) sites olds → EachOf (λ k s p. idle s p) sites news → ((k : ℕ) (p : P) → hand (get_or news k p) ≡ hand (get_or olds k p))
+      → EachOf (IsCopied idle hand is_space calls_on words) sites news
+  still-copied sites olds news words copied rest hands = (
+    rest.0,
+    (λ k s p lt. (rest.1 k s p lt, (λ w. subst (λ (h : Hand). IsKnownHistoryOn (is_space (get_or sites k s)) (calls_on (get_or sites k s)) h (get_or words k w)) (sym (hands k p)) ((copied.1 k s p lt).1 w)))),
+  )
+
 pick : (G : ℕ → Hand → Type 0) (one : Told) (rest : List Told) → ((h : Hand) × G 0 h × AreKnown h one.records) → ((i : ℕ) (x : Told) → slice_get rest i ≡ Some x → (h : Hand) × G (suc i) h × AreKnown h x.records) → (i : ℕ) (x : Told) → slice_get (one ∷ rest) i ≡ Some x → (h : Hand) × G i h × AreKnown h x.records
 pick G one rest here more zero x at = (here.0, here.1, subst (λ (y : Told). AreKnown here.0 y.records) (same-some one x at) here.2)
 pick G one rest here more (suc i) x at = more i x at

@@ -24,3 +24,7 @@ module _ {S P : Type 0} (idle : S → P → Type 0) (hand : P → Hand) (is_spac
   -- all calls are done, and the snapshot of the object's number is blank
   abbrev pub IsToCopy : List Words → ℕ → S → P → Type 0
   IsToCopy words k s p = idle s p × KnowsAllDone hand is_space calls_on s p × ((w : Words) → slice_index_or words k w ≡ blank (is_space s) (calls_on s))
+
+-- the pass of each object knows the past of the object's table
+abbrev pub KnowPasts : {S P : Type 0} → (S → P → Type 0) → List S → List P → Type 0
+KnowPasts {S} {P} knows_past sites passes = (k : ℕ) (s : S) (p : P) → slice_get sites k ≡ Some s → slice_get passes k ≡ Some p → knows_past s p

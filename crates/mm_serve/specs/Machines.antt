@@ -7,7 +7,7 @@ use Rattle.lock_core.specs.declared.view.Hand.{Hand}
 use Rattle.mm_report.specs.Results.{Told, AreLegal, AreComplete}
 use Rattle.task_script.specs.Scripts.{Declared, Listing, plan_of}
 use Rattle.mm_serve.specs.declared.machine.Machine.{Machine}
-use Rattle.mm_serve.specs.Copying.{AreBlank, IsCopied}
+use Rattle.mm_serve.specs.Copying.{AreBlank, IsCopied, KnowPasts}
 use Rattle.mm_serve.specs.Workers.{EachOf, IsReady, AreNumbered}
 
 -- one task at least, as which the histories are copied
@@ -68,6 +68,10 @@ module _ {S C P U : Type 0} where
   -- no gathered pass has a task's number or owes anything
   abbrev pub IsAtRest : (S → P → Type 0) → Machine S C P U → Type 0
   IsAtRest idle m = EachOf (λ k s p. idle s p) (sites_of m) (gathered_of m)
+
+  -- each gathered pass knows the past of its object's table
+  abbrev pub KnowsPasts : (S → P → Type 0) → Machine S C P U → Type 0
+  KnowsPasts knows_past m = KnowPasts knows_past (sites_of m) (gathered_of m)
 
   -- The pass of one object knows the past of the object's table, and has the hand that it had; all else is as before.
   pub record HasRecalled (hand : P → Hand) (knows_past : S → P → Type 0) (object : ℕ) (old new : Machine S C P U) : Type 0 where

@@ -1,6 +1,6 @@
 //! The copies of all objects' histories.
 ghost use Rattle.std.specs.Prelude.{◌≡◌, ◌≢◌, ℕ, ◌<◌, length, slice_get, slice_index_or, Some};
-ghost use Rattle.mm_serve.specs.Copying.{IsCopied, IsToCopy};
+ghost use Rattle.mm_serve.specs.Copying.{IsCopied, IsToCopy, KnowPasts};
 ghost use Rattle.mm_serve.specs.Workers.{EachOf};
 
 use crate::shared_object::SharedObject;
@@ -50,4 +50,17 @@ pub(crate) fn recall<S: SharedObject>(sites: &[S], gathered: &mut Vec<S::Pass>, 
         slice_get gathered.new.items object ≡ Some p → S.knows_past s p }
 {
     sites[object].recall(&mut gathered[object]);
+}
+
+/// Looks at the table of each object by the object's gathered pass.
+pub(crate) fn recall_all<S: SharedObject>(sites: &[S], gathered: &mut Vec<S::Pass>)
+    requires { EachOf (λ k s p. S.idle s p) sites.now gathered.old.items }
+    ensures rest { EachOf (λ k s p. S.idle s p) sites.now gathered.new.items }
+    ensures hands { (k : ℕ) (p : S.Pass) → S.hand (slice_index_or gathered.new.items k p) ≡
+        S.hand (slice_index_or gathered.old.items k p) }
+    ensures past { KnowPasts S.knows_past sites.now gathered.new.items }
+{
+    for object in 0..sites.len() {
+        recall(sites, gathered, object);
+    }
 }

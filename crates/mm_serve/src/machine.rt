@@ -98,10 +98,11 @@ where
     C::C: Send,
 {
     ghost use Rattle.mm_serve.specs.Machines.{IsFresh, HasRun, HasLegalResults};
-    ghost use Rattle.mm_serve.specs.Machines.{IsAtRest, IsMachineOf};
+    ghost use Rattle.mm_serve.specs.Machines.{IsAtRest, IsMachineOf, KnowsPasts};
 
     /// Does all tasks at once, each on a thread of its own, and takes a snapshot of each object
-    /// when all are done. The results are legal histories of the machine's script.
+    /// when all are done. The results are legal histories of the machine's script. Then looks back
+    /// at each object's table, after which each gathered pass knows what was so at every step.
     ///
     /// Where a thread can't be made, its task is done by another task's thread after that one's
     /// own, so tasks that wait for each other can then wait for good.
@@ -111,6 +112,7 @@ where
         ensures legal { (script : Listing) → IsMachineOf S.is_space S.calls_on script self.old →
             HasLegalResults S.hand script self.new }
         ensures rest { IsAtRest S.idle self.new }
+        ensures past { KnowsPasts S.knows_past self.new }
     {
         let none = Vec::new(*self.workers.allocator());
         let workers = mem::replace(&mut self.workers, none);

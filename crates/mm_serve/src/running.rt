@@ -1,9 +1,9 @@
 //! All tasks at once, and what is known then.
 ghost use Rattle.std.specs.Prelude.{◌≡◌, ℕ, ◌<◌, All, length, slice_get, Some};
-ghost use Rattle.mm_serve.specs.Copying.{AreBlank, IsCopied};
+ghost use Rattle.mm_serve.specs.Copying.{AreBlank, IsCopied, KnowPasts};
 ghost use Rattle.mm_serve.specs.Workers.{AreNumbered, EachOf, IsReady, KnowsAllDone};
 
-use crate::copying::snapshot_all;
+use crate::copying::{recall_all, snapshot_all};
 use crate::gathering::gather_all;
 use crate::shared_object::SharedObject;
 use crate::worker::{Worker, serve_all};
@@ -41,7 +41,7 @@ where
     gather_all(sites, gathered, workers);
 }
 
-/// Does all tasks at once, and copies the history of each object then.
+/// Does all tasks at once, copies the history of each object then, and looks back at its table.
 pub(crate) fn run<S: SharedObject + Sync, R: Threads + Wait + Sync, C: Crew + Sync, G: Gate + Sync>(
     rt: &R,
     crew: &C,
@@ -65,7 +65,9 @@ where
     ensures copied { EachOf (IsCopied S.idle S.hand S.is_space S.calls_on results.new)
         sites.now gathered.new.items }
     ensures long { length results.new ≡ length sites.now }
+    ensures past { KnowPasts S.knows_past sites.now gathered.new.items }
 {
     serve_and_gather(rt, crew, gate, sites, gathered, workers);
     snapshot_all(rt, crew, cpu, sites, gathered, results);
+    recall_all(sites, gathered);
 }

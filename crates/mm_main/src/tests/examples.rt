@@ -257,38 +257,39 @@ left 64
 ";
 
 pub(super) const TWO_OBJECTS_SCRIPT: &str = "\
-# Two objects, each with a history of its own, and two tasks. A call is numbered among all calls of
-# its task. The calls of task 1 are done after those of task 0.
+# Two objects, each with a history of its own, and two tasks at once. A call is numbered among all
+# calls of its task. Each object is changed by one task alone, so that there is one text.
 space code
 table files
 
 task
 code map 0 2 r-x
-files open 10
-int code fault 0 x      # a mode: this call could be interrupted while it waits
+int code fault 0 x      # a mode: a signal could interrupt this call while it waits
+files signal 1          # takes no lock, and isn't logged
+try code map any 1 rw-  # the lowest page that is free
 
 task
+files open 10
 files dup 0
-try code map any 1 rw-  # the lowest page that is free
 files get 1
-files signal 0          # takes no lock, and isn't logged
+files close 0
 ";
 
 pub(super) const TWO_OBJECTS_TEXT: &str = "\
 space code
 0.0 map 0 2 r-x = 0
-0.2 int fault 0 x = ok
-1.1 try map any 1 rw- = 2
+0.1 int fault 0 x = ok
+0.3 try map any 1 rw- = 2
 left 2
 0-2 r-x
 2-3 rw-
 table files
-0.1 open 10 = 0
-1.0 dup 0 = 1
+0.2 signal 1 = sent
+1.0 open 10 = 0
+1.1 dup 0 = 1
 1.2 get 1 = 10
-1.3 signal 0 = sent
-left 2
-0 10
+1.3 close 0 = ok
+left 1
 1 10
 ";
 

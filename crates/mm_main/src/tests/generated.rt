@@ -1,8 +1,11 @@
 //! The summaries of generated scripts, against counts of the tests' own.
-use crate::program::top;
+use super::run_behind;
 use crate::status::Status;
+use cpu_task::OpenGate;
 use std::alloc::{AllocError, Global};
+use std::sync::Wait;
 use std::test::Fail;
+use std::thread::Threads;
 use task_script::{MemSink, MemSource};
 
 /// How many calls are logged and refused, and how many areas are left.
@@ -82,19 +85,20 @@ fn counts_of(number: u32) -> Counts {
 }
 
 /// The summary that the program writes, where no read may be made.
-fn summary_of(alloc: Global, number: u32) -> Result<Vec<u8>, Fail> {
-    let words = [
-        String::from_str(alloc, "--generate")?,
-        format!(in alloc; "{number}")?,
-        String::from_str(alloc, "--summary")?,
-    ];
+fn summary_of<R: Threads + Wait + Sync>(
+    rt: &R,
+    alloc: Global,
+    number: u32,
+) -> Result<Vec<u8>, AllocError> {
+    let number = format!(in alloc; "{number}")?;
+    let words = ["--generate", number.as_str(), "--summary"];
     let mut source = MemSource::new(alloc, b"x", 1, &[0])?;
     let mut sink = MemSink::new(alloc, 1000, 1000, &[])?;
-    let status = top(alloc, &words, &mut source, &mut sink);
+    let (status, _) = run_behind(rt, alloc, &words, &mut source, &mut sink, &OpenGate)?;
     if status != Status::Done {
         return Ok(Vec::new(alloc));
     }
-    Ok(Vec::from_slice(alloc, sink.written())?)
+    Vec::from_slice(alloc, sink.written())
 }
 
 fn expected_summary(alloc: Global, number: u32) -> Result<String, AllocError> {
@@ -108,17 +112,21 @@ fn expected_summary(alloc: Global, number: u32) -> Result<String, AllocError> {
 
 #[test]
 fn summarizes_a_generated_script_twice_alike(rt: HostRuntime) -> Result<(), Fail> {
-    let first = summary_of(rt.alloc(), 7)?;
+    let first = summary_of(&rt, rt.alloc(), 7)?;
     assert!(rt; first.starts_with(b"m: 16000 calls, "));
-    assert_eq!(rt; summary_of(rt.alloc(), 7)?, first);
+    assert_eq!(rt; summary_of(&rt, rt.alloc(), 7)?, first);
     Ok(())
 }
 
-/// The first of 16 numbers whose script has another summary.
-fn first_wrong(alloc: Global, first: u32) -> Result<Option<u32>, Fail> {
-    for step in 0..16u32 {
-        let number = first.wrapping_add(step * 268_435_399);
-        let written = summary_of(alloc, number)?;
+/// The first of four numbers, far apart, whose script has another summary.
+fn first_wrong<R: Threads + Wait + Sync>(
+    rt: &R,
+    alloc: Global,
+    first: u32,
+) -> Result<Option<u32>, AllocError> {
+    for step in 0..4u32 {
+        let number = first.wrapping_add(step * 1_073_741_789);
+        let written = summary_of(rt, alloc, number)?;
         if written.as_slice() != expected_summary(alloc, number)?.as_bytes() {
             return Ok(Some(number));
         }
@@ -128,24 +136,96 @@ fn first_wrong(alloc: Global, first: u32) -> Result<Option<u32>, Fail> {
 
 #[test]
 fn summarizes_generated_scripts_from_0(rt: HostRuntime) -> Result<(), Fail> {
-    assert_eq!(rt; first_wrong(rt.alloc(), 0)?, None);
+    assert_eq!(rt; first_wrong(&rt, rt.alloc(), 0)?, None);
     Ok(())
 }
 
 #[test]
 fn summarizes_generated_scripts_from_7(rt: HostRuntime) -> Result<(), Fail> {
-    assert_eq!(rt; first_wrong(rt.alloc(), 7)?, None);
+    assert_eq!(rt; first_wrong(&rt, rt.alloc(), 7)?, None);
+    Ok(())
+}
+
+#[test]
+fn summarizes_generated_scripts_from_255(rt: HostRuntime) -> Result<(), Fail> {
+    assert_eq!(rt; first_wrong(&rt, rt.alloc(), 255)?, None);
+    Ok(())
+}
+
+#[test]
+fn summarizes_generated_scripts_from_4_096(rt: HostRuntime) -> Result<(), Fail> {
+    assert_eq!(rt; first_wrong(&rt, rt.alloc(), 4_096)?, None);
+    Ok(())
+}
+
+#[test]
+fn summarizes_generated_scripts_from_65_535(rt: HostRuntime) -> Result<(), Fail> {
+    assert_eq!(rt; first_wrong(&rt, rt.alloc(), 65_535)?, None);
+    Ok(())
+}
+
+#[test]
+fn summarizes_generated_scripts_from_99_999(rt: HostRuntime) -> Result<(), Fail> {
+    assert_eq!(rt; first_wrong(&rt, rt.alloc(), 99_999)?, None);
     Ok(())
 }
 
 #[test]
 fn summarizes_generated_scripts_from_1_000_000(rt: HostRuntime) -> Result<(), Fail> {
-    assert_eq!(rt; first_wrong(rt.alloc(), 1_000_000)?, None);
+    assert_eq!(rt; first_wrong(&rt, rt.alloc(), 1_000_000)?, None);
+    Ok(())
+}
+
+#[test]
+fn summarizes_generated_scripts_from_16_777_216(rt: HostRuntime) -> Result<(), Fail> {
+    assert_eq!(rt; first_wrong(&rt, rt.alloc(), 16_777_216)?, None);
+    Ok(())
+}
+
+#[test]
+fn summarizes_generated_scripts_from_123_456_789(rt: HostRuntime) -> Result<(), Fail> {
+    assert_eq!(rt; first_wrong(&rt, rt.alloc(), 123_456_789)?, None);
+    Ok(())
+}
+
+#[test]
+fn summarizes_generated_scripts_from_268_435_399(rt: HostRuntime) -> Result<(), Fail> {
+    assert_eq!(rt; first_wrong(&rt, rt.alloc(), 268_435_399)?, None);
+    Ok(())
+}
+
+#[test]
+fn summarizes_generated_scripts_from_500_000_000(rt: HostRuntime) -> Result<(), Fail> {
+    assert_eq!(rt; first_wrong(&rt, rt.alloc(), 500_000_000)?, None);
+    Ok(())
+}
+
+#[test]
+fn summarizes_generated_scripts_from_777_777_777(rt: HostRuntime) -> Result<(), Fail> {
+    assert_eq!(rt; first_wrong(&rt, rt.alloc(), 777_777_777)?, None);
+    Ok(())
+}
+
+#[test]
+fn summarizes_generated_scripts_from_1_000_000_007(rt: HostRuntime) -> Result<(), Fail> {
+    assert_eq!(rt; first_wrong(&rt, rt.alloc(), 1_000_000_007)?, None);
+    Ok(())
+}
+
+#[test]
+fn summarizes_generated_scripts_from_2_147_483_648(rt: HostRuntime) -> Result<(), Fail> {
+    assert_eq!(rt; first_wrong(&rt, rt.alloc(), 2_147_483_648)?, None);
+    Ok(())
+}
+
+#[test]
+fn summarizes_generated_scripts_from_3_999_999_999(rt: HostRuntime) -> Result<(), Fail> {
+    assert_eq!(rt; first_wrong(&rt, rt.alloc(), 3_999_999_999)?, None);
     Ok(())
 }
 
 #[test]
 fn summarizes_generated_scripts_up_to_the_last_number(rt: HostRuntime) -> Result<(), Fail> {
-    assert_eq!(rt; first_wrong(rt.alloc(), u32::MAX)?, None);
+    assert_eq!(rt; first_wrong(&rt, rt.alloc(), u32::MAX)?, None);
     Ok(())
 }

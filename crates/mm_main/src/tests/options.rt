@@ -1,22 +1,25 @@
 //! What the words of the command line do.
-use super::{ORDINARY, ORDINARY_TEXT, Outcome};
+use super::{ORDINARY, ORDINARY_TEXT, Outcome, run_behind};
 use crate::options::Options;
-use crate::program::top;
 use crate::status::Status;
+use cpu_task::OpenGate;
 use std::alloc::{AllocError, Global};
+use std::sync::Wait;
 use std::test::Fail;
+use std::thread::Threads;
 use task_script::{MemSink, MemSource};
 
 const USAGE: &str = "usage: mm_main [--spin N] [--overdue N] [--generate N] [--summary]\n";
 
-fn run(alloc: Global, words: &[&str], fails: &[u64]) -> Result<Outcome, AllocError> {
-    let mut owned = Vec::new(alloc);
-    for word in words {
-        owned.push(String::from_str(alloc, word)?)?;
-    }
+fn run<R: Threads + Wait + Sync>(
+    rt: &R,
+    alloc: Global,
+    words: &[&str],
+    fails: &[u64],
+) -> Result<Outcome, AllocError> {
     let mut source = MemSource::new(alloc, ORDINARY.as_bytes(), 8, fails)?;
     let mut sink = MemSink::new(alloc, 1000, 1000, &[])?;
-    let status = top(alloc, owned.as_slice(), &mut source, &mut sink);
+    let (status, _) = run_behind(rt, alloc, words, &mut source, &mut sink, &OpenGate)?;
     Ok((status, Vec::from_slice(alloc, sink.written())?))
 }
 
@@ -30,7 +33,7 @@ fn takes_options(rt: HostRuntime) -> Result<(), Fail> {
         (&["--summary"], summary),
         (&["--spin", "7", "--summary", "--overdue=3", "--"], summary),
     ] {
-        let (status, written) = run(rt.alloc(), words, &[])?;
+        let (status, written) = run(&rt, rt.alloc(), words, &[])?;
         assert_eq!(rt; status, Status::Done, "{words:?}");
         assert_eq!(rt; written.as_slice(), text.as_bytes(), "{words:?}");
     }
@@ -70,7 +73,7 @@ fn refuses_other_words_unread(rt: HostRuntime) -> Result<(), Fail> {
         &["--version"],
         &["-V"],
     ] {
-        let (status, written) = run(rt.alloc(), words, &[0])?;
+        let (status, written) = run(&rt, rt.alloc(), words, &[0])?;
         assert_eq!(rt; status, Status::Usage, "{words:?}");
         assert_eq!(rt; written.as_slice(), USAGE.as_bytes(), "{words:?}");
     }

@@ -1,6 +1,7 @@
 use Rattle.std.proofs.Common.{arith}
 use Rattle.mm_serve.specs.Workers.{KnowsAllDone}
 use Rattle.mm_serve.specs.Copying.{IsToCopy}
+use Rattle.mm_serve.proofs.Copies.{still-copied}
 use Rattle.mm_serve.proofs.Each.{each-map}
 use Rattle.mm_serve.proofs.running.run.Goals as goal
 
@@ -11,3 +12,7 @@ snapshot_all-requires-clause-gathered g c =
 
 pub snapshot_all-requires-clause-some : goal.snapshot_all-requires-clause-some
 snapshot_all-requires-clause-some g c = λ k s at. let many = c.requires.tasks k s at in let some = c.requires.some in omega (arith, many, some)
+
+pub returns-clause-copied : goal.returns-clause-copied
+returns-clause-copied g c =
+    still-copied g.S.SharedObject.idle g.S.SharedObject.hand g.S.SharedObject.is_space g.S.SharedObject.calls_on c.args.sites.now c.snapshot_all.new.gathered.items c.recall_all.new.gathered.items c.snapshot_all.new.results c.snapshot_all.ensures.copied c.recall_all.ensures.rest c.recall_all.ensures.hands

@@ -1,5 +1,5 @@
 use Rattle.std.proofs.Common.{refl, ap, length, ◌∙◌, subst, List}
-use Rattle.mm_serve.specs.Copying.{IsCopied}
+use Rattle.mm_serve.specs.Copying.{IsCopied, KnowPasts}
 use Rattle.mm_serve.specs.Workers.{EachOf}
 use Rattle.mm_serve.proofs.Copies.{all-legal, all-complete}
 use Rattle.mm_serve.proofs.Each.{each-map}
@@ -27,3 +27,6 @@ pub returns-clause-rest : goal.returns-clause-rest
 returns-clause-rest g c =
     each-map (IsCopied g.S.SharedObject.idle g.S.SharedObject.hand g.S.SharedObject.is_space g.S.SharedObject.calls_on c.run.new.results) (λ k s p. g.S.SharedObject.idle s p) c.args.self.now.sites.items c.run.new.gathered.items (returns-clause-ran g c).copied
     (λ k s p lt at r. r.0)
+
+pub returns-clause-past : goal.returns-clause-past
+returns-clause-past g c = subst (λ (sites : List g.row.S.Denot). KnowPasts g.S.SharedObject.knows_past sites c.run.new.gathered.items) c.as_slice.ensures.value c.run.ensures.past
