@@ -1,5 +1,5 @@
 -- The rule of a semaphore implies what is stated of it.
-use Rattle.std.proofs.Common.{◌≡◌, ◌∙◌, ℕ, zero, suc, ◌/◌, ◌%◌, ◌==◌, ◌<◌, ◌≤◌, true, false, List, [], ◌∷◌, length, map, Option, Some, None, ne_eqb, refl, sym, ap, arith}
+use Rattle.std.proofs.Common.{◌≡◌, ◌∙◌, ℕ, zero, suc, ◌+◌, ◌/◌, ◌%◌, ◌==◌, ◌<◌, ◌≤◌, true, false, List, [], ◌∷◌, length, map, Option, Some, None, ne_eqb, refl, sym, ap, arith}
 use mathlib.Core.Option.{some}
 use lib.ListN.{get_elem?}
 use Rattle.atomic_table.proofs.Lists.{at_map}
@@ -19,14 +19,16 @@ use Rattle.lock_core.proofs.HandLaws.{false-or-true, not-both}
 use Rattle.lock_core.proofs.Stating.{kept-states}
 use Rattle.wait_list.specs.declared.view.Waiter.{Waiter}
 use Rattle.wait_list.specs.Lists.{Part, PartOk, changes_of, counted, list_part}
-use Rattle.rwsem_wake.specs.SemParts.{SemPart, busy_of, busy_weight, named_weight, reads_at, reads_weight, writes_at, writes_weight}
+use Rattle.wait_list.specs.ListLaws.{holds-or-not}
+use Rattle.rwsem_count.specs.Counts.{shared_weight}
+use Rattle.rwsem_wake.specs.SemParts.{SemPart, busy_of, busy_weight, named_weight, reads_at, reads_weight, reserve_of, shared_of, transit_weight, writes_at, writes_weight}
 use Rattle.rwsem_wake.specs.Semaphores.{Quiet}
 use Rattle.rwsem_wake.proofs.Readers.{only-first, readers-are, readers-once}
 use Rattle.rwsem_wake.proofs.Stating.{sem-states, sem-waiters}
 use Rattle.rwsem_slow.specs.ListSteps.{counted-is}
 use Rattle.rwsem_slow.specs.RwSems.{V, Kept, RwSemKept, count_in, grants_in, list_of, marks_in, seen, standing}
 use Rattle.rwsem_slow.specs.RwSemLaws.{few-named}
-use Rattle.rwsem_slow.specs.Stated.{IsQueued, IsRwSemThen}
+use Rattle.rwsem_slow.specs.Stated.{HasWaitLock, IsQueued, IsRwSemThen}
 
 length-map : {A B : Type 0} (f : A → B) (xs : List A) → length (map f xs) ≡ length xs
 length-map f [] = refl
@@ -87,6 +89,11 @@ module _ {Call : Type 0} (o : Obj Call) (size : ℕ) (k : Plan) (ws : List ℕ) 
       same [] = refl
       same (x ∷ xs) = let e = same xs in omega (arith, e)
 
+  -- who is at a stage, or has reserved a bias, has the wait lock
+  locks : (id : ℕ) (p : SemPart) → get_elem? ps id ≡ some p → 0 < busy_of p + reserve_of p → HasWaitLock id (moment standing (instant ws vs))
+  locks id p at more = let v = at_unmap seen vs id p at in let a = (r.sem.each id p at).reserved in let e : busy_weight v.0.ext.sem.stage ≡ busy_of p = ap {A = SemPart} (λ x. busy_of x) v.2 in let l = r.locked id v.0 v.1 in
+      holds-or-not v.0.spin (λ one. (v.0.spin, at_map spin_of vs id v.0 v.1, one)) (λ out. absurd (omega (arith, a, e, l, out, more)))
+
   pub queued : IsQueued (moment standing (instant ws vs)) q ps
   queued = record {
     parts = record {
@@ -110,6 +117,11 @@ module _ {Call : Type 0} (o : Obj Call) (size : ℕ) (k : Plan) (ws : List ℕ) 
     read = record { once = readers-once q (count_in ws) (marks_in ws) (grants_in ws) ps r.sem small named-once; are = readers-are q (count_in ws) (marks_in ws) (grants_in ws) ps r.sem small named-once };
     flags = quiet;
     marked = λ free. only-first (count_in ws / 2 % 2) (count_in ws / 4 % 2) q (marks_in ws) (omega arith) (quiet free);
+    locked = locks;
+    apart = λ id p at one. (
+      λ shared. let a = (r.sem.each id p at).apart in let s : shared_of p ≡ 1 = ap shared_weight shared in absurd (omega (arith, a, s, one)),
+      λ none. let b = (r.sem.each id p at).numbered none in let z : transit_weight p.sem.bias ≡ 0 = ap transit_weight b.1 in absurd (omega (arith, one, z)),
+    );
   }
 
 module _ {Call : Type 0} (o : Obj Call) (size : ℕ) where

@@ -36,7 +36,7 @@ use Rattle.rwsem_wake.specs.Semaphores.{SemPartOk, batch_weight}
 use Rattle.rwsem_wake.proofs.Sums.{busy-most}
 use Rattle.rwsem_wake.proofs.QueueLaws.{a_writer, reader, mine-at, reads-at-w, writes-at-w}
 use Rattle.rwsem_wake.proofs.Places.{granted-all}
-use Rattle.rwsem_wake.proofs.HandoffSteps.{hands-still, unasked-same}
+use Rattle.rwsem_wake.proofs.HandoffSteps.{hands-none}
 use Rattle.rwsem_slow.specs.RwSems.{V, list_of, seen, list_at, spin_words, count_in, list_words, marks_in, grants_in, IsLocked, RwSemKept, Kept as IsKept, entered, IsMadeBy, joined, picked, parted as parted_at, with_list, saw_first, may_change, MayJoin, MayPick, LeavesTaken, LeavesFirst, LeavesBehind, LeavesPicked}
 use Rattle.rwsem_slow.specs.RwSemLaws.{SemWords, sem_words, sem-else, Go as Going, Sem, Hands, sem-only, goes, goes-on, hands-same, same-site}
 use Rattle.rwsem_slow.specs.ListSteps.{alone-long, counted-is, enters-reader, enters-writer, first-counts, leaves-first, leaves-picked, leaves-reader, leaves-taken, leaves-writer, reader-counts}
@@ -208,7 +208,7 @@ module _ {Call : Type 0} (o : Obj Call) (size : ℕ) where
       -- what each change makes of the facts
       stays-facts : Facts q v.ext.sem
       stays-facts = let ps : List SemPart = map seen vs in subst (λ (z : List SemPart). Sem o size (sem_words ws) q z × Hands o size id (sem_words ws) q ps (sem_words ws) z) (sym (set_again ps id (seen v) mine))
-          (r.sem, hands-still id (count_in ws) q (marks_in ws) (grants_in ws) ps (count_in ws) (marks_in ws) (grants_in ws) ps (omega arith) (λ t. omega arith) (unasked-same (count_in ws) (marks_in ws)))
+          (r.sem, hands-none id (count_in ws) q (marks_in ws) (grants_in ws) ps)
 
       enters-facts : (w : Waiter) (b : ListHand) → may_change (Enter w) v q → b.list ≡ q ++ w ∷ [] → Facts (q ++ w ∷ []) (with_list (Enter w) v b).sem
       enters-facts w b may is = subst (λ (z : List Waiter). Facts (q ++ w ∷ []) (joined w.writer (length z) v.ext.sem)) (sym is) (go w.writer refl may.3)

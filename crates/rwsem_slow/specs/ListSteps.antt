@@ -26,7 +26,7 @@ use Rattle.rwsem_wake.proofs.Places.{first-least, granted-all, not-zero, some-le
 use Rattle.rwsem_wake.proofs.WakeLaws.{batched, single-of}
 use Rattle.rwsem_wake.proofs.QueueLaws.{a_writer, reader, granted-at-w, mine-at, reads-at-w, sem-joins, writes-at-w}
 use Rattle.rwsem_wake.proofs.HandoffLaws.{sem-drops-reader, sem-drops-writer, sem-enters, sem-picks, took-left}
-use Rattle.rwsem_wake.proofs.HandoffSteps.{hands-step, unasked-same}
+use Rattle.rwsem_wake.proofs.HandoffSteps.{PassGoes, hands-step, marking, pass-from, unasked-same}
 use Rattle.rwsem_wake.proofs.Readers.{without-is}
 use Rattle.rwsem_slow.specs.RwSems.{gone, picked}
 
@@ -96,14 +96,16 @@ module _ (vs : List SemPart) (id : ℕ) (v : SemPart) (at : get_elem? vs id ≡ 
   abbrev pub Both : List Waiter → SemHand → Type 0
   Both q' s = let u : SemPart = record v { sem = s } in SemKept n q' marks grants (set vs id u) × KeepsHandoff id n q marks grants vs n marks grants (set vs id u)
 
-  -- who isn't granted, and whose batch isn't in the count, is no more of a reader than before
-  no-more : (s : SemHand) → ((t : ℕ) → granted_at grants t (record v { sem = s }) ≡ 0) → ((t : ℕ) → granting_at t (record v { sem = s }) ≡ 0) → KeepsHandoff id n q marks grants vs n marks grants (set vs id (record v { sem = s }))
-  no-more s granted granting = hands-step id n q marks grants vs v (record v { sem = s }) at n marks (omega arith) (λ t. let a = granted t in let b = granting t in omega (arith, a, b)) (unasked-same n marks)
+  -- who isn't granted, was at a stage at which it isn't to mark, and has no batch in the count before or behind the step, is a reader as before
+  no-more : (from : Stage) (s : SemHand) → v.sem.stage ≡ from → ((m : ℕ) → granting_weight from m ≡ 0) → marking from ≡ 0 → s.rest ≡ v.sem.rest → ((t : ℕ) → granted_at grants t v ≡ 0) → ((t : ℕ) → granted_at grants t (record v { sem = s }) ≡ 0) → ((t : ℕ) → granting_at t (record v { sem = s }) ≡ 0)
+      → KeepsHandoff id n q marks grants vs n marks grants (set vs id (record v { sem = s }))
+  no-more from s is none out same was granted granting = hands-step id n q marks grants vs v (record v { sem = s }) at n marks (omega arith) (λ t. let a = granted t in let b = granting t in omega (arith, a, b)) (unasked-same n marks)
+      (pass-from q marks grants v (record v { sem = s }) from is none out (inl same) (λ t. let a = was t in omega (arith, a)))
 
   pub enters-writer : (b : Bool) → bit b + some_of q ≡ 1 → v.sem.stage ≡ Rest → v.sem.wait ≡ Apart → Both (q ++ a_writer own ∷ []) (record v.sem { wait = Writes; stage = if b then First else Rest })
   enters-writer b empty stage wait = let s : SemHand = record v.sem { wait = Writes; stage = if b then First else Rest } in (
     sem-enters vs id v at n q marks grants r own has only b empty stage wait,
-    no-more s (λ t. granted-at-w (record v { sem = s }) own has Writes refl grants t) (λ t. still b (here t v.sem.rest)),
+    no-more Rest s stage (λ m. refl) refl refl (λ t. granted-at-w v own has Apart wait grants t) (λ t. granted-at-w (record v { sem = s }) own has Writes refl grants t) (λ t. still b (here t v.sem.rest)),
   )
     where
       still : (b : Bool) (m : ℕ) → granting_weight (if b then First else Rest) m ≡ 0
@@ -113,7 +115,7 @@ module _ (vs : List SemPart) (id : ℕ) (v : SemPart) (at : get_elem? vs id ≡ 
   pub enters-reader : (b : Bool) → bit b + some_of q ≡ 1 → v.sem.stage ≡ Armed → v.sem.wait ≡ Apart → v.held ≡ No → Both (q ++ reader own ∷ []) (record v.sem { wait = Reads; stage = Joining b })
   enters-reader b empty stage wait out = let s : SemHand = record v.sem { wait = Reads; stage = Joining b } in let one = not-zero (get_or grants own 0) ((mine-at vs id v at n q marks grants r own has Armed only stage).1 own has) in (
     sem-joins vs id v at n q marks grants r own has b empty only stage wait out,
-    no-more s (λ t. granted-at-w (record v { sem = s }) own has Reads refl grants t ∙ ap (named_weight t (Some own)) one) (λ t. refl),
+    no-more Armed s stage (λ m. refl) refl refl (λ t. granted-at-w v own has Apart wait grants t) (λ t. granted-at-w (record v { sem = s }) own has Reads refl grants t ∙ ap (named_weight t (Some own)) one) (λ t. refl),
   )
 
   -- the own waiter is of the kind as which the pass waits
@@ -142,7 +144,7 @@ module _ (vs : List SemPart) (id : ℕ) (v : SemPart) (at : get_elem? vs id ≡ 
   abbrev pub Leaving : Stage → Type 0
   Leaving stage = (w : Waiter) × Without q w (without own q) × (w.task ≡ own) × Both (without own q) (gone stage v.sem)
 
-  module _ (stage to : Stage) (at_stage : v.sem.stage ≡ stage) (clear : v.sem.bias ≡ Clear) (none : v.sem.rest ≡ []) (before : (m : ℕ) → granting_weight stage m ≡ 0) (after : (m : ℕ) → granting_weight to m ≡ 0) where
+  module _ (stage to : Stage) (at_stage : v.sem.stage ≡ stage) (clear : v.sem.bias ≡ Clear) (none : v.sem.rest ≡ []) (before : (m : ℕ) → granting_weight stage m ≡ 0) (after : (m : ℕ) → granting_weight to m ≡ 0) (unbound : marking stage ≡ 0) where
     not-granting : granting_of v ≡ 0
     not-granting = ap (λ (z : Stage). granting_weight z (length v.sem.rest)) at_stage ∙ before (length v.sem.rest)
 
@@ -154,7 +156,7 @@ module _ (vs : List SemPart) (id : ℕ) (v : SemPart) (at : get_elem? vs id ≡ 
           out.1,
           (
             sem-drops-writer vs id v at n q marks grants r own has only (without own q) out.0 to out.2 is wait (light clear) not-granting (after (length v.sem.rest)) (λ _. none) (flags out.0 out.2 out.1),
-            no-more s (λ t. granted-at-w (record v { sem = s }) own has Apart refl grants t) (λ t. after (here t v.sem.rest)),
+            no-more stage s at_stage before unbound refl (λ t. granted-at-w v own has Writes wait grants t) (λ t. granted-at-w (record v { sem = s }) own has Apart refl grants t) (λ t. after (here t v.sem.rest)),
           ),
         )
 
@@ -165,13 +167,13 @@ module _ (vs : List SemPart) (id : ℕ) (v : SemPart) (at : get_elem? vs id ≡ 
       out.1,
       (
         sem-drops-reader vs id v at n q marks grants r own has only (without own q) out.0 to out.2 is wait waits (light clear) not-granting (after (length v.sem.rest)) (λ _. none) (flags out.0 out.2 out.1),
-        no-more s (λ t. granted-at-w (record v { sem = s }) own has Apart refl grants t) (λ t. after (here t v.sem.rest)),
+        no-more stage s at_stage before unbound refl (λ t. granted-at-w v own has Reads wait grants t ∙ ap (named_weight t (Some own)) (not-zero (get_or grants own 0) waits)) (λ t. granted-at-w (record v { sem = s }) own has Apart refl grants t) (λ t. after (here t v.sem.rest)),
       ),
     )
 
   -- a writer that took leaves
   pub leaves-taken : v.sem.stage ≡ Took → v.sem.wait ≡ Writes → v.sem.bias ≡ Clear → total (reads_at own) vs ≡ 0 → Leaving Removed
-  leaves-taken stage wait clear alone = quits-writer Took Removed stage clear ((r.each id v at).rest (ap batch_weight stage)) (λ m. refl) (λ m. refl) wait alone (λ w s is. took-left vs id v at n q marks grants r own has only (without own q) w s stage)
+  leaves-taken stage wait clear alone = quits-writer Took Removed stage clear ((r.each id v at).rest (ap batch_weight stage)) (λ m. refl) (λ m. refl) refl wait alone (λ w s is. took-left vs id v at n q marks grants r own has only (without own q) w s stage)
 
   -- a reader in the list isn't granted
   ungranted : total (reads_at own) vs + total (writes_at own) vs ≤ 1 → v.sem.wait ≡ Reads → 1 ≤ counted own q → 1 ≤ get_or grants own 0
@@ -194,8 +196,8 @@ module _ (vs : List SemPart) (id : ℕ) (v : SemPart) (at : get_elem? vs id ≡ 
 
     quits-first : (to : Stage) → ((m : ℕ) → granting_weight to m ≡ 0) → FlagsAt to v.task v.sem.rest W H (without own q) marks grants → (v.sem.wait ≡ Reads) ⊎ (v.sem.wait ≡ Writes) → Leaving to
     quits-first to after flags waits = let a = total-at (reads_at own) vs id v at in let b = total-at (writes_at own) vs id v at in ⊎_elim
-        (λ (wait : v.sem.wait ≡ Reads). let e : reads_at own v ≡ 1 = reads-at-w v own has Reads wait own ∙ is_number-here own in quits-reader Summing to stage clear none (λ m. refl) after wait (omega (arith, once, a, e)) (ungranted once wait there) there (λ w s is. flags))
-        (λ (wait : v.sem.wait ≡ Writes). let e : writes_at own v ≡ 1 = writes-at-w v own has Writes wait own ∙ is_number-here own in quits-writer Summing to stage clear none (λ m. refl) after wait (omega (arith, once, b, e)) (λ w s is. flags))
+        (λ (wait : v.sem.wait ≡ Reads). let e : reads_at own v ≡ 1 = reads-at-w v own has Reads wait own ∙ is_number-here own in quits-reader Summing to stage clear none (λ m. refl) after refl wait (omega (arith, once, a, e)) (ungranted once wait there) there (λ w s is. flags))
+        (λ (wait : v.sem.wait ≡ Writes). let e : writes_at own v ≡ 1 = writes-at-w v own has Writes wait own ∙ is_number-here own in quits-writer Summing to stage clear none (λ m. refl) after refl wait (omega (arith, once, b, e)) (λ w s is. flags))
         waits
 
     pub leaves-first : (v.sem.wait ≡ Reads) ⊎ (v.sem.wait ≡ Writes) → Leaving (if length (without own q) == 0 then Emptied else Rest)
@@ -210,11 +212,11 @@ module _ (vs : List SemPart) (id : ℕ) (v : SemPart) (at : get_elem? vs id ≡ 
 
     pub leaves-reader : v.sem.stage ≡ Armed → v.sem.wait ≡ Reads → 1 ≤ counted own q → Leaving Rest
     leaves-reader stage wait there = let f = mine-at vs id v at n q marks grants r own has Armed only stage in let one = f.1 own has in let a = total-at (reads_at own) vs id v at in let e : reads_at own v ≡ 1 = reads-at-w v own has Reads wait own ∙ is_number-here own in
-        quits-reader Armed Rest stage clear ((r.each id v at).rest (ap batch_weight stage)) (λ m. refl) (λ m. refl) wait (omega (arith, once, a, e)) (omega (arith, one)) there (λ w s is. behind f.0 w s is)
+        quits-reader Armed Rest stage clear ((r.each id v at).rest (ap batch_weight stage)) (λ m. refl) (λ m. refl) refl wait (omega (arith, once, a, e)) (omega (arith, one)) there (λ w s is. behind f.0 w s is)
 
     pub leaves-writer : v.sem.stage ≡ Rest → v.sem.wait ≡ Writes → Leaving Rest
     leaves-writer stage wait = let f = mine-at vs id v at n q marks grants r own has Rest only stage in let b = total-at (writes_at own) vs id v at in let e : writes_at own v ≡ 1 = writes-at-w v own has Writes wait own ∙ is_number-here own in
-        quits-writer Rest Rest stage clear ((r.each id v at).rest (ap batch_weight stage)) (λ m. refl) (λ m. refl) wait (omega (arith, once, b, e)) (λ w s is. behind f w s is)
+        quits-writer Rest Rest stage clear ((r.each id v at).rest (ap batch_weight stage)) (λ m. refl) (λ m. refl) refl wait (omega (arith, once, b, e)) (λ w s is. behind f w s is)
 
   -- a waker's batch takes one more
   abbrev BatchMayGrow : Type 0
@@ -227,10 +229,19 @@ module _ (vs : List SemPart) (id : ℕ) (v : SemPart) (at : get_elem? vs id ≡ 
     p.1,
     (
       subst (λ (x : ℕ). SemKept n (without t q) marks grants (set vs id (batched v (v.sem.rest ++ x ∷ []) Removing))) p.1 (sem-picks vs id v at n q marks grants r own has only (without t q) w p.3.0 facts.0 facts.1 facts.2 p.2 (λ none. p.3.1 (picks.1 none)) m),
-      hands-step id n q marks grants vs v (record v { sem = picked t v.sem }) at n marks (omega arith) (λ t. omega arith) (unasked-same n marks),
+      hands-step id n q marks grants vs v (record v { sem = picked t v.sem }) at n marks (omega arith) (λ t. omega arith) (unasked-same n marks) (goes may),
     ),
   )
     where
+      -- the batch goes on with this task
+      grows : (from : Stage) → v.sem.stage ≡ from → ((m : ℕ) → granting_weight from m ≡ 0) → marking from ≡ 0 → PassGoes q marks grants v (record v { sem = picked t v.sem })
+      grows from is none out = pass-from q marks grants v (record v { sem = picked t v.sem }) from is none out (inr (inr (t, refl, picks))) (λ t. omega arith)
+
+      goes : BatchMayGrow → PassGoes q marks grants v (record v { sem = picked t v.sem })
+      goes (inl is) = grows Rest is (λ m. refl) refl
+      goes (inr (inl (b, is))) = grows (Overdue b) is (λ m. refl) refl
+      goes (inr (inr is)) = grows Removing is (λ m. refl) refl
+
       there : 1 ≤ length q
       there = long q picks.0
         where

@@ -36,7 +36,7 @@ use Rattle.rwsem_wake.specs.SemParts.{SemPart, apart_hand, busy_of, busy_weight,
 use Rattle.rwsem_wake.specs.Semaphores.{SemKept, batch_weight, number_of, number_weight}
 use Rattle.rwsem_wake.specs.Handoffs.{KeepsHandoff, reads_as}
 use Rattle.rwsem_wake.specs.Grants.{semmed}
-use Rattle.rwsem_wake.proofs.HandoffSteps.{hands-step, hands-still, unasked-same}
+use Rattle.rwsem_wake.proofs.HandoffSteps.{hands-none, hands-step, hands-still, unasked-same}
 use Rattle.rwsem_wake.proofs.Lines.{lines-else, lines-zero}
 use Rattle.rwsem_wake.proofs.SeatLaws.{sem-opens, sem-renumbers, sem-strangers}
 use Rattle.rwsem_wake.proofs.Stating.{count-least}
@@ -202,21 +202,22 @@ module _ {Call : Type 0} (o : Obj Call) (size : ℕ) where
 
       -- nobody is a reader that wasn't
       pub hands-same : (vs' : List V) → map seen vs' ≡ map seen vs → Hands id (sem_words ws) q (map seen vs) (sem_words ws) (map seen vs')
-      hands-same vs' same = hands-still id (count_in ws) q (marks_in ws) (grants_in ws) (map seen vs) (count_in ws) (marks_in ws) (grants_in ws) (map seen vs') (omega arith) (λ t. let e = ap (total (reads_as (grants_in ws) t)) same in omega (arith, e)) (unasked-same (count_in ws) (marks_in ws))
+      hands-same vs' same = subst (λ (z : List SemPart). Hands id (sem_words ws) q (map seen vs) (sem_words ws) z) (sym same) (hands-none id (count_in ws) q (marks_in ws) (grants_in ws) (map seen vs))
 
       -- a pass that is about nothing changes its number
       pub renumbers : (h : Hand) → h.held ≡ v.hand.held → v.ext.sem ≡ apart_hand → v.hand.held ≡ No → (let u : SemPart = record { task = h.task; held = h.held; sem = v.ext.sem } in Sem (sem_words ws) q (set (map seen vs) id u) × Hands id (sem_words ws) q (map seen vs) (sem_words ws) (set (map seen vs) id u))
       renumbers h held none out = let mine = at_map seen vs id v at in let u : SemPart = record (seen v) { task = h.task } in
           subst (λ (z : SemPart). Sem (sem_words ws) q (set (map seen vs) id z) × Hands id (sem_words ws) q (map seen vs) (sem_words ws) (set (map seen vs) id z)) (λ x. record { task = h.task; held = sym held x; sem = v.ext.sem }) (
             sem-renumbers (map seen vs) id (seen v) mine (count_in ws) q (marks_in ws) (grants_in ws) r.sem h.task none out,
-            hands-step id (count_in ws) q (marks_in ws) (grants_in ws) (map seen vs) (seen v) u mine (count_in ws) (marks_in ws) (omega arith) (λ t. let e = nothing-reads (grants_in ws) t (seen v) h.task none out in omega (arith, e)) (unasked-same (count_in ws) (marks_in ws)),
+            hands-step id (count_in ws) q (marks_in ws) (grants_in ws) (map seen vs) (seen v) u mine (count_in ws) (marks_in ws) (omega arith) (λ t. let e = nothing-reads (grants_in ws) t (seen v) h.task none out in omega (arith, e)) (unasked-same (count_in ws) (marks_in ws))
+                record { ends = λ t less. let e = nothing-reads (grants_in ws) t (seen v) v.hand.task none out in absurd (omega (arith, e, less)); batch = inl refl; next = λ e. inl e },
           )
 
       -- a pass keeps its number and how it holds
       pub unchanged : (h : Hand) → h.held ≡ v.hand.held → h.task ≡ v.hand.task → (let u : SemPart = record { task = h.task; held = h.held; sem = v.ext.sem } in Sem (sem_words ws) q (set (map seen vs) id u) × Hands id (sem_words ws) q (map seen vs) (sem_words ws) (set (map seen vs) id u))
       unchanged h held task = let ps : List SemPart = map seen vs in let n : ℕ = count_in ws in
           subst (λ (z : SemPart). Sem (sem_words ws) q (set ps id z) × Hands id (sem_words ws) q ps (sem_words ws) (set ps id z)) (λ x. record { task = sym task x; held = sym held x; sem = v.ext.sem })
-          (subst (λ (z : List SemPart). Sem (sem_words ws) q z × Hands id (sem_words ws) q ps (sem_words ws) z) (sym (set_again ps id (seen v) (at_map seen vs id v at))) (r.sem, hands-still id n q (marks_in ws) (grants_in ws) ps n (marks_in ws) (grants_in ws) ps (omega arith) (λ t. omega arith) (unasked-same n (marks_in ws))))
+          (subst (λ (z : List SemPart). Sem (sem_words ws) q z × Hands id (sem_words ws) q ps (sem_words ws) z) (sym (set_again ps id (seen v) (at_map seen vs id v at))) (r.sem, hands-none id n q (marks_in ws) (grants_in ws) ps))
 
   pub sem-sites : (k : Plan) (ws : List ℕ) (vs : List V) (id i n : ℕ) (v : V) (h : Hand) (s : SpinHand) → Kept k ws vs → get_elem? vs id ≡ some v → KeepsHold rests v h → SpinStays v.spin s → Site k (set ws (LOCK_WORDS + i) n) (set (map hand_of vs) id h)
       → SiteMove id (site k ws) vs (site k (set ws (LOCK_WORDS + i) n)) (set vs id (seated v h s)) → Go k id ws vs (set ws (LOCK_WORDS + i) n) (set vs id (seated v h s))
@@ -324,7 +325,16 @@ module _ {Call : Type 0} (o : Obj Call) (size : ℕ) where
       (each-snoc IsLocked us w (omega arith) (each-set IsLocked IsLocked vs id (ticked v) (r.locked id v at) (λ j x _ _ p. p) r.locked))
       (snoc_part seen (Hands id (sem_words ws) q (map seen vs) (sem_words ws)) us w
       (keep_part seen (λ (z : List SemPart). Hands id (sem_words ws) q (map seen vs) (sem_words ws) (z ++ nobody ∷ [])) vs id v (ticked v) at refl
-      (hands-still id n q (marks_in ws) (grants_in ws) (map seen vs) n (marks_in ws) (grants_in ws) (map seen vs ++ nobody ∷ []) (omega arith) (λ t. let a = total-snoc (reads_as (grants_in ws) t) (map seen vs) nobody in omega (arith, a)) (unasked-same n (marks_in ws))))) refl refl refl
+      (hands-still id n q (marks_in ws) (grants_in ws) (map seen vs) n (marks_in ws) (grants_in ws) (map seen vs ++ nobody ∷ []) (omega arith) (λ t. let a = total-snoc (reads_as (grants_in ws) t) (map seen vs) nobody in omega (arith, a)) (unasked-same n (marks_in ws)) (λ t more none. absurd (omega (arith, more, none)))
+      (λ x y at at'. inl (ap (λ (z : SemPart). z.sem.rest) (still-it x y at at'))) (λ x y at at' e. inl (ap (λ (z : SemPart). z.sem.stage) (still-it x y at at') ∙ e))))) refl refl refl
+    where
+      beside : (ps : List SemPart) (x : SemPart) (j : ℕ) → get_elem? ps j ≡ some x → get_elem? (ps ++ nobody ∷ []) j ≡ some x
+      beside [] x j at = absurd (some-ne-none x (sym at))
+      beside (p ∷ ps) x zero at = at
+      beside (p ∷ ps) x (suc j) at = beside ps x j at
+
+      still-it : (x y : SemPart) → get_elem? (map seen vs) id ≡ some x → get_elem? (map seen vs ++ nobody ∷ []) id ≡ some y → y ≡ x
+      still-it x y at at' = some-injective y x (sym at' ∙ beside (map seen vs) x id at)
 
   pub sem-joins-rule : (k : Plan) (ws : List ℕ) (vs : List V) (id other : ℕ) (v w : V) → Kept k ws vs → get_elem? vs id ≡ some v → other ≢ id → get_elem? vs other ≡ some w → HoldsNothing w × rests w × (w.hand.task ≡ None)
       → Site k ws (map hand_of (set (set vs id (merged v w)) other (spent idle))) → SiteMove id (site k ws) vs (site k ws) (set (set vs id (merged v w)) other (spent idle)) → Go k id ws vs ws (set (set vs id (merged v w)) other (spent idle))

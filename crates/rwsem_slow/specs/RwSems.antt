@@ -28,7 +28,7 @@ use Rattle.rwsem_wake.specs.declared.view.SemHand.{SemHand}
 use Rattle.rwsem_wake.specs.declared.view.Wait.{Wait}
 use Rattle.rwsem_wake.specs.declared.view.Wait.TheVariants.{Apart, Reads, Writes}
 use Rattle.rwsem_wake.specs.declared.view.Stage.{Stage}
-use Rattle.rwsem_wake.specs.declared.view.Stage.TheVariants.{Rest, Armed, Joining, First, Took, Removed, Emptied, Overdue, Removing, Summing, Granting}
+use Rattle.rwsem_wake.specs.declared.view.Stage.TheVariants.{Rest, Armed, Joining, First, Marking, Took, Removed, Emptied, Overdue, Removing, Summing, Granting}
 use Rattle.rwsem_wake.specs.SemParts.{SemPart, apart_hand, busy_weight, reserve_weight}
 use Rattle.rwsem_wake.specs.Semaphores.{SemKept, more_of}
 use Rattle.rwsem_wake.specs.Handoffs.{KeepsHandoff}
@@ -72,10 +72,11 @@ bias_codes Clear = 0 ∷ 0 ∷ []
 bias_codes (Transit word) = 1 ∷ word ∷ []
 bias_codes (Reserve word) = 2 ∷ word ∷ []
 
--- nothing under way, something, or a batch that is in the count
+-- nothing under way, a batch that is in the count, the first waiter to be marked, or something else
 abbrev pub stage_code : Stage → ℕ
 stage_code Rest = 0
 stage_code Granting = 2
+stage_code Marking = 3
 stage_code _ = 1
 
 -- how it waits, how far it is under the wait lock, how often it has appended itself, its bias, and the tasks of its batch that aren't granted yet
@@ -157,7 +158,7 @@ IsMadeBy id vs (Leave t) q = (v : V) × (get_elem? vs id ≡ some v) × ((v.hand
 abbrev pub KeepsCount : Hand → Hand → ℕ → Type 0
 KeepsCount h g word = h.held ≢ No → g.held ≢ h.held → g.freed ≡ word
 
--- what a step may do: all that each step of a site, of a spin lock and of a list does; a waiter enters by itself, and leaves by itself or in a waker's batch; while the first waiter is marked and HANDOFF is set, nobody but it writes, and who reads had a bias since before, or held alone; at any time who reads comes to it by itself, or in a batch that leaves no reader waiting; a waker or a writer of the list asks for a handoff, and marks the first waiter; who ends or downgrades a hold keeps the count that it left; who is at a stage has the wait lock; and an append is counted by the pass that enters
+-- what a step may do: all that each step of a site, of a spin lock and of a list does; a waiter enters by itself, and leaves by itself or in a waker's batch; while the first waiter is marked and HANDOFF is set, nobody but it writes, and who reads had a bias since before, or held alone; at any time who reads comes to it by itself, or in a batch that leaves no reader waiting, and does so until it ends its hold; a waker or a writer of the list asks for a handoff, and marks the first waiter; a batch is granted in the order in which it was picked; who ends or downgrades a hold keeps the count that it left; who is at a stage has the wait lock; and an append is counted by the pass that enters
 pub record RwSemMoves (k : Plan) (id : ℕ) (ws : List ℕ) (vs : List V) (us : List ℕ) (vs' : List V) : Type 0 where
   pub site : SiteMove id (site k ws) vs (site k us) vs'
   pub spin : SpinMoves id (spin_words ws) (map spin_part vs) (spin_words us) (map spin_part vs')

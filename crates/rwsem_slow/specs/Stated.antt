@@ -1,5 +1,5 @@
 -- What is so of a semaphore at each moment, and of each step.
-use Rattle.std.specs.Prelude.{◌≡◌, ℕ, ◌+◌, ◌/◌, ◌%◌, ◌<◌, ◌≤◌, ◌⊎◌, List, [], ◌∷◌, length, map, Some}
+use Rattle.std.specs.Prelude.{◌≡◌, ◌≢◌, ℕ, ◌+◌, ◌/◌, ◌%◌, ◌<◌, ◌≤◌, ◌⊎◌, List, [], ◌∷◌, length, map, Some, None}
 use mathlib.Core.Option.{some}
 use lib.ListN.{get_elem?}
 use Rattle.word_bits.specs.LockWords.{counted as shut}
@@ -9,7 +9,7 @@ use Rattle.lock_core.specs.declared.view.Hand.{Hand}
 use Rattle.lock_core.specs.declared.view.SpinHand.{SpinHand}
 use Rattle.lock_core.specs.declared.view.Marks.{Marks}
 use Rattle.lock_core.specs.declared.view.Moment.{Moment}
-use Rattle.lock_core.specs.declared.view.Held.TheVariants.{No}
+use Rattle.lock_core.specs.declared.view.Held.TheVariants.{No, Shared}
 use Rattle.lock_core.specs.Locked.{HasPass, IsSiteStep, IsWaitLockFree}
 use Rattle.lock_core.specs.Shown.{Shown}
 use Rattle.lock_core.specs.Spins.{holds_in}
@@ -20,7 +20,7 @@ use Rattle.wait_list.specs.declared.view.Change.{Change}
 use Rattle.wait_list.specs.declared.view.Change.TheVariants.{Stay, Enter, Leave}
 use Rattle.wait_list.specs.Lists.{Allowed, IsList, Lists, changed, counted}
 use Rattle.rwsem_wake.specs.declared.view.SemHand.{SemHand}
-use Rattle.rwsem_wake.specs.SemParts.{SemPart, apart_hand, busy_of}
+use Rattle.rwsem_wake.specs.SemParts.{SemPart, apart_hand, busy_of, reserve_of, transit_of}
 use Rattle.rwsem_wake.specs.Semaphores.{Quiet}
 use Rattle.rwsem_wake.specs.Handoffs.{KeepsHandoff, reads_as}
 use Rattle.rwsem_wake.specs.Stated.{OnlyFirst, Picks, StatesCount, StatesWaiters, over, readers}
@@ -47,7 +47,11 @@ pub record AreReaders (grants : List ℕ) (ps : List SemPart) : Type 0 where
   pub once : (t : ℕ) → t < 64 → total (reads_as grants t) ps ≤ 1
   pub are : over (λ t. total (reads_as grants t) ps) 64 ≡ readers grants ps
 
--- While this is the list, and these are the parts of the passes. The list's words state it while the wait lock is free, and each waiter has a pass. The count states whether a task writes, which then is alone, how many read, which biases are in it, and, while the wait lock is free, that tasks wait. Then the first waiter alone may be marked, and HANDOFF is set where it is.
+-- the pass of this number has the wait lock
+abbrev pub HasWaitLock : ℕ → Moment → Type 0
+HasWaitLock id m = (s : SpinHand) × (get_elem? m.spins id ≡ some s) × (holds_in s ≡ 1)
+
+-- While this is the list, and these are the parts of the passes. The list's words state it while the wait lock is free, and each waiter has a pass. The count states whether a task writes, which then is alone, how many read, which biases are in it, and, while the wait lock is free, that tasks wait. Then the first waiter alone may be marked, and HANDOFF is set where it is. Who is about something, or has reserved a bias, has the wait lock; whose bias is in transit doesn't hold by it, and has a number.
 pub record IsQueued (m : Moment) (q : List Waiter) (ps : List SemPart) : Type 0 where
   pub parts : AreParts m ps
   pub sound : IsList q
@@ -58,14 +62,12 @@ pub record IsQueued (m : Moment) (q : List Waiter) (ps : List SemPart) : Type 0 
   pub read : AreReaders (grants_in m.words) ps
   pub flags : IsWaitLockFree m.spins → Quiet (count_in m.words / 2 % 2) (count_in m.words / 4 % 2) q (marks_in m.words)
   pub marked : IsWaitLockFree m.spins → OnlyFirst (count_in m.words / 4 % 2) q (marks_in m.words)
+  pub locked : (id : ℕ) (p : SemPart) → get_elem? ps id ≡ some p → 0 < busy_of p + reserve_of p → HasWaitLock id m
+  pub apart : (id : ℕ) (p : SemPart) → get_elem? ps id ≡ some p → transit_of p ≡ 1 → (p.held ≢ Shared) × (p.task ≢ None)
 
 -- the facts of a site, and a list
 abbrev pub IsRwSemThen : {Call : Type 0} → Obj Call → ℕ → Plan → Moment → Type 0
 IsRwSemThen o size k m = IsSiteThen o shut size k m × ((q : List Waiter) × (ps : List SemPart) × IsQueued m q ps)
-
--- the pass of this number has the wait lock
-abbrev pub HasWaitLock : ℕ → Moment → Type 0
-HasWaitLock id m = (s : SpinHand) × (get_elem? m.spins id ≡ some s) × (holds_in s ≡ 1)
 
 -- a change of this list is made under the wait lock by the pass of this number, hand and part: a waiter enters by itself, and holds nothing; it leaves by itself, or as the next of the batch of the pass
 abbrev pub MadeBy : Change → ℕ → Hand → List SemPart → List Waiter → Moment → Type 0
@@ -73,7 +75,7 @@ MadeBy Stay id h ps q m = Unit {0}
 MadeBy (Enter w) id h ps q m = HasWaitLock id m × (h.task ≡ Some w.task) × (h.held ≡ No)
 MadeBy (Leave t) id h ps q m = HasWaitLock id m × ((h.task ≡ Some t) ⊎ ((p : SemPart) × (get_elem? ps id ≡ some p) × Picks p q t))
 
--- One step of one pass, made while this was the list and these the parts of the passes. The list changes by one append or one removal, which keeps the others in order. While the first waiter is marked and HANDOFF is set, the writer's bit comes by that waiter alone, and a task becomes a reader only by a bias whose addition saw no HANDOFF, or by a downgrade. At any time it becomes one by a step of its own pass, or in a waker's batch that leaves no reader in the list. HANDOFF is set by a waker that has marked the first waiter, or by a writer of the list that marks it next, and stays until a writer takes, a waker puts its batch into the count, or nobody waits; a mark is set by one of these, and is the first waiter's. Who is about something, before its step or behind it, has the wait lock. Who ends or downgrades a hold keeps the count that its step left. Each append is counted by the pass that enters.
+-- One step of one pass, made while this was the list and these the parts of the passes. The list changes by one append or one removal, which keeps the others in order. While the first waiter is marked and HANDOFF is set, the writer's bit comes by that waiter alone, and a task becomes a reader only by a bias whose addition saw no HANDOFF, or by a downgrade. At any time it becomes one by a step of its own pass, or in a waker's batch that leaves no reader in the list, and it is one until its own pass ends its shared hold. HANDOFF is set by a waker with a reserved bias where the first waiter is marked, or by a writer of the list, which is to mark it from then on, and stays until a writer takes, a waker puts a batch of some readers into the count, or nobody waits; a mark is set by one of these, and is the first waiter's. A batch grows by the readers that its waker picks, and is granted in this order once it is in the count; no other step clears a grant word. Who is about something, before its step or behind it, has the wait lock. Who ends or downgrades a hold keeps the count that its step left. Each append is counted by the pass that enters.
 pub record IsRwSemStep (k : Plan) (x : Moment) (q : List Waiter) (ps : List SemPart) (y : Moment) (q' : List Waiter) (ps' : List SemPart) : Type 0 where
   pub by : IsSiteStep k x y
   pub change : Change

@@ -40,7 +40,7 @@ module _ (vs : List SemPart) (id : ℕ) (v : SemPart) (at : get_elem? vs id ≡ 
 
   -- a stage and marks alone change
   turns : (s : Stage) (marks' : List ℕ) → granting_weight s (length v.sem.rest) ≡ granting_of v → FlagsAt s v.task v.sem.rest W H q marks' grants → (batch_weight s ≡ 0 → v.sem.rest ≡ []) → load_of v ≤ 1 + busy_weight s → reserve_of v ≤ busy_weight s → SemKept n q marks' grants (set vs id (staged v s))
-  turns s marks' g flags ok slim reserved = sem-stages vs id v at n q marks grants r own has (staged v s) n marks' only refl refl refl g flags (same-count vs id v at n q marks grants r own has (staged v s) (more_of grants vs) refl refl refl) (ok-of (staged v s) own has ok slim reserved (single-of v own has (r.each id v at)))
+  turns s marks' g flags ok slim reserved = sem-stages vs id v at n q marks grants r own has (staged v s) n marks' only refl refl refl g flags (same-count vs id v at n q marks grants r own has (staged v s) (more_of grants vs) refl refl refl) (ok-of (staged v s) own has ok slim reserved (single-of v own has (r.each id v at)) (r.each id v at).apart)
 
   loaded : load_of v ≤ 1 + busy_of v
   loaded = slim-of v own has (r.each id v at)

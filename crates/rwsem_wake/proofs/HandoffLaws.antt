@@ -19,7 +19,7 @@ use Rattle.rwsem_wake.specs.Semaphores.{batch_weight, Quiet, IsFirst, FlagsAt, l
 use Rattle.rwsem_wake.proofs.Sums.{busy-most, of-mine}
 use Rattle.rwsem_wake.proofs.Counting.{count-step, count-back, count-reserves, count-writes, part-least}
 use Rattle.rwsem_wake.proofs.Places.{total-without, length-without, some-length, first-least, here-behind, mark-set, mark-least, not-zero}
-use Rattle.rwsem_wake.proofs.WakeLaws.{staged, biased, batched, waiting, ok-of, slim-of, single-of, reserve-most, sem-moves, more-same}
+use Rattle.rwsem_wake.proofs.WakeLaws.{staged, biased, batched, waiting, ok-of, slim-of, shared-most, single-of, reserve-most, sem-moves, more-same}
 use Rattle.rwsem_wake.proofs.QueueLaws.{reads-w, reads-at-w, writes-at-w, granted-w, granted-at-w, reader, a_writer, joined-flags, fresh-flags, set-flags, sem-stages, same-count, mine-at}
 use Rattle.rwsem_wake.specs.Stated.{Without}
 
@@ -77,20 +77,20 @@ module _ (vs : List SemPart) (id : ℕ) (v : SemPart) (at : get_elem? vs id ≡ 
 
   -- stages alone change
   turns : (s s' : Stage) (marks' : List ℕ) → v.sem.stage ≡ s → granting_weight s' (length v.sem.rest) ≡ granting_of v → FlagsAt s' v.task v.sem.rest W H q marks' grants → (batch_weight s' ≡ 0 → v.sem.rest ≡ []) → load_of v ≤ 1 + busy_weight s' → reserve_of v ≤ busy_weight s' → SemKept n q marks' grants (set vs id (staged v s'))
-  turns s s' marks' stage g flags ok slim reserved = sem-stages vs id v at n q marks grants r own has (staged v s') n marks' only refl refl refl g flags (same-count vs id v at n q marks grants r own has (staged v s') (more_of grants vs) refl refl refl) (ok-of (staged v s') own has ok slim reserved (let x9 = single in omega arith))
+  turns s s' marks' stage g flags ok slim reserved = sem-stages vs id v at n q marks grants r own has (staged v s') n marks' only refl refl refl g flags (same-count vs id v at n q marks grants r own has (staged v s') (more_of grants vs) refl refl refl) (ok-of (staged v s') own has ok slim reserved (let x9 = single in omega arith) (r.each id v at).apart)
 
   -- a waker reserves a bias, and sees whether HANDOFF is set
   pub sem-reserves : (b : Bool) → bit b ≡ H → 1 ≤ length q → v.sem.stage ≡ Rest → v.sem.bias ≡ Clear → SemKept (n + 256) q marks grants (set vs id (biased v (Reserve n) (Overdue b)))
   sem-reserves b seen there stage clear = let f = mine Rest stage in let low = r.count.low in let a = f.waiters in let c = f.handoff in let d = f.marked in
       sem-stages vs id v at n q marks grants r own has (biased v (Reserve n) (Overdue b)) (n + 256) marks only refl refl refl (sym (grants-not Rest stage refl))
       (record { waiters = omega arith; handoff = omega arith; first = f.first; marked = omega arith }, omega arith, there)
-      (count-reserves vs id v (biased v (Reserve n) (Overdue b)) at n (more_of grants vs) r.count refl clear refl) (ok-of (biased v (Reserve n) (Overdue b)) own has (λ _. no-rest Rest stage refl) (let x = still Rest stage in let y : early_of v + late_of v ≡ 0 = ap (λ (z : Bias). early_weight z + late_weight z) clear in omega arith) (omega arith) (let x9 = single in omega arith))
+      (count-reserves vs id v (biased v (Reserve n) (Overdue b)) at n (more_of grants vs) r.count refl clear refl) (ok-of (biased v (Reserve n) (Overdue b)) own has (λ _. no-rest Rest stage refl) (let x = still Rest stage in let y : early_of v + late_of v ≡ 0 = ap (λ (z : Bias). early_weight z + late_weight z) clear in omega arith) (omega arith) (let x9 = single in omega arith) (let x = shared-most v.held in omega arith))
 
   -- a writer was there: it takes its bias back
   pub sem-unreserves : (n' m : ℕ) (b : Bool) → n' + 256 ≡ n → v.sem.stage ≡ Overdue b → v.sem.bias ≡ Reserve m → SemKept n' q marks grants (set vs id (biased v Clear Rest))
   sem-unreserves n' m b less stage bias = let f = mine (Overdue b) stage in let low = r.count.low in let one : early_of v + late_of v ≡ 1 = (λ i. early_weight (bias i) + late_weight (bias i)) ∙ omega arith in let a = f.0.waiters in let c = f.0.handoff in let d = f.0.marked in
       sem-stages vs id v at n q marks grants r own has (biased v Clear Rest) n' marks only refl refl refl (sym (grants-not (Overdue b) stage refl)) record { waiters = omega arith; handoff = omega arith; first = f.0.first; marked = omega arith }
-      (count-back vs id v (biased v Clear Rest) at n n' (more_of grants vs) r.count (omega arith) (omega arith) (omega arith) refl one refl) (ok-of (biased v Clear Rest) own has (λ _. no-rest (Overdue b) stage refl) (let x = still (Overdue b) stage in omega arith) (omega arith) (let x9 = single in omega arith))
+      (count-back vs id v (biased v Clear Rest) at n n' (more_of grants vs) r.count (omega arith) (omega arith) (omega arith) refl one refl) (ok-of (biased v Clear Rest) own has (λ _. no-rest (Overdue b) stage refl) (let x = still (Overdue b) stage in omega arith) (omega arith) (let x9 = single in omega arith) (let x = shared-most v.held in omega arith))
 
   -- and where the time is over, it marks the first waiter before
   pub sem-overdue : (b : Bool) (x : Waiter) (xs : List Waiter) → v.sem.stage ≡ Overdue b → q ≡ x ∷ xs → x.task < length marks → SemKept n q (set marks x.task 1) grants (set vs id (staged v (Marked b)))
@@ -103,7 +103,7 @@ module _ (vs : List SemPart) (id : ℕ) (v : SemPart) (at : get_elem? vs id ≡ 
   sem-asks n' m b sum stage bias = let f = mine (Marked b) stage in let low = r.count.low in let one : early_of v + late_of v ≡ 1 = (λ i. early_weight (bias i) + late_weight (bias i)) ∙ omega arith in let a = f.0 in let c = f.1 in let d = f.3 in let s = (some-length q).0 f.4 in
       let F = part-least early_in vs id v at in let L = part-least late_in vs id v at in let rf = r.count.field in
       sem-stages vs id v at n q marks grants r own has (biased v Clear Rest) n' marks only refl refl refl (sym (grants-not (Marked b) stage refl)) record { waiters = omega arith; handoff = omega arith; first = f.2; marked = omega arith }
-      (count-back vs id v (biased v Clear Rest) at n n' (more_of grants vs) r.count (omega arith) (omega arith) (omega arith) refl one refl) (ok-of (biased v Clear Rest) own has (λ _. no-rest (Marked b) stage refl) (let x = still (Marked b) stage in omega arith) (omega arith) (let x9 = single in omega arith))
+      (count-back vs id v (biased v Clear Rest) at n n' (more_of grants vs) r.count (omega arith) (omega arith) (omega arith) refl one refl) (ok-of (biased v Clear Rest) own has (λ _. no-rest (Marked b) stage refl) (let x = still (Marked b) stage in omega arith) (omega arith) (let x9 = single in omega arith) (let x = shared-most v.held in omega arith))
 
   -- a waker removes one of its batch
   pub sem-picks : (q' : List Waiter) (w : Waiter) (s : Without q w q') → W ≡ 1 → marks_sum marks ≡ first_mark marks (v.sem.rest ++ tasks q) → granting_of v ≡ 0 → w.writer ≡ false → (v.sem.rest ≡ [] → s.before ≡ []) → busy_of v ≤ 1
@@ -113,7 +113,7 @@ module _ (vs : List SemPart) (id : ℕ) (v : SemPart) (at : get_elem? vs id ≡ 
       sem-moves vs id v at u n n q q' marks marks grants r (of-mine W H q' marks grants vs id v u at only (set_it, first ∙ sym (led marks v.sem.rest q q' w s lead))) (omega arith) (same-count vs id v at n q marks grants r own has u (more_of grants (set vs id u)) more refl refl)
       (λ t. let x = total-without (reader_at t) q q' w s in let y : reader_at t w ≡ 1 * bit (w.task == t) = ap (λ (z : Bool). reader_bit z * bit (w.task == t)) reads in let z = here-behind w.task t v.sem.rest in omega arith)
       (λ t. let x = total-without (writer_at t) q q' w s in let y : writer_at t w ≡ 0 * bit (w.task == t) = ap (λ (z : Bool). bit z * bit (w.task == t)) reads in omega arith)
-      (let x = total-without reader_of q q' w s in omega arith) (ok-of u own has (λ z. absurd (omega (arith, z))) (let x = slim in omega arith) most (let x9 = single in omega arith))
+      (let x = total-without reader_of q q' w s in omega arith) (ok-of u own has (λ z. absurd (omega (arith, z))) (let x = slim in omega arith) most (let x9 = single in omega arith) (r.each id v at).apart)
 
   -- clears the mark of its batch's first, where it is set
   pub sem-unmarks : (t : ℕ) (ts : List ℕ) → v.sem.stage ≡ Removing → v.sem.rest ≡ t ∷ ts → t < length marks → SemKept n q (set marks t 0) grants (set vs id (staged v Summing))
@@ -140,7 +140,7 @@ module _ (vs : List SemPart) (id : ℕ) (v : SemPart) (at : get_elem? vs id ≡ 
       sem-moves vs id v at u n n q (q ++ a_writer own ∷ []) marks marks grants r (of-mine W H (q ++ a_writer own ∷ []) marks grants vs id v u at only (flags b empty f)) (omega arith) (same-count vs id v at n q marks grants r own has u (more_of grants (set vs id u)) more refl refl)
       (λ t. let x = total-snoc (reader_at t) q (a_writer own) in let y = reads-at-w u own has Writes refl t in let z = reads-at-w v own has Apart wait t in let c = granted-at-w u own has Writes refl grants t in let d = granted-at-w v own has Apart wait grants t in omega arith)
       (λ t. let x = total-snoc (writer_at t) q (a_writer own) in let y = writes-at-w u own has Writes refl t in let z = writes-at-w v own has Apart wait t in omega arith)
-      (let x = total-snoc reader_of q (a_writer own) in let y = reads-w v own has Apart wait in omega arith) (ok-of u own has (λ _. no-rest Rest stage refl) (let x = still Rest stage in omega arith) (let z = (r.each id v at).reserved in let b0 : busy_of v ≡ 0 = ap busy_weight stage in omega arith) (let x9 = single in omega arith))
+      (let x = total-snoc reader_of q (a_writer own) in let y = reads-w v own has Apart wait in omega arith) (ok-of u own has (λ _. no-rest Rest stage refl) (let x = still Rest stage in omega arith) (let z = (r.each id v at).reserved in let b0 : busy_of v ≡ 0 = ap busy_weight stage in omega arith) (let x9 = single in omega arith) (r.each id v at).apart)
     where
       idle : (b : Bool) → granting_weight (if b then First else Rest) (length v.sem.rest) ≡ 0
       idle true = refl
@@ -156,7 +156,7 @@ module _ (vs : List SemPart) (id : ℕ) (v : SemPart) (at : get_elem? vs id ≡ 
       sem-stages vs id v at n q marks grants r own has (staged v Rest) n' marks only refl refl refl (sym (grants-not First stage refl)) (set-flags (n' / 2 % 2) (n' / 4 % 2) q marks (refl, refl, f.2, f.3) (omega arith) (omega arith))
       (count-step vs id v (staged v Rest) at n n' (more_of grants vs) (more_of grants vs) (alone_of v) (shared_of v) (early_of v) (late_of v) (alone_of v) (shared_of v) (early_of v) (late_of v) r.count
       record { alone_is = refl; shared_is = refl; early_is = refl; late_is = refl } record { alone_is = refl; shared_is = refl; early_is = refl; late_is = refl } (omega arith) (omega arith) (omega arith)
-      (λ p. let e = r.count.apart (omega arith) in let S = part-least shared_in vs id v at in let F = part-least early_in vs id v at in omega arith)) (ok-of (staged v Rest) own has (λ _. no-rest First stage refl) (omega arith) (let z = light-none light in omega arith) (let x9 = single in omega arith))
+      (λ p. let e = r.count.apart (omega arith) in let S = part-least shared_in vs id v at in let F = part-least early_in vs id v at in omega arith)) (ok-of (staged v Rest) own has (λ _. no-rest First stage refl) (omega arith) (let z = light-none light in omega arith) (let x9 = single in omega arith) (r.each id v at).apart)
 
   -- a queued writer takes: it is the first, or no first waiter is marked
   pub sem-takes : (n' : ℕ) (a : ℕ) → n / 256 ≡ 0 → n % 2 ≡ 0 → n' + (4 * H + 2 * a) ≡ n + 1 → (length q ≤ 1 → a ≡ 1) → (2 ≤ length q → a ≡ 0) → 1 ≤ length q → v.sem.stage ≡ Rest → v.held ≡ No → IsFirst (Some own) q ⊎ (first_mark marks (tasks q) ≡ 0)
@@ -165,7 +165,7 @@ module _ (vs : List SemPart) (id : ℕ) (v : SemPart) (at : get_elem? vs id ≡ 
       let one : a ≤ 1 = elim (native.Mathlib.Decide.dec_le 2 (length q)) [ yes l ↦ (let e = long l in omega (arith, e)) | no l ↦ (let e = short (omega (arith, l)) in omega (arith, e)) ] in
       sem-stages vs id v at n q marks grants r own has u n' marks only refl refl refl (sym (grants-not Rest stage refl))
       (omega arith, omega arith, (λ l. let e = long l in omega arith), (λ l. let e = short l in omega arith), marked may f.first, λ l. is-first may f.first l)
-      (count-writes vs id v u at n n' (more_of grants vs) r.count free none (omega arith) (omega arith) out refl refl) (ok-of u own has (λ _. no-rest Rest stage refl) (let x = still Rest stage in let y : shared_of v ≡ 0 = ap shared_weight out in omega arith) most (let x9 = single in omega arith))
+      (count-writes vs id v u at n n' (more_of grants vs) r.count free none (omega arith) (omega arith) out refl refl) (ok-of u own has (λ _. no-rest Rest stage refl) (let x = still Rest stage in let y : shared_of v ≡ 0 = ap shared_weight out in omega arith) most (let x9 = single in omega arith) (let x = (r.each id v at).apart in omega (arith, x)))
     where
       -- a mark is the own one
       own-first : (xs : List Waiter) → IsFirst (Some own) xs → first_mark marks (tasks xs) ≡ get_or marks own 0
@@ -186,7 +186,7 @@ module _ (vs : List SemPart) (id : ℕ) (v : SemPart) (at : get_elem? vs id ≡ 
       sem-moves vs id v at u n n q q' marks marks grants r (of-mine W H q' marks grants vs id v u at only flags) (omega arith) (same-count vs id v at n q marks grants r own has u (more_of grants (set vs id u)) more refl refl)
       (λ t. let x = total-without (reader_at t) q q' w gone in let e : reader_at t w ≡ 0 * bit (own == t) = ap (reader_at t) is in let y = reads-at-w u own has Apart refl t in let z = reads-at-w v own has Writes wait t in let c = granted-at-w u own has Apart refl grants t in let d = granted-at-w v own has Writes wait grants t in omega arith)
       (λ t. let x = total-without (writer_at t) q q' w gone in let e : writer_at t w ≡ 1 * bit (own == t) = ap (writer_at t) is in let y = writes-at-w u own has Apart refl t in let z : writes_at t v ≡ bit (own == t) = writes-at-w v own has Writes wait t in omega arith)
-      (let x = total-without reader_of q q' w gone in let e : reader_of w ≡ 0 = ap reader_of is in let y = reads-w v own has Writes wait in omega arith) (ok-of u own has ok (omega arith) (let z = light-none light in omega arith) (let x9 = single in omega arith))
+      (let x = total-without reader_of q q' w gone in let e : reader_of w ≡ 0 = ap reader_of is in let y = reads-w v own has Writes wait in omega arith) (ok-of u own has ok (omega arith) (let z = light-none light in omega arith) (let x9 = single in omega arith) (r.each id v at).apart)
 
   pub sem-drops-reader : (q' : List Waiter) (w : Waiter) (s : Stage) → Without q w q' → w ≡ reader own → v.sem.wait ≡ Reads → 1 ≤ get_or grants own 0 → load_of v + reserve_of v ≤ 1 → granting_of v ≡ 0 → granting_weight s (length v.sem.rest) ≡ 0 → (batch_weight s ≡ 0 → v.sem.rest ≡ []) → FlagsAt s v.task v.sem.rest W H q' marks grants
       → SemKept n q' marks grants (set vs id (waiting v Apart s))
@@ -197,7 +197,7 @@ module _ (vs : List SemPart) (id : ℕ) (v : SemPart) (at : get_elem? vs id ≡ 
       (λ t. let x = total-without (reader_at t) q q' w gone in let e : reader_at t w ≡ 1 * bit (own == t) = ap (reader_at t) is in let y = reads-at-w u own has Apart refl t in let z : reads_at t v ≡ bit (own == t) = reads-at-w v own has Reads wait t in
       let c = granted-at-w u own has Apart refl grants t in let d : granted_at grants t v ≡ 0 = granted-at-w v own has Reads wait grants t ∙ ap (named_weight t (Some own)) ng in omega arith)
       (λ t. let x = total-without (writer_at t) q q' w gone in let e : writer_at t w ≡ 0 * bit (own == t) = ap (writer_at t) is in let y = writes-at-w u own has Apart refl t in let z = writes-at-w v own has Reads wait t in omega arith)
-      (let x = total-without reader_of q q' w gone in let e : reader_of w ≡ 1 = ap reader_of is in let y = reads-w v own has Reads wait in omega arith) (ok-of u own has ok (omega arith) (let z = light-none light in omega arith) (let x9 = single in omega arith))
+      (let x = total-without reader_of q q' w gone in let e : reader_of w ≡ 1 = ap reader_of is in let y = reads-w v own has Reads wait in omega arith) (ok-of u own has ok (omega arith) (let z = light-none light in omega arith) (let x9 = single in omega arith) (r.each id v at).apart)
 
   -- what the flags are where another than the first has left
   pub left-later : (q' : List Waiter) (w : Waiter) (s : Without q w q') → v.sem.stage ≡ Rest → 1 ≤ length s.before → Quiet W H q' marks
@@ -220,7 +220,7 @@ module _ (vs : List SemPart) (id : ℕ) (v : SemPart) (at : get_elem? vs id ≡ 
       sem-stages vs id v at n q marks grants r own has (staged v Rest) n' marks only refl refl refl (sym (grants-not Emptied stage refl)) (quiet-none (n' / 2 % 2) (n' / 4 % 2) q marks (omega arith) (omega arith) f.1)
       (count-step vs id v (staged v Rest) at n n' (more_of grants vs) (more_of grants vs) (alone_of v) (shared_of v) (early_of v) (late_of v) (alone_of v) (shared_of v) (early_of v) (late_of v) r.count
       record { alone_is = refl; shared_is = refl; early_is = refl; late_is = refl } record { alone_is = refl; shared_is = refl; early_is = refl; late_is = refl } (omega arith) (omega arith) (omega arith)
-      (λ p. let x = r.count.apart (omega arith) in let S = part-least shared_in vs id v at in let F = part-least early_in vs id v at in omega arith)) (ok-of (staged v Rest) own has (λ _. no-rest Emptied stage refl) (omega arith) (let z = light-none light in omega arith) (let x9 = single in omega arith))
+      (λ p. let x = r.count.apart (omega arith) in let S = part-least shared_in vs id v at in let F = part-least early_in vs id v at in omega arith)) (ok-of (staged v Rest) own has (λ _. no-rest Emptied stage refl) (omega arith) (let z = light-none light in omega arith) (let x9 = single in omega arith) (r.each id v at).apart)
 
   -- a queued writer asks for a handoff
   pub sem-asks-write : H ≡ 0 → 1 ≤ length q → v.sem.stage ≡ Rest → SemKept (n + 4) q marks grants (set vs id (staged v Marking))
@@ -228,7 +228,7 @@ module _ (vs : List SemPart) (id : ℕ) (v : SemPart) (at : get_elem? vs id ≡ 
       sem-stages vs id v at n q marks grants r own has (staged v Marking) (n + 4) marks only refl refl refl (sym (grants-not Rest stage refl)) (omega arith, omega arith, omega arith, there)
       (count-step vs id v (staged v Marking) at n (n + 4) (more_of grants vs) (more_of grants vs) (alone_of v) (shared_of v) (early_of v) (late_of v) (alone_of v) (shared_of v) (early_of v) (late_of v) r.count
       record { alone_is = refl; shared_is = refl; early_is = refl; late_is = refl } record { alone_is = refl; shared_is = refl; early_is = refl; late_is = refl } (omega arith) (omega arith) (omega arith)
-      (λ p. let x = r.count.apart (omega arith) in let S = part-least shared_in vs id v at in let F = part-least early_in vs id v at in omega arith)) (ok-of (staged v Marking) own has (λ _. no-rest Rest stage refl) (let x = still Rest stage in omega arith) most (let x9 = single in omega arith))
+      (λ p. let x = r.count.apart (omega arith) in let S = part-least shared_in vs id v at in let F = part-least early_in vs id v at in omega arith)) (ok-of (staged v Marking) own has (λ _. no-rest Rest stage refl) (let x = still Rest stage in omega arith) most (let x9 = single in omega arith) (r.each id v at).apart)
 
   -- and marks the first
   pub sem-marks : (x : Waiter) (xs : List Waiter) → v.sem.stage ≡ Marking → load_of v + reserve_of v ≤ 1 → q ≡ x ∷ xs → x.task < length marks → SemKept n q (set marks x.task 1) grants (set vs id (staged v Rest))

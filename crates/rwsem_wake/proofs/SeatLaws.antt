@@ -42,13 +42,14 @@ module _ (vs : List SemPart) (id : ℕ) (v : SemPart) (at : get_elem? vs id ≡ 
         slim = let a : shared_of v ≡ 0 = ap shared_weight out in let b : early_of v + late_of v ≡ 0 = ap (λ (s : SemHand). early_weight s.bias + late_weight s.bias) idle in omega arith;
         single = let a : shared_of v ≡ 0 = ap shared_weight out in omega arith;
         reserved = (r.each id v at).reserved;
+        apart = (r.each id v at).apart;
       }
     where
       flags : FlagsOf v (n / 2 % 2) (n / 4 % 2) q marks grants → FlagsOf U (n / 2 % 2) (n / 4 % 2) q marks grants
       flags f = let is : v.sem.stage ≡ Rest = ap (λ (s : SemHand). s.stage) idle in subst (λ (s : Stage). FlagsAt s task v.sem.rest (n / 2 % 2) (n / 4 % 2) q marks grants) (sym is) (subst (λ (s : Stage). FlagsAt s v.task v.sem.rest (n / 2 % 2) (n / 4 % 2) q marks grants) is f)
 
 pub nobody-ok : SemPartOk nobody
-nobody-ok = record { rest = λ _. refl; numbered = λ _. (refl, refl, refl); slim = omega arith; single = omega arith; reserved = omega arith }
+nobody-ok = record { rest = λ _. refl; numbered = λ _. (refl, refl, refl); slim = omega arith; single = omega arith; reserved = omega arith; apart = omega arith }
 
 now-snoc : (vs : List SemPart) → now (vs ++ nobody ∷ []) ≡ now vs
 now-snoc [] = refl

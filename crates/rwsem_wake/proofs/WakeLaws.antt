@@ -19,7 +19,7 @@ use Rattle.rwsem_wake.specs.declared.view.Stage.{Stage}
 use Rattle.rwsem_wake.specs.declared.view.Stage.TheVariants.{Counted, Granting}
 use Rattle.rwsem_wake.specs.declared.view.SemHand.{SemHand}
 use Rattle.rwsem_count.specs.Counts.{shared_weight, early_weight, late_weight, CountKept, shared_in, early_in}
-use Rattle.rwsem_wake.specs.SemParts.{SemPart, reserve_weight, reads_weight, writes_weight, named_weight, granted_weight, granting_weight, busy_weight, shared_of, alone_of, early_of, late_of, reserve_of, reads_of, reads_at, writes_at, reader_at, writer_at, reader_of, rest_of, rest_at, busy_of, granting_of, granted_of, granted_at, here, some_of, tasks, part_of}
+use Rattle.rwsem_wake.specs.SemParts.{SemPart, transit_weight, reserve_weight, reads_weight, writes_weight, named_weight, granted_weight, granting_weight, busy_weight, shared_of, alone_of, early_of, late_of, transit_of, reserve_of, reads_of, reads_at, writes_at, reader_at, writer_at, reader_of, rest_of, rest_at, busy_of, granting_of, granted_of, granted_at, here, some_of, tasks, part_of}
 use Rattle.rwsem_wake.specs.Semaphores.{batch_weight, Quiet, FlagsOf, FlagsAt, now, SemPartOk, number_weight, number_of, load_of, SemKept, more_of}
 use Rattle.rwsem_wake.proofs.Sums.{mine-of, of-mine, of-others}
 use Rattle.rwsem_wake.proofs.Counting.{count-step, part-least}
@@ -41,8 +41,8 @@ waiting v w s = record v { sem = record v.sem { wait = w; stage = s } }
 abbrev pub holding : SemPart → Held → SemHand → SemPart
 holding v h s = record v { held = h; sem = s }
 
-pub ok-of : (u : SemPart) (t : ℕ) → u.task ≡ Some t → (batch_weight u.sem.stage ≡ 0 → u.sem.rest ≡ []) → load_of u ≤ 1 + busy_of u → reserve_of u ≤ busy_of u → shared_of u + reads_of u ≤ 1 → SemPartOk u
-ok-of u t has rest slim reserved single = record { rest = rest; numbered = λ none. none-some t (sym none ∙ has); slim = let e : number_of u ≡ 1 = ap number_weight has in omega arith; reserved = reserved; single = let e : number_of u ≡ 1 = ap number_weight has in omega arith }
+pub ok-of : (u : SemPart) (t : ℕ) → u.task ≡ Some t → (batch_weight u.sem.stage ≡ 0 → u.sem.rest ≡ []) → load_of u ≤ 1 + busy_of u → reserve_of u ≤ busy_of u → shared_of u + reads_of u ≤ 1 → shared_of u + transit_of u ≤ 1 → SemPartOk u
+ok-of u t has rest slim reserved single apart = record { rest = rest; numbered = λ none. none-some t (sym none ∙ has); slim = let e : number_of u ≡ 1 = ap number_weight has in omega arith; reserved = reserved; single = let e : number_of u ≡ 1 = ap number_weight has in omega arith; apart = apart }
 
 -- what a pass with a number adds
 pub slim-of : (v : SemPart) (t : ℕ) → v.task ≡ Some t → SemPartOk v → load_of v ≤ 1 + busy_of v
@@ -65,6 +65,11 @@ pub reserve-most : (x : Bias) → (reserve_weight x ≤ 1) × (reserve_weight x 
 reserve-most Clear = (omega arith, omega arith)
 reserve-most (Transit n) = (omega arith, omega arith)
 reserve-most (Reserve n) = (omega arith, omega arith)
+
+pub transit-most : (x : Bias) → transit_weight x ≤ early_weight x + late_weight x
+transit-most Clear = omega arith
+transit-most (Transit n) = omega arith
+transit-most (Reserve n) = omega arith
 
 pub bias-most : (x : Bias) → early_weight x + late_weight x ≤ 1
 bias-most Clear = omega arith
@@ -124,7 +129,7 @@ module _ (vs : List SemPart) (id : ℕ) (v : SemPart) (at : get_elem? vs id ≡ 
       sem-moves u n n' q q marks marks grants r (of-mine (n' / 2 % 2) (n' / 4 % 2) q marks grants vs id v u at only (quiet, f.3)) (omega arith)
       (count-step vs id v u at n n' (more_of grants vs) (more_of grants (set vs id u)) (alone_of v) (shared_of v) (early_of v) (late_of v) (alone_of v) (shared_of v) 0 0 r.count
       record { alone_is = refl; shared_is = refl; early_is = refl; late_is = refl } record { alone_is = refl; shared_is = refl; early_is = refl; late_is = refl } (omega arith) (omega arith) (omega arith) (λ p. let e = ap' (omega arith) in absurd (omega arith)))
-      (λ t. refl) (λ t. refl) refl (ok-of u t has (λ z. absurd (omega (arith, z))) (let x = shared-most v.held in let y = reads-most v.sem.wait in omega arith) (omega arith) (single-of v t has (r.each id v at)))
+      (λ t. refl) (λ t. refl) refl (ok-of u t has (λ z. absurd (omega (arith, z))) (let x = shared-most v.held in let y = reads-most v.sem.wait in omega arith) (omega arith) (single-of v t has (r.each id v at)) (let x = shared-most v.held in omega arith))
 
   -- a grant word is cleared: the reader of the batch's rest goes over to those that are granted
   pub sem-grants : (n t own : ℕ) (ts : List ℕ) (q : List Waiter) (marks grants : List ℕ) → SemKept n q marks grants vs → total busy_of vs ≡ busy_of v → v.task ≡ Some own → v.sem.stage ≡ Granting → v.sem.rest ≡ t ∷ ts
@@ -147,5 +152,5 @@ module _ (vs : List SemPart) (id : ℕ) (v : SemPart) (at : get_elem? vs id ≡ 
             (λ not. let hx = grant-else grants t inside waits x not vs in let mx : rest_at x v ≡ here x ts = ap (here x) rest ∙ here-else t x ts not in omega arith);
         writes = λ x. r.writes x ∙ sym (total-same (writes_at x) vs id v u at refl);
         members = let m = r.members in let rr = total-same reads_of vs id v u at refl in let reads = r.reads t in omega arith;
-        each = each-set SemPartOk SemPartOk vs id u (ok-of u own has (λ z. absurd (omega (arith, z))) (let x = slim-of v own has (r.each id v at) in omega (arith, x, b0)) (reserve-most v.sem.bias).0 (single-of v own has (r.each id v at))) (λ j w _ _ p. p) r.each;
+        each = each-set SemPartOk SemPartOk vs id u (ok-of u own has (λ z. absurd (omega (arith, z))) (let x = slim-of v own has (r.each id v at) in omega (arith, x, b0)) (reserve-most v.sem.bias).0 (single-of v own has (r.each id v at)) (r.each id v at).apart) (λ j w _ _ p. p) r.each;
       }

@@ -145,10 +145,11 @@ KeepsOut sem v = (shared_weight v.hand.held + early_weight (sem v.ext).bias ≡ 
 abbrev pub LeavesNoReader : {E : Type 0} → (E → ListHand) → View E → Type 0
 LeavesNoReader list v = total reader_of (list v.ext).list ≡ 0
 
--- it has loaded the count, and is to add this for its batch, less that
+-- it has loaded the count, and is to add this for its batch, which isn't empty, less that
 pub record MaySum {E : Type 0} (list : E → ListHand) (sem : E → SemHand) (v : View E) (gain loss : ℕ) : Type 0 where
   pub handoff : Bool
   pub stage : (sem v.ext).stage ≡ Counted handoff
+  pub some : 0 < length (sem v.ext).rest
   pub few : length (sem v.ext).rest ≤ MAX_TASKS
   pub is : gain + losses (sem v.ext) (bit handoff) ≡ loss + gains (sem v.ext) (list v.ext).list
 

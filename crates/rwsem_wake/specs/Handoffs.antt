@@ -1,16 +1,17 @@
--- How a task becomes a reader, who asks for a handoff, and what a step may do while HANDOFF is set and the first waiter is marked.
-use Rattle.std.proofs.Common.{◌≡◌, ℕ, ◌+◌, ◌/◌, ◌%◌, ◌<◌, ◌≤◌, ◌⊎◌, Bool, List, length, get_or, Some}
+-- How a task becomes a reader and ceases to be one, who asks for a handoff, what becomes of a waker's batch, and what a step may do while HANDOFF is set and the first waiter is marked.
+use Rattle.std.proofs.Common.{◌≡◌, ◌≢◌, ℕ, ◌+◌, ◌/◌, ◌%◌, ◌<◌, ◌≤◌, ◌⊎◌, List, [], ◌∷◌, ◌++◌, length, get_or, Some}
 use mathlib.Core.Option.{some}
 use lib.ListN.{get_elem?}
-use Rattle.lock_core.specs.declared.view.Held.TheVariants.{Alone}
+use Rattle.lock_core.specs.declared.view.Held.TheVariants.{Shared, Alone}
 use Rattle.lock_core.specs.Totals.{total}
 use Rattle.wait_list.specs.declared.view.Waiter.{Waiter}
 use Rattle.wait_list.specs.Lists.{first_code}
 use Rattle.rwsem_count.specs.declared.view.Bias.TheVariants.{Transit, Reserve}
 use Rattle.rwsem_wake.specs.declared.view.Wait.TheVariants.{Writes}
-use Rattle.rwsem_wake.specs.declared.view.Stage.TheVariants.{Marking, Overdue, Marked, Counted}
+use Rattle.rwsem_wake.specs.declared.view.Stage.TheVariants.{Marking, Granting}
 use Rattle.rwsem_wake.specs.SemParts.{SemPart, named_weight, granting_weight, shared_of, granted_at, here, first_mark, reader_of, tasks}
 use Rattle.rwsem_wake.specs.Semaphores.{IsFirst}
+use Rattle.rwsem_wake.specs.Stated.{Picks}
 
 abbrev pub shared_at : ℕ → SemPart → ℕ
 shared_at t v = named_weight t v.task (shared_of v)
@@ -34,27 +35,55 @@ IsOfBatch v q t = (0 < here t v.sem.rest) × (total reader_of q ≡ 0)
 abbrev pub ComesToRead : ℕ → List Waiter → List ℕ → List SemPart → List ℕ → List SemPart → Type 0
 ComesToRead id q grants vs grants' us = (t : ℕ) → total (reads_as grants t) vs ≡ 0 → 0 < total (reads_as grants' t) us → (v : SemPart) × (get_elem? vs id ≡ some v) × ((v.task ≡ Some t) ⊎ IsOfBatch v q t)
 
--- from this part to that a pass may set HANDOFF: a waker that has marked the first waiter, or a writer of the list, which is to mark it next
-abbrev pub MaySetHandoff : SemPart → SemPart → Type 0
-MaySetHandoff v u = ((m : ℕ) × (b : Bool) × (v.sem.bias ≡ Reserve m) × (v.sem.stage ≡ Marked b)) ⊎ ((v.sem.wait ≡ Writes) × (u.sem.stage ≡ Marking))
+-- a task is a reader until a step of its own pass ends its shared hold
+abbrev pub EndsReading : ℕ → List ℕ → List SemPart → List ℕ → List SemPart → Type 0
+EndsReading id grants vs grants' us = (t : ℕ) → 0 < total (reads_as grants t) vs → total (reads_as grants' t) us ≡ 0 → (v : SemPart) × (get_elem? vs id ≡ some v) × (v.task ≡ Some t) × (v.held ≡ Shared)
 
--- a pass may mark a waiter: a waker whose bias came under a writer, or a writer of the list that has set HANDOFF
-abbrev pub MayMark : SemPart → Type 0
-MayMark v = ((m : ℕ) × (b : Bool) × (v.sem.bias ≡ Reserve m) × (m % 2 ≡ 1) × (v.sem.stage ≡ Overdue b)) ⊎ ((v.sem.wait ≡ Writes) × (v.sem.stage ≡ Marking))
+-- from this part to that a pass may set HANDOFF: a waker that has reserved a bias, where the first waiter is marked, or a writer of the list, which is to mark it next
+abbrev pub MaySetHandoff : List Waiter → List ℕ → SemPart → SemPart → Type 0
+MaySetHandoff q marks v u = ((m : ℕ) × (v.sem.bias ≡ Reserve m) × (first_mark marks (tasks q) ≡ 1)) ⊎ ((v.sem.wait ≡ Writes) × (u.sem.stage ≡ Marking))
+
+-- a pass may mark a waiter: a waker whose reserved bias came under a writer, or a writer of the list that is to mark, while HANDOFF is set
+abbrev pub MayMark : ℕ → SemPart → Type 0
+MayMark n v = ((m : ℕ) × (v.sem.bias ≡ Reserve m) × (m % 2 ≡ 1)) ⊎ ((v.sem.wait ≡ Writes) × (v.sem.stage ≡ Marking) × (n / 4 % 2 ≡ 1))
 
 -- HANDOFF stays as it is, and nobody is marked anew
 abbrev pub Unasked : (n : ℕ) → List ℕ → (n' : ℕ) → List ℕ → Type 0
 Unasked n marks n' marks' = (n' / 4 % 2 ≡ n / 4 % 2) × ((t : ℕ) → get_or marks' t 0 ≤ get_or marks t 0)
 
--- HANDOFF is answered: a writer takes, a waker puts its batch into the count, or nobody waits
-abbrev pub AnswersHandoff : (id n : ℕ) → List Waiter → List SemPart → (n' : ℕ) → Type 0
-AnswersHandoff id n q vs n' = ((n % 2 ≡ 0) × (n' % 2 ≡ 1)) ⊎ ((v : SemPart) × (get_elem? vs id ≡ some v) × ((b : Bool) × (v.sem.stage ≡ Counted b))) ⊎ (length q ≡ 0)
+-- the parts of the pass of this number, before a step and after it
+abbrev pub OfPass : ℕ → List SemPart → List SemPart → (SemPart → SemPart → Type 0) → Type 0
+OfPass id vs us P = (v u : SemPart) → get_elem? vs id ≡ some v → get_elem? us id ≡ some u → P v u
 
--- While HANDOFF is set and the first waiter is marked, the writer bit is set by that waiter alone, and a task becomes a reader only by a bias whose addition saw no HANDOFF, or by a downgrade. At any time it becomes one by itself, or in a batch that leaves no reader waiting. HANDOFF is set by a waker that has marked the first waiter, or by a writer of the list that marks it next, and stays until it is answered. A mark is set by one of these, and is the first waiter's.
+-- a waker puts its batch, which isn't empty, into the count
+abbrev pub CountsBatch : SemPart → SemPart → Type 0
+CountsBatch v u = (0 < length v.sem.rest) × (v.sem.stage ≢ Granting) × (u.sem.stage ≡ Granting)
+
+-- HANDOFF is answered: a writer takes, a waker puts its batch into the count, or nobody waits
+abbrev pub AnswersHandoff : (id n : ℕ) → List Waiter → List SemPart → (n' : ℕ) → List SemPart → Type 0
+AnswersHandoff id n q vs n' us = ((n % 2 ≡ 0) × (n' % 2 ≡ 1)) ⊎ ((v u : SemPart) × (get_elem? vs id ≡ some v) × (get_elem? us id ≡ some u) × CountsBatch v u) ⊎ (length q ≡ 0)
+
+-- who is to mark the first waiter is so until a step of it after which that one is marked
+abbrev pub MarksNext : List Waiter → List ℕ → SemPart → SemPart → Type 0
+MarksNext q marks' v u = v.sem.stage ≡ Marking → (u.sem.stage ≡ Marking) ⊎ (first_mark marks' (tasks q) ≡ 1)
+
+-- a grant word is cleared by a waker whose batch is in the count and has this task next
+abbrev pub GrantsNext : ℕ → List ℕ → List SemPart → List ℕ → List SemPart → Type 0
+GrantsNext id grants vs grants' us = (t : ℕ) → 0 < get_or grants t 0 → get_or grants' t 0 ≡ 0 → (v u : SemPart) × (get_elem? vs id ≡ some v) × (get_elem? us id ≡ some u) × (v.sem.stage ≡ Granting) × (v.sem.rest ≡ t ∷ u.sem.rest)
+
+-- what of a batch isn't granted yet stays, or its next task is granted, or one more is picked behind it
+abbrev pub BatchGoes : List Waiter → List ℕ → SemPart → SemPart → Type 0
+BatchGoes q grants' v u = (u.sem.rest ≡ v.sem.rest) ⊎ ((t : ℕ) × (v.sem.stage ≡ Granting) × (v.sem.rest ≡ t ∷ u.sem.rest) × (get_or grants' t 0 ≡ 0)) ⊎ ((t : ℕ) × (u.sem.rest ≡ v.sem.rest ++ t ∷ []) × Picks v q t)
+
+-- While HANDOFF is set and the first waiter is marked, the writer bit is set by that waiter alone, and a task becomes a reader only by a bias whose addition saw no HANDOFF, or by a downgrade. At any time it becomes one by itself, or in a batch that leaves no reader waiting, and it is one until its own pass ends its shared hold. HANDOFF is set by a waker with a reserved bias where the first waiter is marked, or by a writer of the list, which is to mark the first waiter from then on, until that one is marked, and stays until it is answered. A mark is set by one of these, and is the first waiter's. A batch grows by the readers that its waker picks, and is granted in this order once it is in the count; no other step clears a grant word.
 pub record KeepsHandoff (id n : ℕ) (q : List Waiter) (marks grants : List ℕ) (vs : List SemPart) (n' : ℕ) (marks' grants' : List ℕ) (us : List SemPart) : Type 0 where
   pub writer : n / 4 % 2 ≡ 1 → first_mark marks (tasks q) ≡ 1 → n % 2 ≡ 0 → n' % 2 ≡ 1 → (v : SemPart) × (get_elem? vs id ≡ some v) × IsFirst v.task q
   pub reader : n / 4 % 2 ≡ 1 → first_mark marks (tasks q) ≡ 1 → (t : ℕ) → total (reads_as grants t) vs ≡ 0 → 0 < total (reads_as grants' t) us → (v : SemPart) × (get_elem? vs id ≡ some v) × (v.task ≡ Some t) × MayRead v
   pub comes : ComesToRead id q grants vs grants' us
-  pub asks : n / 4 % 2 ≡ 0 → n' / 4 % 2 ≡ 1 → (v u : SemPart) × (get_elem? vs id ≡ some v) × (get_elem? us id ≡ some u) × MaySetHandoff v u
-  pub stays : n / 4 % 2 ≡ 1 → (n' / 4 % 2 ≡ 1) ⊎ AnswersHandoff id n q vs n'
-  pub marked : (t : ℕ) → get_or marks t 0 ≡ 0 → 0 < get_or marks' t 0 → (first_code q ≡ t + 1) × ((v : SemPart) × (get_elem? vs id ≡ some v) × MayMark v)
+  pub ends : EndsReading id grants vs grants' us
+  pub asks : n / 4 % 2 ≡ 0 → n' / 4 % 2 ≡ 1 → (v u : SemPart) × (get_elem? vs id ≡ some v) × (get_elem? us id ≡ some u) × MaySetHandoff q marks v u
+  pub stays : n / 4 % 2 ≡ 1 → (n' / 4 % 2 ≡ 1) ⊎ AnswersHandoff id n q vs n' us
+  pub marked : (t : ℕ) → get_or marks t 0 ≡ 0 → 0 < get_or marks' t 0 → (first_code q ≡ t + 1) × ((v : SemPart) × (get_elem? vs id ≡ some v) × MayMark n v)
+  pub marks_next : OfPass id vs us (MarksNext q marks')
+  pub granted : GrantsNext id grants vs grants' us
+  pub batch : OfPass id vs us (BatchGoes q grants')

@@ -68,7 +68,7 @@ pub fn clear_first<H: GrantHost>(site: &Site<H>, pass: &mut Pass<H>, task: u32)
     }
 }
 
-/// Puts a removed batch of so many readers into the count. `reserved` says whether the waker has a
+/// Puts a removed batch of so many readers, one at least, into the count. `reserved` says whether the waker has a
 /// bias of its own there, which goes, and `empty` whether the list is empty, so that WAITERS goes.
 pub fn count_batch<H: GrantHost>(
     site: &Site<H>,
@@ -85,6 +85,7 @@ pub fn count_batch<H: GrantHost>(
     requires knows { Knows (list_part H.list (view_of pass.old)) }
     requires whole { LeavesNoReader H.list (view_of pass.old) }
     requires readers { readers ≡ length (sem_at H.sem (view_of pass.old)).rest }
+    requires some { 0 < readers }
     requires few { readers ≤ MAX_TASKS }
     requires reserved { bit reserved ≡ early_weight (sem_at H.sem (view_of pass.old)).bias }
     requires empty { bit empty + some_of (hand_at H.list (view_of pass.old)).list ≡ 1 }

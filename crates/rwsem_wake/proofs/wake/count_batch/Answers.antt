@@ -17,6 +17,7 @@ add_sum-requires-clause-sum g c = let with_sem = g.H.GrantHost.with_sem in let v
     let known = list-after with_sem g.H.ListHost.list g.met.H.GrantHost.sem_list v t u first in let few = c.requires.few in let long = c.requires.readers in record {
       handoff = n / 4 % 2 == 1;
       stage = ap (λ (z : SemHand). z.stage) after;
+      some = let e = ap (λ (z : SemHand). length z.rest) after in let more = c.requires.some in omega (arith, e, more, long);
       few = let e = ap (λ (z : SemHand). length z.rest) after in omega (arith, e, few, long);
       is = subst (λ (z : SemHand). gain + losses z (bit (n / 4 % 2 == 1)) ≡ loss + gains z (g.H.ListHost.list u.ext).list) (sym after)
           (subst (λ (z : Part). gain + losses s (bit (n / 4 % 2 == 1)) ≡ loss + gains s z.1.list) (sym known) (sum-by s q n c.args.readers gain loss c.from.result c.from-2.result c.requires.readers own rest refl refl));
