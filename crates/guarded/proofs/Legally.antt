@@ -20,6 +20,8 @@ use Rattle.lock_core.proofs.RowLaws.{none-some, same-some, some-inside, row-task
 use Rattle.lock_core.proofs.Recording.{entry-fits}
 use Rattle.lock_core.specs.Plans.{IsSmall}
 use Rattle.guarded.specs.Gathering.{AreExact, IsGathered}
+use Rattle.lock_core.specs.declared.view.Moment.{Moment}
+use Rattle.lock_core.specs.Shown.{Shown}
 use Rattle.lock_core.specs.Chronicles.{Chronicles}
 use Rattle.guarded.specs.Copying.{Copies, AreRecWords, GatheredIsHistory, joined}
 
@@ -108,11 +110,11 @@ get-row [] t xs at = none-some xs at
 get-row (ys ∷ xss) zero xs at = same-some ys xs at
 get-row (ys ∷ xss) (suc t) xs at = get-row xss t xs at
 
-module _ {Call : Type 0} (o : Obj Call) (unavailable : Unavailable) (k : Plan) (h : Hand) (w : Words) (copies : Copies o unavailable k h w) (gathered : IsGathered o unavailable k h) where
+module _ {Call : Type 0} (o : Obj Call) (unavailable : Unavailable) (k : Plan) (v u : Shown) (w : Words) (copies : Copies o unavailable k v u w) (gathered : IsGathered o unavailable k v.hand) where
   -- a copy that was made when all calls were done is a legal history
   pub is-legal : IsLegal o unavailable k copies.chronicle.told copies.entries w.state
   is-legal = let c = copies.chronicle in record {
-    recorded = recorded o unavailable k h copies.entries c gathered;
+    recorded = recorded o unavailable k v.hand copies.entries c gathered;
     logged = logged-once o unavailable k copies.entries c.told c.legal c.logged;
     interrupted = λ t rs at. let few = c.interrupted t in let same = ap intrs (get-row c.told t rs at) in let count = intrs-count rs in omega (arith, few, same, count);
     stored = copies.state_is;
@@ -123,7 +125,7 @@ module _ {Call : Type 0} (o : Obj Call) (unavailable : Unavailable) (k : Plan) (
       let many = c.tasks in let inside : t < length k = omega (arith, l, many) in
       let task = copies.words.each t inside in
       same-words (row copies.rows t) (row gathered.made t) (task.many ∙ sym (gathered.all t)) (λ n r at. task.known n r (let short = some-of (row gathered.made t) n r at in let all = gathered.all t in omega (arith, short, all)) ((gathered.done t inside).known n r at))
-      ∙ ap (map rec_word) (told-is o unavailable k h copies.entries c gathered t inside))
+      ∙ ap (map rec_word) (told-is o unavailable k v.hand copies.entries c gathered t inside))
 
 -- the records of a task fit into words
 all-fit : {Call : Type 0} (o : Obj Call) (unavailable : Unavailable) (k : Plan) (log : List Entry) (t c seen : ℕ) (ws : List CallWords) (rs : List Rec) → AreNext o unavailable k log t c seen ws rs → AllByRecursion IsRec rs
@@ -140,31 +142,32 @@ each-there P [] each = tt
 each-there P (x ∷ xs) each = (each 0 x refl, each-there P xs (λ i y at. each (suc i) y at))
 
 -- the same words for a pass that knows the same records
-pub words-same : (k : Plan) (h g : Hand) (count : ℕ) (rows : List (List ℕ)) → g.records ≡ h.records → AreRecWords k h count rows → AreRecWords k g count rows
-words-same k h g count rows same are = record {
+pub words-same : (k : Plan) (h g : Hand) (old new : List Moment) (count : ℕ) (rows : List (List ℕ)) → g.records ≡ h.records → AreRecWords k h old new count rows → AreRecWords k g old new count rows
+words-same k h g old new count rows same are = record {
   many = are.many;
   each = λ t l. let task = are.each t l in record {
     many = task.many;
     known = λ c r inside knows. task.known c r inside (knows.0, ap (λ xs. slice_get xs knows.0) (sym same) ∙ knows.1);
     made = task.made;
+    found = task.found;
   };
 }
 
 -- so the copy has the words of a legal history, whose records the pass knows
-pub is-history : {Call : Type 0} (o : Obj Call) (unavailable : Unavailable) (k : Plan) (h : Hand) (w : Words) → IsSmall k → Copies o unavailable k h w → GatheredIsHistory o unavailable k h w
-is-history o unavailable k h w small copies gathered = let c = copies.chronicle in (
+pub is-history : {Call : Type 0} (o : Obj Call) (unavailable : Unavailable) (k : Plan) (v u : Shown) (w : Words) → IsSmall k → Copies o unavailable k v u w → GatheredIsHistory o unavailable k v.hand w
+is-history o unavailable k v u w small copies gathered = let c = copies.chronicle in (
   c.told,
   copies.entries,
   record {
-    recs = recs-are o unavailable k h w copies gathered;
+    recs = recs-are o unavailable k v u w copies gathered;
     fit = each-row (AllByRecursion IsRec) c.told (λ t l. all-fit o unavailable k copies.entries t 0 0 (row k t) (row c.told t) (c.legal t));
     log = copies.log_is;
     entered = each-there IsEntry copies.entries (λ j e at. let l = c.logged j e at in entry-fits k e.task e.call small (some-inside (row k e.task) e.call l.words l.planned));
   },
-  is-legal o unavailable k h w copies gathered,
+  is-legal o unavailable k v u w copies gathered,
   λ t n r at.
       let task = row-task c.told t n (some-inside (row c.told t) n r at) in
       let many = c.tasks in
       let inside : t < length k = omega (arith, task, many) in
-      (gathered.done t inside).known n r (subst (λ rs. slice_get rs n ≡ Some r) (sym (told-is o unavailable k h copies.entries c gathered t inside)) at),
+      (gathered.done t inside).known n r (subst (λ rs. slice_get rs n ≡ Some r) (sym (told-is o unavailable k v.hand copies.entries c gathered t inside)) at),
 )

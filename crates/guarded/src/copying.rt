@@ -20,7 +20,8 @@ use word_bits::{Object, Snapshot};
 
 impl<L: SleepLock<O>, O: Served + Drop> Guarded<L, O> {
     /// Copies the records, the log and the state after it, with the lock held alone. The log begins
-    /// with what the pass had seen, and each record that the pass knows is there.
+    /// with what the pass had seen, and each record that the pass knows is there. Each record's
+    /// word stood in the table at a step between two at which the pass held.
     ///
     /// If the pass knows the records that all tasks made, the copy is a legal history: one
     /// thread's, with each call once.
@@ -45,16 +46,18 @@ impl<L: SleepLock<O>, O: Served + Drop> Guarded<L, O> {
         ensures signals { (L.view pass.new).hand.consumed ≡ (L.view pass.old).hand.consumed }
         ensures out { (L.view pass.new).hand.held ≡ No }
         ensures copied { Copies O.object (unavailable L.kind) (L.calls_on (lock_of self.now))
-            (L.view pass.old).hand out.new }
+            (L.view pass.old) (L.view pass.new) out.new }
         ensures legal { GatheredIsHistory O.object (unavailable L.kind)
             (L.calls_on (lock_of self.now)) (L.view pass.old).hand out.new }
     {
         self.lock.alone(rt, pass, cpu, crew);
-        // While the pass holds alone nobody records a call that held, so records, log and words are
-        // those of one moment.
+        // Between the two looks nobody else holds: the log, the words and the records of all calls
+        // that held are those of one moment. Calls that never hold are recorded meanwhile too.
+        self.lock.recall(pass);
         self.copy_log(pass, out);
         self.copy_records(pass, out);
         self.copy_state(pass, out);
+        self.lock.recall(pass);
         self.lock.release_alone(rt, pass, crew);
     }
 
@@ -86,8 +89,8 @@ impl<L: SleepLock<O>, O: Served + Drop> Guarded<L, O> {
         ensures own { L.sits (lock_of self.now) pass.new }
         ensures goes_on { PastGoesOn (L.view pass.old) (L.view pass.new) }
         ensures kept { Looks (L.view pass.old) (L.view pass.new) }
-        ensures copied { AddsRecWords (L.calls_on (lock_of self.now)) (L.view pass.old).hand
-            out.old out.new }
+        ensures copied { AddsRecWords (L.calls_on (lock_of self.now)) (L.view pass.old)
+            (L.view pass.new) out.old out.new }
     {
         for task in 0..self.lock.tasks() {
             self.copy_task(pass, task, out);
@@ -103,8 +106,8 @@ impl<L: SleepLock<O>, O: Served + Drop> Guarded<L, O> {
         ensures own { L.sits (lock_of self.now) pass.new }
         ensures goes_on { PastGoesOn (L.view pass.old) (L.view pass.new) }
         ensures kept { Looks (L.view pass.old) (L.view pass.new) }
-        ensures copied { AddsTaskWords (L.calls_on (lock_of self.now)) (L.view pass.old).hand
-            task out.old out.new }
+        ensures copied { AddsTaskWords (L.calls_on (lock_of self.now)) (L.view pass.old)
+            (L.view pass.new) task out.old out.new }
     {
         for call in 0..self.lock.calls(task) {
             out.push_rec(self.lock.rec_word(pass, task, call));

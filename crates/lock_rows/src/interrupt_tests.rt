@@ -24,9 +24,9 @@ const SIGNALS: u32 = 10_000;
 const TURNS: u32 = 1_000_000_000;
 
 /// A record's word has the kind of the reply above its place in the log, and the value above both.
-const KIND: u64 = 262_144;
+pub(crate) const KIND: u64 = 262_144;
 
-const VALUE: u64 = 4_194_304;
+pub(crate) const VALUE: u64 = 4_194_304;
 
 /// Keeps task 0 inside until task 1, which begins then, has done its calls.
 #[derive(Default, Drop)]
@@ -36,7 +36,7 @@ struct KeepOut {
 }
 
 /// Waits until the flag is set, or the turns run out.
-fn await_flag(flag: &AtomicBool) {
+pub(crate) fn await_flag(flag: &AtomicBool) {
     for _ in 0..TURNS {
         if flag.load(Ordering::SeqCst) {
             return;

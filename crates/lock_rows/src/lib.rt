@@ -26,6 +26,8 @@ mod interrupt_tests;
 #[cfg(test)]
 mod serve_tests;
 #[cfg(test)]
+mod sleeper_tests;
+#[cfg(test)]
 mod tests;
 #[cfg(test)]
 mod threads_tests;

@@ -17,7 +17,7 @@ pub loop-task-init : goal.loop-task-init
 loop-task-init g c =
     let k = g.L.SleepLock.calls_on c.args.self.now.lock in
     let v = g.L.SleepLock.view c.args.pass.now in
-    (c.requires.own, (refl, (refl, refl, refl, omega arith)), (λ p t. t), ap length c.requires.empty ∙ sym (start-zero k), ([], rows-none k v.hand, (λ i. record c.args.out.now { recs = c.requires.empty i })))
+    (c.requires.own, (refl, (refl, refl, refl, omega arith)), (λ p t. t), ap length c.requires.empty ∙ sym (start-zero k), ([], rows-none k v.hand v.past v.past, (λ i. record c.args.out.now { recs = c.requires.empty i })))
 
 pub copy_task-requires-clause-room : goal.copy_task-requires-clause-room
 copy_task-requires-clause-room g c =
@@ -42,7 +42,7 @@ loop-task-preserved g c =
     let words = c.copy_task.ensures.copied.0 in
     let inside = c.loop-task-test.true in
     let end = c.tasks-task-end.ensures in
-    let new : AreTaskWords k v.hand c.loop-task.task (length (row k c.loop-task.task)) words = subst (λ (h : Hand). AreTaskWords k h c.loop-task.task (length (row k c.loop-task.task)) words) same c.copy_task.ensures.copied.1 in
+    let new : AreTaskWords k v.hand u.past w.past c.loop-task.task (length (row k c.loop-task.task)) words = subst (λ (h : Hand). AreTaskWords k h u.past w.past c.loop-task.task (length (row k c.loop-task.task)) words) same c.copy_task.ensures.copied.1 in
     let grown = ap {A = Words} (λ o. length o.recs) c.copy_task.ensures.copied.2 in
     let at = c.loop-task.invariant.3 in
     let many = new.many in
@@ -54,7 +54,7 @@ loop-task-preserved g c =
       omega (arith, grown, at, many, l, next),
       (
         rows ++ words ∷ [],
-        rows-more k v.hand c.loop-task.task rows words c.loop-task.invariant.4.1 new,
+        rows-more k v.hand v.past u.past w.past c.loop-task.task rows words c.loop-task.invariant.4.1 c.loop-task.invariant.2 c.copy_task.ensures.goes_on new,
         recs-pushed c.args.out.now c.loop-task.out c.copy_task.new.out (joined rows) words _ c.loop-task.invariant.4.2 c.copy_task.ensures.copied.2 (joined-snoc rows words (joined rows) refl),
       ),
     )

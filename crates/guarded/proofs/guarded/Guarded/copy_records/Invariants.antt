@@ -11,4 +11,4 @@ invariant-loop-task g l =
     × Looks (g.L.SleepLock.view l.fn.pass) (g.L.SleepLock.view l.pass)
     × PastGoesOn (g.L.SleepLock.view l.fn.pass) (g.L.SleepLock.view l.pass)
     × (length l.out.recs ≡ start (g.L.SleepLock.calls_on l.self.lock) l.task)
-    × ((rows : List (List ℕ)) × AreRecWords (g.L.SleepLock.calls_on l.self.lock) (g.L.SleepLock.view l.fn.pass).hand l.task rows × (l.out ≡ record l.fn.out { recs = joined rows }))
+    × ((rows : List (List ℕ)) × AreRecWords (g.L.SleepLock.calls_on l.self.lock) (g.L.SleepLock.view l.fn.pass).hand (g.L.SleepLock.view l.fn.pass).past (g.L.SleepLock.view l.pass).past l.task rows × (l.out ≡ record l.fn.out { recs = joined rows }))

@@ -1,12 +1,14 @@
 use Rattle.std.proofs.Common.{◌++◌, ◌∷◌, [], sym, subst, append_assoc}
 use Rattle.lock_core.specs.declared.view.Hand.{Hand}
+use Rattle.lock_core.specs.Layout.{record_place}
 use Rattle.lock_core.specs.Views.{Knows}
 use Rattle.guarded.proofs.Passing.{looks-trans}
-use Rattle.guarded.proofs.Copied.{words-more, recs-pushed}
+use Rattle.guarded.proofs.Copied.{words-more, found-now, recs-pushed}
 use Rattle.guarded.proofs.guarded.Guarded.copy_task.Goals as goal
 
 pub loop-call-preserved : goal.loop-call-preserved
 loop-call-preserved g c =
+    let k = g.L.SleepLock.calls_on c.args.self.now.lock in
     let v = g.L.SleepLock.view c.args.pass.now in
     let u = g.L.SleepLock.view c.loop-call.pass in
     let w = g.L.SleepLock.view c.rec_word.new.pass in
@@ -17,7 +19,8 @@ loop-call-preserved g c =
       (λ p t. c.rec_word.ensures.goes_on p (c.loop-call.invariant.2 p t)),
       (
         words ++ c.rec_word.result ∷ [],
-        words-more (g.L.SleepLock.calls_on c.args.self.now.lock) v.hand c.args.task c.loop-call.call c.rec_word.result words c.loop-call.invariant.3.1 (λ r knows. c.rec_word.ensures.known r (subst (λ (h : Hand). Knows h (record { task = c.args.task; call = c.loop-call.call }) r) (sym same) knows)) c.rec_word.ensures.made,
+        words-more k v.hand v.past u.past w.past c.args.task c.loop-call.call c.rec_word.result words c.loop-call.invariant.3.1 c.rec_word.ensures.goes_on (λ r knows. c.rec_word.ensures.known r (subst (λ (h : Hand). Knows h (record { task = c.args.task; call = c.loop-call.call }) r) (sym same) knows)) c.rec_word.ensures.made
+            (found-now (record_place k c.args.task c.loop-call.call) c.rec_word.result v.past w.past (λ p t. c.rec_word.ensures.goes_on p (c.loop-call.invariant.2 p t)) c.rec_word.ensures.found),
         recs-pushed c.args.out.now c.loop-call.out c.push_rec.new.self (c.args.out.now.recs ++ words) (c.rec_word.result ∷ []) _ c.loop-call.invariant.3.2 c.push_rec.ensures (append_assoc c.args.out.now.recs words (c.rec_word.result ∷ [])),
       ),
     )

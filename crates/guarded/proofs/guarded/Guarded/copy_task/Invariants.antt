@@ -9,4 +9,4 @@ invariant-loop-call g l =
     g.L.SleepLock.sits l.self.lock l.pass
     × Looks (g.L.SleepLock.view l.fn.pass) (g.L.SleepLock.view l.pass)
     × PastGoesOn (g.L.SleepLock.view l.fn.pass) (g.L.SleepLock.view l.pass)
-    × ((words : List ℕ) × AreTaskWords (g.L.SleepLock.calls_on l.self.lock) (g.L.SleepLock.view l.fn.pass).hand l.task l.call words × (l.out ≡ record l.fn.out { recs = l.fn.out.recs ++ words }))
+    × ((words : List ℕ) × AreTaskWords (g.L.SleepLock.calls_on l.self.lock) (g.L.SleepLock.view l.fn.pass).hand (g.L.SleepLock.view l.fn.pass).past (g.L.SleepLock.view l.pass).past l.task l.call words × (l.out ≡ record l.fn.out { recs = l.fn.out.recs ++ words }))

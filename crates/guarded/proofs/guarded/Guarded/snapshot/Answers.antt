@@ -1,10 +1,13 @@
-use Rattle.std.proofs.Common.{List, length, sym, ap, ◌∙◌, subst}
+use Rattle.std.proofs.Common.{◌≡◌, arith, List, length, map, sym, ap, ◌∙◌, subst}
+use Rattle.word_bits.specs.declared.entry.Entry.{Entry}
+use Rattle.word_bits.specs.EntryWord.{entry_word}
 use Rattle.word_bits.specs.Snapshots.{Words}
 use Rattle.word_bits.proofs.States.{IsLawful}
 use Rattle.lock_core.specs.declared.view.Hand.{Hand}
 use Rattle.lock_core.specs.declared.view.Told.{Told}
 use Rattle.lock_core.specs.Chronicles.{Chronicles}
 use Rattle.lock_core.specs.Kinds.{unavailable}
+use Rattle.guarded.proofs.Copied.{held-alone, rows-wider}
 use Rattle.guarded.proofs.Serving.{known-sized}
 use Rattle.guarded.proofs.Legally.{words-same, is-history}
 use Rattle.guarded.proofs.guarded.Guarded.snapshot.Given as given
@@ -18,11 +21,20 @@ lawful g = record {
   replies = g.met.O.Object.replies;
 }
 
+pub copy_log-requires-clause-room : goal.copy_log-requires-clause-room
+copy_log-requires-clause-room g c =
+    let short = (g.met.L.SleepLock.stands c.args.self.now.lock c.recall.new.pass c.recall.ensures.own).short in
+    let room = c.requires.log_room in omega (arith, short, room)
+
 pub copy_state-requires-clause-sized : goal.copy_state-requires-clause-sized
 copy_state-requires-clause-sized g c =
     let u = g.L.SleepLock.view c.alone.new.pass in
-    let at = ap {A = Hand} (λ (h : Hand). length h.known) (c.copy_records.ensures.kept.0 ∙ c.copy_log.ensures.kept.0) in
+    let at = ap {A = Hand} (λ (h : Hand). length h.known) (c.copy_records.ensures.kept.0 ∙ (c.copy_log.ensures.kept.0 ∙ c.recall.ensures.kept.0)) in
     at ∙ known-sized g.O.Object.object (lawful g) (g.L.SleepLock.calls_on c.args.self.now.lock) u.hand c.alone.ensures.took.stored g.O.Object.WORDS g.met.O.Object.sized
+
+pub returns-clause-goes_on : goal.returns-clause-goes_on
+returns-clause-goes_on g c = λ p t.
+    c.release_alone.ensures.goes_on p (c.recall-2.ensures.goes_on p (c.copy_state.ensures.goes_on p (c.copy_records.ensures.goes_on p (c.copy_log.ensures.goes_on p (c.recall.ensures.goes_on p (c.alone.ensures.goes_on p t))))))
 
 pub returns-clause-copied : goal.returns-clause-copied
 returns-clause-copied g c =
@@ -30,20 +42,36 @@ returns-clause-copied g c =
     let k = g.L.SleepLock.calls_on c.args.self.now.lock in
     let v = g.L.SleepLock.view c.args.pass.now in
     let m = g.L.SleepLock.view c.alone.new.pass in
+    let first = g.L.SleepLock.view c.recall.new.pass in
+    let logged = g.L.SleepLock.view c.copy_log.new.pass in
+    let read = g.L.SleepLock.view c.copy_records.new.pass in
+    let last = g.L.SleepLock.view c.recall-2.new.pass in
     let took = c.alone.ensures.took in
-    let same = c.copy_log.ensures.kept.0 in
-    let first = c.copy_log.ensures.copied in
-    let second = c.copy_records.ensures.copied in
-    let third = c.copy_state.ensures.copied in record {
+    let same : logged.hand ≡ m.hand = c.copy_log.ensures.kept.0 ∙ c.recall.ensures.kept.0 in
+    let still : last.hand ≡ m.hand = c.recall-2.ensures.kept.0 ∙ (c.copy_state.ensures.kept.0 ∙ (c.copy_records.ensures.kept.0 ∙ same)) in
+    let log = c.copy_log.ensures.copied in
+    let recs = c.copy_records.ensures.copied in
+    let state = c.copy_state.ensures.copied in
+    let stored : c.copy_state.new.out.state ≡ m.hand.known = ap {A = Words} (λ w. w.state) state ∙ ap {A = Hand} (λ h. h.known) (c.copy_records.ensures.kept.0 ∙ same) in record {
       entries = m.hand.log;
-      rows = second.0;
+      rows = recs.0;
       begins = took.begins;
-      log_is = ap {A = Words} (λ w. w.log) third ∙ (ap {A = Words} (λ w. w.log) second.2 ∙ ap {A = Words} (λ w. w.log) first);
-      state_is = ap {A = Words} (λ w. w.state) third ∙ (ap {A = Hand} (λ h. h.known) (c.copy_records.ensures.kept.0 ∙ same) ∙ took.stored);
-      recs_are = ap {A = Words} (λ w. w.recs) third ∙ ap {A = Words} (λ w. w.recs) second.2;
-      words = words-same k (g.L.SleepLock.view c.copy_log.new.pass).hand v.hand (length k) second.0 (sym (ap {A = Hand} (λ h. h.records) same ∙ took.keeps.records)) second.1;
-      chronicle = subst (λ (known : List Told). Chronicles o (unavailable g.L.SleepLock.kind) k known m.hand.log) took.keeps.records c.copy_log.ensures.history;
+      log_is = ap {A = Words} (λ w. w.log) state ∙ (ap {A = Words} (λ w. w.log) recs.2 ∙ (ap {A = Words} (λ w. w.log) log ∙ ap {A = Hand} (λ h. map entry_word h.log) c.recall.ensures.kept.0));
+      state_is = stored ∙ took.stored;
+      recs_are = ap {A = Words} (λ w. w.recs) state ∙ ap {A = Words} (λ w. w.recs) recs.2;
+      first = first.past;
+      last = last.past;
+      after = λ p t. c.recall.ensures.goes_on p (c.alone.ensures.goes_on p t);
+      between = λ p t. c.recall-2.ensures.goes_on p (c.copy_state.ensures.goes_on p (c.copy_records.ensures.goes_on p (c.copy_log.ensures.goes_on p t)));
+      goes_on = c.release_alone.ensures.goes_on;
+      once = c.release_alone.ensures.released.0.takes ∙ (ap {A = Hand} (λ h. h.takes) still ∙ took.takes);
+      begun = held-alone v m first c.copy_state.new.out.state c.recall.ensures.kept.0 took.keeps.task took.holds took.takes (sym stored) c.recall.ensures.last;
+      ended = held-alone v m last c.copy_state.new.out.state still took.keeps.task took.holds took.takes (sym stored) c.recall-2.ensures.last;
+      words = rows-wider k v.hand first.past logged.past read.past last.past (length k) recs.0 c.copy_log.ensures.goes_on (λ p t. c.recall-2.ensures.goes_on p (c.copy_state.ensures.goes_on p t))
+          (words-same k logged.hand v.hand logged.past read.past (length k) recs.0 (sym (ap {A = Hand} (λ h. h.records) same ∙ took.keeps.records)) recs.1);
+      chronicle = subst (λ (known : List Told). Chronicles o (unavailable g.L.SleepLock.kind) k known m.hand.log) (ap {A = Hand} (λ h. h.records) c.recall.ensures.kept.0 ∙ took.keeps.records)
+          (subst (λ (entries : List Entry). Chronicles o (unavailable g.L.SleepLock.kind) k first.hand.records entries) (ap {A = Hand} (λ h. h.log) c.recall.ensures.kept.0) c.copy_log.ensures.history);
     }
 
 pub returns-clause-legal : goal.returns-clause-legal
-returns-clause-legal g c = is-history g.O.Object.object (unavailable g.L.SleepLock.kind) (g.L.SleepLock.calls_on c.args.self.now.lock) (g.L.SleepLock.view c.args.pass.now).hand _ (g.met.L.SleepLock.small c.args.self.now.lock) (returns-clause-copied g c)
+returns-clause-legal g c = is-history g.O.Object.object (unavailable g.L.SleepLock.kind) (g.L.SleepLock.calls_on c.args.self.now.lock) (g.L.SleepLock.view c.args.pass.now) (g.L.SleepLock.view c.release_alone.new.pass) _ (g.met.L.SleepLock.small c.args.self.now.lock) (returns-clause-copied g c)
