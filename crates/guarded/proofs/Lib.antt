@@ -7,3 +7,4 @@ pub mod Copied
 pub mod Once
 pub mod Legally
 pub mod Joining
+pub mod Padding

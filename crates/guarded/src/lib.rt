@@ -12,6 +12,7 @@ mod rwsem_lock;
 mod served;
 
 pub use guarded::Guarded;
+pub use loading::UsedWords;
 pub use lock::SleepLock;
 pub use mutex_slow::{Mutex, MutexPass};
 pub use rwsem_slow::{RwPass, RwSem};

@@ -401,13 +401,15 @@ impl<L: SleepLock<O>, O: Served + Drop> Guarded<L, O> {
     }
 
     /// Writes those words that store the value and that aren't there yet. `old` has the words that
-    /// are there.
+    /// are there. Behind the words that either state uses both have 0.
     fn store(&self, pass: &mut L::Pass, old: &[u64; 257], value: &O)
         requires own { L.sits (lock_of self.now) pass.old }
         requires held { (L.view pass.old).hand.held ≡ Alone }
         requires long { length old.now ≡ 257 }
         requires sized { length (L.view pass.old).hand.known ≡ O.WORDS }
         requires there { take O.WORDS old.now ≡ (L.view pass.old).hand.known }
+        requires before { (s : O.object.State) ×
+            O.object.IsState s × (O.object.stores s ≡ (L.view pass.old).hand.known) }
         ensures own { L.sits (lock_of self.now) pass.new }
         ensures goes_on { PastGoesOn (L.view pass.old) (L.view pass.new) }
         ensures stored { HasStored (O.object.stores (O.state value.now))
@@ -416,7 +418,10 @@ impl<L: SleepLock<O>, O: Served + Drop> Guarded<L, O> {
         let mut words = [0; 257];
         let stored = &mut words[..O::WORDS];
         value.store(stored);
-        for at in 0..O::WORDS {
+        let before = O::words_used(old[0]);
+        let after = O::words_used(stored[0]);
+        let used = before.max(after);
+        for at in 0..used {
             self.store_word(pass, at, old[at], stored[at]);
         }
     }

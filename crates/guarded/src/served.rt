@@ -9,14 +9,14 @@ ghost use Rattle.vma_map.specs.Spaces.{IsAccess, AreSpaceWords, access_reply, st
 ghost use Rattle.guarded.specs.Serving.{readable_from, share};
 ghost use Rattle.guarded.specs.States.{Confirms, reply_in};
 
-use crate::loading::{load_words, value_of};
+use crate::loading::{UsedWords, load_words, value_of};
 use crate::lock::SleepLock;
 use fd_table::{Fds, TableCall};
 use vma_map::{Areas, SpaceCall, find};
 use word_bits::{Area, Object, Reply};
 
 /// An object that a task looks at while others may do so too.
-pub trait Served: Object {
+pub trait Served: Object + UsedWords {
     ghost downgrades: { Self.Call → Bool };
 
     /// Whether the call changes the object and then looks at it, for which a shared hold is enough.

@@ -1,6 +1,7 @@
 use Rattle.std.proofs.Common.{◌≡◌, length, take}
 use Rattle.lock_core.specs.Shown.{PastGoesOn}
 use Rattle.lock_core.specs.Locking.{Looks}
+use Rattle.guarded.specs.Serving.{AreZeroFrom}
 use Rattle.guarded.proofs.loading.load_words.Given as goal
 
 abbrev pub invariant-loop-at : goal.invariant-loop-at
@@ -10,3 +11,4 @@ invariant-loop-at g l =
     × PastGoesOn (g.L.SleepLock.view l.fn.pass) (g.L.SleepLock.view l.pass)
     × (length l.words ≡ 257)
     × (take l.at l.words ≡ take l.at (g.L.SleepLock.view l.fn.pass).hand.known)
+    × AreZeroFrom l.at l.words

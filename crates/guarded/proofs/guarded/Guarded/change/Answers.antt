@@ -1,6 +1,7 @@
 use Rattle.std.proofs.Common.{refl, sym, ap, ◌∙◌}
 use Rattle.word_bits.specs.Histories.{state_after}
 use Rattle.word_bits.proofs.States.{IsLawful, state_is_state}
+use Rattle.lock_core.specs.declared.view.Hand.{Hand}
 use Rattle.guarded.proofs.Serving.{known-sized, loaded-stores, change-kept, may-commit}
 use Rattle.guarded.proofs.guarded.Guarded.change.Given as given
 use Rattle.guarded.proofs.guarded.Guarded.change.Goals as goal
@@ -15,6 +16,17 @@ lawful g = record {
 
 pub load_words-words-requires-clause-sized : goal.load_words-words-requires-clause-sized
 load_words-words-requires-clause-sized g c = known-sized g.O.Object.object (lawful g) (g.L.SleepLock.calls_on c.args.self.now.lock) (g.L.SleepLock.view c.args.pass.now).hand c.requires.stored g.O.Object.WORDS g.met.O.Object.sized
+
+pub load_words-words-requires-clause-stored : goal.load_words-words-requires-clause-stored
+load_words-words-requires-clause-stored g c =
+    let h = (g.L.SleepLock.view c.args.pass.now).hand in
+    loaded-stores g.O.Object.object (lawful g) (g.L.SleepLock.calls_on c.args.self.now.lock) h c.requires.stored h.known refl
+
+pub store-requires-clause-before : goal.store-requires-clause-before
+store-requires-clause-before g c =
+    let h = (g.L.SleepLock.view c.args.pass.now).hand in
+    let w = (g.L.SleepLock.view c.load_words-words.new.pass).hand in
+    loaded-stores g.O.Object.object (lawful g) (g.L.SleepLock.calls_on c.args.self.now.lock) h c.requires.stored w.known (ap {A = Hand} (λ x. x.known) c.load_words-words.ensures.kept.0)
 
 pub value_of-value-requires-clause-stored : goal.value_of-value-requires-clause-stored
 value_of-value-requires-clause-stored g c = loaded-stores g.O.Object.object (lawful g) (g.L.SleepLock.calls_on c.args.self.now.lock) (g.L.SleepLock.view c.args.pass.now).hand c.requires.stored _ c.load_words-words.ensures.words

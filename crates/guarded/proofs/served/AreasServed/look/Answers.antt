@@ -1,4 +1,4 @@
-use Rattle.std.proofs.Common.{◌≡◌, ℕ, List, length, take, sym, ap, ◌∙◌, subst, arith, take_all}
+use Rattle.std.proofs.Common.{refl, ◌≡◌, ℕ, List, length, take, sym, ap, ◌∙◌, subst, arith, take_all}
 use Rattle.word_bits.specs.Histories.{state_after}
 use Rattle.word_bits.specs.PageMaps.{PageMap, runs}
 use Rattle.word_bits.specs.declared.reply.Reply.TheVariants.{Num}
@@ -15,6 +15,11 @@ use Rattle.guarded.proofs.served.AreasServed.look.Goals as goal
 
 lawful : IsLawful space
 lawful = record { starts = starts; called = called; goes_on = goes_on; replies = replies }
+
+pub load_words-words-requires-clause-stored : goal.load_words-words-requires-clause-stored
+load_words-words-requires-clause-stored g c =
+    let h = (g.L.SleepLock.view c.args.pass.now).hand in
+    loaded-stores space lawful (g.L.SleepLock.calls_on c.args.lock.now) h c.requires.stored h.known refl
 
 pub load_words-words-requires-clause-sized : goal.load_words-words-requires-clause-sized
 load_words-words-requires-clause-sized g c = known-sized space lawful (g.L.SleepLock.calls_on c.args.lock.now) (g.L.SleepLock.view c.args.pass.now).hand c.requires.stored 257 sized

@@ -1,4 +1,4 @@
-use Rattle.std.proofs.Common.{sym, ap, ◌∙◌}
+use Rattle.std.proofs.Common.{refl, sym, ap, ◌∙◌}
 use Rattle.word_bits.specs.Histories.{state_after}
 use Rattle.word_bits.proofs.States.{IsLawful, state_is_state}
 use Rattle.fd_table.specs.Tables.{FdMap, table, meaning}
@@ -8,6 +8,11 @@ use Rattle.guarded.proofs.served.FdsServed.look.Goals as goal
 
 lawful : IsLawful table
 lawful = record { starts = starts; called = called; goes_on = goes_on; replies = replies }
+
+pub load_words-words-requires-clause-stored : goal.load_words-words-requires-clause-stored
+load_words-words-requires-clause-stored g c =
+    let h = (g.L.SleepLock.view c.args.pass.now).hand in
+    loaded-stores table lawful (g.L.SleepLock.calls_on c.args.lock.now) h c.requires.stored h.known refl
 
 pub load_words-words-requires-clause-sized : goal.load_words-words-requires-clause-sized
 load_words-words-requires-clause-sized g c = known-sized table lawful (g.L.SleepLock.calls_on c.args.lock.now) (g.L.SleepLock.view c.args.pass.now).hand c.requires.stored 64 sized
