@@ -8,3 +8,4 @@ pub mod Once
 pub mod Legally
 pub mod Joining
 pub mod Padding
+pub mod Ascending

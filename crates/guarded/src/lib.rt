@@ -9,6 +9,7 @@ mod mutex_lock;
 mod next;
 mod perform;
 mod rwsem_lock;
+mod searching;
 mod served;
 
 pub use guarded::Guarded;

@@ -10,7 +10,7 @@ use fd_table::{DESCRIPTORS, Fds};
 use vma_map::{Areas, MAX_AREAS};
 use word_bits::Object;
 
-/// An object whose states use fewer words than there are room for.
+/// An object, and how many of the words that store a state the state uses.
 pub trait UsedWords: Object {
     /// How many words a state uses that is stored with this first word. All words behind them are
     /// 0.
@@ -19,6 +19,14 @@ pub trait UsedWords: Object {
         ensures rest { (s : Self.object.State) → Self.object.IsState s →
             slice_index (Self.object.stores s) 0 ≡ first →
             AreZeroFrom result (Self.object.stores s) };
+
+    /// Puts the value that the words store in the place of another.
+    fn reload(&mut self, words: &[u64])
+        requires long { length words.now ≡ Self.WORDS }
+        requires stored { (s : Self.object.State) ×
+            Self.object.IsState s × (Self.object.stores s ≡ words.now) }
+        ensures state { (s : Self.object.State) → Self.object.IsState s →
+            Self.object.stores s ≡ words.now → Self.state self.new ≡ s };
 
     // There is a first word.
     ghost has_words: { 0 < Self.WORDS };
@@ -32,6 +40,10 @@ impl UsedWords for Fds {
         DESCRIPTORS
     }
 
+    fn reload(&mut self, words: &[u64]) {
+        *self = load_value(words);
+    }
+
     ghost has_words = { has_slots };
 }
 
@@ -41,6 +53,10 @@ impl UsedWords for Areas {
     /// The first word is the number of the areas, and a word of each follows.
     fn words_used(first: u64) -> usize {
         first.min(MAX_AREAS as u64) as usize + 1
+    }
+
+    fn reload(&mut self, words: &[u64]) {
+        self.refill(words);
     }
 
     ghost has_words = { has_number };
@@ -77,7 +93,18 @@ pub(crate) fn value_of<O: Object>(words: &[u64; 257]) -> O
     ensures state { (s : O.object.State) → O.object.IsState s →
         O.object.stores s ≡ take O.WORDS words.now → O.state result ≡ s }
 {
-    match O::load(&words[..O::WORDS]) {
+    load_value(&words[..O::WORDS])
+}
+
+/// The value that the words store.
+fn load_value<O: Object>(words: &[u64]) -> O
+    requires long { length words.now ≡ O.WORDS }
+    requires stored { (s : O.object.State) ×
+        O.object.IsState s × (O.object.stores s ≡ words.now) }
+    ensures state { (s : O.object.State) → O.object.IsState s →
+        O.object.stores s ≡ words.now → O.state result ≡ s }
+{
+    match O::load(words) {
         Some(value) => value,
         None => unreachable!(),
     }

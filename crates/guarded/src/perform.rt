@@ -14,7 +14,7 @@ ghost use Rattle.guarded.specs.Gathering.{DoesOneMore};
 ghost use Rattle.guarded.specs.States.{WasDone, reply_in};
 
 use crate::guarded::Guarded;
-use crate::loading::{load_words, value_of};
+use crate::loading::load_words;
 use crate::lock::SleepLock;
 use crate::next::Next;
 use crate::served::Served;
@@ -392,7 +392,9 @@ impl<L: SleepLock<O>, O: Served + Drop> Guarded<L, O> {
             (L.view pass.old) (L.view pass.new) }
     {
         let words = load_words::<O, L>(&self.lock, pass);
-        let mut value = value_of::<O>(&words);
+        // Filled in place: to move so large a value costs more than the call.
+        let mut value = O::empty();
+        value.reload(&words[..O::WORDS]);
         let reply = value.apply(next.call);
         self.store(pass, &words, &value);
         // The words and the log change under one hold, so whoever holds next finds that they agree.

@@ -11,8 +11,9 @@ ghost use Rattle.guarded.specs.States.{Confirms, reply_in};
 
 use crate::loading::{UsedWords, load_words, value_of};
 use crate::lock::SleepLock;
+use crate::searching::find_page;
 use fd_table::{Fds, TableCall};
-use vma_map::{Areas, SpaceCall, find};
+use vma_map::{Areas, SpaceCall};
 use word_bits::{Area, Object, Reply};
 
 /// An object that a task looks at while others may do so too.
@@ -74,14 +75,19 @@ fn meet(prot: Option<u8>, access: u8) -> Reply
     }
 }
 
-/// What a fault finds, by the words that store a space.
-fn fault(words: &[u64], page: u32, access: u8) -> Reply
-    requires space { AreSpaceWords words.now }
+/// What a fault finds of a space under its lock.
+fn fault<L: SleepLock<Areas>>(lock: &L, pass: &mut L::Pass, page: u32, access: u8) -> Reply
+    requires own { L.sits lock.now pass.old }
+    requires held { (L.view pass.old).hand.held ≢ No }
+    requires space { AreSpaceWords (L.view pass.old).hand.known }
     requires access { IsAccess access }
-    ensures { (m : PageMap) → IsPageMap m → stores m ≡ words.now →
+    ensures own { L.sits lock.now pass.new }
+    ensures goes_on { PastGoesOn (L.view pass.old) (L.view pass.new) }
+    ensures kept { Looks (L.view pass.old) (L.view pass.new) }
+    ensures reply { (m : PageMap) → IsPageMap m → stores m ≡ (L.view pass.old).hand.known →
         result ≡ access_reply (m page) access }
 {
-    meet(find(words, page).map(|area| area.prot), access)
+    meet(find_page(lock, pass, page).map(|area| area.prot), access)
 }
 
 /// How many pages of a range admit reading, run by run.
@@ -118,11 +124,12 @@ impl Served for Areas {
     }
 
     fn look<L: SleepLock<Areas>>(lock: &L, pass: &mut L::Pass, call: SpaceCall) -> Reply {
-        let words = load_words::<Areas, L>(lock, pass);
         match call {
-            SpaceCall::Fault { page, access } => fault(&words, page, access),
+            SpaceCall::Fault { page, access } => fault(lock, pass, page, access),
             SpaceCall::Populate { start, len, .. } => {
-                let space = value_of::<Areas>(&words);
+                let words = load_words::<Areas, L>(lock, pass);
+                let mut space = Areas::empty();
+                space.refill(&words);
                 Reply::Num(readable_pages(space.runs(), start, len))
             }
             _ => unreachable!(),

@@ -1,8 +1,8 @@
 //! An address space.
 ghost use Rattle.std.specs.Prelude.{◌≡◌, ◌+◌, ◌<◌, ◌≤◌, ◌↔◌, IsOk, OnOk, OnErr, IfOk, IfErr, IfSome, length};
-ghost use Rattle.word_bits.specs.PageMaps.{mapped_from, runs};
+ghost use Rattle.word_bits.specs.PageMaps.{PageMap, IsPageMap, mapped_from, runs};
 ghost use Rattle.vma_map.specs.Runs.{page_map};
-ghost use Rattle.vma_map.specs.Spaces.{IsAccess, IsCall, changed, mapped, mapped_any, mapped_new, unmapped, protected, populated, readable, access_reply, meaning, reply_of};
+ghost use Rattle.vma_map.specs.Spaces.{IsAccess, IsCall, AreSpaceWords, stores, changed, mapped, mapped_any, mapped_new, unmapped, protected, populated, readable, access_reply, meaning, reply_of};
 
 use crate::call::SpaceCall;
 use crate::query::{is_free, is_mapped, lowest_free, prot_of};
@@ -48,6 +48,14 @@ impl Areas {
             pages += area.end - area.start;
         }
         pages
+    }
+
+    /// Puts the address space that the words store in the place of this one.
+    pub fn refill(&mut self, words: &[u64])
+        requires { AreSpaceWords words.now }
+        ensures { (m : PageMap) → IsPageMap m → stores m ≡ words.now → page_map self.new ≡ m }
+    {
+        words::refill(&mut self.areas, words);
     }
 
     /// Gives each page of a range this protection, or none. An `Err` leaves the space as it was.

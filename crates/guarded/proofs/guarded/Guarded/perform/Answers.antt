@@ -1,5 +1,4 @@
 use Rattle.word_bits.proofs.States.{IsLawful}
-use Rattle.lock_core.specs.Kinds.{unavailable}
 use Rattle.guarded.proofs.Chained.{one-more}
 use Rattle.guarded.proofs.Recording.{performs-looked}
 use Rattle.guarded.proofs.guarded.Guarded.perform.Given as given

@@ -32,17 +32,20 @@ pub fault-requires-clause-space : goal.fault-requires-clause-space
 fault-requires-clause-space g c =
     let k = g.L.SleepLock.calls_on c.args.lock.now in
     let h = (g.L.SleepLock.view c.args.pass.now).hand in
-    (state_after space k h.log, state_is_state space lawful k h.log, whole c.load_words-words.result _ h.known c.load_words-words.ensures.long c.load_words-words.ensures.words c.requires.stored)
+    (state_after space k h.log, state_is_state space lawful k h.log, sym c.requires.stored)
 
 pub returns-in-Fault-clause-read : goal.returns-in-Fault-clause-read
 returns-in-Fault-clause-read g c =
     let k = g.L.SleepLock.calls_on c.args.lock.now in
     let h = (g.L.SleepLock.view c.args.pass.now).hand in
     let m = state_after space k h.log in
-    λ _. c.fault.ensures m (state_is_state space lawful k h.log) (whole c.load_words-words.result _ h.known c.load_words-words.ensures.long c.load_words-words.ensures.words c.requires.stored) ∙ ap (λ (x : SpaceCall). (meaning m x).1) (sym c.in-Fault.is)
+    λ _. c.fault.ensures.reply m (state_is_state space lawful k h.log) (sym c.requires.stored) ∙ ap (λ (x : SpaceCall). (meaning m x).1) (sym c.in-Fault.is)
 
-pub value_of-space-requires-clause-stored : goal.value_of-space-requires-clause-stored
-value_of-space-requires-clause-stored g c = loaded-stores space lawful (g.L.SleepLock.calls_on c.args.lock.now) (g.L.SleepLock.view c.args.pass.now).hand c.requires.stored _ c.load_words-words.ensures.words
+pub refill-requires : goal.refill-requires
+refill-requires g c =
+    let k = g.L.SleepLock.calls_on c.args.lock.now in
+    let h = (g.L.SleepLock.view c.args.pass.now).hand in
+    (state_after space k h.log, state_is_state space lawful k h.log, whole c.load_words-words.result _ h.known c.load_words-words.ensures.long c.load_words-words.ensures.words c.requires.stored)
 
 pub readable_pages-requires : goal.readable_pages-requires
 readable_pages-requires g c =
@@ -50,7 +53,7 @@ readable_pages-requires g c =
     let h = (g.L.SleepLock.view c.args.pass.now).hand in
     let m = state_after space k h.log in
     let is = state_is_state space lawful k h.log in
-    let state = c.value_of-space.ensures.state m is (sym c.requires.stored ∙ sym c.load_words-words.ensures.words) in
+    let state = c.refill.ensures m is (whole c.load_words-words.result _ h.known c.load_words-words.ensures.long c.load_words-words.ensures.words c.requires.stored) in
     subst AreRuns (sym (c.runs.ensures ∙ ap (λ (n : PageMap). runs n) state)) (IsSpace-runs m is).runs
 
 pub returns-in-Populate-clause-done : goal.returns-in-Populate-clause-done
@@ -59,7 +62,7 @@ returns-in-Populate-clause-done g c =
     let h = (g.L.SleepLock.view c.args.pass.now).hand in
     let m = state_after space k h.log in
     let is = state_is_state space lawful k h.log in
-    let state = c.value_of-space.ensures.state m is (sym c.requires.stored ∙ sym c.load_words-words.ensures.words) in
+    let state = c.refill.ensures m is (whole c.load_words-words.result _ h.known c.load_words-words.ensures.long c.load_words-words.ensures.words c.requires.stored) in
     let areas : page_map c.runs.result.now ≡ m = ap page_map c.runs.ensures ∙ (ap (λ (n : PageMap). page_map (runs n)) state ∙ page_map-runs m is) in
     λ downs reply done fine. let s = done.0 in ap Num (c.readable_pages.ensures ∙ ap (λ (n : PageMap). readable_from n c.in-Populate.start c.in-Populate.len) areas)
     ∙ (populate-counts s m c.in-Populate.start c.in-Populate.len c.in-Populate.prot (ap (λ (x : SpaceCall). (meaning s x).0) (sym c.in-Populate.is) ∙ done.2) (λ errno e. fine errno (done.3 ∙ (ap (λ (x : SpaceCall). (meaning s x).1) c.in-Populate.is ∙ e)))
