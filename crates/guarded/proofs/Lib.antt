@@ -9,3 +9,4 @@ pub mod Legally
 pub mod Joining
 pub mod Padding
 pub mod Ascending
+pub mod Slots

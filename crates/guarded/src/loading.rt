@@ -85,17 +85,6 @@ pub(crate) fn load_words<O: UsedWords, L: SleepLock<O>>(lock: &L, pass: &mut L::
     words
 }
 
-/// The value that the first words store.
-pub(crate) fn value_of<O: Object>(words: &[u64; 257]) -> O
-    requires long { length words.now ≡ 257 }
-    requires stored { (s : O.object.State) ×
-        O.object.IsState s × (O.object.stores s ≡ take O.WORDS words.now) }
-    ensures state { (s : O.object.State) → O.object.IsState s →
-        O.object.stores s ≡ take O.WORDS words.now → O.state result ≡ s }
-{
-    load_value(&words[..O::WORDS])
-}
-
 /// The value that the words store.
 fn load_value<O: Object>(words: &[u64]) -> O
     requires long { length words.now ≡ O.WORDS }

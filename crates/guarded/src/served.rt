@@ -4,17 +4,18 @@ ghost use Rattle.word_bits.specs.PageMaps.{PageMap, IsPageMap};
 ghost use Rattle.lock_core.specs.declared.view.Held.TheVariants.{No};
 ghost use Rattle.lock_core.specs.Shown.{PastGoesOn};
 ghost use Rattle.lock_core.specs.Locking.{Looks, IsStored};
+ghost use Rattle.fd_table.specs.Tables.{FdMap, IsFdMap, meaning, stores as words_of};
 ghost use Rattle.vma_map.specs.Runs.{AreRuns, page_map};
 ghost use Rattle.vma_map.specs.Spaces.{IsAccess, AreSpaceWords, access_reply, stores};
 ghost use Rattle.guarded.specs.Serving.{readable_from, share};
 ghost use Rattle.guarded.specs.States.{Confirms, reply_in};
 
-use crate::loading::{UsedWords, load_words, value_of};
+use crate::loading::{UsedWords, load_words};
 use crate::lock::SleepLock;
 use crate::searching::find_page;
-use fd_table::{Fds, TableCall};
+use fd_table::{DESCRIPTORS, Fds, TableCall};
 use vma_map::{Areas, SpaceCall};
-use word_bits::{Area, Object, Reply};
+use word_bits::{Area, Errno, Object, Reply};
 
 /// An object that a task looks at while others may do so too.
 pub trait Served: Object + UsedWords {
@@ -45,6 +46,28 @@ pub trait Served: Object + UsedWords {
         downgrades call ≡ true → Self.object.reads call ≡ false };
 }
 
+/// To which file a descriptor is open in a table under its lock. Only its own word is loaded.
+fn get<L: SleepLock<Fds>>(lock: &L, pass: &mut L::Pass, fd: u32) -> Reply
+    requires own { L.sits lock.now pass.old }
+    requires held { (L.view pass.old).hand.held ≢ No }
+    requires table { (m : FdMap) × IsFdMap m × (words_of m ≡ (L.view pass.old).hand.known) }
+    ensures own { L.sits lock.now pass.new }
+    ensures goes_on { PastGoesOn (L.view pass.old) (L.view pass.new) }
+    ensures kept { Looks (L.view pass.old) (L.view pass.new) }
+    ensures reply { (m : FdMap) → IsFdMap m → words_of m ≡ (L.view pass.old).hand.known →
+        result ≡ (meaning m (TableCall.Get fd)).1 }
+{
+    if fd as usize >= DESCRIPTORS {
+        return Reply::Refused(Errno::BadF);
+    }
+    let word = lock.word(pass, fd as usize);
+    if word == 0 {
+        Reply::Refused(Errno::BadF)
+    } else {
+        Reply::Num((word - 1) as u32)
+    }
+}
+
 impl Served for Fds {
     ghost use Rattle.guarded.specs.Serving.{no_call, nothing_downgrades};
 
@@ -55,9 +78,10 @@ impl Served for Fds {
     }
 
     fn look<L: SleepLock<Fds>>(lock: &L, pass: &mut L::Pass, call: TableCall) -> Reply {
-        let words = load_words::<Fds, L>(lock, pass);
-        let mut table = value_of::<Fds>(&words);
-        table.apply(call)
+        match call {
+            TableCall::Get { fd } => get(lock, pass, fd),
+            _ => unreachable!(),
+        }
     }
 
     ghost changes = { nothing_downgrades };
