@@ -1,19 +1,20 @@
 -- A machine that ran has done all calls of its script.
-use Rattle.std.proofs.Common.{◌≡◌, Bool, List, sym, subst}
-use Rattle.word_bits.specs.Histories.{Plan}
-use Rattle.lock_core.specs.declared.view.Hand.{Hand}
+use Rattle.std.proofs.Common.{◌≡◌, List, sym, subst}
+use Rattle.guarded.specs.declared.lock.SleepLock.{Ghosts as LockMembers}
 use Rattle.task_script.specs.Scripts.{Listing}
-use Rattle.mm_serve.specs.declared.machine.Machine.{Machine}
 use Rattle.mm_serve.specs.Machines.{AreSitesOf, HasLegalResults, HasRun, IsAtRest, IsMachineOf, KnowsPasts}
-use Rattle.mm_main.specs.Kept.{HasServed}
+use Rattle.mm_serve.specs.Sites.{holds_space}
+use Rattle.mm_serve.specs.UnderLocks.{IsIdleUnder, KnowsPastUnder, LockedObject, calls_under, hand_under}
+use Rattle.mm_main.specs.Kept.{HasServed, LockedMachine}
 
-module _ {S C P U : Type 0} (idle : S → P → Type 0) (hand : P → Hand) (is_space : S → Bool) (calls_on : S → Plan) (knows_past : S → P → Type 0) where
+module _ {A S P C T F Q D B U : Type 0} (spaces : LockMembers A S P C) (tables : LockMembers T F Q D) where
   -- also where its results were lent since, and came back as they were
-  pub has_served : (script : Listing) (opened ran left : Machine S C P U) → IsMachineOf is_space calls_on script opened → HasRun idle hand is_space calls_on opened ran → (results : HasLegalResults hand script ran) → IsAtRest idle ran → KnowsPasts knows_past ran → left ≡ ran
-      → HasServed idle hand is_space calls_on knows_past script results.told left
+  pub has_served : (script : Listing) (opened ran left : LockedMachine A S P C T F Q D B U) → IsMachineOf holds_space (calls_under spaces tables) script opened
+      → HasRun (IsIdleUnder spaces tables) (hand_under spaces tables) holds_space (calls_under spaces tables) opened ran → (results : HasLegalResults (hand_under spaces tables) script ran) → IsAtRest (IsIdleUnder spaces tables) ran
+      → KnowsPasts (KnowsPastUnder spaces tables) ran → left ≡ ran → HasServed spaces tables script results.told left
   has_served script opened ran left of run results rest past same =
-      subst (λ (m : Machine S C P U). HasServed idle hand is_space calls_on knows_past script results.told m) (sym same) (record {
-        of = subst (λ (sites : List S). AreSitesOf is_space calls_on script sites) (sym run.sites) of;
+      subst (λ (m : LockedMachine A S P C T F Q D B U). HasServed spaces tables script results.told m) (sym same) (record {
+        of = subst (λ (sites : List (LockedObject A S P C T F Q D)). AreSitesOf holds_space (calls_under spaces tables) script sites) (sym run.sites) of;
         legal = results.legal;
         known = results.known;
         past = past;

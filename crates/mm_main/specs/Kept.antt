@@ -1,22 +1,28 @@
 -- The machine that a run of a script leaves.
-use Rattle.std.specs.Prelude.{Bool, List}
-use Rattle.word_bits.specs.Histories.{Plan}
-use Rattle.lock_core.specs.declared.view.Hand.{Hand}
+use Rattle.std.specs.Prelude.{List}
+use Rattle.guarded.specs.declared.lock.SleepLock.{Ghosts as LockMembers}
 use Rattle.task_script.specs.Scripts.{Listing}
 use Rattle.mm_report.specs.Results.{Told, AreLegal}
 use Rattle.mm_serve.specs.declared.machine.Machine.{Machine}
+use Rattle.mm_serve.specs.declared.space_or_table.SpaceOrTablePass.{SpaceOrTablePass}
 use Rattle.mm_serve.specs.Machines.{IsMachineOf, IsAtRest, AreAllKnown, KnowsPasts, gathered_of, results_of}
+use Rattle.mm_serve.specs.Sites.{holds_space}
+use Rattle.mm_serve.specs.UnderLocks.{IsIdleUnder, KnowsPastUnder, LockedObject, calls_under, hand_under}
 
-module _ {S C P U : Type 0} (idle : S → P → Type 0) (hand : P → Hand) (is_space : S → Bool) (calls_on : S → Plan) (knows_past : S → P → Type 0) where
+-- a machine over spaces under locks of one kind and tables under locks of another
+abbrev pub LockedMachine : (A S P C T F Q D B U : Type 0) → Type 0
+LockedMachine A S P C T F Q D B U = Machine (LockedObject A S P C T F Q D) B (SpaceOrTablePass P Q) U
+
+module _ {A S P C T F Q D B U : Type 0} (spaces : LockMembers A S P C) (tables : LockMembers T F Q D) where
   -- the machine has done all calls of the script, and its results tell this of the objects
-  pub record HasServed (script : Listing) (told : List Told) (m : Machine S C P U) : Type 0 where
+  pub record HasServed (script : Listing) (told : List Told) (m : LockedMachine A S P C T F Q D B U) : Type 0 where
     -- its objects are those of the script, each with the calls on it
-    pub of : IsMachineOf is_space calls_on script m
+    pub of : IsMachineOf holds_space (calls_under spaces tables) script m
     -- what its results tell are legal histories of the script
     pub legal : AreLegal script (results_of m) told
     -- the gathered pass of an object knows each record that is told of the object
-    pub known : AreAllKnown hand (gathered_of m) told
-    -- and all that was so of the object's table, from its opening on
-    pub past : KnowsPasts knows_past m
+    pub known : AreAllKnown (hand_under spaces tables) (gathered_of m) told
+    -- and all that was so of the object's table, from its opening on: who held, what the lock's word stated, and what the lock tells of its own
+    pub past : KnowsPasts (KnowsPastUnder spaces tables) m
     -- no gathered pass has a task's number or owes anything
-    pub rest : IsAtRest idle m
+    pub rest : IsAtRest (IsIdleUnder spaces tables) m

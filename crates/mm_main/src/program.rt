@@ -11,11 +11,12 @@ ghost use Rattle.mm_main.specs.Answers.{read_faults, write_faults};
 ghost use Rattle.mm_main.specs.Kept.{HasServed};
 
 use crate::input::{InputError, read_all};
+use crate::objects::ScriptMachine;
 use crate::options::{Options, OptionsError};
 use crate::status::Status;
 use crate::threads::run_on_threads;
 use cpu_task::{Crew, Gate};
-use mm_serve::{Machine, SharedObject};
+use mm_serve::{SpaceLock, TableLock};
 use std::alloc::{AllocError, Global};
 use std::sync::Wait;
 use std::thread::Threads;
@@ -73,7 +74,8 @@ fn refuse<K: Sink>(line: u32, reason: Reason, sink: &mut K) -> Status
 }
 
 fn answer<
-    O: SharedObject + Drop + Sync,
+    A: SpaceLock + Drop + Sync,
+    T: TableLock + Drop + Sync,
     K: Sink,
     R: Threads + Wait + Sync,
     C: Crew + Sync,
@@ -86,14 +88,15 @@ fn answer<
     sink: &mut K,
     crew: &mut C,
     gate: &G,
-    kept: &mut Option<Machine<O, C>>,
+    kept: &mut Option<ScriptMachine<A, T, C>>,
 ) -> Status
 where
-    O::Pass: Send,
+    A::Pass: Send,
+    T::Pass: Send,
     C::C: Send,
     requires { kept.old ≡ None }
     ensures says { SaysTo K.faults K.written sink.old sink.new
-        (HasServed O.idle O.hand O.is_space O.calls_on O.knows_past) kept.new
+        (HasServed A.SleepLock T.SleepLock) kept.new
         (request_of options.now.summary (script_of input.now)) result }
     ensures faults { K.faults sink.new ≡ write_faults result (K.faults sink.old) }
 {
@@ -106,7 +109,8 @@ where
 
 // Answers the script of a number.
 fn answer_generated<
-    O: SharedObject + Drop + Sync,
+    A: SpaceLock + Drop + Sync,
+    T: TableLock + Drop + Sync,
     K: Sink,
     R: Threads + Wait + Sync,
     C: Crew + Sync,
@@ -119,14 +123,15 @@ fn answer_generated<
     sink: &mut K,
     crew: &mut C,
     gate: &G,
-    kept: &mut Option<Machine<O, C>>,
+    kept: &mut Option<ScriptMachine<A, T, C>>,
 ) -> Status
 where
-    O::Pass: Send,
+    A::Pass: Send,
+    T::Pass: Send,
     C::C: Send,
     requires { kept.old ≡ None }
     ensures says { SaysTo K.faults K.written sink.old sink.new
-        (HasServed O.idle O.hand O.is_space O.calls_on O.knows_past) kept.new
+        (HasServed A.SleepLock T.SleepLock) kept.new
         (accepted options.now.summary (generated number)) result }
     ensures faults { K.faults sink.new ≡ write_faults result (K.faults sink.old) }
 {
@@ -138,7 +143,8 @@ where
 
 // Answers the script that the source gives.
 fn answer_input<
-    O: SharedObject + Drop + Sync,
+    A: SpaceLock + Drop + Sync,
+    T: TableLock + Drop + Sync,
     S: Source,
     K: Sink,
     R: Threads + Wait + Sync,
@@ -152,14 +158,15 @@ fn answer_input<
     sink: &mut K,
     crew: &mut C,
     gate: &G,
-    kept: &mut Option<Machine<O, C>>,
+    kept: &mut Option<ScriptMachine<A, T, C>>,
 ) -> Status
 where
-    O::Pass: Send,
+    A::Pass: Send,
+    T::Pass: Send,
     C::C: Send,
     requires { kept.old ≡ None }
     ensures answer { AnswersTo S.left S.faults K.faults K.written source.old source.new
-        sink.old sink.new (HasServed O.idle O.hand O.is_space O.calls_on O.knows_past) kept.new
+        sink.old sink.new (HasServed A.SleepLock T.SleepLock) kept.new
         (λ input. request_of options.now.summary (script_of input)) result }
     ensures read_faults { S.faults source.new ≡ read_faults result (S.faults source.old) }
     ensures write_faults { K.faults sink.new ≡ write_faults result (K.faults sink.old) }
@@ -183,7 +190,8 @@ where
 /// first task has begun. Where a thread can't be made its task is done after another's, on that
 /// one's thread, so tasks that wait for each other can then wait for good.
 pub fn top<
-    O: SharedObject + Drop + Sync,
+    A: SpaceLock + Drop + Sync,
+    T: TableLock + Drop + Sync,
     S: Source,
     K: Sink,
     R: Threads + Wait + Sync,
@@ -197,17 +205,18 @@ pub fn top<
     sink: &mut K,
     crew: &mut C,
     gate: &G,
-    kept: &mut Option<Machine<O, C>>,
+    kept: &mut Option<ScriptMachine<A, T, C>>,
 ) -> Status
 where
-    O::Pass: Send,
+    A::Pass: Send,
+    T::Pass: Send,
     C::C: Send,
     requires { kept.old ≡ None }
     ensures answer { AnswersTo S.left S.faults K.faults K.written source.old source.new
-        sink.old sink.new (HasServed O.idle O.hand O.is_space O.calls_on O.knows_past) kept.new
+        sink.old sink.new (HasServed A.SleepLock T.SleepLock) kept.new
         (request (said_by words.now)) result }
     ensures complete { CompletesTo S.left S.faults K.faults K.written source.old source.new
-        sink.old sink.new (HasServed O.idle O.hand O.is_space O.calls_on O.knows_past) kept.new
+        sink.old sink.new (HasServed A.SleepLock T.SleepLock) kept.new
         (said_by words.now) result }
     ensures read_faults { S.faults source.new ≡ read_faults result (S.faults source.old) }
     ensures write_faults { K.faults sink.new ≡ write_faults result (K.faults sink.old) }

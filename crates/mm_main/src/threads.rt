@@ -4,11 +4,12 @@ ghost use Rattle.mm_main.specs.Answers.{SaysTo, write_faults};
 ghost use Rattle.mm_main.specs.Kept.{HasServed};
 ghost use Rattle.mm_main.specs.Requests.{accepted};
 
+use crate::objects::ScriptMachine;
 use crate::options::Options;
 use crate::status::Status;
 use cpu_task::{Crew, Gate, Turns};
 use mm_report::report;
-use mm_serve::{Machine, SharedObject};
+use mm_serve::{Machine, SpaceLock, TableLock};
 use std::alloc::Global;
 use std::sync::Wait;
 use std::thread::Threads;
@@ -29,7 +30,8 @@ pub(crate) fn turns_of(options: &Options) -> Turns
 ///
 /// No memory is taken once the first task has begun.
 pub(crate) fn run_on_threads<
-    O: SharedObject + Drop + Sync,
+    A: SpaceLock + Drop + Sync,
+    T: TableLock + Drop + Sync,
     K: Sink,
     R: Threads + Wait + Sync,
     C: Crew + Sync,
@@ -42,14 +44,15 @@ pub(crate) fn run_on_threads<
     sink: &mut K,
     crew: &mut C,
     gate: &G,
-    kept: &mut Option<Machine<O, C>>,
+    kept: &mut Option<ScriptMachine<A, T, C>>,
 ) -> Status
 where
-    O::Pass: Send,
+    A::Pass: Send,
+    T::Pass: Send,
     C::C: Send,
     requires { kept.old ≡ None }
     ensures says { SaysTo K.faults K.written sink.old sink.new
-        (HasServed O.idle O.hand O.is_space O.calls_on O.knows_past) kept.new
+        (HasServed A.SleepLock T.SleepLock) kept.new
         (accepted options.now.summary script.now) result }
     ensures faults { K.faults sink.new ≡ write_faults result (K.faults sink.old) }
 {

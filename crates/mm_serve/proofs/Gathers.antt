@@ -12,7 +12,7 @@ use mathlib.Core.Logic.{dite}
 use native.Mathlib.Decide.{ℕ_discrete}
 use Rattle.lock_core.proofs.RowLaws.{get-there, none-some, same-some}
 use Rattle.mm_serve.specs.declared.worker.Worker.{Worker}
-use Rattle.mm_serve.specs.Workers.{EachOf, KnowsMore, HaveGathered, HaveServed, KnowsFrom, AreNumbered, KnowsAllDone}
+use Rattle.mm_serve.specs.Workers.{EachOf, KnowsMore, HaveGathered, HaveDoneTheirTasks, KnowsFrom, AreNumbered, KnowsAllDone}
 use Rattle.mm_serve.specs.Histories.{HasDoneOn}
 use Rattle.mm_serve.proofs.Each.{each-set, each-at, each-map}
 
@@ -71,7 +71,7 @@ module _ {S P : Type 0} (idle : S → P → Type 0) (hand : P → Hand) where
   done-more true k h g t more d = (d.0, record { exact = d.1.exact; known = λ c r at. more (record { task = t; call = c }) r (d.1.known c r at) }, d.2)
   done-more false k h g t more d = (d.0, record { exact = d.1.exact; known = λ c r at. more (record { task = t; call = c }) r (d.1.known c r at) }, d.2)
 
-  pub runs : {C : Type 0} (is_space : S → Bool) (calls_on : S → Plan) (sites : List S) (ws after : List (Worker C P)) (news : List P) → ((k : ℕ) (s : S) → slice_get sites k ≡ Some s → length (calls_on s) ≡ length ws) → AreNumbered ws → HaveServed idle hand is_space calls_on sites ws after
+  pub runs : {C : Type 0} (is_space : S → Bool) (calls_on : S → Plan) (sites : List S) (ws after : List (Worker C P)) (news : List P) → ((k : ℕ) (s : S) → slice_get sites k ≡ Some s → length (calls_on s) ≡ length ws) → AreNumbered ws → HaveDoneTheirTasks idle hand is_space calls_on sites ws after
       → EachOf (λ k s p. idle s p × KnowsFrom hand 0 after k p) sites news → EachOf (λ k s p. idle s p × KnowsAllDone hand is_space calls_on s p) sites news
   runs {C} is_space calls_on sites ws after news tasks numbered done each =
       each-map (λ k s p. idle s p × KnowsFrom hand 0 after k p) (λ k s p. idle s p × KnowsAllDone hand is_space calls_on s p) sites news each

@@ -6,4 +6,5 @@ pub mod Opening
 pub mod Pasts
 pub mod Serving
 pub mod Sites
+pub mod UnderLocks
 pub mod Workers

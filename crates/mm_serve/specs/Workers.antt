@@ -35,13 +35,13 @@ module _ {P Q S : Type 0} (idle : S → Q → Type 0) (hand : Q → Hand) (calls
 
 module _ {P Q S : Type 0} (idle : S → Q → Type 0) (hand : Q → Hand) (is_space : S → Bool) (calls_on : S → Plan) (sites : List S) where
   -- it has done all calls of its task
-  pub record HasServed (old new : Worker P Q) : Type 0 where
+  pub record HasDoneItsTask (old new : Worker P Q) : Type 0 where
     pub task : new.task ≡ old.task
     pub passes : EachOf (λ k s p. idle s p × HasDoneOn (is_space s) (calls_on s) (hand p) new.task) sites new.passes.items
 
   -- each of them has
-  abbrev pub HaveServed : (olds news : List (Worker P Q)) → Type 0
-  HaveServed olds news = (length news ≡ length olds) × ((i : ℕ) (d : Worker P Q) → i < length olds → HasServed (slice_index_or olds i d) (slice_index_or news i d))
+  abbrev pub HaveDoneTheirTasks : (olds news : List (Worker P Q)) → Type 0
+  HaveDoneTheirTasks olds news = (length news ≡ length olds) × ((i : ℕ) (d : Worker P Q) → i < length olds → HasDoneItsTask (slice_index_or olds i d) (slice_index_or news i d))
 
 -- each worker's passes are idle
 abbrev pub AllIdle : {P Q S : Type 0} → (S → Q → Type 0) → List S → List (Worker P Q) → Type 0

@@ -32,21 +32,20 @@ impl<A: SpaceLock, T: TableLock> SharedObject for SpaceOrTable<Guarded<A, Areas>
     ghost use Rattle.vma_map.specs.Spaces.{space};
     ghost use Rattle.fd_table.specs.Tables.{table};
     ghost use Rattle.guarded.specs.Handles.{lock_of};
-    ghost use Rattle.mm_serve.specs.Pasts.{KnowsPast};
-    ghost use Rattle.mm_serve.specs.Serving.{IsIdle, IsServing};
-    ghost use Rattle.mm_serve.specs.Sites.{Matches, calls_of, hand_of, holds_space};
+    ghost use Rattle.mm_serve.specs.Serving.{IsServing};
+    ghost use Rattle.mm_serve.specs.Sites.{Matches, holds_space};
+    ghost use Rattle.mm_serve.specs.UnderLocks.{IsIdleUnder, KnowsPastUnder};
+    ghost use Rattle.mm_serve.specs.UnderLocks.{calls_under, hand_under};
 
     type Pass = SpaceOrTablePass<A::Pass, T::Pass>;
 
     ghost is_space = { holds_space };
 
-    ghost calls_on = { calls_of (λ s. A.calls_on (lock_of s)) (λ s. T.calls_on (lock_of s)) };
+    ghost calls_on = { calls_under A.SleepLock T.SleepLock };
 
-    ghost hand = { hand_of A.view T.view };
+    ghost hand = { hand_under A.SleepLock T.SleepLock };
 
-    ghost idle = { Matches
-        (λ s p. A.sits (lock_of s) p × IsIdle (A.view p).hand)
-        (λ s p. T.sits (lock_of s) p × IsIdle (T.view p).hand) };
+    ghost idle = { IsIdleUnder A.SleepLock T.SleepLock };
 
     ghost serving = { λ site pass task. Matches
         (λ s p. A.sits (lock_of s) p ×
@@ -55,11 +54,7 @@ impl<A: SpaceLock, T: TableLock> SharedObject for SpaceOrTable<Guarded<A, Areas>
         IsServing table (unavailable T.kind) (T.calls_on (lock_of s)) (T.view p).hand task)
         site pass };
 
-    ghost knows_past = { Matches
-        (λ s p. KnowsPast space A.kind 257 A.word_at A.waits A.tells A.opened
-        (A.calls_on (lock_of s)) (A.view p))
-        (λ s p. KnowsPast table T.kind 64 T.word_at T.waits T.tells T.opened
-        (T.calls_on (lock_of s)) (T.view p)) };
+    ghost knows_past = { KnowsPastUnder A.SleepLock T.SleepLock };
 
     fn open(
         alloc: Global,

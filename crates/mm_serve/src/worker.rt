@@ -2,8 +2,8 @@
 ghost use Rattle.std.specs.Prelude.{◌≡◌, ℕ, ◌<◌, [], All, length, slice_get, Some};
 ghost use Rattle.lock_core.specs.Records.{row};
 ghost use Rattle.mm_serve.specs.Histories.{HasDoneOn};
-ghost use Rattle.mm_serve.specs.Workers.{EachOf, HaveSeenNothing, IsReady, HasServed, HaveServed};
-ghost use Rattle.mm_serve.specs.Workers.{calls_to};
+ghost use Rattle.mm_serve.specs.Workers.{EachOf, HaveDoneTheirTasks, HaveSeenNothing};
+ghost use Rattle.mm_serve.specs.Workers.{HasDoneItsTask, IsReady, calls_to};
 
 use crate::shared_object::SharedObject;
 use cpu_task::{Crew, Gate};
@@ -81,7 +81,7 @@ pub(crate) fn serve<S: SharedObject, W: Wait, C: Crew, G: Gate>(
     worker: &mut Worker<C::C, S::Pass>,
 )
     requires ready { IsReady S.idle S.hand S.calls_on sites.now worker.old }
-    ensures { HasServed S.idle S.hand S.is_space S.calls_on sites.now worker.old worker.new }
+    ensures { HasDoneItsTask S.idle S.hand S.is_space S.calls_on sites.now worker.old worker.new }
 {
     begin_all(rt, sites, &mut worker.passes, worker.task);
     perform_all(
@@ -109,7 +109,8 @@ where
     S::Pass: Send,
     C::C: Send,
     requires { All (IsReady S.idle S.hand S.calls_on sites.now) workers.old }
-    ensures { HaveServed S.idle S.hand S.is_space S.calls_on sites.now workers.old workers.new }
+    ensures { HaveDoneTheirTasks S.idle S.hand S.is_space S.calls_on sites.now
+        workers.old workers.new }
 {
     // With fewer threads than tasks, two that wait for each other could share one.
     let threads = workers.len().max(1);
@@ -119,7 +120,7 @@ where
         threads,
         &|_, worker: &mut Worker<C::C, S::Pass>|
             requires { IsReady S.idle S.hand S.calls_on sites.now worker.old }
-            ensures { HasServed S.idle S.hand S.is_space S.calls_on sites.entry.now
+            ensures { HasDoneItsTask S.idle S.hand S.is_space S.calls_on sites.entry.now
                 worker.old worker.new }
         { serve(rt, crew, gate, sites, worker) },
     );

@@ -7,15 +7,15 @@ use Rattle.mm_main.proofs.program.answer.Goals as goal
 
 pub returns-in-Ok-clause-says : goal.returns-in-Ok-clause-says
 returns-in-Ok-clause-says g c =
-    said (HasServed g.O.SharedObject.idle g.O.SharedObject.hand g.O.SharedObject.is_space g.O.SharedObject.calls_on g.O.SharedObject.knows_past) c.run_on_threads.new.kept (accepted c.args.options.now.summary c.in-Ok.script) (request_of c.args.options.now.summary (script_of c.args.input.now)) _ _ _ _ c.run_on_threads.result
+    said (HasServed g.A.SleepLock g.T.SleepLock) c.run_on_threads.new.kept (accepted c.args.options.now.summary c.in-Ok.script) (request_of c.args.options.now.summary (script_of c.args.input.now)) _ _ _ _ c.run_on_threads.result
     (ap (request_of c.args.options.now.summary) c.in-Ok.ensures.reads) c.run_on_threads.ensures.says
 
 pub returns-in-Err-Refused-clause-says : goal.returns-in-Err-Refused-clause-says
 returns-in-Err-Refused-clause-says g c =
     let refusal : Refusal = record { line = c.in-Err-Refused.line; reason = c.in-Err-Refused.reason } in
-    said (HasServed g.O.SharedObject.idle g.O.SharedObject.hand g.O.SharedObject.is_space g.O.SharedObject.calls_on g.O.SharedObject.knows_past) c.args.kept.now (refused refusal) (request_of c.args.options.now.summary (script_of c.args.input.now)) _ _ _ _ c.refuse.result
+    said (HasServed g.A.SleepLock g.T.SleepLock) c.args.kept.now (refused refusal) (request_of c.args.options.now.summary (script_of c.args.input.now)) _ _ _ _ c.refuse.result
     (ap (request_of c.args.options.now.summary) (refused_by (script_of c.args.input.now) c.in-Err-Refused.field-0 c.in-Err-Refused.line c.in-Err-Refused.reason c.in-Err-Refused.field-0-is c.in-Err-Refused.ensures.reads))
-    (said_unkept (HasServed g.O.SharedObject.idle g.O.SharedObject.hand g.O.SharedObject.is_space g.O.SharedObject.calls_on g.O.SharedObject.knows_past) c.args.kept.now (refused refusal) ⊥ _ _ _ c.refuse.result c.requires (rw c.in-Err-Refused.field-0-is at c.refuse.ensures.says))
+    (said_unkept (HasServed g.A.SleepLock g.T.SleepLock) c.args.kept.now (refused refusal) ⊥ _ _ _ c.refuse.result c.requires (rw c.in-Err-Refused.field-0-is at c.refuse.ensures.says))
 
 pub returns-in-Err-Memory-clause-says : goal.returns-in-Err-Memory-clause-says
-returns-in-Err-Memory-clause-says g c = said_no_memory (HasServed g.O.SharedObject.idle g.O.SharedObject.hand g.O.SharedObject.is_space g.O.SharedObject.calls_on g.O.SharedObject.knows_past) c.args.kept.now (request_of c.args.options.now.summary (script_of c.args.input.now)) _ _ (g.K.Sink.written c.args.sink.now) c.requires
+returns-in-Err-Memory-clause-says g c = said_no_memory (HasServed g.A.SleepLock g.T.SleepLock) c.args.kept.now (request_of c.args.options.now.summary (script_of c.args.input.now)) _ _ (g.K.Sink.written c.args.sink.now) c.requires

@@ -7,4 +7,4 @@ use Rattle.mm_main.proofs.program.answer_generated.Goals as goal
 
 pub returns-in-Ok-clause-says : goal.returns-in-Ok-clause-says
 returns-in-Ok-clause-says g c =
-    said (HasServed g.O.SharedObject.idle g.O.SharedObject.hand g.O.SharedObject.is_space g.O.SharedObject.calls_on g.O.SharedObject.knows_past) c.run_on_threads.new.kept (accepted c.args.options.now.summary c.in-Ok.script) (accepted c.args.options.now.summary (generated c.args.number)) _ _ _ _ c.run_on_threads.result (ap (accepted c.args.options.now.summary) (sym c.in-Ok.ensures.script)) c.run_on_threads.ensures.says
+    said (HasServed g.A.SleepLock g.T.SleepLock) c.run_on_threads.new.kept (accepted c.args.options.now.summary c.in-Ok.script) (accepted c.args.options.now.summary (generated c.args.number)) _ _ _ _ c.run_on_threads.result (ap (accepted c.args.options.now.summary) (sym c.in-Ok.ensures.script)) c.run_on_threads.ensures.says

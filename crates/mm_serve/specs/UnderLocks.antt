@@ -1,0 +1,37 @@
+-- Spaces under locks of one kind and tables under locks of another: what is known of an object and of its pass, by what the trait of locks tells of the two kinds.
+use Rattle.word_bits.specs.Histories.{Plan}
+use Rattle.lock_core.specs.declared.view.Hand.{Hand}
+use Rattle.vma_map.specs.Spaces.{space}
+use Rattle.fd_table.specs.Tables.{table}
+use Rattle.guarded.specs.declared.guarded.Guarded.{Guarded}
+use Rattle.guarded.specs.declared.lock.SleepLock.{Ghosts as LockMembers}
+use Rattle.guarded.specs.Handles.{lock_of}
+use Rattle.mm_serve.specs.declared.space_or_table.SpaceOrTable.{SpaceOrTable}
+use Rattle.mm_serve.specs.declared.space_or_table.SpaceOrTablePass.{SpaceOrTablePass}
+use Rattle.mm_serve.specs.Pasts.{KnowsPast}
+use Rattle.mm_serve.specs.Serving.{IsIdle}
+use Rattle.mm_serve.specs.Sites.{Matches, calls_of, hand_of}
+
+-- a space or a table, each under its lock
+abbrev pub LockedObject : (A S P C T F Q D : Type 0) → Type 0
+LockedObject A S P C T F Q D = SpaceOrTable (Guarded A S P C) (Guarded T F Q D)
+
+module _ {A S P C T F Q D : Type 0} (spaces : LockMembers A S P C) (tables : LockMembers T F Q D) where
+  -- what a pass knows, by what its lock shows of it
+  abbrev pub hand_under : SpaceOrTablePass P Q → Hand
+  hand_under = hand_of spaces.view tables.view
+
+  -- the calls that the tasks are to make on the object, by its lock
+  abbrev pub calls_under : LockedObject A S P C T F Q D → Plan
+  calls_under = calls_of (λ s. spaces.calls_on (lock_of s)) (λ s. tables.calls_on (lock_of s))
+
+  -- the pass is one of the object's lock; it has no task's number, and owes nothing
+  abbrev pub IsIdleUnder : LockedObject A S P C T F Q D → SpaceOrTablePass P Q → Type 0
+  IsIdleUnder = Matches (λ s p. spaces.sits (lock_of s) p × IsIdle (spaces.view p).hand) (λ s p. tables.sits (lock_of s) p × IsIdle (tables.view p).hand)
+
+  -- the pass knows what was so of the object's table at each moment so far, and what the object's lock tells of its own
+  abbrev pub KnowsPastUnder : LockedObject A S P C T F Q D → SpaceOrTablePass P Q → Type 0
+  KnowsPastUnder =
+      Matches
+      (λ s p. KnowsPast space spaces.kind 257 spaces.word_at spaces.waits spaces.tells spaces.opened (spaces.calls_on (lock_of s)) (spaces.view p))
+      (λ s p. KnowsPast table tables.kind 64 tables.word_at tables.waits tables.tells tables.opened (tables.calls_on (lock_of s)) (tables.view p))
