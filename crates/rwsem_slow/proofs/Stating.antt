@@ -21,10 +21,11 @@ use Rattle.wait_list.specs.declared.view.Waiter.{Waiter}
 use Rattle.wait_list.specs.Lists.{Part, PartOk, changes_of, counted, list_part}
 use Rattle.wait_list.specs.ListLaws.{holds-or-not}
 use Rattle.rwsem_count.specs.Counts.{shared_weight}
-use Rattle.rwsem_wake.specs.SemParts.{SemPart, busy_of, busy_weight, named_weight, reads_at, reads_weight, reserve_of, shared_of, transit_weight, writes_at, writes_weight}
+use Rattle.rwsem_wake.specs.SemParts.{SemPart, busy_of, busy_weight, named_weight, reads_at, reads_weight, reserve_of, rest_of, shared_of, transit_weight, writes_at, writes_weight}
 use Rattle.rwsem_wake.specs.Semaphores.{Quiet}
 use Rattle.rwsem_wake.proofs.Readers.{only-first, readers-are, readers-once}
 use Rattle.rwsem_wake.proofs.Stating.{sem-states, sem-waiters}
+use Rattle.rwsem_slow.specs.ListLaws.{batch-busy}
 use Rattle.rwsem_slow.specs.ListSteps.{counted-is}
 use Rattle.rwsem_slow.specs.RwSems.{V, Kept, RwSemKept, count_in, grants_in, list_of, marks_in, seen, standing}
 use Rattle.rwsem_slow.specs.RwSemLaws.{few-named}
@@ -89,10 +90,10 @@ module _ {Call : Type 0} (o : Obj Call) (size : ℕ) (k : Plan) (ws : List ℕ) 
       same [] = refl
       same (x ∷ xs) = let e = same xs in omega (arith, e)
 
-  -- who is at a stage, or has reserved a bias, has the wait lock
-  locks : (id : ℕ) (p : SemPart) → get_elem? ps id ≡ some p → 0 < busy_of p + reserve_of p → HasWaitLock id (moment standing (instant ws vs))
-  locks id p at more = let v = at_unmap seen vs id p at in let a = (r.sem.each id p at).reserved in let e : busy_weight v.0.ext.sem.stage ≡ busy_of p = ap {A = SemPart} (λ x. busy_of x) v.2 in let l = r.locked id v.0 v.1 in
-      holds-or-not v.0.spin (λ one. (v.0.spin, at_map spin_of vs id v.0 v.1, one)) (λ out. absurd (omega (arith, a, e, l, out, more)))
+  -- who is at a stage, has reserved a bias, or has a batch, has the wait lock
+  locks : (id : ℕ) (p : SemPart) → get_elem? ps id ≡ some p → 0 < busy_of p + reserve_of p + rest_of p → HasWaitLock id (moment standing (instant ws vs))
+  locks id p at more = let v = at_unmap seen vs id p at in let ok = r.sem.each id p at in let a = ok.reserved in let c = batch-busy p.sem.stage in let d : busy_of p ≡ 0 → rest_of p ≡ 0 = λ none. ap (λ (l : List ℕ). length l) (ok.rest (omega (arith, none, c))) in let e : busy_weight v.0.ext.sem.stage ≡ busy_of p = ap {A = SemPart} (λ x. busy_of x) v.2 in let l = r.locked id v.0 v.1 in
+      holds-or-not v.0.spin (λ one. (v.0.spin, at_map spin_of vs id v.0 v.1, one)) (λ out. absurd (let z : busy_of p ≡ 0 = omega (arith, e, l, out) in let f = d z in omega (arith, a, z, f, more)))
 
   pub queued : IsQueued (moment standing (instant ws vs)) q ps
   queued = record {

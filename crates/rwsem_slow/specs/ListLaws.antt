@@ -89,7 +89,7 @@ waits-once t task Reads = omega arith
 waits-once t task Writes = omega arith
 
 -- a batch is under way only at a stage
-batch-busy : (s : Stage) → batch_weight s ≤ busy_weight s
+pub batch-busy : (s : Stage) → batch_weight s ≤ busy_weight s
 batch-busy Rest = omega arith
 batch-busy _ = omega arith
 

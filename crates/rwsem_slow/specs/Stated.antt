@@ -20,7 +20,7 @@ use Rattle.wait_list.specs.declared.view.Change.{Change}
 use Rattle.wait_list.specs.declared.view.Change.TheVariants.{Stay, Enter, Leave}
 use Rattle.wait_list.specs.Lists.{Allowed, IsList, Lists, changed, counted}
 use Rattle.rwsem_wake.specs.declared.view.SemHand.{SemHand}
-use Rattle.rwsem_wake.specs.SemParts.{SemPart, apart_hand, busy_of, reserve_of, transit_of}
+use Rattle.rwsem_wake.specs.SemParts.{SemPart, apart_hand, busy_of, reserve_of, rest_of, transit_of}
 use Rattle.rwsem_wake.specs.Semaphores.{Quiet}
 use Rattle.rwsem_wake.specs.Handoffs.{KeepsHandoff, reads_as}
 use Rattle.rwsem_wake.specs.Stated.{OnlyFirst, Picks, StatesCount, StatesWaiters, over, readers}
@@ -51,7 +51,7 @@ pub record AreReaders (grants : List ℕ) (ps : List SemPart) : Type 0 where
 abbrev pub HasWaitLock : ℕ → Moment → Type 0
 HasWaitLock id m = (s : SpinHand) × (get_elem? m.spins id ≡ some s) × (holds_in s ≡ 1)
 
--- While this is the list, and these are the parts of the passes. The list's words state it while the wait lock is free, and each waiter has a pass. The count states whether a task writes, which then is alone, how many read, which biases are in it, and, while the wait lock is free, that tasks wait. Then the first waiter alone may be marked, and HANDOFF is set where it is. Who is about something, or has reserved a bias, has the wait lock; whose bias is in transit doesn't hold by it, and has a number.
+-- While this is the list, and these are the parts of the passes. The list's words state it while the wait lock is free, and each waiter has a pass. The count states whether a task writes, which then is alone, how many read, which biases are in it, and, while the wait lock is free, that tasks wait. Then the first waiter alone may be marked, and HANDOFF is set where it is. Who is about something, has reserved a bias, or has tasks of a batch still to grant, has the wait lock; whose bias is in transit doesn't hold by it, and has a number.
 pub record IsQueued (m : Moment) (q : List Waiter) (ps : List SemPart) : Type 0 where
   pub parts : AreParts m ps
   pub sound : IsList q
@@ -62,7 +62,7 @@ pub record IsQueued (m : Moment) (q : List Waiter) (ps : List SemPart) : Type 0 
   pub read : AreReaders (grants_in m.words) ps
   pub flags : IsWaitLockFree m.spins → Quiet (count_in m.words / 2 % 2) (count_in m.words / 4 % 2) q (marks_in m.words)
   pub marked : IsWaitLockFree m.spins → OnlyFirst (count_in m.words / 4 % 2) q (marks_in m.words)
-  pub locked : (id : ℕ) (p : SemPart) → get_elem? ps id ≡ some p → 0 < busy_of p + reserve_of p → HasWaitLock id m
+  pub locked : (id : ℕ) (p : SemPart) → get_elem? ps id ≡ some p → 0 < busy_of p + reserve_of p + rest_of p → HasWaitLock id m
   pub apart : (id : ℕ) (p : SemPart) → get_elem? ps id ≡ some p → transit_of p ≡ 1 → (p.held ≢ Shared) × (p.task ≢ None)
 
 -- the facts of a site, and a list

@@ -69,7 +69,7 @@ fn is_first<O: Object>(site: &Site<SemRule<O>>, pass: &mut Pass<SemRule<O>>, tas
 /// Clears the mark of the pass's own task, which is the first waiter.
 fn unmark<O: Object>(site: &Site<SemRule<O>>, pass: &mut Pass<SemRule<O>>, task: u32)
     requires own { SitsAt site.now pass.old }
-    requires numbered { IsSome (task_in pass.old) }
+    requires mine { task_in pass.old ≡ Some task }
     requires locked { SpinHolds (view_of pass.old).spin }
     requires may { MayLeave (view_of pass.old) }
     requires list { KnowsList (view_of pass.old) }

@@ -202,11 +202,13 @@ impl<H: GrantHost> Play<(), View<H::Ext>> for ClearFirst<H> {
     ghost then = { Did H.with_sem (λ v n. summing (H.sem v.ext)) anything };
 }
 
-/// Clears the mark of the first waiter, which is to leave. Nobody is marked then.
+/// Clears the mark of the pass's own task, which is the first waiter and is to leave. Nobody is
+/// marked then.
 pub fn clear_first<H: GrantHost>(site: &Site<H>, pass: &mut Pass<H>, task: u32)
     requires own { SitsAt site.now pass.old }
     requires numbered { IsSome (task_in pass.old) }
     requires held { SpinHolds (view_of pass.old).spin }
+    requires mine { task_in pass.old ≡ Some task }
     requires may { MayLook H.list H.sem (view_of pass.old) task }
     requires task { task < MAX_TASKS }
     ensures own { SitsAt site.now pass.new }
