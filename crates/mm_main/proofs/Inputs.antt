@@ -18,7 +18,7 @@ use Rattle.mm_main.specs.declared.options.Options.{Options}
 use Rattle.mm_main.specs.Requests.{Request, misused, refused, accepted, reads_input, request, request_of, script_for}
 use Rattle.mm_main.specs.Answers.{Service, NoService, Says, OfKept, Answers, Completes, GivesScript, TakesAtMost, read_faults}
 
-Keeps-refl : (a : Option (List ℕ)) → Keeps a a
+pub Keeps-refl : (a : Option (List ℕ)) → Keeps a a
 Keeps-refl None = tt
 Keeps-refl (Some xs) = refl
 

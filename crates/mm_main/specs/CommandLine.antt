@@ -1,5 +1,5 @@
 -- The command line: four options, and which numbers they take.
-use Rattle.std.specs.Prelude.{◌≡◌, ℕ, ◌-◌, ◌^◌, ◌++◌, nat_le, Bool, true, false, List, [], ◌∷◌, Option, Some, None, find, option_and_then, option_map, if◌then◌else◌, codes, map, String, string_bytes}
+use Rattle.std.specs.Prelude.{◌≡◌, ℕ, ◌-◌, ◌^◌, ◌++◌, nat_le, Bool, true, false, List, [], ◌∷◌, Option, Some, None, find, option_and_then, option_map, if◌then◌else◌, codes, map, String, string_bytes, Result, Ok, Err}
 use Rattle.std.specs.Option.{option_map_or}
 use Rattle.std.specs.Str.{bytes_eq}
 use Rattle.clap.specs.Kinds.{Kinds}
@@ -70,6 +70,11 @@ options_of words = unless_faulty (fault_of the_command words) (options_from (mat
 -- what the words of a command line say, each of them a text
 abbrev pub said_by : {Z : Type 0} → List (String Z) → Option Options
 said_by words = options_of (map string_bytes words)
+
+-- a whole line, the program's name first, may say this: nothing, where it isn't all text
+abbrev pub MaySay : {L E : Type 0} → Result L E → Option Options → Type 0
+MaySay (Ok line) said = Unit {0}
+MaySay (Err e) said = said ≡ None
 
 -- an option that stands alone, its value joined to it, says it, and the others say their defaults; one -- may stand behind it
 abbrev pub LoneOptionsSay : Type 0

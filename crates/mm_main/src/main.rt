@@ -2,9 +2,13 @@
 //! prints for each object one history with every reply and the state that it leaves.
 #![tactic(auto)]
 
-ghost use Rattle.std.specs.Prelude.{◌≡◌};
+ghost use Rattle.std.specs.Prelude.{◌≡◌, IfOk, None, Option, length};
 ghost use Rattle.std.specs.Process.{exit_status};
-ghost use Rattle.mm_main.specs.Answers.{status_number};
+ghost use Rattle.mm_main.specs.Answers.{AnswersTo, CompletesTo, status_number};
+ghost use Rattle.mm_main.specs.CommandLine.{MaySay, said_by};
+ghost use Rattle.mm_main.specs.Kept.{HasServed};
+ghost use Rattle.mm_main.specs.Requests.{request};
+ghost use Rattle.mm_main.specs.declared.options.Options.{Options};
 
 mod input;
 mod objects;
@@ -18,9 +22,9 @@ use crate::program::top;
 use crate::status::Status;
 use cpu_task::{OpenGate, ParkCrew};
 use fd_table::Fds;
-use guarded::{Mutex, RwSem};
+use guarded::{Mutex, RwSem, SleepLock};
 use mm_serve::{SpaceLock, TableLock};
-use std::alloc::Global;
+use std::alloc::{AllocError, Global};
 use std::process::ExitCode;
 use std::sync::Wait;
 use std::thread::Threads;
@@ -29,20 +33,26 @@ use task_script::{ReadSource, Sink, Source, WriteSink};
 use vma_map::Areas;
 use word_bits::MAX_TASKS;
 
+/// The words after the program's name.
+fn words_behind(alloc: Global, line: env::Args) -> Result<Vec<String>, AllocError> {
+    line.skip(1).collect(alloc)
+}
+
 /// The words after the program's name. Where one of them or the name isn't text, all are one empty
 /// word, which is no option.
-fn words(alloc: Global, args: io::Result<env::Args>) -> io::Result<Vec<String>> {
-    let mut words = Vec::new(alloc);
-    match args {
-        Ok(args) => {
-            for word in args.skip(1) {
-                words.push(word)?;
-            }
+#[tactic(auto, using(crate::proofs::CommandLines::empty_word_says_nothing))]
+fn words(alloc: Global, line: io::Result<env::Args>) -> io::Result<Vec<String>>
+    ensures { IfOk result (λ words. MaySay line (said_by words.items)) }
+{
+    match line {
+        Ok(line) => Ok(words_behind(alloc, line)?),
+        Err(error) if error.kind() == io::ErrorKind::OutOfMemory => Err(error),
+        Err(_) => {
+            let mut words = Vec::new(alloc);
+            words.push(String::new(alloc))?;
+            Ok(words)
         }
-        Err(error) if error.kind() == io::ErrorKind::OutOfMemory => return Err(error),
-        Err(_) => words.push(String::new(alloc))?,
     }
-    Ok(words)
 }
 
 /// Runs the program with the threads of the host, spaces under locks of one kind and tables under
@@ -60,37 +70,46 @@ fn run_under<
     source: &mut S,
     sink: &mut K,
     crew: &mut ParkCrew,
+    kept: &mut Option<ScriptMachine<A, T, ParkCrew>>,
 ) -> Status
 where
     A::Pass: Send,
     T::Pass: Send,
+    requires none { kept.old ≡ None }
+    requires places { length crew.old ≡ MAX_TASKS }
+    ensures answer { AnswersTo S.left S.faults K.faults K.written source.old source.new
+        sink.old sink.new (HasServed A.SleepLock T.SleepLock) kept.new
+        (request (said_by words.now)) result }
+    ensures complete { CompletesTo S.left S.faults K.faults K.written source.old source.new
+        sink.old sink.new (HasServed A.SleepLock T.SleepLock) kept.new
+        (said_by words.now) result }
 {
-    let mut kept: Option<ScriptMachine<A, T, ParkCrew>> = None;
-    top(rt, alloc, words, source, sink, crew, &OpenGate, &mut kept)
+    top(rt, alloc, words, source, sink, crew, &OpenGate, kept)
 }
 
-/// The program over its streams: scripts of at most `MAX_TASKS` tasks, whose threads park.
+/// The program over its streams: spaces under semaphores, tables under mutexes, and scripts of at
+/// most `MAX_TASKS` tasks, whose threads park.
 fn run<R: Threads + Wait + Sync, S: Source, K: Sink>(
     rt: &R,
     alloc: Global,
-    args: io::Result<env::Args>,
+    line: io::Result<env::Args>,
     source: &mut S,
     sink: &mut K,
-) -> Status {
-    let Ok(words) = words(alloc, args) else {
+    kept: &mut Option<ScriptMachine<RwSem<Areas>, Mutex<Fds>, ParkCrew>>,
+) -> Status
+    requires { kept.old ≡ None }
+    ensures { (said : Option Options) × MaySay line said ×
+        AnswersTo S.left S.faults K.faults K.written source.old source.new sink.old sink.new
+        (HasServed ⟦<RwSem<Areas> as SleepLock<Areas>>⟧ ⟦<Mutex<Fds> as SleepLock<Fds>>⟧)
+        kept.new (request said) result }
+{
+    let Ok(words) = words(alloc, line) else {
         return Status::NoMemory;
     };
     let Ok(mut crew) = ParkCrew::new(alloc, MAX_TASKS) else {
         return Status::NoMemory;
     };
-    run_under::<RwSem<Areas>, Mutex<Fds>, R, S, K>(
-        rt,
-        alloc,
-        words.as_slice(),
-        source,
-        sink,
-        &mut crew,
-    )
+    run_under(rt, alloc, words.as_slice(), source, sink, &mut crew, kept)
 }
 
 /// The exit status of the program's status.
@@ -103,7 +122,15 @@ fn exit_code(status: Status) -> ExitCode
 fn main(rt: HostRuntime) -> ExitCode {
     let mut source = ReadSource::new(rt.reader());
     let mut sink = WriteSink::new(io::writer(&rt));
-    let status = run(&rt, rt.alloc(), env::args(&rt), &mut source, &mut sink);
+    let mut kept = None;
+    let status = run(
+        &rt,
+        rt.alloc(),
+        env::args(&rt),
+        &mut source,
+        &mut sink,
+        &mut kept,
+    );
     exit_code(status)
 }
 
