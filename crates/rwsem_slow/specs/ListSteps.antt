@@ -96,26 +96,30 @@ module _ (vs : List SemPart) (id : ℕ) (v : SemPart) (at : get_elem? vs id ≡ 
   abbrev pub Both : List Waiter → SemHand → Type 0
   Both q' s = let u : SemPart = record v { sem = s } in SemKept n q' marks grants (set vs id u) × KeepsHandoff id n q marks grants vs n marks grants (set vs id u)
 
-  -- who isn't granted, was at a stage at which it isn't to mark, and has no batch in the count before or behind the step, is a reader as before
-  no-more : (from : Stage) (s : SemHand) → v.sem.stage ≡ from → ((m : ℕ) → granting_weight from m ≡ 0) → marking from ≡ 0 → s.rest ≡ v.sem.rest → ((t : ℕ) → granted_at grants t v ≡ 0) → ((t : ℕ) → granted_at grants t (record v { sem = s }) ≡ 0) → ((t : ℕ) → granting_at t (record v { sem = s }) ≡ 0)
+  -- who isn't granted, isn't to mark, has no batch in the count before or behind the step, and keeps its bias, is a reader as before
+  no-more : (from : Stage) (s : SemHand) → v.sem.stage ≡ from → ((m : ℕ) → granting_weight from m ≡ 0) → marking from ≡ 0 → marking s.stage ≡ 0 → s.bias ≡ v.sem.bias → s.rest ≡ v.sem.rest → ((t : ℕ) → granted_at grants t v ≡ 0) → ((t : ℕ) → granted_at grants t (record v { sem = s }) ≡ 0) → ((t : ℕ) → granting_at t (record v { sem = s }) ≡ 0)
       → KeepsHandoff id n q marks grants vs n marks grants (set vs id (record v { sem = s }))
-  no-more from s is none out same was granted granting = hands-step id n q marks grants vs v (record v { sem = s }) at n marks (omega arith) (λ t. let a = granted t in let b = granting t in omega (arith, a, b)) (unasked-same n marks)
-      (pass-from q marks grants v (record v { sem = s }) from is none out (inl same) (λ t. let a = was t in omega (arith, a)))
+  no-more from s is none out later kept same was granted granting = hands-step id n q marks grants vs v (record v { sem = s }) at n marks (omega arith) (λ t. let a = granted t in let b = granting t in omega (arith, a, b)) (unasked-same n marks)
+      (pass-from q marks grants v (record v { sem = s }) from is none out (inl same) (λ t. let a = was t in omega (arith, a)) later (λ word e. inl (sym kept ∙ e)))
 
   pub enters-writer : (b : Bool) → bit b + some_of q ≡ 1 → v.sem.stage ≡ Rest → v.sem.wait ≡ Apart → Both (q ++ a_writer own ∷ []) (record v.sem { wait = Writes; stage = if b then First else Rest })
   enters-writer b empty stage wait = let s : SemHand = record v.sem { wait = Writes; stage = if b then First else Rest } in (
     sem-enters vs id v at n q marks grants r own has only b empty stage wait,
-    no-more Rest s stage (λ m. refl) refl refl (λ t. granted-at-w v own has Apart wait grants t) (λ t. granted-at-w (record v { sem = s }) own has Writes refl grants t) (λ t. still b (here t v.sem.rest)),
+    no-more Rest s stage (λ m. refl) refl (unbound b) refl refl (λ t. granted-at-w v own has Apart wait grants t) (λ t. granted-at-w (record v { sem = s }) own has Writes refl grants t) (λ t. still b (here t v.sem.rest)),
   )
     where
       still : (b : Bool) (m : ℕ) → granting_weight (if b then First else Rest) m ≡ 0
       still true m = refl
       still false m = refl
 
+      unbound : (b : Bool) → marking (if b then First else Rest) ≡ 0
+      unbound true = refl
+      unbound false = refl
+
   pub enters-reader : (b : Bool) → bit b + some_of q ≡ 1 → v.sem.stage ≡ Armed → v.sem.wait ≡ Apart → v.held ≡ No → Both (q ++ reader own ∷ []) (record v.sem { wait = Reads; stage = Joining b })
   enters-reader b empty stage wait out = let s : SemHand = record v.sem { wait = Reads; stage = Joining b } in let one = not-zero (get_or grants own 0) ((mine-at vs id v at n q marks grants r own has Armed only stage).1 own has) in (
     sem-joins vs id v at n q marks grants r own has b empty only stage wait out,
-    no-more Armed s stage (λ m. refl) refl refl (λ t. granted-at-w v own has Apart wait grants t) (λ t. granted-at-w (record v { sem = s }) own has Reads refl grants t ∙ ap (named_weight t (Some own)) one) (λ t. refl),
+    no-more Armed s stage (λ m. refl) refl refl refl refl (λ t. granted-at-w v own has Apart wait grants t) (λ t. granted-at-w (record v { sem = s }) own has Reads refl grants t ∙ ap (named_weight t (Some own)) one) (λ t. refl),
   )
 
   -- the own waiter is of the kind as which the pass waits
@@ -144,7 +148,7 @@ module _ (vs : List SemPart) (id : ℕ) (v : SemPart) (at : get_elem? vs id ≡ 
   abbrev pub Leaving : Stage → Type 0
   Leaving stage = (w : Waiter) × Without q w (without own q) × (w.task ≡ own) × Both (without own q) (gone stage v.sem)
 
-  module _ (stage to : Stage) (at_stage : v.sem.stage ≡ stage) (clear : v.sem.bias ≡ Clear) (none : v.sem.rest ≡ []) (before : (m : ℕ) → granting_weight stage m ≡ 0) (after : (m : ℕ) → granting_weight to m ≡ 0) (unbound : marking stage ≡ 0) where
+  module _ (stage to : Stage) (at_stage : v.sem.stage ≡ stage) (clear : v.sem.bias ≡ Clear) (none : v.sem.rest ≡ []) (before : (m : ℕ) → granting_weight stage m ≡ 0) (after : (m : ℕ) → granting_weight to m ≡ 0) (unbound : marking stage ≡ 0) (later : marking to ≡ 0) where
     not-granting : granting_of v ≡ 0
     not-granting = ap (λ (z : Stage). granting_weight z (length v.sem.rest)) at_stage ∙ before (length v.sem.rest)
 
@@ -156,7 +160,7 @@ module _ (vs : List SemPart) (id : ℕ) (v : SemPart) (at : get_elem? vs id ≡ 
           out.1,
           (
             sem-drops-writer vs id v at n q marks grants r own has only (without own q) out.0 to out.2 is wait (light clear) not-granting (after (length v.sem.rest)) (λ _. none) (flags out.0 out.2 out.1),
-            no-more stage s at_stage before unbound refl (λ t. granted-at-w v own has Writes wait grants t) (λ t. granted-at-w (record v { sem = s }) own has Apart refl grants t) (λ t. after (here t v.sem.rest)),
+            no-more stage s at_stage before unbound later refl refl (λ t. granted-at-w v own has Writes wait grants t) (λ t. granted-at-w (record v { sem = s }) own has Apart refl grants t) (λ t. after (here t v.sem.rest)),
           ),
         )
 
@@ -167,13 +171,13 @@ module _ (vs : List SemPart) (id : ℕ) (v : SemPart) (at : get_elem? vs id ≡ 
       out.1,
       (
         sem-drops-reader vs id v at n q marks grants r own has only (without own q) out.0 to out.2 is wait waits (light clear) not-granting (after (length v.sem.rest)) (λ _. none) (flags out.0 out.2 out.1),
-        no-more stage s at_stage before unbound refl (λ t. granted-at-w v own has Reads wait grants t ∙ ap (named_weight t (Some own)) (not-zero (get_or grants own 0) waits)) (λ t. granted-at-w (record v { sem = s }) own has Apart refl grants t) (λ t. after (here t v.sem.rest)),
+        no-more stage s at_stage before unbound later refl refl (λ t. granted-at-w v own has Reads wait grants t ∙ ap (named_weight t (Some own)) (not-zero (get_or grants own 0) waits)) (λ t. granted-at-w (record v { sem = s }) own has Apart refl grants t) (λ t. after (here t v.sem.rest)),
       ),
     )
 
   -- a writer that took leaves
   pub leaves-taken : v.sem.stage ≡ Took → v.sem.wait ≡ Writes → v.sem.bias ≡ Clear → total (reads_at own) vs ≡ 0 → Leaving Removed
-  leaves-taken stage wait clear alone = quits-writer Took Removed stage clear ((r.each id v at).rest (ap batch_weight stage)) (λ m. refl) (λ m. refl) refl wait alone (λ w s is. took-left vs id v at n q marks grants r own has only (without own q) w s stage)
+  leaves-taken stage wait clear alone = quits-writer Took Removed stage clear ((r.each id v at).rest (ap batch_weight stage)) (λ m. refl) (λ m. refl) refl refl wait alone (λ w s is. took-left vs id v at n q marks grants r own has only (without own q) w s stage)
 
   -- a reader in the list isn't granted
   ungranted : total (reads_at own) vs + total (writes_at own) vs ≤ 1 → v.sem.wait ≡ Reads → 1 ≤ counted own q → 1 ≤ get_or grants own 0
@@ -194,16 +198,16 @@ module _ (vs : List SemPart) (id : ℕ) (v : SemPart) (at : get_elem? vs id ≡ 
     rested : 1 ≤ length (without own q) → FlagsAt Rest v.task v.sem.rest W H (without own q) marks grants
     rested l = let f = nobody_marked.0 in let s = (some-length (without own q)).0 l in quiet-unmarked W H (without own q) marks (f ∙ sym s) (omega (arith, f)) nobody_marked.1
 
-    quits-first : (to : Stage) → ((m : ℕ) → granting_weight to m ≡ 0) → FlagsAt to v.task v.sem.rest W H (without own q) marks grants → (v.sem.wait ≡ Reads) ⊎ (v.sem.wait ≡ Writes) → Leaving to
-    quits-first to after flags waits = let a = total-at (reads_at own) vs id v at in let b = total-at (writes_at own) vs id v at in ⊎_elim
-        (λ (wait : v.sem.wait ≡ Reads). let e : reads_at own v ≡ 1 = reads-at-w v own has Reads wait own ∙ is_number-here own in quits-reader Summing to stage clear none (λ m. refl) after refl wait (omega (arith, once, a, e)) (ungranted once wait there) there (λ w s is. flags))
-        (λ (wait : v.sem.wait ≡ Writes). let e : writes_at own v ≡ 1 = writes-at-w v own has Writes wait own ∙ is_number-here own in quits-writer Summing to stage clear none (λ m. refl) after refl wait (omega (arith, once, b, e)) (λ w s is. flags))
+    quits-first : (to : Stage) → ((m : ℕ) → granting_weight to m ≡ 0) → marking to ≡ 0 → FlagsAt to v.task v.sem.rest W H (without own q) marks grants → (v.sem.wait ≡ Reads) ⊎ (v.sem.wait ≡ Writes) → Leaving to
+    quits-first to after later flags waits = let a = total-at (reads_at own) vs id v at in let b = total-at (writes_at own) vs id v at in ⊎_elim
+        (λ (wait : v.sem.wait ≡ Reads). let e : reads_at own v ≡ 1 = reads-at-w v own has Reads wait own ∙ is_number-here own in quits-reader Summing to stage clear none (λ m. refl) after refl later wait (omega (arith, once, a, e)) (ungranted once wait there) there (λ w s is. flags))
+        (λ (wait : v.sem.wait ≡ Writes). let e : writes_at own v ≡ 1 = writes-at-w v own has Writes wait own ∙ is_number-here own in quits-writer Summing to stage clear none (λ m. refl) after refl later wait (omega (arith, once, b, e)) (λ w s is. flags))
         waits
 
     pub leaves-first : (v.sem.wait ≡ Reads) ⊎ (v.sem.wait ≡ Writes) → Leaving (if length (without own q) == 0 then Emptied else Rest)
     leaves-first waits = dite (ℕ_discrete (length (without own q)) 0)
-        (λ z. subst (λ (b : Bool). Leaving (if b then Emptied else Rest)) (sym (eq-eqb (length (without own q)) 0 z)) (quits-first Emptied (λ m. refl) (emptied z) waits))
-        (λ other. subst (λ (b : Bool). Leaving (if b then Emptied else Rest)) (sym (ne_eqb (length (without own q)) 0 other)) (quits-first Rest (λ m. refl) (rested (omega (arith, other))) waits))
+        (λ z. subst (λ (b : Bool). Leaving (if b then Emptied else Rest)) (sym (eq-eqb (length (without own q)) 0 z)) (quits-first Emptied (λ m. refl) refl (emptied z) waits))
+        (λ other. subst (λ (b : Bool). Leaving (if b then Emptied else Rest)) (sym (ne_eqb (length (without own q)) 0 other)) (quits-first Rest (λ m. refl) refl (rested (omega (arith, other))) waits))
 
   -- a waiter gives up that isn't the first
   module _ (once : total (reads_at own) vs + total (writes_at own) vs ≤ 1) (clear : v.sem.bias ≡ Clear) (other : first_code q ≢ own + 1) where
@@ -212,11 +216,11 @@ module _ (vs : List SemPart) (id : ℕ) (v : SemPart) (at : get_elem? vs id ≡ 
 
     pub leaves-reader : v.sem.stage ≡ Armed → v.sem.wait ≡ Reads → 1 ≤ counted own q → Leaving Rest
     leaves-reader stage wait there = let f = mine-at vs id v at n q marks grants r own has Armed only stage in let one = f.1 own has in let a = total-at (reads_at own) vs id v at in let e : reads_at own v ≡ 1 = reads-at-w v own has Reads wait own ∙ is_number-here own in
-        quits-reader Armed Rest stage clear ((r.each id v at).rest (ap batch_weight stage)) (λ m. refl) (λ m. refl) refl wait (omega (arith, once, a, e)) (omega (arith, one)) there (λ w s is. behind f.0 w s is)
+        quits-reader Armed Rest stage clear ((r.each id v at).rest (ap batch_weight stage)) (λ m. refl) (λ m. refl) refl refl wait (omega (arith, once, a, e)) (omega (arith, one)) there (λ w s is. behind f.0 w s is)
 
     pub leaves-writer : v.sem.stage ≡ Rest → v.sem.wait ≡ Writes → Leaving Rest
     leaves-writer stage wait = let f = mine-at vs id v at n q marks grants r own has Rest only stage in let b = total-at (writes_at own) vs id v at in let e : writes_at own v ≡ 1 = writes-at-w v own has Writes wait own ∙ is_number-here own in
-        quits-writer Rest Rest stage clear ((r.each id v at).rest (ap batch_weight stage)) (λ m. refl) (λ m. refl) refl wait (omega (arith, once, b, e)) (λ w s is. behind f w s is)
+        quits-writer Rest Rest stage clear ((r.each id v at).rest (ap batch_weight stage)) (λ m. refl) (λ m. refl) refl refl wait (omega (arith, once, b, e)) (λ w s is. behind f w s is)
 
   -- a waker's batch takes one more
   abbrev BatchMayGrow : Type 0
@@ -234,10 +238,10 @@ module _ (vs : List SemPart) (id : ℕ) (v : SemPart) (at : get_elem? vs id ≡ 
   )
     where
       -- the batch goes on with this task
-      grows : (from : Stage) → v.sem.stage ≡ from → ((m : ℕ) → granting_weight from m ≡ 0) → marking from ≡ 0 → PassGoes q marks grants v (record v { sem = picked t v.sem })
-      grows from is none out = pass-from q marks grants v (record v { sem = picked t v.sem }) from is none out (inr (inr (t, refl, picks))) (λ t. omega arith)
+      grows : (from : Stage) → v.sem.stage ≡ from → ((m : ℕ) → granting_weight from m ≡ 0) → marking from ≡ 0 → PassGoes n n q marks grants v (record v { sem = picked t v.sem })
+      grows from is none out = pass-from q marks grants v (record v { sem = picked t v.sem }) from is none out (inr (inr (t, refl, picks))) (λ t. omega arith) refl (λ word e. inl e)
 
-      goes : BatchMayGrow → PassGoes q marks grants v (record v { sem = picked t v.sem })
+      goes : BatchMayGrow → PassGoes n n q marks grants v (record v { sem = picked t v.sem })
       goes (inl is) = grows Rest is (λ m. refl) refl
       goes (inr (inl (b, is))) = grows (Overdue b) is (λ m. refl) refl
       goes (inr (inr is)) = grows Removing is (λ m. refl) refl

@@ -33,7 +33,7 @@ use Rattle.rwsem_wake.proofs.Places.{first-least, some-length}
 use Rattle.rwsem_wake.proofs.WakeLaws.{staged, ok-of}
 use Rattle.rwsem_wake.proofs.QueueLaws.{granted-w, mine-at, sem-backs, sem-granted, sem-stages}
 use Rattle.rwsem_wake.proofs.HandoffLaws.{sem-sets, sem-takes, sem-unmarks-own, sem-clears, sem-asks-write, sem-marks}
-use Rattle.rwsem_wake.proofs.HandoffSteps.{PassGoes, first-marked, marking, pass-from, pass-same, pass-turns, hands-asks, hands-empties, hands-free, hands-granted, hands-step, hands-takes, own-comes, unasked-cleared, unasked-same}
+use Rattle.rwsem_wake.proofs.HandoffSteps.{PassGoes, clear-word, first-marked, marking, marks-stay, pass-from, pass-same, pass-turns, hands-asks, hands-empties, hands-free, hands-granted, hands-step, hands-takes, hands-unmarks, own-comes, unasked-same}
 use Rattle.rwsem_wake.proofs.FirstLaws.{light-of, sem-arms-again, sem-clears-first, sem-first-clear, sem-own-clear, sem-rests}
 use Rattle.rwsem_wake.proofs.Flags.{sets_waiters, clears_waiters}
 use Rattle.rwsem_wake.proofs.Stepping.{Local, with_hand}
@@ -54,12 +54,16 @@ module _ (sees : List SemPart) (id : ℕ) (v : SemPart) (known : Part) (n : ℕ)
   After n' marks' grants' s = let us : List SemPart = set sees id (with_hand v s) in SemKept n' q marks' grants' us × KeepsHandoff id n q marks grants sees n' marks' grants' us
 
   -- nobody comes to read
-  same-readers : (n' : ℕ) (marks' : List ℕ) (s : Stage) → n' % 2 ≤ n % 2 → ((m : ℕ) → granting_weight s m ≡ 0) → Unasked n marks n' marks' → PassGoes q marks' grants v (staged v s) → KeepsHandoff id n q marks grants sees n' marks' grants (set sees id (staged v s))
+  same-readers : (n' : ℕ) (marks' : List ℕ) (s : Stage) → n' % 2 ≤ n % 2 → ((m : ℕ) → granting_weight s m ≡ 0) → Unasked n marks n' marks' → PassGoes n n' q marks' grants v (staged v s) → KeepsHandoff id n q marks grants sees n' marks' grants (set sees id (staged v s))
   same-readers n' marks' s low none un goes = hands-step id n q marks grants sees v (staged v s) loc.mine n' marks' low (λ t. let z = none (here t v.sem.rest) in omega (arith, z)) un goes
 
   -- its stage turns to this one
-  turns : (marks' : List ℕ) (from to : Stage) → v.sem.stage ≡ from → ((m : ℕ) → granting_weight from m ≡ 0) → marking from ≡ 0 → PassGoes q marks' grants v (staged v to)
-  turns marks' from to = pass-turns q marks' grants v v.sem.bias from to
+  turns : {n' : ℕ} (marks' : List ℕ) (from to : Stage) → v.sem.stage ≡ from → ((m : ℕ) → granting_weight from m ≡ 0) → marking from ≡ 0 → marking to ≡ 0 → PassGoes n n' q marks' grants v (staged v to)
+  turns {n'} marks' from to is none out later = pass-turns q marks' grants v v.sem.bias from to is none out later (λ word e. inl e)
+
+  -- it clears a mark that it may clear
+  clears-mark : (t : ℕ) (s : Stage) → (v.task ≡ Some t) → t < 64 → ((m : ℕ) → granting_weight s m ≡ 0) → PassGoes n n q (set marks t 0) grants v (staged v s) → KeepsHandoff id n q marks grants sees n (set marks t 0) grants (set sees id (staged v s))
+  clears-mark t s mine few none goes = let wide = loc.marks_wide in hands-unmarks id n q marks grants sees v (staged v s) loc.mine t (inl mine) (omega (arith, few, wide)) (λ x. let z = none (here x v.sem.rest) in omega (arith, z)) goes
 
   -- it leaves all
   pub on-stay : After n marks grants v.sem
@@ -71,7 +75,7 @@ module _ (sees : List SemPart) (id : ℕ) (v : SemPart) (known : Part) (n : ℕ)
   -- who is alone in the list sets WAITERS
   pub on-set : v.sem.stage ≡ First → v.sem.bias ≡ Clear → After (word_after (Or 2) n) marks grants (rested v.sem) × IsLawfulCount n
   on-set stage clear = let f = mine-at sees id v loc.mine n q marks grants loc.kept own has First only stage in let clear_it = f.0 in let is = sets_waiters n clear_it in (
-    (sem-sets sees id v loc.mine n q marks grants loc.kept own has only (word_after (Or 2) n) is stage (light-of v own has clear n q marks grants sees id loc.kept loc.mine), same-readers (word_after (Or 2) n) marks Rest (omega (arith, is)) (λ m. refl) (omega (arith, is, clear_it), λ t. omega arith) (turns marks First Rest stage (λ m. refl) refl)),
+    (sem-sets sees id v loc.mine n q marks grants loc.kept own has only (word_after (Or 2) n) is stage (light-of v own has clear n q marks grants sees id loc.kept loc.mine), same-readers (word_after (Or 2) n) marks Rest (omega (arith, is)) (λ m. refl) (omega (arith, is, clear_it), λ t. omega arith) (turns marks First Rest stage (λ m. refl) refl refl)),
     loc.lawful,
   )
 
@@ -80,7 +84,7 @@ module _ (sees : List SemPart) (id : ℕ) (v : SemPart) (known : Part) (n : ℕ)
   on-back m by b stage bias is = let l = small in let one : early_of v + late_of v ≡ 1 = ap (λ (z : Bias). early_weight z + late_weight z) bias ∙ (let e : (1 - m % 2) + m % 2 ≡ 1 = omega arith in e) in
       let F = part-least early_in sees id v loc.mine in let L = part-least late_in sees id v loc.mine in let rf = loc.kept.count.field in let g : 256 ≤ n = omega (arith, one, F, L, rf) in
       let o = bit-most b in let n' : ℕ = word_after (Sub by) n in let sum : n' + 256 ≡ n + 2 * bit b = omega (arith, l, g, is, o) in (
-        (sem-backs sees id v loc.mine n q marks grants loc.kept own has n' m b only stage bias sum, hands-step id n q marks grants sees v (with_hand v (unreserved v.sem)) loc.mine n' marks (omega (arith, sum)) (λ t. omega arith) (let x = unset b stage in omega (arith, sum, x), λ t. omega arith) (pass-turns q marks grants v Clear (Joining b) Rest stage (λ m. refl) refl)),
+        (sem-backs sees id v loc.mine n q marks grants loc.kept own has n' m b only stage bias sum, hands-step id n q marks grants sees v (with_hand v (unreserved v.sem)) loc.mine n' marks (omega (arith, sum)) (λ t. omega arith) (let x = unset b stage in omega (arith, sum, x), λ t. omega arith) (pass-turns q marks grants v Clear (Joining b) Rest stage (λ m. refl) refl refl clear-word)),
         loc.lawful,
         g,
       )
@@ -97,9 +101,10 @@ module _ (sees : List SemPart) (id : ℕ) (v : SemPart) (known : Part) (n : ℕ)
   pub on-ask-write : (old new : ℕ) → v.sem.stage ≡ Rest → v.sem.wait ≡ Writes → (HasHandoff old → ⊥) → new ≡ old + 4 → Knows known → 1 ≤ length known.1.list → After (word_after (Exchange old new) n) marks grants (asked v.sem old n) × IsLawfulCount n
   on-ask-write old new stage writes unasked is knows some_there = dite (ℕ_discrete n old)
       (λ found. let not : n / 4 % 2 ≢ 1 = λ e. unasked (ap (λ (x : ℕ). x / 4 % 2) (sym found) ∙ e) in let z : n / 4 % 2 ≡ 0 = omega (arith, not) in
+      let goes : PassGoes n (n + 4) q marks grants v (staged v Marking) = record { ends = λ t less. absurd (let g : granting_at t v ≡ 0 = ap (λ (x : Stage). granting_weight x (here t v.sem.rest)) stage in omega (arith, g, less)); batch = inl refl; next = λ _. inl refl; to_mark = λ _. inr (z, omega (arith, z)); reserves = λ word e. inl e } in
       subst (λ (b : Bool). After (if b then new else n) marks grants (if b then record v.sem { stage = Marking } else v.sem) × IsLawfulCount n) (sym (eq-eqb n old found)) (
         subst (λ (x : ℕ). After x marks grants (record v.sem { stage = Marking })) (ap (λ (x : ℕ). x + 4) found ∙ sym is)
-            (sem-asks-write sees id v loc.mine n q marks grants loc.kept own has only z (there knows some_there) stage, hands-asks id n q marks grants sees v (staged v Marking) loc.mine (n + 4) marks (omega arith) (λ t. omega arith) (λ _ _. inr (writes, refl)) (λ _. omega (arith, z)) (λ t none more. absurd (omega (arith, none, more))) (turns marks Rest Marking stage (λ m. refl) refl)),
+            (sem-asks-write sees id v loc.mine n q marks grants loc.kept own has only z (there knows some_there) stage, hands-asks id n q marks grants sees v (staged v Marking) loc.mine (n + 4) marks (omega arith) (λ t. omega arith) (λ _ _. inr (writes, refl)) (λ _. omega (arith, z)) (λ t none more. absurd (omega (arith, none, more))) (λ t more. more) goes),
         loc.lawful,
       ))
       (λ other. subst (λ (b : Bool). After (if b then new else n) marks grants (if b then record v.sem { stage = Marking } else v.sem) × IsLawfulCount n) (sym (ne_eqb n old other)) (on-stay, loc.lawful))
@@ -109,45 +114,45 @@ module _ (sees : List SemPart) (id : ℕ) (v : SemPart) (known : Part) (n : ℕ)
   on-mark-asked t stage writes clear knows code few = let x = head-is q t (ap first_code (sym (loc.list knows)) ∙ code) in let wide = loc.marks_wide in
       let set_it : n / 4 % 2 ≡ 1 = (mine-at sees id v loc.mine n q marks grants loc.kept own has Marking only stage).1 in
       let first : first_mark (set marks t 1) (tasks q) ≡ 1 = ap (λ (z : List Waiter). first_mark (set marks t 1) (tasks z)) x.2 ∙ (ap (λ (z : ℕ). get_or (set marks t 1) z 0) x.3 ∙ get_or-set_same marks t 1 0 (omega (arith, few, wide))) in
-      let goes : PassGoes q (set marks t 1) grants v (staged v Rest) = record { ends = λ s less. let g : granting_at s v ≡ 0 = ap (λ (z : Stage). granting_weight z (here s v.sem.rest)) stage in absurd (omega (arith, g, less)); batch = inl refl; next = λ _. inr first } in (
+      let goes : PassGoes n n q (set marks t 1) grants v (staged v Rest) = record { ends = λ s less. let g : granting_at s v ≡ 0 = ap (λ (z : Stage). granting_weight z (here s v.sem.rest)) stage in absurd (omega (arith, g, less)); batch = inl refl; next = λ _. inr first; to_mark = λ e. let m = ap marking e in absurd (omega (arith, m)); reserves = λ word e. inl e } in (
         subst (λ (z : ℕ). SemKept n q (set marks z 1) grants (set sees id (staged v Rest))) x.3 (sem-marks sees id v loc.mine n q marks grants loc.kept own has only x.0 x.1 stage (light-of v own has clear n q marks grants sees id loc.kept loc.mine) x.2 (let e = x.3 in omega (arith, e, few, wide))),
-        hands-asks id n q marks grants sees v (staged v Rest) loc.mine n (set marks t 1) (omega arith) (λ s. omega arith) (λ z o. absurd (omega (arith, z, o))) (λ set_it. set_it) (λ s none more. (first-marked marks q t (ap first_code (sym (loc.list knows)) ∙ code) s none more, inr (writes, stage, set_it))) goes,
+        hands-asks id n q marks grants sees v (staged v Rest) loc.mine n (set marks t 1) (omega arith) (λ s. omega arith) (λ z o. absurd (omega (arith, z, o))) (λ set_it. set_it) (λ s none more. (first-marked marks q t (ap first_code (sym (loc.list knows)) ∙ code) s none more, inr (writes, stage, set_it))) (marks-stay marks t (omega (arith, few, wide))) goes,
       )
 
-  from-either : (marks' : List ℕ) (to : Stage) → (v.sem.stage ≡ Rest) ⊎ (v.sem.stage ≡ Armed) → PassGoes q marks' grants v (staged v to)
-  from-either marks' to stage = elim stage [ inl is ↦ turns marks' Rest to is (λ m. refl) refl | inr is ↦ turns marks' Armed to is (λ m. refl) refl ]
+  from-either : (marks' : List ℕ) (to : Stage) → (v.sem.stage ≡ Rest) ⊎ (v.sem.stage ≡ Armed) → marking to ≡ 0 → PassGoes n n q marks' grants v (staged v to)
+  from-either marks' to stage later = elim stage [ inl is ↦ turns marks' Rest to is (λ m. refl) refl later | inr is ↦ turns marks' Armed to is (λ m. refl) refl later ]
 
   -- the first's mark is loaded, or cleared
   pub on-look-first : (t : ℕ) → (v.sem.stage ≡ Rest) ⊎ (v.sem.stage ≡ Armed) → Knows known → first_code known.1.list ≡ t + 1 → let m = get_or marks t 0 in After n (set marks t (word_after Load m)) grants (unmarked v.sem m)
   on-look-first t stage knows code = let m : ℕ = get_or marks t 0 in let x = head-is q t (ap first_code (sym (loc.list knows)) ∙ code) in subst (λ (z : List ℕ). After n z grants (unmarked v.sem m)) (sym (set-get_or marks t 0)) (dite (ℕ_discrete m 0)
       (λ none. subst (λ (z : Bool). After n marks grants (if z then record v.sem { stage = Summing } else v.sem)) (sym (eq-eqb m 0 none)) (
         sem-first-clear sees id v loc.mine n q marks grants loc.kept own has only x.0 x.1 stage x.2 (ap (λ (z : ℕ). get_or marks z 0) x.3 ∙ none),
-        same-readers n marks Summing (omega arith) (λ m. refl) (unasked-same n marks) (from-either marks Summing stage),
+        same-readers n marks Summing (omega arith) (λ m. refl) (unasked-same n marks) (from-either marks Summing stage refl),
       ))
       (λ set_it. subst (λ (z : Bool). After n marks grants (if z then record v.sem { stage = Summing } else v.sem)) (sym (ne_eqb m 0 set_it)) on-stay))
 
-  pub on-clear-first : (t : ℕ) → (v.sem.stage ≡ Rest) ⊎ (v.sem.stage ≡ Armed) → Knows known → first_code known.1.list ≡ t + 1 → t < 64 → After n (set marks t 0) grants (summing v.sem)
-  on-clear-first t stage knows code few = let x = head-is q t (ap first_code (sym (loc.list knows)) ∙ code) in let wide = loc.marks_wide in (
+  pub on-clear-first : (v.sem.stage ≡ Rest) ⊎ (v.sem.stage ≡ Armed) → Knows known → first_code known.1.list ≡ own + 1 → own < 64 → After n (set marks own 0) grants (summing v.sem)
+  on-clear-first stage knows code few = let x = head-is q own (ap first_code (sym (loc.list knows)) ∙ code) in let wide = loc.marks_wide in (
     subst (λ (z : ℕ). SemKept n q (set marks z 0) grants (set sees id (staged v Summing))) x.3 (sem-clears-first sees id v loc.mine n q marks grants loc.kept own has only x.0 x.1 stage x.2 (let e = x.3 in omega (arith, e, few, wide))),
-    same-readers n (set marks t 0) Summing (omega arith) (λ m. refl) (unasked-cleared n marks t (omega (arith, few, wide))) (from-either (set marks t 0) Summing stage),
+    clears-mark own Summing has few (λ m. refl) (from-either (set marks own 0) Summing stage refl),
   )
 
   -- so is the own mark of a writer that took and left
   pub on-look-own : v.sem.stage ≡ Removed → v.sem.bias ≡ Clear → let m = get_or marks own 0 in After n (set marks own (word_after Load m)) grants (own_unmarked v.sem m)
   on-look-own stage clear = let m : ℕ = get_or marks own 0 in subst (λ (z : List ℕ). After n z grants (own_unmarked v.sem m)) (sym (set-get_or marks own 0)) (dite (ℕ_discrete m 0)
-      (λ none. subst (λ (z : Bool). After n marks grants (if z then record v.sem { stage = Rest } else v.sem)) (sym (eq-eqb m 0 none)) (sem-own-clear sees id v loc.mine n q marks grants loc.kept own has only stage clear none, same-readers n marks Rest (omega arith) (λ m. refl) (unasked-same n marks) (turns marks Removed Rest stage (λ m. refl) refl)))
+      (λ none. subst (λ (z : Bool). After n marks grants (if z then record v.sem { stage = Rest } else v.sem)) (sym (eq-eqb m 0 none)) (sem-own-clear sees id v loc.mine n q marks grants loc.kept own has only stage clear none, same-readers n marks Rest (omega arith) (λ m. refl) (unasked-same n marks) (turns marks Removed Rest stage (λ m. refl) refl refl)))
       (λ set_it. subst (λ (z : Bool). After n marks grants (if z then record v.sem { stage = Rest } else v.sem)) (sym (ne_eqb m 0 set_it)) on-stay))
 
   pub on-clear-own : v.sem.stage ≡ Removed → v.sem.bias ≡ Clear → own < 64 → After n (set marks own 0) grants (rested v.sem)
   on-clear-own stage clear few = let wide = loc.marks_wide in (
     sem-unmarks-own sees id v loc.mine n q marks grants loc.kept own has only stage (light-of v own has clear n q marks grants sees id loc.kept loc.mine) (omega (arith, few, wide)),
-    same-readers n (set marks own 0) Rest (omega arith) (λ m. refl) (unasked-cleared n marks own (omega (arith, few, wide))) (turns (set marks own 0) Removed Rest stage (λ m. refl) refl),
+    clears-mark own Rest has few (λ m. refl) (turns (set marks own 0) Removed Rest stage (λ m. refl) refl refl),
   )
 
   -- WAITERS and HANDOFF are cleared where the list is empty
   pub on-clear-flags : v.sem.stage ≡ Emptied → v.sem.bias ≡ Clear → After (word_after (And 18446744073709551609) n) marks grants (rested v.sem) × IsLawfulCount n
   on-clear-flags stage clear = let l = small in let f = mine-at sees id v loc.mine n q marks grants loc.kept own has Emptied only stage in let w = f.0 in let is = clears_waiters n (omega (arith, l)) in let n' : ℕ = word_after (And 18446744073709551609) n in let sum : n' + (2 + 4 * H) ≡ n = omega (arith, is, w) in (
-    (sem-clears sees id v loc.mine n q marks grants loc.kept own has only n' sum stage (light-of v own has clear n q marks grants sees id loc.kept loc.mine), hands-empties id n q marks grants sees v (staged v Rest) loc.mine n' (omega (arith, sum)) (λ t. omega arith) (omega (arith, sum, w)) f.2 (turns marks Emptied Rest stage (λ m. refl) refl)),
+    (sem-clears sees id v loc.mine n q marks grants loc.kept own has only n' sum stage (light-of v own has clear n q marks grants sees id loc.kept loc.mine), hands-empties id n q marks grants sees v (staged v Rest) loc.mine n' (omega (arith, sum)) (λ t. omega arith) (omega (arith, sum, w)) f.2 (turns marks Emptied Rest stage (λ m. refl) refl refl)),
     loc.lawful,
   )
 
@@ -176,7 +181,7 @@ module _ (sees : List SemPart) (id : ℕ) (v : SemPart) (known : Part) (n : ℕ)
     -- it is about nothing from then on
     goes-on : (old : ℕ) → Unmarked old → Held-after n grants No (rested v.sem)
     goes-on old may = unheld (rested v.sem) out (elim may [ inl is ↦ sem-rests sees id v loc.mine n q marks grants loc.kept own has only is clear none (there knows some_there) | inr is ↦ subst (λ (z : Stage). SemKept n q marks grants (set sees id (staged v z))) is.0 on-stay.0 ])
-        (same-readers n marks Rest (omega arith) (λ m. refl) (unasked-same n marks) (elim may [ inl is ↦ turns marks Summing Rest is (λ m. refl) refl | inr is ↦ turns marks Rest Rest is.0 (λ m. refl) refl ]))
+        (same-readers n marks Rest (omega arith) (λ m. refl) (unasked-same n marks) (elim may [ inl is ↦ turns marks Summing Rest is (λ m. refl) refl refl | inr is ↦ turns marks Rest Rest is.0 (λ m. refl) refl refl ]))
 
     first-or-none : (old : ℕ) → n ≡ old → Unmarked old → IsFirst (Some own) q ⊎ (first_mark marks (tasks q) ≡ 0)
     first-or-none old found may = let l = first-least marks (tasks q) in elim may [
@@ -222,7 +227,7 @@ module _ (sees : List SemPart) (id : ℕ) (v : SemPart) (known : Part) (n : ℕ)
             | inr is ↦ sem-takes sees id v loc.mine n q marks grants loc.kept own has only new (bit alone) (readers-free found) (writer-free found) (sum-by alone found flags) ab.0 ab.1 (there knows some_there) is.0 out m
           ],
           hands-takes id n q marks grants sees v u loc.mine new (elim m [ inl first ↦ inl (subst (λ (z : Option ℕ). IsFirst z q) (sym has) first) | inr z ↦ inr z ]) (λ t. omega arith) flags.handoff_is (writer-free found) flags.writer_is
-              (elim may [ inl is ↦ pass-from q marks grants v u Summing is (λ m. refl) refl (inl refl) (λ t. let z = shares-none t in omega (arith, z)) | inr is ↦ pass-from q marks grants v u Rest is.0 (λ m. refl) refl (inl refl) (λ t. let z = shares-none t in omega (arith, z)) ]),
+              (elim may [ inl is ↦ pass-from q marks grants v u Summing is (λ m. refl) refl (inl refl) (λ t. let z = shares-none t in omega (arith, z)) refl (λ word e. inl e) | inr is ↦ pass-from q marks grants v u Rest is.0 (λ m. refl) refl (inl refl) (λ t. let z = shares-none t in omega (arith, z)) refl (λ word e. inl e) ]),
         )
 
   -- a reader whose bias is in the count sees no writer, under the wait lock with an empty list
@@ -236,8 +241,8 @@ module _ (sees : List SemPart) (id : ℕ) (v : SemPart) (known : Part) (n : ℕ)
         sem-stages sees id v loc.mine n q marks grants loc.kept own has u n marks only refl refl refl refl (subst (λ (z : Stage). FlagsAt z v.task v.sem.rest W H q marks grants) (sym stage) f)
             (count-keeps sees id v u loc.mine n m (more_of grants sees) loc.kept.count (inl free) out bias refl refl)
             (ok-of u own has (λ _. (loc.kept.each id v loc.mine).rest (ap batch_weight stage)) (omega (arith, r0)) (omega arith) (omega (arith, r0)) (omega arith)),
-        hands-free id n q marks grants sees v u loc.mine n (inr (ap (λ (z : List Waiter). first_mark marks (tasks z)) (sym (loc.list knows) ∙ none))) (unasked-same n marks) (own-comes id n q marks grants sees v u loc.mine own has (λ t not. let z : shared_at t u ≡ 0 = ap (is_number t) has ∙ is_number-else t own (λ e. not (sym e)) in omega (arith, z)))
-            (pass-from q marks grants v u Rest stage (λ m. refl) refl (inl refl) (λ t. let z : shared_at t v ≡ 0 = ap (λ (h : Held). named_weight t v.task (shared_weight h)) out in omega (arith, z))),
+        hands-free id n q marks grants sees v u loc.mine n (inr (ap (λ (z : List Waiter). first_mark marks (tasks z)) (sym (loc.list knows) ∙ none), omega arith)) (unasked-same n marks) (own-comes id n q marks grants sees v u loc.mine own has (λ t not. let z : shared_at t u ≡ 0 = ap (is_number t) has ∙ is_number-else t own (λ e. not (sym e)) in omega (arith, z)))
+            (pass-from q marks grants v u Rest stage (λ m. refl) refl (inl refl) (λ t. let z : shared_at t v ≡ 0 = ap (λ (h : Held). named_weight t v.task (shared_weight h)) out in omega (arith, z)) (ap marking stage) clear-word),
       )
 
 -- a queued reader loads its grant word, with or without the wait lock
@@ -271,6 +276,6 @@ module _ (sees : List SemPart) (id : ℕ) (v : SemPart) (known : Part) (n : ℕ)
   on-hear-locked only = let m : ℕ = get_or grants own 0 in dite (ℕ_discrete m 0)
       (λ zero_it. subst (λ (b : Bool). Heard (if b then Shared else No) (if b then record v.sem { wait = Apart } else record v.sem { stage = Armed }) × (b ≡ true → Shares)) (sym (eq-eqb m 0 zero_it)) (holds zero_it, λ _. shares zero_it))
       (λ other. subst (λ (b : Bool). Heard (if b then Shared else No) (if b then record v.sem { wait = Apart } else record v.sem { stage = Armed }) × (b ≡ true → Shares)) (sym (ne_eqb m 0 other)) (
-        subst (λ (z : Held). Heard z (record v.sem { stage = Armed })) out (heard-by v.held (record v.sem { stage = Armed }) (sem-arms-again sees id v loc.mine n q marks grants loc.kept own has only stage clear (omega (arith, other))) (hands-step id n q marks grants sees v (staged v Armed) loc.mine n marks (omega arith) (λ t. omega arith) (unasked-same n marks) (pass-turns q marks grants v v.sem.bias Rest Armed stage (λ m. refl) refl))),
+        subst (λ (z : Held). Heard z (record v.sem { stage = Armed })) out (heard-by v.held (record v.sem { stage = Armed }) (sem-arms-again sees id v loc.mine n q marks grants loc.kept own has only stage clear (omega (arith, other))) (hands-step id n q marks grants sees v (staged v Armed) loc.mine n marks (omega arith) (λ t. omega arith) (unasked-same n marks) (pass-turns q marks grants v v.sem.bias Rest Armed stage (λ m. refl) refl refl (λ word e. inl e)))),
         λ e. not-both false refl e,
       ))

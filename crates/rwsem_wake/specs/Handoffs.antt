@@ -1,12 +1,12 @@
 -- How a task becomes a reader and ceases to be one, who asks for a handoff, what becomes of a waker's batch, and what a step may do while HANDOFF is set and the first waiter is marked.
-use Rattle.std.proofs.Common.{◌≡◌, ◌≢◌, ℕ, ◌+◌, ◌/◌, ◌%◌, ◌<◌, ◌≤◌, ◌⊎◌, List, [], ◌∷◌, ◌++◌, length, get_or, Some}
+use Rattle.std.proofs.Common.{◌≡◌, ◌≢◌, ℕ, ◌+◌, ◌/◌, ◌%◌, ◌<◌, ◌⊎◌, List, [], ◌∷◌, ◌++◌, length, get_or, Some}
 use mathlib.Core.Option.{some}
 use lib.ListN.{get_elem?}
 use Rattle.lock_core.specs.declared.view.Held.TheVariants.{Shared, Alone}
 use Rattle.lock_core.specs.Totals.{total}
 use Rattle.wait_list.specs.declared.view.Waiter.{Waiter}
 use Rattle.wait_list.specs.Lists.{first_code}
-use Rattle.rwsem_count.specs.declared.view.Bias.TheVariants.{Transit, Reserve}
+use Rattle.rwsem_count.specs.declared.view.Bias.TheVariants.{Clear, Transit, Reserve}
 use Rattle.rwsem_wake.specs.declared.view.Wait.TheVariants.{Writes}
 use Rattle.rwsem_wake.specs.declared.view.Stage.TheVariants.{Marking, Granting}
 use Rattle.rwsem_wake.specs.SemParts.{SemPart, named_weight, granting_weight, shared_of, granted_at, here, first_mark, reader_of, tasks}
@@ -23,7 +23,7 @@ granting_at t v = granting_weight v.sem.stage (here t v.sem.rest)
 abbrev pub reads_as : List ℕ → ℕ → SemPart → ℕ
 reads_as grants t v = shared_at t v + granted_at grants t v + granting_at t v
 
--- a bias that was added where HANDOFF was clear, or an exclusive hold
+-- a bias of which the pass keeps that it was added where HANDOFF was clear, or an exclusive hold
 abbrev pub MayRead : SemPart → Type 0
 MayRead v = ((m : ℕ) × (v.sem.bias ≡ Transit m) × (m / 4 % 2 ≡ 0)) ⊎ (v.held ≡ Alone)
 
@@ -47,9 +47,9 @@ MaySetHandoff q marks v u = ((m : ℕ) × (v.sem.bias ≡ Reserve m) × (first_m
 abbrev pub MayMark : ℕ → SemPart → Type 0
 MayMark n v = ((m : ℕ) × (v.sem.bias ≡ Reserve m) × (m % 2 ≡ 1)) ⊎ ((v.sem.wait ≡ Writes) × (v.sem.stage ≡ Marking) × (n / 4 % 2 ≡ 1))
 
--- HANDOFF stays as it is, and nobody is marked anew
+-- HANDOFF and all marks stay as they are
 abbrev pub Unasked : (n : ℕ) → List ℕ → (n' : ℕ) → List ℕ → Type 0
-Unasked n marks n' marks' = (n' / 4 % 2 ≡ n / 4 % 2) × ((t : ℕ) → get_or marks' t 0 ≤ get_or marks t 0)
+Unasked n marks n' marks' = (n' / 4 % 2 ≡ n / 4 % 2) × ((t : ℕ) → get_or marks' t 0 ≡ get_or marks t 0)
 
 -- the parts of the pass of this number, before a step and after it
 abbrev pub OfPass : ℕ → List SemPart → List SemPart → (SemPart → SemPart → Type 0) → Type 0
@@ -63,6 +63,18 @@ CountsBatch v u = (0 < length v.sem.rest) × (v.sem.stage ≢ Granting) × (u.se
 abbrev pub AnswersHandoff : (id n : ℕ) → List Waiter → List SemPart → (n' : ℕ) → List SemPart → Type 0
 AnswersHandoff id n q vs n' us = ((n % 2 ≡ 0) × (n' % 2 ≡ 1)) ⊎ ((v u : SemPart) × (get_elem? vs id ≡ some v) × (get_elem? us id ≡ some u) × CountsBatch v u) ⊎ (length q ≡ 0)
 
+-- a pass may clear the mark of this task: that of the task, or a waker whose batch has it next
+abbrev pub MayUnmark : SemPart → ℕ → Type 0
+MayUnmark v t = (v.task ≡ Some t) ⊎ ((ts : List ℕ) × (v.sem.rest ≡ t ∷ ts))
+
+-- a pass comes to be the one that is to mark by the step by which it sets HANDOFF
+abbrev pub ComesToMark : (n n' : ℕ) → SemPart → SemPart → Type 0
+ComesToMark n n' v u = u.sem.stage ≡ Marking → (v.sem.stage ≡ Marking) ⊎ ((n / 4 % 2 ≡ 0) × (n' / 4 % 2 ≡ 1))
+
+-- a bias that a pass reserves keeps the count that its addition found
+abbrev pub ReservesAt : ℕ → SemPart → SemPart → Type 0
+ReservesAt n v u = (word : ℕ) → u.sem.bias ≡ Reserve word → (v.sem.bias ≡ Reserve word) ⊎ ((v.sem.bias ≡ Clear) × (word ≡ n))
+
 -- who is to mark the first waiter is so until a step of it after which that one is marked
 abbrev pub MarksNext : List Waiter → List ℕ → SemPart → SemPart → Type 0
 MarksNext q marks' v u = v.sem.stage ≡ Marking → (u.sem.stage ≡ Marking) ⊎ (first_mark marks' (tasks q) ≡ 1)
@@ -75,15 +87,23 @@ GrantsNext id grants vs grants' us = (t : ℕ) → 0 < get_or grants t 0 → get
 abbrev pub BatchGoes : List Waiter → List ℕ → SemPart → SemPart → Type 0
 BatchGoes q grants' v u = (u.sem.rest ≡ v.sem.rest) ⊎ ((t : ℕ) × (v.sem.stage ≡ Granting) × (v.sem.rest ≡ t ∷ u.sem.rest) × (get_or grants' t 0 ≡ 0)) ⊎ ((t : ℕ) × (u.sem.rest ≡ v.sem.rest ++ t ∷ []) × Picks v q t)
 
--- While HANDOFF is set and the first waiter is marked, the writer bit is set by that waiter alone, and a task becomes a reader only by a bias whose addition saw no HANDOFF, or by a downgrade. At any time it becomes one by itself, or in a batch that leaves no reader waiting, and it is one until its own pass ends its shared hold. HANDOFF is set by a waker with a reserved bias where the first waiter is marked, or by a writer of the list, which is to mark the first waiter from then on, until that one is marked, and stays until it is answered. A mark is set by one of these, and is the first waiter's. A batch grows by the readers that its waker picks, and is granted in this order once it is in the count; no other step clears a grant word.
+-- While HANDOFF is set and the first waiter is marked, the writer bit is set by that waiter alone, and a task becomes a reader only by a bias of which its pass keeps that its addition saw no HANDOFF, or by a downgrade. Who takes clears HANDOFF.
+-- At any time a task becomes a reader by itself, or in a batch that leaves no reader waiting, and it is one until its own pass ends its shared hold.
+-- HANDOFF is set by a waker with a reserved bias where the first waiter is marked, or by a writer of the list, which is to mark the first waiter from then on, until that one is marked, and by no other step comes to be so. HANDOFF then stays until it is answered. A waker's reserved bias keeps the count that it found.
+-- A mark is set by one of these, and is the first waiter's. It is cleared by its own waiter, or by a waker whose batch has it next.
+-- A batch grows by the readers that its waker picks, and is granted in this order once it is in the count; no other step clears a grant word.
 pub record KeepsHandoff (id n : ℕ) (q : List Waiter) (marks grants : List ℕ) (vs : List SemPart) (n' : ℕ) (marks' grants' : List ℕ) (us : List SemPart) : Type 0 where
   pub writer : n / 4 % 2 ≡ 1 → first_mark marks (tasks q) ≡ 1 → n % 2 ≡ 0 → n' % 2 ≡ 1 → (v : SemPart) × (get_elem? vs id ≡ some v) × IsFirst v.task q
   pub reader : n / 4 % 2 ≡ 1 → first_mark marks (tasks q) ≡ 1 → (t : ℕ) → total (reads_as grants t) vs ≡ 0 → 0 < total (reads_as grants' t) us → (v : SemPart) × (get_elem? vs id ≡ some v) × (v.task ≡ Some t) × MayRead v
+  pub takes : n % 2 ≡ 0 → n' % 2 ≡ 1 → n' / 4 % 2 ≡ 0
   pub comes : ComesToRead id q grants vs grants' us
   pub ends : EndsReading id grants vs grants' us
   pub asks : n / 4 % 2 ≡ 0 → n' / 4 % 2 ≡ 1 → (v u : SemPart) × (get_elem? vs id ≡ some v) × (get_elem? us id ≡ some u) × MaySetHandoff q marks v u
   pub stays : n / 4 % 2 ≡ 1 → (n' / 4 % 2 ≡ 1) ⊎ AnswersHandoff id n q vs n' us
   pub marked : (t : ℕ) → get_or marks t 0 ≡ 0 → 0 < get_or marks' t 0 → (first_code q ≡ t + 1) × ((v : SemPart) × (get_elem? vs id ≡ some v) × MayMark n v)
+  pub unmarks : (t : ℕ) → 0 < get_or marks t 0 → get_or marks' t 0 ≡ 0 → (v : SemPart) × (get_elem? vs id ≡ some v) × MayUnmark v t
   pub marks_next : OfPass id vs us (MarksNext q marks')
+  pub to_mark : OfPass id vs us (ComesToMark n n')
+  pub reserves : OfPass id vs us (ReservesAt n)
   pub granted : GrantsNext id grants vs grants' us
   pub batch : OfPass id vs us (BatchGoes q grants')

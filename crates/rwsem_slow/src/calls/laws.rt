@@ -1,11 +1,16 @@
-//! What was so of a semaphore's wait lock at each moment, and what each step did to it.
-ghost use Rattle.std.specs.Prelude.{◌≡◌, [], ◌∷◌};
+//! What was so of a semaphore's wait lock and of its spin queue at each moment, and what each step
+//! did to them.
+ghost use Rattle.std.specs.Prelude.{◌≡◌, ℕ, List, [], ◌∷◌};
 ghost use Rattle.lock_core.specs.Locking.{Looks};
-ghost use Rattle.lock_core.specs.Pasts.{EachMoment, Ran, Tail};
+ghost use Rattle.lock_core.specs.Pasts.{BeganWith, EachMoment, Ran, Tail};
 ghost use Rattle.lock_core.specs.Shown.{IsLatestStep, PastGoesOn};
 ghost use Rattle.lock_core.specs.SpinStated.{IsSpinLockThen, IsSpinMove};
 ghost use Rattle.rwsem_slow.specs.Handles.{newest, plan_of, shown_of, SitsAt};
 ghost use Rattle.rwsem_slow.specs.RwSems.{standing, wait_lock_at};
+ghost use Rattle.rwsem_slow.specs.SpinQueues.{newest_queue, spinners_of, spun_of, HasOneFront, IsOutOfQueue, SpunGoesOn};
+ghost use Rattle.osq_nodes.specs.Places.{node_marks};
+ghost use Rattle.osq_nodes.specs.Ruled.{IsOsqMove};
+ghost use Rattle.osq_nodes.specs.Stated.{HasBecome, IsSpinQueue};
 
 use super::{RwPass, RwSem};
 use qspin_queue::recall_spin_lock;
@@ -27,5 +32,25 @@ impl<O: Object> RwSem<O> {
             (shown_of pass.new).past }
     {
         recall_spin_lock(&self.site, &mut pass.pass);
+    }
+
+    /// A load of the spin queue, after which the pass knows of each moment of that queue so far,
+    /// from the empty one on, who stood in it, and that one task at most was its front; how each
+    /// queue came of the one before; and what each step counted. The pass itself isn't in the
+    /// queue, and was its front as often as it says.
+    pub fn recall_spin_queue(&self, pass: &mut RwPass<O>)
+        requires own { SitsAt self.now pass.old }
+        ensures own { SitsAt self.now pass.new }
+        ensures goes_on { SpunGoesOn pass.old pass.new }
+        ensures kept { shown_of pass.new ≡ shown_of pass.old }
+        ensures begins { BeganWith (newest_queue self.now) (spun_of pass.new) }
+        ensures always { EachMoment (IsSpinQueue (spinners_of self.now)) (spun_of pass.new) }
+        ensures fronts { EachMoment HasOneFront (spun_of pass.new) }
+        ensures queues { (queue : List ℕ) × HasBecome (spun_of pass.new) queue }
+        ensures counts { Ran node_marks (newest_queue self.now) (IsOsqMove (spinners_of self.now))
+            (spun_of pass.new) }
+        ensures out { IsOutOfQueue pass.new }
+    {
+        self.osq.recall_queue(&mut pass.queue);
     }
 }
