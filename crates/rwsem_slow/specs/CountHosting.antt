@@ -19,7 +19,7 @@ use Rattle.wait_list.specs.declared.view.Waiter.{Waiter}
 use Rattle.rwsem_count.specs.declared.view.Bias.{Bias}
 use Rattle.rwsem_count.specs.Counts.{CountKept, CountMove, CountPart, HandStep, based, count_part, part, shared_weight}
 use Rattle.rwsem_wake.specs.declared.view.SemHand.{SemHand}
-use Rattle.rwsem_wake.specs.SemParts.{SemPart, busy_of, busy_weight, granted_at, granted_weight, granting_weight, here, named_weight, part_of, reads_of, reads_weight, reserve_weight}
+use Rattle.rwsem_wake.specs.SemParts.{SemPart, busy_of, busy_weight, granted_at, granted_weight, granting_weight, here, named_weight, part_of, reads_of, reads_weight}
 use Rattle.rwsem_wake.specs.Semaphores.{SemKept, SemPartOk, more_of}
 use Rattle.rwsem_wake.specs.Handoffs.{KeepsHandoff, Unasked, granting_at, reads_as}
 use Rattle.rwsem_wake.proofs.HandoffSteps.{PassGoes, hands-free, hands-reads, hands-step, own-comes}
@@ -40,9 +40,9 @@ map-set [] id u = refl
 map-set (p ∷ ps) zero u = refl
 map-set (p ∷ ps) (suc id) u = ap (λ (z : List CountPart). part_of p ∷ z) (map-set ps id u)
 
--- a step on the count that leaves WAITERS and HANDOFF, of a pass that waits as before and reserves no bias
+-- a step on the count that leaves WAITERS and HANDOFF, of a pass that waits as before
 module _ (ps : List SemPart) (id : ℕ) (v u : SemPart) (at : get_elem? ps id ≡ some v) (n m : ℕ) (q : List Waiter) (marks grants : List ℕ) (r : SemKept n q marks grants ps)
-    (task : u.task ≡ v.task) (wait : u.sem.wait ≡ v.sem.wait) (rest : u.sem.rest ≡ v.sem.rest) (stage : u.sem.stage ≡ v.sem.stage) (light : reserve_weight u.sem.bias ≡ 0) (move : CountMove n m (part_of v) (part_of u)) where
+    (task : u.task ≡ v.task) (wait : u.sem.wait ≡ v.sem.wait) (rest : u.sem.rest ≡ v.sem.rest) (stage : u.sem.stage ≡ v.sem.stage) (move : CountMove n m (part_of v) (part_of u)) where
   counts-kept : CountKept m (more_of grants ps) (set (map part_of ps) id (part_of u)) → SemPartOk u → SemKept m q marks grants (set ps id u)
   counts-kept count ok = let f = move.flags in sem-counts ps id v at u n m q marks grants r task wait rest stage (omega (arith, f)) (omega (arith, f)) (subst (CountKept m (more_of grants ps)) (sym (map-set ps id u)) count) ok
 
@@ -64,7 +64,7 @@ module _ (ps : List SemPart) (id : ℕ) (v u : SemPart) (at : get_elem? ps id �
 
       -- its shared hold may end
       goes : PassGoes n m q marks grants v u
-      goes = record { ends = λ t less. let a = granted t in let b = granting t in shared-at t v.task v.held (omega (arith, a, b, less)); batch = inl rest; next = λ e. inl (stage ∙ e); to_mark = λ e. inl (sym stage ∙ e); reserves = λ word e. let w : reserve_weight u.sem.bias ≡ 1 = ap reserve_weight e in absurd (omega (arith, w, light)) }
+      goes = record { ends = λ t less. let a = granted t in let b = granting t in shared-at t v.task v.held (omega (arith, a, b, less)); batch = inl rest; next = λ e. inl (stage ∙ e); to_mark = λ e. inl (sym stage ∙ e); found = move.bias }
         where
           shared-at : (t : ℕ) (task : Option ℕ) (held : Held) → 0 < named_weight t task (shared_weight held) → (task ≡ Some t) × (held ≡ Shared)
           shared-at t task No more = absurd (omega (arith, more))
@@ -123,8 +123,8 @@ module _ {Call : Type 0} (o : Obj Call) (size : ℕ) where
       let word : count_in (set ws count_at n) ≡ n = get_or-set_same ws count_at n 0 (omega (arith, wide)) in let marks = lines-else marks_at ws count_at n (λ t l e. omega (arith, e)) in let grants = lines-else grants_at ws count_at n (λ t l e. omega (arith, e)) in
       let words : sem_words (set ws count_at n) ≡ (n, marks_in ws, grants_in ws) = λ i. (word i, marks i, grants i) in let none : reads_of u ≡ 0 = ap reads_weight may.0 in let light = may.1 in let clear = may.2 in
       let ok : SemPartOk u = number-or-not h.task (λ out. absurd (step.numbered (sym step.task ∙ out))) (λ t has. ok-of u t has ((r.sem.each id (seen v) mine).rest) (omega (arith, none, light)) (omega (arith, clear)) (omega (arith, none, light)) (let l = transit-most b in omega (arith, light, l))) in
-      let kept = counts-kept ps id (seen v) u mine (count_in ws) n q (marks_in ws) (grants_in ws) r.sem step.task refl refl refl clear move (subst (λ (z : List CountPart). CountKept n (more_in k ws vs) (set z id (part h b))) (sym (same-parts vs)) count) ok in
-      let hands = number-or-not v.hand.task (λ out. absurd (step.numbered out)) (λ t has. counts-hands ps id (seen v) u mine (count_in ws) n q (marks_in ws) (grants_in ws) r.sem step.task refl refl refl clear move t has) in
+      let kept = counts-kept ps id (seen v) u mine (count_in ws) n q (marks_in ws) (grants_in ws) r.sem step.task refl refl refl move (subst (λ (z : List CountPart). CountKept n (more_in k ws vs) (set z id (part h b))) (sym (same-parts vs)) count) ok in
+      let hands = number-or-not v.hand.task (λ out. absurd (step.numbered out)) (λ t has. counts-hands ps id (seen v) u mine (count_in ws) n q (marks_in ws) (grants_in ws) r.sem step.task refl refl refl move t has) in
       sem-sems o size k ws vs q id count_at n v h s r at (omega arith) (omega arith) (λ l. absurd (omega (arith, l))) (r.locked id v at) (subst (HandStep v.hand h) (sym word) step)
       (subst (λ (z : SemWords). SemKept z.0 q z.1 z.2 (set ps id u)) (sym words) kept)
       (subst (λ (z : SemWords). KeepsHandoff id (count_in ws) q (marks_in ws) (grants_in ws) ps z.0 z.1 z.2 (set ps id u)) (sym words) hands) there

@@ -100,7 +100,7 @@ module _ (vs : List SemPart) (id : ℕ) (v : SemPart) (at : get_elem? vs id ≡ 
   no-more : (from : Stage) (s : SemHand) → v.sem.stage ≡ from → ((m : ℕ) → granting_weight from m ≡ 0) → marking from ≡ 0 → marking s.stage ≡ 0 → s.bias ≡ v.sem.bias → s.rest ≡ v.sem.rest → ((t : ℕ) → granted_at grants t v ≡ 0) → ((t : ℕ) → granted_at grants t (record v { sem = s }) ≡ 0) → ((t : ℕ) → granting_at t (record v { sem = s }) ≡ 0)
       → KeepsHandoff id n q marks grants vs n marks grants (set vs id (record v { sem = s }))
   no-more from s is none out later kept same was granted granting = hands-step id n q marks grants vs v (record v { sem = s }) at n marks (omega arith) (λ t. let a = granted t in let b = granting t in omega (arith, a, b)) (unasked-same n marks)
-      (pass-from q marks grants v (record v { sem = s }) from is none out (inl same) (λ t. let a = was t in omega (arith, a)) later (λ word e. inl (sym kept ∙ e)))
+      (pass-from q marks grants v (record v { sem = s }) from is none out (inl same) (λ t. let a = was t in omega (arith, a)) later (inl kept))
 
   pub enters-writer : (b : Bool) → bit b + some_of q ≡ 1 → v.sem.stage ≡ Rest → v.sem.wait ≡ Apart → Both (q ++ a_writer own ∷ []) (record v.sem { wait = Writes; stage = if b then First else Rest })
   enters-writer b empty stage wait = let s : SemHand = record v.sem { wait = Writes; stage = if b then First else Rest } in (
@@ -239,7 +239,7 @@ module _ (vs : List SemPart) (id : ℕ) (v : SemPart) (at : get_elem? vs id ≡ 
     where
       -- the batch goes on with this task
       grows : (from : Stage) → v.sem.stage ≡ from → ((m : ℕ) → granting_weight from m ≡ 0) → marking from ≡ 0 → PassGoes n n q marks grants v (record v { sem = picked t v.sem })
-      grows from is none out = pass-from q marks grants v (record v { sem = picked t v.sem }) from is none out (inr (inr (t, refl, picks))) (λ t. omega arith) refl (λ word e. inl e)
+      grows from is none out = pass-from q marks grants v (record v { sem = picked t v.sem }) from is none out (inr (inr (t, refl, picks))) (λ t. omega arith) refl (inl refl)
 
       goes : BatchMayGrow → PassGoes n n q marks grants v (record v { sem = picked t v.sem })
       goes (inl is) = grows Rest is (λ m. refl) refl

@@ -210,7 +210,7 @@ module _ {Call : Type 0} (o : Obj Call) (size : ℕ) where
           subst (λ (z : SemPart). Sem (sem_words ws) q (set (map seen vs) id z) × Hands id (sem_words ws) q (map seen vs) (sem_words ws) (set (map seen vs) id z)) (λ x. record { task = h.task; held = sym held x; sem = v.ext.sem }) (
             sem-renumbers (map seen vs) id (seen v) mine (count_in ws) q (marks_in ws) (grants_in ws) r.sem h.task none out,
             hands-step id (count_in ws) q (marks_in ws) (grants_in ws) (map seen vs) (seen v) u mine (count_in ws) (marks_in ws) (omega arith) (λ t. let e = nothing-reads (grants_in ws) t (seen v) h.task none out in omega (arith, e)) (unasked-same (count_in ws) (marks_in ws))
-                record { ends = λ t less. let e = nothing-reads (grants_in ws) t (seen v) v.hand.task none out in absurd (omega (arith, e, less)); batch = inl refl; next = λ e. inl e; to_mark = λ e. inl e; reserves = λ word e. inl e },
+                record { ends = λ t less. let e = nothing-reads (grants_in ws) t (seen v) v.hand.task none out in absurd (omega (arith, e, less)); batch = inl refl; next = λ e. inl e; to_mark = λ e. inl e; found = inl refl },
           )
 
       -- a pass keeps its number and how it holds
@@ -327,7 +327,7 @@ module _ {Call : Type 0} (o : Obj Call) (size : ℕ) where
       (keep_part seen (λ (z : List SemPart). Hands id (sem_words ws) q (map seen vs) (sem_words ws) (z ++ nobody ∷ [])) vs id v (ticked v) at refl
       (hands-still id n q (marks_in ws) (grants_in ws) (map seen vs) n (marks_in ws) (grants_in ws) (map seen vs ++ nobody ∷ []) (omega arith) (λ t. let a = total-snoc (reads_as (grants_in ws) t) (map seen vs) nobody in omega (arith, a)) (unasked-same n (marks_in ws)) (λ t more none. absurd (omega (arith, more, none)))
       (λ x y at at'. inl (ap (λ (z : SemPart). z.sem.rest) (still-it x y at at'))) (λ x y at at' e. inl (ap (λ (z : SemPart). z.sem.stage) (still-it x y at at') ∙ e))
-      (λ x y at at' e. inl (ap (λ (z : SemPart). z.sem.stage) (sym (still-it x y at at')) ∙ e)) (λ x y at at' word e. inl (ap (λ (z : SemPart). z.sem.bias) (sym (still-it x y at at')) ∙ e))))) refl refl refl
+      (λ x y at at' e. inl (ap (λ (z : SemPart). z.sem.stage) (sym (still-it x y at at')) ∙ e)) (λ x y at at'. inl (ap (λ (z : SemPart). z.sem.bias) (still-it x y at at')))))) refl refl refl
     where
       beside : (ps : List SemPart) (x : SemPart) (j : ℕ) → get_elem? ps j ≡ some x → get_elem? (ps ++ nobody ∷ []) j ≡ some x
       beside [] x j at = absurd (some-ne-none x (sym at))

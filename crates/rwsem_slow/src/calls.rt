@@ -134,13 +134,13 @@ impl<O: Object> RwSem<O> {
     /// it, and whether tasks wait; and what each step did: the list changes by one append or one
     /// removal, which is the waiter's own or that of a waker whose batch goes on with it; and while
     /// the first waiter is marked and HANDOFF is set, it alone may come to write, and a task comes
-    /// to read only by a bias of which its pass keeps that it saw no HANDOFF, or by a downgrade. At
-    /// any time a task comes to read by a step of its own pass, or in a waker's batch that leaves
-    /// no reader in the list, and reads until its own pass ends its shared hold. HANDOFF and marks,
-    /// which are the first waiter's, are set under the wait lock, by a waker or by a writer of the
-    /// list, which is then to mark; a mark is cleared by its own waiter, or by a waker whose batch
-    /// has it next. A batch is granted in the order in which it was picked. The pass itself waits
-    /// for nothing.
+    /// to read only by a bias whose addition saw no HANDOFF, or by a downgrade; a bias keeps the
+    /// count that its addition found. At any time a task comes to read by a step of its own pass,
+    /// or in a waker's batch that leaves no reader in the list, and reads until its own pass ends
+    /// its shared hold. HANDOFF and marks, which are the first waiter's, are set under the wait
+    /// lock, by a waker or by a writer of the list, which is then to mark; a mark is cleared by its
+    /// own waiter, or by a waker whose batch has it next. A batch is granted in the order in which
+    /// it was picked. The pass itself waits for nothing.
     pub fn recall(&self, pass: &mut RwPass<O>)
         requires own { SitsAt self.now pass.old }
         ensures own { SitsAt self.now pass.new }

@@ -10,18 +10,18 @@ use Rattle.lock_core.specs.Totals.{total, total-set, total-same, total-at}
 use Rattle.wait_list.specs.declared.view.Waiter.{Waiter}
 use Rattle.wait_list.specs.Lists.{first_code}
 use Rattle.rwsem_count.specs.declared.view.Bias.{Bias}
-use Rattle.rwsem_count.specs.declared.view.Bias.TheVariants.{Clear, Transit, Reserve}
+use Rattle.rwsem_count.specs.declared.view.Bias.TheVariants.{Clear}
 use Rattle.rwsem_count.specs.Counts.{shared_weight}
 use Rattle.rwsem_wake.specs.declared.view.Wait.TheVariants.{Apart, Reads}
 use Rattle.rwsem_wake.specs.declared.view.Stage.{Stage}
 use Rattle.rwsem_wake.specs.declared.view.Stage.TheVariants.{Marking, Counted, Granting}
-use Rattle.rwsem_wake.specs.SemParts.{SemPart, named_weight, granting_weight, is_zero, granted_at, reads_at, reserve_weight, rest_at, here, first_mark, reader_of, tasks, busy_of}
+use Rattle.rwsem_wake.specs.SemParts.{SemPart, named_weight, granting_weight, is_zero, granted_at, reads_at, rest_at, here, first_mark, reader_of, tasks, busy_of}
 use Rattle.rwsem_wake.specs.Semaphores.{IsFirst, FlagsAt, SemKept}
 use Rattle.rwsem_wake.proofs.Sums.{mine-of, set-mine}
 use Rattle.rwsem_wake.proofs.Places.{first-least, granted-all, grant-here, grant-else, here-mine, here-else}
 use Rattle.rwsem_wake.proofs.WakeLaws.{batched, biased, holding}
 use Rattle.rwsem_wake.proofs.QueueLaws.{granted-at-w}
-use Rattle.rwsem_wake.specs.Handoffs.{shared_at, granting_at, reads_as, BatchGoes, ComesToMark, ComesToRead, EndsReading, GrantsNext, KeepsHandoff, MarksNext, MayMark, MayRead, MaySetHandoff, MayUnmark, OfPass, ReservesAt, Unasked}
+use Rattle.rwsem_wake.specs.Handoffs.{shared_at, granting_at, reads_as, BatchGoes, ComesToMark, ComesToRead, EndsReading, GrantsNext, KeepsHandoff, MarksNext, MayMark, MayRead, MaySetHandoff, MayUnmark, OfPass, KeepsFound, Unasked}
 
 -- flag and marks stay
 pub unasked-same : (n : ℕ) (marks : List ℕ) → Unasked n marks n marks
@@ -52,48 +52,38 @@ pub is-marking : (s : Stage) → 0 < marking s → s ≡ Marking
 is-marking Marking more = refl
 is-marking _ more = absurd (omega (arith, more))
 
--- the word that is kept with a bias
-abbrev pub word_in : Bias → ℕ
-word_in Clear = 0
-word_in (Transit word) = word
-word_in (Reserve word) = word
-
--- a bias that goes is no reserved one
-pub clear-word : {n : ℕ} {a : Bias} (word : ℕ) → Clear ≡ Reserve word → (a ≡ Reserve word) ⊎ ((a ≡ Clear) × (word ≡ n))
-clear-word {n} {a} word e = let z : 0 ≡ 1 = ap reserve_weight e in absurd (omega (arith, z))
-
--- what a step that clears no grant word makes of its pass: its task reads on, or its shared hold ends; its batch goes on, and so it does as the one that is to mark, which it comes to be by setting HANDOFF; and a bias that it reserves keeps the count that was there
+-- what a step that clears no grant word makes of its pass: its task reads on, or its shared hold ends; its batch goes on, and so it does as the one that is to mark, which it comes to be by setting HANDOFF; and a bias that it adds keeps the count that was there
 pub record PassGoes (n n' : ℕ) (q : List Waiter) (marks' grants : List ℕ) (v u : SemPart) : Type 0 where
   pub ends : (t : ℕ) → reads_as grants t u < reads_as grants t v → (v.task ≡ Some t) × (v.held ≡ Shared)
   pub batch : BatchGoes q grants v u
   pub next : MarksNext q marks' v u
   pub to_mark : ComesToMark n n' v u
-  pub reserves : ReservesAt n v u
+  pub found : KeepsFound n v u
 
 -- nothing becomes of it
 pub pass-same : {n n' : ℕ} (q : List Waiter) (marks' grants : List ℕ) (v : SemPart) → PassGoes n n' q marks' grants v v
-pass-same {n} {n'} q marks' grants v = record { ends = λ t less. absurd (omega (arith, less)); batch = inl refl; next = λ e. inl e; to_mark = λ e. inl e; reserves = λ word e. inl e }
+pass-same {n} {n'} q marks' grants v = record { ends = λ t less. absurd (omega (arith, less)); batch = inl refl; next = λ e. inl e; to_mark = λ e. inl e; found = inl refl }
 
 -- it was at a stage at which no batch of its is in the count, and it isn't to mark, before or behind the step
 pub pass-from : {n n' : ℕ} (q : List Waiter) (marks' grants : List ℕ) (v u : SemPart) (from : Stage) → v.sem.stage ≡ from → ((m : ℕ) → granting_weight from m ≡ 0) → marking from ≡ 0 → BatchGoes q grants v u
-    → ((t : ℕ) → shared_at t v + granted_at grants t v ≤ shared_at t u + granted_at grants t u) → marking u.sem.stage ≡ 0 → ReservesAt n v u → PassGoes n n' q marks' grants v u
+    → ((t : ℕ) → shared_at t v + granted_at grants t v ≤ shared_at t u + granted_at grants t u) → marking u.sem.stage ≡ 0 → KeepsFound n v u → PassGoes n n' q marks' grants v u
 pass-from {n} {n'} q marks' grants v u from is none out batch reads later word = record {
   ends = λ t less. let g : granting_at t v ≡ 0 = ap (λ (z : Stage). granting_weight z (here t v.sem.rest)) is ∙ none (here t v.sem.rest) in let k = reads t in absurd (omega (arith, less, g, k));
   batch = batch;
   next = λ e. let a = ap marking e in let b = ap marking is in absurd (omega (arith, a, b, out));
   to_mark = λ e. let a = ap marking e in absurd (omega (arith, a, later));
-  reserves = word;
+  found = word;
 }
 
 -- so it was, and only its bias and stage change
-pub pass-turns : {n n' : ℕ} (q : List Waiter) (marks' grants : List ℕ) (v : SemPart) (b : Bias) (from to : Stage) → v.sem.stage ≡ from → ((m : ℕ) → granting_weight from m ≡ 0) → marking from ≡ 0 → marking to ≡ 0 → ReservesAt n v (biased v b to) → PassGoes n n' q marks' grants v (biased v b to)
+pub pass-turns : {n n' : ℕ} (q : List Waiter) (marks' grants : List ℕ) (v : SemPart) (b : Bias) (from to : Stage) → v.sem.stage ≡ from → ((m : ℕ) → granting_weight from m ≡ 0) → marking from ≡ 0 → marking to ≡ 0 → KeepsFound n v (biased v b to) → PassGoes n n' q marks' grants v (biased v b to)
 pass-turns {n} {n'} q marks' grants v b from to is none out later word = pass-from q marks' grants v (biased v b to) from is none out (inl refl) (λ t. omega arith) later word
 
 module _ (id n : ℕ) (q : List Waiter) (marks grants : List ℕ) (vs : List SemPart) where
   -- nobody sets the writer bit, and the same tasks read
   pub hands-still : (n' : ℕ) (marks' grants' : List ℕ) (us : List SemPart) → n' % 2 ≤ n % 2 → ((t : ℕ) → total (reads_as grants' t) us ≡ total (reads_as grants t) vs) → Unasked n marks n' marks' → GrantsNext id grants vs grants' us → OfPass id vs us (BatchGoes q grants') → OfPass id vs us (MarksNext q marks')
-      → OfPass id vs us (ComesToMark n n') → OfPass id vs us (ReservesAt n) → KeepsHandoff id n q marks grants vs n' marks' grants' us
-  hands-still n' marks' grants' us low same un granted batch next to_mark reserves = record {
+      → OfPass id vs us (ComesToMark n n') → OfPass id vs us (KeepsFound n) → KeepsHandoff id n q marks grants vs n' marks' grants' us
+  hands-still n' marks' grants' us low same un granted batch next to_mark found = record {
     writer = λ h m a b. absurd (omega (arith, a, b, low));
     reader = λ h m t z l. let x = same t in absurd (omega (arith, x, z, l));
     takes = λ a b. absurd (omega (arith, a, b, low));
@@ -105,7 +95,7 @@ module _ (id n : ℕ) (q : List Waiter) (marks grants : List ℕ) (vs : List Sem
     unmarks = λ t more none. let x = un.1 t in absurd (omega (arith, x, more, none));
     marks_next = next;
     to_mark = to_mark;
-    reserves = reserves;
+    found = found;
     granted = granted;
     batch = batch;
   }
@@ -114,7 +104,7 @@ module _ (id n : ℕ) (q : List Waiter) (marks grants : List ℕ) (vs : List Sem
   pub hands-none : KeepsHandoff id n q marks grants vs n marks grants vs
   hands-none = hands-still n marks grants vs (omega arith) (λ t. refl) (unasked-same n marks) (λ t more none. absurd (omega (arith, more, none)))
       (λ v u at at'. inl (ap (λ (x : SemPart). x.sem.rest) (some-injective u v (sym at' ∙ at)))) (λ v u at at' e. inl (ap (λ (x : SemPart). x.sem.stage) (some-injective u v (sym at' ∙ at)) ∙ e))
-      (λ v u at at' e. inl (ap (λ (x : SemPart). x.sem.stage) (some-injective v u (sym at ∙ at')) ∙ e)) (λ v u at at' word e. inl (ap (λ (x : SemPart). x.sem.bias) (some-injective v u (sym at ∙ at')) ∙ e))
+      (λ v u at at' e. inl (ap (λ (x : SemPart). x.sem.stage) (some-injective v u (sym at ∙ at')) ∙ e)) (λ v u at at'. inl (ap (λ (x : SemPart). x.sem.bias) (some-injective u v (sym at' ∙ at))))
 
   module _ (v u : SemPart) (at : get_elem? vs id ≡ some v) where
     -- what is so of the two parts of the pass
@@ -136,8 +126,8 @@ module _ (id n : ℕ) (q : List Waiter) (marks grants : List ℕ) (vs : List Sem
     mark-by : {n' : ℕ} {marks' : List ℕ} → PassGoes n n' q marks' grants v u → OfPass id vs (set vs id u) (ComesToMark n n')
     mark-by {n'} {marks'} goes = of-pass (ComesToMark n n') goes.to_mark
 
-    reserves-by : {n' : ℕ} {marks' : List ℕ} → PassGoes n n' q marks' grants v u → OfPass id vs (set vs id u) (ReservesAt n)
-    reserves-by {n'} {marks'} goes = of-pass (ReservesAt n) goes.reserves
+    found-by : {n' : ℕ} {marks' : List ℕ} → PassGoes n n' q marks' grants v u → OfPass id vs (set vs id u) (KeepsFound n)
+    found-by {n'} {marks'} goes = of-pass (KeepsFound n) goes.found
 
     -- no handoff, or nobody is marked
     pub hands-free : (n' : ℕ) → (n / 4 % 2 ≡ 0) ⊎ ((first_mark marks (tasks q) ≡ 0) × (n' % 2 ≤ n % 2)) → Unasked n marks n' marks → ComesToRead id q grants vs grants (set vs id u) → PassGoes n n' q marks grants v u → KeepsHandoff id n q marks grants vs n' marks grants (set vs id u)
@@ -153,7 +143,7 @@ module _ (id n : ℕ) (q : List Waiter) (marks grants : List ℕ) (vs : List Sem
       reader = λ h m _ _ _. absurd (elim none [ inl z ↦ omega (arith, z, h) | inr z ↦ (let x = z.0 in omega (arith, x, m)) ]);
       marks_next = next-by goes;
       to_mark = mark-by goes;
-      reserves = reserves-by goes;
+      found = found-by goes;
       granted = grants-none;
       batch = batch-by goes;
     }
@@ -172,7 +162,7 @@ module _ (id n : ℕ) (q : List Waiter) (marks grants : List ℕ) (vs : List Sem
       unmarks = λ t more none. let x = un.1 t in absurd (omega (arith, x, more, none));
       marks_next = next-by goes;
       to_mark = mark-by goes;
-      reserves = reserves-by goes;
+      found = found-by goes;
       granted = grants-none;
       batch = batch-by goes;
     }
@@ -191,7 +181,7 @@ module _ (id n : ℕ) (q : List Waiter) (marks grants : List ℕ) (vs : List Sem
       unmarks = λ s more none. dite (ℕ_discrete s t) (λ is. (v, at, subst (MayUnmark v) (sym is) may)) (λ not. let e = get_or-set_other marks t s 0 0 not in absurd (omega (arith, e, more, none)));
       marks_next = next-by goes;
       to_mark = mark-by goes;
-      reserves = reserves-by goes;
+      found = found-by goes;
       granted = grants-none;
       batch = batch-by goes;
     }
@@ -210,7 +200,7 @@ module _ (id n : ℕ) (q : List Waiter) (marks grants : List ℕ) (vs : List Sem
       unmarks = λ t more none. let x = stay t more in absurd (omega (arith, x, none));
       marks_next = next-by goes;
       to_mark = mark-by goes;
-      reserves = reserves-by goes;
+      found = found-by goes;
       granted = grants-none;
       batch = batch-by goes;
     }
@@ -229,7 +219,7 @@ module _ (id n : ℕ) (q : List Waiter) (marks grants : List ℕ) (vs : List Sem
       unmarks = λ t more gone. absurd (omega (arith, more, gone));
       marks_next = next-by goes;
       to_mark = mark-by goes;
-      reserves = reserves-by goes;
+      found = found-by goes;
       granted = grants-none;
       batch = batch-by goes;
     }
@@ -256,7 +246,7 @@ module _ (id n : ℕ) (q : List Waiter) (marks grants : List ℕ) (vs : List Sem
       ends = ends-by goes;
       marks_next = next-by goes;
       to_mark = mark-by goes;
-      reserves = reserves-by goes;
+      found = found-by goes;
       granted = grants-none;
       batch = batch-by goes;
     }
@@ -275,7 +265,7 @@ module _ (id n : ℕ) (q : List Waiter) (marks grants : List ℕ) (vs : List Sem
       ends = ends-by goes;
       marks_next = next-by goes;
       to_mark = mark-by goes;
-      reserves = reserves-by goes;
+      found = found-by goes;
       granted = grants-none;
       batch = batch-by goes;
     }
@@ -284,7 +274,7 @@ module _ (id n : ℕ) (q : List Waiter) (marks grants : List ℕ) (vs : List Sem
 pub hands-sums : (id n n' : ℕ) (q : List Waiter) (marks grants : List ℕ) (vs : List SemPart) (v : SemPart) (b : Bool) → SemKept n q marks grants vs → (at : get_elem? vs id ≡ some v) → total busy_of vs ≡ busy_of v → v.sem.stage ≡ Counted b → 0 < length v.sem.rest → n' / 4 % 2 ≤ n / 4 % 2 → n' % 2 ≤ n % 2
     → KeepsHandoff id n q marks grants vs n' marks grants (set vs id (biased v Clear Granting))
 hands-sums id n n' q marks grants vs v b r at only stage more answered low = let f : FlagsAt (Counted b) v.task v.sem.rest (n / 2 % 2) (n / 4 % 2) q marks grants = subst (λ (z : Stage). FlagsAt z v.task v.sem.rest (n / 2 % 2) (n / 4 % 2) q marks grants) stage (mine-of (n / 2 % 2) (n / 4 % 2) q marks grants vs id v at only r.flags) in
-    let z = f.1 in let l = first-least marks (tasks q) in let u : SemPart = biased v Clear Granting in let goes : PassGoes n n' q marks grants v u = pass-turns q marks grants v Clear (Counted b) Granting stage (λ m. refl) refl refl clear-word in
+    let z = f.1 in let l = first-least marks (tasks q) in let u : SemPart = biased v Clear Granting in let goes : PassGoes n n' q marks grants v u = pass-turns q marks grants v Clear (Counted b) Granting stage (λ m. refl) refl refl (inr (inl refl)) in
     let other : v.sem.stage ≢ Granting = λ e. let w : granting_weight (Counted b) 1 ≡ 1 = ap (λ (s : Stage). granting_weight s 1) (sym stage ∙ e) in absurd (omega (arith, w)) in record {
       comes = batch-comes id n q marks grants vs v u at (λ t. omega arith) f.3;
       ends = ends-by id n q marks grants vs v u at goes;
@@ -297,7 +287,7 @@ hands-sums id n n' q marks grants vs v b r at only stage more answered low = let
       unmarks = λ t more gone. absurd (omega (arith, more, gone));
       marks_next = next-by id n q marks grants vs v u at goes;
       to_mark = mark-by id n q marks grants vs v u at goes;
-      reserves = reserves-by id n q marks grants vs v u at goes;
+      found = found-by id n q marks grants vs v u at goes;
       granted = grants-none id n q marks grants vs v u at;
       batch = batch-by id n q marks grants vs v u at goes;
     }
@@ -317,7 +307,7 @@ hands-grants id n t ts s q marks grants vs v r at stage rest whole out one insid
     (of-pass id n q marks grants vs v u at (BatchGoes q grants') (inr (inl (t, stage, rest, get_or-set_same grants t 0 0 inside))))
     (of-pass id n q marks grants vs v u at (MarksNext q marks) (λ e. let m = ap marking (sym stage ∙ e) in absurd (omega (arith, m))))
     (of-pass id n q marks grants vs v u at (ComesToMark n n) (λ e. let m = ap marking e in absurd (omega (arith, m, out))))
-    (of-pass id n q marks grants vs v u at (ReservesAt n) (λ word e. inl e))
+    (of-pass id n q marks grants vs v u at (KeepsFound n) (inl refl))
   where
     u : SemPart
     u = batched v ts s
@@ -347,7 +337,7 @@ hands-grants id n t ts s q marks grants vs v r at stage rest whole out one insid
 -- a queued reader that finds its grant word 0 was a reader
 pub hands-granted : (id n own : ℕ) (q : List Waiter) (marks grants : List ℕ) (vs : List SemPart) (v : SemPart) → get_elem? vs id ≡ some v → v.task ≡ Some own → v.sem.wait ≡ Reads → v.held ≡ No → get_or grants own 0 ≡ 0
     → KeepsHandoff id n q marks grants vs n marks grants (set vs id (holding v Shared (record v.sem { wait = Apart })))
-hands-granted id n own q marks grants vs v at has wait out zero_it = hands-step id n q marks grants vs v u at n marks (omega arith) (λ t. let e = same t in omega (arith, e)) (unasked-same n marks) record { ends = λ t less. let e = same t in absurd (omega (arith, e, less)); batch = inl refl; next = λ e. inl e; to_mark = λ e. inl e; reserves = λ word e. inl e }
+hands-granted id n own q marks grants vs v at has wait out zero_it = hands-step id n q marks grants vs v u at n marks (omega arith) (λ t. let e = same t in omega (arith, e)) (unasked-same n marks) record { ends = λ t less. let e = same t in absurd (omega (arith, e, less)); batch = inl refl; next = λ e. inl e; to_mark = λ e. inl e; found = inl refl }
   where
     u : SemPart
     u = holding v Shared (record v.sem { wait = Apart })

@@ -33,7 +33,7 @@ use Rattle.rwsem_wake.proofs.Places.{first-least, some-length}
 use Rattle.rwsem_wake.proofs.WakeLaws.{staged, ok-of}
 use Rattle.rwsem_wake.proofs.QueueLaws.{granted-w, mine-at, sem-backs, sem-granted, sem-stages}
 use Rattle.rwsem_wake.proofs.HandoffLaws.{sem-sets, sem-takes, sem-unmarks-own, sem-clears, sem-asks-write, sem-marks}
-use Rattle.rwsem_wake.proofs.HandoffSteps.{PassGoes, clear-word, first-marked, marking, marks-stay, pass-from, pass-same, pass-turns, hands-asks, hands-empties, hands-free, hands-granted, hands-step, hands-takes, hands-unmarks, own-comes, unasked-same}
+use Rattle.rwsem_wake.proofs.HandoffSteps.{PassGoes, first-marked, marking, marks-stay, pass-from, pass-same, pass-turns, hands-asks, hands-empties, hands-free, hands-granted, hands-step, hands-takes, hands-unmarks, own-comes, unasked-same}
 use Rattle.rwsem_wake.proofs.FirstLaws.{light-of, sem-arms-again, sem-clears-first, sem-first-clear, sem-own-clear, sem-rests}
 use Rattle.rwsem_wake.proofs.Flags.{sets_waiters, clears_waiters}
 use Rattle.rwsem_wake.proofs.Stepping.{Local, with_hand}
@@ -59,7 +59,7 @@ module _ (sees : List SemPart) (id : ℕ) (v : SemPart) (known : Part) (n : ℕ)
 
   -- its stage turns to this one
   turns : {n' : ℕ} (marks' : List ℕ) (from to : Stage) → v.sem.stage ≡ from → ((m : ℕ) → granting_weight from m ≡ 0) → marking from ≡ 0 → marking to ≡ 0 → PassGoes n n' q marks' grants v (staged v to)
-  turns {n'} marks' from to is none out later = pass-turns q marks' grants v v.sem.bias from to is none out later (λ word e. inl e)
+  turns {n'} marks' from to is none out later = pass-turns q marks' grants v v.sem.bias from to is none out later (inl refl)
 
   -- it clears a mark that it may clear
   clears-mark : (t : ℕ) (s : Stage) → (v.task ≡ Some t) → t < 64 → ((m : ℕ) → granting_weight s m ≡ 0) → PassGoes n n q (set marks t 0) grants v (staged v s) → KeepsHandoff id n q marks grants sees n (set marks t 0) grants (set sees id (staged v s))
@@ -84,7 +84,7 @@ module _ (sees : List SemPart) (id : ℕ) (v : SemPart) (known : Part) (n : ℕ)
   on-back m by b stage bias is = let l = small in let one : early_of v + late_of v ≡ 1 = ap (λ (z : Bias). early_weight z + late_weight z) bias ∙ (let e : (1 - m % 2) + m % 2 ≡ 1 = omega arith in e) in
       let F = part-least early_in sees id v loc.mine in let L = part-least late_in sees id v loc.mine in let rf = loc.kept.count.field in let g : 256 ≤ n = omega (arith, one, F, L, rf) in
       let o = bit-most b in let n' : ℕ = word_after (Sub by) n in let sum : n' + 256 ≡ n + 2 * bit b = omega (arith, l, g, is, o) in (
-        (sem-backs sees id v loc.mine n q marks grants loc.kept own has n' m b only stage bias sum, hands-step id n q marks grants sees v (with_hand v (unreserved v.sem)) loc.mine n' marks (omega (arith, sum)) (λ t. omega arith) (let x = unset b stage in omega (arith, sum, x), λ t. omega arith) (pass-turns q marks grants v Clear (Joining b) Rest stage (λ m. refl) refl refl clear-word)),
+        (sem-backs sees id v loc.mine n q marks grants loc.kept own has n' m b only stage bias sum, hands-step id n q marks grants sees v (with_hand v (unreserved v.sem)) loc.mine n' marks (omega (arith, sum)) (λ t. omega arith) (let x = unset b stage in omega (arith, sum, x), λ t. omega arith) (pass-turns q marks grants v Clear (Joining b) Rest stage (λ m. refl) refl refl (inr (inl refl)))),
         loc.lawful,
         g,
       )
@@ -101,7 +101,7 @@ module _ (sees : List SemPart) (id : ℕ) (v : SemPart) (known : Part) (n : ℕ)
   pub on-ask-write : (old new : ℕ) → v.sem.stage ≡ Rest → v.sem.wait ≡ Writes → (HasHandoff old → ⊥) → new ≡ old + 4 → Knows known → 1 ≤ length known.1.list → After (word_after (Exchange old new) n) marks grants (asked v.sem old n) × IsLawfulCount n
   on-ask-write old new stage writes unasked is knows some_there = dite (ℕ_discrete n old)
       (λ found. let not : n / 4 % 2 ≢ 1 = λ e. unasked (ap (λ (x : ℕ). x / 4 % 2) (sym found) ∙ e) in let z : n / 4 % 2 ≡ 0 = omega (arith, not) in
-      let goes : PassGoes n (n + 4) q marks grants v (staged v Marking) = record { ends = λ t less. absurd (let g : granting_at t v ≡ 0 = ap (λ (x : Stage). granting_weight x (here t v.sem.rest)) stage in omega (arith, g, less)); batch = inl refl; next = λ _. inl refl; to_mark = λ _. inr (z, omega (arith, z)); reserves = λ word e. inl e } in
+      let goes : PassGoes n (n + 4) q marks grants v (staged v Marking) = record { ends = λ t less. absurd (let g : granting_at t v ≡ 0 = ap (λ (x : Stage). granting_weight x (here t v.sem.rest)) stage in omega (arith, g, less)); batch = inl refl; next = λ _. inl refl; to_mark = λ _. inr (z, omega (arith, z)); found = inl refl } in
       subst (λ (b : Bool). After (if b then new else n) marks grants (if b then record v.sem { stage = Marking } else v.sem) × IsLawfulCount n) (sym (eq-eqb n old found)) (
         subst (λ (x : ℕ). After x marks grants (record v.sem { stage = Marking })) (ap (λ (x : ℕ). x + 4) found ∙ sym is)
             (sem-asks-write sees id v loc.mine n q marks grants loc.kept own has only z (there knows some_there) stage, hands-asks id n q marks grants sees v (staged v Marking) loc.mine (n + 4) marks (omega arith) (λ t. omega arith) (λ _ _. inr (writes, refl)) (λ _. omega (arith, z)) (λ t none more. absurd (omega (arith, none, more))) (λ t more. more) goes),
@@ -114,7 +114,7 @@ module _ (sees : List SemPart) (id : ℕ) (v : SemPart) (known : Part) (n : ℕ)
   on-mark-asked t stage writes clear knows code few = let x = head-is q t (ap first_code (sym (loc.list knows)) ∙ code) in let wide = loc.marks_wide in
       let set_it : n / 4 % 2 ≡ 1 = (mine-at sees id v loc.mine n q marks grants loc.kept own has Marking only stage).1 in
       let first : first_mark (set marks t 1) (tasks q) ≡ 1 = ap (λ (z : List Waiter). first_mark (set marks t 1) (tasks z)) x.2 ∙ (ap (λ (z : ℕ). get_or (set marks t 1) z 0) x.3 ∙ get_or-set_same marks t 1 0 (omega (arith, few, wide))) in
-      let goes : PassGoes n n q (set marks t 1) grants v (staged v Rest) = record { ends = λ s less. let g : granting_at s v ≡ 0 = ap (λ (z : Stage). granting_weight z (here s v.sem.rest)) stage in absurd (omega (arith, g, less)); batch = inl refl; next = λ _. inr first; to_mark = λ e. let m = ap marking e in absurd (omega (arith, m)); reserves = λ word e. inl e } in (
+      let goes : PassGoes n n q (set marks t 1) grants v (staged v Rest) = record { ends = λ s less. let g : granting_at s v ≡ 0 = ap (λ (z : Stage). granting_weight z (here s v.sem.rest)) stage in absurd (omega (arith, g, less)); batch = inl refl; next = λ _. inr first; to_mark = λ e. let m = ap marking e in absurd (omega (arith, m)); found = inl refl } in (
         subst (λ (z : ℕ). SemKept n q (set marks z 1) grants (set sees id (staged v Rest))) x.3 (sem-marks sees id v loc.mine n q marks grants loc.kept own has only x.0 x.1 stage (light-of v own has clear n q marks grants sees id loc.kept loc.mine) x.2 (let e = x.3 in omega (arith, e, few, wide))),
         hands-asks id n q marks grants sees v (staged v Rest) loc.mine n (set marks t 1) (omega arith) (λ s. omega arith) (λ z o. absurd (omega (arith, z, o))) (λ set_it. set_it) (λ s none more. (first-marked marks q t (ap first_code (sym (loc.list knows)) ∙ code) s none more, inr (writes, stage, set_it))) (marks-stay marks t (omega (arith, few, wide))) goes,
       )
@@ -227,7 +227,7 @@ module _ (sees : List SemPart) (id : ℕ) (v : SemPart) (known : Part) (n : ℕ)
             | inr is ↦ sem-takes sees id v loc.mine n q marks grants loc.kept own has only new (bit alone) (readers-free found) (writer-free found) (sum-by alone found flags) ab.0 ab.1 (there knows some_there) is.0 out m
           ],
           hands-takes id n q marks grants sees v u loc.mine new (elim m [ inl first ↦ inl (subst (λ (z : Option ℕ). IsFirst z q) (sym has) first) | inr z ↦ inr z ]) (λ t. omega arith) flags.handoff_is (writer-free found) flags.writer_is
-              (elim may [ inl is ↦ pass-from q marks grants v u Summing is (λ m. refl) refl (inl refl) (λ t. let z = shares-none t in omega (arith, z)) refl (λ word e. inl e) | inr is ↦ pass-from q marks grants v u Rest is.0 (λ m. refl) refl (inl refl) (λ t. let z = shares-none t in omega (arith, z)) refl (λ word e. inl e) ]),
+              (elim may [ inl is ↦ pass-from q marks grants v u Summing is (λ m. refl) refl (inl refl) (λ t. let z = shares-none t in omega (arith, z)) refl (inl refl) | inr is ↦ pass-from q marks grants v u Rest is.0 (λ m. refl) refl (inl refl) (λ t. let z = shares-none t in omega (arith, z)) refl (inl refl) ]),
         )
 
   -- a reader whose bias is in the count sees no writer, under the wait lock with an empty list
@@ -242,7 +242,7 @@ module _ (sees : List SemPart) (id : ℕ) (v : SemPart) (known : Part) (n : ℕ)
             (count-keeps sees id v u loc.mine n m (more_of grants sees) loc.kept.count (inl free) out bias refl refl)
             (ok-of u own has (λ _. (loc.kept.each id v loc.mine).rest (ap batch_weight stage)) (omega (arith, r0)) (omega arith) (omega (arith, r0)) (omega arith)),
         hands-free id n q marks grants sees v u loc.mine n (inr (ap (λ (z : List Waiter). first_mark marks (tasks z)) (sym (loc.list knows) ∙ none), omega arith)) (unasked-same n marks) (own-comes id n q marks grants sees v u loc.mine own has (λ t not. let z : shared_at t u ≡ 0 = ap (is_number t) has ∙ is_number-else t own (λ e. not (sym e)) in omega (arith, z)))
-            (pass-from q marks grants v u Rest stage (λ m. refl) refl (inl refl) (λ t. let z : shared_at t v ≡ 0 = ap (λ (h : Held). named_weight t v.task (shared_weight h)) out in omega (arith, z)) (ap marking stage) clear-word),
+            (pass-from q marks grants v u Rest stage (λ m. refl) refl (inl refl) (λ t. let z : shared_at t v ≡ 0 = ap (λ (h : Held). named_weight t v.task (shared_weight h)) out in omega (arith, z)) (ap marking stage) (inr (inl refl))),
       )
 
 -- a queued reader loads its grant word, with or without the wait lock
@@ -276,6 +276,6 @@ module _ (sees : List SemPart) (id : ℕ) (v : SemPart) (known : Part) (n : ℕ)
   on-hear-locked only = let m : ℕ = get_or grants own 0 in dite (ℕ_discrete m 0)
       (λ zero_it. subst (λ (b : Bool). Heard (if b then Shared else No) (if b then record v.sem { wait = Apart } else record v.sem { stage = Armed }) × (b ≡ true → Shares)) (sym (eq-eqb m 0 zero_it)) (holds zero_it, λ _. shares zero_it))
       (λ other. subst (λ (b : Bool). Heard (if b then Shared else No) (if b then record v.sem { wait = Apart } else record v.sem { stage = Armed }) × (b ≡ true → Shares)) (sym (ne_eqb m 0 other)) (
-        subst (λ (z : Held). Heard z (record v.sem { stage = Armed })) out (heard-by v.held (record v.sem { stage = Armed }) (sem-arms-again sees id v loc.mine n q marks grants loc.kept own has only stage clear (omega (arith, other))) (hands-step id n q marks grants sees v (staged v Armed) loc.mine n marks (omega arith) (λ t. omega arith) (unasked-same n marks) (pass-turns q marks grants v v.sem.bias Rest Armed stage (λ m. refl) refl refl (λ word e. inl e)))),
+        subst (λ (z : Held). Heard z (record v.sem { stage = Armed })) out (heard-by v.held (record v.sem { stage = Armed }) (sem-arms-again sees id v loc.mine n q marks grants loc.kept own has only stage clear (omega (arith, other))) (hands-step id n q marks grants sees v (staged v Armed) loc.mine n marks (omega arith) (λ t. omega arith) (unasked-same n marks) (pass-turns q marks grants v v.sem.bias Rest Armed stage (λ m. refl) refl refl (inl refl)))),
         λ e. not-both false refl e,
       ))

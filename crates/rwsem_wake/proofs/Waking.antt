@@ -32,8 +32,8 @@ use Rattle.rwsem_wake.proofs.WakeLaws.{staged, biased, batched, sem-sums, sem-gr
 use Rattle.rwsem_wake.proofs.QueueLaws.{mine-at, sem-arms, unread-at, reads-at-w}
 use Rattle.rwsem_wake.proofs.HandoffLaws.{sem-reserves, sem-unreserves, sem-overdue, sem-asks, sem-unmarks, sem-unmarked, sem-looks, sem-done}
 use Rattle.rwsem_wake.proofs.LookLaws.{sem-sums-none}
-use Rattle.rwsem_wake.specs.Handoffs.{BatchGoes, ComesToMark, KeepsHandoff, MarksNext, ReservesAt, shared_at, granting_at}
-use Rattle.rwsem_wake.proofs.HandoffSteps.{PassGoes, batch-comes, clear-word, first-marked, marking, marks-stay, of-pass, pass-same, pass-turns, reads-apart, hands-asks, hands-free, hands-still, hands-step, hands-sums, hands-grants, hands-unmarks, unasked-same, word_in}
+use Rattle.rwsem_wake.specs.Handoffs.{BatchGoes, ComesToMark, KeepsHandoff, MarksNext, KeepsFound, shared_at, granting_at}
+use Rattle.rwsem_wake.proofs.HandoffSteps.{PassGoes, batch-comes, first-marked, marking, marks-stay, of-pass, pass-same, pass-turns, reads-apart, hands-asks, hands-free, hands-still, hands-step, hands-sums, hands-grants, hands-unmarks, unasked-same}
 use Rattle.rwsem_wake.specs.Grants.{tail, saw_handoff, armed, reserved, unreserved, marked, unmarked, summing, gains, losses, looked, counted, granting_on, granted}
 use Rattle.rwsem_wake.proofs.Stepping.{Local, with_hand, named_in}
 use Rattle.rwsem_wake.proofs.Counting.{part-least}
@@ -90,34 +90,34 @@ module _ (sees : List SemPart) (id : ℕ) (v : SemPart) (known : Part) (n : ℕ)
   reserve-one m = omega arith
 
   -- its bias and stage turn to these
-  turns : {n' : ℕ} (b : Bias) (from to : Stage) → v.sem.stage ≡ from → ((m : ℕ) → granting_weight from m ≡ 0) → marking from ≡ 0 → marking to ≡ 0 → ReservesAt n v (biased v b to) → PassGoes n n' q marks grants v (biased v b to)
+  turns : {n' : ℕ} (b : Bias) (from to : Stage) → v.sem.stage ≡ from → ((m : ℕ) → granting_weight from m ≡ 0) → marking from ≡ 0 → marking to ≡ 0 → KeepsFound n v (biased v b to) → PassGoes n n' q marks grants v (biased v b to)
   turns {n'} b from to is none out later word = pass-turns q marks grants v b from to is none out later word
 
   pub on-reserve : v.sem.stage ≡ Rest → v.sem.bias ≡ Clear → Knows known → 1 ≤ length known.1.list → After (word_after (Add 256) n) marks grants (reserved v.sem n) × IsLawfulCount n
   on-reserve stage clear knows some_there = let l = small in let b : Bool = H == 1 in let sum : n + 256 ≡ word_after (Add 256) n = omega (arith, l) in (
     (
       subst (λ (z : ℕ). SemKept z q marks grants (set sees id (with_hand v (reserved v.sem n)))) sum (sem-reserves sees id v loc.mine n q marks grants loc.kept own has only b (bit-is H (omega arith)) (subst (λ (z : List Waiter). 1 ≤ length z) (loc.list knows) some_there) stage clear),
-      hands-step id n q marks grants sees v (with_hand v (reserved v.sem n)) loc.mine (word_after (Add 256) n) marks (omega (arith, l)) (λ t. omega arith) (omega (arith, sum), λ t. omega arith) (turns (Reserve n) Rest (Overdue b) stage (λ m. refl) refl refl (λ word e. inr (clear, sym (ap word_in e)))),
+      hands-step id n q marks grants sees v (with_hand v (reserved v.sem n)) loc.mine (word_after (Add 256) n) marks (omega (arith, l)) (λ t. omega arith) (omega (arith, sum), λ t. omega arith) (turns (Reserve n) Rest (Overdue b) stage (λ m. refl) refl refl (inr (inr (clear, inr refl)))),
     ),
     loc.lawful,
   )
 
   pub on-unreserve : (m : ℕ) (b : Bool) → v.sem.stage ≡ Overdue b → v.sem.bias ≡ Reserve m → After (word_after (Sub 256) n) marks grants (unreserved v.sem) × IsLawfulCount n
   on-unreserve m b stage bias = let l = small in let g = biased-word (Reserve m) bias (reserve-one m) in let n' : ℕ = word_after (Sub 256) n in let sum : n' + 256 ≡ n = omega (arith, l, g) in (
-    (sem-unreserves sees id v loc.mine n q marks grants loc.kept own has only n' m b sum stage bias, hands-step id n q marks grants sees v (with_hand v (unreserved v.sem)) loc.mine n' marks (omega (arith, sum)) (λ t. omega arith) (omega (arith, sum), λ t. omega arith) (turns Clear (Overdue b) Rest stage (λ m. refl) refl refl clear-word)),
+    (sem-unreserves sees id v loc.mine n q marks grants loc.kept own has only n' m b sum stage bias, hands-step id n q marks grants sees v (with_hand v (unreserved v.sem)) loc.mine n' marks (omega (arith, sum)) (λ t. omega arith) (omega (arith, sum), λ t. omega arith) (turns Clear (Overdue b) Rest stage (λ m. refl) refl refl (inr (inl refl)))),
     loc.lawful,
   )
 
   pub on-mark : (m t : ℕ) (b : Bool) → v.sem.stage ≡ Overdue b → v.sem.bias ≡ Reserve m → m % 2 ≡ 1 → b ≡ (m / 4 % 2 == 1) → Knows known → first_code known.1.list ≡ t + 1 → t < 64 → After n (set marks t 1) grants (marked v.sem)
   on-mark m t b stage bias odd same knows code few = let x = head-is q t (ap first_code (sym (loc.list knows)) ∙ code) in let wide = loc.marks_wide in let saw : b ≡ saw_handoff v.sem.bias = same ∙ ap saw_handoff (sym bias) in (
     subst (λ (z : ℕ × Bool). SemKept n q (set marks z.0 1) grants (set sees id (staged v (Marked z.1)))) (λ i. (x.3 i, saw i)) (sem-overdue sees id v loc.mine n q marks grants loc.kept own has only b x.0 x.1 stage x.2 (let e = x.3 in omega (arith, e, few, wide))),
-    hands-asks id n q marks grants sees v (with_hand v (marked v.sem)) loc.mine n (set marks t 1) (omega arith) (λ s. omega arith) (λ z o. absurd (omega (arith, z, o))) (λ set_it. set_it) (λ s none more. (first-marked marks q t (ap first_code (sym (loc.list knows)) ∙ code) s none more, inl (m, bias, odd))) (marks-stay marks t (omega (arith, few, wide))) (pass-turns q (set marks t 1) grants v v.sem.bias (Overdue b) (Marked (saw_handoff v.sem.bias)) stage (λ m. refl) refl refl (λ word e. inl e)),
+    hands-asks id n q marks grants sees v (with_hand v (marked v.sem)) loc.mine n (set marks t 1) (omega arith) (λ s. omega arith) (λ z o. absurd (omega (arith, z, o))) (λ set_it. set_it) (λ s none more. (first-marked marks q t (ap first_code (sym (loc.list knows)) ∙ code) s none more, inl (m, bias, odd))) (marks-stay marks t (omega (arith, few, wide))) (pass-turns q (set marks t 1) grants v v.sem.bias (Overdue b) (Marked (saw_handoff v.sem.bias)) stage (λ m. refl) refl refl (inl refl)),
   )
 
   pub on-ask : (m by : ℕ) (b : Bool) → v.sem.stage ≡ Marked b → v.sem.bias ≡ Reserve m → by + 4 ≡ 256 + 4 * bit b → After (word_after (Sub by) n) marks grants (unreserved v.sem) × IsLawfulCount n
   on-ask m by b stage bias is = let l = small in let g = biased-word (Reserve m) bias (reserve-one m) in let n' : ℕ = word_after (Sub by) n in let one = bit-most b in
       let f = mine-at sees id v loc.mine n q marks grants loc.kept own has (Marked b) only stage in let h = f.1 in let sum : n' + (256 + 4 * bit b) ≡ n + 4 = omega (arith, l, g, is, one) in let first : first_mark marks (tasks q) ≡ 1 = (let a = f.2 in let c = f.3 in omega (arith, a, c)) in (
-        (sem-asks sees id v loc.mine n q marks grants loc.kept own has only n' m b sum stage bias, hands-asks id n q marks grants sees v (with_hand v (unreserved v.sem)) loc.mine n' marks (omega (arith, sum)) (λ t. omega arith) (λ _ _. inl (m, bias, first)) (λ _. omega (arith, sum, h, one)) (λ t none more. absurd (omega (arith, none, more))) (λ t more. more) (turns Clear (Marked b) Rest stage (λ m. refl) refl refl clear-word)),
+        (sem-asks sees id v loc.mine n q marks grants loc.kept own has only n' m b sum stage bias, hands-asks id n q marks grants sees v (with_hand v (unreserved v.sem)) loc.mine n' marks (omega (arith, sum)) (λ t. omega arith) (λ _ _. inl (m, bias, first)) (λ _. omega (arith, sum, h, one)) (λ t none more. absurd (omega (arith, none, more))) (λ t more. more) (turns Clear (Marked b) Rest stage (λ m. refl) refl refl (inr (inl refl)))),
         loc.lawful,
       )
     where
@@ -130,7 +130,7 @@ module _ (sees : List SemPart) (id : ℕ) (v : SemPart) (known : Part) (n : ℕ)
   on-look-mark t ts stage rest = let m : ℕ = get_or marks t 0 in subst (λ (z : List ℕ). After n z grants (unmarked v.sem m)) (sym (set-get_or marks t 0)) (dite (ℕ_discrete m 0)
       (λ none. subst (λ (z : Bool). After n marks grants (if z then record v.sem { stage = Summing } else v.sem)) (sym (eq-eqb m 0 none)) (
         sem-unmarked sees id v loc.mine n q marks grants loc.kept own has only t ts stage rest none,
-        hands-step id n q marks grants sees v (staged v Summing) loc.mine n marks (omega arith) (λ t. omega arith) (unasked-same n marks) (turns v.sem.bias Removing Summing stage (λ m. refl) refl refl (λ word e. inl e)),
+        hands-step id n q marks grants sees v (staged v Summing) loc.mine n marks (omega arith) (λ t. omega arith) (unasked-same n marks) (turns v.sem.bias Removing Summing stage (λ m. refl) refl refl (inl refl)),
       ))
       (λ set_it. subst (λ (z : Bool). After n marks grants (if z then record v.sem { stage = Summing } else v.sem)) (sym (ne_eqb m 0 set_it)) (
         subst (SemKept n q marks grants) (sym (set_again sees id v loc.mine)) loc.kept,
@@ -140,7 +140,7 @@ module _ (sees : List SemPart) (id : ℕ) (v : SemPart) (known : Part) (n : ℕ)
   pub on-clear-mark : (t : ℕ) (ts : List ℕ) → v.sem.stage ≡ Removing → v.sem.rest ≡ t ∷ ts → t < 64 → After n (set marks t 0) grants (summing v.sem)
   on-clear-mark t ts stage rest few = let wide = loc.marks_wide in (
     sem-unmarks sees id v loc.mine n q marks grants loc.kept own has only t ts stage rest (omega (arith, few, wide)),
-    hands-unmarks id n q marks grants sees v (with_hand v (summing v.sem)) loc.mine t (inr (ts, rest)) (omega (arith, few, wide)) (λ s. omega arith) (pass-turns q (set marks t 0) grants v v.sem.bias Removing Summing stage (λ m. refl) refl refl (λ word e. inl e)),
+    hands-unmarks id n q marks grants sees v (with_hand v (summing v.sem)) loc.mine t (inr (ts, rest)) (omega (arith, few, wide)) (λ s. omega arith) (pass-turns q (set marks t 0) grants v v.sem.bias Removing Summing stage (λ m. refl) refl refl (inl refl)),
   )
 
   -- the count is loaded: the batch is in it at once where its sum is 0
@@ -149,14 +149,14 @@ module _ (sees : List SemPart) (id : ℕ) (v : SemPart) (known : Part) (n : ℕ)
       (λ none. subst (λ (z : Bool). After n marks grants (if z then record v.sem { bias = Clear; stage = Granting } else record v.sem { stage = Counted (H == 1) }) × IsLawfulCount n) (sym (eq-eqb (losses v.sem H) (gains v.sem q) none)) (
         (
           sem-sums-none sees id v loc.mine n own q marks grants (H == 1) loc.kept has only (bit-is H (omega arith)) stage none_left keeps tight (let e = bit-is H (omega arith) in omega (arith, none, e)),
-          hands-free id n q marks grants sees v (biased v Clear Granting) loc.mine n (inr (let f = mine-at sees id v loc.mine n q marks grants loc.kept own has Summing only stage in let z = f.1 in let l = first-least marks (tasks q) in omega (arith, z, l), omega arith)) (unasked-same n marks) (batch-comes id n q marks grants sees v (biased v Clear Granting) loc.mine (λ t. omega arith) none_left) (turns Clear Summing Granting stage (λ m. refl) refl refl clear-word),
+          hands-free id n q marks grants sees v (biased v Clear Granting) loc.mine n (inr (let f = mine-at sees id v loc.mine n q marks grants loc.kept own has Summing only stage in let z = f.1 in let l = first-least marks (tasks q) in omega (arith, z, l), omega arith)) (unasked-same n marks) (batch-comes id n q marks grants sees v (biased v Clear Granting) loc.mine (λ t. omega arith) none_left) (turns Clear Summing Granting stage (λ m. refl) refl refl (inr (inl refl))),
         ),
         loc.lawful,
       ))
       (λ some_sum. subst (λ (z : Bool). After n marks grants (if z then record v.sem { bias = Clear; stage = Granting } else record v.sem { stage = Counted (H == 1) }) × IsLawfulCount n) (sym (ne_eqb (losses v.sem H) (gains v.sem q) some_sum)) (
         (
           sem-looks sees id v loc.mine n q marks grants loc.kept own has only (H == 1) (bit-is H (omega arith)) stage none_left,
-          hands-step id n q marks grants sees v (staged v (Counted (H == 1))) loc.mine n marks (omega arith) (λ t. omega arith) (unasked-same n marks) (turns v.sem.bias Summing (Counted (H == 1)) stage (λ m. refl) refl refl (λ word e. inl e)),
+          hands-step id n q marks grants sees v (staged v (Counted (H == 1))) loc.mine n marks (omega arith) (λ t. omega arith) (unasked-same n marks) (turns v.sem.bias Summing (Counted (H == 1)) stage (λ m. refl) refl refl (inl refl)),
         ),
         loc.lawful,
       )))
@@ -198,12 +198,12 @@ module _ (sees : List SemPart) (id : ℕ) (v : SemPart) (known : Part) (n : ℕ)
 
   -- a reader that is to queue stores 1 in its own grant word
   pub on-arm : v.sem.stage ≡ Rest → v.sem.wait ≡ Apart → own < 64 → After n marks (set grants own 1) (armed v.sem)
-  on-arm stage apart few = let wide = loc.grants_wide in let u : SemPart = with_hand v (armed v.sem) in let goes : PassGoes n n q marks grants v u = turns v.sem.bias Rest Armed stage (λ m. refl) refl refl (λ word e. inl e) in let grants' : List ℕ = set grants own 1 in
+  on-arm stage apart few = let wide = loc.grants_wide in let u : SemPart = with_hand v (armed v.sem) in let goes : PassGoes n n q marks grants v u = turns v.sem.bias Rest Armed stage (λ m. refl) refl refl (inl refl) in let grants' : List ℕ = set grants own 1 in
       let alone : total (reads_at own) sees ≡ 0 = only-one (reads_at own) (named_in own) (λ x. reads-name own x.task x.sem.wait) sees id v loc.mine (ap (is_number own) has ∙ is_number-here own) (loc.named own few) ∙ (reads-at-w v own has Apart apart own) in (
         sem-arms sees id v loc.mine n q marks grants loc.kept own has only stage alone (omega (arith, few, wide)),
         hands-still id n q marks grants sees n marks grants' (set sees id u) (omega arith) (λ t. let a = reads-apart grants t sees in let b = reads-apart grants' t (set sees id u) in let c = total-same (shared_at t) sees id v u loc.mine refl in let d = total-same (granted_at grants' t) sees id v u loc.mine refl in
             let e = unread-at grants own 1 sees alone t in let f = total-set (granting_at t) sees id v u loc.mine in let g : granting_at t v ≡ 0 = ap (λ (z : Stage). granting_weight z (here t v.sem.rest)) stage in omega (arith, a, b, c, d, e, f, g)) (unasked-same n marks)
-            (λ t more none. absurd (stored t more none)) (of-pass id n q marks grants sees v u loc.mine (BatchGoes q grants') (inl refl)) (of-pass id n q marks grants sees v u loc.mine (MarksNext q marks) goes.next) (of-pass id n q marks grants sees v u loc.mine (ComesToMark n n) goes.to_mark) (of-pass id n q marks grants sees v u loc.mine (ReservesAt n) goes.reserves),
+            (λ t more none. absurd (stored t more none)) (of-pass id n q marks grants sees v u loc.mine (BatchGoes q grants') (inl refl)) (of-pass id n q marks grants sees v u loc.mine (MarksNext q marks) goes.next) (of-pass id n q marks grants sees v u loc.mine (ComesToMark n n) goes.to_mark) (of-pass id n q marks grants sees v u loc.mine (KeepsFound n) goes.found),
       )
     where
       stored : (t : ℕ) → 0 < get_or grants t 0 → get_or (set grants own 1) t 0 ≡ 0 → ⊥

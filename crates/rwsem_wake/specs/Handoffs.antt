@@ -6,7 +6,8 @@ use Rattle.lock_core.specs.declared.view.Held.TheVariants.{Shared, Alone}
 use Rattle.lock_core.specs.Totals.{total}
 use Rattle.wait_list.specs.declared.view.Waiter.{Waiter}
 use Rattle.wait_list.specs.Lists.{first_code}
-use Rattle.rwsem_count.specs.declared.view.Bias.TheVariants.{Clear, Transit, Reserve}
+use Rattle.rwsem_count.specs.declared.view.Bias.TheVariants.{Transit, Reserve}
+use Rattle.rwsem_count.specs.Counts.{BiasGoes}
 use Rattle.rwsem_wake.specs.declared.view.Wait.TheVariants.{Writes}
 use Rattle.rwsem_wake.specs.declared.view.Stage.TheVariants.{Marking, Granting}
 use Rattle.rwsem_wake.specs.SemParts.{SemPart, named_weight, granting_weight, shared_of, granted_at, here, first_mark, reader_of, tasks}
@@ -23,7 +24,7 @@ granting_at t v = granting_weight v.sem.stage (here t v.sem.rest)
 abbrev pub reads_as : List ℕ → ℕ → SemPart → ℕ
 reads_as grants t v = shared_at t v + granted_at grants t v + granting_at t v
 
--- a bias of which the pass keeps that it was added where HANDOFF was clear, or an exclusive hold
+-- a bias that was added where HANDOFF was clear, or an exclusive hold
 abbrev pub MayRead : SemPart → Type 0
 MayRead v = ((m : ℕ) × (v.sem.bias ≡ Transit m) × (m / 4 % 2 ≡ 0)) ⊎ (v.held ≡ Alone)
 
@@ -71,9 +72,9 @@ MayUnmark v t = (v.task ≡ Some t) ⊎ ((ts : List ℕ) × (v.sem.rest ≡ t �
 abbrev pub ComesToMark : (n n' : ℕ) → SemPart → SemPart → Type 0
 ComesToMark n n' v u = u.sem.stage ≡ Marking → (v.sem.stage ≡ Marking) ⊎ ((n / 4 % 2 ≡ 0) × (n' / 4 % 2 ≡ 1))
 
--- a bias that a pass reserves keeps the count that its addition found
-abbrev pub ReservesAt : ℕ → SemPart → SemPart → Type 0
-ReservesAt n v u = (word : ℕ) → u.sem.bias ≡ Reserve word → (v.sem.bias ≡ Reserve word) ⊎ ((v.sem.bias ≡ Clear) × (word ≡ n))
+-- a bias of a pass stays, goes, or is added, and then keeps the count that its addition found
+abbrev pub KeepsFound : ℕ → SemPart → SemPart → Type 0
+KeepsFound n v u = BiasGoes n v.sem.bias u.sem.bias
 
 -- who is to mark the first waiter is so until a step of it after which that one is marked
 abbrev pub MarksNext : List Waiter → List ℕ → SemPart → SemPart → Type 0
@@ -87,9 +88,9 @@ GrantsNext id grants vs grants' us = (t : ℕ) → 0 < get_or grants t 0 → get
 abbrev pub BatchGoes : List Waiter → List ℕ → SemPart → SemPart → Type 0
 BatchGoes q grants' v u = (u.sem.rest ≡ v.sem.rest) ⊎ ((t : ℕ) × (v.sem.stage ≡ Granting) × (v.sem.rest ≡ t ∷ u.sem.rest) × (get_or grants' t 0 ≡ 0)) ⊎ ((t : ℕ) × (u.sem.rest ≡ v.sem.rest ++ t ∷ []) × Picks v q t)
 
--- While HANDOFF is set and the first waiter is marked, the writer bit is set by that waiter alone, and a task becomes a reader only by a bias of which its pass keeps that its addition saw no HANDOFF, or by a downgrade. Who takes clears HANDOFF.
+-- While HANDOFF is set and the first waiter is marked, the writer bit is set by that waiter alone, and a task becomes a reader only by a bias whose addition saw no HANDOFF, or by a downgrade. Who takes clears HANDOFF. A bias keeps the count that its addition found.
 -- At any time a task becomes a reader by itself, or in a batch that leaves no reader waiting, and it is one until its own pass ends its shared hold.
--- HANDOFF is set by a waker with a reserved bias where the first waiter is marked, or by a writer of the list, which is to mark the first waiter from then on, until that one is marked, and by no other step comes to be so. HANDOFF then stays until it is answered. A waker's reserved bias keeps the count that it found.
+-- HANDOFF is set by a waker with a reserved bias where the first waiter is marked, or by a writer of the list, which is to mark the first waiter from then on, until that one is marked, and by no other step comes to be so. HANDOFF then stays until it is answered.
 -- A mark is set by one of these, and is the first waiter's. It is cleared by its own waiter, or by a waker whose batch has it next.
 -- A batch grows by the readers that its waker picks, and is granted in this order once it is in the count; no other step clears a grant word.
 pub record KeepsHandoff (id n : ℕ) (q : List Waiter) (marks grants : List ℕ) (vs : List SemPart) (n' : ℕ) (marks' grants' : List ℕ) (us : List SemPart) : Type 0 where
@@ -104,6 +105,6 @@ pub record KeepsHandoff (id n : ℕ) (q : List Waiter) (marks grants : List ℕ)
   pub unmarks : (t : ℕ) → 0 < get_or marks t 0 → get_or marks' t 0 ≡ 0 → (v : SemPart) × (get_elem? vs id ≡ some v) × MayUnmark v t
   pub marks_next : OfPass id vs us (MarksNext q marks')
   pub to_mark : OfPass id vs us (ComesToMark n n')
-  pub reserves : OfPass id vs us (ReservesAt n)
+  pub found : OfPass id vs us (KeepsFound n)
   pub granted : GrantsNext id grants vs grants' us
   pub batch : OfPass id vs us (BatchGoes q grants')
