@@ -14,7 +14,7 @@ pub record IsFresh (v : Shown) : Type 0 where
   pub unseen : v.hand.seen ≡ []
 
 -- it has no number any more, and knows the records of all calls of the task
-pub record HasServed {Call : Type 0} (o : Obj Call) (unavailable : Unavailable) (k : Plan) (t : ℕ) (v : Shown) : Type 0 where
+pub record HasDoneItsCalls {Call : Type 0} (o : Obj Call) (unavailable : Unavailable) (k : Plan) (t : ℕ) (v : Shown) : Type 0 where
   pub numberless : v.hand.task ≡ None
   pub made : List Rec
   pub all : length made ≡ length (row k t)

@@ -5,7 +5,7 @@ ghost use Rattle.lock_core.specs.Kinds.{unavailable};
 ghost use Rattle.guarded.specs.Handles.{lock_of};
 ghost use Rattle.guarded.specs.Copying.{IsHistory};
 ghost use Rattle.guarded.specs.Gathering.{IsGathered};
-ghost use Rattle.lock_rows.specs.Between.{IsFresh, HasServed};
+ghost use Rattle.lock_rows.specs.Between.{IsFresh, HasDoneItsCalls};
 
 use crate::serve::copy_of;
 use cpu_task::{Crew, Gate, OpenGate, Turns};
@@ -53,7 +53,7 @@ fn serve_all<W: Wait, C: Crew, G: Start, L: SleepLock<O>, O: Served + Drop>(
     requires fresh { IsFresh (L.view pass) }
     requires there { task < length (L.calls_on (lock_of guarded.now)) }
     ensures own { L.sits (lock_of guarded.now) result }
-    ensures served { HasServed O.object (unavailable L.kind) (L.calls_on (lock_of guarded.now))
+    ensures served { HasDoneItsCalls O.object (unavailable L.kind) (L.calls_on (lock_of guarded.now))
         task (L.view result) }
 {
     gate.begins(task);
@@ -89,9 +89,9 @@ fn two_serve_at_once<
     requires there { task + 1 < length (L.calls_on (lock_of guarded.now)) }
     requires few { task ≤ 2 }
     ensures own { L.sits (lock_of guarded.now) result.0 × L.sits (lock_of guarded.now) result.1 }
-    ensures one { HasServed O.object (unavailable L.kind) (L.calls_on (lock_of guarded.now))
+    ensures one { HasDoneItsCalls O.object (unavailable L.kind) (L.calls_on (lock_of guarded.now))
         task (L.view result.0) }
-    ensures two { HasServed O.object (unavailable L.kind) (L.calls_on (lock_of guarded.now))
+    ensures two { HasDoneItsCalls O.object (unavailable L.kind) (L.calls_on (lock_of guarded.now))
         (task + 1) (L.view result.1) }
 {
     let (first, first_cpu) = one;
@@ -103,7 +103,7 @@ fn two_serve_at_once<
             requires fresh { IsFresh (L.view first) }
             requires there { task < length (L.calls_on (lock_of guarded.now)) }
             ensures own { L.sits (lock_of guarded.entry.now) result }
-            ensures served { HasServed O.object (unavailable L.kind)
+            ensures served { HasDoneItsCalls O.object (unavailable L.kind)
                 (L.calls_on (lock_of guarded.entry.now)) task (L.view result) }
         { serve_all(rt, guarded, first, first_cpu, crew, gate, task) },
         || -> L::Pass
@@ -112,7 +112,7 @@ fn two_serve_at_once<
             requires there { task + 1 < length (L.calls_on (lock_of guarded.now)) }
             requires few { task ≤ 2 }
             ensures own { L.sits (lock_of guarded.entry.now) result }
-            ensures served { HasServed O.object (unavailable L.kind)
+            ensures served { HasDoneItsCalls O.object (unavailable L.kind)
                 (L.calls_on (lock_of guarded.entry.now)) (task + 1) (L.view result) }
         { serve_all(rt, guarded, second, second_cpu, crew, gate, task + 1) },
     )
@@ -153,9 +153,9 @@ fn four_serve_at_once<
             requires there { 1 < length (L.calls_on (lock_of guarded.now)) }
             ensures own { L.sits (lock_of guarded.entry.now) result.0 ×
                 L.sits (lock_of guarded.entry.now) result.1 }
-            ensures one { HasServed O.object (unavailable L.kind)
+            ensures one { HasDoneItsCalls O.object (unavailable L.kind)
                 (L.calls_on (lock_of guarded.entry.now)) 0 (L.view result.0) }
-            ensures two { HasServed O.object (unavailable L.kind)
+            ensures two { HasDoneItsCalls O.object (unavailable L.kind)
                 (L.calls_on (lock_of guarded.entry.now)) 1 (L.view result.1) }
         {
             two_serve_at_once(
@@ -174,9 +174,9 @@ fn four_serve_at_once<
             requires there { 3 < length (L.calls_on (lock_of guarded.now)) }
             ensures own { L.sits (lock_of guarded.entry.now) result.0 ×
                 L.sits (lock_of guarded.entry.now) result.1 }
-            ensures one { HasServed O.object (unavailable L.kind)
+            ensures one { HasDoneItsCalls O.object (unavailable L.kind)
                 (L.calls_on (lock_of guarded.entry.now)) 2 (L.view result.0) }
-            ensures two { HasServed O.object (unavailable L.kind)
+            ensures two { HasDoneItsCalls O.object (unavailable L.kind)
                 (L.calls_on (lock_of guarded.entry.now)) 3 (L.view result.1) }
         {
             two_serve_at_once(

@@ -31,7 +31,7 @@ const KINDS: u32 = 7;
 /// A task's calls on the table.
 const CALLS: usize = 17_500;
 
-/// How many rounds each task makes on a space, of which each call loads 257 words.
+/// How many rounds each task makes on a space.
 const SPACE_ROUNDS: u32 = 1_000;
 
 /// Sees whether a task that holds alone is alone.
@@ -287,8 +287,7 @@ fn are_space_records(recs: &[u64]) -> bool {
     place == 12 * SPACE_ROUNDS
 }
 
-// A task that populates holds alone while it maps, and shares while it counts, with no moment
-// between at which another one could change what it counts.
+// A task that populates holds alone while it maps, and shares while it counts.
 #[test]
 fn four_threads_that_populate_a_space_share_it_with_readers_alone(
     rt: HostRuntime,

@@ -6,6 +6,8 @@ use Rattle.fd_table.specs.Tables.{table}
 use Rattle.guarded.specs.declared.guarded.Guarded.{Guarded}
 use Rattle.guarded.specs.declared.lock.SleepLock.{Ghosts as LockMembers}
 use Rattle.guarded.specs.Handles.{lock_of}
+use Rattle.guarded.specs.MutexLocks.{KnowsMutex}
+use Rattle.guarded.specs.RwSemLocks.{KnowsRwSem}
 use Rattle.mm_serve.specs.declared.space_or_table.SpaceOrTable.{SpaceOrTable}
 use Rattle.mm_serve.specs.declared.space_or_table.SpaceOrTablePass.{SpaceOrTablePass}
 use Rattle.mm_serve.specs.Pasts.{KnowsPast}
@@ -29,9 +31,9 @@ module _ {A S P C T F Q D : Type 0} (spaces : LockMembers A S P C) (tables : Loc
   abbrev pub IsIdleUnder : LockedObject A S P C T F Q D → SpaceOrTablePass P Q → Type 0
   IsIdleUnder = Matches (λ s p. spaces.sits (lock_of s) p × IsIdle (spaces.view p).hand) (λ s p. tables.sits (lock_of s) p × IsIdle (tables.view p).hand)
 
-  -- the pass knows what was so of the object's table at each moment so far, and what the object's lock tells of its own
+  -- the pass knows what was so of the object's table at each moment so far: what every lock tells, of a space what a semaphore tells of its own, and of a table what a mutex does
   abbrev pub KnowsPastUnder : LockedObject A S P C T F Q D → SpaceOrTablePass P Q → Type 0
   KnowsPastUnder =
       Matches
-      (λ s p. KnowsPast space spaces.kind 257 spaces.word_at spaces.waits spaces.tells spaces.opened (spaces.calls_on (lock_of s)) (spaces.view p))
-      (λ s p. KnowsPast table tables.kind 64 tables.word_at tables.waits tables.tells tables.opened (tables.calls_on (lock_of s)) (tables.view p))
+      (λ s p. KnowsPast space spaces.kind 257 spaces.word_at spaces.waits (KnowsRwSem space 257) spaces.opened (spaces.calls_on (lock_of s)) (spaces.view p))
+      (λ s p. KnowsPast table tables.kind 64 tables.word_at tables.waits (KnowsMutex table 64) tables.opened (tables.calls_on (lock_of s)) (tables.view p))

@@ -1,25 +1,41 @@
 //! The locks that a machine's objects stand under.
 ghost use Rattle.std.specs.Prelude.{◌≡◌, refl};
+ghost use Rattle.word_bits.specs.Histories.{Plan};
+ghost use Rattle.vma_map.specs.Spaces.{space};
+ghost use Rattle.fd_table.specs.Tables.{table};
 ghost use Rattle.lock_core.specs.Kinds.{mutex, semaphore};
+ghost use Rattle.lock_core.specs.Shown.{Shown};
+ghost use Rattle.guarded.specs.MutexLocks.{KnowsMutex};
+ghost use Rattle.guarded.specs.RwSemLocks.{KnowsRwSem};
 
 use fd_table::Fds;
 use guarded::{Mutex, RwSem, SleepLock};
 use vma_map::Areas;
 
-/// A lock of spaces. Its word is a count.
+/// A lock of spaces. Its word is a count, and what it tells of its own is what a semaphore tells.
 pub trait SpaceLock: SleepLock<Areas> {
     ghost counts: { Self.SleepLock.kind ≡ semaphore };
+
+    ghost is_semaphore: { (k : Plan) (u : Shown) → Self.SleepLock.tells k u →
+        KnowsRwSem space 257 k u };
 }
 
-/// A lock of tables. Its word names the owner.
+/// A lock of tables. Its word names the owner, and what it tells of its own is what a mutex tells.
 pub trait TableLock: SleepLock<Fds> {
     ghost owned: { Self.SleepLock.kind ≡ mutex };
+
+    ghost is_mutex: { (k : Plan) (u : Shown) → Self.SleepLock.tells k u →
+        KnowsMutex table 64 k u };
 }
 
 impl SpaceLock for RwSem<Areas> {
     ghost counts = { refl };
+
+    ghost is_semaphore = { λ k u told. told };
 }
 
 impl TableLock for Mutex<Fds> {
     ghost owned = { refl };
+
+    ghost is_mutex = { λ k u told. told };
 }
