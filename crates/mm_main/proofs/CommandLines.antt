@@ -1,5 +1,5 @@
 -- What the words say is what clap finds in them.
-use Rattle.std.proofs.Common.{◌≡◌, ℕ, Bool, true, false, List, [], ◌∷◌, refl, sym, ap, ◌∙◌, subst, codes, Option, Some, None, option_map, option_and_then, ◌⊎◌, inl, inr, Result, Ok, Err}
+use Rattle.std.proofs.Common.{◌≡◌, ℕ, Bool, true, false, List, [], ◌∷◌, refl, sym, ap, ◌∙◌, subst, codes, Option, Some, None, option_map, option_and_then, ◌⊎◌, inl, inr, Result, Err}
 use Rattle.std.specs.Prelude.{find, ok_or}
 use Rattle.std.specs.Option.{option_map_or}
 use Rattle.std.specs.Borrow.{Bor}
@@ -19,7 +19,7 @@ use Rattle.clap.proofs.WalkLemmas.{find_row, first_value-rows}
 use Rattle.mm_main.specs.declared.options.Options.{Options}
 use Rattle.mm_main.specs.declared.options.OptionsError.{OptionsError}
 use Rattle.mm_main.specs.declared.options.OptionsError.TheVariants.{Misused}
-use Rattle.mm_main.specs.CommandLine.{JoinedOptionsSay, LoneOptionsSay, MaySay, RepeatedOptionsSayNothing, is_from_words, is_used, number_if_used, number_or, options_from, options_of, options_with, the_command, unless_faulty}
+use Rattle.mm_main.specs.CommandLine.{JoinedOptionsSay, LoneOptionsSay, RepeatedOptionsSayNothing, is_from_words, is_used, number_if_used, number_or, options_from, options_of, options_with, the_command, unless_faulty}
 use Rattle.mm_main.specs.Parsed.{Gives, error_of}
 
 -- of this command clap says exactly what it takes
@@ -120,8 +120,3 @@ repeated_options_say_nothing value other = (refl, refl, refl, refl)
 pub empty_word_says_nothing : options_of ([] ∷ []) ≡ None
 unfolding options_of clap_on_literals
 empty_word_says_nothing = refl
-
--- any line may say nothing
-pub may_say_nothing : {L E : Type 0} (line : Result L E) → MaySay line None
-may_say_nothing (Ok words) = tt
-may_say_nothing (Err e) = refl

@@ -18,7 +18,7 @@ use Rattle.mm_main.specs.declared.options.Options.{Options}
 use Rattle.mm_main.specs.Requests.{Request, misused, refused, accepted, reads_input, request, request_of, script_for}
 use Rattle.mm_main.specs.Answers.{Service, NoService, Says, OfKept, Answers, Completes, GivesScript, TakesAtMost, read_faults}
 
-pub Keeps-refl : (a : Option (List ℕ)) → Keeps a a
+Keeps-refl : (a : Option (List ℕ)) → Keeps a a
 Keeps-refl None = tt
 Keeps-refl (Some xs) = refl
 
@@ -129,6 +129,11 @@ module _ {M : Type 0} (Serves : Service M) (kept : Option M) where
   pub answers_as : (said : Option Options) (asked : List ℕ → Request) (left : Option (List ℕ)) (read write : Type 0) (old new : Option (List ℕ)) (status : Status) → ((input : List ℕ) → asked input ≡ request said input)
       → Answers Serves kept asked left read write old new status → Answers Serves kept (request said) left read write old new status
   answers_as said asked left read write old new status same answer = (answer.0, answer.1, subst (λ q. Says Serves kept q read write old new status) (same answer.0) answer.2)
+
+  -- what is answered to words that say the same
+  pub answers_alike : (said other : Option Options) (left : Option (List ℕ)) (read write : Type 0) (old new : Option (List ℕ)) (status : Status) → other ≡ said → Answers Serves kept (request said) left read write old new status
+      → Answers Serves kept (request other) left read write old new status
+  answers_alike said other left read write old new status same answer = subst (λ o. Answers Serves kept (request o) left read write old new status) (sym same) answer
 
   -- what is said without the input
   pub answers_any : (asked : List ℕ → Request) (r : Request) (left : Option (List ℕ)) (read write : Type 0) (old new : Option (List ℕ)) (status : Status) → ((input : List ℕ) → asked input ≡ r) → Says Serves kept r ⊥ write old new status

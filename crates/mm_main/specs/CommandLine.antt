@@ -1,7 +1,9 @@
 -- The command line: four options, and which numbers they take.
-use Rattle.std.specs.Prelude.{◌≡◌, ℕ, ◌-◌, ◌^◌, ◌++◌, nat_le, Bool, true, false, List, [], ◌∷◌, Option, Some, None, find, option_and_then, option_map, if◌then◌else◌, codes, map, String, string_bytes, Result, Ok, Err}
+use Rattle.std.specs.Prelude.{◌≡◌, ℕ, ◌-◌, ◌^◌, ◌++◌, nat_le, Bool, true, false, List, [], ◌∷◌, Option, Some, None, find, option_and_then, option_map, if◌then◌else◌, codes, drop, map, String, string_bytes, Result, Ok, Err}
 use Rattle.std.specs.Option.{option_map_or}
 use Rattle.std.specs.Str.{bytes_eq}
+use Rattle.std.specs.Vec.Iter.{into_iter_items}
+use Rattle.std.specs.declared.vec.IntoIter.{IntoIter}
 use Rattle.clap.specs.Kinds.{Kinds}
 use Rattle.clap.specs.Walk.{Row, Rule, Text, first_of}
 use Rattle.clap.specs.Simple.{App, matches_of, new_app, new_rule, on_top, with_rule}
@@ -71,10 +73,10 @@ options_of words = unless_faulty (fault_of the_command words) (options_from (mat
 abbrev pub said_by : {Z : Type 0} → List (String Z) → Option Options
 said_by words = options_of (map string_bytes words)
 
--- a whole line, the program's name first, may say this: nothing, where it isn't all text
-abbrev pub MaySay : {L E : Type 0} → Result L E → Option Options → Type 0
-MaySay (Ok line) said = Unit {0}
-MaySay (Err e) said = said ≡ None
+-- what a whole line says by the words behind the program's name; nothing, where the line isn't all text
+abbrev pub said_by_line : {Y Z E : Type 0} → Result (IntoIter (String Y) Z) E → Option Options
+said_by_line (Ok line) = said_by (drop 1 (into_iter_items line))
+said_by_line (Err e) = None
 
 -- an option that stands alone, its value joined to it, says it, and the others say their defaults; one -- may stand behind it
 abbrev pub LoneOptionsSay : Type 0

@@ -2,13 +2,13 @@
 //! prints for each object one history with every reply and the state that it leaves.
 #![tactic(auto)]
 
-ghost use Rattle.std.specs.Prelude.{◌≡◌, IfOk, None, Option, length};
+ghost use Rattle.std.specs.Prelude.{◌≡◌, IfOk, None, drop, length};
 ghost use Rattle.std.specs.Process.{exit_status};
+ghost use Rattle.std.specs.Vec.Iter.{into_iter_items};
 ghost use Rattle.mm_main.specs.Answers.{AnswersTo, CompletesTo, status_number};
-ghost use Rattle.mm_main.specs.CommandLine.{MaySay, said_by};
+ghost use Rattle.mm_main.specs.CommandLine.{said_by, said_by_line};
 ghost use Rattle.mm_main.specs.Kept.{HasServed};
 ghost use Rattle.mm_main.specs.Requests.{request};
-ghost use Rattle.mm_main.specs.declared.options.Options.{Options};
 
 mod input;
 mod objects;
@@ -34,7 +34,9 @@ use vma_map::Areas;
 use word_bits::MAX_TASKS;
 
 /// The words after the program's name.
-fn words_behind(alloc: Global, line: env::Args) -> Result<Vec<String>, AllocError> {
+fn words_behind(alloc: Global, line: env::Args) -> Result<Vec<String>, AllocError>
+    ensures { IfOk result (λ words. words.items ≡ drop 1 (into_iter_items line)) }
+{
     line.skip(1).collect(alloc)
 }
 
@@ -42,7 +44,7 @@ fn words_behind(alloc: Global, line: env::Args) -> Result<Vec<String>, AllocErro
 /// word, which is no option.
 #[tactic(auto, using(crate::proofs::CommandLines::empty_word_says_nothing))]
 fn words(alloc: Global, line: io::Result<env::Args>) -> io::Result<Vec<String>>
-    ensures { IfOk result (λ words. MaySay line (said_by words.items)) }
+    ensures { IfOk result (λ words. said_by words.items ≡ said_by_line line) }
 {
     match line {
         Ok(line) => Ok(words_behind(alloc, line)?),
@@ -98,10 +100,10 @@ fn run<R: Threads + Wait + Sync, S: Source, K: Sink>(
     kept: &mut Option<ScriptMachine<RwSem<Areas>, Mutex<Fds>, ParkCrew>>,
 ) -> Status
     requires { kept.old ≡ None }
-    ensures { (said : Option Options) × MaySay line said ×
-        AnswersTo S.left S.faults K.faults K.written source.old source.new sink.old sink.new
+    ensures answer { AnswersTo S.left S.faults K.faults K.written source.old source.new
+        sink.old sink.new
         (HasServed ⟦<RwSem<Areas> as SleepLock<Areas>>⟧ ⟦<Mutex<Fds> as SleepLock<Fds>>⟧)
-        kept.new (request said) result }
+        kept.new (request (said_by_line line)) result }
 {
     let Ok(words) = words(alloc, line) else {
         return Status::NoMemory;
