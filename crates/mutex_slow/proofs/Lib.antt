@@ -4,4 +4,3 @@ pub mod Queueing
 pub mod Stating
 pub mod Chaining
 pub mod Locking
-pub mod Spinning

@@ -1,5 +1,5 @@
 -- What a clause reads of a mutex and of a pass of it.
-use Rattle.std.specs.Prelude.{◌≡◌, ℕ, ◌+◌, ◌≤◌, Bool, None}
+use Rattle.std.specs.Prelude.{◌≡◌, ℕ, ◌+◌, ◌≤◌, Bool, List, None}
 use Rattle.word_bits.specs.LockWords.{owned}
 use Rattle.word_bits.specs.Objects.{Obj}
 use Rattle.word_bits.specs.Histories.{Plan}
@@ -36,6 +36,14 @@ module _ {O C : Type 0} where
 
   abbrev pub hand_in : MutexPass O C → Hand
   hand_in pass = inner.hand_in pass.pass
+
+  -- the moments of its spin queue up to the pass's last step on that, the last one first
+  abbrev pub spun_of : MutexPass O C → List Moment
+  spun_of pass = queue.past_of pass.queue
+
+  -- they go on
+  abbrev pub SpunGoesOn : MutexPass O C → MutexPass O C → Type 0
+  SpunGoesOn old new = queue.KeepsPast old.queue new.queue
 
   -- it holds alone
   abbrev pub TakesAlone : {Call : Type 0} → Obj Call → Mutex O C → MutexPass O C → MutexPass O C → Type 0

@@ -14,4 +14,3 @@ pub mod Quitting
 pub mod ReaderSteps
 pub mod BiasHolds
 pub mod Unqueued
-pub mod SpinQueues

@@ -1,5 +1,5 @@
 -- What a clause reads of a semaphore and of a pass of it.
-use Rattle.std.specs.Prelude.{◌≡◌, ℕ}
+use Rattle.std.specs.Prelude.{◌≡◌, ℕ, List}
 use Rattle.word_bits.specs.declared.rec.Rec.{Rec}
 use Rattle.word_bits.specs.Histories.{Plan}
 use Rattle.word_bits.specs.RecWord.{rec_word}
@@ -34,6 +34,14 @@ module _ {O C : Type 0} where
 
   abbrev pub hand_in : RwPass O C → Hand
   hand_in pass = inner.hand_in pass.pass
+
+  -- the moments of its spin queue up to the pass's last step on that, the last one first
+  abbrev pub spun_of : RwPass O C → List Moment
+  spun_of pass = queue.past_of pass.queue
+
+  -- they go on
+  abbrev pub SpunGoesOn : RwPass O C → RwPass O C → Type 0
+  SpunGoesOn old new = queue.KeepsPast old.queue new.queue
 
   -- it holds alone, and shared
   abbrev pub TakesAlone : {Call : Type 0} → Obj Call → RwSem O C → RwPass O C → RwPass O C → Type 0

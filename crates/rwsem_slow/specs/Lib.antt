@@ -15,4 +15,3 @@ pub mod Leaving
 pub mod Standing
 pub mod Stealing
 pub mod Spinning
-pub mod SpinQueues

@@ -1,16 +1,16 @@
 //! What was so of a semaphore's wait lock and of its spin queue at each moment, and what each step
 //! did to them.
-ghost use Rattle.std.specs.Prelude.{◌≡◌, ℕ, List, [], ◌∷◌};
+ghost use Rattle.std.specs.Prelude.{◌≡◌, ℕ, List, [], ◌∷◌, length};
 ghost use Rattle.lock_core.specs.Locking.{Looks};
 ghost use Rattle.lock_core.specs.Pasts.{BeganWith, EachMoment, Ran, Tail};
 ghost use Rattle.lock_core.specs.Shown.{IsLatestStep, PastGoesOn};
 ghost use Rattle.lock_core.specs.SpinStated.{IsSpinLockThen, IsSpinMove};
-ghost use Rattle.rwsem_slow.specs.Handles.{newest, plan_of, shown_of, SitsAt};
+ghost use Rattle.rwsem_slow.specs.Handles.{hand_in, newest, plan_of, shown_of, spun_of, SitsAt, SpunGoesOn};
 ghost use Rattle.rwsem_slow.specs.RwSems.{standing, wait_lock_at};
-ghost use Rattle.rwsem_slow.specs.SpinQueues.{newest_queue, spinners_of, spun_of, HasOneFront, IsOutOfQueue, SpunGoesOn};
 ghost use Rattle.osq_nodes.specs.Places.{node_marks};
-ghost use Rattle.osq_nodes.specs.Ruled.{IsOsqMove};
+ghost use Rattle.osq_nodes.specs.Ruled.{IsOsqMove, newest as newest_queue};
 ghost use Rattle.osq_nodes.specs.Stated.{HasBecome, IsSpinQueue};
+ghost use Rattle.osq_unqueue.specs.Fronts.{HasOneFront, IsOutOfQueue};
 
 use super::{RwPass, RwSem};
 use qspin_queue::recall_spin_lock;
@@ -43,13 +43,14 @@ impl<O: Object> RwSem<O> {
         ensures own { SitsAt self.now pass.new }
         ensures goes_on { SpunGoesOn pass.old pass.new }
         ensures kept { shown_of pass.new ≡ shown_of pass.old }
-        ensures begins { BeganWith (newest_queue self.now) (spun_of pass.new) }
-        ensures always { EachMoment (IsSpinQueue (spinners_of self.now)) (spun_of pass.new) }
+        ensures begins { BeganWith (newest_queue (length (plan_of self.now))) (spun_of pass.new) }
+        ensures always { EachMoment (IsSpinQueue (length (plan_of self.now))) (spun_of pass.new) }
         ensures fronts { EachMoment HasOneFront (spun_of pass.new) }
         ensures queues { (queue : List ℕ) × HasBecome (spun_of pass.new) queue }
-        ensures counts { Ran node_marks (newest_queue self.now) (IsOsqMove (spinners_of self.now))
+        ensures counts { Ran node_marks (newest_queue (length (plan_of self.now)))
+            (IsOsqMove (length (plan_of self.now))) (spun_of pass.new) }
+        ensures out { IsOutOfQueue (hand_in pass.new).task (shown_of pass.new).fronts
             (spun_of pass.new) }
-        ensures out { IsOutOfQueue pass.new }
     {
         self.osq.recall_queue(&mut pass.queue);
     }

@@ -1,15 +1,11 @@
-use Rattle.std.proofs.Common.{◌≡◌, ◌∙◌, ◌∷◌, sym, ap, subst}
+use Rattle.std.proofs.Common.{◌∙◌, sym, ap, subst}
 use Rattle.lock_core.specs.declared.view.Hand.{Hand}
-use Rattle.lock_core.specs.declared.view.Moment.{Moment}
 use Rattle.lock_core.specs.Pasts.{BeganWith, EachMoment, Ran}
-use Rattle.osq_nodes.specs.declared.node.Place.TheVariants.{Out}
 use Rattle.osq_nodes.specs.Handles.{past_of, tasks_of}
 use Rattle.osq_nodes.specs.Places.{node_marks}
 use Rattle.osq_nodes.specs.Ruled.{IsOsqMove, newest}
-use Rattle.osq_nodes.specs.Stated.{IsSpinQueue, places_at}
-use Rattle.mutex_slow.specs.Spinning.{HasOneFront}
-use Rattle.mutex_slow.proofs.Locking.{each-moment}
-use Rattle.mutex_slow.proofs.Spinning.{one-front, same-now}
+use Rattle.osq_nodes.specs.Stated.{IsSpinQueue}
+use Rattle.osq_unqueue.proofs.Fronts.{each-front, out-of-queue}
 use Rattle.mutex_slow.proofs.calls.Mutex.recall_spin_queue.Goals as goal
 
 pub returns-clause-begins : goal.returns-clause-begins
@@ -19,22 +15,11 @@ pub returns-clause-always : goal.returns-clause-always
 returns-clause-always g c = subst (λ tasks. EachMoment (IsSpinQueue tasks) (past_of c.recall_queue.new.pass)) c.args.self.now.sized c.recall_queue.ensures.always
 
 pub returns-clause-fronts : goal.returns-clause-fronts
-returns-clause-fronts g c = let tasks = tasks_of c.args.self.now.osq in each-moment (IsSpinQueue tasks) HasOneFront (one-front tasks) (past_of c.recall_queue.new.pass) c.recall_queue.ensures.always
+returns-clause-fronts g c = each-front (tasks_of c.args.self.now.osq) (past_of c.recall_queue.new.pass) c.recall_queue.ensures.always
 
 pub returns-clause-counts : goal.returns-clause-counts
 returns-clause-counts g c = subst (λ tasks. Ran node_marks (newest tasks) (IsOsqMove tasks) (past_of c.recall_queue.new.pass)) c.args.self.now.sized c.recall_queue.ensures.counts
 
 pub returns-clause-out : goal.returns-clause-out
-returns-clause-out g c = let e = c.recall_queue.ensures in let was = c.requires.own in let own = e.last in let mine = e.mine in
-    let said = ap {A = Hand} (λ h. h.task) e.number.1 ∙ (sym was.queued.sits.task ∙ (was.same ∙ was.sits.task)) in record {
-      now = own.now;
-      rest = own.before ∷ own.rest;
-      past_is = own.past_is;
-      seat = own.seat;
-      hand = _;
-      hand_is = own.hand;
-      task = said;
-      fronts = own.fronts;
-      out = λ t is. subst (λ (m : Moment). places_at m t ≡ Out) (same-now mine.now own.now mine.rest (own.before ∷ own.rest) (sym mine.past_is ∙ own.past_is))
-          (mine.task t (e.own.sits.task ∙ (said ∙ is)) ∙ (ap (λ x. x.place) e.node.0 ∙ was.off));
-    }
+returns-clause-out g c = let e = c.recall_queue.ensures in let was = c.requires.own in let said = ap {A = Hand} (λ h. h.task) e.number.1 ∙ (sym was.queued.sits.task ∙ (was.same ∙ was.sits.task)) in
+    out-of-queue c.args.self.now.osq c.recall_queue.new.pass _ e.own e.last e.mine said (ap (λ x. x.place) e.node.0 ∙ was.off)
