@@ -12,6 +12,7 @@ ghost use Rattle.osq_nodes.specs.Stated.{HasBecome, IsSpinQueue};
 use crate::pass::OsqPass;
 use crate::rule::QueueRule;
 use crate::steps;
+use crossbeam_utils::Backoff;
 use lock_core::{Plan, Site};
 use std::alloc::{AllocError, Global};
 use std::sync::Wait;
@@ -164,6 +165,7 @@ impl Osq {
         ensures place { MatchOption result (place_in pass.new ≡ Out)
             (λ next. (next < MAX_TASKS) × (place_in pass.new ≡ takes_at prev next)) }
     {
+        let backoff = Backoff::new();
         for _ in rt.forever() {
             if steps::is_last(self, pass, task, prev) && steps::leave_tail(self, pass, task, prev) {
                 return None;
@@ -174,6 +176,7 @@ impl Osq {
                     return Some(next);
                 }
             }
+            backoff.snooze();
         }
         unreachable!()
     }
@@ -199,10 +202,12 @@ impl Osq {
         if self.enter(pass, task).is_none() {
             return;
         }
+        let backoff = Backoff::new();
         for _ in rt.forever() {
             if steps::is_granted(self, pass, task) {
                 return;
             }
+            backoff.snooze();
         }
         unreachable!()
     }

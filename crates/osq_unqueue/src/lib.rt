@@ -10,6 +10,7 @@ ghost use Rattle.osq_unqueue.specs.Rising.{Rises};
 mod steps;
 
 use cpu_task::Cpu;
+use crossbeam_utils::Backoff;
 use osq_nodes::steps::is_granted;
 use osq_nodes::{Osq, OsqPass};
 use std::sync::Wait;
@@ -62,6 +63,7 @@ fn unlink<W: Wait>(osq: &Osq, rt: &W, pass: &mut OsqPass, task: u32, mut prev: u
     ensures fronts { MatchOption result (fronts_in pass.new ≡ fronts_in pass.old + 1)
         (λ p. fronts_in pass.new ≡ fronts_in pass.old) }
 {
+    let backoff = Backoff::new();
     for _ in rt.forever() {
         // The predecessor's link comes first, before the own successor is looked for: while the
         // predecessor has it, it may leave or grant, and the successor would be tied to one that is
@@ -75,6 +77,7 @@ fn unlink<W: Wait>(osq: &Osq, rt: &W, pass: &mut OsqPass, task: u32, mut prev: u
         // Nobody has this code in that `next`: the predecessor took it, to grant or to leave, or it
         // has left, and this task has another.
         prev = steps::reread(osq, pass, task);
+        backoff.snooze();
     }
     unreachable!()
 }

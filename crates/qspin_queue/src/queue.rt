@@ -15,6 +15,7 @@ use crate::steps::{
     clear_locked, clear_next, exchange_last, exchange_tail, link, load_front, load_locked,
     load_next, load_successor, pass_front, retry, set_locked,
 };
+use crossbeam_utils::Backoff;
 use lock_core::{Pass, Site, SpinHost};
 use qspin_word::steps::{exchange_free, peek};
 use qspin_word::{PENDING, TAIL, TAILLESS, take_by_pending};
@@ -71,10 +72,12 @@ fn wait_front<H: SpinHost, W: Wait>(site: &Site<H>, rt: &W, pass: &mut Pass<H>, 
     requires small { code ≤ MAX_TASKS }
     ensures waits { SpinWaits site.now pass.old pass.new (heard 1 (view_of pass.old)) }
 {
+    let backoff = Backoff::new();
     for _ in rt.forever() {
         if load_locked(site, pass, code) == 1 {
             return;
         }
+        backoff.snooze();
     }
     unreachable!()
 }
@@ -110,6 +113,7 @@ fn wait_ready<H: SpinHost, W: Wait>(site: &Site<H>, rt: &W, pass: &mut Pass<H>) 
     ensures waits { SpinWaits site.now pass.old pass.new (went (spin_in pass.old) Ready) }
     ensures free { result % 512 ≡ 0 }
 {
+    let backoff = Backoff::new();
     for _ in rt.forever() {
         let seen = load_front(site, pass);
         // The owner of the pending bit came first, and takes once the byte is 0: so the front waits
@@ -117,6 +121,7 @@ fn wait_ready<H: SpinHost, W: Wait>(site: &Site<H>, rt: &W, pass: &mut Pass<H>) 
         if seen % TAILLESS == 0 {
             return seen;
         }
+        backoff.snooze();
     }
     unreachable!()
 }
@@ -137,11 +142,13 @@ fn wait_successor<H: SpinHost, W: Wait>(
     ensures some { result ≢ 0 }
     ensures next { result ≤ MAX_TASKS }
 {
+    let backoff = Backoff::new();
     for _ in rt.forever() {
         let next = load_successor(site, pass, code);
         if next != 0 {
             return next;
         }
+        backoff.snooze();
     }
     unreachable!()
 }

@@ -9,6 +9,7 @@ ghost use Rattle.qspin_word.specs.Handles.{spin_in, point_in, SpinSteps, SpinWai
 
 use crate::moves::word_step;
 use crate::{LOCKED, PENDING};
+use crossbeam_utils::Backoff;
 use lock_core::{Op, Pass, Site, SpinHost};
 use std::marker::Brand;
 use std::sync::Wait;
@@ -88,10 +89,12 @@ pub fn wait_unlocked<H: SpinHost, W: Wait>(site: &Site<H>, rt: &W, pass: &mut Pa
     requires point { point_in pass.old ≡ Pending }
     ensures waits { SpinWaits site.now pass.old pass.new (went (spin_in pass.old) Taking) }
 {
+    let backoff = Backoff::new();
     for _ in rt.forever() {
         if load_pending(site, pass) % PENDING == 0 {
             return;
         }
+        backoff.snooze();
     }
     unreachable!()
 }
