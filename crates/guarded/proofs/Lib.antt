@@ -9,4 +9,6 @@ pub mod Legally
 pub mod Joining
 pub mod Padding
 pub mod Ascending
-pub mod Slots
+pub mod Descriptors
+pub mod Spliced
+pub mod Written

@@ -11,16 +11,13 @@ use Rattle.lock_core.specs.Views.{committed, next_entry}
 use Rattle.lock_core.proofs.RecordLaws.{state-snoc}
 use Rattle.lock_core.specs.Passes.{IsChange}
 use Rattle.lock_core.specs.Shown.{Shown, IsNextCall}
-use Rattle.lock_core.specs.Locking.{IsStored, Looks, HasSince}
+use Rattle.lock_core.specs.Locking.{IsStored, HasSince}
 use Rattle.guarded.specs.declared.next.Next.{Next}
 use Rattle.guarded.specs.Performing.{IsNext, HasStored}
 use Rattle.guarded.proofs.Passing.{beside-trans}
 
 module _ {Call : Type 0} (o : Obj Call) (lawful : IsLawful o) (k : Plan) (h : Hand) (stored : IsStored o k h) where
-  -- the words that a holder loaded store the state after the log
-  pub loaded-stores : (xs : List ℕ) → xs ≡ h.known → (s : o.State) × o.IsState s × (o.stores s ≡ xs)
-  loaded-stores xs is = (state_after o k h.log, state_is_state o lawful k h.log, sym stored ∙ sym is)
-
+  -- a holder knows all the words that store a state
   pub known-sized : (n : ℕ) → ((s : o.State) → o.IsState s → length (o.stores s) ≡ n) → length h.known ≡ n
   known-sized n sized = ap length stored ∙ sized (state_after o k h.log) (state_is_state o lawful k h.log)
 
@@ -37,20 +34,17 @@ module _ {Call : Type 0} (o : Obj Call) (lawful : IsLawful o) (k : Plan) (log : 
     pub still-stored : IsStored o k g
     still-stored = ap {A = Hand} (λ (x : Hand). x.known) now ∙ ap o.stores state-changed
 
--- a pass that loaded the words, stored others and committed
-module _ (v w m u : Shown) (xs ys : List ℕ) (looks : Looks v w) (stored : HasStored xs w m) (same : xs ≡ ys) where
-  now-stored : m.hand ≡ record v.hand { writes = stored.0; known = ys }
-  now-stored = stored.1.0 ∙ (λ i. record (looks.0 i) { writes = stored.0; known = same i })
-
-  pub change-kept : (reply : Reply) → HasSince (λ step. committed m.hand step (next_entry m.hand) reply) m u → HasSince (λ step. committed (record v.hand { known = ys }) step (next_entry v.hand) reply) v u
-  change-kept reply c = (
+-- a pass that stored words and committed
+module _ (v m : Shown) (words : List ℕ) (stored : HasStored words v m) where
+  pub change-kept : (u : Shown) (reply : Reply) → HasSince (λ step. committed m.hand step (next_entry m.hand) reply) m u → HasSince (λ step. committed (record v.hand { known = words }) step (next_entry v.hand) reply) v u
+  change-kept u reply c = (
     c.0,
-    (let a = looks.1.3 in let b = stored.1.1.3 in let l = c.1 in omega (arith, a, b, l)),
+    (let b = stored.1.1.3 in let l = c.1 in omega (arith, b, l)),
     c.2,
-    (c.3.0 ∙ ap {B = Hand} (λ (h : Hand). committed h c.0 (next_entry h) reply) now-stored, beside-trans v w u looks.1 (beside-trans w m u stored.1.1 c.3.1)),
+    (c.3.0 ∙ ap {B = Hand} (λ (h : Hand). committed h c.0 (next_entry h) reply) stored.1.0, beside-trans v m u stored.1.1 c.3.1),
   )
 
-  pub may-commit : {Call : Type 0} (o : Obj Call) (k : Plan) (n : Next Call) (reply : Reply) → IsNext o k v.hand n → o.reads n.call ≡ false → ys ≡ o.stores (o.meaning (state_after o k v.hand.log) n.call).0 → reply ≡ (o.meaning (state_after o k v.hand.log) n.call).1
+  pub may-commit : {Call : Type 0} (o : Obj Call) (k : Plan) (n : Next Call) (reply : Reply) → IsNext o k v.hand n → o.reads n.call ≡ false → words ≡ o.stores (o.meaning (state_after o k v.hand.log) n.call).0 → reply ≡ (o.meaning (state_after o k v.hand.log) n.call).1
       → IsChange o k m.hand (next_entry m.hand) reply
-  may-commit o k n reply next changes store replies = subst (λ (h : Hand). IsChange o k h (next_entry h) reply) (sym now-stored)
+  may-commit o k n reply next changes store replies = subst (λ (h : Hand). IsChange o k h (next_entry h) reply) (sym stored.1.0)
       (record { words = n.words; call = n.call; planned = next.planned.1; is = next.is; changes = changes; stored = store; replies = replies })

@@ -2,6 +2,8 @@ pub mod States
 pub mod Serving
 pub mod Handles
 pub mod Performing
+pub mod Splicing
+pub mod Slots
 pub mod Copying
 pub mod Gathering
 pub mod SiteLocks

@@ -1,5 +1,5 @@
 -- The state that a holder knows, and what calls make of it.
-use Rattle.std.specs.Prelude.{◌≡◌, ◌≢◌}
+use Rattle.std.specs.Prelude.{◌≡◌, ◌≢◌, ℕ, List}
 use Rattle.word_bits.specs.declared.reply.Errno.{Errno}
 use Rattle.word_bits.specs.declared.reply.Reply.{Reply}
 use Rattle.word_bits.specs.declared.reply.Reply.TheVariants.{Refused}
@@ -15,6 +15,10 @@ module _ {Call : Type 0} (o : Obj Call) (k : Plan) (h : Hand) where
   -- what a call replies on it
   abbrev pub reply_in : Call → Reply
   reply_in call = (o.meaning state_in call).1
+
+  -- the words that store what a call makes of it
+  abbrev pub words_after : Call → List ℕ
+  words_after call = o.stores (o.meaning state_in call).0
 
   -- the call led from some state to this one, and replied so
   abbrev pub WasDone : Call → Reply → Type 0

@@ -3,7 +3,6 @@
 
 mod copying;
 mod guarded;
-mod loading;
 mod lock;
 mod mutex_lock;
 mod next;
@@ -11,9 +10,10 @@ mod perform;
 mod rwsem_lock;
 mod searching;
 mod served;
+mod slots;
+mod splicing;
 
 pub use guarded::Guarded;
-pub use loading::UsedWords;
 pub use lock::SleepLock;
 pub use mutex_slow::{Mutex, MutexPass};
 pub use rwsem_slow::{RwPass, RwSem};

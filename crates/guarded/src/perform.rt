@@ -1,5 +1,5 @@
 //! Calls on an object, under its lock.
-ghost use Rattle.std.specs.Prelude.{◌≡◌, ◌≢◌, ◌<◌, true, false, length, slice_index, slice_set, take, None, Some, IsSome, IfOk, IfErr};
+ghost use Rattle.std.specs.Prelude.{◌≡◌, ◌≢◌, ◌<◌, true, false, length, None, Some, IsSome, IfOk, IfErr};
 ghost use Rattle.word_bits.specs.declared.call.Mode.TheVariants.{Int, Try};
 ghost use Rattle.word_bits.specs.Calls.{signal_of};
 ghost use Rattle.lock_core.specs.declared.view.Held.TheVariants.{No, Alone};
@@ -9,19 +9,18 @@ ghost use Rattle.lock_core.specs.Kinds.{shares, unavailable};
 ghost use Rattle.lock_core.specs.Shown.{IsNextCall, PastGoesOn};
 ghost use Rattle.lock_core.specs.Locking.{Looks, Takes, KeepsPlace, Releases, IsStored, held_by};
 ghost use Rattle.guarded.specs.Handles.{lock_of};
-ghost use Rattle.guarded.specs.Performing.{IsNext, Refuses, TriesOnce, Serves, Performs, Changes, HasStored, no_word};
+ghost use Rattle.guarded.specs.Performing.{IsNext, Refuses, TriesOnce, Serves, Performs, Changes, no_word};
 ghost use Rattle.guarded.specs.Gathering.{DoesOneMore};
 ghost use Rattle.guarded.specs.States.{WasDone, reply_in};
 
 use crate::guarded::Guarded;
-use crate::loading::load_words;
 use crate::lock::SleepLock;
 use crate::next::Next;
 use crate::served::Served;
 use cpu_task::{Crew, Gate};
 use lock_core::Held;
 use std::sync::Wait;
-use word_bits::{CallWords, MAX_TASKS, Mode, Object, Reply};
+use word_bits::{CallWords, MAX_TASKS, Mode, Reply};
 
 impl<L: SleepLock<O>, O: Served + Drop> Guarded<L, O> {
     /// Does the next call of the pass's task on the object, and records it: under a shared hold
@@ -391,58 +390,10 @@ impl<L: SleepLock<O>, O: Served + Drop> Guarded<L, O> {
         ensures kept { Changes O.object (L.calls_on (lock_of self.now)) next.call result
             (L.view pass.old) (L.view pass.new) }
     {
-        let words = load_words::<O, L>(&self.lock, pass);
-        // Filled in place: to move so large a value costs more than the call.
-        let mut value = O::empty();
-        value.reload(&words[..O::WORDS]);
-        let reply = value.apply(next.call);
-        self.store(pass, &words, &value);
+        let reply = O::change(&self.lock, pass, next.call);
         // The words and the log change under one hold, so whoever holds next finds that they agree.
         self.lock.commit(pass, next.number, reply);
         reply
-    }
-
-    /// Writes those words that store the value and that aren't there yet. `old` has the words that
-    /// are there. Behind the words that either state uses both have 0.
-    fn store(&self, pass: &mut L::Pass, old: &[u64; 257], value: &O)
-        requires own { L.sits (lock_of self.now) pass.old }
-        requires held { (L.view pass.old).hand.held ≡ Alone }
-        requires long { length old.now ≡ 257 }
-        requires sized { length (L.view pass.old).hand.known ≡ O.WORDS }
-        requires there { take O.WORDS old.now ≡ (L.view pass.old).hand.known }
-        requires before { (s : O.object.State) ×
-            O.object.IsState s × (O.object.stores s ≡ (L.view pass.old).hand.known) }
-        ensures own { L.sits (lock_of self.now) pass.new }
-        ensures goes_on { PastGoesOn (L.view pass.old) (L.view pass.new) }
-        ensures stored { HasStored (O.object.stores (O.state value.now))
-            (L.view pass.old) (L.view pass.new) }
-    {
-        let mut words = [0; 257];
-        let stored = &mut words[..O::WORDS];
-        value.store(stored);
-        let before = O::words_used(old[0]);
-        let after = O::words_used(stored[0]);
-        let used = before.max(after);
-        for at in 0..used {
-            self.store_word(pass, at, old[at], stored[at]);
-        }
-    }
-
-    /// Writes a guarded word where it changes.
-    fn store_word(&self, pass: &mut L::Pass, at: usize, old: u64, new: u64)
-        requires own { L.sits (lock_of self.now) pass.old }
-        requires held { (L.view pass.old).hand.held ≡ Alone }
-        requires inside { at < O.WORDS }
-        requires within { at < length (L.view pass.old).hand.known }
-        requires there { slice_index (L.view pass.old).hand.known at ≡ old }
-        ensures own { L.sits (lock_of self.now) pass.new }
-        ensures goes_on { PastGoesOn (L.view pass.old) (L.view pass.new) }
-        ensures stored { HasStored (slice_set (L.view pass.old).hand.known at new)
-            (L.view pass.old) (L.view pass.new) }
-    {
-        if new != old {
-            self.lock.set_word(pass, at, new);
-        }
     }
 
     /// Lets the gate see the task, which holds in this way.

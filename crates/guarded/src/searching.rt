@@ -1,14 +1,14 @@
 //! The search for a page in an address space under its lock.
-ghost use Rattle.std.specs.Prelude.{◌≡◌, ◌≢◌, ◌≤◌, List, drop, length, slice_index, take};
-ghost use Rattle.std.specs.List.{AllByRecursion};
+ghost use Rattle.std.specs.Prelude.{◌≡◌, ◌≢◌, ◌<◌, ◌≤◌, List, Some, length, slice_get, slice_index};
 ghost use Rattle.word_bits.specs.declared.area.Area.{Area};
 ghost use Rattle.word_bits.specs.PageMaps.{PageMap, IsPageMap, runs};
 ghost use Rattle.lock_core.specs.declared.view.Held.TheVariants.{No};
 ghost use Rattle.lock_core.specs.Shown.{PastGoesOn};
 ghost use Rattle.lock_core.specs.Locking.{Looks};
-ghost use Rattle.vma_map.specs.Runs.{IsSpace, words_of_areas};
+ghost use Rattle.vma_map.specs.Runs.{IsSpace, page_map, words_of_areas};
 ghost use Rattle.vma_map.specs.Spaces.{AreSpaceWords, IsRunAt, stores};
-ghost use Rattle.guarded.specs.Serving.{ArePartedAt};
+ghost use Rattle.guarded.specs.Serving.{ArePartedAt, readable_from, share};
+ghost use Rattle.guarded.specs.Splicing.{HaveAreas, areas_in};
 
 use crate::lock::SleepLock;
 use vma_map::Areas;
@@ -66,4 +66,59 @@ pub(crate) fn find_page<L: SleepLock<Areas>>(
     }
     let area = Area::unpack(lock.word(pass, begun))?;
     if page < area.end { Some(area) } else { None }
+}
+
+/// An area, by its place in their order.
+pub(crate) fn area_at<L: SleepLock<Areas>>(lock: &L, pass: &mut L::Pass, at: usize) -> Area
+    requires own { L.sits lock.now pass.old }
+    requires held { (L.view pass.old).hand.held ≢ No }
+    requires areas { HaveAreas (L.view pass.old).hand.known }
+    requires inside { at < length (areas_in (L.view pass.old).hand.known) }
+    ensures own { L.sits lock.now pass.new }
+    ensures goes_on { PastGoesOn (L.view pass.old) (L.view pass.new) }
+    ensures kept { Looks (L.view pass.old) (L.view pass.new) }
+    ensures area { slice_get (areas_in (L.view pass.old).hand.known) at ≡ Some result }
+{
+    match Area::unpack(lock.word(pass, at + 1)) {
+        Some(area) => area,
+        None => unreachable!(),
+    }
+}
+
+/// How many pages of a range admit reading, area by area.
+pub(crate) fn count_readable<L: SleepLock<Areas>>(
+    lock: &L,
+    pass: &mut L::Pass,
+    start: u32,
+    len: u32,
+) -> u32
+    requires own { L.sits lock.now pass.old }
+    requires held { (L.view pass.old).hand.held ≢ No }
+    requires areas { HaveAreas (L.view pass.old).hand.known }
+    ensures own { L.sits lock.now pass.new }
+    ensures goes_on { PastGoesOn (L.view pass.old) (L.view pass.new) }
+    ensures kept { Looks (L.view pass.old) (L.view pass.new) }
+    ensures pages { result
+        ≡ readable_from (page_map (areas_in (L.view pass.old).hand.known)) start len }
+{
+    let count = lock.word(pass, 0) as usize;
+    let end = start.saturating_add(len);
+    let mut pages = 0;
+    for at in 0..count {
+        // Nobody writes while the pass holds, so the areas are those of one moment.
+        let area = area_at(lock, pass, at);
+        pages += readable_between(area, start, end);
+    }
+    pages
+}
+
+/// How many pages of the area lie between two and admit reading.
+fn readable_between(area: Area, start: u32, end: u32) -> u32
+    ensures { result ≡ share area start end }
+{
+    if area.prot % 2 == 1 {
+        area.end.min(end).saturating_sub(area.start.max(start))
+    } else {
+        0
+    }
 }

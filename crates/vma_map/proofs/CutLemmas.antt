@@ -79,13 +79,6 @@ pub ends_by : (areas : List Area) (page : ℕ) → AllByRecursion (λ a. a.end <
 ends_by [] page ends = tt
 ends_by (a ∷ areas) page ends = let first = ends.0 in (omega arith, ends_by areas page ends.1)
 
--- where a key of areas reaches a number
-pub cut_below : (n : Area → ℕ) (areas : List Area) (page i : ℕ) → IsPartitionPoint (λ a. ltb (n a) page ≡ true) (λ a. ltb (n a) page ≡ false) areas i → i ≤ length areas → AllByRecursion (λ a. n a < page) (take i areas) × AllByRecursion (λ a. page ≤ n a) (drop i areas)
-cut_below n areas page i point within = (
-  all_front (λ a. n a < page) areas i (λ k d low high. ltb-true (n (get_or areas k d)) page (point.0 k d low high)) within,
-  all_rest (λ a. page ≤ n a) areas i (λ k d low high. ltb-false (n (get_or areas k d)) page (point.1 k d low high)),
-)
-
 -- where it passes the number
 pub cut_above : (n : Area → ℕ) (areas : List Area) (page i : ℕ) → IsPartitionPoint (λ a. leb (n a) page ≡ true) (λ a. leb (n a) page ≡ false) areas i → i ≤ length areas → AllByRecursion (λ a. n a ≤ page) (take i areas) × AllByRecursion (λ a. page < n a) (drop i areas)
 cut_above n areas page i point within = (
@@ -103,11 +96,6 @@ all_take P (a ∷ areas) (suc n) all = (all.0, all_take P areas n all.1)
 pub first_of : (areas : List Area) (a : Area) → slice_get areas 0 ≡ Some a → areas ≡ a ∷ drop 1 areas
 first_of [] a is = absurd cc
 first_of (b ∷ areas) a is = let same : b ≡ a = cc in ap (λ x. x ∷ areas) same
-
--- there is none
-pub no_first : (areas : List Area) → slice_get areas 0 ≡ None → areas ≡ []
-no_first [] is = refl
-no_first (a ∷ areas) is = absurd cc
 
 -- the other areas have the pages from where the first ones end
 pub page_map-others : (areas : List Area) (n page : ℕ) → AllByRecursion (λ a. a.end ≤ page) (take n areas) → (q : ℕ) → page ≤ q → page_map (drop n areas) q ≡ page_map areas q

@@ -6,3 +6,6 @@ pub mod QueryLemmas
 pub mod FindLemmas
 mod CutLemmas
 mod SpliceLemmas
+mod SearchLemmas
+mod EndsLemmas
+mod ChangeLemmas

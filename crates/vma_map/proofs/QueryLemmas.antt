@@ -1,5 +1,5 @@
 -- Ranges of pages, as areas in order have them.
-use Rattle.std.proofs.Common.{◌≡◌, ℕ, ◌+◌, ◌-◌, max, ◌<◌, ◌≤◌, List, [], ◌∷◌, ◌++◌, refl, zero, suc, Option, Some, None, Bool, true, false, eqb, leb, ◌⊎◌, inl, inr, sym, ap, ◌∙◌, arith}
+use Rattle.std.proofs.Common.{◌≡◌, ℕ, ◌+◌, ◌-◌, max, ◌<◌, ◌≤◌, List, [], ◌∷◌, ◌++◌, take, refl, zero, suc, Option, Some, None, Bool, true, false, eqb, leb, ◌⊎◌, inl, inr, sym, ap, ◌∙◌, arith}
 use Rattle.std.specs.Prelude.{is_some, is_none}
 use Rattle.std.specs.Bool.{then_some}
 use Rattle.std.proofs.lemmas.Bool.{cases_lt, cases_eq, cases_Bool, and_parts, and_from, false≢true, false_from_ne_true, cond-true, cond-false, ne_eqb, leb-false, leb-true}
@@ -10,6 +10,8 @@ use Rattle.vma_map.specs.Spaces.{each_page, is_free, is_mapped, first_free, lowe
 use Rattle.vma_map.specs.AreaLaws.{page_map-in, page_map-below, page_map-behind, page_map-before, AreRuns-head, AreRuns-tail}
 use Rattle.vma_map.proofs.RangeLemmas.{page_map-append, page_map-front, AreRuns-from}
 use Rattle.vma_map.proofs.WordLemmas.{AreRuns-init}
+use Rattle.std.specs.List.{AllByRecursion}
+use Rattle.vma_map.proofs.CutLemmas.{none_from}
 
 -- a range passes a test if each of its pages does
 each_page-from : (test : Option ℕ → Bool) (m : PageMap) (page count : ℕ) → ((q : ℕ) → page ≤ q → q < page + count → test (m q) ≡ true) → each_page test m page count ≡ true
@@ -92,6 +94,14 @@ pub record IsMappedTo (areas front : List Area) (start next : ℕ) : Type 0 wher
   pub from : start ≤ next
   pub mapped : (q : ℕ) → start ≤ q → q < next → is_some (page_map areas q) ≡ true
   pub ends : page_map front next ≡ None
+
+-- at first it is mapped up to its start
+pub IsMappedTo-start : (areas : List Area) (n start : ℕ) → AllByRecursion (λ a. a.end ≤ start) (take n areas) → IsMappedTo areas (take n areas) start start
+IsMappedTo-start areas n start ended = record {
+  from = omega arith;
+  mapped = λ q low high. absurd (omega (arith, low, high));
+  ends = none_from (take n areas) start ended start (omega arith);
+}
 
 module _ (areas front : List Area) (a : Area) (rest : List Area) (start next : ℕ) (is : areas ≡ front ++ a ∷ rest) (runs : AreRuns areas) (so_far : IsMappedTo areas front start next) where
   -- an area that begins behind the next page leaves it out

@@ -1,5 +1,5 @@
 -- An address space as a list of areas.
-use Rattle.std.specs.Prelude.{◌≡◌, ◌≢◌, ℕ, ◌-◌, ◌≤◌, ◌&&◌, nat_le, nat_lt, List, [], ◌∷◌, ◌++◌, length, map, replicate, Some, None, if◌then◌else◌}
+use Rattle.std.specs.Prelude.{◌≡◌, ◌≢◌, ℕ, ◌+◌, ◌-◌, ◌≤◌, ◌&&◌, nat_le, nat_lt, List, [], ◌∷◌, ◌++◌, length, map, replicate, take, drop, Some, None, if◌then◌else◌}
 use Rattle.word_bits.specs.declared.area.Area.{Area}
 use Rattle.word_bits.specs.AreaWord.{IsArea, area_word}
 use Rattle.word_bits.specs.PageMaps.{PageMap}
@@ -28,3 +28,18 @@ pub record IsSpace (areas : List Area) : Type 0 where
 -- the number of areas, their words, and zeros, in all 257 words
 abbrev pub words_of_areas : List Area → List ℕ
 words_of_areas areas = length areas ∷ map area_word areas ++ replicate (256 - length areas) 0
+
+-- the areas with pieces in the place of so many from a place on
+abbrev pub spliced : (at count : ℕ) → List Area → List Area → List Area
+spliced at count pieces areas = take at areas ++ pieces ++ drop (at + count) areas
+
+-- the last of an area and those behind it
+abbrev pub last_of : Area → List Area → Area
+last_of a [] = a
+last_of a (next ∷ areas) = last_of next areas
+
+-- of areas the first and the last
+abbrev pub ends_of : List Area → List Area
+ends_of [] = []
+ends_of (a ∷ []) = a ∷ []
+ends_of (a ∷ (next ∷ areas)) = a ∷ last_of next areas ∷ []

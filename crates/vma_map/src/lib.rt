@@ -3,14 +3,18 @@
 
 mod areas;
 mod call;
+mod calls;
 mod query;
 mod range;
+mod store;
 #[cfg(test)]
 mod tests;
 mod words;
 
 pub use areas::Areas;
 pub use call::SpaceCall;
+pub use calls::apply;
+pub use store::AreaStore;
 pub use words::find;
 
 /// How many pages an address space has. They are numbered from 0.

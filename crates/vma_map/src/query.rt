@@ -1,76 +1,124 @@
 //! What areas in order say of a page and of a range of pages.
-ghost use Rattle.std.specs.Prelude.{◌≡◌, ◌+◌, ◌<◌, ◌≤◌, ℕ, drop, take, length};
+ghost use Rattle.std.specs.Prelude.{◌≡◌, ◌+◌, ◌<◌, ◌≤◌, drop, take, length};
 ghost use Rattle.std.specs.List.{AllByRecursion};
-ghost use Rattle.vma_map.specs.Runs.{page_map, AreRuns};
+ghost use Rattle.vma_map.specs.Runs.{page_map};
 ghost use Rattle.vma_map.specs.Spaces.{is_free, is_mapped, lowest_free};
 
 use crate::PAGES;
-use word_bits::Area;
+use crate::store::AreaStore;
 
 /// How many areas end before a page.
-pub(crate) fn count_ended(areas: &[Area], page: u32) -> usize
-    requires { AreRuns areas.now }
-    ensures within { result ≤ length areas.now }
-    ensures ended { AllByRecursion (λ area. area.end < page) (take result areas.now) }
-    ensures others { AllByRecursion (λ area. page ≤ area.end) (drop result areas.now) }
+pub(crate) fn count_ended<S: AreaStore>(place: &S::Place, hand: &mut S::Hand, page: u32) -> usize
+    requires has { S.has place.now hand.old }
+    ensures has { S.has place.now hand.new }
+    ensures kept { S.keeps place.now hand.old hand.new }
+    ensures same { S.areas place.now hand.new ≡ S.areas place.now hand.old }
+    ensures within { result ≤ length (S.areas place.now hand.old) }
+    ensures ended { AllByRecursion (λ area. area.end < page)
+        (take result (S.areas place.now hand.old)) }
+    ensures others { AllByRecursion (λ area. page ≤ area.end)
+        (drop result (S.areas place.now hand.old)) }
 {
-    areas.partition_point(|area| area.end < page)
+    let mut low = 0;
+    let mut high = S::len(place, hand);
+    while low < high {
+        let middle = low + (high - low) / 2;
+        if S::get(place, hand, middle).end < page {
+            low = middle + 1;
+        } else {
+            high = middle;
+        }
+    }
+    low
 }
 
 /// How many areas begin at a page or before it.
-pub(crate) fn count_begun(areas: &[Area], page: u32) -> usize
-    requires { AreRuns areas.now }
-    ensures within { result ≤ length areas.now }
-    ensures begun { AllByRecursion (λ area. area.start ≤ page) (take result areas.now) }
-    ensures others { AllByRecursion (λ area. page < area.start) (drop result areas.now) }
+pub(crate) fn count_begun<S: AreaStore>(place: &S::Place, hand: &mut S::Hand, page: u32) -> usize
+    requires has { S.has place.now hand.old }
+    ensures has { S.has place.now hand.new }
+    ensures kept { S.keeps place.now hand.old hand.new }
+    ensures same { S.areas place.now hand.new ≡ S.areas place.now hand.old }
+    ensures within { result ≤ length (S.areas place.now hand.old) }
+    ensures begun { AllByRecursion (λ area. area.start ≤ page)
+        (take result (S.areas place.now hand.old)) }
+    ensures others { AllByRecursion (λ area. page < area.start)
+        (drop result (S.areas place.now hand.old)) }
 {
-    areas.partition_point(|area| area.start <= page)
-}
-
-/// The areas that end behind a page.
-fn areas_from(areas: &[Area], page: u32) -> &[Area]
-    requires { AreRuns areas.now }
-    ensures runs { AreRuns result.now }
-    ensures behind { AllByRecursion (λ area. page < area.end) result.now }
-    ensures pages { (q : ℕ) → page ≤ q → page_map result.now q ≡ page_map areas.now q }
-{
-    let (_, rest) = areas.split_at(areas.partition_point(|area| area.end <= page));
-    rest
+    let mut low = 0;
+    let mut high = S::len(place, hand);
+    while low < high {
+        let middle = low + (high - low) / 2;
+        if S::get(place, hand, middle).start <= page {
+            low = middle + 1;
+        } else {
+            high = middle;
+        }
+    }
+    low
 }
 
 /// The protection of a page, where it is mapped.
-pub(crate) fn prot_of(areas: &[Area], page: u32) -> Option<u8>
-    requires { AreRuns areas.now }
-    ensures { result ≡ page_map areas.now page }
+pub(crate) fn prot_of<S: AreaStore>(place: &S::Place, hand: &mut S::Hand, page: u32) -> Option<u8>
+    requires has { S.has place.now hand.old }
+    ensures has { S.has place.now hand.new }
+    ensures kept { S.keeps place.now hand.old hand.new }
+    ensures same { S.areas place.now hand.new ≡ S.areas place.now hand.old }
+    ensures value { result ≡ page_map (S.areas place.now hand.old) page }
 {
-    match areas_from(areas, page).first() {
-        Some(area) if area.start <= page => Some(area.prot),
-        _ => None,
+    let begun = count_begun::<S>(place, hand, page);
+    if begun == 0 {
+        return None;
+    }
+    let area = S::get(place, hand, begun - 1);
+    if page < area.end {
+        Some(area.prot)
+    } else {
+        None
     }
 }
 
 /// Whether each page of the range is unmapped.
-pub(crate) fn is_free(areas: &[Area], start: u32, len: u32) -> bool
-    requires runs { AreRuns areas.now }
+pub(crate) fn is_free<S: AreaStore>(
+    place: &S::Place,
+    hand: &mut S::Hand,
+    start: u32,
+    len: u32,
+) -> bool
+    requires has { S.has place.now hand.old }
     requires some { 0 < len }
     requires within { start + len ≤ 1048576 }
-    ensures { result ≡ is_free (page_map areas.now) start len }
+    ensures has { S.has place.now hand.new }
+    ensures kept { S.keeps place.now hand.old hand.new }
+    ensures same { S.areas place.now hand.new ≡ S.areas place.now hand.old }
+    ensures value { result ≡ is_free (page_map (S.areas place.now hand.old)) start len }
 {
-    match areas_from(areas, start).first() {
-        Some(area) => start + len <= area.start,
-        None => true,
+    let at = count_ended::<S>(place, hand, start + 1);
+    if at == S::len(place, hand) {
+        return true;
     }
+    start + len <= S::get(place, hand, at).start
 }
 
 /// Whether each page of the range is mapped.
-pub(crate) fn is_mapped(areas: &[Area], start: u32, len: u32) -> bool
-    requires runs { AreRuns areas.now }
+pub(crate) fn is_mapped<S: AreaStore>(
+    place: &S::Place,
+    hand: &mut S::Hand,
+    start: u32,
+    len: u32,
+) -> bool
+    requires has { S.has place.now hand.old }
     requires within { start + len ≤ 1048576 }
-    ensures { result ≡ is_mapped (page_map areas.now) start len }
+    ensures has { S.has place.now hand.new }
+    ensures kept { S.keeps place.now hand.old hand.new }
+    ensures same { S.areas place.now hand.new ≡ S.areas place.now hand.old }
+    ensures value { result ≡ is_mapped (page_map (S.areas place.now hand.old)) start len }
 {
     let end = start + len;
+    let first = count_ended::<S>(place, hand, start + 1);
+    let count = S::len(place, hand);
     let mut next = start;
-    for area in areas_from(areas, start) {
+    for at in first..count {
+        let area = S::get(place, hand, at);
         if end <= next || next < area.start {
             return end <= next;
         }
@@ -80,12 +128,21 @@ pub(crate) fn is_mapped(areas: &[Area], start: u32, len: u32) -> bool
 }
 
 /// The lowest start from which so many pages are unmapped. `None` where there is none.
-pub(crate) fn lowest_free(areas: &[Area], len: u32) -> Option<u32>
-    requires { AreRuns areas.now }
-    ensures { result ≡ lowest_free (page_map areas.now) len }
+pub(crate) fn lowest_free<S: AreaStore>(
+    place: &S::Place,
+    hand: &mut S::Hand,
+    len: u32,
+) -> Option<u32>
+    requires has { S.has place.now hand.old }
+    ensures has { S.has place.now hand.new }
+    ensures kept { S.keeps place.now hand.old hand.new }
+    ensures same { S.areas place.now hand.new ≡ S.areas place.now hand.old }
+    ensures value { result ≡ lowest_free (page_map (S.areas place.now hand.old)) len }
 {
+    let count = S::len(place, hand);
     let mut start = 0;
-    for area in areas {
+    for at in 0..count {
+        let area = S::get(place, hand, at);
         if len <= area.start - start {
             return Some(start);
         }

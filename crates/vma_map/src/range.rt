@@ -3,11 +3,12 @@ ghost use Rattle.std.specs.Prelude.{◌≡◌, ℕ, ◌+◌, ◌-◌, ◌<◌, �
 ghost use Rattle.std.specs.List.{AllByRecursion};
 ghost use Rattle.arrayvec.specs.ArrayVec.{array_vec_len};
 ghost use Rattle.word_bits.specs.PageMaps.{runs};
-ghost use Rattle.vma_map.specs.Runs.{page_map, AreRuns, IsSpace};
+ghost use Rattle.vma_map.specs.Runs.{page_map, AreRuns, ends_of};
 ghost use Rattle.vma_map.specs.Spaces.{changed};
 
 use crate::MAX_AREAS;
 use crate::query::{count_begun, count_ended};
+use crate::store::AreaStore;
 use arrayvec::ArrayVec;
 use word_bits::{Area, Errno};
 
@@ -147,7 +148,12 @@ fn write_over(areas: &mut [Area], place: usize, pieces: &[Area])
 }
 
 /// Puts pieces in the place of so many areas.
-fn splice(areas: &mut ArrayVec<Area, MAX_AREAS>, place: usize, count: usize, pieces: &[Area])
+pub(crate) fn splice(
+    areas: &mut ArrayVec<Area, MAX_AREAS>,
+    place: usize,
+    count: usize,
+    pieces: &[Area],
+)
     requires within { place + count ≤ array_vec_len areas.old }
     requires room { array_vec_len areas.old + length pieces.now ≤ 256 + count }
     ensures { areas.new.items ≡ take place areas.old.items ++ pieces.now
@@ -168,33 +174,60 @@ fn splice(areas: &mut ArrayVec<Area, MAX_AREAS>, place: usize, count: usize, pie
     }
 }
 
-/// Gives each page of a range this protection, or none, unless there are too many areas then.
-pub(crate) fn change(
-    areas: &mut ArrayVec<Area, MAX_AREAS>,
+/// Of so many areas from a place on the first and the last.
+fn ends_of<S: AreaStore>(
+    place: &S::Place,
+    hand: &mut S::Hand,
+    at: usize,
+    count: usize,
+) -> ArrayVec<Area, 2>
+    requires has { S.has place.now hand.old }
+    requires within { at + count ≤ length (S.areas place.now hand.old) }
+    ensures has { S.has place.now hand.new }
+    ensures kept { S.keeps place.now hand.old hand.new }
+    ensures same { S.areas place.now hand.new ≡ S.areas place.now hand.old }
+    ensures ends { result.items ≡ ends_of (take count (drop at (S.areas place.now hand.old))) }
+{
+    let mut ends = ArrayVec::new();
+    if count == 0 {
+        return ends;
+    }
+    ends.push(S::get(place, hand, at));
+    if count > 1 {
+        ends.push(S::get(place, hand, at + count - 1));
+    }
+    ends
+}
+
+/// Gives each page of a range this protection, or none, unless there are too many areas then. Of
+/// the areas that meet the range only the first and the last tell what it leaves of them.
+pub(crate) fn change<S: AreaStore>(
+    place: &S::Place,
+    hand: &mut S::Hand,
     start: u32,
     end: u32,
     prot: Option<u8>,
 ) -> Result<(), Errno>
-    requires space { IsSpace areas.old.items }
+    requires has { S.has place.now hand.old }
     requires some { start < end }
     requires within { end ≤ 1048576 }
     requires prot { IfSome prot (λ bits. bits < 8) }
-    ensures space { IsSpace areas.new.items }
-    ensures few { IsOk result
-        ↔ (length (runs (changed (page_map areas.old.items) start end prot)) ≤ 256) }
-    ensures ok { OnOk result (page_map areas.new.items
-        ≡ changed (page_map areas.old.items) start end prot) }
-    ensures err { OnErr result (areas.new ≡ areas.old) }
+    ensures has { S.has place.now hand.new }
+    ensures kept { S.keeps place.now hand.old hand.new }
+    ensures few { IsOk result ↔ (length
+        (runs (changed (page_map (S.areas place.now hand.old)) start end prot)) ≤ 256) }
+    ensures ok { OnOk result (page_map (S.areas place.now hand.new)
+        ≡ changed (page_map (S.areas place.now hand.old)) start end prot) }
+    ensures err { OnErr result (S.areas place.now hand.new ≡ S.areas place.now hand.old) }
     ensures errno { IfErr result (λ errno. errno ≡ Errno.NoMem) }
 {
-    let place = count_ended(areas.as_slice(), start);
-    let (_, rest) = areas.as_slice().split_at(place);
-    let count = count_begun(rest, end);
-    let (met, _) = rest.split_at(count);
-    let pieces = pieces_of(met, start, end, prot);
-    if areas.len() - count + pieces.len() > MAX_AREAS {
+    let at = count_ended::<S>(place, hand, start);
+    let count = count_begun::<S>(place, hand, end) - at;
+    let met = ends_of::<S>(place, hand, at, count);
+    let pieces = pieces_of(met.as_slice(), start, end, prot);
+    if S::len(place, hand) - count + pieces.len() > MAX_AREAS {
         return Err(Errno::NoMem);
     }
-    splice(areas, place, count, pieces.as_slice());
+    S::splice(place, hand, at, count, pieces.as_slice());
     Ok(())
 }

@@ -60,32 +60,6 @@ fn load_areas(words: &[u64]) -> Option<ArrayVec<Area, MAX_AREAS>>
     Some(areas)
 }
 
-/// Adds the areas that have these words.
-fn push_areas(areas: &mut ArrayVec<Area, MAX_AREAS>, words: &[u64])
-    requires empty { areas.old.items ≡ [] }
-    requires few { length words.now ≤ 256 }
-    requires runs { (xs : List Area) × AreRuns xs × (map area_word xs ≡ words.now) }
-    ensures { (xs : List Area) → AreRuns xs → map area_word xs ≡ words.now →
-        areas.new.items ≡ xs }
-{
-    for word in words {
-        match Area::unpack(*word) {
-            Some(area) => areas.push(area),
-            None => unreachable!(),
-        }
-    }
-}
-
-/// Puts the areas that the words store in the place of others.
-pub(crate) fn refill(areas: &mut ArrayVec<Area, MAX_AREAS>, words: &[u64])
-    requires { AreSpaceWords words.now }
-    ensures { (m : PageMap) → IsPageMap m → stores m ≡ words.now → areas.new.items ≡ runs m }
-{
-    areas.clear();
-    let count = words[0] as usize;
-    push_areas(areas, &words[1..1 + count]);
-}
-
 fn all_zero(words: &[u64]) -> bool
     ensures { result ≡ list_all (λ word. word == 0) words.now }
 {

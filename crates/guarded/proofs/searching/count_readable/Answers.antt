@@ -1,0 +1,81 @@
+-- Each area's share of the range is counted once.
+use Rattle.std.proofs.Common.{◌≡◌, ◌+◌, ◌<◌, ◌≤◌, ◌⊎◌, inl, inr, Some, length, take, sym, ap, subst, ◌∙◌, arith}
+use Rattle.std.specs.List.{slice_get}
+use Rattle.std.proofs.lemmas.List.{take_all}
+use Rattle.std.proofs.lemmas.Option.{get_or_from_slice_get}
+use Rattle.word_bits.specs.declared.area.Area.{Area}
+use Rattle.vma_map.proofs.RangeLemmas.{no_area}
+use Rattle.vma_map.proofs.WordLemmas.{AreRuns-take}
+use Rattle.vma_map.proofs.CountLemmas.{covered-le}
+use Rattle.guarded.specs.Serving.{share}
+use Rattle.guarded.specs.Splicing.{HaveAreas, areas_in}
+use Rattle.guarded.proofs.Counting.{shares, shares-more, shares-le, shares-end, counted-runs}
+use Rattle.guarded.proofs.Passing.{looks-trans}
+use Rattle.guarded.proofs.Spliced.{number-of}
+use Rattle.guarded.proofs.Written.{same-known}
+use Rattle.guarded.proofs.searching.count_readable.Goals as goal
+
+pub area_at-area-requires-clause-areas : goal.area_at-area-requires-clause-areas
+area_at-area-requires-clause-areas g c = subst HaveAreas (sym (same-known (g.L.SleepLock.view c.args.pass.now) (g.L.SleepLock.view c.loop-at.pass) c.loop-at.invariant.1)) c.requires.areas
+
+pub area_at-area-requires-clause-inside : goal.area_at-area-requires-clause-inside
+area_at-area-requires-clause-inside g c =
+    let v = g.L.SleepLock.view c.args.pass.now in
+    let number = c.word-count.ensures.value ∙ number-of v.hand.known c.requires.areas in
+    let same = ap (λ ws. length (areas_in ws)) (same-known v (g.L.SleepLock.view c.loop-at.pass) c.loop-at.invariant.1) in
+    let inside = c.loop-at-test.true in
+    omega (arith, number, same, inside)
+
+pub overflow_add-pages : goal.overflow_add-pages
+overflow_add-pages g c =
+    let v = g.L.SleepLock.view c.args.pass.now in
+    let areas = areas_in v.hand.known in
+    let i = c.loop-at.at in
+    let end = c.saturating_add-end.result in
+    let number = c.word-count.ensures.value ∙ number-of v.hand.known c.requires.areas in
+    let test = c.loop-at-test.true in
+    let inside : i < length areas = omega (arith, number, test) in
+    let is : slice_get areas i ≡ Some c.area_at-area.result = ap (λ ws. slice_get (areas_in ws) i) (sym (same-known v (g.L.SleepLock.view c.loop-at.pass) c.loop-at.invariant.1)) ∙ c.area_at-area.ensures.area in
+    let more = shares-more areas i no_area c.args.start end inside ∙ ap (λ (a : Area). shares (take i areas) c.args.start end + share a c.args.start end) (get_or_from_slice_get areas i c.area_at-area.result no_area is) in
+    let most = covered-le (take (i + 1) areas) (AreRuns-take (i + 1) areas c.requires.areas.space.runs) in
+    let least = shares-le (take (i + 1) areas) c.args.start end in
+    let now = c.loop-at.invariant.3 in
+    let part = c.readable_between-pages.ensures in
+    omega (arith, more, most, least, now, part)
+
+pub loop-at-preserved : goal.loop-at-preserved
+loop-at-preserved g c =
+    let v = g.L.SleepLock.view c.args.pass.now in
+    let u = g.L.SleepLock.view c.loop-at.pass in
+    let w = g.L.SleepLock.view c.area_at-area.new.pass in
+    let areas = areas_in v.hand.known in
+    let i = c.loop-at.at in
+    let end = c.saturating_add-end.result in
+    let number = c.word-count.ensures.value ∙ number-of v.hand.known c.requires.areas in
+    let test = c.loop-at-test.true in
+    let inside : i < length areas = omega (arith, number, test) in
+    let is : slice_get areas i ≡ Some c.area_at-area.result = ap (λ ws. slice_get (areas_in ws) i) (sym (same-known v u c.loop-at.invariant.1)) ∙ c.area_at-area.ensures.area in
+    let more = shares-more areas i no_area c.args.start end inside ∙ ap (λ (a : Area). shares (take i areas) c.args.start end + share a c.args.start end) (get_or_from_slice_get areas i c.area_at-area.result no_area is) in
+    let now = c.loop-at.invariant.3 in
+    let part = c.readable_between-pages.ensures in (
+      c.area_at-area.ensures.own,
+      looks-trans v u w c.loop-at.invariant.1 c.area_at-area.ensures.kept,
+      (λ p t. c.area_at-area.ensures.goes_on p (c.loop-at.invariant.2 p t)),
+      omega (arith, more, now, part),
+    )
+
+pub returns-clause-pages : goal.returns-clause-pages
+returns-clause-pages g c =
+    let v = g.L.SleepLock.view c.args.pass.now in
+    let areas = areas_in v.hand.known in
+    let end = c.saturating_add-end.result in
+    let runs = c.requires.areas.space.runs in
+    let is = c.saturating_add-end.ensures in
+    let number = c.word-count.ensures.value ∙ number-of v.hand.known c.requires.areas in
+    let out = c.loop-at-test.false in
+    let fits : (end ≡ c.args.start + c.args.len) ⊎ ((1048576 ≤ end) × (1048576 ≤ c.args.start + c.args.len)) = elim (native.Mathlib.Decide.dec_le (c.args.start + c.args.len) 4294967295) [
+      | yes few ↦ inl (omega (arith, is, few))
+      | no many ↦ inr (omega (arith, is, many), omega (arith, many))
+    ] in
+    let whole = ap (λ xs. shares xs c.args.start end) (take_all c.loop-at.at areas (omega (arith, number, out))) in
+    c.loop-at.invariant.3 ∙ (whole ∙ (shares-end areas c.args.start end (c.args.start + c.args.len) runs fits ∙ sym (counted-runs areas runs c.args.start c.args.len)))

@@ -1,0 +1,14 @@
+-- The pages of the areas so far are counted.
+use Rattle.std.proofs.Common.{◌≡◌, take}
+use Rattle.lock_core.specs.Shown.{PastGoesOn}
+use Rattle.lock_core.specs.Locking.{Looks}
+use Rattle.guarded.specs.Splicing.{areas_in}
+use Rattle.guarded.proofs.Counting.{shares}
+use Rattle.guarded.proofs.searching.count_readable.Given as goal
+
+abbrev pub invariant-loop-at : goal.invariant-loop-at
+invariant-loop-at g l =
+    g.L.SleepLock.sits l.lock l.pass
+    × Looks (g.L.SleepLock.view l.fn.pass) (g.L.SleepLock.view l.pass)
+    × PastGoesOn (g.L.SleepLock.view l.fn.pass) (g.L.SleepLock.view l.pass)
+    × (l.pages ≡ shares (take l.at (areas_in (g.L.SleepLock.view l.fn.pass).hand.known)) l.start l.end)

@@ -1,0 +1,13 @@
+-- Each descriptor so far is open.
+use Rattle.std.proofs.Common.{◌≡◌, ◌<◌, ℕ, IsSome}
+use Rattle.lock_core.specs.Shown.{PastGoesOn}
+use Rattle.lock_core.specs.Locking.{Looks}
+use Rattle.fd_table.specs.Tables.{FdMap, IsFdMap, stores}
+use Rattle.guarded.proofs.slots.lowest_free.Given as goal
+
+abbrev pub invariant-loop-fd : goal.invariant-loop-fd
+invariant-loop-fd g l =
+    g.L.SleepLock.sits l.lock l.pass
+    × Looks (g.L.SleepLock.view l.fn.pass) (g.L.SleepLock.view l.pass)
+    × PastGoesOn (g.L.SleepLock.view l.fn.pass) (g.L.SleepLock.view l.pass)
+    × ((m : FdMap) → IsFdMap m → stores m ≡ (g.L.SleepLock.view l.fn.pass).hand.known → (k : ℕ) → k < l.fd → IsSome (m k))

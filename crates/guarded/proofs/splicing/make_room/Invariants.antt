@@ -1,0 +1,17 @@
+-- The words behind the place are moved, and those up to it are as before.
+use Rattle.std.proofs.Common.{◌≡◌, ℕ, ◌+◌, ◌-◌, ◌<◌, ◌≤◌, length, slice_index}
+use Rattle.guarded.specs.Splicing.{ChangesWords}
+use Rattle.guarded.proofs.splicing.make_room.Given as goal
+
+abbrev pub invariant-loop-place : goal.invariant-loop-place
+invariant-loop-place g l =
+    g.L.SleepLock.sits l.lock l.pass
+    × ChangesWords (g.L.SleepLock.view l.fn.pass) (g.L.SleepLock.view l.pass)
+    × (length (g.L.SleepLock.view l.pass).hand.known ≡ length (g.L.SleepLock.view l.fn.pass).hand.known)
+    × (l.at ≤ l.place)
+    × (l.place ≤ l.len)
+    × ((i : ℕ) → i ≤ l.place → slice_index (g.L.SleepLock.view l.pass).hand.known i ≡ slice_index (g.L.SleepLock.view l.fn.pass).hand.known i)
+    × ((i : ℕ) → l.place + l.more < i → slice_index (g.L.SleepLock.view l.pass).hand.known i ≡ slice_index (g.L.SleepLock.view l.fn.pass).hand.known (i - l.more))
+
+abbrev pub decreases-loop-place : goal.decreases-loop-place
+decreases-loop-place g l = l.place

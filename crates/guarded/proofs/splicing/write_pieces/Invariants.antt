@@ -1,0 +1,15 @@
+-- The words of the pieces so far are written, and all others are as before.
+use Rattle.std.proofs.Common.{◌≡◌, ℕ, ◌+◌, ◌<◌, ◌≤◌, length, map, slice_index}
+use Rattle.word_bits.specs.AreaWord.{area_word}
+use Rattle.guarded.specs.Splicing.{ChangesWords}
+use Rattle.guarded.proofs.splicing.write_pieces.Given as goal
+
+abbrev pub invariant-loop-i : goal.invariant-loop-i
+invariant-loop-i g l =
+    g.L.SleepLock.sits l.lock l.pass
+    × ChangesWords (g.L.SleepLock.view l.fn.pass) (g.L.SleepLock.view l.pass)
+    × (length (g.L.SleepLock.view l.pass).hand.known ≡ length (g.L.SleepLock.view l.fn.pass).hand.known)
+    × ((i : ℕ) → i ≤ l.at → slice_index (g.L.SleepLock.view l.pass).hand.known i ≡ slice_index (g.L.SleepLock.view l.fn.pass).hand.known i)
+    × ((i : ℕ) → i < l.i → slice_index (g.L.SleepLock.view l.pass).hand.known (l.at + 1 + i) ≡ slice_index (map area_word l.pieces) i)
+    × (l.i ≤ length l.pieces)
+    × ((i : ℕ) → l.at + l.i < i → slice_index (g.L.SleepLock.view l.pass).hand.known i ≡ slice_index (g.L.SleepLock.view l.fn.pass).hand.known i)

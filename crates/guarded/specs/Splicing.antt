@@ -1,0 +1,47 @@
+-- The areas of a space in its words, and what is left of the words where pieces come in.
+use Rattle.std.specs.Prelude.{◌≡◌, ℕ, ◌+◌, ◌-◌, ◌/◌, ◌%◌, ◌^◌, ◌<◌, ◌≤◌, List, length, map, take, drop, slice_index, refl}
+use Rattle.std.proofs.Common.{sym, ap, ◌∙◌, arith}
+use Rattle.word_bits.specs.declared.area.Area.{Area}
+use Rattle.lock_core.specs.declared.view.Hand.{Hand}
+use Rattle.lock_core.specs.Shown.{Shown, PastGoesOn}
+use Rattle.vma_map.specs.Runs.{IsSpace, words_of_areas}
+use Rattle.guarded.specs.Performing.{HasStored}
+
+-- the area that has this word
+abbrev pub area_of : ℕ → Area
+area_of word = record { start = word / 2 ^ 24; end = word / 2 ^ 3 % 2 ^ 21; prot = word % 2 ^ 3 }
+
+-- the areas whose words follow their number
+abbrev pub areas_in : List ℕ → List Area
+areas_in words = map area_of (take (slice_index words 0) (drop 1 words))
+
+-- the words are those of areas in order
+pub record HaveAreas (words : List ℕ) : Type 0 where
+  pub space : IsSpace (areas_in words)
+  pub whole : words_of_areas (areas_in words) ≡ words
+
+-- the guarded words alone have changed, and the pass may write
+abbrev pub ChangesWords : Shown → Shown → Type 0
+ChangesWords v u = PastGoesOn v u × HasStored u.hand.known v u
+
+-- the words up to a place are as before, and those behind so many pieces are what followed so many areas
+pub record MakeRoom (at count pieces : ℕ) (old new : List ℕ) : Type 0 where
+  pub as_long : length new ≡ length old
+  pub front : (i : ℕ) → i ≤ at → slice_index new i ≡ slice_index old i
+  pub back : (i : ℕ) → at + pieces < i → slice_index new i ≡ slice_index old (i + count - pieces)
+
+-- the pieces' words stand behind so many areas, and all else is as before
+pub record IsWritten (at : ℕ) (words old new : List ℕ) : Type 0 where
+  pub as_long : length new ≡ length old
+  pub front : (i : ℕ) → i ≤ at → slice_index new i ≡ slice_index old i
+  pub pieces : (i : ℕ) → i < length words → slice_index new (at + 1 + i) ≡ slice_index words i
+  pub back : (i : ℕ) → at + length words < i → slice_index new i ≡ slice_index old i
+
+pub changes-none : (v : Shown) → ChangesWords v v
+changes-none v = ((λ p t. t), (v.hand.writes, (refl, (refl, refl, refl, omega arith))))
+
+pub changes-more : (v u w : Shown) → ChangesWords v u → ChangesWords u w → ChangesWords v w
+changes-more v u w a b = (
+  (λ p t. b.0 p (a.0 p t)),
+  (b.1.0, (b.1.1.0 ∙ ((λ i. record (a.1.1.0 i) { writes = b.1.0; known = w.hand.known }) ∙ ap {B = Hand} (λ (xs : List ℕ). record v.hand { writes = b.1.0; known = xs }) (sym (ap {A = Hand} (λ h. h.known) b.1.1.0))), (b.1.1.1.0 ∙ a.1.1.1.0, b.1.1.1.1 ∙ a.1.1.1.1, b.1.1.1.2 ∙ a.1.1.1.2, let x = a.1.1.1.3 in let y = b.1.1.1.3 in omega (arith, x, y)))),
+)
