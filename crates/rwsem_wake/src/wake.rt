@@ -68,8 +68,9 @@ pub fn clear_first<H: GrantHost>(site: &Site<H>, pass: &mut Pass<H>, task: u32)
     }
 }
 
-/// Puts a removed batch of so many readers, one at least, into the count. `reserved` says whether the waker has a
-/// bias of its own there, which goes, and `empty` whether the list is empty, so that WAITERS goes.
+/// Puts a removed batch of so many readers, one at least, into the count. `reserved` says whether
+/// the waker has a bias of its own there, which goes, and `empty` whether the list is empty, so that
+/// WAITERS goes.
 pub fn count_batch<H: GrantHost>(
     site: &Site<H>,
     pass: &mut Pass<H>,
