@@ -74,10 +74,10 @@ fn unlink<W: Wait>(osq: &Osq, rt: &W, pass: &mut OsqPass, task: u32, mut prev: u
         if is_granted(osq, pass, task) {
             return None;
         }
+        backoff.snooze();
         // Nobody has this code in that `next`: the predecessor took it, to grant or to leave, or it
         // has left, and this task has another.
         prev = steps::reread(osq, pass, task);
-        backoff.snooze();
     }
     unreachable!()
 }
