@@ -9,6 +9,7 @@ ghost use Rattle.lock_rows.specs.Standing.{OwesNothing, OwesSame, SameSpin};
 
 use lock_core::Interrupted;
 use mutex_word::{OwnerPass, OwnerSite};
+use std::thread;
 use word_bits::{CallWords, MAX_TASKS, Mode, Object, Reply};
 
 /// How often a pass tries for the lock.
@@ -59,6 +60,7 @@ pub fn take<O: Object>(site: &OwnerSite<O>, pass: &mut OwnerPass<O>) -> bool
         if site.trylock_once(pass).is_ok() {
             return true;
         }
+        thread::yield_now();
     }
     false
 }
@@ -187,6 +189,7 @@ pub fn await_signal<O: Object>(site: &OwnerSite<O>, pass: &mut OwnerPass<O>) -> 
         if interrupt(site, pass).is_some() {
             return true;
         }
+        thread::yield_now();
     }
     true
 }
