@@ -13,7 +13,7 @@ use crate::searching::{count_readable, find_page};
 use crate::slots;
 use crate::splicing::LockedAreas;
 use fd_table::{Fds, TableCall};
-use vma_map::{Areas, SpaceCall, apply};
+use vma_map::{Areas, SpaceCall, apply, meet};
 use word_bits::{Object, Reply};
 
 /// An object that a task looks at while others may do so too.
@@ -86,18 +86,6 @@ impl Served for Fds {
     }
 
     ghost changes = { nothing_downgrades };
-}
-
-/// What an access meets at a page of this protection.
-fn meet(prot: Option<u8>, access: u8) -> Reply
-    requires { IsAccess access }
-    ensures { result ≡ access_reply prot access }
-{
-    match prot {
-        None => Reply::MapErr,
-        Some(prot) if prot / access % 2 == 1 => Reply::Good,
-        Some(_) => Reply::AccErr,
-    }
 }
 
 /// What a fault finds of a space under its lock.

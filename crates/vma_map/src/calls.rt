@@ -188,7 +188,15 @@ fn fault<S: AreaStore>(place: &S::Place, hand: &mut S::Hand, page: u32, access: 
     ensures same { S.areas place.now hand.new ≡ S.areas place.now hand.old }
     ensures reply { result ≡ access_reply (page_map (S.areas place.now hand.old) page) access }
 {
-    match prot_of::<S>(place, hand, page) {
+    meet(prot_of::<S>(place, hand, page), access)
+}
+
+/// What an access meets at a page of this protection.
+pub fn meet(prot: Option<u8>, access: u8) -> Reply
+    requires { IsAccess access }
+    ensures { result ≡ access_reply prot access }
+{
+    match prot {
         None => Reply::MapErr,
         Some(prot) if prot & access != 0 => Reply::Good,
         Some(_) => Reply::AccErr,

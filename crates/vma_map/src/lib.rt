@@ -13,7 +13,7 @@ mod words;
 
 pub use areas::Areas;
 pub use call::SpaceCall;
-pub use calls::apply;
+pub use calls::{apply, meet};
 pub use store::AreaStore;
 pub use words::find;
 
