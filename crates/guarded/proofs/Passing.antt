@@ -1,10 +1,7 @@
 -- One call of a lock after another.
-use Rattle.std.proofs.Common.{◌≡◌, ℕ, zero, suc, ◌+◌, ◌<◌, ◌≤◌, List, [], ◌∷◌, length, take, slice_index, slice_set, sym, ap, ◌∙◌, arith}
-use Rattle.std.proofs.lemmas.Grind.{common_steps}
-use Rattle.lock_core.specs.declared.view.Hand.{Hand}
+use Rattle.std.proofs.Common.{◌≡◌, zero, suc, ◌+◌, ◌<◌, ◌≤◌, ◌∷◌, ◌∙◌, arith}
 use Rattle.lock_core.specs.Shown.{Shown, AllButHand}
 use Rattle.lock_core.specs.Locking.{Looks}
-use Rattle.guarded.specs.Performing.{HasStored}
 
 pub beside-trans : (v u w : Shown) → AllButHand v u → AllButHand u w → AllButHand v w
 beside-trans v u w a b = (b.0 ∙ a.0, b.1 ∙ a.1, b.2 ∙ a.2, let x = a.3 in let y = b.3 in omega arith)

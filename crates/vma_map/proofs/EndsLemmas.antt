@@ -1,13 +1,13 @@
 -- The first and the last of areas in order.
-use Rattle.std.proofs.Common.{◌≡◌, ℕ, zero, suc, ◌+◌, ◌-◌, ◌<◌, ◌≤◌, List, [], ◌∷◌, ◌++◌, length, take, drop, get_or, Option, Some, None, true, false, ◌&&◌, cond, leb, ltb, ◌⊎◌, inl, inr, refl, sym, ap, ◌∙◌, subst, arith}
+use Rattle.std.proofs.Common.{◌≡◌, ℕ, zero, suc, ◌+◌, ◌-◌, ◌<◌, ◌≤◌, List, [], ◌∷◌, ◌++◌, length, take, drop, get_or, Option, Some, ◌&&◌, cond, leb, ltb, ◌⊎◌, inl, inr, refl, sym, ap, ◌∙◌, arith}
 use Rattle.std.specs.List.{AllByRecursion, slice_get}
 use Rattle.std.proofs.lemmas.Bool.{cases_lt}
 use Rattle.std.proofs.lemmas.Option.{get_or_from_slice_get}
 use Rattle.word_bits.specs.declared.area.Area.{Area}
 use Rattle.word_bits.specs.AreaWord.{IsArea}
-use Rattle.vma_map.specs.Runs.{page_map, Follows, AreRuns, last_of, ends_of}
+use Rattle.vma_map.specs.Runs.{page_map, AreRuns, last_of, ends_of}
 use Rattle.vma_map.specs.Spaces.{changed}
-use Rattle.vma_map.specs.AreaLaws.{changed-in, changed-below, changed-above, page_map-behind, page_map-low, AreRuns-head, AreRuns-tail}
+use Rattle.vma_map.specs.AreaLaws.{changed-in, changed-below, changed-above, page_map-behind, page_map-low, AreRuns-head}
 use Rattle.vma_map.proofs.RangeLemmas.{no_area}
 
 -- the last area begins where the first one ends, or behind it

@@ -4,7 +4,7 @@ use Rattle.std.specs.List.{AllByRecursion}
 use Rattle.std.proofs.lemmas.Grind.{common_steps}
 use Rattle.word_bits.specs.declared.area.Area.{Area}
 use Rattle.word_bits.specs.PageMaps.{runs}
-use Rattle.vma_map.specs.Runs.{page_map, AreRuns, IsSpace, spliced, ends_of}
+use Rattle.vma_map.specs.Runs.{page_map, AreRuns, spliced, ends_of}
 use Rattle.vma_map.specs.Spaces.{changed}
 use Rattle.vma_map.proofs.ChangeLemmas.{front-begun, ends-runs, ends-end, ends-start, pieced-many, pieced-space, pieced-pages}
 use Rattle.vma_map.proofs.range.change.Goals as goal

@@ -1,7 +1,6 @@
 -- The words ascend as the starts of their areas do.
 use Rattle.std.proofs.Common.{leb, rules, ◌/◌, ◌^◌, ℕ}
 use Rattle.std.proofs.lemmas.List.Sorted.{IsPartitionPoint-from_clause, IsPartitionedBy-leb}
-use Rattle.vma_map.proofs.CutLemmas.{cut_above}
 use Rattle.vma_map.proofs.FindLemmas.{words_ascend, begun_areas}
 use Rattle.vma_map.proofs.words.count_begun.Goals as goal
 
