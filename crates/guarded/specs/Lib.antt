@@ -3,6 +3,7 @@ pub mod Serving
 pub mod Handles
 pub mod Performing
 pub mod Splicing
+pub mod SplicingLaws
 pub mod Slots
 pub mod Copying
 pub mod Gathering

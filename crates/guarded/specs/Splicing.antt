@@ -1,8 +1,6 @@
 -- The areas of a space in its words, and what is left of the words where pieces come in.
-use Rattle.std.specs.Prelude.{◌≡◌, ℕ, ◌+◌, ◌-◌, ◌/◌, ◌%◌, ◌^◌, ◌<◌, ◌≤◌, List, length, map, take, drop, slice_index, refl}
-use Rattle.std.proofs.Common.{sym, ap, ◌∙◌, arith}
+use Rattle.std.specs.Prelude.{◌≡◌, ℕ, ◌+◌, ◌-◌, ◌/◌, ◌%◌, ◌^◌, ◌<◌, ◌≤◌, List, length, map, take, drop, slice_index}
 use Rattle.word_bits.specs.declared.area.Area.{Area}
-use Rattle.lock_core.specs.declared.view.Hand.{Hand}
 use Rattle.lock_core.specs.Shown.{Shown, PastGoesOn}
 use Rattle.vma_map.specs.Runs.{IsSpace, words_of_areas}
 use Rattle.guarded.specs.Performing.{HasStored}
@@ -36,12 +34,3 @@ pub record IsWritten (at : ℕ) (words old new : List ℕ) : Type 0 where
   pub front : (i : ℕ) → i ≤ at → slice_index new i ≡ slice_index old i
   pub pieces : (i : ℕ) → i < length words → slice_index new (at + 1 + i) ≡ slice_index words i
   pub back : (i : ℕ) → at + length words < i → slice_index new i ≡ slice_index old i
-
-pub changes-none : (v : Shown) → ChangesWords v v
-changes-none v = ((λ p t. t), (v.hand.writes, (refl, (refl, refl, refl, omega arith))))
-
-pub changes-more : (v u w : Shown) → ChangesWords v u → ChangesWords u w → ChangesWords v w
-changes-more v u w a b = (
-  (λ p t. b.0 p (a.0 p t)),
-  (b.1.0, (b.1.1.0 ∙ ((λ i. record (a.1.1.0 i) { writes = b.1.0; known = w.hand.known }) ∙ ap {B = Hand} (λ (xs : List ℕ). record v.hand { writes = b.1.0; known = xs }) (sym (ap {A = Hand} (λ h. h.known) b.1.1.0))), (b.1.1.1.0 ∙ a.1.1.1.0, b.1.1.1.1 ∙ a.1.1.1.1, b.1.1.1.2 ∙ a.1.1.1.2, let x = a.1.1.1.3 in let y = b.1.1.1.3 in omega (arith, x, y)))),
-)

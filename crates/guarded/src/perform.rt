@@ -27,9 +27,9 @@ impl<L: SleepLock<O>, O: Served + Drop> Guarded<L, O> {
     /// where it reads, alone where it changes the object. A call that downgrades is recorded while
     /// the pass holds alone, and looks at the object again beside others.
     ///
-    /// `Busy` is the reply of a call that doesn't wait, `Intr` of one that a signal interrupted, and
-    /// `Sent` of a signal. The pass holds nothing afterwards. The gate is shown a task that holds;
-    /// how often, and whether as sharing, no clause says, and tests do.
+    /// `Busy` is the reply of a call that doesn't wait, `Intr` of one that a signal interrupted,
+    /// and `Sent` of a signal. The pass holds nothing afterwards. The gate is shown a task that
+    /// holds; how often, and whether as sharing, no clause says, and tests do.
     pub fn perform<W: Wait, C: Crew, G: Gate>(
         &self,
         rt: &W,

@@ -1,4 +1,4 @@
-//! The search for a page in an address space under its lock.
+//! What a holder looks for in an address space under its lock.
 ghost use Rattle.std.specs.Prelude.{◌≡◌, ◌≢◌, ◌<◌, ◌≤◌, List, Some, length, slice_get, slice_index};
 ghost use Rattle.word_bits.specs.declared.area.Area.{Area};
 ghost use Rattle.word_bits.specs.PageMaps.{PageMap, IsPageMap, runs};

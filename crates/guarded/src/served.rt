@@ -40,7 +40,8 @@ pub trait Served: Object {
         ensures done { downgrades call ≡ true →
             Confirms Self.object (L.calls_on lock.now) (L.view pass.old).hand call result };
 
-    /// Does a call that changes the object, on the guarded words. The reply is what it replies.
+    /// Does a call that changes the object, on the guarded words. The reply is its meaning's on
+    /// the state after the log.
     fn change<L: SleepLock<Self>>(lock: &L, pass: &mut L::Pass, call: Self::Call) -> Reply
         requires own { L.sits lock.now pass.old }
         requires held { (L.view pass.old).hand.held ≡ Alone }

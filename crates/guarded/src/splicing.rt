@@ -18,7 +18,7 @@ use word_bits::Area;
 pub(crate) struct LockedAreas<L>(PhantomData<L>);
 
 impl<L: SleepLock<Areas>> AreaStore for LockedAreas<L> {
-    ghost use Rattle.guarded.specs.Splicing.{changes-none, changes-more};
+    ghost use Rattle.guarded.specs.SplicingLaws.{changes-none, changes-more};
 
     type Place = L;
 
@@ -41,6 +41,8 @@ impl<L: SleepLock<Areas>> AreaStore for LockedAreas<L> {
 
     fn splice(place: &L, hand: &mut L::Pass, at: usize, count: usize, pieces: &[Area]) {
         let len = place.word(hand, 0) as usize;
+        // Nobody finds the words while they are those of no space: the pass holds alone, and writes
+        // until its commit.
         fit(place, hand, at, count, pieces.len(), len);
         write_pieces(place, hand, at, pieces);
         place.set_word(hand, 0, (len - count + pieces.len()) as u64);
@@ -112,6 +114,7 @@ fn word_or_zero<L: SleepLock<Areas>>(lock: &L, pass: &mut L::Pass, place: usize,
     ensures kept { Looks (L.view pass.old) (L.view pass.new) }
     ensures value { result ≡ slice_index (L.view pass.old).hand.known place }
 {
+    // A place behind the areas may be past the last word, and what is there is known.
     if place <= len {
         lock.word(pass, place)
     } else {
