@@ -43,7 +43,7 @@ enum Case {
     Write,
     /// The semaphore, held by a writer in one round of ten.
     Mixed,
-    /// No lock: two exchanges of a word, which is the least that any of them needs.
+    /// No lock: two exchanges of a word, to compare with.
     Exchange,
 }
 
