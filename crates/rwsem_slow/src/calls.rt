@@ -136,11 +136,11 @@ impl<O: Object> RwSem<O> {
     /// the first waiter is marked and HANDOFF is set, it alone may come to write, and a task comes
     /// to read only by a bias whose addition saw no HANDOFF, or by a downgrade; a bias keeps the
     /// count that its addition found. At any time a task comes to read by a step of its own pass,
-    /// or in a waker's batch that leaves no reader in the list, and reads until its own pass ends
-    /// its shared hold. HANDOFF and marks, which are the first waiter's, are set under the wait
-    /// lock, by a waker or by a writer of the list, which is then to mark; a mark is cleared by its
-    /// own waiter, or by a waker whose batch has it next. A batch is granted in the order in which
-    /// it was picked. The pass itself waits for nothing.
+    /// or in a waker's whole batch, and reads until its own pass ends its shared hold. HANDOFF and
+    /// marks, which are the first waiter's, are set under the wait lock, by a waker or by a writer
+    /// of the list, which is then to mark; a mark is cleared by its own waiter, or by a waker whose
+    /// batch has it next. A batch is granted in the order in which it was picked. The pass itself
+    /// waits for nothing.
     pub fn recall(&self, pass: &mut RwPass<O>)
         requires own { SitsAt self.now pass.old }
         ensures own { SitsAt self.now pass.new }
