@@ -112,7 +112,7 @@ module _ {E Call : Type 0} (o : Obj Call) (unavailable : Unavailable) (size : �
         record { numbered = numbered; task = refl; goes = record { misses = omega arith; freed = λ e. refl; takes = omega arith; comes = λ _ _. omega arith }; left = λ held. absurd (held out) },
         inl (refl, inl refl),
         may,
-        record { flags = omega (arith, sum); writer = λ x y. omega (arith, is); reader = λ _. inr (inl (omega (arith, is))); bias = inr (inl refl) },
+        record { flags = omega (arith, sum); writer = λ x y. omega (arith, is); lone = λ x y. absurd (omega (arith, x, y, sum)); reader = λ _. inr (inl (omega (arith, is))); bias = inr (inl refl) },
         subst (λ (z : ℕ). CountKept z more (set ps id (part g Clear))) sum (count-reads ps id p (part g Clear) mine n more c is out clear refl refl),
         site-takes o unavailable size k w hs id t v.hand Shared r mine' out has (λ e. shared-no e) (λ l. absurd (omega (arith, l))) none_alone,
         (lawful, (λ _. gets me w hs id Shared r mine' none_alone), λ not. absurd (not free)),
@@ -123,7 +123,7 @@ module _ {E Call : Type 0} (o : Obj Call) (unavailable : Unavailable) (size : �
         record { numbered = numbered; task = refl; goes = record { misses = omega arith; freed = λ e. refl; takes = omega arith; comes = λ none holds. absurd (holds none) }; left = λ held. absurd (held out) },
         inr (record { out = out; counts = refl; saw = refl }, miss),
         subst (λ (z : Held). may_count v (record { held = z; bias = Transit n })) (sym out) (wait n),
-        record { flags = omega (arith, sum); writer = λ x y. absurd (omega (arith, x, y, sum)); reader = λ e. shared-no (sym e ∙ out); bias = inr (inr (clear, inl refl)) },
+        record { flags = omega (arith, sum); writer = λ x y. absurd (omega (arith, x, y, sum)); lone = λ x y. absurd (omega (arith, x, y, sum)); reader = λ e. shared-no (sym e ∙ out); bias = inr (inr (clear, inl refl)) },
         subst (λ (z : ℕ). CountKept z more (set ps id (part g (Transit n)))) sum (count-transit ps id p (part g (Transit n)) mine n more c out clear out refl),
         site-misses o unavailable size k w hs id n (v.steps + 1) v.hand r mine' (omega (arith, low, high)),
         (lawful, (λ free. absurd (shut free)), λ _. (refl, refl)),
@@ -165,7 +165,7 @@ module _ {E Call : Type 0} (o : Obj Call) (unavailable : Unavailable) (size : �
         based counted v g Clear,
         refl,
         counts ws vs id (old + 256) v g Clear h at record { numbered = numbered; task = refl; goes = record { misses = omega arith; freed = λ e. refl; takes = omega arith; comes = λ _ _. omega arith }; left = λ held. absurd (held out) } (inl (refl, inl refl)) may
-            (subst (λ (z : ℕ). CountMove z (old + 256) (count_part bias v) (part g Clear)) (sym found) record { flags = omega arith; writer = λ x y. omega (arith, is); reader = λ _. inr (inl d); bias = inr (inl refl) })
+            (subst (λ (z : ℕ). CountMove z (old + 256) (count_part bias v) (part g Clear)) (sym found) record { flags = omega arith; writer = λ x y. omega (arith, is); lone = λ x y. absurd (omega (arith, x, y)); reader = λ _. inr (inl d); bias = inr (inl refl) })
             (count-reads ps id (count_part bias v) (part g Clear) (at_map (count_part bias) vs id v at) old (more ws vs) c is out clear refl refl)
             (site-takes o unavailable size k (site k ws) hs id t v.hand Shared r mine out has (λ e. shared-no e) (λ l. absurd (omega (arith, l))) none_alone),
         ((λ _. gets me (site k ws) hs id Shared r mine none_alone), λ not. absurd (not refl)),
@@ -181,7 +181,7 @@ module _ {E Call : Type 0} (o : Obj Call) (unavailable : Unavailable) (size : �
         based counted v g Clear,
         refl,
         counts ws vs id 1 v g Clear h at record { numbered = numbered; task = refl; goes = record { misses = omega arith; freed = λ e. refl; takes = omega arith; comes = λ _ _. omega arith }; left = λ held. absurd (held out) } (inl (refl, inl refl)) may
-            (subst (λ (z : ℕ). CountMove z 1 (count_part bias v) (part g Clear)) (sym found) record { flags = refl; writer = λ x y. refl; reader = λ e. alone-shared e; bias = inr (inl refl) })
+            (subst (λ (z : ℕ). CountMove z 1 (count_part bias v) (part g Clear)) (sym found) record { flags = refl; writer = λ x y. refl; lone = λ x y. refl; reader = λ e. alone-shared e; bias = inr (inl refl) })
             (count-writes ps id (count_part bias v) (part g Clear) (at_map (count_part bias) vs id v at) 0 1 (more ws vs) c refl refl refl (omega arith) out refl (sym clear))
             (site-takes o unavailable size k (site k ws) hs id t v.hand Alone r mine out has (λ e. no-alone (sym e)) (λ _. none_held) none_alone),
         ((λ _. gets me (site k ws) hs id Alone r mine none_alone), λ not. absurd (not refl)),
@@ -204,7 +204,7 @@ module _ {E Call : Type 0} (o : Obj Call) (unavailable : Unavailable) (size : �
         record { numbered = numbered; task = refl; goes = record { misses = omega arith; freed = λ e. refl; takes = omega arith; comes = λ none holds. absurd (holds none) }; left = λ held other. absurd (other refl) },
         inl (refl, inl refl),
         may,
-        record { flags = omega (arith, less); writer = λ x y. absurd (omega (arith, x, y, less)); reader = λ e. inl e; bias = inr (inl refl) },
+        record { flags = omega (arith, less); writer = λ x y. absurd (omega (arith, x, y, less)); lone = λ x y. absurd (omega (arith, x, y, less)); reader = λ e. inl e; bias = inr (inl refl) },
         count-backs ps id p (part v.hand Clear) mine n (word_after (Sub 256) n) more c (omega (arith, less)) (omega (arith, less, low)) (omega (arith, less)) refl one refl,
         subst (Kept w) (sym (set_again hs id v.hand mine')) r,
         (lawful, fits, omega (arith, less), omega (arith, less), (refl, refl)),
@@ -220,7 +220,7 @@ module _ {E Call : Type 0} (o : Obj Call) (unavailable : Unavailable) (size : �
         record { numbered = numbered; task = refl; goes = record { misses = omega arith; freed = λ e. shared-no (sym shares ∙ sym e); takes = omega arith; comes = λ _ holds. absurd (holds refl) }; left = λ held other. left },
         inl (refl, inl refl),
         may,
-        record { flags = omega (arith, less); writer = λ x y. absurd (omega (arith, x, y, less)); reader = λ e. shared-no (sym e); bias = inr (inl refl) },
+        record { flags = omega (arith, less); writer = λ x y. absurd (omega (arith, x, y, less)); lone = λ x y. absurd (omega (arith, x, y, less)); reader = λ e. shared-no (sym e); bias = inr (inl refl) },
         count-frees-shared ps id p (part g Clear) mine n (word_after (Sub 256) n) more c less shares clear refl refl,
         site-frees o unavailable size k w hs id (n - 256) v.hand r mine' quiet rest,
         (lawful, fits, omega (arith, less), omega (arith, less), (refl, refl)),
@@ -236,7 +236,7 @@ module _ {E Call : Type 0} (o : Obj Call) (unavailable : Unavailable) (size : �
         record { numbered = numbered; task = refl; goes = record { misses = omega arith; freed = λ e. no-alone (e ∙ alone); takes = omega arith; comes = λ _ holds. absurd (holds refl) }; left = λ held other. left },
         inl (refl, inl refl),
         may,
-        record { flags = omega (arith, less, wr, A, one); writer = λ x y. absurd (omega (arith, x, wr, A, one)); reader = λ e. shared-no (sym e); bias = inr (inl refl) },
+        record { flags = omega (arith, less, wr, A, one); writer = λ x y. absurd (omega (arith, x, wr, A, one)); lone = λ x y. absurd (omega (arith, x, wr, A, one)); reader = λ e. shared-no (sym e); bias = inr (inl refl) },
         count-frees-alone ps id p (part g Clear) mine n (word_after (Sub 1) n) more c less alone clear refl refl,
         site-frees o unavailable size k w hs id (n - 1) v.hand r mine' quiet rest,
         (lawful, fits, omega (arith, less), omega (arith, wr, A, one), (refl, refl)),
@@ -252,7 +252,7 @@ module _ {E Call : Type 0} (o : Obj Call) (unavailable : Unavailable) (size : �
         record { numbered = numbered; task = refl; goes = record { misses = omega arith; freed = λ e. alone-shared (sym alone ∙ sym e); takes = omega arith; comes = λ none _. no-alone (sym none ∙ alone) }; left = λ held other. sum },
         inl (refl, inl refl),
         may,
-        record { flags = omega (arith, sum, odd, low); writer = λ x y. absurd (omega (arith, x, odd)); reader = λ _. inr (inr (inr alone)); bias = inr (inl refl) },
+        record { flags = omega (arith, sum, odd, low); writer = λ x y. absurd (omega (arith, x, odd)); lone = λ x y. absurd (omega (arith, x, odd)); reader = λ _. inr (inr (inr alone)); bias = inr (inl refl) },
         subst (λ (z : ℕ). CountKept z more (set ps id (part g Clear))) sum (count-downgrades ps id p (part g Clear) mine n more c alone clear refl refl),
         site-downgrades o unavailable size k w hs id (n + 255) v.hand r mine' alone quiet rest,
         (lawful, fits, omega (arith, odd), omega (arith, odd, low), (refl, refl)),

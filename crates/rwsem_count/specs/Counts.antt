@@ -57,10 +57,11 @@ pub record CountKept (word more : ℕ) (ps : List CountPart) : Type 0 where
 abbrev pub BiasGoes : ℕ → Bias → Bias → Type 0
 BiasGoes n b c = (c ≡ b) ⊎ (c ≡ Clear) ⊎ ((b ≡ Clear) × ((c ≡ Transit n) ⊎ (c ≡ Reserve n)))
 
--- Which steps of a pass may change the count so. WAITERS and HANDOFF stay. A writer comes only where HANDOFF is clear. A reader comes where it is clear, by a bias whose addition saw it clear, or by a downgrade. A bias keeps the count that its addition found.
+-- Which steps of a pass may change the count so. WAITERS and HANDOFF stay. A writer comes only where nobody is counted and HANDOFF is clear. A reader comes where it is clear, by a bias whose addition saw it clear, or by a downgrade. A bias keeps the count that its addition found.
 pub record CountMove (n m : ℕ) (v u : CountPart) : Type 0 where
   pub flags : m / 2 % 128 ≡ n / 2 % 128
   pub writer : n % 2 ≡ 0 → m % 2 ≡ 1 → n / 4 % 2 ≡ 0
+  pub lone : n % 2 ≡ 0 → m % 2 ≡ 1 → n / 256 ≡ 0
   pub reader : u.held ≡ Shared → (v.held ≡ Shared) ⊎ (n / 4 % 2 ≡ 0) ⊎ ((word : ℕ) × (v.bias ≡ Transit word) × (word / 4 % 2 ≡ 0)) ⊎ (v.held ≡ Alone)
   pub bias : BiasGoes n v.bias u.bias
 

@@ -29,7 +29,7 @@ use Rattle.rwsem_wake.specs.Handoffs.{KeepsHandoff}
 use Rattle.rwsem_wake.specs.Stated.{Picks}
 use Rattle.rwsem_slow.specs.declared.view.RwSemHand.{RwSemHand}
 use Rattle.rwsem_slow.specs.RwSems.{IsLocked, IsMadeBy, Kept, RwSemKept, RwSemMoves, V, count_in, entered, grants_in, list_of, marks_in, seen, standing}
-use Rattle.rwsem_slow.specs.Stated.{HasBecome, HasWaitLock, IsRwSemStep, MadeBy, stance}
+use Rattle.rwsem_slow.specs.Stated.{HasBecome, HasNoBatch, HasWaitLock, IsRwSemStep, MadeBy, stance}
 use Rattle.rwsem_slow.proofs.Stating.{queued}
 
 bit-same : (a b : Bool) → bit a ≡ bit b → a ≡ b
@@ -100,11 +100,11 @@ module _ (id : ℕ) (ws : List ℕ) (vs : List V) (v : V) (at : get_elem? vs id 
 
   made-by : (c : Change) (q : List Waiter) → IsMadeBy id vs c q → MadeUnderLock c id (map (list_part list_of) vs) → MadeBy c id v.hand (map seen vs) q (moment standing (instant ws vs))
   made-by Stay q own made = tt
-  made-by (Enter w) q own made = let same = same-pass own.0 own.1 in (has-lock id ws vs v made.0 at made.1 made.2, ap (λ (x : V). x.hand.task) same ∙ own.2, ap (λ (x : V). x.hand.held) same ∙ own.3)
+  made-by (Enter w) q own made = let same = same-pass own.0 own.1 in (has-lock id ws vs v made.0 at made.1 made.2, ap (λ (x : V). x.hand.task) same ∙ own.2, ap (λ (x : V). x.hand.held) same ∙ own.3, (seen own.0, at_map seen vs id own.0 own.1, own.4))
   made-by (Leave t) q own made = (has-lock id ws vs v made.0 at made.1 made.2, by own.2)
     where
-      by : (own.0.hand.task ≡ Some t) ⊎ Picks (seen own.0) q t → (v.hand.task ≡ Some t) ⊎ ((p : SemPart) × (get_elem? (map seen vs) id ≡ some p) × Picks p q t)
-      by (inl mine) = inl (ap (λ (x : V). x.hand.task) (same-pass own.0 own.1) ∙ mine)
+      by : ((own.0.hand.task ≡ Some t) × (own.0.ext.sem.rest ≡ [])) ⊎ Picks (seen own.0) q t → ((v.hand.task ≡ Some t) × HasNoBatch id (map seen vs)) ⊎ ((p : SemPart) × (get_elem? (map seen vs) id ≡ some p) × Picks p q t)
+      by (inl mine) = inl (ap (λ (x : V). x.hand.task) (same-pass own.0 own.1) ∙ mine.0, (seen own.0, at_map seen vs id own.0 own.1, mine.1))
       by (inr picks) = inr (seen own.0, at_map seen vs id own.0 own.1, picks)
 
 sem-step : (k : Plan) (id : ℕ) (ws us : List ℕ) (vs vs' : List V) (m : RwSemMoves k id ws vs us vs') (q q' : List Waiter) → Each IsLocked vs → m.list.list ≡ q → q' ≡ m.list.list' → IsRwSemStep k (moment standing (instant ws vs)) q (map seen vs) (moment standing (instant us vs')) q' (map seen vs')

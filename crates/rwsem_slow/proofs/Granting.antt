@@ -5,17 +5,15 @@ use Rattle.lock_core.specs.Pasts.{FoundAt, GoesOn, IsOwnStep}
 use Rattle.lock_core.specs.RunLaws.{found-at-step}
 use Rattle.lock_core.specs.Records.{bit}
 use Rattle.lock_core.specs.Shown.{shown}
-use Rattle.lock_core.specs.Totals.{total}
 use Rattle.lock_core.specs.Views.{ticked}
 use Rattle.wait_list.specs.declared.view.Waiter.{Waiter}
 use Rattle.wait_list.specs.declared.view.ListHand.{ListHand}
 use Rattle.wait_list.specs.Lists.{AreTasks, IsList, Knows, first_code, first_of}
-use Rattle.wait_list.proofs.Tickets.{few-tasks}
 use Rattle.rwsem_count.specs.declared.view.Bias.TheVariants.{Reserve}
 use Rattle.rwsem_count.specs.Counts.{early_weight, late_weight, shared_weight}
 use Rattle.rwsem_wake.specs.Batches.{starts_with_reader}
 use Rattle.rwsem_wake.specs.Grants.{IsRemoved, KeepsOut, OnlySem, TurnsTo, reserved, unreserved}
-use Rattle.rwsem_wake.specs.SemParts.{reader_of}
+use Rattle.rwsem_wake.specs.SemParts.{IsWhole}
 use Rattle.rwsem_slow.specs.RwSems.{V, MayPick, count_at, sem_of, with_sem}
 use Rattle.rwsem_slow.specs.Places.{line_of}
 use Rattle.rwsem_slow.specs.Removals.{KnowsList, RemovesAll, without_all}
@@ -33,8 +31,8 @@ saw-writer written n v b u p r q is same later by_now own found before goes = (n
 
 -- the batch of the list has been removed
 module _ (v w : V) (list : KnowsList v) (starts : starts_with_reader v.ext.list.list ≡ true) (r : RemovesAll v (batch_in v.ext.list.list) w) where
-  pub leaves-no-reader : total reader_of w.ext.list.list ≡ 0
-  leaves-no-reader = let few = few-tasks v.ext.list.list list.sound in subst (λ (z : List Waiter). total reader_of z ≡ 0) (sym r.are) (batch-whole v.ext.list.list (omega (arith, few)) list.sound starts)
+  pub has-whole : IsWhole w.ext.sem.rest w.ext.list.list
+  has-whole = subst (λ (z : List ℕ × List Waiter). IsWhole z.0 z.1) (λ i. (sym r.rest i, sym r.are i)) (batch-whole v.ext.list.list list.sound starts)
 
   pub is-removed : (readers : List ℕ) → readers ≡ batch_in v.ext.list.list → 0 < length readers → length readers ≤ 64 → IsRemoved w.ext.sem readers
   is-removed readers is some few = let same = ap (λ (z : List ℕ). length z) is in record { stage = r.stage (omega (arith, same, some)); rest = r.rest ∙ sym is; some = some; few = few }

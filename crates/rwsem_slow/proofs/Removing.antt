@@ -11,7 +11,7 @@ use Rattle.wait_list.proofs.Tickets.{length-without, sound-changed}
 use Rattle.rwsem_wake.specs.declared.view.SemHand.{SemHand}
 use Rattle.rwsem_wake.specs.Batches.{batch_of, reads, starts_with_reader, task_of}
 use Rattle.lock_core.specs.Totals.{total}
-use Rattle.rwsem_wake.specs.SemParts.{reader_bit, reader_of, some_of}
+use Rattle.rwsem_wake.specs.SemParts.{IsWhole, reader_bit, reader_of, some_of}
 use Rattle.rwsem_wake.proofs.Places.{total-without}
 use Rattle.rwsem_wake.specs.Stated.{IsFirstReader}
 use Rattle.rwsem_slow.specs.ListSteps.{picks-is, reader-counts}
@@ -105,36 +105,33 @@ readers-all : (ts : List ℕ) (q : List Waiter) → IsList q → AreHeads ts q �
 readers-all [] q s h = omega arith
 readers-all (t ∷ ts) q s h = let a = one-less t ts q s h in let b = readers-all ts (without t q) (sound-behind t ts q s h) (heads-behind-it t ts q s h) in omega (arith, a, b)
 
-few-readers : (q : List Waiter) → total reader_of q ≤ length q
-few-readers [] = omega arith
-few-readers (w ∷ q) = let e = few-readers q in let b = one w.writer in omega (arith, e, b)
+-- the readers of a list
+all-readers : (q : List Waiter) → length (map task_of (filter reads q)) ≡ total reader_of q
+all-readers [] = refl
+all-readers (w ∷ q) = go w.writer refl (all-readers q)
   where
-    one : (b : Bool) → reader_bit b ≤ 1
-    one true = omega arith
-    one false = omega arith
+    go : (b : Bool) → w.writer ≡ b → length (map task_of (filter reads q)) ≡ total reader_of q → length (map task_of (filter reads (w ∷ q))) ≡ total reader_of (w ∷ q)
+    go true e l = subst (λ (b : Bool). length (map task_of (if (if b then false else true) then w ∷ filter reads q else filter reads q)) ≡ reader_bit b + total reader_of q) (sym e) (omega (arith, l))
+    go false e l = subst (λ (b : Bool). length (map task_of (if (if b then false else true) then w ∷ filter reads q else filter reads q)) ≡ reader_bit b + total reader_of q) (sym e) (omega (arith, l))
 
--- a list of at most as many waiters as a batch may have
-module _ (q : List Waiter) (few : length q ≤ 256) where
-  all-readers : (q : List Waiter) → length (map task_of (filter reads q)) ≡ total reader_of q
-  all-readers [] = refl
-  all-readers (w ∷ q) = go w.writer refl (all-readers q)
-    where
-      go : (b : Bool) → w.writer ≡ b → length (map task_of (filter reads q)) ≡ total reader_of q → length (map task_of (filter reads (w ∷ q))) ≡ total reader_of (w ∷ q)
-      go true e l = subst (λ (b : Bool). length (map task_of (if (if b then false else true) then w ∷ filter reads q else filter reads q)) ≡ reader_bit b + total reader_of q) (sym e) (omega (arith, l))
-      go false e l = subst (λ (b : Bool). length (map task_of (if (if b then false else true) then w ∷ filter reads q else filter reads q)) ≡ reader_bit b + total reader_of q) (sym e) (omega (arith, l))
+take-short : (n : ℕ) (xs : List ℕ) → length xs ≤ n → length (take n xs) ≡ length xs
+take-short zero [] l = refl
+take-short zero (x ∷ xs) l = absurd (omega (arith, l))
+take-short (suc n) [] l = refl
+take-short (suc n) (x ∷ xs) l = let e = take-short n xs (omega (arith, l)) in omega (arith, e)
 
-  take-short : (n : ℕ) (xs : List ℕ) → length xs ≤ n → length (take n xs) ≡ length xs
-  take-short zero [] l = refl
-  take-short zero (x ∷ xs) l = absurd (omega (arith, l))
-  take-short (suc n) [] l = refl
-  take-short (suc n) (x ∷ xs) l = let e = take-short n xs (omega (arith, l)) in omega (arith, e)
+take-full : (n : ℕ) (xs : List ℕ) → n ≤ length xs → length (take n xs) ≡ n
+take-full zero xs l = refl
+take-full (suc n) [] l = absurd (omega (arith, l))
+take-full (suc n) (x ∷ xs) l = let e = take-full n xs (omega (arith, l)) in omega (arith, e)
 
-  batch-length : starts_with_reader q ≡ true → length (batch_of 256 q) ≡ total reader_of q
-  batch-length starts = let a = all-readers q in let b = few-readers q in ap (λ (b : Bool). length (if b then take 256 (map task_of (filter reads q)) else [])) starts ∙ (take-short 256 (map task_of (filter reads q)) (omega (arith, a, b, few)) ∙ a)
-
-  -- its batch leaves no reader in it
-  pub batch-whole : IsList q → starts_with_reader q ≡ true → total reader_of (without_all (batch_of 256 q) q) ≡ 0
-  batch-whole sound starts = let a = readers-all (batch_of 256 q) q sound (batch-heads 256 q) in let b = batch-length starts in omega (arith, a, b)
+-- the batch of a list with a reader first is a whole one
+pub batch-whole : (q : List Waiter) → IsList q → starts_with_reader q ≡ true → IsWhole (batch_of 256 q) (without_all (batch_of 256 q) q)
+batch-whole q sound starts = let rs : List ℕ = map task_of (filter reads q) in let all = readers-all (batch_of 256 q) q sound (batch-heads 256 q) in let readers = all-readers q in
+    let is : length (batch_of 256 q) ≡ length (take 256 rs) = ap (λ (b : Bool). length (if b then take 256 rs else [])) starts in elim (native.Mathlib.Decide.dec_le (length rs) 256) [
+      | yes few ↦ let t = take-short 256 rs few in inl (omega (arith, all, readers, is, t))
+      | no more ↦ inr (is ∙ take-full 256 rs (omega (arith, more)))
+    ]
 
 pub batch-some : (n : ℕ) (q : List Waiter) → starts_with_reader q ≡ true → (t : ℕ) × (ts : List ℕ) × (batch_of (suc n) q ≡ t ∷ ts)
 batch-some n [] e = absurd (let z : bit false ≡ bit true = ap bit e in omega (arith, z))

@@ -15,13 +15,12 @@ use Rattle.lock_core.specs.Records.{bit}
 use Rattle.lock_core.specs.Spins.{holds_in}
 use Rattle.lock_core.specs.Totals.{total}
 use Rattle.lock_core.specs.Views.{hand_of, is_number, named_of, spin_of}
-use Rattle.lock_core.proofs.HandLaws.{false-or-true, not-both}
+use Rattle.lock_core.proofs.HandLaws.{false-or-true, held-none, not-both}
 use Rattle.lock_core.proofs.Stating.{kept-states}
 use Rattle.wait_list.specs.declared.view.Waiter.{Waiter}
 use Rattle.wait_list.specs.Lists.{Part, PartOk, changes_of, counted, list_part}
 use Rattle.wait_list.specs.ListLaws.{holds-or-not}
-use Rattle.rwsem_count.specs.Counts.{shared_weight}
-use Rattle.rwsem_wake.specs.SemParts.{SemPart, busy_of, busy_weight, named_weight, reads_at, reads_weight, reserve_of, rest_of, shared_of, transit_weight, writes_at, writes_weight}
+use Rattle.rwsem_wake.specs.SemParts.{SemPart, busy_of, busy_weight, named_weight, reads_at, reads_weight, reserve_of, rest_of, transit_weight, writes_at, writes_weight}
 use Rattle.rwsem_wake.specs.Semaphores.{Quiet}
 use Rattle.rwsem_wake.proofs.Readers.{only-first, readers-are, readers-once}
 use Rattle.rwsem_wake.proofs.Stating.{sem-states, sem-waiters}
@@ -120,7 +119,7 @@ module _ {Call : Type 0} (o : Obj Call) (size : ℕ) (k : Plan) (ws : List ℕ) 
     marked = λ free. only-first (count_in ws / 2 % 2) (count_in ws / 4 % 2) q (marks_in ws) (omega arith) (quiet free);
     locked = locks;
     apart = λ id p at one. (
-      λ shared. let a = (r.sem.each id p at).apart in let s : shared_of p ≡ 1 = ap shared_weight shared in absurd (omega (arith, a, s, one)),
+      (let a = (r.sem.each id p at).apart in held-none p.held (omega (arith, a, one))),
       λ none. let b = (r.sem.each id p at).numbered none in let z : transit_weight p.sem.bias ≡ 0 = ap transit_weight b.1 in absurd (omega (arith, one, z)),
     );
   }

@@ -182,6 +182,7 @@ module _ (v u : V) (queued : v.ext.sem ≡ waiting Writes) (list : KnowsList v) 
       knows = mark-list.knows;
       waiting = code-waits u.ext.list.list first mark-code;
       only = subst (λ (h : ListHand). (alone ≡ true) ↔ (length h.list ≡ 1)) (sym steps-list.0) only;
+      writes = elim t [ inl is ↦ ap (λ (s : SemHand). s.wait) is | inr is ↦ ap (λ (s : SemHand). s.wait) is ];
       clear = elim t [ inl is ↦ ap (λ (s : SemHand). s.bias) is | inr is ↦ ap (λ (s : SemHand). s.bias) is ];
       rest = elim t [ inl is ↦ ap (λ (s : SemHand). s.rest) is | inr is ↦ ap (λ (s : SemHand). s.rest) is ];
       may = may marked mark w;

@@ -24,7 +24,7 @@ use Rattle.rwsem_wake.specs.Semaphores.{SemKept, SemPartOk, more_of}
 use Rattle.rwsem_wake.specs.Handoffs.{KeepsHandoff, Unasked, granting_at, reads_as}
 use Rattle.rwsem_wake.proofs.HandoffSteps.{PassGoes, hands-free, hands-reads, hands-step, own-comes}
 use Rattle.rwsem_wake.proofs.Lines.{lines-else}
-use Rattle.rwsem_wake.proofs.WakeLaws.{ok-of, sem-counts, transit-most}
+use Rattle.rwsem_wake.proofs.WakeLaws.{held-most, ok-of, sem-counts, transit-most}
 use Rattle.rwsem_slow.specs.RwSems.{V, any_count, bias_of, biased, count_at, count_in, grants_at, grants_in, marks_at, marks_in, may_count, more_in, seen, RwSemKept, Kept as IsKept}
 use Rattle.rwsem_slow.specs.RwSemLaws.{Go as Going, SemWords, sem_words, sem-lawful, sem-only, sem-sems}
 
@@ -49,7 +49,7 @@ module _ (ps : List SemPart) (id : ℕ) (v u : SemPart) (at : get_elem? ps id �
   -- it keeps to a handoff
   counts-hands : (own : ℕ) → v.task ≡ Some own → KeepsHandoff id n q marks grants ps m marks grants (set ps id u)
   counts-hands own has = elim (native.Mathlib.Decide.dec_le (m % 2) (n % 2)) [
-    | no more ↦ hands-free id n q marks grants ps v u at m (inl (move.writer (omega (arith, more)) (omega (arith, more)))) unasked (own-comes id n q marks grants ps v u at own has elsewhere) goes
+    | no more ↦ hands-free id n q marks grants ps v u at m (inl (move.writer (omega (arith, more)) (omega (arith, more)))) move.lone unasked (own-comes id n q marks grants ps v u at own has elsewhere) goes
     | yes low ↦ by-hold u.held refl low
   ]
     where
@@ -91,7 +91,7 @@ module _ (ps : List SemPart) (id : ℕ) (v u : SemPart) (at : get_elem? ps id �
       shares low e = elim (move.reader e) [
         | inl was ↦ hands-step id n q marks grants ps v u at m marks low (λ t. no-more t (let a : shared_weight u.held ≡ shared_weight v.held = ap shared_weight (e ∙ sym was) in omega (arith, a))) unasked goes
         | inr more ↦ elim more [
-          | inl none ↦ hands-free id n q marks grants ps v u at m (inl none) unasked (own-comes id n q marks grants ps v u at own has elsewhere) goes
+          | inl none ↦ hands-free id n q marks grants ps v u at m (inl none) move.lone unasked (own-comes id n q marks grants ps v u at own has elsewhere) goes
           | inr may ↦ hands-reads id n q marks grants ps v u at m own low has may elsewhere unasked goes
         ]
       ]
@@ -122,7 +122,7 @@ module _ {Call : Type 0} (o : Obj Call) (size : ℕ) where
   sem-counted k ws vs id n v h b (q, r) at step may move count there = let s : SemHand = record v.ext.sem { bias = b } in let u : SemPart = record { task = h.task; held = h.held; sem = s } in let ps : List SemPart = map seen vs in let mine = at_map seen vs id v at in let wide = r.wide in
       let word : count_in (set ws count_at n) ≡ n = get_or-set_same ws count_at n 0 (omega (arith, wide)) in let marks = lines-else marks_at ws count_at n (λ t l e. omega (arith, e)) in let grants = lines-else grants_at ws count_at n (λ t l e. omega (arith, e)) in
       let words : sem_words (set ws count_at n) ≡ (n, marks_in ws, grants_in ws) = λ i. (word i, marks i, grants i) in let none : reads_of u ≡ 0 = ap reads_weight may.0 in let light = may.1 in let clear = may.2 in
-      let ok : SemPartOk u = number-or-not h.task (λ out. absurd (step.numbered (sym step.task ∙ out))) (λ t has. ok-of u t has ((r.sem.each id (seen v) mine).rest) (omega (arith, none, light)) (omega (arith, clear)) (omega (arith, none, light)) (let l = transit-most b in omega (arith, light, l))) in
+      let ok : SemPartOk u = number-or-not h.task (λ out. absurd (step.numbered (sym step.task ∙ out))) (λ t has. ok-of u t has ((r.sem.each id (seen v) mine).rest) (let s = (held-most h.held).1 in omega (arith, none, light, s)) (omega (arith, clear)) (omega (arith, none, light)) (let l = transit-most b in omega (arith, light, l))) in
       let kept = counts-kept ps id (seen v) u mine (count_in ws) n q (marks_in ws) (grants_in ws) r.sem step.task refl refl refl move (subst (λ (z : List CountPart). CountKept n (more_in k ws vs) (set z id (part h b))) (sym (same-parts vs)) count) ok in
       let hands = number-or-not v.hand.task (λ out. absurd (step.numbered out)) (λ t has. counts-hands ps id (seen v) u mine (count_in ws) n q (marks_in ws) (grants_in ws) r.sem step.task refl refl refl move t has) in
       sem-sems o size k ws vs q id count_at n v h s r at (omega arith) (omega arith) (λ l. absurd (omega (arith, l))) (r.locked id v at) (subst (HandStep v.hand h) (sym word) step)

@@ -30,7 +30,7 @@ use Rattle.rwsem_wake.specs.declared.view.SemHand.{SemHand}
 use Rattle.rwsem_wake.specs.declared.view.Wait.{Wait}
 use Rattle.rwsem_wake.specs.declared.view.Wait.TheVariants.{Apart, Reads, Writes}
 use Rattle.rwsem_wake.specs.declared.view.Stage.{Stage}
-use Rattle.rwsem_wake.specs.declared.view.Stage.TheVariants.{Rest, Armed, Overdue, Removing}
+use Rattle.rwsem_wake.specs.declared.view.Stage.TheVariants.{Rest, Armed, Took, Overdue, Removing}
 use Rattle.rwsem_wake.specs.SemParts.{SemPart, busy_weight, busy_of, named_weight, reads_weight, writes_weight, reads_at, writes_at, rest_at, here}
 use Rattle.rwsem_wake.specs.Semaphores.{SemPartOk, batch_weight}
 use Rattle.rwsem_wake.proofs.Sums.{busy-most}
@@ -157,6 +157,10 @@ module _ {Call : Type 0} (o : Obj Call) (size : ℕ) where
         one-of (y ∷ xs) zero x e = let is = some-injective y x e in let l = both xs in let a : reads_at t (seen y) ≡ reads_at t (seen x) = ap (λ (z : V). reads_at t (seen z)) is in let b : writes_at t (seen y) ≡ writes_at t (seen x) = ap (λ (z : V). writes_at t (seen z)) is in let c : is_number t y.hand.task ≡ is_number t x.hand.task = ap (λ (z : V). is_number t z.hand.task) is in omega (arith, l, a, b, c)
         one-of (y ∷ xs) (suc i) x e = let l = one-of xs i x e in let w = waits-once t y.hand.task y.ext.sem.wait in omega (arith, l, w)
 
+    -- at a stage at which no batch may be under way
+    no-rest : (s : Stage) → v.ext.sem.stage ≡ s → batch_weight s ≡ 0 → v.ext.sem.rest ≡ []
+    no-rest s stage none = (r.sem.each id (seen v) mine).rest (ap batch_weight stage ∙ none)
+
     -- whose pass waits as a writer, or as a reader that isn't granted, stands in the list
     writer-there : (t : ℕ) → v.hand.task ≡ Some t → v.ext.sem.wait ≡ Writes → 1 ≤ counted t q
     writer-there t has wait = let a = total-at (writes_at t) (map seen vs) id (seen v) mine in let b : writes_at t (seen v) ≡ 1 = writes-at-w (seen v) t has Writes wait t ∙ is_number-here t in let c = counted-is t q in let y = r.sem.writes t in omega (arith, a, b, c, y)
@@ -262,14 +266,19 @@ module _ {Call : Type 0} (o : Obj Call) (size : ℕ) where
       leaves-facts t (inr (inr (inr may))) = picked-facts t (length (without t q)) may
 
       leaves-by : (t : ℕ) → may_change (Leave t) v q → IsMadeBy id vs (Leave t) q
-      leaves-by t (inl may) = (v, at, inl may.1)
-      leaves-by t (inr (inl may)) = (v, at, inl may.0.0)
-      leaves-by t (inr (inr (inl may))) = (v, at, inl may.0.0)
+      leaves-by t (inl may) = (v, at, inl (may.1, no-rest Took may.0 refl))
+      leaves-by t (inr (inl may)) = (v, at, inl (may.0.0, may.2))
+      leaves-by t (inr (inr (inl may))) = (v, at, inl (may.0.0, elim may.2 [ inl reads ↦ no-rest Armed reads.0 refl | inr writes ↦ no-rest Rest writes.0 refl ]))
       leaves-by t (inr (inr (inr may))) = (v, at, inr may.2)
+
+    -- who is to join has no batch under way
+    joins-none : (writer : Bool) → MayJoin writer v.ext.sem → v.ext.sem.rest ≡ []
+    joins-none true join = no-rest Rest join.0 refl
+    joins-none false join = no-rest Armed join.0 refl
 
     pub sem-lists : (i n : ℕ) (c : Change) (b : ListHand) → i < LIST_WORDS → SpinHolds v.spin → may_change c v q → b.list ≡ changed c q → LeaverGoes c v.ext.list.leaver b.leaver → ListKept (set (list_words ws) i n) (changed c q) (set (map parted vs) id (v.spin, b)) → Go k id ws vs (set ws (list_at + i) n) (set vs id (listed with_list c v b))
     sem-lists i n Stay b inside has may is leaver list = lists-by i n Stay b has inside list tt tt tt (stays-facts has)
-    sem-lists i n (Enter w) b inside has may is leaver list = lists-by i n (Enter w) b has inside list (sem-list-may (Enter w) has may) (parted v, at_map parted vs id v at, ap holds_at has) (v, at, may.0, may.1) (enters-facts has w b may is)
+    sem-lists i n (Enter w) b inside has may is leaver list = lists-by i n (Enter w) b has inside list (sem-list-may (Enter w) has may) (parted v, at_map parted vs id v at, ap holds_at has) (v, at, may.0, may.1, joins-none w.writer may.3) (enters-facts has w b may is)
     sem-lists i n (Leave t) b inside has may is leaver list = lists-by i n (Leave t) b has inside list (sem-list-may (Leave t) has may) (parted v, at_map parted vs id v at, ap holds_at has) (leaves-by has t may)
         (subst (λ (z : List Waiter). Facts (without t q) (parted_at v.ext.sem.stage v.ext.sem.wait t (length z) v.ext.sem)) (sym is) (leaves-facts has t may))
 

@@ -23,7 +23,7 @@ use Rattle.rwsem_wake.specs.Handoffs.{KeepsHandoff, granting_at}
 use Rattle.rwsem_wake.specs.Stated.{IsFirstReader, Picks, Without}
 use Rattle.rwsem_wake.proofs.Sums.{busy-most}
 use Rattle.rwsem_wake.proofs.Places.{first-least, granted-all, not-zero, some-length, total-without}
-use Rattle.rwsem_wake.proofs.WakeLaws.{batched, single-of}
+use Rattle.rwsem_wake.proofs.WakeLaws.{batched, held-most, single-of}
 use Rattle.rwsem_wake.proofs.QueueLaws.{a_writer, reader, granted-at-w, mine-at, reads-at-w, sem-joins, writes-at-w}
 use Rattle.rwsem_wake.proofs.HandoffLaws.{sem-drops-reader, sem-drops-writer, sem-enters, sem-picks, took-left}
 use Rattle.rwsem_wake.proofs.HandoffSteps.{PassGoes, hands-step, marking, pass-from, unasked-same}
@@ -142,7 +142,7 @@ module _ (vs : List SemPart) (id : ℕ) (v : SemPart) (at : get_elem? vs id ≡ 
         go true e z one = let f : bit w.writer * bit (w.task == own) ≡ 1 * 1 = λ i. bit (e i) * one i in absurd (omega (arith, z, f))
 
   light : v.sem.bias ≡ Clear → load_of v + reserve_of v ≤ 1
-  light clear = let s = single-of v own has (r.each id v at) in let f : early_of v + late_of v + reserve_of v ≡ 0 = ap (λ (z : Bias). early_weight z + late_weight z + reserve_weight z) clear in omega (arith, f, s)
+  light clear = let s = single-of v own has (r.each id v at) in let h = (held-most v.held).1 in let f : early_of v + late_of v + reserve_of v ≡ 0 = ap (λ (z : Bias). early_weight z + late_weight z + reserve_weight z) clear in omega (arith, f, s, h)
 
   -- a waiter that stands in the list leaves it at this stage
   abbrev pub Leaving : Stage → Type 0

@@ -10,7 +10,7 @@ use Rattle.lock_core.specs.declared.view.Hand.{Hand}
 use Rattle.lock_core.specs.declared.view.Held.TheVariants.{No}
 use Rattle.lock_core.specs.declared.layout.TheConstants.{SPIN_ROOM, SPIN_WORDS}
 use Rattle.lock_core.specs.Layout.{site, width, part}
-use Rattle.lock_core.specs.Views.{hand_of, spin_part}
+use Rattle.lock_core.specs.Views.{hand_of, held_weight, spin_part}
 use Rattle.lock_core.specs.Sites.{SiteKept}
 use Rattle.lock_core.specs.Moves.{SiteMove}
 use Rattle.lock_core.specs.Spins.{SpinKept, SpinMoves, holds_in}
@@ -23,7 +23,7 @@ use Rattle.wait_list.specs.declared.words.TheConstants.{LIST_WORDS}
 use Rattle.wait_list.specs.Lists.{ListKept, ListMoves, list_part, no_list, first_code}
 use Rattle.rwsem_count.specs.declared.view.Bias.{Bias}
 use Rattle.rwsem_count.specs.declared.view.Bias.TheVariants.{Clear, Transit, Reserve}
-use Rattle.rwsem_count.specs.Counts.{CountPart, shared_weight, early_weight, late_weight}
+use Rattle.rwsem_count.specs.Counts.{CountPart, early_weight, late_weight}
 use Rattle.rwsem_wake.specs.declared.view.SemHand.{SemHand}
 use Rattle.rwsem_wake.specs.declared.view.Wait.{Wait}
 use Rattle.rwsem_wake.specs.declared.view.Wait.TheVariants.{Apart, Reads, Writes}
@@ -148,17 +148,17 @@ entered Stay = 0
 entered (Enter w) = 1
 entered (Leave t) = 0
 
--- who changes the list: a waiter enters by itself, and holds nothing; it leaves by itself, or as the next of a waker's batch
+-- who changes the list: a waiter enters by itself, holds nothing, and has no batch under way; it leaves by itself, again with no batch under way, or as the next of a waker's batch
 abbrev pub IsMadeBy : ℕ → List V → Change → List Waiter → Type 0
 IsMadeBy id vs Stay q = Unit {0}
-IsMadeBy id vs (Enter w) q = (v : V) × (get_elem? vs id ≡ some v) × (v.hand.task ≡ Some w.task) × (v.hand.held ≡ No)
-IsMadeBy id vs (Leave t) q = (v : V) × (get_elem? vs id ≡ some v) × ((v.hand.task ≡ Some t) ⊎ Picks (seen v) q t)
+IsMadeBy id vs (Enter w) q = (v : V) × (get_elem? vs id ≡ some v) × (v.hand.task ≡ Some w.task) × (v.hand.held ≡ No) × (v.ext.sem.rest ≡ [])
+IsMadeBy id vs (Leave t) q = (v : V) × (get_elem? vs id ≡ some v) × (((v.hand.task ≡ Some t) × (v.ext.sem.rest ≡ [])) ⊎ Picks (seen v) q t)
 
 -- who ends or downgrades a hold keeps the count that its step left
 abbrev pub KeepsCount : Hand → Hand → ℕ → Type 0
 KeepsCount h g word = h.held ≢ No → g.held ≢ h.held → g.freed ≡ word
 
--- what a step may do: all that each step of a site, of a spin lock and of a list does; a waiter enters by itself, and leaves by itself or in a waker's batch; while the first waiter is marked and HANDOFF is set, nobody but it writes, and who reads had a bias since before, or held alone; at any time who reads comes to it by itself, or in a batch that leaves no reader waiting, and does so until it ends its hold; a waker or a writer of the list asks for a handoff, and marks the first waiter; a batch is granted in the order in which it was picked; who ends or downgrades a hold keeps the count that it left; who is at a stage has the wait lock; and an append is counted by the pass that enters
+-- what a step may do: all that each step of a site, of a spin lock and of a list does; a waiter enters by itself, and leaves by itself or in a waker's batch; while the first waiter is marked and HANDOFF is set, nobody but it writes, and who reads had a bias since before, or held alone; at any time who reads comes to it by itself, or in a whole batch, and does so until it ends its hold; a waker or a writer of the list asks for a handoff, and marks the first waiter; a batch is granted in the order in which it was picked; who ends or downgrades a hold keeps the count that it left; who is at a stage has the wait lock; and an append is counted by the pass that enters
 pub record RwSemMoves (k : Plan) (id : ℕ) (ws : List ℕ) (vs : List V) (us : List ℕ) (vs' : List V) : Type 0 where
   pub site : SiteMove id (site k ws) vs (site k us) vs'
   pub spin : SpinMoves id (spin_words ws) (map spin_part vs) (spin_words us) (map spin_part vs')
@@ -181,7 +181,7 @@ biased v h b = with_sem v.ext (record v.ext.sem { bias = b })
 
 -- a pass that waits for nothing may change how it holds and its bias: it has one of them at most, and reserves none
 abbrev pub may_count : V → CountPart → Type 0
-may_count v p = (v.ext.sem.wait ≡ Apart) × (shared_weight p.held + (early_weight p.bias + late_weight p.bias) ≤ 1) × (reserve_weight p.bias ≡ 0)
+may_count v p = (v.ext.sem.wait ≡ Apart) × (held_weight p.held + (early_weight p.bias + late_weight p.bias) ≤ 1) × (reserve_weight p.bias ≡ 0)
 
 -- any count may stand there
 abbrev pub any_count : ℕ → Type 0

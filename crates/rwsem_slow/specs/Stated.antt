@@ -51,7 +51,7 @@ pub record AreReaders (grants : List ℕ) (ps : List SemPart) : Type 0 where
 abbrev pub HasWaitLock : ℕ → Moment → Type 0
 HasWaitLock id m = (s : SpinHand) × (get_elem? m.spins id ≡ some s) × (holds_in s ≡ 1)
 
--- While this is the list, and these are the parts of the passes. The list's words state it while the wait lock is free, and each waiter has a pass. The count states whether a task writes, which then is alone, how many read, which biases are in it, and, while the wait lock is free, that tasks wait. Then the first waiter alone may be marked, and HANDOFF is set where it is. Who is about something, has reserved a bias, or has tasks of a batch still to grant, has the wait lock; whose bias is in transit doesn't hold by it, and has a number.
+-- While this is the list, and these are the parts of the passes. The list's words state it while the wait lock is free, and each waiter has a pass. The count states whether a task writes, which then is alone, how many read, which biases are in it, and, while the wait lock is free, that tasks wait. Then the first waiter alone may be marked, and HANDOFF is set where it is. Who is about something, has reserved a bias, or has tasks of a batch still to grant, has the wait lock; whose bias is in transit holds nothing, and has a number.
 pub record IsQueued (m : Moment) (q : List Waiter) (ps : List SemPart) : Type 0 where
   pub parts : AreParts m ps
   pub sound : IsList q
@@ -63,21 +63,25 @@ pub record IsQueued (m : Moment) (q : List Waiter) (ps : List SemPart) : Type 0 
   pub flags : IsWaitLockFree m.spins → Quiet (count_in m.words / 2 % 2) (count_in m.words / 4 % 2) q (marks_in m.words)
   pub marked : IsWaitLockFree m.spins → OnlyFirst (count_in m.words / 4 % 2) q (marks_in m.words)
   pub locked : (id : ℕ) (p : SemPart) → get_elem? ps id ≡ some p → 0 < busy_of p + reserve_of p + rest_of p → HasWaitLock id m
-  pub apart : (id : ℕ) (p : SemPart) → get_elem? ps id ≡ some p → transit_of p ≡ 1 → (p.held ≢ Shared) × (p.task ≢ None)
+  pub apart : (id : ℕ) (p : SemPart) → get_elem? ps id ≡ some p → transit_of p ≡ 1 → (p.held ≡ No) × (p.task ≢ None)
 
 -- the facts of a site, and a list
 abbrev pub IsRwSemThen : {Call : Type 0} → Obj Call → ℕ → Plan → Moment → Type 0
 IsRwSemThen o size k m = IsSiteThen o shut size k m × ((q : List Waiter) × (ps : List SemPart) × IsQueued m q ps)
 
--- a change of this list is made under the wait lock by the pass of this number, hand and part: a waiter enters by itself, and holds nothing; it leaves by itself, or as the next of the batch of the pass
+-- the pass of this number has no batch under way
+abbrev pub HasNoBatch : ℕ → List SemPart → Type 0
+HasNoBatch id ps = (p : SemPart) × (get_elem? ps id ≡ some p) × (p.sem.rest ≡ [])
+
+-- a change of this list is made under the wait lock by the pass of this number, hand and part: a waiter enters by itself, holds nothing, and has no batch under way; it leaves by itself, again with no batch under way, or as the next of the batch of the pass
 abbrev pub MadeBy : Change → ℕ → Hand → List SemPart → List Waiter → Moment → Type 0
 MadeBy Stay id h ps q m = Unit {0}
-MadeBy (Enter w) id h ps q m = HasWaitLock id m × (h.task ≡ Some w.task) × (h.held ≡ No)
-MadeBy (Leave t) id h ps q m = HasWaitLock id m × ((h.task ≡ Some t) ⊎ ((p : SemPart) × (get_elem? ps id ≡ some p) × Picks p q t))
+MadeBy (Enter w) id h ps q m = HasWaitLock id m × (h.task ≡ Some w.task) × (h.held ≡ No) × HasNoBatch id ps
+MadeBy (Leave t) id h ps q m = HasWaitLock id m × (((h.task ≡ Some t) × HasNoBatch id ps) ⊎ ((p : SemPart) × (get_elem? ps id ≡ some p) × Picks p q t))
 
 -- One step of one pass, made while this was the list and these the parts of the passes.
 -- The list changes by one append or one removal, which keeps the others in order. Each append is counted by the pass that enters.
--- While the first waiter is marked and HANDOFF is set, the writer's bit comes by that waiter alone, and a task becomes a reader only by a bias whose addition saw no HANDOFF, or by a downgrade. A bias keeps the count that its addition found. At any time it becomes one by a step of its own pass, or in a waker's batch that leaves no reader in the list, and it is one until its own pass ends its shared hold.
+-- While the first waiter is marked and HANDOFF is set, the writer's bit comes by that waiter alone, at any time only where nobody is counted, and a task becomes a reader only by a bias whose addition saw no HANDOFF, or by a downgrade. A bias keeps the count that its addition found. At any time it becomes one by a step of its own pass, or in a waker's whole batch, and it is one until its own pass ends its shared hold.
 -- HANDOFF is set by a waker with a reserved bias where the first waiter is marked, or by a writer of the list, which is to mark it from then on, and stays until a writer takes, a waker puts a batch of some readers into the count, or nobody waits. A mark is set by one of these, and is the first waiter's; it goes by that waiter's own pass, or by a waker whose batch has it next.
 -- A batch grows by the readers that its waker picks, and is granted in this order once it is in the count; no other step clears a grant word.
 -- Who is about something, before its step or behind it, has the wait lock. Who ends or downgrades a hold keeps the count that its step left.

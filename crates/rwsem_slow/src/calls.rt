@@ -2,19 +2,20 @@
 ghost use Rattle.std.specs.Prelude.{◌≡◌, ◌<◌, List, [], ◌∷◌, length, Some, None, IsSome, IfOk};
 ghost use Rattle.lock_core.specs.declared.view.Held.TheVariants.{No};
 ghost use Rattle.lock_core.specs.Kinds.{semaphore, unavailable};
-ghost use Rattle.lock_core.specs.Pasts.{EachMoment, Paced, Tail};
+ghost use Rattle.lock_core.specs.Pasts.{EachMoment, Paced, Ran, Tail};
 ghost use Rattle.lock_core.specs.Locking.{Looks, Has};
 ghost use Rattle.lock_core.specs.Locked.{IsLockedThen, IsSiteStep};
 ghost use Rattle.lock_core.specs.Passes.{Numbered};
 ghost use Rattle.lock_core.specs.Records.{IsPlan};
 ghost use Rattle.lock_core.specs.Shown.{AllButHand, IsLatestStep, PastGoesOn, shown_new, shown_split};
+ghost use Rattle.lock_core.specs.SpinStated.{IsSpinLockThen, IsSpinMove};
 ghost use Rattle.lock_core.specs.Stated.{IsNew};
 ghost use Rattle.lock_core.specs.Views.{gathered, gave_up};
 ghost use Rattle.osq_nodes.specs.Handles.{tasks_of};
 ghost use Rattle.lock_core.specs.Handles as inner;
 ghost use Rattle.wait_list.specs.declared.view.Waiter.{Waiter as Waiters};
 ghost use Rattle.rwsem_wake.specs.SemParts.{SemPart};
-ghost use Rattle.rwsem_slow.specs.RwSems.{count_at};
+ghost use Rattle.rwsem_slow.specs.RwSems.{count_at, standing, wait_lock_at};
 ghost use Rattle.rwsem_slow.specs.Stated.{HasBecome, IsOutOfLine, IsRwSemThen, waits_on};
 
 use crate::rule::SemRule;
@@ -136,11 +137,12 @@ impl<O: Object> RwSem<O> {
     /// the first waiter is marked and HANDOFF is set, it alone may come to write, and a task comes
     /// to read only by a bias whose addition saw no HANDOFF, or by a downgrade; a bias keeps the
     /// count that its addition found. At any time a task comes to read by a step of its own pass,
-    /// or in a waker's batch that leaves no reader in the list, and reads until its own pass ends
-    /// its shared hold. HANDOFF and marks, which are the first waiter's, are set under the wait
-    /// lock, by a waker or by a writer of the list, which is then to mark; a mark is cleared by its
-    /// own waiter, or by a waker whose batch has it next. A batch is granted in the order in which
-    /// it was picked. The pass itself waits for nothing.
+    /// or in a waker's whole batch, and reads until its own pass ends its shared hold. HANDOFF and
+    /// marks, which are the first waiter's, are set under the wait lock, by a waker or by a writer
+    /// of the list, which is then to mark; a mark is cleared by its own waiter, or by a waker whose
+    /// batch has it next. A batch is granted in the order in which it was picked. At each moment
+    /// the words of the wait lock say who has it, and each step is one of a spin lock's. The pass
+    /// itself waits for nothing.
     pub fn recall(&self, pass: &mut RwPass<O>)
         requires own { SitsAt self.now pass.old }
         ensures own { SitsAt self.now pass.new }
@@ -157,6 +159,9 @@ impl<O: Object> RwSem<O> {
         ensures moves { Paced (IsSiteStep (plan_of self.now)) (shown_of pass.new).past }
         ensures lists { (q : List Waiters) × (ps : List SemPart) ×
             HasBecome (plan_of self.now) (shown_of pass.new).past q ps }
+        ensures wait_lock { EachMoment (IsSpinLockThen wait_lock_at) (shown_of pass.new).past }
+        ensures wait_moves { Ran standing (newest (plan_of self.now)) (IsSpinMove wait_lock_at)
+            (shown_of pass.new).past }
     {
         self.site.recall(&mut pass.pass);
     }

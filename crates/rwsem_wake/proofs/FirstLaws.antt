@@ -14,7 +14,7 @@ use Rattle.rwsem_wake.specs.SemParts.{SemPart, busy_of, busy_weight, early_of, l
 use Rattle.rwsem_wake.specs.Semaphores.{FlagsAt, Quiet, SemKept, batch_weight, load_of, more_of}
 use Rattle.rwsem_wake.proofs.Places.{first-least, mark-set, some-length}
 use Rattle.rwsem_wake.proofs.Sums.{busy-most}
-use Rattle.rwsem_wake.proofs.WakeLaws.{staged, ok-of, reserve-most, single-of, slim-of}
+use Rattle.rwsem_wake.proofs.WakeLaws.{staged, held-most, ok-of, reserve-most, single-of, slim-of}
 use Rattle.rwsem_wake.proofs.QueueLaws.{mine-at, same-count, sem-stages}
 
 -- the flags of a list in which nobody is marked
@@ -23,7 +23,7 @@ quiet-none w h q marks e l z = let f = first-least marks (tasks q) in record { w
 
 -- who has no bias, and is no reader twice, adds little
 pub light-of : (v : SemPart) (own : ℕ) → v.task ≡ Some own → v.sem.bias ≡ Clear → (n : ℕ) (q : List Waiter) (marks grants : List ℕ) (vs : List SemPart) (id : ℕ) → SemKept n q marks grants vs → get_elem? vs id ≡ some v → load_of v + reserve_of v ≤ 1
-light-of v own has clear n q marks grants vs id r at = let s = single-of v own has (r.each id v at) in let f : early_of v + late_of v + reserve_of v ≡ 0 = ap (λ (z : Bias). early_weight z + late_weight z + reserve_weight z) clear in omega (arith, f, s)
+light-of v own has clear n q marks grants vs id r at = let s = single-of v own has (r.each id v at) in let h = (held-most v.held).1 in let f : early_of v + late_of v + reserve_of v ≡ 0 = ap (λ (z : Bias). early_weight z + late_weight z + reserve_weight z) clear in omega (arith, f, s, h)
 
 module _ (vs : List SemPart) (id : ℕ) (v : SemPart) (at : get_elem? vs id ≡ some v) (n : ℕ) (q : List Waiter) (marks grants : List ℕ) (r : SemKept n q marks grants vs) (own : ℕ) (has : v.task ≡ Some own) (only : total busy_of vs ≡ busy_of v) where
   abbrev W : ℕ

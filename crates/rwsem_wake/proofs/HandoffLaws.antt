@@ -14,12 +14,12 @@ use Rattle.rwsem_count.specs.declared.view.Bias.TheVariants.{Clear, Reserve}
 use Rattle.rwsem_wake.specs.declared.view.Stage.{Stage}
 use Rattle.rwsem_wake.specs.declared.view.Stage.TheVariants.{Rest, First, Marking, Took, Removed, Emptied, Overdue, Marked, Removing, Summing, Counted, Granting}
 use Rattle.rwsem_count.specs.Counts.{shared_weight, early_weight, late_weight, shared_in, early_in, late_in}
-use Rattle.rwsem_wake.specs.SemParts.{SemPart, named_weight, granting_weight, busy_weight, shared_of, alone_of, early_of, late_of, reserve_of, reads_of, reads_at, writes_at, reader_at, writer_at, reader_of, busy_of, granting_of, granted_of, granted_at, is_zero, reader_bit, some_of, marks_sum, first_mark, tasks, own_mark}
+use Rattle.rwsem_wake.specs.SemParts.{SemPart, named_weight, granting_weight, busy_weight, reads_weight, transit_weight, shared_of, holds_of, alone_of, early_of, late_of, reserve_of, reads_of, reads_at, writes_at, reader_at, writer_at, reader_of, busy_of, granting_of, granted_of, granted_at, is_zero, reader_bit, IsWhole, some_of, marks_sum, first_mark, tasks, own_mark}
 use Rattle.rwsem_wake.specs.Semaphores.{batch_weight, Quiet, IsFirst, FlagsAt, load_of, SemKept, more_of}
 use Rattle.rwsem_wake.proofs.Sums.{busy-most, of-mine}
 use Rattle.rwsem_wake.proofs.Counting.{count-step, count-back, count-reserves, count-writes, part-least}
 use Rattle.rwsem_wake.proofs.Places.{total-without, length-without, some-length, first-least, here-behind, mark-set, mark-least, not-zero}
-use Rattle.rwsem_wake.proofs.WakeLaws.{staged, biased, batched, waiting, ok-of, slim-of, shared-most, single-of, reserve-most, sem-moves, more-same}
+use Rattle.rwsem_wake.proofs.WakeLaws.{staged, biased, batched, waiting, ok-of, slim-of, held-most, single-of, reserve-most, sem-moves, more-same}
 use Rattle.rwsem_wake.proofs.QueueLaws.{reads-w, reads-at-w, writes-at-w, granted-w, granted-at-w, reader, a_writer, joined-flags, fresh-flags, set-flags, sem-stages, same-count, mine-at}
 use Rattle.rwsem_wake.specs.Stated.{Without}
 
@@ -64,7 +64,7 @@ module _ (vs : List SemPart) (id : ℕ) (v : SemPart) (at : get_elem? vs id ≡ 
   most : reserve_of v ≤ 1
   most = (reserve-most v.sem.bias).0
 
-  single : shared_of v + reads_of v ≤ 1
+  single : holds_of v + reads_of v ≤ 1
   single = single-of v own has (r.each id v at)
 
   -- a pass that adds little has no reserved bias
@@ -84,13 +84,13 @@ module _ (vs : List SemPart) (id : ℕ) (v : SemPart) (at : get_elem? vs id ≡ 
   sem-reserves b seen there stage clear = let f = mine Rest stage in let low = r.count.low in let a = f.waiters in let c = f.handoff in let d = f.marked in
       sem-stages vs id v at n q marks grants r own has (biased v (Reserve n) (Overdue b)) (n + 256) marks only refl refl refl (sym (grants-not Rest stage refl))
       (record { waiters = omega arith; handoff = omega arith; first = f.first; marked = omega arith }, omega arith, there)
-      (count-reserves vs id v (biased v (Reserve n) (Overdue b)) at n (more_of grants vs) r.count refl clear refl) (ok-of (biased v (Reserve n) (Overdue b)) own has (λ _. no-rest Rest stage refl) (let x = still Rest stage in let y : early_of v + late_of v ≡ 0 = ap (λ (z : Bias). early_weight z + late_weight z) clear in omega arith) (omega arith) (let x9 = single in omega arith) (let x = shared-most v.held in omega arith))
+      (count-reserves vs id v (biased v (Reserve n) (Overdue b)) at n (more_of grants vs) r.count refl clear refl) (ok-of (biased v (Reserve n) (Overdue b)) own has (λ _. no-rest Rest stage refl) (let x = still Rest stage in let y : early_of v + late_of v ≡ 0 = ap (λ (z : Bias). early_weight z + late_weight z) clear in omega arith) (omega arith) (let x9 = single in omega arith) (let x = (held-most v.held).0 in omega arith))
 
   -- a writer was there: it takes its bias back
   pub sem-unreserves : (n' m : ℕ) (b : Bool) → n' + 256 ≡ n → v.sem.stage ≡ Overdue b → v.sem.bias ≡ Reserve m → SemKept n' q marks grants (set vs id (biased v Clear Rest))
   sem-unreserves n' m b less stage bias = let f = mine (Overdue b) stage in let low = r.count.low in let one : early_of v + late_of v ≡ 1 = (λ i. early_weight (bias i) + late_weight (bias i)) ∙ omega arith in let a = f.0.waiters in let c = f.0.handoff in let d = f.0.marked in
       sem-stages vs id v at n q marks grants r own has (biased v Clear Rest) n' marks only refl refl refl (sym (grants-not (Overdue b) stage refl)) record { waiters = omega arith; handoff = omega arith; first = f.0.first; marked = omega arith }
-      (count-back vs id v (biased v Clear Rest) at n n' (more_of grants vs) r.count (omega arith) (omega arith) (omega arith) refl one refl) (ok-of (biased v Clear Rest) own has (λ _. no-rest (Overdue b) stage refl) (let x = still (Overdue b) stage in omega arith) (omega arith) (let x9 = single in omega arith) (let x = shared-most v.held in omega arith))
+      (count-back vs id v (biased v Clear Rest) at n n' (more_of grants vs) r.count (omega arith) (omega arith) (omega arith) refl one refl) (ok-of (biased v Clear Rest) own has (λ _. no-rest (Overdue b) stage refl) (let x = still (Overdue b) stage in omega arith) (omega arith) (let x9 = single in omega arith) (let x = (held-most v.held).0 in omega arith))
 
   -- and where the time is over, it marks the first waiter before
   pub sem-overdue : (b : Bool) (x : Waiter) (xs : List Waiter) → v.sem.stage ≡ Overdue b → q ≡ x ∷ xs → x.task < length marks → SemKept n q (set marks x.task 1) grants (set vs id (staged v (Marked b)))
@@ -103,7 +103,7 @@ module _ (vs : List SemPart) (id : ℕ) (v : SemPart) (at : get_elem? vs id ≡ 
   sem-asks n' m b sum stage bias = let f = mine (Marked b) stage in let low = r.count.low in let one : early_of v + late_of v ≡ 1 = (λ i. early_weight (bias i) + late_weight (bias i)) ∙ omega arith in let a = f.0 in let c = f.1 in let d = f.3 in let s = (some-length q).0 f.4 in
       let F = part-least early_in vs id v at in let L = part-least late_in vs id v at in let rf = r.count.field in
       sem-stages vs id v at n q marks grants r own has (biased v Clear Rest) n' marks only refl refl refl (sym (grants-not (Marked b) stage refl)) record { waiters = omega arith; handoff = omega arith; first = f.2; marked = omega arith }
-      (count-back vs id v (biased v Clear Rest) at n n' (more_of grants vs) r.count (omega arith) (omega arith) (omega arith) refl one refl) (ok-of (biased v Clear Rest) own has (λ _. no-rest (Marked b) stage refl) (let x = still (Marked b) stage in omega arith) (omega arith) (let x9 = single in omega arith) (let x = shared-most v.held in omega arith))
+      (count-back vs id v (biased v Clear Rest) at n n' (more_of grants vs) r.count (omega arith) (omega arith) (omega arith) refl one refl) (ok-of (biased v Clear Rest) own has (λ _. no-rest (Marked b) stage refl) (let x = still (Marked b) stage in omega arith) (omega arith) (let x9 = single in omega arith) (let x = (held-most v.held).0 in omega arith))
 
   -- a waker removes one of its batch
   pub sem-picks : (q' : List Waiter) (w : Waiter) (s : Without q w q') → W ≡ 1 → marks_sum marks ≡ first_mark marks (v.sem.rest ++ tasks q) → granting_of v ≡ 0 → w.writer ≡ false → (v.sem.rest ≡ [] → s.before ≡ []) → busy_of v ≤ 1
@@ -125,12 +125,12 @@ module _ (vs : List SemPart) (id : ℕ) (v : SemPart) (at : get_elem? vs id ≡ 
       turns Removing Summing marks stage (sym (grants-not Removing stage refl)) (f.0, f.1 ∙ (e ∙ none)) (λ z. absurd (omega (arith, z))) (still Removing stage) most
 
   -- looks whether HANDOFF is set
-  pub sem-looks : (b : Bool) → bit b ≡ H → v.sem.stage ≡ Summing → total reader_of q ≡ 0 → SemKept n q marks grants (set vs id (staged v (Counted b)))
+  pub sem-looks : (b : Bool) → bit b ≡ H → v.sem.stage ≡ Summing → IsWhole v.sem.rest q → SemKept n q marks grants (set vs id (staged v (Counted b)))
   sem-looks b seen stage whole = let f = mine Summing stage in turns Summing (Counted b) marks stage (sym (grants-not Summing stage refl)) (f.0, f.1, sym seen, whole) (λ z. absurd (omega (arith, z))) (still Summing stage) most
 
   -- and has granted all
   pub sem-done : v.sem.stage ≡ Granting → v.sem.rest ≡ [] → load_of v + reserve_of v ≤ 1 → SemKept n q marks grants (set vs id (staged v Rest))
-  sem-done stage none light = let f = mine Granting stage in turns Granting Rest marks stage (sym (ap (λ (x : Stage). granting_weight x (length v.sem.rest)) stage ∙ ap (λ (l : List ℕ). length l) none)) f.0 (λ _. none) (omega arith) (let z = light-none light in omega arith)
+  sem-done stage none light = let f = mine Granting stage in turns Granting Rest marks stage (sym (ap (λ (x : Stage). granting_weight x (length v.sem.rest)) stage ∙ ap (λ (l : List ℕ). length l) none)) f (λ _. none) (omega arith) (let z = light-none light in omega arith)
 
   -- a writer appends itself
   pub sem-enters : (b : Bool) → bit b + some_of q ≡ 1 → v.sem.stage ≡ Rest → v.sem.wait ≡ Apart → SemKept n (q ++ a_writer own ∷ []) marks grants (set vs id (waiting v Writes (if b then First else Rest)))
@@ -159,13 +159,13 @@ module _ (vs : List SemPart) (id : ℕ) (v : SemPart) (at : get_elem? vs id ≡ 
       (λ p. let e = r.count.apart (omega arith) in let S = part-least shared_in vs id v at in let F = part-least early_in vs id v at in omega arith)) (ok-of (staged v Rest) own has (λ _. no-rest First stage refl) (omega arith) (let z = light-none light in omega arith) (let x9 = single in omega arith) (r.each id v at).apart)
 
   -- a queued writer takes: it is the first, or no first waiter is marked
-  pub sem-takes : (n' : ℕ) (a : ℕ) → n / 256 ≡ 0 → n % 2 ≡ 0 → n' + (4 * H + 2 * a) ≡ n + 1 → (length q ≤ 1 → a ≡ 1) → (2 ≤ length q → a ≡ 0) → 1 ≤ length q → v.sem.stage ≡ Rest → v.held ≡ No → IsFirst (Some own) q ⊎ (first_mark marks (tasks q) ≡ 0)
+  pub sem-takes : (n' : ℕ) (a : ℕ) → n / 256 ≡ 0 → n % 2 ≡ 0 → n' + (4 * H + 2 * a) ≡ n + 1 → (length q ≤ 1 → a ≡ 1) → (2 ≤ length q → a ≡ 0) → 1 ≤ length q → v.sem.stage ≡ Rest → v.sem.wait ≡ Writes → v.sem.bias ≡ Clear → v.held ≡ No → IsFirst (Some own) q ⊎ (first_mark marks (tasks q) ≡ 0)
       → SemKept n' q marks grants (set vs id (record v { held = Alone; sem = record v.sem { stage = Took } }))
-  sem-takes n' a free none sum short long there stage out may = let u : SemPart = record v { held = Alone; sem = record v.sem { stage = Took } } in let f = mine Rest stage in let low = r.count.low in let fw = f.waiters in let fh = f.handoff in let fm = f.marked in let s = (some-length q).0 there in
+  sem-takes n' a free none sum short long there stage writes clear out may = let u : SemPart = record v { held = Alone; sem = record v.sem { stage = Took } } in let f = mine Rest stage in let low = r.count.low in let fw = f.waiters in let fh = f.handoff in let fm = f.marked in let s = (some-length q).0 there in
       let one : a ≤ 1 = elim (native.Mathlib.Decide.dec_le 2 (length q)) [ yes l ↦ (let e = long l in omega (arith, e)) | no l ↦ (let e = short (omega (arith, l)) in omega (arith, e)) ] in
       sem-stages vs id v at n q marks grants r own has u n' marks only refl refl refl (sym (grants-not Rest stage refl))
       (omega arith, omega arith, (λ l. let e = long l in omega arith), (λ l. let e = short l in omega arith), marked may f.first, λ l. is-first may f.first l)
-      (count-writes vs id v u at n n' (more_of grants vs) r.count free none (omega arith) (omega arith) out refl refl) (ok-of u own has (λ _. no-rest Rest stage refl) (let x = still Rest stage in let y : shared_of v ≡ 0 = ap shared_weight out in omega arith) most (let x9 = single in omega arith) (let x = (r.each id v at).apart in omega (arith, x)))
+      (count-writes vs id v u at n n' (more_of grants vs) r.count free none (omega arith) (omega arith) out refl refl) (ok-of u own has (λ _. no-rest Rest stage refl) (let x = still Rest stage in let y : shared_of v ≡ 0 = ap shared_weight out in omega arith) most (let x = ap reads_weight writes in omega (arith, x)) (let x = ap transit_weight clear in omega (arith, x)))
     where
       -- a mark is the own one
       own-first : (xs : List Waiter) → IsFirst (Some own) xs → first_mark marks (tasks xs) ≡ get_or marks own 0

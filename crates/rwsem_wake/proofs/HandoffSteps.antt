@@ -15,7 +15,7 @@ use Rattle.rwsem_count.specs.Counts.{shared_weight}
 use Rattle.rwsem_wake.specs.declared.view.Wait.TheVariants.{Apart, Reads}
 use Rattle.rwsem_wake.specs.declared.view.Stage.{Stage}
 use Rattle.rwsem_wake.specs.declared.view.Stage.TheVariants.{Marking, Counted, Granting}
-use Rattle.rwsem_wake.specs.SemParts.{SemPart, named_weight, granting_weight, is_zero, granted_at, reads_at, rest_at, here, first_mark, reader_of, tasks, busy_of}
+use Rattle.rwsem_wake.specs.SemParts.{SemPart, named_weight, granting_weight, is_zero, granted_at, reads_at, rest_at, here, first_mark, IsWhole, tasks, busy_of}
 use Rattle.rwsem_wake.specs.Semaphores.{IsFirst, FlagsAt, SemKept}
 use Rattle.rwsem_wake.proofs.Sums.{mine-of, set-mine}
 use Rattle.rwsem_wake.proofs.Places.{first-least, granted-all, grant-here, grant-else, here-mine, here-else}
@@ -87,6 +87,7 @@ module _ (id n : ℕ) (q : List Waiter) (marks grants : List ℕ) (vs : List Sem
     writer = λ h m a b. absurd (omega (arith, a, b, low));
     reader = λ h m t z l. let x = same t in absurd (omega (arith, x, z, l));
     takes = λ a b. absurd (omega (arith, a, b, low));
+    lone = λ a b. absurd (omega (arith, a, b, low));
     comes = λ t z l. let x = same t in absurd (omega (arith, x, z, l));
     ends = λ t l z. let x = same t in absurd (omega (arith, x, z, l));
     asks = λ z o. let x = un.0 in absurd (omega (arith, x, z, o));
@@ -130,8 +131,9 @@ module _ (id n : ℕ) (q : List Waiter) (marks grants : List ℕ) (vs : List Sem
     found-by {n'} {marks'} goes = of-pass (KeepsFound n) goes.found
 
     -- no handoff, or nobody is marked
-    pub hands-free : (n' : ℕ) → (n / 4 % 2 ≡ 0) ⊎ ((first_mark marks (tasks q) ≡ 0) × (n' % 2 ≤ n % 2)) → Unasked n marks n' marks → ComesToRead id q grants vs grants (set vs id u) → PassGoes n n' q marks grants v u → KeepsHandoff id n q marks grants vs n' marks grants (set vs id u)
-    hands-free n' none un comes goes = record {
+    pub hands-free : (n' : ℕ) → (n / 4 % 2 ≡ 0) ⊎ ((first_mark marks (tasks q) ≡ 0) × (n' % 2 ≤ n % 2)) → (n % 2 ≡ 0 → n' % 2 ≡ 1 → n / 256 ≡ 0) → Unasked n marks n' marks → ComesToRead id q grants vs grants (set vs id u) → PassGoes n n' q marks grants v u → KeepsHandoff id n q marks grants vs n' marks grants (set vs id u)
+    hands-free n' none lone un comes goes = record {
+      lone = lone;
       comes = comes;
       ends = ends-by goes;
       asks = λ z o. let x = un.0 in absurd (omega (arith, x, z, o));
@@ -153,6 +155,7 @@ module _ (id n : ℕ) (q : List Waiter) (marks grants : List ℕ) (vs : List Sem
     hands-step n' marks' low less un goes = record {
       writer = λ h m a b. absurd (omega (arith, a, b, low));
       takes = λ a b. absurd (omega (arith, a, b, low));
+      lone = λ a b. absurd (omega (arith, a, b, low));
       reader = λ h m t z l. let a = total-set (reads_as grants t) vs id v u at in let b = less t in absurd (omega arith);
       comes = λ t z l. let a = total-set (reads_as grants t) vs id v u at in let b = less t in absurd (omega arith);
       ends = ends-by goes;
@@ -172,6 +175,7 @@ module _ (id n : ℕ) (q : List Waiter) (marks grants : List ℕ) (vs : List Sem
     hands-unmarks t may inside less goes = record {
       writer = λ h m a b. absurd (omega (arith, a, b));
       takes = λ a b. absurd (omega (arith, a, b));
+      lone = λ a b. absurd (omega (arith, a, b));
       reader = λ h m s z l. let a = total-set (reads_as grants s) vs id v u at in let b = less s in absurd (omega arith);
       comes = λ s z l. let a = total-set (reads_as grants s) vs id v u at in let b = less s in absurd (omega arith);
       ends = ends-by goes;
@@ -191,6 +195,7 @@ module _ (id n : ℕ) (q : List Waiter) (marks grants : List ℕ) (vs : List Sem
     hands-asks n' marks' low less sets still marks_it stay goes = record {
       writer = λ h m a b. absurd (omega (arith, a, b, low));
       takes = λ a b. absurd (omega (arith, a, b, low));
+      lone = λ a b. absurd (omega (arith, a, b, low));
       reader = λ h m t z l. let a = total-set (reads_as grants t) vs id v u at in let b = less t in absurd (omega arith);
       comes = λ t z l. let a = total-set (reads_as grants t) vs id v u at in let b = less t in absurd (omega arith);
       ends = ends-by goes;
@@ -210,6 +215,7 @@ module _ (id n : ℕ) (q : List Waiter) (marks grants : List ℕ) (vs : List Sem
     hands-empties n' low less answered none goes = record {
       writer = λ h m a b. absurd (omega (arith, a, b, low));
       takes = λ a b. absurd (omega (arith, a, b, low));
+      lone = λ a b. absurd (omega (arith, a, b, low));
       reader = λ h m t z l. let a = total-set (reads_as grants t) vs id v u at in let b = less t in absurd (omega arith);
       comes = λ t z l. let a = total-set (reads_as grants t) vs id v u at in let b = less t in absurd (omega arith);
       ends = ends-by goes;
@@ -229,8 +235,8 @@ module _ (id n : ℕ) (q : List Waiter) (marks grants : List ℕ) (vs : List Sem
     own-comes own has less t z l = dite (ℕ_discrete t own) (λ is. (v, at, inl (has ∙ ap (λ (x : ℕ). Some x) (sym is)))) (λ not. let a = total-set (reads_as grants t) vs id v u at in let b = less t not in absurd (omega arith))
 
     -- its batch alone does
-    pub batch-comes : ((t : ℕ) → reads_as grants t u ≤ shared_at t v + granted_at grants t v + here t v.sem.rest) → total reader_of q ≡ 0 → ComesToRead id q grants vs grants (set vs id u)
-    batch-comes is none t z l = let a = total-set (reads_as grants t) vs id v u at in let b = is t in elim (native.Mathlib.Decide.dec_le 1 (here t v.sem.rest)) [ yes there ↦ (v, at, inr (there, none)) | no out ↦ absurd (omega arith) ]
+    pub batch-comes : ((t : ℕ) → reads_as grants t u ≤ shared_at t v + granted_at grants t v + here t v.sem.rest) → IsWhole v.sem.rest q → ComesToRead id q grants vs grants (set vs id u)
+    batch-comes is whole t z l = let a = total-set (reads_as grants t) vs id v u at in let b = is t in elim (native.Mathlib.Decide.dec_le 1 (here t v.sem.rest)) [ yes there ↦ (v, at, inr (there, whole)) | no out ↦ absurd (omega arith) ]
 
     -- or which may become one
     pub hands-reads : (n' own : ℕ) → n' % 2 ≤ n % 2 → v.task ≡ Some own → MayRead v → ((t : ℕ) → t ≢ own → reads_as grants t u ≤ reads_as grants t v) → Unasked n marks n' marks → PassGoes n n' q marks grants v u → KeepsHandoff id n q marks grants vs n' marks grants (set vs id u)
@@ -241,6 +247,7 @@ module _ (id n : ℕ) (q : List Waiter) (marks grants : List ℕ) (vs : List Sem
       unmarks = λ t more gone. absurd (omega (arith, more, gone));
       writer = λ h m a b. absurd (omega (arith, a, b, low));
       takes = λ a b. absurd (omega (arith, a, b, low));
+      lone = λ a b. absurd (omega (arith, a, b, low));
       reader = λ h m t z l. dite (ℕ_discrete t own) (λ is. (v, at, (has ∙ ap (λ (x : ℕ). Some x) (sym is)), may)) (λ not. let a = total-set (reads_as grants t) vs id v u at in let b = less t not in absurd (omega arith));
       comes = own-comes own has less;
       ends = ends-by goes;
@@ -252,8 +259,9 @@ module _ (id n : ℕ) (q : List Waiter) (marks grants : List ℕ) (vs : List Sem
     }
 
     -- a queued writer takes
-    pub hands-takes : (n' : ℕ) → IsFirst v.task q ⊎ (first_mark marks (tasks q) ≡ 0) → ((t : ℕ) → reads_as grants t u ≤ reads_as grants t v) → n' / 4 % 2 ≡ 0 → n % 2 ≡ 0 → n' % 2 ≡ 1 → PassGoes n n' q marks grants v u → KeepsHandoff id n q marks grants vs n' marks grants (set vs id u)
-    hands-takes n' may less unasked free writes goes = record {
+    pub hands-takes : (n' : ℕ) → IsFirst v.task q ⊎ (first_mark marks (tasks q) ≡ 0) → ((t : ℕ) → reads_as grants t u ≤ reads_as grants t v) → n' / 4 % 2 ≡ 0 → n / 256 ≡ 0 → n % 2 ≡ 0 → n' % 2 ≡ 1 → PassGoes n n' q marks grants v u → KeepsHandoff id n q marks grants vs n' marks grants (set vs id u)
+    hands-takes n' may less unasked nobody free writes goes = record {
+      lone = λ _ _. nobody;
       asks = λ z o. absurd (omega (arith, unasked, o));
       stays = λ h. inr (inl (free, writes));
       marked = λ t z l. absurd (omega (arith, z, l));
@@ -280,6 +288,7 @@ hands-sums id n n' q marks grants vs v b r at only stage more answered low = let
       ends = ends-by id n q marks grants vs v u at goes;
       writer = λ h m _ _. absurd (omega (arith, z, l, m));
       takes = λ a c. absurd (omega (arith, a, c, low));
+      lone = λ a c. absurd (omega (arith, a, c, low));
       reader = λ h m _ _ _. absurd (omega (arith, z, l, m));
       asks = λ none o. absurd (omega (arith, answered, none, o));
       stays = λ h. inr (inr (inl (v, u, at, set-mine vs id v u at, (more, other, refl))));

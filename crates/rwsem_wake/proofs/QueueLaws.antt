@@ -6,7 +6,7 @@ use native.Mathlib.Decide.{ℕ_discrete}
 use lib.ListN.{get_elem?}
 use Rattle.lock_core.specs.declared.view.Held.TheVariants.{No, Shared}
 use Rattle.lock_core.specs.Records.{bit}
-use Rattle.lock_core.specs.Views.{alone_weight, is_number}
+use Rattle.lock_core.specs.Views.{alone_weight, held_weight, is_number}
 use Rattle.lock_core.specs.Totals.{total, total-set, total-same, total-snoc}
 use Rattle.lock_core.specs.Parts.{each-set}
 use Rattle.lock_core.proofs.HandLaws.{is_number-here}
@@ -19,12 +19,12 @@ use Rattle.rwsem_count.specs.declared.view.Bias.TheVariants.{Clear, Transit}
 use Rattle.rwsem_wake.specs.declared.view.Stage.{Stage}
 use Rattle.rwsem_wake.specs.declared.view.Stage.TheVariants.{Rest, Armed, Joining}
 use Rattle.rwsem_count.specs.Counts.{shared_weight, early_weight, late_weight, CountKept, shared_in, early_in, late_in}
-use Rattle.rwsem_wake.specs.SemParts.{SemPart, transit_weight, reserve_weight, reads_weight, writes_weight, named_weight, granted_weight, granting_weight, busy_weight, shared_of, alone_of, early_of, late_of, reserve_of, reads_of, reads_at, writes_at, reader_at, writer_at, reader_of, rest_of, rest_at, busy_of, granting_of, granted_of, granted_at, here, is_zero, some_of, tasks, part_of}
+use Rattle.rwsem_wake.specs.SemParts.{SemPart, transit_weight, reserve_weight, reads_weight, writes_weight, named_weight, granted_weight, granting_weight, busy_weight, shared_of, holds_of, alone_of, early_of, late_of, reserve_of, reads_of, reads_at, writes_at, reader_at, writer_at, reader_of, rest_of, rest_at, busy_of, granting_of, granted_of, granted_at, here, is_zero, some_of, tasks, part_of}
 use Rattle.rwsem_wake.specs.Semaphores.{batch_weight, Quiet, Fresh, FlagsOf, FlagsAt, SemPartOk, SemKept, more_of}
 use Rattle.rwsem_wake.proofs.Sums.{busy-most, mine-of, of-mine, of-others}
 use Rattle.rwsem_wake.proofs.Counting.{adds, count-step, count-back, part-least}
 use Rattle.rwsem_wake.proofs.Places.{some-length, first-least, granted-all, not-zero}
-use Rattle.rwsem_wake.proofs.WakeLaws.{staged, biased, waiting, holding, ok-of, slim-of, shared-most, single-of, bias-most, reserve-most, sem-moves, more-same}
+use Rattle.rwsem_wake.proofs.WakeLaws.{staged, biased, waiting, holding, ok-of, slim-of, held-most, single-of, bias-most, reserve-most, sem-moves, more-same}
 
 -- where nobody reads with a number, its grant word is of no account
 module _ (grants : List ℕ) (t x : ℕ) where
@@ -141,7 +141,7 @@ module _ (vs : List SemPart) (id : ℕ) (v : SemPart) (at : get_elem? vs id ≡ 
       (λ t. let x = total-snoc (reader_at t) q (reader own) in let y = reads-at-w u own has Reads refl t in let z = reads-at-w v own has Apart wait t in
       let c : granted_at grants t u ≡ 0 = granted-at-w u own has Reads refl grants t ∙ ap (named_weight t (Some own)) own1 in let d = granted-at-w v own has Apart wait grants t in omega arith)
       (λ t. let x = total-snoc (writer_at t) q (reader own) in let y = writes-at-w u own has Reads refl t in let z = writes-at-w v own has Apart wait t in omega arith)
-      (let x = total-snoc reader_of q (reader own) in let y = reads-w v own has Apart wait in omega arith) (ok-of u own has (λ _. (r.each id v at).rest (ap batch_weight stage)) (let x = bias-most v.sem.bias in let y : shared_of v ≡ 0 = ap shared_weight out in omega arith) (reserve-most v.sem.bias).0 (let y : shared_of v ≡ 0 = ap shared_weight out in omega arith) (r.each id v at).apart)
+      (let x = total-snoc reader_of q (reader own) in let y = reads-w v own has Apart wait in omega arith) (ok-of u own has (λ _. (r.each id v at).rest (ap batch_weight stage)) (let x = bias-most v.sem.bias in let y : shared_of v ≡ 0 = ap shared_weight out in omega arith) (reserve-most v.sem.bias).0 (let y : holds_of v ≡ 0 = ap held_weight out in omega arith) (r.each id v at).apart)
     where
       flags : (b : Bool) → bit b + some_of q ≡ 1 → Quiet W H q marks → FlagsAt (Joining b) v.task v.sem.rest W H (q ++ reader own ∷ []) marks grants
       flags true e f = fresh-flags W H q (reader own) marks (omega arith) f
@@ -152,7 +152,7 @@ module _ (vs : List SemPart) (id : ℕ) (v : SemPart) (at : get_elem? vs id ≡ 
   sem-backs n' m b only stage bias sum = let u : SemPart = biased v Clear Rest in let f = mine-at (Joining b) only stage in let low = r.count.low in let one : early_of v + late_of v ≡ 1 = (λ i. early_weight (bias i) + late_weight (bias i)) ∙ omega arith in
       let F = part-least early_in vs id v at in let L = part-least late_in vs id v at in let rf = r.count.field in let wb = word b f in
       sem-stages u n' marks only refl refl refl (sym (ap (λ (z : Stage). granting_weight z (length v.sem.rest)) stage)) (flags b f sum (omega arith))
-      (count-back vs id v u at n n' (more_of grants vs) r.count (omega arith) (omega arith) (omega arith) refl one refl) (ok-of u own has (λ _. (r.each id v at).rest (ap batch_weight stage)) (let x = slim-of v own has (r.each id v at) in let y : busy_of v ≡ 1 = ap busy_weight stage in omega arith) (omega arith) (let x9 = single-of v own has (r.each id v at) in omega arith) (let x = shared-most v.held in omega arith))
+      (count-back vs id v u at n n' (more_of grants vs) r.count (omega arith) (omega arith) (omega arith) refl one refl) (ok-of u own has (λ _. (r.each id v at).rest (ap batch_weight stage)) (let x = slim-of v own has (r.each id v at) in let y : busy_of v ≡ 1 = ap busy_weight stage in omega arith) (omega arith) (let x9 = single-of v own has (r.each id v at) in omega arith) (let x = (held-most v.held).0 in omega arith))
     where
       word : (b : Bool) → FlagsAt (Joining b) v.task v.sem.rest W H q marks grants → bit b + W ≤ 1
       word true f = let a = f.0 in omega arith

@@ -171,7 +171,7 @@ module _ (sees : List SemPart) (id : ℕ) (v : SemPart) (known : Part) (n : ℕ)
   unheld s out kept hands = subst (λ (z : Held). Held-after n grants z s) out (kept, hands)
 
   -- a writer of the list takes a free count
-  module _ (out : v.held ≡ No) (clear : v.sem.bias ≡ Clear) (none : v.sem.rest ≡ []) (knows : Knows known) (some_there : 1 ≤ length known.1.list) where
+  module _ (out : v.held ≡ No) (writes : v.sem.wait ≡ Writes) (clear : v.sem.bias ≡ Clear) (none : v.sem.rest ≡ []) (knows : Knows known) (some_there : 1 ≤ length known.1.list) where
     shares-none : (t : ℕ) → shared_at t v ≡ 0
     shares-none t = ap (λ (h : Held). named_weight t v.task (shared_weight h)) out
 
@@ -223,10 +223,10 @@ module _ (sees : List SemPart) (id : ℕ) (v : SemPart) (known : Part) (n : ℕ)
           elim may [
             | inl is ↦ let w : SemPart = staged v Rest in let us : List SemPart = set sees id w in let B = total-set busy_of sees id v w loc.mine in let o = only in
                 let r = sem-rests sees id v loc.mine n q marks grants loc.kept own has only is clear none (there knows some_there) in
-                subst (SemKept new q marks grants) (twice sees id w u) (sem-takes us id w (set-mine sees id v w loc.mine) n q marks grants r own has (omega (arith, B, o)) new (bit alone) (readers-free found) (writer-free found) (sum-by alone found flags) ab.0 ab.1 (there knows some_there) refl out m)
-            | inr is ↦ sem-takes sees id v loc.mine n q marks grants loc.kept own has only new (bit alone) (readers-free found) (writer-free found) (sum-by alone found flags) ab.0 ab.1 (there knows some_there) is.0 out m
+                subst (SemKept new q marks grants) (twice sees id w u) (sem-takes us id w (set-mine sees id v w loc.mine) n q marks grants r own has (omega (arith, B, o)) new (bit alone) (readers-free found) (writer-free found) (sum-by alone found flags) ab.0 ab.1 (there knows some_there) refl writes clear out m)
+            | inr is ↦ sem-takes sees id v loc.mine n q marks grants loc.kept own has only new (bit alone) (readers-free found) (writer-free found) (sum-by alone found flags) ab.0 ab.1 (there knows some_there) is.0 writes clear out m
           ],
-          hands-takes id n q marks grants sees v u loc.mine new (elim m [ inl first ↦ inl (subst (λ (z : Option ℕ). IsFirst z q) (sym has) first) | inr z ↦ inr z ]) (λ t. omega arith) flags.handoff_is (writer-free found) flags.writer_is
+          hands-takes id n q marks grants sees v u loc.mine new (elim m [ inl first ↦ inl (subst (λ (z : Option ℕ). IsFirst z q) (sym has) first) | inr z ↦ inr z ]) (λ t. omega arith) flags.handoff_is (readers-free found) (writer-free found) flags.writer_is
               (elim may [ inl is ↦ pass-from q marks grants v u Summing is (λ m. refl) refl (inl refl) (λ t. let z = shares-none t in omega (arith, z)) refl (inl refl) | inr is ↦ pass-from q marks grants v u Rest is.0 (λ m. refl) refl (inl refl) (λ t. let z = shares-none t in omega (arith, z)) refl (inl refl) ]),
         )
 
@@ -241,7 +241,7 @@ module _ (sees : List SemPart) (id : ℕ) (v : SemPart) (known : Part) (n : ℕ)
         sem-stages sees id v loc.mine n q marks grants loc.kept own has u n marks only refl refl refl refl (subst (λ (z : Stage). FlagsAt z v.task v.sem.rest W H q marks grants) (sym stage) f)
             (count-keeps sees id v u loc.mine n m (more_of grants sees) loc.kept.count (inl free) out bias refl refl)
             (ok-of u own has (λ _. (loc.kept.each id v loc.mine).rest (ap batch_weight stage)) (omega (arith, r0)) (omega arith) (omega (arith, r0)) (omega arith)),
-        hands-free id n q marks grants sees v u loc.mine n (inr (ap (λ (z : List Waiter). first_mark marks (tasks z)) (sym (loc.list knows) ∙ none), omega arith)) (unasked-same n marks) (own-comes id n q marks grants sees v u loc.mine own has (λ t not. let z : shared_at t u ≡ 0 = ap (is_number t) has ∙ is_number-else t own (λ e. not (sym e)) in omega (arith, z)))
+        hands-free id n q marks grants sees v u loc.mine n (inr (ap (λ (z : List Waiter). first_mark marks (tasks z)) (sym (loc.list knows) ∙ none), omega arith)) (λ a b. absurd (omega (arith, a, b))) (unasked-same n marks) (own-comes id n q marks grants sees v u loc.mine own has (λ t not. let z : shared_at t u ≡ 0 = ap (is_number t) has ∙ is_number-else t own (λ e. not (sym e)) in omega (arith, z)))
             (pass-from q marks grants v u Rest stage (λ m. refl) refl (inl refl) (λ t. let z : shared_at t v ≡ 0 = ap (λ (h : Held). named_weight t v.task (shared_weight h)) out in omega (arith, z)) (ap marking stage) (inr (inl refl))),
       )
 

@@ -16,7 +16,7 @@ use Rattle.rwsem_wake.specs.declared.view.Stage.{Stage}
 use Rattle.rwsem_wake.specs.declared.view.Stage.TheVariants.{Rest, Armed, Joining, First, Marking, Took, Removed, Emptied, Overdue, Marked, Removing, Summing, Counted, Granting}
 use Rattle.rwsem_wake.specs.SemParts.{SemPart, reader_bit, reader_at, writer_at, marks_sum, first_mark, tasks, named_weight, is_zero, shared_of, reads_of, reads_at, rest_at, granted_of, granted_weight, granted_at, granting_of, granting_weight, here}
 use Rattle.rwsem_wake.specs.Semaphores.{Quiet, number_weight, number_of, SemPartOk, SemKept}
-use Rattle.rwsem_wake.proofs.WakeLaws.{shared-most}
+use Rattle.rwsem_wake.proofs.WakeLaws.{held-most, shared-most}
 use Rattle.wait_list.specs.Lists.{without}
 use Rattle.rwsem_wake.proofs.Places.{mark-least}
 use Rattle.rwsem_wake.specs.Handoffs.{shared_at, granting_at, reads_as}
@@ -99,7 +99,7 @@ module _ (q : List Waiter) (n : ℕ) (marks grants : List ℕ) (vs : List SemPar
 
   one-view : (v : SemPart) (id : ℕ) → get_elem? vs id ≡ some v → over (λ t. reads_as grants t v) 64 ≡ shared_of v + granted_of grants v + granting_of v
   one-view v id at = let ok = r.each id v at in let a = over-both (λ t. shared_at t v + granted_at grants t v) (λ t. granting_at t v) 64 in let b = over-both (λ t. shared_at t v) (λ t. granted_at grants t v) 64 in
-      let c = named-over v.task (shared_of v) 64 (small id v at) (λ e. let s = ok.single in let z : number_of v ≡ 0 = ap number_weight e in omega (arith, s, z)) (shared-most v.held) in
+      let c = named-over v.task (shared_of v) 64 (small id v at) (λ e. let s = ok.single in let h = (held-most v.held).1 in let z : number_of v ≡ 0 = ap number_weight e in omega (arith, s, h, z)) (shared-most v.held) in
       let d = named-over v.task (granted_of grants v) 64 (small id v at) (λ e. ap (λ (x : Option ℕ). granted_weight grants x v.sem.wait) e) (granted-most v.task v.sem.wait) in
       let e = granting-over v.sem.stage v.sem.rest (here-over v.sem.rest 64 (rest-small v id at)) in omega arith
     where
@@ -167,4 +167,4 @@ module _ (q : List Waiter) (n : ℕ) (marks grants : List ℕ) (vs : List SemPar
 
       sums : (xs : List SemPart) → Each SemPartOk xs → total (reads_as grants t) xs + total (reads_at t) xs ≤ total (λ (v : SemPart). is_number t v.task) xs + total (granted_at grants t) xs + total (rest_at t) xs
       sums [] e = omega arith
-      sums (v ∷ xs) e = let a = sums xs (λ j w at. e (suc j) w at) in let b = part-of v.task (shared_of v) (reads_of v) (e zero v refl).single in let c = least v.sem.stage (here t v.sem.rest) in omega arith
+      sums (v ∷ xs) e = let a = sums xs (λ j w at. e (suc j) w at) in let h = (held-most v.held).1 in let o = (e zero v refl).single in let b = part-of v.task (shared_of v) (reads_of v) (omega (arith, h, o)) in let c = least v.sem.stage (here t v.sem.rest) in omega arith

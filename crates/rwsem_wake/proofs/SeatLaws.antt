@@ -4,13 +4,14 @@ use mathlib.Core.Option.{some, some-ne-none}
 use lib.ListN.{get_elem?}
 use Rattle.lock_core.specs.declared.view.Held.TheVariants.{No}
 use Rattle.lock_core.specs.Totals.{total-same, total-snoc}
+use Rattle.lock_core.specs.Views.{held_weight}
 use Rattle.lock_core.specs.Parts.{each-snoc}
 use Rattle.wait_list.specs.declared.view.Waiter.{Waiter}
 use Rattle.rwsem_wake.specs.declared.view.Stage.{Stage}
 use Rattle.rwsem_wake.specs.declared.view.Stage.TheVariants.{Rest}
 use Rattle.rwsem_wake.specs.declared.view.SemHand.{SemHand}
 use Rattle.rwsem_count.specs.Counts.{shared_weight, early_weight, late_weight, CountKept, CountPart, shared_in, early_in}
-use Rattle.rwsem_wake.specs.SemParts.{SemPart, nobody, apart_hand, busy_of, busy_weight, reads_weight, writes_weight, named_weight, granted_weight, shared_of, alone_of, early_of, late_of, reads_of, reads_at, writes_at, rest_of, rest_at, granting_of, granted_of, granted_at, marks_sum, part_of}
+use Rattle.rwsem_wake.specs.SemParts.{SemPart, nobody, apart_hand, busy_of, busy_weight, reads_weight, writes_weight, named_weight, granted_weight, shared_of, holds_of, alone_of, early_of, late_of, reads_of, reads_at, writes_at, rest_of, rest_at, granting_of, granted_of, granted_at, marks_sum, part_of}
 use Rattle.rwsem_wake.specs.Semaphores.{pick, now, FlagsOf, FlagsAt, SemPartOk, SemKept, more_of}
 use Rattle.rwsem_wake.proofs.Sums.{of-others}
 use Rattle.rwsem_wake.proofs.Counting.{count-step, part-least}
@@ -40,7 +41,7 @@ module _ (vs : List SemPart) (id : ℕ) (v : SemPart) (at : get_elem? vs id ≡ 
         rest = λ _. ap (λ (s : SemHand). s.rest) idle;
         numbered = λ _. (ap (λ (s : SemHand). s.wait) idle, ap (λ (s : SemHand). s.bias) idle, ap (λ (s : SemHand). s.stage) idle);
         slim = let a : shared_of v ≡ 0 = ap shared_weight out in let b : early_of v + late_of v ≡ 0 = ap (λ (s : SemHand). early_weight s.bias + late_weight s.bias) idle in omega arith;
-        single = let a : shared_of v ≡ 0 = ap shared_weight out in omega arith;
+        single = let a : holds_of v ≡ 0 = ap held_weight out in omega arith;
         reserved = (r.each id v at).reserved;
         apart = (r.each id v at).apart;
       }

@@ -7,6 +7,7 @@ use lib.ListN.{get_elem?}
 use Rattle.lock_core.specs.declared.view.Held.{Held}
 use Rattle.lock_core.specs.declared.view.Held.TheVariants.{No, Shared, Alone}
 use Rattle.lock_core.specs.Records.{bit}
+use Rattle.lock_core.specs.Views.{held_weight}
 use Rattle.lock_core.specs.Totals.{total, total-set, total-same, total-at}
 use Rattle.lock_core.specs.Parts.{each-set}
 use Rattle.lock_core.proofs.RowLaws.{none-some}
@@ -19,7 +20,7 @@ use Rattle.rwsem_wake.specs.declared.view.Stage.{Stage}
 use Rattle.rwsem_wake.specs.declared.view.Stage.TheVariants.{Counted, Granting}
 use Rattle.rwsem_wake.specs.declared.view.SemHand.{SemHand}
 use Rattle.rwsem_count.specs.Counts.{shared_weight, early_weight, late_weight, CountKept, shared_in, early_in}
-use Rattle.rwsem_wake.specs.SemParts.{SemPart, transit_weight, reserve_weight, reads_weight, writes_weight, named_weight, granted_weight, granting_weight, busy_weight, shared_of, alone_of, early_of, late_of, transit_of, reserve_of, reads_of, reads_at, writes_at, reader_at, writer_at, reader_of, rest_of, rest_at, busy_of, granting_of, granted_of, granted_at, here, some_of, tasks, part_of}
+use Rattle.rwsem_wake.specs.SemParts.{SemPart, transit_weight, reserve_weight, reads_weight, writes_weight, named_weight, granted_weight, granting_weight, busy_weight, shared_of, alone_of, early_of, late_of, transit_of, holds_of, reserve_of, reads_of, reads_at, writes_at, reader_at, writer_at, reader_of, rest_of, rest_at, busy_of, granting_of, granted_of, granted_at, here, some_of, tasks, part_of}
 use Rattle.rwsem_wake.specs.Semaphores.{batch_weight, Quiet, FlagsOf, FlagsAt, now, SemPartOk, number_weight, number_of, load_of, SemKept, more_of}
 use Rattle.rwsem_wake.proofs.Sums.{mine-of, of-mine, of-others}
 use Rattle.rwsem_wake.proofs.Counting.{count-step, part-least}
@@ -41,20 +42,25 @@ waiting v w s = record v { sem = record v.sem { wait = w; stage = s } }
 abbrev pub holding : SemPart → Held → SemHand → SemPart
 holding v h s = record v { held = h; sem = s }
 
-pub ok-of : (u : SemPart) (t : ℕ) → u.task ≡ Some t → (batch_weight u.sem.stage ≡ 0 → u.sem.rest ≡ []) → load_of u ≤ 1 + busy_of u → reserve_of u ≤ busy_of u → shared_of u + reads_of u ≤ 1 → shared_of u + transit_of u ≤ 1 → SemPartOk u
+pub ok-of : (u : SemPart) (t : ℕ) → u.task ≡ Some t → (batch_weight u.sem.stage ≡ 0 → u.sem.rest ≡ []) → load_of u ≤ 1 + busy_of u → reserve_of u ≤ busy_of u → holds_of u + reads_of u ≤ 1 → holds_of u + transit_of u ≤ 1 → SemPartOk u
 ok-of u t has rest slim reserved single apart = record { rest = rest; numbered = λ none. none-some t (sym none ∙ has); slim = let e : number_of u ≡ 1 = ap number_weight has in omega arith; reserved = reserved; single = let e : number_of u ≡ 1 = ap number_weight has in omega arith; apart = apart }
 
 -- what a pass with a number adds
 pub slim-of : (v : SemPart) (t : ℕ) → v.task ≡ Some t → SemPartOk v → load_of v ≤ 1 + busy_of v
 slim-of v t has ok = let e : number_of v ≡ 1 = ap number_weight has in let s = ok.slim in omega arith
 
-pub single-of : (v : SemPart) (t : ℕ) → v.task ≡ Some t → SemPartOk v → shared_of v + reads_of v ≤ 1
+pub single-of : (v : SemPart) (t : ℕ) → v.task ≡ Some t → SemPartOk v → holds_of v + reads_of v ≤ 1
 single-of v t has ok = let e : number_of v ≡ 1 = ap number_weight has in let s = ok.single in omega arith
 
 pub shared-most : (x : Held) → shared_weight x ≤ 1
 shared-most No = omega arith
 shared-most Shared = omega arith
 shared-most Alone = omega arith
+
+pub held-most : (x : Held) → (held_weight x ≤ 1) × (shared_weight x ≤ held_weight x)
+held-most No = (omega arith, omega arith)
+held-most Shared = (omega arith, omega arith)
+held-most Alone = (omega arith, omega arith)
 
 pub reads-most : (x : Wait) → reads_weight x ≤ 1
 reads-most Apart = omega arith
@@ -126,10 +132,10 @@ module _ (vs : List SemPart) (id : ℕ) (v : SemPart) (at : get_elem? vs id ≡ 
       let g0 : granting_of v ≡ 0 = ap (λ (z : Stage). granting_weight z (length v.sem.rest)) stage in let b0 : busy_of v ≡ 1 = ap busy_weight stage in
       let G = total-set granting_of vs id v u at in let D = total-same (granted_of grants) vs id v u at refl in let S = part-least shared_in vs id v at in let F = part-least early_in vs id v at in let ap' = r.count.apart in
       let quiet : Quiet (n' / 2 % 2) (n' / 4 % 2) q marks = record { waiters = omega arith; handoff = omega arith; first = omega arith; marked = omega arith } in
-      sem-moves u n n' q q marks marks grants r (of-mine (n' / 2 % 2) (n' / 4 % 2) q marks grants vs id v u at only (quiet, f.3)) (omega arith)
+      sem-moves u n n' q q marks marks grants r (of-mine (n' / 2 % 2) (n' / 4 % 2) q marks grants vs id v u at only quiet) (omega arith)
       (count-step vs id v u at n n' (more_of grants vs) (more_of grants (set vs id u)) (alone_of v) (shared_of v) (early_of v) (late_of v) (alone_of v) (shared_of v) 0 0 r.count
       record { alone_is = refl; shared_is = refl; early_is = refl; late_is = refl } record { alone_is = refl; shared_is = refl; early_is = refl; late_is = refl } (omega arith) (omega arith) (omega arith) (λ p. let e = ap' (omega arith) in absurd (omega arith)))
-      (λ t. refl) (λ t. refl) refl (ok-of u t has (λ z. absurd (omega (arith, z))) (let x = shared-most v.held in let y = reads-most v.sem.wait in omega arith) (omega arith) (single-of v t has (r.each id v at)) (let x = shared-most v.held in omega arith))
+      (λ t. refl) (λ t. refl) refl (ok-of u t has (λ z. absurd (omega (arith, z))) (let x = shared-most v.held in let y = reads-most v.sem.wait in omega arith) (omega arith) (single-of v t has (r.each id v at)) (let x = held-most v.held in let y = x.0 in omega arith))
 
   -- a grant word is cleared: the reader of the batch's rest goes over to those that are granted
   pub sem-grants : (n t own : ℕ) (ts : List ℕ) (q : List Waiter) (marks grants : List ℕ) → SemKept n q marks grants vs → total busy_of vs ≡ busy_of v → v.task ≡ Some own → v.sem.stage ≡ Granting → v.sem.rest ≡ t ∷ ts

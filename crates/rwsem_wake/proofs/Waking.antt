@@ -24,11 +24,11 @@ use Rattle.rwsem_wake.specs.declared.view.Stage.{Stage}
 use Rattle.rwsem_wake.specs.declared.view.Stage.TheVariants.{Rest, Armed, Overdue, Marked, Removing, Summing, Counted, Granting}
 use Rattle.rwsem_wake.specs.declared.view.SemHand.{SemHand}
 use Rattle.rwsem_count.specs.Counts.{early_weight, late_weight, early_in, late_in}
-use Rattle.rwsem_wake.specs.SemParts.{SemPart, busy_of, busy_weight, shared_of, early_of, late_of, reserve_weight, reserve_of, granting_weight, reader_of, first_mark, tasks, here, reads_weight, named_weight, granted_at, reads_at}
+use Rattle.rwsem_wake.specs.SemParts.{SemPart, busy_of, busy_weight, shared_of, early_of, late_of, reserve_weight, reserve_of, granting_weight, IsWhole, first_mark, tasks, here, reads_weight, named_weight, granted_at, reads_at}
 use Rattle.rwsem_wake.specs.Semaphores.{SemKept}
 use Rattle.rwsem_wake.proofs.Sums.{set-mine, total-least}
 use Rattle.rwsem_wake.proofs.Places.{first-least, some-length}
-use Rattle.rwsem_wake.proofs.WakeLaws.{staged, biased, batched, sem-sums, sem-grants, single-of}
+use Rattle.rwsem_wake.proofs.WakeLaws.{staged, biased, batched, held-most, sem-sums, sem-grants, single-of}
 use Rattle.rwsem_wake.proofs.QueueLaws.{mine-at, sem-arms, unread-at, reads-at-w}
 use Rattle.rwsem_wake.proofs.HandoffLaws.{sem-reserves, sem-unreserves, sem-overdue, sem-asks, sem-unmarks, sem-unmarked, sem-looks, sem-done}
 use Rattle.rwsem_wake.proofs.LookLaws.{sem-sums-none}
@@ -144,18 +144,18 @@ module _ (sees : List SemPart) (id : ℕ) (v : SemPart) (known : Part) (n : ℕ)
   )
 
   -- the count is loaded: the batch is in it at once where its sum is 0
-  pub on-look : v.sem.stage ≡ Summing → shared_of v + early_of v ≡ 1 → late_of v ≡ 0 → Knows known → total reader_of known.1.list ≡ 0 → After (word_after Load n) marks grants (looked v.sem known.1.list n) × IsLawfulCount n
-  on-look stage keeps tight knows whole = let none_left : total reader_of q ≡ 0 = subst (λ (z : List Waiter). total reader_of z ≡ 0) (loc.list knows) whole in subst (λ (z : List Waiter). After n marks grants (looked v.sem z n) × IsLawfulCount n) (sym (loc.list knows)) (dite (ℕ_discrete (losses v.sem H) (gains v.sem q))
+  pub on-look : v.sem.stage ≡ Summing → shared_of v + early_of v ≡ 1 → late_of v ≡ 0 → Knows known → IsWhole v.sem.rest known.1.list → After (word_after Load n) marks grants (looked v.sem known.1.list n) × IsLawfulCount n
+  on-look stage keeps tight knows whole = let left : IsWhole v.sem.rest q = subst (IsWhole v.sem.rest) (loc.list knows) whole in subst (λ (z : List Waiter). After n marks grants (looked v.sem z n) × IsLawfulCount n) (sym (loc.list knows)) (dite (ℕ_discrete (losses v.sem H) (gains v.sem q))
       (λ none. subst (λ (z : Bool). After n marks grants (if z then record v.sem { bias = Clear; stage = Granting } else record v.sem { stage = Counted (H == 1) }) × IsLawfulCount n) (sym (eq-eqb (losses v.sem H) (gains v.sem q) none)) (
         (
-          sem-sums-none sees id v loc.mine n own q marks grants (H == 1) loc.kept has only (bit-is H (omega arith)) stage none_left keeps tight (let e = bit-is H (omega arith) in omega (arith, none, e)),
-          hands-free id n q marks grants sees v (biased v Clear Granting) loc.mine n (inr (let f = mine-at sees id v loc.mine n q marks grants loc.kept own has Summing only stage in let z = f.1 in let l = first-least marks (tasks q) in omega (arith, z, l), omega arith)) (unasked-same n marks) (batch-comes id n q marks grants sees v (biased v Clear Granting) loc.mine (λ t. omega arith) none_left) (turns Clear Summing Granting stage (λ m. refl) refl refl (inr (inl refl))),
+          sem-sums-none sees id v loc.mine n own q marks grants (H == 1) loc.kept has only (bit-is H (omega arith)) stage left keeps tight (let e = bit-is H (omega arith) in omega (arith, none, e)),
+          hands-free id n q marks grants sees v (biased v Clear Granting) loc.mine n (inr (let f = mine-at sees id v loc.mine n q marks grants loc.kept own has Summing only stage in let z = f.1 in let l = first-least marks (tasks q) in omega (arith, z, l), omega arith)) (λ a b. absurd (omega (arith, a, b))) (unasked-same n marks) (batch-comes id n q marks grants sees v (biased v Clear Granting) loc.mine (λ t. omega arith) left) (turns Clear Summing Granting stage (λ m. refl) refl refl (inr (inl refl))),
         ),
         loc.lawful,
       ))
       (λ some_sum. subst (λ (z : Bool). After n marks grants (if z then record v.sem { bias = Clear; stage = Granting } else record v.sem { stage = Counted (H == 1) }) × IsLawfulCount n) (sym (ne_eqb (losses v.sem H) (gains v.sem q) some_sum)) (
         (
-          sem-looks sees id v loc.mine n q marks grants loc.kept own has only (H == 1) (bit-is H (omega arith)) stage none_left,
+          sem-looks sees id v loc.mine n q marks grants loc.kept own has only (H == 1) (bit-is H (omega arith)) stage left,
           hands-step id n q marks grants sees v (staged v (Counted (H == 1))) loc.mine n marks (omega arith) (λ t. omega arith) (unasked-same n marks) (turns v.sem.bias Summing (Counted (H == 1)) stage (λ m. refl) refl refl (inl refl)),
         ),
         loc.lawful,
@@ -192,9 +192,9 @@ module _ (sees : List SemPart) (id : ℕ) (v : SemPart) (known : Part) (n : ℕ)
 
       go : (ts : List ℕ) → SemKept n q marks (set grants t 0) (set sees id (batched v ts Granting)) → KeepsHandoff id n q marks grants sees n marks (set grants t 0) (set sees id (batched v ts (granting_on ts))) → After n marks (set grants t 0) (record v.sem { rest = ts; stage = granting_on ts })
       go (x ∷ ts) kept hands = (kept, hands)
-      go [] kept hands = let w : SemPart = batched v [] Granting in let us : List SemPart = set sees id w in let mine = set-mine sees id v w loc.mine in let B = total-set busy_of sees id v w loc.mine in let o = only in let single = single-of v own has (loc.kept.each id v loc.mine) in
+      go [] kept hands = let w : SemPart = batched v [] Granting in let us : List SemPart = set sees id w in let mine = set-mine sees id v w loc.mine in let B = total-set busy_of sees id v w loc.mine in let o = only in let single = single-of v own has (loc.kept.each id v loc.mine) in let h = (held-most v.held).1 in
           let b0 : busy_of v ≡ 1 = ap busy_weight stage in let c : early_of v + late_of v + reserve_of v ≡ 0 = ap (λ (z : Bias). early_weight z + late_weight z + reserve_weight z) clear in
-          let done = sem-done us id w mine n q marks (set grants t 0) kept own has (omega (arith, B, o, b0)) refl refl (omega (arith, single, c)) in (subst (SemKept n q marks (set grants t 0)) (twice sees id w (staged w Rest)) done, hands)
+          let done = sem-done us id w mine n q marks (set grants t 0) kept own has (omega (arith, B, o, b0)) refl refl (omega (arith, single, h, c)) in (subst (SemKept n q marks (set grants t 0)) (twice sees id w (staged w Rest)) done, hands)
 
   -- a reader that is to queue stores 1 in its own grant word
   pub on-arm : v.sem.stage ≡ Rest → v.sem.wait ≡ Apart → own < 64 → After n marks (set grants own 1) (armed v.sem)

@@ -6,7 +6,6 @@ use Rattle.lock_core.specs.declared.view.View.{View}
 use Rattle.lock_core.specs.declared.view.Hand.{Hand}
 use Rattle.lock_core.specs.Records.{bit}
 use Rattle.lock_core.specs.Plays.{Sat, Turns}
-use Rattle.lock_core.specs.Totals.{total}
 use Rattle.wait_list.specs.declared.view.ListHand.{ListHand}
 use Rattle.wait_list.specs.declared.view.Waiter.{Waiter}
 use Rattle.wait_list.specs.Lists.{Knows, first_code, list_part}
@@ -17,7 +16,7 @@ use Rattle.rwsem_wake.specs.declared.view.SemHand.{SemHand}
 use Rattle.rwsem_wake.specs.declared.view.Wait.TheVariants.{Apart}
 use Rattle.rwsem_wake.specs.declared.view.Stage.{Stage}
 use Rattle.rwsem_wake.specs.declared.view.Stage.TheVariants.{Rest, Armed, Overdue, Marked, Removing, Summing, Counted, Granting}
-use Rattle.rwsem_wake.specs.SemParts.{SemPart, reader_of, some_of}
+use Rattle.rwsem_wake.specs.SemParts.{SemPart, IsWhole, some_of}
 
 module _ {E : Type 0} (sem : E → SemHand) where
   -- what of a host's view concerns the semaphore
@@ -141,9 +140,9 @@ IsNext s stage task = (s.stage ≡ stage) × ((ts : List ℕ) × (s.rest ≡ tas
 abbrev pub KeepsOut : {E : Type 0} → (E → SemHand) → View E → Type 0
 KeepsOut sem v = (shared_weight v.hand.held + early_weight (sem v.ext).bias ≡ 1) × (late_weight (sem v.ext).bias ≡ 0)
 
--- its batch was the whole one: no reader is left in the list that it knows
-abbrev pub LeavesNoReader : {E : Type 0} → (E → ListHand) → View E → Type 0
-LeavesNoReader list v = total reader_of (list v.ext).list ≡ 0
+-- its batch is a whole one, which has left the list that it knows
+abbrev pub HasWholeBatch : {E : Type 0} → (E → ListHand) → (E → SemHand) → View E → Type 0
+HasWholeBatch list sem v = IsWhole (sem v.ext).rest (list v.ext).list
 
 -- it has loaded the count, and is to add this for its batch, which isn't empty, less that
 pub record MaySum {E : Type 0} (list : E → ListHand) (sem : E → SemHand) (v : View E) (gain loss : ℕ) : Type 0 where

@@ -10,7 +10,7 @@ use Rattle.rwsem_count.specs.declared.view.Bias.TheVariants.{Transit, Reserve}
 use Rattle.rwsem_count.specs.Counts.{BiasGoes}
 use Rattle.rwsem_wake.specs.declared.view.Wait.TheVariants.{Writes}
 use Rattle.rwsem_wake.specs.declared.view.Stage.TheVariants.{Marking, Granting}
-use Rattle.rwsem_wake.specs.SemParts.{SemPart, named_weight, granting_weight, shared_of, granted_at, here, first_mark, reader_of, tasks}
+use Rattle.rwsem_wake.specs.SemParts.{SemPart, named_weight, granting_weight, shared_of, granted_at, here, first_mark, IsWhole, tasks}
 use Rattle.rwsem_wake.specs.Semaphores.{IsFirst}
 use Rattle.rwsem_wake.specs.Stated.{Picks}
 
@@ -28,9 +28,9 @@ reads_as grants t v = shared_at t v + granted_at grants t v + granting_at t v
 abbrev pub MayRead : SemPart → Type 0
 MayRead v = ((m : ℕ) × (v.sem.bias ≡ Transit m) × (m / 4 % 2 ≡ 0)) ⊎ (v.held ≡ Alone)
 
--- the task is in the batch of a waker, which has left no reader in the list
+-- the task is in the batch of a waker, which is a whole one
 abbrev pub IsOfBatch : SemPart → List Waiter → ℕ → Type 0
-IsOfBatch v q t = (0 < here t v.sem.rest) × (total reader_of q ≡ 0)
+IsOfBatch v q t = (0 < here t v.sem.rest) × IsWhole v.sem.rest q
 
 -- a task becomes a reader by a step of its own pass, or by a waker's, in whose batch it is
 abbrev pub ComesToRead : ℕ → List Waiter → List ℕ → List SemPart → List ℕ → List SemPart → Type 0
@@ -88,8 +88,8 @@ GrantsNext id grants vs grants' us = (t : ℕ) → 0 < get_or grants t 0 → get
 abbrev pub BatchGoes : List Waiter → List ℕ → SemPart → SemPart → Type 0
 BatchGoes q grants' v u = (u.sem.rest ≡ v.sem.rest) ⊎ ((t : ℕ) × (v.sem.stage ≡ Granting) × (v.sem.rest ≡ t ∷ u.sem.rest) × (get_or grants' t 0 ≡ 0)) ⊎ ((t : ℕ) × (u.sem.rest ≡ v.sem.rest ++ t ∷ []) × Picks v q t)
 
--- While HANDOFF is set and the first waiter is marked, the writer bit is set by that waiter alone, and a task becomes a reader only by a bias whose addition saw no HANDOFF, or by a downgrade. Who takes clears HANDOFF. A bias keeps the count that its addition found.
--- At any time a task becomes a reader by itself, or in a batch that leaves no reader waiting, and it is one until its own pass ends its shared hold.
+-- While HANDOFF is set and the first waiter is marked, the writer bit is set by that waiter alone, and a task becomes a reader only by a bias whose addition saw no HANDOFF, or by a downgrade. Who takes clears HANDOFF, and finds nobody counted. A bias keeps the count that its addition found.
+-- At any time a task becomes a reader by itself, or in a whole batch, and it is one until its own pass ends its shared hold.
 -- HANDOFF is set by a waker with a reserved bias where the first waiter is marked, or by a writer of the list, which is to mark the first waiter from then on, until that one is marked, and by no other step comes to be so. HANDOFF then stays until it is answered.
 -- A mark is set by one of these, and is the first waiter's. It is cleared by its own waiter, or by a waker whose batch has it next.
 -- A batch grows by the readers that its waker picks, and is granted in this order once it is in the count; no other step clears a grant word.
@@ -97,6 +97,7 @@ pub record KeepsHandoff (id n : ℕ) (q : List Waiter) (marks grants : List ℕ)
   pub writer : n / 4 % 2 ≡ 1 → first_mark marks (tasks q) ≡ 1 → n % 2 ≡ 0 → n' % 2 ≡ 1 → (v : SemPart) × (get_elem? vs id ≡ some v) × IsFirst v.task q
   pub reader : n / 4 % 2 ≡ 1 → first_mark marks (tasks q) ≡ 1 → (t : ℕ) → total (reads_as grants t) vs ≡ 0 → 0 < total (reads_as grants' t) us → (v : SemPart) × (get_elem? vs id ≡ some v) × (v.task ≡ Some t) × MayRead v
   pub takes : n % 2 ≡ 0 → n' % 2 ≡ 1 → n' / 4 % 2 ≡ 0
+  pub lone : n % 2 ≡ 0 → n' % 2 ≡ 1 → n / 256 ≡ 0
   pub comes : ComesToRead id q grants vs grants' us
   pub ends : EndsReading id grants vs grants' us
   pub asks : n / 4 % 2 ≡ 0 → n' / 4 % 2 ≡ 1 → (v u : SemPart) × (get_elem? vs id ≡ some v) × (get_elem? us id ≡ some u) × MaySetHandoff q marks v u

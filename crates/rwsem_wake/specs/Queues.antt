@@ -80,6 +80,7 @@ pub record MayTake {E : Type 0} (list : E → ListHand) (sem : E → SemHand) (v
   pub knows : Knows (list_part list v)
   pub waiting : 1 ≤ length (list v.ext).list
   pub only : (alone ≡ true) ↔ (length (list v.ext).list ≡ 1)
+  pub writes : (sem v.ext).wait ≡ Writes
   pub clear : (sem v.ext).bias ≡ Clear
   pub rest : (sem v.ext).rest ≡ []
   pub may : ((sem v.ext).stage ≡ Summing) ⊎ (((sem v.ext).stage ≡ Rest) × ((HasHandoff old → ⊥) ⊎ (first_code (list v.ext).list ≡ own + 1)))

@@ -1,9 +1,9 @@
 -- What of a view concerns a semaphore, and what it weighs in the sums of its rule.
-use Rattle.std.specs.Prelude.{ℕ, zero, suc, ◌+◌, ◌*◌, ◌==◌, Bool, true, false, List, [], ◌∷◌, length, slice_index, Option, Some, None}
+use Rattle.std.specs.Prelude.{◌≡◌, ℕ, zero, suc, ◌+◌, ◌*◌, ◌==◌, ◌⊎◌, Bool, true, false, List, [], ◌∷◌, length, slice_index, Option, Some, None}
 use Rattle.lock_core.specs.declared.view.Held.{Held}
 use Rattle.lock_core.specs.declared.view.Held.TheVariants.{No}
 use Rattle.lock_core.specs.Records.{bit}
-use Rattle.lock_core.specs.Views.{is_number, alone_weight}
+use Rattle.lock_core.specs.Views.{is_number, alone_weight, held_weight}
 use Rattle.lock_core.specs.Totals.{total}
 use Rattle.wait_list.specs.declared.view.Waiter.{Waiter}
 use Rattle.rwsem_wake.specs.declared.view.Wait.{Wait}
@@ -112,6 +112,10 @@ shared_of v = shared_weight v.held
 abbrev pub alone_of : SemPart → ℕ
 alone_of v = alone_weight v.held
 
+-- whether it holds, shared or alone
+abbrev pub holds_of : SemPart → ℕ
+holds_of v = held_weight v.held
+
 abbrev pub transit_of : SemPart → ℕ
 transit_of v = transit_weight v.sem.bias
 
@@ -166,6 +170,10 @@ writer_at t w = bit w.writer * bit (w.task == t)
 
 abbrev pub reader_of : Waiter → ℕ
 reader_of w = reader_bit w.writer
+
+-- a batch that has left this list is whole: no reader is left, or it has as many as one wake grants
+abbrev pub IsWhole : List ℕ → List Waiter → Type 0
+IsWhole batch q = (total reader_of q ≡ 0) ⊎ (length batch ≡ 256)
 
 abbrev pub some_of : {A : Type 0} → List A → ℕ
 some_of [] = 0

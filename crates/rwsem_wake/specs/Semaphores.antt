@@ -9,7 +9,7 @@ use Rattle.rwsem_count.specs.declared.view.Bias.TheVariants.{Clear}
 use Rattle.rwsem_wake.specs.declared.view.Wait.TheVariants.{Apart}
 use Rattle.rwsem_wake.specs.declared.view.Stage.{Stage}
 use Rattle.rwsem_wake.specs.declared.view.Stage.TheVariants.{Rest, Armed, Joining, First, Marking, Took, Removed, Emptied, Overdue, Marked, Removing, Summing, Counted, Granting}
-use Rattle.rwsem_wake.specs.SemParts.{SemPart, nobody, part_of, shared_of, early_of, late_of, reads_of, transit_of, reserve_of, busy_of, granting_of, granted_of, rest_of, reads_at, writes_at, rest_at, granted_at, reader_at, writer_at, reader_of, some_of, marks_sum, first_mark, tasks, own_mark}
+use Rattle.rwsem_wake.specs.SemParts.{SemPart, nobody, part_of, shared_of, holds_of, early_of, late_of, reads_of, transit_of, reserve_of, busy_of, granting_of, granted_of, rest_of, reads_at, writes_at, rest_at, granted_at, reader_at, writer_at, reader_of, IsWhole, some_of, marks_sum, first_mark, tasks, own_mark}
 
 -- WAITERS is set exactly where somebody waits, and HANDOFF only there. The first waiter alone may be marked, and then HANDOFF is set.
 pub record Quiet (w h : ℕ) (q : List Waiter) (marks : List ℕ) : Type 0 where
@@ -41,8 +41,8 @@ FlagsAt (Overdue b) me rest w h q marks grants = Quiet w h q marks × (h ≡ bit
 FlagsAt (Marked b) me rest w h q marks grants = (w ≡ 1) × (h ≡ bit b) × (marks_sum marks ≡ first_mark marks (tasks q)) × (marks_sum marks ≡ 1) × (1 ≤ length q)
 FlagsAt Removing me rest w h q marks grants = (w ≡ 1) × (marks_sum marks ≡ first_mark marks (rest ++ tasks q))
 FlagsAt Summing me rest w h q marks grants = (w ≡ 1) × (marks_sum marks ≡ 0)
-FlagsAt (Counted b) me rest w h q marks grants = (w ≡ 1) × (marks_sum marks ≡ 0) × (h ≡ bit b) × (total reader_of q ≡ 0)
-FlagsAt Granting me rest w h q marks grants = Quiet w h q marks × (total reader_of q ≡ 0)
+FlagsAt (Counted b) me rest w h q marks grants = (w ≡ 1) × (marks_sum marks ≡ 0) × (h ≡ bit b) × IsWhole rest q
+FlagsAt Granting me rest w h q marks grants = Quiet w h q marks
 
 abbrev pub FlagsOf : SemPart → (w h : ℕ) → List Waiter → List ℕ → List ℕ → Type 0
 FlagsOf v = FlagsAt v.sem.stage v.task v.sem.rest
@@ -90,12 +90,12 @@ pub record SemPartOk (v : SemPart) : Type 0 where
   -- a pass without a number waits for nothing and has no bias
   pub numbered : v.task ≡ None → (v.sem.wait ≡ Apart) × (v.sem.bias ≡ Clear) × (v.sem.stage ≡ Rest)
   pub slim : load_of v ≤ number_of v + busy_of v
-  -- who holds shared doesn't wait
-  pub single : shared_of v + reads_of v ≤ number_of v
+  -- who holds doesn't wait as a reader
+  pub single : holds_of v + reads_of v ≤ number_of v
   -- only a holder of the wait lock reserves a bias
   pub reserved : reserve_of v ≤ busy_of v
-  -- who holds shared has no bias in transit
-  pub apart : shared_of v + transit_of v ≤ 1
+  -- who holds has no bias in transit
+  pub apart : holds_of v + transit_of v ≤ 1
 
 abbrev pub more_of : List ℕ → List SemPart → ℕ
 more_of grants vs = total (granted_of grants) vs + total granting_of vs

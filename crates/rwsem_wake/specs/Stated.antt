@@ -1,8 +1,6 @@
--- What the words of a semaphore state of its passes at each moment, and what a step does to its list.
+-- What the words of a semaphore state of its passes at each moment, and whom a batch goes on with.
 use Rattle.std.proofs.Common.{◌≡◌, ◌⊎◌, true, false, Some, ℕ, zero, suc, ◌+◌, ◌*◌, ◌/◌, ◌%◌, ◌<◌, ◌≤◌, List, [], ◌∷◌, ◌++◌, length, get_or}
 use Rattle.lock_core.specs.Totals.{total}
-use mathlib.Core.Option.{some}
-use lib.ListN.{get_elem?}
 use Rattle.word_bits.specs.declared.TheConstants.{MAX_TASKS}
 use Rattle.wait_list.specs.Lists.{first_code}
 use Rattle.wait_list.specs.declared.view.Waiter.{Waiter}
@@ -54,7 +52,3 @@ IsFirstReader t (w ∷ ws) = ((w.writer ≡ false) × (w.task ≡ t)) ⊎ ((w.wr
 -- a waker's batch begins or goes on with this task: it is the first reader of the list, the batch began with the first waiter, it has room, and isn't in the count yet
 abbrev pub Picks : SemPart → List Waiter → ℕ → Type 0
 Picks v q t = IsFirstReader t q × (v.sem.rest ≡ [] → first_code q ≡ t + 1) × (length v.sem.rest < 256) × ((v.sem.rest ≡ []) ⊎ (v.sem.stage ≡ Removing))
-
--- what a step of the pass of this number does to the list: it stays, the pass's own task joins it at its end, or one leaves it, by itself or as the next of a waker's batch, and all others keep their order
-abbrev pub OneChange : ℕ → List SemPart → List Waiter → List Waiter → Type 0
-OneChange id vs q q' = (q' ≡ q) ⊎ ((w : Waiter) × (q' ≡ q ++ w ∷ []) × ((v : SemPart) × (get_elem? vs id ≡ some v) × (v.task ≡ Some w.task))) ⊎ ((w : Waiter) × Without q w q' × ((v : SemPart) × (get_elem? vs id ≡ some v) × ((v.task ≡ Some w.task) ⊎ Picks v q w.task)))

@@ -206,7 +206,6 @@ impl<H: GrantHost> Play<(), View<H::Ext>> for ClearFirst<H> {
 /// marked then.
 pub fn clear_first<H: GrantHost>(site: &Site<H>, pass: &mut Pass<H>, task: u32)
     requires own { SitsAt site.now pass.old }
-    requires numbered { IsSome (task_in pass.old) }
     requires held { SpinHolds (view_of pass.old).spin }
     requires mine { task_in pass.old ≡ Some task }
     requires may { MayLook H.list H.sem (view_of pass.old) task }
@@ -233,7 +232,6 @@ impl<H: GrantHost> Play<(), View<H::Ext>> for LookOwn<H> {
 /// Loads the own mark of a writer that took and has left the list.
 pub fn look_own<H: GrantHost>(site: &Site<H>, pass: &mut Pass<H>, task: u32) -> u64
     requires own { SitsAt site.now pass.old }
-    requires numbered { IsSome (task_in pass.old) }
     requires held { SpinHolds (view_of pass.old).spin }
     requires mine { task_in pass.old ≡ Some task }
     requires removed { (sem_at H.sem (view_of pass.old)).stage ≡ Removed }
@@ -261,7 +259,6 @@ impl<H: GrantHost> Play<(), View<H::Ext>> for ClearOwn<H> {
 /// Clears that mark.
 pub fn clear_own<H: GrantHost>(site: &Site<H>, pass: &mut Pass<H>, task: u32)
     requires own { SitsAt site.now pass.old }
-    requires numbered { IsSome (task_in pass.old) }
     requires held { SpinHolds (view_of pass.old).spin }
     requires mine { task_in pass.old ≡ Some task }
     requires removed { (sem_at H.sem (view_of pass.old)).stage ≡ Removed }

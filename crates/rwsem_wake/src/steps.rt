@@ -10,7 +10,7 @@ ghost use Rattle.lock_core.specs.Views.{SpinHolds};
 ghost use Rattle.wait_list.specs.Lists.{Knows, hand_at, list_part};
 ghost use Rattle.rwsem_count.specs.declared.view.Bias.TheVariants.{Clear};
 ghost use Rattle.rwsem_wake.specs.declared.view.Stage.TheVariants.{Granting, Removing, Summing};
-ghost use Rattle.rwsem_wake.specs.Grants.{Did, HasFoundWriter, HasMarked, HasReserved, IsNext, KeepsOut, KnowsFirst, LeavesNoReader, MayArm, MayReserve, MaySum, TurnsTo, anything, armed, counted, granted, looked, marked, reserved, sem_at, summing, unmarked, unreserved};
+ghost use Rattle.rwsem_wake.specs.Grants.{Did, HasFoundWriter, HasMarked, HasReserved, HasWholeBatch, IsNext, KeepsOut, KnowsFirst, MayArm, MayReserve, MaySum, TurnsTo, anything, armed, counted, granted, looked, marked, reserved, sem_at, summing, unmarked, unreserved};
 
 use crate::host::GrantHost;
 use atomic_table::Play;
@@ -48,7 +48,6 @@ impl<H: GrantHost> Play<(), View<H::Ext>> for StoreWaiting<H> {
 /// waker clears the word, and the reader waits until it is 0.
 pub fn arm<H: GrantHost>(site: &Site<H>, pass: &mut Pass<H>, task: u32)
     requires own { SitsAt site.now pass.old }
-    requires numbered { IsSome (task_in pass.old) }
     requires held { SpinHolds (view_of pass.old).spin }
     requires mine { task_in pass.old ≡ Some task }
     requires task { task < MAX_TASKS }
@@ -235,7 +234,7 @@ pub fn look_count<H: GrantHost>(site: &Site<H>, pass: &mut Pass<H>) -> u64
     requires summing { (sem_at H.sem (view_of pass.old)).stage ≡ Summing }
     requires keeps { KeepsOut H.sem (view_of pass.old) }
     requires knows { Knows (list_part H.list (view_of pass.old)) }
-    requires whole { LeavesNoReader H.list (view_of pass.old) }
+    requires whole { HasWholeBatch H.list H.sem (view_of pass.old) }
     ensures own { SitsAt site.now pass.new }
     ensures goes_on { KeepsPast pass.old pass.new }
     ensures last { IsLatest pass.new }

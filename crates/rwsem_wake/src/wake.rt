@@ -7,7 +7,7 @@ ghost use Rattle.wait_list.specs.Lists.{Knows, hand_at, list_part};
 ghost use Rattle.rwsem_count.specs.Counts.{early_weight};
 ghost use Rattle.rwsem_wake.specs.declared.view.Stage.TheVariants.{Removing, Summing};
 ghost use Rattle.rwsem_wake.specs.SemParts.{some_of};
-ghost use Rattle.rwsem_wake.specs.Grants.{AreTaskNumbers, IsGranting, IsNext, IsRemoved, IsReserved, KeepsOut, KnowsFirst, LeavesNoReader, OnlySem, all_granted, counted, sem_at, summing, unreserved};
+ghost use Rattle.rwsem_wake.specs.Grants.{AreTaskNumbers, HasWholeBatch, IsGranting, IsNext, IsRemoved, IsReserved, KeepsOut, KnowsFirst, OnlySem, all_granted, counted, sem_at, summing, unreserved};
 
 use crate::host::GrantHost;
 use crate::steps;
@@ -69,8 +69,8 @@ pub fn clear_first<H: GrantHost>(site: &Site<H>, pass: &mut Pass<H>, task: u32)
 }
 
 /// Puts a removed batch of so many readers, one at least, into the count. `reserved` says whether
-/// the waker has a bias of its own there, which goes, and `empty` whether the list is empty, so that
-/// WAITERS goes.
+/// the waker has a bias of its own there, which goes. `empty` says whether the list is empty, so
+/// that WAITERS goes.
 pub fn count_batch<H: GrantHost>(
     site: &Site<H>,
     pass: &mut Pass<H>,
@@ -84,7 +84,7 @@ pub fn count_batch<H: GrantHost>(
     requires summing { (sem_at H.sem (view_of pass.old)).stage ≡ Summing }
     requires keeps { KeepsOut H.sem (view_of pass.old) }
     requires knows { Knows (list_part H.list (view_of pass.old)) }
-    requires whole { LeavesNoReader H.list (view_of pass.old) }
+    requires whole { HasWholeBatch H.list H.sem (view_of pass.old) }
     requires readers { readers ≡ length (sem_at H.sem (view_of pass.old)).rest }
     requires some { 0 < readers }
     requires few { readers ≤ MAX_TASKS }
@@ -144,7 +144,7 @@ pub fn grant_removed<H: GrantHost>(
     requires tasks { AreTaskNumbers batch.now }
     requires keeps { KeepsOut H.sem (view_of pass.old) }
     requires knows { Knows (list_part H.list (view_of pass.old)) }
-    requires whole { LeavesNoReader H.list (view_of pass.old) }
+    requires whole { HasWholeBatch H.list H.sem (view_of pass.old) }
     requires reserved { bit reserved ≡ early_weight (sem_at H.sem (view_of pass.old)).bias }
     requires empty { bit empty + some_of (hand_at H.list (view_of pass.old)).list ≡ 1 }
     ensures own { SitsAt site.now pass.new }

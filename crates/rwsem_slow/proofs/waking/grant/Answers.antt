@@ -1,5 +1,5 @@
 use Rattle.std.proofs.Common.{◌∙◌, ℕ, List, length, ap, arith}
-use Rattle.rwsem_slow.proofs.Granting.{is-removed, keeps-out, leaves-no-reader}
+use Rattle.rwsem_slow.proofs.Granting.{is-removed, keeps-out, has-whole}
 use Rattle.rwsem_slow.proofs.Removing.{first-reads, grants-removed}
 use Rattle.rwsem_slow.proofs.waking.grant.Goals as goal
 
@@ -13,7 +13,7 @@ grant_removed-requires-clause-keeps g c = let v = c.args.pass.now.seat.me.0.view
 
 pub grant_removed-requires-clause-whole : goal.grant_removed-requires-clause-whole
 grant_removed-requires-clause-whole g c = let v = c.args.pass.now.seat.me.0.view in
-    leaves-no-reader v c.remove_batch-empty.new.pass.seat.me.0.view c.requires.list (first-reads v.ext.list.list c.args.first c.requires.first c.requires.reader) c.remove_batch-empty.ensures.removed
+    has-whole v c.remove_batch-empty.new.pass.seat.me.0.view c.requires.list (first-reads v.ext.list.list c.args.first c.requires.first c.requires.reader) c.remove_batch-empty.ensures.removed
 
 pub returns-clause-granted : goal.returns-clause-granted
 returns-clause-granted g c = grants-removed c.args.pass.now.seat.me.0.view c.remove_batch-empty.new.pass.seat.me.0.view c.grant_removed.new.pass.seat.me.0.view c.grant_removed.ensures.later c.remove_batch-empty.ensures.removed c.grant_removed.ensures.kept

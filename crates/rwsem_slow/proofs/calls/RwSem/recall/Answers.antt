@@ -1,4 +1,6 @@
+use Rattle.word_bits.specs.LockWords.{counted}
 use Rattle.lock_core.specs.Kinds.{semaphore}
+use Rattle.lock_core.specs.Layout.{site}
 use Rattle.lock_core.specs.Locked.{IsLockedThen}
 use Rattle.lock_core.specs.LockedLaws.{ran-steps}
 use Rattle.lock_core.specs.Pasts.{Moves}
@@ -6,8 +8,11 @@ use Rattle.lock_core.specs.RunLaws.{ran-each, ran-so}
 use Rattle.lock_core.specs.Stated.{IsSiteMove}
 use Rattle.lock_core.proofs.Showing.{latest-shown}
 use Rattle.osq_nodes.specs.Handles.{fronts_in}
+use Rattle.qspin_word.proofs.Turning.{numbers}
+use Rattle.qspin_queue.proofs.Recalling.{each-lock, each-move}
 use Rattle.rwsem_slow.specs.Places.{line_of}
-use Rattle.rwsem_slow.specs.RwSems.{Kept, RwSemMoves, count_at, standing}
+use Rattle.rwsem_slow.specs.RwSems.{Kept, RwSemMoves, count_at, standing, wait_lock_at}
+use Rattle.rwsem_slow.specs.RwSemLaws.{sem-site, sem-spin}
 use Rattle.rwsem_slow.specs.Handles.{newest}
 use Rattle.rwsem_slow.specs.Stated.{IsRwSemThen, waits_on}
 use Rattle.rwsem_slow.proofs.Stating.{sem-then}
@@ -33,3 +38,11 @@ returns-clause-moves g c = let k = c.args.self.now.site.table.shared.key in let 
 pub returns-clause-lists : goal.returns-clause-lists
 returns-clause-lists g c = let k = c.args.self.now.site.table.shared.key in let o = g.O.Object.object in let n = g.O.Object.WORDS in let own = c.recall.ensures.last in
     becomes o n k (newest k) own.now own.before own.rest _ own.past_is c.recall.ensures.run
+
+pub returns-clause-wait_lock : goal.returns-clause-wait_lock
+returns-clause-wait_lock g c = let k = c.args.self.now.site.table.shared.key in let o = g.O.Object.object in let n = g.O.Object.WORDS in let own = c.recall.ensures.last in
+    each-lock standing (Kept o n k) (RwSemMoves k) wait_lock_at (sem-spin o n k) (λ ws vs h. numbers o counted n k (site k ws) vs (sem-site o n k ws vs h)) (newest k) own.now own.before own.rest _ own.past_is c.recall.ensures.run
+
+pub returns-clause-wait_moves : goal.returns-clause-wait_moves
+returns-clause-wait_moves g c = let k = c.args.self.now.site.table.shared.key in let o = g.O.Object.object in let n = g.O.Object.WORDS in
+    each-move standing (Kept o n k) (RwSemMoves k) wait_lock_at (λ id ws us vs vs' m. m.spin) (newest k) _ c.recall.ensures.run
