@@ -5,3 +5,4 @@ pub mod QueueSteps
 pub mod Stating
 pub mod Saying
 pub mod Moving
+pub mod Recalling
