@@ -250,7 +250,7 @@ module _ {Call : Type 0} (o : Obj Call) (size : ℕ) where
   pub mutex-owns : (k : Plan) (ws : List ℕ) (vs : List V) (id n : ℕ) (v : V) (h : Hand) (t : Turn) → Kept o size k ws vs → get_elem? vs id ≡ some v → h.task ≡ v.hand.task → HandGoes v.hand h → KeepsLeft v.hand h n → may_own t v (owner_in ws) n → OwnKept n (set (map hand_of vs) id h) → Site k ws (set (map hand_of vs) id h)
       → Go k id ws vs (set ws owner_at n) (set vs id (turns turned t v h))
   mutex-owns k ws vs id n v h Fail (l, r) at task counts left may own there = let m : ℕ = owner_in ws in
-      owns-by k ws vs l id n v h Fail r at task counts own there (subst (λ (z : ℕ). Coupled z l (set vs id (turns turned Fail v h))) (sym may.0) (coupled-fails m l vs id v r.coupled at (apart k ws vs l id v r at) may.1.0 may.1.1 may.1.2 h task)) (λ leaves. absurd (leaves.3 (ap (λ (z : ℕ). z / 8) may.0))) (λ _. inl may.0)
+      owns-by k ws vs l id n v h Fail r at task counts own there (subst (λ (z : ℕ). Coupled z l (set vs id (turns turned Fail v h))) (sym may.0) (coupled-fails m l vs id v r.coupled at (apart k ws vs l id v r at) may.3.0 may.3.1 may.3.2 h task)) (λ leaves. absurd (leaves.3 (ap (λ (z : ℕ). z / 8) may.0))) (λ _. inl may.0)
       (λ asked. let less = asked.0 in let more : 2 ≤ m % 4 = subst HasHandoff may.0 asked.1 in absurd (omega (arith, less, more))) (λ asked. inl (subst HasHandoff (sym may.0) asked)) left
       (λ alone free _. let e = ended k ws vs l id v r at n h alone free own in let low = e.0 in let big = e.1 in let is = may.0 in let few = e.2 (omega (arith, is, low)) in absurd (omega (arith, few, big, is)))
   mutex-owns k ws vs id n v h Take (l, r) at task counts left may own there = let m : ℕ = owner_in ws in let nobody = r.own.nobody in let flags = r.own.flags in

@@ -188,8 +188,9 @@ rests v = (v.ext.queued ≡ false) × (v.ext.point ≡ Rest) × (v.ext.first ≡
 abbrev pub KnowsList : V → Type 0
 KnowsList v = Knows (v.spin, v.ext.list) × (v.ext.list.changes ≡ false) × (v.ext.point ≡ Rest)
 
+-- where a pass may step so on the owner word. A try that fails found a word that names a task, and its pass is between no two steps that belong together.
 abbrev pub may_own : Turn → V → ℕ → ℕ → Type 0
-may_own Fail v n m = (m ≡ n) × ((t : ℕ) × (v.hand.task ≡ Some t) × IsUnpicked n t)
+may_own Fail v n m = (m ≡ n) × (8 ≤ n) × (v.ext.point ≡ Rest) × ((t : ℕ) × (v.hand.task ≡ Some t) × IsUnpicked n t)
 may_own Take v n m = (v.hand.held ≡ No) × ((t : ℕ) × (v.hand.task ≡ Some t) × IsTake t n m)
 may_own Ask v n m = (v.ext.first ≡ true) × (v.ext.point ≡ Rest) × IsAsk n m
 may_own Free v n m = (v.hand.held ≡ Alone) × SpinRests v.spin × (n % 8 < 2) × (m ≡ n % 8)

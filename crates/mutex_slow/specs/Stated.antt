@@ -1,5 +1,5 @@
 -- What is so of a mutex at each moment, and of each step.
-use Rattle.std.specs.Prelude.{◌≡◌, ℕ, ◌+◌, ◌/◌, ◌%◌, ◌<◌, ◌≤◌, ◌⊎◌, true, List, [], ◌∷◌, length, map, Option, Some, None}
+use Rattle.std.specs.Prelude.{◌≡◌, ℕ, ◌+◌, ◌/◌, ◌%◌, ◌<◌, ◌≤◌, ◌⊎◌, true, List, [], ◌∷◌, length, map, Option, Some, None, IsSome}
 use mathlib.Core.Option.{some}
 use lib.ListN.{get_elem?}
 use Rattle.word_bits.specs.LockWords.{owned}
@@ -12,7 +12,7 @@ use Rattle.lock_core.specs.declared.view.Marks.{Marks}
 use Rattle.lock_core.specs.declared.view.Moment.{Moment}
 use Rattle.lock_core.specs.declared.view.Held.TheVariants.{No, Alone}
 use Rattle.lock_core.specs.Locked.{HasPass, IsSiteStep, IsWaitLockFree}
-use Rattle.lock_core.specs.Shown.{Shown}
+use Rattle.lock_core.specs.Shown.{IsLatestStep, Shown}
 use Rattle.lock_core.specs.Spins.{holds_in}
 use Rattle.lock_core.specs.Stated.{IsSiteThen}
 use Rattle.mutex_word.specs.Holders.{IsHolder, KeepsLeft}
@@ -39,13 +39,18 @@ line_marks queued appends = record { numbers = queued ∷ appends ∷ [] }
 abbrev pub StandsMarked : ℕ → (queued appends : ℕ) → Moment → Type 0
 StandsMarked id queued appends m = get_elem? m.marks id ≡ some (line_marks queued appends)
 
--- while this is the list: its words state it while the wait lock is free, each waiter has a pass, each pass has a mark, which says whether its task waits, and the owner word states who holds, who is picked, and whether tasks wait
+-- how often a pass with this number of a task waits in the list, and not at all without one
+abbrev pub waits_in : List Waiter → Option ℕ → ℕ
+waits_in l None = 0
+waits_in l (Some t) = counted t l
+
+-- while this is the list: its words state it while the wait lock is free, each waiter has a pass, each pass has a mark, which says whether it waits, and the owner word states who holds, who is picked, and whether tasks wait
 pub record IsListed (m : Moment) (l : List Waiter) : Type 0 where
   pub sound : IsList l
   pub states : IsWaitLockFree m.spins → Lists (list_words m.words) l
   pub passes : (t : ℕ) → 0 < counted t l → HasPass m.hands t
   pub has : (id : ℕ) (h : Hand) → get_elem? m.hands id ≡ some h → (queued appends : ℕ) × StandsMarked id queued appends m
-  pub marked : (id t queued appends : ℕ) (h : Hand) → get_elem? m.hands id ≡ some h → h.task ≡ Some t → StandsMarked id queued appends m → counted t l ≡ queued
+  pub marked : (id queued appends : ℕ) (h : Hand) → get_elem? m.hands id ≡ some h → StandsMarked id queued appends m → queued ≡ waits_in l h.task
   pub owner : StatesOwner (owner_in m.words) (IsWaitLockFree m.spins) l m.hands
 
 -- the facts of a site, and a list
@@ -87,9 +92,13 @@ HasBecome k [] l = ⊥
 HasBecome k (m ∷ []) l = IsListed m l
 HasBecome k (m ∷ before ∷ past) l = IsListed m l × ((old : List Waiter) × HasBecome k (before ∷ past) old × IsMutexStep k before old m l)
 
--- the last moment of its past has it at one seat, marked as out of the list, and as having appended itself as often as it says
-abbrev pub IsOutOfList : Shown → Type 0
-IsOutOfList v = (now : Moment) × (rest : List Moment) × (v.past ≡ now ∷ rest) × ((id : ℕ) × (get_elem? now.hands id ≡ some v.hand) × StandsMarked id 0 v.line.appends now)
+-- the last moment of its past, which is that of its own last step, has it at one seat, marked as out of the list, and as having appended itself as often as it says; where it has a number, that is the seat of the step
+pub record IsOutOfList (v : Shown) : Type 0 where
+  pub own : IsLatestStep v
+  pub seat : ℕ
+  pub hand : get_elem? own.step.now.hands seat ≡ some v.hand
+  pub marked : StandsMarked seat 0 v.line.appends own.step.now
+  pub same : IsSome v.hand.task → seat ≡ own.step.seat
 
 abbrev pub task_of : Waiter → ℕ
 task_of w = w.task

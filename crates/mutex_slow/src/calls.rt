@@ -4,16 +4,17 @@ ghost use Rattle.lock_core.specs.declared.how.How.TheVariants.{Fast};
 ghost use Rattle.lock_core.specs.declared.view.Held.TheVariants.{No, Alone};
 ghost use Rattle.lock_core.specs.Kinds.{mutex, unavailable, wakes_alone};
 ghost use Rattle.lock_core.specs.Holding.{missed};
-ghost use Rattle.lock_core.specs.Pasts.{EachMoment, FoundAt, Paced, Tail};
+ghost use Rattle.lock_core.specs.Pasts.{EachMoment, FoundAt, Paced, Ran, Tail};
 ghost use Rattle.lock_core.specs.Locking.{Looks, Has, HasSince, Interrupts, OnlyTried, Releases, Got, KeepsPlace};
 ghost use Rattle.lock_core.specs.Passes.{Numbered};
 ghost use Rattle.lock_core.specs.Records.{IsPlan};
 ghost use Rattle.lock_core.specs.Shown.{AllButHand, IsLatestStep, PastGoesOn, shown_new, shown_split};
+ghost use Rattle.lock_core.specs.SpinStated.{IsSpinLockThen, IsSpinMove};
 ghost use Rattle.lock_core.specs.Stated.{IsNew};
 ghost use Rattle.lock_core.specs.Views.{gathered, gave_up};
 ghost use Rattle.osq_nodes.specs.Handles.{tasks_of};
 ghost use Rattle.lock_core.specs.Handles as inner;
-ghost use Rattle.mutex_slow.specs.Mutexes.{owner_at};
+ghost use Rattle.mutex_slow.specs.Mutexes.{owner_at, standing, wait_lock_at};
 ghost use Rattle.mutex_slow.specs.Places.{EndsHold};
 ghost use Rattle.mutex_slow.specs.Stated.{HasBecome, IsMutexThen, IsOutOfList, waits_on};
 ghost use Rattle.lock_core.specs.Locked.{IsLockedThen, IsSiteStep};
@@ -305,7 +306,8 @@ impl<O: Object> Mutex<O> {
     /// owner word: the list changes by one append or one removal; the first waiter alone asks for a
     /// handoff, which stays asked for until the holder picks whoever is first then, or nobody
     /// waits; a step that ends a hold meanwhile picks the first waiter, and a word that picks a
-    /// waiter is changed by that waiter's pass alone, which takes. The pass itself isn't in the
+    /// waiter is changed by that waiter's pass alone, which takes. At each moment the words of the
+    /// wait lock say who has it, and each step is one of a spin lock's. The pass itself isn't in the
     /// list.
     pub fn recall(&self, pass: &mut MutexPass<O>)
         requires own { SitsAt self.now pass.old }
@@ -323,6 +325,9 @@ impl<O: Object> Mutex<O> {
         ensures moves { Paced (IsSiteStep (plan_of self.now)) (shown_of pass.new).past }
         ensures lists { (l : List Waiters) ×
             HasBecome (plan_of self.now) (shown_of pass.new).past l }
+        ensures wait_lock { EachMoment (IsSpinLockThen wait_lock_at) (shown_of pass.new).past }
+        ensures wait_moves { Ran standing (newest (plan_of self.now)) (IsSpinMove wait_lock_at)
+            (shown_of pass.new).past }
     {
         self.site.recall(&mut pass.pass);
     }

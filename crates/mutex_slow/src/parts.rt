@@ -114,7 +114,7 @@ pub fn leave<O: Object>(site: &Site<MutexRule<O>>, pass: &mut Pass<MutexRule<O>>
 }
 
 /// Appends the pass's own task to the list, and sets the flag of the waiters where it is the first.
-pub fn join<O: Object>(site: &Site<MutexRule<O>>, pass: &mut Pass<MutexRule<O>>)
+pub fn join<O: Object, W: Wait>(site: &Site<MutexRule<O>>, rt: &W, pass: &mut Pass<MutexRule<O>>)
     requires own { SitsAt site.now pass.old }
     requires numbered { IsSome (task_in pass.old) }
     requires out { held_in pass.old ≡ No }
@@ -132,7 +132,8 @@ pub fn join<O: Object>(site: &Site<MutexRule<O>>, pass: &mut Pass<MutexRule<O>>)
     };
     list::append(site, pass, Waiter { task, writer: true });
     let Some(first) = list::first(site, pass) else {
-        return;
+        for _ in rt.forever() {}
+        unreachable!()
     };
     if first.task == task {
         // The flag is set before the waiter tries again: a holder that releases behind this step

@@ -224,7 +224,7 @@ pub fn lock_in_line<O: Object, W: Wait, C: Cpu>(
         parts::leave(site, pass);
         return Ok(How::Spun);
     };
-    parts::join(site, pass);
+    parts::join(site, rt, pass);
     let Err(why) = wait(site, rt, pass, cpu, interruptible) else {
         parts::quit(site, pass);
         parts::leave(site, pass);
