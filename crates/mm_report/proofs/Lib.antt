@@ -16,3 +16,4 @@ pub mod LineTexts
 pub mod Replies
 pub mod Telling
 mod Earliest
+pub mod Order

@@ -7,3 +7,4 @@ pub mod Telling
 pub mod Writing
 pub mod Summary
 pub mod Reports
+pub mod Orders

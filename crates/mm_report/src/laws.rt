@@ -1,4 +1,8 @@
 //! Laws of the text. Each is the contract of a function that does nothing.
+ghost use Rattle.vma_map.specs.Spaces.{space};
+ghost use Rattle.fd_table.specs.Tables.{table};
+ghost use Rattle.word_bits.specs.LockWords.{counted, owned};
+ghost use Rattle.mm_report.specs.Orders.{KeepsOrder};
 ghost use Rattle.mm_report.specs.Telling.{LineTellsReply, TextDeterminesHistories};
 
 /// The text determines the lines of the histories and the states that are told.
@@ -11,4 +15,11 @@ pub fn text_determines_histories()
 #[tactic(auto, using(crate::proofs::Replies::line_tells_reply))]
 pub fn line_tells_reply()
     ensures { LineTellsReply }
+{}
+
+/// The history of a space or of a table has each task's calls once and in the task's order.
+#[tactic(auto, using(crate::proofs::Order::keeps_order))]
+pub fn history_keeps_order()
+    ensures space { KeepsOrder space counted }
+    ensures table { KeepsOrder table owned }
 {}
