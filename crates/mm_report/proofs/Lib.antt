@@ -17,3 +17,4 @@ pub mod Replies
 pub mod Telling
 mod Earliest
 pub mod Order
+pub mod NamedCalls

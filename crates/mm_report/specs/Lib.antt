@@ -8,3 +8,4 @@ pub mod Writing
 pub mod Summary
 pub mod Reports
 pub mod Orders
+pub mod Meanings
