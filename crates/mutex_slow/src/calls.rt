@@ -343,7 +343,7 @@ impl<O: Object> Mutex<O> {
             (IsLockedThen O.object mutex O.WORDS (plan_of self.now) owner_at waits_on)
             (shown_of pass.new).past }
         ensures out { IsOutOfList (shown_of pass.new) }
-        ensures moves { Paced (IsSiteStep (plan_of self.now)) (shown_of pass.new).past }
+        ensures moves { Paced (IsSiteStep (plan_of self.now) owner_at) (shown_of pass.new).past }
         ensures lists { (l : List Waiters) ×
             HasBecome (plan_of self.now) (shown_of pass.new).past l }
         ensures wait_lock { EachMoment (IsSpinLockThen wait_lock_at) (shown_of pass.new).past }
