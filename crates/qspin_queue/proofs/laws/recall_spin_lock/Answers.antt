@@ -20,4 +20,4 @@ returns-clause-always g c = let k = c.args.site.now.table.shared.key in let R = 
 pub returns-clause-moves : goal.returns-clause-moves
 returns-clause-moves g c = let k = c.args.site.now.table.shared.key in let R = g.H.SiteRule in let f = g.H.SpinHost.FIRST in
     ran-so R.marks (opening R.marks k R.idle) (Moves (R.holds k) (R.moves k)) (IsSpinMove f)
-    (λ x y m. (m.0, moved m.0 (part f SPIN_WORDS x.words) (part f SPIN_WORDS y.words) (map spin_part x.views) (map spin_part y.views) (g.met.H.SpinHost.spin_moves k m.0 x.words y.words x.views y.views m.3))) _ c.recall.ensures.run
+    (λ x y m. let site_move = g.met.H.SiteRule.site_moves k m.0 x.words y.words x.views y.views (g.met.H.SiteRule.site_kept k x.words x.views m.1) m.3 in (m.0, moved m.0 (part f SPIN_WORDS x.words) (part f SPIN_WORDS y.words) (map spin_part x.views) (map spin_part y.views) (g.met.H.SpinHost.spin_moves k m.0 x.words y.words x.views y.views m.3), (site_move.before, site_move.after, site_move.at, site_move.at', site_move.moved.spin))) _ c.recall.ensures.run
