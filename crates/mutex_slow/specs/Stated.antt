@@ -20,7 +20,7 @@ use Rattle.wait_list.specs.declared.view.Waiter.{Waiter}
 use Rattle.wait_list.specs.declared.view.Change.{Change}
 use Rattle.wait_list.specs.declared.view.Change.TheVariants.{Stay, Enter, Leave}
 use Rattle.wait_list.specs.Lists.{Allowed, IsList, Lists, changed, counted}
-use Rattle.mutex_slow.specs.Mutexes.{AnswersHandoff, Asks, HasHandoff, entered, IsFirstTask, IsUnpicked, Leaves, LeavesToFirst, PicksFirst, list_words, owner_in}
+use Rattle.mutex_slow.specs.Mutexes.{AnswersHandoff, Asks, HasHandoff, entered, IsFirstTask, IsUnpicked, Leaves, LeavesToFirst, PicksFirst, list_words, owner_at, owner_in}
 
 -- Without the pickup flag the word names the task that holds, or nobody where nobody does. With it nobody holds, and the word names the first waiter. The flags of the handoff and of the pickup are never both set. While the wait lock is free, the flag of the waiters is set exactly where tasks wait, and the other two only there.
 pub record StatesOwner (word : ℕ) (free : Type 0) (l : List Waiter) (hs : List Hand) : Type 0 where
@@ -71,9 +71,9 @@ MadeBy (Leave t) id h m = HasWaitLock id m × (h.task ≡ Some t) × IsUnpicked 
 abbrev pub TakesUp : Hand → ℕ → ℕ → Type 0
 TakesUp h n n' = ((t : ℕ) × (h.task ≡ Some t) × (n / 8 ≡ t + 1)) × (n' + 4 ≡ n)
 
--- One step of one pass, made while this was the list: the list changes by one append or one removal, which keeps the others in order. A step that ends a hold while a handoff is asked for picks the first waiter. A word that picks a waiter is changed by that waiter alone, which takes. The first waiter alone asks for a handoff. The flag of the handoff stays until the holder names the first waiter, or nobody waits. Who ends a hold keeps the word that its step left; under the wait lock that word picks the first waiter, or names nobody where nobody waits. Each append is counted by the pass that enters.
+-- One step of one pass, made while this was the list: the list changes by one append or one removal, which keeps the others in order. A step that ends a hold while a handoff is asked for picks the first waiter. A word that picks a waiter is changed by that waiter alone, which takes. The first waiter alone asks for a handoff. The flag of the handoff stays until the holder names the first waiter, or nobody waits. Who ends a hold keeps the word that its step left; under the wait lock that word picks the first waiter, or names nobody where nobody waits. Each append is counted by the pass that enters, and a failed try by a pass that stands outside the list.
 pub record IsMutexStep (k : Plan) (x : Moment) (l : List Waiter) (y : Moment) (l' : List Waiter) : Type 0 where
-  pub by : IsSiteStep k x y
+  pub by : IsSiteStep k owner_at x y
   pub change : Change
   pub allowed : Allowed change l
   pub made : MadeBy change by.id by.before x
@@ -85,6 +85,7 @@ pub record IsMutexStep (k : Plan) (x : Moment) (l : List Waiter) (y : Moment) (l
   pub freed : KeepsLeft by.before by.after (owner_in y.words)
   pub names : by.before.held ≡ Alone → by.after.held ≡ No → HasWaitLock by.id y → LeavesToFirst (owner_in y.words) l
   pub appends : (queued appends : ℕ) → StandsMarked by.id queued appends x → (queued' : ℕ) × StandsMarked by.id queued' (appends + entered change) y
+  pub missed : by.after.misses ≢ by.before.misses → (queued appends : ℕ) → StandsMarked by.id queued appends x → queued ≡ 0
 
 -- the last of these moments, which stands first, has this list, and it has come to be by such steps from that of the first
 abbrev pub HasBecome : Plan → List Moment → List Waiter → Type 0

@@ -17,8 +17,8 @@ use Rattle.mutex_word.proofs.Owning.{some-number}
 use Rattle.osq_nodes.specs.Handles.{fronts_in}
 use Rattle.mutex_slow.specs.Places.{line_of}
 use Rattle.qspin_word.proofs.Turning.{numbers}
-use Rattle.qspin_queue.proofs.Recalling.{each-lock, each-move}
-use Rattle.mutex_slow.specs.Mutexes.{Kept, MutexMoves, V, owner_at, standing, wait_lock_at}
+use Rattle.qspin_queue.proofs.Recalling.{counts-spin, each-lock, each-move}
+use Rattle.mutex_slow.specs.Mutexes.{Kept, MutexMoves, V, owner_at, owner_in, standing, wait_lock_at}
 use Rattle.mutex_slow.specs.MutexLaws.{mutex-site, mutex-spin}
 use Rattle.mutex_slow.specs.Handles.{newest}
 use Rattle.mutex_slow.specs.Stated.{IsMutexThen, StandsMarked, line_marks, waits_on}
@@ -41,7 +41,7 @@ returns-clause-states g c = let k = c.args.self.now.site.table.shared.key in let
 
 pub returns-clause-moves : goal.returns-clause-moves
 returns-clause-moves g c = let k = c.args.self.now.site.table.shared.key in let o = g.O.Object.object in let n = g.O.Object.WORDS in
-    ran-steps standing k (newest k) _ (ran-so standing (newest k) (Moves (Kept o n k) (MutexMoves k)) (IsSiteMove k) (λ x y m. (m.0, m.3.site)) _ c.recall.ensures.run)
+    ran-steps standing k owner_at (newest k) _ (ran-so standing (newest k) (Moves (Kept o n k) (MutexMoves k)) (IsSiteMove k owner_at) (λ x y m. (m.0, m.3.site, m.4)) _ c.recall.ensures.run)
 
 pub returns-clause-out : goal.returns-clause-out
 returns-clause-out g c = let k = c.args.self.now.site.table.shared.key in let o = g.O.Object.object in let n = g.O.Object.WORDS in let own = c.recall.ensures.last in let m = c.recall.ensures.marked in let u = c.recall.new.pass.seat.me.0.view in
@@ -66,4 +66,5 @@ returns-clause-wait_lock g c = let k = c.args.self.now.site.table.shared.key in 
 
 pub returns-clause-wait_moves : goal.returns-clause-wait_moves
 returns-clause-wait_moves g c = let k = c.args.self.now.site.table.shared.key in let o = g.O.Object.object in let n = g.O.Object.WORDS in
-    each-move standing (Kept o n k) (MutexMoves k) wait_lock_at (λ id ws us vs vs' m. m.spin) (newest k) _ c.recall.ensures.run
+    each-move standing (Kept o n k) (MutexMoves k) wait_lock_at (λ id ws us vs vs' m. m.spin)
+    (λ id ws us vs vs' _ m. counts-spin id (owner_in ws) (site k ws) (site k us) vs vs' m.site) (newest k) _ c.recall.ensures.run
