@@ -57,12 +57,12 @@ pub(crate) fn raised<R: Threads + Wait + Sync>(rt: &R, alloc: Global) -> Result<
     join(
         rt,
         ||
-            requires idle { IsIdle shared.now.mutex one }
-            requires there { 0 < length (plan_of shared.now.mutex) }
+            requires idle { IsIdle shared.mutex one }
+            requires there { 0 < length (plan_of shared.mutex) }
         { raise(rt, &shared, first, one, 0) },
         ||
-            requires idle { IsIdle shared.now.mutex two }
-            requires there { 1 < length (plan_of shared.now.mutex) }
+            requires idle { IsIdle shared.mutex two }
+            requires there { 1 < length (plan_of shared.mutex) }
         { raise(rt, &shared, second, two, 1) },
     );
     Ok(shared.count.load(Ordering::SeqCst))

@@ -113,16 +113,16 @@ pub(crate) fn torn<R: Threads + Wait + Sync>(rt: &R, alloc: Global) -> Result<u6
     let ((), torn) = join(
         rt,
         ||
-            requires own { SitsAt shared.now.semaphore writer }
+            requires own { SitsAt shared.semaphore writer }
             requires numberless { (hand_in writer).task ≡ None }
-            requires there { 0 < length (plan_of shared.now.semaphore) }
+            requires there { 0 < length (plan_of shared.semaphore) }
         { write(rt, &shared, cpu, writer, 0) },
         || -> u64
-            requires one { SitsAt shared.now.semaphore one }
+            requires one { SitsAt shared.semaphore one }
             requires first { (hand_in one).task ≡ None }
-            requires two { SitsAt shared.now.semaphore two }
+            requires two { SitsAt shared.semaphore two }
             requires second { (hand_in two).task ≡ None }
-            requires there { 2 < length (plan_of shared.now.semaphore) }
+            requires there { 2 < length (plan_of shared.semaphore) }
         { read_twice(rt, &shared, (one, first), (two, second)) },
     );
     Ok(torn)
