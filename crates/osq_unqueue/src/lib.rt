@@ -124,4 +124,6 @@ pub fn lock<C: Cpu, W: Wait>(osq: &Osq, rt: &W, pass: &mut OsqPass, cpu: &mut C)
 }
 
 #[cfg(test)]
+mod leave_tests;
+#[cfg(test)]
 mod tests;
