@@ -17,3 +17,5 @@ mod queue_tests;
 mod site_tests;
 #[cfg(test)]
 mod spin_tests;
+#[cfg(test)]
+mod successive_leave_tests;
