@@ -4,7 +4,9 @@ ghost use Rattle.lock_core.specs.Records.{IsPlan};
 ghost use Rattle.vma_map.specs.Spaces.{space};
 
 use crate::at_once::{Start, history_of_four};
-use crate::plans::{fault_page, int_map_page, populate_pages, push_calls, signal_task, try_map_page};
+use crate::plans::{
+    fault_page, int_map_page, populate_pages, push_calls, signal_task, try_map_page,
+};
 use cpu_task::{Gate, HoldGate, ParkCrew};
 use guarded::RwSem;
 use lock_core::Plan;

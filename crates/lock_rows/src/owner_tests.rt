@@ -5,7 +5,9 @@ ghost use Rattle.lock_core.specs.Handles.{hand_in, held_in, SaysSame};
 ghost use Rattle.mutex_word.specs.Handles.{plan_of, SitsAt};
 
 use crate::calls::{interrupt, perform, send, take, try_next};
-use crate::plans::{each_maps, fault_page, int_fault_page, map_page, push_calls, signal_task, try_map_page};
+use crate::plans::{
+    each_maps, fault_page, int_fault_page, map_page, push_calls, signal_task, try_map_page,
+};
 use crate::rounds::four_at_once;
 use lock_core::{Held, Interrupted, Plan};
 use mutex_word::{OwnerPass, OwnerSite};

@@ -2,8 +2,8 @@
 use std::io::{self, ErrorKind, Read, Write};
 use std::test::Fail;
 use task_script::{
-    Failed, Line, MemSink, MemSource, Outbox, ReadSource, Sink, Source, WriteSink, generate, put, read,
-    write,
+    Failed, Line, MemSink, MemSource, Outbox, ReadSource, Sink, Source, WriteSink, generate, put,
+    read, write,
 };
 
 #[test]

@@ -3,9 +3,9 @@ ghost use Rattle.mutex_slow.specs.Standing.{IsHolder, IsReady};
 
 use super::lockers::{NO_TURNS, how_it_locks};
 use super::watched::{Watch, WatchedCrew, await_count};
-use mutex_slow::{Mutex, MutexPass};
 use cpu_task::Crew;
 use lock_core::{How, Nothing, Plan};
+use mutex_slow::{Mutex, MutexPass};
 use std::sync::Wait;
 use std::sync::atomic::Ordering;
 use std::test::Fail;

@@ -3,9 +3,9 @@ ghost use Rattle.mutex_slow.specs.Standing.{IsHolder, IsReady};
 
 use super::lockers::{NO_TURNS, how_it_locks};
 use super::watched::{LOOKS, Watch, WatchedCpu, WatchedCrew, await_count};
-use mutex_slow::{Mutex, MutexPass};
 use cpu_task::{Crew, ScriptedCrew, Turns};
 use lock_core::{How, Nothing, Plan};
+use mutex_slow::{Mutex, MutexPass};
 use std::sync::Wait;
 use std::test::Fail;
 use std::thread::{Threads, join};

@@ -6,9 +6,9 @@ ghost use Rattle.mutex_slow.specs.Standing.{IsReady};
 
 use super::lockers::NO_TURNS;
 use super::watched::{Watch, WatchedCrew};
-use mutex_slow::{Mutex, MutexPass};
 use cpu_task::Crew;
 use lock_core::{Interrupted, Nothing, Plan};
+use mutex_slow::{Mutex, MutexPass};
 use std::sync::atomic::Ordering;
 use std::test::Fail;
 use word_bits::{CallWords, MAX_TASKS};

@@ -1,9 +1,9 @@
 //! How a task takes a mutex, for tests.
 ghost use Rattle.mutex_slow.specs.Standing.{IsReady};
 
-use mutex_slow::{Mutex, MutexPass};
 use cpu_task::{Crew, Turns};
 use lock_core::{How, Nothing};
+use mutex_slow::{Mutex, MutexPass};
 use std::sync::Wait;
 
 /// A task doesn't spin. A scripted CPU takes its turns from its lists: where they are empty it

@@ -3,9 +3,9 @@
 ghost use Rattle.std.specs.Prelude.{◌<◌, ◌+◌, length};
 ghost use Rattle.mutex_slow.specs.Handles.{IsIdle, plan_of};
 
-use mutex_slow::{Mutex, MutexPass};
 use cpu_task::{Crew, ParkCpu, ParkCrew, Turns};
 use lock_core::{How, Nothing, Plan};
+use mutex_slow::{Mutex, MutexPass};
 use std::sync::Wait;
 use std::sync::atomic::{AtomicU64, Ordering};
 use std::test::Fail;

@@ -4,9 +4,9 @@ ghost use Rattle.std.specs.Prelude.{◌≡◌, None};
 ghost use Rattle.rwsem_slow.specs.Handles.{hand_in};
 ghost use Rattle.rwsem_slow.specs.Standing.{IsReady};
 
-use rwsem_slow::{RwPass, RwSem};
 use cpu_task::{Crew, ScriptedCrew, Turns};
 use lock_core::{Interrupted, Nothing, Plan};
+use rwsem_slow::{RwPass, RwSem};
 use std::test::Fail;
 use word_bits::{CallWords, MAX_TASKS};
 

@@ -1,7 +1,7 @@
 //! What no clause says: the counts that calls answer as several tasks use a semaphore.
-use rwsem_slow::RwSem;
 use cpu_task::ParkCrew;
 use lock_core::{Held, Nothing, Plan};
+use rwsem_slow::RwSem;
 use std::test::Fail;
 
 #[test]
