@@ -10,4 +10,5 @@ pub mod Gathering
 pub mod SiteLocks
 pub mod MutexLocks
 pub mod RwSemLocks
+pub mod SpinQueues
 pub mod LockLaws

@@ -4,7 +4,7 @@ ghost use Rattle.lock_core.specs.declared.view.Held.TheVariants.{No};
 ghost use Rattle.lock_core.specs.Records.{row, IsPlan};
 ghost use Rattle.lock_core.specs.Views.{gave_up, gathered};
 ghost use Rattle.lock_core.specs.Passes.{Numbered};
-ghost use Rattle.lock_core.specs.Pasts.{EachMoment, Paced, Tail};
+ghost use Rattle.lock_core.specs.Pasts.{EachMoment, GoesOn, Paced, Tail};
 ghost use Rattle.lock_core.specs.Stated.{IsNew};
 ghost use Rattle.lock_core.specs.Kinds.{unavailable};
 ghost use Rattle.lock_core.specs.Shown.{AllButHand, IsLatestStep, PastGoesOn, shown_new, shown_split};
@@ -140,6 +140,19 @@ impl<L: SleepLock<O>, O: Served + Drop> Guarded<L, O> {
         ensures told { L.tells (L.calls_on (lock_of self.now)) (L.view pass.new) }
     {
         self.lock.recall(pass);
+    }
+
+    /// Loads a word of the lock's spin queue, if it has one, after which the pass knows of each
+    /// moment of the queue so far, from the empty one on, what the lock tells of it.
+    pub fn recall_queue(&self, pass: &mut L::Pass)
+        requires own { L.sits (lock_of self.now) pass.old }
+        ensures own { L.sits (lock_of self.now) pass.new }
+        ensures goes_on { GoesOn (L.spun pass.old) (L.spun pass.new) }
+        ensures kept { L.view pass.new ≡ L.view pass.old }
+        ensures told { L.tells_queue (L.calls_on (lock_of self.now)) (L.view pass.new)
+            (L.spun pass.new) }
+    {
+        self.lock.recall_queue(pass);
     }
 
     /// How many tasks the plan has.

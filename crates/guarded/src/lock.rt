@@ -12,7 +12,7 @@ ghost use Rattle.lock_core.specs.Plans.{IsSmall};
 ghost use Rattle.lock_core.specs.Records.{row, IsPlan, IsCallOrSignal};
 ghost use Rattle.lock_core.specs.Views.{next_entry, wrote, committed, noted, sending, gave_up, gathered, Knows, Unsent};
 ghost use Rattle.lock_core.specs.Passes.{IsChange, IsSignal, MayNote, Numbered, IsEntryWord};
-ghost use Rattle.lock_core.specs.Pasts.{EachMoment, FoundAt, Paced, Tail};
+ghost use Rattle.lock_core.specs.Pasts.{EachMoment, FoundAt, GoesOn, Paced, Tail};
 ghost use Rattle.lock_core.specs.Stated.{IsNew};
 ghost use Rattle.lock_core.specs.Chronicles.{Chronicles};
 ghost use Rattle.lock_core.specs.Kinds.{Kind, unavailable, shares, wakes_shared, wakes_alone};
@@ -52,8 +52,25 @@ pub trait SleepLock<O: Object>: Sized {
     // What this lock tells of its own, beside what every lock does, to a pass that looks back.
     ghost tells: { Calls → Shown → Type 0 };
 
+    // What this lock tells of its spin queue, if it has one, to a pass that looks back at that.
+    ghost tells_queue: { Calls → Shown → List Moment → Type 0 };
+
+    // What a try to hold alone does to this lock, the end of a shared hold, that of an exclusive
+    // one, and a downgrade, beside what they do to every lock.
+    ghost tries_alone: { Shown → Shown → Type 0 };
+
+    ghost ends_shared: { Shown → Shown → Type 0 };
+
+    ghost ends_alone: { Shown → Shown → Type 0 };
+
+    ghost turns_shared: { Shown → Shown → Type 0 };
+
     // What callers see of a pass.
     ghost view: { Self.Pass → Shown };
+
+    // The moments of the lock's spin queue up to the pass's last step on that queue, the last one
+    // first, and none where the lock has no such queue.
+    ghost spun: { Self.Pass → List Moment };
 
     // The pass is one of this lock's, and no call on it is under way.
     ghost sits: { Self → Self.Pass → Type 0 };
@@ -127,6 +144,16 @@ pub trait SleepLock<O: Object>: Sized {
             (view pass.new).past }
         ensures moves { Paced (IsSiteStep (calls_on self.now)) (view pass.new).past }
         ensures told { tells (calls_on self.now) (view pass.new) };
+
+    /// Loads a word of the lock's spin queue, if it has one, after which the pass knows of each
+    /// moment of the queue so far, from the empty one on, what this lock tells of it
+    /// (`tells_queue`).
+    fn recall_queue(&self, pass: &mut Self::Pass)
+        requires own { sits self.now pass.old }
+        ensures own { sits self.now pass.new }
+        ensures goes_on { GoesOn (spun pass.old) (spun pass.new) }
+        ensures kept { view pass.new ≡ view pass.old }
+        ensures told { tells_queue (calls_on self.now) (view pass.new) (spun pass.new) };
 
     /// A guarded word.
     fn word(&self, pass: &mut Self::Pass, at: usize) -> u64
@@ -376,7 +403,8 @@ pub trait SleepLock<O: Object>: Sized {
             (view pass.old) (view pass.new)) }
         ensures at_once { IfOk result (λ _. Got Fast (view pass.old) (view pass.new)) }
         ensures missed { IfErr result (λ word.
-            Misses kind false word_at word (view pass.old) (view pass.new)) };
+            Misses kind false word_at word (view pass.old) (view pass.new)) }
+        ensures tried { tries_alone (view pass.old) (view pass.new) };
 
     /// Ends a hold that a shared call or a downgrade left.
     fn release_shared<W: Wait, C: Crew>(&self, rt: &W, pass: &mut Self::Pass, crew: &C)
@@ -385,7 +413,8 @@ pub trait SleepLock<O: Object>: Sized {
         requires quiet { (view pass.old).hand.writes ≡ false }
         ensures own { sits self.now pass.new }
         ensures goes_on { PastGoesOn (view pass.old) (view pass.new) }
-        ensures released { Releases (wakes_shared kind) (view pass.old) (view pass.new) };
+        ensures released { Releases (wakes_shared kind) (view pass.old) (view pass.new) }
+        ensures left { ends_shared (view pass.old) (view pass.new) };
 
     /// Ends an exclusive hold.
     fn release_alone<W: Wait, C: Crew>(&self, rt: &W, pass: &mut Self::Pass, crew: &C)
@@ -394,7 +423,8 @@ pub trait SleepLock<O: Object>: Sized {
         requires quiet { (view pass.old).hand.writes ≡ false }
         ensures own { sits self.now pass.new }
         ensures goes_on { PastGoesOn (view pass.old) (view pass.new) }
-        ensures released { Releases (wakes_alone kind) (view pass.old) (view pass.new) };
+        ensures released { Releases (wakes_alone kind) (view pass.old) (view pass.new) }
+        ensures left { ends_alone (view pass.old) (view pass.new) };
 
     /// Makes of an exclusive hold what a shared call leaves, without a moment between.
     fn downgrade<W: Wait, C: Crew>(&self, rt: &W, pass: &mut Self::Pass, crew: &C)
@@ -403,7 +433,8 @@ pub trait SleepLock<O: Object>: Sized {
         requires quiet { (view pass.old).hand.writes ≡ false }
         ensures own { sits self.now pass.new }
         ensures goes_on { PastGoesOn (view pass.old) (view pass.new) }
-        ensures downgraded { Downgrades kind (view pass.old) (view pass.new) };
+        ensures downgraded { Downgrades kind (view pass.old) (view pass.new) }
+        ensures left { turns_shared (view pass.old) (view pass.new) };
 
     // Laws: entries and records of its calls fit into words, and what a pass of the lock is.
     ghost small: { (l : Self) → IsSmall (calls_on l) };

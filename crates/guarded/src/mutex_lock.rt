@@ -9,12 +9,15 @@ use std::sync::Wait;
 use word_bits::{CallWords, Object, Reply};
 
 impl<O: Object> SleepLock<O> for Mutex<O> {
+    ghost use Rattle.std.specs.Prelude.{◌≡◌};
     ghost use Rattle.lock_core.specs.Kinds.{mutex as mutex_kind};
-    ghost use Rattle.mutex_slow.specs.Handles.{newest, plan_of, shown_of, SitsAt};
+    ghost use Rattle.mutex_slow.specs.Handles.{newest, plan_of, shown_of, spun_of, SitsAt};
     ghost use Rattle.mutex_slow.specs.Mutexes.{owner_at};
+    ghost use Rattle.mutex_slow.specs.Places.{EndsHold};
     ghost use Rattle.mutex_slow.specs.Stated.{waits_on};
     ghost use Rattle.guarded.specs.MutexLocks.{KnowsMutex};
     ghost use Rattle.guarded.specs.SiteLocks.{SitsIdle};
+    ghost use Rattle.guarded.specs.SpinQueues.{KnowsSpinQueue};
     ghost use Rattle.guarded.specs.LockLaws.{mutex-stands};
 
     type Pass = MutexPass<O>;
@@ -31,7 +34,20 @@ impl<O: Object> SleepLock<O> for Mutex<O> {
 
     ghost tells = { λ k v. KnowsMutex O.object O.WORDS k v };
 
+    ghost tells_queue = { KnowsSpinQueue };
+
+    // A try makes another step where only flags changed meanwhile.
+    ghost tries_alone = { λ v u. Unit {0} };
+
+    ghost ends_shared = { EndsHold };
+
+    ghost ends_alone = { EndsHold };
+
+    ghost turns_shared = { λ v u. u ≡ v };
+
     ghost view = { shown_of };
+
+    ghost spun = { spun_of };
 
     ghost sits = { λ m p. SitsIdle O.object (plan_of m) (SitsAt m p) };
 
@@ -57,6 +73,10 @@ impl<O: Object> SleepLock<O> for Mutex<O> {
 
     fn recall(&self, pass: &mut MutexPass<O>) {
         self.recall(pass);
+    }
+
+    fn recall_queue(&self, pass: &mut MutexPass<O>) {
+        self.recall_spin_queue(pass);
     }
 
     fn word(&self, pass: &mut MutexPass<O>, at: usize) -> u64 {

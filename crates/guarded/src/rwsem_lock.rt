@@ -9,12 +9,16 @@ use std::sync::Wait;
 use word_bits::{CallWords, Object, Reply};
 
 impl<O: Object> SleepLock<O> for RwSem<O> {
-    ghost use Rattle.lock_core.specs.Kinds.{semaphore};
-    ghost use Rattle.rwsem_slow.specs.Handles.{newest, plan_of, shown_of, SitsAt};
+    ghost use Rattle.std.specs.Prelude.{◌≡◌, ◌+◌};
+    ghost use Rattle.lock_core.specs.declared.view.Held.TheVariants.{No, Shared};
+    ghost use Rattle.lock_core.specs.Kinds.{semaphore, wakes_alone, wakes_down, wakes_shared};
+    ghost use Rattle.rwsem_slow.specs.Handles.{newest, plan_of, shown_of, spun_of, SitsAt};
+    ghost use Rattle.rwsem_slow.specs.Releasing.{LeavesCount};
     ghost use Rattle.rwsem_slow.specs.RwSems.{count_at};
     ghost use Rattle.rwsem_slow.specs.Stated.{waits_on};
     ghost use Rattle.guarded.specs.RwSemLocks.{KnowsRwSem};
     ghost use Rattle.guarded.specs.SiteLocks.{SitsIdle};
+    ghost use Rattle.guarded.specs.SpinQueues.{KnowsSpinQueue};
     ghost use Rattle.guarded.specs.LockLaws.{rwsem-stands};
 
     type Pass = RwPass<O>;
@@ -31,7 +35,20 @@ impl<O: Object> SleepLock<O> for RwSem<O> {
 
     ghost tells = { λ k v. KnowsRwSem O.object O.WORDS k v };
 
+    ghost tells_queue = { KnowsSpinQueue };
+
+    // It is one step.
+    ghost tries_alone = { λ v u. u.steps ≡ v.steps + 1 };
+
+    ghost ends_shared = { LeavesCount (wakes_shared semaphore) No 256 0 };
+
+    ghost ends_alone = { LeavesCount (wakes_alone semaphore) No 1 0 };
+
+    ghost turns_shared = { LeavesCount (wakes_down semaphore) Shared 0 255 };
+
     ghost view = { shown_of };
+
+    ghost spun = { spun_of };
 
     ghost sits = { λ s p. SitsIdle O.object (plan_of s) (SitsAt s p) };
 
@@ -57,6 +74,10 @@ impl<O: Object> SleepLock<O> for RwSem<O> {
 
     fn recall(&self, pass: &mut RwPass<O>) {
         self.recall(pass);
+    }
+
+    fn recall_queue(&self, pass: &mut RwPass<O>) {
+        self.recall_spin_queue(pass);
     }
 
     fn word(&self, pass: &mut RwPass<O>, at: usize) -> u64 {

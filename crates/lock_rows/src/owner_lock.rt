@@ -16,6 +16,7 @@ pub struct OwnerLock<O: Object> {
 }
 
 impl<O: Object> SleepLock<O> for OwnerLock<O> {
+    ghost use Rattle.std.specs.Prelude.{◌≡◌, []};
     ghost use Rattle.lock_core.specs.Kinds.{mutex};
     ghost use Rattle.mutex_word.specs.Handles.{plan_of, shown_of};
     ghost use Rattle.lock_core.specs.Pasts.{EachMoment};
@@ -37,7 +38,21 @@ impl<O: Object> SleepLock<O> for OwnerLock<O> {
 
     ghost tells = { λ k v. EachMoment (IsOwnerSiteThen O.object O.WORDS k) v.past };
 
+    // It has no spin queue.
+    ghost tells_queue = { λ k v spun. spun ≡ [] };
+
+    // What every lock's calls do is all that is told of its own.
+    ghost tries_alone = { λ v u. Unit {0} };
+
+    ghost ends_shared = { λ v u. Unit {0} };
+
+    ghost ends_alone = { λ v u. Unit {0} };
+
+    ghost turns_shared = { λ v u. u ≡ v };
+
     ghost view = { shown_of };
+
+    ghost spun = { λ p. [] };
 
     ghost sits = { λ l p. SitsIdle O.object l.site p };
 
@@ -65,6 +80,8 @@ impl<O: Object> SleepLock<O> for OwnerLock<O> {
     fn recall(&self, pass: &mut OwnerPass<O>) {
         self.site.recall_holders(pass);
     }
+
+    fn recall_queue(&self, _pass: &mut OwnerPass<O>) {}
 
     fn word(&self, pass: &mut OwnerPass<O>, at: usize) -> u64 {
         self.site.word(pass, at)
