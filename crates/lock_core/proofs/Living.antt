@@ -1,10 +1,10 @@
 -- A step that is a move lengthens the run.
-use Rattle.std.proofs.Common.{◌≡◌, ℕ, zero, suc, ◌+◌, drop, List, [], ◌∷◌, ◌++◌, length, map, set, sym, refl, ap, ◌∙◌, subst, arith}
+use Rattle.std.proofs.Common.{◌≡◌, ℕ, zero, suc, ◌+◌, drop, List, [], ◌∷◌, ◌++◌, length, map, get_or, set, sym, refl, ap, ◌∙◌, subst, arith}
 use Rattle.std.proofs.lemmas.List.{drop_all, drop-drop}
 use mathlib.Core.Option.{some, some-ne-none}
 use mathlib.Core.List.{map-append}
 use lib.ListN.{get_elem?}
-use lib.Seq.{map-set}
+use lib.Seq.{map-set, set-get_or}
 use Rattle.atomic_table.proofs.Lists.{at_map}
 use Rattle.lock_core.specs.declared.view.View.{View}
 use Rattle.lock_core.specs.declared.view.Moment.{Moment}
@@ -12,7 +12,11 @@ use Rattle.lock_core.specs.declared.view.Seen.{Seen}
 use Rattle.lock_core.specs.Moves.{Goes}
 use Rattle.lock_core.specs.Parts.{each-set, each-snoc, set-there}
 use Rattle.lock_core.specs.Views.{hand_of, spin_of}
-use Rattle.lock_core.specs.Pasts.{Tail, GoesOn, Instant, instant, view_of, steps_of, fronts_of, marks_of, moment, Moves, Lived, IsMarked, IsOwnStep}
+use Rattle.lock_core.specs.Pasts.{Tail, ChangesOneWord, GoesOn, Instant, instant, view_of, steps_of, fronts_of, marks_of, moment, Moves, Lived, IsMarked, IsOwnStep}
+
+-- a step that changes no word
+same-words : (ws : List ℕ) → ChangesOneWord ws ws
+same-words ws = (0, get_or ws 0 0, sym (set-get_or ws 0 0))
 
 pub older : (x : Moment) (h p : List Moment) → Tail p h → Tail p (x ∷ h)
 older x h p t = (suc t.0, t.1)
@@ -29,12 +33,12 @@ module _ {E : Type 0} (marks : E → List ℕ) (begun : Moment) (holds : List �
   abbrev pub grown : List ℕ → List (View E) → List ℕ → List (Instant E) → ℕ → View E → Seen E
   grown ws vs ws' h id w = record { view = w; past = moment marks (instant ws' (set vs id w)) ∷ map (moment marks) (instant ws vs ∷ h) }
 
-  pub lived-after : (ws ws' : List ℕ) (vs : List (Seen E)) (id : ℕ) (w : View E) (r : Lived marks begun holds moves ws vs) → Goes holds moves id ws (map view_of vs) ws' (set (map view_of vs) id w) → Lived marks begun holds moves ws' (set vs id (grown ws (map view_of vs) ws' r.0 id w))
-  lived-after ws ws' vs id w r goes = let us : List (View E) = map view_of vs in let now : Instant E = instant ws us in let new : Instant E = instant ws' (set us id w) in let g : Seen E = grown ws us ws' r.0 id w in let h : List Moment = map (moment marks) (now ∷ r.0) in
+  pub lived-after : (ws ws' : List ℕ) (vs : List (Seen E)) (id : ℕ) (w : View E) (r : Lived marks begun holds moves ws vs) → Goes holds moves id ws (map view_of vs) ws' (set (map view_of vs) id w) → ChangesOneWord ws ws' → Lived marks begun holds moves ws' (set vs id (grown ws (map view_of vs) ws' r.0 id w))
+  lived-after ws ws' vs id w r goes one = let us : List (View E) = map view_of vs in let now : Instant E = instant ws us in let new : Instant E = instant ws' (set us id w) in let g : Seen E = grown ws us ws' r.0 id w in let h : List Moment = map (moment marks) (now ∷ r.0) in
       subst (λ (z : List (View E)). (h : List (Instant E)) × holds ws' z × Rattle.lock_core.specs.Pasts.Paced (Moves holds moves) (instant ws' z ∷ h) × Tail (begun ∷ []) (map (moment marks) (instant ws' z ∷ h)) × Rattle.lock_core.specs.Parts.Each (λ (v : Seen E). Tail v.past (map (moment marks) (instant ws' z ∷ h))) (set vs id g)) (sym (map-set view_of vs id g)) (
         now ∷ r.0,
         goes.0,
-        ((id, r.1, goes.0, goes.1), r.2),
+        ((id, r.1, goes.0, goes.1, one), r.2),
         older (moment marks new) h (begun ∷ []) r.3,
         each-set (λ (v : Seen E). Tail v.past h) (λ (v : Seen E). Tail v.past (moment marks new ∷ h)) vs id g (zero, refl) (λ j v _ _ t. older (moment marks new) h v.past t) r.4,
       )
@@ -46,7 +50,7 @@ module _ {E : Type 0} (marks : E → List ℕ) (begun : Moment) (holds : List �
       subst (λ (z : List (View E)). (h : List (Instant E)) × holds ws z × Rattle.lock_core.specs.Pasts.Paced (Moves holds moves) (instant ws z ∷ h) × Tail (begun ∷ []) (map (moment marks) (instant ws z ∷ h)) × Rattle.lock_core.specs.Parts.Each (λ (v : Seen E). Tail v.past (map (moment marks) (instant ws z ∷ h))) (set vs id x ++ y ∷ [])) (sym is) (
         now ∷ r.0,
         goes.0,
-        ((id, r.1, goes.0, goes.1), r.2),
+        ((id, r.1, goes.0, goes.1, same-words ws), r.2),
         older (moment marks new) h (begun ∷ []) r.3,
         each-snoc (λ (v : Seen E). Tail v.past (moment marks new ∷ h)) (set vs id x) y (older (moment marks new) h v.past (r.4 id v at))
             (each-set (λ (v : Seen E). Tail v.past h) (λ (v : Seen E). Tail v.past (moment marks new ∷ h)) vs id x (older (moment marks new) h v.past (r.4 id v at)) (λ j v _ _ t. older (moment marks new) h v.past t) r.4),
@@ -59,7 +63,7 @@ module _ {E : Type 0} (marks : E → List ℕ) (begun : Moment) (holds : List �
       subst (λ (z : List (View E)). (h : List (Instant E)) × holds ws z × Rattle.lock_core.specs.Pasts.Paced (Moves holds moves) (instant ws z ∷ h) × Tail (begun ∷ []) (map (moment marks) (instant ws z ∷ h)) × Rattle.lock_core.specs.Parts.Each (λ (v : Seen E). Tail v.past (map (moment marks) (instant ws z ∷ h))) (set (set vs id x) other y)) (sym is) (
         now ∷ r.0,
         goes.0,
-        ((id, r.1, goes.0, goes.1), r.2),
+        ((id, r.1, goes.0, goes.1, same-words ws), r.2),
         older (moment marks new) h (begun ∷ []) r.3,
         each-set (λ (v : Seen E). Tail v.past (moment marks new ∷ h)) (λ (v : Seen E). Tail v.past (moment marks new ∷ h)) (set vs id x) other y (none-seen (moment marks new ∷ h)) (λ j v _ _ t. t)
             (each-set (λ (v : Seen E). Tail v.past h) (λ (v : Seen E). Tail v.past (moment marks new ∷ h)) vs id x (older (moment marks new) h v.past (r.4 id v at)) (λ j v _ _ t. older (moment marks new) h v.past t) r.4),

@@ -21,10 +21,10 @@ use Rattle.lock_core.specs.Layout.{SiteWords, lay, site}
 use Rattle.lock_core.specs.Views.{SpinStays, hand_of, handed, seated, forgot, with_number, ticked, split_off, merged, spent, stranger, gathered}
 use Rattle.lock_core.specs.Sites.{HandGoes, SiteKept, SiteStep}
 use Rattle.lock_core.specs.Moves.{Goes, Lets, KeepsHold, SiteMove}
-use Rattle.lock_core.specs.MoveLaws.{set-moves, tick-moved, seat-moved, hand-moved, leaves-site}
+use Rattle.lock_core.specs.MoveLaws.{saw-stays, set-moves, tick-moved, seat-moved, hand-moved, leaves-site}
 use Rattle.lock_core.specs.Plays.{Found, PutBy, Begun, Heeded}
 use Rattle.lock_core.specs.declared.view.Moment.{Moment}
-use Rattle.lock_core.specs.Pasts.{GoesOn, Instant, instant, view_of, moment, Moves, Lived, Ran, IsMarked, IsOwnStep}
+use Rattle.lock_core.specs.Pasts.{ChangesOneWord, GoesOn, Instant, instant, view_of, moment, Moves, Lived, Ran, IsMarked, IsOwnStep}
 use Rattle.lock_core.proofs.RowLaws.{same-some}
 use Rattle.lock_core.proofs.Living.{older, goes-on, grown, lived-after, own-step, own-marks}
 use Rattle.lock_core.proofs.Steps.{loads, stores, exchanges, modifies}
@@ -32,9 +32,9 @@ use Rattle.lock_core.proofs.SeatSteps.{site-splits, site-gathers, site-leaves}
 
 module _ {E Call : Type 0} (o : Obj Call) (unavailable : Unavailable) (size : ℕ) (k : Plan) (rests : View E → Type 0)
     (holds : List ℕ → List (View E) → Type 0) (moves : ℕ → List ℕ → List (View E) → List ℕ → List (View E) → Type 0)
-    (kept : (ws : List ℕ) (vs : List (View E)) → holds ws vs → SiteKept o unavailable size k (site k ws) (map hand_of vs))
+    (word_at : ℕ) (kept : (ws : List ℕ) (vs : List (View E)) → holds ws vs → SiteKept o unavailable size k (site k ws) (map hand_of vs))
     (sites : (ws : List ℕ) (vs : List (View E)) (id i n : ℕ) (v : View E) (h : Hand) (s : SpinHand) → holds ws vs → get_elem? vs id ≡ some v → KeepsHold rests v h → SpinStays v.spin s
-    → SiteKept o unavailable size k (site k (set ws (LOCK_WORDS + i) n)) (set (map hand_of vs) id h) → SiteMove id (site k ws) vs (site k (set ws (LOCK_WORDS + i) n)) (set vs id (seated v h s))
+    → SiteKept o unavailable size k (site k (set ws (LOCK_WORDS + i) n)) (set (map hand_of vs) id h) → SiteMove id (get_or ws word_at 0) (site k ws) vs (site k (set ws (LOCK_WORDS + i) n)) (set vs id (seated v h s))
     → Goes holds moves id ws vs (set ws (LOCK_WORDS + i) n) (set vs id (seated v h s))) where
   abbrev M : Type 0
   M = Me (Unit {0}) (View E)
@@ -46,8 +46,8 @@ module _ {E Call : Type 0} (o : Obj Call) (unavailable : Unavailable) (size : �
   looks ws vs id at v h there = let n : ℕ = get_or ws (LOCK_WORDS + at) 0 in let same : set ws (LOCK_WORDS + at) n ≡ ws = set-get_or ws (LOCK_WORDS + at) 0 in
       let keeps : Kept (site k (set ws (LOCK_WORDS + at) n)) (set (map hand_of vs) id v.hand) = subst (λ (z : List ℕ). Kept (site k z) (set (map hand_of vs) id v.hand)) (sym same)
       (subst (Kept (site k ws)) (sym (set_again (map hand_of vs) id v.hand (at_map hand_of vs id v there))) (kept ws vs h)) in
-      let step : SiteMove id (site k ws) vs (site k (set ws (LOCK_WORDS + at) n)) (set vs id (ticked v)) = subst (λ (z : List ℕ). SiteMove id (site k ws) vs (site k z) (set vs id (ticked v))) (sym same) (set-moves id (site k ws) (site k ws) vs v (ticked v) there (tick-moved (site k ws) v)) in
-      subst (λ (z : List ℕ). Goes holds moves id ws vs z (set vs id (ticked v))) same (sites ws vs id at n v v.hand v.spin h there (refl, inl refl) (inl refl) keeps step)
+      let step : SiteMove id (get_or ws word_at 0) (site k ws) vs (site k (set ws (LOCK_WORDS + at) n)) (set vs id (ticked v)) = subst (λ (z : List ℕ). SiteMove id (get_or ws word_at 0) (site k ws) vs (site k z) (set vs id (ticked v))) (sym same) (set-moves id (site k ws) (site k ws) vs v (ticked v) there (tick-moved (site k ws) v)) in
+      subst (λ (z : List ℕ). Goes holds moves id ws vs z (set vs id (ticked v))) same (sites ws vs id at n v v.hand v.spin h there (refl, inl refl, saw-stays v.hand) (inl refl) keeps step)
 
   -- a load that tells something
   pub finds : (tells : Hand → ℕ → ℕ → Type 0) (slots id at : ℕ) (me : M) → ((s : List ℕ) (hs : List Hand) → Kept (lay k s) hs → get_elem? hs id ≡ some me.0.hand → tells me.0.hand at (get_or s at 0))
@@ -59,7 +59,7 @@ module _ {E Call : Type 0} (o : Obj Call) (unavailable : Unavailable) (size : �
   changes : (ws : List ℕ) (vs : List (View E)) (id at new : ℕ) (v : View E) (g : Hand) (s : SpinHand) → holds ws vs → get_elem? vs id ≡ some v → KeepsHold rests v g → SpinStays v.spin s
       → Kept (lay k (set (drop LOCK_WORDS ws) at new)) (set (map hand_of vs) id g) × SiteStep (lay k (drop LOCK_WORDS ws)) (lay k (set (drop LOCK_WORDS ws) at new)) v.hand g → Goes holds moves id ws vs (set ws (LOCK_WORDS + at) new) (set vs id (seated v g s))
   changes ws vs id at new v g s h there same stays step = let e : lay k (set (drop LOCK_WORDS ws) at new) ≡ site k (set ws (LOCK_WORDS + at) new) = sym (ap (lay k) (drop-set-add LOCK_WORDS ws at new)) in
-      sites ws vs id at new v g s h there same stays (subst (λ (w : SiteWords). Kept w (set (map hand_of vs) id g)) e step.0) (set-moves id (site k ws) (site k (set ws (LOCK_WORDS + at) new)) vs v (seated v g s) there (seat-moved (site k ws) (site k (set ws (LOCK_WORDS + at) new)) v g s stays (subst (λ (w : SiteWords). SiteStep (site k ws) w v.hand g) e step.1)))
+      sites ws vs id at new v g s h there same stays (subst (λ (w : SiteWords). Kept w (set (map hand_of vs) id g)) e step.0) (set-moves id (site k ws) (site k (set ws (LOCK_WORDS + at) new)) vs v (seated v g s) there (seat-moved (site k ws) (site k (set ws (LOCK_WORDS + at) new)) v g s stays same.2 (subst (λ (w : SiteWords). SiteStep (site k ws) w v.hand g) e step.1)))
 
   pub puts : (slots id at new : ℕ) (me : M) (g : Hand) → KeepsHold rests me.0 g
       → ((s : List ℕ) (hs : List Hand) → Kept (lay k s) hs → get_elem? hs id ≡ some me.0.hand → Kept (lay k (set s at new)) (set hs id g) × SiteStep (lay k s) (lay k (set s at new)) me.0.hand g)
@@ -85,7 +85,7 @@ module _ {E Call : Type 0} (o : Obj Call) (unavailable : Unavailable) (size : �
         w,
         keeps,
         tt,
-        sites ws vs id at n v t.0 v.spin h there t.2 (inl refl) (subst (λ (z : List ℕ). Kept (site k z) (set (map hand_of vs) id t.0)) (sym same) t.3) (subst (λ (z : List ℕ). SiteMove id (site k ws) vs (site k z) (set vs id w)) (sym same) (set-moves id (site k ws) (site k ws) vs v w there (hand-moved (site k ws) (site k ws) v t.0 (leaves-site (site k ws) v.hand t.0 t.4)))),
+        sites ws vs id at n v t.0 v.spin h there t.2 (inl refl) (subst (λ (z : List ℕ). Kept (site k z) (set (map hand_of vs) id t.0)) (sym same) t.3) (subst (λ (z : List ℕ). SiteMove id (get_or ws word_at 0) (site k ws) vs (site k z) (set vs id w)) (sym same) (set-moves id (site k ws) (site k ws) vs v w there (hand-moved (site k ws) (site k ws) v t.0 t.2.2 (leaves-site (site k ws) v.hand t.0 t.4)))),
         refl,
         (t.0, subst (λ (z : ℕ). becomes v.hand z t.0) (get_or-drop LOCK_WORDS ws at 0) t.1, (refl, refl)),
       )
@@ -118,10 +118,10 @@ module _ {E : Type 0} (k : Plan) (marks : E → List ℕ) (begun : Plan → Mome
       → Allows (λ s. Lived marks (begun k) (holds k) (moves k) s.words s.views) slots id me 0 (λ n. n)
       (λ n m'. (m'.0.view ≡ ticked me.0.view) × (m'.1 ≡ me.1) × GoesOn me.0.past m'.0.past × IsOwnStep m'.0.view m'.0.past × IsMarked marks m'.0.view m'.0.past × ((p : Plan) → me.0.view.hand.plan ≡ Some p → Ran marks (begun p) (Moves (holds p) (moves p)) m'.0.past))
   recalls slots id me plan looks s r l at small = let vs : List (View E) = map view_of s.views in let v = me.0.view in let there = at_map view_of s.views id me.0 at in let ws' : List ℕ = set s.words 0 (get_or s.words 0 0) in
-      let goes : Goes (holds k) (moves k) id s.words vs ws' (set vs id (ticked v)) = subst (λ (z : List ℕ). Goes (holds k) (moves k) id s.words vs z (set vs id (ticked v))) (sym (set-get_or s.words 0 0)) (looks s.words vs id 0 v r.1 there) in
-      let lived = lived-after marks (begun k) (holds k) (moves k) s.words ws' s.views id (ticked v) r goes in let g : Seen E = grown marks (begun k) (holds k) (moves k) s.words vs ws' r.0 id (ticked v) in let new : Instant E = instant ws' (set vs id (ticked v)) in let now : Instant E = instant s.words vs in
+      let one : ChangesOneWord s.words ws' = (0, get_or s.words 0 0, refl) in let goes : Goes (holds k) (moves k) id s.words vs ws' (set vs id (ticked v)) = subst (λ (z : List ℕ). Goes (holds k) (moves k) id s.words vs z (set vs id (ticked v))) (sym (set-get_or s.words 0 0)) (looks s.words vs id 0 v r.1 there) in
+      let lived = lived-after marks (begun k) (holds k) (moves k) s.words ws' s.views id (ticked v) r goes one in let g : Seen E = grown marks (begun k) (holds k) (moves k) s.words vs ws' r.0 id (ticked v) in let new : Instant E = instant ws' (set vs id (ticked v)) in let now : Instant E = instant s.words vs in
       let h : List Moment = map (moment marks) (now ∷ r.0) in
-      let ran : Ran marks (begun k) (Moves (holds k) (moves k)) g.past = (new ∷ now ∷ r.0, refl, older (moment marks new) h (begun k ∷ []) r.3, ((id, r.1, goes.0, goes.1), r.2)) in (
+      let ran : Ran marks (begun k) (Moves (holds k) (moves k)) g.past = (new ∷ now ∷ r.0, refl, older (moment marks new) h (begun k ∷ []) r.3, ((id, r.1, goes.0, goes.1, one), r.2)) in (
         g,
         keeps,
         tt,

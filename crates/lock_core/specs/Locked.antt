@@ -11,7 +11,8 @@ use Rattle.lock_core.specs.declared.view.Held.TheVariants.{No, Shared, Alone}
 use Rattle.lock_core.specs.declared.view.Moment.{Moment}
 use Rattle.lock_core.specs.Layout.{site}
 use Rattle.lock_core.specs.Parts.{Each}
-use Rattle.lock_core.specs.Sites.{SiteStep}
+use Rattle.lock_core.specs.Pasts.{ChangesOneWord}
+use Rattle.lock_core.specs.Sites.{SawGoes, SiteStep}
 use Rattle.lock_core.specs.Stated.{IsSiteThen}
 use Rattle.lock_core.specs.Totals.{total}
 use Rattle.lock_core.specs.Views.{alone_of}
@@ -70,8 +71,8 @@ pub record SamePass (id : ℕ) (x y : Moment) : Type 0 where
   pub fronts : get_elem? y.fronts id ≡ get_elem? x.fronts id
   pub marks : get_elem? y.marks id ≡ get_elem? x.marks id
 
--- one pass led from the first moment to the second, in one counted step that did to the site's words what every step of a site does; every other pass that is still there is as it was
-pub record IsSiteStep (k : Plan) (x y : Moment) : Type 0 where
+-- one pass led from the first moment to the second, in one counted step that changed no word but one, and did to the site's words what every step of a site does; the lock's word stands at this place; every other pass that is still there is as it was
+pub record IsSiteStep (k : Plan) (word_at : ℕ) (x y : Moment) : Type 0 where
   pub id : ℕ
   pub before : Hand
   pub after : Hand
@@ -81,4 +82,7 @@ pub record IsSiteStep (k : Plan) (x y : Moment) : Type 0 where
   pub had : ℕ
   pub had_steps : get_elem? x.steps id ≡ some had
   pub has_steps : get_elem? y.steps id ≡ some (had + 1)
+  pub one_word : ChangesOneWord x.words y.words
+  -- a word that it newly keeps as seen was the lock's, at this step
+  pub tries : SawGoes (had + 1) (slice_index x.words word_at) before after
   pub others : (j : ℕ) (h g : Hand) → j ≢ id → get_elem? x.hands j ≡ some h → get_elem? y.hands j ≡ some g → g.plan ≢ None → SamePass j x y

@@ -15,7 +15,7 @@ use Rattle.lock_core.specs.Stated.{IsSiteMove}
 use Rattle.lock_core.specs.Kinds.{Kind, mutex, semaphore, shares}
 use Rattle.lock_core.specs.Locked.{IsSiteStep, SamePass}
 
-module _ {E : Type 0} (marks : E → List ℕ) (k : Plan) where
+module _ {E : Type 0} (marks : E → List ℕ) (k : Plan) (word_at : ℕ) where
   -- a view that stays leaves all that the moments have of its pass
   pub same-view : (x y : Instant E) (j : ℕ) (v u : View E) → get_elem? x.views j ≡ some v → get_elem? y.views j ≡ some u → u ≡ v → SamePass j (moment marks x) (moment marks y)
   same-view x y j v u at at' same = record { hand = part hand_of; spin = part spin_of; steps = part steps_of; fronts = part fronts_of; marks = part (marks_of marks) }
@@ -23,7 +23,7 @@ module _ {E : Type 0} (marks : E → List ℕ) (k : Plan) where
       part : {A : Type 0} (f : View E → A) → get_elem? (map f y.views) j ≡ get_elem? (map f x.views) j
       part f = at_map f y.views j u at' ∙ (ap (λ (w : View E). some (f w)) same ∙ sym (at_map f x.views j v at))
 
-  abbrev pub move-steps : (x y : Instant E) → IsSiteMove k x y → IsSiteStep k (moment marks x) (moment marks y)
+  abbrev pub move-steps : (x y : Instant E) → IsSiteMove k word_at x y → IsSiteStep k word_at (moment marks x) (moment marks y)
   move-steps x y m = record {
     id = m.0;
     before = m.1.before.hand;
@@ -34,17 +34,19 @@ module _ {E : Type 0} (marks : E → List ℕ) (k : Plan) where
     had = m.1.before.steps;
     had_steps = at_map steps_of x.views m.0 m.1.before m.1.at;
     has_steps = at_map steps_of y.views m.0 m.1.after m.1.at' ∙ ap some m.1.moved.counts;
+    one_word = m.2;
+    tries = m.1.moved.tries;
     others = λ j h g apart at at' live. let v = at_unmap hand_of x.views j h at in let u = at_unmap hand_of y.views j g at' in
         same-view x y j v.0 u.0 v.1 u.1 (m.1.others j v.0 u.0 apart v.1 u.1 (λ none. live (ap {A = Hand} (λ h. h.plan) (sym u.2) ∙ none)));
   }
 
-  run-steps : (h : List (Instant E)) → Paced (IsSiteMove k) h → Paced (IsSiteStep k) (map (moment marks) h)
+  run-steps : (h : List (Instant E)) → Paced (IsSiteMove k word_at) h → Paced (IsSiteStep k word_at) (map (moment marks) h)
   run-steps [] p = tt
   run-steps (y ∷ []) p = (tt, tt)
   run-steps (y ∷ x ∷ h) p = (move-steps x y p.0, run-steps (x ∷ h) p.1)
 
-  pub ran-steps : (begun : Moment) (past : List Moment) → Ran marks begun (IsSiteMove k) past → Paced (IsSiteStep k) past
-  ran-steps begun past r = subst (Paced (IsSiteStep k)) (sym r.1) (run-steps r.0 r.3)
+  pub ran-steps : (begun : Moment) (past : List Moment) → Ran marks begun (IsSiteMove k word_at) past → Paced (IsSiteStep k word_at) past
+  ran-steps begun past r = subst (Paced (IsSiteStep k word_at)) (sym r.1) (run-steps r.0 r.3)
 
 -- a pass holds that came by a shared call
 pub shares-holds : (kind : Kind) → shares kind ≢ No

@@ -1,5 +1,5 @@
 -- The whole run of a table: it has come to be from a new table, each moment from the one before by a move.
-use Rattle.std.specs.Prelude.{◌≡◌, ℕ, ◌+◌, ◌<◌, ◌≤◌, List, [], ◌∷◌, Option, map, drop, slice_index}
+use Rattle.std.specs.Prelude.{◌≡◌, ℕ, ◌+◌, ◌<◌, ◌≤◌, List, [], ◌∷◌, Option, map, drop, slice_index, slice_set}
 use mathlib.Core.Option.{some}
 use lib.ListN.{get_elem?}
 use Rattle.atomic_table.specs.Table.{Me}
@@ -73,10 +73,14 @@ module _ {E : Type 0} (marks : E → List ℕ) where
   abbrev pub Ran : Moment → (Instant E → Instant E → Type 0) → List Moment → Type 0
   Ran new P past = (run : List (Instant E)) × (past ≡ map moment run) × BeganWith new past × Paced P run
 
+-- at most one of the words is another than it was
+abbrev pub ChangesOneWord : List ℕ → List ℕ → Type 0
+ChangesOneWord ws us = (at n : ℕ) × (us ≡ slice_set ws at n)
+
 module _ {E : Type 0} (holds : List ℕ → List (View E) → Type 0) (moves : ℕ → List ℕ → List (View E) → List ℕ → List (View E) → Type 0) where
-  -- a step of some seat led from the one to the other, and was a move
+  -- a step of some seat led from the one to the other, was a move, and changed no word but one
   abbrev pub Moves : Instant E → Instant E → Type 0
-  Moves x y = (id : ℕ) × holds x.words x.views × holds y.words y.views × moves id x.words x.views y.words y.views
+  Moves x y = (id : ℕ) × holds x.words x.views × holds y.words y.views × moves id x.words x.views y.words y.views × ChangesOneWord x.words y.words
 
 -- these are the moments of a run from the new table on, at each of which the rule held, and each of whose steps was one of the rule's moves
 abbrev pub RanByRule : {E : Type 0} → (E → List ℕ) → E → (Plan → List ℕ → List (View E) → Type 0) → (Plan → ℕ → List ℕ → List (View E) → List ℕ → List (View E) → Type 0) → Plan → List Moment → Type 0

@@ -1,5 +1,5 @@
 -- The site's own facts, over its words and the hands of all views.
-use Rattle.std.specs.Prelude.{◌≡◌, ◌≢◌, ℕ, ◌+◌, ◌-◌, ◌*◌, ◌<◌, ◌≤◌, true, List, length, take, map, slice_get, slice_index, Option, Some, None}
+use Rattle.std.specs.Prelude.{◌≡◌, ◌≢◌, ℕ, ◌+◌, ◌-◌, ◌*◌, ◌<◌, ◌≤◌, ◌⊎◌, true, List, length, take, map, slice_get, slice_index, Option, Some, None}
 use Rattle.word_bits.specs.declared.TheConstants.{MAX_TASKS}
 use Rattle.word_bits.specs.declared.call.CallWords.{CallWords}
 use Rattle.word_bits.specs.Calls.{signal_of}
@@ -144,6 +144,20 @@ pub record HandGoes (h g : Hand) : Type 0 where
   pub freed : g.held ≡ h.held → g.freed ≡ h.freed
   pub takes : h.takes ≤ g.takes
   pub comes : h.held ≡ No → g.held ≢ No → h.takes < g.takes
+
+-- it counts no failed try, and what it keeps as seen of the lock's word is as before, or forgotten
+abbrev pub KeepsSaw : Hand → Hand → Type 0
+KeepsSaw h g = (g.misses ≡ h.misses) × ((g.saw ≡ h.saw) ⊎ (g.saw ≡ None))
+
+-- a try failed, of a pass that holds nothing, at the step of this number, where the lock's word was this one: it is counted, and the word is kept as seen
+pub record FailsTry (step word : ℕ) (h g : Hand) : Type 0 where
+  pub out : h.held ≡ No
+  pub counts : g.misses ≡ h.misses + 1
+  pub saw : g.saw ≡ Some (record { word = word; step = step })
+
+-- how the step of this number, before which the lock's word was this one, may change what the pass keeps of failed tries
+abbrev pub SawGoes : (step word : ℕ) → Hand → Hand → Type 0
+SawGoes step word h g = KeepsSaw h g ⊎ FailsTry step word h g
 
 -- what a step of a pass with the first hand, which then has the second, does to the site's words and to the hand
 pub record SiteStep (w w' : SiteWords) (h g : Hand) : Type 0 where

@@ -7,6 +7,7 @@ use Rattle.word_bits.specs.SpinWord.{IsSpin, spin_word}
 use Rattle.lock_core.specs.declared.view.Hand.{Hand}
 use Rattle.lock_core.specs.declared.view.Frame.{Frame}
 use Rattle.lock_core.specs.declared.view.SpinHand.{SpinHand}
+use Rattle.lock_core.specs.declared.view.View.{View}
 use Rattle.lock_core.specs.declared.view.Moment.{Moment}
 use Rattle.lock_core.specs.declared.layout.TheConstants.{SPIN_WORDS}
 use Rattle.lock_core.specs.Layout.{part}
@@ -14,7 +15,7 @@ use Rattle.lock_core.specs.Totals.{total}
 use Rattle.lock_core.specs.SpinFrames.{when, code_is, stands, uses, stands_as, owns_at, holds_of, takes_of, ready_of, pends_of, undoes_of}
 use Rattle.lock_core.specs.SpinQueues.{tail_unit}
 use Rattle.lock_core.specs.Views.{SpinPart, spin_part}
-use Rattle.lock_core.specs.Spins.{byte_in, pending_in, tail_in, next_in, locked_in, frame_of, TakesFrom, ComesTo, LeavesBy, SpinLeaves, SpinStep}
+use Rattle.lock_core.specs.Spins.{byte_in, pending_in, tail_in, next_in, locked_in, frame_of, TakesFrom, ComesTo, LeavesBy, SpinGoes, SpinLeaves, SpinStep}
 use Rattle.lock_core.specs.Pasts.{Instant}
 
 -- it owns the pending bit
@@ -98,6 +99,10 @@ pub record IsSpinStep (id : ℕ) (w : List ℕ) (ps : List SpinPart) (w' : List 
   -- and its node leaves the queue by the exchange of the word for 1, or by the store that tells the node behind it that it is the front
   pub leaves : (j : ℕ) (p p' : SpinPart) → get_elem? ps j ≡ some p → get_elem? ps' j ≡ some p' → LeavesBy (stands p.spin.frame.point) (stands p'.spin.frame.point) w queue' w'
 
--- one of the table's moments came of the other by such a step
+-- what the pass of this number counts of the lock, it counted at this step, by where it was and came to
+abbrev pub CountsSpin : {E : Type 0} → ℕ → List (View E) → List (View E) → Type 0
+CountsSpin {E} id vs us = (v u : View E) × (get_elem? vs id ≡ some v) × (get_elem? us id ≡ some u) × SpinGoes (v.steps + 1) v.spin u.spin
+
+-- one of the table's moments came of the other by such a step, which its pass counted
 abbrev pub IsSpinMove : {E : Type 0} → ℕ → Instant E → Instant E → Type 0
-IsSpinMove first x y = (id : ℕ) × IsSpinStep id (part first SPIN_WORDS x.words) (map spin_part x.views) (part first SPIN_WORDS y.words) (map spin_part y.views)
+IsSpinMove first x y = (id : ℕ) × IsSpinStep id (part first SPIN_WORDS x.words) (map spin_part x.views) (part first SPIN_WORDS y.words) (map spin_part y.views) × CountsSpin id x.views y.views

@@ -21,7 +21,7 @@ use Rattle.lock_core.specs.Records.{row, rec_words, sends, intrs, IsLoggedAt, Ar
 use Rattle.lock_core.specs.Views.{stranger, no_spin, named_of, sent_of, consumed_of, Knows}
 use Rattle.lock_core.specs.Sites.{HasPlan, taken_at, sent_at, consumed_at}
 use Rattle.lock_core.specs.Moves.{SiteMove}
-use Rattle.lock_core.specs.Pasts.{Instant}
+use Rattle.lock_core.specs.Pasts.{ChangesOneWord, Instant}
 use Rattle.lock_core.specs.Totals.{total}
 use Rattle.lock_core.specs.Parts.{Each}
 
@@ -70,9 +70,9 @@ module _ {Call : Type 0} (o : Obj Call) (unavailable : Unavailable) (size : ℕ)
   abbrev pub IsSiteThen : Moment → Type 0
   IsSiteThen m = IsSite (site k m.words) m.hands
 
--- one of the table's moments came of the other by such a step
-abbrev pub IsSiteMove : {E : Type 0} → Plan → Instant E → Instant E → Type 0
-IsSiteMove k x y = (id : ℕ) × SiteMove id (site k x.words) x.views (site k y.words) y.views
+-- one of the table's moments came of the other by such a step, which changed no word but one; the lock's word stands at this place
+abbrev pub IsSiteMove : {E : Type 0} → Plan → (word_at : ℕ) → Instant E → Instant E → Type 0
+IsSiteMove k word_at x y = (id : ℕ) × SiteMove id (slice_index x.words word_at) (site k x.words) x.views (site k y.words) y.views × ChangesOneWord x.words y.words
 
 -- a new table: all lock words are free, no number is taken, the guarded words store the empty state, nothing is logged or recorded, and one pass is there, which has no number
 pub record IsNew {Call : Type 0} (o : Obj Call) (size : ℕ) (k : Plan) (m : Moment) : Type 0 where

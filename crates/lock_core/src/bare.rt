@@ -84,6 +84,8 @@ impl SiteRule for Bare {
 
     ghost marks = { λ _. [] };
 
+    ghost word_at = { 0 };
+
     ghost idle = { tt };
 
     ghost rests = { λ _. Unit {0} };

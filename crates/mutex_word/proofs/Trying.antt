@@ -27,9 +27,9 @@ unasked-on v u task place n begun old past new named unasked own found few befor
     stays-found : {m : ℕ} → FoundAtStep task step place m old past → FoundAtStep task step place m old new
     stays-found f = record { past = f.past; by = f.by; found = f.found; after = f.after; goes_on = λ p t. after p (f.goes_on p t) }
 
-module _ {E : Type 0} (turned : Turn → View E → E) (may_own : Turn → View E → ℕ → ℕ → Type 0) (asks counts : Bool) where
-  pub may-later : (v u : View E) (s : ℕ) → u ≡ record v { steps = s } → MayTry may_own asks v → MayTry may_own asks u
-  may-later v u s is may = subst (MayTry may_own asks) (sym is) (record { fails = λ x. may.fails x; takes = λ x. may.takes x; begs = λ e x. may.begs e x })
+module _ {E : Type 0} (turned : Turn → View E → E) (may_own : Turn → View E → ℕ → ℕ → Type 0) (may_miss : View E → Type 0) (asks counts : Bool) where
+  pub may-later : (v u : View E) (s : ℕ) → u ≡ record v { steps = s } → MayTry may_own may_miss asks counts v → MayTry may_own may_miss asks counts u
+  may-later v u s is may = subst (MayTry may_own may_miss asks counts) (sym is) (record { fails = λ x. may.fails x; takes = λ x. may.takes x; begs = λ e x. may.begs e x })
 
   missing-task : (counts : Bool) (h : Hand) (n step : ℕ) → (missing counts h n step).task ≡ h.task
   missing-task true h n step = refl
@@ -39,7 +39,7 @@ module _ {E : Type 0} (turned : Turn → View E → E) (may_own : Turn → View 
   saw-task v w n saw = fail-or-on asks v.hand.task n (λ f. ap (λ (z : View E). z.hand.task) (saw.fails f) ∙ missing-task counts v.hand n (saw.step + 1)) (λ on. ap (λ (z : View E). z.hand.task) (saw.on on))
 
   -- what it may do at a word at which it doesn't fail
-  pub may-on : (v w : View E) (n : ℕ) → MayTry may_own asks v → SawWord turned asks counts v n w → (IsFail asks v.hand.task n → ⊥) → MayTry may_own asks w
+  pub may-on : (v w : View E) (n : ℕ) → MayTry may_own may_miss asks counts v → SawWord turned asks counts v n w → (IsFail asks v.hand.task n → ⊥) → MayTry may_own may_miss asks counts w
   may-on v w n may saw on = may-later v w saw.step (saw.on on) may
 
   pub saw-again : (v w u : View E) (n m : ℕ) → SawWord turned asks counts v n w → (IsFail asks v.hand.task n → ⊥) → SawWord turned asks counts w m u → SawWord turned asks counts v m u

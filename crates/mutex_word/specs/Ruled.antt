@@ -45,7 +45,7 @@ module _ {Call : Type 0} (o : Obj Call) (size : ℕ) where
 
 -- all that each step of a site does
 abbrev pub OwnerMoves : Plan → ℕ → List ℕ → List V → List ℕ → List V → Type 0
-OwnerMoves k id ws vs us vs' = SiteMove id (site k ws) vs (site k us) vs'
+OwnerMoves k id ws vs us vs' = SiteMove id (slice_index ws owner_at) (site k ws) vs (site k us) vs'
 
 -- a step may leave a word without flags
 abbrev pub leaves_plain : Turn → V → ℕ → ℕ → Type 0

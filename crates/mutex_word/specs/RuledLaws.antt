@@ -14,8 +14,8 @@ use Rattle.lock_core.specs.declared.layout.TheConstants.{LOCK_WORDS}
 use Rattle.lock_core.specs.Layout.{SiteWords, fresh, site, lay, width}
 use Rattle.lock_core.specs.Views.{hand_of, handed, seated, ticked, first, split_off, merged, spent, stranger}
 use Rattle.lock_core.specs.Sites.{HandGoes, SiteKept}
-use Rattle.lock_core.specs.Moves.{Goes, KeepsHold, SiteMove}
-use Rattle.lock_core.specs.MoveLaws.{set-moves, hold-moved}
+use Rattle.lock_core.specs.Moves.{Goes, KeepsHold, SiteMove, TriesWhere}
+use Rattle.lock_core.specs.MoveLaws.{set-moves, hold-moved, tries-go}
 use Rattle.lock_core.specs.Parts.{keep_part, set_part, snoc_part}
 use Rattle.lock_core.proofs.Stating.{kept-states}
 use Rattle.mutex_word.specs.Holders.{OwnKept}
@@ -82,9 +82,9 @@ module _ {Call : Type 0} (o : Obj Call) (size : ℕ) where
       }
 
   -- a step on the owner word leaves the site's words
-  pub owner-owns : (k : Plan) (ws : List ℕ) (vs : List V) (id n : ℕ) (v : V) (h : Hand) → Kept k ws vs → get_elem? vs id ≡ some v → HandGoes v.hand h → IsPlain n → OwnKept n (set (map hand_of vs) id h) → Site k ws (set (map hand_of vs) id h)
+  pub owner-owns : (k : Plan) (ws : List ℕ) (vs : List V) (id n : ℕ) (v : V) (h : Hand) → Kept k ws vs → get_elem? vs id ≡ some v → HandGoes v.hand h → TriesWhere Rests (get_or ws owner_at 0) v h → IsPlain n → OwnKept n (set (map hand_of vs) id h) → Site k ws (set (map hand_of vs) id h)
       → Goes (Kept k) (OwnerMoves k) id ws vs (set ws owner_at n) (set vs id (handed v h))
-  owner-owns k ws vs id n v h r at goes may own there = let w : V = handed v h in let wide = r.wide in let same : site k (set ws owner_at n) ≡ site k ws = ap (lay k) (drop-set-lt LOCK_WORDS ws owner_at n (omega arith)) in
+  owner-owns k ws vs id n v h r at goes tries may own there = let w : V = handed v h in let wide = r.wide in let same : site k (set ws owner_at n) ≡ site k ws = ap (lay k) (drop-set-lt LOCK_WORDS ws owner_at n (omega arith)) in
       let word : get_or (set ws owner_at n) owner_at 0 ≡ n = get_or-set_same ws owner_at n 0 (omega (arith, wide)) in (
         record {
           wide = length-set ws owner_at n ∙ wide;
@@ -92,18 +92,18 @@ module _ {Call : Type 0} (o : Obj Call) (size : ℕ) where
           own = subst (λ (z : ℕ). OwnKept z (map hand_of (set vs id w))) (sym word) (set_part hand_of (OwnKept n) vs id w own);
           plain = subst IsPlain (sym word) may;
         },
-        subst (λ (z : SiteWords). SiteMove id (site k ws) vs z (set vs id w)) (sym same) (set-moves id (site k ws) (site k ws) vs v w at (hold-moved (site k ws) v h tt goes)),
+        subst (λ (z : SiteWords). SiteMove id (get_or ws owner_at 0) (site k ws) vs z (set vs id w)) (sym same) (set-moves id (site k ws) (site k ws) vs v w at (hold-moved (site k ws) v h tt goes (tries-go Rests v h tries))),
       )
 
-  pub owner-looks : (k : Plan) (ws : List ℕ) (vs : List V) (id : ℕ) (v : V) (h : Hand) → Kept k ws vs → get_elem? vs id ≡ some v → h.task ≡ v.hand.task → h.held ≡ v.hand.held → HandGoes v.hand h → Site k ws (set (map hand_of vs) id h) → Goes (Kept k) (OwnerMoves k) id ws vs ws (set vs id (handed v h))
-  owner-looks k ws vs id v h r at task held goes there = let w : V = handed v h in (
+  pub owner-looks : (k : Plan) (ws : List ℕ) (vs : List V) (id : ℕ) (v : V) (h : Hand) → Kept k ws vs → get_elem? vs id ≡ some v → h.task ≡ v.hand.task → h.held ≡ v.hand.held → HandGoes v.hand h → TriesWhere Rests (get_or ws owner_at 0) v h → Site k ws (set (map hand_of vs) id h) → Goes (Kept k) (OwnerMoves k) id ws vs ws (set vs id (handed v h))
+  owner-looks k ws vs id v h r at task held goes tries there = let w : V = handed v h in (
     record {
       wide = r.wide;
       site_holds = set_part hand_of (Site k ws) vs id w there;
       own = set_part hand_of (OwnKept (get_or ws owner_at 0)) vs id w (own-stays (map hand_of vs) id (get_or ws owner_at 0) v.hand h r.own (at_map hand_of vs id v at) held (inl task));
       plain = r.plain;
     },
-    set-moves id (site k ws) (site k ws) vs v w at (hold-moved (site k ws) v h tt goes),
+    set-moves id (site k ws) (site k ws) vs v w at (hold-moved (site k ws) v h tt goes (tries-go Rests v h tries)),
   )
 
   pub owner-states : (k : Plan) (ws : List ℕ) (vs : List V) → Kept k ws vs → IsOwnerSite o size k ws (map hand_of vs)

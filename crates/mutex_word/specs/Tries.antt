@@ -6,6 +6,7 @@ use Rattle.word_bits.specs.Objects.{Obj}
 use Rattle.word_bits.specs.Histories.{Plan}
 use Rattle.lock_core.specs.declared.view.View.{View}
 use Rattle.lock_core.specs.declared.view.Hand.{Hand}
+use Rattle.lock_core.specs.declared.view.Held.TheVariants.{No}
 use Rattle.lock_core.specs.declared.view.Moment.{Moment}
 use Rattle.lock_core.specs.Holding.{missed, released}
 use Rattle.lock_core.specs.Pasts.{FoundAt, FoundAtStep}
@@ -65,17 +66,22 @@ module _ {E : Type 0} where
   abbrev pub at_step : View E → ℕ → View E
   at_step v s = record v { steps = s }
 
-module _ {E : Type 0} (may_own : Turn → View E → ℕ → ℕ → Type 0) where
+-- a pass with this view, whose failed try is counted, holds nothing, and the host lets it miss
+abbrev pub MayMiss : {E : Type 0} → (View E → Type 0) → (counts : Bool) → View E → Type 0
+MayMiss may_miss counts v = counts ≡ true → (v.hand.held ≡ No) × may_miss v
+
+module _ {E : Type 0} (may_own : Turn → View E → ℕ → ℕ → Type 0) (may_miss : View E → Type 0) where
   -- a pass with this view may fail
-  abbrev pub MayFail : (asks : Bool) → View E → Type 0
-  MayFail asks v = (n : ℕ) → IsFail asks v.hand.task n → may_own Fail v n n
+  abbrev pub MayFail : (asks counts : Bool) → View E → Type 0
+  MayFail asks counts v = (n : ℕ) → IsFail asks v.hand.task n → may_own Fail v n n × MayMiss may_miss counts v
 
   -- a pass with this view may try, whatever steps it makes meanwhile
-  pub record MayTry (asks : Bool) (v : View E) : Type 0 where
-    pub fails : (s : ℕ) → MayFail asks (at_step v s)
+  pub record MayTry (asks counts : Bool) (v : View E) : Type 0 where
+    pub fails : (s : ℕ) → MayFail asks counts (at_step v s)
     pub takes : (s t n m : ℕ) → v.hand.task ≡ Some t → IsTake t n m → may_own Take (at_step v s) n m
     pub begs : asks ≡ true → (s n m : ℕ) → IsAsk n m → may_own Ask (at_step v s) n m
 
+module _ {E : Type 0} (may_own : Turn → View E → ℕ → ℕ → Type 0) where
   -- it may release its word to the flags, unless a handoff is asked for
   abbrev pub MayRelease : View E → Type 0
   MayRelease v = (s n m : ℕ) → IsMine v.hand.task n → n % 8 < 2 → m ≡ n % 8 → may_own Free (at_step v s) n m

@@ -28,6 +28,8 @@ impl<O: Object> SiteRule for OwnerRule<O> {
 
     ghost marks = { unmarked };
 
+    ghost word_at = { owner_at };
+
     ghost idle = { tt };
 
     ghost rests = { λ _. Unit {0} };
@@ -54,6 +56,8 @@ impl<O: Object> OwnerHost for OwnerRule<O> {
 
     ghost may_own = { leaves_plain };
 
+    ghost may_miss = { λ _. Unit {0} };
+
     ghost uncounted = { λ _. ⊥ };
 
     ghost turned = { unturned };
@@ -62,9 +66,9 @@ impl<O: Object> OwnerHost for OwnerRule<O> {
 
     ghost own_kept = { owner-own O.object O.WORDS };
 
-    ghost owns = { λ k ws vs id n v h t r at same goes left may own there. owner-owns O.object O.WORDS k ws vs id n v h r at goes may.0 own there };
+    ghost owns = { λ k ws vs id n v h t r at same goes tries left may own there. owner-owns O.object O.WORDS k ws vs id n v h r at goes tries may.0 own there };
 
     ghost own_may = { λ k ws vs id n v t r at may. may.1 };
 
-    ghost own_looks = { λ k ws vs id v h r at task held goes there. owner-looks O.object O.WORDS k ws vs id v h r at task held goes there };
+    ghost own_looks = { λ k ws vs id v h r at task held goes tries there. owner-looks O.object O.WORDS k ws vs id v h r at task held goes tries there };
 }

@@ -161,7 +161,7 @@ impl<O: Object> OwnerSite<O> {
         ensures begins { Tail (newest (plan_of self.now) ∷ []) (past_of pass.new) }
         ensures always { EachMoment (IsOwnerSiteThen O.object O.WORDS (plan_of self.now))
             (past_of pass.new) }
-        ensures moves { Ran unmarked (newest (plan_of self.now)) (IsSiteMove (plan_of self.now))
+        ensures moves { Ran unmarked (newest (plan_of self.now)) (IsSiteMove (plan_of self.now) owner_at)
             (past_of pass.new) }
     {
         self.site.recall(pass);
@@ -175,7 +175,7 @@ impl<O: Object> OwnerSite<O> {
         ensures goes_on { KeepsPast pass.old pass.new }
         ensures kept { view_of pass.new ≡ ticked (view_of pass.old) }
         ensures last { IsLatest pass.new }
-        ensures moves { Ran unmarked (newest (plan_of self.now)) (IsSiteMove (plan_of self.now))
+        ensures moves { Ran unmarked (newest (plan_of self.now)) (IsSiteMove (plan_of self.now) owner_at)
             (past_of pass.new) }
     {
         self.site.grown(pass);

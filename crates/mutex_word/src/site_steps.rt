@@ -52,6 +52,7 @@ pub fn take_free<H: OwnerHost>(site: &Site<H>, pass: &mut Pass<H>) -> Result<(),
     requires numbered { IsSome (task_in pass.old) }
     requires out { held_in pass.old ≡ No }
     requires may { H.may_own TakeTurn (view_of pass.old) 0 (own_word (task_in pass.old)) }
+    requires misses { H.may_miss (view_of pass.old) }
     ensures own { SitsAt site.now pass.new }
     ensures goes_on { KeepsPast pass.old pass.new }
     ensures last { IsLatest pass.new }

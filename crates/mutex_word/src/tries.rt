@@ -101,7 +101,7 @@ impl<H: OwnerHost, L: EndKind> Play<(), View<H::Ext>> for Ends<H, L> {
 /// The load of a try. Where the try fails at what it saw, the pass knows so.
 fn look<H: OwnerHost, A: TryKind>(site: &Site<H>, pass: &mut Pass<H>) -> u64
     requires own { SitsAt site.now pass.old }
-    requires fails { MayFail H.may_own A.asks (view_of pass.old) }
+    requires fails { MayFail H.may_own H.may_miss A.asks A.counts (view_of pass.old) }
     ensures own { SitsAt site.now pass.new }
     ensures goes_on { KeepsPast pass.old pass.new }
     ensures last { IsLatest pass.new }
@@ -119,7 +119,7 @@ fn take<H: OwnerHost, A: TryKind>(site: &Site<H>, pass: &mut Pass<H>, word: u64,
     requires out { held_in pass.old ≡ No }
     requires takes { (t : ℕ) → task_in pass.old ≡ Some t → IsTake t word new }
     requires may { H.may_own TakeTurn (view_of pass.old) word new }
-    requires fails { MayFail H.may_own A.asks (view_of pass.old) }
+    requires fails { MayFail H.may_own H.may_miss A.asks A.counts (view_of pass.old) }
     ensures own { SitsAt site.now pass.new }
     ensures goes_on { KeepsPast pass.old pass.new }
     ensures last { IsLatest pass.new }
@@ -143,7 +143,7 @@ fn ask<H: OwnerHost, A: TryKind>(site: &Site<H>, pass: &mut Pass<H>, word: u64, 
     requires own { SitsAt site.now pass.old }
     requires asks { IsAsk word new }
     requires may { H.may_own AskTurn (view_of pass.old) word new }
-    requires fails { MayFail H.may_own A.asks (view_of pass.old) }
+    requires fails { MayFail H.may_own H.may_miss A.asks A.counts (view_of pass.old) }
     ensures own { SitsAt site.now pass.new }
     ensures goes_on { KeepsPast pass.old pass.new }
     ensures last { IsLatest pass.new }
@@ -171,7 +171,7 @@ fn act<H: OwnerHost, A: TryKind>(
     requires found { FoundAt H.OWNER word (past_of pass.old) }
     requires last { IsLatest pass.old }
     requires may { (IsFail A.asks (task_in pass.old) word → ⊥) →
-        MayTry H.may_own A.asks (view_of pass.old) }
+        MayTry H.may_own H.may_miss A.asks A.counts (view_of pass.old) }
     ensures own { SitsAt site.now pass.new }
     ensures goes_on { KeepsPast pass.old pass.new }
     ensures last { IsLatest pass.new }
@@ -219,7 +219,7 @@ pub fn attempt<H: OwnerHost, A: TryKind, W: Wait>(
     requires numbered { task_in pass.old ≡ Some me }
     requires out { held_in pass.old ≡ No }
     requires asks { asks ≡ A.asks }
-    requires may { MayTry H.may_own A.asks (view_of pass.old) }
+    requires may { MayTry H.may_own H.may_miss A.asks A.counts (view_of pass.old) }
     requires counted { A.counts ≡ false → H.uncounted (view_of pass.old) }
     ensures own { SitsAt site.now pass.new }
     ensures goes_on { KeepsPast pass.old pass.new }

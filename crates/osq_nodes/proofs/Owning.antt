@@ -1,6 +1,6 @@
 -- A step of a pass on a word of the queue, which keeps the queue's own rule, keeps the rule of the table.
 use mathlib.Core.Bool.{not}
-use Rattle.std.proofs.Common.{nat_eq, ◌≡◌, ℕ, zero, suc, ◌+◌, ◌<◌, ◌≤◌, Bool, true, false, if◌then◌else◌, List, length, map, get_or, set, Option, Some, None, IsSome, sym, refl, ap, ◌∙◌, subst, arith, length-set, eq-eqb, ne_eqb}
+use Rattle.std.proofs.Common.{inl, nat_eq, ◌≡◌, ℕ, zero, suc, ◌+◌, ◌<◌, ◌≤◌, Bool, true, false, if◌then◌else◌, List, length, map, get_or, set, Option, Some, None, IsSome, sym, refl, ap, ◌∙◌, subst, arith, length-set, eq-eqb, ne_eqb}
 use Rattle.std.proofs.Math.Seq.{take-set-lt}
 use Rattle.std.proofs.lemmas.List.{drop-set-lt, get_or-take, length-take-le}
 use mathlib.Core.Option.{some}
@@ -29,7 +29,7 @@ use Rattle.lock_core.specs.Layout.{SiteWords, site, lay}
 use Rattle.lock_core.specs.Views.{hand_of, named_of}
 use Rattle.lock_core.specs.Sites.{SiteKept}
 use Rattle.lock_core.specs.Moves.{Goes, Lets, SiteMove, Moved}
-use Rattle.lock_core.specs.MoveLaws.{hand-stays, leaves-site, spin-idle, set-moves}
+use Rattle.lock_core.specs.MoveLaws.{hand-stays, leaves-site, spin-idle, set-moves, saw-stays}
 use Rattle.lock_core.specs.Totals.{total, total-at, total-two}
 use Rattle.lock_core.specs.Parts.{each-set, keep_part, set-there}
 use Rattle.lock_core.proofs.HandLaws.{not-both}
@@ -97,7 +97,7 @@ module _ (k : Plan) where
       → Goes (OsqKept k) (OsqMoves k) id ws vs (set ws at n) (set vs id (stepped v.ext.place v p told))
   own-step ws vs id at n t told v p q' r there has inside kept changes finds = let small = its-small ws vs id t v r there has in let lt = small.0 in let few = small.1 in let wide = r.wide in let w : V = stepped v.ext.place v p told in
       let stays : site k (set ws at n) ≡ site k ws = ap (lay k) (drop-set-lt LOCK_WORDS ws at n inside) in
-      let moved : Moved (site k ws) (site k ws) v w = record { site = leaves-site (site k ws) v.hand v.hand (hand-stays v.hand); spin = spin-idle (v.steps + 1) v.spin; fronts = no-fewer (is_coming_first v.ext.place p) v.fronts; counts = refl } in
+      let moved : Moved (get_or ws 0 0) (site k ws) (site k ws) v w = record { site = leaves-site (site k ws) v.hand v.hand (hand-stays v.hand); tries = inl (saw-stays v.hand); spin = spin-idle (v.steps + 1) v.spin; fronts = no-fewer (is_coming_first v.ext.place p) v.fronts; counts = refl } in
       goes k id ws (set ws at n) vs (set vs id w) r
       record {
         wide = length-set ws at n ∙ r.wide;
@@ -107,7 +107,7 @@ module _ (k : Plan) where
         seated = seat-moves r.place vs id t v w r.seated there refl has ((r.site_holds.balances.named t (omega arith)).1);
         kept = subst (λ (row : List ℕ). RowKept (length k) row (with_at r.place t p) q') (sym (take-set-lt LOCK_WORDS ws at n inside)) kept;
       }
-      (subst (λ (z : SiteWords). SiteMove id (site k ws) vs z (set vs id w)) (sym stays) (set-moves id (site k ws) (site k ws) vs v w there moved))
+      (subst (λ (z : SiteWords). SiteMove id (get_or ws 0 0) (site k ws) vs z (set vs id w)) (sym stays) (set-moves id (site k ws) (site k ws) vs v w there moved))
       (node-steps (tail_in (row_of ws)) id vs v p told there finds)
       (subst (λ (row : List ℕ). Changes (row_of ws) row r.place r.queue q') (sym (take-set-lt LOCK_WORDS ws at n inside)) changes)
 

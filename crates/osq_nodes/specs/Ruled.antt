@@ -15,7 +15,7 @@ use Rattle.lock_core.specs.Layout.{site, width}
 use Rattle.lock_core.specs.Views.{hand_of, named_of}
 use Rattle.lock_core.specs.Sites.{SiteKept}
 use Rattle.lock_core.specs.Moves.{SiteMove}
-use Rattle.lock_core.specs.Pasts.{Instant, instant, moment, opening}
+use Rattle.lock_core.specs.Pasts.{ChangesOneWord, Instant, instant, moment, opening}
 use Rattle.lock_core.specs.Totals.{total}
 use Rattle.lock_core.specs.Parts.{Each}
 use Rattle.osq_nodes.specs.declared.node.Place.{Place}
@@ -81,13 +81,13 @@ pub record NodeStep (tail id : ℕ) (vs vs' : List V) : Type 0 where
 
 -- what each step does, to the site, to its own pass and to the queue
 pub record OsqMoves (k : Plan) (id : ℕ) (ws : List ℕ) (vs : List V) (us : List ℕ) (vs' : List V) : Type 0 where
-  pub site : SiteMove id (site k ws) vs (site k us) vs'
+  pub site : SiteMove id (slice_index ws 0) (site k ws) vs (site k us) vs'
   pub node : NodeStep (tail_in (row_of ws)) id vs vs'
   pub queue : QueueStep (table_at ws vs) (table_at us vs')
 
--- one of the table's instants came of the other by such a step
+-- one of the table's instants came of the other by such a step, which changed no word but one
 abbrev pub IsOsqMove : ℕ → Instant Node → Instant Node → Type 0
-IsOsqMove tasks x y = (id : ℕ) × OsqMoves (no_calls tasks) id x.words x.views y.words y.views
+IsOsqMove tasks x y = (id : ℕ) × OsqMoves (no_calls tasks) id x.words x.views y.words y.views × ChangesOneWord x.words y.words
 
 -- where a step is a swap of the tail, it found the tail
 abbrev pub FindsTail : Bool → ℕ → ℕ → Type 0

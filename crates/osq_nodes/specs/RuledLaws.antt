@@ -131,7 +131,7 @@ node-stays tail id vs vs' v u at at' same fronts = let x : Node = v.ext in let p
 }
 
 -- a step from one table to another
-pub goes : (k : Plan) (id : ℕ) (ws us : List ℕ) (vs vs' : List V) (r : OsqKept k ws vs) (r' : OsqKept k us vs') → SiteMove id (site k ws) vs (site k us) vs' → NodeStep (tail_in (row_of ws)) id vs vs' → Changes (row_of ws) (row_of us) r.place r.queue r'.queue
+pub goes : (k : Plan) (id : ℕ) (ws us : List ℕ) (vs vs' : List V) (r : OsqKept k ws vs) (r' : OsqKept k us vs') → SiteMove id (get_or ws 0 0) (site k ws) vs (site k us) vs' → NodeStep (tail_in (row_of ws)) id vs vs' → Changes (row_of ws) (row_of us) r.place r.queue r'.queue
     → Goes (OsqKept k) (OsqMoves k) id ws vs us vs'
 goes k id ws us vs vs' r r' move node changes = (
   r',
@@ -183,7 +183,7 @@ pub osq-site : (k : Plan) (ws : List ℕ) (vs : List V) → OsqKept k ws vs → 
 osq-site k ws vs r = r.site_holds
 
 pub osq-sites : (k : Plan) (ws : List ℕ) (vs : List V) (id i n : ℕ) (v : V) (h : Hand) (s : SpinHand) → OsqKept k ws vs → get_elem? vs id ≡ some v → KeepsHold (λ (u : V). u.ext.place ≡ Out) v h → SpinStays v.spin s
-    → SiteKept nothing never 0 k (site k (set ws (LOCK_WORDS + i) n)) (set (map hand_of vs) id h) → SiteMove id (site k ws) vs (site k (set ws (LOCK_WORDS + i) n)) (set vs id (seated v h s)) → Goes (OsqKept k) (OsqMoves k) id ws vs (set ws (LOCK_WORDS + i) n) (set vs id (seated v h s))
+    → SiteKept nothing never 0 k (site k (set ws (LOCK_WORDS + i) n)) (set (map hand_of vs) id h) → SiteMove id (get_or ws 0 0) (site k ws) vs (site k (set ws (LOCK_WORDS + i) n)) (set vs id (seated v h s)) → Goes (OsqKept k) (OsqMoves k) id ws vs (set ws (LOCK_WORDS + i) n) (set vs id (seated v h s))
 osq-sites k ws vs id i n v h s r at holds stays there move = let w : V = seated v h s in let us : List ℕ = set ws (LOCK_WORDS + i) n in
     let same : row_of us ≡ row_of ws = take-set-le LOCK_WORDS ws (LOCK_WORDS + i) n (omega arith) in
     let one : (t : ℕ) → h.task ≡ Some t → total (named_of t) (set (map hand_of vs) id h) ≤ 1 = λ t e. (let few = there.laid.small.tasks in
@@ -236,7 +236,7 @@ osq-opens k wide zeros there = let zero_at : (i : ℕ) → get_or (row_of (fresh
 }
 
 pub osq-splits : (k : Plan) (ws : List ℕ) (vs : List V) (id : ℕ) (v : V) → OsqKept k ws vs → get_elem? vs id ≡ some v → SiteKept nothing never 0 k (site k ws) (map hand_of (set vs id (ticked v) ++ split_off idle v ∷ []))
-    → SiteMove id (site k ws) vs (site k ws) (set vs id (ticked v) ++ split_off idle v ∷ []) → Goes (OsqKept k) (OsqMoves k) id ws vs ws (set vs id (ticked v) ++ split_off idle v ∷ [])
+    → SiteMove id (get_or ws 0 0) (site k ws) vs (site k ws) (set vs id (ticked v) ++ split_off idle v ∷ []) → Goes (OsqKept k) (OsqMoves k) id ws vs ws (set vs id (ticked v) ++ split_off idle v ∷ [])
 osq-splits k ws vs id v r at there move = let us : List V = set vs id (ticked v) in goes k id ws ws vs (us ++ split_off idle v ∷ []) r
     record {
       wide = r.wide;
@@ -249,7 +249,7 @@ osq-splits k ws vs id v r at there move = let us : List V = set vs id (ticked v)
     move (node-stays (tail_in (row_of ws)) id vs (us ++ split_off idle v ∷ []) v (ticked v) at (at_longer us (split_off idle v ∷ []) id (ticked v) (set-there vs id v (ticked v) at)) refl refl) (inl refl)
 
 pub osq-joins : (k : Plan) (ws : List ℕ) (vs : List V) (id other : ℕ) (v w : V) → OsqKept k ws vs → get_elem? vs id ≡ some v → other ≢ id → get_elem? vs other ≡ some w → w.hand.task ≡ None
-    → SiteKept nothing never 0 k (site k ws) (map hand_of (set (set vs id (merged v w)) other (spent idle))) → SiteMove id (site k ws) vs (site k ws) (set (set vs id (merged v w)) other (spent idle)) → Goes (OsqKept k) (OsqMoves k) id ws vs ws (set (set vs id (merged v w)) other (spent idle))
+    → SiteKept nothing never 0 k (site k ws) (map hand_of (set (set vs id (merged v w)) other (spent idle))) → SiteMove id (get_or ws 0 0) (site k ws) vs (site k ws) (set (set vs id (merged v w)) other (spent idle)) → Goes (OsqKept k) (OsqMoves k) id ws vs ws (set (set vs id (merged v w)) other (spent idle))
 osq-joins k ws vs id other v w r at apart at' none there move = let u : V = merged v w in let us : List V = set vs id u in goes k id ws ws vs (set us other (spent idle)) r
     record {
       wide = r.wide;

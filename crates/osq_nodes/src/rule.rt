@@ -25,6 +25,8 @@ impl SiteRule for QueueRule {
 
     ghost marks = { node_marks };
 
+    ghost word_at = { 0 };
+
     ghost idle = { idle };
 
     ghost rests = { λ v. v.ext.place ≡ Out };

@@ -7,7 +7,7 @@ ghost use Rattle.osq_nodes.specs.declared.node.Place.TheVariants.{Out, Cleared, 
 ghost use Rattle.osq_nodes.specs.Handles.{tasks_of, view_of, task_in, place_in, past_of, FoundNext, FoundOwn, FoundThere, SitsAt, KeepsNumber, KeepsPast, IsLatest};
 ghost use Rattle.osq_nodes.specs.Places.{waits_at, takes_at};
 ghost use Rattle.osq_nodes.specs.Steps.{placed, fronted, swapped, IsCodeOrNone};
-ghost use Rattle.osq_nodes.specs.Words.{tail_at, locked_at};
+ghost use Rattle.osq_nodes.specs.Words.{code_in, next_at, tail_at, locked_at};
 
 use crate::layout::{TAIL, code, code_of, locked_of, next_of, prev_of};
 use crate::pass::OsqPass;
@@ -174,6 +174,7 @@ pub fn take_next(osq: &Osq, pass: &mut OsqPass, task: u32, prev: Option<u32>) ->
     ensures last { IsLatest pass.new }
     ensures kept { MatchOption result (view_of pass.new ≡ ticked (view_of pass.old)) (λ n.
         (n < MAX_TASKS) × (view_of pass.new ≡ placed (view_of pass.old) (takes_at prev n))) }
+    ensures found { FoundAt (next_at task) (code_in result) (past_of pass.new) }
 {
     // A swap, and no load: the successor may be taking its code back in order to leave, and one of
     // the two has the code, not both.

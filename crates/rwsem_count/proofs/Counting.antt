@@ -23,7 +23,8 @@ use Rattle.lock_core.specs.Views.{hand_of, handed, ticked, took, held_of, alone_
 use Rattle.lock_core.specs.Holding.{Learns, missed, released, downgraded}
 use Rattle.lock_core.specs.Totals.{total, total-at}
 use Rattle.lock_core.specs.Sites.{SiteKept, HasPlan}
-use Rattle.lock_core.specs.Moves.{Goes, Lets}
+use Rattle.lock_core.specs.Moves.{Goes, Lets, TriesWhere}
+use Rattle.lock_core.specs.MoveLaws.{saw-stays}
 use Rattle.lock_core.proofs.HandLaws.{no-alone}
 use Rattle.lock_core.proofs.RowLaws.{none-some}
 use Rattle.lock_core.proofs.HoldSteps.{quiet-state, site-takes, site-misses, site-frees, site-downgrades}
@@ -71,12 +72,12 @@ module _ {E : Type 0} (bias : E → Bias) where
 
 module _ {E Call : Type 0} (o : Obj Call) (unavailable : Unavailable) (size : ℕ) (k : Plan) (bias : E → Bias) (counted : View E → Hand → Bias → E)
     (holds : List ℕ → List (View E) → Type 0) (moves : ℕ → List ℕ → List (View E) → List ℕ → List (View E) → Type 0)
-    (place : ℕ) (may_be : ℕ → Type 0) (more : List ℕ → List (View E) → ℕ) (may_count : View E → CountPart → Type 0)
+    (place : ℕ) (may_be : ℕ → Type 0) (more : List ℕ → List (View E) → ℕ) (may_count : View E → CountPart → Type 0) (may_miss : View E → Type 0)
     (kept : (ws : List ℕ) (vs : List (View E)) → holds ws vs → SiteKept o unavailable size k (site k ws) (map hand_of vs))
     (count_kept : (ws : List ℕ) (vs : List (View E)) → holds ws vs → CountKept (get_or ws place 0) (more ws vs) (map (count_part bias) vs) × IsLawfulCount (get_or ws place 0) × may_be (get_or ws place 0))
-    (counts : (ws : List ℕ) (vs : List (View E)) (id n : ℕ) (v : View E) (h : Hand) (b : Bias) → holds ws vs → get_elem? vs id ≡ some v → HandStep v.hand h n → may_count v (part h b) → CountMove (get_or ws place 0) n (count_part bias v) (part h b)
+    (counts : (ws : List ℕ) (vs : List (View E)) (id n : ℕ) (v : View E) (h : Hand) (b : Bias) → holds ws vs → get_elem? vs id ≡ some v → HandStep v.hand h n → TriesWhere may_miss (get_or ws place 0) v h → may_count v (part h b) → CountMove (get_or ws place 0) n (count_part bias v) (part h b)
     → CountKept n (more ws vs) (set (map (count_part bias) vs) id (part h b)) → SiteKept o unavailable size k (site k ws) (set (map hand_of vs) id h) → Goes holds moves id ws vs (set ws place n) (set vs id (based counted v h b)))
-    (count_looks : (ws : List ℕ) (vs : List (View E)) (id n : ℕ) (v : View E) (h : Hand) → holds ws vs → get_elem? vs id ≡ some v → HandStep v.hand h n → h.held ≡ v.hand.held → SiteKept o unavailable size k (site k ws) (set (map hand_of vs) id h) → Goes holds moves id ws vs ws (set vs id (handed v h))) where
+    (count_looks : (ws : List ℕ) (vs : List (View E)) (id n : ℕ) (v : View E) (h : Hand) → holds ws vs → get_elem? vs id ≡ some v → HandStep v.hand h n → TriesWhere may_miss (get_or ws place 0) v h → h.held ≡ v.hand.held → SiteKept o unavailable size k (site k ws) (set (map hand_of vs) id h) → Goes holds moves id ws vs ws (set vs id (handed v h))) where
   abbrev M : Type 0
   M = Me (Unit {0}) (View E)
 
@@ -87,13 +88,13 @@ module _ {E Call : Type 0} (o : Obj Call) (unavailable : Unavailable) (size : �
   abbrev Comes : (id : ℕ) (me : M) → (op : Op) → (ℕ → M → Type 0) → Type 0
   Comes id me op tells = (n more : ℕ) (ps : List CountPart) (w : SiteWords) (hs : List Hand) → get_elem? ps id ≡ some (count_part bias me.0) → get_elem? hs id ≡ some me.0.hand → total alone_of hs ≡ total alone_in ps → total held_of hs ≡ total alone_in ps + total shared_in ps
       → CountKept n more ps → IsLawfulCount n → may_be n → Kept w hs
-      → (h : Hand) × (b : Bias) × HandStep me.0.hand h (word_after op n) × may_count me.0 (part h b) × CountMove n (word_after op n) (count_part bias me.0) (part h b) × CountKept (word_after op n) more (set ps id (part h b)) × Kept w (set hs id h) × tells n (based counted me.0 h b, me.1)
+      → (h : Hand) × (b : Bias) × HandStep me.0.hand h (word_after op n) × TriesWhere may_miss n me.0 h × may_count me.0 (part h b) × CountMove n (word_after op n) (count_part bias me.0) (part h b) × CountKept (word_after op n) more (set ps id (part h b)) × Kept w (set hs id h) × tells n (based counted me.0 h b, me.1)
 
   -- any step on the count whose hand and bias the found word chooses
   count-goes : (slots id : ℕ) (me : M) (op : Op) (tells : ℕ → M → Type 0) → Comes id me op tells → Lets holds moves slots id me place op tells
   count-goes slots id me op tells comes st there _ at small = let ws = st.words in let vs = st.views in let n : ℕ = get_or ws place 0 in let c = count_kept ws vs there in
       let t = comes n (more ws vs) (map (count_part bias) vs) (site k ws) (map hand_of vs) (at_map (count_part bias) vs id me.0 at) (at_map hand_of vs id me.0 at) (alone-parts bias vs) (held-parts bias vs) c.0 c.1 c.2 (kept ws vs there) in
-      (based counted me.0 t.0 t.1, keeps, tt, counts ws vs id (word_after op n) me.0 t.0 t.1 there at t.2 t.3 t.4 t.5 t.6, refl, t.7)
+      (based counted me.0 t.0 t.1, keeps, tt, counts ws vs id (word_after op n) me.0 t.0 t.1 there at t.2 t.3 t.4 t.5 t.6 t.7, refl, t.8)
 
   -- what it learns that takes a hold where nobody holds alone
   gets : (me : M) (w : SiteWords) (hs : List Hand) (id : ℕ) (held : Held) (r : Kept w hs) → get_elem? hs id ≡ some me.0.hand → total alone_of hs ≡ 0 → Gets counted o held me (based counted me.0 (took me.0.hand held (take size w.guarded) r.log) Clear, me.1)
@@ -101,14 +102,15 @@ module _ {E Call : Type 0} (o : Obj Call) (unavailable : Unavailable) (size : �
       (known, r.log, (λ p plan. subst (λ (z : Plan). Learns o z v.hand known r.log) (its-plan k p v.hand.plan ok.plan plan) record { stored = quiet-state o unavailable size k w hs r unheld; within = r.tells.within; begins = ok.seen }), (refl, refl))
 
   -- a reader's bias is added
-  reads-there : (slots id t : ℕ) (me : M) → me.0.hand.task ≡ Some t → me.0.hand.held ≡ No → bias me.0.ext ≡ Clear → may_count me.0 (record { held = Shared; bias = Clear }) → ((n : ℕ) → may_count me.0 (record { held = No; bias = Transit n }))
+  reads-there : (slots id t : ℕ) (me : M) → me.0.hand.task ≡ Some t → me.0.hand.held ≡ No → bias me.0.ext ≡ Clear → may_count me.0 (record { held = Shared; bias = Clear }) → ((n : ℕ) → may_count me.0 (record { held = No; bias = Transit n })) → may_miss me.0
       → Lets holds moves slots id me place (Add 256) (ReadAdded counted o (step slots place 256 0 none) me)
-  reads-there slots id t me has out clear may wait = count-goes slots id me (Add 256) (ReadAdded counted o (step slots place 256 0 none) me) (λ n more ps w hs mine mine' alones helds c lawful fits r. let v = me.0 in let p : CountPart = count_part bias v in let low = lawful.0 in let high = lawful.1 in let numbered : v.hand.task ≢ None = λ e. none-some t (sym e ∙ has) in
+  reads-there slots id t me has out clear may wait miss = count-goes slots id me (Add 256) (ReadAdded counted o (step slots place 256 0 none) me) (λ n more ps w hs mine mine' alones helds c lawful fits r. let v = me.0 in let p : CountPart = count_part bias v in let low = lawful.0 in let high = lawful.1 in let numbered : v.hand.task ≢ None = λ e. none-some t (sym e ∙ has) in
       let sum : n + 256 ≡ word_after (Add 256) n = omega (arith, low, high) in let wr = c.writer in free-or-shut n (n + 256) lawful (omega arith) (omega arith)
       (λ free is. let none_alone : total alone_of hs ≡ 0 = omega (arith, alones, wr, is) in let g : Hand = took v.hand Shared (take size w.guarded) r.log in (
         g,
         Clear,
         record { numbered = numbered; task = refl; goes = record { misses = omega arith; freed = λ e. refl; takes = omega arith; comes = λ _ _. omega arith }; left = λ held. absurd (held out) },
+        inl (refl, inl refl),
         may,
         record { flags = omega (arith, sum); writer = λ x y. omega (arith, is); lone = λ x y. absurd (omega (arith, x, y, sum)); reader = λ _. inr (inl (omega (arith, is))); bias = inr (inl refl) },
         subst (λ (z : ℕ). CountKept z more (set ps id (part g Clear))) sum (count-reads ps id p (part g Clear) mine n more c is out clear refl refl),
@@ -119,6 +121,7 @@ module _ {E Call : Type 0} (o : Obj Call) (unavailable : Unavailable) (size : �
         g,
         Transit n,
         record { numbered = numbered; task = refl; goes = record { misses = omega arith; freed = λ e. refl; takes = omega arith; comes = λ none holds. absurd (holds none) }; left = λ held. absurd (held out) },
+        inr (record { out = out; counts = refl; saw = refl }, miss),
         subst (λ (z : Held). may_count v (record { held = z; bias = Transit n })) (sym out) (wait n),
         record { flags = omega (arith, sum); writer = λ x y. absurd (omega (arith, x, y, sum)); lone = λ x y. absurd (omega (arith, x, y, sum)); reader = λ e. shared-no (sym e ∙ out); bias = inr (inr (clear, inl refl)) },
         subst (λ (z : ℕ). CountKept z more (set ps id (part g (Transit n)))) sum (count-transit ps id p (part g (Transit n)) mine n more c out clear out refl),
@@ -131,53 +134,53 @@ module _ {E Call : Type 0} (o : Obj Call) (unavailable : Unavailable) (size : �
   same-hand ws vs id v h at = subst (Kept (site k ws)) (sym (set_again (map hand_of vs) id v.hand (at_map hand_of vs id v at))) (kept ws vs h)
 
   -- a reader's try sees the count, and leaves it
-  saw-there : (me : M) (ws : List ℕ) (vs : List (View E)) (id : ℕ) → holds ws vs → get_elem? vs id ≡ some me.0 → me.0.hand.task ≢ None
+  saw-there : (me : M) (ws : List ℕ) (vs : List (View E)) (id : ℕ) → holds ws vs → get_elem? vs id ≡ some me.0 → me.0.hand.task ≢ None → me.0.hand.held ≡ No → may_miss me.0
       → (w : View E) × (w.steps ≡ me.0.steps + 1) × Goes holds moves id ws vs ws (set vs id w) × SeenBy me (get_or ws place 0) (w, me.1)
-  saw-there me ws vs id h at numbered = let v = me.0 in let n : ℕ = get_or ws place 0 in let lawful = (count_kept ws vs h).1 in let low = lawful.0 in let high = lawful.1 in let mine = at_map hand_of vs id v at in let g : Hand = missed v.hand n (v.steps + 1) in free-or-shut n n lawful refl (omega arith)
+  saw-there me ws vs id h at numbered out miss = let v = me.0 in let n : ℕ = get_or ws place 0 in let lawful = (count_kept ws vs h).1 in let low = lawful.0 in let high = lawful.1 in let mine = at_map hand_of vs id v at in let g : Hand = missed v.hand n (v.steps + 1) in free-or-shut n n lawful refl (omega arith)
       (λ free is. (
         ticked v,
         refl,
-        count_looks ws vs id n v v.hand h at record { numbered = numbered; task = refl; goes = record { misses = omega arith; freed = λ e. refl; takes = omega arith; comes = λ none holds. absurd (holds none) }; left = λ held other. absurd (other refl) } refl (same-hand ws vs id v h at),
+        count_looks ws vs id n v v.hand h at record { numbered = numbered; task = refl; goes = record { misses = omega arith; freed = λ e. refl; takes = omega arith; comes = λ none holds. absurd (holds none) }; left = λ held other. absurd (other refl) } (inl (saw-stays v.hand)) refl (same-hand ws vs id v h at),
         (lawful, (λ _. (refl, refl)), λ shut. absurd (shut free)),
       ))
       (λ shut not. (
         handed v g,
         refl,
-        count_looks ws vs id n v g h at record { numbered = numbered; task = refl; goes = record { misses = omega arith; freed = λ e. refl; takes = omega arith; comes = λ none holds. absurd (holds none) }; left = λ held other. absurd (other refl) } refl (site-misses o unavailable size k (site k ws) (map hand_of vs) id n (v.steps + 1) v.hand (kept ws vs h) mine (omega (arith, low, high))),
+        count_looks ws vs id n v g h at record { numbered = numbered; task = refl; goes = record { misses = omega arith; freed = λ e. refl; takes = omega arith; comes = λ none holds. absurd (holds none) }; left = λ held other. absurd (other refl) } (inr (record { out = out; counts = refl; saw = refl }, miss)) refl (site-misses o unavailable size k (site k ws) (map hand_of vs) id n (v.steps + 1) v.hand (kept ws vs h) mine (omega (arith, low, high))),
         (lawful, (λ free. absurd (shut free)), λ _. (refl, refl)),
       ))
 
   -- its load
-  looks-there : (slots id : ℕ) (me : M) → me.0.hand.task ≢ None → Lets holds moves slots id me place Load (Looked (step slots place 0 0 none) me)
-  looks-there slots id me numbered s h l at small = let t = saw-there me s.words s.views id h at numbered in
+  looks-there : (slots id : ℕ) (me : M) → me.0.hand.task ≢ None → me.0.hand.held ≡ No → may_miss me.0 → Lets holds moves slots id me place Load (Looked (step slots place 0 0 none) me)
+  looks-there slots id me numbered out miss s h l at small = let t = saw-there me s.words s.views id h at numbered out miss in
       (t.0, keeps, tt, subst (λ (z : List ℕ). Goes holds moves id s.words s.views z (set s.views id t.0)) (sym (set-get_or s.words place 0)) t.2, t.1, t.3)
 
   -- its exchange
-  reader-takes : (slots id t old : ℕ) (me : M) → me.0.hand.task ≡ Some t → me.0.hand.held ≡ No → bias me.0.ext ≡ Clear → IsReadFree old → may_count me.0 (record { held = Shared; bias = Clear })
+  reader-takes : (slots id t old : ℕ) (me : M) → me.0.hand.task ≡ Some t → me.0.hand.held ≡ No → bias me.0.ext ≡ Clear → IsReadFree old → may_count me.0 (record { held = Shared; bias = Clear }) → may_miss me.0
       → Lets holds moves slots id me place (Exchange old (old + 256)) (ReadTaken counted o (step slots place old (old + 256) none) me)
-  reader-takes slots id t old me has out clear free may = let v = me.0 in let numbered : v.hand.task ≢ None = λ e. none-some t (sym e ∙ has) in chooses holds moves slots id place old (old + 256) me (ReadTaken counted o (step slots place old (old + 256) none) me)
+  reader-takes slots id t old me has out clear free may miss = let v = me.0 in let numbered : v.hand.task ≢ None = λ e. none-some t (sym e ∙ has) in chooses holds moves slots id place old (old + 256) me (ReadTaken counted o (step slots place old (old + 256) none) me)
       (λ ws vs h at found. let hs : List Hand = map hand_of vs in let ps : List CountPart = map (count_part bias) vs in let mine = at_map hand_of vs id v at in let r = kept ws vs h in let c = subst (λ (z : ℕ). CountKept z (more ws vs) ps) found (count_kept ws vs h).0 in
       let g : Hand = took v.hand Shared (take size (site k ws).guarded) r.log in let alones = alone-parts bias vs in let wr = c.writer in let low = c.low in let a = free.writer in let b = free.waiters in let d = free.handoff in
       let is : old % 8 ≡ 0 = omega (arith, low, a, b, d) in let none_alone : total alone_of hs ≡ 0 = omega (arith, alones, wr, is) in (
         based counted v g Clear,
         refl,
-        counts ws vs id (old + 256) v g Clear h at record { numbered = numbered; task = refl; goes = record { misses = omega arith; freed = λ e. refl; takes = omega arith; comes = λ _ _. omega arith }; left = λ held. absurd (held out) } may
+        counts ws vs id (old + 256) v g Clear h at record { numbered = numbered; task = refl; goes = record { misses = omega arith; freed = λ e. refl; takes = omega arith; comes = λ _ _. omega arith }; left = λ held. absurd (held out) } (inl (refl, inl refl)) may
             (subst (λ (z : ℕ). CountMove z (old + 256) (count_part bias v) (part g Clear)) (sym found) record { flags = omega arith; writer = λ x y. omega (arith, is); lone = λ x y. absurd (omega (arith, x, y)); reader = λ _. inr (inl d); bias = inr (inl refl) })
             (count-reads ps id (count_part bias v) (part g Clear) (at_map (count_part bias) vs id v at) old (more ws vs) c is out clear refl refl)
             (site-takes o unavailable size k (site k ws) hs id t v.hand Shared r mine out has (λ e. shared-no e) (λ l. absurd (omega (arith, l))) none_alone),
         ((λ _. gets me (site k ws) hs id Shared r mine none_alone), λ not. absurd (not refl)),
       ))
-      (λ ws vs h at not _. let t = saw-there me ws vs id h at numbered in (t.0, t.1, t.2, ((λ is. absurd (not is)), λ _. t.3)))
+      (λ ws vs h at not _. let t = saw-there me ws vs id h at numbered out miss in (t.0, t.1, t.2, ((λ is. absurd (not is)), λ _. t.3)))
 
   -- a writer takes a count of 0
-  writer-takes : (slots id t : ℕ) (me : M) → me.0.hand.task ≡ Some t → me.0.hand.held ≡ No → bias me.0.ext ≡ Clear → may_count me.0 (record { held = Alone; bias = Clear }) → Lets holds moves slots id me place (Exchange 0 1) (WriteTaken counted o (step slots place 0 1 none) me)
-  writer-takes slots id t me has out clear may = let v = me.0 in let numbered : v.hand.task ≢ None = λ e. none-some t (sym e ∙ has) in chooses holds moves slots id place 0 1 me (WriteTaken counted o (step slots place 0 1 none) me)
+  writer-takes : (slots id t : ℕ) (me : M) → me.0.hand.task ≡ Some t → me.0.hand.held ≡ No → bias me.0.ext ≡ Clear → may_count me.0 (record { held = Alone; bias = Clear }) → may_miss me.0 → Lets holds moves slots id me place (Exchange 0 1) (WriteTaken counted o (step slots place 0 1 none) me)
+  writer-takes slots id t me has out clear may miss = let v = me.0 in let numbered : v.hand.task ≢ None = λ e. none-some t (sym e ∙ has) in chooses holds moves slots id place 0 1 me (WriteTaken counted o (step slots place 0 1 none) me)
       (λ ws vs h at found. let hs : List Hand = map hand_of vs in let ps : List CountPart = map (count_part bias) vs in let mine = at_map hand_of vs id v at in let r = kept ws vs h in let c = subst (λ (z : ℕ). CountKept z (more ws vs) ps) found (count_kept ws vs h).0 in
       let g : Hand = took v.hand Alone (take size (site k ws).guarded) r.log in let alones = alone-parts bias vs in let helds = held-parts bias vs in let wr = c.writer in let f = c.field in
       let none_alone : total alone_of hs ≡ 0 = omega (arith, alones, wr) in let none_held : total held_of hs ≡ 0 = omega (arith, helds, wr, f) in (
         based counted v g Clear,
         refl,
-        counts ws vs id 1 v g Clear h at record { numbered = numbered; task = refl; goes = record { misses = omega arith; freed = λ e. refl; takes = omega arith; comes = λ _ _. omega arith }; left = λ held. absurd (held out) } may
+        counts ws vs id 1 v g Clear h at record { numbered = numbered; task = refl; goes = record { misses = omega arith; freed = λ e. refl; takes = omega arith; comes = λ _ _. omega arith }; left = λ held. absurd (held out) } (inl (refl, inl refl)) may
             (subst (λ (z : ℕ). CountMove z 1 (count_part bias v) (part g Clear)) (sym found) record { flags = refl; writer = λ x y. refl; lone = λ x y. refl; reader = λ e. alone-shared e; bias = inr (inl refl) })
             (count-writes ps id (count_part bias v) (part g Clear) (at_map (count_part bias) vs id v at) 0 1 (more ws vs) c refl refl refl (omega arith) out refl (sym clear))
             (site-takes o unavailable size k (site k ws) hs id t v.hand Alone r mine out has (λ e. no-alone (sym e)) (λ _. none_held) none_alone),
@@ -186,7 +189,7 @@ module _ {E Call : Type 0} (o : Obj Call) (unavailable : Unavailable) (size : �
       (λ ws vs h at not _. let n : ℕ = get_or ws place 0 in let lawful = (count_kept ws vs h).1 in let low = lawful.0 in let high = lawful.1 in let g : Hand = missed v.hand n (v.steps + 1) in (
         handed v g,
         refl,
-        count_looks ws vs id n v g h at record { numbered = numbered; task = refl; goes = record { misses = omega arith; freed = λ e. refl; takes = omega arith; comes = λ none holds. absurd (holds none) }; left = λ held other. absurd (other refl) } refl (site-misses o unavailable size k (site k ws) (map hand_of vs) id n (v.steps + 1) v.hand (kept ws vs h) (at_map hand_of vs id v at) (omega (arith, low, high))),
+        count_looks ws vs id n v g h at record { numbered = numbered; task = refl; goes = record { misses = omega arith; freed = λ e. refl; takes = omega arith; comes = λ none holds. absurd (holds none) }; left = λ held other. absurd (other refl) } (inr (record { out = out; counts = refl; saw = refl }, miss)) refl (site-misses o unavailable size k (site k ws) (map hand_of vs) id n (v.steps + 1) v.hand (kept ws vs h) (at_map hand_of vs id v at) (omega (arith, low, high))),
         ((λ is. absurd (not is)), λ _. (lawful, (refl, refl))),
       ))
 
@@ -199,6 +202,7 @@ module _ {E Call : Type 0} (o : Obj Call) (unavailable : Unavailable) (size : �
         v.hand,
         Clear,
         record { numbered = numbered; task = refl; goes = record { misses = omega arith; freed = λ e. refl; takes = omega arith; comes = λ none holds. absurd (holds none) }; left = λ held other. absurd (other refl) },
+        inl (refl, inl refl),
         may,
         record { flags = omega (arith, less); writer = λ x y. absurd (omega (arith, x, y, less)); lone = λ x y. absurd (omega (arith, x, y, less)); reader = λ e. inl e; bias = inr (inl refl) },
         count-backs ps id p (part v.hand Clear) mine n (word_after (Sub 256) n) more c (omega (arith, less)) (omega (arith, less, low)) (omega (arith, less)) refl one refl,
@@ -214,6 +218,7 @@ module _ {E Call : Type 0} (o : Obj Call) (unavailable : Unavailable) (size : �
         g,
         Clear,
         record { numbered = numbered; task = refl; goes = record { misses = omega arith; freed = λ e. shared-no (sym shares ∙ sym e); takes = omega arith; comes = λ _ holds. absurd (holds refl) }; left = λ held other. left },
+        inl (refl, inl refl),
         may,
         record { flags = omega (arith, less); writer = λ x y. absurd (omega (arith, x, y, less)); lone = λ x y. absurd (omega (arith, x, y, less)); reader = λ e. shared-no (sym e); bias = inr (inl refl) },
         count-frees-shared ps id p (part g Clear) mine n (word_after (Sub 256) n) more c less shares clear refl refl,
@@ -229,6 +234,7 @@ module _ {E Call : Type 0} (o : Obj Call) (unavailable : Unavailable) (size : �
         g,
         Clear,
         record { numbered = numbered; task = refl; goes = record { misses = omega arith; freed = λ e. no-alone (e ∙ alone); takes = omega arith; comes = λ _ holds. absurd (holds refl) }; left = λ held other. left },
+        inl (refl, inl refl),
         may,
         record { flags = omega (arith, less, wr, A, one); writer = λ x y. absurd (omega (arith, x, wr, A, one)); lone = λ x y. absurd (omega (arith, x, wr, A, one)); reader = λ e. shared-no (sym e); bias = inr (inl refl) },
         count-frees-alone ps id p (part g Clear) mine n (word_after (Sub 1) n) more c less alone clear refl refl,
@@ -244,6 +250,7 @@ module _ {E Call : Type 0} (o : Obj Call) (unavailable : Unavailable) (size : �
         g,
         Clear,
         record { numbered = numbered; task = refl; goes = record { misses = omega arith; freed = λ e. alone-shared (sym alone ∙ sym e); takes = omega arith; comes = λ none _. no-alone (sym none ∙ alone) }; left = λ held other. sum },
+        inl (refl, inl refl),
         may,
         record { flags = omega (arith, sum, odd, low); writer = λ x y. absurd (omega (arith, x, odd)); lone = λ x y. absurd (omega (arith, x, odd)); reader = λ _. inr (inr (inr alone)); bias = inr (inl refl) },
         subst (λ (z : ℕ). CountKept z more (set ps id (part g Clear))) sum (count-downgrades ps id p (part g Clear) mine n more c alone clear refl refl),
@@ -255,19 +262,19 @@ module _ {E Call : Type 0} (o : Obj Call) (unavailable : Unavailable) (size : �
       writes-odd more ps n c l e = let w = c.writer in omega (arith, w, l, e)
 
   -- the same, whichever way the place is written
-  pub reads : (slots id at t : ℕ) (me : M) → at ≡ place → me.0.hand.task ≡ Some t → me.0.hand.held ≡ No → bias me.0.ext ≡ Clear → may_count me.0 (record { held = Shared; bias = Clear }) → ((n : ℕ) → may_count me.0 (record { held = No; bias = Transit n }))
+  pub reads : (slots id at t : ℕ) (me : M) → at ≡ place → me.0.hand.task ≡ Some t → me.0.hand.held ≡ No → bias me.0.ext ≡ Clear → may_count me.0 (record { held = Shared; bias = Clear }) → ((n : ℕ) → may_count me.0 (record { held = No; bias = Transit n })) → may_miss me.0
       → Lets holds moves slots id me at (Add 256) (ReadAdded counted o (step slots at 256 0 none) me)
-  reads slots id at t me is has out clear may wait = subst (λ (z : ℕ). Lets holds moves slots id me z (Add 256) (ReadAdded counted o (step slots z 256 0 none) me)) (sym is) (reads-there slots id t me has out clear may wait)
+  reads slots id at t me is has out clear may wait miss = subst (λ (z : ℕ). Lets holds moves slots id me z (Add 256) (ReadAdded counted o (step slots z 256 0 none) me)) (sym is) (reads-there slots id t me has out clear may wait miss)
 
-  pub looks : (slots id at : ℕ) (me : M) → at ≡ place → me.0.hand.task ≢ None → Lets holds moves slots id me at Load (Looked (step slots at 0 0 none) me)
-  looks slots id at me is numbered = subst (λ (z : ℕ). Lets holds moves slots id me z Load (Looked (step slots z 0 0 none) me)) (sym is) (looks-there slots id me numbered)
+  pub looks : (slots id at : ℕ) (me : M) → at ≡ place → me.0.hand.task ≢ None → me.0.hand.held ≡ No → may_miss me.0 → Lets holds moves slots id me at Load (Looked (step slots at 0 0 none) me)
+  looks slots id at me is numbered out miss = subst (λ (z : ℕ). Lets holds moves slots id me z Load (Looked (step slots z 0 0 none) me)) (sym is) (looks-there slots id me numbered out miss)
 
-  pub reader-gets : (slots id at t old : ℕ) (me : M) → at ≡ place → me.0.hand.task ≡ Some t → me.0.hand.held ≡ No → bias me.0.ext ≡ Clear → IsReadFree old → may_count me.0 (record { held = Shared; bias = Clear })
+  pub reader-gets : (slots id at t old : ℕ) (me : M) → at ≡ place → me.0.hand.task ≡ Some t → me.0.hand.held ≡ No → bias me.0.ext ≡ Clear → IsReadFree old → may_count me.0 (record { held = Shared; bias = Clear }) → may_miss me.0
       → Lets holds moves slots id me at (Exchange old (old + 256)) (ReadTaken counted o (step slots at old (old + 256) none) me)
-  reader-gets slots id at t old me is has out clear free may = subst (λ (z : ℕ). Lets holds moves slots id me z (Exchange old (old + 256)) (ReadTaken counted o (step slots z old (old + 256) none) me)) (sym is) (reader-takes slots id t old me has out clear free may)
+  reader-gets slots id at t old me is has out clear free may miss = subst (λ (z : ℕ). Lets holds moves slots id me z (Exchange old (old + 256)) (ReadTaken counted o (step slots z old (old + 256) none) me)) (sym is) (reader-takes slots id t old me has out clear free may miss)
 
-  pub writer-gets : (slots id at t : ℕ) (me : M) → at ≡ place → me.0.hand.task ≡ Some t → me.0.hand.held ≡ No → bias me.0.ext ≡ Clear → may_count me.0 (record { held = Alone; bias = Clear }) → Lets holds moves slots id me at (Exchange 0 1) (WriteTaken counted o (step slots at 0 1 none) me)
-  writer-gets slots id at t me is has out clear may = subst (λ (z : ℕ). Lets holds moves slots id me z (Exchange 0 1) (WriteTaken counted o (step slots z 0 1 none) me)) (sym is) (writer-takes slots id t me has out clear may)
+  pub writer-gets : (slots id at t : ℕ) (me : M) → at ≡ place → me.0.hand.task ≡ Some t → me.0.hand.held ≡ No → bias me.0.ext ≡ Clear → may_count me.0 (record { held = Alone; bias = Clear }) → may_miss me.0 → Lets holds moves slots id me at (Exchange 0 1) (WriteTaken counted o (step slots at 0 1 none) me)
+  writer-gets slots id at t me is has out clear may miss = subst (λ (z : ℕ). Lets holds moves slots id me z (Exchange 0 1) (WriteTaken counted o (step slots z 0 1 none) me)) (sym is) (writer-takes slots id t me has out clear may miss)
 
   pub backs : (slots id at word : ℕ) (me : M) → at ≡ place → me.0.hand.task ≢ None → bias me.0.ext ≡ Transit word → may_count me.0 (record { held = me.0.hand.held; bias = Clear }) → Lets holds moves slots id me at (Sub 256) (Leaves counted may_be 256 (λ n. n - 256) (λ h left. h) (step slots at 256 0 none) me)
   backs slots id at word me is numbered biased may = subst (λ (z : ℕ). Lets holds moves slots id me z (Sub 256) (Leaves counted may_be 256 (λ n. n - 256) (λ h left. h) (step slots z 256 0 none) me)) (sym is) (backs-there slots id word me numbered biased may)

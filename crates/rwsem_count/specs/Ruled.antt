@@ -51,6 +51,10 @@ IsLight v = held_weight v.hand.held + bias_kind v.ext ≤ number_weight v.hand.t
 abbrev pub may_count : V → CountPart → Type 0
 may_count v p = held_weight p.held + bias_kind p.bias ≤ 1
 
+-- a try fails of a pass alone whose bias isn't in the count
+abbrev pub may_miss : V → Type 0
+may_miss v = v.ext ≡ Clear
+
 module _ {Call : Type 0} (o : Obj Call) (size : ℕ) where
   -- the facts of a site, and the count states who holds and whose bias is in it
   pub record IsCountSite (k : Plan) (ws : List ℕ) (hs : List Hand) (ms : List Marks) : Type 0 where
@@ -70,7 +74,7 @@ module _ {Call : Type 0} (o : Obj Call) (size : ℕ) where
 
 -- all that each step of a site does
 abbrev pub CountMoves : Plan → ℕ → List ℕ → List V → List ℕ → List V → Type 0
-CountMoves k id ws vs us vs' = SiteMove id (site k ws) vs (site k us) vs'
+CountMoves k id ws vs us vs' = SiteMove id (slice_index ws count_at) (site k ws) vs (site k us) vs'
 
 -- a new table
 abbrev pub newest : Plan → Moment

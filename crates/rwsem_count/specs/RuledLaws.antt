@@ -18,8 +18,8 @@ use Rattle.lock_core.specs.declared.layout.TheConstants.{LOCK_WORDS}
 use Rattle.lock_core.specs.Layout.{SiteWords, fresh, site, lay, width}
 use Rattle.lock_core.specs.Views.{hand_of, handed, seated, ticked, first, split_off, merged, spent, is_number, named_of, held_weight, alone_of, HoldsNothing}
 use Rattle.lock_core.specs.Sites.{SiteKept}
-use Rattle.lock_core.specs.Moves.{Goes, KeepsHold, SiteMove}
-use Rattle.lock_core.specs.MoveLaws.{set-moves, hold-moved}
+use Rattle.lock_core.specs.Moves.{Goes, KeepsHold, SiteMove, TriesWhere}
+use Rattle.lock_core.specs.MoveLaws.{set-moves, hold-moved, tries-go}
 use Rattle.lock_core.specs.Pasts.{marks_of}
 use Rattle.lock_core.specs.Totals.{total}
 use Rattle.lock_core.specs.Parts.{Each, each-set, each-snoc, keep_part, set_part, snoc_part}
@@ -31,7 +31,7 @@ use Rattle.rwsem_count.specs.Counts.{CountKept, CountMove, CountPart, HandStep, 
 use Rattle.rwsem_count.specs.CountLaws.{count-stays, count-strangers, count-opens}
 use Rattle.rwsem_count.specs.Numbers.{few-numbers, number_weight}
 use Rattle.rwsem_count.specs.Stated.{kept_bias, shared_of, transit_of}
-use Rattle.rwsem_count.specs.Ruled.{V, same_bias, new_bias, IsPlain, bias_kind, IsLight, may_count, count_at, CountRuleKept, CountMoves, IsCountSite}
+use Rattle.rwsem_count.specs.Ruled.{V, same_bias, new_bias, IsPlain, bias_kind, IsLight, may_count, may_miss, count_at, CountRuleKept, CountMoves, IsCountSite}
 
 pub count-inside : count_at < LOCK_WORDS
 count-inside = omega arith
@@ -141,9 +141,9 @@ module _ {Call : Type 0} (o : Obj Call) (size : ℕ) where
   }
 
   -- a step on the count leaves the site's words
-  pub rule-counts : (k : Plan) (ws : List ℕ) (vs : List V) (id n : ℕ) (v : V) (h : Hand) (b : Bias) → Kept k ws vs → get_elem? vs id ≡ some v → HandStep v.hand h n → may_count v (part h b) → CountMove (get_or ws count_at 0) n (count_part same_bias v) (part h b)
+  pub rule-counts : (k : Plan) (ws : List ℕ) (vs : List V) (id n : ℕ) (v : V) (h : Hand) (b : Bias) → Kept k ws vs → get_elem? vs id ≡ some v → HandStep v.hand h n → TriesWhere may_miss (get_or ws count_at 0) v h → may_count v (part h b) → CountMove (get_or ws count_at 0) n (count_part same_bias v) (part h b)
       → CountKept n 0 (set (parts vs) id (part h b)) → Site k ws (set (map hand_of vs) id h) → Goes (Kept k) (CountMoves k) id ws vs (set ws count_at n) (set vs id (based new_bias v h b))
-  rule-counts k ws vs id n v h b r at step may move count there = let w : V = based new_bias v h b in let wide = r.wide in let same : site k (set ws count_at n) ≡ site k ws = ap (lay k) (drop-set-lt LOCK_WORDS ws count_at n (omega arith)) in
+  rule-counts k ws vs id n v h b r at step tries may move count there = let w : V = based new_bias v h b in let wide = r.wide in let same : site k (set ws count_at n) ≡ site k ws = ap (lay k) (drop-set-lt LOCK_WORDS ws count_at n (omega arith)) in
       let word : get_or (set ws count_at n) count_at 0 ≡ n = get_or-set_same ws count_at n 0 (omega (arith, wide)) in (
         record {
           wide = length-set ws count_at n ∙ wide;
@@ -152,11 +152,11 @@ module _ {Call : Type 0} (o : Obj Call) (size : ℕ) where
           plain = subst IsPlain (sym word) (move.flags ∙ r.plain);
           light = each-set IsLight IsLight vs id w (let l : 1 ≤ number_weight h.task = some-number h.task (λ e. step.numbered (sym step.task ∙ e)) in omega (arith, l, may)) (λ j x _ _ p. p) r.light;
         },
-        subst (λ (z : SiteWords). SiteMove id (site k ws) vs z (set vs id w)) (sym same) (set-moves id (site k ws) (site k ws) vs v w at (hold-moved (site k ws) v h b step.goes)),
+        subst (λ (z : SiteWords). SiteMove id (get_or ws count_at 0) (site k ws) vs z (set vs id w)) (sym same) (set-moves id (site k ws) (site k ws) vs v w at (hold-moved (site k ws) v h b step.goes (tries-go may_miss v h tries))),
       )
 
-  pub rule-looks : (k : Plan) (ws : List ℕ) (vs : List V) (id n : ℕ) (v : V) (h : Hand) → Kept k ws vs → get_elem? vs id ≡ some v → HandStep v.hand h n → h.held ≡ v.hand.held → Site k ws (set (map hand_of vs) id h) → Goes (Kept k) (CountMoves k) id ws vs ws (set vs id (handed v h))
-  rule-looks k ws vs id n v h r at step held there = let w : V = handed v h in let word : ℕ = get_or ws count_at 0 in (
+  pub rule-looks : (k : Plan) (ws : List ℕ) (vs : List V) (id n : ℕ) (v : V) (h : Hand) → Kept k ws vs → get_elem? vs id ≡ some v → HandStep v.hand h n → TriesWhere may_miss (get_or ws count_at 0) v h → h.held ≡ v.hand.held → Site k ws (set (map hand_of vs) id h) → Goes (Kept k) (CountMoves k) id ws vs ws (set vs id (handed v h))
+  rule-looks k ws vs id n v h r at step tries held there = let w : V = handed v h in let word : ℕ = get_or ws count_at 0 in (
     record {
       wide = r.wide;
       site_holds = set_part hand_of (Site k ws) vs id w there;
@@ -164,7 +164,7 @@ module _ {Call : Type 0} (o : Obj Call) (size : ℕ) where
       plain = r.plain;
       light = each-set IsLight IsLight vs id w (let l = r.light id v at in let x : held_weight h.held ≡ held_weight v.hand.held = ap held_weight held in let y : number_weight h.task ≡ number_weight v.hand.task = ap number_weight step.task in omega (arith, l, x, y)) (λ j x _ _ p. p) r.light;
     },
-    set-moves id (site k ws) (site k ws) vs v w at (hold-moved (site k ws) v h v.ext step.goes),
+    set-moves id (site k ws) (site k ws) vs v w at (hold-moved (site k ws) v h v.ext step.goes (tries-go may_miss v h tries)),
   )
 
   -- what is kept implies what is stated

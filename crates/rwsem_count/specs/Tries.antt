@@ -43,6 +43,11 @@ module _ {E : Type 0} (may_count : View E → CountPart → Type 0) where
   abbrev pub MayReadSince : View E → Type 0
   MayReadSince v = (s : ℕ) → may_count (at_step v s) (record { held = Shared; bias = Clear })
 
+module _ {E : Type 0} (may_miss : View E → Type 0) where
+  -- its try may fail, whatever steps it makes meanwhile
+  abbrev pub MayMissSince : View E → Type 0
+  MayMissSince v = (s : ℕ) → may_miss (at_step v s)
+
 module _ {E : Type 0} (counted : View E → Hand → Bias → E) where
   -- it holds in this way by its bias in the count, and has learnt what the lock guards
   abbrev pub TakesCount : {Call : Type 0} → Obj Call → Plan → Held → View E → View E → Type 0

@@ -10,7 +10,7 @@ ghost use Rattle.lock_core.specs.declared.layout.TheConstants.{LOCK_WORDS};
 ghost use Rattle.lock_core.specs.Layout.{site};
 ghost use Rattle.lock_core.specs.Views.{hand_of, handed};
 ghost use Rattle.lock_core.specs.Sites.{SiteKept};
-ghost use Rattle.lock_core.specs.Moves.{Goes};
+ghost use Rattle.lock_core.specs.Moves.{Goes, TriesWhere};
 ghost use Rattle.rwsem_count.specs.declared.view.Bias.{Bias as ABias};
 ghost use Rattle.rwsem_count.specs.Counts.{CountKept, CountMove, CountPart, HandStep, based, count_part, part};
 
@@ -45,6 +45,9 @@ pub trait CountHost: SiteRule {
     // Where a pass with this view may come to hold so and to have such a bias.
     ghost may_count: { View Self.Ext → CountPart → Type 0 };
 
+    // Where a try of a pass with this view may fail.
+    ghost may_miss: { View Self.Ext → Type 0 };
+
     ghost count_inside: { COUNT < LOCK_WORDS };
 
     ghost bias_back: { (v : View Self.Ext) (h : Hand) (b : ABias) → bias (counted v h b) ≡ b };
@@ -54,8 +57,8 @@ pub trait CountHost: SiteRule {
     // A step on the count that keeps its own facts, its flags and the site's facts keeps every
     // other fact of the rule. A step on another word, by which a pass comes to hold or not by a
     // bias that it has, is one that leaves the count.
-    ghost counts: { (k : Calls) (ws : List ℕ) (vs : List (View Self.Ext)) (id n : ℕ) (v : View Self.Ext) (h : Hand) (b : ABias) → Self.holds k ws vs → get_elem? vs id ≡ some v → HandStep v.hand h n → may_count v (part h b) → CountMove (slice_index ws COUNT) n (count_part bias v) (part h b) → CountKept n (more k ws vs) (slice_set (map (count_part bias) vs) id (part h b)) → SiteKept Self.O.object Self.unavailable Self.O.WORDS k (site k ws) (slice_set (map hand_of vs) id h) → Goes (Self.holds k) (Self.moves k) id ws vs (slice_set ws COUNT n) (slice_set vs id (based counted v h b)) };
+    ghost counts: { (k : Calls) (ws : List ℕ) (vs : List (View Self.Ext)) (id n : ℕ) (v : View Self.Ext) (h : Hand) (b : ABias) → Self.holds k ws vs → get_elem? vs id ≡ some v → HandStep v.hand h n → TriesWhere may_miss (slice_index ws COUNT) v h → may_count v (part h b) → CountMove (slice_index ws COUNT) n (count_part bias v) (part h b) → CountKept n (more k ws vs) (slice_set (map (count_part bias) vs) id (part h b)) → SiteKept Self.O.object Self.unavailable Self.O.WORDS k (site k ws) (slice_set (map hand_of vs) id h) → Goes (Self.holds k) (Self.moves k) id ws vs (slice_set ws COUNT n) (slice_set vs id (based counted v h b)) };
 
     // So does a step that leaves the count, how the pass holds, its bias and what it knows beyond.
-    ghost count_looks: { (k : Calls) (ws : List ℕ) (vs : List (View Self.Ext)) (id n : ℕ) (v : View Self.Ext) (h : Hand) → Self.holds k ws vs → get_elem? vs id ≡ some v → HandStep v.hand h n → h.held ≡ v.hand.held → SiteKept Self.O.object Self.unavailable Self.O.WORDS k (site k ws) (slice_set (map hand_of vs) id h) → Goes (Self.holds k) (Self.moves k) id ws vs ws (slice_set vs id (handed v h)) };
+    ghost count_looks: { (k : Calls) (ws : List ℕ) (vs : List (View Self.Ext)) (id n : ℕ) (v : View Self.Ext) (h : Hand) → Self.holds k ws vs → get_elem? vs id ≡ some v → HandStep v.hand h n → TriesWhere may_miss (slice_index ws COUNT) v h → h.held ≡ v.hand.held → SiteKept Self.O.object Self.unavailable Self.O.WORDS k (site k ws) (slice_set (map hand_of vs) id h) → Goes (Self.holds k) (Self.moves k) id ws vs ws (slice_set vs id (handed v h)) };
 }

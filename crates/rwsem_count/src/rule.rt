@@ -1,7 +1,7 @@
 //! The rule of a table with a count alone.
 ghost use Rattle.word_bits.specs.LockWords.{counted};
 ghost use Rattle.rwsem_count.specs.declared.view.Bias.TheVariants.{Clear};
-ghost use Rattle.rwsem_count.specs.Ruled.{CountMoves, CountRuleKept, IsPlain, count_at, may_count, new_bias, same_bias};
+ghost use Rattle.rwsem_count.specs.Ruled.{CountMoves, CountRuleKept, IsPlain, count_at, may_count, may_miss, new_bias, same_bias};
 ghost use Rattle.rwsem_count.specs.RuledLaws.{count-inside, rule-site, rule-count, rule-sites, rule-opens, rule-splits, rule-joins, rule-counts, rule-looks};
 ghost use Rattle.rwsem_count.specs.Stated.{kept_bias};
 ghost use Rattle.std.specs.Prelude.{◌≡◌, ◌<◌, refl};
@@ -30,6 +30,8 @@ impl<O: Object> SiteRule for CountRule<O> {
     ghost moves = { CountMoves };
 
     ghost marks = { kept_bias };
+
+    ghost word_at = { count_at };
 
     ghost idle = { Clear };
 
@@ -62,6 +64,8 @@ impl<O: Object> CountHost for CountRule<O> {
     ghost more = { λ k ws vs. 0 };
 
     ghost may_count = { may_count };
+
+    ghost may_miss = { may_miss };
 
     ghost count_inside = { count-inside };
 

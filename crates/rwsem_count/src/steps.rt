@@ -75,6 +75,7 @@ pub fn read_add<H: CountHost>(site: &Site<H>, pass: &mut Pass<H>) -> Result<(), 
     requires reads { H.may_count (view_of pass.old) (record { held = Shared; bias = Clear }) }
     requires waits { (n : ℕ) →
         H.may_count (view_of pass.old) (record { held = No; bias = Transit n }) }
+    requires misses { H.may_miss (view_of pass.old) }
     ensures own { SitsAt site.now pass.new }
     ensures goes_on { KeepsPast pass.old pass.new }
     ensures last { IsLatest pass.new }
@@ -103,6 +104,7 @@ pub fn write_try<H: CountHost>(site: &Site<H>, pass: &mut Pass<H>) -> Result<(),
     requires out { held_in pass.old ≡ No }
     requires clear { H.bias (view_of pass.old).ext ≡ Clear }
     requires writes { H.may_count (view_of pass.old) (record { held = Alone; bias = Clear }) }
+    requires misses { H.may_miss (view_of pass.old) }
     ensures own { SitsAt site.now pass.new }
     ensures goes_on { KeepsPast pass.old pass.new }
     ensures last { IsLatest pass.new }

@@ -6,7 +6,7 @@ ghost use Rattle.lock_core.specs.Handles.{IsLatest, plan_of, view_of, past_of, t
 ghost use Rattle.lock_core.specs.Pasts.{FoundAt};
 ghost use Rattle.rwsem_count.specs.declared.view.Bias.TheVariants.{Clear};
 ghost use Rattle.rwsem_count.specs.Plays.{Looked, ReadTaken};
-ghost use Rattle.rwsem_count.specs.Tries.{FindsFree, MayReadSince, MissesSince, SawCount, TakesCount, TakesSince};
+ghost use Rattle.rwsem_count.specs.Tries.{FindsFree, MayMissSince, MayReadSince, MissesSince, SawCount, TakesCount, TakesSince};
 ghost use Rattle.rwsem_count.specs.WordSteps.{IsReadFree};
 
 use crate::host::CountHost;
@@ -35,6 +35,8 @@ impl<H: CountHost> Play<(), View<H::Ext>> for Takes<H> {
 fn look<H: CountHost>(site: &Site<H>, pass: &mut Pass<H>) -> u64
     requires own { SitsAt site.now pass.old }
     requires numbered { IsSome (task_in pass.old) }
+    requires out { held_in pass.old ≡ No }
+    requires misses { H.may_miss (view_of pass.old) }
     ensures own { SitsAt site.now pass.new }
     ensures goes_on { KeepsPast pass.old pass.new }
     ensures last { IsLatest pass.new }
@@ -54,6 +56,7 @@ fn take<H: CountHost>(site: &Site<H>, pass: &mut Pass<H>, word: u64) -> u64
     requires free { IsReadFree word }
     requires lawful { IsLawfulCount word }
     requires may { H.may_count (view_of pass.old) (record { held = Shared; bias = Clear }) }
+    requires misses { H.may_miss (view_of pass.old) }
     ensures own { SitsAt site.now pass.new }
     ensures goes_on { KeepsPast pass.old pass.new }
     ensures last { IsLatest pass.new }
@@ -84,6 +87,7 @@ pub fn read_try<H: CountHost, W: Wait>(
     requires out { held_in pass.old ≡ No }
     requires clear { H.bias (view_of pass.old).ext ≡ Clear }
     requires may { MayReadSince H.may_count (view_of pass.old) }
+    requires misses { MayMissSince H.may_miss (view_of pass.old) }
     ensures own { SitsAt site.now pass.new }
     ensures goes_on { KeepsPast pass.old pass.new }
     ensures last { IsLatest pass.new }

@@ -51,7 +51,7 @@ impl<R: SiteRule> Site<R> {
         ensures kept { view_of pass.new ≡ ticked (view_of pass.old) }
         ensures last { IsLatest pass.new }
         ensures moves { Ran R.marks (opening R.marks (plan_of self.now) R.idle)
-            (IsSiteMove (plan_of self.now)) (past_of pass.new) }
+            (IsSiteMove (plan_of self.now) R.word_at) (past_of pass.new) }
     {
         self.recall(pass);
     }

@@ -13,8 +13,8 @@ own_code-code-requires g c = its-number c.args.site.now.table.shared.key c.args.
 
 pub step-found-requires-clause-lets : goal.step-found-requires-clause-lets
 step-found-requires-clause-lets g c = let k = c.args.site.now.table.shared.key in
-    takes g.H.O.Object.object g.H.SiteRule.unavailable g.H.O.Object.WORDS k (g.H.SiteRule.holds k) (g.H.SiteRule.moves k) g.H.OwnerHost.OWNER g.H.OwnerHost.may_be g.H.OwnerHost.may_own g.H.OwnerHost.turned (g.met.H.SiteRule.site_kept k) (g.met.H.OwnerHost.own_kept k) (g.met.H.OwnerHost.owns k) (g.met.H.OwnerHost.own_may k) (g.met.H.OwnerHost.own_looks k)
-    _ _ _ _ c.args.pass.now.face.task _ c.OWNER.ensures c.own_code-code.ensures c.requires.own.task (λ none. not-both false refl (subst IsSome none c.requires.numbered)) (sym c.requires.own.held ∙ c.requires.out) c.requires.may
+    takes g.H.O.Object.object g.H.SiteRule.unavailable g.H.O.Object.WORDS k (g.H.SiteRule.holds k) (g.H.SiteRule.moves k) g.H.OwnerHost.OWNER g.H.OwnerHost.may_be g.H.OwnerHost.may_own g.H.OwnerHost.may_miss g.H.OwnerHost.turned (g.met.H.SiteRule.site_kept k) (g.met.H.OwnerHost.own_kept k) (g.met.H.OwnerHost.owns k) (g.met.H.OwnerHost.own_may k) (g.met.H.OwnerHost.own_looks k)
+    _ _ _ _ c.args.pass.now.face.task _ c.OWNER.ensures c.own_code-code.ensures c.requires.own.task (λ none. not-both false refl (subst IsSome none c.requires.numbered)) (sym c.requires.own.held ∙ c.requires.out) c.requires.may c.requires.misses
 
 pub returns-then-found-ne0-clause-own : goal.returns-then-found-ne0-clause-own
 returns-then-found-ne0-clause-own g c = let told = c.step-found.ensures.told.1 c.if-found-ne0.true in

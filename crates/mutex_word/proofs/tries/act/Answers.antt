@@ -11,3 +11,7 @@ ask-found-requires-clause-may g c = let s = subst (Says g.A.TryKind.asks c.args.
 pub ask-found-requires-clause-fails : goal.ask-found-requires-clause-fails
 ask-found-requires-clause-fails g c = let s = subst (Says g.A.TryKind.asks c.args.pass.now.face.task c.args.word) c.in-Ask.is c.requires.says in
     λ n f. (c.requires.may (ask-on g.A.TryKind.asks c.args.pass.now.face.task c.args.word c.in-Ask.new s.0 s.1)).fails c.args.pass.now.seat.me.0.view.steps n f
+
+pub take-found-requires-clause-fails : goal.take-found-requires-clause-fails
+take-found-requires-clause-fails g c = let s = subst (Says g.A.TryKind.asks c.args.pass.now.face.task c.args.word) c.in-Take.is c.requires.says in
+    λ n f. (c.requires.may (take-on g.A.TryKind.asks c.args.pass.now.face.task s.0 c.args.word c.in-Take.new s.1 s.2)).fails c.args.pass.now.seat.me.0.view.steps n f

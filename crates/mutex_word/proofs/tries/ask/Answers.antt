@@ -13,7 +13,7 @@ use native.Mathlib.Decide.{ℕ_discrete}
 use Rattle.mutex_word.proofs.tries.ask.Goals as goal
 
 pub step-requires-clause-lets : goal.step-requires-clause-lets
-step-requires-clause-lets g c = let k = c.args.site.now.table.shared.key in begs g.H.O.Object.object g.H.SiteRule.unavailable g.H.O.Object.WORDS k (g.H.SiteRule.holds k) (g.H.SiteRule.moves k) g.H.OwnerHost.OWNER g.H.OwnerHost.may_be g.H.OwnerHost.may_own g.H.OwnerHost.turned (g.met.H.SiteRule.site_kept k) (g.met.H.OwnerHost.own_kept k) (g.met.H.OwnerHost.owns k) (g.met.H.OwnerHost.own_may k) (g.met.H.OwnerHost.own_looks k) _ _ _ _ _ g.A.TryKind.asks g.A.TryKind.counts _ c.OWNER.ensures c.requires.asks c.requires.may c.requires.fails
+step-requires-clause-lets g c = let k = c.args.site.now.table.shared.key in begs g.H.O.Object.object g.H.SiteRule.unavailable g.H.O.Object.WORDS k (g.H.SiteRule.holds k) (g.H.SiteRule.moves k) g.H.OwnerHost.OWNER g.H.OwnerHost.may_be g.H.OwnerHost.may_own g.H.OwnerHost.may_miss g.H.OwnerHost.turned (g.met.H.SiteRule.site_kept k) (g.met.H.OwnerHost.own_kept k) (g.met.H.OwnerHost.owns k) (g.met.H.OwnerHost.own_may k) (g.met.H.OwnerHost.own_looks k) _ _ _ _ _ g.A.TryKind.asks g.A.TryKind.counts _ c.OWNER.ensures c.requires.asks c.requires.may c.requires.fails
 
 pub returns-clause-own : goal.returns-clause-own
 returns-clause-own g c = dite (ℕ_discrete c.step.result c.args.word)

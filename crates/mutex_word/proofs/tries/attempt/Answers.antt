@@ -17,10 +17,10 @@ pub act-requires-clause-says : goal.act-requires-clause-says
 act-requires-clause-says g c = subst (λ (p : Bool × Option ℕ). Says p.0 p.1 c.loop.word c.try_step.result) (λ i. (c.requires.asks i, sym (ap (λ (f : Face). f.task) c.loop.invariant.3 ∙ c.requires.numbered) i)) (says c.loop.word c.args.me c.args.asks c.loop.invariant.7.lawful c.try_step.result c.try_step.ensures.table)
 
 pub act-requires-clause-may : goal.act-requires-clause-may
-act-requires-clause-may g c = λ on. may-on g.H.OwnerHost.turned g.H.OwnerHost.may_own g.A.TryKind.asks g.A.TryKind.counts c.args.pass.now.seat.me.0.view c.loop.pass.seat.me.0.view c.loop.word c.requires.may c.loop.invariant.7 (λ f. on (subst (λ (t : Option ℕ). IsFail g.A.TryKind.asks t c.loop.word) (sym (ap (λ (f : Face). f.task) c.loop.invariant.3 ∙ c.requires.own.task)) f))
+act-requires-clause-may g c = λ on. may-on g.H.OwnerHost.turned g.H.OwnerHost.may_own g.H.OwnerHost.may_miss g.A.TryKind.asks g.A.TryKind.counts c.args.pass.now.seat.me.0.view c.loop.pass.seat.me.0.view c.loop.word c.requires.may c.loop.invariant.7 (λ f. on (subst (λ (t : Option ℕ). IsFail g.A.TryKind.asks t c.loop.word) (sym (ap (λ (f : Face). f.task) c.loop.invariant.3 ∙ c.requires.own.task)) f))
 
 pub returns-in-Ok-clause-came : goal.returns-in-Ok-clause-came
-returns-in-Ok-clause-came g c = came g.H.OwnerHost.turned g.H.OwnerHost.may_own g.A.TryKind.asks g.A.TryKind.counts g.H.O.Object.object c.args.site.now.table.shared.key c.args.pass.now.seat.me.0.view c.loop.pass.seat.me.0.view c.act.new.pass.seat.me.0.view c.loop.word c.in-Ok.end c.loop.invariant.7 c.in-Ok.ensures.ended
+returns-in-Ok-clause-came g c = came g.H.OwnerHost.turned g.H.OwnerHost.may_own g.H.OwnerHost.may_miss g.A.TryKind.asks g.A.TryKind.counts g.H.O.Object.object c.args.site.now.table.shared.key c.args.pass.now.seat.me.0.view c.loop.pass.seat.me.0.view c.act.new.pass.seat.me.0.view c.loop.word c.in-Ok.end c.loop.invariant.7 c.in-Ok.ensures.ended
 
 pub returns-in-Ok-clause-goes_on : goal.returns-in-Ok-clause-goes_on
 returns-in-Ok-clause-goes_on g c = λ p t. c.act.ensures.goes_on p (c.loop.invariant.4 p t)
@@ -34,6 +34,9 @@ loop-preserved g c = (
   (λ p t. c.act.ensures.goes_on p (c.loop.invariant.4 p t)),
   c.act.ensures.last,
   c.in-Err.ensures.found,
-  saw-again g.H.OwnerHost.turned g.H.OwnerHost.may_own g.A.TryKind.asks g.A.TryKind.counts c.args.pass.now.seat.me.0.view c.loop.pass.seat.me.0.view c.act.new.pass.seat.me.0.view c.loop.word c.in-Err.found c.loop.invariant.7
+  saw-again g.H.OwnerHost.turned g.H.OwnerHost.may_own g.H.OwnerHost.may_miss g.A.TryKind.asks g.A.TryKind.counts c.args.pass.now.seat.me.0.view c.loop.pass.seat.me.0.view c.act.new.pass.seat.me.0.view c.loop.word c.in-Err.found c.loop.invariant.7
       (λ f. c.in-Err.ensures.on (subst (λ (t : Option ℕ). IsFail g.A.TryKind.asks t c.loop.word) (sym (ap (λ (f : Face). f.task) c.loop.invariant.3 ∙ c.requires.own.task)) f)) c.in-Err.ensures.saw,
 )
+
+pub look-word-requires-clause-fails : goal.look-word-requires-clause-fails
+look-word-requires-clause-fails g c = λ n f. c.requires.may.fails c.args.pass.now.seat.me.0.view.steps n f

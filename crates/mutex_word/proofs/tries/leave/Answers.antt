@@ -11,7 +11,7 @@ use Rattle.mutex_word.proofs.Owning.{sees, gets, begs, reads, leaves, saw-word, 
 use Rattle.mutex_word.proofs.tries.leave.Goals as goal
 
 pub step-found-requires-clause-lets : goal.step-found-requires-clause-lets
-step-found-requires-clause-lets g c = let k = c.args.site.now.table.shared.key in let t = some-number c.args.pass.now.face.task c.requires.numbered in leaves g.H.O.Object.object g.H.SiteRule.unavailable g.H.O.Object.WORDS k (g.H.SiteRule.holds k) (g.H.SiteRule.moves k) g.H.OwnerHost.OWNER g.H.OwnerHost.may_be g.H.OwnerHost.may_own g.H.OwnerHost.turned (g.met.H.SiteRule.site_kept k) (g.met.H.OwnerHost.own_kept k) (g.met.H.OwnerHost.owns k) (g.met.H.OwnerHost.own_may k) (g.met.H.OwnerHost.own_looks k) _ _ _ t.0 _ _ g.L.EndKind.turn _ c.OWNER.ensures (sym c.requires.own.task ∙ t.1) (sym c.requires.own.held ∙ c.requires.held) c.requires.quiet c.requires.own.stage c.requires.left c.requires.may
+step-found-requires-clause-lets g c = let k = c.args.site.now.table.shared.key in let t = some-number c.args.pass.now.face.task c.requires.numbered in leaves g.H.O.Object.object g.H.SiteRule.unavailable g.H.O.Object.WORDS k (g.H.SiteRule.holds k) (g.H.SiteRule.moves k) g.H.OwnerHost.OWNER g.H.OwnerHost.may_be g.H.OwnerHost.may_own g.H.OwnerHost.may_miss g.H.OwnerHost.turned (g.met.H.SiteRule.site_kept k) (g.met.H.OwnerHost.own_kept k) (g.met.H.OwnerHost.owns k) (g.met.H.OwnerHost.own_may k) (g.met.H.OwnerHost.own_looks k) _ _ _ t.0 _ _ g.L.EndKind.turn _ c.OWNER.ensures (sym c.requires.own.task ∙ t.1) (sym c.requires.own.held ∙ c.requires.held) c.requires.quiet c.requires.own.stage c.requires.left c.requires.may
 
 pub returns-then-found-word-clause-own : goal.returns-then-found-word-clause-own
 returns-then-found-word-clause-own g c = let told = c.step-found.ensures.told.0 c.if-found-word.true in let seat = c.set_held.ensures.seat in let k = c.args.site.now.table.shared.key in

@@ -9,7 +9,7 @@ use Rattle.rwsem_count.proofs.Sitting.{some-number, sits-took, sits-missed}
 use Rattle.rwsem_count.proofs.steps.read_add.Goals as goal
 
 pub step-count-requires-clause-lets : goal.step-count-requires-clause-lets
-step-count-requires-clause-lets g c = let k = c.args.site.now.table.shared.key in let t = some-number c.args.pass.now.face.task c.requires.numbered in reads g.H.O.Object.object g.H.SiteRule.unavailable g.H.O.Object.WORDS k g.H.CountHost.bias g.H.CountHost.counted (g.H.SiteRule.holds k) (g.H.SiteRule.moves k) g.H.CountHost.COUNT g.H.CountHost.may_be (g.H.CountHost.more k) g.H.CountHost.may_count (g.met.H.SiteRule.site_kept k) (g.met.H.CountHost.count_kept k) (g.met.H.CountHost.counts k) (g.met.H.CountHost.count_looks k) _ _ _ t.0 _ c.COUNT.ensures (sym c.requires.own.task ∙ t.1) (sym c.requires.own.held ∙ c.requires.out) c.requires.clear c.requires.reads c.requires.waits
+step-count-requires-clause-lets g c = let k = c.args.site.now.table.shared.key in let t = some-number c.args.pass.now.face.task c.requires.numbered in reads g.H.O.Object.object g.H.SiteRule.unavailable g.H.O.Object.WORDS k g.H.CountHost.bias g.H.CountHost.counted (g.H.SiteRule.holds k) (g.H.SiteRule.moves k) g.H.CountHost.COUNT g.H.CountHost.may_be (g.H.CountHost.more k) g.H.CountHost.may_count g.H.CountHost.may_miss (g.met.H.SiteRule.site_kept k) (g.met.H.CountHost.count_kept k) (g.met.H.CountHost.counts k) (g.met.H.CountHost.count_looks k) _ _ _ t.0 _ c.COUNT.ensures (sym c.requires.own.task ∙ t.1) (sym c.requires.own.held ∙ c.requires.out) c.requires.clear c.requires.reads c.requires.waits c.requires.misses
 
 pub returns-then-not-read_free-clause-own : goal.returns-then-not-read_free-clause-own
 returns-then-not-read_free-clause-own g c = let told = c.step-count.ensures.told in let shut = told.2 (λ free. not-both c.read_free.result c.if-not-read_free.true (c.read_free.ensures.free.1 free)) in sits-missed c.args.site.now.table.shared.key c.args.site.now.table.shared.table_id c.args.pass.now.seat.table_id c.step-count.new.pass.seat.table_id c.args.pass.now.seat.me c.step-count.new.pass.seat.me c.args.pass.now.face c.step-count.new.pass.face _ _ _ _ shut.0 (omega arith) told.0 c.step-count.ensures.own.0 shut.1 c.step-count.ensures.face c.requires.own

@@ -8,7 +8,7 @@ use Rattle.rwsem_count.proofs.Sitting.{some-number, sits-took, sits-missed}
 use Rattle.rwsem_count.proofs.steps.write_try.Goals as goal
 
 pub step-found-requires-clause-lets : goal.step-found-requires-clause-lets
-step-found-requires-clause-lets g c = let k = c.args.site.now.table.shared.key in let t = some-number c.args.pass.now.face.task c.requires.numbered in writer-gets g.H.O.Object.object g.H.SiteRule.unavailable g.H.O.Object.WORDS k g.H.CountHost.bias g.H.CountHost.counted (g.H.SiteRule.holds k) (g.H.SiteRule.moves k) g.H.CountHost.COUNT g.H.CountHost.may_be (g.H.CountHost.more k) g.H.CountHost.may_count (g.met.H.SiteRule.site_kept k) (g.met.H.CountHost.count_kept k) (g.met.H.CountHost.counts k) (g.met.H.CountHost.count_looks k) _ _ _ t.0 _ c.COUNT.ensures (sym c.requires.own.task ∙ t.1) (sym c.requires.own.held ∙ c.requires.out) c.requires.clear c.requires.writes
+step-found-requires-clause-lets g c = let k = c.args.site.now.table.shared.key in let t = some-number c.args.pass.now.face.task c.requires.numbered in writer-gets g.H.O.Object.object g.H.SiteRule.unavailable g.H.O.Object.WORDS k g.H.CountHost.bias g.H.CountHost.counted (g.H.SiteRule.holds k) (g.H.SiteRule.moves k) g.H.CountHost.COUNT g.H.CountHost.may_be (g.H.CountHost.more k) g.H.CountHost.may_count g.H.CountHost.may_miss (g.met.H.SiteRule.site_kept k) (g.met.H.CountHost.count_kept k) (g.met.H.CountHost.counts k) (g.met.H.CountHost.count_looks k) _ _ _ t.0 _ c.COUNT.ensures (sym c.requires.own.task ∙ t.1) (sym c.requires.own.held ∙ c.requires.out) c.requires.clear c.requires.writes c.requires.misses
 
 pub returns-then-found-ne0-clause-own : goal.returns-then-found-ne0-clause-own
 returns-then-found-ne0-clause-own g c = let told = c.step-found.ensures.told.1 c.if-found-ne0.true in sits-missed c.args.site.now.table.shared.key c.args.site.now.table.shared.table_id c.args.pass.now.seat.table_id c.step-found.new.pass.seat.table_id c.args.pass.now.seat.me c.step-found.new.pass.seat.me c.args.pass.now.face c.step-found.new.pass.face _ _ _ _ told.1.0 (omega arith) told.0 c.step-found.ensures.own.0 told.1.1 c.step-found.ensures.face c.requires.own

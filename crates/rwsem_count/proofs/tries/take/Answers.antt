@@ -11,7 +11,7 @@ use Rattle.rwsem_count.proofs.Sitting.{sits-saw}
 use Rattle.rwsem_count.proofs.tries.take.Goals as goal
 
 pub step-found-requires-clause-lets : goal.step-found-requires-clause-lets
-step-found-requires-clause-lets g c = let k = c.args.site.now.table.shared.key in let t = some-number c.args.pass.now.face.task c.requires.numbered in reader-gets g.H.O.Object.object g.H.SiteRule.unavailable g.H.O.Object.WORDS k g.H.CountHost.bias g.H.CountHost.counted (g.H.SiteRule.holds k) (g.H.SiteRule.moves k) g.H.CountHost.COUNT g.H.CountHost.may_be (g.H.CountHost.more k) g.H.CountHost.may_count (g.met.H.SiteRule.site_kept k) (g.met.H.CountHost.count_kept k) (g.met.H.CountHost.counts k) (g.met.H.CountHost.count_looks k) _ _ _ t.0 _ _ c.COUNT.ensures (sym c.requires.own.task ∙ t.1) (sym c.requires.own.held ∙ c.requires.out) c.requires.clear c.requires.free c.requires.may
+step-found-requires-clause-lets g c = let k = c.args.site.now.table.shared.key in let t = some-number c.args.pass.now.face.task c.requires.numbered in reader-gets g.H.O.Object.object g.H.SiteRule.unavailable g.H.O.Object.WORDS k g.H.CountHost.bias g.H.CountHost.counted (g.H.SiteRule.holds k) (g.H.SiteRule.moves k) g.H.CountHost.COUNT g.H.CountHost.may_be (g.H.CountHost.more k) g.H.CountHost.may_count g.H.CountHost.may_miss (g.met.H.SiteRule.site_kept k) (g.met.H.CountHost.count_kept k) (g.met.H.CountHost.counts k) (g.met.H.CountHost.count_looks k) _ _ _ t.0 _ _ c.COUNT.ensures (sym c.requires.own.task ∙ t.1) (sym c.requires.own.held ∙ c.requires.out) c.requires.clear c.requires.free c.requires.may c.requires.misses
 
 pub returns-then-found-word-clause-own : goal.returns-then-found-word-clause-own
 returns-then-found-word-clause-own g c = let told = c.step-found.ensures.told.0 c.if-found-word.true in sits-took g.H.CountHost.counted c.args.site.now.table.shared.key c.args.site.now.table.shared.table_id c.args.pass.now.seat.table_id c.set_held.new.self.seat.table_id c.args.pass.now.seat.me c.set_held.new.self.seat.me c.args.pass.now.face c.set_held.new.self.face Clear Shared told.0 told.1 _ _ (ap (λ s. s.me.0.view) c.set_held.ensures.seat ∙ told.3.0) (omega arith) ((told.2 c.args.site.now.table.shared.key c.requires.own.plan).within) c.requires.out c.requires.numbered (ap (λ s. s.table_id) c.set_held.ensures.seat ∙ c.step-found.ensures.own.0) (ap (λ s. s.me.1) c.set_held.ensures.seat ∙ told.3.1) (c.set_held.ensures.face ∙ ap (λ (f : Face). record f { held = Shared }) c.step-found.ensures.face) c.requires.own

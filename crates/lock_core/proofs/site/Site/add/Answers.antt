@@ -6,5 +6,5 @@ pub step-requires : goal.step-requires
 step-requires g c = let k = c.args.self.now.table.shared.key in let R = g.R.SiteRule in let O = g.R.O.Object in let l = g.met.R.SiteRule in let i = c.requires.inside in record {
   own = c.requires.own;
   inside = omega (arith, i);
-  lets = adds O.object R.unavailable O.WORDS k R.rests (R.holds k) (R.moves k) (l.site_kept k) (l.sites k) _ _ c.args.at c.args.by _ g.P.Puts.hand c.requires.holds c.requires.keeps;
+  lets = adds O.object R.unavailable O.WORDS k R.rests (R.holds k) (R.moves k) R.word_at (l.site_kept k) (l.sites k) _ _ c.args.at c.args.by _ g.P.Puts.hand c.requires.holds c.requires.keeps;
 }

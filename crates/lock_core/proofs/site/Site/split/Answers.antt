@@ -12,7 +12,7 @@ split_seat-seat-requires g c = let k = c.args.self.now.table.shared.key in let w
   omega (arith, w),
   λ s r at. let there = at_map view_of s.views _ _ at in
       lived-split R.marks (opening R.marks k R.idle) (R.holds k) (R.moves k) s.words s.views _ _ _ _ at r (l.splits k s.words (map view_of s.views) _ _ r.1 there
-      (splits-kept O.object R.unavailable O.WORDS k R.rests (R.holds k) (R.moves k) (l.site_kept k) (l.sites k) R.idle s.words (map view_of s.views) _ _ r.1 there) (split-moves _ _ (map view_of s.views) _ R.idle there)),
+      (splits-kept O.object R.unavailable O.WORDS k R.rests (R.holds k) (R.moves k) R.word_at (l.site_kept k) (l.sites k) R.idle s.words (map view_of s.views) _ _ r.1 there) (split-moves _ _ (map view_of s.views) _ R.idle there)),
 )
 
 pub returns-clause-goes_on : goal.returns-clause-goes_on

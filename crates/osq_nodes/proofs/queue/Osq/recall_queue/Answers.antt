@@ -19,7 +19,7 @@ returns-clause-queues c = let k = c.args.self.now.site.table.shared.key in let p
 
 pub returns-clause-counts : goal.returns-clause-counts
 returns-clause-counts c = let k = c.args.self.now.site.table.shared.key in let n = length k in let past = c.recall.new.pass.seat.me.0.past in
-    ran-so node_marks (newest n) (Moves (OsqKept (no_calls n)) (OsqMoves (no_calls n))) (IsOsqMove n) (λ x y m. (m.0, m.3)) past (subst (λ (z : Plan). Ran node_marks (opening node_marks z idle) (Moves (OsqKept z) (OsqMoves z)) past) c.args.self.now.plain c.recall.ensures.run)
+    ran-so node_marks (newest n) (Moves (OsqKept (no_calls n)) (OsqMoves (no_calls n))) (IsOsqMove n) (λ x y m. (m.0, m.3, m.4)) past (subst (λ (z : Plan). Ran node_marks (opening node_marks z idle) (Moves (OsqKept z) (OsqMoves z)) past) c.args.self.now.plain c.recall.ensures.run)
 
 pub returns-clause-mine : goal.returns-clause-mine
 returns-clause-mine c = let n = length c.args.self.now.site.table.shared.key in let v = c.recall.new.pass.seat.me.0.view in let x = v.ext in let is = c.recall.ensures.marked in let counts = swaps-back x.place x.swaps x.found in

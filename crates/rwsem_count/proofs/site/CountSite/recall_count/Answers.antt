@@ -1,7 +1,7 @@
 use Rattle.lock_core.specs.Pasts.{Moves}
 use Rattle.lock_core.specs.RunLaws.{ran-each, ran-so}
 use Rattle.lock_core.specs.Stated.{IsSiteMove}
-use Rattle.rwsem_count.specs.Ruled.{CountRuleKept, CountMoves, IsCountSiteThen, newest}
+use Rattle.rwsem_count.specs.Ruled.{CountRuleKept, CountMoves, IsCountSiteThen, newest, count_at}
 use Rattle.rwsem_count.specs.RuledLaws.{rule-states}
 use Rattle.rwsem_count.specs.Stated.{kept_bias}
 use Rattle.rwsem_count.proofs.site.CountSite.recall_count.Goals as goal
@@ -12,4 +12,4 @@ returns-clause-always g c = let k = c.args.self.now.site.table.shared.key in let
 
 pub returns-clause-moves : goal.returns-clause-moves
 returns-clause-moves g c = let k = c.args.self.now.site.table.shared.key in let o = g.O.Object.object in let n = g.O.Object.WORDS in
-    ran-so kept_bias (newest k) (Moves (CountRuleKept o n k) (CountMoves k)) (IsSiteMove k) (λ x y m. (m.0, m.3)) _ c.recall.ensures.run
+    ran-so kept_bias (newest k) (Moves (CountRuleKept o n k) (CountMoves k)) (IsSiteMove k count_at) (λ x y m. (m.0, m.3, m.4)) _ c.recall.ensures.run
