@@ -10,7 +10,7 @@ use Rattle.word_bits.specs.Histories.{Plan}
 use Rattle.lock_core.specs.declared.view.Moment.{Moment}
 use Rattle.lock_core.specs.declared.view.Marks.{Marks}
 use Rattle.lock_core.specs.LockedLaws.{move-steps}
-use Rattle.lock_core.specs.Pasts.{Instant, Moves, marks_of, Paced, Ran, instant, moment}
+use Rattle.lock_core.specs.Pasts.{ChangesOneWord, Instant, Moves, marks_of, Paced, Ran, instant, moment}
 use Rattle.lock_core.specs.Records.{bit}
 use Rattle.lock_core.specs.Spins.{holds_in}
 use Rattle.lock_core.specs.Totals.{total}
@@ -22,7 +22,7 @@ use Rattle.wait_list.specs.declared.view.Change.TheVariants.{Stay, Enter, Leave}
 use Rattle.wait_list.specs.Lists.{Allowed, AreTasks, ListKept, MadeBy as MadeUnderLock, Part, changed, changes_of, counted, first_code, list_part, ticket_from}
 use Rattle.wait_list.proofs.Tickets.{counted-here, first-place, ticket-else, ticket-here, ticket-none}
 use Rattle.mutex_slow.specs.declared.view.MutexHand.{MutexHand}
-use Rattle.mutex_slow.specs.Mutexes.{AnswersHandoff, HasHandoff, HasLock, IsFirstTask, IsOwnChange, Kept, LeavesToFirst, MutexKept, MutexMoves, PicksFirst, TookUp, V, entered, list_of, owner_in, standing}
+use Rattle.mutex_slow.specs.Mutexes.{AnswersHandoff, HasHandoff, HasLock, IsFirstTask, IsOwnChange, Kept, LeavesToFirst, MutexKept, MutexMoves, PicksFirst, TookUp, V, entered, list_of, may_miss, owner_at, owner_in, standing}
 use Rattle.mutex_slow.specs.Stated.{line_marks, HasBecome, HasWaitLock, IsMutexStep, MadeBy, TakesUp}
 use Rattle.mutex_slow.proofs.Stating.{listed}
 
@@ -101,9 +101,9 @@ module _ (id : ℕ) (ws : List ℕ) (vs : List V) (v : V) (at : get_elem? vs id 
   takes-up n n' (inl same) = inl same
   takes-up n n' (inr t) = inr ((t.2.0, ap (λ (x : V). x.hand.task) (same-pass t.0 t.1) ∙ t.2.1, t.2.2), t.3)
 
-mutex-step : (k : Plan) (id : ℕ) (ws us : List ℕ) (vs vs' : List V) (m : MutexMoves k id ws vs us vs') (l l' : List Waiter) → m.list.list ≡ l → l' ≡ m.list.list' → IsMutexStep k (moment standing (instant ws vs)) l (moment standing (instant us vs')) l'
-mutex-step k id ws us vs vs' m l l' old new = let v = m.site.before in record {
-  by = move-steps standing k (instant ws vs) (instant us vs') (id, m.site);
+mutex-step : (k : Plan) (id : ℕ) (ws us : List ℕ) (vs vs' : List V) (m : MutexMoves k id ws vs us vs') → ChangesOneWord ws us → (l l' : List Waiter) → m.list.list ≡ l → l' ≡ m.list.list' → IsMutexStep k (moment standing (instant ws vs)) l (moment standing (instant us vs')) l'
+mutex-step k id ws us vs vs' m one l l' old new = let v = m.site.before in record {
+  by = move-steps standing k owner_at (instant ws vs) (instant us vs') (id, m.site, one);
   change = m.list.change;
   allowed = subst (Allowed m.list.change) old m.list.allowed;
   made = made-by id ws vs v m.site.at m.list.change m.own m.list.made;
@@ -115,10 +115,14 @@ mutex-step k id ws us vs vs' m l l' old new = let v = m.site.before in record {
   freed = m.freed;
   names = λ alone free lock. subst (LeavesToFirst (owner_in us)) old (m.names alone free (had-lock lock));
   appends = λ queued appends there. counted-on (map (marks_of standing) vs') id v m.site.after (entered m.list.change) queued appends (sym (at_map (marks_of standing) vs id v m.site.at) ∙ there) (at_map (marks_of standing) vs' id m.site.after m.site.at') m.appends;
+  missed = λ more queued appends there. uncounted-out v queued appends (sym (at_map (marks_of standing) vs id v m.site.at) ∙ there) (m.missed more);
 }
   where
     had-lock : HasWaitLock id (moment standing (instant us vs')) → HasLock m.site.after
     had-lock lock = ap holds_in (sym (some-injective lock.0 m.site.after.spin (sym lock.1 ∙ at_map spin_of vs' id m.site.after m.site.at'))) ∙ lock.2
+
+    uncounted-out : (v : V) (queued appends : ℕ) → some (marks_of standing v) ≡ some (line_marks queued appends) → may_miss v → queued ≡ 0
+    uncounted-out v queued appends was out = sym (ap (λ (m : Marks). get_or m.numbers 0 0) (some-injective (marks_of standing v) (line_marks queued appends) was)) ∙ ap bit out
 
     counted-on : (ms : List Marks) (id : ℕ) (v u : V) (by queued appends : ℕ) → some (marks_of standing v) ≡ some (line_marks queued appends) → get_elem? ms id ≡ some (marks_of standing u) → u.ext.appends ≡ v.ext.appends + by → (queued' : ℕ) × (get_elem? ms id ≡ some (line_marks queued' (appends + by)))
     counted-on ms id v u by queued appends was is goes = let e : v.ext.appends ≡ appends = ap (λ (m : Marks). get_or m.numbers 1 0) (some-injective (marks_of standing v) (line_marks queued appends) was) in
@@ -138,7 +142,7 @@ module _ {Call : Type 0} (o : Obj Call) (size : ℕ) (k : Plan) where
       (
         before.0,
         before.2,
-        mutex-step k move.0 x.words y.words x.views y.views m before.0 kept.0
+        mutex-step k move.0 x.words y.words x.views y.views m move.4 before.0 kept.0
             (kept-same _ m.list.list before.0 (map (list_part list_of) x.views) m.list.old before.1.list)
             (kept-same _ kept.0 m.list.list' (map (list_part list_of) y.views) kept.1.list m.list.new),
       ),

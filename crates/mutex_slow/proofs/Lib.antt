@@ -4,3 +4,4 @@ pub mod Queueing
 pub mod Stating
 pub mod Chaining
 pub mod Locking
+pub mod Opening

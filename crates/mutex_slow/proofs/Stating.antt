@@ -16,10 +16,10 @@ use Rattle.lock_core.specs.Spins.{holds_in}
 use Rattle.lock_core.specs.Totals.{total, total-at, total-two}
 use Rattle.lock_core.specs.Parts.{Each, at_unmap}
 use Rattle.lock_core.specs.Records.{bit}
-use Rattle.lock_core.specs.Views.{hand_of, spin_of, held_weight, held_of, is_number}
+use Rattle.lock_core.specs.Views.{hand_of, spin_of, held_weight, held_of, is_number, named_of}
 use Rattle.lock_core.specs.declared.view.Marks.{Marks}
 use Rattle.lock_core.specs.Pasts.{instant, marks_of, moment}
-use Rattle.lock_core.proofs.HandLaws.{false-or-true, held-none, number-or-not, not-both}
+use Rattle.lock_core.proofs.HandLaws.{false-or-true, held-none, is_number-here, number-or-not, not-both}
 use Rattle.lock_core.proofs.Stating.{kept-states}
 use Rattle.lock_core.proofs.WordSteps.{some-of}
 use Rattle.mutex_word.specs.Holders.{OwnKept, IsHolder}
@@ -29,7 +29,7 @@ use Rattle.wait_list.specs.Lists.{Part, PartOk, changes_of, counted, first_code,
 use Rattle.mutex_slow.specs.Mutexes.{V, Flagged, Kept, MutexKept, list_of, owner_in, point_of, queued_of, standing}
 use Rattle.mutex_slow.specs.CoupledLaws.{is-in, not-in, point-held}
 use Rattle.mutex_slow.specs.MutexLaws.{apart}
-use Rattle.mutex_slow.specs.Stated.{line_marks, IsListed, IsMutexThen}
+use Rattle.mutex_slow.specs.Stated.{line_marks, waits_in, IsListed, IsMutexThen}
 
 -- who holds, by a word that picks nobody
 holder-of : (hs : List Hand) (word : ℕ) → OwnKept word hs → Named hs → word % 8 < 4 → (task : Option ℕ) × (word / 8 ≡ task_code task) × IsHolder hs task
@@ -91,16 +91,19 @@ module _ {Call : Type 0} (o : Obj Call) (size : ℕ) (k : Plan) (ws : List ℕ) 
   has-pass : (t : ℕ) → 0 < counted t l → HasPass (map hand_of vs) t
   has-pass t more = let p = r.coupled.places t in let s = view-of (queued_of t) vs (omega (arith, p, more)) in (s.0, s.1.hand, at_map hand_of vs s.0 s.1 s.2, queued-task t s.1 s.3)
 
-  -- the mark of a pass with a number says how often its task stands in the list
-  marks-list : (id t queued appends : ℕ) (h : Hand) → get_elem? (map hand_of vs) id ≡ some h → h.task ≡ Some t → get_elem? (map (marks_of standing) vs) id ≡ some (line_marks queued appends) → counted t l ≡ queued
-  marks-list id t queued appends h at is there = let p = at_unmap hand_of vs id h at in let v : V = p.0 in let named : v.hand.task ≡ Some t = ap {A = Hand} (λ g. g.task) p.2 ∙ is in
+  first-number : (v : V) (queued appends : ℕ) → marks_of standing v ≡ line_marks queued appends → bit v.ext.queued ≡ queued
+  first-number v queued appends e = ap (λ (m : Marks). get_or m.numbers 0 0) e
+
+  -- the mark of a pass says how often it waits in the list
+  marks-list : (id queued appends : ℕ) (h : Hand) → get_elem? (map hand_of vs) id ≡ some h → get_elem? (map (marks_of standing) vs) id ≡ some (line_marks queued appends) → queued ≡ waits_in l h.task
+  marks-list id queued appends h at there = let p = at_unmap hand_of vs id h at in let v : V = p.0 in let same : v.hand.task ≡ h.task = ap {A = Hand} (λ g. g.task) p.2 in
       let mark : bit v.ext.queued ≡ queued = first-number v queued appends (some-injective (marks_of standing v) (line_marks queued appends) (sym (at_map (marks_of standing) vs id v p.1) ∙ there)) in
+      number-or-not h.task
+      (λ none. let out : bit v.ext.queued ≡ 0 = ap bit ((r.coupled.each id v p.1).named (same ∙ none)).0 in sym mark ∙ (out ∙ sym (ap (waits_in l) none)))
+      (λ t is. let named : v.hand.task ≡ Some t = same ∙ is in let waits : waits_in l h.task ≡ counted t l = ap (waits_in l) is in
       let alone = apart o size k ws vs l id v r p.1 in let once = r.list.sound.once t in false-or-true v.ext.queued
-      (λ waits. let some_is = is-in (owner_in ws) l vs id v r.coupled p.1 alone waits t named in let one : bit v.ext.queued ≡ 1 = ap bit waits in omega (arith, some_is, one, mark, once))
-      (λ out. let none_is = not-in (owner_in ws) l vs id v r.coupled p.1 alone out t named in let zero_it : bit v.ext.queued ≡ 0 = ap bit out in omega (arith, none_is, zero_it, mark))
-    where
-      first-number : (v : V) (queued appends : ℕ) → marks_of standing v ≡ line_marks queued appends → bit v.ext.queued ≡ queued
-      first-number v queued appends e = ap (λ (m : Marks). get_or m.numbers 0 0) e
+      (λ waits_now. let some_is = is-in (owner_in ws) l vs id v r.coupled p.1 alone waits_now t named in let one : bit v.ext.queued ≡ 1 = ap bit waits_now in omega (arith, some_is, one, mark, once, waits))
+      (λ out. let none_is = not-in (owner_in ws) l vs id v r.coupled p.1 alone out t named in let zero_it : bit v.ext.queued ≡ 0 = ap bit out in omega (arith, none_is, zero_it, mark, waits)))
 
   pub listed : IsListed (moment standing (instant ws vs)) l
   listed = let own = r.own in record {
@@ -123,3 +126,10 @@ module _ {Call : Type 0} (o : Obj Call) (size : ℕ) (k : Plan) (ws : List ℕ) 
 module _ {Call : Type 0} (o : Obj Call) (size : ℕ) where
   pub mutex-states : (k : Plan) (ws : List ℕ) (vs : List V) → Kept o size k ws vs → IsMutexThen o size k (moment standing (instant ws vs))
   mutex-states k ws vs r = (kept-states o owned size k (site k ws) (map hand_of vs) r.1.site_holds, (r.0, listed o size k ws vs r.0 r.1))
+
+-- two passes with one number are one
+pub one-seat : (hs : List Hand) (t i j : ℕ) (h g : Hand) → total (named_of t) hs ≤ 1 → get_elem? hs i ≡ some h → get_elem? hs j ≡ some g → h.task ≡ Some t → g.task ≡ Some t → i ≡ j
+one-seat hs t i j h g one at at' is is' = elim (native.Mathlib.Decide.ℕ_discrete i j) [
+  | yes same ↦ same
+  | no other ↦ let two = total-two (named_of t) hs i j h g at at' other in let a : named_of t h ≡ 1 = ap (is_number t) is ∙ is_number-here t in let b : named_of t g ≡ 1 = ap (is_number t) is' ∙ is_number-here t in absurd (omega (arith, two, a, b, one))
+]

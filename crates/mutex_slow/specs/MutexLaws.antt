@@ -18,8 +18,8 @@ use Rattle.lock_core.specs.Records.{bit}
 use Rattle.lock_core.specs.Layout.{SiteWords, fresh, site, lay, width}
 use Rattle.lock_core.specs.Views.{SpinHolds, SpinStays, hand_of, spin_part, part_with, no_part, handed, seated, ticked, first, split_off, merged, spent, stranger, named_of, is_number, HoldsNothing, held_weight}
 use Rattle.lock_core.specs.Sites.{HandGoes, SiteKept}
-use Rattle.lock_core.specs.Moves.{Goes, KeepsHold, SiteMove}
-use Rattle.lock_core.specs.MoveLaws.{hand-stays, set-moves, hold-moved, spin-moved}
+use Rattle.lock_core.specs.Moves.{Goes, KeepsHold, SiteMove, TriesWhere}
+use Rattle.lock_core.specs.MoveLaws.{hand-stays, saw-stays, tries-go, set-moves, hold-moved, spin-moved}
 use Rattle.lock_core.specs.SpinFrames.{when, holds_at, holds_of}
 use Rattle.lock_core.specs.Spins.{SpinKept, SpinGoes, SpinFrees, SpinMoves, spun, holds_in, frame_of}
 use Rattle.lock_core.specs.SpinLaws.{spin-same, spin-renames, spin-comes, spin-ends, spin-opens}
@@ -38,7 +38,7 @@ use Rattle.wait_list.specs.declared.view.ListHand.{ListHand}
 use Rattle.wait_list.specs.declared.words.TheConstants.{LIST_WORDS}
 use Rattle.wait_list.specs.Lists.{Part, ListKept, MadeBy, Knows, Lists, LeaverGoes, Allowed, changed, list_part, listed, sighted, first_code, changes_of, takes_of}
 use Rattle.wait_list.specs.ListLaws.{list-spins, list-keeps, list-leaves, list-strangers, list-opens, list-known}
-use Rattle.mutex_slow.specs.Mutexes.{V, HasLock, idle, list_of, IsOut, Coupled, MutexKept, Kept, Leaves, LeavesToFirst, PicksFirst, Asks, HasHandoff, IsFirstTask, AnswersHandoff, TookUp, IsOwnChange, IsUnpicked, MutexMoves, entered, owner_at, list_at, spin_words, owner_in, list_words, may_free, rests, may_own, turned, with_list, may_change, is_code, saw_first}
+use Rattle.mutex_slow.specs.Mutexes.{V, HasLock, idle, list_of, IsOut, Coupled, MutexKept, Kept, Leaves, LeavesToFirst, PicksFirst, Asks, HasHandoff, IsFirstTask, AnswersHandoff, TookUp, IsOwnChange, IsUnpicked, MutexMoves, entered, owner_at, list_at, spin_words, owner_in, list_words, may_free, may_miss, rests, may_own, turned, with_list, may_change, is_code, saw_first}
 use Rattle.mutex_slow.specs.CoupledLaws.{Apart, coupled-stays, coupled-hands, coupled-seats, coupled-spins, coupled-fails, coupled-takes-free, coupled-takes-picked, coupled-asks, coupled-frees, coupled-hands-over, coupled-flags, coupled-clears, coupled-enters, coupled-leaves, coupled-opens, coupled-snoc, idle-ok, flagged, not-in, is-in, locked-free}
 
 pub spin-inside : 0 + SPIN_WORDS ≤ LOCK_WORDS
@@ -101,6 +101,10 @@ pub may-on : (c : Change) (v : V) (b : ListHand) (l : List Waiter) → may_chang
 may-on Stay v b l m = m
 may-on (Enter w) v b l m = m
 may-on (Leave t) v b l m = m
+
+-- a failed try that is counted is of a pass outside the list
+misses-outside : (v : V) (h : Hand) (word : ℕ) → TriesWhere may_miss word v h → h.misses ≢ v.hand.misses → may_miss v
+misses-outside v h word tries more = elim tries [ inl kept ↦ absurd (more kept.0) | inr failed ↦ failed.1 ]
 
 -- a part of a sum that isn't 0 is some view's
 some-of : {X : Type 0} (f : X → ℕ) (xs : List X) → 0 < total f xs → (j : ℕ) × (x : X) × (get_elem? xs j ≡ some x) × (0 < f x)
@@ -173,10 +177,10 @@ module _ {Call : Type 0} (o : Obj Call) (size : ℕ) where
         (λ t has. let word = held-word hs id t (owner_in ws) v.hand r.own mine alone has in let low = word.0 in let is = word.1 in (low, omega (arith, is), λ few. let after = own.held few in omega (arith, after, none)))
 
     -- a step that changes the list so, and all that it leaves
-    goes : (us : List ℕ) (vs' : List V) (c : Change) → length us ≡ width k → Site k us (map hand_of vs') → SiteMove id (site k ws) vs (site k us) vs' → (u : V) → get_elem? vs' id ≡ some u → SpinMoves id (spin_words ws) (map spin_part vs) (spin_words us) (map spin_part vs') → OwnKept (owner_in us) (map hand_of vs')
+    goes : (us : List ℕ) (vs' : List V) (c : Change) → length us ≡ width k → Site k us (map hand_of vs') → SiteMove id (owner_in ws) (site k ws) vs (site k us) vs' → (u : V) → get_elem? vs' id ≡ some u → SpinMoves id (spin_words ws) (map spin_part vs) (spin_words us) (map spin_part vs') → OwnKept (owner_in us) (map hand_of vs')
         → ListKept (list_words us) (changed c l) (map parted vs') → Coupled (owner_in us) (changed c l) vs' → Allowed c l → MadeBy c id (map parted vs) → IsOwnChange id vs (owner_in ws) c → (Leaves (owner_in ws) (owner_in us) → PicksFirst (owner_in us) l) → (4 ≤ owner_in ws % 8 → (owner_in us ≡ owner_in ws) ⊎ TookUp id vs (owner_in ws) (owner_in us))
-        → (Asks (owner_in ws) (owner_in us) → IsFirstTask v.hand.task l) → (HasHandoff (owner_in ws) → HasHandoff (owner_in us) ⊎ AnswersHandoff v.hand (owner_in us) l) → KeepsLeft v.hand u.hand (owner_in us) → (v.hand.held ≡ Alone → u.hand.held ≡ No → HasLock u → LeavesToFirst (owner_in us) l) → u.ext.appends ≡ v.ext.appends + entered c → Go k id ws vs us vs'
-    goes us vs' c wide there move u at' spin own list coupled may made mine hands picks asks stays freed names counts = let before : v ≡ move.before = some-injective v move.before (sym at ∙ move.at) in let after : u ≡ move.after = some-injective u move.after (sym at' ∙ move.at') in (
+        → (Asks (owner_in ws) (owner_in us) → IsFirstTask v.hand.task l) → (HasHandoff (owner_in ws) → HasHandoff (owner_in us) ⊎ AnswersHandoff v.hand (owner_in us) l) → KeepsLeft v.hand u.hand (owner_in us) → (v.hand.held ≡ Alone → u.hand.held ≡ No → HasLock u → LeavesToFirst (owner_in us) l) → u.ext.appends ≡ v.ext.appends + entered c → (u.hand.misses ≢ v.hand.misses → may_miss v) → Go k id ws vs us vs'
+    goes us vs' c wide there move u at' spin own list coupled may made mine hands picks asks stays freed names counts missed = let before : v ≡ move.before = some-injective v move.before (sym at ∙ move.at) in let after : u ≡ move.after = some-injective u move.after (sym at' ∙ move.at') in (
       (changed c l, record { wide = wide; site_holds = there; spin = (spin.queue', spin.new); own = own; list = list; coupled = coupled }),
       record {
         site = move;
@@ -190,22 +194,23 @@ module _ {Call : Type 0} (o : Obj Call) (size : ℕ) where
         freed = subst (λ (x : V × V). KeepsLeft x.0.hand x.1.hand (owner_in us)) (λ i. (before i, after i)) freed;
         names = subst (λ (x : V × V). x.0.hand.held ≡ Alone → x.1.hand.held ≡ No → HasLock x.1 → LeavesToFirst (owner_in us) l) (λ i. (before i, after i)) names;
         appends = subst (λ (x : V × V). x.1.ext.appends ≡ x.0.ext.appends + entered c) (λ i. (before i, after i)) counts;
+        missed = subst (λ (x : V × V). x.1.hand.misses ≢ x.0.hand.misses → may_miss x.0) (λ i. (before i, after i)) missed;
       },
     )
 
     -- the same, where the owner word stays
-    goes-on : (us : List ℕ) (vs' : List V) (c : Change) → length us ≡ width k → Site k us (map hand_of vs') → SiteMove id (site k ws) vs (site k us) vs' → (u : V) → get_elem? vs' id ≡ some u → u.hand.held ≡ v.hand.held → u.ext.appends ≡ v.ext.appends + entered c → SpinMoves id (spin_words ws) (map spin_part vs) (spin_words us) (map spin_part vs') → owner_in us ≡ owner_in ws → OwnKept (owner_in ws) (map hand_of vs')
+    goes-on : (us : List ℕ) (vs' : List V) (c : Change) → length us ≡ width k → Site k us (map hand_of vs') → SiteMove id (owner_in ws) (site k ws) vs (site k us) vs' → (u : V) → get_elem? vs' id ≡ some u → u.hand.held ≡ v.hand.held → (u.hand.misses ≢ v.hand.misses → may_miss v) → u.ext.appends ≡ v.ext.appends + entered c → SpinMoves id (spin_words ws) (map spin_part vs) (spin_words us) (map spin_part vs') → owner_in us ≡ owner_in ws → OwnKept (owner_in ws) (map hand_of vs')
         → ListKept (list_words us) (changed c l) (map parted vs') → Coupled (owner_in ws) (changed c l) vs' → Allowed c l → MadeBy c id (map parted vs) → IsOwnChange id vs (owner_in ws) c → Go k id ws vs us vs'
-    goes-on us vs' c wide there move u at' held counts spin same own list coupled may made mine = goes us vs' c wide there move u at' spin (subst (λ (z : ℕ). OwnKept z (map hand_of vs')) (sym same) own) list (subst (λ (z : ℕ). Coupled z (changed c l) vs') (sym same) coupled) may made mine
+    goes-on us vs' c wide there move u at' held missed counts spin same own list coupled may made mine = goes us vs' c wide there move u at' spin (subst (λ (z : ℕ). OwnKept z (map hand_of vs')) (sym same) own) list (subst (λ (z : ℕ). Coupled z (changed c l) vs') (sym same) coupled) may made mine
         (λ leaves. absurd (leaves.3 (ap (λ (z : ℕ). z / 8) same))) (λ _. inl same)
         (λ asked. let less = asked.0 in let more : 2 ≤ owner_in ws % 4 = subst HasHandoff same asked.1 in absurd (omega (arith, less, more)))
-        (λ asked. inl (subst HasHandoff (sym same) asked)) (λ alone not. absurd (not (held ∙ alone))) (λ alone free _. let w : held_weight No ≡ held_weight Alone = ap held_weight (sym free ∙ (held ∙ alone)) in absurd (omega (arith, w))) counts
+        (λ asked. inl (subst HasHandoff (sym same) asked)) (λ alone not. absurd (not (held ∙ alone))) (λ alone free _. let w : held_weight No ≡ held_weight Alone = ap held_weight (sym free ∙ (held ∙ alone)) in absurd (omega (arith, w))) counts missed
 
   pub mutex-sites : (k : Plan) (ws : List ℕ) (vs : List V) (id i n : ℕ) (v : V) (h : Hand) (s : SpinHand) → Kept o size k ws vs → get_elem? vs id ≡ some v → KeepsHold rests v h → SpinStays v.spin s → Site k (set ws (LOCK_WORDS + i) n) (set (map hand_of vs) id h)
-      → SiteMove id (site k ws) vs (site k (set ws (LOCK_WORDS + i) n)) (set vs id (seated v h s)) → Go k id ws vs (set ws (LOCK_WORDS + i) n) (set vs id (seated v h s))
+      → SiteMove id (owner_in ws) (site k ws) vs (site k (set ws (LOCK_WORDS + i) n)) (set vs id (seated v h s)) → Go k id ws vs (set ws (LOCK_WORDS + i) n) (set vs id (seated v h s))
   mutex-sites k ws vs id i n v h s (l, r) at same stays there move = let w : V = seated v h s in let us : List ℕ = set ws (LOCK_WORDS + i) n in let hs : List Hand = map hand_of vs in let mine = at_map hand_of vs id v at in
       let task : (h.task ≡ v.hand.task) ⊎ (v.hand.held ≡ No) = elim same.1 [ inl e ↦ inl e | inr s ↦ elim s [ inl out ↦ inr (named k ws hs r.site_holds id v.hand mine out) | inr q ↦ inr q.0.0 ] ] in
-      goes-on k ws vs l id v r at us (set vs id w) Stay (length-set ws (LOCK_WORDS + i) n ∙ r.wide) (set_part hand_of (Site k us) vs id w there) move w (set-there vs id v w at) same.0 (omega arith)
+      goes-on k ws vs l id v r at us (set vs id w) Stay (length-set ws (LOCK_WORDS + i) n ∙ r.wide) (set_part hand_of (Site k us) vs id w there) move w (set-there vs id v w at) same.0 (λ more. absurd (more same.2.0)) (omega arith)
       (subst (λ (z : List ℕ). SpinMoves id (spin_words ws) (map spin_part vs) z (map spin_part (set vs id w))) (sym (part-below ws 0 SPIN_WORDS (LOCK_WORDS + i) n (omega arith)))
       (set_part spin_part (SpinMoves id (spin_words ws) (map spin_part vs) (spin_words ws)) vs id w (spin-renames id (spin_words ws) (map spin_part vs) (spin_part v) h.task s r.spin (at_map spin_part vs id v at) stays (⊎_elim (λ a. inl a) (λ b. ⊎_elim (λ c. inr (inl c)) (λ t. inr (inr t.0.1)) b) same.1))))
       (get_or-set_other ws (LOCK_WORDS + i) owner_at n 0 (λ e. omega (arith, e)))
@@ -219,7 +224,7 @@ module _ {Call : Type 0} (o : Obj Call) (size : ℕ) where
   mutex-spins k ws vs id i n v s (l, r) at within turn may spin = let w : V = spun v s in let us : List ℕ = set ws (0 + i) n in let same : site k us ≡ site k ws = ap (lay k) (drop-set-lt LOCK_WORDS ws (0 + i) n (omega (arith, within))) in
       goes-on k ws vs l id v r at us (set vs id w) Stay (length-set ws (0 + i) n ∙ r.wide)
       (subst (λ (z : SiteWords). SiteKept o owned size k z (map hand_of (set vs id w))) (sym same) (keep_part hand_of (Site k ws) vs id v w at refl r.site_holds))
-      (subst (λ (z : SiteWords). SiteMove id (site k ws) vs z (set vs id w)) (sym same) (set-moves id (site k ws) (site k ws) vs v w at (spin-moved (site k ws) v s turn))) w (set-there vs id v w at) refl (omega arith)
+      (subst (λ (z : SiteWords). SiteMove id (owner_in ws) (site k ws) vs z (set vs id w)) (sym same) (set-moves id (site k ws) (site k ws) vs v w at (spin-moved (site k ws) v s turn))) w (set-there vs id v w at) refl (λ more. absurd (more refl)) (omega arith)
       (subst (λ (z : List ℕ). SpinMoves id (spin_words ws) (map spin_part vs) z (map spin_part (set vs id w))) (sym (part-in ws 0 SPIN_WORDS i n within)) (set_part spin_part (SpinMoves id (spin_words ws) (map spin_part vs) (set (spin_words ws) i n)) vs id w spin))
       (get_or-set_other ws (0 + i) owner_at n 0 (λ e. omega (arith, e, within)))
       (keep_part hand_of (OwnKept (owner_in ws)) vs id v w at refl r.own)
@@ -228,14 +233,14 @@ module _ {Call : Type 0} (o : Obj Call) (size : ℕ) where
       (coupled-spins (owner_in ws) l vs id v r.coupled at s turn.entries (λ has out. (may (has, out)).0)) tt tt tt
 
   -- a step on the owner word leaves everything but the word and the hand, once the coupled facts are there
-  owns-by : (k : Plan) (ws : List ℕ) (vs : List V) (l : List Waiter) (id n : ℕ) (v : V) (h : Hand) (t : Turn) → Queue k ws vs l → get_elem? vs id ≡ some v → h.task ≡ v.hand.task → HandGoes v.hand h → OwnKept n (set (map hand_of vs) id h) → Site k ws (set (map hand_of vs) id h)
+  owns-by : (k : Plan) (ws : List ℕ) (vs : List V) (l : List Waiter) (id n : ℕ) (v : V) (h : Hand) (t : Turn) → Queue k ws vs l → get_elem? vs id ≡ some v → h.task ≡ v.hand.task → HandGoes v.hand h → TriesWhere may_miss (owner_in ws) v h → OwnKept n (set (map hand_of vs) id h) → Site k ws (set (map hand_of vs) id h)
       → Coupled n l (set vs id (turns turned t v h)) → (Leaves (owner_in ws) n → PicksFirst n l) → (4 ≤ owner_in ws % 8 → (n ≡ owner_in ws) ⊎ TookUp id vs (owner_in ws) n)
       → (Asks (owner_in ws) n → IsFirstTask v.hand.task l) → (HasHandoff (owner_in ws) → HasHandoff n ⊎ AnswersHandoff v.hand n l) → KeepsLeft v.hand h n → (v.hand.held ≡ Alone → h.held ≡ No → HasLock v → LeavesToFirst n l) → Go k id ws vs (set ws owner_at n) (set vs id (turns turned t v h))
-  owns-by k ws vs l id n v h t r at task counts own there coupled hands picks asks stays left names = let w : V = turns turned t v h in let us : List ℕ = set ws owner_at n in let wide = r.wide in let same : site k us ≡ site k ws = ap (lay k) (drop-set-lt LOCK_WORDS ws owner_at n (omega arith)) in
+  owns-by k ws vs l id n v h t r at task counts tries own there coupled hands picks asks stays left names = let w : V = turns turned t v h in let us : List ℕ = set ws owner_at n in let wide = r.wide in let same : site k us ≡ site k ws = ap (lay k) (drop-set-lt LOCK_WORDS ws owner_at n (omega arith)) in
       let word : owner_in us ≡ n = get_or-set_same ws owner_at n 0 (omega (arith, wide)) in
       goes k ws vs l id v r at us (set vs id w) Stay (length-set ws owner_at n ∙ wide)
       (subst (λ (z : SiteWords). SiteKept o owned size k z (map hand_of (set vs id w))) (sym same) (set_part hand_of (Site k ws) vs id w there))
-      (subst (λ (z : SiteWords). SiteMove id (site k ws) vs z (set vs id w)) (sym same) (set-moves id (site k ws) (site k ws) vs v w at (hold-moved (site k ws) v h (turned t v) counts))) w (set-there vs id v w at)
+      (subst (λ (z : SiteWords). SiteMove id (owner_in ws) (site k ws) vs z (set vs id w)) (sym same) (set-moves id (site k ws) (site k ws) vs v w at (hold-moved (site k ws) v h (turned t v) counts (tries-go may_miss v h tries)))) w (set-there vs id v w at)
       (subst (λ (z : List ℕ). SpinMoves id (spin_words ws) (map spin_part vs) z (map spin_part (set vs id w))) (sym (part-below ws 0 SPIN_WORDS owner_at n (omega arith)))
       (keep_part spin_part (SpinMoves id (spin_words ws) (map spin_part vs) (spin_words ws)) vs id v w at (λ i. record { task = task i; spin = v.spin }) (spin-same id (spin_words ws) (map spin_part vs) r.spin)))
       (subst (λ (z : ℕ). OwnKept z (map hand_of (set vs id w))) (sym word) (set_part hand_of (OwnKept n) vs id w own))
@@ -245,31 +250,31 @@ module _ {Call : Type 0} (o : Obj Call) (size : ℕ) where
       (subst (λ (z : ℕ). 4 ≤ owner_in ws % 8 → (z ≡ owner_in ws) ⊎ TookUp id vs (owner_in ws) z) (sym word) picks)
       (subst (λ (z : ℕ). Asks (owner_in ws) z → IsFirstTask v.hand.task l) (sym word) asks)
       (subst (λ (z : ℕ). HasHandoff (owner_in ws) → HasHandoff z ⊎ AnswersHandoff v.hand z l) (sym word) stays)
-      (subst (KeepsLeft v.hand h) (sym word) left) (subst (λ (z : ℕ). v.hand.held ≡ Alone → h.held ≡ No → HasLock v → LeavesToFirst z l) (sym word) names) (let e = turned-appends t v in omega (arith, e))
+      (subst (KeepsLeft v.hand h) (sym word) left) (subst (λ (z : ℕ). v.hand.held ≡ Alone → h.held ≡ No → HasLock v → LeavesToFirst z l) (sym word) names) (let e = turned-appends t v in omega (arith, e)) (misses-outside v h (owner_in ws) tries)
 
-  pub mutex-owns : (k : Plan) (ws : List ℕ) (vs : List V) (id n : ℕ) (v : V) (h : Hand) (t : Turn) → Kept o size k ws vs → get_elem? vs id ≡ some v → h.task ≡ v.hand.task → HandGoes v.hand h → KeepsLeft v.hand h n → may_own t v (owner_in ws) n → OwnKept n (set (map hand_of vs) id h) → Site k ws (set (map hand_of vs) id h)
+  pub mutex-owns : (k : Plan) (ws : List ℕ) (vs : List V) (id n : ℕ) (v : V) (h : Hand) (t : Turn) → Kept o size k ws vs → get_elem? vs id ≡ some v → h.task ≡ v.hand.task → HandGoes v.hand h → TriesWhere may_miss (owner_in ws) v h → KeepsLeft v.hand h n → may_own t v (owner_in ws) n → OwnKept n (set (map hand_of vs) id h) → Site k ws (set (map hand_of vs) id h)
       → Go k id ws vs (set ws owner_at n) (set vs id (turns turned t v h))
-  mutex-owns k ws vs id n v h Fail (l, r) at task counts left may own there = let m : ℕ = owner_in ws in
-      owns-by k ws vs l id n v h Fail r at task counts own there (subst (λ (z : ℕ). Coupled z l (set vs id (turns turned Fail v h))) (sym may.0) (coupled-fails m l vs id v r.coupled at (apart k ws vs l id v r at) may.1.0 may.1.1 may.1.2 h task)) (λ leaves. absurd (leaves.3 (ap (λ (z : ℕ). z / 8) may.0))) (λ _. inl may.0)
+  mutex-owns k ws vs id n v h Fail (l, r) at task counts tries left may own there = let m : ℕ = owner_in ws in
+      owns-by k ws vs l id n v h Fail r at task counts tries own there (subst (λ (z : ℕ). Coupled z l (set vs id (turns turned Fail v h))) (sym may.0) (coupled-fails m l vs id v r.coupled at (apart k ws vs l id v r at) may.3.0 may.3.1 may.3.2 h task)) (λ leaves. absurd (leaves.3 (ap (λ (z : ℕ). z / 8) may.0))) (λ _. inl may.0)
       (λ asked. let less = asked.0 in let more : 2 ≤ m % 4 = subst HasHandoff may.0 asked.1 in absurd (omega (arith, less, more))) (λ asked. inl (subst HasHandoff (sym may.0) asked)) left
       (λ alone free _. let e = ended k ws vs l id v r at n h alone free own in let low = e.0 in let big = e.1 in let is = may.0 in let few = e.2 (omega (arith, is, low)) in absurd (omega (arith, few, big, is)))
-  mutex-owns k ws vs id n v h Take (l, r) at task counts left may own there = let m : ℕ = owner_in ws in let nobody = r.own.nobody in let flags = r.own.flags in
+  mutex-owns k ws vs id n v h Take (l, r) at task counts tries left may own there = let m : ℕ = owner_in ws in let nobody = r.own.nobody in let flags = r.own.flags in
       let names : v.hand.held ≡ Alone → h.held ≡ No → HasLock v → LeavesToFirst n l = λ alone _ _. let w : held_weight No ≡ held_weight Alone = ap held_weight (sym may.0 ∙ alone) in absurd (omega (arith, w)) in ⊎_elim
-      (λ (q : (m < 8) × (n ≡ 8 * (may.1.0 + 1) + m)). let free = q.0 in let few = nobody free in owns-by k ws vs l id n v h Take r at task counts own there (coupled-takes-free m l vs id v r.coupled at (apart k ws vs l id v r at) may.1.0 n h q.0 (nobody q.0) q.1 task) (λ leaves. let big = leaves.2 in absurd (omega (arith, big, free))) (λ high. absurd (omega (arith, high, few)))
+      (λ (q : (m < 8) × (n ≡ 8 * (may.1.0 + 1) + m)). let free = q.0 in let few = nobody free in owns-by k ws vs l id n v h Take r at task counts tries own there (coupled-takes-free m l vs id v r.coupled at (apart k ws vs l id v r at) may.1.0 n h q.0 (nobody q.0) q.1 task) (λ leaves. let big = leaves.2 in absurd (omega (arith, big, free))) (λ high. absurd (omega (arith, high, few)))
       (λ asked. let more = asked.1 in let is = q.1 in absurd (omega (arith, more, is, few))) (λ asked. absurd (omega (arith, asked, few))) left names)
-      (λ (q : (4 ≤ m % 8) × (m / 8 ≡ may.1.0 + 1) × (n + 4 ≡ m)). let high = q.0 in owns-by k ws vs l id n v h Take r at task counts own there (coupled-takes-picked m l vs id v r.coupled at (apart k ws vs l id v r at) n h q.0 flags q.2 task) (λ leaves. let low = leaves.0 in absurd (omega (arith, low, high))) (λ _. inr (v, at, (may.1.0, may.1.1, q.1), q.2))
+      (λ (q : (4 ≤ m % 8) × (m / 8 ≡ may.1.0 + 1) × (n + 4 ≡ m)). let high = q.0 in owns-by k ws vs l id n v h Take r at task counts tries own there (coupled-takes-picked m l vs id v r.coupled at (apart k ws vs l id v r at) n h q.0 flags q.2 task) (λ leaves. let low = leaves.0 in absurd (omega (arith, low, high))) (λ _. inr (v, at, (may.1.0, may.1.1, q.1), q.2))
       (λ asked. let more = asked.1 in let is = q.2 in absurd (omega (arith, more, is, high, flags))) (λ asked. absurd (omega (arith, asked, high, flags))) left names)
       may.1.2
-  mutex-owns k ws vs id n v h Ask (l, r) at task counts left may own there = let m : ℕ = owner_in ws in let few = may.2.0 in let is = may.2.2 in
-      owns-by k ws vs l id n v h Ask r at task counts own there (coupled-asks m l vs id v r.coupled at (apart k ws vs l id v r at) n h may.0 may.1 may.2.0 may.2.2 task) (λ leaves. absurd (leaves.3 (omega (arith, few, is)))) (λ high. absurd (omega (arith, high, few)))
+  mutex-owns k ws vs id n v h Ask (l, r) at task counts tries left may own there = let m : ℕ = owner_in ws in let few = may.2.0 in let is = may.2.2 in
+      owns-by k ws vs l id n v h Ask r at task counts tries own there (coupled-asks m l vs id v r.coupled at (apart k ws vs l id v r at) n h may.0 may.1 may.2.0 may.2.2 task) (λ leaves. absurd (leaves.3 (omega (arith, few, is)))) (λ high. absurd (omega (arith, high, few)))
       (λ _. (r.coupled.each id v at).first may.0) (λ asked. absurd (omega (arith, asked, few))) left
       (λ alone free _. let e = ended k ws vs l id v r at n h alone free own in let big = e.1 in let small = e.2 (omega (arith, few, is)) in absurd (omega (arith, small, big, is)))
-  mutex-owns k ws vs id n v h Free (l, r) at task counts left may own there = let m : ℕ = owner_in ws in let few = may.2 in
-      owns-by k ws vs l id n v h Free r at task counts own there (coupled-frees m l vs id v r.coupled at (apart k ws vs l id v r at) n h may.2 may.3 task) (λ leaves. let x = leaves.1 in absurd (omega (arith, x, few))) (λ high. absurd (omega (arith, high, few)))
+  mutex-owns k ws vs id n v h Free (l, r) at task counts tries left may own there = let m : ℕ = owner_in ws in let few = may.2 in
+      owns-by k ws vs l id n v h Free r at task counts tries own there (coupled-frees m l vs id v r.coupled at (apart k ws vs l id v r at) n h may.2 may.3 task) (λ leaves. let x = leaves.1 in absurd (omega (arith, x, few))) (λ high. absurd (omega (arith, high, few)))
       (λ asked. let more = asked.1 in let is = may.3 in absurd (omega (arith, more, is, few))) (λ asked. absurd (omega (arith, asked, few))) left (λ _ _ has. locked-free v (ap holds_at may.1) has)
-  mutex-owns k ws vs id n v h HandOn (l, r) at task counts left may own there = let m : ℕ = owner_in ws in let kn = known k ws vs l id v r at may.2.0 in let a = apart k ws vs l id v r at in let is : v.ext.list.list ≡ l = kn.0 in let few = may.3 in
+  mutex-owns k ws vs id n v h HandOn (l, r) at task counts tries left may own there = let m : ℕ = owner_in ws in let kn = known k ws vs l id v r at may.2.0 in let a = apart k ws vs l id v r at in let is : v.ext.list.list ≡ l = kn.0 in let few = may.3 in
       let none_is : length l ≡ 0 → n ≡ m % 2 = λ z. may.4.0 (ap length is ∙ z) in let some_is : 0 < length l → n ≡ 8 * first_code l + 4 + m % 2 = λ lo. subst (λ (y : List Waiter). 0 < length y → n ≡ 8 * first_code y + 4 + m % 2) is may.4.1 lo in
-      owns-by k ws vs l id n v h HandOn r at task counts own there (coupled-hands-over m l vs id v r.coupled at a n h may.2.0.0 may.2.2 may.3 none_is some_is task may.1)
+      owns-by k ws vs l id n v h HandOn r at task counts tries own there (coupled-hands-over m l vs id v r.coupled at a n h may.2.0.0 may.2.2 may.3 none_is some_is task may.1)
       (λ leaves. let fl = flagged m l vs id v r.coupled at a may.2.0.0 may.2.2 in let asks = leaves.1 in elim (native.Mathlib.Decide.dec_le (length l) 0) [
         | yes z ↦ let e = fl.none (omega (arith, z)) in absurd (omega (arith, e, asks))
         | no lo ↦ let e = some_is (omega (arith, lo)) in (omega (arith, e), omega (arith, e))
@@ -288,18 +293,18 @@ module _ {Call : Type 0} (o : Obj Call) (size : ℕ) where
         | yes z ↦ let e = none_is (omega (arith, z)) in inr (omega (arith, e), omega (arith, z))
         | no lo ↦ let e = some_is (omega (arith, lo)) in inl (omega (arith, e), omega (arith, e))
       ])
-  mutex-owns k ws vs id n v h Flag (l, r) at task counts left may own there = let m : ℕ = owner_in ws in let low = ((r.coupled.each id v at).joins may.0).3 in let is = may.1 (omega (arith, low)) in
-      owns-by k ws vs l id n v h Flag r at task counts own there (coupled-flags m l vs id v r.coupled at (apart k ws vs l id v r at) n h may.0 is task) (λ leaves. let x = leaves.1 in absurd (omega (arith, x, low))) (λ high. absurd (omega (arith, high, low)))
+  mutex-owns k ws vs id n v h Flag (l, r) at task counts tries left may own there = let m : ℕ = owner_in ws in let low = ((r.coupled.each id v at).joins may.0).3 in let is = may.1 (omega (arith, low)) in
+      owns-by k ws vs l id n v h Flag r at task counts tries own there (coupled-flags m l vs id v r.coupled at (apart k ws vs l id v r at) n h may.0 is task) (λ leaves. let x = leaves.1 in absurd (omega (arith, x, low))) (λ high. absurd (omega (arith, high, low)))
       (λ asked. let more = asked.1 in absurd (omega (arith, more, is, low))) (λ asked. absurd (omega (arith, asked, low))) left
       (λ alone free _. let e = ended k ws vs l id v r at n h alone free own in let big = e.1 in let small = e.2 (omega (arith, low, is)) in absurd (omega (arith, small, big, is)))
-  mutex-owns k ws vs id n v h Clear (l, r) at task counts left may own there = let m : ℕ = owner_in ws in let is = may.1 in let low = ((r.coupled.each id v at).empties may.0).3 in
-      owns-by k ws vs l id n v h Clear r at task counts own there (coupled-clears m l vs id v r.coupled at (apart k ws vs l id v r at) n h may.0 may.1 task) (λ leaves. absurd (leaves.3 (omega (arith, is)))) (λ high. absurd (omega (arith, high, low)))
+  mutex-owns k ws vs id n v h Clear (l, r) at task counts tries left may own there = let m : ℕ = owner_in ws in let is = may.1 in let low = ((r.coupled.each id v at).empties may.0).3 in
+      owns-by k ws vs l id n v h Clear r at task counts tries own there (coupled-clears m l vs id v r.coupled at (apart k ws vs l id v r at) n h may.0 may.1 task) (λ leaves. absurd (leaves.3 (omega (arith, is)))) (λ high. absurd (omega (arith, high, low)))
       (λ asked. let more = asked.1 in absurd (omega (arith, more, is))) (λ _. inr (inr ((r.coupled.each id v at).empties may.0).1)) left
       (λ alone free _. let e = ended k ws vs l id v r at n h alone free own in let big = e.1 in let small = e.2 (omega (arith, is)) in absurd (omega (arith, small, big, is)))
 
-  pub mutex-own-looks : (k : Plan) (ws : List ℕ) (vs : List V) (id : ℕ) (v : V) (h : Hand) → Kept o size k ws vs → get_elem? vs id ≡ some v → h.task ≡ v.hand.task → h.held ≡ v.hand.held → HandGoes v.hand h → Site k ws (set (map hand_of vs) id h) → Go k id ws vs ws (set vs id (handed v h))
-  mutex-own-looks k ws vs id v h (l, r) at task held counts there = let w : V = handed v h in goes-on k ws vs l id v r at ws (set vs id w) Stay r.wide (set_part hand_of (Site k ws) vs id w there)
-      (set-moves id (site k ws) (site k ws) vs v w at (hold-moved (site k ws) v h v.ext counts)) w (set-there vs id v w at) held (omega arith)
+  pub mutex-own-looks : (k : Plan) (ws : List ℕ) (vs : List V) (id : ℕ) (v : V) (h : Hand) → Kept o size k ws vs → get_elem? vs id ≡ some v → h.task ≡ v.hand.task → h.held ≡ v.hand.held → HandGoes v.hand h → TriesWhere may_miss (owner_in ws) v h → Site k ws (set (map hand_of vs) id h) → Go k id ws vs ws (set vs id (handed v h))
+  mutex-own-looks k ws vs id v h (l, r) at task held counts tries there = let w : V = handed v h in goes-on k ws vs l id v r at ws (set vs id w) Stay r.wide (set_part hand_of (Site k ws) vs id w there)
+      (set-moves id (site k ws) (site k ws) vs v w at (hold-moved (site k ws) v h v.ext counts (tries-go may_miss v h tries))) w (set-there vs id v w at) held (misses-outside v h (owner_in ws) tries) (omega arith)
       (keep_part spin_part (SpinMoves id (spin_words ws) (map spin_part vs) (spin_words ws)) vs id v w at (λ i. record { task = task i; spin = v.spin }) (spin-same id (spin_words ws) (map spin_part vs) r.spin))
       refl
       (set_part hand_of (OwnKept (owner_in ws)) vs id w (own-stays (map hand_of vs) id (owner_in ws) v.hand h r.own (at_map hand_of vs id v at) held (inl task)))
@@ -319,8 +324,8 @@ module _ {Call : Type 0} (o : Obj Call) (size : ℕ) where
     },
   )
 
-  pub mutex-splits : (k : Plan) (ws : List ℕ) (vs : List V) (id : ℕ) (v : V) → Kept o size k ws vs → get_elem? vs id ≡ some v → Site k ws (map hand_of (set vs id (ticked v) ++ split_off idle v ∷ [])) → SiteMove id (site k ws) vs (site k ws) (set vs id (ticked v) ++ split_off idle v ∷ []) → Go k id ws vs ws (set vs id (ticked v) ++ split_off idle v ∷ [])
-  mutex-splits k ws vs id v (l, r) at there move = let us : List V = set vs id (ticked v) in let w : V = split_off idle v in goes-on k ws vs l id v r at ws (us ++ w ∷ []) Stay r.wide there move (ticked v) (still-there us w (ticked v) id (set-there vs id v (ticked v) at)) refl (omega arith)
+  pub mutex-splits : (k : Plan) (ws : List ℕ) (vs : List V) (id : ℕ) (v : V) → Kept o size k ws vs → get_elem? vs id ≡ some v → Site k ws (map hand_of (set vs id (ticked v) ++ split_off idle v ∷ [])) → SiteMove id (owner_in ws) (site k ws) vs (site k ws) (set vs id (ticked v) ++ split_off idle v ∷ []) → Go k id ws vs ws (set vs id (ticked v) ++ split_off idle v ∷ [])
+  mutex-splits k ws vs id v (l, r) at there move = let us : List V = set vs id (ticked v) in let w : V = split_off idle v in goes-on k ws vs l id v r at ws (us ++ w ∷ []) Stay r.wide there move (ticked v) (still-there us w (ticked v) id (set-there vs id v (ticked v) at)) refl (λ more. absurd (more refl)) (omega arith)
       (snoc_part spin_part (SpinMoves id (spin_words ws) (map spin_part vs) (spin_words ws)) us w
       (keep_part spin_part (λ ps. SpinMoves id (spin_words ws) (map spin_part vs) (spin_words ws) (ps ++ no_part ∷ [])) vs id v (ticked v) at refl (spin-comes id (spin_words ws) (map spin_part vs) r.spin)))
       refl
@@ -329,11 +334,11 @@ module _ {Call : Type 0} (o : Obj Call) (size : ℕ) where
       (coupled-snoc (owner_in ws) l us w (coupled-hands (owner_in ws) l vs id v r.coupled at v.hand (inl refl)) refl refl) tt tt tt
 
   pub mutex-joins : (k : Plan) (ws : List ℕ) (vs : List V) (id other : ℕ) (v w : V) → Kept o size k ws vs → get_elem? vs id ≡ some v → other ≢ id → get_elem? vs other ≡ some w → HoldsNothing w × rests w × (w.hand.task ≡ None)
-      → Site k ws (map hand_of (set (set vs id (merged v w)) other (spent idle))) → SiteMove id (site k ws) vs (site k ws) (set (set vs id (merged v w)) other (spent idle)) → Go k id ws vs ws (set (set vs id (merged v w)) other (spent idle))
+      → Site k ws (map hand_of (set (set vs id (merged v w)) other (spent idle))) → SiteMove id (owner_in ws) (site k ws) vs (site k ws) (set (set vs id (merged v w)) other (spent idle)) → Go k id ws vs ws (set (set vs id (merged v w)) other (spent idle))
   mutex-joins k ws vs id other v w (l, r) at apart' at' (free, out, nameless) there move = let u : V = merged v w in let us : List V = set vs id u in let x : V = spent idle in let n : ℕ = owner_in ws in
       let there' : get_elem? us other ≡ some w = set_else vs id other u apart' ∙ at' in
       let own : OwnKept n (map hand_of us) = set_part hand_of (OwnKept n) vs id u (own-stays (map hand_of vs) id n v.hand u.hand r.own (at_map hand_of vs id v at) refl (inl refl)) in
-      let coupled = coupled-hands n l vs id v r.coupled at u.hand (inl refl) in goes-on k ws vs l id v r at ws (set us other x) Stay r.wide there move u (set_else us other id x (λ e. apart' (sym e)) ∙ set-there vs id v u at) refl (omega arith)
+      let coupled = coupled-hands n l vs id v r.coupled at u.hand (inl refl) in goes-on k ws vs l id v r at ws (set us other x) Stay r.wide there move u (set_else us other id x (λ e. apart' (sym e)) ∙ set-there vs id v u at) refl (λ more. absurd (more refl)) (omega arith)
       (set_part spin_part (SpinMoves id (spin_words ws) (map spin_part vs) (spin_words ws)) us other x
       (keep_part spin_part (λ ps. SpinMoves id (spin_words ws) (map spin_part vs) (spin_words ws) (set ps other no_part)) vs id v u at refl (spin-ends id (spin_words ws) (map spin_part vs) other (spin_part w) r.spin (at_map spin_part vs other w at') nameless free.1)))
       refl
@@ -352,7 +357,7 @@ module _ {Call : Type 0} (o : Obj Call) (size : ℕ) where
   lists-by k ws vs l id i n v c b r at inside list coupled may made mine = let w : V = listed with_list c v b in let us : List ℕ = set ws (list_at + i) n in let same : site k us ≡ site k ws = ap (lay k) (drop-set-lt LOCK_WORDS ws (list_at + i) n (omega (arith, inside))) in
       goes-on k ws vs l id v r at us (set vs id w) c (length-set ws (list_at + i) n ∙ r.wide)
       (subst (λ (z : SiteWords). SiteKept o owned size k z (map hand_of (set vs id w))) (sym same) (keep_part hand_of (Site k ws) vs id v w at refl r.site_holds))
-      (subst (λ (z : SiteWords). SiteMove id (site k ws) vs z (set vs id w)) (sym same) (set-moves id (site k ws) (site k ws) vs v w at (hold-moved (site k ws) v v.hand (with_list c v b) (hand-stays v.hand)))) w (set-there vs id v w at) refl (list-appends c v b)
+      (subst (λ (z : SiteWords). SiteMove id (owner_in ws) (site k ws) vs z (set vs id w)) (sym same) (set-moves id (site k ws) (site k ws) vs v w at (hold-moved (site k ws) v v.hand (with_list c v b) (hand-stays v.hand) (inl (saw-stays v.hand))))) w (set-there vs id v w at) refl (λ more. absurd (more refl)) (list-appends c v b)
       (subst (λ (z : List ℕ). SpinMoves id (spin_words ws) (map spin_part vs) z (map spin_part (set vs id w))) (sym (part-below ws 0 SPIN_WORDS (list_at + i) n (omega arith)))
       (keep_part spin_part (SpinMoves id (spin_words ws) (map spin_part vs) (spin_words ws)) vs id v w at refl (spin-same id (spin_words ws) (map spin_part vs) r.spin)))
       (get_or-set_other ws (list_at + i) owner_at n 0 (λ e. omega (arith, e)))
@@ -397,7 +402,7 @@ module _ {Call : Type 0} (o : Obj Call) (size : ℕ) where
   pub mutex-firsts : (k : Plan) (ws : List ℕ) (vs : List V) (l : List Waiter) (id : ℕ) (v : V) → Queue k ws vs l → get_elem? vs id ≡ some v → Go k id ws vs ws (set vs id (sighted saw_first v (get_or (list_words ws) 0 0)))
   mutex-firsts k ws vs l id v r at = let n : ℕ = get_or (list_words ws) 0 0 in let w : V = sighted saw_first v n in let ok = r.coupled.each id v at in goes-on k ws vs l id v r at ws (set vs id w) Stay r.wide
       (keep_part hand_of (Site k ws) vs id v w at refl r.site_holds)
-      (set-moves id (site k ws) (site k ws) vs v w at (hold-moved (site k ws) v v.hand w.ext (hand-stays v.hand))) w (set-there vs id v w at) refl (omega arith)
+      (set-moves id (site k ws) (site k ws) vs v w at (hold-moved (site k ws) v v.hand w.ext (hand-stays v.hand) (inl (saw-stays v.hand)))) w (set-there vs id v w at) refl (λ more. absurd (more refl)) (omega arith)
       (keep_part spin_part (SpinMoves id (spin_words ws) (map spin_part vs) (spin_words ws)) vs id v w at refl (spin-same id (spin_words ws) (map spin_part vs) r.spin))
       refl
       (keep_part hand_of (OwnKept (owner_in ws)) vs id v w at refl r.own)

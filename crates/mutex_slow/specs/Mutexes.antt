@@ -164,9 +164,9 @@ IsOwnChange id vs n Stay = Unit {0}
 IsOwnChange id vs n (Enter w) = (v : V) × (get_elem? vs id ≡ some v) × (v.hand.task ≡ Some w.task) × (v.hand.held ≡ No) × (w.writer ≡ true)
 IsOwnChange id vs n (Leave t) = (v : V) × (get_elem? vs id ≡ some v) × (v.hand.task ≡ Some t) × IsUnpicked n t
 
--- what a step may do: all that each step of a site, of a spin lock and of a list does; where it ends a hold while a handoff is asked for, it picks the first waiter; a word that picks a waiter is changed by that waiter alone, which takes; the first waiter alone asks for a handoff; the flag of the handoff stays until the holder names the first waiter or nobody waits; who ends a hold keeps the word that it left, which is the first waiter's where it has the wait lock; and an append is counted by the pass that enters
+-- what a step may do: all that each step of a site, of a spin lock and of a list does; where it ends a hold while a handoff is asked for, it picks the first waiter; a word that picks a waiter is changed by that waiter alone, which takes; the first waiter alone asks for a handoff; the flag of the handoff stays until the holder names the first waiter or nobody waits; who ends a hold keeps the word that it left, which is the first waiter's where it has the wait lock; an append is counted by the pass that enters; and a failed try by one that stands outside the list
 pub record MutexMoves (k : Plan) (id : ℕ) (ws : List ℕ) (vs : List V) (us : List ℕ) (vs' : List V) : Type 0 where
-  pub site : SiteMove id (site k ws) vs (site k us) vs'
+  pub site : SiteMove id (owner_in ws) (site k ws) vs (site k us) vs'
   pub spin : SpinMoves id (spin_words ws) (map spin_part vs) (spin_words us) (map spin_part vs')
   pub list : ListMoves id (list_words ws) (map (list_part list_of) vs) (list_words us) (map (list_part list_of) vs')
   pub own : IsOwnChange id vs (owner_in ws) list.change
@@ -177,6 +177,7 @@ pub record MutexMoves (k : Plan) (id : ℕ) (ws : List ℕ) (vs : List V) (us : 
   pub freed : KeepsLeft site.before.hand site.after.hand (owner_in us)
   pub names : site.before.hand.held ≡ Alone → site.after.hand.held ≡ No → HasLock site.after → LeavesToFirst (owner_in us) list.list
   pub appends : site.after.ext.appends ≡ site.before.ext.appends + entered list.change
+  pub missed : site.after.hand.misses ≢ site.before.hand.misses → site.before.ext.queued ≡ false
 
 abbrev pub may_free : V → Type 0
 may_free v = (v.ext.point ≡ Rest) × (v.ext.list.changes ≡ false)
@@ -188,8 +189,9 @@ rests v = (v.ext.queued ≡ false) × (v.ext.point ≡ Rest) × (v.ext.first ≡
 abbrev pub KnowsList : V → Type 0
 KnowsList v = Knows (v.spin, v.ext.list) × (v.ext.list.changes ≡ false) × (v.ext.point ≡ Rest)
 
+-- where a pass may step so on the owner word. A try that fails found a word that names a task, and its pass is between no two steps that belong together.
 abbrev pub may_own : Turn → V → ℕ → ℕ → Type 0
-may_own Fail v n m = (m ≡ n) × ((t : ℕ) × (v.hand.task ≡ Some t) × IsUnpicked n t)
+may_own Fail v n m = (m ≡ n) × (8 ≤ n) × (v.ext.point ≡ Rest) × ((t : ℕ) × (v.hand.task ≡ Some t) × IsUnpicked n t)
 may_own Take v n m = (v.hand.held ≡ No) × ((t : ℕ) × (v.hand.task ≡ Some t) × IsTake t n m)
 may_own Ask v n m = (v.ext.first ≡ true) × (v.ext.point ≡ Rest) × IsAsk n m
 may_own Free v n m = (v.hand.held ≡ Alone) × SpinRests v.spin × (n % 8 < 2) × (m ≡ n % 8)
@@ -197,7 +199,10 @@ may_own HandOn v n m = (v.hand.held ≡ Alone) × (v.ext.queued ≡ false) × Kn
 may_own Flag v n m = (v.ext.point ≡ Joins) × (n % 2 ≡ 0 → m ≡ n + 1)
 may_own Clear v n m = (v.ext.point ≡ Empties) × (m + n % 8 ≡ n)
 
--- a failed try is counted, unless its pass stands in the list
+-- a failed try is counted where its pass stands outside the list, and there alone
+abbrev pub may_miss : V → Type 0
+may_miss v = v.ext.queued ≡ false
+
 abbrev pub uncounted : V → Type 0
 uncounted v = v.ext.queued ≡ true
 

@@ -1,6 +1,8 @@
 -- Where a pass stands in a call on a mutex, and what callers of any lock see of it.
-use Rattle.std.specs.Prelude.{◌≡◌, ℕ, ◌+◌, ◌<◌, ◌≤◌, ◌/◌, ◌%◌, ◌⊎◌, true, false, Option, Some, None}
+use Rattle.std.specs.Prelude.{◌≡◌, ℕ, zero, suc, ◌+◌, ◌<◌, ◌≤◌, ◌/◌, ◌%◌, ◌⊎◌, true, false, Option, Some, None}
 use Rattle.word_bits.specs.OwnerWord.{task_code}
+use Rattle.cpu_task.specs.Counting.{one_more}
+use Rattle.osq_unqueue.specs.Rising.{Rises}
 use Rattle.lock_core.specs.declared.view.Line.{Line}
 use Rattle.lock_core.specs.declared.pass.Pass.{Pass}
 use Rattle.lock_core.specs.declared.site.Site.{Site}
@@ -18,7 +20,7 @@ use Rattle.mutex_slow.specs.declared.view.MutexHand.{MutexHand}
 use Rattle.mutex_slow.specs.declared.view.Point.TheVariants.{Rest}
 use Rattle.wait_list.specs.Lists.{waiter_code}
 use Rattle.lock_core.specs.Holding.{released}
-use Rattle.mutex_word.specs.Tries.{FindsUnasked}
+use Rattle.mutex_word.specs.Tries.{FindsUnasked, IsOpen}
 use Rattle.mutex_slow.specs.Mutexes.{V, list_at, owner_at}
 use Rattle.mutex_slow.specs.Stated.{HasWaitLock}
 
@@ -86,6 +88,10 @@ pub record StandsSame (v u : V) : Type 0 where
 abbrev pub IsFreed : V → V → Type 0
 IsFreed v u = u.hand ≡ released v.hand u.hand.freed
 
+-- a step of the call found an owner word that a try of the task takes, and left the pass holding
+abbrev pub TakesOpen : Shown → Shown → Type 0
+TakesOpen v u = (step n : ℕ) × (v.steps < step) × (step ≤ u.steps) × ((f : FindsAtStep step owner_at n v u) × (f.by.hand.held ≡ Alone)) × IsOpen v.hand.task n
+
 -- the call's step of this number found this owner word, which has the task's code, and left the pass with this hold
 abbrev pub FindsOwnCode : (step n : ℕ) → Held → Shown → Shown → Type 0
 FindsOwnCode step n held v u = (v.steps < step) × (step ≤ u.steps) × ((f : FindsAtStep step owner_at n v u) × (f.by.hand.held ≡ held)) × (n / 8 ≡ task_code v.hand.task)
@@ -130,3 +136,22 @@ pub record WentInLine (v u : Shown) : Type 0 where
   pub entries : v.spin.entries < u.spin.entries
   pub fronts : u.fronts ≡ v.fronts
   pub few : u.hand.misses ≤ v.hand.misses + 1
+
+-- a CPU's count of sleeps, after so many more
+abbrev pub slept : (turns sleeps : ℕ) → ℕ
+slept zero sleeps = sleeps
+slept (suc turns) sleeps = one_more (slept turns sleeps)
+
+-- the CPU slept once for each time that the pass took the wait lock anew
+abbrev pub SleepsEachTurn : (entries entries' sleeps sleeps' : ℕ) → Type 0
+SleepsEachTurn entries entries' sleeps sleeps' = (turns : ℕ) × (entries' ≡ entries + turns) × (sleeps' ≡ slept turns sleeps)
+
+-- what a call that had appended itself counted on its CPU: it took the wait lock once, and once more behind each sleep; before, the CPU had answered that it needs rescheduling
+abbrev pub CountsInLine : (sleeps sleeps' rescheds rescheds' : ℕ) → Shown → Shown → Type 0
+CountsInLine sleeps sleeps' rescheds rescheds' v u = SleepsEachTurn (v.spin.entries + 1) u.spin.entries sleeps sleeps' × (rescheds ≤ rescheds') × Rises rescheds rescheds'
+
+-- the same, by how it got the mutex; without having been the front of the spin queue it tried under the wait lock only once the CPU needed rescheduling
+abbrev pub CountsBy : How → (sleeps sleeps' rescheds rescheds' : ℕ) → Shown → Shown → Type 0
+CountsBy Fast sleeps sleeps' rescheds rescheds' v u = (sleeps' ≡ sleeps) × (rescheds' ≡ rescheds)
+CountsBy Spun sleeps sleeps' rescheds rescheds' v u = (sleeps' ≡ sleeps) × (rescheds ≤ rescheds') × (u.fronts ≡ v.fronts → Rises rescheds rescheds')
+CountsBy Slept sleeps sleeps' rescheds rescheds' v u = CountsInLine sleeps sleeps' rescheds rescheds' v u

@@ -1,5 +1,5 @@
 -- What is so of a mutex at each moment, and of each step.
-use Rattle.std.specs.Prelude.{◌≡◌, ℕ, ◌+◌, ◌/◌, ◌%◌, ◌<◌, ◌≤◌, ◌⊎◌, true, List, [], ◌∷◌, length, map, Option, Some, None}
+use Rattle.std.specs.Prelude.{◌≡◌, ℕ, ◌+◌, ◌/◌, ◌%◌, ◌<◌, ◌≤◌, ◌⊎◌, true, List, [], ◌∷◌, length, map, Option, Some, None, IsSome}
 use mathlib.Core.Option.{some}
 use lib.ListN.{get_elem?}
 use Rattle.word_bits.specs.LockWords.{owned}
@@ -12,7 +12,7 @@ use Rattle.lock_core.specs.declared.view.Marks.{Marks}
 use Rattle.lock_core.specs.declared.view.Moment.{Moment}
 use Rattle.lock_core.specs.declared.view.Held.TheVariants.{No, Alone}
 use Rattle.lock_core.specs.Locked.{HasPass, IsSiteStep, IsWaitLockFree}
-use Rattle.lock_core.specs.Shown.{Shown}
+use Rattle.lock_core.specs.Shown.{IsLatestStep, Shown}
 use Rattle.lock_core.specs.Spins.{holds_in}
 use Rattle.lock_core.specs.Stated.{IsSiteThen}
 use Rattle.mutex_word.specs.Holders.{IsHolder, KeepsLeft}
@@ -20,7 +20,7 @@ use Rattle.wait_list.specs.declared.view.Waiter.{Waiter}
 use Rattle.wait_list.specs.declared.view.Change.{Change}
 use Rattle.wait_list.specs.declared.view.Change.TheVariants.{Stay, Enter, Leave}
 use Rattle.wait_list.specs.Lists.{Allowed, IsList, Lists, changed, counted}
-use Rattle.mutex_slow.specs.Mutexes.{AnswersHandoff, Asks, HasHandoff, entered, IsFirstTask, IsUnpicked, Leaves, LeavesToFirst, PicksFirst, list_words, owner_in}
+use Rattle.mutex_slow.specs.Mutexes.{AnswersHandoff, Asks, HasHandoff, entered, IsFirstTask, IsUnpicked, Leaves, LeavesToFirst, PicksFirst, list_words, owner_at, owner_in}
 
 -- Without the pickup flag the word names the task that holds, or nobody where nobody does. With it nobody holds, and the word names the first waiter. The flags of the handoff and of the pickup are never both set. While the wait lock is free, the flag of the waiters is set exactly where tasks wait, and the other two only there.
 pub record StatesOwner (word : ℕ) (free : Type 0) (l : List Waiter) (hs : List Hand) : Type 0 where
@@ -39,13 +39,18 @@ line_marks queued appends = record { numbers = queued ∷ appends ∷ [] }
 abbrev pub StandsMarked : ℕ → (queued appends : ℕ) → Moment → Type 0
 StandsMarked id queued appends m = get_elem? m.marks id ≡ some (line_marks queued appends)
 
--- while this is the list: its words state it while the wait lock is free, each waiter has a pass, each pass has a mark, which says whether its task waits, and the owner word states who holds, who is picked, and whether tasks wait
+-- how often a pass with this number of a task waits in the list, and not at all without one
+abbrev pub waits_in : List Waiter → Option ℕ → ℕ
+waits_in l None = 0
+waits_in l (Some t) = counted t l
+
+-- while this is the list: its words state it while the wait lock is free, each waiter has a pass, each pass has a mark, which says whether it waits, and the owner word states who holds, who is picked, and whether tasks wait
 pub record IsListed (m : Moment) (l : List Waiter) : Type 0 where
   pub sound : IsList l
   pub states : IsWaitLockFree m.spins → Lists (list_words m.words) l
   pub passes : (t : ℕ) → 0 < counted t l → HasPass m.hands t
   pub has : (id : ℕ) (h : Hand) → get_elem? m.hands id ≡ some h → (queued appends : ℕ) × StandsMarked id queued appends m
-  pub marked : (id t queued appends : ℕ) (h : Hand) → get_elem? m.hands id ≡ some h → h.task ≡ Some t → StandsMarked id queued appends m → counted t l ≡ queued
+  pub marked : (id queued appends : ℕ) (h : Hand) → get_elem? m.hands id ≡ some h → StandsMarked id queued appends m → queued ≡ waits_in l h.task
   pub owner : StatesOwner (owner_in m.words) (IsWaitLockFree m.spins) l m.hands
 
 -- the facts of a site, and a list
@@ -66,9 +71,9 @@ MadeBy (Leave t) id h m = HasWaitLock id m × (h.task ≡ Some t) × IsUnpicked 
 abbrev pub TakesUp : Hand → ℕ → ℕ → Type 0
 TakesUp h n n' = ((t : ℕ) × (h.task ≡ Some t) × (n / 8 ≡ t + 1)) × (n' + 4 ≡ n)
 
--- One step of one pass, made while this was the list: the list changes by one append or one removal, which keeps the others in order. A step that ends a hold while a handoff is asked for picks the first waiter. A word that picks a waiter is changed by that waiter alone, which takes. The first waiter alone asks for a handoff. The flag of the handoff stays until the holder names the first waiter, or nobody waits. Who ends a hold keeps the word that its step left; under the wait lock that word picks the first waiter, or names nobody where nobody waits. Each append is counted by the pass that enters.
+-- One step of one pass, made while this was the list: the list changes by one append or one removal, which keeps the others in order. A step that ends a hold while a handoff is asked for picks the first waiter. A word that picks a waiter is changed by that waiter alone, which takes. The first waiter alone asks for a handoff. The flag of the handoff stays until the holder names the first waiter, or nobody waits. Who ends a hold keeps the word that its step left; under the wait lock that word picks the first waiter, or names nobody where nobody waits. Each append is counted by the pass that enters, and a failed try by a pass that stands outside the list.
 pub record IsMutexStep (k : Plan) (x : Moment) (l : List Waiter) (y : Moment) (l' : List Waiter) : Type 0 where
-  pub by : IsSiteStep k x y
+  pub by : IsSiteStep k owner_at x y
   pub change : Change
   pub allowed : Allowed change l
   pub made : MadeBy change by.id by.before x
@@ -80,6 +85,7 @@ pub record IsMutexStep (k : Plan) (x : Moment) (l : List Waiter) (y : Moment) (l
   pub freed : KeepsLeft by.before by.after (owner_in y.words)
   pub names : by.before.held ≡ Alone → by.after.held ≡ No → HasWaitLock by.id y → LeavesToFirst (owner_in y.words) l
   pub appends : (queued appends : ℕ) → StandsMarked by.id queued appends x → (queued' : ℕ) × StandsMarked by.id queued' (appends + entered change) y
+  pub missed : by.after.misses ≢ by.before.misses → (queued appends : ℕ) → StandsMarked by.id queued appends x → queued ≡ 0
 
 -- the last of these moments, which stands first, has this list, and it has come to be by such steps from that of the first
 abbrev pub HasBecome : Plan → List Moment → List Waiter → Type 0
@@ -87,9 +93,13 @@ HasBecome k [] l = ⊥
 HasBecome k (m ∷ []) l = IsListed m l
 HasBecome k (m ∷ before ∷ past) l = IsListed m l × ((old : List Waiter) × HasBecome k (before ∷ past) old × IsMutexStep k before old m l)
 
--- the last moment of its past has it at one seat, marked as out of the list, and as having appended itself as often as it says
-abbrev pub IsOutOfList : Shown → Type 0
-IsOutOfList v = (now : Moment) × (rest : List Moment) × (v.past ≡ now ∷ rest) × ((id : ℕ) × (get_elem? now.hands id ≡ some v.hand) × StandsMarked id 0 v.line.appends now)
+-- the last moment of its past, which is that of its own last step, has it at one seat, marked as out of the list, and as having appended itself as often as it says; where it has a number, that is the seat of the step
+pub record IsOutOfList (v : Shown) : Type 0 where
+  pub own : IsLatestStep v
+  pub seat : ℕ
+  pub hand : get_elem? own.step.now.hands seat ≡ some v.hand
+  pub marked : StandsMarked seat 0 v.line.appends own.step.now
+  pub same : IsSome v.hand.task → seat ≡ own.step.seat
 
 abbrev pub task_of : Waiter → ℕ
 task_of w = w.task

@@ -1,20 +1,22 @@
 //! Mutexes, their passes, and their calls.
-ghost use Rattle.std.specs.Prelude.{◌≡◌, ◌≢◌, ◌<◌, ◌+◌, Bool, true, false, List, [], ◌∷◌, length, Some, None, IsSome, IfOk, IfErr};
+ghost use Rattle.std.specs.Prelude.{◌≡◌, ◌≢◌, ◌<◌, ◌≤◌, ◌+◌, Bool, true, false, List, [], ◌∷◌, length, Some, None, IsSome, IfOk, IfErr};
 ghost use Rattle.lock_core.specs.declared.how.How.TheVariants.{Fast};
 ghost use Rattle.lock_core.specs.declared.view.Held.TheVariants.{No, Alone};
 ghost use Rattle.lock_core.specs.Kinds.{mutex, unavailable, wakes_alone};
 ghost use Rattle.lock_core.specs.Holding.{missed};
-ghost use Rattle.lock_core.specs.Pasts.{EachMoment, FoundAt, Paced, Tail};
+ghost use Rattle.lock_core.specs.Pasts.{EachMoment, FoundAt, Paced, Ran, Tail};
 ghost use Rattle.lock_core.specs.Locking.{Looks, Has, HasSince, Interrupts, OnlyTried, Releases, Got, KeepsPlace};
 ghost use Rattle.lock_core.specs.Passes.{Numbered};
 ghost use Rattle.lock_core.specs.Records.{IsPlan};
 ghost use Rattle.lock_core.specs.Shown.{AllButHand, IsLatestStep, PastGoesOn, shown_new, shown_split};
+ghost use Rattle.lock_core.specs.SpinStated.{IsSpinLockThen, IsSpinMove};
 ghost use Rattle.lock_core.specs.Stated.{IsNew};
 ghost use Rattle.lock_core.specs.Views.{gathered, gave_up};
 ghost use Rattle.osq_nodes.specs.Handles.{tasks_of};
 ghost use Rattle.lock_core.specs.Handles as inner;
-ghost use Rattle.mutex_slow.specs.Mutexes.{owner_at};
-ghost use Rattle.mutex_slow.specs.Places.{EndsHold};
+ghost use Rattle.mutex_slow.specs.Mutexes.{owner_at, standing, wait_lock_at};
+ghost use Rattle.osq_unqueue.specs.Rising.{Rises};
+ghost use Rattle.mutex_slow.specs.Places.{CountsBy, CountsInLine, EndsHold, TakesOpen};
 ghost use Rattle.mutex_slow.specs.Stated.{HasBecome, IsMutexThen, IsOutOfList, waits_on};
 ghost use Rattle.lock_core.specs.Locked.{IsLockedThen, IsSiteStep};
 ghost use Rattle.wait_list.specs.declared.view.Waiter.{Waiter as Waiters};
@@ -140,12 +142,17 @@ impl<O: Object> Mutex<O> {
         ensures numbered { (hand_in pass.new).task ≡ (hand_in pass.old).task }
         ensures line { (shown_of pass.new).line ≡ (shown_of pass.old).line }
         ensures took { result ≡ true → TakesAlone O.object self.now pass.old pass.new }
+        ensures opened { result ≡ true → TakesOpen (shown_of pass.old) (shown_of pass.new) }
         ensures front { result ≡ true →
             ((shown_of pass.new).fronts ≡ (shown_of pass.old).fronts + 1) }
         ensures missed { result ≡ false → OnlyTried (shown_of pass.old) (shown_of pass.new) }
         ensures out { result ≡ false → (hand_in pass.new).held ≡ No }
         ensures stood { result ≡ false → KeepsFronts pass.old pass.new →
             KeepsMisses pass.old pass.new }
+        ensures entries { (shown_of pass.new).spin.entries ≡ (shown_of pass.old).spin.entries }
+        ensures sleeps { C.sleeps cpu.new ≡ C.sleeps cpu.old }
+        ensures rescheds { C.rescheds cpu.old ≤ C.rescheds cpu.new }
+        ensures stops { result ≡ false → Rises (C.rescheds cpu.old) (C.rescheds cpu.new) }
     {
         if cpu.need_resched() {
             return false;
@@ -174,12 +181,17 @@ impl<O: Object> Mutex<O> {
         ensures own { SitsAt self.now pass.new }
         ensures goes_on { PastGoesOn (shown_of pass.old) (shown_of pass.new) }
         ensures took { IfOk result (λ _. TakesAlone O.object self.now pass.old pass.new) }
+        ensures opened { IfOk result (λ _. TakesOpen (shown_of pass.old) (shown_of pass.new)) }
         ensures how { IfOk result (λ how. Got how (shown_of pass.old) (shown_of pass.new)) }
         ensures interrupted { IfErr result (λ why. (reads : Bool) →
             Interrupts mutex reads owner_at why (shown_of pass.old) (shown_of pass.new)) }
         ensures asked { IfErr result (λ _. interruptible ≡ true) }
         ensures line { (shared : Bool) → KeepsPlace mutex shared owner_at
             (shown_of pass.old) (shown_of pass.new) }
+        ensures counts { IfOk result (λ how. CountsBy how (C.sleeps cpu.old) (C.sleeps cpu.new)
+            (C.rescheds cpu.old) (C.rescheds cpu.new) (shown_of pass.old) (shown_of pass.new)) }
+        ensures slept { IfErr result (λ _. CountsInLine (C.sleeps cpu.old) (C.sleeps cpu.new)
+            (C.rescheds cpu.old) (C.rescheds cpu.new) (shown_of pass.old) (shown_of pass.new)) }
     {
         let Err(_) = parts::try_outside(&self.site, rt, &mut pass.pass) else {
             return Ok(How::Fast);
@@ -204,9 +216,12 @@ impl<O: Object> Mutex<O> {
         ensures own { SitsAt self.now pass.new }
         ensures goes_on { PastGoesOn (shown_of pass.old) (shown_of pass.new) }
         ensures took { TakesAlone O.object self.now pass.old pass.new }
+        ensures opened { TakesOpen (shown_of pass.old) (shown_of pass.new) }
         ensures how { Got result (shown_of pass.old) (shown_of pass.new) }
         ensures line { (shared : Bool) → KeepsPlace mutex shared owner_at
             (shown_of pass.old) (shown_of pass.new) }
+        ensures counts { CountsBy result (C.C.sleeps cpu.old) (C.C.sleeps cpu.new)
+            (C.C.rescheds cpu.old) (C.C.rescheds cpu.new) (shown_of pass.old) (shown_of pass.new) }
     {
         match self.lock_common(rt, pass, cpu, false) {
             Ok(how) => how,
@@ -228,11 +243,16 @@ impl<O: Object> Mutex<O> {
         ensures own { SitsAt self.now pass.new }
         ensures goes_on { PastGoesOn (shown_of pass.old) (shown_of pass.new) }
         ensures took { IfOk result (λ _. TakesAlone O.object self.now pass.old pass.new) }
+        ensures opened { IfOk result (λ _. TakesOpen (shown_of pass.old) (shown_of pass.new)) }
         ensures how { IfOk result (λ how. Got how (shown_of pass.old) (shown_of pass.new)) }
         ensures interrupted { IfErr result (λ why. (reads : Bool) →
             Interrupts mutex reads owner_at why (shown_of pass.old) (shown_of pass.new)) }
         ensures line { (shared : Bool) → KeepsPlace mutex shared owner_at
             (shown_of pass.old) (shown_of pass.new) }
+        ensures counts { IfOk result (λ how. CountsBy how (C.C.sleeps cpu.old) (C.C.sleeps cpu.new)
+            (C.C.rescheds cpu.old) (C.C.rescheds cpu.new) (shown_of pass.old) (shown_of pass.new)) }
+        ensures slept { IfErr result (λ _. CountsInLine (C.C.sleeps cpu.old) (C.C.sleeps cpu.new)
+            (C.C.rescheds cpu.old) (C.C.rescheds cpu.new) (shown_of pass.old) (shown_of pass.new)) }
     {
         self.lock_common(rt, pass, cpu, true)
     }
@@ -246,6 +266,7 @@ impl<O: Object> Mutex<O> {
         ensures own { SitsAt self.now pass.new }
         ensures goes_on { PastGoesOn (shown_of pass.old) (shown_of pass.new) }
         ensures took { IfOk result (λ _. TakesAlone O.object self.now pass.old pass.new) }
+        ensures opened { IfOk result (λ _. TakesOpen (shown_of pass.old) (shown_of pass.new)) }
         ensures at_once { IfOk result (λ _. Got Fast (shown_of pass.old) (shown_of pass.new)) }
         ensures numbered { (hand_in pass.new).task ≡ (hand_in pass.old).task }
         ensures still_out { IfErr result (λ _. (hand_in pass.new).held ≡ No) }
@@ -266,6 +287,7 @@ impl<O: Object> Mutex<O> {
         ensures own { SitsAt self.now pass.new }
         ensures goes_on { PastGoesOn (shown_of pass.old) (shown_of pass.new) }
         ensures took { IfOk result (λ _. TakesAlone O.object self.now pass.old pass.new) }
+        ensures opened { IfOk result (λ _. TakesOpen (shown_of pass.old) (shown_of pass.new)) }
         ensures at_once { IfOk result (λ _. Got Fast (shown_of pass.old) (shown_of pass.new)) }
         ensures step { (shown_of pass.new).steps ≡ (shown_of pass.old).steps + 1 }
         ensures free { IfOk result (λ _. FoundAt owner_at 0 (shown_of pass.new).past) }
@@ -305,7 +327,8 @@ impl<O: Object> Mutex<O> {
     /// owner word: the list changes by one append or one removal; the first waiter alone asks for a
     /// handoff, which stays asked for until the holder picks whoever is first then, or nobody
     /// waits; a step that ends a hold meanwhile picks the first waiter, and a word that picks a
-    /// waiter is changed by that waiter's pass alone, which takes. The pass itself isn't in the
+    /// waiter is changed by that waiter's pass alone, which takes. At each moment the words of the
+    /// wait lock say who has it, and each step is one of a spin lock's. The pass itself isn't in the
     /// list.
     pub fn recall(&self, pass: &mut MutexPass<O>)
         requires own { SitsAt self.now pass.old }
@@ -320,9 +343,12 @@ impl<O: Object> Mutex<O> {
             (IsLockedThen O.object mutex O.WORDS (plan_of self.now) owner_at waits_on)
             (shown_of pass.new).past }
         ensures out { IsOutOfList (shown_of pass.new) }
-        ensures moves { Paced (IsSiteStep (plan_of self.now)) (shown_of pass.new).past }
+        ensures moves { Paced (IsSiteStep (plan_of self.now) owner_at) (shown_of pass.new).past }
         ensures lists { (l : List Waiters) ×
             HasBecome (plan_of self.now) (shown_of pass.new).past l }
+        ensures wait_lock { EachMoment (IsSpinLockThen wait_lock_at) (shown_of pass.new).past }
+        ensures wait_moves { Ran standing (newest (plan_of self.now)) (IsSpinMove wait_lock_at)
+            (shown_of pass.new).past }
     {
         self.site.recall(&mut pass.pass);
     }

@@ -10,7 +10,7 @@ ghost use Rattle.lock_core.specs.Shown.{FindsSince};
 ghost use Rattle.wait_list.specs.Lists.{waiter_code};
 ghost use Rattle.mutex_slow.specs.Mutexes.{list_at, owner_at};
 ghost use Rattle.qspin_word.specs.Ways.{SpinGained};
-ghost use Rattle.mutex_slow.specs.Places.{seen_of, StepsOn, TakesAlone, KeepsHand, KeepsMisses, KeepsFronts, StandsSame, IsOutside, IsInLine, HasFailed, IsFreed, EndsUnasked, FindsAsked, NamesFirst};
+ghost use Rattle.mutex_slow.specs.Places.{seen_of, StepsOn, TakesAlone, TakesOpen, KeepsHand, KeepsMisses, KeepsFronts, StandsSame, IsOutside, IsInLine, HasFailed, IsFreed, EndsUnasked, FindsAsked, NamesFirst};
 
 use crate::rule::MutexRule;
 use lock_core::{Interrupted, Pass, Site};
@@ -35,6 +35,7 @@ pub fn try_outside<O: Object, W: Wait>(
     ensures outside { IsOutside (view_of pass.new) }
     ensures same { StandsSame (view_of pass.old) (view_of pass.new) }
     ensures took { IfOk result (λ _. TakesAlone O.object site.now pass.old pass.new) }
+    ensures opened { IfOk result (λ _. TakesOpen (seen_of pass.old) (seen_of pass.new)) }
     ensures at_once { IfOk result (λ _. KeepsMisses pass.old pass.new) }
     ensures missed { IfErr result (λ word. (reads : Bool) → Misses mutex reads owner_at word
         (seen_of pass.old) (seen_of pass.new)) }
@@ -71,6 +72,7 @@ pub fn try_listed<O: Object, W: Wait>(
     ensures first { (view_of pass.new).ext.first ≡ (view_of pass.old).ext.first }
     ensures same { StandsSame (view_of pass.old) (view_of pass.new) }
     ensures took { result ≡ true → TakesAlone O.object site.now pass.old pass.new }
+    ensures opened { result ≡ true → TakesOpen (seen_of pass.old) (seen_of pass.new) }
     ensures uncounted { result ≡ true → KeepsMisses pass.old pass.new }
     ensures missed { result ≡ false → KeepsHand pass.old pass.new }
     ensures failed { result ≡ false → asks ≡ false → HasFailed (view_of pass.new) }
@@ -114,7 +116,7 @@ pub fn leave<O: Object>(site: &Site<MutexRule<O>>, pass: &mut Pass<MutexRule<O>>
 }
 
 /// Appends the pass's own task to the list, and sets the flag of the waiters where it is the first.
-pub fn join<O: Object>(site: &Site<MutexRule<O>>, pass: &mut Pass<MutexRule<O>>)
+pub fn join<O: Object, W: Wait>(site: &Site<MutexRule<O>>, rt: &W, pass: &mut Pass<MutexRule<O>>)
     requires own { SitsAt site.now pass.old }
     requires numbered { IsSome (task_in pass.old) }
     requires out { held_in pass.old ≡ No }
@@ -132,7 +134,8 @@ pub fn join<O: Object>(site: &Site<MutexRule<O>>, pass: &mut Pass<MutexRule<O>>)
     };
     list::append(site, pass, Waiter { task, writer: true });
     let Some(first) = list::first(site, pass) else {
-        return;
+        for _ in rt.forever() {}
+        unreachable!()
     };
     if first.task == task {
         // The flag is set before the waiter tries again: a holder that releases behind this step

@@ -1,7 +1,7 @@
 //! The rule of a mutex.
 ghost use Rattle.std.specs.Prelude.{◌<◌};
 ghost use Rattle.word_bits.specs.LockWords.{owned};
-ghost use Rattle.mutex_slow.specs.Mutexes.{Kept, MutexMoves, idle, list_at, list_of, may_change, may_free, may_own, owner_at, rests, saw_first, turned, uncounted, standing, with_list};
+ghost use Rattle.mutex_slow.specs.Mutexes.{Kept, MutexMoves, idle, list_at, list_of, may_change, may_free, may_miss, may_own, owner_at, rests, saw_first, turned, uncounted, standing, with_list};
 ghost use Rattle.mutex_slow.specs.Mutexes.{MutexKept};
 ghost use Rattle.mutex_slow.specs.MutexLaws.{list-again, list-back, list-inside, list-over, list-same, may-on, may-stay, own-inside, spin-inside};
 ghost use Rattle.mutex_slow.specs.MutexLaws.{mutex-firsts, mutex-joins, mutex-list, mutex-list-may, mutex-lists, mutex-opens, mutex-own, mutex-own-looks, mutex-own-may, mutex-owns, mutex-queued, mutex-site, mutex-sites, mutex-spin, mutex-spins, mutex-splits};
@@ -31,6 +31,8 @@ impl<O: Object> SiteRule for MutexRule<O> {
     ghost moves = { MutexMoves };
 
     ghost marks = { standing };
+
+    ghost word_at = { owner_at };
 
     ghost idle = { idle };
 
@@ -73,6 +75,8 @@ impl<O: Object> OwnerHost for MutexRule<O> {
     ghost may_be = { λ _. Unit {0} };
 
     ghost may_own = { may_own };
+
+    ghost may_miss = { may_miss };
 
     ghost uncounted = { uncounted };
 

@@ -1,5 +1,8 @@
 //! The slow path of a mutex: its wait lock, its list, and the sleep of a waiter.
 ghost use Rattle.std.specs.Prelude.{◌≡◌, ◌<◌, ◌≤◌, ◌+◌, Bool, true, false, Some, IsSome, IfOk, IfErr};
+ghost use Rattle.cpu_task.specs.Counting.{one_more};
+ghost use Rattle.osq_unqueue.specs.Rising.{Rises};
+ghost use Rattle.lock_core.specs.declared.how.How.TheVariants.{Spun};
 ghost use Rattle.lock_core.specs.declared.view.Held.TheVariants.{No, Alone};
 ghost use Rattle.lock_core.specs.Views.{SpinHolds, SpinRests};
 ghost use Rattle.lock_core.specs.Kinds.{mutex, wakes_alone};
@@ -9,7 +12,7 @@ ghost use Rattle.lock_core.specs.Handles.{view_of, hand_in, task_in, held_in, Si
 ghost use Rattle.osq_nodes.specs.declared.node.Place.TheVariants.{Front};
 ghost use Rattle.osq_nodes.specs.Handles as spinners;
 ghost use Rattle.mutex_slow.specs.Mutexes.{owner_at};
-ghost use Rattle.mutex_slow.specs.Places.{seen_of, StepsOn, TakesAlone, KeepsHand, KeepsMisses, KeepsFronts, KeepsAppends, StandsSame, IsOutside, IsInLine, HasFailed, GotInLine, WentInLine, EndsHold};
+ghost use Rattle.mutex_slow.specs.Places.{seen_of, StepsOn, TakesAlone, TakesOpen, KeepsHand, KeepsMisses, KeepsFronts, KeepsAppends, StandsSame, IsOutside, IsInLine, HasFailed, GotInLine, SleepsEachTurn, WentInLine, EndsHold};
 
 use crate::parts;
 use crate::parts::Released;
@@ -40,8 +43,13 @@ pub fn spin_outside<O: Object, W: Wait, C: Cpu>(
     ensures outside { IsOutside (view_of pass.new) }
     ensures same { StandsSame (view_of pass.old) (view_of pass.new) }
     ensures took { result ≡ true → TakesAlone O.object site.now pass.old pass.new }
+    ensures opened { result ≡ true → TakesOpen (seen_of pass.old) (seen_of pass.new) }
     ensures missed { result ≡ false → OnlyTried (seen_of pass.old) (seen_of pass.new) }
     ensures out { result ≡ false → held_in pass.new ≡ No }
+    ensures sleeps { C.sleeps cpu.new ≡ C.sleeps cpu.old }
+    ensures spins { result ≡ true → C.rescheds cpu.new ≡ C.rescheds cpu.old }
+    ensures rescheds { C.rescheds cpu.old ≤ C.rescheds cpu.new }
+    ensures stops { result ≡ false → Rises (C.rescheds cpu.old) (C.rescheds cpu.new) }
 {
     for _ in rt.forever() {
         let Err(_) = parts::try_outside(site, rt, pass) else {
@@ -71,8 +79,13 @@ fn spin_listed<O: Object, W: Wait, C: Cpu>(
     ensures listed { IsInLine (view_of pass.new) }
     ensures same { StandsSame (view_of pass.old) (view_of pass.new) }
     ensures took { result ≡ true → TakesAlone O.object site.now pass.old pass.new }
+    ensures opened { result ≡ true → TakesOpen (seen_of pass.old) (seen_of pass.new) }
     ensures uncounted { result ≡ true → KeepsMisses pass.old pass.new }
     ensures missed { result ≡ false → KeepsHand pass.old pass.new }
+    ensures sleeps { C.sleeps cpu.new ≡ C.sleeps cpu.old }
+    ensures spins { result ≡ true → C.rescheds cpu.new ≡ C.rescheds cpu.old }
+    ensures rescheds { C.rescheds cpu.old ≤ C.rescheds cpu.new }
+    ensures stops { result ≡ false → Rises (C.rescheds cpu.old) (C.rescheds cpu.new) }
 {
     if cpu.need_resched() {
         return false;
@@ -104,8 +117,11 @@ fn try_awake<O: Object, W: Wait, C: Cpu>(
     ensures listed { IsInLine (view_of pass.new) }
     ensures same { StandsSame (view_of pass.old) (view_of pass.new) }
     ensures took { result ≡ true → TakesAlone O.object site.now pass.old pass.new }
+    ensures opened { result ≡ true → TakesOpen (seen_of pass.old) (seen_of pass.new) }
     ensures uncounted { result ≡ true → KeepsMisses pass.old pass.new }
     ensures missed { result ≡ false → KeepsHand pass.old pass.new }
+    ensures sleeps { C.sleeps cpu.new ≡ C.sleeps cpu.old }
+    ensures rescheds { C.rescheds cpu.old ≤ C.rescheds cpu.new }
 {
     let first = parts::sees_first(site, pass);
     // Others take the mutex again and again before a woken waiter runs: the first one asks, and
@@ -134,10 +150,13 @@ fn sleep_and_try<O: Object, W: Wait, C: Cpu>(
     ensures on { StepsOn site.now pass.old pass.new }
     ensures locked { SpinHolds (view_of pass.new).spin }
     ensures listed { IsInLine (view_of pass.new) }
-    ensures entries { (view_of pass.old).spin.entries ≤ (view_of pass.new).spin.entries }
+    ensures entries { (view_of pass.new).spin.entries ≡ (view_of pass.old).spin.entries + 1 }
+    ensures sleeps { C.sleeps cpu.new ≡ one_more (C.sleeps cpu.old) }
+    ensures rescheds { C.rescheds cpu.old ≤ C.rescheds cpu.new }
     ensures fronts { KeepsFronts pass.old pass.new }
     ensures appends { KeepsAppends pass.old pass.new }
     ensures took { result ≡ true → TakesAlone O.object site.now pass.old pass.new }
+    ensures opened { result ≡ true → TakesOpen (seen_of pass.old) (seen_of pass.new) }
     ensures uncounted { result ≡ true → KeepsMisses pass.old pass.new }
     ensures missed { result ≡ false → KeepsHand pass.old pass.new }
 {
@@ -166,10 +185,14 @@ fn wait<O: Object, W: Wait, C: Cpu>(
     ensures locked { SpinHolds (view_of pass.new).spin }
     ensures listed { IsInLine (view_of pass.new) }
     ensures entries { (view_of pass.old).spin.entries ≤ (view_of pass.new).spin.entries }
+    ensures sleeps { SleepsEachTurn (view_of pass.old).spin.entries
+        (view_of pass.new).spin.entries (C.sleeps cpu.old) (C.sleeps cpu.new) }
+    ensures rescheds { C.rescheds cpu.old ≤ C.rescheds cpu.new }
     ensures fronts { KeepsFronts pass.old pass.new }
     ensures appends { KeepsAppends pass.old pass.new }
     ensures misses { KeepsMisses pass.old pass.new }
     ensures took { IfOk result (λ _. TakesAlone O.object site.now pass.old pass.new) }
+    ensures opened { IfOk result (λ _. TakesOpen (seen_of pass.old) (seen_of pass.new)) }
     ensures interrupted { IfErr result (λ _.
         OnlyConsumed (view_of pass.old) (view_of pass.new)) }
     ensures pending { IfErr result (λ why.
@@ -212,11 +235,16 @@ pub fn lock_in_line<O: Object, W: Wait, C: Cpu>(
     ensures unspun { SpinRests (view_of pass.new).spin }
     ensures outside { IsOutside (view_of pass.new) }
     ensures took { IfOk result (λ _. TakesAlone O.object site.now pass.old pass.new) }
+    ensures opened { IfOk result (λ _. TakesOpen (seen_of pass.old) (seen_of pass.new)) }
     ensures how { IfOk result (λ how. GotInLine how (seen_of pass.old) (seen_of pass.new)) }
     ensures interrupted { IfErr result (λ why. (reads : Bool) →
         Interrupts mutex reads owner_at why (seen_of pass.old) (seen_of pass.new)) }
     ensures asked { IfErr result (λ _. interruptible ≡ true) }
     ensures line { WentInLine (seen_of pass.old) (seen_of pass.new) }
+    ensures sleeps { SleepsEachTurn ((view_of pass.old).spin.entries + 1)
+        (view_of pass.new).spin.entries (C.sleeps cpu.old) (C.sleeps cpu.new) }
+    ensures awake { IfOk result (λ how. how ≡ Spun → C.sleeps cpu.new ≡ C.sleeps cpu.old) }
+    ensures rescheds { C.rescheds cpu.old ≤ C.rescheds cpu.new }
 {
     parts::enter(site, rt, pass);
     // A release before this may have seen no waiter, and wakes nobody.
@@ -224,7 +252,7 @@ pub fn lock_in_line<O: Object, W: Wait, C: Cpu>(
         parts::leave(site, pass);
         return Ok(How::Spun);
     };
-    parts::join(site, pass);
+    parts::join(site, rt, pass);
     let Err(why) = wait(site, rt, pass, cpu, interruptible) else {
         parts::quit(site, pass);
         parts::leave(site, pass);

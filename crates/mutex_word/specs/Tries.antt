@@ -32,6 +32,10 @@ IsFail asks task n = IsShut task n × (asks ≡ true → 2 ≤ n % 8)
 abbrev pub IsTake : ℕ → ℕ → ℕ → Type 0
 IsTake t n m = ((n < 8) × (m ≡ 8 * (t + 1) + n)) ⊎ ((4 ≤ n % 8) × (n / 8 ≡ t + 1) × (m + 4 ≡ n))
 
+-- a word that a try takes: it names nobody, or picks the task
+abbrev pub IsOpen : Option ℕ → ℕ → Type 0
+IsOpen task n = (n < 8) ⊎ ((4 ≤ n % 8) × (n / 8 ≡ task_code task))
+
 -- what may be left by a pass that ends its hold: flags alone, or the code of a waiter that is picked
 abbrev pub IsLeft : ℕ → Type 0
 IsLeft m = (m < 2) ⊎ ((m < 8 * MAX_TASKS + 8) × (8 ≤ m) × (4 ≤ m % 8) × (m % 8 < 6))
@@ -122,6 +126,10 @@ module _ {E : Type 0} (turned : Turn → View E → E) where
   -- it has handed its word over to this waiter, or to nobody
   abbrev pub HandsOver : Option ℕ → View E → View E → Type 0
   HandsOver first v u = (s n m : ℕ) × (v.steps ≤ s) × IsMine v.hand.task n × IsHanded first n m × Left HandOn (at_step v s) m u
+
+-- the pass's last step found a word at this place that a try of the task takes
+abbrev pub FindsOpen : (place : ℕ) → Option ℕ → List Moment → Type 0
+FindsOpen place task past = (n : ℕ) × FoundAt place n past × IsOpen task n
 
 -- each of the steps behind the first number and below the second, of the pass that has the task's number, found a word at this place by which no handoff is asked for
 abbrev pub FindsUnasked : Option ℕ → (place begun done : ℕ) → (old new : List Moment) → Type 0

@@ -6,9 +6,9 @@ ghost use Rattle.lock_core.specs.Pasts.{FoundAt};
 ghost use Rattle.lock_core.specs.Handles.{IsLatest, plan_of, view_of, hand_in, past_of, task_in, held_in, SitsAt, KeepsPast, SaysSame};
 ghost use Rattle.mutex_word.specs.declared.host.Turn.{Turn};
 ghost use Rattle.mutex_word.specs.declared.host.Turn.TheVariants.{Take as TakeTurn, Ask as AskTurn, Free};
-ghost use Rattle.mutex_word.specs.declared.tries.Tried.TheVariants.{Failed};
+ghost use Rattle.mutex_word.specs.declared.tries.Tried.TheVariants.{Took, Failed};
 ghost use Rattle.mutex_word.specs.Holders.{IsAsk, TakesOwner, turns};
-ghost use Rattle.mutex_word.specs.Tries.{Acted, CameTo, FindsAsked, FindsUnasked, HandsOver, IsFail, IsLeft, IsMine, IsTake, LeavesFlags, LeavesHanded, Left, MayFail, MayHandOver, MayRelease, MayTry, ReleasedTo, Says, SawWord};
+ghost use Rattle.mutex_word.specs.Tries.{Acted, CameTo, FindsAsked, FindsOpen, FindsUnasked, HandsOver, IsFail, IsLeft, IsMine, IsOpen, IsTake, LeavesFlags, LeavesHanded, Left, MayFail, MayHandOver, MayRelease, MayTry, ReleasedTo, Says, SawWord};
 ghost use Rattle.mutex_word.specs.Plays.{AskedBy, LeftBy, Looked, Mine, TookBy};
 
 use crate::host::OwnerHost;
@@ -184,6 +184,7 @@ fn act<H: OwnerHost, A: TryKind>(
         SawWord H.turned A.asks A.counts (view_of pass.old) n (view_of pass.new)) }
     ensures found { IfErr result (λ n. FoundAt H.OWNER n (past_of pass.new)) }
     ensures ends { IfOk result (λ _. FoundAt H.OWNER word (past_of pass.new)) }
+    ensures opened { IfOk result (λ t. t ≡ Took → IsOpen (task_in pass.old) word) }
 {
     match step {
         Try::Take(new) => {
@@ -228,6 +229,7 @@ pub fn attempt<H: OwnerHost, A: TryKind, W: Wait>(
     ensures came { CameTo H.turned H.O.object (plan_of site.now) A.asks A.counts
         (view_of pass.old) (view_of pass.new) result }
     ensures found { (n : ℕ) → result ≡ Failed n → FoundAt H.OWNER n (past_of pass.new) }
+    ensures opened { result ≡ Took → FindsOpen H.OWNER (Some me) (past_of pass.new) }
 {
     let mut word = look::<H, A>(site, pass);
     for _ in rt.forever() {

@@ -1,8 +1,8 @@
 -- What a clause reads of a pass in the queue of a spin lock.
-use Rattle.std.specs.Prelude.{◌≡◌, ◌≢◌, ℕ, ◌+◌, ◌<◌, Some, None, IsSome}
+use Rattle.std.specs.Prelude.{◌≡◌, ℕ, ◌+◌, ◌<◌, ◌≤◌, ◌⊎◌, Some, None, IsSome}
 use Rattle.word_bits.specs.declared.TheConstants.{MAX_TASKS}
 use Rattle.lock_core.specs.declared.pass.Pass.{Pass}
-use Rattle.lock_core.specs.declared.view.Point.TheVariants.{Taking}
+use Rattle.lock_core.specs.declared.view.Point.TheVariants.{Cleared, Ready}
 use Rattle.lock_core.specs.declared.site.Site.{Site}
 use Rattle.lock_core.specs.Views.{SpinRests, SpinHolds}
 use Rattle.lock_core.specs.Handles.{view_of, hand_in, task_in, SitsAt}
@@ -28,11 +28,14 @@ module _ {R O E C : Type 0} where
     pub is : code ≡ task + 1
     pub small : task < MAX_TASKS
 
+  -- it took the lock as the ready front of the queue; or, before it stood there, by a try with its node cleared, at one of its first so many steps
+  abbrev pub TakesInTurn : (few : ℕ) → Pass R O E C → Pass R O E C → Type 0
+  TakesInTurn few old new = ((view_of new).spin.from ≡ Ready) ⊎ (((view_of new).spin.from ≡ Cleared) × ((view_of new).spin.took ≤ (view_of old).steps + few))
+
   -- after some steps it holds the spin lock, by the queue or by a try before it; what it saw of the word is as before
   pub record TakesQueued (old new : Pass R O E C) : Type 0 where
     pub gained : SpinGained (view_of old) (view_of new)
     pub saw : (view_of new).spin.saw ≡ (view_of old).spin.saw
-    pub from : (view_of new).spin.from ≢ Taking
 
   -- a pass of the site with a number, which is at no point of the spin lock
   pub record IsReady (site : Site R O E C) (pass : Pass R O E C) : Type 0 where

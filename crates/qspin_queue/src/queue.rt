@@ -6,10 +6,10 @@ ghost use Rattle.lock_core.specs.Views.{SpinRests};
 ghost use Rattle.lock_core.specs.Spins.{tail_in};
 ghost use Rattle.lock_core.specs.Handles.{view_of, task_in, SitsAt, SaysSame, KeepsPast, IsLatest};
 ghost use Rattle.qspin_word.specs.Hands.{went};
-ghost use Rattle.qspin_word.specs.Handles.{spin_in, point_in, SpinWaits, SpinGoesOn};
-ghost use Rattle.qspin_word.specs.Ways.{SpinGained, SawRival};
+ghost use Rattle.qspin_word.specs.Handles.{spin_in, point_in, FindsRival, SpinWaits, SpinGoesOn};
+ghost use Rattle.qspin_word.specs.Ways.{SpinGained};
 ghost use Rattle.qspin_queue.specs.Hands.{queued, heard, learnt, prepared};
-ghost use Rattle.qspin_queue.specs.Handles.{code_in, found_in, successor_in, IsOwnNode, TakesQueued};
+ghost use Rattle.qspin_queue.specs.Handles.{code_in, found_in, successor_in, IsOwnNode, TakesInTurn, TakesQueued};
 
 use crate::steps::{
     clear_locked, clear_next, exchange_last, exchange_tail, link, load_front, load_locked,
@@ -38,6 +38,7 @@ fn clear_node<H: SpinHost>(site: &Site<H>, pass: &mut Pass<H>, code: u64)
     requires out { SpinRests (spin_in pass.old) }
     requires node { IsOwnNode pass.old code }
     ensures waits { SpinWaits site.now pass.old pass.new (prepared code (view_of pass.old)) }
+    ensures quick { (view_of pass.new).steps ≡ (view_of pass.old).steps + 2 }
 {
     clear_locked(site, pass, code);
     clear_next(site, pass, code);
@@ -169,6 +170,7 @@ fn take_front<H: SpinHost, W: Wait>(
     requires small { code ≤ MAX_TASKS }
     ensures goes_on { SpinGoesOn site.now pass.old pass.new }
     ensures takes { TakesQueued pass.old pass.new }
+    ensures from { (spin_in pass.new).from ≡ Ready }
 {
     let seen = wait_ready(site, rt, pass);
     // Nobody stands behind it, so it may clear the tail with the same exchange: one that another
@@ -194,6 +196,7 @@ fn take_with<H: SpinHost, W: Wait>(site: &Site<H>, rt: &W, pass: &mut Pass<H>, c
     requires node { IsOwnNode pass.old code }
     ensures goes_on { SpinGoesOn site.now pass.old pass.new }
     ensures takes { TakesQueued pass.old pass.new }
+    ensures in_turn { TakesInTurn 4 pass.old pass.new }
 {
     // A stale `next` would name a node that stands elsewhere now, a stale `locked` a front.
     clear_node(site, pass, code);
@@ -217,6 +220,7 @@ fn take_by_queue<H: SpinHost, W: Wait>(site: &Site<H>, rt: &W, pass: &mut Pass<H
     requires out { SpinRests (spin_in pass.old) }
     ensures goes_on { SpinGoesOn site.now pass.old pass.new }
     ensures takes { TakesQueued pass.old pass.new }
+    ensures in_turn { TakesInTurn 4 pass.old pass.new }
 {
     if let Some(task) = pass.task() {
         take_with(site, rt, pass, u64::from(task) + 1);
@@ -234,12 +238,14 @@ pub fn lock<H: SpinHost, W: Wait>(site: &Site<H>, rt: &W, pass: &mut Pass<H>) ->
     ensures last { IsLatest pass.new }
     ensures gained { SpinGained (view_of pass.old) (view_of pass.new) }
 
-    // The step at which it took the lock, and the point from which it did, are its first one, and
-    // that of the owner of the pending bit.
+    // The step at which it took the lock, and the point from which it did: its first one, that of
+    // the owner of the pending bit, or the queue's front. Seven steps lead to the one try that a
+    // call makes with its node cleared.
     ensures fast { (result ≡ Way.Fast) ↔
         ((spin_in pass.new).took ≡ (view_of pass.old).steps + 1) }
     ensures pending { (result ≡ Way.Pending) ↔ ((spin_in pass.new).from ≡ Taking) }
-    ensures queued { (result ≡ Way.Queued) → SawRival (view_of pass.old) (view_of pass.new) }
+    ensures in_turn { (result ≡ Way.Queued) → TakesInTurn 7 pass.old pass.new }
+    ensures queued { (result ≡ Way.Queued) → FindsRival H.FIRST pass.old pass.new }
 {
     let seen = exchange_free(site, pass);
     if seen == 0 {

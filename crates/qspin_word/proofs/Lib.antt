@@ -5,4 +5,5 @@ pub mod Regions
 pub mod Turning
 pub mod SpinSteps
 pub mod Refusing
+pub mod Rivals
 pub mod Going

@@ -1,5 +1,5 @@
 -- What a fetch-or of the pending bit leaves that saw a tail, or the pending bit of another.
-use Rattle.std.proofs.Common.{◌≡◌, ◌≢◌, ℕ, ◌+◌, ◌/◌, ◌%◌, ◌==◌, ◌≤◌, Bool, Some, refl, ap, ◌∙◌, arith, eq-eqb, ne_eqb, if◌then◌else◌}
+use Rattle.std.proofs.Common.{◌≡◌, ◌≢◌, ℕ, ◌+◌, ◌/◌, ◌%◌, ◌==◌, ◌≤◌, Bool, true, false, Some, refl, ap, ◌∙◌, arith, eq-eqb, ne_eqb, if◌then◌else◌}
 use Rattle.std.proofs.lemmas.Bool.{le-ltb}
 use Rattle.lock_core.specs.declared.view.View.{View}
 use Rattle.lock_core.specs.declared.view.SpinHand.{SpinHand}
@@ -36,3 +36,11 @@ module _ {E : Type 0} (v : View E) (n : ℕ) (high : 256 ≤ n) where
   saw-tail m u first is unset = let s : SpinHand = saw_word (went v.spin Undoing) n (v.steps + 1) in let e : m ≡ spun v s = first ∙ ap (spun v) (beside_tail ∙ ap by_pending (eq-eqb ((n / 256) % 2) 0 unset)) in
       let e' : u ≡ spun (spun v s) (went s Out) = is ∙ ap (λ (x : View E). spun x (went x.spin Out)) e in
       refused u (went s Out) (ap (λ (x : View E). x.hand) e') (ap (λ (x : View E). x.fronts) e') (ap (λ (x : View E). x.ext) e') (let l = ap (λ (x : View E). x.steps) e' in omega (arith, l)) (ap (λ (x : View E). x.spin) e') refl refl refl
+
+  by-saw : (b : Bool) → (by_pending b).saw ≡ Some (record { word = n; step = v.steps + 1 })
+  by-saw true = refl
+  by-saw false = refl
+
+  -- it keeps the word
+  pub keeps-seen : (m : View E) → m ≡ spun v (pended n v) → m.spin.saw ≡ Some (record { word = n; step = v.steps + 1 })
+  keeps-seen m is = ap (λ (x : View E). x.spin.saw) is ∙ (ap (λ (s : SpinHand). s.saw) beside_tail ∙ by-saw ((n / 256) % 2 == 0))

@@ -9,6 +9,7 @@ use Rattle.lock_core.specs.Spins.{spun}
 use Rattle.lock_core.specs.Pasts.{FoundAtStep}
 use Rattle.lock_core.specs.Handles.{view_of, hand_in, past_of, SitsAt, SaysSame, KeepsPast, IsLatest}
 use Rattle.qspin_word.specs.Allows.{SpinAllows}
+use Rattle.qspin_word.specs.Ways.{RivalFound}
 
 module _ {R O E C : Type 0} where
   -- what the pass knows of the spin lock
@@ -26,6 +27,10 @@ module _ {R O E C : Type 0} where
   -- where it made a second step, the first found the word 0
   abbrev pub TriesOnlyFree : ℕ → Pass R O E C → Pass R O E C → Type 0
   TriesOnlyFree at old new = (view_of new).steps ≡ (view_of old).steps + 2 → FirstFoundFree at old new
+
+  -- it saw a rival, in the word at this place
+  abbrev pub FindsRival : ℕ → Pass R O E C → Pass R O E C → Type 0
+  FindsRival at old new = RivalFound at (view_of old) (past_of old) (view_of new) (past_of new)
 
   -- whatever the spin words are, the pass may do the operation on the one at this place
   abbrev pub MaySpin : Pass R O E C → ℕ → Op → (ℕ → SpinHand) → (ℕ → Type 0) → Type 0

@@ -1,9 +1,11 @@
 -- What a try, and a way to the lock, leave of a view.
-use Rattle.std.specs.Prelude.{◌≡◌, ◌≢◌, ℕ, ◌+◌, ◌<◌, ◌≤◌, ◌⊎◌, Some}
+use Rattle.std.specs.Prelude.{◌≡◌, ◌≢◌, ℕ, ◌+◌, ◌<◌, ◌≤◌, ◌⊎◌, List, Some}
 use Rattle.lock_core.specs.declared.view.View.{View}
 use Rattle.lock_core.specs.declared.view.Saw.{Saw}
 use Rattle.lock_core.specs.declared.view.Point.TheVariants.{Holding}
+use Rattle.lock_core.specs.declared.view.Moment.{Moment}
 use Rattle.lock_core.specs.Views.{SpinRests, SpinHolds}
+use Rattle.lock_core.specs.Pasts.{FoundAtStep}
 use Rattle.qspin_word.specs.Hands.{took_at, saw_word}
 
 module _ {E : Type 0} where
@@ -31,6 +33,10 @@ module _ {E : Type 0} where
     pub rival : 256 ≤ saw.word
     pub since : v.steps < saw.step
     pub by_now : saw.step ≤ u.steps
+
+  -- that step found it in the word at this place
+  abbrev pub RivalFound : (at : ℕ) → View E → List Moment → View E → List Moment → Type 0
+  RivalFound at v old u new = (r : SawRival v u) × FoundAtStep v.hand.task r.saw.step at r.saw.word old new
 
   -- it has nothing to do with the lock, since it saw a rival; all but that is as before
   pub record SpinRefused (v u : View E) : Type 0 where

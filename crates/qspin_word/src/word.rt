@@ -1,12 +1,12 @@
 //! The try and the release of the spin lock, and its way by the pending bit.
-ghost use Rattle.std.specs.Prelude.{◌≡◌, ◌+◌, ◌<◌, true, false, IfErr, IfOk, IsSome};
+ghost use Rattle.std.specs.Prelude.{◌≡◌, ◌+◌, ◌<◌, ◌≤◌, true, false, IfErr, IfOk, IsSome};
 ghost use Rattle.lock_core.specs.declared.view.Point.TheVariants.{Taking};
 ghost use Rattle.lock_core.specs.Views.{SpinRests, SpinHolds};
 ghost use Rattle.lock_core.specs.Spins.{spun};
 ghost use Rattle.lock_core.specs.Pasts.{FoundAt};
 ghost use Rattle.lock_core.specs.Handles.{view_of, past_of, task_in, SitsAt, SaysSame, KeepsPast, IsLatest};
 ghost use Rattle.qspin_word.specs.Hands.{freed};
-ghost use Rattle.qspin_word.specs.Handles.{spin_in, FirstFoundFree, TriesOnlyFree};
+ghost use Rattle.qspin_word.specs.Handles.{spin_in, FindsRival, FirstFoundFree, TriesOnlyFree};
 ghost use Rattle.qspin_word.specs.Ways.{SpinTaken, SpinMissed, SpinGained, SpinRefused};
 
 use crate::PENDING;
@@ -76,6 +76,8 @@ pub fn take_by_pending<H: SpinHost, W: Wait>(site: &Site<H>, rt: &W, pass: &mut 
     ensures from { result ≡ true → (spin_in pass.new).from ≡ Taking }
     ensures later { result ≡ true → (view_of pass.old).steps + 1 < (spin_in pass.new).took }
     ensures refused { result ≡ false → SpinRefused (view_of pass.old) (view_of pass.new) }
+    ensures found { result ≡ false → FindsRival H.FIRST pass.old pass.new }
+    ensures quick { result ≡ false → (view_of pass.new).steps ≤ (view_of pass.old).steps + 2 }
 {
     // Of several contenders one finds neither tail nor pending, and owns the bit that it set.
     let seen = fetch_set_pending(site, pass);

@@ -1,8 +1,10 @@
-use Rattle.std.proofs.Common.{arith, ap, ◌∙◌, ◌+◌, ℕ, rules}
+use Rattle.std.proofs.Common.{arith, ap, ◌∙◌, ◌+◌, ℕ, refl, rules}
+use Rattle.lock_core.specs.declared.view.SpinHand.{SpinHand}
 use Rattle.lock_core.specs.declared.view.Hand.{Hand}
 use Rattle.mutex_slow.specs.declared.view.MutexHand.{MutexHand}
 use Rattle.mutex_slow.specs.Places.{seen_of}
 use Rattle.lock_core.proofs.Within.{pending-within, sees-within}
+use Rattle.mutex_slow.proofs.Opening.{opens-behind, opens-before}
 use Rattle.mutex_slow.proofs.slow.lock_in_line.Goals as goal
 
 pub returns-clause-interrupted : goal.returns-clause-interrupted
@@ -23,3 +25,21 @@ returns-clause-interrupted g c = λ reads. let missed = c.in-Err.ensures.missed 
   waited = ap (λ (e : MutexHand). e.appends) c.leave-2.ensures.ext ∙ (c.quit-2.ensures.same.appends ∙ (c.wait.ensures.appends ∙ (c.join.ensures.appended
       ∙ ap (λ (n : ℕ). n + 1) (c.try_outside.ensures.same.appends ∙ ap (λ (e : MutexHand). e.appends) c.enter.ensures.gained.ext))));
 }
+
+pub returns-in_default-clause-opened : goal.returns-in_default-clause-opened
+returns-in_default-clause-opened g c = opens-before c.args.site.now c.args.pass.now c.try_outside.new.pass c.leave.new.pass (opens-behind c.args.site.now c.args.pass.now c.enter.new.pass c.try_outside.new.pass c.requires.own c.enter.ensures.on c.in_default.ensures.opened) c.leave.ensures.on
+
+pub returns-in_default-clause-sleeps : goal.returns-in_default-clause-sleeps
+returns-in_default-clause-sleeps g c = let enters = c.enter.ensures.gained.counted in let tries = c.try_outside.ensures.same.entries in let leaves = c.leave.ensures.entries in (0, omega (arith, enters, tries, leaves), refl)
+
+pub returns-in_default-wait-clause-opened : goal.returns-in_default-wait-clause-opened
+returns-in_default-wait-clause-opened g c = opens-before c.args.site.now c.args.pass.now c.quit.new.pass c.leave-in_default-wait.new.pass (opens-before c.args.site.now c.args.pass.now c.wait.new.pass c.quit.new.pass (opens-behind c.args.site.now c.args.pass.now c.enter.new.pass c.wait.new.pass c.requires.own c.enter.ensures.on
+    (opens-behind c.args.site.now c.enter.new.pass c.try_outside.new.pass c.wait.new.pass c.enter.ensures.on.own c.try_outside.ensures.on (opens-behind c.args.site.now c.try_outside.new.pass c.join.new.pass c.wait.new.pass c.try_outside.ensures.on.own c.join.ensures.on c.in_default-wait.ensures.opened))) c.quit.ensures.on) c.leave-in_default-wait.ensures.on
+
+pub returns-in_default-wait-clause-sleeps : goal.returns-in_default-wait-clause-sleeps
+returns-in_default-wait-clause-sleeps g c = let turns = c.wait.ensures.sleeps in let slept = turns.1 in let enters = c.enter.ensures.gained.counted in let tries = c.try_outside.ensures.same.entries in let joins = ap (λ (s : SpinHand). s.entries) c.join.ensures.spin in let quits = c.quit.ensures.same.entries in let leaves = c.leave-in_default-wait.ensures.entries in
+    (turns.0, omega (arith, enters, tries, joins, slept, quits, leaves), turns.2)
+
+pub returns-clause-sleeps : goal.returns-clause-sleeps
+returns-clause-sleeps g c = let turns = c.wait.ensures.sleeps in let slept = turns.1 in let enters = c.enter.ensures.gained.counted in let tries = c.try_outside.ensures.same.entries in let joins = ap (λ (s : SpinHand). s.entries) c.join.ensures.spin in let quits = c.quit-2.ensures.same.entries in let leaves = c.leave-2.ensures.entries in
+    (turns.0, omega (arith, enters, tries, joins, slept, quits, leaves), turns.2)

@@ -1,6 +1,6 @@
 use Rattle.std.proofs.Common.{subst, sym, ap, refl, ◌∙◌, ◌<◌, Option, Bool, ℕ, IfSome}
 use Rattle.lock_core.specs.declared.pass.Face.{Face}
-use Rattle.mutex_word.specs.Tries.{IsFail, Says}
+use Rattle.mutex_word.specs.Tries.{IsFail, IsOpen, Says}
 use Rattle.word_bits.specs.declared.TheConstants.{MAX_TASKS}
 use Rattle.mutex_word.proofs.Sitting.{its-number}
 use Rattle.mutex_word.proofs.Table.{owner-of, says}
@@ -21,6 +21,9 @@ act-requires-clause-may g c = λ on. may-on g.H.OwnerHost.turned g.H.OwnerHost.m
 
 pub returns-in-Ok-clause-came : goal.returns-in-Ok-clause-came
 returns-in-Ok-clause-came g c = came g.H.OwnerHost.turned g.H.OwnerHost.may_own g.H.OwnerHost.may_miss g.A.TryKind.asks g.A.TryKind.counts g.H.O.Object.object c.args.site.now.table.shared.key c.args.pass.now.seat.me.0.view c.loop.pass.seat.me.0.view c.act.new.pass.seat.me.0.view c.loop.word c.in-Ok.end c.loop.invariant.7 c.in-Ok.ensures.ended
+
+pub returns-in-Ok-clause-opened : goal.returns-in-Ok-clause-opened
+returns-in-Ok-clause-opened g c = λ took. (c.loop.word, c.in-Ok.ensures.ends, subst (λ (t : Option ℕ). IsOpen t c.loop.word) (ap (λ (f : Face). f.task) c.loop.invariant.3 ∙ c.requires.numbered) (c.in-Ok.ensures.opened took))
 
 pub returns-in-Ok-clause-goes_on : goal.returns-in-Ok-clause-goes_on
 returns-in-Ok-clause-goes_on g c = λ p t. c.act.ensures.goes_on p (c.loop.invariant.4 p t)

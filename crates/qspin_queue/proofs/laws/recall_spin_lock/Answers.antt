@@ -1,7 +1,8 @@
+use Rattle.std.proofs.Common.{get_or}
 use Rattle.lock_core.specs.Layout.{site}
 use Rattle.lock_core.specs.Pasts.{opening}
 use Rattle.qspin_word.proofs.Turning.{numbers}
-use Rattle.qspin_queue.proofs.Recalling.{each-lock, each-move}
+use Rattle.qspin_queue.proofs.Recalling.{counts-spin, each-lock, each-move}
 use Rattle.qspin_queue.proofs.laws.recall_spin_lock.Goals as goal
 
 pub returns-clause-begins : goal.returns-clause-begins
@@ -13,4 +14,5 @@ returns-clause-always g c = let k = c.args.site.now.table.shared.key in let R = 
 
 pub returns-clause-moves : goal.returns-clause-moves
 returns-clause-moves g c = let k = c.args.site.now.table.shared.key in let R = g.H.SiteRule in
-    each-move R.marks (R.holds k) (R.moves k) g.H.SpinHost.FIRST (g.met.H.SpinHost.spin_moves k) (opening R.marks k R.idle) _ c.recall.ensures.run
+    each-move R.marks (R.holds k) (R.moves k) g.H.SpinHost.FIRST (g.met.H.SpinHost.spin_moves k)
+    (λ id ws us vs vs' h m. counts-spin id (get_or ws R.word_at 0) (site k ws) (site k us) vs vs' (g.met.H.SiteRule.site_moves k id ws us vs vs' (g.met.H.SiteRule.site_kept k ws vs h) m)) (opening R.marks k R.idle) _ c.recall.ensures.run

@@ -1,4 +1,4 @@
-use Rattle.std.proofs.Common.{arith, ap, ◌∙◌, ℕ, Bool}
+use Rattle.std.proofs.Common.{◌≡◌, arith, ap, subst, ◌∙◌, ◌+◌, ℕ, Bool}
 use Rattle.lock_core.specs.declared.how.Interrupted.{Interrupted}
 use Rattle.lock_core.specs.Kinds.{mutex}
 use Rattle.lock_core.specs.Locking.{Interrupts}
@@ -7,6 +7,10 @@ use Rattle.mutex_slow.specs.Mutexes.{owner_at}
 use Rattle.mutex_slow.specs.Handles.{shown_of}
 use Rattle.mutex_slow.specs.Places.{seen_of}
 use Rattle.lock_core.proofs.Within.{err-map, interrupts-fronts, tried-fronts, tried-interrupts, tried-then}
+use Rattle.lock_core.specs.declared.how.How.{How}
+use Rattle.lock_core.specs.declared.how.How.TheVariants.{Spun}
+use Rattle.mutex_slow.specs.Places.{CountsBy, CountsInLine, GotInLine, SleepsEachTurn, TakesOpen}
+use Rattle.mutex_slow.proofs.Opening.{counts-in-line, ok-both, ok-map, opens-within, rises-on}
 use Rattle.mutex_slow.proofs.calls.Mutex.lock_common.Goals as goal
 
 pub returns-clause-interrupted : goal.returns-clause-interrupted
@@ -17,3 +21,33 @@ returns-clause-interrupted g c = let before = shown_of c.args.pass.now in let sp
     (c.spin.ensures.line ∙ ap (λ (n : ℕ). record { appends = n }) c.try_outside.ensures.same.appends)
     (λ p t. c.spin.ensures.goes_on p (c.try_outside.ensures.on.goes_on p t)) (interrupts-fronts (seen_of c.spin.new.pass.pass) (seen_of c.lock_in_line.new.pass) (fronts_in c.spin.new.pass.queue) (fronts_in c.spin.new.pass.queue) (omega arith) (i reads)))
     c.lock_in_line.ensures.interrupted
+
+pub returns-then-spin-clause-opened : goal.returns-then-spin-clause-opened
+returns-then-spin-clause-opened g c = let before = shown_of c.args.pass.now in let after = shown_of c.spin.new.pass in let mid = shown_of (record { pass = c.try_outside.new.pass; queue = c.args.pass.now.queue }) in
+    opens-within before mid after after c.in-Err.ensures.tried.keeps.task c.in-Err.ensures.tried.keeps.counts.steps c.try_outside.ensures.on.goes_on (c.spin.ensures.opened c.if-spin.true) (omega arith) (λ p t. t)
+
+pub returns-then-spin-clause-counts : goal.returns-then-spin-clause-counts
+returns-then-spin-clause-counts g c = let front = c.spin.ensures.front c.if-spin.true in (c.spin.ensures.sleeps, c.spin.ensures.rescheds, λ same. absurd (omega (arith, front, same)))
+
+pub returns-clause-opened : goal.returns-clause-opened
+returns-clause-opened g c = let before = shown_of c.args.pass.now in let spun = shown_of c.spin.new.pass in let after = shown_of (record { pass = c.lock_in_line.new.pass; queue = c.spin.new.pass.queue }) in
+    let tried = tried-then (tried-fronts (seen_of c.args.pass.now.pass) (seen_of c.try_outside.new.pass) (fronts_in c.args.pass.now.queue) (fronts_in c.args.pass.now.queue) (omega arith) c.in-Err.ensures.tried) (c.spin.ensures.missed c.if-spin.false) in
+    ok-map (λ (how : How). TakesOpen (seen_of c.spin.new.pass.pass) (seen_of c.lock_in_line.new.pass)) (λ (how : How). TakesOpen before after) c.lock_in_line.result
+    (λ how f. opens-within before spun after after tried.keeps.task tried.keeps.counts.steps (λ p t. c.spin.ensures.goes_on p (c.try_outside.ensures.on.goes_on p t)) f (omega arith) (λ p t. t)) c.lock_in_line.ensures.opened
+
+pub returns-clause-counts : goal.returns-clause-counts
+returns-clause-counts g c = let sleeps = g.C.Cpu.sleeps in let rescheds = g.C.Cpu.rescheds in let before = shown_of c.args.pass.now in let spun = seen_of c.spin.new.pass.pass in let after = seen_of c.lock_in_line.new.pass in let spins = c.spin.ensures.entries in let tries = c.try_outside.ensures.same.entries in
+    ok-both (λ (how : How). GotInLine how spun after) (λ (how : How). how ≡ Spun → sleeps c.lock_in_line.new.cpu ≡ sleeps c.spin.new.cpu) (λ (how : How). CountsBy how (sleeps c.args.cpu.now) (sleeps c.lock_in_line.new.cpu) (rescheds c.args.cpu.now) (rescheds c.lock_in_line.new.cpu) before (shown_of (record { pass = c.lock_in_line.new.pass; queue = c.spin.new.pass.queue }))) c.lock_in_line.result
+    (λ how got awake. counts-in-line how (sleeps c.args.cpu.now) (sleeps c.lock_in_line.new.cpu) (rescheds c.args.cpu.now) (rescheds c.spin.new.cpu) (rescheds c.lock_in_line.new.cpu) before spun after (shown_of (record { pass = c.lock_in_line.new.pass; queue = c.spin.new.pass.queue })) got (omega (arith, spins, tries))
+    (subst (λ (n : ℕ). SleepsEachTurn (spun.spin.entries + 1) after.spin.entries n (sleeps c.lock_in_line.new.cpu)) c.spin.ensures.sleeps c.lock_in_line.ensures.sleeps) (λ is. awake is ∙ c.spin.ensures.sleeps) c.spin.ensures.rescheds (c.spin.ensures.stops c.if-spin.false) c.lock_in_line.ensures.rescheds)
+    c.lock_in_line.ensures.how c.lock_in_line.ensures.awake
+
+pub returns-clause-slept : goal.returns-clause-slept
+returns-clause-slept g c = let sleeps = g.C.Cpu.sleeps in let rescheds = g.C.Cpu.rescheds in let before = shown_of c.args.pass.now in let spun = seen_of c.spin.new.pass.pass in let after = seen_of c.lock_in_line.new.pass in let spins = c.spin.ensures.entries in let tries = c.try_outside.ensures.same.entries in
+    let turns = subst (λ (n : ℕ). SleepsEachTurn (spun.spin.entries + 1) after.spin.entries n (sleeps c.lock_in_line.new.cpu)) c.spin.ensures.sleeps c.lock_in_line.ensures.sleeps in let is = turns.1 in let less = c.spin.ensures.rescheds in let more = c.lock_in_line.ensures.rescheds in
+    err-map (λ (why : Interrupted). (reads : Bool) → Interrupts mutex reads owner_at why spun after) (λ (why : Interrupted). CountsInLine (sleeps c.args.cpu.now) (sleeps c.lock_in_line.new.cpu) (rescheds c.args.cpu.now) (rescheds c.lock_in_line.new.cpu) before (shown_of (record { pass = c.lock_in_line.new.pass; queue = c.spin.new.pass.queue }))) c.lock_in_line.result
+    (λ why _. ((turns.0, omega (arith, is, spins, tries), turns.2), omega (arith, less, more), rises-on (rescheds c.args.cpu.now) (rescheds c.spin.new.cpu) (rescheds c.lock_in_line.new.cpu) (c.spin.ensures.stops c.if-spin.false) more))
+    c.lock_in_line.ensures.interrupted
+
+pub returns-then-spin-clause-goes_on : goal.returns-then-spin-clause-goes_on
+returns-then-spin-clause-goes_on g c = λ p t. c.spin.ensures.goes_on p (c.try_outside.ensures.on.goes_on p t)
