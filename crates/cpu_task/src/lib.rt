@@ -18,6 +18,3 @@ pub use crew::{Crew, Turns};
 pub use gate::{Gate, HoldGate, OpenGate};
 pub use park::{ParkCpu, ParkCrew};
 pub use scripted::{ScriptedCpu, ScriptedCrew};
-
-#[cfg(test)]
-mod tests;

@@ -3,8 +3,6 @@
 
 mod call;
 mod fds;
-#[cfg(test)]
-mod tests;
 mod words;
 
 pub use call::TableCall;

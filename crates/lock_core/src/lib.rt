@@ -24,6 +24,3 @@ pub use shadow::Shadow;
 pub use site::Site;
 pub use spin::SpinHost;
 pub use view::Held;
-
-#[cfg(test)]
-mod tests;

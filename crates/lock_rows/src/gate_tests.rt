@@ -3,10 +3,8 @@ ghost use Rattle.std.specs.Prelude.{◌≡◌, length};
 ghost use Rattle.lock_core.specs.Records.{IsPlan};
 ghost use Rattle.vma_map.specs.Spaces.{space};
 
-use crate::{
-    Start, fault_page, history_of_four, int_map_page, populate_pages, push_calls, signal_task,
-    try_map_page,
-};
+use crate::at_once::{Start, history_of_four};
+use crate::plans::{fault_page, int_map_page, populate_pages, push_calls, signal_task, try_map_page};
 use cpu_task::{Gate, HoldGate, ParkCrew};
 use guarded::RwSem;
 use lock_core::Plan;

@@ -2,10 +2,8 @@
 ghost use Rattle.lock_core.specs.Records.{IsCallOrSignal};
 ghost use Rattle.vma_map.specs.Spaces.{space};
 
-use crate::{
-    Start, fault_page, history_of_four, int_fault_page, int_map_page, map_page, push_calls,
-    signal_task, try_fault_page, try_map_page,
-};
+use crate::at_once::{Start, history_of_four};
+use crate::plans::{fault_page, int_fault_page, int_map_page, map_page, push_calls, signal_task, try_fault_page, try_map_page};
 use cpu_task::{Gate, ScriptedCrew};
 use guarded::{Mutex, RwSem, SleepLock};
 use lock_core::Plan;

@@ -1,8 +1,8 @@
 //! Calls on an object under a lock, and copies of what they leave.
-use crate::{
-    OwnerLock, close_file, copy_of, dup_file, fault_page, get_file, history_of_four, map_page,
-    open_file, populate_pages, push_calls, replies_of, signal_task, try_map_page,
-};
+use crate::at_once::history_of_four;
+use crate::owner_lock::OwnerLock;
+use crate::plans::{close_file, dup_file, fault_page, get_file, map_page, open_file, populate_pages, push_calls, signal_task, try_map_page};
+use crate::serve::{copy_of, replies_of};
 use cpu_task::{Gate, OpenGate, ParkCrew};
 use fd_table::Fds;
 use guarded::{Guarded, Mutex, RwSem, SleepLock};

@@ -1,7 +1,8 @@
 //! A task that tries for a semaphore which a writer holds while a reader sleeps, on threads.
 
 use crate::interrupt_tests::{KIND, VALUE, await_flag};
-use crate::{Start, fault_page, history_of_four, map_page, push_calls, try_fault_page};
+use crate::at_once::{Start, history_of_four};
+use crate::plans::{fault_page, map_page, push_calls, try_fault_page};
 use cpu_task::{Cpu, Crew, Gate, ParkCpu, ParkCrew, Turns};
 use guarded::RwSem;
 use lock_core::Plan;

@@ -5,10 +5,8 @@ ghost use Rattle.lock_core.specs.Records.{IsPlan};
 ghost use Rattle.fd_table.specs.Tables.{table, IsCall};
 ghost use Rattle.vma_map.specs.Spaces.{space};
 
-use crate::{
-    Start, close_file, fault_page, get_file, history_of_four, int_close_file, int_get_file,
-    int_open_file, map_page, open_file, populate_pages, push_calls, signal_task,
-};
+use crate::at_once::{Start, history_of_four};
+use crate::plans::{close_file, fault_page, get_file, int_close_file, int_get_file, int_open_file, map_page, open_file, populate_pages, push_calls, signal_task};
 use cpu_task::{Gate, ParkCrew};
 use fd_table::{Fds, TableCall};
 use guarded::{Mutex, RwSem, SleepLock};

@@ -16,3 +16,5 @@ pub mod LineTexts
 pub mod Replies
 pub mod Telling
 mod Earliest
+pub mod Order
+pub mod NamedCalls

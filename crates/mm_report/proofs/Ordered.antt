@@ -94,7 +94,7 @@ module _ {Call : Type 0} (o : Obj Call) (u : Unavailable) where
   logs_unheld w Sent is = refl
 
   -- a call that is logged stands in the log at its place
-  logged_place : (plan : Plan) (log : List Entry) (seen : ℕ) (e : Entry) (w : CallWords) (r : Rec) → IsRecord o u plan log seen e w r → logs o w r.reply ≡ true → slice_get log r.k ≡ Some e
+  pub logged_place : (plan : Plan) (log : List Entry) (seen : ℕ) (e : Entry) (w : CallWords) (r : Rec) → IsRecord o u plan log seen e w r → logs o w r.reply ≡ true → slice_get log r.k ≡ Some e
   logged_place plan log seen e w r (inl is) logged = is.place
   logged_place plan log seen e w r (inr (inl is)) logged =
       absurd (both_ways (logs o w r.reply) (logs_unchanging w r.reply (changes_reads w is.call is.is is.reads)) logged)

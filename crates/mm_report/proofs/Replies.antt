@@ -6,6 +6,8 @@ use Rattle.std.specs.List.{list_all}
 use Rattle.std.specs.Str.{bytes_eq}
 use Rattle.std.specs.Option.{option_map_or}
 use Rattle.std.proofs.lemmas.Bool.{and_from}
+use Rattle.std.proofs.lemmas.Bool.Decides.{nat_tests}
+use Rattle.std.proofs.lemmas.Fmt.{decimal_injective}
 use Rattle.std.proofs.lemmas.List.Folds.{list_all-append}
 use Rattle.word_bits.specs.declared.call.CallWords.{CallWords}
 use Rattle.word_bits.specs.declared.reply.Errno.{Errno}
@@ -15,10 +17,11 @@ use Rattle.word_bits.specs.declared.reply.Reply.TheVariants.{Good, Num, Refused,
 use Rattle.word_bits.specs.RecWord.{value_of}
 use Rattle.task_script.specs.Tokens.{number}
 use Rattle.task_script.specs.Texts.{call_text}
-use Rattle.task_script.proofs.Decimals.{number-decimal}
+use Rattle.task_script.proofs.Decimals.{number-decimal, digits-decimal}
+use Rattle.task_script.proofs.Splitting.{list_all-weaker}
 use Rattle.task_script.proofs.Inner.{BeginsWithDigit, decimal_begins, decimal_inner, call_inner}
 use Rattle.mm_report.specs.Text.{reply_text, event_line}
-use Rattle.mm_report.specs.Telling.{LineTellsReply}
+use Rattle.mm_report.specs.Telling.{LineTellsCall}
 use Rattle.mm_report.proofs.LineTexts.{is_not, no_equals, reply_in_line, same_front}
 
 begins_with_digit : List ℕ → Bool
@@ -103,9 +106,32 @@ line_split task number w reply =
     append_assoc (e ++ codes " = ") (reply_text reply) (10 ∷ []) ∙ append_assoc e (codes " = ") (reply_text reply ++ 10 ∷ [])
     ∙ sym (append_assoc e (codes " ") (61 ∷ (32 ∷ (reply_text reply ++ 10 ∷ []))))
 
-pub line_tells_reply : LineTellsReply
+line_tells_reply :
+    (task number task' number' : ℕ) (w w' : CallWords) (reply reply' : Reply) → value_of reply < 2 ^ 22 → value_of reply' < 2 ^ 22 → event_line task number w reply ≡ event_line task' number' w' reply' → reply ≡ reply'
 line_tells_reply task number task' number' w w' reply reply' small small' same =
     let cut = same_front 61 (front_of task number w) (front_of task' number' w') (32 ∷ (reply_text reply ++ 10 ∷ [])) (32 ∷ (reply_text reply' ++ 10 ∷ [])) (front_without task number w) (front_without task' number' w') (sym (line_split task number w reply) ∙ same ∙ line_split task' number' w' reply') in
     let behind : reply_text reply ++ 10 ∷ [] ≡ reply_text reply' ++ 10 ∷ [] = ap (drop 1) cut.1 in
     let told = same_front 10 (reply_text reply) (reply_text reply') [] [] (reply_in_line reply) (reply_in_line reply') behind in
     text_tells_reply reply reply' small small' told.0
+
+-- a number has digits alone
+without : (byte n : ℕ) → (byte < 48) → n < 2 ^ 32 → list_all (is_not byte) (decimal n) ≡ true
+without byte n low small = list_all-weaker is_ascii_digit (is_not byte) (λ b digit. other b digit) (decimal n) (digits-decimal n small)
+  where
+    other : (b : ℕ) → is_ascii_digit b ≡ true → is_not byte b ≡ true
+    other b digit = grind (arith, nat_tests)
+
+-- the task and the number in front
+parts_split : (a n c r : List ℕ) → a ++ codes "." ++ n ++ codes " " ++ c ++ codes " = " ++ r ++ codes "\n" ≡ a ++ 46 ∷ (n ++ 32 ∷ (c ++ codes " = " ++ r ++ codes "\n"))
+parts_split a n c r = simp append_assoc
+
+pub line_tells_call : LineTellsCall
+line_tells_call task number task' number' w w' reply reply' t n t' n' small small' same =
+    let behind : CallWords → Reply → List ℕ = λ v q. call_text v ++ codes " = " ++ reply_text q ++ codes "\n" in
+    let split = sym (parts_split (decimal task) (decimal number) (call_text w) (reply_text reply)) ∙ same ∙ parts_split (decimal task') (decimal number') (call_text w') (reply_text reply') in
+    let first = same_front 46 (decimal task) (decimal task') (decimal number ++ 32 ∷ behind w reply) (decimal number' ++ 32 ∷ behind w' reply') (without 46 task (omega arith) t) (without 46 task' (omega arith) t') split in
+    let second = same_front 32 (decimal number) (decimal number') (behind w reply) (behind w' reply') (without 32 number (omega arith) n) (without 32 number' (omega arith) n') first.1 in (
+      decimal_injective task task' (omega arith) (omega arith) first.0,
+      decimal_injective number number' (omega arith) (omega arith) second.0,
+      line_tells_reply task number task' number' w w' reply reply' small small' same,
+    )

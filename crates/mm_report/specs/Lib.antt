@@ -7,3 +7,5 @@ pub mod Telling
 pub mod Writing
 pub mod Summary
 pub mod Reports
+pub mod Orders
+pub mod Meanings

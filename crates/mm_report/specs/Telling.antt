@@ -30,11 +30,11 @@ TellTheSame s object (d ∷ ds) (t ∷ ts) [] = ⊥
 TellTheSame s object (d ∷ ds) (t ∷ ts) (u ∷ us) =
     (lines_told s object d.is_space t ≡ lines_told s object d.is_space u) × (state_told s object d.is_space t ≡ state_told s object d.is_space u) × TellTheSame s (object + 1) ds ts us
 
--- A call's line tells its reply, where its value is in the range of a record.
-abbrev pub LineTellsReply : Type 0
-LineTellsReply =
-    (task number task' number' : ℕ) (w w' : CallWords) (reply reply' : Reply) → value_of reply < 2 ^ 22 → value_of reply' < 2 ^ 22
-    → event_line task number w reply ≡ event_line task' number' w' reply' → reply ≡ reply'
+-- A call's line tells its task, its number and its reply, where the numbers have 32 bits and the value of the reply is in the range of a record.
+abbrev pub LineTellsCall : Type 0
+LineTellsCall =
+    (task number task' number' : ℕ) (w w' : CallWords) (reply reply' : Reply) → task < 2 ^ 32 → number < 2 ^ 32 → task' < 2 ^ 32 → number' < 2 ^ 32 → value_of reply < 2 ^ 22 → value_of reply' < 2 ^ 22
+    → event_line task number w reply ≡ event_line task' number' w' reply' → (task ≡ task') × (number ≡ number') × (reply ≡ reply')
 
 -- The text determines the histories: what is told of a script in the same text is line by line the same.
 abbrev pub TextDeterminesHistories : Type 0

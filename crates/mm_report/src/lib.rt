@@ -12,6 +12,6 @@ mod summary;
 mod tests;
 mod text;
 
-pub use laws::{line_tells_reply, text_determines_histories};
+pub use laws::{calls_are_named, history_keeps_order, line_tells_call, text_determines_histories};
 pub use results::Results;
 pub use text::report;

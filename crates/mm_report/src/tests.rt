@@ -1,17 +1,17 @@
+//! Texts and summaries of results that no run needs to have left: busy, interrupted and sent calls of
+//! several tasks among others. Texts of whole runs stand in examples/.
 ghost use Rattle.std.specs.Prelude.{◌≡◌, ◌+◌, ◌<◌, ◌≤◌, ◌++◌, [], length, slice_get, Bool, Some};
 ghost use Rattle.std.specs.Prelude.{IfOk, OnOk};
 ghost use Rattle.task_script.specs.Scripts.{kinds_of};
 ghost use Rattle.mm_report.specs.Results.{AreComplete, calls_on, empty_snapshot};
 
 use super::*;
-use crate::line::add_event;
 use crate::results::{count_calls, state_words};
-use crate::state::write_table;
 use std::alloc::{AllocError, Global};
 use std::process::Abort;
 use std::test::Fail;
-use task_script::{Failed, MemSink, Outbox, Script, read};
-use word_bits::{CallWords, Errno, Reply, Snapshot};
+use task_script::{MemSink, Script, read};
+use word_bits::Snapshot;
 
 /// What one object leaves: the words of its records and of its log, and the front of its state's.
 #[derive(Clone, Copy)]
@@ -93,31 +93,16 @@ fn filled(
 
 // Words are packed here by hand. A record has its reply's kind from bit 18 on and its value from
 // bit 22 on, an entry its task from bit 18 on, and an area its end from bit 3 on and its start from
-// bit 24 on.
+// bit 24 on. A descriptor has the word 0 where it is free, and else its file's number plus 1.
 #[test]
-fn reports_spaces(rt: HostRuntime) -> Result<(), Fail> {
+fn reports_what_objects_leave(rt: HostRuntime) -> Result<(), Fail> {
     let alloc = rt.alloc();
     for (text, left, expected, summary) in [
         (
-            b"".as_slice(),
-            [].as_slice(),
-            b"".as_slice(),
-            b"".as_slice(),
-        ),
-        (
-            b"space a\n",
-            &[Left {
-                recs: &[],
-                log: &[],
-                state: &[0],
-            }],
-            b"space a\nleft 0\n",
-            b"a: 0 calls, 0 logged, 0 refused, 0 left\n",
-        ),
-        (
             b"space a\nspace b_2\ntask\n\
-              b_2 fault 16 r\na fault 5 r\nb_2 fault 4294967295 w\nb_2 fault 0 x\n",
-            &[
+              b_2 fault 16 r\na fault 5 r\nb_2 fault 4294967295 w\nb_2 fault 0 x\n"
+                .as_slice(),
+            [
                 Left {
                     recs: &[4 << 18],
                     log: &[],
@@ -128,7 +113,8 @@ fn reports_spaces(rt: HostRuntime) -> Result<(), Fail> {
                     log: &[],
                     state: &[2, 5 | 20 << 3 | 16 << 24, 2 | 1_048_576 << 3 | 20 << 24],
                 },
-            ],
+            ]
+            .as_slice(),
             b"space a\n\
               0.1 fault 5 r = maperr\n\
               left 0\n\
@@ -138,9 +124,92 @@ fn reports_spaces(rt: HostRuntime) -> Result<(), Fail> {
               0.3 fault 0 x = busy 9\n\
               left 2\n\
               16-20 r-x\n\
-              20-1048576 -w-\n",
+              20-1048576 -w-\n"
+                .as_slice(),
             b"a: 1 calls, 0 logged, 1 refused, 0 left\n\
-              b_2: 3 calls, 0 logged, 1 refused, 2 left\n",
+              b_2: 3 calls, 0 logged, 1 refused, 2 left\n"
+                .as_slice(),
+        ),
+        // Three tasks, of which two map: calls that read, a try that found the lock held, a signal
+        // and a call that it interrupted, before and behind the logged ones.
+        (
+            b"space a\n\
+              task\na map 0 2 rw-\na fault 0 r\na unmap 0 1\nint a fault 1 r\n\
+              task\na fault 0 w\na map 4 1 r--\na fault 0 r\n\
+              task\na fault 4 r\ntry a fault 0 r\na fault 1 w\na signal 0\n",
+            &[Left {
+                recs: &[
+                    2 << 18,
+                    1 | 1 << 18,
+                    2 | 1 << 18,
+                    3 | 7 << 18,
+                    4 << 18,
+                    1 | 2 << 18 | 4 << 22,
+                    3 | 4 << 18,
+                    4 << 18,
+                    6 << 18 | 9 << 22,
+                    1 | 1 << 18,
+                    1 | 8 << 18,
+                ],
+                log: &[0, 1 | 1 << 18, 2],
+                state: &[2, 3 | 2 << 3 | 1 << 24, 1 | 5 << 3 | 4 << 24],
+            }],
+            b"space a\n\
+              1.0 fault 0 w = maperr\n\
+              2.0 fault 4 r = maperr\n\
+              2.1 try fault 0 r = busy 9\n\
+              0.0 map 0 2 rw- = 0\n\
+              0.1 fault 0 r = ok\n\
+              2.2 fault 1 w = ok\n\
+              2.3 signal 0 = sent\n\
+              1.1 map 4 1 r-- = 4\n\
+              0.2 unmap 0 1 = ok\n\
+              0.3 int fault 1 r = EINTR\n\
+              1.2 fault 0 r = maperr\n\
+              left 2\n\
+              1-2 rw-\n\
+              4-5 r--\n",
+            b"a: 11 calls, 3 logged, 3 refused, 2 left\n",
+        ),
+        // Two tasks on a table: a call that reads between logged ones, a logged one that was
+        // refused, and a try that found the lock held.
+        (
+            b"space a\ntable f\n\
+              task\nf open 7\na fault 3 x\nf get 0\n\
+              task\nf dup 0\nf close 0\nint f close 9\ntry f get 1\n",
+            &[
+                Left {
+                    recs: &[4 << 18],
+                    log: &[],
+                    state: &[0],
+                },
+                Left {
+                    recs: &[
+                        2 << 18,
+                        3 | 3 << 18 | 9 << 22,
+                        1 | 2 << 18 | 1 << 22,
+                        2 | 1 << 18,
+                        3 | 3 << 18 | 9 << 22,
+                        4 | 6 << 18 | 8 << 22,
+                    ],
+                    log: &[0, 1 << 18, 1 | 1 << 18, 2 | 1 << 18],
+                    state: &[0, 8],
+                },
+            ],
+            b"space a\n\
+              0.1 fault 3 x = maperr\n\
+              left 0\n\
+              table f\n\
+              0.0 open 7 = 0\n\
+              1.0 dup 0 = 1\n\
+              1.1 close 0 = ok\n\
+              0.2 get 0 = EBADF\n\
+              1.2 int close 9 = EBADF\n\
+              1.3 try get 1 = busy 8\n\
+              left 1\n\
+              1 7\n",
+            b"a: 1 calls, 0 logged, 1 refused, 0 left\n\
+              f: 6 calls, 4 logged, 2 refused, 1 left\n",
         ),
     ] {
         let script = read(alloc, text)?;
@@ -151,198 +220,6 @@ fn reports_spaces(rt: HostRuntime) -> Result<(), Fail> {
         let mut short = MemSink::new(alloc, 1000, 7, &[])?;
         assert_eq!(rt; report(&script, &mut results, true, &mut short), Ok(()));
         assert_eq!(rt; short.written(), summary, "of {text:?}");
-    }
-    Ok(())
-}
-
-// Three tasks, of which two map: calls that read, a try that found the lock held, a signal and a
-// call that it interrupted, before and behind the logged ones.
-#[test]
-fn reports_tasks_in_the_order_of_the_log(rt: HostRuntime) -> Result<(), Fail> {
-    let alloc = rt.alloc();
-    let script = read(
-        alloc,
-        b"space a\n\
-          task\na map 0 2 rw-\na fault 0 r\na unmap 0 1\nint a fault 1 r\n\
-          task\na fault 0 w\na map 4 1 r--\na fault 0 r\n\
-          task\na fault 4 r\ntry a fault 0 r\na fault 1 w\na signal 0\n",
-    )?;
-    let left = [Left {
-        recs: &[
-            2 << 18,
-            1 | 1 << 18,
-            2 | 1 << 18,
-            3 | 7 << 18,
-            4 << 18,
-            1 | 2 << 18 | 4 << 22,
-            3 | 4 << 18,
-            4 << 18,
-            6 << 18 | 9 << 22,
-            1 | 1 << 18,
-            1 | 8 << 18,
-        ],
-        log: &[0, 1 | 1 << 18, 2],
-        state: &[2, 3 | 2 << 3 | 1 << 24, 1 | 5 << 3 | 4 << 24],
-    }];
-    let mut results = filled(&rt, alloc, &script, &left)?;
-    let mut sink = MemSink::new(alloc, 1000, 7, &[])?;
-    assert_eq!(rt; report(&script, &mut results, false, &mut sink), Ok(()));
-    let expected = b"space a\n\
-        1.0 fault 0 w = maperr\n\
-        2.0 fault 4 r = maperr\n\
-        2.1 try fault 0 r = busy 9\n\
-        0.0 map 0 2 rw- = 0\n\
-        0.1 fault 0 r = ok\n\
-        2.2 fault 1 w = ok\n\
-        2.3 signal 0 = sent\n\
-        1.1 map 4 1 r-- = 4\n\
-        0.2 unmap 0 1 = ok\n\
-        0.3 int fault 1 r = EINTR\n\
-        1.2 fault 0 r = maperr\n\
-        left 2\n\
-        1-2 rw-\n\
-        4-5 r--\n";
-    assert_eq!(rt; sink.written(), expected.as_slice());
-    let mut short = MemSink::new(alloc, 1000, 7, &[])?;
-    assert_eq!(rt; report(&script, &mut results, true, &mut short), Ok(()));
-    let summary = b"a: 11 calls, 3 logged, 3 refused, 2 left\n";
-    assert_eq!(rt; short.written(), summary.as_slice());
-    Ok(())
-}
-
-// Two tasks on a table, beside a space: a call that reads between logged ones, a logged one that
-// was refused, and a try that found the lock held.
-#[test]
-fn reports_a_table_beside_a_space(rt: HostRuntime) -> Result<(), Fail> {
-    let alloc = rt.alloc();
-    let script = read(
-        alloc,
-        b"space a\ntable f\n\
-          task\nf open 7\na fault 3 x\nf get 0\n\
-          task\nf dup 0\nf close 0\nint f close 9\ntry f get 1\n",
-    )?;
-    let left = [
-        Left {
-            recs: &[4 << 18],
-            log: &[],
-            state: &[0],
-        },
-        Left {
-            recs: &[
-                2 << 18,
-                3 | 3 << 18 | 9 << 22,
-                1 | 2 << 18 | 1 << 22,
-                2 | 1 << 18,
-                3 | 3 << 18 | 9 << 22,
-                4 | 6 << 18 | 8 << 22,
-            ],
-            log: &[0, 1 << 18, 1 | 1 << 18, 2 | 1 << 18],
-            state: &[0, 8],
-        },
-    ];
-    let mut results = filled(&rt, alloc, &script, &left)?;
-    let mut sink = MemSink::new(alloc, 1000, 7, &[])?;
-    assert_eq!(rt; report(&script, &mut results, false, &mut sink), Ok(()));
-    let expected = b"space a\n\
-        0.1 fault 3 x = maperr\n\
-        left 0\n\
-        table f\n\
-        0.0 open 7 = 0\n\
-        1.0 dup 0 = 1\n\
-        1.1 close 0 = ok\n\
-        0.2 get 0 = EBADF\n\
-        1.2 int close 9 = EBADF\n\
-        1.3 try get 1 = busy 8\n\
-        left 1\n\
-        1 7\n";
-    assert_eq!(rt; sink.written(), expected.as_slice());
-    let mut short = MemSink::new(alloc, 1000, 7, &[])?;
-    assert_eq!(rt; report(&script, &mut results, true, &mut short), Ok(()));
-    let summary = b"a: 1 calls, 0 logged, 1 refused, 0 left\n\
-        f: 6 calls, 4 logged, 2 refused, 1 left\n";
-    assert_eq!(rt; short.written(), summary.as_slice());
-    Ok(())
-}
-
-// A descriptor has the word 0 where it is free, and else its file's number plus 1.
-#[test]
-fn writes_what_a_table_is_left_with(rt: HostRuntime) -> Result<(), Fail> {
-    let alloc = rt.alloc();
-    let mut state = [0; 64];
-    state[0] = 8;
-    state[2] = 1;
-    state[63] = 65_536;
-    for (state, expected) in [
-        (&state, b"left 3\n0 7\n2 0\n63 65535\n".as_slice()),
-        (&[0; 64], b"left 0\n"),
-    ] {
-        let mut out = Outbox::new();
-        let mut sink = MemSink::new(alloc, 1000, 1000, &[])?;
-        write_table(state, &mut out, &mut sink)?;
-        out.flush(&mut sink)?;
-        assert_eq!(rt; sink.written(), expected);
-    }
-    Ok(())
-}
-
-#[test]
-fn writes_what_the_sink_takes(rt: HostRuntime) -> Result<(), Fail> {
-    let alloc = rt.alloc();
-    let script = read(alloc, b"space a\n")?;
-    let left = [Left {
-        recs: &[],
-        log: &[],
-        state: &[0],
-    }];
-    let mut results = filled(&rt, alloc, &script, &left)?;
-
-    let mut narrow = MemSink::new(alloc, 10, 7, &[])?;
-    assert_eq!(rt;
-        report(&script, &mut results, false, &mut narrow),
-        Err(Failed)
-    );
-    assert_eq!(rt; narrow.written(), b"space a\nle".as_slice());
-
-    let mut broken = MemSink::new(alloc, 1000, 7, &[0])?;
-    assert_eq!(rt;
-        report(&script, &mut results, false, &mut broken),
-        Err(Failed)
-    );
-    assert!(rt; broken.written().is_empty());
-    Ok(())
-}
-
-// A call has its second number from bit 32 of its first word on; its second word has the kind, the
-// protection from bit 8 on, the access from bit 16 on and the mode from bit 24 on.
-#[test]
-fn writes_calls(rt: HostRuntime) -> Result<(), Fail> {
-    let alloc = rt.alloc();
-    for (a, b, reply, expected) in [
-        (
-            16 | 4 << 32,
-            1 | 3 << 8,
-            Reply::Num(16),
-            b"3.12 map 16 4 rw- = 16\n".as_slice(),
-        ),
-        (
-            1_048_576 << 32,
-            1 | 4 << 8 | 2 << 24,
-            Reply::Refused(Errno::NoMem),
-            b"3.12 try map 0 1048576 --x = ENOMEM\n",
-        ),
-        (
-            5,
-            7 | 2 << 16 | 1 << 24,
-            Reply::Intr,
-            b"3.12 int fault 5 w = EINTR\n",
-        ),
-        (63, 15, Reply::Sent, b"3.12 signal 63 = sent\n"),
-    ] {
-        let mut out = Outbox::new();
-        let mut sink = MemSink::new(alloc, 1000, 1000, &[])?;
-        add_event(&mut out, 3, 12, CallWords { a, b }, reply);
-        out.flush(&mut sink)?;
-        assert_eq!(rt; sink.written(), expected);
     }
     Ok(())
 }

@@ -23,6 +23,3 @@ pub use machine::Machine;
 pub use shared_object::SharedObject;
 pub use space_or_table::{SpaceOrTable, SpaceOrTablePass};
 pub use worker::Worker;
-
-#[cfg(test)]
-mod tests;

@@ -11,6 +11,3 @@ pub mod words;
 
 pub use pass::OsqPass;
 pub use queue::Osq;
-
-#[cfg(test)]
-mod tests;

@@ -122,6 +122,3 @@ pub fn lock<C: Cpu, W: Wait>(osq: &Osq, rt: &W, pass: &mut OsqPass, cpu: &mut C)
     }
     false
 }
-
-#[cfg(test)]
-mod tests;

@@ -7,6 +7,3 @@ pub mod steps;
 
 pub use laws::recall_spin_lock;
 pub use queue::{Way, lock};
-
-#[cfg(test)]
-mod tests;

@@ -16,6 +16,3 @@ pub use rule::CountRule;
 pub use site::CountSite;
 pub use view::Bias;
 pub use word_steps::{BIAS, HANDOFF, READ_FAIL, WAITERS, WRITER, Write, read_free, write_step};
-
-#[cfg(test)]
-mod tests;

@@ -19,8 +19,3 @@ mod writing;
 pub use calls::{RwPass, RwSem};
 pub use rule::SemRule;
 pub use view::RwSemHand;
-
-#[cfg(test)]
-mod interrupt_tests;
-#[cfg(test)]
-mod tests;

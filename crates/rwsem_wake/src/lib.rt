@@ -10,6 +10,3 @@ pub mod wake;
 
 pub use host::GrantHost;
 pub use view::{SemHand, Stage, Wait};
-
-#[cfg(test)]
-mod tests;

@@ -31,6 +31,3 @@ pub use source::{Failed, Source};
 pub use stream::{ReadSource, WriteSink};
 pub use token::number_of;
 pub use writer::{write, write_declaration};
-
-#[cfg(test)]
-mod tests;

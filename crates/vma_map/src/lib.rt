@@ -7,8 +7,6 @@ mod calls;
 mod query;
 mod range;
 mod store;
-#[cfg(test)]
-mod tests;
 mod words;
 
 pub use areas::Areas;

@@ -31,6 +31,3 @@ pub use spin::{Spin, Tail};
 
 /// The largest number of tasks of a script. Task numbers are below it.
 pub const MAX_TASKS: u32 = 64;
-
-#[cfg(test)]
-mod tests;

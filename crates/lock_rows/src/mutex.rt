@@ -1,0 +1,9 @@
+//! Tests of a mutex without an object.
+mod handoff_tests;
+mod how_tests;
+mod interrupt_tests;
+mod lockers;
+mod thread_tests;
+mod wake_tests;
+mod watched;
+mod word_tests;

@@ -1,0 +1,60 @@
+//! What no clause says: a signal that came before ends a wait for a mutex before the task sleeps,
+//! and the task leaves the list.
+ghost use Rattle.std.specs.Prelude.{◌≡◌, None};
+ghost use Rattle.mutex_slow.specs.Handles.{hand_in};
+ghost use Rattle.mutex_slow.specs.Standing.{IsReady};
+
+use super::lockers::NO_TURNS;
+use super::watched::{Watch, WatchedCrew};
+use mutex_slow::{Mutex, MutexPass};
+use cpu_task::Crew;
+use lock_core::{Interrupted, Nothing, Plan};
+use std::sync::atomic::Ordering;
+use std::test::Fail;
+use word_bits::{CallWords, MAX_TASKS};
+
+/// Sends the signal that the next call of the pass's task is, and answers its target. `None` where
+/// that call is no signal to a task.
+fn send(mutex: &Mutex<Nothing>, pass: &mut MutexPass<Nothing>) -> Option<u32>
+    requires ready { IsReady mutex.now pass.old }
+    requires unsent { (hand_in pass.old).sent ≡ None }
+    ensures { IsReady mutex.now pass.new }
+{
+    let task = mutex.task(pass)?;
+    let call = mutex.done(pass);
+    if task >= mutex.tasks() || call >= mutex.calls(task) {
+        return None;
+    }
+    let target = mutex.call(pass, task, call).signal()?;
+    if target >= MAX_TASKS {
+        return None;
+    }
+    mutex.signal(pass, target);
+    Some(target)
+}
+
+#[test]
+fn a_signal_that_came_before_ends_the_wait_without_a_sleep_and_nobody_waits_then(
+    rt: HostRuntime,
+) -> Result<(), Fail> {
+    let mut plan = Plan::new(rt.alloc(), 3)?;
+    plan.push(0, CallWords { a: 1, b: 15 })?;
+    let (mutex, mut holder) = Mutex::<Nothing>::open(rt.alloc(), plan)?;
+    let mut waiter = mutex.split(&mut holder);
+    let mut other = mutex.split(&mut holder);
+    mutex.begin(&rt, &mut holder, 0);
+    mutex.begin(&rt, &mut waiter, 1);
+    mutex.begin(&rt, &mut other, 2);
+    let watch = Watch::default();
+    let mut crew = WatchedCrew { watch: &watch };
+    let mut cpu = crew.cpu(rt.alloc(), 1, NO_TURNS)?;
+    assert_eq!(rt; send(&mutex, &mut holder), Some(1));
+    assert!(rt; mutex.trylock_once(&mut holder).is_ok());
+    assert_eq!(rt;
+        mutex.lock_interruptible(&rt, &mut waiter, &mut cpu, &crew),
+        Err(Interrupted { sent: 1, taken: 0 })
+    );
+    assert_eq!(rt; watch.sleeps.load(Ordering::SeqCst), 0);
+    assert_eq!(rt; mutex.trylock_once(&mut other), Err(8));
+    Ok(())
+}

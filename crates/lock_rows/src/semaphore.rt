@@ -1,0 +1,3 @@
+//! Tests of a semaphore without an object.
+mod interrupt_tests;
+mod try_tests;

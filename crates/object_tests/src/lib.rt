@@ -1,0 +1,9 @@
+//! Tests of packed words, of address spaces and of descriptor tables.
+#![tactic(auto)]
+
+#[cfg(test)]
+mod space_tests;
+#[cfg(test)]
+mod table_tests;
+#[cfg(test)]
+mod word_tests;

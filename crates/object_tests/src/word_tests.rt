@@ -1,0 +1,196 @@
+//! Words of the layouts, and one call of each function with ample memory.
+ghost use Rattle.std.specs.Prelude.{◌≡◌};
+
+use std::test::Fail;
+use word_bits::{
+    Area, CallWords, Count, Entry, Errno, Mode, Owner, Rec, Reply, Snapshot, Spin, Tail,
+};
+
+/// An owner with the flags `waiters`, `handoff` and `pickup`.
+fn owner(task: Option<u32>, flags: [bool; 3]) -> Owner
+    ensures { result.task ≡ task }
+{
+    let [waiters, handoff, pickup] = flags;
+    Owner {
+        task,
+        waiters,
+        handoff,
+        pickup,
+    }
+}
+
+#[test]
+fn packs_the_words_of_the_layouts(rt: HostRuntime) {
+    let area = Area {
+        start: 16,
+        end: 20,
+        prot: 3,
+    };
+    assert_eq!(rt; area.pack(), 268_435_619);
+    let largest = Area {
+        start: 1_048_575,
+        end: 1_048_576,
+        prot: 7,
+    };
+    assert_eq!(rt; largest.pack(), 17_592_177_655_815);
+    assert_eq!(rt; Entry { task: 63, call: 5 }.pack(), 16_515_077);
+    let rec = Rec {
+        k: 1,
+        reply: Reply::Num(16),
+    };
+    assert_eq!(rt; rec.pack(), 67_633_153);
+    for (owner, word) in [
+        (owner(None, [false; 3]), 0),
+        (owner(Some(1), [true, false, true]), 21),
+        (owner(Some(63), [true; 3]), 519),
+    ] {
+        assert_eq!(rt; owner.pack(), word);
+        assert_eq!(rt; Owner::unpack(word), Some(owner));
+    }
+    assert_eq!(rt; Owner::unpack(520), None);
+    for (reply, word) in [
+        (Reply::Good, 262_146),
+        (Reply::Refused(Errno::NoMem), 51_118_082),
+        (Reply::MapErr, 1_048_578),
+        (Reply::AccErr, 1_310_722),
+        (Reply::Busy(256), 1_075_314_690),
+        (Reply::Intr, 1_835_010),
+        (Reply::Sent, 2_097_154),
+    ] {
+        let rec = Rec { k: 2, reply };
+        assert_eq!(rt; rec.pack(), word);
+        assert_eq!(rt; Rec::unpack(word), Some(rec));
+    }
+    assert_eq!(rt; Area::unpack(268_435_619), Some(area));
+    assert_eq!(rt; Area::unpack(17_592_177_655_815), Some(largest));
+    assert_eq!(rt;
+        Entry::unpack(16_515_077),
+        Some(Entry { task: 63, call: 5 })
+    );
+}
+
+#[test]
+fn packs_the_words_of_locks(rt: HostRuntime) {
+    for (spin, word) in [
+        (
+            Spin {
+                locked: true,
+                pending: true,
+                tail: Some(Tail { cpu: 2, index: 0 }),
+            },
+            6401,
+        ),
+        (
+            Spin {
+                locked: true,
+                pending: false,
+                tail: Some(Tail { cpu: 2, index: 1 }),
+            },
+            6657,
+        ),
+        (Spin::default(), 0),
+    ] {
+        assert_eq!(rt; spin.pack(), word);
+        assert_eq!(rt; Spin::unpack(word), Some(spin));
+    }
+    for (count, word) in [
+        (
+            Count {
+                writer: true,
+                waiters: true,
+                ..Count::default()
+            },
+            3,
+        ),
+        (
+            Count {
+                waiters: true,
+                handoff: true,
+                readers: 2,
+                ..Count::default()
+            },
+            518,
+        ),
+        (Count::default(), 0),
+    ] {
+        assert_eq!(rt; count.pack(), word);
+        assert_eq!(rt; Count::unpack(word), Some(count));
+    }
+    let many = Count {
+        readers: (1 << 55) - 1,
+        read_fail: true,
+        ..Count::default()
+    };
+    assert_eq!(rt; many.pack(), u64::MAX - 255);
+}
+
+#[test]
+fn unpacks_no_other_word(rt: HostRuntime) {
+    // An empty run, a run past the last page, and a bit above the layout.
+    for word in [0, 16 << 24 | 16 << 3, 1_048_577 << 3, 1 << 44 | 1 << 3] {
+        assert_eq!(rt; Area::unpack(word), None, "area {word}");
+    }
+    assert_eq!(rt; Entry::unpack(1 << 24), None);
+    assert_eq!(rt; Count::unpack(8), None);
+    // A locked byte of 2, a node of no CPU, and a bit above the layout.
+    for word in [2, 512, 1 << 32] {
+        assert_eq!(rt; Spin::unpack(word), None, "spin lock {word}");
+    }
+    // No record, a kind that isn't there, a value where none belongs, the error of an interrupted
+    // call, and a bit above the layout.
+    for word in [
+        0,
+        9 << 18,
+        1 << 22 | 1 << 18,
+        4 << 22 | 3 << 18,
+        1 << 44 | 1 << 18,
+    ] {
+        assert_eq!(rt; Rec::unpack(word), None, "record {word}");
+    }
+}
+
+#[test]
+fn reads_modes_signals_and_errors(rt: HostRuntime) {
+    for (b, mode) in [
+        (7, Mode::Plain),
+        (7 | 1 << 24, Mode::Int),
+        (7 | 2 << 24, Mode::Try),
+    ] {
+        assert_eq!(rt; CallWords { a: 5, b }.mode(), mode);
+    }
+    let words = CallWords::new(11, 5, 7, 3, 4, Mode::Try);
+    assert_eq!(rt;
+        (words.a, words.b),
+        (5 | 7 << 32, 11 | 3 << 8 | 4 << 16 | 2 << 24)
+    );
+    assert_eq!(rt; (words.kind(), words.first(), words.second()), (11, 5, 7));
+    assert_eq!(rt;
+        (words.prot(), words.access(), words.mode()),
+        (3, 4, Mode::Try)
+    );
+    assert!(rt; words.has_mode() && !CallWords { a: 0, b: 3 << 24 }.has_mode());
+    assert_eq!(rt; CallWords { a: 5, b: 15 }.signal(), Some(5));
+    assert_eq!(rt; CallWords { a: 5, b: 7 }.signal(), None);
+    for (errno, number) in [
+        (Errno::BadF, 9),
+        (Errno::NoMem, 12),
+        (Errno::Exist, 17),
+        (Errno::Inval, 22),
+        (Errno::MFile, 24),
+    ] {
+        assert_eq!(rt; errno.number(), number);
+    }
+}
+
+#[test]
+fn keeps_what_is_pushed(rt: HostRuntime) -> Result<(), Fail> {
+    let mut snapshot = Snapshot::new(rt.alloc(), 2, 1, 1)?;
+    snapshot.push_rec(3);
+    snapshot.push_rec(4);
+    snapshot.push_log(5);
+    snapshot.push_state(6);
+    assert_eq!(rt; snapshot.recs(), [3, 4].as_slice());
+    assert_eq!(rt; snapshot.log(), [5].as_slice());
+    assert_eq!(rt; snapshot.state(), [6].as_slice());
+    Ok(())
+}

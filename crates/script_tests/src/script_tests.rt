@@ -1,0 +1,219 @@
+//! Scripts as values, sources and sinks in memory and over streams, and generated scripts.
+use std::io::{self, ErrorKind, Read, Write};
+use std::test::Fail;
+use task_script::{
+    Failed, Line, MemSink, MemSource, Outbox, ReadSource, Sink, Source, WriteSink, generate, put, read,
+    write,
+};
+
+#[test]
+fn keeps_what_it_reads(rt: HostRuntime) -> Result<(), Fail> {
+    let text = b"space a\ntable f_2\ntask\ntask\na map any 4 rw-\ntry f_2 dup2 9 1\na signal 63\n";
+    let script = read(rt.alloc(), text)?;
+    assert_eq!(rt; (script.objects(), script.tasks()), (2, 2));
+    assert_eq!(rt; (script.name(0), script.name(1)), ("a", "f_2"));
+    assert_eq!(rt; (script.is_space(0), script.is_space(1)), (true, false));
+    assert!(rt; script.calls(0).is_empty());
+    // A second number stands from bit 32 of a call's first word on; its second word has the kind,
+    // the protection from bit 8 on and the mode from bit 24 on.
+    let lines = [
+        (0, 4, 2 | 3 << 8),
+        (1, 9 | 1 << 32, 11 | 2 << 24),
+        (0, 63, 15),
+    ]
+    .map(|(object, a, b)| Line {
+        object,
+        words: [a, b],
+    });
+    assert_eq!(rt; script.calls(1), lines.as_slice());
+    Ok(())
+}
+
+/// Each call in a mode, out of its canonical form.
+const LENIENT: &[u8] = b"\tspace a # pages\r\n\
+    table f_2\n\
+    task\n\n\
+    a  map 16 4 rw-\n\
+    int a map any 4294967295 --x\n\
+    a mapnew 0 1 r--\n\
+    try a unmap 0 0\n\
+    a protect 1 2 rwx\n\
+    a populate 1048575 1 ---\n\
+    a fault 5 r # read\n\
+    try a fault 5 w\n\
+    int a fault 5 x\n\
+    task\n\
+    task\n\
+    f_2 open 65535\n\
+    int f_2 close 9\n\
+    f_2 dup 0\n\
+    try f_2 dup2 10 4294967295\n\
+    f_2 get 63\n\
+    f_2 signal 63\n\
+    a signal 0";
+
+/// The same script in its canonical form.
+const CANONICAL: &[u8] = b"space a\n\
+    table f_2\n\
+    task\n\
+    a map 16 4 rw-\n\
+    int a map any 4294967295 --x\n\
+    a mapnew 0 1 r--\n\
+    try a unmap 0 0\n\
+    a protect 1 2 rwx\n\
+    a populate 1048575 1 ---\n\
+    a fault 5 r\n\
+    try a fault 5 w\n\
+    int a fault 5 x\n\
+    task\n\
+    task\n\
+    f_2 open 65535\n\
+    int f_2 close 9\n\
+    f_2 dup 0\n\
+    try f_2 dup2 10 4294967295\n\
+    f_2 get 63\n\
+    f_2 signal 63\n\
+    a signal 0\n";
+
+#[test]
+fn writes_in_canonical_form(rt: HostRuntime) -> Result<(), Fail> {
+    let alloc = rt.alloc();
+    for text in [LENIENT, CANONICAL] {
+        let script = read(alloc, text)?;
+        let mut sink = MemSink::new(alloc, 1000, 7, &[])?;
+        assert_eq!(rt; write(&script, &mut sink), Ok(()));
+        assert_eq!(rt; sink.written(), CANONICAL);
+
+        let mut narrow = MemSink::new(alloc, 13, 7, &[])?;
+        assert_eq!(rt; write(&script, &mut narrow), Err(Failed));
+        assert_eq!(rt; narrow.written(), b"space a\ntable".as_slice());
+    }
+    Ok(())
+}
+
+#[test]
+fn memory_gives_by_steps(rt: HostRuntime) -> Result<(), Fail> {
+    let mut source = MemSource::new(rt.alloc(), b"abcde", 3, &[1])?;
+    let mut buffer = [0; 4];
+    for (answer, bytes) in [
+        (Ok(3), b"abc\0"),
+        (Err(Failed), b"abc\0"),
+        (Ok(2), b"dec\0"),
+        (Ok(0), b"dec\0"),
+    ] {
+        assert_eq!(rt; source.read(&mut buffer), answer);
+        assert_eq!(rt; buffer.as_slice(), bytes.as_slice());
+    }
+    Ok(())
+}
+
+#[test]
+fn memory_takes_by_steps(rt: HostRuntime) -> Result<(), Fail> {
+    let mut sink = MemSink::new(rt.alloc(), 6, 2, &[1])?;
+    assert_eq!(rt; put(&mut sink, b"abc"), Err(Failed));
+    assert_eq!(rt; sink.written(), b"ab".as_slice());
+    assert_eq!(rt; put(&mut sink, b"cde"), Ok(()));
+    assert_eq!(rt; put(&mut sink, b"fg"), Err(Failed));
+    assert_eq!(rt; sink.written(), b"abcdef".as_slice());
+    Ok(())
+}
+
+#[test]
+fn outbox_gathers(rt: HostRuntime) -> Result<(), Fail> {
+    let mut sink = MemSink::new(rt.alloc(), 20_000, 10_000, &[2])?;
+    let mut outbox = Outbox::new();
+    for _ in 0..400 {
+        outbox.make_room(&mut sink)?;
+        outbox.add(b"calls ");
+        outbox.add_number(u64::MAX);
+    }
+    // 148 lines of 26 bytes leave less than 256 bytes of 4096.
+    assert_eq!(rt; sink.written().len(), 2 * 148 * 26);
+    assert_eq!(rt; outbox.flush(&mut sink), Err(Failed));
+    assert_eq!(rt; outbox.flush(&mut sink), Ok(()));
+    assert_eq!(rt; sink.written().len(), 400 * 26);
+    assert!(rt; sink.written().ends_with(b"calls 18446744073709551615"));
+    Ok(())
+}
+
+#[test]
+fn streams_pass_bytes_on(rt: HostRuntime) -> Result<(), Fail> {
+    let mut source = ReadSource::new(b"abc".as_slice());
+    let mut buffer = [0; 2];
+    assert_eq!(rt; source.read(&mut buffer), Ok(2));
+    assert_eq!(rt; buffer.as_slice(), b"ab".as_slice());
+    assert_eq!(rt; source.read(&mut buffer), Ok(1));
+    assert_eq!(rt; source.read(&mut buffer), Ok(0));
+
+    let mut written = Vec::new(rt.alloc());
+    let mut sink = WriteSink::new(&mut written);
+    assert_eq!(rt; put(&mut sink, b"abc"), Ok(()));
+    drop(sink);
+    assert_eq!(rt; written.as_slice(), b"abc".as_slice());
+
+    let mut two = [0; 2];
+    let mut small = WriteSink::new(two.as_mut_slice());
+    assert_eq!(rt; put(&mut small, b"abc"), Err(Failed));
+    Ok(())
+}
+
+/// A stream whose first call is interrupted. Each later one gives or takes a byte.
+#[derive(Drop)]
+struct InterruptedOnce {
+    was: bool,
+}
+
+impl InterruptedOnce {
+    fn call(&mut self) -> io::Result<()> {
+        if self.was {
+            return Ok(());
+        }
+        self.was = true;
+        Err(io::Error::from(ErrorKind::Interrupted))
+    }
+}
+
+impl Read for InterruptedOnce {
+    fn read(&mut self, buf: &mut [u8]) -> io::Result<usize> {
+        self.call()?;
+        let Some(first) = buf.first_mut() else {
+            return Ok(0);
+        };
+        *first = b'r';
+        Ok(1)
+    }
+}
+
+impl Write for InterruptedOnce {
+    fn write(&mut self, buf: &[u8]) -> io::Result<usize> {
+        self.call()?;
+        Ok(buf.len().min(1))
+    }
+
+    fn flush(&mut self) -> io::Result<()> {
+        Ok(())
+    }
+}
+
+#[test]
+fn streams_answer_a_failure_and_go_on(rt: HostRuntime) {
+    let mut source = ReadSource::new(InterruptedOnce { was: false });
+    let mut buffer = [0; 2];
+    assert_eq!(rt; source.read(&mut buffer), Err(Failed));
+    assert_eq!(rt; source.read(&mut buffer), Ok(1));
+    assert_eq!(rt; buffer.as_slice(), b"r\0".as_slice());
+
+    let mut sink = WriteSink::new(InterruptedOnce { was: false });
+    assert_eq!(rt; put(&mut sink, b"ab"), Err(Failed));
+    assert_eq!(rt; put(&mut sink, b"ab"), Ok(()));
+}
+
+#[test]
+fn generates_by_numbers(rt: HostRuntime) -> Result<(), Fail> {
+    let script = generate(rt.alloc(), 7)?;
+    let mut sink = MemSink::new(rt.alloc(), 399_999, 4_096, &[])?;
+    write(&script, &mut sink)?;
+    let front = "space m\ntask\nm protect 21 1 -w-\nm fault 1 x\nm map 16 5 --x\n";
+    assert!(rt; sink.written().starts_with(front.as_bytes()));
+    Ok(())
+}

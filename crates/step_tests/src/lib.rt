@@ -1,0 +1,21 @@
+//! Tests of single steps on the words of locks, of their queues, and of CPUs, crews and gates.
+#![tactic(auto)]
+
+#[cfg(test)]
+mod batch_tests;
+#[cfg(test)]
+mod count_tests;
+#[cfg(test)]
+mod cpu_tests;
+#[cfg(test)]
+mod leave_tests;
+#[cfg(test)]
+mod owner_tests;
+#[cfg(test)]
+mod queue_tests;
+#[cfg(test)]
+mod site_tests;
+#[cfg(test)]
+mod spin_tests;
+#[cfg(test)]
+mod successive_leave_tests;

@@ -1,0 +1,128 @@
+//! What no clause says: the words of a queue step by step, and passes that hand the front on.
+ghost use Rattle.std.specs.Prelude.{◌≡◌, Some};
+ghost use Rattle.osq_nodes.specs.declared.node.Place.TheVariants.{Waiting, Front};
+ghost use Rattle.osq_nodes.specs.Handles.{place_in, task_in, SitsAt};
+
+use lock_core::{Op, Shadow};
+use osq_nodes::{Osq, OsqPass, steps};
+use std::sync::Wait;
+use std::test::Fail;
+use std::thread::{Threads, join};
+
+/// Three CPUs enter in order and hand the front on. The tail is word 0, and the node of a CPU has
+/// the words `next`, `prev`, `locked` from 8, 16 and 24 on. Each line has a word, a step on it,
+/// what the step finds there, and the tail after it.
+#[test]
+fn three_enter_and_hand_the_front_on(rt: HostRuntime) {
+    let mut shadow = Shadow::new();
+    for (word, op, found, tail) in [
+        // CPU 0 finds the queue empty.
+        (10, Op::Store(0), 0, 0),
+        (8, Op::Store(0), 0, 0),
+        (0, Op::Swap(1), 0, 1),
+        // CPU 1 stands behind it, and CPU 2 behind CPU 1.
+        (0, Op::Swap(2), 1, 2),
+        (17, Op::Store(1), 0, 2),
+        (8, Op::Store(2), 0, 2),
+        (0, Op::Swap(3), 2, 3),
+        (25, Op::Store(2), 0, 3),
+        (16, Op::Store(3), 0, 3),
+        // CPU 0 unlocks: the tail isn't its code, so it grants CPU 1.
+        (18, Op::Load, 0, 3),
+        (0, Op::Exchange(1, 0), 3, 3),
+        (8, Op::Swap(0), 2, 3),
+        (18, Op::Store(1), 0, 3),
+        (18, Op::Load, 1, 3),
+        // So does CPU 1, and CPU 2 leaves the queue empty.
+        (0, Op::Exchange(2, 0), 3, 3),
+        (16, Op::Swap(0), 3, 3),
+        (26, Op::Store(1), 0, 3),
+        (26, Op::Load, 1, 3),
+        (0, Op::Exchange(3, 0), 3, 0),
+    ] {
+        assert!(rt; word < 64);
+        assert_eq!(rt; shadow.step(word, op), found, "at word {word}");
+        assert_eq!(rt; shadow.words[0], tail, "the tail after word {word}");
+    }
+}
+
+/// Waits until the pass is granted, and unlocks.
+fn pass_on<W: Wait>(rt: &W, osq: &Osq, mut pass: OsqPass, task: u32) -> u32
+    requires own { SitsAt osq.now pass }
+    requires mine { task_in pass ≡ Some task }
+    requires waits { place_in pass ≡ Waiting }
+{
+    for _ in rt.forever() {
+        if steps::is_granted(osq, &mut pass, task) {
+            osq.unlock(rt, &mut pass);
+            return task;
+        }
+    }
+    unreachable!()
+}
+
+fn unlock_beside<R: Threads + Wait + Sync>(
+    rt: &R,
+    osq: &Osq,
+    front: OsqPass,
+    next: OsqPass,
+) -> (u32, u32)
+    requires front { SitsAt osq.now front }
+    requires zero { task_in front ≡ Some 0 }
+    requires first { place_in front ≡ Front }
+    requires next { SitsAt osq.now next }
+    requires one { task_in next ≡ Some 1 }
+    requires waits { place_in next ≡ Waiting }
+{
+    join(
+        rt,
+        || -> u32
+            requires own { SitsAt osq.now front }
+            requires zero { task_in front ≡ Some 0 }
+            requires first { place_in front ≡ Front }
+        {
+            let mut front = front;
+            osq.unlock(rt, &mut front);
+            0
+        },
+        || -> u32
+            requires own { SitsAt osq.now next }
+            requires one { task_in next ≡ Some 1 }
+            requires waits { place_in next ≡ Waiting }
+        { pass_on(rt, osq, next, 1) },
+    )
+}
+
+#[test]
+fn passes_on_threads_are_granted_in_the_order_of_entering(rt: HostRuntime) -> Result<(), Fail> {
+    let (osq, mut zero) = Osq::open(rt.alloc(), 4)?;
+    let mut one = osq.split(&mut zero);
+    let mut two = osq.split(&mut zero);
+    let mut three = osq.split(&mut zero);
+    osq.begin(&rt, &mut zero, 0);
+    osq.begin(&rt, &mut one, 1);
+    osq.begin(&rt, &mut two, 2);
+    osq.begin(&rt, &mut three, 3);
+    osq.wait(&rt, &mut zero);
+    assert_eq!(rt; osq.enter(&mut one, 1), Some(0));
+    assert_eq!(rt; osq.enter(&mut two, 2), Some(1));
+    assert!(rt; !steps::is_granted(&osq, &mut two, 2));
+    assert_eq!(rt; unlock_beside(&rt, &osq, zero, one), (0, 1));
+    assert!(rt; steps::is_granted(&osq, &mut two, 2));
+    osq.unlock(&rt, &mut two);
+    assert_eq!(rt; two.task(), Some(2));
+    osq.recall_queue(&mut two);
+    osq.end(&mut two);
+    assert_eq!(rt; osq.enter(&mut three, 3), None);
+    osq.unlock(&rt, &mut three);
+    osq.gather(&mut three, two);
+    Ok(())
+}
+
+#[test]
+fn a_queue_may_be_for_no_task(rt: HostRuntime) -> Result<(), Fail> {
+    let (osq, mut pass) = Osq::open(rt.alloc(), 0)?;
+    osq.recall_queue(&mut pass);
+    assert_eq!(rt; pass.task(), None);
+    Ok(())
+}

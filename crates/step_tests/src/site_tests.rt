@@ -1,0 +1,69 @@
+//! What no clause says: what a step does to a word, and a site with real passes.
+use lock_core::{Bare, Held, Nothing, Op, Plan, Shadow, Site};
+use std::test::Fail;
+use word_bits::{CallWords, Object, Reply};
+
+#[test]
+fn steps_as_a_processor_does(rt: HostRuntime) {
+    for (before, op, after) in [
+        (5, Op::Load, 5),
+        (5, Op::Store(7), 7),
+        (5, Op::Swap(7), 7),
+        (18_446_744_073_709_551_615, Op::Add(3), 2),
+        (2, Op::Sub(3), 18_446_744_073_709_551_615),
+        (9, Op::Or(6), 15),
+        (15, Op::And(9), 9),
+        (5, Op::Exchange(5, 8), 8),
+        (5, Op::Exchange(6, 8), 5),
+    ] {
+        let mut shadow = Shadow::new();
+        shadow.words[63] = before;
+        assert_eq!(rt; shadow.step(63, op), before);
+        assert_eq!(rt; shadow.words[63], after);
+        assert_eq!(rt; shadow.words[62], 0);
+    }
+}
+
+#[test]
+fn a_gathered_pass_leaves_its_number(rt: HostRuntime) -> Result<(), Fail> {
+    let plan = Plan::new(rt.alloc(), 2)?;
+    let (site, mut one) = Site::<Bare>::open(rt.alloc(), plan)?;
+    let mut two = site.split(&mut one);
+    site.begin(&rt, &mut one, 0);
+    site.begin(&rt, &mut two, 1);
+    site.end(&mut two);
+    site.gather(&mut one, two);
+    one.set_held(Held::No);
+    assert_eq!(rt;
+        (one.task(), one.held(), one.done(), one.front()),
+        (Some(0), Held::No, 0, 0)
+    );
+    Ok(())
+}
+
+#[test]
+fn a_site_answers_its_plan(rt: HostRuntime) -> Result<(), Fail> {
+    let signal = CallWords { a: 1, b: 15 };
+    let mut plan = Plan::new(rt.alloc(), 2)?;
+    plan.push(0, signal)?;
+    let (site, mut pass) = Site::<Bare>::open(rt.alloc(), plan)?;
+    site.begin(&rt, &mut pass, 0);
+    assert_eq!(rt; (site.tasks(), site.calls(0), site.calls(1)), (2, 1, 0));
+    assert_eq!(rt; site.call(&mut pass, 0, 0), signal);
+    assert_eq!(rt; site.rec_word(&mut pass, 0, 0), 0);
+    site.grown(&mut pass);
+    site.stated(&mut pass);
+    site.recall(&mut pass);
+    assert_eq!(rt; site.consume(&mut pass), None);
+    Ok(())
+}
+
+#[test]
+fn nothing_has_no_words_and_no_calls(rt: HostRuntime) {
+    let mut nothing = Nothing::empty();
+    nothing.store(&mut []);
+    assert!(rt; Nothing::load(&[]).is_some());
+    assert_eq!(rt; Nothing::call_of(CallWords { a: 0, b: 7 }), None);
+    assert!(rt; Nothing::reads(()));
+    assert_eq!(rt; nothing.apply(()), Reply::Good);
+}
