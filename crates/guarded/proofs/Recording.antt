@@ -28,8 +28,8 @@ use Rattle.lock_core.specs.declared.view.Line.{Line}
 use Rattle.lock_core.specs.declared.view.Moment.{Moment}
 use Rattle.lock_core.specs.declared.how.Interrupted.{Interrupted}
 use Rattle.lock_core.specs.Pasts.{FoundAtStep}
-use Rattle.lock_core.specs.Kinds.{Kind, unavailable, wakes_shared}
-use Rattle.lock_core.specs.Shown.{Shown, NoCountFalls, AllButHand, PastGoesOn, IsNextCall}
+use Rattle.lock_core.specs.Kinds.{Kind, shares, unavailable, wakes_shared}
+use Rattle.lock_core.specs.Shown.{Shown, NoCountFalls, AllButHand, LeavesHold, PastGoesOn, IsNextCall}
 use Rattle.lock_core.specs.Locking.{Begins, Looks, Takes, Frees, Releases, Sees, SawPending, KeepsPlace, IsLetIn}
 use Rattle.guarded.specs.Performing.{Refuses, TriesOnce, AddsRecord, Serves, Performs, takes_by}
 
@@ -248,6 +248,7 @@ let-in-on kind at v m u misses saw later goes r = record {
   by_now = let l = r.by_now in omega (arith, l, later);
   found = found-on m u goes r.found;
   opens = r.opens;
+  holds = let h = r.holds in (h.0, h.1, h.2, h.3, λ p t. goes p (h.4 p t));
 }
 
 -- a place in line is kept where the call goes on without a try
@@ -409,6 +410,7 @@ module _ (v w u : Shown) (looks : Looks v w) (goes : PastGoesOn v w) where
     by_now = r.by_now;
     found = found-from r.found;
     opens = r.opens;
+    holds = let f = r.holds in subst (λ (h : Hand). LeavesHold (r.saw.step + 1) (shares kind) (record v { hand = h }) u) looks.0 (f.0, f.1, f.2, (λ p t. f.3 p (goes p t)), f.4);
   }
 
   place-from : (kind : Kind) (s : Bool) (at : ℕ) → KeepsPlace kind s at w u → KeepsPlace kind s at v u

@@ -11,7 +11,7 @@ use Rattle.lock_core.specs.declared.how.How.{How}
 use Rattle.lock_core.specs.declared.how.How.TheVariants.{Fast, Spun, Slept}
 use Rattle.lock_core.specs.declared.how.Interrupted.{Interrupted}
 use Rattle.lock_core.specs.Sites.{sent_place, consumed_place}
-use Rattle.lock_core.specs.Shown.{Shown, NoCountFalls, AllButHand, FindsAtStep, FindsSince}
+use Rattle.lock_core.specs.Shown.{Shown, NoCountFalls, AllButHand, FindsAtStep, FindsSince, LeavesHold}
 use Rattle.lock_core.specs.Kinds.{Kind, shares, unavailable, tries, lets_in, wakes_down}
 
 -- it only looked: all is as before but for the number of its steps
@@ -133,7 +133,7 @@ Got Fast v u = (u.hand.misses ≡ v.hand.misses) × (u.spin.entries ≡ v.spin.e
 Got Spun v u = (v.hand.misses < u.hand.misses) × (u.line ≡ v.line)
 Got Slept v u = u.line.appends ≡ v.line.appends + 1
 
--- a shared call's one try, which missed, saw the lock's word, which stands at this place and lets such a call in
+-- a shared call's one try, which missed, saw the lock's word, which stands at this place and lets such a call in, and the step behind it left the pass holding
 pub record IsLetIn (kind : Kind) (at : ℕ) (v u : Shown) : Type 0 where
   pub once : u.hand.misses ≡ v.hand.misses + 1
   pub saw : Saw
@@ -142,6 +142,7 @@ pub record IsLetIn (kind : Kind) (at : ℕ) (v u : Shown) : Type 0 where
   pub by_now : saw.step ≤ u.steps
   pub found : FindsAtStep saw.step at saw.word v u
   pub opens : lets_in kind saw.word
+  pub holds : LeavesHold (saw.step + 1) (shares kind) v u
 
 -- a call that waits keeps its place in line: after a failed try it goes through the wait lock or the spin queue. `shared`: it may have been let in, by the lock's word, which stands at this place.
 pub record KeepsPlace (kind : Kind) (shared : Bool) (at : ℕ) (v u : Shown) : Type 0 where

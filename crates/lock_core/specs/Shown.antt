@@ -10,6 +10,7 @@ use Rattle.lock_core.specs.declared.view.Line.{Line}
 use Rattle.lock_core.specs.declared.view.Hand.{Hand}
 use Rattle.lock_core.specs.declared.view.SpinHand.{SpinHand}
 use Rattle.lock_core.specs.declared.view.Moment.{Moment}
+use Rattle.lock_core.specs.declared.view.Held.{Held}
 use Rattle.lock_core.specs.declared.view.Held.TheVariants.{No, Alone}
 use Rattle.lock_core.specs.Plans.{calls_in}
 use Rattle.lock_core.specs.Records.{row}
@@ -54,6 +55,10 @@ FindsAtStep step at n v u = FoundAtStep v.hand.task step at n v.past u.past
 -- so it was at one of the steps that the pass made since
 abbrev pub FindsSince : (at n : ℕ) → Shown → Shown → Type 0
 FindsSince at n v u = FoundSince v.hand.task v.steps u.steps at n v.past u.past
+
+-- the call's step of this number left the pass with this hold
+abbrev pub LeavesHold : (step : ℕ) → Held → Shown → Shown → Type 0
+LeavesHold step held v u = (past : List Moment) × (by : IsStepBy v.hand.task step past) × (by.hand.held ≡ held) × GoesOn v.past past × GoesOn past u.past
 
 -- the last moment of its past is that of its own last step, which left its seat so
 pub record IsLatestStep (v : Shown) : Type 0 where

@@ -1,5 +1,5 @@
 -- A reader that comes to hold by the bias that its first addition left in the count.
-use Rattle.std.proofs.Common.{◌≡◌, ◌∙◌, ℕ, ◌+◌, ◌-◌, ◌/◌, ◌%◌, ◌^◌, ◌<◌, ◌≤◌, ◌⊎◌, inl, inr, true, false, List, map, take, get_or, set, Some, sym, refl, ap, subst, arith}
+use Rattle.std.proofs.Common.{◌≡◌, ◌∙◌, ℕ, ◌+◌, ◌-◌, ◌/◌, ◌%◌, ◌^◌, ◌<◌, ◌≤◌, ◌⊎◌, inl, inr, true, false, List, map, take, get_or, set, Option, Some, sym, refl, ap, subst, arith}
 use Rattle.std.specs.Prelude.{Result, Ok, Err, IfErr, IfOk}
 use mathlib.Core.Logic.{dite}
 use native.Mathlib.Decide.{ℕ_discrete, dec_le}
@@ -15,15 +15,16 @@ use Rattle.lock_core.specs.declared.how.Interrupted.{Interrupted}
 use Rattle.lock_core.specs.declared.op.Op.TheVariants.{Load}
 use Rattle.lock_core.specs.declared.view.Hand.{Hand}
 use Rattle.lock_core.specs.declared.view.Moment.{Moment}
+use Rattle.lock_core.specs.declared.view.Held.{Held}
 use Rattle.lock_core.specs.declared.view.Held.TheVariants.{No, Shared, Alone}
 use Rattle.lock_core.specs.Holding.{Learns}
 use Rattle.lock_core.specs.Kinds.{lets_in, semaphore}
 use Rattle.lock_core.specs.Layout.{site}
 use Rattle.lock_core.specs.Locking.{Begins, Got, IsLetIn, IsStored, KeepsPlace, Takes}
 use Rattle.lock_core.specs.Moves.{Goes, Lets}
-use Rattle.lock_core.specs.Pasts.{FoundAt, FoundAtStep, GoesOn, IsOwnStep}
-use Rattle.lock_core.specs.RunLaws.{found-at-step}
-use Rattle.lock_core.specs.Shown.{Shown, shown}
+use Rattle.lock_core.specs.Pasts.{FoundAt, FoundAtStep, GoesOn, IsOwnStep, IsStepBy}
+use Rattle.lock_core.specs.RunLaws.{found-at-step, step-by}
+use Rattle.lock_core.specs.Shown.{LeavesHold, Shown, shown}
 use Rattle.lock_core.specs.Signals.{OnlyConsumed}
 use Rattle.lock_core.specs.Totals.{total, total-at}
 use Rattle.lock_core.specs.Views.{alone_of, hand_of, ticked, took}
@@ -74,7 +75,7 @@ module _ {Call : Type 0} (o : Obj Call) (size : ℕ) (k : Plan) where
         keeps,
         tt,
         subst (λ (z : List ℕ). Goes Place (RwSemMoves k) id ws vs z (set vs id (semmed with_sem v g (record v.ext.sem { bias = Clear })))) (set-get_or ws count_at 0 ∙ sym (set-get_or ws hint_at 0))
-            (sem-counted o size k ws vs id n v g Clear h at record { numbered = λ e. none-some t (sym e ∙ has); task = refl; goes = record { misses = omega arith; freed = λ e. refl; takes = omega arith; comes = λ _ _. omega arith }; left = λ held. absurd (held out) }
+            (sem-counted o size k ws vs id n v g Clear h at record { numbered = λ e. none-some t (sym e ∙ has); task = refl; goes = record { misses = omega arith; freed = λ e. refl; takes = omega arith; comes = λ _ _. omega arith }; left = λ held. absurd (held out) } (inl (refl, inl refl))
             (wait, omega arith, refl)
             record { flags = refl; writer = λ x y. absurd (omega (arith, x, y)); lone = λ x y. absurd (omega (arith, x, y)); reader = λ _. inr (inr (inl (word, transit, clear))); bias = inr (inl refl) }
             (count-keeps ps id (count_part bias_of v) (part g Clear) mine' n word (more_in k ws vs) c (inr even) out transit refl refl)
@@ -98,6 +99,10 @@ stolen o k v u t h = let view = h.3 in let steps = ap (λ (z : V). z.steps) view
   sem = ap (λ (z : V). z.ext.sem) view ∙ ap (λ (s : SemHand). record s { bias = Clear }) t.0.1;
   still = ap (λ (z : V). z.ext.list.changes) view ∙ t.1;
 }
+
+-- the step behind the first view left the pass with this hold
+pub next-leaves : (held : Held) (v u : V) (p q : List Moment) → u.steps ≡ v.steps + 1 → u.hand.task ≡ v.hand.task → u.hand.held ≡ held → IsOwnStep u q → GoesOn p q → LeavesHold (v.steps + 1) held (shown line_of v.fronts v p) (shown line_of u.fronts u q)
+next-leaves held v u p q steps task is own goes = subst (λ (n : ℕ). LeavesHold n held (shown line_of v.fronts v p) (shown line_of u.fronts u q)) steps (q, step-by u v.hand.task q task own, is, goes, λ a t. t)
 
 -- a look at the hint leaves it in transit
 pub still-transit : (v u : V) → u ≡ ticked v → IsInTransit v → IsInTransit u
@@ -128,8 +133,8 @@ module _ {Call : Type 0} (o : Obj Call) (k : Plan) (v m u : V) (p q : List Momen
     freed = ap (λ (h : Hand). h.freed) taken;
   }
 
-  pub shares-on : (left : ℕ) → lets_in semaphore left → WentOn left Spun v u
-  shares-on left open_it = let e = shares.keeps.fronts in let f = on.fronts in let g = shares.keeps.appends in let l = on.appends in (inr (open_it, ap (λ (h : Hand). h.saw) taken), f ∙ e, ap (λ (h : Hand). h.misses) taken, l ∙ g)
+  pub shares-on : (r : List Moment) (left : ℕ) → lets_in semaphore left → LeavesHold (v.steps + 1) Shared (shown line_of v.fronts v p) (shown line_of m.fronts m r) → GoesOn r q → WentOn left Spun (shown line_of v.fronts v p) (shown line_of u.fronts u q)
+  shares-on r left open_it held after = let e = shares.keeps.fronts in let f = on.fronts in let g = shares.keeps.appends in let l = on.appends in (inr (open_it, ap (λ (h : Hand). h.saw) taken, (held.0, held.1, held.2, held.3, λ a t. after a (held.4 a t))), f ∙ e, ap (λ (h : Hand). h.misses) taken, l ∙ g)
 
 -- a reader that left the hint behind it goes on as it stood
 pub keeps-line-on : (v m u : V) → m ≡ ticked v → KeepsLine m u → KeepsLine v u
@@ -137,14 +142,14 @@ keeps-line-on v m u is k = let x = subst (λ (z : V). KeepsLine z u) is k in let
 
 -- after a look that didn't let it hold, by way of the wait lock
 module _ (v m u : V) (is : m ≡ ticked v) where
-  pub line-on : (left : ℕ) (x : Result How Interrupted) → EntersLock m u → IfOk x (λ how. AppendedBy how m u) → IfOk x (λ how. WentOn left how v u)
-  line-on left (Err why) lock appended = tt
-  line-on left (Ok how) lock appended = go how (subst (λ (z : V). EntersLock z u) is lock) (subst (λ (z : V). AppendedBy how z u) is appended)
+  pub line-on : (p q : List Moment) (left : ℕ) (x : Result How Interrupted) → EntersLock m u → IfOk x (λ how. AppendedBy how m u) → IfOk x (λ how. WentOn left how (shown line_of v.fronts v p) (shown line_of u.fronts u q))
+  line-on p q left (Err why) lock appended = tt
+  line-on p q left (Ok how) lock appended = go how (subst (λ (z : V). EntersLock z u) is lock) (subst (λ (z : V). AppendedBy how z u) is appended)
     where
-      go : (x : How) → EntersLock (ticked v) u → AppendedBy x (ticked v) u → WentOn left x v u
+      go : (x : How) → EntersLock (ticked v) u → AppendedBy x (ticked v) u → WentOn left x (shown line_of v.fronts v p) (shown line_of u.fronts u q)
       go Fast l a = a
       go Spun l a = (inl l.entries, l.fronts, l.misses, a)
-      go Slept l a = (record { entries = l.entries; fronts = l.fronts; misses = l.misses }, a)
+      go Slept l a = (l.entries, l.fronts, l.misses, a)
 
   -- or until a signal interrupts it
   pub lock-on : (x : Result How Interrupted) → EntersLock m u → IfErr x (λ _. EntersLock v u)
@@ -174,19 +179,23 @@ module _ (fronts left : ℕ) (v m u : V) (p q : List Moment) (t : IsTransit bias
   same_appends : m.ext.appends ≡ v.ext.appends
   same_appends = ap (λ (z : V). z.ext.appends) t.3
 
-  pub went-got : (x : Result How Interrupted) → IfOk x (λ how. WentOn left how m u) → IfOk x (λ how. Got how Before After)
-  went-got (Err why) on = tt
-  went-got (Ok how) on = go how on
+  -- from its addition, which these moments end with, to the call's end
+  abbrev Went : List Moment → How → Type 0
+  Went r how = WentOn left how (shown line_of m.fronts m r) (shown line_of u.fronts u q)
+
+  pub went-got : (r : List Moment) (x : Result How Interrupted) → IfOk x (Went r) → IfOk x (λ how. Got how Before After)
+  went-got r (Err why) on = tt
+  went-got r (Ok how) on = go how on
     where
-      go : (x : How) → WentOn left x m u → Got x Before After
+      go : (x : How) → Went r x → Got x Before After
       go Fast w = absurd w
       go Spun w = let a = w.2 in let b = once in (omega (arith, a, b), ap (λ (n : ℕ). record { appends = n }) (w.3 ∙ same_appends))
-      go Slept w = let a = w.1 in let b = same_appends in omega (arith, a, b)
+      go Slept w = let a = w.3 in let b = same_appends in omega (arith, a, b)
 
-  few-misses : (x : How) → WentOn left x m u → u.hand.misses ≡ m.hand.misses
-  few-misses Fast w = absurd w
-  few-misses Spun w = w.2
-  few-misses Slept w = w.0.misses
+  few-misses : (r : List Moment) (x : How) → Went r x → u.hand.misses ≡ m.hand.misses
+  few-misses r Fast w = absurd w
+  few-misses r Spun w = w.2
+  few-misses r Slept w = w.2
 
   -- where a signal interrupted it
   pub quit-place : (x : Result How Interrupted) → IfErr x (λ _. EntersLock m u) → IfErr x (λ _. KeepsPlace semaphore false count_at Before After)
@@ -198,8 +207,8 @@ module _ (fronts left : ℕ) (v m u : V) (p q : List Moment) (t : IsTransit bias
 
   -- the moments up to its addition, which found the count that let it in
   module _ (r : List Moment) (own : IsOwnStep m r) (shut : FindsShut count_at left r) (later : m.steps ≤ u.steps) (before : GoesOn p r) (after : GoesOn r q) where
-    let-in : lets_in semaphore left → u.hand.saw ≡ m.hand.saw → u.hand.misses ≡ m.hand.misses → IsLetIn semaphore count_at Before After
-    let-in open_it saw misses = let steps = ap (λ (z : V). z.steps) t.3 in let is = t.1 in let a = open_it.0 in let b = open_it.1 in let left_it = shut.2 in let same : shut.0 ≡ t.0 = omega (arith, is, left_it) in record {
+    let-in : lets_in semaphore left → u.hand.saw ≡ m.hand.saw → u.hand.misses ≡ m.hand.misses → LeavesHold (m.steps + 1) Shared (shown line_of m.fronts m r) (shown line_of u.fronts u q) → IsLetIn semaphore count_at Before After
+    let-in open_it saw misses held = let task : m.hand.task ≡ v.hand.task = ap (λ (z : V). z.hand.task) t.3 in let steps = ap (λ (z : V). z.steps) t.3 in let is = t.1 in let a = open_it.0 in let b = open_it.1 in let left_it = shut.2 in let same : shut.0 ≡ t.0 = omega (arith, is, left_it) in record {
       once = misses ∙ once;
       saw = record { word = t.0; step = v.steps + 1 };
       is = saw ∙ ap (λ (z : V). z.hand.saw) t.3;
@@ -207,19 +216,20 @@ module _ (fronts left : ℕ) (v m u : V) (p q : List Moment) (t : IsTransit bias
       by_now = omega (arith, steps, later);
       found = subst (λ (n : ℕ). FoundAtStep v.hand.task n count_at t.0 p q) steps (found-at-step m v.hand.task count_at t.0 p r q (ap (λ (z : V). z.hand.task) t.3) own (subst (λ (n : ℕ). FoundAt count_at n r) same shut.1) before after);
       opens = (omega (arith, is, a), omega (arith, is, b));
+      holds = subst (λ (z : Option ℕ × ℕ). (past : List Moment) × (by : IsStepBy z.0 z.1 past) × (by.hand.held ≡ Shared) × GoesOn p past × GoesOn past q) (λ i. (task i, steps i + 1)) (held.0, held.1, held.2, (λ a s. held.3 a (before a s)), held.4);
     }
 
-    place-at : (how : How) → WentOn left how m u → KeepsPlace semaphore true count_at Before After
+    place-at : (how : How) → Went r how → KeepsPlace semaphore true count_at Before After
     place-at how on = record {
       queues = λ _ _. go how on;
-      few = λ _. let a = few-misses how on in let b = once in omega (arith, a, b);
+      few = λ _. let a = few-misses r how on in let b = once in omega (arith, a, b);
     }
       where
-        go : (x : How) → WentOn left x m u → (v.spin.entries < u.spin.entries) ⊎ ((true ≡ true) × IsLetIn semaphore count_at Before After)
+        go : (x : How) → Went r x → (v.spin.entries < u.spin.entries) ⊎ ((true ≡ true) × IsLetIn semaphore count_at Before After)
         go Fast w = absurd w
-        go Spun w = let e = same_entries in elim w.0 [ inl entered ↦ inl (omega (arith, entered, e)) | inr open_it ↦ inr (refl, let-in open_it.0 open_it.1 w.2) ]
-        go Slept w = let a = w.0.entries in let e = same_entries in inl (omega (arith, a, e))
+        go Spun w = let e = same_entries in elim w.0 [ inl entered ↦ inl (omega (arith, entered, e)) | inr open_it ↦ inr (refl, let-in open_it.0 open_it.1 w.2 open_it.2) ]
+        go Slept w = let a = w.0 in let e = same_entries in inl (omega (arith, a, e))
 
-    pub went-place : (x : Result How Interrupted) → IfOk x (λ how. WentOn left how m u) → IfOk x (λ _. KeepsPlace semaphore true count_at Before After)
+    pub went-place : (x : Result How Interrupted) → IfOk x (Went r) → IfOk x (λ _. KeepsPlace semaphore true count_at Before After)
     went-place (Err why) on = tt
     went-place (Ok how) on = place-at how on

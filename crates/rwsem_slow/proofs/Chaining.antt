@@ -1,5 +1,5 @@
 -- The lists of a run: each came of the one before it by one step.
-use Rattle.std.proofs.Common.{◌≡◌, ◌∙◌, ℕ, zero, suc, ◌+◌, ◌*◌, ◌<◌, ◌≤◌, ◌⊎◌, inl, inr, Bool, true, false, List, [], ◌∷◌, Some, length, map, get_or, refl, sym, ap, subst, arith}
+use Rattle.std.proofs.Common.{◌≡◌, ◌∙◌, ℕ, zero, suc, ◌+◌, ◌*◌, ◌<◌, ◌≤◌, ◌⊎◌, inl, inr, Bool, true, false, List, [], ◌∷◌, ◌++◌, Some, length, map, get_or, refl, sym, ap, subst, arith}
 use mathlib.Core.Option.{some, some-injective}
 use lib.ListN.{get_elem?}
 use native.Mathlib.Decide.{ℕ_discrete}
@@ -11,7 +11,7 @@ use Rattle.lock_core.specs.declared.view.Moment.{Moment}
 use Rattle.lock_core.specs.declared.view.Marks.{Marks}
 use Rattle.lock_core.specs.LockedLaws.{move-steps}
 use Rattle.lock_core.specs.Parts.{Each}
-use Rattle.lock_core.specs.Pasts.{Instant, Moves, marks_of, Paced, Ran, instant, moment}
+use Rattle.lock_core.specs.Pasts.{ChangesOneWord, Instant, Moves, marks_of, Paced, Ran, instant, moment}
 use Rattle.lock_core.specs.Records.{bit}
 use Rattle.lock_core.specs.Spins.{holds_in}
 use Rattle.lock_core.specs.Totals.{total}
@@ -28,7 +28,7 @@ use Rattle.rwsem_wake.specs.SemParts.{SemPart, busy_of}
 use Rattle.rwsem_wake.specs.Handoffs.{KeepsHandoff}
 use Rattle.rwsem_wake.specs.Stated.{Picks}
 use Rattle.rwsem_slow.specs.declared.view.RwSemHand.{RwSemHand}
-use Rattle.rwsem_slow.specs.RwSems.{IsLocked, IsMadeBy, Kept, RwSemKept, RwSemMoves, V, count_in, entered, grants_in, list_of, marks_in, seen, standing}
+use Rattle.rwsem_slow.specs.RwSems.{IsLocked, IsMadeBy, Kept, RwSemKept, RwSemMoves, V, count_at, count_in, entered, grants_in, list_of, marks_in, seen, standing}
 use Rattle.rwsem_slow.specs.Stated.{HasBecome, HasNoBatch, HasWaitLock, IsRwSemStep, MadeBy, stance}
 use Rattle.rwsem_slow.proofs.Stating.{queued}
 
@@ -98,26 +98,27 @@ module _ (id : ℕ) (ws : List ℕ) (vs : List V) (v : V) (at : get_elem? vs id 
   same-pass : (w : V) → get_elem? vs id ≡ some w → v ≡ w
   same-pass w there = some-injective v w (sym at ∙ there)
 
-  made-by : (c : Change) (q : List Waiter) → IsMadeBy id vs c q → MadeUnderLock c id (map (list_part list_of) vs) → MadeBy c id v.hand (map seen vs) q (moment standing (instant ws vs))
-  made-by Stay q own made = tt
-  made-by (Enter w) q own made = let same = same-pass own.0 own.1 in (has-lock id ws vs v made.0 at made.1 made.2, ap (λ (x : V). x.hand.task) same ∙ own.2, ap (λ (x : V). x.hand.held) same ∙ own.3, (seen own.0, at_map seen vs id own.0 own.1, own.4))
-  made-by (Leave t) q own made = (has-lock id ws vs v made.0 at made.1 made.2, by own.2)
+  made-by : (vs' : List V) (u : V) → get_elem? vs' id ≡ some u → (c : Change) (q : List Waiter) → IsMadeBy id vs u.ext.sem.rest c q → MadeUnderLock c id (map (list_part list_of) vs) → MadeBy c id v.hand (map seen vs) (map seen vs') q (moment standing (instant ws vs))
+  made-by vs' u at' Stay q own made = tt
+  made-by vs' u at' (Enter w) q own made = let same = same-pass own.0 own.1 in (has-lock id ws vs v made.0 at made.1 made.2, ap (λ (x : V). x.hand.task) same ∙ own.2, ap (λ (x : V). x.hand.held) same ∙ own.3, (seen own.0, at_map seen vs id own.0 own.1, own.4))
+  made-by vs' u at' (Leave t) q own made = (has-lock id ws vs v made.0 at made.1 made.2, by own.2)
     where
-      by : ((own.0.hand.task ≡ Some t) × (own.0.ext.sem.rest ≡ [])) ⊎ Picks (seen own.0) q t → ((v.hand.task ≡ Some t) × HasNoBatch id (map seen vs)) ⊎ ((p : SemPart) × (get_elem? (map seen vs) id ≡ some p) × Picks p q t)
+      by : ((own.0.hand.task ≡ Some t) × (own.0.ext.sem.rest ≡ [])) ⊎ (Picks (seen own.0) q t × (u.ext.sem.rest ≡ own.0.ext.sem.rest ++ t ∷ [])) → ((v.hand.task ≡ Some t) × HasNoBatch id (map seen vs)) ⊎ ((p p' : SemPart) × (get_elem? (map seen vs) id ≡ some p) × (get_elem? (map seen vs') id ≡ some p') × Picks p q t × (p'.sem.rest ≡ p.sem.rest ++ t ∷ []))
       by (inl mine) = inl (ap (λ (x : V). x.hand.task) (same-pass own.0 own.1) ∙ mine.0, (seen own.0, at_map seen vs id own.0 own.1, mine.1))
-      by (inr picks) = inr (seen own.0, at_map seen vs id own.0 own.1, picks)
+      by (inr picks) = inr (seen own.0, seen u, at_map seen vs id own.0 own.1, at_map seen vs' id u at', picks.0, picks.1)
 
-sem-step : (k : Plan) (id : ℕ) (ws us : List ℕ) (vs vs' : List V) (m : RwSemMoves k id ws vs us vs') (q q' : List Waiter) → Each IsLocked vs → m.list.list ≡ q → q' ≡ m.list.list' → IsRwSemStep k (moment standing (instant ws vs)) q (map seen vs) (moment standing (instant us vs')) q' (map seen vs')
-sem-step k id ws us vs vs' m q q' each old new = let v = m.site.before in record {
-  by = move-steps standing k (instant ws vs) (instant us vs') (id, m.site);
+sem-step : (k : Plan) (id : ℕ) (ws us : List ℕ) (vs vs' : List V) (m : RwSemMoves k id ws vs us vs') → ChangesOneWord ws us → (q q' : List Waiter) → Each IsLocked vs → m.list.list ≡ q → q' ≡ m.list.list' → IsRwSemStep k (moment standing (instant ws vs)) q (map seen vs) (moment standing (instant us vs')) q' (map seen vs')
+sem-step k id ws us vs vs' m one q q' each old new = let v = m.site.before in record {
+  by = move-steps standing k count_at (instant ws vs) (instant us vs') (id, m.site, one);
   change = m.list.change;
   allowed = subst (Allowed m.list.change) old m.list.allowed;
-  made = subst (λ (z : List Waiter). MadeBy m.list.change id v.hand (map seen vs) z (moment standing (instant ws vs))) old (made-by id ws vs v m.site.at m.list.change m.list.list m.made m.list.made);
+  made = subst (λ (z : List Waiter). MadeBy m.list.change id v.hand (map seen vs) (map seen vs') z (moment standing (instant ws vs))) old (made-by id ws vs v m.site.at vs' m.site.after m.site.at' m.list.change m.list.list m.made m.list.made);
   is = new ∙ (m.list.is ∙ ap (changed m.list.change) old);
   hands = subst (λ (z : List Waiter). KeepsHandoff id (count_in ws) z (marks_in ws) (grants_in ws) (map seen vs) (count_in us) (marks_in us) (grants_in us) (map seen vs')) old m.hands;
   locked = λ p p' is is' busy. about p p' is is' busy;
   freed = m.freed;
   appends = λ s appends there. counted-on (map (marks_of standing) vs') id v m.site.after (entered m.list.change) s appends (sym (at_map (marks_of standing) vs id v m.site.at) ∙ there) (at_map (marks_of standing) vs' id m.site.after m.site.at') m.appends;
+  missed = λ other. let miss = m.missed other in (seen v, at_map seen vs id v m.site.at, miss.0, miss.1);
 }
   where
     about : (p p' : SemPart) → get_elem? (map seen vs) id ≡ some p → get_elem? (map seen vs') id ≡ some p' → 0 < busy_of p + busy_of p' → HasWaitLock id (moment standing (instant ws vs))
@@ -143,7 +144,7 @@ module _ {Call : Type 0} (o : Obj Call) (size : ℕ) (k : Plan) where
         before.0,
         map seen x.views,
         before.2,
-        sem-step k move.0 x.words y.words x.views y.views m before.0 kept.0 before.1.locked
+        sem-step k move.0 x.words y.words x.views y.views m move.4 before.0 kept.0 before.1.locked
             (kept-same _ m.list.list before.0 (map (list_part list_of) x.views) m.list.old before.1.list)
             (kept-same _ kept.0 m.list.list' (map (list_part list_of) y.views) kept.1.list m.list.new),
       ),

@@ -4,10 +4,10 @@ use Rattle.lock_core.specs.declared.view.Held.{Held}
 use Rattle.lock_core.specs.declared.view.Moment.{Moment}
 use Rattle.lock_core.specs.Pasts.{FoundAt, GoesOn, IsOwnStep}
 use Rattle.lock_core.specs.RunLaws.{step-by}
-use Rattle.lock_core.specs.Shown.{shown}
+use Rattle.lock_core.specs.Shown.{LeavesHold, shown}
 use Rattle.rwsem_slow.specs.RwSems.{V, count_at}
 use Rattle.rwsem_slow.specs.Places.{line_of}
-use Rattle.rwsem_slow.specs.Releasing.{LeavesCount, LeavesHold, WentThrough}
+use Rattle.rwsem_slow.specs.Releasing.{LeavesCount, WentThrough}
 
 -- a step that left the hand
 pub leaves-hold : (v h u : V) (p r q : List Moment) (s : ℕ) → h.hand ≡ v.hand → s ≡ h.steps → IsOwnStep h r → GoesOn p r → GoesOn r q → LeavesHold s v.hand.held (shown line_of v.fronts v p) (shown line_of u.fronts u q)

@@ -14,3 +14,4 @@ pub mod Quitting
 pub mod ReaderSteps
 pub mod BiasHolds
 pub mod Unqueued
+pub mod Picking

@@ -20,7 +20,7 @@ use Rattle.rwsem_slow.specs.Removals.{AreHeads, BeginsWith, HasRemoved, KnowsLis
 use Rattle.rwsem_slow.specs.Wakes.{Grants, batch_in}
 use Rattle.rwsem_wake.specs.Grants.{OnlySem, all_granted}
 
-heads-first : (t : ℕ) (ts : List ℕ) (q : List Waiter) → AreHeads (t ∷ ts) q → IsFirstReader t q
+pub heads-first : (t : ℕ) (ts : List ℕ) (q : List Waiter) → AreHeads (t ∷ ts) q → IsFirstReader t q
 heads-first t ts [] h = absurd h
 heads-first t ts (w ∷ q) h = elim h [ inl is ↦ inl (is.0, is.1) | inr more ↦ inr (more.0, heads-first t ts q more.1) ]
 
@@ -88,10 +88,10 @@ module _ (t : ℕ) (ts : List ℕ) (q : List Waiter) (s : IsList q) (h : AreHead
   there : 1 ≤ counted t q
   there = reader-counts t q (heads-first t ts q h)
 
-  sound-behind : IsList (without t q)
+  pub sound-behind : IsList (without t q)
   sound-behind = sound-changed (Leave t) q s there
 
-  heads-behind-it : AreHeads ts (without t q)
+  pub heads-behind-it : AreHeads ts (without t q)
   heads-behind-it = heads-next t ts q (s.once t) h
 
   one-less : total reader_of (without t q) + 1 ≡ total reader_of q
@@ -101,12 +101,12 @@ pub length-all : (ts : List ℕ) (q : List Waiter) → IsList q → AreHeads ts 
 length-all [] q s h = omega arith
 length-all (t ∷ ts) q s h = let a = length-without t q (there t ts q s h) in let b = length-all ts (without t q) (sound-behind t ts q s h) (heads-behind-it t ts q s h) in omega (arith, a, b)
 
-readers-all : (ts : List ℕ) (q : List Waiter) → IsList q → AreHeads ts q → total reader_of (without_all ts q) + length ts ≡ total reader_of q
+pub readers-all : (ts : List ℕ) (q : List Waiter) → IsList q → AreHeads ts q → total reader_of (without_all ts q) + length ts ≡ total reader_of q
 readers-all [] q s h = omega arith
 readers-all (t ∷ ts) q s h = let a = one-less t ts q s h in let b = readers-all ts (without t q) (sound-behind t ts q s h) (heads-behind-it t ts q s h) in omega (arith, a, b)
 
 -- the readers of a list
-all-readers : (q : List Waiter) → length (map task_of (filter reads q)) ≡ total reader_of q
+pub all-readers : (q : List Waiter) → length (map task_of (filter reads q)) ≡ total reader_of q
 all-readers [] = refl
 all-readers (w ∷ q) = go w.writer refl (all-readers q)
   where

@@ -66,6 +66,7 @@ keeps-looks shared v u w k l goes = let misses = ap (λ h. h.misses) l.0 in let 
         by_now = (let n = in_it.by_now in let m = l.1.3 in omega (arith, n, m));
         found = record { past = in_it.found.past; by = in_it.found.by; found = in_it.found.found; after = in_it.found.after; goes_on = λ p t. goes p (in_it.found.goes_on p t) };
         opens = in_it.opens;
+        holds = let h = in_it.holds in (h.0, h.1, h.2, h.3, λ p t. goes p (h.4 p t));
       },
     )
   ];

@@ -69,25 +69,25 @@ module _ {Call : Type 0} (o : Obj Call) (size : ℕ) (k : Plan) where
   Place = Kept o size k
 
   -- a try sees the count, and leaves it
-  saw-there : (me : M) (ws : List ℕ) (vs : List V) (id : ℕ) → Place ws vs → get_elem? vs id ≡ some me.0 → me.0.hand.task ≢ None
+  saw-there : (me : M) (ws : List ℕ) (vs : List V) (id : ℕ) → Place ws vs → get_elem? vs id ≡ some me.0 → me.0.hand.task ≢ None → me.0.hand.held ≡ No → me.0.ext.sem ≡ apart_hand
       → (w : V) × (w.steps ≡ me.0.steps + 1) × Goes Place (RwSemMoves k) id ws vs ws (set vs id w) × SeenUnqueued me (count_in ws) (w, me.1)
-  saw-there me ws vs id h at numbered = let v : V = me.0 in let n : ℕ = count_in ws in let lawful = (sem-count o size k ws vs h).1 in let low = lawful.0 in let high = lawful.1 in let r = h.1.site_holds in let mine = at_map hand_of vs id v at in let g : Hand = missed v.hand n (v.steps + 1) in unlocked-or-not n
+  saw-there me ws vs id h at numbered out apart = let v : V = me.0 in let n : ℕ = count_in ws in let lawful = (sem-count o size k ws vs h).1 in let low = lawful.0 in let high = lawful.1 in let r = h.1.site_holds in let mine = at_map hand_of vs id v at in let g : Hand = missed v.hand n (v.steps + 1) in unlocked-or-not n
       (λ free. (
         ticked v,
         refl,
-        sem-looks o size k ws vs id n v v.hand h at record { numbered = numbered; task = refl; goes = record { misses = omega arith; freed = λ e. refl; takes = omega arith; comes = λ none_held holds. absurd (holds none_held) }; left = λ held other. absurd (other refl) } refl (subst (SiteKept o counted size k (site k ws)) (sym (set_again (map hand_of vs) id v.hand mine)) r),
+        sem-looks o size k ws vs id n v v.hand h at record { numbered = numbered; task = refl; goes = record { misses = omega arith; freed = λ e. refl; takes = omega arith; comes = λ none_held holds. absurd (holds none_held) }; left = λ held other. absurd (other refl) } (inl (refl, inl refl)) refl (subst (SiteKept o counted size k (site k ws)) (sym (set_again (map hand_of vs) id v.hand mine)) r),
         (lawful, (λ _. (refl, refl)), λ shut. absurd (shut free)),
       ))
       (λ shut. (
         handed v g,
         refl,
-        sem-looks o size k ws vs id n v g h at record { numbered = numbered; task = refl; goes = record { misses = omega arith; freed = λ e. refl; takes = omega arith; comes = λ none_held holds. absurd (holds none_held) }; left = λ held other. absurd (other refl) } refl (site-misses o counted size k (site k ws) (map hand_of vs) id n (v.steps + 1) v.hand r mine (omega (arith, low, high))),
+        sem-looks o size k ws vs id n v g h at record { numbered = numbered; task = refl; goes = record { misses = omega arith; freed = λ e. refl; takes = omega arith; comes = λ none_held holds. absurd (holds none_held) }; left = λ held other. absurd (other refl) } (inr (record { out = out; counts = refl; saw = refl }, (ap (λ (s : SemHand). s.wait) apart, ap (λ (s : SemHand). s.bias) apart))) refl (site-misses o counted size k (site k ws) (map hand_of vs) id n (v.steps + 1) v.hand r mine (omega (arith, low, high))),
         (lawful, (λ free. absurd (shut free)), λ _. (refl, refl)),
       ))
 
   -- its load
-  pub unqueued-looks : (slots id : ℕ) (me : M) → me.0.hand.task ≢ None → Lets Place (RwSemMoves k) slots id me count_at Load (LookedUnqueued (step slots count_at 0 0 none) me)
-  unqueued-looks slots id me numbered st h _ at small = let ws : List ℕ = st.words in let vs : List V = st.views in let t = saw-there me ws vs id h at numbered in
+  pub unqueued-looks : (slots id : ℕ) (me : M) → me.0.hand.task ≢ None → me.0.hand.held ≡ No → me.0.ext.sem ≡ apart_hand → Lets Place (RwSemMoves k) slots id me count_at Load (LookedUnqueued (step slots count_at 0 0 none) me)
+  unqueued-looks slots id me numbered out apart st h _ at small = let ws : List ℕ = st.words in let vs : List V = st.views in let t = saw-there me ws vs id h at numbered out apart in
       (t.0, keeps, tt, subst (λ (z : List ℕ). Goes Place (RwSemMoves k) id ws vs z (set vs id t.0)) (sym (set-get_or ws count_at 0)) t.2, t.1, t.3)
 
   -- its exchange
@@ -99,7 +99,7 @@ module _ {Call : Type 0} (o : Obj Call) (size : ℕ) (k : Plan) where
       let alones = alone-parts bias_of vs in let helds = held-parts bias_of vs in let wr = c.writer in let f = c.field in let none_alone : total alone_of hs ≡ 0 = omega (arith, alones, wr, even) in let none_held : total held_of hs ≡ 0 = omega (arith, helds, wr, f, even, nobody) in let ok = r.each id v.hand mine in (
         based biased v g Clear,
         refl,
-        sem-counted o size k ws vs id (old + 1) v g Clear h at record { numbered = numbered; task = refl; goes = record { misses = omega arith; freed = λ e. refl; takes = omega arith; comes = λ _ _. omega arith }; left = λ held. absurd (held out) }
+        sem-counted o size k ws vs id (old + 1) v g Clear h at record { numbered = numbered; task = refl; goes = record { misses = omega arith; freed = λ e. refl; takes = omega arith; comes = λ _ _. omega arith }; left = λ held. absurd (held out) } (inl (refl, inl refl))
             (ap (λ (s : SemHand). s.wait) apart, omega arith, refl)
             (subst (λ (z : ℕ). CountMove z (old + 1) (count_part bias_of v) (part g Clear)) (sym found) record { flags = omega (arith, even); writer = λ x y. clear; lone = λ x y. nobody; reader = λ e. alone-shared e; bias = inr (inl refl) })
             (count-writes ps id (count_part bias_of v) (part g Clear) mine' old (old + 1) (more_in k ws vs) c nobody even (omega (arith, even)) (omega (arith, low, nobody, even, clear)) out refl (sym (ap (λ (s : SemHand). s.bias) apart)))
@@ -109,7 +109,7 @@ module _ {Call : Type 0} (o : Obj Call) (size : ℕ) (k : Plan) where
           λ not. absurd (not refl),
         ),
       ))
-      (λ ws vs h at not _. let s = saw-there me ws vs id h at numbered in (s.0, s.1, s.2, ((λ is. absurd (not is)), λ _. s.3)))
+      (λ ws vs h at not _. let s = saw-there me ws vs id h at numbered out apart in (s.0, s.1, s.2, ((λ is. absurd (not is)), λ _. s.3)))
 
 -- the pass goes on with its seat
 pub sits-unqueued : (k : Plan) (table seat seat' : TableId) (me me' : Me (Unit {0}) (Seen RwSemHand)) (face face' : Face) (word : ℕ) → SeenUnqueued (unseen me) word (unseen me') → seat' ≡ seat → face' ≡ face → Sits k table seat me face → Sits k table seat' me' face'

@@ -26,7 +26,7 @@ use Rattle.rwsem_wake.proofs.HandoffSteps.{PassGoes, hands-free, hands-reads, ha
 use Rattle.rwsem_wake.proofs.Lines.{lines-else}
 use Rattle.rwsem_wake.proofs.WakeLaws.{held-most, ok-of, sem-counts, transit-most}
 use Rattle.rwsem_slow.specs.RwSems.{V, any_count, bias_of, biased, count_at, count_in, grants_at, grants_in, marks_at, marks_in, may_count, more_in, seen, RwSemKept, Kept as IsKept}
-use Rattle.rwsem_slow.specs.RwSemLaws.{Go as Going, SemWords, sem_words, sem-lawful, sem-only, sem-sems}
+use Rattle.rwsem_slow.specs.RwSemLaws.{Go as Going, SemWords, Tries, sem_words, sem-lawful, sem-only, sem-turns}
 
 pub bias-back : (v : V) (h : Hand) (b : Bias) → bias_of (biased v h b) ≡ b
 bias-back v h b = refl
@@ -117,14 +117,14 @@ module _ {Call : Type 0} (o : Obj Call) (size : ℕ) where
   pub sem-alone : (k : Plan) (ws : List ℕ) (vs : List V) (q : List Waiter) (id : ℕ) (v : V) → Queue k ws vs q → get_elem? vs id ≡ some v → SpinHolds v.spin → total busy_of (map seen vs) ≡ busy_weight v.ext.sem.stage
   sem-alone k ws vs q id v r at has = sem-only o size k ws vs q r id v at has
 
-  pub sem-counted : (k : Plan) (ws : List ℕ) (vs : List V) (id n : ℕ) (v : V) (h : Hand) (b : Bias) → Kept k ws vs → get_elem? vs id ≡ some v → HandStep v.hand h n → may_count v (part h b) → CountMove (count_in ws) n (count_part bias_of v) (part h b) → CountKept n (more_in k ws vs) (set (map (count_part bias_of) vs) id (part h b))
+  pub sem-counted : (k : Plan) (ws : List ℕ) (vs : List V) (id n : ℕ) (v : V) (h : Hand) (b : Bias) → Kept k ws vs → get_elem? vs id ≡ some v → HandStep v.hand h n → Tries o size ws v h → may_count v (part h b) → CountMove (count_in ws) n (count_part bias_of v) (part h b) → CountKept n (more_in k ws vs) (set (map (count_part bias_of) vs) id (part h b))
       → SiteKept o counted size k (site k ws) (set (map hand_of vs) id h) → Going o size k id ws vs (set ws count_at n) (set vs id (based biased v h b))
-  sem-counted k ws vs id n v h b (q, r) at step may move count there = let s : SemHand = record v.ext.sem { bias = b } in let u : SemPart = record { task = h.task; held = h.held; sem = s } in let ps : List SemPart = map seen vs in let mine = at_map seen vs id v at in let wide = r.wide in
+  sem-counted k ws vs id n v h b (q, r) at step tries may move count there = let s : SemHand = record v.ext.sem { bias = b } in let u : SemPart = record { task = h.task; held = h.held; sem = s } in let ps : List SemPart = map seen vs in let mine = at_map seen vs id v at in let wide = r.wide in
       let word : count_in (set ws count_at n) ≡ n = get_or-set_same ws count_at n 0 (omega (arith, wide)) in let marks = lines-else marks_at ws count_at n (λ t l e. omega (arith, e)) in let grants = lines-else grants_at ws count_at n (λ t l e. omega (arith, e)) in
       let words : sem_words (set ws count_at n) ≡ (n, marks_in ws, grants_in ws) = λ i. (word i, marks i, grants i) in let none : reads_of u ≡ 0 = ap reads_weight may.0 in let light = may.1 in let clear = may.2 in
       let ok : SemPartOk u = number-or-not h.task (λ out. absurd (step.numbered (sym step.task ∙ out))) (λ t has. ok-of u t has ((r.sem.each id (seen v) mine).rest) (let s = (held-most h.held).1 in omega (arith, none, light, s)) (omega (arith, clear)) (omega (arith, none, light)) (let l = transit-most b in omega (arith, light, l))) in
       let kept = counts-kept ps id (seen v) u mine (count_in ws) n q (marks_in ws) (grants_in ws) r.sem step.task refl refl refl move (subst (λ (z : List CountPart). CountKept n (more_in k ws vs) (set z id (part h b))) (sym (same-parts vs)) count) ok in
       let hands = number-or-not v.hand.task (λ out. absurd (step.numbered out)) (λ t has. counts-hands ps id (seen v) u mine (count_in ws) n q (marks_in ws) (grants_in ws) r.sem step.task refl refl refl move t has) in
-      sem-sems o size k ws vs q id count_at n v h s r at (omega arith) (omega arith) (λ l. absurd (omega (arith, l))) (r.locked id v at) (subst (HandStep v.hand h) (sym word) step)
+      sem-turns o size k ws vs q id count_at n v h s r at (omega arith) (omega arith) (λ l. absurd (omega (arith, l))) (r.locked id v at) (subst (HandStep v.hand h) (sym word) step) tries
       (subst (λ (z : SemWords). SemKept z.0 q z.1 z.2 (set ps id u)) (sym words) kept)
       (subst (λ (z : SemWords). KeepsHandoff id (count_in ws) q (marks_in ws) (grants_in ws) ps z.0 z.1 z.2 (set ps id u)) (sym words) hands) there

@@ -15,3 +15,4 @@ pub mod Leaving
 pub mod Standing
 pub mod Stealing
 pub mod Spinning
+pub mod Picking

@@ -12,7 +12,7 @@ use Rattle.lock_core.specs.Layout.{SiteWords, site}
 use Rattle.lock_core.specs.Views.{SpinHolds, hand_of, spin_part, named_of, is_number}
 use Rattle.lock_core.specs.Sites.{SiteKept}
 use Rattle.lock_core.specs.Moves.{SiteMove}
-use Rattle.lock_core.specs.MoveLaws.{hand-stays, set-moves, hold-moved}
+use Rattle.lock_core.specs.MoveLaws.{hand-stays, saw-stays, set-moves, hold-moved}
 use Rattle.lock_core.specs.SpinFrames.{holds_at}
 use Rattle.lock_core.specs.Spins.{SpinMoves, holds_in}
 use Rattle.lock_core.specs.SpinLaws.{spin-same}
@@ -189,13 +189,13 @@ module _ {Call : Type 0} (o : Obj Call) (size : ℕ) where
     Facts q' s = let u : SemPart = record (seen v) { sem = s } in Sem o size (sem_words ws) q' (set (map seen vs) id u) × Hands o size id (sem_words ws) q (map seen vs) (sem_words ws) (set (map seen vs) id u)
 
     -- a step on the list's words, once they are there
-    lists-by : (i n : ℕ) (c : Change) (b : ListHand) → SpinHolds v.spin → i < LIST_WORDS → ListKept (set (list_words ws) i n) (changed c q) (set (map parted vs) id (v.spin, b)) → Allowed c q → MadeBy c id (map parted vs) → IsMadeBy id vs c q → Facts (changed c q) (with_list c v b).sem
+    lists-by : (i n : ℕ) (c : Change) (b : ListHand) → SpinHolds v.spin → i < LIST_WORDS → ListKept (set (list_words ws) i n) (changed c q) (set (map parted vs) id (v.spin, b)) → Allowed c q → MadeBy c id (map parted vs) → IsMadeBy id vs (with_list c v b).sem.rest c q → Facts (changed c q) (with_list c v b).sem
         → Go k id ws vs (set ws (list_at + i) n) (set vs id (listed with_list c v b))
     lists-by i n c b has inside list may made own facts = let w : V = listed with_list c v b in let j : ℕ = list_at + i in let us : List ℕ = set ws j n in let same = same-site o size k ws vs q r id v at j n (omega (arith, inside)) in let words = sem-else ws j n (inl (λ e. omega (arith, e), omega (arith, inside))) in
         let m = busy-most w.ext.sem.stage in let holds : holds_in v.spin ≡ 1 = ap holds_at has in
         goes o size k ws vs q r id v at us (set vs id w) c (length-set ws j n ∙ r.wide)
         (subst (λ (z : SiteWords). SiteKept o unavailable size k z (map hand_of (set vs id w))) (sym same) (keep_part hand_of (SiteKept o unavailable size k (site k ws)) vs id v w at refl r.site_holds))
-        (subst (λ (z : SiteWords). SiteMove id (site k ws) vs z (set vs id w)) (sym same) (set-moves id (site k ws) (site k ws) vs v w at (hold-moved (site k ws) v v.hand (with_list c v b) (hand-stays v.hand)))) w (set-there vs id v w at)
+        (subst (λ (z : SiteWords). SiteMove id (count_in ws) (site k ws) vs z (set vs id w)) (sym same) (set-moves id (site k ws) (site k ws) vs v w at (hold-moved (site k ws) v v.hand (with_list c v b) (hand-stays v.hand) (inl (saw-stays v.hand))))) w (set-there vs id v w at)
         (subst (λ (z : List ℕ). SpinMoves id (spin_words ws) (map spin_part vs) z (map spin_part (set vs id w))) (sym (part-below ws 0 SPIN_WORDS j n (omega arith)))
         (keep_part spin_part (SpinMoves id (spin_words ws) (map spin_part vs) (spin_words ws)) vs id v w at refl (spin-same id (spin_words ws) (map spin_part vs) r.spin)))
         (subst (λ (z : List ℕ). ListKept z (changed c q) (map parted (set vs id w))) (sym (part-in ws list_at LIST_WORDS i n inside))
@@ -203,7 +203,7 @@ module _ {Call : Type 0} (o : Obj Call) (size : ℕ) where
         (subst (λ (z : SemWords). Sem o size z (changed c q) (map seen (set vs id w))) (sym words) (set_part seen (Sem o size (sem_words ws) (changed c q)) vs id w facts.0))
         (each-set IsLocked IsLocked vs id w (omega (arith, m, holds)) (λ j x _ _ p. p) r.locked) may made own
         (subst (λ (z : SemWords). Hands o size id (sem_words ws) q (map seen vs) z (map seen (set vs id w))) (sym words) (set_part seen (Hands o size id (sem_words ws) q (map seen vs) (sem_words ws)) vs id w facts.1))
-        (λ out other. absurd (other refl)) (omega (arith, m, holds)) (list-appends c v b)
+        (λ out other. absurd (other refl)) (omega (arith, m, holds)) (list-appends c v b) (λ other. absurd (other refl))
 
     module _ (has : SpinHolds v.spin) where
       only : total busy_of (map seen vs) ≡ busy_of (seen v)
@@ -265,11 +265,16 @@ module _ {Call : Type 0} (o : Obj Call) (size : ℕ) where
       leaves-facts t (inr (inr (inl may))) = behind-facts t (length (without t q)) may
       leaves-facts t (inr (inr (inr may))) = picked-facts t (length (without t q)) may
 
-      leaves-by : (t : ℕ) → may_change (Leave t) v q → IsMadeBy id vs (Leave t) q
-      leaves-by t (inl may) = (v, at, inl (may.1, no-rest Took may.0 refl))
-      leaves-by t (inr (inl may)) = (v, at, inl (may.0.0, may.2))
-      leaves-by t (inr (inr (inl may))) = (v, at, inl (may.0.0, elim may.2 [ inl reads ↦ no-rest Armed reads.0 refl | inr writes ↦ no-rest Rest writes.0 refl ]))
-      leaves-by t (inr (inr (inr may))) = (v, at, inr may.2)
+      picks-rest : (t long : ℕ) → MayPick v.ext.sem → (parted_at v.ext.sem.stage v.ext.sem.wait t long v.ext.sem).rest ≡ v.ext.sem.rest ++ t ∷ []
+      picks-rest t long (inl is) = subst (λ (z : Stage × Wait). (parted_at z.0 z.1 t long v.ext.sem).rest ≡ v.ext.sem.rest ++ t ∷ []) (λ i. (sym is.0 i, sym is.1 i)) refl
+      picks-rest t long (inr (inl (b, is))) = subst (λ (z : Stage). (parted_at z v.ext.sem.wait t long v.ext.sem).rest ≡ v.ext.sem.rest ++ t ∷ []) (sym is) refl
+      picks-rest t long (inr (inr is)) = subst (λ (z : Stage). (parted_at z v.ext.sem.wait t long v.ext.sem).rest ≡ v.ext.sem.rest ++ t ∷ []) (sym is) refl
+
+      leaves-by : (t long : ℕ) → may_change (Leave t) v q → IsMadeBy id vs (parted_at v.ext.sem.stage v.ext.sem.wait t long v.ext.sem).rest (Leave t) q
+      leaves-by t long (inl may) = (v, at, inl (may.1, no-rest Took may.0 refl))
+      leaves-by t long (inr (inl may)) = (v, at, inl (may.0.0, may.2))
+      leaves-by t long (inr (inr (inl may))) = (v, at, inl (may.0.0, elim may.2 [ inl reads ↦ no-rest Armed reads.0 refl | inr writes ↦ no-rest Rest writes.0 refl ]))
+      leaves-by t long (inr (inr (inr may))) = (v, at, inr (may.2, picks-rest t long may.0))
 
     -- who is to join has no batch under way
     joins-none : (writer : Bool) → MayJoin writer v.ext.sem → v.ext.sem.rest ≡ []
@@ -279,16 +284,16 @@ module _ {Call : Type 0} (o : Obj Call) (size : ℕ) where
     pub sem-lists : (i n : ℕ) (c : Change) (b : ListHand) → i < LIST_WORDS → SpinHolds v.spin → may_change c v q → b.list ≡ changed c q → LeaverGoes c v.ext.list.leaver b.leaver → ListKept (set (list_words ws) i n) (changed c q) (set (map parted vs) id (v.spin, b)) → Go k id ws vs (set ws (list_at + i) n) (set vs id (listed with_list c v b))
     sem-lists i n Stay b inside has may is leaver list = lists-by i n Stay b has inside list tt tt tt (stays-facts has)
     sem-lists i n (Enter w) b inside has may is leaver list = lists-by i n (Enter w) b has inside list (sem-list-may (Enter w) has may) (parted v, at_map parted vs id v at, ap holds_at has) (v, at, may.0, may.1, joins-none w.writer may.3) (enters-facts has w b may is)
-    sem-lists i n (Leave t) b inside has may is leaver list = lists-by i n (Leave t) b has inside list (sem-list-may (Leave t) has may) (parted v, at_map parted vs id v at, ap holds_at has) (leaves-by has t may)
+    sem-lists i n (Leave t) b inside has may is leaver list = lists-by i n (Leave t) b has inside list (sem-list-may (Leave t) has may) (parted v, at_map parted vs id v at, ap holds_at has) (leaves-by has t (length b.list) may)
         (subst (λ (z : List Waiter). Facts (without t q) (parted_at v.ext.sem.stage v.ext.sem.wait t (length z) v.ext.sem)) (sym is) (leaves-facts has t may))
 
     -- a load of the first word
     pub sem-firsts : Go k id ws vs ws (set vs id (sighted saw_first v (get_or (list_words ws) 0 0)))
     sem-firsts = let w : V = sighted saw_first v (get_or (list_words ws) 0 0) in goes-on o size k ws vs q r id v at ws (set vs id w) r.wide (keep_part hand_of (SiteKept o unavailable size k (site k ws)) vs id v w at refl r.site_holds)
-        (set-moves id (site k ws) (site k ws) vs v w at (hold-moved (site k ws) v v.hand w.ext (hand-stays v.hand))) w (set-there vs id v w at)
+        (set-moves id (site k ws) (site k ws) vs v w at (hold-moved (site k ws) v v.hand w.ext (hand-stays v.hand) (inl (saw-stays v.hand)))) w (set-there vs id v w at)
         (keep_part spin_part (SpinMoves id (spin_words ws) (map spin_part vs) (spin_words ws)) vs id v w at refl (spin-same id (spin_words ws) (map spin_part vs) r.spin))
         (keep_part parted (ListKept (list_words ws) q) vs id v w at refl r.list)
         refl
         (keep_part seen (Sem o size (sem_words ws) q) vs id v w at refl r.sem)
         (each-set IsLocked IsLocked vs id w (r.locked id v at) (λ j x _ _ p. p) r.locked)
-        (hands-same o size k ws vs q r id v at (set vs id w) (keep_part seen (λ z. z ≡ map seen vs) vs id v w at refl refl)) refl refl refl
+        (hands-same o size k ws vs q r id v at (set vs id w) (keep_part seen (λ z. z ≡ map seen vs) vs id v w at refl refl)) refl refl refl (λ other. absurd (other refl))

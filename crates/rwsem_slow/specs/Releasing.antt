@@ -1,9 +1,7 @@
 -- How a call on a semaphore ends a hold, or lowers it.
-use Rattle.std.specs.Prelude.{◌≡◌, ℕ, ◌+◌, ◌<◌, ◌≤◌, List}
+use Rattle.std.specs.Prelude.{◌≡◌, ℕ, ◌+◌, ◌<◌, ◌≤◌}
 use Rattle.lock_core.specs.declared.view.Held.{Held}
-use Rattle.lock_core.specs.declared.view.Moment.{Moment}
-use Rattle.lock_core.specs.Pasts.{GoesOn, IsStepBy}
-use Rattle.lock_core.specs.Shown.{Shown, FindsAtStep}
+use Rattle.lock_core.specs.Shown.{Shown, FindsAtStep, LeavesHold}
 use Rattle.rwsem_slow.specs.RwSems.{V, count_at}
 
 -- all but the spin lock, and what it knows of the list and the semaphore, is as before, and it has taken the wait lock once
@@ -12,10 +10,6 @@ pub record WentThrough (v u : V) : Type 0 where
   pub entries : u.spin.entries ≡ v.spin.entries + 1
   pub fronts : u.fronts ≡ v.fronts
   pub appends : u.ext.appends ≡ v.ext.appends
-
--- the call's step of this number left the pass with this hold
-abbrev pub LeavesHold : (step : ℕ) → Held → Shown → Shown → Type 0
-LeavesHold step held v u = (past : List Moment) × (by : IsStepBy v.hand.task step past) × (by.hand.held ≡ held) × GoesOn v.past past × GoesOn past u.past
 
 -- the call's step of this number found this count, and left the pass with this hold; each of its steps before left the pass with the hold that it had
 abbrev pub TurnsHold : Held → (step n : ℕ) → Shown → Shown → Type 0

@@ -14,9 +14,9 @@ use Rattle.lock_core.specs.declared.view.Held.TheVariants.{No}
 use Rattle.lock_core.specs.declared.layout.TheConstants.{LOCK_WORDS, SPIN_WORDS}
 use Rattle.lock_core.specs.Layout.{SiteWords, fresh, site, lay, width}
 use Rattle.lock_core.specs.Views.{SpinHolds, SpinStays, hand_of, spin_part, part_with, no_part, handed, seated, ticked, first, split_off, merged, spent, named_of, is_number, HoldsNothing}
-use Rattle.lock_core.specs.Sites.{SiteKept}
-use Rattle.lock_core.specs.Moves.{Goes, KeepsHold, SiteMove}
-use Rattle.lock_core.specs.MoveLaws.{hand-stays, set-moves, hold-moved, spin-moved}
+use Rattle.lock_core.specs.Sites.{KeepsSaw, SiteKept}
+use Rattle.lock_core.specs.Moves.{Goes, KeepsHold, SiteMove, TriesWhere}
+use Rattle.lock_core.specs.MoveLaws.{hand-stays, saw-stays, set-moves, hold-moved, spin-moved, tries-go}
 use Rattle.lock_core.specs.SpinFrames.{holds_at, holds_of}
 use Rattle.lock_core.specs.Spins.{SpinKept, SpinGoes, SpinFrees, SpinMoves, spun, holds_in, frame_of}
 use Rattle.lock_core.specs.SpinLaws.{spin-same, spin-renames, spin-comes, spin-ends, spin-opens}
@@ -40,7 +40,7 @@ use Rattle.rwsem_wake.proofs.HandoffSteps.{hands-none, hands-step, hands-still, 
 use Rattle.rwsem_wake.proofs.Lines.{lines-else, lines-zero}
 use Rattle.rwsem_wake.proofs.SeatLaws.{sem-opens, sem-renumbers, sem-strangers}
 use Rattle.rwsem_wake.proofs.Stating.{count-least}
-use Rattle.rwsem_slow.specs.RwSems.{V, idle, list_of, with_sem, seen, count_at, hint_at, list_at, marks_at, grants_at, spin_words, count_in, list_words, marks_in, grants_in, IsLocked, RwSemKept, Kept as IsKept, entered, IsMadeBy, KeepsCount, RwSemMoves, may_free, rests}
+use Rattle.rwsem_slow.specs.RwSems.{V, MayMiss, idle, list_of, with_sem, seen, count_at, hint_at, list_at, marks_at, grants_at, spin_words, count_in, list_words, marks_in, grants_in, IsLocked, RwSemKept, Kept as IsKept, entered, IsMadeBy, KeepsCount, RwSemMoves, may_free, rests}
 
 pub spin-inside : 0 + SPIN_WORDS ≤ LOCK_WORDS
 spin-inside = omega arith
@@ -174,27 +174,28 @@ module _ {Call : Type 0} (o : Obj Call) (size : ℕ) where
           spins (x ∷ xs) = let e = spins xs in omega (arith, e)
 
       -- a step, and all that it leaves
-      pub goes : (us : List ℕ) (vs' : List V) (c : Change) → length us ≡ width k → Site k us (map hand_of vs') → SiteMove id (site k ws) vs (site k us) vs' → (u : V) → get_elem? vs' id ≡ some u → SpinMoves id (spin_words ws) (map spin_part vs) (spin_words us) (map spin_part vs') → ListKept (list_words us) (changed c q) (map parted vs')
-          → Sem (sem_words us) (changed c q) (map seen vs') → Each IsLocked vs' → Allowed c q → MadeBy c id (map parted vs) → IsMadeBy id vs c q → Hands id (sem_words ws) q (map seen vs) (sem_words us) (map seen vs') → KeepsCount v.hand u.hand (count_in us) → busy_weight u.ext.sem.stage ≤ holds_in v.spin → u.ext.appends ≡ v.ext.appends + entered c → Go k id ws vs us vs'
-      goes us vs' c wide there move u at' spin list sem locked may made mine hands freed lock counts = let before : v ≡ move.before = some-injective v move.before (sym at ∙ move.at) in let after : u ≡ move.after = some-injective u move.after (sym at' ∙ move.at') in (
+      pub goes : (us : List ℕ) (vs' : List V) (c : Change) → length us ≡ width k → Site k us (map hand_of vs') → SiteMove id (count_in ws) (site k ws) vs (site k us) vs' → (u : V) → get_elem? vs' id ≡ some u → SpinMoves id (spin_words ws) (map spin_part vs) (spin_words us) (map spin_part vs') → ListKept (list_words us) (changed c q) (map parted vs')
+          → Sem (sem_words us) (changed c q) (map seen vs') → Each IsLocked vs' → Allowed c q → MadeBy c id (map parted vs) → IsMadeBy id vs u.ext.sem.rest c q → Hands id (sem_words ws) q (map seen vs) (sem_words us) (map seen vs') → KeepsCount v.hand u.hand (count_in us) → busy_weight u.ext.sem.stage ≤ holds_in v.spin → u.ext.appends ≡ v.ext.appends + entered c → (u.hand.misses ≢ v.hand.misses → MayMiss v) → Go k id ws vs us vs'
+      goes us vs' c wide there move u at' spin list sem locked may made mine hands freed lock counts missed = let before : v ≡ move.before = some-injective v move.before (sym at ∙ move.at) in let after : u ≡ move.after = some-injective u move.after (sym at' ∙ move.at') in (
         (changed c q, record { wide = wide; site_holds = there; spin = (spin.queue', spin.new); list = list; sem = sem; locked = locked }),
         record {
           site = move;
           spin = spin;
           list = record { list = q; list' = changed c q; old = r.list; new = list; change = c; allowed = may; made = made; is = refl };
-          made = mine;
+          made = subst (λ (x : V). IsMadeBy id vs x.ext.sem.rest c q) after mine;
           hands = hands;
           freed = subst (λ (x : V × V). KeepsCount x.0.hand x.1.hand (count_in us)) (λ i. (before i, after i)) freed;
           locked = subst (λ (x : V × V). busy_weight x.1.ext.sem.stage ≤ holds_in x.0.spin) (λ i. (before i, after i)) lock;
           appends = subst (λ (x : V × V). x.1.ext.appends ≡ x.0.ext.appends + entered c) (λ i. (before i, after i)) counts;
+          missed = subst (λ (x : V × V). x.1.hand.misses ≢ x.0.hand.misses → MayMiss x.0) (λ i. (before i, after i)) missed;
         },
       )
 
       -- the same of a step that leaves the list, and changes this word alone of the count, the marks and the grant words
-      pub goes-on : (us : List ℕ) (vs' : List V) → length us ≡ width k → Site k us (map hand_of vs') → SiteMove id (site k ws) vs (site k us) vs' → (u : V) → get_elem? vs' id ≡ some u → SpinMoves id (spin_words ws) (map spin_part vs) (spin_words us) (map spin_part vs') → ListKept (list_words us) q (map parted vs')
-          → sem_words us ≡ sem_words ws → Sem (sem_words ws) q (map seen vs') → Each IsLocked vs' → Hands id (sem_words ws) q (map seen vs) (sem_words ws) (map seen vs') → u.hand.held ≡ v.hand.held → u.ext.sem ≡ v.ext.sem → u.ext.appends ≡ v.ext.appends → Go k id ws vs us vs'
-      goes-on us vs' wide there move u at' spin list words sem locked hands held same counts = goes us vs' Stay wide there move u at' spin list (subst (λ (z : SemWords). Sem z q (map seen vs')) (sym words) sem) locked tt tt tt
-          (subst (λ (z : SemWords). Hands id (sem_words ws) q (map seen vs) z (map seen vs')) (sym words) hands) (λ out other. absurd (other held)) (let l = r.locked id v at in let e : busy_weight u.ext.sem.stage ≡ busy_weight v.ext.sem.stage = ap (λ (s : SemHand). busy_weight s.stage) same in omega (arith, l, e)) (omega (arith, counts))
+      pub goes-on : (us : List ℕ) (vs' : List V) → length us ≡ width k → Site k us (map hand_of vs') → SiteMove id (count_in ws) (site k ws) vs (site k us) vs' → (u : V) → get_elem? vs' id ≡ some u → SpinMoves id (spin_words ws) (map spin_part vs) (spin_words us) (map spin_part vs') → ListKept (list_words us) q (map parted vs')
+          → sem_words us ≡ sem_words ws → Sem (sem_words ws) q (map seen vs') → Each IsLocked vs' → Hands id (sem_words ws) q (map seen vs) (sem_words ws) (map seen vs') → u.hand.held ≡ v.hand.held → u.ext.sem ≡ v.ext.sem → u.ext.appends ≡ v.ext.appends → (u.hand.misses ≢ v.hand.misses → MayMiss v) → Go k id ws vs us vs'
+      goes-on us vs' wide there move u at' spin list words sem locked hands held same counts missed = goes us vs' Stay wide there move u at' spin list (subst (λ (z : SemWords). Sem z q (map seen vs')) (sym words) sem) locked tt tt tt
+          (subst (λ (z : SemWords). Hands id (sem_words ws) q (map seen vs) z (map seen vs')) (sym words) hands) (λ out other. absurd (other held)) (let l = r.locked id v at in let e : busy_weight u.ext.sem.stage ≡ busy_weight v.ext.sem.stage = ap (λ (s : SemHand). busy_weight s.stage) same in omega (arith, l, e)) (omega (arith, counts)) missed
 
       -- a step on a word outside of the site's leaves the site's words
       pub same-site : (j n : ℕ) → j < LOCK_WORDS → site k (set ws j n) ≡ site k ws
@@ -220,7 +221,7 @@ module _ {Call : Type 0} (o : Obj Call) (size : ℕ) where
           (subst (λ (z : List SemPart). Sem (sem_words ws) q z × Hands id (sem_words ws) q ps (sem_words ws) z) (sym (set_again ps id (seen v) (at_map seen vs id v at))) (r.sem, hands-none id n q (marks_in ws) (grants_in ws) ps))
 
   pub sem-sites : (k : Plan) (ws : List ℕ) (vs : List V) (id i n : ℕ) (v : V) (h : Hand) (s : SpinHand) → Kept k ws vs → get_elem? vs id ≡ some v → KeepsHold rests v h → SpinStays v.spin s → Site k (set ws (LOCK_WORDS + i) n) (set (map hand_of vs) id h)
-      → SiteMove id (site k ws) vs (site k (set ws (LOCK_WORDS + i) n)) (set vs id (seated v h s)) → Go k id ws vs (set ws (LOCK_WORDS + i) n) (set vs id (seated v h s))
+      → SiteMove id (count_in ws) (site k ws) vs (site k (set ws (LOCK_WORDS + i) n)) (set vs id (seated v h s)) → Go k id ws vs (set ws (LOCK_WORDS + i) n) (set vs id (seated v h s))
   sem-sites k ws vs id i n v h s (q, r) at same stays there move = let w : V = seated v h s in let j : ℕ = LOCK_WORDS + i in let us : List ℕ = set ws j n in
       let both = elim same.1 as (λ _. let u : SemPart = record { task = h.task; held = h.held; sem = v.ext.sem } in Sem (sem_words ws) q (set (map seen vs) id u) × Hands id (sem_words ws) q (map seen vs) (sem_words ws) (set (map seen vs) id u)) [
         | inl e ↦ unchanged k ws vs q r id v at h same.0 e
@@ -237,7 +238,7 @@ module _ {Call : Type 0} (o : Obj Call) (size : ℕ) where
       (sem-else ws j n (inr (omega arith)))
       (set_part seen (Sem (sem_words ws) q) vs id w both.0)
       (each-set IsLocked IsLocked vs id w (lock s stays (r.locked id v at)) (λ j x _ _ p. p) r.locked)
-      (set_part seen (Hands id (sem_words ws) q (map seen vs) (sem_words ws)) vs id w both.1) same.0 refl refl
+      (set_part seen (Hands id (sem_words ws) q (map seen vs) (sem_words ws)) vs id w both.1) same.0 refl refl (λ other. absurd (other same.2.0))
     where
       lock : (s : SpinHand) → SpinStays v.spin s → busy_weight v.ext.sem.stage ≤ holds_in v.spin → busy_weight v.ext.sem.stage ≤ holds_in s
       lock s stays l = let e : holds_in s ≡ holds_in v.spin = ⊎_elim (λ e. ap holds_in e) (λ e. ap holds_in e) stays in omega (arith, e, l)
@@ -247,60 +248,73 @@ module _ {Call : Type 0} (o : Obj Call) (size : ℕ) where
   sem-spins k ws vs id i n v s (q, r) at within turn may spin = let w : V = spun v s in let us : List ℕ = set ws (0 + i) n in let same = same-site k ws vs q r id v at (0 + i) n (omega (arith, within)) in
       goes-on k ws vs q r id v at us (set vs id w) (length-set ws (0 + i) n ∙ r.wide)
       (subst (λ (z : SiteWords). SiteKept o counted size k z (map hand_of (set vs id w))) (sym same) (keep_part hand_of (Site k ws) vs id v w at refl r.site_holds))
-      (subst (λ (z : SiteWords). SiteMove id (site k ws) vs z (set vs id w)) (sym same) (set-moves id (site k ws) (site k ws) vs v w at (spin-moved (site k ws) v s turn))) w (set-there vs id v w at)
+      (subst (λ (z : SiteWords). SiteMove id (count_in ws) (site k ws) vs z (set vs id w)) (sym same) (set-moves id (site k ws) (site k ws) vs v w at (spin-moved (site k ws) v s turn))) w (set-there vs id v w at)
       (subst (λ (z : List ℕ). SpinMoves id (spin_words ws) (map spin_part vs) z (map spin_part (set vs id w))) (sym (part-in ws 0 SPIN_WORDS i n within)) (set_part spin_part (SpinMoves id (spin_words ws) (map spin_part vs) (set (spin_words ws) i n)) vs id w spin))
       (subst (λ (z : List ℕ). ListKept z q (map parted (set vs id w))) (sym (part-above ws list_at LIST_WORDS (0 + i) n (omega (arith, within))))
       (set_part parted (ListKept (list_words ws) q) vs id w (list-spins (list_words ws) q (map parted vs) id (parted v) r.list (at_map parted vs id v at) s turn.entries (λ frees. (may frees).1))))
       (sem-else ws (0 + i) n (inl (λ e. omega (arith, e, within), omega (arith, within))))
       (keep_part seen (Sem (sem_words ws) q) vs id v w at refl r.sem)
       (each-set IsLocked IsLocked vs id w (lock (r.locked id v at)) (λ j x _ _ p. p) r.locked)
-      (hands-same k ws vs q r id v at (set vs id w) (keep_part seen (λ z. z ≡ map seen vs) vs id v w at refl refl)) refl refl refl
+      (hands-same k ws vs q r id v at (set vs id w) (keep_part seen (λ z. z ≡ map seen vs) vs id v w at refl refl)) refl refl refl (λ other. absurd (other refl))
     where
       lock : busy_weight v.ext.sem.stage ≤ holds_in v.spin → busy_weight v.ext.sem.stage ≤ holds_in s
       lock l = holds-or-not v.spin
           (λ had. holds-or-not s (λ has. omega (arith, l, had, has)) (λ out. let a : busy_weight v.ext.sem.stage ≡ 0 = ap busy_weight (may (had, out)).0 in omega (arith, a)))
           (λ out. omega (arith, out, l))
 
+  -- what a step keeps of failed tries
+  abbrev pub Tries : List ℕ → V → Hand → Type 0
+  Tries ws v h = TriesWhere MayMiss (count_in ws) v h
+
+  miss-of : {word : ℕ} (v : V) (h : Hand) → TriesWhere MayMiss word v h → h.misses ≢ v.hand.misses → MayMiss v
+  miss-of {word} v h tries other = elim tries [ inl kept ↦ absurd (other kept.0) | inr failed ↦ failed.1 ]
+
   -- whatever keeps the facts of the count, the marks and the grant words, and to a handoff
-  pub sem-sems : (k : Plan) (ws : List ℕ) (vs : List V) (q : List Waiter) (id i n : ℕ) (v : V) (h : Hand) (s : SemHand) → Queue k ws vs q → get_elem? vs id ≡ some v → count_at ≤ i → i < LOCK_WORDS → (count_at < i → marks_at ≤ i) → busy_weight s.stage ≤ holds_in v.spin → HandStep v.hand h (count_in (set ws i n))
+  pub sem-turns : (k : Plan) (ws : List ℕ) (vs : List V) (q : List Waiter) (id i n : ℕ) (v : V) (h : Hand) (s : SemHand) → Queue k ws vs q → get_elem? vs id ≡ some v → count_at ≤ i → i < LOCK_WORDS → (count_at < i → marks_at ≤ i) → busy_weight s.stage ≤ holds_in v.spin → HandStep v.hand h (count_in (set ws i n)) → Tries ws v h
       → (let u : SemPart = record { task = h.task; held = h.held; sem = s } in Sem (sem_words (set ws i n)) q (set (map seen vs) id u)) → (let u : SemPart = record { task = h.task; held = h.held; sem = s } in Hands id (sem_words ws) q (map seen vs) (sem_words (set ws i n)) (set (map seen vs) id u))
       → Site k ws (set (map hand_of vs) id h) → Go k id ws vs (set ws i n) (set vs id (semmed with_sem v h s))
-  sem-sems k ws vs q id i n v h s r at above inside beyond lock step sem hands there = let w : V = semmed with_sem v h s in let us : List ℕ = set ws i n in let same = same-site k ws vs q r id v at i n inside in
+  sem-turns k ws vs q id i n v h s r at above inside beyond lock step tries sem hands there = let w : V = semmed with_sem v h s in let us : List ℕ = set ws i n in let same = same-site k ws vs q r id v at i n inside in
       goes k ws vs q r id v at us (set vs id w) Stay (length-set ws i n ∙ r.wide)
       (subst (λ (z : SiteWords). SiteKept o counted size k z (map hand_of (set vs id w))) (sym same) (set_part hand_of (Site k ws) vs id w there))
-      (subst (λ (z : SiteWords). SiteMove id (site k ws) vs z (set vs id w)) (sym same) (set-moves id (site k ws) (site k ws) vs v w at (hold-moved (site k ws) v h w.ext step.goes))) w (set-there vs id v w at)
+      (subst (λ (z : SiteWords). SiteMove id (count_in ws) (site k ws) vs z (set vs id w)) (sym same) (set-moves id (site k ws) (site k ws) vs v w at (hold-moved (site k ws) v h w.ext step.goes (tries-go MayMiss v h tries)))) w (set-there vs id v w at)
       (subst (λ (z : List ℕ). SpinMoves id (spin_words ws) (map spin_part vs) z (map spin_part (set vs id w))) (sym (part-below ws 0 SPIN_WORDS i n (omega (arith, above))))
       (keep_part spin_part (SpinMoves id (spin_words ws) (map spin_part vs) (spin_words ws)) vs id v w at (λ x. record { task = step.task x; spin = v.spin }) (spin-same id (spin_words ws) (map spin_part vs) r.spin)))
       (subst (λ (z : List ℕ). ListKept z q (map parted (set vs id w))) (sym list-same) (keep_part parted (ListKept (list_words ws) q) vs id v w at refl r.list))
       (set_part seen (Sem (sem_words us) q) vs id w sem) (each-set IsLocked IsLocked vs id w lock (λ j x _ _ p. p) r.locked) tt tt tt
-      (set_part seen (Hands id (sem_words ws) q (map seen vs) (sem_words us)) vs id w hands) step.left lock (omega arith)
+      (set_part seen (Hands id (sem_words ws) q (map seen vs) (sem_words us)) vs id w hands) step.left lock (omega arith) (miss-of v h tries)
     where
       list-same : list_words (set ws i n) ≡ list_words ws
       list-same = elim (native.Mathlib.Decide.dec_le (count_at + 1) i) [ yes far ↦ (let l = beyond (omega (arith, far)) in part-below ws list_at LIST_WORDS i n (omega (arith, l))) | no near ↦ part-above ws list_at LIST_WORDS i n (omega (arith, near, above)) ]
 
+  -- the same of a step that counts no failed try
+  pub sem-sems : (k : Plan) (ws : List ℕ) (vs : List V) (q : List Waiter) (id i n : ℕ) (v : V) (h : Hand) (s : SemHand) → Queue k ws vs q → get_elem? vs id ≡ some v → count_at ≤ i → i < LOCK_WORDS → (count_at < i → marks_at ≤ i) → busy_weight s.stage ≤ holds_in v.spin → HandStep v.hand h (count_in (set ws i n)) → KeepsSaw v.hand h
+      → (let u : SemPart = record { task = h.task; held = h.held; sem = s } in Sem (sem_words (set ws i n)) q (set (map seen vs) id u)) → (let u : SemPart = record { task = h.task; held = h.held; sem = s } in Hands id (sem_words ws) q (map seen vs) (sem_words (set ws i n)) (set (map seen vs) id u))
+      → Site k ws (set (map hand_of vs) id h) → Go k id ws vs (set ws i n) (set vs id (semmed with_sem v h s))
+  sem-sems k ws vs q id i n v h s r at above inside beyond lock step keeps = sem-turns k ws vs q id i n v h s r at above inside beyond lock step (inl keeps)
+
   -- a step that leaves these words, and changes the hand alone
-  pub sem-looks : (k : Plan) (ws : List ℕ) (vs : List V) (id n : ℕ) (v : V) (h : Hand) → Kept k ws vs → get_elem? vs id ≡ some v → HandStep v.hand h n → h.held ≡ v.hand.held → Site k ws (set (map hand_of vs) id h) → Go k id ws vs ws (set vs id (handed v h))
-  sem-looks k ws vs id n v h (q, r) at step held there = let w : V = handed v h in let both = unchanged k ws vs q r id v at h held step.task in goes-on k ws vs q r id v at ws (set vs id w) r.wide (set_part hand_of (Site k ws) vs id w there)
-      (set-moves id (site k ws) (site k ws) vs v w at (hold-moved (site k ws) v h v.ext step.goes)) w (set-there vs id v w at)
+  pub sem-looks : (k : Plan) (ws : List ℕ) (vs : List V) (id n : ℕ) (v : V) (h : Hand) → Kept k ws vs → get_elem? vs id ≡ some v → HandStep v.hand h n → Tries ws v h → h.held ≡ v.hand.held → Site k ws (set (map hand_of vs) id h) → Go k id ws vs ws (set vs id (handed v h))
+  sem-looks k ws vs id n v h (q, r) at step tries held there = let w : V = handed v h in let both = unchanged k ws vs q r id v at h held step.task in goes-on k ws vs q r id v at ws (set vs id w) r.wide (set_part hand_of (Site k ws) vs id w there)
+      (set-moves id (site k ws) (site k ws) vs v w at (hold-moved (site k ws) v h v.ext step.goes (tries-go MayMiss v h tries))) w (set-there vs id v w at)
       (keep_part spin_part (SpinMoves id (spin_words ws) (map spin_part vs) (spin_words ws)) vs id v w at (λ x. record { task = step.task x; spin = v.spin }) (spin-same id (spin_words ws) (map spin_part vs) r.spin))
       (keep_part parted (ListKept (list_words ws) q) vs id v w at refl r.list)
       refl
       (set_part seen (Sem (sem_words ws) q) vs id w both.0)
       (each-set IsLocked IsLocked vs id w (r.locked id v at) (λ j x _ _ p. p) r.locked)
-      (set_part seen (Hands id (sem_words ws) q (map seen vs) (sem_words ws)) vs id w both.1) held refl refl
+      (set_part seen (Hands id (sem_words ws) q (map seen vs) (sem_words ws)) vs id w both.1) held refl refl (miss-of v h tries)
 
   -- a store of the owner hint, of which no fact speaks
   pub sem-hints : (k : Plan) (ws : List ℕ) (vs : List V) (id n : ℕ) (v : V) → Kept k ws vs → get_elem? vs id ≡ some v → Go k id ws vs (set ws hint_at n) (set vs id (ticked v))
   sem-hints k ws vs id n v (q, r) at = let w : V = ticked v in let j : ℕ = hint_at in let us : List ℕ = set ws j n in let same = same-site k ws vs q r id v at j n (omega arith) in
       goes-on k ws vs q r id v at us (set vs id w) (length-set ws j n ∙ r.wide)
       (subst (λ (z : SiteWords). SiteKept o counted size k z (map hand_of (set vs id w))) (sym same) (keep_part hand_of (Site k ws) vs id v w at refl r.site_holds))
-      (subst (λ (z : SiteWords). SiteMove id (site k ws) vs z (set vs id w)) (sym same) (set-moves id (site k ws) (site k ws) vs v w at (hold-moved (site k ws) v v.hand v.ext (hand-stays v.hand)))) w (set-there vs id v w at)
+      (subst (λ (z : SiteWords). SiteMove id (count_in ws) (site k ws) vs z (set vs id w)) (sym same) (set-moves id (site k ws) (site k ws) vs v w at (hold-moved (site k ws) v v.hand v.ext (hand-stays v.hand) (inl (saw-stays v.hand))))) w (set-there vs id v w at)
       (subst (λ (z : List ℕ). SpinMoves id (spin_words ws) (map spin_part vs) z (map spin_part (set vs id w))) (sym (part-below ws 0 SPIN_WORDS j n (omega arith))) (keep_part spin_part (SpinMoves id (spin_words ws) (map spin_part vs) (spin_words ws)) vs id v w at refl (spin-same id (spin_words ws) (map spin_part vs) r.spin)))
       (subst (λ (z : List ℕ). ListKept z q (map parted (set vs id w))) (sym (part-above ws list_at LIST_WORDS j n (omega arith))) (keep_part parted (ListKept (list_words ws) q) vs id v w at refl r.list))
       (sem-else ws j n (inl (λ e. omega (arith, e), omega arith)))
       (keep_part seen (Sem (sem_words ws) q) vs id v w at refl r.sem)
       (each-set IsLocked IsLocked vs id w (r.locked id v at) (λ j x _ _ p. p) r.locked)
-      (hands-same k ws vs q r id v at (set vs id w) (keep_part seen (λ z. z ≡ map seen vs) vs id v w at refl refl)) refl refl refl
+      (hands-same k ws vs q r id v at (set vs id w) (keep_part seen (λ z. z ≡ map seen vs) vs id v w at refl refl)) refl refl refl (λ other. absurd (other refl))
 
   pub sem-opens-rule : (k : Plan) → length (fresh k) ≡ width k → ((i : ℕ) → i < LOCK_WORDS → get_or (fresh k) i 0 ≡ 0) → Site k (fresh k) (map hand_of (first k idle ∷ [])) → Kept k (fresh k) (first k idle ∷ [])
   sem-opens-rule k wide zeros there = let v : V = first k idle in let ws : List ℕ = list_words (fresh k) in (
@@ -315,7 +329,7 @@ module _ {Call : Type 0} (o : Obj Call) (size : ℕ) where
     },
   )
 
-  pub sem-splits : (k : Plan) (ws : List ℕ) (vs : List V) (id : ℕ) (v : V) → Kept k ws vs → get_elem? vs id ≡ some v → Site k ws (map hand_of (set vs id (ticked v) ++ split_off idle v ∷ [])) → SiteMove id (site k ws) vs (site k ws) (set vs id (ticked v) ++ split_off idle v ∷ []) → Go k id ws vs ws (set vs id (ticked v) ++ split_off idle v ∷ [])
+  pub sem-splits : (k : Plan) (ws : List ℕ) (vs : List V) (id : ℕ) (v : V) → Kept k ws vs → get_elem? vs id ≡ some v → Site k ws (map hand_of (set vs id (ticked v) ++ split_off idle v ∷ [])) → SiteMove id (count_in ws) (site k ws) vs (site k ws) (set vs id (ticked v) ++ split_off idle v ∷ []) → Go k id ws vs ws (set vs id (ticked v) ++ split_off idle v ∷ [])
   sem-splits k ws vs id v (q, r) at there move = let us : List V = set vs id (ticked v) in let w : V = split_off idle v in let n : ℕ = count_in ws in goes-on k ws vs q r id v at ws (us ++ w ∷ []) r.wide there move (ticked v) (still-there us w (ticked v) id (set-there vs id v (ticked v) at))
       (snoc_part spin_part (SpinMoves id (spin_words ws) (map spin_part vs) (spin_words ws)) us w
       (keep_part spin_part (λ ps. SpinMoves id (spin_words ws) (map spin_part vs) (spin_words ws) (ps ++ no_part ∷ [])) vs id v (ticked v) at refl (spin-comes id (spin_words ws) (map spin_part vs) r.spin)))
@@ -327,7 +341,7 @@ module _ {Call : Type 0} (o : Obj Call) (size : ℕ) where
       (keep_part seen (λ (z : List SemPart). Hands id (sem_words ws) q (map seen vs) (sem_words ws) (z ++ nobody ∷ [])) vs id v (ticked v) at refl
       (hands-still id n q (marks_in ws) (grants_in ws) (map seen vs) n (marks_in ws) (grants_in ws) (map seen vs ++ nobody ∷ []) (omega arith) (λ t. let a = total-snoc (reads_as (grants_in ws) t) (map seen vs) nobody in omega (arith, a)) (unasked-same n (marks_in ws)) (λ t more none. absurd (omega (arith, more, none)))
       (λ x y at at'. inl (ap (λ (z : SemPart). z.sem.rest) (still-it x y at at'))) (λ x y at at' e. inl (ap (λ (z : SemPart). z.sem.stage) (still-it x y at at') ∙ e))
-      (λ x y at at' e. inl (ap (λ (z : SemPart). z.sem.stage) (sym (still-it x y at at')) ∙ e)) (λ x y at at'. inl (ap (λ (z : SemPart). z.sem.bias) (still-it x y at at')))))) refl refl refl
+      (λ x y at at' e. inl (ap (λ (z : SemPart). z.sem.stage) (sym (still-it x y at at')) ∙ e)) (λ x y at at'. inl (ap (λ (z : SemPart). z.sem.bias) (still-it x y at at')))))) refl refl refl (λ other. absurd (other refl))
     where
       beside : (ps : List SemPart) (x : SemPart) (j : ℕ) → get_elem? ps j ≡ some x → get_elem? (ps ++ nobody ∷ []) j ≡ some x
       beside [] x j at = absurd (some-ne-none x (sym at))
@@ -338,7 +352,7 @@ module _ {Call : Type 0} (o : Obj Call) (size : ℕ) where
       still-it x y at at' = some-injective y x (sym at' ∙ beside (map seen vs) x id at)
 
   pub sem-joins-rule : (k : Plan) (ws : List ℕ) (vs : List V) (id other : ℕ) (v w : V) → Kept k ws vs → get_elem? vs id ≡ some v → other ≢ id → get_elem? vs other ≡ some w → HoldsNothing w × rests w × (w.hand.task ≡ None)
-      → Site k ws (map hand_of (set (set vs id (merged v w)) other (spent idle))) → SiteMove id (site k ws) vs (site k ws) (set (set vs id (merged v w)) other (spent idle)) → Go k id ws vs ws (set (set vs id (merged v w)) other (spent idle))
+      → Site k ws (map hand_of (set (set vs id (merged v w)) other (spent idle))) → SiteMove id (count_in ws) (site k ws) vs (site k ws) (set (set vs id (merged v w)) other (spent idle)) → Go k id ws vs ws (set (set vs id (merged v w)) other (spent idle))
   sem-joins-rule k ws vs id other v w (q, r) at apart at' (free, out, none) there move = let u : V = merged v w in let us : List V = set vs id u in let x : V = spent idle in
       let there' : get_elem? us other ≡ some w = set_else vs id other u apart ∙ at' in let same : seen x ≡ seen w = λ i. record { task = sym none i; held = sym free.0 i; sem = sym out i } in
       goes-on k ws vs q r id v at ws (set us other x) r.wide there move u (set_else us other id x (λ e. apart (sym e)) ∙ set-there vs id v u at)
@@ -348,4 +362,4 @@ module _ {Call : Type 0} (o : Obj Call) (size : ℕ) where
       refl
       (keep_part seen (Sem (sem_words ws) q) us other w x there' same (keep_part seen (Sem (sem_words ws) q) vs id v u at refl r.sem))
       (each-set IsLocked IsLocked us other x (omega arith) (λ j y _ _ p. p) (each-set IsLocked IsLocked vs id u (r.locked id v at) (λ j y _ _ p. p) r.locked))
-      (hands-same k ws vs q r id v at (set us other x) (keep_part seen (λ (z : List SemPart). z ≡ map seen vs) us other w x there' same (keep_part seen (λ (z : List SemPart). z ≡ map seen vs) vs id v u at refl refl))) refl refl refl
+      (hands-same k ws vs q r id v at (set us other x) (keep_part seen (λ (z : List SemPart). z ≡ map seen vs) us other w x there' same (keep_part seen (λ (z : List SemPart). z ≡ map seen vs) vs id v u at refl refl))) refl refl refl (λ other. absurd (other refl))

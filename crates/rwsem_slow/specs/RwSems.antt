@@ -1,7 +1,8 @@
 -- The rule of a reader-writer semaphore: the facts of its parts, and what a step may do.
-use Rattle.std.specs.Prelude.{◌≡◌, ◌≢◌, ℕ, ◌+◌, ◌≤◌, ◌==◌, ◌⊎◌, true, false, List, [], ◌∷◌, ◌++◌, length, map, slice_index, Bool, Some, if◌then◌else◌}
+use Rattle.std.specs.Prelude.{◌≡◌, ◌≢◌, ℕ, ◌+◌, ◌*◌, ◌≤◌, ◌==◌, ◌⊎◌, true, false, List, [], ◌∷◌, ◌++◌, length, map, slice_index, Bool, Some, if◌then◌else◌}
 use mathlib.Core.Option.{some}
 use lib.ListN.{get_elem?}
+use Rattle.word_bits.specs.declared.TheConstants.{MAX_TASKS}
 use Rattle.word_bits.specs.LockWords.{counted}
 use Rattle.word_bits.specs.Objects.{Obj}
 use Rattle.word_bits.specs.Histories.{Plan}
@@ -101,10 +102,10 @@ abbrev pub list_at : ℕ
 list_at = SPIN_ROOM + 16
 
 abbrev pub marks_at : ℕ
-marks_at = SPIN_ROOM + 88
+marks_at = list_at + LIST_WORDS
 
 abbrev pub grants_at : ℕ
-grants_at = SPIN_ROOM + 600
+grants_at = marks_at + 8 * MAX_TASKS
 
 abbrev pub spin_words : List ℕ → List ℕ
 spin_words ws = part wait_lock_at SPIN_WORDS ws
@@ -148,26 +149,31 @@ entered Stay = 0
 entered (Enter w) = 1
 entered (Leave t) = 0
 
--- who changes the list: a waiter enters by itself, holds nothing, and has no batch under way; it leaves by itself, again with no batch under way, or as the next of a waker's batch
-abbrev pub IsMadeBy : ℕ → List V → Change → List Waiter → Type 0
-IsMadeBy id vs Stay q = Unit {0}
-IsMadeBy id vs (Enter w) q = (v : V) × (get_elem? vs id ≡ some v) × (v.hand.task ≡ Some w.task) × (v.hand.held ≡ No) × (v.ext.sem.rest ≡ [])
-IsMadeBy id vs (Leave t) q = (v : V) × (get_elem? vs id ≡ some v) × (((v.hand.task ≡ Some t) × (v.ext.sem.rest ≡ [])) ⊎ Picks (seen v) q t)
+-- who changes the list: a waiter enters by itself, holds nothing, and has no batch under way; it leaves by itself, again with no batch under way, or as the next of a waker's batch, behind which it then stands; `rest` is the batch of the pass behind the step
+abbrev pub IsMadeBy : ℕ → List V → (rest : List ℕ) → Change → List Waiter → Type 0
+IsMadeBy id vs rest Stay q = Unit {0}
+IsMadeBy id vs rest (Enter w) q = (v : V) × (get_elem? vs id ≡ some v) × (v.hand.task ≡ Some w.task) × (v.hand.held ≡ No) × (v.ext.sem.rest ≡ [])
+IsMadeBy id vs rest (Leave t) q = (v : V) × (get_elem? vs id ≡ some v) × (((v.hand.task ≡ Some t) × (v.ext.sem.rest ≡ [])) ⊎ (Picks (seen v) q t × (rest ≡ v.ext.sem.rest ++ t ∷ [])))
 
 -- who ends or downgrades a hold keeps the count that its step left
 abbrev pub KeepsCount : Hand → Hand → ℕ → Type 0
 KeepsCount h g word = h.held ≢ No → g.held ≢ h.held → g.freed ≡ word
 
--- what a step may do: all that each step of a site, of a spin lock and of a list does; a waiter enters by itself, and leaves by itself or in a waker's batch; while the first waiter is marked and HANDOFF is set, nobody but it writes, and who reads had a bias since before, or held alone; at any time who reads comes to it by itself, or in a whole batch, and does so until it ends its hold; a waker or a writer of the list asks for a handoff, and marks the first waiter; a batch is granted in the order in which it was picked; who ends or downgrades a hold keeps the count that it left; who is at a stage has the wait lock; and an append is counted by the pass that enters
+-- a pass whose failed try is counted waits for nothing, and has no bias in the count
+abbrev pub MayMiss : V → Type 0
+MayMiss v = (v.ext.sem.wait ≡ Apart) × (v.ext.sem.bias ≡ Clear)
+
+-- what a step may do: all that each step of a site, of a spin lock and of a list does; a waiter enters by itself, and leaves by itself or in a waker's batch; while the first waiter is marked and HANDOFF is set, nobody but it writes, and who reads had a bias since before, or held alone; at any time who reads comes to it by itself, or in a whole batch, and does so until it ends its hold; a waker or a writer of the list asks for a handoff, and marks the first waiter; a batch is granted in the order in which it was picked; who ends or downgrades a hold keeps the count that it left; who is at a stage has the wait lock; an append is counted by the pass that enters; and a failed try by one that waits for nothing and has no bias in the count
 pub record RwSemMoves (k : Plan) (id : ℕ) (ws : List ℕ) (vs : List V) (us : List ℕ) (vs' : List V) : Type 0 where
-  pub site : SiteMove id (site k ws) vs (site k us) vs'
+  pub site : SiteMove id (count_in ws) (site k ws) vs (site k us) vs'
   pub spin : SpinMoves id (spin_words ws) (map spin_part vs) (spin_words us) (map spin_part vs')
   pub list : ListMoves id (list_words ws) (map (list_part list_of) vs) (list_words us) (map (list_part list_of) vs')
-  pub made : IsMadeBy id vs list.change list.list
+  pub made : IsMadeBy id vs site.after.ext.sem.rest list.change list.list
   pub hands : KeepsHandoff id (count_in ws) list.list (marks_in ws) (grants_in ws) (map seen vs) (count_in us) (marks_in us) (grants_in us) (map seen vs')
   pub freed : KeepsCount site.before.hand site.after.hand (count_in us)
   pub locked : busy_weight site.after.ext.sem.stage ≤ holds_in site.before.spin
   pub appends : site.after.ext.appends ≡ site.before.ext.appends + entered list.change
+  pub missed : site.after.hand.misses ≢ site.before.hand.misses → MayMiss site.before
 
 abbrev pub may_free : V → Type 0
 may_free v = (v.ext.sem.stage ≡ Rest) × (v.ext.list.changes ≡ false)

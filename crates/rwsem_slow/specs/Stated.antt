@@ -1,5 +1,5 @@
 -- What is so of a semaphore at each moment, and of each step.
-use Rattle.std.specs.Prelude.{◌≡◌, ◌≢◌, ℕ, ◌+◌, ◌/◌, ◌%◌, ◌<◌, ◌≤◌, ◌⊎◌, List, [], ◌∷◌, length, map, Some, None}
+use Rattle.std.specs.Prelude.{◌≡◌, ◌≢◌, ℕ, ◌+◌, ◌/◌, ◌%◌, ◌<◌, ◌≤◌, ◌⊎◌, List, [], ◌∷◌, ◌++◌, length, map, Some, None}
 use mathlib.Core.Option.{some}
 use lib.ListN.{get_elem?}
 use Rattle.word_bits.specs.LockWords.{counted as shut}
@@ -9,7 +9,7 @@ use Rattle.lock_core.specs.declared.view.Hand.{Hand}
 use Rattle.lock_core.specs.declared.view.SpinHand.{SpinHand}
 use Rattle.lock_core.specs.declared.view.Marks.{Marks}
 use Rattle.lock_core.specs.declared.view.Moment.{Moment}
-use Rattle.lock_core.specs.declared.view.Held.TheVariants.{No, Shared}
+use Rattle.lock_core.specs.declared.view.Held.TheVariants.{No}
 use Rattle.lock_core.specs.Locked.{HasPass, IsSiteStep, IsWaitLockFree}
 use Rattle.lock_core.specs.Shown.{Shown}
 use Rattle.lock_core.specs.Spins.{holds_in}
@@ -19,12 +19,14 @@ use Rattle.wait_list.specs.declared.view.Waiter.{Waiter}
 use Rattle.wait_list.specs.declared.view.Change.{Change}
 use Rattle.wait_list.specs.declared.view.Change.TheVariants.{Stay, Enter, Leave}
 use Rattle.wait_list.specs.Lists.{Allowed, IsList, Lists, changed, counted}
+use Rattle.rwsem_count.specs.declared.view.Bias.TheVariants.{Clear}
 use Rattle.rwsem_wake.specs.declared.view.SemHand.{SemHand}
+use Rattle.rwsem_wake.specs.declared.view.Wait.TheVariants.{Apart}
 use Rattle.rwsem_wake.specs.SemParts.{SemPart, apart_hand, busy_of, reserve_of, rest_of, transit_of}
 use Rattle.rwsem_wake.specs.Semaphores.{Quiet}
 use Rattle.rwsem_wake.specs.Handoffs.{KeepsHandoff, reads_as}
 use Rattle.rwsem_wake.specs.Stated.{OnlyFirst, Picks, StatesCount, StatesWaiters, over, readers}
-use Rattle.rwsem_slow.specs.RwSems.{KeepsCount, count_in, entered, grants_in, list_words, marks_in, numbers_of}
+use Rattle.rwsem_slow.specs.RwSems.{KeepsCount, count_at, count_in, entered, grants_in, list_words, marks_in, numbers_of}
 
 -- what a moment keeps of a pass that stands so, and has appended itself so often
 abbrev pub stance : SemHand → ℕ → Marks
@@ -73,28 +75,29 @@ IsRwSemThen o size k m = IsSiteThen o shut size k m × ((q : List Waiter) × (ps
 abbrev pub HasNoBatch : ℕ → List SemPart → Type 0
 HasNoBatch id ps = (p : SemPart) × (get_elem? ps id ≡ some p) × (p.sem.rest ≡ [])
 
--- a change of this list is made under the wait lock by the pass of this number, hand and part: a waiter enters by itself, holds nothing, and has no batch under way; it leaves by itself, again with no batch under way, or as the next of the batch of the pass
-abbrev pub MadeBy : Change → ℕ → Hand → List SemPart → List Waiter → Moment → Type 0
-MadeBy Stay id h ps q m = Unit {0}
-MadeBy (Enter w) id h ps q m = HasWaitLock id m × (h.task ≡ Some w.task) × (h.held ≡ No) × HasNoBatch id ps
-MadeBy (Leave t) id h ps q m = HasWaitLock id m × (((h.task ≡ Some t) × HasNoBatch id ps) ⊎ ((p : SemPart) × (get_elem? ps id ≡ some p) × Picks p q t))
+-- a change of this list is made under the wait lock by the pass of this number, hand and part: a waiter enters by itself, holds nothing, and has no batch under way; it leaves by itself, again with no batch under way, or as the next of the batch of the pass, behind which it then stands; the second parts are those behind the step
+abbrev pub MadeBy : Change → ℕ → Hand → List SemPart → List SemPart → List Waiter → Moment → Type 0
+MadeBy Stay id h ps ps' q m = Unit {0}
+MadeBy (Enter w) id h ps ps' q m = HasWaitLock id m × (h.task ≡ Some w.task) × (h.held ≡ No) × HasNoBatch id ps
+MadeBy (Leave t) id h ps ps' q m = HasWaitLock id m × (((h.task ≡ Some t) × HasNoBatch id ps) ⊎ ((p p' : SemPart) × (get_elem? ps id ≡ some p) × (get_elem? ps' id ≡ some p') × Picks p q t × (p'.sem.rest ≡ p.sem.rest ++ t ∷ [])))
 
 -- One step of one pass, made while this was the list and these the parts of the passes.
 -- The list changes by one append or one removal, which keeps the others in order. Each append is counted by the pass that enters.
 -- While the first waiter is marked and HANDOFF is set, the writer's bit comes by that waiter alone, at any time only where nobody is counted, and a task becomes a reader only by a bias whose addition saw no HANDOFF, or by a downgrade. A bias keeps the count that its addition found. At any time it becomes one by a step of its own pass, or in a waker's whole batch, and it is one until its own pass ends its shared hold.
 -- HANDOFF is set by a waker with a reserved bias where the first waiter is marked, or by a writer of the list, which is to mark it from then on, and stays until a writer takes, a waker puts a batch of some readers into the count, or nobody waits. A mark is set by one of these, and is the first waiter's; it goes by that waiter's own pass, or by a waker whose batch has it next.
 -- A batch grows by the readers that its waker picks, and is granted in this order once it is in the count; no other step clears a grant word.
--- Who is about something, before its step or behind it, has the wait lock. Who ends or downgrades a hold keeps the count that its step left.
+-- Who is about something, before its step or behind it, has the wait lock. Who ends or downgrades a hold keeps the count that its step left. Whose failed try is counted waits for nothing, and has no bias in the count.
 pub record IsRwSemStep (k : Plan) (x : Moment) (q : List Waiter) (ps : List SemPart) (y : Moment) (q' : List Waiter) (ps' : List SemPart) : Type 0 where
-  pub by : IsSiteStep k x y
+  pub by : IsSiteStep k count_at x y
   pub change : Change
   pub allowed : Allowed change q
-  pub made : MadeBy change by.id by.before ps q x
+  pub made : MadeBy change by.id by.before ps ps' q x
   pub is : q' ≡ changed change q
   pub hands : KeepsHandoff by.id (count_in x.words) q (marks_in x.words) (grants_in x.words) ps (count_in y.words) (marks_in y.words) (grants_in y.words) ps'
   pub locked : (p p' : SemPart) → get_elem? ps by.id ≡ some p → get_elem? ps' by.id ≡ some p' → 0 < busy_of p + busy_of p' → HasWaitLock by.id x
   pub freed : KeepsCount by.before by.after (count_in y.words)
   pub appends : (s : SemHand) (appends : ℕ) → get_elem? x.marks by.id ≡ some (stance s appends) → (s' : SemHand) × (get_elem? y.marks by.id ≡ some (stance s' (appends + entered change)))
+  pub missed : by.after.misses ≢ by.before.misses → (p : SemPart) × (get_elem? ps by.id ≡ some p) × (p.sem.wait ≡ Apart) × (p.sem.bias ≡ Clear)
 
 -- the last of these moments, which stands first, has this list and these parts, and has come to be by such steps from that of the first
 abbrev pub HasBecome : Plan → List Moment → List Waiter → List SemPart → Type 0

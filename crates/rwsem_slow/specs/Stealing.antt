@@ -6,13 +6,13 @@ use Rattle.lock_core.specs.declared.how.How.TheVariants.{Fast, Spun, Slept}
 use Rattle.lock_core.specs.declared.view.Held.TheVariants.{Shared}
 use Rattle.lock_core.specs.Kinds.{lets_in, semaphore}
 use Rattle.lock_core.specs.Plays.{Sat, Turns}
+use Rattle.lock_core.specs.Shown.{LeavesHold, Shown}
 use Rattle.lock_core.specs.Views.{ticked}
 use Rattle.rwsem_count.specs.declared.view.Bias.{Bias}
 use Rattle.rwsem_count.specs.declared.view.Bias.TheVariants.{Clear, Transit, Reserve}
 use Rattle.rwsem_wake.specs.Queues.{GetsSem}
 use Rattle.rwsem_slow.specs.declared.view.RwSemHand.{RwSemHand}
-use Rattle.rwsem_slow.specs.RwSems.{V, with_sem}
-use Rattle.rwsem_slow.specs.Queued.{EntersLock}
+use Rattle.rwsem_slow.specs.RwSems.{with_sem}
 
 -- the count that the addition of a bias left
 abbrev pub left_by : Bias → ℕ
@@ -32,8 +32,8 @@ MaySteal left hint = lets_in semaphore left × (IsShared left hint → ⊥)
 abbrev pub StealsBy : {Call : Type 0} → Obj Call → Sat RwSemHand → ℕ → Sat RwSemHand → Type 0
 StealsBy o m n m' = (MaySteal (left_by m.0.ext.sem.bias) n → GetsSem with_sem o Shared (record m.0.ext.sem { bias = Clear }) m m') × ((MaySteal (left_by m.0.ext.sem.bias) n → ⊥) → Turns m (ticked m.0) m')
 
--- How a reader went on whose addition left this count, and didn't let it in at once: by way of the wait lock, with the list or without, or by its bias.
-abbrev pub WentOn : (left : ℕ) → How → V → V → Type 0
+-- How a reader went on whose addition left this count, and didn't let it in at once: by way of the wait lock, with the list or without, or by its bias, by which its next step left it holding.
+abbrev pub WentOn : (left : ℕ) → How → Shown → Shown → Type 0
 WentOn left Fast v u = ⊥
-WentOn left Spun v u = ((v.spin.entries < u.spin.entries) ⊎ (lets_in semaphore left × (u.hand.saw ≡ v.hand.saw))) × (u.fronts ≡ v.fronts) × (u.hand.misses ≡ v.hand.misses) × (u.ext.appends ≡ v.ext.appends)
-WentOn left Slept v u = EntersLock v u × (u.ext.appends ≡ v.ext.appends + 1)
+WentOn left Spun v u = ((v.spin.entries < u.spin.entries) ⊎ (lets_in semaphore left × (u.hand.saw ≡ v.hand.saw) × LeavesHold (v.steps + 1) Shared v u)) × (u.fronts ≡ v.fronts) × (u.hand.misses ≡ v.hand.misses) × (u.line.appends ≡ v.line.appends)
+WentOn left Slept v u = (v.spin.entries < u.spin.entries) × (u.fronts ≡ v.fronts) × (u.hand.misses ≡ v.hand.misses) × (u.line.appends ≡ v.line.appends + 1)

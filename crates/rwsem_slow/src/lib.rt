@@ -3,6 +3,7 @@
 
 mod calls;
 mod hint;
+pub mod laws;
 mod leaving;
 mod read_path;
 mod reading;

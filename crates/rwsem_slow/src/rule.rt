@@ -1,7 +1,7 @@
 //! The rule of a semaphore's table.
 ghost use Rattle.std.specs.Prelude.{◌≡◌, refl};
 ghost use Rattle.word_bits.specs.LockWords.{counted};
-ghost use Rattle.rwsem_slow.specs.RwSems.{Kept, RwSemKept, RwSemMoves, any_count, bias_of, biased, count_at, grants_at, idle, list_at, list_of, marks_at, may_change, may_count, may_free, more_in, rests, saw_first, sem_of, standing, with_list, with_sem};
+ghost use Rattle.rwsem_slow.specs.RwSems.{Kept, MayMiss, RwSemKept, RwSemMoves, any_count, bias_of, biased, count_at, grants_at, idle, list_at, list_of, marks_at, may_change, may_count, may_free, more_in, rests, saw_first, sem_of, standing, with_list, with_sem};
 ghost use Rattle.rwsem_slow.specs.RwSemLaws.{count-inside, list-inside, sem-joins-rule, sem-looks, sem-opens-rule, sem-places, sem-sems, sem-site, sem-sites, sem-spin, sem-spins, sem-splits, spin-inside};
 ghost use Rattle.rwsem_slow.specs.ListLaws.{list-again, list-back, list-over, list-same, may-on, may-stay, sem-firsts, sem-list, sem-list-may, sem-lists, sem-queued};
 ghost use Rattle.rwsem_slow.specs.CountHosting.{bias-back, sem-alone, sem-count, sem-counted, sem-words};
@@ -11,8 +11,8 @@ use lock_core::{SPIN_ROOM, SiteRule, SpinHost};
 use rwsem_count::CountHost;
 use rwsem_wake::GrantHost;
 use std::marker::PhantomData;
-use wait_list::ListHost;
-use word_bits::Object;
+use wait_list::{LIST_WORDS, ListHost};
+use word_bits::{MAX_TASKS, Object};
 
 /// The rule of the table of a semaphore that guards an object of the kind `O`: a spin lock, a
 /// count, a list of waiters, which changes under the spin lock, and a mark and a grant word for
@@ -33,6 +33,8 @@ impl<O: Object> SiteRule for SemRule<O> {
     ghost moves = { RwSemMoves };
 
     ghost marks = { standing };
+
+    ghost word_at = { count_at };
 
     ghost idle = { idle };
 
@@ -124,6 +126,8 @@ impl<O: Object> CountHost for SemRule<O> {
 
     ghost may_count = { may_count };
 
+    ghost may_miss = { MayMiss };
+
     ghost count_inside = { count-inside };
 
     ghost bias_back = { bias-back };
@@ -136,9 +140,9 @@ impl<O: Object> CountHost for SemRule<O> {
 }
 
 impl<O: Object> GrantHost for SemRule<O> {
-    const MARKS: usize = SPIN_ROOM + 88;
+    const MARKS: usize = SPIN_ROOM + 16 + LIST_WORDS;
 
-    const GRANTS: usize = SPIN_ROOM + 600;
+    const GRANTS: usize = SPIN_ROOM + 16 + LIST_WORDS + 8 * MAX_TASKS as usize;
 
     ghost MARKS = { marks_at };
 

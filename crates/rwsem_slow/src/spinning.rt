@@ -55,6 +55,8 @@ fn is_unlocked(count: u64) -> bool
 fn look<O: Object>(site: &Site<SemRule<O>>, pass: &mut Pass<SemRule<O>>) -> u64
     requires own { SitsAt site.now pass.old }
     requires numbered { IsSome (task_in pass.old) }
+    requires out { held_in pass.old ≡ No }
+    requires apart { (view_of pass.old).ext.sem ≡ apart_hand }
     ensures own { SitsAt site.now pass.new }
     ensures goes_on { KeepsPast pass.old pass.new }
     ensures last { IsLatest pass.new }

@@ -5,6 +5,7 @@ ghost use Rattle.lock_core.specs.declared.view.Held.TheVariants.{No, Shared};
 ghost use Rattle.lock_core.specs.Handles.{plan_of, view_of, task_in, held_in, SitsAt, KeepsPast, SaysSame};
 ghost use Rattle.lock_core.specs.Kinds.{lets_in, semaphore};
 ghost use Rattle.lock_core.specs.Locking.{SawPending, Takes};
+ghost use Rattle.lock_core.specs.Shown.{LeavesHold};
 ghost use Rattle.lock_core.specs.Signals.{OnlyConsumed};
 ghost use Rattle.lock_core.specs.Views.{SpinRests, ticked};
 ghost use Rattle.rwsem_slow.specs.Places.{IsOutside, StepsOn, seen_of};
@@ -75,6 +76,8 @@ fn steal<O: Object>(site: &Site<SemRule<O>>, pass: &mut Pass<SemRule<O>>, left: 
     ensures took { result ≡ true →
         Shares O.object (plan_of site.now) (view_of pass.old) (view_of pass.new) }
     ensures let_in { result ≡ true → lets_in semaphore left }
+    ensures held { result ≡ true → LeavesHold ((view_of pass.old).steps + 1) Shared
+        (seen_of pass.old) (seen_of pass.new) }
     ensures spin { (view_of pass.new).spin ≡ (view_of pass.old).spin }
     ensures face { result ≡ false → SaysSame pass.old pass.new }
     ensures missed { result ≡ false → view_of pass.new ≡ ticked (view_of pass.old) }
@@ -138,7 +141,7 @@ pub fn read_slowly<O: Object, W: Wait, C: Cpu, K: Crew>(
     ensures outside { IsOutside (view_of pass.new) }
     ensures took { IfOk result (λ _. Takes O.object (plan_of site.now) Shared
         (seen_of pass.old) (seen_of pass.new)) }
-    ensures line { IfOk result (λ how. WentOn left how (view_of pass.old) (view_of pass.new)) }
+    ensures line { IfOk result (λ how. WentOn left how (seen_of pass.old) (seen_of pass.new)) }
     ensures lock { IfErr result (λ _. EntersLock (view_of pass.old) (view_of pass.new)) }
     ensures waited { IfErr result (λ _.
         (view_of pass.new).ext.appends ≡ (view_of pass.old).ext.appends + 1) }

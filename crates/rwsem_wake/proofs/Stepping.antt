@@ -1,5 +1,5 @@
 -- A step on the count, a mark or a grant word, from what it makes of the semaphore's own facts.
-use Rattle.std.proofs.Common.{◌≡◌, ◌≢◌, ℕ, ◌+◌, ◌*◌, ◌<◌, ◌≤◌, Bool, true, if◌then◌else◌, List, [], ◌∷◌, length, map, take, get_or, set, Some, None, sym, refl, ap, ◌∙◌, subst, arith, get_or-set_same, get_or-set_other}
+use Rattle.std.proofs.Common.{◌≡◌, ◌≢◌, ℕ, ◌+◌, ◌*◌, ◌<◌, ◌≤◌, inl, Bool, true, if◌then◌else◌, List, [], ◌∷◌, length, map, take, get_or, set, Some, None, sym, refl, ap, ◌∙◌, subst, arith, get_or-set_same, get_or-set_other}
 use mathlib.Core.Option.{some}
 use lib.ListN.{get_elem?}
 use Rattle.atomic_table.specs.Table.{Me, keeps}
@@ -21,7 +21,7 @@ use Rattle.lock_core.specs.declared.view.Held.TheVariants.{No}
 use Rattle.lock_core.specs.Holding.{Learns}
 use Rattle.lock_core.specs.Views.{SpinHolds, hand_of, spin_part, held_of, alone_of, alone_weight, named_of, is_number, took}
 use Rattle.lock_core.specs.Totals.{total}
-use Rattle.lock_core.specs.Sites.{SiteKept}
+use Rattle.lock_core.specs.Sites.{KeepsSaw, SiteKept}
 use Rattle.lock_core.specs.Moves.{Goes, Lets}
 use Rattle.lock_core.specs.Plays.{Turns}
 use Rattle.lock_core.proofs.HandLaws.{false-or-true, not-both}
@@ -74,7 +74,7 @@ module _ {E Call : Type 0} (o : Obj Call) (unavailable : Unavailable) (size : �
     (places : (count < marks_at) × (marks_at + 8 * MAX_TASKS ≤ grants_at) × (grants_at + 8 * MAX_TASKS ≤ LOCK_WORDS))
     (sem_kept : (ws : List ℕ) (vs : List (View E)) (q : List Waiter) → queue ws vs q → SemKept (get_or ws count 0) q (lines_in marks_at ws) (lines_in grants_at ws) (map (sem_part sem) vs) × IsLawfulCount (get_or ws count 0) × (LOCK_WORDS ≤ length ws))
     (sem_only : (ws : List ℕ) (vs : List (View E)) (q : List Waiter) (id : ℕ) (v : View E) → queue ws vs q → get_elem? vs id ≡ some v → SpinHolds v.spin → total busy_of (map (sem_part sem) vs) ≡ busy_weight (sem v.ext).stage)
-    (sems : (ws : List ℕ) (vs : List (View E)) (q : List Waiter) (id i n : ℕ) (v : View E) (h : Hand) (s : SemHand) → queue ws vs q → get_elem? vs id ≡ some v → count ≤ i → i < LOCK_WORDS → (count < i → marks_at ≤ i) → busy_weight s.stage ≤ holds_in v.spin → HandStep v.hand h (get_or (set ws i n) count 0)
+    (sems : (ws : List ℕ) (vs : List (View E)) (q : List Waiter) (id i n : ℕ) (v : View E) (h : Hand) (s : SemHand) → queue ws vs q → get_elem? vs id ≡ some v → count ≤ i → i < LOCK_WORDS → (count < i → marks_at ≤ i) → busy_weight s.stage ≤ holds_in v.spin → HandStep v.hand h (get_or (set ws i n) count 0) → KeepsSaw v.hand h
     → SemKept (get_or (set ws i n) count 0) q (lines_in marks_at (set ws i n)) (lines_in grants_at (set ws i n)) (set (map (sem_part sem) vs) id (record { task = h.task; held = h.held; sem = s }))
     → KeepsHandoff id (get_or ws count 0) q (lines_in marks_at ws) (lines_in grants_at ws) (map (sem_part sem) vs) (get_or (set ws i n) count 0) (lines_in marks_at (set ws i n)) (lines_in grants_at (set ws i n)) (set (map (sem_part sem) vs) id (record { task = h.task; held = h.held; sem = s }))
     → SiteKept o unavailable size k (site k ws) (set (map hand_of vs) id h) → Goes holds moves id ws vs (set ws i n) (set vs id (semmed with_sem v h s))) where
@@ -130,7 +130,7 @@ module _ {E Call : Type 0} (o : Obj Call) (unavailable : Unavailable) (size : �
     abbrev pub Comes : (id : ℕ) (me : M) → Op → (ℕ → M → Type 0) → Type 0
     Comes id me op tells = (n : ℕ) (q : List Waiter) (marks grants : List ℕ) (sees : List SemPart) (w : SiteWords) (hs : List Hand) → Local sees id (sem_part sem me.0) (list_part list me.0) n q marks grants → (SpinHolds me.0.spin → total busy_of sees ≡ busy_weight (sem me.0.ext).stage)
         → Kept w hs → get_elem? hs id ≡ some me.0.hand → total alone_of hs ≡ total alone_in (map part_of sees) → total held_of hs ≡ total alone_in (map part_of sees) + total shared_in (map part_of sees)
-        → (let m = found n marks grants in let x = word_after op m in (h : Hand) × (s : SemHand) × HandStep me.0.hand h (word n x) × (busy_weight s.stage ≤ holds_in me.0.spin) × SemKept (word n x) q (ms marks x) (gs grants x) (set sees id (turned h s))
+        → (let m = found n marks grants in let x = word_after op m in (h : Hand) × (s : SemHand) × HandStep me.0.hand h (word n x) × KeepsSaw me.0.hand h × (busy_weight s.stage ≤ holds_in me.0.spin) × SemKept (word n x) q (ms marks x) (gs grants x) (set sees id (turned h s))
         × KeepsHandoff id n q marks grants sees (word n x) (ms marks x) (gs grants x) (set sees id (turned h s)) × Kept w (set hs id h) × tells m (semmed with_sem me.0 h s, me.1))
 
     pub word-goes : (slots id : ℕ) (me : M) (op : Op) (tells : ℕ → M → Type 0) → Comes id me op tells → Lets holds moves slots id me i op tells
@@ -142,11 +142,11 @@ module _ {E Call : Type 0} (o : Obj Call) (unavailable : Unavailable) (size : �
           semmed with_sem v t.0 t.1,
           keeps,
           tt,
-          sems ws vs q.0 id i x v t.0 t.1 q.1 at there.above there.inside there.apart t.3 (subst (HandStep v.hand t.0) (sym wd) t.2)
-              (subst (λ (z : ℕ × List ℕ × List ℕ). SemKept z.0 q.0 z.1 z.2 (set sees id (turned t.0 t.1))) (λ j. (sym wd j, sym mk j, sym gr j)) t.4)
-              (subst (λ (z : ℕ × List ℕ × List ℕ). KeepsHandoff id n q.0 marks grants sees z.0 z.1 z.2 (set sees id (turned t.0 t.1))) (λ j. (sym wd j, sym mk j, sym gr j)) t.5) t.6,
+          sems ws vs q.0 id i x v t.0 t.1 q.1 at there.above there.inside there.apart t.4 (subst (HandStep v.hand t.0) (sym wd) t.2) t.3
+              (subst (λ (z : ℕ × List ℕ × List ℕ). SemKept z.0 q.0 z.1 z.2 (set sees id (turned t.0 t.1))) (λ j. (sym wd j, sym mk j, sym gr j)) t.5)
+              (subst (λ (z : ℕ × List ℕ × List ℕ). KeepsHandoff id n q.0 marks grants sees z.0 z.1 z.2 (set sees id (turned t.0 t.1))) (λ j. (sym wd j, sym mk j, sym gr j)) t.6) t.7,
           refl,
-          subst (λ (z : ℕ). tells z (semmed with_sem v t.0 t.1, me.1)) m t.7,
+          subst (λ (z : ℕ). tells z (semmed with_sem v t.0 t.1, me.1)) m t.8,
         )
 
     -- what a step under the wait lock comes to that leaves how its pass holds
@@ -160,6 +160,7 @@ module _ {E Call : Type 0} (o : Obj Call) (unavailable : Unavailable) (size : �
           me.0.hand,
           does m,
           record { numbered = numbered; task = refl; goes = record { misses = omega arith; freed = λ e. refl; takes = omega arith; comes = λ none holds. absurd (holds none) }; left = λ held other. absurd (other refl) },
+          (refl, inl refl),
           omega (arith, b, one),
           t.0,
           t.1,
@@ -185,6 +186,7 @@ module _ {E Call : Type 0} (o : Obj Call) (unavailable : Unavailable) (size : �
           took v.hand held known r.log,
           does m,
           record { numbered = numbered; task = refl; goes = record { misses = omega arith; freed = λ e. refl; takes = omega arith; comes = λ _ _. omega arith }; left = λ held. absurd (held out) },
+          (refl, inl refl),
           s.0,
           now.0,
           now.1,
@@ -199,6 +201,7 @@ module _ {E Call : Type 0} (o : Obj Call) (unavailable : Unavailable) (size : �
           v.hand,
           does m,
           record { numbered = numbered; task = refl; goes = record { misses = omega arith; freed = λ e. refl; takes = omega arith; comes = λ none holds. absurd (holds none) }; left = λ held other. absurd (other refl) },
+          (refl, inl refl),
           s.0,
           now.0,
           now.1,

@@ -11,7 +11,7 @@ ghost use Rattle.lock_core.specs.declared.layout.TheConstants.{LOCK_WORDS};
 ghost use Rattle.lock_core.specs.Layout.{site};
 ghost use Rattle.lock_core.specs.Views.{SpinHolds, hand_of};
 ghost use Rattle.lock_core.specs.Spins.{holds_in};
-ghost use Rattle.lock_core.specs.Sites.{SiteKept};
+ghost use Rattle.lock_core.specs.Sites.{KeepsSaw, SiteKept};
 ghost use Rattle.lock_core.specs.Totals.{total};
 ghost use Rattle.lock_core.specs.Moves.{Goes};
 ghost use Rattle.wait_list.specs.declared.view.Waiter.{Waiter};
@@ -68,7 +68,7 @@ pub trait GrantHost: ListHost + CountHost {
     // The holder of the wait lock alone may be at a stage.
     ghost sem_only: { (k : Calls) (ws : List ℕ) (vs : List (View Self.Ext)) (q : List Waiter) (id : ℕ) (v : View Self.Ext) → Self.queue k ws vs q → get_elem? vs id ≡ some v → SpinHolds v.spin → total busy_of (map (sem_part sem) vs) ≡ busy_weight (sem v.ext).stage };
 
-    // A step on one of these words that keeps their own facts and the site's, and to a handoff,
-    // keeps every other fact of the rule.
-    ghost sems: { (k : Calls) (ws : List ℕ) (vs : List (View Self.Ext)) (q : List Waiter) (id i n : ℕ) (v : View Self.Ext) (h : Hand) (s : ASemHand) → Self.queue k ws vs q → get_elem? vs id ≡ some v → Self.COUNT ≤ i → i < LOCK_WORDS → (Self.COUNT < i → MARKS ≤ i) → busy_weight s.stage ≤ holds_in v.spin → HandStep v.hand h (slice_index (slice_set ws i n) Self.COUNT) → SemKept (slice_index (slice_set ws i n) Self.COUNT) q (lines_in MARKS (slice_set ws i n)) (lines_in GRANTS (slice_set ws i n)) (slice_set (map (sem_part sem) vs) id (record { task = h.task; held = h.held; sem = s })) → KeepsHandoff id (slice_index ws Self.COUNT) q (lines_in MARKS ws) (lines_in GRANTS ws) (map (sem_part sem) vs) (slice_index (slice_set ws i n) Self.COUNT) (lines_in MARKS (slice_set ws i n)) (lines_in GRANTS (slice_set ws i n)) (slice_set (map (sem_part sem) vs) id (record { task = h.task; held = h.held; sem = s })) → SiteKept Self.O.object Self.unavailable Self.O.WORDS k (site k ws) (slice_set (map hand_of vs) id h) → Goes (Self.holds k) (Self.moves k) id ws vs (slice_set ws i n) (slice_set vs id (semmed with_sem v h s)) };
+    // A step on one of these words that keeps their own facts and the site's, and to a handoff, and
+    // counts no failed try, keeps every other fact of the rule.
+    ghost sems: { (k : Calls) (ws : List ℕ) (vs : List (View Self.Ext)) (q : List Waiter) (id i n : ℕ) (v : View Self.Ext) (h : Hand) (s : ASemHand) → Self.queue k ws vs q → get_elem? vs id ≡ some v → Self.COUNT ≤ i → i < LOCK_WORDS → (Self.COUNT < i → MARKS ≤ i) → busy_weight s.stage ≤ holds_in v.spin → HandStep v.hand h (slice_index (slice_set ws i n) Self.COUNT) → KeepsSaw v.hand h → SemKept (slice_index (slice_set ws i n) Self.COUNT) q (lines_in MARKS (slice_set ws i n)) (lines_in GRANTS (slice_set ws i n)) (slice_set (map (sem_part sem) vs) id (record { task = h.task; held = h.held; sem = s })) → KeepsHandoff id (slice_index ws Self.COUNT) q (lines_in MARKS ws) (lines_in GRANTS ws) (map (sem_part sem) vs) (slice_index (slice_set ws i n) Self.COUNT) (lines_in MARKS (slice_set ws i n)) (lines_in GRANTS (slice_set ws i n)) (slice_set (map (sem_part sem) vs) id (record { task = h.task; held = h.held; sem = s })) → SiteKept Self.O.object Self.unavailable Self.O.WORDS k (site k ws) (slice_set (map hand_of vs) id h) → Goes (Self.holds k) (Self.moves k) id ws vs (slice_set ws i n) (slice_set vs id (semmed with_sem v h s)) };
 }

@@ -1,16 +1,16 @@
 use Rattle.std.proofs.Common.{◌∙◌, ℕ, sym, ap, subst, arith}
 use Rattle.lock_core.specs.declared.pass.Face.{Face}
 use Rattle.lock_core.specs.declared.view.Held.TheVariants.{Shared}
-use Rattle.lock_core.specs.Pasts.{Tail}
+use Rattle.lock_core.specs.Pasts.{IsOwnStep, Tail}
 use Rattle.lock_core.specs.Records.{bit}
 use Rattle.lock_core.proofs.Sitting.{sits-on}
 use Rattle.rwsem_count.specs.declared.view.Bias.TheVariants.{Clear}
 use Rattle.rwsem_count.proofs.Sitting.{some-number, sits-took}
 use Rattle.rwsem_wake.specs.declared.view.SemHand.{SemHand}
 use Rattle.rwsem_wake.proofs.Holding.{holds-by}
-use Rattle.rwsem_slow.specs.RwSems.{biased, with_sem}
+use Rattle.rwsem_slow.specs.RwSems.{V, biased, with_sem}
 use Rattle.rwsem_slow.specs.Stealing.{MaySteal}
-use Rattle.rwsem_slow.proofs.BiasHolds.{steals, stolen}
+use Rattle.rwsem_slow.proofs.BiasHolds.{next-leaves, steals, stolen}
 use Rattle.rwsem_slow.proofs.stealing.steal.Goals as goal
 
 pub step-hint-requires-clause-lets : goal.step-hint-requires-clause-lets
@@ -30,6 +30,12 @@ returns-then-may_steal-clause-took g c = λ is. stolen g.O.Object.object c.args.
 
 pub returns-then-may_steal-clause-let_in : goal.returns-then-may_steal-clause-let_in
 returns-then-may_steal-clause-let_in g c = λ is. (c.may_steal.ensures.0 c.if-may_steal.true).0
+
+pub returns-then-may_steal-clause-held : goal.returns-then-may_steal-clause-held
+returns-then-may_steal-clause-held g c = λ is. let gets = c.step-hint.ensures.told.0 (subst (λ (z : ℕ). MaySteal z c.step-hint.result) c.requires.left (c.may_steal.ensures.0 c.if-may_steal.true)) in
+    let view = ap (λ s. s.me.0.view) c.set_held.ensures.seat ∙ gets.3.0 in next-leaves Shared c.args.pass.now.seat.me.0.view c.set_held.new.self.seat.me.0.view c.args.pass.now.seat.me.0.past c.set_held.new.self.seat.me.0.past
+    (ap (λ (z : V). z.steps) view) (ap (λ (z : V). z.hand.task) view) (ap (λ (z : V). z.hand.held) view) (subst (λ s. IsOwnStep s.me.0.view s.me.0.past) (sym c.set_held.ensures.seat) c.step-hint.ensures.last)
+    (λ p t. subst (Tail p) (sym (ap (λ s. s.me.0.past) c.set_held.ensures.seat)) (c.step-hint.ensures.goes_on p t))
 
 pub returns-then-may_steal-clause-goes_on : goal.returns-then-may_steal-clause-goes_on
 returns-then-may_steal-clause-goes_on g c = λ p t. subst (Tail p) (sym (ap (λ s. s.me.0.past) c.set_held.ensures.seat)) (c.step-hint.ensures.goes_on p t)

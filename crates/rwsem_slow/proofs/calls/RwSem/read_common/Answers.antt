@@ -15,7 +15,7 @@ pub read_slowly-requires-clause-left : goal.read_slowly-requires-clause-left
 read_slowly-requires-clause-left g c = let t = c.in-Err.ensures.transit in t.1 ∙ sym (ap (λ (z : V). left_by z.ext.sem.bias) t.3)
 
 pub returns-in-Err-clause-how : goal.returns-in-Err-clause-how
-returns-in-Err-clause-how g c = went-got (fronts_in c.args.pass.now.queue) c.in-Err.left c.args.pass.now.pass.seat.me.0.view c.read_add.new.pass.seat.me.0.view c.read_slowly.new.pass.seat.me.0.view c.args.pass.now.pass.seat.me.0.past c.read_slowly.new.pass.seat.me.0.past c.in-Err.ensures.transit c.read_slowly.result c.read_slowly.ensures.line
+returns-in-Err-clause-how g c = went-got (fronts_in c.args.pass.now.queue) c.in-Err.left c.args.pass.now.pass.seat.me.0.view c.read_add.new.pass.seat.me.0.view c.read_slowly.new.pass.seat.me.0.view c.args.pass.now.pass.seat.me.0.past c.read_slowly.new.pass.seat.me.0.past c.in-Err.ensures.transit c.read_add.new.pass.seat.me.0.past c.read_slowly.result c.read_slowly.ensures.line
 
 pub returns-in-Err-clause-line : goal.returns-in-Err-clause-line
 returns-in-Err-clause-line g c = went-place (fronts_in c.args.pass.now.queue) c.in-Err.left c.args.pass.now.pass.seat.me.0.view c.read_add.new.pass.seat.me.0.view c.read_slowly.new.pass.seat.me.0.view c.args.pass.now.pass.seat.me.0.past c.read_slowly.new.pass.seat.me.0.past c.in-Err.ensures.transit

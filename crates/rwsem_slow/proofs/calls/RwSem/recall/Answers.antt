@@ -33,7 +33,7 @@ returns-clause-states g c = let k = c.args.self.now.site.table.shared.key in let
 
 pub returns-clause-moves : goal.returns-clause-moves
 returns-clause-moves g c = let k = c.args.self.now.site.table.shared.key in let o = g.O.Object.object in let n = g.O.Object.WORDS in
-    ran-steps standing k (newest k) _ (ran-so standing (newest k) (Moves (Kept o n k) (RwSemMoves k)) (IsSiteMove k) (λ x y m. (m.0, m.3.site)) _ c.recall.ensures.run)
+    ran-steps standing k count_at (newest k) _ (ran-so standing (newest k) (Moves (Kept o n k) (RwSemMoves k)) (IsSiteMove k count_at) (λ x y m. (m.0, m.3.site, m.4)) _ c.recall.ensures.run)
 
 pub returns-clause-lists : goal.returns-clause-lists
 returns-clause-lists g c = let k = c.args.self.now.site.table.shared.key in let o = g.O.Object.object in let n = g.O.Object.WORDS in let own = c.recall.ensures.last in
@@ -45,4 +45,4 @@ returns-clause-wait_lock g c = let k = c.args.self.now.site.table.shared.key in 
 
 pub returns-clause-wait_moves : goal.returns-clause-wait_moves
 returns-clause-wait_moves g c = let k = c.args.self.now.site.table.shared.key in let o = g.O.Object.object in let n = g.O.Object.WORDS in
-    each-move standing (Kept o n k) (RwSemMoves k) wait_lock_at (λ id ws us vs vs' m. m.spin) (newest k) _ c.recall.ensures.run
+    each-move standing (Kept o n k) (RwSemMoves k) wait_lock_at (λ id ws us vs vs' m. m.spin) (λ id ws us vs vs' h m. let s = m.site in (s.before, s.after, s.at, s.at', s.moved.spin)) (newest k) _ c.recall.ensures.run
