@@ -5,9 +5,9 @@ use Rattle.task_script.specs.Scripts.{Listing}
 use Rattle.mm_report.specs.Results.{Told, AreLegal}
 use Rattle.mm_serve.specs.declared.machine.Machine.{Machine}
 use Rattle.mm_serve.specs.declared.space_or_table.SpaceOrTablePass.{SpaceOrTablePass}
-use Rattle.mm_serve.specs.Machines.{IsMachineOf, IsAtRest, AreAllKnown, KnowsPasts, gathered_of, results_of}
+use Rattle.mm_serve.specs.Machines.{IsMachineOf, IsAtRest, AreAllKnown, AreHeld, KnowsPasts, gathered_of, results_of}
 use Rattle.mm_serve.specs.Sites.{holds_space}
-use Rattle.mm_serve.specs.UnderLocks.{IsIdleUnder, KnowsPastUnder, LockedObject, calls_under, hand_under}
+use Rattle.mm_serve.specs.UnderLocks.{IsIdleUnder, KnowsPastUnder, LockedObject, calls_under, hand_under, past_under}
 
 -- a machine over spaces under locks of one kind and tables under locks of another
 abbrev pub LockedMachine : (A S P C T F Q D B U : Type 0) → Type 0
@@ -22,7 +22,9 @@ module _ {A S P C T F Q D B U : Type 0} (spaces : LockMembers A S P C) (tables :
     pub legal : AreLegal script (results_of m) told
     -- the gathered pass of an object knows each record that is told of the object
     pub known : AreAllKnown (hand_under spaces tables) (gathered_of m) told
-    -- and all that was so of the object's table, from its opening on: who held, what the lock's word stated, and what the lock tells of its own
+    -- the log and the state that are told of an object are those of the object's table at a moment that this pass goes back to, at which a task's pass held alone
+    pub held : AreHeld (past_under spaces tables) m
+    -- it knows all that was so of the object's table, from its opening on: who held, what the lock's word stated, and what the lock tells of its own; and who stood in the lock's spin queue
     pub past : KnowsPasts (KnowsPastUnder spaces tables) m
     -- no gathered pass has a task's number or owes anything
     pub rest : IsAtRest (IsIdleUnder spaces tables) m

@@ -104,6 +104,10 @@ fn run<R: Threads + Wait + Sync, S: Source, K: Sink>(
         sink.old sink.new
         (HasServed ⟦<RwSem<Areas> as SleepLock<Areas>>⟧ ⟦<Mutex<Fds> as SleepLock<Fds>>⟧)
         kept.new (request (said_by_line line)) result }
+    ensures complete { CompletesTo S.left S.faults K.faults K.written source.old source.new
+        sink.old sink.new
+        (HasServed ⟦<RwSem<Areas> as SleepLock<Areas>>⟧ ⟦<Mutex<Fds> as SleepLock<Fds>>⟧)
+        kept.new (said_by_line line) result }
 {
     let Ok(words) = words(alloc, line) else {
         return Status::NoMemory;

@@ -5,39 +5,65 @@ use Rattle.word_bits.specs.Snapshots.{Words}
 use Rattle.word_bits.specs.Histories.{Plan}
 use Rattle.guarded.specs.Copying.{AreKnown}
 use Rattle.lock_core.specs.declared.view.Hand.{Hand}
+use Rattle.lock_core.specs.declared.view.Moment.{Moment}
+use Rattle.lock_core.specs.Pasts.{GoesOn}
 use Rattle.lock_core.proofs.RowLaws.{none-some, same-some, get-there, some-inside}
 use Rattle.task_script.specs.Scripts.{Declared, Listing, plan_of}
 use Rattle.mm_report.specs.Results.{Told, AreLegalFrom, AreCompleteFrom}
 use Rattle.mm_serve.specs.Histories.{IsKnownHistoryOn}
 use Rattle.mm_serve.specs.Workers.{EachOf}
-use Rattle.mm_serve.specs.Copying.{IsCopied, IsToCopy, blank}
+use Rattle.mm_serve.specs.Copying.{IsCopied, IsToCopy, WasHeldWith, blank}
 use Rattle.mm_serve.specs.Machines.{AreAllKnown, staffed}
 use Rattle.mm_serve.proofs.Each.{Between, each-set, between-at}
 use Rattle.mm_serve.proofs.Gathers.{get-some}
 use Rattle.mm_serve.proofs.Staffed.{Known, unstaffed, records-many}
 
-module _ {S P : Type 0} (idle : S → P → Type 0) (hand : P → Hand) (is_space : S → Bool) (calls_on : S → Plan) where
-  pub copies : (sites : List S) (passes : List P) (words : List Words) (n : ℕ) (s : S) (new : P) (w : Words) → EachOf (Between (IsCopied idle hand is_space calls_on words) (IsToCopy idle hand is_space calls_on words) n) sites passes → n < length sites → length words ≡ length sites → s ≡ get_or sites n s
-      → idle s new → IsKnownHistoryOn (is_space s) (calls_on s) (hand new) w → EachOf (Between (IsCopied idle hand is_space calls_on (set words n w)) (IsToCopy idle hand is_space calls_on (set words n w)) (n + 1)) sites (set passes n new)
-  copies sites passes words n s new w each below long s-is rest told =
-      each-set (Between (IsCopied idle hand is_space calls_on words) (IsToCopy idle hand is_space calls_on words) n) (Between (IsCopied idle hand is_space calls_on (set words n w)) (IsToCopy idle hand is_space calls_on (set words n w)) (n + 1)) sites passes n s new each below s-is
-      ((λ _. (rest, (λ v. subst (λ (x : Words). IsKnownHistoryOn (is_space s) (calls_on s) (hand new) x) (sym (get_or-set_same words n w v (omega (arith, below, long)))) told))), (λ behind. absurd (omega (arith, behind))))
+module _ {S P : Type 0} (idle : S → P → Type 0) (hand : P → Hand) (past : P → List Moment) (is_space : S → Bool) (calls_on : S → Plan) where
+  pub copies : (sites : List S) (passes : List P) (words : List Words) (n : ℕ) (s : S) (new : P) (w : Words) → EachOf (Between (IsCopied idle hand past is_space calls_on words) (IsToCopy idle hand is_space calls_on words) n) sites passes → n < length sites → length words ≡ length sites → s ≡ get_or sites n s
+      → idle s new → IsKnownHistoryOn (is_space s) (calls_on s) (hand new) w → WasHeldWith w (past new) → EachOf (Between (IsCopied idle hand past is_space calls_on (set words n w)) (IsToCopy idle hand is_space calls_on (set words n w)) (n + 1)) sites (set passes n new)
+  copies sites passes words n s new w each below long s-is rest told held =
+      each-set (Between (IsCopied idle hand past is_space calls_on words) (IsToCopy idle hand is_space calls_on words) n) (Between (IsCopied idle hand past is_space calls_on (set words n w)) (IsToCopy idle hand is_space calls_on (set words n w)) (n + 1)) sites passes n s new each below s-is
+      ((λ _. (rest, (λ v. subst (λ (x : Words). IsKnownHistoryOn (is_space s) (calls_on s) (hand new) x × WasHeldWith x (past new)) (sym (get_or-set_same words n w v (omega (arith, below, long)))) (told, held)))), (λ behind. absurd (omega (arith, behind))))
       (λ k t p lt ne r. (
-        (λ l. let c = r.0 (omega (arith, l, ne)) in (c.0, (λ v. subst (λ (x : Words). IsKnownHistoryOn (is_space t) (calls_on t) (hand p) x) (sym (get_or-set_other words n k w v ne)) (c.1 v)))),
+        (λ l. let c = r.0 (omega (arith, l, ne)) in (c.0, (λ v. subst (λ (x : Words). IsKnownHistoryOn (is_space t) (calls_on t) (hand p) x × WasHeldWith x (past p)) (sym (get_or-set_other words n k w v ne)) (c.1 v)))),
         (λ l. let c = r.1 (omega (arith, l)) in (c.0, c.1, (λ v. get_or-set_other words n k w v ne ∙ c.2 v))),
       ))
 
-  pub still-blank : (sites : List S) (passes : List P) (words : List Words) (n : ℕ) (s : S) (was : P) (w : Words) → EachOf (Between (IsCopied idle hand is_space calls_on words) (IsToCopy idle hand is_space calls_on words) n) sites passes → n < length sites → s ≡ get_or sites n s → was ≡ get_or passes n was → slice_get words n ≡ Some w → w ≡ blank (is_space s) (calls_on s)
+  pub still-blank : (sites : List S) (passes : List P) (words : List Words) (n : ℕ) (s : S) (was : P) (w : Words) → EachOf (Between (IsCopied idle hand past is_space calls_on words) (IsToCopy idle hand is_space calls_on words) n) sites passes → n < length sites → s ≡ get_or sites n s → was ≡ get_or passes n was → slice_get words n ≡ Some w → w ≡ blank (is_space s) (calls_on s)
   still-blank sites passes words n s was w each below s-is was-is at =
-      sym (get-some words n w at) ∙ (between-at (IsCopied idle hand is_space calls_on words) (IsToCopy idle hand is_space calls_on words) sites passes n s was each below s-is was-is).2 w
+      sym (get-some words n w at) ∙ (between-at (IsCopied idle hand past is_space calls_on words) (IsToCopy idle hand is_space calls_on words) sites passes n s was each below s-is was-is).2 w
 
-  -- passes with the same hands know the same histories
-  pub still-copied : (sites : List S) (olds news : List P) (words : List Words) → EachOf (IsCopied idle hand is_space calls_on words) sites olds → EachOf (λ k s p. idle s p) sites news → ((k : ℕ) (p : P) → hand (get_or news k p) ≡ hand (get_or olds k p))
-      → EachOf (IsCopied idle hand is_space calls_on words) sites news
-  still-copied sites olds news words copied rest hands = (
+  later : (w : Words) (old new : List Moment) → GoesOn old new → WasHeldWith w old → WasHeldWith w new
+  later w old new goes held = record {
+    entries = held.entries;
+    log_is = held.log_is;
+    task = held.task;
+    takes = held.takes;
+    until = held.until;
+    held = held.held;
+    goes_on = λ p t. goes p (held.goes_on p t);
+  }
+
+  -- passes with the same hands, whose pasts go on, know the same histories
+  pub still-copied : (sites : List S) (olds news : List P) (words : List Words) → EachOf (IsCopied idle hand past is_space calls_on words) sites olds → EachOf (λ k s p. idle s p) sites news → ((k : ℕ) (p : P) → hand (get_or news k p) ≡ hand (get_or olds k p))
+      → ((k : ℕ) (p : P) → GoesOn (past (get_or olds k p)) (past (get_or news k p))) → EachOf (IsCopied idle hand past is_space calls_on words) sites news
+  still-copied sites olds news words copied rest hands goes = (
     rest.0,
-    (λ k s p lt. (rest.1 k s p lt, (λ w. subst (λ (h : Hand). IsKnownHistoryOn (is_space (get_or sites k s)) (calls_on (get_or sites k s)) h (get_or words k w)) (sym (hands k p)) ((copied.1 k s p lt).1 w)))),
+    (λ k s p lt. (
+      rest.1 k s p lt,
+      (λ w. let was = (copied.1 k s p lt).1 w in
+          (subst (λ (h : Hand). IsKnownHistoryOn (is_space (get_or sites k s)) (calls_on (get_or sites k s)) h (get_or words k w)) (sym (hands k p)) was.0, later (get_or words k w) (past (get_or olds k p)) (past (get_or news k p)) (goes k p) was.1)),
+    )),
   )
+
+  -- what each pass goes back to
+  pub all-held : (sites : List S) (passes : List P) (words : List Words) → EachOf (IsCopied idle hand past is_space calls_on words) sites passes → length words ≡ length sites → (k : ℕ) (w : Words) (p : P) → slice_get words k ≡ Some w → slice_get passes k ≡ Some p → WasHeldWith w (past p)
+  all-held sites passes words each long k w p at has =
+      let inside = some-inside words k w at in
+      let lt : k < length sites = omega (arith, inside, long) in
+      let there = get-there sites k lt in
+      let held = ((each.1 k there.0 p lt).1 w).1 in
+      subst (λ (q : P). WasHeldWith w (past q)) (get-some passes k p has) (subst (λ (v : Words). WasHeldWith v (past (get_or passes k p))) (get-some words k w at) held)
 
 pick : (G : ℕ → Hand → Type 0) (one : Told) (rest : List Told) → ((h : Hand) × G 0 h × AreKnown h one.records) → ((i : ℕ) (x : Told) → slice_get rest i ≡ Some x → (h : Hand) × G (suc i) h × AreKnown h x.records) → (i : ℕ) (x : Told) → slice_get (one ∷ rest) i ≡ Some x → (h : Hand) × G i h × AreKnown h x.records
 pick G one rest here more zero x at = (here.0, here.1, subst (λ (y : Told). AreKnown here.0 y.records) (same-some one x at) here.2)
@@ -73,9 +99,9 @@ complete-from s object (d ∷ ds) (w ∷ ws) G long each =
     let here = subst (λ n. Known d.is_space (plan_of s n) first.0 w) (add-zero object) first.2 in
     (records-many d.is_space s object first.0 w here, complete-from s (object + 1) ds ws (λ i h. G (suc i) h) (omega (arith, long)) (next s object d ds w ws G each))
 
-module _ {S P : Type 0} (idle : S → P → Type 0) (hand : P → Hand) (is_space : S → Bool) (calls_on : S → Plan) (script : Listing) (sites : List S) (passes : List P) (words : List Words) (many : length sites ≡ length script.objects)
+module _ {S P : Type 0} (idle : S → P → Type 0) (hand : P → Hand) (past : P → List Moment) (is_space : S → Bool) (calls_on : S → Plan) (script : Listing) (sites : List S) (passes : List P) (words : List Words) (many : length sites ≡ length script.objects)
     (planned : (k : ℕ) (s : S) → slice_get sites k ≡ Some s → calls_on s ≡ staffed (plan_of script k)) (kinds : (k : ℕ) (s : S) (d : Declared) → slice_get sites k ≡ Some s → slice_get script.objects k ≡ Some d → is_space s ≡ d.is_space)
-    (each : EachOf (IsCopied idle hand is_space calls_on words) sites passes) (long : length words ≡ length sites) where
+    (each : EachOf (IsCopied idle hand past is_space calls_on words) sites passes) (long : length words ≡ length sites) where
   each-known : EachKnown script 0 script.objects words (λ i h. (p : P) → slice_get passes i ≡ Some p → h ≡ hand p)
   each-known = λ i d w at has.
       let inside = some-inside script.objects i d at in
@@ -84,7 +110,7 @@ module _ {S P : Type 0} (idle : S → P → Type 0) (hand : P → Hand) (is_spac
       let same = each.0 in
       let mine = get-there passes i (omega (arith, lt, same)) in
       let s = there.0 in
-      let copied = (each.1 i s mine.0 lt).1 w in
+      let copied = ((each.1 i s mine.0 lt).1 w).0 in
       let known : IsKnownHistoryOn (is_space s) (calls_on s) (hand mine.0) w = rw (get-some sites i s there.1, get-some passes i mine.0 mine.1, get-some words i w has) at copied in
       let kind : IsKnownHistoryOn d.is_space (staffed (plan_of script i)) (hand mine.0) w = subst (λ k. IsKnownHistoryOn d.is_space k (hand mine.0) w) (planned i s there.1) (subst (λ b. IsKnownHistoryOn b (calls_on s) (hand mine.0) w) (kinds i s d there.1 at) known) in
       (hand mine.0, (λ p is. ap hand (same-some mine.0 p (sym mine.1 ∙ is))), subst (λ n. Known d.is_space (plan_of script n) (hand mine.0) w) (sym (zero-add i)) (unstaffed d.is_space (plan_of script i) (hand mine.0) w kind))

@@ -1,7 +1,8 @@
 -- A space or a table with its passes.
-use Rattle.std.specs.Prelude.{Bool, true, false}
+use Rattle.std.specs.Prelude.{Bool, true, false, List}
 use Rattle.word_bits.specs.Histories.{Plan}
 use Rattle.lock_core.specs.declared.view.Hand.{Hand}
+use Rattle.lock_core.specs.declared.view.Moment.{Moment}
 use Rattle.lock_core.specs.Shown.{Shown}
 use Rattle.mm_serve.specs.declared.space_or_table.SpaceOrTable.{SpaceOrTable}
 use Rattle.mm_serve.specs.declared.space_or_table.SpaceOrTable.TheVariants.{Space, Table}
@@ -11,6 +12,11 @@ use Rattle.mm_serve.specs.declared.space_or_table.SpaceOrTablePass.TheVariants.{
 abbrev pub hand_of : {P Q : Type 0} → (P → Shown) → (Q → Shown) → SpaceOrTablePass P Q → Hand
 hand_of space_view table_view (OfSpace p) = (space_view p).hand
 hand_of space_view table_view (OfTable p) = (table_view p).hand
+
+-- the moments of the object's table up to the pass's last step
+abbrev pub past_of : {P Q : Type 0} → (P → Shown) → (Q → Shown) → SpaceOrTablePass P Q → List Moment
+past_of space_view table_view (OfSpace p) = (space_view p).past
+past_of space_view table_view (OfTable p) = (table_view p).past
 
 module _ {A T : Type 0} where
   abbrev pub holds_space : SpaceOrTable A T → Bool

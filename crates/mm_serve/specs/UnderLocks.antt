@@ -1,6 +1,8 @@
 -- Spaces under locks of one kind and tables under locks of another: what is known of an object and of its pass, by what the trait of locks tells of the two kinds.
 use Rattle.word_bits.specs.Histories.{Plan}
+use Rattle.std.specs.Prelude.{List}
 use Rattle.lock_core.specs.declared.view.Hand.{Hand}
+use Rattle.lock_core.specs.declared.view.Moment.{Moment}
 use Rattle.vma_map.specs.Spaces.{space}
 use Rattle.fd_table.specs.Tables.{table}
 use Rattle.guarded.specs.declared.guarded.Guarded.{Guarded}
@@ -8,11 +10,12 @@ use Rattle.guarded.specs.declared.lock.SleepLock.{Ghosts as LockMembers}
 use Rattle.guarded.specs.Handles.{lock_of}
 use Rattle.guarded.specs.MutexLocks.{KnowsMutex}
 use Rattle.guarded.specs.RwSemLocks.{KnowsRwSem}
+use Rattle.guarded.specs.SpinQueues.{KnowsSpinQueue}
 use Rattle.mm_serve.specs.declared.space_or_table.SpaceOrTable.{SpaceOrTable}
 use Rattle.mm_serve.specs.declared.space_or_table.SpaceOrTablePass.{SpaceOrTablePass}
 use Rattle.mm_serve.specs.Pasts.{KnowsPast}
 use Rattle.mm_serve.specs.Serving.{IsIdle}
-use Rattle.mm_serve.specs.Sites.{Matches, calls_of, hand_of}
+use Rattle.mm_serve.specs.Sites.{Matches, calls_of, hand_of, past_of}
 
 -- a space or a table, each under its lock
 abbrev pub LockedObject : (A S P C T F Q D : Type 0) → Type 0
@@ -23,6 +26,10 @@ module _ {A S P C T F Q D : Type 0} (spaces : LockMembers A S P C) (tables : Loc
   abbrev pub hand_under : SpaceOrTablePass P Q → Hand
   hand_under = hand_of spaces.view tables.view
 
+  -- the moments that it goes back to, likewise
+  abbrev pub past_under : SpaceOrTablePass P Q → List Moment
+  past_under = past_of spaces.view tables.view
+
   -- the calls that the tasks are to make on the object, by its lock
   abbrev pub calls_under : LockedObject A S P C T F Q D → Plan
   calls_under = calls_of (λ s. spaces.calls_on (lock_of s)) (λ s. tables.calls_on (lock_of s))
@@ -31,9 +38,9 @@ module _ {A S P C T F Q D : Type 0} (spaces : LockMembers A S P C) (tables : Loc
   abbrev pub IsIdleUnder : LockedObject A S P C T F Q D → SpaceOrTablePass P Q → Type 0
   IsIdleUnder = Matches (λ s p. spaces.sits (lock_of s) p × IsIdle (spaces.view p).hand) (λ s p. tables.sits (lock_of s) p × IsIdle (tables.view p).hand)
 
-  -- the pass knows what was so of the object's table at each moment so far: what every lock tells, of a space what a semaphore tells of its own, and of a table what a mutex does
+  -- the pass knows what was so of the object's table at each moment so far: what every lock tells, of a space what a semaphore tells of its own, and of a table what a mutex does; and of each moment of the lock's spin queue who stood in it
   abbrev pub KnowsPastUnder : LockedObject A S P C T F Q D → SpaceOrTablePass P Q → Type 0
   KnowsPastUnder =
       Matches
-      (λ s p. KnowsPast space spaces.kind 257 spaces.word_at spaces.waits (KnowsRwSem space 257) spaces.opened (spaces.calls_on (lock_of s)) (spaces.view p))
-      (λ s p. KnowsPast table tables.kind 64 tables.word_at tables.waits (KnowsMutex table 64) tables.opened (tables.calls_on (lock_of s)) (tables.view p))
+      (λ s p. KnowsPast space spaces.kind 257 spaces.word_at spaces.waits (KnowsRwSem space 257) spaces.opened (spaces.calls_on (lock_of s)) (spaces.view p) × KnowsSpinQueue (spaces.calls_on (lock_of s)) (spaces.view p) (spaces.spun p))
+      (λ s p. KnowsPast table tables.kind 64 tables.word_at tables.waits (KnowsMutex table 64) tables.opened (tables.calls_on (lock_of s)) (tables.view p) × KnowsSpinQueue (tables.calls_on (lock_of s)) (tables.view p) (tables.spun p))

@@ -1,5 +1,6 @@
 //! The copies of all objects' histories.
 ghost use Rattle.std.specs.Prelude.{◌≡◌, ◌≢◌, ℕ, ◌<◌, length, slice_get, slice_index_or, Some};
+ghost use Rattle.lock_core.specs.Pasts.{GoesOn};
 ghost use Rattle.mm_serve.specs.Copying.{IsCopied, IsToCopy, KnowPasts};
 ghost use Rattle.mm_serve.specs.Workers.{EachOf};
 
@@ -22,7 +23,7 @@ pub(crate) fn snapshot_all<S: SharedObject, W: Wait, C: Crew>(
     requires long { length results.old ≡ length sites.now }
     requires some { (k : ℕ) (s : S) → slice_get sites.now k ≡ Some s →
         0 < length (S.calls_on s) }
-    ensures copied { EachOf (IsCopied S.idle S.hand S.is_space S.calls_on results.new)
+    ensures copied { EachOf (IsCopied S.idle S.hand S.past S.is_space S.calls_on results.new)
         sites.now gathered.new.items }
     ensures long { length results.new ≡ length sites.now }
 {
@@ -46,6 +47,9 @@ pub(crate) fn recall<S: SharedObject>(sites: &[S], gathered: &mut Vec<S::Pass>, 
         slice_get gathered.new.items k ≡ slice_get gathered.old.items k }
     ensures hands { (k : ℕ) (p : S.Pass) → S.hand (slice_index_or gathered.new.items k p) ≡
         S.hand (slice_index_or gathered.old.items k p) }
+    ensures goes_on { (k : ℕ) (p : S.Pass) →
+        GoesOn (S.past (slice_index_or gathered.old.items k p))
+        (S.past (slice_index_or gathered.new.items k p)) }
     ensures past { (s : S) (p : S.Pass) → slice_get sites.now object ≡ Some s →
         slice_get gathered.new.items object ≡ Some p → S.knows_past s p }
 {
@@ -58,6 +62,9 @@ pub(crate) fn recall_all<S: SharedObject>(sites: &[S], gathered: &mut Vec<S::Pas
     ensures rest { EachOf (λ k s p. S.idle s p) sites.now gathered.new.items }
     ensures hands { (k : ℕ) (p : S.Pass) → S.hand (slice_index_or gathered.new.items k p) ≡
         S.hand (slice_index_or gathered.old.items k p) }
+    ensures goes_on { (k : ℕ) (p : S.Pass) →
+        GoesOn (S.past (slice_index_or gathered.old.items k p))
+        (S.past (slice_index_or gathered.new.items k p)) }
     ensures past { KnowPasts S.knows_past sites.now gathered.new.items }
 {
     for object in 0..sites.len() {

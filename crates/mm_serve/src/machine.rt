@@ -41,7 +41,7 @@ impl<S: SharedObject, C: Crew> Machine<S, C> {
         requires rest { IsAtRest S.idle self.old }
         requires there { object < length (sites_of self.old) }
         ensures rest { IsAtRest S.idle self.new }
-        ensures recalled { HasRecalled S.hand S.knows_past object self.old self.new }
+        ensures recalled { HasRecalled S.hand S.past S.knows_past object self.old self.new }
     {
         recall(self.sites.as_slice(), &mut self.gathered, object);
     }
@@ -108,7 +108,7 @@ where
     /// own, so tasks that wait for each other can then wait for good.
     pub fn run<R: Threads + Wait + Sync, G: Gate + Sync>(&mut self, rt: &R, crew: &C, gate: &G)
         requires { IsFresh S.idle S.hand S.is_space S.calls_on self.old }
-        ensures ran { HasRun S.idle S.hand S.is_space S.calls_on self.old self.new }
+        ensures ran { HasRun S.idle S.hand S.past S.is_space S.calls_on self.old self.new }
         ensures legal { (script : Listing) → IsMachineOf S.is_space S.calls_on script self.old →
             HasLegalResults S.hand script self.new }
         ensures rest { IsAtRest S.idle self.new }

@@ -7,6 +7,7 @@ ghost use Rattle.lock_core.specs.Records.{row};
 ghost use Rattle.guarded.specs.Copying.{IsKnownHistory};
 ghost use Rattle.guarded.specs.Gathering.{HasDoneAll};
 ghost use Rattle.guarded.specs.Handles.{lock_of};
+ghost use Rattle.mm_serve.specs.Copying.{WasHeldWith};
 ghost use Rattle.mm_serve.specs.Serving.{AllTasksDone, IsIdle, IsServing};
 
 use cpu_task::{Crew, Gate};
@@ -114,6 +115,7 @@ pub(crate) fn snapshot<O: Served + Drop, L: SleepLock<O>, W: Wait, C: Crew>(
     ensures idle { IsIdle (L.view pass.new).hand }
     ensures copied { IsKnownHistory O.object (unavailable L.kind)
         (L.calls_on (lock_of guarded.now)) (L.view pass.new).hand out.new }
+    ensures held { WasHeldWith out.new (L.view pass.new).past }
 {
     guarded.begin(rt, pass, 0);
     guarded.snapshot(rt, pass, cpu, crew, out);

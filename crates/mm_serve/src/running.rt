@@ -62,7 +62,7 @@ where
     requires tasks { (k : ℕ) (s : S) → slice_get sites.now k ≡ Some s →
         length (S.calls_on s) ≡ length workers.items }
     requires blank { AreBlank S.is_space S.calls_on sites.now results.old }
-    ensures copied { EachOf (IsCopied S.idle S.hand S.is_space S.calls_on results.new)
+    ensures copied { EachOf (IsCopied S.idle S.hand S.past S.is_space S.calls_on results.new)
         sites.now gathered.new.items }
     ensures long { length results.new ≡ length sites.now }
     ensures past { KnowPasts S.knows_past sites.now gathered.new.items }

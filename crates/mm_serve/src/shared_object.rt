@@ -1,9 +1,11 @@
 //! An object as a machine deals with it, whatever its kind and its lock.
-ghost use Rattle.std.specs.Prelude.{◌≡◌, ℕ, ◌+◌, ◌<◌, Bool, [], length, IfOk};
+ghost use Rattle.std.specs.Prelude.{◌≡◌, ℕ, ◌+◌, ◌<◌, Bool, List, [], length, IfOk};
 ghost use Rattle.word_bits.specs.Histories.{Plan as Calls};
 ghost use Rattle.lock_core.specs.declared.view.Hand.{Hand};
+ghost use Rattle.lock_core.specs.declared.view.Moment.{Moment};
+ghost use Rattle.lock_core.specs.Pasts.{GoesOn};
 ghost use Rattle.lock_core.specs.Records.{row};
-ghost use Rattle.mm_serve.specs.Copying.{blank};
+ghost use Rattle.mm_serve.specs.Copying.{WasHeldWith, blank};
 ghost use Rattle.mm_serve.specs.Histories.{HasDoneOn, AllHaveDone, IsKnownHistoryOn, IsPlanOn};
 ghost use Rattle.mm_serve.specs.Workers.{KnowsMore};
 
@@ -25,6 +27,9 @@ pub trait SharedObject: Sized {
 
     // What is known of a pass.
     ghost hand: { Self.Pass → Hand };
+
+    // The moments of the object's table up to the pass's last step, the last one first.
+    ghost past: { Self.Pass → List Moment };
 
     // The pass is one of this object's. It has no task's number, and owes nothing.
     ghost idle: { Self → Self.Pass → Type 0 };
@@ -109,12 +114,14 @@ pub trait SharedObject: Sized {
         requires blank { out.old ≡ blank (is_space self.now) (calls_on self.now) }
         ensures own { idle self.now pass.new }
         ensures copied { IsKnownHistoryOn (is_space self.now) (calls_on self.now)
-            (hand pass.new) out.new };
+            (hand pass.new) out.new }
+        ensures held { WasHeldWith out.new (past pass.new) };
 
     /// Looks at the object's table, after which the pass knows its past.
     fn recall(&self, pass: &mut Self::Pass)
         requires own { idle self.now pass.old }
         ensures own { idle self.now pass.new }
         ensures kept { hand pass.new ≡ hand pass.old }
+        ensures goes_on { GoesOn (past pass.old) (past pass.new) }
         ensures past { knows_past self.now pass.new };
 }

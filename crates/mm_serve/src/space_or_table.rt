@@ -35,7 +35,7 @@ impl<A: SpaceLock, T: TableLock> SharedObject for SpaceOrTable<Guarded<A, Areas>
     ghost use Rattle.mm_serve.specs.Serving.{IsServing};
     ghost use Rattle.mm_serve.specs.Sites.{Matches, holds_space};
     ghost use Rattle.mm_serve.specs.UnderLocks.{IsIdleUnder, KnowsPastUnder};
-    ghost use Rattle.mm_serve.specs.UnderLocks.{calls_under, hand_under};
+    ghost use Rattle.mm_serve.specs.UnderLocks.{calls_under, hand_under, past_under};
 
     type Pass = SpaceOrTablePass<A::Pass, T::Pass>;
 
@@ -44,6 +44,8 @@ impl<A: SpaceLock, T: TableLock> SharedObject for SpaceOrTable<Guarded<A, Areas>
     ghost calls_on = { calls_under A.SleepLock T.SleepLock };
 
     ghost hand = { hand_under A.SleepLock T.SleepLock };
+
+    ghost past = { past_under A.SleepLock T.SleepLock };
 
     ghost idle = { IsIdleUnder A.SleepLock T.SleepLock };
 
@@ -169,8 +171,14 @@ impl<A: SpaceLock, T: TableLock> SharedObject for SpaceOrTable<Guarded<A, Areas>
 
     fn recall(&self, pass: &mut SpaceOrTablePass<A::Pass, T::Pass>) {
         match (self, pass) {
-            (SpaceOrTable::Space(site), SpaceOrTablePass::OfSpace(pass)) => site.recall(pass),
-            (SpaceOrTable::Table(site), SpaceOrTablePass::OfTable(pass)) => site.recall(pass),
+            (SpaceOrTable::Space(site), SpaceOrTablePass::OfSpace(pass)) => {
+                site.recall(pass);
+                site.recall_queue(pass);
+            }
+            (SpaceOrTable::Table(site), SpaceOrTablePass::OfTable(pass)) => {
+                site.recall(pass);
+                site.recall_queue(pass);
+            }
             _ => unreachable!(),
         }
     }

@@ -5,4 +5,4 @@ use Rattle.mm_serve.proofs.Each.{Between}
 use Rattle.mm_serve.proofs.copying.snapshot_all.Given as goal
 
 abbrev pub invariant-loop-object : goal.invariant-loop-object
-invariant-loop-object g l = (length l.results ≡ length l.sites) × EachOf (Between (IsCopied g.S.SharedObject.idle g.S.SharedObject.hand g.S.SharedObject.is_space g.S.SharedObject.calls_on l.results) (IsToCopy g.S.SharedObject.idle g.S.SharedObject.hand g.S.SharedObject.is_space g.S.SharedObject.calls_on l.results) l.object) l.sites l.gathered.items
+invariant-loop-object g l = (length l.results ≡ length l.sites) × EachOf (Between (IsCopied g.S.SharedObject.idle g.S.SharedObject.hand g.S.SharedObject.past g.S.SharedObject.is_space g.S.SharedObject.calls_on l.results) (IsToCopy g.S.SharedObject.idle g.S.SharedObject.hand g.S.SharedObject.is_space g.S.SharedObject.calls_on l.results) l.object) l.sites l.gathered.items

@@ -14,3 +14,14 @@ returns-clause-copied g c =
     let e = (g.L.SleepLock.view c.end.new.pass).hand in
     still-known o u k b e c.snapshot.new.out (ap {A = Hand} (λ x. x.records) c.end.ensures.kept.0 ∙ c.snapshot.ensures.kept.records)
     (c.snapshot.ensures.legal (all-gathered o u k b (still-done o u k h b c.begin.ensures.done c.requires.done)))
+
+pub returns-clause-held : goal.returns-clause-held
+returns-clause-held g c = let copies = c.snapshot.ensures.copied in record {
+  entries = copies.entries;
+  log_is = copies.log_is;
+  task = _;
+  takes = _;
+  until = copies.last;
+  held = copies.ended;
+  goes_on = λ p t. c.end.ensures.goes_on p (copies.goes_on p t);
+}

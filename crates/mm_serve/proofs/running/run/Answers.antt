@@ -15,4 +15,4 @@ snapshot_all-requires-clause-some g c = λ k s at. let many = c.requires.tasks k
 
 pub returns-clause-copied : goal.returns-clause-copied
 returns-clause-copied g c =
-    still-copied g.S.SharedObject.idle g.S.SharedObject.hand g.S.SharedObject.is_space g.S.SharedObject.calls_on c.args.sites.now c.snapshot_all.new.gathered.items c.recall_all.new.gathered.items c.snapshot_all.new.results c.snapshot_all.ensures.copied c.recall_all.ensures.rest c.recall_all.ensures.hands
+    still-copied g.S.SharedObject.idle g.S.SharedObject.hand g.S.SharedObject.past g.S.SharedObject.is_space g.S.SharedObject.calls_on c.args.sites.now c.snapshot_all.new.gathered.items c.recall_all.new.gathered.items c.snapshot_all.new.results c.snapshot_all.ensures.copied c.recall_all.ensures.rest c.recall_all.ensures.hands c.recall_all.ensures.goes_on

@@ -9,15 +9,15 @@ pub returns-clause-ran : goal.returns-clause-ran
 returns-clause-ran g c = record {
   sites = refl;
   long = c.run.ensures.long ∙ ap length c.as_slice.ensures.value;
-  copied = subst (λ (sites : List g.row.S.Denot). EachOf (IsCopied g.S.SharedObject.idle g.S.SharedObject.hand g.S.SharedObject.is_space g.S.SharedObject.calls_on c.run.new.results) sites c.run.new.gathered.items) c.as_slice.ensures.value c.run.ensures.copied;
+  copied = subst (λ (sites : List g.row.S.Denot). EachOf (IsCopied g.S.SharedObject.idle g.S.SharedObject.hand g.S.SharedObject.past g.S.SharedObject.is_space g.S.SharedObject.calls_on c.run.new.results) sites c.run.new.gathered.items) c.as_slice.ensures.value c.run.ensures.copied;
 }
 
 pub returns-clause-legal : goal.returns-clause-legal
 returns-clause-legal g c = λ script is.
     let ran = returns-clause-ran g c in
     let sites = c.args.self.now.sites.items in
-    let legal = all-legal g.S.SharedObject.idle g.S.SharedObject.hand g.S.SharedObject.is_space g.S.SharedObject.calls_on script sites c.run.new.gathered.items c.run.new.results is.many is.plans is.kinds ran.copied ran.long in record {
-      complete = all-complete g.S.SharedObject.idle g.S.SharedObject.hand g.S.SharedObject.is_space g.S.SharedObject.calls_on script sites c.run.new.gathered.items c.run.new.results is.many is.plans is.kinds ran.copied ran.long;
+    let legal = all-legal g.S.SharedObject.idle g.S.SharedObject.hand g.S.SharedObject.past g.S.SharedObject.is_space g.S.SharedObject.calls_on script sites c.run.new.gathered.items c.run.new.results is.many is.plans is.kinds ran.copied ran.long in record {
+      complete = all-complete g.S.SharedObject.idle g.S.SharedObject.hand g.S.SharedObject.past g.S.SharedObject.is_space g.S.SharedObject.calls_on script sites c.run.new.gathered.items c.run.new.results is.many is.plans is.kinds ran.copied ran.long;
       told = legal.0;
       legal = legal.1;
       known = legal.2;
@@ -25,7 +25,7 @@ returns-clause-legal g c = λ script is.
 
 pub returns-clause-rest : goal.returns-clause-rest
 returns-clause-rest g c =
-    each-map (IsCopied g.S.SharedObject.idle g.S.SharedObject.hand g.S.SharedObject.is_space g.S.SharedObject.calls_on c.run.new.results) (λ k s p. g.S.SharedObject.idle s p) c.args.self.now.sites.items c.run.new.gathered.items (returns-clause-ran g c).copied
+    each-map (IsCopied g.S.SharedObject.idle g.S.SharedObject.hand g.S.SharedObject.past g.S.SharedObject.is_space g.S.SharedObject.calls_on c.run.new.results) (λ k s p. g.S.SharedObject.idle s p) c.args.self.now.sites.items c.run.new.gathered.items (returns-clause-ran g c).copied
     (λ k s p lt at r. r.0)
 
 pub returns-clause-past : goal.returns-clause-past

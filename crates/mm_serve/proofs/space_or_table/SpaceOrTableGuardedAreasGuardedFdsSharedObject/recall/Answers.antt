@@ -1,22 +1,48 @@
+use Rattle.std.proofs.Common.{sym, subst}
+use Rattle.vma_map.specs.Spaces.{space}
+use Rattle.fd_table.specs.Tables.{table}
+use Rattle.lock_core.specs.Pasts.{GoesOn}
+use Rattle.lock_core.specs.Shown.{Shown}
+use Rattle.guarded.specs.MutexLocks.{KnowsMutex}
+use Rattle.guarded.specs.RwSemLocks.{KnowsRwSem}
+use Rattle.mm_serve.specs.Pasts.{KnowsPast}
 use Rattle.mm_serve.proofs.space_or_table.SpaceOrTableGuardedAreasGuardedFdsSharedObject.recall.Goals.{in-Space-OfSpace, in-Table-OfTable}
 use Rattle.mm_serve.proofs.space_or_table.SpaceOrTableGuardedAreasGuardedFdsSharedObject.recall.Goals as goal
 
+pub returns-clause-goes_on : goal.returns-clause-goes_on
+returns-clause-goes_on g c = elim c.match-self.branch [
+  | in-Space-OfSpace w ↦ rw (w.in-Space-OfSpace.is-1, w.pass-is) (subst (λ (v : Shown). GoesOn (g.A.SleepLock.view w.in-Space-OfSpace.pass).past v.past) (sym w.recall_queue.ensures.kept) w.recall.ensures.goes_on)
+  | in-Table-OfTable w ↦ rw (w.in-Table-OfTable.is-1, w.pass-is) (subst (λ (v : Shown). GoesOn (g.T.SleepLock.view w.in-Table-OfTable.pass).past v.past) (sym w.recall_queue-in-Table-OfTable.ensures.kept) w.recall-in-Table-OfTable.ensures.goes_on)
+]
+
 pub returns-clause-past : goal.returns-clause-past
 returns-clause-past g c = elim c.match-self.branch [
-  | in-Space-OfSpace w ↦ rw (w.in-Space-OfSpace.is-0, w.pass-is) (record {
-    last = w.recall.ensures.last;
-    new = w.recall.ensures.new;
-    begins = w.recall.ensures.begins;
-    always = w.recall.ensures.always;
-    moves = w.recall.ensures.moves;
-    told = g.met.A.SpaceLock.is_semaphore (g.A.SleepLock.calls_on w.in-Space-OfSpace.site.lock) (g.A.SleepLock.view w.recall.new.pass) w.recall.ensures.told;
-  })
-  | in-Table-OfTable w ↦ rw (w.in-Table-OfTable.is-0, w.pass-is) (record {
-    last = w.recall-in-Table-OfTable.ensures.last;
-    new = w.recall-in-Table-OfTable.ensures.new;
-    begins = w.recall-in-Table-OfTable.ensures.begins;
-    always = w.recall-in-Table-OfTable.ensures.always;
-    moves = w.recall-in-Table-OfTable.ensures.moves;
-    told = g.met.T.TableLock.is_mutex (g.T.SleepLock.calls_on w.in-Table-OfTable.site.lock) (g.T.SleepLock.view w.recall-in-Table-OfTable.new.pass) w.recall-in-Table-OfTable.ensures.told;
-  })
+  | in-Space-OfSpace w ↦ rw (w.in-Space-OfSpace.is-0, w.pass-is) (
+      let l = g.A.SleepLock in
+      let k = l.calls_on w.in-Space-OfSpace.site.lock in (
+        subst (λ (v : Shown). KnowsPast space l.kind 257 l.word_at l.waits (KnowsRwSem space 257) l.opened k v) (sym w.recall_queue.ensures.kept) (record {
+          last = w.recall.ensures.last;
+          new = w.recall.ensures.new;
+          begins = w.recall.ensures.begins;
+          always = w.recall.ensures.always;
+          moves = w.recall.ensures.moves;
+          told = g.met.A.SpaceLock.is_semaphore k (l.view w.recall.new.pass) w.recall.ensures.told;
+        }),
+        g.met.A.SpaceLock.has_queue k (l.view w.recall_queue.new.pass) (l.spun w.recall_queue.new.pass) w.recall_queue.ensures.told,
+      )
+      )
+  | in-Table-OfTable w ↦ rw (w.in-Table-OfTable.is-0, w.pass-is) (
+      let l = g.T.SleepLock in
+      let k = l.calls_on w.in-Table-OfTable.site.lock in (
+        subst (λ (v : Shown). KnowsPast table l.kind 64 l.word_at l.waits (KnowsMutex table 64) l.opened k v) (sym w.recall_queue-in-Table-OfTable.ensures.kept) (record {
+          last = w.recall-in-Table-OfTable.ensures.last;
+          new = w.recall-in-Table-OfTable.ensures.new;
+          begins = w.recall-in-Table-OfTable.ensures.begins;
+          always = w.recall-in-Table-OfTable.ensures.always;
+          moves = w.recall-in-Table-OfTable.ensures.moves;
+          told = g.met.T.TableLock.is_mutex k (l.view w.recall-in-Table-OfTable.new.pass) w.recall-in-Table-OfTable.ensures.told;
+        }),
+        g.met.T.TableLock.has_queue k (l.view w.recall_queue-in-Table-OfTable.new.pass) (l.spun w.recall_queue-in-Table-OfTable.new.pass) w.recall_queue-in-Table-OfTable.ensures.told,
+      )
+      )
 ]

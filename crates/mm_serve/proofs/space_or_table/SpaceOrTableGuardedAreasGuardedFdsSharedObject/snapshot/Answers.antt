@@ -26,3 +26,9 @@ returns-clause-copied g c = elim c.match-self.branch [
   | in-Space-OfSpace w ↦ rw (w.in-Space-OfSpace.is-0, w.pass-is, w.out-is) (history-of space g.A.SleepLock.kind semaphore g.met.A.SpaceLock.counts (g.A.SleepLock.calls_on w.in-Space-OfSpace.site.lock) (g.A.SleepLock.view w.snapshot.new.pass).hand w.snapshot.new.out w.snapshot.ensures.copied)
   | in-Table-OfTable w ↦ rw (w.in-Table-OfTable.is-0, w.pass-is, w.out-is) (history-of table g.T.SleepLock.kind mutex g.met.T.TableLock.owned (g.T.SleepLock.calls_on w.in-Table-OfTable.site.lock) (g.T.SleepLock.view w.snapshot-in-Table-OfTable.new.pass).hand w.snapshot-in-Table-OfTable.new.out w.snapshot-in-Table-OfTable.ensures.copied)
 ]
+
+pub returns-clause-held : goal.returns-clause-held
+returns-clause-held g c = elim c.match-self.branch [
+  | in-Space-OfSpace w ↦ rw (w.pass-is, w.out-is) w.snapshot.ensures.held
+  | in-Table-OfTable w ↦ rw (w.pass-is, w.out-is) w.snapshot-in-Table-OfTable.ensures.held
+]
