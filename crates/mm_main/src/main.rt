@@ -2,13 +2,15 @@
 //! prints for each object one history with every reply and the state that it leaves.
 #![tactic(auto)]
 
-ghost use Rattle.std.specs.Prelude.{◌≡◌, IfOk, None, drop, length};
+ghost use Rattle.std.specs.Prelude.{◌≡◌, ◌≤◌, ◌+◌, IfOk, None, drop, false, length, true};
+ghost use Rattle.std.specs.Io.KnownBytes.{IsAtEnd};
 ghost use Rattle.std.specs.Process.{exit_status};
 ghost use Rattle.std.specs.Vec.Iter.{into_iter_items};
-ghost use Rattle.mm_main.specs.Answers.{AnswersTo, CompletesTo, status_number};
+ghost use Rattle.mm_main.specs.Answers.{AnswersTo, CompletesTo, TakesAtMost, status_number};
+ghost use Rattle.mm_main.specs.Answers.{read_faults, write_faults};
 ghost use Rattle.mm_main.specs.CommandLine.{said_by, said_by_line};
 ghost use Rattle.mm_main.specs.Kept.{HasServed};
-ghost use Rattle.mm_main.specs.Requests.{request};
+ghost use Rattle.mm_main.specs.Requests.{reads_input, request};
 
 mod input;
 mod objects;
@@ -85,6 +87,14 @@ where
     ensures complete { CompletesTo S.left S.faults K.faults K.written source.old source.new
         sink.old sink.new (HasServed A.SleepLock T.SleepLock) kept.new
         (said_by words.now) result }
+    ensures read_faults { S.faults source.new ≡ read_faults result (S.faults source.old) }
+    ensures write_faults { K.faults sink.new ≡ write_faults result (K.faults sink.old) }
+    ensures taken { TakesAtMost 1048577 (S.left source.old) (S.left source.new) }
+    ensures unread { reads_input (said_by words.now) ≡ false → source.new ≡ source.old }
+    ensures few_reads { S.gave source.new ≤ S.gave source.old + 1048577 }
+    ensures one_end { S.ended source.new ≤ S.ended source.old + 1 }
+    ensures whole { result ≡ Status.Done → reads_input (said_by words.now) ≡ true →
+        IsAtEnd (S.left source.new) }
 {
     top(rt, alloc, words, source, sink, crew, &OpenGate, kept)
 }
@@ -108,6 +118,14 @@ fn run<R: Threads + Wait + Sync, S: Source, K: Sink>(
         sink.old sink.new
         (HasServed ⟦<RwSem<Areas> as SleepLock<Areas>>⟧ ⟦<Mutex<Fds> as SleepLock<Fds>>⟧)
         kept.new (said_by_line line) result }
+    ensures read_faults { S.faults source.new ≡ read_faults result (S.faults source.old) }
+    ensures write_faults { K.faults sink.new ≡ write_faults result (K.faults sink.old) }
+    ensures taken { TakesAtMost 1048577 (S.left source.old) (S.left source.new) }
+    ensures unread { reads_input (said_by_line line) ≡ false → source.new ≡ source.old }
+    ensures few_reads { S.gave source.new ≤ S.gave source.old + 1048577 }
+    ensures one_end { S.ended source.new ≤ S.ended source.old + 1 }
+    ensures whole { result ≡ Status.Done → reads_input (said_by_line line) ≡ true →
+        IsAtEnd (S.left source.new) }
 {
     let Ok(words) = words(alloc, line) else {
         return Status::NoMemory;
