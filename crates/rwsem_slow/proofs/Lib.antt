@@ -15,3 +15,4 @@ pub mod ReaderSteps
 pub mod BiasHolds
 pub mod Unqueued
 pub mod Picking
+pub mod Counting

@@ -9,7 +9,7 @@ ghost use Rattle.lock_core.specs.Views.{SpinHolds, SpinRests};
 ghost use Rattle.rwsem_wake.specs.declared.view.Wait.TheVariants.{Reads};
 ghost use Rattle.rwsem_wake.specs.SemParts.{some_of};
 ghost use Rattle.rwsem_slow.specs.Places.{IsOutside, StepsOn, seen_of};
-ghost use Rattle.rwsem_slow.specs.Queued.{AppendedBy, EntersLock, IsInLine, IsInTransit, KeepsLine, Shares};
+ghost use Rattle.rwsem_slow.specs.Queued.{AppendedBy, CountsReading, EntersLock, IsInLine, IsInTransit, KeepsLine, Shares};
 ghost use Rattle.rwsem_slow.specs.Removals.{KnowsList};
 
 use crate::hint::note_reader;
@@ -159,6 +159,8 @@ pub fn read_in_line<O: Object, W: Wait, C: Cpu, K: Crew>(
     ensures pending { IfErr result (λ why.
         SawPending why (seen_of pass.old) (seen_of pass.new)) }
     ensures asked { IfErr result (λ _. interruptible ≡ true) }
+    ensures counts { IfOk result (λ how. CountsReading how (C.sleeps cpu.old) (C.sleeps cpu.new)
+        (C.rescheds cpu.old) (C.rescheds cpu.new)) }
 {
     qspin_queue::lock(site, rt, pass);
     let Some(empty) = reading::settle(site, pass) else {

@@ -181,6 +181,8 @@ pub fn spin<O: Object, W: Wait, C: Cpu>(
     ensures missed { result ≡ false → OnlyTried (seen_of pass.old) (seen_of pass.new) }
     ensures saw { result ≡ false → SeesShut (seen_of pass.old) (seen_of pass.new) }
     ensures out { result ≡ false → held_in pass.new ≡ No }
+    ensures sleeps { C.sleeps cpu.new ≡ C.sleeps cpu.old }
+    ensures rescheds { C.rescheds cpu.old ≤ C.rescheds cpu.new }
 {
     for _ in rt.forever() {
         if try_outside(site, rt, pass) {

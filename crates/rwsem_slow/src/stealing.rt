@@ -9,7 +9,7 @@ ghost use Rattle.lock_core.specs.Shown.{LeavesHold};
 ghost use Rattle.lock_core.specs.Signals.{OnlyConsumed};
 ghost use Rattle.lock_core.specs.Views.{SpinRests, ticked};
 ghost use Rattle.rwsem_slow.specs.Places.{IsOutside, StepsOn, seen_of};
-ghost use Rattle.rwsem_slow.specs.Queued.{EntersLock, IsInTransit, KeepsLine, Shares};
+ghost use Rattle.rwsem_slow.specs.Queued.{CountsReading, EntersLock, IsInTransit, KeepsLine, Shares};
 ghost use Rattle.rwsem_slow.specs.Stealing.{IsShared, MaySteal, StealsBy, WentOn, left_by};
 ghost use Rattle.rwsem_slow.specs.Wakes.{MayWake};
 
@@ -150,6 +150,8 @@ pub fn read_slowly<O: Object, W: Wait, C: Cpu, K: Crew>(
     ensures pending { IfErr result (λ why.
         SawPending why (seen_of pass.old) (seen_of pass.new)) }
     ensures asked { IfErr result (λ _. interruptible ≡ true) }
+    ensures counts { IfOk result (λ how. CountsReading how (C.sleeps cpu.old) (C.sleeps cpu.new)
+        (C.rescheds cpu.old) (C.rescheds cpu.new)) }
 {
     if steal(site, pass, left) {
         // Spinning writers see early that readers have the lock: not only once the readers that

@@ -1,5 +1,6 @@
 //! The slow path of a writer: its wait lock, its list and its sleep.
 ghost use Rattle.std.specs.Prelude.{◌≡◌, ◌≢◌, ◌+◌, true, IfErr, IfOk, IfSome, IsSome};
+ghost use Rattle.lock_core.specs.declared.how.How.TheVariants.{Slept};
 ghost use Rattle.lock_core.specs.declared.view.Held.TheVariants.{No, Alone};
 ghost use Rattle.lock_core.specs.Handles.{plan_of, view_of, hand_in, task_in, held_in, SitsAt};
 ghost use Rattle.lock_core.specs.Locking.{SawPending, Takes};
@@ -199,6 +200,7 @@ pub fn write_in_line<O: Object, W: Wait, C: Cpu, K: Crew>(
     ensures pending { IfErr result (λ why.
         SawPending why (seen_of pass.old) (seen_of pass.new)) }
     ensures asked { IfErr result (λ _. interruptible ≡ true) }
+    ensures slept { IfOk result (λ how. how ≡ Slept) }
 {
     qspin_queue::lock(site, rt, pass);
     queue(site, pass, cpu, crew);

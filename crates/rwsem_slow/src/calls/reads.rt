@@ -6,6 +6,7 @@ ghost use Rattle.lock_core.specs.Locking.{Got, Interrupts, KeepsPlace};
 ghost use Rattle.lock_core.specs.Shown.{PastGoesOn};
 ghost use Rattle.rwsem_slow.specs.RwSems.{count_at};
 ghost use Rattle.rwsem_slow.specs.Handles.{shown_of, hand_in, SitsAt, TakesShared};
+ghost use Rattle.rwsem_slow.specs.Queued.{CountsReading};
 
 use super::{RwPass, RwSem};
 use crate::hint::note_reader;
@@ -33,6 +34,8 @@ impl<O: Object> RwSem<O> {
         ensures took { TakesShared O.object self.now pass.old pass.new }
         ensures how { Got result (shown_of pass.old) (shown_of pass.new) }
         ensures line { KeepsPlace semaphore true count_at (shown_of pass.old) (shown_of pass.new) }
+        ensures counts { CountsReading result (C.C.sleeps cpu.old) (C.C.sleeps cpu.new)
+            (C.C.rescheds cpu.old) (C.C.rescheds cpu.new) }
     {
         match self.read_common(rt, pass, cpu, crew, false) {
             Ok(how) => how,
@@ -63,6 +66,9 @@ impl<O: Object> RwSem<O> {
             (shown_of pass.old) (shown_of pass.new)) }
         ensures stood { IfErr result (λ _. KeepsPlace semaphore false count_at
             (shown_of pass.old) (shown_of pass.new)) }
+        ensures counts { IfOk result (λ how. CountsReading how
+            (C.C.sleeps cpu.old) (C.C.sleeps cpu.new)
+            (C.C.rescheds cpu.old) (C.C.rescheds cpu.new)) }
     {
         self.read_common(rt, pass, cpu, crew, true)
     }
@@ -92,6 +98,9 @@ impl<O: Object> RwSem<O> {
         ensures stood { IfErr result (λ _. KeepsPlace semaphore false count_at
             (shown_of pass.old) (shown_of pass.new)) }
         ensures asked { IfErr result (λ _. interruptible ≡ true) }
+        ensures counts { IfOk result (λ how. CountsReading how
+            (C.C.sleeps cpu.old) (C.C.sleeps cpu.new)
+            (C.C.rescheds cpu.old) (C.C.rescheds cpu.new)) }
     {
         match steps::read_add(&self.site, &mut pass.pass) {
             Ok(()) => {

@@ -1,11 +1,12 @@
 //! The calls that take a semaphore alone.
-ghost use Rattle.std.specs.Prelude.{◌≡◌, ◌+◌, Bool, true, false, IfErr, IfOk, IsSome};
+ghost use Rattle.std.specs.Prelude.{◌≡◌, ◌≤◌, ◌+◌, Bool, true, false, IfErr, IfOk, IsSome};
 ghost use Rattle.lock_core.specs.declared.view.Held.TheVariants.{No};
 ghost use Rattle.lock_core.specs.Kinds.{semaphore};
 ghost use Rattle.lock_core.specs.Locking.{Got, Interrupts, KeepsPlace, Looks, OnlyTried};
 ghost use Rattle.lock_core.specs.Shown.{PastGoesOn};
 ghost use Rattle.rwsem_slow.specs.RwSems.{count_at};
 ghost use Rattle.rwsem_slow.specs.Handles.{shown_of, hand_in, KeepsFronts, KeepsMisses, SitsAt, TakesAlone};
+ghost use Rattle.rwsem_slow.specs.Queued.{CountsWriting};
 ghost use Rattle.rwsem_slow.specs.Spinning.{SawIfTried};
 
 use super::{RwPass, RwSem};
@@ -36,6 +37,8 @@ impl<O: Object> RwSem<O> {
         ensures how { Got result (shown_of pass.old) (shown_of pass.new) }
         ensures line { (shared : Bool) → KeepsPlace semaphore shared count_at
             (shown_of pass.old) (shown_of pass.new) }
+        ensures counts { CountsWriting result (C.C.sleeps cpu.old) (C.C.sleeps cpu.new)
+            (C.C.rescheds cpu.old) (C.C.rescheds cpu.new) }
     {
         match self.write_common(rt, pass, cpu, crew, false) {
             Ok(how) => how,
@@ -63,6 +66,9 @@ impl<O: Object> RwSem<O> {
             (shown_of pass.old) (shown_of pass.new)) }
         ensures line { (shared : Bool) → KeepsPlace semaphore shared count_at
             (shown_of pass.old) (shown_of pass.new) }
+        ensures counts { IfOk result (λ how. CountsWriting how
+            (C.C.sleeps cpu.old) (C.C.sleeps cpu.new)
+            (C.C.rescheds cpu.old) (C.C.rescheds cpu.new)) }
     {
         self.write_common(rt, pass, cpu, crew, true)
     }
@@ -89,6 +95,9 @@ impl<O: Object> RwSem<O> {
         ensures asked { IfErr result (λ _. interruptible ≡ true) }
         ensures line { (shared : Bool) → KeepsPlace semaphore shared count_at
             (shown_of pass.old) (shown_of pass.new) }
+        ensures counts { IfOk result (λ how. CountsWriting how
+            (C.C.sleeps cpu.old) (C.C.sleeps cpu.new)
+            (C.C.rescheds cpu.old) (C.C.rescheds cpu.new)) }
     {
         match self.take_alone(rt, pass, cpu, crew, interruptible) {
             Ok(how) => {
@@ -118,6 +127,8 @@ impl<O: Object> RwSem<O> {
         ensures out { result ≡ false → (hand_in pass.new).held ≡ No }
         ensures stood { result ≡ false → KeepsFronts pass.old pass.new →
             KeepsMisses pass.old pass.new }
+        ensures sleeps { C.sleeps cpu.new ≡ C.sleeps cpu.old }
+        ensures rescheds { C.rescheds cpu.old ≤ C.rescheds cpu.new }
     {
         if cpu.need_resched() {
             return false;
@@ -155,6 +166,9 @@ impl<O: Object> RwSem<O> {
         ensures asked { IfErr result (λ _. interruptible ≡ true) }
         ensures line { (shared : Bool) → KeepsPlace semaphore shared count_at
             (shown_of pass.old) (shown_of pass.new) }
+        ensures counts { IfOk result (λ how. CountsWriting how
+            (C.C.sleeps cpu.old) (C.C.sleeps cpu.new)
+            (C.C.rescheds cpu.old) (C.C.rescheds cpu.new)) }
     {
         let Err(_) = steps::write_try(&self.site, &mut pass.pass) else {
             return Ok(How::Fast);

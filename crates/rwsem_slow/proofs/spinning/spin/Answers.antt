@@ -2,6 +2,7 @@ use Rattle.std.proofs.Common.{ap, arith}
 use Rattle.lock_core.proofs.Within.{sees-within}
 use Rattle.rwsem_slow.specs.Places.{seen_of}
 use Rattle.rwsem_slow.specs.RwSems.{V}
+use Rattle.rwsem_slow.proofs.Counting.{answers-rise}
 use Rattle.rwsem_slow.proofs.spinning.spin.Goals as goal
 
 pub returns-then-is_reader_owned-clause-saw : goal.returns-then-is_reader_owned-clause-saw
@@ -17,3 +18,6 @@ returns-then-need_resched-clause-saw g c = λ _. let i = c.loop.invariant in let
   sees-within (seen_of c.args.pass.now) (seen_of c.loop.pass) (seen_of c.try_outside.new.pass) (seen_of c.is_reader_owned.new.pass)
       i.7.keeps.task i.7.keeps.counts.steps i.2.goes_on saw.1 (ap (λ (z : V). z.hand.saw) looks) (omega (arith, steps)) c.is_reader_owned.ensures.goes_on,
 )
+
+pub returns-then-need_resched-clause-rescheds : goal.returns-then-need_resched-clause-rescheds
+returns-then-need_resched-clause-rescheds g c = let same = c.loop.invariant.9 in let more = answers-rise (g.C.Cpu.rescheds c.loop.cpu) (g.C.Cpu.rescheds c.need_resched.new.self) c.need_resched.result c.need_resched.ensures.rescheds in omega (arith, same, more)

@@ -10,3 +10,4 @@ invariant-loop g l = let v = l.fn.pass.seat.me.0.view in let u = l.pass.seat.me.
     (goal.iterator-loop g).can_next l.iterator' × (goal.iterator-loop g).is_finite l.iterator'
     × StepsOn l.site l.fn.pass l.pass × IsSome l.pass.face.task × (l.pass.face.held ≡ No)
     × IsOutside u × StandsSame v u × OnlyTried (seen_of l.fn.pass) (seen_of l.pass)
+    × (g.C.Cpu.sleeps l.cpu ≡ g.C.Cpu.sleeps l.fn.cpu) × (g.C.Cpu.rescheds l.cpu ≡ g.C.Cpu.rescheds l.fn.cpu)

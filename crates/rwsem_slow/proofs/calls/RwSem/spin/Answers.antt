@@ -3,6 +3,7 @@ use Rattle.lock_core.proofs.Within.{sees-within}
 use Rattle.rwsem_slow.specs.Handles.{shown_of}
 use Rattle.rwsem_slow.specs.Places.{seen_of}
 use Rattle.rwsem_slow.specs.RwSems.{V}
+use Rattle.rwsem_slow.proofs.Counting.{answers-rise}
 use Rattle.rwsem_slow.proofs.calls.RwSem.spin.Goals as goal
 
 pub returns-then-need_resched-clause-saw : goal.returns-then-need_resched-clause-saw
@@ -21,3 +22,6 @@ returns-clause-saw g c = λ failed. let looks = c.is_reader_owned.ensures.kept i
       sees-within (shown_of c.args.pass.now) (seen_of c.is_reader_owned.new.pass) (seen_of c.spin-took.new.pass) (shown_of (record { pass = c.spin-took.new.pass; queue = c.unlock.new.pass }))
           (ap (λ (z : V). z.hand.task) looks) (omega (arith, steps)) c.is_reader_owned.ensures.goes_on saw.1 refl (omega arith) (λ p e. e),
     )
+
+pub returns-then-need_resched-clause-rescheds : goal.returns-then-need_resched-clause-rescheds
+returns-then-need_resched-clause-rescheds g c = answers-rise (g.C.Cpu.rescheds c.args.cpu.now) (g.C.Cpu.rescheds c.need_resched.new.self) c.need_resched.result c.need_resched.ensures.rescheds

@@ -3,6 +3,7 @@ use Rattle.lock_core.proofs.Within.{err-all, tried-then}
 use Rattle.osq_nodes.specs.Handles.{fronts_in}
 use Rattle.rwsem_slow.specs.Handles.{shown_of}
 use Rattle.rwsem_slow.specs.RwSems.{V}
+use Rattle.rwsem_slow.proofs.Counting.{slept-counts}
 use Rattle.rwsem_slow.proofs.Showing.{first-sees, first-tried, spun-sees, waits-quit}
 use Rattle.rwsem_slow.proofs.calls.RwSem.take_alone.Goals as goal
 
@@ -16,3 +17,6 @@ returns-clause-interrupted g c = let fronts = fronts_in c.args.pass.now.queue in
     (tried-then tried failed) (c.spin.ensures.line ∙ ap (λ (n : ℕ). record { appends = n }) appends) (λ p t. c.spin.ensures.goes_on p (c.write_try.ensures.goes_on p t)) (c.spin.ensures.out c.if-spin.false) sees.1
     c.write_in_line.ensures.on.steps c.write_in_line.ensures.on.goes_on
     c.write_in_line.result (err-all c.write_in_line.result c.write_in_line.ensures.lock) c.write_in_line.ensures.waited c.write_in_line.ensures.consumed c.write_in_line.ensures.pending
+
+pub returns-clause-counts : goal.returns-clause-counts
+returns-clause-counts g c = slept-counts _ _ _ _ c.write_in_line.result c.write_in_line.ensures.slept
