@@ -38,7 +38,7 @@ use Rattle.osq_nodes.specs.declared.node.Place.TheVariants.{Out}
 use Rattle.osq_nodes.specs.declared.node.Node.{Node}
 use Rattle.osq_nodes.specs.declared.pass.OsqPass.{OsqPass}
 use Rattle.osq_nodes.specs.Places.{is_swap, is_coming_first, waits_at, takes_at}
-use Rattle.osq_nodes.specs.Steps.{placed, swapped, taking_of}
+use Rattle.osq_nodes.specs.Steps.{placed, swapped, taking_of, IsCodeOrNone}
 use Rattle.osq_nodes.specs.Kept.{RowKept, with_at}
 use Rattle.osq_nodes.specs.Words.{next_at, row_of, tail_in}
 use Rattle.osq_nodes.specs.Stated.{Changes}
@@ -142,6 +142,11 @@ kept-by v w P to n is here = is ∙ ap (λ (p : Place). stepped p v (to p n) n) 
 pub takes-code : (v : V) (prev : Option ℕ) (y : ℕ) → stepped (waits_at prev) v (taking_of (waits_at prev) y) (suc y) ≡ placed v (takes_at prev y)
 takes-code v None y = refl
 takes-code v (Some p) y = refl
+
+-- a code is at most the size
+pub code-small : (n size : ℕ) → IsCodeOrNone size n → n ≤ size
+code-small zero size is = omega arith
+code-small (suc p) size is = let l = is p refl in omega (arith, l)
 
 pub swap-found : (v : V) (n : ℕ) → (swapped v n).ext.found ≡ n
 swap-found v zero = refl

@@ -1,5 +1,5 @@
 //! The steps of a spin queue, each one atomic operation.
-ghost use Rattle.std.specs.Prelude.{◌≡◌, ◌<◌, Some, MatchOption, MatchBool};
+ghost use Rattle.std.specs.Prelude.{◌≡◌, ◌≢◌, ◌-◌, ◌<◌, ◌≤◌, Some, MatchOption, MatchBool};
 ghost use Rattle.word_bits.specs.declared.TheConstants.{MAX_TASKS};
 ghost use Rattle.lock_core.specs.Pasts.{FoundAt};
 ghost use Rattle.lock_core.specs.Views.{ticked};
@@ -163,6 +163,26 @@ pub fn is_last(osq: &Osq, pass: &mut OsqPass, task: u32, prev: Option<u32>) -> b
     step::<Brand>(osq, pass, TAIL, Op::Load) == code(task)
 }
 
+/// Swaps the own `next` for 0. The answer is the code of the successor, or 0.
+fn swap_next(osq: &Osq, pass: &mut OsqPass, task: u32, prev: Option<u32>) -> u64
+    requires own { SitsAt osq.now pass.old }
+    requires mine { task_in pass.old ≡ Some task }
+    requires here { place_in pass.old ≡ waits_at prev }
+    ensures own { SitsAt osq.now pass.new }
+    ensures number { KeepsNumber pass.old pass.new }
+    ensures goes_on { KeepsPast pass.old pass.new }
+    ensures last { IsLatest pass.new }
+    ensures code { result ≤ MAX_TASKS }
+    ensures none { result ≡ 0 → view_of pass.new ≡ ticked (view_of pass.old) }
+    ensures some { result ≢ 0
+        → view_of pass.new ≡ placed (view_of pass.old) (takes_at prev (result - 1)) }
+    ensures found { FoundAt (next_at task) result (past_of pass.new) }
+{
+    // A swap, and no load: the successor may be taking its code back in order to leave, and one of
+    // the two has the code, not both.
+    step::<Brand>(osq, pass, next_of(task), Op::Swap(0))
+}
+
 /// Swaps the own `next` for 0, and answers the successor where it had a code.
 pub fn take_next(osq: &Osq, pass: &mut OsqPass, task: u32, prev: Option<u32>) -> Option<u32>
     requires own { SitsAt osq.now pass.old }
@@ -176,9 +196,7 @@ pub fn take_next(osq: &Osq, pass: &mut OsqPass, task: u32, prev: Option<u32>) ->
         (n < MAX_TASKS) × (view_of pass.new ≡ placed (view_of pass.old) (takes_at prev n))) }
     ensures found { FoundAt (next_at task) (code_in result) (past_of pass.new) }
 {
-    // A swap, and no load: the successor may be taking its code back in order to leave, and one of
-    // the two has the code, not both.
-    let found = step::<Brand>(osq, pass, next_of(task), Op::Swap(0));
+    let found = swap_next(osq, pass, task, prev);
     if found == 0 {
         None
     } else {

@@ -213,6 +213,18 @@ fn take_with<H: SpinHost, W: Wait>(site: &Site<H>, rt: &W, pass: &mut Pass<H>, c
     }
 }
 
+/// The code of the pass's node.
+fn node_code<H: SpinHost>(site: &Site<H>, pass: &Pass<H>) -> u64
+    requires own { SitsAt site.now pass.now }
+    requires numbered { IsSome (task_in pass.now) }
+    ensures { IsOwnNode pass.now result }
+{
+    let Some(task) = pass.task() else {
+        unreachable!()
+    };
+    u64::from(task) + 1
+}
+
 /// Takes the lock by the queue.
 fn take_by_queue<H: SpinHost, W: Wait>(site: &Site<H>, rt: &W, pass: &mut Pass<H>)
     requires own { SitsAt site.now pass.old }
@@ -222,9 +234,8 @@ fn take_by_queue<H: SpinHost, W: Wait>(site: &Site<H>, rt: &W, pass: &mut Pass<H
     ensures takes { TakesQueued pass.old pass.new }
     ensures in_turn { TakesInTurn 4 pass.old pass.new }
 {
-    if let Some(task) = pass.task() {
-        take_with(site, rt, pass, u64::from(task) + 1);
-    }
+    let code = node_code(site, pass);
+    take_with(site, rt, pass, code);
 }
 
 /// Waits until the pass has the spin lock, and answers how it got it. (`queued_spin_lock`)

@@ -1,6 +1,5 @@
-use Rattle.std.proofs.Common.{◌≡◌, ℕ, ◌+◌, ◌==◌, ap, ◌∙◌, sym, subst, arith, ne_eqb, if◌then◌else◌}
+use Rattle.std.proofs.Common.{◌≡◌, ◌+◌, ap, ◌∙◌, sym, subst, arith, ne_eqb, if◌then◌else◌}
 use Rattle.lock_core.specs.declared.view.View.{View}
-use Rattle.lock_core.specs.declared.view.SpinHand.{SpinHand}
 use Rattle.lock_core.specs.declared.view.Point.TheVariants.{Holding}
 use Rattle.qspin_word.specs.Hands.{saw_word, took_at}
 use Rattle.qspin_word.specs.Handles.{FindsRival}
