@@ -135,7 +135,7 @@ impl<L: SleepLock<O>, O: Served + Drop> Guarded<L, O> {
             (L.view pass.new).past }
         ensures always { EachMoment (IsLockedThen O.object L.kind O.WORDS
             (L.calls_on (lock_of self.now)) L.word_at L.waits) (L.view pass.new).past }
-        ensures moves { Paced (IsSiteStep (L.calls_on (lock_of self.now)))
+        ensures moves { Paced (IsSiteStep (L.calls_on (lock_of self.now)) L.word_at)
             (L.view pass.new).past }
         ensures told { L.tells (L.calls_on (lock_of self.now)) (L.view pass.new) }
     {

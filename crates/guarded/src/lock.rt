@@ -142,7 +142,7 @@ pub trait SleepLock<O: Object>: Sized {
         ensures always { EachMoment
             (IsLockedThen O.object kind O.WORDS (calls_on self.now) word_at waits)
             (view pass.new).past }
-        ensures moves { Paced (IsSiteStep (calls_on self.now)) (view pass.new).past }
+        ensures moves { Paced (IsSiteStep (calls_on self.now) word_at) (view pass.new).past }
         ensures told { tells (calls_on self.now) (view pass.new) };
 
     /// Loads a word of the lock's spin queue, if it has one, after which the pass knows of each

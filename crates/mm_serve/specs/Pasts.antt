@@ -15,5 +15,5 @@ pub record KnowsPast {Call : Type 0} (o : Obj Call) (kind : Kind) (size : ℕ) (
   pub new : IsNew o size k (opened k)
   pub begins : Tail (opened k ∷ []) u.past
   pub always : EachMoment (IsLockedThen o kind size k word_at waits) u.past
-  pub moves : Paced (IsSiteStep k) u.past
+  pub moves : Paced (IsSiteStep k word_at) u.past
   pub told : tells k u
