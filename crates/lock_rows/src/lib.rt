@@ -20,8 +20,6 @@ mod plans;
 #[cfg(test)]
 mod rounds;
 #[cfg(test)]
-mod semaphore;
-#[cfg(test)]
 mod serve;
 #[cfg(test)]
 mod serve_tests;

@@ -21,4 +21,4 @@ returns-clause-always g c = let k = c.args.self.now.site.site.table.shared.key i
     each-moment (IsOwnerSiteThen o n k) (IsLockedThen o mutex n k owner_at nobody_waits) (owner-locked o n k) _ c.recall_holders.ensures.always
 
 pub returns-clause-moves : goal.returns-clause-moves
-returns-clause-moves g c = let k = c.args.self.now.site.site.table.shared.key in ran-steps unmarked k (newest k) _ c.recall_holders.ensures.moves
+returns-clause-moves g c = let k = c.args.self.now.site.site.table.shared.key in ran-steps unmarked k owner_at (newest k) _ c.recall_holders.ensures.moves
