@@ -81,8 +81,8 @@ class Space:
 
     @staticmethod
     def is_unavailable(word, verb):
-        """Whether a count bars a try: a reader by a writer, a handoff or a full count, a writer by any bit."""
-        return word & (1 | 4 | 1 << 63) != 0 if verb == "fault" else word != 0
+        """Whether a count bars a try: a reader by a flag or a full count, a writer by any bit."""
+        return word & (1 | 2 | 4 | 1 << 63) != 0 if verb == "fault" else word != 0
 
 
 class Table:
