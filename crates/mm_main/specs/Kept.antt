@@ -22,9 +22,9 @@ module _ {A S P C T F Q D B U : Type 0} (spaces : LockMembers A S P C) (tables :
     pub legal : AreLegal script (results_of m) told
     -- the gathered pass of an object knows each record that is told of the object
     pub known : AreAllKnown (hand_under spaces tables) (gathered_of m) told
-    -- the log and the state that are told of an object are those of the object's table at a moment that this pass goes back to, at which a task's pass held alone
+    -- the log and the state that are told of an object are those of the object's table at a moment that this pass goes back to, at which a pass held alone
     pub held : AreHeld (past_under spaces tables) m
-    -- it knows all that was so of the object's table, from its opening on: who held, what the lock's word stated, and what the lock tells of its own; and who stood in the lock's spin queue
+    -- it knows all that was so of the object's table, from its opening on: who held, what the lock's word stated, and what the lock tells of its own; and, up to its last step on the lock's spin queue, who stood in that
     pub past : KnowsPasts (KnowsPastUnder spaces tables) m
     -- no gathered pass has a task's number or owes anything
     pub rest : IsAtRest (IsIdleUnder spaces tables) m

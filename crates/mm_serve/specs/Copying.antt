@@ -13,7 +13,7 @@ use Rattle.mm_report.specs.Results.{words_of_kind}
 use Rattle.mm_serve.specs.Histories.{IsKnownHistoryOn}
 use Rattle.mm_serve.specs.Workers.{KnowsAllDone}
 
--- the words of the log and of the state are those with which a task's pass held alone, as one of its steps left it in the run up to now
+-- the words of the log and of the state are those with which a pass held alone, as one of its steps left it in the run up to now
 pub record WasHeldWith (w : Words) (past : List Moment) : Type 0 where
   pub entries : List Entry
   pub log_is : w.log ≡ map entry_word entries

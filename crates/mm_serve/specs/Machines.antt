@@ -60,7 +60,7 @@ module _ {S C P U : Type 0} where
     pub long : length (results_of new) ≡ length (sites_of new)
     pub copied : EachOf (IsCopied idle hand past is_space calls_on (results_of new)) (sites_of new) (gathered_of new)
 
-  -- the log and the state in the results of each object are those of the object's table at a moment that its gathered pass goes back to, at which a task's pass held alone
+  -- the log and the state in the results of each object are those of the object's table at a moment that its gathered pass goes back to, at which a pass held alone
   abbrev pub AreHeld : (P → List Moment) → Machine S C P U → Type 0
   AreHeld past m = (k : ℕ) (w : Words) (p : P) → slice_get (results_of m) k ≡ Some w → slice_get (gathered_of m) k ≡ Some p → WasHeldWith w (past p)
 

@@ -38,7 +38,7 @@ module _ {A S P C T F Q D : Type 0} (spaces : LockMembers A S P C) (tables : Loc
   abbrev pub IsIdleUnder : LockedObject A S P C T F Q D → SpaceOrTablePass P Q → Type 0
   IsIdleUnder = Matches (λ s p. spaces.sits (lock_of s) p × IsIdle (spaces.view p).hand) (λ s p. tables.sits (lock_of s) p × IsIdle (tables.view p).hand)
 
-  -- the pass knows what was so of the object's table at each moment so far: what every lock tells, of a space what a semaphore tells of its own, and of a table what a mutex does; and of each moment of the lock's spin queue who stood in it
+  -- the pass knows what was so of the object's table at each moment so far: what every lock tells, of a space what a semaphore tells of its own, and of a table what a mutex does; and of each moment of the lock's spin queue, up to its last step there, who stood in it
   abbrev pub KnowsPastUnder : LockedObject A S P C T F Q D → SpaceOrTablePass P Q → Type 0
   KnowsPastUnder =
       Matches

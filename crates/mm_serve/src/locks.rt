@@ -15,7 +15,7 @@ use guarded::{Mutex, RwSem, SleepLock};
 use vma_map::Areas;
 
 /// A lock of spaces. Its word is a count, and what it tells of its own is what a semaphore tells.
-/// It has a spin queue.
+/// What it tells of a spin queue is what `KnowsSpinQueue` says.
 pub trait SpaceLock: SleepLock<Areas> {
     ghost counts: { Self.SleepLock.kind ≡ semaphore };
 
@@ -27,7 +27,7 @@ pub trait SpaceLock: SleepLock<Areas> {
 }
 
 /// A lock of tables. Its word names the owner, and what it tells of its own is what a mutex tells.
-/// It has a spin queue.
+/// What it tells of a spin queue is what `KnowsSpinQueue` says.
 pub trait TableLock: SleepLock<Fds> {
     ghost owned: { Self.SleepLock.kind ≡ mutex };
 
