@@ -4,7 +4,7 @@ use Rattle.lock_core.specs.Shown.{Shown, AllButHand}
 use Rattle.lock_core.specs.Locking.{Looks}
 
 pub beside-trans : (v u w : Shown) → AllButHand v u → AllButHand u w → AllButHand v w
-beside-trans v u w a b = (b.0 ∙ a.0, b.1 ∙ a.1, b.2 ∙ a.2, let x = a.3 in let y = b.3 in omega arith)
+beside-trans v u w a b = (b.0 ∙ a.0, b.1 ∙ a.1, b.2 ∙ a.2, (let x = a.3 in let y = b.3 in omega arith), b.4 ∙ a.4, b.5 ∙ a.5)
 
 pub looks-trans : (v u w : Shown) → Looks v u → Looks u w → Looks v w
 looks-trans v u w a b = (b.0 ∙ a.0, beside-trans v u w a.1 b.1)

@@ -12,15 +12,16 @@ use Rattle.mutex_slow.specs.declared.calls.Mutex.{Mutex}
 use Rattle.mutex_slow.specs.declared.calls.MutexPass.{MutexPass}
 use Rattle.mutex_slow.specs.Handles as mutex
 use Rattle.mutex_slow.specs.Places as mutex_places
+use Rattle.lock_core.specs.declared.tally.Tally.{Tally}
 use Rattle.rwsem_slow.specs.declared.calls.RwSem.{RwSem}
 use Rattle.rwsem_slow.specs.declared.calls.RwPass.{RwPass}
 use Rattle.rwsem_slow.specs.Handles as rwsem
 use Rattle.rwsem_slow.specs.Places as rwsem_places
 use Rattle.guarded.specs.SiteLocks.{SitsIdle}
 
--- a pass of any site, however its lock counts fronts and stands in line
-pub site-stands : {R O E C : Type 0} (line : E → Line) (fronts : ℕ) (site : Site R O E C) (pass : Pass R O E C) → SitsAt site pass → SpinRests (view_of pass).spin → Stands (plan_of site) (shown line fronts (view_of pass) (past_of pass))
-site-stands line fronts site pass at unspun = record {
+-- a pass of any site, however its lock counts and stands in line
+pub site-stands : {R O E C : Type 0} (line : E → Line) (fronts swaps : ℕ) (tally : Tally) (site : Site R O E C) (pass : Pass R O E C) → SitsAt site pass → SpinRests (view_of pass).spin → Stands (plan_of site) (record (shown line fronts (view_of pass) (past_of pass)) { swaps = swaps; tally = tally })
+site-stands line fronts swaps tally site pass at unspun = record {
   plan = at.plan;
   unspun = unspun;
   writer = at.writer;
@@ -33,7 +34,7 @@ site-stands line fronts site pass at unspun = record {
 
 module _ {Call O C : Type 0} (o : Obj Call) where
   pub mutex-stands : (lock : Mutex O C) (pass : MutexPass O C) → SitsIdle o (mutex.plan_of lock) (mutex.SitsAt lock pass) → Stands (mutex.plan_of lock) (mutex.shown_of pass)
-  mutex-stands lock pass r = site-stands mutex_places.line_of _ lock.site pass.pass r.own.sits r.own.unspun
+  mutex-stands lock pass r = site-stands mutex_places.line_of _ _ _ lock.site pass.pass r.own.sits r.own.unspun
 
   pub rwsem-stands : (lock : RwSem O C) (pass : RwPass O C) → SitsIdle o (rwsem.plan_of lock) (rwsem.SitsAt lock pass) → Stands (rwsem.plan_of lock) (rwsem.shown_of pass)
-  rwsem-stands lock pass r = site-stands rwsem_places.line_of _ lock.site pass.pass r.own.sits r.own.unspun
+  rwsem-stands lock pass r = site-stands rwsem_places.line_of _ _ _ lock.site pass.pass r.own.sits r.own.unspun

@@ -62,4 +62,6 @@ module _ {E : Type 0} (line : E → Line) (fronts fronts' : ℕ) (stood : fronts
     entries = part (λ w. w.spin.entries);
     fronts = stood;
     line = part (λ w. line w.ext);
+    swaps = refl;
+    tally = refl;
   }

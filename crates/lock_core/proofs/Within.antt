@@ -1,13 +1,16 @@
 -- What a part of a call shows is shown by the whole.
-use Rattle.std.proofs.Common.{◌≡◌, ℕ, ◌+◌, ◌≤◌, Bool, List, Option, refl, ap, ◌∙◌, arith}
-use Rattle.std.specs.Prelude.{Result, Ok, Err, IfErr}
+use Rattle.std.proofs.Common.{◌≡◌, ℕ, ◌+◌, ◌≤◌, Bool, true, false, List, Option, refl, ap, ◌∙◌, arith}
+use Rattle.std.specs.Prelude.{Result, Ok, Err, IfErr, if◌then◌else◌}
+use Rattle.lock_core.specs.declared.how.How.{How}
 use Rattle.lock_core.specs.declared.how.Interrupted.{Interrupted}
 use Rattle.lock_core.specs.declared.view.Hand.{Hand}
 use Rattle.lock_core.specs.declared.view.Held.TheVariants.{No}
 use Rattle.lock_core.specs.declared.view.Line.{Line}
 use Rattle.lock_core.specs.declared.view.Moment.{Moment}
+use Rattle.lock_core.specs.declared.tally.Tally.{Tally}
+use Rattle.lock_core.specs.Tallies.{answered, left, raised, stood_in_list, was_interrupted}
 use Rattle.lock_core.specs.Kinds.{Kind}
-use Rattle.lock_core.specs.Locking.{Interrupts, Keeps, Misses, OnlyTried, SawPending, Sees}
+use Rattle.lock_core.specs.Locking.{Interrupts, Keeps, Misses, OnlyTried, SawPending, Sees, TalliesLock, TalliesSpin}
 use Rattle.lock_core.specs.Pasts.{FoundAtStep, FoundSince, GoesOn}
 use Rattle.lock_core.specs.Shown.{FindsSince, NoCountFalls, PastGoesOn, Shown}
 
@@ -103,31 +106,57 @@ tried-interrupts v w u t line before i = record {
   waited = i.waited ∙ ap (λ (l : Line). l.appends + 1) line;
 }
 
--- how often the pass was the front of the spin queue is counted apart
-pub keeps-fronts : (v u : Shown) (f f' : ℕ) → f ≤ f' → Keeps v u → Keeps (record v { fronts = f }) (record u { fronts = f' })
-keeps-fronts v u f f' more k = record { task = k.task; done = k.done; seen = k.seen; records = k.records; sent = k.sent; last = k.last; counts = record { steps = k.counts.steps; misses = k.counts.misses; entries = k.counts.entries; fronts = more; appends = k.counts.appends } }
+-- how often the pass was in the spin queue, and what it counted of its calls, is counted apart
+abbrev pub counting : (fronts swaps : ℕ) → Tally → Shown → Shown
+counting f s t v = record v { fronts = f; swaps = s; tally = t }
 
-pub tried-fronts : (v u : Shown) (f f' : ℕ) → f ≤ f' → OnlyTried v u → OnlyTried (record v { fronts = f }) (record u { fronts = f' })
-tried-fronts v u f f' more t = record { keeps = keeps-fronts v u f f' more t.keeps; consumed = t.consumed; takes = t.takes; freed = t.freed }
+module _ (v u : Shown) (f f' s s' : ℕ) (t t' : Tally) where
+  pub keeps-fronts : f ≤ f' → Keeps v u → Keeps (counting f s t v) (counting f' s' t' u)
+  keeps-fronts more k = record { task = k.task; done = k.done; seen = k.seen; records = k.records; sent = k.sent; last = k.last; counts = record { steps = k.counts.steps; misses = k.counts.misses; entries = k.counts.entries; fronts = more; appends = k.counts.appends } }
 
-pub sees-fronts : {kind : Kind} {reads : Bool} {at n : ℕ} (v u : Shown) (f f' : ℕ) → Sees kind reads at n v u → Sees kind reads at n (record v { fronts = f }) (record u { fronts = f' })
-sees-fronts v u f f' s = record { saw = s.saw; is = s.is; word_is = s.word_is; since = s.since; by_now = s.by_now; found = s.found; shut = s.shut }
+  pub tried-fronts : f ≤ f' → OnlyTried v u → OnlyTried (counting f s t v) (counting f' s' t' u)
+  tried-fronts more o = record { keeps = keeps-fronts more o.keeps; consumed = o.consumed; takes = o.takes; freed = o.freed }
 
-pub misses-fronts : {kind : Kind} {reads : Bool} {at n : ℕ} (v u : Shown) (f : ℕ) → Misses kind reads at n v u → Misses kind reads at n (record v { fronts = f }) (record u { fronts = f })
-misses-fronts v u f m = record { keeps = keeps-fronts v u f f (omega arith) m.keeps; consumed = m.consumed; out = m.out; takes = m.takes; sees = sees-fronts v u f f m.sees; once = m.once; freed = m.freed; entries = m.entries; fronts = refl; line = m.line }
+  pub sees-fronts : {kind : Kind} {reads : Bool} {at n : ℕ} → Sees kind reads at n v u → Sees kind reads at n (counting f s t v) (counting f' s' t' u)
+  sees-fronts m = record { saw = m.saw; is = m.is; word_is = m.word_is; since = m.since; by_now = m.by_now; found = m.found; shut = m.shut }
 
-pub interrupts-fronts : {kind : Kind} {reads : Bool} {at : ℕ} {why : Interrupted} (v u : Shown) (f f' : ℕ) → f ≤ f' → Interrupts kind reads at why v u → Interrupts kind reads at why (record v { fronts = f }) (record u { fronts = f' })
-interrupts-fronts v u f f' more i = record {
-  keeps = keeps-fronts v u f f' more i.keeps;
-  heard = record { sent = i.heard.sent; taken = i.heard.taken; pending = i.heard.pending };
-  consumed = i.consumed;
-  out = i.out;
-  word = i.word;
-  takes = i.takes;
-  sees = sees-fronts v u f f' i.sees;
-  freed = i.freed;
-  waited = i.waited;
+  pub interrupts-fronts : {kind : Kind} {reads : Bool} {at : ℕ} {why : Interrupted} → f ≤ f' → Interrupts kind reads at why v u → Interrupts kind reads at why (counting f s t v) (counting f' s' t' u)
+  interrupts-fronts more i = record {
+    keeps = keeps-fronts more i.keeps;
+    heard = record { sent = i.heard.sent; taken = i.heard.taken; pending = i.heard.pending };
+    consumed = i.consumed;
+    out = i.out;
+    word = i.word;
+    takes = i.takes;
+    sees = sees-fronts i.sees;
+    freed = i.freed;
+    waited = i.waited;
+  }
+
+pub misses-fronts : {kind : Kind} {reads : Bool} {at n : ℕ} (v u : Shown) (f s : ℕ) (t : Tally) → Misses kind reads at n v u → Misses kind reads at n (counting f s t v) (counting f s t u)
+misses-fronts v u f s t m = record { keeps = keeps-fronts v u f f s s t t (omega arith) m.keeps; consumed = m.consumed; out = m.out; takes = m.takes; sees = sees-fronts v u f f s s t t m.sees; once = m.once; freed = m.freed; entries = m.entries; fronts = refl; line = m.line; swaps = refl; tally = refl }
+
+-- a call that spun, and then answered, counted both
+pub tallies-answer : (answer : Result How Interrupted) (v w u : Shown) → TalliesSpin v w → u.tally ≡ answered answer w.tally → u.swaps ≡ w.swaps → u.fronts ≡ w.fronts → TalliesLock answer v u
+tallies-answer answer v w u spun is swaps fronts = record {
+  queued = ap (λ (t : Tally). t.queued) is ∙ ap (raised (stood_in_list answer)) (ap (λ (t : Tally). t.queued) spun.2 ∙ queued spun.0);
+  interrupted = ap (λ (t : Tally). t.interrupted) is ∙ ap (raised (was_interrupted answer)) (ap (λ (t : Tally). t.interrupted) spun.2 ∙ interrupted spun.0);
+  refused = spun.0;
+  entered = (let e = spun.1 in omega (arith, e, swaps, fronts));
+  left = ap (λ (t : Tally). t.left) is ∙ (ap (λ (t : Tally). t.left) spun.2 ∙ gone spun.0);
 }
+  where
+    queued : (refused : Bool) → (if refused then left v.tally else v.tally).queued ≡ v.tally.queued
+    queued true = refl
+    queued false = refl
+
+    interrupted : (refused : Bool) → (if refused then left v.tally else v.tally).interrupted ≡ v.tally.interrupted
+    interrupted true = refl
+    interrupted false = refl
+
+    gone : (refused : Bool) → (if refused then left v.tally else v.tally).left ≡ raised refused v.tally.left
+    gone true = refl
+    gone false = refl
 
 pub err-map : {A E : Type 0} (P Q : E → Type 0) (r : Result A E) → ((e : E) → P e → Q e) → IfErr r P → IfErr r Q
 err-map P Q (Ok a) f h = tt

@@ -24,6 +24,7 @@ pub mod Barely
 pub mod Stated
 pub mod SpinStated
 pub mod Kinds
+pub mod Tallies
 pub mod Shown
 pub mod Locking
 pub mod Locked

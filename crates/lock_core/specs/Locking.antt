@@ -1,5 +1,5 @@
 -- What each call of a lock does to its pass, whatever the lock is.
-use Rattle.std.specs.Prelude.{◌≡◌, ℕ, ◌+◌, ◌<◌, ◌≤◌, ◌⊎◌, Bool, true, false, List, length, take, Some, if◌then◌else◌}
+use Rattle.std.specs.Prelude.{◌≡◌, ℕ, ◌+◌, ◌<◌, ◌≤◌, ◌⊎◌, Bool, true, false, List, length, take, Result, Some, if◌then◌else◌}
 use Rattle.word_bits.specs.declared.entry.Entry.{Entry}
 use Rattle.word_bits.specs.Objects.{Obj}
 use Rattle.word_bits.specs.Histories.{Plan, state_after}
@@ -10,7 +10,9 @@ use Rattle.lock_core.specs.declared.view.Held.TheVariants.{No, Alone}
 use Rattle.lock_core.specs.declared.how.How.{How}
 use Rattle.lock_core.specs.declared.how.How.TheVariants.{Fast, Spun, Slept}
 use Rattle.lock_core.specs.declared.how.Interrupted.{Interrupted}
+use Rattle.lock_core.specs.Records.{bit}
 use Rattle.lock_core.specs.Sites.{sent_place, consumed_place}
+use Rattle.lock_core.specs.Tallies.{left, raised, stood_in_list, was_interrupted}
 use Rattle.lock_core.specs.Shown.{Shown, NoCountFalls, AllButHand, FindsAtStep, FindsSince, LeavesHold}
 use Rattle.lock_core.specs.Kinds.{Kind, shares, unavailable, tries, lets_in, wakes_down}
 
@@ -88,6 +90,8 @@ pub record Misses (kind : Kind) (reads : Bool) (at word : ℕ) (v u : Shown) : T
   pub entries : u.spin.entries ≡ v.spin.entries
   pub fronts : u.fronts ≡ v.fronts
   pub line : u.line ≡ v.line
+  pub swaps : u.swaps ≡ v.swaps
+  pub tally : u.tally ≡ v.tally
 
 -- steps of this call found these numbers of signals sent to its task, and consumed by it; more were sent
 pub record SawPending (why : Interrupted) (v u : Shown) : Type 0 where
@@ -117,6 +121,8 @@ pub record Frees (wakes : ℕ → Type 0) (v u : Shown) : Type 0 where
   pub takes : u.hand.takes ≡ v.hand.takes
   pub fronts : u.fronts ≡ v.fronts
   pub line : u.line ≡ v.line
+  pub swaps : u.swaps ≡ v.swaps
+  pub tally : u.tally ≡ v.tally
   pub woken : wakes u.hand.freed → v.spin.entries < u.spin.entries
 
 -- it holds nothing
@@ -129,7 +135,7 @@ Downgrades kind v u = Frees (wakes_down kind) v u × (u.hand.held ≡ shares kin
 
 -- how it got the lock: by its first try, by a later one before it was in the list, or after it had appended itself once
 abbrev pub Got : How → Shown → Shown → Type 0
-Got Fast v u = (u.hand.misses ≡ v.hand.misses) × (u.spin.entries ≡ v.spin.entries) × (u.fronts ≡ v.fronts) × (u.line ≡ v.line)
+Got Fast v u = (u.hand.misses ≡ v.hand.misses) × (u.spin.entries ≡ v.spin.entries) × (u.fronts ≡ v.fronts) × (u.line ≡ v.line) × (u.swaps ≡ v.swaps) × (u.tally ≡ v.tally)
 Got Spun v u = (v.hand.misses < u.hand.misses) × (u.line ≡ v.line)
 Got Slept v u = u.line.appends ≡ v.line.appends + 1
 
@@ -148,3 +154,15 @@ pub record IsLetIn (kind : Kind) (at : ℕ) (v u : Shown) : Type 0 where
 pub record KeepsPlace (kind : Kind) (shared : Bool) (at : ℕ) (v u : Shown) : Type 0 where
   pub queues : v.hand.misses < u.hand.misses → u.fronts ≡ v.fronts → (v.spin.entries < u.spin.entries) ⊎ ((shared ≡ true) × IsLetIn kind at v u)
   pub few : u.fronts ≡ v.fronts → u.hand.misses ≤ v.hand.misses + tries kind
+
+-- What a call that waits counted, by its answer: whether it stood in the list of waiters, and whether a signal interrupted it; and whether the lock's spin queue answered false. Each entry of that queue ends as its front, which is the answer true, or with the answer false.
+pub record TalliesLock (answer : Result How Interrupted) (v u : Shown) : Type 0 where
+  pub queued : u.tally.queued ≡ raised (stood_in_list answer) v.tally.queued
+  pub interrupted : u.tally.interrupted ≡ raised (was_interrupted answer) v.tally.interrupted
+  pub refused : Bool
+  pub entered : u.swaps + v.fronts ≡ v.swaps + u.fronts + bit refused
+  pub left : u.tally.left ≡ raised refused v.tally.left
+
+-- Before it stands in line, a call enters the lock's spin queue once at most, and counts where that answered false; nothing else is counted.
+abbrev pub TalliesSpin : Shown → Shown → Type 0
+TalliesSpin v u = (refused : Bool) × (u.swaps + v.fronts ≡ v.swaps + u.fronts + bit refused) × (u.tally ≡ (if refused then left v.tally else v.tally))

@@ -16,6 +16,8 @@ use Rattle.lock_core.specs.Plans.{calls_in}
 use Rattle.lock_core.specs.Records.{row}
 use Rattle.lock_core.specs.Views.{SpinRests, no_spin, stranger, next_entry}
 use Rattle.lock_core.specs.Pasts.{GoesOn, IsStepBy, FoundAtStep, FoundSince}
+use Rattle.lock_core.specs.declared.tally.Tally.{Tally}
+use Rattle.lock_core.specs.Tallies.{no_tally}
 
 -- a pass, whatever its lock is
 pub record Shown : Type 0 where
@@ -28,17 +30,20 @@ pub record Shown : Type 0 where
   pub line : Line
   -- the moments of the table up to its last step, the last one first
   pub past : List Moment
+  -- how often it has entered the spin queue, and what it has counted of its calls that waited
+  pub swaps : ℕ
+  pub tally : Tally
 
 abbrev pub no_line : Line
 no_line = record { appends = 0 }
 
--- what a pass with this view and past shows, whose lock tells so how it has stood in line, and how often it was the front of a spin queue of the lock's own
+-- what a pass with this view and past shows, whose lock tells so how it has stood in line, and how often it was the front of a spin queue of the lock's own; of that queue, and of calls that wait, nothing else is counted
 abbrev pub shown : {E : Type 0} → (E → Line) → ℕ → View E → List Moment → Shown
-shown line fronts v past = record { hand = v.hand; spin = v.spin; steps = v.steps; fronts = fronts; line = line v.ext; past = past }
+shown line fronts v past = record { hand = v.hand; spin = v.spin; steps = v.steps; fronts = fronts; line = line v.ext; past = past; swaps = 0; tally = no_tally }
 
 -- of a pass without a number, which has seen these entries and this past
 abbrev pub shown_new : Option Plan → List Entry → List Moment → Shown
-shown_new plan seen past = record { hand = stranger plan seen; spin = no_spin; steps = 0; fronts = 0; line = no_line; past = past }
+shown_new plan seen past = record { hand = stranger plan seen; spin = no_spin; steps = 0; fronts = 0; line = no_line; past = past; swaps = 0; tally = no_tally }
 
 -- of a pass that was split off
 abbrev pub shown_split : Shown → Shown
@@ -87,7 +92,7 @@ pub record NoCountFalls (v u : Shown) : Type 0 where
 
 -- beside the hand, its counts are as they were, after some steps
 abbrev pub AllButHand : Shown → Shown → Type 0
-AllButHand v u = (u.spin.entries ≡ v.spin.entries) × (u.fronts ≡ v.fronts) × (u.line ≡ v.line) × (v.steps ≤ u.steps)
+AllButHand v u = (u.spin.entries ≡ v.spin.entries) × (u.fronts ≡ v.fronts) × (u.line ≡ v.line) × (v.steps ≤ u.steps) × (u.swaps ≡ v.swaps) × (u.tally ≡ v.tally)
 
 -- the pass has a number, and these are the words of its task's next call
 abbrev pub IsNextCall : Plan → Hand → CallWords → Type 0

@@ -11,6 +11,7 @@ mod rule;
 mod shadow;
 mod site;
 mod spin;
+mod tally;
 pub mod view;
 
 pub use bare::{Bare, Nothing};
@@ -23,4 +24,5 @@ pub use rule::SiteRule;
 pub use shadow::Shadow;
 pub use site::Site;
 pub use spin::SpinHost;
+pub use tally::Tally;
 pub use view::Held;

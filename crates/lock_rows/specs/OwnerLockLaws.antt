@@ -2,6 +2,7 @@
 use Rattle.word_bits.specs.Objects.{Obj}
 use Rattle.lock_core.specs.declared.pass.Pass.{Pass}
 use Rattle.lock_core.specs.Shown.{Stands, no_line}
+use Rattle.lock_core.specs.Tallies.{no_tally}
 use Rattle.mutex_word.specs.declared.rule.OwnerRule.{OwnerRule}
 use Rattle.mutex_word.specs.declared.site.OwnerSite.{OwnerSite}
 use Rattle.mutex_word.specs.Handles.{plan_of, shown_of}
@@ -9,4 +10,4 @@ use Rattle.guarded.specs.LockLaws.{site-stands}
 use Rattle.lock_rows.specs.OwnerLocks.{SitsIdle}
 
 pub sits-stands : {Call O C : Type 0} (o : Obj Call) (site : OwnerSite O C) (pass : Pass (OwnerRule O) O (Unit {0}) C) → SitsIdle o site pass → Stands (plan_of site) (shown_of pass)
-sits-stands o site pass r = site-stands (λ x. no_line) _ site.site pass r.own r.unspun
+sits-stands o site pass r = site-stands (λ x. no_line) _ 0 no_tally site.site pass r.own r.unspun

@@ -54,6 +54,8 @@ failed-misses v u p q n s later now out own found goes names small reads = recor
   entries = part (λ w. w.spin.entries);
   fronts = part (λ w. w.fronts);
   line = part (λ w. line_of w.ext);
+  swaps = refl;
+  tally = refl;
 }
   where
     part : {A : Type 0} (f : V → A) → f u ≡ f (turns turned Fail (at_step v s) (missed v.hand n (s + 1)))

@@ -1,11 +1,11 @@
 //! Mutexes, their passes, and their calls.
-ghost use Rattle.std.specs.Prelude.{◌≡◌, ◌≢◌, ◌<◌, ◌≤◌, ◌+◌, Bool, true, false, List, [], ◌∷◌, length, Some, None, IsSome, IfOk, IfErr};
+ghost use Rattle.std.specs.Prelude.{◌≡◌, ◌≢◌, ◌<◌, ◌≤◌, ◌+◌, Bool, true, false, List, [], ◌∷◌, length, Some, None, IsSome, Ok, IfOk, IfErr};
 ghost use Rattle.lock_core.specs.declared.how.How.TheVariants.{Fast};
 ghost use Rattle.lock_core.specs.declared.view.Held.TheVariants.{No, Alone};
 ghost use Rattle.lock_core.specs.Kinds.{mutex, unavailable, wakes_alone};
 ghost use Rattle.lock_core.specs.Holding.{missed};
 ghost use Rattle.lock_core.specs.Pasts.{EachMoment, FoundAt, Paced, Ran, Tail};
-ghost use Rattle.lock_core.specs.Locking.{Looks, Has, HasSince, Interrupts, OnlyTried, Releases, Got, KeepsPlace};
+ghost use Rattle.lock_core.specs.Locking.{Looks, Has, HasSince, Interrupts, OnlyTried, Releases, Got, KeepsPlace, TalliesLock, TalliesSpin};
 ghost use Rattle.lock_core.specs.Passes.{Numbered};
 ghost use Rattle.lock_core.specs.Records.{IsPlan};
 ghost use Rattle.lock_core.specs.Shown.{AllButHand, IsLatestStep, PastGoesOn, shown_new, shown_split};
@@ -15,7 +15,7 @@ ghost use Rattle.lock_core.specs.Views.{gathered, gave_up};
 ghost use Rattle.osq_nodes.specs.Handles.{tasks_of};
 ghost use Rattle.lock_core.specs.Handles as inner;
 ghost use Rattle.mutex_slow.specs.Mutexes.{owner_at, standing, wait_lock_at};
-ghost use Rattle.osq_unqueue.specs.Rising.{Rises};
+ghost use Rattle.osq_unqueue.specs.Rising.{LeavesForCpu, Rises};
 ghost use Rattle.mutex_slow.specs.Places.{CountsBy, CountsInLine, EndsHold, TakesOpen};
 ghost use Rattle.mutex_slow.specs.Stated.{HasBecome, IsMutexThen, IsOutOfList, waits_on};
 ghost use Rattle.lock_core.specs.Locked.{IsLockedThen, IsSiteStep};
@@ -24,7 +24,7 @@ ghost use Rattle.wait_list.specs.declared.view.Waiter.{Waiter as Waiters};
 use crate::rule::MutexRule;
 use crate::{parts, slow};
 use cpu_task::{Cpu, Crew};
-use lock_core::{How, Interrupted, Pass, Plan, Site};
+use lock_core::{How, Interrupted, Pass, Plan, Site, Tally};
 use mutex_word::site_steps::take_free;
 use osq_nodes::{Osq, OsqPass};
 use std::alloc::{AllocError, Global};
@@ -43,12 +43,24 @@ pub struct Mutex<O: Object> {
     ghost sized: { tasks_of osq ≡ length (inner.plan_of site) },
 }
 
-/// A pass of a mutex, with one of its spin queue. Contracts see what callers of any lock see of a
-/// pass (`shown_of`).
+/// A pass of a mutex, with one of its spin queue, and with what it counts of its calls that wait.
+/// Contracts see what callers of any lock see of a pass (`shown_of`).
 #[derive(Drop)]
 pub struct MutexPass<O: Object> {
     pass: Pass<MutexRule<O>>,
     queue: OsqPass,
+    tally: Tally,
+}
+
+impl<O: Object> MutexPass<O> {
+    ghost use Rattle.mutex_slow.specs.Handles.{shown_of};
+
+    /// What it has counted of its calls that waited.
+    pub fn tally(&self) -> Tally
+        ensures { result ≡ (shown_of self.now).tally }
+    {
+        self.tally
+    }
 }
 
 impl<O: Object> Mutex<O> {
@@ -66,7 +78,8 @@ impl<O: Object> Mutex<O> {
     {
         let (site, pass) = Site::open(alloc, plan)?;
         let (osq, queue) = Osq::open(alloc, site.tasks())?;
-        Ok((Mutex { site, osq }, MutexPass { pass, queue }))
+        let tally = Tally::new();
+        Ok((Mutex { site, osq }, MutexPass { pass, queue, tally }))
     }
 
     /// A pass without a task number, which has seen as many entries.
@@ -80,7 +93,11 @@ impl<O: Object> Mutex<O> {
     {
         let other = self.site.split(&mut pass.pass);
         let queue = self.osq.split(&mut pass.queue);
-        MutexPass { pass: other, queue }
+        MutexPass {
+            pass: other,
+            queue,
+            tally: Tally::new(),
+        }
     }
 
     /// Waits until nobody has the task's number, and takes it with the task's records. What the
@@ -115,7 +132,7 @@ impl<O: Object> Mutex<O> {
     }
 
     /// Takes in another pass, which is spent: `into` then knows the records that `other` knew, and
-    /// has seen as many entries as either.
+    /// has seen as many entries as either. What it has counted stays its own.
     pub fn gather(&self, into: &mut MutexPass<O>, other: MutexPass<O>)
         requires own { SitsAt self.now into.old }
         requires others_own { SitsAt self.now other }
@@ -126,7 +143,7 @@ impl<O: Object> Mutex<O> {
         ensures kept { Has (gathered (hand_in into.old) (hand_in other))
             (shown_of into.old) (shown_of into.new) }
     {
-        let MutexPass { pass, queue } = other;
+        let MutexPass { pass, queue, .. } = other;
         self.site.gather(&mut into.pass, pass);
         self.osq.gather(&mut into.queue, queue);
     }
@@ -153,12 +170,16 @@ impl<O: Object> Mutex<O> {
         ensures sleeps { C.sleeps cpu.new ≡ C.sleeps cpu.old }
         ensures rescheds { C.rescheds cpu.old ≤ C.rescheds cpu.new }
         ensures stops { result ≡ false → Rises (C.rescheds cpu.old) (C.rescheds cpu.new) }
+        ensures tallied { TalliesSpin (shown_of pass.old) (shown_of pass.new) }
+        ensures left { LeavesForCpu (C.rescheds cpu.old) (C.rescheds cpu.new)
+            (shown_of pass.old) (shown_of pass.new) }
     {
         if cpu.need_resched() {
             return false;
         }
         // One spinner at a time tries: the others spin on words of their own.
         if !osq_unqueue::lock(&self.osq, rt, &mut pass.queue, cpu) {
+            pass.tally.leave();
             return false;
         }
         let took = slow::spin_outside(&self.site, rt, &mut pass.pass, &pass.queue, cpu);
@@ -192,6 +213,9 @@ impl<O: Object> Mutex<O> {
             (C.rescheds cpu.old) (C.rescheds cpu.new) (shown_of pass.old) (shown_of pass.new)) }
         ensures slept { IfErr result (λ _. CountsInLine (C.sleeps cpu.old) (C.sleeps cpu.new)
             (C.rescheds cpu.old) (C.rescheds cpu.new) (shown_of pass.old) (shown_of pass.new)) }
+        ensures tallied { TalliesLock result (shown_of pass.old) (shown_of pass.new) }
+        ensures left { LeavesForCpu (C.rescheds cpu.old) (C.rescheds cpu.new)
+            (shown_of pass.old) (shown_of pass.new) }
     {
         let Err(_) = parts::try_outside(&self.site, rt, &mut pass.pass) else {
             return Ok(How::Fast);
@@ -199,7 +223,9 @@ impl<O: Object> Mutex<O> {
         if self.spin(rt, pass, cpu) {
             return Ok(How::Spun);
         }
-        slow::lock_in_line(&self.site, rt, &mut pass.pass, cpu, interruptible)
+        let got = slow::lock_in_line(&self.site, rt, &mut pass.pass, cpu, interruptible);
+        pass.tally.answer(got);
+        got
     }
 
     /// Waits until the pass holds alone. The kernel's `mutex_lock`.
@@ -222,6 +248,9 @@ impl<O: Object> Mutex<O> {
             (shown_of pass.old) (shown_of pass.new) }
         ensures counts { CountsBy result (C.C.sleeps cpu.old) (C.C.sleeps cpu.new)
             (C.C.rescheds cpu.old) (C.C.rescheds cpu.new) (shown_of pass.old) (shown_of pass.new) }
+        ensures tallied { TalliesLock (Ok result) (shown_of pass.old) (shown_of pass.new) }
+        ensures left { LeavesForCpu (C.C.rescheds cpu.old) (C.C.rescheds cpu.new)
+            (shown_of pass.old) (shown_of pass.new) }
     {
         match self.lock_common(rt, pass, cpu, false) {
             Ok(how) => how,
@@ -253,6 +282,9 @@ impl<O: Object> Mutex<O> {
             (C.C.rescheds cpu.old) (C.C.rescheds cpu.new) (shown_of pass.old) (shown_of pass.new)) }
         ensures slept { IfErr result (λ _. CountsInLine (C.C.sleeps cpu.old) (C.C.sleeps cpu.new)
             (C.C.rescheds cpu.old) (C.C.rescheds cpu.new) (shown_of pass.old) (shown_of pass.new)) }
+        ensures tallied { TalliesLock result (shown_of pass.old) (shown_of pass.new) }
+        ensures left { LeavesForCpu (C.C.rescheds cpu.old) (C.C.rescheds cpu.new)
+            (shown_of pass.old) (shown_of pass.new) }
     {
         self.lock_common(rt, pass, cpu, true)
     }

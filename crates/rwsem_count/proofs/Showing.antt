@@ -40,6 +40,8 @@ misses-by reads word s e v u p q out later is own goes found shut = let z : V = 
       entries = m.entries;
       fronts = m.fronts;
       line = m.line;
+      swaps = m.swaps;
+      tally = m.tally;
     }
 
 -- a count that lets no reader in shows that a reader can't have the lock

@@ -13,6 +13,7 @@ use Rattle.lock_core.specs.declared.how.How.{How}
 use Rattle.lock_core.specs.declared.how.How.TheVariants.{Fast, Spun, Slept}
 use Rattle.lock_core.specs.declared.how.Interrupted.{Interrupted}
 use Rattle.lock_core.specs.declared.op.Op.TheVariants.{Load}
+use Rattle.lock_core.specs.declared.tally.Tally.{Tally}
 use Rattle.lock_core.specs.declared.view.Hand.{Hand}
 use Rattle.lock_core.specs.declared.view.Moment.{Moment}
 use Rattle.lock_core.specs.declared.view.Held.{Held}
@@ -163,12 +164,12 @@ module _ (v m u : V) (is : m ≡ ticked v) where
   consumed-on x w = subst (λ (z : V). IfErr x (λ _. OnlyConsumed z u)) is w
 
 -- what the whole call shows, from its addition on
-module _ (fronts left : ℕ) (v m u : V) (p q : List Moment) (t : IsTransit biased v left m) where
+module _ (fronts swaps : ℕ) (tally tally' : Tally) (left : ℕ) (v m u : V) (p q : List Moment) (t : IsTransit biased v left m) where
   abbrev Before : Shown
-  Before = shown line_of fronts v p
+  Before = record (shown line_of fronts v p) { swaps = swaps; tally = tally }
 
   abbrev After : Shown
-  After = shown line_of fronts u q
+  After = record (shown line_of fronts u q) { swaps = swaps; tally = tally' }
 
   once : m.hand.misses ≡ v.hand.misses + 1
   once = ap (λ (z : V). z.hand.misses) t.3

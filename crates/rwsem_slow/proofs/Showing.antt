@@ -4,6 +4,7 @@ use Rattle.std.specs.Prelude.{Result, Ok, Err, IfErr}
 use Rattle.word_bits.specs.LockWords.{IsLawfulCount}
 use Rattle.lock_core.specs.declared.how.How.{How}
 use Rattle.lock_core.specs.declared.how.Interrupted.{Interrupted}
+use Rattle.lock_core.specs.declared.tally.Tally.{Tally}
 use Rattle.lock_core.specs.declared.view.Hand.{Hand}
 use Rattle.lock_core.specs.declared.view.Moment.{Moment}
 use Rattle.lock_core.specs.declared.view.Held.TheVariants.{No}
@@ -24,9 +25,9 @@ use Rattle.rwsem_slow.specs.Queued.{EntersLock}
 use Rattle.rwsem_slow.specs.RwSems.{V, count_at}
 use Rattle.rwsem_slow.specs.Spinning.{SawIfTried, SeesShut}
 
-module _ (fronts : ℕ) (v u : V) (p q : List Moment) (out : v.hand.held ≡ No) (own : IsOwnStep u q) (goes : GoesOn p q) where
+module _ (fronts swaps : ℕ) (tally : Tally) (v u : V) (p q : List Moment) (out : v.hand.held ≡ No) (own : IsOwnStep u q) (goes : GoesOn p q) where
   abbrev show : V → List Moment → Shown
-  show w past = shown line_of fronts w past
+  show w past = record (shown line_of fronts w past) { swaps = swaps; tally = tally }
 
   -- a pass that held nothing failed at this word, after some looks
   pub misses-by : (reads : Bool) (word s : ℕ) → v.steps ≤ s → MissesCount (at_step v s) word u → FoundAt count_at word q → unavailable semaphore reads word → Misses semaphore reads count_at word (show v p) (show u q)
@@ -41,6 +42,8 @@ module _ (fronts : ℕ) (v u : V) (p q : List Moment) (out : v.hand.held ≡ No)
     entries = m.entries;
     fronts = m.fronts;
     line = m.line;
+    swaps = refl;
+    tally = refl;
   }
 
   pub reader-misses : (r : Result (Unit {0}) ℕ) → IfErr r (λ word. MissesSince v word u) → IfErr r (λ word. IsReadFree word → ⊥) → IfErr r (λ word. IsLawfulCount word) → IfErr r (λ word. FoundAt count_at word q) → IfErr r (λ word. Misses semaphore true count_at word (show v p) (show u q))
@@ -74,12 +77,12 @@ keeps-looks shared v u w k l goes = let misses = ap (λ h. h.misses) l.0 in let 
 }
 
 -- a first step at which the pass failed at this word
-module _ (fronts : ℕ) (word : ℕ) (v a : V) (p q : List Moment) (hand : a.hand ≡ missed v.hand word (v.steps + 1)) (steps : a.steps ≡ v.steps + 1) where
+module _ (fronts swaps : ℕ) (tally : Tally) (word : ℕ) (v a : V) (p q : List Moment) (hand : a.hand ≡ missed v.hand word (v.steps + 1)) (steps : a.steps ≡ v.steps + 1) where
   abbrev before_it : Shown
-  before_it = shown line_of fronts v p
+  before_it = record (shown line_of fronts v p) { swaps = swaps; tally = tally }
 
   abbrev after_it : Shown
-  after_it = shown line_of fronts a q
+  after_it = record (shown line_of fronts a q) { swaps = swaps; tally = tally }
 
   pub first-tried : a.spin.entries ≡ v.spin.entries → a.ext.appends ≡ v.ext.appends → OnlyTried before_it after_it
   first-tried entries stood = record {
@@ -122,12 +125,12 @@ spun-sees v a m word first before s t after saw = elim saw [
 ]
 
 -- a call whose tries failed, the last at this word, and which then waited in line until it consumed a signal
-module _ (fronts : ℕ) (reads : Bool) (word : ℕ) (v : Shown) (m u : V) (q r : List Moment) where
+module _ (fronts swaps : ℕ) (tally tally' : Tally) (reads : Bool) (word : ℕ) (v : Shown) (m u : V) (q r : List Moment) where
   abbrev in_line : Shown
-  in_line = shown line_of fronts m q
+  in_line = record (shown line_of fronts m q) { swaps = swaps; tally = tally }
 
   abbrev at_last : Shown
-  at_last = shown line_of fronts u r
+  at_last = record (shown line_of fronts u r) { swaps = swaps; tally = tally' }
 
   pub waits-quit : OnlyTried v in_line → in_line.line ≡ v.line → PastGoesOn v in_line → m.hand.held ≡ No → Sees semaphore reads count_at word v in_line → m.steps ≤ u.steps → GoesOn q r → (x : Result How Interrupted) → IfErr x (λ _. EntersLock m u) → IfErr x (λ _. u.ext.appends ≡ m.ext.appends + 1) → IfErr x (λ _. OnlyConsumed m u) → IfErr x (λ why. SawPending why (shown line_of m.fronts m q) (shown line_of u.fronts u r))
       → IfErr x (λ why. Interrupts semaphore reads count_at why v at_last)

@@ -30,7 +30,7 @@ module _ {O C : Type 0} where
 
   -- what callers of any lock see of a pass
   abbrev pub shown_of : RwPass O C → Shown
-  shown_of pass = shown line_of (queue.fronts_in pass.queue) (inner.view_of pass.pass) (inner.past_of pass.pass)
+  shown_of pass = record (shown line_of (queue.fronts_in pass.queue) (inner.view_of pass.pass) (inner.past_of pass.pass)) { swaps = queue.swaps_in pass.queue; tally = pass.tally }
 
   abbrev pub hand_in : RwPass O C → Hand
   hand_in pass = inner.hand_in pass.pass

@@ -19,7 +19,7 @@ ghost use Rattle.rwsem_slow.specs.RwSems.{count_at, standing, wait_lock_at};
 ghost use Rattle.rwsem_slow.specs.Stated.{HasBecome, IsOutOfLine, IsRwSemThen, waits_on};
 
 use crate::rule::SemRule;
-use lock_core::{Pass, Plan, Site};
+use lock_core::{Pass, Plan, Site, Tally};
 use osq_nodes::{Osq, OsqPass};
 use std::alloc::{AllocError, Global};
 use std::sync::Wait;
@@ -41,12 +41,24 @@ pub struct RwSem<O: Object> {
     ghost sized: { tasks_of osq ≡ length (inner.plan_of site) },
 }
 
-/// A pass of a semaphore, with one of its spin queue. Contracts see what callers of any lock see of
-/// a pass (`shown_of`).
+/// A pass of a semaphore, with one of its spin queue, and with what it counts of its calls that
+/// wait. Contracts see what callers of any lock see of a pass (`shown_of`).
 #[derive(Drop)]
 pub struct RwPass<O: Object> {
     pass: Pass<SemRule<O>>,
     queue: OsqPass,
+    tally: Tally,
+}
+
+impl<O: Object> RwPass<O> {
+    ghost use Rattle.rwsem_slow.specs.Handles.{shown_of};
+
+    /// What it has counted of its calls that waited.
+    pub fn tally(&self) -> Tally
+        ensures { result ≡ (shown_of self.now).tally }
+    {
+        self.tally
+    }
 }
 
 impl<O: Object> RwSem<O> {
@@ -64,7 +76,8 @@ impl<O: Object> RwSem<O> {
     {
         let (site, pass) = Site::open(alloc, plan)?;
         let (osq, queue) = Osq::open(alloc, site.tasks())?;
-        Ok((RwSem { site, osq }, RwPass { pass, queue }))
+        let tally = Tally::new();
+        Ok((RwSem { site, osq }, RwPass { pass, queue, tally }))
     }
 
     /// A pass without a task number, which has seen as many entries.
@@ -78,7 +91,11 @@ impl<O: Object> RwSem<O> {
     {
         let other = self.site.split(&mut pass.pass);
         let queue = self.osq.split(&mut pass.queue);
-        RwPass { pass: other, queue }
+        RwPass {
+            pass: other,
+            queue,
+            tally: Tally::new(),
+        }
     }
 
     /// Waits until nobody has the task's number, and takes it with the task's records. What the
@@ -113,7 +130,7 @@ impl<O: Object> RwSem<O> {
     }
 
     /// Takes in another pass, which is spent: `into` then knows the records that `other` knew, and
-    /// has seen as many entries as either.
+    /// has seen as many entries as either. What it has counted stays its own.
     pub fn gather(&self, into: &mut RwPass<O>, other: RwPass<O>)
         requires own { SitsAt self.now into.old }
         requires others_own { SitsAt self.now other }
@@ -124,7 +141,7 @@ impl<O: Object> RwSem<O> {
         ensures kept { Has (gathered (hand_in into.old) (hand_in other))
             (shown_of into.old) (shown_of into.new) }
     {
-        let RwPass { pass, queue } = other;
+        let RwPass { pass, queue, .. } = other;
         self.site.gather(&mut into.pass, pass);
         self.osq.gather(&mut into.queue, queue);
     }

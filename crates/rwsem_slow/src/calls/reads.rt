@@ -1,10 +1,11 @@
 //! The calls that take a semaphore shared.
-ghost use Rattle.std.specs.Prelude.{◌≡◌, true, false, IfErr, IfOk, IsSome};
+ghost use Rattle.std.specs.Prelude.{◌≡◌, true, false, Ok, IfErr, IfOk, IsSome};
 ghost use Rattle.lock_core.specs.declared.how.How.TheVariants.{Fast};
 ghost use Rattle.lock_core.specs.declared.view.Held.TheVariants.{No};
 ghost use Rattle.lock_core.specs.Kinds.{semaphore};
-ghost use Rattle.lock_core.specs.Locking.{Got, Interrupts, KeepsPlace};
+ghost use Rattle.lock_core.specs.Locking.{Got, Interrupts, KeepsPlace, TalliesLock};
 ghost use Rattle.lock_core.specs.Shown.{PastGoesOn};
+ghost use Rattle.osq_unqueue.specs.Rising.{LeavesForCpu};
 ghost use Rattle.rwsem_slow.specs.RwSems.{count_at};
 ghost use Rattle.rwsem_slow.specs.Handles.{shown_of, hand_in, SitsAt, TakesShared};
 ghost use Rattle.rwsem_slow.specs.Counting.{CountsReading, SleepsBetween};
@@ -39,6 +40,9 @@ impl<O: Object> RwSem<O> {
         ensures line { KeepsPlace semaphore true count_at (shown_of pass.old) (shown_of pass.new) }
         ensures counts { CountsReading result (C.C.sleeps cpu.old) (C.C.sleeps cpu.new)
             (C.C.rescheds cpu.old) (C.C.rescheds cpu.new) (shown_of pass.old) (shown_of pass.new) }
+        ensures tallied { TalliesLock (Ok result) (shown_of pass.old) (shown_of pass.new) }
+        ensures left { LeavesForCpu (C.C.rescheds cpu.old) (C.C.rescheds cpu.new)
+            (shown_of pass.old) (shown_of pass.new) }
     {
         match self.read_common(rt, pass, cpu, crew, false) {
             Ok(how) => how,
@@ -79,6 +83,9 @@ impl<O: Object> RwSem<O> {
             SleepsBetween (shown_of pass.old).steps (shown_of pass.new).steps
             (C.C.sleeps cpu.old) (C.C.sleeps cpu.new)) }
         ensures unasked { IfErr result (λ _. C.C.rescheds cpu.new ≡ C.C.rescheds cpu.old) }
+        ensures tallied { TalliesLock result (shown_of pass.old) (shown_of pass.new) }
+        ensures left { LeavesForCpu (C.C.rescheds cpu.old) (C.C.rescheds cpu.new)
+            (shown_of pass.old) (shown_of pass.new) }
     {
         self.read_common(rt, pass, cpu, crew, true)
     }
@@ -118,21 +125,28 @@ impl<O: Object> RwSem<O> {
             SleepsBetween (shown_of pass.old).steps (shown_of pass.new).steps
             (C.C.sleeps cpu.old) (C.C.sleeps cpu.new)) }
         ensures unasked { IfErr result (λ _. C.C.rescheds cpu.new ≡ C.C.rescheds cpu.old) }
+        ensures tallied { TalliesLock result (shown_of pass.old) (shown_of pass.new) }
+        ensures left { LeavesForCpu (C.C.rescheds cpu.old) (C.C.rescheds cpu.new)
+            (shown_of pass.old) (shown_of pass.new) }
     {
         match steps::read_add(&self.site, &mut pass.pass) {
             Ok(()) => {
                 note_reader(&self.site, &mut pass.pass);
                 Ok(How::Fast)
             }
-            Err(left) => read_slowly(
-                &self.site,
-                rt,
-                &mut pass.pass,
-                cpu,
-                crew,
-                left,
-                interruptible,
-            ),
+            Err(left) => {
+                let got = read_slowly(
+                    &self.site,
+                    rt,
+                    &mut pass.pass,
+                    cpu,
+                    crew,
+                    left,
+                    interruptible,
+                );
+                pass.tally.answer(got);
+                got
+            }
         }
     }
 }

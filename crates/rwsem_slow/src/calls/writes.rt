@@ -1,10 +1,11 @@
 //! The calls that take a semaphore alone.
-ghost use Rattle.std.specs.Prelude.{◌≡◌, ◌≤◌, ◌+◌, Bool, true, false, IfErr, IfOk, IsSome};
+ghost use Rattle.std.specs.Prelude.{◌≡◌, ◌≤◌, ◌+◌, Bool, true, false, Ok, IfErr, IfOk, IsSome};
 ghost use Rattle.lock_core.specs.declared.how.How.TheVariants.{Spun};
 ghost use Rattle.lock_core.specs.declared.view.Held.TheVariants.{No};
 ghost use Rattle.lock_core.specs.Kinds.{semaphore};
-ghost use Rattle.lock_core.specs.Locking.{Got, Interrupts, KeepsPlace, Looks, OnlyTried};
+ghost use Rattle.lock_core.specs.Locking.{Got, Interrupts, KeepsPlace, Looks, OnlyTried, TalliesLock, TalliesSpin};
 ghost use Rattle.lock_core.specs.Shown.{PastGoesOn};
+ghost use Rattle.osq_unqueue.specs.Rising.{LeavesForCpu};
 ghost use Rattle.rwsem_slow.specs.RwSems.{count_at};
 ghost use Rattle.rwsem_slow.specs.Handles.{shown_of, hand_in, KeepsFronts, KeepsMisses, SitsAt, TakesAlone};
 ghost use Rattle.rwsem_slow.specs.Counting.{CountsLeaving, CountsWriting};
@@ -42,6 +43,9 @@ impl<O: Object> RwSem<O> {
             (shown_of pass.old) (shown_of pass.new) }
         ensures counts { CountsWriting result (C.C.sleeps cpu.old) (C.C.sleeps cpu.new)
             (C.C.rescheds cpu.old) (C.C.rescheds cpu.new) (shown_of pass.old) (shown_of pass.new) }
+        ensures tallied { TalliesLock (Ok result) (shown_of pass.old) (shown_of pass.new) }
+        ensures left { LeavesForCpu (C.C.rescheds cpu.old) (C.C.rescheds cpu.new)
+            (shown_of pass.old) (shown_of pass.new) }
     {
         match self.write_common(rt, pass, cpu, crew, false) {
             Ok(how) => how,
@@ -77,6 +81,9 @@ impl<O: Object> RwSem<O> {
         ensures slept { IfErr result (λ _. CountsLeaving (C.C.sleeps cpu.old) (C.C.sleeps cpu.new)
             (C.C.rescheds cpu.old) (C.C.rescheds cpu.new)
             (shown_of pass.old) (shown_of pass.new)) }
+        ensures tallied { TalliesLock result (shown_of pass.old) (shown_of pass.new) }
+        ensures left { LeavesForCpu (C.C.rescheds cpu.old) (C.C.rescheds cpu.new)
+            (shown_of pass.old) (shown_of pass.new) }
     {
         self.write_common(rt, pass, cpu, crew, true)
     }
@@ -111,6 +118,9 @@ impl<O: Object> RwSem<O> {
         ensures slept { IfErr result (λ _. CountsLeaving (C.C.sleeps cpu.old) (C.C.sleeps cpu.new)
             (C.C.rescheds cpu.old) (C.C.rescheds cpu.new)
             (shown_of pass.old) (shown_of pass.new)) }
+        ensures tallied { TalliesLock result (shown_of pass.old) (shown_of pass.new) }
+        ensures left { LeavesForCpu (C.C.rescheds cpu.old) (C.C.rescheds cpu.new)
+            (shown_of pass.old) (shown_of pass.new) }
     {
         match self.take_alone(rt, pass, cpu, crew, interruptible) {
             Ok(how) => {
@@ -144,6 +154,9 @@ impl<O: Object> RwSem<O> {
         ensures entries { (shown_of pass.new).spin.entries ≡ (shown_of pass.old).spin.entries }
         ensures sleeps { C.sleeps cpu.new ≡ C.sleeps cpu.old }
         ensures rescheds { C.rescheds cpu.old ≤ C.rescheds cpu.new }
+        ensures tallied { TalliesSpin (shown_of pass.old) (shown_of pass.new) }
+        ensures left { LeavesForCpu (C.rescheds cpu.old) (C.rescheds cpu.new)
+            (shown_of pass.old) (shown_of pass.new) }
     {
         if cpu.need_resched() {
             return false;
@@ -153,6 +166,7 @@ impl<O: Object> RwSem<O> {
         }
         // One spinner at a time tries: the others spin on words of their own.
         if !osq_unqueue::lock(&self.osq, rt, &mut pass.queue, cpu) {
+            pass.tally.leave();
             return false;
         }
         let took = spinning::spin(&self.site, rt, &mut pass.pass, &pass.queue, cpu);
@@ -189,6 +203,9 @@ impl<O: Object> RwSem<O> {
         ensures slept { IfErr result (λ _. CountsLeaving (C.C.sleeps cpu.old) (C.C.sleeps cpu.new)
             (C.C.rescheds cpu.old) (C.C.rescheds cpu.new)
             (shown_of pass.old) (shown_of pass.new)) }
+        ensures tallied { TalliesLock result (shown_of pass.old) (shown_of pass.new) }
+        ensures left { LeavesForCpu (C.C.rescheds cpu.old) (C.C.rescheds cpu.new)
+            (shown_of pass.old) (shown_of pass.new) }
     {
         let Err(_) = steps::write_try(&self.site, &mut pass.pass) else {
             return Ok(How::Fast);
@@ -196,7 +213,9 @@ impl<O: Object> RwSem<O> {
         if self.spin(rt, pass, cpu) {
             return Ok(How::Spun);
         }
-        write_in_line(&self.site, rt, &mut pass.pass, cpu, crew, interruptible)
+        let got = write_in_line(&self.site, rt, &mut pass.pass, cpu, crew, interruptible);
+        pass.tally.answer(got);
+        got
     }
 
     /// Stores the hint that the pass's task writes.

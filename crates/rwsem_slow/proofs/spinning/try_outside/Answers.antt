@@ -1,5 +1,6 @@
 use Rattle.std.proofs.Common.{◌∙◌, false, sym, ap, arith}
 use Rattle.lock_core.specs.Shown.{shown}
+use Rattle.lock_core.specs.Tallies.{no_tally}
 use Rattle.lock_core.proofs.Within.{sees-fronts}
 use Rattle.rwsem_slow.specs.Places.{line_of}
 use Rattle.rwsem_slow.specs.RwSems.{V}
@@ -17,8 +18,8 @@ returns-in-Err-clause-missed g c = λ is. misses-tried c.args.pass.now.seat.me.0
 pub returns-in-Err-clause-saw : goal.returns-in-Err-clause-saw
 returns-in-Err-clause-saw g c = λ is. let v = c.args.pass.now.seat.me.0 in let u = c.try_unqueued.new.pass.seat.me.0 in let missed = c.in-Err.ensures.missed in (
   c.in-Err.field-0,
-  sees-fronts (shown line_of v.view.fronts v.view v.past) (shown line_of v.view.fronts u.view u.past) v.view.fronts u.view.fronts
-      (misses-by v.view.fronts v.view u.view v.past u.past (sym c.requires.own.held ∙ c.requires.out) c.try_unqueued.ensures.last c.try_unqueued.ensures.goes_on false c.in-Err.field-0 missed.0 missed.1 missed.2 c.in-Err.ensures.found c.in-Err.ensures.shut).sees,
+  sees-fronts (shown line_of v.view.fronts v.view v.past) (shown line_of v.view.fronts u.view u.past) v.view.fronts u.view.fronts 0 0 no_tally no_tally
+      (misses-by v.view.fronts 0 no_tally v.view u.view v.past u.past (sym c.requires.own.held ∙ c.requires.out) c.try_unqueued.ensures.last c.try_unqueued.ensures.goes_on false c.in-Err.field-0 missed.0 missed.1 missed.2 c.in-Err.ensures.found c.in-Err.ensures.shut).sees,
 )
 
 pub returns-in-Ok-clause-opened : goal.returns-in-Ok-clause-opened

@@ -17,7 +17,7 @@ pub loop-task-init : goal.loop-task-init
 loop-task-init g c =
     let k = g.L.SleepLock.calls_on c.args.self.now.lock in
     let v = g.L.SleepLock.view c.args.pass.now in
-    (c.requires.own, (refl, (refl, refl, refl, omega arith)), (λ p t. t), ap length c.requires.empty ∙ sym (start-zero k), ([], rows-none k v.hand v.past v.past, (λ i. record c.args.out.now { recs = c.requires.empty i })))
+    (c.requires.own, (refl, (refl, refl, refl, omega arith, refl, refl)), (λ p t. t), ap length c.requires.empty ∙ sym (start-zero k), ([], rows-none k v.hand v.past v.past, (λ i. record c.args.out.now { recs = c.requires.empty i })))
 
 pub copy_task-requires-clause-room : goal.copy_task-requires-clause-room
 copy_task-requires-clause-room g c =

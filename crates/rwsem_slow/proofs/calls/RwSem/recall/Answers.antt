@@ -21,7 +21,7 @@ use Rattle.rwsem_slow.proofs.Locking.{sem-locked}
 use Rattle.rwsem_slow.proofs.calls.RwSem.recall.Goals as goal
 
 pub returns-clause-last : goal.returns-clause-last
-returns-clause-last g c = latest-shown line_of (fronts_in c.args.pass.now.queue) c.recall.new.pass.seat.me.0.view c.recall.new.pass.seat.me.0.past c.recall.ensures.last
+returns-clause-last g c = let l = latest-shown line_of (fronts_in c.args.pass.now.queue) c.recall.new.pass.seat.me.0.view c.recall.new.pass.seat.me.0.past c.recall.ensures.last in record { step = l.step; hand = l.hand; spin = l.spin }
 
 pub returns-clause-always : goal.returns-clause-always
 returns-clause-always g c = let k = c.args.self.now.site.table.shared.key in let o = g.O.Object.object in let n = g.O.Object.WORDS in let own = c.recall.ensures.last in

@@ -1,6 +1,7 @@
 use Rattle.rwsem_slow.specs.Handles.{shown_of}
 use Rattle.rwsem_slow.proofs.Showing.{keeps-looks}
-use Rattle.std.proofs.Common.{refl, arith}
+use Rattle.std.proofs.Common.{◌∙◌, refl, ap, arith}
+use Rattle.lock_core.specs.declared.tally.Tally.{Tally}
 use Rattle.lock_core.specs.declared.view.Held.TheVariants.{Alone}
 use Rattle.rwsem_slow.specs.Opening.{IsOpen}
 use Rattle.rwsem_slow.proofs.Counting.{counts-behind}
@@ -19,3 +20,15 @@ returns-in-Ok-clause-counts g c = counts-behind c.in-Ok.how _ _ _ _ (shown_of c.
 
 pub returns-in-Ok-clause-goes_on : goal.returns-in-Ok-clause-goes_on
 returns-in-Ok-clause-goes_on g c = λ p t. c.note_writer.ensures.goes_on p (c.take_alone.ensures.goes_on p t)
+
+pub returns-in-Ok-clause-tallied : goal.returns-in-Ok-clause-tallied
+returns-in-Ok-clause-tallied g c = let t = c.in-Ok.ensures.tallied in let looks = c.note_writer.ensures.kept.1 in let tally = looks.5 in record {
+  queued = ap (λ (x : Tally). x.queued) tally ∙ t.queued;
+  interrupted = ap (λ (x : Tally). x.interrupted) tally ∙ t.interrupted;
+  refused = t.refused;
+  entered = (let e = t.entered in let swaps = looks.4 in let fronts = looks.1 in omega (arith, e, swaps, fronts));
+  left = ap (λ (x : Tally). x.left) tally ∙ t.left;
+}
+
+pub returns-in-Ok-clause-left : goal.returns-in-Ok-clause-left
+returns-in-Ok-clause-left g c = λ other. c.in-Ok.ensures.left (λ same. other (ap (λ (x : Tally). x.left) c.note_writer.ensures.kept.1.5 ∙ same))
