@@ -100,7 +100,7 @@ module _ {Call : Type 0} (o : Obj Call) (size : ℕ) (k : Plan) where
         based biased v g Clear,
         refl,
         sem-counted o size k ws vs id (old + 1) v g Clear h at record { numbered = numbered; task = refl; goes = (record { misses = omega arith; freed = λ e. refl; takes = omega arith; comes = λ _ _. omega arith }, refl); left = λ held. absurd (held out) } (inl (refl, inl refl))
-            (ap (λ (s : SemHand). s.wait) apart, omega arith, refl)
+            (ap (λ (s : SemHand). s.wait) apart, omega arith, refl, ap (λ (s : SemHand). s.rest) apart)
             (subst (λ (z : ℕ). CountMove z (old + 1) (count_part bias_of v) (part g Clear)) (sym found) record { flags = omega (arith, even); writer = λ x y. clear; lone = λ x y. nobody; reader = λ e. alone-shared e; bias = inr (inl refl) })
             (count-writes ps id (count_part bias_of v) (part g Clear) mine' old (old + 1) (more_in k ws vs) c nobody even (omega (arith, even)) (omega (arith, low, nobody, even, clear)) out refl (sym (ap (λ (s : SemHand). s.bias) apart)))
             (site-takes o counted size k (site k ws) hs id t v.hand Alone r mine out has (λ e. no-alone (sym e)) (λ _. none_held) none_alone),
