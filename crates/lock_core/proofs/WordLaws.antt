@@ -23,7 +23,7 @@ use Rattle.lock_core.specs.MoveLaws.{keeps-recs}
 use Rattle.lock_core.specs.Passes.{IsLength, IsEntryAt, MayRecord}
 use Rattle.lock_core.proofs.LayoutLaws.{lay-guarded, lay-len, lay-entries, lay-recs}
 use Rattle.lock_core.specs.Regions.{part-at}
-use Rattle.lock_core.proofs.RowLaws.{none-some, same-some, some-inside, start-below}
+use Rattle.lock_core.proofs.RowLaws.{none-some, same-some, some-inside, start-below, rec_words-at, task_recs-none}
 use Rattle.lock_core.proofs.HandLaws.{alone-is-held}
 use Rattle.lock_core.proofs.Numbering.{next-short}
 use Rattle.lock_core.proofs.Reading.{same-plan}
@@ -96,6 +96,8 @@ module _ {Call : Type 0} (o : Obj Call) (unavailable : Unavailable) (size : ℕ)
             next = omega (arith, is, inside);
             rec = x;
             fits = may.fits;
+            empty = ap (λ (z : List ℕ). get_or z (start k e.task + h.done) 0) r.tells.filled
+                ∙ (rec_words-at k r.told e.task h.done r.tells.tasks (omega (arith, is, inside)) ∙ (let l = mine.1 in task_recs-none (row k e.task) (row r.told e.task) h.done (omega (arith, l))));
             stored = ap (λ (c : ℕ). set (lay k s).recs (start k e.task + c) (rec_word x)) (sym is);
             busy = may.busy;
             done = refl;

@@ -172,6 +172,8 @@ pub record StoresRecord (step : ℕ) (w w' : SiteWords) (h g : Hand) : Type 0 wh
   pub next : h.done < length (row plan task)
   pub rec : Rec
   pub fits : IsRec rec
+  -- no record was stored there before
+  pub empty : slice_index w.recs (start plan task + h.done) ≡ 0
   pub stored : w'.recs ≡ slice_set w.recs (start plan task + h.done) (rec_word rec)
   pub busy : (word : ℕ) → rec.reply ≡ Busy word → SawSince h word
   pub done : g.done ≡ h.done + 1
