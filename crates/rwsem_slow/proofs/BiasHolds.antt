@@ -1,5 +1,5 @@
 -- A reader that comes to hold by the bias that its first addition left in the count.
-use Rattle.std.proofs.Common.{◌≡◌, ◌∙◌, ℕ, ◌+◌, ◌-◌, ◌/◌, ◌%◌, ◌^◌, ◌<◌, ◌≤◌, ◌⊎◌, inl, inr, true, false, List, map, take, get_or, set, Option, Some, sym, refl, ap, subst, arith}
+use Rattle.std.proofs.Common.{◌≡◌, ◌∙◌, ℕ, ◌+◌, ◌-◌, ◌/◌, ◌%◌, ◌^◌, ◌<◌, ◌≤◌, ◌⊎◌, inl, inr, true, false, List, [], map, take, get_or, set, Option, Some, sym, refl, ap, subst, arith}
 use Rattle.std.specs.Prelude.{Result, Ok, Err, IfErr, IfOk}
 use mathlib.Core.Logic.{dite}
 use native.Mathlib.Decide.{ℕ_discrete, dec_le}
@@ -63,8 +63,8 @@ module _ {Call : Type 0} (o : Obj Call) (size : ℕ) (k : Plan) where
   Place = Kept o size k
 
   -- the look, after which it holds where it may
-  pub steals : (slots id t word : ℕ) (me : Me (Unit {0}) V) → me.0.hand.task ≡ Some t → me.0.hand.held ≡ No → me.0.ext.sem.wait ≡ Apart → me.0.ext.sem.bias ≡ Transit word → Lets Place (RwSemMoves k) slots id me hint_at Load (StealsBy o me)
-  steals slots id t word me has out wait transit st h _ at small = let v : V = me.0 in let ws : List ℕ = st.words in let vs : List V = st.views in let hint : ℕ = get_or ws hint_at 0 in let left : left_by v.ext.sem.bias ≡ word + 256 = ap left_by transit in may-or-not (left_by v.ext.sem.bias) hint
+  pub steals : (slots id t word : ℕ) (me : Me (Unit {0}) V) → me.0.hand.task ≡ Some t → me.0.hand.held ≡ No → me.0.ext.sem.wait ≡ Apart → me.0.ext.sem.bias ≡ Transit word → me.0.ext.sem.rest ≡ [] → Lets Place (RwSemMoves k) slots id me hint_at Load (StealsBy o me)
+  steals slots id t word me has out wait transit unpicked st h _ at small = let v : V = me.0 in let ws : List ℕ = st.words in let vs : List V = st.views in let hint : ℕ = get_or ws hint_at 0 in let left : left_by v.ext.sem.bias ≡ word + 256 = ap left_by transit in may-or-not (left_by v.ext.sem.bias) hint
       (λ may. let open_it = subst (lets_in semaphore) left may.0 in let even : word % 2 ≡ 0 = (let e = open_it.0 in omega (arith, e)) in let clear : word / 4 % 2 ≡ 0 = (let e = open_it.1 in omega (arith, e)) in
       let r = h.1.site_holds in let hs : List Hand = map hand_of vs in let ps : List CountPart = map (count_part bias_of) vs in let n : ℕ = count_in ws in let mine = at_map hand_of vs id v at in let mine' = at_map (count_part bias_of) vs id v at in
       let c = (sem-count o size k ws vs h).0 in let early : early_in (count_part bias_of v) ≡ 1 - word % 2 = ap early_weight transit in let F = total-at early_in ps id (count_part bias_of v) mine' in
@@ -75,8 +75,8 @@ module _ {Call : Type 0} (o : Obj Call) (size : ℕ) (k : Plan) where
         keeps,
         tt,
         subst (λ (z : List ℕ). Goes Place (RwSemMoves k) id ws vs z (set vs id (semmed with_sem v g (record v.ext.sem { bias = Clear })))) (set-get_or ws count_at 0 ∙ sym (set-get_or ws hint_at 0))
-            (sem-counted o size k ws vs id n v g Clear h at record { numbered = λ e. none-some t (sym e ∙ has); task = refl; goes = record { misses = omega arith; freed = λ e. refl; takes = omega arith; comes = λ _ _. omega arith }; left = λ held. absurd (held out) } (inl (refl, inl refl))
-            (wait, omega arith, refl)
+            (sem-counted o size k ws vs id n v g Clear h at record { numbered = λ e. none-some t (sym e ∙ has); task = refl; goes = (record { misses = omega arith; freed = λ e. refl; takes = omega arith; comes = λ _ _. omega arith }, refl); left = λ held. absurd (held out) } (inl (refl, inl refl))
+            (wait, omega arith, refl, unpicked)
             record { flags = refl; writer = λ x y. absurd (omega (arith, x, y)); lone = λ x y. absurd (omega (arith, x, y)); reader = λ _. inr (inr (inl (word, transit, clear))); bias = inr (inl refl) }
             (count-keeps ps id (count_part bias_of v) (part g Clear) mine' n word (more_in k ws vs) c (inr even) out transit refl refl)
             (site-takes o counted size k (site k ws) hs id t v.hand Shared r mine out has (λ e. shared-holds e) (λ l. absurd (omega (arith, l))) none_alone)),

@@ -16,3 +16,4 @@ pub mod BiasHolds
 pub mod Unqueued
 pub mod Picking
 pub mod Counting
+pub mod Opening

@@ -1,15 +1,15 @@
 -- Whom a waker has picked that removes one waiter after another.
-use Rattle.std.proofs.Common.{◌≡◌, ◌≢◌, ◌∙◌, ℕ, zero, suc, ◌+◌, ◌<◌, ◌≤◌, ◌==◌, inl, inr, Bool, true, false, List, [], ◌∷◌, ◌++◌, length, map, filter, take, take_all, sym, refl, ap, subst, arith, eq-eqb, ne_eqb, if◌then◌else◌}
+use Rattle.std.proofs.Common.{◌≡◌, ◌≢◌, ◌∙◌, ℕ, zero, ◌+◌, ◌<◌, ◌≤◌, ◌==◌, inl, inr, Bool, true, false, List, [], ◌∷◌, ◌++◌, length, map, filter, take, take_all, append_assoc, sym, refl, ap, subst, arith, eq-eqb, ne_eqb, if◌then◌else◌}
+use Rattle.std.proofs.lemmas.List.{append-nil, length_push}
 use Rattle.lock_core.specs.Records.{bit}
-use Rattle.lock_core.specs.Totals.{total}
 use Rattle.lock_core.proofs.HandLaws.{not-both}
 use Rattle.wait_list.specs.declared.view.Waiter.{Waiter}
 use Rattle.wait_list.specs.Lists.{IsList, counted, first_code, without}
 use Rattle.rwsem_wake.specs.Batches.{batch_of, reads, starts_with_reader, task_of}
-use Rattle.rwsem_wake.specs.SemParts.{IsWhole, reader_of}
+use Rattle.rwsem_wake.specs.SemParts.{IsWhole}
 use Rattle.rwsem_wake.specs.Stated.{IsFirstReader}
 use Rattle.rwsem_slow.specs.ListSteps.{reader-counts}
-use Rattle.rwsem_slow.specs.Picking.{PicksFirstReaders, PicksWholeBatch}
+use Rattle.rwsem_slow.specs.Picking.{PicksBatchInTurn, PicksFirstReaders, PicksInTurn, PicksWholeBatch}
 use Rattle.rwsem_slow.specs.Removals.{AreHeads, BeginsWith, without_all}
 use Rattle.rwsem_slow.proofs.Removing.{all-readers, heads-behind-it, heads-first, readers-all, sound-behind}
 
@@ -73,3 +73,24 @@ whole-batch q (t ∷ ts) s some few h begins whole = let rs : List ℕ = map tas
 
 pub picks_whole_batch : PicksWholeBatch
 picks_whole_batch = whole-batch
+
+-- what a waker has picked so far, of the list that it began with
+abbrev HasPicked : List Waiter → List ℕ → List Waiter → Type 0
+HasPicked was batch q = AreHeads batch was × BeginsWith batch was × (length batch ≤ 256) × (q ≡ without_all batch was)
+
+-- the first of them stays the first
+begins-more : (was : List Waiter) (batch : List ℕ) (t : ℕ) → BeginsWith batch was → (batch ≡ [] → first_code was ≡ t + 1) → BeginsWith (batch ++ t ∷ []) was
+begins-more was [] t begins first = first refl
+begins-more was (u ∷ ts) t begins first = begins
+
+picked-in-turn : (was : List Waiter) → IsList was → (begun : List ℕ) (q : List Waiter) (ts : List ℕ) (q' : List Waiter) → HasPicked was begun q → PicksInTurn begun q ts q' → HasPicked was (begun ++ ts) q'
+picked-in-turn was s begun q [] q' h is = subst (λ (z : List ℕ). HasPicked was z q') (sym (append-nil begun)) (h.0, h.1, h.2, is ∙ h.3)
+picked-in-turn was s begun q (t ∷ ts) q' h p = let next = p.0 in let room = next.2 in let more = picks_first_readers was begun t s h.0 (subst (IsFirstReader t) h.3 next.0) in let long = length_push begun t in
+    subst (λ (z : List ℕ). HasPicked was z q') (append_assoc begun (t ∷ []) ts)
+    (picked-in-turn was s (begun ++ t ∷ []) (without t q) ts q' (more.0, begins-more was begun t h.1 (λ none. ap first_code (sym (started none)) ∙ next.1 none), omega (arith, long, room), ap (without t) h.3 ∙ sym more.1) p.1)
+  where
+    started : begun ≡ [] → q ≡ was
+    started none = h.3 ∙ ap (λ (z : List ℕ). without_all z was) none
+
+pub picks_batch_in_turn : PicksBatchInTurn
+picks_batch_in_turn = λ q q' batch s p some whole. let h = picked-in-turn q s [] q batch q' (tt, tt, omega arith, refl) p in (whole-batch q batch s some h.2 h.0 h.1 (subst (IsWhole batch) h.3 whole), h.3)

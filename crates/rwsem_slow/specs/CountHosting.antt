@@ -47,9 +47,9 @@ module _ (ps : List SemPart) (id : ℕ) (v u : SemPart) (at : get_elem? ps id �
   counts-kept count ok = let f = move.flags in sem-counts ps id v at u n m q marks grants r task wait rest stage (omega (arith, f)) (omega (arith, f)) (subst (CountKept m (more_of grants ps)) (sym (map-set ps id u)) count) ok
 
   -- it keeps to a handoff
-  counts-hands : (own : ℕ) → v.task ≡ Some own → KeepsHandoff id n q marks grants ps m marks grants (set ps id u)
-  counts-hands own has = elim (native.Mathlib.Decide.dec_le (m % 2) (n % 2)) [
-    | no more ↦ hands-free id n q marks grants ps v u at m (inl (move.writer (omega (arith, more)) (omega (arith, more)))) move.lone unasked (own-comes id n q marks grants ps v u at own has elsewhere) goes
+  counts-hands : (own : ℕ) → v.task ≡ Some own → v.sem.rest ≡ [] → KeepsHandoff id n q marks grants ps m marks grants (set ps id u)
+  counts-hands own has none_under = elim (native.Mathlib.Decide.dec_le (m % 2) (n % 2)) [
+    | no more ↦ hands-free id n q marks grants ps v u at m (inl (move.writer (omega (arith, more)) (omega (arith, more)))) move.lone unasked (own-comes id n q marks grants ps v u at own has none_under elsewhere) goes
     | yes low ↦ by-hold u.held refl low
   ]
     where
@@ -91,8 +91,8 @@ module _ (ps : List SemPart) (id : ℕ) (v u : SemPart) (at : get_elem? ps id �
       shares low e = elim (move.reader e) [
         | inl was ↦ hands-step id n q marks grants ps v u at m marks low (λ t. no-more t (let a : shared_weight u.held ≡ shared_weight v.held = ap shared_weight (e ∙ sym was) in omega (arith, a))) unasked goes
         | inr more ↦ elim more [
-          | inl none ↦ hands-free id n q marks grants ps v u at m (inl none) move.lone unasked (own-comes id n q marks grants ps v u at own has elsewhere) goes
-          | inr may ↦ hands-reads id n q marks grants ps v u at m own low has may elsewhere unasked goes
+          | inl none ↦ hands-free id n q marks grants ps v u at m (inl none) move.lone unasked (own-comes id n q marks grants ps v u at own has none_under elsewhere) goes
+          | inr may ↦ hands-reads id n q marks grants ps v u at m own low has none_under may elsewhere unasked goes
         ]
       ]
 
@@ -124,7 +124,7 @@ module _ {Call : Type 0} (o : Obj Call) (size : ℕ) where
       let words : sem_words (set ws count_at n) ≡ (n, marks_in ws, grants_in ws) = λ i. (word i, marks i, grants i) in let none : reads_of u ≡ 0 = ap reads_weight may.0 in let light = may.1 in let clear = may.2 in
       let ok : SemPartOk u = number-or-not h.task (λ out. absurd (step.numbered (sym step.task ∙ out))) (λ t has. ok-of u t has ((r.sem.each id (seen v) mine).rest) (let s = (held-most h.held).1 in omega (arith, none, light, s)) (omega (arith, clear)) (omega (arith, none, light)) (let l = transit-most b in omega (arith, light, l))) in
       let kept = counts-kept ps id (seen v) u mine (count_in ws) n q (marks_in ws) (grants_in ws) r.sem step.task refl refl refl move (subst (λ (z : List CountPart). CountKept n (more_in k ws vs) (set z id (part h b))) (sym (same-parts vs)) count) ok in
-      let hands = number-or-not v.hand.task (λ out. absurd (step.numbered out)) (λ t has. counts-hands ps id (seen v) u mine (count_in ws) n q (marks_in ws) (grants_in ws) r.sem step.task refl refl refl move t has) in
+      let hands = number-or-not v.hand.task (λ out. absurd (step.numbered out)) (λ t has. counts-hands ps id (seen v) u mine (count_in ws) n q (marks_in ws) (grants_in ws) r.sem step.task refl refl refl move t has may.3) in
       sem-turns o size k ws vs q id count_at n v h s r at (omega arith) (omega arith) (λ l. absurd (omega (arith, l))) (r.locked id v at) (subst (HandStep v.hand h) (sym word) step) tries
       (subst (λ (z : SemWords). SemKept z.0 q z.1 z.2 (set ps id u)) (sym words) kept)
       (subst (λ (z : SemWords). KeepsHandoff id (count_in ws) q (marks_in ws) (grants_in ws) ps z.0 z.1 z.2 (set ps id u)) (sym words) hands) there

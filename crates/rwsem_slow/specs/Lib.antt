@@ -11,8 +11,10 @@ pub mod Removals
 pub mod Wakes
 pub mod Releasing
 pub mod Queued
+pub mod Counting
 pub mod Leaving
 pub mod Standing
 pub mod Stealing
 pub mod Spinning
+pub mod Opening
 pub mod Picking

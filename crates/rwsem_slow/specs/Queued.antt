@@ -108,18 +108,6 @@ AppendedBy Fast v u = ⊥
 AppendedBy Spun v u = u.ext.appends ≡ v.ext.appends
 AppendedBy Slept v u = u.ext.appends ≡ v.ext.appends + 1
 
--- what a call that reads counted on its CPU: nothing, unless it appended itself
-abbrev pub CountsReading : How → (sleeps sleeps' rescheds rescheds' : ℕ) → Type 0
-CountsReading Fast sleeps sleeps' rescheds rescheds' = (sleeps' ≡ sleeps) × (rescheds' ≡ rescheds)
-CountsReading Spun sleeps sleeps' rescheds rescheds' = (sleeps' ≡ sleeps) × (rescheds' ≡ rescheds)
-CountsReading Slept sleeps sleeps' rescheds rescheds' = Unit {0}
-
--- what one that writes counted on it: nothing by its first try, and no sleep while it spun
-abbrev pub CountsWriting : How → (sleeps sleeps' rescheds rescheds' : ℕ) → Type 0
-CountsWriting Fast sleeps sleeps' rescheds rescheds' = (sleeps' ≡ sleeps) × (rescheds' ≡ rescheds)
-CountsWriting Spun sleeps sleeps' rescheds rescheds' = (sleeps' ≡ sleeps) × (rescheds ≤ rescheds')
-CountsWriting Slept sleeps sleeps' rescheds rescheds' = Unit {0}
-
 -- a reader whose bias is in the count, and whose try saw that it may not hold by it at once
 abbrev pub IsInTransit : V → Type 0
 IsInTransit v = ((word : ℕ) × (v.ext.sem ≡ record apart_hand { bias = Transit word })) × (v.ext.list.changes ≡ false)

@@ -163,7 +163,7 @@ KeepsCount h g word = h.held ≢ No → g.held ≢ h.held → g.freed ≡ word
 abbrev pub MayMiss : V → Type 0
 MayMiss v = (v.ext.sem.wait ≡ Apart) × (v.ext.sem.bias ≡ Clear)
 
--- what a step may do: all that each step of a site, of a spin lock and of a list does; a waiter enters by itself, and leaves by itself or in a waker's batch; while the first waiter is marked and HANDOFF is set, nobody but it writes, and who reads had a bias since before, or held alone; at any time who reads comes to it by itself, or in a whole batch, and does so until it ends its hold; a waker or a writer of the list asks for a handoff, and marks the first waiter; a batch is granted in the order in which it was picked; who ends or downgrades a hold keeps the count that it left; who is at a stage has the wait lock; an append is counted by the pass that enters; and a failed try by one that waits for nothing and has no bias in the count
+-- what a step may do: all that each step of a site, of a spin lock and of a list does; a waiter enters by itself, and leaves by itself or in a waker's batch; while the first waiter is marked and HANDOFF is set, nobody but it writes, and who reads had a bias since before, or held alone; at any time who reads comes to it by itself, with no batch under way, or in a whole batch, and does so until it ends its hold; a waker or a writer of the list asks for a handoff, and marks the first waiter; a batch is granted in the order in which it was picked; who ends or downgrades a hold keeps the count that it left; who is at a stage has the wait lock; an append is counted by the pass that enters; and a failed try by one that waits for nothing and has no bias in the count
 pub record RwSemMoves (k : Plan) (id : ℕ) (ws : List ℕ) (vs : List V) (us : List ℕ) (vs' : List V) : Type 0 where
   pub site : SiteMove id (count_in ws) (site k ws) vs (site k us) vs'
   pub spin : SpinMoves id (spin_words ws) (map spin_part vs) (spin_words us) (map spin_part vs')
@@ -185,9 +185,9 @@ rests v = v.ext.sem ≡ apart_hand
 abbrev pub biased : V → Hand → Bias → RwSemHand
 biased v h b = with_sem v.ext (record v.ext.sem { bias = b })
 
--- a pass that waits for nothing may change how it holds and its bias: it has one of them at most, and reserves none
+-- a pass that waits for nothing, and has no batch under way, may change how it holds and its bias: it has one of them at most, and reserves none
 abbrev pub may_count : V → CountPart → Type 0
-may_count v p = (v.ext.sem.wait ≡ Apart) × (held_weight p.held + (early_weight p.bias + late_weight p.bias) ≤ 1) × (reserve_weight p.bias ≡ 0)
+may_count v p = (v.ext.sem.wait ≡ Apart) × (held_weight p.held + (early_weight p.bias + late_weight p.bias) ≤ 1) × (reserve_weight p.bias ≡ 0) × (v.ext.sem.rest ≡ [])
 
 -- any count may stand there
 abbrev pub any_count : ℕ → Type 0

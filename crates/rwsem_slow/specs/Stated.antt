@@ -83,7 +83,7 @@ MadeBy (Leave t) id h ps ps' q m = HasWaitLock id m × (((h.task ≡ Some t) × 
 
 -- One step of one pass, made while this was the list and these the parts of the passes.
 -- The list changes by one append or one removal, which keeps the others in order. Each append is counted by the pass that enters.
--- While the first waiter is marked and HANDOFF is set, the writer's bit comes by that waiter alone, at any time only where nobody is counted, and a task becomes a reader only by a bias whose addition saw no HANDOFF, or by a downgrade. A bias keeps the count that its addition found. At any time it becomes one by a step of its own pass, or in a waker's whole batch, and it is one until its own pass ends its shared hold.
+-- While the first waiter is marked and HANDOFF is set, the writer's bit comes by that waiter alone, at any time only where nobody is counted, and a task becomes a reader only by a bias whose addition saw no HANDOFF, or by a downgrade. A bias keeps the count that its addition found. At any time it becomes one by a step of its own pass, which has no batch under way, or in a waker's whole batch, and it is one until its own pass ends its shared hold.
 -- HANDOFF is set by a waker with a reserved bias where the first waiter is marked, or by a writer of the list, which is to mark it from then on, and stays until a writer takes, a waker puts a batch of some readers into the count, or nobody waits. A mark is set by one of these, and is the first waiter's; it goes by that waiter's own pass, or by a waker whose batch has it next.
 -- A batch grows by the readers that its waker picks, and is granted in this order once it is in the count; no other step clears a grant word.
 -- Who is about something, before its step or behind it, has the wait lock. Who ends or downgrades a hold keeps the count that its step left. Whose failed try is counted waits for nothing, and has no bias in the count.

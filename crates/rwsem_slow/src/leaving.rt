@@ -152,6 +152,8 @@ fn leave_first<O: Object, C: Cpu>(
     ensures left { HasLeft (view_of pass.old) (view_of pass.new) }
     ensures woken { WakesOn (without task (view_of pass.old).ext.list.list) woken.new.items
         (seen_of pass.old) (seen_of pass.new) }
+    ensures sleeps { C.sleeps cpu.new ≡ C.sleeps cpu.old }
+    ensures rescheds { C.rescheds cpu.new ≡ C.rescheds cpu.old }
 {
     unmark(site, pass, task);
     if remove_first(site, pass, task) {
@@ -186,6 +188,8 @@ fn leave<O: Object, C: Cpu>(
     requires empty { woken.old.items ≡ [] }
     ensures on { StepsOn site.now pass.old pass.new }
     ensures left { HasLeft (view_of pass.old) (view_of pass.new) }
+    ensures sleeps { C.sleeps cpu.new ≡ C.sleeps cpu.old }
+    ensures rescheds { C.rescheds cpu.new ≡ C.rescheds cpu.old }
 {
     let Some(task) = pass.task() else {
         unreachable!()
@@ -218,6 +222,9 @@ pub fn interrupt<O: Object, C: Cpu, K: Crew>(
     ensures outside { IsOutside (view_of pass.new) }
     ensures line { KeepsLine (view_of pass.old) (view_of pass.new) }
     ensures consumed { OnlyConsumed (view_of pass.old) (view_of pass.new) }
+    ensures entries { (view_of pass.new).spin.entries ≡ (view_of pass.old).spin.entries }
+    ensures sleeps { C.sleeps cpu.new ≡ C.sleeps cpu.old }
+    ensures rescheds { C.rescheds cpu.new ≡ C.rescheds cpu.old }
 {
     let mut woken: ArrayVec<u32, BATCH> = ArrayVec::new();
     // Under the wait lock: a reader that is granted before has its hold, and its signal stays.

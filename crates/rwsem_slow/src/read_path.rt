@@ -1,5 +1,6 @@
 //! The slow path of a reader: its wait lock, its list and its sleep.
 ghost use Rattle.std.specs.Prelude.{◌≡◌, ◌+◌, true, false, IfErr, IfOk, IsSome};
+ghost use Rattle.lock_core.specs.declared.how.How.TheVariants.{Spun};
 ghost use Rattle.lock_core.specs.declared.view.Held.TheVariants.{No, Shared};
 ghost use Rattle.lock_core.specs.Handles.{plan_of, view_of, hand_in, task_in, held_in, SitsAt};
 ghost use Rattle.lock_core.specs.Locking.{SawPending, Takes};
@@ -8,8 +9,9 @@ ghost use Rattle.lock_core.specs.Records.{bit};
 ghost use Rattle.lock_core.specs.Views.{SpinHolds, SpinRests};
 ghost use Rattle.rwsem_wake.specs.declared.view.Wait.TheVariants.{Reads};
 ghost use Rattle.rwsem_wake.specs.SemParts.{some_of};
+ghost use Rattle.rwsem_slow.specs.Counting.{SleepsBetween};
 ghost use Rattle.rwsem_slow.specs.Places.{IsOutside, StepsOn, seen_of};
-ghost use Rattle.rwsem_slow.specs.Queued.{AppendedBy, CountsReading, EntersLock, IsInLine, IsInTransit, KeepsLine, Shares};
+ghost use Rattle.rwsem_slow.specs.Queued.{AppendedBy, EntersLock, IsInLine, IsInTransit, KeepsLine, Shares};
 ghost use Rattle.rwsem_slow.specs.Removals.{KnowsList};
 
 use crate::hint::note_reader;
@@ -43,6 +45,8 @@ fn queue<O: Object, C: Cpu, K: Crew>(
     ensures spin { (view_of pass.new).spin ≡ (view_of pass.old).spin }
     ensures fronts { (view_of pass.new).fronts ≡ (view_of pass.old).fronts }
     ensures appended { (view_of pass.new).ext.appends ≡ (view_of pass.old).ext.appends + 1 }
+    ensures sleeps { C.sleeps cpu.new ≡ C.sleeps cpu.old }
+    ensures rescheds { C.rescheds cpu.new ≡ C.rescheds cpu.old }
 {
     // The count that its own bias leaves says who is to be woken: the writer that the bias kept out
     // may be waiting for nobody else.
@@ -73,6 +77,8 @@ fn quit<O: Object, W: Wait, C: Cpu, K: Crew>(
     ensures took { result ≡ false →
         Shares O.object (plan_of site.now) (view_of pass.old) (view_of pass.new) }
     ensures consumed { result ≡ true → OnlyConsumed (view_of pass.old) (view_of pass.new) }
+    ensures sleeps { C.sleeps cpu.new ≡ C.sleeps cpu.old }
+    ensures rescheds { C.rescheds cpu.new ≡ C.rescheds cpu.old }
 {
     qspin_queue::lock(site, rt, pass);
     // The batch of a waker that came first has the reader's bias in the count: who left then would
@@ -112,6 +118,9 @@ fn wait<O: Object, W: Wait, C: Cpu, K: Crew>(
     ensures pending { IfErr result (λ why.
         SawPending why (seen_of pass.old) (seen_of pass.new)) }
     ensures asked { IfErr result (λ _. interruptible ≡ true) }
+    ensures sleeps { SleepsBetween (view_of pass.old).steps (view_of pass.new).steps
+        (C.sleeps cpu.old) (C.sleeps cpu.new) }
+    ensures rescheds { C.rescheds cpu.new ≡ C.rescheds cpu.old }
 {
     for _ in rt.forever() {
         // A wake comes once: the load before each sleep sees a grant that came before it.
@@ -159,8 +168,10 @@ pub fn read_in_line<O: Object, W: Wait, C: Cpu, K: Crew>(
     ensures pending { IfErr result (λ why.
         SawPending why (seen_of pass.old) (seen_of pass.new)) }
     ensures asked { IfErr result (λ _. interruptible ≡ true) }
-    ensures counts { IfOk result (λ how. CountsReading how (C.sleeps cpu.old) (C.sleeps cpu.new)
-        (C.rescheds cpu.old) (C.rescheds cpu.new)) }
+    ensures sleeps { SleepsBetween (view_of pass.old).steps (view_of pass.new).steps
+        (C.sleeps cpu.old) (C.sleeps cpu.new) }
+    ensures rescheds { C.rescheds cpu.new ≡ C.rescheds cpu.old }
+    ensures awake { IfOk result (λ how. how ≡ Spun → C.sleeps cpu.new ≡ C.sleeps cpu.old) }
 {
     qspin_queue::lock(site, rt, pass);
     let Some(empty) = reading::settle(site, pass) else {

@@ -89,7 +89,7 @@ pub fn hear<O: Object>(site: &Site<SemRule<O>>, pass: &mut Pass<SemRule<O>>) -> 
         Shares O.object (plan_of site.now) (view_of pass.old) (view_of pass.new) }
     ensures spin { (view_of pass.new).spin ≡ (view_of pass.old).spin }
     ensures face { result ≡ false → SaysSame pass.old pass.new }
-    ensures later { (view_of pass.old).steps ≤ (view_of pass.new).steps }
+    ensures later { (view_of pass.new).steps ≡ (view_of pass.old).steps + 1 }
     ensures missed { result ≡ false → Stays (view_of pass.old) (view_of pass.new) }
 {
     let Some(task) = pass.task() else {

@@ -1,6 +1,7 @@
 //! Tries of a writer that stands in no list, and spins.
 ghost use Rattle.std.specs.Prelude.{◌≡◌, ◌≢◌, ◌↔◌, ◌+◌, ◌≤◌, true, false, IsSome, IsTrue, IfOk, IfErr};
 ghost use Rattle.word_bits.specs.LockWords.{IsLawfulCount};
+ghost use Rattle.lock_core.specs.declared.how.How.TheVariants.{Spun};
 ghost use Rattle.lock_core.specs.declared.view.Held.TheVariants.{No, Alone};
 ghost use Rattle.lock_core.specs.Handles.{IsLatest, plan_of, view_of, past_of, task_in, held_in, SitsAt, KeepsPast, SaysSame};
 ghost use Rattle.lock_core.specs.Kinds.{semaphore, unavailable};
@@ -10,6 +11,7 @@ ghost use Rattle.osq_nodes.specs.declared.node.Place.TheVariants.{Front};
 ghost use Rattle.osq_nodes.specs.Handles as spinners;
 ghost use Rattle.rwsem_count.specs.Tries.{MissesSince, TakesCount, TakesSince};
 ghost use Rattle.rwsem_wake.specs.SemParts.{apart_hand};
+ghost use Rattle.rwsem_slow.specs.Opening.{FindsUnlocked, TakesOpen};
 ghost use Rattle.rwsem_slow.specs.Places.{IsOutside, StepsOn, seen_of};
 ghost use Rattle.rwsem_slow.specs.RwSems.{biased, count_at};
 ghost use Rattle.rwsem_slow.specs.Spinning.{IsUnlocked, LookedUnqueued, SawUnqueued, SeesShut, StandsSame, TakenUnqueued};
@@ -115,6 +117,7 @@ fn try_unqueued<O: Object, W: Wait>(
         MissesSince (view_of pass.old) word (view_of pass.new)) }
     ensures shut { IfErr result (λ word. unavailable semaphore false word) }
     ensures found { IfErr result (λ word. FoundAt count_at word (past_of pass.new)) }
+    ensures opened { IfOk result (λ _. FindsUnlocked (past_of pass.new)) }
 {
     let mut word = look(site, pass);
     for _ in rt.forever() {
@@ -147,6 +150,7 @@ fn try_outside<O: Object, W: Wait>(
     ensures same { StandsSame (view_of pass.old) (view_of pass.new) }
     ensures took { result ≡ true →
         Takes O.object (plan_of site.now) Alone (seen_of pass.old) (seen_of pass.new) }
+    ensures opened { result ≡ true → TakesOpen Spun (seen_of pass.old) (seen_of pass.new) }
     ensures missed { result ≡ false → OnlyTried (seen_of pass.old) (seen_of pass.new) }
     ensures saw { result ≡ false → SeesShut (seen_of pass.old) (seen_of pass.new) }
     ensures out { result ≡ false → held_in pass.new ≡ No }
@@ -178,6 +182,7 @@ pub fn spin<O: Object, W: Wait, C: Cpu>(
     ensures same { StandsSame (view_of pass.old) (view_of pass.new) }
     ensures took { result ≡ true →
         Takes O.object (plan_of site.now) Alone (seen_of pass.old) (seen_of pass.new) }
+    ensures opened { result ≡ true → TakesOpen Spun (seen_of pass.old) (seen_of pass.new) }
     ensures missed { result ≡ false → OnlyTried (seen_of pass.old) (seen_of pass.new) }
     ensures saw { result ≡ false → SeesShut (seen_of pass.old) (seen_of pass.new) }
     ensures out { result ≡ false → held_in pass.new ≡ No }

@@ -1,6 +1,7 @@
 //! A reader that comes to hold by the bias that its first addition left in the count, though tasks
 //! wait.
 ghost use Rattle.std.specs.Prelude.{◌≡◌, ◌↔◌, ◌+◌, true, false, IfErr, IfOk, IsSome, IsTrue};
+ghost use Rattle.lock_core.specs.declared.how.How.TheVariants.{Spun};
 ghost use Rattle.lock_core.specs.declared.view.Held.TheVariants.{No, Shared};
 ghost use Rattle.lock_core.specs.Handles.{plan_of, view_of, task_in, held_in, SitsAt, KeepsPast, SaysSame};
 ghost use Rattle.lock_core.specs.Kinds.{lets_in, semaphore};
@@ -8,8 +9,9 @@ ghost use Rattle.lock_core.specs.Locking.{SawPending, Takes};
 ghost use Rattle.lock_core.specs.Shown.{LeavesHold};
 ghost use Rattle.lock_core.specs.Signals.{OnlyConsumed};
 ghost use Rattle.lock_core.specs.Views.{SpinRests, ticked};
+ghost use Rattle.rwsem_slow.specs.Counting.{SleepsBetween};
 ghost use Rattle.rwsem_slow.specs.Places.{IsOutside, StepsOn, seen_of};
-ghost use Rattle.rwsem_slow.specs.Queued.{CountsReading, EntersLock, IsInTransit, KeepsLine, Shares};
+ghost use Rattle.rwsem_slow.specs.Queued.{EntersLock, IsInTransit, KeepsLine, Shares};
 ghost use Rattle.rwsem_slow.specs.Stealing.{IsShared, MaySteal, StealsBy, WentOn, left_by};
 ghost use Rattle.rwsem_slow.specs.Wakes.{MayWake};
 
@@ -150,8 +152,10 @@ pub fn read_slowly<O: Object, W: Wait, C: Cpu, K: Crew>(
     ensures pending { IfErr result (λ why.
         SawPending why (seen_of pass.old) (seen_of pass.new)) }
     ensures asked { IfErr result (λ _. interruptible ≡ true) }
-    ensures counts { IfOk result (λ how. CountsReading how (C.sleeps cpu.old) (C.sleeps cpu.new)
-        (C.rescheds cpu.old) (C.rescheds cpu.new)) }
+    ensures sleeps { SleepsBetween (view_of pass.old).steps (view_of pass.new).steps
+        (C.sleeps cpu.old) (C.sleeps cpu.new) }
+    ensures rescheds { C.rescheds cpu.new ≡ C.rescheds cpu.old }
+    ensures awake { IfOk result (λ how. how ≡ Spun → C.sleeps cpu.new ≡ C.sleeps cpu.old) }
 {
     if steal(site, pass, left) {
         // Spinning writers see early that readers have the lock: not only once the readers that

@@ -1,5 +1,5 @@
 //! Wakes of a semaphore's waiters, under its wait lock.
-ghost use Rattle.std.specs.Prelude.{◌≡◌, ◌<◌, ◌≤◌, ◌+◌, ◌||◌, [], Bool, true, false, IsSome, Some, length};
+ghost use Rattle.std.specs.Prelude.{◌≡◌, ◌<◌, ◌≤◌, ◌+◌, ◌||◌, ℕ, [], Bool, true, false, IsSome, Some, length};
 ghost use Rattle.lock_core.specs.Handles.{IsLatest, view_of, task_in, SitsAt, KeepsPast, SaysSame};
 ghost use Rattle.lock_core.specs.Records.{bit};
 ghost use Rattle.lock_core.specs.Views.{SpinHolds};
@@ -35,15 +35,26 @@ pub enum WakeType {
     ReadOwned,
 }
 
-/// Who says whether the time of the first waiter is over.
+/// Who says whether the time of the first waiter is over: a waiter's CPU, or nobody.
 pub trait Patience {
     /// Whether it has said so.
     ghost said: { Self → Bool };
 
+    /// By which reference it asks a CPU.
+    ghost asked: { Self → ℕ };
+
+    /// How often that CPU slept, and how often it answered that it needs rescheduling.
+    ghost sleeps: { Self → ℕ };
+
+    ghost rescheds: { Self → ℕ };
+
     /// Is asked by a wake that finds a writer: where it is over, the lock is to be handed to the
     /// first waiter.
     fn is_over(&mut self) -> bool
-        ensures { said self.new ≡ (result || said self.old) };
+        ensures said { said self.new ≡ (result || said self.old) }
+        ensures asked { asked self.new ≡ asked self.old }
+        ensures sleeps { sleeps self.new ≡ sleeps self.old }
+        ensures rescheds { rescheds self.new ≡ rescheds self.old };
 }
 
 /// That of a release, which has no CPU of its own: a wake of it never asks for a handoff.
@@ -52,6 +63,12 @@ pub struct Endless;
 
 impl Patience for Endless {
     ghost said = { λ e. false };
+
+    ghost asked = { λ e. 0 };
+
+    ghost sleeps = { λ e. 0 };
+
+    ghost rescheds = { λ e. 0 };
 
     fn is_over(&mut self) -> bool {
         false
@@ -68,6 +85,12 @@ pub struct Waited<'a, C> {
 
 impl<'a, C: Cpu> Patience for Waited<'a, C> {
     ghost said = { λ w. w.over };
+
+    ghost asked = { λ w. w.cpu.ghost_name };
+
+    ghost sleeps = { λ w. C.sleeps w.cpu.now };
+
+    ghost rescheds = { λ w. C.rescheds w.cpu.now };
 
     fn is_over(&mut self) -> bool {
         if !self.cpu.overdue() {
@@ -179,6 +202,9 @@ fn grant_unless_written<O: Object, P: Patience>(
     ensures steps { result ≡ true → P.said patience.old ≡ false →
         (view_of pass.new).steps ≡ (view_of pass.old).steps + 2 + bit (P.said patience.new) }
     ensures unasked { result ≡ false → P.said patience.new ≡ P.said patience.old }
+    ensures asked { P.asked patience.new ≡ P.asked patience.old }
+    ensures sleeps { P.sleeps patience.new ≡ P.sleeps patience.old }
+    ensures rescheds { P.rescheds patience.new ≡ P.rescheds patience.old }
 {
     // A writer that comes after the reserved bias finds the count taken; one that was there before
     // is seen here, and its release wakes the readers.
@@ -218,6 +244,9 @@ pub fn wake<O: Object, P: Patience>(
     requires empty { woken.old.items ≡ [] }
     ensures on { StepsOn site.now pass.old pass.new }
     ensures wakes { Wakes kind woken.new.items pass.old pass.new }
+    ensures asked { P.asked patience.new ≡ P.asked patience.old }
+    ensures sleeps { P.sleeps patience.new ≡ P.sleeps patience.old }
+    ensures rescheds { P.rescheds patience.new ≡ P.rescheds patience.old }
 {
     let Some(first) = list::first(site, pass) else {
         return;

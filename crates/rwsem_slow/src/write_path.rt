@@ -1,5 +1,6 @@
 //! The slow path of a writer: its wait lock, its list and its sleep.
-ghost use Rattle.std.specs.Prelude.{◌≡◌, ◌≢◌, ◌+◌, true, IfErr, IfOk, IfSome, IsSome};
+ghost use Rattle.std.specs.Prelude.{◌≡◌, ◌≢◌, ◌+◌, true, IfErr, IfOk, IfNone, IfSome, IsSome};
+ghost use Rattle.cpu_task.specs.Counting.{one_more};
 ghost use Rattle.lock_core.specs.declared.how.How.TheVariants.{Slept};
 ghost use Rattle.lock_core.specs.declared.view.Held.TheVariants.{No, Alone};
 ghost use Rattle.lock_core.specs.Handles.{plan_of, view_of, hand_in, task_in, held_in, SitsAt};
@@ -8,6 +9,8 @@ ghost use Rattle.lock_core.specs.Signals.{HasHeard, OnlyConsumed};
 ghost use Rattle.lock_core.specs.Views.{SpinHolds, SpinRests};
 ghost use Rattle.rwsem_count.specs.Counts.{shared_weight};
 ghost use Rattle.rwsem_wake.specs.declared.view.Wait.TheVariants.{Writes};
+ghost use Rattle.rwsem_slow.specs.Counting.{SleepsEachTurn};
+ghost use Rattle.rwsem_slow.specs.Opening.{TakesOpen};
 ghost use Rattle.rwsem_slow.specs.Places.{IsOutside, StepsOn, seen_of};
 ghost use Rattle.rwsem_slow.specs.Queued.{AppendedBy, EntersLock, IsInLine, IsToQuit, KeepsLine, WaitsOn};
 ghost use Rattle.rwsem_slow.specs.Removals.{StaysBeside};
@@ -55,6 +58,8 @@ pub fn wake_others<O: Object, C: Cpu, K: Crew>(
     ensures on { StepsOn site.now pass.old pass.new }
     ensures beside { StaysBeside (view_of pass.old) (view_of pass.new) }
     ensures rests { IsAtRest (view_of pass.new) }
+    ensures sleeps { C.sleeps cpu.new ≡ C.sleeps cpu.old }
+    ensures rescheds { C.rescheds cpu.new ≡ C.rescheds cpu.old }
 {
     if count % 2 == WRITER {
         return;
@@ -91,6 +96,10 @@ fn sleep<O: Object, W: Wait, C: Cpu>(
     ensures pending { IfSome result (λ why.
         SawPending why (seen_of pass.old) (seen_of pass.new)) }
     ensures asked { IfSome result (λ _. interruptible ≡ true) }
+    ensures entries { (view_of pass.new).spin.entries ≡ (view_of pass.old).spin.entries + 1 }
+    ensures slept { IfNone result (C.sleeps cpu.new ≡ one_more (C.sleeps cpu.old)) }
+    ensures awake { IfSome result (λ _. C.sleeps cpu.new ≡ C.sleeps cpu.old) }
+    ensures rescheds { C.rescheds cpu.new ≡ C.rescheds cpu.old }
 {
     qspin_word::unlock(site, pass);
     if let Some(why) = pending(site, pass, interruptible) {
@@ -122,12 +131,18 @@ fn wait<O: Object, W: Wait, C: Cpu>(
     ensures misses { (hand_in pass.new).misses ≡ (hand_in pass.old).misses }
     ensures took { IfOk result (λ _. Takes O.object (plan_of site.now) Alone
         (seen_of pass.old) (seen_of pass.new)) }
+    ensures opened { IfOk result (λ _. TakesOpen Slept (seen_of pass.old) (seen_of pass.new)) }
     ensures quits { IfOk result (λ _. IsToQuit (view_of pass.new)) }
     ensures waits { IfErr result (λ _. WaitsOn Writes (view_of pass.old) (view_of pass.new)) }
     ensures heard { IfErr result (λ why. HasHeard why (hand_in pass.new)) }
     ensures pending { IfErr result (λ why.
         SawPending why (seen_of pass.old) (seen_of pass.new)) }
     ensures asked { IfErr result (λ _. interruptible ≡ true) }
+    ensures slept { IfOk result (λ _. SleepsEachTurn (view_of pass.old).spin.entries
+        (view_of pass.new).spin.entries (C.sleeps cpu.old) (C.sleeps cpu.new)) }
+    ensures awake { IfErr result (λ _. SleepsEachTurn ((view_of pass.old).spin.entries + 1)
+        (view_of pass.new).spin.entries (C.sleeps cpu.old) (C.sleeps cpu.new)) }
+    ensures rescheds { C.rescheds cpu.new ≡ C.rescheds cpu.old }
 {
     for _ in rt.forever() {
         // A release wakes once: a writer that finds the semaphore free must take it before it
@@ -160,6 +175,8 @@ fn queue<O: Object, C: Cpu, K: Crew>(
     ensures spin { (view_of pass.new).spin ≡ (view_of pass.old).spin }
     ensures fronts { (view_of pass.new).fronts ≡ (view_of pass.old).fronts }
     ensures appended { (view_of pass.new).ext.appends ≡ (view_of pass.old).ext.appends + 1 }
+    ensures sleeps { C.sleeps cpu.new ≡ C.sleeps cpu.old }
+    ensures rescheds { C.rescheds cpu.new ≡ C.rescheds cpu.old }
 {
     if writing::join(site, pass) {
         return;
@@ -192,6 +209,7 @@ pub fn write_in_line<O: Object, W: Wait, C: Cpu, K: Crew>(
     ensures lock { EntersLock (view_of pass.old) (view_of pass.new) }
     ensures took { IfOk result (λ _. Takes O.object (plan_of site.now) Alone
         (seen_of pass.old) (seen_of pass.new)) }
+    ensures opened { IfOk result (λ _. TakesOpen Slept (seen_of pass.old) (seen_of pass.new)) }
     ensures how { IfOk result (λ how. AppendedBy how (view_of pass.old) (view_of pass.new)) }
     ensures waited { IfErr result (λ _.
         (view_of pass.new).ext.appends ≡ (view_of pass.old).ext.appends + 1) }
@@ -201,6 +219,11 @@ pub fn write_in_line<O: Object, W: Wait, C: Cpu, K: Crew>(
         SawPending why (seen_of pass.old) (seen_of pass.new)) }
     ensures asked { IfErr result (λ _. interruptible ≡ true) }
     ensures slept { IfOk result (λ how. how ≡ Slept) }
+    ensures turns { IfOk result (λ _. SleepsEachTurn ((view_of pass.old).spin.entries + 1)
+        (view_of pass.new).spin.entries (C.sleeps cpu.old) (C.sleeps cpu.new)) }
+    ensures awake { IfErr result (λ _. SleepsEachTurn ((view_of pass.old).spin.entries + 2)
+        (view_of pass.new).spin.entries (C.sleeps cpu.old) (C.sleeps cpu.new)) }
+    ensures rescheds { C.rescheds cpu.new ≡ C.rescheds cpu.old }
 {
     qspin_queue::lock(site, rt, pass);
     queue(site, pass, cpu, crew);

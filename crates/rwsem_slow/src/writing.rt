@@ -1,6 +1,7 @@
 //! How a writer queues, and takes from the list.
 ghost use Rattle.std.specs.Prelude.{◌≡◌, ◌≢◌, ◌↔◌, ◌<◌, ◌≤◌, ◌+◌, ℕ, true, false, IfSome, IsSome, IsTrue, Some, length};
 ghost use Rattle.word_bits.specs.LockWords.{IsLawfulCount};
+ghost use Rattle.lock_core.specs.declared.how.How.TheVariants.{Slept};
 ghost use Rattle.lock_core.specs.declared.view.Held.TheVariants.{No, Alone};
 ghost use Rattle.lock_core.specs.Handles.{plan_of, view_of, task_in, held_in, SitsAt, KeepsPast, SaysSame};
 ghost use Rattle.lock_core.specs.Views.{SpinHolds};
@@ -12,7 +13,8 @@ ghost use Rattle.rwsem_wake.specs.SemParts.{apart_hand};
 ghost use Rattle.rwsem_wake.specs.Queues.{MayTake};
 ghost use Rattle.rwsem_slow.specs.RwSems.{list_of, sem_of};
 ghost use Rattle.rwsem_slow.specs.Removals.{KnowsList};
-ghost use Rattle.rwsem_slow.specs.Places.{IsOutside, StepsOn};
+ghost use Rattle.rwsem_slow.specs.Opening.{TakesOpen};
+ghost use Rattle.rwsem_slow.specs.Places.{IsOutside, StepsOn, seen_of};
 ghost use Rattle.rwsem_slow.specs.Queued.{Becomes, HasTaken, IsInLine, IsTrying, KnowsMark, Rests, Stays, TookInLine, waiting};
 
 use crate::rule::SemRule;
@@ -126,6 +128,8 @@ fn take<O: Object>(
     ensures task { task_in pass.new ≡ task_in pass.old }
     ensures took { result ≡ Attempt.Took →
         HasTaken O.object (plan_of site.now) (view_of pass.old) (view_of pass.new) }
+    ensures opened { result ≡ Attempt.Took →
+        TakesOpen Slept (seen_of pass.old) (seen_of pass.new) }
     ensures face { result ≢ Attempt.Took → SaysSame pass.old pass.new }
     ensures later { (view_of pass.old).steps ≤ (view_of pass.new).steps }
     ensures missed { result ≢ Attempt.Took → Rests (view_of pass.old) (view_of pass.new) }
@@ -245,6 +249,8 @@ fn exchange<O: Object>(
     ensures task { task_in pass.new ≡ task_in pass.old }
     ensures took { result ≡ Attempt.Took →
         HasTaken O.object (plan_of site.now) (view_of pass.old) (view_of pass.new) }
+    ensures opened { result ≡ Attempt.Took →
+        TakesOpen Slept (seen_of pass.old) (seen_of pass.new) }
     ensures face { result ≢ Attempt.Took → SaysSame pass.old pass.new }
     ensures later { (view_of pass.old).steps ≤ (view_of pass.new).steps }
     ensures missed { result ≢ Attempt.Took → Stays (view_of pass.old) (view_of pass.new) }
@@ -281,6 +287,7 @@ fn try_standing<O: Object, W: Wait>(
     ensures task { task_in pass.new ≡ task_in pass.old }
     ensures took { result ≡ true →
         HasTaken O.object (plan_of site.now) (view_of pass.old) (view_of pass.new) }
+    ensures opened { result ≡ true → TakesOpen Slept (seen_of pass.old) (seen_of pass.new) }
     ensures face { result ≡ false → SaysSame pass.old pass.new }
     ensures later { (view_of pass.old).steps ≤ (view_of pass.new).steps }
     ensures missed { result ≡ false → Stays (view_of pass.old) (view_of pass.new) }
@@ -313,10 +320,14 @@ pub fn try_queued<O: Object, W: Wait, C: Cpu>(
     ensures task { task_in pass.new ≡ task_in pass.old }
     ensures took { result ≡ true →
         TookInLine O.object (plan_of site.now) (view_of pass.old) (view_of pass.new) }
+    ensures opened { result ≡ true → TakesOpen Slept (seen_of pass.old) (seen_of pass.new) }
     ensures face { result ≡ false → SaysSame pass.old pass.new }
     ensures locked { SpinHolds (view_of pass.new).spin }
     ensures missed { result ≡ false →
         Becomes (view_of pass.old) 0 (waiting Writes) (view_of pass.new) }
+    ensures entries { (view_of pass.new).spin.entries ≡ (view_of pass.old).spin.entries }
+    ensures sleeps { C.sleeps cpu.new ≡ C.sleeps cpu.old }
+    ensures rescheds { C.rescheds cpu.new ≡ C.rescheds cpu.old }
 {
     let Some(standing) = stand(site, pass) else {
         return false;

@@ -231,16 +231,16 @@ module _ (id n : ℕ) (q : List Waiter) (marks grants : List ℕ) (vs : List Sem
     }
 
     -- its own task alone becomes one
-    pub own-comes : (own : ℕ) → v.task ≡ Some own → ((t : ℕ) → t ≢ own → reads_as grants t u ≤ reads_as grants t v) → ComesToRead id q grants vs grants (set vs id u)
-    own-comes own has less t z l = dite (ℕ_discrete t own) (λ is. (v, at, inl (has ∙ ap (λ (x : ℕ). Some x) (sym is)))) (λ not. let a = total-set (reads_as grants t) vs id v u at in let b = less t not in absurd (omega arith))
+    pub own-comes : (own : ℕ) → v.task ≡ Some own → v.sem.rest ≡ [] → ((t : ℕ) → t ≢ own → reads_as grants t u ≤ reads_as grants t v) → ComesToRead id q grants vs grants (set vs id u)
+    own-comes own has none less t z l = dite (ℕ_discrete t own) (λ is. (v, at, inl ((has ∙ ap (λ (x : ℕ). Some x) (sym is)), none))) (λ not. let a = total-set (reads_as grants t) vs id v u at in let b = less t not in absurd (omega arith))
 
     -- its batch alone does
     pub batch-comes : ((t : ℕ) → reads_as grants t u ≤ shared_at t v + granted_at grants t v + here t v.sem.rest) → IsWhole v.sem.rest q → ComesToRead id q grants vs grants (set vs id u)
     batch-comes is whole t z l = let a = total-set (reads_as grants t) vs id v u at in let b = is t in elim (native.Mathlib.Decide.dec_le 1 (here t v.sem.rest)) [ yes there ↦ (v, at, inr (there, whole)) | no out ↦ absurd (omega arith) ]
 
     -- or which may become one
-    pub hands-reads : (n' own : ℕ) → n' % 2 ≤ n % 2 → v.task ≡ Some own → MayRead v → ((t : ℕ) → t ≢ own → reads_as grants t u ≤ reads_as grants t v) → Unasked n marks n' marks → PassGoes n n' q marks grants v u → KeepsHandoff id n q marks grants vs n' marks grants (set vs id u)
-    hands-reads n' own low has may less un goes = record {
+    pub hands-reads : (n' own : ℕ) → n' % 2 ≤ n % 2 → v.task ≡ Some own → v.sem.rest ≡ [] → MayRead v → ((t : ℕ) → t ≢ own → reads_as grants t u ≤ reads_as grants t v) → Unasked n marks n' marks → PassGoes n n' q marks grants v u → KeepsHandoff id n q marks grants vs n' marks grants (set vs id u)
+    hands-reads n' own low has none may less un goes = record {
       asks = λ z o. let x = un.0 in absurd (omega (arith, x, z, o));
       stays = λ h. let x = un.0 in inl (x ∙ h);
       marked = λ t z l. absurd (omega (arith, z, l));
@@ -249,7 +249,7 @@ module _ (id n : ℕ) (q : List Waiter) (marks grants : List ℕ) (vs : List Sem
       takes = λ a b. absurd (omega (arith, a, b, low));
       lone = λ a b. absurd (omega (arith, a, b, low));
       reader = λ h m t z l. dite (ℕ_discrete t own) (λ is. (v, at, (has ∙ ap (λ (x : ℕ). Some x) (sym is)), may)) (λ not. let a = total-set (reads_as grants t) vs id v u at in let b = less t not in absurd (omega arith));
-      comes = own-comes own has less;
+      comes = own-comes own has none less;
       ends = ends-by goes;
       marks_next = next-by goes;
       to_mark = mark-by goes;

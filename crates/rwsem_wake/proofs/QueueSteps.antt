@@ -241,7 +241,7 @@ module _ (sees : List SemPart) (id : ℕ) (v : SemPart) (known : Part) (n : ℕ)
         sem-stages sees id v loc.mine n q marks grants loc.kept own has u n marks only refl refl refl refl (subst (λ (z : Stage). FlagsAt z v.task v.sem.rest W H q marks grants) (sym stage) f)
             (count-keeps sees id v u loc.mine n m (more_of grants sees) loc.kept.count (inl free) out bias refl refl)
             (ok-of u own has (λ _. (loc.kept.each id v loc.mine).rest (ap batch_weight stage)) (omega (arith, r0)) (omega arith) (omega (arith, r0)) (omega arith)),
-        hands-free id n q marks grants sees v u loc.mine n (inr (ap (λ (z : List Waiter). first_mark marks (tasks z)) (sym (loc.list knows) ∙ none), omega arith)) (λ a b. absurd (omega (arith, a, b))) (unasked-same n marks) (own-comes id n q marks grants sees v u loc.mine own has (λ t not. let z : shared_at t u ≡ 0 = ap (is_number t) has ∙ is_number-else t own (λ e. not (sym e)) in omega (arith, z)))
+        hands-free id n q marks grants sees v u loc.mine n (inr (ap (λ (z : List Waiter). first_mark marks (tasks z)) (sym (loc.list knows) ∙ none), omega arith)) (λ a b. absurd (omega (arith, a, b))) (unasked-same n marks) (own-comes id n q marks grants sees v u loc.mine own has ((loc.kept.each id v loc.mine).rest (ap batch_weight stage)) (λ t not. let z : shared_at t u ≡ 0 = ap (is_number t) has ∙ is_number-else t own (λ e. not (sym e)) in omega (arith, z)))
             (pass-from q marks grants v u Rest stage (λ m. refl) refl (inl refl) (λ t. let z : shared_at t v ≡ 0 = ap (λ (h : Held). named_weight t v.task (shared_weight h)) out in omega (arith, z)) (ap marking stage) (inr (inl refl))),
       )
 

@@ -32,9 +32,9 @@ MayRead v = ((m : ℕ) × (v.sem.bias ≡ Transit m) × (m / 4 % 2 ≡ 0)) ⊎ (
 abbrev pub IsOfBatch : SemPart → List Waiter → ℕ → Type 0
 IsOfBatch v q t = (0 < here t v.sem.rest) × IsWhole v.sem.rest q
 
--- a task becomes a reader by a step of its own pass, or by a waker's, in whose batch it is
+-- a task becomes a reader by a step of its own pass, which has no batch under way, or by a waker's, in whose batch it is
 abbrev pub ComesToRead : ℕ → List Waiter → List ℕ → List SemPart → List ℕ → List SemPart → Type 0
-ComesToRead id q grants vs grants' us = (t : ℕ) → total (reads_as grants t) vs ≡ 0 → 0 < total (reads_as grants' t) us → (v : SemPart) × (get_elem? vs id ≡ some v) × ((v.task ≡ Some t) ⊎ IsOfBatch v q t)
+ComesToRead id q grants vs grants' us = (t : ℕ) → total (reads_as grants t) vs ≡ 0 → 0 < total (reads_as grants' t) us → (v : SemPart) × (get_elem? vs id ≡ some v) × (((v.task ≡ Some t) × (v.sem.rest ≡ [])) ⊎ IsOfBatch v q t)
 
 -- a task is a reader until a step of its own pass ends its shared hold
 abbrev pub EndsReading : ℕ → List ℕ → List SemPart → List ℕ → List SemPart → Type 0
@@ -89,7 +89,7 @@ abbrev pub BatchGoes : List Waiter → List ℕ → SemPart → SemPart → Type
 BatchGoes q grants' v u = (u.sem.rest ≡ v.sem.rest) ⊎ ((t : ℕ) × (v.sem.stage ≡ Granting) × (v.sem.rest ≡ t ∷ u.sem.rest) × (get_or grants' t 0 ≡ 0)) ⊎ ((t : ℕ) × (u.sem.rest ≡ v.sem.rest ++ t ∷ []) × Picks v q t)
 
 -- While HANDOFF is set and the first waiter is marked, the writer bit is set by that waiter alone, and a task becomes a reader only by a bias whose addition saw no HANDOFF, or by a downgrade. Who takes clears HANDOFF, and finds nobody counted. A bias keeps the count that its addition found.
--- At any time a task becomes a reader by itself, or in a whole batch, and it is one until its own pass ends its shared hold.
+-- At any time a task becomes a reader by itself, with no batch under way, or in a whole batch, and it is one until its own pass ends its shared hold.
 -- HANDOFF is set by a waker with a reserved bias where the first waiter is marked, or by a writer of the list, which is to mark the first waiter from then on, until that one is marked, and by no other step comes to be so. HANDOFF then stays until it is answered.
 -- A mark is set by one of these, and is the first waiter's. It is cleared by its own waiter, or by a waker whose batch has it next.
 -- A batch grows by the readers that its waker picks, and is granted in this order once it is in the count; no other step clears a grant word.

@@ -1,12 +1,14 @@
 //! The calls that take a semaphore shared.
 ghost use Rattle.std.specs.Prelude.{◌≡◌, true, false, IfErr, IfOk, IsSome};
+ghost use Rattle.lock_core.specs.declared.how.How.TheVariants.{Fast};
 ghost use Rattle.lock_core.specs.declared.view.Held.TheVariants.{No};
 ghost use Rattle.lock_core.specs.Kinds.{semaphore};
 ghost use Rattle.lock_core.specs.Locking.{Got, Interrupts, KeepsPlace};
 ghost use Rattle.lock_core.specs.Shown.{PastGoesOn};
 ghost use Rattle.rwsem_slow.specs.RwSems.{count_at};
 ghost use Rattle.rwsem_slow.specs.Handles.{shown_of, hand_in, SitsAt, TakesShared};
-ghost use Rattle.rwsem_slow.specs.Queued.{CountsReading};
+ghost use Rattle.rwsem_slow.specs.Counting.{CountsReading, SleepsBetween};
+ghost use Rattle.rwsem_slow.specs.Opening.{EntersOpen};
 
 use super::{RwPass, RwSem};
 use crate::hint::note_reader;
@@ -32,10 +34,11 @@ impl<O: Object> RwSem<O> {
         ensures own { SitsAt self.now pass.new }
         ensures goes_on { PastGoesOn (shown_of pass.old) (shown_of pass.new) }
         ensures took { TakesShared O.object self.now pass.old pass.new }
+        ensures opened { result ≡ Fast → EntersOpen (shown_of pass.old) (shown_of pass.new) }
         ensures how { Got result (shown_of pass.old) (shown_of pass.new) }
         ensures line { KeepsPlace semaphore true count_at (shown_of pass.old) (shown_of pass.new) }
         ensures counts { CountsReading result (C.C.sleeps cpu.old) (C.C.sleeps cpu.new)
-            (C.C.rescheds cpu.old) (C.C.rescheds cpu.new) }
+            (C.C.rescheds cpu.old) (C.C.rescheds cpu.new) (shown_of pass.old) (shown_of pass.new) }
     {
         match self.read_common(rt, pass, cpu, crew, false) {
             Ok(how) => how,
@@ -59,6 +62,8 @@ impl<O: Object> RwSem<O> {
         ensures own { SitsAt self.now pass.new }
         ensures goes_on { PastGoesOn (shown_of pass.old) (shown_of pass.new) }
         ensures took { IfOk result (λ _. TakesShared O.object self.now pass.old pass.new) }
+        ensures opened { IfOk result (λ how. how ≡ Fast →
+            EntersOpen (shown_of pass.old) (shown_of pass.new)) }
         ensures how { IfOk result (λ how. Got how (shown_of pass.old) (shown_of pass.new)) }
         ensures line { IfOk result (λ _. KeepsPlace semaphore true count_at
             (shown_of pass.old) (shown_of pass.new)) }
@@ -68,7 +73,12 @@ impl<O: Object> RwSem<O> {
             (shown_of pass.old) (shown_of pass.new)) }
         ensures counts { IfOk result (λ how. CountsReading how
             (C.C.sleeps cpu.old) (C.C.sleeps cpu.new)
-            (C.C.rescheds cpu.old) (C.C.rescheds cpu.new)) }
+            (C.C.rescheds cpu.old) (C.C.rescheds cpu.new)
+            (shown_of pass.old) (shown_of pass.new)) }
+        ensures slept { IfErr result (λ _.
+            SleepsBetween (shown_of pass.old).steps (shown_of pass.new).steps
+            (C.C.sleeps cpu.old) (C.C.sleeps cpu.new)) }
+        ensures unasked { IfErr result (λ _. C.C.rescheds cpu.new ≡ C.C.rescheds cpu.old) }
     {
         self.read_common(rt, pass, cpu, crew, true)
     }
@@ -90,6 +100,8 @@ impl<O: Object> RwSem<O> {
         ensures own { SitsAt self.now pass.new }
         ensures goes_on { PastGoesOn (shown_of pass.old) (shown_of pass.new) }
         ensures took { IfOk result (λ _. TakesShared O.object self.now pass.old pass.new) }
+        ensures opened { IfOk result (λ how. how ≡ Fast →
+            EntersOpen (shown_of pass.old) (shown_of pass.new)) }
         ensures how { IfOk result (λ how. Got how (shown_of pass.old) (shown_of pass.new)) }
         ensures line { IfOk result (λ _. KeepsPlace semaphore true count_at
             (shown_of pass.old) (shown_of pass.new)) }
@@ -100,7 +112,12 @@ impl<O: Object> RwSem<O> {
         ensures asked { IfErr result (λ _. interruptible ≡ true) }
         ensures counts { IfOk result (λ how. CountsReading how
             (C.C.sleeps cpu.old) (C.C.sleeps cpu.new)
-            (C.C.rescheds cpu.old) (C.C.rescheds cpu.new)) }
+            (C.C.rescheds cpu.old) (C.C.rescheds cpu.new)
+            (shown_of pass.old) (shown_of pass.new)) }
+        ensures slept { IfErr result (λ _.
+            SleepsBetween (shown_of pass.old).steps (shown_of pass.new).steps
+            (C.C.sleeps cpu.old) (C.C.sleeps cpu.new)) }
+        ensures unasked { IfErr result (λ _. C.C.rescheds cpu.new ≡ C.C.rescheds cpu.old) }
     {
         match steps::read_add(&self.site, &mut pass.pass) {
             Ok(()) => {

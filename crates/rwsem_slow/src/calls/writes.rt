@@ -1,12 +1,14 @@
 //! The calls that take a semaphore alone.
 ghost use Rattle.std.specs.Prelude.{◌≡◌, ◌≤◌, ◌+◌, Bool, true, false, IfErr, IfOk, IsSome};
+ghost use Rattle.lock_core.specs.declared.how.How.TheVariants.{Spun};
 ghost use Rattle.lock_core.specs.declared.view.Held.TheVariants.{No};
 ghost use Rattle.lock_core.specs.Kinds.{semaphore};
 ghost use Rattle.lock_core.specs.Locking.{Got, Interrupts, KeepsPlace, Looks, OnlyTried};
 ghost use Rattle.lock_core.specs.Shown.{PastGoesOn};
 ghost use Rattle.rwsem_slow.specs.RwSems.{count_at};
 ghost use Rattle.rwsem_slow.specs.Handles.{shown_of, hand_in, KeepsFronts, KeepsMisses, SitsAt, TakesAlone};
-ghost use Rattle.rwsem_slow.specs.Queued.{CountsWriting};
+ghost use Rattle.rwsem_slow.specs.Counting.{CountsLeaving, CountsWriting};
+ghost use Rattle.rwsem_slow.specs.Opening.{TakesOpen};
 ghost use Rattle.rwsem_slow.specs.Spinning.{SawIfTried};
 
 use super::{RwPass, RwSem};
@@ -34,11 +36,12 @@ impl<O: Object> RwSem<O> {
         ensures own { SitsAt self.now pass.new }
         ensures goes_on { PastGoesOn (shown_of pass.old) (shown_of pass.new) }
         ensures took { TakesAlone O.object self.now pass.old pass.new }
+        ensures opened { TakesOpen result (shown_of pass.old) (shown_of pass.new) }
         ensures how { Got result (shown_of pass.old) (shown_of pass.new) }
         ensures line { (shared : Bool) → KeepsPlace semaphore shared count_at
             (shown_of pass.old) (shown_of pass.new) }
         ensures counts { CountsWriting result (C.C.sleeps cpu.old) (C.C.sleeps cpu.new)
-            (C.C.rescheds cpu.old) (C.C.rescheds cpu.new) }
+            (C.C.rescheds cpu.old) (C.C.rescheds cpu.new) (shown_of pass.old) (shown_of pass.new) }
     {
         match self.write_common(rt, pass, cpu, crew, false) {
             Ok(how) => how,
@@ -61,6 +64,7 @@ impl<O: Object> RwSem<O> {
         ensures own { SitsAt self.now pass.new }
         ensures goes_on { PastGoesOn (shown_of pass.old) (shown_of pass.new) }
         ensures took { IfOk result (λ _. TakesAlone O.object self.now pass.old pass.new) }
+        ensures opened { IfOk result (λ how. TakesOpen how (shown_of pass.old) (shown_of pass.new)) }
         ensures how { IfOk result (λ how. Got how (shown_of pass.old) (shown_of pass.new)) }
         ensures interrupted { IfErr result (λ why. Interrupts semaphore false count_at why
             (shown_of pass.old) (shown_of pass.new)) }
@@ -68,7 +72,11 @@ impl<O: Object> RwSem<O> {
             (shown_of pass.old) (shown_of pass.new) }
         ensures counts { IfOk result (λ how. CountsWriting how
             (C.C.sleeps cpu.old) (C.C.sleeps cpu.new)
-            (C.C.rescheds cpu.old) (C.C.rescheds cpu.new)) }
+            (C.C.rescheds cpu.old) (C.C.rescheds cpu.new)
+            (shown_of pass.old) (shown_of pass.new)) }
+        ensures slept { IfErr result (λ _. CountsLeaving (C.C.sleeps cpu.old) (C.C.sleeps cpu.new)
+            (C.C.rescheds cpu.old) (C.C.rescheds cpu.new)
+            (shown_of pass.old) (shown_of pass.new)) }
     {
         self.write_common(rt, pass, cpu, crew, true)
     }
@@ -89,6 +97,7 @@ impl<O: Object> RwSem<O> {
         ensures own { SitsAt self.now pass.new }
         ensures goes_on { PastGoesOn (shown_of pass.old) (shown_of pass.new) }
         ensures took { IfOk result (λ _. TakesAlone O.object self.now pass.old pass.new) }
+        ensures opened { IfOk result (λ how. TakesOpen how (shown_of pass.old) (shown_of pass.new)) }
         ensures how { IfOk result (λ how. Got how (shown_of pass.old) (shown_of pass.new)) }
         ensures interrupted { IfErr result (λ why. Interrupts semaphore false count_at why
             (shown_of pass.old) (shown_of pass.new)) }
@@ -97,7 +106,11 @@ impl<O: Object> RwSem<O> {
             (shown_of pass.old) (shown_of pass.new) }
         ensures counts { IfOk result (λ how. CountsWriting how
             (C.C.sleeps cpu.old) (C.C.sleeps cpu.new)
-            (C.C.rescheds cpu.old) (C.C.rescheds cpu.new)) }
+            (C.C.rescheds cpu.old) (C.C.rescheds cpu.new)
+            (shown_of pass.old) (shown_of pass.new)) }
+        ensures slept { IfErr result (λ _. CountsLeaving (C.C.sleeps cpu.old) (C.C.sleeps cpu.new)
+            (C.C.rescheds cpu.old) (C.C.rescheds cpu.new)
+            (shown_of pass.old) (shown_of pass.new)) }
     {
         match self.take_alone(rt, pass, cpu, crew, interruptible) {
             Ok(how) => {
@@ -120,6 +133,7 @@ impl<O: Object> RwSem<O> {
         ensures numbered { (hand_in pass.new).task ≡ (hand_in pass.old).task }
         ensures line { (shown_of pass.new).line ≡ (shown_of pass.old).line }
         ensures took { result ≡ true → TakesAlone O.object self.now pass.old pass.new }
+        ensures opened { result ≡ true → TakesOpen Spun (shown_of pass.old) (shown_of pass.new) }
         ensures front { result ≡ true →
             ((shown_of pass.new).fronts ≡ (shown_of pass.old).fronts + 1) }
         ensures missed { result ≡ false → OnlyTried (shown_of pass.old) (shown_of pass.new) }
@@ -127,6 +141,7 @@ impl<O: Object> RwSem<O> {
         ensures out { result ≡ false → (hand_in pass.new).held ≡ No }
         ensures stood { result ≡ false → KeepsFronts pass.old pass.new →
             KeepsMisses pass.old pass.new }
+        ensures entries { (shown_of pass.new).spin.entries ≡ (shown_of pass.old).spin.entries }
         ensures sleeps { C.sleeps cpu.new ≡ C.sleeps cpu.old }
         ensures rescheds { C.rescheds cpu.old ≤ C.rescheds cpu.new }
     {
@@ -160,6 +175,7 @@ impl<O: Object> RwSem<O> {
         ensures own { SitsAt self.now pass.new }
         ensures goes_on { PastGoesOn (shown_of pass.old) (shown_of pass.new) }
         ensures took { IfOk result (λ _. TakesAlone O.object self.now pass.old pass.new) }
+        ensures opened { IfOk result (λ how. TakesOpen how (shown_of pass.old) (shown_of pass.new)) }
         ensures how { IfOk result (λ how. Got how (shown_of pass.old) (shown_of pass.new)) }
         ensures interrupted { IfErr result (λ why. Interrupts semaphore false count_at why
             (shown_of pass.old) (shown_of pass.new)) }
@@ -168,7 +184,11 @@ impl<O: Object> RwSem<O> {
             (shown_of pass.old) (shown_of pass.new) }
         ensures counts { IfOk result (λ how. CountsWriting how
             (C.C.sleeps cpu.old) (C.C.sleeps cpu.new)
-            (C.C.rescheds cpu.old) (C.C.rescheds cpu.new)) }
+            (C.C.rescheds cpu.old) (C.C.rescheds cpu.new)
+            (shown_of pass.old) (shown_of pass.new)) }
+        ensures slept { IfErr result (λ _. CountsLeaving (C.C.sleeps cpu.old) (C.C.sleeps cpu.new)
+            (C.C.rescheds cpu.old) (C.C.rescheds cpu.new)
+            (shown_of pass.old) (shown_of pass.new)) }
     {
         let Err(_) = steps::write_try(&self.site, &mut pass.pass) else {
             return Ok(How::Fast);

@@ -3,6 +3,10 @@ use Rattle.lock_core.proofs.Within.{sees-within}
 use Rattle.rwsem_slow.specs.Places.{seen_of}
 use Rattle.rwsem_slow.specs.RwSems.{V}
 use Rattle.rwsem_slow.proofs.Counting.{answers-rise}
+use Rattle.lock_core.specs.declared.how.How.TheVariants.{Spun}
+use Rattle.lock_core.specs.declared.view.Held.TheVariants.{Alone}
+use Rattle.rwsem_slow.specs.Opening.{IsOpen}
+use Rattle.rwsem_slow.proofs.Opening.{takes-behind}
 use Rattle.rwsem_slow.proofs.spinning.spin.Goals as goal
 
 pub returns-then-is_reader_owned-clause-saw : goal.returns-then-is_reader_owned-clause-saw
@@ -21,3 +25,7 @@ returns-then-need_resched-clause-saw g c = λ _. let i = c.loop.invariant in let
 
 pub returns-then-need_resched-clause-rescheds : goal.returns-then-need_resched-clause-rescheds
 returns-then-need_resched-clause-rescheds g c = let same = c.loop.invariant.9 in let more = answers-rise (g.C.Cpu.rescheds c.loop.cpu) (g.C.Cpu.rescheds c.need_resched.new.self) c.need_resched.result c.need_resched.ensures.rescheds in omega (arith, same, more)
+
+pub returns-then-try_outside-clause-opened : goal.returns-then-try_outside-clause-opened
+returns-then-try_outside-clause-opened g c = λ _. let on = c.loop.invariant.2 in
+    takes-behind c.args.site.now Alone (IsOpen Spun) c.args.pass.now c.loop.pass c.try_outside.new.pass c.requires.own on.own on.task on.steps on.goes_on (c.try_outside.ensures.opened c.if-try_outside.true)

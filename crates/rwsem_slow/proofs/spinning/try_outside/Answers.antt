@@ -5,6 +5,10 @@ use Rattle.rwsem_slow.specs.Places.{line_of}
 use Rattle.rwsem_slow.specs.RwSems.{V}
 use Rattle.rwsem_slow.proofs.Showing.{misses-by}
 use Rattle.rwsem_slow.proofs.Unqueued.{misses-tried}
+use Rattle.lock_core.specs.declared.how.How.TheVariants.{Spun}
+use Rattle.lock_core.specs.declared.view.Held.TheVariants.{Alone}
+use Rattle.rwsem_slow.specs.Opening.{IsOpen}
+use Rattle.rwsem_slow.proofs.Opening.{took-since}
 use Rattle.rwsem_slow.proofs.spinning.try_outside.Goals as goal
 
 pub returns-in-Err-clause-missed : goal.returns-in-Err-clause-missed
@@ -16,3 +20,7 @@ returns-in-Err-clause-saw g c = λ is. let v = c.args.pass.now.seat.me.0 in let 
   sees-fronts (shown line_of v.view.fronts v.view v.past) (shown line_of v.view.fronts u.view u.past) v.view.fronts u.view.fronts
       (misses-by v.view.fronts v.view u.view v.past u.past (sym c.requires.own.held ∙ c.requires.out) c.try_unqueued.ensures.last c.try_unqueued.ensures.goes_on false c.in-Err.field-0 missed.0 missed.1 missed.2 c.in-Err.ensures.found c.in-Err.ensures.shut).sees,
 )
+
+pub returns-in-Ok-clause-opened : goal.returns-in-Ok-clause-opened
+returns-in-Ok-clause-opened g c = λ _. let v = c.args.pass.now.seat.me.0 in let u = c.try_unqueued.new.pass.seat.me.0 in let free = c.in-Ok.ensures.opened in
+    took-since g.O.Object.object c.args.site.now.table.shared.key Alone (IsOpen Spun) v.view u.view v.past u.past free.0 c.in-Ok.ensures.took c.try_unqueued.ensures.last c.try_unqueued.ensures.goes_on free.1 free.2

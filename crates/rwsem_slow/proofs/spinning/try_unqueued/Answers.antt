@@ -1,5 +1,7 @@
-use Rattle.std.proofs.Common.{◌∙◌}
+use Rattle.std.proofs.Common.{◌∙◌, subst}
 use Rattle.rwsem_slow.proofs.Unqueued.{shut-count, unqueued-again}
+use Rattle.lock_core.specs.Pasts.{FoundAt}
+use Rattle.rwsem_slow.specs.RwSems.{count_at}
 use Rattle.rwsem_slow.proofs.spinning.try_unqueued.Goals as goal
 
 pub loop-preserved : goal.loop-preserved
@@ -16,3 +18,6 @@ loop-preserved g c = let on = c.if-found-word.false in (
 
 pub returns-then-not-is_unlocked-clause-shut : goal.returns-then-not-is_unlocked-clause-shut
 returns-then-not-is_unlocked-clause-shut g c = shut-count c.loop.word c.is_unlocked.result c.is_unlocked.ensures c.if-not-is_unlocked.true c.loop.invariant.6.lawful
+
+pub returns-then-found-word-clause-opened : goal.returns-then-found-word-clause-opened
+returns-then-found-word-clause-opened g c = (c.loop.word, subst (λ n. FoundAt count_at n c.take-found.new.pass.seat.me.0.past) c.if-found-word.true c.take-found.ensures.found, c.is_unlocked.ensures.0 c.if-not-is_unlocked.false)

@@ -15,7 +15,7 @@ use Rattle.rwsem_slow.proofs.stealing.steal.Goals as goal
 
 pub step-hint-requires-clause-lets : goal.step-hint-requires-clause-lets
 step-hint-requires-clause-lets g c = let own = some-number c.args.pass.now.face.task c.requires.numbered in
-    steals g.O.Object.object g.O.Object.WORDS c.args.site.now.table.shared.key _ _ own.0 c.requires.transit.0.0 _ (sym c.requires.own.task ∙ own.1) (sym c.requires.own.held ∙ c.requires.out) (ap (λ (s : SemHand). s.wait) c.requires.transit.0.1) (ap (λ (s : SemHand). s.bias) c.requires.transit.0.1)
+    steals g.O.Object.object g.O.Object.WORDS c.args.site.now.table.shared.key _ _ own.0 c.requires.transit.0.0 _ (sym c.requires.own.task ∙ own.1) (sym c.requires.own.held ∙ c.requires.out) (ap (λ (s : SemHand). s.wait) c.requires.transit.0.1) (ap (λ (s : SemHand). s.bias) c.requires.transit.0.1) (ap (λ (s : SemHand). s.rest) c.requires.transit.0.1)
 
 pub returns-then-may_steal-clause-own : goal.returns-then-may_steal-clause-own
 returns-then-may_steal-clause-own g c = let gets = c.step-hint.ensures.told.0 (subst (λ (z : ℕ). MaySteal z c.step-hint.result) c.requires.left (c.may_steal.ensures.0 c.if-may_steal.true)) in

@@ -17,4 +17,4 @@ returns-clause-saw g c = let e = c.reserve-seen.ensures in let steps = ap (λ (z
 
 -- the answer alone decides whether it marks
 pub returns-then-seen-eq1-clause-steps : goal.returns-then-seen-eq1-clause-steps
-returns-then-seen-eq1-clause-steps g c = λ _ fresh. let s1 = ap (λ (z : V). z.steps) c.reserve-seen.ensures.kept in let s2 = c.back_out.ensures.steps in let said = ap bit (c.is_over-overdue.ensures ∙ or-false c.is_over-overdue.result (g.P.Patience.said c.args.patience.now) fresh) in omega (arith, s1, s2, said)
+returns-then-seen-eq1-clause-steps g c = λ _ fresh. let s1 = ap (λ (z : V). z.steps) c.reserve-seen.ensures.kept in let s2 = c.back_out.ensures.steps in let said = ap bit (c.is_over-overdue.ensures.said ∙ or-false c.is_over-overdue.result (g.P.Patience.said c.args.patience.now) fresh) in omega (arith, s1, s2, said)

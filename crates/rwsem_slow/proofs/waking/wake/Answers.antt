@@ -15,12 +15,18 @@ pub returns-in-Readers : goal.returns-in-Readers
 returns-in-Readers g c = let f = c.in-Some.ensures.told in let q = c.first.new.pass.seat.me.0.view.ext.list.list in let w = c.in-Some.first in let e = looked-first c.args.pass.now c.first.new.pass c.requires.rests (Some w) f c.first.ensures.later c.in-Some.ensures.found in record {
   on = record { own = c.first.ensures.own; task = ap (λ p. p.task) c.first.ensures.face; goes_on = c.first.ensures.goes_on; steps = c.first.ensures.later };
   wakes = wakes-first c.args.pass.now c.first.new.pass c.requires.rests (Some w) f c.first.ensures.later c.in-Some.ensures.found c.args.kind _ (writer-starts q w e c.if-first.true) (c.requires.empty ∙ others-woken c.args.kind q c.in-Readers.is);
+  asked = refl;
+  sleeps = refl;
+  rescheds = refl;
 }
 
 pub returns-in-Any-kind : goal.returns-in-Any-kind
 returns-in-Any-kind g c = let f = c.in-Some.ensures.told in let q = c.first.new.pass.seat.me.0.view.ext.list.list in let w = c.in-Some.first in let e = looked-first c.args.pass.now c.first.new.pass c.requires.rests (Some w) f c.first.ensures.later c.in-Some.ensures.found in record {
   on = record { own = c.grant_unless_written.ensures.own; task = ap (λ p. p.task) (c.grant_unless_written.ensures.face ∙ c.first.ensures.face); goes_on = λ p t. c.grant_unless_written.ensures.goes_on p (c.first.ensures.goes_on p t); steps = let a = c.first.ensures.later in let b = c.grant_unless_written.ensures.granted.beside.later in omega (arith, a, b) };
   wakes = wakes-readers c.args.pass.now c.first.new.pass c.requires.rests (Some w) f c.first.ensures.later c.in-Some.ensures.found c.grant_unless_written.new.pass c.args.kind c.grant_unless_written.result _ c.grant_unless_written.ensures.granted (first-reads q w e c.if-first.false) c.grant_unless_written.ensures.woken (λ owned. absurd (not-owned c.args.kind c.in-Any-kind.is owned)) (λ _. c.grant_unless_written.ensures.saw) c.first.ensures.goes_on c.grant_unless_written.ensures.goes_on;
+  asked = c.grant_unless_written.ensures.asked;
+  sleeps = c.grant_unless_written.ensures.sleeps;
+  rescheds = c.grant_unless_written.ensures.rescheds;
 }
 
 pub returns-in-ReadOwned-clause-on : goal.returns-in-ReadOwned-clause-on

@@ -1,4 +1,4 @@
-use Rattle.std.proofs.Common.{◌≡◌, ◌∙◌, ℕ, ◌+◌, true, sym, ap, subst, arith}
+use Rattle.std.proofs.Common.{◌≡◌, ◌∙◌, ℕ, ◌+◌, true, refl, sym, ap, subst, arith}
 use Rattle.lock_core.specs.declared.view.Hand.{Hand}
 use Rattle.lock_core.specs.Pasts.{FoundAt}
 use Rattle.osq_nodes.specs.Handles.{fronts_in}
@@ -9,6 +9,11 @@ use Rattle.rwsem_slow.specs.RwSems.{V, count_at}
 use Rattle.rwsem_slow.specs.Stealing.{left_by}
 use Rattle.rwsem_slow.proofs.BiasHolds.{quit-place, went-got, went-place}
 use Rattle.rwsem_slow.proofs.Showing.{first-sees, first-tried, waits-quit}
+use Rattle.lock_core.specs.declared.view.Held.TheVariants.{Shared}
+use Rattle.lock_core.proofs.Within.{err-all}
+use Rattle.rwsem_slow.specs.Places.{seen_of}
+use Rattle.rwsem_slow.proofs.Counting.{between-on, counts-reading}
+use Rattle.rwsem_slow.proofs.Opening.{slow-reads, takes-within, took-since}
 use Rattle.rwsem_slow.proofs.calls.RwSem.read_common.Goals as goal
 
 pub read_slowly-requires-clause-left : goal.read_slowly-requires-clause-left
@@ -35,3 +40,24 @@ returns-in-Err-clause-interrupted g c = let fronts = fronts_in c.args.pass.now.q
     (free-or-shut word (word + 256) transit.2 (omega arith) (omega arith) (λ f none. absurd (shut f)) (λ not flags. (transit.2, flags))))
     c.read_slowly.ensures.on.steps c.read_slowly.ensures.on.goes_on
     c.read_slowly.result c.read_slowly.ensures.lock c.read_slowly.ensures.waited c.read_slowly.ensures.consumed c.read_slowly.ensures.pending
+
+pub returns-in-Ok-clause-opened : goal.returns-in-Ok-clause-opened
+returns-in-Ok-clause-opened g c = λ _. let v = c.args.pass.now.pass.seat.me.0 in let u = c.read_add.new.pass.seat.me.0 in let free = c.in-Ok.ensures.free in let shown_v = shown_of c.args.pass.now in let noted = ap (λ (z : V). z.steps) c.note_reader.ensures.kept in
+    takes-within Shared (λ n. IsReadFree (n + 256)) shown_v shown_v (shown_of (record { pass = c.read_add.new.pass; queue = c.args.pass.now.queue })) (shown_of (record { pass = c.note_reader.new.pass; queue = c.args.pass.now.queue })) refl (omega arith) (λ p t. t)
+    (took-since g.O.Object.object c.args.self.now.site.table.shared.key Shared (λ n. IsReadFree (n + 256)) v.view u.view v.past u.past free.0 (v.view.steps, omega arith, c.in-Ok.ensures.took) c.read_add.ensures.last c.read_add.ensures.goes_on free.1 free.2)
+    (omega (arith, noted)) c.note_reader.ensures.goes_on
+
+pub returns-in-Err-clause-opened : goal.returns-in-Err-clause-opened
+returns-in-Err-clause-opened g c = slow-reads _ c.in-Err.left (seen_of c.read_add.new.pass) (seen_of c.read_slowly.new.pass) c.read_slowly.result c.read_slowly.ensures.line
+
+pub returns-in-Err-clause-counts : goal.returns-in-Err-clause-counts
+returns-in-Err-clause-counts g c = let added = ap (λ (z : V). z.steps) c.in-Err.ensures.transit.3 in
+    counts-reading c.in-Err.left _ _ _ _ (shown_of c.args.pass.now) (shown_of (record { pass = c.read_slowly.new.pass; queue = c.args.pass.now.queue })) (seen_of c.read_add.new.pass) (seen_of c.read_slowly.new.pass) c.read_slowly.result c.read_slowly.ensures.line
+    (between-on _ _ _ _ _ _ _ _ c.read_slowly.ensures.sleeps (omega (arith, added)) (omega arith) refl refl) c.read_slowly.ensures.rescheds c.read_slowly.ensures.awake
+
+pub returns-in-Err-clause-slept : goal.returns-in-Err-clause-slept
+returns-in-Err-clause-slept g c = let added = ap (λ (z : V). z.steps) c.in-Err.ensures.transit.3 in
+    err-all c.read_slowly.result (between-on _ _ _ _ _ _ _ _ c.read_slowly.ensures.sleeps (omega (arith, added)) (omega arith) refl refl)
+
+pub returns-in-Err-clause-unasked : goal.returns-in-Err-clause-unasked
+returns-in-Err-clause-unasked g c = err-all c.read_slowly.result c.read_slowly.ensures.rescheds

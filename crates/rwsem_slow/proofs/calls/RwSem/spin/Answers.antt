@@ -4,6 +4,10 @@ use Rattle.rwsem_slow.specs.Handles.{shown_of}
 use Rattle.rwsem_slow.specs.Places.{seen_of}
 use Rattle.rwsem_slow.specs.RwSems.{V}
 use Rattle.rwsem_slow.proofs.Counting.{answers-rise}
+use Rattle.lock_core.specs.declared.how.How.TheVariants.{Spun}
+use Rattle.lock_core.specs.declared.view.Held.TheVariants.{Alone}
+use Rattle.rwsem_slow.specs.Opening.{IsOpen}
+use Rattle.rwsem_slow.proofs.Opening.{takes-within}
 use Rattle.rwsem_slow.proofs.calls.RwSem.spin.Goals as goal
 
 pub returns-then-need_resched-clause-saw : goal.returns-then-need_resched-clause-saw
@@ -25,3 +29,8 @@ returns-clause-saw g c = λ failed. let looks = c.is_reader_owned.ensures.kept i
 
 pub returns-then-need_resched-clause-rescheds : goal.returns-then-need_resched-clause-rescheds
 returns-then-need_resched-clause-rescheds g c = answers-rise (g.C.Cpu.rescheds c.args.cpu.now) (g.C.Cpu.rescheds c.need_resched.new.self) c.need_resched.result c.need_resched.ensures.rescheds
+
+pub returns-clause-opened : goal.returns-clause-opened
+returns-clause-opened g c = λ took. let looks = c.is_reader_owned.ensures.kept in let steps = ap (λ (z : V). z.steps) looks in
+    takes-within Alone (IsOpen Spun) (shown_of c.args.pass.now) (seen_of c.is_reader_owned.new.pass) (seen_of c.spin-took.new.pass) (shown_of (record { pass = c.spin-took.new.pass; queue = c.unlock.new.pass }))
+    (ap (λ (z : V). z.hand.task) looks) (omega (arith, steps)) c.is_reader_owned.ensures.goes_on (c.spin-took.ensures.opened took) (omega arith) (λ p t. t)
