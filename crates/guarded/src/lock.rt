@@ -117,7 +117,8 @@ pub trait SleepLock<O: Object>: Sized {
         ensures kept { Has (gave_up (view pass.old).hand) (view pass.old) (view pass.new) };
 
     /// Takes in another pass, which is spent: `into` then knows the records that `other` knew, and
-    /// has seen as many entries as either.
+    /// has seen as many entries as either. Of the lock's spin queue it goes back to all that either
+    /// did.
     fn gather(&self, into: &mut Self::Pass, other: Self::Pass)
         requires own { sits self.now into.old × sits self.now other }
         requires out { (view into.old).hand.held ≡ No }
@@ -125,7 +126,9 @@ pub trait SleepLock<O: Object>: Sized {
         ensures own { sits self.now into.new }
         ensures goes_on { PastGoesOn (view into.old) (view into.new) }
         ensures kept { Has (gathered (view into.old).hand (view other).hand)
-            (view into.old) (view into.new) };
+            (view into.old) (view into.new) }
+        ensures queue { GoesOn (spun into.old) (spun into.new) }
+        ensures others_queue { GoesOn (spun other) (spun into.new) };
 
     /// Loads, after which the pass knows what was so of the table at each moment so far, from the
     /// new table on: the facts of every site, that the lock's word stated who held and whether

@@ -1,5 +1,5 @@
 -- A step that is a move lengthens the run.
-use Rattle.std.proofs.Common.{◌≡◌, ℕ, zero, suc, ◌+◌, drop, List, [], ◌∷◌, ◌++◌, length, map, get_or, set, sym, refl, ap, ◌∙◌, subst, arith}
+use Rattle.std.proofs.Common.{◌≡◌, ℕ, zero, suc, ◌+◌, drop, List, [], ◌∷◌, ◌++◌, length, map, get_or, set, slice_get, Some, sym, refl, ap, ◌∙◌, subst, arith}
 use Rattle.std.proofs.lemmas.List.{drop_all, drop-drop}
 use mathlib.Core.Option.{some, some-ne-none}
 use mathlib.Core.List.{map-append}
@@ -8,11 +8,13 @@ use lib.Seq.{map-set, set-get_or}
 use Rattle.atomic_table.proofs.Lists.{at_map}
 use Rattle.lock_core.specs.declared.view.View.{View}
 use Rattle.lock_core.specs.declared.view.Moment.{Moment}
+use Rattle.lock_core.specs.declared.view.Past.{Past}
 use Rattle.lock_core.specs.declared.view.Seen.{Seen}
 use Rattle.lock_core.specs.Moves.{Goes}
 use Rattle.lock_core.specs.Parts.{each-set, each-snoc, set-there}
 use Rattle.lock_core.specs.Views.{hand_of, spin_of}
-use Rattle.lock_core.specs.Pasts.{Tail, ChangesOneWord, GoesOn, Instant, instant, view_of, steps_of, fronts_of, marks_of, moment, Moves, Lived, IsMarked, IsOwnStep}
+use Rattle.lock_core.specs.Pasts.{Tail, ChangesOneWord, GoesOn, Instant, instant, view_of, steps_of, fronts_of, marks_of, moment, Moves, Lived, HasSeen, IsMarked, IsOwnStep}
+use Rattle.lock_core.proofs.RowLaws.{none-some, same-some}
 
 -- a step that changes no word
 same-words : (ws : List ℕ) → ChangesOneWord ws ws
@@ -29,44 +31,58 @@ none-seen : (h : List Moment) → Tail [] h
 none-seen h = (length h, drop_all (length h) h (omega arith))
 
 module _ {E : Type 0} (marks : E → List ℕ) (begun : Moment) (holds : List ℕ → List (View E) → Type 0) (moves : ℕ → List ℕ → List (View E) → List ℕ → List (View E) → Type 0) where
+  no-joined : (run : List Moment) (i : ℕ) (p : Past) → slice_get [] i ≡ Some p → Tail p.moments run
+  no-joined run i p e = none-some p e
+
+  seen-older : (x : Moment) (h : List Moment) (v : Seen E) → HasSeen h v → HasSeen (x ∷ h) v
+  seen-older x h v s = record { own = older x h v.past s.own; joined = λ i p e. older x h p.moments (s.joined i p e) }
+
+  -- what a pass has seen that takes in another
+  seen-both : (h : List Moment) (v w : Seen E) (a : View E) → HasSeen h v → HasSeen h w → HasSeen h (record v { view = a; joined = record { moments = w.past } ∷ v.joined })
+  seen-both h v w a s t = record { own = s.own; joined = both }
+    where
+      both : (i : ℕ) (p : Past) → slice_get (record { moments = w.past } ∷ v.joined) i ≡ Some p → Tail p.moments h
+      both zero p e = subst (λ (q : Past). Tail q.moments h) (same-some (record { moments = w.past }) p e) t.own
+      both (suc i) p e = s.joined i p e
+
   -- the pass has seen the moments before and after its step
   abbrev pub grown : List ℕ → List (View E) → List ℕ → List (Instant E) → ℕ → View E → Seen E
-  grown ws vs ws' h id w = record { view = w; past = moment marks (instant ws' (set vs id w)) ∷ map (moment marks) (instant ws vs ∷ h) }
+  grown ws vs ws' h id w = record { view = w; past = moment marks (instant ws' (set vs id w)) ∷ map (moment marks) (instant ws vs ∷ h); joined = [] }
 
   pub lived-after : (ws ws' : List ℕ) (vs : List (Seen E)) (id : ℕ) (w : View E) (r : Lived marks begun holds moves ws vs) → Goes holds moves id ws (map view_of vs) ws' (set (map view_of vs) id w) → ChangesOneWord ws ws' → Lived marks begun holds moves ws' (set vs id (grown ws (map view_of vs) ws' r.0 id w))
   lived-after ws ws' vs id w r goes one = let us : List (View E) = map view_of vs in let now : Instant E = instant ws us in let new : Instant E = instant ws' (set us id w) in let g : Seen E = grown ws us ws' r.0 id w in let h : List Moment = map (moment marks) (now ∷ r.0) in
-      subst (λ (z : List (View E)). (h : List (Instant E)) × holds ws' z × Rattle.lock_core.specs.Pasts.Paced (Moves holds moves) (instant ws' z ∷ h) × Tail (begun ∷ []) (map (moment marks) (instant ws' z ∷ h)) × Rattle.lock_core.specs.Parts.Each (λ (v : Seen E). Tail v.past (map (moment marks) (instant ws' z ∷ h))) (set vs id g)) (sym (map-set view_of vs id g)) (
+      subst (λ (z : List (View E)). (h : List (Instant E)) × holds ws' z × Rattle.lock_core.specs.Pasts.Paced (Moves holds moves) (instant ws' z ∷ h) × Tail (begun ∷ []) (map (moment marks) (instant ws' z ∷ h)) × Rattle.lock_core.specs.Parts.Each (HasSeen (map (moment marks) (instant ws' z ∷ h))) (set vs id g)) (sym (map-set view_of vs id g)) (
         now ∷ r.0,
         goes.0,
         ((id, r.1, goes.0, goes.1, one), r.2),
         older (moment marks new) h (begun ∷ []) r.3,
-        each-set (λ (v : Seen E). Tail v.past h) (λ (v : Seen E). Tail v.past (moment marks new ∷ h)) vs id g (zero, refl) (λ j v _ _ t. older (moment marks new) h v.past t) r.4,
+        each-set (HasSeen h) (HasSeen (moment marks new ∷ h)) vs id g (record { own = (zero, refl); joined = no-joined (moment marks new ∷ h) }) (λ j v _ _ t. seen-older (moment marks new) h v t) r.4,
       )
 
   pub lived-split : (ws : List ℕ) (vs : List (Seen E)) (id : ℕ) (v : Seen E) (a b : View E) → get_elem? vs id ≡ some v → (r : Lived marks begun holds moves ws vs)
-      → Goes holds moves id ws (map view_of vs) ws (set (map view_of vs) id a ++ b ∷ []) → Lived marks begun holds moves ws (set vs id (record v { view = a }) ++ record { view = b; past = v.past } ∷ [])
-  lived-split ws vs id v a b at r goes = let us : List (View E) = map view_of vs in let now : Instant E = instant ws us in let new : Instant E = instant ws (set us id a ++ b ∷ []) in let h : List Moment = map (moment marks) (now ∷ r.0) in let x : Seen E = record v { view = a } in let y : Seen E = record { view = b; past = v.past } in
+      → Goes holds moves id ws (map view_of vs) ws (set (map view_of vs) id a ++ b ∷ []) → Lived marks begun holds moves ws (set vs id (record v { view = a }) ++ record { view = b; past = v.past; joined = [] } ∷ [])
+  lived-split ws vs id v a b at r goes = let us : List (View E) = map view_of vs in let now : Instant E = instant ws us in let new : Instant E = instant ws (set us id a ++ b ∷ []) in let h : List Moment = map (moment marks) (now ∷ r.0) in let x : Seen E = record v { view = a } in let y : Seen E = record { view = b; past = v.past; joined = [] } in
       let is : map view_of (set vs id x ++ y ∷ []) ≡ set us id a ++ b ∷ [] = map-append view_of (set vs id x) (y ∷ []) ∙ ap (λ (z : List (View E)). z ++ b ∷ []) (map-set view_of vs id x) in
-      subst (λ (z : List (View E)). (h : List (Instant E)) × holds ws z × Rattle.lock_core.specs.Pasts.Paced (Moves holds moves) (instant ws z ∷ h) × Tail (begun ∷ []) (map (moment marks) (instant ws z ∷ h)) × Rattle.lock_core.specs.Parts.Each (λ (v : Seen E). Tail v.past (map (moment marks) (instant ws z ∷ h))) (set vs id x ++ y ∷ [])) (sym is) (
+      subst (λ (z : List (View E)). (h : List (Instant E)) × holds ws z × Rattle.lock_core.specs.Pasts.Paced (Moves holds moves) (instant ws z ∷ h) × Tail (begun ∷ []) (map (moment marks) (instant ws z ∷ h)) × Rattle.lock_core.specs.Parts.Each (HasSeen (map (moment marks) (instant ws z ∷ h))) (set vs id x ++ y ∷ [])) (sym is) (
         now ∷ r.0,
         goes.0,
         ((id, r.1, goes.0, goes.1, same-words ws), r.2),
         older (moment marks new) h (begun ∷ []) r.3,
-        each-snoc (λ (v : Seen E). Tail v.past (moment marks new ∷ h)) (set vs id x) y (older (moment marks new) h v.past (r.4 id v at))
-            (each-set (λ (v : Seen E). Tail v.past h) (λ (v : Seen E). Tail v.past (moment marks new ∷ h)) vs id x (older (moment marks new) h v.past (r.4 id v at)) (λ j v _ _ t. older (moment marks new) h v.past t) r.4),
+        each-snoc (HasSeen (moment marks new ∷ h)) (set vs id x) y (record { own = older (moment marks new) h v.past (r.4 id v at).own; joined = no-joined (moment marks new ∷ h) })
+            (each-set (HasSeen h) (HasSeen (moment marks new ∷ h)) vs id x (seen-older (moment marks new) h x (record { own = (r.4 id v at).own; joined = (r.4 id v at).joined })) (λ j v _ _ t. seen-older (moment marks new) h v t) r.4),
       )
 
-  pub lived-join : (ws : List ℕ) (vs : List (Seen E)) (id other : ℕ) (v : Seen E) (a b : View E) → get_elem? vs id ≡ some v → (r : Lived marks begun holds moves ws vs)
-      → Goes holds moves id ws (map view_of vs) ws (set (set (map view_of vs) id a) other b) → Lived marks begun holds moves ws (set (set vs id (record v { view = a })) other (record { view = b; past = [] }))
-  lived-join ws vs id other v a b at r goes = let us : List (View E) = map view_of vs in let now : Instant E = instant ws us in let new : Instant E = instant ws (set (set us id a) other b) in let h : List Moment = map (moment marks) (now ∷ r.0) in let x : Seen E = record v { view = a } in let y : Seen E = record { view = b; past = [] } in
+  pub lived-join : (ws : List ℕ) (vs : List (Seen E)) (id other : ℕ) (v w : Seen E) (a b : View E) → get_elem? vs id ≡ some v → get_elem? vs other ≡ some w → (r : Lived marks begun holds moves ws vs)
+      → Goes holds moves id ws (map view_of vs) ws (set (set (map view_of vs) id a) other b) → Lived marks begun holds moves ws (set (set vs id (record v { view = a; joined = record { moments = w.past } ∷ v.joined })) other (record { view = b; past = []; joined = [] }))
+  lived-join ws vs id other v w a b at at' r goes = let us : List (View E) = map view_of vs in let now : Instant E = instant ws us in let new : Instant E = instant ws (set (set us id a) other b) in let h : List Moment = map (moment marks) (now ∷ r.0) in let x : Seen E = record v { view = a; joined = record { moments = w.past } ∷ v.joined } in let y : Seen E = record { view = b; past = []; joined = [] } in
       let is : map view_of (set (set vs id x) other y) ≡ set (set us id a) other b = map-set view_of (set vs id x) other y ∙ ap (λ (z : List (View E)). set z other b) (map-set view_of vs id x) in
-      subst (λ (z : List (View E)). (h : List (Instant E)) × holds ws z × Rattle.lock_core.specs.Pasts.Paced (Moves holds moves) (instant ws z ∷ h) × Tail (begun ∷ []) (map (moment marks) (instant ws z ∷ h)) × Rattle.lock_core.specs.Parts.Each (λ (v : Seen E). Tail v.past (map (moment marks) (instant ws z ∷ h))) (set (set vs id x) other y)) (sym is) (
+      subst (λ (z : List (View E)). (h : List (Instant E)) × holds ws z × Rattle.lock_core.specs.Pasts.Paced (Moves holds moves) (instant ws z ∷ h) × Tail (begun ∷ []) (map (moment marks) (instant ws z ∷ h)) × Rattle.lock_core.specs.Parts.Each (HasSeen (map (moment marks) (instant ws z ∷ h))) (set (set vs id x) other y)) (sym is) (
         now ∷ r.0,
         goes.0,
         ((id, r.1, goes.0, goes.1, same-words ws), r.2),
         older (moment marks new) h (begun ∷ []) r.3,
-        each-set (λ (v : Seen E). Tail v.past (moment marks new ∷ h)) (λ (v : Seen E). Tail v.past (moment marks new ∷ h)) (set vs id x) other y (none-seen (moment marks new ∷ h)) (λ j v _ _ t. t)
-            (each-set (λ (v : Seen E). Tail v.past h) (λ (v : Seen E). Tail v.past (moment marks new ∷ h)) vs id x (older (moment marks new) h v.past (r.4 id v at)) (λ j v _ _ t. older (moment marks new) h v.past t) r.4),
+        each-set (HasSeen (moment marks new ∷ h)) (HasSeen (moment marks new ∷ h)) (set vs id x) other y (record { own = none-seen (moment marks new ∷ h); joined = no-joined (moment marks new ∷ h) }) (λ j v _ _ t. t)
+            (each-set (HasSeen h) (HasSeen (moment marks new ∷ h)) vs id x (seen-older (moment marks new) h x (seen-both h v w a (r.4 id v at) (r.4 other w at'))) (λ j v _ _ t. seen-older (moment marks new) h v t) r.4),
       )
 
   pub own-step : (ws ws' : List ℕ) (vs : List (View E)) (h : List (Instant E)) (id : ℕ) (v w : View E) → get_elem? vs id ≡ some v → w.steps ≡ v.steps + 1 → IsOwnStep w (grown ws vs ws' h id w).past
@@ -96,5 +112,5 @@ module _ {E : Type 0} (marks : E → List ℕ) (begun : Moment) (holds : List �
   }
 
 module _ {E : Type 0} (marks : E → List ℕ) (holds : List ℕ → List (View E) → Type 0) (moves : ℕ → List ℕ → List (View E) → List ℕ → List (View E) → Type 0) where
-  pub lived-open : (ws : List ℕ) (v : View E) → holds ws (v ∷ []) → let new : Moment = moment marks (instant ws (v ∷ [])) in Lived marks new holds moves ws (record { view = v; past = new ∷ [] } ∷ [])
-  lived-open ws v h = let new : Moment = moment marks (instant ws (v ∷ [])) in ([], h, (tt, tt), (zero, refl), each-snoc (λ (v : Seen E). Tail v.past (new ∷ [])) [] (record { view = v; past = new ∷ [] }) (zero, refl) (λ j v e. absurd (some-ne-none v (sym e))))
+  pub lived-open : (ws : List ℕ) (v : View E) → holds ws (v ∷ []) → let new : Moment = moment marks (instant ws (v ∷ [])) in Lived marks new holds moves ws (record { view = v; past = new ∷ []; joined = [] } ∷ [])
+  lived-open ws v h = let new : Moment = moment marks (instant ws (v ∷ [])) in ([], h, (tt, tt), (zero, refl), each-snoc (HasSeen (new ∷ [])) [] (record { view = v; past = new ∷ []; joined = [] }) (record { own = (zero, refl); joined = λ i p e. none-some p e }) (λ j v e. absurd (some-ne-none v (sym e))))

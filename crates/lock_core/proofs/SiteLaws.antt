@@ -24,7 +24,7 @@ use Rattle.lock_core.specs.Moves.{Goes, Lets, KeepsHold, SiteMove}
 use Rattle.lock_core.specs.MoveLaws.{saw-stays, set-moves, tick-moved, seat-moved, hand-moved, leaves-site}
 use Rattle.lock_core.specs.Plays.{Found, PutBy, Begun, Heeded}
 use Rattle.lock_core.specs.declared.view.Moment.{Moment}
-use Rattle.lock_core.specs.Pasts.{ChangesOneWord, GoesOn, Instant, instant, view_of, moment, Moves, Lived, Ran, IsMarked, IsOwnStep}
+use Rattle.lock_core.specs.Pasts.{ChangesOneWord, KeepsJoined, GoesOn, Instant, instant, view_of, moment, Moves, Lived, Ran, IsMarked, IsOwnStep}
 use Rattle.lock_core.proofs.RowLaws.{same-some}
 use Rattle.lock_core.proofs.Living.{older, goes-on, grown, lived-after, own-step, own-marks}
 use Rattle.lock_core.proofs.Steps.{loads, stores, exchanges, modifies}
@@ -57,19 +57,19 @@ module _ {E Call : Type 0} (o : Obj Call) (unavailable : Unavailable) (size : �
 
   -- a store that changes the hand
   changes : (ws : List ℕ) (vs : List (View E)) (id at new : ℕ) (v : View E) (g : Hand) (s : SpinHand) → holds ws vs → get_elem? vs id ≡ some v → KeepsHold rests v g → SpinStays v.spin s
-      → Kept (lay k (set (drop LOCK_WORDS ws) at new)) (set (map hand_of vs) id g) × SiteStep (lay k (drop LOCK_WORDS ws)) (lay k (set (drop LOCK_WORDS ws) at new)) v.hand g → Goes holds moves id ws vs (set ws (LOCK_WORDS + at) new) (set vs id (seated v g s))
+      → Kept (lay k (set (drop LOCK_WORDS ws) at new)) (set (map hand_of vs) id g) × SiteStep (v.steps + 1) (lay k (drop LOCK_WORDS ws)) (lay k (set (drop LOCK_WORDS ws) at new)) v.hand g → Goes holds moves id ws vs (set ws (LOCK_WORDS + at) new) (set vs id (seated v g s))
   changes ws vs id at new v g s h there same stays step = let e : lay k (set (drop LOCK_WORDS ws) at new) ≡ site k (set ws (LOCK_WORDS + at) new) = sym (ap (lay k) (drop-set-add LOCK_WORDS ws at new)) in
-      sites ws vs id at new v g s h there same stays (subst (λ (w : SiteWords). Kept w (set (map hand_of vs) id g)) e step.0) (set-moves id (site k ws) (site k (set ws (LOCK_WORDS + at) new)) vs v (seated v g s) there (seat-moved (site k ws) (site k (set ws (LOCK_WORDS + at) new)) v g s stays same.2 (subst (λ (w : SiteWords). SiteStep (site k ws) w v.hand g) e step.1)))
+      sites ws vs id at new v g s h there same stays (subst (λ (w : SiteWords). Kept w (set (map hand_of vs) id g)) e step.0) (set-moves id (site k ws) (site k (set ws (LOCK_WORDS + at) new)) vs v (seated v g s) there (seat-moved (site k ws) (site k (set ws (LOCK_WORDS + at) new)) v g s stays same.2 (subst (λ (w : SiteWords). SiteStep (v.steps + 1) (site k ws) w v.hand g) e step.1)))
 
   pub puts : (slots id at new : ℕ) (me : M) (g : Hand) → KeepsHold rests me.0 g
-      → ((s : List ℕ) (hs : List Hand) → Kept (lay k s) hs → get_elem? hs id ≡ some me.0.hand → Kept (lay k (set s at new)) (set hs id g) × SiteStep (lay k s) (lay k (set s at new)) me.0.hand g)
+      → ((s : List ℕ) (hs : List Hand) → Kept (lay k s) hs → get_elem? hs id ≡ some me.0.hand → Kept (lay k (set s at new)) (set hs id g) × SiteStep (me.0.steps + 1) (lay k s) (lay k (set s at new)) me.0.hand g)
       → Lets holds moves slots id me (LOCK_WORDS + at) (Store new) (λ _. PutBy g (step slots (LOCK_WORDS + at) new 0 none) me new)
   puts slots id at new me g same law = stores holds moves slots id (LOCK_WORDS + at) new me (handed me.0 g) (λ _. PutBy g (step slots (LOCK_WORDS + at) new 0 none) me new) refl
       (λ ws vs h there. (changes ws vs id at new me.0 g me.0.spin h there same (inl refl) (law (drop LOCK_WORDS ws) (map hand_of vs) (kept ws vs h) (at_map hand_of vs id me.0 there)), (refl, refl)))
 
   -- a fetch-add that changes the hand
   pub adds : (slots id at by : ℕ) (me : M) (g : Hand) → KeepsHold rests me.0 g
-      → ((s : List ℕ) (hs : List Hand) → Kept (lay k s) hs → get_elem? hs id ≡ some me.0.hand → (get_or s at 0 + by < 18446744073709551616) × Kept (lay k (set s at (get_or s at 0 + by))) (set hs id g) × SiteStep (lay k s) (lay k (set s at (get_or s at 0 + by))) me.0.hand g)
+      → ((s : List ℕ) (hs : List Hand) → Kept (lay k s) hs → get_elem? hs id ≡ some me.0.hand → (get_or s at 0 + by < 18446744073709551616) × Kept (lay k (set s at (get_or s at 0 + by))) (set hs id g) × SiteStep (me.0.steps + 1) (lay k s) (lay k (set s at (get_or s at 0 + by))) me.0.hand g)
       → Lets holds moves slots id me (LOCK_WORDS + at) (Add by) (PutBy g (step slots (LOCK_WORDS + at) by 0 none) me)
   adds slots id at by me g same law = modifies holds moves slots id (LOCK_WORDS + at) me (Add by) (handed me.0 g) (PutBy g (step slots (LOCK_WORDS + at) by 0 none) me) refl
       (λ ws vs h there small. let t = law (drop LOCK_WORDS ws) (map hand_of vs) (kept ws vs h) (at_map hand_of vs id me.0 there) in let fits = t.0 in let here : get_or (drop LOCK_WORDS ws) at 0 ≡ get_or ws (LOCK_WORDS + at) 0 = get_or-drop LOCK_WORDS ws at 0 in
@@ -93,7 +93,7 @@ module _ {E Call : Type 0} (o : Obj Call) (unavailable : Unavailable) (size : �
   -- a compare-exchange that looks where it misses
   pub begins : (becomes : Hand → Type 0) (slots id at old new : ℕ) (me : M)
       → ((s : List ℕ) (hs : List Hand) → Kept (lay k s) hs → get_elem? hs id ≡ some me.0.hand → get_or s at 0 ≡ old
-      → (g : Hand) × becomes g × KeepsHold rests me.0 g × Kept (lay k (set s at new)) (set hs id g) × SiteStep (lay k s) (lay k (set s at new)) me.0.hand g)
+      → (g : Hand) × becomes g × KeepsHold rests me.0 g × Kept (lay k (set s at new)) (set hs id g) × SiteStep (me.0.steps + 1) (lay k s) (lay k (set s at new)) me.0.hand g)
       → Lets holds moves slots id me (LOCK_WORDS + at) (Exchange old new) (Begun becomes (step slots (LOCK_WORDS + at) old new none) me)
   begins becomes slots id at old new me law = exchanges holds moves slots id (LOCK_WORDS + at) old new me (λ _. ticked me.0) (Begun becomes (step slots (LOCK_WORDS + at) old new none) me) (λ _. refl)
       (λ ws vs h there is. let t = law (drop LOCK_WORDS ws) (map hand_of vs) (kept ws vs h) (at_map hand_of vs id me.0 there) (get_or-drop LOCK_WORDS ws at 0 ∙ is) in
@@ -116,7 +116,7 @@ module _ {E : Type 0} (k : Plan) (marks : E → List ℕ) (begun : Plan → Mome
   pub recalls : (slots id : ℕ) (me : Me (Unit {0}) (Seen E)) → me.0.view.hand.plan ≡ Some k
       → ((ws : List ℕ) (vs : List (View E)) (id at : ℕ) (v : View E) → holds k ws vs → get_elem? vs id ≡ some v → Goes (holds k) (moves k) id ws vs ws (set vs id (ticked v)))
       → Allows (λ s. Lived marks (begun k) (holds k) (moves k) s.words s.views) slots id me 0 (λ n. n)
-      (λ n m'. (m'.0.view ≡ ticked me.0.view) × (m'.1 ≡ me.1) × GoesOn me.0.past m'.0.past × IsOwnStep m'.0.view m'.0.past × IsMarked marks m'.0.view m'.0.past × ((p : Plan) → me.0.view.hand.plan ≡ Some p → Ran marks (begun p) (Moves (holds p) (moves p)) m'.0.past))
+      (λ n m'. (m'.0.view ≡ ticked me.0.view) × (m'.1 ≡ me.1) × GoesOn me.0.past m'.0.past × IsOwnStep m'.0.view m'.0.past × IsMarked marks m'.0.view m'.0.past × ((p : Plan) → me.0.view.hand.plan ≡ Some p → Ran marks (begun p) (Moves (holds p) (moves p)) m'.0.past) × KeepsJoined me.0.joined m'.0.past)
   recalls slots id me plan looks s r l at small = let vs : List (View E) = map view_of s.views in let v = me.0.view in let there = at_map view_of s.views id me.0 at in let ws' : List ℕ = set s.words 0 (get_or s.words 0 0) in
       let one : ChangesOneWord s.words ws' = (0, get_or s.words 0 0, refl) in let goes : Goes (holds k) (moves k) id s.words vs ws' (set vs id (ticked v)) = subst (λ (z : List ℕ). Goes (holds k) (moves k) id s.words vs z (set vs id (ticked v))) (sym (set-get_or s.words 0 0)) (looks s.words vs id 0 v r.1 there) in
       let lived = lived-after marks (begun k) (holds k) (moves k) s.words ws' s.views id (ticked v) r goes one in let g : Seen E = grown marks (begun k) (holds k) (moves k) s.words vs ws' r.0 id (ticked v) in let new : Instant E = instant ws' (set vs id (ticked v)) in let now : Instant E = instant s.words vs in
@@ -129,9 +129,10 @@ module _ {E : Type 0} (k : Plan) (marks : E → List ℕ) (begun : Plan → Mome
         (
           refl,
           refl,
-          goes-on me.0.past (moment marks new ∷ h) (older (moment marks new) h me.0.past (r.4 id me.0 at)),
+          goes-on me.0.past (moment marks new ∷ h) (older (moment marks new) h me.0.past (r.4 id me.0 at).own),
           own-step marks (begun k) (holds k) (moves k) s.words ws' vs r.0 id v (ticked v) there refl,
           own-marks marks (begun k) (holds k) (moves k) s.words ws' vs r.0 id v (ticked v) there,
           λ p is. subst (λ (z : Plan). Ran marks (begun z) (Moves (holds z) (moves z)) g.past) (same-some k p (sym plan ∙ is)) ran,
+          λ i p e. goes-on p.moments (moment marks new ∷ h) (older (moment marks new) h p.moments ((r.4 id me.0 at).joined i p e)),
         ),
       )

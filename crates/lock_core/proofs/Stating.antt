@@ -34,6 +34,9 @@ module _ {Call : Type 0} (o : Obj Call) (unavailable : Unavailable) (size : ℕ)
     plan = r.laid.calls;
     plans = λ j h at. (r.each j h at).plan;
     numbers = r.balances.named;
+    tasks = λ j h at t has. ((r.each j h at).mine t has).0;
+    done = λ j h at t has. ((r.each j h at).mine t has).1;
+    nameless = λ j h at. (r.each j h at).nameless;
     guarded = λ none. r.balances.quiet (none-writes hs none);
     writers = λ j h at. (r.each j h at).writer;
     apart = λ i j g h at at' other writes. others-free o unavailable size k hs i j g h r.balances.apart at ((r.each i g at).writer writes) (λ e. other (sym e)) at';

@@ -86,11 +86,11 @@ module _ {E : Type 0} (marks : E → List ℕ) (begun : Moment) (holds : List �
   -- a step that the rule lets a pass make is one that the table allows
   pub allows : (slots id i : ℕ) (me : Me (Unit {0}) (Seen E)) (op : Op) (tells : ℕ → Me (Unit {0}) (View E) → Type 0) → Lets holds moves slots id (unseen me) i op tells → Allows Rule slots id me i (word_after op) (λ n m'. tells n (unseen m') × GoesOn me.0.past m'.0.past × IsOwnStep m'.0.view m'.0.past)
   allows slots id i me op tells lets s r l at small = let vs : List (View E) = map view_of s.views in let t = lets record { words = s.words; homes = s.homes; views = vs } r.1 l (at_map view_of s.views id me.0 at) small in
-      let ws' : List ℕ = set s.words i (word_after op (get_or s.words i 0)) in (grown marks begun holds moves s.words vs ws' r.0 id t.0, t.1, t.2, lived-after marks begun holds moves s.words ws' s.views id t.0 r t.3 (i, word_after op (get_or s.words i 0), refl), (t.5, goes-on me.0.past (moment marks (instant ws' (set vs id t.0)) ∷ map (moment marks) (instant s.words vs ∷ r.0)) (older (moment marks (instant ws' (set vs id t.0))) (map (moment marks) (instant s.words vs ∷ r.0)) me.0.past (r.4 id me.0 at)), own-step marks begun holds moves s.words ws' vs r.0 id me.0.view t.0 (at_map view_of s.views id me.0 at) t.4))
+      let ws' : List ℕ = set s.words i (word_after op (get_or s.words i 0)) in (grown marks begun holds moves s.words vs ws' r.0 id t.0, t.1, t.2, lived-after marks begun holds moves s.words ws' s.views id t.0 r t.3 (i, word_after op (get_or s.words i 0), refl), (t.5, goes-on me.0.past (moment marks (instant ws' (set vs id t.0)) ∷ map (moment marks) (instant s.words vs ∷ r.0)) (older (moment marks (instant ws' (set vs id t.0))) (map (moment marks) (instant s.words vs ∷ r.0)) me.0.past (r.4 id me.0 at).own), own-step marks begun holds moves s.words ws' vs r.0 id me.0.view t.0 (at_map view_of s.views id me.0 at) t.4))
 
   -- the same, where the pass remembers what it found
   pub allows-found : (slots id i : ℕ) (me : Me (Unit {0}) (Seen E)) (op : Op) (tells : ℕ → Me (Unit {0}) (View E) → Type 0) → Lets holds moves slots id (unseen me) i op tells
       → Allows Rule slots id me i (word_after op) (λ n m'. tells n (unseen m') × FoundAt i n m'.0.past × GoesOn me.0.past m'.0.past × IsOwnStep m'.0.view m'.0.past)
   allows-found slots id i me op tells lets s r l at small = let vs : List (View E) = map view_of s.views in let t = lets record { words = s.words; homes = s.homes; views = vs } r.1 l (at_map view_of s.views id me.0 at) small in
       let ws' : List ℕ = set s.words i (word_after op (get_or s.words i 0)) in let past : List Moment = (grown marks begun holds moves s.words vs ws' r.0 id t.0).past in
-      (grown marks begun holds moves s.words vs ws' r.0 id t.0, t.1, t.2, lived-after marks begun holds moves s.words ws' s.views id t.0 r t.3 (i, word_after op (get_or s.words i 0), refl), (t.5, (moment marks (instant ws' (set vs id t.0)), moment marks (instant s.words vs), map (moment marks) r.0, refl, refl), goes-on me.0.past (moment marks (instant ws' (set vs id t.0)) ∷ map (moment marks) (instant s.words vs ∷ r.0)) (older (moment marks (instant ws' (set vs id t.0))) (map (moment marks) (instant s.words vs ∷ r.0)) me.0.past (r.4 id me.0 at)), own-step marks begun holds moves s.words ws' vs r.0 id me.0.view t.0 (at_map view_of s.views id me.0 at) t.4))
+      (grown marks begun holds moves s.words vs ws' r.0 id t.0, t.1, t.2, lived-after marks begun holds moves s.words ws' s.views id t.0 r t.3 (i, word_after op (get_or s.words i 0), refl), (t.5, (moment marks (instant ws' (set vs id t.0)), moment marks (instant s.words vs), map (moment marks) r.0, refl, refl), goes-on me.0.past (moment marks (instant ws' (set vs id t.0)) ∷ map (moment marks) (instant s.words vs ∷ r.0)) (older (moment marks (instant ws' (set vs id t.0))) (map (moment marks) (instant s.words vs ∷ r.0)) me.0.past (r.4 id me.0 at).own), own-step marks begun holds moves s.words ws' vs r.0 id me.0.view t.0 (at_map view_of s.views id me.0 at) t.4))

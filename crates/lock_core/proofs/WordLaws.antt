@@ -1,5 +1,5 @@
 -- The steps on the words of the object, and what their loads tell.
-use Rattle.std.proofs.Common.{◌≡◌, ◌≢◌, ℕ, zero, suc, ◌+◌, ◌<◌, ◌≤◌, List, [], ◌∷◌, length, map, take, get_or, set, slice_get, Some, refl, sym, ap, subst, ◌∙◌, arith}
+use Rattle.std.proofs.Common.{◌≡◌, ◌≢◌, ℕ, zero, suc, ◌+◌, ◌<◌, ◌≤◌, List, [], ◌∷◌, length, map, take, get_or, set, slice_get, Some, refl, sym, ap, subst, ◌∙◌, arith, inr}
 use Rattle.std.proofs.lemmas.List.{take-set-le, get_or-take}
 use mathlib.Core.Option.{some}
 use lib.ListN.{get_elem?}
@@ -20,11 +20,10 @@ use Rattle.lock_core.specs.Records.{row}
 use Rattle.lock_core.specs.Views.{wrote, entered, logged, recorded, owed_weight, sent_after, consumed_after, settled}
 use Rattle.lock_core.specs.Sites.{SiteKept, SiteStep}
 use Rattle.lock_core.specs.MoveLaws.{keeps-recs}
-use Rattle.lock_core.proofs.Replies.{busy-set}
 use Rattle.lock_core.specs.Passes.{IsLength, IsEntryAt, MayRecord}
 use Rattle.lock_core.proofs.LayoutLaws.{lay-guarded, lay-len, lay-entries, lay-recs}
 use Rattle.lock_core.specs.Regions.{part-at}
-use Rattle.lock_core.proofs.RowLaws.{none-some, same-some, some-inside, start-below}
+use Rattle.lock_core.proofs.RowLaws.{none-some, same-some, some-inside, start-below, rec_words-at, task_recs-none}
 use Rattle.lock_core.proofs.HandLaws.{alone-is-held}
 use Rattle.lock_core.proofs.Numbering.{next-short}
 use Rattle.lock_core.proofs.Reading.{same-plan}
@@ -53,41 +52,60 @@ module _ {Call : Type 0} (o : Obj Call) (unavailable : Unavailable) (size : ℕ)
   abbrev Kept : SiteWords → List Hand → Type 0
   Kept = SiteKept o unavailable size k
 
-  abbrev After : List ℕ → List Hand → ℕ → Hand → Hand → ℕ → ℕ → Type 0
-  After s hs id h g at new = Kept (lay k (set s at new)) (set hs id g) × SiteStep (lay k s) (lay k (set s at new)) h g
+  abbrev After : ℕ → List ℕ → List Hand → ℕ → Hand → Hand → ℕ → ℕ → Type 0
+  After step s hs id h g at new = Kept (lay k (set s at new)) (set hs id g) × SiteStep step (lay k s) (lay k (set s at new)) h g
 
-  pub writes-there : (s : List ℕ) (hs : List Hand) (id i n : ℕ) (h : Hand) → size ≤ 257 → Kept (lay k s) hs → get_elem? hs id ≡ some h → h.held ≡ Alone → i < size → After s hs id h (wrote h i n) i n
-  writes-there s hs id i n h fits r at alone inside = let e = sym (lay-guarded k s i n (omega (arith, fits, inside))) in
-      (subst (λ (w : SiteWords). Kept w (set hs id (wrote h i n))) e (site-writes o unavailable size k (lay k s) hs id i n h r at alone inside), subst (λ (w : SiteWords). SiteStep (lay k s) w h (wrote h i n)) e (keeps-recs (lay k s) (record (lay k s) { guarded = set (lay k s).guarded i n }) h (wrote h i n) refl (omega arith, refl) record { misses = omega arith; freed = λ _. refl; takes = omega arith; comes = λ out holds. absurd (holds out) }))
+  pub writes-there : {step : ℕ} (s : List ℕ) (hs : List Hand) (id i n : ℕ) (h : Hand) → size ≤ 257 → Kept (lay k s) hs → get_elem? hs id ≡ some h → h.held ≡ Alone → i < size → After step s hs id h (wrote h i n) i n
+  writes-there {step} s hs id i n h fits r at alone inside = let e = sym (lay-guarded k s i n (omega (arith, fits, inside))) in
+      (subst (λ (w : SiteWords). Kept w (set hs id (wrote h i n))) e (site-writes o unavailable size k (lay k s) hs id i n h r at alone inside), subst (λ (w : SiteWords). SiteStep step (lay k s) w h (wrote h i n)) e (keeps-recs (lay k s) (record (lay k s) { guarded = set (lay k s).guarded i n }) h (wrote h i n) refl (omega arith, refl) (λ not. absurd (not alone)) (record { misses = omega arith; freed = λ _. refl; takes = omega arith; comes = λ out holds. absurd (holds out) }, refl)))
 
   holders-log : (s : List ℕ) (hs : List Hand) (id : ℕ) (h : Hand) → Kept (lay k s) hs → get_elem? hs id ≡ some h → h.held ≢ No → get_or s LENGTH_AT 0 ≡ length h.log
   holders-log s hs id h r at holds = r.tells.many ∙ sym (ap length ((r.each id h at).known holds).1)
 
-  pub enters-there : (s : List ℕ) (hs : List Hand) (id len : ℕ) (e : Entry) (h : Hand) → Kept (lay k s) hs → get_elem? hs id ≡ some h → h.held ≡ Alone → h.stage ≡ Rest → len ≡ length h.log → len < calls_in k → After s hs id h (entered h e) (ENTRIES_AT + len) (entry_word e)
-  enters-there s hs id len e h r at alone rest is room = let here : (lay k s).len ≡ len = holders-log s hs id h r at (alone-is-held h.held alone) ∙ sym is in let f = sym (lay-entries k s len (entry_word e) room) in (
+  pub enters-there : {step : ℕ} (s : List ℕ) (hs : List Hand) (id len : ℕ) (e : Entry) (h : Hand) → Kept (lay k s) hs → get_elem? hs id ≡ some h → h.held ≡ Alone → h.stage ≡ Rest → len ≡ length h.log → len < calls_in k → After step s hs id h (entered h e) (ENTRIES_AT + len) (entry_word e)
+  enters-there {step} s hs id len e h r at alone rest is room = let here : (lay k s).len ≡ len = holders-log s hs id h r at (alone-is-held h.held alone) ∙ sym is in let f = sym (lay-entries k s len (entry_word e) room) in (
     subst (λ (w : SiteWords). Kept w (set hs id (entered h e))) f (subst (λ (n : ℕ). Kept (record (lay k s) { entries = set (lay k s).entries n (entry_word e) }) (set hs id (entered h e))) here (site-enters o unavailable size k (lay k s) hs id e h r at alone rest (omega (arith, here, room)))),
-    subst (λ (w : SiteWords). SiteStep (lay k s) w h (entered h e)) f (keeps-recs (lay k s) (record (lay k s) { entries = set (lay k s).entries len (entry_word e) }) h (entered h e) refl (omega arith, take-set-le (lay k s).len (lay k s).entries len (entry_word e) (omega (arith, here))) record { misses = omega arith; freed = λ _. refl; takes = omega arith; comes = λ out holds. absurd (holds out) }),
+    subst (λ (w : SiteWords). SiteStep step (lay k s) w h (entered h e)) f (keeps-recs (lay k s) (record (lay k s) { entries = set (lay k s).entries len (entry_word e) }) h (entered h e) refl (omega arith, take-set-le (lay k s).len (lay k s).entries len (entry_word e) (omega (arith, here))) (λ not. absurd (not alone)) (record { misses = omega arith; freed = λ _. refl; takes = omega arith; comes = λ out holds. absurd (holds out) }, refl)),
   )
 
-  pub logs-there : (s : List ℕ) (hs : List Hand) (id len : ℕ) (e : Entry) (h : Hand) (words : CallWords) (c : Call) → Kept (lay k s) hs → get_elem? hs id ≡ some h → h.held ≡ Alone → h.stage ≡ Entered e → h.task ≡ Some e.task → h.done ≡ e.call → len ≡ length h.log → len < calls_in k
-      → slice_get (row k e.task) e.call ≡ Some words → o.call_of words ≡ Some c → h.known ≡ o.stores ((o.meaning (state_after o k h.log) c).0) → After s hs id h (logged h e) LENGTH_AT (len + 1)
-  logs-there s hs id len e h words c r at alone stage named done is room planned called means = let here : (lay k s).len ≡ len = holders-log s hs id h r at (alone-is-held h.held alone) ∙ sym is in let wide = r.laid.wide in let f = sym (lay-len k s (len + 1) (omega (arith, wide))) in (
+  pub logs-there : {step : ℕ} (s : List ℕ) (hs : List Hand) (id len : ℕ) (e : Entry) (h : Hand) (words : CallWords) (c : Call) → Kept (lay k s) hs → get_elem? hs id ≡ some h → h.held ≡ Alone → h.stage ≡ Entered e → h.task ≡ Some e.task → h.done ≡ e.call → len ≡ length h.log → len < calls_in k
+      → slice_get (row k e.task) e.call ≡ Some words → o.call_of words ≡ Some c → h.known ≡ o.stores ((o.meaning (state_after o k h.log) c).0) → After step s hs id h (logged h e) LENGTH_AT (len + 1)
+  logs-there {step} s hs id len e h words c r at alone stage named done is room planned called means = let here : (lay k s).len ≡ len = holders-log s hs id h r at (alone-is-held h.held alone) ∙ sym is in let wide = r.laid.wide in let f = sym (lay-len k s (len + 1) (omega (arith, wide))) in (
     subst (λ (w : SiteWords). Kept w (set hs id (logged h e))) f (subst (λ (n : ℕ). Kept (record (lay k s) { len = n + 1 }) (set hs id (logged h e))) here
         (site-logs o unavailable size k (lay k s) hs id e h words c r at alone stage named done (omega (arith, here, room)) planned called means)),
-    subst (λ (w : SiteWords). SiteStep (lay k s) w h (logged h e)) f (keeps-recs (lay k s) (record (lay k s) { len = len + 1 }) h (logged h e) refl (omega (arith, here), refl) record { misses = omega arith; freed = λ _. refl; takes = omega arith; comes = λ out holds. absurd (holds out) }),
+    subst (λ (w : SiteWords). SiteStep step (lay k s) w h (logged h e)) f (keeps-recs (lay k s) (record (lay k s) { len = len + 1 }) h (logged h e) refl (omega (arith, here), refl) (λ not. absurd (not alone)) (record { misses = omega arith; freed = λ _. refl; takes = omega arith; comes = λ out holds. absurd (holds out) }, refl)),
   )
 
-  pub records-there : (s : List ℕ) (hs : List Hand) (id n : ℕ) (h : Hand) (e : Entry) (words : CallWords) (x : Rec) (seen : List Entry) → Kept (lay k s) hs → get_elem? hs id ≡ some h → MayRecord o unavailable k h e words x seen
-      → After s hs id h (recorded (settled h x.reply) n e x seen) (recs_at k + (start k e.task + e.call)) (rec_word x)
-  records-there s hs id n h e words x seen r at may = let ok = r.each id h at in let is = may.call in let inside = some-inside (row k e.task) e.call words may.planned in let below = start-below k e.task e.call inside in
+  pub records-there : {step : ℕ} (s : List ℕ) (hs : List Hand) (id : ℕ) (h : Hand) (e : Entry) (words : CallWords) (x : Rec) (seen : List Entry) → Kept (lay k s) hs → get_elem? hs id ≡ some h → h.plan ≡ Some k → MayRecord o unavailable k h e words x seen
+      → After step s hs id h (recorded (settled h x.reply) step e x seen) (recs_at k + (start k e.task + e.call)) (rec_word x)
+  records-there {step} s hs id h e words x seen r at planned may = let ok = r.each id h at in let is = may.call in let inside = some-inside (row k e.task) e.call words may.planned in let below = start-below k e.task e.call inside in
       let f = sym (lay-recs k s (start k e.task + e.call) (rec_word x) below) in let means = may.means r.log (λ holds. (ok.known holds).1) ok.seen in let mine = ok.mine e.task may.task in
       let settles = accounts o unavailable size k r.told e.task h words x x.reply refl r.tells.tasks mine.0 may.task (ap (slice_get (row k e.task)) (sym mine.1 ∙ is) ∙ may.planned) may.accounts in (
-        subst (λ (w : SiteWords). Kept w (set hs id (recorded (settled h x.reply) n e x seen))) f
-            (subst (λ (c : ℕ). Kept (record (lay k s) { recs = set (lay k s).recs (start k e.task + c) (rec_word x) }) (set hs id (recorded (settled h x.reply) n (record { task = e.task; call = c }) x seen))) is
-            (site-records o unavailable size k (lay k s) hs id e.task n h words x seen (sent_after h.sent x.reply) (consumed_after h.consumed x.reply) r at may.task (ap (slice_get (row k e.task)) is ∙ may.planned) settles.2 may.fits
+        subst (λ (w : SiteWords). Kept w (set hs id (recorded (settled h x.reply) step e x seen))) f
+            (subst (λ (c : ℕ). Kept (record (lay k s) { recs = set (lay k s).recs (start k e.task + c) (rec_word x) }) (set hs id (recorded (settled h x.reply) step (record { task = e.task; call = c }) x seen))) is
+            (site-records o unavailable size k (lay k s) hs id e.task step h words x seen (sent_after h.sent x.reply) (consumed_after h.consumed x.reply) r at may.task (ap (slice_get (row k e.task)) is ∙ may.planned) settles.2 may.fits
             (subst (λ (c : ℕ). Rattle.word_bits.specs.Legal.IsRecord o unavailable k r.log x.k (record { task = e.task; call = c }) words x) (sym is) means.0) means.1 settles.0 settles.1 (means.2, means.3) may.enough
             (subst (λ (c : ℕ). Rattle.lock_core.specs.Passes.Settles o h r.log (record { task = e.task; call = c }) words x) (sym is) means.4))),
-        subst (λ (w : SiteWords). SiteStep (lay k s) w h (recorded (settled h x.reply) n e x seen)) f record { grows = (omega arith, refl); busy = λ j z word changed fits is says. busy-set (lay k s).recs (start k e.task + e.call) j x z word may.fits fits changed is says (may.busy word); hand = record { misses = omega arith; freed = λ _. refl; takes = omega arith; comes = λ out holds. absurd (holds out) } },
+        subst (λ (w : SiteWords). SiteStep step (lay k s) w h (recorded (settled h x.reply) step e x seen)) f record {
+          grows = (omega arith, refl);
+          records = inr record {
+            plan = k;
+            planned = planned;
+            task = e.task;
+            named = may.task;
+            next = omega (arith, is, inside);
+            rec = x;
+            fits = may.fits;
+            empty = ap (λ (z : List ℕ). get_or z (start k e.task + h.done) 0) r.tells.filled
+                ∙ (rec_words-at k r.told e.task h.done r.tells.tasks (omega (arith, is, inside)) ∙ (let l = mine.1 in task_recs-none (row k e.task) (row r.told e.task) h.done (omega (arith, l))));
+            stored = ap (λ (c : ℕ). set (lay k s).recs (start k e.task + c) (rec_word x)) (sym is);
+            busy = may.busy;
+            done = refl;
+            last = refl;
+          };
+          quiet = λ _. record { guarded = refl; len = refl; entries = refl };
+          hand = record { misses = omega arith; freed = λ _. refl; takes = omega arith; comes = λ out holds. absurd (holds out) };
+        },
       )
 
   pub word-found : (s : List ℕ) (hs : List Hand) (id at : ℕ) (h : Hand) → size ≤ 257 → Kept (lay k s) hs → get_elem? hs id ≡ some h → h.held ≢ No → at < size → get_or s at 0 ≡ get_or h.known at 0

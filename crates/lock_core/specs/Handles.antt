@@ -14,6 +14,7 @@ use Rattle.lock_core.specs.declared.view.View.{View}
 use Rattle.lock_core.specs.declared.view.Hand.{Hand}
 use Rattle.lock_core.specs.declared.view.Held.{Held}
 use Rattle.lock_core.specs.declared.view.Moment.{Moment}
+use Rattle.lock_core.specs.declared.view.Past.{Past}
 use Rattle.lock_core.specs.declared.pass.Pass.{Pass}
 use Rattle.lock_core.specs.declared.site.Site.{Site}
 use Rattle.lock_core.specs.declared.op.Op.{Op}
@@ -23,7 +24,7 @@ use Rattle.lock_core.specs.Ops.{first_of, second_of}
 use Rattle.lock_core.specs.Moves.{Lets, KeepsHold}
 use Rattle.lock_core.specs.Pasts.{unseen, GoesOn, FoundSince, IsOwnStep}
 use Rattle.lock_core.specs.Plays.{Sat}
-use Rattle.lock_core.specs.Passes.{Sits, IsChange, IsReading, IsSignal, MayNote, MayRecord, HearsOfNone, Numbered}
+use Rattle.lock_core.specs.Passes.{Sits, IsChange, IsReading, IsSeenReading, IsSignal, MayNote, MayRecord, HearsOfNone, Numbered}
 use Rattle.lock_core.specs.Views.{next_entry}
 use Rattle.lock_core.specs.Layout.{lay}
 
@@ -43,6 +44,10 @@ module _ {R O E C : Type 0} where
   -- the moments of the table up to the pass's last step, the last one first
   abbrev pub past_of : Pass R O E C → List Moment
   past_of pass = pass.seat.me.0.past
+
+  -- those of the passes that it took in since its last step
+  abbrev pub joined_by : Pass R O E C → List Past
+  joined_by pass = pass.seat.me.0.joined
 
   -- the pass is one of the site's, and says of itself what its view does
   abbrev pub SitsAt : Site R O E C → Pass R O E C → Type 0
@@ -86,6 +91,11 @@ module _ {R O E C : Type 0} where
     pub seat : new.seat ≡ old.seat
     pub face : new.face ≡ record old.face { held = how }
 
+  -- it says that it has seen so many entries, and all else is as it was
+  pub record NotesFront (front : ℕ) (old new : Pass R O E C) : Type 0 where
+    pub seat : new.seat ≡ old.seat
+    pub face : new.face ≡ record old.face { front = front }
+
   -- its past goes on
   abbrev pub KeepsPast : Pass R O E C → Pass R O E C → Type 0
   KeepsPast old new = GoesOn (past_of old) (past_of new)
@@ -123,6 +133,10 @@ module _ {R O E C : Type 0} where
   abbrev pub IsNextReading : {Call : Type 0} → Obj Call → Site R O E C → Pass R O E C → Reply → Type 0
   IsNextReading o site pass reply = IsReading o (plan_of site) (hand_in pass) (next_entry (hand_in pass)) reply
 
+  -- its task's next call reads, and this is its reply on the state after what the pass has seen of the log
+  abbrev pub IsNextSeenReading : {Call : Type 0} → Obj Call → Site R O E C → Pass R O E C → Reply → Type 0
+  IsNextSeenReading o site pass reply = IsSeenReading o (plan_of site) (hand_in pass) (next_entry (hand_in pass)) reply
+
   -- the pass may note its task's next call with this reply
   abbrev pub MayNoteNext : {Call : Type 0} → Obj Call → Unavailable → Site R O E C → Pass R O E C → Reply → Type 0
   MayNoteNext o unavailable site pass reply = MayNote o unavailable (plan_of site) (hand_in pass) (next_entry (hand_in pass)) reply
@@ -154,7 +168,7 @@ module _ {R O E C : Type 0} where
     Kept s hs = SiteKept o unavailable size (plan_of site) (lay (plan_of site) s) hs
 
     abbrev After : List ℕ → List Hand → ℕ → Hand → Type 0
-    After s hs new g = Kept (slice_set s at new) (slice_set hs pass.seat.id g) × SiteStep (lay (plan_of site) s) (lay (plan_of site) (slice_set s at new)) (hand_in pass) g
+    After s hs new g = Kept (slice_set s at new) (slice_set hs pass.seat.id g) × SiteStep ((view_of pass).steps + 1) (lay (plan_of site) s) (lay (plan_of site) (slice_set s at new)) (hand_in pass) g
 
     -- whatever the words and the hands are, a load finds what this says
     abbrev pub MayFind : (Hand → ℕ → ℕ → Type 0) → Type 0
@@ -166,8 +180,8 @@ module _ {R O E C : Type 0} where
 
     -- so may an addition, which fits
     abbrev pub MayAdd : ℕ → Hand → Type 0
-    MayAdd by g = (s : List ℕ) (hs : List Hand) → Kept s hs → get_elem? hs pass.seat.id ≡ some (hand_in pass) → (slice_index s at + by < 18446744073709551616) × Kept (slice_set s at (slice_index s at + by)) (slice_set hs pass.seat.id g) × SiteStep (lay (plan_of site) s) (lay (plan_of site) (slice_set s at (slice_index s at + by))) (hand_in pass) g
+    MayAdd by g = (s : List ℕ) (hs : List Hand) → Kept s hs → get_elem? hs pass.seat.id ≡ some (hand_in pass) → (slice_index s at + by < 18446744073709551616) × Kept (slice_set s at (slice_index s at + by)) (slice_set hs pass.seat.id g) × SiteStep ((view_of pass).steps + 1) (lay (plan_of site) s) (lay (plan_of site) (slice_set s at (slice_index s at + by))) (hand_in pass) g
 
     -- where the word is 0, a store of 1 may leave such a hand
     abbrev pub MayTake : (Hand → Type 0) → (View E → Type 0) → Type 0
-    MayTake becomes rests = (s : List ℕ) (hs : List Hand) → Kept s hs → get_elem? hs pass.seat.id ≡ some (hand_in pass) → slice_index s at ≡ 0 → (g : Hand) × becomes g × KeepsHold rests (view_of pass) g × Kept (slice_set s at 1) (slice_set hs pass.seat.id g) × SiteStep (lay (plan_of site) s) (lay (plan_of site) (slice_set s at 1)) (hand_in pass) g
+    MayTake becomes rests = (s : List ℕ) (hs : List Hand) → Kept s hs → get_elem? hs pass.seat.id ≡ some (hand_in pass) → slice_index s at ≡ 0 → (g : Hand) × becomes g × KeepsHold rests (view_of pass) g × Kept (slice_set s at 1) (slice_set hs pass.seat.id g) × SiteStep ((view_of pass).steps + 1) (lay (plan_of site) s) (lay (plan_of site) (slice_set s at 1)) (hand_in pass) g

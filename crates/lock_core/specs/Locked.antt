@@ -1,5 +1,5 @@
 -- What the word of a lock states of its passes, whatever else its table has.
-use Rattle.std.specs.Prelude.{◌≡◌, ◌≢◌, ℕ, ◌+◌, ◌/◌, ◌%◌, ◌^◌, ◌<◌, ◌≤◌, List, [], Contains, slice_index, Some, None}
+use Rattle.std.specs.Prelude.{◌≡◌, ◌≢◌, ℕ, ◌+◌, ◌/◌, ◌%◌, ◌^◌, ◌<◌, ◌≤◌, ◌⊎◌, List, [], Contains, length, slice_index, Some, None}
 use mathlib.Core.Option.{some}
 use lib.ListN.{get_elem?}
 use Rattle.word_bits.specs.Objects.{Obj}
@@ -15,7 +15,7 @@ use Rattle.lock_core.specs.Pasts.{ChangesOneWord}
 use Rattle.lock_core.specs.Sites.{SawGoes, SiteStep}
 use Rattle.lock_core.specs.Stated.{IsSiteThen}
 use Rattle.lock_core.specs.Totals.{total}
-use Rattle.lock_core.specs.Views.{alone_of}
+use Rattle.lock_core.specs.Views.{SpinRests, alone_of, stranger, no_spin}
 use Rattle.lock_core.specs.Spins.{holds_in}
 use Rattle.lock_core.specs.Kinds.{Kind, mutex, semaphore, unavailable}
 
@@ -71,18 +71,40 @@ pub record SamePass (id : ℕ) (x y : Moment) : Type 0 where
   pub fronts : get_elem? y.fronts id ≡ get_elem? x.fronts id
   pub marks : get_elem? y.marks id ≡ get_elem? x.marks id
 
--- one pass led from the first moment to the second, in one counted step that changed no word but one, and did to the site's words what every step of a site does; the lock's word stands at this place; every other pass that is still there is as it was
+-- the pass of this number was split off by one with this hand: it knows the plan and what that one has seen of the log, and has made no step
+pub record IsBorn (from : Hand) (id : ℕ) (y : Moment) : Type 0 where
+  pub hand : get_elem? y.hands id ≡ some (stranger from.plan from.seen)
+  pub spin : get_elem? y.spins id ≡ some no_spin
+  pub steps : get_elem? y.steps id ≡ some 0
+  pub fronts : get_elem? y.fronts id ≡ some 0
+
+-- the pass of this number, with this hand at the first moment, was taken in: it had no number, held nothing and was at no point of the wait lock, and nothing is left of it
+pub record IsGone (id : ℕ) (h : Hand) (x y : Moment) : Type 0 where
+  pub nameless : h.task ≡ None
+  pub out : h.held ≡ No
+  pub was : SpinHand
+  pub spun : get_elem? x.spins id ≡ some was
+  pub rested : SpinRests was
+  pub hand : get_elem? y.hands id ≡ some (stranger None [])
+  pub spin : get_elem? y.spins id ≡ some no_spin
+  pub steps : get_elem? y.steps id ≡ some 0
+  pub fronts : get_elem? y.fronts id ≡ some 0
+
+-- one pass led from the first moment to the second, in one counted step that changed no word but one, and did to the site's words what every step of a site does; the lock's word stands at this place; every other pass that is still there is as it was, and one that wasn't there was split off
 pub record IsSiteStep (k : Plan) (word_at : ℕ) (x y : Moment) : Type 0 where
   pub id : ℕ
   pub before : Hand
   pub after : Hand
   pub at : get_elem? x.hands id ≡ some before
   pub at' : get_elem? y.hands id ≡ some after
-  pub steps : SiteStep (site k x.words) (site k y.words) before after
   pub had : ℕ
   pub had_steps : get_elem? x.steps id ≡ some had
   pub has_steps : get_elem? y.steps id ≡ some (had + 1)
+  pub steps : SiteStep (had + 1) (site k x.words) (site k y.words) before after
   pub one_word : ChangesOneWord x.words y.words
   -- a word that it newly keeps as seen was the lock's, at this step
   pub tries : SawGoes (had + 1) (slice_index x.words word_at) before after
   pub others : (j : ℕ) (h g : Hand) → j ≢ id → get_elem? x.hands j ≡ some h → get_elem? y.hands j ≡ some g → g.plan ≢ None → SamePass j x y
+  pub spends : (j : ℕ) (h g : Hand) → j ≢ id → get_elem? x.hands j ≡ some h → get_elem? y.hands j ≡ some g → g.plan ≡ None → SamePass j x y ⊎ IsGone j h x y
+  pub lasts : length x.hands ≤ length y.hands
+  pub born : (j : ℕ) (h : Hand) → length x.hands ≤ j → get_elem? y.hands j ≡ some h → IsBorn before j y

@@ -159,6 +159,15 @@ pub record IsReading {Call : Type 0} (o : Obj Call) (k : Plan) (h : Hand) (e : E
   pub stored : h.known ≡ o.stores (state_after o k h.log)
   pub replies : reply ≡ (o.meaning (state_after o k h.log) call).1
 
+-- the task's next call reads, and this is its reply on the state after what the pass has seen of the log
+pub record IsSeenReading {Call : Type 0} (o : Obj Call) (k : Plan) (h : Hand) (e : Entry) (reply : Reply) : Type 0 where
+  pub words : CallWords
+  pub call : Call
+  pub planned : slice_get (row k e.task) e.call ≡ Some words
+  pub is : o.call_of words ≡ Some call
+  pub reads : o.reads call ≡ true
+  pub replies : reply ≡ (o.meaning (state_after o k h.seen) call).1
+
 -- the task's next call doesn't wait, and a try since the pass's last record saw this word, which shows that the call can't have the lock
 pub record IsBusy {Call : Type 0} (o : Obj Call) (unavailable : Unavailable) (k : Plan) (h : Hand) (e : Entry) (word : ℕ) : Type 0 where
   pub words : CallWords

@@ -1,5 +1,5 @@
 -- The whole run of a table: it has come to be from a new table, each moment from the one before by a move.
-use Rattle.std.specs.Prelude.{◌≡◌, ℕ, ◌+◌, ◌<◌, ◌≤◌, List, [], ◌∷◌, Option, map, drop, slice_index, slice_set}
+use Rattle.std.specs.Prelude.{◌≡◌, ℕ, ◌+◌, ◌<◌, ◌≤◌, List, [], ◌∷◌, Option, Some, map, drop, slice_get, slice_index, slice_set}
 use mathlib.Core.Option.{some}
 use lib.ListN.{get_elem?}
 use Rattle.atomic_table.specs.Table.{Me}
@@ -8,6 +8,7 @@ use Rattle.lock_core.specs.declared.view.View.{View}
 use Rattle.lock_core.specs.declared.view.Hand.{Hand}
 use Rattle.lock_core.specs.declared.view.Marks.{Marks}
 use Rattle.lock_core.specs.declared.view.Moment.{Moment}
+use Rattle.lock_core.specs.declared.view.Past.{Past}
 use Rattle.lock_core.specs.declared.view.Seen.{Seen}
 use Rattle.lock_core.specs.declared.op.Op.{Op}
 use Rattle.lock_core.specs.declared.op.Op.TheVariants.{Load, Store, Swap, Add, Sub, Or, And, Exchange}
@@ -25,6 +26,10 @@ BeganWith new past = Tail (new ∷ []) past
 -- the new past goes back to the old one, and so to all that the old one goes back to
 abbrev pub GoesOn : {A : Type 0} → List A → List A → Type 0
 GoesOn {A} old new = (p : List A) → Tail p old → Tail p new
+
+-- the new past goes back to all that these do
+abbrev pub KeepsJoined : List Past → List Moment → Type 0
+KeepsJoined joined new = (i : ℕ) (p : Past) → slice_get joined i ≡ Some p → GoesOn p.moments new
 
 -- a table at one moment
 pub record Instant (E : Type 0) : Type 0 where
@@ -86,10 +91,15 @@ module _ {E : Type 0} (holds : List ℕ → List (View E) → Type 0) (moves : �
 abbrev pub RanByRule : {E : Type 0} → (E → List ℕ) → E → (Plan → List ℕ → List (View E) → Type 0) → (Plan → ℕ → List ℕ → List (View E) → List ℕ → List (View E) → Type 0) → Plan → List Moment → Type 0
 RanByRule marks idle holds moves k past = Ran marks (opening marks k idle) (Moves (holds k) (moves k)) past
 
+-- what the pass has seen is how this run began, and so is what the passes had seen that it took in since
+pub record HasSeen {E : Type 0} (run : List Moment) (v : Seen E) : Type 0 where
+  pub own : Tail v.past run
+  pub joined : (i : ℕ) (p : Past) → slice_get v.joined i ≡ Some p → Tail p.moments run
+
 -- the table has come to be by moves from a new one, and what each pass has seen is how its run began
 abbrev pub Lived : {E : Type 0} → (E → List ℕ) → Moment → (List ℕ → List (View E) → Type 0) → (ℕ → List ℕ → List (View E) → List ℕ → List (View E) → Type 0) → List ℕ → List (Seen E) → Type 0
 Lived {E} marks new holds moves ws vs = let now : Instant E = instant ws (map view_of vs) in
-    (h : List (Instant E)) × holds ws (map view_of vs) × Paced (Moves holds moves) (now ∷ h) × Tail (new ∷ []) (map (moment marks) (now ∷ h)) × Each (λ (v : Seen E). Tail v.past (map (moment marks) (now ∷ h))) vs
+    (h : List (Instant E)) × holds ws (map view_of vs) × Paced (Moves holds moves) (now ∷ h) × Tail (new ∷ []) (map (moment marks) (now ∷ h)) × Each (HasSeen (map (moment marks) (now ∷ h))) vs
 
 -- at the pass's last step this word had this number
 abbrev pub FoundAt : ℕ → ℕ → List Moment → Type 0

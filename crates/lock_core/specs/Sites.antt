@@ -1,5 +1,5 @@
 -- The site's own facts, over its words and the hands of all views.
-use Rattle.std.specs.Prelude.{◌≡◌, ◌≢◌, ℕ, ◌+◌, ◌-◌, ◌*◌, ◌<◌, ◌≤◌, ◌⊎◌, true, List, length, take, map, slice_get, slice_index, Option, Some, None}
+use Rattle.std.specs.Prelude.{◌≡◌, ◌≢◌, ℕ, ◌+◌, ◌-◌, ◌*◌, ◌<◌, ◌≤◌, ◌⊎◌, true, List, length, take, map, slice_get, slice_index, slice_set, Option, Some, None}
 use Rattle.word_bits.specs.declared.TheConstants.{MAX_TASKS}
 use Rattle.word_bits.specs.declared.call.CallWords.{CallWords}
 use Rattle.word_bits.specs.Calls.{signal_of}
@@ -18,7 +18,7 @@ use Rattle.lock_core.specs.declared.view.Saw.{Saw}
 use Rattle.lock_core.specs.declared.view.Held.TheVariants.{No, Alone}
 use Rattle.lock_core.specs.declared.view.Stage.TheVariants.{Entered, Logged}
 use Rattle.lock_core.specs.declared.layout.TheConstants.{LOCK_WORDS, LINES_AT}
-use Rattle.lock_core.specs.Plans.{IsSmall, calls_in, call_words}
+use Rattle.lock_core.specs.Plans.{IsSmall, calls_in, call_words, start}
 use Rattle.lock_core.specs.Layout.{SiteWords, site_width}
 use Rattle.lock_core.specs.Records.{row, rec_words, sends, intrs, IsPlan, IsLoggedAt, seen_by, AreNext}
 use Rattle.lock_core.specs.Views.{held_of, alone_of, writes_of, owed_of, named_of, sent_of, consumed_of}
@@ -139,11 +139,15 @@ abbrev pub SawSince : Hand → ℕ → Type 0
 SawSince h word = (saw : Saw) × (h.saw ≡ Some saw) × (saw.word ≡ word) × (h.last < saw.step)
 
 -- what every step of a pass does to its hand: its misses and the number of its takes don't fall, what its last release left stays while it holds as before, and it comes to hold by one take more alone
-pub record HandGoes (h g : Hand) : Type 0 where
+pub record HoldGoes (h g : Hand) : Type 0 where
   pub misses : h.misses ≤ g.misses
   pub freed : g.held ≡ h.held → g.freed ≡ h.freed
   pub takes : h.takes ≤ g.takes
   pub comes : h.held ≡ No → g.held ≢ No → h.takes < g.takes
+
+-- the same, of a step that stores no record: the number of the step that last stored one stays
+abbrev pub HandGoes : Hand → Hand → Type 0
+HandGoes h g = HoldGoes h g × (g.last ≡ h.last)
 
 -- it counts no failed try, and what it keeps as seen of the lock's word is as before, or forgotten
 abbrev pub KeepsSaw : Hand → Hand → Type 0
@@ -159,9 +163,36 @@ pub record FailsTry (step word : ℕ) (h g : Hand) : Type 0 where
 abbrev pub SawGoes : (step word : ℕ) → Hand → Hand → Type 0
 SawGoes step word h g = KeepsSaw h g ⊎ FailsTry step word h g
 
--- what a step of a pass with the first hand, which then has the second, does to the site's words and to the hand
-pub record SiteStep (w w' : SiteWords) (h g : Hand) : Type 0 where
+-- the step of this number stores, in its place among all records, that of the next call of the pass's own task; one that says that the lock was taken has a word that the pass saw since it last recorded
+pub record StoresRecord (step : ℕ) (w w' : SiteWords) (h g : Hand) : Type 0 where
+  pub plan : Plan
+  pub planned : h.plan ≡ Some plan
+  pub task : ℕ
+  pub named : h.task ≡ Some task
+  pub next : h.done < length (row plan task)
+  pub rec : Rec
+  pub fits : IsRec rec
+  -- no record was stored there before
+  pub empty : slice_index w.recs (start plan task + h.done) ≡ 0
+  pub stored : w'.recs ≡ slice_set w.recs (start plan task + h.done) (rec_word rec)
+  pub busy : (word : ℕ) → rec.reply ≡ Busy word → SawSince h word
+  pub done : g.done ≡ h.done + 1
+  pub last : g.last ≡ step
+
+-- the step of this number stores no record and the pass last recorded when it did, or it stores the next one of the pass's task
+abbrev pub RecordsGo : (step : ℕ) → SiteWords → SiteWords → Hand → Hand → Type 0
+RecordsGo step w w' h g = ((w'.recs ≡ w.recs) × (g.last ≡ h.last)) ⊎ StoresRecord step w w' h g
+
+-- the guarded words and the log stay
+pub record SameObject (w w' : SiteWords) : Type 0 where
+  pub guarded : w'.guarded ≡ w.guarded
+  pub len : w'.len ≡ w.len
+  pub entries : w'.entries ≡ w.entries
+
+-- what the step of this number, of a pass with the first hand, which then has the second, does to the site's words and to the hand
+pub record SiteStep (step : ℕ) (w w' : SiteWords) (h g : Hand) : Type 0 where
   pub grows : Grows w w'
-  -- a record which comes and says that the lock was taken has a word that the pass saw
-  pub busy : (j : ℕ) (r : Rec) (word : ℕ) → slice_index w'.recs j ≢ slice_index w.recs j → IsRec r → slice_index w'.recs j ≡ rec_word r → r.reply ≡ Busy word → SawSince h word
-  pub hand : HandGoes h g
+  pub records : RecordsGo step w w' h g
+  -- who doesn't hold alone leaves the guarded words and the log
+  pub quiet : h.held ≢ Alone → SameObject w w'
+  pub hand : HoldGoes h g

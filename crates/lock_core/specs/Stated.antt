@@ -1,5 +1,5 @@
 -- What the rule of every site says of its words and views, whatever its lock is.
-use Rattle.std.specs.Prelude.{◌≡◌, ◌≢◌, ℕ, ◌+◌, ◌<◌, ◌≤◌, ◌⊎◌, true, false, List, [], ◌∷◌, length, take, map, slice_get, slice_index, replicate, Some}
+use Rattle.std.specs.Prelude.{◌≡◌, ◌≢◌, ℕ, ◌+◌, ◌<◌, ◌≤◌, ◌⊎◌, true, false, List, [], ◌∷◌, length, take, map, slice_get, slice_index, replicate, Some, None}
 use Rattle.word_bits.specs.declared.TheConstants.{MAX_TASKS}
 use mathlib.Core.Option.{some}
 use lib.ListN.{get_elem?}
@@ -42,6 +42,10 @@ module _ {Call : Type 0} (o : Obj Call) (unavailable : Unavailable) (size : ℕ)
     pub plans : Each (λ h. HasPlan k h.plan) hs
     -- a number is taken exactly where one view has it
     pub numbers : (t : ℕ) → t < MAX_TASKS → (slice_index w.lines (taken_at t) ≡ total (named_of t) hs) × (total (named_of t) hs ≤ 1)
+    -- who has a number has that of a task of the plan, and counts each of the task's records as done; who has none holds nothing and owes no signal
+    pub tasks : Each (λ h. (t : ℕ) → h.task ≡ Some t → t < length k) hs
+    pub done : Each (λ h. (t : ℕ) → h.task ≡ Some t → h.done ≡ length (row told t)) hs
+    pub nameless : Each (λ h. h.task ≡ None → (h.held ≡ No) × (h.sent ≡ None) × (h.consumed ≡ 0)) hs
     -- whenever no view writes, the guarded words are the state after the log; who writes holds alone, and no other view holds
     pub guarded : Each (λ h. h.writes ≡ false) hs → take size w.guarded ≡ o.stores (state_after o k log)
     pub writers : Each (λ h. h.writes ≡ true → h.held ≡ Alone) hs

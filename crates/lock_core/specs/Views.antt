@@ -315,3 +315,7 @@ module _ {E : Type 0} where
   -- that of its next call, which read, in two steps
   abbrev pub after_read : View E → Reply → View E
   after_read v reply = record v { hand = recorded v.hand (v.steps + 2) (next_entry v.hand) (record { k = length v.hand.log; reply = reply }) v.hand.log; steps = v.steps + 2 }
+
+  -- that of its next call, which read what the pass has seen of the log, in one step
+  abbrev pub after_seen : View E → Reply → View E
+  after_seen v reply = with_record v v.hand (next_entry v.hand) (record { k = length v.hand.seen; reply = reply }) v.hand.seen

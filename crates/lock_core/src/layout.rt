@@ -20,6 +20,7 @@ pub const SPIN_ROOM: usize = 64 + 32 * MAX_TASKS as usize;
 // length of the log, the log's entries, the records of all calls, the words of all calls.
 pub(crate) const LINES_AT: usize = 264;
 
-pub(crate) const LENGTH_AT: usize = LINES_AT + 8 * MAX_TASKS as usize;
+/// How far behind the locks' words the word stands that has the length of the log.
+pub const LENGTH_AT: usize = LINES_AT + 8 * MAX_TASKS as usize;
 
 pub(crate) const ENTRIES_AT: usize = LENGTH_AT + 8;

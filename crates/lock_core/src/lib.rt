@@ -16,7 +16,7 @@ pub mod view;
 
 pub use bare::{Bare, Nothing};
 pub use how::{How, Interrupted};
-pub use layout::{LOCK_WORDS, SPIN_ROOM, SPIN_WORDS};
+pub use layout::{LENGTH_AT, LOCK_WORDS, SPIN_ROOM, SPIN_WORDS};
 pub use op::Op;
 pub use pass::Pass;
 pub use plan::Plan;

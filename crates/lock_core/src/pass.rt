@@ -1,7 +1,7 @@
 //! Passes: what a task makes the steps of one table with.
-ghost use Rattle.std.specs.Prelude.{◌≡◌, None};
+ghost use Rattle.std.specs.Prelude.{◌≡◌, None, length};
 ghost use Rattle.lock_core.specs.declared.view.Held.TheVariants.{No};
-ghost use Rattle.lock_core.specs.Handles.{view_of, hand_in, past_of, task_in, held_in, done_in, front_in, NotesHold};
+ghost use Rattle.lock_core.specs.Handles.{view_of, hand_in, past_of, task_in, held_in, done_in, front_in, NotesFront, NotesHold};
 
 use crate::rule::SiteRule;
 use crate::view::{Held, Seen};
@@ -76,5 +76,13 @@ impl<R: SiteRule> Pass<R> {
         ensures { NotesHold held self.old self.new }
     {
         self.face.held = held;
+    }
+
+    /// Notes how many entries of the log the pass has seen, after a step of a lock that changed it.
+    pub fn set_front(&mut self, front: u32)
+        requires { length (hand_in self.old).seen ≡ front }
+        ensures { NotesFront front self.old self.new }
+    {
+        self.face.front = front;
     }
 }

@@ -40,7 +40,7 @@ pub struct Site<R: SiteRule> {
 }
 
 impl<R: SiteRule> Site<R> {
-    ghost use Rattle.lock_core.specs.Handles.{plan_of, view_of, past_of, task_in, front_in, SitsAt, KeepsPast};
+    ghost use Rattle.lock_core.specs.Handles.{plan_of, view_of, past_of, joined_by, task_in, front_in, SitsAt, KeepsPast};
 
     /// A new site: all lock words are 0, the state is empty, no call is logged or recorded. The
     /// pass has no task number.
@@ -84,7 +84,8 @@ impl<R: SiteRule> Site<R> {
     }
 
     /// Takes in another pass, which is spent: `into` then knows the records that `other` knew, and
-    /// has seen as many entries as either.
+    /// has seen as many entries as either. Its past is as before, until a step of its own (`recall`)
+    /// makes it go back to all that `other` did.
     pub fn gather(&self, into: &mut Pass<R>, other: Pass<R>)
         requires own { SitsAt self.now into.old }
         requires others_own { SitsAt self.now other }
@@ -96,6 +97,8 @@ impl<R: SiteRule> Site<R> {
         ensures kept { view_of into.new ≡ merged (view_of into.old) (view_of other) }
         ensures rises { front_in into.old ≤ front_in into.new }
         ensures others { front_in other ≤ front_in into.new }
+        ensures joined { joined_by into.new ≡
+            record { moments = past_of other } ∷ joined_by into.old }
     {
         let Pass { seat, face } = other;
         self.table.shared.join_seat::<Glue<R>>(&mut into.seat, seat);

@@ -158,8 +158,15 @@ pub struct Moment {
     pub marks: [Marks; 0],
 }
 
+/// Moments of a table, the last one first.
+pub struct Past {
+    pub moments: [Moment; 0],
+}
+
 /// A view, and the moments of the table up to the pass's last step, the last one first.
 pub struct Seen<E> {
     pub view: View<E>,
     pub past: [Moment; 0],
+    /// What the passes had seen that it took in since its last step.
+    pub joined: [Past; 0],
 }

@@ -54,7 +54,7 @@ where
 /// How a run ended, whether a machine is kept, and what was written.
 type Outcome = (Status, bool, Vec<u8>);
 
-/// Runs a script of CPUs that park. The source gives so many bytes a read and fails at these reads,
+/// Runs a script on CPUs that park. The source gives so many bytes a read and fails at these reads,
 /// and the sink has room for so many bytes.
 fn run<R: Threads + Wait + Sync, G: Gate + Sync>(
     rt: &R,

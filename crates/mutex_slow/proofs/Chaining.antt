@@ -1,10 +1,8 @@
 -- The lists of a run: each came of the one before it by one step.
-use Rattle.std.proofs.Common.{◌≡◌, ◌∙◌, ℕ, zero, suc, ◌+◌, ◌*◌, ◌<◌, ◌≤◌, ◌⊎◌, inl, inr, Bool, true, false, List, [], ◌∷◌, length, map, get_or, refl, sym, ap, subst, arith}
+use Rattle.std.proofs.Common.{◌≡◌, ◌∙◌, ℕ, ◌+◌, ◌⊎◌, inl, inr, List, [], ◌∷◌, length, map, get_or, sym, ap, subst, arith}
 use mathlib.Core.Option.{some, some-injective}
 use lib.ListN.{get_elem?}
-use native.Mathlib.Decide.{ℕ_discrete}
 use Rattle.atomic_table.proofs.Lists.{at_map}
-use Rattle.word_bits.specs.declared.TheConstants.{MAX_TASKS}
 use Rattle.word_bits.specs.Objects.{Obj}
 use Rattle.word_bits.specs.Histories.{Plan}
 use Rattle.lock_core.specs.declared.view.Moment.{Moment}
@@ -13,76 +11,16 @@ use Rattle.lock_core.specs.LockedLaws.{move-steps}
 use Rattle.lock_core.specs.Pasts.{ChangesOneWord, Instant, Moves, marks_of, Paced, Ran, instant, moment}
 use Rattle.lock_core.specs.Records.{bit}
 use Rattle.lock_core.specs.Spins.{holds_in}
-use Rattle.lock_core.specs.Totals.{total}
 use Rattle.lock_core.specs.Views.{spin_of}
-use Rattle.lock_core.proofs.HandLaws.{false-or-true}
 use Rattle.wait_list.specs.declared.view.Waiter.{Waiter}
 use Rattle.wait_list.specs.declared.view.Change.{Change}
 use Rattle.wait_list.specs.declared.view.Change.TheVariants.{Stay, Enter, Leave}
-use Rattle.wait_list.specs.Lists.{Allowed, AreTasks, ListKept, MadeBy as MadeUnderLock, Part, changed, changes_of, counted, first_code, list_part, ticket_from}
-use Rattle.wait_list.proofs.Tickets.{counted-here, first-place, ticket-else, ticket-here, ticket-none}
+use Rattle.wait_list.specs.Lists.{Allowed, MadeBy as MadeUnderLock, Part, changed, list_part}
+use Rattle.wait_list.proofs.Determining.{kept-same}
 use Rattle.mutex_slow.specs.declared.view.MutexHand.{MutexHand}
 use Rattle.mutex_slow.specs.Mutexes.{AnswersHandoff, HasHandoff, HasLock, IsFirstTask, IsOwnChange, Kept, LeavesToFirst, MutexKept, MutexMoves, PicksFirst, TookUp, V, entered, list_of, may_miss, owner_at, owner_in, standing}
 use Rattle.mutex_slow.specs.Stated.{line_marks, HasBecome, HasWaitLock, IsMutexStep, MadeBy, TakesUp}
 use Rattle.mutex_slow.proofs.Stating.{listed}
-
-bit-same : (a b : Bool) → bit a ≡ bit b → a ≡ b
-bit-same true true e = refl
-bit-same false false e = refl
-bit-same true false e = absurd (omega (arith, e))
-bit-same false true e = absurd (omega (arith, e))
-
--- the tickets of a list's words determine it
-same-tickets : (n : ℕ) (l m : List Waiter) → 0 < n → ((t : ℕ) → counted t l ≤ 1) → ((t : ℕ) → counted t m ≤ 1) → AreTasks l → length l ≡ length m → ((t : ℕ) → t < MAX_TASKS → ticket_from n l t ≡ ticket_from n m t) → l ≡ m
-same-tickets n [] [] more once once' tasks long same = refl
-same-tickets n [] (y ∷ ys) more once once' tasks long same = absurd (omega (arith, long))
-same-tickets n (x ∷ xs) [] more once once' tasks long same = absurd (omega (arith, long))
-same-tickets n (x ∷ xs) (y ∷ ys) more once once' tasks long same = let tail : xs ≡ ys = same-tickets (n + 1) xs ys (omega arith) (λ t. fewer x xs t (once t)) (λ t. fewer y ys t (once' t)) tasks.1 (omega (arith, long)) behind in λ i. head i ∷ tail i
-  where
-    here : ticket_from n (y ∷ ys) x.task ≡ 2 * n + bit x.writer
-    here = sym (same x.task tasks.0) ∙ ticket-here x xs n x.task refl
-
-    small : (b : Bool) → bit b ≤ 1
-    small true = omega arith
-    small false = omega arith
-
-    task : y.task ≡ x.task
-    task = let b = small x.writer in let h = here in let f : first_code (y ∷ ys) ≡ x.task + 1 = first-place n x.task (y ∷ ys) more (omega (arith, h, b)) in omega (arith, f)
-
-    writer : x.writer ≡ y.writer
-    writer = let a = here in let b = ticket-here y ys n x.task task in bit-same x.writer y.writer (omega (arith, a, b))
-
-    head : x ≡ y
-    head = λ i. record { task = sym task i; writer = writer i }
-
-    fewer : (w : Waiter) (ws : List Waiter) (t : ℕ) → counted t (w ∷ ws) ≤ 1 → counted t ws ≤ 1
-    fewer w ws t c = omega (arith, c)
-
-    gone : (w : Waiter) (ws : List Waiter) (t : ℕ) → w.task ≡ t → counted t (w ∷ ws) ≤ 1 → ticket_from (n + 1) ws t ≡ 0
-    gone w ws t is c = let e = counted-here w ws t is in ticket-none (n + 1) t ws (omega (arith, e, c))
-
-    behind : (t : ℕ) → t < MAX_TASKS → ticket_from (n + 1) xs t ≡ ticket_from (n + 1) ys t
-    behind t few = elim (ℕ_discrete x.task t) [
-      | yes is ↦ gone x xs t is (once t) ∙ sym (gone y ys t (task ∙ is) (once' t))
-      | no other ↦ sym (ticket-else x xs n t other) ∙ (same t few ∙ ticket-else y ys n t (λ e. other (sym task ∙ e)))
-    ]
-
-part-of : (ps : List Part) → 0 < total changes_of ps → (j : ℕ) × (p : Part) × (get_elem? ps j ≡ some p) × (0 < changes_of p)
-part-of [] more = absurd (omega (arith, more))
-part-of (p ∷ ps) more = elim (native.Mathlib.Decide.dec_le (changes_of p) 0) [
-  | yes none ↦ let s = part-of ps (omega (arith, more, none)) in (suc s.0, s.1, s.2, s.3)
-  | no weighs ↦ (zero, p, refl, omega (arith, weighs))
-]
-
--- the words and the passes determine the list
-pub kept-same : (words : List ℕ) (l m : List Waiter) (ps : List Part) → ListKept words l ps → ListKept words m ps → l ≡ m
-kept-same words l m ps a b = elim (native.Mathlib.Decide.dec_le (total changes_of ps) 0) [
-  | yes none ↦ let x = a.quiet (omega (arith, none)) in let y = b.quiet (omega (arith, none)) in
-      same-tickets 1 l m (omega arith) a.sound.once b.sound.once a.sound.small (sym x.number ∙ y.number) (λ t few. sym (x.tickets t few) ∙ y.tickets t few)
-  | no some_change ↦ let s = part-of ps (omega (arith, some_change)) in let weighs = s.3 in
-      let is : s.1.1.changes ≡ true = false-or-true s.1.1.changes (λ t. t) (λ f. absurd (let w : bit s.1.1.changes ≡ 0 = ap bit f in omega (arith, w, weighs))) in
-      sym ((a.each s.0 s.1 s.2).knows ((a.each s.0 s.1 s.2).changes is).0).0 ∙ ((b.each s.0 s.1 s.2).knows ((b.each s.0 s.1 s.2).changes is).0).0
-]
 
 has-lock : (id : ℕ) (ws : List ℕ) (vs : List V) (v : V) (p : Part) → get_elem? vs id ≡ some v → get_elem? (map (list_part list_of) vs) id ≡ some p → holds_in p.0 ≡ 1 → HasWaitLock id (moment standing (instant ws vs))
 has-lock id ws vs v p at there holds = let same : p ≡ list_part list_of v = some-injective p (list_part list_of v) (sym there ∙ at_map (list_part list_of) vs id v at) in

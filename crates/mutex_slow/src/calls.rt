@@ -64,7 +64,7 @@ impl<O: Object> MutexPass<O> {
 }
 
 impl<O: Object> Mutex<O> {
-    ghost use Rattle.mutex_slow.specs.Handles.{newest, plan_of, shown_of, hand_in, SitsAt, TakesAlone, KeepsFronts, KeepsMisses, EntersOnce, MissesAt, MissesIfShut};
+    ghost use Rattle.mutex_slow.specs.Handles.{newest, plan_of, shown_of, hand_in, SitsAt, SpunGoesOn, TakesAlone, KeepsFronts, KeepsMisses, EntersOnce, MissesAt, MissesIfShut};
 
     /// A new mutex: nobody holds, the state is empty, no call is logged or recorded. The pass has
     /// no task number.
@@ -142,6 +142,8 @@ impl<O: Object> Mutex<O> {
         ensures goes_on { PastGoesOn (shown_of into.old) (shown_of into.new) }
         ensures kept { Has (gathered (hand_in into.old) (hand_in other))
             (shown_of into.old) (shown_of into.new) }
+        ensures queue { SpunGoesOn into.old into.new }
+        ensures others_queue { SpunGoesOn other into.new }
     {
         let MutexPass { pass, queue, .. } = other;
         self.site.gather(&mut into.pass, pass);

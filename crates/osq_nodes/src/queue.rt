@@ -3,7 +3,7 @@ ghost use Rattle.std.specs.Prelude.{◌≡◌, ◌+◌, ◌<◌, ◌≤◌, ◌�
 ghost use Rattle.word_bits.specs.declared.TheConstants.{MAX_TASKS};
 ghost use Rattle.lock_core.specs.Handles.{plan_of};
 ghost use Rattle.lock_core.specs.Pasts.{BeganWith, EachMoment, Ran};
-ghost use Rattle.lock_core.specs.Views.{merged};
+ghost use Rattle.lock_core.specs.Views.{merged, ticked};
 ghost use Rattle.osq_nodes.specs.declared.node.Place.TheVariants.{Out, Waiting, Front};
 ghost use Rattle.osq_nodes.specs.Places.{node_marks, waits_at, takes_at};
 ghost use Rattle.osq_nodes.specs.Ruled.{IsOsqMove, newest, no_calls};
@@ -91,7 +91,8 @@ impl Osq {
         self.site.end(&mut pass.pass);
     }
 
-    /// Takes in another pass, which is spent. Neither has a node in the queue.
+    /// Takes in another pass, which is spent. Neither has a node in the queue. The pass then goes
+    /// back to all that the other one did.
     pub fn gather(&self, into: &mut OsqPass, other: OsqPass)
         requires own { SitsAt self.now into.old }
         requires others_own { SitsAt self.now other }
@@ -100,12 +101,15 @@ impl Osq {
         requires numberless { task_in other ≡ None }
         ensures own { SitsAt self.now into.new }
         ensures goes_on { KeepsPast into.old into.new }
-        ensures kept { view_of into.new ≡ merged (view_of into.old) (view_of other) }
+        ensures taken { KeepsPast other into.new }
+        ensures last { IsLatest into.new }
+        ensures kept { view_of into.new ≡ ticked (merged (view_of into.old) (view_of other)) }
         ensures same { task_in into.new ≡ task_in into.old }
         ensures node { KeepsNode into.old into.new }
-        ensures step { steps_in into.new ≡ steps_in into.old + 1 }
+        ensures steps { steps_in into.new ≡ steps_in into.old + 2 }
     {
         self.site.gather(&mut into.pass, other.pass);
+        self.site.recall(&mut into.pass);
     }
 
     /// Enters the queue, and answers the predecessor, or None where the queue was empty: then the

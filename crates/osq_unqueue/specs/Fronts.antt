@@ -7,7 +7,7 @@ use Rattle.lock_core.specs.declared.view.Moment.{Moment}
 use Rattle.osq_nodes.specs.declared.node.Place.TheVariants.{Out, Front}
 use Rattle.osq_nodes.specs.Stated.{places_at}
 
--- one task at most is the front of the queue, which alone tries to take the lock
+-- one task at most is the front of the queue
 abbrev pub HasOneFront : Moment → Type 0
 HasOneFront m = (t u : ℕ) → places_at m t ≡ Front → places_at m u ≡ Front → t ≡ u
 

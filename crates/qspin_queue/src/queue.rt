@@ -6,7 +6,7 @@ ghost use Rattle.lock_core.specs.Views.{SpinRests};
 ghost use Rattle.lock_core.specs.Spins.{tail_in};
 ghost use Rattle.lock_core.specs.Handles.{view_of, task_in, SitsAt, SaysSame, KeepsPast, IsLatest};
 ghost use Rattle.qspin_word.specs.Hands.{went};
-ghost use Rattle.qspin_word.specs.Handles.{spin_in, point_in, FindsRival, SpinWaits, SpinGoesOn};
+ghost use Rattle.qspin_word.specs.Handles.{spin_in, point_in, FindsRival, OwnsPendingAt, SpinWaits, SpinGoesOn};
 ghost use Rattle.qspin_word.specs.Ways.{SpinGained};
 ghost use Rattle.qspin_queue.specs.Hands.{queued, heard, learnt, prepared};
 ghost use Rattle.qspin_queue.specs.Handles.{code_in, found_in, successor_in, IsOwnNode, TakesInTurn, TakesQueued};
@@ -255,6 +255,7 @@ pub fn lock<H: SpinHost, W: Wait>(site: &Site<H>, rt: &W, pass: &mut Pass<H>) ->
     ensures fast { (result ≡ Way.Fast) ↔
         ((spin_in pass.new).took ≡ (view_of pass.old).steps + 1) }
     ensures pending { (result ≡ Way.Pending) ↔ ((spin_in pass.new).from ≡ Taking) }
+    ensures asked { (result ≡ Way.Pending) → OwnsPendingAt 2 H.FIRST pass.old pass.new }
     ensures in_turn { (result ≡ Way.Queued) → TakesInTurn 7 pass.old pass.new }
     ensures queued { (result ≡ Way.Queued) → FindsRival H.FIRST pass.old pass.new }
 {

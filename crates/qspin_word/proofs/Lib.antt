@@ -6,4 +6,5 @@ pub mod Turning
 pub mod SpinSteps
 pub mod Refusing
 pub mod Rivals
+pub mod Owning
 pub mod Going

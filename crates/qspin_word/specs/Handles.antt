@@ -9,7 +9,7 @@ use Rattle.lock_core.specs.Spins.{spun}
 use Rattle.lock_core.specs.Pasts.{FoundAtStep}
 use Rattle.lock_core.specs.Handles.{view_of, hand_in, past_of, SitsAt, SaysSame, KeepsPast, IsLatest}
 use Rattle.qspin_word.specs.Allows.{SpinAllows}
-use Rattle.qspin_word.specs.Ways.{RivalFound}
+use Rattle.qspin_word.specs.Ways.{PendedAtStep, RivalFound}
 
 module _ {R O E C : Type 0} where
   -- what the pass knows of the spin lock
@@ -31,6 +31,10 @@ module _ {R O E C : Type 0} where
   -- it saw a rival, in the word at this place
   abbrev pub FindsRival : ℕ → Pass R O E C → Pass R O E C → Type 0
   FindsRival at old new = RivalFound at (view_of old) (past_of old) (view_of new) (past_of new)
+
+  -- the step of this number, of those that it made since, made it the owner of the pending bit, in the word at this place
+  abbrev pub OwnsPendingAt : (step at : ℕ) → Pass R O E C → Pass R O E C → Type 0
+  OwnsPendingAt step at old new = PendedAtStep (hand_in old).task ((view_of old).steps + step) at (past_of old) (past_of new)
 
   -- whatever the spin words are, the pass may do the operation on the one at this place
   abbrev pub MaySpin : Pass R O E C → ℕ → Op → (ℕ → SpinHand) → (ℕ → Type 0) → Type 0

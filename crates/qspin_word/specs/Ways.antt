@@ -1,12 +1,28 @@
 -- What a try, and a way to the lock, leave of a view.
-use Rattle.std.specs.Prelude.{◌≡◌, ◌≢◌, ℕ, ◌+◌, ◌<◌, ◌≤◌, ◌⊎◌, List, Some}
+use Rattle.std.specs.Prelude.{◌≡◌, ◌≢◌, ℕ, ◌+◌, ◌<◌, ◌≤◌, ◌⊎◌, List, Option, Some}
+use mathlib.Core.Option.{some}
+use lib.ListN.{get_elem?}
 use Rattle.lock_core.specs.declared.view.View.{View}
 use Rattle.lock_core.specs.declared.view.Saw.{Saw}
-use Rattle.lock_core.specs.declared.view.Point.TheVariants.{Holding}
+use Rattle.lock_core.specs.declared.view.SpinHand.{SpinHand}
+use Rattle.lock_core.specs.declared.view.Point.TheVariants.{Pending, Holding}
 use Rattle.lock_core.specs.declared.view.Moment.{Moment}
 use Rattle.lock_core.specs.Views.{SpinRests, SpinHolds}
-use Rattle.lock_core.specs.Pasts.{FoundAtStep}
+use Rattle.lock_core.specs.Pasts.{GoesOn, FoundAt, IsStepBy, FoundAtStep}
 use Rattle.qspin_word.specs.Hands.{took_at, saw_word}
+
+-- this step of the pass which has the task's number, made since its past was the old one, found neither tail nor pending bit in the word at this place, and left the pass as the owner of the bit, which waits for the locked byte to be 0
+pub record PendedAtStep (task : Option ℕ) (step at : ℕ) (old new : List Moment) : Type 0 where
+  pub past : List Moment
+  pub by : IsStepBy task step past
+  pub spin : SpinHand
+  pub is : get_elem? by.now.spins by.seat ≡ some spin
+  pub owns : spin.frame.point ≡ Pending
+  pub word : ℕ
+  pub found : FoundAt at word past
+  pub unset : word < 256
+  pub after : GoesOn old past
+  pub goes_on : GoesOn past new
 
 module _ {E : Type 0} where
   -- a load that found the lock free, and the exchange that took it

@@ -6,7 +6,7 @@ ghost use Rattle.lock_core.specs.Spins.{spun};
 ghost use Rattle.lock_core.specs.Pasts.{FoundAt};
 ghost use Rattle.lock_core.specs.Handles.{view_of, past_of, task_in, SitsAt, SaysSame, KeepsPast, IsLatest};
 ghost use Rattle.qspin_word.specs.Hands.{freed};
-ghost use Rattle.qspin_word.specs.Handles.{spin_in, FindsRival, FirstFoundFree, TriesOnlyFree};
+ghost use Rattle.qspin_word.specs.Handles.{spin_in, FindsRival, FirstFoundFree, OwnsPendingAt, TriesOnlyFree};
 ghost use Rattle.qspin_word.specs.Ways.{SpinTaken, SpinMissed, SpinGained, SpinRefused};
 
 use crate::PENDING;
@@ -74,6 +74,7 @@ pub fn take_by_pending<H: SpinHost, W: Wait>(site: &Site<H>, rt: &W, pass: &mut 
     ensures last { IsLatest pass.new }
     ensures gained { result ≡ true → SpinGained (view_of pass.old) (view_of pass.new) }
     ensures from { result ≡ true → (spin_in pass.new).from ≡ Taking }
+    ensures asked { result ≡ true → OwnsPendingAt 1 H.FIRST pass.old pass.new }
     ensures later { result ≡ true → (view_of pass.old).steps + 1 < (spin_in pass.new).took }
     ensures refused { result ≡ false → SpinRefused (view_of pass.old) (view_of pass.new) }
     ensures found { result ≡ false → FindsRival H.FIRST pass.old pass.new }

@@ -62,7 +62,7 @@ impl<O: Object> RwPass<O> {
 }
 
 impl<O: Object> RwSem<O> {
-    ghost use Rattle.rwsem_slow.specs.Handles.{newest, plan_of, shown_of, hand_in, SitsAt};
+    ghost use Rattle.rwsem_slow.specs.Handles.{newest, plan_of, shown_of, hand_in, SitsAt, SpunGoesOn};
 
     /// A new semaphore: nobody holds, the state is empty, no call is logged or recorded. The pass
     /// has no task number.
@@ -140,6 +140,8 @@ impl<O: Object> RwSem<O> {
         ensures goes_on { PastGoesOn (shown_of into.old) (shown_of into.new) }
         ensures kept { Has (gathered (hand_in into.old) (hand_in other))
             (shown_of into.old) (shown_of into.new) }
+        ensures queue { SpunGoesOn into.old into.new }
+        ensures others_queue { SpunGoesOn other into.new }
     {
         let RwPass { pass, queue, .. } = other;
         self.site.gather(&mut into.pass, pass);

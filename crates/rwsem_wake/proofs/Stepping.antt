@@ -159,7 +159,7 @@ module _ {E Call : Type 0} (o : Obj Call) (unavailable : Unavailable) (size : �
         let t = step n q marks grants sees loc (only has) in let m : ℕ = found n marks grants in let b = busy-most (does m).stage in let one : holds_in me.0.spin ≡ 1 = ap holds_at has in (
           me.0.hand,
           does m,
-          record { numbered = numbered; task = refl; goes = record { misses = omega arith; freed = λ e. refl; takes = omega arith; comes = λ none holds. absurd (holds none) }; left = λ held other. absurd (other refl) },
+          record { numbered = numbered; task = refl; goes = (record { misses = omega arith; freed = λ e. refl; takes = omega arith; comes = λ none holds. absurd (holds none) }, refl); left = λ held other. absurd (other refl) },
           (refl, inl refl),
           omega (arith, b, one),
           t.0,
@@ -185,7 +185,7 @@ module _ {E Call : Type 0} (o : Obj Call) (unavailable : Unavailable) (size : �
         (λ yes_it. let now : After held = subst (λ (z : Bool). After (if z then held else No)) yes_it facts in let known : List ℕ = take size w.guarded in let none_alone : total alone_of hs ≡ 0 = (let z = (s.3 yes_it).0 in omega (arith, alones, z)) in (
           took v.hand held known r.log,
           does m,
-          record { numbered = numbered; task = refl; goes = record { misses = omega arith; freed = λ e. refl; takes = omega arith; comes = λ _ _. omega arith }; left = λ held. absurd (held out) },
+          record { numbered = numbered; task = refl; goes = (record { misses = omega arith; freed = λ e. refl; takes = omega arith; comes = λ _ _. omega arith }, refl); left = λ held. absurd (held out) },
           (refl, inl refl),
           s.0,
           now.0,
@@ -200,7 +200,7 @@ module _ {E Call : Type 0} (o : Obj Call) (unavailable : Unavailable) (size : �
         (λ no_it. let now : After v.hand.held = subst After (sym out) (subst (λ (z : Bool). After (if z then held else No)) no_it facts) in (
           v.hand,
           does m,
-          record { numbered = numbered; task = refl; goes = record { misses = omega arith; freed = λ e. refl; takes = omega arith; comes = λ none holds. absurd (holds none) }; left = λ held other. absurd (other refl) },
+          record { numbered = numbered; task = refl; goes = (record { misses = omega arith; freed = λ e. refl; takes = omega arith; comes = λ none holds. absurd (holds none) }, refl); left = λ held other. absurd (other refl) },
           (refl, inl refl),
           s.0,
           now.0,

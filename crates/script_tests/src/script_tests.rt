@@ -157,23 +157,24 @@ fn streams_pass_bytes_on(rt: HostRuntime) -> Result<(), Fail> {
     Ok(())
 }
 
-/// A stream whose first call is interrupted. Each later one gives or takes a byte.
+/// A stream whose first call fails with an error of a kind. Each later one gives or takes a byte.
 #[derive(Drop)]
-struct InterruptedOnce {
-    was: bool,
+struct FailsFirst {
+    kind: ErrorKind,
+    calls: u32,
 }
 
-impl InterruptedOnce {
+impl FailsFirst {
     fn call(&mut self) -> io::Result<()> {
-        if self.was {
+        self.calls = self.calls.saturating_add(1);
+        if self.calls > 1 {
             return Ok(());
         }
-        self.was = true;
-        Err(io::Error::from(ErrorKind::Interrupted))
+        Err(io::Error::from(self.kind))
     }
 }
 
-impl Read for InterruptedOnce {
+impl Read for FailsFirst {
     fn read(&mut self, buf: &mut [u8]) -> io::Result<usize> {
         self.call()?;
         let Some(first) = buf.first_mut() else {
@@ -184,7 +185,7 @@ impl Read for InterruptedOnce {
     }
 }
 
-impl Write for InterruptedOnce {
+impl Write for FailsFirst {
     fn write(&mut self, buf: &[u8]) -> io::Result<usize> {
         self.call()?;
         Ok(buf.len().min(1))
@@ -195,17 +196,38 @@ impl Write for InterruptedOnce {
     }
 }
 
-#[test]
-fn streams_answer_a_failure_and_go_on(rt: HostRuntime) {
-    let mut source = ReadSource::new(InterruptedOnce { was: false });
-    let mut buffer = [0; 2];
-    assert_eq!(rt; source.read(&mut buffer), Err(Failed));
-    assert_eq!(rt; source.read(&mut buffer), Ok(1));
-    assert_eq!(rt; buffer.as_slice(), b"r\0".as_slice());
+/// Reads through a source. Answers that and how often the stream was called until then.
+fn read_through(stream: &mut FailsFirst) -> (Result<usize, Failed>, u32) {
+    let answer = ReadSource::new(&mut *stream).read(&mut [0; 2]);
+    (answer, stream.calls)
+}
 
-    let mut sink = WriteSink::new(InterruptedOnce { was: false });
-    assert_eq!(rt; put(&mut sink, b"ab"), Err(Failed));
-    assert_eq!(rt; put(&mut sink, b"ab"), Ok(()));
+/// Puts two bytes through a sink, and answers the same.
+fn put_through(stream: &mut FailsFirst) -> (Result<(), Failed>, u32) {
+    let answer = put(&mut WriteSink::new(&mut *stream), b"ab");
+    (answer, stream.calls)
+}
+
+#[test]
+fn streams_answer_a_failure_of_each_kind_at_once_and_go_on(rt: HostRuntime) {
+    for kind in [
+        ErrorKind::Interrupted,
+        ErrorKind::WouldBlock,
+        ErrorKind::TimedOut,
+        ErrorKind::UnexpectedEof,
+        ErrorKind::BrokenPipe,
+        ErrorKind::WriteZero,
+        ErrorKind::OutOfMemory,
+        ErrorKind::Other,
+    ] {
+        let mut reader = FailsFirst { kind, calls: 0 };
+        assert_eq!(rt; read_through(&mut reader), (Err(Failed), 1), "{kind:?}");
+        assert_eq!(rt; read_through(&mut reader), (Ok(1), 2), "{kind:?}");
+
+        let mut writer = FailsFirst { kind, calls: 0 };
+        assert_eq!(rt; put_through(&mut writer), (Err(Failed), 1), "{kind:?}");
+        assert_eq!(rt; put_through(&mut writer), (Ok(()), 3), "{kind:?}");
+    }
 }
 
 #[test]

@@ -1,6 +1,7 @@
 //! Worked courses of a count, word by word, and sites with a count. A count has the flags writer 1,
 //! waiters 2 and handoff 4, and 256 for each reader.
-use lock_core::{Held, Nothing, Op, Plan, Shadow};
+use crate::course::first_wrong;
+use lock_core::{Held, Nothing, Op, Plan};
 use rwsem_count::{
     BIAS, CountSite, HANDOFF, READ_FAIL, WAITERS, WRITER, Write, read_free, write_step,
 };
@@ -73,8 +74,7 @@ fn asked(word: u64) -> Op {
 // Each line has the word that a step finds, the step, and the word that it leaves.
 #[test]
 fn a_whole_round_of_a_count(rt: HostRuntime) {
-    let mut shadow = Shadow::new();
-    for (found, op, left) in [
+    let course = [
         // Task 0 writes.
         (0, Op::Exchange(0, WRITER), 1),
         // Reader 1 adds its bias, and takes it back as it queues as the first. So does reader 2.
@@ -92,16 +92,13 @@ fn a_whole_round_of_a_count(rt: HostRuntime) {
         (258, Op::Sub(BIAS), 2),
         (2, tried(2, true), 1),
         (1, Op::Sub(WRITER), 0),
-    ] {
-        assert_eq!(rt; shadow.step(0, op), found, "{op:?}");
-        assert_eq!(rt; shadow.words[0], left, "{op:?}");
-    }
+    ];
+    assert_eq!(rt; first_wrong(&course), None);
 }
 
 #[test]
 fn a_reader_in_transit_outlasts_its_writer(rt: HostRuntime) {
-    let mut shadow = Shadow::new();
-    for (found, op, left) in [
+    let course = [
         (0, Op::Exchange(0, WRITER), 1),
         // The reader adds its bias, and the writer releases before it queues: it holds by it.
         (1, Op::Add(BIAS), 257),
@@ -109,16 +106,13 @@ fn a_reader_in_transit_outlasts_its_writer(rt: HostRuntime) {
         (256, Op::Load, 256),
         (256, Op::Exchange(0, WRITER), 256),
         (256, Op::Sub(BIAS), 0),
-    ] {
-        assert_eq!(rt; shadow.step(0, op), found, "{op:?}");
-        assert_eq!(rt; shadow.words[0], left, "{op:?}");
-    }
+    ];
+    assert_eq!(rt; first_wrong(&course), None);
 }
 
 #[test]
 fn a_downgrade_lets_in_the_reader_that_waits_first(rt: HostRuntime) {
-    let mut shadow = Shadow::new();
-    for (found, op, left) in [
+    let course = [
         // Task 0 writes. Reader 1 queues as the first, and writer 2 behind it.
         (0, Op::Exchange(0, WRITER), 1),
         (1, Op::Add(BIAS), 257),
@@ -127,16 +121,13 @@ fn a_downgrade_lets_in_the_reader_that_waits_first(rt: HostRuntime) {
         // Task 0 downgrades. Its own hold keeps writers out, and its wake adds reader 1's bias.
         (3, Op::Add(BIAS - WRITER), 258),
         (258, Op::Add(BIAS), 514),
-    ] {
-        assert_eq!(rt; shadow.step(0, op), found, "{op:?}");
-        assert_eq!(rt; shadow.words[0], left, "{op:?}");
-    }
+    ];
+    assert_eq!(rt; first_wrong(&course), None);
 }
 
 #[test]
 fn a_writer_is_asked_to_hand_over(rt: HostRuntime) {
-    let mut shadow = Shadow::new();
-    for (found, op, left) in [
+    let course = [
         // Task 0 writes. Writer 1 queues, and asks when it is overdue.
         (0, Op::Exchange(0, WRITER), 1),
         (1, Op::Or(WAITERS), 3),
@@ -147,17 +138,16 @@ fn a_writer_is_asked_to_hand_over(rt: HostRuntime) {
         // Task 0 releases, and writer 1 takes, with reader 2 behind it.
         (7, Op::Sub(WRITER), 6),
         (6, tried(6, false), 3),
-    ] {
-        assert_eq!(rt; shadow.step(0, op), found, "{op:?}");
-        assert_eq!(rt; shadow.words[0], left, "{op:?}");
+    ];
+    assert_eq!(rt; first_wrong(&course), None);
+    for (_, _, left) in course {
         assert!(rt; !read_free(left), "{left}");
     }
 }
 
 #[test]
 fn a_marked_writer_is_interrupted(rt: HostRuntime) {
-    let mut shadow = Shadow::new();
-    for (found, op, left) in [
+    let course = [
         // A reader holds. Writer 1 queues, is overdue, and asks. Reader 2 queues behind it.
         (0, Op::Add(BIAS), 256),
         (256, Op::Or(WAITERS), 258),
@@ -167,10 +157,8 @@ fn a_marked_writer_is_interrupted(rt: HostRuntime) {
         // Writer 1 leaves. Its wake reserves a bias, which reader 2 then has. Nobody waits.
         (262, Op::Add(BIAS), 518),
         (518, Op::Sub(WAITERS + HANDOFF), 512),
-    ] {
-        assert_eq!(rt; shadow.step(0, op), found, "{op:?}");
-        assert_eq!(rt; shadow.words[0], left, "{op:?}");
-    }
+    ];
+    assert_eq!(rt; first_wrong(&course), None);
 }
 
 #[test]

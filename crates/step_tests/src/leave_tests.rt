@@ -4,8 +4,9 @@ ghost use Rattle.std.specs.Prelude.{◌≡◌, ◌<◌, ◌+◌, None};
 ghost use Rattle.osq_nodes.specs.declared.node.Place.TheVariants.{Out};
 ghost use Rattle.osq_nodes.specs.Handles.{place_in, task_in, tasks_of, SitsAt};
 
+use crate::course::first_unfound;
 use cpu_task::{Cpu, Crew, ParkCrew, ScriptedCrew, Turns};
-use lock_core::{Op, Shadow};
+use lock_core::Op;
 use osq_nodes::{Osq, OsqPass};
 use osq_unqueue::lock;
 use std::sync::Wait;
@@ -19,8 +20,7 @@ use std::thread::{Threads, join};
 /// 8, 16, 24 and 32 on. Each line has a word, a step on it, and what the step finds there.
 #[test]
 fn neighbours_leave_at_once(rt: HostRuntime) {
-    let mut shadow = Shadow::new();
-    for (word, op, found) in [
+    let course = [
         // All four enter.
         (0, Op::Swap(1), 0),
         (0, Op::Swap(2), 1),
@@ -64,10 +64,8 @@ fn neighbours_leave_at_once(rt: HostRuntime) {
         (8, Op::Load, 2),
         (17, Op::Load, 1),
         (16, Op::Load, 0),
-    ] {
-        assert!(rt; word < 64);
-        assert_eq!(rt; shadow.step(word, op), found, "{op:?} at word {word}");
-    }
+    ];
+    assert_eq!(rt; first_unfound(&course), None);
 }
 
 #[test]

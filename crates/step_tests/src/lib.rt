@@ -6,6 +6,8 @@ mod batch_tests;
 #[cfg(test)]
 mod count_tests;
 #[cfg(test)]
+mod course;
+#[cfg(test)]
 mod cpu_tests;
 #[cfg(test)]
 mod leave_tests;

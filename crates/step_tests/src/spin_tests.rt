@@ -4,13 +4,13 @@ ghost use Rattle.std.specs.Prelude.{◌<◌, ◌≤◌, ◌+◌, length};
 ghost use Rattle.lock_core.specs.Handles.{plan_of};
 ghost use Rattle.qspin_queue.specs.Handles.{IsReady, IsHolder, IsIdle};
 
-use lock_core::{Bare, Op, Pass, Plan, Shadow, Site};
+use crate::course::first_wrong;
+use lock_core::{Bare, Op, Pass, Plan, Site};
 use qspin_queue::{Way, lock, recall_spin_lock};
 use qspin_word::{trylock, unlock};
 use std::sync::Wait;
 use std::test::Fail;
 use std::thread::{Threads, join};
-use word_bits::{Spin, Tail};
 
 /// Many rounds for each of four threads.
 const ROUNDS: u32 = 10_000;
@@ -20,36 +20,23 @@ const TRIES: u32 = 100_000_000;
 
 #[test]
 fn the_pending_bit_is_undone_beside_a_tail(rt: HostRuntime) {
-    let mut shadow = Shadow::new();
-    for (op, before, after) in [
+    let course = [
         // CPU 0 takes the lock. CPU 3 looks, and goes slowly from here.
-        (Op::Exchange(0, 1), 0, 1),
-        (Op::Exchange(0, 1), 1, 1),
+        (0, Op::Exchange(0, 1), 1),
+        (1, Op::Exchange(0, 1), 1),
         // CPU 1 owns the pending bit, and CPU 2 queues.
-        (Op::Or(256), 1, 257),
-        (Op::Exchange(0, 1), 257, 257),
-        (Op::Exchange(257, 6401), 257, 6401),
+        (1, Op::Or(256), 257),
+        (257, Op::Exchange(0, 1), 257),
+        (257, Op::Exchange(257, 6401), 6401),
         // CPU 0 releases, and CPU 1 takes.
-        (Op::Sub(1), 6401, 6400),
-        (Op::Add(1u64.wrapping_sub(256)), 6400, 6145),
+        (6401, Op::Sub(1), 6400),
+        (6400, Op::Add(1u64.wrapping_sub(256)), 6145),
         // CPU 3 sets the pending bit beside a tail, clears it and queues.
-        (Op::Or(256), 6145, 6401),
-        (Op::And(!256), 6401, 6145),
-        (Op::Exchange(6145, 8193), 6145, 8193),
-    ] {
-        assert_eq!(rt; shadow.step(0, op), before);
-        assert_eq!(rt; shadow.words[0], after);
-    }
-    let queued = |cpu, pending| {
-        Some(Spin {
-            locked: true,
-            pending,
-            tail: Some(Tail { cpu, index: 0 }),
-        })
-    };
-    assert_eq!(rt; Spin::unpack(6401), queued(2, true));
-    assert_eq!(rt; Spin::unpack(6145), queued(2, false));
-    assert_eq!(rt; Spin::unpack(8193), queued(3, false));
+        (6145, Op::Or(256), 6401),
+        (6401, Op::And(!256), 6145),
+        (6145, Op::Exchange(6145, 8193), 8193),
+    ];
+    assert_eq!(rt; first_wrong(&course), None);
 }
 
 #[test]

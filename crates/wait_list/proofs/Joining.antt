@@ -1,5 +1,5 @@
 -- Who is first in a list to which a holder of the wait lock has appended itself.
-use Rattle.std.proofs.Common.{◌≡◌, ◌≢◌, ◌∙◌, ◌+◌, ◌==◌, List, [], ◌∷◌, ◌++◌, length, Some, sym, refl, ap, arith, eq-eqb}
+use Rattle.std.proofs.Common.{◌≡◌, ◌≢◌, ◌∙◌, ◌==◌, List, [], ◌∷◌, ◌++◌, length, Some, sym, refl, ap, arith, eq-eqb}
 use Rattle.lock_core.specs.declared.view.View.{View}
 use Rattle.lock_core.specs.Records.{bit}
 use Rattle.lock_core.specs.SpinFrames.{holds_at}

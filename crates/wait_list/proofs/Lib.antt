@@ -5,3 +5,4 @@ pub mod Removing
 pub mod Parting
 pub mod Finding
 pub mod Joining
+pub mod Determining

@@ -3,8 +3,8 @@ ghost use Rattle.std.specs.Prelude.{◌≡◌};
 ghost use Rattle.lock_core.specs.Layout.{site};
 ghost use Rattle.lock_core.specs.Views.{ticked};
 ghost use Rattle.lock_core.specs.Stated.{IsSiteThen, IsSiteMove};
-ghost use Rattle.lock_core.specs.Pasts.{BeganWith, EachMoment, IsMarked, Ran, RanByRule, opening};
-ghost use Rattle.lock_core.specs.Handles.{plan_of, view_of, past_of, SitsAt, KeepsPast, IsLatest};
+ghost use Rattle.lock_core.specs.Pasts.{BeganWith, EachMoment, IsMarked, KeepsJoined, Ran, RanByRule, opening};
+ghost use Rattle.lock_core.specs.Handles.{plan_of, view_of, past_of, joined_by, SitsAt, KeepsPast, IsLatest};
 
 use super::Site;
 use super::plays::Recall;
@@ -13,7 +13,8 @@ use crate::rule::SiteRule;
 
 impl<R: SiteRule> Site<R> {
     /// A load, after which the pass knows the whole run of the table, from the new table to this
-    /// step: at each moment the rule held, and each step was one of its moves.
+    /// step: at each moment the rule held, and each step was one of its moves. The run goes back to
+    /// all that the passes did that it had taken in.
     pub fn recall(&self, pass: &mut Pass<R>)
         requires own { SitsAt self.now pass.old }
         ensures own { SitsAt self.now pass.new }
@@ -23,6 +24,7 @@ impl<R: SiteRule> Site<R> {
         ensures marked { IsMarked R.marks (view_of pass.new) (past_of pass.new) }
         ensures run { RanByRule R.marks R.idle R.holds R.moves
             (plan_of self.now) (past_of pass.new) }
+        ensures joined { KeepsJoined (joined_by pass.old) (past_of pass.new) }
     {
         self.table.shared.load::<Recall<R>>(&mut pass.seat, 0);
     }

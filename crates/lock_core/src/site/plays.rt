@@ -1,11 +1,11 @@
 //! What each step tells its pass. A call picks the facts and hands that it needs by `Brand`.
-ghost use Rattle.std.specs.Prelude.{◌≡◌, ℕ, None, Some, [], slice_index};
+ghost use Rattle.std.specs.Prelude.{◌≡◌, ℕ, None, Some, [], ◌∷◌, slice_index};
 ghost use Rattle.lock_core.specs.Passes.{IsLength, IsEntryAt, IsCallWord, IsRecWord, IsTaken};
 ghost use Rattle.lock_core.specs.Chronicles.{Chronicles};
 ghost use Rattle.lock_core.specs.declared.view.Hand.{Hand};
 ghost use Rattle.lock_core.specs.Views.{stranger, ticked, split_off, merged, spent};
 ghost use Rattle.lock_core.specs.Plays.{Found, PutBy, Begun};
-ghost use Rattle.lock_core.specs.Pasts.{unseen, FoundAt, IsMarked, IsOwnStep, Moves, Ran, GoesOn, opening};
+ghost use Rattle.lock_core.specs.Pasts.{KeepsJoined, unseen, FoundAt, IsMarked, IsOwnStep, Moves, Ran, GoesOn, opening};
 ghost use Rattle.word_bits.specs.Histories.{Plan as Calls};
 
 use crate::rule::SiteRule;
@@ -134,7 +134,7 @@ pub(super) struct Recall<R> {
 }
 
 impl<R: SiteRule> Play<(), Seen<R::Ext>> for Recall<R> {
-    ghost then = { λ st m n m'. (m'.0.view ≡ ticked m.0.view) × (m'.1 ≡ m.1) × GoesOn m.0.past m'.0.past × IsOwnStep m'.0.view m'.0.past × IsMarked R.marks m'.0.view m'.0.past × ((k : Calls) → m.0.view.hand.plan ≡ Some k → Ran R.marks (opening R.marks k R.idle) (Moves (R.holds k) (R.moves k)) m'.0.past) };
+    ghost then = { λ st m n m'. (m'.0.view ≡ ticked m.0.view) × (m'.1 ≡ m.1) × GoesOn m.0.past m'.0.past × IsOwnStep m'.0.view m'.0.past × IsMarked R.marks m'.0.view m'.0.past × ((k : Calls) → m.0.view.hand.plan ≡ Some k → Ran R.marks (opening R.marks k R.idle) (Moves (R.holds k) (R.moves k)) m'.0.past) × KeepsJoined m.0.joined m'.0.past };
 }
 
 pub(super) struct Cut<R> {
@@ -144,7 +144,7 @@ pub(super) struct Cut<R> {
 impl<R: SiteRule> Split<Seen<R::Ext>> for Cut<R> {
     ghost left = { λ v. record v { view = ticked v.view } };
 
-    ghost right = { λ v. record { view = split_off R.idle v.view; past = v.past } };
+    ghost right = { λ v. record { view = split_off R.idle v.view; past = v.past; joined = [] } };
 }
 
 pub(super) struct Glue<R> {
@@ -152,7 +152,7 @@ pub(super) struct Glue<R> {
 }
 
 impl<R: SiteRule> Join<Seen<R::Ext>> for Glue<R> {
-    ghost both = { λ v w. record v { view = merged v.view w.view } };
+    ghost both = { λ v w. record v { view = merged v.view w.view; joined = record { moments = w.past } ∷ v.joined } };
 
-    ghost spent = { record { view = spent R.idle; past = [] } };
+    ghost spent = { record { view = spent R.idle; past = []; joined = [] } };
 }

@@ -9,10 +9,10 @@ ghost use Rattle.lock_core.specs.declared.layout.TheConstants.{LOCK_WORDS};
 ghost use Rattle.lock_core.specs.Layout.{entry_place, length_place};
 ghost use Rattle.lock_core.specs.Pasts.{FoundAt};
 ghost use Rattle.lock_core.specs.Plans.{calls_in};
-ghost use Rattle.lock_core.specs.Views.{ticked, handed, wrote, entered, logged, recorded, note_steps, settled, Unsent, after_commit, after_note, after_read, with_record};
+ghost use Rattle.lock_core.specs.Views.{ticked, handed, wrote, entered, logged, recorded, note_steps, settled, Unsent, after_commit, after_note, after_read, after_seen, with_record};
 ghost use Rattle.lock_core.specs.Chronicles.{Chronicles};
 ghost use Rattle.lock_core.specs.Passes.{IsLength, IsChange, IsEntryWord};
-ghost use Rattle.lock_core.specs.Handles.{plan_of, view_of, hand_in, past_of, task_in, held_in, done_in, front_in, SitsAt, IsOneOf, KeepsSeat, KeepsPast, SaysSame, IsLatest, IsNextChange, IsNextReading, MayNoteNext, MayStoreRecord};
+ghost use Rattle.lock_core.specs.Handles.{plan_of, view_of, hand_in, past_of, task_in, held_in, done_in, front_in, SitsAt, IsOneOf, KeepsSeat, KeepsPast, SaysSame, IsLatest, IsNextChange, IsNextReading, IsNextSeenReading, MayNoteNext, MayStoreRecord};
 
 use super::Site;
 use super::plays::{Chronicle, Guarded, Length, LogEntry, Puts};
@@ -137,6 +137,30 @@ impl<R: SiteRule> Site<R> {
         }
     }
 
+    /// Records the next call of the pass's task, which read without a hold: it stands where the pass
+    /// has seen the log end.
+    pub fn note_seen(&self, pass: &mut Pass<R>, call: u32, reply: Reply)
+        requires own { SitsAt self.now pass.old }
+        requires numbered { IsSome (task_in pass.old) }
+        requires call { call ≡ (done_in pass.old) }
+        requires unsent { (hand_in pass.old).sent ≡ None }
+        requires next { IsNextSeenReading R.O.object self.now pass.old reply }
+        ensures own { SitsAt self.now pass.new }
+        ensures goes_on { KeepsPast pass.old pass.new }
+        ensures last { IsLatest pass.new }
+        ensures kept { view_of pass.new ≡ after_seen (view_of pass.old) reply }
+        ensures rises { (front_in pass.old) ≤ (front_in pass.new) }
+    {
+        if let Some(task) = pass.face.task {
+            let rec = Rec {
+                k: pass.face.front,
+                reply,
+            };
+            self.settle_unheld(pass, Entry { task, call }, rec);
+            pass.face.done += 1;
+        }
+    }
+
     fn note_read(&self, pass: &mut Pass<R>, call: u32, reply: Reply)
         requires own { SitsAt self.now pass.old }
         requires numbered { IsSome (task_in pass.old) }
@@ -235,6 +259,7 @@ impl<R: SiteRule> Site<R> {
     fn settle(&self, pass: &mut Pass<R>, entry: Entry, rec: Rec)
         requires own { IsOneOf self.now pass.old }
         requires plain { settled (hand_in pass.old) rec.reply ≡ hand_in pass.old }
+        requires planned { (hand_in pass.old).plan ≡ Some (plan_of self.now) }
         requires may { MayStoreRecord R.O.object R.unavailable self.now pass.old
             entry rec (hand_in pass.old).log }
         ensures own { KeepsSeat pass.old pass.new }
@@ -248,6 +273,7 @@ impl<R: SiteRule> Site<R> {
     /// Stores the record of a call that never held.
     fn settle_unheld(&self, pass: &mut Pass<R>, entry: Entry, rec: Rec)
         requires own { IsOneOf self.now pass.old }
+        requires planned { (hand_in pass.old).plan ≡ Some (plan_of self.now) }
         requires may { MayStoreRecord R.O.object R.unavailable self.now pass.old
             entry rec (hand_in pass.old).seen }
         ensures own { KeepsSeat pass.old pass.new }
@@ -263,6 +289,7 @@ impl<R: SiteRule> Site<R> {
         requires own { IsOneOf self.now pass.old }
         requires hand { P.hand ≡ recorded (settled (hand_in pass.old) rec.reply)
             ((view_of pass.old).steps + 1) entry rec P.hand.seen }
+        requires planned { (hand_in pass.old).plan ≡ Some (plan_of self.now) }
         requires may { MayStoreRecord R.O.object R.unavailable self.now pass.old
             entry rec P.hand.seen }
         ensures own { KeepsSeat pass.old pass.new }

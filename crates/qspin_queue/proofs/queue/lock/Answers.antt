@@ -4,9 +4,17 @@ use Rattle.lock_core.specs.declared.view.Point.TheVariants.{Holding}
 use Rattle.qspin_word.specs.Hands.{saw_word, took_at}
 use Rattle.qspin_word.specs.Handles.{FindsRival}
 use Rattle.qspin_word.proofs.Rivals.{first-rival, rival-within}
+use Rattle.qspin_word.proofs.Owning.{owns-within}
 use Rattle.lock_core.specs.Handles.{KeepsPast}
 use Rattle.qspin_queue.proofs.queue.lock.Goals as goal
 use Rattle.qspin_queue.proofs.queue.lock.Goals.{else-seen-lt-PENDING-via-then-seen-lt-PENDING+else-take_by_pending, else-seen-lt-PENDING-via-else-seen-lt-PENDING}
+
+pub returns-then-take_by_pending-clause-goes_on : goal.returns-then-take_by_pending-clause-goes_on
+returns-then-take_by_pending-clause-goes_on g c = λ p t. c.take_by_pending.ensures.goes_on p (c.exchange_free-seen.ensures.steps.goes_on p t)
+
+pub returns-then-take_by_pending-clause-asked : goal.returns-then-take_by_pending-clause-asked
+returns-then-take_by_pending-clause-asked g c = λ _. let v = c.args.pass.now.seat.me.0 in let m = c.exchange_free-seen.new.pass.seat.me.0 in let u = c.take_by_pending.new.pass.seat.me.0 in let tried = c.exchange_free-seen.ensures.steps in let one = ap (λ (x : View _). x.steps) tried.kept in
+    owns-within g.H.SpinHost.FIRST v.view m.view 1 2 v.past m.past u.past (ap (λ (x : View _). x.hand.task) tried.kept) (omega (arith, one)) tried.goes_on (c.take_by_pending.ensures.asked c.if-take_by_pending.true)
 
 pub returns-clause-goes_on : goal.returns-clause-goes_on
 returns-clause-goes_on g c = let tried = c.exchange_free-seen.ensures.steps.goes_on in let queued = c.take_by_queue.ensures.goes_on.goes_on in

@@ -2,6 +2,7 @@ use Rattle.std.proofs.Common.{ap, ◌∙◌, arith}
 use Rattle.lock_core.specs.declared.view.View.{View}
 use Rattle.qspin_word.proofs.Refusing.{keeps-seen, saw-pending, saw-tail}
 use Rattle.qspin_word.proofs.Rivals.{first-rival}
+use Rattle.qspin_word.proofs.Owning.{first-owns}
 use Rattle.qspin_word.proofs.word.take_by_pending.Goals as goal
 
 pub returns-then-seen-eq0-clause-refused : goal.returns-then-seen-eq0-clause-refused
@@ -20,3 +21,8 @@ pub returns-else-seen-eq0-clause-found : goal.returns-else-seen-eq0-clause-found
 returns-else-seen-eq0-clause-found g c = λ _. let v = c.args.pass.now.seat.me.0 in let m = c.fetch_set_pending-seen.new.pass.seat.me.0 in let set = c.fetch_set_pending-seen.ensures.steps in
     first-rival g.H.SpinHost.FIRST v.view m.view m.view v.past m.past m.past c.fetch_set_pending-seen.result c.if-seen-lt-PENDING.false (ap (λ (x : View _). x.hand.task) set.kept) (ap (λ (x : View _). x.steps) set.kept) set.last c.fetch_set_pending-seen.ensures.found set.goes_on (λ p t. t)
     (keeps-seen v.view c.fetch_set_pending-seen.result c.if-seen-lt-PENDING.false m.view set.kept) (omega arith)
+
+pub returns-then-seen-lt-PENDING-clause-asked : goal.returns-then-seen-lt-PENDING-clause-asked
+returns-then-seen-lt-PENDING-clause-asked g c = λ _. let v = c.args.pass.now.seat.me.0 in let m = c.fetch_set_pending-seen.new.pass.seat.me.0 in let u = c.clear_pending_set_locked.new.pass.seat.me.0 in let set = c.fetch_set_pending-seen.ensures.steps in
+    first-owns g.H.SpinHost.FIRST v.view m.view v.past m.past u.past c.fetch_set_pending-seen.result c.if-seen-lt-PENDING.true set.kept set.last c.fetch_set_pending-seen.ensures.found set.goes_on
+    (λ p t. c.clear_pending_set_locked.ensures.steps.goes_on p (c.wait_unlocked.ensures.waits.goes_on p t))

@@ -1,0 +1,28 @@
+use Rattle.std.proofs.Common.{◌≡◌, ap, sym, subst, ◌∙◌, arith}
+use Rattle.word_bits.specs.declared.entry.Entry.{Entry}
+use Rattle.lock_core.specs.declared.view.Hand.{Hand}
+use Rattle.lock_core.specs.Records.{row}
+use Rattle.lock_core.specs.Views.{with_record}
+use Rattle.lock_core.specs.Passes.{IsSeenReading}
+use Rattle.lock_core.proofs.RowLaws.{some-inside, start-below}
+use Rattle.lock_core.proofs.Replies.{settled-object}
+use Rattle.lock_core.proofs.Recording.{next-is, seen-may, seen-object}
+use Rattle.lock_core.proofs.site.Site.note_seen.Goals as goal
+
+pub settle_unheld-requires-clause-may : goal.settle_unheld-requires-clause-may
+settle_unheld-requires-clause-may g c = let k = c.args.self.now.table.shared.key in let m = g.met.R.O.Object in let o = g.R.O.Object.object in let u = g.R.SiteRule.unavailable in let own = c.requires.own in let h = c.args.pass.now.seat.me.0.view.hand in
+    let named = sym own.task ∙ c.in-Some.is in let done = sym own.done ∙ sym c.requires.call in let e : Entry = record { task = c.in-Some.task; call = c.args.call } in
+    let front = own.front in let near = own.shorter in let limit = c.args.self.now.small.calls in let q = subst (λ (z : Entry). IsSeenReading o k h z c.args.reply) (next-is h c.in-Some.task c.args.call named done) c.requires.next in
+    (q.words, seen-may o u m.starts m.called m.goes_on m.replies k h e c.args.pass.now.face.front c.args.reply q c.requires.unsent named done own.stage own.front (omega (arith, front, near, limit)))
+
+pub overflow_add-pass : goal.overflow_add-pass
+overflow_add-pass g c = let k = c.args.self.now.table.shared.key in let own = c.requires.own in let h = c.args.pass.now.seat.me.0.view.hand in let o = g.R.O.Object.object in
+    let named = sym own.task ∙ c.in-Some.is in let done = sym own.done ∙ sym c.requires.call in let limit = c.args.self.now.small.calls in let q = subst (λ (z : Entry). IsSeenReading o k h z c.args.reply) (next-is h c.in-Some.task c.args.call named done) c.requires.next in
+    let b = start-below k c.in-Some.task c.args.call (some-inside (row k c.in-Some.task) c.args.call q.words q.planned) in let d = c.requires.call in
+    let face : c.settle_unheld.new.pass.face.done ≡ c.args.pass.now.face.done = ap (λ f. f.done) c.settle_unheld.ensures.face in omega (arith, b, d, limit, face)
+
+pub returns-in-Some-clause-kept : goal.returns-in-Some-clause-kept
+returns-in-Some-clause-kept g c = let own = c.requires.own in let v = c.args.pass.now.seat.me.0.view in let m = g.met.R.O.Object in let o = g.R.O.Object.object in let k = c.args.self.now.table.shared.key in
+    let named = sym own.task ∙ c.in-Some.is in let done = sym own.done ∙ sym c.requires.call in let next = next-is v.hand c.in-Some.task c.args.call named done in
+    let object = seen-object o g.R.SiteRule.unavailable m.starts m.called m.goes_on m.replies k v.hand (record { task = c.in-Some.task; call = c.args.call }) c.args.reply (subst (λ (z : Entry). IsSeenReading o k v.hand z c.args.reply) next c.requires.next) in
+    c.settle_unheld.ensures.kept ∙ (λ i. with_record v (settled-object v.hand c.args.reply object i) (sym next i) (record { k = own.front i; reply = c.args.reply }) v.hand.seen)

@@ -1,0 +1,47 @@
+-- A step made its pass the owner of the pending bit.
+use Rattle.std.proofs.Common.{◌≡◌, ℕ, ◌+◌, ◌==◌, ◌<◌, List, sym, ap, ◌∙◌, subst, if◌then◌else◌}
+use mathlib.Core.Option.{some}
+use Rattle.std.proofs.lemmas.Bool.{lt-ltb}
+use Rattle.lock_core.specs.declared.view.View.{View}
+use Rattle.lock_core.specs.declared.view.Point.TheVariants.{Undoing, Pending}
+use Rattle.lock_core.specs.declared.view.Moment.{Moment}
+use Rattle.lock_core.specs.Pasts.{FoundAt, GoesOn, IsOwnStep}
+use Rattle.lock_core.specs.Spins.{spun, pending_in}
+use Rattle.qspin_word.specs.Hands.{went, saw_word, pended}
+use Rattle.qspin_word.specs.Ways.{PendedAtStep}
+
+module _ {E : Type 0} (at : ℕ) where
+  -- the first step did, by a fetch-or that found neither tail nor bit
+  pub first-owns : (v m : View E) (old past new : List Moment) (n : ℕ) → n < 256 → m ≡ spun v (pended n v) → IsOwnStep m past → FoundAt at n past → GoesOn old past → GoesOn past new
+      → PendedAtStep v.hand.task (v.steps + 1) at old new
+  first-owns v m old past new n low is own found after goes = let counts = ap (λ (x : View E). x.steps) is in record {
+    past = past;
+    by = record {
+      now = own.now;
+      before = own.before;
+      rest = own.rest;
+      seat = own.seat;
+      past_is = own.past_is;
+      hand = m.hand;
+      is = own.hand;
+      named = ap (λ (x : View E). x.hand.task) is;
+      steps = own.steps ∙ ap (λ (s : ℕ). some s) counts;
+      had = own.had;
+      had_steps = own.had_steps;
+      counts = sym counts ∙ own.counts;
+    };
+    spin = m.spin;
+    is = own.spin;
+    owns = ap (λ (x : View E). x.spin.frame.point) is
+        ∙ ap (λ b. (if b then went v.spin Pending else if pending_in n == 0 then saw_word (went v.spin Undoing) n (v.steps + 1) else saw_word v.spin n (v.steps + 1)).frame.point) (lt-ltb n 256 low);
+    word = n;
+    found = found;
+    unset = low;
+    after = after;
+    goes_on = goes;
+  }
+
+  -- so did a later one, counted from a view that the pass had before
+  pub owns-within : (v w : View E) (s t : ℕ) (older old new : List Moment) → w.hand.task ≡ v.hand.task → w.steps + s ≡ v.steps + t → GoesOn older old → PendedAtStep w.hand.task (w.steps + s) at old new → PendedAtStep v.hand.task (v.steps + t) at older new
+  owns-within v w s t older old new named count before o = subst (λ (n : ℕ). PendedAtStep v.hand.task n at older new) count (subst (λ task. PendedAtStep task (w.steps + s) at older new) named
+      record { past = o.past; by = o.by; spin = o.spin; is = o.is; owns = o.owns; word = o.word; found = o.found; unset = o.unset; after = λ p h. o.after p (before p h); goes_on = o.goes_on })
