@@ -1,0 +1,109 @@
+-- What a clause reads of a per-CPU semaphore, and of a pass of it.
+use Rattle.std.specs.Prelude.{◌≡◌, ℕ, ◌+◌, ◌≤◌, Bool, List, length, Option, Some, None, is_some}
+use Rattle.word_bits.specs.declared.entry.Entry.{Entry}
+use Rattle.word_bits.specs.declared.reply.Reply.{Reply}
+use Rattle.word_bits.specs.LockWords.{Unavailable}
+use Rattle.word_bits.specs.Objects.{Obj}
+use Rattle.word_bits.specs.Histories.{Plan}
+use Rattle.lock_core.specs.declared.view.Hand.{Hand}
+use Rattle.lock_core.specs.declared.view.Held.{Held}
+use Rattle.lock_core.specs.declared.view.Held.TheVariants.{No, Shared, Alone}
+use Rattle.lock_core.specs.declared.view.Moment.{Moment}
+use Rattle.lock_core.specs.Handles as inner
+use Rattle.percpu_rwsem.specs.declared.pass.PercpuPass.{PercpuPass}
+use Rattle.percpu_rwsem.specs.declared.site.PercpuRwSem.{PercpuRwSem}
+use Rattle.percpu_rwsem.specs.declared.view.Phase.{Phase}
+use Rattle.percpu_rwsem.specs.declared.view.Phase.TheVariants.{Idle, Reads, Blocks}
+use Rattle.percpu_rwsem.specs.Plays.{TakesPhase, phased}
+use Rattle.percpu_rwsem.specs.Ruled.{V}
+use Rattle.percpu_rwsem.specs.Phases.{PartOk, phase_part}
+
+-- the phase of a pass that has seen so many counts zero, or doesn't block, and holds so
+abbrev pub phase_by : Option ℕ → Held → Phase
+phase_by (Some n) held = Blocks n
+phase_by None No = Idle
+phase_by None Shared = Reads
+phase_by None Alone = Idle
+
+-- what is so of a pass between two calls, of so many tasks
+pub record Phased (tasks : ℕ) (seen : Option ℕ) (v : V) : Type 0 where
+  pub phase : v.ext ≡ phase_by seen v.hand.held
+  pub part : PartOk tasks (phase_part v)
+
+module _ {O C : Type 0} where
+  -- the calls that the semaphore's tasks make
+  abbrev pub plan_of : PercpuRwSem O C → Plan
+  plan_of site = inner.plan_of site.site
+
+  -- what a pass knows
+  abbrev pub view_of : PercpuPass O C → V
+  view_of pass = inner.view_of pass.pass
+
+  -- the part of it that concerns the site's own words
+  abbrev pub hand_in : PercpuPass O C → Hand
+  hand_in pass = inner.hand_in pass.pass
+
+  -- the moments of the table up to the pass's last step, the last one first
+  abbrev pub past_of : PercpuPass O C → List Moment
+  past_of pass = inner.past_of pass.pass
+
+  abbrev pub task_in : PercpuPass O C → Option ℕ
+  task_in pass = inner.task_in pass.pass
+
+  abbrev pub held_in : PercpuPass O C → Held
+  held_in pass = inner.held_in pass.pass
+
+  abbrev pub done_in : PercpuPass O C → ℕ
+  done_in pass = inner.done_in pass.pass
+
+  abbrev pub front_in : PercpuPass O C → ℕ
+  front_in pass = inner.front_in pass.pass
+
+  -- how many counts it has seen zero, while it blocks
+  abbrev pub seen_in : PercpuPass O C → Option ℕ
+  seen_in pass = pass.seen
+
+  -- it blocks new readers
+  abbrev pub blocks_in : PercpuPass O C → Bool
+  blocks_in pass = is_some pass.seen
+
+  -- the pass is one of the semaphore's, and says of itself what its view does
+  pub record SitsAt (site : PercpuRwSem O C) (pass : PercpuPass O C) : Type 0 where
+    pub seat : inner.SitsAt site.site pass.pass
+    pub phased : Phased (length (plan_of site)) (seen_in pass) (view_of pass)
+
+  -- its past goes on
+  abbrev pub KeepsPast : PercpuPass O C → PercpuPass O C → Type 0
+  KeepsPast old new = inner.KeepsPast old.pass new.pass
+
+  -- the last moment of its past is that of its own last step
+  abbrev pub IsLatest : PercpuPass O C → Type 0
+  IsLatest pass = inner.IsLatest pass.pass
+
+  -- its task's next call changes the object, and this is its reply
+  abbrev pub IsNextChange : {Call : Type 0} → Obj Call → PercpuRwSem O C → PercpuPass O C → Reply → Type 0
+  IsNextChange o site pass reply = inner.IsNextChange o site.site pass.pass reply
+
+  -- the pass may note its task's next call with this reply
+  abbrev pub MayNoteNext : {Call : Type 0} → Obj Call → Unavailable → PercpuRwSem O C → PercpuPass O C → Reply → Type 0
+  MayNoteNext o unavailable site pass reply = inner.MayNoteNext o unavailable site.site pass.pass reply
+
+  -- what the pass becomes that takes the task's number
+  abbrev pub TakesNumber : {Call : Type 0} → Obj Call → Unavailable → PercpuRwSem O C → ℕ → PercpuPass O C → PercpuPass O C → Type 0
+  TakesNumber o unavailable site task old new = inner.TakesNumber o unavailable site.site task old.pass new.pass
+
+  -- a step of the pass since found this number at this place
+  abbrev pub Finds : ℕ → ℕ → PercpuPass O C → PercpuPass O C → Type 0
+  Finds at n old new = inner.Finds at n old.pass new.pass
+
+-- the view after so many steps, with this hand and phase
+abbrev pub after : ℕ → V → Hand → Phase → V
+after n v h e = record v { hand = h; steps = v.steps + n; ext = e }
+
+-- the view after some steps, in this phase
+abbrev pub StepsTo : Phase → V → V → Type 0
+StepsTo e v u = (s : ℕ) × (v.steps ≤ s) × (u ≡ record v { steps = s; ext = e })
+
+-- it holds in this way after some steps, and has learnt what the semaphore guards
+abbrev pub TakesSince : {Call : Type 0} → Obj Call → Plan → Held → Phase → V → V → Type 0
+TakesSince o k held e v u = (s : ℕ) × (v.steps ≤ s) × TakesPhase o k held e (record v { steps = s }) u

@@ -1,0 +1,7 @@
+pub mod Phases
+pub mod PhaseLaws
+pub mod Ruled
+pub mod RuledLaws
+pub mod Plays
+pub mod Handles
+pub mod Stated

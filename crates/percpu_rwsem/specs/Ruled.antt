@@ -1,0 +1,57 @@
+-- The rule of a table with a count for each task and a block word.
+use Rattle.std.specs.Prelude.{◌≡◌, ℕ, ◌+◌, ◌*◌, Bool, List, [], ◌∷◌, length, map, slice_index}
+use Rattle.word_bits.specs.LockWords.{Unavailable}
+use Rattle.word_bits.specs.Objects.{Obj}
+use Rattle.word_bits.specs.Histories.{Plan}
+use Rattle.lock_core.specs.declared.view.View.{View}
+use Rattle.lock_core.specs.declared.view.Hand.{Hand}
+use Rattle.lock_core.specs.declared.view.Moment.{Moment}
+use Rattle.lock_core.specs.declared.layout.TheConstants.{SPIN_ROOM}
+use Rattle.lock_core.specs.Layout.{site, width}
+use Rattle.lock_core.specs.Views.{hand_of}
+use Rattle.lock_core.specs.Sites.{SiteKept}
+use Rattle.lock_core.specs.Moves.{SiteMove}
+use Rattle.lock_core.specs.Pasts.{opening}
+use Rattle.percpu_rwsem.specs.declared.view.Phase.{Phase}
+use Rattle.percpu_rwsem.specs.declared.view.Phase.TheVariants.{Idle, Added, Back, Reads, Blocks}
+use Rattle.percpu_rwsem.specs.Phases.{PhasePart, PhasesKept, phase_part}
+
+-- the place of the block word, behind the room of the spin locks, and that of a task's count, which has a line of its own
+abbrev pub block_at : ℕ
+block_at = SPIN_ROOM
+
+abbrev pub count_at : ℕ → ℕ
+count_at t = SPIN_ROOM + 8 + 8 * t
+
+abbrev pub V : Type 0
+V = View Phase
+
+-- no call is told that it can't have the lock
+abbrev pub never : Unavailable
+never reads word = ⊥
+
+-- what a moment keeps of a pass
+abbrev pub kept_phase : Phase → List ℕ
+kept_phase Idle = []
+kept_phase Added = 1 ∷ []
+kept_phase Back = 2 ∷ []
+kept_phase Reads = 3 ∷ []
+kept_phase (Blocks n) = 4 ∷ n ∷ []
+
+-- the semaphore's facts of these words
+abbrev pub Phases : Plan → List ℕ → List PhasePart → Type 0
+Phases k ws ps = PhasesKept (length k) (slice_index ws block_at) (λ t. slice_index ws (count_at t)) ps
+
+module _ {Call : Type 0} (o : Obj Call) (size : ℕ) where
+  pub record PercpuKept (k : Plan) (ws : List ℕ) (vs : List V) : Type 0 where
+    pub wide : length ws ≡ width k
+    pub site_holds : SiteKept o never size k (site k ws) (map hand_of vs)
+    pub phases : Phases k ws (map phase_part vs)
+
+-- all that each step of a site does
+abbrev pub PercpuMoves : Plan → ℕ → List ℕ → List V → List ℕ → List V → Type 0
+PercpuMoves k id ws vs us vs' = SiteMove id (slice_index ws block_at) (site k ws) vs (site k us) vs'
+
+-- a new table
+abbrev pub newest : Plan → Moment
+newest k = opening kept_phase k Idle

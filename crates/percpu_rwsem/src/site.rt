@@ -1,0 +1,203 @@
+//! Per-CPU reader-writer semaphores, and the calls that every site has.
+ghost use Rattle.std.specs.Prelude.{◌≡◌, ◌≢◌, ◌<◌, ◌≤◌, ◌+◌, false, None, IsSome, IfOk, [], ◌∷◌, length, slice_index};
+ghost use Rattle.lock_core.specs.declared.view.Held.TheVariants.{No, Alone};
+ghost use Rattle.lock_core.specs.declared.layout.TheConstants.{LOCK_WORDS};
+ghost use Rattle.lock_core.specs.Records.{IsPlan};
+ghost use Rattle.lock_core.specs.Views.{first, ticked, handed, split_off, merged, gave_up, wrote, after_commit, after_note, Unsent, BesideForgetting, HoldsNothing, OwesNoSignal};
+ghost use Rattle.lock_core.specs.Pasts.{EachMoment, FoundAt, IsMarked, Paced, Tail};
+ghost use Rattle.lock_core.specs.Stated.{IsNew};
+ghost use Rattle.lock_core.specs.Locked.{IsSiteStep};
+ghost use Rattle.percpu_rwsem.specs.Stated.{IsPercpuSiteThen};
+ghost use Rattle.percpu_rwsem.specs.declared.view.Phase.TheVariants.{Idle};
+ghost use Rattle.percpu_rwsem.specs.Ruled.{block_at, kept_phase, never, newest};
+
+use crate::pass::PercpuPass;
+use crate::rule::PercpuRule;
+use lock_core::{Plan, Site};
+use std::alloc::{AllocError, Global};
+use std::sync::Wait;
+use word_bits::{Object, Reply};
+
+/// A semaphore whose readers count in words of their own tasks. Contracts see its plan (`plan_of`).
+#[derive(Drop)]
+pub struct PercpuRwSem<O: Object> {
+    pub(crate) site: Site<PercpuRule<O>>,
+}
+
+impl<O: Object> PercpuRwSem<O> {
+    ghost use Rattle.percpu_rwsem.specs.Handles.{plan_of, view_of, hand_in, past_of, task_in, held_in, done_in, front_in, seen_in, blocks_in, after, IsLatest, IsNextChange, MayNoteNext, KeepsPast, SitsAt, TakesNumber};
+
+    /// A new semaphore: nobody holds, the state is empty, no call is logged or recorded. The pass
+    /// has no task number.
+    pub fn open(alloc: Global, plan: Plan) -> Result<(PercpuRwSem<O>, PercpuPass<O>), AllocError>
+        requires { IsPlan O.object plan }
+        ensures own { IfOk result (λ t. SitsAt t.0 t.1) }
+        ensures apart { IfOk result (λ t. seen_in t.1 ≡ None) }
+        ensures plan { IfOk result (λ t. (plan_of t.0) ≡ plan) }
+        ensures new { IfOk result (λ _. IsNew O.object O.WORDS plan (newest plan)) }
+        ensures view { IfOk result (λ t. view_of t.1 ≡ first plan Idle) }
+        ensures past { IfOk result (λ t. past_of t.1 ≡ newest plan ∷ []) }
+    {
+        let (site, pass) = Site::open(alloc, plan)?;
+        let seen = None;
+        Ok((PercpuRwSem { site }, PercpuPass { pass, seen }))
+    }
+
+    /// A pass without a task number, which has seen as many entries.
+    pub fn split(&self, pass: &mut PercpuPass<O>) -> PercpuPass<O>
+        requires own { SitsAt self.now pass.old }
+        ensures own { SitsAt self.now pass.new }
+        ensures goes_on { KeepsPast pass.old pass.new }
+        ensures seen { seen_in pass.new ≡ seen_in pass.old }
+        ensures kept { view_of pass.new ≡ ticked (view_of pass.old) }
+        ensures its_own { SitsAt self.now result }
+        ensures apart { seen_in result ≡ None }
+        ensures given { view_of result ≡ split_off Idle (view_of pass.old) }
+        ensures past { past_of result ≡ past_of pass.old }
+    {
+        let pass = self.site.split(&mut pass.pass);
+        let seen = None;
+        PercpuPass { pass, seen }
+    }
+
+    /// Waits until nobody has the task's number, and takes it with the task's records. The pass has
+    /// seen as many entries as the task.
+    pub fn begin<W: Wait>(&self, rt: &W, pass: &mut PercpuPass<O>, task: u32)
+        requires own { SitsAt self.now pass.old }
+        requires numberless { task_in pass.old ≡ None }
+        requires there { task < length (plan_of self.now) }
+        ensures own { SitsAt self.now pass.new }
+        ensures goes_on { KeepsPast pass.old pass.new }
+        ensures seen { seen_in pass.new ≡ seen_in pass.old }
+        ensures last { IsLatest pass.new }
+        ensures became { TakesNumber O.object never self.now task pass.old pass.new }
+        ensures beside { BesideForgetting (view_of pass.old) (view_of pass.new) }
+        ensures rises { (front_in pass.old) ≤ (front_in pass.new) }
+    {
+        self.site.begin(rt, &mut pass.pass, task);
+    }
+
+    /// Gives the pass's number back.
+    pub fn end(&self, pass: &mut PercpuPass<O>)
+        requires own { SitsAt self.now pass.old }
+        requires numbered { IsSome (task_in pass.old) }
+        requires rests { HoldsNothing (view_of pass.old) }
+        requires apart { blocks_in pass.old ≡ false }
+        requires recorded { OwesNoSignal (hand_in pass.old) }
+        ensures own { SitsAt self.now pass.new }
+        ensures goes_on { KeepsPast pass.old pass.new }
+        ensures seen { seen_in pass.new ≡ seen_in pass.old }
+        ensures last { IsLatest pass.new }
+        ensures kept { view_of pass.new ≡ handed (view_of pass.old) (gave_up (hand_in pass.old)) }
+    {
+        self.site.end(&mut pass.pass);
+    }
+
+    /// Takes in another pass, which is spent: `into` then knows the records that `other` knew, and
+    /// has seen as many entries as either.
+    pub fn gather(&self, into: &mut PercpuPass<O>, other: PercpuPass<O>)
+        requires own { SitsAt self.now into.old }
+        requires others_own { SitsAt self.now other }
+        requires rests { HoldsNothing (view_of into.old) }
+        requires apart { blocks_in into.old ≡ false }
+        requires other_rests { HoldsNothing (view_of other) }
+        requires other_apart { blocks_in other ≡ false }
+        requires numberless { task_in other ≡ None }
+        ensures own { SitsAt self.now into.new }
+        ensures goes_on { KeepsPast into.old into.new }
+        ensures seen { seen_in into.new ≡ seen_in into.old }
+        ensures kept { view_of into.new ≡ merged (view_of into.old) (view_of other) }
+        ensures rises { front_in into.old ≤ front_in into.new }
+        ensures others { front_in other ≤ front_in into.new }
+    {
+        let PercpuPass { pass, seen: _ } = other;
+        self.site.gather(&mut into.pass, pass);
+    }
+
+    /// A guarded word.
+    pub fn word(&self, pass: &mut PercpuPass<O>, at: usize) -> u64
+        requires own { SitsAt self.now pass.old }
+        requires held { (held_in pass.old) ≢ No }
+        requires inside { at < O.WORDS }
+        ensures own { SitsAt self.now pass.new }
+        ensures goes_on { KeepsPast pass.old pass.new }
+        ensures seen { seen_in pass.new ≡ seen_in pass.old }
+        ensures last { IsLatest pass.new }
+        ensures kept { view_of pass.new ≡ ticked (view_of pass.old) }
+        ensures value { result ≡ slice_index (hand_in pass.old).known at }
+        ensures found { FoundAt (LOCK_WORDS + at) result (past_of pass.new) }
+    {
+        self.site.word(&mut pass.pass, at)
+    }
+
+    /// Writes a guarded word. Until its next commit the pass writes.
+    pub fn set_word(&self, pass: &mut PercpuPass<O>, at: usize, value: u64)
+        requires own { SitsAt self.now pass.old }
+        requires held { held_in pass.old ≡ Alone }
+        requires inside { at < O.WORDS }
+        ensures own { SitsAt self.now pass.new }
+        ensures goes_on { KeepsPast pass.old pass.new }
+        ensures seen { seen_in pass.new ≡ seen_in pass.old }
+        ensures last { IsLatest pass.new }
+        ensures kept { view_of pass.new ≡
+            handed (view_of pass.old) (wrote (hand_in pass.old) at value) }
+    {
+        self.site.set_word(&mut pass.pass, at, value);
+    }
+
+    /// Records the next call of the pass's task, which changes the object: the guarded words store
+    /// what it leaves of the state after the log. The call is appended to the log.
+    pub fn commit(&self, pass: &mut PercpuPass<O>, call: u32, reply: Reply)
+        requires own { SitsAt self.now pass.old }
+        requires held { held_in pass.old ≡ Alone }
+        requires numbered { IsSome (task_in pass.old) }
+        requires call { call ≡ (done_in pass.old) }
+        requires unsent { (hand_in pass.old).sent ≡ None }
+        requires next { IsNextChange O.object self.now pass.old reply }
+        ensures own { SitsAt self.now pass.new }
+        ensures goes_on { KeepsPast pass.old pass.new }
+        ensures seen { seen_in pass.new ≡ seen_in pass.old }
+        ensures last { IsLatest pass.new }
+        ensures kept { view_of pass.new ≡ after_commit (view_of pass.old) reply }
+        ensures rises { (front_in pass.old) ≤ (front_in pass.new) }
+    {
+        self.site.commit(&mut pass.pass, call, reply);
+    }
+
+    /// Records the next call of the pass's task, which reads: it stands where the log ends.
+    pub fn note(&self, pass: &mut PercpuPass<O>, call: u32, reply: Reply)
+        requires own { SitsAt self.now pass.old }
+        requires numbered { IsSome (task_in pass.old) }
+        requires call { call ≡ (done_in pass.old) }
+        requires held { held_in pass.old ≢ No }
+        requires unsent { Unsent (hand_in pass.old) reply }
+        requires next { MayNoteNext O.object never self.now pass.old reply }
+        ensures own { SitsAt self.now pass.new }
+        ensures goes_on { KeepsPast pass.old pass.new }
+        ensures seen { seen_in pass.new ≡ seen_in pass.old }
+        ensures last { IsLatest pass.new }
+        ensures kept { view_of pass.new ≡ after_note (view_of pass.old) reply }
+        ensures rises { (front_in pass.old) ≤ (front_in pass.new) }
+    {
+        self.site.note(&mut pass.pass, call, reply);
+    }
+
+    /// Looks back at the table's whole past, by a load that changes nothing. At each moment, from
+    /// the new table on, the facts of every site held, each count said whether its task was inside,
+    /// and the block word said who blocked. Each step between them was one of a site.
+    pub fn recall(&self, pass: &mut PercpuPass<O>)
+        requires own { SitsAt self.now pass.old }
+        ensures own { SitsAt self.now pass.new }
+        ensures goes_on { KeepsPast pass.old pass.new }
+        ensures seen { seen_in pass.new ≡ seen_in pass.old }
+        ensures kept { view_of pass.new ≡ ticked (view_of pass.old) }
+        ensures last { IsLatest pass.new }
+        ensures marked { IsMarked kept_phase (view_of pass.new) (past_of pass.new) }
+        ensures begins { Tail (newest (plan_of self.now) ∷ []) (past_of pass.new) }
+        ensures always { EachMoment (IsPercpuSiteThen O.object O.WORDS (plan_of self.now))
+            (past_of pass.new) }
+        ensures moves { Paced (IsSiteStep (plan_of self.now) block_at) (past_of pass.new) }
+    {
+        self.site.recall(&mut pass.pass);
+    }
+}

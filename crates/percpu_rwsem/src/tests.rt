@@ -1,0 +1,88 @@
+//! Rows of a per-CPU semaphore. The code of task t is t + 1.
+use super::*;
+use cpu_task::{Crew, ScriptedCrew, Turns};
+use lock_core::{Held, Nothing, Plan};
+use std::test::Fail;
+
+const NO_TURNS: Turns = Turns {
+    spin: 0,
+    overdue: 0,
+};
+
+#[test]
+fn a_writer_blocks_readers_and_waits_for_one_inside(rt: HostRuntime) -> Result<(), Fail> {
+    let plan = Plan::new(rt.alloc(), 3)?;
+    let (lock, mut zero) = PercpuRwSem::<Nothing>::open(rt.alloc(), plan)?;
+    let mut one = lock.split(&mut zero);
+    let mut two = lock.split(&mut zero);
+    lock.begin(&rt, &mut zero, 0);
+    lock.begin(&rt, &mut one, 1);
+    lock.begin(&rt, &mut two, 2);
+    let crew = ScriptedCrew::new(rt.alloc(), Vec::new(rt.alloc()), Vec::new(rt.alloc()))?;
+    assert_eq!(rt; lock.read_try(&mut zero), Ok(()));
+    assert_eq!(rt; lock.block(&mut one), Ok(()));
+    assert_eq!(rt; (one.blocks(), one.held()), (true, Held::No));
+    assert_eq!(rt; lock.drain(&mut one), Err(0));
+    assert_eq!(rt; lock.read_try(&mut two), Err(2));
+    assert_eq!(rt; lock.block(&mut two), Err(2));
+    assert_eq!(rt; (two.blocks(), two.held()), (false, Held::No));
+    lock.up_read(&mut zero, &crew);
+    assert_eq!(rt; zero.held(), Held::No);
+    assert_eq!(rt; lock.drain(&mut one), Ok(()));
+    assert_eq!(rt; (one.blocks(), one.held()), (true, Held::Alone));
+    lock.unblock(&mut one, &crew);
+    assert_eq!(rt; (one.blocks(), one.held()), (false, Held::No));
+    assert_eq!(rt; lock.read_try(&mut two), Ok(()));
+    assert_eq!(rt; two.held(), Held::Shared);
+    Ok(())
+}
+
+#[test]
+fn counts_below_stay_seen(rt: HostRuntime) -> Result<(), Fail> {
+    let plan = Plan::new(rt.alloc(), 3)?;
+    let (lock, mut zero) = PercpuRwSem::<Nothing>::open(rt.alloc(), plan)?;
+    let mut two = lock.split(&mut zero);
+    lock.begin(&rt, &mut zero, 0);
+    lock.begin(&rt, &mut two, 2);
+    let crew = ScriptedCrew::new(rt.alloc(), Vec::new(rt.alloc()), Vec::new(rt.alloc()))?;
+    assert_eq!(rt; lock.read_try(&mut two), Ok(()));
+    assert_eq!(rt; lock.block(&mut zero), Ok(()));
+    assert_eq!(rt; lock.drain(&mut zero), Err(2));
+    assert_eq!(rt; lock.drain(&mut zero), Err(2));
+    lock.unblock(&mut zero, &crew);
+    assert_eq!(rt; lock.read_try(&mut zero), Ok(()));
+    assert_eq!(rt; (zero.held(), two.held()), (Held::Shared, Held::Shared));
+    Ok(())
+}
+
+#[test]
+fn a_free_semaphore_is_got_at_once(rt: HostRuntime) -> Result<(), Fail> {
+    let plan = Plan::new(rt.alloc(), 2)?;
+    let (lock, mut pass) = PercpuRwSem::<Nothing>::open(rt.alloc(), plan)?;
+    let mut other = lock.split(&mut pass);
+    lock.begin(&rt, &mut pass, 1);
+    let mut crew = ScriptedCrew::new(rt.alloc(), Vec::new(rt.alloc()), Vec::new(rt.alloc()))?;
+    let mut cpu = crew.cpu(rt.alloc(), 1, NO_TURNS)?;
+    lock.down_read(&rt, &mut pass, &mut cpu, &crew);
+    assert_eq!(rt; pass.held(), Held::Shared);
+    lock.up_read(&mut pass, &crew);
+    lock.down_write(&rt, &mut pass, &mut cpu, &crew);
+    assert_eq!(rt;
+        (pass.task(), pass.held(), pass.done(), pass.front()),
+        (Some(1), Held::Alone, 0, 0)
+    );
+    lock.recall(&mut pass);
+    lock.unblock(&mut pass, &crew);
+    lock.end(&mut pass);
+    lock.gather(&mut other, pass);
+    assert_eq!(rt; other.task(), None);
+    Ok(())
+}
+
+#[test]
+fn a_plan_without_tasks_opens(rt: HostRuntime) -> Result<(), Fail> {
+    let plan = Plan::new(rt.alloc(), 0)?;
+    let (_lock, pass) = PercpuRwSem::<Nothing>::open(rt.alloc(), plan)?;
+    assert_eq!(rt; pass.held(), Held::No);
+    Ok(())
+}
