@@ -1,5 +1,5 @@
 -- Lists that are copied one by one.
-use Rattle.std.proofs.Common.{◌≡◌, ◌≢◌, ⊎_elim, ℕ, zero, suc, ◌+◌, ◌<◌, List, [], ◌∷◌, ◌++◌, length, take, map, slice_get, Some, refl, sym, ap, ◌∙◌, subst, arith, add-one, append_assoc, length-append}
+use Rattle.std.proofs.Common.{◌≡◌, ◌≢◌, ⊎_elim, ℕ, zero, suc, ◌+◌, ◌<◌, List, [], ◌∷◌, ◌++◌, length, take, map, slice_get, Some, false, refl, sym, ap, ◌∙◌, subst, arith, add-one, append_assoc, length-append}
 use mathlib.Core.Logic.{dite}
 use native.Mathlib.Decide.{ℕ_discrete}
 use Rattle.std.proofs.lemmas.Grind.{common_steps}
@@ -52,8 +52,8 @@ found-wider : (at n : ℕ) (before old new behind : List Moment) → GoesOn befo
 found-wider at n before old new behind begun ended f = record { past = f.past; found = f.found; after = λ p t. f.after p (begun p t); goes_on = λ p t. ended p (f.goes_on p t) }
 
 -- the last step of a pass whose hand is still the one with which it came to hold alone
-pub held-alone : (v m u : Shown) (known : List ℕ) → u.hand ≡ m.hand → m.hand.task ≡ v.hand.task → m.hand.held ≡ Alone → m.hand.takes ≡ v.hand.takes + 1 → m.hand.known ≡ known → IsLatestStep u → HeldAlone v.hand.task (v.hand.takes + 1) m.hand.log known u.past
-held-alone v m u known same task alone takes is last =
+pub held-alone : (v m u : Shown) (known : List ℕ) → u.hand ≡ m.hand → m.hand.task ≡ v.hand.task → m.hand.held ≡ Alone → m.hand.writes ≡ false → m.hand.takes ≡ v.hand.takes + 1 → m.hand.records ≡ v.hand.records → m.hand.known ≡ known → IsLatestStep u → HeldAlone v.hand.task (v.hand.takes + 1) v.hand.records m.hand.log known u.past
+held-alone v m u known same task alone quiet takes records is last =
     let e : last.step.hand ≡ m.hand = last.hand ∙ same in record {
       step = u.steps;
       by = record {
@@ -71,7 +71,9 @@ held-alone v m u known same task alone takes is last =
         counts = last.step.counts;
       };
       alone = ap {A = Hand} (λ h. h.held) e ∙ alone;
+      quiet = ap {A = Hand} (λ h. h.writes) e ∙ quiet;
       takes_is = ap {A = Hand} (λ h. h.takes) e ∙ takes;
+      records_are = ap {A = Hand} (λ h. h.records) e ∙ records;
       log_is = ap {A = Hand} (λ h. h.log) e;
       known_is = ap {A = Hand} (λ h. h.known) e ∙ is;
     }

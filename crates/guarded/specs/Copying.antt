@@ -1,5 +1,5 @@
 -- What `snapshot` copies.
-use Rattle.std.specs.Prelude.{◌≡◌, ◌≢◌, ℕ, ◌+◌, ◌<◌, List, [], ◌∷◌, ◌++◌, length, map, slice_get, Option, Some}
+use Rattle.std.specs.Prelude.{◌≡◌, ◌≢◌, ℕ, ◌+◌, ◌<◌, List, [], ◌∷◌, ◌++◌, length, map, slice_get, false, Option, Some}
 use Rattle.word_bits.specs.declared.entry.Entry.{Entry}
 use Rattle.word_bits.specs.declared.rec.Rec.{Rec}
 use Rattle.word_bits.specs.EntryWord.{entry_word}
@@ -12,6 +12,7 @@ use Rattle.word_bits.specs.Legal.{IsLegal, Tells}
 use Rattle.lock_core.specs.declared.view.Hand.{Hand}
 use Rattle.lock_core.specs.declared.view.Held.TheVariants.{Alone}
 use Rattle.lock_core.specs.declared.view.Moment.{Moment}
+use Rattle.lock_core.specs.declared.view.Told.{Told}
 use Rattle.lock_core.specs.Layout.{record_place}
 use Rattle.lock_core.specs.Records.{row}
 use Rattle.lock_core.specs.Views.{Knows}
@@ -32,12 +33,14 @@ pub record FoundBetween (at n : ℕ) (old new : List Moment) : Type 0 where
   pub after : GoesOn old past
   pub goes_on : GoesOn past new
 
--- the last of these moments is that of a step of the pass which has the task's number: it left the pass holding alone, by as many takes, with this log and these guarded words
-pub record HeldAlone (task : Option ℕ) (takes : ℕ) (log : List Entry) (known : List ℕ) (past : List Moment) : Type 0 where
+-- the last of these moments is that of a step of the pass which has the task's number: it left the pass holding alone without writing, by as many takes, with these records, this log and these guarded words
+pub record HeldAlone (task : Option ℕ) (takes : ℕ) (records : List Told) (log : List Entry) (known : List ℕ) (past : List Moment) : Type 0 where
   pub step : ℕ
   pub by : IsStepBy task step past
   pub alone : by.hand.held ≡ Alone
+  pub quiet : by.hand.writes ≡ false
   pub takes_is : by.hand.takes ≡ takes
+  pub records_are : by.hand.records ≡ records
   pub log_is : by.hand.log ≡ log
   pub known_is : by.hand.known ≡ known
 
@@ -65,7 +68,7 @@ AddsRecWords k v u w w' = (rows : List (List ℕ)) × AreRecWords k v.hand v.pas
 abbrev pub KnowsChronicle : {Call : Type 0} → Obj Call → Unavailable → Plan → Hand → Type 0
 KnowsChronicle o unavailable k h = Chronicles o unavailable k h.records h.log
 
--- The words are a log that begins with what the pass had seen, the state after it, and a word for each call: that of its record, if the pass knows it. They were copied under one hold: the pass held alone, by its one take since, with this log and this state, at two of its steps, and each record's word was found between them.
+-- The words are a log that begins with what the pass had seen, the state after it, and a word for each call: that of its record, if the pass knows it. They were copied under one hold: the pass held alone, by its one take since, with the records that it knew, this log and this state, at two of its steps, and each record's word was found between them.
 pub record Copies {Call : Type 0} (o : Obj Call) (unavailable : Unavailable) (k : Plan) (v u : Shown) (w : Words) : Type 0 where
   pub entries : List Entry
   pub rows : List (List ℕ)
@@ -79,8 +82,8 @@ pub record Copies {Call : Type 0} (o : Obj Call) (unavailable : Unavailable) (k 
   pub between : GoesOn first last
   pub goes_on : GoesOn last u.past
   pub once : u.hand.takes ≡ v.hand.takes + 1
-  pub begun : HeldAlone v.hand.task (v.hand.takes + 1) entries w.state first
-  pub ended : HeldAlone v.hand.task (v.hand.takes + 1) entries w.state last
+  pub begun : HeldAlone v.hand.task (v.hand.takes + 1) v.hand.records entries w.state first
+  pub ended : HeldAlone v.hand.task (v.hand.takes + 1) v.hand.records entries w.state last
   pub words : AreRecWords k v.hand first last (length k) rows
   pub chronicle : Chronicles o unavailable k v.hand.records entries
 

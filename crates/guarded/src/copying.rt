@@ -2,6 +2,7 @@
 ghost use Rattle.std.specs.Prelude.{◌≡◌, ◌≢◌, ◌+◌, ◌<◌, ◌≤◌, [], length, map, None, Some, IsSome};
 ghost use Rattle.word_bits.specs.EntryWord.{entry_word};
 ghost use Rattle.lock_core.specs.declared.view.Held.TheVariants.{No};
+ghost use Rattle.lock_core.specs.Pasts.{GoesOn};
 ghost use Rattle.lock_core.specs.Plans.{calls_in};
 ghost use Rattle.lock_core.specs.Records.{row};
 ghost use Rattle.lock_core.specs.Kinds.{unavailable};
@@ -42,6 +43,7 @@ impl<L: SleepLock<O>, O: Served + Drop> Guarded<L, O> {
         requires state_room { O.WORDS ≤ out.old.state_room }
         ensures own { L.sits (lock_of self.now) pass.new }
         ensures goes_on { PastGoesOn (L.view pass.old) (L.view pass.new) }
+        ensures queue { GoesOn (L.spun pass.old) (L.spun pass.new) }
         ensures kept { Keeps (L.view pass.old) (L.view pass.new) }
         ensures signals { (L.view pass.new).hand.consumed ≡ (L.view pass.old).hand.consumed }
         ensures out { (L.view pass.new).hand.held ≡ No }
@@ -69,6 +71,7 @@ impl<L: SleepLock<O>, O: Served + Drop> Guarded<L, O> {
         requires room { length (L.view pass.old).hand.log ≤ out.old.log_room }
         ensures own { L.sits (lock_of self.now) pass.new }
         ensures goes_on { PastGoesOn (L.view pass.old) (L.view pass.new) }
+        ensures queue { GoesOn (L.spun pass.old) (L.spun pass.new) }
         ensures kept { Looks (L.view pass.old) (L.view pass.new) }
         ensures copied { out.new ≡
             record out.old { log = map entry_word (L.view pass.old).hand.log } }
@@ -88,6 +91,7 @@ impl<L: SleepLock<O>, O: Served + Drop> Guarded<L, O> {
         requires room { calls_in (L.calls_on (lock_of self.now)) ≤ out.old.recs_room }
         ensures own { L.sits (lock_of self.now) pass.new }
         ensures goes_on { PastGoesOn (L.view pass.old) (L.view pass.new) }
+        ensures queue { GoesOn (L.spun pass.old) (L.spun pass.new) }
         ensures kept { Looks (L.view pass.old) (L.view pass.new) }
         ensures copied { AddsRecWords (L.calls_on (lock_of self.now)) (L.view pass.old)
             (L.view pass.new) out.old out.new }
@@ -105,6 +109,7 @@ impl<L: SleepLock<O>, O: Served + Drop> Guarded<L, O> {
             length (row (L.calls_on (lock_of self.now)) task) ≤ out.old.recs_room }
         ensures own { L.sits (lock_of self.now) pass.new }
         ensures goes_on { PastGoesOn (L.view pass.old) (L.view pass.new) }
+        ensures queue { GoesOn (L.spun pass.old) (L.spun pass.new) }
         ensures kept { Looks (L.view pass.old) (L.view pass.new) }
         ensures copied { AddsTaskWords (L.calls_on (lock_of self.now)) (L.view pass.old)
             (L.view pass.new) task out.old out.new }
@@ -123,6 +128,7 @@ impl<L: SleepLock<O>, O: Served + Drop> Guarded<L, O> {
         requires room { O.WORDS ≤ out.old.state_room }
         ensures own { L.sits (lock_of self.now) pass.new }
         ensures goes_on { PastGoesOn (L.view pass.old) (L.view pass.new) }
+        ensures queue { GoesOn (L.spun pass.old) (L.spun pass.new) }
         ensures kept { Looks (L.view pass.old) (L.view pass.new) }
         ensures copied { out.new ≡ record out.old { state = (L.view pass.old).hand.known } }
     {

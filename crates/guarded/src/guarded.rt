@@ -74,6 +74,7 @@ impl<L: SleepLock<O>, O: Served + Drop> Guarded<L, O> {
         requires there { task < length (L.calls_on (lock_of self.now)) }
         ensures own { L.sits (lock_of self.now) pass.new }
         ensures goes_on { PastGoesOn (L.view pass.old) (L.view pass.new) }
+        ensures queue { GoesOn (L.spun pass.old) (L.spun pass.new) }
         ensures became { Numbered O.object (unavailable L.kind) (L.calls_on (lock_of self.now))
             (L.view pass.old).hand task (L.view pass.new).hand }
         ensures beside { AllButHand (L.view pass.old) (L.view pass.new) }
@@ -94,6 +95,7 @@ impl<L: SleepLock<O>, O: Served + Drop> Guarded<L, O> {
         requires consumed { (L.view pass.old).hand.consumed ≡ 0 }
         ensures own { L.sits (lock_of self.now) pass.new }
         ensures goes_on { PastGoesOn (L.view pass.old) (L.view pass.new) }
+        ensures queue { GoesOn (L.spun pass.old) (L.spun pass.new) }
         ensures kept { Has (gave_up (L.view pass.old).hand) (L.view pass.old) (L.view pass.new) }
         ensures done { KeepsDone O.object (unavailable L.kind) (L.calls_on (lock_of self.now))
             (L.view pass.old).hand (L.view pass.new).hand }
@@ -130,6 +132,7 @@ impl<L: SleepLock<O>, O: Served + Drop> Guarded<L, O> {
         requires own { L.sits (lock_of self.now) pass.old }
         ensures own { L.sits (lock_of self.now) pass.new }
         ensures goes_on { PastGoesOn (L.view pass.old) (L.view pass.new) }
+        ensures queue { GoesOn (L.spun pass.old) (L.spun pass.new) }
         ensures kept { Looks (L.view pass.old) (L.view pass.new) }
         ensures last { IsLatestStep (L.view pass.new) }
         ensures new { IsNew O.object O.WORDS (L.calls_on (lock_of self.now))

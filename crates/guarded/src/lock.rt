@@ -101,6 +101,7 @@ pub trait SleepLock<O: Object>: Sized {
         requires there { task < length (calls_on self.now) }
         ensures own { sits self.now pass.new }
         ensures goes_on { PastGoesOn (view pass.old) (view pass.new) }
+        ensures queue { GoesOn (spun pass.old) (spun pass.new) }
         ensures became { Numbered O.object (unavailable kind) (calls_on self.now)
             (view pass.old).hand task (view pass.new).hand }
         ensures beside { AllButHand (view pass.old) (view pass.new) };
@@ -114,6 +115,7 @@ pub trait SleepLock<O: Object>: Sized {
         requires consumed { (view pass.old).hand.consumed ≡ 0 }
         ensures own { sits self.now pass.new }
         ensures goes_on { PastGoesOn (view pass.old) (view pass.new) }
+        ensures queue { GoesOn (spun pass.old) (spun pass.new) }
         ensures kept { Has (gave_up (view pass.old).hand) (view pass.old) (view pass.new) };
 
     /// Takes in another pass, which is spent: `into` then knows the records that `other` knew, and
@@ -138,6 +140,7 @@ pub trait SleepLock<O: Object>: Sized {
         requires own { sits self.now pass.old }
         ensures own { sits self.now pass.new }
         ensures goes_on { PastGoesOn (view pass.old) (view pass.new) }
+        ensures queue { GoesOn (spun pass.old) (spun pass.new) }
         ensures kept { Looks (view pass.old) (view pass.new) }
         ensures last { IsLatestStep (view pass.new) }
         ensures new { IsNew O.object O.WORDS (calls_on self.now) (opened (calls_on self.now)) }
@@ -165,6 +168,7 @@ pub trait SleepLock<O: Object>: Sized {
         requires inside { at < O.WORDS }
         ensures own { sits self.now pass.new }
         ensures goes_on { PastGoesOn (view pass.old) (view pass.new) }
+        ensures queue { GoesOn (spun pass.old) (spun pass.new) }
         ensures kept { Looks (view pass.old) (view pass.new) }
         ensures value { result ≡ slice_index (view pass.old).hand.known at }
         ensures found { FoundAt (LOCK_WORDS + at) result (view pass.new).past };
@@ -249,6 +253,7 @@ pub trait SleepLock<O: Object>: Sized {
         requires call { call < length (row (calls_on self.now) task) }
         ensures own { sits self.now pass.new }
         ensures goes_on { PastGoesOn (view pass.old) (view pass.new) }
+        ensures queue { GoesOn (spun pass.old) (spun pass.new) }
         ensures kept { Looks (view pass.old) (view pass.new) }
         ensures known { (r : Record) → Knows (view pass.old).hand
             (record { task = task; call = call }) r → result ≡ rec_word r }
@@ -264,6 +269,7 @@ pub trait SleepLock<O: Object>: Sized {
         requires held { (view pass.old).hand.held ≢ No }
         ensures own { sits self.now pass.new }
         ensures goes_on { PastGoesOn (view pass.old) (view pass.new) }
+        ensures queue { GoesOn (spun pass.old) (spun pass.new) }
         ensures kept { Looks (view pass.old) (view pass.new) }
         ensures value { result ≡ length (view pass.old).hand.log }
         ensures history { Chronicles O.object (unavailable kind) (calls_on self.now)
@@ -277,6 +283,7 @@ pub trait SleepLock<O: Object>: Sized {
         requires inside { at < length (view pass.old).hand.log }
         ensures own { sits self.now pass.new }
         ensures goes_on { PastGoesOn (view pass.old) (view pass.new) }
+        ensures queue { GoesOn (spun pass.old) (spun pass.new) }
         ensures kept { Looks (view pass.old) (view pass.new) }
         ensures value { IsEntryWord (view pass.old).hand at result }
         ensures found { FoundAt (entry_place at) result (view pass.new).past };
@@ -332,6 +339,7 @@ pub trait SleepLock<O: Object>: Sized {
         requires out { (view pass.old).hand.held ≡ No }
         ensures own { sits self.now pass.new }
         ensures goes_on { PastGoesOn (view pass.old) (view pass.new) }
+        ensures queue { GoesOn (spun pass.old) (spun pass.new) }
         ensures took { Takes O.object (calls_on self.now) Alone (view pass.old) (view pass.new) }
         ensures how { Got result (view pass.old) (view pass.new) }
         ensures line { KeepsPlace kind false word_at (view pass.old) (view pass.new) };
@@ -426,6 +434,7 @@ pub trait SleepLock<O: Object>: Sized {
         requires quiet { (view pass.old).hand.writes ≡ false }
         ensures own { sits self.now pass.new }
         ensures goes_on { PastGoesOn (view pass.old) (view pass.new) }
+        ensures queue { GoesOn (spun pass.old) (spun pass.new) }
         ensures released { Releases (wakes_alone kind) (view pass.old) (view pass.new) }
         ensures left { ends_alone (view pass.old) (view pass.new) };
 

@@ -5,9 +5,9 @@ use Rattle.task_script.specs.Scripts.{Listing}
 use Rattle.mm_report.specs.Results.{Told, AreLegal}
 use Rattle.mm_serve.specs.declared.machine.Machine.{Machine}
 use Rattle.mm_serve.specs.declared.space_or_table.SpaceOrTablePass.{SpaceOrTablePass}
-use Rattle.mm_serve.specs.Machines.{IsMachineOf, IsAtRest, AreAllKnown, AreHeld, KnowsPasts, gathered_of, results_of}
+use Rattle.mm_serve.specs.Machines.{IsMachineOf, IsAtRest, AreAllKnown, AreHeld, GoBackToTasks, KnowsPasts, gathered_of, results_of}
 use Rattle.mm_serve.specs.Sites.{holds_space}
-use Rattle.mm_serve.specs.UnderLocks.{IsIdleUnder, KnowsPastUnder, LockedObject, calls_under, hand_under, past_under}
+use Rattle.mm_serve.specs.UnderLocks.{HasLookedBackUnder, IsIdleUnder, KnowsPastUnder, LockedObject, calls_under, hand_under, past_under, spun_under}
 
 -- a machine over spaces under locks of one kind and tables under locks of another
 abbrev pub LockedMachine : (A S P C T F Q D B U : Type 0) → Type 0
@@ -22,9 +22,11 @@ module _ {A S P C T F Q D B U : Type 0} (spaces : LockMembers A S P C) (tables :
     pub legal : AreLegal script (results_of m) told
     -- the gathered pass of an object knows each record that is told of the object
     pub known : AreAllKnown (hand_under spaces tables) (gathered_of m) told
-    -- the log and the state that are told of an object are those of the object's table at a moment that this pass goes back to, at which a pass held alone
-    pub held : AreHeld (past_under spaces tables) m
+    -- the log and the state that are told of an object are those of the object's table at a moment that this pass goes back to, at which a pass held alone, didn't write, and knew each record that is told
+    pub held : AreHeld (hand_under spaces tables) (past_under spaces tables) m
     -- it knows all that was so of the object's table, from its opening on: who held, what the lock's word stated, and what the lock tells of its own; and, up to its last step on the lock's spin queue, who stood in that
     pub past : KnowsPasts (KnowsPastUnder spaces tables) m
+    -- there it goes back to all that each task did: to the moment at which the task's pass, its calls done, looked back at the queue, wasn't in it, and had been its front as often as it says
+    pub tasks : GoBackToTasks (HasLookedBackUnder spaces tables) (spun_under spaces tables) (calls_under spaces tables) m
     -- no gathered pass has a task's number or owes anything
     pub rest : IsAtRest (IsIdleUnder spaces tables) m

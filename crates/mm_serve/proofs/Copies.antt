@@ -3,7 +3,7 @@ use Rattle.std.proofs.Common.{◌≡◌, ℕ, zero, suc, ◌+◌, ◌<◌, Bool,
 use Rattle.std.proofs.lemmas.List.{get_or-set_same, get_or-set_other}
 use Rattle.word_bits.specs.Snapshots.{Words}
 use Rattle.word_bits.specs.Histories.{Plan}
-use Rattle.guarded.specs.Copying.{AreKnown}
+use Rattle.guarded.specs.Copying.{AreKnown, HeldAlone}
 use Rattle.lock_core.specs.declared.view.Hand.{Hand}
 use Rattle.lock_core.specs.declared.view.Moment.{Moment}
 use Rattle.lock_core.specs.Pasts.{GoesOn}
@@ -20,12 +20,12 @@ use Rattle.mm_serve.proofs.Staffed.{Known, unstaffed, records-many}
 
 module _ {S P : Type 0} (idle : S → P → Type 0) (hand : P → Hand) (past : P → List Moment) (is_space : S → Bool) (calls_on : S → Plan) where
   pub copies : (sites : List S) (passes : List P) (words : List Words) (n : ℕ) (s : S) (new : P) (w : Words) → EachOf (Between (IsCopied idle hand past is_space calls_on words) (IsToCopy idle hand is_space calls_on words) n) sites passes → n < length sites → length words ≡ length sites → s ≡ get_or sites n s
-      → idle s new → IsKnownHistoryOn (is_space s) (calls_on s) (hand new) w → WasHeldWith w (past new) → EachOf (Between (IsCopied idle hand past is_space calls_on (set words n w)) (IsToCopy idle hand is_space calls_on (set words n w)) (n + 1)) sites (set passes n new)
+      → idle s new → IsKnownHistoryOn (is_space s) (calls_on s) (hand new) w → WasHeldWith w (hand new).records (past new) → EachOf (Between (IsCopied idle hand past is_space calls_on (set words n w)) (IsToCopy idle hand is_space calls_on (set words n w)) (n + 1)) sites (set passes n new)
   copies sites passes words n s new w each below long s-is rest told held =
       each-set (Between (IsCopied idle hand past is_space calls_on words) (IsToCopy idle hand is_space calls_on words) n) (Between (IsCopied idle hand past is_space calls_on (set words n w)) (IsToCopy idle hand is_space calls_on (set words n w)) (n + 1)) sites passes n s new each below s-is
-      ((λ _. (rest, (λ v. subst (λ (x : Words). IsKnownHistoryOn (is_space s) (calls_on s) (hand new) x × WasHeldWith x (past new)) (sym (get_or-set_same words n w v (omega (arith, below, long)))) (told, held)))), (λ behind. absurd (omega (arith, behind))))
+      ((λ _. (rest, (λ v. subst (λ (x : Words). IsKnownHistoryOn (is_space s) (calls_on s) (hand new) x × WasHeldWith x (hand new).records (past new)) (sym (get_or-set_same words n w v (omega (arith, below, long)))) (told, held)))), (λ behind. absurd (omega (arith, behind))))
       (λ k t p lt ne r. (
-        (λ l. let c = r.0 (omega (arith, l, ne)) in (c.0, (λ v. subst (λ (x : Words). IsKnownHistoryOn (is_space t) (calls_on t) (hand p) x × WasHeldWith x (past p)) (sym (get_or-set_other words n k w v ne)) (c.1 v)))),
+        (λ l. let c = r.0 (omega (arith, l, ne)) in (c.0, (λ v. subst (λ (x : Words). IsKnownHistoryOn (is_space t) (calls_on t) (hand p) x × WasHeldWith x (hand p).records (past p)) (sym (get_or-set_other words n k w v ne)) (c.1 v)))),
         (λ l. let c = r.1 (omega (arith, l)) in (c.0, c.1, (λ v. get_or-set_other words n k w v ne ∙ c.2 v))),
       ))
 
@@ -33,14 +33,14 @@ module _ {S P : Type 0} (idle : S → P → Type 0) (hand : P → Hand) (past : 
   still-blank sites passes words n s was w each below s-is was-is at =
       sym (get-some words n w at) ∙ (between-at (IsCopied idle hand past is_space calls_on words) (IsToCopy idle hand is_space calls_on words) sites passes n s was each below s-is was-is).2 w
 
-  later : (w : Words) (old new : List Moment) → GoesOn old new → WasHeldWith w old → WasHeldWith w new
-  later w old new goes held = record {
+  later : (w : Words) (h g : Hand) (old new : List Moment) → g ≡ h → GoesOn old new → WasHeldWith w h.records old → WasHeldWith w g.records new
+  later w h g old new same goes held = record {
     entries = held.entries;
     log_is = held.log_is;
     task = held.task;
     takes = held.takes;
     until = held.until;
-    held = held.held;
+    held = subst (λ (x : Hand). HeldAlone held.task held.takes x.records held.entries w.state held.until) (sym same) held.held;
     goes_on = λ p t. goes p (held.goes_on p t);
   }
 
@@ -52,18 +52,18 @@ module _ {S P : Type 0} (idle : S → P → Type 0) (hand : P → Hand) (past : 
     (λ k s p lt. (
       rest.1 k s p lt,
       (λ w. let was = (copied.1 k s p lt).1 w in
-          (subst (λ (h : Hand). IsKnownHistoryOn (is_space (get_or sites k s)) (calls_on (get_or sites k s)) h (get_or words k w)) (sym (hands k p)) was.0, later (get_or words k w) (past (get_or olds k p)) (past (get_or news k p)) (goes k p) was.1)),
+          (subst (λ (h : Hand). IsKnownHistoryOn (is_space (get_or sites k s)) (calls_on (get_or sites k s)) h (get_or words k w)) (sym (hands k p)) was.0, later (get_or words k w) (hand (get_or olds k p)) (hand (get_or news k p)) (past (get_or olds k p)) (past (get_or news k p)) (hands k p) (goes k p) was.1)),
     )),
   )
 
   -- what each pass goes back to
-  pub all-held : (sites : List S) (passes : List P) (words : List Words) → EachOf (IsCopied idle hand past is_space calls_on words) sites passes → length words ≡ length sites → (k : ℕ) (w : Words) (p : P) → slice_get words k ≡ Some w → slice_get passes k ≡ Some p → WasHeldWith w (past p)
+  pub all-held : (sites : List S) (passes : List P) (words : List Words) → EachOf (IsCopied idle hand past is_space calls_on words) sites passes → length words ≡ length sites → (k : ℕ) (w : Words) (p : P) → slice_get words k ≡ Some w → slice_get passes k ≡ Some p → WasHeldWith w (hand p).records (past p)
   all-held sites passes words each long k w p at has =
       let inside = some-inside words k w at in
       let lt : k < length sites = omega (arith, inside, long) in
       let there = get-there sites k lt in
       let held = ((each.1 k there.0 p lt).1 w).1 in
-      subst (λ (q : P). WasHeldWith w (past q)) (get-some passes k p has) (subst (λ (v : Words). WasHeldWith v (past (get_or passes k p))) (get-some words k w at) held)
+      subst (λ (q : P). WasHeldWith w (hand q).records (past q)) (get-some passes k p has) (subst (λ (v : Words). WasHeldWith v (hand (get_or passes k p)).records (past (get_or passes k p))) (get-some words k w at) held)
 
 pick : (G : ℕ → Hand → Type 0) (one : Told) (rest : List Told) → ((h : Hand) × G 0 h × AreKnown h one.records) → ((i : ℕ) (x : Told) → slice_get rest i ≡ Some x → (h : Hand) × G (suc i) h × AreKnown h x.records) → (i : ℕ) (x : Told) → slice_get (one ∷ rest) i ≡ Some x → (h : Hand) × G i h × AreKnown h x.records
 pick G one rest here more zero x at = (here.0, here.1, subst (λ (y : Told). AreKnown here.0 y.records) (same-some one x at) here.2)

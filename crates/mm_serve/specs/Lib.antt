@@ -4,6 +4,7 @@ pub mod Lending
 pub mod Machines
 pub mod Opening
 pub mod Pasts
+pub mod Queues
 pub mod Serving
 pub mod Sites
 pub mod UnderLocks

@@ -10,6 +10,7 @@ use Rattle.mm_report.specs.Results.{Told, AreLegal, AreComplete}
 use Rattle.task_script.specs.Scripts.{Declared, Listing, plan_of}
 use Rattle.mm_serve.specs.declared.machine.Machine.{Machine}
 use Rattle.mm_serve.specs.Copying.{AreBlank, IsCopied, KnowPasts, WasHeldWith}
+use Rattle.mm_serve.specs.Queues.{GoesBackToTasks}
 use Rattle.mm_serve.specs.Workers.{EachOf, IsReady, AreNumbered}
 
 -- one task at least, as which the histories are copied
@@ -54,15 +55,15 @@ module _ {S C P U : Type 0} where
       pub tasks : (k : ℕ) (s : S) → slice_get (sites_of m) k ≡ Some s → length (calls_on s) ≡ length m.workers.items
       pub blank : AreBlank is_space calls_on (sites_of m) (results_of m)
 
-  -- The objects are the same. All tasks have done their calls, and the results of each object are one thread's history, of which the gathered pass knows each record, with the log and the state of the object's table at one moment.
+  -- The objects are the same. All tasks have done their calls, and the results of each object are one thread's history, of which the gathered pass knows each record, with the log and the state of the object's table at one moment, at which a pass held alone and knew the same records.
   pub record HasRun (idle : S → P → Type 0) (hand : P → Hand) (past : P → List Moment) (is_space : S → Bool) (calls_on : S → Plan) (old new : Machine S C P U) : Type 0 where
     pub sites : sites_of new ≡ sites_of old
     pub long : length (results_of new) ≡ length (sites_of new)
     pub copied : EachOf (IsCopied idle hand past is_space calls_on (results_of new)) (sites_of new) (gathered_of new)
 
-  -- the log and the state in the results of each object are those of the object's table at a moment that its gathered pass goes back to, at which a pass held alone
-  abbrev pub AreHeld : (P → List Moment) → Machine S C P U → Type 0
-  AreHeld past m = (k : ℕ) (w : Words) (p : P) → slice_get (results_of m) k ≡ Some w → slice_get (gathered_of m) k ≡ Some p → WasHeldWith w (past p)
+  -- the log and the state in the results of each object are those of the object's table at a moment that its gathered pass goes back to, at which a pass held alone, didn't write, and knew just the records that the gathered pass knows
+  abbrev pub AreHeld : (P → Hand) → (P → List Moment) → Machine S C P U → Type 0
+  AreHeld hand past m = (k : ℕ) (w : Words) (p : P) → slice_get (results_of m) k ≡ Some w → slice_get (gathered_of m) k ≡ Some p → WasHeldWith w (hand p).records (past p)
 
   -- The results are legal histories of the script, and each record in those of an object is one that the object's gathered pass knows.
   pub record HasLegalResults (hand : P → Hand) (script : Listing) (m : Machine S C P U) : Type 0 where
@@ -70,6 +71,10 @@ module _ {S C P U : Type 0} where
     pub told : List Told
     pub legal : AreLegal script (results_of m) told
     pub known : AreAllKnown hand (gathered_of m) told
+
+  -- the gathered pass of each object goes back to all that each task did on the spin queue of the object's lock
+  abbrev pub GoBackToTasks : (looked_back : S → P → ℕ → Type 0) → (spun : P → List Moment) → (S → Plan) → Machine S C P U → Type 0
+  GoBackToTasks looked_back spun calls_on m = EachOf (λ k s p. GoesBackToTasks looked_back spun calls_on s p) (sites_of m) (gathered_of m)
 
   -- no gathered pass has a task's number or owes anything
   abbrev pub IsAtRest : (S → P → Type 0) → Machine S C P U → Type 0
@@ -79,10 +84,11 @@ module _ {S C P U : Type 0} where
   abbrev pub KnowsPasts : (S → P → Type 0) → Machine S C P U → Type 0
   KnowsPasts knows_past m = KnowPasts knows_past (sites_of m) (gathered_of m)
 
-  -- The pass of one object knows the past of the object's table, has the hand that it had, and goes back to all that it did; all else is as before.
-  pub record HasRecalled (hand : P → Hand) (past : P → List Moment) (knows_past : S → P → Type 0) (object : ℕ) (old new : Machine S C P U) : Type 0 where
+  -- The pass of one object knows the past of the object's table, has the hand that it had, and goes back to all that it did, on the lock's spin queue too; all else is as before.
+  pub record HasRecalled (hand : P → Hand) (past spun : P → List Moment) (knows_past : S → P → Type 0) (object : ℕ) (old new : Machine S C P U) : Type 0 where
     pub rest : new ≡ record old { gathered = new.gathered }
     pub others : (k : ℕ) → k ≢ object → slice_get (gathered_of new) k ≡ slice_get (gathered_of old) k
     pub hands : (k : ℕ) (p : P) → hand (slice_index_or (gathered_of new) k p) ≡ hand (slice_index_or (gathered_of old) k p)
     pub goes_on : (k : ℕ) (p : P) → GoesOn (past (slice_index_or (gathered_of old) k p)) (past (slice_index_or (gathered_of new) k p))
+    pub queues : (k : ℕ) (p : P) → GoesOn (spun (slice_index_or (gathered_of old) k p)) (spun (slice_index_or (gathered_of new) k p))
     pub known : (s : S) (p : P) → slice_get (sites_of new) object ≡ Some s → slice_get (gathered_of new) object ≡ Some p → knows_past s p

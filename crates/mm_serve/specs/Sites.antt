@@ -18,6 +18,11 @@ abbrev pub past_of : {P Q : Type 0} → (P → Shown) → (Q → Shown) → Spac
 past_of space_view table_view (OfSpace p) = (space_view p).past
 past_of space_view table_view (OfTable p) = (table_view p).past
 
+-- the moments of the spin queue of the object's lock up to the pass's last step there
+abbrev pub spun_of : {P Q : Type 0} → (P → List Moment) → (Q → List Moment) → SpaceOrTablePass P Q → List Moment
+spun_of space_spun table_spun (OfSpace p) = space_spun p
+spun_of space_spun table_spun (OfTable p) = table_spun p
+
 module _ {A T : Type 0} where
   abbrev pub holds_space : SpaceOrTable A T → Bool
   holds_space (Space s) = true

@@ -1,6 +1,6 @@
 -- Spaces under locks of one kind and tables under locks of another: what is known of an object and of its pass, by what the trait of locks tells of the two kinds.
 use Rattle.word_bits.specs.Histories.{Plan}
-use Rattle.std.specs.Prelude.{List}
+use Rattle.std.specs.Prelude.{ℕ, List}
 use Rattle.lock_core.specs.declared.view.Hand.{Hand}
 use Rattle.lock_core.specs.declared.view.Moment.{Moment}
 use Rattle.vma_map.specs.Spaces.{space}
@@ -14,8 +14,9 @@ use Rattle.guarded.specs.SpinQueues.{KnowsSpinQueue}
 use Rattle.mm_serve.specs.declared.space_or_table.SpaceOrTable.{SpaceOrTable}
 use Rattle.mm_serve.specs.declared.space_or_table.SpaceOrTablePass.{SpaceOrTablePass}
 use Rattle.mm_serve.specs.Pasts.{KnowsPast}
+use Rattle.mm_serve.specs.Queues.{HasLookedBack}
 use Rattle.mm_serve.specs.Serving.{IsIdle}
-use Rattle.mm_serve.specs.Sites.{Matches, calls_of, hand_of, past_of}
+use Rattle.mm_serve.specs.Sites.{Matches, calls_of, hand_of, past_of, spun_of}
 
 -- a space or a table, each under its lock
 abbrev pub LockedObject : (A S P C T F Q D : Type 0) → Type 0
@@ -29,6 +30,10 @@ module _ {A S P C T F Q D : Type 0} (spaces : LockMembers A S P C) (tables : Loc
   -- the moments that it goes back to, likewise
   abbrev pub past_under : SpaceOrTablePass P Q → List Moment
   past_under = past_of spaces.view tables.view
+
+  -- those of the lock's spin queue, likewise
+  abbrev pub spun_under : SpaceOrTablePass P Q → List Moment
+  spun_under = spun_of spaces.spun tables.spun
 
   -- the calls that the tasks are to make on the object, by its lock
   abbrev pub calls_under : LockedObject A S P C T F Q D → Plan
@@ -44,3 +49,11 @@ module _ {A S P C T F Q D : Type 0} (spaces : LockMembers A S P C) (tables : Loc
       Matches
       (λ s p. KnowsPast space spaces.kind 257 spaces.word_at spaces.waits (KnowsRwSem space 257) spaces.opened (spaces.calls_on (lock_of s)) (spaces.view p) × KnowsSpinQueue (spaces.calls_on (lock_of s)) (spaces.view p) (spaces.spun p))
       (λ s p. KnowsPast table tables.kind 64 tables.word_at tables.waits (KnowsMutex table 64) tables.opened (tables.calls_on (lock_of s)) (tables.view p) × KnowsSpinQueue (tables.calls_on (lock_of s)) (tables.view p) (tables.spun p))
+
+  -- the pass has the task's number and has done all the task's calls; and it knows of each moment of the lock's spin queue, up to its own last step there, who stood in it, and that it was the queue's front as often as it says
+  abbrev pub HasLookedBackUnder : LockedObject A S P C T F Q D → SpaceOrTablePass P Q → ℕ → Type 0
+  HasLookedBackUnder site pass task =
+      Matches
+      (λ s p. HasLookedBack space spaces.kind (spaces.sits (lock_of s) p) KnowsSpinQueue (spaces.calls_on (lock_of s)) (spaces.view p) (spaces.spun p) task)
+      (λ s p. HasLookedBack table tables.kind (tables.sits (lock_of s) p) KnowsSpinQueue (tables.calls_on (lock_of s)) (tables.view p) (tables.spun p) task)
+      site pass

@@ -4,10 +4,13 @@ use Rattle.word_bits.specs.declared.entry.Entry.{Entry}
 use Rattle.word_bits.specs.declared.rec.Rec.{Rec}
 use Rattle.word_bits.specs.Histories.{Plan}
 use Rattle.lock_core.specs.declared.view.Hand.{Hand}
+use Rattle.lock_core.specs.declared.view.Moment.{Moment}
+use Rattle.lock_core.specs.Pasts.{GoesOn}
 use Rattle.lock_core.specs.Records.{row}
 use Rattle.lock_core.specs.Views.{Knows}
 use Rattle.mm_serve.specs.declared.worker.Worker.{Worker}
 use Rattle.mm_serve.specs.Histories.{HasDoneOn, AllHaveDone}
+use Rattle.mm_serve.specs.Queues.{GoesBackToTask}
 
 -- there is a pass of each object, and this is so of each object's number, the object and its pass
 abbrev pub EachOf : {S P : Type 0} → (ℕ → S → P → Type 0) → List S → List P → Type 0
@@ -25,6 +28,10 @@ calls_to k objects = count_by (λ object. object == k) objects
 abbrev pub KnowsMore : Hand → Hand → Type 0
 KnowsMore old new = (e : Entry) (r : Rec) → Knows old e r → Knows new e r
 
+-- beside that, the second goes back to all that the first did on the spin queue of the object's lock
+abbrev pub TakesUp : {P : Type 0} → (P → Hand) → (spun : P → List Moment) → P → P → Type 0
+TakesUp hand spun p q = KnowsMore (hand p) (hand q) × GoesOn (spun p) (spun q)
+
 module _ {P Q S : Type 0} (idle : S → Q → Type 0) (hand : Q → Hand) (calls_on : S → Plan) (sites : List S) where
   -- its task is one of each object's plan, it has as many calls on each object as the plan has of the task, and its passes are idle and have seen no entry
   pub record IsReady (w : Worker P Q) : Type 0 where
@@ -33,11 +40,11 @@ module _ {P Q S : Type 0} (idle : S → Q → Type 0) (hand : Q → Hand) (calls
     pub calls : (k : ℕ) (s : S) → slice_get sites k ≡ Some s → length (row (calls_on s) w.task) ≡ calls_to k w.objects.items
     pub passes : HaveSeenNothing idle hand sites w.passes.items
 
-module _ {P Q S : Type 0} (idle : S → Q → Type 0) (hand : Q → Hand) (is_space : S → Bool) (calls_on : S → Plan) (sites : List S) where
-  -- it has done all calls of its task
+module _ {P Q S : Type 0} (idle : S → Q → Type 0) (hand : Q → Hand) (looked_back : S → Q → ℕ → Type 0) (spun : Q → List Moment) (is_space : S → Bool) (calls_on : S → Plan) (sites : List S) where
+  -- it has done all calls of its task, and has then looked back at the spin queue of each object's lock
   pub record HasDoneItsTask (old new : Worker P Q) : Type 0 where
     pub task : new.task ≡ old.task
-    pub passes : EachOf (λ k s p. idle s p × HasDoneOn (is_space s) (calls_on s) (hand p) new.task) sites new.passes.items
+    pub passes : EachOf (λ k s p. idle s p × HasDoneOn (is_space s) (calls_on s) (hand p) new.task × GoesBackToTask looked_back spun s new.task (spun p)) sites new.passes.items
 
   -- each of them has
   abbrev pub HaveDoneTheirTasks : (olds news : List (Worker P Q)) → Type 0
@@ -52,13 +59,13 @@ abbrev pub AreNumbered : {P Q : Type 0} → List (Worker P Q) → Type 0
 AreNumbered {P} {Q} workers = (i : ℕ) (d : Worker P Q) → i < length workers → (slice_index_or workers i d).task ≡ i
 
 -- from the object of this number on, each pass has taken in the other one of its object, and the others are as before
-abbrev pub HaveGathered : {S P : Type 0} → (S → P → Type 0) → (P → Hand) → ℕ → List S → (olds others news : List P) → Type 0
-HaveGathered {S} {P} idle hand n sites olds others news =
-    EachOf (λ k s p. idle s p × (k < n → p ≡ slice_index_or olds k p) × (n ≤ k → KnowsMore (hand (slice_index_or olds k p)) (hand p) × KnowsMore (hand (slice_index_or others k p)) (hand p))) sites news
+abbrev pub HaveGathered : {S P : Type 0} → (S → P → Type 0) → (takes_up : P → P → Type 0) → ℕ → List S → (olds others news : List P) → Type 0
+HaveGathered {S} {P} idle takes_up n sites olds others news =
+    EachOf (λ k s p. idle s p × (k < n → p ≡ slice_index_or olds k p) × (n ≤ k → takes_up (slice_index_or olds k p) p × takes_up (slice_index_or others k p) p)) sites news
 
--- the pass knows all that the passes of the object of this number knew, from the worker of number n on
-abbrev pub KnowsFrom : {P Q : Type 0} → (Q → Hand) → (n : ℕ) → List (Worker P Q) → ℕ → Q → Type 0
-KnowsFrom {P} {Q} hand n workers k p = (i : ℕ) (d : Worker P Q) (q : Q) → n ≤ i → i < length workers → KnowsMore (hand (slice_index_or (slice_index_or workers i d).passes.items k q)) (hand p)
+-- the pass takes up what the passes of the object of this number knew and did, from the worker of number n on
+abbrev pub KnowsFrom : {P Q : Type 0} → (takes_up : Q → Q → Type 0) → (n : ℕ) → List (Worker P Q) → ℕ → Q → Type 0
+KnowsFrom {P} {Q} takes_up n workers k p = (i : ℕ) (d : Worker P Q) (q : Q) → n ≤ i → i < length workers → takes_up (slice_index_or (slice_index_or workers i d).passes.items k q) p
 
 -- the pass knows that all tasks have done all their calls on the object
 abbrev pub KnowsAllDone : {S P : Type 0} → (P → Hand) → (S → Bool) → (S → Plan) → S → P → Type 0

@@ -26,6 +26,9 @@ pub(crate) fn snapshot_all<S: SharedObject, W: Wait, C: Crew>(
     ensures copied { EachOf (IsCopied S.idle S.hand S.past S.is_space S.calls_on results.new)
         sites.now gathered.new.items }
     ensures long { length results.new ≡ length sites.now }
+    ensures queues { (k : ℕ) (p : S.Pass) →
+        GoesOn (S.spun (slice_index_or gathered.old.items k p))
+        (S.spun (slice_index_or gathered.new.items k p)) }
 {
     for object in 0..sites.len() {
         sites[object].snapshot(
@@ -50,6 +53,9 @@ pub(crate) fn recall<S: SharedObject>(sites: &[S], gathered: &mut Vec<S::Pass>, 
     ensures goes_on { (k : ℕ) (p : S.Pass) →
         GoesOn (S.past (slice_index_or gathered.old.items k p))
         (S.past (slice_index_or gathered.new.items k p)) }
+    ensures queues { (k : ℕ) (p : S.Pass) →
+        GoesOn (S.spun (slice_index_or gathered.old.items k p))
+        (S.spun (slice_index_or gathered.new.items k p)) }
     ensures past { (s : S) (p : S.Pass) → slice_get sites.now object ≡ Some s →
         slice_get gathered.new.items object ≡ Some p → S.knows_past s p }
 {
@@ -65,6 +71,9 @@ pub(crate) fn recall_all<S: SharedObject>(sites: &[S], gathered: &mut Vec<S::Pas
     ensures goes_on { (k : ℕ) (p : S.Pass) →
         GoesOn (S.past (slice_index_or gathered.old.items k p))
         (S.past (slice_index_or gathered.new.items k p)) }
+    ensures queues { (k : ℕ) (p : S.Pass) →
+        GoesOn (S.spun (slice_index_or gathered.old.items k p))
+        (S.spun (slice_index_or gathered.new.items k p)) }
     ensures past { KnowPasts S.knows_past sites.now gathered.new.items }
 {
     for object in 0..sites.len() {

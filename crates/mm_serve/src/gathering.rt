@@ -1,5 +1,5 @@
 //! What all tasks' passes know, in one pass of each object.
-ghost use Rattle.mm_serve.specs.Workers.{AllIdle, EachOf, HaveGathered, KnowsFrom};
+ghost use Rattle.mm_serve.specs.Workers.{AllIdle, EachOf, HaveGathered, KnowsFrom, TakesUp};
 
 use crate::shared_object::SharedObject;
 use crate::worker::Worker;
@@ -12,8 +12,8 @@ fn gather_passes<S: SharedObject>(
 )
     requires gathered { EachOf (λ k s p. S.idle s p) sites.now gathered.old.items }
     requires passes { EachOf (λ k s p. S.idle s p) sites.now passes.items }
-    ensures { HaveGathered S.idle S.hand 0 sites.now gathered.old.items passes.items
-        gathered.new.items }
+    ensures { HaveGathered S.idle (TakesUp S.hand S.spun) 0 sites.now gathered.old.items
+        passes.items gathered.new.items }
 {
     while let Some(pass) = passes.pop() {
         let object = passes.len();
@@ -29,8 +29,8 @@ pub(crate) fn gather_all<S: SharedObject, P: Drop>(
 )
     requires gathered { EachOf (λ k s p. S.idle s p) sites.now gathered.old.items }
     requires workers { AllIdle S.idle sites.now workers.items }
-    ensures { EachOf (λ k s p. S.idle s p × KnowsFrom S.hand 0 workers.items k p)
-        sites.now gathered.new.items }
+    ensures { EachOf (λ k s p. S.idle s p ×
+        KnowsFrom (TakesUp S.hand S.spun) 0 workers.items k p) sites.now gathered.new.items }
 {
     while let Some(worker) = workers.pop() {
         let Worker {

@@ -41,7 +41,8 @@ impl<S: SharedObject, C: Crew> Machine<S, C> {
         requires rest { IsAtRest S.idle self.old }
         requires there { object < length (sites_of self.old) }
         ensures rest { IsAtRest S.idle self.new }
-        ensures recalled { HasRecalled S.hand S.past S.knows_past object self.old self.new }
+        ensures recalled { HasRecalled S.hand S.past S.spun S.knows_past object
+            self.old self.new }
     {
         recall(self.sites.as_slice(), &mut self.gathered, object);
     }
@@ -98,11 +99,12 @@ where
     C::C: Send,
 {
     ghost use Rattle.mm_serve.specs.Machines.{IsFresh, HasRun, HasLegalResults};
-    ghost use Rattle.mm_serve.specs.Machines.{IsAtRest, IsMachineOf, KnowsPasts};
+    ghost use Rattle.mm_serve.specs.Machines.{GoBackToTasks, IsAtRest, IsMachineOf, KnowsPasts};
 
     /// Does all tasks at once, each on a thread of its own, and takes a snapshot of each object
     /// when all are done. The results are legal histories of the machine's script. Then looks back
-    /// at each object's table, after which each gathered pass knows what was so at every step.
+    /// at each object's table, after which each gathered pass knows what was so at every step. What
+    /// it knows of the lock's spin queue goes back to what each task did there.
     ///
     /// Where a thread can't be made, its task is done by another task's thread after that one's
     /// own, so tasks that wait for each other can then wait for good.
@@ -113,6 +115,7 @@ where
             HasLegalResults S.hand script self.new }
         ensures rest { IsAtRest S.idle self.new }
         ensures past { KnowsPasts S.knows_past self.new }
+        ensures tasks { GoBackToTasks S.looked_back S.spun S.calls_on self.new }
     {
         let none = Vec::new(*self.workers.allocator());
         let workers = mem::replace(&mut self.workers, none);

@@ -2,12 +2,14 @@
 ghost use Rattle.std.specs.Prelude.{◌≡◌, ◌+◌, ◌<◌, [], length};
 ghost use Rattle.word_bits.specs.Snapshots.{no_words};
 ghost use Rattle.lock_core.specs.Kinds.{unavailable};
+ghost use Rattle.lock_core.specs.Pasts.{GoesOn};
 ghost use Rattle.lock_core.specs.Plans.{calls_in};
 ghost use Rattle.lock_core.specs.Records.{row};
 ghost use Rattle.guarded.specs.Copying.{IsKnownHistory};
 ghost use Rattle.guarded.specs.Gathering.{HasDoneAll};
 ghost use Rattle.guarded.specs.Handles.{lock_of};
 ghost use Rattle.mm_serve.specs.Copying.{WasHeldWith};
+ghost use Rattle.mm_serve.specs.Queues.{GoesBackToTask, HasLookedBack};
 ghost use Rattle.mm_serve.specs.Serving.{AllTasksDone, IsIdle, IsServing};
 
 use cpu_task::{Crew, Gate};
@@ -75,7 +77,7 @@ pub(crate) fn perform<O: Served + Drop, L: SleepLock<O>, W: Wait, C: Crew, G: Ga
     guarded.perform(rt, pass, cpu, crew, gate, call);
 }
 
-/// Gives the task's number back.
+/// Looks back at the spin queue, and gives the task's number back.
 pub(crate) fn end<O: Served + Drop, L: SleepLock<O>>(
     guarded: &Guarded<L, O>,
     pass: &mut L::Pass,
@@ -90,8 +92,14 @@ pub(crate) fn end<O: Served + Drop, L: SleepLock<O>>(
     ensures idle { IsIdle (L.view pass.new).hand }
     ensures done { HasDoneAll O.object (unavailable L.kind) (L.calls_on (lock_of guarded.now))
         (L.view pass.new).hand task }
+    ensures queue { GoesBackToTask
+        (λ at its t. HasLookedBack O.object L.kind (L.sits (lock_of at) its) L.tells_queue
+        (L.calls_on (lock_of at)) (L.view its) (L.spun its) t)
+        L.spun guarded.now task (L.spun pass.new) }
 {
     let _ = task;
+    // Its own look ties its calls to the queue: whoever gathers the pass goes back to this moment.
+    guarded.recall_queue(pass);
     guarded.end(pass);
 }
 
@@ -115,7 +123,8 @@ pub(crate) fn snapshot<O: Served + Drop, L: SleepLock<O>, W: Wait, C: Crew>(
     ensures idle { IsIdle (L.view pass.new).hand }
     ensures copied { IsKnownHistory O.object (unavailable L.kind)
         (L.calls_on (lock_of guarded.now)) (L.view pass.new).hand out.new }
-    ensures held { WasHeldWith out.new (L.view pass.new).past }
+    ensures held { WasHeldWith out.new (L.view pass.new).hand.records (L.view pass.new).past }
+    ensures queue { GoesOn (L.spun pass.old) (L.spun pass.new) }
 {
     guarded.begin(rt, pass, 0);
     guarded.snapshot(rt, pass, cpu, crew, out);

@@ -1,6 +1,7 @@
 //! All tasks at once, and what is known then.
 ghost use Rattle.std.specs.Prelude.{◌≡◌, ℕ, ◌<◌, All, length, slice_get, Some};
 ghost use Rattle.mm_serve.specs.Copying.{AreBlank, IsCopied, KnowPasts};
+ghost use Rattle.mm_serve.specs.Queues.{GoesBackToTasks};
 ghost use Rattle.mm_serve.specs.Workers.{AreNumbered, EachOf, IsReady, KnowsAllDone};
 
 use crate::copying::{recall_all, snapshot_all};
@@ -34,7 +35,9 @@ where
     requires numbered { AreNumbered workers.items }
     requires tasks { (k : ℕ) (s : S) → slice_get sites.now k ≡ Some s →
         length (S.calls_on s) ≡ length workers.items }
-    ensures { EachOf (λ k s p. S.idle s p × KnowsAllDone S.hand S.is_space S.calls_on s p)
+    ensures done { EachOf (λ k s p. S.idle s p × KnowsAllDone S.hand S.is_space S.calls_on s p)
+        sites.now gathered.new.items }
+    ensures tasks { EachOf (λ k s p. GoesBackToTasks S.looked_back S.spun S.calls_on s p)
         sites.now gathered.new.items }
 {
     serve_all(rt, crew, gate, sites, workers.as_mut_slice());
@@ -66,6 +69,8 @@ where
         sites.now gathered.new.items }
     ensures long { length results.new ≡ length sites.now }
     ensures past { KnowPasts S.knows_past sites.now gathered.new.items }
+    ensures tasks { EachOf (λ k s p. GoesBackToTasks S.looked_back S.spun S.calls_on s p)
+        sites.now gathered.new.items }
 {
     serve_and_gather(rt, crew, gate, sites, gathered, workers);
     snapshot_all(rt, crew, cpu, sites, gathered, results);

@@ -7,6 +7,7 @@ ghost use Rattle.lock_core.specs.Pasts.{GoesOn};
 ghost use Rattle.lock_core.specs.Records.{row};
 ghost use Rattle.mm_serve.specs.Copying.{WasHeldWith, blank};
 ghost use Rattle.mm_serve.specs.Histories.{HasDoneOn, AllHaveDone, IsKnownHistoryOn, IsPlanOn};
+ghost use Rattle.mm_serve.specs.Queues.{GoesBackToTask};
 ghost use Rattle.mm_serve.specs.Workers.{KnowsMore};
 
 use cpu_task::{Crew, Gate};
@@ -31,12 +32,19 @@ pub trait SharedObject: Sized {
     // The moments of the object's table up to the pass's last step, the last one first.
     ghost past: { Self.Pass → List Moment };
 
+    // The moments of the lock's spin queue up to the pass's last step there, the last one first.
+    ghost spun: { Self.Pass → List Moment };
+
     // The pass is one of this object's. It has no task's number, and owes nothing.
     ghost idle: { Self → Self.Pass → Type 0 };
 
     // The pass is one of this object's. It has this task's number, owes nothing, and knows the
     // records of all calls that the task has done.
     ghost serving: { Self → Self.Pass → (task : ℕ) → Type 0 };
+
+    // The pass is one of this object's. It has this task's number, has done all the task's calls,
+    // and knows what was so of the lock's spin queue at each moment up to its last step there.
+    ghost looked_back: { Self → Self.Pass → (task : ℕ) → Type 0 };
 
     // The pass knows what was so of the object's table at each moment so far.
     ghost knows_past: { Self → Self.Pass → Type 0 };
@@ -85,19 +93,23 @@ pub trait SharedObject: Sized {
         ensures own { serving self.now pass.new task }
         ensures done { (hand pass.new).done ≡ (hand pass.old).done + 1 };
 
-    /// Gives the task's number back, when all its calls are done.
+    /// Looks back at the lock's spin queue and gives the task's number back, when all its calls are
+    /// done.
     fn end(&self, pass: &mut Self::Pass, task: u32)
         requires own { serving self.now pass.old task }
         requires all { (hand pass.old).done ≡ length (row (calls_on self.now) task) }
         ensures own { idle self.now pass.new }
-        ensures done { HasDoneOn (is_space self.now) (calls_on self.now) (hand pass.new) task };
+        ensures done { HasDoneOn (is_space self.now) (calls_on self.now) (hand pass.new) task }
+        ensures queue { GoesBackToTask looked_back spun self.now task (spun pass.new) };
 
     /// Takes in what another pass knows, which is spent.
     fn gather(&self, into: &mut Self::Pass, other: Self::Pass)
         requires own { idle self.now into.old × idle self.now other }
         ensures own { idle self.now into.new }
         ensures kept { KnowsMore (hand into.old) (hand into.new) }
-        ensures taken { KnowsMore (hand other) (hand into.new) };
+        ensures taken { KnowsMore (hand other) (hand into.new) }
+        ensures queue { GoesOn (spun into.old) (spun into.new) }
+        ensures others_queue { GoesOn (spun other) (spun into.new) };
 
     /// Copies what there is when all tasks have done their calls: one thread's history.
     fn snapshot<W: Wait, C: Crew>(
@@ -115,7 +127,8 @@ pub trait SharedObject: Sized {
         ensures own { idle self.now pass.new }
         ensures copied { IsKnownHistoryOn (is_space self.now) (calls_on self.now)
             (hand pass.new) out.new }
-        ensures held { WasHeldWith out.new (past pass.new) };
+        ensures held { WasHeldWith out.new (hand pass.new).records (past pass.new) }
+        ensures queue { GoesOn (spun pass.old) (spun pass.new) };
 
     /// Looks at the object's table, after which the pass knows its past.
     fn recall(&self, pass: &mut Self::Pass)
@@ -123,5 +136,6 @@ pub trait SharedObject: Sized {
         ensures own { idle self.now pass.new }
         ensures kept { hand pass.new ≡ hand pass.old }
         ensures goes_on { GoesOn (past pass.old) (past pass.new) }
+        ensures queue { GoesOn (spun pass.old) (spun pass.new) }
         ensures past { knows_past self.now pass.new };
 }

@@ -34,8 +34,8 @@ impl<A: SpaceLock, T: TableLock> SharedObject for SpaceOrTable<Guarded<A, Areas>
     ghost use Rattle.guarded.specs.Handles.{lock_of};
     ghost use Rattle.mm_serve.specs.Serving.{IsServing};
     ghost use Rattle.mm_serve.specs.Sites.{Matches, holds_space};
-    ghost use Rattle.mm_serve.specs.UnderLocks.{IsIdleUnder, KnowsPastUnder};
-    ghost use Rattle.mm_serve.specs.UnderLocks.{calls_under, hand_under, past_under};
+    ghost use Rattle.mm_serve.specs.UnderLocks.{HasLookedBackUnder, IsIdleUnder, KnowsPastUnder};
+    ghost use Rattle.mm_serve.specs.UnderLocks.{calls_under, hand_under, past_under, spun_under};
 
     type Pass = SpaceOrTablePass<A::Pass, T::Pass>;
 
@@ -47,6 +47,8 @@ impl<A: SpaceLock, T: TableLock> SharedObject for SpaceOrTable<Guarded<A, Areas>
 
     ghost past = { past_under A.SleepLock T.SleepLock };
 
+    ghost spun = { spun_under A.SleepLock T.SleepLock };
+
     ghost idle = { IsIdleUnder A.SleepLock T.SleepLock };
 
     ghost serving = { λ site pass task. Matches
@@ -55,6 +57,8 @@ impl<A: SpaceLock, T: TableLock> SharedObject for SpaceOrTable<Guarded<A, Areas>
         (λ s p. T.sits (lock_of s) p ×
         IsServing table (unavailable T.kind) (T.calls_on (lock_of s)) (T.view p).hand task)
         site pass };
+
+    ghost looked_back = { HasLookedBackUnder A.SleepLock T.SleepLock };
 
     ghost knows_past = { KnowsPastUnder A.SleepLock T.SleepLock };
 

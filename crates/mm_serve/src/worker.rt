@@ -2,6 +2,7 @@
 ghost use Rattle.std.specs.Prelude.{◌≡◌, ℕ, ◌<◌, [], All, length, slice_get, Some};
 ghost use Rattle.lock_core.specs.Records.{row};
 ghost use Rattle.mm_serve.specs.Histories.{HasDoneOn};
+ghost use Rattle.mm_serve.specs.Queues.{GoesBackToTask};
 ghost use Rattle.mm_serve.specs.Workers.{EachOf, HaveDoneTheirTasks, HaveSeenNothing};
 ghost use Rattle.mm_serve.specs.Workers.{HasDoneItsTask, IsReady, calls_to};
 
@@ -60,12 +61,13 @@ fn perform_all<S: SharedObject, W: Wait, C: Crew, G: Gate>(
     }
 }
 
-/// Gives the task's numbers back.
+/// Looks back at the spin queues, and gives the task's numbers back.
 fn end_all<S: SharedObject>(sites: &[S], passes: &mut Vec<S::Pass>, task: u32)
     requires passes { EachOf (λ k s p. S.serving s p task ×
         ((S.hand p).done ≡ length (row (S.calls_on s) task))) sites.now passes.old.items }
     ensures { EachOf (λ k s p. S.idle s p ×
-        HasDoneOn (S.is_space s) (S.calls_on s) (S.hand p) task) sites.now passes.new.items }
+        HasDoneOn (S.is_space s) (S.calls_on s) (S.hand p) task ×
+        GoesBackToTask S.looked_back S.spun s task (S.spun p)) sites.now passes.new.items }
 {
     for object in 0..sites.len() {
         sites[object].end(&mut passes[object], task);
@@ -81,7 +83,8 @@ pub(crate) fn serve<S: SharedObject, W: Wait, C: Crew, G: Gate>(
     worker: &mut Worker<C::C, S::Pass>,
 )
     requires ready { IsReady S.idle S.hand S.calls_on sites.now worker.old }
-    ensures { HasDoneItsTask S.idle S.hand S.is_space S.calls_on sites.now worker.old worker.new }
+    ensures { HasDoneItsTask S.idle S.hand S.looked_back S.spun S.is_space S.calls_on
+        sites.now worker.old worker.new }
 {
     begin_all(rt, sites, &mut worker.passes, worker.task);
     perform_all(
@@ -109,8 +112,8 @@ where
     S::Pass: Send,
     C::C: Send,
     requires { All (IsReady S.idle S.hand S.calls_on sites.now) workers.old }
-    ensures { HaveDoneTheirTasks S.idle S.hand S.is_space S.calls_on sites.now
-        workers.old workers.new }
+    ensures { HaveDoneTheirTasks S.idle S.hand S.looked_back S.spun S.is_space S.calls_on
+        sites.now workers.old workers.new }
 {
     // With fewer threads than tasks, two that wait for each other could share one.
     let threads = workers.len().max(1);
@@ -120,8 +123,8 @@ where
         threads,
         &|_, worker: &mut Worker<C::C, S::Pass>|
             requires { IsReady S.idle S.hand S.calls_on sites.now worker.old }
-            ensures { HasDoneItsTask S.idle S.hand S.is_space S.calls_on sites.entry.now
-                worker.old worker.new }
+            ensures { HasDoneItsTask S.idle S.hand S.looked_back S.spun S.is_space S.calls_on
+                sites.entry.now worker.old worker.new }
         { serve(rt, crew, gate, sites, worker) },
     );
 }

@@ -108,6 +108,7 @@ impl<O: Object> Mutex<O> {
         requires there { task < length (plan_of self.now) }
         ensures own { SitsAt self.now pass.new }
         ensures goes_on { PastGoesOn (shown_of pass.old) (shown_of pass.new) }
+        ensures queue { SpunGoesOn pass.old pass.new }
         ensures became { Numbered O.object (unavailable mutex) (plan_of self.now)
             (hand_in pass.old) task (hand_in pass.new) }
         ensures beside { AllButHand (shown_of pass.old) (shown_of pass.new) }
@@ -125,6 +126,7 @@ impl<O: Object> Mutex<O> {
         requires consumed { (hand_in pass.old).consumed ≡ 0 }
         ensures own { SitsAt self.now pass.new }
         ensures goes_on { PastGoesOn (shown_of pass.old) (shown_of pass.new) }
+        ensures queue { SpunGoesOn pass.old pass.new }
         ensures kept { Has (gave_up (hand_in pass.old)) (shown_of pass.old) (shown_of pass.new) }
     {
         self.osq.end(&mut pass.queue);
@@ -158,6 +160,7 @@ impl<O: Object> Mutex<O> {
         requires out { (hand_in pass.old).held ≡ No }
         ensures own { SitsAt self.now pass.new }
         ensures goes_on { PastGoesOn (shown_of pass.old) (shown_of pass.new) }
+        ensures queue { SpunGoesOn pass.old pass.new }
         ensures numbered { (hand_in pass.new).task ≡ (hand_in pass.old).task }
         ensures line { (shown_of pass.new).line ≡ (shown_of pass.old).line }
         ensures took { result ≡ true → TakesAlone O.object self.now pass.old pass.new }
@@ -203,6 +206,7 @@ impl<O: Object> Mutex<O> {
         requires out { (hand_in pass.old).held ≡ No }
         ensures own { SitsAt self.now pass.new }
         ensures goes_on { PastGoesOn (shown_of pass.old) (shown_of pass.new) }
+        ensures queue { SpunGoesOn pass.old pass.new }
         ensures took { IfOk result (λ _. TakesAlone O.object self.now pass.old pass.new) }
         ensures opened { IfOk result (λ _. TakesOpen (shown_of pass.old) (shown_of pass.new)) }
         ensures how { IfOk result (λ how. Got how (shown_of pass.old) (shown_of pass.new)) }
@@ -243,6 +247,7 @@ impl<O: Object> Mutex<O> {
         requires out { (hand_in pass.old).held ≡ No }
         ensures own { SitsAt self.now pass.new }
         ensures goes_on { PastGoesOn (shown_of pass.old) (shown_of pass.new) }
+        ensures queue { SpunGoesOn pass.old pass.new }
         ensures took { TakesAlone O.object self.now pass.old pass.new }
         ensures opened { TakesOpen (shown_of pass.old) (shown_of pass.new) }
         ensures how { Got result (shown_of pass.old) (shown_of pass.new) }
@@ -347,6 +352,7 @@ impl<O: Object> Mutex<O> {
         requires quiet { (hand_in pass.old).writes ≡ false }
         ensures own { SitsAt self.now pass.new }
         ensures goes_on { PastGoesOn (shown_of pass.old) (shown_of pass.new) }
+        ensures queue { SpunGoesOn pass.old pass.new }
         ensures released { Releases (wakes_alone mutex) (shown_of pass.old) (shown_of pass.new) }
         ensures ended { EndsHold (shown_of pass.old) (shown_of pass.new) }
         ensures line { (shown_of pass.new).line ≡ (shown_of pass.old).line }
@@ -368,6 +374,7 @@ impl<O: Object> Mutex<O> {
         requires own { SitsAt self.now pass.old }
         ensures own { SitsAt self.now pass.new }
         ensures goes_on { PastGoesOn (shown_of pass.old) (shown_of pass.new) }
+        ensures queue { SpunGoesOn pass.old pass.new }
         ensures kept { Looks (shown_of pass.old) (shown_of pass.new) }
         ensures last { IsLatestStep (shown_of pass.new) }
         ensures begins { Tail (newest (plan_of self.now) ∷ []) (shown_of pass.new).past }

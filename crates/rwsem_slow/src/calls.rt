@@ -106,6 +106,7 @@ impl<O: Object> RwSem<O> {
         requires there { task < length (plan_of self.now) }
         ensures own { SitsAt self.now pass.new }
         ensures goes_on { PastGoesOn (shown_of pass.old) (shown_of pass.new) }
+        ensures queue { SpunGoesOn pass.old pass.new }
         ensures became { Numbered O.object (unavailable semaphore) (plan_of self.now)
             (hand_in pass.old) task (hand_in pass.new) }
         ensures beside { AllButHand (shown_of pass.old) (shown_of pass.new) }
@@ -123,6 +124,7 @@ impl<O: Object> RwSem<O> {
         requires consumed { (hand_in pass.old).consumed ≡ 0 }
         ensures own { SitsAt self.now pass.new }
         ensures goes_on { PastGoesOn (shown_of pass.old) (shown_of pass.new) }
+        ensures queue { SpunGoesOn pass.old pass.new }
         ensures kept { Has (gave_up (hand_in pass.old)) (shown_of pass.old) (shown_of pass.new) }
     {
         self.osq.end(&mut pass.queue);
@@ -166,6 +168,7 @@ impl<O: Object> RwSem<O> {
         requires own { SitsAt self.now pass.old }
         ensures own { SitsAt self.now pass.new }
         ensures goes_on { PastGoesOn (shown_of pass.old) (shown_of pass.new) }
+        ensures queue { SpunGoesOn pass.old pass.new }
         ensures kept { Looks (shown_of pass.old) (shown_of pass.new) }
         ensures last { IsLatestStep (shown_of pass.new) }
         ensures begins { Tail (newest (plan_of self.now) ∷ []) (shown_of pass.new).past }

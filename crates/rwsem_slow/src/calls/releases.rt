@@ -4,7 +4,7 @@ ghost use Rattle.lock_core.specs.declared.view.Held.TheVariants.{No, Shared, Alo
 ghost use Rattle.lock_core.specs.Kinds.{semaphore, wakes_alone, wakes_down, wakes_shared};
 ghost use Rattle.lock_core.specs.Locking.{Downgrades, Releases};
 ghost use Rattle.lock_core.specs.Shown.{PastGoesOn};
-ghost use Rattle.rwsem_slow.specs.Handles.{shown_of, hand_in, SitsAt};
+ghost use Rattle.rwsem_slow.specs.Handles.{shown_of, hand_in, SitsAt, SpunGoesOn};
 ghost use Rattle.rwsem_slow.specs.Releasing.{LeavesCount};
 
 use super::{RwPass, RwSem};
@@ -37,6 +37,7 @@ impl<O: Object> RwSem<O> {
         requires quiet { (hand_in pass.old).writes ≡ false }
         ensures own { SitsAt self.now pass.new }
         ensures goes_on { PastGoesOn (shown_of pass.old) (shown_of pass.new) }
+        ensures queue { SpunGoesOn pass.old pass.new }
         ensures released { Releases (wakes_alone semaphore)
             (shown_of pass.old) (shown_of pass.new) }
         ensures left { LeavesCount (wakes_alone semaphore) No 1 0

@@ -13,7 +13,7 @@ ghost use Rattle.lock_core.specs.Pasts.{FoundAt};
 ghost use Rattle.lock_core.specs.Records.{row};
 ghost use Rattle.lock_core.specs.Shown.{PastGoesOn};
 ghost use Rattle.lock_core.specs.Views.{next_entry, wrote, committed, noted, sending, Unsent};
-ghost use Rattle.rwsem_slow.specs.Handles.{plan_of, shown_of, hand_in, SitsAt, TellsRecord};
+ghost use Rattle.rwsem_slow.specs.Handles.{plan_of, shown_of, hand_in, SitsAt, SpunGoesOn, TellsRecord};
 
 use super::{RwPass, RwSem};
 use lock_core::Held;
@@ -27,6 +27,7 @@ impl<O: Object> RwSem<O> {
         requires inside { at < O.WORDS }
         ensures own { SitsAt self.now pass.new }
         ensures goes_on { PastGoesOn (shown_of pass.old) (shown_of pass.new) }
+        ensures queue { SpunGoesOn pass.old pass.new }
         ensures kept { Looks (shown_of pass.old) (shown_of pass.new) }
         ensures value { result ≡ slice_index (hand_in pass.old).known at }
         ensures found { FoundAt (LOCK_WORDS + at) result (shown_of pass.new).past }
@@ -135,6 +136,7 @@ impl<O: Object> RwSem<O> {
         requires call { call < length (row (plan_of self.now) task) }
         ensures own { SitsAt self.now pass.new }
         ensures goes_on { PastGoesOn (shown_of pass.old) (shown_of pass.new) }
+        ensures queue { SpunGoesOn pass.old pass.new }
         ensures kept { Looks (shown_of pass.old) (shown_of pass.new) }
         ensures known { TellsRecord pass.old task call result }
         ensures made { result ≢ 0 → (r : Record) × IsRec r × (result ≡ rec_word r) }
@@ -152,6 +154,7 @@ impl<O: Object> RwSem<O> {
         requires held { (hand_in pass.old).held ≢ No }
         ensures own { SitsAt self.now pass.new }
         ensures goes_on { PastGoesOn (shown_of pass.old) (shown_of pass.new) }
+        ensures queue { SpunGoesOn pass.old pass.new }
         ensures kept { Looks (shown_of pass.old) (shown_of pass.new) }
         ensures value { result ≡ length (hand_in pass.old).log }
         ensures history { Chronicles O.object (unavailable semaphore) (plan_of self.now)
@@ -168,6 +171,7 @@ impl<O: Object> RwSem<O> {
         requires inside { at < length (hand_in pass.old).log }
         ensures own { SitsAt self.now pass.new }
         ensures goes_on { PastGoesOn (shown_of pass.old) (shown_of pass.new) }
+        ensures queue { SpunGoesOn pass.old pass.new }
         ensures kept { Looks (shown_of pass.old) (shown_of pass.new) }
         ensures value { IsEntryWord (hand_in pass.old) at result }
         ensures found { FoundAt (entry_place at) result (shown_of pass.new).past }

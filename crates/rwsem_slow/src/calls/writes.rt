@@ -7,7 +7,7 @@ ghost use Rattle.lock_core.specs.Locking.{Got, Interrupts, KeepsPlace, Looks, On
 ghost use Rattle.lock_core.specs.Shown.{PastGoesOn};
 ghost use Rattle.osq_unqueue.specs.Rising.{LeavesForCpu};
 ghost use Rattle.rwsem_slow.specs.RwSems.{count_at};
-ghost use Rattle.rwsem_slow.specs.Handles.{shown_of, hand_in, KeepsFronts, KeepsMisses, SitsAt, TakesAlone};
+ghost use Rattle.rwsem_slow.specs.Handles.{shown_of, hand_in, KeepsFronts, KeepsMisses, SitsAt, SpunGoesOn, TakesAlone};
 ghost use Rattle.rwsem_slow.specs.Counting.{CountsLeaving, CountsWriting};
 ghost use Rattle.rwsem_slow.specs.Opening.{TakesOpen};
 ghost use Rattle.rwsem_slow.specs.Spinning.{SawIfTried};
@@ -36,6 +36,7 @@ impl<O: Object> RwSem<O> {
         requires out { (hand_in pass.old).held ≡ No }
         ensures own { SitsAt self.now pass.new }
         ensures goes_on { PastGoesOn (shown_of pass.old) (shown_of pass.new) }
+        ensures queue { SpunGoesOn pass.old pass.new }
         ensures took { TakesAlone O.object self.now pass.old pass.new }
         ensures opened { TakesOpen result (shown_of pass.old) (shown_of pass.new) }
         ensures how { Got result (shown_of pass.old) (shown_of pass.new) }
@@ -103,6 +104,7 @@ impl<O: Object> RwSem<O> {
         requires out { (hand_in pass.old).held ≡ No }
         ensures own { SitsAt self.now pass.new }
         ensures goes_on { PastGoesOn (shown_of pass.old) (shown_of pass.new) }
+        ensures queue { SpunGoesOn pass.old pass.new }
         ensures took { IfOk result (λ _. TakesAlone O.object self.now pass.old pass.new) }
         ensures opened { IfOk result (λ how. TakesOpen how (shown_of pass.old) (shown_of pass.new)) }
         ensures how { IfOk result (λ how. Got how (shown_of pass.old) (shown_of pass.new)) }
@@ -140,6 +142,7 @@ impl<O: Object> RwSem<O> {
         requires out { (hand_in pass.old).held ≡ No }
         ensures own { SitsAt self.now pass.new }
         ensures goes_on { PastGoesOn (shown_of pass.old) (shown_of pass.new) }
+        ensures queue { SpunGoesOn pass.old pass.new }
         ensures numbered { (hand_in pass.new).task ≡ (hand_in pass.old).task }
         ensures line { (shown_of pass.new).line ≡ (shown_of pass.old).line }
         ensures took { result ≡ true → TakesAlone O.object self.now pass.old pass.new }
@@ -188,6 +191,7 @@ impl<O: Object> RwSem<O> {
         requires out { (hand_in pass.old).held ≡ No }
         ensures own { SitsAt self.now pass.new }
         ensures goes_on { PastGoesOn (shown_of pass.old) (shown_of pass.new) }
+        ensures queue { SpunGoesOn pass.old pass.new }
         ensures took { IfOk result (λ _. TakesAlone O.object self.now pass.old pass.new) }
         ensures opened { IfOk result (λ how. TakesOpen how (shown_of pass.old) (shown_of pass.new)) }
         ensures how { IfOk result (λ how. Got how (shown_of pass.old) (shown_of pass.new)) }
@@ -224,6 +228,7 @@ impl<O: Object> RwSem<O> {
         requires numbered { IsSome (hand_in pass.old).task }
         ensures own { SitsAt self.now pass.new }
         ensures goes_on { PastGoesOn (shown_of pass.old) (shown_of pass.new) }
+        ensures queue { SpunGoesOn pass.old pass.new }
         ensures kept { Looks (shown_of pass.old) (shown_of pass.new) }
     {
         let Some(me) = pass.pass.task() else {

@@ -14,7 +14,7 @@ returns-in-Ok-written-clause-says g c =
       record c.run.new.self { results = c.report-written.new.results },
       results.told,
       refl,
-      has_served g.A.SleepLock g.T.SleepLock c.args.script.now c.in-Ok.machine c.run.new.self _ c.in-Ok.ensures.script c.run.ensures.ran results c.run.ensures.rest c.run.ensures.past
+      has_served g.A.SleepLock g.T.SleepLock c.args.script.now c.in-Ok.machine c.run.new.self _ c.in-Ok.ensures.script c.run.ensures.ran results c.run.ensures.rest c.run.ensures.past c.run.ensures.tasks
           (ap (λ (ws : List Words). record c.run.new.self { results = ws }) same),
       c.in-Ok-written.ensures.text results.told (subst (λ (ws : List Words). AreLegal c.args.script.now ws results.told) (sym c.results.ensures.value) results.legal),
     )
@@ -28,7 +28,7 @@ returns-in-Err-clause-says g c =
         record c.run.new.self { results = c.report-written.new.results },
         results.told,
         refl,
-        has_served g.A.SleepLock g.T.SleepLock c.args.script.now c.in-Ok.machine c.run.new.self _ c.in-Ok.ensures.script c.run.ensures.ran results c.run.ensures.rest c.run.ensures.past
+        has_served g.A.SleepLock g.T.SleepLock c.args.script.now c.in-Ok.machine c.run.new.self _ c.in-Ok.ensures.script c.run.ensures.ran results c.run.ensures.rest c.run.ensures.past c.run.ensures.tasks
             (ap (λ (ws : List Words). record c.run.new.self { results = ws }) same),
         c.in-Err.ensures.text results.told (subst (λ (ws : List Words). AreLegal c.args.script.now ws results.told) (sym c.results.ensures.value) results.legal),
       ),

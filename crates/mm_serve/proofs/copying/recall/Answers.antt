@@ -12,3 +12,10 @@ returns-clause-goes_on g c =
     let many = c.requires.rest.0 in
     let there = c.requires.there in
     set-related (λ p q. GoesOn (past p) (past q)) c.args.gathered.now.items c.args.object c.index_mut.result.now c.recall.new.pass (λ p q t. t) (omega (arith, many, there)) c.index_mut.ensures.value c.recall.ensures.goes_on
+
+pub returns-clause-queues : goal.returns-clause-queues
+returns-clause-queues g c =
+    let spun = g.S.SharedObject.spun in
+    let many = c.requires.rest.0 in
+    let there = c.requires.there in
+    set-related (λ p q. GoesOn (spun p) (spun q)) c.args.gathered.now.items c.args.object c.index_mut.result.now c.recall.new.pass (λ p q t. t) (omega (arith, many, there)) c.index_mut.ensures.value c.recall.ensures.queue

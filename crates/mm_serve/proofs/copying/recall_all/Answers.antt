@@ -9,6 +9,7 @@ loop-object-init g c = record {
   rest = c.requires;
   hands = λ k p. refl;
   goes_on = λ k p q t. t;
+  queues = λ k p q t. t;
   past = λ k s p lt. absurd (omega (arith, lt));
 }
 
@@ -17,6 +18,7 @@ loop-object-preserved g c = record {
   rest = c.recall.ensures.rest;
   hands = λ k p. c.recall.ensures.hands k p ∙ c.loop-object.invariant.hands k p;
   goes_on = λ k p q t. c.recall.ensures.goes_on k p q (c.loop-object.invariant.goes_on k p q t);
+  queues = λ k p q t. c.recall.ensures.queues k p q (c.loop-object.invariant.queues k p q t);
   past = λ k s p lt at has.
       dite (ℕ_discrete k c.loop-object.object)
       (λ e. c.recall.ensures.past s p (subst (λ (j : ℕ). slice_get c.args.sites.now j ≡ Some s) e at) (subst (λ (j : ℕ). slice_get c.recall.new.gathered.items j ≡ Some p) e has))

@@ -9,5 +9,6 @@ invariant-loop-object g l = record {
   rest : EachOf (λ k s p. g.S.SharedObject.idle s p) l.sites l.gathered.items;
   hands : (k : ℕ) (p : g.row.S-Pass.Denot) → g.S.SharedObject.hand (slice_index_or l.gathered.items k p) ≡ g.S.SharedObject.hand (slice_index_or l.fn.gathered.items k p);
   goes_on : (k : ℕ) (p : g.row.S-Pass.Denot) → GoesOn (g.S.SharedObject.past (slice_index_or l.fn.gathered.items k p)) (g.S.SharedObject.past (slice_index_or l.gathered.items k p));
+  queues : (k : ℕ) (p : g.row.S-Pass.Denot) → GoesOn (g.S.SharedObject.spun (slice_index_or l.fn.gathered.items k p)) (g.S.SharedObject.spun (slice_index_or l.gathered.items k p));
   past : (k : ℕ) (s : g.row.S.Denot) (p : g.row.S-Pass.Denot) → k < l.object → slice_get l.sites k ≡ Some s → slice_get l.gathered.items k ≡ Some p → g.S.SharedObject.knows_past s p;
 }

@@ -1,6 +1,8 @@
-use Rattle.std.proofs.Common.{ap, ◌∙◌}
+use Rattle.std.proofs.Common.{◌+◌, List, ap, sym, subst, ◌∙◌}
 use Rattle.lock_core.specs.declared.view.Hand.{Hand}
+use Rattle.lock_core.specs.declared.view.Told.{Told}
 use Rattle.lock_core.specs.Kinds.{unavailable}
+use Rattle.guarded.specs.Copying.{HeldAlone}
 use Rattle.mm_serve.proofs.Passes.{all-gathered, still-done, still-known}
 use Rattle.mm_serve.proofs.one_lock.snapshot.Goals as goal
 
@@ -16,12 +18,18 @@ returns-clause-copied g c =
     (c.snapshot.ensures.legal (all-gathered o u k b (still-done o u k h b c.begin.ensures.done c.requires.done)))
 
 pub returns-clause-held : goal.returns-clause-held
-returns-clause-held g c = let copies = c.snapshot.ensures.copied in record {
-  entries = copies.entries;
-  log_is = copies.log_is;
-  task = _;
-  takes = _;
-  until = copies.last;
-  held = copies.ended;
-  goes_on = λ p t. c.end.ensures.goes_on p (copies.goes_on p t);
-}
+returns-clause-held g c =
+    let copies = c.snapshot.ensures.copied in
+    let b = g.L.SleepLock.view c.begin.new.pass in
+    let known = ap {A = Hand} (λ x. x.records) c.end.ensures.kept.0 ∙ c.snapshot.ensures.kept.records in record {
+      entries = copies.entries;
+      log_is = copies.log_is;
+      task = b.hand.task;
+      takes = b.hand.takes + 1;
+      until = copies.last;
+      held = subst (λ (records : List Told). HeldAlone b.hand.task (b.hand.takes + 1) records copies.entries c.snapshot.new.out.state copies.last) (sym known) copies.ended;
+      goes_on = λ p t. c.end.ensures.goes_on p (copies.goes_on p t);
+    }
+
+pub returns-clause-queue : goal.returns-clause-queue
+returns-clause-queue g c = λ p t. c.end.ensures.queue p (c.snapshot.ensures.queue p (c.begin.ensures.queue p t))

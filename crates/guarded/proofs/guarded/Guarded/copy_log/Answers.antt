@@ -17,4 +17,5 @@ loop-at-preserved g c =
       (λ p t. c.log_word.ensures.goes_on p (c.loop-at.invariant.2 p t)),
       log-pushed c.args.out.now c.loop-at.out c.push_log.new.self _ _ c.log_word.result c.loop-at.invariant.3 c.push_log.ensures
           (log-more v.hand.log c.loop-at.at c.log_word.result (omega (arith, inside, end)) (λ e at. c.log_word.ensures.value e (ap {A = Hand} (λ h. slice_get h.log c.loop-at.at) same ∙ at))),
+      (λ p t. c.log_word.ensures.queue p (c.loop-at.invariant.4 p t)),
     )

@@ -17,7 +17,7 @@ pub loop-task-init : goal.loop-task-init
 loop-task-init g c =
     let k = g.L.SleepLock.calls_on c.args.self.now.lock in
     let v = g.L.SleepLock.view c.args.pass.now in
-    (c.requires.own, (refl, (refl, refl, refl, omega arith, refl, refl)), (λ p t. t), ap length c.requires.empty ∙ sym (start-zero k), ([], rows-none k v.hand v.past v.past, (λ i. record c.args.out.now { recs = c.requires.empty i })))
+    (c.requires.own, (refl, (refl, refl, refl, omega arith, refl, refl)), (λ p t. t), ap length c.requires.empty ∙ sym (start-zero k), ([], rows-none k v.hand v.past v.past, (λ i. record c.args.out.now { recs = c.requires.empty i })), (λ p t. t))
 
 pub copy_task-requires-clause-room : goal.copy_task-requires-clause-room
 copy_task-requires-clause-room g c =
@@ -57,4 +57,5 @@ loop-task-preserved g c =
         rows-more k v.hand v.past u.past w.past c.loop-task.task rows words c.loop-task.invariant.4.1 c.loop-task.invariant.2 c.copy_task.ensures.goes_on new,
         recs-pushed c.args.out.now c.loop-task.out c.copy_task.new.out (joined rows) words _ c.loop-task.invariant.4.2 c.copy_task.ensures.copied.2 (joined-snoc rows words (joined rows) refl),
       ),
+      (λ p t. c.copy_task.ensures.queue p (c.loop-task.invariant.5 p t)),
     )

@@ -1,4 +1,5 @@
 use Rattle.std.proofs.Common.{◌≡◌, take}
+use Rattle.lock_core.specs.Pasts.{GoesOn}
 use Rattle.lock_core.specs.Shown.{PastGoesOn}
 use Rattle.lock_core.specs.Locking.{Looks}
 use Rattle.guarded.proofs.guarded.Guarded.copy_state.Given as goal
@@ -9,3 +10,4 @@ invariant-loop-at g l =
     × Looks (g.L.SleepLock.view l.fn.pass) (g.L.SleepLock.view l.pass)
     × PastGoesOn (g.L.SleepLock.view l.fn.pass) (g.L.SleepLock.view l.pass)
     × (l.out ≡ record l.fn.out { state = take l.at (g.L.SleepLock.view l.fn.pass).hand.known })
+    × GoesOn (g.L.SleepLock.spun l.fn.pass) (g.L.SleepLock.spun l.pass)

@@ -23,4 +23,5 @@ loop-call-preserved g c =
             (found-now (record_place k c.args.task c.loop-call.call) c.rec_word.result v.past w.past (λ p t. c.rec_word.ensures.goes_on p (c.loop-call.invariant.2 p t)) c.rec_word.ensures.found),
         recs-pushed c.args.out.now c.loop-call.out c.push_rec.new.self (c.args.out.now.recs ++ words) (c.rec_word.result ∷ []) _ c.loop-call.invariant.3.2 c.push_rec.ensures (append_assoc c.args.out.now.recs words (c.rec_word.result ∷ [])),
       ),
+      (λ p t. c.rec_word.ensures.queue p (c.loop-call.invariant.4 p t)),
     )

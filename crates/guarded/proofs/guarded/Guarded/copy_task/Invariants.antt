@@ -1,4 +1,5 @@
 use Rattle.std.proofs.Common.{◌≡◌, ℕ, List, ◌++◌}
+use Rattle.lock_core.specs.Pasts.{GoesOn}
 use Rattle.lock_core.specs.Shown.{PastGoesOn}
 use Rattle.lock_core.specs.Locking.{Looks}
 use Rattle.guarded.specs.Copying.{AreTaskWords}
@@ -10,3 +11,4 @@ invariant-loop-call g l =
     × Looks (g.L.SleepLock.view l.fn.pass) (g.L.SleepLock.view l.pass)
     × PastGoesOn (g.L.SleepLock.view l.fn.pass) (g.L.SleepLock.view l.pass)
     × ((words : List ℕ) × AreTaskWords (g.L.SleepLock.calls_on l.self.lock) (g.L.SleepLock.view l.fn.pass).hand (g.L.SleepLock.view l.fn.pass).past (g.L.SleepLock.view l.pass).past l.task l.call words × (l.out ≡ record l.fn.out { recs = l.fn.out.recs ++ words }))
+    × GoesOn (g.L.SleepLock.spun l.fn.pass) (g.L.SleepLock.spun l.pass)

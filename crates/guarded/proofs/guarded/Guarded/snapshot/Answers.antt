@@ -36,6 +36,10 @@ pub returns-clause-goes_on : goal.returns-clause-goes_on
 returns-clause-goes_on g c = λ p t.
     c.release_alone.ensures.goes_on p (c.recall-2.ensures.goes_on p (c.copy_state.ensures.goes_on p (c.copy_records.ensures.goes_on p (c.copy_log.ensures.goes_on p (c.recall.ensures.goes_on p (c.alone.ensures.goes_on p t))))))
 
+pub returns-clause-queue : goal.returns-clause-queue
+returns-clause-queue g c = λ p t.
+    c.release_alone.ensures.queue p (c.recall-2.ensures.queue p (c.copy_state.ensures.queue p (c.copy_records.ensures.queue p (c.copy_log.ensures.queue p (c.recall.ensures.queue p (c.alone.ensures.queue p t))))))
+
 pub returns-clause-copied : goal.returns-clause-copied
 returns-clause-copied g c =
     let o = g.O.Object.object in
@@ -65,8 +69,8 @@ returns-clause-copied g c =
       between = λ p t. c.recall-2.ensures.goes_on p (c.copy_state.ensures.goes_on p (c.copy_records.ensures.goes_on p (c.copy_log.ensures.goes_on p t)));
       goes_on = c.release_alone.ensures.goes_on;
       once = c.release_alone.ensures.released.0.takes ∙ (ap {A = Hand} (λ h. h.takes) still ∙ took.takes);
-      begun = held-alone v m first c.copy_state.new.out.state c.recall.ensures.kept.0 took.keeps.task took.holds took.takes (sym stored) c.recall.ensures.last;
-      ended = held-alone v m last c.copy_state.new.out.state still took.keeps.task took.holds took.takes (sym stored) c.recall-2.ensures.last;
+      begun = held-alone v m first c.copy_state.new.out.state c.recall.ensures.kept.0 took.keeps.task took.holds took.quiet took.takes took.keeps.records (sym stored) c.recall.ensures.last;
+      ended = held-alone v m last c.copy_state.new.out.state still took.keeps.task took.holds took.quiet took.takes took.keeps.records (sym stored) c.recall-2.ensures.last;
       words = rows-wider k v.hand first.past logged.past read.past last.past (length k) recs.0 c.copy_log.ensures.goes_on (λ p t. c.recall-2.ensures.goes_on p (c.copy_state.ensures.goes_on p t))
           (words-same k logged.hand v.hand logged.past read.past (length k) recs.0 (sym (ap {A = Hand} (λ h. h.records) same ∙ took.keeps.records)) recs.1);
       chronicle = subst (λ (known : List Told). Chronicles o (unavailable g.L.SleepLock.kind) k known m.hand.log) (ap {A = Hand} (λ h. h.records) c.recall.ensures.kept.0 ∙ took.keeps.records)

@@ -1,5 +1,6 @@
 use Rattle.std.proofs.Common.{refl, ap, length, ◌∙◌, subst, List}
 use Rattle.mm_serve.specs.Copying.{IsCopied, KnowPasts}
+use Rattle.mm_serve.specs.Queues.{GoesBackToTasks}
 use Rattle.mm_serve.specs.Workers.{EachOf}
 use Rattle.mm_serve.proofs.Copies.{all-legal, all-complete}
 use Rattle.mm_serve.proofs.Each.{each-map}
@@ -30,3 +31,6 @@ returns-clause-rest g c =
 
 pub returns-clause-past : goal.returns-clause-past
 returns-clause-past g c = subst (λ (sites : List g.row.S.Denot). KnowPasts g.S.SharedObject.knows_past sites c.run.new.gathered.items) c.as_slice.ensures.value c.run.ensures.past
+
+pub returns-clause-tasks : goal.returns-clause-tasks
+returns-clause-tasks g c = subst (λ (sites : List g.row.S.Denot). EachOf (λ k s p. GoesBackToTasks g.S.SharedObject.looked_back g.S.SharedObject.spun g.S.SharedObject.calls_on s p) sites c.run.new.gathered.items) c.as_slice.ensures.value c.run.ensures.tasks

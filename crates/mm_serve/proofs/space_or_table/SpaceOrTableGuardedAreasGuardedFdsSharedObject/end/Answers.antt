@@ -1,6 +1,7 @@
 use Rattle.lock_core.specs.Kinds.{mutex, semaphore}
 use Rattle.vma_map.specs.Spaces.{space}
 use Rattle.fd_table.specs.Tables.{table}
+use Rattle.mm_serve.specs.declared.space_or_table.SpaceOrTablePass.TheVariants.{OfSpace, OfTable}
 use Rattle.mm_serve.proofs.Same.{done-of}
 use Rattle.mm_serve.proofs.space_or_table.SpaceOrTableGuardedAreasGuardedFdsSharedObject.end.Goals.{in-Space-OfSpace, in-Table-OfTable}
 use Rattle.mm_serve.proofs.space_or_table.SpaceOrTableGuardedAreasGuardedFdsSharedObject.end.Goals as goal
@@ -9,4 +10,32 @@ pub returns-clause-done : goal.returns-clause-done
 returns-clause-done g c = elim c.match-self.branch [
   | in-Space-OfSpace w ↦ rw (w.in-Space-OfSpace.is-0, w.pass-is) (done-of space g.A.SleepLock.kind semaphore g.met.A.SpaceLock.counts (g.A.SleepLock.calls_on w.in-Space-OfSpace.site.lock) (g.A.SleepLock.view w.end.new.pass).hand c.args.task w.end.ensures.done)
   | in-Table-OfTable w ↦ rw (w.in-Table-OfTable.is-0, w.pass-is) (done-of table g.T.SleepLock.kind mutex g.met.T.TableLock.owned (g.T.SleepLock.calls_on w.in-Table-OfTable.site.lock) (g.T.SleepLock.view w.end-in-Table-OfTable.new.pass).hand c.args.task w.end-in-Table-OfTable.ensures.done)
+]
+
+pub returns-clause-queue : goal.returns-clause-queue
+returns-clause-queue g c = elim c.match-self.branch [
+  | in-Space-OfSpace w ↦ rw (w.in-Space-OfSpace.is-0, w.pass-is) (
+      let told = w.end.ensures.queue in let q = told.pass in record {
+        pass = OfSpace q;
+        looked = record {
+          own = told.looked.own;
+          serving = told.looked.serving;
+          all = told.looked.all;
+          queue = g.met.A.SpaceLock.has_queue (g.A.SleepLock.calls_on w.in-Space-OfSpace.site.lock) (g.A.SleepLock.view q) (g.A.SleepLock.spun q) told.looked.queue;
+        };
+        goes_on = told.goes_on;
+      }
+      )
+  | in-Table-OfTable w ↦ rw (w.in-Table-OfTable.is-0, w.pass-is) (
+      let told = w.end-in-Table-OfTable.ensures.queue in let q = told.pass in record {
+        pass = OfTable q;
+        looked = record {
+          own = told.looked.own;
+          serving = told.looked.serving;
+          all = told.looked.all;
+          queue = g.met.T.TableLock.has_queue (g.T.SleepLock.calls_on w.in-Table-OfTable.site.lock) (g.T.SleepLock.view q) (g.T.SleepLock.spun q) told.looked.queue;
+        };
+        goes_on = told.goes_on;
+      }
+      )
 ]

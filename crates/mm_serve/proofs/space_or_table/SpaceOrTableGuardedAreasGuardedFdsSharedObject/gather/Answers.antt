@@ -7,3 +7,15 @@ returns-clause-taken g c = elim c.match-self.branch [
   | in-Space-OfSpace-OfSpace w ↦ rw (w.in-Space-OfSpace-OfSpace.is-2, w.into-is) (takes-in (g.A.SleepLock.view w.in-Space-OfSpace-OfSpace.into).hand (g.A.SleepLock.view w.in-Space-OfSpace-OfSpace.other).hand (g.A.SleepLock.view w.gather.new.into).hand w.gather.ensures.kept.0)
   | in-Table-OfTable-OfTable w ↦ rw (w.in-Table-OfTable-OfTable.is-2, w.into-is) (takes-in (g.T.SleepLock.view w.in-Table-OfTable-OfTable.into).hand (g.T.SleepLock.view w.in-Table-OfTable-OfTable.other).hand (g.T.SleepLock.view w.gather-in-Table-OfTable-OfTable.new.into).hand w.gather-in-Table-OfTable-OfTable.ensures.kept.0)
 ]
+
+pub returns-clause-queue : goal.returns-clause-queue
+returns-clause-queue g c = elim c.match-self.branch [
+  | in-Space-OfSpace-OfSpace w ↦ rw (w.in-Space-OfSpace-OfSpace.is-1, w.into-is) w.gather.ensures.queue
+  | in-Table-OfTable-OfTable w ↦ rw (w.in-Table-OfTable-OfTable.is-1, w.into-is) w.gather-in-Table-OfTable-OfTable.ensures.queue
+]
+
+pub returns-clause-others_queue : goal.returns-clause-others_queue
+returns-clause-others_queue g c = elim c.match-self.branch [
+  | in-Space-OfSpace-OfSpace w ↦ rw (w.in-Space-OfSpace-OfSpace.is-2, w.into-is) w.gather.ensures.others_queue
+  | in-Table-OfTable-OfTable w ↦ rw (w.in-Table-OfTable-OfTable.is-2, w.into-is) w.gather-in-Table-OfTable-OfTable.ensures.others_queue
+]

@@ -32,3 +32,9 @@ returns-clause-held g c = elim c.match-self.branch [
   | in-Space-OfSpace w ↦ rw (w.pass-is, w.out-is) w.snapshot.ensures.held
   | in-Table-OfTable w ↦ rw (w.pass-is, w.out-is) w.snapshot-in-Table-OfTable.ensures.held
 ]
+
+pub returns-clause-queue : goal.returns-clause-queue
+returns-clause-queue g c = elim c.match-self.branch [
+  | in-Space-OfSpace w ↦ rw (w.in-Space-OfSpace.is-1, w.pass-is) w.snapshot.ensures.queue
+  | in-Table-OfTable w ↦ rw (w.in-Table-OfTable.is-1, w.pass-is) w.snapshot-in-Table-OfTable.ensures.queue
+]

@@ -34,3 +34,6 @@ pub returns-clause-opened : goal.returns-clause-opened
 returns-clause-opened g c = λ took. let looks = c.is_reader_owned.ensures.kept in let steps = ap (λ (z : V). z.steps) looks in
     takes-within Alone (IsOpen Spun) (shown_of c.args.pass.now) (seen_of c.is_reader_owned.new.pass) (seen_of c.spin-took.new.pass) (shown_of (record { pass = c.spin-took.new.pass; queue = c.unlock.new.pass; tally = c.args.pass.now.tally }))
     (ap (λ (z : V). z.hand.task) looks) (omega (arith, steps)) c.is_reader_owned.ensures.goes_on (c.spin-took.ensures.opened took) (omega arith) (λ p t. t)
+
+pub returns-clause-queue : goal.returns-clause-queue
+returns-clause-queue g c = λ p t. c.unlock.ensures.goes_on p (c.lock.ensures.goes_on p t)

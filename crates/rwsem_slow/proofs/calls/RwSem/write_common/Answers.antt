@@ -32,3 +32,6 @@ returns-in-Ok-clause-tallied g c = let t = c.in-Ok.ensures.tallied in let looks 
 
 pub returns-in-Ok-clause-left : goal.returns-in-Ok-clause-left
 returns-in-Ok-clause-left g c = λ other. c.in-Ok.ensures.left (λ same. other (ap (λ (x : Tally). x.left) c.note_writer.ensures.kept.1.5 ∙ same))
+
+pub returns-in-Ok-clause-queue : goal.returns-in-Ok-clause-queue
+returns-in-Ok-clause-queue g c = λ p t. c.note_writer.ensures.queue p (c.take_alone.ensures.queue p t)
