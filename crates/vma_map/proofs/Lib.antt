@@ -4,6 +4,8 @@ pub mod CountLemmas
 pub mod FaultLemmas
 pub mod QueryLemmas
 pub mod FindLemmas
+pub mod Ascending
+pub mod Narrowing
 mod CutLemmas
 mod SpliceLemmas
 mod SearchLemmas

@@ -4,3 +4,4 @@ pub mod AreaLaws
 pub mod RunLaws
 pub mod CallLaws
 pub mod SpaceLaws
+pub mod Searches

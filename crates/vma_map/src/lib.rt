@@ -6,12 +6,14 @@ mod call;
 mod calls;
 mod query;
 mod range;
+mod search;
 mod store;
 mod words;
 
 pub use areas::Areas;
 pub use call::SpaceCall;
 pub use calls::{apply, meet};
+pub use search::Search;
 pub use store::AreaStore;
 pub use words::find;
 

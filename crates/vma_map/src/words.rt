@@ -1,15 +1,16 @@
 //! The words that store an address space.
 ghost use Rattle.std.specs.Prelude.{◌≡◌, ◌==◌, ◌<◌, ◌≤◌, ◌↔◌, List, [], ◌∷◌, ◌++◌};
-ghost use Rattle.std.specs.Prelude.{drop, length, map, take, IsTrue};
-ghost use Rattle.std.specs.List.{AllByRecursion, list_all};
+ghost use Rattle.std.specs.Prelude.{length, map, IsTrue};
+ghost use Rattle.std.specs.List.{list_all};
 ghost use Rattle.word_bits.specs.AreaWord.{IsArea, area_word};
 ghost use Rattle.word_bits.specs.Packed.{IsFound};
 ghost use Rattle.word_bits.specs.PageMaps.{PageMap, IsPageMap, runs};
 ghost use Rattle.word_bits.specs.declared.area.Area.{Area};
-ghost use Rattle.vma_map.specs.Runs.{AreRuns, IsSpace, page_map, words_of_areas};
+ghost use Rattle.vma_map.specs.Runs.{AreRuns, IsSpace, words_of_areas};
 ghost use Rattle.vma_map.specs.Spaces.{AreSpaceWords, IsRunAt, stores};
 
 use crate::MAX_AREAS;
+use crate::search::Search;
 use arrayvec::ArrayVec;
 use word_bits::Area;
 
@@ -82,31 +83,6 @@ pub(crate) fn load(words: &[u64]) -> Option<ArrayVec<Area, MAX_AREAS>>
     load_areas(used)
 }
 
-/// How many of the areas that have these words begin at the page or before it. A start stands above
-/// all else in its word, so the words ascend as the areas do.
-fn count_begun(words: &[u64], page: u32) -> usize
-    ensures within { result ≤ length words.now }
-    ensures begun { (areas : List Area) → AreRuns areas → map area_word areas ≡ words.now →
-        AllByRecursion (λ area. area.start ≤ page) (take result areas) }
-    ensures others { (areas : List Area) → AreRuns areas → map area_word areas ≡ words.now →
-        AllByRecursion (λ area. page < area.start) (drop result areas) }
-{
-    words.partition_point(|word| word >> 24 <= u64::from(page))
-}
-
-/// The area that has the page, among those that have these words.
-fn find_area(words: &[u64], page: u32) -> Option<Area>
-    ensures { (areas : List Area) → AreRuns areas → map area_word areas ≡ words.now
-        → IsRunAt areas (page_map areas) page result }
-{
-    let begun = count_begun(words, page);
-    if begun == 0 {
-        return None;
-    }
-    let area = Area::unpack(words[begun - 1])?;
-    if page < area.end { Some(area) } else { None }
-}
-
 /// The run that has the page, in the address space that the words store. `None` where the page is
 /// unmapped.
 pub fn find(words: &[u64], page: u32) -> Option<Area>
@@ -114,6 +90,9 @@ pub fn find(words: &[u64], page: u32) -> Option<Area>
     ensures { (m : PageMap) → IsPageMap m → stores m ≡ words.now →
         IsRunAt (runs m) m page result }
 {
-    let count = words[0] as usize;
-    find_area(&words[1..1 + count], page)
+    let mut search = Search::new(page);
+    while let Some(at) = search.want() {
+        search.give(words[at]);
+    }
+    search.answer()
 }

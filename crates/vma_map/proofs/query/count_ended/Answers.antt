@@ -1,5 +1,5 @@
 -- The ends of the areas ascend.
-use Rattle.std.proofs.Common.{◌≡◌, ◌+◌, ◌-◌, ◌/◌, ◌<◌, Some, sym, ap, ◌∙◌, arith}
+use Rattle.std.proofs.Common.{◌≡◌, ◌+◌, ◌-◌, ◌/◌, Some, sym, ap, ◌∙◌, arith}
 use Rattle.std.specs.List.{slice_get}
 use Rattle.word_bits.specs.declared.area.Area.{Area}
 use Rattle.vma_map.proofs.CutLemmas.{ends_ascend}

@@ -3,7 +3,6 @@ use Rattle.std.proofs.Common.{◌≡◌, ℕ, ◌+◌, ◌-◌, ◌<◌, ◌≤�
 use Rattle.std.specs.List.{AllByRecursion}
 use Rattle.std.proofs.lemmas.Grind.{common_steps}
 use Rattle.word_bits.specs.declared.area.Area.{Area}
-use Rattle.word_bits.specs.PageMaps.{runs}
 use Rattle.vma_map.specs.Runs.{page_map, AreRuns, spliced, ends_of}
 use Rattle.vma_map.specs.Spaces.{changed}
 use Rattle.vma_map.proofs.ChangeLemmas.{front-begun, ends-runs, ends-end, ends-start, pieced-many, pieced-space, pieced-pages}

@@ -1,15 +1,10 @@
--- The used words are those of the runs.
-use Rattle.std.proofs.Common.{◌≡◌, ◌+◌, ◌-◌, get_or, subst, arith}
-use Rattle.word_bits.specs.PageMaps.{runs}
-use Rattle.vma_map.specs.RunLaws.{runs-runs, page_map-runs}
-use Rattle.vma_map.specs.SpaceLaws.{IsSpace-runs}
-use Rattle.vma_map.specs.Spaces.{IsRunAt}
-use Rattle.vma_map.proofs.FindLemmas.{used_words}
+-- Each word that is given stands at the place that was wanted.
+use Rattle.std.proofs.Common.{◌≡◌, slice_index, IfSome, refl, sym, subst, ◌∙◌}
 use Rattle.vma_map.proofs.words.find.Goals as goal
 
-pub returns : goal.returns
-returns c =
-    λ m is same.
-    let used = used_words c.args.words.now (runs m) (IsSpace-runs m is) same in
-    let count : 1 + get_or c.args.words.now 0 0 - 1 ≡ get_or c.args.words.now 0 0 = omega arith in
-    subst (λ n. IsRunAt (runs m) n c.args.page c.find_area.result) (page_map-runs m is) (c.find_area.ensures (runs m) (runs-runs m is.prots) (rw count used.2))
+pub loop-at-preserved : goal.loop-at-preserved
+loop-at-preserved c =
+    let words = c.args.words.now in (
+      c.give.ensures.page ∙ c.loop-at.invariant.0,
+      c.give.ensures.agrees words (subst (λ o. IfSome o (λ i. slice_index words i ≡ slice_index words c.in-Some.at)) (sym c.in-Some.is ∙ c.want.ensures.is) refl) c.loop-at.invariant.1,
+    )

@@ -1,5 +1,5 @@
 -- What is returned is what the meaning of the words says, which is exact.
-use Rattle.std.proofs.Common.{◌≡◌, sym, subst, arith}
+use Rattle.std.proofs.Common.{◌≡◌, subst, arith}
 use Rattle.std.proofs.lemmas.Grind.{common_steps}
 use Rattle.word_bits.specs.Packed.{IsFound}
 use Rattle.vma_map.specs.Spaces.{IsCallOf, call_of}
