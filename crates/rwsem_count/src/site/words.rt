@@ -8,7 +8,7 @@ ghost use Rattle.lock_core.specs.declared.layout.TheConstants.{LOCK_WORDS};
 ghost use Rattle.lock_core.specs.Layout.{entry_place, length_place, record_place};
 ghost use Rattle.lock_core.specs.Pasts.{FoundAt};
 ghost use Rattle.lock_core.specs.Records.{row};
-ghost use Rattle.lock_core.specs.Views.{ticked, handed, wrote, after_commit, after_note, sending, Unsent};
+ghost use Rattle.lock_core.specs.Views.{ticked, handed, wrote, after_commit, after_note, sending, OwesNoSignal, Unsent};
 ghost use Rattle.lock_core.specs.Chronicles.{Chronicles};
 ghost use Rattle.lock_core.specs.Passes.{Consumes, IsEntryWord, TellsKnown};
 ghost use Rattle.rwsem_count.specs.Handles.{plan_of, view_of, hand_in, past_of, task_in, held_in, done_in, front_in, transit_in, IsLatest, IsNextChange, IsNextSignal, KeepsPast, MayNoteNext, SawNonePending, SawOwnSignals, SitsAt, UndoneIsZero};
@@ -57,7 +57,7 @@ impl<O: Object> CountSite<O> {
         requires held { held_in pass.old ≡ Alone }
         requires numbered { IsSome (task_in pass.old) }
         requires call { call ≡ (done_in pass.old) }
-        requires unsent { (hand_in pass.old).sent ≡ None }
+        requires recorded { OwesNoSignal (hand_in pass.old) }
         requires next { IsNextChange O.object self.now pass.old reply }
         ensures own { SitsAt self.now pass.new }
         ensures goes_on { KeepsPast pass.old pass.new }
