@@ -3,7 +3,7 @@ ghost use Rattle.std.specs.Prelude.{◌≡◌, ◌≢◌, ◌<◌, ◌≤◌, �
 ghost use Rattle.lock_core.specs.declared.view.Held.TheVariants.{No, Alone};
 ghost use Rattle.lock_core.specs.declared.layout.TheConstants.{LOCK_WORDS};
 ghost use Rattle.lock_core.specs.Records.{IsPlan};
-ghost use Rattle.lock_core.specs.Views.{first, ticked, handed, split_off, merged, gave_up, wrote, after_commit, after_note, OwesNoSignal, Unsent, BesideForgetting, HoldsNothing, OwesNoSignal};
+ghost use Rattle.lock_core.specs.Views.{first, ticked, handed, split_off, merged, gave_up, wrote, after_commit, after_note, Unsent, BesideForgetting, HoldsNothing, OwesNoSignal};
 ghost use Rattle.lock_core.specs.Pasts.{EachMoment, FoundAt, IsMarked, Paced, Tail};
 ghost use Rattle.lock_core.specs.Stated.{IsNew};
 ghost use Rattle.lock_core.specs.Locked.{IsSiteStep};
