@@ -13,12 +13,14 @@ use Rattle.word_bits.specs.Calls.{mode_of, signal_of}
 use Rattle.word_bits.specs.Objects.{Obj, IsObjectReply}
 use Rattle.word_bits.specs.Histories.{Plan, logs, changes, state_after}
 use Rattle.word_bits.specs.Legal.{IsRecord, IsUnheldReply, is_intr, seen_after}
+use Rattle.lock_core.specs.declared.tally.Tally.{Tally}
 use Rattle.lock_core.specs.declared.view.Hand.{Hand}
 use Rattle.lock_core.specs.declared.view.Held.{Held}
 use Rattle.lock_core.specs.declared.view.Held.TheVariants.{No}
 use Rattle.lock_core.specs.declared.view.Stage.{Stage}
 use Rattle.lock_core.specs.declared.view.Stage.TheVariants.{Logged}
 use Rattle.lock_core.specs.Records.{is_sent, row}
+use Rattle.lock_core.specs.Tallies.{raised}
 use Rattle.lock_core.specs.Views.{recorded, committed, noted, next_entry, OwesNoSignal, Unsent}
 use Rattle.lock_core.specs.Passes.{IsReading, MayNote}
 use Rattle.lock_core.proofs.RowLaws.{get-last}
@@ -69,6 +71,7 @@ adds-freed wakes rec seen v m u a f = record {
   takes = f.takes ∙ a.takes;
   fronts = f.fronts ∙ a.fronts;
   line = f.line ∙ a.line;
+  tally = f.tally ∙ a.tally;
   counts = counts-trans v m u a.counts f.keeps.counts;
 }
 
@@ -87,6 +90,7 @@ adds v m stage writes known log step rec seen e b = record {
   takes = ap {A = Hand} (λ h. h.takes) e;
   fronts = b.1;
   line = b.2;
+  tally = b.5;
   counts = counts-beside v m (ap {A = Hand} (λ h. h.misses) e) b;
 }
 
@@ -286,8 +290,9 @@ refused-unsent kind at v m reads mode Intr owes why = let more = why.1.1.consume
 module _ {Call : Type 0} (o : Obj Call) (kind : Kind) (at : ℕ) (k : Plan) where
   -- a call that held
   pub performs-served : (v m u : Shown) (words : CallWords) (c : Call) (reads : Bool) (reply : Reply) (how : Held) → IsNextCall k v.hand words → o.call_of words ≡ Some c → reads ≡ o.reads c → signal_of words ≡ None → (v.hand.sent ≡ None) × (v.hand.consumed ≡ 0)
-      → Takes o k how v m → (mode_of words ≡ Try → TriesOnce v m) → (mode_of words ≢ Try → KeepsPlace kind reads at v m) → Serves o kind k words reply m u → PastGoesOn m u → Performs o kind at k reply v u
-  performs-served v m u words c reads reply how next is same unsent accounted takes once line serves goes =
+      → Takes o k how v m → (mode_of words ≡ Try → TriesOnce v m) → (mode_of words ≢ Try → KeepsPlace kind reads at v m) → Serves o kind k words reply m u → PastGoesOn m u
+      → m.tally.interrupted ≡ v.tally.interrupted → Performs o kind at k reply v u
+  performs-served v m u words c reads reply how next is same unsent accounted takes once line serves goes counted =
       let entry = same-entry v.hand m.hand takes.keeps.task takes.keeps.done in
       let place : serves.rec.k ≡ length m.hand.log = ap {A = Rec} (λ r. r.k) serves.says in
       let long = takes.begins.0 in
@@ -310,6 +315,7 @@ module _ {Call : Type 0} (o : Obj Call) (kind : Kind) (at : ℕ) (k : Plan) wher
         signals = λ some. absurd (false≢true (subst IsSome unsent some));
         busy = λ word e. absurd (subst IsObjectReply e serves.replies);
         interrupted = λ e. absurd (subst IsObjectReply e serves.replies);
+        counted = ap (λ (t : Tally). t.interrupted) serves.adds.tally ∙ (counted ∙ sym (ap (λ (b : Bool). raised b v.tally.interrupted) (reply-unintr reply serves.replies)));
         at_once = λ tries. tries-after v m u (once tries) serves.adds.line serves.adds.fronts serves.adds.misses;
         line = λ waits. place-after kind _ at v m u (subst (λ b. KeepsPlace kind b at v m) (is-reads reads (changes o words) (is_intr reply) (changes-is o words c is ∙ ap not (sym same)) (reply-unintr reply serves.replies)) (line waits))
             serves.adds.misses serves.adds.fronts serves.adds.saw serves.adds.counts.entries serves.adds.counts.steps goes;
@@ -320,8 +326,9 @@ module _ {Call : Type 0} (o : Obj Call) (kind : Kind) (at : ℕ) (k : Plan) wher
       → u.hand.records ≡ record { entry = next_entry v.hand; rec = record { k = length v.hand.seen; reply = reply } } ∷ v.hand.records → u.hand.task ≡ v.hand.task → u.hand.done ≡ v.hand.done + 1 → u.hand.held ≡ No → u.hand.takes ≡ v.hand.takes + takes_by reply → (u.hand.sent ≡ None) × (u.hand.consumed ≡ 0) → NoCountFalls v u
       → (IsSome (signal_of words) → reply ≡ Sent) → ((word : ℕ) → reply ≡ Busy word → (c : Call) × (o.call_of words ≡ Some c) × Sees kind (o.reads c) at word v u)
       → (reply ≡ Intr → (c : Call) × (why : Interrupted) × (word : ℕ) × (o.call_of words ≡ Some c) × SawPending why v u × Sees kind (o.reads c) at word v u)
+      → u.tally.interrupted ≡ raised (is_intr reply) v.tally.interrupted
       → (mode_of words ≡ Try → TriesOnce v u) → (mode_of words ≢ Try → KeepsPlace kind (not (changes o words) && not (is_intr reply)) at v u) → Performs o kind at k reply v u
-  performs-unheld v u words reply next why unlogged seen records task done out takes accounted goes signals busy interrupted once line = record {
+  performs-unheld v u words reply next why unlogged seen records task done out takes accounted goes signals busy interrupted counted once line = record {
     words = words;
     rec = record { k = length v.hand.seen; reply = reply };
     next = next;
@@ -340,6 +347,7 @@ module _ {Call : Type 0} (o : Obj Call) (kind : Kind) (at : ℕ) (k : Plan) wher
     signals = signals;
     busy = busy;
     interrupted = interrupted;
+    counted = counted;
     at_once = once;
     line = line;
   }
@@ -352,6 +360,7 @@ module _ {Call : Type 0} (o : Obj Call) (kind : Kind) (at : ℕ) (k : Plan) wher
       let misses = ap {A = Hand} (λ h. h.misses) now in let takes = ap {A = Hand} (λ h. h.takes) now in
       performs-unheld v u words Sent next (subst IsSome (sym is) refl) refl (ap {A = Hand} (λ h. h.seen) now) (ap {A = Hand} (λ h. h.records) now) (ap {A = Hand} (λ h. h.task) now) (ap {A = Hand} (λ h. h.done) now) (ap {A = Hand} (λ h. h.held) now ∙ out) (omega (arith, takes))
       (ap {A = Hand} (λ h. h.sent) now, ap {A = Hand} (λ h. h.consumed) now ∙ consumed) (counts-beside v u misses along) (λ _. refl) (λ word e. absurd (false≢true (subst (λ r. is_sent r ≡ true) e refl))) (λ e. absurd (false≢true (subst (λ r. is_sent r ≡ true) e refl)))
+      (ap (λ (t : Tally). t.interrupted) along.5)
       (λ _. (along.2, along.1, omega (arith, misses)))
       (λ _. record { queues = λ rise. absurd (omega arith); few = λ _. omega arith })
 
@@ -412,6 +421,7 @@ module _ {Call : Type 0} (o : Obj Call) (kind : Kind) (at : ℕ) (k : Plan) wher
       (counts-trans v m u keeps.counts (counts-beside m u misses beside)) (λ some. absurd (false≢true (subst IsSome unsent some)))
       (λ word e. (c, is, subst (λ b. Sees kind b at word v u) same (subst (λ n. Sees kind reads at n v u) (ap busy_word e) (sees-on kind reads at w v m u (ap {A = Hand} (λ h. h.saw) hand) beside.3 goes sees))))
       (λ e. absurd (false≢true (subst (λ r. is_busy r ≡ true) e refl)))
+      (ap (λ (t : Tally). t.interrupted) (beside.5 ∙ why.1.tally))
       (λ tries. tries-after v m u (once (says ∙ tries)) beside.2 beside.1 misses)
       (λ waits. absurd (waits (sym says ∙ why.0)))
   performs-refused v m u words c reads mode Intr step next is same says unsent accounted why once line hand beside goes =
@@ -426,6 +436,7 @@ module _ {Call : Type 0} (o : Obj Call) (kind : Kind) (at : ℕ) (k : Plan) wher
       (counts-trans v m u keeps.counts (counts-beside m u misses beside)) (λ some. absurd (false≢true (subst IsSome unsent some)))
       (λ word e. absurd (false≢true (subst (λ r. is_intr r ≡ true) e refl)))
       (λ e. (c, why.1.0, cut.word, is, pending-on why.1.0 v m u beside.3 goes cut.heard, subst (λ b. Sees kind b at cut.word v u) same (sees-on kind reads at cut.word v m u (ap {A = Hand} (λ h. h.saw) hand) beside.3 goes cut.sees)))
+      (ap (λ (t : Tally). t.interrupted) beside.5 ∙ why.2)
       (λ tries. tries-after v m u (once (says ∙ tries)) beside.2 beside.1 misses)
       (λ waits. subst (λ b. KeepsPlace kind b at v u) (and-false (not (changes o words)))
       (place-after kind false at v m u (line (λ tries. waits (sym says ∙ tries))) misses beside.1 (ap {A = Hand} (λ h. h.saw) hand) (eq-le _ _ beside.0) beside.3 goes))
@@ -495,6 +506,7 @@ module _ (v w u : Shown) (looks : Looks v w) (goes : PastGoesOn v w) where
     signals = p.signals;
     busy = λ word is. let b = p.busy word is in (b.0, b.1, sees-from kind (o.reads b.0) at word b.2);
     interrupted = λ is. let b = p.interrupted is in (b.0, b.1, b.2, b.3, pending-from b.1 b.4, sees-from kind (o.reads b.0) at b.2 b.5);
+    counted = p.counted ∙ ap (λ (t : Tally). raised (is_intr reply) t.interrupted) looks.1.5;
     at_once = λ tries. let t = p.at_once tries in (t.0 ∙ looks.1.2, t.1 ∙ looks.1.1, (let l = t.2 in let m = ap {A = Hand} (λ h. h.misses) e in omega (arith, l, m)));
     line = λ waits. place-from kind _ at (p.line waits);
   }

@@ -1,5 +1,5 @@
 -- What `perform` does.
-use Rattle.std.specs.Prelude.{◌≡◌, ◌≢◌, ℕ, ◌+◌, ◌≤◌, ◌&&◌, not, Bool, List, ◌∷◌, length, take, Some, None, IsSome}
+use Rattle.std.specs.Prelude.{◌≡◌, ◌≢◌, ℕ, ◌+◌, ◌≤◌, ◌&&◌, not, Bool, true, List, ◌∷◌, length, take, Some, None, IsSome}
 use Rattle.word_bits.specs.declared.call.CallWords.{CallWords}
 use Rattle.word_bits.specs.declared.call.Mode.{Mode}
 use Rattle.word_bits.specs.declared.call.Mode.TheVariants.{Int, Try}
@@ -15,6 +15,7 @@ use Rattle.lock_core.specs.declared.how.Interrupted.{Interrupted}
 use Rattle.lock_core.specs.declared.view.Held.TheVariants.{No}
 use Rattle.lock_core.specs.declared.view.Hand.{Hand}
 use Rattle.lock_core.specs.Views.{committed, next_entry}
+use Rattle.lock_core.specs.Tallies.{raised}
 use Rattle.guarded.specs.declared.next.Next.{Next}
 use Rattle.lock_core.specs.Kinds.{Kind, unavailable}
 use Rattle.lock_core.specs.Shown.{Shown, NoCountFalls, IsNextCall}
@@ -39,10 +40,10 @@ Changes o k call reply v u = HasSince (λ step. committed (record v.hand { known
 abbrev pub no_word : ℕ → Type 0
 no_word word = ⊥
 
--- why a call never held the lock, by its reply
+-- why a call never held the lock, by its reply; one that was interrupted counted that
 abbrev pub Refuses : Kind → ℕ → Mode → Bool → Reply → Shown → Shown → Type 0
 Refuses kind at mode reads (Busy word) v u = (mode ≡ Try) × Misses kind reads at word v u
-Refuses kind at mode reads Intr v u = (mode ≡ Int) × ((why : Interrupted) × Interrupts kind reads at why v u)
+Refuses kind at mode reads Intr v u = (mode ≡ Int) × ((why : Interrupted) × Interrupts kind reads at why v u) × (u.tally.interrupted ≡ raised true v.tally.interrupted)
 Refuses kind at mode reads reply v u = ⊥
 
 -- it failed one try at most, was in no list, and wasn't the front of a spin queue
@@ -73,6 +74,7 @@ pub record AddsRecord (rec : Rec) (seen : List Entry) (v u : Shown) : Type 0 whe
   pub takes : u.hand.takes ≡ v.hand.takes
   pub fronts : u.fronts ≡ v.fronts
   pub line : u.line ≡ v.line
+  pub tally : u.tally ≡ v.tally
   pub counts : NoCountFalls v u
 
 -- a pass that holds did the call, recorded it at the end of the log that it knew, and holds nothing
@@ -113,5 +115,7 @@ pub record Performs {Call : Type 0} (o : Obj Call) (kind : Kind) (at : ℕ) (k :
   pub interrupted : reply ≡ Intr → (c : Call) × (why : Interrupted) × (word : ℕ) × (o.call_of words ≡ Some c) × SawPending why v u × Sees kind (o.reads c) at word v u
   -- a call in mode try doesn't wait
   pub at_once : mode_of words ≡ Try → TriesOnce v u
+  -- it counts an interruption exactly where that is its reply
+  pub counted : u.tally.interrupted ≡ raised (is_intr reply) v.tally.interrupted
   -- one that waits keeps its place in line
   pub line : mode_of words ≢ Try → KeepsPlace kind (not (changes o words) && not (is_intr reply)) at v u

@@ -1,5 +1,5 @@
 //! The trait of the locks that tasks sleep on.
-ghost use Rattle.std.specs.Prelude.{◌≡◌, ◌≢◌, ℕ, ◌+◌, ◌<◌, true, false, List, [], ◌∷◌, length, slice_get, slice_index, Some, None, IsSome, IfOk, IfErr};
+ghost use Rattle.std.specs.Prelude.{◌≡◌, ◌≢◌, ℕ, ◌+◌, ◌<◌, true, false, List, [], ◌∷◌, length, slice_get, slice_index, Some, None, IsSome, Ok, IfOk, IfErr};
 ghost use Rattle.word_bits.specs.declared.rec.Rec.{Rec as Record};
 ghost use Rattle.word_bits.specs.RecWord.{IsRec, rec_word};
 ghost use Rattle.word_bits.specs.Histories.{Plan as Calls};
@@ -17,11 +17,12 @@ ghost use Rattle.lock_core.specs.Stated.{IsNew};
 ghost use Rattle.lock_core.specs.Chronicles.{Chronicles};
 ghost use Rattle.lock_core.specs.Kinds.{Kind, unavailable, shares, wakes_shared, wakes_alone};
 ghost use Rattle.lock_core.specs.Shown.{Shown, Stands, AllButHand, PastGoesOn, IsLatestStep, shown_new, shown_split};
-ghost use Rattle.lock_core.specs.Locking.{Looks, Has, HasSince, Takes, Misses, Interrupts, Releases, Downgrades, Got, KeepsPlace};
+ghost use Rattle.lock_core.specs.Locking.{Looks, Has, HasSince, Takes, Misses, Interrupts, Releases, Downgrades, Got, KeepsPlace, TalliesLock};
 ghost use Rattle.lock_core.specs.Locked.{IsLockedThen, IsSiteStep};
+ghost use Rattle.osq_unqueue.specs.Rising.{LeavesForCpu};
 
 use cpu_task::Crew;
-use lock_core::{Held, How, Interrupted, Plan};
+use lock_core::{Held, How, Interrupted, Plan, Tally};
 use std::alloc::{AllocError, Global};
 use std::sync::Wait;
 use word_bits::{CallWords, MAX_TASKS, Object, Reply};
@@ -308,6 +309,10 @@ pub trait SleepLock<O: Object>: Sized {
         requires { sits self.now pass.now }
         ensures { result ≡ length (view pass.now).hand.seen };
 
+    /// What the pass has counted of its calls that wait.
+    fn tally(pass: &Self::Pass) -> Tally
+        ensures { result ≡ (view pass.now).tally };
+
     /// Waits until the pass holds beside others that hold shared.
     fn shared<W: Wait, C: Crew>(
         &self,
@@ -324,6 +329,9 @@ pub trait SleepLock<O: Object>: Sized {
         ensures took { Takes O.object (calls_on self.now) (shares kind)
             (view pass.old) (view pass.new) }
         ensures how { Got result (view pass.old) (view pass.new) }
+        ensures tallied { TalliesLock (Ok result) (view pass.old) (view pass.new) }
+        ensures left { LeavesForCpu (C.C.rescheds cpu.old) (C.C.rescheds cpu.new)
+            (view pass.old) (view pass.new) }
         ensures line { KeepsPlace kind true word_at (view pass.old) (view pass.new) };
 
     /// Waits until the pass holds alone.
@@ -342,6 +350,9 @@ pub trait SleepLock<O: Object>: Sized {
         ensures queue { GoesOn (spun pass.old) (spun pass.new) }
         ensures took { Takes O.object (calls_on self.now) Alone (view pass.old) (view pass.new) }
         ensures how { Got result (view pass.old) (view pass.new) }
+        ensures tallied { TalliesLock (Ok result) (view pass.old) (view pass.new) }
+        ensures left { LeavesForCpu (C.C.rescheds cpu.old) (C.C.rescheds cpu.new)
+            (view pass.old) (view pass.new) }
         ensures line { KeepsPlace kind false word_at (view pass.old) (view pass.new) };
 
     /// As `shared`, until a signal interrupts it.
@@ -362,6 +373,9 @@ pub trait SleepLock<O: Object>: Sized {
         ensures how { IfOk result (λ how. Got how (view pass.old) (view pass.new)) }
         ensures line { IfOk result (λ _.
             KeepsPlace kind true word_at (view pass.old) (view pass.new)) }
+        ensures tallied { TalliesLock result (view pass.old) (view pass.new) }
+        ensures left { LeavesForCpu (C.C.rescheds cpu.old) (C.C.rescheds cpu.new)
+            (view pass.old) (view pass.new) }
         ensures interrupted { IfErr result (λ why.
             Interrupts kind true word_at why (view pass.old) (view pass.new)) }
         ensures stood { IfErr result (λ _.
@@ -385,6 +399,9 @@ pub trait SleepLock<O: Object>: Sized {
         ensures how { IfOk result (λ how. Got how (view pass.old) (view pass.new)) }
         ensures line { IfOk result (λ _.
             KeepsPlace kind false word_at (view pass.old) (view pass.new)) }
+        ensures tallied { TalliesLock result (view pass.old) (view pass.new) }
+        ensures left { LeavesForCpu (C.C.rescheds cpu.old) (C.C.rescheds cpu.new)
+            (view pass.old) (view pass.new) }
         ensures interrupted { IfErr result (λ why.
             Interrupts kind false word_at why (view pass.old) (view pass.new)) }
         ensures stood { IfErr result (λ _.

@@ -2,7 +2,7 @@
 
 use crate::lock::SleepLock;
 use cpu_task::Crew;
-use lock_core::{Held, How, Interrupted, Plan};
+use lock_core::{Held, How, Interrupted, Plan, Tally};
 use mutex_slow::{Mutex, MutexPass};
 use std::alloc::{AllocError, Global};
 use std::sync::Wait;
@@ -137,6 +137,10 @@ impl<O: Object> SleepLock<O> for Mutex<O> {
 
     fn front(&self, pass: &MutexPass<O>) -> u32 {
         self.front(pass)
+    }
+
+    fn tally(pass: &MutexPass<O>) -> Tally {
+        pass.tally()
     }
 
     fn shared<W: Wait, C: Crew>(

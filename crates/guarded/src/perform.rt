@@ -152,6 +152,8 @@ impl<L: SleepLock<O>, O: Served + Drop> Guarded<L, O> {
         ensures goes_on { PastGoesOn (L.view pass.old) (L.view pass.new) }
         ensures took { IfOk result (λ _. Takes O.object (L.calls_on (lock_of self.now))
             (held_by L.kind reads) (L.view pass.old) (L.view pass.new)) }
+        ensures counted { IfOk result (λ _. (L.view pass.new).tally.interrupted ≡
+            (L.view pass.old).tally.interrupted) }
         ensures line { IfOk result (λ _. mode ≢ Try →
             KeepsPlace L.kind reads L.word_at (L.view pass.old) (L.view pass.new)) }
         ensures at_once { mode ≡ Try → TriesOnce (L.view pass.old) (L.view pass.new) }
@@ -186,6 +188,8 @@ impl<L: SleepLock<O>, O: Served + Drop> Guarded<L, O> {
         ensures goes_on { PastGoesOn (L.view pass.old) (L.view pass.new) }
         ensures took { Takes O.object (L.calls_on (lock_of self.now))
             (held_by L.kind reads) (L.view pass.old) (L.view pass.new) }
+        ensures counted { (L.view pass.new).tally.interrupted ≡
+            (L.view pass.old).tally.interrupted }
         ensures line { KeepsPlace L.kind reads L.word_at (L.view pass.old) (L.view pass.new) }
     {
         if reads {
@@ -211,6 +215,8 @@ impl<L: SleepLock<O>, O: Served + Drop> Guarded<L, O> {
         ensures goes_on { PastGoesOn (L.view pass.old) (L.view pass.new) }
         ensures took { IfOk result (λ _. Takes O.object (L.calls_on (lock_of self.now))
             (held_by L.kind reads) (L.view pass.old) (L.view pass.new)) }
+        ensures counted { IfOk result (λ _. (L.view pass.new).tally.interrupted ≡
+            (L.view pass.old).tally.interrupted) }
         ensures line { IfOk result (λ _.
             KeepsPlace L.kind reads L.word_at (L.view pass.old) (L.view pass.new)) }
         ensures refused { IfErr result (λ reply. Refuses L.kind L.word_at Int reads reply
@@ -238,6 +244,8 @@ impl<L: SleepLock<O>, O: Served + Drop> Guarded<L, O> {
         ensures goes_on { PastGoesOn (L.view pass.old) (L.view pass.new) }
         ensures took { IfOk result (λ _. Takes O.object (L.calls_on (lock_of self.now))
             (held_by L.kind reads) (L.view pass.old) (L.view pass.new)) }
+        ensures counted { IfOk result (λ _. (L.view pass.new).tally.interrupted ≡
+            (L.view pass.old).tally.interrupted) }
         ensures refused { IfErr result (λ reply. Refuses L.kind L.word_at Try reads reply
             (L.view pass.old) (L.view pass.new)) }
         ensures at_once { TriesOnce (L.view pass.old) (L.view pass.new) }

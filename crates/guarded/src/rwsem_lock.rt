@@ -2,7 +2,7 @@
 
 use crate::lock::SleepLock;
 use cpu_task::Crew;
-use lock_core::{Held, How, Interrupted, Plan};
+use lock_core::{Held, How, Interrupted, Plan, Tally};
 use rwsem_slow::{RwPass, RwSem};
 use std::alloc::{AllocError, Global};
 use std::sync::Wait;
@@ -138,6 +138,10 @@ impl<O: Object> SleepLock<O> for RwSem<O> {
 
     fn front(&self, pass: &RwPass<O>) -> u32 {
         self.front(pass)
+    }
+
+    fn tally(pass: &RwPass<O>) -> Tally {
+        pass.tally()
     }
 
     fn shared<W: Wait, C: Crew>(

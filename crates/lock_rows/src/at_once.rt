@@ -10,7 +10,7 @@ ghost use Rattle.lock_rows.specs.Between.{IsFresh, HasDoneItsCalls};
 use crate::serve::copy_of;
 use cpu_task::{Crew, Gate, OpenGate, Turns};
 use guarded::{Guarded, Served, SleepLock};
-use lock_core::Plan;
+use lock_core::{Plan, Tally};
 use std::alloc::{AllocError, Global};
 use std::sync::Wait;
 use std::thread::{Threads, join};
@@ -27,15 +27,15 @@ pub trait Start: Gate {
     /// Returns once the task may begin.
     fn begins(&self, task: u32);
 
-    /// Is told that the task has done its calls.
-    fn ended(&self, task: u32);
+    /// Is told that the task has done its calls, and what its pass counted of them.
+    fn ended(&self, task: u32, tally: Tally);
 }
 
 /// All tasks begin at once.
 impl Start for OpenGate {
     fn begins(&self, _task: u32) {}
 
-    fn ended(&self, _task: u32) {}
+    fn ended(&self, _task: u32, _tally: Tally) {}
 }
 
 /// Does all calls of the task, by a pass that has seen nothing, and gives the number back. Waits
@@ -64,7 +64,7 @@ fn serve_all<W: Wait, C: Crew, G: Start, L: SleepLock<O>, O: Served + Drop>(
     }
     guarded.perform_all(rt, &mut pass, &mut cpu, crew, gate, task);
     guarded.end(&mut pass);
-    gate.ended(task);
+    gate.ended(task, L::tally(&pass));
     pass
 }
 

@@ -9,7 +9,7 @@ use crate::plans::{
 };
 use cpu_task::{Gate, HoldGate, ParkCrew};
 use guarded::RwSem;
-use lock_core::Plan;
+use lock_core::{Plan, Tally};
 use std::alloc::{AllocError, Global};
 use std::sync::Wait;
 use std::test::Fail;
@@ -57,7 +57,7 @@ impl Start for InTurn {
         }
     }
 
-    fn ended(&self, _task: u32) {}
+    fn ended(&self, _task: u32, _tally: Tally) {}
 }
 
 /// What the tasks of the plan leave on a space. `None` where they weren't all inside together.

@@ -9,7 +9,7 @@ use crate::plans::{
 };
 use cpu_task::{Gate, ScriptedCrew};
 use guarded::{Mutex, RwSem, SleepLock};
-use lock_core::Plan;
+use lock_core::{Plan, Tally};
 use std::alloc::{AllocError, Global};
 use std::sync::Wait;
 use std::sync::atomic::{AtomicBool, Ordering};
@@ -61,7 +61,7 @@ impl Start for KeepOut {
         }
     }
 
-    fn ended(&self, task: u32) {
+    fn ended(&self, task: u32, _tally: Tally) {
         if task == 1 {
             self.done.store(true, Ordering::SeqCst);
         }

@@ -26,4 +26,6 @@ mod serve_tests;
 #[cfg(test)]
 mod sleeper_tests;
 #[cfg(test)]
+mod tally_tests;
+#[cfg(test)]
 mod threads_tests;

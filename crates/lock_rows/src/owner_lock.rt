@@ -3,7 +3,7 @@
 
 use cpu_task::Crew;
 use guarded::SleepLock;
-use lock_core::{Held, How, Interrupted, Plan};
+use lock_core::{Held, How, Interrupted, Plan, Tally};
 use mutex_word::{OwnerPass, OwnerSite};
 use std::alloc::{AllocError, Global};
 use std::sync::Wait;
@@ -141,6 +141,10 @@ impl<O: Object> SleepLock<O> for OwnerLock<O> {
 
     fn front(&self, pass: &OwnerPass<O>) -> u32 {
         pass.front()
+    }
+
+    fn tally(_pass: &OwnerPass<O>) -> Tally {
+        Tally::new()
     }
 
     fn shared<W: Wait, C: Crew>(

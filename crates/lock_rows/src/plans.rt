@@ -40,6 +40,16 @@ pub fn int_map_page(start: u32) -> CallWords
     }
 }
 
+/// The call `map START 1 r--`, which waits until a signal interrupts it.
+pub fn int_map_readable(start: u32) -> CallWords
+    ensures { IsCallOrSignal space result }
+{
+    CallWords {
+        a: u64::from(start) + (1 << 32),
+        b: 1 + (1 << 8) + (1 << 24),
+    }
+}
+
 /// The call `fault PAGE r` in plain mode.
 pub fn fault_page(page: u32) -> CallWords
     ensures { IsCallOrSignal space result }

@@ -5,7 +5,7 @@ use crate::interrupt_tests::{KIND, VALUE, await_flag};
 use crate::plans::{fault_page, map_page, push_calls, try_fault_page};
 use cpu_task::{Cpu, Crew, Gate, ParkCpu, ParkCrew, Turns};
 use guarded::RwSem;
-use lock_core::Plan;
+use lock_core::{Plan, Tally};
 use std::alloc::{AllocError, Global};
 use std::sync::Wait;
 use std::sync::atomic::{AtomicBool, Ordering};
@@ -39,7 +39,7 @@ impl Start for BehindSleeper {
         }
     }
 
-    fn ended(&self, task: u32) {
+    fn ended(&self, task: u32, _tally: Tally) {
         if task == 2 {
             self.tried.store(true, Ordering::SeqCst);
         }

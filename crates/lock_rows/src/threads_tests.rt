@@ -13,7 +13,7 @@ use crate::plans::{
 use cpu_task::{Gate, ParkCrew};
 use fd_table::{Fds, TableCall};
 use guarded::{Mutex, RwSem, SleepLock};
-use lock_core::Plan;
+use lock_core::{Plan, Tally};
 use std::alloc::{AllocError, Global};
 use std::sync::Wait;
 use std::sync::atomic::{AtomicBool, AtomicU64, Ordering};
@@ -72,7 +72,7 @@ impl Gate for Exclusion {
 impl Start for Exclusion {
     fn begins(&self, _task: u32) {}
 
-    fn ended(&self, _task: u32) {}
+    fn ended(&self, _task: u32, _tally: Tally) {}
 }
 
 /// A task's rounds on the table. It sends its signals to the other one.

@@ -4,6 +4,9 @@ use Rattle.std.specs.Prelude.{find, ok_or}
 use Rattle.std.specs.Option.{option_map_or}
 use Rattle.std.specs.Borrow.{Bor}
 use Rattle.std.specs.Str.{bytes_eq}
+use Rattle.std.proofs.lemmas.Bool.{false≢true, or_cases}
+use Rattle.std.proofs.lemmas.Bool.Decides.{when_true}
+use Rattle.std.proofs.lemmas.Slice.Eq.{bytes_eq-Decides}
 use Rattle.clap.specs.Facts.{Entry}
 use Rattle.clap.specs.Faults.{fault_of, is_simple_and_free}
 use Rattle.clap.specs.Kinds.{IsAmong, Kinds}
@@ -19,7 +22,7 @@ use Rattle.clap.proofs.WalkLemmas.{find_row, first_value-rows}
 use Rattle.mm_main.specs.declared.options.Options.{Options}
 use Rattle.mm_main.specs.declared.options.OptionsError.{OptionsError}
 use Rattle.mm_main.specs.declared.options.OptionsError.TheVariants.{Misused}
-use Rattle.mm_main.specs.CommandLine.{JoinedOptionsSay, LoneOptionsSay, RepeatedOptionsSayNothing, is_from_words, is_used, number_if_used, number_or, options_from, options_of, options_with, the_command, unless_faulty}
+use Rattle.mm_main.specs.CommandLine.{JoinedOptionsSay, LoneOptionsSay, QuestionsSayNothing, RepeatedOptionsSayNothing, is_from_words, is_used, number_if_used, number_or, options_from, options_of, options_with, the_command, unless_faulty}
 use Rattle.mm_main.specs.Parsed.{Gives, error_of}
 
 -- of this command clap says exactly what it takes
@@ -115,6 +118,24 @@ lone_options_say value = (refl, refl, refl, refl, refl)
 pub repeated_options_say_nothing : RepeatedOptionsSayNothing
 unfolding options_of clap_on_literals
 repeated_options_say_nothing value other = (refl, refl, refl, refl)
+
+long_question : options_of (codes "--help" ∷ []) ≡ None
+unfolding options_of clap_on_literals
+long_question = refl
+
+short_question : options_of (codes "-h" ∷ []) ≡ None
+unfolding options_of clap_on_literals
+short_question = refl
+
+question : (word : Text) → (bytes_eq word (codes "--help") ≡ true) ⊎ (bytes_eq word (codes "-h") ≡ true) → options_of (word ∷ []) ≡ None
+question word (inl is) = ap (λ (w : Text). options_of (w ∷ [])) (when_true _ _ is (bytes_eq-Decides word (codes "--help"))) ∙ long_question
+question word (inr is) = ap (λ (w : Text). options_of (w ∷ [])) (when_true _ _ is (bytes_eq-Decides word (codes "-h"))) ∙ short_question
+
+-- words that ask how to use the program say nothing
+pub questions_say_nothing : QuestionsSayNothing
+questions_say_nothing [] asks = absurd (false≢true asks)
+questions_say_nothing (word ∷ []) asks = question word (or_cases (bytes_eq word (codes "--help")) (bytes_eq word (codes "-h")) asks)
+questions_say_nothing (word ∷ other ∷ words) asks = absurd (false≢true asks)
 
 -- a word without a letter is no option
 pub empty_word_says_nothing : options_of ([] ∷ []) ≡ None

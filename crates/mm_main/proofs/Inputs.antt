@@ -1,7 +1,7 @@
 -- What was read decides as the whole input does.
 use Rattle.std.specs.Prelude.{is_none}
-use Rattle.std.proofs.Common.{◌≡◌, ℕ, ◌+◌, ◌<◌, ◌≤◌, Bool, true, List, [], ◌++◌, length, length-append, append_assoc, sym, refl, ap, ◌∙◌, arith, append-nil, Option, Some, None, Result, Ok, Err, nat_lt, ◌⊎◌, inl, inr, subst}
-use Rattle.std.proofs.lemmas.Bool.{cases_lt}
+use Rattle.std.proofs.Common.{◌≡◌, ℕ, ◌+◌, ◌<◌, ◌≤◌, Bool, true, false, List, [], ◌++◌, length, length-append, append_assoc, sym, refl, ap, ◌∙◌, arith, append-nil, Option, Some, None, Result, Ok, Err, nat_lt, ◌⊎◌, inl, inr, subst}
+use Rattle.std.proofs.lemmas.Bool.{cases_lt, false≢true}
 use Rattle.std.proofs.lemmas.Bool.Decides.{nat_tests}
 use Rattle.std.specs.Option.{IfSome}
 use Rattle.std.specs.Io.KnownBytes.{Consumes, IsAtEnd, Keeps, Appends}
@@ -15,7 +15,7 @@ use Rattle.mm_main.specs.declared.status.Status.{Status}
 use Rattle.mm_main.specs.declared.status.Status.TheVariants.{Done, Usage, Refused, ReadFault, WriteFault, NoMemory}
 use Rattle.task_script.specs.Generated.{generated}
 use Rattle.mm_main.specs.declared.options.Options.{Options}
-use Rattle.mm_main.specs.Requests.{Request, misused, refused, accepted, reads_input, request, request_of, script_for}
+use Rattle.mm_main.specs.Requests.{Request, helped, misused, refused, accepted, reads_input, request, request_of, script_for}
 use Rattle.mm_main.specs.Answers.{Service, NoService, Says, OfKept, Answers, Completes, GivesScript, TakesAtMost, read_faults}
 
 Keeps-refl : (a : Option (List ℕ)) → Keeps a a
@@ -45,6 +45,12 @@ module _ {M : Type 0} (Serves : Service M) (kept : Option M) where
   said r t read write old new s e h = subst (λ q. Says Serves kept q read write old new s) (sym e) (more r s h)
     where
       more : (q : Request) (s : Status) → Says Serves kept q ⊥ write old new s → Says Serves kept q read write old new s
+      more helped Done h = h
+      more helped Usage h = h
+      more helped Refused h = h
+      more helped ReadFault h = h
+      more helped WriteFault h = h
+      more helped NoMemory h = h
       more misused Done h = h
       more misused Usage h = h
       more misused Refused h = h
@@ -74,6 +80,7 @@ module _ {M : Type 0} (Serves : Service M) (kept : Option M) where
 
   -- and so it is where there was no memory
   pub said_no_memory : (r : Request) (read write : Type 0) (old : Option (List ℕ)) → kept ≡ None → Says Serves kept r read write old old NoMemory
+  said_no_memory helped read write old none = (none, Keeps-refl old)
   said_no_memory misused read write old none = (none, Keeps-refl old)
   said_no_memory (refused r) read write old none = (none, Keeps-refl old)
   said_no_memory (accepted summary s) read write old none = (none, Keeps-refl old)
@@ -89,6 +96,12 @@ module _ {M : Type 0} (Serves : Service M) (kept : Option M) where
 
   -- what is said where no machine is there is said where none is kept
   pub said_unkept : (r : Request) (read write : Type 0) (old new : Option (List ℕ)) (s : Status) → kept ≡ None → Says NoService None r read write old new s → Says Serves kept r read write old new s
+  said_unkept helped read write old new Done none h = (none, h.1)
+  said_unkept helped read write old new Usage none h = h
+  said_unkept helped read write old new Refused none h = h
+  said_unkept helped read write old new ReadFault none h = h
+  said_unkept helped read write old new WriteFault none h = (none, h.1, h.2)
+  said_unkept helped read write old new NoMemory none h = (none, h.1)
   said_unkept misused read write old new Done none h = h
   said_unkept misused read write old new Usage none h = (none, h.1)
   said_unkept misused read write old new Refused none h = h
@@ -120,20 +133,28 @@ gives_request None (Some xs) input s told given = ap script_of (sym told) ∙ gi
 
 module _ {M : Type 0} (Serves : Service M) (kept : Option M) where
   -- the table of statuses is complete
-  pub completes : (said : Option Options) (left : Option (List ℕ)) (read write : Type 0) (old new : Option (List ℕ)) (status : Status) → Answers Serves kept (request said) left read write old new status → Completes Serves kept said left read write old new status
+  pub completes : (said : Option Options) (left : Option (List ℕ)) (read write : Type 0) (old new : Option (List ℕ)) (status : Status) → Answers Serves kept (request false said) left read write old new status → Completes Serves kept said left read write old new status
   completes said left read write old new status answer = λ o s is given no_read no_write.
-      let asked : request said answer.0 ≡ accepted o.summary s = ap (λ q. request q answer.0) is ∙ ap (request_of o.summary) (gives_request o.generate left answer.0 s answer.1 given) in
+      let asked : request false said answer.0 ≡ accepted o.summary s = ap (λ q. request false q answer.0) is ∙ ap (request_of o.summary) (gives_request o.generate left answer.0 s answer.1 given) in
       complete_for Serves kept o.summary s read write old new status (subst (λ q. Says Serves kept q read write old new status) asked answer.2) no_read no_write
 
   -- what is answered to the request of these words
-  pub answers_as : (said : Option Options) (asked : List ℕ → Request) (left : Option (List ℕ)) (read write : Type 0) (old new : Option (List ℕ)) (status : Status) → ((input : List ℕ) → asked input ≡ request said input)
-      → Answers Serves kept asked left read write old new status → Answers Serves kept (request said) left read write old new status
+  pub answers_as : (said : Option Options) (asked : List ℕ → Request) (left : Option (List ℕ)) (read write : Type 0) (old new : Option (List ℕ)) (status : Status) → ((input : List ℕ) → asked input ≡ request false said input)
+      → Answers Serves kept asked left read write old new status → Answers Serves kept (request false said) left read write old new status
   answers_as said asked left read write old new status same answer = (answer.0, answer.1, subst (λ q. Says Serves kept q read write old new status) (same answer.0) answer.2)
 
-  -- what is answered to words that say the same
-  pub answers_alike : (said other : Option Options) (left : Option (List ℕ)) (read write : Type 0) (old new : Option (List ℕ)) (status : Status) → other ≡ said → Answers Serves kept (request said) left read write old new status
-      → Answers Serves kept (request other) left read write old new status
-  answers_alike said other left read write old new status same answer = subst (λ o. Answers Serves kept (request o) left read write old new status) (sym same) answer
+  -- what is answered to words that don't ask how to use the program
+  pub answers_unasked : (asks : Bool) (said : Option Options) (left : Option (List ℕ)) (read write : Type 0) (old new : Option (List ℕ)) (status : Status) → asks ≡ false → Answers Serves kept (request false said) left read write old new status
+      → Answers Serves kept (request asks said) left read write old new status
+  answers_unasked asks said left read write old new status none answer = subst (λ b. Answers Serves kept (request b said) left read write old new status) (sym none) answer
+
+  -- words that say nothing ask for no script
+  pub completes_nothing : (said : Option Options) (left : Option (List ℕ)) (read write : Type 0) (old new : Option (List ℕ)) (status : Status) → said ≡ None → Completes Serves kept said left read write old new status
+  completes_nothing said left read write old new status none = λ o s is given no_read no_write. absurd (false≢true (sym (ap is_none (sym none ∙ is))))
+
+  -- where there is no memory, no script has to be done
+  pub completes_memory : (said : Option Options) (left : Option (List ℕ)) (read write : Type 0) (old new : Option (List ℕ)) → Completes Serves kept said left read write old new NoMemory
+  completes_memory said left read write old new = λ o s is given no_read no_write. inl refl
 
   -- what is said without the input
   pub answers_any : (asked : List ℕ → Request) (r : Request) (left : Option (List ℕ)) (read write : Type 0) (old new : Option (List ℕ)) (status : Status) → ((input : List ℕ) → asked input ≡ r) → Says Serves kept r ⊥ write old new status
@@ -144,11 +165,11 @@ module _ {M : Type 0} (Serves : Service M) (kept : Option M) where
   answers_memory asked left read write old none = let t = any_input left in (t.0, t.1, said_no_memory Serves kept (asked t.0) read write old none)
 
 -- what words call for, by what they say
-pub asks_generated : (said : Option Options) (o : Options) (number : ℕ) (input : List ℕ) → said ≡ Some o → o.generate ≡ Some number → request said input ≡ accepted o.summary (generated number)
-asks_generated said o number input is generate = ap (λ q. request q input) is ∙ ap (λ g. request_of o.summary (script_for g input)) generate
+pub asks_generated : (said : Option Options) (o : Options) (number : ℕ) (input : List ℕ) → said ≡ Some o → o.generate ≡ Some number → request false said input ≡ accepted o.summary (generated number)
+asks_generated said o number input is generate = ap (λ q. request false q input) is ∙ ap (λ g. request_of o.summary (script_for g input)) generate
 
-pub asks_input : (said : Option Options) (o : Options) (input : List ℕ) → said ≡ Some o → o.generate ≡ None → request said input ≡ request_of o.summary (script_of input)
-asks_input said o input is generate = ap (λ q. request q input) is ∙ ap (λ g. request_of o.summary (script_for g input)) generate
+pub asks_input : (said : Option Options) (o : Options) (input : List ℕ) → said ≡ Some o → o.generate ≡ None → request false said input ≡ request_of o.summary (script_of input)
+asks_input said o input is generate = ap (λ q. request false q input) is ∙ ap (λ g. request_of o.summary (script_for g input)) generate
 
 pub reads_as : (said : Option Options) (o : Options) (g : Option ℕ) → said ≡ Some o → o.generate ≡ g → reads_input said ≡ is_none g
 reads_as said o g is generate = ap reads_input is ∙ ap is_none generate
@@ -176,6 +197,7 @@ pub never_read : {M : Type 0} (Serves : Service M) (kept : Option M) (r : Reques
 never_read Serves kept r write old new ReadFault before h = absurd (no_fault r h)
   where
     no_fault : (q : Request) → Says Serves kept q ⊥ write old new ReadFault → ⊥
+    no_fault helped h = h
     no_fault misused h = h
     no_fault (refused p) h = h.1
     no_fault (accepted summary p) h = h.1

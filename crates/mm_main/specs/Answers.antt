@@ -10,7 +10,7 @@ use Rattle.mm_report.specs.Reports.{report_of}
 use Rattle.mm_main.specs.declared.options.Options.{Options}
 use Rattle.mm_main.specs.declared.status.Status.{Status}
 use Rattle.mm_main.specs.declared.status.Status.TheVariants.{Done, Usage, Refused, ReadFault, WriteFault, NoMemory}
-use Rattle.mm_main.specs.Requests.{Request, misused, refused, accepted, usage_text, refusal_text}
+use Rattle.mm_main.specs.Requests.{Request, helped, misused, refused, accepted, help_text, usage_text, refusal_text}
 
 -- that a machine has done all calls of a script, and that its results tell this of the script's objects
 abbrev pub Service : (M : Type 0) → Type 1
@@ -27,6 +27,12 @@ module _ {M : Type 0} (Serves : Service M) (kept : Option M) where
 
   -- Each status has its cause, and says what was written and kept. Read and write say that the count of that stream's faults rose.
   abbrev pub Says : Request → (read write : Type 0) → (old new : Option (List ℕ)) → Status → Type 0
+  Says helped read write old new Done = (kept ≡ None) × Appends old new help_text
+  Says helped read write old new WriteFault = (kept ≡ None) × write × Fronts old new help_text
+  Says helped read write old new NoMemory = (kept ≡ None) × Keeps old new
+  Says helped read write old new Usage = ⊥
+  Says helped read write old new Refused = ⊥
+  Says helped read write old new ReadFault = ⊥
   Says misused read write old new Usage = (kept ≡ None) × Appends old new usage_text
   Says misused read write old new WriteFault = (kept ≡ None) × write × Fronts old new usage_text
   Says misused read write old new NoMemory = (kept ≡ None) × Keeps old new

@@ -1,5 +1,5 @@
--- The command line: four options, and which numbers they take.
-use Rattle.std.specs.Prelude.{◌≡◌, ℕ, ◌-◌, ◌^◌, ◌++◌, nat_le, Bool, true, false, List, [], ◌∷◌, Option, Some, None, find, option_and_then, option_map, if◌then◌else◌, codes, drop, map, String, string_bytes, Result, Ok, Err}
+-- The command line: four options, and which numbers they take; or a question how to use the program.
+use Rattle.std.specs.Prelude.{◌≡◌, ℕ, ◌-◌, ◌^◌, ◌++◌, ◌||◌, nat_le, Bool, true, false, List, [], ◌∷◌, Option, Some, None, find, option_and_then, option_map, if◌then◌else◌, codes, drop, map, String, string_bytes, Result, Ok, Err}
 use Rattle.std.specs.Option.{option_map_or}
 use Rattle.std.specs.Str.{bytes_eq}
 use Rattle.std.specs.Vec.Iter.{into_iter_items}
@@ -77,6 +77,25 @@ said_by words = options_of (map string_bytes words)
 abbrev pub said_by_line : {Y Z E : Type 0} → Result (IntoIter (String Y) Z) E → Option Options
 said_by_line (Ok line) = said_by (drop 1 (into_iter_items line))
 said_by_line (Err e) = None
+
+-- one word, --help or -h, asks how to use the program
+abbrev pub is_question : (words : List Text) → Bool
+is_question [] = false
+is_question (word ∷ []) = bytes_eq word (codes "--help") || bytes_eq word (codes "-h")
+is_question (word ∷ other ∷ words) = false
+
+-- whether the words of a command line ask that
+abbrev pub asks_help : {Z : Type 0} → List (String Z) → Bool
+asks_help words = is_question (map string_bytes words)
+
+-- whether the words behind the program's name do; a line that isn't all text asks nothing
+abbrev pub line_asks_help : {Y Z E : Type 0} → Result (IntoIter (String Y) Z) E → Bool
+line_asks_help (Ok line) = asks_help (drop 1 (into_iter_items line))
+line_asks_help (Err e) = false
+
+-- words that ask that say nothing as options
+abbrev pub QuestionsSayNothing : Type 0
+QuestionsSayNothing = (words : List Text) → is_question words ≡ true → options_of words ≡ None
 
 -- an option that stands alone, its value joined to it, says it, and the others say their defaults; one -- may stand behind it
 abbrev pub LoneOptionsSay : Type 0

@@ -8,7 +8,7 @@ ghost use Rattle.std.specs.Process.{exit_status};
 ghost use Rattle.std.specs.Vec.Iter.{into_iter_items};
 ghost use Rattle.mm_main.specs.Answers.{AnswersTo, CompletesTo, TakesAtMost, status_number};
 ghost use Rattle.mm_main.specs.Answers.{read_faults, write_faults};
-ghost use Rattle.mm_main.specs.CommandLine.{said_by, said_by_line};
+ghost use Rattle.mm_main.specs.CommandLine.{asks_help, line_asks_help, said_by, said_by_line};
 ghost use Rattle.mm_main.specs.Kept.{HasServed};
 ghost use Rattle.mm_main.specs.Requests.{reads_input, request};
 
@@ -46,7 +46,8 @@ fn words_behind(alloc: Global, line: env::Args) -> Result<Vec<String>, AllocErro
 /// word, which is no option.
 #[tactic(auto, using(crate::proofs::CommandLines::empty_word_says_nothing))]
 fn words(alloc: Global, line: io::Result<env::Args>) -> io::Result<Vec<String>>
-    ensures { IfOk result (λ words. said_by words.items ≡ said_by_line line) }
+    ensures says { IfOk result (λ words. said_by words.items ≡ said_by_line line) }
+    ensures asks { IfOk result (λ words. asks_help words.items ≡ line_asks_help line) }
 {
     match line {
         Ok(line) => Ok(words_behind(alloc, line)?),
@@ -83,7 +84,7 @@ where
     requires places { length crew.old ≡ MAX_TASKS }
     ensures answer { AnswersTo S.left S.faults K.faults K.written source.old source.new
         sink.old sink.new (HasServed A.SleepLock T.SleepLock) kept.new
-        (request (said_by words.now)) result }
+        (request (asks_help words.now) (said_by words.now)) result }
     ensures complete { CompletesTo S.left S.faults K.faults K.written source.old source.new
         sink.old sink.new (HasServed A.SleepLock T.SleepLock) kept.new
         (said_by words.now) result }
@@ -100,7 +101,8 @@ where
 }
 
 /// The program over its streams: spaces under semaphores, tables under mutexes, and scripts of at
-/// most `MAX_TASKS` tasks, whose threads park.
+/// most `MAX_TASKS` tasks, whose threads park. Answers how it ended, and the exit
+/// code that says so.
 fn run<R: Threads + Wait + Sync, S: Source, K: Sink>(
     rt: &R,
     alloc: Global,
@@ -108,32 +110,34 @@ fn run<R: Threads + Wait + Sync, S: Source, K: Sink>(
     source: &mut S,
     sink: &mut K,
     kept: &mut Option<ScriptMachine<RwSem<Areas>, Mutex<Fds>, ParkCrew>>,
-) -> Status
+) -> (Status, ExitCode)
     requires { kept.old ≡ None }
     ensures answer { AnswersTo S.left S.faults K.faults K.written source.old source.new
         sink.old sink.new
         (HasServed ⟦<RwSem<Areas> as SleepLock<Areas>>⟧ ⟦<Mutex<Fds> as SleepLock<Fds>>⟧)
-        kept.new (request (said_by_line line)) result }
+        kept.new (request (line_asks_help line) (said_by_line line)) result.0 }
     ensures complete { CompletesTo S.left S.faults K.faults K.written source.old source.new
         sink.old sink.new
         (HasServed ⟦<RwSem<Areas> as SleepLock<Areas>>⟧ ⟦<Mutex<Fds> as SleepLock<Fds>>⟧)
-        kept.new (said_by_line line) result }
-    ensures read_faults { S.faults source.new ≡ read_faults result (S.faults source.old) }
-    ensures write_faults { K.faults sink.new ≡ write_faults result (K.faults sink.old) }
+        kept.new (said_by_line line) result.0 }
+    ensures read_faults { S.faults source.new ≡ read_faults result.0 (S.faults source.old) }
+    ensures write_faults { K.faults sink.new ≡ write_faults result.0 (K.faults sink.old) }
     ensures taken { TakesAtMost 1048577 (S.left source.old) (S.left source.new) }
     ensures unread { reads_input (said_by_line line) ≡ false → source.new ≡ source.old }
     ensures few_reads { S.gave source.new ≤ S.gave source.old + 1048577 }
     ensures one_end { S.ended source.new ≤ S.ended source.old + 1 }
-    ensures whole { result ≡ Status.Done → reads_input (said_by_line line) ≡ true →
+    ensures whole { result.0 ≡ Status.Done → reads_input (said_by_line line) ≡ true →
         IsAtEnd (S.left source.new) }
+    ensures code { exit_status result.1 ≡ status_number result.0 }
 {
     let Ok(words) = words(alloc, line) else {
-        return Status::NoMemory;
+        return (Status::NoMemory, exit_code(Status::NoMemory));
     };
     let Ok(mut crew) = ParkCrew::new(alloc, MAX_TASKS) else {
-        return Status::NoMemory;
+        return (Status::NoMemory, exit_code(Status::NoMemory));
     };
-    run_under(rt, alloc, words.as_slice(), source, sink, &mut crew, kept)
+    let status = run_under(rt, alloc, words.as_slice(), source, sink, &mut crew, kept);
+    (status, exit_code(status))
 }
 
 /// The exit status of the program's status.
@@ -147,7 +151,7 @@ fn main(rt: HostRuntime) -> ExitCode {
     let mut source = ReadSource::new(rt.reader());
     let mut sink = WriteSink::new(io::writer(&rt));
     let mut kept = None;
-    let status = run(
+    let (status, code) = run(
         &rt,
         rt.alloc(),
         env::args(&rt),
@@ -155,7 +159,11 @@ fn main(rt: HostRuntime) -> ExitCode {
         &mut sink,
         &mut kept,
     );
-    exit_code(status)
+    if let Some(line) = status.complaint() {
+        // Where standard error fails too, the exit code still tells.
+        let _ = eprintln!(rt; "mm_main: {line}");
+    }
+    code
 }
 
 #[cfg(test)]

@@ -3,7 +3,7 @@ ghost use Rattle.std.specs.Prelude.{◌≡◌, [], IfOk, Some, false, option_map
 ghost use Rattle.clap.specs.Matches.{found_of};
 ghost use Rattle.clap.specs.Simple.{app_of};
 ghost use Rattle.clap.specs.Walk.{rows_of, rule_of};
-ghost use Rattle.mm_main.specs.CommandLine.{flag_rule, is_from_words, number_if_used, number_or};
+ghost use Rattle.mm_main.specs.CommandLine.{QuestionsSayNothing, asks_help, flag_rule, is_from_words, number_if_used, number_or};
 ghost use Rattle.mm_main.specs.CommandLine.{number_up_to, options_from, options_of, said_by, the_command};
 ghost use Rattle.mm_main.specs.CommandLine.{JoinedOptionsSay, LoneOptionsSay};
 ghost use Rattle.mm_main.specs.CommandLine.{RepeatedOptionsSayNothing, value_rule};
@@ -34,6 +34,16 @@ pub(crate) enum OptionsError {
     /// The words are no command line.
     Misused,
     Memory,
+}
+
+/// Whether the words ask how to use the program.
+pub(crate) fn asks_help(words: &[String]) -> bool
+    ensures { result ≡ asks_help words.now }
+{
+    match words {
+        [word] => word.as_str() == "--help" || word.as_str() == "-h",
+        _ => false,
+    }
 }
 
 fn option<'a>(alloc: Global, name: &'a str) -> Arg<'a>
@@ -136,6 +146,12 @@ impl Options {
     /// Each option alone says it.
     pub(crate) fn lone_options_say()
         ensures { LoneOptionsSay }
+    {}
+
+    /// Words that ask how to use the program say nothing.
+    #[tactic(auto, using(crate::proofs::CommandLines::questions_say_nothing))]
+    pub(crate) fn questions_say_nothing()
+        ensures { QuestionsSayNothing }
     {}
 
     /// An option that is used twice makes the words no command line.

@@ -3,8 +3,8 @@ ghost use Rattle.std.specs.Prelude.{◌≡◌, ◌≤◌, ◌+◌, None, false, 
 ghost use Rattle.std.specs.Io.KnownBytes.{IsAtEnd};
 ghost use Rattle.task_script.specs.Generated.{generated};
 ghost use Rattle.task_script.specs.Grammar.{script_of};
-ghost use Rattle.mm_main.specs.CommandLine.{said_by};
-ghost use Rattle.mm_main.specs.Requests.{misused, refused, accepted, reads_input, reason_text};
+ghost use Rattle.mm_main.specs.CommandLine.{asks_help, said_by};
+ghost use Rattle.mm_main.specs.Requests.{helped, misused, refused, accepted, reads_input, reason_text};
 ghost use Rattle.mm_main.specs.Requests.{request, request_of};
 ghost use Rattle.mm_main.specs.Answers.{AnswersTo, CompletesTo, NoService, SaysTo, TakesAtMost};
 ghost use Rattle.mm_main.specs.Answers.{read_faults, write_faults};
@@ -12,7 +12,7 @@ ghost use Rattle.mm_main.specs.Kept.{HasServed};
 
 use crate::input::{InputError, read_all};
 use crate::objects::ScriptMachine;
-use crate::options::{Options, OptionsError};
+use crate::options::{Options, OptionsError, asks_help};
 use crate::status::Status;
 use crate::threads::run_on_threads;
 use cpu_task::{Crew, Gate};
@@ -23,6 +23,25 @@ use std::thread::Threads;
 use task_script::{Outbox, Reason, ScriptError, Sink, Source, generate, put, read};
 
 const USAGE: &[u8] = b"usage: mm_main [--spin N] [--overdue N] [--generate N] [--summary]\n";
+
+const HELP: &[u8] = b"usage: mm_main [--spin N] [--overdue N] [--generate N] [--summary] < SCRIPT\n\
+    Does the tasks of a script at once and prints a history of each object.\n\
+    \x20 --summary     one line for each object in place of its history\n\
+    \x20 --generate N  a script that is made from N; none is read\n\
+    \x20 --spin N      how often a CPU is asked before a spin ends, 100\n\
+    \x20 --overdue N   how often before a wait is too long, 4\n\
+    A script: space a; task; a map 16 4 rw-; a fault 17 w; a line end for each ;\n\
+    Status: 0 done, 2 misuse, 3 refused line, 4 no input, 5 no output, 6 no memory\n";
+
+fn help<K: Sink>(sink: &mut K) -> Status
+    ensures says { SaysTo K.faults K.written sink.old sink.new NoService None helped result }
+    ensures faults { K.faults sink.new ≡ write_faults result (K.faults sink.old) }
+{
+    match put(sink, HELP) {
+        Ok(()) => Status::Done,
+        Err(_) => Status::WriteFault,
+    }
+}
 
 fn usage<K: Sink>(sink: &mut K) -> Status
     ensures says { SaysTo K.faults K.written sink.old sink.new NoService None misused result }
@@ -186,7 +205,8 @@ where
 /// its own, and writes their histories to the sink, or the summary. `kept` has the machine that
 /// did them then. Where no task began nothing is kept.
 ///
-/// `words` are the words of the command line after the program's name. No memory is taken once the
+/// `words` are the words of the command line after the program's name. Where they ask how to use
+/// the program, that is written, and nothing is read or done. No memory is taken once the
 /// first task has begun. Where a thread can't be made its task is done after another's, on that
 /// one's thread, so tasks that wait for each other can then wait for good.
 pub fn top<
@@ -214,7 +234,7 @@ where
     requires { kept.old ≡ None }
     ensures answer { AnswersTo S.left S.faults K.faults K.written source.old source.new
         sink.old sink.new (HasServed A.SleepLock T.SleepLock) kept.new
-        (request (said_by words.now)) result }
+        (request (asks_help words.now) (said_by words.now)) result }
     ensures complete { CompletesTo S.left S.faults K.faults K.written source.old source.new
         sink.old sink.new (HasServed A.SleepLock T.SleepLock) kept.new
         (said_by words.now) result }
@@ -227,6 +247,9 @@ where
     ensures whole { result ≡ Status.Done → reads_input (said_by words.now) ≡ true →
         IsAtEnd (S.left source.new) }
 {
+    if asks_help(words) {
+        return help(sink);
+    }
     let options = match Options::read(alloc, words) {
         Ok(options) => options,
         Err(OptionsError::Misused) => return usage(sink),

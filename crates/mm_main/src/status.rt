@@ -1,5 +1,5 @@
 //! How the program ends.
-ghost use Rattle.std.specs.Prelude.{◌≡◌};
+ghost use Rattle.std.specs.Prelude.{◌≡◌, ◌≤◌, None, IsSome};
 ghost use Rattle.mm_main.specs.Answers.{status_number};
 
 /// How a run of the program ended.
@@ -31,6 +31,19 @@ impl Status {
             Status::ReadFault => 4,
             Status::WriteFault => 5,
             Status::NoMemory => 6,
+        }
+    }
+
+    /// What failed, in words, where the program couldn't do what it was asked for.
+    pub fn complaint(self) -> Option<&'static str>
+        ensures silent { status_number self ≤ 3 → result ≡ None }
+        ensures told { 4 ≤ status_number self → IsSome result }
+    {
+        match self {
+            Status::Done | Status::Usage | Status::Refused => None,
+            Status::ReadFault => Some("standard input can't be read"),
+            Status::WriteFault => Some("standard output can't be written"),
+            Status::NoMemory => Some("there is no memory"),
         }
     }
 }

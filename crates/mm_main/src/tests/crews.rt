@@ -1,9 +1,11 @@
 //! The CPUs that the program makes.
 use super::{ORDINARY, run_with};
 use crate::status::Status;
-use cpu_task::{Crew, OpenGate, ParkCpu, ParkCrew, Turns};
+use cpu_task::{Crew, OpenGate, ParkCpu, ParkCrew, ScriptedCrew, Turns};
 use std::alloc::{AllocError, Global};
+use std::sync::Wait;
 use std::test::Fail;
+use std::thread::Threads;
 use task_script::{MemSink, MemSource};
 use word_bits::MAX_TASKS;
 
@@ -57,5 +59,64 @@ fn each_task_has_a_cpu_that_is_as_patient_as_the_words_say(rt: HostRuntime) -> R
         let want = [(0, turns), (0, turns), (1, turns), (2, turns)];
         assert_eq!(rt; crew.made.as_slice(), want.as_slice());
     }
+    Ok(())
+}
+
+/// The summary of the script that is generated from 7, counted apart from the program.
+const SUMMARY: &str = "m: 16000 calls, 8018 logged, 6387 refused, 61 left\n";
+
+/// What a CPU answers first. Where its answers end it answers yes.
+const ANSWERS: [&[bool]; 4] = [
+    &[],
+    &[false],
+    &[false, false, true, false],
+    &[true, false, false],
+];
+
+/// Whether the generated script leaves its summary on CPUs that never sleep, with these answers
+/// whether to reschedule, and with each list of answers whether a wait is too long.
+fn leaves_its_summary<R: Threads + Wait + Sync>(
+    rt: &R,
+    alloc: Global,
+    resched: &[bool],
+) -> Result<bool, AllocError> {
+    let words = ["--generate=7", "--summary"].as_slice();
+    for overdue in ANSWERS {
+        let resched = Vec::from_slice(alloc, resched)?;
+        let mut crew = ScriptedCrew::new(alloc, resched, Vec::from_slice(alloc, overdue)?)?;
+        let mut source = MemSource::new(alloc, &[], 1, &[])?;
+        let mut sink = MemSink::new(alloc, 100, 100, &[])?;
+        let gate = &OpenGate;
+        let (status, _) = run_with(rt, alloc, words, &mut source, &mut sink, &mut crew, gate)?;
+        if status != Status::Done || sink.written() != SUMMARY.as_bytes() {
+            return Ok(false);
+        }
+    }
+    Ok(true)
+}
+
+#[test]
+fn tasks_that_never_spin_leave_the_same_summary(rt: HostRuntime) -> Result<(), Fail> {
+    assert!(rt; leaves_its_summary(&rt, rt.alloc(), ANSWERS[0])?);
+    Ok(())
+}
+
+#[test]
+fn tasks_that_spin_for_one_turn_leave_the_same_summary(rt: HostRuntime) -> Result<(), Fail> {
+    assert!(rt; leaves_its_summary(&rt, rt.alloc(), ANSWERS[1])?);
+    Ok(())
+}
+
+#[test]
+fn tasks_that_spin_twice_leave_the_same_summary(rt: HostRuntime) -> Result<(), Fail> {
+    assert!(rt; leaves_its_summary(&rt, rt.alloc(), ANSWERS[2])?);
+    Ok(())
+}
+
+#[test]
+fn tasks_that_spin_at_their_second_wait_leave_the_same_summary(
+    rt: HostRuntime,
+) -> Result<(), Fail> {
+    assert!(rt; leaves_its_summary(&rt, rt.alloc(), ANSWERS[3])?);
     Ok(())
 }

@@ -31,6 +31,7 @@ returns-then-reads-clause-performs g c =
     let got = c.in-Ok.ensures in
     performs-served g.O.Object.object g.L.SleepLock.kind g.L.SleepLock.word_at (g.L.SleepLock.calls_on c.args.self.now.lock) v m u c.args.next.words c.args.next.call c.reads-reads.result c.serve_reading.result (held_by g.L.SleepLock.kind c.reads-reads.result)
     next.planned next.is c.reads-reads.ensures c.requires.no_signal (c.requires.sent, c.requires.consumed) got.took (λ tries. c.enter.ensures.at_once (c.mode.ensures ∙ tries)) (λ waits. got.line (λ tries. waits (sym c.mode.ensures ∙ tries))) c.serve_reading.ensures.served c.serve_reading.ensures.goes_on
+    got.counted
 
 pub returns-else-reads-clause-performs : goal.returns-else-reads-clause-performs
 returns-else-reads-clause-performs g c =
@@ -41,3 +42,4 @@ returns-else-reads-clause-performs g c =
     let got = c.in-Ok.ensures in
     performs-served g.O.Object.object g.L.SleepLock.kind g.L.SleepLock.word_at (g.L.SleepLock.calls_on c.args.self.now.lock) v m u c.args.next.words c.args.next.call c.reads-reads.result c.serve_change.result (held_by g.L.SleepLock.kind c.reads-reads.result)
     next.planned next.is c.reads-reads.ensures c.requires.no_signal (c.requires.sent, c.requires.consumed) got.took (λ tries. c.enter.ensures.at_once (c.mode.ensures ∙ tries)) (λ waits. got.line (λ tries. waits (sym c.mode.ensures ∙ tries))) c.serve_change.ensures.served c.serve_change.ensures.goes_on
+    got.counted
