@@ -1,20 +1,25 @@
 -- What the calls of a per-CPU semaphore leave.
-use Rattle.std.proofs.Common.{◌≡◌, ◌≢◌, ◌∙◌, ℕ, ◌+◌, ◌<◌, ◌≤◌, List, length, Option, Some, None, sym, refl, ap, arith}
-use Rattle.std.specs.Prelude.{Result, Ok, Err, IfErr}
+use Rattle.std.proofs.Common.{◌≡◌, ◌≢◌, ◌∙◌, ℕ, ◌+◌, ◌<◌, ◌≤◌, List, length, Option, Some, None, zero, suc, Bool, true, false, sym, refl, ap, subst, arith}
+use Rattle.std.specs.Prelude.{Result, Ok, Err, IfErr, is_some}
+use Rattle.std.specs.Result.{is_ok}
+use Rattle.cpu_task.specs.Counting.{one_more, slept}
+use mathlib.Core.Logic.{dite}
+use native.Mathlib.Decide.{ℕ_discrete}
 use Rattle.word_bits.specs.Objects.{Obj}
 use Rattle.word_bits.specs.Histories.{Plan}
 use Rattle.lock_core.specs.declared.view.Hand.{Hand}
 use Rattle.lock_core.specs.declared.view.Held.{Held}
 use Rattle.lock_core.specs.declared.view.Held.TheVariants.{No, Shared, Alone}
 use Rattle.lock_core.specs.declared.view.Moment.{Moment}
-use Rattle.lock_core.specs.Pasts.{GoesOn, FoundAt, FoundSince, IsOwnStep}
+use Rattle.lock_core.specs.Pasts.{GoesOn, FoundAt, FoundAtStep, FoundSince, IsOwnStep}
 use Rattle.lock_core.specs.RunLaws.{found-at-step}
+use Rattle.lock_core.proofs.HandLaws.{not-both}
 use Rattle.lock_core.proofs.RowLaws.{none-some}
 use Rattle.percpu_rwsem.specs.declared.view.Phase.{Phase}
 use Rattle.percpu_rwsem.specs.declared.view.Phase.TheVariants.{Idle, Added, Back, Reads, Blocks}
-use Rattle.percpu_rwsem.specs.Handles.{Phased, TakesSince}
-use Rattle.percpu_rwsem.specs.Plays.{phased}
-use Rattle.percpu_rwsem.specs.Ruled.{V, block_at}
+use Rattle.percpu_rwsem.specs.Handles.{FindsZeros, Phased, SleepsBehind, SleepsEachTry, TakesSince}
+use Rattle.percpu_rwsem.specs.Plays.{TakesPhase, phased}
+use Rattle.percpu_rwsem.specs.Ruled.{V, block_at, count_at}
 use Rattle.percpu_rwsem.specs.PhaseLaws.{no-alone, held-all, held-some}
 use Rattle.percpu_rwsem.specs.Phases.{PartOk, phase_part, held_by}
 
@@ -61,6 +66,31 @@ pub record Drains {Call : Type 0} (o : Obj Call) (k : Plan) (first next : ℕ) (
   pub last : first < next → IsOwnStep u new
   pub on : next < length k → (held ≡ No) × ((s : ℕ) × (v.steps ≤ s) × (u ≡ record v { steps = s; ext = Blocks next }))
   pub all : next ≡ length k → (held ≡ Alone) × TakesSince o k Alone (Blocks next) v u
+  pub looks : u.steps + first ≡ v.steps + next
+  pub zeros : FindsZeros first next v old new
+
+-- what was found zero stays found behind a later step
+pub zeros-stay : (first next : ℕ) (v : V) (old past new : List Moment) → GoesOn past new → FindsZeros first next v old past → FindsZeros first next v old new
+zeros-stay first next v old past new goes zeros = λ t step least below is. let f = zeros t step least below is in record {
+  past = f.past;
+  by = f.by;
+  found = f.found;
+  after = f.after;
+  goes_on = λ p x. goes p (f.goes_on p x);
+}
+
+-- one count more is found zero
+pub zeros-next : (first next : ℕ) (v w : V) (old past new : List Moment) → w.hand.task ≡ v.hand.task → w.steps + first ≡ v.steps + (next + 1) → IsOwnStep w new → FoundAt (count_at next) 0 new → GoesOn old past → GoesOn past new → FindsZeros first next v old past → FindsZeros first (next + 1) v old new
+zeros-next first next v w old past new named steps own found after goes zeros = λ t step least below is. dite (ℕ_discrete t next)
+    (λ same. subst (λ (s : ℕ). FoundAtStep v.hand.task s (count_at t) 0 old new) (omega (arith, is, same, steps))
+    (found-at-step w v.hand.task (count_at t) 0 old new new named own (subst (λ (u : ℕ). FoundAt (count_at u) 0 new) (sym same) found) (λ p x. goes p (after p x)) (λ p x. x)))
+    (λ other. zeros-stay first next v old past new goes zeros t step least (omega (arith, below, other)) is)
+
+-- one step saw one count more zero
+pub drained-one : {Call : Type 0} (o : Obj Call) (k : Plan) (n : ℕ) (v u : V) → (n ≢ length k → u ≡ phased v v.hand (Blocks n)) → (n ≡ length k → TakesPhase o k Alone (Blocks n) v u) → (u.steps ≡ v.steps + 1) × (u.hand.task ≡ v.hand.task)
+drained-one o k n v u next took = dite (ℕ_discrete n (length k))
+    (λ all. let t = took all in (ap (λ (z : V). z.steps) t.3, ap (λ (z : V). z.hand.task) t.3))
+    (λ not. let e = next not in (ap (λ (z : V). z.steps) e, ap (λ (z : V). z.hand.task) e))
 
 -- what a step of its own found that wasn't the call's last
 pub found-since : (v w u : V) (task : Option ℕ) (place n : ℕ) (old past new : List Moment) → w.hand.task ≡ task → v.steps < w.steps → w.steps ≤ u.steps → IsOwnStep w past → FoundAt place n past → GoesOn old past → GoesOn past new → FoundSince task v.steps u.steps place n old new
@@ -71,6 +101,32 @@ pub looked-found : (r : Result (Unit {0}) ℕ) (v a w u : V) (old past new : Lis
 looked-found (Ok x) v a w u old past new add look back own found after goes = tt
 looked-found (Err word) v a w u old past new add look back own found after goes = let x = ap (λ (z : V). z.steps) add in let y = ap (λ (z : V). z.steps) look in let z = ap (λ (z : V). z.steps) back in
     found-since v w u v.hand.task block_at word old past new (ap (λ (z : V). z.hand.task) look ∙ ap (λ (z : V). z.hand.task) add) (omega (arith, x, y)) (omega (arith, z)) own found after goes
+
+-- one try more, and a sleep
+pub tries-again : (steps now now' sleeps had had' : ℕ) → SleepsEachTry 0 steps now sleeps had → now' ≡ now + 3 → had' ≡ one_more had → SleepsEachTry 0 steps now' sleeps had'
+tries-again steps now now' sleeps had had' s more again = let is = s.1 in (suc s.0, omega (arith, is, more), again ∙ ap one_more s.2)
+
+-- a step or more, and a sleep
+pub sleeps-again : (steps now now' sleeps had had' : ℕ) → SleepsBehind 0 steps now sleeps had → now < now' → had' ≡ one_more had → SleepsBehind 0 steps now' sleeps had'
+sleeps-again steps now now' sleeps had had' s more again = let is = s.1 in (suc s.0, omega (arith, is, more), again ∙ ap one_more s.2)
+
+slept-on : (m n sleeps : ℕ) → slept m (slept n sleeps) ≡ slept (m + n) sleeps
+slept-on zero n sleeps = ap (λ (k : ℕ). slept k sleeps) (omega arith)
+slept-on (suc m) n sleeps = ap one_more (slept-on m n sleeps) ∙ ap (λ (k : ℕ). slept k sleeps) {x = suc (m + n)} {y = suc m + n} (omega arith)
+
+-- two calls that wait, one after the other
+pub sleeps-both : (steps now now' sleeps had had' : ℕ) → SleepsBehind 1 steps now sleeps had → SleepsBehind 1 now now' had had' → SleepsBehind 2 steps now' sleeps had'
+sleeps-both steps now now' sleeps had had' s t = let a = s.1 in let b = t.1 in (t.0 + s.0, omega (arith, a, b), t.2 ∙ (ap (slept t.0) s.2 ∙ slept-on t.0 s.0 sleeps))
+
+-- what is so of an answer
+pub err-of : {A B : Type 0} {P : B → Type 0} (r : Result A B) → is_ok r ≡ false → IfErr r P → (e : B) × P e
+err-of (Ok x) failed p = absurd (not-both true failed refl)
+err-of (Err e) failed p = (e, p)
+
+-- who blocks has seen some counts
+pub seen-some : (seen : Option ℕ) → is_some seen ≡ true → (n : ℕ) × (seen ≡ Some n)
+seen-some None is = absurd (not-both false refl is)
+seen-some (Some n) is = (n, refl)
 
 -- between two tries of a call that waits
 pub idle-view : (tasks : ℕ) (v : V) → Phased tasks None v → v.hand.held ≡ No → v ≡ record v { ext = Idle }

@@ -167,7 +167,7 @@ module _ {Call : Type 0} (o : Obj Call) (size : ℕ) (k : Plan) where
   has-number t task has = let e : is_number t task ≡ 1 = ap (is_number t) has ∙ is_number-here t in omega (arith, e)
 
   -- a block word that isn't 0 is another task's code, where this pass doesn't block
-  names-other : (ws : List ℕ) (vs : List V) (id : ℕ) (v : V) → Kept ws vs → get_elem? vs id ≡ some v → blocks_of (phase_part v) ≡ 0 → get_or ws block_at 0 ≢ 0 → play.NamesOther v.hand.task (get_or ws block_at 0)
+  names-other : (ws : List ℕ) (vs : List V) (id : ℕ) (v : V) → Kept ws vs → get_elem? vs id ≡ some v → blocks_of (phase_part v) ≡ 0 → get_or ws block_at 0 ≢ 0 → play.NamesOther k v.hand.task (get_or ws block_at 0)
   names-other ws vs id v r at idle not = let ps : List PhasePart = parts vs in let code = r.phases.code in let s = some-of code_of ps (pos (total code_of ps) (λ z. not (code ∙ z))) in let j = s.0 in let q = s.1 in
       let x = at_unmap phase_part vs j q s.2 in found j q s.2 s.3 x.0 x.1 x.2 q.phase refl
     where
@@ -175,18 +175,22 @@ module _ {Call : Type 0} (o : Obj Call) (size : ℕ) (k : Plan) where
       pos zero not = absurd (not refl)
       pos (suc n) not = omega arith
 
-      found : (j : ℕ) (q : PhasePart) → get_elem? (parts vs) j ≡ some q → 0 < code_of q → (x : V) → get_elem? vs j ≡ some x → phase_part x ≡ q → (w : Phase) → q.phase ≡ w → play.NamesOther v.hand.task (get_or ws block_at 0)
+      found : (j : ℕ) (q : PhasePart) → get_elem? (parts vs) j ≡ some q → 0 < code_of q → (x : V) → get_elem? vs j ≡ some x → phase_part x ≡ q → (w : Phase) → q.phase ≡ w → play.NamesOther k v.hand.task (get_or ws block_at 0)
       found j q atq has x atx is Idle phase = absurd (let e : code_of q ≡ 0 = ap (code_weight q.task) phase in omega (arith, e, has))
       found j q atq has x atx is Added phase = absurd (let e : code_of q ≡ 0 = ap (code_weight q.task) phase in omega (arith, e, has))
       found j q atq has x atx is Back phase = absurd (let e : code_of q ≡ 0 = ap (code_weight q.task) phase in omega (arith, e, has))
       found j q atq has x atx is Reads phase = absurd (let e : code_of q ≡ 0 = ap (code_weight q.task) phase in omega (arith, e, has))
       found j q atq has x atx is (Blocks n) phase = numbered q.task refl
         where
-          numbered : (task : Option ℕ) → q.task ≡ task → play.NamesOther v.hand.task (get_or ws block_at 0)
+          numbered : (task : Option ℕ) → q.task ≡ task → play.NamesOther k v.hand.task (get_or ws block_at 0)
           numbered None bare = no-blocks Idle n refl (sym ((r.phases.each j q atq).numberless bare) ∙ phase)
           numbered (Some u) some_it = let blocks : blocks_of q ≡ 1 = ap blocks_weight phase in let only = only-code (parts vs) j q atq blocks r.phases.one in let code : code_of q ≡ u + 1 = (λ i. code_weight (some_it i) (phase i)) in let block = r.phases.code in
               let task : x.hand.task ≡ Some u = ap (λ (z : PhasePart). z.task) is ∙ some_it in let small = its-task ws vs j u x r atx task in
-              (u, omega (arith, block, only, code), small.1, λ mine. one-named ws vs u id j v x r small.1 at atx (λ e. let same : phase_part v ≡ q = ap phase_part (some-injective v x (sym at ∙ (ap (get_elem? vs) e ∙ atx))) ∙ is in let b : blocks_of (phase_part v) ≡ blocks_of q = ap blocks_of same in omega (arith, b, idle, blocks)) (has-number u v.hand.task mine) (has-number u x.hand.task task))
+              (u, omega (arith, block, only, code), small.0, λ mine. one-named ws vs u id j v x r small.1 at atx (λ e. let same : phase_part v ≡ q = ap phase_part (some-injective v x (sym at ∙ (ap (get_elem? vs) e ∙ atx))) ∙ is in let b : blocks_of (phase_part v) ≡ blocks_of q = ap blocks_of same in omega (arith, b, idle, blocks)) (has-number u v.hand.task mine) (has-number u x.hand.task task))
+
+  tells-other : (ws : List ℕ) (vs : List V) (id : ℕ) (m : M) → Kept ws vs → get_elem? vs id ≡ some m.0 → blocks_of (phase_part m.0) ≡ 0 → get_or ws block_at 0 ≢ 0 → play.TellsOther m (get_or ws block_at 0)
+  tells-other ws vs id m r at idle not = let ok = r.site_holds.each id m.0.hand (at_map hand_of vs id m.0 at) in
+      λ p plan. subst (λ (z : Plan). play.NamesOther z m.0.hand.task (get_or ws block_at 0)) (its-plan k p m.0.hand.plan ok.plan plan) (names-other ws vs id m.0 r at idle not)
 
   -- where the block word is 0, nobody holds alone
   none-blocks : (ws : List ℕ) (vs : List V) → Kept ws vs → get_or ws block_at 0 ≡ 0 → total blocks_of (parts vs) ≡ 0
@@ -255,7 +259,7 @@ module _ {Call : Type 0} (o : Obj Call) (size : ℕ) (k : Plan) where
             record { holds = out; numberless = λ bare. none-some t (sym bare ∙ has); few = λ m e. no-blocks Back m refl e }
             (λ m e j q _ _ _ u _. no-blocks Back m refl e)
             (λ e. no-reads Back refl e),
-        ((λ is. absurd (not is)), λ _. (names-other ws vs id v r at unblocks not, (refl, refl))),
+        ((λ is. absurd (not is)), λ _. (tells-other ws vs id me r at unblocks not, (refl, refl))),
       )))
     where
       added-inside : (u : ℕ) → inside_of u (phase_part me.0) ≡ is_number u me.0.hand.task
@@ -306,7 +310,7 @@ module _ {Call : Type 0} (o : Obj Call) (size : ℕ) (k : Plan) where
 
   -- a pass that doesn't block loads the block word
   pub sees : (slots id : ℕ) (me : M) → me.0.ext ≡ Idle → May slots id me block_at Load (play.Seen (step slots block_at 0 0 none) me)
-  sees slots id me idle = looks slots id block_at me (play.Seen (step slots block_at 0 0 none) me) (omega arith) (λ ws vs r at. ticks ws vs id me.0 (λ u. play.Seen (step slots block_at 0 0 none) me (get_or ws block_at 0) (u, me.1)) r at ((λ not. names-other ws vs id me.0 r at (ap blocks_weight idle) not), (refl, refl)))
+  sees slots id me idle = looks slots id block_at me (play.Seen (step slots block_at 0 0 none) me) (omega arith) (λ ws vs r at. ticks ws vs id me.0 (λ u. play.Seen (step slots block_at 0 0 none) me (get_or ws block_at 0) (u, me.1)) r at ((λ not. tells-other ws vs id me r at (ap blocks_weight idle) not), (refl, refl)))
 
   -- a pass blocks, where nobody does
   pub blocks : (slots id t : ℕ) (me : M) → me.0.hand.task ≡ Some t → me.0.hand.held ≡ No → me.0.ext ≡ Idle → May slots id me block_at (Exchange 0 (t + 1)) (play.Blocked (step slots block_at 0 (t + 1) none) me)
@@ -328,7 +332,7 @@ module _ {Call : Type 0} (o : Obj Call) (size : ℕ) (k : Plan) where
         ticked v,
         refl,
         rule-goes o size k ws ws vs id v v.hand v.ext r at refl refl (hand-stays v.hand) (saw-stays v.hand) (same-hand ws vs id v r at) (same-phases ws vs id v r at),
-        ((λ is. absurd (not is)), λ _. (names-other ws vs id v r at unblocks not, (refl, refl))),
+        ((λ is. absurd (not is)), λ _. (tells-other ws vs id me r at unblocks not, (refl, refl))),
       ))
 
   -- behind a count that is seen zero no task up to its own holds shared

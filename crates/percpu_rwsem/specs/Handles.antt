@@ -1,5 +1,6 @@
 -- What a clause reads of a per-CPU semaphore, and of a pass of it.
-use Rattle.std.specs.Prelude.{◌≡◌, ℕ, ◌+◌, ◌≤◌, Bool, List, length, Option, Some, None, is_some}
+use Rattle.std.specs.Prelude.{◌≡◌, ℕ, ◌+◌, ◌*◌, ◌<◌, ◌≤◌, Bool, List, length, Option, Some, None, is_some}
+use Rattle.cpu_task.specs.Counting.{slept}
 use Rattle.word_bits.specs.declared.entry.Entry.{Entry}
 use Rattle.word_bits.specs.declared.reply.Reply.{Reply}
 use Rattle.word_bits.specs.LockWords.{Unavailable}
@@ -9,13 +10,15 @@ use Rattle.lock_core.specs.declared.view.Hand.{Hand}
 use Rattle.lock_core.specs.declared.view.Held.{Held}
 use Rattle.lock_core.specs.declared.view.Held.TheVariants.{No, Shared, Alone}
 use Rattle.lock_core.specs.declared.view.Moment.{Moment}
+use Rattle.lock_core.specs.declared.view.Past.{Past}
 use Rattle.lock_core.specs.Handles as inner
+use Rattle.lock_core.specs.Pasts.{FoundAtStep, GoesOn, IsOwnStep}
 use Rattle.percpu_rwsem.specs.declared.pass.PercpuPass.{PercpuPass}
 use Rattle.percpu_rwsem.specs.declared.site.PercpuRwSem.{PercpuRwSem}
 use Rattle.percpu_rwsem.specs.declared.view.Phase.{Phase}
 use Rattle.percpu_rwsem.specs.declared.view.Phase.TheVariants.{Idle, Reads, Blocks}
 use Rattle.percpu_rwsem.specs.Plays.{TakesPhase, phased}
-use Rattle.percpu_rwsem.specs.Ruled.{V}
+use Rattle.percpu_rwsem.specs.Ruled.{V, count_at}
 use Rattle.percpu_rwsem.specs.Phases.{PartOk, phase_part}
 
 -- the phase of a pass that has seen so many counts zero, or doesn't block, and holds so
@@ -29,6 +32,18 @@ phase_by None Alone = Idle
 pub record Phased (tasks : ℕ) (seen : Option ℕ) (v : V) : Type 0 where
   pub phase : v.ext ≡ phase_by seen v.hand.held
   pub part : PartOk tasks (phase_part v)
+
+-- The CPU slept once after each of some tries to read, of three steps each, and these more steps came behind the last sleep.
+abbrev pub SleepsEachTry : (more steps steps' sleeps sleeps' : ℕ) → Type 0
+SleepsEachTry more steps steps' sleeps sleeps' = (tries : ℕ) × (steps' ≡ steps + (3 * tries + more)) × (sleeps' ≡ slept tries sleeps)
+
+-- the CPU slept once for each step of the pass at most, so many steps not counted
+abbrev pub SleepsBehind : (more steps steps' sleeps sleeps' : ℕ) → Type 0
+SleepsBehind more steps steps' sleeps sleeps' = (turns : ℕ) × (steps + (turns + more) ≤ steps') × (sleeps' ≡ slept turns sleeps)
+
+-- A pass of this view found the counts from the first up to the next 0, in the order of their tasks, each at a step of its own since.
+abbrev pub FindsZeros : (first next : ℕ) → V → (old new : List Moment) → Type 0
+FindsZeros first next v old new = (t step : ℕ) → first ≤ t → t < next → step + first ≡ v.steps + (t + 1) → FoundAtStep v.hand.task step (count_at t) 0 old new
 
 module _ {O C : Type 0} where
   -- the calls that the semaphore's tasks make
@@ -46,6 +61,10 @@ module _ {O C : Type 0} where
   -- the moments of the table up to the pass's last step, the last one first
   abbrev pub past_of : PercpuPass O C → List Moment
   past_of pass = inner.past_of pass.pass
+
+  -- those of the passes that it took in since its last step
+  abbrev pub joined_by : PercpuPass O C → List Past
+  joined_by pass = inner.joined_by pass.pass
 
   abbrev pub task_in : PercpuPass O C → Option ℕ
   task_in pass = inner.task_in pass.pass
@@ -91,6 +110,18 @@ module _ {O C : Type 0} where
   -- what the pass becomes that takes the task's number
   abbrev pub TakesNumber : {Call : Type 0} → Obj Call → Unavailable → PercpuRwSem O C → ℕ → PercpuPass O C → PercpuPass O C → Type 0
   TakesNumber o unavailable site task old new = inner.TakesNumber o unavailable site.site task old.pass new.pass
+
+  -- it looked at each count once from the first that it hadn't seen zero up to that of this number, and made no other step
+  abbrev pub LooksUpTo : ℕ → PercpuPass O C → PercpuPass O C → Type 0
+  LooksUpTo end old new = (first : ℕ) → seen_in old ≡ Some first → (first < end) × ((view_of new).steps + first ≡ (view_of old).steps + end)
+
+  -- it found those below this number 0
+  abbrev pub FindsZerosUpTo : ℕ → PercpuPass O C → PercpuPass O C → Type 0
+  FindsZerosUpTo next old new = (first : ℕ) → seen_in old ≡ Some first → FindsZeros first next (view_of old) (past_of old) (past_of new)
+
+  -- one of its steps since left it this view
+  abbrev pub CameTo : V → PercpuPass O C → PercpuPass O C → Type 0
+  CameTo v old new = (past : List Moment) × IsOwnStep v past × GoesOn (past_of old) past × GoesOn past (past_of new)
 
   -- a step of the pass since found this number at this place
   abbrev pub Finds : ℕ → ℕ → PercpuPass O C → PercpuPass O C → Type 0

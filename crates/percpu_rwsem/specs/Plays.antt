@@ -1,7 +1,6 @@
 -- What a step on the words of a per-CPU semaphore tells its pass.
 use Rattle.std.specs.Prelude.{◌≡◌, ◌≢◌, ℕ, ◌+◌, ◌<◌, ◌≤◌, List, length, Option, Some}
 use Rattle.atomic_table.specs.Table.{Step}
-use Rattle.word_bits.specs.declared.TheConstants.{MAX_TASKS}
 use Rattle.word_bits.specs.declared.entry.Entry.{Entry}
 use Rattle.word_bits.specs.Objects.{Obj}
 use Rattle.word_bits.specs.Histories.{Plan}
@@ -20,9 +19,13 @@ use Rattle.percpu_rwsem.specs.Ruled.{V}
 abbrev pub phased : V → Hand → Phase → V
 phased v h e = record v { hand = h; steps = v.steps + 1; ext = e }
 
--- the word is the code of a task, other than this one
-abbrev pub NamesOther : Option ℕ → ℕ → Type 0
-NamesOther task word = (u : ℕ) × (word ≡ u + 1) × (u < MAX_TASKS) × (task ≢ Some u)
+-- the word is the code of a task of the plan, other than this one
+abbrev pub NamesOther : Plan → Option ℕ → ℕ → Type 0
+NamesOther k task word = (u : ℕ) × (word ≡ u + 1) × (u < length k) × (task ≢ Some u)
+
+-- so it is for the task that the pass has the number of
+abbrev pub TellsOther : Sat Phase → ℕ → Type 0
+TellsOther m word = (k : Plan) → m.0.hand.plan ≡ Some k → NamesOther k m.0.hand.task word
 
 -- it has gone on to this phase, and its hand is as it was
 abbrev pub Goes : Phase → Step (Unit {0}) → Sat Phase → ℕ → Sat Phase → Type 0
@@ -34,7 +37,7 @@ Gets o held e m m' = (known : List ℕ) × (log : List Entry) × ((k : Plan) →
 
 -- a load of the block word after the addition
 abbrev pub Looked : {Call : Type 0} → Obj Call → Step (Unit {0}) → Sat Phase → ℕ → Sat Phase → Type 0
-Looked o st m n m' = (n ≡ 0 → Gets o Shared Reads m m') × (n ≢ 0 → NamesOther m.0.hand.task n × Turns m (phased m.0 m.0.hand Back) m')
+Looked o st m n m' = (n ≡ 0 → Gets o Shared Reads m m') × (n ≢ 0 → TellsOther m n × Turns m (phased m.0 m.0.hand Back) m')
 
 -- a subtraction that ends a shared hold
 abbrev pub Ended : Step (Unit {0}) → Sat Phase → ℕ → Sat Phase → Type 0
@@ -42,11 +45,11 @@ Ended st m n m' = Turns m (phased m.0 (released m.0.hand 0) Idle) m'
 
 -- a load of the block word that changes nothing
 abbrev pub Seen : Step (Unit {0}) → Sat Phase → ℕ → Sat Phase → Type 0
-Seen st m n m' = (n ≢ 0 → NamesOther m.0.hand.task n) × Turns m (ticked m.0) m'
+Seen st m n m' = (n ≢ 0 → TellsOther m n) × Turns m (ticked m.0) m'
 
 -- the exchange of the block word from 0 to the own code
 abbrev pub Blocked : Step (Unit {0}) → Sat Phase → ℕ → Sat Phase → Type 0
-Blocked st m n m' = (n ≡ 0 → Turns m (phased m.0 m.0.hand (Blocks 0)) m') × (n ≢ 0 → NamesOther m.0.hand.task n × Turns m (ticked m.0) m')
+Blocked st m n m' = (n ≡ 0 → Turns m (phased m.0 m.0.hand (Blocks 0)) m') × (n ≢ 0 → TellsOther m n × Turns m (ticked m.0) m')
 
 -- The load of the next count by a pass that blocks and has seen t counts zero. It goes on where it finds 0, and holds alone after the last. Another task's count it is where it finds 1.
 abbrev pub Drained : {Call : Type 0} → Obj Call → Step (Unit {0}) → Sat Phase → ℕ → Sat Phase → Type 0

@@ -15,6 +15,3 @@ pub use pass::PercpuPass;
 pub use rule::PercpuRule;
 pub use site::PercpuRwSem;
 pub use view::Phase;
-
-#[cfg(test)]
-mod tests;

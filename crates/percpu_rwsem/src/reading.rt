@@ -15,7 +15,7 @@ use std::sync::Wait;
 use word_bits::Object;
 
 impl<O: Object> PercpuRwSem<O> {
-    ghost use Rattle.percpu_rwsem.specs.Handles.{plan_of, view_of, hand_in, past_of, task_in, held_in, blocks_in, after, Finds, IsLatest, KeepsPast, SitsAt, TakesSince};
+    ghost use Rattle.percpu_rwsem.specs.Handles.{plan_of, view_of, hand_in, past_of, task_in, held_in, blocks_in, after, CameTo, Finds, IsLatest, KeepsPast, SitsAt, SleepsEachTry, TakesSince};
 
     /// Tries once to read, as `__percpu_down_read_trylock` does: two steps if it gets in, three if
     /// not. `Ok`: the pass holds shared. `Err` has the code of the task that blocks, 1 plus its
@@ -40,7 +40,8 @@ impl<O: Object> PercpuRwSem<O> {
             view_of pass.new ≡ after 3 (view_of pass.old) (hand_in pass.old) Idle) }
         ensures out { IfErr result (λ _. held_in pass.new ≡ No) }
         ensures task { task_in pass.new ≡ task_in pass.old }
-        ensures names { IfErr result (λ word. NamesOther (task_in pass.old) word) }
+        ensures names { IfErr result (λ word.
+            NamesOther (plan_of self.now) (task_in pass.old) word) }
         ensures found { IfErr result (λ word. Finds block_at word pass.old pass.new) }
     {
         let Some(task) = pass.task() else {
@@ -78,6 +79,8 @@ impl<O: Object> PercpuRwSem<O> {
         ensures holds { held_in pass.new ≡ Shared }
         ensures task { task_in pass.new ≡ task_in pass.old }
         ensures free { FoundAt block_at 0 (past_of pass.new) }
+        ensures sleeps { SleepsEachTry 2 (view_of pass.old).steps (view_of pass.new).steps
+            (C.C.sleeps cpu.old) (C.C.sleeps cpu.new) }
     {
         for _ in rt.forever() {
             match self.read_try(pass) {
@@ -100,6 +103,8 @@ impl<O: Object> PercpuRwSem<O> {
         ensures apart { blocks_in pass.new ≡ false }
         ensures kept { view_of pass.new ≡
             after 2 (view_of pass.old) (released (hand_in pass.old) 0) Idle }
+        ensures first { CameTo (after 1 (view_of pass.old) (released (hand_in pass.old) 0) Idle)
+            pass.old pass.new }
         ensures out { held_in pass.new ≡ No }
         ensures task { task_in pass.new ≡ task_in pass.old }
     {

@@ -4,7 +4,7 @@ ghost use Rattle.lock_core.specs.declared.view.Held.TheVariants.{No, Alone};
 ghost use Rattle.lock_core.specs.declared.layout.TheConstants.{LOCK_WORDS};
 ghost use Rattle.lock_core.specs.Records.{IsPlan};
 ghost use Rattle.lock_core.specs.Views.{first, ticked, handed, split_off, merged, gave_up, wrote, after_commit, after_note, Unsent, BesideForgetting, HoldsNothing, OwesNoSignal};
-ghost use Rattle.lock_core.specs.Pasts.{EachMoment, FoundAt, IsMarked, Paced, Tail};
+ghost use Rattle.lock_core.specs.Pasts.{EachMoment, FoundAt, IsMarked, KeepsJoined, Paced, Tail};
 ghost use Rattle.lock_core.specs.Stated.{IsNew};
 ghost use Rattle.lock_core.specs.Locked.{IsSiteStep};
 ghost use Rattle.percpu_rwsem.specs.Stated.{IsPercpuSiteThen};
@@ -25,7 +25,7 @@ pub struct PercpuRwSem<O: Object> {
 }
 
 impl<O: Object> PercpuRwSem<O> {
-    ghost use Rattle.percpu_rwsem.specs.Handles.{plan_of, view_of, hand_in, past_of, task_in, held_in, done_in, front_in, seen_in, blocks_in, after, IsLatest, IsNextChange, MayNoteNext, KeepsPast, SitsAt, TakesNumber};
+    ghost use Rattle.percpu_rwsem.specs.Handles.{plan_of, view_of, hand_in, past_of, joined_by, task_in, held_in, done_in, front_in, seen_in, blocks_in, after, IsLatest, IsNextChange, MayNoteNext, KeepsPast, SitsAt, TakesNumber};
 
     /// A new semaphore: nobody holds, the state is empty, no call is logged or recorded. The pass
     /// has no task number.
@@ -109,6 +109,8 @@ impl<O: Object> PercpuRwSem<O> {
         ensures kept { view_of into.new ≡ merged (view_of into.old) (view_of other) }
         ensures rises { front_in into.old ≤ front_in into.new }
         ensures others { front_in other ≤ front_in into.new }
+        ensures joined { joined_by into.new ≡
+            record { moments = past_of other } ∷ joined_by into.old }
     {
         let PercpuPass { pass, seen: _ } = other;
         self.site.gather(&mut into.pass, pass);
@@ -197,6 +199,7 @@ impl<O: Object> PercpuRwSem<O> {
         ensures always { EachMoment (IsPercpuSiteThen O.object O.WORDS (plan_of self.now))
             (past_of pass.new) }
         ensures moves { Paced (IsSiteStep (plan_of self.now) block_at) (past_of pass.new) }
+        ensures joined { KeepsJoined (joined_by pass.old) (past_of pass.new) }
     {
         self.site.recall(&mut pass.pass);
     }

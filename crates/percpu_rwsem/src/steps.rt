@@ -114,7 +114,7 @@ pub(crate) fn look<O: Object>(
     ensures back { IfErr result (λ word.
         view_of pass.new ≡ phased (view_of pass.old) (hand_in pass.old) Back) }
     ensures face { IfErr result (λ word. SaysSame pass.old pass.new) }
-    ensures names { IfErr result (λ word. NamesOther (task_in pass.old) word) }
+    ensures names { IfErr result (λ word. NamesOther (plan_of site.now) (task_in pass.old) word) }
     ensures found { IfErr result (λ word. FoundAt block_at word (past_of pass.new)) }
 {
     // The load comes behind the addition: who blocks and then finds the count zero is seen.
@@ -179,7 +179,7 @@ pub(crate) fn see<O: Object>(site: &Site<PercpuRule<O>>, pass: &mut Pass<PercpuR
     ensures last { IsLatest pass.new }
     ensures face { SaysSame pass.old pass.new }
     ensures kept { view_of pass.new ≡ ticked (view_of pass.old) }
-    ensures names { result ≢ 0 → NamesOther (task_in pass.old) result }
+    ensures names { result ≢ 0 → NamesOther (plan_of site.now) (task_in pass.old) result }
     ensures found { FoundAt block_at result (past_of pass.new) }
 {
     site.step::<Seeing>(pass, BLOCK, Op::Load)
@@ -205,7 +205,7 @@ pub(crate) fn block<O: Object>(
         view_of pass.new ≡ phased (view_of pass.old) (hand_in pass.old) (Blocks 0)) }
     ensures free { IfOk result (λ _. FoundAt block_at 0 (past_of pass.new)) }
     ensures looked { IfErr result (λ word. view_of pass.new ≡ ticked (view_of pass.old)) }
-    ensures names { IfErr result (λ word. NamesOther (task_in pass.old) word) }
+    ensures names { IfErr result (λ word. NamesOther (plan_of site.now) (task_in pass.old) word) }
     ensures found { IfErr result (λ word. FoundAt block_at word (past_of pass.new)) }
 {
     let code = u64::from(task) + 1;

@@ -15,7 +15,7 @@ use std::sync::Wait;
 use word_bits::Object;
 
 impl<O: Object> PercpuRwSem<O> {
-    ghost use Rattle.percpu_rwsem.specs.Handles.{plan_of, view_of, hand_in, past_of, task_in, held_in, seen_in, blocks_in, after, IsLatest, KeepsPast, SitsAt, StepsTo, TakesSince};
+    ghost use Rattle.percpu_rwsem.specs.Handles.{plan_of, view_of, hand_in, past_of, task_in, held_in, seen_in, blocks_in, after, FindsZerosUpTo, IsLatest, KeepsPast, LooksUpTo, SitsAt, SleepsBehind, StepsTo, TakesSince};
 
     /// Blocks new readers by one compare-exchange. `Err` has the code of the task that blocks
     /// already, 1 plus its number. After `Ok` the pass blocks, and holds nothing until `drain`
@@ -36,7 +36,8 @@ impl<O: Object> PercpuRwSem<O> {
         ensures free { IfOk result (λ _. FoundAt block_at 0 (past_of pass.new)) }
         ensures apart { IfErr result (λ _. blocks_in pass.new ≡ false) }
         ensures kept { IfErr result (λ _. view_of pass.new ≡ ticked (view_of pass.old)) }
-        ensures names { IfErr result (λ word. NamesOther (task_in pass.old) word) }
+        ensures names { IfErr result (λ word.
+            NamesOther (plan_of self.now) (task_in pass.old) word) }
         ensures found { IfErr result (λ word. FoundAt block_at word (past_of pass.new)) }
     {
         let Some(task) = pass.task() else {
@@ -68,6 +69,12 @@ impl<O: Object> PercpuRwSem<O> {
         ensures seen { IfErr result (λ task. seen_in pass.new ≡ Some task) }
         ensures other { IfErr result (λ task. task_in pass.old ≢ Some task) }
         ensures found { IfErr result (λ task. FoundAt (count_at task) 1 (past_of pass.new)) }
+        ensures looked_at_all { IfOk result (λ _.
+            LooksUpTo (length (plan_of self.now)) pass.old pass.new) }
+        ensures all_zero { IfOk result (λ _.
+            FindsZerosUpTo (length (plan_of self.now)) pass.old pass.new) }
+        ensures looked { IfErr result (λ task. LooksUpTo (task + 1) pass.old pass.new) }
+        ensures zero_below { IfErr result (λ task. FindsZerosUpTo task pass.old pass.new) }
     {
         let Some(task) = pass.task() else {
             unreachable!()
@@ -98,6 +105,8 @@ impl<O: Object> PercpuRwSem<O> {
         ensures out { held_in pass.new ≡ No }
         ensures kept { StepsTo (Blocks 0) (view_of pass.old) (view_of pass.new) }
         ensures task { task_in pass.new ≡ task_in pass.old }
+        ensures sleeps { SleepsBehind 1 (view_of pass.old).steps (view_of pass.new).steps
+            (U.sleeps cpu.old) (U.sleeps cpu.new) }
     {
         for _ in rt.forever() {
             if self.block(pass).is_ok() {
@@ -121,6 +130,8 @@ impl<O: Object> PercpuRwSem<O> {
             (Blocks (length (plan_of self.now))) (view_of pass.old) (view_of pass.new) }
         ensures holds { held_in pass.new ≡ Alone }
         ensures task { task_in pass.new ≡ task_in pass.old }
+        ensures sleeps { SleepsBehind 1 (view_of pass.old).steps (view_of pass.new).steps
+            (U.sleeps cpu.old) (U.sleeps cpu.new) }
     {
         for _ in rt.forever() {
             if self.drain(pass).is_ok() {
@@ -153,6 +164,8 @@ impl<O: Object> PercpuRwSem<O> {
             (Blocks (length (plan_of self.now))) (view_of pass.old) (view_of pass.new) }
         ensures holds { held_in pass.new ≡ Alone }
         ensures task { task_in pass.new ≡ task_in pass.old }
+        ensures sleeps { SleepsBehind 2 (view_of pass.old).steps (view_of pass.new).steps
+            (C.C.sleeps cpu.old) (C.C.sleeps cpu.new) }
     {
         self.wait_to_block(rt, pass, cpu);
         self.wait_to_drain(rt, pass, cpu);

@@ -1,4 +1,5 @@
-//! Tests of single steps on the words of locks, of their queues, and of CPUs, crews and gates.
+//! Tests of single steps on the words of locks, of their queues, and of CPUs, crews and gates; and
+//! of the per-CPU semaphore.
 #![tactic(auto)]
 
 #[cfg(test)]
@@ -13,6 +14,8 @@ mod cpu_tests;
 mod leave_tests;
 #[cfg(test)]
 mod owner_tests;
+#[cfg(test)]
+mod percpu_tests;
 #[cfg(test)]
 mod queue_tests;
 #[cfg(test)]

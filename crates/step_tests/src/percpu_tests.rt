@@ -1,7 +1,7 @@
 //! Rows of a per-CPU semaphore. The code of task t is t + 1.
-use super::*;
 use cpu_task::{Crew, ScriptedCrew, Turns};
 use lock_core::{Held, Nothing, Plan};
+use percpu_rwsem::PercpuRwSem;
 use std::test::Fail;
 
 const NO_TURNS: Turns = Turns {
