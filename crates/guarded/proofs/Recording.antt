@@ -18,11 +18,12 @@ use Rattle.lock_core.specs.declared.view.Held.{Held}
 use Rattle.lock_core.specs.declared.view.Held.TheVariants.{No}
 use Rattle.lock_core.specs.declared.view.Stage.{Stage}
 use Rattle.lock_core.specs.declared.view.Stage.TheVariants.{Logged}
-use Rattle.lock_core.specs.Records.{is_sent}
-use Rattle.lock_core.specs.Views.{recorded, committed, noted, next_entry}
+use Rattle.lock_core.specs.Records.{is_sent, row}
+use Rattle.lock_core.specs.Views.{recorded, committed, noted, next_entry, OwesNoSignal, Unsent}
 use Rattle.lock_core.specs.Passes.{IsReading, MayNote}
 use Rattle.lock_core.proofs.RowLaws.{get-last}
 use Rattle.lock_core.proofs.RecordLaws.{object-logs, changes-is}
+use Rattle.lock_core.proofs.Replies.{settled-object}
 use Rattle.guarded.proofs.Passing.{beside-trans}
 use Rattle.lock_core.specs.declared.view.Line.{Line}
 use Rattle.lock_core.specs.declared.view.Moment.{Moment}
@@ -162,6 +163,10 @@ module _ {Call : Type 0} (o : Obj Call) (kind : Kind) (k : Plan) where
   reading-note h g words c reply same next is reads held stored object replies = subst (λ (x : Hand). MayNote o (unavailable kind) k x (next_entry x) reply) (sym same)
       (may-note h (next_entry h) reply object (record { words = words; call = c; planned = next.1; is = is; reads = reads; held = held; stored = stored; replies = replies }))
 
+  -- its note leaves no signal unrecorded
+  pub reading-unsent : (h g : Hand) (reply : Reply) → g ≡ h → IsObjectReply reply → OwesNoSignal h → Unsent g reply
+  reading-unsent h g reply same object owes = subst (λ (x : Hand). Unsent x reply) (sym same) (subst OwesNoSignal (sym (settled-object h reply object)) owes)
+
   pub serves-looked : (v w m u : Shown) (words : CallWords) (c : Call) (reply : Reply) (step : ℕ) → o.call_of words ≡ Some c → o.reads c ≡ true → IsObjectReply reply → reply ≡ (o.meaning (state_after o k v.hand.log) c).1
       → Looks v w → m.hand ≡ noted w.hand step (next_entry w.hand) reply → AllButHand w m → Releases (wakes_shared kind) m u → Serves o kind k words reply v u
   serves-looked v w m u words c reply step is reads object replies looks hand beside ends =
@@ -267,6 +272,17 @@ pending-on why v m u later goes s = record {
   pending = s.pending;
 }
 
+-- the note of a call that couldn't have the lock leaves no signal unrecorded
+pub refused-unsent : (kind : Kind) (at : ℕ) (v m : Shown) (reads : Bool) (mode : Mode) (reply : Reply) → OwesNoSignal v.hand → Refuses kind at mode reads reply v m → Unsent m.hand reply
+refused-unsent kind at v m reads mode Good owes why = absurd why
+refused-unsent kind at v m reads mode (Num n) owes why = absurd why
+refused-unsent kind at v m reads mode (Refused x) owes why = absurd why
+refused-unsent kind at v m reads mode MapErr owes why = absurd why
+refused-unsent kind at v m reads mode AccErr owes why = absurd why
+refused-unsent kind at v m reads mode Sent owes why = absurd why
+refused-unsent kind at v m reads mode (Busy w) owes why = (why.1.keeps.sent ∙ owes.0, why.1.consumed ∙ owes.1)
+refused-unsent kind at v m reads mode Intr owes why = let more = why.1.1.consumed in let none = owes.1 in (why.1.1.keeps.sent ∙ owes.0, omega (arith, more, none))
+
 module _ {Call : Type 0} (o : Obj Call) (kind : Kind) (at : ℕ) (k : Plan) where
   -- a call that held
   pub performs-served : (v m u : Shown) (words : CallWords) (c : Call) (reads : Bool) (reply : Reply) (how : Held) → IsNextCall k v.hand words → o.call_of words ≡ Some c → reads ≡ o.reads c → signal_of words ≡ None → (v.hand.sent ≡ None) × (v.hand.consumed ≡ 0)
@@ -338,6 +354,42 @@ module _ {Call : Type 0} (o : Obj Call) (kind : Kind) (at : ℕ) (k : Plan) wher
       (ap {A = Hand} (λ h. h.sent) now, ap {A = Hand} (λ h. h.consumed) now ∙ consumed) (counts-beside v u misses along) (λ _. refl) (λ word e. absurd (false≢true (subst (λ r. is_sent r ≡ true) e refl))) (λ e. absurd (false≢true (subst (λ r. is_sent r ≡ true) e refl)))
       (λ _. (along.2, along.1, omega (arith, misses)))
       (λ _. record { queues = λ rise. absurd (omega arith); few = λ _. omega arith })
+
+  -- what a call may note that couldn't have the lock
+  pub refused-note : (v m : Shown) (words : CallWords) (c : Call) (reads : Bool) (mode : Mode) (reply : Reply) → IsNextCall k v.hand words → o.call_of words ≡ Some c → reads ≡ o.reads c → mode ≡ mode_of words → v.hand.consumed ≡ 0 → v.hand.last ≤ v.steps
+      → Refuses kind at mode reads reply v m → MayNote o (unavailable kind) k m.hand (next_entry m.hand) reply
+  refused-note v m words c reads mode Good next is same says none latest why = absurd why
+  refused-note v m words c reads mode (Num n) next is same says none latest why = absurd why
+  refused-note v m words c reads mode (Refused x) next is same says none latest why = absurd why
+  refused-note v m words c reads mode MapErr next is same says none latest why = absurd why
+  refused-note v m words c reads mode AccErr next is same says none latest why = absurd why
+  refused-note v m words c reads mode Sent next is same says none latest why = absurd why
+  refused-note v m words c reads mode (Busy w) next is same says none latest why = let miss = why.1 in let sees = miss.sees in let keeps = miss.keeps in record {
+    words = words;
+    call = c;
+    planned = subst (λ (e : Entry). slice_get (row k e.task) e.call ≡ Some words) (sym (same-entry v.hand m.hand keeps.task keeps.done)) next.1;
+    is = is;
+    tries = sym says ∙ why.0;
+    free = miss.out;
+    saw = sees.saw;
+    seen = sees.is;
+    word_is = sees.word_is;
+    since = let last = keeps.last in let later = sees.since in omega (arith, last, later, latest);
+    shut = subst (λ (b : Bool). (unavailable kind) b w) same sees.shut;
+  }
+  refused-note v m words c reads mode Intr next is same says none latest why = let cut = why.1.1 in let sees = cut.sees in let keeps = cut.keeps in record {
+    words = words;
+    call = c;
+    planned = subst (λ (e : Entry). slice_get (row k e.task) e.call ≡ Some words) (sym (same-entry v.hand m.hand keeps.task keeps.done)) next.1;
+    is = is;
+    waits = sym says ∙ why.0;
+    free = cut.out;
+    consumed = let more = cut.consumed in omega (arith, more, none);
+    saw = sees.saw;
+    seen = sees.is;
+    since = let last = keeps.last in let later = sees.since in omega (arith, last, later, latest);
+    shut = subst (λ (n : ℕ). (unavailable kind) (o.reads c) n) (sym sees.word_is) (subst (λ (b : Bool). (unavailable kind) b cut.word) same sees.shut);
+  }
 
   -- a call that couldn't have the lock
   pub performs-refused : (v m u : Shown) (words : CallWords) (c : Call) (reads : Bool) (mode : Mode) (reply : Reply) (step : ℕ) → IsNextCall k v.hand words → o.call_of words ≡ Some c → reads ≡ o.reads c → mode ≡ mode_of words → signal_of words ≡ None → (v.hand.sent ≡ None) × (v.hand.consumed ≡ 0)

@@ -10,7 +10,7 @@ ghost use Rattle.lock_core.specs.declared.layout.TheConstants.{LOCK_WORDS};
 ghost use Rattle.lock_core.specs.Layout.{entry_place, length_place, record_place};
 ghost use Rattle.lock_core.specs.Plans.{IsSmall};
 ghost use Rattle.lock_core.specs.Records.{row, IsPlan, IsCallOrSignal};
-ghost use Rattle.lock_core.specs.Views.{next_entry, wrote, committed, noted, sending, gave_up, gathered, Knows, Unsent};
+ghost use Rattle.lock_core.specs.Views.{next_entry, wrote, committed, noted, sending, gave_up, gathered, Knows, OwesNoSignal, Unsent};
 ghost use Rattle.lock_core.specs.Passes.{IsChange, IsSignal, MayNote, Numbered, IsEntryWord};
 ghost use Rattle.lock_core.specs.Pasts.{EachMoment, FoundAt, GoesOn, Paced, Tail};
 ghost use Rattle.lock_core.specs.Stated.{IsNew};
@@ -186,7 +186,7 @@ pub trait SleepLock<O: Object>: Sized {
         requires held { (view pass.old).hand.held ≡ Alone }
         requires numbered { IsSome (view pass.old).hand.task }
         requires next { call ≡ (view pass.old).hand.done }
-        requires unsent { (view pass.old).hand.sent ≡ None }
+        requires recorded { OwesNoSignal (view pass.old).hand }
         requires change { IsChange O.object (calls_on self.now)
             (view pass.old).hand (next_entry (view pass.old).hand) reply }
         ensures own { sits self.now pass.new }

@@ -4,7 +4,7 @@ ghost use Rattle.word_bits.specs.declared.call.Mode.TheVariants.{Int, Try};
 ghost use Rattle.word_bits.specs.Calls.{signal_of};
 ghost use Rattle.lock_core.specs.declared.view.Held.TheVariants.{No, Alone};
 ghost use Rattle.lock_core.specs.Records.{row};
-ghost use Rattle.lock_core.specs.Views.{next_entry};
+ghost use Rattle.lock_core.specs.Views.{OwesNoSignal, next_entry};
 ghost use Rattle.lock_core.specs.Kinds.{shares, unavailable};
 ghost use Rattle.lock_core.specs.Shown.{IsNextCall, PastGoesOn};
 ghost use Rattle.lock_core.specs.Locking.{Looks, Takes, KeepsPlace, Releases, IsStored, held_by};
@@ -267,7 +267,7 @@ impl<L: SleepLock<O>, O: Served + Drop> Guarded<L, O> {
         requires quiet { (L.view pass.old).hand.writes ≡ false }
         requires stored { IsStored O.object (L.calls_on (lock_of self.now))
             (L.view pass.old).hand }
-        requires unsent { (L.view pass.old).hand.sent ≡ None }
+        requires recorded { OwesNoSignal (L.view pass.old).hand }
         requires next { IsNext O.object (L.calls_on (lock_of self.now))
             (L.view pass.old).hand next }
         requires reads { O.object.reads next.call ≡ true }
@@ -299,7 +299,7 @@ impl<L: SleepLock<O>, O: Served + Drop> Guarded<L, O> {
         requires quiet { (L.view pass.old).hand.writes ≡ false }
         requires stored { IsStored O.object (L.calls_on (lock_of self.now))
             (L.view pass.old).hand }
-        requires unsent { (L.view pass.old).hand.sent ≡ None }
+        requires recorded { OwesNoSignal (L.view pass.old).hand }
         requires next { IsNext O.object (L.calls_on (lock_of self.now))
             (L.view pass.old).hand next }
         requires changes { O.object.reads next.call ≡ false }
@@ -379,7 +379,7 @@ impl<L: SleepLock<O>, O: Served + Drop> Guarded<L, O> {
         requires held { (L.view pass.old).hand.held ≡ Alone }
         requires stored { IsStored O.object (L.calls_on (lock_of self.now))
             (L.view pass.old).hand }
-        requires unsent { (L.view pass.old).hand.sent ≡ None }
+        requires recorded { OwesNoSignal (L.view pass.old).hand }
         requires next { IsNext O.object (L.calls_on (lock_of self.now))
             (L.view pass.old).hand next }
         requires changes { O.object.reads next.call ≡ false }

@@ -14,7 +14,7 @@ use Rattle.word_bits.specs.Histories.{Plan, state_after}
 use Rattle.word_bits.proofs.States.{state_is_state}
 use Rattle.lock_core.specs.declared.view.Hand.{Hand}
 use Rattle.lock_core.specs.Passes.{Accounts}
-use Rattle.lock_core.specs.Views.{entry_of, settled}
+use Rattle.lock_core.specs.Views.{entry_of, settled, OwesNoSignal}
 
 errno-small : (e : Errno) → errno_number e < 2 ^ 22
 errno-small BadF = omega arith
@@ -33,7 +33,7 @@ reply-small (Busy w) i = absurd i
 reply-small Intr i = absurd i
 reply-small Sent i = absurd i
 
-pub reply-accounts : (h : Hand) (w : CallWords) (r : Reply) → IsObjectReply r → h.sent ≡ None → Accounts h w r
+pub reply-accounts : (h : Hand) (w : CallWords) (r : Reply) → IsObjectReply r → OwesNoSignal h → Accounts h w r
 reply-accounts h w Good i none = none
 reply-accounts h w (Num n) i none = none
 reply-accounts h w (Refused e) i none = none
@@ -42,6 +42,17 @@ reply-accounts h w AccErr i none = none
 reply-accounts h w (Busy n) i none = absurd i
 reply-accounts h w Intr i none = absurd i
 reply-accounts h w Sent i none = absurd i
+
+-- a record that accounts for signals leaves none unrecorded
+pub accounts-settle : (h : Hand) (w : CallWords) (r : Reply) → Accounts h w r → OwesNoSignal (settled h r)
+accounts-settle h w Good a = a
+accounts-settle h w (Num n) a = a
+accounts-settle h w (Refused e) a = a
+accounts-settle h w MapErr a = a
+accounts-settle h w AccErr a = a
+accounts-settle h w (Busy n) a = a
+accounts-settle h w Intr a = let one = a.1 in (a.0, omega (arith, one))
+accounts-settle h w Sent a = (refl, a.0)
 
 -- such a record leaves the signals that aren't recorded
 pub settled-object : (h : Hand) (r : Reply) → IsObjectReply r → settled h r ≡ h

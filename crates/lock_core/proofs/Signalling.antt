@@ -21,7 +21,7 @@ use Rattle.lock_core.specs.declared.view.Heard.{Heard}
 use Rattle.lock_core.specs.Plans.{appended, calls_in}
 use Rattle.lock_core.specs.Layout.{SiteWords}
 use Rattle.lock_core.specs.Records.{bit, row, is_sent, task_sends, sends, intrs}
-use Rattle.lock_core.specs.Views.{sent_after, consumed_after, is_number, consumed_weight, held_of, alone_of, writes_of, owed_of, named_of, sent_of, consumed_of}
+use Rattle.lock_core.specs.Views.{sent_after, consumed_after, OwesNoSignal, is_number, consumed_weight, held_of, alone_of, writes_of, owed_of, named_of, sent_of, consumed_of}
 use Rattle.lock_core.specs.Sites.{HeardOk, HandOk, SiteKept, Balances, taken_at, sent_at, consumed_at}
 use Rattle.lock_core.specs.Totals.{total, total-set, total-same}
 use Rattle.lock_core.specs.Parts.{Each, each-set}
@@ -177,9 +177,9 @@ module _ {Call : Type 0} (o : Obj Call) (unavailable : Unavailable) (size : ℕ)
         each = each-set P P hs id g record { plan = a.plan; known = a.known; writer = a.writer; seen = a.seen; entered = a.entered; logged = a.logged; mine = a.mine; nameless = λ eq. none-some t (sym eq ∙ has); knows = a.knows; saw = a.saw; signals = a.signals } (λ j v _ _ p. p) r.each;
       }
 
-  plain-accounts : (told : Records) (t : ℕ) (h : Hand) (x : Rec) → is_sent x.reply ≡ false → is_intr x.reply ≡ false → h.sent ≡ None
+  plain-accounts : (told : Records) (t : ℕ) (h : Hand) (x : Rec) → is_sent x.reply ≡ false → is_intr x.reply ≡ false → OwesNoSignal h
       → ((u : ℕ) → sends u k (appended told t x) + is_number u h.sent ≡ sends u k told + sent_of u h) × ((u : ℕ) → intrs (row (appended told t x) u) + consumed_weight u h.task h.consumed ≡ intrs (row told u) + consumed_of u h) × (h.sent ≡ None)
-  plain-accounts told t h x unsent unintr none = ((λ u. ap (λ (z : ℕ). z + sent_of u h) (sends-appended u k told t x unsent)), (λ u. ap (λ (z : ℕ). z + consumed_of u h) (intrs-appended u t told x unintr)), none)
+  plain-accounts told t h x unsent unintr none = ((λ u. ap (λ (z : ℕ). z + sent_of u h) (sends-appended u k told t x unsent)), (λ u. ap (λ (z : ℕ). z + consumed_of u h) (intrs-appended u t told x unintr)), none.0)
 
   -- how the record of a call accounts for signals
   pub accounts : (told : Records) (t : ℕ) (h : Hand) (words : CallWords) (x : Rec) (reply : Reply) → x.reply ≡ reply → length told ≡ length k → t < length k → h.task ≡ Some t → slice_get (row k t) (length (row told t)) ≡ Some words → Accounts h words reply
@@ -192,7 +192,7 @@ module _ {Call : Type 0} (o : Obj Call) (unavailable : Unavailable) (size : ℕ)
   accounts told t h words x (Busy n) is tasks inside has planned none = plain-accounts told t h x (ap is_sent is) (ap is_intr is) none
   accounts told t h words x Intr is tasks inside has planned a = (
     (λ u. ap (λ (z : ℕ). z + sent_of u h) (sends-appended u k told t x (ap is_sent is))),
-    (λ u. let some_it = a.1 in let back : (h.consumed - 1) + 1 ≡ h.consumed = omega (arith, some_it) in let c : consumed_of u h ≡ consumed_weight u h.task (h.consumed - 1) + is_number u (Some t) = ap (consumed_weight u h.task) (sym back) ∙ (consumed-more u h.task (h.consumed - 1) ∙ ap (λ (z : ℕ). consumed_weight u h.task (h.consumed - 1) + z) (ap (is_number u) has)) in dite (ℕ_discrete u t)
+    (λ u. let one_more = a.1 in let back : (h.consumed - 1) + 1 ≡ h.consumed = omega (arith, one_more) in let c : consumed_of u h ≡ consumed_weight u h.task (h.consumed - 1) + is_number u (Some t) = ap (consumed_weight u h.task) (sym back) ∙ (consumed-more u h.task (h.consumed - 1) ∙ ap (λ (z : ℕ). consumed_weight u h.task (h.consumed - 1) + z) (ap (is_number u) has)) in dite (ℕ_discrete u t)
         (λ same. let one : is_number u (Some t) ≡ 1 = ap (λ (z : ℕ). is_number u (Some z)) (sym same) ∙ is_number-here u in let row' : row (appended told t x) u ≡ row told u ++ x ∷ [] = ap (row (appended told t x)) same ∙ (row-appended told t x (omega (arith, tasks, inside)) ∙ ap (λ (z : ℕ). row told z ++ x ∷ []) (sym same)) in
         let m : intrs (row (appended told t x) u) ≡ intrs (row told u) + 1 = ap intrs row' ∙ (intrs-one (row told u) x ∙ ap (λ (z : Bool). intrs (row told u) + bit z) (ap is_intr is)) in omega (arith, c, one, m))
         (λ other. let zero_it = is_number-else u t (λ z. other (sym z)) in let m = ap intrs (row-beside told t u x other) in omega (arith, c, zero_it, m))),
@@ -200,8 +200,8 @@ module _ {Call : Type 0} (o : Obj Call) (unavailable : Unavailable) (size : ℕ)
   )
   accounts told t h words x Sent is tasks inside has planned a = (
     (λ u. let m = sends-more u k told t x words tasks planned in
-        let e : bit (is_sent x.reply && signals_to u words) ≡ bit (a.0 == u) = (λ i. bit (is_sent (is i) && signals_to u words)) ∙ ap (λ (z : Option ℕ). bit (option_map_or (λ q. q == u) z false)) a.2 in
-        let f : sent_of u h ≡ bit (a.0 == u) = ap (is_number u) a.1 in omega (arith, m, e, f)),
+        let e : bit (is_sent x.reply && signals_to u words) ≡ bit (a.1.0 == u) = (λ i. bit (is_sent (is i) && signals_to u words)) ∙ ap (λ (z : Option ℕ). bit (option_map_or (λ q. q == u) z false)) a.1.2 in
+        let f : sent_of u h ≡ bit (a.1.0 == u) = ap (is_number u) a.1.1 in omega (arith, m, e, f)),
     (λ u. ap (λ (z : ℕ). z + consumed_of u h) (intrs-appended u t told x (ap is_intr is))),
     refl,
   )

@@ -28,6 +28,7 @@ use Rattle.lock_core.proofs.HandLaws.{alone-is-held}
 use Rattle.lock_core.proofs.Numbering.{next-short}
 use Rattle.lock_core.proofs.Reading.{same-plan}
 use Rattle.lock_core.proofs.WordSteps.{site-writes, site-enters, site-logs, site-records, none-owed}
+use Rattle.lock_core.proofs.Replies.{accounts-settle}
 use Rattle.lock_core.proofs.Signalling.{accounts}
 use Rattle.lock_core.specs.declared.layout.TheConstants.{ENTRIES_AT, LENGTH_AT, LINES_AT}
 
@@ -100,6 +101,8 @@ module _ {Call : Type 0} (o : Obj Call) (unavailable : Unavailable) (size : ℕ)
                 ∙ (rec_words-at k r.told e.task h.done r.tells.tasks (omega (arith, is, inside)) ∙ (let l = mine.1 in task_recs-none (row k e.task) (row r.told e.task) h.done (omega (arith, l))));
             stored = ap (λ (c : ℕ). set (lay k s).recs (start k e.task + c) (rec_word x)) (sym is);
             busy = may.busy;
+            interrupted = may.interrupted;
+            settled = accounts-settle h words x.reply may.accounts;
             done = refl;
             last = refl;
           };

@@ -25,11 +25,11 @@ use Rattle.lock_core.specs.declared.view.Held.TheVariants.{No, Alone}
 use Rattle.lock_core.specs.declared.view.Stage.TheVariants.{Rest, Logged}
 use Rattle.lock_core.specs.declared.layout.TheConstants.{ENTRIES_AT, LINES_AT}
 use Rattle.word_bits.specs.EntryWord.{entry_word}
-use Rattle.lock_core.specs.Sites.{SawSince, consumed_at}
+use Rattle.lock_core.specs.Sites.{SawSince, WasInterrupted, consumed_at}
 use Rattle.lock_core.specs.Plans.{calls_in, start}
 use Rattle.lock_core.specs.Layout.{recs_at, calls_at}
 use Rattle.lock_core.specs.Records.{row, seen_by, AreNext}
-use Rattle.lock_core.specs.Views.{front, became, hearing, consuming, longer, owed_of, Knows, KnowsFirst, handed}
+use Rattle.lock_core.specs.Views.{front, became, hearing, consuming, longer, owed_of, Knows, KnowsFirst, OwesNoSignal, handed}
 
 -- the seat is one of the table's, and the pass says of itself what the view does
 pub record Sits {E : Type 0} (k : Plan) (table : TableId) (seat : TableId) (me : Me (Unit {0}) (Seen E)) (face : Face) : Type 0 where
@@ -120,11 +120,11 @@ pub record HearsOfNone {E : Type 0} (why : Interrupted) (v u : View E) : Type 0 
 abbrev pub Settles : {Call : Type 0} → Obj Call → Hand → List Entry → Entry → CallWords → Rec → Type 0
 Settles o h log e w r = (owed_of h ≡ 0) ⊎ ((h.stage ≡ Logged e) × (r.k + 1 ≡ length log) × (logs o w r.reply ≡ true))
 
--- how a record with this reply accounts for signals: none that was sent is left unrecorded
+-- how a record with this reply accounts for signals: it is of the one that the pass consumed or sent and hasn't recorded, or there is none
 abbrev pub Accounts : Hand → CallWords → Reply → Type 0
-Accounts h w Intr = (h.sent ≡ None) × (0 < h.consumed)
-Accounts h w Sent = (t : ℕ) × (h.sent ≡ Some t) × (signal_of w ≡ Some t)
-Accounts h w reply = h.sent ≡ None
+Accounts h w Intr = (h.sent ≡ None) × (h.consumed ≡ 1)
+Accounts h w Sent = (h.consumed ≡ 0) × ((t : ℕ) × (h.sent ≡ Some t) × (signal_of w ≡ Some t))
+Accounts h w reply = OwesNoSignal h
 
 -- what a pass may record of its task's next call: the record says, whatever the log is, what the call replied there
 pub record MayRecord {Call : Type 0} (o : Obj Call) (unavailable : Unavailable) (k : Plan) (h : Hand) (e : Entry) (w : CallWords) (r : Rec) (seen : List Entry) : Type 0 where
@@ -134,6 +134,7 @@ pub record MayRecord {Call : Type 0} (o : Obj Call) (unavailable : Unavailable) 
   pub fits : IsRec r
   pub enough : seen_after (logs o w r.reply) r ≤ length seen
   pub busy : (word : ℕ) → r.reply ≡ Busy word → SawSince h word
+  pub interrupted : r.reply ≡ Intr → WasInterrupted h
   pub accounts : Accounts h w r.reply
   pub means : (log : List Entry) → (h.held ≢ No → h.log ≡ log) → (length h.seen ≤ length log) × (take (length h.seen) log ≡ h.seen)
       → IsRecord o unavailable k log r.k e w r × (owed_of h ≡ 0 → length h.seen ≤ r.k) × (length seen ≤ length log) × (take (length seen) log ≡ seen) × Settles o h log e w r
@@ -188,15 +189,19 @@ pub record IsSignal (k : Plan) (e : Entry) (target : ℕ) : Type 0 where
   pub planned : slice_get (row k e.task) e.call ≡ Some words
   pub is : signal_of words ≡ Some target
 
--- the task's next call waits for signals, and its pass has consumed one that isn't recorded
-pub record IsInterrupted {Call : Type 0} (o : Obj Call) (k : Plan) (h : Hand) (e : Entry) : Type 0 where
+-- the task's next call waits for signals, its pass has consumed one since its last record, and a try since then saw a word which shows that the call can't have the lock
+pub record IsInterrupted {Call : Type 0} (o : Obj Call) (unavailable : Unavailable) (k : Plan) (h : Hand) (e : Entry) : Type 0 where
   pub words : CallWords
   pub call : Call
   pub planned : slice_get (row k e.task) e.call ≡ Some words
   pub is : o.call_of words ≡ Some call
   pub waits : mode_of words ≡ Int
   pub free : h.held ≡ No
-  pub consumed : 0 < h.consumed
+  pub consumed : h.consumed ≡ 1
+  pub saw : Saw
+  pub seen : h.saw ≡ Some saw
+  pub since : h.last < saw.step
+  pub shut : unavailable (o.reads call) saw.word
 
 -- the task's next call is a signal, which its pass has sent and not recorded
 pub record IsSent (k : Plan) (h : Hand) (e : Entry) : Type 0 where
@@ -214,6 +219,6 @@ IsEntryWord h at word = (e : Entry) → slice_get h.log at ≡ Some e → word �
 -- what a pass may note
 abbrev pub MayNote : {Call : Type 0} → Obj Call → Unavailable → Plan → Hand → Entry → Reply → Type 0
 MayNote o unavailable k h e (Busy word) = IsBusy o unavailable k h e word
-MayNote o unavailable k h e Intr = IsInterrupted o k h e
+MayNote o unavailable k h e Intr = IsInterrupted o unavailable k h e
 MayNote o unavailable k h e Sent = IsSent k h e
 MayNote o unavailable k h e reply = IsReading o k h e reply

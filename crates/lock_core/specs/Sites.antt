@@ -5,7 +5,7 @@ use Rattle.word_bits.specs.declared.call.CallWords.{CallWords}
 use Rattle.word_bits.specs.Calls.{signal_of}
 use Rattle.word_bits.specs.declared.entry.Entry.{Entry}
 use Rattle.word_bits.specs.declared.rec.Rec.{Rec}
-use Rattle.word_bits.specs.declared.reply.Reply.TheVariants.{Busy}
+use Rattle.word_bits.specs.declared.reply.Reply.TheVariants.{Busy, Intr}
 use Rattle.word_bits.specs.RecWord.{IsRec, rec_word}
 use Rattle.word_bits.specs.EntryWord.{entry_word}
 use Rattle.word_bits.specs.LockWords.{Unavailable}
@@ -21,7 +21,7 @@ use Rattle.lock_core.specs.declared.layout.TheConstants.{LOCK_WORDS, LINES_AT}
 use Rattle.lock_core.specs.Plans.{IsSmall, calls_in, call_words, start}
 use Rattle.lock_core.specs.Layout.{SiteWords, site_width}
 use Rattle.lock_core.specs.Records.{row, rec_words, sends, intrs, IsPlan, IsLoggedAt, seen_by, AreNext}
-use Rattle.lock_core.specs.Views.{held_of, alone_of, writes_of, owed_of, named_of, sent_of, consumed_of}
+use Rattle.lock_core.specs.Views.{held_of, alone_of, writes_of, owed_of, named_of, sent_of, consumed_of, OwesNoSignal}
 use Rattle.lock_core.specs.Totals.{total}
 use Rattle.lock_core.specs.Parts.{Each}
 
@@ -138,6 +138,10 @@ Grows w w' = (w.len ≤ w'.len) × (take w.len w'.entries ≡ take w.len w.entri
 abbrev pub SawSince : Hand → ℕ → Type 0
 SawSince h word = (saw : Saw) × (h.saw ≡ Some saw) × (saw.word ≡ word) × (h.last < saw.step)
 
+-- since it last recorded, a pass with this hand consumed one signal, and a try of it failed, which saw a word
+abbrev pub WasInterrupted : Hand → Type 0
+WasInterrupted h = (h.consumed ≡ 1) × ((word : ℕ) × SawSince h word)
+
 -- what every step of a pass does to its hand: its misses and the number of its takes don't fall, what its last release left stays while it holds as before, and it comes to hold by one take more alone
 pub record HoldGoes (h g : Hand) : Type 0 where
   pub misses : h.misses ≤ g.misses
@@ -163,7 +167,7 @@ pub record FailsTry (step word : ℕ) (h g : Hand) : Type 0 where
 abbrev pub SawGoes : (step word : ℕ) → Hand → Hand → Type 0
 SawGoes step word h g = KeepsSaw h g ⊎ FailsTry step word h g
 
--- the step of this number stores, in its place among all records, that of the next call of the pass's own task; one that says that the lock was taken has a word that the pass saw since it last recorded
+-- the step of this number stores, in its place among all records, that of the next call of the pass's own task; one that says that the lock was taken has a word that the pass saw since it last recorded; before one that says that the call was interrupted, the pass consumed one signal and saw a word; every signal that the pass sent or consumed is then recorded
 pub record StoresRecord (step : ℕ) (w w' : SiteWords) (h g : Hand) : Type 0 where
   pub plan : Plan
   pub planned : h.plan ≡ Some plan
@@ -176,6 +180,8 @@ pub record StoresRecord (step : ℕ) (w w' : SiteWords) (h g : Hand) : Type 0 wh
   pub empty : slice_index w.recs (start plan task + h.done) ≡ 0
   pub stored : w'.recs ≡ slice_set w.recs (start plan task + h.done) (rec_word rec)
   pub busy : (word : ℕ) → rec.reply ≡ Busy word → SawSince h word
+  pub interrupted : rec.reply ≡ Intr → WasInterrupted h
+  pub settled : OwesNoSignal g
   pub done : g.done ≡ h.done + 1
   pub last : g.last ≡ step
 

@@ -119,14 +119,13 @@ consumed_after n reply = n
 abbrev pub settled : Hand → Reply → Hand
 settled h reply = record h { sent = sent_after h.sent reply; consumed = consumed_after h.consumed reply }
 
--- such a record leaves no signal unrecorded
-abbrev pub Unsent : Hand → Reply → Type 0
-Unsent h Sent = Unit {0}
-Unsent h reply = h.sent ≡ None
-
 -- each signal that it sent or consumed is recorded
 abbrev pub OwesNoSignal : Hand → Type 0
 OwesNoSignal h = (h.sent ≡ None) × (h.consumed ≡ 0)
+
+-- such a record leaves no signal unrecorded
+abbrev pub Unsent : Hand → Reply → Type 0
+Unsent h reply = OwesNoSignal (settled h reply)
 
 -- the next call of the pass's task
 abbrev pub next_entry : Hand → Entry

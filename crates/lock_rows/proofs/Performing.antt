@@ -9,7 +9,7 @@ use Rattle.word_bits.specs.Histories.{Plan, state_after}
 use Rattle.word_bits.proofs.States.{IsLawful, state_is_state}
 use Rattle.lock_core.specs.declared.view.Hand.{Hand}
 use Rattle.word_bits.specs.declared.call.CallWords.{CallWords}
-use Rattle.word_bits.specs.declared.call.Mode.TheVariants.{Try}
+use Rattle.word_bits.specs.declared.call.Mode.TheVariants.{Int, Try}
 use Rattle.word_bits.specs.Calls.{mode_of}
 use Rattle.lock_core.specs.declared.view.View.{View}
 use Rattle.lock_core.specs.declared.view.Held.TheVariants.{No}
@@ -19,9 +19,10 @@ use Rattle.lock_core.specs.declared.pass.Pass.{Pass}
 use Rattle.lock_core.specs.declared.site.Site.{Site}
 use Rattle.lock_core.specs.Handles.{hand_in, SitsAt, SaysSame}
 use Rattle.lock_core.specs.Records.{row}
-use Rattle.lock_core.specs.Views.{next_entry}
+use Rattle.lock_core.specs.Views.{consuming, next_entry}
 use Rattle.lock_core.specs.Shown.{IsNextCall}
-use Rattle.lock_core.specs.Passes.{IsBusy, IsReading, MayNote}
+use Rattle.lock_core.specs.declared.how.Interrupted.{Interrupted}
+use Rattle.lock_core.specs.Passes.{Consumes, IsBusy, IsInterrupted, IsReading, MayNote}
 use Rattle.lock_core.proofs.HandLaws.{not-both}
 use Rattle.mutex_word.specs.Holders.{MissesOwner}
 use Rattle.lock_core.specs.Locking.{IsStored}
@@ -50,6 +51,23 @@ busy-next o k v u words call word next is tries out latest missed shut = let now
   seen = ap (λ (h : Hand). h.saw) now;
   word_is = refl;
   since = let last = ap (λ (h : Hand). h.last) now in omega (arith, last, latest);
+  shut = shut (o.reads call);
+}
+
+-- one that waits for signals is interrupted where a try saw the lock taken, and its pass then consumed a signal
+pub interrupted-next : {E Call : Type 0} (o : Obj Call) (k : Plan) (v u w : View E) (words : CallWords) (call : Call) (word : ℕ) (why : Interrupted) → IsNextCall k v.hand words → o.call_of words ≡ Some call → mode_of words ≡ Int → v.hand.held ≡ No → v.hand.consumed ≡ 0 → v.hand.last ≤ v.steps
+    → MissesOwner v word u → ((reads : Bool) → owned reads word) → Consumes why u w → IsInterrupted o owned k w.hand (next_entry w.hand)
+interrupted-next o k v u w words call word why next is waits out none latest missed shut consumed = let then_it = ap (λ (x : View _). x.hand) missed.1 in let now = ap (λ (x : View _). x.hand) consumed.now in record {
+  words = words;
+  call = call;
+  planned = subst (λ (h : Hand). slice_get (row k (next_entry h).task) (next_entry h).call ≡ Some words) (sym (now ∙ ap consuming then_it)) next.1;
+  is = is;
+  waits = waits;
+  free = ap (λ (h : Hand). h.held) now ∙ (ap (λ (h : Hand). h.held) then_it ∙ out);
+  consumed = let a = ap (λ (h : Hand). h.consumed) now in let b = ap (λ (h : Hand). h.consumed) then_it in omega (arith, a, b, none);
+  saw = record { word = word; step = v.steps + 1 };
+  seen = ap (λ (h : Hand). h.saw) now ∙ ap (λ (h : Hand). h.saw) then_it;
+  since = let a = ap (λ (h : Hand). h.last) now in let b = ap (λ (h : Hand). h.last) then_it in omega (arith, a, b, latest);
   shut = shut (o.reads call);
 }
 

@@ -72,7 +72,7 @@ pub fn perform<O: Object + Drop>(site: &OwnerSite<O>, pass: &mut OwnerPass<O>) -
     requires held { held_in pass.old ≡ Alone }
     requires quiet { (hand_in pass.old).writes ≡ false }
     requires stored { IsStored O.object (plan_of site.now) (hand_in pass.old) }
-    requires unsent { (hand_in pass.old).sent ≡ None }
+    requires owes { OwesNothing pass.old }
     ensures own { SitsAt site.now pass.new }
     ensures held { held_in pass.new ≡ Alone }
     ensures quiet { (hand_in pass.new).writes ≡ false }
@@ -145,17 +145,19 @@ pub fn send<O: Object>(site: &OwnerSite<O>, pass: &mut OwnerPass<O>) -> Option<u
     Some(target)
 }
 
-/// Records the next call of the pass's task as interrupted, where it is one that waits for signals
-/// and one is pending. Answers how many were sent and consumed then.
+/// Tries once for the lock on behalf of the next call of the pass's task, where that is one that
+/// waits for signals, and lets go of it at once. Where the try missed and a signal is pending, the
+/// call is recorded as interrupted: answers how many were sent and consumed then.
 pub fn interrupt<O: Object>(site: &OwnerSite<O>, pass: &mut OwnerPass<O>) -> Option<Interrupted>
     requires own { SitsAt site.now pass.old }
     requires numbered { IsSome (task_in pass.old) }
     requires out { held_in pass.old ≡ No }
+    requires quiet { (hand_in pass.old).writes ≡ false }
     requires owes { OwesNothing pass.old }
     ensures own { SitsAt site.now pass.new }
     ensures task { task_in pass.new ≡ task_in pass.old }
     ensures out { held_in pass.new ≡ No }
-    ensures quiet { (hand_in pass.new).writes ≡ (hand_in pass.old).writes }
+    ensures quiet { (hand_in pass.new).writes ≡ false }
     ensures owes { OwesNothing pass.new }
     ensures spin { SameSpin pass.old pass.new }
 {
@@ -163,9 +165,17 @@ pub fn interrupt<O: Object>(site: &OwnerSite<O>, pass: &mut OwnerPass<O>) -> Opt
     if next.words.mode() != Mode::Int || O::call_of(next.words).is_none() {
         return None;
     }
-    let why = site.consume(pass)?;
-    site.note(pass, next.call, Reply::Intr);
-    Some(why)
+    match site.trylock_once(pass) {
+        Ok(()) => {
+            site.unlock_once(pass);
+            None
+        }
+        Err(_) => {
+            let why = site.consume(pass)?;
+            site.note(pass, next.call, Reply::Intr);
+            Some(why)
+        }
+    }
 }
 
 /// Looks for a signal again and again, until the next call of the pass's task is recorded as
@@ -174,11 +184,12 @@ pub fn await_signal<O: Object>(site: &OwnerSite<O>, pass: &mut OwnerPass<O>) -> 
     requires own { SitsAt site.now pass.old }
     requires numbered { IsSome (task_in pass.old) }
     requires out { held_in pass.old ≡ No }
+    requires quiet { (hand_in pass.old).writes ≡ false }
     requires owes { OwesNothing pass.old }
     ensures own { SitsAt site.now pass.new }
     ensures task { task_in pass.new ≡ task_in pass.old }
     ensures out { held_in pass.new ≡ No }
-    ensures quiet { (hand_in pass.new).writes ≡ (hand_in pass.old).writes }
+    ensures quiet { (hand_in pass.new).writes ≡ false }
     ensures owes { OwesNothing pass.new }
     ensures spin { SameSpin pass.old pass.new }
 {

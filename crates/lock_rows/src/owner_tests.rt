@@ -145,13 +145,16 @@ fn a_call_that_does_not_wait_is_busy(rt: HostRuntime) -> Result<(), Fail> {
 
 #[test]
 fn a_signal_interrupts_a_call_that_waits(rt: HostRuntime) -> Result<(), Fail> {
-    let mut plan = Plan::new(rt.alloc(), 2)?;
+    let mut plan = Plan::new(rt.alloc(), 3)?;
     push_calls::<Areas>(&mut plan, 0, 2, signal_task(1))?;
     push_calls::<Areas>(&mut plan, 1, 2, int_fault_page(0))?;
     let (site, mut one) = OwnerSite::<Areas>::open(rt.alloc(), plan)?;
     let mut two = site.split(&mut one);
+    let mut holder = site.split(&mut one);
     site.begin(&rt, &mut one, 0);
     site.begin(&rt, &mut two, 1);
+    site.begin(&rt, &mut holder, 2);
+    assert_eq!(rt; site.trylock_once(&mut holder), Ok(()));
     assert_eq!(rt; interrupt(&site, &mut two), None);
     assert_eq!(rt; send(&site, &mut one), Some(1));
     assert_eq!(rt;
@@ -194,12 +197,15 @@ fn the_log_of_four_threads_has_each_commit_once(rt: HostRuntime) -> Result<(), F
 
 #[test]
 fn each_signal_of_two_threads_interrupts_a_call_of_another(rt: HostRuntime) -> Result<(), Fail> {
-    let mut plan = Plan::new(rt.alloc(), 4)?;
+    let mut plan = Plan::new(rt.alloc(), 5)?;
     push_calls::<Areas>(&mut plan, 0, ROUNDS, signal_task(2))?;
     push_calls::<Areas>(&mut plan, 1, ROUNDS, signal_task(3))?;
     push_calls::<Areas>(&mut plan, 2, ROUNDS, int_fault_page(0))?;
     push_calls::<Areas>(&mut plan, 3, ROUNDS, int_fault_page(0))?;
-    let (site, pass) = OwnerSite::<Areas>::open(rt.alloc(), plan)?;
+    let (site, mut pass) = OwnerSite::<Areas>::open(rt.alloc(), plan)?;
+    let mut holder = site.split(&mut pass);
+    site.begin(&rt, &mut holder, 4);
+    assert_eq!(rt; site.trylock_once(&mut holder), Ok(()));
     let mut pass = four_at_once(&rt, &site, pass);
     for task in 0..4 {
         site.begin(&rt, &mut pass, task);

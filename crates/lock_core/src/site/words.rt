@@ -9,7 +9,7 @@ ghost use Rattle.lock_core.specs.declared.layout.TheConstants.{LOCK_WORDS};
 ghost use Rattle.lock_core.specs.Layout.{entry_place, length_place};
 ghost use Rattle.lock_core.specs.Pasts.{FoundAt};
 ghost use Rattle.lock_core.specs.Plans.{calls_in};
-ghost use Rattle.lock_core.specs.Views.{ticked, handed, wrote, entered, logged, recorded, note_steps, settled, Unsent, after_commit, after_note, after_read, after_seen, with_record};
+ghost use Rattle.lock_core.specs.Views.{ticked, handed, wrote, entered, logged, recorded, note_steps, settled, OwesNoSignal, Unsent, after_commit, after_note, after_read, after_seen, with_record};
 ghost use Rattle.lock_core.specs.Chronicles.{Chronicles};
 ghost use Rattle.lock_core.specs.Passes.{IsLength, IsChange, IsEntryWord};
 ghost use Rattle.lock_core.specs.Handles.{plan_of, view_of, hand_in, past_of, task_in, held_in, done_in, front_in, SitsAt, IsOneOf, KeepsSeat, KeepsPast, SaysSame, IsLatest, IsNextChange, IsNextReading, IsNextSeenReading, MayNoteNext, MayStoreRecord};
@@ -91,7 +91,7 @@ impl<R: SiteRule> Site<R> {
         requires held { held_in pass.old ≡ Alone }
         requires numbered { IsSome (task_in pass.old) }
         requires call { call ≡ (done_in pass.old) }
-        requires unsent { (hand_in pass.old).sent ≡ None }
+        requires recorded { OwesNoSignal (hand_in pass.old) }
         requires next { IsNextChange R.O.object self.now pass.old reply }
         ensures own { SitsAt self.now pass.new }
         ensures goes_on { KeepsPast pass.old pass.new }
@@ -143,7 +143,7 @@ impl<R: SiteRule> Site<R> {
         requires own { SitsAt self.now pass.old }
         requires numbered { IsSome (task_in pass.old) }
         requires call { call ≡ (done_in pass.old) }
-        requires unsent { (hand_in pass.old).sent ≡ None }
+        requires recorded { OwesNoSignal (hand_in pass.old) }
         requires next { IsNextSeenReading R.O.object self.now pass.old reply }
         ensures own { SitsAt self.now pass.new }
         ensures goes_on { KeepsPast pass.old pass.new }
@@ -165,7 +165,7 @@ impl<R: SiteRule> Site<R> {
         requires own { SitsAt self.now pass.old }
         requires numbered { IsSome (task_in pass.old) }
         requires call { call ≡ (done_in pass.old) }
-        requires unsent { (hand_in pass.old).sent ≡ None }
+        requires recorded { OwesNoSignal (hand_in pass.old) }
         requires next { IsNextReading R.O.object self.now pass.old reply }
         ensures own { SitsAt self.now pass.new }
         ensures goes_on { KeepsPast pass.old pass.new }

@@ -12,7 +12,7 @@ ghost use Rattle.lock_core.specs.Passes.{IsChange, IsSignal, MayNote, IsEntryWor
 ghost use Rattle.lock_core.specs.Pasts.{FoundAt};
 ghost use Rattle.lock_core.specs.Records.{row};
 ghost use Rattle.lock_core.specs.Shown.{PastGoesOn};
-ghost use Rattle.lock_core.specs.Views.{next_entry, wrote, committed, noted, sending, Unsent};
+ghost use Rattle.lock_core.specs.Views.{next_entry, wrote, committed, noted, sending, OwesNoSignal, Unsent};
 ghost use Rattle.mutex_slow.specs.Handles.{plan_of, shown_of, hand_in, SitsAt, TellsRecord};
 
 use super::{Mutex, MutexPass};
@@ -54,7 +54,7 @@ impl<O: Object> Mutex<O> {
         requires held { (hand_in pass.old).held ≡ Alone }
         requires numbered { IsSome (hand_in pass.old).task }
         requires next { call ≡ (hand_in pass.old).done }
-        requires unsent { (hand_in pass.old).sent ≡ None }
+        requires recorded { OwesNoSignal (hand_in pass.old) }
         requires change { IsChange O.object (plan_of self.now)
             (hand_in pass.old) (next_entry (hand_in pass.old)) reply }
         ensures own { SitsAt self.now pass.new }

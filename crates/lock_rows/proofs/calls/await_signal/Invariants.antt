@@ -1,4 +1,4 @@
-use Rattle.std.proofs.Common.{◌≡◌, IsSome}
+use Rattle.std.proofs.Common.{◌≡◌, IsSome, false}
 use Rattle.lock_core.specs.declared.view.Held.TheVariants.{No}
 use Rattle.lock_core.specs.Handles.{hand_in, held_in, task_in}
 use Rattle.mutex_word.specs.Handles.{SitsAt}
@@ -11,6 +11,6 @@ invariant-loop g l =
     × IsSome (task_in l.pass)
     × (held_in l.pass ≡ No)
     × (task_in l.pass ≡ task_in l.fn.pass)
-    × ((hand_in l.pass).writes ≡ (hand_in l.fn.pass).writes)
+    × ((hand_in l.pass).writes ≡ false)
     × SameSpin l.fn.pass l.pass
     × OwesNothing l.pass

@@ -1,7 +1,17 @@
 use Rattle.std.proofs.Common.{sym, ◌∙◌}
 use Rattle.lock_core.specs.Locking.{held_by}
-use Rattle.guarded.proofs.Recording.{performs-served, performs-refused}
+use Rattle.guarded.proofs.Recording.{performs-served, performs-refused, refused-note, refused-unsent}
 use Rattle.guarded.proofs.guarded.Guarded.perform_known.Goals as goal
+
+pub note-requires-clause-unsent : goal.note-requires-clause-unsent
+note-requires-clause-unsent g c =
+    refused-unsent g.L.SleepLock.kind g.L.SleepLock.word_at (g.L.SleepLock.view c.args.pass.now) (g.L.SleepLock.view c.enter.new.pass) c.reads-reads.result c.mode.result c.in-Err.reply (c.requires.sent, c.requires.consumed) c.in-Err.ensures.refused
+
+pub note-requires-clause-may : goal.note-requires-clause-may
+note-requires-clause-may g c =
+    let next = c.requires.next in
+    refused-note g.O.Object.object g.L.SleepLock.kind g.L.SleepLock.word_at (g.L.SleepLock.calls_on c.args.self.now.lock) (g.L.SleepLock.view c.args.pass.now) (g.L.SleepLock.view c.enter.new.pass) c.args.next.words c.args.next.call c.reads-reads.result c.mode.result c.in-Err.reply
+    next.planned next.is c.reads-reads.ensures c.mode.ensures c.requires.consumed (g.met.L.SleepLock.stands c.args.self.now.lock c.args.pass.now c.requires.own).latest c.in-Err.ensures.refused
 
 pub returns-in-Err-clause-performs : goal.returns-in-Err-clause-performs
 returns-in-Err-clause-performs g c =

@@ -1,6 +1,6 @@
 use Rattle.std.proofs.Common.{sym, ◌∙◌}
 use Rattle.word_bits.proofs.States.{IsLawful}
-use Rattle.guarded.proofs.Recording.{serves-looked, reading-note}
+use Rattle.guarded.proofs.Recording.{serves-looked, reading-note, reading-unsent}
 use Rattle.lock_core.specs.LockedLaws.{shares-holds}
 use Rattle.guarded.proofs.Serving.{is-object}
 use Rattle.guarded.proofs.guarded.Guarded.serve_reading.Given as given
@@ -22,6 +22,14 @@ note-requires-clause-may g c =
     let w = g.L.SleepLock.view c.look-reply.new.pass in
     let replies = c.look-reply.ensures.read c.requires.reads in
     reading-note o g.L.SleepLock.kind k v.hand w.hand c.args.next.words c.args.next.call c.look-reply.result c.look-reply.ensures.kept.0 c.requires.next.planned c.requires.next.is c.requires.reads (λ none. shares-holds g.L.SleepLock.kind (sym c.requires.held ∙ none)) c.requires.stored (is-object o (lawful g) k v.hand.log c.args.next.words c.args.next.call c.requires.next.is c.look-reply.result replies) replies
+
+pub note-requires-clause-unsent : goal.note-requires-clause-unsent
+note-requires-clause-unsent g c =
+    let o = g.O.Object.object in
+    let k = g.L.SleepLock.calls_on c.args.self.now.lock in
+    let v = g.L.SleepLock.view c.args.pass.now in
+    let w = g.L.SleepLock.view c.look-reply.new.pass in
+    reading-unsent o g.L.SleepLock.kind k v.hand w.hand c.look-reply.result c.look-reply.ensures.kept.0 (is-object o (lawful g) k v.hand.log c.args.next.words c.args.next.call c.requires.next.is c.look-reply.result (c.look-reply.ensures.read c.requires.reads)) c.requires.recorded
 
 pub returns-clause-served : goal.returns-clause-served
 returns-clause-served g c =
