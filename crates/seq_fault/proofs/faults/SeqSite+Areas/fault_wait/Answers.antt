@@ -1,0 +1,38 @@
+-- Before each try the pass knows what it knew before the first.
+use Rattle.std.proofs.Common.{◌∙◌, IsSome, ap, arith, refl, subst, sym}
+use Rattle.lock_core.specs.declared.pass.Face.{Face}
+use Rattle.lock_core.specs.declared.view.Hand.{Hand}
+use Rattle.seq_fault.specs.Ruled.{V}
+use Rattle.seq_fault.specs.Steps.{HasNextFault}
+use Rattle.seq_fault.proofs.faults.SeqSite+Areas.fault_wait.Goals as goal
+
+pub loop-init : goal.loop-init
+loop-init g c = (tt, tt, c.requires.own, refl, (λ p t. t), (c.args.pass.now.seat.me.0.view.steps, c.args.pass.now.seat.me.0.view.ext, omega arith, refl))
+
+pub loop-preserved : goal.loop-preserved
+loop-preserved g c = let was = c.loop.invariant.5 in let kept = c.in_default.ensures.kept in let more = kept.2 in let before = was.2 in let steps = ap (λ (v : V). v.steps) was.3 in (
+  tt,
+  tt,
+  c.fault.ensures.own,
+  c.in_default.ensures.face ∙ c.loop.invariant.3,
+  (λ p t. c.fault.ensures.goes_on p (c.loop.invariant.4 p t)),
+  (kept.0, kept.1, omega (arith, more, before, steps), kept.3 ∙ ap (λ (v : V). record v { steps = kept.0; ext = kept.1 }) was.3),
+)
+
+pub fault-requires-clause-own : goal.fault-requires-clause-own
+fault-requires-clause-own g c = c.loop.invariant.2
+
+pub fault-requires-clause-numbered : goal.fault-requires-clause-numbered
+fault-requires-clause-numbered g c = subst IsSome (sym (ap (λ (f : Face). f.task) c.loop.invariant.3)) c.requires.numbered
+
+pub fault-requires-clause-out : goal.fault-requires-clause-out
+fault-requires-clause-out g c = ap (λ (f : Face). f.held) c.loop.invariant.3 ∙ c.requires.out
+
+pub fault-requires-clause-call : goal.fault-requires-clause-call
+fault-requires-clause-call g c = c.requires.call ∙ sym (ap (λ (f : Face). f.done) c.loop.invariant.3)
+
+pub fault-requires-clause-unsent : goal.fault-requires-clause-unsent
+fault-requires-clause-unsent g c = ap (λ (v : V). v.hand.sent) c.loop.invariant.5.3 ∙ c.requires.unsent
+
+pub fault-requires-clause-next : goal.fault-requires-clause-next
+fault-requires-clause-next g c = subst (λ (h : Hand). HasNextFault c.args.self.now.site.table.shared.key h) (sym (ap (λ (v : V). v.hand) c.loop.invariant.5.3)) c.requires.next

@@ -1,0 +1,177 @@
+-- What each load of a fault tells, and what follows where the last one finds the word of the first.
+use Rattle.std.proofs.Common.{◌≡◌, ◌∙◌, ◌%◌, ◌+◌, ℕ, arith, ap, subst, sym, inl, inr}
+use Rattle.word_bits.proofs.States.{state_is_state}
+use Rattle.lock_core.specs.Pasts.{FoundAt}
+use Rattle.lock_core.specs.Views.{ticked}
+use Rattle.vma_map.specs.SpaceLaws.{starts, called, goes_on, replies}
+use Rattle.vma_map.specs.Spaces.{space}
+use Rattle.vma_map.specs.Searches.{asked}
+use Rattle.seq_fault.specs.declared.view.Watch.TheVariants.{Off}
+use Rattle.seq_fault.specs.Plays.{glance, staled, turned}
+use Rattle.seq_fault.specs.Ruled.{V, seq_at}
+use Rattle.seq_fault.proofs.Faulting.{finds, gathers, gathered-on, gathered-measured, confirmed, seen-reading, faulted}
+use Rattle.seq_fault.proofs.faults.fault_at.Goals as goal
+
+pub returns-then-before-eq1-clause-first : goal.returns-then-before-eq1-clause-first
+returns-then-before-eq1-clause-first c =
+    let v = c.args.pass.now.seat.me.0.view in
+    let x = c.watch-before.new.pass.seat.me.0.view in
+    let is = c.watch-before.ensures.odd (λ z. let n = c.if-before-eq1.true in omega (arith, z, n)) in
+    let one = ap (λ (z : V). z.steps) is in
+    finds v x x seq_at c.watch-before.result _ _ _ (ap (λ (z : V). z.hand.task) is) (omega (arith, one)) (omega arith) c.watch-before.ensures.last c.watch-before.ensures.found c.watch-before.ensures.goes_on (λ p t. t)
+
+pub returns-then-before-eq1-clause-second : goal.returns-then-before-eq1-clause-second
+returns-then-before-eq1-clause-second c =
+    let v = c.args.pass.now.seat.me.0.view in
+    let x = c.watch-before.new.pass.seat.me.0.view in
+    let is = c.watch-before.ensures.odd (λ z. let n = c.if-before-eq1.true in omega (arith, z, n)) in
+    let one = ap (λ (z : V). z.steps) is in
+    finds v x x seq_at c.watch-before.result _ _ _ (ap (λ (z : V). z.hand.task) is) (omega (arith, one)) (omega arith) c.watch-before.ensures.last c.watch-before.ensures.found c.watch-before.ensures.goes_on (λ p t. t)
+
+pub measure-front-requires-clause-on : goal.measure-front-requires-clause-on
+measure-front-requires-clause-on c =
+    let v = c.args.pass.now.seat.me.0.view in
+    let before = c.watch-before.result in
+    let even : before % 2 ≡ 0 = (let n = c.if-before-eq1.false in omega (arith, n)) in
+    let b = c.watch-before.ensures.even even in
+    (glance before b.0 b.1, ap (λ (z : V). z.ext) b.3)
+
+pub search_words-requires-clause-on : goal.search_words-requires-clause-on
+search_words-requires-clause-on c =
+    let v = c.args.pass.now.seat.me.0.view in
+    let before = c.watch-before.result in
+    let even : before % 2 ≡ 0 = (let n = c.if-before-eq1.false in omega (arith, n)) in
+    let b = c.watch-before.ensures.even even in
+    elim (c.measure-front.ensures.told (glance before b.0 b.1) (ap (λ (z : V). z.ext) b.3)) [
+      | inl t ↦ (glance before b.0 b.1, ap (λ (z : V). z.ext) (t.1 ∙ ap ticked b.3))
+      | inr t ↦ (staled (glance before b.0 b.1), ap (λ (z : V). z.ext) t)
+    ]
+
+pub confirm-requires-clause-on : goal.confirm-requires-clause-on
+confirm-requires-clause-on c =
+    let v = c.args.pass.now.seat.me.0.view in
+    let before = c.watch-before.result in
+    let even : before % 2 ≡ 0 = (let n = c.if-before-eq1.false in omega (arith, n)) in
+    let b = c.watch-before.ensures.even even in
+    let u = c.search_words.new.pass.seat.me.0.view in
+    let s = c.search_words.new.search in
+    let r = gathers v c.watch-before.new.pass.seat.me.0.view c.measure-front.new.pass.seat.me.0.view u before c.measure-front.result s b.0 b.1 b.3 c.measure-front.ensures.told c.search_words.ensures.searched in
+    (record (glance before b.0 b.1) { stale = r.stale }, gathered-on v u before c.measure-front.result s b.0 b.1 r)
+
+pub confirm-requires-clause-measured : goal.confirm-requires-clause-measured
+confirm-requires-clause-measured c =
+    let v = c.args.pass.now.seat.me.0.view in
+    let before = c.watch-before.result in
+    let even : before % 2 ≡ 0 = (let n = c.if-before-eq1.false in omega (arith, n)) in
+    let b = c.watch-before.ensures.even even in
+    let u = c.search_words.new.pass.seat.me.0.view in
+    let s = c.search_words.new.search in
+    let r = gathers v c.watch-before.new.pass.seat.me.0.view c.measure-front.new.pass.seat.me.0.view u before c.measure-front.result s b.0 b.1 b.3 c.measure-front.ensures.told c.search_words.ensures.searched in
+    gathered-measured v u before c.measure-front.result s b.0 b.1 r
+
+pub returns-in-Err-clause-first : goal.returns-in-Err-clause-first
+returns-in-Err-clause-first c =
+    let v = c.args.pass.now.seat.me.0.view in
+    let before = c.watch-before.result in
+    let even : before % 2 ≡ 0 = (let n = c.if-before-eq1.false in omega (arith, n)) in
+    let b = c.watch-before.ensures.even even in
+    let u = c.search_words.new.pass.seat.me.0.view in
+    let s = c.search_words.new.search in
+    let r = gathers v c.watch-before.new.pass.seat.me.0.view c.measure-front.new.pass.seat.me.0.view u before c.measure-front.result s b.0 b.1 b.3 c.measure-front.ensures.told c.search_words.ensures.searched in
+    let x = c.watch-before.new.pass.seat.me.0.view in
+    let w = c.confirm.new.pass.seat.me.0.view in
+    let one = ap (λ (z : V). z.steps) b.3 in
+    let more = ap (λ (z : V). z.steps) r.is in
+    let last = ap (λ (z : V). z.steps) c.in-Err.ensures.kept in
+    finds v x w seq_at c.in-Err.raced.before _ c.watch-before.new.pass.seat.me.0.past _ (ap (λ (z : V). z.hand.task) b.3) (omega (arith, one)) (omega (arith, one, more, last)) c.watch-before.ensures.last (subst (λ (n : ℕ). FoundAt seq_at n c.watch-before.new.pass.seat.me.0.past) (sym c.in-Err.ensures.raced.0) c.watch-before.ensures.found) c.watch-before.ensures.goes_on (λ p t. c.confirm.ensures.goes_on p (c.search_words.ensures.goes_on p (c.measure-front.ensures.goes_on p t)))
+
+pub returns-in-Err-clause-second : goal.returns-in-Err-clause-second
+returns-in-Err-clause-second c =
+    let v = c.args.pass.now.seat.me.0.view in
+    let before = c.watch-before.result in
+    let even : before % 2 ≡ 0 = (let n = c.if-before-eq1.false in omega (arith, n)) in
+    let b = c.watch-before.ensures.even even in
+    let u = c.search_words.new.pass.seat.me.0.view in
+    let s = c.search_words.new.search in
+    let r = gathers v c.watch-before.new.pass.seat.me.0.view c.measure-front.new.pass.seat.me.0.view u before c.measure-front.result s b.0 b.1 b.3 c.measure-front.ensures.told c.search_words.ensures.searched in
+    let w = c.confirm.new.pass.seat.me.0.view in
+    let more = ap (λ (z : V). z.steps) r.is in
+    let last = ap (λ (z : V). z.steps) c.in-Err.ensures.kept in
+    finds v w w seq_at c.in-Err.raced.after _ _ _ (ap (λ (z : V). z.hand.task) c.in-Err.ensures.kept ∙ ap (λ (z : V). z.hand.task) r.is) (omega (arith, more, last)) (omega arith) c.confirm.ensures.last c.in-Err.ensures.raced.2 (λ p t. c.confirm.ensures.goes_on p (c.search_words.ensures.goes_on p (c.measure-front.ensures.goes_on p (c.watch-before.ensures.goes_on p t)))) (λ p t. t)
+
+pub returns-then-before-eq1-clause-kept : goal.returns-then-before-eq1-clause-kept
+returns-then-before-eq1-clause-kept c =
+    let is = c.watch-before.ensures.odd (λ z. let n = c.if-before-eq1.true in omega (arith, z, n)) in
+    let v = c.args.pass.now.seat.me.0.view in
+    (v.steps + 1, v.ext, omega arith, is)
+
+pub returns-in-Err-clause-kept : goal.returns-in-Err-clause-kept
+returns-in-Err-clause-kept c =
+    let v = c.args.pass.now.seat.me.0.view in
+    let before = c.watch-before.result in
+    let even : before % 2 ≡ 0 = (let n = c.if-before-eq1.false in omega (arith, n)) in
+    let b = c.watch-before.ensures.even even in
+    let u = c.search_words.new.pass.seat.me.0.view in
+    let s = c.search_words.new.search in
+    let r = gathers v c.watch-before.new.pass.seat.me.0.view c.measure-front.new.pass.seat.me.0.view u before c.measure-front.result s b.0 b.1 b.3 c.measure-front.ensures.told c.search_words.ensures.searched in
+    let more = ap (λ (z : V). z.steps) r.is in
+    (v.steps + 1 + 1 + asked s + 1, Off, omega arith, c.in-Err.ensures.kept ∙ ap (λ (z : V). turned z z.hand Off) r.is)
+
+pub returns-in-Err-clause-few : goal.returns-in-Err-clause-few
+returns-in-Err-clause-few c =
+    let v = c.args.pass.now.seat.me.0.view in
+    let before = c.watch-before.result in
+    let even : before % 2 ≡ 0 = (let n = c.if-before-eq1.false in omega (arith, n)) in
+    let b = c.watch-before.ensures.even even in
+    let u = c.search_words.new.pass.seat.me.0.view in
+    let s = c.search_words.new.search in
+    let r = gathers v c.watch-before.new.pass.seat.me.0.view c.measure-front.new.pass.seat.me.0.view u before c.measure-front.result s b.0 b.1 b.3 c.measure-front.ensures.told c.search_words.ensures.searched in
+    let more = ap (λ (z : V). z.steps) r.is in
+    let last = ap (λ (z : V). z.steps) c.in-Err.ensures.kept in
+    let most = s.few in
+    omega (arith, more, last, most)
+
+pub note_seen-requires-clause-unsent : goal.note_seen-requires-clause-unsent
+note_seen-requires-clause-unsent c =
+    let v = c.args.pass.now.seat.me.0.view in
+    let before = c.watch-before.result in
+    let even : before % 2 ≡ 0 = (let n = c.if-before-eq1.false in omega (arith, n)) in
+    let b = c.watch-before.ensures.even even in
+    let u = c.search_words.new.pass.seat.me.0.view in
+    let s = c.search_words.new.search in
+    let r = gathers v c.watch-before.new.pass.seat.me.0.view c.measure-front.new.pass.seat.me.0.view u before c.measure-front.result s b.0 b.1 b.3 c.measure-front.ensures.told c.search_words.ensures.searched in
+    ap (λ (z : V). z.hand.sent) (confirmed v u before c.measure-front.result s b.0 b.1 r c.confirm.new.pass.seat.me.0.view c.in_default.ensures.same) ∙ c.requires.unsent
+
+pub note_seen-requires-clause-next : goal.note_seen-requires-clause-next
+note_seen-requires-clause-next c =
+    let v = c.args.pass.now.seat.me.0.view in
+    let before = c.watch-before.result in
+    let even : before % 2 ≡ 0 = (let n = c.if-before-eq1.false in omega (arith, n)) in
+    let b = c.watch-before.ensures.even even in
+    let u = c.search_words.new.pass.seat.me.0.view in
+    let s = c.search_words.new.search in
+    let r = gathers v c.watch-before.new.pass.seat.me.0.view c.measure-front.new.pass.seat.me.0.view u before c.measure-front.result s b.0 b.1 b.3 c.measure-front.ensures.told c.search_words.ensures.searched in
+    let k = c.args.site.now.table.shared.key in
+    let state = state_is_state space record { starts = starts; called = called; goes_on = goes_on; replies = replies } k b.1 in
+    let w = c.confirm.new.pass.seat.me.0.view in
+    let page = c.search_words.ensures.page ∙ c.new-search.ensures.page in
+    seen-reading v u before c.measure-front.result s b.0 b.1 r k c.args.page c.args.access c.requires.next b.2 state c.met-reply.result page c.met-reply.ensures w c.in_default.ensures.same
+
+pub returns-clause-goes_on : goal.returns-clause-goes_on
+returns-clause-goes_on c =
+    λ p t. c.note_seen.ensures.goes_on p (c.confirm.ensures.goes_on p (c.search_words.ensures.goes_on p (c.measure-front.ensures.goes_on p (c.watch-before.ensures.goes_on p t))))
+
+pub returns-clause-ok : goal.returns-clause-ok
+returns-clause-ok c =
+    let v = c.args.pass.now.seat.me.0.view in
+    let before = c.watch-before.result in
+    let even : before % 2 ≡ 0 = (let n = c.if-before-eq1.false in omega (arith, n)) in
+    let b = c.watch-before.ensures.even even in
+    let u = c.search_words.new.pass.seat.me.0.view in
+    let s = c.search_words.new.search in
+    let r = gathers v c.watch-before.new.pass.seat.me.0.view c.measure-front.new.pass.seat.me.0.view u before c.measure-front.result s b.0 b.1 b.3 c.measure-front.ensures.told c.search_words.ensures.searched in
+    let k = c.args.site.now.table.shared.key in
+    let state = state_is_state space record { starts = starts; called = called; goes_on = goes_on; replies = replies } k b.1 in
+    let w = c.confirm.new.pass.seat.me.0.view in
+    let page = c.search_words.ensures.page ∙ c.new-search.ensures.page in
+    faulted v u before c.measure-front.result s b.0 b.1 r k c.args.page c.args.access c.requires.next b.2 state c.met-reply.result page c.met-reply.ensures w c.note_seen.new.pass.seat.me.0.view c.in_default.ensures.same c.note_seen.ensures.kept

@@ -1,0 +1,20 @@
+-- What the rule says of each moment and of each step.
+use Rattle.lock_core.specs.Pasts.{Moves}
+use Rattle.lock_core.specs.LockedLaws.{ran-steps}
+use Rattle.lock_core.specs.RunLaws.{ran-each, ran-so}
+use Rattle.lock_core.specs.Stated.{IsSiteMove}
+use Rattle.seq_fault.specs.Ruled.{SeqKept, SeqMoves, newest, seq_at, unmarked}
+use Rattle.seq_fault.specs.Stated.{IsSeqSiteThen}
+use Rattle.seq_fault.proofs.Stating.{rule-states, counts-enters}
+use Rattle.seq_fault.proofs.site.SeqSite.recall.Goals as goal
+
+pub returns-clause-always : goal.returns-clause-always
+returns-clause-always g c = let k = c.args.self.now.site.table.shared.key in let o = g.O.Object.object in let n = g.O.Object.WORDS in let own = c.recall.ensures.last in
+    ran-each unmarked (SeqKept o n k) (SeqMoves k) (IsSeqSiteThen o n k) (rule-states o n k) (newest k) own.now own.before own.rest _ own.past_is c.recall.ensures.run
+
+pub returns-clause-entered : goal.returns-clause-entered
+returns-clause-entered g c = let k = c.args.self.now.site.table.shared.key in counts-enters g.O.Object.object g.O.Object.WORDS k _ c.recall.ensures.run
+
+pub returns-clause-moves : goal.returns-clause-moves
+returns-clause-moves g c = let k = c.args.self.now.site.table.shared.key in let o = g.O.Object.object in let n = g.O.Object.WORDS in
+    ran-steps unmarked k seq_at (newest k) _ (ran-so unmarked (newest k) (Moves (SeqKept o n k) (SeqMoves k)) (IsSiteMove k seq_at) (λ x y m. (m.0, m.3.0, m.4)) _ c.recall.ensures.run)

@@ -1,0 +1,183 @@
+//! Faults without the lock.
+ghost use Rattle.std.specs.Prelude.{◌≡◌, ◌≢◌, ◌⊎◌, ℕ, ◌+◌, ◌%◌, ◌<◌, ◌≤◌, List, length, None, IsSome, IfOk, IfErr};
+ghost use Rattle.lock_core.specs.declared.view.Held.TheVariants.{No};
+ghost use Rattle.lock_core.specs.Handles.{Finds, IsLatest, plan_of, view_of, hand_in, past_of, task_in, held_in, done_in, SitsAt, KeepsPast, SaysSame};
+ghost use Rattle.lock_core.specs.Views.{ticked};
+ghost use Rattle.word_bits.specs.PageMaps.{PageMap, IsPageMap};
+ghost use Rattle.vma_map.specs.Searches.{AgreesWith, asked, page_of, wanted};
+ghost use Rattle.vma_map.specs.Spaces.{IsAccess, access_reply, space, stores};
+ghost use Rattle.seq_fault.specs.declared.view.Glance.{Glance as Moment};
+ghost use Rattle.seq_fault.specs.declared.view.Watch.TheVariants.{On};
+ghost use Rattle.seq_fault.specs.Ruled.{V, seq_at};
+ghost use Rattle.seq_fault.specs.Steps.{Faults, HasNextFault, HasSearched, IsNextFault, IsWatching, StepsOn};
+
+use crate::rule::SeqRule;
+use crate::site::{SeqPass, SeqSite};
+use crate::steps::{self, Raced};
+use lock_core::{Pass, Site};
+use std::sync::Wait;
+use vma_map::{Areas, Search, SpaceCall, meet};
+use word_bits::Reply;
+
+/// An address space with a sequence word.
+pub type SeqSpace = SeqSite<Areas>;
+
+/// A pass of such a space.
+pub type SpacePass = SeqPass<Areas>;
+
+/// Loads the words that a search wants.
+fn search_words(site: &Site<SeqRule<Areas>>, pass: &mut Pass<SeqRule<Areas>>, search: &mut Search)
+    requires own { SitsAt site.now pass.old }
+    requires latest { IsLatest pass.old }
+    requires on { IsWatching (view_of pass.old) }
+    requires begins { asked search.old ≡ 0 }
+    requires agrees { (words : List ℕ) → AgreesWith words search.old }
+    ensures own { SitsAt site.now pass.new }
+    ensures goes_on { KeepsPast pass.old pass.new }
+    ensures last { IsLatest pass.new }
+    ensures face { SaysSame pass.old pass.new }
+    ensures over { wanted search.new ≡ None }
+    ensures page { page_of search.new ≡ page_of search.old }
+    ensures searched { (g : Moment) → (view_of pass.old).ext ≡ On g →
+        HasSearched g search.new (view_of pass.old) (view_of pass.new) }
+{
+    while let Some(at) = search.want() {
+        let word = steps::peek(site, pass, at);
+        search.give(word);
+    }
+}
+
+/// What an access meets at the page of a search that is over.
+fn met(search: &Search, access: u8) -> Reply
+    requires over { wanted search.now ≡ None }
+    requires access { IsAccess access }
+    ensures { (m : PageMap) → IsPageMap m → AgreesWith (stores m) search.now →
+        result ≡ access_reply (m (page_of search.now)) access }
+{
+    meet(search.answer().map(|area| area.prot), access)
+}
+
+/// Does a fault, whose call is known.
+fn fault_at(
+    site: &Site<SeqRule<Areas>>,
+    pass: &mut Pass<SeqRule<Areas>>,
+    page: u32,
+    access: u8,
+    call: u32,
+) -> Result<Reply, Raced>
+    requires own { SitsAt site.now pass.old }
+    requires numbered { IsSome (task_in pass.old) }
+    requires out { held_in pass.old ≡ No }
+    requires call { call ≡ done_in pass.old }
+    requires unsent { (hand_in pass.old).sent ≡ None }
+    requires access { IsAccess access }
+    requires next { IsNextFault (plan_of site.now) (hand_in pass.old) page access }
+    ensures own { SitsAt site.now pass.new }
+    ensures goes_on { KeepsPast pass.old pass.new }
+    ensures last { IsLatest pass.new }
+    ensures ok { IfOk result (λ reply.
+        Faults (plan_of site.now) (view_of pass.old) reply (view_of pass.new)) }
+    ensures raced { IfErr result (λ why. ((why.before % 2 ≡ 1) × (why.after ≡ why.before))
+        ⊎ (why.after ≢ why.before)) }
+    ensures first { IfErr result (λ why. Finds seq_at why.before pass.old pass.new) }
+    ensures second { IfErr result (λ why. Finds seq_at why.after pass.old pass.new) }
+    ensures kept { IfErr result (λ _. StepsOn (view_of pass.old) (view_of pass.new)) }
+    ensures face { IfErr result (λ _. SaysSame pass.old pass.new) }
+    ensures few { IfErr result (λ _.
+        (view_of pass.new).steps ≤ (view_of pass.old).steps + 13) }
+{
+    let before = steps::watch(site, pass);
+    if before % 2 == 1 {
+        let after = before;
+        return Err(Raced { before, after });
+    }
+    let front = steps::measure(site, pass) as u32;
+    let mut search = Search::new(page);
+    search_words(site, pass, &mut search);
+    // A writer may have come between two of the loads: the words belong together only where the
+    // sequence word is still the same.
+    if let Err(raced) = steps::confirm(site, pass, before, front) {
+        return Err(raced);
+    }
+    let reply = met(&search, access);
+    site.note_seen(pass, call, reply);
+    Ok(reply)
+}
+
+/// Loads the words of a task's next call, a fault.
+fn next_fault(site: &Site<SeqRule<Areas>>, pass: &mut Pass<SeqRule<Areas>>, call: u32) -> (u32, u8)
+    requires own { SitsAt site.now pass.old }
+    requires numbered { IsSome (task_in pass.old) }
+    requires call { call ≡ done_in pass.old }
+    requires next { HasNextFault (plan_of site.now) (hand_in pass.old) }
+    ensures own { SitsAt site.now pass.new }
+    ensures goes_on { KeepsPast pass.old pass.new }
+    ensures last { IsLatest pass.new }
+    ensures kept { view_of pass.new ≡ ticked (ticked (view_of pass.old)) }
+    ensures face { SaysSame pass.old pass.new }
+    ensures next { IsNextFault (plan_of site.now) (hand_in pass.old) result.0 result.1 }
+    ensures access { IsAccess result.1 }
+{
+    let Some(task) = pass.task() else {
+        unreachable!()
+    };
+    let words = site.call(pass, task, call);
+    match SpaceCall::call_of(words) {
+        Some(SpaceCall::Fault { page, access }) => (page, access),
+        _ => unreachable!(),
+    }
+}
+
+impl SeqSite<Areas> {
+    ghost use Rattle.seq_fault.specs.Handles.{plan_of as plan_in, SitsAt as Sits};
+
+    /// Does the next call of the pass's task, a fault, without the lock: at most 13 loads, beside
+    /// the two of the call's own words. `Err` has the words that the first and the last load of the
+    /// sequence word saw, and records nothing.
+    pub fn fault(&self, pass: &mut SeqPass<Areas>, call: u32) -> Result<Reply, Raced>
+        requires own { Sits self.now pass.old }
+        requires numbered { IsSome (task_in pass.old) }
+        requires out { held_in pass.old ≡ No }
+        requires call { call ≡ done_in pass.old }
+        requires unsent { (hand_in pass.old).sent ≡ None }
+        requires next { HasNextFault (plan_in self.now) (hand_in pass.old) }
+        ensures own { Sits self.now pass.new }
+        ensures goes_on { KeepsPast pass.old pass.new }
+        ensures last { IsLatest pass.new }
+        ensures ok { IfOk result (λ reply. Faults (plan_in self.now)
+            (ticked (ticked (view_of pass.old))) reply (view_of pass.new)) }
+        ensures raced { IfErr result (λ why. ((why.before % 2 ≡ 1) × (why.after ≡ why.before))
+            ⊎ (why.after ≢ why.before)) }
+        ensures first { IfErr result (λ why. Finds seq_at why.before pass.old pass.new) }
+        ensures second { IfErr result (λ why. Finds seq_at why.after pass.old pass.new) }
+        ensures kept { IfErr result (λ _. StepsOn (view_of pass.old) (view_of pass.new)) }
+        ensures face { IfErr result (λ _. SaysSame pass.old pass.new) }
+        ensures few { IfErr result (λ _.
+            (view_of pass.new).steps ≤ (view_of pass.old).steps + 15) }
+    {
+        let (page, access) = next_fault(&self.site, pass, call);
+        fault_at(&self.site, pass, page, access, call)
+    }
+
+    /// Does the next call of the pass's task, a fault, as often as a writer comes between its loads.
+    pub fn fault_wait<W: Wait>(&self, rt: &W, pass: &mut SeqPass<Areas>, call: u32) -> Reply
+        requires own { Sits self.now pass.old }
+        requires numbered { IsSome (task_in pass.old) }
+        requires out { held_in pass.old ≡ No }
+        requires call { call ≡ done_in pass.old }
+        requires unsent { (hand_in pass.old).sent ≡ None }
+        requires next { HasNextFault (plan_in self.now) (hand_in pass.old) }
+        ensures own { Sits self.now pass.new }
+        ensures goes_on { KeepsPast pass.old pass.new }
+        ensures last { IsLatest pass.new }
+        ensures ok { (v : V) × StepsOn (view_of pass.old) v
+            × Faults (plan_in self.now) (ticked (ticked v)) result (view_of pass.new) }
+    {
+        for _ in rt.forever() {
+            if let Ok(reply) = self.fault(pass, call) {
+                return reply;
+            }
+        }
+        unreachable!()
+    }
+}

@@ -1,0 +1,228 @@
+//! Sites with a sequence word.
+ghost use Rattle.std.specs.Prelude.{◌≡◌, ◌≢◌, ◌<◌, ◌≤◌, ◌+◌, ℕ, false, true, None, IsSome, IfOk, [], ◌∷◌, length, slice_index};
+ghost use Rattle.lock_core.specs.declared.view.Held.TheVariants.{No, Alone};
+ghost use Rattle.lock_core.specs.declared.layout.TheConstants.{LOCK_WORDS};
+ghost use Rattle.lock_core.specs.Holding.{released};
+ghost use Rattle.lock_core.specs.Records.{IsPlan};
+ghost use Rattle.lock_core.specs.Views.{first, ticked, handed, split_off, merged, gave_up, wrote, after_commit, next_entry, BesideForgetting, HoldsNothing, OwesNoSignal};
+ghost use Rattle.lock_core.specs.Pasts.{BeganWith, EachMoment, FoundAt, Paced};
+ghost use Rattle.lock_core.specs.Stated.{IsNew};
+ghost use Rattle.lock_core.specs.Locked.{IsSiteStep};
+ghost use Rattle.seq_fault.specs.declared.view.Watch.TheVariants.{Off};
+ghost use Rattle.seq_fault.specs.Ruled.{never, newest, seq_at};
+ghost use Rattle.seq_fault.specs.Stated.{CountsEnters, IsSeqSiteThen};
+ghost use Rattle.seq_fault.specs.Steps.{EntersSince};
+
+use crate::rule::SeqRule;
+use crate::steps;
+use lock_core::{Pass, Plan, Site};
+use std::alloc::{AllocError, Global};
+use std::sync::Wait;
+use word_bits::{Object, Reply};
+
+/// A site whose lock is a sequence word. Contracts see its plan (`plan_of`).
+#[derive(Drop)]
+pub struct SeqSite<O: Object> {
+    pub(crate) site: Site<SeqRule<O>>,
+}
+
+/// A pass of such a site.
+pub type SeqPass<O> = Pass<SeqRule<O>>;
+
+impl<O: Object> SeqSite<O> {
+    ghost use Rattle.lock_core.specs.Handles.{IsLatest, view_of, hand_in, past_of, task_in, held_in, done_in, front_in, KeepsPast, SaysSame};
+    ghost use Rattle.seq_fault.specs.Handles.{plan_of, IsNextChange, SitsAt, TakesNumber};
+
+    /// A new site: nobody holds, the state is empty, no call is logged or recorded.
+    pub fn open(alloc: Global, plan: Plan) -> Result<(SeqSite<O>, SeqPass<O>), AllocError>
+        requires { IsPlan O.object plan }
+        ensures own { IfOk result (λ t. SitsAt t.0 t.1) }
+        ensures plan { IfOk result (λ t. (plan_of t.0) ≡ plan) }
+        ensures new { IfOk result (λ _. IsNew O.object O.WORDS plan (newest plan)) }
+        ensures view { IfOk result (λ t. view_of t.1 ≡ first plan Off) }
+        ensures past { IfOk result (λ t. past_of t.1 ≡ newest plan ∷ []) }
+    {
+        let (site, pass) = Site::open(alloc, plan)?;
+        Ok((SeqSite { site }, pass))
+    }
+
+    /// A pass without a task number, which has seen as many entries.
+    pub fn split(&self, pass: &mut SeqPass<O>) -> SeqPass<O>
+        requires own { SitsAt self.now pass.old }
+        ensures own { SitsAt self.now pass.new }
+        ensures goes_on { KeepsPast pass.old pass.new }
+        ensures kept { view_of pass.new ≡ ticked (view_of pass.old) }
+        ensures its_own { SitsAt self.now result }
+        ensures given { view_of result ≡ split_off Off (view_of pass.old) }
+        ensures past { past_of result ≡ past_of pass.old }
+    {
+        self.site.split(pass)
+    }
+
+    /// Waits until nobody has the task's number, and takes it with the task's records.
+    pub fn begin<W: Wait>(&self, rt: &W, pass: &mut SeqPass<O>, task: u32)
+        requires own { SitsAt self.now pass.old }
+        requires numberless { task_in pass.old ≡ None }
+        requires there { task < length (plan_of self.now) }
+        ensures own { SitsAt self.now pass.new }
+        ensures goes_on { KeepsPast pass.old pass.new }
+        ensures last { IsLatest pass.new }
+        ensures became { TakesNumber O.object never self.now task pass.old pass.new }
+        ensures beside { BesideForgetting (view_of pass.old) (view_of pass.new) }
+        ensures rises { (front_in pass.old) ≤ (front_in pass.new) }
+    {
+        self.site.begin(rt, pass, task);
+    }
+
+    /// Gives the pass's number back.
+    pub fn end(&self, pass: &mut SeqPass<O>)
+        requires own { SitsAt self.now pass.old }
+        requires numbered { IsSome (task_in pass.old) }
+        requires rests { HoldsNothing (view_of pass.old) }
+        requires recorded { OwesNoSignal (hand_in pass.old) }
+        ensures own { SitsAt self.now pass.new }
+        ensures goes_on { KeepsPast pass.old pass.new }
+        ensures last { IsLatest pass.new }
+        ensures kept { view_of pass.new ≡ handed (view_of pass.old) (gave_up (hand_in pass.old)) }
+    {
+        self.site.end(pass);
+    }
+
+    /// Takes in another pass, which is spent.
+    pub fn gather(&self, into: &mut SeqPass<O>, other: SeqPass<O>)
+        requires own { SitsAt self.now into.old }
+        requires others_own { SitsAt self.now other }
+        requires rests { HoldsNothing (view_of into.old) }
+        requires other_rests { HoldsNothing (view_of other) }
+        requires numberless { task_in other ≡ None }
+        ensures own { SitsAt self.now into.new }
+        ensures goes_on { KeepsPast into.old into.new }
+        ensures kept { view_of into.new ≡ merged (view_of into.old) (view_of other) }
+        ensures rises { front_in into.old ≤ front_in into.new }
+        ensures others { front_in other ≤ front_in into.new }
+    {
+        self.site.gather(into, other);
+    }
+
+    /// A guarded word.
+    pub fn word(&self, pass: &mut SeqPass<O>, at: usize) -> u64
+        requires own { SitsAt self.now pass.old }
+        requires held { (held_in pass.old) ≢ No }
+        requires inside { at < O.WORDS }
+        ensures own { SitsAt self.now pass.new }
+        ensures goes_on { KeepsPast pass.old pass.new }
+        ensures last { IsLatest pass.new }
+        ensures kept { view_of pass.new ≡ ticked (view_of pass.old) }
+        ensures value { result ≡ slice_index (hand_in pass.old).known at }
+        ensures found { FoundAt (LOCK_WORDS + at) result (past_of pass.new) }
+    {
+        self.site.word(pass, at)
+    }
+
+    /// Writes a guarded word. Until its next commit the pass writes.
+    pub fn set_word(&self, pass: &mut SeqPass<O>, at: usize, value: u64)
+        requires own { SitsAt self.now pass.old }
+        requires held { held_in pass.old ≡ Alone }
+        requires inside { at < O.WORDS }
+        ensures own { SitsAt self.now pass.new }
+        ensures goes_on { KeepsPast pass.old pass.new }
+        ensures last { IsLatest pass.new }
+        ensures kept { view_of pass.new ≡
+            handed (view_of pass.old) (wrote (hand_in pass.old) at value) }
+    {
+        self.site.set_word(pass, at, value);
+    }
+
+    /// Records the next call of the pass's task, which changes the object.
+    pub fn commit(&self, pass: &mut SeqPass<O>, call: u32, reply: Reply)
+        requires own { SitsAt self.now pass.old }
+        requires held { held_in pass.old ≡ Alone }
+        requires numbered { IsSome (task_in pass.old) }
+        requires call { call ≡ (done_in pass.old) }
+        requires unsent { (hand_in pass.old).sent ≡ None }
+        requires next { IsNextChange O.object self.now pass.old reply }
+        ensures own { SitsAt self.now pass.new }
+        ensures goes_on { KeepsPast pass.old pass.new }
+        ensures last { IsLatest pass.new }
+        ensures kept { view_of pass.new ≡ after_commit (view_of pass.old) reply }
+        ensures rises { (front_in pass.old) ≤ (front_in pass.new) }
+    {
+        self.site.commit(pass, call, reply);
+    }
+
+    /// Enters where the word is an even one, but for the greatest.
+    fn enter_once(&self, pass: &mut SeqPass<O>) -> bool
+        requires own { SitsAt self.now pass.old }
+        requires numbered { IsSome (task_in pass.old) }
+        requires out { held_in pass.old ≡ No }
+        ensures own { SitsAt self.now pass.new }
+        ensures goes_on { KeepsPast pass.old pass.new }
+        ensures last { IsLatest pass.new }
+        ensures took { result ≡ true → EntersSince O.object (plan_of self.now)
+            (view_of pass.old) (view_of pass.new) }
+        ensures holds { result ≡ true → held_in pass.new ≡ Alone }
+        ensures missed { result ≡ false → (s : ℕ) × ((view_of pass.old).steps ≤ s)
+            × (view_of pass.new ≡ record (view_of pass.old) { steps = s }) }
+        ensures face { result ≡ false → SaysSame pass.old pass.new }
+    {
+        let word = steps::look(&self.site, pass);
+        if word % 2 == 0 && word < u64::MAX - 1 {
+            return steps::enter(&self.site, pass, word);
+        }
+        false
+    }
+
+    /// Waits for an even word, which isn't the greatest one, and exchanges it for the next odd one.
+    /// The pass holds alone.
+    pub fn enter<W: Wait>(&self, rt: &W, pass: &mut SeqPass<O>)
+        requires own { SitsAt self.now pass.old }
+        requires numbered { IsSome (task_in pass.old) }
+        requires out { held_in pass.old ≡ No }
+        ensures own { SitsAt self.now pass.new }
+        ensures goes_on { KeepsPast pass.old pass.new }
+        ensures last { IsLatest pass.new }
+        ensures took { EntersSince O.object (plan_of self.now)
+            (view_of pass.old) (view_of pass.new) }
+        ensures holds { held_in pass.new ≡ Alone }
+    {
+        for _ in rt.forever() {
+            if self.enter_once(pass) {
+                return;
+            }
+        }
+        unreachable!()
+    }
+
+    /// Ends the pass's hold: the word becomes even.
+    pub fn leave(&self, pass: &mut SeqPass<O>)
+        requires own { SitsAt self.now pass.old }
+        requires held { held_in pass.old ≡ Alone }
+        requires quiet { (hand_in pass.old).writes ≡ false }
+        ensures own { SitsAt self.now pass.new }
+        ensures goes_on { KeepsPast pass.old pass.new }
+        ensures last { IsLatest pass.new }
+        ensures kept { view_of pass.new ≡
+            handed (view_of pass.old) (released (hand_in pass.old) 0) }
+        ensures out { held_in pass.new ≡ No }
+    {
+        steps::leave(&self.site, pass);
+    }
+
+    /// A load, after which the pass knows that at each moment of the table so far, from the new
+    /// table on, the facts of every site were so, and the word was odd exactly where a pass held;
+    /// how often a pass has entered; and what each step did to the site's words.
+    pub fn recall(&self, pass: &mut SeqPass<O>)
+        requires own { SitsAt self.now pass.old }
+        ensures own { SitsAt self.now pass.new }
+        ensures goes_on { KeepsPast pass.old pass.new }
+        ensures kept { view_of pass.new ≡ ticked (view_of pass.old) }
+        ensures last { IsLatest pass.new }
+        ensures begins { BeganWith (newest (plan_of self.now)) (past_of pass.new) }
+        ensures always { EachMoment (IsSeqSiteThen O.object O.WORDS (plan_of self.now))
+            (past_of pass.new) }
+        ensures entered { CountsEnters (past_of pass.new) }
+        ensures moves { Paced (IsSiteStep (plan_of self.now) seq_at) (past_of pass.new) }
+    {
+        self.site.recall(pass);
+    }
+}
