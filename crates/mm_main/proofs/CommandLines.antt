@@ -5,7 +5,6 @@ use Rattle.std.specs.Option.{option_map_or}
 use Rattle.std.specs.Borrow.{Bor}
 use Rattle.std.specs.Str.{bytes_eq}
 use Rattle.std.proofs.lemmas.Bool.{false≢true, or_cases}
-use Rattle.std.proofs.lemmas.Bool.Decides.{when_true}
 use Rattle.std.proofs.lemmas.Slice.Eq.{bytes_eq-Decides}
 use Rattle.clap.specs.Facts.{Entry}
 use Rattle.clap.specs.Faults.{fault_of, is_simple_and_free}
@@ -128,8 +127,8 @@ unfolding options_of clap_on_literals
 short_question = refl
 
 question : (word : Text) → (bytes_eq word (codes "--help") ≡ true) ⊎ (bytes_eq word (codes "-h") ≡ true) → options_of (word ∷ []) ≡ None
-question word (inl is) = ap (λ (w : Text). options_of (w ∷ [])) (when_true _ _ is (bytes_eq-Decides word (codes "--help"))) ∙ long_question
-question word (inr is) = ap (λ (w : Text). options_of (w ∷ [])) (when_true _ _ is (bytes_eq-Decides word (codes "-h"))) ∙ short_question
+question word (inl is) = ap (λ (w : Text). options_of (w ∷ [])) ((bytes_eq-Decides word (codes "--help")).0 is) ∙ long_question
+question word (inr is) = ap (λ (w : Text). options_of (w ∷ [])) ((bytes_eq-Decides word (codes "-h")).0 is) ∙ short_question
 
 -- words that ask how to use the program say nothing
 pub questions_say_nothing : QuestionsSayNothing

@@ -149,7 +149,6 @@ impl Options {
     {}
 
     /// Words that ask how to use the program say nothing.
-    #[tactic(auto, using(crate::proofs::CommandLines::questions_say_nothing))]
     pub(crate) fn questions_say_nothing()
         ensures { QuestionsSayNothing }
     {}
