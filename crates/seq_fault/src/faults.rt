@@ -2,7 +2,7 @@
 ghost use Rattle.std.specs.Prelude.{◌≡◌, ◌≢◌, ◌⊎◌, ℕ, ◌+◌, ◌%◌, ◌<◌, ◌≤◌, List, length, None, IsSome, IfOk, IfErr};
 ghost use Rattle.lock_core.specs.declared.view.Held.TheVariants.{No};
 ghost use Rattle.lock_core.specs.Handles.{Finds, IsLatest, plan_of, view_of, hand_in, past_of, task_in, held_in, done_in, SitsAt, KeepsPast, SaysSame};
-ghost use Rattle.lock_core.specs.Views.{ticked};
+ghost use Rattle.lock_core.specs.Views.{OwesNoSignal, ticked};
 ghost use Rattle.word_bits.specs.PageMaps.{PageMap, IsPageMap};
 ghost use Rattle.vma_map.specs.Searches.{AgreesWith, asked, page_of, wanted};
 ghost use Rattle.vma_map.specs.Spaces.{IsAccess, access_reply, space, stores};
@@ -69,7 +69,7 @@ fn fault_at(
     requires numbered { IsSome (task_in pass.old) }
     requires out { held_in pass.old ≡ No }
     requires call { call ≡ done_in pass.old }
-    requires unsent { (hand_in pass.old).sent ≡ None }
+    requires recorded { OwesNoSignal (hand_in pass.old) }
     requires access { IsAccess access }
     requires next { IsNextFault (plan_of site.now) (hand_in pass.old) page access }
     ensures own { SitsAt site.now pass.new }
@@ -139,7 +139,7 @@ impl SeqSite<Areas> {
         requires numbered { IsSome (task_in pass.old) }
         requires out { held_in pass.old ≡ No }
         requires call { call ≡ done_in pass.old }
-        requires unsent { (hand_in pass.old).sent ≡ None }
+        requires recorded { OwesNoSignal (hand_in pass.old) }
         requires next { HasNextFault (plan_in self.now) (hand_in pass.old) }
         ensures own { Sits self.now pass.new }
         ensures goes_on { KeepsPast pass.old pass.new }
@@ -165,7 +165,7 @@ impl SeqSite<Areas> {
         requires numbered { IsSome (task_in pass.old) }
         requires out { held_in pass.old ≡ No }
         requires call { call ≡ done_in pass.old }
-        requires unsent { (hand_in pass.old).sent ≡ None }
+        requires recorded { OwesNoSignal (hand_in pass.old) }
         requires next { HasNextFault (plan_in self.now) (hand_in pass.old) }
         ensures own { Sits self.now pass.new }
         ensures goes_on { KeepsPast pass.old pass.new }

@@ -139,7 +139,7 @@ impl<O: Object> SeqSite<O> {
         requires held { held_in pass.old ≡ Alone }
         requires numbered { IsSome (task_in pass.old) }
         requires call { call ≡ (done_in pass.old) }
-        requires unsent { (hand_in pass.old).sent ≡ None }
+        requires recorded { OwesNoSignal (hand_in pass.old) }
         requires next { IsNextChange O.object self.now pass.old reply }
         ensures own { SitsAt self.now pass.new }
         ensures goes_on { KeepsPast pass.old pass.new }

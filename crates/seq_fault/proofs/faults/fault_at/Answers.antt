@@ -131,8 +131,8 @@ returns-in-Err-clause-few c =
     let most = s.few in
     omega (arith, more, last, most)
 
-pub note_seen-requires-clause-unsent : goal.note_seen-requires-clause-unsent
-note_seen-requires-clause-unsent c =
+pub note_seen-requires-clause-recorded : goal.note_seen-requires-clause-recorded
+note_seen-requires-clause-recorded c =
     let v = c.args.pass.now.seat.me.0.view in
     let before = c.watch-before.result in
     let even : before % 2 ≡ 0 = (let n = c.if-before-eq1.false in omega (arith, n)) in
@@ -140,7 +140,8 @@ note_seen-requires-clause-unsent c =
     let u = c.search_words.new.pass.seat.me.0.view in
     let s = c.search_words.new.search in
     let r = gathers v c.watch-before.new.pass.seat.me.0.view c.measure-front.new.pass.seat.me.0.view u before c.measure-front.result s b.0 b.1 b.3 c.measure-front.ensures.told c.search_words.ensures.searched in
-    ap (λ (z : V). z.hand.sent) (confirmed v u before c.measure-front.result s b.0 b.1 r c.confirm.new.pass.seat.me.0.view c.in_default.ensures.same) ∙ c.requires.unsent
+    let e = confirmed v u before c.measure-front.result s b.0 b.1 r c.confirm.new.pass.seat.me.0.view c.in_default.ensures.same in
+    (ap (λ (z : V). z.hand.sent) e ∙ c.requires.recorded.0, ap (λ (z : V). z.hand.consumed) e ∙ c.requires.recorded.1)
 
 pub note_seen-requires-clause-next : goal.note_seen-requires-clause-next
 note_seen-requires-clause-next c =

@@ -31,8 +31,8 @@ fault-requires-clause-out g c = ap (λ (f : Face). f.held) c.loop.invariant.3 �
 pub fault-requires-clause-call : goal.fault-requires-clause-call
 fault-requires-clause-call g c = c.requires.call ∙ sym (ap (λ (f : Face). f.done) c.loop.invariant.3)
 
-pub fault-requires-clause-unsent : goal.fault-requires-clause-unsent
-fault-requires-clause-unsent g c = ap (λ (v : V). v.hand.sent) c.loop.invariant.5.3 ∙ c.requires.unsent
+pub fault-requires-clause-recorded : goal.fault-requires-clause-recorded
+fault-requires-clause-recorded g c = (ap (λ (v : V). v.hand.sent) c.loop.invariant.5.3 ∙ c.requires.recorded.0, ap (λ (v : V). v.hand.consumed) c.loop.invariant.5.3 ∙ c.requires.recorded.1)
 
 pub fault-requires-clause-next : goal.fault-requires-clause-next
 fault-requires-clause-next g c = subst (λ (h : Hand). HasNextFault c.args.self.now.site.table.shared.key h) (sym (ap (λ (v : V). v.hand) c.loop.invariant.5.3)) c.requires.next
