@@ -13,20 +13,20 @@ use Rattle.mm_main.proofs.program.top.Goals as goal
 pub returns-then-asks_help-clause-answer : goal.returns-then-asks_help-clause-answer
 returns-then-asks_help-clause-answer g c =
     let words = map string_bytes c.args.words.now in
-    answers_any (HasServed g.A.SleepLock g.T.SleepLock) c.args.kept.now (request (is_question words) (options_of words)) helped (g.S.Source.left c.args.source.now) _ _ _ _ c.help.result (λ input. ap (λ asks. request asks (options_of words) input) ASKED)
+    answers_any (HasServed g.A.SleepLock g.T.SleepLock) c.args.kept.now (request (is_question words) (options_of words)) helped (g.S.Source.left c.args.source.now) _ _ _ _ c.help.result (λ input. ap (λ asks. request asks (options_of words) input) (sym c.asks_help.ensures ∙ c.if-asks_help.true))
     (said_unkept (HasServed g.A.SleepLock g.T.SleepLock) c.args.kept.now helped ⊥ _ _ _ c.help.result c.requires c.help.ensures.says)
 
 pub returns-then-asks_help-clause-complete : goal.returns-then-asks_help-clause-complete
 returns-then-asks_help-clause-complete g c =
-    completes_nothing (HasServed g.A.SleepLock g.T.SleepLock) c.args.kept.now _ _ _ _ _ _ _ (questions_say_nothing (map string_bytes c.args.words.now) ASKED)
+    completes_nothing (HasServed g.A.SleepLock g.T.SleepLock) c.args.kept.now _ _ _ _ _ _ _ (questions_say_nothing (map string_bytes c.args.words.now) (sym c.asks_help.ensures ∙ c.if-asks_help.true))
 
 pub returns-then-asks_help-clause-whole : goal.returns-then-asks_help-clause-whole
-returns-then-asks_help-clause-whole g c = λ done reads. absurd (false≢true (sym (ap reads_input (questions_say_nothing (map string_bytes c.args.words.now) ASKED)) ∙ reads))
+returns-then-asks_help-clause-whole g c = λ done reads. absurd (false≢true (sym (ap reads_input (questions_say_nothing (map string_bytes c.args.words.now) (sym c.asks_help.ensures ∙ c.if-asks_help.true))) ∙ reads))
 
 pub returns-in-Err-Misused-clause-answer : goal.returns-in-Err-Misused-clause-answer
 returns-in-Err-Misused-clause-answer g c =
     let said = options_of (map string_bytes c.args.words.now) in
-    answers_unasked (HasServed g.A.SleepLock g.T.SleepLock) c.args.kept.now _ said (g.S.Source.left c.args.source.now) _ _ _ _ c.usage.result UNASKED
+    answers_unasked (HasServed g.A.SleepLock g.T.SleepLock) c.args.kept.now _ said (g.S.Source.left c.args.source.now) _ _ _ _ c.usage.result (sym c.asks_help.ensures ∙ c.if-asks_help.false)
     (answers_any (HasServed g.A.SleepLock g.T.SleepLock) c.args.kept.now (request false said) misused (g.S.Source.left c.args.source.now) _ _ _ _ c.usage.result (λ input. ap (λ q. request false q input) (misused_says said c.in-Err-Misused.field-0 c.in-Err-Misused.field-0-is c.in-Err-Misused.ensures))
     (said_unkept (HasServed g.A.SleepLock g.T.SleepLock) c.args.kept.now misused ⊥ _ _ _ c.usage.result c.requires c.usage.ensures.says))
 
@@ -39,7 +39,7 @@ pub returns-in-Some-clause-answer : goal.returns-in-Some-clause-answer
 returns-in-Some-clause-answer g c =
     let said = options_of (map string_bytes c.args.words.now) in
     answers_any (HasServed g.A.SleepLock g.T.SleepLock) c.answer_generated.new.kept (request _ said) (accepted c.in-Ok.options.summary (generated c.in-Some.number)) (g.S.Source.left c.args.source.now) _ _ _ _ c.answer_generated.result
-    (λ input. ap (λ asks. request asks said input) UNASKED ∙ asks_generated said c.in-Ok.options c.in-Some.number input c.in-Ok.ensures c.in-Some.is) c.answer_generated.ensures.says
+    (λ input. ap (λ asks. request asks said input) (sym c.asks_help.ensures ∙ c.if-asks_help.false) ∙ asks_generated said c.in-Ok.options c.in-Some.number input c.in-Ok.ensures c.in-Some.is) c.answer_generated.ensures.says
 
 pub returns-in-Some-clause-complete : goal.returns-in-Some-clause-complete
 returns-in-Some-clause-complete g c =
@@ -51,7 +51,7 @@ returns-in-Some-clause-complete g c =
 pub returns-in-None-clause-answer : goal.returns-in-None-clause-answer
 returns-in-None-clause-answer g c =
     let said = options_of (map string_bytes c.args.words.now) in
-    answers_unasked (HasServed g.A.SleepLock g.T.SleepLock) c.answer_input.new.kept _ said (g.S.Source.left c.args.source.now) _ _ _ _ c.answer_input.result UNASKED
+    answers_unasked (HasServed g.A.SleepLock g.T.SleepLock) c.answer_input.new.kept _ said (g.S.Source.left c.args.source.now) _ _ _ _ c.answer_input.result (sym c.asks_help.ensures ∙ c.if-asks_help.false)
     (answers_as (HasServed g.A.SleepLock g.T.SleepLock) c.answer_input.new.kept said (λ input. request_of c.in-Ok.options.summary (script_of input)) (g.S.Source.left c.args.source.now) _ _ _ _ c.answer_input.result
     (λ input. sym (asks_input said c.in-Ok.options input c.in-Ok.ensures c.in-None.is)) c.answer_input.ensures.answer)
 
