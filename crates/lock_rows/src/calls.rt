@@ -79,7 +79,7 @@ pub fn perform<O: Object + Drop>(site: &OwnerSite<O>, pass: &mut OwnerPass<O>) -
     ensures stored { IsStored O.object (plan_of site.now) (hand_in pass.new) }
     ensures task { task_in pass.new ≡ task_in pass.old }
     ensures spin { SameSpin pass.old pass.new }
-    ensures signals { OwesSame pass.old pass.new }
+    ensures owes { OwesNothing pass.new }
 {
     let next = next_call(site, pass)?;
     let known = O::call_of(next.words)?;
