@@ -1,10 +1,10 @@
 //! What a third task is told while a mutex is handed over on threads.
 ghost use Rattle.mutex_slow.specs.Standing.{IsHolder, IsReady};
 
-use super::lockers::{NO_TURNS, how_it_locks};
+use super::lockers::{Held, NO_TURNS, how_it_locks, open_held};
 use super::watched::{Watch, WatchedCrew, await_count};
 use cpu_task::Crew;
-use lock_core::{How, Nothing, Plan};
+use lock_core::{How, Nothing};
 use mutex_slow::{Mutex, MutexPass};
 use std::sync::Wait;
 use std::sync::atomic::Ordering;
@@ -88,17 +88,15 @@ fn wait_and_hand_over<R: Threads + Wait + Sync, C: Crew<C: Send> + Sync>(
 // A word has the flags waiters 1, handoff 2 and pickup 4, and 8 times the task's number plus 1.
 #[test]
 fn a_third_task_is_told_of_the_handoff(rt: HostRuntime) -> Result<(), Fail> {
-    let plan = Plan::new(rt.alloc(), 3)?;
-    let (mutex, mut holder) = Mutex::<Nothing>::open(rt.alloc(), plan)?;
-    let mut waiter = mutex.split(&mut holder);
-    let mut other = mutex.split(&mut holder);
-    mutex.begin(&rt, &mut holder, 0);
-    mutex.begin(&rt, &mut waiter, 1);
-    mutex.begin(&rt, &mut other, 2);
+    let Held {
+        mutex,
+        holder,
+        waiter,
+        other,
+    } = open_held(&rt, rt.alloc())?;
     let watch = Watch::default();
     let mut crew = WatchedCrew { watch: &watch };
     let cpu = crew.cpu(rt.alloc(), 1, NO_TURNS)?;
-    assert!(rt; mutex.trylock_once(&mut holder).is_ok());
     let (how, mut other, words) = wait_and_hand_over(
         &rt,
         &mutex,
