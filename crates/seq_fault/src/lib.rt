@@ -8,6 +8,7 @@ mod rule;
 mod site;
 mod steps;
 mod view;
+mod writing;
 
 pub use faults::{SeqSpace, SpacePass};
 pub use rule::SeqRule;

@@ -1,0 +1,14 @@
+-- The words so far are written.
+use Rattle.std.proofs.Common.{◌≡◌, length, take}
+use Rattle.lock_core.specs.Handles.{hand_in, KeepsPast, SaysSame, SitsAt}
+use Rattle.seq_fault.specs.Writing.{SameCall}
+use Rattle.seq_fault.proofs.writing.store.Given as goal
+
+abbrev pub invariant-loop-at : goal.invariant-loop-at
+invariant-loop-at g l =
+    SitsAt l.site l.pass
+    × SaysSame l.fn.pass l.pass
+    × SameCall (hand_in l.fn.pass) (hand_in l.pass)
+    × (length (hand_in l.pass).known ≡ length (hand_in l.fn.pass).known)
+    × (take l.at (hand_in l.pass).known ≡ take l.at l.stored)
+    × KeepsPast l.fn.pass l.pass

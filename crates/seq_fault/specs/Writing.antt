@@ -1,0 +1,47 @@
+-- What a changing call leaves.
+use Rattle.std.specs.Prelude.{◌≡◌, ◌+◌, ◌≤◌, false, List, [], ◌∷◌, ◌++◌, length, take, slice_get, Some}
+use Rattle.word_bits.specs.declared.entry.Entry.{Entry}
+use Rattle.word_bits.specs.declared.call.CallWords.{CallWords}
+use Rattle.word_bits.specs.declared.reply.Reply.{Reply}
+use Rattle.word_bits.specs.Objects.{Obj}
+use Rattle.word_bits.specs.Histories.{Plan, state_after}
+use Rattle.lock_core.specs.declared.view.Hand.{Hand}
+use Rattle.lock_core.specs.Records.{row}
+use Rattle.lock_core.specs.Views.{next_entry}
+
+-- the pass is at the same call, with the same log
+pub record SameCall (h g : Hand) : Type 0 where
+  pub log : g.log ≡ h.log
+  pub task : g.task ≡ h.task
+  pub done : g.done ≡ h.done
+  pub sent : g.sent ≡ h.sent
+  pub consumed : g.consumed ≡ h.consumed
+
+module _ {Call : Type 0} (o : Obj Call) (k : Plan) where
+  -- the next call of the pass's task changes the object
+  pub record HasNextChange (h : Hand) : Type 0 where
+    pub words : CallWords
+    pub call : Call
+    pub planned : slice_get (row k (next_entry h).task) (next_entry h).call ≡ Some words
+    pub is : o.call_of words ≡ Some call
+    pub changes : o.reads call ≡ false
+
+  -- the call's reply is its meaning on the state after this log, to which it is appended; the pass has then seen all of it, and one call more of its task is done
+  pub record Appends (log : List Entry) (h : Hand) (reply : Reply) (g : Hand) : Type 0 where
+    pub words : CallWords
+    pub call : Call
+    pub planned : slice_get (row k (next_entry h).task) (next_entry h).call ≡ Some words
+    pub is : o.call_of words ≡ Some call
+    pub replies : reply ≡ (o.meaning (state_after o k log) call).1
+    pub seen : g.seen ≡ log ++ next_entry h ∷ []
+    pub done : g.done ≡ h.done + 1
+
+  -- the same on the log that the pass has learnt
+  abbrev pub Changes : Hand → Reply → Hand → Type 0
+  Changes h reply g = Appends h.log h reply g
+
+  -- the same on a log that goes on from what the pass had seen
+  pub record Writes (h : Hand) (reply : Reply) (g : Hand) : Type 0 where
+    pub log : List Entry
+    pub begins : (length h.seen ≤ length log) × (take (length h.seen) log ≡ h.seen)
+    pub appends : Appends log h reply g

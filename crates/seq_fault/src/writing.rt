@@ -1,0 +1,115 @@
+//! Changing calls.
+ghost use Rattle.std.specs.Prelude.{◌≡◌, ◌≢◌, length, false, IfNone, IfSome, IsSome};
+ghost use Rattle.lock_core.specs.declared.view.Held.TheVariants.{No, Alone};
+ghost use Rattle.lock_core.specs.Locking.{IsStored};
+ghost use Rattle.lock_core.specs.Views.{OwesNoSignal};
+ghost use Rattle.lock_core.specs.Handles.{IsLatest, plan_of, hand_in, task_in, held_in, done_in, SitsAt, KeepsPast, SaysSame};
+ghost use Rattle.seq_fault.specs.Writing.{Changes, HasNextChange, SameCall, Writes};
+
+use crate::rule::SeqRule;
+use crate::site::{SeqPass, SeqSite};
+use lock_core::{Pass, Site};
+use std::sync::Wait;
+use word_bits::{Object, Reply};
+
+/// The value that the guarded words store.
+fn load<O: Object>(site: &Site<SeqRule<O>>, pass: &mut Pass<SeqRule<O>>) -> Option<O>
+    requires own { SitsAt site.now pass.old }
+    requires held { held_in pass.old ≡ Alone }
+    requires sized { length (hand_in pass.old).known ≡ O.WORDS }
+    ensures own { SitsAt site.now pass.new }
+    ensures goes_on { KeepsPast pass.old pass.new }
+    ensures face { SaysSame pass.old pass.new }
+    ensures hand { hand_in pass.new ≡ hand_in pass.old }
+    ensures state { IfSome result (λ v. O.object.IsState (O.state v)) }
+    ensures found { IfSome result (λ v. O.object.stores (O.state v) ≡ (hand_in pass.old).known) }
+    ensures none { IfNone result ((s : O.object.State) →
+        O.object.IsState s → O.object.stores s ≢ (hand_in pass.old).known) }
+{
+    let mut words = [0; 257];
+    for at in 0..O::WORDS {
+        words[at] = site.word(pass, at);
+    }
+    O::load(&words[..O::WORDS])
+}
+
+/// Writes the words that store the value.
+fn store<O: Object>(site: &Site<SeqRule<O>>, pass: &mut Pass<SeqRule<O>>, value: &O)
+    requires own { SitsAt site.now pass.old }
+    requires held { held_in pass.old ≡ Alone }
+    requires sized { length (hand_in pass.old).known ≡ O.WORDS }
+    ensures own { SitsAt site.now pass.new }
+    ensures goes_on { KeepsPast pass.old pass.new }
+    ensures face { SaysSame pass.old pass.new }
+    ensures kept { SameCall (hand_in pass.old) (hand_in pass.new) }
+    ensures known { (hand_in pass.new).known ≡ O.object.stores (O.state value.now) }
+{
+    let mut words = [0; 257];
+    let stored = &mut words[..O::WORDS];
+    value.store(stored);
+    for at in 0..O::WORDS {
+        site.set_word(pass, at, stored[at]);
+    }
+}
+
+/// Does a changing call on the guarded words, and records it.
+fn change<O: Object + Drop>(
+    site: &Site<SeqRule<O>>,
+    pass: &mut Pass<SeqRule<O>>,
+    call: u32,
+) -> Reply
+    requires own { SitsAt site.now pass.old }
+    requires numbered { IsSome (task_in pass.old) }
+    requires held { held_in pass.old ≡ Alone }
+    requires call { call ≡ done_in pass.old }
+    requires recorded { OwesNoSignal (hand_in pass.old) }
+    requires stored { IsStored O.object (plan_of site.now) (hand_in pass.old) }
+    requires next { HasNextChange O.object (plan_of site.now) (hand_in pass.old) }
+    ensures own { SitsAt site.now pass.new }
+    ensures goes_on { KeepsPast pass.old pass.new }
+    ensures held { held_in pass.new ≡ Alone }
+    ensures quiet { (hand_in pass.new).writes ≡ false }
+    ensures changed { Changes O.object (plan_of site.now)
+        (hand_in pass.old) result (hand_in pass.new) }
+{
+    let Some(task) = pass.task() else {
+        unreachable!()
+    };
+    let words = site.call(pass, task, call);
+    let Some(known) = O::call_of(words) else {
+        unreachable!()
+    };
+    let Some(mut value) = load(site, pass) else {
+        unreachable!()
+    };
+    let reply = value.apply(known);
+    store(site, pass, &value);
+    site.commit(pass, call, reply);
+    reply
+}
+
+impl<O: Object + Drop> SeqSite<O> {
+    ghost use Rattle.seq_fault.specs.Handles.{plan_of as plan_in, SitsAt as Sits};
+
+    /// Does the next call of the pass's task, which changes the object: it enters, does the call on
+    /// a copy, writes that back, and leaves.
+    pub fn write<W: Wait>(&self, rt: &W, pass: &mut SeqPass<O>, call: u32) -> Reply
+        requires own { Sits self.now pass.old }
+        requires numbered { IsSome (task_in pass.old) }
+        requires out { held_in pass.old ≡ No }
+        requires call { call ≡ done_in pass.old }
+        requires recorded { OwesNoSignal (hand_in pass.old) }
+        requires next { HasNextChange O.object (plan_in self.now) (hand_in pass.old) }
+        ensures own { Sits self.now pass.new }
+        ensures goes_on { KeepsPast pass.old pass.new }
+        ensures last { IsLatest pass.new }
+        ensures out { held_in pass.new ≡ No }
+        ensures wrote { Writes O.object (plan_in self.now)
+            (hand_in pass.old) result (hand_in pass.new) }
+    {
+        self.enter(rt, pass);
+        let reply = change(&self.site, pass, call);
+        self.leave(pass);
+        reply
+    }
+}
