@@ -9,6 +9,7 @@ pub mod Calls
 pub mod Tasks
 pub mod Legal
 pub mod Counted
+pub mod Filled
 pub mod Descriptors
 pub mod Tallies
 pub mod LineTexts

@@ -1,8 +1,5 @@
-//! Tests of scripts as values, of sources and sinks, of generated scripts, and of the texts of
-//! results.
+//! Tests of scripts as values, of sources and sinks, and of generated scripts.
 #![tactic(auto)]
 
-#[cfg(test)]
-mod report_tests;
 #[cfg(test)]
 mod script_tests;
