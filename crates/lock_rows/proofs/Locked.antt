@@ -1,5 +1,5 @@
 -- What an owner word without flags states, as callers of any lock see it.
-use Rattle.std.proofs.Common.{◌≡◌, ◌≢◌, ℕ, ◌+◌, ◌*◌, ◌/◌, ◌%◌, ◌<◌, ◌≤◌, List, [], ◌∷◌, Option, Some, None, refl, sym, ap, ◌∙◌, subst, arith}
+use Rattle.std.proofs.Common.{◌≡◌, ◌≢◌, ℕ, ◌+◌, ◌*◌, ◌/◌, ◌%◌, ◌<◌, ◌≤◌, false, List, [], ◌∷◌, Option, Some, None, Ok, refl, sym, ap, ◌∙◌, subst, arith}
 use Rattle.std.specs.Prelude.{slice_index}
 use mathlib.Core.Logic.{dite}
 use mathlib.Core.Option.{some, some-injective}
@@ -11,12 +11,30 @@ use Rattle.lock_core.specs.declared.view.Hand.{Hand}
 use Rattle.lock_core.specs.declared.view.SpinHand.{SpinHand}
 use Rattle.lock_core.specs.declared.view.Moment.{Moment}
 use Rattle.lock_core.specs.declared.view.Held.TheVariants.{No, Alone}
+use Rattle.lock_core.specs.declared.how.How.TheVariants.{Fast}
+use Rattle.lock_core.specs.declared.tally.Tally.{Tally}
 use Rattle.lock_core.specs.Kinds.{mutex}
+use Rattle.lock_core.specs.Locking.{Got, TalliesLock}
+use Rattle.lock_core.specs.Shown.{Shown}
 use Rattle.lock_core.specs.Pasts.{EachMoment}
 use Rattle.lock_core.specs.Locked.{OwnerStates, FlagStates, IsLockedThen}
 use Rattle.mutex_word.specs.Holders.{own_word, IsHolder, StatesHolder}
 use Rattle.mutex_word.specs.Ruled.{IsOwnerSiteThen, owner_at}
 use Rattle.lock_rows.specs.OwnerLocks.{nobody_waits}
+
+-- a call that took at once counted nothing
+pub fast_tallies : (v u : Shown) → Got Fast v u → TalliesLock (Ok Fast) v u
+fast_tallies v u got = record {
+  queued = ap (λ (t : Tally). t.queued) got.5;
+  interrupted = ap (λ (t : Tally). t.interrupted) got.5;
+  refused = false;
+  entered = let fronts = got.2 in let swaps = got.4 in omega (arith, fronts, swaps);
+  left = ap (λ (t : Tally). t.left) got.5;
+}
+
+-- nor that it left a spin queue
+pub fast_stays : {P : Type 0} (v u : Shown) → Got Fast v u → u.tally.left ≢ v.tally.left → P
+fast_stays v u got other = absurd (other (ap (λ (t : Tally). t.left) got.5))
 
 pub each-moment : (P Q : Moment → Type 0) → ((m : Moment) → P m → Q m) → (past : List Moment) → EachMoment P past → EachMoment Q past
 each-moment P Q so [] e = tt

@@ -157,6 +157,7 @@ impl<O: Object> SleepLock<O> for OwnerLock<O> {
         self.alone(rt, pass, cpu, crew)
     }
 
+    #[tactic(auto, using(crate::proofs::Locked::fast_tallies, crate::proofs::Locked::fast_stays))]
     fn alone<W: Wait, C: Crew>(
         &self,
         rt: &W,
