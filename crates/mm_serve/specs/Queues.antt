@@ -1,4 +1,4 @@
--- What ties the spin queue of an object's lock to what the tasks did there.
+-- To which moments of the spin queue of an object's lock its gathered pass goes back.
 use Rattle.std.specs.Prelude.{◌≡◌, ℕ, ◌<◌, List, length}
 use Rattle.word_bits.specs.Objects.{Obj}
 use Rattle.word_bits.specs.Histories.{Plan}
@@ -9,7 +9,7 @@ use Rattle.lock_core.specs.Records.{row}
 use Rattle.lock_core.specs.Shown.{Shown}
 use Rattle.mm_serve.specs.Serving.{IsServing}
 
--- a pass of the lock which has the task's number, has done all the task's calls, and knows what the lock tells of its spin queue at each moment up to its own last step there
+-- a pass of the lock which has the task's number, says of itself that it did all the task's calls, and knows what the lock tells of its spin queue at each moment up to a look there
 pub record HasLookedBack {Call : Type 0} (o : Obj Call) (kind : Kind) (Sits : Type 0) (tells_queue : Plan → Shown → List Moment → Type 0) (k : Plan) (v : Shown) (spun : List Moment) (t : ℕ) : Type 0 where
   pub own : Sits
   pub serving : IsServing o (unavailable kind) k v.hand t
@@ -17,7 +17,7 @@ pub record HasLookedBack {Call : Type 0} (o : Obj Call) (kind : Kind) (Sits : Ty
   pub queue : tells_queue k v spun
 
 module _ {S P : Type 0} (looked_back : S → P → ℕ → Type 0) (spun : P → List Moment) where
-  -- these moments go back to all that a pass did on the spin queue which had done all the task's calls, and then looked back at the queue
+  -- these moments of the spin queue go back to such a look of a pass with the task's number
   pub record GoesBackToTask (s : S) (t : ℕ) (past : List Moment) : Type 0 where
     pub pass : P
     pub looked : looked_back s pass t
