@@ -72,7 +72,7 @@ module _ {S C P U : Type 0} where
     pub legal : AreLegal script (results_of m) told
     pub known : AreAllKnown hand (gathered_of m) told
 
-  -- the gathered pass of each object goes back to all that each task did on the spin queue of the object's lock
+  -- the gathered pass of each object goes back to a look of a pass with each task's number on the spin queue of the object's lock
   abbrev pub GoBackToTasks : (looked_back : S → P → ℕ → Type 0) → (spun : P → List Moment) → (S → Plan) → Machine S C P U → Type 0
   GoBackToTasks looked_back spun calls_on m = EachOf (λ k s p. GoesBackToTasks looked_back spun calls_on s p) (sites_of m) (gathered_of m)
 
