@@ -27,6 +27,7 @@ use fd_table::Fds;
 use guarded::{Mutex, RwSem, SleepLock};
 use mm_serve::{SpaceLock, TableLock};
 use std::alloc::{AllocError, Global};
+use std::io::{Read, Write};
 use std::process::ExitCode;
 use std::sync::Wait;
 use std::thread::Threads;
@@ -147,17 +148,29 @@ fn exit_code(status: Status) -> ExitCode
     ExitCode::from(status.number())
 }
 
-fn main(rt: HostRuntime) -> ExitCode {
-    let mut source = ReadSource::new(rt.reader());
-    let mut sink = WriteSink::new(io::writer(&rt));
+/// The program over a line of words, a reader and a writer.
+fn run_on<R: Threads + Wait + Sync, I: Read + Drop, O: Write + Drop>(
+    rt: &R,
+    alloc: Global,
+    line: io::Result<env::Args>,
+    reader: I,
+    writer: O,
+) -> (Status, ExitCode)
+    ensures code { exit_status result.1 ≡ status_number result.0 }
+{
+    let mut source = ReadSource::new(reader);
+    let mut sink = WriteSink::new(writer);
     let mut kept = None;
-    let (status, code) = run(
+    run(rt, alloc, line, &mut source, &mut sink, &mut kept)
+}
+
+fn main(rt: HostRuntime) -> ExitCode {
+    let (status, code) = run_on(
         &rt,
         rt.alloc(),
         env::args(&rt),
-        &mut source,
-        &mut sink,
-        &mut kept,
+        rt.reader(),
+        io::writer(&rt),
     );
     if let Some(line) = status.complaint() {
         // Where standard error fails too, the exit code still tells.
