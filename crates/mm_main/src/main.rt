@@ -27,7 +27,6 @@ use fd_table::Fds;
 use guarded::{Mutex, RwSem, SleepLock};
 use mm_serve::{SpaceLock, TableLock};
 use std::alloc::{AllocError, Global};
-use std::io::{Read, Write};
 use std::process::ExitCode;
 use std::sync::Wait;
 use std::thread::Threads;
@@ -101,26 +100,33 @@ where
     top(rt, alloc, words, source, sink, crew, &OpenGate, kept)
 }
 
-/// The program over its streams: spaces under semaphores, tables under mutexes, and scripts of at
-/// most `MAX_TASKS` tasks, whose threads park. Answers how it ended, and the exit
+/// The program over its streams, with spaces under locks of one kind, tables under locks of another,
+/// and scripts of at most `MAX_TASKS` tasks, whose threads park. Answers how it ended, and the exit
 /// code that says so.
-fn run<R: Threads + Wait + Sync, S: Source, K: Sink>(
+fn run<
+    A: SpaceLock + Drop + Sync,
+    T: TableLock + Drop + Sync,
+    R: Threads + Wait + Sync,
+    S: Source,
+    K: Sink,
+>(
     rt: &R,
     alloc: Global,
     line: io::Result<env::Args>,
     source: &mut S,
     sink: &mut K,
-    kept: &mut Option<ScriptMachine<RwSem<Areas>, Mutex<Fds>, ParkCrew>>,
+    kept: &mut Option<ScriptMachine<A, T, ParkCrew>>,
 ) -> (Status, ExitCode)
+where
+    A::Pass: Send,
+    T::Pass: Send,
     requires { kept.old ≡ None }
     ensures answer { AnswersTo S.left S.faults K.faults K.written source.old source.new
-        sink.old sink.new
-        (HasServed ⟦<RwSem<Areas> as SleepLock<Areas>>⟧ ⟦<Mutex<Fds> as SleepLock<Fds>>⟧)
-        kept.new (request (line_asks_help line) (said_by_line line)) result.0 }
+        sink.old sink.new (HasServed A.SleepLock T.SleepLock) kept.new
+        (request (line_asks_help line) (said_by_line line)) result.0 }
     ensures complete { CompletesTo S.left S.faults K.faults K.written source.old source.new
-        sink.old sink.new
-        (HasServed ⟦<RwSem<Areas> as SleepLock<Areas>>⟧ ⟦<Mutex<Fds> as SleepLock<Fds>>⟧)
-        kept.new (said_by_line line) result.0 }
+        sink.old sink.new (HasServed A.SleepLock T.SleepLock) kept.new
+        (said_by_line line) result.0 }
     ensures read_faults { S.faults source.new ≡ read_faults result.0 (S.faults source.old) }
     ensures write_faults { K.faults sink.new ≡ write_faults result.0 (K.faults sink.old) }
     ensures taken { TakesAtMost 1048577 (S.left source.old) (S.left source.new) }
@@ -148,29 +154,47 @@ fn exit_code(status: Status) -> ExitCode
     ExitCode::from(status.number())
 }
 
-/// The program over a line of words, a reader and a writer.
-fn run_on<R: Threads + Wait + Sync, I: Read + Drop, O: Write + Drop>(
+/// The program as `run`, whose machine nobody keeps.
+fn run_to_end<
+    A: SpaceLock + Drop + Sync,
+    T: TableLock + Drop + Sync,
+    R: Threads + Wait + Sync,
+    S: Source,
+    K: Sink,
+>(
     rt: &R,
     alloc: Global,
     line: io::Result<env::Args>,
-    reader: I,
-    writer: O,
+    source: &mut S,
+    sink: &mut K,
 ) -> (Status, ExitCode)
+where
+    A::Pass: Send,
+    T::Pass: Send,
+    ensures read_faults { S.faults source.new ≡ read_faults result.0 (S.faults source.old) }
+    ensures write_faults { K.faults sink.new ≡ write_faults result.0 (K.faults sink.old) }
+    ensures taken { TakesAtMost 1048577 (S.left source.old) (S.left source.new) }
+    ensures unread { reads_input (said_by_line line) ≡ false → source.new ≡ source.old }
+    ensures few_reads { S.gave source.new ≤ S.gave source.old + 1048577 }
+    ensures one_end { S.ended source.new ≤ S.ended source.old + 1 }
+    ensures whole { result.0 ≡ Status.Done → reads_input (said_by_line line) ≡ true →
+        IsAtEnd (S.left source.new) }
     ensures code { exit_status result.1 ≡ status_number result.0 }
 {
-    let mut source = ReadSource::new(reader);
-    let mut sink = WriteSink::new(writer);
-    let mut kept = None;
-    run(rt, alloc, line, &mut source, &mut sink, &mut kept)
+    let mut kept: Option<ScriptMachine<A, T, ParkCrew>> = None;
+    run(rt, alloc, line, source, sink, &mut kept)
 }
 
+/// Spaces are under semaphores and tables under mutexes.
 fn main(rt: HostRuntime) -> ExitCode {
-    let (status, code) = run_on(
+    let mut source = ReadSource::new(rt.reader());
+    let mut sink = WriteSink::new(io::writer(&rt));
+    let (status, code) = run_to_end::<RwSem<Areas>, Mutex<Fds>, _, _, _>(
         &rt,
         rt.alloc(),
         env::args(&rt),
-        rt.reader(),
-        io::writer(&rt),
+        &mut source,
+        &mut sink,
     );
     if let Some(line) = status.complaint() {
         // Where standard error fails too, the exit code still tells.
