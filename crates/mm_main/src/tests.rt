@@ -6,6 +6,7 @@ use crate::status::Status;
 use cpu_task::{Crew, Gate, OpenGate, ParkCrew};
 use fd_table::Fds;
 use guarded::{Mutex, RwSem};
+use mm_serve::{SpaceLock, TableLock};
 use std::alloc::{AllocError, Global};
 use std::sync::Wait;
 use std::test::Fail;
@@ -20,7 +21,33 @@ mod words;
 
 const ORDINARY: &str = "space a\ntask\na map 16 4 rw-\na fault 17 w\na fault 20 r\n";
 
-/// Runs the program over the locks that it has. Answers how it ended, and whether a machine is kept.
+/// Runs the program over locks of any two kinds. Answers how it ended, and whether a machine is kept.
+fn run_over<
+    A: SpaceLock + Drop + Sync,
+    T: TableLock + Drop + Sync,
+    R: Threads + Wait + Sync,
+    C: Crew + Sync,
+    G: Gate + Sync,
+>(
+    rt: &R,
+    alloc: Global,
+    words: &[String],
+    source: &mut MemSource,
+    sink: &mut MemSink,
+    crew: &mut C,
+    gate: &G,
+) -> (Status, bool)
+where
+    A::Pass: Send,
+    T::Pass: Send,
+    C::C: Send,
+{
+    let mut kept: Option<ScriptMachine<A, T, C>> = None;
+    let status = top(rt, alloc, words, source, sink, crew, gate, &mut kept);
+    (status, kept.is_some())
+}
+
+/// Runs it over the locks that it has.
 fn run_with<R: Threads + Wait + Sync, C: Crew + Sync, G: Gate + Sync>(
     rt: &R,
     alloc: Global,
@@ -37,18 +64,8 @@ where
     for word in words {
         owned.push(String::from_str(alloc, word)?)?;
     }
-    let mut kept: Option<ScriptMachine<RwSem<Areas>, Mutex<Fds>, C>> = None;
-    let status = top(
-        rt,
-        alloc,
-        owned.as_slice(),
-        source,
-        sink,
-        crew,
-        gate,
-        &mut kept,
-    );
-    Ok((status, kept.is_some()))
+    let words = owned.as_slice();
+    Ok(run_over::<RwSem<Areas>, Mutex<Fds>, _, _, _>(rt, alloc, words, source, sink, crew, gate))
 }
 
 /// How a run ended, whether a machine is kept, and what was written.
