@@ -1,6 +1,6 @@
 -- A call that reads without the lock, step by step.
-use Rattle.std.proofs.Common.{◌≡◌, ◌∙◌, ℕ, ◌+◌, ◌<◌, ◌≤◌, Bool, true, false, List, length, slice_index, Option, Some, IfSome, sym, refl, ap, subst, arith, inl, inr}
-use Rattle.std.specs.Prelude.{Result, Ok, Err, IfErr}
+use Rattle.std.proofs.Common.{◌≡◌, ◌∙◌, ℕ, ◌+◌, Bool, true, false, List, length, slice_index, Option, Some, IfSome, sym, refl, ap, subst, arith, inl, inr}
+use Rattle.std.specs.Prelude.{Result, Ok, Err, IfOk, IfErr}
 use Rattle.word_bits.specs.declared.entry.Entry.{Entry}
 use Rattle.word_bits.specs.declared.reply.Reply.{Reply}
 use Rattle.word_bits.specs.PageMaps.{PageMap, IsPageMap}
@@ -8,8 +8,9 @@ use Rattle.word_bits.specs.Histories.{Plan, state_after}
 use Rattle.lock_core.specs.declared.view.Hand.{Hand}
 use Rattle.lock_core.specs.declared.view.Moment.{Moment}
 use Rattle.lock_core.specs.Holding.{Learns}
+use Rattle.lock_core.specs.Layout.{length_place}
 use Rattle.lock_core.specs.Passes.{IsSeenReading}
-use Rattle.lock_core.specs.Pasts.{FoundAt, FoundSince, GoesOn, IsOwnStep, IsStepBy}
+use Rattle.lock_core.specs.Pasts.{FoundAt, FoundAtStep, GoesOn, IsOwnStep, IsStepBy}
 use Rattle.lock_core.specs.RunLaws.{found-at-step}
 use Rattle.lock_core.specs.Views.{next_entry, ticked, after_seen}
 use Rattle.lock_core.proofs.HandLaws.{not-both}
@@ -20,13 +21,20 @@ use Rattle.vma_map.specs.Spaces.{access_reply, space, stores}
 use Rattle.seq_fault.specs.declared.view.Glance.{Glance}
 use Rattle.seq_fault.specs.declared.view.Watch.TheVariants.{Off, On}
 use Rattle.seq_fault.specs.Plays.{turned, glance, staled, saw_log}
-use Rattle.seq_fault.specs.Ruled.{V}
-use Rattle.seq_fault.specs.Steps.{Faults, HasSearched, IsNextFault, TellsSince, IsWatching}
+use Rattle.seq_fault.specs.Ruled.{V, seq_at}
+use Rattle.seq_fault.specs.Steps.{AtOneWord, Faults, HasSearched, IsNextFault, TellsSince, IsWatching}
 use Rattle.seq_fault.proofs.Stepping.{on-off}
 
--- what a step of the pass since found
-pub finds : (v x w : V) (at n : ℕ) (old past new : List Moment) → x.hand.task ≡ v.hand.task → v.steps < x.steps → x.steps ≤ w.steps → IsOwnStep x past → FoundAt at n past → GoesOn old past → GoesOn past new → FoundSince v.hand.task v.steps w.steps at n old new
-finds v x w at n old past new named later upto own found after goes = (x.steps, later, upto, found-at-step x v.hand.task at n old past new named own found after goes)
+-- what the pass's step of this number found
+pub finds : (v x : V) (count at n : ℕ) (old past new : List Moment) → x.hand.task ≡ v.hand.task → x.steps ≡ v.steps + count → IsOwnStep x past → FoundAt at n past → GoesOn old past → GoesOn past new → FoundAtStep v.hand.task (v.steps + count) at n old new
+finds v x count at n old past new named steps own found after goes = subst (λ (s : ℕ). FoundAtStep v.hand.task s at n old new) steps (found-at-step x v.hand.task at n old past new named own found after goes)
+
+-- a load of a pass that watches is one step, and leaves its number
+pub told-next : (so : Glance → Type 0) (g : Glance) (v u : V) → v.ext ≡ On g → TellsSince so v u → (u.hand.task ≡ v.hand.task) × (u.steps ≡ v.steps + 1)
+told-next so g v u on told = elim (told g on) [
+  | inl t ↦ (ap (λ (z : V). z.hand.task) t.1, ap (λ (z : V). z.steps) t.1)
+  | inr t ↦ (ap (λ (z : V). z.hand.task) t, ap (λ (z : V). z.steps) t)
+]
 
 -- before the first load
 pub searched-none : (g : Glance) (s : Search) (v : V) → asked s ≡ 0 → ((words : List ℕ) → AgreesWith words s) → v.ext ≡ On g → HasSearched g s v v
@@ -78,6 +86,10 @@ module _ (v u : V) (before front : ℕ) (s : Search) (known : List ℕ) (log : L
   pub confirmed : (w : V) → Same w → w ≡ record v { hand = record v.hand { seen = log }; steps = v.steps + 1 + 1 + asked s + 1; ext = Off }
   confirmed w same = let t = same (record (glance before known log) { stale = r.stale }) gathered-on in t.1 ∙ ap (λ (z : V). turned z (saw_log z.hand (record (glance before known log) { stale = r.stale })) Off) r.is
 
+  -- the log of that moment is as long as the load of its length found
+  pub confirmed-front : (w : V) → Same w → length log ≡ front
+  confirmed-front w same = sym (r.fresh (same (record (glance before known log) { stale = r.stale }) gathered-on).0).0
+
   pub confirmed-fresh : (w : V) → Same w → AgreesWith known s
   confirmed-fresh w same = (r.fresh (same (record (glance before known log) { stale = r.stale }) gathered-on).0).1
 
@@ -103,11 +115,34 @@ module _ (v u : V) (before front : ℕ) (s : Search) (known : List ℕ) (log : L
       is = noted ∙ ap (λ (x : V). after_seen x reply) (confirmed w same ∙ ap (λ (n : ℕ). record v { hand = record v.hand { seen = log }; steps = n; ext = Off }) steps);
     }
 
--- what the pass found since two steps later, it found since
-pub finds-before : (v x w : V) (at n : ℕ) (old middle new : List Moment) → x ≡ ticked (ticked v) → GoesOn old middle → FoundSince x.hand.task x.steps w.steps at n middle new → FoundSince v.hand.task v.steps w.steps at n old new
-finds-before v x w at n old middle new is goes f = let two = ap (λ (z : V). z.steps) is in let begun = f.1 in let found = f.3 in let by = subst (λ (t : Option ℕ). IsStepBy t f.0 found.past) (ap (λ (z : V). z.hand.task) is) found.by in
-    (f.0, omega (arith, two, begun), f.2, record { past = found.past; by = by; found = found.found; after = λ p t. found.after p (goes p t); goes_on = found.goes_on })
+-- what a step found, counted from two steps later on
+module _ (v x : V) (old middle new : List Moment) (is : x ≡ ticked (ticked v)) (goes : GoesOn old middle) where
+  pub finds-before : (count at n : ℕ) → FoundAtStep x.hand.task (x.steps + count) at n middle new → FoundAtStep v.hand.task (v.steps + (2 + count)) at n old new
+  finds-before count at n f = let by : IsStepBy v.hand.task (v.steps + 1 + 1 + count) f.past = subst (λ (z : V). IsStepBy z.hand.task (z.steps + count) f.past) is f.by in let same : v.steps + 1 + 1 + count ≡ v.steps + (2 + count) = omega arith in
+      record { past = f.past; by = subst (λ (s : ℕ). IsStepBy v.hand.task s f.past) same by; found = f.found; after = λ p t. f.after p (goes p t); goes_on = f.goes_on }
+
+  pub one-word-before : (front : ℕ) (u : V) → AtOneWord 0 front x u middle new → AtOneWord 2 front v u old new
+  one-word-before front u r = let two = ap (λ (z : V). z.steps) is in let counted = r.counted in record {
+    word = r.word;
+    even = r.even;
+    first = finds-before 1 seq_at r.word r.first;
+    measured = finds-before 2 length_place front r.measured;
+    last = 2 + r.last;
+    again = finds-before r.last seq_at r.word r.again;
+    counted = omega (arith, two, counted);
+  }
+
+-- from an earlier past on
+pub one-word-since : (ahead front : ℕ) (v u : V) (old middle new : List Moment) → GoesOn old middle → AtOneWord ahead front v u middle new → AtOneWord ahead front v u old new
+one-word-since ahead front v u old middle new goes r = record { word = r.word; even = r.even; first = since r.first; measured = since r.measured; last = r.last; again = since r.again; counted = r.counted }
+  where
+    since : {task : Option ℕ} {step at n : ℕ} → FoundAtStep task step at n middle new → FoundAtStep task step at n old new
+    since f = record { past = f.past; by = f.by; found = f.found; after = λ p t. f.after p (goes p t); goes_on = f.goes_on }
 
 pub err-maps : {A B : Type 0} (r : Result A B) {P Q : B → Type 0} → ((x : B) → P x → Q x) → IfErr r P → IfErr r Q
 err-maps (Ok x) maps p = tt
 err-maps (Err x) maps p = maps x p
+
+pub ok-maps : {A B : Type 0} (r : Result A B) {P Q : A → Type 0} → ((x : A) → P x → Q x) → IfOk r P → IfOk r Q
+ok-maps (Ok x) maps p = maps x p
+ok-maps (Err x) maps p = tt

@@ -1,5 +1,5 @@
 -- What the steps of a table with a sequence word leave.
-use Rattle.std.specs.Prelude.{◌≡◌, ◌⊎◌, ℕ, ◌+◌, ◌≤◌, Bool, false, List, length, take, slice_get, Some}
+use Rattle.std.specs.Prelude.{◌≡◌, ◌≢◌, ◌⊎◌, ℕ, ◌+◌, ◌%◌, ◌≤◌, Bool, false, List, length, take, slice_get, Some}
 use Rattle.word_bits.specs.declared.entry.Entry.{Entry}
 use Rattle.word_bits.specs.declared.call.CallWords.{CallWords}
 use Rattle.word_bits.specs.declared.reply.Reply.{Reply}
@@ -7,8 +7,11 @@ use Rattle.word_bits.specs.Objects.{Obj}
 use Rattle.word_bits.specs.Histories.{Plan, state_after}
 use Rattle.lock_core.specs.declared.view.Hand.{Hand}
 use Rattle.lock_core.specs.declared.view.Held.TheVariants.{Alone}
+use Rattle.lock_core.specs.declared.view.Moment.{Moment}
 use Rattle.lock_core.specs.Records.{row}
 use Rattle.lock_core.specs.Holding.{Learns}
+use Rattle.lock_core.specs.Layout.{length_place}
+use Rattle.lock_core.specs.Pasts.{FoundAtStep}
 use Rattle.lock_core.specs.Views.{handed, next_entry, ticked, took, after_seen}
 use Rattle.seq_fault.specs.declared.view.Glance.{Glance}
 use Rattle.seq_fault.specs.declared.view.Watch.{Watch}
@@ -19,7 +22,7 @@ use Rattle.vma_map.specs.declared.search.Search.{Search}
 use Rattle.vma_map.specs.Searches.{AgreesWith, asked}
 use Rattle.vma_map.specs.Spaces.{call_of, meaning, space}
 use Rattle.seq_fault.specs.Plays.{turned, glance, staled}
-use Rattle.seq_fault.specs.Ruled.{V}
+use Rattle.seq_fault.specs.Ruled.{V, seq_at}
 
 -- it holds alone, and has learnt what the lock guards
 abbrev pub EntersHold : {Call : Type 0} → Obj Call → Plan → V → V → Type 0
@@ -72,6 +75,20 @@ pub record Faults (k : Plan) (v : V) (reply : Reply) (u : V) : Type 0 where
   pub called : call_of words ≡ Some call
   pub replies : reply ≡ (meaning (state_after space k log) call).1
   pub is : u ≡ after_seen (record v { hand = record v.hand { seen = log }; steps = v.steps + loads; ext = Off }) reply
+
+-- Behind so many steps, the first found an even sequence word, the next one this length of the log, and the last but one the same word.
+pub record AtOneWord (ahead front : ℕ) (v u : V) (old new : List Moment) : Type 0 where
+  pub word : ℕ
+  pub even : word % 2 ≡ 0
+  pub first : FoundAtStep v.hand.task (v.steps + (ahead + 1)) seq_at word old new
+  pub measured : FoundAtStep v.hand.task (v.steps + (ahead + 2)) length_place front old new
+  pub last : ℕ
+  pub again : FoundAtStep v.hand.task (v.steps + last) seq_at word old new
+  pub counted : u.steps ≡ v.steps + last + 1
+
+-- the first word was odd, and was the only one; or it was even, and the second was another
+abbrev pub IsRace : (before after : ℕ) → Type 0
+IsRace before after = ((before % 2 ≡ 1) × (after ≡ before)) ⊎ ((before % 2 ≡ 0) × (after ≢ before))
 
 -- it holds alone after some steps, and has learnt what the lock guards
 abbrev pub EntersSince : {Call : Type 0} → Obj Call → Plan → V → V → Type 0

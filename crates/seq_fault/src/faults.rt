@@ -1,15 +1,17 @@
 //! Faults without the lock.
-ghost use Rattle.std.specs.Prelude.{◌≡◌, ◌≢◌, ◌⊎◌, ℕ, ◌+◌, ◌%◌, ◌<◌, ◌≤◌, List, length, None, IsSome, IfOk, IfErr};
+ghost use Rattle.std.specs.Prelude.{◌≡◌, ℕ, ◌+◌, ◌≤◌, List, None, IsSome, IfOk, IfErr};
 ghost use Rattle.lock_core.specs.declared.view.Held.TheVariants.{No};
-ghost use Rattle.lock_core.specs.Handles.{Finds, IsLatest, plan_of, view_of, hand_in, past_of, task_in, held_in, done_in, SitsAt, KeepsPast, SaysSame};
+ghost use Rattle.lock_core.specs.Handles.{IsLatest, plan_of, view_of, hand_in, past_of, task_in, held_in, done_in, front_in, SitsAt, KeepsPast, SaysSame};
+ghost use Rattle.lock_core.specs.Pasts.{FoundAt};
 ghost use Rattle.lock_core.specs.Views.{OwesNoSignal, ticked};
 ghost use Rattle.word_bits.specs.PageMaps.{PageMap, IsPageMap};
 ghost use Rattle.vma_map.specs.Searches.{AgreesWith, asked, page_of, wanted};
 ghost use Rattle.vma_map.specs.Spaces.{IsAccess, access_reply, space, stores};
 ghost use Rattle.seq_fault.specs.declared.view.Glance.{Glance as Moment};
 ghost use Rattle.seq_fault.specs.declared.view.Watch.TheVariants.{On};
+ghost use Rattle.seq_fault.specs.Handles.{FindsAtStep, ReadsAtOneWord};
 ghost use Rattle.seq_fault.specs.Ruled.{V, seq_at};
-ghost use Rattle.seq_fault.specs.Steps.{Faults, HasNextFault, HasSearched, IsNextFault, IsWatching, StepsOn};
+ghost use Rattle.seq_fault.specs.Steps.{AtOneWord, Faults, HasNextFault, HasSearched, IsNextFault, IsRace, IsWatching, StepsOn};
 
 use crate::rule::SeqRule;
 use crate::site::{SeqPass, SeqSite};
@@ -77,10 +79,10 @@ fn fault_at(
     ensures last { IsLatest pass.new }
     ensures ok { IfOk result (λ reply.
         Faults (plan_of site.now) (view_of pass.old) reply (view_of pass.new)) }
-    ensures raced { IfErr result (λ why. ((why.before % 2 ≡ 1) × (why.after ≡ why.before))
-        ⊎ (why.after ≢ why.before)) }
-    ensures first { IfErr result (λ why. Finds seq_at why.before pass.old pass.new) }
-    ensures second { IfErr result (λ why. Finds seq_at why.after pass.old pass.new) }
+    ensures read { IfOk result (λ _. ReadsAtOneWord 0 pass.old pass.new) }
+    ensures raced { IfErr result (λ why. IsRace why.before why.after) }
+    ensures first { IfErr result (λ why. FindsAtStep 1 seq_at why.before pass.old pass.new) }
+    ensures second { IfErr result (λ why. FoundAt seq_at why.after (past_of pass.new)) }
     ensures kept { IfErr result (λ _. StepsOn (view_of pass.old) (view_of pass.new)) }
     ensures face { IfErr result (λ _. SaysSame pass.old pass.new) }
     ensures few { IfErr result (λ _.
@@ -146,10 +148,10 @@ impl SeqSite<Areas> {
         ensures last { IsLatest pass.new }
         ensures ok { IfOk result (λ reply. Faults (plan_in self.now)
             (ticked (ticked (view_of pass.old))) reply (view_of pass.new)) }
-        ensures raced { IfErr result (λ why. ((why.before % 2 ≡ 1) × (why.after ≡ why.before))
-            ⊎ (why.after ≢ why.before)) }
-        ensures first { IfErr result (λ why. Finds seq_at why.before pass.old pass.new) }
-        ensures second { IfErr result (λ why. Finds seq_at why.after pass.old pass.new) }
+        ensures read { IfOk result (λ _. ReadsAtOneWord 2 pass.old pass.new) }
+        ensures raced { IfErr result (λ why. IsRace why.before why.after) }
+        ensures first { IfErr result (λ why. FindsAtStep 3 seq_at why.before pass.old pass.new) }
+        ensures second { IfErr result (λ why. FoundAt seq_at why.after (past_of pass.new)) }
         ensures kept { IfErr result (λ _. StepsOn (view_of pass.old) (view_of pass.new)) }
         ensures face { IfErr result (λ _. SaysSame pass.old pass.new) }
         ensures few { IfErr result (λ _.
@@ -172,6 +174,8 @@ impl SeqSite<Areas> {
         ensures last { IsLatest pass.new }
         ensures ok { (v : V) × StepsOn (view_of pass.old) v
             × Faults (plan_in self.now) (ticked (ticked v)) result (view_of pass.new) }
+        ensures read { (v : V) × StepsOn (view_of pass.old) v × AtOneWord 2 (front_in pass.new)
+            v (view_of pass.new) (past_of pass.old) (past_of pass.new) }
     {
         for _ in rt.forever() {
             if let Ok(reply) = self.fault(pass, call) {

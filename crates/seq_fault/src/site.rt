@@ -5,7 +5,7 @@ ghost use Rattle.lock_core.specs.declared.layout.TheConstants.{LOCK_WORDS};
 ghost use Rattle.lock_core.specs.Holding.{released};
 ghost use Rattle.lock_core.specs.Records.{IsPlan};
 ghost use Rattle.lock_core.specs.Views.{first, ticked, handed, split_off, merged, gave_up, wrote, after_commit, next_entry, BesideForgetting, HoldsNothing, OwesNoSignal};
-ghost use Rattle.lock_core.specs.Pasts.{BeganWith, EachMoment, FoundAt, Paced};
+ghost use Rattle.lock_core.specs.Pasts.{BeganWith, EachMoment, FoundAt, KeepsJoined, Paced};
 ghost use Rattle.lock_core.specs.Stated.{IsNew};
 ghost use Rattle.lock_core.specs.Locked.{IsSiteStep};
 ghost use Rattle.seq_fault.specs.declared.view.Watch.TheVariants.{Off};
@@ -30,7 +30,7 @@ pub struct SeqSite<O: Object> {
 pub type SeqPass<O> = Pass<SeqRule<O>>;
 
 impl<O: Object> SeqSite<O> {
-    ghost use Rattle.lock_core.specs.Handles.{IsLatest, view_of, hand_in, past_of, task_in, held_in, done_in, front_in, KeepsPast, SaysSame};
+    ghost use Rattle.lock_core.specs.Handles.{IsLatest, view_of, hand_in, past_of, joined_by, task_in, held_in, done_in, front_in, KeepsPast, SaysSame};
     ghost use Rattle.seq_fault.specs.Handles.{plan_of, IsNextChange, SitsAt, TakesNumber};
 
     /// A new site: nobody holds, the state is empty, no call is logged or recorded.
@@ -88,7 +88,8 @@ impl<O: Object> SeqSite<O> {
         self.site.end(pass);
     }
 
-    /// Takes in another pass, which is spent.
+    /// Takes in another pass, which is spent: `into` then knows the records that `other` knew, and
+    /// has seen as many entries as either.
     pub fn gather(&self, into: &mut SeqPass<O>, other: SeqPass<O>)
         requires own { SitsAt self.now into.old }
         requires others_own { SitsAt self.now other }
@@ -100,6 +101,8 @@ impl<O: Object> SeqSite<O> {
         ensures kept { view_of into.new ≡ merged (view_of into.old) (view_of other) }
         ensures rises { front_in into.old ≤ front_in into.new }
         ensures others { front_in other ≤ front_in into.new }
+        ensures joined { joined_by into.new ≡
+            record { moments = past_of other } ∷ joined_by into.old }
     {
         self.site.gather(into, other);
     }
@@ -222,6 +225,7 @@ impl<O: Object> SeqSite<O> {
             (past_of pass.new) }
         ensures entered { CountsEnters (past_of pass.new) }
         ensures moves { Paced (IsSiteStep (plan_of self.now) seq_at) (past_of pass.new) }
+        ensures joined { KeepsJoined (joined_by pass.old) (past_of pass.new) }
     {
         self.site.recall(pass);
     }

@@ -3,6 +3,7 @@ ghost use Rattle.std.specs.Prelude.{◌≡◌, ◌≢◌, ◌⊎◌, ℕ, ◌+�
 ghost use Rattle.lock_core.specs.declared.view.Held.TheVariants.{No, Alone};
 ghost use Rattle.lock_core.specs.declared.layout.TheConstants.{LOCK_WORDS};
 ghost use Rattle.lock_core.specs.Holding.{TakesHold, released};
+ghost use Rattle.lock_core.specs.Layout.{length_place};
 ghost use Rattle.lock_core.specs.Plans.{calls_in};
 ghost use Rattle.lock_core.specs.Pasts.{FoundAt};
 ghost use Rattle.lock_core.specs.Views.{handed, ticked};
@@ -172,6 +173,7 @@ pub(crate) fn measure<O: Object>(site: &Site<SeqRule<O>>, pass: &mut Pass<SeqRul
     ensures last { IsLatest pass.new }
     ensures face { SaysSame pass.old pass.new }
     ensures small { result ≤ calls_in (plan_of site.now) }
+    ensures found { FoundAt length_place result (past_of pass.new) }
     ensures told { TellsSince (λ g. result ≡ length g.log)
         (view_of pass.old) (view_of pass.new) }
 {
@@ -197,6 +199,7 @@ pub(crate) fn confirm<O: Object>(
     ensures done { done_in pass.new ≡ done_in pass.old }
     ensures same { IfOk result (λ _. (g : Moment) → (view_of pass.old).ext ≡ On g → (g.stale ≡ false)
         × (view_of pass.new ≡ turned (view_of pass.old) (saw_log (hand_in pass.old) g) Off)) }
+    ensures again { IfOk result (λ _. FoundAt seq_at before (past_of pass.new)) }
     ensures kept { IfErr result (λ _.
         view_of pass.new ≡ turned (view_of pass.old) (hand_in pass.old) Off) }
     ensures face { IfErr result (λ _. SaysSame pass.old pass.new) }

@@ -1,9 +1,9 @@
 //! Changing calls.
-ghost use Rattle.std.specs.Prelude.{◌≡◌, ◌≢◌, length, false, IfNone, IfSome, IsSome};
+ghost use Rattle.std.specs.Prelude.{◌≡◌, ◌≢◌, ◌+◌, length, false, IfNone, IfSome, IsSome};
 ghost use Rattle.lock_core.specs.declared.view.Held.TheVariants.{No, Alone};
 ghost use Rattle.lock_core.specs.Locking.{IsStored};
-ghost use Rattle.lock_core.specs.Views.{OwesNoSignal};
-ghost use Rattle.lock_core.specs.Handles.{IsLatest, plan_of, hand_in, task_in, held_in, done_in, SitsAt, KeepsPast, SaysSame};
+ghost use Rattle.lock_core.specs.Views.{Beside, OwesNoSignal};
+ghost use Rattle.lock_core.specs.Handles.{IsLatest, plan_of, view_of, hand_in, task_in, held_in, done_in, SitsAt, KeepsPast, SaysSame};
 ghost use Rattle.seq_fault.specs.Writing.{Changes, HasNextChange, SameCall, Writes};
 
 use crate::rule::SeqRule;
@@ -21,6 +21,7 @@ fn load<O: Object>(site: &Site<SeqRule<O>>, pass: &mut Pass<SeqRule<O>>) -> Opti
     ensures goes_on { KeepsPast pass.old pass.new }
     ensures face { SaysSame pass.old pass.new }
     ensures hand { hand_in pass.new ≡ hand_in pass.old }
+    ensures beside { Beside (view_of pass.old) (view_of pass.new) }
     ensures state { IfSome result (λ v. O.object.IsState (O.state v)) }
     ensures found { IfSome result (λ v. O.object.stores (O.state v) ≡ (hand_in pass.old).known) }
     ensures none { IfNone result ((s : O.object.State) →
@@ -42,6 +43,7 @@ fn store<O: Object>(site: &Site<SeqRule<O>>, pass: &mut Pass<SeqRule<O>>, value:
     ensures goes_on { KeepsPast pass.old pass.new }
     ensures face { SaysSame pass.old pass.new }
     ensures kept { SameCall (hand_in pass.old) (hand_in pass.new) }
+    ensures beside { Beside (view_of pass.old) (view_of pass.new) }
     ensures known { (hand_in pass.new).known ≡ O.object.stores (O.state value.now) }
 {
     let mut words = [0; 257];
@@ -71,6 +73,8 @@ fn change<O: Object + Drop>(
     ensures quiet { (hand_in pass.new).writes ≡ false }
     ensures changed { Changes O.object (plan_of site.now)
         (hand_in pass.old) result (hand_in pass.new) }
+    ensures takes { (hand_in pass.new).takes ≡ (hand_in pass.old).takes }
+    ensures beside { Beside (view_of pass.old) (view_of pass.new) }
 {
     let Some(task) = pass.task() else {
         unreachable!()
@@ -106,6 +110,9 @@ impl<O: Object + Drop> SeqSite<O> {
         ensures out { held_in pass.new ≡ No }
         ensures wrote { Writes O.object (plan_in self.now)
             (hand_in pass.old) result (hand_in pass.new) }
+        ensures beside { Beside (view_of pass.old) (view_of pass.new) }
+        ensures task { task_in pass.new ≡ task_in pass.old }
+        ensures done { done_in pass.new ≡ done_in pass.old + 1 }
     {
         self.enter(rt, pass);
         let reply = change(&self.site, pass, call);

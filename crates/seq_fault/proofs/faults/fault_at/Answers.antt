@@ -1,6 +1,7 @@
 -- What each load of a fault tells, and what follows where the last one finds the word of the first.
-use Rattle.std.proofs.Common.{◌≡◌, ◌∙◌, ◌%◌, ◌+◌, ℕ, arith, ap, subst, sym, inl, inr}
+use Rattle.std.proofs.Common.{◌≡◌, ◌∙◌, ◌%◌, ◌+◌, ℕ, length, arith, ap, subst, sym, inl, inr}
 use Rattle.word_bits.proofs.States.{state_is_state}
+use Rattle.lock_core.specs.Layout.{length_place}
 use Rattle.lock_core.specs.Pasts.{FoundAt}
 use Rattle.lock_core.specs.Views.{ticked}
 use Rattle.vma_map.specs.SpaceLaws.{starts, called, goes_on, replies}
@@ -9,7 +10,7 @@ use Rattle.vma_map.specs.Searches.{asked}
 use Rattle.seq_fault.specs.declared.view.Watch.TheVariants.{Off}
 use Rattle.seq_fault.specs.Plays.{glance, staled, turned}
 use Rattle.seq_fault.specs.Ruled.{V, seq_at}
-use Rattle.seq_fault.proofs.Faulting.{finds, gathers, gathered-on, gathered-measured, confirmed, seen-reading, faulted}
+use Rattle.seq_fault.proofs.Faulting.{finds, gathers, gathered-on, gathered-measured, told-next, confirmed, confirmed-front, seen-reading, faulted}
 use Rattle.seq_fault.proofs.faults.fault_at.Goals as goal
 
 pub returns-then-before-eq1-clause-first : goal.returns-then-before-eq1-clause-first
@@ -18,15 +19,7 @@ returns-then-before-eq1-clause-first c =
     let x = c.watch-before.new.pass.seat.me.0.view in
     let is = c.watch-before.ensures.odd (λ z. let n = c.if-before-eq1.true in omega (arith, z, n)) in
     let one = ap (λ (z : V). z.steps) is in
-    finds v x x seq_at c.watch-before.result _ _ _ (ap (λ (z : V). z.hand.task) is) (omega (arith, one)) (omega arith) c.watch-before.ensures.last c.watch-before.ensures.found c.watch-before.ensures.goes_on (λ p t. t)
-
-pub returns-then-before-eq1-clause-second : goal.returns-then-before-eq1-clause-second
-returns-then-before-eq1-clause-second c =
-    let v = c.args.pass.now.seat.me.0.view in
-    let x = c.watch-before.new.pass.seat.me.0.view in
-    let is = c.watch-before.ensures.odd (λ z. let n = c.if-before-eq1.true in omega (arith, z, n)) in
-    let one = ap (λ (z : V). z.steps) is in
-    finds v x x seq_at c.watch-before.result _ _ _ (ap (λ (z : V). z.hand.task) is) (omega (arith, one)) (omega arith) c.watch-before.ensures.last c.watch-before.ensures.found c.watch-before.ensures.goes_on (λ p t. t)
+    finds v x 1 seq_at c.watch-before.result _ _ _ (ap (λ (z : V). z.hand.task) is) one c.watch-before.ensures.last c.watch-before.ensures.found c.watch-before.ensures.goes_on (λ p t. t)
 
 pub measure-front-requires-clause-on : goal.measure-front-requires-clause-on
 measure-front-requires-clause-on c =
@@ -75,29 +68,14 @@ returns-in-Err-clause-first c =
     let before = c.watch-before.result in
     let even : before % 2 ≡ 0 = (let n = c.if-before-eq1.false in omega (arith, n)) in
     let b = c.watch-before.ensures.even even in
-    let u = c.search_words.new.pass.seat.me.0.view in
-    let s = c.search_words.new.search in
-    let r = gathers v c.watch-before.new.pass.seat.me.0.view c.measure-front.new.pass.seat.me.0.view u before c.measure-front.result s b.0 b.1 b.3 c.measure-front.ensures.told c.search_words.ensures.searched in
     let x = c.watch-before.new.pass.seat.me.0.view in
-    let w = c.confirm.new.pass.seat.me.0.view in
-    let one = ap (λ (z : V). z.steps) b.3 in
-    let more = ap (λ (z : V). z.steps) r.is in
-    let last = ap (λ (z : V). z.steps) c.in-Err.ensures.kept in
-    finds v x w seq_at c.in-Err.raced.before _ c.watch-before.new.pass.seat.me.0.past _ (ap (λ (z : V). z.hand.task) b.3) (omega (arith, one)) (omega (arith, one, more, last)) c.watch-before.ensures.last (subst (λ (n : ℕ). FoundAt seq_at n c.watch-before.new.pass.seat.me.0.past) (sym c.in-Err.ensures.raced.0) c.watch-before.ensures.found) c.watch-before.ensures.goes_on (λ p t. c.confirm.ensures.goes_on p (c.search_words.ensures.goes_on p (c.measure-front.ensures.goes_on p t)))
+    finds v x 1 seq_at c.in-Err.raced.before _ c.watch-before.new.pass.seat.me.0.past _ (ap (λ (z : V). z.hand.task) b.3) (ap (λ (z : V). z.steps) b.3) c.watch-before.ensures.last (subst (λ (n : ℕ). FoundAt seq_at n c.watch-before.new.pass.seat.me.0.past) (sym c.in-Err.ensures.raced.0) c.watch-before.ensures.found) c.watch-before.ensures.goes_on (λ p t. c.confirm.ensures.goes_on p (c.search_words.ensures.goes_on p (c.measure-front.ensures.goes_on p t)))
 
-pub returns-in-Err-clause-second : goal.returns-in-Err-clause-second
-returns-in-Err-clause-second c =
-    let v = c.args.pass.now.seat.me.0.view in
-    let before = c.watch-before.result in
-    let even : before % 2 ≡ 0 = (let n = c.if-before-eq1.false in omega (arith, n)) in
-    let b = c.watch-before.ensures.even even in
-    let u = c.search_words.new.pass.seat.me.0.view in
-    let s = c.search_words.new.search in
-    let r = gathers v c.watch-before.new.pass.seat.me.0.view c.measure-front.new.pass.seat.me.0.view u before c.measure-front.result s b.0 b.1 b.3 c.measure-front.ensures.told c.search_words.ensures.searched in
-    let w = c.confirm.new.pass.seat.me.0.view in
-    let more = ap (λ (z : V). z.steps) r.is in
-    let last = ap (λ (z : V). z.steps) c.in-Err.ensures.kept in
-    finds v w w seq_at c.in-Err.raced.after _ _ _ (ap (λ (z : V). z.hand.task) c.in-Err.ensures.kept ∙ ap (λ (z : V). z.hand.task) r.is) (omega (arith, more, last)) (omega arith) c.confirm.ensures.last c.in-Err.ensures.raced.2 (λ p t. c.confirm.ensures.goes_on p (c.search_words.ensures.goes_on p (c.measure-front.ensures.goes_on p (c.watch-before.ensures.goes_on p t)))) (λ p t. t)
+pub returns-in-Err-clause-raced : goal.returns-in-Err-clause-raced
+returns-in-Err-clause-raced c =
+    let even : c.watch-before.result % 2 ≡ 0 = (let n = c.if-before-eq1.false in omega (arith, n)) in
+    let raced = c.in-Err.ensures.raced in
+    inr (subst (λ (n : ℕ). n % 2 ≡ 0) (sym raced.0) even, λ e. raced.1 (e ∙ raced.0))
 
 pub returns-then-before-eq1-clause-kept : goal.returns-then-before-eq1-clause-kept
 returns-then-before-eq1-clause-kept c =
@@ -176,3 +154,37 @@ returns-clause-ok c =
     let w = c.confirm.new.pass.seat.me.0.view in
     let page = c.search_words.ensures.page ∙ c.new-search.ensures.page in
     faulted v u before c.measure-front.result s b.0 b.1 r k c.args.page c.args.access c.requires.next b.2 state c.met-reply.result page c.met-reply.ensures w c.note_seen.new.pass.seat.me.0.view c.in_default.ensures.same c.note_seen.ensures.kept
+
+pub returns-clause-read : goal.returns-clause-read
+returns-clause-read c =
+    let v = c.args.pass.now.seat.me.0.view in
+    let before = c.watch-before.result in
+    let even : before % 2 ≡ 0 = (let n = c.if-before-eq1.false in omega (arith, n)) in
+    let b = c.watch-before.ensures.even even in
+    let x = c.watch-before.new.pass.seat.me.0.view in
+    let y = c.measure-front.new.pass.seat.me.0.view in
+    let u = c.search_words.new.pass.seat.me.0.view in
+    let w = c.confirm.new.pass.seat.me.0.view in
+    let z = c.note_seen.new.pass.seat.me.0.view in
+    let s = c.search_words.new.search in
+    let front = c.measure-front.result in
+    let r = gathers v x y u before front s b.0 b.1 b.3 c.measure-front.ensures.told c.search_words.ensures.searched in
+    let same = c.in_default.ensures.same in
+    let e = confirmed v u before front s b.0 b.1 r w same in
+    let noted = c.note_seen.ensures.kept in
+    let seen : length z.hand.seen ≡ front = ap (λ (q : V). length q.hand.seen) noted ∙ (ap (λ (q : V). length q.hand.seen) e ∙ confirmed-front v u before front s b.0 b.1 r w same) in
+    let saw : c.note_seen.new.pass.face.front ≡ front = c.note_seen.ensures.own.front ∙ seen in
+    let then = told-next (λ g. front ≡ length g.log) (glance before b.0 b.1) x y (ap (λ (q : V). q.ext) b.3) c.measure-front.ensures.told in
+    let one = ap (λ (q : V). q.steps) b.3 in
+    let two = then.1 in
+    let last = ap (λ (q : V). q.steps) e in
+    let end = ap (λ (q : V). q.steps) noted in
+    record {
+      word = before;
+      even = even;
+      first = finds v x 1 seq_at before _ _ _ (ap (λ (q : V). q.hand.task) b.3) one c.watch-before.ensures.last c.watch-before.ensures.found c.watch-before.ensures.goes_on (λ p t. c.note_seen.ensures.goes_on p (c.confirm.ensures.goes_on p (c.search_words.ensures.goes_on p (c.measure-front.ensures.goes_on p t))));
+      measured = finds v y 2 length_place c.note_seen.new.pass.face.front _ _ _ (then.0 ∙ ap (λ (q : V). q.hand.task) b.3) (omega (arith, one, two)) c.measure-front.ensures.last (subst (λ (n : ℕ). FoundAt length_place n c.measure-front.new.pass.seat.me.0.past) (sym saw) c.measure-front.ensures.found) (λ p t. c.measure-front.ensures.goes_on p (c.watch-before.ensures.goes_on p t)) (λ p t. c.note_seen.ensures.goes_on p (c.confirm.ensures.goes_on p (c.search_words.ensures.goes_on p t)));
+      last = 3 + asked s;
+      again = finds v w (3 + asked s) seq_at before _ _ _ (ap (λ (q : V). q.hand.task) e) (omega (arith, last)) c.confirm.ensures.last c.in_default.ensures.again (λ p t. c.confirm.ensures.goes_on p (c.search_words.ensures.goes_on p (c.measure-front.ensures.goes_on p (c.watch-before.ensures.goes_on p t)))) c.note_seen.ensures.goes_on;
+      counted = omega (arith, last, end);
+    }

@@ -1,9 +1,9 @@
-use Rattle.std.proofs.Common.{◌∙◌, arith, ap, subst, sym, length}
+use Rattle.std.proofs.Common.{ℕ, ◌∙◌, arith, ap, subst, sym, length}
 use Rattle.lock_core.proofs.Sitting.{sits-on}
 use Rattle.lock_core.specs.declared.pass.Face.{Face}
-use Rattle.lock_core.specs.Pasts.{IsOwnStep, Tail}
+use Rattle.lock_core.specs.Pasts.{FoundAt, IsOwnStep, Tail}
 use Rattle.seq_fault.specs.declared.view.Watch.TheVariants.{Off}
-use Rattle.seq_fault.specs.Ruled.{V}
+use Rattle.seq_fault.specs.Ruled.{V, seq_at}
 use Rattle.seq_fault.proofs.Sitting.{sits-saw}
 use Rattle.seq_fault.proofs.Stepping.{confirms}
 use Rattle.seq_fault.proofs.steps.confirm.Goals as goal
@@ -31,3 +31,6 @@ returns-clause-last g c = subst (λ s. IsOwnStep s.me.0.view s.me.0.past) (sym c
 
 pub returns-clause-same : goal.returns-clause-same
 returns-clause-same g c = λ h at. let m = c.requires.measured h at in let same = c.step-after.ensures.told h at in let x = same.0 (c.if-after-before.false ∙ sym m.0) in (x.0, ap (λ s. s.me.0.view) c.set_front.ensures.seat ∙ x.2.0)
+
+pub returns-clause-again : goal.returns-clause-again
+returns-clause-again g c = subst (λ s. FoundAt seq_at c.args.before s.me.0.past) (sym c.set_front.ensures.seat) (subst (λ (n : ℕ). FoundAt seq_at n c.step-after.new.pass.seat.me.0.past) c.if-after-before.false c.step-after.ensures.found)

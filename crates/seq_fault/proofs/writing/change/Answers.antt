@@ -106,5 +106,8 @@ returns-clause-changed g c =
       is = q.is;
       replies = reply ∙ ap (λ x. (o.meaning (state_after o k h.log) x).1) (sym known);
       seen = ap (λ (v : V). v.hand.seen) c.commit.ensures.kept ∙ (λ i. log i ++ (there ∙ sym here) i ∷ []);
+      task = ap (λ (v : V). v.hand.task) c.commit.ensures.kept ∙ (c.store.ensures.kept.task ∙ ap (λ (x : Hand). x.task) same);
       done = ap (λ (v : V). v.hand.done) c.commit.ensures.kept ∙ ap (λ (n : ℕ). n + 1) (c.store.ensures.kept.done ∙ ap (λ (x : Hand). x.done) same);
+      records = ap (λ (v : V). v.hand.records) c.commit.ensures.kept ∙ (λ i. record { entry = (there ∙ sym here) i; rec = record { k = length (log i); reply = c.apply-reply.result } } ∷ (c.store.ensures.kept.records ∙ ap (λ (x : Hand). x.records) same) i);
+      owes = (ap (λ (v : V). v.hand.sent) c.commit.ensures.kept ∙ (c.store.ensures.kept.sent ∙ (ap (λ (x : Hand). x.sent) same ∙ c.requires.recorded.0)), ap (λ (v : V). v.hand.consumed) c.commit.ensures.kept ∙ (c.store.ensures.kept.consumed ∙ (ap (λ (x : Hand). x.consumed) same ∙ c.requires.recorded.1)));
     }

@@ -1,6 +1,7 @@
 -- The words so far are written.
 use Rattle.std.proofs.Common.{◌≡◌, length, take}
-use Rattle.lock_core.specs.Handles.{hand_in, KeepsPast, SaysSame, SitsAt}
+use Rattle.lock_core.specs.Handles.{hand_in, view_of, KeepsPast, SaysSame, SitsAt}
+use Rattle.lock_core.specs.Views.{Beside}
 use Rattle.seq_fault.specs.Writing.{SameCall}
 use Rattle.seq_fault.proofs.writing.store.Given as goal
 
@@ -12,3 +13,4 @@ invariant-loop-at g l =
     × (length (hand_in l.pass).known ≡ length (hand_in l.fn.pass).known)
     × (take l.at (hand_in l.pass).known ≡ take l.at l.stored)
     × KeepsPast l.fn.pass l.pass
+    × Beside (view_of l.fn.pass) (view_of l.pass)

@@ -4,6 +4,7 @@ use Rattle.lock_core.specs.declared.pass.Face.{Face}
 use Rattle.lock_core.specs.declared.view.Hand.{Hand}
 use Rattle.seq_fault.specs.Ruled.{V}
 use Rattle.seq_fault.specs.Steps.{HasNextFault}
+use Rattle.seq_fault.proofs.Faulting.{one-word-since}
 use Rattle.seq_fault.proofs.faults.SeqSite+Areas.fault_wait.Goals as goal
 
 pub loop-init : goal.loop-init
@@ -36,3 +37,6 @@ fault-requires-clause-recorded g c = (ap (λ (v : V). v.hand.sent) c.loop.invari
 
 pub fault-requires-clause-next : goal.fault-requires-clause-next
 fault-requires-clause-next g c = subst (λ (h : Hand). HasNextFault c.args.self.now.site.table.shared.key h) (sym (ap (λ (v : V). v.hand) c.loop.invariant.5.3)) c.requires.next
+
+pub returns-in-Ok-clause-read : goal.returns-in-Ok-clause-read
+returns-in-Ok-clause-read g c = let i = c.loop.invariant in (c.loop.pass.seat.me.0.view, i.5, one-word-since 2 c.fault.new.pass.face.front c.loop.pass.seat.me.0.view c.fault.new.pass.seat.me.0.view _ _ _ i.4 c.in-Ok.ensures.read)
