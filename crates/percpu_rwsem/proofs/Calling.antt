@@ -1,5 +1,5 @@
 -- What the calls of a per-CPU semaphore leave.
-use Rattle.std.proofs.Common.{◌≡◌, ◌≢◌, ◌∙◌, ℕ, ◌+◌, ◌<◌, ◌≤◌, List, length, Option, Some, None, zero, suc, Bool, true, false, sym, refl, ap, subst, arith}
+use Rattle.std.proofs.Common.{◌≡◌, ◌≢◌, ◌∙◌, ℕ, ◌+◌, ◌<◌, ◌≤◌, List, length, Option, Some, None, zero, suc, true, false, sym, refl, ap, subst, arith}
 use Rattle.std.specs.Prelude.{Result, Ok, Err, IfErr, is_some}
 use Rattle.std.specs.Result.{is_ok}
 use Rattle.cpu_task.specs.Counting.{one_more, slept}
@@ -7,11 +7,10 @@ use mathlib.Core.Logic.{dite}
 use native.Mathlib.Decide.{ℕ_discrete}
 use Rattle.word_bits.specs.Objects.{Obj}
 use Rattle.word_bits.specs.Histories.{Plan}
-use Rattle.lock_core.specs.declared.view.Hand.{Hand}
 use Rattle.lock_core.specs.declared.view.Held.{Held}
-use Rattle.lock_core.specs.declared.view.Held.TheVariants.{No, Shared, Alone}
+use Rattle.lock_core.specs.declared.view.Held.TheVariants.{No, Alone}
 use Rattle.lock_core.specs.declared.view.Moment.{Moment}
-use Rattle.lock_core.specs.Pasts.{GoesOn, FoundAt, FoundAtStep, FoundSince, IsOwnStep}
+use Rattle.lock_core.specs.Pasts.{GoesOn, FoundAt, FoundAtStep, FoundSince, IsOwnStep, IsStepBy}
 use Rattle.lock_core.specs.RunLaws.{found-at-step}
 use Rattle.lock_core.proofs.HandLaws.{not-both}
 use Rattle.lock_core.proofs.RowLaws.{none-some}
@@ -21,7 +20,10 @@ use Rattle.percpu_rwsem.specs.Handles.{FindsZeros, Phased, SleepsBehind, SleepsE
 use Rattle.percpu_rwsem.specs.Plays.{TakesPhase, phased}
 use Rattle.percpu_rwsem.specs.Ruled.{V, block_at, count_at}
 use Rattle.percpu_rwsem.specs.PhaseLaws.{no-alone, held-all, held-some}
-use Rattle.percpu_rwsem.specs.Phases.{PartOk, phase_part, held_by}
+use Rattle.percpu_rwsem.specs.Phases.{held_by}
+use Rattle.percpu_rwsem.specs.Stated.{CountFalls}
+use Rattle.percpu_rwsem.proofs.Stating.{count-left}
+use mathlib.Core.Option.{some}
 
 abbrev seen_of : Phase → ℕ
 seen_of Idle = 0
@@ -131,3 +133,26 @@ seen-some (Some n) is = (n, refl)
 -- between two tries of a call that waits
 pub idle-view : (tasks : ℕ) (v : V) → Phased tasks None v → v.hand.held ≡ No → v ≡ record v { ext = Idle }
 idle-view tasks v r out = ap (λ (e : Phase). record v { ext = e }) (r.phase ∙ ap (λ (h : Held). Rattle.percpu_rwsem.specs.Handles.phase_by None h) out)
+
+-- the step by which a reader ends its hold
+pub count-falls : (k : Plan) (task : Option ℕ) (own step : ℕ) (u : V) (old past new : List Moment) → task ≡ Some own → u.hand.task ≡ task → u.hand.held ≡ No → u.steps ≡ step → IsOwnStep u past → FoundAt (count_at own) 1 past → GoesOn old past → GoesOn past new → CountFalls k task step old new
+count-falls k task own step u old past new named mine out steps latest found before after = let by : IsStepBy task step past = record {
+  now = latest.now;
+  before = latest.before;
+  rest = latest.rest;
+  seat = latest.seat;
+  past_is = latest.past_is;
+  hand = u.hand;
+  is = latest.hand;
+  named = mine;
+  steps = latest.steps ∙ ap some steps;
+  had = latest.had;
+  had_steps = latest.had_steps;
+  counts = sym steps ∙ latest.counts;
+} in record {
+  own = own;
+  named = named;
+  found = record { past = past; by = by; found = found; after = before; goes_on = after };
+  out = out;
+  left = λ h there shares s. count-left k latest.before latest.now latest.seat latest.had own h u.hand s there latest.hand latest.had_steps (latest.steps ∙ ap some latest.counts) shares out (mine ∙ named);
+}

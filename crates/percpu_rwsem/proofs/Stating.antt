@@ -1,5 +1,6 @@
 -- The rule that is kept implies what is stated.
-use Rattle.std.proofs.Common.{◌≡◌, ◌≢◌, ◌∙◌, ℕ, zero, suc, ◌+◌, ◌<◌, ◌≤◌, ◌⊎◌, inl, inr, List, [], ◌∷◌, length, map, get_or, Option, Some, None, sym, refl, ap, subst, arith}
+use Rattle.std.proofs.Common.{◌≡◌, ◌≢◌, ◌∙◌, ℕ, zero, suc, ◌+◌, ◌<◌, ◌⊎◌, inl, inr, List, [], ◌∷◌, length, map, get_or, Option, Some, None, sym, refl, ap, subst, arith}
+use Rattle.std.proofs.lemmas.List.{length-map}
 use mathlib.Core.Option.{some, some-injective}
 use mathlib.Core.Logic.{dite}
 use native.Mathlib.Decide.{ℕ_discrete}
@@ -9,23 +10,27 @@ use Rattle.word_bits.specs.declared.TheConstants.{MAX_TASKS}
 use Rattle.word_bits.specs.Objects.{Obj}
 use Rattle.word_bits.specs.Histories.{Plan}
 use Rattle.lock_core.specs.declared.view.Hand.{Hand}
-use Rattle.lock_core.specs.declared.view.Held.{Held}
-use Rattle.lock_core.specs.declared.view.Held.TheVariants.{No, Shared, Alone}
+use Rattle.lock_core.specs.declared.view.Held.TheVariants.{No, Shared}
 use Rattle.lock_core.specs.declared.view.Marks.{Marks}
+use Rattle.lock_core.specs.declared.view.Moment.{Moment}
 use Rattle.lock_core.specs.Layout.{site}
-use Rattle.lock_core.specs.Pasts.{marks_of}
+use Rattle.lock_core.specs.LockedLaws.{move-steps}
+use Rattle.lock_core.specs.Locked.{IsGone, IsSiteStep, SamePass}
+use Rattle.lock_core.specs.Pasts.{Instant, marks_of, moment, Moves, Paced, Ran}
 use Rattle.lock_core.specs.Parts.{at_unmap}
 use Rattle.lock_core.specs.Totals.{total, total-at, total-two}
 use Rattle.lock_core.specs.Views.{hand_of, is_number}
 use Rattle.lock_core.proofs.HandLaws.{is_number-here}
+use Rattle.lock_core.proofs.RowLaws.{none-some, same-some}
 use Rattle.lock_core.proofs.Stating.{kept-states}
 use Rattle.percpu_rwsem.specs.declared.view.Phase.{Phase}
 use Rattle.percpu_rwsem.specs.declared.view.Phase.TheVariants.{Idle, Added, Back, Reads, Blocks}
+use Rattle.percpu_rwsem.specs.PhaseSteps.{PhaseGoes, Words}
 use Rattle.percpu_rwsem.specs.Phases.{PhasePart, PartOk, phase_part, inside_of, code_of, blocks_of, inside_weight, code_weight, blocks_weight, held_by}
-use Rattle.percpu_rwsem.specs.PhaseLaws.{held-all, shared-reads, alone-blocks, blocks-codes, only-code, some-of, inside-named}
-use Rattle.percpu_rwsem.specs.Ruled.{V, PercpuKept, block_at, count_at, kept_phase, never}
-use Rattle.percpu_rwsem.specs.Stated.{phase_in, seen_in, IsInside, IsBlocking, IsPassAt, CountStates, empty, full, BlockStates, free, taken, StatesPhases, IsPercpuSite}
-use Rattle.percpu_rwsem.proofs.Stepping.{count-bit, part-ok, its-task}
+use Rattle.percpu_rwsem.specs.PhaseLaws.{held-all, held-some, no-alone, no-shared, shared-alone, shared-reads, alone-blocks, blocks-codes, only-code, some-of, inside-named}
+use Rattle.percpu_rwsem.specs.Ruled.{V, PercpuKept, PercpuMoves, block_at, count_at, kept_phase, never, words_in}
+use Rattle.percpu_rwsem.specs.Stated.{phase_in, seen_in, IsInside, IsBlocking, IsPassAt, CountStates, empty, full, BlockStates, free, taken, IsPercpuSite, IsPercpuStep, phase_marks}
+use Rattle.percpu_rwsem.proofs.Stepping.{count-bit, part-ok}
 
 abbrev marks : V → Marks
 marks = marks_of kept_phase
@@ -129,3 +134,75 @@ module _ {Call : Type 0} (o : Obj Call) (size : ℕ) (k : Plan) (ws : List ℕ) 
       alone = λ i h m at is. let x = viewed vs i h m at in let b = alone-blocks (length k) (phase_part x.0) (part-ok o size k ws vs r i x.0 x.1) (ap (λ (z : Hand). z.held) x.2 ∙ is) in (ap phase_in (sym x.3) ∙ ap phase_of b, ap seen_in (sym x.3) ∙ ap (λ (w : Phase). seen_in (record { numbers = kept_phase w })) b);
     };
   }
+
+-- each step of a run is one of the semaphore's, as its moments tell
+module _ {Call : Type 0} (o : Obj Call) (size : ℕ) (k : Plan) where
+  abbrev Step : Instant Phase → Instant Phase → Type 0
+  Step = Moves (PercpuKept o size k) (PercpuMoves k)
+
+  abbrev show : Instant Phase → Moment
+  show = moment kept_phase
+
+  percpu-step : (x y : Instant Phase) → Step x y → IsPercpuStep k (show x) (show y)
+  percpu-step x y m = let v = m.3.site.before in let u = m.3.site.after in record {
+    by = move-steps kept_phase k block_at x y (m.0, m.3.site, m.4);
+    before = v.ext;
+    after = u.ext;
+    was = at_map marks x.views m.0 v m.3.site.at;
+    is = at_map marks y.views m.0 u m.3.site.at';
+    goes = m.3.goes;
+    held = (m.1.phases.each m.0 (phase_part v) (at_map phase_part x.views m.0 v m.3.site.at)).holds;
+    holds = (m.2.phases.each m.0 (phase_part u) (at_map phase_part y.views m.0 u m.3.site.at')).holds;
+    task = m.3.task;
+    others = λ j a b other at at'. let c = at_unmap marks x.views j a at in let d = at_unmap marks y.views j b at' in sym d.2 ∙ (ap phase_marks (m.3.others j c.0 d.0 other c.1 d.1) ∙ c.2);
+    new = λ j a out at. let c = at_unmap marks y.views j a at in sym c.2 ∙ ap phase_marks (m.3.new j c.0 (omega (arith, out, length-map x.views marks)) c.1);
+  }
+
+  all-steps : (run : List (Instant Phase)) → Paced Step run → Paced (IsPercpuStep k) (map show run)
+  all-steps [] p = tt
+  all-steps (y ∷ []) p = (tt, tt)
+  all-steps (y ∷ x ∷ run) p = (percpu-step x y p.0, all-steps (x ∷ run) p.1)
+
+  pub percpu-steps : (begun : Moment) (past : List Moment) → Ran kept_phase begun Step past → Paced (IsPercpuStep k) past
+  percpu-steps begun past r = subst (Paced (IsPercpuStep k)) (sym r.1) (all-steps r.0 r.3)
+
+-- a step that changes how often a pass has stepped is that pass's
+module _ (k : Plan) (at : ℕ) (x y : Moment) (s : IsSiteStep k at x y) (seat had : ℕ) (h g : Hand) (there : get_elem? x.hands seat ≡ some h) (there' : get_elem? y.hands seat ≡ some g) (had_steps : get_elem? x.steps seat ≡ some had) (has_steps : get_elem? y.steps seat ≡ some (had + 1)) where
+  not-same : SamePass seat x y → ⊥
+  not-same same = let e : had + 1 ≡ had = some-injective (had + 1) had (sym has_steps ∙ (same.steps ∙ had_steps)) in absurd (omega (arith, e))
+
+  not-gone : IsGone seat h x y → ⊥
+  not-gone gone = let e : had + 1 ≡ 0 = some-injective (had + 1) 0 (sym has_steps ∙ gone.steps) in absurd (omega (arith, e))
+
+  pub own-seat : seat ≡ s.id
+  own-seat = dite (ℕ_discrete seat s.id) (λ same. same) (λ other. absurd (by_plan other g.plan refl))
+    where
+      by_plan : seat ≢ s.id → (plan : Option Plan) → g.plan ≡ plan → ⊥
+      by_plan other None bare = elim (s.spends seat h g other there there' bare) [ inl same ↦ not-same same | inr gone ↦ not-gone gone ]
+      by_plan other (Some p) live = not-same (s.others seat h g other there there' (λ bare. none-some p (sym bare ∙ live)))
+
+-- who holds shared, and nothing behind a step of its own, leaves its count at 0
+shared-goes : (tasks : ℕ) (task : Option ℕ) (w w' : Words) (p q : Phase) (own : ℕ) → task ≡ Some own → held_by tasks p ≡ Shared → held_by tasks q ≡ No → PhaseGoes task w w' p q → w'.count own ≡ 0
+shared-goes tasks task w w' Idle q own named shares out goes = no-shared shares
+shared-goes tasks task w w' Added q own named shares out goes = no-shared shares
+shared-goes tasks task w w' Back q own named shares out goes = no-shared shares
+shared-goes tasks task w w' Reads Idle own named shares out goes = ap (λ (t : ℕ). w'.count t) (same-some own goes.0 (sym named ∙ goes.1)) ∙ goes.2.is
+shared-goes tasks task w w' Reads Added own named shares out goes = absurd goes
+shared-goes tasks task w w' Reads Back own named shares out goes = absurd goes
+shared-goes tasks task w w' Reads Reads own named shares out goes = no-shared (sym out)
+shared-goes tasks task w w' Reads (Blocks n) own named shares out goes = absurd goes
+shared-goes tasks task w w' (Blocks n) q own named shares out goes = dite (ℕ_discrete n tasks) (λ all. shared-alone (sym shares ∙ held-all tasks n all)) (λ not. no-shared (sym (held-some tasks n not) ∙ shares))
+
+idle-out : (tasks : ℕ) (p : Phase) {P : Type 0} → p ≡ Idle → held_by tasks p ≡ Shared → P
+idle-out tasks p idle shares = no-shared (sym (ap (held_by tasks) idle) ∙ shares)
+
+pub count-left : (k : Plan) (x y : Moment) (seat had own : ℕ) (h g : Hand) → IsPercpuStep k x y → get_elem? x.hands seat ≡ some h → get_elem? y.hands seat ≡ some g → get_elem? x.steps seat ≡ some had → get_elem? y.steps seat ≡ some (had + 1) → h.held ≡ Shared → g.held ≡ No → g.task ≡ Some own
+    → get_or y.words (count_at own) 0 ≡ 0
+count-left k x y seat had own h g s there there' had_steps has_steps shares out named = let here : seat ≡ s.by.id = own-seat k block_at x y s.by seat had h g there there' had_steps has_steps in
+    let was : h ≡ s.by.before = some-injective h s.by.before (sym there ∙ (ap (get_elem? x.hands) here ∙ s.by.at)) in let is : g ≡ s.by.after = some-injective g s.by.after (sym there' ∙ (ap (get_elem? y.hands) here ∙ s.by.at')) in
+    let held : held_by (length k) s.before ≡ Shared = sym s.held ∙ (sym (ap (λ (z : Hand). z.held) was) ∙ shares) in let task : s.by.after.task ≡ Some own = sym (ap (λ (z : Hand). z.task) is) ∙ named in
+    shared-goes (length k) s.by.before.task (words_in x.words) (words_in y.words) s.before s.after own
+    (elim s.task [ inl same ↦ sym same ∙ task | inr idle ↦ idle-out (length k) s.before idle.0 held ])
+    held
+    (sym s.holds ∙ (sym (ap (λ (z : Hand). z.held) is) ∙ out))
+    s.goes

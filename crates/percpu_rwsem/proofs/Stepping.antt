@@ -1,5 +1,5 @@
 -- The steps on the words of the semaphore keep its rule.
-use Rattle.std.proofs.Common.{◌≡◌, ◌≢◌, ◌∙◌, ℕ, ◌+◌, ◌*◌, ◌%◌, ◌<◌, ◌≤◌, ◌⊎◌, inl, inr, true, false, List, [], ◌∷◌, length, map, take, get_or, set, Option, Some, None, sym, refl, ap, subst, arith, zero, suc, get_or-set_same, get_or-set_other, drop}
+use Rattle.std.proofs.Common.{◌≡◌, ◌≢◌, ◌∙◌, ℕ, ◌+◌, ◌<◌, ◌≤◌, inl, inr, false, List, [], ◌∷◌, length, map, take, get_or, set, Option, Some, None, sym, refl, ap, subst, arith, zero, suc, get_or-set_same, get_or-set_other}
 use mathlib.Core.Option.{some, none, some-injective, some-ne-none}
 use mathlib.Core.Logic.{dite}
 use native.Mathlib.Decide.{ℕ_discrete}
@@ -14,12 +14,11 @@ use Rattle.word_bits.specs.Histories.{Plan}
 use Rattle.lock_core.specs.declared.layout.TheConstants.{LOCK_WORDS}
 use Rattle.lock_core.specs.declared.op.Op.{Op}
 use Rattle.lock_core.specs.declared.op.Op.TheVariants.{Load, Store, Add, Sub, Exchange}
-use Rattle.lock_core.specs.declared.view.View.{View}
 use Rattle.lock_core.specs.declared.view.Hand.{Hand}
 use Rattle.lock_core.specs.declared.view.Held.{Held}
 use Rattle.lock_core.specs.declared.view.Held.TheVariants.{No, Shared, Alone}
 use Rattle.lock_core.specs.declared.view.Stage.TheVariants.{Rest}
-use Rattle.lock_core.specs.Layout.{SiteWords, site, width}
+use Rattle.lock_core.specs.Layout.{site}
 use Rattle.lock_core.specs.Ops.{word_after}
 use Rattle.lock_core.specs.Views.{hand_of, held_of, alone_of, named_of, is_number, ticked, took, held_weight, alone_weight}
 use Rattle.lock_core.specs.Holding.{Learns, released}
@@ -29,14 +28,15 @@ use Rattle.lock_core.specs.Sites.{SiteKept, HandGoes, KeepsSaw, HasPlan}
 use Rattle.lock_core.specs.Moves.{Lets}
 use Rattle.lock_core.specs.MoveLaws.{hand-stays, saw-stays}
 use Rattle.lock_core.proofs.HandLaws.{is_number-here, is_number-else}
-use Rattle.lock_core.proofs.RowLaws.{none-some, same-some}
+use Rattle.lock_core.proofs.RowLaws.{none-some}
 use Rattle.lock_core.proofs.HoldSteps.{none-alone, quiet-state, site-takes, site-frees}
 use Rattle.percpu_rwsem.specs.declared.view.Phase.{Phase}
 use Rattle.percpu_rwsem.specs.declared.view.Phase.TheVariants.{Idle, Added, Back, Reads, Blocks}
-use Rattle.percpu_rwsem.specs.Phases.{PhasePart, PartOk, PhasesKept, part, phase_part, inside_of, code_of, blocks_of, inside_weight, code_weight, blocks_weight, held_by}
-use Rattle.percpu_rwsem.specs.PhaseLaws.{no-shared, no-alone, shared-alone, held-all, held-some, shared-reads, alone-blocks, blocks-codes, only-code, some-of, inside-named, phases-step}
-use Rattle.percpu_rwsem.specs.Ruled.{V, PercpuKept, PercpuMoves, Phases, block_at, count_at, never}
-use Rattle.percpu_rwsem.specs.RuledLaws.{rule-goes, rule-puts}
+use Rattle.percpu_rwsem.specs.Phases.{PhasePart, PartOk, part, phase_part, inside_of, code_of, blocks_of, inside_weight, code_weight, blocks_weight}
+use Rattle.percpu_rwsem.specs.PhaseSteps.{BlockGoes, CountGoes, PhaseGoes}
+use Rattle.percpu_rwsem.specs.PhaseLaws.{no-shared, no-alone, held-all, held-some, shared-reads, alone-blocks, blocks-codes, only-code, some-of, inside-named, phases-step}
+use Rattle.percpu_rwsem.specs.Ruled.{V, PercpuKept, PercpuMoves, Phases, block_at, count_at, never, words_in}
+use Rattle.percpu_rwsem.specs.RuledLaws.{phase-stays, rule-goes, rule-puts}
 use Rattle.percpu_rwsem.specs.Plays as play
 
 -- a live view's plan is the table's
@@ -78,6 +78,23 @@ put-counts ws t n p p' within has has' sum u = dite (ℕ_discrete u t)
     (λ is. subst (λ (z : ℕ). get_or (set ws (count_at t) n) (count_at z) 0 + inside_of z p ≡ get_or ws (count_at z) 0 + inside_of z p') (sym is) (let e = get_or-set_same ws (count_at t) n 0 within in omega (arith, e, sum)))
     (λ not. let e = get_or-set_other ws (count_at t) (count_at u) n 0 (λ z. not (omega (arith, z))) in let a = inside-else u t p not has in let b = inside-else u t p' not has' in omega (arith, e, a, b))
 
+-- the count of a task is put
+put-count : (ws : List ℕ) (t n n' m : ℕ) → count_at t < length ws → get_or ws (count_at t) 0 ≡ n → m ≡ n' → CountGoes t n n' (words_in ws) (words_in (set ws (count_at t) m))
+put-count ws t n n' m within was is = record {
+  was = was;
+  is = get_or-set_same ws (count_at t) m 0 within ∙ is;
+  others = λ u l not. get_or-set_other ws (count_at t) (count_at u) m 0 (λ z. not (omega (arith, z)));
+  block = get_or-set_other ws (count_at t) block_at m 0 (λ e. omega (arith, e));
+}
+
+-- the block word is put
+put-block : (ws : List ℕ) (n n' m : ℕ) → block_at < length ws → get_or ws block_at 0 ≡ n → m ≡ n' → BlockGoes n n' (words_in ws) (words_in (set ws block_at m))
+put-block ws n n' m within was is = record {
+  was = was;
+  is = get_or-set_same ws block_at m 0 within ∙ is;
+  counts = λ u l. get_or-set_other ws block_at (count_at u) m 0 (λ z. omega (arith, z));
+}
+
 zero-sum : (hs : List Hand) → Each (λ h. h.held ≡ No) hs → total held_of hs ≡ 0
 zero-sum [] each = refl
 zero-sum (h ∷ hs) each = let a = zero-sum hs (λ j g at. each (suc j) g at) in let b : held_of h ≡ 0 = ap held_weight (each zero h refl) in omega (arith, a, b)
@@ -116,14 +133,14 @@ module _ {Call : Type 0} (o : Obj Call) (size : ℕ) (k : Plan) where
 
   -- what a step comes to: a hand and a phase
   abbrev Comes : (ws us : List ℕ) (vs : List V) (id : ℕ) (v : V) → (V → Type 0) → Type 0
-  Comes ws us vs id v tells = (h : Hand) × (e : Phase) × HandGoes v.hand h × KeepsSaw v.hand h × Site ws (set (hands vs) id h) × Phases k us (set (parts vs) id (part h e)) × tells (play.phased v h e)
+  Comes ws us vs id v tells = (h : Hand) × (e : Phase) × HandGoes v.hand h × KeepsSaw v.hand h × Site ws (set (hands vs) id h) × Phases k us (set (parts vs) id (part h e)) × (h.task ≡ v.hand.task) × PhaseGoes v.hand.task (words_in ws) (words_in us) v.ext e × tells (play.phased v h e)
 
   -- a step that may change a word
   acts : (slots id place : ℕ) (me : M) (op : Op) (tells : ℕ → M → Type 0) → place < LOCK_WORDS
       → ((ws : List ℕ) (vs : List V) → Kept ws vs → get_elem? vs id ≡ some me.0 → get_or ws place 0 < 18446744073709551616 → Comes ws (set ws place (word_after op (get_or ws place 0))) vs id me.0 (λ u. tells (get_or ws place 0) (u, me.1)))
       → May slots id me place op tells
   acts slots id place me op tells inside comes s r _ at small = let ws = s.words in let vs = s.views in let t = comes ws vs r at small in
-      (play.phased me.0 t.0 t.1, keeps, tt, rule-puts o size k ws vs id place (word_after op (get_or ws place 0)) me.0 t.0 t.1 inside r at t.2 t.3 t.4 t.5, refl, t.6)
+      (play.phased me.0 t.0 t.1, keeps, tt, rule-puts o size k ws vs id place (word_after op (get_or ws place 0)) me.0 t.0 t.1 inside r at t.2 t.3 t.4 t.5 t.6 t.7, refl, t.8)
 
   -- a load
   looks : (slots id place : ℕ) (me : M) (tells : ℕ → M → Type 0) → place < LOCK_WORDS
@@ -140,7 +157,7 @@ module _ {Call : Type 0} (o : Obj Call) (size : ℕ) (k : Plan) where
 
   -- a load after which all is as it was
   ticks : (ws : List ℕ) (vs : List V) (id : ℕ) (v : V) (tells : V → Type 0) → Kept ws vs → get_elem? vs id ≡ some v → tells (ticked v) → Comes ws ws vs id v tells
-  ticks ws vs id v tells r at told = (v.hand, v.ext, hand-stays v.hand, saw-stays v.hand, same-hand ws vs id v r at, same-phases ws vs id v r at, told)
+  ticks ws vs id v tells r at told = (v.hand, v.ext, hand-stays v.hand, saw-stays v.hand, same-hand ws vs id v r at, same-phases ws vs id v r at, refl, phase-stays v.hand.task (words_in ws) (words_in ws) v.ext (refl, λ t l. refl), told)
 
   inside-count : (t : ℕ) → t < MAX_TASKS → count_at t < LOCK_WORDS
   inside-count t l = omega (arith, l)
@@ -160,33 +177,53 @@ module _ {Call : Type 0} (o : Obj Call) (size : ℕ) (k : Plan) where
   pub count-bit : (ws : List ℕ) (vs : List V) (t : ℕ) → Kept ws vs → t < MAX_TASKS → get_or ws (count_at t) 0 ≤ 1
   count-bit ws vs t r l = let a = insides t vs in let b = (r.site_holds.balances.named t l).1 in let c = r.phases.counts t l in omega (arith, a, b, c)
 
+  -- a task whose pass has nothing in its count has the count 0
+  insides-but : (t : ℕ) (vs : List V) (id : ℕ) (v : V) → get_elem? vs id ≡ some v → total (inside_of t) (parts vs) + named_of t v.hand ≤ total (named_of t) (hands vs) + inside_of t (phase_part v)
+  insides-but t [] id v at = absurd (some-ne-none v (sym at))
+  insides-but t (w ∷ vs) zero v at = let same = some-injective w v at in let a : inside_of t (phase_part w) ≡ inside_of t (phase_part v) = ap (λ (z : V). inside_of t (phase_part z)) same in let b : named_of t w.hand ≡ named_of t v.hand = ap (λ (z : V). named_of t z.hand) same in let c = insides t vs in omega (arith, a, b, c)
+  insides-but t (w ∷ vs) (suc id) v at = let a = insides-but t vs id v at in let b = inside-named t (phase_part w) in omega (arith, a, b)
+
+  uncounted : (ws : List ℕ) (vs : List V) (id t : ℕ) (v : V) → Kept ws vs → t < MAX_TASKS → get_elem? vs id ≡ some v → v.hand.task ≡ Some t → inside_of t (phase_part v) ≡ 0 → get_or ws (count_at t) 0 ≡ 0
+  uncounted ws vs id t v r l at has nothing = let a = insides-but t vs id v at in let b = (r.site_holds.balances.named t l).1 in let c = r.phases.counts t l in let d : named_of t v.hand ≡ 1 = ap (is_number t) has ∙ is_number-here t in omega (arith, a, b, c, d, nothing)
+
   one-named : (ws : List ℕ) (vs : List V) (t i j : ℕ) (v w : V) {P : Type 0} → Kept ws vs → t < MAX_TASKS → get_elem? vs i ≡ some v → get_elem? vs j ≡ some w → i ≢ j → 0 < is_number t v.hand.task → 0 < is_number t w.hand.task → P
   one-named ws vs t i j v w r l ati atj other a b = let two = total-two (named_of t) (hands vs) i j v.hand w.hand (at_map hand_of vs i v ati) (at_map hand_of vs j w atj) other in let one = (r.site_holds.balances.named t l).1 in absurd (omega (arith, two, one, a, b))
 
   has-number : (t : ℕ) (task : Option ℕ) → task ≡ Some t → 0 < is_number t task
   has-number t task has = let e : is_number t task ≡ 1 = ap (is_number t) has ∙ is_number-here t in omega (arith, e)
 
-  -- a block word that isn't 0 is another task's code, where this pass doesn't block
-  names-other : (ws : List ℕ) (vs : List V) (id : ℕ) (v : V) → Kept ws vs → get_elem? vs id ≡ some v → blocks_of (phase_part v) ≡ 0 → get_or ws block_at 0 ≢ 0 → play.NamesOther k v.hand.task (get_or ws block_at 0)
-  names-other ws vs id v r at idle not = let ps : List PhasePart = parts vs in let code = r.phases.code in let s = some-of code_of ps (pos (total code_of ps) (λ z. not (code ∙ z))) in let j = s.0 in let q = s.1 in
-      let x = at_unmap phase_part vs j q s.2 in found j q s.2 s.3 x.0 x.1 x.2 q.phase refl
+  pub part-ok : (ws : List ℕ) (vs : List V) → Kept ws vs → Each (λ v. PartOk (length k) (phase_part v)) vs
+  part-ok ws vs r j v at = r.phases.each j (phase_part v) (at_map phase_part vs j v at)
+
+  -- a block word that isn't 0 is the code of a task, whose pass blocks
+  blocker : (ws : List ℕ) (vs : List V) → Kept ws vs → get_or ws block_at 0 ≢ 0 → (u j : ℕ) × (x : V) × (get_elem? vs j ≡ some x) × (x.hand.task ≡ Some u) × (get_or ws block_at 0 ≡ u + 1) × (blocks_of (phase_part x) ≡ 1)
+  blocker ws vs r not = let ps : List PhasePart = parts vs in let code = r.phases.code in let s = some-of code_of ps (pos (total code_of ps) (λ z. not (code ∙ z))) in let x = at_unmap phase_part vs s.0 s.1 s.2 in
+      found s.0 x.0 x.1 (subst (λ (z : PhasePart). 0 < code_of z) (sym x.2) s.3) x.0.ext refl
     where
       pos : (n : ℕ) → n ≢ 0 → 0 < n
       pos zero not = absurd (not refl)
       pos (suc n) not = omega arith
 
-      found : (j : ℕ) (q : PhasePart) → get_elem? (parts vs) j ≡ some q → 0 < code_of q → (x : V) → get_elem? vs j ≡ some x → phase_part x ≡ q → (w : Phase) → q.phase ≡ w → play.NamesOther k v.hand.task (get_or ws block_at 0)
-      found j q atq has x atx is Idle phase = absurd (let e : code_of q ≡ 0 = ap (code_weight q.task) phase in omega (arith, e, has))
-      found j q atq has x atx is Added phase = absurd (let e : code_of q ≡ 0 = ap (code_weight q.task) phase in omega (arith, e, has))
-      found j q atq has x atx is Back phase = absurd (let e : code_of q ≡ 0 = ap (code_weight q.task) phase in omega (arith, e, has))
-      found j q atq has x atx is Reads phase = absurd (let e : code_of q ≡ 0 = ap (code_weight q.task) phase in omega (arith, e, has))
-      found j q atq has x atx is (Blocks n) phase = numbered q.task refl
+      found : (j : ℕ) (x : V) → get_elem? vs j ≡ some x → 0 < code_of (phase_part x) → (w : Phase) → x.ext ≡ w → (u i : ℕ) × (y : V) × (get_elem? vs i ≡ some y) × (y.hand.task ≡ Some u) × (get_or ws block_at 0 ≡ u + 1) × (blocks_of (phase_part y) ≡ 1)
+      found j x atx has Idle phase = absurd (let e : code_of (phase_part x) ≡ 0 = ap (code_weight x.hand.task) phase in omega (arith, e, has))
+      found j x atx has Added phase = absurd (let e : code_of (phase_part x) ≡ 0 = ap (code_weight x.hand.task) phase in omega (arith, e, has))
+      found j x atx has Back phase = absurd (let e : code_of (phase_part x) ≡ 0 = ap (code_weight x.hand.task) phase in omega (arith, e, has))
+      found j x atx has Reads phase = absurd (let e : code_of (phase_part x) ≡ 0 = ap (code_weight x.hand.task) phase in omega (arith, e, has))
+      found j x atx has (Blocks n) phase = numbered x.hand.task refl
         where
-          numbered : (task : Option ℕ) → q.task ≡ task → play.NamesOther k v.hand.task (get_or ws block_at 0)
-          numbered None bare = no-blocks Idle n refl (sym ((r.phases.each j q atq).numberless bare) ∙ phase)
-          numbered (Some u) some_it = let blocks : blocks_of q ≡ 1 = ap blocks_weight phase in let only = only-code (parts vs) j q atq blocks r.phases.one in let code : code_of q ≡ u + 1 = (λ i. code_weight (some_it i) (phase i)) in let block = r.phases.code in
-              let task : x.hand.task ≡ Some u = ap (λ (z : PhasePart). z.task) is ∙ some_it in let small = its-task ws vs j u x r atx task in
-              (u, omega (arith, block, only, code), small.0, λ mine. one-named ws vs u id j v x r small.1 at atx (λ e. let same : phase_part v ≡ q = ap phase_part (some-injective v x (sym at ∙ (ap (get_elem? vs) e ∙ atx))) ∙ is in let b : blocks_of (phase_part v) ≡ blocks_of q = ap blocks_of same in omega (arith, b, idle, blocks)) (has-number u v.hand.task mine) (has-number u x.hand.task task))
+          numbered : (task : Option ℕ) → x.hand.task ≡ task → (u i : ℕ) × (y : V) × (get_elem? vs i ≡ some y) × (y.hand.task ≡ Some u) × (get_or ws block_at 0 ≡ u + 1) × (blocks_of (phase_part y) ≡ 1)
+          numbered None bare = no-blocks Idle n refl (sym ((part-ok ws vs r j x atx).numberless bare) ∙ phase)
+          numbered (Some u) some_it = let blocks : blocks_of (phase_part x) ≡ 1 = ap blocks_weight phase in let only = only-code (parts vs) j (phase_part x) (at_map phase_part vs j x atx) blocks r.phases.one in let code : code_of (phase_part x) ≡ u + 1 = (λ i. code_weight (some_it i) (phase i)) in let block = r.phases.code in
+              (u, j, x, atx, some_it, omega (arith, block, only, code), blocks)
+
+  -- where this pass doesn't block, it is another task's
+  names-other : (ws : List ℕ) (vs : List V) (id : ℕ) (v : V) → Kept ws vs → get_elem? vs id ≡ some v → blocks_of (phase_part v) ≡ 0 → get_or ws block_at 0 ≢ 0 → play.NamesOther k v.hand.task (get_or ws block_at 0)
+  names-other ws vs id v r at idle not = let b = blocker ws vs r not in let small = its-task ws vs b.1 b.0 b.2 r b.3 b.4 in
+      (b.0, b.5, small.0, λ mine. one-named ws vs b.0 id b.1 v b.2 r small.1 at b.3 (λ e. let same : blocks_of (phase_part v) ≡ blocks_of (phase_part b.2) = ap (λ (z : V). blocks_of (phase_part z)) (some-injective v b.2 (sym at ∙ (ap (get_elem? vs) e ∙ b.3))) in let one = b.6 in omega (arith, same, idle, one)) (has-number b.0 v.hand.task mine) (has-number b.0 b.2.hand.task b.4))
+
+  tells-task : (ws : List ℕ) (vs : List V) (id : ℕ) (m : M) → Kept ws vs → get_elem? vs id ≡ some m.0 → get_or ws block_at 0 ≢ 0 → play.TellsTask m (get_or ws block_at 0)
+  tells-task ws vs id m r at not = let ok = r.site_holds.each id m.0.hand (at_map hand_of vs id m.0 at) in let b = blocker ws vs r not in let small = its-task ws vs b.1 b.0 b.2 r b.3 b.4 in
+      λ p plan. subst (λ (z : Plan). play.NamesTask z (get_or ws block_at 0)) (its-plan k p m.0.hand.plan ok.plan plan) (b.0, b.5, small.0)
 
   tells-other : (ws : List ℕ) (vs : List V) (id : ℕ) (m : M) → Kept ws vs → get_elem? vs id ≡ some m.0 → blocks_of (phase_part m.0) ≡ 0 → get_or ws block_at 0 ≢ 0 → play.TellsOther m (get_or ws block_at 0)
   tells-other ws vs id m r at idle not = let ok = r.site_holds.each id m.0.hand (at_map hand_of vs id m.0 at) in
@@ -199,9 +236,6 @@ module _ {Call : Type 0} (o : Obj Call) (size : ℕ) (k : Plan) where
   alones : (vs : List V) → Each (λ v. PartOk (length k) (phase_part v)) vs → total alone_of (hands vs) ≤ total blocks_of (parts vs)
   alones [] each = omega arith
   alones (v ∷ vs) each = let a = alones vs (λ j w at. each (suc j) w at) in let b = alone-code (length k) (phase_part v) (each zero v refl) in omega (arith, a, b)
-
-  pub part-ok : (ws : List ℕ) (vs : List V) → Kept ws vs → Each (λ v. PartOk (length k) (phase_part v)) vs
-  part-ok ws vs r j v at = r.phases.each j (phase_part v) (at_map phase_part vs j v at)
 
   -- what it learns that takes a hold where nobody holds alone
   gets : (me : M) (ws : List ℕ) (vs : List V) (id : ℕ) (held : Held) (e : Phase) (r : Kept ws vs) → get_elem? vs id ≡ some me.0 → total alone_of (hands vs) ≡ 0 → play.Gets o held e me (play.phased me.0 (took me.0.hand held (take size (site k ws).guarded) r.site_holds.log) e, me.1)
@@ -224,6 +258,9 @@ module _ {Call : Type 0} (o : Obj Call) (size : ℕ) (k : Plan) where
             record { holds = out; numberless = λ bare. none-some t (sym bare ∙ has); few = λ m e. no-blocks Added m refl e }
             (λ m e j q _ _ _ u _. no-blocks Added m refl e)
             (λ e. no-reads Added refl e),
+        refl,
+        subst (λ (z : Phase). PhaseGoes v.hand.task (words_in ws) (words_in (set ws (count_at t) (word_after (Add 1) n))) z Added) (sym idle)
+            (let empty = uncounted ws vs id t v r small at has was in (t, has, put-count ws t 0 1 (word_after (Add 1) n) (wide-enough ws vs (count_at t) r (inside-count t small)) empty (omega (arith, empty)))),
         (refl, refl),
       ))
 
@@ -244,6 +281,8 @@ module _ {Call : Type 0} (o : Obj Call) (size : ℕ) (k : Plan) where
             record { holds = refl; numberless = λ bare. none-some t (sym bare ∙ has); few = λ m e. no-blocks Reads m refl e }
             (λ m e j q _ _ _ u _. no-blocks Reads m refl e)
             (λ e. inr none),
+        refl,
+        subst (λ (z : Phase). PhaseGoes v.hand.task (words_in ws) (words_in ws) z Reads) (sym added) ((refl, λ u l. refl), free),
         ((λ _. gets me ws vs id Shared Reads r at unheld), λ not. absurd (not free)),
       ))
       (λ not. let p' : PhasePart = part v.hand Back in (
@@ -259,6 +298,8 @@ module _ {Call : Type 0} (o : Obj Call) (size : ℕ) (k : Plan) where
             record { holds = out; numberless = λ bare. none-some t (sym bare ∙ has); few = λ m e. no-blocks Back m refl e }
             (λ m e j q _ _ _ u _. no-blocks Back m refl e)
             (λ e. no-reads Back refl e),
+        refl,
+        subst (λ (z : Phase). PhaseGoes v.hand.task (words_in ws) (words_in ws) z Back) (sym added) ((refl, λ u l. refl), not),
         ((λ is. absurd (not is)), λ _. (tells-other ws vs id me r at unblocks not, (refl, refl))),
       )))
     where
@@ -285,6 +326,9 @@ module _ {Call : Type 0} (o : Obj Call) (size : ℕ) (k : Plan) where
             record { holds = out; numberless = λ _. refl; few = λ m e. no-blocks Idle m refl e }
             (λ m e j q _ _ _ u _. no-blocks Idle m refl e)
             (λ e. no-reads Idle refl e),
+        refl,
+        subst (λ (z : Phase). PhaseGoes v.hand.task (words_in ws) (words_in (set ws (count_at t) (word_after (Sub 1) n))) z Idle) (sym back)
+            (let few = count-bit ws vs t r small in let one : n ≡ 1 = omega (arith, was, least, sum, few) in (t, has, put-count ws t 1 0 (word_after (Sub 1) n) (wide-enough ws vs (count_at t) r (inside-count t small)) one (omega (arith, less, one)))),
         (refl, refl),
       ))
 
@@ -305,12 +349,15 @@ module _ {Call : Type 0} (o : Obj Call) (size : ℕ) (k : Plan) where
             record { holds = refl; numberless = λ _. refl; few = λ m e. no-blocks Idle m refl e }
             (λ m e j q _ _ _ u _. no-blocks Idle m refl e)
             (λ e. no-reads Idle refl e),
-        (refl, refl),
+        refl,
+        subst (λ (z : Phase). PhaseGoes v.hand.task (words_in ws) (words_in (set ws (count_at t) (word_after (Sub 1) n))) z Idle) (sym reads)
+            (let few = count-bit ws vs t r small in let one : n ≡ 1 = omega (arith, was, least, sum, few) in (t, has, put-count ws t 1 0 (word_after (Sub 1) n) (wide-enough ws vs (count_at t) r (inside-count t small)) one (omega (arith, less, one)))),
+        (let few = count-bit ws vs t r small in omega (arith, was, least, sum, few), (refl, refl)),
       ))
 
-  -- a pass that doesn't block loads the block word
-  pub sees : (slots id : ℕ) (me : M) → me.0.ext ≡ Idle → May slots id me block_at Load (play.Seen (step slots block_at 0 0 none) me)
-  sees slots id me idle = looks slots id block_at me (play.Seen (step slots block_at 0 0 none) me) (omega arith) (λ ws vs r at. ticks ws vs id me.0 (λ u. play.Seen (step slots block_at 0 0 none) me (get_or ws block_at 0) (u, me.1)) r at ((λ not. tells-other ws vs id me r at (ap blocks_weight idle) not), (refl, refl)))
+  -- a pass loads the block word
+  pub sees : (slots id : ℕ) (me : M) → May slots id me block_at Load (play.Seen (step slots block_at 0 0 none) me)
+  sees slots id me = looks slots id block_at me (play.Seen (step slots block_at 0 0 none) me) (omega arith) (λ ws vs r at. ticks ws vs id me.0 (λ u. play.Seen (step slots block_at 0 0 none) me (get_or ws block_at 0) (u, me.1)) r at ((λ not. tells-task ws vs id me r at not), (refl, refl)))
 
   -- a pass blocks, where nobody does
   pub blocks : (slots id t : ℕ) (me : M) → me.0.hand.task ≡ Some t → me.0.hand.held ≡ No → me.0.ext ≡ Idle → May slots id me block_at (Exchange 0 (t + 1)) (play.Blocked (step slots block_at 0 (t + 1) none) me)
@@ -325,13 +372,15 @@ module _ {Call : Type 0} (o : Obj Call) (size : ℕ) (k : Plan) where
             (inr none)
             record { holds = out ∙ sym (held-some (length k) 0 (λ e. omega (arith, e, some_tasks))); numberless = λ bare. none-some t (sym bare ∙ has); few = λ m e. let s : 0 ≡ m = ap seen_in e in omega (arith, s) }
             (λ m e j q _ _ _ u _. let s : 0 ≡ m = ap seen_in e in omega (arith, s))
-            (λ e. no-reads (Blocks 0) refl e)),
+            (λ e. no-reads (Blocks 0) refl e))
+            refl
+            (subst (λ (z : Phase). PhaseGoes v.hand.task (words_in ws) (words_in (set ws block_at (t + 1))) z (Blocks 0)) (sym idle) (t, has, put-block ws 0 (t + 1) (t + 1) wide free refl, refl)),
         ((λ _. (refl, refl)), λ not. absurd (not refl)),
       ))
       (λ ws vs r at not _. (
         ticked v,
         refl,
-        rule-goes o size k ws ws vs id v v.hand v.ext r at refl refl (hand-stays v.hand) (saw-stays v.hand) (same-hand ws vs id v r at) (same-phases ws vs id v r at),
+        rule-goes o size k ws ws vs id v v.hand v.ext r at refl refl (hand-stays v.hand) (saw-stays v.hand) (same-hand ws vs id v r at) (same-phases ws vs id v r at) refl (phase-stays v.hand.task (words_in ws) (words_in ws) v.ext (refl, λ u l. refl)),
         ((λ is. absurd (not is)), λ _. (tells-other ws vs id me r at unblocks not, (refl, refl))),
       ))
 
@@ -394,6 +443,8 @@ module _ {Call : Type 0} (o : Obj Call) (size : ℕ) (k : Plan) where
             record { holds = sym (held-all (length k) (s + 1) all); numberless = λ bare. none-some t (sym bare ∙ has); few = λ m e. let z : s + 1 ≡ m = ap seen_in e in omega (arith, z, inside) }
             (λ m e j q _ atq reads u hasu. let z : s + 1 ≡ m = ap seen_in e in let l = drained-next ws vs id s v r at small phase free j q atq reads u hasu in omega (arith, z, l))
             (λ e. no-reads (Blocks (s + 1)) refl e),
+        refl,
+        subst (λ (z : Phase). PhaseGoes v.hand.task (words_in ws) (words_in ws) z (Blocks (s + 1))) (sym phase) ((refl, λ u l. refl), inr (refl, free)),
         ((λ _. drained-tells me (play.phased v g (Blocks (s + 1)), me.1) s phase planned (λ not. absurd (not all)) (λ _. gets me ws vs id Alone (Blocks (s + 1)) r at unalone) refl), λ not. absurd (not free)),
       ))
       (λ some_left. let p' : PhasePart = part v.hand (Blocks (s + 1)) in (
@@ -409,6 +460,8 @@ module _ {Call : Type 0} (o : Obj Call) (size : ℕ) (k : Plan) where
             record { holds = out ∙ sym (held-some (length k) (s + 1) some_left); numberless = λ bare. none-some t (sym bare ∙ has); few = λ m e. let z : s + 1 ≡ m = ap seen_in e in omega (arith, z, inside) }
             (λ m e j q _ atq reads u hasu. let z : s + 1 ≡ m = ap seen_in e in let l = drained-next ws vs id s v r at small phase free j q atq reads u hasu in omega (arith, z, l))
             (λ e. no-reads (Blocks (s + 1)) refl e),
+        refl,
+        subst (λ (z : Phase). PhaseGoes v.hand.task (words_in ws) (words_in ws) z (Blocks (s + 1))) (sym phase) ((refl, λ u l. refl), inr (refl, free)),
         ((λ _. drained-tells me (play.phased v v.hand (Blocks (s + 1)), me.1) s phase planned (λ _. refl) (λ all. absurd (some_left all)) refl), λ not. absurd (not free)),
       )))
       (λ not. ticks ws vs id v (λ u. play.Drained o (step slots (count_at s) 0 0 none) me n (u, me.1)) r at
@@ -424,6 +477,8 @@ module _ {Call : Type 0} (o : Obj Call) (size : ℕ) (k : Plan) where
         saw-stays v.hand,
         same-hand ws vs id v r at,
         frees ws vs r at v.hand is,
+        refl,
+        lets-go ws vs r at,
         (ap (λ (h : Hand). play.phased v h Idle) (sym e), refl),
       ))
       (λ shares. absurd (unshared shares))
@@ -434,9 +489,15 @@ module _ {Call : Type 0} (o : Obj Call) (size : ℕ) (k : Plan) where
         (refl, inl refl),
         site-frees o never size k (site k ws) (hands vs) id 0 v.hand r.site_holds (at_map hand_of vs id v at) quiet rest,
         frees ws vs r at g refl,
+        refl,
+        lets-go ws vs r at,
         (ap (λ (h : Hand). play.phased v h Idle) (sym e), refl),
       )))
     where
+      lets-go : (ws : List ℕ) (vs : List V) → Kept ws vs → get_elem? vs id ≡ some me.0 → PhaseGoes me.0.hand.task (words_in ws) (words_in (set ws block_at 0)) me.0.ext Idle
+      lets-go ws vs r at = let v = me.0 in let p : PhasePart = phase_part v in let blocking : blocks_of p ≡ 1 = ap blocks_weight phase in let only = only-code (parts vs) id p (at_map phase_part vs id v at) blocking r.phases.one in let code : code_of p ≡ t + 1 = (λ i. code_weight (has i) (phase i)) in let block = r.phases.code in
+          subst (λ (z : Phase). PhaseGoes v.hand.task (words_in ws) (words_in (set ws block_at 0)) z Idle) (sym phase) (t, has, put-block ws (t + 1) 0 0 (wide-enough ws vs block_at r (omega arith)) (omega (arith, block, only, code)) refl)
+
       frees : (ws : List ℕ) (vs : List V) → Kept ws vs → get_elem? vs id ≡ some me.0 → (g : Hand) → g.held ≡ No → Phases k (set ws block_at 0) (set (parts vs) id (part g Idle))
       frees ws vs r at g out = let v = me.0 in let p : PhasePart = phase_part v in let mine = at_map phase_part vs id v at in let blocking : blocks_of p ≡ 1 = ap blocks_weight phase in let only = only-code (parts vs) id p mine blocking r.phases.one in let block = r.phases.code in
           let word = get_or-set_same ws block_at 0 0 (wide-enough ws vs block_at r (omega arith)) in phases-step (length k) (get_or ws block_at 0) _ (λ u. get_or ws (count_at u) 0) _ (parts vs) id p (part g Idle) r.phases mine

@@ -1,7 +1,6 @@
 -- What a clause reads of a per-CPU semaphore, and of a pass of it.
 use Rattle.std.specs.Prelude.{◌≡◌, ℕ, ◌+◌, ◌*◌, ◌<◌, ◌≤◌, Bool, List, length, Option, Some, None, is_some}
 use Rattle.cpu_task.specs.Counting.{slept}
-use Rattle.word_bits.specs.declared.entry.Entry.{Entry}
 use Rattle.word_bits.specs.declared.reply.Reply.{Reply}
 use Rattle.word_bits.specs.LockWords.{Unavailable}
 use Rattle.word_bits.specs.Objects.{Obj}
@@ -17,7 +16,7 @@ use Rattle.percpu_rwsem.specs.declared.pass.PercpuPass.{PercpuPass}
 use Rattle.percpu_rwsem.specs.declared.site.PercpuRwSem.{PercpuRwSem}
 use Rattle.percpu_rwsem.specs.declared.view.Phase.{Phase}
 use Rattle.percpu_rwsem.specs.declared.view.Phase.TheVariants.{Idle, Reads, Blocks}
-use Rattle.percpu_rwsem.specs.Plays.{TakesPhase, phased}
+use Rattle.percpu_rwsem.specs.Plays.{TakesPhase}
 use Rattle.percpu_rwsem.specs.Ruled.{V, count_at}
 use Rattle.percpu_rwsem.specs.Phases.{PartOk, phase_part}
 

@@ -1,5 +1,6 @@
 pub mod Phases
 pub mod PhaseLaws
+pub mod PhaseSteps
 pub mod Ruled
 pub mod RuledLaws
 pub mod Plays

@@ -1,10 +1,9 @@
 -- What a step on the words of a per-CPU semaphore tells its pass.
-use Rattle.std.specs.Prelude.{◌≡◌, ◌≢◌, ℕ, ◌+◌, ◌<◌, ◌≤◌, List, length, Option, Some}
+use Rattle.std.specs.Prelude.{◌≡◌, ◌≢◌, ℕ, ◌+◌, ◌<◌, List, length, Option, Some}
 use Rattle.atomic_table.specs.Table.{Step}
 use Rattle.word_bits.specs.declared.entry.Entry.{Entry}
 use Rattle.word_bits.specs.Objects.{Obj}
 use Rattle.word_bits.specs.Histories.{Plan}
-use Rattle.lock_core.specs.declared.view.View.{View}
 use Rattle.lock_core.specs.declared.view.Hand.{Hand}
 use Rattle.lock_core.specs.declared.view.Held.{Held}
 use Rattle.lock_core.specs.declared.view.Held.TheVariants.{No, Shared, Alone}
@@ -12,7 +11,7 @@ use Rattle.lock_core.specs.Holding.{Learns, released}
 use Rattle.lock_core.specs.Plays.{Sat, Turns}
 use Rattle.lock_core.specs.Views.{ticked, took}
 use Rattle.percpu_rwsem.specs.declared.view.Phase.{Phase}
-use Rattle.percpu_rwsem.specs.declared.view.Phase.TheVariants.{Idle, Added, Back, Reads, Blocks}
+use Rattle.percpu_rwsem.specs.declared.view.Phase.TheVariants.{Idle, Back, Reads, Blocks}
 use Rattle.percpu_rwsem.specs.Ruled.{V}
 
 -- a step on a word of the semaphore
@@ -27,6 +26,13 @@ NamesOther k task word = (u : ℕ) × (word ≡ u + 1) × (u < length k) × (tas
 abbrev pub TellsOther : Sat Phase → ℕ → Type 0
 TellsOther m word = (k : Plan) → m.0.hand.plan ≡ Some k → NamesOther k m.0.hand.task word
 
+-- the word is the code of a task of the plan
+abbrev pub NamesTask : Plan → ℕ → Type 0
+NamesTask k word = (u : ℕ) × (word ≡ u + 1) × (u < length k)
+
+abbrev pub TellsTask : Sat Phase → ℕ → Type 0
+TellsTask m word = (k : Plan) → m.0.hand.plan ≡ Some k → NamesTask k word
+
 -- it has gone on to this phase, and its hand is as it was
 abbrev pub Goes : Phase → Step (Unit {0}) → Sat Phase → ℕ → Sat Phase → Type 0
 Goes e st m n m' = Turns m (phased m.0 m.0.hand e) m'
@@ -39,13 +45,13 @@ Gets o held e m m' = (known : List ℕ) × (log : List Entry) × ((k : Plan) →
 abbrev pub Looked : {Call : Type 0} → Obj Call → Step (Unit {0}) → Sat Phase → ℕ → Sat Phase → Type 0
 Looked o st m n m' = (n ≡ 0 → Gets o Shared Reads m m') × (n ≢ 0 → TellsOther m n × Turns m (phased m.0 m.0.hand Back) m')
 
--- a subtraction that ends a shared hold
+-- a subtraction that ends a shared hold; it finds the count at 1
 abbrev pub Ended : Step (Unit {0}) → Sat Phase → ℕ → Sat Phase → Type 0
-Ended st m n m' = Turns m (phased m.0 (released m.0.hand 0) Idle) m'
+Ended st m n m' = (n ≡ 1) × Turns m (phased m.0 (released m.0.hand 0) Idle) m'
 
 -- a load of the block word that changes nothing
 abbrev pub Seen : Step (Unit {0}) → Sat Phase → ℕ → Sat Phase → Type 0
-Seen st m n m' = (n ≢ 0 → TellsOther m n) × Turns m (ticked m.0) m'
+Seen st m n m' = (n ≢ 0 → TellsTask m n) × Turns m (ticked m.0) m'
 
 -- the exchange of the block word from 0 to the own code
 abbrev pub Blocked : Step (Unit {0}) → Sat Phase → ℕ → Sat Phase → Type 0

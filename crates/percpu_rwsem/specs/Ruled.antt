@@ -1,10 +1,11 @@
 -- The rule of a table with a count for each task and a block word.
-use Rattle.std.specs.Prelude.{◌≡◌, ℕ, ◌+◌, ◌*◌, Bool, List, [], ◌∷◌, length, map, slice_index}
+use Rattle.std.specs.Prelude.{◌≡◌, ◌≢◌, ◌⊎◌, ℕ, ◌+◌, ◌*◌, ◌≤◌, List, [], ◌∷◌, length, map, slice_index}
+use mathlib.Core.Option.{some}
+use lib.ListN.{get_elem?}
 use Rattle.word_bits.specs.LockWords.{Unavailable}
 use Rattle.word_bits.specs.Objects.{Obj}
 use Rattle.word_bits.specs.Histories.{Plan}
 use Rattle.lock_core.specs.declared.view.View.{View}
-use Rattle.lock_core.specs.declared.view.Hand.{Hand}
 use Rattle.lock_core.specs.declared.view.Moment.{Moment}
 use Rattle.lock_core.specs.declared.layout.TheConstants.{SPIN_ROOM}
 use Rattle.lock_core.specs.Layout.{site, width}
@@ -15,6 +16,7 @@ use Rattle.lock_core.specs.Pasts.{opening}
 use Rattle.percpu_rwsem.specs.declared.view.Phase.{Phase}
 use Rattle.percpu_rwsem.specs.declared.view.Phase.TheVariants.{Idle, Added, Back, Reads, Blocks}
 use Rattle.percpu_rwsem.specs.Phases.{PhasePart, PhasesKept, phase_part}
+use Rattle.percpu_rwsem.specs.PhaseSteps.{PhaseGoes, Words}
 
 -- the place of the block word, behind the room of the spin locks, and that of a task's count, which has a line of its own
 abbrev pub block_at : ℕ
@@ -48,9 +50,29 @@ module _ {Call : Type 0} (o : Obj Call) (size : ℕ) where
     pub site_holds : SiteKept o never size k (site k ws) (map hand_of vs)
     pub phases : Phases k ws (map phase_part vs)
 
--- all that each step of a site does
-abbrev pub PercpuMoves : Plan → ℕ → List ℕ → List V → List ℕ → List V → Type 0
-PercpuMoves k id ws vs us vs' = SiteMove id (slice_index ws block_at) (site k ws) vs (site k us) vs'
+-- the words of the semaphore in a table
+abbrev pub words_in : List ℕ → Words
+words_in ws = record { block = slice_index ws block_at; count = λ t. slice_index ws (count_at t) }
+
+-- a pass keeps its number while it has something in the words
+abbrev pub KeepsTask : V → V → Type 0
+KeepsTask v u = (u.hand.task ≡ v.hand.task) ⊎ ((v.ext ≡ Idle) × (u.ext ≡ Idle))
+
+-- every other pass that was there is in the phase that it was in
+abbrev pub OthersStay : ℕ → List V → List V → Type 0
+OthersStay id vs vs' = (j : ℕ) (v u : V) → j ≢ id → get_elem? vs j ≡ some v → get_elem? vs' j ≡ some u → u.ext ≡ v.ext
+
+-- a pass that wasn't there has nothing in the words
+abbrev pub NewAreIdle : List V → List V → Type 0
+NewAreIdle vs vs' = (j : ℕ) (u : V) → length vs ≤ j → get_elem? vs' j ≡ some u → u.ext ≡ Idle
+
+-- what a step may do: all that each step of a site does, and to the pass's own phase and the words what its phase lets it
+pub record PercpuMoves (k : Plan) (id : ℕ) (ws : List ℕ) (vs : List V) (us : List ℕ) (vs' : List V) : Type 0 where
+  pub site : SiteMove id (slice_index ws block_at) (site k ws) vs (site k us) vs'
+  pub goes : PhaseGoes site.before.hand.task (words_in ws) (words_in us) site.before.ext site.after.ext
+  pub task : KeepsTask site.before site.after
+  pub others : OthersStay id vs vs'
+  pub new : NewAreIdle vs vs'
 
 -- a new table
 abbrev pub newest : Plan → Moment

@@ -6,6 +6,7 @@ ghost use Rattle.lock_core.specs.Pasts.{FoundAt};
 ghost use Rattle.percpu_rwsem.specs.declared.view.Phase.TheVariants.{Idle, Reads};
 ghost use Rattle.percpu_rwsem.specs.Plays.{NamesOther};
 ghost use Rattle.percpu_rwsem.specs.Ruled.{block_at};
+ghost use Rattle.percpu_rwsem.specs.Stated.{CountFalls};
 
 use crate::pass::PercpuPass;
 use crate::site::PercpuRwSem;
@@ -92,8 +93,8 @@ impl<O: Object> PercpuRwSem<O> {
         unreachable!()
     }
 
-    /// Ends the pass's shared hold (`percpu_up_read`), and wakes the task that blocks, if there is
-    /// one.
+    /// Ends the pass's shared hold (`percpu_up_read`): it takes its count back, then loads the block
+    /// word, and wakes the task that blocks, if there is one.
     pub fn up_read<C: Crew>(&self, pass: &mut PercpuPass<O>, crew: &C)
         requires own { SitsAt self.now pass.old }
         requires held { held_in pass.old ≡ Shared }
@@ -105,6 +106,8 @@ impl<O: Object> PercpuRwSem<O> {
             after 2 (view_of pass.old) (released (hand_in pass.old) 0) Idle }
         ensures first { CameTo (after 1 (view_of pass.old) (released (hand_in pass.old) 0) Idle)
             pass.old pass.new }
+        ensures falls { CountFalls (plan_of self.now) (task_in pass.old)
+            ((view_of pass.old).steps + 1) (past_of pass.old) (past_of pass.new) }
         ensures out { held_in pass.new ≡ No }
         ensures task { task_in pass.new ≡ task_in pass.old }
     {
@@ -112,7 +115,8 @@ impl<O: Object> PercpuRwSem<O> {
             unreachable!()
         };
         steps::end_read(&self.site, &mut pass.pass, task);
-        // Loaded behind the subtraction: a writer that blocks and saw this count at 1 is woken.
+        // Loaded behind the subtraction: a writer that saw this count at 1 had blocked before, and is
+        // woken.
         let word = steps::see(&self.site, &mut pass.pass);
         if word != 0 {
             crew.wake((word - 1) as u32);

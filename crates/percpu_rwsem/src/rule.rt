@@ -1,7 +1,7 @@
 //! The rule of a table with a count for each task and a block word.
 ghost use Rattle.percpu_rwsem.specs.declared.view.Phase.TheVariants.{Idle};
 ghost use Rattle.percpu_rwsem.specs.Ruled.{PercpuKept, PercpuMoves, block_at, kept_phase, never};
-ghost use Rattle.percpu_rwsem.specs.RuledLaws.{rule-site, rule-sites, rule-opens, rule-splits, rule-joins};
+ghost use Rattle.percpu_rwsem.specs.RuledLaws.{joins-moves, rule-site, rule-sites, rule-sites-moves, rule-opens, rule-splits, rule-joins, splits-moves};
 ghost use Rattle.std.specs.Prelude.{◌≡◌};
 
 use crate::view::Phase;
@@ -41,13 +41,13 @@ impl<O: Object> SiteRule for PercpuRule<O> {
 
     ghost site_kept = { rule-site O.object O.WORDS };
 
-    ghost site_moves = { λ k id ws us vs vs' there step. step };
+    ghost site_moves = { λ k id ws us vs vs' there step. step.site };
 
-    ghost sites = { λ k ws vs id i n v h s r at same stays there step. (rule-sites O.object O.WORDS k ws vs id i n v h s r at same there, step) };
+    ghost sites = { λ k ws vs id i n v h s r at same stays there step. (rule-sites O.object O.WORDS k ws vs id i n v h s r at same there, rule-sites-moves O.object O.WORDS k ws vs id i n v h s r at same step) };
 
     ghost opens = { rule-opens O.object O.WORDS };
 
-    ghost splits = { λ k ws vs id v r at there step. (rule-splits O.object O.WORDS k ws vs id v r at there, step) };
+    ghost splits = { λ k ws vs id v r at there step. (rule-splits O.object O.WORDS k ws vs id v r at there, splits-moves k ws vs id v at step) };
 
-    ghost joins = { λ k ws vs id other v w r at apart at' mine theirs there step. (rule-joins O.object O.WORDS k ws vs id other v w r at apart at' theirs there, step) };
+    ghost joins = { λ k ws vs id other v w r at apart at' mine theirs there step. (rule-joins O.object O.WORDS k ws vs id other v w r at apart at' theirs there, joins-moves k ws vs id other v w at apart at' theirs.1 step) };
 }

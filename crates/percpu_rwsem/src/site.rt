@@ -6,10 +6,9 @@ ghost use Rattle.lock_core.specs.Records.{IsPlan};
 ghost use Rattle.lock_core.specs.Views.{first, ticked, handed, split_off, merged, gave_up, wrote, after_commit, after_note, Unsent, BesideForgetting, HoldsNothing, OwesNoSignal};
 ghost use Rattle.lock_core.specs.Pasts.{EachMoment, FoundAt, IsMarked, KeepsJoined, Paced, Tail};
 ghost use Rattle.lock_core.specs.Stated.{IsNew};
-ghost use Rattle.lock_core.specs.Locked.{IsSiteStep};
-ghost use Rattle.percpu_rwsem.specs.Stated.{IsPercpuSiteThen};
+ghost use Rattle.percpu_rwsem.specs.Stated.{IsPercpuSiteThen, IsPercpuStep};
 ghost use Rattle.percpu_rwsem.specs.declared.view.Phase.TheVariants.{Idle};
-ghost use Rattle.percpu_rwsem.specs.Ruled.{block_at, kept_phase, never, newest};
+ghost use Rattle.percpu_rwsem.specs.Ruled.{kept_phase, never, newest};
 
 use crate::pass::PercpuPass;
 use crate::rule::PercpuRule;
@@ -186,7 +185,8 @@ impl<O: Object> PercpuRwSem<O> {
 
     /// Looks back at the table's whole past, by a load that changes nothing. At each moment, from
     /// the new table on, the facts of every site held, each count said whether its task was inside,
-    /// and the block word said who blocked. Each step between them was one of a site.
+    /// and the block word said who blocked. Each step between them led its own pass from one phase
+    /// to another, and changed the count or the block word that goes with that.
     pub fn recall(&self, pass: &mut PercpuPass<O>)
         requires own { SitsAt self.now pass.old }
         ensures own { SitsAt self.now pass.new }
@@ -198,7 +198,7 @@ impl<O: Object> PercpuRwSem<O> {
         ensures begins { Tail (newest (plan_of self.now) ∷ []) (past_of pass.new) }
         ensures always { EachMoment (IsPercpuSiteThen O.object O.WORDS (plan_of self.now))
             (past_of pass.new) }
-        ensures moves { Paced (IsSiteStep (plan_of self.now) block_at) (past_of pass.new) }
+        ensures moves { Paced (IsPercpuStep (plan_of self.now)) (past_of pass.new) }
         ensures joined { KeepsJoined (joined_by pass.old) (past_of pass.new) }
     {
         self.site.recall(&mut pass.pass);

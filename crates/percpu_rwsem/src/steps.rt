@@ -6,7 +6,7 @@ ghost use Rattle.lock_core.specs.Pasts.{FoundAt};
 ghost use Rattle.lock_core.specs.Views.{ticked};
 ghost use Rattle.lock_core.specs.Handles.{IsLatest, plan_of, view_of, hand_in, past_of, task_in, held_in, SitsAt, KeepsPast, SaysSame};
 ghost use Rattle.percpu_rwsem.specs.declared.view.Phase.TheVariants.{Idle, Added, Back, Reads, Blocks};
-ghost use Rattle.percpu_rwsem.specs.Plays.{NamesOther, TakesPhase, phased, unheld, Goes, Looked, Ended, Seen, Blocked, Drained, Unblocked};
+ghost use Rattle.percpu_rwsem.specs.Plays.{NamesOther, NamesTask, TakesPhase, phased, unheld, Goes, Looked, Ended, Seen, Blocked, Drained, Unblocked};
 ghost use Rattle.percpu_rwsem.specs.Ruled.{block_at, count_at};
 
 use crate::rule::{BLOCK, COUNTS, PercpuRule};
@@ -164,22 +164,22 @@ pub(crate) fn end_read<O: Object>(
     ensures last { IsLatest pass.new }
     ensures kept { view_of pass.new ≡
         phased (view_of pass.old) (released (hand_in pass.old) 0) Idle }
+    ensures found { FoundAt (count_at task) 1 (past_of pass.new) }
 {
     let place = count_place(task);
     site.step::<Ending>(pass, place, Op::Sub(1));
     pass.set_held(Held::No);
 }
 
-/// Loads the block word. It is 0 or the code of another task.
+/// Loads the block word. It is 0 or the code of a task.
 pub(crate) fn see<O: Object>(site: &Site<PercpuRule<O>>, pass: &mut Pass<PercpuRule<O>>) -> u64
     requires own { SitsAt site.now pass.old }
-    requires idle { (view_of pass.old).ext ≡ Idle }
     ensures own { SitsAt site.now pass.new }
     ensures goes_on { KeepsPast pass.old pass.new }
     ensures last { IsLatest pass.new }
     ensures face { SaysSame pass.old pass.new }
     ensures kept { view_of pass.new ≡ ticked (view_of pass.old) }
-    ensures names { result ≢ 0 → NamesOther (plan_of site.now) (task_in pass.old) result }
+    ensures names { result ≢ 0 → NamesTask (plan_of site.now) result }
     ensures found { FoundAt block_at result (past_of pass.new) }
 {
     site.step::<Seeing>(pass, BLOCK, Op::Load)

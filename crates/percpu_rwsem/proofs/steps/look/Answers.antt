@@ -1,10 +1,9 @@
-use Rattle.std.proofs.Common.{◌≡◌, ◌∙◌, ◌<◌, ◌≤◌, ℕ, arith, ap, subst, sym, refl, Some, None, IsSome, false}
+use Rattle.std.proofs.Common.{◌∙◌, arith, ap, subst, sym, refl, IsSome}
 use Rattle.lock_core.proofs.Sitting.{sits-on}
 use Rattle.lock_core.specs.declared.pass.Face.{Face}
-use Rattle.lock_core.specs.declared.view.Held.TheVariants.{No, Shared, Alone}
+use Rattle.lock_core.specs.declared.view.Held.TheVariants.{Shared}
 use Rattle.lock_core.specs.Pasts.{IsOwnStep, Tail}
-use Rattle.lock_core.proofs.HandLaws.{not-both}
-use Rattle.percpu_rwsem.specs.declared.view.Phase.TheVariants.{Idle, Reads, Blocks}
+use Rattle.percpu_rwsem.specs.declared.view.Phase.TheVariants.{Reads}
 use Rattle.percpu_rwsem.proofs.Sitting.{sits-took}
 use Rattle.percpu_rwsem.proofs.Stepping.{looks-after}
 use Rattle.percpu_rwsem.proofs.steps.look.Goals as goal

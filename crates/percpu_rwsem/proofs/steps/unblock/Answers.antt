@@ -1,9 +1,8 @@
-use Rattle.std.proofs.Common.{◌≡◌, ◌∙◌, ◌<◌, ◌≤◌, ℕ, arith, ap, subst, sym, refl, Some, None, IsSome, false}
+use Rattle.std.proofs.Common.{◌∙◌, ap, subst, sym}
 use Rattle.lock_core.specs.declared.pass.Face.{Face}
-use Rattle.lock_core.specs.declared.view.Held.TheVariants.{No, Shared, Alone}
+use Rattle.lock_core.specs.declared.view.Held.TheVariants.{No}
 use Rattle.lock_core.specs.Pasts.{IsOwnStep, Tail}
-use Rattle.lock_core.proofs.HandLaws.{not-both}
-use Rattle.percpu_rwsem.specs.declared.view.Phase.TheVariants.{Idle, Reads, Blocks}
+use Rattle.percpu_rwsem.specs.declared.view.Phase.TheVariants.{Idle}
 use Rattle.percpu_rwsem.proofs.Sitting.{sits-unheld}
 use Rattle.percpu_rwsem.proofs.Stepping.{unblocks}
 use Rattle.percpu_rwsem.proofs.steps.unblock.Goals as goal

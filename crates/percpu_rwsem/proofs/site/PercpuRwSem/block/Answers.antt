@@ -1,6 +1,5 @@
-use Rattle.std.proofs.Common.{◌≡◌, ◌≢◌, ◌∙◌, ◌<◌, ◌≤◌, ◌+◌, ℕ, arith, ap, subst, sym, refl, List, length, Option, Some, None, IsSome, false}
+use Rattle.std.proofs.Common.{◌∙◌, arith, ap, sym, length}
 use Rattle.lock_core.proofs.Sitting.{its-number}
-use Rattle.percpu_rwsem.specs.declared.view.Phase.TheVariants.{Blocks}
 use Rattle.percpu_rwsem.specs.Ruled.{V}
 use Rattle.percpu_rwsem.proofs.Calling.{blocks-phased}
 use Rattle.percpu_rwsem.proofs.site.PercpuRwSem.block.Goals as goal

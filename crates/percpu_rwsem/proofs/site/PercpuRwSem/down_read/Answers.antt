@@ -1,4 +1,4 @@
-use Rattle.std.proofs.Common.{rules, ◌≡◌, ◌∙◌, ℕ, ◌+◌, ap, arith}
+use Rattle.std.proofs.Common.{rules, ◌∙◌, ◌+◌, ap, arith}
 use Rattle.percpu_rwsem.specs.declared.view.Phase.TheVariants.{Idle}
 use Rattle.percpu_rwsem.specs.Handles.{after}
 use Rattle.percpu_rwsem.specs.Ruled.{V}

@@ -1,10 +1,7 @@
-use Rattle.lock_core.specs.Pasts.{Moves}
-use Rattle.lock_core.specs.LockedLaws.{ran-steps}
-use Rattle.lock_core.specs.RunLaws.{ran-each, ran-so}
-use Rattle.lock_core.specs.Stated.{IsSiteMove}
-use Rattle.percpu_rwsem.specs.Ruled.{PercpuKept, PercpuMoves, block_at, kept_phase, newest}
+use Rattle.lock_core.specs.RunLaws.{ran-each}
+use Rattle.percpu_rwsem.specs.Ruled.{PercpuKept, PercpuMoves, kept_phase, newest}
 use Rattle.percpu_rwsem.specs.Stated.{IsPercpuSiteThen}
-use Rattle.percpu_rwsem.proofs.Stating.{rule-states}
+use Rattle.percpu_rwsem.proofs.Stating.{percpu-steps, rule-states}
 use Rattle.percpu_rwsem.proofs.site.PercpuRwSem.recall.Goals as goal
 
 pub returns-clause-always : goal.returns-clause-always
@@ -12,5 +9,4 @@ returns-clause-always g c = let k = c.args.self.now.site.table.shared.key in let
     ran-each kept_phase (PercpuKept o n k) (PercpuMoves k) (IsPercpuSiteThen o n k) (λ ws vs r. rule-states o n k ws vs r) (newest k) own.now own.before own.rest _ own.past_is c.recall.ensures.run
 
 pub returns-clause-moves : goal.returns-clause-moves
-returns-clause-moves g c = let k = c.args.self.now.site.table.shared.key in let o = g.O.Object.object in let n = g.O.Object.WORDS in
-    ran-steps kept_phase k block_at (newest k) _ (ran-so kept_phase (newest k) (Moves (PercpuKept o n k) (PercpuMoves k)) (IsSiteMove k block_at) (λ x y m. (m.0, m.3, m.4)) _ c.recall.ensures.run)
+returns-clause-moves g c = percpu-steps g.O.Object.object g.O.Object.WORDS c.args.self.now.site.table.shared.key (newest c.args.self.now.site.table.shared.key) _ c.recall.ensures.run

@@ -1,4 +1,4 @@
-use Rattle.std.proofs.Common.{rules, ◌≡◌, ◌∙◌, ℕ, ◌+◌, ap, sym, arith}
+use Rattle.std.proofs.Common.{rules, ◌∙◌, ◌+◌, ap, sym, arith}
 use Rattle.lock_core.specs.Views.{ticked}
 use Rattle.percpu_rwsem.specs.Ruled.{V}
 use Rattle.percpu_rwsem.proofs.Calling.{err-of, sleeps-again}
