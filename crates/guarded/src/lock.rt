@@ -31,7 +31,8 @@ use word_bits::{CallWords, MAX_TASKS, Object, Reply};
 ///
 /// What a clause says of a pass it says of what the pass shows (`view`): its hand, its counts, and
 /// the moments of the table up to its last step. `recall` says what was so at each of these
-/// moments, whatever the lock is. So a lock whose table keeps no rule can't be one of these.
+/// moments, whatever the lock is. What a pass shows is the lock's own choice: that it is a table's
+/// is a fact of the lock's types.
 pub trait SleepLock<O: Object>: Sized {
     /// What a task makes its steps with.
     type Pass: Drop;

@@ -8,7 +8,7 @@ use crate::how::{How, Interrupted};
 /// there.
 #[derive(Clone, Copy, Debug, PartialEq, Eq)]
 pub struct Tally {
-    /// Calls that stood in the list of waiters: they slept, or were interrupted.
+    /// Calls that stood in the list of waiters. They answer Slept, or were interrupted.
     pub queued: u64,
     /// How often the pass left the lock's spin queue before its turn came.
     pub left: u64,

@@ -203,7 +203,7 @@ where
 
 /// Reads a script from the source, or generates one, does its tasks at once, each on a thread of
 /// its own, and writes their histories to the sink, or the summary. `kept` has the machine that
-/// did them then. Where no task began nothing is kept.
+/// did them then. Where no machine ran nothing is kept.
 ///
 /// `words` are the words of the command line after the program's name. Where they ask how to use
 /// the program, that is written, and nothing is read or done. No memory is taken once the

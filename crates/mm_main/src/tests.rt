@@ -139,3 +139,22 @@ fn a_machine_is_kept_where_a_script_was_run(rt: HostRuntime) -> Result<(), Fail>
     }
     Ok(())
 }
+
+#[test]
+fn a_sink_that_fails_at_its_fourth_byte_has_three(rt: HostRuntime) -> Result<(), Fail> {
+    let mut source = MemSource::new(rt.alloc(), b"space a\n", 8, &[])?;
+    let mut sink = MemSink::new(rt.alloc(), 1000, 1, &[3])?;
+    let mut crew = ParkCrew::new(rt.alloc(), MAX_TASKS)?;
+    let ended = run_with(
+        &rt,
+        rt.alloc(),
+        &[],
+        &mut source,
+        &mut sink,
+        &mut crew,
+        &OpenGate,
+    )?;
+    assert_eq!(rt; ended, (Status::WriteFault, true));
+    assert_eq!(rt; sink.written(), b"spa");
+    Ok(())
+}

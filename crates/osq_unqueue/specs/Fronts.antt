@@ -11,7 +11,7 @@ use Rattle.osq_nodes.specs.Stated.{places_at}
 abbrev pub HasOneFront : Moment → Type 0
 HasOneFront m = (t u : ℕ) → places_at m t ≡ Front → places_at m u ≡ Front → t ≡ u
 
--- The last of these moments of the queue is that of a pass's own last step: at one seat stand a hand with this number and how often it was the front, and the task of that number isn't in the queue.
+-- In the last of these moments of the queue one seat has a hand with this number and this count of how often it was the front, and the task of that number isn't in the queue.
 pub record IsOutOfQueue (task : Option ℕ) (fronts : ℕ) (past : List Moment) : Type 0 where
   pub now : Moment
   pub rest : List Moment

@@ -40,7 +40,7 @@ module _ {Call : Type 0} (o : Obj Call) (unavailable : Unavailable) where
     pub place : slice_get log r.k ≡ Some e
     pub reply : IsReplyAt plan log call r
 
-  -- a reading call that held the lock
+  -- a reading call that replies neither busy nor interrupted
   pub record IsRead (plan : Plan) (log : List Entry) (w : CallWords) (r : Rec) : Type 0 where
     pub call : Call
     pub is : o.call_of w ≡ Some call
