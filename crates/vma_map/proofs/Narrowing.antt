@@ -49,5 +49,5 @@ pub number-first : (areas : List Area) (words : List ℕ) → words_of_areas are
 number-first areas words same = ap (λ ws. slice_index ws 0) same
 
 -- where the two numbers have met, the areas are parted there
-pub parted-there : (s : Search) (areas : List Area) (words : List ℕ) → s.high ≤ s.low → IsNarrowed s areas words → ArePartedAt areas s.page s.low s.low
-parted-there s areas words over r = let order = s.order in (r.parted.0, subst (λ (n : ℕ). AllByRecursion (λ (a : Area). s.page < a.start) (drop n areas)) (let e : s.high ≡ s.low = omega (arith, order, over) in e) r.parted.1)
+pub parted-there : (s : Search) (areas : List Area) (words : List ℕ) → s.begun.high ≤ s.begun.low → IsNarrowed s areas words → ArePartedAt areas s.page s.begun.low s.begun.low
+parted-there s areas words over r = let order = s.begun.order in (r.parted.0, subst (λ (n : ℕ). AllByRecursion (λ (a : Area). s.page < a.start) (drop n areas)) (let e : s.begun.high ≡ s.begun.low = omega (arith, order, over) in e) r.parted.1)

@@ -4,4 +4,5 @@ pub mod AreaLaws
 pub mod RunLaws
 pub mod CallLaws
 pub mod SpaceLaws
+pub mod Bisections
 pub mod Searches

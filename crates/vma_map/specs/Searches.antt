@@ -16,21 +16,18 @@ page_of s = s.page
 abbrev pub asked : Search → ℕ
 asked s = s.asked
 
-abbrev pub middle_of : Search → ℕ
-middle_of s = s.low + (s.high - s.low) / 2
-
 -- the place of the word that it wants: first how many areas there are, then the area in the middle of those that are left
 abbrev pub wanted_at : (asked low high : ℕ) → Option ℕ
 wanted_at asked low high = if asked == 0 then Some 0 else if nat_lt low high then Some (low + (high - low) / 2 + 1) else None
 
 abbrev pub wanted : Search → Option ℕ
-wanted s = wanted_at s.asked s.low s.high
+wanted s = wanted_at s.asked s.begun.low s.begun.high
 
 -- the areas that begin at the page or before it are between two numbers, and the last of the lesser number has the word
 pub record IsNarrowed (s : Search) (areas : List Area) (words : List ℕ) : Type 0 where
-  pub parted : ArePartedAt areas s.page s.low s.high
-  pub within : s.high ≤ length areas
-  pub last : s.low ≢ 0 → s.last ≡ slice_index words s.low
+  pub parted : ArePartedAt areas s.page s.begun.low s.begun.high
+  pub within : s.begun.high ≤ length areas
+  pub last : s.begun.low ≢ 0 → s.last ≡ slice_index words s.begun.low
 
 -- these words have all that it was given
 abbrev pub AgreesWith : List ℕ → Search → Type 0

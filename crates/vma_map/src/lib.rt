@@ -2,6 +2,7 @@
 #![tactic(auto)]
 
 mod areas;
+mod bisection;
 mod call;
 mod calls;
 mod query;

@@ -5,6 +5,7 @@ ghost use Rattle.vma_map.specs.Runs.{page_map};
 ghost use Rattle.vma_map.specs.Spaces.{is_free, is_mapped, lowest_free};
 
 use crate::PAGES;
+use crate::bisection::Bisection;
 use crate::store::AreaStore;
 
 /// How many areas end before a page.
@@ -19,17 +20,15 @@ pub(crate) fn count_ended<S: AreaStore>(place: &S::Place, hand: &mut S::Hand, pa
     ensures others { AllByRecursion (λ area. page ≤ area.end)
         (drop result (S.areas place.now hand.old)) }
 {
-    let mut low = 0;
-    let mut high = S::len(place, hand);
-    while low < high {
-        let middle = low + (high - low) / 2;
+    let mut ended = Bisection::new(S::len(place, hand));
+    while let Some(middle) = ended.middle() {
         if S::get(place, hand, middle).end < page {
-            low = middle + 1;
+            ended.passes();
         } else {
-            high = middle;
+            ended.fails();
         }
     }
-    low
+    ended.least()
 }
 
 /// How many areas begin at a page or before it.
@@ -44,17 +43,15 @@ pub(crate) fn count_begun<S: AreaStore>(place: &S::Place, hand: &mut S::Hand, pa
     ensures others { AllByRecursion (λ area. page < area.start)
         (drop result (S.areas place.now hand.old)) }
 {
-    let mut low = 0;
-    let mut high = S::len(place, hand);
-    while low < high {
-        let middle = low + (high - low) / 2;
+    let mut begun = Bisection::new(S::len(place, hand));
+    while let Some(middle) = begun.middle() {
         if S::get(place, hand, middle).start <= page {
-            low = middle + 1;
+            begun.passes();
         } else {
-            high = middle;
+            begun.fails();
         }
     }
-    low
+    begun.least()
 }
 
 /// The protection of a page, where it is mapped.

@@ -1,7 +1,8 @@
 //! A search for the area of a page, in words that it asks for one at a time.
-ghost use Rattle.std.specs.Prelude.{◌-◌, ◌^◌, ◌<◌, ◌≤◌};
+ghost use Rattle.std.specs.Prelude.{◌≡◌, ◌-◌, ◌^◌, ◌<◌, ◌≤◌};
 
 use crate::MAX_AREAS;
+use crate::bisection::Bisection;
 use word_bits::Area;
 
 /// A search by halves for the area that has a page, in the words that store an address space. Who
@@ -10,22 +11,20 @@ use word_bits::Area;
 pub struct Search {
     page: u32,
     asked: usize,
-    /// How many areas begin at the page or before it, at least and at most.
-    low: usize,
-    high: usize,
-    /// The word of the area at which the least number was found.
+    /// How many areas begin at the page or before it.
+    begun: Bisection,
+    /// The word of the last area that is known to do so.
     last: u64,
     ghost few: { asked ≤ 10 },
-    ghost order: { low ≤ high },
-    ghost within: { high ≤ 256 },
-    ghost narrow: { high - low < 2 ^ (10 - asked) },
+    ghost within: { begun.high ≤ 256 },
+    ghost narrow: { begun.high - begun.low < 2 ^ (10 - asked) },
 }
 
 impl Search {
     ghost use Rattle.std.specs.Prelude.{◌≡◌, ◌≢◌, ◌+◌, ◌<◌, ◌≤◌, List, None, Some, IsSome, IfSome, slice_index, ℕ};
     ghost use Rattle.word_bits.specs.PageMaps.{PageMap, IsPageMap, runs};
     ghost use Rattle.vma_map.specs.Spaces.{IsRunAt, stores};
-    ghost use Rattle.vma_map.specs.Searches.{AgreesWith, asked, middle_of, page_of, wanted};
+    ghost use Rattle.vma_map.specs.Searches.{AgreesWith, asked, page_of, wanted};
 
     /// A search that was given nothing.
     pub fn new(page: u32) -> Search
@@ -37,8 +36,7 @@ impl Search {
         Search {
             page,
             asked: 0,
-            low: 0,
-            high: 0,
+            begun: Bisection::new(0),
             last: 0,
         }
     }
@@ -52,10 +50,10 @@ impl Search {
         if self.asked == 0 {
             return Some(0);
         }
-        if self.low < self.high {
-            return Some(self.middle() + 1);
+        match self.begun.middle() {
+            Some(middle) => Some(middle + 1),
+            None => None,
         }
-        None
     }
 
     /// Gives the word at the place that is wanted.
@@ -66,10 +64,15 @@ impl Search {
         ensures agrees { (words : List ℕ) → IfSome (wanted self.old) (λ at.
             slice_index words at ≡ word) → AgreesWith words self.old → AgreesWith words self.new }
     {
-        if self.asked == 0 {
-            *self = self.counted(word);
+        self.asked += 1;
+        // A start stands above all else in its word, so the words ascend as the areas do.
+        if self.asked == 1 {
+            self.begun = Bisection::new(number_in(word));
+        } else if word >> 24 <= u64::from(self.page) {
+            self.begun.passes();
+            self.last = word;
         } else {
-            *self = self.halved(word);
+            self.begun.fails();
         }
     }
 
@@ -87,7 +90,7 @@ impl Search {
         ensures found { (m : PageMap) → IsPageMap m → AgreesWith (stores m) self.now →
             IsRunAt (runs m) m (page_of self.now) result }
     {
-        if self.low == 0 {
+        if self.begun.least() == 0 {
             return None;
         }
         let area = Area::unpack(self.last)?;
@@ -97,56 +100,16 @@ impl Search {
             None
         }
     }
+}
 
-    fn middle(&self) -> usize
-        ensures { result ≡ middle_of self.now }
-    {
-        self.low + (self.high - self.low) / 2
-    }
-
-    /// The search once it knows how many areas there are. More than a space has are none.
-    fn counted(&self, count: u64) -> Search
-        requires first { asked self.now ≡ 0 }
-        ensures page { page_of result ≡ page_of self.now }
-        ensures more { asked result ≡ 1 }
-        ensures agrees { (words : List ℕ) → slice_index words 0 ≡ count → AgreesWith words result }
-    {
-        let few = count <= MAX_AREAS as u64;
-        Search {
-            page: self.page,
-            asked: 1,
-            low: 0,
-            high: if few { count as usize } else { 0 },
-            last: 0,
-        }
-    }
-
-    /// The search once it knows the word of the area in the middle.
-    fn halved(&self, word: u64) -> Search
-        requires later { asked self.now ≢ 0 }
-        requires wants { IsSome (wanted self.now) }
-        ensures page { page_of result ≡ page_of self.now }
-        ensures more { asked result ≡ asked self.now + 1 }
-        ensures agrees { (words : List ℕ) → slice_index words (middle_of self.now + 1) ≡ word →
-            AgreesWith words self.now → AgreesWith words result }
-    {
-        let middle = self.middle();
-        // A start stands above all else in its word, so the words ascend as the areas do.
-        if word >> 24 <= u64::from(self.page) {
-            return Search {
-                page: self.page,
-                asked: self.asked + 1,
-                low: middle + 1,
-                high: self.high,
-                last: word,
-            };
-        }
-        Search {
-            page: self.page,
-            asked: self.asked + 1,
-            low: self.low,
-            high: middle,
-            last: self.last,
-        }
+/// How many areas a space's first word counts. More than a space has are none.
+fn number_in(word: u64) -> usize
+    ensures few { result ≤ 256 }
+    ensures number { word ≤ 256 → result ≡ word }
+{
+    if word <= MAX_AREAS as u64 {
+        word as usize
+    } else {
+        0
     }
 }
