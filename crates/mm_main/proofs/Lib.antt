@@ -1,3 +1,4 @@
 pub mod CommandLines
 pub mod Inputs
 pub mod Services
+pub mod Unnamed

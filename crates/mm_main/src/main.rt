@@ -6,7 +6,8 @@ ghost use Rattle.std.specs.Prelude.{◌≡◌, ◌≤◌, ◌+◌, IfOk, None, d
 ghost use Rattle.std.specs.Io.KnownBytes.{IsAtEnd};
 ghost use Rattle.std.specs.Process.{exit_status};
 ghost use Rattle.std.specs.Vec.Iter.{into_iter_items};
-ghost use Rattle.mm_main.specs.Answers.{AnswersTo, CompletesTo, TakesAtMost, status_number};
+ghost use Rattle.mm_main.specs.Answers.{AnswersLegally, AnswersTo, CompletesLegally, CompletesTo};
+ghost use Rattle.mm_main.specs.Answers.{TakesAtMost, status_number};
 ghost use Rattle.mm_main.specs.Answers.{read_faults, write_faults};
 ghost use Rattle.mm_main.specs.CommandLine.{asks_help, line_asks_help, said_by, said_by_line};
 ghost use Rattle.mm_main.specs.Kept.{HasServed};
@@ -154,7 +155,8 @@ fn exit_code(status: Status) -> ExitCode
     ExitCode::from(status.number())
 }
 
-/// The program as `run`, whose machine nobody keeps.
+/// The program as `run`, whose machine nobody keeps. So of the machine it says no more than that what
+/// was told are legal histories.
 fn run_to_end<
     A: SpaceLock + Drop + Sync,
     T: TableLock + Drop + Sync,
@@ -171,6 +173,10 @@ fn run_to_end<
 where
     A::Pass: Send,
     T::Pass: Send,
+    ensures answer { AnswersLegally S.left S.faults K.faults K.written source.old source.new
+        sink.old sink.new (request (line_asks_help line) (said_by_line line)) result.0 }
+    ensures complete { CompletesLegally S.left S.faults K.faults K.written source.old source.new
+        sink.old sink.new (said_by_line line) result.0 }
     ensures read_faults { S.faults source.new ≡ read_faults result.0 (S.faults source.old) }
     ensures write_faults { K.faults sink.new ≡ write_faults result.0 (K.faults sink.old) }
     ensures taken { TakesAtMost 1048577 (S.left source.old) (S.left source.new) }
