@@ -1,4 +1,4 @@
-/* Times pairs on the locks of the C library, as lock_bench does on the project's own.
+/* Times rounds on the locks of the C library, as lock_bench does on the project's own.
    The words are CASE THREADS ROUNDS, with the case spin, mutex, work, read, write, mixed or exchange. */
 #define _GNU_SOURCE
 #include <pthread.h>
@@ -130,6 +130,6 @@ int main(int count, char **words) {
     }
     clock_gettime(CLOCK_MONOTONIC, &end);
     double spent = (end.tv_sec - start.tv_sec) * 1e9 + (end.tv_nsec - start.tv_nsec);
-    printf("pthread %s %d %ld: %.0f ns a pair\n", words[1], threads, rounds, spent / (threads * (double)rounds));
+    printf("pthread %s %d %ld: %.0f ns a round, %.0f ns on its thread\n", words[1], threads, rounds, spent / (threads * (double)rounds), spent / rounds);
     return 0;
 }

@@ -1,1 +1,4 @@
 mod Beginning
+mod Planned
+mod PercpuPassing
+mod FaultPassing

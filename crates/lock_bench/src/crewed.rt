@@ -1,4 +1,4 @@
-//! Pairs on the locks that tasks sleep on.
+//! Rounds on the locks that tasks sleep on.
 ghost use Rattle.std.specs.Prelude.{◌≡◌, ◌+◌};
 ghost use Rattle.lock_bench.specs.Between.{IsBetween};
 
@@ -12,7 +12,7 @@ use std::marker::PhantomData;
 use std::sync::Wait;
 
 /// How long a task spins before it sleeps, and waits before it is owed the lock.
-const TURNS: Turns = Turns {
+pub const TURNS: Turns = Turns {
     spin: 100,
     overdue: 100,
 };
@@ -105,18 +105,30 @@ pub struct Crewed<L: SleepLock<Nothing>, T> {
 }
 
 impl<L: SleepLock<Nothing> + Drop, T: Round> Timed for Crewed<L, T> {
-    ghost use Rattle.std.specs.Prelude.{◌≡◌, ◌+◌, length};
+    ghost use Rattle.std.specs.Prelude.{◌≡◌, ◌+◌, ◌<◌, length};
     ghost use Rattle.lock_bench.specs.Between.{IsIdle, takes_in};
+    ghost use Rattle.lock_bench.specs.Rooms.{unbounded};
 
     type Worker = Worker<L::Pass>;
 
+    const ROOM: u32 = u32::MAX;
+
+    ghost ROOM = { 4294967295 };
+
     ghost idle = { λ crewed worker. IsIdle (L.sits crewed.lock worker.pass) (L.view worker.pass) };
 
-    ghost took = { λ n v u. takes_in (L.view u.pass) ≡ takes_in (L.view v.pass) + n };
+    ghost made = { λ n v u. takes_in (L.view u.pass) ≡ takes_in (L.view v.pass) + n };
 
-    ghost tasks = { λ crewed. length (L.calls_on crewed.lock) };
+    ghost serves = { λ crewed task _. task < length (L.calls_on crewed.lock) };
 
-    fn start(alloc: Global, threads: u32) -> Result<(Crewed<L, T>, Worker<L::Pass>), AllocError> {
+    ghost enough = { unbounded };
+
+    fn start<W: Wait>(
+        _rt: &W,
+        alloc: Global,
+        threads: u32,
+        _count: u32,
+    ) -> Result<(Crewed<L, T>, Worker<L::Pass>), AllocError> {
         let plan = without_calls(alloc, threads)?;
         let (lock, pass) = L::open(alloc, plan)?;
         let mut crew = ParkCrew::new(alloc, threads)?;

@@ -4,11 +4,10 @@ use std::alloc::{AllocError, Global};
 use std::sync::Wait;
 use std::sync::atomic::{AtomicU64, Ordering};
 
-/// A word, and how many threads exchange it.
+/// A word that threads exchange.
 #[derive(Drop)]
 pub struct Exchanges {
     word: AtomicU64,
-    threads: u32,
 }
 
 /// What exchanges it: a thread needs nothing of its own.
@@ -16,19 +15,30 @@ pub struct Exchanges {
 pub struct Exchanger;
 
 impl Timed for Exchanges {
-    ghost use Rattle.std.specs.Prelude.{ℕ};
+    ghost use Rattle.lock_bench.specs.Rooms.{unbounded};
 
     type Worker = Exchanger;
 
+    const ROOM: u32 = u32::MAX;
+
+    ghost ROOM = { 4294967295 };
+
     ghost idle = { λ _ _. Unit {0} };
 
-    ghost took = { λ _ _ _. Unit {0} };
+    ghost made = { λ _ _ _. Unit {0} };
 
-    ghost tasks = { λ e. e.threads };
+    ghost serves = { λ _ _ _. Unit {0} };
 
-    fn start(_alloc: Global, threads: u32) -> Result<(Exchanges, Exchanger), AllocError> {
+    ghost enough = { unbounded };
+
+    fn start<W: Wait>(
+        _rt: &W,
+        _alloc: Global,
+        _threads: u32,
+        _count: u32,
+    ) -> Result<(Exchanges, Exchanger), AllocError> {
         let word = AtomicU64::new(0);
-        Ok((Exchanges { word, threads }, Exchanger))
+        Ok((Exchanges { word }, Exchanger))
     }
 
     fn another(

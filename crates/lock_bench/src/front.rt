@@ -1,7 +1,8 @@
-//! Pairs on the front of the optimistic spin queue.
-ghost use Rattle.std.specs.Prelude.{◌≡◌, ◌+◌};
+//! Rounds on the front of the optimistic spin queue.
+ghost use Rattle.std.specs.Prelude.{◌≡◌, ◌+◌, ◌<◌};
 ghost use Rattle.osq_nodes.specs.Handles.{fronts_in, tasks_of};
 ghost use Rattle.lock_bench.specs.Idles.{IsIdle};
+ghost use Rattle.lock_bench.specs.Rooms.{unbounded};
 
 use crate::timed::Timed;
 use osq_nodes::{Osq, OsqPass};
@@ -11,13 +12,24 @@ use std::sync::Wait;
 impl Timed for Osq {
     type Worker = OsqPass;
 
+    const ROOM: u32 = u32::MAX;
+
+    ghost ROOM = { 4294967295 };
+
     ghost idle = { IsIdle };
 
-    ghost took = { λ n v u. fronts_in u ≡ fronts_in v + n };
+    ghost made = { λ n v u. fronts_in u ≡ fronts_in v + n };
 
-    ghost tasks = { tasks_of };
+    ghost serves = { λ osq task _. task < tasks_of osq };
 
-    fn start(alloc: Global, threads: u32) -> Result<(Osq, OsqPass), AllocError> {
+    ghost enough = { unbounded };
+
+    fn start<W: Wait>(
+        _rt: &W,
+        alloc: Global,
+        threads: u32,
+        _count: u32,
+    ) -> Result<(Osq, OsqPass), AllocError> {
         Osq::open(alloc, threads)
     }
 

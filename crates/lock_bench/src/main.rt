@@ -1,13 +1,16 @@
-//! Times locks: pairs of taking and releasing, on threads. The words are CASE THREADS ROUNDS.
-//! Without words each case runs a little and nothing is timed.
+//! Times locks: rounds of taking and releasing, and faults with and without the lock, on threads.
+//! The words are CASE THREADS ROUNDS. Without words each case runs a little, and no time is told.
 #![tactic(auto)]
 
-ghost use Rattle.std.specs.Prelude.{◌≤◌};
+ghost use Rattle.std.specs.Prelude.{◌<◌};
 
 mod crewed;
 mod exchange;
 mod front;
+mod locked_faults;
+mod percpu;
 mod plan;
+mod seq_faults;
 mod spin;
 mod timed;
 mod work;
@@ -16,17 +19,22 @@ use crewed::{Crewed, Mixed, Read, Write};
 use exchange::Exchanges;
 use guarded::{Mutex, RwSem};
 use lock_core::{Bare, Nothing, Site};
+use locked_faults::LockedFaults;
 use osq_nodes::Osq;
-use std::alloc::{AllocError, Global};
+use percpu::PercpuReaders;
+use seq_fault::SeqSpace;
+use std::alloc::Global;
 use std::process::ExitCode;
 use std::sync::Wait;
 use std::thread::Threads;
-use std::time::Instant;
+use std::time::{Clock, Duration};
 use std::{env, io};
+use timed::rounds;
+use vma_map::Areas;
 use word_bits::MAX_TASKS;
 use work::Guarding;
 
-/// A lock that is taken and released.
+/// What is done in a round.
 #[derive(Clone, Copy, Debug, PartialEq, Eq)]
 enum Case {
     /// The queued spin lock.
@@ -43,12 +51,18 @@ enum Case {
     Write,
     /// The semaphore, held by a writer in one round of ten.
     Mixed,
+    /// The per-CPU semaphore, held by readers.
+    Percpu,
+    /// A fault on an address space under its semaphore.
+    Fault,
+    /// The same fault without the lock.
+    SeqFault,
     /// No lock: two exchanges of a word, to compare with.
     Exchange,
 }
 
 /// All cases.
-const CASES: [Case; 8] = [
+const CASES: [Case; 11] = [
     Case::Spin,
     Case::Front,
     Case::Mutex,
@@ -56,6 +70,9 @@ const CASES: [Case; 8] = [
     Case::Read,
     Case::Write,
     Case::Mixed,
+    Case::Percpu,
+    Case::Fault,
+    Case::SeqFault,
     Case::Exchange,
 ];
 
@@ -70,6 +87,9 @@ impl Case {
             Case::Read => "read",
             Case::Write => "write",
             Case::Mixed => "mixed",
+            Case::Percpu => "percpu",
+            Case::Fault => "fault",
+            Case::SeqFault => "seq_fault",
             Case::Exchange => "exchange",
         }
     }
@@ -84,31 +104,37 @@ impl Case {
             "read" => Some(Case::Read),
             "write" => Some(Case::Write),
             "mixed" => Some(Case::Mixed),
+            "percpu" => Some(Case::Percpu),
+            "fault" => Some(Case::Fault),
+            "seq_fault" => Some(Case::SeqFault),
             "exchange" => Some(Case::Exchange),
             _ => None,
         }
     }
 }
 
-/// Each of so many threads takes the lock and releases it, as often as `rounds` says.
-fn pairs<R: Threads + Wait + Sync>(
+/// Each of so many threads makes so many rounds. How long the threads took.
+fn measure<R: Threads + Wait + Sync + Clock>(
     rt: &R,
     alloc: Global,
     case: Case,
     threads: u32,
-    rounds: u32,
-) -> Result<(), AllocError>
-    requires { threads ≤ MAX_TASKS }
+    count: u32,
+) -> io::Result<Duration>
+    requires { threads < MAX_TASKS }
 {
     match case {
-        Case::Spin => timed::pairs::<Site<Bare>, R>(rt, alloc, threads, rounds),
-        Case::Front => timed::pairs::<Osq, R>(rt, alloc, threads, rounds),
-        Case::Mutex => timed::pairs::<Crewed<Mutex<Nothing>, Write>, R>(rt, alloc, threads, rounds),
-        Case::Work => timed::pairs::<Guarding<Mutex<Nothing>>, R>(rt, alloc, threads, rounds),
-        Case::Read => timed::pairs::<Crewed<RwSem<Nothing>, Read>, R>(rt, alloc, threads, rounds),
-        Case::Write => timed::pairs::<Crewed<RwSem<Nothing>, Write>, R>(rt, alloc, threads, rounds),
-        Case::Mixed => timed::pairs::<Crewed<RwSem<Nothing>, Mixed>, R>(rt, alloc, threads, rounds),
-        Case::Exchange => timed::pairs::<Exchanges, R>(rt, alloc, threads, rounds),
+        Case::Spin => rounds::<Site<Bare>, R>(rt, alloc, threads, count),
+        Case::Front => rounds::<Osq, R>(rt, alloc, threads, count),
+        Case::Mutex => rounds::<Crewed<Mutex<Nothing>, Write>, R>(rt, alloc, threads, count),
+        Case::Work => rounds::<Guarding<Mutex<Nothing>>, R>(rt, alloc, threads, count),
+        Case::Read => rounds::<Crewed<RwSem<Nothing>, Read>, R>(rt, alloc, threads, count),
+        Case::Write => rounds::<Crewed<RwSem<Nothing>, Write>, R>(rt, alloc, threads, count),
+        Case::Mixed => rounds::<Crewed<RwSem<Nothing>, Mixed>, R>(rt, alloc, threads, count),
+        Case::Percpu => rounds::<PercpuReaders, R>(rt, alloc, threads, count),
+        Case::Fault => rounds::<LockedFaults<RwSem<Areas>>, R>(rt, alloc, threads, count),
+        Case::SeqFault => rounds::<SeqSpace, R>(rt, alloc, threads, count),
+        Case::Exchange => rounds::<Exchanges, R>(rt, alloc, threads, count),
     }
 }
 
@@ -123,36 +149,36 @@ fn asked(words: &[String]) -> Option<(Case, u32, u32)> {
 }
 
 /// What main does, over the runtime twice: as what prints, and as what starts threads.
-fn run<R: Threads + Wait + Sync>(rt: &HostRuntime, crew: &R) -> io::Result<ExitCode> {
+fn run<R: Threads + Wait + Sync + Clock>(rt: &HostRuntime, crew: &R) -> io::Result<ExitCode> {
     let mut words = Vec::new(rt.alloc());
     for word in env::args(rt)?.skip(1) {
         words.push(word)?;
     }
     if words.is_empty() {
         for case in CASES {
-            pairs(crew, rt.alloc(), case, 2, 100)?;
+            measure(crew, rt.alloc(), case, 2, 100)?;
             println!(rt; "{} 2 100", case.name())?;
         }
         return Ok(ExitCode::SUCCESS);
     }
     let Some((case, threads, rounds)) = asked(words.as_slice()) else {
         println!(rt;
-            "usage: lock_bench [spin|front|mutex|work|read|write|mixed|exchange THREADS ROUNDS]"
+            "usage: lock_bench [CASE THREADS ROUNDS], the case one of spin, front, mutex, work, read, \
+             write, mixed, percpu, fault, seq_fault, exchange"
         )?;
         return Ok(ExitCode::from(2));
     };
-    if threads > MAX_TASKS {
-        println!(rt; "at most {MAX_TASKS} threads")?;
+    if threads >= MAX_TASKS {
+        println!(rt; "fewer than {MAX_TASKS} threads")?;
         return Ok(ExitCode::from(2));
     }
-    let start = Instant::now(rt)?;
-    pairs(crew, rt.alloc(), case, threads, rounds)?;
-    let spent = start.elapsed(rt)?.as_nanos();
+    let spent = measure(crew, rt.alloc(), case, threads, rounds)?.as_nanos();
     let made = u128::from(threads) * u128::from(rounds);
     println!(rt;
-        "{} {threads} {rounds}: {} ns a pair",
+        "{} {threads} {rounds}: {} ns a round, {} ns on its thread",
         case.name(),
-        spent / made.max(1)
+        spent / made.max(1),
+        spent / u128::from(rounds.max(1))
     )?;
     Ok(ExitCode::SUCCESS)
 }

@@ -1,7 +1,8 @@
-//! Pairs on the queued spin lock.
-ghost use Rattle.std.specs.Prelude.{◌≡◌, ◌+◌, length};
+//! Rounds on the queued spin lock.
+ghost use Rattle.std.specs.Prelude.{◌≡◌, ◌+◌, ◌<◌, length};
 ghost use Rattle.lock_core.specs.Handles.{plan_of, view_of};
 ghost use Rattle.qspin_queue.specs.Handles.{IsIdle};
+ghost use Rattle.lock_bench.specs.Rooms.{unbounded};
 
 use crate::plan::without_calls;
 use crate::timed::Timed;
@@ -14,13 +15,24 @@ use std::sync::Wait;
 impl Timed for Site<Bare> {
     type Worker = Pass<Bare>;
 
+    const ROOM: u32 = u32::MAX;
+
+    ghost ROOM = { 4294967295 };
+
     ghost idle = { IsIdle };
 
-    ghost took = { λ n v u. (view_of u).spin.entries ≡ (view_of v).spin.entries + n };
+    ghost made = { λ n v u. (view_of u).spin.entries ≡ (view_of v).spin.entries + n };
 
-    ghost tasks = { λ site. length (plan_of site) };
+    ghost serves = { λ site task _. task < length (plan_of site) };
 
-    fn start(alloc: Global, threads: u32) -> Result<(Site<Bare>, Pass<Bare>), AllocError> {
+    ghost enough = { unbounded };
+
+    fn start<W: Wait>(
+        _rt: &W,
+        alloc: Global,
+        threads: u32,
+        _count: u32,
+    ) -> Result<(Site<Bare>, Pass<Bare>), AllocError> {
         let plan = without_calls(alloc, threads)?;
         Site::<Bare>::open(alloc, plan)
     }

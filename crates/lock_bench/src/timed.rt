@@ -1,30 +1,45 @@
-//! Pairs of taking and releasing any of the locks, on threads.
-ghost use Rattle.std.specs.Prelude.{◌≡◌, ◌<◌, ◌≤◌, ℕ, length, All, IfOk};
+//! Rounds on any of the locks, on threads.
+ghost use Rattle.std.specs.Prelude.{◌≡◌, ◌<◌, ◌≤◌, ◌*◌, ℕ, length, All, IfOk};
 
 use std::alloc::{AllocError, Global};
+use std::io;
 use std::sync::Wait;
 use std::thread::{Threads, for_each_mut};
+use std::time::{Clock, Duration, Instant};
 use word_bits::MAX_TASKS;
 
-/// A lock whose pairs are timed, with what its threads share beside it.
+/// A lock whose rounds are timed, with what its threads share beside it. A round takes the lock
+/// once and releases it, or is one call on what the lock guards.
 pub trait Timed: Sized {
-    /// What one thread makes its calls with.
+    /// What one thread makes its rounds with.
     type Worker: Drop;
+
+    /// How many rounds all threads together can make on one lock.
+    const ROOM: u32;
+
+    ghost ROOM: { ℕ };
 
     // The worker is one of the lock's, and is in no call.
     ghost idle: { Self → Self.Worker → Type 0 };
 
-    // The worker, first and last, has taken the lock so often between.
-    ghost took: { ℕ → Self.Worker → Self.Worker → Type 0 };
+    // The worker, first and last, has made so many rounds between.
+    ghost made: { ℕ → Self.Worker → Self.Worker → Type 0 };
 
-    // For how many tasks the lock is.
-    ghost tasks: { Self → ℕ };
+    // In the name of this task so many rounds can be made.
+    ghost serves: { Self → (task count : ℕ) → Type 0 };
 
-    /// A new lock for so many threads, and its first worker.
-    fn start(alloc: Global, threads: u32) -> Result<(Self, Self::Worker), AllocError>
-        requires { threads ≤ MAX_TASKS }
+    /// A new lock, on which each of so many threads is to make so many rounds, and its first
+    /// worker.
+    fn start<W: Wait>(
+        rt: &W,
+        alloc: Global,
+        threads: u32,
+        count: u32,
+    ) -> Result<(Self, Self::Worker), AllocError>
+        requires threads { threads < MAX_TASKS }
+        requires room { threads * count ≤ ROOM }
         ensures idle { IfOk result (λ t. idle t.0 t.1) }
-        ensures tasks { IfOk result (λ t. tasks t.0 ≡ threads) };
+        ensures serves { IfOk result (λ t. (task : ℕ) → task < threads → serves t.0 task count) };
 
     /// A worker for the thread of a task, split off the first.
     fn another(
@@ -37,17 +52,20 @@ pub trait Timed: Sized {
         ensures first { idle self.new first.new }
         ensures other { IfOk result (λ worker. idle self.new worker) }
         ensures others { (w : Self.Worker) → idle self.old w → idle self.new w }
-        ensures tasks { tasks self.new ≡ tasks self.old };
+        ensures serves { (task count : ℕ) → serves self.old task count → serves self.new task count };
 
-    /// Takes the lock and releases it so often, in the name of a task.
+    /// Makes so many rounds, in the name of a task.
     fn rounds<W: Wait>(&self, rt: &W, worker: &mut Self::Worker, task: u32, count: u32)
         requires idle { idle self.now worker.old }
-        requires there { task < tasks self.now }
+        requires serves { serves self.now task count }
         ensures idle { idle self.now worker.new }
-        ensures took { took count worker.old worker.new };
+        ensures made { made count worker.old worker.new };
+
+    // A law: as many threads as there can be have room for a round each.
+    ghost enough: { 64 ≤ ROOM };
 }
 
-/// Each worker does so on a thread of its own, in the name of the task of its place.
+/// Each worker makes so many rounds on a thread of its own, in the name of the task of its place.
 fn on_threads<R: Threads + Wait + Sync, L: Timed + Sync>(
     rt: &R,
     lock: &L,
@@ -57,7 +75,7 @@ fn on_threads<R: Threads + Wait + Sync, L: Timed + Sync>(
 where
     L::Worker: Send,
     requires idle { All (L.idle lock.now) workers.old }
-    requires there { length workers.old ≤ L.tasks lock.now }
+    requires serves { (task : ℕ) → task < length workers.old → L.serves lock.now task count }
     requires few { length workers.old ≤ MAX_TASKS }
 {
     let threads = workers.len().max(1);
@@ -67,28 +85,54 @@ where
         threads,
         &|task, worker: &mut L::Worker|
             requires idle { L.idle lock.now worker.old }
-            requires there { task < L.tasks lock.now }
+            requires serves { L.serves lock.now task count }
             requires few { task < MAX_TASKS }
         { lock.rounds(rt, worker, task as u32, count) },
     );
 }
 
-/// Each of so many threads takes the lock and releases it, as often as `count` says.
-pub fn pairs<L: Timed + Sync + Drop, R: Threads + Wait + Sync>(
+/// Each of so many threads makes so many rounds on one new lock. How long the threads took.
+fn on_one_lock<L: Timed + Sync + Drop, R: Threads + Wait + Sync + Clock>(
     rt: &R,
     alloc: Global,
     threads: u32,
     count: u32,
-) -> Result<(), AllocError>
+) -> io::Result<Duration>
 where
     L::Worker: Send,
-    requires { threads ≤ MAX_TASKS }
+    requires threads { threads < MAX_TASKS }
+    requires room { threads * count ≤ L.ROOM }
 {
-    let (mut lock, mut first) = L::start(alloc, threads)?;
+    let (mut lock, mut first) = L::start(rt, alloc, threads, count)?;
     let mut workers = Vec::new(alloc);
     for task in 0..threads {
         workers.push(lock.another(alloc, &mut first, task)?)?;
     }
+    let start = Instant::now(rt)?;
     on_threads(rt, &lock, workers.as_mut_slice(), count);
-    Ok(())
+    start.elapsed(rt)
+}
+
+/// Each of so many threads makes so many rounds: on one new lock, and on more of them, one after
+/// the other, where one hasn't room for so many. How long the threads took.
+pub fn rounds<L: Timed + Sync + Drop, R: Threads + Wait + Sync + Clock>(
+    rt: &R,
+    alloc: Global,
+    threads: u32,
+    count: u32,
+) -> io::Result<Duration>
+where
+    L::Worker: Send,
+    requires { threads < MAX_TASKS }
+{
+    let most = L::ROOM / threads.max(1);
+    let mut left = count;
+    let mut spent = Duration::ZERO;
+    while left > 0 {
+        let here = left.min(most);
+        let more = on_one_lock::<L, R>(rt, alloc, threads, here)?;
+        spent = spent.saturating_add(more);
+        left -= here;
+    }
+    Ok(spent)
 }

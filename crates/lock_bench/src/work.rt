@@ -1,4 +1,4 @@
-//! Pairs on a lock with work inside and outside.
+//! Rounds on a lock with work inside and outside.
 use crate::crewed::{Crewed, Worker, Write};
 use crate::timed::Timed;
 use guarded::SleepLock;
@@ -7,7 +7,7 @@ use std::alloc::{AllocError, Global};
 use std::sync::Wait;
 use std::sync::atomic::{AtomicU64, Ordering};
 
-/// How many steps a thread makes between two pairs, each of which needs the result of the one
+/// How many steps a thread makes between two rounds, each of which needs the result of the one
 /// before.
 const STEPS: u32 = 20;
 
@@ -39,20 +39,32 @@ fn stepped(mut number: u64) -> u64 {
 }
 
 impl<L: SleepLock<Nothing> + Drop> Timed for Guarding<L> {
-    ghost use Rattle.std.specs.Prelude.{◌≡◌, ◌+◌, length};
+    ghost use Rattle.std.specs.Prelude.{◌≡◌, ◌+◌, ◌<◌, length};
     ghost use Rattle.lock_bench.specs.Between.{IsIdle, takes_in};
+    ghost use Rattle.lock_bench.specs.Rooms.{unbounded};
 
     type Worker = Worker<L::Pass>;
+
+    const ROOM: u32 = u32::MAX;
+
+    ghost ROOM = { 4294967295 };
 
     ghost idle = { λ guarding worker.
         IsIdle (L.sits guarding.crewed.lock worker.pass) (L.view worker.pass) };
 
-    ghost took = { λ n v u. takes_in (L.view u.pass) ≡ takes_in (L.view v.pass) + n };
+    ghost made = { λ n v u. takes_in (L.view u.pass) ≡ takes_in (L.view v.pass) + n };
 
-    ghost tasks = { λ guarding. length (L.calls_on guarding.crewed.lock) };
+    ghost serves = { λ guarding task _. task < length (L.calls_on guarding.crewed.lock) };
 
-    fn start(alloc: Global, threads: u32) -> Result<(Guarding<L>, Worker<L::Pass>), AllocError> {
-        let (crewed, worker) = Crewed::<L, Write>::start(alloc, threads)?;
+    ghost enough = { unbounded };
+
+    fn start<W: Wait>(
+        rt: &W,
+        alloc: Global,
+        threads: u32,
+        count: u32,
+    ) -> Result<(Guarding<L>, Worker<L::Pass>), AllocError> {
+        let (crewed, worker) = Crewed::<L, Write>::start(rt, alloc, threads, count)?;
         let words = [
             AtomicU64::new(0),
             AtomicU64::new(0),

@@ -1,0 +1,12 @@
+use Rattle.std.proofs.Common.{◌≡◌, ◌≤◌, Some}
+use Rattle.lock_bench.specs.Between.{IsBetween}
+use Rattle.lock_bench.proofs.locked_faults.LockedFaultsTimed.rounds.Given as goal
+
+abbrev pub invariant-loop-call : goal.invariant-loop-call
+invariant-loop-call g l = record {
+  own : g.L.SleepLock.sits l.self.space.lock l.worker.pass;
+  between : IsBetween (g.L.SleepLock.view l.worker.pass);
+  task : (g.L.SleepLock.view l.worker.pass).hand.task ≡ Some l.task;
+  next : (g.L.SleepLock.view l.worker.pass).hand.done ≡ l.call;
+  within : l.call ≤ l.count;
+}
