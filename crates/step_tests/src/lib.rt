@@ -15,7 +15,13 @@ mod leave_tests;
 #[cfg(test)]
 mod owner_tests;
 #[cfg(test)]
+mod percpu_calls;
+#[cfg(test)]
+mod percpu_plans;
+#[cfg(test)]
 mod percpu_tests;
+#[cfg(test)]
+mod percpu_thread_tests;
 #[cfg(test)]
 mod queue_tests;
 #[cfg(test)]

@@ -1,8 +1,12 @@
 //! Rows of a per-CPU semaphore. The code of task t is t + 1.
+use crate::percpu_calls::{Job, let_go_alone, start, try_block, try_drain, write};
+use crate::percpu_plans::{map_pages, one_call};
 use cpu_task::{Crew, ScriptedCrew, Turns};
 use lock_core::{Held, Nothing, Plan};
 use percpu_rwsem::PercpuRwSem;
 use std::test::Fail;
+use vma_map::Areas;
+use word_bits::Reply;
 
 const NO_TURNS: Turns = Turns {
     spin: 0,
@@ -11,29 +15,42 @@ const NO_TURNS: Turns = Turns {
 
 #[test]
 fn a_writer_blocks_readers_and_waits_for_one_inside(rt: HostRuntime) -> Result<(), Fail> {
-    let plan = Plan::new(rt.alloc(), 3)?;
-    let (lock, mut zero) = PercpuRwSem::<Nothing>::open(rt.alloc(), plan)?;
+    let words = map_pages();
+    let plan = one_call(rt.alloc(), words)?;
+    let (lock, mut zero) = PercpuRwSem::<Areas>::open(rt.alloc(), plan)?;
     let mut one = lock.split(&mut zero);
     let mut two = lock.split(&mut zero);
-    lock.begin(&rt, &mut zero, 0);
-    lock.begin(&rt, &mut one, 1);
-    lock.begin(&rt, &mut two, 2);
+    start(&rt, &lock, &mut zero, 0);
+    start(&rt, &lock, &mut one, 1);
+    start(&rt, &lock, &mut two, 2);
+    let job = Job {
+        task: 1,
+        rounds: 1,
+        words,
+    };
     let crew = ScriptedCrew::new(rt.alloc(), Vec::new(rt.alloc()), Vec::new(rt.alloc()))?;
     assert_eq!(rt; lock.read_try(&mut zero), Ok(()));
-    assert_eq!(rt; lock.block(&mut one), Ok(()));
+    assert_eq!(rt; try_block(&lock, &mut one, job), Ok(()));
     assert_eq!(rt; (one.blocks(), one.held()), (true, Held::No));
-    assert_eq!(rt; lock.drain(&mut one), Err(0));
+    let Err(inside) = try_drain(&lock, &mut one, job) else {
+        return Err("it holds beside a reader".into());
+    };
+    assert_eq!(rt; inside, 0);
     assert_eq!(rt; lock.read_try(&mut two), Err(2));
     assert_eq!(rt; lock.block(&mut two), Err(2));
     assert_eq!(rt; (two.blocks(), two.held()), (false, Held::No));
     lock.up_read(&mut zero, &crew);
     assert_eq!(rt; zero.held(), Held::No);
-    assert_eq!(rt; lock.drain(&mut one), Ok(()));
+    let Ok(()) = try_drain(&lock, &mut one, job) else {
+        return Err("it waits for nobody".into());
+    };
     assert_eq!(rt; (one.blocks(), one.held()), (true, Held::Alone));
-    lock.unblock(&mut one, &crew);
+    assert_eq!(rt; write(&lock, &mut one, job), Some(Reply::Num(16)));
+    let_go_alone(&lock, &mut one, &crew, job);
     assert_eq!(rt; (one.blocks(), one.held()), (false, Held::No));
     assert_eq!(rt; lock.read_try(&mut two), Ok(()));
     assert_eq!(rt; two.held(), Held::Shared);
+    assert_eq!(rt; lock.word(&mut two, 0), 1);
     Ok(())
 }
 

@@ -1,0 +1,2 @@
+mod PercpuCalls
+mod PercpuPlans
