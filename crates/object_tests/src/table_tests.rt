@@ -1,4 +1,7 @@
 //! Calls whose replies and tables are known by hand. The replies of a whole script stand in examples/.
+ghost use Rattle.std.specs.Prelude.{◌≡◌};
+ghost use Rattle.fd_table.specs.Tables.{fd_map, stores};
+
 use fd_table::{Fds, TableCall};
 use std::process::Abort;
 use std::test::Fail;
@@ -8,7 +11,9 @@ const FULL: Reply = Reply::Refused(Errno::MFile);
 
 const NOT_OPEN: Reply = Reply::Refused(Errno::BadF);
 
-fn stored(fds: &Fds) -> [u64; 64] {
+fn stored(fds: &Fds) -> [u64; 64]
+    ensures { result ≡ stores (fd_map fds.now) }
+{
     let mut words = [0; 64];
     fds.store(&mut words);
     words
