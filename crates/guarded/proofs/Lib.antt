@@ -8,7 +8,6 @@ pub mod Once
 pub mod Legally
 pub mod Joining
 pub mod Padding
-pub mod Ascending
 pub mod Descriptors
 pub mod Spliced
 pub mod Written

@@ -4,7 +4,7 @@ ghost use Rattle.word_bits.specs.PageMaps.{PageMap, IsPageMap};
 ghost use Rattle.lock_core.specs.declared.view.Held.TheVariants.{No, Alone};
 ghost use Rattle.lock_core.specs.Shown.{PastGoesOn};
 ghost use Rattle.lock_core.specs.Locking.{Looks, IsStored};
-ghost use Rattle.vma_map.specs.Spaces.{IsAccess, AreSpaceWords, access_reply, stores};
+ghost use Rattle.vma_map.specs.Spaces.{IsAccess, access_reply, stores};
 ghost use Rattle.guarded.specs.States.{Confirms, reply_in, words_after};
 ghost use Rattle.guarded.specs.Performing.{HasStored};
 
@@ -93,7 +93,6 @@ impl Served for Fds {
 fn fault<L: SleepLock<Areas>>(lock: &L, pass: &mut L::Pass, page: u32, access: u8) -> Reply
     requires own { L.sits lock.now pass.old }
     requires held { (L.view pass.old).hand.held ≢ No }
-    requires space { AreSpaceWords (L.view pass.old).hand.known }
     requires access { IsAccess access }
     ensures own { L.sits lock.now pass.new }
     ensures goes_on { PastGoesOn (L.view pass.old) (L.view pass.new) }

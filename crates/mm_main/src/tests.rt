@@ -155,6 +155,6 @@ fn a_sink_that_fails_at_its_fourth_byte_has_three(rt: HostRuntime) -> Result<(),
         &OpenGate,
     )?;
     assert_eq!(rt; ended, (Status::WriteFault, true));
-    assert_eq!(rt; sink.written(), b"spa");
+    assert_eq!(rt; sink.written(), b"spa".as_slice());
     Ok(())
 }

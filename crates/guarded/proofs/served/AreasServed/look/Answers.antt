@@ -17,12 +17,6 @@ use Rattle.guarded.proofs.served.AreasServed.look.Goals as goal
 lawful : IsLawful space
 lawful = record { starts = starts; called = called; goes_on = goes_on; replies = replies }
 
-pub fault-requires-clause-space : goal.fault-requires-clause-space
-fault-requires-clause-space g c =
-    let k = g.L.SleepLock.calls_on c.args.lock.now in
-    let h = (g.L.SleepLock.view c.args.pass.now).hand in
-    (state_after space k h.log, state_is_state space lawful k h.log, sym c.requires.stored)
-
 pub returns-in-Fault-clause-read : goal.returns-in-Fault-clause-read
 returns-in-Fault-clause-read g c =
     let k = g.L.SleepLock.calls_on c.args.lock.now in
