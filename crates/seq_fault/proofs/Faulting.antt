@@ -1,5 +1,5 @@
 -- A call that reads without the lock, step by step.
-use Rattle.std.proofs.Common.{◌≡◌, ◌∙◌, ℕ, ◌+◌, Bool, true, false, List, length, slice_index, Option, Some, IfSome, sym, refl, ap, subst, arith, inl, inr}
+use Rattle.std.proofs.Common.{◌≡◌, ◌∙◌, ℕ, ◌+◌, ◌%◌, Bool, true, false, List, length, slice_index, Option, Some, IfSome, sym, refl, ap, subst, arith, inl, inr}
 use Rattle.std.specs.Prelude.{Result, Ok, Err, IfOk, IfErr}
 use Rattle.word_bits.specs.declared.entry.Entry.{Entry}
 use Rattle.word_bits.specs.declared.reply.Reply.{Reply}
@@ -22,7 +22,7 @@ use Rattle.seq_fault.specs.declared.view.Glance.{Glance}
 use Rattle.seq_fault.specs.declared.view.Watch.TheVariants.{Off, On}
 use Rattle.seq_fault.specs.Plays.{turned, glance, staled, saw_log}
 use Rattle.seq_fault.specs.Ruled.{V, seq_at}
-use Rattle.seq_fault.specs.Steps.{AtOneWord, Faults, HasSearched, IsNextFault, TellsSince, IsWatching}
+use Rattle.seq_fault.specs.Steps.{AtOneWord, Faults, HasSearched, IsMeasured, IsNextFault, IsOptimisticRead, IsWatching, StepsAtMost, StepsOn, TellsSince}
 use Rattle.seq_fault.proofs.Stepping.{on-off}
 
 -- what the pass's step of this number found
@@ -74,46 +74,108 @@ gathers v x y u before front s known log began told searched = let g : Glance = 
 ]
 
 module _ (v u : V) (before front : ℕ) (s : Search) (known : List ℕ) (log : List Entry) (r : Gathered v before front s known log u) where
-  pub gathered-on : u.ext ≡ On (record (glance before known log) { stale = r.stale })
-  gathered-on = ap (λ (z : V). z.ext) r.is
+  abbrev when : Glance
+  when = record (glance before known log) { stale = r.stale }
 
-  pub gathered-measured : (g : Glance) → u.ext ≡ On g → (g.word ≡ before) × (g.stale ≡ false → length g.log ≡ front)
-  gathered-measured g at = subst (λ (z : Glance). (z.word ≡ before) × (z.stale ≡ false → length z.log ≡ front)) (on-off (record (glance before known log) { stale = r.stale }) g (sym gathered-on ∙ at)) (refl, λ f. sym (r.fresh f).0)
-
-  abbrev Same : V → Type 0
-  Same w = (g : Glance) → u.ext ≡ On g → (g.stale ≡ false) × (w ≡ turned u (saw_log u.hand g) Off)
-
-  pub confirmed : (w : V) → Same w → w ≡ record v { hand = record v.hand { seen = log }; steps = v.steps + 1 + 1 + asked s + 1; ext = Off }
-  confirmed w same = let t = same (record (glance before known log) { stale = r.stale }) gathered-on in t.1 ∙ ap (λ (z : V). turned z (saw_log z.hand (record (glance before known log) { stale = r.stale })) Off) r.is
-
-  -- the log of that moment is as long as the load of its length found
-  pub confirmed-front : (w : V) → Same w → length log ≡ front
-  confirmed-front w same = sym (r.fresh (same (record (glance before known log) { stale = r.stale }) gathered-on).0).0
-
-  pub confirmed-fresh : (w : V) → Same w → AgreesWith known s
-  confirmed-fresh w same = (r.fresh (same (record (glance before known log) { stale = r.stale }) gathered-on).0).1
+  pub gathered-few : StepsAtMost 12 v u
+  gathered-few = let most = s.few in let steps : v.steps + 1 + 1 + asked s ≡ v.steps + (2 + asked s) = omega arith in record {
+    steps = 2 + asked s;
+    few = omega (arith, most);
+    watch = On when;
+    is = r.is ∙ ap (λ (n : ℕ). record v { steps = n; ext = On when }) steps;
+  }
 
   module _ (k : Plan) (page access : ℕ) (q : IsNextFault k v.hand page access) (learns : Learns space k v.hand known log) (state : IsPageMap (state_after space k log)) (reply : Reply) (same-page : page_of s ≡ page)
       (met : (m : PageMap) → IsPageMap m → AgreesWith (stores m) s → reply ≡ access_reply (m (page_of s)) access) where
-    replies : (w : V) → Same w → reply ≡ access_reply (state_after space k log page) access
-    replies w same = met (state_after space k log) state (subst (λ (z : List ℕ). AgreesWith z s) learns.stored (confirmed-fresh w same)) ∙ ap (λ (p : ℕ). access_reply (state_after space k log p) access) same-page
-
-    pub seen-reading : (w : V) → Same w → IsSeenReading space k w.hand (next_entry w.hand) reply
-    seen-reading w same = subst (λ (h : Hand). IsSeenReading space k h (next_entry h) reply) (sym (ap (λ (z : V). z.hand) (confirmed w same))) record { words = q.words; call = Fault page access; planned = q.planned; is = q.is; reads = refl; replies = replies w same }
-
-    pub faulted : (w z : V) → Same w → z ≡ after_seen w reply → Faults k v reply z
-    faulted w z same noted = let most = s.few in let steps : v.steps + 1 + 1 + asked s + 1 ≡ v.steps + (3 + asked s) = omega arith in record {
-      log = log;
-      begins = learns.begins;
-      loads = 3 + asked s;
-      few = omega (arith, most);
-      words = q.words;
-      call = Fault page access;
-      planned = q.planned;
-      called = q.is;
-      replies = replies w same;
-      is = noted ∙ ap (λ (x : V). after_seen x reply) (confirmed w same ∙ ap (λ (n : ℕ). record v { hand = record v.hand { seen = log }; steps = n; ext = Off }) steps);
+    pub gathered-read : IsOptimisticRead k before front reply u
+    gathered-read = let same : v.hand ≡ u.hand = sym (ap (λ (z : V). z.hand) r.is) in record {
+      page = page;
+      access = access;
+      next = subst (λ (h : Hand). IsNextFault k h page access) same q;
+      moment = when;
+      on = ap (λ (z : V). z.ext) r.is;
+      word = refl;
+      learns = subst (λ (h : Hand). Learns space k h known log) same learns;
+      long = λ f. sym (r.fresh f).0;
+      replies = λ f. met (state_after space k log) state (subst (λ (z : List ℕ). AgreesWith z s) learns.stored (r.fresh f).1) ∙ ap (λ (p : ℕ). access_reply (state_after space k log p) access) same-page;
     }
+
+-- the second load of the sequence word
+module _ (k : Plan) (before front : ℕ) (reply : Reply) (u : V) (r : IsOptimisticRead k before front reply u) where
+  pub read-measured : IsMeasured before front u
+  read-measured = λ g at. subst (λ (z : Glance). (z.word ≡ before) × (z.stale ≡ false → length z.log ≡ front)) (on-off r.moment g (sym r.on ∙ at)) (r.word, r.long)
+
+  -- it found the same word
+  module _ (w : V) (same : (g : Glance) → u.ext ≡ On g → (g.stale ≡ false) × (w ≡ turned u (saw_log u.hand g) Off)) where
+    pub confirmed : w ≡ turned u (saw_log u.hand r.moment) Off
+    confirmed = (same r.moment r.on).1
+
+    fresh : r.moment.stale ≡ false
+    fresh = (same r.moment r.on).0
+
+    pub seen-reading : IsSeenReading space k w.hand (next_entry w.hand) reply
+    seen-reading = subst (λ (h : Hand). IsSeenReading space k h (next_entry h) reply) (sym (ap (λ (z : V). z.hand) confirmed)) record { words = r.next.words; call = Fault r.page r.access; planned = r.next.planned; is = r.next.is; reads = refl; replies = r.replies fresh }
+
+    pub faulted : (z : V) → z ≡ after_seen w reply → Faults k u reply z
+    faulted z noted = record {
+      log = r.moment.log;
+      begins = r.learns.begins;
+      loads = 1;
+      few = omega arith;
+      words = r.next.words;
+      call = Fault r.page r.access;
+      planned = r.next.planned;
+      called = r.next.is;
+      replies = r.replies fresh;
+      is = noted ∙ ap (λ (x : V). after_seen x reply) confirmed;
+    }
+
+    -- the log that it has seen is as long as the load of its length found
+    pub saw-front : (z : V) → z ≡ after_seen w reply → length z.hand.seen ≡ front
+    saw-front z noted = ap (λ (x : V). length x.hand.seen) (noted ∙ ap (λ (x : V). after_seen x reply) confirmed) ∙ r.long fresh
+
+-- the loads before the second one of the sequence word count too
+pub faults-since : (k : Plan) (v u z : V) (reply : Reply) → StepsAtMost 12 v u → z.steps ≡ u.steps + 2 → Faults k u reply z → Faults k v reply z
+faults-since k v u z reply p = subst (λ (x : V). z.steps ≡ x.steps + 2 → Faults k x reply z → Faults k v reply z) (sym p.is) since
+  where
+    since : z.steps ≡ v.steps + p.steps + 2 → Faults k (record v { steps = v.steps + p.steps; ext = p.watch }) reply z → Faults k v reply z
+    since two f = let few = p.few in let end = ap (λ (x : V). x.steps) f.is in let steps : v.steps + p.steps + f.loads ≡ v.steps + (p.steps + f.loads) = omega arith in record {
+      log = f.log;
+      begins = f.begins;
+      loads = p.steps + f.loads;
+      few = omega (arith, few, two, end);
+      words = f.words;
+      call = f.call;
+      planned = f.planned;
+      called = f.called;
+      replies = f.replies;
+      is = f.is ∙ ap (λ (n : ℕ). after_seen (record v { hand = record v.hand { seen = f.log }; steps = n; ext = Off }) reply) steps;
+    }
+
+-- what was found up to an earlier moment was found up to a later one
+pub found-longer : {task : Option ℕ} {step at n : ℕ} (old middle new : List Moment) → FoundAtStep task step at n old middle → GoesOn middle new → FoundAtStep task step at n old new
+found-longer old middle new f goes = record { past = f.past; by = f.by; found = f.found; after = f.after; goes_on = λ p t. goes p (f.goes_on p t) }
+
+-- both loads of the sequence word found it the same
+pub reads-at-one-word : (x u z : V) (before front : ℕ) (old middle new : List Moment) → StepsAtMost 12 x u → before % 2 ≡ 0 → FoundAtStep x.hand.task (x.steps + 1) seq_at before old middle → FoundAtStep x.hand.task (x.steps + 2) length_place front old middle
+    → FoundAtStep u.hand.task (u.steps + 1) seq_at before middle new → GoesOn old middle → GoesOn middle new → z.steps ≡ u.steps + 2 → AtOneWord 0 front x z old new
+reads-at-one-word x u z before front old middle new p even first measured again goes goes' two = let steps = ap (λ (q : V). q.steps) p.is in record {
+  word = before;
+  even = even;
+  first = found-longer old middle new first goes';
+  measured = found-longer old middle new measured goes';
+  last = p.steps + 1;
+  again = (let e : u.steps + 1 ≡ x.steps + (p.steps + 1) = omega (arith, steps) in let f : FoundAtStep x.hand.task (u.steps + 1) seq_at before middle new = subst (λ (t : Option ℕ). FoundAtStep t (u.steps + 1) seq_at before middle new) (ap (λ (q : V). q.hand.task) p.is) again in
+      subst (λ (n : ℕ). FoundAtStep x.hand.task n seq_at before old new) e record { past = f.past; by = f.by; found = f.found; after = λ l t. f.after l (goes l t); goes_on = f.goes_on });
+  counted = omega (arith, steps, two);
+}
+
+-- a race leaves what it knew, and its two loads found the words that it tells
+pub steps-on : (v x u : V) → x ≡ ticked (ticked v) → StepsAtMost 12 x u → StepsOn v u
+steps-on v x u is p = (v.steps + 2 + p.steps, p.watch, omega arith, p.is ∙ (ap (λ (z : V). record z { steps = z.steps + p.steps; ext = p.watch }) is ∙ ap (λ (n : ℕ). record v { steps = n; ext = p.watch }) (let e : v.steps + 1 + 1 + p.steps ≡ v.steps + 2 + p.steps = omega arith in e)))
+
+pub turned-on : (v u w : V) → StepsOn v u → w ≡ turned u u.hand Off → StepsOn v w
+turned-on v u w s is = let l = s.2 in (s.0 + 1, Off, omega (arith, l), is ∙ ap (λ (z : V). turned z z.hand Off) s.3)
 
 -- what a step found, counted from two steps later on
 module _ (v x : V) (old middle new : List Moment) (is : x ≡ ticked (ticked v)) (goes : GoesOn old middle) where
@@ -143,6 +205,6 @@ pub err-maps : {A B : Type 0} (r : Result A B) {P Q : B → Type 0} → ((x : B)
 err-maps (Ok x) maps p = tt
 err-maps (Err x) maps p = maps x p
 
-pub ok-maps : {A B : Type 0} (r : Result A B) {P Q : A → Type 0} → ((x : A) → P x → Q x) → IfOk r P → IfOk r Q
-ok-maps (Ok x) maps p = maps x p
-ok-maps (Err x) maps p = tt
+pub ok-joins : {A B : Type 0} (r : Result A B) {P Q S : A → Type 0} → ((x : A) → P x → Q x → S x) → IfOk r P → IfOk r Q → IfOk r S
+ok-joins (Ok x) joins p q = joins x p q
+ok-joins (Err x) joins p q = tt

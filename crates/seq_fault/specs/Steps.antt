@@ -20,7 +20,7 @@ use Rattle.vma_map.specs.declared.call.SpaceCall.{SpaceCall}
 use Rattle.vma_map.specs.declared.call.SpaceCall.TheVariants.{Fault}
 use Rattle.vma_map.specs.declared.search.Search.{Search}
 use Rattle.vma_map.specs.Searches.{AgreesWith, asked}
-use Rattle.vma_map.specs.Spaces.{call_of, meaning, space}
+use Rattle.vma_map.specs.Spaces.{access_reply, call_of, meaning, space}
 use Rattle.seq_fault.specs.Plays.{turned, glance, staled}
 use Rattle.seq_fault.specs.Ruled.{V, seq_at}
 
@@ -62,6 +62,25 @@ pub record HasSearched (g : Glance) (s : Search) (v u : V) : Type 0 where
 -- all that it knows is as it was, after some steps; it may watch or not
 abbrev pub StepsOn : V → V → Type 0
 StepsOn v u = (s : ℕ) × (e : Watch) × (v.steps ≤ s) × (u ≡ record v { steps = s; ext = e })
+
+-- all that it knows is as it was, after at most so many steps; it may watch or not
+pub record StepsAtMost (most : ℕ) (v u : V) : Type 0 where
+  pub steps : ℕ
+  pub few : steps ≤ most
+  pub watch : Watch
+  pub is : u ≡ record v { steps = v.steps + steps; ext = watch }
+
+-- The pass's next call is a fault, whose words it has loaded while it watched from this even word on. Where no load came when the word was another, the log of that moment has so many entries, and the call replies this in the state after it.
+pub record IsOptimisticRead (k : Plan) (before front : ℕ) (reply : Reply) (v : V) : Type 0 where
+  pub page : ℕ
+  pub access : ℕ
+  pub next : IsNextFault k v.hand page access
+  pub moment : Glance
+  pub on : v.ext ≡ On moment
+  pub word : moment.word ≡ before
+  pub learns : Learns space k v.hand moment.known moment.log
+  pub long : moment.stale ≡ false → length moment.log ≡ front
+  pub replies : moment.stale ≡ false → reply ≡ access_reply (state_after space k moment.log page) access
 
 -- The next call of the pass's task is done without the lock: its reply is its meaning on the state after a log that goes on from what the pass had seen. The pass has then seen that log, and the record stands at its end. So many loads were made, and one store.
 pub record Faults (k : Plan) (v : V) (reply : Reply) (u : V) : Type 0 where

@@ -1,6 +1,7 @@
 //! Faults without the lock.
-ghost use Rattle.std.specs.Prelude.{◌≡◌, ℕ, ◌+◌, ◌≤◌, List, None, IsSome, IfOk, IfErr};
+ghost use Rattle.std.specs.Prelude.{◌≡◌, ◌≢◌, ℕ, ◌+◌, ◌%◌, ◌≤◌, List, None, IsSome, IfOk, IfErr};
 ghost use Rattle.lock_core.specs.declared.view.Held.TheVariants.{No};
+ghost use Rattle.lock_core.specs.Layout.{length_place};
 ghost use Rattle.lock_core.specs.Handles.{IsLatest, plan_of, view_of, hand_in, past_of, task_in, held_in, done_in, front_in, SitsAt, KeepsPast, SaysSame};
 ghost use Rattle.lock_core.specs.Pasts.{FoundAt};
 ghost use Rattle.lock_core.specs.Views.{OwesNoSignal, ticked};
@@ -8,10 +9,11 @@ ghost use Rattle.word_bits.specs.PageMaps.{PageMap, IsPageMap};
 ghost use Rattle.vma_map.specs.Searches.{AgreesWith, asked, page_of, wanted};
 ghost use Rattle.vma_map.specs.Spaces.{IsAccess, access_reply, space, stores};
 ghost use Rattle.seq_fault.specs.declared.view.Glance.{Glance as Moment};
-ghost use Rattle.seq_fault.specs.declared.view.Watch.TheVariants.{On};
+ghost use Rattle.seq_fault.specs.declared.view.Watch.TheVariants.{Off, On};
 ghost use Rattle.seq_fault.specs.Handles.{FindsAtStep, ReadsAtOneWord};
+ghost use Rattle.seq_fault.specs.Plays.{turned};
 ghost use Rattle.seq_fault.specs.Ruled.{V, seq_at};
-ghost use Rattle.seq_fault.specs.Steps.{AtOneWord, Faults, HasNextFault, HasSearched, IsNextFault, IsRace, IsWatching, StepsOn};
+ghost use Rattle.seq_fault.specs.Steps.{AtOneWord, Faults, HasNextFault, HasSearched, IsNextFault, IsOptimisticRead, IsRace, IsWatching, StepsAtMost, StepsOn};
 
 use crate::rule::SeqRule;
 use crate::site::{SeqPass, SeqSite};
@@ -59,34 +61,39 @@ fn met(search: &Search, access: u8) -> Reply
     meet(search.answer().map(|area| area.prot), access)
 }
 
-/// Does a fault, whose call is known.
-fn fault_at(
+/// What a fault loaded: the sequence word, the length of the log, and the words from which the
+/// reply comes. They belong together only where the sequence word is still the same behind them.
+#[derive(Clone, Copy)]
+struct OptimisticRead {
+    before: u64,
+    front: u32,
+    reply: Reply,
+}
+
+/// Loads what a fault reads, but for the second load of the sequence word.
+fn read_optimistically(
     site: &Site<SeqRule<Areas>>,
     pass: &mut Pass<SeqRule<Areas>>,
     page: u32,
     access: u8,
-    call: u32,
-) -> Result<Reply, Raced>
+) -> Result<OptimisticRead, Raced>
     requires own { SitsAt site.now pass.old }
-    requires numbered { IsSome (task_in pass.old) }
-    requires out { held_in pass.old ≡ No }
-    requires call { call ≡ done_in pass.old }
-    requires recorded { OwesNoSignal (hand_in pass.old) }
     requires access { IsAccess access }
     requires next { IsNextFault (plan_of site.now) (hand_in pass.old) page access }
     ensures own { SitsAt site.now pass.new }
     ensures goes_on { KeepsPast pass.old pass.new }
     ensures last { IsLatest pass.new }
-    ensures ok { IfOk result (λ reply.
-        Faults (plan_of site.now) (view_of pass.old) reply (view_of pass.new)) }
-    ensures read { IfOk result (λ _. ReadsAtOneWord 0 pass.old pass.new) }
-    ensures raced { IfErr result (λ why. IsRace why.before why.after) }
-    ensures first { IfErr result (λ why. FindsAtStep 1 seq_at why.before pass.old pass.new) }
-    ensures second { IfErr result (λ why. FoundAt seq_at why.after (past_of pass.new)) }
-    ensures kept { IfErr result (λ _. StepsOn (view_of pass.old) (view_of pass.new)) }
-    ensures face { IfErr result (λ _. SaysSame pass.old pass.new) }
-    ensures few { IfErr result (λ _.
-        (view_of pass.new).steps ≤ (view_of pass.old).steps + 13) }
+    ensures face { SaysSame pass.old pass.new }
+    ensures few { StepsAtMost 12 (view_of pass.old) (view_of pass.new) }
+    ensures read { IfOk result (λ read.
+        IsOptimisticRead (plan_of site.now) read.before read.front read.reply (view_of pass.new)) }
+    ensures even { IfOk result (λ read. read.before % 2 ≡ 0) }
+    ensures first { IfOk result (λ read. FindsAtStep 1 seq_at read.before pass.old pass.new) }
+    ensures measured { IfOk result (λ read.
+        FindsAtStep 2 length_place read.front pass.old pass.new) }
+    ensures odd { IfErr result (λ why. (why.before % 2 ≡ 1) × (why.after ≡ why.before)) }
+    ensures raced { IfErr result (λ why. FindsAtStep 1 seq_at why.before pass.old pass.new) }
+    ensures found { IfErr result (λ why. FoundAt seq_at why.after (past_of pass.new)) }
 {
     let before = steps::watch(site, pass);
     if before % 2 == 1 {
@@ -96,14 +103,51 @@ fn fault_at(
     let front = steps::measure(site, pass) as u32;
     let mut search = Search::new(page);
     search_words(site, pass, &mut search);
-    // A writer may have come between two of the loads: the words belong together only where the
-    // sequence word is still the same.
-    if let Err(raced) = steps::confirm(site, pass, before, front) {
+    let reply = met(&search, access);
+    Ok(OptimisticRead {
+        before,
+        front,
+        reply,
+    })
+}
+
+/// Loads the sequence word once more, and records the reply where it is the same.
+fn validate(
+    site: &Site<SeqRule<Areas>>,
+    pass: &mut Pass<SeqRule<Areas>>,
+    call: u32,
+    read: OptimisticRead,
+) -> Result<Reply, Raced>
+    requires own { SitsAt site.now pass.old }
+    requires numbered { IsSome (task_in pass.old) }
+    requires out { held_in pass.old ≡ No }
+    requires call { call ≡ done_in pass.old }
+    requires recorded { OwesNoSignal (hand_in pass.old) }
+    requires read { IsOptimisticRead (plan_of site.now)
+        read.before read.front read.reply (view_of pass.old) }
+    ensures own { SitsAt site.now pass.new }
+    ensures goes_on { KeepsPast pass.old pass.new }
+    ensures last { IsLatest pass.new }
+    ensures ok { IfOk result (λ reply.
+        Faults (plan_of site.now) (view_of pass.old) reply (view_of pass.new)) }
+    ensures front { IfOk result (λ _. front_in pass.new ≡ read.front) }
+    ensures again { IfOk result (λ _. FindsAtStep 1 seq_at read.before pass.old pass.new) }
+    ensures counted { IfOk result (λ _.
+        (view_of pass.new).steps ≡ (view_of pass.old).steps + 2) }
+    ensures raced { IfErr result (λ why.
+        (why.before ≡ read.before) × (why.after ≢ read.before)) }
+    ensures found { IfErr result (λ why. FoundAt seq_at why.after (past_of pass.new)) }
+    ensures kept { IfErr result (λ _.
+        view_of pass.new ≡ turned (view_of pass.old) (hand_in pass.old) Off) }
+    ensures face { IfErr result (λ _. SaysSame pass.old pass.new) }
+{
+    // A writer may have come between two of the loads: they belong together only where the sequence
+    // word is still the same.
+    if let Err(raced) = steps::confirm(site, pass, read.before, read.front) {
         return Err(raced);
     }
-    let reply = met(&search, access);
-    site.note_seen(pass, call, reply);
-    Ok(reply)
+    site.note_seen(pass, call, read.reply);
+    Ok(read.reply)
 }
 
 /// Loads the words of a task's next call, a fault.
@@ -158,7 +202,10 @@ impl SeqSite<Areas> {
             (view_of pass.new).steps ≤ (view_of pass.old).steps + 15) }
     {
         let (page, access) = next_fault(&self.site, pass, call);
-        fault_at(&self.site, pass, page, access, call)
+        match read_optimistically(&self.site, pass, page, access) {
+            Ok(read) => validate(&self.site, pass, call, read),
+            Err(raced) => Err(raced),
+        }
     }
 
     /// Does the next call of the pass's task, a fault, as often as a writer comes between its loads.

@@ -4,6 +4,7 @@
 #![tactic(auto)]
 
 mod faults;
+mod reading;
 mod rule;
 mod site;
 mod steps;
@@ -15,6 +16,3 @@ pub use rule::SeqRule;
 pub use site::{SeqPass, SeqSite};
 pub use steps::Raced;
 pub use view::{Glance, Watch};
-
-#[cfg(test)]
-mod tests;

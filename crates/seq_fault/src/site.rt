@@ -10,7 +10,7 @@ ghost use Rattle.lock_core.specs.Stated.{IsNew};
 ghost use Rattle.lock_core.specs.Locked.{IsSiteStep};
 ghost use Rattle.seq_fault.specs.declared.view.Watch.TheVariants.{Off};
 ghost use Rattle.seq_fault.specs.Ruled.{never, newest, seq_at};
-ghost use Rattle.seq_fault.specs.Stated.{CountsEnters, IsSeqSiteThen};
+ghost use Rattle.seq_fault.specs.Stated.{CountsEnters, IsSeqSiteThen, StaysAtOneWord};
 ghost use Rattle.seq_fault.specs.Steps.{EntersSince};
 
 use crate::rule::SeqRule;
@@ -213,7 +213,8 @@ impl<O: Object> SeqSite<O> {
 
     /// A load, after which the pass knows that at each moment of the table so far, from the new
     /// table on, the facts of every site were so, and the word was odd exactly where a pass held;
-    /// how often a pass has entered; and what each step did to the site's words.
+    /// how often a pass had entered by then; that the object stayed between two moments of one even
+    /// word; and what each step did to the site's words.
     pub fn recall(&self, pass: &mut SeqPass<O>)
         requires own { SitsAt self.now pass.old }
         ensures own { SitsAt self.now pass.new }
@@ -224,6 +225,7 @@ impl<O: Object> SeqSite<O> {
         ensures always { EachMoment (IsSeqSiteThen O.object O.WORDS (plan_of self.now))
             (past_of pass.new) }
         ensures entered { CountsEnters (past_of pass.new) }
+        ensures stays { StaysAtOneWord (plan_of self.now) (past_of pass.new) }
         ensures moves { Paced (IsSiteStep (plan_of self.now) seq_at) (past_of pass.new) }
         ensures joined { KeepsJoined (joined_by pass.old) (past_of pass.new) }
     {

@@ -1,5 +1,5 @@
-//! Tests of single steps on the words of locks, of their queues, and of CPUs, crews and gates; and
-//! of the per-CPU semaphore.
+//! Tests of single steps on the words of locks, of their queues, and of CPUs, crews and gates; of the
+//! per-CPU semaphore; and of faults without the lock.
 #![tactic(auto)]
 
 #[cfg(test)]
@@ -10,6 +10,8 @@ mod count_tests;
 mod course;
 #[cfg(test)]
 mod cpu_tests;
+#[cfg(test)]
+mod faults_tests;
 #[cfg(test)]
 mod leave_tests;
 #[cfg(test)]
@@ -24,6 +26,10 @@ mod percpu_tests;
 mod percpu_thread_tests;
 #[cfg(test)]
 mod queue_tests;
+#[cfg(test)]
+mod seq_calls;
+#[cfg(test)]
+mod seq_tests;
 #[cfg(test)]
 mod site_tests;
 #[cfg(test)]

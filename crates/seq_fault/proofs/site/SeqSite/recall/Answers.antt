@@ -5,7 +5,7 @@ use Rattle.lock_core.specs.RunLaws.{ran-each, ran-so}
 use Rattle.lock_core.specs.Stated.{IsSiteMove}
 use Rattle.seq_fault.specs.Ruled.{SeqKept, SeqMoves, newest, seq_at, unmarked}
 use Rattle.seq_fault.specs.Stated.{IsSeqSiteThen}
-use Rattle.seq_fault.proofs.Stating.{rule-states, counts-enters}
+use Rattle.seq_fault.proofs.Stating.{rule-states, counts-enters, stays-at-one-word}
 use Rattle.seq_fault.proofs.site.SeqSite.recall.Goals as goal
 
 pub returns-clause-always : goal.returns-clause-always
@@ -14,6 +14,9 @@ returns-clause-always g c = let k = c.args.self.now.site.table.shared.key in let
 
 pub returns-clause-entered : goal.returns-clause-entered
 returns-clause-entered g c = let k = c.args.self.now.site.table.shared.key in counts-enters g.O.Object.object g.O.Object.WORDS k _ c.recall.ensures.run
+
+pub returns-clause-stays : goal.returns-clause-stays
+returns-clause-stays g c = let k = c.args.self.now.site.table.shared.key in stays-at-one-word g.O.Object.object g.O.Object.WORDS k _ c.recall.ensures.run
 
 pub returns-clause-moves : goal.returns-clause-moves
 returns-clause-moves g c = let k = c.args.self.now.site.table.shared.key in let o = g.O.Object.object in let n = g.O.Object.WORDS in

@@ -1,0 +1,9 @@
+-- A plan without calls has none that isn't one of the space's.
+use Rattle.std.proofs.Common.{subst, sym}
+use Rattle.lock_core.specs.Records.{IsPlan}
+use Rattle.lock_core.proofs.Planning.{empty-plan}
+use Rattle.vma_map.specs.Spaces.{space}
+use Rattle.step_tests.proofs.faults_tests.planned.Goals as goal
+
+pub push-requires-clause-calls : goal.push-requires-clause-calls
+push-requires-clause-calls c = subst (IsPlan space) (sym c.in_ok-plan.ensures) (empty-plan space 4)

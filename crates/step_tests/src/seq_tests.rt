@@ -1,0 +1,76 @@
+//! Rows of a table with a sequence word, as far as one thread shows them.
+ghost use Rattle.std.specs.Prelude.{◌≡◌, length, IfOk};
+ghost use Rattle.lock_core.specs.Records.{IsPlan};
+ghost use Rattle.vma_map.specs.Spaces.{space};
+
+use crate::seq_calls::{fault, map, push, touch, unmap, write};
+use lock_core::{Held, Nothing, Plan};
+use seq_fault::{Raced, SeqSite, SeqSpace};
+use std::alloc::Global;
+use std::test::Fail;
+use word_bits::Reply;
+
+/// Two tasks, of which one changes the space and the other touches three pages.
+fn planned(alloc: Global) -> Result<Plan, Fail>
+    ensures tasks { IfOk result (λ plan. length plan ≡ 2) }
+    ensures calls { IfOk result (λ plan. IsPlan space plan) }
+{
+    let mut plan = Plan::new(alloc, 2)?;
+    push(&mut plan, 0, map(16, 4))?;
+    push(&mut plan, 0, unmap(17, 1))?;
+    push(&mut plan, 1, touch(17, 2))?;
+    push(&mut plan, 1, touch(20, 1))?;
+    push(&mut plan, 1, touch(17, 1))?;
+    Ok(plan)
+}
+
+#[test]
+fn a_fault_reads_what_was_written(rt: HostRuntime) -> Result<(), Fail> {
+    let plan = planned(rt.alloc())?;
+    let (site, mut zero) = SeqSpace::open(rt.alloc(), plan)?;
+    let mut one = site.split(&mut zero);
+    site.begin(&rt, &mut zero, 0);
+    site.begin(&rt, &mut one, 1);
+    assert_eq!(rt; write(&site, &rt, &mut zero), Some(Reply::Num(16)));
+    assert_eq!(rt; (zero.held(), zero.done(), zero.front()), (Held::No, 1, 1));
+    assert_eq!(rt; fault(&site, &mut one), Some(Ok(Reply::Good)));
+    assert_eq!(rt; (one.held(), one.done(), one.front()), (Held::No, 1, 1));
+    site.enter(&rt, &mut zero);
+    let raced = Raced {
+        before: 3,
+        after: 3,
+    };
+    assert_eq!(rt; fault(&site, &mut one), Some(Err(raced)));
+    assert_eq!(rt; (one.done(), one.front()), (1, 1));
+    site.leave(&mut zero);
+    assert_eq!(rt; fault(&site, &mut one), Some(Ok(Reply::MapErr)));
+    assert_eq!(rt; (one.done(), one.front()), (2, 1));
+    assert_eq!(rt; write(&site, &rt, &mut zero), Some(Reply::Good));
+    assert_eq!(rt; fault(&site, &mut one), Some(Ok(Reply::MapErr)));
+    assert_eq!(rt; (one.done(), one.front()), (3, 2));
+    site.end(&mut one);
+    site.gather(&mut zero, one);
+    site.end(&mut zero);
+    assert_eq!(rt; (zero.task(), zero.front()), (None, 2));
+    Ok(())
+}
+
+#[test]
+fn one_holds_after_the_other(rt: HostRuntime) -> Result<(), Fail> {
+    let plan = Plan::new(rt.alloc(), 2)?;
+    let (site, mut zero) = SeqSite::<Nothing>::open(rt.alloc(), plan)?;
+    let mut one = site.split(&mut zero);
+    site.begin(&rt, &mut zero, 0);
+    site.begin(&rt, &mut one, 1);
+    site.enter(&rt, &mut zero);
+    assert_eq!(rt; (zero.held(), one.held()), (Held::Alone, Held::No));
+    site.leave(&mut zero);
+    site.enter(&rt, &mut one);
+    assert_eq!(rt; (zero.held(), one.held()), (Held::No, Held::Alone));
+    site.recall(&mut one);
+    site.leave(&mut one);
+    site.end(&mut one);
+    site.gather(&mut zero, one);
+    assert_eq!(rt; (zero.task(), zero.done(), zero.front()), (Some(0), 0, 0));
+    Ok(())
+}
