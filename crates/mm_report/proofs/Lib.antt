@@ -9,7 +9,6 @@ pub mod Calls
 pub mod Tasks
 pub mod Legal
 pub mod Counted
-pub mod Filled
 pub mod Descriptors
 pub mod Tallies
 pub mod LineTexts

@@ -8,8 +8,6 @@ mod line;
 mod results;
 mod state;
 mod summary;
-#[cfg(test)]
-mod tests;
 mod text;
 
 pub use laws::{calls_are_named, history_keeps_order, line_tells_call, text_determines_histories};

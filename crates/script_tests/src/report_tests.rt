@@ -1,17 +1,18 @@
 //! Texts and summaries of results that no run needs to have left: busy, interrupted and sent calls of
 //! several tasks among others. Texts of whole runs stand in examples/.
 ghost use Rattle.std.specs.Prelude.{◌≡◌, ◌+◌, ◌<◌, ◌≤◌, ◌++◌, [], length, slice_get, Bool, Some};
-ghost use Rattle.std.specs.Prelude.{IfOk, OnOk};
-ghost use Rattle.task_script.specs.Scripts.{kinds_of};
-ghost use Rattle.mm_report.specs.Results.{AreComplete, calls_on, empty_snapshot};
+ghost use Rattle.std.specs.Prelude.{IfOk, count_by};
+ghost use Rattle.task_script.specs.Scripts.{is_on, kinds_of};
+ghost use Rattle.mm_report.specs.Results.{AreComplete, calls_on, empty_snapshot, words_of_kind};
 
-use super::*;
-use crate::results::{count_calls, state_words};
+use fd_table::Fds;
+use mm_report::{Results, report};
 use std::alloc::{AllocError, Global};
 use std::process::Abort;
 use std::test::Fail;
-use task_script::{MemSink, Script, read};
-use word_bits::Snapshot;
+use task_script::{Line, MemSink, Script, read};
+use vma_map::Areas;
+use word_bits::{Object, Snapshot};
 
 /// What one object leaves: the words of its records and of its log, and the front of its state's.
 #[derive(Clone, Copy)]
@@ -50,27 +51,46 @@ fn push_state(snapshot: &mut Snapshot, front: &[u64], words: usize)
     }
 }
 
-fn fill(
-    rt: &impl Abort,
-    script: &Script,
-    object: u32,
-    left: &Left<'_>,
-    snapshot: &mut Snapshot,
-) -> Result<(), AllocError>
+/// How many calls of the script are on the object.
+fn count_calls(rt: &impl Abort, script: &Script, object: u32) -> usize
+    ensures { result ≡ calls_on script.now object }
+{
+    let mut count = 0usize;
+    for task in 0..script.tasks() {
+        let calls = count_on(script.calls(task), object);
+        assert!(rt; calls <= usize::MAX - count);
+        count += calls;
+    }
+    count
+}
+
+/// How many of the lines are calls on the object.
+fn count_on(lines: &[Line], object: u32) -> usize
+    ensures { result ≡ count_by (is_on object) lines.now }
+{
+    lines.iter().filter(|line| line.object == object).count()
+}
+
+/// How many words the state of an object has.
+fn state_words(is_space: bool) -> usize
+    ensures { result ≡ words_of_kind is_space }
+{
+    if is_space { Areas::WORDS } else { Fds::WORDS }
+}
+
+fn fill(rt: &impl Abort, script: &Script, object: u32, left: &Left<'_>, snapshot: &mut Snapshot)
     requires object { object < length script.now.objects }
     requires fresh { (is_space : Bool) → slice_get (kinds_of script.now) object ≡ Some is_space
         → snapshot.old ≡ empty_snapshot script.now object is_space }
-    ensures { OnOk result (length snapshot.new.recs ≡ calls_on script.now object) }
+    ensures { length snapshot.new.recs ≡ calls_on script.now object }
 {
     let state = state_words(script.is_space(object as usize));
-    assert!(rt; (object as usize) < script.objects());
-    let calls = count_calls(script)?[object as usize];
+    let calls = count_calls(rt, script, object);
     assert!(rt; left.recs.len() == calls);
     assert!(rt; left.log.len() <= calls);
     push_recs(snapshot, left.recs);
     push_log(snapshot, left.log);
     push_state(snapshot, left.state, state);
-    Ok(())
 }
 
 /// The results of a script whose objects leave this.
@@ -86,7 +106,7 @@ fn filled(
     let mut results = Results::new(alloc, script)?;
     for object in 0..script.objects() {
         let snapshot = results.snapshot_mut(object);
-        fill(rt, script, object as u32, &left[object], snapshot)?;
+        fill(rt, script, object as u32, &left[object], snapshot);
     }
     Ok(results)
 }
