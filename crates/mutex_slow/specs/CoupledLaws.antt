@@ -20,7 +20,7 @@ use Rattle.wait_list.specs.declared.view.Change.TheVariants.{Enter, Leave}
 use Rattle.wait_list.specs.declared.view.ListHand.{ListHand}
 use Rattle.wait_list.specs.ListLaws.{holds-or-not}
 use Rattle.wait_list.specs.Lists.{first_code, counted, without, listed}
-use Rattle.wait_list.proofs.Tickets.{counted-append, counted-without-own, counted-without-other, counted-here, counted-else, length-without, first-without}
+use Rattle.wait_list.proofs.Waiters.{counted-append, counted-without-own, counted-without-other, counted-here, counted-else, length-without, first-without}
 use Rattle.mutex_slow.specs.declared.view.MutexHand.{MutexHand}
 use Rattle.mutex_slow.specs.declared.view.Point.{Point}
 use Rattle.mutex_slow.specs.declared.view.Point.TheVariants.{Rest, Joins, Empties}

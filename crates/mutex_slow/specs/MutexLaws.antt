@@ -37,6 +37,7 @@ use Rattle.wait_list.specs.declared.view.Change.TheVariants.{Stay, Enter, Leave}
 use Rattle.wait_list.specs.declared.view.ListHand.{ListHand}
 use Rattle.wait_list.specs.declared.words.TheConstants.{LIST_WORDS}
 use Rattle.wait_list.specs.Lists.{Part, ListKept, MadeBy, Knows, Lists, LeaverGoes, Allowed, changed, list_part, listed, sighted, first_code, changes_of, takes_of}
+use Rattle.wait_list.proofs.Walks.{head-is}
 use Rattle.wait_list.specs.ListLaws.{list-spins, list-keeps, list-leaves, list-strangers, list-opens, list-known}
 use Rattle.mutex_slow.specs.Mutexes.{V, HasLock, idle, list_of, IsOut, Coupled, MutexKept, Kept, Leaves, LeavesToFirst, PicksFirst, Asks, HasHandoff, IsFirstTask, AnswersHandoff, TookUp, IsOwnChange, IsUnpicked, MutexMoves, entered, owner_at, list_at, spin_words, owner_in, list_words, may_free, may_miss, rests, may_own, turned, with_list, may_change, is_code, saw_first}
 use Rattle.mutex_slow.specs.CoupledLaws.{Apart, coupled-stays, coupled-hands, coupled-seats, coupled-spins, coupled-fails, coupled-takes-free, coupled-takes-picked, coupled-asks, coupled-frees, coupled-hands-over, coupled-flags, coupled-clears, coupled-enters, coupled-leaves, coupled-opens, coupled-snoc, idle-ok, flagged, not-in, is-in, locked-free}
@@ -419,7 +420,7 @@ module _ {Call : Type 0} (o : Obj Call) (size : ℕ) where
     where
       heads : (t : ℕ) → v.hand.task ≡ Some t → get_or (list_words ws) 0 0 ≡ t + 1 → holds_in v.spin ≡ 0 → first_code l ≡ t + 1
       heads t is word out = elim (native.Mathlib.Decide.dec_le (total changes_of (map parted vs)) 0) [
-        | yes none ↦ sym (r.list.quiet (omega (arith, none))).first ∙ word
+        | yes none ↦ sym (head-is (list_words ws) l (r.list.quiet (omega (arith, none)))) ∙ word
         | no some_do ↦ let s = some-of changes_of (map parted vs) (omega (arith, some_do)) in let p = at_unmap parted vs s.0 s.1 s.2 in let weighs = s.3 in
             let ch : s.1.1.changes ≡ true = false-or-true s.1.1.changes (λ t. t) (λ f. let z : changes_of s.1 ≡ 0 = ap bit f in absurd (omega (arith, z, weighs))) in let q = (r.list.each s.0 s.1 s.2).changes ch in ⊎_elim
             (λ (e : get_or (list_words ws) 0 0 ≡ first_code l). sym e ∙ word)

@@ -10,7 +10,7 @@ use Rattle.wait_list.specs.declared.view.Change.TheVariants.{Enter}
 use Rattle.wait_list.specs.declared.view.ListHand.{ListHand}
 use Rattle.wait_list.specs.declared.view.Waiter.{Waiter}
 use Rattle.wait_list.specs.Lists.{Appends, FindsFirst, IsList, Knows, first_of}
-use Rattle.wait_list.proofs.Tickets.{sound-changed}
+use Rattle.wait_list.proofs.Waiters.{sound-changed}
 use Rattle.rwsem_count.specs.declared.view.Bias.TheVariants.{Clear, Transit}
 use Rattle.rwsem_wake.specs.declared.view.SemHand.{SemHand}
 use Rattle.rwsem_wake.specs.declared.view.Stage.TheVariants.{Armed}

@@ -7,7 +7,7 @@ use Rattle.wait_list.specs.declared.view.Waiter.{Waiter}
 use Rattle.wait_list.specs.declared.view.Change.TheVariants.{Leave}
 use Rattle.wait_list.specs.declared.view.ListHand.{ListHand}
 use Rattle.wait_list.specs.Lists.{AllowsChange, AreTasks, IsList, Knows, Removes, counted, first_of, without}
-use Rattle.wait_list.proofs.Tickets.{length-without, sound-changed}
+use Rattle.wait_list.proofs.Waiters.{length-without, sound-changed}
 use Rattle.rwsem_wake.specs.declared.view.SemHand.{SemHand}
 use Rattle.rwsem_wake.specs.Batches.{batch_of, reads, starts_with_reader, task_of}
 use Rattle.lock_core.specs.Totals.{total}

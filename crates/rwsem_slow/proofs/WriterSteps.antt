@@ -15,7 +15,7 @@ use Rattle.wait_list.specs.declared.view.Change.TheVariants.{Leave}
 use Rattle.wait_list.specs.declared.view.ListHand.{ListHand}
 use Rattle.wait_list.specs.declared.view.Waiter.{Waiter}
 use Rattle.wait_list.specs.Lists.{FindsFirst, FindsNext, IsList, Knows, Removes, counted, first_code, first_of, next_of}
-use Rattle.wait_list.proofs.Tickets.{sound-changed}
+use Rattle.wait_list.proofs.Waiters.{sound-changed}
 use Rattle.rwsem_count.specs.declared.word_steps.Write.TheVariants.{Fail, Mark, Take}
 use Rattle.rwsem_count.specs.WordSteps.{HasFlags, HasHandoff, Writes as WritesBy}
 use Rattle.rwsem_wake.specs.declared.view.SemHand.{SemHand}

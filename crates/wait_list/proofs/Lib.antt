@@ -1,8 +1,9 @@
-pub mod Tickets
+pub mod Waiters
+pub mod Walks
 pub mod Listing
+pub mod Courses
 pub mod Appending
 pub mod Removing
-pub mod Parting
 pub mod Finding
 pub mod Joining
 pub mod Determining

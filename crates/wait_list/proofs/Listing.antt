@@ -27,7 +27,7 @@ use Rattle.wait_list.specs.declared.view.ListHand.{ListHand}
 use Rattle.wait_list.specs.Lists.{Part, Knows, ListKept, Allowed, IsList, Lists, IsNear, Learnt, LeaverGoes, MayStore, changed, list_part, listed, sighted, takes_of}
 use Rattle.wait_list.specs.ListLaws.{list-learns, list-known, list-stores}
 use Rattle.wait_list.specs.Plays.{Got, Laid, Sighted}
-use Rattle.wait_list.proofs.Tickets.{sound-changed}
+use Rattle.wait_list.proofs.Waiters.{sound-changed}
 use Rattle.lock_core.specs.Views.{SpinHolds}
 use Rattle.wait_list.specs.declared.words.TheConstants.{LIST_WORDS}
 
@@ -78,7 +78,7 @@ module _ {E : Type 0} (holds : List ℕ → List (View E) → Type 0) (moves : �
           → total Rattle.wait_list.specs.Lists.changes_of (map (list_part list) vs) ≡ 0
       none-now ws vs l id v h q at has still = Rattle.wait_list.specs.ListLaws.none-change (part place LIST_WORDS ws) l (map (list_part list) vs) id (list_part list v) (list_kept ws vs l q) (at_map (list_part list) vs id v at) (one-takes ws vs h) (has-lock v has) still
 
-  gets-there : (slots id i : ℕ) (me : M) → i < LIST_WORDS → SpinHolds me.0.spin → ((l : List Waiter) → may_change Stay me.0 l) → Lets holds moves slots id me (place + i) Load (Got place list with_list (step slots (place + i) 0 0 none) me)
+  gets-there : (slots id i : ℕ) (me : M) → i < LIST_WORDS → SpinHolds me.0.spin → ((l : List Waiter) → may_change Stay me.0 l) → Lets holds moves slots id me (place + i) Load (Got place list with_list may_change (step slots (place + i) 0 0 none) me)
   gets-there slots id i me inside has may s h len at small = let v = me.0 in let q = queued s.words s.views h in let t = learns s.words s.views q.0 id v h q.1 at has in let n : ℕ = get_or s.words (place + i) 0 in let ws : List ℕ = part place LIST_WORDS s.words in
       let back : i ≡ (place + i) - place = omega arith in let word : get_or ws i 0 ≡ n = part-at s.words place LIST_WORDS i inside in (
         listed with_list Stay v t.0,
@@ -86,7 +86,7 @@ module _ {E : Type 0} (holds : List ℕ → List (View E) → Type 0) (moves : �
         tt,
         lists s.words s.views q.0 id i n v Stay t.0 q.1 at inside has (may q.0) t.2 t.1.leaver (subst (λ (z : List ℕ). ListKept z q.0 (set (map (list_part list) s.views) id (v.spin, t.0))) (sym (ap (set ws i) (sym word) ∙ set-get_or ws i 0)) t.4),
         refl,
-        (t.0, t.1, sym word ∙ (ap (λ (z : List ℕ). get_or z i 0) (sym t.3) ∙ ap (get_or' t.0) back), (refl, refl)),
+        (t.0, t.1, sym word ∙ (ap (λ (z : List ℕ). get_or z i 0) (sym t.3) ∙ ap (get_or' t.0) back), (λ c host. subst (Allowed c) (sym t.2) (list_may s.words s.views q.0 id v c q.1 at has (subst (may_change c v) t.2 host))), (refl, refl)),
       )
     where
       get_or' : ListHand → ℕ → ℕ
@@ -106,8 +106,8 @@ module _ {E : Type 0} (holds : List ℕ → List (View E) → Type 0) (moves : �
   sights-there slots id me = let v = me.0 in loads holds moves slots id place me (λ n. sighted saw_first v n) (Sighted saw_first (step slots place 0 0 none) me) (λ _. refl)
       (λ ws vs h at _. let q = queued ws vs h in let zero_at : place + 0 ≡ place = omega arith in (subst (λ (z : ℕ). Goes holds moves id ws vs ws (set vs id (sighted saw_first v z))) (part-at ws place LIST_WORDS 0 (omega arith) ∙ ap (λ (z : ℕ). get_or ws z 0) zero_at) (firsts ws vs q.0 id v q.1 at), (refl, refl)))
 
-  pub gets : (slots id at i : ℕ) (me : M) → at ≡ place + i → i < LIST_WORDS → SpinHolds me.0.spin → ((l : List Waiter) → may_change Stay me.0 l) → Lets holds moves slots id me at Load (Got place list with_list (step slots at 0 0 none) me)
-  gets slots id at i me is inside has may = subst (λ (z : ℕ). Lets holds moves slots id me z Load (Got place list with_list (step slots z 0 0 none) me)) (sym is) (gets-there slots id i me inside has may)
+  pub gets : (slots id at i : ℕ) (me : M) → at ≡ place + i → i < LIST_WORDS → SpinHolds me.0.spin → ((l : List Waiter) → may_change Stay me.0 l) → Lets holds moves slots id me at Load (Got place list with_list may_change (step slots at 0 0 none) me)
+  gets slots id at i me is inside has may = subst (λ (z : ℕ). Lets holds moves slots id me z Load (Got place list with_list may_change (step slots z 0 0 none) me)) (sym is) (gets-there slots id i me inside has may)
 
   pub puts : (slots id at i new : ℕ) (me : M) (c : Change) (b : ListHand) → at ≡ place + i → i < LIST_WORDS → SpinHolds me.0.spin → may_change c me.0 (list me.0.ext).list → MayStore (list_part list me.0) i new c b → Lets holds moves slots id me at (Store new) (λ _. Laid list with_list c b (step slots at new 0 none) me new)
   puts slots id at i new me c b is inside has allows may = subst (λ (z : ℕ). Lets holds moves slots id me z (Store new) (λ _. Laid list with_list c b (step slots z new 0 none) me new)) (sym is) (puts-there slots id i new me c b inside has allows may)

@@ -1,156 +1,133 @@
--- The stores of a removal, one after the other.
-use Rattle.std.proofs.Common.{◌%◌, ◌==◌, Option, Some, None, eq-eqb, ne_eqb, ◌≡◌, ◌≢◌, ◌∙◌, ℕ, ◌+◌, ◌-◌, ◌/◌, ◌<◌, ◌≤◌, ◌⊎◌, inl, inr, Bool, true, false, List, [], ◌∷◌, length, get_or, set, sym, refl, ap, subst, arith, length-set, get_or-set_same, get_or-set_other, ⊎_elim, ltb, if◌then◌else◌}
-use Rattle.lock_core.specs.declared.view.View.{View}
-use Rattle.wait_list.specs.declared.view.Change.{Change}
-use Rattle.lock_core.specs.declared.view.SpinHand.{SpinHand}
-use Rattle.lock_core.proofs.HandLaws.{not-both}
-use Rattle.lock_core.specs.Records.{bit}
-use Rattle.wait_list.specs.declared.view.Change.TheVariants.{Stay, Leave}
-use Rattle.wait_list.specs.declared.view.ListHand.{ListHand}
-use Rattle.wait_list.specs.Lists.{AreTasks, IsAtPlace, waiter_code, Learnt, parting, list_part, listed, Knows, Lists, IsNear, MayStore, Shifts, ShiftsAll, going_on, shifted, shift_at, first_code, ticket_from, without, counted, IsList, leaving}
-use Rattle.wait_list.proofs.Tickets.{ticket-here, first-place, first-without, length-without, counted-without-own, ticket-none, remove-before, remove-behind}
-use Rattle.wait_list.specs.declared.view.Waiter.{Waiter}
-use Rattle.std.proofs.lemmas.Bool.Decides.{nat_tests}
-use Rattle.lock_core.proofs.HandLaws.{false-or-true}
+-- The steps of a removal, one after the other.
+use Rattle.std.proofs.Common.{◌≡◌, ◌∙◌, ℕ, ◌+◌, ◌*◌, ◌/◌, ◌<◌, ◌≤◌, inl, inr, true, List, length, get_or, set, sym, refl, ap, subst, arith, length-set, get_or-set_same, get_or-set_other}
 use mathlib.Core.Logic.{dite}
 use native.Mathlib.Decide.{ℕ_discrete}
+use Rattle.lock_core.specs.declared.view.View.{View}
+use Rattle.lock_core.specs.declared.view.SpinHand.{SpinHand}
+use Rattle.lock_core.proofs.HandLaws.{not-both}
+use Rattle.wait_list.specs.declared.view.Waiter.{Waiter}
+use Rattle.wait_list.specs.declared.view.Change.{Change}
+use Rattle.wait_list.specs.declared.view.Change.TheVariants.{Stay, Leave}
+use Rattle.wait_list.specs.declared.view.ListHand.{ListHand}
+use Rattle.wait_list.specs.Lists.{AllowsChange, AllowsStill, IsList, IsStill, Knows, Learnt, LearntWord, Lists, MayStore, Part, Removes, counted, ending, first_code, leaving, list_part, listed, only_steps, prev_with, without}
+use Rattle.wait_list.proofs.Waiters.{first-without}
+use Rattle.wait_list.proofs.Walks.{before-small, head-is, removed-lists}
+use Rattle.wait_list.proofs.Courses.{Came, allowed-on, comes, comes-on, end-may, loads-on, part-of, stays-on, steps-on}
 use Rattle.wait_list.specs.declared.words.TheConstants.{LIST_WORDS}
 use Rattle.word_bits.specs.declared.TheConstants.{MAX_TASKS}
 
-pub leave-may : (s : SpinHand) (b : ListHand) (at n : ℕ) → Knows (s, b) → Lists b.words b.list → 8 ≤ at → MayStore (s, b) at n (Leave (at - 8)) (leaving b at n)
-leave-may s b at n knows is behind = record {
+-- the store by which a task leaves: the head is still that of the list before
+pub leave-may : (s : SpinHand) (b : ListHand) (t at n : ℕ) → Knows (s, b) → Lists b.words b.list → 0 < at → MayStore (s, b) at n (Leave t) (leaving b t at n)
+leave-may s b t at n knows is behind = record {
   knows = knows;
   since = refl;
   list = refl;
   words = refl;
   leaver = refl;
-  near = λ _. let word : get_or (set b.words at n) 0 0 ≡ first_code b.list = get_or-set_other b.words at 0 n 0 (λ e. omega (arith, e, behind)) ∙ is.first in dite (ℕ_discrete (first_code b.list) (at - 8 + 1))
+  near = λ _. let word : get_or (set b.words at n) 0 0 ≡ first_code b.list = get_or-set_other b.words at 0 n 0 (λ e. omega (arith, e, behind)) ∙ head-is b.words b.list is in dite (ℕ_discrete (first_code b.list) (t + 1))
       (λ e. inr (inr (word ∙ e)))
-      (λ not. inl (word ∙ sym (first-without (at - 8) b.list not)));
+      (λ not. inl (word ∙ sym (first-without t b.list not)));
   done = λ f. not-both true f refl;
 }
 
-module _ {E : Type 0} (list : E → ListHand) (with_list : Change → View E → ListHand → E)
+-- the words after both stores
+pub removed-words : (b : ListHand) (t next prev n : ℕ) → Lists b.words b.list → IsList b.list → length b.words ≡ LIST_WORDS → 0 < counted t b.list → t < MAX_TASKS → next ≡ get_or b.words (8 * (t + 1)) 0 → prev ≡ get_or b.words (8 * (t + 1) + 1) 0 / 2 → n ≡ prev_with b.words next prev
+    → Lists (set (set b.words (8 * next + 1) n) (8 * prev) next) (without t b.list)
+removed-words b t next prev n lists sound wide there small is_next is_prev is = let ws : List ℕ = set b.words (8 * next + 1) n in let us : List ℕ = set (set b.words (8 * next + 1) n) (8 * prev) next in removed-lists b.words us b.list t next prev lists sound there small (sym is_next) (sym is_prev)
+    (λ j not_back not_link. get_or-set_other ws (8 * prev) j next 0 (λ e. not_link (omega (arith, e))) ∙ get_or-set_other b.words (8 * next + 1) j n 0 (λ e. not_back (omega (arith, e))))
+    (get_or-set_same ws (8 * prev) next 0 (let l = length-set b.words (8 * next + 1) n in let m = before-small b.words t b.list sound.small there lists.walk in omega (arith, l, wide, m, is_prev)))
+    (get_or-set_other ws (8 * prev) (8 * next + 1) next 0 (λ e. omega (arith, e)) ∙ (get_or-set_same b.words (8 * next + 1) n 0 (let f = lists.codes (t + 1) (omega (arith, small)) in omega (arith, wide, f, is_next)) ∙ is))
+
+-- The facts on the way through a removal, from the view at its beginning.
+module _ {E : Type 0} (list : E → ListHand) (with_list : Change → View E → ListHand → E) (may_change : Change → View E → List Waiter → Type 0)
     (back : (c : Change) (v : View E) (b : ListHand) → list (with_list c v b) ≡ b)
-    (same : (v : View E) → with_list Stay v (list v.ext) ≡ v.ext)
-    (over : (c : Change) (v : View E) (n : ℕ) (b d : ListHand) → with_list c (record v { steps = n; ext = with_list Stay v b }) d ≡ with_list c v d) where
-  pub shifts-none : (v : View E) (place : ℕ) → ShiftsAll list with_list v place 0 v
-  shifts-none v place = record {
-    view = λ i. record v { ext = sym (same v) i };
-    list_is = refl;
-    since = refl;
-    changes = refl;
-    leaver = refl;
-    wide = refl;
-    done = λ t l. absurd (omega (arith, l));
-    left = λ j l. refl;
-  }
-
-  pub shifts-more : (v u x : View E) (place i : ℕ) → i < MAX_TASKS → length (list v.ext).words ≡ LIST_WORDS → ShiftsAll list with_list v place i u → Shifts list with_list u (8 + i) place x → ShiftsAll list with_list v place (i + 1) x
-  shifts-more v u x place i inside wide all one = let d : ListHand = list u.ext in let d' : ListHand = shift_at d (8 + i) place in let n : ℕ = shifted place (get_or d.words (8 + i) 0) in
-      let hand : list x.ext ≡ d' = ap (λ (z : View E). list z.ext) one ∙ back Stay u d' in let long = all.wide in
-      let words : (list x.ext).words ≡ set d.words (8 + i) n = ap (λ (z : ListHand). z.words) hand in
-      let ext : with_list Stay u d' ≡ with_list Stay v d' = ap (λ (z : View E). with_list Stay z d') all.view ∙ over Stay v u.steps d d' in
-      let view : x ≡ record v { steps = x.steps; ext = with_list Stay v d' } = one ∙ (λ j. record (all.view j) { steps = x.steps; ext = ext j }) in record {
-        view = view ∙ (λ j. record v { steps = x.steps; ext = with_list Stay v (sym hand j) });
-        list_is = ap (λ (z : ListHand). z.list) hand ∙ all.list_is;
-        since = ap (λ (z : ListHand). z.since) hand ∙ all.since;
-        changes = ap (λ (z : ListHand). z.changes) hand ∙ all.changes;
-        leaver = ap (λ (z : ListHand). z.leaver) hand ∙ all.leaver;
-        wide = ap length words ∙ (length-set d.words (8 + i) n ∙ long);
-        done = λ t l. ap (λ (z : List ℕ). get_or z (8 + t) 0) words ∙ dite (ℕ_discrete t i)
-            (λ is. ap (λ (z : ℕ). get_or (set d.words (8 + i) n) (8 + z) 0) is ∙ (get_or-set_same d.words (8 + i) n 0 (omega (arith, long, wide, inside)) ∙ (ap (shifted place) (all.left (8 + i) (inr (omega arith))) ∙ ap (λ (z : ℕ). shifted place (get_or (list v.ext).words (8 + z) 0)) (sym is))))
-            (λ not. get_or-set_other d.words (8 + i) (8 + t) n 0 (λ e. not (omega (arith, e))) ∙ all.done t (omega (arith, l, not)));
-        left = λ j l. ap (λ (z : List ℕ). get_or z j 0) words ∙ (get_or-set_other d.words (8 + i) j n 0 (λ e. ⊎_elim (λ (q : j < 8). omega (arith, q, e)) (λ (q : 8 + (i + 1) ≤ j). omega (arith, q, e)) l)
-            ∙ all.left j (⊎_elim (λ (q : j < 8). inl q) (λ (q : 8 + (i + 1) ≤ j). inr (omega (arith, q))) l));
-      }
-
--- one that moves up is told by the places alone
-pub shifted-is : (place n : ℕ) → ((place < n / 2) → shifted place n ≡ n - 2) × ((n / 2 ≤ place) → shifted place n ≡ n)
-shifted-is place n = ((λ l. ap (λ (b : Bool). if b then n - 2 else n) (lt-ltb place (n / 2) l)), λ l. ap (λ (b : Bool). if b then n - 2 else n) (ltb-false place (n / 2) l))
-  where
-    lt-ltb : (a b : ℕ) → a < b → ltb a b ≡ true
-    lt-ltb a b l = false-or-true (ltb a b) (λ t. t) (λ f. absurd (le-not a b (grind' a b f) l))
-      where
-        le-not : (a b : ℕ) → b ≤ a → a < b → ⊥
-        le-not a b x y = omega (arith, x, y)
-
-        grind' : (a b : ℕ) → ltb a b ≡ false → b ≤ a
-        grind' a b f = grind (arith, nat_tests)
-
-    ltb-false : (a b : ℕ) → b ≤ a → ltb a b ≡ false
-    ltb-false a b l = grind (arith, nat_tests)
-
--- the words of the shorter list
-pub removed-lists : (ws us : List ℕ) (l : List Waiter) (t : ℕ) → Lists ws l → IsList l → 0 < counted t l → t < MAX_TASKS → get_or us 0 0 ≡ first_code (without t l) → get_or us 1 0 + 1 ≡ length l → get_or us (8 + t) 0 ≡ 0
-    → ((u : ℕ) → u < MAX_TASKS → u ≢ t → get_or us (8 + u) 0 ≡ shifted (get_or ws (8 + t) 0 / 2) (get_or ws (8 + u) 0)) → Lists us (without t l)
-removed-lists ws us l t r sound there small first number own others = record {
-  first = first;
-  number = let n = length-without t l there in omega (arith, n, number);
-  tickets = λ u few. dite (ℕ_discrete u t)
-      (λ is. let a = ap (λ (z : ℕ). get_or us (8 + z) 0) is in let c = counted-without-own t l there in let o = sound.once t in let b = ticket-none 1 t (without t l) (omega (arith, c, o)) in let d = ap (ticket_from 1 (without t l)) is in omega (arith, a, own, b, d))
-      (λ not. let a = others u few not in let b = r.tickets t small in let c = r.tickets u few in let s = shifted-is (get_or ws (8 + t) 0 / 2) (get_or ws (8 + u) 0) in elim (native.Mathlib.Decide.dec_le (get_or ws (8 + u) 0 / 2) (get_or ws (8 + t) 0 / 2)) [
-        | yes before ↦ let d = s.1 before in let e = remove-before t u not 1 l there (omega (arith, before, b, c)) in omega (arith, a, d, e, c)
-        | no behind ↦ let d = s.0 (omega (arith, behind)) in let e = remove-behind t u not 1 l there (omega (arith, behind, b, c)) in omega (arith, a, d, e, c)
-      ]);
-}
-
-pub go-may : (s : SpinHand) (d : ListHand) (at n : ℕ) → Knows (s, d) → d.changes ≡ true → IsNear d.words d.list d.leaver → 1 ≤ at → MayStore (s, d) at n Stay (going_on d at n)
-go-may s d at n knows changes near behind = record {
-  knows = knows;
-  since = refl;
-  list = refl;
-  words = refl;
-  leaver = inl refl;
-  near = λ _. subst (λ (z : ℕ). (z ≡ first_code d.list) ⊎ (z ≡ 0) ⊎ (z ≡ d.leaver)) (sym (get_or-set_other d.words at 0 n 0 (λ e. omega (arith, e, behind)))) near;
-  done = λ f. not-both d.changes f changes;
-}
-
-pub bit-few : (b : Bool) → bit b < 2
-bit-few true = omega arith
-bit-few false = omega arith
-
--- a ticket's lowest bit
-pub parity : (n : ℕ) → bit (n % 2 == 1) ≡ n % 2
-parity n = dite (ℕ_discrete (n % 2) 1) (λ is. ap bit (eq-eqb (n % 2) 1 is) ∙ sym is) (λ not. ap bit (ne_eqb (n % 2) 1 not) ∙ omega (arith, not))
-
-none-first : (us : List ℕ) (l : List Waiter) → ((t : ℕ) → t < MAX_TASKS → get_or us (8 + t) 0 ≡ ticket_from 1 l t) → AreTasks l → ((t : ℕ) → t < MAX_TASKS → get_or us (8 + t) 0 / 2 ≢ 1) → 0 ≡ first_code l
-none-first us [] tickets small out = refl
-none-first us (w ∷ ws) tickets small out = let a = tickets w.task small.0 in let b = ticket-here w ws 1 w.task refl in let c = bit-few w.writer in absurd (out w.task small.0 (omega (arith, a, b, c)))
-
--- the scan finds the first waiter
-pub scanned : (us : List ℕ) (l : List Waiter) (waiter : Option Waiter) → ((t : ℕ) → t < MAX_TASKS → get_or us (8 + t) 0 ≡ ticket_from 1 l t) → IsList l → IsAtPlace us 1 waiter → waiter_code waiter ≡ first_code l
-scanned us l (Some w) tickets sound at = let e = tickets w.task at.0 in let p = at.1 in let b = bit-few w.writer in sym (first-place 1 w.task l (omega arith) (omega (arith, p, e, b)))
-scanned us l None tickets sound at = none-first us l tickets sound.small at
-
-module _ {E : Type 0} (list : E → ListHand) (with_list : Change → View E → ListHand → E)
-    (back : (c : Change) (v : View E) (b : ListHand) → list (with_list c v b) ≡ b)
-    (same : (v : View E) → with_list Stay v (list v.ext) ≡ v.ext)
     (over : (c : Change) (v : View E) (n : ℕ) (b d : ListHand) → with_list c (record v { steps = n; ext = with_list Stay v b }) d ≡ with_list c v d)
-    (again : (c : Change) (v : View E) (n : ℕ) (b d : ListHand) → d.list ≡ b.list → with_list Stay (record v { steps = n; ext = with_list c v b }) d ≡ with_list c v d) where
-  -- a load by a pass that knows the list tells nothing new
-  pub load-tells : (v w u : View E) (b : ListHand) → w ≡ record v { steps = w.steps } → Knows (list_part list v) → Learnt (list_part list w) b → u ≡ listed with_list Stay w b → (b ≡ list v.ext) × (u ≡ record v { steps = u.steps })
-  load-tells v w u b is knows learnt e = (it ∙ ap (λ (z : View E). list z.ext) is, subst (λ (z : View E). z ≡ record v { steps = z.steps }) (sym e) ((λ i. record w { steps = w.steps + 1; ext = ext i }) ∙ (λ i. record (is i) { steps = w.steps + 1 })))
-    where
-      it : b ≡ list w.ext
-      it = learnt.same (subst Knows (sym (ap (list_part list) is)) knows)
+    (again : (c : Change) (v : View E) (n : ℕ) (b d : ListHand) → d.list ≡ b.list → with_list Stay (record v { steps = n; ext = with_list c v b }) d ≡ with_list c v d)
+    (may_on : (c : Change) (v : View E) (b : ListHand) (l : List Waiter) → may_change c v l → may_change c (listed with_list Stay v b) l)
+    (v u1 : View E) (t next at1 : ℕ) (is1 : at1 ≡ 8 * (t + 1)) (told : LearntWord list with_list may_change v at1 next u1) (still : IsStill list v) (small : t < MAX_TASKS) (allows : AllowsChange list may_change (Leave t) v) where
+  learnt : Learnt (list_part list v) told.0
+  learnt = told.1
 
-      ext : with_list Stay w b ≡ w.ext
-      ext = ap (with_list Stay w) it ∙ same w
+  lists : Lists told.0.words told.0.list
+  lists = learnt.lists (learnt.changes ∙ still)
 
-module _ {E : Type 0} (with_list : Change → View E → ListHand → E)
-    (over : (c : Change) (v : View E) (n : ℕ) (b d : ListHand) → with_list c (record v { steps = n; ext = with_list Stay v b }) d ≡ with_list c v d)
-    (again : (c : Change) (v : View E) (n : ℕ) (b d : ListHand) → d.list ≡ b.list → with_list Stay (record v { steps = n; ext = with_list c v b }) d ≡ with_list c v d) where
-  -- one store more of a pass that changes the list
-  pub goes-on : (c : Change) (v u x : View E) (d e : ListHand) → u ≡ record v { steps = u.steps; ext = with_list c v d } → e.list ≡ d.list → x ≡ record u { steps = x.steps; ext = with_list Stay u e } → x ≡ record v { steps = x.steps; ext = with_list c v e }
-  goes-on c v u x d e is kept next = next ∙ (λ i. record (is i) { steps = x.steps; ext = ext i })
-    where
-      ext : with_list Stay u e ≡ with_list c v e
-      ext = ap (λ (z : View E). with_list Stay z e) is ∙ again c v u.steps d e kept
+  host : may_change (Leave t) v told.0.list
+  host = allows told.0.list (λ k. ap (λ (d : ListHand). d.list) (learnt.same k))
 
-  -- the store by which a removal begins, after loads
-  pub parts-from : (v w u : View E) (t : ℕ) (b : ListHand) → w ≡ record v { steps = w.steps; ext = with_list Stay v b } → u ≡ listed with_list (Leave t) w (parting b t) → u ≡ record v { steps = u.steps; ext = with_list (Leave t) v (parting b t) }
-  parts-from v w u t b is e = subst (λ (z : View E). z ≡ record v { steps = z.steps; ext = with_list (Leave t) v (parting b t) }) (sym e) (λ i. record (is i) { steps = w.steps + 1; ext = ext i })
-    where
-      ext : with_list (Leave t) w (parting b t) ≡ with_list (Leave t) v (parting b t)
-      ext = ap (λ (z : View E). with_list (Leave t) z (parting b t)) is ∙ over (Leave t) v w.steps b (parting b t)
+  there : 0 < counted t told.0.list
+  there = told.4 (Leave t) host
+
+  next-is : next ≡ get_or told.0.words (8 * (t + 1)) 0
+  next-is = told.2 ∙ ap (λ (z : ℕ). get_or told.0.words z 0) is1
+
+  pub next-small : next ≤ MAX_TASKS
+  next-small = let f = lists.codes (t + 1) (omega (arith, small)) in let e = next-is in omega (arith, f, e)
+
+  came1 : Came list with_list back over again v Stay told.0 u1
+  came1 = comes list with_list back over again v Stay told.0 u1 told.3
+
+  module _ (u2 : View E) (word at2 : ℕ) (is2 : at2 ≡ 8 * (t + 1) + 1) (told2 : LearntWord list with_list may_change u1 at2 word u2) where
+    loaded : (told2.0 ≡ told.0) × Came list with_list back over again v Stay told.0 u2
+    loaded = loads-on list with_list back over again v told.0 told2.0 u1 u2 came1 learnt.knows told2.1 told2.3
+
+    prev-is : word / 2 ≡ get_or told.0.words (8 * (t + 1) + 1) 0 / 2
+    prev-is = ap (λ (z : ℕ). z / 2) (told2.2 ∙ (λ i. get_or (loaded.0 i).words (is2 i) 0))
+
+    pub prev-small : word / 2 ≤ MAX_TASKS
+    prev-small = let m = before-small told.0.words t told.0.list learnt.sound.small there lists.walk in let e = prev-is in omega (arith, m, e)
+
+    part2 : list_part list u2 ≡ (v.spin, told.0)
+    part2 = part-of list with_list back over again v Stay told.0 u2 loaded.1
+
+    pub knows2 : Knows (list_part list u2)
+    knows2 = subst Knows (sym part2) learnt.knows
+
+    module _ (u3 : View E) (n : ℕ) (is : n ≡ prev_with (list u2.ext).words next (word / 2)) (only : only_steps u2 u3) (allowing : AllowsStill may_change u2 u3) where
+      came3 : Came list with_list back over again v Stay told.0 u3
+      came3 = steps-on list with_list back over again v Stay told.0 u2 u3 loaded.1 only
+
+      part3 : list_part list u3 ≡ (v.spin, told.0)
+      part3 = part-of list with_list back over again v Stay told.0 u3 came3
+
+      pub leaves-knows : Knows (list_part list u3)
+      leaves-knows = subst Knows (sym part3) learnt.knows
+
+      pub leaves-lists : Lists (list u3.ext).words (list u3.ext).list
+      leaves-lists = subst (λ (p : Part). Lists p.1.words p.1.list) (sym part3) lists
+
+      pub leaves-host : may_change (Leave t) u3 (list u3.ext).list
+      leaves-host = subst (λ (p : Part). may_change (Leave t) u3 p.1.list) (sym part3) (allowing (Leave t) told.0.list (allowed-on with_list may_change may_on (Leave t) u1 u2 told2.0 told.0.list told2.3 (allowed-on with_list may_change may_on (Leave t) v u1 told.0 told.0.list told.3 host)))
+
+      value : n ≡ prev_with told.0.words next (word / 2)
+      value = is ∙ (λ i. prev_with (part2 i).1.words next (word / 2))
+
+      done : Lists (set (set told.0.words (8 * next + 1) n) (8 * (word / 2)) next) (without t told.0.list)
+      done = removed-words told.0 t next (word / 2) n lists learnt.sound learnt.wide there small next-is prev-is value
+
+      module _ (u4 : View E) (at3 : ℕ) (is3 : at3 ≡ 8 * next + 1) (e4 : u4 ≡ listed with_list (Leave t) u3 (leaving (list u3.ext) t at3 n)) where
+        abbrev left : ListHand
+        left = leaving told.0 t (8 * next + 1) n
+
+        came4 : Came list with_list back over again v (Leave t) left u4
+        came4 = comes-on list with_list back over again v (Leave t) told.0 left u3 u4 came3 (e4 ∙ (λ i. listed with_list (Leave t) u3 (leaving (part3 i).1 t (is3 i) n)))
+
+        part4 : list_part list u4 ≡ (v.spin, left)
+        part4 = part-of list with_list back over again v (Leave t) left u4 came4
+
+        pub last-may : (at : ℕ) → at ≡ 8 * (word / 2) → MayStore (list_part list u4) at next Stay (ending (list u4.ext) at next)
+        last-may at e = subst (λ (z : Part × ℕ). MayStore z.0 z.1 next Stay (ending z.0.1 z.1 next)) (λ i. (sym part4 i, sym e i)) (end-may v.spin left (8 * (word / 2)) next learnt.knows done)
+
+        pub removes : (u5 : View E) (at : ℕ) → at ≡ 8 * (word / 2) → u5 ≡ listed with_list Stay u4 (ending (list u4.ext) at next) → Removes list with_list v t u5
+        removes u5 at e e5 = record {
+          was = told.0.list;
+          hand = ending left (8 * (word / 2)) next;
+          before = λ k. ap (λ (d : ListHand). d.list) (learnt.same k);
+          sound = learnt.sound;
+          there = there;
+          now = refl;
+          since = learnt.knows.1;
+          still = refl;
+          gone = refl;
+          is = done;
+          view = stays-on list with_list back over again v (Leave t) left (ending left (8 * (word / 2)) next) u4 u5 came4 refl (e5 ∙ (λ i. listed with_list Stay u4 (ending (part4 i).1 (e i) next)));
+        }

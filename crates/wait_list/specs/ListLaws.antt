@@ -1,5 +1,5 @@
 -- Each kind of step keeps the list's own facts.
-use Rattle.std.proofs.Common.{◌-◌, ◌≡◌, ◌≢◌, ℕ, ◌+◌, ◌<◌, ◌≤◌, Bool, true, false, List, [], ◌∷◌, ◌++◌, length, map, get_or, set, sym, refl, ap, ◌∙◌, subst, arith, length-set}
+use Rattle.std.proofs.Common.{◌-◌, ◌≡◌, ◌≢◌, ℕ, ◌+◌, ◌*◌, ◌<◌, ◌≤◌, Bool, true, false, List, [], ◌∷◌, ◌++◌, length, map, get_or, set, sym, refl, ap, ◌∙◌, subst, arith, length-set}
 use mathlib.Core.Option.{some, some-ne-none}
 use lib.ListN.{get_elem?}
 use Rattle.lock_core.specs.declared.view.SpinHand.{SpinHand}
@@ -145,7 +145,7 @@ pub list-opens : (words : List ℕ) → length words ≡ LIST_WORDS → ((i : �
 list-opens words wide zeros = record {
   wide = wide;
   sound = record { small = tt; once = λ t. omega arith };
-  quiet = λ _. record { first = zeros 0 (omega arith); number = zeros 1 (omega arith); tickets = λ t few. zeros (8 + t) (omega (arith, few)) };
+  quiet = λ _. record { walk = zeros 0 (omega arith); tail = zeros 1 (omega arith); codes = λ c few. let z = zeros (8 * c) (omega (arith, few)) in omega (arith, z) };
   each = each-snoc (PartOk words []) [] (no_spin, no_list) (no-part words []) (λ j v e. absurd (some-ne-none v (sym e)));
 }
 

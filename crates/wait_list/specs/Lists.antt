@@ -1,5 +1,5 @@
--- A list of waiters, and its words: the code of the first waiter, how many there are, and from the eighth on a ticket for each task.
-use Rattle.std.specs.Prelude.{nat_lt, Option, Some, None, IsTrue, ◌↔◌, ◌/◌, ◌≡◌, ◌≢◌, ℕ, ◌+◌, ◌-◌, ◌*◌, ◌%◌, ◌<◌, ◌≤◌, ◌==◌, ◌⊎◌, Bool, true, false, List, [], ◌∷◌, ◌++◌, length, slice_index, slice_set, if◌then◌else◌}
+-- A list of waiters, and its words: head and tail, and behind them a line for each task with `next` and `prev`.
+use Rattle.std.specs.Prelude.{Option, Some, None, IsTrue, ◌↔◌, ◌≡◌, ℕ, ◌+◌, ◌*◌, ◌%◌, ◌<◌, ◌≤◌, ◌==◌, ◌⊎◌, Bool, true, false, List, [], ◌∷◌, ◌++◌, length, slice_index, slice_set, if◌then◌else◌}
 use Rattle.lock_core.specs.declared.view.SpinHand.{SpinHand}
 use Rattle.lock_core.specs.declared.view.View.{View}
 use Rattle.lock_core.specs.Records.{bit}
@@ -36,11 +36,6 @@ abbrev pub next_of : ℕ → List Waiter → Option Waiter
 next_of t [] = None
 next_of t (w ∷ ws) = if w.task == t then first_of ws else next_of t ws
 
--- the ticket of a task whose list begins at a place: 0 where it isn't there
-abbrev pub ticket_from : ℕ → List Waiter → ℕ → ℕ
-ticket_from n [] t = 0
-ticket_from n (w ∷ ws) t = if w.task == t then 2 * n + bit w.writer else ticket_from (n + 1) ws t
-
 -- the list without a task
 abbrev pub without : ℕ → List Waiter → List Waiter
 without t [] = []
@@ -65,11 +60,29 @@ pub record IsList (l : List Waiter) : Type 0 where
   pub small : AreTasks l
   pub once : (t : ℕ) → counted t l ≤ 1
 
--- the words are those of the list
+-- the place of the `next` of the waiter of this code; that of the head, for 0
+abbrev pub next_place : ℕ → ℕ
+next_place c = 8 * c
+
+-- the place of its `prev`; that of the tail, for 0
+abbrev pub prev_place : ℕ → ℕ
+prev_place c = 8 * c + 1
+
+-- the code of the last waiter, or this code where nobody waits
+abbrev pub last_code : ℕ → List Waiter → ℕ
+last_code c [] = c
+last_code c (w ∷ ws) = last_code (w.task + 1) ws
+
+-- The walk: the `next` of this code names the first of the list, or nobody. Its `prev` is twice this code, and 1 more for a writer; the walk goes on from it.
+abbrev pub Walks : List ℕ → ℕ → List Waiter → Type 0
+Walks words c [] = slice_index words (next_place c) ≡ 0
+Walks words c (w ∷ ws) = (slice_index words (next_place c) ≡ w.task + 1) × (slice_index words (prev_place (w.task + 1)) ≡ 2 * c + bit w.writer) × Walks words (w.task + 1) ws
+
+-- The words are those of the list: it is the walk from the head, the tail names its last, and each `next` is a code or 0.
 pub record Lists (words : List ℕ) (l : List Waiter) : Type 0 where
-  pub first : slice_index words 0 ≡ first_code l
-  pub number : slice_index words 1 ≡ length l
-  pub tickets : (t : ℕ) → t < MAX_TASKS → slice_index words (8 + t) ≡ ticket_from 1 l t
+  pub walk : Walks words 0 l
+  pub tail : slice_index words (prev_place 0) ≡ last_code 0 l
+  pub codes : (c : ℕ) → c ≤ MAX_TASKS → slice_index words (next_place c) ≤ MAX_TASKS
 
 -- what concerns the list of a view
 abbrev pub Part : Type 0
@@ -84,7 +97,7 @@ takes_of p = holds_in p.0
 abbrev pub no_list : ListHand
 no_list = record { list = []; words = []; since = 0; changes = false; leaver = 0 }
 
--- while the words change, the first word is that of the list, or 0, or names the waiter that leaves
+-- while the words change, the head is that of the list, or 0, or names the waiter that leaves
 abbrev pub IsNear : List ℕ → List Waiter → ℕ → Type 0
 IsNear words l leaver = (slice_index words 0 ≡ first_code l) ⊎ (slice_index words 0 ≡ 0) ⊎ (slice_index words 0 ≡ leaver)
 
@@ -153,6 +166,10 @@ module _ {E : Type 0} where
   abbrev pub AllowsKnown : (E → ListHand) → (Change → View E → List Waiter → Type 0) → Change → View E → Type 0
   AllowsKnown list may_change c v = may_change c v (list v.ext).list
 
+  -- the host lets it make the changes that it let it make
+  abbrev pub AllowsStill : (Change → View E → List Waiter → Type 0) → View E → View E → Type 0
+  AllowsStill may_change v u = (c : Change) (l : List Waiter) → may_change c v l → may_change c u l
+
   -- it has only made steps
   abbrev pub only_steps : View E → View E → Type 0
   only_steps v u = u ≡ record v { steps = u.steps }
@@ -161,11 +178,11 @@ module _ {E : Type 0} where
   abbrev pub listed : (Change → View E → ListHand → E) → Change → View E → ListHand → View E
   listed with_list c v b = record v { steps = v.steps + 1; ext = with_list c v b }
 
-  -- a load of the first word
+  -- a load of the head
   abbrev pub sighted : (View E → ℕ → E) → View E → ℕ → View E
   sighted saw_first v n = record v { steps = v.steps + 1; ext = saw_first v n }
 
--- whose code the first word may still be
+-- whose code the head may still be
 abbrev pub LeaverGoes : Change → ℕ → ℕ → Type 0
 LeaverGoes Stay old new = (new ≡ old) ⊎ (new ≡ 0)
 LeaverGoes (Enter w) old new = new ≡ 0
@@ -191,23 +208,29 @@ pub record MayStore (p : Part) (i n : ℕ) (c : Change) (b : ListHand) : Type 0 
   pub near : b.changes ≡ true → IsNear b.words b.list b.leaver
   pub done : b.changes ≡ false → Lists b.words b.list
 
--- the waiter of a ticket that is stored at this place
-abbrev pub waiter_of : ℕ → ℕ → Waiter
-waiter_of at ticket = record { task = at - 8; writer = ticket % 2 == 1 }
+-- the task's own words are those of the last of the list once it is appended
+abbrev pub IsPrepared : List ℕ → Waiter → Type 0
+IsPrepared words w = (slice_index words (next_place (w.task + 1)) ≡ 0) × (slice_index words (prev_place (w.task + 1)) ≡ 2 * slice_index words (prev_place 0) + bit w.writer)
 
--- of a pass that begins to append, or to remove, by the ticket that it stores
-abbrev pub entering : ListHand → ℕ → ℕ → ListHand
-entering b at n = record b { list = b.list ++ waiter_of at n ∷ []; words = slice_set b.words at n; changes = true; leaver = 0 }
+-- of a pass that begins to append, or to remove, by a store of this word
+abbrev pub entering : ListHand → Waiter → ℕ → ℕ → ListHand
+entering b w at n = record b { list = b.list ++ w ∷ []; words = slice_set b.words at n; changes = true; leaver = 0 }
 
-abbrev pub leaving : ListHand → ℕ → ℕ → ListHand
-leaving b at n = record b { list = without (at - 8) b.list; words = slice_set b.words at n; changes = true; leaver = at - 8 + 1 }
+abbrev pub leaving : ListHand → ℕ → ℕ → ℕ → ListHand
+leaving b t at n = record b { list = without t b.list; words = slice_set b.words at n; changes = true; leaver = t + 1 }
 
--- it goes on, and ends
+-- that goes on, and ends
 abbrev pub going_on : ListHand → ℕ → ℕ → ListHand
 going_on b at n = record b { words = slice_set b.words at n }
 
 abbrev pub ending : ListHand → ℕ → ℕ → ListHand
 ending b at n = record b { words = slice_set b.words at n; changes = false; leaver = 0 }
+
+-- the first of these that the change asks for
+abbrev pub begun : Change → ListHand → ℕ → ℕ → ListHand
+begun Stay b at n = going_on b at n
+begun (Enter w) b at n = entering b w at n
+begun (Leave t) b at n = leaving b t at n
 
 module _ {E : Type 0} (list : E → ListHand) (with_list : Change → View E → ListHand → E) where
   -- the waiter is the last
@@ -224,49 +247,31 @@ module _ {E : Type 0} (list : E → ListHand) (with_list : Change → View E →
     pub is : Lists hand.words hand.list
     pub view : u ≡ record v { steps = u.steps; ext = with_list (Enter w) v hand }
 
-module _ {E : Type 0} (list : E → ListHand) where
-  -- it knows the words, which it is changing
-  pub record ChangesWords (v : View E) : Type 0 where
-    pub changes : (list v.ext).changes ≡ true
-    pub knows : Knows (list_part list v)
-    pub near : IsNear (list v.ext).words (list v.ext).list (list v.ext).leaver
+module _ {E : Type 0} where
+  -- what the host allows at this list is lawful
+  abbrev pub IsLawful : (Change → View E → List Waiter → Type 0) → View E → List Waiter → Type 0
+  IsLawful may_change v l = (c : Change) → may_change c v l → Allowed c l
 
-module _ {E : Type 0} (list : E → ListHand) (with_list : Change → View E → ListHand → E) where
   -- it has learnt what this word is
-  abbrev pub LearntWord : View E → ℕ → ℕ → View E → Type 0
-  LearntWord v at n u = (b : ListHand) × Learnt (list_part list v) b × (n ≡ slice_index b.words at) × (u ≡ listed with_list Stay v b)
+  abbrev pub LearntWord : (E → ListHand) → (Change → View E → ListHand → E) → (Change → View E → List Waiter → Type 0) → View E → ℕ → ℕ → View E → Type 0
+  LearntWord list with_list may_change v at n u = (b : ListHand) × Learnt (list_part list v) b × (n ≡ slice_index b.words at) × (u ≡ listed with_list Stay v b) × IsLawful may_change v b.list
 
--- a ticket after the waiter at this place left
-abbrev pub shifted : ℕ → ℕ → ℕ
-shifted place ticket = if nat_lt place (ticket / 2) then ticket - 2 else ticket
+-- whom the `next` of this code names, and that waiter's kind
+abbrev pub IsBehind : List ℕ → ℕ → Option Waiter → Type 0
+IsBehind words c None = slice_index words (next_place c) ≡ 0
+IsBehind words c (Some w) = (slice_index words (next_place c) ≡ w.task + 1) × (slice_index words (prev_place (w.task + 1)) % 2 ≡ bit w.writer)
 
-abbrev pub shift_at : ListHand → ℕ → ℕ → ListHand
-shift_at b at place = record b { words = slice_set b.words at (shifted place (slice_index b.words at)) }
+-- what the `prev` of the waiter of this code must be once this one stands before it; the tail, for 0
+abbrev pub prev_with : List ℕ → ℕ → ℕ → ℕ
+prev_with words next prev = if next == 0 then prev else 2 * prev + slice_index words (prev_place next) % 2
 
 module _ {E : Type 0} (list : E → ListHand) (with_list : Change → View E → ListHand → E) where
-  -- the ticket at this word is lowered where it lies behind
-  abbrev pub Shifts : View E → ℕ → ℕ → View E → Type 0
-  Shifts v at place u = u ≡ record v { steps = u.steps; ext = with_list Stay v (shift_at (list v.ext) at place) }
-
-  -- so are the first so many tickets
-  pub record ShiftsAll (v : View E) (place i : ℕ) (u : View E) : Type 0 where
-    pub view : u ≡ record v { steps = u.steps; ext = with_list Stay v (list u.ext) }
-    pub list_is : (list u.ext).list ≡ (list v.ext).list
-    pub since : (list u.ext).since ≡ (list v.ext).since
-    pub changes : (list u.ext).changes ≡ (list v.ext).changes
-    pub leaver : (list u.ext).leaver ≡ (list v.ext).leaver
-    pub wide : length (list u.ext).words ≡ length (list v.ext).words
-    pub done : (t : ℕ) → t < i → slice_index (list u.ext).words (8 + t) ≡ shifted place (slice_index (list v.ext).words (8 + t))
-    pub left : (j : ℕ) → (j < 8) ⊎ (8 + i ≤ j) → slice_index (list u.ext).words j ≡ slice_index (list v.ext).words j
-
--- the waiter whose ticket has this place, where one has
-abbrev pub IsAtPlace : List ℕ → ℕ → Option Waiter → Type 0
-IsAtPlace words place (Some w) = (w.task < MAX_TASKS) × (slice_index words (8 + w.task) ≡ 2 * place + bit w.writer)
-IsAtPlace words place None = (t : ℕ) → t < MAX_TASKS → slice_index words (8 + t) / 2 ≢ place
-
--- of a pass that begins to remove a task
-abbrev pub parting : ListHand → ℕ → ListHand
-parting b t = record b { list = without t b.list; words = slice_set b.words (8 + t) 0; changes = true; leaver = t + 1 }
+  -- it knows the list, and who stands behind the waiter of the code
+  pub record FindsBehind (v : View E) (code : ℕ) (next : Option Waiter) (u : View E) : Type 0 where
+    pub hand : ListHand
+    pub learnt : Learnt (list_part list v) hand
+    pub is : IsBehind hand.words code next
+    pub view : u ≡ record v { steps = u.steps; ext = with_list Stay v hand }
 
 module _ {E : Type 0} (list : E → ListHand) (with_list : Change → View E → ListHand → E) where
   -- the list is without the task
@@ -298,7 +303,7 @@ module _ {E : Type 0} (list : E → ListHand) (with_list : Change → View E →
     pub view : u ≡ record v { steps = u.steps; ext = with_list Stay v hand }
 
 module _ {E : Type 0} (saw_first : View E → ℕ → E) where
-  -- it saw the first word, and says whether that was its task's code
+  -- it saw the head, and says whether that was its task's code
   pub record TellsFirst (place : ℕ) (v : View E) (task : Option ℕ) (first : Bool) (u : View E) (past : List Moment) : Type 0 where
     pub word : ℕ
     pub view : u ≡ sighted saw_first v word

@@ -34,7 +34,7 @@ pub trait ListHost: SpinHost {
     // What a step on the list makes of what the pass knows.
     ghost with_list: { Change → View Self.Ext → ListHand → Self.Ext };
 
-    // What a pass knows that has seen this first word, with or without the spin lock.
+    // What a pass knows that has seen this head, with or without the spin lock.
     ghost saw_first: { View Self.Ext → ℕ → Self.Ext };
 
     // Where a pass with the spin lock may change this list so.
@@ -70,6 +70,6 @@ pub trait ListHost: SpinHost {
     // keeps every other fact of the rule.
     ghost lists: { (k : Calls) (ws : List ℕ) (vs : List (View Self.Ext)) (l : List Waiter) (id i n : ℕ) (v : View Self.Ext) (c : Change) (b : ListHand) → queue k ws vs l → get_elem? vs id ≡ some v → i < LIST_WORDS → SpinHolds v.spin → may_change c v l → b.list ≡ changed c l → LeaverGoes c (list v.ext).leaver b.leaver → ListKept (slice_set (part LIST LIST_WORDS ws) i n) (changed c l) (slice_set (map (list_part list) vs) id (v.spin, b)) → Goes (Self.holds k) (Self.moves k) id ws vs (slice_set ws (LIST + i) n) (slice_set vs id (listed with_list c v b)) };
 
-    // So does a load of the first word by any pass.
+    // So does a load of the head by any pass.
     ghost firsts: { (k : Calls) (ws : List ℕ) (vs : List (View Self.Ext)) (l : List Waiter) (id : ℕ) (v : View Self.Ext) → queue k ws vs l → get_elem? vs id ≡ some v → Goes (Self.holds k) (Self.moves k) id ws vs ws (slice_set vs id (sighted saw_first v (slice_index (part LIST LIST_WORDS ws) 0))) };
 }

@@ -1,14 +1,14 @@
 //! The list of a site, on which passes work that hold its spin lock.
-ghost use Rattle.std.specs.Prelude.{◌≡◌, ◌<◌, ◌≤◌, length, Option, IfSome, IsSome, Some, ◌+◌};
+ghost use Rattle.std.specs.Prelude.{◌≡◌, ◌<◌, ◌≤◌, Option, IsSome, Some, ◌+◌};
 ghost use Rattle.lock_core.specs.Handles.{Finds, IsLatest, view_of, past_of, task_in, SitsAt, KeepsPast, SaysSame};
 ghost use Rattle.lock_core.specs.Views.{SpinHolds};
 ghost use Rattle.wait_list.specs.declared.view.Change.TheVariants.{Enter, Leave};
-ghost use Rattle.wait_list.specs.Lists.{AllowsChange, Appends, ChangesWords, FindsFirst, FindsNext, IsAtPlace, IsStill, Knows, Removes, Shifts, ShiftsAll, TellsFirst, hand_at, list_part, only_steps, waiter_code};
+ghost use Rattle.wait_list.specs.Lists.{AllowsChange, AllowsStill, Appends, FindsBehind, FindsFirst, FindsNext, IsStill, Knows, Removes, TellsFirst, hand_at, list_part, next_place, only_steps, prev_with, waiter_code};
 
 use crate::host::ListHost;
 use crate::view::Waiter;
 use crate::words;
-use crate::words::{FIRST_AT, LIST_WORDS, NUMBER_AT, TICKETS_AT, word};
+use crate::words::{TAIL_AT, next_at, prev_at, word};
 use lock_core::{Pass, Site};
 use word_bits::MAX_TASKS;
 
@@ -25,87 +25,48 @@ pub fn append<H: ListHost>(site: &Site<H>, pass: &mut Pass<H>, waiter: Waiter)
     ensures last { IsLatest pass.new }
     ensures face { SaysSame pass.old pass.new }
     ensures later { (view_of pass.old).steps ≤ (view_of pass.new).steps }
+    ensures steps { (view_of pass.new).steps ≤ (view_of pass.old).steps + 5 }
     ensures kept { Appends H.list H.with_list (view_of pass.old) waiter (view_of pass.new) }
 {
-    let number = word(site, pass, NUMBER_AT);
-    let ticket = 2 * (number + 1) + u64::from(waiter.writer);
-    words::enter(site, pass, TICKETS_AT + waiter.task as usize, ticket);
+    let code = u64::from(waiter.task) + 1;
+    let tail = word(site, pass, TAIL_AT);
+    let prev = 2 * tail + u64::from(waiter.writer);
+    // Whoever walks the list must find the task's own words right: they are stored while no link
+    // leads to the task.
+    words::prepare(site, pass, next_at(code), 0);
+    words::prepare(site, pass, prev_at(code), prev);
+    words::enter(site, pass, waiter);
     // A waiter that looks without the spin lock must not see itself first before it is in the list:
-    // the first word is stored last.
-    if number == 0 {
-        words::go_on(site, pass, NUMBER_AT, number + 1);
-        words::close(site, pass, FIRST_AT, u64::from(waiter.task) + 1);
-    } else {
-        words::close(site, pass, NUMBER_AT, number + 1);
-    }
+    // the link to it, which is the head of a list that was empty, is stored last.
+    words::close(site, pass, next_at(tail), code);
 }
 
-/// Lowers the ticket of one task where its place lies behind this one.
-fn shift<H: ListHost>(site: &Site<H>, pass: &mut Pass<H>, other: usize, place: u64)
-    requires own { SitsAt site.now pass.old }
-    requires held { SpinHolds (view_of pass.old).spin }
-    requires inside { other < MAX_TASKS }
-    requires changes { ChangesWords H.list (view_of pass.old) }
-    ensures own { SitsAt site.now pass.new }
-    ensures goes_on { KeepsPast pass.old pass.new }
-    ensures last { IsLatest pass.new }
-    ensures face { SaysSame pass.old pass.new }
-    ensures later { (view_of pass.old).steps ≤ (view_of pass.new).steps }
-    ensures kept { Shifts H.list H.with_list
-        (view_of pass.old) (TICKETS_AT + other) place (view_of pass.new) }
-{
-    let seen = word(site, pass, TICKETS_AT + other);
-    if seen / 2 > place {
-        words::go_on(site, pass, TICKETS_AT + other, seen - 2);
-    }
-}
-
-/// Lowers the tickets of all tasks whose places lie behind this one.
-fn shift_all<H: ListHost>(site: &Site<H>, pass: &mut Pass<H>, place: u64)
+/// What the `prev` of the waiter of code `next` must be once the one of code `prev` stands before
+/// it. Where nobody is behind (0) it is what the tail must be.
+fn prev_after<H: ListHost>(site: &Site<H>, pass: &mut Pass<H>, next: u64, prev: u64) -> u64
     requires own { SitsAt site.now pass.old }
     requires held { SpinHolds (view_of pass.old).spin }
     requires last { IsLatest pass.old }
-    requires changes { ChangesWords H.list (view_of pass.old) }
-    requires wide { length (hand_at H.list (view_of pass.old)).words ≡ LIST_WORDS }
-    ensures own { SitsAt site.now pass.new }
-    ensures goes_on { KeepsPast pass.old pass.new }
-    ensures last { IsLatest pass.new }
-    ensures face { SaysSame pass.old pass.new }
-    ensures later { (view_of pass.old).steps ≤ (view_of pass.new).steps }
-    ensures kept { ShiftsAll H.list H.with_list
-        (view_of pass.old) place MAX_TASKS (view_of pass.new) }
-{
-    for other in 0..MAX_TASKS as usize {
-        shift(site, pass, other, place);
-    }
-}
-
-/// The waiter whose ticket has this place. `None` where none has.
-fn waiter_at<H: ListHost>(site: &Site<H>, pass: &mut Pass<H>, place: u64) -> Option<Waiter>
-    requires own { SitsAt site.now pass.old }
-    requires held { SpinHolds (view_of pass.old).spin }
-    requires last { IsLatest pass.old }
+    requires codes { (next ≤ MAX_TASKS) × (prev ≤ MAX_TASKS) }
     requires knows { Knows (list_part H.list (view_of pass.old)) }
     ensures own { SitsAt site.now pass.new }
     ensures goes_on { KeepsPast pass.old pass.new }
     ensures last { IsLatest pass.new }
     ensures face { SaysSame pass.old pass.new }
     ensures later { (view_of pass.old).steps ≤ (view_of pass.new).steps }
-    ensures at { IsAtPlace (hand_at H.list (view_of pass.old)).words place result }
+    ensures steps { (view_of pass.new).steps ≤ (view_of pass.old).steps + 1 }
+    ensures word { result ≡ prev_with (hand_at H.list (view_of pass.old)).words next prev }
+    ensures host { AllowsStill H.may_change (view_of pass.old) (view_of pass.new) }
     ensures kept { only_steps (view_of pass.old) (view_of pass.new) }
 {
-    for task in 0..MAX_TASKS {
-        let ticket = word(site, pass, TICKETS_AT + task as usize);
-        if ticket / 2 == place {
-            let writer = ticket % 2 == 1;
-            return Some(Waiter { task, writer });
-        }
+    if next == 0 {
+        return prev;
     }
-    None
+    2 * prev + word(site, pass, prev_at(next)) % 2
 }
 
-/// Removes the task, which is in the list. All others stand in their order. The kernel's
-/// `__mutex_remove_waiter` and `rwsem_del_waiter`.
+/// Removes the task, which is in the list. All others stand in their order. It takes as many steps
+/// whatever the list's length. The kernel's `__mutex_remove_waiter` and `rwsem_del_waiter`.
 pub fn remove<H: ListHost>(site: &Site<H>, pass: &mut Pass<H>, task: u32)
     requires own { SitsAt site.now pass.old }
     requires held { SpinHolds (view_of pass.old).spin }
@@ -117,17 +78,42 @@ pub fn remove<H: ListHost>(site: &Site<H>, pass: &mut Pass<H>, task: u32)
     ensures last { IsLatest pass.new }
     ensures face { SaysSame pass.old pass.new }
     ensures later { (view_of pass.old).steps ≤ (view_of pass.new).steps }
+    ensures steps { (view_of pass.new).steps ≤ (view_of pass.old).steps + 5 }
     ensures kept { Removes H.list H.with_list (view_of pass.old) task (view_of pass.new) }
 {
-    let at = TICKETS_AT + task as usize;
-    let ticket = word(site, pass, at);
-    let number = word(site, pass, NUMBER_AT);
-    words::leave(site, pass, at);
-    shift_all(site, pass, ticket / 2);
-    words::go_on(site, pass, NUMBER_AT, number - 1);
-    let first = waiter_at(site, pass, 1);
-    // Until here the first word may name the one that leaves, and nobody else that isn't first.
-    words::close(site, pass, FIRST_AT, code_of(first));
+    let code = u64::from(task) + 1;
+    let next = word(site, pass, next_at(code));
+    let prev = word(site, pass, prev_at(code)) / 2;
+    let back = prev_after(site, pass, next, prev);
+    words::leave(site, pass, task, prev_at(next), back);
+    // Until here the head may name the one that leaves, and nobody else that isn't first.
+    words::close(site, pass, next_at(prev), next);
+}
+
+/// The waiter behind the one of this code, and the first one for code 0.
+fn behind<H: ListHost>(site: &Site<H>, pass: &mut Pass<H>, code: u64) -> Option<Waiter>
+    requires own { SitsAt site.now pass.old }
+    requires held { SpinHolds (view_of pass.old).spin }
+    requires still { IsStill H.list (view_of pass.old) }
+    requires code { code ≤ MAX_TASKS }
+    ensures own { SitsAt site.now pass.new }
+    ensures goes_on { KeepsPast pass.old pass.new }
+    ensures last { IsLatest pass.new }
+    ensures face { SaysSame pass.old pass.new }
+    ensures later { (view_of pass.old).steps ≤ (view_of pass.new).steps }
+    ensures steps { (view_of pass.new).steps ≤ (view_of pass.old).steps + 2 }
+    ensures told { FindsBehind H.list H.with_list
+        (view_of pass.old) code result (view_of pass.new) }
+    ensures found { Finds (H.LIST + next_place code) (waiter_code result) pass.old pass.new }
+{
+    let next = word(site, pass, next_at(code));
+    if next == 0 {
+        return None;
+    }
+    let task = (next - 1) as u32;
+    let prev = word(site, pass, prev_at(next));
+    let writer = prev % 2 == 1;
+    Some(Waiter { task, writer })
 }
 
 /// The first waiter. `None` exactly where the list is empty.
@@ -140,17 +126,11 @@ pub fn first<H: ListHost>(site: &Site<H>, pass: &mut Pass<H>) -> Option<Waiter>
     ensures last { IsLatest pass.new }
     ensures face { SaysSame pass.old pass.new }
     ensures later { (view_of pass.old).steps ≤ (view_of pass.new).steps }
+    ensures steps { (view_of pass.new).steps ≤ (view_of pass.old).steps + 2 }
     ensures told { FindsFirst H.list H.with_list (view_of pass.old) result (view_of pass.new) }
     ensures found { Finds H.LIST (waiter_code result) pass.old pass.new }
 {
-    let code = word(site, pass, FIRST_AT);
-    if code == 0 {
-        return None;
-    }
-    let task = (code - 1) as u32;
-    let ticket = word(site, pass, TICKETS_AT + task as usize);
-    let writer = ticket % 2 == 1;
-    Some(Waiter { task, writer })
+    behind(site, pass, 0)
 }
 
 /// The waiter behind this task, which is in the list. `None` exactly where it is the last.
@@ -164,10 +144,10 @@ pub fn next<H: ListHost>(site: &Site<H>, pass: &mut Pass<H>, task: u32) -> Optio
     ensures last { IsLatest pass.new }
     ensures face { SaysSame pass.old pass.new }
     ensures later { (view_of pass.old).steps ≤ (view_of pass.new).steps }
+    ensures steps { (view_of pass.new).steps ≤ (view_of pass.old).steps + 2 }
     ensures told { FindsNext H.list H.with_list (view_of pass.old) task result (view_of pass.new) }
 {
-    let ticket = word(site, pass, TICKETS_AT + task as usize);
-    waiter_at(site, pass, ticket / 2 + 1)
+    behind(site, pass, u64::from(task) + 1)
 }
 
 /// Whether the pass's task is the first waiter, by one load. The spin lock need not be held: then
@@ -182,17 +162,6 @@ pub fn is_first<H: ListHost>(site: &Site<H>, pass: &mut Pass<H>) -> bool
     ensures told { TellsFirst H.saw_first H.LIST (view_of pass.old) (task_in pass.old) result
         (view_of pass.new) (past_of pass.new) }
 {
-    let code = words::first_word(site, pass);
+    let code = words::head(site, pass);
     pass.task().is_some_and(|task| code == u64::from(task) + 1)
-}
-
-/// The code of a waiter, and 0 where there is none.
-fn code_of(waiter: Option<Waiter>) -> u64
-    requires { IfSome waiter (λ w. w.task < MAX_TASKS) }
-    ensures { result ≡ waiter_code waiter }
-{
-    match waiter {
-        Some(waiter) => u64::from(waiter.task) + 1,
-        None => 0,
-    }
 }

@@ -1,5 +1,5 @@
-//! Waiters, and what a pass knows of their list. But for `Waiter` no value of these types is ever
-//! made: they exist in proofs alone.
+//! Waiters, changes of their list, and what a pass knows of it. No value of `ListHand` is ever made:
+//! it exists in proofs alone.
 
 /// One who waits for a lock.
 #[derive(Clone, Copy, Debug, Default, PartialEq, Eq)]
@@ -11,6 +11,7 @@ pub struct Waiter {
 }
 
 /// What a step does to the list.
+#[derive(Clone, Copy)]
 pub enum Change {
     Stay,
     /// The waiter is the last from then on.
@@ -28,6 +29,6 @@ pub struct ListHand {
     pub since: u64,
     /// It is between the first store of a change and the last one: the words aren't yet the list's.
     pub changes: bool,
-    /// The code of the waiter that it removes meanwhile, which the first word may still have.
+    /// The code of the waiter that it removes meanwhile, which the head may still have.
     pub leaver: u64,
 }

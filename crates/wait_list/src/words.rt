@@ -1,41 +1,60 @@
-//! The words of a list, and the single steps on them: the code of the first waiter, how many there
-//! are, and for each task a ticket. A ticket is 0 where the task isn't in the list, else twice its
-//! place, from 1, and 1 more where it waits as a writer.
-ghost use Rattle.std.specs.Prelude.{◌≡◌, ◌<◌, ◌≤◌, ◌+◌, ◌-◌};
+//! The words of a list, and the single steps on them. The list is doubly linked: a head and a tail,
+//! which are the codes of the first and the last waiter, and for each task a line with its `next`
+//! and its `prev`.
+//!
+//! `next` is the code of the waiter behind, or 0. `prev` is twice the code of the waiter before, or 0
+//! for the first, and 1 more where the task waits as a writer. Head and tail stand where the `next`
+//! and the `prev` of code 0 would, so that a link from the list and a link from a waiter are one
+//! thing. The kernel's `struct list_head` is such a ring.
+ghost use Rattle.std.specs.Prelude.{◌≡◌, ◌<◌, ◌≤◌, ◌+◌};
 ghost use Rattle.lock_core.specs.Handles.{IsLatest, view_of, past_of, SitsAt, KeepsPast, SaysSame};
 ghost use Rattle.lock_core.specs.Pasts.{FoundAt};
 ghost use Rattle.lock_core.specs.Views.{SpinHolds};
 ghost use Rattle.wait_list.specs.declared.view.ListHand.{ListHand};
 ghost use Rattle.wait_list.specs.declared.view.Change.{Change};
 ghost use Rattle.wait_list.specs.declared.view.Change.TheVariants.{Stay, Enter, Leave};
-ghost use Rattle.wait_list.specs.Lists.{Allowed, AllowsKnown, HasWords, Knows, LearntWord, MayStore, list_part, listed, sighted, no_list, waiter_of, entering, leaving, going_on, ending};
+ghost use Rattle.wait_list.specs.Lists.{AllowsKnown, HasWords, IsPrepared, IsStill, Knows, LearntWord, MayStore, list_part, listed, sighted, no_list, next_place, prev_place, entering, leaving, going_on, ending};
 ghost use Rattle.wait_list.specs.Plays.{Got, Laid, Sighted};
 
 use crate::host::ListHost;
+use crate::view::{Change, Waiter};
 use atomic_table::Play;
 use lock_core::view::View;
 use lock_core::{Op, Pass, Site};
 use std::marker::{Brand, PhantomData};
 use word_bits::MAX_TASKS;
 
-/// The place of the code of the first waiter, or 0.
-pub(crate) const FIRST_AT: usize = 0;
+/// The place of the head: the code of the first waiter, or 0.
+pub(crate) const HEAD_AT: usize = 0;
 
-/// The place of the number of waiters.
-pub(crate) const NUMBER_AT: usize = 1;
+/// The place of the tail: the code of the last waiter, or 0.
+pub(crate) const TAIL_AT: usize = 1;
 
-/// The place of the ticket of task 0. Those of the others follow.
-pub(crate) const TICKETS_AT: usize = 8;
+/// How many words a list has: a line for head and tail, and one for each task.
+pub const LIST_WORDS: usize = 8 + 8 * MAX_TASKS as usize;
 
-/// How many words a list has.
-pub const LIST_WORDS: usize = 8 + MAX_TASKS as usize;
+/// The place of the `next` of the waiter of this code. That of the head for code 0.
+pub(crate) fn next_at(code: u64) -> usize
+    requires { code ≤ MAX_TASKS }
+    ensures { result ≡ next_place code }
+{
+    8 * code as usize
+}
+
+/// The place of the `prev` of the waiter of this code. That of the tail for code 0.
+pub(crate) fn prev_at(code: u64) -> usize
+    requires { code ≤ MAX_TASKS }
+    ensures { result ≡ prev_place code }
+{
+    8 * code as usize + 1
+}
 
 struct Get<H> {
     host: PhantomData<H>,
 }
 
 impl<H: ListHost> Play<(), View<H::Ext>> for Get<H> {
-    ghost then = { Got H.LIST H.list H.with_list };
+    ghost then = { Got H.LIST H.list H.with_list H.may_change };
 }
 
 /// What a store does to the list, and what its pass knows then. It is chosen in proofs alone.
@@ -77,14 +96,21 @@ pub(crate) fn word<H: ListHost>(site: &Site<H>, pass: &mut Pass<H>, at: usize) -
     ensures goes_on { KeepsPast pass.old pass.new }
     ensures last { IsLatest pass.new }
     ensures face { SaysSame pass.old pass.new }
-    ensures told { LearntWord H.list H.with_list (view_of pass.old) at result (view_of pass.new) }
+    ensures told { LearntWord H.list H.with_list H.may_change
+        (view_of pass.old) at result (view_of pass.new) }
     ensures found { FoundAt (H.LIST + at) result (past_of pass.new) }
 {
     site.step::<Get<H>>(pass, H::LIST + at, Op::Load)
 }
 
-/// A store of a word of the list.
-fn store<H: ListHost, L: StoreKind>(site: &Site<H>, pass: &mut Pass<H>, at: usize, new: u64)
+/// A store of a word of the list. What it does to the list is read in proofs alone.
+fn store<H: ListHost, L: StoreKind>(
+    site: &Site<H>,
+    pass: &mut Pass<H>,
+    _change: Change,
+    at: usize,
+    new: u64,
+)
     requires own { SitsAt site.now pass.old }
     requires held { SpinHolds (view_of pass.old).spin }
     requires inside { at < LIST_WORDS }
@@ -94,57 +120,17 @@ fn store<H: ListHost, L: StoreKind>(site: &Site<H>, pass: &mut Pass<H>, at: usiz
     ensures goes_on { KeepsPast pass.old pass.new }
     ensures last { IsLatest pass.new }
     ensures face { SaysSame pass.old pass.new }
-    ensures allowed { Allowed L.change (H.list (view_of pass.old).ext).list }
     ensures kept { view_of pass.new ≡ listed H.with_list L.change (view_of pass.old) L.hand }
 {
     site.step::<Lay<H, L>>(pass, H::LIST + at, Op::Store(new));
 }
 
-/// Stores a ticket, by which a waiter enters the list.
-pub(crate) fn enter<H: ListHost>(site: &Site<H>, pass: &mut Pass<H>, at: usize, ticket: u64)
-    requires own { SitsAt site.now pass.old }
-    requires held { SpinHolds (view_of pass.old).spin }
-    requires inside { (TICKETS_AT ≤ at) × (at < LIST_WORDS) }
-    requires knows { Knows (list_part H.list (view_of pass.old)) }
-    requires lists { HasWords (H.list (view_of pass.old).ext) }
-    requires host { AllowsKnown H.list H.may_change
-        (Enter (waiter_of at ticket)) (view_of pass.old) }
-    ensures own { SitsAt site.now pass.new }
-    ensures goes_on { KeepsPast pass.old pass.new }
-    ensures last { IsLatest pass.new }
-    ensures face { SaysSame pass.old pass.new }
-    ensures fresh { Allowed (Enter (waiter_of at ticket)) (H.list (view_of pass.old).ext).list }
-    ensures kept { view_of pass.new ≡ listed H.with_list (Enter (waiter_of at ticket))
-        (view_of pass.old) (entering (H.list (view_of pass.old).ext) at ticket) }
-{
-    store::<H, Brand>(site, pass, at, ticket);
-}
-
-/// Stores a ticket of 0, by which a waiter leaves the list.
-pub(crate) fn leave<H: ListHost>(site: &Site<H>, pass: &mut Pass<H>, at: usize)
-    requires own { SitsAt site.now pass.old }
-    requires held { SpinHolds (view_of pass.old).spin }
-    requires inside { (TICKETS_AT ≤ at) × (at < LIST_WORDS) }
-    requires knows { Knows (list_part H.list (view_of pass.old)) }
-    requires lists { HasWords (H.list (view_of pass.old).ext) }
-    requires host { AllowsKnown H.list H.may_change
-        (Leave (at - TICKETS_AT)) (view_of pass.old) }
-    ensures own { SitsAt site.now pass.new }
-    ensures goes_on { KeepsPast pass.old pass.new }
-    ensures last { IsLatest pass.new }
-    ensures face { SaysSame pass.old pass.new }
-    ensures there { Allowed (Leave (at - TICKETS_AT)) (H.list (view_of pass.old).ext).list }
-    ensures kept { view_of pass.new ≡ listed H.with_list (Leave (at - TICKETS_AT))
-        (view_of pass.old) (leaving (H.list (view_of pass.old).ext) at 0) }
-{
-    store::<H, Brand>(site, pass, at, 0);
-}
-
-/// Stores a word while the words aren't yet those of the list.
-pub(crate) fn go_on<H: ListHost>(site: &Site<H>, pass: &mut Pass<H>, at: usize, new: u64)
+/// Stores a word that no walk of the list comes by, while the words stay those of the list.
+pub(crate) fn prepare<H: ListHost>(site: &Site<H>, pass: &mut Pass<H>, at: usize, new: u64)
     requires own { SitsAt site.now pass.old }
     requires held { SpinHolds (view_of pass.old).spin }
     requires inside { at < LIST_WORDS }
+    requires still { IsStill H.list (view_of pass.old) }
     requires may { MayStore (list_part H.list (view_of pass.old)) at new Stay
         (going_on (H.list (view_of pass.old).ext) at new) }
     ensures own { SitsAt site.now pass.new }
@@ -154,10 +140,48 @@ pub(crate) fn go_on<H: ListHost>(site: &Site<H>, pass: &mut Pass<H>, at: usize, 
     ensures kept { view_of pass.new ≡ listed H.with_list Stay
         (view_of pass.old) (going_on (H.list (view_of pass.old).ext) at new) }
 {
-    store::<H, Brand>(site, pass, at, new);
+    store::<H, Brand>(site, pass, Change::Stay, at, new);
 }
 
-/// Stores the last word that wasn't yet that of the list.
+/// Stores the tail, by which a waiter enters the list. Its own words are those of the last already.
+pub(crate) fn enter<H: ListHost>(site: &Site<H>, pass: &mut Pass<H>, waiter: Waiter)
+    requires own { SitsAt site.now pass.old }
+    requires held { SpinHolds (view_of pass.old).spin }
+    requires task { waiter.task < MAX_TASKS }
+    requires knows { Knows (list_part H.list (view_of pass.old)) }
+    requires lists { HasWords (H.list (view_of pass.old).ext) }
+    requires prepared { IsPrepared (H.list (view_of pass.old).ext).words waiter }
+    requires host { AllowsKnown H.list H.may_change (Enter waiter) (view_of pass.old) }
+    ensures own { SitsAt site.now pass.new }
+    ensures goes_on { KeepsPast pass.old pass.new }
+    ensures last { IsLatest pass.new }
+    ensures face { SaysSame pass.old pass.new }
+    ensures kept { view_of pass.new ≡ listed H.with_list (Enter waiter) (view_of pass.old)
+        (entering (H.list (view_of pass.old).ext) waiter TAIL_AT (waiter.task + 1)) }
+{
+    let code = u64::from(waiter.task) + 1;
+    store::<H, Brand>(site, pass, Change::Enter(waiter), TAIL_AT, code);
+}
+
+/// Stores the tail, or the `prev` of a waiter, by which the task leaves the list.
+pub(crate) fn leave<H: ListHost>(site: &Site<H>, pass: &mut Pass<H>, task: u32, at: usize, new: u64)
+    requires own { SitsAt site.now pass.old }
+    requires held { SpinHolds (view_of pass.old).spin }
+    requires inside { (HEAD_AT < at) × (at < LIST_WORDS) }
+    requires knows { Knows (list_part H.list (view_of pass.old)) }
+    requires lists { HasWords (H.list (view_of pass.old).ext) }
+    requires host { AllowsKnown H.list H.may_change (Leave task) (view_of pass.old) }
+    ensures own { SitsAt site.now pass.new }
+    ensures goes_on { KeepsPast pass.old pass.new }
+    ensures last { IsLatest pass.new }
+    ensures face { SaysSame pass.old pass.new }
+    ensures kept { view_of pass.new ≡ listed H.with_list (Leave task)
+        (view_of pass.old) (leaving (H.list (view_of pass.old).ext) task at new) }
+{
+    store::<H, Brand>(site, pass, Change::Leave(task), at, new);
+}
+
+/// Stores the last word of a change: the words are those of the list again.
 pub(crate) fn close<H: ListHost>(site: &Site<H>, pass: &mut Pass<H>, at: usize, new: u64)
     requires own { SitsAt site.now pass.old }
     requires held { SpinHolds (view_of pass.old).spin }
@@ -171,11 +195,11 @@ pub(crate) fn close<H: ListHost>(site: &Site<H>, pass: &mut Pass<H>, at: usize, 
     ensures kept { view_of pass.new ≡ listed H.with_list Stay
         (view_of pass.old) (ending (H.list (view_of pass.old).ext) at new) }
 {
-    store::<H, Brand>(site, pass, at, new);
+    store::<H, Brand>(site, pass, Change::Stay, at, new);
 }
 
-/// A load of the first word, with or without the spin lock.
-pub(crate) fn first_word<H: ListHost>(site: &Site<H>, pass: &mut Pass<H>) -> u64
+/// A load of the head, with or without the spin lock.
+pub(crate) fn head<H: ListHost>(site: &Site<H>, pass: &mut Pass<H>) -> u64
     requires own { SitsAt site.now pass.old }
     ensures own { SitsAt site.now pass.new }
     ensures goes_on { KeepsPast pass.old pass.new }

@@ -1,5 +1,5 @@
 use Rattle.std.proofs.Common.{◌∙◌, ◌≤◌, length, Some, None, arith}
-use Rattle.wait_list.proofs.Tickets.{few-tasks}
+use Rattle.wait_list.proofs.Waiters.{few-tasks}
 use Rattle.rwsem_slow.proofs.Walking.{along-ends, along-full, along-on, along-small, walk-next, walk-steps}
 use Rattle.rwsem_slow.proofs.removal.read_list.Goals as goal
 

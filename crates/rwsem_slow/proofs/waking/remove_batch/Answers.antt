@@ -1,6 +1,6 @@
 use Rattle.std.proofs.Common.{◌∙◌, ◌<◌, ℕ, List, length, get_or, sym, ap, subst, arith}
 use Rattle.wait_list.specs.declared.view.Waiter.{Waiter}
-use Rattle.wait_list.proofs.Tickets.{few-tasks}
+use Rattle.wait_list.proofs.Waiters.{few-tasks}
 use Rattle.rwsem_wake.specs.Batches.{batch_of}
 use Rattle.rwsem_slow.specs.RwSems.{V, MayPick}
 use Rattle.rwsem_slow.specs.Removals.{AreHeads, BeginsWith, RemovesAll, without_all}

@@ -1,22 +1,33 @@
-use Rattle.std.proofs.Common.{ℕ, ◌≡◌, ◌+◌, ◌-◌, sym, subst, arith}
-use Rattle.wait_list.specs.declared.view.Change.TheVariants.{Leave}
-use Rattle.wait_list.specs.Lists.{AllowsKnown}
-use Rattle.wait_list.proofs.Parting.{changing, number-may, last-may, all-removed, still-allowed}
+use Rattle.std.proofs.Common.{arith, ℕ, ◌+◌, ◌*◌, ap, ◌∙◌}
+use Rattle.wait_list.proofs.Removing.{knows2, last-may, leaves-host, leaves-knows, leaves-lists, next-small, prev-small, removes}
 use Rattle.wait_list.proofs.list.remove.Goals as goal
 
+pub prev_after-back-requires-clause-codes : goal.prev_after-back-requires-clause-codes
+prev_after-back-requires-clause-codes g c = (next-small g.H.ListHost.list g.H.ListHost.with_list g.H.ListHost.may_change g.H.ListHost.list_back g.H.ListHost.list_over g.H.ListHost.list_again g.H.ListHost.may_on c.args.pass.now.seat.me.0.view c.word-next.new.pass.seat.me.0.view c.args.task c.word-next.result c.next_at.result (c.next_at.ensures ∙ ap (λ (n : ℕ). 8 * n) (ap (λ (n : ℕ). n + 1) c.from-code.ensures)) c.word-next.ensures.told c.requires.still c.requires.task c.requires.host, prev-small g.H.ListHost.list g.H.ListHost.with_list g.H.ListHost.may_change g.H.ListHost.list_back g.H.ListHost.list_over g.H.ListHost.list_again g.H.ListHost.may_on c.args.pass.now.seat.me.0.view c.word-next.new.pass.seat.me.0.view c.args.task c.word-next.result c.next_at.result (c.next_at.ensures ∙ ap (λ (n : ℕ). 8 * n) (ap (λ (n : ℕ). n + 1) c.from-code.ensures)) c.word-next.ensures.told c.requires.still c.requires.task c.requires.host c.word-prev.new.pass.seat.me.0.view c.word-prev.result c.prev_at.result (c.prev_at.ensures ∙ ap (λ (n : ℕ). 8 * n + 1) (ap (λ (n : ℕ). n + 1) c.from-code.ensures)) c.word-prev.ensures.told)
+
+pub prev_after-back-requires-clause-knows : goal.prev_after-back-requires-clause-knows
+prev_after-back-requires-clause-knows g c = knows2 g.H.ListHost.list g.H.ListHost.with_list g.H.ListHost.may_change g.H.ListHost.list_back g.H.ListHost.list_over g.H.ListHost.list_again g.H.ListHost.may_on c.args.pass.now.seat.me.0.view c.word-next.new.pass.seat.me.0.view c.args.task c.word-next.result c.next_at.result (c.next_at.ensures ∙ ap (λ (n : ℕ). 8 * n) (ap (λ (n : ℕ). n + 1) c.from-code.ensures)) c.word-next.ensures.told c.requires.still c.requires.task c.requires.host c.word-prev.new.pass.seat.me.0.view c.word-prev.result c.prev_at.result (c.prev_at.ensures ∙ ap (λ (n : ℕ). 8 * n + 1) (ap (λ (n : ℕ). n + 1) c.from-code.ensures)) c.word-prev.ensures.told
+
+pub prev_at-requires-2 : goal.prev_at-requires-2
+prev_at-requires-2 g c = next-small g.H.ListHost.list g.H.ListHost.with_list g.H.ListHost.may_change g.H.ListHost.list_back g.H.ListHost.list_over g.H.ListHost.list_again g.H.ListHost.may_on c.args.pass.now.seat.me.0.view c.word-next.new.pass.seat.me.0.view c.args.task c.word-next.result c.next_at.result (c.next_at.ensures ∙ ap (λ (n : ℕ). 8 * n) (ap (λ (n : ℕ). n + 1) c.from-code.ensures)) c.word-next.ensures.told c.requires.still c.requires.task c.requires.host
+
+pub leave-requires-clause-knows : goal.leave-requires-clause-knows
+leave-requires-clause-knows g c = leaves-knows g.H.ListHost.list g.H.ListHost.with_list g.H.ListHost.may_change g.H.ListHost.list_back g.H.ListHost.list_over g.H.ListHost.list_again g.H.ListHost.may_on c.args.pass.now.seat.me.0.view c.word-next.new.pass.seat.me.0.view c.args.task c.word-next.result c.next_at.result (c.next_at.ensures ∙ ap (λ (n : ℕ). 8 * n) (ap (λ (n : ℕ). n + 1) c.from-code.ensures)) c.word-next.ensures.told c.requires.still c.requires.task c.requires.host c.word-prev.new.pass.seat.me.0.view c.word-prev.result c.prev_at.result (c.prev_at.ensures ∙ ap (λ (n : ℕ). 8 * n + 1) (ap (λ (n : ℕ). n + 1) c.from-code.ensures)) c.word-prev.ensures.told c.prev_after-back.new.pass.seat.me.0.view c.prev_after-back.result c.prev_after-back.ensures.word c.prev_after-back.ensures.kept c.prev_after-back.ensures.host
+
+pub leave-requires-clause-lists : goal.leave-requires-clause-lists
+leave-requires-clause-lists g c = leaves-lists g.H.ListHost.list g.H.ListHost.with_list g.H.ListHost.may_change g.H.ListHost.list_back g.H.ListHost.list_over g.H.ListHost.list_again g.H.ListHost.may_on c.args.pass.now.seat.me.0.view c.word-next.new.pass.seat.me.0.view c.args.task c.word-next.result c.next_at.result (c.next_at.ensures ∙ ap (λ (n : ℕ). 8 * n) (ap (λ (n : ℕ). n + 1) c.from-code.ensures)) c.word-next.ensures.told c.requires.still c.requires.task c.requires.host c.word-prev.new.pass.seat.me.0.view c.word-prev.result c.prev_at.result (c.prev_at.ensures ∙ ap (λ (n : ℕ). 8 * n + 1) (ap (λ (n : ℕ). n + 1) c.from-code.ensures)) c.word-prev.ensures.told c.prev_after-back.new.pass.seat.me.0.view c.prev_after-back.result c.prev_after-back.ensures.word c.prev_after-back.ensures.kept c.prev_after-back.ensures.host
+
 pub leave-requires-clause-host : goal.leave-requires-clause-host
-leave-requires-clause-host g c = let t = c.args.task in let u = c.word-number.new.pass.seat.me.0.view in let ticket = c.word-ticket.ensures.told in let number = c.word-number.ensures.told in let back : 8 + t - 8 ≡ t = omega arith in
-    subst (λ (n : ℕ). AllowsKnown g.H.ListHost.list g.H.ListHost.may_change (Leave n) u) (sym back)
-    (still-allowed g.H.ListHost.list g.H.ListHost.with_list g.H.ListHost.may_change g.H.ListHost.list_back g.H.ListHost.list_over g.H.ListHost.may_on c.args.pass.now.seat.me.0.view c.word-ticket.new.pass.seat.me.0.view u (Leave t) ticket.0 number.0 ticket.1 ticket.3 number.1 number.3 c.requires.host)
+leave-requires-clause-host g c = leaves-host g.H.ListHost.list g.H.ListHost.with_list g.H.ListHost.may_change g.H.ListHost.list_back g.H.ListHost.list_over g.H.ListHost.list_again g.H.ListHost.may_on c.args.pass.now.seat.me.0.view c.word-next.new.pass.seat.me.0.view c.args.task c.word-next.result c.next_at.result (c.next_at.ensures ∙ ap (λ (n : ℕ). 8 * n) (ap (λ (n : ℕ). n + 1) c.from-code.ensures)) c.word-next.ensures.told c.requires.still c.requires.task c.requires.host c.word-prev.new.pass.seat.me.0.view c.word-prev.result c.prev_at.result (c.prev_at.ensures ∙ ap (λ (n : ℕ). 8 * n + 1) (ap (λ (n : ℕ). n + 1) c.from-code.ensures)) c.word-prev.ensures.told c.prev_after-back.new.pass.seat.me.0.view c.prev_after-back.result c.prev_after-back.ensures.word c.prev_after-back.ensures.kept c.prev_after-back.ensures.host
 
-pub shift_all-requires-clause-changes : goal.shift_all-requires-clause-changes
-shift_all-requires-clause-changes g c = changing g.H.ListHost.list g.H.ListHost.with_list g.H.ListHost.list_back g.H.ListHost.list_over g.H.ListHost.list_again c.args.pass.now.seat.me.0.view c.word-ticket.new.pass.seat.me.0.view c.word-number.new.pass.seat.me.0.view c.leave.new.pass.seat.me.0.view c.args.task c.word-ticket.result c.word-number.result c.word-ticket.ensures.told.0 c.word-number.ensures.told.0 c.word-ticket.ensures.told.1 c.requires.still c.word-ticket.ensures.told.2 c.word-ticket.ensures.told.3 c.word-number.ensures.told.1 c.word-number.ensures.told.2 c.word-number.ensures.told.3 c.requires.task c.leave.ensures.there c.leave.ensures.kept
+pub next_at-requires-2 : goal.next_at-requires-2
+next_at-requires-2 g c = prev-small g.H.ListHost.list g.H.ListHost.with_list g.H.ListHost.may_change g.H.ListHost.list_back g.H.ListHost.list_over g.H.ListHost.list_again g.H.ListHost.may_on c.args.pass.now.seat.me.0.view c.word-next.new.pass.seat.me.0.view c.args.task c.word-next.result c.next_at.result (c.next_at.ensures ∙ ap (λ (n : ℕ). 8 * n) (ap (λ (n : ℕ). n + 1) c.from-code.ensures)) c.word-next.ensures.told c.requires.still c.requires.task c.requires.host c.word-prev.new.pass.seat.me.0.view c.word-prev.result c.prev_at.result (c.prev_at.ensures ∙ ap (λ (n : ℕ). 8 * n + 1) (ap (λ (n : ℕ). n + 1) c.from-code.ensures)) c.word-prev.ensures.told
 
-pub go_on-requires-clause-may : goal.go_on-requires-clause-may
-go_on-requires-clause-may g c = number-may g.H.ListHost.list g.H.ListHost.with_list g.H.ListHost.list_back g.H.ListHost.list_over g.H.ListHost.list_again c.args.pass.now.seat.me.0.view c.word-ticket.new.pass.seat.me.0.view c.word-number.new.pass.seat.me.0.view c.leave.new.pass.seat.me.0.view c.args.task c.word-ticket.result c.word-number.result c.word-ticket.ensures.told.0 c.word-number.ensures.told.0 c.word-ticket.ensures.told.1 c.requires.still c.word-ticket.ensures.told.2 c.word-ticket.ensures.told.3 c.word-number.ensures.told.1 c.word-number.ensures.told.2 c.word-number.ensures.told.3 c.requires.task c.leave.ensures.there c.leave.ensures.kept c.shift_all.new.pass.seat.me.0.view c.shift_all.ensures.kept
+pub close-requires-clause-inside : goal.close-requires-clause-inside
+close-requires-clause-inside g c = let m = prev-small g.H.ListHost.list g.H.ListHost.with_list g.H.ListHost.may_change g.H.ListHost.list_back g.H.ListHost.list_over g.H.ListHost.list_again g.H.ListHost.may_on c.args.pass.now.seat.me.0.view c.word-next.new.pass.seat.me.0.view c.args.task c.word-next.result c.next_at.result (c.next_at.ensures ∙ ap (λ (n : ℕ). 8 * n) (ap (λ (n : ℕ). n + 1) c.from-code.ensures)) c.word-next.ensures.told c.requires.still c.requires.task c.requires.host c.word-prev.new.pass.seat.me.0.view c.word-prev.result c.prev_at.result (c.prev_at.ensures ∙ ap (λ (n : ℕ). 8 * n + 1) (ap (λ (n : ℕ). n + 1) c.from-code.ensures)) c.word-prev.ensures.told in let e = c.next_at-2.ensures in omega (arith, m, e)
 
 pub close-requires-clause-may : goal.close-requires-clause-may
-close-requires-clause-may g c = last-may g.H.ListHost.list g.H.ListHost.with_list g.H.ListHost.list_back g.H.ListHost.list_over g.H.ListHost.list_again c.args.pass.now.seat.me.0.view c.word-ticket.new.pass.seat.me.0.view c.word-number.new.pass.seat.me.0.view c.leave.new.pass.seat.me.0.view c.args.task c.word-ticket.result c.word-number.result c.word-ticket.ensures.told.0 c.word-number.ensures.told.0 c.word-ticket.ensures.told.1 c.requires.still c.word-ticket.ensures.told.2 c.word-ticket.ensures.told.3 c.word-number.ensures.told.1 c.word-number.ensures.told.2 c.word-number.ensures.told.3 c.requires.task c.leave.ensures.there c.leave.ensures.kept c.shift_all.new.pass.seat.me.0.view c.shift_all.ensures.kept c.go_on.new.pass.seat.me.0.view c.waiter_at-first.new.pass.seat.me.0.view c.waiter_at-first.result c.code_of.result c.code_of.ensures c.go_on.ensures.kept c.waiter_at-first.ensures.at c.waiter_at-first.ensures.kept
+close-requires-clause-may g c = last-may g.H.ListHost.list g.H.ListHost.with_list g.H.ListHost.may_change g.H.ListHost.list_back g.H.ListHost.list_over g.H.ListHost.list_again g.H.ListHost.may_on c.args.pass.now.seat.me.0.view c.word-next.new.pass.seat.me.0.view c.args.task c.word-next.result c.next_at.result (c.next_at.ensures ∙ ap (λ (n : ℕ). 8 * n) (ap (λ (n : ℕ). n + 1) c.from-code.ensures)) c.word-next.ensures.told c.requires.still c.requires.task c.requires.host c.word-prev.new.pass.seat.me.0.view c.word-prev.result c.prev_at.result (c.prev_at.ensures ∙ ap (λ (n : ℕ). 8 * n + 1) (ap (λ (n : ℕ). n + 1) c.from-code.ensures)) c.word-prev.ensures.told c.prev_after-back.new.pass.seat.me.0.view c.prev_after-back.result c.prev_after-back.ensures.word c.prev_after-back.ensures.kept c.prev_after-back.ensures.host c.leave.new.pass.seat.me.0.view c.prev_at-2.result c.prev_at-2.ensures c.leave.ensures.kept c.next_at-2.result c.next_at-2.ensures
 
 pub returns-clause-kept : goal.returns-clause-kept
-returns-clause-kept g c = all-removed g.H.ListHost.list g.H.ListHost.with_list g.H.ListHost.list_back g.H.ListHost.list_over g.H.ListHost.list_again c.args.pass.now.seat.me.0.view c.word-ticket.new.pass.seat.me.0.view c.word-number.new.pass.seat.me.0.view c.leave.new.pass.seat.me.0.view c.args.task c.word-ticket.result c.word-number.result c.word-ticket.ensures.told.0 c.word-number.ensures.told.0 c.word-ticket.ensures.told.1 c.requires.still c.word-ticket.ensures.told.2 c.word-ticket.ensures.told.3 c.word-number.ensures.told.1 c.word-number.ensures.told.2 c.word-number.ensures.told.3 c.requires.task c.leave.ensures.there c.leave.ensures.kept c.shift_all.new.pass.seat.me.0.view c.shift_all.ensures.kept c.go_on.new.pass.seat.me.0.view c.waiter_at-first.new.pass.seat.me.0.view c.waiter_at-first.result c.code_of.result c.code_of.ensures c.go_on.ensures.kept c.waiter_at-first.ensures.at c.waiter_at-first.ensures.kept c.close.new.pass.seat.me.0.view c.close.ensures.kept
+returns-clause-kept g c = removes g.H.ListHost.list g.H.ListHost.with_list g.H.ListHost.may_change g.H.ListHost.list_back g.H.ListHost.list_over g.H.ListHost.list_again g.H.ListHost.may_on c.args.pass.now.seat.me.0.view c.word-next.new.pass.seat.me.0.view c.args.task c.word-next.result c.next_at.result (c.next_at.ensures ∙ ap (λ (n : ℕ). 8 * n) (ap (λ (n : ℕ). n + 1) c.from-code.ensures)) c.word-next.ensures.told c.requires.still c.requires.task c.requires.host c.word-prev.new.pass.seat.me.0.view c.word-prev.result c.prev_at.result (c.prev_at.ensures ∙ ap (λ (n : ℕ). 8 * n + 1) (ap (λ (n : ℕ). n + 1) c.from-code.ensures)) c.word-prev.ensures.told c.prev_after-back.new.pass.seat.me.0.view c.prev_after-back.result c.prev_after-back.ensures.word c.prev_after-back.ensures.kept c.prev_after-back.ensures.host c.leave.new.pass.seat.me.0.view c.prev_at-2.result c.prev_at-2.ensures c.leave.ensures.kept c.close.new.pass.seat.me.0.view c.next_at-2.result c.next_at-2.ensures c.close.ensures.kept

@@ -1,7 +1,7 @@
 use Rattle.std.proofs.Common.{arith, ap}
 use Rattle.lock_core.proofs.Sitting.{sits-on}
 use Rattle.wait_list.proofs.Listing.{sights}
-use Rattle.wait_list.proofs.words.first_word.Goals as goal
+use Rattle.wait_list.proofs.words.head.Goals as goal
 
 pub step-requires : goal.step-requires
 step-requires g c = let k = c.args.site.now.table.shared.key in let s = g.H.ListHost.list_inside in let e = c.LIST.ensures in record {
