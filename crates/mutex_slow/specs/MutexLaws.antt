@@ -399,7 +399,7 @@ module _ {Call : Type 0} (o : Obj Call) (size : ℕ) where
       (λ is. dite (ℕ_discrete h 0) (λ out. (t, refl, is, out)) (λ other. not-both (h == 0) (ne_eqb h 0 other) q.1))
       (λ other. not-both (n == t + 1) (ne_eqb n (t + 1) other) q.0)
 
-  -- a load of the first word, by which a pass sees that it is the first waiter
+  -- a load of the head, by which a pass sees that it is the first waiter
   pub mutex-firsts : (k : Plan) (ws : List ℕ) (vs : List V) (l : List Waiter) (id : ℕ) (v : V) → Queue k ws vs l → get_elem? vs id ≡ some v → Go k id ws vs ws (set vs id (sighted saw_first v (get_or (list_words ws) 0 0)))
   mutex-firsts k ws vs l id v r at = let n : ℕ = get_or (list_words ws) 0 0 in let w : V = sighted saw_first v n in let ok = r.coupled.each id v at in goes-on k ws vs l id v r at ws (set vs id w) Stay r.wide
       (keep_part hand_of (Site k ws) vs id v w at refl r.site_holds)

@@ -229,6 +229,6 @@ abbrev pub is_code : Option ℕ → ℕ → Bool
 is_code None n = false
 is_code (Some t) n = n == t + 1
 
--- a pass that sees its own code as the first word is the first waiter
+-- a pass that sees its own code as the head is the first waiter
 abbrev pub saw_first : V → ℕ → MutexHand
 saw_first v n = record v.ext { first = is_code v.hand.task n && (holds_in v.spin == 0) }

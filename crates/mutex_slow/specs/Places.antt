@@ -113,7 +113,7 @@ abbrev pub Names : Option Waiter → ℕ → Type 0
 Names None word = word < 2
 Names (Some w) word = (word / 8 ≡ w.task + 1) × (4 ≤ word % 8)
 
--- a step behind the one of this number found the list's first word, which has the code of this waiter or 0; a later one found the task's code in the owner word and ended the hold, and the pass had the wait lock then; and the word that the pass left names the waiter
+-- a step behind the one of this number found the list's head, which has the code of this waiter or 0; a later one found the task's code in the owner word and ended the hold, and the pass had the wait lock then; and the word that the pass left names the waiter
 abbrev pub NamesFirst : ℕ → Option Waiter → Shown → Shown → Type 0
 NamesFirst begun first v u = ((step n looked : ℕ) × (own : FindsOwnCode step n No v u) × HasWaitLock own.2.0.by.seat own.2.0.by.now × (looked < step) × FoundSince v.hand.task begun looked list_at (waiter_code first) v.past u.past) × Names first u.hand.freed
 

@@ -32,7 +32,7 @@ pub record Phased (tasks : ℕ) (seen : Option ℕ) (v : V) : Type 0 where
   pub phase : v.ext ≡ phase_by seen v.hand.held
   pub part : PartOk tasks (phase_part v)
 
--- The CPU slept once after each of some tries to read, of three steps each, and these more steps came behind the last sleep.
+-- There were some tries to read, of three steps each, and as many sleeps, and these more steps. When it slept isn't said.
 abbrev pub SleepsEachTry : (more steps steps' sleeps sleeps' : ℕ) → Type 0
 SleepsEachTry more steps steps' sleeps sleeps' = (tries : ℕ) × (steps' ≡ steps + (3 * tries + more)) × (sleeps' ≡ slept tries sleeps)
 

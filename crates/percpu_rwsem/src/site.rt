@@ -185,8 +185,8 @@ impl<O: Object> PercpuRwSem<O> {
 
     /// Looks back at the table's whole past, by a load that changes nothing. At each moment, from
     /// the new table on, the facts of every site held, each count said whether its task was inside,
-    /// and the block word said who blocked. Each step between them led its own pass from one phase
-    /// to another, and changed the count or the block word that goes with that.
+    /// and the block word said who blocked. Each step left its pass's phase and these words, or
+    /// led it to a next phase and did to the words what goes with that.
     pub fn recall(&self, pass: &mut PercpuPass<O>)
         requires own { SitsAt self.now pass.old }
         ensures own { SitsAt self.now pass.new }

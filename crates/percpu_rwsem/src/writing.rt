@@ -143,8 +143,8 @@ impl<O: Object> PercpuRwSem<O> {
     }
 
     /// Blocks new readers, then waits for those inside, until the pass holds alone
-    /// (`percpu_down_write`). The crew isn't asked for anything: `up_read` and `down_read` wake the
-    /// writer.
+    /// (`percpu_down_write`). The crew isn't asked for anything: `up_read`, `down_read` and
+    /// `unblock` wake the writer.
     pub fn down_write<W: Wait, C: Crew>(
         &self,
         rt: &W,

@@ -287,7 +287,7 @@ module _ {Call : Type 0} (o : Obj Call) (size : ℕ) where
     sem-lists i n (Leave t) b inside has may is leaver list = lists-by i n (Leave t) b has inside list (sem-list-may (Leave t) has may) (parted v, at_map parted vs id v at, ap holds_at has) (leaves-by has t (length b.list) may)
         (subst (λ (z : List Waiter). Facts (without t q) (parted_at v.ext.sem.stage v.ext.sem.wait t (length z) v.ext.sem)) (sym is) (leaves-facts has t may))
 
-    -- a load of the first word
+    -- a load of the head
     pub sem-firsts : Go k id ws vs ws (set vs id (sighted saw_first v (get_or (list_words ws) 0 0)))
     sem-firsts = let w : V = sighted saw_first v (get_or (list_words ws) 0 0) in goes-on o size k ws vs q r id v at ws (set vs id w) r.wide (keep_part hand_of (SiteKept o unavailable size k (site k ws)) vs id v w at refl r.site_holds)
         (set-moves id (site k ws) (site k ws) vs v w at (hold-moved (site k ws) v v.hand w.ext (hand-stays v.hand) (inl (saw-stays v.hand)))) w (set-there vs id v w at)

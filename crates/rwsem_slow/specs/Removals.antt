@@ -21,7 +21,7 @@ abbrev pub BeginsWith : List ℕ → List Waiter → Type 0
 BeginsWith [] q = Unit {0}
 BeginsWith (t ∷ ts) q = first_code q ≡ t + 1
 
--- a pass under the wait lock that knows the list, and is between no two stores of a change
+-- a pass under the wait lock that knows the list, and isn't between the store at which the list changes and the last one
 pub record KnowsList (v : V) : Type 0 where
   pub knows : Knows (list_part list_of v)
   pub still : v.ext.list.changes ≡ false

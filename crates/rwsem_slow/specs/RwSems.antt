@@ -220,7 +220,7 @@ with_list Stay v b = record v.ext { list = b }
 with_list (Enter w) v b = record { list = b; sem = joined w.writer (length b.list) v.ext.sem; appends = v.ext.appends + 1 }
 with_list (Leave t) v b = record { list = b; sem = parted v.ext.sem.stage v.ext.sem.wait t (length b.list) v.ext.sem; appends = v.ext.appends }
 
--- a look at the first word tells nothing
+-- a look at the head tells nothing
 abbrev pub saw_first : V → ℕ → RwSemHand
 saw_first v n = v.ext
 

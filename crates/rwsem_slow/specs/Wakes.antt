@@ -64,7 +64,7 @@ pub record Grants (written : Bool) (v u : V) : Type 0 where
   pub left : u.ext.list.list ≡ left_of written v.ext.list.list
 
 module _ {R O C : Type 0} where
-  -- A wake of this kind has woken these tasks, is at rest, and knows the list that it left. A look of it at the list's first word found the code of the waiter that was first. Where a reader was first and the wake reserved a bias of its own, its look at the count said whether there was a writer.
+  -- A wake of this kind has woken these tasks, is at rest, and knows the list that it left. A look of it at the list's head found the code of the waiter that was first. Where a reader was first and the wake reserved a bias of its own, its look at the count said whether there was a writer.
   pub record Wakes (kind : WakeType) (woken : List ℕ) (old new : Pass R O RwSemHand C) : Type 0 where
     pub beside : StaysBeside (view_of old) (view_of new)
     pub rests : IsAtRest (view_of new)

@@ -154,7 +154,7 @@ module _ {E : Type 0} where
   abbrev pub hand_at : (E → ListHand) → View E → ListHand
   hand_at list v = list v.ext
 
-  -- it is between no two stores of a change
+  -- it isn't between the store at which the list changes and the last one
   abbrev pub IsStill : (E → ListHand) → View E → Type 0
   IsStill list v = (list v.ext).changes ≡ false
 

@@ -31,8 +31,8 @@ pub fn append<H: ListHost>(site: &Site<H>, pass: &mut Pass<H>, waiter: Waiter)
     let code = u64::from(waiter.task) + 1;
     let tail = word(site, pass, TAIL_AT);
     let prev = 2 * tail + u64::from(waiter.writer);
-    // Whoever walks the list must find the task's own words right: they are stored while no link
-    // leads to the task.
+    // Whoever walks the list must find the task's own words right: they are stored while no walk of
+    // the list comes by them.
     words::prepare(site, pass, next_at(code), 0);
     words::prepare(site, pass, prev_at(code), prev);
     words::enter(site, pass, waiter);
@@ -65,8 +65,8 @@ fn prev_after<H: ListHost>(site: &Site<H>, pass: &mut Pass<H>, next: u64, prev: 
     2 * prev + word(site, pass, prev_at(next)) % 2
 }
 
-/// Removes the task, which is in the list. All others stand in their order. It takes as many steps
-/// whatever the list's length. The kernel's `__mutex_remove_waiter` and `rwsem_del_waiter`.
+/// Removes the task, which is in the list. All others stand in their order. It takes five
+/// steps at most, whatever the list's length. The kernel's `__mutex_remove_waiter` and `rwsem_del_waiter`.
 pub fn remove<H: ListHost>(site: &Site<H>, pass: &mut Pass<H>, task: u32)
     requires own { SitsAt site.now pass.old }
     requires held { SpinHolds (view_of pass.old).spin }

@@ -27,7 +27,8 @@ pub struct ListHand {
     pub list: [Waiter; 0],
     pub words: [u64; 0],
     pub since: u64,
-    /// It is between the first store of a change and the last one: the words aren't yet the list's.
+    /// It is between the store at which the list changes and the last one: the words aren't yet the
+    /// list's.
     pub changes: bool,
     /// The code of the waiter that it removes meanwhile, which the head may still have.
     pub leaver: u64,

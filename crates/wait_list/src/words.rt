@@ -4,8 +4,8 @@
 //!
 //! `next` is the code of the waiter behind, or 0. `prev` is twice the code of the waiter before, or 0
 //! for the first, and 1 more where the task waits as a writer. Head and tail stand where the `next`
-//! and the `prev` of code 0 would, so that a link from the list and a link from a waiter are one
-//! thing. The kernel's `struct list_head` is such a ring.
+//! and the `prev` of code 0 would, so a code gives the place of a link, from the list or from a
+//! waiter. The tail is a code. The kernel's `struct list_head` is such a ring.
 ghost use Rattle.std.specs.Prelude.{◌≡◌, ◌<◌, ◌≤◌, ◌+◌};
 ghost use Rattle.lock_core.specs.Handles.{IsLatest, view_of, past_of, SitsAt, KeepsPast, SaysSame};
 ghost use Rattle.lock_core.specs.Pasts.{FoundAt};
