@@ -85,7 +85,7 @@ module _ {E : Type 0} (marks : E → List ℕ) (begun : Moment) (holds : List �
             (each-set (HasSeen h) (HasSeen (moment marks new ∷ h)) vs id x (seen-older (moment marks new) h x (seen-both h v w a (r.4 id v at) (r.4 other w at'))) (λ j v _ _ t. seen-older (moment marks new) h v t) r.4),
       )
 
-  pub own-step : (ws ws' : List ℕ) (vs : List (View E)) (h : List (Instant E)) (id : ℕ) (v w : View E) → get_elem? vs id ≡ some v → w.steps ≡ v.steps + 1 → IsOwnStep w (grown ws vs ws' h id w).past
+  abbrev pub own-step : (ws ws' : List ℕ) (vs : List (View E)) (h : List (Instant E)) (id : ℕ) (v w : View E) → get_elem? vs id ≡ some v → w.steps ≡ v.steps + 1 → IsOwnStep w (grown ws vs ws' h id w).past
   own-step ws ws' vs h id v w at counts = let new : Instant E = instant ws' (set vs id w) in let there = set-there vs id v w at in record {
     now = moment marks new;
     before = moment marks (instant ws vs);
@@ -101,15 +101,8 @@ module _ {E : Type 0} (marks : E → List ℕ) (begun : Moment) (holds : List �
     counts = counts;
   }
 
-  pub own-marks : (ws ws' : List ℕ) (vs : List (View E)) (h : List (Instant E)) (id : ℕ) (v w : View E) → get_elem? vs id ≡ some v → IsMarked marks w (grown ws vs ws' h id w).past
-  own-marks ws ws' vs h id v w at = let there = set-there vs id v w at in record {
-    now = moment marks (instant ws' (set vs id w));
-    rest = map (moment marks) (instant ws vs ∷ h);
-    seat = id;
-    past_is = refl;
-    hand = at_map hand_of (set vs id w) id w there;
-    kept = at_map (marks_of marks) (set vs id w) id w there;
-  }
+  pub own-marks : (ws ws' : List ℕ) (vs : List (View E)) (h : List (Instant E)) (id : ℕ) (v w : View E) → get_elem? vs id ≡ some v → w.steps ≡ v.steps + 1 → IsMarked marks w (grown ws vs ws' h id w).past
+  own-marks ws ws' vs h id v w at counts = record { own = own-step ws ws' vs h id v w at counts; kept = at_map (marks_of marks) (set vs id w) id w (set-there vs id v w at) }
 
 module _ {E : Type 0} (marks : E → List ℕ) (holds : List ℕ → List (View E) → Type 0) (moves : ℕ → List ℕ → List (View E) → List ℕ → List (View E) → Type 0) where
   pub lived-open : (ws : List ℕ) (v : View E) → holds ws (v ∷ []) → let new : Moment = moment marks (instant ws (v ∷ [])) in Lived marks new holds moves ws (record { view = v; past = new ∷ []; joined = [] } ∷ [])

@@ -131,7 +131,7 @@ module _ {E : Type 0} (k : Plan) (marks : E → List ℕ) (begun : Plan → Mome
           refl,
           goes-on me.0.past (moment marks new ∷ h) (older (moment marks new) h me.0.past (r.4 id me.0 at).own),
           own-step marks (begun k) (holds k) (moves k) s.words ws' vs r.0 id v (ticked v) there refl,
-          own-marks marks (begun k) (holds k) (moves k) s.words ws' vs r.0 id v (ticked v) there,
+          own-marks marks (begun k) (holds k) (moves k) s.words ws' vs r.0 id v (ticked v) there refl,
           λ p is. subst (λ (z : Plan). Ran marks (begun z) (Moves (holds z) (moves z)) g.past) (same-some k p (sym plan ∙ is)) ran,
           λ i p e. goes-on p.moments (moment marks new ∷ h) (older (moment marks new) h p.moments ((r.4 id me.0 at).joined i p e)),
         ),

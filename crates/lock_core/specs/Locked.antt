@@ -102,7 +102,7 @@ pub record IsSiteStep (k : Plan) (word_at : ℕ) (x y : Moment) : Type 0 where
   pub has_steps : get_elem? y.steps id ≡ some (had + 1)
   pub steps : SiteStep (had + 1) (site k x.words) (site k y.words) before after
   pub one_word : ChangesOneWord x.words y.words
-  -- a word that it newly keeps as seen was the lock's, at this step
+  -- a word that it newly keeps as seen was the lock's, at this step; where its number changes, what it saw is forgotten
   pub tries : SawGoes (had + 1) (slice_index x.words word_at) before after
   pub others : (j : ℕ) (h g : Hand) → j ≢ id → get_elem? x.hands j ≡ some h → get_elem? y.hands j ≡ some g → g.plan ≢ None → SamePass j x y
   pub spends : (j : ℕ) (h g : Hand) → j ≢ id → get_elem? x.hands j ≡ some h → get_elem? y.hands j ≡ some g → g.plan ≡ None → SamePass j x y ⊎ IsGone j h x y

@@ -165,11 +165,7 @@ pub record IsOwnStep {E : Type 0} (v : View E) (past : List Moment) : Type 0 whe
   pub had_steps : get_elem? before.steps seat ≡ some had
   pub counts : v.steps ≡ had + 1
 
--- at one seat of the last moment stand this view's hand and what the moment keeps of what the rule adds to it
+-- the last moment is that of the step which left the pass this view, and it keeps, at the seat of that step, what the rule adds to the view
 pub record IsMarked {E : Type 0} (marks : E → List ℕ) (v : View E) (past : List Moment) : Type 0 where
-  pub now : Moment
-  pub rest : List Moment
-  pub seat : ℕ
-  pub past_is : past ≡ now ∷ rest
-  pub hand : get_elem? now.hands seat ≡ some v.hand
-  pub kept : get_elem? now.marks seat ≡ some (marks_of marks v)
+  pub own : IsOwnStep v past
+  pub kept : get_elem? own.now.marks own.seat ≡ some (marks_of marks v)

@@ -153,15 +153,16 @@ pub record HoldGoes (h g : Hand) : Type 0 where
 abbrev pub HandGoes : Hand → Hand → Type 0
 HandGoes h g = HoldGoes h g × (g.last ≡ h.last)
 
--- it counts no failed try, and what it keeps as seen of the lock's word is as before, or forgotten
+-- it counts no failed try, and what it keeps as seen of the lock's word is as before, under the same number, or forgotten
 abbrev pub KeepsSaw : Hand → Hand → Type 0
-KeepsSaw h g = (g.misses ≡ h.misses) × ((g.saw ≡ h.saw) ⊎ (g.saw ≡ None))
+KeepsSaw h g = (g.misses ≡ h.misses) × (((g.saw ≡ h.saw) × (g.task ≡ h.task)) ⊎ (g.saw ≡ None))
 
--- a try failed, of a pass that holds nothing, at the step of this number, where the lock's word was this one: it is counted, and the word is kept as seen
+-- a try failed, of a pass that holds nothing, at the step of this number, where the lock's word was this one: it is counted, and the word is kept as seen, under the number that the pass has before and after
 pub record FailsTry (step word : ℕ) (h g : Hand) : Type 0 where
   pub out : h.held ≡ No
   pub counts : g.misses ≡ h.misses + 1
   pub saw : g.saw ≡ Some (record { word = word; step = step })
+  pub task : g.task ≡ h.task
 
 -- how the step of this number, before which the lock's word was this one, may change what the pass keeps of failed tries
 abbrev pub SawGoes : (step word : ℕ) → Hand → Hand → Type 0

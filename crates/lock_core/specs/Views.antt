@@ -86,8 +86,9 @@ told_from t call (r ∷ rs) = record { entry = record { task = t; call = call };
 abbrev pub became : Hand → ℕ → List Rec → List Entry → Hand
 became h t rs seen = record h { task = Some t; done = length rs; seen = seen; records = told_from t 0 rs ++ h.records; saw = None; heard = None }
 
+-- It gives its number back; what it saw is forgotten.
 abbrev pub gave_up : Hand → Hand
-gave_up h = record h { task = None; heard = None }
+gave_up h = record h { task = None; saw = None; heard = None }
 
 abbrev pub gathered : Hand → Hand → Hand
 gathered h g = record h { seen = longer h.seen g.seen; records = h.records ++ g.records }

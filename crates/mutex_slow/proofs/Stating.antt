@@ -16,10 +16,10 @@ use Rattle.lock_core.specs.Spins.{holds_in}
 use Rattle.lock_core.specs.Totals.{total, total-at, total-two}
 use Rattle.lock_core.specs.Parts.{Each, at_unmap}
 use Rattle.lock_core.specs.Records.{bit}
-use Rattle.lock_core.specs.Views.{hand_of, spin_of, held_weight, held_of, is_number, named_of}
+use Rattle.lock_core.specs.Views.{hand_of, spin_of, held_weight, held_of, is_number}
 use Rattle.lock_core.specs.declared.view.Marks.{Marks}
 use Rattle.lock_core.specs.Pasts.{instant, marks_of, moment}
-use Rattle.lock_core.proofs.HandLaws.{false-or-true, held-none, is_number-here, number-or-not, not-both}
+use Rattle.lock_core.proofs.HandLaws.{false-or-true, held-none, number-or-not, not-both}
 use Rattle.lock_core.proofs.Stating.{kept-states}
 use Rattle.lock_core.proofs.WordSteps.{some-of}
 use Rattle.mutex_word.specs.Holders.{OwnKept, IsHolder}
@@ -126,10 +126,3 @@ module _ {Call : Type 0} (o : Obj Call) (size : ℕ) (k : Plan) (ws : List ℕ) 
 module _ {Call : Type 0} (o : Obj Call) (size : ℕ) where
   pub mutex-states : (k : Plan) (ws : List ℕ) (vs : List V) → Kept o size k ws vs → IsMutexThen o size k (moment standing (instant ws vs))
   mutex-states k ws vs r = (kept-states o owned size k (site k ws) (map hand_of vs) r.1.site_holds, (r.0, listed o size k ws vs r.0 r.1))
-
--- two passes with one number are one
-pub one-seat : (hs : List Hand) (t i j : ℕ) (h g : Hand) → total (named_of t) hs ≤ 1 → get_elem? hs i ≡ some h → get_elem? hs j ≡ some g → h.task ≡ Some t → g.task ≡ Some t → i ≡ j
-one-seat hs t i j h g one at at' is is' = elim (native.Mathlib.Decide.ℕ_discrete i j) [
-  | yes same ↦ same
-  | no other ↦ let two = total-two (named_of t) hs i j h g at at' other in let a : named_of t h ≡ 1 = ap (is_number t) is ∙ is_number-here t in let b : named_of t g ≡ 1 = ap (is_number t) is' ∙ is_number-here t in absurd (omega (arith, two, a, b, one))
-]

@@ -1,5 +1,5 @@
 -- What is so of a mutex at each moment, and of each step.
-use Rattle.std.specs.Prelude.{◌≡◌, ◌≢◌, ℕ, ◌+◌, ◌/◌, ◌%◌, ◌<◌, ◌≤◌, ◌⊎◌, true, List, [], ◌∷◌, length, map, Option, Some, None, IsSome}
+use Rattle.std.specs.Prelude.{◌≡◌, ◌≢◌, ℕ, ◌+◌, ◌/◌, ◌%◌, ◌<◌, ◌≤◌, ◌⊎◌, true, List, [], ◌∷◌, length, map, Option, Some, None}
 use mathlib.Core.Option.{some}
 use lib.ListN.{get_elem?}
 use Rattle.word_bits.specs.LockWords.{owned}
@@ -93,13 +93,10 @@ HasBecome k [] l = ⊥
 HasBecome k (m ∷ []) l = IsListed m l
 HasBecome k (m ∷ before ∷ past) l = IsListed m l × ((old : List Waiter) × HasBecome k (before ∷ past) old × IsMutexStep k before old m l)
 
--- the last moment of its past, which is that of its own last step, has it at one seat, marked as out of the list, and as having appended itself as often as it says; where it has a number, that is the seat of the step
+-- the last moment of its past, which is that of its own last step, marks the pass at the seat of that step as out of the list, and as having appended itself as often as it says
 pub record IsOutOfList (v : Shown) : Type 0 where
   pub own : IsLatestStep v
-  pub seat : ℕ
-  pub hand : get_elem? own.step.now.hands seat ≡ some v.hand
-  pub marked : StandsMarked seat 0 v.line.appends own.step.now
-  pub same : IsSome v.hand.task → seat ≡ own.step.seat
+  pub marked : StandsMarked own.step.seat 0 v.line.appends own.step.now
 
 abbrev pub task_of : Waiter → ℕ
 task_of w = w.task

@@ -109,14 +109,14 @@ module _ {E Call : Type 0} (o : Obj Call) (unavailable : Unavailable) (size : �
       let there = (ok.mine t has).0 in let known : List ℕ = take size (site k ws).guarded in let g : Hand = took v.hand Alone known r.log in (
         turns turned Take v g,
         refl,
-        owns ws vs id new v g Take h at refl (record { misses = omega arith; freed = λ _. refl; takes = omega arith; comes = λ _ _. omega arith }, refl) (inl (refl, inl refl)) (λ _ not. absurd (not refl)) (subst (λ (z : ℕ). may_own Take v z new) (sym is) may) (own-takes hs id t (get_or ws place 0) v.hand g own (named ws vs h) mine is (omega arith) refl has) (site-takes o unavailable size k (site k ws) hs id t v.hand Alone r mine out has (alone-is-held Alone refl) (λ _. free) none),
+        owns ws vs id new v g Take h at refl (record { misses = omega arith; freed = λ _. refl; takes = omega arith; comes = λ _ _. omega arith }, refl) (inl (refl, inl (refl, refl))) (λ _ not. absurd (not refl)) (subst (λ (z : ℕ). may_own Take v z new) (sym is) may) (own-takes hs id t (get_or ws place 0) v.hand g own (named ws vs h) mine is (omega arith) refl has) (site-takes o unavailable size k (site k ws) hs id t v.hand Alone r mine out has (alone-is-held Alone refl) (λ _. free) none),
         (
           (λ _. (known, r.log, (λ p plan. subst (λ (z : Plan). Learns o z v.hand known r.log) (its-plan k p v.hand.plan ok.plan plan) record { stored = quiet-state o unavailable size k (site k ws) hs r none; within = r.tells.within; begins = ok.seen }), (refl, refl))),
           λ not. absurd (not refl),
         ),
       ))
       (λ ws vs h at not _. let r = kept ws vs h in let own = (own_kept ws vs h).0 in let n : ℕ = get_or ws place 0 in let mine = at_map hand_of vs id v at in (
-        stays ws vs id v (missed v.hand n (v.steps + 1)) h at refl refl (record { misses = omega arith; freed = λ _. refl; takes = omega arith; comes = λ out holds. absurd (holds out) }, refl) (inr (record { out = out; counts = refl; saw = refl }, miss)) (site-misses o unavailable size k (site k ws) (map hand_of vs) id n (v.steps + 1) v.hand r mine (let small = own.small in omega (arith, small))),
+        stays ws vs id v (missed v.hand n (v.steps + 1)) h at refl refl (record { misses = omega arith; freed = λ _. refl; takes = omega arith; comes = λ out holds. absurd (holds out) }, refl) (inr (record { out = out; counts = refl; saw = refl; task = refl }, miss)) (site-misses o unavailable size k (site k ws) (map hand_of vs) id n (v.steps + 1) v.hand r mine (let small = own.small in omega (arith, small))),
         ((λ is. absurd (not is)), λ _. (own.small, (own_kept ws vs h).1, (refl, refl))),
       ))
 
@@ -126,7 +126,7 @@ module _ {E Call : Type 0} (o : Obj Call) (unavailable : Unavailable) (size : �
       (λ ws vs h at is. let hs : List Hand = map hand_of vs in let mine = at_map hand_of vs id v at in (
         turns turned Free v g,
         refl,
-        owns ws vs id 0 v g Free h at refl (hand-frees v.hand 0 alone) (inl (refl, inl refl)) (λ _ _. refl) (subst (λ (z : ℕ). may_own Free v z 0) (sym is) may) (own-frees hs id (get_or ws place 0) v.hand g (own_kept ws vs h).0 mine alone refl) (site-frees o unavailable size k (site k ws) hs id 0 v.hand (kept ws vs h) mine quiet rests),
+        owns ws vs id 0 v g Free h at refl (hand-frees v.hand 0 alone) (inl (refl, inl (refl, refl))) (λ _ _. refl) (subst (λ (z : ℕ). may_own Free v z 0) (sym is) may) (own-frees hs id (get_or ws place 0) v.hand g (own_kept ws vs h).0 mine alone refl) (site-frees o unavailable size k (site k ws) hs id 0 v.hand (kept ws vs h) mine quiet rests),
         ((λ _. (refl, refl)), λ not. absurd (not refl)),
       ))
       (λ ws vs h at not _. let hs : List Hand = map hand_of vs in let mine = at_map hand_of vs id v at in let own = own_kept ws vs h in let w = held-word hs id t (get_or ws place 0) v.hand own.0 mine alone has in let low = w.0 in let is = w.1 in (
@@ -179,7 +179,7 @@ module _ {E Call : Type 0} (o : Obj Call) (unavailable : Unavailable) (size : �
   is-missing false h n step = (refl, refl, hand-stays h)
 
   is-counted : (counts : Bool) (v : View E) (n : ℕ) → MayMiss may_miss counts v → TriesWhere may_miss n v (missing counts v.hand n (v.steps + 1))
-  is-counted true v n miss = let m = miss refl in inr (record { out = m.0; counts = refl; saw = refl }, m.1)
+  is-counted true v n miss = let m = miss refl in inr (record { out = m.0; counts = refl; saw = refl; task = refl }, m.1)
   is-counted false v n miss = inl (saw-stays v.hand)
 
   -- what a try makes of a word that it sees and leaves
@@ -219,7 +219,7 @@ module _ {E Call : Type 0} (o : Obj Call) (unavailable : Unavailable) (size : �
       let both = take-keeps hs id t old new v.hand g own (named ws vs h) mine (omega (arith, few, there)) is refl has in let free = both.1 in let none = none-alone hs free in (
         turns turned Take v g,
         refl,
-        owns ws vs id new v g Take h at refl (record { misses = omega arith; freed = λ _. refl; takes = omega arith; comes = λ _ _. omega arith }, refl) (inl (refl, inl refl)) (λ _ not. absurd (not refl)) (subst (λ (z : ℕ). may_own Take v z new) (sym found) may) both.0 (site-takes o unavailable size k (site k ws) hs id t v.hand Alone r mine out has (alone-is-held Alone refl) (λ _. free) none),
+        owns ws vs id new v g Take h at refl (record { misses = omega arith; freed = λ _. refl; takes = omega arith; comes = λ _ _. omega arith }, refl) (inl (refl, inl (refl, refl))) (λ _ not. absurd (not refl)) (subst (λ (z : ℕ). may_own Take v z new) (sym found) may) both.0 (site-takes o unavailable size k (site k ws) hs id t v.hand Alone r mine out has (alone-is-held Alone refl) (λ _. free) none),
         (
           (λ _. (known, r.log, (λ p plan. subst (λ (z : Plan). Learns o z v.hand known r.log) (its-plan k p v.hand.plan ok.plan plan) record { stored = quiet-state o unavailable size k (site k ws) hs r none; within = r.tells.within; begins = ok.seen }), (refl, refl))),
           λ not. absurd (not refl),
@@ -253,7 +253,7 @@ module _ {E Call : Type 0} (o : Obj Call) (unavailable : Unavailable) (size : �
       (λ ws vs h at found. let hs : List Hand = map hand_of vs in let mine = at_map hand_of vs id v at in let n : ℕ = get_or ws place 0 in (
         turns turned turn v g,
         refl,
-        owns ws vs id new v g turn h at refl (hand-frees v.hand new alone) (inl (refl, inl refl)) (λ _ _. refl) (subst (λ (z : ℕ). may_own turn v z new) (sym found) may) (own-leaves hs id n v.hand g (own_kept ws vs h).0 mine new alone refl left) (site-frees o unavailable size k (site k ws) hs id new v.hand (kept ws vs h) mine quiet rests),
+        owns ws vs id new v g turn h at refl (hand-frees v.hand new alone) (inl (refl, inl (refl, refl))) (λ _ _. refl) (subst (λ (z : ℕ). may_own turn v z new) (sym found) may) (own-leaves hs id n v.hand g (own_kept ws vs h).0 mine new alone refl left) (site-frees o unavailable size k (site k ws) hs id new v.hand (kept ws vs h) mine quiet rests),
         ((λ _. (refl, refl)), λ not. absurd (not refl)),
       ))
       (λ ws vs h at not _. let r = mine-there me t ws vs id h at has alone in (ticked v, refl, r.0, ((λ is. absurd (not is)), λ _. (r.1, (refl, refl))))))

@@ -1,5 +1,5 @@
 -- What a clause reads of a spin queue and of a pass.
-use Rattle.std.specs.Prelude.{◌≡◌, ◌≢◌, ◌<◌, ℕ, suc, Bool, true, false, List, ◌∷◌, Option, Some, length}
+use Rattle.std.specs.Prelude.{◌≡◌, ◌≢◌, ◌<◌, ℕ, suc, Bool, true, false, List, Option, Some, length}
 use mathlib.Core.Option.{some}
 use lib.ListN.{get_elem?}
 use Rattle.lock_core.specs.declared.view.Marks.{Marks}
@@ -92,16 +92,12 @@ abbrev pub FoundNext : Bool → ℕ → OsqPass → Type 0
 FoundNext true task pass = (next : ℕ) × FoundAt (next_at task) (suc next) (past_of pass)
 FoundNext false task pass = FoundAt (next_at task) 0 (past_of pass)
 
--- The last moment of its past says of the pass what the pass does: at one seat stand its hand, its place, its swaps and what the last one found; and its task is at that place.
+-- The last moment of its past, which is that of its own last step, says of the pass what the pass does: at the seat of that step stand its hand, its place, its swaps and what the last one found; and its task is at that place.
 pub record StatesOwn (pass : OsqPass) : Type 0 where
-  pub now : Moment
-  pub rest : List Moment
-  pub past_is : past_of pass ≡ now ∷ rest
-  pub seat : ℕ
-  pub hand : get_elem? now.hands seat ≡ some (inner.hand_in pass.pass)
+  pub own : IsLatest pass
   pub node : Marks
-  pub node_is : get_elem? now.marks seat ≡ some node
+  pub node_is : get_elem? own.now.marks own.seat ≡ some node
   pub place : Marked.place_in node.numbers ≡ place_in pass
   pub swaps : Marked.swaps_in node.numbers ≡ swaps_in pass
   pub found : Marked.found_in node.numbers ≡ found_in pass
-  pub task : (t : ℕ) → task_in pass ≡ Some t → places_at now t ≡ place_in pass
+  pub task : (t : ℕ) → task_in pass ≡ Some t → places_at own.now t ≡ place_in pass

@@ -1,14 +1,15 @@
 -- What a look at a spin queue tells of its fronts, and of who looks.
-use Rattle.std.proofs.Common.{◌≡◌, ◌∙◌, ℕ, List, [], ◌∷◌, Option, sym, ap, subst}
+use Rattle.std.proofs.Common.{◌≡◌, ◌∙◌, ℕ, List, [], ◌∷◌, Option, sym}
 use Rattle.lock_core.specs.declared.view.Moment.{Moment}
 use Rattle.lock_core.specs.Handles as inner
 use Rattle.lock_core.specs.NodeLists.{IsFirst}
 use Rattle.lock_core.specs.Pasts.{EachMoment}
+use Rattle.lock_core.specs.RunLaws.{step-by}
 use Rattle.osq_nodes.specs.declared.node.Place.TheVariants.{Out}
 use Rattle.osq_nodes.specs.declared.pass.OsqPass.{OsqPass}
 use Rattle.osq_nodes.specs.declared.queue.Osq.{Osq}
-use Rattle.osq_nodes.specs.Handles.{fronts_in, past_of, place_in, IsLatest, SitsAt, StatesOwn}
-use Rattle.osq_nodes.specs.Stated.{IsSpinQueue, places_at}
+use Rattle.osq_nodes.specs.Handles.{fronts_in, past_of, place_in, view_of, SitsAt, StatesOwn}
+use Rattle.osq_nodes.specs.Stated.{IsSpinQueue}
 use Rattle.osq_unqueue.specs.Fronts.{HasOneFront, IsOutOfQueue}
 
 first-once : (queue : List ℕ) (t u : ℕ) → IsFirst queue t → IsFirst queue u → t ≡ u
@@ -22,23 +23,11 @@ pub each-front : (tasks : ℕ) (past : List Moment) → EachMoment (IsSpinQueue 
 each-front tasks [] e = tt
 each-front tasks (m ∷ past) e = (one-front tasks m e.0, each-front tasks past e.1)
 
-abbrev first-or : Moment → List Moment → Moment
-first-or m [] = m
-first-or m (n ∷ rest) = n
-
-same-now : (m n : Moment) (p q : List Moment) → m ∷ p ≡ n ∷ q → m ≡ n
-same-now m n p q same = ap (first-or m) same
-
 -- a pass that has looked, whose hand has this number, and which isn't in the queue
-pub out-of-queue : (osq : Osq) (pass : OsqPass) (task : Option ℕ) → SitsAt osq pass → IsLatest pass → StatesOwn pass → (inner.hand_in pass.pass).task ≡ task → place_in pass ≡ Out → IsOutOfQueue task (fronts_in pass) (past_of pass)
-out-of-queue osq pass task sits own mine said off = record {
-  now = own.now;
-  rest = own.before ∷ own.rest;
-  past_is = own.past_is;
-  seat = own.seat;
-  hand = _;
-  hand_is = own.hand;
-  task_is = said;
-  fronts_are = own.fronts;
-  out = λ t is. subst (λ (m : Moment). places_at m t ≡ Out) (same-now mine.now own.now mine.rest (own.before ∷ own.rest) (sym mine.past_is ∙ own.past_is)) (mine.task t (sits.sits.task ∙ (said ∙ is)) ∙ off);
+pub out-of-queue : (osq : Osq) (pass : OsqPass) (task : Option ℕ) → SitsAt osq pass → StatesOwn pass → (inner.hand_in pass.pass).task ≡ task → place_in pass ≡ Out → IsOutOfQueue task (fronts_in pass) (past_of pass)
+out-of-queue osq pass task sits mine said off = record {
+  step = (view_of pass).steps;
+  own = step-by (view_of pass) task (past_of pass) said mine.own;
+  fronts_are = mine.own.fronts;
+  out = λ t is. mine.task t (sits.sits.task ∙ (said ∙ is)) ∙ off;
 }

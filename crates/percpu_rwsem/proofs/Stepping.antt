@@ -272,7 +272,7 @@ module _ {Call : Type 0} (o : Obj Call) (size : ℕ) (k : Plan) where
         g,
         Reads,
         (record { misses = omega arith; freed = λ e. refl; takes = omega arith; comes = λ _ _. omega arith }, refl),
-        (refl, inl refl),
+        (refl, inl (refl, refl)),
         site-takes o never size k (site k ws) (hands vs) id t v.hand Shared r.site_holds (at_map hand_of vs id v at) out has (λ e. no-shared (sym e)) (λ l. absurd (omega (arith, l))) unheld,
         phases-step (length k) n n (λ u. get_or ws (count_at u) 0) (λ u. get_or ws (count_at u) 0) ps id p p' r.phases mine
             (λ u l. same-inside u (get_or ws (count_at u) 0) p' refl)
@@ -340,7 +340,7 @@ module _ {Call : Type 0} (o : Obj Call) (size : ℕ) (k : Plan) where
         g,
         Idle,
         (record { misses = omega arith; freed = λ e. no-shared (e ∙ shares); takes = omega arith; comes = λ _ holds. absurd (holds refl) }, refl),
-        (refl, inl refl),
+        (refl, inl (refl, refl)),
         site-frees o never size k (site k ws) (hands vs) id 0 v.hand r.site_holds (at_map hand_of vs id v at) quiet rest,
         phases-step (length k) (get_or ws block_at 0) _ (λ u. get_or ws (count_at u) 0) _ (parts vs) id p p' r.phases mine
             (λ u l. put-counts ws t (word_after (Sub 1) n) p p' (wide-enough ws vs (count_at t) r (inside-count t small)) has has (omega (arith, was, less)) u)
@@ -434,7 +434,7 @@ module _ {Call : Type 0} (o : Obj Call) (size : ℕ) (k : Plan) where
         g,
         Blocks (s + 1),
         (record { misses = omega arith; freed = λ e. refl; takes = omega arith; comes = λ _ _. omega arith }, refl),
-        (refl, inl refl),
+        (refl, inl (refl, refl)),
         site-takes o never size k (site k ws) (hands vs) id t v.hand Alone r.site_holds (at_map hand_of vs id v at) out has (λ e. no-alone (sym e)) (λ _. unheld) unalone,
         phases-step (length k) (get_or ws block_at 0) (get_or ws block_at 0) (λ u. get_or ws (count_at u) 0) (λ u. get_or ws (count_at u) 0) ps id p p' r.phases mine
             (λ u l. let e : inside_of u p ≡ 0 = ap (inside_weight u v.hand.task) phase in omega (arith, e))
@@ -486,7 +486,7 @@ module _ {Call : Type 0} (o : Obj Call) (size : ℕ) (k : Plan) where
         g,
         Idle,
         (record { misses = omega arith; freed = λ z. no-alone (z ∙ alone); takes = omega arith; comes = λ _ holds. absurd (holds refl) }, refl),
-        (refl, inl refl),
+        (refl, inl (refl, refl)),
         site-frees o never size k (site k ws) (hands vs) id 0 v.hand r.site_holds (at_map hand_of vs id v at) quiet rest,
         frees ws vs r at g refl,
         refl,

@@ -110,7 +110,7 @@ module _ {E Call : Type 0} (o : Obj Call) (unavailable : Unavailable) (size : �
         g,
         Clear,
         record { numbered = numbered; task = refl; goes = (record { misses = omega arith; freed = λ e. refl; takes = omega arith; comes = λ _ _. omega arith }, refl); left = λ held. absurd (held out) },
-        inl (refl, inl refl),
+        inl (refl, inl (refl, refl)),
         may,
         record { flags = omega (arith, sum); writer = λ x y. omega (arith, is); lone = λ x y. absurd (omega (arith, x, y, sum)); reader = λ _. inr (inl (omega (arith, is))); bias = inr (inl refl) },
         subst (λ (z : ℕ). CountKept z more (set ps id (part g Clear))) sum (count-reads ps id p (part g Clear) mine n more c is out clear refl refl),
@@ -121,7 +121,7 @@ module _ {E Call : Type 0} (o : Obj Call) (unavailable : Unavailable) (size : �
         g,
         Transit n,
         record { numbered = numbered; task = refl; goes = (record { misses = omega arith; freed = λ e. refl; takes = omega arith; comes = λ none holds. absurd (holds none) }, refl); left = λ held. absurd (held out) },
-        inr (record { out = out; counts = refl; saw = refl }, miss),
+        inr (record { out = out; counts = refl; saw = refl; task = refl }, miss),
         subst (λ (z : Held). may_count v (record { held = z; bias = Transit n })) (sym out) (wait n),
         record { flags = omega (arith, sum); writer = λ x y. absurd (omega (arith, x, y, sum)); lone = λ x y. absurd (omega (arith, x, y, sum)); reader = λ e. shared-no (sym e ∙ out); bias = inr (inr (clear, inl refl)) },
         subst (λ (z : ℕ). CountKept z more (set ps id (part g (Transit n)))) sum (count-transit ps id p (part g (Transit n)) mine n more c out clear out refl),
@@ -146,7 +146,7 @@ module _ {E Call : Type 0} (o : Obj Call) (unavailable : Unavailable) (size : �
       (λ shut not. (
         handed v g,
         refl,
-        count_looks ws vs id n v g h at record { numbered = numbered; task = refl; goes = (record { misses = omega arith; freed = λ e. refl; takes = omega arith; comes = λ none holds. absurd (holds none) }, refl); left = λ held other. absurd (other refl) } (inr (record { out = out; counts = refl; saw = refl }, miss)) refl (site-misses o unavailable size k (site k ws) (map hand_of vs) id n (v.steps + 1) v.hand (kept ws vs h) mine (omega (arith, low, high))),
+        count_looks ws vs id n v g h at record { numbered = numbered; task = refl; goes = (record { misses = omega arith; freed = λ e. refl; takes = omega arith; comes = λ none holds. absurd (holds none) }, refl); left = λ held other. absurd (other refl) } (inr (record { out = out; counts = refl; saw = refl; task = refl }, miss)) refl (site-misses o unavailable size k (site k ws) (map hand_of vs) id n (v.steps + 1) v.hand (kept ws vs h) mine (omega (arith, low, high))),
         (lawful, (λ free. absurd (shut free)), λ _. (refl, refl)),
       ))
 
@@ -164,7 +164,7 @@ module _ {E Call : Type 0} (o : Obj Call) (unavailable : Unavailable) (size : �
       let is : old % 8 ≡ 0 = omega (arith, low, a, b, d) in let none_alone : total alone_of hs ≡ 0 = omega (arith, alones, wr, is) in (
         based counted v g Clear,
         refl,
-        counts ws vs id (old + 256) v g Clear h at record { numbered = numbered; task = refl; goes = (record { misses = omega arith; freed = λ e. refl; takes = omega arith; comes = λ _ _. omega arith }, refl); left = λ held. absurd (held out) } (inl (refl, inl refl)) may
+        counts ws vs id (old + 256) v g Clear h at record { numbered = numbered; task = refl; goes = (record { misses = omega arith; freed = λ e. refl; takes = omega arith; comes = λ _ _. omega arith }, refl); left = λ held. absurd (held out) } (inl (refl, inl (refl, refl))) may
             (subst (λ (z : ℕ). CountMove z (old + 256) (count_part bias v) (part g Clear)) (sym found) record { flags = omega arith; writer = λ x y. omega (arith, is); lone = λ x y. absurd (omega (arith, x, y)); reader = λ _. inr (inl d); bias = inr (inl refl) })
             (count-reads ps id (count_part bias v) (part g Clear) (at_map (count_part bias) vs id v at) old (more ws vs) c is out clear refl refl)
             (site-takes o unavailable size k (site k ws) hs id t v.hand Shared r mine out has (λ e. shared-no e) (λ l. absurd (omega (arith, l))) none_alone),
@@ -180,7 +180,7 @@ module _ {E Call : Type 0} (o : Obj Call) (unavailable : Unavailable) (size : �
       let none_alone : total alone_of hs ≡ 0 = omega (arith, alones, wr) in let none_held : total held_of hs ≡ 0 = omega (arith, helds, wr, f) in (
         based counted v g Clear,
         refl,
-        counts ws vs id 1 v g Clear h at record { numbered = numbered; task = refl; goes = (record { misses = omega arith; freed = λ e. refl; takes = omega arith; comes = λ _ _. omega arith }, refl); left = λ held. absurd (held out) } (inl (refl, inl refl)) may
+        counts ws vs id 1 v g Clear h at record { numbered = numbered; task = refl; goes = (record { misses = omega arith; freed = λ e. refl; takes = omega arith; comes = λ _ _. omega arith }, refl); left = λ held. absurd (held out) } (inl (refl, inl (refl, refl))) may
             (subst (λ (z : ℕ). CountMove z 1 (count_part bias v) (part g Clear)) (sym found) record { flags = refl; writer = λ x y. refl; lone = λ x y. refl; reader = λ e. alone-shared e; bias = inr (inl refl) })
             (count-writes ps id (count_part bias v) (part g Clear) (at_map (count_part bias) vs id v at) 0 1 (more ws vs) c refl refl refl (omega arith) out refl (sym clear))
             (site-takes o unavailable size k (site k ws) hs id t v.hand Alone r mine out has (λ e. no-alone (sym e)) (λ _. none_held) none_alone),
@@ -189,7 +189,7 @@ module _ {E Call : Type 0} (o : Obj Call) (unavailable : Unavailable) (size : �
       (λ ws vs h at not _. let n : ℕ = get_or ws place 0 in let lawful = (count_kept ws vs h).1 in let low = lawful.0 in let high = lawful.1 in let g : Hand = missed v.hand n (v.steps + 1) in (
         handed v g,
         refl,
-        count_looks ws vs id n v g h at record { numbered = numbered; task = refl; goes = (record { misses = omega arith; freed = λ e. refl; takes = omega arith; comes = λ none holds. absurd (holds none) }, refl); left = λ held other. absurd (other refl) } (inr (record { out = out; counts = refl; saw = refl }, miss)) refl (site-misses o unavailable size k (site k ws) (map hand_of vs) id n (v.steps + 1) v.hand (kept ws vs h) (at_map hand_of vs id v at) (omega (arith, low, high))),
+        count_looks ws vs id n v g h at record { numbered = numbered; task = refl; goes = (record { misses = omega arith; freed = λ e. refl; takes = omega arith; comes = λ none holds. absurd (holds none) }, refl); left = λ held other. absurd (other refl) } (inr (record { out = out; counts = refl; saw = refl; task = refl }, miss)) refl (site-misses o unavailable size k (site k ws) (map hand_of vs) id n (v.steps + 1) v.hand (kept ws vs h) (at_map hand_of vs id v at) (omega (arith, low, high))),
         ((λ is. absurd (not is)), λ _. (lawful, (refl, refl))),
       ))
 
@@ -202,7 +202,7 @@ module _ {E Call : Type 0} (o : Obj Call) (unavailable : Unavailable) (size : �
         v.hand,
         Clear,
         record { numbered = numbered; task = refl; goes = (record { misses = omega arith; freed = λ e. refl; takes = omega arith; comes = λ none holds. absurd (holds none) }, refl); left = λ held other. absurd (other refl) },
-        inl (refl, inl refl),
+        inl (refl, inl (refl, refl)),
         may,
         record { flags = omega (arith, less); writer = λ x y. absurd (omega (arith, x, y, less)); lone = λ x y. absurd (omega (arith, x, y, less)); reader = λ e. inl e; bias = inr (inl refl) },
         count-backs ps id p (part v.hand Clear) mine n (word_after (Sub 256) n) more c (omega (arith, less)) (omega (arith, less, low)) (omega (arith, less)) refl one refl,
@@ -218,7 +218,7 @@ module _ {E Call : Type 0} (o : Obj Call) (unavailable : Unavailable) (size : �
         g,
         Clear,
         record { numbered = numbered; task = refl; goes = (record { misses = omega arith; freed = λ e. shared-no (sym shares ∙ sym e); takes = omega arith; comes = λ _ holds. absurd (holds refl) }, refl); left = λ held other. left },
-        inl (refl, inl refl),
+        inl (refl, inl (refl, refl)),
         may,
         record { flags = omega (arith, less); writer = λ x y. absurd (omega (arith, x, y, less)); lone = λ x y. absurd (omega (arith, x, y, less)); reader = λ e. shared-no (sym e); bias = inr (inl refl) },
         count-frees-shared ps id p (part g Clear) mine n (word_after (Sub 256) n) more c less shares clear refl refl,
@@ -234,7 +234,7 @@ module _ {E Call : Type 0} (o : Obj Call) (unavailable : Unavailable) (size : �
         g,
         Clear,
         record { numbered = numbered; task = refl; goes = (record { misses = omega arith; freed = λ e. no-alone (e ∙ alone); takes = omega arith; comes = λ _ holds. absurd (holds refl) }, refl); left = λ held other. left },
-        inl (refl, inl refl),
+        inl (refl, inl (refl, refl)),
         may,
         record { flags = omega (arith, less, wr, A, one); writer = λ x y. absurd (omega (arith, x, wr, A, one)); lone = λ x y. absurd (omega (arith, x, wr, A, one)); reader = λ e. shared-no (sym e); bias = inr (inl refl) },
         count-frees-alone ps id p (part g Clear) mine n (word_after (Sub 1) n) more c less alone clear refl refl,
@@ -250,7 +250,7 @@ module _ {E Call : Type 0} (o : Obj Call) (unavailable : Unavailable) (size : �
         g,
         Clear,
         record { numbered = numbered; task = refl; goes = (record { misses = omega arith; freed = λ e. alone-shared (sym alone ∙ sym e); takes = omega arith; comes = λ none _. no-alone (sym none ∙ alone) }, refl); left = λ held other. sum },
-        inl (refl, inl refl),
+        inl (refl, inl (refl, refl)),
         may,
         record { flags = omega (arith, sum, odd, low); writer = λ x y. absurd (omega (arith, x, odd)); lone = λ x y. absurd (omega (arith, x, odd)); reader = λ _. inr (inr (inr alone)); bias = inr (inl refl) },
         subst (λ (z : ℕ). CountKept z more (set ps id (part g Clear))) sum (count-downgrades ps id p (part g Clear) mine n more c alone clear refl refl),

@@ -76,7 +76,7 @@ module _ {Call : Type 0} (o : Obj Call) (size : ℕ) (k : Plan) where
         keeps,
         tt,
         subst (λ (z : List ℕ). Goes Place (RwSemMoves k) id ws vs z (set vs id (semmed with_sem v g (record v.ext.sem { bias = Clear })))) (set-get_or ws count_at 0 ∙ sym (set-get_or ws hint_at 0))
-            (sem-counted o size k ws vs id n v g Clear h at record { numbered = λ e. none-some t (sym e ∙ has); task = refl; goes = (record { misses = omega arith; freed = λ e. refl; takes = omega arith; comes = λ _ _. omega arith }, refl); left = λ held. absurd (held out) } (inl (refl, inl refl))
+            (sem-counted o size k ws vs id n v g Clear h at record { numbered = λ e. none-some t (sym e ∙ has); task = refl; goes = (record { misses = omega arith; freed = λ e. refl; takes = omega arith; comes = λ _ _. omega arith }, refl); left = λ held. absurd (held out) } (inl (refl, inl (refl, refl)))
             (wait, omega arith, refl, unpicked)
             record { flags = refl; writer = λ x y. absurd (omega (arith, x, y)); lone = λ x y. absurd (omega (arith, x, y)); reader = λ _. inr (inr (inl (word, transit, clear))); bias = inr (inl refl) }
             (count-keeps ps id (count_part bias_of v) (part g Clear) mine' n word (more_in k ws vs) c (inr even) out transit refl refl)

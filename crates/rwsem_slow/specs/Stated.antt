@@ -11,7 +11,7 @@ use Rattle.lock_core.specs.declared.view.Marks.{Marks}
 use Rattle.lock_core.specs.declared.view.Moment.{Moment}
 use Rattle.lock_core.specs.declared.view.Held.TheVariants.{No}
 use Rattle.lock_core.specs.Locked.{HasPass, IsSiteStep, IsWaitLockFree}
-use Rattle.lock_core.specs.Shown.{Shown}
+use Rattle.lock_core.specs.Shown.{IsLatestStep, Shown}
 use Rattle.lock_core.specs.Spins.{holds_in}
 use Rattle.lock_core.specs.Stated.{IsSiteThen}
 use Rattle.lock_core.specs.Totals.{total}
@@ -105,9 +105,10 @@ HasBecome k [] q ps = ⊥
 HasBecome k (m ∷ []) q ps = IsQueued m q ps
 HasBecome k (m ∷ before ∷ past) q ps = IsQueued m q ps × ((old : List Waiter) × (were : List SemPart) × HasBecome k (before ∷ past) old were × IsRwSemStep k before old were m q ps)
 
--- the last moment of its past has it at one seat, marked as waiting for nothing and without a bias in the count, and as having appended itself as often as it says
-abbrev pub IsOutOfLine : Shown → Type 0
-IsOutOfLine v = (now : Moment) × (rest : List Moment) × (v.past ≡ now ∷ rest) × ((id : ℕ) × (get_elem? now.hands id ≡ some v.hand) × (get_elem? now.marks id ≡ some (stance apart_hand v.line.appends)))
+-- the last moment of its past, which is that of its own last step, marks the pass at the seat of that step as waiting for nothing and without a bias in the count, and as having appended itself as often as it says
+pub record IsOutOfLine (v : Shown) : Type 0 where
+  pub own : IsLatestStep v
+  pub marked : get_elem? own.step.now.marks own.step.seat ≡ some (stance apart_hand v.line.appends)
 
 abbrev pub task_of : Waiter → ℕ
 task_of w = w.task

@@ -202,10 +202,11 @@ impl SeqSite<Areas> {
             (view_of pass.new).steps ≤ (view_of pass.old).steps + 15) }
     {
         let (page, access) = next_fault(&self.site, pass, call);
-        match read_optimistically(&self.site, pass, page, access) {
-            Ok(read) => validate(&self.site, pass, call, read),
-            Err(raced) => Err(raced),
-        }
+        let read = match read_optimistically(&self.site, pass, page, access) {
+            Ok(read) => read,
+            Err(raced) => return Err(raced),
+        };
+        validate(&self.site, pass, call, read)
     }
 
     /// Does the next call of the pass's task, a fault, as often as a writer comes between its loads.

@@ -1,10 +1,9 @@
 -- Passes of a per-CPU semaphore between two calls of their tasks, and between two tasks.
-use Rattle.std.specs.Prelude.{◌≡◌, ℕ, ◌<◌, false, None, Some, slice_get}
+use Rattle.std.specs.Prelude.{◌≡◌, ℕ, ◌<◌, false, length, None, Some, slice_get}
 use Rattle.word_bits.specs.declared.call.CallWords.{CallWords}
 use Rattle.word_bits.specs.Objects.{Obj}
 use Rattle.word_bits.specs.Histories.{Plan}
 use Rattle.lock_core.specs.declared.view.Held.{Held}
-use Rattle.lock_core.specs.declared.view.Held.TheVariants.{No}
 use Rattle.lock_core.specs.Locking.{IsStored}
 use Rattle.lock_core.specs.Records.{row}
 use Rattle.lock_core.specs.Views.{OwesNoSignal, SpinRests}
@@ -23,6 +22,12 @@ module _ {O C : Type 0} where
     pub numberless : task_in pass ≡ None
     pub apart : blocks_in pass ≡ false
     pub unspun : SpinRests (view_of pass).spin
+
+  -- it is idle, and the plan's task of this number makes this call, so many times at least
+  pub record MayMake (task rounds : ℕ) (words : CallWords) (lock : PercpuRwSem O C) (pass : PercpuPass O C) : Type 0 where
+    pub idle : IsIdle lock pass
+    pub there : task < length (plan_of lock)
+    pub calls : Repeats (plan_of lock) task rounds words
 
   -- it has this task's number, holds in this way, has no change of the guarded words under way, and has recorded all its signals
   pub record IsAt (task : ℕ) (held : Held) (lock : PercpuRwSem O C) (pass : PercpuPass O C) : Type 0 where

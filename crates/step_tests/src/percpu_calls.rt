@@ -17,6 +17,19 @@ pub struct Job {
     pub words: CallWords,
 }
 
+impl Job {
+    /// That call of a task, so often.
+    pub fn new(task: u32, rounds: u32, words: CallWords) -> Job
+        ensures { result ≡ record { task = task; rounds = rounds; words = words } }
+    {
+        Job {
+            task,
+            rounds,
+            words,
+        }
+    }
+}
+
 /// Takes the task's number.
 pub fn start<O: Object, W: Wait>(rt: &W, lock: &PercpuRwSem<O>, pass: &mut PercpuPass<O>, task: u32)
     requires idle { IsIdle lock.now pass.old }

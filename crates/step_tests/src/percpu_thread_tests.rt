@@ -1,8 +1,8 @@
 //! What no clause says: readers and a writer of a per-CPU semaphore on threads.
-ghost use Rattle.std.specs.Prelude.{◌≡◌, ◌<◌, false, length};
+ghost use Rattle.std.specs.Prelude.{◌≡◌, false};
 ghost use Rattle.lock_core.specs.declared.view.Held.TheVariants.{No};
 ghost use Rattle.percpu_rwsem.specs.Handles.{blocks_in, plan_of};
-ghost use Rattle.step_tests.specs.PercpuPasses.{IsAt, IsIdle, Repeats};
+ghost use Rattle.step_tests.specs.PercpuPasses.{IsAt, MayMake, Repeats};
 
 use crate::percpu_calls::{
     Job, hold_alone, hold_shared, let_go_alone, let_go_shared, read, start, word, write,
@@ -97,10 +97,8 @@ fn write_next<W: Wait>(
 
 /// Reads as often as the task is to, and answers how many reads were right.
 fn read_all<W: Wait>(rt: &W, crewed: &Crewed, runner: Runner) -> u32
-    requires idle { IsIdle crewed.now.lock runner.pass }
-    requires there { runner.job.task < length (plan_of crewed.now.lock) }
-    requires calls { Repeats (plan_of crewed.now.lock)
-        runner.job.task runner.job.rounds runner.job.words }
+    requires { MayMake runner.job.task runner.job.rounds runner.job.words
+        crewed.now.lock runner.pass }
 {
     let Runner {
         mut pass,
@@ -120,10 +118,8 @@ fn read_all<W: Wait>(rt: &W, crewed: &Crewed, runner: Runner) -> u32
 
 /// Writes as often, and answers how many writes were right.
 fn write_all<W: Wait>(rt: &W, crewed: &Crewed, runner: Runner) -> u32
-    requires idle { IsIdle crewed.now.lock runner.pass }
-    requires there { runner.job.task < length (plan_of crewed.now.lock) }
-    requires calls { Repeats (plan_of crewed.now.lock)
-        runner.job.task runner.job.rounds runner.job.words }
+    requires { MayMake runner.job.task runner.job.rounds runner.job.words
+        crewed.now.lock runner.pass }
 {
     let Runner {
         mut pass,
@@ -148,28 +144,18 @@ fn two_read<R: Threads + Wait + Sync>(
     one: Runner,
     two: Runner,
 ) -> (u32, u32)
-    requires idle { IsIdle crewed.now.lock one.pass }
-    requires other_idle { IsIdle crewed.now.lock two.pass }
-    requires there { one.job.task < length (plan_of crewed.now.lock) }
-    requires other_there { two.job.task < length (plan_of crewed.now.lock) }
-    requires calls { Repeats (plan_of crewed.now.lock)
-        one.job.task one.job.rounds one.job.words }
-    requires other_calls { Repeats (plan_of crewed.now.lock)
-        two.job.task two.job.rounds two.job.words }
+    requires one { MayMake one.job.task one.job.rounds one.job.words crewed.now.lock one.pass }
+    requires two { MayMake two.job.task two.job.rounds two.job.words crewed.now.lock two.pass }
 {
     join(
         rt,
         || -> u32
-            requires idle { IsIdle crewed.now.lock one.pass }
-            requires there { one.job.task < length (plan_of crewed.now.lock) }
-            requires calls { Repeats (plan_of crewed.now.lock)
-                one.job.task one.job.rounds one.job.words }
+            requires { MayMake one.job.task one.job.rounds one.job.words
+                crewed.now.lock one.pass }
         { read_all(rt, crewed, one) },
         || -> u32
-            requires idle { IsIdle crewed.now.lock two.pass }
-            requires there { two.job.task < length (plan_of crewed.now.lock) }
-            requires calls { Repeats (plan_of crewed.now.lock)
-                two.job.task two.job.rounds two.job.words }
+            requires { MayMake two.job.task two.job.rounds two.job.words
+                crewed.now.lock two.pass }
         { read_all(rt, crewed, two) },
     )
 }
@@ -178,80 +164,55 @@ fn two_read<R: Threads + Wait + Sync>(
 fn one_reads_and_one_writes<R: Threads + Wait + Sync>(
     rt: &R,
     crewed: &Crewed,
-    reader: Runner,
-    writer: Runner,
+    one: Runner,
+    two: Runner,
 ) -> (u32, u32)
-    requires idle { IsIdle crewed.now.lock reader.pass }
-    requires other_idle { IsIdle crewed.now.lock writer.pass }
-    requires there { reader.job.task < length (plan_of crewed.now.lock) }
-    requires other_there { writer.job.task < length (plan_of crewed.now.lock) }
-    requires calls { Repeats (plan_of crewed.now.lock)
-        reader.job.task reader.job.rounds reader.job.words }
-    requires other_calls { Repeats (plan_of crewed.now.lock)
-        writer.job.task writer.job.rounds writer.job.words }
+    requires one { MayMake one.job.task one.job.rounds one.job.words crewed.now.lock one.pass }
+    requires two { MayMake two.job.task two.job.rounds two.job.words crewed.now.lock two.pass }
 {
     join(
         rt,
         || -> u32
-            requires idle { IsIdle crewed.now.lock reader.pass }
-            requires there { reader.job.task < length (plan_of crewed.now.lock) }
-            requires calls { Repeats (plan_of crewed.now.lock)
-                reader.job.task reader.job.rounds reader.job.words }
-        { read_all(rt, crewed, reader) },
+            requires { MayMake one.job.task one.job.rounds one.job.words
+                crewed.now.lock one.pass }
+        { read_all(rt, crewed, one) },
         || -> u32
-            requires idle { IsIdle crewed.now.lock writer.pass }
-            requires there { writer.job.task < length (plan_of crewed.now.lock) }
-            requires calls { Repeats (plan_of crewed.now.lock)
-                writer.job.task writer.job.rounds writer.job.words }
-        { write_all(rt, crewed, writer) },
+            requires { MayMake two.job.task two.job.rounds two.job.words
+                crewed.now.lock two.pass }
+        { write_all(rt, crewed, two) },
     )
 }
 
-/// Three tasks read while another writes.
+/// Three tasks read while the last one writes.
 fn four_at_once<R: Threads + Wait + Sync>(
     rt: &R,
     crewed: &Crewed,
-    readers: (Runner, Runner),
-    others: (Runner, Runner),
+    one: Runner,
+    two: Runner,
+    three: Runner,
+    four: Runner,
 ) -> ((u32, u32), (u32, u32))
-    requires idle { IsIdle crewed.now.lock readers.0.pass × IsIdle crewed.now.lock readers.1.pass }
-    requires others_idle { IsIdle crewed.now.lock others.0.pass
-        × IsIdle crewed.now.lock others.1.pass }
-    requires there { (readers.0.job.task < length (plan_of crewed.now.lock))
-        × (readers.1.job.task < length (plan_of crewed.now.lock)) }
-    requires others_there { (others.0.job.task < length (plan_of crewed.now.lock))
-        × (others.1.job.task < length (plan_of crewed.now.lock)) }
-    requires calls { Repeats (plan_of crewed.now.lock)
-        readers.0.job.task readers.0.job.rounds readers.0.job.words
-        × Repeats (plan_of crewed.now.lock)
-        readers.1.job.task readers.1.job.rounds readers.1.job.words }
-    requires others_calls { Repeats (plan_of crewed.now.lock)
-        others.0.job.task others.0.job.rounds others.0.job.words
-        × Repeats (plan_of crewed.now.lock)
-        others.1.job.task others.1.job.rounds others.1.job.words }
+    requires one { MayMake one.job.task one.job.rounds one.job.words crewed.now.lock one.pass }
+    requires two { MayMake two.job.task two.job.rounds two.job.words crewed.now.lock two.pass }
+    requires three { MayMake three.job.task three.job.rounds three.job.words
+        crewed.now.lock three.pass }
+    requires four { MayMake four.job.task four.job.rounds four.job.words
+        crewed.now.lock four.pass }
 {
     join(
         rt,
         || -> (u32, u32)
-            requires idle { IsIdle crewed.now.lock readers.0.pass
-                × IsIdle crewed.now.lock readers.1.pass }
-            requires there { (readers.0.job.task < length (plan_of crewed.now.lock))
-                × (readers.1.job.task < length (plan_of crewed.now.lock)) }
-            requires calls { Repeats (plan_of crewed.now.lock)
-                readers.0.job.task readers.0.job.rounds readers.0.job.words
-                × Repeats (plan_of crewed.now.lock)
-                readers.1.job.task readers.1.job.rounds readers.1.job.words }
-        { two_read(rt, crewed, readers.0, readers.1) },
+            requires one { MayMake one.job.task one.job.rounds one.job.words
+                crewed.now.lock one.pass }
+            requires two { MayMake two.job.task two.job.rounds two.job.words
+                crewed.now.lock two.pass }
+        { two_read(rt, crewed, one, two) },
         || -> (u32, u32)
-            requires idle { IsIdle crewed.now.lock others.0.pass
-                × IsIdle crewed.now.lock others.1.pass }
-            requires there { (others.0.job.task < length (plan_of crewed.now.lock))
-                × (others.1.job.task < length (plan_of crewed.now.lock)) }
-            requires calls { Repeats (plan_of crewed.now.lock)
-                others.0.job.task others.0.job.rounds others.0.job.words
-                × Repeats (plan_of crewed.now.lock)
-                others.1.job.task others.1.job.rounds others.1.job.words }
-        { one_reads_and_one_writes(rt, crewed, others.0, others.1) },
+            requires three { MayMake three.job.task three.job.rounds three.job.words
+                crewed.now.lock three.pass }
+            requires four { MayMake four.job.task four.job.rounds four.job.words
+                crewed.now.lock four.pass }
+        { one_reads_and_one_writes(rt, crewed, three, four) },
     )
 }
 
@@ -265,45 +226,28 @@ fn three_readers_see_states_of_the_log_beside_a_writer(rt: HostRuntime) -> Resul
         spin: 0,
         overdue: 0,
     };
-    let rounds = ROUNDS;
     let zero = Runner {
         pass: lock.split(&mut pass),
         cpu: crew.cpu(rt.alloc(), 0, turns)?,
-        job: Job {
-            task: 0,
-            rounds,
-            words: touch,
-        },
+        job: Job::new(0, ROUNDS, touch),
     };
     let one = Runner {
         pass: lock.split(&mut pass),
         cpu: crew.cpu(rt.alloc(), 1, turns)?,
-        job: Job {
-            task: 1,
-            rounds,
-            words: touch,
-        },
+        job: Job::new(1, ROUNDS, touch),
     };
     let two = Runner {
         pass: lock.split(&mut pass),
         cpu: crew.cpu(rt.alloc(), 2, turns)?,
-        job: Job {
-            task: 2,
-            rounds,
-            words: touch,
-        },
+        job: Job::new(2, ROUNDS, touch),
     };
     let three = Runner {
         pass: lock.split(&mut pass),
         cpu: crew.cpu(rt.alloc(), 3, turns)?,
-        job: Job {
-            task: 3,
-            rounds,
-            words: map,
-        },
+        job: Job::new(3, ROUNDS, map),
     };
     let crewed = Crewed { lock, crew };
-    let right = four_at_once(&rt, &crewed, (zero, one), (two, three));
+    let right = four_at_once(&rt, &crewed, zero, one, two, three);
     assert_eq!(rt; right, ((ROUNDS, ROUNDS), (ROUNDS, ROUNDS)));
     start(&rt, &crewed.lock, &mut pass, 3);
     assert_eq!(rt; (pass.done(), pass.front()), (ROUNDS, ROUNDS));

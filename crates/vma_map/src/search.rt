@@ -1,5 +1,5 @@
 //! A search for the area of a page, in words that it asks for one at a time.
-ghost use Rattle.std.specs.Prelude.{◌≡◌, ◌-◌, ◌^◌, ◌<◌, ◌≤◌};
+ghost use Rattle.std.specs.Prelude.{◌≡◌, ◌-◌, ◌^◌, ◌<◌, ◌≤◌, nat_lt};
 
 use crate::MAX_AREAS;
 use crate::bisection::Bisection;
@@ -11,11 +11,14 @@ use word_bits::Area;
 pub struct Search {
     page: u32,
     asked: usize,
+    /// Whether the number of areas was given.
+    counted: bool,
     /// How many areas begin at the page or before it.
     begun: Bisection,
     /// The word of the last area that is known to do so.
     last: u64,
     ghost few: { asked ≤ 10 },
+    ghost number: { counted ≡ nat_lt 0 asked },
     ghost within: { begun.high ≤ 256 },
     ghost narrow: { begun.high - begun.low < 2 ^ (10 - asked) },
 }
@@ -36,6 +39,7 @@ impl Search {
         Search {
             page,
             asked: 0,
+            counted: false,
             begun: Bisection::new(0),
             last: 0,
         }
@@ -47,7 +51,7 @@ impl Search {
         ensures inside { IfSome result (λ at. at < 257) }
         ensures few { IfSome result (λ at. asked self.now < 10) }
     {
-        if self.asked == 0 {
+        if !self.counted {
             return Some(0);
         }
         match self.begun.middle() {
@@ -66,7 +70,8 @@ impl Search {
     {
         self.asked += 1;
         // A start stands above all else in its word, so the words ascend as the areas do.
-        if self.asked == 1 {
+        if !self.counted {
+            self.counted = true;
             self.begun = Bisection::new(number_in(word));
         } else if word >> 24 <= u64::from(self.page) {
             self.begun.passes();

@@ -1,4 +1,4 @@
-use Rattle.std.proofs.Common.{◌≡◌, ◌∙◌, ap, sym}
+use Rattle.std.proofs.Common.{◌∙◌, ap, sym}
 use Rattle.word_bits.specs.Histories.{state_after}
 use Rattle.step_tests.proofs.percpu_calls.hold_alone.Goals as goal
 

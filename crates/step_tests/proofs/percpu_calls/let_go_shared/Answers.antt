@@ -1,4 +1,4 @@
-use Rattle.std.proofs.Common.{◌≡◌, ◌∙◌, ap}
+use Rattle.std.proofs.Common.{◌∙◌, ap}
 use Rattle.step_tests.proofs.percpu_calls.let_go_shared.Goals as goal
 
 pub returns-clause-at : goal.returns-clause-at

@@ -1,7 +1,6 @@
-use Rattle.std.proofs.Common.{arith, ◌≡◌, ◌∙◌, IsSome, length, Some, ap, refl, sym, subst}
+use Rattle.std.proofs.Common.{arith, ◌∙◌, length, ap, sym}
 use Rattle.word_bits.specs.Histories.{state_after}
 use Rattle.word_bits.proofs.States.{IsLawful, state_is_state}
-use Rattle.lock_core.specs.declared.view.Hand.{Hand}
 use Rattle.percpu_rwsem.specs.PhaseLaws.{no-shared}
 use Rattle.step_tests.proofs.PercpuCalls.{loaded, may-note, next-call}
 use Rattle.step_tests.proofs.percpu_calls.read.Given as given

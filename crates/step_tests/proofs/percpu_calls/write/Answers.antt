@@ -1,4 +1,4 @@
-use Rattle.std.proofs.Common.{arith, ◌≡◌, ◌∙◌, IsSome, length, Some, ap, refl, sym, subst}
+use Rattle.std.proofs.Common.{arith, ◌∙◌, IsSome, length, ap, refl, sym, subst}
 use Rattle.word_bits.specs.Histories.{state_after}
 use Rattle.word_bits.proofs.States.{IsLawful, state_is_state}
 use Rattle.lock_core.specs.declared.view.Hand.{Hand}

@@ -1,4 +1,4 @@
-use Rattle.std.proofs.Common.{List, [], ◌≡◌, ◌∙◌, ◌<◌, ◌≤◌, ◌+◌, length, ap, sym, subst, arith}
+use Rattle.std.proofs.Common.{List, [], ◌∙◌, length, ap, sym, subst, arith}
 use Rattle.std.proofs.lemmas.List.{length-replicate}
 use Rattle.word_bits.specs.declared.call.CallWords.{CallWords}
 use Rattle.word_bits.specs.Histories.{Plan}

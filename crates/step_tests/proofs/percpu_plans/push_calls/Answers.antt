@@ -1,7 +1,6 @@
-use Rattle.std.proofs.Common.{◌≡◌, ◌≢◌, ◌∙◌, ◌+◌, ◌<◌, ℕ, length, ap, sym, subst, arith, refl, List, Some, slice_get, length-append}
-use Rattle.word_bits.specs.declared.call.CallWords.{CallWords}
+use Rattle.std.proofs.Common.{◌∙◌, ◌+◌, ◌<◌, length, ap, sym, subst, arith, refl, length-append}
 use Rattle.word_bits.specs.Histories.{Plan}
-use Rattle.lock_core.specs.Plans.{appended, calls_in}
+use Rattle.lock_core.specs.Plans.{calls_in}
 use Rattle.lock_core.specs.Records.{row, IsPlan}
 use Rattle.lock_core.proofs.RowLaws.{length-appended, calls_in-appended, row-appended, row-beside}
 use Rattle.vma_map.specs.Spaces.{space}

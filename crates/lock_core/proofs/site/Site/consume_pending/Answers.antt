@@ -10,7 +10,7 @@ pub put-requires-clause-inside : goal.put-requires-clause-inside
 put-requires-clause-inside g c = let few = c.args.self.now.small.tasks in let p = (c.requires.own.planned c.in-Some.task c.in-Some.is).0 in omega (arith, few, p)
 
 pub put-requires-clause-holds : goal.put-requires-clause-holds
-put-requires-clause-holds g c = (refl, inl refl, (refl, inl refl))
+put-requires-clause-holds g c = (refl, inl refl, (refl, inl (refl, refl)))
 
 pub put-requires-clause-keeps : goal.put-requires-clause-keeps
 put-requires-clause-keeps g c = λ s hs r at. let few = c.args.self.now.small.tasks in let l = (c.requires.own.planned c.in-Some.task c.in-Some.is).0 in let why = c.args.why in

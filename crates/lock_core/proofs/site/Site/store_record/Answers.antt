@@ -1,4 +1,4 @@
-use Rattle.std.proofs.Common.{◌≡◌, ℕ, ◌+◌, set, sym, subst, arith}
+use Rattle.std.proofs.Common.{◌≡◌, ℕ, ◌+◌, inl, set, sym, ap, subst, arith}
 use Rattle.lock_core.specs.declared.view.Hand.{Hand}
 use Rattle.lock_core.specs.Plans.{start}
 use Rattle.lock_core.specs.Layout.{lay, recs_at}
@@ -14,6 +14,9 @@ place-requires-clause-task g c = row-task c.args.self.now.table.shared.key c.arg
 
 pub place-requires-clause-call : goal.place-requires-clause-call
 place-requires-clause-call g c = some-inside (row c.args.self.now.table.shared.key c.args.entry.task) c.args.entry.call c.requires.may.0 c.requires.may.1.planned
+
+pub put-requires-clause-holds : goal.put-requires-clause-holds
+put-requires-clause-holds g c = let same = c.requires.hand in let task = ap (λ (h : Hand). h.task) same in (ap (λ (h : Hand). h.held) same, inl task, (ap (λ (h : Hand). h.misses) same, inl (ap (λ (h : Hand). h.saw) same, task)))
 
 pub put-requires-clause-keeps : goal.put-requires-clause-keeps
 put-requires-clause-keeps g c = λ s hs r at. let k = c.args.self.now.table.shared.key in let e = c.args.entry in let v = c.args.pass.now.seat.me.0.view in let n = c.args.self.now.counted in let p = c.place.ensures.place in

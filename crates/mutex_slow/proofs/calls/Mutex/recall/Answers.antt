@@ -1,19 +1,15 @@
-use Rattle.std.proofs.Common.{◌≡◌, ◌∙◌, ℕ, List, get_or, refl, sym, ap, subst}
+use Rattle.std.proofs.Common.{◌≡◌, ◌∙◌, ℕ, refl, ap}
 use mathlib.Core.Option.{some}
-use lib.ListN.{get_elem?}
-use Rattle.lock_core.specs.declared.view.Moment.{Moment}
 use Rattle.word_bits.specs.LockWords.{owned}
 use Rattle.lock_core.specs.Layout.{site}
 use Rattle.lock_core.specs.Records.{bit}
 use Rattle.lock_core.specs.Kinds.{mutex}
 use Rattle.lock_core.specs.Locked.{IsLockedThen}
 use Rattle.lock_core.specs.LockedLaws.{ran-steps}
-use Rattle.lock_core.specs.Pasts.{EachMoment, Moves}
+use Rattle.lock_core.specs.Pasts.{Moves}
 use Rattle.lock_core.specs.RunLaws.{ran-each, ran-so, step-by}
 use Rattle.lock_core.specs.Stated.{IsSiteMove}
 use Rattle.lock_core.proofs.Showing.{latest-shown}
-use Rattle.lock_core.proofs.Sitting.{its-number}
-use Rattle.mutex_word.proofs.Owning.{some-number}
 use Rattle.osq_nodes.specs.Handles.{fronts_in}
 use Rattle.mutex_slow.specs.Places.{line_of}
 use Rattle.qspin_word.proofs.Turning.{numbers}
@@ -21,8 +17,8 @@ use Rattle.qspin_queue.proofs.Recalling.{counts-spin, each-lock, each-move}
 use Rattle.mutex_slow.specs.Mutexes.{Kept, MutexMoves, V, owner_at, owner_in, standing, wait_lock_at}
 use Rattle.mutex_slow.specs.MutexLaws.{mutex-site, mutex-spin}
 use Rattle.mutex_slow.specs.Handles.{newest}
-use Rattle.mutex_slow.specs.Stated.{IsMutexThen, StandsMarked, line_marks, waits_on}
-use Rattle.mutex_slow.proofs.Stating.{mutex-states, one-seat}
+use Rattle.mutex_slow.specs.Stated.{IsMutexThen, line_marks, waits_on}
+use Rattle.mutex_slow.proofs.Stating.{mutex-states}
 use Rattle.mutex_slow.proofs.Chaining.{becomes}
 use Rattle.mutex_slow.proofs.Locking.{each-moment, mutex-locked}
 use Rattle.mutex_slow.proofs.calls.Mutex.recall.Goals as goal
@@ -44,17 +40,10 @@ returns-clause-moves g c = let k = c.args.self.now.site.table.shared.key in let 
     ran-steps standing k owner_at (newest k) _ (ran-so standing (newest k) (Moves (Kept o n k) (MutexMoves k)) (IsSiteMove k owner_at) (λ x y m. (m.0, m.3.site, m.4)) _ c.recall.ensures.run)
 
 pub returns-clause-out : goal.returns-clause-out
-returns-clause-out g c = let k = c.args.self.now.site.table.shared.key in let o = g.O.Object.object in let n = g.O.Object.WORDS in let own = c.recall.ensures.last in let m = c.recall.ensures.marked in let u = c.recall.new.pass.seat.me.0.view in
-    let all = ran-each standing (Kept o n k) (MutexMoves k) (IsMutexThen o n k) (mutex-states o n k) (newest k) own.now own.before own.rest _ own.past_is c.recall.ensures.run in let then = subst (EachMoment (IsMutexThen o n k)) own.past_is all in
-    let now : m.now ≡ own.now = ap (λ (past : List Moment). get_or past 0 own.now) (sym m.past_is ∙ own.past_is) in let out : bit u.ext.queued ≡ 0 = ap (λ (v : V). bit v.ext.queued) c.recall.ensures.kept ∙ ap bit c.requires.own.outside.out in
-    let there : get_elem? own.now.hands m.seat ≡ some u.hand = subst (λ (x : Moment). get_elem? x.hands m.seat ≡ some u.hand) now m.hand in record {
-      own = record { step = step-by u u.hand.task c.recall.new.pass.seat.me.0.past refl own; hand = refl; spin = own.spin };
-      seat = m.seat;
-      hand = there;
-      marked = subst (StandsMarked m.seat 0 u.ext.appends) now (m.kept ∙ ap (λ (q : ℕ). some (line_marks q u.ext.appends)) out);
-      same = λ numbered. let t = some-number u.hand.task numbered in one-seat own.now.hands t.0 m.seat own.seat u.hand u.hand
-          (then.0.0.numbers t.0 (its-number k c.args.self.now.site.table.shared.table_id c.recall.new.pass.seat.table_id c.recall.new.pass.seat.me c.recall.new.pass.face c.args.self.now.site.small c.recall.ensures.own t.0 (c.recall.ensures.own.task ∙ t.1))).1 there own.hand t.1 t.1;
-    }
+returns-clause-out g c = let m = c.recall.ensures.marked in let u = c.recall.new.pass.seat.me.0.view in let out : bit u.ext.queued ≡ 0 = ap (λ (v : V). bit v.ext.queued) c.recall.ensures.kept ∙ ap bit c.requires.own.outside.out in record {
+  own = record { step = step-by u u.hand.task c.recall.new.pass.seat.me.0.past refl m.own; hand = refl; spin = m.own.spin };
+  marked = m.kept ∙ ap (λ (q : ℕ). some (line_marks q u.ext.appends)) out;
+}
 
 pub returns-clause-lists : goal.returns-clause-lists
 returns-clause-lists g c = let k = c.args.self.now.site.table.shared.key in let o = g.O.Object.object in let n = g.O.Object.WORDS in let own = c.recall.ensures.last in

@@ -23,16 +23,12 @@ returns-clause-counts c = let k = c.args.self.now.site.table.shared.key in let n
 
 pub returns-clause-mine : goal.returns-clause-mine
 returns-clause-mine c = let n = length c.args.self.now.site.table.shared.key in let v = c.recall.new.pass.seat.me.0.view in let x = v.ext in let is = c.recall.ensures.marked in let counts = swaps-back x.place x.swaps x.found in
-    let so : IsSpinQueue n is.now = (subst (EachMoment (IsSpinQueue n)) is.past_is (returns-clause-always c)).0 in record {
-      now = is.now;
-      rest = is.rest;
-      past_is = is.past_is;
-      seat = is.seat;
-      hand = is.hand;
+    let own = is.own in let so : IsSpinQueue n own.now = (subst (EachMoment (IsSpinQueue n)) own.past_is (returns-clause-always c)).0 in record {
+      own = own;
       node = record { numbers = node_marks x };
       node_is = is.kept;
       place = place-back x.place x.swaps x.found;
       swaps = counts.0;
       found = counts.1;
-      task = λ t e. its-place t is.now.hands is.now.marks is.seat v.hand (record { numbers = node_marks x }) is.hand is.kept (sym c.recall.ensures.own.task ∙ e) (so.named t) ∙ place-back x.place x.swaps x.found;
+      task = λ t e. its-place t own.now.hands own.now.marks own.seat v.hand (record { numbers = node_marks x }) own.hand is.kept (sym c.recall.ensures.own.task ∙ e) (so.named t) ∙ place-back x.place x.swaps x.found;
     }

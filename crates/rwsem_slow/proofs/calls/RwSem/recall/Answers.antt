@@ -1,20 +1,24 @@
+use Rattle.std.proofs.Common.{◌≡◌, ◌∙◌, refl, ap}
+use mathlib.Core.Option.{some}
 use Rattle.word_bits.specs.LockWords.{counted}
 use Rattle.lock_core.specs.Kinds.{semaphore}
 use Rattle.lock_core.specs.Layout.{site}
 use Rattle.lock_core.specs.Locked.{IsLockedThen}
 use Rattle.lock_core.specs.LockedLaws.{ran-steps}
 use Rattle.lock_core.specs.Pasts.{Moves}
-use Rattle.lock_core.specs.RunLaws.{ran-each, ran-so}
+use Rattle.lock_core.specs.RunLaws.{ran-each, ran-so, step-by}
 use Rattle.lock_core.specs.Stated.{IsSiteMove}
 use Rattle.lock_core.proofs.Showing.{latest-shown}
 use Rattle.osq_nodes.specs.Handles.{fronts_in}
 use Rattle.qspin_word.proofs.Turning.{numbers}
 use Rattle.qspin_queue.proofs.Recalling.{each-lock, each-move}
+use Rattle.rwsem_wake.specs.declared.view.SemHand.{SemHand}
+use Rattle.rwsem_wake.specs.SemParts.{apart_hand}
 use Rattle.rwsem_slow.specs.Places.{line_of}
-use Rattle.rwsem_slow.specs.RwSems.{Kept, RwSemMoves, count_at, standing, wait_lock_at}
+use Rattle.rwsem_slow.specs.RwSems.{Kept, RwSemMoves, V, count_at, standing, wait_lock_at}
 use Rattle.rwsem_slow.specs.RwSemLaws.{sem-site, sem-spin}
 use Rattle.rwsem_slow.specs.Handles.{newest}
-use Rattle.rwsem_slow.specs.Stated.{IsRwSemThen, waits_on}
+use Rattle.rwsem_slow.specs.Stated.{IsRwSemThen, stance, waits_on}
 use Rattle.rwsem_slow.proofs.Stating.{sem-then}
 use Rattle.rwsem_slow.proofs.Chaining.{becomes}
 use Rattle.rwsem_slow.proofs.Locking.{sem-locked}
@@ -34,6 +38,12 @@ returns-clause-states g c = let k = c.args.self.now.site.table.shared.key in let
 pub returns-clause-moves : goal.returns-clause-moves
 returns-clause-moves g c = let k = c.args.self.now.site.table.shared.key in let o = g.O.Object.object in let n = g.O.Object.WORDS in
     ran-steps standing k count_at (newest k) _ (ran-so standing (newest k) (Moves (Kept o n k) (RwSemMoves k)) (IsSiteMove k count_at) (λ x y m. (m.0, m.3.site, m.4)) _ c.recall.ensures.run)
+
+pub returns-clause-out : goal.returns-clause-out
+returns-clause-out g c = let m = c.recall.ensures.marked in let u = c.recall.new.pass.seat.me.0.view in let apart : u.ext.sem ≡ apart_hand = ap (λ (v : V). v.ext.sem) c.recall.ensures.kept ∙ c.requires.own.outside.apart in record {
+  own = record { step = step-by u u.hand.task c.recall.new.pass.seat.me.0.past refl m.own; hand = refl; spin = m.own.spin };
+  marked = m.kept ∙ ap (λ (s : SemHand). some (stance s u.ext.appends)) apart;
+}
 
 pub returns-clause-lists : goal.returns-clause-lists
 returns-clause-lists g c = let k = c.args.self.now.site.table.shared.key in let o = g.O.Object.object in let n = g.O.Object.WORDS in let own = c.recall.ensures.last in

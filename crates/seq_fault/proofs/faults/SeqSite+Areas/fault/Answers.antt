@@ -7,19 +7,19 @@ use Rattle.seq_fault.specs.Steps.{Faults}
 use Rattle.seq_fault.proofs.Faulting.{err-maps, ok-joins, faults-since, finds-before, found-longer, one-word-before, reads-at-one-word, steps-on, turned-on}
 use Rattle.seq_fault.proofs.faults.SeqSite+Areas.fault.Goals as goal
 
-pub returns-in-Ok-clause-goes_on : goal.returns-in-Ok-clause-goes_on
-returns-in-Ok-clause-goes_on c = λ p t. c.validate.ensures.goes_on p (c.read_optimistically.ensures.goes_on p (c.next_fault-page.ensures.goes_on p t))
+pub returns-clause-goes_on : goal.returns-clause-goes_on
+returns-clause-goes_on c = λ p t. c.validate.ensures.goes_on p (c.read_optimistically.ensures.goes_on p (c.next_fault-page.ensures.goes_on p t))
 
-pub returns-in-Ok-clause-ok : goal.returns-in-Ok-clause-ok
-returns-in-Ok-clause-ok c =
+pub returns-clause-ok : goal.returns-clause-ok
+returns-clause-ok c =
     let k = c.args.self.now.site.table.shared.key in
     let x = c.next_fault-page.new.pass.seat.me.0.view in
     let u = c.read_optimistically.new.pass.seat.me.0.view in
     let z = c.validate.new.pass.seat.me.0.view in
     ok-joins c.validate.result (λ reply f two. subst (λ (y : V). Faults k y reply z) c.next_fault-page.ensures.kept (faults-since k x u z reply c.read_optimistically.ensures.few two f)) c.validate.ensures.ok c.validate.ensures.counted
 
-pub returns-in-Ok-clause-read : goal.returns-in-Ok-clause-read
-returns-in-Ok-clause-read c =
+pub returns-clause-read : goal.returns-clause-read
+returns-clause-read c =
     let v = c.args.pass.now.seat.me.0.view in
     let x = c.next_fault-page.new.pass.seat.me.0.view in
     let u = c.read_optimistically.new.pass.seat.me.0.view in
@@ -34,11 +34,11 @@ returns-in-Ok-clause-read c =
     (reads-at-one-word x u z before front px pu pz c.read_optimistically.ensures.few e.even e.first (subst (λ (n : ℕ). FoundAtStep x.hand.task (x.steps + 2) length_place n px pu) (sym t.0) e.measured) t.1 c.read_optimistically.ensures.goes_on c.validate.ensures.goes_on two))
     (ok-joins c.validate.result (λ reply same again. (same, again)) c.validate.ensures.front c.validate.ensures.again) c.validate.ensures.counted
 
-pub returns-in-Ok-clause-raced : goal.returns-in-Ok-clause-raced
-returns-in-Ok-clause-raced c = err-maps c.validate.result (λ why t. inr (subst (λ (n : ℕ). n % 2 ≡ 0) (sym t.0) c.in-Ok.ensures.even, λ e. t.1 (e ∙ t.0))) c.validate.ensures.raced
+pub returns-clause-raced : goal.returns-clause-raced
+returns-clause-raced c = err-maps c.validate.result (λ why t. inr (subst (λ (n : ℕ). n % 2 ≡ 0) (sym t.0) c.in-Ok.ensures.even, λ e. t.1 (e ∙ t.0))) c.validate.ensures.raced
 
-pub returns-in-Ok-clause-first : goal.returns-in-Ok-clause-first
-returns-in-Ok-clause-first c =
+pub returns-clause-first : goal.returns-clause-first
+returns-clause-first c =
     let v = c.args.pass.now.seat.me.0.view in
     let x = c.next_fault-page.new.pass.seat.me.0.view in
     let px = c.next_fault-page.new.pass.seat.me.0.past in
@@ -46,19 +46,19 @@ returns-in-Ok-clause-first c =
     err-maps c.validate.result (λ why t. finds-before v x _ _ _ c.next_fault-page.ensures.kept c.next_fault-page.ensures.goes_on 1 seq_at why.before
     (found-longer px pu _ (subst (λ (n : ℕ). FoundAtStep x.hand.task (x.steps + 1) seq_at n px pu) (sym t.0) c.in-Ok.ensures.first) c.validate.ensures.goes_on)) c.validate.ensures.raced
 
-pub returns-in-Ok-clause-kept : goal.returns-in-Ok-clause-kept
-returns-in-Ok-clause-kept c =
+pub returns-clause-kept : goal.returns-clause-kept
+returns-clause-kept c =
     let v = c.args.pass.now.seat.me.0.view in
     let x = c.next_fault-page.new.pass.seat.me.0.view in
     let u = c.read_optimistically.new.pass.seat.me.0.view in
     let z = c.validate.new.pass.seat.me.0.view in
     err-maps c.validate.result (λ why e. turned-on v u z (steps-on v x u c.next_fault-page.ensures.kept c.read_optimistically.ensures.few) e) c.validate.ensures.kept
 
-pub returns-in-Ok-clause-face : goal.returns-in-Ok-clause-face
-returns-in-Ok-clause-face c = err-maps c.validate.result (λ why e. e ∙ (c.read_optimistically.ensures.face ∙ c.next_fault-page.ensures.face)) c.validate.ensures.face
+pub returns-clause-face : goal.returns-clause-face
+returns-clause-face c = err-maps c.validate.result (λ why e. e ∙ (c.read_optimistically.ensures.face ∙ c.next_fault-page.ensures.face)) c.validate.ensures.face
 
-pub returns-in-Ok-clause-few : goal.returns-in-Ok-clause-few
-returns-in-Ok-clause-few c =
+pub returns-clause-few : goal.returns-clause-few
+returns-clause-few c =
     let v = c.args.pass.now.seat.me.0.view in
     let most = c.read_optimistically.ensures.few.few in
     let more = ap (λ (z : V). z.steps) c.read_optimistically.ensures.few.is in
