@@ -26,7 +26,7 @@ module _ {A S P C T F Q D B U : Type 0} (spaces : LockMembers A S P C) (tables :
     pub held : AreHeld (hand_under spaces tables) (past_under spaces tables) m
     -- it knows all that was so of the object's table, from its opening on: who held, what the lock's word stated, and what the lock tells of its own; and who stood in the lock's spin queue, up to a look there
     pub past : KnowsPasts (KnowsPastUnder spaces tables) m
-    -- there it goes back to a look of a pass with each task's number, which wasn't in the queue then and had been its front as often as it says
+    -- there it goes back to a look of a pass with each task's number, which wasn't in the queue then and had entered it and been its front as often as a pass that did all the task's calls
     pub tasks : GoBackToTasks (HasLookedBackUnder spaces tables) (spun_under spaces tables) (calls_under spaces tables) m
     -- no gathered pass has a task's number or owes anything
     pub rest : IsAtRest (IsIdleUnder spaces tables) m

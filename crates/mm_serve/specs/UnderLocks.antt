@@ -50,7 +50,7 @@ module _ {A S P C T F Q D : Type 0} (spaces : LockMembers A S P C) (tables : Loc
       (λ s p. KnowsPast space spaces.kind 257 spaces.word_at spaces.waits (KnowsRwSem space 257) spaces.opened (spaces.calls_on (lock_of s)) (spaces.view p) × KnowsSpinQueue (spaces.calls_on (lock_of s)) (spaces.view p) (spaces.spun p))
       (λ s p. KnowsPast table tables.kind 64 tables.word_at tables.waits (KnowsMutex table 64) tables.opened (tables.calls_on (lock_of s)) (tables.view p) × KnowsSpinQueue (tables.calls_on (lock_of s)) (tables.view p) (tables.spun p))
 
-  -- the pass has the task's number and has done all the task's calls; and it knows of each moment of the lock's spin queue, up to its own last step there, who stood in it, and that it was the queue's front as often as it says
+  -- the pass has the task's number and has done all the task's calls; and it knows of each moment of the lock's spin queue, up to its own last step there, who stood in it, and that it had entered the queue and been its front as often as it says
   abbrev pub HasLookedBackUnder : LockedObject A S P C T F Q D → SpaceOrTablePass P Q → ℕ → Type 0
   HasLookedBackUnder site pass task =
       Matches

@@ -8,7 +8,7 @@ use Rattle.lock_core.specs.RunLaws.{step-by}
 use Rattle.osq_nodes.specs.declared.node.Place.TheVariants.{Out}
 use Rattle.osq_nodes.specs.declared.pass.OsqPass.{OsqPass}
 use Rattle.osq_nodes.specs.declared.queue.Osq.{Osq}
-use Rattle.osq_nodes.specs.Handles.{fronts_in, past_of, place_in, view_of, SitsAt, StatesOwn}
+use Rattle.osq_nodes.specs.Handles.{fronts_in, past_of, place_in, swaps_in, view_of, SitsAt, StatesOwn}
 use Rattle.osq_nodes.specs.Stated.{IsSpinQueue}
 use Rattle.osq_unqueue.specs.Fronts.{HasOneFront, IsOutOfQueue}
 
@@ -24,10 +24,13 @@ each-front tasks [] e = tt
 each-front tasks (m ∷ past) e = (one-front tasks m e.0, each-front tasks past e.1)
 
 -- a pass that has looked, whose hand has this number, and which isn't in the queue
-pub out-of-queue : (osq : Osq) (pass : OsqPass) (task : Option ℕ) → SitsAt osq pass → StatesOwn pass → (inner.hand_in pass.pass).task ≡ task → place_in pass ≡ Out → IsOutOfQueue task (fronts_in pass) (past_of pass)
+pub out-of-queue : (osq : Osq) (pass : OsqPass) (task : Option ℕ) → SitsAt osq pass → StatesOwn pass → (inner.hand_in pass.pass).task ≡ task → place_in pass ≡ Out → IsOutOfQueue task (fronts_in pass) (swaps_in pass) (past_of pass)
 out-of-queue osq pass task sits mine said off = record {
   step = (view_of pass).steps;
   own = step-by (view_of pass) task (past_of pass) said mine.own;
   fronts_are = mine.own.fronts;
+  node = mine.node;
+  node_is = mine.node_is;
+  swaps_are = mine.swaps;
   out = λ t is. mine.task t (sits.sits.task ∙ (said ∙ is)) ∙ off;
 }

@@ -37,7 +37,7 @@ impl<O: Object> RwSem<O> {
     /// A load of the spin queue, after which the pass knows of each moment of that queue so far,
     /// from the empty one on, who stood in it, and that one task at most was its front; how each
     /// queue came of the one before; and what each step counted. The pass itself isn't in the
-    /// queue, and was its front as often as it says.
+    /// queue, and has entered it and been its front as often as it says.
     pub fn recall_spin_queue(&self, pass: &mut RwPass<O>)
         requires own { SitsAt self.now pass.old }
         ensures own { SitsAt self.now pass.new }
@@ -50,7 +50,7 @@ impl<O: Object> RwSem<O> {
         ensures counts { Ran node_marks (newest_queue (length (plan_of self.now)))
             (IsOsqMove (length (plan_of self.now))) (spun_of pass.new) }
         ensures out { IsOutOfQueue (hand_in pass.new).task (shown_of pass.new).fronts
-            (spun_of pass.new) }
+            (shown_of pass.new).swaps (spun_of pass.new) }
     {
         self.osq.recall_queue(&mut pass.queue);
     }
