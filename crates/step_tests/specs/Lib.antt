@@ -1,1 +1,2 @@
 pub mod PercpuPasses
+pub mod Ready

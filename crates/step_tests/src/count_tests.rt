@@ -1,12 +1,47 @@
 //! Worked courses of a count, word by word, and sites with a count. A count has the flags writer 1,
 //! waiters 2 and handoff 4, and 256 for each reader.
+ghost use Rattle.std.specs.Prelude.{IfOk};
+ghost use Rattle.step_tests.specs.Ready.{IsReady};
+
 use crate::course::first_wrong;
 use lock_core::{Held, Nothing, Op, Plan};
 use rwsem_count::{
-    BIAS, CountSite, HANDOFF, READ_FAIL, WAITERS, WRITER, Write, read_free, write_step,
+    BIAS, CountPass, CountSite, HANDOFF, READ_FAIL, WAITERS, WRITER, Write, read_free, write_step,
 };
+use std::alloc::{AllocError, Global};
+use std::sync::Wait;
 use std::test::Fail;
 use word_bits::CallWords;
+
+/// A site with a count, and the passes of its three tasks.
+#[derive(Drop)]
+struct Opened {
+    site: CountSite<Nothing>,
+    zero: CountPass<Nothing>,
+    one: CountPass<Nothing>,
+    two: CountPass<Nothing>,
+}
+
+/// A new site with a count, on which three tasks have begun.
+fn open_three(rt: &impl Wait, alloc: Global) -> Result<Opened, AllocError>
+    ensures zero { IfOk result (λ o. IsReady o.site o.zero) }
+    ensures one { IfOk result (λ o. IsReady o.site o.one) }
+    ensures two { IfOk result (λ o. IsReady o.site o.two) }
+{
+    let plan = Plan::new(alloc, 3)?;
+    let (site, mut zero) = CountSite::<Nothing>::open(alloc, plan)?;
+    let mut one = site.split(&mut zero);
+    let mut two = site.split(&mut zero);
+    site.begin(rt, &mut zero, 0);
+    site.begin(rt, &mut one, 1);
+    site.begin(rt, &mut two, 2);
+    Ok(Opened {
+        site,
+        zero,
+        one,
+        two,
+    })
+}
 
 #[test]
 fn a_queued_writer_tries_by_the_table(rt: HostRuntime) {
@@ -163,33 +198,33 @@ fn a_marked_writer_is_interrupted(rt: HostRuntime) {
 
 #[test]
 fn readers_keep_a_writer_out(rt: HostRuntime) -> Result<(), Fail> {
-    let plan = Plan::new(rt.alloc(), 4)?;
-    let (site, mut one) = CountSite::<Nothing>::open(rt.alloc(), plan)?;
-    let mut two = site.split(&mut one);
-    let mut three = site.split(&mut one);
-    site.begin(&rt, &mut one, 1);
-    site.begin(&rt, &mut two, 2);
-    site.begin(&rt, &mut three, 3);
-    assert_eq!(rt; site.read_add(&mut one), Ok(()));
-    assert_eq!(rt; site.read_try(&rt, &mut two), Ok(()));
-    assert_eq!(rt; (one.held(), two.held()), (Held::Shared, Held::Shared));
-    assert_eq!(rt; site.write_try(&mut three), Err(512));
-    assert_eq!(rt; three.held(), Held::No);
-    assert_eq!(rt; site.up_read_once(&mut one), 256);
-    assert_eq!(rt; site.up_read_once(&mut two), 0);
-    assert_eq!(rt; site.write_try(&mut three), Ok(()));
-    assert_eq!(rt; site.read_try(&rt, &mut one), Err(1));
-    assert_eq!(rt; site.up_write_once(&mut three), 0);
+    let Opened {
+        site,
+        mut zero,
+        mut one,
+        mut two,
+    } = open_three(&rt, rt.alloc())?;
+    assert_eq!(rt; site.read_add(&mut zero), Ok(()));
+    assert_eq!(rt; site.read_try(&rt, &mut one), Ok(()));
+    assert_eq!(rt; (zero.held(), one.held()), (Held::Shared, Held::Shared));
+    assert_eq!(rt; site.write_try(&mut two), Err(512));
+    assert_eq!(rt; two.held(), Held::No);
+    assert_eq!(rt; site.up_read_once(&mut zero), 256);
+    assert_eq!(rt; site.up_read_once(&mut one), 0);
+    assert_eq!(rt; site.write_try(&mut two), Ok(()));
+    assert_eq!(rt; site.read_try(&rt, &mut zero), Err(1));
+    assert_eq!(rt; site.up_write_once(&mut two), 0);
     Ok(())
 }
 
 #[test]
 fn a_writer_downgrades_under_a_reader_in_transit(rt: HostRuntime) -> Result<(), Fail> {
-    let plan = Plan::new(rt.alloc(), 2)?;
-    let (site, mut zero) = CountSite::<Nothing>::open(rt.alloc(), plan)?;
-    let mut one = site.split(&mut zero);
-    site.begin(&rt, &mut zero, 0);
-    site.begin(&rt, &mut one, 1);
+    let Opened {
+        site,
+        mut zero,
+        mut one,
+        two: _,
+    } = open_three(&rt, rt.alloc())?;
     assert_eq!(rt; site.write_try(&mut zero), Ok(()));
     assert_eq!(rt; site.read_add(&mut one), Err(257));
     assert_eq!(rt; (one.in_transit(), one.held()), (true, Held::No));

@@ -1,6 +1,6 @@
 //! What no clause says: the words of a lock that several contend for, and how its calls go on
 //! threads.
-ghost use Rattle.std.specs.Prelude.{◌<◌, ◌≤◌, ◌+◌, length};
+ghost use Rattle.std.specs.Prelude.{◌<◌, ◌≤◌, ◌+◌, length, IfOk};
 ghost use Rattle.lock_core.specs.Handles.{plan_of};
 ghost use Rattle.qspin_queue.specs.Handles.{IsReady, IsHolder, IsIdle};
 
@@ -8,6 +8,7 @@ use crate::course::first_wrong;
 use lock_core::{Bare, Op, Pass, Plan, Site};
 use qspin_queue::{Way, lock, recall_spin_lock};
 use qspin_word::{trylock, unlock};
+use std::alloc::{AllocError, Global};
 use std::sync::Wait;
 use std::test::Fail;
 use std::thread::{Threads, join};
@@ -39,18 +40,55 @@ fn the_pending_bit_is_undone_beside_a_tail(rt: HostRuntime) {
     assert_eq!(rt; first_wrong(&course), None);
 }
 
+/// A lock, and the passes of its four CPUs.
+#[derive(Drop)]
+struct Opened {
+    site: Site<Bare>,
+    zero: Pass<Bare>,
+    one: Pass<Bare>,
+    two: Pass<Bare>,
+    three: Pass<Bare>,
+}
+
+/// A new lock, on which the tasks of four CPUs have begun.
+fn open_four(rt: &impl Wait, alloc: Global) -> Result<Opened, AllocError>
+    ensures zero { IfOk result (λ o. IsReady o.site o.zero) }
+    ensures one { IfOk result (λ o. IsReady o.site o.one) }
+    ensures two { IfOk result (λ o. IsReady o.site o.two) }
+    ensures three { IfOk result (λ o. IsReady o.site o.three) }
+{
+    let plan = Plan::new(alloc, 4)?;
+    let (site, mut zero) = Site::<Bare>::open(alloc, plan)?;
+    let mut one = site.split(&mut zero);
+    let mut two = site.split(&mut zero);
+    let mut three = site.split(&mut zero);
+    site.begin(rt, &mut zero, 0);
+    site.begin(rt, &mut one, 1);
+    site.begin(rt, &mut two, 2);
+    site.begin(rt, &mut three, 3);
+    Ok(Opened {
+        site,
+        zero,
+        one,
+        two,
+        three,
+    })
+}
+
 #[test]
 fn the_first_comer_is_fast_and_the_second_is_told_the_word(rt: HostRuntime) -> Result<(), Fail> {
-    let plan = Plan::new(rt.alloc(), 2)?;
-    let (site, mut one) = Site::<Bare>::open(rt.alloc(), plan)?;
-    let mut two = site.split(&mut one);
-    site.begin(&rt, &mut one, 0);
-    site.begin(&rt, &mut two, 1);
-    assert_eq!(rt; lock(&site, &rt, &mut one), Way::Fast);
-    assert_eq!(rt; trylock(&site, &mut two), Err(1));
-    unlock(&site, &mut one);
-    assert!(rt; trylock(&site, &mut two).is_ok());
-    recall_spin_lock(&site, &mut one);
+    let Opened {
+        site,
+        mut zero,
+        mut one,
+        two: _,
+        three: _,
+    } = open_four(&rt, rt.alloc())?;
+    assert_eq!(rt; lock(&site, &rt, &mut zero), Way::Fast);
+    assert_eq!(rt; trylock(&site, &mut one), Err(1));
+    unlock(&site, &mut zero);
+    assert!(rt; trylock(&site, &mut one).is_ok());
+    recall_spin_lock(&site, &mut zero);
     Ok(())
 }
 
@@ -240,17 +278,15 @@ fn contend<R: Threads + Wait + Sync>(
 
 #[test]
 fn contenders_go_by_the_pending_bit_and_then_by_the_queue(rt: HostRuntime) -> Result<(), Fail> {
-    let plan = Plan::new(rt.alloc(), 4)?;
-    let (site, mut holder) = Site::<Bare>::open(rt.alloc(), plan)?;
-    let mut second = site.split(&mut holder);
-    let mut watcher = site.split(&mut holder);
-    let mut last = site.split(&mut holder);
-    site.begin(&rt, &mut holder, 0);
-    site.begin(&rt, &mut second, 1);
-    site.begin(&rt, &mut watcher, 2);
-    site.begin(&rt, &mut last, 3);
-    assert_eq!(rt; lock(&site, &rt, &mut holder), Way::Fast);
-    let seen = contend(&rt, &site, holder, second, watcher, last);
+    let Opened {
+        site,
+        mut zero,
+        one,
+        two,
+        three,
+    } = open_four(&rt, rt.alloc())?;
+    assert_eq!(rt; lock(&site, &rt, &mut zero), Way::Fast);
+    let seen = contend(&rt, &site, zero, one, two, three);
     assert_eq!(rt; seen, ((true, true, Way::Queued), Way::Pending));
     Ok(())
 }
