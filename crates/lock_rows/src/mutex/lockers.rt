@@ -17,6 +17,27 @@ pub const NO_TURNS: Turns = Turns {
     overdue: 0,
 };
 
+/// A mutex, and the passes of two tasks that hold nothing.
+#[derive(Drop)]
+pub struct Free {
+    pub mutex: Mutex<Nothing>,
+    pub one: MutexPass<Nothing>,
+    pub two: MutexPass<Nothing>,
+}
+
+/// A new mutex, on which two tasks have begun.
+pub fn open_free(rt: &impl Wait, alloc: Global) -> Result<Free, AllocError>
+    ensures one { IfOk result (λ f. IsReady f.mutex f.one) }
+    ensures two { IfOk result (λ f. IsReady f.mutex f.two) }
+{
+    let plan = Plan::new(alloc, 2)?;
+    let (mutex, mut one) = Mutex::<Nothing>::open(alloc, plan)?;
+    let mut two = mutex.split(&mut one);
+    mutex.begin(rt, &mut one, 0);
+    mutex.begin(rt, &mut two, 1);
+    Ok(Free { mutex, one, two })
+}
+
 /// A mutex that task 0 holds, with the passes of three tasks.
 #[derive(Drop)]
 pub struct Held {

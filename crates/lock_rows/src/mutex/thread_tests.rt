@@ -3,6 +3,7 @@
 ghost use Rattle.std.specs.Prelude.{◌<◌, ◌+◌, length};
 ghost use Rattle.mutex_slow.specs.Handles.{IsIdle, plan_of};
 
+use super::lockers::{Free, open_free};
 use cpu_task::{Crew, ParkCpu, ParkCrew, Turns};
 use lock_core::{How, Nothing, Plan};
 use mutex_slow::{Mutex, MutexPass};
@@ -24,11 +25,11 @@ const ROUNDS: u32 = 10_000;
 
 #[test]
 fn a_free_mutex_is_taken_at_once_and_others_are_told_its_word(rt: HostRuntime) -> Result<(), Fail> {
-    let plan = Plan::new(rt.alloc(), 2)?;
-    let (mutex, mut one) = Mutex::<Nothing>::open(rt.alloc(), plan)?;
-    let mut two = mutex.split(&mut one);
-    mutex.begin(&rt, &mut one, 0);
-    mutex.begin(&rt, &mut two, 1);
+    let Free {
+        mutex,
+        mut one,
+        mut two,
+    } = open_free(&rt, rt.alloc())?;
     let mut crew = ParkCrew::new(rt.alloc(), 2)?;
     let turns = Turns {
         spin: 100,
