@@ -2,7 +2,7 @@
 //! prints for each object one history with every reply and the state that it leaves.
 #![tactic(auto)]
 
-ghost use Rattle.std.specs.Prelude.{◌≡◌, ◌≤◌, ◌+◌, IfOk, None, drop, false, length, true};
+ghost use Rattle.std.specs.Prelude.{◌≡◌, ◌≢◌, ◌≤◌, ◌+◌, IfOk, None, drop, false, length, true};
 ghost use Rattle.std.specs.Io.KnownBytes.{IsAtEnd};
 ghost use Rattle.std.specs.Process.{exit_status};
 ghost use Rattle.std.specs.Vec.Iter.{into_iter_items};
@@ -86,6 +86,7 @@ where
     ensures answer { AnswersTo S.left S.faults K.faults K.written source.old source.new
         sink.old sink.new (HasServed A.SleepLock T.SleepLock) kept.new
         (request (asks_help words.now) (said_by words.now)) result }
+    ensures helps { asks_help words.now ≡ true → result ≢ Status.NoMemory }
     ensures complete { CompletesTo S.left S.faults K.faults K.written source.old source.new
         sink.old sink.new (HasServed A.SleepLock T.SleepLock) kept.new
         (said_by words.now) result }

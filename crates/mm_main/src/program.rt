@@ -1,5 +1,5 @@
 //! The program over any source and sink.
-ghost use Rattle.std.specs.Prelude.{◌≡◌, ◌≤◌, ◌+◌, None, false, length, true};
+ghost use Rattle.std.specs.Prelude.{◌≡◌, ◌≢◌, ◌≤◌, ◌+◌, None, false, length, true};
 ghost use Rattle.std.specs.Io.KnownBytes.{IsAtEnd};
 ghost use Rattle.task_script.specs.Generated.{generated};
 ghost use Rattle.task_script.specs.Grammar.{script_of};
@@ -35,6 +35,7 @@ const HELP: &[u8] = b"usage: mm_main [--spin N] [--overdue N] [--generate N] [--
 
 fn help<K: Sink>(sink: &mut K) -> Status
     ensures says { SaysTo K.faults K.written sink.old sink.new NoService None helped result }
+    ensures served { result ≢ Status.NoMemory }
     ensures faults { K.faults sink.new ≡ write_faults result (K.faults sink.old) }
 {
     match put(sink, HELP) {
@@ -235,6 +236,7 @@ where
     ensures answer { AnswersTo S.left S.faults K.faults K.written source.old source.new
         sink.old sink.new (HasServed A.SleepLock T.SleepLock) kept.new
         (request (asks_help words.now) (said_by words.now)) result }
+    ensures helps { asks_help words.now ≡ true → result ≢ Status.NoMemory }
     ensures complete { CompletesTo S.left S.faults K.faults K.written source.old source.new
         sink.old sink.new (HasServed A.SleepLock T.SleepLock) kept.new
         (said_by words.now) result }
