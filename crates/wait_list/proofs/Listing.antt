@@ -24,10 +24,12 @@ use Rattle.wait_list.specs.declared.view.Waiter.{Waiter}
 use Rattle.wait_list.specs.declared.view.Change.{Change}
 use Rattle.wait_list.specs.declared.view.Change.TheVariants.{Stay}
 use Rattle.wait_list.specs.declared.view.ListHand.{ListHand}
-use Rattle.wait_list.specs.Lists.{Part, Knows, ListKept, Allowed, IsList, Lists, IsNear, Learnt, LeaverGoes, MayStore, changed, list_part, listed, sighted, takes_of}
-use Rattle.wait_list.specs.ListLaws.{list-learns, list-known, list-stores}
-use Rattle.wait_list.specs.Plays.{Got, Laid, Sighted}
+use Rattle.word_bits.specs.declared.TheConstants.{MAX_TASKS}
+use Rattle.wait_list.specs.Lists.{Part, AreTasks, first_code, Knows, ListKept, Allowed, IsList, Lists, IsNear, Learnt, LeaverGoes, MayStore, changed, list_part, listed, sighted, takes_of}
+use Rattle.wait_list.specs.ListLaws.{list-learns, list-known, list-stores, none-change}
+use Rattle.wait_list.specs.Plays.{Got, Laid, Sighted, FoundHead}
 use Rattle.wait_list.proofs.Waiters.{sound-changed}
+use Rattle.wait_list.proofs.Walks.{head-is}
 use Rattle.lock_core.specs.Views.{SpinHolds}
 use Rattle.wait_list.specs.declared.words.TheConstants.{LIST_WORDS}
 
@@ -76,7 +78,7 @@ module _ {E : Type 0} (holds : List ℕ → List (View E) → Type 0) (moves : �
     where
       none-now : (ws : List ℕ) (vs : List (View E)) (l : List Waiter) (id : ℕ) (v : View E) → holds ws vs → queue ws vs l → get_elem? vs id ≡ some v → SpinHolds v.spin → (list v.ext).changes ≡ false
           → total Rattle.wait_list.specs.Lists.changes_of (map (list_part list) vs) ≡ 0
-      none-now ws vs l id v h q at has still = Rattle.wait_list.specs.ListLaws.none-change (part place LIST_WORDS ws) l (map (list_part list) vs) id (list_part list v) (list_kept ws vs l q) (at_map (list_part list) vs id v at) (one-takes ws vs h) (has-lock v has) still
+      none-now ws vs l id v h q at has still = none-change (part place LIST_WORDS ws) l (map (list_part list) vs) id (list_part list v) (list_kept ws vs l q) (at_map (list_part list) vs id v at) (one-takes ws vs h) (has-lock v has) still
 
   gets-there : (slots id i : ℕ) (me : M) → i < LIST_WORDS → SpinHolds me.0.spin → ((l : List Waiter) → may_change Stay me.0 l) → Lets holds moves slots id me (place + i) Load (Got place list with_list may_change (step slots (place + i) 0 0 none) me)
   gets-there slots id i me inside has may s h len at small = let v = me.0 in let q = queued s.words s.views h in let t = learns s.words s.views q.0 id v h q.1 at has in let n : ℕ = get_or s.words (place + i) 0 in let ws : List ℕ = part place LIST_WORDS s.words in
@@ -105,6 +107,20 @@ module _ {E : Type 0} (holds : List ℕ → List (View E) → Type 0) (moves : �
   sights-there : (slots id : ℕ) (me : M) → Lets holds moves slots id me place Load (Sighted saw_first (step slots place 0 0 none) me)
   sights-there slots id me = let v = me.0 in loads holds moves slots id place me (λ n. sighted saw_first v n) (Sighted saw_first (step slots place 0 0 none) me) (λ _. refl)
       (λ ws vs h at _. let q = queued ws vs h in let zero_at : place + 0 ≡ place = omega arith in (subst (λ (z : ℕ). Goes holds moves id ws vs ws (set vs id (sighted saw_first v z))) (part-at ws place LIST_WORDS 0 (omega arith) ∙ ap (λ (z : ℕ). get_or ws z 0) zero_at) (firsts ws vs q.0 id v q.1 at), (refl, refl)))
+
+  -- a pass that has the spin lock, and is between no two stores of a change, finds the code of the first waiter
+  finds-head-there : (slots id : ℕ) (me : M) → SpinHolds me.0.spin → (list me.0.ext).changes ≡ false → Lets holds moves slots id me place Load (FoundHead saw_first (step slots place 0 0 none) me)
+  finds-head-there slots id me has still = let v = me.0 in loads holds moves slots id place me (λ n. sighted saw_first v n) (FoundHead saw_first (step slots place 0 0 none) me) (λ _. refl)
+      (λ ws vs h at _. let q = queued ws vs h in let zero_at : place + 0 ≡ place = omega arith in let r = list_kept ws vs q.0 q.1 in let word = part-at ws place LIST_WORDS 0 (omega arith) ∙ ap (λ (z : ℕ). get_or ws z 0) zero_at in
+      let quiet = none-change (part place LIST_WORDS ws) q.0 (map (list_part list) vs) id (list_part list v) r (at_map (list_part list) vs id v at) (one-takes ws vs h) (has-lock v has) still in let first = head-is (part place LIST_WORDS ws) q.0 (r.quiet quiet) in let few = small-code q.0 r.sound.small in
+      (subst (λ (z : ℕ). Goes holds moves id ws vs ws (set vs id (sighted saw_first v z))) word (firsts ws vs q.0 id v q.1 at), (omega (arith, word, first, few), (refl, refl))))
+    where
+      small-code : (l : List Waiter) → AreTasks l → first_code l ≤ MAX_TASKS
+      small-code [] all = omega arith
+      small-code (w ∷ l) all = let a = all.0 in omega (arith, a)
+
+  pub finds-head : (slots id at : ℕ) (me : M) → at ≡ place → SpinHolds me.0.spin → (list me.0.ext).changes ≡ false → Lets holds moves slots id me at Load (FoundHead saw_first (step slots at 0 0 none) me)
+  finds-head slots id at me is has still = subst (λ (z : ℕ). Lets holds moves slots id me z Load (FoundHead saw_first (step slots z 0 0 none) me)) (sym is) (finds-head-there slots id me has still)
 
   pub gets : (slots id at i : ℕ) (me : M) → at ≡ place + i → i < LIST_WORDS → SpinHolds me.0.spin → ((l : List Waiter) → may_change Stay me.0 l) → Lets holds moves slots id me at Load (Got place list with_list may_change (step slots at 0 0 none) me)
   gets slots id at i me is inside has may = subst (λ (z : ℕ). Lets holds moves slots id me z Load (Got place list with_list may_change (step slots z 0 0 none) me)) (sym is) (gets-there slots id i me inside has may)

@@ -1,9 +1,11 @@
 //! The list of a site, on which passes work that hold its spin lock.
-ghost use Rattle.std.specs.Prelude.{◌≡◌, ◌<◌, ◌≤◌, Option, IsSome, Some, ◌+◌};
+ghost use Rattle.std.specs.Prelude.{◌≡◌, ◌<◌, ◌≤◌, Option, IsSome, IfSome, Some, ◌+◌};
 ghost use Rattle.lock_core.specs.Handles.{Finds, IsLatest, view_of, past_of, task_in, SitsAt, KeepsPast, SaysSame};
 ghost use Rattle.lock_core.specs.Views.{SpinHolds};
 ghost use Rattle.wait_list.specs.declared.view.Change.TheVariants.{Enter, Leave};
-ghost use Rattle.wait_list.specs.Lists.{AllowsChange, AllowsStill, Appends, FindsBehind, FindsFirst, FindsNext, IsStill, Knows, Removes, TellsFirst, hand_at, list_part, next_place, only_steps, prev_with, waiter_code};
+ghost use Rattle.wait_list.specs.Lists.{AllowsChange, AllowsStill, Appends, FindsBehind, FindsFirst, FindsNext, IsStill, Knows, Removes, TellsFirst, hand_at, list_part, next_place, only_steps, prev_with, sighted, waiter_code};
+ghost use Rattle.word_bits.specs.OwnerWord.{task_code};
+ghost use Rattle.lock_core.specs.Pasts.{FoundAt};
 
 use crate::host::ListHost;
 use crate::view::Waiter;
@@ -131,6 +133,26 @@ pub fn first<H: ListHost>(site: &Site<H>, pass: &mut Pass<H>) -> Option<Waiter>
     ensures found { Finds H.LIST (waiter_code result) pass.old pass.new }
 {
     behind(site, pass, 0)
+}
+
+/// The task of the first waiter, by one load of the head. `None` exactly where the list is empty.
+pub fn first_task<H: ListHost>(site: &Site<H>, pass: &mut Pass<H>) -> Option<u32>
+    requires own { SitsAt site.now pass.old }
+    requires held { SpinHolds (view_of pass.old).spin }
+    requires still { IsStill H.list (view_of pass.old) }
+    ensures own { SitsAt site.now pass.new }
+    ensures goes_on { KeepsPast pass.old pass.new }
+    ensures last { IsLatest pass.new }
+    ensures face { SaysSame pass.old pass.new }
+    ensures kept { view_of pass.new ≡ sighted H.saw_first (view_of pass.old) (task_code result) }
+    ensures found { FoundAt H.LIST (task_code result) (past_of pass.new) }
+    ensures small { IfSome result (λ t. t < MAX_TASKS) }
+{
+    let code = words::head_code(site, pass);
+    if code == 0 {
+        return None;
+    }
+    Some((code - 1) as u32)
 }
 
 /// The waiter behind this task, which is in the list. `None` exactly where it is the last.

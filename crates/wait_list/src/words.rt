@@ -14,7 +14,7 @@ ghost use Rattle.wait_list.specs.declared.view.ListHand.{ListHand};
 ghost use Rattle.wait_list.specs.declared.view.Change.{Change};
 ghost use Rattle.wait_list.specs.declared.view.Change.TheVariants.{Stay, Enter, Leave};
 ghost use Rattle.wait_list.specs.Lists.{AllowsKnown, HasWords, IsPrepared, IsStill, Knows, LearntWord, MayStore, list_part, listed, sighted, no_list, next_place, prev_place, entering, leaving, going_on, ending};
-ghost use Rattle.wait_list.specs.Plays.{Got, Laid, Sighted};
+ghost use Rattle.wait_list.specs.Plays.{Got, Laid, Sighted, FoundHead};
 
 use crate::host::ListHost;
 use crate::view::{Change, Waiter};
@@ -85,6 +85,14 @@ struct Sight<H> {
 
 impl<H: ListHost> Play<(), View<H::Ext>> for Sight<H> {
     ghost then = { Sighted H.saw_first };
+}
+
+struct FindHead<H> {
+    host: PhantomData<H>,
+}
+
+impl<H: ListHost> Play<(), View<H::Ext>> for FindHead<H> {
+    ghost then = { FoundHead H.saw_first };
 }
 
 /// A load of a word of the list under the spin lock.
@@ -209,4 +217,21 @@ pub(crate) fn head<H: ListHost>(site: &Site<H>, pass: &mut Pass<H>) -> u64
     ensures found { FoundAt H.LIST result (past_of pass.new) }
 {
     site.step::<Sight<H>>(pass, H::LIST, Op::Load)
+}
+
+/// The head, under the spin lock and between no two stores of a change: then it is the code of the
+/// first waiter, or 0.
+pub(crate) fn head_code<H: ListHost>(site: &Site<H>, pass: &mut Pass<H>) -> u64
+    requires own { SitsAt site.now pass.old }
+    requires held { SpinHolds (view_of pass.old).spin }
+    requires still { IsStill H.list (view_of pass.old) }
+    ensures own { SitsAt site.now pass.new }
+    ensures goes_on { KeepsPast pass.old pass.new }
+    ensures last { IsLatest pass.new }
+    ensures face { SaysSame pass.old pass.new }
+    ensures small { result ≤ MAX_TASKS }
+    ensures kept { view_of pass.new ≡ sighted H.saw_first (view_of pass.old) result }
+    ensures found { FoundAt H.LIST result (past_of pass.new) }
+{
+    site.step::<FindHead<H>>(pass, H::LIST, Op::Load)
 }
