@@ -19,8 +19,8 @@ use Rattle.wait_list.specs.Lists.{Allowed, MadeBy as MadeUnderLock, Part, change
 use Rattle.wait_list.proofs.Determining.{kept-same}
 use Rattle.mutex_slow.specs.declared.view.MutexHand.{MutexHand}
 use Rattle.mutex_slow.specs.Mutexes.{AnswersHandoff, HasHandoff, HasLock, IsFirstTask, IsOwnChange, Kept, LeavesToFirst, MutexKept, MutexMoves, PicksFirst, TookUp, V, entered, list_of, may_miss, owner_at, owner_in, standing}
-use Rattle.mutex_slow.specs.Stated.{line_marks, HasBecome, HasWaitLock, IsMutexStep, MadeBy, TakesUp}
-use Rattle.mutex_slow.proofs.Stating.{listed}
+use Rattle.mutex_slow.specs.Stated.{Standing, line_marks, HasBecome, HasWaitLock, IsMutexStep, MadeBy, TakesUp}
+use Rattle.mutex_slow.proofs.Stating.{listed, standing_of}
 
 has-lock : (id : ℕ) (ws : List ℕ) (vs : List V) (v : V) (p : Part) → get_elem? vs id ≡ some v → get_elem? (map (list_part list_of) vs) id ≡ some p → holds_in p.0 ≡ 1 → HasWaitLock id (moment standing (instant ws vs))
 has-lock id ws vs v p at there holds = let same : p ≡ list_part list_of v = some-injective p (list_part list_of v) (sym there ∙ at_map (list_part list_of) vs id v at) in
@@ -52,19 +52,15 @@ mutex-step k id ws us vs vs' m one l l' old new = let v = m.site.before in recor
   stays = λ asked. subst (λ (z : List Waiter). HasHandoff (owner_in us) ⊎ AnswersHandoff v.hand (owner_in us) z) old (m.stays asked);
   freed = m.freed;
   names = λ alone free lock. subst (LeavesToFirst (owner_in us)) old (m.names alone free (had-lock lock));
-  appends = λ queued appends there. counted-on (map (marks_of standing) vs') id v m.site.after (entered m.list.change) queued appends (sym (at_map (marks_of standing) vs id v m.site.at) ∙ there) (at_map (marks_of standing) vs' id m.site.after m.site.at') m.appends;
-  missed = λ more queued appends there. uncounted-out v queued appends (sym (at_map (marks_of standing) vs id v m.site.at) ∙ there) (m.missed more);
+  missed = λ more s there. uncounted-out v s (sym (at_map (marks_of standing) vs id v m.site.at) ∙ there) (m.missed more);
+  stands = λ s there. (standing_of m.site.after.ext, at_map (marks_of standing) vs' id m.site.after m.site.at', m.appends ∙ ap (λ (n : ℕ). n + entered m.list.change) (ap (λ (x : Marks). get_or x.numbers 1 0) (some-injective (marks_of standing v) (line_marks s) (sym (at_map (marks_of standing) vs id v m.site.at) ∙ there))));
 }
   where
     had-lock : HasWaitLock id (moment standing (instant us vs')) → HasLock m.site.after
     had-lock lock = ap holds_in (sym (some-injective lock.0 m.site.after.spin (sym lock.1 ∙ at_map spin_of vs' id m.site.after m.site.at'))) ∙ lock.2
 
-    uncounted-out : (v : V) (queued appends : ℕ) → some (marks_of standing v) ≡ some (line_marks queued appends) → may_miss v → queued ≡ 0
-    uncounted-out v queued appends was out = sym (ap (λ (m : Marks). get_or m.numbers 0 0) (some-injective (marks_of standing v) (line_marks queued appends) was)) ∙ ap bit out
-
-    counted-on : (ms : List Marks) (id : ℕ) (v u : V) (by queued appends : ℕ) → some (marks_of standing v) ≡ some (line_marks queued appends) → get_elem? ms id ≡ some (marks_of standing u) → u.ext.appends ≡ v.ext.appends + by → (queued' : ℕ) × (get_elem? ms id ≡ some (line_marks queued' (appends + by)))
-    counted-on ms id v u by queued appends was is goes = let e : v.ext.appends ≡ appends = ap (λ (m : Marks). get_or m.numbers 1 0) (some-injective (marks_of standing v) (line_marks queued appends) was) in
-        (bit u.ext.queued, is ∙ ap (λ (n : ℕ). some (line_marks (bit u.ext.queued) n)) (goes ∙ ap (λ (n : ℕ). n + by) e))
+    uncounted-out : (v : V) (s : Standing) → some (marks_of standing v) ≡ some (line_marks s) → may_miss v → s.queued ≡ 0
+    uncounted-out v s was out = sym (ap (λ (m : Marks). get_or m.numbers 0 0) (some-injective (marks_of standing v) (line_marks s) was)) ∙ ap bit out
 
 module _ {Call : Type 0} (o : Obj Call) (size : ℕ) (k : Plan) where
   abbrev Steps : Instant MutexHand → Instant MutexHand → Type 0

@@ -1,5 +1,5 @@
 -- How a release ends a hold, from one step of it to the whole call.
-use Rattle.std.proofs.Common.{◌≡◌, ◌∙◌, ℕ, ◌+◌, ◌/◌, ◌%◌, ◌<◌, ◌≤◌, List, Option, refl, sym, ap, subst, arith}
+use Rattle.std.proofs.Common.{◌≡◌, ◌∙◌, ℕ, ◌+◌, ◌/◌, ◌%◌, ◌<◌, ◌≤◌, List, Option, Some, None, refl, sym, ap, subst, arith}
 use Rattle.word_bits.specs.OwnerWord.{task_code}
 use Rattle.lock_core.specs.declared.view.Moment.{Moment}
 use Rattle.lock_core.specs.declared.view.Held.{Held}
@@ -14,7 +14,7 @@ use Rattle.mutex_word.specs.Tries.{FindsUnasked, IsMine, LeavesFlags, ReleasedTo
 use Rattle.wait_list.specs.declared.view.Waiter.{Waiter}
 use Rattle.wait_list.specs.Lists.{waiter_code}
 use Rattle.mutex_slow.specs.Mutexes.{V, list_at, owner_at, turned}
-use Rattle.mutex_slow.specs.Places.{DecidesAt, EndsUnasked, FindsAsked, FindsOwnCode, Names, NamesFirst, line_of}
+use Rattle.mutex_slow.specs.Places.{task_of, DecidesAt, EndsUnasked, FindsAsked, FindsOwnCode, Names, NamesFirst, line_of}
 use Rattle.lock_core.proofs.Within.{found-within}
 
 -- the pass's last step found its own code, with these flags
@@ -77,3 +77,15 @@ names-found v w u p r q task first n named same out before_it later looks found 
 pub named-within : (begun : ℕ) (first : Option Waiter) (v a b u : Shown) → a.hand.task ≡ v.hand.task → v.steps ≤ a.steps → begun ≤ a.steps → PastGoesOn v a → NamesFirst a.steps first a b → u.hand.freed ≡ b.hand.freed → b.steps ≤ u.steps → PastGoesOn b u → NamesFirst begun first v u
 named-within begun first v a b u same steps since before n freed more after = let f = n.0 in let later = f.6.1 in
     ((f.0, f.1, f.2, own-code-within f.0 f.1 No v a b u same steps before f.3 more after, f.4, f.5, (f.6.0, omega (arith, later, since), f.6.2, found-within same before after f.6.3)), subst (Names first) (sym freed) n.1)
+
+waiter-task : (first : Option Waiter) → waiter_code first ≡ task_code (task_of first)
+waiter-task None = refl
+waiter-task (Some w) = refl
+
+-- the look by which a call named the first waiter
+pub named-looks : (first : Option Waiter) (v u : Shown) → NamesFirst u.spin.took first v u → FoundSince v.hand.task u.spin.took u.steps list_at (task_code (task_of first)) v.past u.past
+named-looks first v u n = let f = n.0.6 in let a = f.2 in let b = n.0.5 in let d = n.0.3.1 in subst (λ (z : ℕ). FoundSince v.hand.task u.spin.took u.steps list_at z v.past u.past) (waiter-task first) (f.0, f.1, omega (arith, a, b, d), f.3)
+
+-- a look under the wait lock, from one of the call's parts to the whole call
+pub looks-within : (code : ℕ) (v a b u : Shown) → a.hand.task ≡ v.hand.task → PastGoesOn v a → u.spin.took ≤ a.steps → FoundSince a.hand.task a.steps b.steps list_at code a.past b.past → b.steps ≤ u.steps → PastGoesOn b u → FoundSince v.hand.task u.spin.took u.steps list_at code v.past u.past
+looks-within code v a b u same before since f more after = let x = f.1 in let y = f.2 in (f.0, omega (arith, x, since), omega (arith, y, more), found-within same before after f.3)

@@ -5,3 +5,4 @@ pub mod Stating
 pub mod Chaining
 pub mod Locking
 pub mod Opening
+pub mod Duties

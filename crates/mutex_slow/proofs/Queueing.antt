@@ -7,7 +7,8 @@ use Rattle.wait_list.specs.declared.view.ListHand.{ListHand}
 use Rattle.wait_list.specs.Lists.{Appends, FindsFirst, Knows, list_part, first_of}
 use Rattle.wait_list.proofs.Joining.{alone-first, holds-one, others-first}
 use Rattle.mutex_slow.specs.declared.view.Point.TheVariants.{Rest, Joins}
-use Rattle.mutex_slow.specs.Mutexes.{V, list_of, with_list, turned}
+use Rattle.wake_duty.specs.Wakes.{waits}
+use Rattle.mutex_slow.specs.Mutexes.{V, OwesNoWake, list_of, with_list, turned}
 use Rattle.mutex_slow.specs.Places.{IsInLine}
 use Rattle.mutex_word.specs.declared.host.Turn.TheVariants.{Flag}
 use Rattle.mutex_word.specs.Holders.{turns}
@@ -34,9 +35,9 @@ module _ (v u x : V) (w : Waiter) (first : Waiter) (locked : SpinHolds v.spin) (
   pub appended : x ≡ record v { steps = x.steps; ext = with_list (Enter w) v a.hand }
   appended = whole
 
-  pub flagged-listed : (y : V) → y ≡ turns turned Flag x x.hand → IsInLine y
-  flagged-listed y now = let z : y ≡ turns turned Flag (record v { steps = x.steps; ext = with_list (Enter w) v a.hand }) v.hand = now ∙ ap (λ (z : V). turns turned Flag z z.hand) whole in
-      subst (λ (z : V). IsInLine z) (sym z) (record { queued = refl; rests = refl; still = a.still })
+  pub flagged-listed : (y : V) → OwesNoWake v → y ≡ turns turned Flag x x.hand → IsInLine y
+  flagged-listed y clear now = let z : y ≡ turns turned Flag (record v { steps = x.steps; ext = with_list (Enter w) v a.hand }) v.hand = now ∙ ap (λ (z : V). turns turned Flag z z.hand) whole in
+      subst (λ (z : V). IsInLine z) (sym z) (record { queued = refl; rests = refl; still = a.still; clear = clear; waits = refl })
 
-  pub behind-listed : first.task ≢ w.task → IsInLine x
-  behind-listed other = record { queued = ap (λ (z : V). z.ext.queued) whole; rests = point-rests other; still = ap (λ (z : V). z.ext.list.changes) whole ∙ a.still }
+  pub behind-listed : OwesNoWake v → first.task ≢ w.task → IsInLine x
+  behind-listed clear other = record { queued = ap (λ (z : V). z.ext.queued) whole; rests = point-rests other; still = ap (λ (z : V). z.ext.list.changes) whole ∙ a.still; clear = subst OwesNoWake (sym whole) clear; waits = ap (λ (z : V). waits z.ext.wake.vigil) whole }

@@ -26,10 +26,18 @@ use Rattle.mutex_word.specs.Holders.{OwnKept, IsHolder}
 use Rattle.mutex_word.specs.OwnLaws.{Named, no-codes, only-code, alone-code}
 use Rattle.wait_list.specs.declared.view.Waiter.{Waiter}
 use Rattle.wait_list.specs.Lists.{Part, PartOk, changes_of, counted, first_code, list_part}
-use Rattle.mutex_slow.specs.Mutexes.{V, Flagged, Kept, MutexKept, list_of, owner_in, point_of, queued_of, standing}
+use Rattle.mutex_slow.specs.declared.view.MutexHand.{MutexHand}
+use Rattle.mutex_slow.specs.Mutexes.{V, Flagged, Kept, MutexKept, list_of, owner_in, point_of, queued_of, standing, debt_of, chosen_code, awake_bit, wake_words}
 use Rattle.mutex_slow.specs.CoupledLaws.{is-in, not-in, point-held}
 use Rattle.mutex_slow.specs.MutexLaws.{apart}
-use Rattle.mutex_slow.specs.Stated.{line_marks, waits_in, IsListed, IsMutexThen}
+use Rattle.word_bits.specs.declared.TheConstants.{MAX_TASKS}
+use Rattle.wake_duty.specs.declared.view.Duty.{Duty}
+use Rattle.wake_duty.specs.declared.view.Duty.TheVariants.{NoDuty, Owing, Chosen}
+use Rattle.wake_duty.specs.declared.view.Vigil.{Vigil}
+use Rattle.wake_duty.specs.declared.view.Vigil.TheVariants.{Absent, Awake, Tried}
+use Rattle.wake_duty.specs.Wakes.{WakePart, owed, chose, chose_any, awake, waits, keeps_awake, wake_word}
+use Rattle.mutex_slow.specs.DutyLaws.{wparted, first-small, some-of as any-of}
+use Rattle.mutex_slow.specs.Stated.{Standing, line_marks, waits_in, HasDuty, IsListed, IsMutexThen}
 
 -- who holds, by a word that picks nobody
 holder-of : (hs : List Hand) (word : ℕ) → OwnKept word hs → Named hs → word % 8 < 4 → (task : Option ℕ) × (word / 8 ≡ task_code task) × IsHolder hs task
@@ -49,12 +57,38 @@ view-of f (v ∷ vs) more = elim (native.Mathlib.Decide.dec_le (f v) 0) [
   | no weighs ↦ (zero, v, refl, omega (arith, weighs))
 ]
 
+eqb-eq : (m n : ℕ) → (m == n) ≡ true → m ≡ n
+eqb-eq m n e = elim (native.Mathlib.Decide.ℕ_discrete m n) [ yes same ↦ same | no other ↦ not-both (m == n) (Rattle.std.proofs.Common.ne_eqb m n other) e ]
+
+-- how a pass with this part stands in line
+abbrev pub standing_of : MutexHand → Standing
+standing_of e = record { queued = bit e.queued; appends = e.appends; debt = debt_of e.wake.duty; chosen = chosen_code e.wake.duty; awake = awake_bit e.wake.vigil; wakes = e.wake.wakes; dozes = e.wake.dozes }
+
+-- what a weight that isn't 0 says
+owed-some : (d : Duty) (freed : ℕ) → 0 < owed d freed → (debt_of d ≡ 1) × (freed % 2 ≡ 1)
+owed-some NoDuty freed more = absurd (omega (arith, more))
+owed-some Owing freed more = (refl, omega (arith, more))
+owed-some (Chosen t) freed more = absurd (omega (arith, more))
+
+chose-some : (t : ℕ) (d : Duty) → 0 < chose t d → chosen_code d ≡ t + 1
+chose-some t NoDuty more = absurd (omega (arith, more))
+chose-some t Owing more = absurd (omega (arith, more))
+chose-some t (Chosen u) more = false-or-true (u == t) (λ same. ap (λ (n : ℕ). n + 1) (eqb-eq u t same)) (λ other. absurd (let b : bit (u == t) ≡ 0 = ap bit other in omega (arith, b, more)))
+
 number-is : (t : ℕ) (task : Option ℕ) → 0 < is_number t task → task ≡ Some t
 number-is t None more = absurd (omega (arith, more))
 number-is t (Some u) more = false-or-true (u == t) (λ same. ap Some (eqb-eq u t same)) (λ other. absurd (let b : bit (u == t) ≡ 0 = ap bit other in omega (arith, b, more)))
-  where
-    eqb-eq : (m n : ℕ) → (m == n) ≡ true → m ≡ n
-    eqb-eq m n e = elim (native.Mathlib.Decide.ℕ_discrete m n) [ yes same ↦ same | no other ↦ not-both (m == n) (Rattle.std.proofs.Common.ne_eqb m n other) e ]
+
+-- who has no wake to do
+pub owes-none : (d : Duty) (freed : ℕ) → owed d freed + chose_any d ≡ 0 → (chosen_code d ≡ 0) × (debt_of d ≡ 1 → freed % 2 ≡ 0)
+owes-none NoDuty freed e = (refl, λ z. absurd (omega (arith, z)))
+owes-none Owing freed e = (refl, λ _. omega (arith, e))
+owes-none (Chosen t) freed e = absurd (omega (arith, e))
+
+awake-some : (t : ℕ) (task : Option ℕ) (x : Vigil) → 0 < awake t task x → (task ≡ Some t) × (awake_bit x ≡ 1) × (waits x ≡ 1)
+awake-some t task Absent more = absurd (omega (arith, more))
+awake-some t task Awake more = (number-is t task more, refl, refl)
+awake-some t task (Tried n) more = absurd (omega (arith, more))
 
 queued-task : (t : ℕ) (v : V) → 0 < queued_of t v → v.hand.task ≡ Some t
 queued-task t v more = false-or-true v.ext.queued (λ is. number-is t v.hand.task (let b : when v.ext.queued (is_number t v.hand.task) ≡ is_number t v.hand.task = ap (λ (b : Bool). when b (is_number t v.hand.task)) is in omega (arith, b, more)))
@@ -91,13 +125,13 @@ module _ {Call : Type 0} (o : Obj Call) (size : ℕ) (k : Plan) (ws : List ℕ) 
   has-pass : (t : ℕ) → 0 < counted t l → HasPass (map hand_of vs) t
   has-pass t more = let p = r.coupled.places t in let s = view-of (queued_of t) vs (omega (arith, p, more)) in (s.0, s.1.hand, at_map hand_of vs s.0 s.1 s.2, queued-task t s.1 s.3)
 
-  first-number : (v : V) (queued appends : ℕ) → marks_of standing v ≡ line_marks queued appends → bit v.ext.queued ≡ queued
-  first-number v queued appends e = ap (λ (m : Marks). get_or m.numbers 0 0) e
+  first-number : (v : V) (s : Standing) → marks_of standing v ≡ line_marks s → bit v.ext.queued ≡ s.queued
+  first-number v s e = ap (λ (m : Marks). get_or m.numbers 0 0) e
 
   -- the mark of a pass says how often it waits in the list
-  marks-list : (id queued appends : ℕ) (h : Hand) → get_elem? (map hand_of vs) id ≡ some h → get_elem? (map (marks_of standing) vs) id ≡ some (line_marks queued appends) → queued ≡ waits_in l h.task
-  marks-list id queued appends h at there = let p = at_unmap hand_of vs id h at in let v : V = p.0 in let same : v.hand.task ≡ h.task = ap {A = Hand} (λ g. g.task) p.2 in
-      let mark : bit v.ext.queued ≡ queued = first-number v queued appends (some-injective (marks_of standing v) (line_marks queued appends) (sym (at_map (marks_of standing) vs id v p.1) ∙ there)) in
+  marks-list : (id : ℕ) (s : Standing) (h : Hand) → get_elem? (map hand_of vs) id ≡ some h → get_elem? (map (marks_of standing) vs) id ≡ some (line_marks s) → s.queued ≡ waits_in l h.task
+  marks-list id s h at there = let p = at_unmap hand_of vs id h at in let v : V = p.0 in let same : v.hand.task ≡ h.task = ap {A = Hand} (λ g. g.task) p.2 in
+      let mark : bit v.ext.queued ≡ s.queued = first-number v s (some-injective (marks_of standing v) (line_marks s) (sym (at_map (marks_of standing) vs id v p.1) ∙ there)) in
       number-or-not h.task
       (λ none. let out : bit v.ext.queued ≡ 0 = ap bit ((r.coupled.each id v p.1).named (same ∙ none)).0 in sym mark ∙ (out ∙ sym (ap (waits_in l) none)))
       (λ t is. let named : v.hand.task ≡ Some t = same ∙ is in let waits : waits_in l h.task ≡ counted t l = ap (waits_in l) is in
@@ -105,12 +139,27 @@ module _ {Call : Type 0} (o : Obj Call) (size : ℕ) (k : Plan) (ws : List ℕ) 
       (λ waits_now. let some_is = is-in (owner_in ws) l vs id v r.coupled p.1 alone waits_now t named in let one : bit v.ext.queued ≡ 1 = ap bit waits_now in omega (arith, some_is, one, mark, once, waits))
       (λ out. let none_is = not-in (owner_in ws) l vs id v r.coupled p.1 alone out t named in let zero_it : bit v.ext.queued ≡ 0 = ap bit out in omega (arith, none_is, zero_it, mark, waits)))
 
+  -- where nobody holds, somebody has the duty to wake the first waiter, or it needs nobody
+  duty-there : IsHolder (map hand_of vs) None → (t : ℕ) → first_code l ≡ t + 1 → HasDuty (moment standing (instant ws vs)) t
+  duty-there out t first = let kept = r.wake.first t first in let word = r.wake.bits t (first-small l t r.list.sound.small first) in elim (native.Mathlib.Decide.dec_le 1 (wake_word (wake_words ws) t)) [
+    | yes set_it ↦ inr (inr (inl (omega (arith, set_it, word))))
+    | no unset ↦ let s = any-of (keeps_awake t) (map wparted vs) (omega (arith, kept, unset)) in let p = at_unmap wparted vs s.0 s.1 s.2 in let v : V = p.0 in let weighs : 0 < keeps_awake t (wparted v) = subst (λ (z : WakePart). 0 < keeps_awake t z) (sym p.2) s.3 in
+        let free : held_weight v.hand.held ≡ 0 = ap held_weight (out s.0 v.hand (at_map hand_of vs s.0 v p.1)) in let marked = at_map (marks_of standing) vs s.0 v p.1 in let there = at_map hand_of vs s.0 v p.1 in
+        elim (native.Mathlib.Decide.dec_le 1 (owed v.ext.wake.duty v.hand.freed)) [
+          | yes owes ↦ let e = owed-some v.ext.wake.duty v.hand.freed owes in inl (s.0, v.hand, standing_of v.ext, there, marked, e.0, e.1)
+          | no clear ↦ elim (native.Mathlib.Decide.dec_le 1 (chose t v.ext.wake.duty)) [
+            | yes chosen ↦ inr (inl (s.0, standing_of v.ext, marked, chose-some t v.ext.wake.duty chosen))
+            | no unchosen ↦ let a = awake-some t v.hand.task v.ext.wake.vigil (omega (arith, weighs, free, clear, unchosen)) in inr (inr (inr (s.0, v.hand, standing_of v.ext, there, a.0, marked, (r.coupled.each s.0 v p.1).waits ∙ a.2, a.1)))
+          ]
+        ]
+  ]
+
   pub listed : IsListed (moment standing (instant ws vs)) l
   listed = let own = r.own in record {
     sound = r.list.sound;
     states = λ free. r.list.quiet (quiet vs (λ j v at. changes (r.list.each j (list_part list_of v) (at_map (list_part list_of) vs j v at)) (all free j v at)));
     passes = has-pass;
-    has = λ id h at. let p = at_unmap hand_of vs id h at in (bit p.0.ext.queued, p.0.ext.appends, at_map (marks_of standing) vs id p.0 p.1);
+    has = λ id h at. let p = at_unmap hand_of vs id h at in (standing_of p.0.ext, at_map (marks_of standing) vs id p.0 p.1);
     marked = marks-list;
     owner = record {
       holder = holder-of (map hand_of vs) (owner_in ws) own named;
@@ -121,6 +170,7 @@ module _ {Call : Type 0} (o : Obj Call) (size : ℕ) (k : Plan) (ws : List ℕ) 
       waited = λ free. (flagged free).some;
       unwaited = λ free. (flagged free).none;
     };
+    duty = duty-there;
   }
 
 module _ {Call : Type 0} (o : Obj Call) (size : ℕ) where

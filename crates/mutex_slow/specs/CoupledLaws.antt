@@ -21,6 +21,11 @@ use Rattle.wait_list.specs.declared.view.ListHand.{ListHand}
 use Rattle.wait_list.specs.ListLaws.{holds-or-not}
 use Rattle.wait_list.specs.Lists.{first_code, counted, without, listed}
 use Rattle.wait_list.proofs.Waiters.{counted-append, counted-without-own, counted-without-other, counted-here, counted-else, length-without, first-without}
+use Rattle.wake_duty.specs.declared.view.WakeHand.{WakeHand}
+use Rattle.wake_duty.specs.declared.view.Duty.TheVariants.{NoDuty, Owing}
+use Rattle.wake_duty.specs.Wakes.{waits, duty_of, failing}
+use Rattle.wake_duty.specs.WakeLaws.{waits-failing}
+use Rattle.lock_core.specs.Records.{bit}
 use Rattle.mutex_slow.specs.declared.view.MutexHand.{MutexHand}
 use Rattle.mutex_slow.specs.declared.view.Point.{Point}
 use Rattle.mutex_slow.specs.declared.view.Point.TheVariants.{Rest, Joins, Empties}
@@ -41,7 +46,7 @@ first-some : (l : List Waiter) → 0 < length l → 0 < first_code l
 first-some [] lo = absurd (omega (arith, lo))
 first-some (w ∷ l) lo = omega arith
 
-first-none : (l : List Waiter) → 0 < first_code l → 0 < length l
+pub first-none : (l : List Waiter) → 0 < first_code l → 0 < length l
 first-none [] lo = absurd (omega (arith, lo))
 first-none (w ∷ l) lo = omega arith
 
@@ -84,7 +89,10 @@ point-rest Rest e = refl
 point-rest Joins e = absurd (omega (arith, e))
 point-rest Empties e = absurd (omega (arith, e))
 
-point-cases : (p : Point) {P : Type 0} → (p ≡ Rest → P) → (p ≡ Joins → P) → (p ≡ Empties → P) → P
+pub rest-weighs : (p : Point) → p ≡ Rest → point_weight p ≡ 0
+rest-weighs p e = ap point_weight e
+
+pub point-cases : (p : Point) {P : Type 0} → (p ≡ Rest → P) → (p ≡ Joins → P) → (p ≡ Empties → P) → P
 point-cases Rest a b c = a refl
 point-cases Joins a b c = b refl
 point-cases Empties a b c = c refl
@@ -123,14 +131,34 @@ module _ (n : ℕ) (l : List Waiter) (vs : List V) (id : ℕ) (v : V) (r : Coupl
 
   seat-same : (h : Hand) → h.task ≡ v.hand.task → SeatOk n l (handed v h)
   seat-same h e = record {
-    joins = λ p. let k = mine.joins p in (k.0, (k.1.0, e ∙ k.1.1, k.1.2), k.2, k.3);
+    joins = λ p. let k = mine.joins p in (k.0, (k.1.0, e ∙ k.1.1, k.1.2), k.2, k.3, k.4);
     empties = mine.empties;
     first = λ f. let k = mine.first f in (k.0, e ∙ k.1, k.2);
     failed = λ has stamp t is. mine.failed has stamp t (sym e ∙ is);
     past = mine.past;
     leaver = λ some. let k = mine.leaver some in (k.0, e ∙ k.1, k.2);
     named = λ none. mine.named (sym e ∙ none);
+    waits = mine.waits;
   }
+
+  -- it has this hand, and knows this of wakes
+  abbrev pub waking : Hand → WakeHand → V
+  waking h b = record v { hand = h; steps = v.steps + 1; ext = record v.ext { wake = b } }
+
+  seat-waking : (h : Hand) (b : WakeHand) → h.task ≡ v.hand.task → b.vigil ≡ v.ext.wake.vigil → SeatOk n l (waking h b)
+  seat-waking h b e same = record {
+    joins = λ p. let k = mine.joins p in (k.0, (k.1.0, e ∙ k.1.1, k.1.2), k.2, k.3, same ∙ k.4);
+    empties = mine.empties;
+    first = λ f. let k = mine.first f in (k.0, e ∙ k.1, k.2);
+    failed = λ has stamp t is. mine.failed has stamp t (sym e ∙ is);
+    past = mine.past;
+    leaver = λ some. let k = mine.leaver some in (k.0, e ∙ k.1, k.2);
+    named = λ none. mine.named (sym e ∙ none);
+    waits = mine.waits ∙ sym (ap waits same);
+  }
+
+  pub coupled-wakes : (h : Hand) (b : WakeHand) → h.task ≡ v.hand.task → b.vigil ≡ v.ext.wake.vigil → Coupled n l (set vs id (waking h b))
+  coupled-wakes h b e same = coupled-stays (waking h b) (seat-waking h b e same) (λ t. ap (λ (z : Option ℕ). when v.ext.queued (is_number t z)) e) refl
 
   -- the hand changes, and keeps its number, or the pass is out of everything
   pub coupled-hands : (h : Hand) → (h.task ≡ v.hand.task) ⊎ IsOut v → Coupled n l (set vs id (handed v h))
@@ -144,6 +172,7 @@ module _ (n : ℕ) (l : List Waiter) (vs : List V) (id : ℕ) (v : V) (r : Coupl
         past = mine.past;
         leaver = λ some. absurd (some q.3);
         named = λ _. q;
+        waits = mine.waits;
       } (λ t. (λ i. when (q.0 i) (is_number t h.task)) ∙ sym (λ i. when (q.0 i) (is_number t v.hand.task))) refl)
       same
 
@@ -153,13 +182,14 @@ module _ (n : ℕ) (l : List Waiter) (vs : List V) (id : ℕ) (v : V) (r : Coupl
       let held : point_of v ≢ 0 → HasLock v → holds_in s ≡ 1 = λ some has. holds-or-not s (λ t. t) (λ f. absurd (some (ap point_weight (may has f)))) in
       let back : v.ext.failed ≡ s.entries → holds_in s ≡ 1 → HasLock v = λ stamp has. holds-or-not v.spin (λ t. t) (λ f. absurd (omega (arith, stamp, has, f, goes, past))) in
       coupled-stays (spun v s) record {
-        joins = λ p. let k = mine.joins p in (held (λ z. let w = ap point_weight p in omega (arith, w, z)) k.0, k.1, k.2, k.3);
+        joins = λ p. let k = mine.joins p in (held (λ z. let w = ap point_weight p in omega (arith, w, z)) k.0, k.1, k.2, k.3, k.4);
         empties = λ p. let k = mine.empties p in (held (λ z. let w = ap point_weight p in omega (arith, w, z)) k.0, k.1, k.2, k.3);
         first = mine.first;
         failed = λ has stamp. let had = back stamp has in mine.failed had (omega (arith, stamp, has, had, goes));
         past = omega (arith, goes, past);
         leaver = mine.leaver;
         named = λ none. let q = mine.named none in (q.0, q.1, q.2, q.3, λ has. holds-or-not v.spin (λ t. let f = q.4 t in omega (arith, goes, f, t, has)) (λ f. omega (arith, goes, f, has, past)));
+        waits = mine.waits;
       } (λ t. refl) refl
 
   -- so may what it saw of the spin word
@@ -169,7 +199,7 @@ module _ (n : ℕ) (l : List Waiter) (vs : List V) (id : ℕ) (v : V) (r : Coupl
       moved : SeatOk n l (handed v h) → SeatOk n l (seated v h s)
       moved ok = ⊎_elim
           (λ (e : s ≡ v.spin). subst (λ (x : SpinHand). SeatOk n l (seated v h x)) (sym e) ok)
-          (λ (e : s ≡ forgot v.spin). subst (λ (x : SpinHand). SeatOk n l (seated v h x)) (sym e) (record { joins = ok.joins; empties = ok.empties; first = ok.first; failed = ok.failed; past = ok.past; leaver = ok.leaver; named = ok.named }))
+          (λ (e : s ≡ forgot v.spin). subst (λ (x : SpinHand). SeatOk n l (seated v h x)) (sym e) (record { joins = ok.joins; empties = ok.empties; first = ok.first; failed = ok.failed; past = ok.past; leaver = ok.leaver; named = ok.named; waits = ok.waits }))
           stays
 
       coupled-same : Coupled n l (set vs id (handed v h)) → Coupled n l (set vs id (seated v h s))
@@ -186,23 +216,25 @@ module _ (n : ℕ) (l : List Waiter) (vs : List V) (id : ℕ) (v : V) (r : Coupl
       past = ok.past;
       leaver = ok.leaver;
       named = ok.named;
+      waits = ok.waits;
     }
 
     -- a word that keeps its flags, of which none picks
     same-flags : (m : ℕ) → m % 8 ≡ n % 8 → m % 8 < 4 → (w : V) → SeatOk n l w → SeatOk m l w
     same-flags m flags low w ok = record {
-      joins = λ p. let k = ok.joins p in (k.0, k.1, k.2, flags ∙ k.3);
+      joins = λ p. let k = ok.joins p in (k.0, k.1, k.2, flags ∙ k.3, k.4);
       empties = λ p. let k = ok.empties p in let q = k.2 in (k.0, k.1, omega (arith, q, flags), low);
       first = ok.first;
       failed = λ _ _ t _ high. absurd (omega (arith, low, high));
       past = ok.past;
       leaver = ok.leaver;
       named = ok.named;
+      waits = ok.waits;
     }
 
     -- the flags stay
-    flags-stay : (m : ℕ) (h : Hand) (t : Rattle.mutex_word.specs.declared.host.Turn.Turn) → m % 8 ≡ n % 8 → m % 8 < 4 → h.task ≡ v.hand.task → turned t v ≡ v.ext → Coupled m l (set vs id (turns turned t v h))
-    flags-stay m h t flags low task ext = subst (λ (e : MutexHand). Coupled m l (set vs id (record v { hand = h; steps = v.steps + 1; ext = e }))) (sym ext) (let u : V = handed v h in let c = coupled-hands h (inl task) in let ok = c.each in record {
+    flags-stay : (m : ℕ) (h : Hand) (t : Rattle.mutex_word.specs.declared.host.Turn.Turn) → m % 8 ≡ n % 8 → m % 8 < 4 → h.task ≡ v.hand.task → (b : WakeHand) → b.vigil ≡ v.ext.wake.vigil → turned t v ≡ record v.ext { wake = b } → Coupled m l (set vs id (turns turned t v h))
+    flags-stay m h t flags low task b same ext = subst (λ (e : MutexHand). Coupled m l (set vs id (record v { hand = h; steps = v.steps + 1; ext = e }))) (sym ext) (let c = coupled-wakes h b task same in let ok = c.each in record {
       places = c.places;
       flags = λ none. let f = c.flags none in record { some = λ some. let s = f.some some in omega (arith, s, flags); none = λ z. flags ∙ f.none z };
       picked = λ high. absurd (omega (arith, low, high));
@@ -210,28 +242,29 @@ module _ (n : ℕ) (l : List Waiter) (vs : List V) (id : ℕ) (v : V) (r : Coupl
     })
 
     -- a try fails
-    pub coupled-fails : (t : ℕ) → v.hand.task ≡ Some t → (4 ≤ n % 8 → n / 8 ≢ t + 1) → (h : Hand) → h.task ≡ v.hand.task → Coupled n l (set vs id (turns turned Fail v h))
-    coupled-fails t has not h task = coupled-stays (turns turned Fail v h) record {
-      joins = λ p. let k = mine.joins p in (k.0, (k.1.0, task ∙ k.1.1, k.1.2), k.2, k.3);
+    pub coupled-fails : (t : ℕ) → v.hand.task ≡ Some t → (4 ≤ n % 8 → n / 8 ≢ t + 1) → v.ext.point ≡ Rest → (h : Hand) → h.task ≡ v.hand.task → Coupled n l (set vs id (turns turned Fail v h))
+    coupled-fails t has not rest h task = coupled-stays (turns turned Fail v h) record {
+      joins = λ p. rest-joins (sym rest ∙ p);
       empties = mine.empties;
       first = λ f. let k = mine.first f in (k.0, task ∙ k.1, k.2);
       failed = λ _ _ u is. let e = same-some t u (sym has ∙ (sym task ∙ is)) in λ high z. not high (omega (arith, z, e));
       past = omega arith;
       leaver = λ some. let k = mine.leaver some in (k.0, task ∙ k.1, k.2);
       named = λ none. none-some t (sym (sym task ∙ none) ∙ has);
+      waits = mine.waits ∙ sym (waits-failing (holds_in v.spin) v.spin.entries v.ext.wake);
     } (λ t. ap (λ (z : Option ℕ). when v.ext.queued (is_number t z)) task) refl
 
     -- a try takes a word that names nobody
     pub coupled-takes-free : (t m : ℕ) (h : Hand) → n < 8 → n < 2 → m ≡ 8 * (t + 1) + n → h.task ≡ v.hand.task → Coupled m l (set vs id (turns turned Take v h))
-    coupled-takes-free t m h free few is task = flags-stay m h Take (omega (arith, is, few)) (omega (arith, is, few)) task refl
+    coupled-takes-free t m h free few is task = flags-stay m h Take (omega (arith, is, few)) (omega (arith, is, few)) task (record v.ext.wake { duty = NoDuty }) refl refl
 
     -- a release to the flags
     pub coupled-frees : (m : ℕ) (h : Hand) → n % 8 < 2 → m ≡ n % 8 → h.task ≡ v.hand.task → Coupled m l (set vs id (turns turned Free v h))
-    coupled-frees m h few is task = flags-stay m h Free (omega (arith, is)) (omega (arith, is, few)) task refl
+    coupled-frees m h few is task = flags-stay m h Free (omega (arith, is)) (omega (arith, is, few)) task (record v.ext.wake { duty = Owing }) refl refl
 
     -- the picked waiter takes
     pub coupled-takes-picked : (m : ℕ) (h : Hand) → 4 ≤ n % 8 → n % 8 < 6 → m + 4 ≡ n → h.task ≡ v.hand.task → Coupled m l (set vs id (turns turned Take v h))
-    coupled-takes-picked m h high few is task = let c = coupled-hands h (inl task) in record {
+    coupled-takes-picked m h high few is task = let c = coupled-wakes h (record v.ext.wake { duty = NoDuty }) task refl in record {
       places = c.places;
       flags = λ none. let f = c.flags none in record { some = λ some. let s = f.some some in omega (arith, s, is); none = λ z. let e = f.none z in absurd (omega (arith, e, high)) };
       picked = λ z. absurd (omega (arith, z, high, few, is));
@@ -243,6 +276,7 @@ module _ (n : ℕ) (l : List Waiter) (vs : List V) (id : ℕ) (v : V) (r : Coupl
         past = ok.past;
         leaver = ok.leaver;
         named = ok.named;
+        waits = ok.waits;
       };
     }
 
@@ -269,6 +303,7 @@ module _ (n : ℕ) (l : List Waiter) (vs : List V) (id : ℕ) (v : V) (r : Coupl
           past = ok.past;
           leaver = ok.leaver;
           named = ok.named;
+          waits = ok.waits;
         }
 
     queued-none : (t : ℕ) (task : Option ℕ) (b : Bool) → (task ≡ Some t → b ≡ false) → when b (is_number t task) ≡ 0
@@ -288,7 +323,7 @@ module _ (n : ℕ) (l : List Waiter) (vs : List V) (id : ℕ) (v : V) (r : Coupl
 
     -- the holder hands over to the first waiter
     pub coupled-hands-over : (m : ℕ) (h : Hand) → HasLock v → v.ext.point ≡ Rest → n % 8 < 4 → (length l ≡ 0 → m ≡ n % 2) → (0 < length l → m ≡ 8 * first_code l + 4 + n % 2) → h.task ≡ v.hand.task → v.ext.queued ≡ false → Coupled m l (set vs id (turns turned HandOn v h))
-    coupled-hands-over m h has rest few none_is some_is task out = let c = coupled-hands h (inl task) in let fl = flagged apart has rest in let u : V = turns turned HandOn v h in record {
+    coupled-hands-over m h has rest few none_is some_is task out = let b : WakeHand = record v.ext.wake { duty = duty_of (first_code v.ext.list.list) } in let c = coupled-wakes h b task refl in let fl = flagged apart has rest in let u : V = turns turned HandOn v h in record {
       places = c.places;
       flags = λ _. record {
         some = λ lo. let a = fl.some lo in let b = some_is lo in omega (arith, a, b);
@@ -298,7 +333,7 @@ module _ (n : ℕ) (l : List Waiter) (vs : List V) (id : ℕ) (v : V) (r : Coupl
         | yes z ↦ let b = none_is (omega (arith, z)) in absurd (omega (arith, b, high))
         | no lo ↦ let b = some_is (omega (arith, lo)) in omega (arith, b)
       ];
-      each = each-set (SeatOk n l) (SeatOk m l) vs id u (let ok = seat-same h task in record {
+      each = each-set (SeatOk n l) (SeatOk m l) vs id u (let ok = seat-waking h (record v.ext.wake { duty = duty_of (first_code v.ext.list.list) }) task refl in record {
         joins = λ p. rest-joins (sym rest ∙ p);
         empties = λ p. rest-empties (sym rest ∙ p);
         first = ok.first;
@@ -306,6 +341,7 @@ module _ (n : ℕ) (l : List Waiter) (vs : List V) (id : ℕ) (v : V) (r : Coupl
         past = ok.past;
         leaver = ok.leaver;
         named = ok.named;
+        waits = ok.waits;
       }) (λ j w other at' ok. beside m l has (λ j t w at' other is e. e) j w other at' ok) r.each;
     }
       where
@@ -327,6 +363,7 @@ module _ (n : ℕ) (l : List Waiter) (vs : List V) (id : ℕ) (v : V) (r : Coupl
         past = ok.past;
         leaver = ok.leaver;
         named = λ none. let q = ok.named none in (q.0, refl, q.2, q.3, q.4);
+        waits = ok.waits;
       }) (λ j w other at' ok. beside m l has (λ j t w at' other is e. e) j w other at' ok) r.each;
     }
 
@@ -344,6 +381,7 @@ module _ (n : ℕ) (l : List Waiter) (vs : List V) (id : ℕ) (v : V) (r : Coupl
         past = ok.past;
         leaver = ok.leaver;
         named = λ none. let q = ok.named none in (q.0, refl, q.2, q.3, q.4);
+        waits = ok.waits;
       }) (λ j w other at' ok. beside m l has (λ j t w at' other is e. e) j w other at' ok) r.each;
     }
 
@@ -380,13 +418,14 @@ module _ (n : ℕ) (l : List Waiter) (vs : List V) (id : ℕ) (v : V) (r : Coupl
           | no lo ↦ e ∙ sym (first-append l w (omega (arith, lo)))
         ];
         each = each-set (SeatOk n l) (SeatOk n l') vs id u record {
-          joins = λ p. let z : length l ≡ 0 = elim (native.Mathlib.Decide.dec_le (length l) 0) [ yes z ↦ omega (arith, z) | no lo ↦ rest-joins (sym (now-rests (omega (arith, lo))) ∙ p) ] in (has, (w.task, is, first-only l w z), omega (arith, z, n1), fl.none z);
+          joins = λ p. let z : length l ≡ 0 = elim (native.Mathlib.Decide.dec_le (length l) 0) [ yes z ↦ omega (arith, z) | no lo ↦ rest-joins (sym (now-rests (omega (arith, lo))) ∙ p) ] in (has, (w.task, is, first-only l w z), omega (arith, z, n1), fl.none z, refl);
           empties = λ p. elim (native.Mathlib.Decide.dec_le (length l) 0) [ yes z ↦ joins-empties (sym (now-joins (omega (arith, z))) ∙ p) | no lo ↦ rest-empties (sym (now-rests (omega (arith, lo))) ∙ p) ];
           first = λ f. not-both false refl f;
           failed = mine.failed;
           past = mine.past;
           leaver = λ some_l. absurd (some_l leaver);
           named = λ none. none-some w.task (sym none ∙ is);
+          waits = refl;
         } (λ j x other at' ok. beside n l' has (λ j t x at' other named e. first-append l w (first-none l (omega (arith, e))) ∙ e) j x other at' ok) r.each;
       }
         where
@@ -432,6 +471,7 @@ module _ (n : ℕ) (l : List Waiter) (vs : List V) (id : ℕ) (v : V) (r : Coupl
           past = mine.past;
           leaver = λ _. (t, is, leaver);
           named = λ none. none-some t (sym none ∙ is);
+          waits = refl;
         } (λ j y other at' ok. beside n m has (λ j s y at' other named e. first-without t l (λ f. apart.numbers j t y at' other is (named ∙ (let z : s ≡ t = omega (arith, e, f) in ap Some z))) ∙ e) j y other at' ok) r.each;
       }
 
@@ -444,6 +484,7 @@ idle-ok n l v out ext = record {
   past = let e : v.ext.failed ≡ 0 = ap (λ (z : MutexHand). z.failed) ext in omega (arith, e);
   leaver = λ some. absurd (some (ap (λ (z : MutexHand). z.list.leaver) ext));
   named = λ _. (ap (λ (z : MutexHand). z.queued) ext, ap (λ (z : MutexHand). z.point) ext, ap (λ (z : MutexHand). z.first) ext, ap (λ (z : MutexHand). z.list.leaver) ext, λ has. locked-free v out has);
+  waits = ap (λ (z : MutexHand). bit z.queued) ext ∙ sym (ap (λ (z : MutexHand). waits z.wake.vigil) ext);
 }
 
 pub coupled-opens : (v : V) → v.hand.task ≡ None → holds_in v.spin ≡ 0 → v.ext ≡ idle → Coupled 0 [] (v ∷ [])

@@ -18,7 +18,7 @@ use Rattle.osq_nodes.specs.declared.node.Place.TheVariants.{Out}
 use Rattle.osq_nodes.specs.Handles as queue
 use Rattle.mutex_slow.specs.declared.calls.Mutex.{Mutex}
 use Rattle.mutex_slow.specs.declared.calls.MutexPass.{MutexPass}
-use Rattle.mutex_slow.specs.Mutexes.{idle, owner_at, standing}
+use Rattle.mutex_slow.specs.Mutexes.{OwesNoWake, idle, owner_at, standing}
 use Rattle.mutex_slow.specs.Places.{IsOutside, line_of}
 
 -- a new table of this plan
@@ -49,6 +49,18 @@ module _ {O C : Type 0} where
   abbrev pub TakesAlone : {Call : Type 0} → Obj Call → Mutex O C → MutexPass O C → MutexPass O C → Type 0
   TakesAlone o mutex old new = Takes o (plan_of mutex) Alone (shown_of old) (shown_of new)
 
+  -- how many wake words it has set, and how often its task has fallen asleep
+  abbrev pub wakes_in : MutexPass O C → ℕ
+  wakes_in pass = pass.wakes
+
+  abbrev pub dozes_in : MutexPass O C → ℕ
+  dozes_in pass = pass.dozes
+
+  -- it has neither set a wake word nor fallen asleep
+  pub record KeepsWakes (old new : MutexPass O C) : Type 0 where
+    pub wakes : wakes_in new ≡ wakes_in old
+    pub dozes : dozes_in new ≡ dozes_in old
+
   -- it has taken the wait lock once at most
   abbrev pub EntersOnce : MutexPass O C → MutexPass O C → Type 0
   EntersOnce old new = (shown_of new).spin.entries ≤ (shown_of old).spin.entries + 1
@@ -77,6 +89,9 @@ module _ {O C : Type 0} where
     pub sits : inner.SitsAt mutex.site pass.pass
     pub unspun : SpinRests (inner.view_of pass.pass).spin
     pub outside : IsOutside (inner.view_of pass.pass)
+    pub clear : OwesNoWake (inner.view_of pass.pass)
+    pub woke : pass.wakes ≡ (inner.view_of pass.pass).ext.wake.wakes
+    pub dozed : pass.dozes ≡ (inner.view_of pass.pass).ext.wake.dozes
     pub queued : queue.SitsAt mutex.osq pass.queue
     pub off : queue.place_in pass.queue ≡ Out
     pub same : queue.task_in pass.queue ≡ inner.task_in pass.pass

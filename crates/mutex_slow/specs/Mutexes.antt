@@ -1,5 +1,5 @@
 -- The rule of a mutex: the facts of its parts, and those that couple the owner word, the list and the passes.
-use Rattle.std.specs.Prelude.{◌≡◌, ◌≢◌, ℕ, ◌+◌, ◌*◌, ◌/◌, ◌%◌, ◌<◌, ◌≤◌, ◌==◌, ◌⊎◌, Bool, true, false, List, [], ◌∷◌, length, map, slice_index, ◌&&◌, Option, Some, None, if◌then◌else◌}
+use Rattle.std.specs.Prelude.{◌≡◌, ◌≢◌, ℕ, ◌+◌, ◌-◌, ◌*◌, ◌/◌, ◌%◌, ◌<◌, ◌≤◌, ◌==◌, ◌⊎◌, Bool, true, false, List, [], ◌∷◌, length, map, slice_index, ◌&&◌, Option, Some, None, if◌then◌else◌}
 use mathlib.Core.Option.{some}
 use lib.ListN.{get_elem?}
 use Rattle.word_bits.specs.LockWords.{owned}
@@ -8,7 +8,7 @@ use Rattle.word_bits.specs.Histories.{Plan}
 use Rattle.lock_core.specs.declared.view.View.{View}
 use Rattle.lock_core.specs.declared.view.Hand.{Hand}
 use Rattle.lock_core.specs.declared.view.Held.TheVariants.{No, Alone}
-use Rattle.lock_core.specs.declared.layout.TheConstants.{SPIN_ROOM, SPIN_WORDS}
+use Rattle.lock_core.specs.declared.layout.TheConstants.{LOCK_WORDS, SPIN_ROOM, SPIN_WORDS}
 use Rattle.lock_core.specs.Layout.{site, width, part}
 use Rattle.lock_core.specs.Views.{SpinRests, hand_of, spin_part, is_number}
 use Rattle.lock_core.specs.Sites.{SiteKept}
@@ -28,6 +28,12 @@ use Rattle.wait_list.specs.declared.view.Change.TheVariants.{Stay, Enter, Leave}
 use Rattle.wait_list.specs.declared.view.ListHand.{ListHand}
 use Rattle.wait_list.specs.declared.words.TheConstants.{LIST_WORDS}
 use Rattle.wait_list.specs.Lists.{ListKept, ListMoves, Knows, list_part, no_list, first_code, counted}
+use Rattle.wake_duty.specs.declared.view.Duty.{Duty}
+use Rattle.wake_duty.specs.declared.view.Duty.TheVariants.{NoDuty, Owing, Chosen}
+use Rattle.wake_duty.specs.declared.view.Vigil.{Vigil}
+use Rattle.wake_duty.specs.declared.view.Vigil.TheVariants.{Absent, Awake, Tried}
+use Rattle.wake_duty.specs.declared.view.WakeHand.{WakeHand}
+use Rattle.wake_duty.specs.Wakes.{WAKE_WORDS, WakeKept, wake_part, no_wake, waits, owed, chose_any, duty_of, failing, looking}
 use Rattle.mutex_slow.specs.declared.view.MutexHand.{MutexHand}
 use Rattle.mutex_slow.specs.declared.view.Point.{Point}
 use Rattle.mutex_slow.specs.declared.view.Point.TheVariants.{Rest, Joins, Empties}
@@ -36,11 +42,29 @@ abbrev pub V : Type 0
 V = View MutexHand
 
 abbrev pub idle : MutexHand
-idle = record { list = no_list; queued = false; point = Rest; first = false; failed = 0; appends = 0 }
+idle = record { list = no_list; queued = false; point = Rest; first = false; failed = 0; appends = 0; wake = no_wake }
 
--- what a moment keeps of how a pass stands in line: whether its task is in the list, and how often it has appended itself
+-- whether it ended its hold by a release, and has not looked for a first waiter since
+abbrev pub debt_of : Duty → ℕ
+debt_of NoDuty = 0
+debt_of Owing = 1
+debt_of (Chosen t) = 0
+
+-- the code of the task that it has chosen, whose wake word it hasn't set, or 0
+abbrev pub chosen_code : Duty → ℕ
+chosen_code NoDuty = 0
+chosen_code Owing = 0
+chosen_code (Chosen t) = t + 1
+
+-- whether it waits, and tries before it sleeps
+abbrev pub awake_bit : Vigil → ℕ
+awake_bit Absent = 0
+awake_bit Awake = 1
+awake_bit (Tried n) = 0
+
+-- what a moment keeps of how a pass stands in line: whether its task is in the list, how often it has appended itself, what it owes, whether its task is awake in the list, and how many wake words it has set and how often it has fallen asleep
 abbrev pub standing : MutexHand → List ℕ
-standing e = bit e.queued ∷ e.appends ∷ []
+standing e = bit e.queued ∷ e.appends ∷ debt_of e.wake.duty ∷ chosen_code e.wake.duty ∷ awake_bit e.wake.vigil ∷ e.wake.wakes ∷ e.wake.dozes ∷ []
 
 -- how often a change appends the pass that makes it
 abbrev pub entered : Change → ℕ
@@ -50,6 +74,16 @@ entered (Leave t) = 0
 
 abbrev pub list_of : MutexHand → ListHand
 list_of e = e.list
+
+abbrev pub wake_of : MutexHand → WakeHand
+wake_of e = e.wake
+
+abbrev pub with_wake : MutexHand → WakeHand → MutexHand
+with_wake e w = record e { wake = w }
+
+-- it has no wake to do: it didn't end a hold with the flag of the waiters without looking for a first waiter since, and has chosen none whose wake word it hasn't set
+abbrev pub OwesNoWake : V → Type 0
+OwesNoWake v = owed v.ext.wake.duty v.hand.freed + chose_any v.ext.wake.duty ≡ 0
 
 abbrev pub point_weight : Point → ℕ
 point_weight Rest = 0
@@ -80,13 +114,14 @@ pub record Flagged (n : ℕ) (l : List Waiter) : Type 0 where
   pub none : length l ≡ 0 → n % 8 ≡ 0
 
 pub record SeatOk (n : ℕ) (l : List Waiter) (v : V) : Type 0 where
-  pub joins : v.ext.point ≡ Joins → (HasLock v) × ((t : ℕ) × (v.hand.task ≡ Some t) × (first_code l ≡ t + 1)) × (length l ≡ 1) × (n % 8 ≡ 0)
+  pub joins : v.ext.point ≡ Joins → (HasLock v) × ((t : ℕ) × (v.hand.task ≡ Some t) × (first_code l ≡ t + 1)) × (length l ≡ 1) × (n % 8 ≡ 0) × (v.ext.wake.vigil ≡ Awake)
   pub empties : v.ext.point ≡ Empties → (HasLock v) × (length l ≡ 0) × (n % 2 ≡ 1) × (n % 8 < 4)
   pub first : v.ext.first ≡ true → (t : ℕ) × (v.hand.task ≡ Some t) × (first_code l ≡ t + 1)
   pub failed : HasLock v → v.ext.failed ≡ v.spin.entries → (t : ℕ) → v.hand.task ≡ Some t → IsUnpicked n t
   pub past : v.ext.failed ≤ v.spin.entries
   pub leaver : v.ext.list.leaver ≢ 0 → (t : ℕ) × (v.hand.task ≡ Some t) × (v.ext.list.leaver ≡ t + 1)
   pub named : v.hand.task ≡ None → IsOut v
+  pub waits : bit v.ext.queued ≡ waits v.ext.wake.vigil
 
 -- the owner word, the list and the passes
 pub record Coupled (n : ℕ) (l : List Waiter) (vs : List V) : Type 0 where
@@ -95,7 +130,7 @@ pub record Coupled (n : ℕ) (l : List Waiter) (vs : List V) : Type 0 where
   pub picked : 4 ≤ n % 8 → n / 8 ≡ first_code l
   pub each : Each (SeatOk n l) vs
 
--- where the words stand: the wait lock's, the owner word, and those of the list
+-- where the words stand: the wait lock's, the owner word, those of the list, and a line with a wake word for each task
 abbrev pub wait_lock_at : ℕ
 wait_lock_at = 0
 
@@ -104,6 +139,9 @@ owner_at = SPIN_ROOM
 
 abbrev pub list_at : ℕ
 list_at = SPIN_ROOM + 8
+
+abbrev pub wakes_at : ℕ
+wakes_at = LOCK_WORDS - WAKE_WORDS
 
 abbrev pub spin_words : List ℕ → List ℕ
 spin_words ws = part wait_lock_at SPIN_WORDS ws
@@ -114,6 +152,9 @@ owner_in ws = slice_index ws owner_at
 abbrev pub list_words : List ℕ → List ℕ
 list_words ws = part list_at LIST_WORDS ws
 
+abbrev pub wake_words : List ℕ → List ℕ
+wake_words ws = part wakes_at WAKE_WORDS ws
+
 module _ {Call : Type 0} (o : Obj Call) (size : ℕ) where
   pub record MutexKept (k : Plan) (ws : List ℕ) (vs : List V) (l : List Waiter) : Type 0 where
     pub wide : length ws ≡ width k
@@ -122,6 +163,7 @@ module _ {Call : Type 0} (o : Obj Call) (size : ℕ) where
     pub own : OwnKept (owner_in ws) (map hand_of vs)
     pub list : ListKept (list_words ws) l (map (list_part list_of) vs)
     pub coupled : Coupled (owner_in ws) l vs
+    pub wake : WakeKept (wake_words ws) l (map (wake_part wake_of) vs)
 
   abbrev pub Kept : Plan → List ℕ → List V → Type 0
   Kept k ws vs = (l : List Waiter) × MutexKept k ws vs l
@@ -183,7 +225,7 @@ abbrev pub may_free : V → Type 0
 may_free v = (v.ext.point ≡ Rest) × (v.ext.list.changes ≡ false)
 
 abbrev pub rests : V → Type 0
-rests v = (v.ext.queued ≡ false) × (v.ext.point ≡ Rest) × (v.ext.first ≡ false) × (v.ext.list.leaver ≡ 0)
+rests v = (v.ext.queued ≡ false) × (v.ext.point ≡ Rest) × (v.ext.first ≡ false) × (v.ext.list.leaver ≡ 0) × OwesNoWake v
 
 -- it knows the list, whose words say so
 abbrev pub KnowsList : V → Type 0
@@ -192,9 +234,9 @@ KnowsList v = Knows (v.spin, v.ext.list) × (v.ext.list.changes ≡ false) × (v
 -- where a pass may step so on the owner word. A try that fails found a word that names a task, and its pass is between no two steps that belong together.
 abbrev pub may_own : Turn → V → ℕ → ℕ → Type 0
 may_own Fail v n m = (m ≡ n) × (8 ≤ n) × (v.ext.point ≡ Rest) × ((t : ℕ) × (v.hand.task ≡ Some t) × IsUnpicked n t)
-may_own Take v n m = (v.hand.held ≡ No) × ((t : ℕ) × (v.hand.task ≡ Some t) × IsTake t n m)
+may_own Take v n m = (v.hand.held ≡ No) × ((t : ℕ) × (v.hand.task ≡ Some t) × IsTake t n m) × OwesNoWake v
 may_own Ask v n m = (v.ext.first ≡ true) × (v.ext.point ≡ Rest) × IsAsk n m
-may_own Free v n m = (v.hand.held ≡ Alone) × SpinRests v.spin × (n % 8 < 2) × (m ≡ n % 8)
+may_own Free v n m = (v.hand.held ≡ Alone) × SpinRests v.spin × (n % 8 < 2) × (m ≡ n % 8) × (v.ext.queued ≡ false)
 may_own HandOn v n m = (v.hand.held ≡ Alone) × (v.ext.queued ≡ false) × KnowsList v × (n % 8 < 4) × ((length v.ext.list.list ≡ 0 → m ≡ n % 2) × (0 < length v.ext.list.list → m ≡ 8 * first_code v.ext.list.list + 4 + n % 2))
 may_own Flag v n m = (v.ext.point ≡ Joins) × (n % 2 ≡ 0 → m ≡ n + 1)
 may_own Clear v n m = (v.ext.point ≡ Empties) × (m + n % 8 ≡ n)
@@ -207,28 +249,28 @@ abbrev pub uncounted : V → Type 0
 uncounted v = v.ext.queued ≡ true
 
 abbrev pub turned : Turn → V → MutexHand
-turned Fail v = record v.ext { failed = v.spin.entries }
-turned Take v = v.ext
+turned Fail v = record v.ext { failed = v.spin.entries; wake = failing (holds_in v.spin) v.spin.entries v.ext.wake }
+turned Take v = record v.ext { wake = record v.ext.wake { duty = NoDuty } }
 turned Ask v = v.ext
-turned Free v = v.ext
-turned HandOn v = v.ext
+turned Free v = record v.ext { wake = record v.ext.wake { duty = Owing } }
+turned HandOn v = record v.ext { wake = record v.ext.wake { duty = duty_of (first_code v.ext.list.list) } }
 turned Flag v = record v.ext { point = Rest }
 turned Clear v = record v.ext { point = Rest }
 
 abbrev pub with_list : Change → V → ListHand → MutexHand
 with_list Stay v b = record v.ext { list = b }
-with_list (Enter w) v b = record v.ext { list = b; queued = true; first = false; point = if length b.list == 1 then Joins else Rest; appends = v.ext.appends + 1 }
-with_list (Leave t) v b = record v.ext { list = b; queued = false; first = false; point = if length b.list == 0 then Empties else Rest }
+with_list (Enter w) v b = record v.ext { list = b; queued = true; first = false; point = if length b.list == 1 then Joins else Rest; appends = v.ext.appends + 1; wake = record v.ext.wake { vigil = Awake } }
+with_list (Leave t) v b = record v.ext { list = b; queued = false; first = false; point = if length b.list == 0 then Empties else Rest; wake = record v.ext.wake { vigil = Absent } }
 
 abbrev pub may_change : Change → V → List Waiter → Type 0
 may_change Stay v l = Unit {0}
-may_change (Enter w) v l = (v.hand.task ≡ Some w.task) × (v.ext.queued ≡ false) × (v.ext.point ≡ Rest) × (v.hand.held ≡ No) × (w.writer ≡ true)
-may_change (Leave t) v l = (v.hand.task ≡ Some t) × (v.ext.queued ≡ true) × (v.ext.point ≡ Rest) × ((v.hand.held ≡ Alone) ⊎ (v.ext.failed ≡ v.spin.entries))
+may_change (Enter w) v l = (v.hand.task ≡ Some w.task) × (v.ext.queued ≡ false) × (v.ext.point ≡ Rest) × (v.hand.held ≡ No) × (w.writer ≡ true) × OwesNoWake v
+may_change (Leave t) v l = (v.hand.task ≡ Some t) × (v.ext.queued ≡ true) × (v.ext.point ≡ Rest) × ((v.hand.held ≡ Alone) ⊎ ((v.ext.failed ≡ v.spin.entries) × (v.ext.wake.vigil ≡ Tried v.spin.entries)))
 
 abbrev pub is_code : Option ℕ → ℕ → Bool
 is_code None n = false
 is_code (Some t) n = n == t + 1
 
--- a pass that sees its own code as the head is the first waiter
+-- a pass that sees its own code as the head is the first waiter; one with the wait lock that owes a wake chooses whom it sees
 abbrev pub saw_first : V → ℕ → MutexHand
-saw_first v n = record v.ext { first = is_code v.hand.task n && (holds_in v.spin == 0) }
+saw_first v n = record v.ext { first = is_code v.hand.task n && (holds_in v.spin == 0); wake = looking (holds_in v.spin) v.ext.list.changes v.hand.freed n v.ext.wake }

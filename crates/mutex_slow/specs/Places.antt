@@ -1,7 +1,7 @@
 -- Where a pass stands in a call on a mutex, and what callers of any lock see of it.
 use Rattle.std.specs.Prelude.{◌≡◌, ℕ, zero, suc, ◌+◌, ◌<◌, ◌≤◌, ◌/◌, ◌%◌, ◌⊎◌, true, false, Option, Some, None}
 use Rattle.word_bits.specs.OwnerWord.{task_code}
-use Rattle.cpu_task.specs.Counting.{one_more}
+use Rattle.cpu_task.specs.Counting.{one_more, slept}
 use Rattle.osq_unqueue.specs.Rising.{Rises}
 use Rattle.lock_core.specs.declared.view.Line.{Line}
 use Rattle.lock_core.specs.declared.pass.Pass.{Pass}
@@ -21,7 +21,11 @@ use Rattle.mutex_slow.specs.declared.view.Point.TheVariants.{Rest}
 use Rattle.wait_list.specs.Lists.{waiter_code}
 use Rattle.lock_core.specs.Holding.{released}
 use Rattle.mutex_word.specs.Tries.{FindsUnasked, IsOpen}
-use Rattle.mutex_slow.specs.Mutexes.{V, list_at, owner_at}
+use Rattle.wake_duty.specs.declared.view.Duty.TheVariants.{Owing}
+use Rattle.wake_duty.specs.declared.view.Vigil.TheVariants.{Tried}
+use Rattle.wake_duty.specs.Wakes.{waits}
+use Rattle.wake_duty.specs.WakeSteps.{HasChosen}
+use Rattle.mutex_slow.specs.Mutexes.{V, OwesNoWake, list_at, owner_at, wake_of}
 use Rattle.mutex_slow.specs.Stated.{HasWaitLock}
 
 -- how a pass has stood in line
@@ -36,15 +40,33 @@ pub record IsOutside (v : V) : Type 0 where
   pub gone : v.ext.list.leaver ≡ 0
   pub unseen : v.ext.first ≡ false
 
--- the same, but its task is in the list
+-- the same, but its task is in the list; it has no wake to do
 pub record IsInLine (v : V) : Type 0 where
   pub queued : v.ext.queued ≡ true
   pub rests : v.ext.point ≡ Rest
   pub still : v.ext.list.changes ≡ false
+  pub clear : OwesNoWake v
+  pub waits : waits v.ext.wake.vigil ≡ 1
 
--- a try failed since it last took the wait lock
-abbrev pub HasFailed : V → Type 0
-HasFailed v = v.ext.failed ≡ v.spin.entries
+-- its task is in the list, and a try failed since it last took the wait lock
+pub record HasFailed (v : V) : Type 0 where
+  pub failed : v.ext.failed ≡ v.spin.entries
+  pub tried : v.ext.wake.vigil ≡ Tried v.spin.entries
+
+-- it ended its hold with the flag of the waiters, and has chosen nobody
+pub record OwesWake (v : V) : Type 0 where
+  pub owing : v.ext.wake.duty ≡ Owing
+  pub flag : v.hand.freed % 2 ≡ 1
+
+-- the task of a waiter, where there is one
+abbrev pub task_of : Option Waiter → Option ℕ
+task_of None = None
+task_of (Some w) = Some w.task
+
+-- it has a wake to do: of this task, whose wake word it is to set, or of none
+abbrev pub IsToWake : V → Option ℕ → Type 0
+IsToWake v None = OwesNoWake v
+IsToWake v (Some t) = HasChosen wake_of v t
 
 module _ {R O C : Type 0} where
   -- a pass of the site, as callers of any lock see it
@@ -84,6 +106,29 @@ pub record StandsSame (v u : V) : Type 0 where
   pub fronts : u.fronts ≡ v.fronts
   pub appends : u.ext.appends ≡ v.ext.appends
 
+-- it has neither set a wake word nor fallen asleep
+pub record KeepsWakes (v u : V) : Type 0 where
+  pub wakes : u.ext.wake.wakes ≡ v.ext.wake.wakes
+  pub dozes : u.ext.wake.dozes ≡ v.ext.wake.dozes
+
+-- it has set no wake word
+abbrev pub SetsNoWord : V → V → Type 0
+SetsNoWord v u = u.ext.wake.wakes ≡ v.ext.wake.wakes
+
+-- how often it has fallen asleep
+abbrev pub dozes_of : V → ℕ
+dozes_of v = v.ext.wake.dozes
+
+-- a count of wakes, after a wake of this task, where there is one
+abbrev pub wakes_after : Option ℕ → ℕ → ℕ
+wakes_after None wakes = wakes
+wakes_after (Some t) wakes = one_more wakes
+
+-- it has set one wake word where this names a task, and else none; and it has not fallen asleep
+pub record Wakes (target : Option ℕ) (v u : V) : Type 0 where
+  pub wakes : u.ext.wake.wakes ≡ wakes_after target v.ext.wake.wakes
+  pub dozes : dozes_of u ≡ dozes_of v
+
 -- it holds nothing, and has left a word
 abbrev pub IsFreed : V → V → Type 0
 IsFreed v u = u.hand ≡ released v.hand u.hand.freed
@@ -121,6 +166,10 @@ NamesFirst begun first v u = ((step n looked : ℕ) × (own : FindsOwnCode step 
 abbrev pub EndsAsked : Shown → Shown → Type 0
 EndsAsked v u = (v.spin.entries < u.spin.entries) × ((step : ℕ) × FindsAsked step v u × (step < u.spin.took)) × ((first : Option Waiter) × NamesFirst u.spin.took first v u)
 
+-- a call that ended its hold: where no flag was left, it set no wake word; else a step, made since it took the wait lock, found the list's head, which has the code of this task or 0, and the call set one wake word where there was such a task, and else none
+abbrev pub WakesFirst : (before after : ℕ) → Shown → Shown → Type 0
+WakesFirst before after v u = ((u.hand.freed ≡ 0) × (after ≡ before)) ⊎ ((first : Option ℕ) × FoundSince v.hand.task u.spin.took u.steps list_at (task_code first) v.past u.past × (after ≡ wakes_after first before))
+
 -- how a call that releases ends its hold
 abbrev pub EndsHold : Shown → Shown → Type 0
 EndsHold v u = EndsUnasked v u ⊎ EndsAsked v u
@@ -137,18 +186,29 @@ pub record WentInLine (v u : Shown) : Type 0 where
   pub fronts : u.fronts ≡ v.fronts
   pub few : u.hand.misses ≤ v.hand.misses + 1
 
--- a CPU's count of sleeps, after so many more
-abbrev pub slept : (turns sleeps : ℕ) → ℕ
-slept zero sleeps = sleeps
-slept (suc turns) sleeps = one_more (slept turns sleeps)
+-- a CPU slept so many times at most
+pub record SleepsAtMost (turns sleeps sleeps' : ℕ) : Type 0 where
+  pub times : ℕ
+  pub few : times ≤ turns
+  pub is : sleeps' ≡ slept times sleeps
 
--- the CPU slept once for each time that the pass took the wait lock anew
-abbrev pub SleepsEachTurn : (entries entries' sleeps sleeps' : ℕ) → Type 0
-SleepsEachTurn entries entries' sleeps sleeps' = (turns : ℕ) × (entries' ≡ entries + turns) × (sleeps' ≡ slept turns sleeps)
+-- the CPU slept once at most for each time that the pass took the wait lock anew
+abbrev pub SleepsInTurns : (entries entries' sleeps sleeps' : ℕ) → Type 0
+SleepsInTurns entries entries' sleeps sleeps' = (turns : ℕ) × (entries' ≡ entries + turns) × SleepsAtMost turns sleeps sleeps'
 
--- what a call that had appended itself counted on its CPU: it took the wait lock once, and once more behind each sleep; before, the CPU had answered that it needs rescheduling
+-- the CPU slept as often as the pass fell asleep: both counts rose by one for each time, until they stand at the last value of a u64
+pub record Dozes (sleeps sleeps' dozes dozes' : ℕ) : Type 0 where
+  pub times : ℕ
+  pub asleep : sleeps' ≡ slept times sleeps
+  pub counted : dozes' ≡ slept times dozes
+
+-- so they did by one at most
+abbrev pub DozesOnce : (sleeps sleeps' dozes dozes' : ℕ) → Type 0
+DozesOnce sleeps sleeps' dozes dozes' = ((sleeps' ≡ sleeps) × (dozes' ≡ dozes)) ⊎ ((sleeps' ≡ one_more sleeps) × (dozes' ≡ one_more dozes))
+
+-- what a call that had appended itself counted on its CPU: it took the wait lock once, and once more behind each turn in which it slept or was woken before; before, the CPU had answered that it needs rescheduling
 abbrev pub CountsInLine : (sleeps sleeps' rescheds rescheds' : ℕ) → Shown → Shown → Type 0
-CountsInLine sleeps sleeps' rescheds rescheds' v u = SleepsEachTurn (v.spin.entries + 1) u.spin.entries sleeps sleeps' × (rescheds ≤ rescheds') × Rises rescheds rescheds'
+CountsInLine sleeps sleeps' rescheds rescheds' v u = SleepsInTurns (v.spin.entries + 1) u.spin.entries sleeps sleeps' × (rescheds ≤ rescheds') × Rises rescheds rescheds'
 
 -- the same, by how it got the mutex; without having been the front of the spin queue it tried under the wait lock only once the CPU needed rescheduling
 abbrev pub CountsBy : How → (sleeps sleeps' rescheds rescheds' : ℕ) → Shown → Shown → Type 0

@@ -19,8 +19,9 @@ use Rattle.mutex_word.specs.Holders.{IsHolder, KeepsLeft}
 use Rattle.wait_list.specs.declared.view.Waiter.{Waiter}
 use Rattle.wait_list.specs.declared.view.Change.{Change}
 use Rattle.wait_list.specs.declared.view.Change.TheVariants.{Stay, Enter, Leave}
-use Rattle.wait_list.specs.Lists.{Allowed, IsList, Lists, changed, counted}
-use Rattle.mutex_slow.specs.Mutexes.{AnswersHandoff, Asks, HasHandoff, entered, IsFirstTask, IsUnpicked, Leaves, LeavesToFirst, PicksFirst, list_words, owner_at, owner_in}
+use Rattle.wait_list.specs.Lists.{Allowed, IsList, Lists, changed, counted, first_code}
+use Rattle.wake_duty.specs.Wakes.{wake_word}
+use Rattle.mutex_slow.specs.Mutexes.{AnswersHandoff, Asks, HasHandoff, entered, IsFirstTask, IsUnpicked, Leaves, LeavesToFirst, PicksFirst, list_words, owner_at, owner_in, wake_words}
 
 -- Without the pickup flag the word names the task that holds, or nobody where nobody does. With it nobody holds, and the word names the first waiter. The flags of the handoff and of the pickup are never both set. While the wait lock is free, the flag of the waiters is set exactly where tasks wait, and the other two only there.
 pub record StatesOwner (word : ℕ) (free : Type 0) (l : List Waiter) (hs : List Hand) : Type 0 where
@@ -31,27 +32,49 @@ pub record StatesOwner (word : ℕ) (free : Type 0) (l : List Waiter) (hs : List
   pub waited : free → 0 < length l → word % 2 ≡ 1
   pub unwaited : free → length l ≡ 0 → word % 8 ≡ 0
 
--- what a moment keeps of a pass that stands in the list so often, and has appended itself so often
-abbrev pub line_marks : (queued appends : ℕ) → Marks
-line_marks queued appends = record { numbers = queued ∷ appends ∷ [] }
+-- how a pass stands in line: whether its task is in the list, and how often it has appended itself; whether it ended its hold by a release and hasn't looked for a first waiter since; the code of the task that it has chosen, whose wake word it hasn't set; whether its task waits and tries before it sleeps; how many wake words it has set; how often it has fallen asleep
+pub record Standing : Type 0 where
+  pub queued : ℕ
+  pub appends : ℕ
+  pub debt : ℕ
+  pub chosen : ℕ
+  pub awake : ℕ
+  pub wakes : ℕ
+  pub dozes : ℕ
 
--- this moment marks the pass of this number as being in the list so often, and as having appended itself so often
-abbrev pub StandsMarked : ℕ → (queued appends : ℕ) → Moment → Type 0
-StandsMarked id queued appends m = get_elem? m.marks id ≡ some (line_marks queued appends)
+-- what a moment keeps of a pass that stands so
+abbrev pub line_marks : Standing → Marks
+line_marks s = record { numbers = s.queued ∷ s.appends ∷ s.debt ∷ s.chosen ∷ s.awake ∷ s.wakes ∷ s.dozes ∷ [] }
 
 -- how often a pass with this number of a task waits in the list, and not at all without one
 abbrev pub waits_in : List Waiter → Option ℕ → ℕ
 waits_in l None = 0
 waits_in l (Some t) = counted t l
 
--- while this is the list: its words state it while the wait lock is free, each waiter has a pass, each pass has a mark, which says whether it waits, and the owner word states who holds, who is picked, and whether tasks wait
+-- this moment marks the pass of this number as standing so
+abbrev pub StandsMarked : ℕ → Standing → Moment → Type 0
+StandsMarked id s m = get_elem? m.marks id ≡ some (line_marks s)
+
+-- who has the duty to wake this waiter, or that it needs nobody: a pass ended its hold, left the flag of the waiters, and has chosen nobody yet; or one has chosen it, and hasn't set its wake word yet; or that word is set; or it is awake, and tries before it sleeps
+abbrev pub HasDuty : Moment → ℕ → Type 0
+HasDuty m t = ((id : ℕ) × (h : Hand) × (s : Standing) × (get_elem? m.hands id ≡ some h) × StandsMarked id s m × (s.debt ≡ 1) × (h.freed % 2 ≡ 1))
+    ⊎ ((id : ℕ) × (s : Standing) × StandsMarked id s m × (s.chosen ≡ t + 1))
+    ⊎ (wake_word (wake_words m.words) t ≡ 1)
+    ⊎ ((id : ℕ) × (h : Hand) × (s : Standing) × (get_elem? m.hands id ≡ some h) × (h.task ≡ Some t) × StandsMarked id s m × (s.queued ≡ 1) × (s.awake ≡ 1))
+
+-- it has no wake to do
+abbrev pub OwesNone : Standing → Hand → Type 0
+OwesNone s h = (s.chosen ≡ 0) × (s.debt ≡ 1 → h.freed % 2 ≡ 0)
+
+-- while this is the list: its words state it while the wait lock is free, each waiter has a pass, each pass has a mark, which says whether its task waits, and the owner word states who holds, who is picked, and whether tasks wait; and where nobody holds, somebody has the duty to wake the first waiter, or it needs nobody
 pub record IsListed (m : Moment) (l : List Waiter) : Type 0 where
   pub sound : IsList l
   pub states : IsWaitLockFree m.spins → Lists (list_words m.words) l
   pub passes : (t : ℕ) → 0 < counted t l → HasPass m.hands t
-  pub has : (id : ℕ) (h : Hand) → get_elem? m.hands id ≡ some h → (queued appends : ℕ) × StandsMarked id queued appends m
-  pub marked : (id queued appends : ℕ) (h : Hand) → get_elem? m.hands id ≡ some h → StandsMarked id queued appends m → queued ≡ waits_in l h.task
+  pub has : (id : ℕ) (h : Hand) → get_elem? m.hands id ≡ some h → (s : Standing) × StandsMarked id s m
+  pub marked : (id : ℕ) (s : Standing) (h : Hand) → get_elem? m.hands id ≡ some h → StandsMarked id s m → s.queued ≡ waits_in l h.task
   pub owner : StatesOwner (owner_in m.words) (IsWaitLockFree m.spins) l m.hands
+  pub duty : IsHolder m.hands None → (t : ℕ) → first_code l ≡ t + 1 → HasDuty m t
 
 -- the facts of a site, and a list
 abbrev pub IsMutexThen : {Call : Type 0} → Obj Call → ℕ → Plan → Moment → Type 0
@@ -84,8 +107,8 @@ pub record IsMutexStep (k : Plan) (x : Moment) (l : List Waiter) (y : Moment) (l
   pub stays : HasHandoff (owner_in x.words) → HasHandoff (owner_in y.words) ⊎ AnswersHandoff by.before (owner_in y.words) l
   pub freed : KeepsLeft by.before by.after (owner_in y.words)
   pub names : by.before.held ≡ Alone → by.after.held ≡ No → HasWaitLock by.id y → LeavesToFirst (owner_in y.words) l
-  pub appends : (queued appends : ℕ) → StandsMarked by.id queued appends x → (queued' : ℕ) × StandsMarked by.id queued' (appends + entered change) y
-  pub missed : by.after.misses ≢ by.before.misses → (queued appends : ℕ) → StandsMarked by.id queued appends x → queued ≡ 0
+  pub stands : (s : Standing) → StandsMarked by.id s x → (s' : Standing) × StandsMarked by.id s' y × (s'.appends ≡ s.appends + entered change)
+  pub missed : by.after.misses ≢ by.before.misses → (s : Standing) → StandsMarked by.id s x → s.queued ≡ 0
 
 -- the last of these moments, which stands first, has this list, and it has come to be by such steps from that of the first
 abbrev pub HasBecome : Plan → List Moment → List Waiter → Type 0
@@ -93,10 +116,14 @@ HasBecome k [] l = ⊥
 HasBecome k (m ∷ []) l = IsListed m l
 HasBecome k (m ∷ before ∷ past) l = IsListed m l × ((old : List Waiter) × HasBecome k (before ∷ past) old × IsMutexStep k before old m l)
 
--- the last moment of its past, which is that of its own last step, marks the pass at the seat of that step as out of the list, and as having appended itself as often as it says
+-- the last moment of its past, which is that of its own last step, marks the pass at the seat of that step as out of the list, as having appended itself as often as it says, and as having no wake to do
 pub record IsOutOfList (v : Shown) : Type 0 where
   pub own : IsLatestStep v
-  pub marked : StandsMarked own.step.seat 0 v.line.appends own.step.now
+  pub stands : Standing
+  pub marked : StandsMarked own.step.seat stands own.step.now
+  pub out : stands.queued ≡ 0
+  pub appends : stands.appends ≡ v.line.appends
+  pub clear : OwesNone stands v.hand
 
 abbrev pub task_of : Waiter → ℕ
 task_of w = w.task

@@ -16,7 +16,7 @@ ghost use Rattle.osq_nodes.specs.Handles.{tasks_of};
 ghost use Rattle.lock_core.specs.Handles as inner;
 ghost use Rattle.mutex_slow.specs.Mutexes.{owner_at, standing, wait_lock_at};
 ghost use Rattle.osq_unqueue.specs.Rising.{LeavesForCpu, Rises};
-ghost use Rattle.mutex_slow.specs.Places.{CountsBy, CountsInLine, EndsHold, TakesOpen};
+ghost use Rattle.mutex_slow.specs.Places.{CountsBy, CountsInLine, Dozes, EndsHold, TakesOpen, WakesFirst};
 ghost use Rattle.mutex_slow.specs.Stated.{HasBecome, IsMutexThen, IsOutOfList, waits_on};
 ghost use Rattle.lock_core.specs.Locked.{IsLockedThen, IsSiteStep};
 ghost use Rattle.wait_list.specs.declared.view.Waiter.{Waiter as Waiters};
@@ -50,10 +50,12 @@ pub struct MutexPass<O: Object> {
     pass: Pass<MutexRule<O>>,
     queue: OsqPass,
     tally: Tally,
+    wakes: u64,
+    dozes: u64,
 }
 
 impl<O: Object> MutexPass<O> {
-    ghost use Rattle.mutex_slow.specs.Handles.{shown_of};
+    ghost use Rattle.mutex_slow.specs.Handles.{dozes_in, shown_of, wakes_in};
 
     /// What it has counted of its calls that waited.
     pub fn tally(&self) -> Tally
@@ -61,10 +63,26 @@ impl<O: Object> MutexPass<O> {
     {
         self.tally
     }
+
+    /// How many wake words it has set: one in each unlock that chose a first waiter. It stays at
+    /// the last value of a u64.
+    pub fn wakes(&self) -> u64
+        ensures { result ≡ wakes_in self.now }
+    {
+        self.wakes
+    }
+
+    /// How often its task fell asleep in the list: it swapped its own wake word for 0, and that
+    /// was 0. It stays at the last value of a u64.
+    pub fn dozes(&self) -> u64
+        ensures { result ≡ dozes_in self.now }
+    {
+        self.dozes
+    }
 }
 
 impl<O: Object> Mutex<O> {
-    ghost use Rattle.mutex_slow.specs.Handles.{newest, plan_of, shown_of, hand_in, SitsAt, SpunGoesOn, TakesAlone, KeepsFronts, KeepsMisses, EntersOnce, MissesAt, MissesIfShut};
+    ghost use Rattle.mutex_slow.specs.Handles.{newest, plan_of, shown_of, hand_in, SitsAt, SpunGoesOn, TakesAlone, KeepsFronts, KeepsMisses, KeepsWakes, EntersOnce, MissesAt, MissesIfShut, dozes_in, wakes_in};
 
     /// A new mutex: nobody holds, the state is empty, no call is logged or recorded. The pass has
     /// no task number.
@@ -75,11 +93,19 @@ impl<O: Object> Mutex<O> {
         ensures new { IfOk result (λ _. IsNew O.object O.WORDS plan (newest plan)) }
         ensures view { IfOk result (λ t.
             shown_of t.1 ≡ shown_new (Some plan) [] (newest plan ∷ [])) }
+        ensures fresh { IfOk result (λ t. (wakes_in t.1 ≡ 0) × (dozes_in t.1 ≡ 0)) }
     {
         let (site, pass) = Site::open(alloc, plan)?;
         let (osq, queue) = Osq::open(alloc, site.tasks())?;
         let tally = Tally::new();
-        Ok((Mutex { site, osq }, MutexPass { pass, queue, tally }))
+        let first = MutexPass {
+            pass,
+            queue,
+            tally,
+            wakes: 0,
+            dozes: 0,
+        };
+        Ok((Mutex { site, osq }, first))
     }
 
     /// A pass without a task number, which has seen as many entries.
@@ -90,6 +116,8 @@ impl<O: Object> Mutex<O> {
         ensures goes_on { PastGoesOn (shown_of pass.old) (shown_of pass.new) }
         ensures kept { Looks (shown_of pass.old) (shown_of pass.new) }
         ensures given { shown_of result ≡ shown_split (shown_of pass.old) }
+        ensures still { KeepsWakes pass.old pass.new }
+        ensures fresh { (wakes_in result ≡ 0) × (dozes_in result ≡ 0) }
     {
         let other = self.site.split(&mut pass.pass);
         let queue = self.osq.split(&mut pass.queue);
@@ -97,6 +125,8 @@ impl<O: Object> Mutex<O> {
             pass: other,
             queue,
             tally: Tally::new(),
+            wakes: 0,
+            dozes: 0,
         }
     }
 
@@ -112,6 +142,7 @@ impl<O: Object> Mutex<O> {
         ensures became { Numbered O.object (unavailable mutex) (plan_of self.now)
             (hand_in pass.old) task (hand_in pass.new) }
         ensures beside { AllButHand (shown_of pass.old) (shown_of pass.new) }
+        ensures still { KeepsWakes pass.old pass.new }
     {
         self.site.begin(rt, &mut pass.pass, task);
         self.osq.begin(rt, &mut pass.queue, task);
@@ -128,6 +159,7 @@ impl<O: Object> Mutex<O> {
         ensures goes_on { PastGoesOn (shown_of pass.old) (shown_of pass.new) }
         ensures queue { SpunGoesOn pass.old pass.new }
         ensures kept { Has (gave_up (hand_in pass.old)) (shown_of pass.old) (shown_of pass.new) }
+        ensures still { KeepsWakes pass.old pass.new }
     {
         self.osq.end(&mut pass.queue);
         self.site.end(&mut pass.pass);
@@ -146,6 +178,7 @@ impl<O: Object> Mutex<O> {
             (shown_of into.old) (shown_of into.new) }
         ensures queue { SpunGoesOn into.old into.new }
         ensures others_queue { SpunGoesOn other into.new }
+        ensures still { KeepsWakes into.old into.new }
     {
         let MutexPass { pass, queue, .. } = other;
         self.site.gather(&mut into.pass, pass);
@@ -159,6 +192,9 @@ impl<O: Object> Mutex<O> {
         requires numbered { IsSome (hand_in pass.old).task }
         requires out { (hand_in pass.old).held ≡ No }
         ensures own { SitsAt self.now pass.new }
+        ensures dozed { Dozes (C.sleeps cpu.old) (C.sleeps cpu.new)
+            (dozes_in pass.old) (dozes_in pass.new) }
+        ensures set { wakes_in pass.new ≡ wakes_in pass.old }
         ensures goes_on { PastGoesOn (shown_of pass.old) (shown_of pass.new) }
         ensures queue { SpunGoesOn pass.old pass.new }
         ensures numbered { (hand_in pass.new).task ≡ (hand_in pass.old).task }
@@ -178,6 +214,7 @@ impl<O: Object> Mutex<O> {
         ensures tallied { TalliesSpin (shown_of pass.old) (shown_of pass.new) }
         ensures left { LeavesForCpu (C.rescheds cpu.old) (C.rescheds cpu.new)
             (shown_of pass.old) (shown_of pass.new) }
+        ensures still { KeepsWakes pass.old pass.new }
     {
         if cpu.need_resched() {
             return false;
@@ -205,6 +242,9 @@ impl<O: Object> Mutex<O> {
         requires numbered { IsSome (hand_in pass.old).task }
         requires out { (hand_in pass.old).held ≡ No }
         ensures own { SitsAt self.now pass.new }
+        ensures dozed { Dozes (C.sleeps cpu.old) (C.sleeps cpu.new)
+            (dozes_in pass.old) (dozes_in pass.new) }
+        ensures set { wakes_in pass.new ≡ wakes_in pass.old }
         ensures goes_on { PastGoesOn (shown_of pass.old) (shown_of pass.new) }
         ensures queue { SpunGoesOn pass.old pass.new }
         ensures took { IfOk result (λ _. TakesAlone O.object self.now pass.old pass.new) }
@@ -229,7 +269,14 @@ impl<O: Object> Mutex<O> {
         if self.spin(rt, pass, cpu) {
             return Ok(How::Spun);
         }
-        let got = slow::lock_in_line(&self.site, rt, &mut pass.pass, cpu, interruptible);
+        let got = slow::lock_in_line(
+            &self.site,
+            rt,
+            &mut pass.pass,
+            cpu,
+            &mut pass.dozes,
+            interruptible,
+        );
         pass.tally.answer(got);
         got
     }
@@ -246,6 +293,9 @@ impl<O: Object> Mutex<O> {
         requires numbered { IsSome (hand_in pass.old).task }
         requires out { (hand_in pass.old).held ≡ No }
         ensures own { SitsAt self.now pass.new }
+        ensures dozed { Dozes (C.C.sleeps cpu.old) (C.C.sleeps cpu.new)
+            (dozes_in pass.old) (dozes_in pass.new) }
+        ensures set { wakes_in pass.new ≡ wakes_in pass.old }
         ensures goes_on { PastGoesOn (shown_of pass.old) (shown_of pass.new) }
         ensures queue { SpunGoesOn pass.old pass.new }
         ensures took { TakesAlone O.object self.now pass.old pass.new }
@@ -277,6 +327,9 @@ impl<O: Object> Mutex<O> {
         requires numbered { IsSome (hand_in pass.old).task }
         requires out { (hand_in pass.old).held ≡ No }
         ensures own { SitsAt self.now pass.new }
+        ensures dozed { Dozes (C.C.sleeps cpu.old) (C.C.sleeps cpu.new)
+            (dozes_in pass.old) (dozes_in pass.new) }
+        ensures set { wakes_in pass.new ≡ wakes_in pass.old }
         ensures goes_on { PastGoesOn (shown_of pass.old) (shown_of pass.new) }
         ensures took { IfOk result (λ _. TakesAlone O.object self.now pass.old pass.new) }
         ensures opened { IfOk result (λ _. TakesOpen (shown_of pass.old) (shown_of pass.new)) }
@@ -310,6 +363,7 @@ impl<O: Object> Mutex<O> {
         ensures numbered { (hand_in pass.new).task ≡ (hand_in pass.old).task }
         ensures still_out { IfErr result (λ _. (hand_in pass.new).held ≡ No) }
         ensures missed { IfErr result (λ word. MissesAt pass.old word pass.new) }
+        ensures still { KeepsWakes pass.old pass.new }
     {
         match parts::try_outside(&self.site, rt, &mut pass.pass) {
             Ok(()) => Ok(()),
@@ -337,6 +391,7 @@ impl<O: Object> Mutex<O> {
             (shown_of pass.old) (shown_of pass.new)) }
         ensures found { IfErr result (λ word. FoundAt owner_at word (shown_of pass.new).past) }
         ensures missed { IfErr result (λ word. MissesIfShut pass.old word pass.new) }
+        ensures still { KeepsWakes pass.old pass.new }
     {
         match take_free(&self.site, &mut pass.pass) {
             Ok(()) => Ok(()),
@@ -354,11 +409,16 @@ impl<O: Object> Mutex<O> {
         ensures goes_on { PastGoesOn (shown_of pass.old) (shown_of pass.new) }
         ensures queue { SpunGoesOn pass.old pass.new }
         ensures released { Releases (wakes_alone mutex) (shown_of pass.old) (shown_of pass.new) }
+        ensures wakes { WakesFirst (wakes_in pass.old) (wakes_in pass.new)
+            (shown_of pass.old) (shown_of pass.new) }
+        ensures dozes { dozes_in pass.new ≡ dozes_in pass.old }
         ensures ended { EndsHold (shown_of pass.old) (shown_of pass.new) }
         ensures line { (shown_of pass.new).line ≡ (shown_of pass.old).line }
         ensures entries { EntersOnce pass.old pass.new }
     {
-        slow::unlock(&self.site, rt, &mut pass.pass, crew);
+        if slow::unlock(&self.site, rt, &mut pass.pass, crew) {
+            pass.wakes = pass.wakes.saturating_add(1);
+        }
     }
 
     /// A load, after which the pass knows what was so of the table at each moment so far, from the
@@ -367,9 +427,11 @@ impl<O: Object> Mutex<O> {
     /// owner word: the list changes by one append or one removal; the first waiter alone asks for a
     /// handoff, which stays asked for until the holder picks whoever is first then, or nobody
     /// waits; a step that ends a hold meanwhile picks the first waiter, and a word that picks a
-    /// waiter is changed by that waiter's pass alone, which takes. At each moment the words of the
-    /// wait lock say who has it, and each step is one of a spin lock's. The pass itself isn't in the
-    /// list.
+    /// waiter is changed by that waiter's pass alone, which takes. At each moment at which nobody
+    /// held and tasks waited, somebody had the duty to wake the first of them, or its wake word was
+    /// set, or it was awake and tried before it slept. At each moment the words of the wait lock say
+    /// who has it, and each step is one of a spin lock's. The pass itself isn't in the list, and has
+    /// no wake to do.
     pub fn recall(&self, pass: &mut MutexPass<O>)
         requires own { SitsAt self.now pass.old }
         ensures own { SitsAt self.now pass.new }
@@ -390,6 +452,7 @@ impl<O: Object> Mutex<O> {
         ensures wait_lock { EachMoment (IsSpinLockThen wait_lock_at) (shown_of pass.new).past }
         ensures wait_moves { Ran standing (newest (plan_of self.now)) (IsSpinMove wait_lock_at)
             (shown_of pass.new).past }
+        ensures still { KeepsWakes pass.old pass.new }
     {
         self.site.recall(&mut pass.pass);
     }

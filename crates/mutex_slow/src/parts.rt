@@ -6,11 +6,13 @@ ghost use Rattle.lock_core.specs.Kinds.{mutex};
 ghost use Rattle.lock_core.specs.Locking.{Misses, OnlyTried, SawPending};
 ghost use Rattle.lock_core.specs.Signals.{OnlyConsumed, OnlyHeard};
 ghost use Rattle.lock_core.specs.Handles.{view_of, hand_in, task_in, held_in, SitsAt};
+ghost use Rattle.lock_core.specs.Tallies.{raised};
 ghost use Rattle.lock_core.specs.Shown.{FindsSince};
-ghost use Rattle.wait_list.specs.Lists.{waiter_code};
-ghost use Rattle.mutex_slow.specs.Mutexes.{list_at, owner_at};
+ghost use Rattle.word_bits.specs.OwnerWord.{task_code};
+ghost use Rattle.wake_duty.specs.WakeSteps.{HasChosen, HasTried};
+ghost use Rattle.mutex_slow.specs.Mutexes.{OwesNoWake, list_at, owner_at, wake_of};
 ghost use Rattle.qspin_word.specs.Ways.{SpinGained};
-ghost use Rattle.mutex_slow.specs.Places.{seen_of, StepsOn, TakesAlone, TakesOpen, KeepsHand, KeepsMisses, KeepsFronts, StandsSame, IsOutside, IsInLine, HasFailed, IsFreed, EndsUnasked, FindsAsked, NamesFirst};
+ghost use Rattle.mutex_slow.specs.Places.{seen_of, StepsOn, TakesAlone, TakesOpen, KeepsHand, KeepsMisses, KeepsFronts, StandsSame, IsOutside, IsInLine, HasFailed, OwesWake, IsToWake, KeepsWakes, SetsNoWord, Wakes, dozes_of, task_of, IsFreed, EndsUnasked, FindsAsked, NamesFirst};
 
 use crate::rule::MutexRule;
 use lock_core::{Interrupted, Pass, Site};
@@ -31,9 +33,12 @@ pub fn try_outside<O: Object, W: Wait>(
     requires numbered { IsSome (task_in pass.old) }
     requires out { held_in pass.old ≡ No }
     requires outside { IsOutside (view_of pass.old) }
+    requires clear { OwesNoWake (view_of pass.old) }
     ensures on { StepsOn site.now pass.old pass.new }
     ensures outside { IsOutside (view_of pass.new) }
+    ensures clear { OwesNoWake (view_of pass.new) }
     ensures same { StandsSame (view_of pass.old) (view_of pass.new) }
+    ensures counts { KeepsWakes (view_of pass.old) (view_of pass.new) }
     ensures took { IfOk result (λ _. TakesAlone O.object site.now pass.old pass.new) }
     ensures opened { IfOk result (λ _. TakesOpen (seen_of pass.old) (seen_of pass.new)) }
     ensures at_once { IfOk result (λ _. KeepsMisses pass.old pass.new) }
@@ -71,11 +76,13 @@ pub fn try_listed<O: Object, W: Wait>(
     ensures listed { IsInLine (view_of pass.new) }
     ensures first { (view_of pass.new).ext.first ≡ (view_of pass.old).ext.first }
     ensures same { StandsSame (view_of pass.old) (view_of pass.new) }
+    ensures counts { KeepsWakes (view_of pass.old) (view_of pass.new) }
     ensures took { result ≡ true → TakesAlone O.object site.now pass.old pass.new }
     ensures opened { result ≡ true → TakesOpen (seen_of pass.old) (seen_of pass.new) }
     ensures uncounted { result ≡ true → KeepsMisses pass.old pass.new }
     ensures missed { result ≡ false → KeepsHand pass.old pass.new }
-    ensures failed { result ≡ false → asks ≡ false → HasFailed (view_of pass.new) }
+    ensures failed { result ≡ false → asks ≡ false → SpinHolds (view_of pass.old).spin →
+        HasFailed (view_of pass.new) }
 {
     let Some(me) = pass.task() else {
         unreachable!()
@@ -122,11 +129,13 @@ pub fn join<O: Object, W: Wait>(site: &Site<MutexRule<O>>, rt: &W, pass: &mut Pa
     requires out { held_in pass.old ≡ No }
     requires locked { SpinHolds (view_of pass.old).spin }
     requires outside { IsOutside (view_of pass.old) }
+    requires clear { OwesNoWake (view_of pass.old) }
     ensures on { StepsOn site.now pass.old pass.new }
     ensures listed { IsInLine (view_of pass.new) }
     ensures hand { KeepsHand pass.old pass.new }
     ensures spin { (view_of pass.new).spin ≡ (view_of pass.old).spin }
     ensures fronts { KeepsFronts pass.old pass.new }
+    ensures counts { KeepsWakes (view_of pass.old) (view_of pass.new) }
     ensures appended { (view_of pass.new).ext.appends ≡ (view_of pass.old).ext.appends + 1 }
 {
     let Some(task) = pass.task() else {
@@ -153,8 +162,10 @@ pub fn quit<O: Object>(site: &Site<MutexRule<O>>, pass: &mut Pass<MutexRule<O>>)
     requires may { (held_in pass.old ≡ Alone) ⊎ HasFailed (view_of pass.old) }
     ensures on { StepsOn site.now pass.old pass.new }
     ensures outside { IsOutside (view_of pass.new) }
+    ensures clear { OwesNoWake (view_of pass.new) }
     ensures hand { KeepsHand pass.old pass.new }
     ensures same { StandsSame (view_of pass.old) (view_of pass.new) }
+    ensures counts { KeepsWakes (view_of pass.old) (view_of pass.new) }
 {
     let Some(task) = pass.task() else {
         unreachable!()
@@ -178,6 +189,7 @@ pub fn sees_first<O: Object>(site: &Site<MutexRule<O>>, pass: &mut Pass<MutexRul
     ensures first { result ≡ true → (view_of pass.new).ext.first ≡ true }
     ensures hand { KeepsHand pass.old pass.new }
     ensures same { StandsSame (view_of pass.old) (view_of pass.new) }
+    ensures counts { KeepsWakes (view_of pass.old) (view_of pass.new) }
 {
     list::is_first(site, pass)
 }
@@ -206,22 +218,55 @@ pub fn interrupted<O: Object>(
     site.consume(pass)
 }
 
-/// The first waiter, by a look under the wait lock.
-pub fn first_waiter<O: Object>(
-    site: &Site<MutexRule<O>>,
-    pass: &mut Pass<MutexRule<O>>,
-) -> Option<Waiter>
+/// Chooses the first waiter, by a look under the wait lock: it is to be woken.
+pub fn choose<O: Object>(site: &Site<MutexRule<O>>, pass: &mut Pass<MutexRule<O>>) -> Option<u32>
     requires own { SitsAt site.now pass.old }
     requires numbered { IsSome (task_in pass.old) }
     requires locked { SpinHolds (view_of pass.old).spin }
     requires outside { IsOutside (view_of pass.old) }
+    requires owes { OwesWake (view_of pass.old) }
     ensures on { StepsOn site.now pass.old pass.new }
     ensures outside { IsOutside (view_of pass.new) }
+    ensures chosen { IsToWake (view_of pass.new) result }
     ensures hand { KeepsHand pass.old pass.new }
     ensures same { StandsSame (view_of pass.old) (view_of pass.new) }
-    ensures found { FindsSince list_at (waiter_code result) (seen_of pass.old) (seen_of pass.new) }
+    ensures counts { KeepsWakes (view_of pass.old) (view_of pass.new) }
+    ensures found { FindsSince list_at (task_code result) (seen_of pass.old) (seen_of pass.new) }
 {
-    list::first(site, pass)
+    list::first_task(site, pass)
+}
+
+/// Sets the wake word of the task that is to be woken.
+pub fn set<O: Object>(site: &Site<MutexRule<O>>, pass: &mut Pass<MutexRule<O>>, target: u32)
+    requires own { SitsAt site.now pass.old }
+    requires outside { IsOutside (view_of pass.old) }
+    requires chosen { HasChosen wake_of (view_of pass.old) target }
+    ensures on { StepsOn site.now pass.old pass.new }
+    ensures outside { IsOutside (view_of pass.new) }
+    ensures clear { OwesNoWake (view_of pass.new) }
+    ensures hand { KeepsHand pass.old pass.new }
+    ensures wakes { Wakes (Some target) (view_of pass.old) (view_of pass.new) }
+    ensures same { StandsSame (view_of pass.old) (view_of pass.new) }
+{
+    wake_duty::set(site, pass, target);
+}
+
+/// Swaps the wake word of the pass's own task for 0, whose try failed under the wait lock. True
+/// exactly where it may sleep.
+pub fn drowse<O: Object>(site: &Site<MutexRule<O>>, pass: &mut Pass<MutexRule<O>>) -> bool
+    requires own { SitsAt site.now pass.old }
+    requires numbered { IsSome (task_in pass.old) }
+    requires unspun { SpinRests (view_of pass.old).spin }
+    requires listed { IsInLine (view_of pass.old) }
+    requires tried { HasTried wake_of (view_of pass.old) }
+    ensures on { StepsOn site.now pass.old pass.new }
+    ensures listed { IsInLine (view_of pass.new) }
+    ensures hand { KeepsHand pass.old pass.new }
+    ensures set { SetsNoWord (view_of pass.old) (view_of pass.new) }
+    ensures dozes { dozes_of (view_of pass.new) ≡ raised result (dozes_of (view_of pass.old)) }
+    ensures same { StandsSame (view_of pass.old) (view_of pass.new) }
+{
+    wake_duty::drowse(site, pass)
 }
 
 /// What the releasing part of an unlock came to.
@@ -248,13 +293,16 @@ pub fn release<O: Object, W: Wait>(
     requires quiet { (hand_in pass.old).writes ≡ false }
     requires unspun { SpinRests (view_of pass.old).spin }
     requires outside { IsOutside (view_of pass.old) }
+    requires clear { OwesNoWake (view_of pass.old) }
     ensures on { StepsOn site.now pass.old pass.new }
     ensures outside { IsOutside (view_of pass.new) }
     ensures same { StandsSame (view_of pass.old) (view_of pass.new) }
+    ensures counts { KeepsWakes (view_of pass.old) (view_of pass.new) }
     ensures done { result ≡ Released.Done → (IsFreed (view_of pass.old) (view_of pass.new)
-        × ((hand_in pass.new).freed % 2 ≡ 0)) }
+        × ((hand_in pass.new).freed % 2 ≡ 0) × OwesNoWake (view_of pass.new)) }
     ensures waiters { result ≡ Released.Waiters →
         IsFreed (view_of pass.old) (view_of pass.new) }
+    ensures owes { result ≡ Released.Waiters → OwesWake (view_of pass.new) }
     ensures some { result ≡ Released.Waiters → (hand_in pass.new).freed ≢ 0 }
     ensures ends { result ≢ Released.Asked → EndsUnasked (seen_of pass.old) (seen_of pass.new) }
     ensures asked { result ≡ Released.Asked → KeepsHand pass.old pass.new }
@@ -287,6 +335,8 @@ pub fn hand_over<O: Object, W: Wait>(
     ensures on { StepsOn site.now pass.old pass.new }
     ensures outside { IsOutside (view_of pass.new) }
     ensures same { StandsSame (view_of pass.old) (view_of pass.new) }
+    ensures counts { KeepsWakes (view_of pass.old) (view_of pass.new) }
+    ensures chosen { IsToWake (view_of pass.new) (task_of result) }
     ensures freed { IsFreed (view_of pass.old) (view_of pass.new) }
     ensures named { NamesFirst (view_of pass.old).steps result
         (seen_of pass.old) (seen_of pass.new) }

@@ -1,6 +1,5 @@
 //! The slow path of a mutex: its wait lock, its list, and the sleep of a waiter.
 ghost use Rattle.std.specs.Prelude.{◌≡◌, ◌<◌, ◌≤◌, ◌+◌, Bool, true, false, Some, IsSome, IfOk, IfErr};
-ghost use Rattle.cpu_task.specs.Counting.{one_more};
 ghost use Rattle.osq_unqueue.specs.Rising.{Rises};
 ghost use Rattle.lock_core.specs.declared.how.How.TheVariants.{Spun};
 ghost use Rattle.lock_core.specs.declared.view.Held.TheVariants.{No, Alone};
@@ -8,11 +7,13 @@ ghost use Rattle.lock_core.specs.Views.{SpinHolds, SpinRests};
 ghost use Rattle.lock_core.specs.Kinds.{mutex, wakes_alone};
 ghost use Rattle.lock_core.specs.Locking.{Interrupts, OnlyTried, Releases, SawPending};
 ghost use Rattle.lock_core.specs.Signals.{OnlyConsumed};
+ghost use Rattle.lock_core.specs.Tallies.{raised};
 ghost use Rattle.lock_core.specs.Handles.{view_of, hand_in, task_in, held_in, SitsAt};
 ghost use Rattle.osq_nodes.specs.declared.node.Place.TheVariants.{Front};
 ghost use Rattle.osq_nodes.specs.Handles as spinners;
-ghost use Rattle.mutex_slow.specs.Mutexes.{owner_at};
-ghost use Rattle.mutex_slow.specs.Places.{seen_of, StepsOn, TakesAlone, TakesOpen, KeepsHand, KeepsMisses, KeepsFronts, KeepsAppends, StandsSame, IsOutside, IsInLine, HasFailed, GotInLine, SleepsEachTurn, WentInLine, EndsHold};
+ghost use Rattle.wake_duty.specs.WakeSteps.{HasTried};
+ghost use Rattle.mutex_slow.specs.Mutexes.{OwesNoWake, owner_at, wake_of};
+ghost use Rattle.mutex_slow.specs.Places.{seen_of, StepsOn, TakesAlone, TakesOpen, KeepsHand, KeepsMisses, KeepsFronts, KeepsAppends, StandsSame, IsOutside, IsInLine, HasFailed, IsToWake, KeepsWakes, SetsNoWord, Dozes, DozesOnce, Wakes, WakesFirst, dozes_of, task_of, GotInLine, SleepsInTurns, WentInLine, EndsHold};
 
 use crate::parts;
 use crate::parts::Released;
@@ -39,9 +40,12 @@ pub fn spin_outside<O: Object, W: Wait, C: Cpu>(
     requires numbered { IsSome (task_in pass.old) }
     requires out { held_in pass.old ≡ No }
     requires outside { IsOutside (view_of pass.old) }
+    requires clear { OwesNoWake (view_of pass.old) }
     ensures on { StepsOn site.now pass.old pass.new }
     ensures outside { IsOutside (view_of pass.new) }
+    ensures clear { OwesNoWake (view_of pass.new) }
     ensures same { StandsSame (view_of pass.old) (view_of pass.new) }
+    ensures counts { KeepsWakes (view_of pass.old) (view_of pass.new) }
     ensures took { result ≡ true → TakesAlone O.object site.now pass.old pass.new }
     ensures opened { result ≡ true → TakesOpen (seen_of pass.old) (seen_of pass.new) }
     ensures missed { result ≡ false → OnlyTried (seen_of pass.old) (seen_of pass.new) }
@@ -78,6 +82,7 @@ fn spin_listed<O: Object, W: Wait, C: Cpu>(
     ensures on { StepsOn site.now pass.old pass.new }
     ensures listed { IsInLine (view_of pass.new) }
     ensures same { StandsSame (view_of pass.old) (view_of pass.new) }
+    ensures counts { KeepsWakes (view_of pass.old) (view_of pass.new) }
     ensures took { result ≡ true → TakesAlone O.object site.now pass.old pass.new }
     ensures opened { result ≡ true → TakesOpen (seen_of pass.old) (seen_of pass.new) }
     ensures uncounted { result ≡ true → KeepsMisses pass.old pass.new }
@@ -116,6 +121,7 @@ fn try_awake<O: Object, W: Wait, C: Cpu>(
     ensures on { StepsOn site.now pass.old pass.new }
     ensures listed { IsInLine (view_of pass.new) }
     ensures same { StandsSame (view_of pass.old) (view_of pass.new) }
+    ensures counts { KeepsWakes (view_of pass.old) (view_of pass.new) }
     ensures took { result ≡ true → TakesAlone O.object site.now pass.old pass.new }
     ensures opened { result ≡ true → TakesOpen (seen_of pass.old) (seen_of pass.new) }
     ensures uncounted { result ≡ true → KeepsMisses pass.old pass.new }
@@ -135,23 +141,61 @@ fn try_awake<O: Object, W: Wait, C: Cpu>(
     spin_listed(site, rt, pass, cpu)
 }
 
-/// Releases the wait lock, sleeps, tries, and takes the wait lock again.
+/// Swaps the wake word of the pass's task for 0, and sleeps where that was 0. Then it counts one more
+/// in `dozes`.
+fn doze<O: Object, W: Wait, C: Cpu>(
+    site: &Site<MutexRule<O>>,
+    rt: &W,
+    pass: &mut Pass<MutexRule<O>>,
+    cpu: &mut C,
+    dozes: &mut u64,
+)
+    requires own { SitsAt site.now pass.old }
+    requires numbered { IsSome (task_in pass.old) }
+    requires unspun { SpinRests (view_of pass.old).spin }
+    requires listed { IsInLine (view_of pass.old) }
+    requires tried { HasTried wake_of (view_of pass.old) }
+    requires counted { dozes.old ≡ dozes_of (view_of pass.old) }
+    ensures on { StepsOn site.now pass.old pass.new }
+    ensures listed { IsInLine (view_of pass.new) }
+    ensures hand { KeepsHand pass.old pass.new }
+    ensures same { StandsSame (view_of pass.old) (view_of pass.new) }
+    ensures set { SetsNoWord (view_of pass.old) (view_of pass.new) }
+    ensures counted { dozes.new ≡ dozes_of (view_of pass.new) }
+    ensures dozed { DozesOnce (C.sleeps cpu.old) (C.sleeps cpu.new)
+        (dozes_of (view_of pass.old)) (dozes_of (view_of pass.new)) }
+    ensures rescheds { C.rescheds cpu.old ≤ C.rescheds cpu.new }
+{
+    // Whoever released behind the last try may have set the word already, and wakes nobody again.
+    if parts::drowse(site, pass) {
+        *dozes = dozes.saturating_add(1);
+        cpu.sleep(rt);
+    }
+}
+
+/// Releases the wait lock, sleeps unless it was woken before, tries, and takes the wait lock again.
 fn sleep_and_try<O: Object, W: Wait, C: Cpu>(
     site: &Site<MutexRule<O>>,
     rt: &W,
     pass: &mut Pass<MutexRule<O>>,
     cpu: &mut C,
+    dozes: &mut u64,
 ) -> bool
     requires own { SitsAt site.now pass.old }
     requires numbered { IsSome (task_in pass.old) }
     requires out { held_in pass.old ≡ No }
     requires locked { SpinHolds (view_of pass.old).spin }
     requires listed { IsInLine (view_of pass.old) }
+    requires tried { HasFailed (view_of pass.old) }
+    requires counted { dozes.old ≡ dozes_of (view_of pass.old) }
     ensures on { StepsOn site.now pass.old pass.new }
     ensures locked { SpinHolds (view_of pass.new).spin }
     ensures listed { IsInLine (view_of pass.new) }
     ensures entries { (view_of pass.new).spin.entries ≡ (view_of pass.old).spin.entries + 1 }
-    ensures sleeps { C.sleeps cpu.new ≡ one_more (C.sleeps cpu.old) }
+    ensures set { SetsNoWord (view_of pass.old) (view_of pass.new) }
+    ensures counted { dozes.new ≡ dozes_of (view_of pass.new) }
+    ensures dozed { DozesOnce (C.sleeps cpu.old) (C.sleeps cpu.new)
+        (dozes_of (view_of pass.old)) (dozes_of (view_of pass.new)) }
     ensures rescheds { C.rescheds cpu.old ≤ C.rescheds cpu.new }
     ensures fronts { KeepsFronts pass.old pass.new }
     ensures appends { KeepsAppends pass.old pass.new }
@@ -161,7 +205,7 @@ fn sleep_and_try<O: Object, W: Wait, C: Cpu>(
     ensures missed { result ≡ false → KeepsHand pass.old pass.new }
 {
     parts::leave(site, pass);
-    cpu.sleep(rt);
+    doze(site, rt, pass, cpu, dozes);
     let took = try_awake(site, rt, pass, cpu);
     parts::enter(site, rt, pass);
     took
@@ -174,6 +218,7 @@ fn wait<O: Object, W: Wait, C: Cpu>(
     rt: &W,
     pass: &mut Pass<MutexRule<O>>,
     cpu: &mut C,
+    dozes: &mut u64,
     interruptible: bool,
 ) -> Result<(), Interrupted>
     requires own { SitsAt site.now pass.old }
@@ -181,11 +226,16 @@ fn wait<O: Object, W: Wait, C: Cpu>(
     requires out { held_in pass.old ≡ No }
     requires locked { SpinHolds (view_of pass.old).spin }
     requires listed { IsInLine (view_of pass.old) }
+    requires counted { dozes.old ≡ dozes_of (view_of pass.old) }
     ensures on { StepsOn site.now pass.old pass.new }
     ensures locked { SpinHolds (view_of pass.new).spin }
     ensures listed { IsInLine (view_of pass.new) }
     ensures entries { (view_of pass.old).spin.entries ≤ (view_of pass.new).spin.entries }
-    ensures sleeps { SleepsEachTurn (view_of pass.old).spin.entries
+    ensures set { SetsNoWord (view_of pass.old) (view_of pass.new) }
+    ensures counted { dozes.new ≡ dozes_of (view_of pass.new) }
+    ensures dozed { Dozes (C.sleeps cpu.old) (C.sleeps cpu.new)
+        (dozes_of (view_of pass.old)) (dozes_of (view_of pass.new)) }
+    ensures sleeps { SleepsInTurns (view_of pass.old).spin.entries
         (view_of pass.new).spin.entries (C.sleeps cpu.old) (C.sleeps cpu.new) }
     ensures rescheds { C.rescheds cpu.old ≤ C.rescheds cpu.new }
     ensures fronts { KeepsFronts pass.old pass.new }
@@ -209,7 +259,7 @@ fn wait<O: Object, W: Wait, C: Cpu>(
         if let Some(why) = parts::interrupted(site, pass, interruptible) {
             return Err(why);
         }
-        if sleep_and_try(site, rt, pass, cpu) {
+        if sleep_and_try(site, rt, pass, cpu, dozes) {
             return Ok(());
         }
     }
@@ -224,6 +274,7 @@ pub fn lock_in_line<O: Object, W: Wait, C: Cpu>(
     rt: &W,
     pass: &mut Pass<MutexRule<O>>,
     cpu: &mut C,
+    dozes: &mut u64,
     interruptible: bool,
 ) -> Result<How, Interrupted>
     requires own { SitsAt site.now pass.old }
@@ -231,9 +282,12 @@ pub fn lock_in_line<O: Object, W: Wait, C: Cpu>(
     requires out { held_in pass.old ≡ No }
     requires unspun { SpinRests (view_of pass.old).spin }
     requires outside { IsOutside (view_of pass.old) }
+    requires clear { OwesNoWake (view_of pass.old) }
+    requires counted { dozes.old ≡ dozes_of (view_of pass.old) }
     ensures on { StepsOn site.now pass.old pass.new }
     ensures unspun { SpinRests (view_of pass.new).spin }
     ensures outside { IsOutside (view_of pass.new) }
+    ensures clear { OwesNoWake (view_of pass.new) }
     ensures took { IfOk result (λ _. TakesAlone O.object site.now pass.old pass.new) }
     ensures opened { IfOk result (λ _. TakesOpen (seen_of pass.old) (seen_of pass.new)) }
     ensures how { IfOk result (λ how. GotInLine how (seen_of pass.old) (seen_of pass.new)) }
@@ -241,7 +295,11 @@ pub fn lock_in_line<O: Object, W: Wait, C: Cpu>(
         Interrupts mutex reads owner_at why (seen_of pass.old) (seen_of pass.new)) }
     ensures asked { IfErr result (λ _. interruptible ≡ true) }
     ensures line { WentInLine (seen_of pass.old) (seen_of pass.new) }
-    ensures sleeps { SleepsEachTurn ((view_of pass.old).spin.entries + 1)
+    ensures set { SetsNoWord (view_of pass.old) (view_of pass.new) }
+    ensures counted { dozes.new ≡ dozes_of (view_of pass.new) }
+    ensures dozed { Dozes (C.sleeps cpu.old) (C.sleeps cpu.new)
+        (dozes_of (view_of pass.old)) (dozes_of (view_of pass.new)) }
+    ensures sleeps { SleepsInTurns ((view_of pass.old).spin.entries + 1)
         (view_of pass.new).spin.entries (C.sleeps cpu.old) (C.sleeps cpu.new) }
     ensures awake { IfOk result (λ how. how ≡ Spun → C.sleeps cpu.new ≡ C.sleeps cpu.old) }
     ensures rescheds { C.rescheds cpu.old ≤ C.rescheds cpu.new }
@@ -253,7 +311,7 @@ pub fn lock_in_line<O: Object, W: Wait, C: Cpu>(
         return Ok(How::Spun);
     };
     parts::join(site, rt, pass);
-    let Err(why) = wait(site, rt, pass, cpu, interruptible) else {
+    let Err(why) = wait(site, rt, pass, cpu, dozes, interruptible) else {
         parts::quit(site, pass);
         parts::leave(site, pass);
         return Ok(How::Slept);
@@ -263,48 +321,94 @@ pub fn lock_in_line<O: Object, W: Wait, C: Cpu>(
     Err(why)
 }
 
-/// Wakes the waiter, where there is one.
-fn wake<C: Crew>(crew: &C, waiter: Option<Waiter>) {
-    if let Some(waiter) = waiter {
-        crew.wake(waiter.task);
+/// The task of a waiter.
+fn named(waiter: Option<Waiter>) -> Option<u32>
+    ensures { result ≡ task_of waiter }
+{
+    match waiter {
+        Some(waiter) => Some(waiter.task),
+        None => None,
     }
 }
 
-/// Ends the pass's hold, and wakes the first waiter where there may be one. The kernel's
-/// `__mutex_unlock_slowpath`.
+/// Ends the sleep of a task whose wake word the pass has set.
+fn rouse<O: Object, C: Crew>(pass: &Pass<MutexRule<O>>, crew: &C, target: u32)
+    requires set { OwesNoWake (view_of pass.now) }
+{
+    crew.wake(target);
+}
+
+/// Does the wake that the pass has chosen, where there is one, and says whether there was.
+fn wake<O: Object, C: Crew>(
+    site: &Site<MutexRule<O>>,
+    pass: &mut Pass<MutexRule<O>>,
+    crew: &C,
+    target: Option<u32>,
+) -> bool
+    requires own { SitsAt site.now pass.old }
+    requires outside { IsOutside (view_of pass.old) }
+    requires chosen { IsToWake (view_of pass.old) target }
+    ensures on { StepsOn site.now pass.old pass.new }
+    ensures outside { IsOutside (view_of pass.new) }
+    ensures clear { OwesNoWake (view_of pass.new) }
+    ensures wakes { Wakes target (view_of pass.old) (view_of pass.new) }
+    ensures told { (view_of pass.new).ext.wake.wakes
+        ≡ raised result (view_of pass.old).ext.wake.wakes }
+    ensures hand { KeepsHand pass.old pass.new }
+    ensures same { StandsSame (view_of pass.old) (view_of pass.new) }
+{
+    let Some(target) = target else {
+        return false;
+    };
+    // The word is set before the sleep is ended: a task that swaps its word between the two finds
+    // it set and doesn't sleep, and one that swapped it before is asleep and is woken.
+    parts::set(site, pass, target);
+    rouse(pass, crew, target);
+    true
+}
+
+/// Ends the pass's hold, and wakes the first waiter where there is one, which it answers. The
+/// kernel's `__mutex_unlock_slowpath`.
 pub fn unlock<O: Object, W: Wait, C: Crew>(
     site: &Site<MutexRule<O>>,
     rt: &W,
     pass: &mut Pass<MutexRule<O>>,
     crew: &C,
-)
+) -> bool
     requires own { SitsAt site.now pass.old }
     requires numbered { IsSome (task_in pass.old) }
     requires held { held_in pass.old ≡ Alone }
     requires quiet { (hand_in pass.old).writes ≡ false }
     requires unspun { SpinRests (view_of pass.old).spin }
     requires outside { IsOutside (view_of pass.old) }
+    requires clear { OwesNoWake (view_of pass.old) }
     ensures on { StepsOn site.now pass.old pass.new }
     ensures unspun { SpinRests (view_of pass.new).spin }
     ensures outside { IsOutside (view_of pass.new) }
+    ensures clear { OwesNoWake (view_of pass.new) }
     ensures released { Releases (wakes_alone mutex) (seen_of pass.old) (seen_of pass.new) }
+    ensures wakes { WakesFirst (view_of pass.old).ext.wake.wakes (view_of pass.new).ext.wake.wakes
+        (seen_of pass.old) (seen_of pass.new) }
     ensures ended { EndsHold (seen_of pass.old) (seen_of pass.new) }
+    ensures told { (view_of pass.new).ext.wake.wakes
+        ≡ raised result (view_of pass.old).ext.wake.wakes }
+    ensures dozes { dozes_of (view_of pass.new) ≡ dozes_of (view_of pass.old) }
     ensures entries { (view_of pass.new).spin.entries ≤ (view_of pass.old).spin.entries + 1 }
     ensures appends { KeepsAppends pass.old pass.new }
 {
     match parts::release(site, rt, pass) {
         Released::Waiters => {
             parts::enter(site, rt, pass);
-            let first = parts::first_waiter(site, pass);
+            let first = parts::choose(site, pass);
             parts::leave(site, pass);
-            wake(crew, first);
+            wake(site, pass, crew, first)
         }
         Released::Asked => {
             parts::enter(site, rt, pass);
             let first = parts::hand_over(site, rt, pass);
             parts::leave(site, pass);
-            wake(crew, first);
+            wake(site, pass, crew, named(first))
         }
-        Released::Done => {}
+        Released::Done => false,
     }
 }

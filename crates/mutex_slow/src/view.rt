@@ -1,6 +1,7 @@
 //! What a pass knows of a mutex. No value of these types is ever made: they exist in proofs alone.
 
 use wait_list::ListHand;
+use wake_duty::WakeHand;
 
 /// While a pass stands at one of these points under the wait lock, the flags don't fit the list.
 pub enum Point {
@@ -23,4 +24,6 @@ pub struct MutexHand {
     pub failed: u64,
     /// How often it has appended itself.
     pub appends: u64,
+    /// What it owes, and how its task waits.
+    pub wake: WakeHand,
 }

@@ -5,7 +5,7 @@ ghost use Rattle.lock_core.specs.Locking.{Looks};
 ghost use Rattle.lock_core.specs.Pasts.{BeganWith, EachMoment, Ran, Tail};
 ghost use Rattle.lock_core.specs.Shown.{IsLatestStep, PastGoesOn};
 ghost use Rattle.lock_core.specs.SpinStated.{IsSpinLockThen, IsSpinMove};
-ghost use Rattle.mutex_slow.specs.Handles.{hand_in, newest, plan_of, shown_of, spun_of, SitsAt, SpunGoesOn};
+ghost use Rattle.mutex_slow.specs.Handles.{hand_in, newest, plan_of, shown_of, spun_of, KeepsWakes, SitsAt, SpunGoesOn};
 ghost use Rattle.mutex_slow.specs.Mutexes.{standing, wait_lock_at};
 ghost use Rattle.osq_nodes.specs.Places.{node_marks};
 ghost use Rattle.osq_nodes.specs.Ruled.{IsOsqMove, newest as newest_queue};
@@ -30,6 +30,7 @@ impl<O: Object> Mutex<O> {
         ensures always { EachMoment (IsSpinLockThen wait_lock_at) (shown_of pass.new).past }
         ensures moves { Ran standing (newest (plan_of self.now)) (IsSpinMove wait_lock_at)
             (shown_of pass.new).past }
+        ensures still { KeepsWakes pass.old pass.new }
     {
         recall_spin_lock(&self.site, &mut pass.pass);
     }
@@ -51,6 +52,7 @@ impl<O: Object> Mutex<O> {
             (IsOsqMove (length (plan_of self.now))) (spun_of pass.new) }
         ensures out { IsOutOfQueue (hand_in pass.new).task (shown_of pass.new).fronts
             (shown_of pass.new).swaps (spun_of pass.new) }
+        ensures still { KeepsWakes pass.old pass.new }
     {
         self.osq.recall_queue(&mut pass.queue);
     }

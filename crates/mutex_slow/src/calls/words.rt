@@ -13,7 +13,7 @@ ghost use Rattle.lock_core.specs.Pasts.{FoundAt};
 ghost use Rattle.lock_core.specs.Records.{row};
 ghost use Rattle.lock_core.specs.Shown.{PastGoesOn};
 ghost use Rattle.lock_core.specs.Views.{next_entry, wrote, committed, noted, sending, OwesNoSignal, Unsent};
-ghost use Rattle.mutex_slow.specs.Handles.{plan_of, shown_of, hand_in, SitsAt, SpunGoesOn, TellsRecord};
+ghost use Rattle.mutex_slow.specs.Handles.{plan_of, shown_of, hand_in, KeepsWakes, SitsAt, SpunGoesOn, TellsRecord};
 
 use super::{Mutex, MutexPass};
 use lock_core::Held;
@@ -31,6 +31,7 @@ impl<O: Object> Mutex<O> {
         ensures kept { Looks (shown_of pass.old) (shown_of pass.new) }
         ensures value { result ≡ slice_index (hand_in pass.old).known at }
         ensures found { FoundAt (LOCK_WORDS + at) result (shown_of pass.new).past }
+        ensures still { KeepsWakes pass.old pass.new }
     {
         self.site.word(&mut pass.pass, at)
     }
@@ -44,6 +45,7 @@ impl<O: Object> Mutex<O> {
         ensures goes_on { PastGoesOn (shown_of pass.old) (shown_of pass.new) }
         ensures kept { Has (wrote (hand_in pass.old) at value)
             (shown_of pass.old) (shown_of pass.new) }
+        ensures still { KeepsWakes pass.old pass.new }
     {
         self.site.set_word(&mut pass.pass, at, value);
     }
@@ -63,6 +65,7 @@ impl<O: Object> Mutex<O> {
         ensures kept { HasSince
             (λ step. committed (hand_in pass.old) step (next_entry (hand_in pass.old)) reply)
             (shown_of pass.old) (shown_of pass.new) }
+        ensures still { KeepsWakes pass.old pass.new }
     {
         self.site.commit(&mut pass.pass, call, reply);
     }
@@ -82,6 +85,7 @@ impl<O: Object> Mutex<O> {
         ensures kept { HasSince
             (λ step. noted (hand_in pass.old) step (next_entry (hand_in pass.old)) reply)
             (shown_of pass.old) (shown_of pass.new) }
+        ensures still { KeepsWakes pass.old pass.new }
     {
         self.site.note(&mut pass.pass, call, reply);
     }
@@ -97,6 +101,7 @@ impl<O: Object> Mutex<O> {
         ensures goes_on { PastGoesOn (shown_of pass.old) (shown_of pass.new) }
         ensures kept { Has (sending (hand_in pass.old) target)
             (shown_of pass.old) (shown_of pass.new) }
+        ensures still { KeepsWakes pass.old pass.new }
     {
         self.site.signal(&mut pass.pass, target);
     }
@@ -125,6 +130,7 @@ impl<O: Object> Mutex<O> {
         ensures goes_on { PastGoesOn (shown_of pass.old) (shown_of pass.new) }
         ensures kept { Looks (shown_of pass.old) (shown_of pass.new) }
         ensures words { slice_get (row (plan_of self.now) task) call ≡ Some result }
+        ensures still { KeepsWakes pass.old pass.new }
     {
         self.site.call(&mut pass.pass, task, call)
     }
@@ -142,6 +148,7 @@ impl<O: Object> Mutex<O> {
         ensures made { result ≢ 0 → (r : Record) × IsRec r × (result ≡ rec_word r) }
         ensures found { FoundAt (record_place (plan_of self.now) task call) result
             (shown_of pass.new).past }
+        ensures still { KeepsWakes pass.old pass.new }
     {
         self.site.rec_word(&mut pass.pass, task, call)
     }
@@ -160,6 +167,7 @@ impl<O: Object> Mutex<O> {
         ensures history { Chronicles O.object (unavailable mutex) (plan_of self.now)
             (hand_in pass.old).records (hand_in pass.old).log }
         ensures found { FoundAt length_place result (shown_of pass.new).past }
+        ensures still { KeepsWakes pass.old pass.new }
     {
         self.site.log_len(&mut pass.pass)
     }
@@ -175,6 +183,7 @@ impl<O: Object> Mutex<O> {
         ensures kept { Looks (shown_of pass.old) (shown_of pass.new) }
         ensures value { IsEntryWord (hand_in pass.old) at result }
         ensures found { FoundAt (entry_place at) result (shown_of pass.new).past }
+        ensures still { KeepsWakes pass.old pass.new }
     {
         self.site.log_word(&mut pass.pass, at)
     }

@@ -18,10 +18,10 @@ set_waiters-requires-clause-may g c = λ n. (
 )
 
 pub returns-then-first-task-clause-listed : goal.returns-then-first-task-clause-listed
-returns-then-first-task-clause-listed g c = flagged-listed c.args.pass.now.seat.me.0.view c.append.new.pass.seat.me.0.view c.first.new.pass.seat.me.0.view (record { task = c.in-Some.task; writer = true }) c.in-Some-first.first c.requires.locked c.append.ensures.kept (subst (λ (r : Option Waiter). FindsFirst list_of with_list c.append.new.pass.seat.me.0.view r c.first.new.pass.seat.me.0.view) c.in-Some-first.is c.first.ensures.told) c.set_waiters.new.pass.seat.me.0.view c.set_waiters.ensures.kept
+returns-then-first-task-clause-listed g c = flagged-listed c.args.pass.now.seat.me.0.view c.append.new.pass.seat.me.0.view c.first.new.pass.seat.me.0.view (record { task = c.in-Some.task; writer = true }) c.in-Some-first.first c.requires.locked c.append.ensures.kept (subst (λ (r : Option Waiter). FindsFirst list_of with_list c.append.new.pass.seat.me.0.view r c.first.new.pass.seat.me.0.view) c.in-Some-first.is c.first.ensures.told) c.set_waiters.new.pass.seat.me.0.view c.requires.clear c.set_waiters.ensures.kept
 
 pub returns-else-first-task-clause-listed : goal.returns-else-first-task-clause-listed
-returns-else-first-task-clause-listed g c = behind-listed c.args.pass.now.seat.me.0.view c.append.new.pass.seat.me.0.view c.first.new.pass.seat.me.0.view (record { task = c.in-Some.task; writer = true }) c.in-Some-first.first c.requires.locked c.append.ensures.kept (subst (λ (r : Option Waiter). FindsFirst list_of with_list c.append.new.pass.seat.me.0.view r c.first.new.pass.seat.me.0.view) c.in-Some-first.is c.first.ensures.told) c.if-first-task.false
+returns-else-first-task-clause-listed g c = behind-listed c.args.pass.now.seat.me.0.view c.append.new.pass.seat.me.0.view c.first.new.pass.seat.me.0.view (record { task = c.in-Some.task; writer = true }) c.in-Some-first.first c.requires.locked c.append.ensures.kept (subst (λ (r : Option Waiter). FindsFirst list_of with_list c.append.new.pass.seat.me.0.view r c.first.new.pass.seat.me.0.view) c.in-Some-first.is c.first.ensures.told) c.requires.clear c.if-first-task.false
 
 pub returns-then-first-task-clause-on : goal.returns-then-first-task-clause-on
 returns-then-first-task-clause-on g c = let append = c.append.ensures.later in let first = c.first.ensures.later in let set = ap (λ (v : V). v.steps) c.set_waiters.ensures.kept in record {

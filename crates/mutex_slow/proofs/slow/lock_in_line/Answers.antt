@@ -2,9 +2,9 @@ use Rattle.std.proofs.Common.{arith, ap, ◌∙◌, ◌+◌, ℕ, refl, rules}
 use Rattle.lock_core.specs.declared.view.SpinHand.{SpinHand}
 use Rattle.lock_core.specs.declared.view.Hand.{Hand}
 use Rattle.mutex_slow.specs.declared.view.MutexHand.{MutexHand}
-use Rattle.mutex_slow.specs.Places.{seen_of}
+use Rattle.mutex_slow.specs.Places.{dozes_of, seen_of}
 use Rattle.lock_core.proofs.Within.{pending-within, sees-within}
-use Rattle.mutex_slow.proofs.Opening.{opens-behind, opens-before}
+use Rattle.mutex_slow.proofs.Opening.{dozes-none, dozes-within, opens-behind, opens-before}
 use Rattle.mutex_slow.proofs.slow.lock_in_line.Goals as goal
 
 pub returns-clause-interrupted : goal.returns-clause-interrupted
@@ -30,7 +30,7 @@ pub returns-in_default-clause-opened : goal.returns-in_default-clause-opened
 returns-in_default-clause-opened g c = opens-before c.args.site.now c.args.pass.now c.try_outside.new.pass c.leave.new.pass (opens-behind c.args.site.now c.args.pass.now c.enter.new.pass c.try_outside.new.pass c.requires.own c.enter.ensures.on c.in_default.ensures.opened) c.leave.ensures.on
 
 pub returns-in_default-clause-sleeps : goal.returns-in_default-clause-sleeps
-returns-in_default-clause-sleeps g c = let enters = c.enter.ensures.gained.counted in let tries = c.try_outside.ensures.same.entries in let leaves = c.leave.ensures.entries in (0, omega (arith, enters, tries, leaves), refl)
+returns-in_default-clause-sleeps g c = let enters = c.enter.ensures.gained.counted in let tries = c.try_outside.ensures.same.entries in let leaves = c.leave.ensures.entries in (0, omega (arith, enters, tries, leaves), record { times = 0; few = omega arith; is = refl })
 
 pub returns-in_default-wait-clause-opened : goal.returns-in_default-wait-clause-opened
 returns-in_default-wait-clause-opened g c = opens-before c.args.site.now c.args.pass.now c.quit.new.pass c.leave-in_default-wait.new.pass (opens-before c.args.site.now c.args.pass.now c.wait.new.pass c.quit.new.pass (opens-behind c.args.site.now c.args.pass.now c.enter.new.pass c.wait.new.pass c.requires.own c.enter.ensures.on
@@ -43,3 +43,14 @@ returns-in_default-wait-clause-sleeps g c = let turns = c.wait.ensures.sleeps in
 pub returns-clause-sleeps : goal.returns-clause-sleeps
 returns-clause-sleeps g c = let turns = c.wait.ensures.sleeps in let slept = turns.1 in let enters = c.enter.ensures.gained.counted in let tries = c.try_outside.ensures.same.entries in let joins = ap (λ (s : SpinHand). s.entries) c.join.ensures.spin in let quits = c.quit-2.ensures.same.entries in let leaves = c.leave-2.ensures.entries in
     (turns.0, omega (arith, enters, tries, joins, slept, quits, leaves), turns.2)
+
+pub returns-in_default-clause-dozed : goal.returns-in_default-clause-dozed
+returns-in_default-clause-dozed g c = dozes-none (g.C.Cpu.sleeps c.args.cpu.now) (g.C.Cpu.sleeps c.args.cpu.now) (dozes_of c.args.pass.now.seat.me.0.view) (dozes_of c.leave.new.pass.seat.me.0.view) refl (ap (λ (e : MutexHand). e.wake.dozes) c.leave.ensures.ext ∙ (c.try_outside.ensures.counts.dozes ∙ ap (λ (e : MutexHand). e.wake.dozes) c.enter.ensures.gained.ext))
+
+pub returns-in_default-wait-clause-dozed : goal.returns-in_default-wait-clause-dozed
+returns-in_default-wait-clause-dozed g c = dozes-within (g.C.Cpu.sleeps c.args.cpu.now) (g.C.Cpu.sleeps c.args.cpu.now) (g.C.Cpu.sleeps c.wait.new.cpu) (dozes_of c.args.pass.now.seat.me.0.view) (dozes_of c.join.new.pass.seat.me.0.view) (dozes_of c.wait.new.pass.seat.me.0.view) (dozes_of c.leave-in_default-wait.new.pass.seat.me.0.view) refl
+    (c.join.ensures.counts.dozes ∙ (c.try_outside.ensures.counts.dozes ∙ ap (λ (e : MutexHand). e.wake.dozes) c.enter.ensures.gained.ext)) c.wait.ensures.dozed (ap (λ (e : MutexHand). e.wake.dozes) c.leave-in_default-wait.ensures.ext ∙ c.quit.ensures.counts.dozes)
+
+pub returns-clause-dozed : goal.returns-clause-dozed
+returns-clause-dozed g c = dozes-within (g.C.Cpu.sleeps c.args.cpu.now) (g.C.Cpu.sleeps c.args.cpu.now) (g.C.Cpu.sleeps c.wait.new.cpu) (dozes_of c.args.pass.now.seat.me.0.view) (dozes_of c.join.new.pass.seat.me.0.view) (dozes_of c.wait.new.pass.seat.me.0.view) (dozes_of c.leave-2.new.pass.seat.me.0.view) refl
+    (c.join.ensures.counts.dozes ∙ (c.try_outside.ensures.counts.dozes ∙ ap (λ (e : MutexHand). e.wake.dozes) c.enter.ensures.gained.ext)) c.wait.ensures.dozed (ap (λ (e : MutexHand). e.wake.dozes) c.leave-2.ensures.ext ∙ c.quit-2.ensures.counts.dozes)

@@ -9,3 +9,4 @@ invariant-loop g l = let v = l.fn.pass.seat.me.0.view in let u = l.pass.seat.me.
     × StepsOn l.site l.fn.pass l.pass × IsSome l.pass.face.task × (l.pass.face.held ≡ No)
     × IsInLine u × StandsSame v u × (u.hand ≡ v.hand)
     × (g.C.Cpu.sleeps l.cpu ≡ g.C.Cpu.sleeps l.fn.cpu) × (g.C.Cpu.rescheds l.cpu ≡ g.C.Cpu.rescheds l.fn.cpu)
+    × (u.ext.wake.wakes ≡ v.ext.wake.wakes) × (u.ext.wake.dozes ≡ v.ext.wake.dozes)

@@ -1,5 +1,4 @@
-use Rattle.std.proofs.Common.{◌≡◌, ◌∙◌, ℕ, refl, ap}
-use mathlib.Core.Option.{some}
+use Rattle.std.proofs.Common.{◌≡◌, ◌∙◌, refl, ap, subst, sym}
 use Rattle.word_bits.specs.LockWords.{owned}
 use Rattle.lock_core.specs.Layout.{site}
 use Rattle.lock_core.specs.Records.{bit}
@@ -14,11 +13,11 @@ use Rattle.osq_nodes.specs.Handles.{fronts_in}
 use Rattle.mutex_slow.specs.Places.{line_of}
 use Rattle.qspin_word.proofs.Turning.{numbers}
 use Rattle.qspin_queue.proofs.Recalling.{counts-spin, each-lock, each-move}
-use Rattle.mutex_slow.specs.Mutexes.{Kept, MutexMoves, V, owner_at, owner_in, standing, wait_lock_at}
+use Rattle.mutex_slow.specs.Mutexes.{Kept, MutexMoves, OwesNoWake, V, owner_at, owner_in, standing, wait_lock_at}
 use Rattle.mutex_slow.specs.MutexLaws.{mutex-site, mutex-spin}
 use Rattle.mutex_slow.specs.Handles.{newest}
-use Rattle.mutex_slow.specs.Stated.{IsMutexThen, line_marks, waits_on}
-use Rattle.mutex_slow.proofs.Stating.{mutex-states}
+use Rattle.mutex_slow.specs.Stated.{IsMutexThen, waits_on}
+use Rattle.mutex_slow.proofs.Stating.{mutex-states, owes-none, standing_of}
 use Rattle.mutex_slow.proofs.Chaining.{becomes}
 use Rattle.mutex_slow.proofs.Locking.{each-moment, mutex-locked}
 use Rattle.mutex_slow.proofs.calls.Mutex.recall.Goals as goal
@@ -42,7 +41,11 @@ returns-clause-moves g c = let k = c.args.self.now.site.table.shared.key in let 
 pub returns-clause-out : goal.returns-clause-out
 returns-clause-out g c = let m = c.recall.ensures.marked in let u = c.recall.new.pass.seat.me.0.view in let out : bit u.ext.queued ≡ 0 = ap (λ (v : V). bit v.ext.queued) c.recall.ensures.kept ∙ ap bit c.requires.own.outside.out in record {
   own = record { step = step-by u u.hand.task c.recall.new.pass.seat.me.0.past refl m.own; hand = refl; spin = m.own.spin };
-  marked = m.kept ∙ ap (λ (q : ℕ). some (line_marks q u.ext.appends)) out;
+  stands = standing_of u.ext;
+  marked = m.kept;
+  out = out;
+  appends = refl;
+  clear = owes-none u.ext.wake.duty u.hand.freed (subst OwesNoWake (sym c.recall.ensures.kept) c.requires.own.clear);
 }
 
 pub returns-clause-lists : goal.returns-clause-lists

@@ -1,0 +1,17 @@
+use Rattle.std.proofs.Common.{arith, ap, sym, ◌∙◌, ◌+◌, ◌*◌}
+use Rattle.lock_core.proofs.Sitting.{sits-on, its-number}
+use Rattle.wake_duty.proofs.Waking.{drowses}
+use Rattle.wake_duty.proofs.steps.drowse.Goals as goal
+
+pub step-requires : goal.step-requires
+step-requires g c = let k = c.args.site.now.table.shared.key in let s = g.H.WakeHost.wake_inside in let e = c.WAKE.ensures in let is = sym c.task.ensures ∙ c.in-Some.is in
+    let few = its-number c.args.site.now.table.shared.key c.args.site.now.table.shared.table_id c.args.pass.now.seat.table_id c.args.pass.now.seat.me c.args.pass.now.face c.args.site.now.small c.requires.own c.in-Some.me is in record {
+      own = c.requires.own.own;
+      inside = omega (arith, s, e, few);
+      lets = drowses (g.H.SiteRule.holds k) (g.H.SiteRule.moves k) (g.H.ListHost.queue k) g.H.WakeHost.WAKE g.H.WakeHost.wake g.H.WakeHost.with_wake (g.met.H.ListHost.queued k) (g.met.H.WakeHost.wake_kept k) (g.met.H.WakeHost.wakes k) _ _ _ c.in-Some.me _ (ap (λ n. n + 8 * c.in-Some.me) e) (sym c.requires.own.task ∙ is) few c.requires.out c.requires.tried;
+    }
+
+pub returns-clause-own : goal.returns-clause-own
+returns-clause-own g c = let turn = c.step.ensures.told.1 in
+    sits-on c.args.site.now.table.shared.key c.args.site.now.table.shared.table_id c.args.pass.now.seat.table_id c.step.new.pass.seat.table_id c.args.pass.now.seat.me c.step.new.pass.seat.me c.args.pass.now.face c.step.new.pass.face
+    c.step.ensures.own.0 turn.1 (ap (λ v. v.hand) turn.0) (let n = ap (λ v. v.steps) turn.0 in omega (arith, n)) c.step.ensures.face c.requires.own

@@ -1,0 +1,3 @@
+pub mod Wakes
+pub mod WakeLaws
+pub mod WakeSteps
