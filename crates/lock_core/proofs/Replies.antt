@@ -1,5 +1,5 @@
 -- What an object replies, and the words of records and entries.
-use Rattle.std.proofs.Common.{◌≡◌, ℕ, ◌+◌, ◌*◌, ◌/◌, ◌%◌, ◌^◌, ◌<◌, ap, List, Some, None, refl, arith}
+use Rattle.std.proofs.Common.{◌≡◌, ℕ, ◌+◌, ◌*◌, ◌/◌, ◌%◌, ◌^◌, ◌<◌, ap, subst, List, slice_get, Some, None, refl, arith}
 use Rattle.word_bits.specs.declared.call.CallWords.{CallWords}
 use Rattle.word_bits.specs.declared.entry.Entry.{Entry}
 use Rattle.word_bits.specs.declared.reply.Errno.{Errno}
@@ -14,6 +14,8 @@ use Rattle.word_bits.specs.Histories.{Plan, state_after}
 use Rattle.word_bits.proofs.States.{state_is_state}
 use Rattle.lock_core.specs.declared.view.Hand.{Hand}
 use Rattle.lock_core.specs.Passes.{Accounts}
+use Rattle.lock_core.specs.Records.{row}
+use Rattle.lock_core.specs.Sites.{HasSent}
 use Rattle.lock_core.specs.Views.{entry_of, settled, OwesNoSignal}
 
 errno-small : (e : Errno) → errno_number e < 2 ^ 22
@@ -53,6 +55,10 @@ accounts-settle h w AccErr a = a
 accounts-settle h w (Busy n) a = a
 accounts-settle h w Intr a = let one = a.1 in (a.0, omega (arith, one))
 accounts-settle h w Sent a = (refl, a.0)
+
+-- before a record that says that a signal was sent, its pass sent one to the call's target
+pub accounts-sent : (k : Plan) (t : ℕ) (h : Hand) (w : CallWords) (r : Reply) → Accounts h w r → slice_get (row k t) h.done ≡ Some w → r ≡ Sent → HasSent k t h
+accounts-sent k t h w r a planned is = let s = subst (Accounts h w) is a in (w, s.1.0, planned, s.1.2, s.1.1)
 
 -- such a record leaves the signals that aren't recorded
 pub settled-object : (h : Hand) (r : Reply) → IsObjectReply r → settled h r ≡ h

@@ -28,7 +28,7 @@ use Rattle.lock_core.proofs.HandLaws.{alone-is-held}
 use Rattle.lock_core.proofs.Numbering.{next-short}
 use Rattle.lock_core.proofs.Reading.{same-plan}
 use Rattle.lock_core.proofs.WordSteps.{site-writes, site-enters, site-logs, site-records, none-owed}
-use Rattle.lock_core.proofs.Replies.{accounts-settle}
+use Rattle.lock_core.proofs.Replies.{accounts-sent, accounts-settle}
 use Rattle.lock_core.proofs.Signalling.{accounts}
 use Rattle.lock_core.specs.declared.layout.TheConstants.{ENTRIES_AT, LENGTH_AT, LINES_AT}
 
@@ -102,6 +102,7 @@ module _ {Call : Type 0} (o : Obj Call) (unavailable : Unavailable) (size : ℕ)
             stored = ap (λ (c : ℕ). set (lay k s).recs (start k e.task + c) (rec_word x)) (sym is);
             busy = may.busy;
             interrupted = may.interrupted;
+            sent = accounts-sent k e.task h words x.reply may.accounts (ap (slice_get (row k e.task)) is ∙ may.planned);
             settled = accounts-settle h words x.reply may.accounts;
             done = refl;
             last = refl;

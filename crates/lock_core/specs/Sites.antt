@@ -5,7 +5,7 @@ use Rattle.word_bits.specs.declared.call.CallWords.{CallWords}
 use Rattle.word_bits.specs.Calls.{signal_of}
 use Rattle.word_bits.specs.declared.entry.Entry.{Entry}
 use Rattle.word_bits.specs.declared.rec.Rec.{Rec}
-use Rattle.word_bits.specs.declared.reply.Reply.TheVariants.{Busy, Intr}
+use Rattle.word_bits.specs.declared.reply.Reply.TheVariants.{Busy, Intr, Sent}
 use Rattle.word_bits.specs.RecWord.{IsRec, rec_word}
 use Rattle.word_bits.specs.EntryWord.{entry_word}
 use Rattle.word_bits.specs.LockWords.{Unavailable}
@@ -142,6 +142,10 @@ SawSince h word = (saw : Saw) × (h.saw ≡ Some saw) × (saw.word ≡ word) × 
 abbrev pub WasInterrupted : Hand → Type 0
 WasInterrupted h = (h.consumed ≡ 1) × ((word : ℕ) × SawSince h word)
 
+-- the task's next call is a signal, and a pass with this hand has sent one to its target since it last recorded
+abbrev pub HasSent : Plan → (task : ℕ) → Hand → Type 0
+HasSent k task h = (words : CallWords) × (target : ℕ) × (slice_get (row k task) h.done ≡ Some words) × (signal_of words ≡ Some target) × (h.sent ≡ Some target)
+
 -- what every step of a pass does to its hand: its misses and the number of its takes don't fall, what its last release left stays while it holds as before, and it comes to hold by one take more alone
 pub record HoldGoes (h g : Hand) : Type 0 where
   pub misses : h.misses ≤ g.misses
@@ -168,7 +172,7 @@ pub record FailsTry (step word : ℕ) (h g : Hand) : Type 0 where
 abbrev pub SawGoes : (step word : ℕ) → Hand → Hand → Type 0
 SawGoes step word h g = KeepsSaw h g ⊎ FailsTry step word h g
 
--- the step of this number stores, in its place among all records, that of the next call of the pass's own task; one that says that the lock was taken has a word that the pass saw since it last recorded; before one that says that the call was interrupted, the pass consumed one signal and saw a word; every signal that the pass sent or consumed is then recorded
+-- the step of this number stores, in its place among all records, that of the next call of the pass's own task; one that says that the lock was taken has a word that the pass saw since it last recorded; before one that says that the call was interrupted, the pass consumed one signal and saw a word; before one that says that a signal was sent, the pass sent it; every signal that the pass sent or consumed is then recorded
 pub record StoresRecord (step : ℕ) (w w' : SiteWords) (h g : Hand) : Type 0 where
   pub plan : Plan
   pub planned : h.plan ≡ Some plan
@@ -182,6 +186,7 @@ pub record StoresRecord (step : ℕ) (w w' : SiteWords) (h g : Hand) : Type 0 wh
   pub stored : w'.recs ≡ slice_set w.recs (start plan task + h.done) (rec_word rec)
   pub busy : (word : ℕ) → rec.reply ≡ Busy word → SawSince h word
   pub interrupted : rec.reply ≡ Intr → WasInterrupted h
+  pub sent : rec.reply ≡ Sent → HasSent plan task h
   pub settled : OwesNoSignal g
   pub done : g.done ≡ h.done + 1
   pub last : g.last ≡ step
