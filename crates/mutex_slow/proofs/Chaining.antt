@@ -18,13 +18,18 @@ use Rattle.wait_list.specs.declared.view.Change.TheVariants.{Stay, Enter, Leave}
 use Rattle.wait_list.specs.Lists.{Allowed, MadeBy as MadeUnderLock, Part, changed, list_part}
 use Rattle.wait_list.proofs.Determining.{kept-same}
 use Rattle.mutex_slow.specs.declared.view.MutexHand.{MutexHand}
-use Rattle.mutex_slow.specs.Mutexes.{AnswersHandoff, HasHandoff, HasLock, IsFirstTask, IsOwnChange, Kept, LeavesToFirst, MutexKept, MutexMoves, PicksFirst, TookUp, V, entered, list_of, may_miss, owner_at, owner_in, standing}
-use Rattle.mutex_slow.specs.Stated.{Standing, line_marks, HasBecome, HasWaitLock, IsMutexStep, MadeBy, TakesUp}
-use Rattle.mutex_slow.proofs.Stating.{listed, standing_of}
+use Rattle.mutex_slow.specs.Mutexes.{AnswersHandoff, HasHandoff, HasLock, IsFirstTask, IsOwnChange, Kept, LeavesToFirst, MutexKept, MutexMoves, PicksFirst, TookUp, V, entered, list_of, may_miss, owner_at, owner_in, standing, standing_of, wake_words, Standing, WakesGo}
+use Rattle.mutex_slow.specs.Stated.{line_marks, HasBecome, HasWaitLock, IsMutexStep, MadeBy, TakesUp}
+use Rattle.mutex_slow.proofs.Stating.{listed}
 
 has-lock : (id : ℕ) (ws : List ℕ) (vs : List V) (v : V) (p : Part) → get_elem? vs id ≡ some v → get_elem? (map (list_part list_of) vs) id ≡ some p → holds_in p.0 ≡ 1 → HasWaitLock id (moment standing (instant ws vs))
 has-lock id ws vs v p at there holds = let same : p ≡ list_part list_of v = some-injective p (list_part list_of v) (sym there ∙ at_map (list_part list_of) vs id v at) in
     (v.spin, at_map spin_of vs id v at, sym (ap (λ (q : Part). holds_in q.0) same) ∙ holds)
+
+-- the marks of a pass say how it stands
+same-standing : (v : V) (s : Standing) → marks_of standing v ≡ line_marks s → standing_of v.ext ≡ s
+same-standing v s e = let at : (i : ℕ) → get_or (marks_of standing v).numbers i 0 ≡ get_or (line_marks s).numbers i 0 = λ i. ap (λ (m : Marks). get_or m.numbers i 0) e in
+    λ i. record { queued = at 0 i; appends = at 1 i; debt = at 2 i; chosen = at 3 i; awake = at 4 i; wakes = at 5 i; dozes = at 6 i }
 
 module _ (id : ℕ) (ws : List ℕ) (vs : List V) (v : V) (at : get_elem? vs id ≡ some v) where
   same-pass : (w : V) → get_elem? vs id ≡ some w → v ≡ w
@@ -53,7 +58,16 @@ mutex-step k id ws us vs vs' m one l l' old new = let v = m.site.before in recor
   freed = m.freed;
   names = λ alone free lock. subst (LeavesToFirst (owner_in us)) old (m.names alone free (had-lock lock));
   missed = λ more s there. uncounted-out v s (sym (at_map (marks_of standing) vs id v m.site.at) ∙ there) (m.missed more);
-  stands = λ s there. (standing_of m.site.after.ext, at_map (marks_of standing) vs' id m.site.after m.site.at', m.appends ∙ ap (λ (n : ℕ). n + entered m.list.change) (ap (λ (x : Marks). get_or x.numbers 1 0) (some-injective (marks_of standing v) (line_marks s) (sym (at_map (marks_of standing) vs id v m.site.at) ∙ there))));
+  stands = λ s there. let marks = some-injective (marks_of standing v) (line_marks s) (sym (at_map (marks_of standing) vs id v m.site.at) ∙ there) in let same = same-standing v s marks in (
+    standing_of m.site.after.ext,
+    at_map (marks_of standing) vs' id m.site.after m.site.at',
+    m.appends ∙ ap (λ (z : Standing). z.appends + entered m.list.change) same,
+    (
+      v.spin,
+      at_map spin_of vs id v m.site.at,
+      subst (λ (z : List Waiter × Standing). WakesGo (owner_in ws) z.0 m.list.change (wake_words ws) (wake_words us) (holds_in v.spin) v.hand m.site.after.hand z.1 (standing_of m.site.after.ext)) (λ i. (old i, same i)) m.wakes,
+    ),
+  );
 }
   where
     had-lock : HasWaitLock id (moment standing (instant us vs')) → HasLock m.site.after

@@ -27,7 +27,7 @@ use Rattle.mutex_word.specs.OwnLaws.{Named, no-codes, only-code, alone-code}
 use Rattle.wait_list.specs.declared.view.Waiter.{Waiter}
 use Rattle.wait_list.specs.Lists.{Part, PartOk, changes_of, counted, first_code, list_part}
 use Rattle.mutex_slow.specs.declared.view.MutexHand.{MutexHand}
-use Rattle.mutex_slow.specs.Mutexes.{V, Flagged, Kept, MutexKept, list_of, owner_in, point_of, queued_of, standing, debt_of, chosen_code, awake_bit, wake_words}
+use Rattle.mutex_slow.specs.Mutexes.{V, Flagged, Kept, MutexKept, list_of, owner_in, point_of, queued_of, standing, standing_of, debt_of, chosen_code, awake_bit, wake_words, Standing}
 use Rattle.mutex_slow.specs.CoupledLaws.{is-in, not-in, point-held}
 use Rattle.mutex_slow.specs.MutexLaws.{apart}
 use Rattle.word_bits.specs.declared.TheConstants.{MAX_TASKS}
@@ -37,7 +37,7 @@ use Rattle.wake_duty.specs.declared.view.Vigil.{Vigil}
 use Rattle.wake_duty.specs.declared.view.Vigil.TheVariants.{Absent, Awake, Tried}
 use Rattle.wake_duty.specs.Wakes.{WakePart, owed, chose, chose_any, awake, waits, keeps_awake, wake_word}
 use Rattle.mutex_slow.specs.DutyLaws.{wparted, first-small, some-of as any-of}
-use Rattle.mutex_slow.specs.Stated.{Standing, line_marks, waits_in, HasDuty, IsListed, IsMutexThen}
+use Rattle.mutex_slow.specs.Stated.{line_marks, waits_in, HasDuty, IsListed, IsMutexThen}
 
 -- who holds, by a word that picks nobody
 holder-of : (hs : List Hand) (word : ℕ) → OwnKept word hs → Named hs → word % 8 < 4 → (task : Option ℕ) × (word / 8 ≡ task_code task) × IsHolder hs task
@@ -60,10 +60,6 @@ view-of f (v ∷ vs) more = elim (native.Mathlib.Decide.dec_le (f v) 0) [
 eqb-eq : (m n : ℕ) → (m == n) ≡ true → m ≡ n
 eqb-eq m n e = elim (native.Mathlib.Decide.ℕ_discrete m n) [ yes same ↦ same | no other ↦ not-both (m == n) (Rattle.std.proofs.Common.ne_eqb m n other) e ]
 
--- how a pass with this part stands in line
-abbrev pub standing_of : MutexHand → Standing
-standing_of e = record { queued = bit e.queued; appends = e.appends; debt = debt_of e.wake.duty; chosen = chosen_code e.wake.duty; awake = awake_bit e.wake.vigil; wakes = e.wake.wakes; dozes = e.wake.dozes }
-
 -- what a weight that isn't 0 says
 owed-some : (d : Duty) (freed : ℕ) → 0 < owed d freed → (debt_of d ≡ 1) × (freed % 2 ≡ 1)
 owed-some NoDuty freed more = absurd (omega (arith, more))
@@ -78,12 +74,6 @@ chose-some t (Chosen u) more = false-or-true (u == t) (λ same. ap (λ (n : ℕ)
 number-is : (t : ℕ) (task : Option ℕ) → 0 < is_number t task → task ≡ Some t
 number-is t None more = absurd (omega (arith, more))
 number-is t (Some u) more = false-or-true (u == t) (λ same. ap Some (eqb-eq u t same)) (λ other. absurd (let b : bit (u == t) ≡ 0 = ap bit other in omega (arith, b, more)))
-
--- who has no wake to do
-pub owes-none : (d : Duty) (freed : ℕ) → owed d freed + chose_any d ≡ 0 → (chosen_code d ≡ 0) × (debt_of d ≡ 1 → freed % 2 ≡ 0)
-owes-none NoDuty freed e = (refl, λ z. absurd (omega (arith, z)))
-owes-none Owing freed e = (refl, λ _. omega (arith, e))
-owes-none (Chosen t) freed e = absurd (omega (arith, e))
 
 awake-some : (t : ℕ) (task : Option ℕ) (x : Vigil) → 0 < awake t task x → (task ≡ Some t) × (awake_bit x ≡ 1) × (waits x ≡ 1)
 awake-some t task Absent more = absurd (omega (arith, more))

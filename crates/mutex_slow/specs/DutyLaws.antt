@@ -75,7 +75,7 @@ choosing-owing zero code few = inl refl
 choosing-owing (suc z) code few = inr (omega (arith, few), refl)
 
 -- a debtor chooses, and nobody else
-choosing-or : (d : Duty) (freed code : ℕ) → (choosing d (freed % 2) code ≡ d) ⊎ ((owed d freed ≡ 1) × (choosing d (freed % 2) code ≡ duty_of code))
+pub choosing-or : (d : Duty) (freed code : ℕ) → (choosing d (freed % 2) code ≡ d) ⊎ ((owed d freed ≡ 1) × (choosing d (freed % 2) code ≡ duty_of code))
 choosing-or NoDuty freed code = inl refl
 choosing-or Owing freed code = choosing-owing (freed % 2) code (omega arith)
 choosing-or (Chosen t) freed code = inl refl

@@ -2,6 +2,7 @@
 use Rattle.std.specs.Prelude.{◌≡◌, ◌≢◌, ℕ, ◌+◌, ◌-◌, ◌*◌, ◌/◌, ◌%◌, ◌<◌, ◌≤◌, ◌==◌, ◌⊎◌, Bool, true, false, List, [], ◌∷◌, length, map, slice_index, ◌&&◌, Option, Some, None, if◌then◌else◌}
 use mathlib.Core.Option.{some}
 use lib.ListN.{get_elem?}
+use Rattle.word_bits.specs.declared.TheConstants.{MAX_TASKS}
 use Rattle.word_bits.specs.LockWords.{owned}
 use Rattle.word_bits.specs.Objects.{Obj}
 use Rattle.word_bits.specs.Histories.{Plan}
@@ -16,6 +17,7 @@ use Rattle.lock_core.specs.Moves.{SiteMove}
 use Rattle.lock_core.specs.SpinFrames.{when}
 use Rattle.lock_core.specs.Spins.{SpinKept, SpinMoves, holds_in}
 use Rattle.lock_core.specs.Records.{bit}
+use Rattle.lock_core.specs.Tallies.{raised}
 use Rattle.lock_core.specs.Totals.{total}
 use Rattle.lock_core.specs.Parts.{Each}
 use Rattle.mutex_word.specs.declared.host.Turn.{Turn}
@@ -33,7 +35,7 @@ use Rattle.wake_duty.specs.declared.view.Duty.TheVariants.{NoDuty, Owing, Chosen
 use Rattle.wake_duty.specs.declared.view.Vigil.{Vigil}
 use Rattle.wake_duty.specs.declared.view.Vigil.TheVariants.{Absent, Awake, Tried}
 use Rattle.wake_duty.specs.declared.view.WakeHand.{WakeHand}
-use Rattle.wake_duty.specs.Wakes.{WAKE_WORDS, WakeKept, wake_part, no_wake, waits, owed, chose_any, duty_of, failing, looking}
+use Rattle.wake_duty.specs.Wakes.{WAKE_WORDS, WakeKept, wake_part, wake_word, no_wake, waits, owed, chose_any, duty_of, failing, looking}
 use Rattle.mutex_slow.specs.declared.view.MutexHand.{MutexHand}
 use Rattle.mutex_slow.specs.declared.view.Point.{Point}
 use Rattle.mutex_slow.specs.declared.view.Point.TheVariants.{Rest, Joins, Empties}
@@ -62,15 +64,37 @@ awake_bit Absent = 0
 awake_bit Awake = 1
 awake_bit (Tried n) = 0
 
--- what a moment keeps of how a pass stands in line: whether its task is in the list, how often it has appended itself, what it owes, whether its task is awake in the list, and how many wake words it has set and how often it has fallen asleep
+-- how a pass stands in line: whether its task is in the list, and how often it has appended itself; whether it ended its hold by a release and hasn't looked for a first waiter since; the code of the task that it has chosen, whose wake word it hasn't set; whether its task waits and tries before it sleeps; how many wake words it has set; how often it has fallen asleep
+pub record Standing : Type 0 where
+  pub queued : ℕ
+  pub appends : ℕ
+  pub debt : ℕ
+  pub chosen : ℕ
+  pub awake : ℕ
+  pub wakes : ℕ
+  pub dozes : ℕ
+
+abbrev pub standing_of : MutexHand → Standing
+standing_of e = record { queued = bit e.queued; appends = e.appends; debt = debt_of e.wake.duty; chosen = chosen_code e.wake.duty; awake = awake_bit e.wake.vigil; wakes = e.wake.wakes; dozes = e.wake.dozes }
+
+-- what a moment keeps of a pass that stands so
+abbrev pub numbers_of : Standing → List ℕ
+numbers_of s = s.queued ∷ s.appends ∷ s.debt ∷ s.chosen ∷ s.awake ∷ s.wakes ∷ s.dozes ∷ []
+
 abbrev pub standing : MutexHand → List ℕ
-standing e = bit e.queued ∷ e.appends ∷ debt_of e.wake.duty ∷ chosen_code e.wake.duty ∷ awake_bit e.wake.vigil ∷ e.wake.wakes ∷ e.wake.dozes ∷ []
+standing e = numbers_of (standing_of e)
 
 -- how often a change appends the pass that makes it
 abbrev pub entered : Change → ℕ
 entered Stay = 0
 entered (Enter w) = 1
 entered (Leave t) = 0
+
+-- and how often it removes that pass
+abbrev pub left : Change → ℕ
+left Stay = 0
+left (Enter w) = 0
+left (Leave t) = 1
 
 abbrev pub list_of : MutexHand → ListHand
 list_of e = e.list
@@ -206,7 +230,41 @@ IsOwnChange id vs n Stay = Unit {0}
 IsOwnChange id vs n (Enter w) = (v : V) × (get_elem? vs id ≡ some v) × (v.hand.task ≡ Some w.task) × (v.hand.held ≡ No) × (w.writer ≡ true)
 IsOwnChange id vs n (Leave t) = (v : V) × (get_elem? vs id ≡ some v) × (v.hand.task ≡ Some t) × IsUnpicked n t
 
--- what a step may do: all that each step of a site, of a spin lock and of a list does; where it ends a hold while a handoff is asked for, it picks the first waiter; a word that picks a waiter is changed by that waiter alone, which takes; the first waiter alone asks for a handoff; the flag of the handoff stays until the holder names the first waiter or nobody waits; who ends a hold keeps the word that it left, which is the first waiter's where it has the wait lock; an append is counted by the pass that enters; and a failed try by one that stands outside the list
+-- what a step of a pass with this hand makes of a wake word: it stays; or it is set, and the pass had chosen its task; or it is 0, and it is the own task's, which waits without the wait lock and isn't to try
+abbrev pub WordGoes : (words words' : List ℕ) (locked : ℕ) (h : Hand) (s : Standing) (t : ℕ) → Type 0
+WordGoes words words' locked h s t = (wake_word words' t ≡ wake_word words t)
+    ⊎ ((wake_word words' t ≡ 1) × (s.chosen ≡ t + 1))
+    ⊎ ((wake_word words' t ≡ 0) × (h.task ≡ Some t) × (locked ≡ 0) × (s.queued ≡ 1) × (s.awake ≡ 0))
+
+-- with the wait lock a pass chooses the first waiter of this list, or nobody where nobody waits
+abbrev pub ChoosesFirst : (locked : ℕ) (l : List Waiter) (chosen : ℕ) → Type 0
+ChoosesFirst locked l chosen = (locked ≡ 1) × (chosen ≡ first_code l)
+
+-- the wake word of the task that it had chosen is set
+abbrev pub SetsChosen : (words' : List ℕ) (s s' : Standing) → Type 0
+SetsChosen words' s s' = (s'.chosen ≡ 0) × (s'.wakes ≡ raised true s.wakes) × ((t : ℕ) × (s.chosen ≡ t + 1) × (wake_word words' t ≡ 1))
+
+-- it falls asleep: its own wake word was 0, and it waits without the wait lock and isn't to try
+abbrev pub FallsAsleep : (words : List ℕ) (locked : ℕ) (h : Hand) (s s' : Standing) → Type 0
+FallsAsleep words locked h s s' = ((t : ℕ) × (h.task ≡ Some t) × (wake_word words t ≡ 0)) × (locked ≡ 0) × (s.queued ≡ 1) × (s.awake ≡ 0) × (s'.awake ≡ 0) × (s'.dozes ≡ raised true s.dozes)
+
+-- a try failed with the wait lock: the word names a task, and doesn't pick the own one
+abbrev pub FailsTry : (n locked : ℕ) → Hand → Type 0
+FailsTry n locked h = (locked ≡ 1) × (8 ≤ n) × ((t : ℕ) × (h.task ≡ Some t) × IsUnpicked n t)
+
+-- What a step of a pass does to the wake words, to what it owes and to how its task waits; `n` is the owner word, `l` the list and `c` its change, `locked` is 1 where the pass had the wait lock, `h` and `s` stand before the step. Nobody owes but by ending a hold. A debt with the flag of the waiters ends by a choice of the first waiter, and a choice by the store of its wake word. A task falls asleep only after it isn't to try any more, and so it is by a try that failed under the wait lock, or by leaving. It is to try again once it enters, or once it has made a step without the wait lock by which it didn't fall asleep.
+pub record WakesGo (n : ℕ) (l : List Waiter) (c : Change) (words words' : List ℕ) (locked : ℕ) (h h' : Hand) (s s' : Standing) : Type 0 where
+  pub words_go : (t : ℕ) → t < MAX_TASKS → WordGoes words words' locked h s t
+  pub owes : s.debt ≡ 0 → s'.debt ≡ 1 → (h.held ≡ Alone) × (h'.held ≡ No)
+  pub pays : s.debt ≡ 1 → h.freed % 2 ≡ 1 → (s'.debt ≡ 1) ⊎ ChoosesFirst locked l s'.chosen
+  pub chooses : s'.chosen ≢ s.chosen → s'.chosen ≢ 0 → ChoosesFirst locked l s'.chosen
+  pub sets : s'.chosen ≢ s.chosen → s.chosen ≢ 0 → SetsChosen words' s s'
+  pub wakes : s'.wakes ≢ s.wakes → SetsChosen words' s s'
+  pub dozes : s'.dozes ≢ s.dozes → FallsAsleep words locked h s s'
+  pub rouses : s.awake ≡ 0 → s'.awake ≡ 1 → (entered c ≡ 1) ⊎ ((locked ≡ 0) × (s'.dozes ≡ s.dozes))
+  pub tries : s.awake ≡ 1 → s'.awake ≡ 0 → (left c ≡ 1) ⊎ FailsTry n locked h
+
+-- what a step may do: all that each step of a site, of a spin lock and of a list does; where it ends a hold while a handoff is asked for, it picks the first waiter; a word that picks a waiter is changed by that waiter alone, which takes; the first waiter alone asks for a handoff; the flag of the handoff stays until the holder names the first waiter or nobody waits; who ends a hold keeps the word that it left, which is the first waiter's where it has the wait lock; an append is counted by the pass that enters; and a failed try by one that stands outside the list; and what `WakesGo` says of the wake words
 pub record MutexMoves (k : Plan) (id : ℕ) (ws : List ℕ) (vs : List V) (us : List ℕ) (vs' : List V) : Type 0 where
   pub site : SiteMove id (owner_in ws) (site k ws) vs (site k us) vs'
   pub spin : SpinMoves id (spin_words ws) (map spin_part vs) (spin_words us) (map spin_part vs')
@@ -220,6 +278,7 @@ pub record MutexMoves (k : Plan) (id : ℕ) (ws : List ℕ) (vs : List V) (us : 
   pub names : site.before.hand.held ≡ Alone → site.after.hand.held ≡ No → HasLock site.after → LeavesToFirst (owner_in us) list.list
   pub appends : site.after.ext.appends ≡ site.before.ext.appends + entered list.change
   pub missed : site.after.hand.misses ≢ site.before.hand.misses → site.before.ext.queued ≡ false
+  pub wakes : WakesGo (owner_in ws) list.list list.change (wake_words ws) (wake_words us) (holds_in site.before.spin) site.before.hand site.after.hand (standing_of site.before.ext) (standing_of site.after.ext)
 
 abbrev pub may_free : V → Type 0
 may_free v = (v.ext.point ≡ Rest) × (v.ext.list.changes ≡ false)
@@ -236,8 +295,8 @@ abbrev pub may_own : Turn → V → ℕ → ℕ → Type 0
 may_own Fail v n m = (m ≡ n) × (8 ≤ n) × (v.ext.point ≡ Rest) × ((t : ℕ) × (v.hand.task ≡ Some t) × IsUnpicked n t)
 may_own Take v n m = (v.hand.held ≡ No) × ((t : ℕ) × (v.hand.task ≡ Some t) × IsTake t n m) × OwesNoWake v
 may_own Ask v n m = (v.ext.first ≡ true) × (v.ext.point ≡ Rest) × IsAsk n m
-may_own Free v n m = (v.hand.held ≡ Alone) × SpinRests v.spin × (n % 8 < 2) × (m ≡ n % 8) × (v.ext.queued ≡ false)
-may_own HandOn v n m = (v.hand.held ≡ Alone) × (v.ext.queued ≡ false) × KnowsList v × (n % 8 < 4) × ((length v.ext.list.list ≡ 0 → m ≡ n % 2) × (0 < length v.ext.list.list → m ≡ 8 * first_code v.ext.list.list + 4 + n % 2))
+may_own Free v n m = (v.hand.held ≡ Alone) × SpinRests v.spin × (n % 8 < 2) × (m ≡ n % 8) × (v.ext.queued ≡ false) × OwesNoWake v
+may_own HandOn v n m = (v.hand.held ≡ Alone) × ((v.ext.queued ≡ false) × OwesNoWake v) × KnowsList v × (n % 8 < 4) × ((length v.ext.list.list ≡ 0 → m ≡ n % 2) × (0 < length v.ext.list.list → m ≡ 8 * first_code v.ext.list.list + 4 + n % 2))
 may_own Flag v n m = (v.ext.point ≡ Joins) × (n % 2 ≡ 0 → m ≡ n + 1)
 may_own Clear v n m = (v.ext.point ≡ Empties) × (m + n % 8 ≡ n)
 

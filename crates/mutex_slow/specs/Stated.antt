@@ -21,7 +21,7 @@ use Rattle.wait_list.specs.declared.view.Change.{Change}
 use Rattle.wait_list.specs.declared.view.Change.TheVariants.{Stay, Enter, Leave}
 use Rattle.wait_list.specs.Lists.{Allowed, IsList, Lists, changed, counted, first_code}
 use Rattle.wake_duty.specs.Wakes.{wake_word}
-use Rattle.mutex_slow.specs.Mutexes.{AnswersHandoff, Asks, HasHandoff, entered, IsFirstTask, IsUnpicked, Leaves, LeavesToFirst, PicksFirst, list_words, owner_at, owner_in, wake_words}
+use Rattle.mutex_slow.specs.Mutexes.{AnswersHandoff, Asks, HasHandoff, entered, IsFirstTask, IsUnpicked, Leaves, LeavesToFirst, Standing, WakesGo, numbers_of, PicksFirst, list_words, owner_at, owner_in, wake_words}
 
 -- Without the pickup flag the word names the task that holds, or nobody where nobody does. With it nobody holds, and the word names the first waiter. The flags of the handoff and of the pickup are never both set. While the wait lock is free, the flag of the waiters is set exactly where tasks wait, and the other two only there.
 pub record StatesOwner (word : ℕ) (free : Type 0) (l : List Waiter) (hs : List Hand) : Type 0 where
@@ -32,19 +32,9 @@ pub record StatesOwner (word : ℕ) (free : Type 0) (l : List Waiter) (hs : List
   pub waited : free → 0 < length l → word % 2 ≡ 1
   pub unwaited : free → length l ≡ 0 → word % 8 ≡ 0
 
--- how a pass stands in line: whether its task is in the list, and how often it has appended itself; whether it ended its hold by a release and hasn't looked for a first waiter since; the code of the task that it has chosen, whose wake word it hasn't set; whether its task waits and tries before it sleeps; how many wake words it has set; how often it has fallen asleep
-pub record Standing : Type 0 where
-  pub queued : ℕ
-  pub appends : ℕ
-  pub debt : ℕ
-  pub chosen : ℕ
-  pub awake : ℕ
-  pub wakes : ℕ
-  pub dozes : ℕ
-
 -- what a moment keeps of a pass that stands so
 abbrev pub line_marks : Standing → Marks
-line_marks s = record { numbers = s.queued ∷ s.appends ∷ s.debt ∷ s.chosen ∷ s.awake ∷ s.wakes ∷ s.dozes ∷ [] }
+line_marks s = record { numbers = numbers_of s }
 
 -- how often a pass with this number of a task waits in the list, and not at all without one
 abbrev pub waits_in : List Waiter → Option ℕ → ℕ
@@ -94,7 +84,7 @@ MadeBy (Leave t) id h m = HasWaitLock id m × (h.task ≡ Some t) × IsUnpicked 
 abbrev pub TakesUp : Hand → ℕ → ℕ → Type 0
 TakesUp h n n' = ((t : ℕ) × (h.task ≡ Some t) × (n / 8 ≡ t + 1)) × (n' + 4 ≡ n)
 
--- One step of one pass, made while this was the list: the list changes by one append or one removal, which keeps the others in order. A step that ends a hold while a handoff is asked for picks the first waiter. A word that picks a waiter is changed by that waiter alone, which takes. The first waiter alone asks for a handoff. The flag of the handoff stays until the holder names the first waiter, or nobody waits. Who ends a hold keeps the word that its step left; under the wait lock that word picks the first waiter, or names nobody where nobody waits. Each append is counted by the pass that enters, and a failed try by a pass that stands outside the list.
+-- One step of one pass, made while this was the list: the list changes by one append or one removal, which keeps the others in order. A step that ends a hold while a handoff is asked for picks the first waiter. A word that picks a waiter is changed by that waiter alone, which takes. The first waiter alone asks for a handoff. The flag of the handoff stays until the holder names the first waiter, or nobody waits. Who ends a hold keeps the word that its step left; under the wait lock that word picks the first waiter, or names nobody where nobody waits. Each append is counted by the pass that enters, and a failed try by a pass that stands outside the list. What the pass owes, how its task waits, and the wake words go as `WakesGo` says.
 pub record IsMutexStep (k : Plan) (x : Moment) (l : List Waiter) (y : Moment) (l' : List Waiter) : Type 0 where
   pub by : IsSiteStep k owner_at x y
   pub change : Change
@@ -108,6 +98,7 @@ pub record IsMutexStep (k : Plan) (x : Moment) (l : List Waiter) (y : Moment) (l
   pub freed : KeepsLeft by.before by.after (owner_in y.words)
   pub names : by.before.held ≡ Alone → by.after.held ≡ No → HasWaitLock by.id y → LeavesToFirst (owner_in y.words) l
   pub stands : (s : Standing) → StandsMarked by.id s x → (s' : Standing) × StandsMarked by.id s' y × (s'.appends ≡ s.appends + entered change)
+      × ((spin : SpinHand) × (get_elem? x.spins by.id ≡ some spin) × WakesGo (owner_in x.words) l change (wake_words x.words) (wake_words y.words) (holds_in spin) by.before by.after s s')
   pub missed : by.after.misses ≢ by.before.misses → (s : Standing) → StandsMarked by.id s x → s.queued ≡ 0
 
 -- the last of these moments, which stands first, has this list, and it has come to be by such steps from that of the first

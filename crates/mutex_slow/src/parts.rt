@@ -306,6 +306,7 @@ pub fn release<O: Object, W: Wait>(
     ensures some { result ≡ Released.Waiters → (hand_in pass.new).freed ≢ 0 }
     ensures ends { result ≢ Released.Asked → EndsUnasked (seen_of pass.old) (seen_of pass.new) }
     ensures asked { result ≡ Released.Asked → KeepsHand pass.old pass.new }
+    ensures clear { result ≡ Released.Asked → OwesNoWake (view_of pass.new) }
     ensures found { result ≡ Released.Asked →
         FindsAsked (view_of pass.new).steps (seen_of pass.old) (seen_of pass.new) }
 {
@@ -332,6 +333,7 @@ pub fn hand_over<O: Object, W: Wait>(
     requires quiet { (hand_in pass.old).writes ≡ false }
     requires locked { SpinHolds (view_of pass.old).spin }
     requires outside { IsOutside (view_of pass.old) }
+    requires clear { OwesNoWake (view_of pass.old) }
     ensures on { StepsOn site.now pass.old pass.new }
     ensures outside { IsOutside (view_of pass.new) }
     ensures same { StandsSame (view_of pass.old) (view_of pass.new) }

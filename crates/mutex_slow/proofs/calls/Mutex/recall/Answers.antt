@@ -13,11 +13,12 @@ use Rattle.osq_nodes.specs.Handles.{fronts_in}
 use Rattle.mutex_slow.specs.Places.{line_of}
 use Rattle.qspin_word.proofs.Turning.{numbers}
 use Rattle.qspin_queue.proofs.Recalling.{counts-spin, each-lock, each-move}
-use Rattle.mutex_slow.specs.Mutexes.{Kept, MutexMoves, OwesNoWake, V, owner_at, owner_in, standing, wait_lock_at}
+use Rattle.mutex_slow.specs.Mutexes.{Kept, MutexMoves, OwesNoWake, V, owner_at, owner_in, standing, standing_of, wait_lock_at}
 use Rattle.mutex_slow.specs.MutexLaws.{mutex-site, mutex-spin}
+use Rattle.mutex_slow.specs.StandingLaws.{owes-none}
 use Rattle.mutex_slow.specs.Handles.{newest}
 use Rattle.mutex_slow.specs.Stated.{IsMutexThen, waits_on}
-use Rattle.mutex_slow.proofs.Stating.{mutex-states, owes-none, standing_of}
+use Rattle.mutex_slow.proofs.Stating.{mutex-states}
 use Rattle.mutex_slow.proofs.Chaining.{becomes}
 use Rattle.mutex_slow.proofs.Locking.{each-moment, mutex-locked}
 use Rattle.mutex_slow.proofs.calls.Mutex.recall.Goals as goal

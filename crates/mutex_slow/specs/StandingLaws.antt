@@ -1,0 +1,199 @@
+-- What each kind of step does to the wake words, to what a pass owes and to how its task waits.
+use Rattle.std.proofs.Common.{◌≡◌, ◌≢◌, ℕ, zero, suc, ◌+◌, ◌*◌, ◌%◌, ◌<◌, ◌≤◌, ◌⊎◌, inl, inr, Bool, true, false, List, length, set, get_or, Option, Some, sym, refl, ap, ◌∙◌, subst, arith, ⊎_elim, get_or-set_same, get_or-set_other}
+use mathlib.Core.Logic.{dite}
+use native.Mathlib.Decide.{ℕ_discrete}
+use Rattle.word_bits.specs.declared.TheConstants.{MAX_TASKS}
+use Rattle.lock_core.specs.declared.view.Hand.{Hand}
+use Rattle.lock_core.specs.declared.view.Held.TheVariants.{No, Alone}
+use Rattle.lock_core.specs.Records.{bit}
+use Rattle.lock_core.specs.Spins.{holds_in}
+use Rattle.lock_core.specs.Tallies.{raised}
+use Rattle.lock_core.proofs.HandLaws.{false-or-true}
+use Rattle.wait_list.specs.declared.view.Waiter.{Waiter}
+use Rattle.wait_list.specs.declared.view.Change.{Change}
+use Rattle.wait_list.specs.declared.view.Change.TheVariants.{Stay}
+use Rattle.wait_list.specs.ListLaws.{holds-or-not}
+use Rattle.wait_list.specs.Lists.{first_code}
+use Rattle.wake_duty.specs.declared.view.Duty.{Duty}
+use Rattle.wake_duty.specs.declared.view.Duty.TheVariants.{NoDuty, Owing, Chosen}
+use Rattle.wake_duty.specs.declared.view.Vigil.{Vigil}
+use Rattle.wake_duty.specs.declared.view.Vigil.TheVariants.{Absent, Awake, Tried}
+use Rattle.wake_duty.specs.declared.view.WakeHand.{WakeHand}
+use Rattle.wake_duty.specs.Wakes.{WAKE_WORDS, wake_word, owed, chose_any, choosing, duty_of, foiled, roused, failing, looking, setting, drowsing}
+use Rattle.mutex_slow.specs.Mutexes.{V, HasLock, OwesNoWake, ChoosesFirst, FailsTry, FallsAsleep, IsUnpicked, SetsChosen, WakesGo, WordGoes, awake_bit, chosen_code, debt_of, entered, left, standing_of}
+use Rattle.mutex_slow.specs.DutyLaws.{choosing-or}
+
+-- what a step does by which this view becomes that one
+abbrev pub StandingGoes : ℕ → List Waiter → Change → List ℕ → List ℕ → V → V → Type 0
+StandingGoes n l c words words' v u = WakesGo n l c words words' (holds_in v.spin) v.hand u.hand (standing_of v.ext) (standing_of u.ext)
+
+-- who has no wake to do
+pub owes-none : (d : Duty) (freed : ℕ) → owed d freed + chose_any d ≡ 0 → (chosen_code d ≡ 0) × (debt_of d ≡ 1 → freed % 2 ≡ 0)
+owes-none NoDuty freed e = (refl, λ z. absurd (omega (arith, z)))
+owes-none Owing freed e = (refl, λ _. omega (arith, e))
+owes-none (Chosen t) freed e = absurd (omega (arith, e))
+
+-- who owes has chosen nobody
+owing-chosen : (d : Duty) (freed : ℕ) → owed d freed ≡ 1 → chosen_code d ≡ 0
+owing-chosen NoDuty freed e = refl
+owing-chosen Owing freed e = refl
+owing-chosen (Chosen t) freed e = absurd (omega (arith, e))
+
+-- whom a code makes it choose
+pub chosen-code : (code : ℕ) → chosen_code (duty_of code) ≡ code
+chosen-code zero = refl
+chosen-code (suc t) = omega arith
+
+pub chosen-debt : (code : ℕ) → debt_of (duty_of code) ≡ 0
+chosen-debt zero = refl
+chosen-debt (suc t) = refl
+
+foiled-bit : (x : Vigil) (e : ℕ) → awake_bit (foiled x e) ≡ 0
+foiled-bit Absent e = refl
+foiled-bit Awake e = refl
+foiled-bit (Tried m) e = refl
+
+roused-bit : (x : Vigil) → awake_bit x ≡ 1 → awake_bit (roused x) ≡ 1
+roused-bit Absent e = e
+roused-bit Awake e = refl
+roused-bit (Tried m) e = refl
+
+module _ (n : ℕ) (l : List Waiter) (c : Change) (words words' : List ℕ) (v u : V) where
+  abbrev Goes : Type 0
+  Goes = StandingGoes n l c words words' v u
+
+  abbrev w : WakeHand
+  w = v.ext.wake
+
+  -- all stays
+  pub goes-same : words' ≡ words → u.ext.wake ≡ w → Goes
+  goes-same same wake = let debt = ap (λ (z : WakeHand). debt_of z.duty) wake in let chosen = ap (λ (z : WakeHand). chosen_code z.duty) wake in let awake = ap (λ (z : WakeHand). awake_bit z.vigil) wake in record {
+    words_go = λ t few. inl (ap (λ (z : List ℕ). wake_word z t) same);
+    owes = λ e e'. absurd (omega (arith, debt, e, e'));
+    pays = λ e odd. inl (debt ∙ e);
+    chooses = λ other some. absurd (other chosen);
+    sets = λ other some. absurd (other chosen);
+    wakes = λ other. absurd (other (ap (λ (z : WakeHand). z.wakes) wake));
+    dozes = λ other. absurd (other (ap (λ (z : WakeHand). z.dozes) wake));
+    rouses = λ e e'. absurd (omega (arith, awake, e, e'));
+    tries = λ e e'. absurd (omega (arith, awake, e, e'));
+  }
+
+  -- how its task waits changes
+  pub goes-vigil : words' ≡ words → (x : Vigil) → u.ext.wake ≡ record w { vigil = x } → (awake_bit w.vigil ≡ 0 → awake_bit x ≡ 1 → (entered c ≡ 1) ⊎ (holds_in v.spin ≡ 0)) → (awake_bit w.vigil ≡ 1 → awake_bit x ≡ 0 → (left c ≡ 1) ⊎ FailsTry n (holds_in v.spin) v.hand) → Goes
+  goes-vigil same x wake rises falls = let debt = ap (λ (z : WakeHand). debt_of z.duty) wake in let chosen = ap (λ (z : WakeHand). chosen_code z.duty) wake in let awake = ap (λ (z : WakeHand). awake_bit z.vigil) wake in let dozed = ap (λ (z : WakeHand). z.dozes) wake in record {
+    words_go = λ t few. inl (ap (λ (z : List ℕ). wake_word z t) same);
+    owes = λ e e'. absurd (omega (arith, debt, e, e'));
+    pays = λ e odd. inl (debt ∙ e);
+    chooses = λ other some. absurd (other chosen);
+    sets = λ other some. absurd (other chosen);
+    wakes = λ other. absurd (other (ap (λ (z : WakeHand). z.wakes) wake));
+    dozes = λ other. absurd (other dozed);
+    rouses = λ e e'. ⊎_elim (λ (enters : entered c ≡ 1). inl enters) (λ (out : holds_in v.spin ≡ 0). inr (out, dozed)) (rises e (sym awake ∙ e'));
+    tries = λ e e'. falls e (sym awake ∙ e');
+  }
+
+  -- what it owes changes
+  goes-duty : words' ≡ words → (d : Duty) → u.ext.wake ≡ record w { duty = d } → (debt_of w.duty ≡ 0 → debt_of d ≡ 1 → (v.hand.held ≡ Alone) × (u.hand.held ≡ No)) → (debt_of w.duty ≡ 1 → v.hand.freed % 2 ≡ 1 → (debt_of d ≡ 1) ⊎ ChoosesFirst (holds_in v.spin) l (chosen_code d))
+      → chosen_code w.duty ≡ 0 → (chosen_code d ≢ 0 → ChoosesFirst (holds_in v.spin) l (chosen_code d)) → Goes
+  goes-duty same d wake ends pays none picks = let debt = ap (λ (z : WakeHand). debt_of z.duty) wake in let chosen : chosen_code u.ext.wake.duty ≡ chosen_code d = ap (λ (z : WakeHand). chosen_code z.duty) wake in let awake = ap (λ (z : WakeHand). awake_bit z.vigil) wake in record {
+    words_go = λ t few. inl (ap (λ (z : List ℕ). wake_word z t) same);
+    owes = λ e e'. ends e (sym debt ∙ e');
+    pays = λ e odd. ⊎_elim (λ (stays : debt_of d ≡ 1). inl (debt ∙ stays)) (λ (first : ChoosesFirst (holds_in v.spin) l (chosen_code d)). inr (first.0, chosen ∙ first.1)) (pays e odd);
+    chooses = λ other some. let first = picks (λ z. some (chosen ∙ z)) in (first.0, chosen ∙ first.1);
+    sets = λ other some. absurd (some none);
+    wakes = λ other. absurd (other (ap (λ (z : WakeHand). z.wakes) wake));
+    dozes = λ other. absurd (other (ap (λ (z : WakeHand). z.dozes) wake));
+    rouses = λ e e'. absurd (omega (arith, awake, e, e'));
+    tries = λ e e'. absurd (omega (arith, awake, e, e'));
+  }
+
+  -- so it does of a pass that had no wake to do
+  pub goes-clear : words' ≡ words → OwesNoWake v → (d : Duty) → u.ext.wake ≡ record w { duty = d } → (debt_of d ≡ 1 → (v.hand.held ≡ Alone) × (u.hand.held ≡ No)) → (chosen_code d ≢ 0 → ChoosesFirst (holds_in v.spin) l (chosen_code d)) → Goes
+  goes-clear same clear d wake ends picks = let none = owes-none w.duty v.hand.freed clear in goes-duty same d wake (λ _ e. ends e) (λ e odd. absurd (let even = none.1 e in omega (arith, even, odd))) none.0 picks
+
+  -- a debtor chooses the first waiter
+  pub goes-chooses : words' ≡ words → HasLock v → owed w.duty v.hand.freed ≡ 1 → u.ext.wake ≡ record w { duty = duty_of (first_code l) } → Goes
+  goes-chooses same has owes wake = goes-duty same (duty_of (first_code l)) wake (λ _ e. absurd (let none = chosen-debt (first_code l) in omega (arith, none, e))) (λ _ _. inr (has, chosen-code (first_code l))) (owing-chosen w.duty v.hand.freed owes) (λ _. (has, chosen-code (first_code l)))
+
+module _ (n : ℕ) (l : List Waiter) (words : List ℕ) (v u : V) where
+  -- a try fails
+  pub goes-fails : u.ext.wake ≡ failing (holds_in v.spin) v.spin.entries v.ext.wake → 8 ≤ n → (t : ℕ) → v.hand.task ≡ Some t → IsUnpicked n t → StandingGoes n l Stay words words v u
+  goes-fails wake big t mine unpicked = holds-or-not v.spin
+      (λ has. goes-vigil n l Stay words words v u refl (foiled v.ext.wake.vigil v.spin.entries) (wake ∙ ap (λ (z : ℕ). failing z v.spin.entries v.ext.wake) has)
+      (λ _ e. absurd (let none = foiled-bit v.ext.wake.vigil v.spin.entries in omega (arith, none, e))) (λ _ _. inr (has, big, (t, mine, unpicked))))
+      (λ out. goes-same n l Stay words words v u refl (wake ∙ ap (λ (z : ℕ). failing z v.spin.entries v.ext.wake) out))
+
+  -- a load of the head
+  pub goes-looks : (code : ℕ) → u.ext.wake ≡ looking (holds_in v.spin) v.ext.list.changes v.hand.freed code v.ext.wake → (HasLock v → v.ext.list.changes ≡ false → code ≡ first_code l) → StandingGoes n l Stay words words v u
+  goes-looks code wake is = holds-or-not v.spin
+      (λ has. false-or-true v.ext.list.changes
+      (λ changes. goes-same n l Stay words words v u refl (wake ∙ (λ i. looking (has i) (changes i) v.hand.freed code v.ext.wake)))
+      (λ still. ⊎_elim
+      (λ (same : choosing v.ext.wake.duty (v.hand.freed % 2) code ≡ v.ext.wake.duty). goes-same n l Stay words words v u refl (wake ∙ ((λ i. looking (has i) (still i) v.hand.freed code v.ext.wake) ∙ (λ i. record v.ext.wake { duty = same i }))))
+      (λ (owes : (owed v.ext.wake.duty v.hand.freed ≡ 1) × (choosing v.ext.wake.duty (v.hand.freed % 2) code ≡ duty_of code)). goes-chooses n l Stay words words v u refl has owes.0
+      (wake ∙ ((λ i. looking (has i) (still i) v.hand.freed code v.ext.wake) ∙ ((λ i. record v.ext.wake { duty = owes.1 i }) ∙ ap (λ (z : ℕ). record v.ext.wake { duty = duty_of z }) (is has still)))))
+      (choosing-or v.ext.wake.duty v.hand.freed code)))
+      (λ out. goes-vigil n l Stay words words v u refl (roused v.ext.wake.vigil) (wake ∙ ap (λ (z : ℕ). looking z v.ext.list.changes v.hand.freed code v.ext.wake) out)
+      (λ _ _. inr out) (λ e e'. absurd (let up = roused-bit v.ext.wake.vigil e in omega (arith, up, e'))))
+
+module _ (n : ℕ) (l : List Waiter) (words : List ℕ) (v u : V) (t m : ℕ) (few : t < MAX_TASKS) (wide : length words ≡ WAKE_WORDS) where
+  word-here : wake_word (set words (8 * t) m) t ≡ m
+  word-here = get_or-set_same words (8 * t) m 0 (omega (arith, wide, few))
+
+  word-else : (s : ℕ) → s ≢ t → wake_word (set words (8 * t) m) s ≡ wake_word words s
+  word-else s other = get_or-set_other words (8 * t) (8 * s) m 0 (λ e. other (omega (arith, e)))
+
+  -- a step on the wake word of this task leaves all others
+  one-word : (h : Hand) → WordGoes words (set words (8 * t) m) (holds_in v.spin) h (standing_of v.ext) t → (s : ℕ) → WordGoes words (set words (8 * t) m) (holds_in v.spin) h (standing_of v.ext) s
+  one-word h mine s = dite (ℕ_discrete s t) (λ same. subst (WordGoes words (set words (8 * t) m) (holds_in v.spin) h (standing_of v.ext)) (sym same) mine) (λ other. inl (word-else s other))
+
+  -- the task that was chosen is woken
+  pub goes-sets : m ≡ 1 → v.ext.wake.duty ≡ Chosen t → u.ext.wake ≡ setting v.ext.wake → StandingGoes n l Stay words (set words (8 * t) m) v u
+  goes-sets one duty wake = let debt : debt_of u.ext.wake.duty ≡ 0 = ap (λ (z : WakeHand). debt_of z.duty) wake in let was : debt_of v.ext.wake.duty ≡ 0 = ap debt_of duty in let none : chosen_code u.ext.wake.duty ≡ 0 = ap (λ (z : WakeHand). chosen_code z.duty) wake in
+      let chosen : chosen_code v.ext.wake.duty ≡ t + 1 = ap chosen_code duty in let awake : awake_bit u.ext.wake.vigil ≡ awake_bit v.ext.wake.vigil = ap (λ (z : WakeHand). awake_bit z.vigil) wake in
+      let done : SetsChosen (set words (8 * t) m) (standing_of v.ext) (standing_of u.ext) = (none, ap (λ (z : WakeHand). z.wakes) wake, (t, chosen, word-here ∙ one)) in record {
+        words_go = λ s small. one-word v.hand (inr (inl (word-here ∙ one, chosen))) s;
+        owes = λ e e'. absurd (omega (arith, debt, e'));
+        pays = λ e odd. absurd (omega (arith, was, e));
+        chooses = λ other some. absurd (some none);
+        sets = λ other some. done;
+        wakes = λ other. done;
+        dozes = λ other. absurd (other (ap (λ (z : WakeHand). z.dozes) wake));
+        rouses = λ e e'. absurd (omega (arith, awake, e, e'));
+        tries = λ e e'. absurd (omega (arith, awake, e, e'));
+      }
+
+  -- a waiter swaps its own wake word for 0
+  pub goes-drowses : m ≡ 0 → v.hand.task ≡ Some t → holds_in v.spin ≡ 0 → bit v.ext.queued ≡ 1 → (e : ℕ) × (v.ext.wake.vigil ≡ Tried e) → u.ext.wake ≡ drowsing (wake_word words t) v.ext.wake → StandingGoes n l Stay words (set words (8 * t) m) v u
+  goes-drowses none mine out queued tried wake = by-word (wake_word words t) refl wake
+    where
+      before : awake_bit v.ext.wake.vigil ≡ 0
+      before = ap awake_bit tried.1
+
+      words_go : (s : ℕ) → s < MAX_TASKS → WordGoes words (set words (8 * t) m) (holds_in v.spin) v.hand (standing_of v.ext) s
+      words_go s small = one-word v.hand (inr (inr (word-here ∙ none, mine, out, queued, before))) s
+
+      by-word : (old : ℕ) → wake_word words t ≡ old → u.ext.wake ≡ drowsing old v.ext.wake → StandingGoes n l Stay words (set words (8 * t) m) v u
+      by-word zero was is = let debt = ap (λ (z : WakeHand). debt_of z.duty) is in let chosen = ap (λ (z : WakeHand). chosen_code z.duty) is in let awake : awake_bit u.ext.wake.vigil ≡ awake_bit v.ext.wake.vigil = ap (λ (z : WakeHand). awake_bit z.vigil) is in record {
+        words_go = words_go;
+        owes = λ e e'. absurd (omega (arith, debt, e, e'));
+        pays = λ e odd. inl (debt ∙ e);
+        chooses = λ other some. absurd (other chosen);
+        sets = λ other some. absurd (other chosen);
+        wakes = λ other. absurd (other (ap (λ (z : WakeHand). z.wakes) is));
+        dozes = λ other. ((t, mine, was), out, queued, before, awake ∙ before, ap (λ (z : WakeHand). z.dozes) is);
+        rouses = λ e e'. absurd (omega (arith, awake, e, e'));
+        tries = λ e e'. absurd (omega (arith, before, e));
+      }
+      by-word (suc old) was is = let debt = ap (λ (z : WakeHand). debt_of z.duty) is in let chosen = ap (λ (z : WakeHand). chosen_code z.duty) is in let dozed : u.ext.wake.dozes ≡ v.ext.wake.dozes = ap (λ (z : WakeHand). z.dozes) is in record {
+        words_go = words_go;
+        owes = λ e e'. absurd (omega (arith, debt, e, e'));
+        pays = λ e odd. inl (debt ∙ e);
+        chooses = λ other some. absurd (other chosen);
+        sets = λ other some. absurd (other chosen);
+        wakes = λ other. absurd (other (ap (λ (z : WakeHand). z.wakes) is));
+        dozes = λ other. absurd (other dozed);
+        rouses = λ e e'. inr (out, dozed);
+        tries = λ e e'. absurd (omega (arith, before, e));
+      }
