@@ -1,5 +1,6 @@
 """Runs a program on scripts of three shapes, and prints the time, the memory and, where valgrind is
-there, the instructions that it takes. These don't vary from run to run.
+there, the instructions that it takes. With one task these don't vary from run to run. With more they
+go by which calls meet, so only a difference beyond that of several runs tells two programs apart.
 
 One task on one space, near 256 areas; 64 tasks on 8 spaces and 8 tables; and 64 tasks that map, unmap
 and touch the same 400 pages of one space. Of each shape scripts of several lengths are run, so that a
