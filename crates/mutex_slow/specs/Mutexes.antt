@@ -245,8 +245,8 @@ abbrev pub SetsChosen : (words' : List ℕ) (s s' : Standing) → Type 0
 SetsChosen words' s s' = (s'.chosen ≡ 0) × (s'.wakes ≡ raised true s.wakes) × ((t : ℕ) × (s.chosen ≡ t + 1) × (wake_word words' t ≡ 1))
 
 -- it falls asleep: its own wake word was 0, and it waits without the wait lock and isn't to try
-abbrev pub FallsAsleep : (words : List ℕ) (locked : ℕ) (h : Hand) (s s' : Standing) → Type 0
-FallsAsleep words locked h s s' = ((t : ℕ) × (h.task ≡ Some t) × (wake_word words t ≡ 0)) × (locked ≡ 0) × (s.queued ≡ 1) × (s.awake ≡ 0) × (s'.awake ≡ 0) × (s'.dozes ≡ raised true s.dozes)
+abbrev pub DozesOff : (words : List ℕ) (locked : ℕ) (h : Hand) (s s' : Standing) → Type 0
+DozesOff words locked h s s' = ((t : ℕ) × (h.task ≡ Some t) × (wake_word words t ≡ 0)) × (locked ≡ 0) × (s.queued ≡ 1) × (s.awake ≡ 0) × (s'.awake ≡ 0) × (s'.dozes ≡ raised true s.dozes)
 
 -- a try failed with the wait lock: the word names a task, and doesn't pick the own one
 abbrev pub FailsTry : (n locked : ℕ) → Hand → Type 0
@@ -260,7 +260,7 @@ pub record WakesGo (n : ℕ) (l : List Waiter) (c : Change) (words words' : List
   pub chooses : s'.chosen ≢ s.chosen → s'.chosen ≢ 0 → ChoosesFirst locked l s'.chosen
   pub sets : s'.chosen ≢ s.chosen → s.chosen ≢ 0 → SetsChosen words' s s'
   pub wakes : s'.wakes ≢ s.wakes → SetsChosen words' s s'
-  pub dozes : s'.dozes ≢ s.dozes → FallsAsleep words locked h s s'
+  pub dozes : s'.dozes ≢ s.dozes → DozesOff words locked h s s'
   pub rouses : s.awake ≡ 0 → s'.awake ≡ 1 → (entered c ≡ 1) ⊎ ((locked ≡ 0) × (s'.dozes ≡ s.dozes))
   pub tries : s.awake ≡ 1 → s'.awake ≡ 0 → (left c ≡ 1) ⊎ FailsTry n locked h
 

@@ -20,7 +20,7 @@ use Rattle.wake_duty.specs.declared.view.Vigil.{Vigil}
 use Rattle.wake_duty.specs.declared.view.Vigil.TheVariants.{Absent, Awake, Tried}
 use Rattle.wake_duty.specs.declared.view.WakeHand.{WakeHand}
 use Rattle.wake_duty.specs.Wakes.{WAKE_WORDS, wake_word, owed, chose_any, choosing, duty_of, foiled, roused, failing, looking, setting, drowsing}
-use Rattle.mutex_slow.specs.Mutexes.{V, HasLock, OwesNoWake, ChoosesFirst, FailsTry, FallsAsleep, IsUnpicked, SetsChosen, WakesGo, WordGoes, awake_bit, chosen_code, debt_of, entered, left, standing_of}
+use Rattle.mutex_slow.specs.Mutexes.{V, HasLock, OwesNoWake, ChoosesFirst, FailsTry, DozesOff, IsUnpicked, SetsChosen, WakesGo, WordGoes, awake_bit, chosen_code, debt_of, entered, left, standing_of}
 use Rattle.mutex_slow.specs.DutyLaws.{choosing-or}
 
 -- what a step does by which this view becomes that one

@@ -116,6 +116,10 @@ pub record IsOutOfList (v : Shown) : Type 0 where
   pub appends : stands.appends ≡ v.line.appends
   pub clear : OwesNone stands v.hand
 
+-- that moment marks the pass as having set so many wake words, and as having fallen asleep so often
+abbrev pub MarksCounts : (wakes dozes : ℕ) → Shown → Type 0
+MarksCounts wakes dozes v = (own : IsLatestStep v) × ((stands : Standing) × StandsMarked own.step.seat stands own.step.now × (stands.wakes ≡ wakes) × (stands.dozes ≡ dozes))
+
 abbrev pub task_of : Waiter → ℕ
 task_of w = w.task
 

@@ -17,7 +17,7 @@ ghost use Rattle.lock_core.specs.Handles as inner;
 ghost use Rattle.mutex_slow.specs.Mutexes.{owner_at, standing, wait_lock_at};
 ghost use Rattle.osq_unqueue.specs.Rising.{LeavesForCpu, Rises};
 ghost use Rattle.mutex_slow.specs.Places.{CountsBy, CountsInLine, Dozes, EndsHold, TakesOpen, WakesFirst};
-ghost use Rattle.mutex_slow.specs.Stated.{HasBecome, IsMutexThen, IsOutOfList, waits_on};
+ghost use Rattle.mutex_slow.specs.Stated.{HasBecome, IsMutexThen, IsOutOfList, MarksCounts, waits_on};
 ghost use Rattle.lock_core.specs.Locked.{IsLockedThen, IsSiteStep};
 ghost use Rattle.wait_list.specs.declared.view.Waiter.{Waiter as Waiters};
 
@@ -446,6 +446,7 @@ impl<O: Object> Mutex<O> {
             (IsLockedThen O.object mutex O.WORDS (plan_of self.now) owner_at waits_on)
             (shown_of pass.new).past }
         ensures out { IsOutOfList (shown_of pass.new) }
+        ensures counts { MarksCounts (wakes_in pass.new) (dozes_in pass.new) (shown_of pass.new) }
         ensures moves { Paced (IsSiteStep (plan_of self.now) owner_at) (shown_of pass.new).past }
         ensures lists { (l : List Waiters) ×
             HasBecome (plan_of self.now) (shown_of pass.new).past l }

@@ -49,6 +49,12 @@ returns-clause-out g c = let m = c.recall.ensures.marked in let u = c.recall.new
   clear = owes-none u.ext.wake.duty u.hand.freed (subst OwesNoWake (sym c.recall.ensures.kept) c.requires.own.clear);
 }
 
+pub returns-clause-counts : goal.returns-clause-counts
+returns-clause-counts g c = let m = c.recall.ensures.marked in let u = c.recall.new.pass.seat.me.0.view in (
+  record { step = step-by u u.hand.task c.recall.new.pass.seat.me.0.past refl m.own; hand = refl; spin = m.own.spin },
+  (standing_of u.ext, m.kept, ap (λ (v : V). v.ext.wake.wakes) c.recall.ensures.kept ∙ sym c.requires.own.woke, ap (λ (v : V). v.ext.wake.dozes) c.recall.ensures.kept ∙ sym c.requires.own.dozed),
+)
+
 pub returns-clause-lists : goal.returns-clause-lists
 returns-clause-lists g c = let k = c.args.self.now.site.table.shared.key in let o = g.O.Object.object in let n = g.O.Object.WORDS in let own = c.recall.ensures.last in
     becomes o n k (newest k) own.now own.before own.rest _ own.past_is c.recall.ensures.run
