@@ -1,5 +1,5 @@
 //! What no clause says: a signal that came before ends a wait for a mutex before the task sleeps,
-//! and the task leaves the list.
+//! and the task leaves the list. Who releases then sets no wake word.
 ghost use Rattle.std.specs.Prelude.{◌≡◌, None};
 ghost use Rattle.mutex_slow.specs.Handles.{hand_in};
 ghost use Rattle.mutex_slow.specs.Standing.{IsReady};
@@ -56,5 +56,8 @@ fn a_signal_that_came_before_ends_the_wait_without_a_sleep_and_nobody_waits_then
     );
     assert_eq!(rt; watch.sleeps.load(Ordering::SeqCst), 0);
     assert_eq!(rt; mutex.trylock_once(&mut other), Err(8));
+    mutex.unlock(&rt, &mut holder, &crew);
+    assert_eq!(rt; holder.wakes(), 0);
+    assert_eq!(rt; waiter.dozes(), 0);
     Ok(())
 }
