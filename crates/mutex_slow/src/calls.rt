@@ -400,7 +400,8 @@ impl<O: Object> Mutex<O> {
     }
 
     /// Ends the pass's hold. Where a handoff is asked for and tasks wait, the word then picks the
-    /// first of them. The kernel's `mutex_unlock`.
+    /// first of them. Where the word that is left says that tasks wait, it chooses the first one
+    /// under the wait lock, sets its wake word and wakes it. The kernel's `mutex_unlock`.
     pub fn unlock<W: Wait, C: Crew>(&self, rt: &W, pass: &mut MutexPass<O>, crew: &C)
         requires own { SitsAt self.now pass.old }
         requires held { (hand_in pass.old).held ≡ Alone }
@@ -422,16 +423,18 @@ impl<O: Object> Mutex<O> {
     }
 
     /// A load, after which the pass knows what was so of the table at each moment so far, from the
-    /// new table on: the facts of every site, which tasks wait, and that the owner word states who
-    /// holds, who is picked, and whether tasks wait; and what each step did to the list and to the
-    /// owner word: the list changes by one append or one removal; the first waiter alone asks for a
-    /// handoff, which stays asked for until the holder picks whoever is first then, or nobody
-    /// waits; a step that ends a hold meanwhile picks the first waiter, and a word that picks a
-    /// waiter is changed by that waiter's pass alone, which takes. At each moment at which nobody
-    /// held and tasks waited, somebody had the duty to wake the first of them, or its wake word was
-    /// set, or it was awake and tried before it slept. At each moment the words of the wait lock say
-    /// who has it, and each step is one of a spin lock's. The pass itself isn't in the list, and has
-    /// no wake to do.
+    /// new table on, and what each step did.
+    ///
+    /// - At each moment the facts of every site hold, and the owner word states who holds, who is
+    ///   picked, and whether tasks wait. If nobody holds and tasks wait, somebody has the duty to
+    ///   wake the first of them, or its wake word is set, or it is awake and tries before it
+    ///   sleeps. The words of the wait lock say who has it.
+    /// - At each step the list changes by one append or one removal, if at all. The first waiter
+    ///   alone asks for a handoff. That stays until the holder picks whoever is first then, or
+    ///   nobody waits; a step that ends a hold meanwhile picks the first waiter. A word that picks
+    ///   a waiter is changed by that waiter's pass alone, which takes. On the wait lock each step
+    ///   is one of a spin lock's.
+    /// - The pass itself isn't in the list, and has no wake to do.
     pub fn recall(&self, pass: &mut MutexPass<O>)
         requires own { SitsAt self.now pass.old }
         ensures own { SitsAt self.now pass.new }

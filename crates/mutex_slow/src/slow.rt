@@ -141,8 +141,8 @@ fn try_awake<O: Object, W: Wait, C: Cpu>(
     spin_listed(site, rt, pass, cpu)
 }
 
-/// Swaps the wake word of the pass's task for 0, and sleeps where that was 0. Then it counts one more
-/// in `dozes`.
+/// Swaps the wake word of the pass's task for 0, and sleeps where that was 0. Then it counts one
+/// more in `dozes`.
 fn doze<O: Object, W: Wait, C: Cpu>(
     site: &Site<MutexRule<O>>,
     rt: &W,
@@ -361,14 +361,14 @@ fn wake<O: Object, C: Crew>(
         return false;
     };
     // The word is set before the sleep is ended: a task that swaps its word between the two finds
-    // it set and doesn't sleep, and one that swapped it before is asleep and is woken.
+    // it set and doesn't sleep. The sleep of one that swapped it before is ended by the wake.
     parts::set(site, pass, target);
     rouse(pass, crew, target);
     true
 }
 
-/// Ends the pass's hold, and wakes the first waiter where there is one, which it answers. The
-/// kernel's `__mutex_unlock_slowpath`.
+/// Ends the pass's hold, wakes the first waiter where there is one, and answers whether there was.
+/// The kernel's `__mutex_unlock_slowpath`.
 pub fn unlock<O: Object, W: Wait, C: Crew>(
     site: &Site<MutexRule<O>>,
     rt: &W,

@@ -15,8 +15,8 @@ pub enum Vigil {
     Absent,
     /// It is in the list, and tries under the wait lock before it sleeps.
     Awake,
-    /// It is in the list, and a try of it failed under the wait lock, which it had taken for the
-    /// so manieth time. It may sleep or leave.
+    /// It is in the list, and a try of it failed under the wait lock. The number says how often it
+    /// had taken that lock then. It may sleep or leave.
     Tried(u64),
 }
 
