@@ -8,17 +8,6 @@ use crate::outbox::Outbox;
 use crate::verb::{Argument, Values, Verb};
 use word_bits::{CallWords, Mode};
 
-fn mode_word(mode: Mode) -> &'static [u8]
-    ensures text { result.now ≡ mode_text mode }
-    ensures short { length result.now ≤ 4 }
-{
-    match mode {
-        Mode::Plain => b"",
-        Mode::Int => b"int ",
-        Mode::Try => b"try ",
-    }
-}
-
 fn access_letter(access: u8) -> &'static [u8]
     ensures text { result.now ≡ access_text access }
     ensures short { length result.now ≡ 1 }
@@ -102,7 +91,11 @@ impl Outbox {
         ensures text { self.new ≡ self.old ++ mode_text mode }
         ensures short { length self.new ≤ length self.old + 4 }
     {
-        self.add(mode_word(mode));
+        match mode {
+            Mode::Plain => {}
+            Mode::Int => self.add(b"int "),
+            Mode::Try => self.add(b"try "),
+        }
     }
 
     /// Adds a call without its object: its mode, its verb and its arguments, at most 75 bytes. Of
