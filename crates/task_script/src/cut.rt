@@ -14,12 +14,6 @@ fn blank(byte: u8) -> bool
     byte == b' ' || byte == b'\t'
 }
 
-fn plain(byte: u8) -> bool
-    ensures { result ≡ is_plain byte }
-{
-    byte == b'\t' || (b' '..=b'~').contains(&byte)
-}
-
 fn place_of(bytes: &[u8], at: u8) -> Option<usize>
     ensures place { result ≡ position (λ b. b == at) bytes.now }
     ensures within { IfSome result (λ place. place < length bytes.now) }
@@ -72,11 +66,10 @@ fn plain_front(line: &[u8]) -> Option<&[u8]>
         (λ front. (front.now ≡ uncommented line.now) × (list_all is_plain front.now ≡ true)) }
 {
     for (place, byte) in line.iter().enumerate() {
-        if *byte == b'#' {
-            return Some(&line[..place]);
-        }
-        if !plain(*byte) {
-            return None;
+        match *byte {
+            b'#' => return Some(&line[..place]),
+            b' '..=b'~' | b'\t' => {}
+            _ => return None,
         }
     }
     Some(line)
