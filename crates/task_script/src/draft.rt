@@ -177,15 +177,16 @@ impl Draft {
         let Some(first) = words.next() else {
             return Ok(());
         };
-        match keyword_of(first) {
-            Some(Keyword::Version) => Err(Reason::Version.into()),
-            Some(Keyword::Space) => self.declare(Kind::Space, words),
-            Some(Keyword::Table) => self.declare(Kind::Table, words),
-            Some(Keyword::Task) => self.task(alloc, words),
-            Some(Keyword::Int) => self.call(Mode::Int, words.next(), words),
-            Some(Keyword::Try) => self.call(Mode::Try, words.next(), words),
-            None => self.call(Mode::Plain, Some(first), words),
-        }
+        let (mode, name) = match keyword_of(first) {
+            Some(Keyword::Version) => return Err(Reason::Version.into()),
+            Some(Keyword::Space) => return self.declare(Kind::Space, words),
+            Some(Keyword::Table) => return self.declare(Kind::Table, words),
+            Some(Keyword::Task) => return self.task(alloc, words),
+            Some(Keyword::Int) => (Mode::Int, words.next()),
+            Some(Keyword::Try) => (Mode::Try, words.next()),
+            None => (Mode::Plain, Some(first)),
+        };
+        self.call(mode, name, words)
     }
 
     /// Reads one more line.
