@@ -3,6 +3,7 @@ ghost use Rattle.std.specs.Prelude.{◌≡◌, ◌+◌, ◌*◌, ◌<◌, ◌≤
 ghost use Rattle.task_script.specs.Texts.{access_text, argument_text, arguments_text, bare_text};
 ghost use Rattle.task_script.specs.Texts.{call_text, declaration_text, letter, mode_text, named_text};
 ghost use Rattle.task_script.specs.Texts.{prot_text, verb_and_arguments};
+ghost use Rattle.task_script.specs.Verbs.{verb_text};
 
 use crate::outbox::Outbox;
 use crate::verb::{Argument, Values, Verb};
@@ -67,13 +68,36 @@ impl Outbox {
         }
     }
 
+    /// Adds the verb as it stands in a script.
+    fn add_verb_text(&mut self, verb: Verb)
+        requires { length self.old + 8 ≤ 4096 }
+        ensures text { self.new ≡ self.old ++ verb_text verb }
+        ensures short { length self.new ≤ length self.old + 8 }
+    {
+        match verb {
+            Verb::Map => self.add(b"map"),
+            Verb::MapAny => self.add(b"map any"),
+            Verb::MapNew => self.add(b"mapnew"),
+            Verb::Unmap => self.add(b"unmap"),
+            Verb::Protect => self.add(b"protect"),
+            Verb::Populate => self.add(b"populate"),
+            Verb::Fault => self.add(b"fault"),
+            Verb::Open => self.add(b"open"),
+            Verb::Close => self.add(b"close"),
+            Verb::Dup => self.add(b"dup"),
+            Verb::Dup2 => self.add(b"dup2"),
+            Verb::Get => self.add(b"get"),
+            Verb::Signal => self.add(b"signal"),
+        }
+    }
+
     fn add_verb(&mut self, verb: Option<Verb>, values: Values)
         requires { length self.old + 71 ≤ 4096 }
         ensures text { self.new ≡ self.old ++ bare_text values verb }
         ensures short { length self.new ≤ length self.old + 71 }
     {
         if let Some(verb) = verb {
-            self.add(verb.text());
+            self.add_verb_text(verb);
             self.add_arguments(verb.arguments(), values);
         }
     }

@@ -4,7 +4,7 @@ ghost use Rattle.task_script.specs.Tokens.{access, number, prot};
 ghost use Rattle.task_script.specs.Texts.{values_of, verb_of_kind};
 ghost use Rattle.task_script.specs.Verbs.{arguments_of, call_on, call_with, call_words_of, kind_of};
 ghost use Rattle.task_script.specs.Verbs.{counted_arguments, number_below, space_verb, table_verb};
-ghost use Rattle.task_script.specs.Verbs.{takes_mode, verb_of, verb_text, with_any, with_argument};
+ghost use Rattle.task_script.specs.Verbs.{takes_mode, verb_of, with_any, with_argument};
 
 use crate::cut::Words;
 use crate::reason::Reason;
@@ -220,28 +220,6 @@ impl Verb {
             12 => Some(Verb::Get),
             15 => Some(Verb::Signal),
             _ => None,
-        }
-    }
-
-    /// The verb as it stands in a script.
-    pub(crate) fn text(self) -> &'static [u8]
-        ensures text { result.now ≡ verb_text self }
-        ensures short { length result.now ≤ 8 }
-    {
-        match self {
-            Verb::Map => b"map",
-            Verb::MapAny => b"map any",
-            Verb::MapNew => b"mapnew",
-            Verb::Unmap => b"unmap",
-            Verb::Protect => b"protect",
-            Verb::Populate => b"populate",
-            Verb::Fault => b"fault",
-            Verb::Open => b"open",
-            Verb::Close => b"close",
-            Verb::Dup => b"dup",
-            Verb::Dup2 => b"dup2",
-            Verb::Get => b"get",
-            Verb::Signal => b"signal",
         }
     }
 
