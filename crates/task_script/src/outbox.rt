@@ -5,7 +5,6 @@ ghost use Rattle.task_script.specs.Rooms.{MakesRoom};
 
 use crate::sink::{Sink, put};
 use crate::source::Failed;
-use arrayvec::ArrayVec;
 use itoa::Buffer;
 use std::marker::Model;
 
@@ -15,17 +14,19 @@ const ROOM: usize = 256;
 /// Up to 4096 bytes that wait to be written. Contracts see the list of them.
 #[derive(Drop)]
 pub struct Outbox {
-    bytes: ArrayVec<u8, 4096>,
+    bytes: [u8; 4096],
+    /// How many of them wait.
+    count: usize,
 }
 
 impl Model for Outbox {
-    ghost use Rattle.std.specs.Prelude.{List, ℕ, ◌≤◌, length};
+    ghost use Rattle.std.specs.Prelude.{List, ℕ, ◌≤◌, ◌≡◌, length, take};
 
     ghost Value = { List ℕ };
 
-    ghost view = { λ o. o.bytes.items };
+    ghost view = { λ o. take o.count o.bytes };
 
-    ghost invariant = { λ o. length o.bytes.items ≤ 4096 };
+    ghost invariant = { λ o. (o.count ≤ 4096) × (length o.bytes ≡ 4096) };
 }
 
 impl Outbox {
@@ -34,7 +35,8 @@ impl Outbox {
         ensures { result ≡ [] }
     {
         Outbox {
-            bytes: ArrayVec::new(),
+            bytes: [0; 4096],
+            count: 0,
         }
     }
 
@@ -43,8 +45,9 @@ impl Outbox {
         requires { length self.old + length piece.now ≤ 4096 }
         ensures { self.new ≡ self.old ++ piece.now }
     {
-        let added = self.bytes.try_extend_from_slice(piece);
-        prove!(added.is_ok());
+        let end = self.count + piece.len();
+        self.bytes[self.count..end].copy_from_slice(piece);
+        self.count = end;
     }
 
     /// Adds a number in decimal digits, of which there are at most 20.
@@ -73,7 +76,7 @@ impl Outbox {
         ensures room { OnOk result (length self.new + 256 ≤ 4096) }
         ensures cause { CountsFailure (K.faults sink.old) (K.faults sink.new) result }
     {
-        if self.bytes.remaining_capacity() >= ROOM {
+        if self.bytes.len() - self.count >= ROOM {
             return Ok(());
         }
         self.flush(sink)
@@ -89,8 +92,8 @@ impl Outbox {
         ensures kept { OnErr result (self.new ≡ self.old) }
         ensures cause { CountsFailure (K.faults sink.old) (K.faults sink.new) result }
     {
-        put(sink, self.bytes.as_slice())?;
-        self.bytes.clear();
+        put(sink, &self.bytes[..self.count])?;
+        self.count = 0;
         Ok(())
     }
 }
