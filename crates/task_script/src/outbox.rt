@@ -56,9 +56,12 @@ impl Outbox {
         ensures text { self.new ≡ self.old ++ decimal number }
         ensures short { length self.new ≤ length self.old + 20 }
     {
-        // Most numbers have one digit, which needs no buffer.
+        // Most numbers have one digit or two, which need no buffer.
         if number < 10 {
             return self.add(&[b'0' + number as u8]);
+        }
+        if number < 100 {
+            return self.add(&[b'0' + (number / 10) as u8, b'0' + (number % 10) as u8]);
         }
         let mut digits = Buffer::new();
         self.add(digits.format(number).as_bytes());
