@@ -1,5 +1,5 @@
 -- Padded lines are read as their words.
-use Rattle.std.proofs.Common.{◌≡◌, ℕ, ◌+◌, ◌-◌, ◌<◌, ◌≤◌, zero, suc, Bool, true, false, not, ◌==◌, List, [], ◌∷◌, ◌++◌, filter, length, take, refl, sym, ap, ◌∙◌, subst, arith, append_assoc, append-nil, ◌⊎◌, inl, inr, Result, Ok, Err}
+use Rattle.std.proofs.Common.{◌≡◌, ℕ, ◌+◌, ◌-◌, ◌≤◌, zero, suc, true, not, ◌==◌, List, [], ◌∷◌, ◌++◌, filter, length, take, refl, sym, ap, ◌∙◌, arith, append_assoc, append-nil, ◌⊎◌, inl, inr, Result, Ok, Err}
 use Rattle.std.specs.List.{list_all, slice_split, position_or_len}
 use Rattle.std.proofs.lemmas.Bool.{and_parts}
 use Rattle.std.proofs.lemmas.Bool.Decides.{nat_tests}
@@ -9,7 +9,7 @@ use Rattle.task_script.specs.declared.reason.Reason.{Reason}
 use Rattle.task_script.specs.Cuts.{is_blank, is_empty, is_plain, lines, uncommented, without_return, words}
 use Rattle.task_script.specs.Scripts.{Listing, nothing}
 use Rattle.task_script.specs.Grammar.{Accepted, Refusal, said, line_after, text_after, then_lines, lines_after, script_of}
-use Rattle.task_script.specs.Padding.{is_visible, IsWord, IsCutOff, AreSpread, IsComment, IsPadded, ArePadded, worded, RefusedAt, outcome, PaddingIsPassedOver}
+use Rattle.task_script.specs.Padding.{IsWord, IsCutOff, AreSpread, IsComment, IsPadded, ArePadded, worded, RefusedAt, outcome, PaddingIsPassedOver}
 use Rattle.task_script.proofs.Cutting.{drops_return}
 use Rattle.task_script.proofs.Reading.{short_script}
 use Rattle.task_script.proofs.Splitting.{is_clean, clean-visible, clean-append, clean_comment, clean_plain, list_all-weaker, said-clean, slice_split-cut, uncommented-clean, words-visible}
