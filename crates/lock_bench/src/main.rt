@@ -8,6 +8,7 @@ mod crewed;
 mod exchange;
 mod front;
 mod locked_faults;
+mod nested;
 mod percpu;
 mod plan;
 mod seq_faults;
@@ -18,7 +19,7 @@ mod work;
 use crewed::{Crewed, Mixed, Read, Write};
 use exchange::Exchanges;
 use guarded::{Mutex, RwSem};
-use lock_core::{Bare, Nothing, Site};
+use lock_core::{Bare, Nest, Nothing, Site};
 use locked_faults::LockedFaults;
 use osq_nodes::Osq;
 use percpu::PercpuReaders;
@@ -39,6 +40,8 @@ use work::Guarding;
 enum Case {
     /// The queued spin lock.
     Spin,
+    /// Two queued spin locks of one table, one taken within the other.
+    Nested,
     /// The front of the optimistic spin queue.
     Front,
     /// The mutex, whose waiters sleep on parkers.
@@ -62,8 +65,9 @@ enum Case {
 }
 
 /// All cases.
-const CASES: [Case; 11] = [
+const CASES: [Case; 12] = [
     Case::Spin,
+    Case::Nested,
     Case::Front,
     Case::Mutex,
     Case::Work,
@@ -81,6 +85,7 @@ impl Case {
     fn name(self) -> &'static str {
         match self {
             Case::Spin => "spin",
+            Case::Nested => "nested",
             Case::Front => "front",
             Case::Mutex => "mutex",
             Case::Work => "work",
@@ -98,6 +103,7 @@ impl Case {
     fn named(word: &str) -> Option<Case> {
         match word {
             "spin" => Some(Case::Spin),
+            "nested" => Some(Case::Nested),
             "front" => Some(Case::Front),
             "mutex" => Some(Case::Mutex),
             "work" => Some(Case::Work),
@@ -125,6 +131,7 @@ fn measure<R: Threads + Wait + Sync + Clock>(
 {
     match case {
         Case::Spin => rounds::<Site<Bare>, R>(rt, alloc, threads, count),
+        Case::Nested => rounds::<Site<Nest>, R>(rt, alloc, threads, count),
         Case::Front => rounds::<Osq, R>(rt, alloc, threads, count),
         Case::Mutex => rounds::<Crewed<Mutex<Nothing>, Write>, R>(rt, alloc, threads, count),
         Case::Work => rounds::<Guarding<Mutex<Nothing>>, R>(rt, alloc, threads, count),
@@ -163,8 +170,8 @@ fn run<R: Threads + Wait + Sync + Clock>(rt: &HostRuntime, crew: &R) -> io::Resu
     }
     let Some((case, threads, rounds)) = asked(words.as_slice()) else {
         println!(rt;
-            "usage: lock_bench [CASE THREADS ROUNDS], the case one of spin, front, mutex, work, read, \
-             write, mixed, percpu, fault, seq_fault, exchange"
+            "usage: lock_bench [CASE THREADS ROUNDS], the case one of spin, nested, front, mutex, \
+             work, read, write, mixed, percpu, fault, seq_fault, exchange"
         )?;
         return Ok(ExitCode::from(2));
     };

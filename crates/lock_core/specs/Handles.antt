@@ -1,5 +1,5 @@
 -- What a clause reads of a site and of a pass.
-use Rattle.std.specs.Prelude.{◌≡◌, ℕ, ◌+◌, ◌<◌, ◌≤◌, List, Option, Some, slice_index, slice_set}
+use Rattle.std.specs.Prelude.{◌≡◌, ℕ, ◌+◌, ◌<◌, ◌≤◌, Bool, List, Option, Some, slice_index, slice_set}
 use mathlib.Core.Option.{none, some}
 use lib.ListN.{get_elem?}
 use Rattle.atomic_table.specs.Table.{Step, step}
@@ -27,6 +27,9 @@ use Rattle.lock_core.specs.Plays.{Sat}
 use Rattle.lock_core.specs.Passes.{Sits, IsChange, IsReading, IsSeenReading, IsSignal, MayNote, MayRecord, HearsOfNone, Numbered}
 use Rattle.lock_core.specs.Views.{next_entry}
 use Rattle.lock_core.specs.Layout.{lay}
+use Rattle.lock_core.specs.declared.pass.Nesting.{Nesting}
+use Rattle.lock_core.specs.Nestings.{Tells, SameFlags, SameFlagsBeside, notes_held, notes_wait, no_nesting}
+use Rattle.lock_core.specs.LockHands.{depth_of}
 
 module _ {R O E C : Type 0} where
   -- the calls that the site's tasks make
@@ -65,9 +68,9 @@ module _ {R O E C : Type 0} where
   abbrev pub IsLatest : Pass R O E C → Type 0
   IsLatest pass = IsOwnStep (view_of pass) (past_of pass)
 
-  -- beside that, with the same slots in hand, its past goes on, up to its own last step
+  -- beside that, with the same slots in hand, its past goes on, up to its own last step, and it notes the same of the spin locks
   abbrev pub KeepsSeat : Pass R O E C → Pass R O E C → Type 0
-  KeepsSeat old new = (new.seat.table_id ≡ old.seat.table_id) × (new.seat.id ≡ old.seat.id) × (new.seat.me.1 ≡ old.seat.me.1) × GoesOn (past_of old) (past_of new) × IsLatest new
+  KeepsSeat old new = (new.seat.table_id ≡ old.seat.table_id) × (new.seat.id ≡ old.seat.id) × (new.seat.me.1 ≡ old.seat.me.1) × GoesOn (past_of old) (past_of new) × IsLatest new × (new.nest ≡ old.nest)
 
   -- what the pass says of itself
   abbrev pub task_in : Pass R O E C → Option ℕ
@@ -90,11 +93,51 @@ module _ {R O E C : Type 0} where
   pub record NotesHold (how : Held) (old new : Pass R O E C) : Type 0 where
     pub seat : new.seat ≡ old.seat
     pub face : new.face ≡ record old.face { held = how }
+    pub nest : new.nest ≡ old.nest
 
   -- it says that it has seen so many entries, and all else is as it was
   pub record NotesFront (front : ℕ) (old new : Pass R O E C) : Type 0 where
     pub seat : new.seat ≡ old.seat
     pub face : new.face ≡ record old.face { front = front }
+    pub nest : new.nest ≡ old.nest
+
+  -- what it notes of itself at the spin locks
+  abbrev pub nest_in : Pass R O E C → Nesting
+  nest_in pass = pass.nest
+
+  -- it notes as many nodes as it uses
+  abbrev pub IsDepthTold : Pass R O E C → Type 0
+  IsDepthTold pass = pass.nest.depth ≡ depth_of (view_of pass).spin
+
+  -- it notes of each spin lock whether it holds it and whether it waits for it, and how many nodes it uses
+  abbrev pub IsNestTold : Pass R O E C → Type 0
+  IsNestTold pass = Tells pass.nest (view_of pass).spin
+
+  -- it notes the same
+  abbrev pub KeepsNest : Pass R O E C → Pass R O E C → Type 0
+  KeepsNest old new = new.nest ≡ old.nest
+
+  -- it notes so many nodes, and all else is as it was
+  pub record NotesDepth (depth : ℕ) (old new : Pass R O E C) : Type 0 where
+    pub seat : new.seat ≡ old.seat
+    pub face : new.face ≡ old.face
+    pub depth_noted : new.nest.depth ≡ depth
+    pub flags : SameFlags old.nest new.nest
+
+  -- it notes so of this lock, and all else is as it was
+  pub record NotesLock (l : ℕ) (holds waits : Bool) (old new : Pass R O E C) : Type 0 where
+    pub seat : new.seat ≡ old.seat
+    pub face : new.face ≡ old.face
+    pub depth : new.nest.depth ≡ old.nest.depth
+    pub held : notes_held l new.nest ≡ holds
+    pub waited : notes_wait l new.nest ≡ waits
+    pub flags : SameFlagsBeside l old.nest new.nest
+
+  -- it notes that it is at no lock, and all else is as it was
+  pub record NotesNone (old new : Pass R O E C) : Type 0 where
+    pub seat : new.seat ≡ old.seat
+    pub face : new.face ≡ old.face
+    pub noted : new.nest ≡ no_nesting
 
   -- its past goes on
   abbrev pub KeepsPast : Pass R O E C → Pass R O E C → Type 0

@@ -7,6 +7,7 @@ pub mod Totals
 pub mod Parts
 pub mod Views
 pub mod SpinFrames
+pub mod LockHands
 pub mod SpinQueues
 pub mod Holding
 pub mod Sites
@@ -21,6 +22,8 @@ pub mod Passes
 pub mod Chronicles
 pub mod Nothings
 pub mod Barely
+pub mod Nested
+pub mod Nestings
 pub mod Stated
 pub mod SpinStated
 pub mod Kinds

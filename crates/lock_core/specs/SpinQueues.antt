@@ -11,7 +11,7 @@ use Rattle.lock_core.specs.SpinFrames.{Counts, counts, code_is, stands_as, uses_
 
 -- what a node's code counts for in the word
 abbrev pub tail_unit : ℕ
-tail_unit = 2048
+tail_unit = 512
 
 -- the last of a queue, whose front stands first
 abbrev pub tail_of : List ℕ → ℕ

@@ -1,5 +1,5 @@
 -- What a spin lock's words state of the passes at each moment, and what each step does.
-use Rattle.std.specs.Prelude.{◌≡◌, ◌≢◌, ℕ, true, Some, suc, ◌+◌, ◌*◌, ◌==◌, ◌≤◌, ◌⊎◌, List, [], ◌∷◌, map, reverse, slice_index}
+use Rattle.std.specs.Prelude.{◌≡◌, ◌≢◌, ℕ, suc, ◌+◌, ◌*◌, ◌==◌, ◌<◌, ◌≤◌, ◌⊎◌, List, [], ◌∷◌, map, reverse, true, Some}
 use mathlib.Core.Option.{some}
 use lib.ListN.{get_elem?}
 use Rattle.word_bits.specs.declared.spin.Spin.{Spin}
@@ -15,7 +15,8 @@ use Rattle.lock_core.specs.Totals.{total}
 use Rattle.lock_core.specs.SpinFrames.{when, code_is, stands, uses, stands_as, owns_at, holds_of, takes_of, ready_of, pends_of, undoes_of}
 use Rattle.lock_core.specs.SpinQueues.{tail_unit}
 use Rattle.lock_core.specs.Views.{SpinPart, spin_part}
-use Rattle.lock_core.specs.Spins.{byte_in, pending_in, tail_in, next_in, locked_in, frame_of, TakesFrom, ComesTo, LeavesBy, SpinGoes, SpinLeaves, SpinStep}
+use Rattle.lock_core.specs.LockHands.{frame_at, point_at, depth_of, RestsAt}
+use Rattle.lock_core.specs.Spins.{byte_in, pending_in, tail_in, word_in, next_in, locked_in, frame_on, node_code, OwnNodes, TakesFrom, ComesTo, LeavesBy, SpinGoes, SpinLeaves, SpinStep}
 use Rattle.lock_core.specs.Pasts.{Instant}
 
 -- it owns the pending bit
@@ -56,12 +57,9 @@ pub record IsSpinLock (word : ℕ) (next locked : ℕ → ℕ) (queue : List ℕ
   -- a front that has seen the byte and the bit 0 has no other before it: nobody holds, and nobody owns the bit to take the lock
   pub ready : 1 ≤ total ready_of fs → (total ready_of fs ≡ 1) × (total holds_of fs ≡ 0) × (total pends_of fs + total takes_of fs ≡ 0)
 
--- the spin words say so of these passes
-abbrev pub SpinWordsSay : List ℕ → List ℕ → List Frame → Type 0
-SpinWordsSay w queue fs = IsSpinLock (slice_index w 0) (next_in w) (locked_in w) queue fs
-
-abbrev pub frame_in : SpinHand → Frame
-frame_in s = s.frame
+-- the words of the lock of this number say so of these passes
+abbrev pub SpinWordsSay : ℕ → List ℕ → List ℕ → List Frame → Type 0
+SpinWordsSay l w queue fs = IsSpinLock (word_in w l) (next_in w) (locked_in w) queue fs
 
 -- the word of a spin lock
 pub record IsSpinWord (word : ℕ) : Type 0 where
@@ -69,40 +67,57 @@ pub record IsSpinWord (word : ℕ) : Type 0 where
   pub ranged : IsSpin spin
   pub is : spin_word spin ≡ word
 
--- the node that a pass uses is that of its task
-abbrev pub UsesOwnNode : Hand → SpinHand → Type 0
-UsesOwnNode h s = uses s.frame.point ≡ true → (t : ℕ) × (h.task ≡ Some t) × (s.frame.code ≡ t + 1)
+-- the nodes that a pass uses are those of its task, with numbers below the pass's depth, each at one lock
+abbrev pub UsesOwnNodes : Hand → SpinHand → Type 0
+UsesOwnNodes h s = OwnNodes (record { task = h.task; spin = s })
 
--- so it was at this moment, in a table whose first spin word stands at this place
-pub record IsSpinLockThen (first : ℕ) (m : Moment) : Type 0 where
-  pub queue : List ℕ
-  pub says : SpinWordsSay (part first SPIN_WORDS m.words) queue (map frame_in m.spins)
-  pub packed : IsSpinWord (slice_index (part first SPIN_WORDS m.words) 0)
-  pub nodes : (j : ℕ) (h : Hand) (s : SpinHand) → get_elem? m.hands j ≡ some h → get_elem? m.spins j ≡ some s → UsesOwnNode h s
+-- it uses the node of its task of each number below its depth
+abbrev pub UsesEachBelow : Hand → SpinHand → Type 0
+UsesEachBelow h s = (i : ℕ) → i < depth_of s → (t : ℕ) × (l : ℕ) × (h.task ≡ Some t) × (uses (point_at l s) ≡ true) × ((frame_at l s).code ≡ node_code t i)
 
--- What one step of the pass of this number does
-pub record IsSpinStep (id : ℕ) (w : List ℕ) (ps : List SpinPart) (w' : List ℕ) (ps' : List SpinPart) : Type 0 where
-  pub queue : List ℕ
-  pub queue' : List ℕ
-  pub before : SpinWordsSay w queue (map frame_of ps)
-  pub after : SpinWordsSay w' queue' (map frame_of ps')
-  -- it leaves the spin words and the queue, and where each pass is with the lock; or it is one of a pass at the lock, which leaves all others where they are
-  pub step : SpinLeaves w ps queue w' ps' queue' ⊎ SpinStep id w ps queue w' ps' queue'
+-- so it was at this moment, in a table of so many spin locks whose first word stands at this place
+pub record AreSpinLocksThen (n first : ℕ) (m : Moment) : Type 0 where
+  pub queues : ℕ → List ℕ
+  pub says : (l : ℕ) → l < n → SpinWordsSay l (part first SPIN_WORDS m.words) (queues l) (map (frame_at l) m.spins)
+  pub packed : (l : ℕ) → l < n → IsSpinWord (word_in (part first SPIN_WORDS m.words) l)
+  pub nodes : (j : ℕ) (h : Hand) (s : SpinHand) → get_elem? m.hands j ≡ some h → get_elem? m.spins j ≡ some s → UsesOwnNodes h s
+  pub filled : (j : ℕ) (h : Hand) (s : SpinHand) → get_elem? m.hands j ≡ some h → get_elem? m.spins j ≡ some s → UsesEachBelow h s
+  -- no pass has to do with a lock past these
+  pub few : (j : ℕ) (s : SpinHand) → get_elem? m.spins j ≡ some s → (l : ℕ) → n ≤ l → RestsAt l s
+  -- no node stands in two queues
+  pub apart : (l k c p q : ℕ) → l < n → k < n → get_elem? (queues l) p ≡ some c → get_elem? (queues k) q ≡ some c → l ≡ k
+
+-- of one
+abbrev pub IsSpinLockThen : ℕ → Moment → Type 0
+IsSpinLockThen first m = AreSpinLocksThen 1 first m
+
+-- What one step of the pass of this number does to so many spin locks
+pub record IsSpinStep (n id : ℕ) (w : List ℕ) (ps : List SpinPart) (w' : List ℕ) (ps' : List SpinPart) : Type 0 where
+  pub queues : ℕ → List ℕ
+  pub queues' : ℕ → List ℕ
+  pub before : (l : ℕ) → l < n → SpinWordsSay l w (queues l) (map (frame_on l) ps)
+  pub after : (l : ℕ) → l < n → SpinWordsSay l w' (queues' l) (map (frame_on l) ps')
+  -- it leaves the spin words and the queues, and where each pass is with the locks; or it is one of a pass at one of the locks, which leaves all others, and all other passes, where they are
+  pub step : SpinLeaves w ps queues w' ps' queues' ⊎ ((l : ℕ) × (l < n) × SpinStep l id w ps queues w' ps' queues')
   -- the locked byte is set by an exchange from 0, by the owner of the pending bit while the byte is 0 or by a ready front, and cleared by the holder
-  pub takes : byte_in (slice_index w 0) ≡ 0 → byte_in (slice_index w' 0) ≡ 1 → (p : SpinPart) × (get_elem? ps id ≡ some p) × TakesFrom p.spin.frame.point (slice_index w 0)
-  pub frees : byte_in (slice_index w 0) ≡ 1 → byte_in (slice_index w' 0) ≡ 0 → (p : SpinPart) × (get_elem? ps id ≡ some p) × (holds_of (frame_of p) ≡ 1)
+  pub takes : (l : ℕ) → l < n → byte_in (word_in w l) ≡ 0 → byte_in (word_in w' l) ≡ 1 → (p : SpinPart) × (get_elem? ps id ≡ some p) × TakesFrom (point_at l p.spin) (word_in w l)
+  pub frees : (l : ℕ) → l < n → byte_in (word_in w l) ≡ 1 → byte_in (word_in w' l) ≡ 0 → (p : SpinPart) × (get_elem? ps id ≡ some p) × (holds_of (frame_on l p) ≡ 1)
   -- the pending bit is set by a pass that then owns it, and cleared by its owner
-  pub sets : pending_in (slice_index w 0) ≡ 0 → pending_in (slice_index w' 0) ≡ 1 → (p : SpinPart) × (get_elem? ps' id ≡ some p) × (owns_of (frame_of p) ≡ 1)
-  pub clears : pending_in (slice_index w 0) ≡ 1 → pending_in (slice_index w' 0) ≡ 0 → (p : SpinPart) × (get_elem? ps id ≡ some p) × (owns_of (frame_of p) ≡ 1)
+  pub sets : (l : ℕ) → l < n → pending_in (word_in w l) ≡ 0 → pending_in (word_in w' l) ≡ 1 → (p : SpinPart) × (get_elem? ps' id ≡ some p) × (owns_of (frame_on l p) ≡ 1)
+  pub clears : (l : ℕ) → l < n → pending_in (word_in w l) ≡ 1 → pending_in (word_in w' l) ≡ 0 → (p : SpinPart) × (get_elem? ps id ≡ some p) × (owns_of (frame_on l p) ≡ 1)
   -- each pass comes to own the bit as a taker if it saw neither tail nor bit, or to undo it if it saw a tail, and from the one to the other by no step; and to be a ready front if it saw the byte and the bit 0
-  pub comes : (j : ℕ) (p p' : SpinPart) → get_elem? ps j ≡ some p → get_elem? ps' j ≡ some p' → ComesTo p.spin.frame.point p'.spin.frame.point (slice_index w 0)
+  pub comes : (l : ℕ) → l < n → (j : ℕ) (p p' : SpinPart) → get_elem? ps j ≡ some p → get_elem? ps' j ≡ some p' → ComesTo (point_at l p.spin) (point_at l p'.spin) (word_in w l)
   -- and its node leaves the queue by the exchange of the word for 1, or by the store that tells the node behind it that it is the front
-  pub leaves : (j : ℕ) (p p' : SpinPart) → get_elem? ps j ≡ some p → get_elem? ps' j ≡ some p' → LeavesBy (stands p.spin.frame.point) (stands p'.spin.frame.point) w queue' w'
+  pub leaves : (l : ℕ) → l < n → (j : ℕ) (p p' : SpinPart) → get_elem? ps j ≡ some p → get_elem? ps' j ≡ some p' → LeavesBy l (stands (point_at l p.spin)) (stands (point_at l p'.spin)) w (queues' l) w'
 
--- what the pass of this number counts of the lock, it counted at this step, by where it was and came to
+-- what the pass of this number counts of a lock, it counted at this step, by where it was and came to
 abbrev pub CountsSpin : {E : Type 0} → ℕ → List (View E) → List (View E) → Type 0
-CountsSpin {E} id vs us = (v u : View E) × (get_elem? vs id ≡ some v) × (get_elem? us id ≡ some u) × SpinGoes (v.steps + 1) v.spin u.spin
+CountsSpin {E} id vs us = (v u : View E) × (get_elem? vs id ≡ some v) × (get_elem? us id ≡ some u) × ((l : ℕ) × SpinGoes (v.steps + 1) l v.spin u.spin)
 
 -- one of the table's moments came of the other by such a step, which its pass counted
+abbrev pub IsSpinLocksMove : {E : Type 0} → ℕ → ℕ → Instant E → Instant E → Type 0
+IsSpinLocksMove n first x y = (id : ℕ) × IsSpinStep n id (part first SPIN_WORDS x.words) (map spin_part x.views) (part first SPIN_WORDS y.words) (map spin_part y.views) × CountsSpin id x.views y.views
+
+-- of one
 abbrev pub IsSpinMove : {E : Type 0} → ℕ → Instant E → Instant E → Type 0
-IsSpinMove first x y = (id : ℕ) × IsSpinStep id (part first SPIN_WORDS x.words) (map spin_part x.views) (part first SPIN_WORDS y.words) (map spin_part y.views) × CountsSpin id x.views y.views
+IsSpinMove first x y = IsSpinLocksMove 1 first x y

@@ -47,7 +47,7 @@ abbrev pub no_frame : Frame
 no_frame = record { point = Out; code = 0; found = 0; next = 0 }
 
 abbrev pub no_spin : SpinHand
-no_spin = record { frame = no_frame; saw = None; entries = 0; took = 0; from = Out }
+no_spin = record { frame = no_frame; saw = None; entries = 0; took = 0; from = Out; nest = [] }
 
 -- it has nothing to do with the spin lock
 abbrev pub SpinRests : SpinHand → Type 0

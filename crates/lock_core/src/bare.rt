@@ -2,7 +2,7 @@
 ghost use Rattle.std.specs.Prelude.{[], refl};
 ghost use Rattle.word_bits.specs.declared.call.CallWords.{CallWords};
 ghost use Rattle.lock_core.specs.Nothings.{nothing, few, sized, apart};
-ghost use Rattle.lock_core.specs.Barely.{BareKept, BareMoves, never, bare-site, bare-sites, bare-opens, bare-splits, bare-joins, bare-spins, bare-inside, bare-spin};
+ghost use Rattle.lock_core.specs.Barely.{BareKept, BareMoves, never, bare-site, bare-sites, bare-opens, bare-splits, bare-joins, bare-spins, bare-inside, bare-spin, one-some, one-eight};
 
 use crate::rule::SiteRule;
 use crate::spin::SpinHost;
@@ -106,15 +106,23 @@ impl SiteRule for Bare {
 impl SpinHost for Bare {
     const FIRST: usize = 0;
 
+    const LOCKS: usize = 1;
+
     ghost FIRST = { 0 };
+
+    ghost LOCKS = { 1 };
 
     ghost may_free = { λ _. Unit {0} };
 
     ghost spin_inside = { bare-inside };
 
+    ghost spin_some = { one-some };
+
+    ghost spin_eight = { one-eight };
+
     ghost spin_kept = { bare-spin };
 
     ghost spin_moves = { λ k id ws us vs vs' step. step.spin };
 
-    ghost spins = { λ k ws vs id i n v s r at within goes may spin. bare-spins k ws vs id i n v s r at within goes spin };
+    ghost spins = { λ k ws vs id l i n v s r at one within goes may spin. bare-spins k ws vs id l i n v s r at within goes spin };
 }

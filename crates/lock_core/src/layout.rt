@@ -7,14 +7,15 @@ use word_bits::MAX_TASKS;
 /// which a task spins, or by which it sleeps, has a line of its own.
 pub const LOCK_WORDS: usize = 128 + 64 * MAX_TASKS as usize;
 
-/// How many of them are those of a spin lock: a line that begins with its word, one that is unused,
-/// and a line for the node of each task.
-pub const SPIN_WORDS: usize = 16 + 8 * MAX_TASKS as usize;
+/// How many of them are those of spin locks: a line for the word of each of eight, and for each
+/// task one for each of its four nodes. A rule's other words stand behind them.
+pub const SPIN_WORDS: usize = 64 + 32 * MAX_TASKS as usize;
 
-/// How many of them are left to spin locks: a line for each of eight, and for each task the nodes
-/// of the four that it may wait for at once, a line for each. A rule's other words stand behind
-/// them.
-pub const SPIN_ROOM: usize = 64 + 32 * MAX_TASKS as usize;
+/// The same, for the rules of which the spin lock is one part.
+pub const SPIN_ROOM: usize = SPIN_WORDS;
+
+/// How many spin locks a table may have.
+pub const SPIN_LOCKS: usize = 8;
 
 // Behind the locks' words, and counted from there: the guarded words, the lines of the tasks, the
 // length of the log, the log's entries, the records of all calls, the words of all calls.

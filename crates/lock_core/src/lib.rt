@@ -4,6 +4,7 @@
 mod bare;
 mod how;
 mod layout;
+mod nest;
 mod op;
 mod pass;
 mod plan;
@@ -16,7 +17,8 @@ pub mod view;
 
 pub use bare::{Bare, Nothing};
 pub use how::{How, Interrupted};
-pub use layout::{LENGTH_AT, LOCK_WORDS, SPIN_ROOM, SPIN_WORDS};
+pub use layout::{LENGTH_AT, LOCK_WORDS, SPIN_LOCKS, SPIN_ROOM, SPIN_WORDS};
+pub use nest::Nest;
 pub use op::Op;
 pub use pass::Pass;
 pub use plan::Plan;

@@ -1,8 +1,13 @@
 //! Passes: what a task makes the steps of one table with.
-ghost use Rattle.std.specs.Prelude.{◌≡◌, None, length};
+ghost use Rattle.std.specs.Prelude.{◌≡◌, ◌≢◌, ◌<◌, true, false, slice_index_or, None, length};
 ghost use Rattle.lock_core.specs.declared.view.Held.TheVariants.{No};
-ghost use Rattle.lock_core.specs.Handles.{view_of, hand_in, past_of, task_in, held_in, done_in, front_in, NotesFront, NotesHold};
+ghost use Rattle.lock_core.specs.declared.view.Point.TheVariants.{Out};
+ghost use Rattle.lock_core.specs.LockHands.{point_at, depth_of, RestsAt};
+ghost use Rattle.lock_core.specs.Records.{bit};
+ghost use Rattle.lock_core.specs.Nestings.{is_held, waits_at, mask_of, no_nesting};
+ghost use Rattle.lock_core.specs.Handles.{view_of, hand_in, past_of, task_in, held_in, done_in, front_in, NotesFront, NotesHold, NotesDepth, NotesLock, NotesNone, IsDepthTold, IsNestTold};
 
+use crate::layout::SPIN_LOCKS;
 use crate::rule::SiteRule;
 use crate::view::{Held, Seen};
 use atomic_table::Seat;
@@ -30,6 +35,30 @@ impl Face {
     }
 }
 
+/// What a pass notes of itself at the spin locks of its table: no word tells it.
+#[derive(Clone, Copy, Debug, PartialEq, Eq)]
+pub(crate) struct Nesting {
+    /// Of each lock, whether it holds it.
+    pub(crate) holds: [bool; SPIN_LOCKS],
+    /// Of each lock, whether a call of it waits for it.
+    pub(crate) waits: [bool; SPIN_LOCKS],
+    /// How many nodes it uses.
+    pub(crate) depth: u32,
+}
+
+impl Nesting {
+    /// That of a pass which is at no lock.
+    pub(crate) fn none() -> Nesting
+        ensures { result ≡ no_nesting }
+    {
+        Nesting {
+            holds: [false; SPIN_LOCKS],
+            waits: [false; SPIN_LOCKS],
+            depth: 0,
+        }
+    }
+}
+
 /// A seat of a site's table. Contracts see what it knows (`view_of`), the moments of the table up
 /// to its last step (`past_of`), and what it says of itself (`task_in`, `held_in`, `done_in`,
 /// `front_in`).
@@ -37,6 +66,7 @@ impl Face {
 pub struct Pass<R: SiteRule> {
     pub(crate) seat: Seat<(), Seen<R::Ext>>,
     pub(crate) face: Face,
+    pub(crate) nest: Nesting,
 }
 
 impl<R: SiteRule> Pass<R> {
@@ -85,4 +115,77 @@ impl<R: SiteRule> Pass<R> {
     {
         self.face.front = front;
     }
+
+    /// How many of its task's nodes it uses at spin locks.
+    pub fn depth(&self) -> u32
+        requires told { IsDepthTold self.now }
+        ensures { result ≡ depth_of (view_of self.now).spin }
+    {
+        self.nest.depth
+    }
+
+    /// The spin locks that it holds: a bit for each, that of the first the lowest.
+    pub fn spins(&self) -> u8
+        requires told { IsNestTold self.now }
+        ensures { result ≡ mask_of (λ l. is_held (point_at l (view_of self.now).spin)) }
+    {
+        mask(&self.nest.holds)
+    }
+
+    /// The spin locks that it waits for, as `spins` has those that it holds. It still waits for one
+    /// that it has while it waits for its successor.
+    pub fn waits(&self) -> u8
+        requires told { IsNestTold self.now }
+        ensures { result ≡ mask_of (λ l. waits_at (point_at l (view_of self.now).spin)) }
+    {
+        mask(&self.nest.waits)
+    }
+
+    /// Whether it has nothing to do with a spin lock: it neither holds it nor waits for it. Only
+    /// such a lock may an interrupt of the pass take.
+    pub fn is_outside(&self, lock: usize) -> bool
+        requires there { lock < 8 }
+        requires told { IsNestTold self.now }
+        ensures out { result ≡ true → RestsAt lock (view_of self.now).spin }
+        ensures inside { result ≡ false → point_at lock (view_of self.now).spin ≢ Out }
+    {
+        !self.nest.holds[lock] && !self.nest.waits[lock]
+    }
+
+    /// Notes how many nodes it uses, after a step that changed it.
+    pub fn note_depth(&mut self, depth: u32)
+        ensures { NotesDepth depth self.old self.new }
+    {
+        self.nest.depth = depth;
+    }
+
+    /// Notes how it stands with a spin lock, after a step that changed it.
+    pub fn note_lock(&mut self, lock: usize, holds: bool, waits: bool)
+        requires { lock < 8 }
+        ensures { NotesLock lock holds waits self.old self.new }
+    {
+        self.nest.holds[lock] = holds;
+        self.nest.waits[lock] = waits;
+    }
+
+    /// Notes that it is at no spin lock.
+    pub fn note_none(&mut self)
+        ensures { NotesNone self.old self.new }
+    {
+        self.nest = Nesting::none();
+    }
+}
+
+/// A bit for each flag that is set, that of the first the lowest.
+fn mask(flags: &[bool; 8]) -> u8
+    ensures { result ≡ mask_of (λ l. slice_index_or flags.now l false) }
+{
+    u8::from(flags[0])
+        + 2 * u8::from(flags[1])
+        + 4 * u8::from(flags[2])
+        + 8 * u8::from(flags[3])
+        + 16 * u8::from(flags[4])
+        + 32 * u8::from(flags[5])
+        + 64 * u8::from(flags[6])
+        + 128 * u8::from(flags[7])
 }

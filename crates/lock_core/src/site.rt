@@ -8,7 +8,7 @@ ghost use Rattle.lock_core.specs.Pasts.{opening};
 ghost use Rattle.lock_core.specs.Stated.{IsNew};
 
 use crate::layout::LOCK_WORDS;
-use crate::pass::{Face, Pass};
+use crate::pass::{Face, Nesting, Pass};
 use crate::plan::Plan;
 use crate::rule::{SiteRule, Under};
 use crate::view::{Seen, View};
@@ -40,7 +40,7 @@ pub struct Site<R: SiteRule> {
 }
 
 impl<R: SiteRule> Site<R> {
-    ghost use Rattle.lock_core.specs.Handles.{plan_of, view_of, past_of, joined_by, task_in, front_in, SitsAt, KeepsPast};
+    ghost use Rattle.lock_core.specs.Handles.{plan_of, view_of, past_of, joined_by, task_in, front_in, SitsAt, KeepsPast, KeepsNest, IsNestTold};
 
     /// A new site: all lock words are 0, the state is empty, no call is logged or recorded. The
     /// pass has no task number.
@@ -49,6 +49,7 @@ impl<R: SiteRule> Site<R> {
         ensures own { IfOk result (λ t. SitsAt t.0 t.1) }
         ensures plan { IfOk result (λ t. (plan_of t.0) ≡ plan) }
         ensures view { IfOk result (λ t. view_of t.1 ≡ first plan R.idle) }
+        ensures told { IfOk result (λ t. IsNestTold t.1) }
         ensures past { IfOk result (λ t. past_of t.1 ≡ opening R.marks plan R.idle ∷ []) }
         ensures new { IfOk result (λ _.
             IsNew R.O.object R.O.WORDS plan (opening R.marks plan R.idle)) }
@@ -64,7 +65,11 @@ impl<R: SiteRule> Site<R> {
                 starts,
                 count,
             },
-            Pass { seat, face },
+            Pass {
+                seat,
+                face,
+                nest: Nesting::none(),
+            },
         ))
     }
 
@@ -74,13 +79,19 @@ impl<R: SiteRule> Site<R> {
         ensures own { SitsAt self.now pass.new }
         ensures goes_on { KeepsPast pass.old pass.new }
         ensures kept { view_of pass.new ≡ ticked (view_of pass.old) }
+        ensures nest { KeepsNest pass.old pass.new }
+        ensures told { IsNestTold result }
         ensures its_own { SitsAt self.now result }
         ensures given { view_of result ≡ split_off R.idle (view_of pass.old) }
         ensures past { past_of result ≡ past_of pass.old }
     {
         let seat = self.table.shared.split_seat::<Cut<R>>(&mut pass.seat);
         let face = Face::stranger(pass.face.front);
-        Pass { seat, face }
+        Pass {
+            seat,
+            face,
+            nest: Nesting::none(),
+        }
     }
 
     /// Takes in another pass, which is spent: `into` then knows the records that `other` knew, and
@@ -95,12 +106,17 @@ impl<R: SiteRule> Site<R> {
         ensures own { SitsAt self.now into.new }
         ensures goes_on { KeepsPast into.old into.new }
         ensures kept { view_of into.new ≡ merged (view_of into.old) (view_of other) }
+        ensures nest { KeepsNest into.old into.new }
         ensures rises { front_in into.old ≤ front_in into.new }
         ensures others { front_in other ≤ front_in into.new }
         ensures joined { joined_by into.new ≡
             record { moments = past_of other } ∷ joined_by into.old }
     {
-        let Pass { seat, face } = other;
+        let Pass {
+            seat,
+            face,
+            nest: _,
+        } = other;
         self.table.shared.join_seat::<Glue<R>>(&mut into.seat, seat);
         into.face.front = into.face.front.max(face.front);
     }

@@ -87,6 +87,8 @@ pub enum Point {
     Pending,
     /// It owns the pending bit, has seen the locked byte 0, and is to take the lock.
     Taking,
+    /// It tries again and again, since all nodes of its task are in use.
+    Trying,
     /// It has cleared `locked` of its node.
     Clearing,
     /// It has cleared its node.
@@ -115,15 +117,27 @@ pub struct Frame {
     pub next: u64,
 }
 
-/// What concerns the words of the spin lock.
-pub struct SpinHand {
+/// What a pass has to do with one of the spin locks.
+pub struct LockHand {
     pub frame: Frame,
+    /// The number of the step at which it last took the lock, and where it stood before.
+    pub took: u64,
+    pub from: Point,
+}
+
+/// What concerns the words of the spin locks.
+pub struct SpinHand {
+    /// With the first of the locks.
+    pub frame: Frame,
+    /// Of the word of whichever lock it last was refused by.
     pub saw: Option<Saw>,
     /// How often the pass has taken a spin lock of the table.
     pub entries: u64,
-    /// The number of the step at which it last took it, and where it stood before.
+    /// The number of the step at which it last took the first lock, and where it stood before.
     pub took: u64,
     pub from: Point,
+    /// With the other locks, in their order.
+    pub nest: [LockHand; 0],
 }
 
 pub struct View<E> {

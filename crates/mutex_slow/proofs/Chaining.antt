@@ -20,16 +20,11 @@ use Rattle.wait_list.proofs.Determining.{kept-same}
 use Rattle.mutex_slow.specs.declared.view.MutexHand.{MutexHand}
 use Rattle.mutex_slow.specs.Mutexes.{AnswersHandoff, HasHandoff, HasLock, IsFirstTask, IsOwnChange, Kept, LeavesToFirst, MutexKept, MutexMoves, PicksFirst, TookUp, V, entered, list_of, may_miss, owner_at, owner_in, standing, standing_of, wake_words, Standing, WakesGo}
 use Rattle.mutex_slow.specs.Stated.{line_marks, HasBecome, HasWaitLock, IsMutexStep, MadeBy, TakesUp}
-use Rattle.mutex_slow.proofs.Stating.{listed}
+use Rattle.mutex_slow.proofs.Stating.{listed, same-standing}
 
 has-lock : (id : ℕ) (ws : List ℕ) (vs : List V) (v : V) (p : Part) → get_elem? vs id ≡ some v → get_elem? (map (list_part list_of) vs) id ≡ some p → holds_in p.0 ≡ 1 → HasWaitLock id (moment standing (instant ws vs))
 has-lock id ws vs v p at there holds = let same : p ≡ list_part list_of v = some-injective p (list_part list_of v) (sym there ∙ at_map (list_part list_of) vs id v at) in
     (v.spin, at_map spin_of vs id v at, sym (ap (λ (q : Part). holds_in q.0) same) ∙ holds)
-
--- the marks of a pass say how it stands
-same-standing : (v : V) (s : Standing) → marks_of standing v ≡ line_marks s → standing_of v.ext ≡ s
-same-standing v s e = let at : (i : ℕ) → get_or (marks_of standing v).numbers i 0 ≡ get_or (line_marks s).numbers i 0 = λ i. ap (λ (m : Marks). get_or m.numbers i 0) e in
-    λ i. record { queued = at 0 i; appends = at 1 i; debt = at 2 i; chosen = at 3 i; awake = at 4 i; wakes = at 5 i; dozes = at 6 i }
 
 module _ (id : ℕ) (ws : List ℕ) (vs : List V) (v : V) (at : get_elem? vs id ≡ some v) where
   same-pass : (w : V) → get_elem? vs id ≡ some w → v ≡ w

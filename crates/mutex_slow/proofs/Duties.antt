@@ -1,8 +1,7 @@
 -- What a pass owes after the steps by which it chooses, wakes, tries and drowses.
-use Rattle.std.proofs.Common.{◌≡◌, ◌∙◌, ℕ, zero, suc, ◌+◌, ◌%◌, ◌<◌, ◌≤◌, ◌==◌, ◌&&◌, ◌↔◌, IsTrue, Bool, true, false, List, [], ◌∷◌, Option, Some, None, IfSome, sym, refl, ap, subst, arith}
+use Rattle.std.proofs.Common.{◌≡◌, ◌∙◌, ℕ, zero, suc, ◌+◌, ◌<◌, ◌==◌, ◌&&◌, ◌↔◌, IsTrue, Bool, true, false, List, [], ◌∷◌, Option, Some, None, IfSome, sym, refl, ap, subst, arith}
 use Rattle.word_bits.specs.declared.TheConstants.{MAX_TASKS}
 use Rattle.word_bits.specs.OwnerWord.{task_code}
-use Rattle.lock_core.specs.declared.view.Hand.{Hand}
 use Rattle.lock_core.specs.Views.{SpinHolds}
 use Rattle.lock_core.specs.SpinFrames.{holds_at}
 use Rattle.lock_core.specs.Spins.{holds_in}
@@ -15,13 +14,11 @@ use Rattle.mutex_word.specs.Holders.{turns}
 use Rattle.mutex_word.specs.Tries.{at_step}
 use Rattle.wait_list.specs.declared.view.Waiter.{Waiter}
 use Rattle.wait_list.specs.Lists.{AreTasks, first_code, first_of, sighted}
-use Rattle.wake_duty.specs.declared.view.Duty.{Duty}
-use Rattle.wake_duty.specs.declared.view.Duty.TheVariants.{NoDuty, Owing, Chosen}
-use Rattle.wake_duty.specs.Wakes.{owed, chose_any, waits, duty_of, choosing, owing_at, drowsing, dozed_at, waked}
+use Rattle.wake_duty.specs.declared.view.Duty.TheVariants.{NoDuty, Owing}
+use Rattle.wake_duty.specs.Wakes.{owed, chose_any, duty_of, choosing, owing_at, drowsing, dozed_at, waked}
 use Rattle.wake_duty.specs.WakeLaws.{duty-first, waits-drowsing}
-use Rattle.wake_duty.specs.WakeSteps.{HasChosen, HasTried, FallsAsleep}
-use Rattle.mutex_slow.specs.declared.view.Point.TheVariants.{Rest}
-use Rattle.mutex_slow.specs.Mutexes.{V, OwesNoWake, is_code, list_of, saw_first, turned, wake_of, with_wake}
+use Rattle.wake_duty.specs.WakeSteps.{HasTried}
+use Rattle.mutex_slow.specs.Mutexes.{V, OwesNoWake, is_code, saw_first, turned, wake_of, with_wake}
 use Rattle.mutex_slow.specs.Places.{IsInLine, IsOutside, IsToWake, OwesWake, dozes_of, task_of}
 
 -- who has no duty owes nothing

@@ -26,18 +26,17 @@ use Rattle.mutex_word.specs.Holders.{OwnKept, IsHolder}
 use Rattle.mutex_word.specs.OwnLaws.{Named, no-codes, only-code, alone-code}
 use Rattle.wait_list.specs.declared.view.Waiter.{Waiter}
 use Rattle.wait_list.specs.Lists.{Part, PartOk, changes_of, counted, first_code, list_part}
-use Rattle.mutex_slow.specs.declared.view.MutexHand.{MutexHand}
-use Rattle.mutex_slow.specs.Mutexes.{V, Flagged, Kept, MutexKept, list_of, owner_in, point_of, queued_of, standing, standing_of, debt_of, chosen_code, awake_bit, wake_words, Standing}
+use Rattle.mutex_slow.specs.Mutexes.{V, Flagged, Kept, MutexKept, list_of, owner_in, point_of, queued_of, standing, standing_of, chosen_code, awake_bit, wake_words, Standing}
 use Rattle.mutex_slow.specs.CoupledLaws.{is-in, not-in, point-held}
 use Rattle.mutex_slow.specs.MutexLaws.{apart}
-use Rattle.word_bits.specs.declared.TheConstants.{MAX_TASKS}
 use Rattle.wake_duty.specs.declared.view.Duty.{Duty}
 use Rattle.wake_duty.specs.declared.view.Duty.TheVariants.{NoDuty, Owing, Chosen}
 use Rattle.wake_duty.specs.declared.view.Vigil.{Vigil}
 use Rattle.wake_duty.specs.declared.view.Vigil.TheVariants.{Absent, Awake, Tried}
-use Rattle.wake_duty.specs.Wakes.{WakePart, owed, chose, chose_any, awake, waits, keeps_awake, wake_word}
+use Rattle.wake_duty.specs.Wakes.{WakePart, owed, chose, awake, waits, keeps_awake, wake_word}
 use Rattle.mutex_slow.specs.DutyLaws.{wparted, first-small, some-of as any-of}
-use Rattle.mutex_slow.specs.Stated.{line_marks, waits_in, HasDuty, IsListed, IsMutexThen}
+use Rattle.mutex_slow.specs.StandingLaws.{owed-some, owes-none}
+use Rattle.mutex_slow.specs.Stated.{line_marks, waits_in, HasDuty, IsListed, IsMutexThen, OwesNone}
 
 -- who holds, by a word that picks nobody
 holder-of : (hs : List Hand) (word : ℕ) → OwnKept word hs → Named hs → word % 8 < 4 → (task : Option ℕ) × (word / 8 ≡ task_code task) × IsHolder hs task
@@ -61,11 +60,6 @@ eqb-eq : (m n : ℕ) → (m == n) ≡ true → m ≡ n
 eqb-eq m n e = elim (native.Mathlib.Decide.ℕ_discrete m n) [ yes same ↦ same | no other ↦ not-both (m == n) (Rattle.std.proofs.Common.ne_eqb m n other) e ]
 
 -- what a weight that isn't 0 says
-owed-some : (d : Duty) (freed : ℕ) → 0 < owed d freed → (debt_of d ≡ 1) × (freed % 2 ≡ 1)
-owed-some NoDuty freed more = absurd (omega (arith, more))
-owed-some Owing freed more = (refl, omega (arith, more))
-owed-some (Chosen t) freed more = absurd (omega (arith, more))
-
 chose-some : (t : ℕ) (d : Duty) → 0 < chose t d → chosen_code d ≡ t + 1
 chose-some t NoDuty more = absurd (omega (arith, more))
 chose-some t Owing more = absurd (omega (arith, more))
@@ -83,6 +77,11 @@ awake-some t task (Tried n) more = absurd (omega (arith, more))
 queued-task : (t : ℕ) (v : V) → 0 < queued_of t v → v.hand.task ≡ Some t
 queued-task t v more = false-or-true v.ext.queued (λ is. number-is t v.hand.task (let b : when v.ext.queued (is_number t v.hand.task) ≡ is_number t v.hand.task = ap (λ (b : Bool). when b (is_number t v.hand.task)) is in omega (arith, b, more)))
     (λ out. absurd (let b : when v.ext.queued (is_number t v.hand.task) ≡ 0 = ap (λ (b : Bool). when b (is_number t v.hand.task)) out in omega (arith, b, more)))
+
+-- the marks of a pass say how it stands
+pub same-standing : (v : V) (s : Standing) → marks_of standing v ≡ line_marks s → standing_of v.ext ≡ s
+same-standing v s e = let at : (i : ℕ) → get_or (marks_of standing v).numbers i 0 ≡ get_or (line_marks s).numbers i 0 = λ i. ap (λ (m : Marks). get_or m.numbers i 0) e in
+    λ i. record { queued = at 0 i; appends = at 1 i; debt = at 2 i; chosen = at 3 i; awake = at 4 i; wakes = at 5 i; dozes = at 6 i }
 
 module _ {Call : Type 0} (o : Obj Call) (size : ℕ) (k : Plan) (ws : List ℕ) (vs : List V) (l : List Waiter) (r : MutexKept o size k ws vs l) where
   changes : {words : List ℕ} {p : Part} → PartOk words l p → holds_in p.0 ≡ 0 → p.1.changes ≡ false
@@ -129,6 +128,13 @@ module _ {Call : Type 0} (o : Obj Call) (size : ℕ) (k : Plan) (ws : List ℕ) 
       (λ waits_now. let some_is = is-in (owner_in ws) l vs id v r.coupled p.1 alone waits_now t named in let one : bit v.ext.queued ≡ 1 = ap bit waits_now in omega (arith, some_is, one, mark, once, waits))
       (λ out. let none_is = not-in (owner_in ws) l vs id v r.coupled p.1 alone out t named in let zero_it : bit v.ext.queued ≡ 0 = ap bit out in omega (arith, none_is, zero_it, mark, waits)))
 
+  -- a pass without a task has no wake to do
+  unnamed-clear : (id : ℕ) (s : Standing) (h : Hand) → get_elem? (map hand_of vs) id ≡ some h → get_elem? (map (marks_of standing) vs) id ≡ some (line_marks s) → h.task ≡ None → OwesNone s h
+  unnamed-clear id s h at there none = let p = at_unmap hand_of vs id h at in let v : V = p.0 in let task : v.hand.task ≡ h.task = ap {A = Hand} (λ g. g.task) p.2 in
+      let quiet = (r.wake.each id (wparted v) (at_map wparted vs id v p.1)).named (task ∙ none) in
+      let stands = same-standing v s (some-injective (marks_of standing v) (line_marks s) (sym (at_map (marks_of standing) vs id v p.1) ∙ there)) in
+      subst (λ (z : Standing × Hand). OwesNone z.0 z.1) (λ i. (stands i, p.2 i)) (owes-none v.ext.wake.duty v.hand.freed quiet.clear)
+
   -- where nobody holds, somebody has the duty to wake the first waiter, or it needs nobody
   duty-there : IsHolder (map hand_of vs) None → (t : ℕ) → first_code l ≡ t + 1 → HasDuty (moment standing (instant ws vs)) t
   duty-there out t first = let kept = r.wake.first t first in let word = r.wake.bits t (first-small l t r.list.sound.small first) in elim (native.Mathlib.Decide.dec_le 1 (wake_word (wake_words ws) t)) [
@@ -151,6 +157,7 @@ module _ {Call : Type 0} (o : Obj Call) (size : ℕ) (k : Plan) (ws : List ℕ) 
     passes = has-pass;
     has = λ id h at. let p = at_unmap hand_of vs id h at in (standing_of p.0.ext, at_map (marks_of standing) vs id p.0 p.1);
     marked = marks-list;
+    unnamed = unnamed-clear;
     owner = record {
       holder = holder-of (map hand_of vs) (owner_in ws) own named;
       picked = λ high. let none = own.picked high in let first = r.coupled.picked high in let big = named-word high in

@@ -23,7 +23,7 @@ use Rattle.wait_list.specs.Lists.{first_code, counted, without, listed}
 use Rattle.wait_list.proofs.Waiters.{counted-append, counted-without-own, counted-without-other, counted-here, counted-else, length-without, first-without}
 use Rattle.wake_duty.specs.declared.view.WakeHand.{WakeHand}
 use Rattle.wake_duty.specs.declared.view.Duty.TheVariants.{NoDuty, Owing}
-use Rattle.wake_duty.specs.Wakes.{waits, duty_of, failing}
+use Rattle.wake_duty.specs.Wakes.{waits, duty_of}
 use Rattle.wake_duty.specs.WakeLaws.{waits-failing}
 use Rattle.lock_core.specs.Records.{bit}
 use Rattle.mutex_slow.specs.declared.view.MutexHand.{MutexHand}

@@ -1,7 +1,6 @@
 -- Each kind of step of a mutex keeps the facts of the wake words.
-use Rattle.std.proofs.Common.{◌≡◌, ◌≢◌, ℕ, zero, suc, ◌+◌, ◌-◌, ◌*◌, ◌/◌, ◌%◌, ◌<◌, ◌≤◌, ◌⊎◌, inl, inr, Bool, true, false, List, [], ◌∷◌, ◌++◌, length, map, set, Option, Some, None, sym, refl, ap, ◌∙◌, subst, arith, ⊎_elim}
+use Rattle.std.proofs.Common.{◌≡◌, ◌≢◌, ℕ, zero, suc, ◌+◌, ◌-◌, ◌/◌, ◌%◌, ◌<◌, ◌≤◌, ◌⊎◌, inl, inr, false, List, [], ◌∷◌, ◌++◌, length, map, set, Some, sym, refl, ap, ◌∙◌, subst, arith, ⊎_elim}
 use mathlib.Core.Option.{some, some-injective}
-use mathlib.Core.Logic.{dite}
 use native.Mathlib.Decide.{ℕ_discrete}
 use lib.ListN.{get_elem?}
 use lib.Seq.{map-set}
@@ -9,17 +8,16 @@ use Rattle.atomic_table.proofs.Lists.{at_map, set_else}
 use Rattle.word_bits.specs.declared.TheConstants.{MAX_TASKS}
 use Rattle.lock_core.specs.declared.view.Hand.{Hand}
 use Rattle.lock_core.specs.declared.view.SpinHand.{SpinHand}
-use Rattle.lock_core.specs.declared.view.Held.{Held}
-use Rattle.lock_core.specs.declared.view.Held.TheVariants.{No, Alone}
+use Rattle.lock_core.specs.declared.view.Held.TheVariants.{Alone}
 use Rattle.lock_core.specs.Records.{bit}
-use Rattle.lock_core.specs.Views.{SpinRests, hand_of, held_of, held_weight, is_number}
+use Rattle.lock_core.specs.Views.{SpinRests, hand_of, held_of, is_number}
 use Rattle.lock_core.specs.SpinFrames.{holds_at}
 use Rattle.lock_core.specs.Spins.{spun, holds_in}
-use Rattle.lock_core.specs.Totals.{total, total-set, total-at}
+use Rattle.lock_core.specs.Totals.{total, total-at}
 use Rattle.lock_core.specs.Parts.{at_unmap, keep_part, set_part, set-there}
-use Rattle.lock_core.proofs.HandLaws.{false-or-true, held-none, is_number-here}
+use Rattle.lock_core.proofs.HandLaws.{false-or-true, is_number-here}
 use Rattle.lock_core.proofs.RowLaws.{none-some, same-some}
-use Rattle.mutex_word.specs.declared.host.Turn.TheVariants.{Fail, Take, Ask, Free, Hand as HandOn}
+use Rattle.mutex_word.specs.declared.host.Turn.TheVariants.{Fail, Take, Free, Hand as HandOn}
 use Rattle.mutex_word.specs.Holders.{OwnKept, turns}
 use Rattle.mutex_word.specs.OwnLaws.{Named, no-holders, no-codes}
 use Rattle.wait_list.specs.declared.view.Waiter.{Waiter}
@@ -29,9 +27,9 @@ use Rattle.wait_list.specs.ListLaws.{holds-or-not}
 use Rattle.wait_list.specs.Lists.{AreTasks, first_code, without, listed, sighted}
 use Rattle.wake_duty.specs.declared.view.Duty.{Duty}
 use Rattle.wake_duty.specs.declared.view.Duty.TheVariants.{NoDuty, Owing, Chosen}
-use Rattle.wake_duty.specs.declared.view.Vigil.TheVariants.{Absent, Awake, Tried}
+use Rattle.wake_duty.specs.declared.view.Vigil.TheVariants.{Awake, Tried}
 use Rattle.wake_duty.specs.declared.view.WakeHand.{WakeHand}
-use Rattle.wake_duty.specs.Wakes.{WakePart, WakeKept, PartOk, IsQuiet, IsStuck, wake_part, with_hand, owed, chose_any, waits, guards, keeps_awake, awake, duty_of, choosing, foiled, failing, roused, looking}
+use Rattle.wake_duty.specs.Wakes.{WakePart, WakeKept, PartOk, IsQuiet, wake_part, with_hand, owed, chose_any, waits, guards, keeps_awake, awake, duty_of, choosing, foiled, failing, roused, looking}
 use Rattle.wake_duty.specs.WakeLaws.{wake-goes, wake-guarded, wake-quiet, wake-fails, wake-hands, wake-enters, wake-leaves, wake-looks, wake-chooses, wake-spins, no-chosen, owing-chosen, tried-waits, awake-tried}
 use Rattle.mutex_slow.specs.Mutexes.{V, HasLock, Coupled, IsUnpicked, point_of, wake_of, turned, with_list, saw_first}
 use Rattle.mutex_slow.specs.CoupledLaws.{Apart, first-none, point-cases, rest-weighs}

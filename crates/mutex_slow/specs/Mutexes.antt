@@ -240,6 +240,10 @@ WordGoes words words' locked h s t = (wake_word words' t ≡ wake_word words t)
 abbrev pub ChoosesFirst : (locked : ℕ) (l : List Waiter) (chosen : ℕ) → Type 0
 ChoosesFirst locked l chosen = (locked ≡ 1) × (chosen ≡ first_code l)
 
+-- it owed a choice with the flag of the waiters, or ends its hold by this step
+abbrev pub MayChoose : (h h' : Hand) (s : Standing) → Type 0
+MayChoose h h' s = ((s.debt ≡ 1) × (h.freed % 2 ≡ 1)) ⊎ ((h.held ≡ Alone) × (h'.held ≡ No))
+
 -- the wake word of the task that it had chosen is set
 abbrev pub SetsChosen : (words' : List ℕ) (s s' : Standing) → Type 0
 SetsChosen words' s s' = (s'.chosen ≡ 0) × (s'.wakes ≡ raised true s.wakes) × ((t : ℕ) × (s.chosen ≡ t + 1) × (wake_word words' t ≡ 1))
@@ -249,20 +253,21 @@ abbrev pub DozesOff : (words : List ℕ) (locked : ℕ) (h : Hand) (s s' : Stand
 DozesOff words locked h s s' = ((t : ℕ) × (h.task ≡ Some t) × (wake_word words t ≡ 0)) × (locked ≡ 0) × (s.queued ≡ 1) × (s.awake ≡ 0) × (s'.awake ≡ 0) × (s'.dozes ≡ raised true s.dozes)
 
 -- a try failed with the wait lock: the word names a task, and doesn't pick the own one
-abbrev pub FailsTry : (n locked : ℕ) → Hand → Type 0
-FailsTry n locked h = (locked ≡ 1) × (8 ≤ n) × ((t : ℕ) × (h.task ≡ Some t) × IsUnpicked n t)
+abbrev pub FailsUnderLock : (n locked : ℕ) → Hand → Type 0
+FailsUnderLock n locked h = (locked ≡ 1) × (8 ≤ n) × ((t : ℕ) × (h.task ≡ Some t) × IsUnpicked n t)
 
--- What a step of a pass does to the wake words, to what it owes and to how its task waits; `n` is the owner word, `l` the list and `c` its change, `locked` is 1 where the pass had the wait lock, `h` and `s` stand before the step. Nobody owes but by ending a hold. A debt with the flag of the waiters ends by a choice of the first waiter, and a choice by the store of its wake word. A task falls asleep only after it isn't to try any more, and so it is by a try that failed under the wait lock, or by leaving. It is to try again once it enters, or once it has made a step without the wait lock by which it didn't fall asleep.
+-- What a step of a pass does to the wake words, to what it owes and to how its task waits; `n` is the owner word, `l` the list and `c` its change, `locked` is 1 where the pass had the wait lock, `h` and `s` stand before the step. Nobody owes but by ending a hold, and nobody chooses but to end a debt with the flag of the waiters, or by the step that ends its hold. Such a debt ends by a choice of the first waiter, and a choice by the store of its wake word. A task falls asleep only after it isn't to try any more, and so it is by a try that failed under the wait lock, or by leaving. It is to try once it enters, or once it has made a step without the wait lock by which it didn't fall asleep.
 pub record WakesGo (n : ℕ) (l : List Waiter) (c : Change) (words words' : List ℕ) (locked : ℕ) (h h' : Hand) (s s' : Standing) : Type 0 where
   pub words_go : (t : ℕ) → t < MAX_TASKS → WordGoes words words' locked h s t
   pub owes : s.debt ≡ 0 → s'.debt ≡ 1 → (h.held ≡ Alone) × (h'.held ≡ No)
   pub pays : s.debt ≡ 1 → h.freed % 2 ≡ 1 → (s'.debt ≡ 1) ⊎ ChoosesFirst locked l s'.chosen
-  pub chooses : s'.chosen ≢ s.chosen → s'.chosen ≢ 0 → ChoosesFirst locked l s'.chosen
+  pub chooses : s'.chosen ≢ s.chosen → s'.chosen ≢ 0 → ChoosesFirst locked l s'.chosen × MayChoose h h' s
   pub sets : s'.chosen ≢ s.chosen → s.chosen ≢ 0 → SetsChosen words' s s'
   pub wakes : s'.wakes ≢ s.wakes → SetsChosen words' s s'
   pub dozes : s'.dozes ≢ s.dozes → DozesOff words locked h s s'
+  pub enters : entered c ≡ 1 → s'.awake ≡ 1
   pub rouses : s.awake ≡ 0 → s'.awake ≡ 1 → (entered c ≡ 1) ⊎ ((locked ≡ 0) × (s'.dozes ≡ s.dozes))
-  pub tries : s.awake ≡ 1 → s'.awake ≡ 0 → (left c ≡ 1) ⊎ FailsTry n locked h
+  pub tries : s.awake ≡ 1 → s'.awake ≡ 0 → (left c ≡ 1) ⊎ FailsUnderLock n locked h
 
 -- what a step may do: all that each step of a site, of a spin lock and of a list does; where it ends a hold while a handoff is asked for, it picks the first waiter; a word that picks a waiter is changed by that waiter alone, which takes; the first waiter alone asks for a handoff; the flag of the handoff stays until the holder names the first waiter or nobody waits; who ends a hold keeps the word that it left, which is the first waiter's where it has the wait lock; an append is counted by the pass that enters; and a failed try by one that stands outside the list; and what `WakesGo` says of the wake words
 pub record MutexMoves (k : Plan) (id : ℕ) (ws : List ℕ) (vs : List V) (us : List ℕ) (vs' : List V) : Type 0 where

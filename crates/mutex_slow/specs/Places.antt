@@ -1,5 +1,5 @@
 -- Where a pass stands in a call on a mutex, and what callers of any lock see of it.
-use Rattle.std.specs.Prelude.{◌≡◌, ℕ, zero, suc, ◌+◌, ◌<◌, ◌≤◌, ◌/◌, ◌%◌, ◌⊎◌, true, false, Option, Some, None}
+use Rattle.std.specs.Prelude.{◌≡◌, ℕ, ◌+◌, ◌<◌, ◌≤◌, ◌/◌, ◌%◌, ◌⊎◌, true, false, Option, Some, None}
 use Rattle.word_bits.specs.OwnerWord.{task_code}
 use Rattle.cpu_task.specs.Counting.{one_more, slept}
 use Rattle.osq_unqueue.specs.Rising.{Rises}

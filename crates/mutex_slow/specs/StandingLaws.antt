@@ -1,5 +1,5 @@
 -- What each kind of step does to the wake words, to what a pass owes and to how its task waits.
-use Rattle.std.proofs.Common.{◌≡◌, ◌≢◌, ℕ, zero, suc, ◌+◌, ◌*◌, ◌%◌, ◌<◌, ◌≤◌, ◌⊎◌, inl, inr, Bool, true, false, List, length, set, get_or, Option, Some, sym, refl, ap, ◌∙◌, subst, arith, ⊎_elim, get_or-set_same, get_or-set_other}
+use Rattle.std.proofs.Common.{◌≡◌, ◌≢◌, ℕ, zero, suc, ◌+◌, ◌*◌, ◌%◌, ◌<◌, ◌≤◌, ◌⊎◌, inl, inr, false, List, length, set, Some, sym, refl, ap, ◌∙◌, subst, arith, ⊎_elim, get_or-set_same, get_or-set_other}
 use mathlib.Core.Logic.{dite}
 use native.Mathlib.Decide.{ℕ_discrete}
 use Rattle.word_bits.specs.declared.TheConstants.{MAX_TASKS}
@@ -7,7 +7,6 @@ use Rattle.lock_core.specs.declared.view.Hand.{Hand}
 use Rattle.lock_core.specs.declared.view.Held.TheVariants.{No, Alone}
 use Rattle.lock_core.specs.Records.{bit}
 use Rattle.lock_core.specs.Spins.{holds_in}
-use Rattle.lock_core.specs.Tallies.{raised}
 use Rattle.lock_core.proofs.HandLaws.{false-or-true}
 use Rattle.wait_list.specs.declared.view.Waiter.{Waiter}
 use Rattle.wait_list.specs.declared.view.Change.{Change}
@@ -20,7 +19,7 @@ use Rattle.wake_duty.specs.declared.view.Vigil.{Vigil}
 use Rattle.wake_duty.specs.declared.view.Vigil.TheVariants.{Absent, Awake, Tried}
 use Rattle.wake_duty.specs.declared.view.WakeHand.{WakeHand}
 use Rattle.wake_duty.specs.Wakes.{WAKE_WORDS, wake_word, owed, chose_any, choosing, duty_of, foiled, roused, failing, looking, setting, drowsing}
-use Rattle.mutex_slow.specs.Mutexes.{V, HasLock, OwesNoWake, ChoosesFirst, FailsTry, DozesOff, IsUnpicked, SetsChosen, WakesGo, WordGoes, awake_bit, chosen_code, debt_of, entered, left, standing_of}
+use Rattle.mutex_slow.specs.Mutexes.{V, HasLock, OwesNoWake, ChoosesFirst, FailsUnderLock, IsUnpicked, MayChoose, SetsChosen, WakesGo, WordGoes, awake_bit, chosen_code, debt_of, entered, left, standing_of}
 use Rattle.mutex_slow.specs.DutyLaws.{choosing-or}
 
 -- what a step does by which this view becomes that one
@@ -32,6 +31,12 @@ pub owes-none : (d : Duty) (freed : ℕ) → owed d freed + chose_any d ≡ 0 �
 owes-none NoDuty freed e = (refl, λ z. absurd (omega (arith, z)))
 owes-none Owing freed e = (refl, λ _. omega (arith, e))
 owes-none (Chosen t) freed e = absurd (omega (arith, e))
+
+-- who owes has a debt with the flag of the waiters
+pub owed-some : (d : Duty) (freed : ℕ) → 0 < owed d freed → (debt_of d ≡ 1) × (freed % 2 ≡ 1)
+owed-some NoDuty freed more = absurd (omega (arith, more))
+owed-some Owing freed more = (refl, omega (arith, more))
+owed-some (Chosen t) freed more = absurd (omega (arith, more))
 
 -- who owes has chosen nobody
 owing-chosen : (d : Duty) (freed : ℕ) → owed d freed ≡ 1 → chosen_code d ≡ 0
@@ -58,15 +63,12 @@ roused-bit Absent e = e
 roused-bit Awake e = refl
 roused-bit (Tried m) e = refl
 
-module _ (n : ℕ) (l : List Waiter) (c : Change) (words words' : List ℕ) (v u : V) where
-  abbrev Goes : Type 0
-  Goes = StandingGoes n l c words words' v u
-
+module _ (n : ℕ) (l : List Waiter) (words words' : List ℕ) (v u : V) where
   abbrev w : WakeHand
   w = v.ext.wake
 
   -- all stays
-  pub goes-same : words' ≡ words → u.ext.wake ≡ w → Goes
+  pub goes-same : words' ≡ words → u.ext.wake ≡ w → StandingGoes n l Stay words words' v u
   goes-same same wake = let debt = ap (λ (z : WakeHand). debt_of z.duty) wake in let chosen = ap (λ (z : WakeHand). chosen_code z.duty) wake in let awake = ap (λ (z : WakeHand). awake_bit z.vigil) wake in record {
     words_go = λ t few. inl (ap (λ (z : List ℕ). wake_word z t) same);
     owes = λ e e'. absurd (omega (arith, debt, e, e'));
@@ -75,13 +77,15 @@ module _ (n : ℕ) (l : List Waiter) (c : Change) (words words' : List ℕ) (v u
     sets = λ other some. absurd (other chosen);
     wakes = λ other. absurd (other (ap (λ (z : WakeHand). z.wakes) wake));
     dozes = λ other. absurd (other (ap (λ (z : WakeHand). z.dozes) wake));
+    enters = λ e. absurd (omega (arith, e));
     rouses = λ e e'. absurd (omega (arith, awake, e, e'));
     tries = λ e e'. absurd (omega (arith, awake, e, e'));
   }
 
-  -- how its task waits changes
-  pub goes-vigil : words' ≡ words → (x : Vigil) → u.ext.wake ≡ record w { vigil = x } → (awake_bit w.vigil ≡ 0 → awake_bit x ≡ 1 → (entered c ≡ 1) ⊎ (holds_in v.spin ≡ 0)) → (awake_bit w.vigil ≡ 1 → awake_bit x ≡ 0 → (left c ≡ 1) ⊎ FailsTry n (holds_in v.spin) v.hand) → Goes
-  goes-vigil same x wake rises falls = let debt = ap (λ (z : WakeHand). debt_of z.duty) wake in let chosen = ap (λ (z : WakeHand). chosen_code z.duty) wake in let awake = ap (λ (z : WakeHand). awake_bit z.vigil) wake in let dozed = ap (λ (z : WakeHand). z.dozes) wake in record {
+  -- how its task waits changes, and the list by this change
+  pub goes-vigil : (c : Change) → words' ≡ words → (x : Vigil) → u.ext.wake ≡ record w { vigil = x } → (entered c ≡ 1 → awake_bit x ≡ 1) → (awake_bit w.vigil ≡ 0 → awake_bit x ≡ 1 → (entered c ≡ 1) ⊎ (holds_in v.spin ≡ 0)) → (awake_bit w.vigil ≡ 1 → awake_bit x ≡ 0 → (left c ≡ 1) ⊎ FailsUnderLock n (holds_in v.spin) v.hand)
+      → StandingGoes n l c words words' v u
+  goes-vigil c same x wake enters rises falls = let debt = ap (λ (z : WakeHand). debt_of z.duty) wake in let chosen = ap (λ (z : WakeHand). chosen_code z.duty) wake in let awake = ap (λ (z : WakeHand). awake_bit z.vigil) wake in let dozed = ap (λ (z : WakeHand). z.dozes) wake in record {
     words_go = λ t few. inl (ap (λ (z : List ℕ). wake_word z t) same);
     owes = λ e e'. absurd (omega (arith, debt, e, e'));
     pays = λ e odd. inl (debt ∙ e);
@@ -89,52 +93,55 @@ module _ (n : ℕ) (l : List Waiter) (c : Change) (words words' : List ℕ) (v u
     sets = λ other some. absurd (other chosen);
     wakes = λ other. absurd (other (ap (λ (z : WakeHand). z.wakes) wake));
     dozes = λ other. absurd (other dozed);
-    rouses = λ e e'. ⊎_elim (λ (enters : entered c ≡ 1). inl enters) (λ (out : holds_in v.spin ≡ 0). inr (out, dozed)) (rises e (sym awake ∙ e'));
+    enters = λ e. awake ∙ enters e;
+    rouses = λ e e'. ⊎_elim (λ (came : entered c ≡ 1). inl came) (λ (out : holds_in v.spin ≡ 0). inr (out, dozed)) (rises e (sym awake ∙ e'));
     tries = λ e e'. falls e (sym awake ∙ e');
   }
 
   -- what it owes changes
   goes-duty : words' ≡ words → (d : Duty) → u.ext.wake ≡ record w { duty = d } → (debt_of w.duty ≡ 0 → debt_of d ≡ 1 → (v.hand.held ≡ Alone) × (u.hand.held ≡ No)) → (debt_of w.duty ≡ 1 → v.hand.freed % 2 ≡ 1 → (debt_of d ≡ 1) ⊎ ChoosesFirst (holds_in v.spin) l (chosen_code d))
-      → chosen_code w.duty ≡ 0 → (chosen_code d ≢ 0 → ChoosesFirst (holds_in v.spin) l (chosen_code d)) → Goes
+      → chosen_code w.duty ≡ 0 → (chosen_code d ≢ 0 → ChoosesFirst (holds_in v.spin) l (chosen_code d) × MayChoose v.hand u.hand (standing_of v.ext)) → StandingGoes n l Stay words words' v u
   goes-duty same d wake ends pays none picks = let debt = ap (λ (z : WakeHand). debt_of z.duty) wake in let chosen : chosen_code u.ext.wake.duty ≡ chosen_code d = ap (λ (z : WakeHand). chosen_code z.duty) wake in let awake = ap (λ (z : WakeHand). awake_bit z.vigil) wake in record {
     words_go = λ t few. inl (ap (λ (z : List ℕ). wake_word z t) same);
     owes = λ e e'. ends e (sym debt ∙ e');
     pays = λ e odd. ⊎_elim (λ (stays : debt_of d ≡ 1). inl (debt ∙ stays)) (λ (first : ChoosesFirst (holds_in v.spin) l (chosen_code d)). inr (first.0, chosen ∙ first.1)) (pays e odd);
-    chooses = λ other some. let first = picks (λ z. some (chosen ∙ z)) in (first.0, chosen ∙ first.1);
+    chooses = λ other some. let first = picks (λ z. some (chosen ∙ z)) in ((first.0.0, chosen ∙ first.0.1), first.1);
     sets = λ other some. absurd (some none);
     wakes = λ other. absurd (other (ap (λ (z : WakeHand). z.wakes) wake));
     dozes = λ other. absurd (other (ap (λ (z : WakeHand). z.dozes) wake));
+    enters = λ e. absurd (omega (arith, e));
     rouses = λ e e'. absurd (omega (arith, awake, e, e'));
     tries = λ e e'. absurd (omega (arith, awake, e, e'));
   }
 
   -- so it does of a pass that had no wake to do
-  pub goes-clear : words' ≡ words → OwesNoWake v → (d : Duty) → u.ext.wake ≡ record w { duty = d } → (debt_of d ≡ 1 → (v.hand.held ≡ Alone) × (u.hand.held ≡ No)) → (chosen_code d ≢ 0 → ChoosesFirst (holds_in v.spin) l (chosen_code d)) → Goes
+  pub goes-clear : words' ≡ words → OwesNoWake v → (d : Duty) → u.ext.wake ≡ record w { duty = d } → (debt_of d ≡ 1 → (v.hand.held ≡ Alone) × (u.hand.held ≡ No)) → (chosen_code d ≢ 0 → ChoosesFirst (holds_in v.spin) l (chosen_code d) × MayChoose v.hand u.hand (standing_of v.ext)) → StandingGoes n l Stay words words' v u
   goes-clear same clear d wake ends picks = let none = owes-none w.duty v.hand.freed clear in goes-duty same d wake (λ _ e. ends e) (λ e odd. absurd (let even = none.1 e in omega (arith, even, odd))) none.0 picks
 
   -- a debtor chooses the first waiter
-  pub goes-chooses : words' ≡ words → HasLock v → owed w.duty v.hand.freed ≡ 1 → u.ext.wake ≡ record w { duty = duty_of (first_code l) } → Goes
-  goes-chooses same has owes wake = goes-duty same (duty_of (first_code l)) wake (λ _ e. absurd (let none = chosen-debt (first_code l) in omega (arith, none, e))) (λ _ _. inr (has, chosen-code (first_code l))) (owing-chosen w.duty v.hand.freed owes) (λ _. (has, chosen-code (first_code l)))
+  pub goes-chooses : words' ≡ words → HasLock v → owed w.duty v.hand.freed ≡ 1 → u.ext.wake ≡ record w { duty = duty_of (first_code l) } → StandingGoes n l Stay words words' v u
+  goes-chooses same has owes wake = let first : ChoosesFirst (holds_in v.spin) l (chosen_code (duty_of (first_code l))) = (has, chosen-code (first_code l)) in
+      goes-duty same (duty_of (first_code l)) wake (λ _ e. absurd (let none = chosen-debt (first_code l) in omega (arith, none, e))) (λ _ _. inr first) (owing-chosen w.duty v.hand.freed owes) (λ _. (first, inl (owed-some w.duty v.hand.freed (omega (arith, owes)))))
 
 module _ (n : ℕ) (l : List Waiter) (words : List ℕ) (v u : V) where
   -- a try fails
   pub goes-fails : u.ext.wake ≡ failing (holds_in v.spin) v.spin.entries v.ext.wake → 8 ≤ n → (t : ℕ) → v.hand.task ≡ Some t → IsUnpicked n t → StandingGoes n l Stay words words v u
   goes-fails wake big t mine unpicked = holds-or-not v.spin
-      (λ has. goes-vigil n l Stay words words v u refl (foiled v.ext.wake.vigil v.spin.entries) (wake ∙ ap (λ (z : ℕ). failing z v.spin.entries v.ext.wake) has)
+      (λ has. goes-vigil n l words words v u Stay refl (foiled v.ext.wake.vigil v.spin.entries) (wake ∙ ap (λ (z : ℕ). failing z v.spin.entries v.ext.wake) has) (λ e. absurd (omega (arith, e)))
       (λ _ e. absurd (let none = foiled-bit v.ext.wake.vigil v.spin.entries in omega (arith, none, e))) (λ _ _. inr (has, big, (t, mine, unpicked))))
-      (λ out. goes-same n l Stay words words v u refl (wake ∙ ap (λ (z : ℕ). failing z v.spin.entries v.ext.wake) out))
+      (λ out. goes-same n l words words v u refl (wake ∙ ap (λ (z : ℕ). failing z v.spin.entries v.ext.wake) out))
 
   -- a load of the head
   pub goes-looks : (code : ℕ) → u.ext.wake ≡ looking (holds_in v.spin) v.ext.list.changes v.hand.freed code v.ext.wake → (HasLock v → v.ext.list.changes ≡ false → code ≡ first_code l) → StandingGoes n l Stay words words v u
   goes-looks code wake is = holds-or-not v.spin
       (λ has. false-or-true v.ext.list.changes
-      (λ changes. goes-same n l Stay words words v u refl (wake ∙ (λ i. looking (has i) (changes i) v.hand.freed code v.ext.wake)))
+      (λ changes. goes-same n l words words v u refl (wake ∙ (λ i. looking (has i) (changes i) v.hand.freed code v.ext.wake)))
       (λ still. ⊎_elim
-      (λ (same : choosing v.ext.wake.duty (v.hand.freed % 2) code ≡ v.ext.wake.duty). goes-same n l Stay words words v u refl (wake ∙ ((λ i. looking (has i) (still i) v.hand.freed code v.ext.wake) ∙ (λ i. record v.ext.wake { duty = same i }))))
-      (λ (owes : (owed v.ext.wake.duty v.hand.freed ≡ 1) × (choosing v.ext.wake.duty (v.hand.freed % 2) code ≡ duty_of code)). goes-chooses n l Stay words words v u refl has owes.0
+      (λ (same : choosing v.ext.wake.duty (v.hand.freed % 2) code ≡ v.ext.wake.duty). goes-same n l words words v u refl (wake ∙ ((λ i. looking (has i) (still i) v.hand.freed code v.ext.wake) ∙ (λ i. record v.ext.wake { duty = same i }))))
+      (λ (owes : (owed v.ext.wake.duty v.hand.freed ≡ 1) × (choosing v.ext.wake.duty (v.hand.freed % 2) code ≡ duty_of code)). goes-chooses n l words words v u refl has owes.0
       (wake ∙ ((λ i. looking (has i) (still i) v.hand.freed code v.ext.wake) ∙ ((λ i. record v.ext.wake { duty = owes.1 i }) ∙ ap (λ (z : ℕ). record v.ext.wake { duty = duty_of z }) (is has still)))))
       (choosing-or v.ext.wake.duty v.hand.freed code)))
-      (λ out. goes-vigil n l Stay words words v u refl (roused v.ext.wake.vigil) (wake ∙ ap (λ (z : ℕ). looking z v.ext.list.changes v.hand.freed code v.ext.wake) out)
+      (λ out. goes-vigil n l words words v u Stay refl (roused v.ext.wake.vigil) (wake ∙ ap (λ (z : ℕ). looking z v.ext.list.changes v.hand.freed code v.ext.wake) out) (λ e. absurd (omega (arith, e)))
       (λ _ _. inr out) (λ e e'. absurd (let up = roused-bit v.ext.wake.vigil e in omega (arith, up, e'))))
 
 module _ (n : ℕ) (l : List Waiter) (words : List ℕ) (v u : V) (t m : ℕ) (few : t < MAX_TASKS) (wide : length words ≡ WAKE_WORDS) where
@@ -160,6 +167,7 @@ module _ (n : ℕ) (l : List Waiter) (words : List ℕ) (v u : V) (t m : ℕ) (f
         sets = λ other some. done;
         wakes = λ other. done;
         dozes = λ other. absurd (other (ap (λ (z : WakeHand). z.dozes) wake));
+        enters = λ e. absurd (omega (arith, e));
         rouses = λ e e'. absurd (omega (arith, awake, e, e'));
         tries = λ e e'. absurd (omega (arith, awake, e, e'));
       }
@@ -183,6 +191,7 @@ module _ (n : ℕ) (l : List Waiter) (words : List ℕ) (v u : V) (t m : ℕ) (f
         sets = λ other some. absurd (other chosen);
         wakes = λ other. absurd (other (ap (λ (z : WakeHand). z.wakes) is));
         dozes = λ other. ((t, mine, was), out, queued, before, awake ∙ before, ap (λ (z : WakeHand). z.dozes) is);
+        enters = λ e. absurd (omega (arith, e));
         rouses = λ e e'. absurd (omega (arith, awake, e, e'));
         tries = λ e e'. absurd (omega (arith, before, e));
       }
@@ -194,6 +203,7 @@ module _ (n : ℕ) (l : List Waiter) (words : List ℕ) (v u : V) (t m : ℕ) (f
         sets = λ other some. absurd (other chosen);
         wakes = λ other. absurd (other (ap (λ (z : WakeHand). z.wakes) is));
         dozes = λ other. absurd (other dozed);
+        enters = λ e. absurd (omega (arith, e));
         rouses = λ e e'. inr (out, dozed);
         tries = λ e e'. absurd (omega (arith, before, e));
       }

@@ -56,13 +56,14 @@ HasDuty m t = ((id : ℕ) × (h : Hand) × (s : Standing) × (get_elem? m.hands 
 abbrev pub OwesNone : Standing → Hand → Type 0
 OwesNone s h = (s.chosen ≡ 0) × (s.debt ≡ 1 → h.freed % 2 ≡ 0)
 
--- while this is the list: its words state it while the wait lock is free, each waiter has a pass, each pass has a mark, which says whether its task waits, and the owner word states who holds, who is picked, and whether tasks wait; and where nobody holds, somebody has the duty to wake the first waiter, or it needs nobody
+-- while this is the list: its words state it while the wait lock is free, each waiter has a pass, each pass has a mark, which says whether its task waits; a pass without a task has no wake to do; and the owner word states who holds, who is picked, and whether tasks wait; and where nobody holds, somebody has the duty to wake the first waiter, or it needs nobody
 pub record IsListed (m : Moment) (l : List Waiter) : Type 0 where
   pub sound : IsList l
   pub states : IsWaitLockFree m.spins → Lists (list_words m.words) l
   pub passes : (t : ℕ) → 0 < counted t l → HasPass m.hands t
   pub has : (id : ℕ) (h : Hand) → get_elem? m.hands id ≡ some h → (s : Standing) × StandsMarked id s m
   pub marked : (id : ℕ) (s : Standing) (h : Hand) → get_elem? m.hands id ≡ some h → StandsMarked id s m → s.queued ≡ waits_in l h.task
+  pub unnamed : (id : ℕ) (s : Standing) (h : Hand) → get_elem? m.hands id ≡ some h → StandsMarked id s m → h.task ≡ None → OwesNone s h
   pub owner : StatesOwner (owner_in m.words) (IsWaitLockFree m.spins) l m.hands
   pub duty : IsHolder m.hands None → (t : ℕ) → first_code l ≡ t + 1 → HasDuty m t
 

@@ -1,6 +1,7 @@
 //! The rule of a mutex.
 ghost use Rattle.std.specs.Prelude.{◌<◌};
 ghost use Rattle.word_bits.specs.LockWords.{owned};
+ghost use Rattle.lock_core.specs.Barely.{one-some, one-eight};
 ghost use Rattle.mutex_slow.specs.Mutexes.{Kept, MutexMoves, idle, list_at, list_of, may_change, may_free, may_miss, may_own, owner_at, rests, saw_first, turned, uncounted, standing, wake_of, wakes_at, with_list, with_wake};
 ghost use Rattle.mutex_slow.specs.Mutexes.{MutexKept};
 ghost use Rattle.mutex_slow.specs.MutexLaws.{list-again, list-back, list-inside, list-over, list-same, may-on, may-stay, own-inside, spin-inside};
@@ -55,11 +56,19 @@ impl<O: Object> SiteRule for MutexRule<O> {
 impl<O: Object> SpinHost for MutexRule<O> {
     const FIRST: usize = 0;
 
+    const LOCKS: usize = 1;
+
     ghost FIRST = { 0 };
+
+    ghost LOCKS = { 1 };
 
     ghost may_free = { may_free };
 
     ghost spin_inside = { spin-inside };
+
+    ghost spin_some = { one-some };
+
+    ghost spin_eight = { one-eight };
 
     ghost spin_kept = { mutex-spin O.object O.WORDS };
 

@@ -1,184 +1,250 @@
--- What each step of the slow path makes of the lock's own facts.
-use Rattle.std.proofs.Common.{◌≡◌, ◌≢◌, ℕ, zero, suc, ◌+◌, ◌*◌, ◌/◌, ◌%◌, ◌==◌, ◌<◌, ◌≤◌, Bool, true, false, List, [], ◌∷◌, ◌++◌, map, get_or, set, Some, sym, refl, ap, ◌∙◌, subst, ⊎_elim, arith, eq-eqb, ne_eqb, eqb, ltb, if◌then◌else◌, inl, inr, get_or-set_same}
-use mathlib.Core.Option.{some, some-injective, some-ne-none}
+-- What each step of the slow path makes of the locks' own facts.
+use Rattle.std.proofs.Common.{◌≡◌, ◌≢◌, ℕ, ◌+◌, ◌*◌, ◌/◌, ◌%◌, ◌==◌, ◌<◌, ◌≤◌, Bool, true, false, List, [], ◌∷◌, ◌++◌, map, get_or, set, Some, sym, refl, ap, ◌∙◌, subst, ⊎_elim, arith, eq-eqb, ne_eqb, eqb, ltb, if◌then◌else◌, inl, inr, get_or-set_same, length, Option}
+use mathlib.Core.Option.{some}
 use Rattle.std.proofs.lemmas.Bool.{eqb-true, ltb-true, ltb-false}
 use mathlib.Core.Logic.{dite}
 use native.Mathlib.Decide.{ℕ_discrete}
 use lib.ListN.{get_elem?}
 use Rattle.word_bits.specs.declared.TheConstants.{MAX_TASKS}
+use Rattle.lock_core.specs.declared.layout.TheConstants.{SPIN_WORDS}
 use Rattle.lock_core.specs.declared.op.Op.TheVariants.{Load, Store, Or, Exchange}
 use Rattle.lock_core.specs.declared.view.View.{View}
 use Rattle.lock_core.specs.declared.view.SpinHand.{SpinHand}
+use Rattle.lock_core.specs.declared.view.LockHand.{LockHand}
 use Rattle.lock_core.specs.declared.view.Frame.{Frame}
 use Rattle.lock_core.specs.declared.view.Point.{Point}
 use Rattle.lock_core.specs.declared.view.Point.TheVariants.{Out, Clearing, Cleared, Linking, Waiting, Front, Ready, Passing, Holding}
 use Rattle.lock_core.specs.Totals.{total, total-at}
 use Rattle.lock_core.specs.Views.{SpinPart, spin_part, part_with}
-use Rattle.lock_core.specs.SpinFrames.{uses, uses_as, stands, stands_as, holds_at, ready_of}
-use Rattle.lock_core.specs.SpinQueues.{tail_unit, tail_of}
-use Rattle.lock_core.specs.Spins.{SpinFacts, SpinMoves, OwnNode, frame_of, next_in, locked_in, next_at, locked_at}
+use Rattle.lock_core.specs.LockHands.{lock_hand_at, frame_at, point_at, depth_of, with_lock_hand, at-with, at-else}
+use Rattle.lock_core.specs.SpinFrames.{uses, uses_as, stands, holds_at, holds_of, ready_of}
+use Rattle.lock_core.specs.SpinQueues.{LockKept, tail_unit}
+use Rattle.lock_core.specs.Spins.{SpinFacts, SpinGoes, SpinsMove, OwnNodes, QueueMoves, TakesFrom, ComesTo, LeavesBy, frame_on, node_code, tail_in, word_in, next_in, locked_in, word_at, next_at, locked_at, holds_on}
 use Rattle.qspin_word.specs.Allows.{AreNumbered, SpinAllows}
-use Rattle.qspin_word.specs.Hands.{at_point, went, framed, took_at}
-use Rattle.qspin_queue.specs.Hands.{node_of, retried, cleared_locked, cleared_next, queued, linked, heard, learnt, readied, took_last, took_front, passed}
+use Rattle.qspin_word.specs.Hands.{at_point, went, framed, taken, took_at}
+use Rattle.qspin_queue.specs.Handles.{IsTop}
+use Rattle.qspin_queue.specs.Hands.{code_for, node_at, as_front, retried, cleared_locked, cleared_next, queued, linked, heard, learnt, readied, took_last, took_front, passed}
 use Rattle.qspin_word.proofs.Bits.{or_byte}
-use Rattle.qspin_word.proofs.Codes.{some_summand, tail-in}
 use Rattle.qspin_word.proofs.WordSteps as step
-use Rattle.qspin_word.proofs.Regions.{goes-word, goes-next, goes-locked, goes-look, put-next, put-locked}
-use Rattle.qspin_word.proofs.SpinSteps.{by_test, counts-took, counts-idle, After, here, looks-still, takes-free}
+use Rattle.qspin_word.proofs.OwnNodes.{own-node}
+use Rattle.qspin_word.proofs.Regions.{codes, goes-word, goes-next, goes-locked, goes-look, put-next, put-locked}
+use Rattle.qspin_word.proofs.SpinSteps.{by_test, counts-took, counts-idle, After, here, kept, looks-still, moved}
 use Rattle.qspin_queue.proofs.NodeSteps as node
 use Rattle.qspin_queue.proofs.Stating.{states}
-use Rattle.qspin_queue.proofs.Standing.{counted, counts-stands, stands-uses}
+use Rattle.qspin_queue.proofs.Sharing.{User, small-user, queued-user, small-tail, small-next, unused-else, unused-new, away-next, away-locked, own-enter, own-leave, own-entries}
 
-unmapped : (ps : List SpinPart) (j : ℕ) (g : Frame) → get_elem? (map frame_of ps) j ≡ some g → (p : SpinPart) × (get_elem? ps j ≡ some p) × (frame_of p ≡ g)
-unmapped [] j g at = absurd (some-ne-none g (sym at))
-unmapped (p ∷ ps) zero g at = (p, refl, some-injective (frame_of p) g at)
-unmapped (p ∷ ps) (suc j) g at = unmapped ps j g at
+-- the queue of one lock is another one
+abbrev pub requeue : (ℕ → List ℕ) → ℕ → List ℕ → ℕ → List ℕ
+requeue q l r m = if m == l then r else q m
 
--- the codes that the words have are those of tasks
-module _ (w q : List ℕ) (ps : List SpinPart) (k : SpinFacts w q ps) (named : AreNumbered ps) where
-  small-queued : (r x : ℕ) → get_elem? q r ≡ some x → x ≤ MAX_TASKS
-  small-queued r x there = let c = counted q r x there in let m = k.lock.queued.members x in let s = some_summand (stands_as x) (map frame_of ps) (omega (arith, c, m)) in let g = s.1 in let t = counts-stands (stands g.point) x g.code s.3 in let p = unmapped ps s.0 g s.2 in
-      let o = k.own s.0 p.0 p.1 (ap (λ (h : Frame). uses h.point) p.2 ∙ stands-uses g.point t.0) in let l = named.few s.0 p.0 p.1 o.0 o.1 in let e = o.2 in let same : p.0.spin.frame.code ≡ x = ap (λ (h : Frame). h.code) p.2 ∙ t.1 in omega (arith, l, e, same)
+requeue-here : (q : ℕ → List ℕ) (l : ℕ) (r : List ℕ) → requeue q l r l ≡ r
+requeue-here q l r = ap (λ (b : Bool). if b then r else q l) (eq-eqb l l refl)
 
-  small-own : (id : ℕ) (p : SpinPart) → get_elem? ps id ≡ some p → uses p.spin.frame.point ≡ true → p.spin.frame.code ≤ MAX_TASKS
-  small-own id p at used = let o = k.own id p at used in let l = named.few id p at o.0 o.1 in let e = o.2 in omega (arith, l, e)
+requeue-else : (q : ℕ → List ℕ) (l : ℕ) (r : List ℕ) (m : ℕ) → m ≢ l → requeue q l r m ≡ q m
+requeue-else q l r m apart = ap (λ (b : Bool). if b then r else q m) (ne_eqb m l apart)
 
-  pub small-tail : get_or w 0 0 / tail_unit ≤ MAX_TASKS
-  small-tail = let b = k.lock.balanced in ⊎_elim (λ e. let z = ap tail_of e in omega arith) (λ t. let l = small-queued t.0 (tail_of q) t.1 in omega arith) (tail-in q)
+module _ {E : Type 0} (n l : ℕ) (less : l < n) (most : n ≤ 8) (v : View E) (id : ℕ) where
+  abbrev f : Frame
+  f = frame_at l v.spin
 
-  small-next : (code : ℕ) → get_elem? q 0 ≡ some code → get_or w (next_at code) 0 ≤ MAX_TASKS
-  small-next code first = ⊎_elim (λ z. omega arith) (λ n. small-queued 1 (get_or w (next_at code) 0) n) (k.lock.linked 0 code first)
+  eight : l < 8
+  eight = omega (arith, less, most)
 
-  -- the node of a task whose pass is at no lock is free
-  free-node : (id t : ℕ) (p : SpinPart) → get_elem? ps id ≡ some p → p.task ≡ Some t → p.spin.frame.point ≡ Out → total (uses_as (t + 1)) (map frame_of ps) ≡ 0
-  free-node id t p at task out = let fs : List Frame = map frame_of ps in dite (ℕ_discrete (total (uses_as (t + 1)) fs) 0) (λ e. e)
-      (λ not. let s = some_summand (uses_as (t + 1)) fs (omega arith) in let c = counts-stands (uses s.1.point) (t + 1) s.1.code s.3 in let r = unmapped ps s.0 s.1 s.2 in
-      let own = k.own s.0 r.0 r.1 (ap (λ (h : Frame). uses h.point) r.2 ∙ c.0) in
-      let same : own.0 ≡ t = (let a = own.2 in let b = c.1 in let d : r.0.spin.frame.code ≡ s.1.code = ap (λ (h : Frame). h.code) r.2 in omega (arith, a, b, d)) in
-      let here : id ≡ s.0 = named.apart id s.0 p r.0 t at r.1 task (own.1 ∙ ap Some same) in let is : p ≡ r.0 = some-injective p r.0 (sym at ∙ (ap (get_elem? ps) here ∙ r.1)) in
-      let no : true ≡ false = sym c.0 ∙ (ap (λ (h : Frame). uses h.point) (sym r.2) ∙ (ap (λ (x : SpinPart). uses x.spin.frame.point) (sym is) ∙ ap uses out)) in absurd cc)
+  module _ (w : List ℕ) (q : ℕ → List ℕ) (ps : List SpinPart) (k : SpinFacts n w q ps) (at : get_elem? ps id ≡ some (spin_part v)) where
+    abbrev Afters : List ℕ → SpinHand → Type 0
+    Afters w' s = After n l less most v id w q ps k at w' s
 
-module _ {E : Type 0} (v : View E) (id : ℕ) where
-  own-still : (w q : List ℕ) (ps : List SpinPart) → SpinFacts w q ps → get_elem? ps id ≡ some (spin_part v) → (p : Point) → v.spin.frame.point ≡ p → uses p ≡ true → (s : SpinHand) → s.frame.code ≡ v.spin.frame.code → OwnNode (part_with v s)
-  own-still w q ps k at p e used s same _ = let o = k.own id (spin_part v) at (ap uses e ∙ used) in (o.0, o.1, same ∙ o.2)
+    abbrev word : ℕ
+    word = word_in w l
 
-  pub retries : v.spin.frame.point ≡ Cleared → SpinAllows id v 0 (Exchange 0 1) (λ n. retried n v) (λ n. Unit {0})
-  retries e w q ps k named at small = let n : ℕ = get_or w 0 0 in let t : After v id w q ps k at (set w 0 (if n == 0 then 1 else n)) (retried n v) = dite (ℕ_discrete n 0)
-      (λ free. subst (λ (b : Bool). After v id w q ps k at (set w 0 (if b then 1 else n)) (if b then took_at v.spin (v.steps + 1) Holding else v.spin)) (sym (eq-eqb n 0 free))
-      (takes-free v id w q ps k at (took_at v.spin (v.steps + 1) Holding) Cleared e refl refl (λ z. z) refl (λ l. step.takes-clean (next_in w) (locked_in w) q (map frame_of ps) id v.spin.frame l (here v id w q ps k at Cleared e)) free))
-      (λ not. subst (λ (b : Bool). After v id w q ps k at (set w 0 (if b then 1 else n)) (if b then took_at v.spin (v.steps + 1) Holding else v.spin)) (sym (ne_eqb n 0 not))
-      (looks-still v id w q ps k at 0)) in (t.0, t.1, tt)
+    abbrev fs : List Frame
+    fs = map (frame_on l) ps
+
+    mine : OwnNodes (spin_part v)
+    mine = k.own id (spin_part v) at
+
+    -- it uses the node that it used
+    own-same : (g : Frame) (p : Point) → f.point ≡ p → uses p ≡ true → uses g.point ≡ true → g.code ≡ f.code → OwnNodes (record (spin_part v) { spin = framed l v.spin g })
+    own-same g p e used used' same = own-node l (spin_part v) (moved n l less most v id g) (ap uses e ∙ used) used' same mine
+
+    own-left : (b : LockHand) (p : Point) → f.point ≡ p → uses p ≡ true → uses b.frame.point ≡ false → IsTop l (spin_part v) → OwnNodes (record (spin_part v) { spin = with_lock_hand l v.spin b })
+    own-left b p e used free top = own-leave l (spin_part v) b (ap uses e ∙ used) free top mine
+
+    -- a step to another frame, after which this is the lock's queue
+    module _ (r : List ℕ) (g : Frame) (own : OwnNodes (record (spin_part v) { spin = framed l v.spin g })) (p : Point) (e : f.point ≡ p) (less_held : holds_of g ≤ holds_at p) (moves : QueueMoves (stands p) (stands g.point) f.code (tail_in word) f.found g.found (q l) r) (takes : holds_of g ≡ 1 → TakesFrom p word) (comes : ComesTo p g.point word) where
+      abbrev fs' : List Frame
+      fs' = set fs id g
+
+      counted : SpinGoes (v.steps + 1) l v.spin (framed l v.spin g)
+      counted = counts-idle (v.steps + 1) l v.spin g v.spin.saw (let h = ap holds_at e in omega (arith, h, less_held)) (λ x e. inl e)
+
+      now : frame_at l (framed l v.spin g) ≡ g
+      now = ap (λ (b : LockHand). b.frame) (at-with l v.spin (moved n l less most v id g))
+
+      stay : (m : ℕ) → m ≢ l → lock_hand_at m (framed l v.spin g) ≡ lock_hand_at m v.spin
+      stay m apart = at-else l m v.spin (moved n l less most v id g) apart
+
+      moves' : QueueMoves (stands p) (stands g.point) f.code (tail_in word) f.found g.found (q l) (requeue q l r l)
+      moves' = subst (QueueMoves (stands p) (stands g.point) f.code (tail_in word) f.found g.found (q l)) (sym (requeue-here q l r)) moves
+
+      to-word : (x : ℕ) → LeavesBy l (stands p) (stands g.point) w r (set w (word_at l) x) → LockKept x (next_in w) (locked_in w) r fs' → Afters (set w (word_at l) x) (framed l v.spin g)
+      to-word x leaves lock = (
+        goes-word n l less w q (requeue q l r) ps id (spin_part v) (framed l v.spin g) g k now stay (requeue-else q l r) (λ x e. inl e) at own p e moves' takes comes eight x
+            (subst (λ (z : List ℕ). LeavesBy l (stands p) (stands g.point) w z (set w (word_at l) x)) (sym (requeue-here q l r)) leaves) (subst (λ (z : List ℕ). LockKept x (next_in w) (locked_in w) z fs') (sym (requeue-here q l r)) lock),
+        counted,
+      )
+
+      to-next : (c x : ℕ) → LeavesBy l (stands p) (stands g.point) w r (set w (next_at c) x) → ((m : ℕ) → m ≢ l → m < n → LockKept (word_in w m) (next_in (set w (next_at c) x)) (locked_in w) (q m) (map (frame_on m) ps)) → LockKept word (next_in (set w (next_at c) x)) (locked_in w) r fs' → Afters (set w (next_at c) x) (framed l v.spin g)
+      to-next c x leaves away lock = (
+        goes-next n l less w q (requeue q l r) ps id (spin_part v) (framed l v.spin g) g k now stay (requeue-else q l r) (λ x e. inl e) at own p e moves' takes comes c x
+            (subst (λ (z : List ℕ). LeavesBy l (stands p) (stands g.point) w z (set w (next_at c) x)) (sym (requeue-here q l r)) leaves) away (subst (λ (z : List ℕ). LockKept word (next_in (set w (next_at c) x)) (locked_in w) z fs') (sym (requeue-here q l r)) lock),
+        counted,
+      )
+
+      to-locked : (c x : ℕ) → LeavesBy l (stands p) (stands g.point) w r (set w (locked_at c) x) → ((m : ℕ) → m ≢ l → m < n → LockKept (word_in w m) (next_in w) (locked_in (set w (locked_at c) x)) (q m) (map (frame_on m) ps)) → LockKept word (next_in w) (locked_in (set w (locked_at c) x)) r fs' → Afters (set w (locked_at c) x) (framed l v.spin g)
+      to-locked c x leaves away lock = (
+        goes-locked n l less w q (requeue q l r) ps id (spin_part v) (framed l v.spin g) g k now stay (requeue-else q l r) (λ x e. inl e) at own p e moves' takes comes c x
+            (subst (λ (z : List ℕ). LeavesBy l (stands p) (stands g.point) w z (set w (locked_at c) x)) (sym (requeue-here q l r)) leaves) away (subst (λ (z : List ℕ). LockKept word (next_in w) (locked_in (set w (locked_at c) x)) z fs') (sym (requeue-here q l r)) lock),
+        counted,
+      )
+
+      to-look : (i : ℕ) → LeavesBy l (stands p) (stands g.point) w r (set w i (get_or w i 0)) → LockKept word (next_in w) (locked_in w) r fs' → Afters (set w i (get_or w i 0)) (framed l v.spin g)
+      to-look i leaves lock = (
+        goes-look n l less w q (requeue q l r) ps id (spin_part v) (framed l v.spin g) g k now stay (requeue-else q l r) (λ x e. inl e) at own p e moves' takes comes i
+            (subst (λ (z : List ℕ). LeavesBy l (stands p) (stands g.point) w z (set w i (get_or w i 0))) (sym (requeue-here q l r)) leaves) (subst (λ (z : List ℕ). LockKept word (next_in w) (locked_in w) z fs') (sym (requeue-here q l r)) lock),
+        counted,
+      )
+
+    -- a step on the word that takes the lock
+    to-taken : (r : List ℕ) (to : Point) (own : OwnNodes (record (spin_part v) { spin = with_lock_hand l v.spin (taken l v.spin (v.steps + 1) to) })) (p : Point) (e : f.point ≡ p) → holds_at p ≡ 0 → holds_at to ≡ 1 → QueueMoves (stands p) (stands to) f.code (tail_in word) f.found f.found (q l) r → TakesFrom p word → ComesTo p to word
+        → (x : ℕ) → LeavesBy l (stands p) (stands to) w r (set w (word_at l) x) → LockKept x (next_in w) (locked_in w) r (set fs id (at_point f to)) → Afters (set w (word_at l) x) (took_at l v.spin (v.steps + 1) to)
+    to-taken r to own p e free holds moves takes comes x leaves lock = let b : LockHand = taken l v.spin (v.steps + 1) to in (
+      goes-word n l less w q (requeue q l r) ps id (spin_part v) (took_at l v.spin (v.steps + 1) to) (at_point f to) k (ap (λ (b : LockHand). b.frame) (at-with l v.spin b)) (λ m apart. at-else l m v.spin b apart) (requeue-else q l r) (λ x e. inl e) at
+          (own-entries (spin_part v) (with_lock_hand l v.spin b) (v.spin.entries + 1) own) p e (subst (QueueMoves (stands p) (stands to) f.code (tail_in word) f.found f.found (q l)) (sym (requeue-here q l r)) moves) (λ _. takes) comes eight x
+          (subst (λ (z : List ℕ). LeavesBy l (stands p) (stands to) w z (set w (word_at l) x)) (sym (requeue-here q l r)) leaves) (subst (λ (z : List ℕ). LockKept x (next_in w) (locked_in w) z (set fs id (at_point f to))) (sym (requeue-here q l r)) lock),
+      counts-took l v.spin (v.steps + 1) to (ap holds_at e ∙ free) holds,
+    )
+
+    old : (p : Point) → f.point ≡ p → get_elem? fs id ≡ some (at_point f p)
+    old p e = here n l less most v id w q ps k at p e
+
+    lock : LockKept word (next_in w) (locked_in w) (q l) fs
+    lock = kept n l less most v id w q ps k at
+
+    still : (i : ℕ) → Afters (set w i (get_or w i 0)) v.spin
+    still i = looks-still n l less most v id w q ps k at i
+
+    module _ (named : AreNumbered ps) where
+      -- the code of its own node is small, and no other lock has it
+      my-node : (p : Point) → f.point ≡ p → uses p ≡ true → User n w q ps k named l f.code
+      my-node p e used = (id, spin_part v, at, ap uses e ∙ used, refl)
+
+  pub retries : f.point ≡ Cleared → IsTop l (spin_part v) → SpinAllows n l id v (word_at l) (Exchange 0 1) (λ x. retried l x v) (λ x. Unit {0})
+  retries e top w q ps k named at small = let x : ℕ = word_in w l in let t : Afters w q ps k at (set w (word_at l) (if x == 0 then 1 else x)) (retried l x v) = dite (ℕ_discrete x 0)
+      (λ free. subst (λ (b : Bool). Afters w q ps k at (set w (word_at l) (if b then 1 else x)) (if b then took_at l v.spin (v.steps + 1) Holding else v.spin)) (sym (eq-eqb x 0 free))
+      (to-taken w q ps k at (q l) Holding (own-left w q ps k at (taken l v.spin (v.steps + 1) Holding) Cleared e refl refl top) Cleared e refl refl refl free tt 1 tt
+      (step.takes-clean (next_in w) (locked_in w) (q l) (map (frame_on l) ps) id f (subst (λ (z : ℕ). LockKept z (next_in w) (locked_in w) (q l) (map (frame_on l) ps)) free (lock w q ps k at)) (old w q ps k at Cleared e))))
+      (λ not. subst (λ (b : Bool). Afters w q ps k at (set w (word_at l) (if b then 1 else x)) (if b then took_at l v.spin (v.steps + 1) Holding else v.spin)) (sym (ne_eqb x 0 not)) (still w q ps k at (word_at l))) in (t.0, t.1, tt)
 
   -- the words of the own node are cleared
-  pub clears-locked : (c t : ℕ) → v.hand.task ≡ Some t → c ≡ t + 1 → t < MAX_TASKS → v.spin.frame.point ≡ Out → SpinAllows id v (locked_at c) (Store 0) (λ n. cleared_locked v) (λ n. Unit {0})
-  clears-locked c t task is few e w q ps k named at small = let wide = k.wide in let own : node_of v.hand.task ≡ c = ap node_of task ∙ sym is in
-      let unused : total (uses_as c) (map frame_of ps) ≡ 0 = subst (λ (z : ℕ). total (uses_as z) (map frame_of ps) ≡ 0) (sym is) (free-node w q ps k named id t (spin_part v) at task e) in
-      let s : SpinHand = framed v.spin (record { point = Clearing; code = c; found = 0; next = 0 }) in
-      let t' : After v id w q ps k at (set w (locked_at c) 0) (cleared_locked v) = subst (λ (z : ℕ). After v id w q ps k at (set w (locked_at c) 0) (framed v.spin (record { point = Clearing; code = z; found = 0; next = 0 }))) (sym own) (
-        goes-locked w q q ps id (spin_part v) s k (λ x e. inl e) at (λ used. (t, task, is)) Out e refl (λ no. absurd (omega arith)) tt c 0 tt
-            (node.wipes (get_or w 0 0) (next_in w) (locked_in w) q (map frame_of ps) id (locked_in (set w (locked_at c) 0)) v.spin.frame c unused (put-locked w c 0 wide (omega (arith, is, few))) k.lock (here v id w q ps k at Out e)),
-        counts-idle (v.steps + 1) v.spin s.frame v.spin.saw (omega arith) (λ x e. inl e),
-      ) in (t'.0, t'.1, tt)
+  pub clears-locked : (t i : ℕ) → v.hand.task ≡ Some t → t < MAX_TASKS → i < 4 → i ≡ depth_of v.spin → f.point ≡ Out → SpinAllows n l id v (locked_at (node_code t i)) (Store 0) (λ x. cleared_locked l v) (λ x. Unit {0})
+  clears-locked t i task few four deep e w q ps k named at small = let c : ℕ = node_code t i in let wide = k.wide in let fits : c < codes = omega (arith, few, four) in
+      let own : c ≡ code_for v.hand.task (depth_of v.spin) = ap (node_code t) deep ∙ ap (λ (o : Option ℕ). code_for o (depth_of v.spin)) (sym task) in
+      let unused : (m : ℕ) → total (uses_as c) (map (frame_on m) ps) ≡ 0 = unused-new n w q ps k named id (spin_part v) t i at task four (omega (arith, deep)) in
+      let r = to-locked w q ps k at (q l) (node_at Clearing c) (own-enter l (spin_part v) (moved n l less most v id (node_at Clearing c)) t i e refl task deep four refl (mine w q ps k at)) Out e (omega arith) refl (λ no. absurd (omega arith)) tt c 0 tt
+      (λ m apart more. away-locked n w q ps k named m c 0 more fits (unused m))
+      (node.wipes (word_in w l) (next_in w) (locked_in w) (q l) (map (frame_on l) ps) id (locked_in (set w (locked_at c) 0)) f c (unused l) (put-locked w c 0 wide fits) (lock w q ps k at) (old w q ps k at Out e)) in
+      let r' : Afters w q ps k at (set w (locked_at c) 0) (cleared_locked l v) = subst (λ (z : ℕ). Afters w q ps k at (set w (locked_at c) 0) (framed l v.spin (node_at Clearing z))) own r in (r'.0, r'.1, tt)
 
-  pub clears-next : v.spin.frame.point ≡ Clearing → SpinAllows id v (next_at v.spin.frame.code) (Store 0) (λ n. cleared_next v) (λ n. Unit {0})
-  clears-next e w q ps k named at small = let c : ℕ = v.spin.frame.code in let wide = k.wide in let fits = small-own w q ps k named id (spin_part v) at (ap uses e) in (
-    goes-next w q q ps id (spin_part v) (went v.spin Cleared) k (λ x e. inl e) at (own-still w q ps k at Clearing e refl (went v.spin Cleared) refl) Clearing e refl (λ no. absurd (omega arith)) tt c 0 tt
-        (node.cleans (get_or w 0 0) (next_in w) (locked_in w) q (map frame_of ps) id (next_in (set w (next_at c) 0)) v.spin.frame (put-next w c 0 wide fits) k.lock (here v id w q ps k at Clearing e)),
-    counts-idle (v.steps + 1) v.spin (at_point v.spin.frame Cleared) v.spin.saw (omega arith) (λ x e. inl e),
-    tt,
-  )
+  pub clears-next : f.point ≡ Clearing → SpinAllows n l id v (next_at f.code) (Store 0) (λ x. cleared_next l v) (λ x. Unit {0})
+  clears-next e w q ps k named at small = let c : ℕ = f.code in let wide = k.wide in let user = my-node w q ps k at named Clearing e refl in let fits = small-user n w q ps k named l c user in
+      let r = to-next w q ps k at (q l) (at_point f Cleared) (own-same w q ps k at (at_point f Cleared) Clearing e refl refl refl) Clearing e (omega arith) refl (λ no. absurd (omega arith)) tt c 0 tt
+      (λ m apart more. away-next n w q ps k named m c 0 more fits (unused-else n w q ps k named l m c apart user))
+      (node.cleans (word_in w l) (next_in w) (locked_in w) (q l) (map (frame_on l) ps) id (next_in (set w (next_at c) 0)) f (put-next w c 0 wide fits) (lock w q ps k at) (old w q ps k at Clearing e)) in (r.0, r.1, tt)
 
   -- the exchange of the tail
-  pub queues : (from : ℕ) → v.spin.frame.point ≡ Cleared → SpinAllows id v 0 (Exchange from (from % 512 + tail_unit * v.spin.frame.code)) (λ n. queued from n v) (λ n. n / tail_unit ≤ MAX_TASKS)
-  queues from e w q ps k named at small = let n : ℕ = get_or w 0 0 in let g : Frame = v.spin.frame in let c : ℕ = g.code in let old = here v id w q ps k at Cleared e in let o = k.own id (spin_part v) at (ap uses e) in let m = o.2 in let true_code : c ≢ 0 = λ z. omega (arith, m, z) in
-      let first : SpinHand = framed v.spin (record g { point = Front; found = 0; next = 0 }) in let behind : SpinHand = framed v.spin (record g { point = Linking; found = n / tail_unit }) in
-      let t : After v id w q ps k at (set w 0 (if n == from then from % 512 + tail_unit * c else n)) (queued from n v) = by_test (eqb n from) (λ b. After v id w q ps k at (set w 0 (if b then from % 512 + tail_unit * c else n)) (if b then (if ltb n 512 then first else behind) else v.spin))
-      (λ same. subst (λ (z : ℕ). After v id w q ps k at (set w 0 (z % 512 + tail_unit * c)) (if ltb n 512 then first else behind)) (eqb-true n from same)
-      (by_test (ltb n 512) (λ b. After v id w q ps k at (set w 0 (n % 512 + tail_unit * c)) (if b then first else behind))
-      (λ low. (
-        goes-word w q (q ++ c ∷ []) ps id (spin_part v) first k (λ x e. inl e) at (own-still w q ps k at Cleared e refl first refl) Cleared e (refl, omega (arith, ltb-true n 512 low)) (λ no. absurd (omega arith)) tt (n % 512 + tail_unit * c) tt
-            (node.enters-first n (next_in w) (locked_in w) q (map frame_of ps) id g true_code (ltb-true n 512 low) k.lock old),
-        counts-idle (v.steps + 1) v.spin first.frame v.spin.saw (omega arith) (λ x e. inl e),
-      ))
-      (λ high. (
-        goes-word w q (q ++ c ∷ []) ps id (spin_part v) behind k (λ x e. inl e) at (own-still w q ps k at Cleared e refl behind refl) Cleared e (refl, refl) (λ no. absurd (omega arith)) tt (n % 512 + tail_unit * c) tt
-            (node.enters n (next_in w) (locked_in w) q (map frame_of ps) id g true_code (ltb-false n 512 high) k.lock old),
-        counts-idle (v.steps + 1) v.spin behind.frame v.spin.saw (omega arith) (λ x e. inl e),
-      ))))
-      (λ other. looks-still v id w q ps k at 0) in
-      (t.0, t.1, small-tail w q ps k named)
+  pub queues : (from : ℕ) → f.point ≡ Cleared → SpinAllows n l id v (word_at l) (Exchange from (from % 512 + tail_unit * f.code)) (λ x. queued l from x v) (λ x. x / tail_unit < codes)
+  queues from e w q ps k named at small = let x : ℕ = word_in w l in let c : ℕ = f.code in let o = (mine w q ps k at).node l (ap uses e) in let m = o.is in let true_code : c ≢ 0 = λ z. omega (arith, m, z) in let r : List ℕ = q l ++ c ∷ [] in
+      let first : Frame = record f { point = Front; found = 0; next = 0 } in let behind : Frame = record f { point = Linking; found = x / tail_unit } in let i : ℕ = word_at l in
+      let t : Afters w q ps k at (set w i (if x == from then from % 512 + tail_unit * c else x)) (queued l from x v) = by_test (eqb x from) (λ b. Afters w q ps k at (set w i (if b then from % 512 + tail_unit * c else x)) (if b then (if ltb x 512 then framed l v.spin first else framed l v.spin behind) else v.spin))
+      (λ same. subst (λ (z : ℕ). Afters w q ps k at (set w i (z % 512 + tail_unit * c)) (if ltb x 512 then framed l v.spin first else framed l v.spin behind)) (eqb-true x from same)
+      (by_test (ltb x 512) (λ b. Afters w q ps k at (set w i (x % 512 + tail_unit * c)) (if b then framed l v.spin first else framed l v.spin behind))
+      (λ low. to-word w q ps k at r first (own-same w q ps k at first Cleared e refl refl refl) Cleared e (omega arith) (refl, omega (arith, ltb-true x 512 low)) (λ no. absurd (omega arith)) tt (x % 512 + tail_unit * c) tt
+      (node.enters-first x (next_in w) (locked_in w) (q l) (map (frame_on l) ps) id f true_code (ltb-true x 512 low) (lock w q ps k at) (old w q ps k at Cleared e)))
+      (λ high. to-word w q ps k at r behind (own-same w q ps k at behind Cleared e refl refl refl) Cleared e (omega arith) (refl, refl) (λ no. absurd (omega arith)) tt (x % 512 + tail_unit * c) tt
+      (node.enters x (next_in w) (locked_in w) (q l) (map (frame_on l) ps) id f true_code (ltb-false x 512 high) (lock w q ps k at) (old w q ps k at Cleared e)))))
+      (λ other. still w q ps k at i) in
+      (t.0, t.1, small-tail n w q ps k named l less)
 
   -- it tells its predecessor
-  pub links : v.spin.frame.point ≡ Linking → SpinAllows id v (next_at v.spin.frame.found) (Store v.spin.frame.code) (λ n. linked v) (λ n. Unit {0})
-  links e w q ps k named at small = let g : Frame = v.spin.frame in let wide = k.wide in let old = here v id w q ps k at Linking e in let ok = k.lock.each id (at_point g Linking) old in let fits = small-queued w q ps k named ok.0.0 g.found ok.0.1 in (
-    goes-next w q q ps id (spin_part v) (went v.spin Waiting) k (λ x e. inl e) at (own-still w q ps k at Linking e refl (went v.spin Waiting) refl) Linking e (refl, refl) (λ no. absurd (omega arith)) tt g.found g.code tt
-        (node.links (get_or w 0 0) (next_in w) (locked_in w) q (map frame_of ps) id (next_in (set w (next_at g.found) g.code)) g (put-next w g.found g.code wide fits) k.lock old),
-    counts-idle (v.steps + 1) v.spin (at_point v.spin.frame Waiting) v.spin.saw (omega arith) (λ x e. inl e),
-    tt,
-  )
+  pub links : f.point ≡ Linking → SpinAllows n l id v (next_at f.found) (Store f.code) (λ x. linked l v) (λ x. Unit {0})
+  links e w q ps k named at small = let wide = k.wide in let there = old w q ps k at Linking e in let ok = (lock w q ps k at).each id (at_point f Linking) there in let user = queued-user n w q ps k named l less ok.0.0 f.found ok.0.1 in let fits = small-user n w q ps k named l f.found user in
+      let r = to-next w q ps k at (q l) (at_point f Waiting) (own-same w q ps k at (at_point f Waiting) Linking e refl refl refl) Linking e (omega arith) (refl, refl) (λ no. absurd (omega arith)) tt f.found f.code tt
+      (λ m apart more. away-next n w q ps k named m f.found f.code more fits (unused-else n w q ps k named l m f.found apart user))
+      (node.links (word_in w l) (next_in w) (locked_in w) (q l) (map (frame_on l) ps) id (next_in (set w (next_at f.found) f.code)) f (put-next w f.found f.code wide fits) (lock w q ps k at) there) in (r.0, r.1, tt)
 
   -- a load of the own `locked`
-  pub hears : v.spin.frame.point ≡ Waiting → SpinAllows id v (locked_at v.spin.frame.code) Load (λ n. heard n v) (λ n. Unit {0})
-  hears e w q ps k named at small = let g : Frame = v.spin.frame in let i : ℕ = locked_at g.code in let n : ℕ = get_or w i 0 in let s : SpinHand = framed v.spin (record g { point = Front; next = 0 }) in
-      let t : After v id w q ps k at (set w i n) (heard n v) = by_test (eqb n 1) (λ b. After v id w q ps k at (set w i n) (if b then s else v.spin))
-      (λ one. (
-        goes-look w q q ps id (spin_part v) s k (λ x e. inl e) at (own-still w q ps k at Waiting e refl s refl) Waiting e (refl, refl) (λ no. absurd (omega arith)) tt i tt
-            (node.fronts (get_or w 0 0) (next_in w) (locked_in w) q (map frame_of ps) id g (eqb-true n 1 one) k.lock (here v id w q ps k at Waiting e)),
-        counts-idle (v.steps + 1) v.spin s.frame v.spin.saw (omega arith) (λ x e. inl e),
-      ))
-      (λ other. looks-still v id w q ps k at i) in (t.0, t.1, tt)
+  pub hears : f.point ≡ Waiting → SpinAllows n l id v (locked_at f.code) Load (λ x. heard l x v) (λ x. Unit {0})
+  hears e w q ps k named at small = let i : ℕ = locked_at f.code in let x : ℕ = get_or w i 0 in
+      let t : Afters w q ps k at (set w i x) (heard l x v) = by_test (eqb x 1) (λ b. Afters w q ps k at (set w i x) (if b then framed l v.spin (as_front f) else v.spin))
+      (λ one. to-look w q ps k at (q l) (as_front f) (own-same w q ps k at (as_front f) Waiting e refl refl refl) Waiting e (omega arith) (refl, refl) (λ no. absurd (omega arith)) tt i tt
+      (node.fronts (word_in w l) (next_in w) (locked_in w) (q l) (map (frame_on l) ps) id f (eqb-true x 1 one) (lock w q ps k at) (old w q ps k at Waiting e)))
+      (λ other. still w q ps k at i) in (t.0, t.1, tt)
 
   -- loads of the own `next`
-  pub learns : v.spin.frame.point ≡ Front → SpinAllows id v (next_at v.spin.frame.code) Load (λ n. learnt Front n v) (λ n. n ≤ MAX_TASKS)
-  learns e w q ps k named at small = let g : Frame = v.spin.frame in let s : SpinHand = learnt Front (get_or w (next_at g.code) 0) v in let old = here v id w q ps k at Front e in (
-    goes-look w q q ps id (spin_part v) s k (λ x e. inl e) at (own-still w q ps k at Front e refl s refl) Front e (refl, refl) (λ no. absurd (omega arith)) tt (next_at g.code) tt (node.learns (get_or w 0 0) (next_in w) (locked_in w) q (map frame_of ps) id g k.lock old),
-    counts-idle (v.steps + 1) v.spin s.frame v.spin.saw (omega arith) (λ x e. inl e),
-    small-next w q ps k named g.code (k.lock.each id (at_point g Front) old).0,
-  )
+  pub learns : f.point ≡ Front → SpinAllows n l id v (next_at f.code) Load (λ x. learnt l Front x v) (λ x. x < codes)
+  learns e w q ps k named at small = let x : ℕ = next_in w f.code in let g : Frame = record f { point = Front; next = x } in let there = old w q ps k at Front e in
+      let r = to-look w q ps k at (q l) g (own-same w q ps k at g Front e refl refl refl) Front e (omega arith) (refl, refl) (λ no. absurd (omega arith)) tt (next_at f.code) tt (node.learns (word_in w l) (next_in w) (locked_in w) (q l) (map (frame_on l) ps) id f (lock w q ps k at) there) in
+      (r.0, r.1, small-next n w q ps k named l less f.code ((lock w q ps k at).each id (at_point f Front) there).0)
 
-  pub learns-late : v.spin.frame.point ≡ Passing → SpinAllows id v (next_at v.spin.frame.code) Load (λ n. learnt Passing n v) (λ n. n ≤ MAX_TASKS)
-  learns-late e w q ps k named at small = let g : Frame = v.spin.frame in let s : SpinHand = learnt Passing (get_or w (next_at g.code) 0) v in let old = here v id w q ps k at Passing e in (
-    goes-look w q q ps id (spin_part v) s k (λ x e. inl e) at (own-still w q ps k at Passing e refl s refl) Passing e (refl, refl) (λ _. tt) tt (next_at g.code) tt (node.learns-late (get_or w 0 0) (next_in w) (locked_in w) q (map frame_of ps) id g k.lock old),
-    counts-idle (v.steps + 1) v.spin s.frame v.spin.saw (let h = ap holds_at e in omega (arith, h)) (λ x e. inl e),
-    small-next w q ps k named g.code (k.lock.each id (at_point g Passing) old).0,
-  )
+  pub learns-late : f.point ≡ Passing → SpinAllows n l id v (next_at f.code) Load (λ x. learnt l Passing x v) (λ x. x < codes)
+  learns-late e w q ps k named at small = let x : ℕ = next_in w f.code in let g : Frame = record f { point = Passing; next = x } in let there = old w q ps k at Passing e in
+      let r = to-look w q ps k at (q l) g (own-same w q ps k at g Passing e refl refl refl) Passing e (omega arith) (refl, refl) (λ _. tt) tt (next_at f.code) tt (node.learns-late (word_in w l) (next_in w) (locked_in w) (q l) (map (frame_on l) ps) id f (lock w q ps k at) there) in
+      (r.0, r.1, small-next n w q ps k named l less f.code ((lock w q ps k at).each id (at_point f Passing) there).0)
 
   -- the front loads the word
-  pub readies : v.spin.frame.point ≡ Front → SpinAllows id v 0 Load (λ n. readied n v) (λ n. Unit {0})
-  readies e w q ps k named at small = let n : ℕ = get_or w 0 0 in let t : After v id w q ps k at (set w 0 n) (readied n v) = by_test (eqb (n % 512) 0) (λ b. After v id w q ps k at (set w 0 n) (if b then went v.spin Ready else v.spin))
-      (λ free. (
-        goes-look w q q ps id (spin_part v) (went v.spin Ready) k (λ x e. inl e) at (own-still w q ps k at Front e refl (went v.spin Ready) refl) Front e (refl, refl) (λ no. absurd (omega arith)) (let z = eqb-true (n % 512) 0 free in (omega (arith, z), omega (arith, z))) 0 tt (node.readies n (next_in w) (locked_in w) q (map frame_of ps) id v.spin.frame (eqb-true (n % 512) 0 free) k.lock (here v id w q ps k at Front e)),
-        counts-idle (v.steps + 1) v.spin (at_point v.spin.frame Ready) v.spin.saw (omega arith) (λ x e. inl e),
-      ))
-      (λ held. looks-still v id w q ps k at 0) in (t.0, t.1, tt)
+  pub readies : f.point ≡ Front → SpinAllows n l id v (word_at l) Load (λ x. readied l x v) (λ x. Unit {0})
+  readies e w q ps k named at small = let i : ℕ = word_at l in let x : ℕ = word_in w l in let t : Afters w q ps k at (set w i x) (readied l x v) = by_test (eqb (x % 512) 0) (λ b. Afters w q ps k at (set w i x) (if b then went l v.spin Ready else v.spin))
+      (λ free. let z = eqb-true (x % 512) 0 free in to-look w q ps k at (q l) (at_point f Ready) (own-same w q ps k at (at_point f Ready) Front e refl refl refl) Front e (omega arith) (refl, refl) (λ no. absurd (omega arith)) (omega (arith, z), omega (arith, z)) i tt
+      (node.readies x (next_in w) (locked_in w) (q l) (map (frame_on l) ps) id f z (lock w q ps k at) (old w q ps k at Front e)))
+      (λ held. still w q ps k at i) in (t.0, t.1, tt)
 
   -- the exchange of the own tail alone for 1
-  pub takes-last : (from : ℕ) → from ≡ tail_unit * v.spin.frame.code → v.spin.frame.point ≡ Ready → SpinAllows id v 0 (Exchange from 1) (λ n. took_last from n v) (λ n. Unit {0})
-  takes-last from is e w q ps k named at small = let n : ℕ = get_or w 0 0 in let g : Frame = v.spin.frame in let s : SpinHand = took_at v.spin (v.steps + 1) Holding in let old = here v id w q ps k at Ready e in
-      let t : After v id w q ps k at (set w 0 (if n == from then 1 else n)) (took_last from n v) = by_test (eqb n from) (λ b. After v id w q ps k at (set w 0 (if b then 1 else n)) (if b then s else v.spin))
-      (λ same. let own : n ≡ tail_unit * g.code = eqb-true n from same ∙ is in (
-        goes-word w q [] ps id (spin_part v) s k (λ x e. inl e) at (λ used. absurd cc) Ready e (node.alone-in n (next_in w) (locked_in w) (map frame_of ps) id q g own k.lock old) (λ _. let m : n % 256 ≡ 0 = omega (arith, own) in m) tt 1 (let wide = k.wide in inl (get_or-set_same w 0 1 0 (omega (arith, wide))))
-            (node.takes-alone n (next_in w) (locked_in w) (map frame_of ps) id q g own k.lock old),
-        counts-took v.spin (v.steps + 1) Holding (ap holds_at e) refl,
-      ))
-      (λ other. looks-still v id w q ps k at 0) in (t.0, t.1, tt)
+  pub takes-last : (from : ℕ) → from ≡ tail_unit * f.code → f.point ≡ Ready → IsTop l (spin_part v) → SpinAllows n l id v (word_at l) (Exchange from 1) (λ x. took_last l from x v) (λ x. Unit {0})
+  takes-last from is e top w q ps k named at small = let i : ℕ = word_at l in let x : ℕ = word_in w l in let s : SpinHand = took_at l v.spin (v.steps + 1) Holding in let there = old w q ps k at Ready e in
+      let t : Afters w q ps k at (set w i (if x == from then 1 else x)) (took_last l from x v) = by_test (eqb x from) (λ b. Afters w q ps k at (set w i (if b then 1 else x)) (if b then s else v.spin))
+      (λ same. let own : x ≡ tail_unit * f.code = eqb-true x from same ∙ is in let wide = k.wide in
+      to-taken w q ps k at [] Holding (own-left w q ps k at (taken l v.spin (v.steps + 1) Holding) Ready e refl refl top) Ready e refl refl (node.alone-in x (next_in w) (locked_in w) (map (frame_on l) ps) id (q l) f own (lock w q ps k at) there) (let m : x % 256 ≡ 0 = omega (arith, own) in m) tt 1
+      (inl (first-word w 1 wide))
+      (node.takes-alone x (next_in w) (locked_in w) (map (frame_on l) ps) id (q l) f own (lock w q ps k at) there))
+      (λ other. still w q ps k at i) in (t.0, t.1, tt)
+    where
+      first-word : (w : List ℕ) (x : ℕ) → length w ≡ SPIN_WORDS → get_or (set w (word_at l) x) (word_at l) 0 ≡ x
+      first-word w x wide = let e = eight in get_or-set_same w (word_at l) x 0 (omega (arith, wide, e))
 
   -- the front sets the locked byte
-  pub takes-front : v.spin.frame.point ≡ Ready → SpinAllows id v 0 (Or 1) (λ n. took_front v) (λ n. Unit {0})
-  takes-front e w q ps k named at small = let n : ℕ = get_or w 0 0 in let s : SpinHand = took_at v.spin (v.steps + 1) Passing in let old = here v id w q ps k at Ready e in let b = k.lock.balanced in let h : 1 ≤ total ready_of (map frame_of ps) = total-at ready_of (map frame_of ps) id (at_point v.spin.frame Ready) old in (
-    subst (λ (m : ℕ). SpinMoves id w ps (set w 0 m) (set ps id (part_with v s))) (sym (or_byte n (omega arith)))
-        (goes-word w q q ps id (spin_part v) s k (λ x e. inl e) at (own-still w q ps k at Ready e refl s refl) Ready e (refl, refl) (λ _. let m : n % 256 ≡ 0 = omega arith in m) tt (n + 1) tt (node.passes n (next_in w) (locked_in w) q (map frame_of ps) id v.spin.frame k.lock old)),
-    counts-took v.spin (v.steps + 1) Passing (ap holds_at e) refl,
-    tt,
-  )
-
-  -- it makes its successor the front
-  pub tells-next : v.spin.frame.next ≢ 0 → v.spin.frame.point ≡ Passing → SpinAllows id v (locked_at v.spin.frame.next) (Store 1) (λ n. passed v) (λ n. Unit {0})
-  tells-next some_next e w q ps k named at small = let g : Frame = v.spin.frame in let wide = k.wide in let old = here v id w q ps k at Passing e in let ok = k.lock.each id (at_point g Passing) old in
-      let fits = ⊎_elim (λ z. absurd (some_next z)) (λ s. small-queued w q ps k named 1 g.next s.0) ok.2 in
-      let second : (get_elem? q 1 ≡ some g.next) × (next_in w g.code ≡ g.next) = ⊎_elim (λ z. absurd (some_next z)) (λ s. s) ok.2 in let stated = states (get_or w 0 0) (next_in w) (locked_in w) q (map frame_of ps) k.lock in
-      let r = node.passes-on (get_or w 0 0) (next_in w) (locked_in w) (map frame_of ps) id (locked_in (set w (locked_at g.next) 1)) q g some_next (put-locked w g.next 1 wide fits) k.lock old in (
-        goes-locked w q r.0 ps id (spin_part v) (went v.spin Holding) k (λ x e. inl e) at (λ used. absurd cc) Passing e r.1 (λ _. tt) tt g.next 1 (inr (g.next, ap (λ (z : List ℕ). get_elem? z 1) (sym r.1) ∙ second.0, (λ one. let first = stated.told 1 g.next second.0 one in omega (arith, first)), (put-locked w g.next 1 wide fits).here)) r.2,
-        counts-idle (v.steps + 1) v.spin (at_point v.spin.frame Holding) v.spin.saw (let h = ap holds_at e in omega (arith, h)) (λ x e. inl e),
+  pub takes-front : f.point ≡ Ready → SpinAllows n l id v (word_at l) (Or 1) (λ x. took_front l v) (λ x. Unit {0})
+  takes-front e w q ps k named at small = let x : ℕ = word_in w l in let there = old w q ps k at Ready e in let b = (lock w q ps k at).balanced in let h : 1 ≤ total ready_of (map (frame_on l) ps) = total-at ready_of (map (frame_on l) ps) id (at_point f Ready) there in
+      let r = to-taken w q ps k at (q l) Passing (own-node l (spin_part v) (taken l v.spin (v.steps + 1) Passing) (ap uses e) refl refl (mine w q ps k at)) Ready e refl refl (refl, refl) (let m : x % 256 ≡ 0 = omega arith in m) tt (x + 1) tt (node.passes x (next_in w) (locked_in w) (q l) (map (frame_on l) ps) id f (lock w q ps k at) there) in (
+        subst (λ (m : ℕ). SpinsMove n id w ps (set w (word_at l) m) (set ps id (part_with v (took_front l v)))) (sym (or_byte x (omega arith))) r.0,
+        r.1,
         tt,
       )
+
+  -- it makes its successor the front
+  pub tells-next : f.next ≢ 0 → f.point ≡ Passing → IsTop l (spin_part v) → SpinAllows n l id v (locked_at f.next) (Store 1) (λ x. passed l v) (λ x. Unit {0})
+  tells-next some_next e top w q ps k named at small = let wide = k.wide in let there = old w q ps k at Passing e in let ok = (lock w q ps k at).each id (at_point f Passing) there in
+      let second : (get_elem? (q l) 1 ≡ some f.next) × (next_in w f.code ≡ f.next) = ⊎_elim (λ z. absurd (some_next z)) (λ s. s) ok.2 in
+      let user = queued-user n w q ps k named l less 1 f.next second.0 in let fits = small-user n w q ps k named l f.next user in let stated = states (word_in w l) (next_in w) (locked_in w) (q l) (map (frame_on l) ps) (lock w q ps k at) in
+      let r = node.passes-on (word_in w l) (next_in w) (locked_in w) (map (frame_on l) ps) id (locked_in (set w (locked_at f.next) 1)) (q l) f some_next (put-locked w f.next 1 wide fits) (lock w q ps k at) there in
+      let t = to-locked w q ps k at r.0 (at_point f Holding) (own-left w q ps k at (moved n l less most v id (at_point f Holding)) Passing e refl refl top) Passing e (omega arith) r.1 (λ _. tt) tt f.next 1
+      (inr (f.next, ap (λ (z : List ℕ). get_elem? z 1) (sym r.1) ∙ second.0, (λ one. let first = stated.told 1 f.next second.0 one in omega (arith, first)), (put-locked w f.next 1 wide fits).here))
+      (λ m apart more. away-locked n w q ps k named m f.next 1 more fits (unused-else n w q ps k named l m f.next apart user)) r.2 in (t.0, t.1, tt)
+
+-- who holds, holds on
+module _ {E : Type 0} (l : ℕ) (v : View E) where
+  pub learnt-holds : (x : ℕ) → point_at l v.spin ≡ Passing → holds_on l (learnt l Passing x v) ≡ holds_on l v.spin
+  learnt-holds x e = ap (λ (b : LockHand). holds_of b.frame) (at-with l v.spin (record (lock_hand_at l v.spin) { frame = record (frame_at l v.spin) { point = Passing; next = x } })) ∙ sym (ap holds_at e)
+
+  pub passed-holds : point_at l v.spin ≡ Passing → holds_on l (passed l v) ≡ holds_on l v.spin
+  passed-holds e = ap (λ (b : LockHand). holds_of b.frame) (at-with l v.spin (record (lock_hand_at l v.spin) { frame = at_point (frame_at l v.spin) Holding })) ∙ sym (ap holds_at e)

@@ -1,25 +1,26 @@
 //! What is so of every spin lock at each moment, and of each step of its table.
 ghost use Rattle.std.specs.Prelude.{◌≡◌, [], ◌∷◌};
 ghost use Rattle.lock_core.specs.Views.{ticked};
-ghost use Rattle.lock_core.specs.SpinStated.{IsSpinLockThen, IsSpinMove};
+ghost use Rattle.lock_core.specs.SpinStated.{AreSpinLocksThen, IsSpinLocksMove};
 ghost use Rattle.lock_core.specs.Pasts.{EachMoment, Ran, Tail, opening};
-ghost use Rattle.lock_core.specs.Handles.{plan_of, view_of, past_of, SitsAt, KeepsPast, IsLatest};
+ghost use Rattle.lock_core.specs.Handles.{plan_of, view_of, past_of, SitsAt, KeepsPast, KeepsNest, IsLatest};
 
 use lock_core::{Pass, Site, SpinHost};
 
 /// A load, after which the pass knows that at each moment of the table so far, from the new table
-/// on, the spin words stated who held the lock, who owned the pending bit and who stood in the
-/// queue, and what each step did to them.
+/// on, the words of each spin lock stated who held it, who owned the pending bit and who stood in
+/// its queue, which nodes each pass used, and what each step did to them.
 pub fn recall_spin_lock<H: SpinHost>(site: &Site<H>, pass: &mut Pass<H>)
     requires own { SitsAt site.now pass.old }
     ensures own { SitsAt site.now pass.new }
     ensures goes_on { KeepsPast pass.old pass.new }
+    ensures nest { KeepsNest pass.old pass.new }
     ensures kept { view_of pass.new ≡ ticked (view_of pass.old) }
     ensures last { IsLatest pass.new }
     ensures begins { Tail (opening H.marks (plan_of site.now) H.idle ∷ []) (past_of pass.new) }
-    ensures always { EachMoment (IsSpinLockThen H.FIRST) (past_of pass.new) }
+    ensures always { EachMoment (AreSpinLocksThen H.LOCKS H.FIRST) (past_of pass.new) }
     ensures moves { Ran H.marks (opening H.marks (plan_of site.now) H.idle)
-        (IsSpinMove H.FIRST) (past_of pass.new) }
+        (IsSpinLocksMove H.LOCKS H.FIRST) (past_of pass.new) }
 {
     site.recall(pass);
 }

@@ -6,4 +6,4 @@ mod queue;
 pub mod steps;
 
 pub use laws::recall_spin_lock;
-pub use queue::{Way, lock};
+pub use queue::{Way, lock, lock_with};

@@ -1,15 +1,14 @@
-//! The slow path of the queued spin lock, and the lock as a whole.
-ghost use Rattle.std.specs.Prelude.{◌≡◌, ◌≢◌, ◌+◌, ◌%◌, ◌<◌, ◌≤◌, ◌↔◌, IsSome};
-ghost use Rattle.word_bits.specs.declared.TheConstants.{MAX_TASKS};
-ghost use Rattle.lock_core.specs.declared.view.Point.TheVariants.{Taking, Cleared, Linking, Waiting, Front, Ready, Passing};
+//! The slow path of the queued spin lock.
+ghost use Rattle.std.specs.Prelude.{◌≡◌, ◌≢◌, ◌+◌, ◌%◌, ◌<◌, ◌≤◌, ◌⊎◌, ◌↔◌, true, false, IsSome};
+ghost use Rattle.lock_core.specs.declared.view.Point.TheVariants.{Out, Taking, Trying, Cleared, Linking, Waiting, Front, Ready, Passing};
+ghost use Rattle.lock_core.specs.LockHands.{RestsAt, frame_at, depth_of};
 ghost use Rattle.lock_core.specs.Views.{SpinRests};
-ghost use Rattle.lock_core.specs.Spins.{tail_in};
-ghost use Rattle.lock_core.specs.Handles.{view_of, task_in, SitsAt, SaysSame, KeepsPast, IsLatest};
-ghost use Rattle.qspin_word.specs.Hands.{went};
-ghost use Rattle.qspin_word.specs.Handles.{spin_in, point_in, FindsRival, OwnsPendingAt, SpinWaits, SpinGoesOn};
-ghost use Rattle.qspin_word.specs.Ways.{SpinGained};
-ghost use Rattle.qspin_queue.specs.Hands.{queued, heard, learnt, prepared};
-ghost use Rattle.qspin_queue.specs.Handles.{code_in, found_in, successor_in, IsOwnNode, TakesInTurn, TakesQueued};
+ghost use Rattle.lock_core.specs.Spins.{tail_in, word_at};
+ghost use Rattle.lock_core.specs.Handles.{view_of, task_in, SitsAt, SaysSame, KeepsPast, IsLatest, KeepsNest, NotesNone, IsDepthTold, IsNestTold};
+ghost use Rattle.qspin_word.specs.Ways.{lock_hand_to, LockGained, SpinGained};
+ghost use Rattle.qspin_word.specs.Handles.{spin_in, point_in, lock_hand_of, FindsRival, FindsRivalSince, IsAtNone, IsSameBut, KeepsFlagsBeside, KeepsNodes, OwnsPendingAt, SpinIdles, SpinWaits};
+ghost use Rattle.qspin_queue.specs.Hands.{lock_hand_with, node_at, as_front, learning, entered};
+ghost use Rattle.qspin_queue.specs.Handles.{codes, code_in, found_in, successor_in, IsNextNode, HasTop, SpinTakes, TakesInTurn, LeavesNode, EntersNode};
 
 use crate::steps::{
     clear_locked, clear_next, exchange_last, exchange_tail, link, load_front, load_locked,
@@ -17,9 +16,485 @@ use crate::steps::{
 };
 use crossbeam_utils::Backoff;
 use lock_core::{Pass, Site, SpinHost};
-use qspin_word::steps::{exchange_free, peek};
-use qspin_word::{PENDING, TAIL, TAILLESS, take_by_pending};
+use qspin_word::steps::{exchange_free, grab, peek, seek};
+use qspin_word::{Interrupt, PENDING, Quiet, TAIL, TAILLESS, note, take_by_pending};
 use std::sync::Wait;
+
+/// How many nodes a task has.
+const NODES: u64 = 4;
+
+/// Enters the queue. The answer is the word that the exchange of the tail found.
+fn enter_queue<H: SpinHost, W: Wait>(
+    site: &Site<H>,
+    rt: &W,
+    pass: &mut Pass<H>,
+    lock: usize,
+    code: u64,
+) -> u64
+    requires own { SitsAt site.now pass.old }
+    requires there { lock < H.LOCKS }
+    requires told { IsNestTold pass.old }
+    requires point { point_in lock pass.old ≡ Cleared }
+    requires node { code_in lock pass.old ≡ code }
+    requires small { code < codes }
+    ensures waits { SpinWaits lock (Unit {0}) site.now pass.old pass.new
+        (lock_hand_with (entered result (frame_at lock (spin_in pass.old)))
+        (lock_hand_of lock pass.old)) }
+    ensures told { IsNestTold pass.new }
+    ensures nodes { KeepsNodes pass.old pass.new }
+    ensures tail { tail_in result < codes }
+{
+    for _ in rt.forever() {
+        let seen = peek(site, pass, lock);
+        // The holder or the owner of the pending bit may have changed the rest of the word: an
+        // exchange that drops their byte or bit would let two in.
+        if exchange_tail(site, pass, lock, seen, code) == seen {
+            return seen;
+        }
+    }
+    unreachable!()
+}
+
+/// Waits until the pass is the front.
+fn wait_front<H: SpinHost, W: Wait, I: Interrupt<Site<H>>>(
+    site: &Site<H>,
+    rt: &W,
+    pass: &mut Pass<H>,
+    lock: usize,
+    code: u64,
+    irq: &mut I,
+)
+    requires own { SitsAt site.now pass.old }
+    requires there { lock < H.LOCKS }
+    requires numbered { IsSome (task_in pass.old) }
+    requires told { IsNestTold pass.old }
+    requires point { point_in lock pass.old ≡ Waiting }
+    requires node { code_in lock pass.old ≡ code }
+    requires small { code < codes }
+    ensures waits { SpinWaits lock I.silent site.now pass.old pass.new
+        (lock_hand_with (as_front (frame_at lock (spin_in pass.old)))
+        (lock_hand_of lock pass.old)) }
+    ensures told { IsNestTold pass.new }
+    ensures nodes { KeepsNodes pass.old pass.new }
+{
+    let backoff = Backoff::new();
+    for _ in rt.forever() {
+        if load_locked(site, pass, lock, code) == 1 {
+            return;
+        }
+        irq.hit(rt, site, pass);
+        backoff.snooze();
+    }
+    unreachable!()
+}
+
+/// Waits until the locked byte and the pending bit are 0, as the front. The answer is the word.
+fn wait_ready<H: SpinHost, W: Wait, I: Interrupt<Site<H>>>(
+    site: &Site<H>,
+    rt: &W,
+    pass: &mut Pass<H>,
+    lock: usize,
+    irq: &mut I,
+) -> u64
+    requires own { SitsAt site.now pass.old }
+    requires there { lock < H.LOCKS }
+    requires numbered { IsSome (task_in pass.old) }
+    requires told { IsNestTold pass.old }
+    requires point { point_in lock pass.old ≡ Front }
+    ensures waits { SpinWaits lock I.silent site.now pass.old pass.new
+        (lock_hand_to Ready (lock_hand_of lock pass.old)) }
+    ensures told { IsNestTold pass.new }
+    ensures nodes { KeepsNodes pass.old pass.new }
+    ensures free { result % 512 ≡ 0 }
+{
+    let backoff = Backoff::new();
+    for _ in rt.forever() {
+        let seen = load_front(site, pass, lock);
+        // The owner of the pending bit came first, and takes once the byte is 0: so the front waits
+        // for both.
+        if seen % TAILLESS == 0 {
+            return seen;
+        }
+        irq.hit(rt, site, pass);
+        backoff.snooze();
+    }
+    unreachable!()
+}
+
+/// Tells the predecessor, waits to be the front, and looks for a successor: the answer is its code,
+/// or 0.
+fn become_front<H: SpinHost, W: Wait, I: Interrupt<Site<H>>>(
+    site: &Site<H>,
+    rt: &W,
+    pass: &mut Pass<H>,
+    lock: usize,
+    predecessor: u64,
+    code: u64,
+    irq: &mut I,
+) -> u64
+    requires own { SitsAt site.now pass.old }
+    requires there { lock < H.LOCKS }
+    requires numbered { IsSome (task_in pass.old) }
+    requires told { IsNestTold pass.old }
+    requires point { point_in lock pass.old ≡ Linking }
+    requires found { found_in lock pass.old ≡ predecessor }
+    requires node { code_in lock pass.old ≡ code }
+    requires tail { predecessor < codes }
+    requires small { code < codes }
+    ensures waits { SpinWaits lock I.silent site.now pass.old pass.new
+        (lock_hand_with (learning Front result (frame_at lock (spin_in pass.old)))
+        (lock_hand_of lock pass.old)) }
+    ensures told { IsNestTold pass.new }
+    ensures nodes { KeepsNodes pass.old pass.new }
+    ensures next { result < codes }
+{
+    // Until it reads this, the predecessor can't leave: it waits for a successor that it knows.
+    link(site, pass, lock, predecessor, code);
+    wait_front(site, rt, pass, lock, code, irq);
+    load_next(site, pass, lock, code)
+}
+
+/// Waits until the successor has told its code.
+fn wait_successor<H: SpinHost, W: Wait, I: Interrupt<Site<H>>>(
+    site: &Site<H>,
+    rt: &W,
+    pass: &mut Pass<H>,
+    lock: usize,
+    code: u64,
+    irq: &mut I,
+) -> u64
+    requires own { SitsAt site.now pass.old }
+    requires there { lock < H.LOCKS }
+    requires numbered { IsSome (task_in pass.old) }
+    requires told { IsNestTold pass.old }
+    requires point { point_in lock pass.old ≡ Passing }
+    requires none { successor_in lock pass.old ≡ 0 }
+    requires node { code_in lock pass.old ≡ code }
+    requires small { code < codes }
+    ensures waits { SpinWaits lock I.silent site.now pass.old pass.new
+        (lock_hand_with (learning Passing result (frame_at lock (spin_in pass.old)))
+        (lock_hand_of lock pass.old)) }
+    ensures told { IsNestTold pass.new }
+    ensures nodes { KeepsNodes pass.old pass.new }
+    ensures some { result ≢ 0 }
+    ensures next { result < codes }
+{
+    let backoff = Backoff::new();
+    for _ in rt.forever() {
+        let next = load_successor(site, pass, lock, code);
+        if next != 0 {
+            return next;
+        }
+        irq.hit(rt, site, pass);
+        backoff.snooze();
+    }
+    unreachable!()
+}
+
+/// Takes the lock as the front where nobody stands behind it, as the word says that it saw.
+fn take_last<H: SpinHost>(
+    site: &Site<H>,
+    pass: &mut Pass<H>,
+    lock: usize,
+    seen: u64,
+    code: u64,
+) -> bool
+    requires own { SitsAt site.now pass.old }
+    requires there { lock < H.LOCKS }
+    requires told { IsNestTold pass.old }
+    requires point { point_in lock pass.old ≡ Ready }
+    requires node { code_in lock pass.old ≡ code }
+    requires small { code < codes }
+    requires top { HasTop lock pass.old }
+    ensures takes { result ≡ true → SpinTakes lock (Unit {0}) site.now pass.old pass.new }
+    ensures left { result ≡ true → LeavesNode pass.old pass.new }
+    ensures ready { result ≡ true → (lock_hand_of lock pass.new).from ≡ Ready }
+    ensures missed { result ≡ false → SpinIdles (Unit {0}) site.now pass.old pass.new }
+{
+    // Nobody stands behind it, so it may clear the tail with the same exchange: one that another
+    // tail or an undoer's pending bit makes fail.
+    if seen != TAIL * code {
+        return false;
+    }
+    exchange_last(site, pass, lock, seen) == seen
+}
+
+/// Takes the lock as the front, and makes the successor the front.
+fn hand_on<H: SpinHost, W: Wait, I: Interrupt<Site<H>>>(
+    site: &Site<H>,
+    rt: &W,
+    pass: &mut Pass<H>,
+    lock: usize,
+    next: u64,
+    code: u64,
+    irq: &mut I,
+)
+    requires own { SitsAt site.now pass.old }
+    requires there { lock < H.LOCKS }
+    requires numbered { IsSome (task_in pass.old) }
+    requires told { IsNestTold pass.old }
+    requires point { point_in lock pass.old ≡ Ready }
+    requires next { successor_in lock pass.old ≡ next }
+    requires fits { next < codes }
+    requires node { code_in lock pass.old ≡ code }
+    requires small { code < codes }
+    requires top { HasTop lock pass.old }
+    ensures takes { SpinTakes lock I.silent site.now pass.old pass.new }
+    ensures left { LeavesNode pass.old pass.new }
+    ensures ready { (lock_hand_of lock pass.new).from ≡ Ready }
+{
+    // Nobody else takes while a front is ready, so a plain or is enough.
+    set_locked(site, pass, lock);
+    if next != 0 {
+        pass_front(site, pass, lock, next);
+    } else {
+        // Another exchanged the tail since this pass looked, and may not have told its code yet.
+        pass.note_lock(lock, true, true);
+        let late = wait_successor(site, rt, pass, lock, code, irq);
+        pass_front(site, pass, lock, late);
+    }
+}
+
+/// Takes the lock as the front, once it is free.
+fn take_front<H: SpinHost, W: Wait, I: Interrupt<Site<H>>>(
+    site: &Site<H>,
+    rt: &W,
+    pass: &mut Pass<H>,
+    lock: usize,
+    next: u64,
+    code: u64,
+    irq: &mut I,
+)
+    requires own { SitsAt site.now pass.old }
+    requires there { lock < H.LOCKS }
+    requires numbered { IsSome (task_in pass.old) }
+    requires told { IsNestTold pass.old }
+    requires point { point_in lock pass.old ≡ Front }
+    requires next { successor_in lock pass.old ≡ next }
+    requires fits { next < codes }
+    requires node { code_in lock pass.old ≡ code }
+    requires small { code < codes }
+    requires top { HasTop lock pass.old }
+    ensures takes { SpinTakes lock I.silent site.now pass.old pass.new }
+    ensures left { LeavesNode pass.old pass.new }
+    ensures ready { (lock_hand_of lock pass.new).from ≡ Ready }
+{
+    let seen = wait_ready(site, rt, pass, lock, irq);
+    if take_last(site, pass, lock, seen, code) {
+        return;
+    }
+    hand_on(site, rt, pass, lock, next, code, irq);
+}
+
+/// Tries once more, as a pass that has cleared its node: the lock may have come free meanwhile.
+fn try_cleared<H: SpinHost>(site: &Site<H>, pass: &mut Pass<H>, lock: usize) -> bool
+    requires own { SitsAt site.now pass.old }
+    requires there { lock < H.LOCKS }
+    requires told { IsNestTold pass.old }
+    requires point { point_in lock pass.old ≡ Cleared }
+    requires top { HasTop lock pass.old }
+    ensures takes { result ≡ true → SpinTakes lock (Unit {0}) site.now pass.old pass.new }
+    ensures left { result ≡ true → LeavesNode pass.old pass.new }
+    ensures cleared { result ≡ true → ((lock_hand_of lock pass.new).from ≡ Cleared)
+        × ((lock_hand_of lock pass.new).took ≤ (view_of pass.old).steps + 2) }
+    ensures missed { result ≡ false → SpinIdles (Unit {0}) site.now pass.old pass.new }
+{
+    if peek(site, pass, lock) != 0 {
+        return false;
+    }
+    retry(site, pass, lock) == 0
+}
+
+/// Makes the pass's next node ready for the queue, and notes it.
+fn clear_node<H: SpinHost>(site: &Site<H>, pass: &mut Pass<H>, lock: usize, code: u64)
+    requires own { SitsAt site.now pass.old }
+    requires there { lock < H.LOCKS }
+    requires told { IsNestTold pass.old }
+    requires out { RestsAt lock (spin_in pass.old) }
+    requires node { IsNextNode pass.old code }
+    ensures waits { SpinWaits lock (Unit {0}) site.now pass.old pass.new
+        (lock_hand_with (node_at Cleared code) (lock_hand_of lock pass.old)) }
+    ensures told { IsNestTold pass.new }
+    ensures enters { EntersNode pass.old pass.new }
+    ensures top { HasTop lock pass.new }
+    ensures quick { (view_of pass.new).steps ≡ (view_of pass.old).steps + 2 }
+{
+    let depth = pass.depth();
+    clear_locked(site, pass, lock, code);
+    clear_next(site, pass, lock, code);
+    pass.note_depth(depth + 1);
+    pass.note_lock(lock, false, true);
+}
+
+/// Takes the lock by the queue, as a pass that has cleared its node.
+fn queue_up<H: SpinHost, W: Wait, I: Interrupt<Site<H>>>(
+    site: &Site<H>,
+    rt: &W,
+    pass: &mut Pass<H>,
+    lock: usize,
+    code: u64,
+    irq: &mut I,
+)
+    requires own { SitsAt site.now pass.old }
+    requires there { lock < H.LOCKS }
+    requires numbered { IsSome (task_in pass.old) }
+    requires told { IsNestTold pass.old }
+    requires point { point_in lock pass.old ≡ Cleared }
+    requires node { code_in lock pass.old ≡ code }
+    requires small { code < codes }
+    requires top { HasTop lock pass.old }
+    ensures takes { SpinTakes lock I.silent site.now pass.old pass.new }
+    ensures left { LeavesNode pass.old pass.new }
+    ensures ready { (lock_hand_of lock pass.new).from ≡ Ready }
+{
+    let seen = enter_queue(site, rt, pass, lock, code);
+    if seen < TAILLESS {
+        take_front(site, rt, pass, lock, 0, code, irq);
+    } else {
+        let next = become_front(site, rt, pass, lock, seen / TAIL, code, irq);
+        take_front(site, rt, pass, lock, next, code, irq);
+    }
+}
+
+/// Takes the lock with the node of this code.
+fn take_with<H: SpinHost, W: Wait, I: Interrupt<Site<H>>>(
+    site: &Site<H>,
+    rt: &W,
+    pass: &mut Pass<H>,
+    lock: usize,
+    code: u64,
+    irq: &mut I,
+)
+    requires own { SitsAt site.now pass.old }
+    requires there { lock < H.LOCKS }
+    requires numbered { IsSome (task_in pass.old) }
+    requires told { IsNestTold pass.old }
+    requires out { RestsAt lock (spin_in pass.old) }
+    requires node { IsNextNode pass.old code }
+    ensures takes { SpinTakes lock I.silent site.now pass.old pass.new }
+    ensures nodes { KeepsNodes pass.old pass.new }
+    ensures in_turn { TakesInTurn lock 4 pass.old pass.new }
+{
+    let depth = pass.depth();
+    // A stale `next` would name a node that stands elsewhere now, a stale `locked` a front.
+    clear_node(site, pass, lock, code);
+    if try_cleared(site, pass, lock) {
+        pass.note_depth(depth);
+        return;
+    }
+    queue_up(site, rt, pass, lock, code, irq);
+    pass.note_depth(depth);
+}
+
+/// Tries once as a pass that waits without a node, or begins to.
+fn grab_free<H: SpinHost>(site: &Site<H>, pass: &mut Pass<H>, lock: usize) -> bool
+    requires own { SitsAt site.now pass.old }
+    requires there { lock < H.LOCKS }
+    requires told { IsNestTold pass.old }
+    requires point { (point_in lock pass.old ≡ Out) ⊎ (point_in lock pass.old ≡ Trying) }
+    ensures takes { result ≡ true → SpinTakes lock (Unit {0}) site.now pass.old pass.new }
+    ensures missed { result ≡ false → SpinWaits lock (Unit {0}) site.now pass.old pass.new
+        (lock_hand_to Trying (lock_hand_of lock pass.old)) }
+    ensures nodes { KeepsNodes pass.old pass.new }
+    ensures nest { KeepsNest pass.old pass.new }
+    ensures from { result ≡ true → (lock_hand_of lock pass.new).from ≡ Trying }
+{
+    if seek(site, pass, lock) != 0 {
+        return false;
+    }
+    grab(site, pass, lock) == 0
+}
+
+/// Repeats the try until it takes the lock.
+fn wait_free<H: SpinHost, W: Wait, I: Interrupt<Site<H>>>(
+    site: &Site<H>,
+    rt: &W,
+    pass: &mut Pass<H>,
+    lock: usize,
+    irq: &mut I,
+)
+    requires own { SitsAt site.now pass.old }
+    requires there { lock < H.LOCKS }
+    requires numbered { IsSome (task_in pass.old) }
+    requires told { IsNestTold pass.old }
+    requires point { point_in lock pass.old ≡ Trying }
+    ensures takes { SpinTakes lock I.silent site.now pass.old pass.new }
+    ensures nodes { KeepsNodes pass.old pass.new }
+    ensures from { (lock_hand_of lock pass.new).from ≡ Trying }
+{
+    let backoff = Backoff::new();
+    for _ in rt.forever() {
+        irq.hit(rt, site, pass);
+        if grab_free(site, pass, lock) {
+            return;
+        }
+        backoff.snooze();
+    }
+    unreachable!()
+}
+
+/// Takes the lock without a node, since all nodes of its task are in use.
+fn take_without<H: SpinHost, W: Wait, I: Interrupt<Site<H>>>(
+    site: &Site<H>,
+    rt: &W,
+    pass: &mut Pass<H>,
+    lock: usize,
+    irq: &mut I,
+)
+    requires own { SitsAt site.now pass.old }
+    requires there { lock < H.LOCKS }
+    requires numbered { IsSome (task_in pass.old) }
+    requires told { IsNestTold pass.old }
+    requires out { RestsAt lock (spin_in pass.old) }
+    ensures takes { SpinTakes lock I.silent site.now pass.old pass.new }
+    ensures nodes { KeepsNodes pass.old pass.new }
+    ensures from { (lock_hand_of lock pass.new).from ≡ Trying }
+{
+    if grab_free(site, pass, lock) {
+        return;
+    }
+    pass.note_lock(lock, false, true);
+    wait_free(site, rt, pass, lock, irq);
+}
+
+/// The code of the pass's next node.
+fn node_code<H: SpinHost>(site: &Site<H>, pass: &Pass<H>) -> u64
+    requires own { SitsAt site.now pass.now }
+    requires numbered { IsSome (task_in pass.now) }
+    requires told { IsNestTold pass.now }
+    requires room { depth_of (spin_in pass.now) < 4 }
+    ensures { IsNextNode pass.now result }
+{
+    let Some(task) = pass.task() else {
+        unreachable!()
+    };
+    NODES * (u64::from(task) + 1) + u64::from(pass.depth())
+}
+
+/// Takes the lock by the queue, or without a node where all of its task's are in use.
+fn take_by_queue<H: SpinHost, W: Wait, I: Interrupt<Site<H>>>(
+    site: &Site<H>,
+    rt: &W,
+    pass: &mut Pass<H>,
+    lock: usize,
+    irq: &mut I,
+)
+    requires own { SitsAt site.now pass.old }
+    requires there { lock < H.LOCKS }
+    requires numbered { IsSome (task_in pass.old) }
+    requires told { IsNestTold pass.old }
+    requires out { RestsAt lock (spin_in pass.old) }
+    ensures takes { SpinTakes lock I.silent site.now pass.old pass.new }
+    ensures nodes { KeepsNodes pass.old pass.new }
+    ensures in_turn { TakesInTurn lock 4 pass.old pass.new }
+{
+    if u64::from(pass.depth()) < NODES {
+        let code = node_code(site, pass);
+        take_with(site, rt, pass, lock, code, irq);
+    } else {
+        take_without(site, rt, pass, lock, irq);
+    }
+}
 
 /// How a call got the lock.
 #[derive(Clone, Copy, Debug, PartialEq, Eq)]
@@ -32,241 +507,125 @@ pub enum Way {
     Queued,
 }
 
-/// Makes the pass's node ready for the queue.
-fn clear_node<H: SpinHost>(site: &Site<H>, pass: &mut Pass<H>, code: u64)
-    requires own { SitsAt site.now pass.old }
-    requires out { SpinRests (spin_in pass.old) }
-    requires node { IsOwnNode pass.old code }
-    ensures waits { SpinWaits site.now pass.old pass.new (prepared code (view_of pass.old)) }
-    ensures quick { (view_of pass.new).steps ≡ (view_of pass.old).steps + 2 }
+/// In a table with one lock a pass outside it is at no lock, and needn't have noted it.
+fn begin_notes<H: SpinHost>(site: &Site<H>, pass: &mut Pass<H>)
+    requires told { (H.LOCKS ≡ 1) ⊎ IsNestTold pass.old }
+    requires alone { IsAtNone H.LOCKS pass.old }
+    ensures same { IsSameBut pass.old pass.new }
+    ensures told { IsNestTold pass.new }
 {
-    clear_locked(site, pass, code);
-    clear_next(site, pass, code);
-}
-
-/// Enters the queue. The answer is the word that the exchange of the tail found.
-fn enter_queue<H: SpinHost, W: Wait>(site: &Site<H>, rt: &W, pass: &mut Pass<H>, code: u64) -> u64
-    requires own { SitsAt site.now pass.old }
-    requires point { point_in pass.old ≡ Cleared }
-    requires node { code_in pass.old ≡ code }
-    requires small { code ≤ MAX_TASKS }
-    ensures waits { SpinWaits site.now pass.old pass.new
-        (queued result result (view_of pass.old)) }
-    ensures tail { tail_in result ≤ MAX_TASKS }
-{
-    for _ in rt.forever() {
-        let seen = peek(site, pass);
-        // The holder or the owner of the pending bit may have changed the rest of the word: an
-        // exchange that drops their byte or bit would let two in.
-        if exchange_tail(site, pass, seen, code) == seen {
-            return seen;
-        }
+    if H::LOCKS == 1 {
+        pass.note_none();
     }
-    unreachable!()
 }
 
-/// Waits until the pass is the front.
-fn wait_front<H: SpinHost, W: Wait>(site: &Site<H>, rt: &W, pass: &mut Pass<H>, code: u64)
-    requires own { SitsAt site.now pass.old }
-    requires point { point_in pass.old ≡ Waiting }
-    requires node { code_in pass.old ≡ code }
-    requires small { code ≤ MAX_TASKS }
-    ensures waits { SpinWaits site.now pass.old pass.new (heard 1 (view_of pass.old)) }
-{
-    let backoff = Backoff::new();
-    for _ in rt.forever() {
-        if load_locked(site, pass, code) == 1 {
-            return;
-        }
-        backoff.snooze();
-    }
-    unreachable!()
-}
-
-/// Tells the predecessor, waits to be the front, and looks for a successor: the answer is its code,
-/// or 0.
-fn become_front<H: SpinHost, W: Wait>(
+/// Takes the lock after its first step, which found this word.
+fn contend<H: SpinHost, W: Wait, I: Interrupt<Site<H>>>(
     site: &Site<H>,
     rt: &W,
     pass: &mut Pass<H>,
-    predecessor: u64,
-    code: u64,
-) -> u64
+    lock: usize,
+    seen: u64,
+    irq: &mut I,
+) -> Way
     requires own { SitsAt site.now pass.old }
-    requires point { point_in pass.old ≡ Linking }
-    requires found { found_in pass.old ≡ predecessor }
-    requires node { code_in pass.old ≡ code }
-    requires tail { predecessor ≤ MAX_TASKS }
-    requires small { code ≤ MAX_TASKS }
-    ensures waits { SpinWaits site.now pass.old pass.new (learnt Front result (view_of pass.old)) }
-    ensures next { result ≤ MAX_TASKS }
-{
-    // Until it reads this, the predecessor can't leave: it waits for a successor that it knows.
-    link(site, pass, predecessor, code);
-    wait_front(site, rt, pass, code);
-    load_next(site, pass, code)
-}
-
-/// Waits until the locked byte and the pending bit are 0, as the front. The answer is the word.
-fn wait_ready<H: SpinHost, W: Wait>(site: &Site<H>, rt: &W, pass: &mut Pass<H>) -> u64
-    requires own { SitsAt site.now pass.old }
-    requires point { point_in pass.old ≡ Front }
-    ensures waits { SpinWaits site.now pass.old pass.new (went (spin_in pass.old) Ready) }
-    ensures free { result % 512 ≡ 0 }
-{
-    let backoff = Backoff::new();
-    for _ in rt.forever() {
-        let seen = load_front(site, pass);
-        // The owner of the pending bit came first, and takes once the byte is 0: so the front waits
-        // for both.
-        if seen % TAILLESS == 0 {
-            return seen;
-        }
-        backoff.snooze();
-    }
-    unreachable!()
-}
-
-/// Waits until the successor has told its code.
-fn wait_successor<H: SpinHost, W: Wait>(
-    site: &Site<H>,
-    rt: &W,
-    pass: &mut Pass<H>,
-    code: u64,
-) -> u64
-    requires own { SitsAt site.now pass.old }
-    requires point { point_in pass.old ≡ Passing }
-    requires node { code_in pass.old ≡ code }
-    requires small { code ≤ MAX_TASKS }
-    ensures waits { SpinWaits site.now pass.old pass.new
-        (learnt Passing result (view_of pass.old)) }
-    ensures some { result ≢ 0 }
-    ensures next { result ≤ MAX_TASKS }
-{
-    let backoff = Backoff::new();
-    for _ in rt.forever() {
-        let next = load_successor(site, pass, code);
-        if next != 0 {
-            return next;
-        }
-        backoff.snooze();
-    }
-    unreachable!()
-}
-
-/// Takes the lock as the front, and makes the successor the front.
-fn take_front<H: SpinHost, W: Wait>(
-    site: &Site<H>,
-    rt: &W,
-    pass: &mut Pass<H>,
-    next: u64,
-    code: u64,
-)
-    requires own { SitsAt site.now pass.old }
-    requires point { point_in pass.old ≡ Front }
-    requires next { successor_in pass.old ≡ next }
-    requires fits { next ≤ MAX_TASKS }
-    requires node { code_in pass.old ≡ code }
-    requires small { code ≤ MAX_TASKS }
-    ensures goes_on { SpinGoesOn site.now pass.old pass.new }
-    ensures takes { TakesQueued pass.old pass.new }
-    ensures from { (spin_in pass.new).from ≡ Ready }
-{
-    let seen = wait_ready(site, rt, pass);
-    // Nobody stands behind it, so it may clear the tail with the same exchange: one that another
-    // tail or an undoer's pending bit makes fail.
-    if seen == TAIL * code && exchange_last(site, pass, seen) == seen {
-        return;
-    }
-    // Nobody else takes while a front is ready, so a plain or is enough.
-    set_locked(site, pass);
-    if next != 0 {
-        pass_front(site, pass, next);
-    } else {
-        // Another exchanged the tail since this pass looked, and may not have told its code yet.
-        let late = wait_successor(site, rt, pass, code);
-        pass_front(site, pass, late);
-    }
-}
-
-/// Takes the lock by the queue, with the node of this code.
-fn take_with<H: SpinHost, W: Wait>(site: &Site<H>, rt: &W, pass: &mut Pass<H>, code: u64)
-    requires own { SitsAt site.now pass.old }
-    requires out { SpinRests (spin_in pass.old) }
-    requires node { IsOwnNode pass.old code }
-    ensures goes_on { SpinGoesOn site.now pass.old pass.new }
-    ensures takes { TakesQueued pass.old pass.new }
-    ensures in_turn { TakesInTurn 4 pass.old pass.new }
-{
-    // A stale `next` would name a node that stands elsewhere now, a stale `locked` a front.
-    clear_node(site, pass, code);
-    // The lock may have come free while the node was made ready.
-    if peek(site, pass) == 0 && retry(site, pass) == 0 {
-        return;
-    }
-    let seen = enter_queue(site, rt, pass, code);
-    if seen < TAILLESS {
-        take_front(site, rt, pass, 0, code);
-    } else {
-        let next = become_front(site, rt, pass, seen / TAIL, code);
-        take_front(site, rt, pass, next, code);
-    }
-}
-
-/// The code of the pass's node.
-fn node_code<H: SpinHost>(site: &Site<H>, pass: &Pass<H>) -> u64
-    requires own { SitsAt site.now pass.now }
-    requires numbered { IsSome (task_in pass.now) }
-    ensures { IsOwnNode pass.now result }
-{
-    let Some(task) = pass.task() else {
-        unreachable!()
-    };
-    u64::from(task) + 1
-}
-
-/// Takes the lock by the queue.
-fn take_by_queue<H: SpinHost, W: Wait>(site: &Site<H>, rt: &W, pass: &mut Pass<H>)
-    requires own { SitsAt site.now pass.old }
+    requires there { lock < H.LOCKS }
     requires numbered { IsSome (task_in pass.old) }
-    requires out { SpinRests (spin_in pass.old) }
-    ensures goes_on { SpinGoesOn site.now pass.old pass.new }
-    ensures takes { TakesQueued pass.old pass.new }
-    ensures in_turn { TakesInTurn 4 pass.old pass.new }
-{
-    let code = node_code(site, pass);
-    take_with(site, rt, pass, code);
-}
-
-/// Waits until the pass has the spin lock, and answers how it got it. (`queued_spin_lock`)
-pub fn lock<H: SpinHost, W: Wait>(site: &Site<H>, rt: &W, pass: &mut Pass<H>) -> Way
-    requires own { SitsAt site.now pass.old }
-    requires numbered { IsSome (task_in pass.old) }
-    requires out { SpinRests (spin_in pass.old) }
+    requires told { IsNestTold pass.old }
+    requires out { RestsAt lock (spin_in pass.old) }
     ensures own { SitsAt site.now pass.new }
     ensures face { SaysSame pass.old pass.new }
     ensures goes_on { KeepsPast pass.old pass.new }
     ensures last { IsLatest pass.new }
-    ensures gained { SpinGained (view_of pass.old) (view_of pass.new) }
+    ensures gained { LockGained lock I.silent (view_of pass.old) (view_of pass.new) }
+    ensures flags { KeepsFlagsBeside lock pass.old pass.new }
+    ensures nodes { KeepsNodes pass.old pass.new }
+    ensures slow { result ≢ Way.Fast }
+    ensures pending { (result ≡ Way.Pending) ↔ ((lock_hand_of lock pass.new).from ≡ Taking) }
+    ensures asked { (result ≡ Way.Pending) →
+        OwnsPendingAt lock 1 (H.FIRST + word_at lock) pass.old pass.new }
+    ensures in_turn { (result ≡ Way.Queued) → TakesInTurn lock 6 pass.old pass.new }
+    ensures rival { (result ≡ Way.Queued) → seen < 256 →
+        FindsRivalSince I.silent (H.FIRST + word_at lock) pass.old pass.new }
+    ensures saw { (result ≡ Way.Queued) → 256 ≤ seen → I.silent →
+        (spin_in pass.new).saw ≡ (spin_in pass.old).saw }
+{
+    if seen < PENDING {
+        // Only a holder stands before it: the first contender needs no node.
+        if take_by_pending(site, rt, pass, lock, irq) {
+            return Way::Pending;
+        }
+        take_by_queue(site, rt, pass, lock, irq);
+        return Way::Queued;
+    }
+    take_by_queue(site, rt, pass, lock, irq);
+    Way::Queued
+}
+
+/// Waits until the pass has the spin lock of this number, and answers how it got it. In each turn
+/// in which it waits `irq` is hit.
+pub fn lock_with<H: SpinHost, W: Wait, I: Interrupt<Site<H>>>(
+    site: &Site<H>,
+    rt: &W,
+    pass: &mut Pass<H>,
+    lock: usize,
+    irq: &mut I,
+) -> Way
+    requires own { SitsAt site.now pass.old }
+    requires there { lock < H.LOCKS }
+    requires numbered { IsSome (task_in pass.old) }
+    requires told { (H.LOCKS ≡ 1) ⊎ IsNestTold pass.old }
+    requires out { RestsAt lock (spin_in pass.old) }
+    ensures own { SitsAt site.now pass.new }
+    ensures face { SaysSame pass.old pass.new }
+    ensures goes_on { KeepsPast pass.old pass.new }
+    ensures last { IsLatest pass.new }
+    ensures told { 1 < H.LOCKS → IsNestTold pass.old → IsNestTold pass.new }
+    ensures gained { LockGained lock I.silent (view_of pass.old) (view_of pass.new) }
+    ensures nodes { depth_of (spin_in pass.new) ≡ depth_of (spin_in pass.old) }
 
     // The step at which it took the lock, and the point from which it did: its first one, that of
     // the owner of the pending bit, or the queue's front. Seven steps lead to the one try that a
     // call makes with its node cleared.
     ensures fast { (result ≡ Way.Fast) ↔
-        ((spin_in pass.new).took ≡ (view_of pass.old).steps + 1) }
-    ensures pending { (result ≡ Way.Pending) ↔ ((spin_in pass.new).from ≡ Taking) }
-    ensures asked { (result ≡ Way.Pending) → OwnsPendingAt 2 H.FIRST pass.old pass.new }
-    ensures in_turn { (result ≡ Way.Queued) → TakesInTurn 7 pass.old pass.new }
-    ensures queued { (result ≡ Way.Queued) → FindsRival H.FIRST pass.old pass.new }
+        ((lock_hand_of lock pass.new).took ≡ (view_of pass.old).steps + 1) }
+    ensures pending { (result ≡ Way.Pending) ↔ ((lock_hand_of lock pass.new).from ≡ Taking) }
+    ensures asked { (result ≡ Way.Pending) →
+        OwnsPendingAt lock 2 (H.FIRST + word_at lock) pass.old pass.new }
+    ensures in_turn { (result ≡ Way.Queued) → TakesInTurn lock 7 pass.old pass.new }
+    ensures queued { (result ≡ Way.Queued) →
+        FindsRivalSince I.silent (H.FIRST + word_at lock) pass.old pass.new }
 {
-    let seen = exchange_free(site, pass);
+    let seen = exchange_free(site, pass, lock);
     if seen == 0 {
+        note(pass, lock, true, false);
         return Way::Fast;
     }
-    // Only a holder stands before it: the first contender needs no node.
-    if seen < PENDING && take_by_pending(site, rt, pass) {
-        return Way::Pending;
-    }
-    take_by_queue(site, rt, pass);
-    Way::Queued
+    begin_notes(site, pass);
+    let way = contend(site, rt, pass, lock, seen, irq);
+    pass.note_lock(lock, true, false);
+    way
+}
+
+/// Waits until the pass has the first spin lock, and answers how it got it. Nothing interrupts it.
+/// (`queued_spin_lock`)
+pub fn lock<H: SpinHost, W: Wait>(site: &Site<H>, rt: &W, pass: &mut Pass<H>) -> Way
+    requires own { SitsAt site.now pass.old }
+    requires numbered { IsSome (task_in pass.old) }
+    requires told { (H.LOCKS ≡ 1) ⊎ IsNestTold pass.old }
+    requires out { SpinRests (spin_in pass.old) }
+    ensures own { SitsAt site.now pass.new }
+    ensures face { SaysSame pass.old pass.new }
+    ensures goes_on { KeepsPast pass.old pass.new }
+    ensures last { IsLatest pass.new }
+    ensures told { 1 < H.LOCKS → IsNestTold pass.old → IsNestTold pass.new }
+    ensures gained { SpinGained (view_of pass.old) (view_of pass.new) }
+    ensures fast { (result ≡ Way.Fast) ↔
+        ((spin_in pass.new).took ≡ (view_of pass.old).steps + 1) }
+    ensures pending { (result ≡ Way.Pending) ↔ ((spin_in pass.new).from ≡ Taking) }
+    ensures asked { (result ≡ Way.Pending) → OwnsPendingAt 0 2 H.FIRST pass.old pass.new }
+    ensures in_turn { (result ≡ Way.Queued) → TakesInTurn 0 7 pass.old pass.new }
+    ensures queued { (result ≡ Way.Queued) → FindsRival H.FIRST pass.old pass.new }
+{
+    lock_with(site, rt, pass, 0, &mut Quiet)
 }

@@ -1,6 +1,7 @@
 pub mod Bits
 pub mod Codes
 pub mod WordSteps
+pub mod OwnNodes
 pub mod Regions
 pub mod Turning
 pub mod SpinSteps
@@ -8,3 +9,6 @@ pub mod Refusing
 pub mod Rivals
 pub mod Owning
 pub mod Going
+pub mod Idling
+pub mod Noting
+pub mod Passing

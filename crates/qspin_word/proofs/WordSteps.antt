@@ -1,10 +1,10 @@
 -- The steps by which a pass that stands in no queue changes the word, or nothing.
-use Rattle.std.proofs.Common.{◌≡◌, ℕ, ◌+◌, ◌-◌, ◌/◌, ◌%◌, ◌<◌, ◌≤◌, List, length, set, refl, ap, arith}
+use Rattle.std.proofs.Common.{◌≡◌, ℕ, ◌+◌, ◌-◌, ◌/◌, ◌%◌, ◌<◌, ◌≤◌, ◌⊎◌, ⊎_elim, List, length, set, refl, ap, ◌∙◌, arith}
 use mathlib.Core.Option.{some}
 use lib.ListN.{get_elem?}
 use Rattle.lock_core.specs.declared.view.Frame.{Frame}
 use Rattle.lock_core.specs.declared.view.Point.{Point}
-use Rattle.lock_core.specs.declared.view.Point.TheVariants.{Out, Undoing, Pending, Taking, Cleared, Holding}
+use Rattle.lock_core.specs.declared.view.Point.TheVariants.{Out, Undoing, Pending, Taking, Trying, Cleared, Holding}
 use Rattle.lock_core.specs.SpinQueues.{LockKept}
 use Rattle.qspin_word.proofs.Codes.{no_tail, some_stand}
 use Rattle.lock_core.specs.SpinLaws.{recount, rekept}
@@ -28,6 +28,18 @@ module _ (next locked : ℕ → ℕ) (q : List ℕ) (fs : List Frame) (id : ℕ)
   pub takes-clean : Kept 0 fs → Old Cleared → Kept 1 (now Holding)
   takes-clean k at = let b = k.balanced in let e = ap length (no_tail q k.queued.real (omega arith)) in let r = recount fs id (at_point f Cleared) (at_point f Holding) at in
       rekept 0 1 next locked q fs id (at_point f Cleared) (at_point f Holding) at (λ c. refl) (λ c. omega arith) tt k record { word_is = omega arith; owner = omega arith; comes = omega arith; rivals = omega arith; undone = omega arith; fronts = omega arith }
+
+  pub takes-trying : Kept 0 fs → Old Trying → Kept 1 (now Holding)
+  takes-trying k at = let b = k.balanced in let e = ap length (no_tail q k.queued.real (omega arith)) in let r = recount fs id (at_point f Trying) (at_point f Holding) at in
+      rekept 0 1 next locked q fs id (at_point f Trying) (at_point f Holding) at (λ c. refl) (λ c. omega arith) tt k record { word_is = omega arith; owner = omega arith; comes = omega arith; rivals = omega arith; undone = omega arith; fronts = omega arith }
+
+  -- a pass without a node waits
+  pub tries-on : (word : ℕ) (p : Point) → (p ≡ Out) ⊎ (p ≡ Trying) → Kept word fs → Old p → Kept word (now Trying)
+  tries-on word p which k at = ⊎_elim
+      (λ e. let old : get_elem? fs id ≡ some (at_point f Out) = at ∙ ap (λ (z : Point). some (at_point f z)) e in let b = k.balanced in let r = recount fs id (at_point f Out) (at_point f Trying) old in
+      rekept word word next locked q fs id (at_point f Out) (at_point f Trying) old (λ c. refl) (λ c. omega arith) tt k record { word_is = omega arith; owner = omega arith; comes = omega arith; rivals = omega arith; undone = omega arith; fronts = omega arith })
+      (λ e. let old : get_elem? fs id ≡ some (at_point f Trying) = at ∙ ap (λ (z : Point). some (at_point f z)) e in let b = k.balanced in let r = recount fs id (at_point f Trying) (at_point f Trying) old in
+      rekept word word next locked q fs id (at_point f Trying) (at_point f Trying) old (λ c. refl) (λ c. omega arith) tt k record { word_is = omega arith; owner = omega arith; comes = omega arith; rivals = omega arith; undone = omega arith; fronts = omega arith }) which
 
   -- fetch_sub(1) by the holder
   pub frees : (word : ℕ) → Kept word fs → Old Holding → Kept (word - 1) (now Out)

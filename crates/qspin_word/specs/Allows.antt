@@ -9,7 +9,7 @@ use Rattle.lock_core.specs.declared.view.View.{View}
 use Rattle.lock_core.specs.declared.view.SpinHand.{SpinHand}
 use Rattle.lock_core.specs.Ops.{word_after, told_by}
 use Rattle.lock_core.specs.Views.{SpinPart, spin_part, part_with}
-use Rattle.lock_core.specs.Spins.{SpinFacts, SpinGoes, SpinMoves, spun}
+use Rattle.lock_core.specs.Spins.{SpinFacts, SpinGoes, SpinsMove, spun}
 use Rattle.lock_core.specs.Plays.{Sat, Turns}
 
 -- tasks have small numbers, and no two passes have the same one
@@ -18,11 +18,11 @@ pub record AreNumbered (ps : List SpinPart) : Type 0 where
   pub apart : (i j : ℕ) (p r : SpinPart) (t : ℕ) → get_elem? ps i ≡ some p → get_elem? ps j ≡ some r → p.task ≡ Some t → r.task ≡ Some t → i ≡ j
 
 module _ {E : Type 0} where
-  -- whatever the spin words are, the pass may do the operation on the one at this place: it is a step of the lock, after which the spin part is as this says of what was found, and so is what the step tells
-  abbrev pub SpinAllows : ℕ → View E → ℕ → Op → (ℕ → SpinHand) → (ℕ → Type 0) → Type 0
-  SpinAllows id v at op after tells = (w queue : List ℕ) (ps : List SpinPart) → SpinFacts w queue ps → AreNumbered ps → get_elem? ps id ≡ some (spin_part v) → slice_index w at < 2 ^ 64
-      → SpinMoves id w ps (slice_set w at (word_after op (slice_index w at))) (slice_set ps id (part_with v (after (told_by op (slice_index w at)))))
-      × SpinGoes (v.steps + 1) v.spin (after (told_by op (slice_index w at)))
+  -- whatever the words of so many spin locks are, the pass may do the operation on the one at this place: it is a step at the lock of this number, after which the spin part is as this says of what was found, and so is what the step tells
+  abbrev pub SpinAllows : (n l id : ℕ) → View E → ℕ → Op → (ℕ → SpinHand) → (ℕ → Type 0) → Type 0
+  SpinAllows n l id v at op after tells = (w : List ℕ) (queues : ℕ → List ℕ) (ps : List SpinPart) → SpinFacts n w queues ps → AreNumbered ps → get_elem? ps id ≡ some (spin_part v) → slice_index w at < 2 ^ 64
+      → SpinsMove n id w ps (slice_set w at (word_after op (slice_index w at))) (slice_set ps id (part_with v (after (told_by op (slice_index w at)))))
+      × SpinGoes (v.steps + 1) l v.spin (after (told_by op (slice_index w at)))
       × tells (told_by op (slice_index w at))
 
   -- the spin part of the view is as this says of what the step tells, and so is that

@@ -1,4 +1,4 @@
 pub mod Allows
 pub mod Hands
-pub mod Handles
 pub mod Ways
+pub mod Handles

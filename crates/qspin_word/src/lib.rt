@@ -1,6 +1,7 @@
 //! The word of the queued spin lock: the try, the release, and the way by the pending bit.
 #![tactic(auto)]
 
+mod interrupt;
 mod moves;
 pub mod steps;
 mod word;
@@ -15,8 +16,9 @@ pub const PENDING: u64 = 256;
 /// (`_Q_LOCKED_PENDING_MASK`)
 pub const TAILLESS: u64 = 512;
 
-/// What the code of a CPU's first node counts for in the word. (`_Q_TAIL_CPU_OFFSET`)
-pub const TAIL: u64 = 2_048;
+/// What the code of a node counts for in the word. (`_Q_TAIL_OFFSET`)
+pub const TAIL: u64 = 512;
 
+pub use interrupt::{Interrupt, Quiet, SpinSite};
 pub use moves::{SpinAfter, spin_step, word_step};
-pub use word::{take_by_pending, trylock, unlock};
+pub use word::{note, take_by_pending, trylock, trylock_at, unlock, unlock_at};

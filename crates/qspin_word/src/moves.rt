@@ -1,9 +1,9 @@
-//! A step on one of the spin words of any table, which asks for the lock's own facts alone.
-ghost use Rattle.std.specs.Prelude.{◌<◌, ◌+◌, ℕ};
+//! A step on one of the spin words of any table, which asks for the locks' own facts alone.
+ghost use Rattle.std.specs.Prelude.{◌<◌, ◌+◌, ◌*◌, ℕ};
 ghost use Rattle.lock_core.specs.declared.view.SpinHand.{SpinHand};
 ghost use Rattle.lock_core.specs.declared.layout.TheConstants.{SPIN_WORDS};
 ghost use Rattle.lock_core.specs.Views.{no_spin};
-ghost use Rattle.lock_core.specs.Spins.{SpinFrees};
+ghost use Rattle.lock_core.specs.Spins.{SpinFrees, word_at};
 ghost use Rattle.lock_core.specs.Pasts.{FindsAt};
 ghost use Rattle.lock_core.specs.Handles.{view_of, past_of, SitsAt};
 ghost use Rattle.qspin_word.specs.Allows.{SpunBy};
@@ -36,20 +36,22 @@ impl<E, A: SpinAfter> Play<(), View<E>> for By<A> {
     ghost then = { SpunBy A.after A.tells };
 }
 
-/// Does one operation on a spin word, counted from the first of them, and answers what the word was
-/// before; a store answers what it stored.
+/// Does one operation on a spin word, counted from the first of them, at the lock of this number,
+/// and answers what the word was before; a store answers what it stored.
 #[inline]
 pub fn spin_step<H: SpinHost, A: SpinAfter>(
     site: &Site<H>,
     pass: &mut Pass<H>,
+    lock: usize,
     at: usize,
     op: Op,
 ) -> u64
     requires own { SitsAt site.now pass.old }
+    requires there { lock < H.LOCKS }
     requires inside { at < SPIN_WORDS }
     requires may { (n : ℕ) →
-        SpinFrees (spin_in pass.old) (A.after n) → H.may_free (view_of pass.old) }
-    requires lock { MaySpin pass.old at op A.after A.tells }
+        SpinFrees lock (spin_in pass.old) (A.after n) → H.may_free (view_of pass.old) }
+    requires allows { MaySpin H.LOCKS lock pass.old at op A.after A.tells }
     ensures steps { SpinSteps site.now pass.old pass.new (A.after result) }
     ensures tells { A.tells result }
     ensures found { FindsAt op (H.FIRST + at) result (past_of pass.new) }
@@ -57,16 +59,22 @@ pub fn spin_step<H: SpinHost, A: SpinAfter>(
     site.step::<By<A>>(pass, H::FIRST + at, op)
 }
 
-/// The same on the spin word itself.
+/// The same on the word of that lock.
 #[inline]
-pub fn word_step<H: SpinHost, A: SpinAfter>(site: &Site<H>, pass: &mut Pass<H>, op: Op) -> u64
+pub fn word_step<H: SpinHost, A: SpinAfter>(
+    site: &Site<H>,
+    pass: &mut Pass<H>,
+    lock: usize,
+    op: Op,
+) -> u64
     requires own { SitsAt site.now pass.old }
+    requires there { lock < H.LOCKS }
     requires may { (n : ℕ) →
-        SpinFrees (spin_in pass.old) (A.after n) → H.may_free (view_of pass.old) }
-    requires lock { MaySpin pass.old 0 op A.after A.tells }
+        SpinFrees lock (spin_in pass.old) (A.after n) → H.may_free (view_of pass.old) }
+    requires allows { MaySpin H.LOCKS lock pass.old (word_at lock) op A.after A.tells }
     ensures steps { SpinSteps site.now pass.old pass.new (A.after result) }
     ensures tells { A.tells result }
-    ensures found { FindsAt op H.FIRST result (past_of pass.new) }
+    ensures found { FindsAt op (H.FIRST + word_at lock) result (past_of pass.new) }
 {
-    spin_step::<H, A>(site, pass, 0, op)
+    spin_step::<H, A>(site, pass, lock, 8 * lock, op)
 }

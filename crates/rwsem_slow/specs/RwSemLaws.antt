@@ -177,7 +177,7 @@ module _ {Call : Type 0} (o : Obj Call) (size : ℕ) where
       pub goes : (us : List ℕ) (vs' : List V) (c : Change) → length us ≡ width k → Site k us (map hand_of vs') → SiteMove id (count_in ws) (site k ws) vs (site k us) vs' → (u : V) → get_elem? vs' id ≡ some u → SpinMoves id (spin_words ws) (map spin_part vs) (spin_words us) (map spin_part vs') → ListKept (list_words us) (changed c q) (map parted vs')
           → Sem (sem_words us) (changed c q) (map seen vs') → Each IsLocked vs' → Allowed c q → MadeBy c id (map parted vs) → IsMadeBy id vs u.ext.sem.rest c q → Hands id (sem_words ws) q (map seen vs) (sem_words us) (map seen vs') → KeepsCount v.hand u.hand (count_in us) → busy_weight u.ext.sem.stage ≤ holds_in v.spin → u.ext.appends ≡ v.ext.appends + entered c → (u.hand.misses ≢ v.hand.misses → MayMiss v) → Go k id ws vs us vs'
       goes us vs' c wide there move u at' spin list sem locked may made mine hands freed lock counts missed = let before : v ≡ move.before = some-injective v move.before (sym at ∙ move.at) in let after : u ≡ move.after = some-injective u move.after (sym at' ∙ move.at') in (
-        (changed c q, record { wide = wide; site_holds = there; spin = (spin.queue', spin.new); list = list; sem = sem; locked = locked }),
+        (changed c q, record { wide = wide; site_holds = there; spin = (spin.queues', spin.new); list = list; sem = sem; locked = locked }),
         record {
           site = move;
           spin = spin;
@@ -243,12 +243,12 @@ module _ {Call : Type 0} (o : Obj Call) (size : ℕ) where
       lock : (s : SpinHand) → SpinStays v.spin s → busy_weight v.ext.sem.stage ≤ holds_in v.spin → busy_weight v.ext.sem.stage ≤ holds_in s
       lock s stays l = let e : holds_in s ≡ holds_in v.spin = ⊎_elim (λ e. ap holds_in e) (λ e. ap holds_in e) stays in omega (arith, e, l)
 
-  pub sem-spins : (k : Plan) (ws : List ℕ) (vs : List V) (id i n : ℕ) (v : V) (s : SpinHand) → Kept k ws vs → get_elem? vs id ≡ some v → i < SPIN_WORDS → SpinGoes (v.steps + 1) v.spin s → (SpinFrees v.spin s → may_free v)
+  spins-first : (k : Plan) (ws : List ℕ) (vs : List V) (id i n : ℕ) (v : V) (s : SpinHand) → Kept k ws vs → get_elem? vs id ≡ some v → i < SPIN_WORDS → SpinGoes (v.steps + 1) 0 v.spin s → (SpinFrees 0 v.spin s → may_free v)
       → SpinMoves id (spin_words ws) (map spin_part vs) (set (spin_words ws) i n) (set (map spin_part vs) id (part_with v s)) → Go k id ws vs (set ws (0 + i) n) (set vs id (spun v s))
-  sem-spins k ws vs id i n v s (q, r) at within turn may spin = let w : V = spun v s in let us : List ℕ = set ws (0 + i) n in let same = same-site k ws vs q r id v at (0 + i) n (omega (arith, within)) in
+  spins-first k ws vs id i n v s (q, r) at within turn may spin = let w : V = spun v s in let us : List ℕ = set ws (0 + i) n in let same = same-site k ws vs q r id v at (0 + i) n (omega (arith, within)) in
       goes-on k ws vs q r id v at us (set vs id w) (length-set ws (0 + i) n ∙ r.wide)
       (subst (λ (z : SiteWords). SiteKept o counted size k z (map hand_of (set vs id w))) (sym same) (keep_part hand_of (Site k ws) vs id v w at refl r.site_holds))
-      (subst (λ (z : SiteWords). SiteMove id (count_in ws) (site k ws) vs z (set vs id w)) (sym same) (set-moves id (site k ws) (site k ws) vs v w at (spin-moved (site k ws) v s turn))) w (set-there vs id v w at)
+      (subst (λ (z : SiteWords). SiteMove id (count_in ws) (site k ws) vs z (set vs id w)) (sym same) (set-moves id (site k ws) (site k ws) vs v w at (spin-moved (site k ws) v 0 s turn))) w (set-there vs id v w at)
       (subst (λ (z : List ℕ). SpinMoves id (spin_words ws) (map spin_part vs) z (map spin_part (set vs id w))) (sym (part-in ws 0 SPIN_WORDS i n within)) (set_part spin_part (SpinMoves id (spin_words ws) (map spin_part vs) (set (spin_words ws) i n)) vs id w spin))
       (subst (λ (z : List ℕ). ListKept z q (map parted (set vs id w))) (sym (part-above ws list_at LIST_WORDS (0 + i) n (omega (arith, within))))
       (set_part parted (ListKept (list_words ws) q) vs id w (list-spins (list_words ws) q (map parted vs) id (parted v) r.list (at_map parted vs id v at) s turn.entries (λ frees. (may frees).1))))
@@ -261,6 +261,12 @@ module _ {Call : Type 0} (o : Obj Call) (size : ℕ) where
       lock l = holds-or-not v.spin
           (λ had. holds-or-not s (λ has. omega (arith, l, had, has)) (λ out. let a : busy_weight v.ext.sem.stage ≡ 0 = ap busy_weight (may (had, out)).0 in omega (arith, a)))
           (λ out. omega (arith, out, l))
+
+  -- it is the only one
+  pub sem-spins : (k : Plan) (ws : List ℕ) (vs : List V) (id l i n : ℕ) (v : V) (s : SpinHand) → Kept k ws vs → get_elem? vs id ≡ some v → l < 1 → i < SPIN_WORDS → SpinGoes (v.steps + 1) l v.spin s → (SpinFrees l v.spin s → may_free v)
+      → SpinMoves id (spin_words ws) (map spin_part vs) (set (spin_words ws) i n) (set (map spin_part vs) id (part_with v s)) → Go k id ws vs (set ws (0 + i) n) (set vs id (spun v s))
+  sem-spins k ws vs id zero i n v s r at one within turn may spin = spins-first k ws vs id i n v s r at within turn may spin
+  sem-spins k ws vs id (suc l) i n v s r at one within turn may spin = absurd (omega (arith, one))
 
   -- what a step keeps of failed tries
   abbrev pub Tries : List ℕ → V → Hand → Type 0

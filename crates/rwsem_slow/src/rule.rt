@@ -1,6 +1,7 @@
 //! The rule of a semaphore's table.
 ghost use Rattle.std.specs.Prelude.{◌≡◌, refl};
 ghost use Rattle.word_bits.specs.LockWords.{counted};
+ghost use Rattle.lock_core.specs.Barely.{one-some, one-eight};
 ghost use Rattle.rwsem_slow.specs.RwSems.{Kept, MayMiss, RwSemKept, RwSemMoves, any_count, bias_of, biased, count_at, grants_at, idle, list_at, list_of, marks_at, may_change, may_count, may_free, more_in, rests, saw_first, sem_of, standing, with_list, with_sem};
 ghost use Rattle.rwsem_slow.specs.RwSemLaws.{count-inside, list-inside, sem-joins-rule, sem-looks, sem-opens-rule, sem-places, sem-sems, sem-site, sem-sites, sem-spin, sem-spins, sem-splits, spin-inside};
 ghost use Rattle.rwsem_slow.specs.ListLaws.{list-again, list-back, list-over, list-same, may-on, may-stay, sem-firsts, sem-list, sem-list-may, sem-lists, sem-queued};
@@ -56,11 +57,19 @@ impl<O: Object> SiteRule for SemRule<O> {
 impl<O: Object> SpinHost for SemRule<O> {
     const FIRST: usize = 0;
 
+    const LOCKS: usize = 1;
+
     ghost FIRST = { 0 };
+
+    ghost LOCKS = { 1 };
 
     ghost may_free = { may_free };
 
     ghost spin_inside = { spin-inside };
+
+    ghost spin_some = { one-some };
+
+    ghost spin_eight = { one-eight };
 
     ghost spin_kept = { sem-spin O.object O.WORDS };
 

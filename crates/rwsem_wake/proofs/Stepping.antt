@@ -15,7 +15,7 @@ use Rattle.lock_core.specs.declared.layout.TheConstants.{LOCK_WORDS, SPIN_WORDS}
 use Rattle.lock_core.specs.Layout.{SiteWords, site, part}
 use Rattle.lock_core.specs.Ops.{word_after}
 use Rattle.lock_core.specs.SpinFrames.{holds_of, holds_at}
-use Rattle.lock_core.specs.Spins.{SpinKept, frame_of, holds_in}
+use Rattle.lock_core.specs.Spins.{SpinsKept, frame_of, holds_in}
 use Rattle.lock_core.specs.declared.view.Held.{Held}
 use Rattle.lock_core.specs.declared.view.Held.TheVariants.{No}
 use Rattle.lock_core.specs.Holding.{Learns}
@@ -65,10 +65,10 @@ with_hand v s = record v { sem = s }
 abbrev pub turned : Hand → SemHand → SemPart
 turned h s = record { task = h.task; held = h.held; sem = s }
 
-module _ {E Call : Type 0} (o : Obj Call) (unavailable : Unavailable) (size : ℕ) (k : Plan) (first list_at count marks_at grants_at : ℕ) (list : E → ListHand) (sem : E → SemHand) (with_sem : E → SemHand → E)
+module _ {E Call : Type 0} (o : Obj Call) (unavailable : Unavailable) (size : ℕ) (k : Plan) (locks first list_at count marks_at grants_at : ℕ) (list : E → ListHand) (sem : E → SemHand) (with_sem : E → SemHand → E)
     (holds : List ℕ → List (View E) → Type 0) (moves : ℕ → List ℕ → List (View E) → List ℕ → List (View E) → Type 0) (queue : List ℕ → List (View E) → List Waiter → Type 0)
     (site_kept : (ws : List ℕ) (vs : List (View E)) → holds ws vs → SiteKept o unavailable size k (site k ws) (map hand_of vs))
-    (spin_kept : (ws : List ℕ) (vs : List (View E)) → holds ws vs → SpinKept (part first SPIN_WORDS ws) (map spin_part vs))
+    (spin_kept : (ws : List ℕ) (vs : List (View E)) → holds ws vs → SpinsKept locks (part first SPIN_WORDS ws) (map spin_part vs))
     (queued : (ws : List ℕ) (vs : List (View E)) → holds ws vs → (q : List Waiter) × queue ws vs q)
     (list_kept : (ws : List ℕ) (vs : List (View E)) (q : List Waiter) → queue ws vs q → ListKept (part list_at LIST_WORDS ws) q (map (list_part list) vs))
     (places : (count < marks_at) × (marks_at + 8 * MAX_TASKS ≤ grants_at) × (grants_at + 8 * MAX_TASKS ≤ LOCK_WORDS))

@@ -15,6 +15,8 @@ mod faults_tests;
 #[cfg(test)]
 mod leave_tests;
 #[cfg(test)]
+mod nest_tests;
+#[cfg(test)]
 mod owner_tests;
 #[cfg(test)]
 mod percpu_calls;

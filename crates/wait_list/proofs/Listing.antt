@@ -13,7 +13,7 @@ use Rattle.lock_core.specs.Layout.{part}
 use Rattle.lock_core.specs.Views.{spin_part}
 use Rattle.lock_core.specs.SpinFrames.{holds_of, holds_at}
 use Rattle.lock_core.specs.declared.layout.TheConstants.{SPIN_WORDS}
-use Rattle.lock_core.specs.Spins.{frame_of, SpinKept}
+use Rattle.lock_core.specs.Spins.{frame_of, SpinsKept}
 use Rattle.lock_core.specs.Moves.{Goes, Lets}
 use Rattle.lock_core.specs.Totals.{total}
 use Rattle.lock_core.proofs.HandLaws.{false-or-true}
@@ -33,9 +33,9 @@ use Rattle.wait_list.proofs.Walks.{head-is}
 use Rattle.lock_core.specs.Views.{SpinHolds}
 use Rattle.wait_list.specs.declared.words.TheConstants.{LIST_WORDS}
 
-module _ {E : Type 0} (holds : List ℕ → List (View E) → Type 0) (moves : ℕ → List ℕ → List (View E) → List ℕ → List (View E) → Type 0) (first place : ℕ) (list : E → ListHand) (with_list : Change → View E → ListHand → E) (saw_first : View E → ℕ → E)
+module _ {E : Type 0} (holds : List ℕ → List (View E) → Type 0) (moves : ℕ → List ℕ → List (View E) → List ℕ → List (View E) → Type 0) (locks first place : ℕ) (list : E → ListHand) (with_list : Change → View E → ListHand → E) (saw_first : View E → ℕ → E)
     (may_change : Change → View E → List Waiter → Type 0) (queue : List ℕ → List (View E) → List Waiter → Type 0)
-    (spin_kept : (ws : List ℕ) (vs : List (View E)) → holds ws vs → SpinKept (part first SPIN_WORDS ws) (map spin_part vs))
+    (spin_kept : (ws : List ℕ) (vs : List (View E)) → holds ws vs → SpinsKept locks (part first SPIN_WORDS ws) (map spin_part vs))
     (queued : (ws : List ℕ) (vs : List (View E)) → holds ws vs → (l : List Waiter) × queue ws vs l)
     (list_kept : (ws : List ℕ) (vs : List (View E)) (l : List Waiter) → queue ws vs l → ListKept (part place LIST_WORDS ws) l (map (list_part list) vs))
     (list_may : (ws : List ℕ) (vs : List (View E)) (l : List Waiter) (id : ℕ) (v : View E) (c : Change) → queue ws vs l → get_elem? vs id ≡ some v → SpinHolds v.spin → may_change c v l → Allowed c l)

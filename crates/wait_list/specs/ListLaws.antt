@@ -9,7 +9,7 @@ use Rattle.lock_core.specs.Spins.{SpinFrees}
 use Rattle.lock_core.specs.SpinFrames.{holds_at, holds_of}
 use Rattle.lock_core.specs.declared.view.Frame.{Frame}
 use Rattle.lock_core.specs.declared.view.Point.{Point}
-use Rattle.lock_core.specs.declared.view.Point.TheVariants.{Out, Undoing, Pending, Taking, Clearing, Cleared, Linking, Waiting, Front, Ready, Passing, Holding}
+use Rattle.lock_core.specs.declared.view.Point.TheVariants.{Out, Undoing, Pending, Taking, Trying, Clearing, Cleared, Linking, Waiting, Front, Ready, Passing, Holding}
 use Rattle.lock_core.specs.Spins.{holds_in}
 use Rattle.wait_list.specs.declared.words.TheConstants.{LIST_WORDS}
 use Rattle.lock_core.specs.Totals.{total, total-set, total-same, total-snoc, total-at, total-two}
@@ -26,6 +26,7 @@ holds-small Out = omega arith
 holds-small Undoing = omega arith
 holds-small Pending = omega arith
 holds-small Taking = omega arith
+holds-small Trying = omega arith
 holds-small Clearing = omega arith
 holds-small Cleared = omega arith
 holds-small Linking = omega arith
@@ -107,7 +108,7 @@ module _ (words : List ℕ) (l : List Waiter) (ps : List Part) (id : ℕ) (p : P
   }
 
   -- the spin lock is taken or released
-  pub list-spins : (s : SpinHand) → s.entries ≡ p.0.entries + (holds_in s - holds_in p.0) → (SpinFrees p.0 s → p.1.changes ≡ false) → ListKept words l (set ps id (s, p.1))
+  pub list-spins : (s : SpinHand) → s.entries ≡ p.0.entries + (holds_in s - holds_in p.0) → (SpinFrees 0 p.0 s → p.1.changes ≡ false) → ListKept words l (set ps id (s, p.1))
   list-spins s goes may = let q : Part = (s, p.1) in let ok = r.each id p at in let before = ok.past in
       let back : Knows q → Knows p = λ k. let has' = k.0 in let since = k.1 in holds-or-not p.0 (λ has. (has, omega (arith, has', since, has, goes))) (λ out. absurd (omega (arith, has', since, out, goes, before))) in record {
         wide = r.wide;

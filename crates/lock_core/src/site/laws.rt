@@ -4,7 +4,7 @@ ghost use Rattle.lock_core.specs.Layout.{site};
 ghost use Rattle.lock_core.specs.Views.{ticked};
 ghost use Rattle.lock_core.specs.Stated.{IsSiteThen, IsSiteMove};
 ghost use Rattle.lock_core.specs.Pasts.{BeganWith, EachMoment, IsMarked, KeepsJoined, Ran, RanByRule, opening};
-ghost use Rattle.lock_core.specs.Handles.{plan_of, view_of, past_of, joined_by, SitsAt, KeepsPast, IsLatest};
+ghost use Rattle.lock_core.specs.Handles.{plan_of, view_of, past_of, joined_by, SitsAt, KeepsPast, KeepsNest, IsLatest};
 
 use super::Site;
 use super::plays::Recall;
@@ -19,6 +19,7 @@ impl<R: SiteRule> Site<R> {
         requires own { SitsAt self.now pass.old }
         ensures own { SitsAt self.now pass.new }
         ensures goes_on { KeepsPast pass.old pass.new }
+        ensures nest { KeepsNest pass.old pass.new }
         ensures kept { view_of pass.new ≡ ticked (view_of pass.old) }
         ensures last { IsLatest pass.new }
         ensures marked { IsMarked R.marks (view_of pass.new) (past_of pass.new) }
@@ -35,6 +36,7 @@ impl<R: SiteRule> Site<R> {
         requires own { SitsAt self.now pass.old }
         ensures own { SitsAt self.now pass.new }
         ensures goes_on { KeepsPast pass.old pass.new }
+        ensures nest { KeepsNest pass.old pass.new }
         ensures kept { view_of pass.new ≡ ticked (view_of pass.old) }
         ensures last { IsLatest pass.new }
         ensures begins { BeganWith (opening R.marks (plan_of self.now) R.idle) (past_of pass.new) }
@@ -50,6 +52,7 @@ impl<R: SiteRule> Site<R> {
         requires own { SitsAt self.now pass.old }
         ensures own { SitsAt self.now pass.new }
         ensures goes_on { KeepsPast pass.old pass.new }
+        ensures nest { KeepsNest pass.old pass.new }
         ensures kept { view_of pass.new ≡ ticked (view_of pass.old) }
         ensures last { IsLatest pass.new }
         ensures moves { Ran R.marks (opening R.marks (plan_of self.now) R.idle)

@@ -8,7 +8,7 @@ ghost use Rattle.lock_core.specs.Records.{row};
 ghost use Rattle.lock_core.specs.Pasts.{FoundAt};
 ghost use Rattle.lock_core.specs.Views.{ticked};
 ghost use Rattle.lock_core.specs.Passes.{Shows, TellsKnown};
-ghost use Rattle.lock_core.specs.Handles.{plan_of, view_of, hand_in, past_of, SitsAt, IsOneOf, KeepsSeat, KeepsPast, SaysSame, IsLatest, UndoneIsZero};
+ghost use Rattle.lock_core.specs.Handles.{plan_of, view_of, hand_in, past_of, SitsAt, IsOneOf, KeepsSeat, KeepsPast, KeepsNest, SaysSame, IsLatest, UndoneIsZero};
 
 use super::Site;
 use super::plays::{CallWord, RecWord};
@@ -59,6 +59,7 @@ impl<R: SiteRule> Site<R> {
         requires call { call < length (row (plan_of self.now) task) }
         ensures own { SitsAt self.now pass.new }
         ensures goes_on { KeepsPast pass.old pass.new }
+        ensures nest { KeepsNest pass.old pass.new }
         ensures last { IsLatest pass.new }
         ensures kept { view_of pass.new ≡ ticked (ticked (view_of pass.old)) }
         ensures words { slice_get (row (plan_of self.now) task) call ≡ Some result }
@@ -73,6 +74,7 @@ impl<R: SiteRule> Site<R> {
         requires call { call < length (row (plan_of self.now) task) }
         ensures own { SitsAt self.now pass.new }
         ensures goes_on { KeepsPast pass.old pass.new }
+        ensures nest { KeepsNest pass.old pass.new }
         ensures last { IsLatest pass.new }
         ensures kept { view_of pass.new ≡ ticked (view_of pass.old) }
         ensures known { TellsKnown (hand_in pass.old) (record { task = task; call = call }) result }

@@ -4,7 +4,7 @@ ghost use Rattle.word_bits.specs.declared.rec.Rec.{Rec as Record};
 ghost use Rattle.lock_core.specs.Records.{row};
 ghost use Rattle.lock_core.specs.Views.{handed, gave_up, Beside, BesideForgetting, HoldsNothing, Knows, OwesNoSignal};
 ghost use Rattle.lock_core.specs.Passes.{HasSeenAfter, HasSeenAfterCall};
-ghost use Rattle.lock_core.specs.Handles.{plan_of, view_of, hand_in, task_in, front_in, SitsAt, IsOneOf, KeepsSeat, KeepsPast, SaysSame, IsLatest, TakesNumber};
+ghost use Rattle.lock_core.specs.Handles.{plan_of, view_of, hand_in, task_in, front_in, SitsAt, IsOneOf, KeepsSeat, KeepsPast, KeepsNest, SaysSame, IsLatest, TakesNumber};
 
 use super::Site;
 use crate::layout::LINES_AT;
@@ -26,6 +26,7 @@ impl<R: SiteRule> Site<R> {
         ensures goes_on { KeepsPast pass.old pass.new }
         ensures last { IsLatest pass.new }
         ensures became { TakesNumber R.O.object R.unavailable self.now task pass.old pass.new }
+        ensures nest { KeepsNest pass.old pass.new }
         ensures beside { BesideForgetting (view_of pass.old) (view_of pass.new) }
         ensures rises { (front_in pass.old) ≤ (front_in pass.new) }
     {
@@ -139,6 +140,7 @@ impl<R: SiteRule> Site<R> {
         ensures own { SitsAt self.now pass.new }
         ensures goes_on { KeepsPast pass.old pass.new }
         ensures last { IsLatest pass.new }
+        ensures nest { KeepsNest pass.old pass.new }
         ensures kept { view_of pass.new ≡ handed (view_of pass.old) (gave_up (hand_in pass.old)) }
     {
         if let Some(task) = pass.face.task {

@@ -6,7 +6,7 @@ ghost use Rattle.lock_core.specs.Plays.{Heeded};
 ghost use Rattle.lock_core.specs.Views.{consuming, handed, sending};
 ghost use Rattle.lock_core.specs.Passes.{Hears, HearsOf, Consumes};
 ghost use Rattle.lock_core.specs.Signals.{HearsOfSome, HasHeard};
-ghost use Rattle.lock_core.specs.Handles.{view_of, hand_in, past_of, task_in, SitsAt, IsOneOf, KeepsSeat, KeepsPast, SaysSame, IsLatest, IsNextSignal, SawOwnSignals, SawNonePending};
+ghost use Rattle.lock_core.specs.Handles.{view_of, hand_in, past_of, task_in, SitsAt, IsOneOf, KeepsSeat, KeepsPast, KeepsNest, SaysSame, IsLatest, IsNextSignal, SawOwnSignals, SawNonePending};
 
 use super::Site;
 use super::plays::Taken;
@@ -37,6 +37,7 @@ impl<R: SiteRule> Site<R> {
         requires next { IsNextSignal self.now pass.old target }
         ensures own { SitsAt self.now pass.new }
         ensures goes_on { KeepsPast pass.old pass.new }
+        ensures nest { KeepsNest pass.old pass.new }
         ensures last { IsLatest pass.new }
         ensures kept { view_of pass.new ≡
             handed (view_of pass.old) (sending (hand_in pass.old) target) }
@@ -53,6 +54,7 @@ impl<R: SiteRule> Site<R> {
         requires numbered { IsSome (task_in pass.old) }
         ensures own { SitsAt self.now pass.new }
         ensures goes_on { KeepsPast pass.old pass.new }
+        ensures nest { KeepsNest pass.old pass.new }
         ensures last { IsLatest pass.new }
         ensures consumed { IfSome result (λ why.
             Consumes why (view_of pass.old) (view_of pass.new)) }
@@ -71,6 +73,7 @@ impl<R: SiteRule> Site<R> {
         requires numbered { IsSome (task_in pass.old) }
         ensures own { SitsAt self.now pass.new }
         ensures goes_on { KeepsPast pass.old pass.new }
+        ensures nest { KeepsNest pass.old pass.new }
         ensures last { IsLatest pass.new }
         ensures face { SaysSame pass.old pass.new }
         ensures heard { IfSome result (λ why.
@@ -96,6 +99,7 @@ impl<R: SiteRule> Site<R> {
         requires heard { HasHeard why (hand_in pass.old) }
         ensures own { SitsAt self.now pass.new }
         ensures goes_on { KeepsPast pass.old pass.new }
+        ensures nest { KeepsNest pass.old pass.new }
         ensures last { IsLatest pass.new }
         ensures face { SaysSame pass.old pass.new }
         ensures kept { view_of pass.new ≡

@@ -4,7 +4,7 @@ ghost use Rattle.std.specs.Prelude.{◌<◌};
 ghost use Rattle.lock_core.specs.Layout.{width};
 ghost use Rattle.lock_core.specs.Ops.{told_by};
 ghost use Rattle.lock_core.specs.Pasts.{FindsAt};
-ghost use Rattle.lock_core.specs.Handles.{plan_of, past_of, seat_in, step_at, IsOneOf, IsSameSeat, KeepsPast, SaysSame, MayStep, IsLatest};
+ghost use Rattle.lock_core.specs.Handles.{plan_of, past_of, seat_in, step_at, IsOneOf, IsSameSeat, KeepsPast, SaysSame, KeepsNest, MayStep, IsLatest};
 
 use super::Site;
 use super::plays::{Lift, LiftFound};
@@ -27,6 +27,7 @@ impl<R: SiteRule> Site<R> {
             (λ n. M.then (step_at self.now word op) (seat_in pass.old) (told_by op n)) }
         ensures own { IsSameSeat pass.old pass.new }
         ensures face { SaysSame pass.old pass.new }
+        ensures nest { KeepsNest pass.old pass.new }
         ensures goes_on { KeepsPast pass.old pass.new }
         ensures last { IsLatest pass.new }
         ensures told { M.then

@@ -12,7 +12,7 @@ ghost use Rattle.lock_core.specs.Plans.{calls_in};
 ghost use Rattle.lock_core.specs.Views.{ticked, handed, wrote, entered, logged, recorded, note_steps, settled, OwesNoSignal, Unsent, after_commit, after_note, after_read, after_seen, with_record};
 ghost use Rattle.lock_core.specs.Chronicles.{Chronicles};
 ghost use Rattle.lock_core.specs.Passes.{IsLength, IsChange, IsEntryWord};
-ghost use Rattle.lock_core.specs.Handles.{plan_of, view_of, hand_in, past_of, task_in, held_in, done_in, front_in, SitsAt, IsOneOf, KeepsSeat, KeepsPast, SaysSame, IsLatest, IsNextChange, IsNextReading, IsNextSeenReading, MayNoteNext, MayStoreRecord};
+ghost use Rattle.lock_core.specs.Handles.{plan_of, view_of, hand_in, past_of, task_in, held_in, done_in, front_in, SitsAt, IsOneOf, KeepsSeat, KeepsPast, KeepsNest, SaysSame, IsLatest, IsNextChange, IsNextReading, IsNextSeenReading, MayNoteNext, MayStoreRecord};
 
 use super::Site;
 use super::plays::{Chronicle, Guarded, Length, LogEntry, Puts};
@@ -30,6 +30,7 @@ impl<R: SiteRule> Site<R> {
         requires inside { at < R.O.WORDS }
         ensures own { SitsAt self.now pass.new }
         ensures goes_on { KeepsPast pass.old pass.new }
+        ensures nest { KeepsNest pass.old pass.new }
         ensures last { IsLatest pass.new }
         ensures kept { view_of pass.new ≡ ticked (view_of pass.old) }
         ensures value { result ≡ slice_index (hand_in pass.old).known at }
@@ -45,6 +46,7 @@ impl<R: SiteRule> Site<R> {
         requires held { (held_in pass.old) ≢ No }
         ensures own { SitsAt self.now pass.new }
         ensures goes_on { KeepsPast pass.old pass.new }
+        ensures nest { KeepsNest pass.old pass.new }
         ensures last { IsLatest pass.new }
         ensures kept { view_of pass.new ≡ ticked (view_of pass.old) }
         ensures history { Chronicles R.O.object R.unavailable (plan_of self.now)
@@ -62,6 +64,7 @@ impl<R: SiteRule> Site<R> {
         requires inside { at < length (hand_in pass.old).log }
         ensures own { SitsAt self.now pass.new }
         ensures goes_on { KeepsPast pass.old pass.new }
+        ensures nest { KeepsNest pass.old pass.new }
         ensures last { IsLatest pass.new }
         ensures kept { view_of pass.new ≡ ticked (view_of pass.old) }
         ensures value { IsEntryWord (hand_in pass.old) at result }
@@ -77,6 +80,7 @@ impl<R: SiteRule> Site<R> {
         requires inside { at < R.O.WORDS }
         ensures own { SitsAt self.now pass.new }
         ensures goes_on { KeepsPast pass.old pass.new }
+        ensures nest { KeepsNest pass.old pass.new }
         ensures last { IsLatest pass.new }
         ensures kept { view_of pass.new ≡
             handed (view_of pass.old) (wrote (hand_in pass.old) at value) }
@@ -95,6 +99,7 @@ impl<R: SiteRule> Site<R> {
         requires next { IsNextChange R.O.object self.now pass.old reply }
         ensures own { SitsAt self.now pass.new }
         ensures goes_on { KeepsPast pass.old pass.new }
+        ensures nest { KeepsNest pass.old pass.new }
         ensures last { IsLatest pass.new }
         ensures kept { view_of pass.new ≡ after_commit (view_of pass.old) reply }
         ensures rises { (front_in pass.old) ≤ (front_in pass.new) }
@@ -125,6 +130,7 @@ impl<R: SiteRule> Site<R> {
         requires next { MayNoteNext R.O.object R.unavailable self.now pass.old reply }
         ensures own { SitsAt self.now pass.new }
         ensures goes_on { KeepsPast pass.old pass.new }
+        ensures nest { KeepsNest pass.old pass.new }
         ensures last { IsLatest pass.new }
         ensures kept { view_of pass.new ≡ after_note (view_of pass.old) reply }
         ensures rises { (front_in pass.old) ≤ (front_in pass.new) }
@@ -147,6 +153,7 @@ impl<R: SiteRule> Site<R> {
         requires next { IsNextSeenReading R.O.object self.now pass.old reply }
         ensures own { SitsAt self.now pass.new }
         ensures goes_on { KeepsPast pass.old pass.new }
+        ensures nest { KeepsNest pass.old pass.new }
         ensures last { IsLatest pass.new }
         ensures kept { view_of pass.new ≡ after_seen (view_of pass.old) reply }
         ensures rises { (front_in pass.old) ≤ (front_in pass.new) }
@@ -169,6 +176,7 @@ impl<R: SiteRule> Site<R> {
         requires next { IsNextReading R.O.object self.now pass.old reply }
         ensures own { SitsAt self.now pass.new }
         ensures goes_on { KeepsPast pass.old pass.new }
+        ensures nest { KeepsNest pass.old pass.new }
         ensures last { IsLatest pass.new }
         ensures kept { view_of pass.new ≡ after_read (view_of pass.old) reply }
         ensures rises { (front_in pass.old) ≤ (front_in pass.new) }
@@ -191,6 +199,7 @@ impl<R: SiteRule> Site<R> {
         requires next { MayNoteNext R.O.object R.unavailable self.now pass.old reply }
         ensures own { SitsAt self.now pass.new }
         ensures goes_on { KeepsPast pass.old pass.new }
+        ensures nest { KeepsNest pass.old pass.new }
         ensures last { IsLatest pass.new }
         ensures kept { view_of pass.new ≡ after_note (view_of pass.old) reply }
         ensures rises { (front_in pass.old) ≤ (front_in pass.new) }

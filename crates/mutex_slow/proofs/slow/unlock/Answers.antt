@@ -1,4 +1,4 @@
-use Rattle.std.proofs.Common.{arith, ℕ, Option, ap, refl, inl, inr, ◌≡◌, ◌≢◌, ◌∙◌}
+use Rattle.std.proofs.Common.{arith, ℕ, Option, ap, refl, inl, inr, ◌≢◌, ◌∙◌}
 use Rattle.lock_core.specs.declared.view.Hand.{Hand}
 use Rattle.lock_core.specs.declared.view.SpinHand.{SpinHand}
 use Rattle.word_bits.specs.OwnerWord.{task_code}

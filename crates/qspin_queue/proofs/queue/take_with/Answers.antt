@@ -1,24 +1,20 @@
-use Rattle.std.proofs.Common.{sym, subst}
-use Rattle.lock_core.specs.Handles.{SaysSame, KeepsPast}
-use Rattle.qspin_word.specs.Handles.{SpinGoesOn}
-use Rattle.qspin_word.proofs.Going.{goes-then}
+use Rattle.std.proofs.Common.{refl, inl, inr, ap, ◌∙◌, arith}
+use Rattle.lock_core.specs.declared.view.Point.TheVariants.{Cleared}
+use Rattle.qspin_word.specs.Handles.{lock_hand_of}
+use Rattle.qspin_queue.specs.Hands.{lock_hand_with, node_at}
+use Rattle.qspin_queue.proofs.Entering.{with-tried, with-queued}
+use Rattle.lock_core.specs.LockHands.{lock_hand_at}
 use Rattle.qspin_queue.proofs.queue.take_with.Goals as goal
-use Rattle.qspin_queue.proofs.queue.take_with.Goals.{else-peek-eq0-via-then-peek-eq0+else-retry-eq0, else-peek-eq0-via-else-peek-eq0}
 
-pub returns-then-seen-lt-TAILLESS-clause-goes_on : goal.returns-then-seen-lt-TAILLESS-clause-goes_on
-returns-then-seen-lt-TAILLESS-clause-goes_on g c = let site = c.args.site.now in let clear = c.clear_node.ensures.waits in let peek = c.peek.ensures.steps in let enter = c.enter_queue-seen.ensures.waits in let mid = c.else-peek-eq0.pass in let last = c.take_front.new.pass in
-    let rest = goes-then site mid c.enter_queue-seen.new.pass last enter.face enter.goes_on c.take_front.ensures.goes_on in
-    goes-then site c.args.pass.now c.clear_node.new.pass last clear.face clear.goes_on (goes-then site c.clear_node.new.pass c.peek.new.pass last peek.face peek.goes_on
-    (elim c.else-peek-eq0.branch as (λ _. SpinGoesOn site c.peek.new.pass last) [
-      | else-peek-eq0-via-then-peek-eq0+else-retry-eq0 w ↦ goes-then site c.peek.new.pass mid last (subst (SaysSame c.peek.new.pass) (sym w.pass-is) w.retry.ensures.steps.face) (subst (KeepsPast c.peek.new.pass) (sym w.pass-is) w.retry.ensures.steps.goes_on) rest
-      | else-peek-eq0-via-else-peek-eq0 w ↦ subst (λ z. SpinGoesOn site z last) w.pass-is rest
-    ]))
+pub returns-then-try_cleared-clause-takes : goal.returns-then-try_cleared-clause-takes
+returns-then-try_cleared-clause-takes g c = with-tried c.args.site.now c.args.lock g.I.Interrupt.silent c.args.pass.now c.clear_node.new.pass c.try_cleared.new.pass c.note_depth.new.self c.depth-depth.result (lock_hand_with (node_at Cleared c.args.code) (lock_hand_of c.args.lock c.args.pass.now)) c.clear_node.ensures.waits (c.try_cleared.ensures.takes c.if-try_cleared.true) c.note_depth.ensures
 
-pub returns-else-seen-lt-TAILLESS-clause-goes_on : goal.returns-else-seen-lt-TAILLESS-clause-goes_on
-returns-else-seen-lt-TAILLESS-clause-goes_on g c = let site = c.args.site.now in let clear = c.clear_node.ensures.waits in let peek = c.peek.ensures.steps in let enter = c.enter_queue-seen.ensures.waits in let front = c.become_front-next.ensures.waits in let mid = c.else-peek-eq0.pass in let last = c.take_front-else-seen-lt-TAILLESS.new.pass in
-    let rest = goes-then site mid c.enter_queue-seen.new.pass last enter.face enter.goes_on (goes-then site c.enter_queue-seen.new.pass c.become_front-next.new.pass last front.face front.goes_on c.take_front-else-seen-lt-TAILLESS.ensures.goes_on) in
-    goes-then site c.args.pass.now c.clear_node.new.pass last clear.face clear.goes_on (goes-then site c.clear_node.new.pass c.peek.new.pass last peek.face peek.goes_on
-    (elim c.else-peek-eq0.branch as (λ _. SpinGoesOn site c.peek.new.pass last) [
-      | else-peek-eq0-via-then-peek-eq0+else-retry-eq0 w ↦ goes-then site c.peek.new.pass mid last (subst (SaysSame c.peek.new.pass) (sym w.pass-is) w.retry.ensures.steps.face) (subst (KeepsPast c.peek.new.pass) (sym w.pass-is) w.retry.ensures.steps.goes_on) rest
-      | else-peek-eq0-via-else-peek-eq0 w ↦ subst (λ z. SpinGoesOn site z last) w.pass-is rest
-    ]))
+pub returns-clause-takes : goal.returns-clause-takes
+returns-clause-takes g c = with-queued c.args.site.now c.args.lock g.I.Interrupt.silent c.args.pass.now c.clear_node.new.pass c.try_cleared.new.pass c.queue_up.new.pass c.note_depth-2.new.self c.depth-depth.result (lock_hand_with (node_at Cleared c.args.code) (lock_hand_of c.args.lock c.args.pass.now)) c.clear_node.ensures.waits refl (c.try_cleared.ensures.missed c.if-try_cleared.false) c.queue_up.ensures.takes c.note_depth-2.ensures
+
+pub returns-then-try_cleared-clause-in_turn : goal.returns-then-try_cleared-clause-in_turn
+returns-then-try_cleared-clause-in_turn g c = let t = c.try_cleared.ensures.cleared c.if-try_cleared.true in let seat = c.note_depth.ensures.seat in let took = ap (λ s. (lock_hand_at c.args.lock s.me.0.view.spin).took) seat in let x = t.1 in let y = c.clear_node.ensures.quick in
+    inr (inl (ap (λ s. (lock_hand_at c.args.lock s.me.0.view.spin).from) seat ∙ t.0, omega (arith, took, x, y)))
+
+pub returns-clause-in_turn : goal.returns-clause-in_turn
+returns-clause-in_turn g c = inl (ap (λ s. (lock_hand_at c.args.lock s.me.0.view.spin).from) c.note_depth-2.ensures.seat ∙ c.queue_up.ensures.ready)

@@ -2,4 +2,4 @@ use Rattle.qspin_queue.specs.Hands.{linked}
 use Rattle.qspin_queue.proofs.steps.link.Given as goal
 
 abbrev pub ghosts-spin_step : goal.ghosts-spin_step
-ghosts-spin_step g a = record { after = λ n. linked a.pass.now.seat.me.0.view; tells = λ n. Unit {0} }
+ghosts-spin_step g a = record { after = λ n. linked a.lock a.pass.now.seat.me.0.view; tells = λ n. Unit {0} }

@@ -1,17 +1,17 @@
-use Rattle.std.proofs.Common.{ap, sym, ◌∙◌, ◌≤◌, ℕ, subst}
-use Rattle.word_bits.specs.declared.TheConstants.{MAX_TASKS}
+use Rattle.std.proofs.Common.{ap, sym, ◌∙◌, ℕ, ◌<◌, subst}
 use Rattle.lock_core.specs.declared.op.Op.TheVariants.{Load}
 use Rattle.lock_core.specs.declared.view.Point.TheVariants.{Front}
 use Rattle.lock_core.specs.SpinFrames.{holds_at}
 use Rattle.lock_core.specs.Spins.{next_at}
 use Rattle.qspin_word.specs.Allows.{SpinAllows}
+use Rattle.qspin_queue.specs.Handles.{codes}
 use Rattle.qspin_word.proofs.SpinSteps.{ends-none}
 use Rattle.qspin_queue.specs.Hands.{learnt}
 use Rattle.qspin_queue.proofs.QueueSteps.{learns}
 use Rattle.qspin_queue.proofs.steps.load_next.Goals as goal
 
 pub spin_step-requires-clause-may : goal.spin_step-requires-clause-may
-spin_step-requires-clause-may g c = λ n ends. ends-none c.args.pass.now.seat.me.0.view.spin (learnt Front n c.args.pass.now.seat.me.0.view) (g.H.SpinHost.may_free c.args.pass.now.seat.me.0.view) (ap holds_at c.requires.point) ends
+spin_step-requires-clause-may g c = λ n ends. ends-none c.args.lock c.args.pass.now.seat.me.0.view.spin (learnt c.args.lock Front n c.args.pass.now.seat.me.0.view) (g.H.SpinHost.may_free c.args.pass.now.seat.me.0.view) (ap holds_at c.requires.point) ends
 
-pub spin_step-requires-clause-lock : goal.spin_step-requires-clause-lock
-spin_step-requires-clause-lock g c = subst (λ (z : ℕ). SpinAllows c.args.pass.now.seat.id c.args.pass.now.seat.me.0.view z (Load) (λ n. learnt Front n c.args.pass.now.seat.me.0.view) (λ n. n ≤ MAX_TASKS)) (sym (c.next_place.ensures ∙ ap next_at (sym c.requires.node))) (learns c.args.pass.now.seat.me.0.view c.args.pass.now.seat.id c.requires.point)
+pub spin_step-requires-clause-allows : goal.spin_step-requires-clause-allows
+spin_step-requires-clause-allows g c = subst (λ (z : ℕ). SpinAllows g.H.SpinHost.LOCKS c.args.lock c.args.pass.now.seat.id c.args.pass.now.seat.me.0.view z (Load) (λ n. learnt c.args.lock Front n c.args.pass.now.seat.me.0.view) (λ n. n < codes)) (sym (c.next_place.ensures ∙ ap next_at (sym c.requires.node))) (learns g.H.SpinHost.LOCKS c.args.lock c.requires.there g.H.SpinHost.spin_eight c.args.pass.now.seat.me.0.view c.args.pass.now.seat.id c.requires.point)

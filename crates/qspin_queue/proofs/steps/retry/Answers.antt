@@ -6,7 +6,7 @@ use Rattle.qspin_queue.proofs.QueueSteps.{retries}
 use Rattle.qspin_queue.proofs.steps.retry.Goals as goal
 
 pub word_step-requires-clause-may : goal.word_step-requires-clause-may
-word_step-requires-clause-may g c = λ n ends. ends-none c.args.pass.now.seat.me.0.view.spin (retried n c.args.pass.now.seat.me.0.view) (g.H.SpinHost.may_free c.args.pass.now.seat.me.0.view) (ap holds_at c.requires.point) ends
+word_step-requires-clause-may g c = λ n ends. ends-none c.args.lock c.args.pass.now.seat.me.0.view.spin (retried c.args.lock n c.args.pass.now.seat.me.0.view) (g.H.SpinHost.may_free c.args.pass.now.seat.me.0.view) (ap holds_at c.requires.point) ends
 
-pub word_step-requires-clause-lock : goal.word_step-requires-clause-lock
-word_step-requires-clause-lock g c = retries c.args.pass.now.seat.me.0.view c.args.pass.now.seat.id c.requires.point
+pub word_step-requires-clause-allows : goal.word_step-requires-clause-allows
+word_step-requires-clause-allows g c = retries g.H.SpinHost.LOCKS c.args.lock c.requires.there g.H.SpinHost.spin_eight c.args.pass.now.seat.me.0.view c.args.pass.now.seat.id c.requires.point c.requires.top

@@ -2,4 +2,4 @@ use Rattle.qspin_queue.specs.Hands.{took_front}
 use Rattle.qspin_queue.proofs.steps.set_locked.Given as goal
 
 abbrev pub ghosts-word_step : goal.ghosts-word_step
-ghosts-word_step g a = record { after = λ n. took_front a.pass.now.seat.me.0.view; tells = λ n. Unit {0} }
+ghosts-word_step g a = record { after = λ n. took_front a.lock a.pass.now.seat.me.0.view; tells = λ n. Unit {0} }

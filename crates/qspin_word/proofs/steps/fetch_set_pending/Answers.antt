@@ -5,7 +5,7 @@ use Rattle.qspin_word.proofs.SpinSteps.{ends-none, pends}
 use Rattle.qspin_word.proofs.steps.fetch_set_pending.Goals as goal
 
 pub word_step-requires-clause-may : goal.word_step-requires-clause-may
-word_step-requires-clause-may g c = λ n ends. ends-none c.args.pass.now.seat.me.0.view.spin (pended n c.args.pass.now.seat.me.0.view) (g.H.SpinHost.may_free c.args.pass.now.seat.me.0.view) (ap holds_at c.requires.out) ends
+word_step-requires-clause-may g c = λ n ends. ends-none c.args.lock c.args.pass.now.seat.me.0.view.spin (pended c.args.lock n c.args.pass.now.seat.me.0.view) (g.H.SpinHost.may_free c.args.pass.now.seat.me.0.view) (ap holds_at c.requires.out) ends
 
-pub word_step-requires-clause-lock : goal.word_step-requires-clause-lock
-word_step-requires-clause-lock g c = pends c.args.pass.now.seat.me.0.view c.args.pass.now.seat.id c.requires.out
+pub word_step-requires-clause-allows : goal.word_step-requires-clause-allows
+word_step-requires-clause-allows g c = pends g.H.SpinHost.LOCKS c.args.lock c.requires.there g.H.SpinHost.spin_eight c.args.pass.now.seat.me.0.view c.args.pass.now.seat.id c.requires.out

@@ -5,7 +5,7 @@ use Rattle.qspin_word.proofs.SpinSteps.{ends-none, looks}
 use Rattle.qspin_word.proofs.steps.look.Goals as goal
 
 pub word_step-requires-clause-may : goal.word_step-requires-clause-may
-word_step-requires-clause-may g c = λ n ends. ends-none c.args.pass.now.seat.me.0.view.spin (looked n c.args.pass.now.seat.me.0.view) (g.H.SpinHost.may_free c.args.pass.now.seat.me.0.view) (ap holds_at c.requires.out) ends
+word_step-requires-clause-may g c = λ n ends. ends-none c.args.lock c.args.pass.now.seat.me.0.view.spin (looked c.args.lock n c.args.pass.now.seat.me.0.view) (g.H.SpinHost.may_free c.args.pass.now.seat.me.0.view) (ap holds_at c.requires.out) ends
 
-pub word_step-requires-clause-lock : goal.word_step-requires-clause-lock
-word_step-requires-clause-lock g c = looks c.args.pass.now.seat.me.0.view c.args.pass.now.seat.id c.requires.out
+pub word_step-requires-clause-allows : goal.word_step-requires-clause-allows
+word_step-requires-clause-allows g c = looks g.H.SpinHost.LOCKS c.args.lock c.requires.there g.H.SpinHost.spin_eight c.args.pass.now.seat.me.0.view c.args.pass.now.seat.id c.requires.out

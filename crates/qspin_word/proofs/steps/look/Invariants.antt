@@ -2,4 +2,4 @@ use Rattle.qspin_word.specs.Hands.{looked}
 use Rattle.qspin_word.proofs.steps.look.Given as goal
 
 abbrev pub ghosts-word_step : goal.ghosts-word_step
-ghosts-word_step g a = record { after = λ n. looked n a.pass.now.seat.me.0.view; tells = λ n. Unit {0} }
+ghosts-word_step g a = record { after = λ n. looked a.lock n a.pass.now.seat.me.0.view; tells = λ n. Unit {0} }

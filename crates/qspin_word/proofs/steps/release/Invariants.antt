@@ -2,4 +2,4 @@ use Rattle.qspin_word.specs.Hands.{freed}
 use Rattle.qspin_word.proofs.steps.release.Given as goal
 
 abbrev pub ghosts-word_step : goal.ghosts-word_step
-ghosts-word_step g a = record { after = λ n. freed a.pass.now.seat.me.0.view; tells = λ n. Unit {0} }
+ghosts-word_step g a = record { after = λ n. freed a.lock a.pass.now.seat.me.0.view; tells = λ n. Unit {0} }

@@ -1,13 +1,9 @@
-use Rattle.std.proofs.Common.{ℕ, subst}
-use Rattle.lock_core.specs.Pasts.{FoundAt}
-use Rattle.lock_core.specs.Handles.{past_of}
-use Rattle.qspin_word.proofs.Going.{first_found}
+use Rattle.std.proofs.Common.{◌≡◌, ℕ, ◌+◌, ◌*◌, subst, arith, IfOk, IfErr}
+use Rattle.qspin_word.specs.Handles.{FirstFoundFree, TriesOnlyFree}
 use Rattle.qspin_word.proofs.word.trylock.Goals as goal
 
-pub returns-then-found-eq0-clause-loaded : goal.returns-then-found-eq0-clause-loaded
-returns-then-found-eq0-clause-loaded g c = let mid = c.look-seen.new.pass in
-    first_found c.args.site.now c.args.pass.now mid c.exchange_free-found.new.pass _ g.H.SpinHost.FIRST c.look-seen.ensures.steps (subst (λ (n : ℕ). FoundAt g.H.SpinHost.FIRST n (past_of mid)) c.if-seen-ne0.false c.look-seen.ensures.found) c.exchange_free-found.ensures.steps.goes_on
+pub returns-clause-loaded : goal.returns-clause-loaded
+returns-clause-loaded g c = let f : ℕ = g.H.SpinHost.FIRST in let e : f + 8 * 0 ≡ f = omega arith in subst (λ (at : ℕ). IfOk c.trylock_at.result (λ _. FirstFoundFree at c.args.pass.now c.trylock_at.new.pass)) e c.trylock_at.ensures.loaded
 
-pub returns-else-found-eq0-clause-exchanged : goal.returns-else-found-eq0-clause-exchanged
-returns-else-found-eq0-clause-exchanged g c = λ _. let mid = c.look-seen.new.pass in
-    first_found c.args.site.now c.args.pass.now mid c.exchange_free-found.new.pass _ g.H.SpinHost.FIRST c.look-seen.ensures.steps (subst (λ (n : ℕ). FoundAt g.H.SpinHost.FIRST n (past_of mid)) c.if-seen-ne0.false c.look-seen.ensures.found) c.exchange_free-found.ensures.steps.goes_on
+pub returns-clause-exchanged : goal.returns-clause-exchanged
+returns-clause-exchanged g c = let f : ℕ = g.H.SpinHost.FIRST in let e : f + 8 * 0 ≡ f = omega arith in subst (λ (at : ℕ). IfErr c.trylock_at.result (λ _. TriesOnlyFree at c.args.pass.now c.trylock_at.new.pass)) e c.trylock_at.ensures.exchanged

@@ -1,8 +1,11 @@
-use Rattle.std.proofs.Common.{◌∙◌, ap}
+use Rattle.std.proofs.Common.{◌∙◌, ap, inl, refl}
 use Rattle.rwsem_slow.specs.declared.view.RwSemHand.{RwSemHand}
 use Rattle.rwsem_slow.specs.RwSems.{V}
 use Rattle.rwsem_slow.proofs.Quitting.{heard-on, ungranted-leaves}
 use Rattle.rwsem_slow.proofs.read_path.quit.Goals as goal
+
+pub lock-requires-clause-told : goal.lock-requires-clause-told
+lock-requires-clause-told g c = inl refl
 
 pub interrupt-requires-clause-may : goal.interrupt-requires-clause-may
 interrupt-requires-clause-may g c = ungranted-leaves c.lock.new.pass.seat.me.0.view c.hear_locked.new.pass.seat.me.0.view (ap (λ (e : RwSemHand). e.list.changes) c.lock.ensures.gained.ext ∙ c.requires.listed.still) (c.hear_locked.ensures.missed c.if-hear_locked.false)

@@ -1,9 +1,12 @@
-use Rattle.std.proofs.Common.{◌∙◌, ap, arith}
+use Rattle.std.proofs.Common.{◌∙◌, ap, arith, inl, refl}
 use Rattle.lock_core.specs.declared.view.Hand.{Hand}
 use Rattle.rwsem_slow.specs.RwSems.{V}
 use Rattle.rwsem_slow.specs.Places.{seen_of}
 use Rattle.lock_core.proofs.Within.{pending-within}
 use Rattle.rwsem_slow.proofs.read_path.read_in_line.Goals as goal
+
+pub lock-requires-clause-told : goal.lock-requires-clause-told
+lock-requires-clause-told g c = inl refl
 
 pub returns-clause-pending : goal.returns-clause-pending
 returns-clause-pending g c = let unlock = c.unlock-2.ensures.kept in let queues = c.queue.ensures.on.steps in let looks = c.in-Some.ensures.looked.later in let enters = c.lock.ensures.gained.took in let leaves = ap (λ (z : V). z.steps) unlock in

@@ -1,9 +1,15 @@
-use Rattle.std.proofs.Common.{ap, arith}
+use Rattle.std.proofs.Common.{ap, arith, inl, refl}
 use Rattle.rwsem_slow.specs.RwSems.{V}
 use Rattle.rwsem_slow.specs.Places.{seen_of}
 use Rattle.rwsem_slow.proofs.Quitting.{heard-on}
 use Rattle.lock_core.proofs.Within.{pending-within}
 use Rattle.rwsem_slow.proofs.write_path.sleep.Goals as goal
+
+pub lock-requires-clause-told : goal.lock-requires-clause-told
+lock-requires-clause-told g c = inl refl
+
+pub lock-requires-2-clause-told : goal.lock-requires-2-clause-told
+lock-requires-2-clause-told g c = inl refl
 
 pub returns-in-Some-clause-heard : goal.returns-in-Some-clause-heard
 returns-in-Some-clause-heard g c = heard-on c.in-Some.why c.pending.new.pass.seat.me.0.view.hand c.lock.new.pass.seat.me.0.view.hand c.lock.ensures.gained.hand c.in-Some.ensures.heard

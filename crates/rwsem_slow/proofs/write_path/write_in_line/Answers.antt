@@ -1,4 +1,4 @@
-use Rattle.std.proofs.Common.{◌∙◌, ap, arith, inl}
+use Rattle.std.proofs.Common.{◌∙◌, ap, arith, inl, refl}
 use Rattle.lock_core.specs.declared.view.Hand.{Hand}
 use Rattle.rwsem_slow.specs.Places.{seen_of}
 use Rattle.lock_core.proofs.Within.{pending-within}
@@ -11,6 +11,9 @@ use Rattle.rwsem_slow.specs.Opening.{IsOpen}
 use Rattle.rwsem_slow.specs.RwSems.{V}
 use Rattle.rwsem_slow.proofs.Opening.{takes-before, takes-behind}
 use Rattle.rwsem_slow.proofs.write_path.write_in_line.Goals as goal
+
+pub lock-requires-clause-told : goal.lock-requires-clause-told
+lock-requires-clause-told g c = inl refl
 
 pub interrupt-requires-clause-may : goal.interrupt-requires-clause-may
 interrupt-requires-clause-may g c = inl c.in-Err.ensures.waits.line

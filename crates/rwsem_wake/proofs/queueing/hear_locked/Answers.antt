@@ -15,7 +15,7 @@ use Rattle.rwsem_wake.proofs.queueing.hear_locked.Goals as goal
 
 pub step-word-requires-clause-lets : goal.step-word-requires-clause-lets
 step-word-requires-clause-lets g c = let k = c.args.site.now.table.shared.key in let v = c.args.pass.now.seat.me.0.view in let t0 = c.args.task in let has = sym c.requires.own.task ∙ c.requires.mine in
-    grant-holds g.H.O.Object.object g.H.SiteRule.unavailable g.H.O.Object.WORDS k g.H.SpinHost.FIRST g.H.ListHost.LIST g.H.CountHost.COUNT g.H.GrantHost.MARKS g.H.GrantHost.GRANTS g.H.ListHost.list g.H.GrantHost.sem g.H.GrantHost.with_sem (g.H.SiteRule.holds k) (g.H.SiteRule.moves k) (g.H.ListHost.queue k) (g.met.H.SiteRule.site_kept k) (g.met.H.SpinHost.spin_kept k) (g.met.H.ListHost.queued k) (g.H.ListHost.list_kept k) g.met.H.GrantHost.sem_places (g.met.H.GrantHost.sem_kept k) (g.met.H.GrantHost.sem_only k) (g.met.H.GrantHost.sems k)
+    grant-holds g.H.O.Object.object g.H.SiteRule.unavailable g.H.O.Object.WORDS k g.H.SpinHost.LOCKS g.H.SpinHost.FIRST g.H.ListHost.LIST g.H.CountHost.COUNT g.H.GrantHost.MARKS g.H.GrantHost.GRANTS g.H.ListHost.list g.H.GrantHost.sem g.H.GrantHost.with_sem (g.H.SiteRule.holds k) (g.H.SiteRule.moves k) (g.H.ListHost.queue k) (g.met.H.SiteRule.site_kept k) (g.met.H.SpinHost.spin_kept k) (g.met.H.ListHost.queued k) (g.H.ListHost.list_kept k) g.met.H.GrantHost.sem_places (g.met.H.GrantHost.sem_kept k) (g.met.H.GrantHost.sem_only k) (g.met.H.GrantHost.sems k)
     c.args.task c.requires.task _ _ _ t0 _ Load Shared (λ n. n == 0) (λ n. heard_locked (g.H.GrantHost.sem v.ext) n) anything (ap (λ n. n + 8 * c.args.task) c.GRANTS.ensures) has (sym c.requires.own.held ∙ c.requires.out) (λ e. shared-holds e)
     (λ n q marks grants sees loc only. let m = c.requires.may in let t = on-hear-locked sees _ _ _ n q marks grants loc t0 has m.stage m.waits m.clear (sym c.requires.own.held ∙ c.requires.out) (only c.requires.held) in (busy-held v.spin _ c.requires.held, t.0.0, t.0.1, t.1, tt))
 

@@ -15,7 +15,7 @@ use Rattle.rwsem_wake.proofs.queueing.take.Goals as goal
 
 pub step-found-requires-clause-lets : goal.step-found-requires-clause-lets
 step-found-requires-clause-lets g c = let k = c.args.site.now.table.shared.key in let v = c.args.pass.now.seat.me.0.view in let t0 = c.args.task in let has = sym c.requires.own.task ∙ c.requires.mine in
-    count-holds g.H.O.Object.object g.H.SiteRule.unavailable g.H.O.Object.WORDS k g.H.SpinHost.FIRST g.H.ListHost.LIST g.H.CountHost.COUNT g.H.GrantHost.MARKS g.H.GrantHost.GRANTS g.H.ListHost.list g.H.GrantHost.sem g.H.GrantHost.with_sem (g.H.SiteRule.holds k) (g.H.SiteRule.moves k) (g.H.ListHost.queue k) (g.met.H.SiteRule.site_kept k) (g.met.H.SpinHost.spin_kept k) (g.met.H.ListHost.queued k) (g.H.ListHost.list_kept k) g.met.H.GrantHost.sem_places (g.met.H.GrantHost.sem_kept k) (g.met.H.GrantHost.sem_only k) (g.met.H.GrantHost.sems k)
+    count-holds g.H.O.Object.object g.H.SiteRule.unavailable g.H.O.Object.WORDS k g.H.SpinHost.LOCKS g.H.SpinHost.FIRST g.H.ListHost.LIST g.H.CountHost.COUNT g.H.GrantHost.MARKS g.H.GrantHost.GRANTS g.H.ListHost.list g.H.GrantHost.sem g.H.GrantHost.with_sem (g.H.SiteRule.holds k) (g.H.SiteRule.moves k) (g.H.ListHost.queue k) (g.met.H.SiteRule.site_kept k) (g.met.H.SpinHost.spin_kept k) (g.met.H.ListHost.queued k) (g.H.ListHost.list_kept k) g.met.H.GrantHost.sem_places (g.met.H.GrantHost.sem_kept k) (g.met.H.GrantHost.sem_only k) (g.met.H.GrantHost.sems k)
     _ _ _ t0 _ (Exchange c.args.old c.args.new) Alone (λ n. n == c.args.old) (λ n. taken (g.H.GrantHost.sem v.ext) c.args.old n) IsLawfulCount c.COUNT.ensures has (sym c.requires.own.held ∙ c.requires.out) (λ e. alone-holds e)
     (λ n q marks grants sees loc only. let m = c.requires.may in let t = on-take sees _ _ _ n q marks grants loc (only c.requires.held) t0 has (sym c.requires.own.held ∙ c.requires.out) m.writes m.clear m.rest m.knows m.waiting c.args.alone c.args.old c.args.new m.only m.may m.free m.flags in (busy-held v.spin _ c.requires.held, t.0.0, t.0.1, t.1, t.2))
 

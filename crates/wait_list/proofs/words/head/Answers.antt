@@ -7,7 +7,7 @@ pub step-requires : goal.step-requires
 step-requires g c = let k = c.args.site.now.table.shared.key in let s = g.H.ListHost.list_inside in let e = c.LIST.ensures in record {
   own = c.requires.own.own;
   inside = omega (arith, s, e);
-  lets = sights (g.H.SiteRule.holds k) (g.H.SiteRule.moves k) g.H.SpinHost.FIRST g.H.ListHost.LIST g.H.ListHost.list g.H.ListHost.with_list g.H.ListHost.saw_first g.H.ListHost.may_change (g.H.ListHost.queue k) (g.met.H.SpinHost.spin_kept k) (g.met.H.ListHost.queued k) (g.H.ListHost.list_kept k) (g.H.ListHost.list_may k) (g.met.H.ListHost.lists k) (g.met.H.ListHost.firsts k) _ _ _ _ c.LIST.ensures;
+  lets = sights (g.H.SiteRule.holds k) (g.H.SiteRule.moves k) g.H.SpinHost.LOCKS g.H.SpinHost.FIRST g.H.ListHost.LIST g.H.ListHost.list g.H.ListHost.with_list g.H.ListHost.saw_first g.H.ListHost.may_change (g.H.ListHost.queue k) (g.met.H.SpinHost.spin_kept k) (g.met.H.ListHost.queued k) (g.H.ListHost.list_kept k) (g.H.ListHost.list_may k) (g.met.H.ListHost.lists k) (g.met.H.ListHost.firsts k) _ _ _ _ c.LIST.ensures;
 }
 
 pub returns-clause-own : goal.returns-clause-own

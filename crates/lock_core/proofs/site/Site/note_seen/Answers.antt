@@ -1,6 +1,5 @@
 use Rattle.std.proofs.Common.{◌≡◌, ap, sym, subst, ◌∙◌, arith}
 use Rattle.word_bits.specs.declared.entry.Entry.{Entry}
-use Rattle.lock_core.specs.declared.view.Hand.{Hand}
 use Rattle.lock_core.specs.Records.{row}
 use Rattle.lock_core.specs.Views.{with_record}
 use Rattle.lock_core.specs.Passes.{IsSeenReading}

@@ -1,0 +1,8 @@
+use Rattle.std.proofs.Common.{◌≡◌, ◌+◌, ◌*◌}
+use Rattle.lock_core.specs.Handles.{hand_in}
+use Rattle.qspin_word.specs.Handles.{spin_in}
+use Rattle.qspin_queue.specs.Handles.{IsApart}
+use Rattle.lock_bench.proofs.nested.SiteNestTimed.rounds.Given as goal
+
+abbrev pub invariant-loop : goal.invariant-loop
+invariant-loop g l = IsApart l.self l.worker × (hand_in l.worker ≡ hand_in l.initial.worker) × ((spin_in l.worker).entries ≡ (spin_in l.fn.worker).entries + 2 * l.counter)

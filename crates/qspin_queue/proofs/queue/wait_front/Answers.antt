@@ -1,0 +1,12 @@
+use Rattle.qspin_queue.proofs.Turns.{front-waits, front-nodes, front-told}
+use Rattle.std.proofs.Common.{arith}
+use Rattle.qspin_queue.proofs.queue.wait_front.Goals as goal
+
+pub returns-then-load_locked-eq1-clause-waits : goal.returns-then-load_locked-eq1-clause-waits
+returns-then-load_locked-eq1-clause-waits g c = front-waits c.args.site.now c.args.lock g.I.Interrupt.silent c.load_locked.result c.args.pass.now c.loop.pass c.load_locked.new.pass c.requires.point c.loop.invariant.idles c.load_locked.ensures.steps c.if-load_locked-eq1.true
+
+pub returns-then-load_locked-eq1-clause-nodes : goal.returns-then-load_locked-eq1-clause-nodes
+returns-then-load_locked-eq1-clause-nodes g c = front-nodes c.args.site.now c.args.lock g.I.Interrupt.silent c.load_locked.result c.args.pass.now c.loop.pass c.load_locked.new.pass c.requires.point c.loop.invariant.idles c.load_locked.ensures.steps c.if-load_locked-eq1.true
+
+pub returns-then-load_locked-eq1-clause-told : goal.returns-then-load_locked-eq1-clause-told
+returns-then-load_locked-eq1-clause-told g c = front-told c.args.site.now c.args.lock g.I.Interrupt.silent (let there = c.requires.there in let eight = g.H.SpinHost.spin_eight in omega (arith, there, eight)) c.args.pass.now c.loop.pass c.load_locked.new.pass c.loop.invariant.idles c.load_locked.result c.requires.point c.load_locked.ensures.steps c.if-load_locked-eq1.true

@@ -1,0 +1,5 @@
+use Rattle.qspin_word.specs.Hands.{sought}
+use Rattle.qspin_word.proofs.steps.seek.Given as goal
+
+abbrev pub ghosts-word_step : goal.ghosts-word_step
+ghosts-word_step g a = record { after = λ n. sought a.lock a.pass.now.seat.me.0.view; tells = λ n. Unit {0} }
