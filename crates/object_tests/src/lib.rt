@@ -2,6 +2,8 @@
 #![tactic(auto)]
 
 #[cfg(test)]
+mod remap_tests;
+#[cfg(test)]
 mod search_tests;
 #[cfg(test)]
 mod space_tests;

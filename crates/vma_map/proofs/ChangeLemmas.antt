@@ -14,7 +14,7 @@ use Rattle.vma_map.proofs.EndsLemmas.{AreRuns-ends, all-ends, changed-ends}
 use Rattle.vma_map.proofs.SpliceLemmas.{AreRuns-changed, page_map-changed, runs-changed, length-spliced}
 
 -- an area that ends before a range doesn't begin behind it
-ended-begun : (areas : List Area) (at begun start end : ℕ) → AreRuns areas → start < end → at ≤ length areas → AllByRecursion (λ a. a.end < start) (take at areas) → AllByRecursion (λ a. end < a.start) (drop begun areas) → at ≤ begun
+pub ended-begun : (areas : List Area) (at begun start end : ℕ) → AreRuns areas → start < end → at ≤ length areas → AllByRecursion (λ a. a.end < start) (take at areas) → AllByRecursion (λ a. end < a.start) (drop begun areas) → at ≤ begun
 ended-begun areas zero begun start end runs some within ended behind = omega arith
 ended-begun [] (suc at) begun start end runs some within ended behind = absurd (omega (arith, within))
 ended-begun (a ∷ areas) (suc at) zero start end runs some within ended behind =
@@ -25,6 +25,13 @@ ended-begun (a ∷ areas) (suc at) zero start end runs some within ended behind 
 ended-begun (a ∷ areas) (suc at) (suc begun) start end runs some within ended behind =
     let rest = ended-begun areas at begun start end (AreRuns-tail a areas runs) some (omega (arith, within)) ended.1 behind in
     omega (arith, rest)
+
+-- those that begin behind the range, behind the ones that end in front of it
+pub behind-met : (areas : List Area) (at begun start end : ℕ) → AreRuns areas → start < end → at ≤ length areas → AllByRecursion (λ a. a.end < start) (take at areas) → AllByRecursion (λ a. end < a.start) (drop begun areas) → AllByRecursion (λ a. end < a.start) (drop (begun - at) (drop at areas))
+behind-met areas at begun start end runs some within ended behind =
+    let order = ended-begun areas at begun start end runs some within ended behind in
+    let together : at + (begun - at) ≡ begun = omega (arith, order) in
+    subst (AllByRecursion (λ a. end < a.start)) (sym (drop-drop (begun - at) at areas ∙ ap (λ n. drop n areas) together)) behind
 
 all-drop : (P : Area → Type 0) (areas : List Area) (n : ℕ) → AllByRecursion P areas → AllByRecursion P (drop n areas)
 all-drop P areas zero all = all
@@ -64,7 +71,7 @@ module _ (areas : List Area) (at begun start end : ℕ) (space : IsSpace areas) 
   -- the areas with pieces in their place
   module _ (ps : List Area) (prot : Option ℕ) (are : AreRuns ps) (pages : (q : ℕ) → page_map ps q ≡ changed (page_map (ends_of (take (begun - at) (drop at areas)))) start end prot q) where
     others : AllByRecursion (λ a. end < a.start) (drop (begun - at) (drop at areas))
-    others = subst (AllByRecursion (λ a. end < a.start)) (sym (drop-drop (begun - at) at areas ∙ ap (λ n. drop n areas) together)) behind
+    others = behind-met areas at begun start end space.runs some in_front ended behind
 
     met-pages : (q : ℕ) → page_map ps q ≡ changed (page_map (take (begun - at) (drop at areas))) start end prot q
     met-pages q = pages q ∙ changed-ends (take (begun - at) (drop at areas)) start end prot met-runs met-ends met-starts q

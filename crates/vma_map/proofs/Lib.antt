@@ -11,3 +11,4 @@ mod SpliceLemmas
 mod SearchLemmas
 mod EndsLemmas
 mod ChangeLemmas
+mod MoveLemmas

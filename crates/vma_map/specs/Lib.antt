@@ -6,3 +6,4 @@ pub mod CallLaws
 pub mod SpaceLaws
 pub mod Bisections
 pub mod Searches
+pub mod Remaps

@@ -1,12 +1,14 @@
 //! An address space.
-ghost use Rattle.std.specs.Prelude.{◌≡◌};
+ghost use Rattle.std.specs.Prelude.{◌≡◌, OnOk, OnErr};
 ghost use Rattle.word_bits.specs.PageMaps.{mapped_from, runs};
 ghost use Rattle.vma_map.specs.Runs.{page_map};
+ghost use Rattle.vma_map.specs.Remaps.{IsMoved, IsRemapAnswer};
 
 use crate::MAX_AREAS;
 use crate::call::SpaceCall;
 use crate::calls::apply;
 use crate::range::splice;
+use crate::remapping::{RemapError, remap};
 use crate::store::AreaStore;
 use crate::words::{self, SPACE_WORDS};
 use arrayvec::ArrayVec;
@@ -48,6 +50,15 @@ impl Areas {
             pages += area.end - area.start;
         }
         pages
+    }
+
+    /// Moves `len` pages from `start` on to `to`, and answers that page.
+    pub fn remap(&mut self, start: u32, len: u32, to: u32) -> Result<u32, RemapError>
+        ensures answer { IsRemapAnswer (page_map self.old) start len to result }
+        ensures moved { OnOk result (IsMoved (page_map self.old) start len to (page_map self.new)) }
+        ensures refused { OnErr result (self.new ≡ self.old) }
+    {
+        remap::<InMemory>(&(), &mut self.areas, start, len, to)
     }
 }
 

@@ -18,9 +18,9 @@ const PIECES: usize = 3;
 
 /// Adds a piece behind the others. An empty one is dropped, and one that touches the last area and
 /// has its protection is joined with it.
-fn append(next: &mut ArrayVec<Area, PIECES>, piece: Area)
+pub(crate) fn append<const N: usize>(next: &mut ArrayVec<Area, N>, piece: Area)
     requires runs { AreRuns next.old.items }
-    requires room { array_vec_len next.old < 3 }
+    requires room { array_vec_len next.old < N }
     requires within { piece.end ≤ 1048576 }
     requires prot { piece.prot < 8 }
     requires behind { piece.start < piece.end →

@@ -1,0 +1,144 @@
+//! Ranges of pages that move. The replies and the runs are known by hand.
+ghost use Rattle.std.specs.Prelude.{◌<◌};
+
+use vma_map::{Areas, RemapError, SpaceCall};
+use word_bits::{Area, Object, Reply};
+
+fn area(start: u32, end: u32, prot: u8) -> Area {
+    Area { start, end, prot }
+}
+
+fn map(space: &mut Areas, start: u32, len: u32, prot: u8)
+    requires { prot < 8 }
+{
+    let _ = space.apply(SpaceCall::Map { start, len, prot });
+}
+
+/// A space with these pages: 16 to 18 can be written, 18 to 20 only read.
+fn two_runs() -> Areas {
+    let mut space = Areas::empty();
+    map(&mut space, 16, 4, 3);
+    map(&mut space, 18, 2, 1);
+    space
+}
+
+/// A space that is full: a run of three pages, and each second page from 4 to 512.
+fn full() -> Areas {
+    let mut space = Areas::empty();
+    map(&mut space, 0, 3, 1);
+    for i in 2..257 {
+        map(&mut space, 2 * i, 1, 1);
+    }
+    space
+}
+
+#[test]
+fn moves_a_range_of_several_areas(rt: HostRuntime) {
+    let mut space = two_runs();
+    assert_eq!(rt; space.remap(16, 4, 100), Ok(100));
+    assert_eq!(rt; space.remap(16, 1, 5), Err(RemapError::Unmapped));
+    assert_eq!(rt; space.remap(100, 2, 101), Err(RemapError::Invalid));
+    let write = SpaceCall::Fault {
+        page: 102,
+        access: 2,
+    };
+    assert_eq!(rt; space.apply(write), Reply::AccErr);
+    let runs = [area(100, 102, 3), area(102, 104, 1)];
+    assert_eq!(rt; space.runs(), runs.as_slice());
+}
+
+#[test]
+fn moves_pages_up_and_down(rt: HostRuntime) {
+    for (start, len, to, runs) in [
+        (
+            17,
+            2,
+            0,
+            [
+                area(0, 1, 3),
+                area(1, 2, 1),
+                area(16, 17, 3),
+                area(19, 20, 1),
+            ],
+        ),
+        (
+            17,
+            2,
+            40,
+            [
+                area(16, 17, 3),
+                area(19, 20, 1),
+                area(40, 41, 3),
+                area(41, 42, 1),
+            ],
+        ),
+    ] {
+        let mut space = two_runs();
+        assert_eq!(rt; space.remap(start, len, to), Ok(to));
+        assert_eq!(rt; space.runs(), runs.as_slice());
+    }
+}
+
+#[test]
+fn joins_what_it_moves_with_what_it_meets(rt: HostRuntime) {
+    for (start, to, runs) in [
+        (17, 15, [area(15, 17, 3), area(18, 20, 1)]),
+        (16, 18, [area(17, 19, 3), area(19, 20, 1)]),
+        (18, 20, [area(16, 18, 3), area(19, 21, 1)]),
+    ] {
+        let mut space = two_runs();
+        assert_eq!(rt; space.remap(start, 1, to), Ok(to));
+        assert_eq!(rt; space.runs(), runs.as_slice());
+    }
+}
+
+#[test]
+fn moves_to_both_ends_of_the_space(rt: HostRuntime) {
+    let mut space = two_runs();
+    assert_eq!(rt; space.remap(16, 4, 1_048_572), Ok(1_048_572));
+    assert_eq!(rt; space.remap(1_048_574, 2, 0), Ok(0));
+    let runs = [area(0, 2, 1), area(1_048_572, 1_048_574, 3)];
+    assert_eq!(rt; space.runs(), runs.as_slice());
+}
+
+#[test]
+fn refuses_in_order(rt: HostRuntime) {
+    let before = two_runs();
+    for (start, len, to, wanted) in [
+        (16, 0, 100, RemapError::Invalid),
+        (1_048_575, 2, 0, RemapError::Invalid),
+        (16, 2, 1_048_575, RemapError::Invalid),
+        (u32::MAX, 1, 0, RemapError::Invalid),
+        (16, u32::MAX, 0, RemapError::Invalid),
+        (16, 4, u32::MAX, RemapError::Invalid),
+        (16, 4, 16, RemapError::Invalid),
+        (16, 4, 19, RemapError::Invalid),
+        (16, 4, 13, RemapError::Invalid),
+        (40, 4, 41, RemapError::Invalid),
+        (15, 2, 100, RemapError::Unmapped),
+        (19, 2, 100, RemapError::Unmapped),
+        (40, 1, 41, RemapError::Unmapped),
+    ] {
+        let mut space = two_runs();
+        assert_eq!(rt; space.remap(start, len, to), Err(wanted));
+        assert_eq!(rt; space.runs(), before.runs());
+    }
+}
+
+#[test]
+fn counts_the_areas_of_the_whole_next_space(rt: HostRuntime) {
+    let before = full();
+    assert_eq!(rt; before.runs().len(), 256);
+    let mut space = full();
+    for page in 0..3 {
+        assert_eq!(rt; space.remap(page, 1, 1000), Err(RemapError::TooMany));
+    }
+    assert_eq!(rt; space.remap(3, 1, 1000), Err(RemapError::Unmapped));
+    assert_eq!(rt; space.runs(), before.runs());
+    assert_eq!(rt; space.remap(512, 1, 1000), Ok(1000));
+    // It cuts the first run in two and joins the next two.
+    assert_eq!(rt; space.remap(1, 1, 3), Ok(3));
+    assert_eq!(rt; space.runs().len(), 256);
+    let front = [area(0, 1, 1), area(2, 5, 1), area(6, 7, 1)];
+    assert_eq!(rt; &space.runs()[..3], front.as_slice());
+}
