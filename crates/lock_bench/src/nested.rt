@@ -3,7 +3,7 @@ ghost use Rattle.std.specs.Prelude.{◌≡◌, ◌+◌, ◌*◌, ◌<◌, length
 ghost use Rattle.lock_core.specs.LockHands.{RestsAt, RestsEverywhere};
 ghost use Rattle.lock_core.specs.Views.{HoldsNothing, OwesNoSignal};
 ghost use Rattle.lock_core.specs.Handles.{plan_of, view_of, hand_in, task_in, SitsAt, SaysSame, IsNestTold};
-ghost use Rattle.qspin_word.specs.Handles.{spin_in, IsInterruptible, SpinIdles};
+ghost use Rattle.qspin_word.specs.Handles.{spin_in, NotesItself, SpinIdles};
 ghost use Rattle.qspin_queue.specs.Handles.{IsApart, IsApartIdle};
 ghost use Rattle.lock_bench.specs.Rooms.{unbounded};
 
@@ -23,7 +23,7 @@ const INNER: usize = 1;
 
 /// Takes the inner lock and releases it, at whatever other locks the pass is.
 fn inner_pair<W: Wait>(rt: &W, site: &Site<Nest>, pass: &mut Pass<Nest>)
-    requires ready { IsInterruptible site.now pass.old }
+    requires ready { NotesItself site.now pass.old }
     requires out { RestsAt 1 (spin_in pass.old) }
     ensures idles { SpinIdles ⊥ site.now pass.old pass.new }
     ensures once { (spin_in pass.new).entries ≡ (spin_in pass.old).entries + 1 }

@@ -21,8 +21,7 @@ pub mod Plays
 pub mod Passes
 pub mod Chronicles
 pub mod Nothings
-pub mod Barely
-pub mod Nested
+pub mod SpinTables
 pub mod Nestings
 pub mod Stated
 pub mod SpinStated

@@ -1,7 +1,7 @@
 -- What a pass notes of itself at the spin locks of its table.
 use Rattle.std.specs.Prelude.{◌≡◌, ◌≢◌, ℕ, ◌+◌, ◌*◌, ◌<◌, Bool, true, false, replicate, slice_index_or}
 use Rattle.lock_core.specs.declared.view.Point.{Point}
-use Rattle.lock_core.specs.declared.view.Point.TheVariants.{Out, Passing, Holding}
+use Rattle.lock_core.specs.declared.view.Point.TheVariants.{Out, Pending, Trying, Waiting, Front, Passing, Holding}
 use Rattle.lock_core.specs.declared.view.SpinHand.{SpinHand}
 use Rattle.lock_core.specs.declared.pass.Nesting.{Nesting}
 use Rattle.lock_core.specs.Records.{bit}
@@ -18,6 +18,15 @@ abbrev pub waits_at : Point → Bool
 waits_at Out = false
 waits_at Holding = false
 waits_at _ = true
+
+-- a call of the pass is in a loop in which it waits for the lock, or has it and waits for its successor
+abbrev pub pauses_at : Point → Bool
+pauses_at Pending = true
+pauses_at Trying = true
+pauses_at Waiting = true
+pauses_at Front = true
+pauses_at Passing = true
+pauses_at _ = false
 
 -- a bit for each of the locks of which this is so
 abbrev pub mask_of : (ℕ → Bool) → ℕ

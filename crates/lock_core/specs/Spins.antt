@@ -146,8 +146,8 @@ pub record SpinStep (l id : ℕ) (w : List ℕ) (ps : List SpinPart) (queues : �
   pub comes : ComesTo (point_at l before.spin) (point_at l after.spin) (word_in w l)
   pub queues_move : QueueMoves (stands (point_at l before.spin)) (stands (point_at l after.spin)) (frame_on l before).code (tail_in (word_in w l)) (frame_on l before).found (frame_on l after).found (queues l) (queues' l)
   pub leaves : LeavesBy l (stands (point_at l before.spin)) (stands (point_at l after.spin)) w (queues' l) w'
-  -- what it now has as seen, it saw before, or is the word
-  pub saw : (x : Saw) → after.spin.saw ≡ Some x → (before.spin.saw ≡ Some x) ⊎ (x.word ≡ word_in w l)
+  -- what it now has as seen, it saw before; or it is the word, and the pass was at no point of this lock: so a tail or a bit in it isn't its own
+  pub saw : (x : Saw) → after.spin.saw ≡ Some x → (before.spin.saw ≡ Some x) ⊎ ((x.word ≡ word_in w l) × RestsAt l before.spin)
   pub stay : OthersStay l w before queues w' after queues'
 
 -- what a step elsewhere leaves of a pass: what it knows of the locks, unless it is at no point of any and is spent
@@ -188,8 +188,8 @@ pub record SpinGoes (step l : ℕ) (s g : SpinHand) : Type 0 where
   pub entries : g.entries ≡ s.entries + (holds_on l g - holds_on l s)
   pub takes : holds_on l s ≡ 0 → holds_on l g ≡ 1 → ((lock_hand_at l g).took ≡ step) × ((lock_hand_at l g).from ≡ point_at l s)
   pub keeps : holds_on l g ≤ holds_on l s → ((lock_hand_at l g).took ≡ (lock_hand_at l s).took) × ((lock_hand_at l g).from ≡ (lock_hand_at l s).from)
-  -- what it now has as seen, it saw before, or at this step, while it was at no point of the lock: so a tail or a bit that it saw isn't its own
-  pub saw : (x : Saw) → g.saw ≡ Some x → (s.saw ≡ Some x) ⊎ ((x.step ≡ step) × RestsAt l s)
+  -- what it now has as seen, it saw before, or at this step
+  pub saw : (x : Saw) → g.saw ≡ Some x → (s.saw ≡ Some x) ⊎ (x.step ≡ step)
   -- the other locks stay
   pub others : (m : ℕ) → m ≢ l → lock_hand_at m g ≡ lock_hand_at m s
 

@@ -1,8 +1,8 @@
 //! The rule of a table with a spin lock alone, and the object that has no words.
 ghost use Rattle.std.specs.Prelude.{[], refl};
 ghost use Rattle.word_bits.specs.declared.call.CallWords.{CallWords};
-ghost use Rattle.lock_core.specs.Nothings.{nothing, few, sized, apart};
-ghost use Rattle.lock_core.specs.Barely.{BareKept, BareMoves, never, bare-site, bare-sites, bare-opens, bare-splits, bare-joins, bare-spins, bare-inside, bare-spin, one-some, one-eight};
+ghost use Rattle.lock_core.specs.Nothings.{nothing, few, sized, apart, never};
+ghost use Rattle.lock_core.specs.SpinTables.{SpinTableKept, SpinTableMoves, table-site, table-sites, table-opens, table-splits, table-joins, table-spins, table-spin, spins-inside, one-some, one-eight, free-out};
 
 use crate::rule::SiteRule;
 use crate::spin::SpinHost;
@@ -78,9 +78,9 @@ impl SiteRule for Bare {
 
     ghost unavailable = { never };
 
-    ghost holds = { BareKept };
+    ghost holds = { SpinTableKept 1 };
 
-    ghost moves = { BareMoves };
+    ghost moves = { SpinTableMoves 1 };
 
     ghost marks = { λ _. [] };
 
@@ -90,17 +90,17 @@ impl SiteRule for Bare {
 
     ghost rests = { λ _. Unit {0} };
 
-    ghost site_kept = { bare-site };
+    ghost site_kept = { table-site 1 };
 
     ghost site_moves = { λ k id ws us vs vs' there step. step.site };
 
-    ghost sites = { bare-sites };
+    ghost sites = { table-sites 1 (λ _. Unit {0}) free-out };
 
-    ghost opens = { bare-opens };
+    ghost opens = { table-opens 1 one-eight };
 
-    ghost splits = { bare-splits };
+    ghost splits = { table-splits 1 };
 
-    ghost joins = { λ k ws vs id other v w r at apart at' mine theirs there step. bare-joins k ws vs id other v w r at apart at' theirs.2 theirs.0.1 there step };
+    ghost joins = { λ k ws vs id other v w r at apart at' mine theirs there step. table-joins 1 (λ _. Unit {0}) free-out k ws vs id other v w r at apart at' (theirs.0, theirs.1) there step };
 }
 
 impl SpinHost for Bare {
@@ -114,15 +114,15 @@ impl SpinHost for Bare {
 
     ghost may_free = { λ _. Unit {0} };
 
-    ghost spin_inside = { bare-inside };
+    ghost spin_inside = { spins-inside };
 
     ghost spin_some = { one-some };
 
     ghost spin_eight = { one-eight };
 
-    ghost spin_kept = { bare-spin };
+    ghost spin_kept = { table-spin 1 };
 
     ghost spin_moves = { λ k id ws us vs vs' step. step.spin };
 
-    ghost spins = { λ k ws vs id l i n v s r at one within goes may spin. bare-spins k ws vs id l i n v s r at within goes spin };
+    ghost spins = { λ k ws vs id l i n v s r at one within goes may spin. table-spins 1 k ws vs id l i n v s r at within goes spin };
 }

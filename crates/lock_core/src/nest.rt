@@ -1,7 +1,8 @@
 //! The rule of a table with eight spin locks alone.
 ghost use Rattle.std.specs.Prelude.{[]};
-ghost use Rattle.lock_core.specs.Barely.{never};
-ghost use Rattle.lock_core.specs.Nested.{NestKept, NestMoves, IsApart, nest-site, nest-sites, nest-opens, nest-splits, nest-joins, nest-spins, nest-inside, nest-spin, eight-some, eight-most};
+ghost use Rattle.lock_core.specs.Nothings.{never};
+ghost use Rattle.lock_core.specs.LockHands.{RestsEverywhere};
+ghost use Rattle.lock_core.specs.SpinTables.{SpinTableKept, SpinTableMoves, table-site, table-sites, table-opens, table-splits, table-joins, table-spins, table-spin, spins-inside, one-eight, eight-most, apart-out};
 
 use crate::bare::Nothing;
 use crate::rule::SiteRule;
@@ -17,9 +18,9 @@ impl SiteRule for Nest {
 
     ghost unavailable = { never };
 
-    ghost holds = { NestKept };
+    ghost holds = { SpinTableKept 8 };
 
-    ghost moves = { NestMoves };
+    ghost moves = { SpinTableMoves 8 };
 
     ghost marks = { λ _. [] };
 
@@ -27,19 +28,19 @@ impl SiteRule for Nest {
 
     ghost idle = { tt };
 
-    ghost rests = { IsApart };
+    ghost rests = { λ v. RestsEverywhere v.spin };
 
-    ghost site_kept = { nest-site };
+    ghost site_kept = { table-site 8 };
 
     ghost site_moves = { λ k id ws us vs vs' there step. step.site };
 
-    ghost sites = { nest-sites };
+    ghost sites = { table-sites 8 (λ v. RestsEverywhere v.spin) apart-out };
 
-    ghost opens = { nest-opens };
+    ghost opens = { table-opens 8 eight-most };
 
-    ghost splits = { nest-splits };
+    ghost splits = { table-splits 8 };
 
-    ghost joins = { λ k ws vs id other v w r at apart at' mine theirs there step. nest-joins k ws vs id other v w r at apart at' theirs.1 there step };
+    ghost joins = { λ k ws vs id other v w r at apart at' mine theirs there step. table-joins 8 (λ v. RestsEverywhere v.spin) apart-out k ws vs id other v w r at apart at' (theirs.0, theirs.1) there step };
 }
 
 impl SpinHost for Nest {
@@ -53,15 +54,15 @@ impl SpinHost for Nest {
 
     ghost may_free = { λ _. Unit {0} };
 
-    ghost spin_inside = { nest-inside };
+    ghost spin_inside = { spins-inside };
 
-    ghost spin_some = { eight-some };
+    ghost spin_some = { one-eight };
 
     ghost spin_eight = { eight-most };
 
-    ghost spin_kept = { nest-spin };
+    ghost spin_kept = { table-spin 8 };
 
     ghost spin_moves = { λ k id ws us vs vs' step. step.spin };
 
-    ghost spins = { λ k ws vs id l i n v s r at one within goes may spin. nest-spins k ws vs id l i n v s r at within goes spin };
+    ghost spins = { λ k ws vs id l i n v s r at one within goes may spin. table-spins 8 k ws vs id l i n v s r at within goes spin };
 }

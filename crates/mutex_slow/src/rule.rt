@@ -1,7 +1,7 @@
 //! The rule of a mutex.
 ghost use Rattle.std.specs.Prelude.{◌<◌};
 ghost use Rattle.word_bits.specs.LockWords.{owned};
-ghost use Rattle.lock_core.specs.Barely.{one-some, one-eight};
+ghost use Rattle.lock_core.specs.SpinTables.{one-some, one-eight};
 ghost use Rattle.mutex_slow.specs.Mutexes.{Kept, MutexMoves, idle, list_at, list_of, may_change, may_free, may_miss, may_own, owner_at, rests, saw_first, turned, uncounted, standing, wake_of, wakes_at, with_list, with_wake};
 ghost use Rattle.mutex_slow.specs.Mutexes.{MutexKept};
 ghost use Rattle.mutex_slow.specs.MutexLaws.{list-again, list-back, list-inside, list-over, list-same, may-on, may-stay, own-inside, spin-inside};

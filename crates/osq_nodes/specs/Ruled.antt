@@ -8,7 +8,7 @@ use Rattle.lock_core.specs.declared.layout.TheConstants.{LOCK_WORDS}
 use Rattle.lock_core.specs.declared.view.View.{View}
 use Rattle.lock_core.specs.declared.view.Moment.{Moment}
 use Rattle.lock_core.specs.declared.op.Op.{Op}
-use Rattle.lock_core.specs.Barely.{never}
+use Rattle.lock_core.specs.Nothings.{never}
 use Rattle.lock_core.specs.Nothings.{nothing}
 use Rattle.lock_core.specs.Ops.{word_after, told_by}
 use Rattle.lock_core.specs.Layout.{site, width}

@@ -11,7 +11,7 @@ use Rattle.word_bits.specs.Histories.{Plan}
 use Rattle.lock_core.specs.declared.view.Hand.{Hand}
 use Rattle.lock_core.specs.declared.view.Marks.{Marks}
 use Rattle.lock_core.specs.declared.layout.TheConstants.{LOCK_WORDS}
-use Rattle.lock_core.specs.Barely.{never}
+use Rattle.lock_core.specs.Nothings.{never}
 use Rattle.lock_core.specs.Nothings.{nothing}
 use Rattle.lock_core.specs.Layout.{SiteWords, site, width, fresh}
 use Rattle.lock_core.specs.declared.view.SpinHand.{SpinHand}

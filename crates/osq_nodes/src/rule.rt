@@ -1,7 +1,7 @@
 //! The rule of a table that is a spin queue.
 ghost use Rattle.std.specs.Prelude.{◌≡◌};
 ghost use Rattle.osq_nodes.specs.declared.node.Place.TheVariants.{Out};
-ghost use Rattle.lock_core.specs.Barely.{never};
+ghost use Rattle.lock_core.specs.Nothings.{never};
 ghost use Rattle.osq_nodes.specs.Places.{node_marks};
 ghost use Rattle.osq_nodes.specs.Ruled.{OsqKept, OsqMoves, idle};
 ghost use Rattle.osq_nodes.specs.RuledLaws.{osq-site, osq-sites, osq-opens, osq-splits, osq-joins};

@@ -12,17 +12,17 @@ use Rattle.lock_core.specs.declared.view.Point.TheVariants.{Out, Holding}
 use Rattle.lock_core.specs.Records.{bit}
 use Rattle.lock_core.specs.Totals.{total}
 use Rattle.lock_core.specs.SpinFrames.{uses}
-use Rattle.lock_core.specs.LockHands.{lock_hand_in, lock_hands, lock_hand_at, used_by, depth_of, RestsEverywhere}
+use Rattle.lock_core.specs.LockHands.{lock_hand_in, lock_hands, lock_hand_at, point_at, used_by, depth_of, RestsAt, RestsEverywhere}
 use Rattle.lock_core.specs.Nestings.{is_held, waits_at, no_nesting, Tells}
-use Rattle.lock_core.specs.Pasts.{GoesOn, FoundAt, FoundAtStep}
-use Rattle.lock_core.specs.RunLaws.{found-at-step}
+use Rattle.lock_core.specs.Pasts.{GoesOn, FoundAt}
 use Rattle.lock_core.specs.Spins.{spun}
 use Rattle.lock_core.specs.Handles.{view_of, hand_in, past_of, KeepsPast, NotesLock, NotesNone, IsNestTold}
 use Rattle.qspin_word.specs.Hands.{saw_word, took_at, tried}
-use Rattle.qspin_word.specs.Ways.{LockGained, SpinGained, RivalFound, RivalSince, PendedAtStep}
+use Rattle.qspin_word.specs.Ways.{LockGained, SpinGained, RivalSince, SawAtStep, PendedAtStep}
 use Rattle.qspin_word.specs.Handles.{spin_in, lock_hand_of, SpinSteps, IsSameBut, KeepsFlagsBeside, KeepsNodes, OwnsPendingAt, FindsRivalSince}
 use Rattle.qspin_queue.specs.Handles.{TakesInTurn}
 use Rattle.qspin_word.proofs.Owning.{owns-within}
+use Rattle.qspin_word.proofs.Rivals.{saw-at-step, saw-since, saw-then}
 use Rattle.qspin_word.proofs.Idling.{alike-same, alike-then}
 use Rattle.qspin_word.proofs.Noting.{noted-past, others-on, others-told, told-noted}
 
@@ -39,15 +39,15 @@ module _ {R O E C : Type 0} where
   } in subst (λ (k : Nesting). Tells k (spin_in b)) (sym n.noted) (subst (λ (s : SpinHand). Tells no_nesting s) (sym (ap (λ s. s.me.0.view.spin) n.seat)) told)
 
 -- a rival that was found before, and kept by quiet calls
-module _ {E : Type 0} (quiet : Type 0) (at : ℕ) where
-  pub found-since : (v m u : View E) (old past new : List Moment) → RivalFound at v old m past → (quiet → u.spin.saw ≡ m.spin.saw) → m.steps ≤ u.steps → GoesOn past new → RivalSince quiet at v old u new
-  found-since v m u old past new (r, f) same later goes = let by_now = r.by_now in record {
+module _ {E : Type 0} (l : ℕ) (quiet : Type 0) (at : ℕ) where
+  pub found-since : (v m u : View E) (old past new : List Moment) → RivalSince l (Unit {0}) at v old m past → (quiet → u.spin.saw ≡ m.spin.saw) → m.steps ≤ u.steps → GoesOn past new → RivalSince l quiet at v old u new
+  found-since v m u old past new r same later goes = let by_now = r.by_now in record {
     saw = r.saw;
     rival = r.rival;
     since = r.since;
     by_now = omega (arith, by_now, later);
-    found = record { past = f.past; by = f.by; found = f.found; after = f.after; goes_on = λ p t. goes p (f.goes_on p t) };
-    still = λ q. same q ∙ r.is;
+    found = saw-then l v.hand.task r.saw at old past new r.found goes;
+    still = λ q. same q ∙ r.still tt;
   }
 
 module _ {R O E C : Type 0} (site : Site R O E C) (l : ℕ) (quiet : Type 0) (a m p q z : Pass R O E C) (n : ℕ) (t : SpinSteps site a m (tried l n (view_of a))) (busy : n ≢ 0) (same : IsSameBut m p) (noted : NotesLock l true false q z) where
@@ -102,14 +102,15 @@ module _ {R O E C : Type 0} (site : Site R O E C) (l : ℕ) (quiet : Type 0) (a 
     later = let x = g.took in let y = ap (λ (v : View E). v.steps) ended in let u = x.0 in let w = x.1 in omega (arith, u, w, y)
 
     -- the first step saw a rival
-    pub slow-first : (at : ℕ) → FoundAt at n (past_of m) → KeepsPast p q → 256 ≤ n → (quiet → (spin_in q).saw ≡ (spin_in p).saw) → FindsRivalSince quiet at a z
-    slow-first at found on high kept = let e = one in let late = later in let steps = ap (λ (x : View E). x.steps) missed in record {
+    pub slow-first : (at : ℕ) → RestsAt l (spin_in a) → FoundAt at n (past_of m) → KeepsPast p q → 256 ≤ n → (quiet → (spin_in q).saw ≡ (spin_in p).saw) → FindsRivalSince l quiet at a z
+    slow-first at out found on high kept = let e = one in let late = later in let steps = ap (λ (x : View E). x.steps) missed in record {
       saw = record { word = n; step = (view_of a).steps + 1 };
       rival = high;
       since = omega arith;
       by_now = omega (arith, e, late);
-      found = subst (λ (s : ℕ). FoundAtStep (hand_in a).task s at n (past_of a) (past_of z)) steps (found-at-step (view_of m) (hand_in a).task at n (past_of a) (past_of m) (past_of z) (ap (λ (x : View E). x.hand.task) missed) t.last found t.goes_on
-          (λ x h. noted-past l q z true false noted x (on x (subst (λ s. GoesOn (past_of m) s.me.0.past) (sym same.seat) (λ _ y. y) x h))));
+      found = saw-at-step l at (view_of m) (hand_in a).task (record { word = n; step = (view_of a).steps + 1 }) (past_of a) (past_of m) (past_of z) (ap (λ (x : View E). x.hand.task) missed) steps t.last found t.goes_on
+          (λ x h. noted-past l q z true false noted x (on x (subst (λ s. GoesOn (past_of m) s.me.0.past) (sym same.seat) (λ _ y. y) x h)))
+          (ap (λ (x : View E). x.spin.saw) missed) (inl (ap (λ (x : View E). point_at l x.spin) missed ∙ out));
       still = λ k. ap (λ (x : View E). x.spin.saw) ended ∙ (kept k ∙ ap (λ (x : View E). x.spin.saw) begun);
     }
 
@@ -123,19 +124,16 @@ module _ {R O E C : Type 0} (site : Site R O E C) (l : ℕ) (quiet : Type 0) (a 
   pub slow-turn : TakesInTurn l 6 p q → TakesInTurn l 7 a z
   slow-turn which = let e = one in let took = ap (λ (x : View E). (lock_hand_at l x.spin).took) ended in ⊎_elim (λ r. inl (slow-from ∙ r)) (λ rest. ⊎_elim (λ r. inr (inl (slow-from ∙ r.0, let x = r.1 in omega (arith, x, took, e)))) (λ r. inr (inr (slow-from ∙ r.0, let x = r.1 in let d = ap (λ (x : View E). depth_of x.spin) begun in omega (arith, x, d)))) rest) which
 
-  pub slow-rival : (at : ℕ) → FindsRivalSince quiet at p q → FindsRivalSince quiet at a z
+  pub slow-rival : (at : ℕ) → FindsRivalSince l quiet at p q → FindsRivalSince l quiet at a z
   slow-rival at r = let e = one in let f = r.found in let since = r.since in let by_now = r.by_now in let steps = ap (λ (x : View E). x.steps) ended in record {
     saw = r.saw;
     rival = r.rival;
     since = omega (arith, since, e);
     by_now = omega (arith, by_now, steps);
-    found = subst (λ task. FoundAtStep task r.saw.step at r.saw.word (past_of a) (past_of z)) named record { past = f.past; by = f.by; found = f.found; after = λ x h. f.after x (past-begun x h); goes_on = λ x h. noted-past l q z true false noted x (f.goes_on x h) };
+    found = subst (λ task. SawAtStep l task r.saw at (past_of a) (past_of z)) named (saw-since l (hand_in p).task r.saw at (past_of a) (past_of p) (past_of z) past-begun (saw-then l (hand_in p).task r.saw at (past_of p) (past_of q) (past_of z) f (noted-past l q z true false noted)));
     still = λ k. ap (λ (x : View E). x.spin.saw) ended ∙ r.still k;
   }
 
 -- of the first lock
 pub first-gained : {E : Type 0} (v u : View E) → LockGained 0 (Unit {0}) v u → SpinGained v u
 first-gained v u g = record { hand = g.hand; fronts = g.fronts; ext = g.ext; holds = g.holds; counted = g.counted tt; took = g.took }
-
-pub first-rival-found : {E : Type 0} (at : ℕ) (v u : View E) (old new : List Moment) → RivalSince (Unit {0}) at v old u new → RivalFound at v old u new
-first-rival-found at v u old new r = (record { saw = r.saw; is = r.still tt; rival = r.rival; since = r.since; by_now = r.by_now }, r.found)

@@ -28,8 +28,14 @@ module _ {E : Type 0} (l n : ℕ) (v : View E) where
   pub heard-one : n ≡ 1 → heard l n v ≡ framed l v.spin (as_front (frame_at l v.spin))
   heard-one one = ap (λ (b : Bool). if b then framed l v.spin (as_front (frame_at l v.spin)) else v.spin) (eq-eqb n 1 one)
 
+  pub heard-none : n ≢ 1 → heard l n v ≡ v.spin
+  heard-none none = ap (λ (b : Bool). if b then framed l v.spin (as_front (frame_at l v.spin)) else v.spin) (ne_eqb n 1 none)
+
   pub readied-free : n % 512 ≡ 0 → readied l n v ≡ went l v.spin Ready
   readied-free free = ap (λ (b : Bool). if b then went l v.spin Ready else v.spin) (eq-eqb (n % 512) 0 free)
+
+  pub readied-taken : n % 512 ≢ 0 → readied l n v ≡ v.spin
+  readied-taken taken = ap (λ (b : Bool). if b then went l v.spin Ready else v.spin) (ne_eqb (n % 512) 0 taken)
 
   frames : (b : Bool) (f g : Frame) → (if b then framed l v.spin f else framed l v.spin g) ≡ framed l v.spin (if b then f else g)
   frames true f g = refl
@@ -51,26 +57,22 @@ module _ {E : Type 0} (l n : ℕ) (v : View E) where
   pub retried-taken : n ≢ 0 → retried l n v ≡ v.spin
   retried-taken not = ap (λ (b : Bool). if b then took_at l v.spin (v.steps + 1) Holding else v.spin) (ne_eqb n 0 not)
 
-pub entered-uses : (n : ℕ) (f : Frame) → uses (entered n f).point ≡ true
-entered-uses n f = go (ltb n 512)
+-- who entered is the front, or has another before it
+entered-either : (P : Point → Type 0) (n : ℕ) (f : Frame) → P Front → P Linking → P (entered n f).point
+entered-either P n f first behind = go (ltb n 512)
   where
-    go : (b : Bool) → uses (if b then record f { point = Front; found = 0; next = 0 } else record f { point = Linking; found = tail_in n }).point ≡ true
-    go true = refl
-    go false = refl
+    go : (b : Bool) → P (if b then record f { point = Front; found = 0; next = 0 } else record f { point = Linking; found = tail_in n }).point
+    go true = first
+    go false = behind
+
+pub entered-uses : (n : ℕ) (f : Frame) → uses (entered n f).point ≡ true
+entered-uses n f = entered-either (λ p. uses p ≡ true) n f refl refl
 
 pub entered-held : (n : ℕ) (f : Frame) → is_held (entered n f).point ≡ false
-entered-held n f = go (ltb n 512)
-  where
-    go : (b : Bool) → is_held (if b then record f { point = Front; found = 0; next = 0 } else record f { point = Linking; found = tail_in n }).point ≡ false
-    go true = refl
-    go false = refl
+entered-held n f = entered-either (λ p. is_held p ≡ false) n f refl refl
 
 pub entered-waits : (n : ℕ) (f : Frame) → waits_at (entered n f).point ≡ true
-entered-waits n f = go (ltb n 512)
-  where
-    go : (b : Bool) → waits_at (if b then record f { point = Front; found = 0; next = 0 } else record f { point = Linking; found = tail_in n }).point ≡ true
-    go true = refl
-    go false = refl
+entered-waits n f = entered-either (λ p. waits_at p ≡ true) n f refl refl
 
 pub entered-code : (n : ℕ) (f : Frame) → (entered n f).code ≡ f.code
 entered-code n f = go (ltb n 512)

@@ -546,7 +546,7 @@ fn contend<H: SpinHost, W: Wait, I: Interrupt<Site<H>>>(
         OwnsPendingAt lock 1 (H.FIRST + word_at lock) pass.old pass.new }
     ensures in_turn { (result ≡ Way.Queued) → TakesInTurn lock 6 pass.old pass.new }
     ensures rival { (result ≡ Way.Queued) → seen < 256 →
-        FindsRivalSince I.silent (H.FIRST + word_at lock) pass.old pass.new }
+        FindsRivalSince lock I.silent (H.FIRST + word_at lock) pass.old pass.new }
     ensures saw { (result ≡ Way.Queued) → 256 ≤ seen → I.silent →
         (spin_in pass.new).saw ≡ (spin_in pass.old).saw }
 {
@@ -594,7 +594,7 @@ pub fn lock_with<H: SpinHost, W: Wait, I: Interrupt<Site<H>>>(
         OwnsPendingAt lock 2 (H.FIRST + word_at lock) pass.old pass.new }
     ensures in_turn { (result ≡ Way.Queued) → TakesInTurn lock 7 pass.old pass.new }
     ensures queued { (result ≡ Way.Queued) →
-        FindsRivalSince I.silent (H.FIRST + word_at lock) pass.old pass.new }
+        FindsRivalSince lock I.silent (H.FIRST + word_at lock) pass.old pass.new }
 {
     let seen = exchange_free(site, pass, lock);
     if seen == 0 {
@@ -625,7 +625,7 @@ pub fn lock<H: SpinHost, W: Wait>(site: &Site<H>, rt: &W, pass: &mut Pass<H>) ->
     ensures pending { (result ≡ Way.Pending) ↔ ((spin_in pass.new).from ≡ Taking) }
     ensures asked { (result ≡ Way.Pending) → OwnsPendingAt 0 2 H.FIRST pass.old pass.new }
     ensures in_turn { (result ≡ Way.Queued) → TakesInTurn 0 7 pass.old pass.new }
-    ensures queued { (result ≡ Way.Queued) → FindsRival H.FIRST pass.old pass.new }
+    ensures queued { (result ≡ Way.Queued) → FindsRival 0 H.FIRST pass.old pass.new }
 {
     lock_with(site, rt, pass, 0, &mut Quiet)
 }

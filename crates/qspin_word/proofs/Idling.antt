@@ -1,17 +1,18 @@
 -- Calls that are done while another call of the pass waits.
-use Rattle.std.proofs.Common.{◌≡◌, ◌≢◌, ℕ, true, false, refl, sym, ap, ◌∙◌, arith}
+use Rattle.std.proofs.Common.{◌≡◌, ◌≢◌, ℕ, true, false, IsSome, refl, sym, ap, ◌∙◌, subst, arith}
 use Rattle.lock_core.specs.declared.pass.Pass.{Pass}
+use Rattle.lock_core.specs.declared.pass.Face.{Face}
 use Rattle.lock_core.specs.declared.site.Site.{Site}
 use Rattle.lock_core.specs.declared.view.View.{View}
 use Rattle.lock_core.specs.declared.view.LockHand.{LockHand}
 use Rattle.lock_core.specs.declared.view.SpinHand.{SpinHand}
 use Rattle.lock_core.specs.LockHands.{lock_hand_at, depth_of}
 use Rattle.lock_core.specs.Spins.{spun}
-use Rattle.lock_core.specs.Handles.{view_of, SitsAt, IsNestTold}
-use Rattle.lock_core.specs.Nestings.{waits_at}
+use Rattle.lock_core.specs.Handles.{view_of, task_in, SitsAt, IsNestTold}
+use Rattle.lock_core.specs.Nestings.{waits_at, pauses_at}
 use Rattle.qspin_word.specs.Ways.{AreAlike, HitLeaves}
 use Rattle.qspin_word.proofs.Noting.{flags-eq, flags-then, flags-beside, beside-then, told-same}
-use Rattle.qspin_word.specs.Handles.{spin_in, lock_hand_of, point_in, SpinSteps, SpinWaits, SpinIdles}
+use Rattle.qspin_word.specs.Handles.{spin_in, lock_hand_of, point_in, IsInterruptible, SpinSteps, SpinWaits, SpinIdles}
 
 pub alike-self : (b : LockHand) → AreAlike b b
 alike-self b = record { point = refl; stays = λ _. refl }
@@ -132,3 +133,14 @@ module _ {R O E C : Type 0} (quiet : Type 0) (site : Site R O E C) where
   -- a call that waits is where it was
   pub idles-lock-hand : (l : ℕ) (a d : Pass R O E C) → SpinIdles quiet site a d → waits_at (point_in l a) ≡ true → lock_hand_of l d ≡ lock_hand_of l a
   idles-lock-hand l a d r w = (r.leaves.alike l).stays (λ out. let z : false ≡ true = ap waits_at (sym out) ∙ w in cc)
+
+  -- so it may be interrupted
+  pub idles-ready : (l : ℕ) (a d : Pass R O E C) → IsSome (task_in a) → pauses_at (point_in l a) ≡ true → waits_at (point_in l a) ≡ true → SpinIdles quiet site a d → IsInterruptible site d
+  idles-ready l a d numbered p w r = record {
+    notes = record { own = r.own; numbered = subst (λ (f : Face). IsSome f.task) (sym r.face) numbered; told = r.told };
+    pauses = (l, ap (λ (b : LockHand). pauses_at b.frame.point) (idles-lock-hand l a d r w) ∙ p);
+  }
+
+  -- and behind a look that ends no wait
+  pub look-ready : (l : ℕ) (a d e : Pass R O E C) (s : SpinHand) → IsSome (task_in a) → pauses_at (point_in l a) ≡ true → waits_at (point_in l a) ≡ true → SpinIdles quiet site a d → SpinSteps site d e s → s ≡ spin_in d → IsInterruptible site e
+  look-ready l a d e s numbered p w r t same = idles-ready l a e numbered p w (idles-then a d e r (idles-look d e s r.told t same))

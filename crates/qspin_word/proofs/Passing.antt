@@ -1,5 +1,5 @@
 -- The way by the pending bit, step by step.
-use Rattle.std.proofs.Common.{◌≡◌, ℕ, ◌+◌, ◌/◌, ◌%◌, ◌==◌, ◌<◌, ◌≤◌, Bool, true, false, refl, sym, ap, ◌∙◌, subst, arith, eq-eqb, if◌then◌else◌}
+use Rattle.std.proofs.Common.{◌≡◌, ◌≢◌, ℕ, ◌+◌, ◌/◌, ◌%◌, ◌==◌, ◌<◌, ◌≤◌, Bool, true, false, refl, sym, ap, ◌∙◌, subst, arith, eq-eqb, ne_eqb, if◌then◌else◌}
 use Rattle.std.proofs.lemmas.Bool.{le-ltb, lt-ltb}
 use Rattle.lock_core.specs.declared.pass.Pass.{Pass}
 use Rattle.lock_core.specs.declared.site.Site.{Site}
@@ -43,6 +43,10 @@ module _ {R O E C : Type 0} (site : Site R O E C) where
   -- the owner of the pending bit sees the byte 0
   free-seen : (l n : ℕ) (v : View E) → n % 256 ≡ 0 → awaited l n v ≡ went l v.spin Taking
   free-seen l n v free = ap (λ (b : Bool). if b then went l v.spin Taking else v.spin) (eq-eqb (n % 256) 0 free)
+
+  -- or not 0
+  pub held-seen : (l n : ℕ) (v : View E) → n % 256 ≢ 0 → awaited l n v ≡ v.spin
+  held-seen l n v held = ap (λ (b : Bool). if b then went l v.spin Taking else v.spin) (ne_eqb (n % 256) 0 held)
 
   pub pending-seen : (l n : ℕ) (quiet : Type 0) (a d e : Pass R O E C) → point_in l a ≡ Pending → SpinIdles quiet site a d → SpinSteps site d e (awaited l n (view_of d)) → n % 256 ≡ 0 → SpinWaits l quiet site a e (lock_hand_to Taking (lock_hand_of l a))
   pending-seen l n quiet a d e p r t free = let w = waits-went l quiet d e Taking (steps-as d e (awaited l n (view_of d)) (went l (spin_in d) Taking) (free-seen l n (view_of d) free) t) in

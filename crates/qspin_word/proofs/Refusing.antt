@@ -13,8 +13,8 @@ use Rattle.qspin_word.specs.Ways.{LockRefused, lock_hand_to}
 use Rattle.qspin_word.proofs.OwnNodes.{same-depth}
 
 module _ {E : Type 0} (l : ℕ) (v : View E) (n : ℕ) (high : 256 ≤ n) where
-  refused : (u : View E) (s : SpinHand) → u.hand ≡ v.hand → u.fronts ≡ v.fronts → u.ext ≡ v.ext → v.steps + 1 ≤ u.steps → u.spin ≡ s → point_at l s ≡ Out → ((m : ℕ) → m ≢ l → lock_hand_at m s ≡ lock_hand_at m v.spin) → depth_of s ≡ depth_of v.spin → s.entries ≡ v.spin.entries → s.saw ≡ Some (record { word = n; step = v.steps + 1 }) → LockRefused l v u
-  refused u s hand fronts ext later is out elsewhere deep counted saw = record {
+  refused : (u : View E) (s : SpinHand) → u.hand ≡ v.hand → u.fronts ≡ v.fronts → u.ext ≡ v.ext → v.steps + 1 ≤ u.steps → u.spin ≡ s → point_at l s ≡ Out → ((m : ℕ) → m ≢ l → lock_hand_at m s ≡ lock_hand_at m v.spin) → depth_of s ≡ depth_of v.spin → s.entries ≡ v.spin.entries → LockRefused l v u
+  refused u s hand fronts ext later is out elsewhere deep counted = record {
     hand = hand;
     fronts = fronts;
     ext = ext;
@@ -23,7 +23,6 @@ module _ {E : Type 0} (l : ℕ) (v : View E) (n : ℕ) (high : 256 ≤ n) where
     others = λ m apart. ap (λ (x : SpinHand). lock_hand_at m x) is ∙ elsewhere m apart;
     depth = ap depth_of is ∙ deep;
     counted = ap (λ (x : SpinHand). x.entries) is ∙ counted;
-    saw = record { saw = record { word = n; step = v.steps + 1 }; is = ap (λ (x : SpinHand). x.saw) is ∙ saw; rival = high; since = omega arith; by_now = later };
   }
 
   abbrev by_pending : Bool → SpinHand
@@ -35,7 +34,7 @@ module _ {E : Type 0} (l : ℕ) (v : View E) (n : ℕ) (high : 256 ≤ n) where
   -- another owns the bit
   pub saw-pending : (u : View E) → u ≡ spun v (pended l n v) → (n / 256) % 2 ≢ 0 → point_at l v.spin ≡ Out → LockRefused l v u
   saw-pending u is set out = let e : u ≡ spun v (saw_word v.spin n (v.steps + 1)) = is ∙ ap (spun v) (beside_tail ∙ ap by_pending (ne_eqb ((n / 256) % 2) 0 set)) in
-      refused u (saw_word v.spin n (v.steps + 1)) (ap (λ (x : View E). x.hand) e) (ap (λ (x : View E). x.fronts) e) (ap (λ (x : View E). x.ext) e) (let l = ap (λ (x : View E). x.steps) e in omega (arith, l)) (ap (λ (x : View E). x.spin) e) out (λ m apart. refl) refl refl refl
+      refused u (saw_word v.spin n (v.steps + 1)) (ap (λ (x : View E). x.hand) e) (ap (λ (x : View E). x.fronts) e) (ap (λ (x : View E). x.ext) e) (let l = ap (λ (x : View E). x.steps) e in omega (arith, l)) (ap (λ (x : View E). x.spin) e) out (λ m apart. refl) refl refl
 
   -- it has set the bit, and cleared it again
   pub saw-tail : (m u : View E) → m ≡ spun v (pended l n v) → u ≡ spun m (undone l m) → (n / 256) % 2 ≡ 0 → point_at l v.spin ≡ Out → LockRefused l v u
@@ -46,7 +45,7 @@ module _ {E : Type 0} (l : ℕ) (v : View E) (n : ℕ) (high : 256 ≤ n) where
       (ap (λ (x : LockHand). x.frame.point) (at-with l s o))
       (λ r apart. at-else l r s o apart ∙ at-else l r v.spin b apart)
       (same-depth l s o (sym (ap (λ (x : LockHand). uses x.frame.point) mid)) ∙ same-depth l v.spin b (sym (ap uses out)))
-      refl refl
+      refl
 
   by-saw : (b : Bool) → (by_pending b).saw ≡ Some (record { word = n; step = v.steps + 1 })
   by-saw true = refl

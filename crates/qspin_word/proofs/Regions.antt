@@ -13,7 +13,7 @@ use Rattle.lock_core.specs.declared.view.Saw.{Saw}
 use Rattle.lock_core.specs.declared.view.Point.{Point}
 use Rattle.lock_core.specs.Parts.{each-set, set_part, keep_part}
 use Rattle.lock_core.specs.Views.{SpinPart}
-use Rattle.lock_core.specs.LockHands.{lock_hand_at, frame_at, point_at}
+use Rattle.lock_core.specs.LockHands.{lock_hand_at, frame_at, point_at, RestsAt}
 use Rattle.lock_core.specs.SpinFrames.{stands, holds_of}
 use Rattle.lock_core.specs.SpinQueues.{LockKept, Put}
 use Rattle.lock_core.specs.SpinLaws.{lock-of}
@@ -44,7 +44,7 @@ word-away w l m x q fs apart = subst (λ (z : ℕ × (ℕ → ℕ) × (ℕ → �
 
 -- a step of the pass id at the lock l, from the point `before`, after which it has the spin hand s, with this frame at the lock, and the queues are q'
 module _ (n l : ℕ) (less : l < n) (w : List ℕ) (q q' : ℕ → List ℕ) (ps : List SpinPart) (id : ℕ) (p : SpinPart) (s : SpinHand) (g : Frame) (k : SpinFacts n w q ps) (now : frame_at l s ≡ g) (still : (m : ℕ) → m ≢ l → lock_hand_at m s ≡ lock_hand_at m p.spin) (requeues : (m : ℕ) → m ≢ l → q' m ≡ q m)
-    (sees : (x : Saw) → s.saw ≡ Some x → (p.spin.saw ≡ Some x) ⊎ (x.word ≡ word_in w l)) (at : get_elem? ps id ≡ some p) (own : OwnNodes (record p { spin = s })) (before : Point) (is : point_at l p.spin ≡ before)
+    (sees : (x : Saw) → s.saw ≡ Some x → (p.spin.saw ≡ Some x) ⊎ ((x.word ≡ word_in w l) × RestsAt l p.spin)) (at : get_elem? ps id ≡ some p) (own : OwnNodes (record p { spin = s })) (before : Point) (is : point_at l p.spin ≡ before)
     (moves : QueueMoves (stands before) (stands g.point) (frame_on l p).code (tail_in (word_in w l)) (frame_on l p).found g.found (q l) (q' l)) (takes : holds_of g ≡ 1 → TakesFrom before (word_in w l)) (comes : ComesTo before g.point (word_in w l)) where
   abbrev fs' : List Frame
   fs' = set (map (frame_on l) ps) id g

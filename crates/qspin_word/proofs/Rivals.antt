@@ -1,23 +1,55 @@
 -- A step found a rival in the word.
-use Rattle.std.proofs.Common.{◌≡◌, ℕ, ◌+◌, ◌≤◌, List, Some, ◌∙◌, subst, arith}
+use Rattle.std.proofs.Common.{◌≡◌, ℕ, ◌+◌, ◌≤◌, ◌⊎◌, List, Some, Option, sym, subst, arith}
 use Rattle.lock_core.specs.declared.view.View.{View}
+use Rattle.lock_core.specs.declared.view.Saw.{Saw}
 use Rattle.lock_core.specs.declared.view.Moment.{Moment}
-use Rattle.lock_core.specs.Pasts.{FoundAt, FoundAtStep, GoesOn, IsOwnStep}
-use Rattle.lock_core.specs.RunLaws.{found-at-step}
-use Rattle.qspin_word.specs.Ways.{RivalFound}
+use Rattle.lock_core.specs.declared.view.Point.TheVariants.{Out, Undoing}
+use Rattle.lock_core.specs.LockHands.{point_at}
+use Rattle.lock_core.specs.Pasts.{FoundAt, GoesOn, IsOwnStep}
+use Rattle.lock_core.specs.RunLaws.{step-by}
+use Rattle.qspin_word.specs.Ways.{RivalSince, SawAtStep}
 
-module _ {E : Type 0} (at : ℕ) where
+module _ (l : ℕ) (task : Option ℕ) (saw : Saw) (at : ℕ) (old past new : List Moment) where
+  -- the run goes on
+  pub saw-then : SawAtStep l task saw at old past → GoesOn past new → SawAtStep l task saw at old new
+  saw-then r goes = let f = r.found in record {
+    found = record { past = f.past; by = f.by; found = f.found; after = f.after; goes_on = λ x h. goes x (f.goes_on x h) };
+    spin = r.spin;
+    is = r.is;
+    kept = r.kept;
+    out = r.out;
+  }
+
+  -- the call began before
+  pub saw-since : GoesOn old past → SawAtStep l task saw at past new → SawAtStep l task saw at old new
+  saw-since began r = let f = r.found in record {
+    found = record { past = f.past; by = f.by; found = f.found; after = λ x h. f.after x (began x h); goes_on = f.goes_on };
+    spin = r.spin;
+    is = r.is;
+    kept = r.kept;
+    out = r.out;
+  }
+
+module _ {E : Type 0} (l at : ℕ) where
+  -- what the last step found, and left with the pass as seen
+  pub saw-at-step : (m : View E) (task : Option ℕ) (saw : Saw) (old past new : List Moment) → m.hand.task ≡ task → m.steps ≡ saw.step → IsOwnStep m past → FoundAt at saw.word past → GoesOn old past → GoesOn past new
+      → m.spin.saw ≡ Some saw → (point_at l m.spin ≡ Out) ⊎ (point_at l m.spin ≡ Undoing) → SawAtStep l task saw at old new
+  saw-at-step m task saw old past new named counts own found after goes kept out = subst (λ (s : ℕ). SawAtStep l task (record { word = saw.word; step = s }) at old new) counts record {
+    found = record { past = past; by = step-by m task past named own; found = found; after = after; goes_on = goes };
+    spin = m.spin;
+    is = own.spin;
+    kept = subst (λ (s : ℕ). m.spin.saw ≡ Some (record { word = saw.word; step = s })) (sym counts) kept;
+    out = out;
+  }
+
   -- the first step found it, and the pass has kept it
   pub first-rival : (v m u : View E) (old past new : List Moment) (n : ℕ) → 256 ≤ n → m.hand.task ≡ v.hand.task → m.steps ≡ v.steps + 1 → IsOwnStep m past → FoundAt at n past → GoesOn old past → GoesOn past new
-      → u.spin.saw ≡ Some (record { word = n; step = v.steps + 1 }) → m.steps ≤ u.steps → RivalFound at v old u new
-  first-rival v m u old past new n high named counts own found after goes saw later = (
-    record { saw = record { word = n; step = v.steps + 1 }; is = saw; rival = high; since = omega arith; by_now = omega (arith, counts, later) },
-    subst (λ (s : ℕ). FoundAtStep v.hand.task s at n old new) counts (found-at-step m v.hand.task at n old past new named own found after goes),
-  )
-
-  -- a pass that goes on has found it too, where it keeps what it saw
-  pub rival-within : (v w m u : View E) (older old past new : List Moment) → w.hand.task ≡ v.hand.task → v.steps ≤ w.steps → GoesOn older old → RivalFound at w old m past → u.spin.saw ≡ m.spin.saw → m.steps ≤ u.steps → GoesOn past new → RivalFound at v older u new
-  rival-within v w m u older old past new named before after (r, f) same later goes = let since = r.since in let by_now = r.by_now in (
-    record { saw = r.saw; is = same ∙ r.is; rival = r.rival; since = omega (arith, since, before); by_now = omega (arith, by_now, later) },
-    subst (λ task. FoundAtStep task r.saw.step at r.saw.word older new) named record { past = f.past; by = f.by; found = f.found; after = λ p t. f.after p (after p t); goes_on = λ p t. goes p (f.goes_on p t) },
-  )
+      → m.spin.saw ≡ Some (record { word = n; step = v.steps + 1 }) → (point_at l m.spin ≡ Out) ⊎ (point_at l m.spin ≡ Undoing) → u.spin.saw ≡ Some (record { word = n; step = v.steps + 1 }) → m.steps ≤ u.steps → RivalSince l (Unit {0}) at v old u new
+  first-rival v m u old past new n high named counts own found after goes kept out saw later = let x : Saw = record { word = n; step = v.steps + 1 } in record {
+    saw = x;
+    rival = high;
+    since = omega arith;
+    by_now = omega (arith, counts, later);
+    found = saw-at-step m v.hand.task x old past new named counts own found after goes kept out;
+    still = λ _. saw;
+  }

@@ -52,7 +52,7 @@ rests-alone n l s within one out few zero = subst (λ (m : ℕ). RestsAt m s) (l
 rests-alone n l s within one out few (suc m) = few (suc m) (omega (arith, one))
 
 -- no other step changes that number
-pub counts-idle : (at l : ℕ) (s : SpinHand) (f : Frame) (saw : Option Saw) → holds_of f ≤ holds_on l s → ((x : Saw) → saw ≡ Some x → (s.saw ≡ Some x) ⊎ ((x.step ≡ at) × RestsAt l s)) → SpinGoes at l s (record (framed l s f) { saw = saw })
+pub counts-idle : (at l : ℕ) (s : SpinHand) (f : Frame) (saw : Option Saw) → holds_of f ≤ holds_on l s → ((x : Saw) → saw ≡ Some x → (s.saw ≡ Some x) ⊎ (x.step ≡ at)) → SpinGoes at l s (record (framed l s f) { saw = saw })
 counts-idle at l s f saw less sees = let b : LockHand = record (lock_hand_at l s) { frame = f } in let e = at-with l s b in let h : holds_on l (framed l s f) ≡ holds_of f = ap (λ (b : LockHand). holds_of b.frame) e in record {
   entries = omega (arith, less, h);
   takes = λ out holds. absurd (omega (arith, less, h, out, holds));
@@ -62,16 +62,15 @@ counts-idle at l s f saw less sees = let b : LockHand = record (lock_hand_at l s
 }
 
 -- nor does a look
-pub counts-look : (at l : ℕ) (s : SpinHand) (saw : Option Saw) → ((x : Saw) → saw ≡ Some x → (s.saw ≡ Some x) ⊎ ((x.step ≡ at) × RestsAt l s)) → SpinGoes at l s (record s { saw = saw })
+pub counts-look : (at l : ℕ) (s : SpinHand) (saw : Option Saw) → ((x : Saw) → saw ≡ Some x → (s.saw ≡ Some x) ⊎ (x.step ≡ at)) → SpinGoes at l s (record s { saw = saw })
 counts-look at l s saw sees = record { entries = omega arith; takes = λ out holds. absurd (omega (arith, out, holds)); keeps = λ _. (refl, refl); saw = sees; others = λ m apart. refl }
 
--- it has the word as seen at this step
-pub seen-word : (word at : ℕ) (old : Option Saw) (x : Saw) → Some (record { word = word; step = at }) ≡ Some x → (old ≡ Some x) ⊎ (x.word ≡ word)
-seen-word word at old x e = inr (let i : record { word = word; step = at } ≡ x = some-injective' (record { word = word; step = at }) x e in sym (ap (λ (z : Saw). z.word) i))
+-- it has the word as seen at this step, at no point of the lock
+pub seen-word : (word at l : ℕ) (s : SpinHand) (x : Saw) → RestsAt l s → Some (record { word = word; step = at }) ≡ Some x → (s.saw ≡ Some x) ⊎ ((x.word ≡ word) × RestsAt l s)
+seen-word word at l s x out e = inr (let i : record { word = word; step = at } ≡ x = some-injective' (record { word = word; step = at }) x e in sym (ap (λ (z : Saw). z.word) i), out)
 
--- and at no point of the lock
-pub seen-at : (word at l : ℕ) (s : SpinHand) (x : Saw) → RestsAt l s → Some (record { word = word; step = at }) ≡ Some x → (s.saw ≡ Some x) ⊎ ((x.step ≡ at) × RestsAt l s)
-seen-at word at l s x out e = inr (let i : record { word = word; step = at } ≡ x = some-injective' (record { word = word; step = at }) x e in sym (ap (λ (z : Saw). z.step) i), out)
+pub seen-at : (word at : ℕ) (s : SpinHand) (x : Saw) → Some (record { word = word; step = at }) ≡ Some x → (s.saw ≡ Some x) ⊎ (x.step ≡ at)
+seen-at word at s x e = inr (let i : record { word = word; step = at } ≡ x = some-injective' (record { word = word; step = at }) x e in sym (ap (λ (z : Saw). z.step) i))
 
 held-takes : (p : Point) (word : ℕ) → holds_at p ≡ 1 → TakesFrom p word
 held-takes Passing word e = tt
@@ -131,7 +130,7 @@ module _ {E : Type 0} (n l : ℕ) (less : l < n) (most : n ≤ 8) (v : View E) (
     kept = lock-of n w q ps k l less
 
     -- a load that leaves the frame
-    looks-on : (i : ℕ) (saw : Option Saw) → ((x : Saw) → saw ≡ Some x → (v.spin.saw ≡ Some x) ⊎ (x.word ≡ word)) → ((x : Saw) → saw ≡ Some x → (v.spin.saw ≡ Some x) ⊎ ((x.step ≡ v.steps + 1) × RestsAt l v.spin)) → After (set w i (get_or w i 0)) (record v.spin { saw = saw })
+    looks-on : (i : ℕ) (saw : Option Saw) → ((x : Saw) → saw ≡ Some x → (v.spin.saw ≡ Some x) ⊎ ((x.word ≡ word) × RestsAt l v.spin)) → ((x : Saw) → saw ≡ Some x → (v.spin.saw ≡ Some x) ⊎ (x.step ≡ v.steps + 1)) → After (set w i (get_or w i 0)) (record v.spin { saw = saw })
     looks-on i saw seen then_step = (
       goes-look n l less w q q ps id (spin_part v) (record v.spin { saw = saw }) f k refl (λ m apart. refl) (λ m apart. refl) seen at (own-still (spin_part v) (record v.spin { saw = saw }) (λ m used. (used, refl)) (omega arith) (k.own id (spin_part v) at)) f.point refl (queue-stays (stands f.point) f.code (tail_in word) f.found (q l)) (held-takes f.point word) (stays-at f.point word) i (stays-in l (stands f.point) w (q l) (set w i (get_or w i 0)))
           (subst (λ (z : List Frame). LockKept word (next_in w) (locked_in w) (q l) z) (sym (set_again fs id f (at_map (frame_on l) ps id (spin_part v) at))) kept),
@@ -143,10 +142,10 @@ module _ {E : Type 0} (n l : ℕ) (less : l < n) (most : n ≤ 8) (v : View E) (
     looks-still i = looks-on i v.spin.saw (λ x e. inl e) (λ x e. inl e)
 
     looks-seen : RestsAt l v.spin → After (set w (word_at l) word) (saw_word v.spin word (v.steps + 1))
-    looks-seen out = looks-on (word_at l) (Some (record { word = word; step = v.steps + 1 })) (seen-word word (v.steps + 1) v.spin.saw) (λ x. seen-at word (v.steps + 1) l v.spin x out)
+    looks-seen out = looks-on (word_at l) (Some (record { word = word; step = v.steps + 1 })) (λ x. seen-word word (v.steps + 1) l v.spin x out) (seen-at word (v.steps + 1) v.spin)
 
     -- a step on the word, from and to a point at which it uses no node
-    pub turns-word : (x : ℕ) (g : Frame) (saw : Option Saw) (p : Point) → f.point ≡ p → uses p ≡ false → stands p ≡ false → uses g.point ≡ false → stands g.point ≡ false → holds_of g ≤ holds_at p → ((y : Saw) → saw ≡ Some y → (v.spin.saw ≡ Some y) ⊎ (y.word ≡ word)) → ((y : Saw) → saw ≡ Some y → (v.spin.saw ≡ Some y) ⊎ ((y.step ≡ v.steps + 1) × RestsAt l v.spin)) → (holds_of g ≡ 1 → TakesFrom p word) → ComesTo p g.point word
+    pub turns-word : (x : ℕ) (g : Frame) (saw : Option Saw) (p : Point) → f.point ≡ p → uses p ≡ false → stands p ≡ false → uses g.point ≡ false → stands g.point ≡ false → holds_of g ≤ holds_at p → ((y : Saw) → saw ≡ Some y → (v.spin.saw ≡ Some y) ⊎ ((y.word ≡ word) × RestsAt l v.spin)) → ((y : Saw) → saw ≡ Some y → (v.spin.saw ≡ Some y) ⊎ (y.step ≡ v.steps + 1)) → (holds_of g ≡ 1 → TakesFrom p word) → ComesTo p g.point word
         → LockKept x (next_in w) (locked_in w) (q l) (set fs id g) → After (set w (word_at l) x) (record (framed l v.spin g) { saw = saw })
     turns-word x g saw p e free out free' out' less_held seen then_step takes comes lock = (
       goes-word n l less w q q ps id (spin_part v) (record (framed l v.spin g) { saw = saw }) g k (ap (λ (b : LockHand). b.frame) (at-with l v.spin (moved g))) (λ m apart. at-else l m v.spin (moved g) apart) (λ m apart. refl) seen at
@@ -209,7 +208,7 @@ module _ {E : Type 0} (n l : ℕ) (less : l < n) (most : n ≤ 8) (v : View E) (
       (turns-word w q ps k at (x + 256) (at_point f Pending) v.spin.saw Out e refl refl refl refl (omega arith) (λ x e. inl e) (λ x e. inl e) (λ no. absurd (omega arith)) (omega arith, omega arith) (step.pends (next_in w) (locked_in w) (q l) (map (frame_on l) ps) id f x low' (kept w q ps k at) old)))
       (λ high. let h = ltb-false x 256 high in by_test (eqb ((x / 256) % 2) 0) (λ b. After w q ps k at (set w i (bit_or x 256)) (if b then saw_word (went l v.spin Undoing) x (v.steps + 1) else saw_word v.spin x (v.steps + 1)))
       (λ unset. let u = eqb-true ((x / 256) % 2) 0 unset in subst (λ (m : ℕ). After w q ps k at (set w i m) (saw_word (went l v.spin Undoing) x (v.steps + 1))) (sym (or_pending x u))
-      (turns-word w q ps k at (x + 256) (at_point f Undoing) (Some (record { word = x; step = v.steps + 1 })) Out e refl refl refl refl (omega arith) (seen-word x (v.steps + 1) v.spin.saw) (λ y. seen-at x (v.steps + 1) l v.spin y e) (λ no. absurd (omega arith)) (u, λ none. tail-there w q ps k at h u none) (step.undoes (next_in w) (locked_in w) (q l) (map (frame_on l) ps) id f x h u (kept w q ps k at) old)))
+      (turns-word w q ps k at (x + 256) (at_point f Undoing) (Some (record { word = x; step = v.steps + 1 })) Out e refl refl refl refl (omega arith) (λ y. seen-word x (v.steps + 1) l v.spin y e) (seen-at x (v.steps + 1) v.spin) (λ no. absurd (omega arith)) (u, λ none. tail-there w q ps k at h u none) (step.undoes (next_in w) (locked_in w) (q l) (map (frame_on l) ps) id f x h u (kept w q ps k at) old)))
       (λ pending. let u = eqb-false ((x / 256) % 2) 0 pending in subst (λ (m : ℕ). After w q ps k at (set w i m) (saw_word v.spin x (v.steps + 1))) (sym (or_pending_again x (omega arith))) (looks-seen w q ps k at e))) in
       (t.0, t.1, tt)
     where

@@ -1,5 +1,5 @@
 -- What a clause reads of a pass at a spin lock.
-use Rattle.std.specs.Prelude.{◌≡◌, ◌≢◌, ℕ, ◌+◌, ◌<◌, ◌≤◌, IsSome}
+use Rattle.std.specs.Prelude.{◌≡◌, ◌≢◌, ℕ, ◌+◌, ◌<◌, ◌≤◌, IsSome, true}
 use Rattle.lock_core.specs.declared.op.Op.{Op}
 use Rattle.lock_core.specs.declared.view.SpinHand.{SpinHand}
 use Rattle.lock_core.specs.declared.view.LockHand.{LockHand}
@@ -10,9 +10,9 @@ use Rattle.lock_core.specs.LockHands.{lock_hand_at, point_at, RestsEverywhere, d
 use Rattle.lock_core.specs.Spins.{spun}
 use Rattle.lock_core.specs.Pasts.{FoundAtStep}
 use Rattle.lock_core.specs.Handles.{view_of, hand_in, past_of, task_in, SitsAt, SaysSame, KeepsPast, IsLatest, KeepsNest, IsDepthTold, IsNestTold}
-use Rattle.lock_core.specs.Nestings.{SameFlags, SameFlagsBeside}
+use Rattle.lock_core.specs.Nestings.{pauses_at, SameFlags, SameFlagsBeside}
 use Rattle.qspin_word.specs.Allows.{SpinAllows}
-use Rattle.qspin_word.specs.Ways.{PendedAtStep, RivalFound, RivalSince, AreAlike, HitLeaves}
+use Rattle.qspin_word.specs.Ways.{PendedAtStep, RivalSince, AreAlike, HitLeaves}
 
 module _ {R O E C : Type 0} where
   -- what the pass knows of the spin locks
@@ -34,12 +34,13 @@ module _ {R O E C : Type 0} where
   abbrev pub TriesOnlyFree : ℕ → Pass R O E C → Pass R O E C → Type 0
   TriesOnlyFree at old new = (view_of new).steps ≡ (view_of old).steps + 2 → FirstFoundFree at old new
 
-  -- it saw a rival, in the word at this place
-  abbrev pub FindsRival : ℕ → Pass R O E C → Pass R O E C → Type 0
-  FindsRival at old new = RivalFound at (view_of old) (past_of old) (view_of new) (past_of new)
+  -- it saw a rival, in the lock's word at this place
+  abbrev pub FindsRivalSince : (l : ℕ) (quiet : Type 0) (at : ℕ) → Pass R O E C → Pass R O E C → Type 0
+  FindsRivalSince l quiet at old new = RivalSince l quiet at (view_of old) (past_of old) (view_of new) (past_of new)
 
-  abbrev pub FindsRivalSince : (quiet : Type 0) (at : ℕ) → Pass R O E C → Pass R O E C → Type 0
-  FindsRivalSince quiet at old new = RivalSince quiet at (view_of old) (past_of old) (view_of new) (past_of new)
+  -- and still has it as seen
+  abbrev pub FindsRival : (l at : ℕ) → Pass R O E C → Pass R O E C → Type 0
+  FindsRival l at old new = FindsRivalSince l (Unit {0}) at old new
 
   -- all but what it notes of the locks is the same
   pub record IsSameBut (old new : Pass R O E C) : Type 0 where
@@ -96,10 +97,15 @@ module _ {R O E C : Type 0} where
     pub same : depth_of (spin_in new) ≡ depth_of (spin_in old)
 
   -- it is one of the site's, has a number, and notes how it stands with each lock
-  pub record IsInterruptible (site : Site R O E C) (pass : Pass R O E C) : Type 0 where
+  pub record NotesItself (site : Site R O E C) (pass : Pass R O E C) : Type 0 where
     pub own : SitsAt site pass
     pub numbered : IsSome (task_in pass)
     pub told : IsNestTold pass
+
+  -- it is such a pass, and a call of it waits: for a lock, or, having it, for its successor
+  pub record IsInterruptible (site : Site R O E C) (pass : Pass R O E C) : Type 0 where
+    pub notes : NotesItself site pass
+    pub pauses : (l : ℕ) × (pauses_at (point_in l pass) ≡ true)
 
   -- another call was done while a call of the pass waits
   pub record SpinIdles (quiet : Type 0) (site : Site R O E C) (old new : Pass R O E C) : Type 0 where

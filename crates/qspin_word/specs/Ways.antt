@@ -7,7 +7,7 @@ use Rattle.lock_core.specs.declared.view.LockHand.{LockHand}
 use Rattle.lock_core.specs.declared.view.Saw.{Saw}
 use Rattle.lock_core.specs.declared.view.SpinHand.{SpinHand}
 use Rattle.lock_core.specs.declared.view.Point.{Point}
-use Rattle.lock_core.specs.declared.view.Point.TheVariants.{Out, Pending, Holding}
+use Rattle.lock_core.specs.declared.view.Point.TheVariants.{Out, Undoing, Pending, Holding}
 use Rattle.lock_core.specs.declared.view.Moment.{Moment}
 use Rattle.lock_core.specs.Views.{SpinHolds}
 use Rattle.lock_core.specs.LockHands.{lock_hand_at, point_at, RestsAt, HoldsAt, depth_of}
@@ -35,6 +35,14 @@ pub record PendedAtStep (l : ℕ) (task : Option ℕ) (step at : ℕ) (old new :
   pub unset : word < 256
   pub after : GoesOn old past
   pub goes_on : GoesOn past new
+
+-- this step of the pass which has the task's number found the word at this place; behind it the pass has that word as seen, and is at no point of the lock or is to clear its pending bit
+pub record SawAtStep (l : ℕ) (task : Option ℕ) (saw : Saw) (at : ℕ) (old new : List Moment) : Type 0 where
+  pub found : FoundAtStep task saw.step at saw.word old new
+  pub spin : SpinHand
+  pub is : get_elem? found.by.now.spins found.by.seat ≡ some spin
+  pub kept : spin.saw ≡ Some saw
+  pub out : (point_at l spin ≡ Out) ⊎ (point_at l spin ≡ Undoing)
 
 module _ {E : Type 0} where
   -- a load that found the lock free, and the exchange that took it
@@ -78,28 +86,16 @@ module _ {E : Type 0} where
     pub counted : u.spin.entries ≡ v.spin.entries + 1
     pub took : (v.steps < u.spin.took) × (u.spin.took ≤ u.steps)
 
-  -- the word that the pass has as seen has a tail or a pending bit, and a step since saw it; that neither is the pass's own follows from `SpinGoes`, by which it keeps only what it saw at no point of the lock
-  pub record SawRival (v u : View E) : Type 0 where
-    pub saw : Saw
-    pub is : u.spin.saw ≡ Some saw
-    pub rival : 256 ≤ saw.word
-    pub since : v.steps < saw.step
-    pub by_now : saw.step ≤ u.steps
-
-  -- that step found it in the word at this place
-  abbrev pub RivalFound : (at : ℕ) → View E → List Moment → View E → List Moment → Type 0
-  RivalFound at v old u new = (r : SawRival v u) × FoundAtStep v.hand.task r.saw.step at r.saw.word old new
-
-  -- a step since found a tail or a pending bit in the word at this place; the pass still has that word as seen, if nothing else was done meanwhile
-  pub record RivalSince (quiet : Type 0) (at : ℕ) (v : View E) (old : List Moment) (u : View E) (new : List Moment) : Type 0 where
+  -- a step since found a tail or a pending bit in the lock's word, at this place; the pass still has that word as seen, if nothing else was done meanwhile
+  pub record RivalSince (l : ℕ) (quiet : Type 0) (at : ℕ) (v : View E) (old : List Moment) (u : View E) (new : List Moment) : Type 0 where
     pub saw : Saw
     pub rival : 256 ≤ saw.word
     pub since : v.steps < saw.step
     pub by_now : saw.step ≤ u.steps
-    pub found : FoundAtStep v.hand.task saw.step at saw.word old new
+    pub found : SawAtStep l v.hand.task saw at old new
     pub still : quiet → u.spin.saw ≡ Some saw
 
-  -- it has nothing to do with the lock, since it saw a rival; all but that is as before
+  -- it has nothing to do with the lock; all but what it saw is as before
   pub record LockRefused (l : ℕ) (v u : View E) : Type 0 where
     pub hand : u.hand ≡ v.hand
     pub fronts : u.fronts ≡ v.fronts
@@ -109,4 +105,3 @@ module _ {E : Type 0} where
     pub depth : depth_of u.spin ≡ depth_of v.spin
     pub counted : u.spin.entries ≡ v.spin.entries
     pub later : v.steps < u.steps
-    pub saw : SawRival v u

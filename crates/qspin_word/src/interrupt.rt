@@ -9,7 +9,8 @@ use std::sync::Wait;
 pub trait SpinSite {
     type Pass;
 
-    // The pass is one of the site's, has a number, and notes how it stands with each lock.
+    // The pass is one of the site's, has a number and notes how it stands with each lock, and a call
+    // of it waits: for a lock, or, having it, for its successor.
     ghost ready: { Self → Self.Pass → Type 0 };
 
     // What a call leaves that is done meanwhile, and that is quiet or not.

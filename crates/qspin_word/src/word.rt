@@ -158,7 +158,7 @@ pub fn take_by_pending<H: SpinHost, W: Wait, I: Interrupt<Site<H>>>(
     ensures refused { result ≡ false →
         LockRefused lock (view_of pass.old) (view_of pass.new) }
     ensures found { result ≡ false →
-        FindsRival (H.FIRST + word_at lock) pass.old pass.new }
+        FindsRival lock (H.FIRST + word_at lock) pass.old pass.new }
     ensures quick { result ≡ false → (view_of pass.new).steps ≤ (view_of pass.old).steps + 2 }
 {
     // Of several contenders one finds neither tail nor pending, and owns the bit that it set.

@@ -1,7 +1,7 @@
 //! The rule of a semaphore's table.
 ghost use Rattle.std.specs.Prelude.{◌≡◌, refl};
 ghost use Rattle.word_bits.specs.LockWords.{counted};
-ghost use Rattle.lock_core.specs.Barely.{one-some, one-eight};
+ghost use Rattle.lock_core.specs.SpinTables.{one-some, one-eight};
 ghost use Rattle.rwsem_slow.specs.RwSems.{Kept, MayMiss, RwSemKept, RwSemMoves, any_count, bias_of, biased, count_at, grants_at, idle, list_at, list_of, marks_at, may_change, may_count, may_free, more_in, rests, saw_first, sem_of, standing, with_list, with_sem};
 ghost use Rattle.rwsem_slow.specs.RwSemLaws.{count-inside, list-inside, sem-joins-rule, sem-looks, sem-opens-rule, sem-places, sem-sems, sem-site, sem-sites, sem-spin, sem-spins, sem-splits, spin-inside};
 ghost use Rattle.rwsem_slow.specs.ListLaws.{list-again, list-back, list-over, list-same, may-on, may-stay, sem-firsts, sem-list, sem-list-may, sem-lists, sem-queued};

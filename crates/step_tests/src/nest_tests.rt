@@ -3,7 +3,7 @@
 ghost use Rattle.std.specs.Prelude.{◌≡◌, ◌<◌, ◌≤◌, ◌+◌, length, None, IsSome, IfOk};
 ghost use Rattle.lock_core.specs.Handles.{plan_of, task_in, SitsAt, SaysSame, IsNestTold};
 ghost use Rattle.lock_core.specs.LockHands.{RestsAt, HoldsAt, RestsEverywhere};
-ghost use Rattle.qspin_word.specs.Handles.{spin_in, IsInterruptible, SpinIdles};
+ghost use Rattle.qspin_word.specs.Handles.{spin_in, NotesItself, SpinIdles};
 ghost use Rattle.qspin_queue.specs.Handles.{IsApart, IsApartIdle};
 ghost use Rattle.step_tests.specs.Nests.{HoldsThree};
 
@@ -72,7 +72,7 @@ fn raise<W: Wait, I: Interrupt<Site<Nest>>>(
     lock: usize,
     irq: &mut I,
 ) -> Way
-    requires ready { IsInterruptible site.now pass.old }
+    requires ready { NotesItself site.now pass.old }
     requires there { lock < 3 }
     requires out { RestsAt lock (spin_in pass.old) }
     ensures idles { SpinIdles ⊥ site.now pass.old pass.new }

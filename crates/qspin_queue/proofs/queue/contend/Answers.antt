@@ -9,5 +9,5 @@ returns-then-seen-lt-PENDING-clause-goes_on g c = λ p t. c.take_by_queue.ensure
 
 pub returns-then-seen-lt-PENDING-clause-rival : goal.returns-then-seen-lt-PENDING-clause-rival
 returns-then-seen-lt-PENDING-clause-rival g c = λ _ _. let a = c.args.pass.now in let r = c.take_by_pending.new.pass in let q = c.take_by_queue.new.pass in let took = c.take_by_queue.ensures.takes.gained.took in
-    found-since g.I.Interrupt.silent (g.H.SpinHost.FIRST + word_at c.args.lock) (view_of a) (view_of r) (view_of q) (past_of a) (past_of r) (past_of q) (c.take_by_pending.ensures.found c.if-take_by_pending.false)
+    found-since c.args.lock g.I.Interrupt.silent (g.H.SpinHost.FIRST + word_at c.args.lock) (view_of a) (view_of r) (view_of q) (past_of a) (past_of r) (past_of q) (c.take_by_pending.ensures.found c.if-take_by_pending.false)
     c.take_by_queue.ensures.takes.saw (let x = took.0 in let y = took.1 in omega (arith, x, y)) c.take_by_queue.ensures.takes.goes_on

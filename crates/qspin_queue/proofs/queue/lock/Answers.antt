@@ -1,7 +1,7 @@
 use Rattle.std.proofs.Common.{◌≡◌, ℕ, ◌+◌, ◌*◌, subst, arith}
-use Rattle.lock_core.specs.Handles.{view_of, past_of}
+use Rattle.lock_core.specs.Handles.{view_of}
 use Rattle.qspin_word.specs.Handles.{OwnsPendingAt, FindsRival}
-use Rattle.qspin_queue.proofs.Contending.{first-gained, first-rival-found}
+use Rattle.qspin_queue.proofs.Contending.{first-gained}
 use Rattle.qspin_queue.proofs.queue.lock.Goals as goal
 
 pub returns-clause-gained : goal.returns-clause-gained
@@ -11,5 +11,4 @@ pub returns-clause-asked : goal.returns-clause-asked
 returns-clause-asked g c = λ e. let f : ℕ = g.H.SpinHost.FIRST in let same : f + 8 * 0 ≡ f = omega arith in subst (λ (at : ℕ). OwnsPendingAt 0 2 at c.args.pass.now c.lock_with.new.pass) same (c.lock_with.ensures.asked e)
 
 pub returns-clause-queued : goal.returns-clause-queued
-returns-clause-queued g c = λ e. let f : ℕ = g.H.SpinHost.FIRST in let same : f + 8 * 0 ≡ f = omega arith in subst (λ (at : ℕ). FindsRival at c.args.pass.now c.lock_with.new.pass) same
-    (first-rival-found (f + 8 * 0) (view_of c.args.pass.now) (view_of c.lock_with.new.pass) (past_of c.args.pass.now) (past_of c.lock_with.new.pass) (c.lock_with.ensures.queued e))
+returns-clause-queued g c = λ e. let f : ℕ = g.H.SpinHost.FIRST in let same : f + 8 * 0 ≡ f = omega arith in subst (λ (at : ℕ). FindsRival 0 at c.args.pass.now c.lock_with.new.pass) same (c.lock_with.ensures.queued e)

@@ -53,7 +53,7 @@ pub returns-clause-in_turn : goal.returns-clause-in_turn
 returns-clause-in_turn g c = λ e. slow-turn c.args.site.now c.args.lock g.I.Interrupt.silent c.args.pass.now c.exchange_free-seen.new.pass c.begin_notes.new.pass c.contend-way.new.pass c.note_lock.new.self c.exchange_free-seen.result c.exchange_free-seen.ensures.steps c.if-seen-eq0.false c.begin_notes.ensures.same c.note_lock.ensures (c.contend-way.ensures.in_turn e)
 
 pub returns-clause-queued : goal.returns-clause-queued
-returns-clause-queued g c = λ e. let at = g.H.SpinHost.FIRST + word_at c.args.lock in elim (native.Mathlib.Decide.dec_le 256 c.exchange_free-seen.result) as (λ _. FindsRivalSince g.I.Interrupt.silent at c.args.pass.now c.note_lock.new.self) [
-  | yes high ↦ slow-first c.args.site.now c.args.lock g.I.Interrupt.silent c.args.pass.now c.exchange_free-seen.new.pass c.begin_notes.new.pass c.contend-way.new.pass c.note_lock.new.self c.exchange_free-seen.result c.exchange_free-seen.ensures.steps c.if-seen-eq0.false c.begin_notes.ensures.same c.note_lock.ensures c.contend-way.ensures.gained at c.exchange_free-seen.ensures.found c.contend-way.ensures.goes_on high (c.contend-way.ensures.saw e high)
+returns-clause-queued g c = λ e. let at = g.H.SpinHost.FIRST + word_at c.args.lock in elim (native.Mathlib.Decide.dec_le 256 c.exchange_free-seen.result) as (λ _. FindsRivalSince c.args.lock g.I.Interrupt.silent at c.args.pass.now c.note_lock.new.self) [
+  | yes high ↦ slow-first c.args.site.now c.args.lock g.I.Interrupt.silent c.args.pass.now c.exchange_free-seen.new.pass c.begin_notes.new.pass c.contend-way.new.pass c.note_lock.new.self c.exchange_free-seen.result c.exchange_free-seen.ensures.steps c.if-seen-eq0.false c.begin_notes.ensures.same c.note_lock.ensures c.contend-way.ensures.gained at c.requires.out c.exchange_free-seen.ensures.found c.contend-way.ensures.goes_on high (c.contend-way.ensures.saw e high)
   | no low ↦ slow-rival c.args.site.now c.args.lock g.I.Interrupt.silent c.args.pass.now c.exchange_free-seen.new.pass c.begin_notes.new.pass c.contend-way.new.pass c.note_lock.new.self c.exchange_free-seen.result c.exchange_free-seen.ensures.steps c.if-seen-eq0.false c.begin_notes.ensures.same c.note_lock.ensures at (c.contend-way.ensures.rival e (omega (arith, low)))
 ]

@@ -1,5 +1,9 @@
-use Rattle.qspin_queue.proofs.Turns.{front-waits, front-nodes, front-told}
-use Rattle.std.proofs.Common.{arith}
+use Rattle.qspin_queue.proofs.Turns.{heard-none, front-waits, front-nodes, front-told}
+use Rattle.std.proofs.Common.{ap, arith}
+use Rattle.lock_core.specs.Nestings.{waits_at, pauses_at}
+use Rattle.lock_core.specs.Handles.{view_of}
+use Rattle.qspin_word.proofs.Idling.{look-ready}
+use Rattle.qspin_queue.specs.Hands.{heard}
 use Rattle.qspin_queue.proofs.queue.wait_front.Goals as goal
 
 pub returns-then-load_locked-eq1-clause-waits : goal.returns-then-load_locked-eq1-clause-waits
@@ -10,3 +14,6 @@ returns-then-load_locked-eq1-clause-nodes g c = front-nodes c.args.site.now c.ar
 
 pub returns-then-load_locked-eq1-clause-told : goal.returns-then-load_locked-eq1-clause-told
 returns-then-load_locked-eq1-clause-told g c = front-told c.args.site.now c.args.lock g.I.Interrupt.silent (let there = c.requires.there in let eight = g.H.SpinHost.spin_eight in omega (arith, there, eight)) c.args.pass.now c.loop.pass c.load_locked.new.pass c.loop.invariant.idles c.load_locked.result c.requires.point c.load_locked.ensures.steps c.if-load_locked-eq1.true
+
+pub hit-requires : goal.hit-requires
+hit-requires g c = let d = c.loop.pass in record { ready = look-ready g.I.Interrupt.silent c.args.site.now c.args.lock c.args.pass.now d c.load_locked.new.pass (heard c.args.lock c.load_locked.result (view_of d)) c.requires.numbered (ap pauses_at c.requires.point) (ap waits_at c.requires.point) c.loop.invariant.idles c.load_locked.ensures.steps (heard-none c.args.lock c.load_locked.result (view_of d) c.if-load_locked-eq1.false) }

@@ -1,12 +1,11 @@
-use Rattle.std.proofs.Common.{sym, subst, arith}
-use Rattle.std.specs.Prelude.{IsSome}
-use Rattle.lock_core.specs.declared.pass.Face.{Face}
-use Rattle.qspin_word.proofs.Idling.{idles-then}
+use Rattle.std.proofs.Common.{ap, arith}
+use Rattle.lock_core.specs.Nestings.{waits_at, pauses_at}
+use Rattle.qspin_word.proofs.Idling.{idles-then, idles-ready}
 use Rattle.qspin_queue.proofs.Turns.{late-waits, late-nodes, late-idles, late-told}
 use Rattle.qspin_queue.proofs.queue.wait_successor.Goals as goal
 
 pub hit-requires : goal.hit-requires
-hit-requires g c = record { ready = let r = late-idles c.args.site.now c.args.lock g.I.Interrupt.silent c.load_successor-next.result c.args.pass.now c.loop.pass c.load_successor-next.new.pass c.requires.point c.requires.none c.loop.invariant.idles c.load_successor-next.ensures.steps c.if-next-ne0.false in record { own = r.own; numbered = subst (λ (f : Face). IsSome f.task) (sym r.face) c.requires.numbered; told = r.told } }
+hit-requires g c = record { ready = idles-ready g.I.Interrupt.silent c.args.site.now c.args.lock c.args.pass.now c.load_successor-next.new.pass c.requires.numbered (ap pauses_at c.requires.point) (ap waits_at c.requires.point) (late-idles c.args.site.now c.args.lock g.I.Interrupt.silent c.load_successor-next.result c.args.pass.now c.loop.pass c.load_successor-next.new.pass c.requires.point c.requires.none c.loop.invariant.idles c.load_successor-next.ensures.steps c.if-next-ne0.false) }
 
 pub loop-preserved : goal.loop-preserved
 loop-preserved g c = record { next = tt; finite = tt; idles = idles-then g.I.Interrupt.silent c.args.site.now c.args.pass.now c.load_successor-next.new.pass c.hit.new.pass (late-idles c.args.site.now c.args.lock g.I.Interrupt.silent c.load_successor-next.result c.args.pass.now c.loop.pass c.load_successor-next.new.pass c.requires.point c.requires.none c.loop.invariant.idles c.load_successor-next.ensures.steps c.if-next-ne0.false) c.hit.ensures.idles }

@@ -1,4 +1,4 @@
-use Rattle.std.proofs.Common.{ap, ◌+◌, ◌∙◌, arith, true, false}
+use Rattle.std.proofs.Common.{ap, inl, inr, ◌+◌, ◌∙◌, arith, true, false}
 use Rattle.lock_core.specs.declared.view.View.{View}
 use Rattle.lock_core.specs.Spins.{word_at}
 use Rattle.qspin_word.proofs.Refusing.{keeps-seen, saw-pending, saw-tail}
@@ -26,12 +26,14 @@ returns-else-seen-eq0-clause-refused g c = λ _. saw-pending c.args.lock c.args.
 
 pub returns-then-seen-eq0-clause-found : goal.returns-then-seen-eq0-clause-found
 returns-then-seen-eq0-clause-found g c = λ _. let v = c.args.pass.now.seat.me.0 in let m = c.fetch_set_pending-seen.new.pass.seat.me.0 in let u = c.clear_pending.new.pass.seat.me.0 in let set = c.fetch_set_pending-seen.ensures.steps in let cleared = c.clear_pending.ensures.steps in
-    let more = ap (λ (x : View _). x.steps) cleared.kept in first-rival (g.H.SpinHost.FIRST + word_at c.args.lock) v.view m.view u.view v.past m.past u.past c.fetch_set_pending-seen.result c.if-seen-lt-PENDING.false (ap (λ (x : View _). x.hand.task) set.kept) (ap (λ (x : View _). x.steps) set.kept) set.last c.fetch_set_pending-seen.ensures.found set.goes_on cleared.goes_on
+    let more = ap (λ (x : View _). x.steps) cleared.kept in first-rival c.args.lock (g.H.SpinHost.FIRST + word_at c.args.lock) v.view m.view u.view v.past m.past u.past c.fetch_set_pending-seen.result c.if-seen-lt-PENDING.false (ap (λ (x : View _). x.hand.task) set.kept) (ap (λ (x : View _). x.steps) set.kept) set.last c.fetch_set_pending-seen.ensures.found set.goes_on cleared.goes_on
+    (keeps-seen c.args.lock v.view c.fetch_set_pending-seen.result c.if-seen-lt-PENDING.false m.view set.kept) (inr (tail-point c.args.site.now c.args.lock c.fetch_set_pending-seen.result c.args.pass.now c.fetch_set_pending-seen.new.pass set c.if-seen-lt-PENDING.false c.if-seen-eq0.true))
     (ap (λ (x : View _). x.spin.saw) cleared.kept ∙ keeps-seen c.args.lock v.view c.fetch_set_pending-seen.result c.if-seen-lt-PENDING.false m.view set.kept) (omega (arith, more))
 
 pub returns-else-seen-eq0-clause-found : goal.returns-else-seen-eq0-clause-found
 returns-else-seen-eq0-clause-found g c = λ _. let v = c.args.pass.now.seat.me.0 in let m = c.fetch_set_pending-seen.new.pass.seat.me.0 in let set = c.fetch_set_pending-seen.ensures.steps in
-    first-rival (g.H.SpinHost.FIRST + word_at c.args.lock) v.view m.view m.view v.past m.past m.past c.fetch_set_pending-seen.result c.if-seen-lt-PENDING.false (ap (λ (x : View _). x.hand.task) set.kept) (ap (λ (x : View _). x.steps) set.kept) set.last c.fetch_set_pending-seen.ensures.found set.goes_on (λ p t. t)
+    first-rival c.args.lock (g.H.SpinHost.FIRST + word_at c.args.lock) v.view m.view m.view v.past m.past m.past c.fetch_set_pending-seen.result c.if-seen-lt-PENDING.false (ap (λ (x : View _). x.hand.task) set.kept) (ap (λ (x : View _). x.steps) set.kept) set.last c.fetch_set_pending-seen.ensures.found set.goes_on (λ p t. t)
+    (keeps-seen c.args.lock v.view c.fetch_set_pending-seen.result c.if-seen-lt-PENDING.false m.view set.kept) (inl (saw-pending c.args.lock v.view c.fetch_set_pending-seen.result c.if-seen-lt-PENDING.false m.view set.kept c.if-seen-eq0.false c.requires.out).out)
     (keeps-seen c.args.lock v.view c.fetch_set_pending-seen.result c.if-seen-lt-PENDING.false m.view set.kept) (omega arith)
 
 pub wait_unlocked-requires-clause-told : goal.wait_unlocked-requires-clause-told
