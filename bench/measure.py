@@ -1,11 +1,14 @@
-"""Runs a program on scripts of three shapes, and prints the time, the memory and, where valgrind is
-there, the instructions that it takes. With one task these don't vary from run to run. With more they
-go by which calls meet, so only a difference beyond that of several runs tells two programs apart.
+"""Runs a program on scripts of five shapes, and prints time, processor time, memory, switches from one
+thread to another and, where valgrind is there, instructions. A second program, if one is named, is run
+on the same scripts in turn with the first, and has a row below each of its rows.
 
-One task on one space, near 256 areas; 64 tasks on 8 spaces and 8 tables; and 64 tasks that map, unmap
-and touch the same 400 pages of one space. Of each shape scripts of several lengths are run, so that a
-cost that grows faster than the length shows. Beside them a script that the program generates is run,
-with its summary.
+With one task the instructions don't vary from run to run. With more they go by which calls meet, so
+only a difference beyond that of several runs tells two programs apart.
+
+One task on one space, near 256 areas; 64 tasks on 8 spaces and 8 tables; 64 tasks that map, unmap and
+touch the same 400 pages of one space; 64 tasks on one table; and 64 tasks that mostly read one space.
+Of each shape scripts of several lengths are run, so that a cost that grows faster than the length
+shows. Beside them a script that the program generates is run, with its summary.
 """
 import os
 import re
@@ -67,6 +70,16 @@ def full_space(number):
     ][(random >> 26) % 5]
 
 
+def one_table(number):
+    return f"a {[f'open {number % 65536}', f'get {number % 64}', f'dup {number % 32}', f'close {number * 7 % 64}'][number % 4]}"
+
+
+def mostly_read(number):
+    """Each twentieth call maps a page, and the others are faults."""
+    page = number * 7 % 250 * 2
+    return f"a map {page} 1 rw-" if number % 20 == 0 else f"a fault {page} {'rwx'[number % 3]}"
+
+
 def cut(head, tasks, call, size):
     """A script of about so many bytes, whose calls are dealt out to the tasks in equal parts."""
     lines = []
@@ -93,18 +106,21 @@ SHAPES = {
         size,
     ),
     "64 tasks, full space": lambda size: cut(["space a"], 64, full_space, size),
+    "64 tasks, 1 table": lambda size: cut(["table a"], 64, one_table, size),
+    "64 readers, 1 space": lambda size: cut(["space a"], 64, mostly_read, size),
 }
 
 
 def once(command, path):
-    """The seconds and the largest memory in KiB of one run."""
+    """The seconds of one run, its processor seconds, its largest memory in KiB, and its switches."""
     before = time.perf_counter()
     with open(path, "rb") as text, open(os.devnull, "wb") as sink:
         child = subprocess.Popen(command, stdin=text, stdout=sink)
         _, status, usage = os.wait4(child.pid, 0)
     if status:
         raise SystemExit(f"{command} ended with {status}")
-    return time.perf_counter() - before, usage.ru_maxrss
+    switches = usage.ru_nvcsw + usage.ru_nivcsw
+    return time.perf_counter() - before, usage.ru_utime + usage.ru_stime, usage.ru_maxrss, switches
 
 
 def instructions(command, path):
@@ -117,26 +133,35 @@ def instructions(command, path):
     return re.search(rb"Collected : (\d+)", told.stderr).group(1).decode()
 
 
-def report(shape, size, command, path):
-    """Runs the command some times, and prints a row."""
-    runs = sorted(once(command, path) for _ in range(RUNS))
-    memory = max(m for _, m in runs)
-    best, median = runs[0][0] * 1000, runs[RUNS // 2][0] * 1000
-    count = instructions(command, path)
-    print(f"{shape:<22} {size:>9} {best:>9.1f} {median:>10.1f} {memory:>8} {count:>13}")
+def report(shape, size, programs, options, path):
+    """Runs each program some times, in turn with the others, and prints a row for each."""
+    runs = {name: [] for name in programs}
+    for _ in range(RUNS):
+        for name, program in programs.items():
+            runs[name].append(once([program, *options], path))
+    for name, program in programs.items():
+        seconds, processor, memory, switches = zip(*runs[name])
+        median = sorted(seconds)[RUNS // 2] * 1000
+        mean = sum(processor) / RUNS * 1000
+        count = instructions([program, *options], path)
+        print(
+            f"{shape:<22} {size:>9} {name:<8} {min(seconds) * 1000:>8.1f} {median:>9.1f} {mean:>12.1f} "
+            f"{max(memory):>8} {sum(switches) // RUNS:>8} {count:>13}"
+        )
 
 
 def main():
-    program = sys.argv[1]
-    head = ["shape", "bytes", "best ms", "median ms", "KiB", "instructions"]
-    print("{:<22} {:>9} {:>9} {:>10} {:>8} {:>13}".format(*head))
+    programs = dict(zip(["program", "plain"], sys.argv[1:]))
+    print(f"load at the start: {os.getloadavg()[0]:.2f}; processors: {os.cpu_count()}; runs: {RUNS}")
+    head = ["shape", "bytes", "", "best ms", "median ms", "processor ms", "KiB", "switches", "instructions"]
+    print("{:<22} {:>9} {:<8} {:>8} {:>9} {:>12} {:>8} {:>8} {:>13}".format(*head))
     for shape, script in SHAPES.items():
         for size in SIZES:
             with tempfile.NamedTemporaryFile("w", suffix=".script") as file:
                 file.write(script(size))
                 file.flush()
-                report(shape, size, [program], file.name)
-    report("generated, summary", "", [program, "--generate", "7", "--summary"], os.devnull)
+                report(shape, size, programs, [], file.name)
+    report("generated, summary", "", programs, ["--generate", "7", "--summary"], os.devnull)
 
 
 main()
