@@ -3,7 +3,7 @@ use Rattle.std.proofs.Common.{◌≡◌, ℕ, suc, ◌+◌, ◌<◌, ◌≤◌, 
 use Rattle.std.specs.Prelude.{Result, Ok, Err, IfOk}
 use Rattle.word_bits.specs.Objects.{Obj}
 use Rattle.word_bits.specs.Histories.{Plan}
-use Rattle.cpu_task.specs.Counting.{one_more, rescheds_after, slept}
+use Rattle.cpu_task.specs.Counting.{one_more, rescheds_after, slept, Dozes, DozesOnce, SleepsInTurns}
 use Rattle.lock_core.specs.declared.how.How.{How}
 use Rattle.lock_core.specs.declared.how.How.TheVariants.{Fast, Spun, Slept}
 use Rattle.lock_core.specs.declared.pass.Pass.{Pass}
@@ -20,7 +20,7 @@ use Rattle.mutex_word.specs.Tries.{CameTo, FindsOpen, IsOpen}
 use Rattle.osq_unqueue.specs.Rising.{Rises}
 use Rattle.mutex_slow.specs.declared.view.MutexHand.{MutexHand}
 use Rattle.mutex_slow.specs.Mutexes.{V, owner_at, turned}
-use Rattle.mutex_slow.specs.Places.{CountsBy, Dozes, DozesOnce, GotInLine, SleepsInTurns, StepsOn, TakesOpen, line_of, seen_of}
+use Rattle.mutex_slow.specs.Places.{CountsBy, GotInLine, StepsOn, TakesOpen, line_of, seen_of}
 
 -- the pass's last step found the word, and left the pass holding
 pub takes-open : (v u : V) (p q : List Moment) (task : Option ℕ) → task ≡ v.hand.task → u.hand.task ≡ v.hand.task → u.hand.held ≡ Alone → v.steps < u.steps → IsOwnStep u q → GoesOn p q → FindsOpen owner_at task q → TakesOpen (shown line_of v.fronts v p) (shown line_of u.fronts u q)

@@ -16,7 +16,7 @@ use Rattle.lock_core.specs.declared.view.Held.TheVariants.{No, Alone}
 use Rattle.lock_core.specs.declared.layout.TheConstants.{LOCK_WORDS, SPIN_WORDS}
 use Rattle.lock_core.specs.Records.{bit}
 use Rattle.lock_core.specs.Layout.{SiteWords, fresh, site, lay, width}
-use Rattle.lock_core.specs.Views.{SpinHolds, SpinStays, hand_of, spin_part, part_with, no_part, held_of, handed, seated, ticked, first, split_off, merged, spent, stranger, named_of, is_number, HoldsNothing, held_weight}
+use Rattle.lock_core.specs.Views.{SpinHolds, SpinRests, SpinStays, hand_of, spin_part, part_with, no_part, held_of, handed, seated, ticked, first, split_off, merged, spent, stranger, named_of, is_number, HoldsNothing, held_weight}
 use Rattle.lock_core.specs.Sites.{HandGoes, HoldGoes, SiteKept}
 use Rattle.lock_core.specs.Moves.{Goes, KeepsHold, SiteMove, TriesWhere}
 use Rattle.lock_core.specs.MoveLaws.{hand-stays, saw-stays, tries-go, set-moves, hold-moved, spin-moved}
@@ -42,11 +42,12 @@ use Rattle.wait_list.specs.ListLaws.{none-change, list-spins, list-keeps, list-l
 use Rattle.wake_duty.specs.declared.view.Vigil.TheVariants.{Absent, Awake, Tried}
 use Rattle.wake_duty.specs.declared.view.Duty.TheVariants.{NoDuty, Owing}
 use Rattle.wake_duty.specs.declared.view.WakeHand.{WakeHand}
-use Rattle.wake_duty.specs.Wakes.{WAKE_WORDS, WakeKept, IsQuiet, Sets, Drowses, wake_part, wake_word, with_hand, waked, duty_of, waits}
-use Rattle.wake_duty.specs.WakeLaws.{wake-opens, wake-snoc, wake-quiet, waits-looking, waits-drowsing, vigil-looking}
+use Rattle.wake_duty.specs.Wakes.{WAKE_WORDS, WakeKept, IsQuiet, Sets, Drowses, wake_word, with_hand, waked, duty_of, waits, setting, drowsing}
+use Rattle.wake_duty.specs.WakeLaws.{wake-opens, wake-snoc, wake-quiet, wake-sets, wake-drowses, waits-looking, waits-drowsing, vigil-looking}
+use Rattle.wake_duty.specs.WakeSteps.{HasTried, knowing}
 use Rattle.mutex_slow.specs.DutyLaws.{wparted, some-of, same-holders, duty-stays, duty-renames, duty-spins, duty-fails, duty-takes, duty-frees, duty-hands, duty-enters, duty-leaves, duty-looks}
 use Rattle.mutex_slow.specs.StandingLaws.{StandingGoes, chosen-code, chosen-debt, goes-clear, goes-drowses, goes-fails, goes-looks, goes-same, goes-sets, goes-vigil}
-use Rattle.mutex_slow.specs.Mutexes.{V, HasLock, with_wake, wake_of, wake_words, wakes_at, idle, list_of, IsOut, Coupled, MutexKept, Kept, Leaves, LeavesToFirst, PicksFirst, Asks, HasHandoff, IsFirstTask, AnswersHandoff, TookUp, IsOwnChange, IsUnpicked, MutexMoves, entered, owner_at, list_at, spin_words, owner_in, list_words, may_free, may_miss, rests, may_own, turned, with_list, may_change, is_code, saw_first}
+use Rattle.mutex_slow.specs.Mutexes.{V, HasLock, HasChosen, after_set, after_swap, vigil_of, with_wake, wake_words, wakes_at, idle, list_of, IsOut, Coupled, MutexKept, Kept, Leaves, LeavesToFirst, PicksFirst, Asks, HasHandoff, IsFirstTask, AnswersHandoff, TookUp, IsOwnChange, IsUnpicked, MutexMoves, entered, owner_at, list_at, spin_words, owner_in, list_words, may_free, may_miss, rests, may_own, turned, with_list, may_change, is_code, saw_first}
 use Rattle.mutex_slow.specs.CoupledLaws.{Apart, coupled-stays, coupled-hands, coupled-seats, coupled-spins, coupled-fails, coupled-takes-free, coupled-takes-picked, coupled-asks, coupled-frees, coupled-hands-over, coupled-flags, coupled-clears, coupled-enters, coupled-leaves, coupled-opens, coupled-snoc, idle-ok, flagged, not-in, is-in, locked-free}
 
 pub spin-inside : 0 + SPIN_WORDS ≤ LOCK_WORDS
@@ -522,11 +523,11 @@ module _ {Call : Type 0} (o : Obj Call) (size : ℕ) where
   mutex-own-may k ws vs id n v Flag r at may = tt
   mutex-own-may k ws vs id n v Clear r at may = ((r.1.coupled.each id v at).empties may.0).3
 
-  pub mutex-wake : (k : Plan) (ws : List ℕ) (vs : List V) (l : List Waiter) → Queue k ws vs l → WakeKept (wake_words ws) l (map (wake_part wake_of) vs) × (LOCK_WORDS ≤ length ws)
-  mutex-wake k ws vs l r = (r.wake, let w = r.wide in omega (arith, w))
+  pub mutex-bits : (k : Plan) (ws : List ℕ) (vs : List V) (l : List Waiter) (t : ℕ) → Queue k ws vs l → t < MAX_TASKS → get_or ws (wakes_at + 8 * t) 0 ≤ 1
+  mutex-bits k ws vs l t r few = let small = r.wake.bits t few in let word = part-at ws wakes_at WAKE_WORDS (8 * t) (omega (arith, few)) in omega (arith, small, word)
 
   -- a step on a wake word
-  pub mutex-wakes : (k : Plan) (ws : List ℕ) (vs : List V) (l : List Waiter) (id t n : ℕ) (v : V) (b : WakeHand) → Queue k ws vs l → get_elem? vs id ≡ some v → t < MAX_TASKS → Sets t n (wparted v) b ⊎ Drowses t (wake_word (wake_words ws) t) n (wparted v) b
+  mutex-wakes : (k : Plan) (ws : List ℕ) (vs : List V) (l : List Waiter) (id t n : ℕ) (v : V) (b : WakeHand) → Queue k ws vs l → get_elem? vs id ≡ some v → t < MAX_TASKS → Sets t n (wparted v) b ⊎ Drowses t (wake_word (wake_words ws) t) n (wparted v) b
       → WakeKept (set (wake_words ws) (8 * t) n) l (set (map wparted vs) id (with_hand (wparted v) b)) → Go k id ws vs (set ws (wakes_at + 8 * t) n) (set vs id (waked with_wake v b))
   mutex-wakes k ws vs l id t n v b r at few kind wake = let w : V = waked with_wake v b in let us : List ℕ = set ws (wakes_at + 8 * t) n in let same : site k us ≡ site k ws = ap (lay k) (drop-set-lt LOCK_WORDS ws (wakes_at + 8 * t) n (omega (arith, few))) in let ok = r.coupled.each id v at in
       goes-on k ws vs l id v r at us (set vs id w) Stay (length-set ws (wakes_at + 8 * t) n ∙ r.wide)
@@ -558,3 +559,14 @@ module _ {Call : Type 0} (o : Obj Call) (size : ℕ) where
 
       joins-awake : v.ext.wake.vigil ≡ Awake → HasLock v → b.vigil ≡ Awake
       joins-awake is has = ⊎_elim (λ (s : Sets t n (wparted v) b). ap (λ (z : WakeHand). z.vigil) s.2 ∙ is) (λ (d : Drowses t (wake_word (wake_words ws) t) n (wparted v) b). locked-free v d.1 has) kind
+
+  -- the task that a pass has chosen is woken
+  pub mutex-sets : (k : Plan) (ws : List ℕ) (vs : List V) (l : List Waiter) (id t : ℕ) (v : V) → Queue k ws vs l → get_elem? vs id ≡ some v → HasChosen v.ext t → Go k id ws vs (set ws (wakes_at + 8 * t) 1) (set vs id (knowing v (after_set v.ext t)))
+  mutex-sets k ws vs l id t v r at chosen = let b : WakeHand = setting v.ext.wake in let kind : Sets t 1 (wparted v) b = (chosen.0, refl, refl) in mutex-wakes k ws vs l id t 1 v b r at chosen.1 (inl kind) (wake-sets (wake_words ws) l (map wparted vs) id (wparted v) r.wake (at_map wparted vs id v at) t 1 b kind)
+
+  -- a waiter swaps its own wake word for 0
+  pub mutex-swaps : (k : Plan) (ws : List ℕ) (vs : List V) (l : List Waiter) (id t : ℕ) (v : V) → Queue k ws vs l → get_elem? vs id ≡ some v → v.hand.task ≡ Some t → t < MAX_TASKS → SpinRests v.spin → HasTried vigil_of v
+      → Go k id ws vs (set ws (wakes_at + 8 * t) 0) (set vs id (knowing v (after_swap v.ext (get_or ws (wakes_at + 8 * t) 0))))
+  mutex-swaps k ws vs l id t v r at mine few rests tried = let n : ℕ = get_or ws (wakes_at + 8 * t) 0 in let old : ℕ = wake_word (wake_words ws) t in let word : old ≡ n = part-at ws wakes_at WAKE_WORDS (8 * t) (omega (arith, few)) in let b : WakeHand = drowsing n v.ext.wake in
+      let kind : Drowses t old 0 (wparted v) b = (mine, ap holds_at rests, tried, refl, ap (λ (z : ℕ). drowsing z v.ext.wake) (sym word)) in
+      mutex-wakes k ws vs l id t 0 v b r at few (inr kind) (wake-drowses (wake_words ws) l (map wparted vs) id (wparted v) r.wake (at_map wparted vs id v at) t 0 b few kind)

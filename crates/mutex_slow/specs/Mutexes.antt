@@ -17,7 +17,6 @@ use Rattle.lock_core.specs.Moves.{SiteMove}
 use Rattle.lock_core.specs.SpinFrames.{when}
 use Rattle.lock_core.specs.Spins.{SpinKept, SpinMoves, holds_in}
 use Rattle.lock_core.specs.Records.{bit}
-use Rattle.lock_core.specs.Tallies.{raised}
 use Rattle.lock_core.specs.Totals.{total}
 use Rattle.lock_core.specs.Parts.{Each}
 use Rattle.mutex_word.specs.declared.host.Turn.{Turn}
@@ -35,7 +34,8 @@ use Rattle.wake_duty.specs.declared.view.Duty.TheVariants.{NoDuty, Owing, Chosen
 use Rattle.wake_duty.specs.declared.view.Vigil.{Vigil}
 use Rattle.wake_duty.specs.declared.view.Vigil.TheVariants.{Absent, Awake, Tried}
 use Rattle.wake_duty.specs.declared.view.WakeHand.{WakeHand}
-use Rattle.wake_duty.specs.Wakes.{WAKE_WORDS, WakeKept, wake_part, wake_word, no_wake, waits, owed, chose_any, duty_of, failing, looking}
+use Rattle.wake_duty.specs.Wakes.{WAKE_WORDS, WakeKept, wake_part, no_wake, waits, owed, chose_any, duty_of, failing, looking, setting, drowsing}
+use Rattle.wake_duty.specs.WakeMoves.{ChoosesFirst, DozesOff, SetsChosen, WordGoes}
 use Rattle.mutex_slow.specs.declared.view.MutexHand.{MutexHand}
 use Rattle.mutex_slow.specs.declared.view.Point.{Point}
 use Rattle.mutex_slow.specs.declared.view.Point.TheVariants.{Rest, Joins, Empties}
@@ -104,6 +104,20 @@ wake_of e = e.wake
 
 abbrev pub with_wake : MutexHand → WakeHand → MutexHand
 with_wake e w = record e { wake = w }
+
+abbrev pub vigil_of : MutexHand → Vigil
+vigil_of e = e.wake.vigil
+
+-- it has chosen this task, and hasn't set its wake word
+abbrev pub HasChosen : MutexHand → ℕ → Type 0
+HasChosen e t = (e.wake.duty ≡ Chosen t) × (t < MAX_TASKS)
+
+-- what it knows once it has set the wake word of the task that it had chosen, or has swapped its own, which had this number
+abbrev pub after_set : MutexHand → ℕ → MutexHand
+after_set e t = with_wake e (setting e.wake)
+
+abbrev pub after_swap : MutexHand → ℕ → MutexHand
+after_swap e n = with_wake e (drowsing n e.wake)
 
 -- it has no wake to do: it didn't end a hold with the flag of the waiters without looking for a first waiter since, and has chosen none whose wake word it hasn't set
 abbrev pub OwesNoWake : V → Type 0
@@ -230,27 +244,13 @@ IsOwnChange id vs n Stay = Unit {0}
 IsOwnChange id vs n (Enter w) = (v : V) × (get_elem? vs id ≡ some v) × (v.hand.task ≡ Some w.task) × (v.hand.held ≡ No) × (w.writer ≡ true)
 IsOwnChange id vs n (Leave t) = (v : V) × (get_elem? vs id ≡ some v) × (v.hand.task ≡ Some t) × IsUnpicked n t
 
--- what a step of a pass with this hand makes of a wake word: it stays; or it is set, and the pass had chosen its task; or it is 0, and it is the own task's, which waits without the wait lock and isn't to try
-abbrev pub WordGoes : (words words' : List ℕ) (locked : ℕ) (h : Hand) (s : Standing) (t : ℕ) → Type 0
-WordGoes words words' locked h s t = (wake_word words' t ≡ wake_word words t)
-    ⊎ ((wake_word words' t ≡ 1) × (s.chosen ≡ t + 1))
-    ⊎ ((wake_word words' t ≡ 0) × (h.task ≡ Some t) × (locked ≡ 0) × (s.queued ≡ 1) × (s.awake ≡ 0))
-
--- with the wait lock a pass chooses the first waiter of this list, or nobody where nobody waits
-abbrev pub ChoosesFirst : (locked : ℕ) (l : List Waiter) (chosen : ℕ) → Type 0
-ChoosesFirst locked l chosen = (locked ≡ 1) × (chosen ≡ first_code l)
-
 -- it owed a choice with the flag of the waiters, or ends its hold by this step
 abbrev pub MayChoose : (h h' : Hand) (s : Standing) → Type 0
 MayChoose h h' s = ((s.debt ≡ 1) × (h.freed % 2 ≡ 1)) ⊎ ((h.held ≡ Alone) × (h'.held ≡ No))
 
 -- the wake word of the task that it had chosen is set
-abbrev pub SetsChosen : (words' : List ℕ) (s s' : Standing) → Type 0
-SetsChosen words' s s' = (s'.chosen ≡ 0) × (s'.wakes ≡ raised true s.wakes) × ((t : ℕ) × (s.chosen ≡ t + 1) × (wake_word words' t ≡ 1))
-
--- it falls asleep: its own wake word was 0, and it waits without the wait lock and isn't to try
-abbrev pub DozesOff : (words : List ℕ) (locked : ℕ) (h : Hand) (s s' : Standing) → Type 0
-DozesOff words locked h s s' = ((t : ℕ) × (h.task ≡ Some t) × (wake_word words t ≡ 0)) × (locked ≡ 0) × (s.queued ≡ 1) × (s.awake ≡ 0) × (s'.awake ≡ 0) × (s'.dozes ≡ raised true s.dozes)
+abbrev pub EndsChoice : (words' : List ℕ) (s s' : Standing) → Type 0
+EndsChoice words' s s' = (s'.chosen ≡ 0) × SetsChosen words' (λ t. s.chosen ≡ t + 1) s.wakes s'.wakes
 
 -- a try failed with the wait lock: the word names a task, and doesn't pick the own one
 abbrev pub FailsUnderLock : (n locked : ℕ) → Hand → Type 0
@@ -258,13 +258,13 @@ FailsUnderLock n locked h = (locked ≡ 1) × (8 ≤ n) × ((t : ℕ) × (h.task
 
 -- What a step of a pass does to the wake words, to what it owes and to how its task waits; `n` is the owner word, `l` the list and `c` its change, `locked` is 1 where the pass had the wait lock, `h` and `s` stand before the step. Nobody owes but by ending a hold, and nobody chooses but to end a debt with the flag of the waiters, or by the step that ends its hold. Such a debt ends by a choice of the first waiter, and a choice by the store of its wake word. A task falls asleep only after it isn't to try any more, and so it is by a try that failed under the wait lock, or by leaving. It is to try once it enters, or once it has made a step without the wait lock by which it didn't fall asleep.
 pub record WakesGo (n : ℕ) (l : List Waiter) (c : Change) (words words' : List ℕ) (locked : ℕ) (h h' : Hand) (s s' : Standing) : Type 0 where
-  pub words_go : (t : ℕ) → t < MAX_TASKS → WordGoes words words' locked h s t
+  pub words_go : (t : ℕ) → t < MAX_TASKS → WordGoes words words' h.task locked s.queued s.awake (λ u. s.chosen ≡ u + 1) t
   pub owes : s.debt ≡ 0 → s'.debt ≡ 1 → (h.held ≡ Alone) × (h'.held ≡ No)
   pub pays : s.debt ≡ 1 → h.freed % 2 ≡ 1 → (s'.debt ≡ 1) ⊎ ChoosesFirst locked l s'.chosen
   pub chooses : s'.chosen ≢ s.chosen → s'.chosen ≢ 0 → ChoosesFirst locked l s'.chosen × MayChoose h h' s
-  pub sets : s'.chosen ≢ s.chosen → s.chosen ≢ 0 → SetsChosen words' s s'
-  pub wakes : s'.wakes ≢ s.wakes → SetsChosen words' s s'
-  pub dozes : s'.dozes ≢ s.dozes → DozesOff words locked h s s'
+  pub sets : s'.chosen ≢ s.chosen → s.chosen ≢ 0 → EndsChoice words' s s'
+  pub wakes : s'.wakes ≢ s.wakes → EndsChoice words' s s'
+  pub dozes : s'.dozes ≢ s.dozes → DozesOff words h.task locked s.queued s.awake s'.awake s.dozes s'.dozes
   pub enters : entered c ≡ 1 → s'.awake ≡ 1
   pub rouses : s.awake ≡ 0 → s'.awake ≡ 1 → (entered c ≡ 1) ⊎ ((locked ≡ 0) × (s'.dozes ≡ s.dozes))
   pub tries : s.awake ≡ 1 → s'.awake ≡ 0 → (left c ≡ 1) ⊎ FailsUnderLock n locked h

@@ -1,7 +1,7 @@
 -- Where a pass stands in a call on a mutex, and what callers of any lock see of it.
 use Rattle.std.specs.Prelude.{◌≡◌, ℕ, ◌+◌, ◌<◌, ◌≤◌, ◌/◌, ◌%◌, ◌⊎◌, true, false, Option, Some, None}
 use Rattle.word_bits.specs.OwnerWord.{task_code}
-use Rattle.cpu_task.specs.Counting.{one_more, slept}
+use Rattle.cpu_task.specs.Counting.{SleepsInTurns, one_more}
 use Rattle.osq_unqueue.specs.Rising.{Rises}
 use Rattle.lock_core.specs.declared.view.Line.{Line}
 use Rattle.lock_core.specs.declared.pass.Pass.{Pass}
@@ -24,8 +24,7 @@ use Rattle.mutex_word.specs.Tries.{FindsUnasked, IsOpen}
 use Rattle.wake_duty.specs.declared.view.Duty.TheVariants.{Owing}
 use Rattle.wake_duty.specs.declared.view.Vigil.TheVariants.{Tried}
 use Rattle.wake_duty.specs.Wakes.{waits}
-use Rattle.wake_duty.specs.WakeSteps.{HasChosen}
-use Rattle.mutex_slow.specs.Mutexes.{V, OwesNoWake, list_at, owner_at, wake_of}
+use Rattle.mutex_slow.specs.Mutexes.{V, HasChosen, OwesNoWake, list_at, owner_at}
 use Rattle.mutex_slow.specs.Stated.{HasWaitLock}
 
 -- how a pass has stood in line
@@ -66,7 +65,7 @@ task_of (Some w) = Some w.task
 -- it has a wake to do: of this task, whose wake word it is to set, or of none
 abbrev pub IsToWake : V → Option ℕ → Type 0
 IsToWake v None = OwesNoWake v
-IsToWake v (Some t) = HasChosen wake_of v t
+IsToWake v (Some t) = HasChosen v.ext t
 
 module _ {R O C : Type 0} where
   -- a pass of the site, as callers of any lock see it
@@ -185,26 +184,6 @@ pub record WentInLine (v u : Shown) : Type 0 where
   pub entries : v.spin.entries < u.spin.entries
   pub fronts : u.fronts ≡ v.fronts
   pub few : u.hand.misses ≤ v.hand.misses + 1
-
--- a CPU slept so many times at most
-pub record SleepsAtMost (turns sleeps sleeps' : ℕ) : Type 0 where
-  pub times : ℕ
-  pub few : times ≤ turns
-  pub is : sleeps' ≡ slept times sleeps
-
--- the CPU slept once at most for each time that the pass took the wait lock anew
-abbrev pub SleepsInTurns : (entries entries' sleeps sleeps' : ℕ) → Type 0
-SleepsInTurns entries entries' sleeps sleeps' = (turns : ℕ) × (entries' ≡ entries + turns) × SleepsAtMost turns sleeps sleeps'
-
--- the CPU slept as often as the pass fell asleep: both counts rose by one for each time, until they stand at the last value of a u64
-pub record Dozes (sleeps sleeps' dozes dozes' : ℕ) : Type 0 where
-  pub times : ℕ
-  pub asleep : sleeps' ≡ slept times sleeps
-  pub counted : dozes' ≡ slept times dozes
-
--- so they did by one at most
-abbrev pub DozesOnce : (sleeps sleeps' dozes dozes' : ℕ) → Type 0
-DozesOnce sleeps sleeps' dozes dozes' = ((sleeps' ≡ sleeps) × (dozes' ≡ dozes)) ⊎ ((sleeps' ≡ one_more sleeps) × (dozes' ≡ one_more dozes))
 
 -- what a call that had appended itself counted on its CPU: it took the wait lock once, and once more behind each turn in which it slept or was woken before; before, the CPU had answered that it needs rescheduling
 abbrev pub CountsInLine : (sleeps sleeps' rescheds rescheds' : ℕ) → Shown → Shown → Type 0

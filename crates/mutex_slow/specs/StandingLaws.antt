@@ -3,7 +3,6 @@ use Rattle.std.proofs.Common.{◌≡◌, ◌≢◌, ℕ, zero, suc, ◌+◌, ◌
 use mathlib.Core.Logic.{dite}
 use native.Mathlib.Decide.{ℕ_discrete}
 use Rattle.word_bits.specs.declared.TheConstants.{MAX_TASKS}
-use Rattle.lock_core.specs.declared.view.Hand.{Hand}
 use Rattle.lock_core.specs.declared.view.Held.TheVariants.{No, Alone}
 use Rattle.lock_core.specs.Records.{bit}
 use Rattle.lock_core.specs.Spins.{holds_in}
@@ -19,7 +18,8 @@ use Rattle.wake_duty.specs.declared.view.Vigil.{Vigil}
 use Rattle.wake_duty.specs.declared.view.Vigil.TheVariants.{Absent, Awake, Tried}
 use Rattle.wake_duty.specs.declared.view.WakeHand.{WakeHand}
 use Rattle.wake_duty.specs.Wakes.{WAKE_WORDS, wake_word, owed, chose_any, choosing, duty_of, foiled, roused, failing, looking, setting, drowsing}
-use Rattle.mutex_slow.specs.Mutexes.{V, HasLock, OwesNoWake, ChoosesFirst, FailsUnderLock, IsUnpicked, MayChoose, SetsChosen, WakesGo, WordGoes, awake_bit, chosen_code, debt_of, entered, left, standing_of}
+use Rattle.wake_duty.specs.WakeMoves.{ChoosesFirst, WordGoes}
+use Rattle.mutex_slow.specs.Mutexes.{V, HasLock, OwesNoWake, FailsUnderLock, IsUnpicked, MayChoose, EndsChoice, WakesGo, awake_bit, chosen_code, debt_of, entered, left, standing_of}
 use Rattle.mutex_slow.specs.DutyLaws.{choosing-or}
 
 -- what a step does by which this view becomes that one
@@ -152,15 +152,18 @@ module _ (n : ℕ) (l : List Waiter) (words : List ℕ) (v u : V) (t m : ℕ) (f
   word-else s other = get_or-set_other words (8 * t) (8 * s) m 0 (λ e. other (omega (arith, e)))
 
   -- a step on the wake word of this task leaves all others
-  one-word : (h : Hand) → WordGoes words (set words (8 * t) m) (holds_in v.spin) h (standing_of v.ext) t → (s : ℕ) → WordGoes words (set words (8 * t) m) (holds_in v.spin) h (standing_of v.ext) s
-  one-word h mine s = dite (ℕ_discrete s t) (λ same. subst (WordGoes words (set words (8 * t) m) (holds_in v.spin) h (standing_of v.ext)) (sym same) mine) (λ other. inl (word-else s other))
+  abbrev WordStep : ℕ → Type 0
+  WordStep = WordGoes words (set words (8 * t) m) v.hand.task (holds_in v.spin) (bit v.ext.queued) (awake_bit v.ext.wake.vigil) (λ u. chosen_code v.ext.wake.duty ≡ u + 1)
+
+  one-word : WordStep t → (s : ℕ) → WordStep s
+  one-word mine s = dite (ℕ_discrete s t) (λ same. subst WordStep (sym same) mine) (λ other. inl (word-else s other))
 
   -- the task that was chosen is woken
   pub goes-sets : m ≡ 1 → v.ext.wake.duty ≡ Chosen t → u.ext.wake ≡ setting v.ext.wake → StandingGoes n l Stay words (set words (8 * t) m) v u
   goes-sets one duty wake = let debt : debt_of u.ext.wake.duty ≡ 0 = ap (λ (z : WakeHand). debt_of z.duty) wake in let was : debt_of v.ext.wake.duty ≡ 0 = ap debt_of duty in let none : chosen_code u.ext.wake.duty ≡ 0 = ap (λ (z : WakeHand). chosen_code z.duty) wake in
       let chosen : chosen_code v.ext.wake.duty ≡ t + 1 = ap chosen_code duty in let awake : awake_bit u.ext.wake.vigil ≡ awake_bit v.ext.wake.vigil = ap (λ (z : WakeHand). awake_bit z.vigil) wake in
-      let done : SetsChosen (set words (8 * t) m) (standing_of v.ext) (standing_of u.ext) = (none, ap (λ (z : WakeHand). z.wakes) wake, (t, chosen, word-here ∙ one)) in record {
-        words_go = λ s small. one-word v.hand (inr (inl (word-here ∙ one, chosen))) s;
+      let done : EndsChoice (set words (8 * t) m) (standing_of v.ext) (standing_of u.ext) = (none, (ap (λ (z : WakeHand). z.wakes) wake, (t, chosen, word-here ∙ one))) in record {
+        words_go = λ s small. one-word (inr (inl (word-here ∙ one, chosen))) s;
         owes = λ e e'. absurd (omega (arith, debt, e'));
         pays = λ e odd. absurd (omega (arith, was, e));
         chooses = λ other some. absurd (some none);
@@ -179,8 +182,8 @@ module _ (n : ℕ) (l : List Waiter) (words : List ℕ) (v u : V) (t m : ℕ) (f
       before : awake_bit v.ext.wake.vigil ≡ 0
       before = ap awake_bit tried.1
 
-      words_go : (s : ℕ) → s < MAX_TASKS → WordGoes words (set words (8 * t) m) (holds_in v.spin) v.hand (standing_of v.ext) s
-      words_go s small = one-word v.hand (inr (inr (word-here ∙ none, mine, out, queued, before))) s
+      words_go : (s : ℕ) → s < MAX_TASKS → WordStep s
+      words_go s small = one-word (inr (inr (word-here ∙ none, mine, out, queued, before))) s
 
       by-word : (old : ℕ) → wake_word words t ≡ old → u.ext.wake ≡ drowsing old v.ext.wake → StandingGoes n l Stay words (set words (8 * t) m) v u
       by-word zero was is = let debt = ap (λ (z : WakeHand). debt_of z.duty) is in let chosen = ap (λ (z : WakeHand). chosen_code z.duty) is in let awake : awake_bit u.ext.wake.vigil ≡ awake_bit v.ext.wake.vigil = ap (λ (z : WakeHand). awake_bit z.vigil) is in record {

@@ -9,8 +9,8 @@ ghost use Rattle.lock_core.specs.Handles.{view_of, hand_in, task_in, held_in, Si
 ghost use Rattle.lock_core.specs.Tallies.{raised};
 ghost use Rattle.lock_core.specs.Shown.{FindsSince};
 ghost use Rattle.word_bits.specs.OwnerWord.{task_code};
-ghost use Rattle.wake_duty.specs.WakeSteps.{HasChosen, HasTried};
-ghost use Rattle.mutex_slow.specs.Mutexes.{OwesNoWake, list_at, owner_at, wake_of};
+ghost use Rattle.wake_duty.specs.WakeSteps.{HasTried};
+ghost use Rattle.mutex_slow.specs.Mutexes.{HasChosen, OwesNoWake, list_at, owner_at, vigil_of};
 ghost use Rattle.qspin_word.specs.Ways.{SpinGained};
 ghost use Rattle.mutex_slow.specs.Places.{seen_of, StepsOn, TakesAlone, TakesOpen, KeepsHand, KeepsMisses, KeepsFronts, StandsSame, IsOutside, IsInLine, HasFailed, OwesWake, IsToWake, KeepsWakes, SetsNoWord, Wakes, dozes_of, task_of, IsFreed, EndsUnasked, FindsAsked, NamesFirst};
 
@@ -240,7 +240,7 @@ pub fn choose<O: Object>(site: &Site<MutexRule<O>>, pass: &mut Pass<MutexRule<O>
 pub fn set<O: Object>(site: &Site<MutexRule<O>>, pass: &mut Pass<MutexRule<O>>, target: u32)
     requires own { SitsAt site.now pass.old }
     requires outside { IsOutside (view_of pass.old) }
-    requires chosen { HasChosen wake_of (view_of pass.old) target }
+    requires chosen { HasChosen (view_of pass.old).ext target }
     ensures on { StepsOn site.now pass.old pass.new }
     ensures outside { IsOutside (view_of pass.new) }
     ensures clear { OwesNoWake (view_of pass.new) }
@@ -258,7 +258,7 @@ pub fn drowse<O: Object>(site: &Site<MutexRule<O>>, pass: &mut Pass<MutexRule<O>
     requires numbered { IsSome (task_in pass.old) }
     requires unspun { SpinRests (view_of pass.old).spin }
     requires listed { IsInLine (view_of pass.old) }
-    requires tried { HasTried wake_of (view_of pass.old) }
+    requires tried { HasTried vigil_of (view_of pass.old) }
     ensures on { StepsOn site.now pass.old pass.new }
     ensures listed { IsInLine (view_of pass.new) }
     ensures hand { KeepsHand pass.old pass.new }

@@ -2,17 +2,17 @@
 ghost use Rattle.std.specs.Prelude.{◌<◌};
 ghost use Rattle.word_bits.specs.LockWords.{owned};
 ghost use Rattle.lock_core.specs.SpinTables.{one-some, one-eight};
-ghost use Rattle.mutex_slow.specs.Mutexes.{Kept, MutexMoves, idle, list_at, list_of, may_change, may_free, may_miss, may_own, owner_at, rests, saw_first, turned, uncounted, standing, wake_of, wakes_at, with_list, with_wake};
+ghost use Rattle.mutex_slow.specs.Mutexes.{Kept, MutexMoves, idle, list_at, list_of, may_change, may_free, may_miss, may_own, owner_at, rests, saw_first, turned, uncounted, standing, vigil_of, wakes_at, with_list, HasChosen, after_set, after_swap};
 ghost use Rattle.mutex_slow.specs.Mutexes.{MutexKept};
 ghost use Rattle.mutex_slow.specs.MutexLaws.{list-again, list-back, list-inside, list-over, list-same, may-on, may-stay, own-inside, spin-inside};
-ghost use Rattle.mutex_slow.specs.MutexLaws.{mutex-firsts, mutex-joins, mutex-list, mutex-list-may, mutex-lists, mutex-opens, mutex-wake, mutex-wakes, wake-inside, mutex-own, mutex-own-looks, mutex-own-may, mutex-owns, mutex-queued, mutex-site, mutex-sites, mutex-spin, mutex-spins, mutex-splits};
+ghost use Rattle.mutex_slow.specs.MutexLaws.{mutex-firsts, mutex-joins, mutex-list, mutex-list-may, mutex-lists, mutex-opens, mutex-bits, mutex-sets, mutex-swaps, wake-inside, mutex-own, mutex-own-looks, mutex-own-may, mutex-owns, mutex-queued, mutex-site, mutex-sites, mutex-spin, mutex-spins, mutex-splits};
 
 use crate::view::MutexHand;
 use lock_core::{LOCK_WORDS, SPIN_ROOM, SiteRule, SpinHost};
 use mutex_word::OwnerHost;
 use std::marker::PhantomData;
 use wait_list::ListHost;
-use wake_duty::WakeHost;
+use wake_duty::SleepHost;
 use word_bits::{MAX_TASKS, Object};
 
 /// The rule of the table of a mutex that guards an object of the kind `O`: a spin lock, an owner
@@ -145,18 +145,26 @@ impl<O: Object> ListHost for MutexRule<O> {
     ghost firsts = { mutex-firsts O.object O.WORDS };
 }
 
-impl<O: Object> WakeHost for MutexRule<O> {
+impl<O: Object> SleepHost for MutexRule<O> {
     const WAKE: usize = LOCK_WORDS - 8 * MAX_TASKS as usize;
 
     ghost WAKE = { wakes_at };
 
-    ghost wake = { wake_of };
+    ghost vigil = { vigil_of };
 
-    ghost with_wake = { with_wake };
+    ghost has_chosen = { HasChosen };
+
+    ghost after_set = { after_set };
+
+    ghost after_swap = { after_swap };
 
     ghost wake_inside = { wake-inside };
 
-    ghost wake_kept = { λ k ws vs l r. (mutex-wake O.object O.WORDS k ws vs l r).0 };
+    ghost chosen_few = { λ e t chosen. chosen.1 };
 
-    ghost wakes = { mutex-wakes O.object O.WORDS };
+    ghost wake_bits = { mutex-bits O.object O.WORDS };
+
+    ghost sets_word = { mutex-sets O.object O.WORDS };
+
+    ghost swaps_word = { mutex-swaps O.object O.WORDS };
 }

@@ -12,8 +12,9 @@ ghost use Rattle.lock_core.specs.Handles.{view_of, hand_in, task_in, held_in, Si
 ghost use Rattle.osq_nodes.specs.declared.node.Place.TheVariants.{Front};
 ghost use Rattle.osq_nodes.specs.Handles as spinners;
 ghost use Rattle.wake_duty.specs.WakeSteps.{HasTried};
-ghost use Rattle.mutex_slow.specs.Mutexes.{OwesNoWake, owner_at, wake_of};
-ghost use Rattle.mutex_slow.specs.Places.{seen_of, StepsOn, TakesAlone, TakesOpen, KeepsHand, KeepsMisses, KeepsFronts, KeepsAppends, StandsSame, IsOutside, IsInLine, HasFailed, IsToWake, KeepsWakes, SetsNoWord, Dozes, DozesOnce, Wakes, WakesFirst, dozes_of, task_of, GotInLine, SleepsInTurns, WentInLine, EndsHold};
+ghost use Rattle.mutex_slow.specs.Mutexes.{OwesNoWake, owner_at, vigil_of};
+ghost use Rattle.cpu_task.specs.Counting.{Dozes, DozesOnce, SleepsInTurns};
+ghost use Rattle.mutex_slow.specs.Places.{seen_of, StepsOn, TakesAlone, TakesOpen, KeepsHand, KeepsMisses, KeepsFronts, KeepsAppends, StandsSame, IsOutside, IsInLine, HasFailed, IsToWake, KeepsWakes, SetsNoWord, Wakes, WakesFirst, dozes_of, task_of, GotInLine, WentInLine, EndsHold};
 
 use crate::parts;
 use crate::parts::Released;
@@ -154,7 +155,7 @@ fn doze<O: Object, W: Wait, C: Cpu>(
     requires numbered { IsSome (task_in pass.old) }
     requires unspun { SpinRests (view_of pass.old).spin }
     requires listed { IsInLine (view_of pass.old) }
-    requires tried { HasTried wake_of (view_of pass.old) }
+    requires tried { HasTried vigil_of (view_of pass.old) }
     requires counted { dozes.old ≡ dozes_of (view_of pass.old) }
     ensures on { StepsOn site.now pass.old pass.new }
     ensures listed { IsInLine (view_of pass.new) }

@@ -39,14 +39,16 @@ use Rattle.rwsem_count.specs.Tries.{FindsShut, IsTransit}
 use Rattle.rwsem_count.proofs.Counting.{alone-parts, its-plan}
 use Rattle.rwsem_wake.specs.declared.view.SemHand.{SemHand}
 use Rattle.rwsem_wake.specs.declared.view.Wait.TheVariants.{Apart}
-use Rattle.rwsem_wake.specs.Grants.{semmed}
+use Rattle.rwsem_wake.specs.declared.view.Stage.TheVariants.{Rest}
+use Rattle.rwsem_wake.specs.SemParts.{transit_weight}
+use Rattle.rwsem_wake.specs.Grants.{stirred}
 use Rattle.rwsem_wake.specs.Queues.{HoldsBy}
 use Rattle.rwsem_wake.proofs.Holding.{shared-holds}
 use Rattle.rwsem_slow.specs.CountHosting.{sem-count, sem-counted}
 use Rattle.rwsem_slow.specs.Places.{line_of}
 use Rattle.rwsem_slow.specs.Queued.{AppendedBy, EntersLock, IsInTransit, KeepsLine, Shares}
 use Rattle.rwsem_slow.specs.RwSemLaws.{sem-hints}
-use Rattle.rwsem_slow.specs.RwSems.{V, Kept, RwSemMoves, bias_of, biased, count_at, count_in, hint_at, more_in, with_sem}
+use Rattle.rwsem_slow.specs.RwSems.{V, Kept, RwSemMoves, bias_of, biased, count_at, count_in, hint_at, more_in, owes_after, with_sem, with_wake, IsDone}
 use Rattle.rwsem_slow.specs.Stealing.{MaySteal, StealsBy, WentOn, left_by}
 
 -- it may, or it may not
@@ -64,20 +66,21 @@ module _ {Call : Type 0} (o : Obj Call) (size : ℕ) (k : Plan) where
   Place = Kept o size k
 
   -- the look, after which it holds where it may
-  pub steals : (slots id t word : ℕ) (me : Me (Unit {0}) V) → me.0.hand.task ≡ Some t → me.0.hand.held ≡ No → me.0.ext.sem.wait ≡ Apart → me.0.ext.sem.bias ≡ Transit word → me.0.ext.sem.rest ≡ [] → Lets Place (RwSemMoves k) slots id me hint_at Load (StealsBy o me)
-  steals slots id t word me has out wait transit unpicked st h _ at small = let v : V = me.0 in let ws : List ℕ = st.words in let vs : List V = st.views in let hint : ℕ = get_or ws hint_at 0 in let left : left_by v.ext.sem.bias ≡ word + 256 = ap left_by transit in may-or-not (left_by v.ext.sem.bias) hint
+  pub steals : (slots id t word : ℕ) (me : Me (Unit {0}) V) → me.0.hand.task ≡ Some t → me.0.hand.held ≡ No → me.0.ext.sem.wait ≡ Apart → me.0.ext.sem.bias ≡ Transit word → me.0.ext.sem.rest ≡ [] → me.0.ext.sem.stage ≡ Rest → me.0.ext.wake.owing ≡ false → Lets Place (RwSemMoves k) slots id me hint_at Load (StealsBy o me)
+  steals slots id t word me has out wait transit unpicked stage clear_wake st h _ at small = let v : V = me.0 in let ws : List ℕ = st.words in let vs : List V = st.views in let hint : ℕ = get_or ws hint_at 0 in let left : left_by v.ext.sem.bias ≡ word + 256 = ap left_by transit in may-or-not (left_by v.ext.sem.bias) hint
       (λ may. let open_it = subst (lets_in semaphore) left may.0 in let even : word % 2 ≡ 0 = (let e = open_it.0 in omega (arith, e)) in let clear : word / 4 % 2 ≡ 0 = (let e = open_it.1 in omega (arith, e)) in
       let r = h.1.site_holds in let hs : List Hand = map hand_of vs in let ps : List CountPart = map (count_part bias_of) vs in let n : ℕ = count_in ws in let mine = at_map hand_of vs id v at in let mine' = at_map (count_part bias_of) vs id v at in
       let c = (sem-count o size k ws vs h).0 in let early : early_in (count_part bias_of v) ≡ 1 - word % 2 = ap early_weight transit in let F = total-at early_in ps id (count_part bias_of v) mine' in
       let none : n % 2 ≡ 0 = elim (dec_le 1 (n % 2)) [ yes l ↦ (let a = c.apart (omega (arith, l)) in absurd (omega (arith, a, early, even, F))) | no l ↦ omega (arith, l) ] in
       let wr = c.writer in let alones = alone-parts bias_of vs in let none_alone : total alone_of hs ≡ 0 = omega (arith, alones, wr, none) in
-      let g : Hand = took v.hand Shared (take size (site k ws).guarded) r.log in let ok = r.each id v.hand mine in (
-        semmed with_sem v g (record v.ext.sem { bias = Clear }),
+      let g : Hand = took v.hand Shared (take size (site k ws).guarded) r.log in let ok = r.each id v.hand mine in let w : V = stirred with_sem with_wake v g (record v.ext.sem { bias = Clear }) v.ext.wake in
+      let is : record v { hand = g; steps = v.steps + 1; ext = biased v g Clear } ≡ w = (λ i. record w { ext = record w.ext { wake = record v.ext.wake { owing = owes_after (out i) g.held g.freed v.ext.wake.owing } } }) in (
+        w,
         keeps,
         tt,
-        subst (λ (z : List ℕ). Goes Place (RwSemMoves k) id ws vs z (set vs id (semmed with_sem v g (record v.ext.sem { bias = Clear })))) (set-get_or ws count_at 0 ∙ sym (set-get_or ws hint_at 0))
+        subst (λ (z : List ℕ × V). Goes Place (RwSemMoves k) id ws vs z.0 (set vs id z.1)) (λ i. ((set-get_or ws count_at 0 ∙ sym (set-get_or ws hint_at 0)) i, is i))
             (sem-counted o size k ws vs id n v g Clear h at record { numbered = λ e. none-some t (sym e ∙ has); task = refl; goes = (record { misses = omega arith; freed = λ e. refl; takes = omega arith; comes = λ _ _. omega arith }, refl); left = λ held. absurd (held out) } (inl (refl, inl (refl, refl)))
-            (wait, omega arith, refl, unpicked)
+            (wait, omega arith, refl, unpicked, stage, clear_wake, (let e = ap transit_weight transit in omega (arith, e)))
             record { flags = refl; writer = λ x y. absurd (omega (arith, x, y)); lone = λ x y. absurd (omega (arith, x, y)); reader = λ _. inr (inr (inl (word, transit, clear))); bias = inr (inl refl) }
             (count-keeps ps id (count_part bias_of v) (part g Clear) mine' n word (more_in k ws vs) c (inr even) out transit refl refl)
             (site-takes o counted size k (site k ws) hs id t v.hand Shared r mine out has (λ e. shared-holds e) (λ l. absurd (omega (arith, l))) none_alone)),
@@ -90,15 +93,18 @@ module _ {Call : Type 0} (o : Obj Call) (size : ℕ) (k : Plan) where
       (λ not. (ticked v, keeps, tt, sem-hints o size k ws vs id hint v h at, refl, ((λ may. absurd (not may)), λ _. (refl, refl))))
 
 -- it holds by its bias, and waits for nothing
-pub stolen : {Call : Type 0} (o : Obj Call) (k : Plan) (v u : V) → IsInTransit v → HoldsBy with_sem o k Shared (record v.ext.sem { bias = Clear }) v u → Shares o k v u
+pub stolen : {Call : Type 0} (o : Obj Call) (k : Plan) (v u : V) → IsInTransit v → HoldsBy with_sem with_wake o k Shared (record v.ext.sem { bias = Clear }) v.ext.wake v u → Shares o k v u
 stolen o k v u t h = let view = h.3 in let steps = ap (λ (z : V). z.steps) view in let entries = ap (λ (z : V). z.spin.entries) view in record {
   known = h.0;
   log = h.1;
   learns = h.2;
   keeps = record { later = omega (arith, steps); entries = omega (arith, entries); fronts = ap (λ (z : V). z.fronts) view; appends = ap (λ (z : V). z.ext.appends) view };
   hand = ap (λ (z : V). z.hand) view;
-  sem = ap (λ (z : V). z.ext.sem) view ∙ ap (λ (s : SemHand). record s { bias = Clear }) t.0.1;
-  still = ap (λ (z : V). z.ext.list.changes) view ∙ t.1;
+  sem = ap (λ (z : V). z.ext.sem) view ∙ ap (λ (s : SemHand). record s { bias = Clear }) t.transit.1;
+  still = ap (λ (z : V). z.ext.list.changes) view ∙ t.still;
+  done = subst IsDone (sym (ap (λ (z : V). z.ext.wake) view)) t.done;
+  wakes = ap (λ (z : V). z.ext.wake.wakes) view;
+  dozes = ap (λ (z : V). z.ext.wake.dozes) view;
 }
 
 -- the step behind the first view left the pass with this hold
@@ -107,7 +113,7 @@ next-leaves held v u p q steps task is own goes = subst (λ (n : ℕ). LeavesHol
 
 -- a look at the hint leaves it in transit
 pub still-transit : (v u : V) → u ≡ ticked v → IsInTransit v → IsInTransit u
-still-transit v u is t = subst IsInTransit (sym is) (t.0, t.1)
+still-transit v u is t = subst IsInTransit (sym is) record { transit = t.transit; still = t.still; done = t.done }
 
 -- from where its bias came to hold, and on through the wait lock or not
 module _ {Call : Type 0} (o : Obj Call) (k : Plan) (v m u : V) (p q : List Moment) (shares : Shares o k v m) (hand : u.hand ≡ m.hand) (on : KeepsLine m u) where

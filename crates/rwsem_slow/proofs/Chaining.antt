@@ -1,5 +1,5 @@
 -- The lists of a run: each came of the one before it by one step.
-use Rattle.std.proofs.Common.{◌≡◌, ◌∙◌, ℕ, ◌+◌, ◌<◌, ◌⊎◌, inl, inr, List, [], ◌∷◌, ◌++◌, Some, length, map, get_or, sym, ap, subst, arith}
+use Rattle.std.proofs.Common.{◌≡◌, ◌∙◌, ℕ, ◌+◌, ◌<◌, ◌⊎◌, inl, inr, Bool, true, false, List, [], ◌∷◌, ◌++◌, Some, length, map, get_or, refl, sym, ap, subst, arith}
 use mathlib.Core.Option.{some, some-injective}
 use lib.ListN.{get_elem?}
 use Rattle.atomic_table.proofs.Lists.{at_map}
@@ -18,14 +18,60 @@ use Rattle.wait_list.specs.declared.view.Change.TheVariants.{Stay, Enter, Leave}
 use Rattle.wait_list.specs.Lists.{Allowed, MadeBy as MadeUnderLock, Part, changed, list_part}
 use Rattle.wait_list.specs.ListLaws.{holds-or-not}
 use Rattle.wait_list.proofs.Determining.{kept-same}
+use Rattle.lock_core.specs.Records.{bit}
+use Rattle.sem_duty.specs.declared.view.SemWake.{SemWake}
+use Rattle.rwsem_count.specs.declared.view.Bias.{Bias}
+use Rattle.rwsem_count.specs.declared.view.Bias.TheVariants.{Clear, Transit, Reserve}
 use Rattle.rwsem_wake.specs.declared.view.SemHand.{SemHand}
 use Rattle.rwsem_wake.specs.SemParts.{SemPart, busy_of}
 use Rattle.rwsem_wake.specs.Handoffs.{KeepsHandoff}
 use Rattle.rwsem_wake.specs.Stated.{Picks}
 use Rattle.rwsem_slow.specs.declared.view.RwSemHand.{RwSemHand}
-use Rattle.rwsem_slow.specs.RwSems.{IsLocked, IsMadeBy, Kept, RwSemKept, RwSemMoves, V, count_at, count_in, entered, grants_in, list_of, marks_in, seen, standing}
+use Rattle.rwsem_slow.specs.WakesGo.{WakeStands, WakesGo, wake_stands}
+use Rattle.rwsem_slow.specs.RwSems.{IsLocked, IsMadeBy, Kept, RwSemKept, RwSemMoves, V, bias_codes, count_at, count_in, entered, grants_in, list_of, marks_in, numbers_of, seen, stage_code, standing, wait_code, wake_codes, wake_words}
 use Rattle.rwsem_slow.specs.Stated.{HasBecome, HasNoBatch, HasWaitLock, IsRwSemStep, MadeBy, stance}
 use Rattle.rwsem_slow.proofs.Stating.{queued}
+
+-- the numbers of a mark behind those of its bias
+abbrev behind-bias : List ℕ → List ℕ
+behind-bias (a ∷ b ∷ c ∷ d ∷ e ∷ ns) = ns
+behind-bias _ = []
+
+numbers-behind : (s : SemHand) (appends : ℕ) (b : SemWake) → behind-bias (numbers_of s appends b) ≡ wake_codes b ++ s.rest
+numbers-behind s appends b = go s.bias
+  where
+    go : (x : Bias) → behind-bias (wait_code s.wait ∷ stage_code s.stage ∷ appends ∷ (bias_codes x ++ (wake_codes b ++ s.rest))) ≡ wake_codes b ++ s.rest
+    go Clear = refl
+    go (Transit m) = refl
+    go (Reserve m) = refl
+
+abbrev behind-five : List ℕ → List ℕ
+behind-five (a ∷ b ∷ c ∷ d ∷ e ∷ f ∷ ns) = ns
+behind-five _ = []
+
+bit-same : (a b : Bool) → bit a ≡ bit b → a ≡ b
+bit-same true true e = refl
+bit-same false false e = refl
+bit-same true false e = absurd (omega (arith, e))
+bit-same false true e = absurd (omega (arith, e))
+
+abbrev behind-first : List ℕ → List ℕ
+behind-first [] = []
+behind-first (n ∷ ns) = ns
+
+-- lists of one length that begin the same list are the same
+begins-same : (xs ys rs ts : List ℕ) → length xs ≡ length ys → xs ++ rs ≡ ys ++ ts → xs ≡ ys
+begins-same [] [] rs ts long e = refl
+begins-same [] (y ∷ ys) rs ts long e = absurd (omega (arith, long))
+begins-same (x ∷ xs) [] rs ts long e = absurd (omega (arith, long))
+begins-same (x ∷ xs) (y ∷ ys) rs ts long e = let head : x ≡ y = ap (λ (l : List ℕ). get_or l 0 0) e in let rest = begins-same xs ys rs ts (omega (arith, long)) (ap behind-first e) in λ i. head i ∷ rest i
+
+-- the marks of a pass say what it has of wakes
+same-wakes : (v : V) (s : SemHand) (appends : ℕ) (b : SemWake) → marks_of standing v ≡ stance s appends b → wake_stands v.ext.wake ≡ wake_stands b
+same-wakes v s appends b e = let codes : wake_codes v.ext.wake ++ v.ext.sem.rest ≡ wake_codes b ++ s.rest = sym (numbers-behind v.ext.sem v.ext.appends v.ext.wake) ∙ (ap (λ (m : Marks). behind-bias m.numbers) e ∙ numbers-behind s appends b) in
+    let at : (i : ℕ) → get_or (wake_codes v.ext.wake ++ v.ext.sem.rest) i 0 ≡ get_or (wake_codes b ++ s.rest) i 0 = λ i. ap (λ (l : List ℕ). get_or l i 0) codes in
+    let owing = bit-same v.ext.wake.owing b.owing (at 0) in let chosen = begins-same v.ext.wake.chosen b.chosen v.ext.sem.rest s.rest (at 5) (ap behind-five codes) in
+    λ i. record { owing = owing i; chosen = chosen i; queued = at 1 i; awake = at 2 i; wakes = at 3 i; dozes = at 4 i }
 
 has-lock : (id : ℕ) (ws : List ℕ) (vs : List V) (v : V) (p : Part) → get_elem? vs id ≡ some v → get_elem? (map (list_part list_of) vs) id ≡ some p → holds_in p.0 ≡ 1 → HasWaitLock id (moment standing (instant ws vs))
 has-lock id ws vs v p at there holds = let same : p ≡ list_part list_of v = some-injective p (list_part list_of v) (sym there ∙ at_map (list_part list_of) vs id v at) in
@@ -54,17 +100,27 @@ sem-step k id ws us vs vs' m one q q' each old new = let v = m.site.before in re
   hands = subst (λ (z : List Waiter). KeepsHandoff id (count_in ws) z (marks_in ws) (grants_in ws) (map seen vs) (count_in us) (marks_in us) (grants_in us) (map seen vs')) old m.hands;
   locked = λ p p' is is' busy. about p p' is is' busy;
   freed = m.freed;
-  appends = λ s appends there. counted-on (map (marks_of standing) vs') id v m.site.after (entered m.list.change) s appends (sym (at_map (marks_of standing) vs id v m.site.at) ∙ there) (at_map (marks_of standing) vs' id m.site.after m.site.at') m.appends;
+  appends = λ s appends b there. counted-on (map (marks_of standing) vs') id v m.site.after (entered m.list.change) s appends b (sym (at_map (marks_of standing) vs id v m.site.at) ∙ there) (at_map (marks_of standing) vs' id m.site.after m.site.at') m.appends;
   missed = λ other. let miss = m.missed other in (seen v, at_map seen vs id v m.site.at, miss.0, miss.1);
+  wakes = λ p p' appends b is is' there. let u = m.site.after in let after = at_map (marks_of standing) vs' id u m.site.at' in let e = some-injective (marks_of standing v) (stance p.sem appends b) (sym (at_map (marks_of standing) vs id v m.site.at) ∙ there) in
+      let part = some-injective (seen v) p (sym (at_map seen vs id v m.site.at) ∙ is) in let part' = some-injective (seen u) p' (sym (at_map seen vs' id u m.site.at') ∙ is') in let count : v.ext.appends ≡ appends = ap (λ (n : Marks). get_or n.numbers 2 0) e in (
+        u.ext.wake,
+        after ∙ (λ i. some (stance (part' i).sem ((m.appends ∙ ap (λ (n : ℕ). n + entered m.list.change) count) i) u.ext.wake)),
+        (
+          v.spin,
+          at_map spin_of vs id v m.site.at,
+          subst (λ (z : List Waiter × SemPart × SemPart × WakeStands). WakesGo (count_in ws) (count_in us) z.0 m.list.change (grants_in ws) (wake_words ws) (wake_words us) (holds_in v.spin) z.1 z.2 z.3 (wake_stands u.ext.wake)) (λ i. (old i, part i, part' i, same-wakes v p.sem appends b e i)) m.wakes,
+        ),
+      );
 }
   where
     about : (p p' : SemPart) → get_elem? (map seen vs) id ≡ some p → get_elem? (map seen vs') id ≡ some p' → 0 < busy_of p + busy_of p' → HasWaitLock id (moment standing (instant ws vs))
     about p p' is is' busy = let v = m.site.before in let u = m.site.after in let e = ap {A = SemPart} (λ s. busy_of s) (some-injective p (seen v) (sym is ∙ at_map seen vs id v m.site.at)) in let f = ap {A = SemPart} (λ s. busy_of s) (some-injective p' (seen u) (sym is' ∙ at_map seen vs' id u m.site.at')) in
         let a = each id v m.site.at in let b = m.locked in holds-or-not v.spin (λ one. (v.spin, at_map spin_of vs id v m.site.at, one)) (λ out. absurd (omega (arith, e, f, a, b, out, busy)))
 
-    counted-on : (ms : List Marks) (id : ℕ) (v u : V) (by : ℕ) (s : SemHand) (appends : ℕ) → some (marks_of standing v) ≡ some (stance s appends) → get_elem? ms id ≡ some (marks_of standing u) → u.ext.appends ≡ v.ext.appends + by → (s' : SemHand) × (get_elem? ms id ≡ some (stance s' (appends + by)))
-    counted-on ms id v u by s appends was is goes = let e : v.ext.appends ≡ appends = ap (λ (m : Marks). get_or m.numbers 2 0) (some-injective (marks_of standing v) (stance s appends) was) in
-        (u.ext.sem, is ∙ ap (λ (n : ℕ). some (stance u.ext.sem n)) (goes ∙ ap (λ (n : ℕ). n + by) e))
+    counted-on : (ms : List Marks) (id : ℕ) (v u : V) (by : ℕ) (s : SemHand) (appends : ℕ) (b : SemWake) → some (marks_of standing v) ≡ some (stance s appends b) → get_elem? ms id ≡ some (marks_of standing u) → u.ext.appends ≡ v.ext.appends + by → (s' : SemHand) × (b' : SemWake) × (get_elem? ms id ≡ some (stance s' (appends + by) b'))
+    counted-on ms id v u by s appends b was is goes = let e : v.ext.appends ≡ appends = ap (λ (m : Marks). get_or m.numbers 2 0) (some-injective (marks_of standing v) (stance s appends b) was) in
+        (u.ext.sem, u.ext.wake, is ∙ ap (λ (n : ℕ). some (stance u.ext.sem n u.ext.wake)) (goes ∙ ap (λ (n : ℕ). n + by) e))
 
 module _ {Call : Type 0} (o : Obj Call) (size : ℕ) (k : Plan) where
   abbrev Steps : Instant RwSemHand → Instant RwSemHand → Type 0

@@ -1,5 +1,6 @@
 -- A wake, from its look at the list to its last grant.
-use Rattle.std.proofs.Common.{◌≡◌, ◌≢◌, ◌∙◌, ℕ, ◌+◌, ◌/◌, ◌%◌, ◌<◌, ◌≤◌, ◌==◌, ◌||◌, Bool, true, false, List, [], ◌∷◌, length, Some, refl, sym, ap, subst, arith, inl, inr}
+use Rattle.std.proofs.Common.{◌≡◌, ◌≢◌, ◌∙◌, ℕ, ◌+◌, ◌/◌, ◌%◌, ◌<◌, ◌≤◌, ◌==◌, ◌||◌, Bool, true, false, List, [], ◌∷◌, ◌++◌, length, Some, refl, sym, ap, subst, arith, inl, inr}
+use Rattle.std.proofs.lemmas.List.{append-nil}
 use Rattle.lock_core.specs.declared.view.Moment.{Moment}
 use Rattle.lock_core.specs.Pasts.{FoundAt, GoesOn, IsOwnStep}
 use Rattle.lock_core.specs.RunLaws.{found-at-step}
@@ -12,9 +13,11 @@ use Rattle.wait_list.specs.Lists.{AreTasks, IsList, Knows, first_code, first_of}
 use Rattle.rwsem_count.specs.declared.view.Bias.TheVariants.{Reserve}
 use Rattle.rwsem_count.specs.Counts.{early_weight, late_weight, shared_weight}
 use Rattle.rwsem_wake.specs.Batches.{starts_with_reader}
-use Rattle.rwsem_wake.specs.Grants.{IsRemoved, KeepsOut, OnlySem, TurnsTo, reserved, unreserved}
+use Rattle.rwsem_wake.specs.Grants.{IsRemoved, KeepsOut, OnlySem, StirsTo, reserved, unreserved}
+use Rattle.rwsem_wake.specs.Duties.{paid}
 use Rattle.rwsem_wake.specs.SemParts.{IsWhole}
-use Rattle.rwsem_slow.specs.RwSems.{V, MayPick, count_at, sem_of, with_sem}
+use Rattle.sem_duty.specs.declared.view.SemWake.{SemWake}
+use Rattle.rwsem_slow.specs.RwSems.{V, MayPick, count_at, sem_of, with_sem, with_wake}
 use Rattle.rwsem_slow.specs.Places.{line_of}
 use Rattle.rwsem_slow.specs.Removals.{KnowsList, RemovesAll, without_all}
 use Rattle.rwsem_slow.specs.Wakes.{Grants, IsAtRest, SawWriter, batch_in}
@@ -41,7 +44,7 @@ module _ (v w : V) (list : KnowsList v) (starts : starts_with_reader v.ext.list.
   keeps-out k = let held = ap (λ h. shared_weight h.held) r.beside.hand in let early = ap early_weight r.bias in let late = ap late_weight r.bias in let one = k.0 in let none = k.1 in (omega (arith, held, early, one), omega (arith, late, none))
 
 -- a waker has reserved a bias
-module _ (v b : V) (seen : ℕ) (rests : IsAtRest v) (list : KnowsList v) (turns : TurnsTo with_sem v (reserved v.ext.sem seen) b) where
+module _ (v b : V) (seen : ℕ) (rests : IsAtRest v) (list : KnowsList v) (turns : StirsTo with_sem with_wake v (reserved v.ext.sem seen) (paid v.ext.wake) b) where
   pub knows-reserved : KnowsList b
   knows-reserved = let spin = ap (λ (z : V). z.spin) turns in let same = ap (λ (z : V). z.ext.list) turns in record {
     knows = subst Knows (λ i. (sym spin i, sym same i)) list.knows;
@@ -72,6 +75,10 @@ module _ (v b : V) (seen : ℕ) (rests : IsAtRest v) (list : KnowsList v) (turns
       sound = subst IsList (sym (ap (λ (h : ListHand). h.list) list')) list.sound;
     };
     left = ap (λ (h : ListHand). h.list) list';
+    chosen = let wake = ap (λ (z : V). z.ext.wake) only ∙ ap (λ (z : V). z.ext.wake) turns in record {
+      chose = wake ∙ (λ j. record v.ext.wake { owing = sym (ap (λ (z : SemWake). z.owing) wake) j; chosen = sym (append-nil v.ext.wake.chosen) j });
+      clear = ap (λ (z : SemWake). z.owing) wake;
+    };
   }
 
   -- and goes on, after it saw none
@@ -117,6 +124,10 @@ module _ (v b : V) (seen : ℕ) (rests : IsAtRest v) (list : KnowsList v) (turns
       rests = g.rests;
       list = g.list;
       left = g.left ∙ ap (λ (h : ListHand). without_all (batch_in h.list) h.list) list-still;
+      chosen = let wake = ap (λ (z : V). z.ext.wake) ticks ∙ ap (λ (z : V). z.ext.wake) turns in record {
+        chose = g.chosen.chose ∙ (λ j. record (wake j) { owing = u.ext.wake.owing; chosen = (wake j).chosen ++ batch_in (list-still j).list });
+        clear = g.chosen.clear;
+      };
     }
 
 -- the first of a list

@@ -11,7 +11,7 @@ use Rattle.rwsem_wake.specs.declared.view.Wait.TheVariants.{Reads, Writes}
 use Rattle.rwsem_wake.specs.SemParts.{apart_hand}
 use Rattle.rwsem_wake.specs.Grants.{TurnsTo}
 use Rattle.rwsem_wake.specs.Queues.{rested}
-use Rattle.rwsem_slow.specs.Queued.{Becomes, waiting}
+use Rattle.rwsem_slow.specs.Queued.{Becomes, comes, waiting}
 use Rattle.rwsem_slow.specs.Removals.{KnowsList}
 use Rattle.rwsem_slow.specs.RwSems.{V, list_of, with_list, with_sem}
 
@@ -59,14 +59,14 @@ module _ (v u x : V) (w first : Waiter) (locked : SpinHolds v.spin) (later : v.s
     writer-first mine = sem-is true (stands-alone mine) writes apart
 
     -- it is behind others, or has set WAITERS
-    pub writer-behind : first.task ≢ w.task → Becomes v 1 (waiting Writes) x
+    pub writer-behind : first.task ≢ w.task → Becomes v 1 (waiting Writes) (comes v.ext.wake) x
     writer-behind other = let sem = sem-is false (stands-behind other) writes apart in record {
       later = later;
       list = joined-list;
-      is = whole ∙ (λ i. record v { steps = x.steps; ext = record { list = sym (ap (λ (z : V). z.ext.list) whole) i; sem = (sym (ap (λ (z : V). z.ext.sem) whole) ∙ sem) i; appends = v.ext.appends + 1 } });
+      is = whole ∙ (λ i. record v { steps = x.steps; ext = record { list = sym (ap (λ (z : V). z.ext.list) whole) i; sem = (sym (ap (λ (z : V). z.ext.sem) whole) ∙ sem) i; appends = v.ext.appends + 1; wake = comes v.ext.wake } });
     }
 
-    pub writer-alone : first.task ≡ w.task → (y : V) → TurnsTo with_sem x (rested x.ext.sem) y → Becomes v 1 (waiting Writes) y
+    pub writer-alone : first.task ≡ w.task → (y : V) → TurnsTo with_sem x (rested x.ext.sem) y → Becomes v 1 (waiting Writes) (comes v.ext.wake) y
     writer-alone mine y turns = let sem = writer-first mine in let list = ap (λ (z : V). z.ext.list) turns in let spin = ap (λ (z : V). z.spin) turns in let steps = ap (λ (z : V). z.steps) turns in record {
       later = omega (arith, later, steps);
       list = record {
@@ -74,5 +74,5 @@ module _ (v u x : V) (w first : Waiter) (locked : SpinHolds v.spin) (later : v.s
         still = ap (λ (h : ListHand). h.changes) list ∙ joined-list.still;
         sound = subst IsList (sym (ap (λ (h : ListHand). h.list) list)) sound;
       };
-      is = turns ∙ (λ i. record (whole i) { steps = sym steps i; ext = record { list = sym list i; sem = rested (sem i); appends = (whole i).ext.appends } });
+      is = turns ∙ (λ i. record (whole i) { steps = sym steps i; ext = record { list = sym list i; sem = rested (sem i); appends = (whole i).ext.appends; wake = (whole i).ext.wake } });
     }

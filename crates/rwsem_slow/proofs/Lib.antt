@@ -17,3 +17,4 @@ pub mod Unqueued
 pub mod Picking
 pub mod Counting
 pub mod Opening
+pub mod Vigils

@@ -1,5 +1,6 @@
 -- A waiter that is interrupted leaves the list.
-use Rattle.std.proofs.Common.{◌≡◌, ◌≢◌, ◌∙◌, ℕ, ◌+◌, ◌≤◌, ◌==◌, inl, inr, Bool, true, false, List, [], ◌∷◌, length, Option, Some, None, sym, refl, ap, subst, arith, eq-eqb, ne_eqb, eqb-true, if◌then◌else◌}
+use Rattle.std.proofs.Common.{◌≡◌, ◌≢◌, ◌∙◌, ℕ, ◌+◌, ◌≤◌, ◌==◌, inl, inr, Bool, true, false, List, [], ◌∷◌, ◌++◌, length, Option, Some, None, sym, refl, ap, subst, arith, eq-eqb, ne_eqb, eqb-true, if◌then◌else◌}
+use Rattle.std.proofs.lemmas.List.{append-nil}
 use Rattle.lock_core.specs.declared.view.Hand.{Hand}
 use Rattle.lock_core.specs.declared.how.Interrupted.{Interrupted}
 use Rattle.lock_core.specs.Signals.{HasHeard, HearsOfBoth}
@@ -12,21 +13,25 @@ use Rattle.wait_list.specs.declared.view.ListHand.{ListHand}
 use Rattle.wait_list.specs.declared.view.Waiter.{Waiter}
 use Rattle.wait_list.specs.Lists.{AllowsChange, FindsFirst, IsList, Knows, Removes, first_code, first_of, list_part, waiter_code, without}
 use Rattle.rwsem_count.specs.declared.view.Bias.TheVariants.{Clear}
+use Rattle.wake_duty.specs.declared.view.Vigil.TheVariants.{Absent}
+use Rattle.sem_duty.specs.declared.view.SemWake.{SemWake}
+use Rattle.rwsem_wake.specs.Duties.{heard_locked_at, paid}
 use Rattle.rwsem_wake.specs.declared.view.SemHand.{SemHand}
 use Rattle.rwsem_wake.specs.declared.view.Stage.TheVariants.{Armed, Emptied}
 use Rattle.rwsem_wake.specs.declared.view.Wait.TheVariants.{Apart, Reads}
 use Rattle.rwsem_wake.specs.SemParts.{apart_hand, some_of}
 use Rattle.rwsem_wake.specs.Batches.{starts_with_reader}
-use Rattle.rwsem_wake.specs.Grants.{OnlySem, TurnsTo, summing, unmarked}
+use Rattle.rwsem_wake.specs.Grants.{OnlySem, StirsTo, TurnsTo, summing, unmarked}
 use Rattle.rwsem_wake.specs.Queues.{MayLook, heard_locked, rested}
-use Rattle.rwsem_slow.specs.RwSems.{V, list_of, may_change, parted, sem_of, with_list, with_sem}
+use Rattle.rwsem_slow.specs.RwSems.{V, leaves_wake, list_of, may_change, parted, parted_wake, sem_of, with_list, with_sem, with_wake}
 use Rattle.rwsem_slow.specs.Removals.{KnowsList, StaysBeside}
-use Rattle.rwsem_slow.specs.Queued.{Becomes, Listens, LooksAt, Stays, waiting}
+use Rattle.rwsem_slow.specs.Queued.{Becomes, IsListed, Listens, LooksAt, Stays, waiting}
 use Rattle.rwsem_slow.specs.declared.waking.WakeType.TheVariants.{Any}
-use Rattle.rwsem_slow.specs.Leaving.{HasLeft, IsUnmarked, MayLeave, SeesUngranted, WakesOn, gone_first, ungranted}
-use Rattle.rwsem_slow.specs.Wakes.{IsAtRest, SawWriter, woken_of}
+use Rattle.rwsem_slow.specs.Leaving.{HasLeft, IsUnmarked, MayLeave, SeesUngranted, WakesOn, gone_first, left_wake, ungranted}
+use Rattle.rwsem_slow.specs.Wakes.{HasChosenAll, IsAtRest, SawWriter, woken_of}
 use Rattle.wait_list.proofs.Joining.{holds-one}
 use Rattle.rwsem_slow.proofs.FirstLooks.{code-of}
+use Rattle.rwsem_slow.proofs.Vigils.{heard-same, stirs-turns}
 use Rattle.rwsem_slow.proofs.WriterSteps.{knows-same, removed-list, stays-turn}
 
 -- two loads that told of its signals
@@ -38,25 +43,29 @@ pub heard-on : (why : Interrupted) (h g : Hand) → g ≡ h → HasHeard why h �
 heard-on why h g same heard = record { pending = heard.pending; heard = ap (λ (z : Hand). z.heard) same ∙ heard.heard }
 
 -- a reader that loaded its own grant word under the wait lock
-pub sees-ungranted : (v u : V) (word : ℕ) → v.ext.sem ≡ waiting Reads → word ≢ 0 → TurnsTo with_sem v (heard_locked v.ext.sem word) u → SeesUngranted v u
-sees-ungranted v u word waits some_word turns = let sem : heard_locked v.ext.sem word ≡ ungranted = ap (λ (b : Bool). if b then record v.ext.sem { wait = Apart } else record v.ext.sem { stage = Armed }) (ne_eqb word 0 some_word) ∙ ap (λ (s : SemHand). record s { stage = Armed }) waits in
+pub sees-ungranted : (v u : V) (word : ℕ) → v.ext.sem ≡ waiting Reads → word ≢ 0 → StirsTo with_sem with_wake v (heard_locked v.ext.sem word) (heard_locked_at word v.ext.wake) u → SeesUngranted v u
+sees-ungranted v u word waits some_word stirs = let turns = stirs-turns v u (heard_locked v.ext.sem word) (heard_locked_at word v.ext.wake) (heard-same word v.ext.wake some_word) stirs in let sem : heard_locked v.ext.sem word ≡ ungranted = ap (λ (b : Bool). if b then record v.ext.sem { wait = Apart } else record v.ext.sem { stage = Armed }) (ne_eqb word 0 some_word) ∙ ap (λ (s : SemHand). record s { stage = Armed }) waits in
     turns ∙ (λ i. record v { steps = sym (ap (λ (z : V). z.steps) turns) i; ext = with_sem v.ext (sem i) })
 
-pub ungranted-leaves : (v u : V) → v.ext.list.changes ≡ false → SeesUngranted v u → MayLeave u
-ungranted-leaves v u still sees = inr record { sem = ap (λ (z : V). z.ext.sem) sees; still = ap (λ (z : V). z.ext.list.changes) sees ∙ still }
+pub ungranted-leaves : (v u : V) → v.ext.list.changes ≡ false → IsListed v.ext.wake → SeesUngranted v u → MayLeave u
+ungranted-leaves v u still listed sees = inr record { sem = ap (λ (z : V). z.ext.sem) sees; still = ap (λ (z : V). z.ext.list.changes) sees ∙ still; listed = subst IsListed (sym (ap (λ (z : V). z.ext.wake) sees)) listed }
 
 -- who may leave, may still where what concerns the list and the semaphore is as it was
-pub leaves-on : (v u : V) → u.ext.sem ≡ v.ext.sem → u.ext.list.changes ≡ v.ext.list.changes → MayLeave v → MayLeave u
-leaves-on v u sem changes may = elim may [
-  | inl line ↦ inl record { waits = sem ∙ line.waits; still = changes ∙ line.still }
-  | inr un ↦ inr record { sem = sem ∙ un.sem; still = changes ∙ un.still }
+pub leaves-on : (v u : V) → u.ext.sem ≡ v.ext.sem → u.ext.list.changes ≡ v.ext.list.changes → u.ext.wake ≡ v.ext.wake → MayLeave v → MayLeave u
+leaves-on v u sem changes wake may = elim may [
+  | inl line ↦ inl record { waits = sem ∙ line.waits; still = changes ∙ line.still; listed = subst IsListed (sym wake) line.listed }
+  | inr un ↦ inr record { sem = sem ∙ un.sem; still = changes ∙ un.still; listed = subst IsListed (sym wake) un.listed }
 ]
 
 pub looks-leaves : (v u : V) → LooksAt v u → MayLeave v → MayLeave u
-looks-leaves v u looks may = let sem : u.ext.sem ≡ v.ext.sem = ap (λ (z : V). z.ext.sem) looks.is in elim may [
-  | inl line ↦ inl record { waits = sem ∙ line.waits; still = looks.list.still }
-  | inr un ↦ inr record { sem = sem ∙ un.sem; still = looks.list.still }
+looks-leaves v u looks may = let sem : u.ext.sem ≡ v.ext.sem = ap (λ (z : V). z.ext.sem) looks.is in let wake : u.ext.wake ≡ v.ext.wake = ap (λ (z : V). z.ext.wake) looks.is in elim may [
+  | inl line ↦ inl record { waits = sem ∙ line.waits; still = looks.list.still; listed = subst IsListed (sym wake) line.listed }
+  | inr un ↦ inr record { sem = sem ∙ un.sem; still = looks.list.still; listed = subst IsListed (sym wake) un.listed }
 ]
+
+-- it has no wake to do
+pub leaves-listed : (v : V) → MayLeave v → IsListed v.ext.wake
+leaves-listed v may = elim may [ inl line ↦ line.listed | inr un ↦ un.listed ]
 
 -- what concerns the list of a pass that may leave
 pub leaves-still : (v : V) → MayLeave v → v.ext.list.changes ≡ false
@@ -142,13 +151,16 @@ zero-more : (n : ℕ) → n ≡ n + 0
 zero-more n = omega arith
 
 -- it removed itself behind the first
-pub removed-behind : (v u : V) (t : ℕ) → MayLeave v → SpinHolds v.spin → v.steps ≤ u.steps → Removes list_of with_list v t u → Becomes v 0 apart_hand u
+pub removed-behind : (v u : V) (t : ℕ) → MayLeave v → SpinHolds v.spin → v.steps ≤ u.steps → Removes list_of with_list v t u → Becomes v 0 apart_hand (leaves_wake v.ext.wake.owing v.ext.wake) u
 removed-behind v u t may locked later r = record {
   later = later;
   list = removed-list v u t locked r;
-  is = r.view ∙ (λ i. record v { steps = u.steps; ext = record { list = sym (ap (λ (z : V). z.ext.list) r.view) i; sem = sem i; appends = zero-more v.ext.appends i } });
+  is = r.view ∙ (λ i. record v { steps = u.steps; ext = record { list = sym (ap (λ (z : V). z.ext.list) r.view) i; sem = sem i; appends = zero-more v.ext.appends i; wake = wake i } });
 }
   where
+    wake : parted_wake v.ext.sem.stage v.ext.sem.wait t v.ext.wake ≡ leaves_wake v.ext.wake.owing v.ext.wake
+    wake = elim may [ inl line ↦ ap (λ (s : SemHand). parted_wake s.stage s.wait t v.ext.wake) line.waits | inr un ↦ ap (λ (s : SemHand). parted_wake s.stage s.wait t v.ext.wake) un.sem ]
+
     sem : parted v.ext.sem.stage v.ext.sem.wait t (length r.hand.list) v.ext.sem ≡ apart_hand
     sem = elim may [ inl line ↦ ap (λ (s : SemHand). parted s.stage s.wait t (length r.hand.list) s) line.waits | inr un ↦ ap (λ (s : SemHand). parted s.stage s.wait t (length r.hand.list) s) un.sem ]
 
@@ -182,17 +194,20 @@ module _ (v u w : V) (t : ℕ) (un : IsUnmarked v) (locked : SpinHolds v.spin) (
   sem-at empty long = let here : parted v.ext.sem.stage v.ext.sem.wait t (length r.hand.list) v.ext.sem ≡ gone_first (length r.hand.list == 0) = elim un.sem [ inl is ↦ ap (λ (s : SemHand). parted s.stage s.wait t (length r.hand.list) s) is | inr is ↦ ap (λ (s : SemHand). parted s.stage s.wait t (length r.hand.list) s) is ] in
       here ∙ ap gone_first long
 
-  becomes-at : (empty : Bool) → (length r.hand.list == 0) ≡ empty → Becomes v 0 (gone_first empty) w
+  wake-at : parted_wake v.ext.sem.stage v.ext.sem.wait t v.ext.wake ≡ leaves_wake true v.ext.wake
+  wake-at = elim un.sem [ inl is ↦ ap (λ (s : SemHand). parted_wake s.stage s.wait t v.ext.wake) is | inr is ↦ ap (λ (s : SemHand). parted_wake s.stage s.wait t v.ext.wake) is ]
+
+  becomes-at : (empty : Bool) → (length r.hand.list == 0) ≡ empty → Becomes v 0 (gone_first empty) (leaves_wake true v.ext.wake) w
   becomes-at empty long = record {
     later = omega (arith, later, more);
     list = knows;
-    is = whole ∙ (λ i. record v { steps = w.steps; ext = record { list = sym (ap (λ (z : V). z.ext.list) whole) i; sem = sem-at empty long i; appends = zero-more v.ext.appends i } });
+    is = whole ∙ (λ i. record v { steps = w.steps; ext = record { list = sym (ap (λ (z : V). z.ext.list) whole) i; sem = sem-at empty long i; appends = zero-more v.ext.appends i; wake = wake-at i } });
   }
 
   lengths : length f.hand.list ≡ length r.hand.list
   lengths = ap (λ (h : ListHand). length h.list) same
 
-  pub removed-none : first ≡ None → Becomes v 0 (gone_first true) w
+  pub removed-none : first ≡ None → Becomes v 0 (gone_first true) (leaves_wake true v.ext.wake) w
   removed-none none = let z = none-long f.hand.list (sym none ∙ f.is) in becomes-at true (eq-eqb (length r.hand.list) 0 (sym lengths ∙ z))
 
   -- those behind it wait on
@@ -213,51 +228,64 @@ module _ (v u w : V) (t : ℕ) (un : IsUnmarked v) (locked : SpinHolds v.spin) (
       go [] e = absurd cc
       go (y ∷ q) e = refl
 
-  pub removed-some : (x : Waiter) → first ≡ Some x → Becomes v 0 (gone_first false) w
+  pub removed-some : (x : Waiter) → first ≡ Some x → Becomes v 0 (gone_first false) (leaves_wake true v.ext.wake) w
   removed-some x is = let z = some-long f.hand.list x (sym is ∙ f.is) in becomes-at false (ne_eqb (length r.hand.list) 0 (λ e. z (lengths ∙ e)))
 
 -- what becomes of the pass then
-pub gone-sem : (v u : V) (n : ℕ) (s : SemHand) → Becomes v n s u → u.ext.sem ≡ s
-gone-sem v u n s b = ap (λ (z : V). z.ext.sem) b.is
+pub gone-sem : (v u : V) (n : ℕ) (s : SemHand) (b : SemWake) → Becomes v n s b u → u.ext.sem ≡ s
+gone-sem v u n s b becomes = ap (λ (z : V). z.ext.sem) becomes.is
+
+-- what it chose is what it had, where that is nobody
+none-more : (tasks : List ℕ) (b : SemWake) → tasks ≡ [] → b.chosen ≡ b.chosen ++ tasks
+none-more tasks b none = sym (append-nil b.chosen) ∙ ap (λ (z : List ℕ). b.chosen ++ z) (sym none)
 
 -- all but its part of the list and the semaphore is as it was
-pub left-becomes : (v u : V) → Becomes v 0 apart_hand u → HasLeft v u
-left-becomes v u b = record {
+pub left-becomes : (tasks : List ℕ) (v u : V) → tasks ≡ [] → v.ext.wake.owing ≡ false → Becomes v 0 apart_hand (leaves_wake v.ext.wake.owing v.ext.wake) u → HasLeft tasks v u
+left-becomes tasks v u none clear b = record {
   later = b.later;
-  outside = record { apart = gone-sem v u 0 apart_hand b; still = b.list.still };
+  apart = gone-sem v u 0 apart_hand (leaves_wake v.ext.wake.owing v.ext.wake) b;
+  still = b.list.still;
+  wake = ap (λ (z : V). z.ext.wake) b.is ∙ (λ i. record v.ext.wake { owing = clear i; chosen = none-more tasks v.ext.wake none i; vigil = Absent });
   hand = ap (λ (z : V). z.hand) b.is;
   spin = ap (λ (z : V). z.spin) b.is;
   fronts = ap (λ (z : V). z.fronts) b.is;
   appends = (let e = ap (λ (z : V). z.ext.appends) b.is in omega (arith, e));
 }
 
-pub left-since : (v u x : V) → u.hand ≡ v.hand → u.spin ≡ v.spin → u.fronts ≡ v.fronts → u.ext.appends ≡ v.ext.appends → v.steps ≤ u.steps → HasLeft u x → HasLeft v x
-left-since v u x hand spin fronts appends later left = record {
+pub left-since : (tasks : List ℕ) (v u x : V) → u.hand ≡ v.hand → u.spin ≡ v.spin → u.fronts ≡ v.fronts → u.ext.appends ≡ v.ext.appends → left_wake tasks u.ext.wake ≡ left_wake tasks v.ext.wake → v.steps ≤ u.steps → HasLeft tasks u x → HasLeft tasks v x
+left-since tasks v u x hand spin fronts appends wake later left = record {
   later = (let l = left.later in omega (arith, l, later));
-  outside = left.outside;
+  apart = left.apart;
+  still = left.still;
+  wake = left.wake ∙ wake;
   hand = left.hand ∙ hand;
   spin = left.spin ∙ spin;
   fronts = left.fronts ∙ fronts;
   appends = left.appends ∙ appends;
 }
 
-pub left-looked : (v u x : V) → LooksAt v u → HasLeft u x → HasLeft v x
-left-looked v u x looks left = left-since v u x (ap (λ (z : V). z.hand) looks.is) (ap (λ (z : V). z.spin) looks.is) (ap (λ (z : V). z.fronts) looks.is) (ap (λ (z : V). z.ext.appends) looks.is) looks.later left
+pub left-looked : (tasks : List ℕ) (v u x : V) → LooksAt v u → HasLeft tasks u x → HasLeft tasks v x
+left-looked tasks v u x looks left = left-since tasks v u x (ap (λ (z : V). z.hand) looks.is) (ap (λ (z : V). z.spin) looks.is) (ap (λ (z : V). z.fronts) looks.is) (ap (λ (z : V). z.ext.appends) looks.is) (ap (λ (z : V). left_wake tasks z.ext.wake) looks.is) looks.later left
 
 -- as the first: it cleared its mark, and removed itself
-module _ (v u w : V) (s : SemHand) (only : OnlySem with_sem v s u) (before : v.steps ≤ u.steps) (empty : Bool) (gone : Becomes u 0 (gone_first empty) w) where
-  since : (x : V) → HasLeft w x → HasLeft v x
-  since x left = left-since v w x (ap (λ (z : V). z.hand) gone.is ∙ ap (λ (z : V). z.hand) only) (ap (λ (z : V). z.spin) gone.is ∙ ap (λ (z : V). z.spin) only) (ap (λ (z : V). z.fronts) gone.is ∙ ap (λ (z : V). z.fronts) only)
-      (let e = ap (λ (z : V). z.ext.appends) gone.is in let d = ap (λ (z : V). z.ext.appends) only in omega (arith, e, d)) (let l = gone.later in omega (arith, l, before)) left
+module _ (tasks : List ℕ) (v u w : V) (s : SemHand) (only : OnlySem with_sem v s u) (before : v.steps ≤ u.steps) (empty : Bool) (gone : Becomes u 0 (gone_first empty) (leaves_wake true u.ext.wake) w) where
+  since : (x : V) → HasLeft tasks w x → HasLeft tasks v x
+  since x left = left-since tasks v w x (ap (λ (z : V). z.hand) gone.is ∙ ap (λ (z : V). z.hand) only) (ap (λ (z : V). z.spin) gone.is ∙ ap (λ (z : V). z.spin) only) (ap (λ (z : V). z.fronts) gone.is ∙ ap (λ (z : V). z.fronts) only)
+      (let e = ap (λ (z : V). z.ext.appends) gone.is in let d = ap (λ (z : V). z.ext.appends) only in omega (arith, e, d)) (ap (λ (z : V). left_wake tasks z.ext.wake) gone.is ∙ ap (λ (z : V). left_wake tasks z.ext.wake) only) (let l = gone.later in omega (arith, l, before)) left
+
+  absent : w.ext.wake.vigil ≡ Absent
+  absent = ap (λ (z : V). z.ext.wake.vigil) gone.is
 
   -- it was alone
   pub empty-stage : empty ≡ true → w.ext.sem ≡ record apart_hand { stage = Emptied }
-  empty-stage is = gone-sem u w 0 (gone_first empty) gone ∙ ap gone_first is
+  empty-stage is = gone-sem u w 0 (gone_first empty) (leaves_wake true u.ext.wake) gone ∙ ap gone_first is
 
-  pub left-empty : (x : V) → empty ≡ true → TurnsTo with_sem w (rested w.ext.sem) x → HasLeft v x
-  left-empty x is turns = since x record {
+  pub left-empty : (x : V) → empty ≡ true → tasks ≡ [] → StirsTo with_sem with_wake w (rested w.ext.sem) (paid w.ext.wake) x → HasLeft tasks v x
+  left-empty x is none turns = since x record {
     later = (let n = ap (λ (z : V). z.steps) turns in omega (arith, n));
-    outside = record { apart = ap (λ (z : V). z.ext.sem) turns ∙ ap rested (empty-stage is); still = ap (λ (z : V). z.ext.list.changes) turns ∙ gone.list.still };
+    apart = ap (λ (z : V). z.ext.sem) turns ∙ ap rested (empty-stage is);
+    still = ap (λ (z : V). z.ext.list.changes) turns ∙ gone.list.still;
+    wake = ap (λ (z : V). z.ext.wake) turns ∙ (λ i. record w.ext.wake { owing = false; chosen = none-more tasks w.ext.wake none i; vigil = absent i });
     hand = ap (λ (z : V). z.hand) turns;
     spin = ap (λ (z : V). z.spin) turns;
     fronts = ap (λ (z : V). z.fronts) turns;
@@ -266,15 +294,17 @@ module _ (v u w : V) (s : SemHand) (only : OnlySem with_sem v s u) (before : v.s
 
   -- others wait on
   pub others-sem : empty ≡ false → w.ext.sem ≡ apart_hand
-  others-sem is = gone-sem u w 0 (gone_first empty) gone ∙ ap gone_first is
+  others-sem is = gone-sem u w 0 (gone_first empty) (leaves_wake true u.ext.wake) gone ∙ ap gone_first is
 
   pub others-rest : empty ≡ false → IsAtRest w
   others-rest is = let sem = others-sem is in record { stage = ap (λ (z : SemHand). z.stage) sem; clear = ap (λ (z : SemHand). z.bias) sem; none = ap (λ (z : SemHand). z.rest) sem; still = gone.list.still }
 
-  pub left-others : (x : V) → empty ≡ false → StaysBeside w x → IsAtRest x → HasLeft v x
-  left-others x is beside rests = since x record {
+  pub left-others : (x : V) → empty ≡ false → StaysBeside w x → IsAtRest x → HasChosenAll tasks w x → HasLeft tasks v x
+  left-others x is beside rests chosen = since x record {
     later = beside.later;
-    outside = record { apart = (λ i. record { wait = (beside.wait ∙ ap (λ (z : SemHand). z.wait) (others-sem is)) i; bias = rests.clear i; stage = rests.stage i; rest = rests.none i }); still = rests.still };
+    apart = λ i. record { wait = (beside.wait ∙ ap (λ (z : SemHand). z.wait) (others-sem is)) i; bias = rests.clear i; stage = rests.stage i; rest = rests.none i };
+    still = rests.still;
+    wake = chosen.chose ∙ (λ i. record w.ext.wake { owing = chosen.clear i; chosen = w.ext.wake.chosen ++ tasks; vigil = absent i });
     hand = beside.hand;
     spin = beside.spin;
     fronts = beside.fronts;

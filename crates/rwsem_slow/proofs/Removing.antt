@@ -8,6 +8,8 @@ use Rattle.wait_list.specs.declared.view.Change.TheVariants.{Leave}
 use Rattle.wait_list.specs.declared.view.ListHand.{ListHand}
 use Rattle.wait_list.specs.Lists.{AllowsChange, AreTasks, IsList, Knows, Removes, counted, first_of, without}
 use Rattle.wait_list.proofs.Waiters.{length-without, sound-changed}
+use Rattle.sem_duty.specs.declared.view.SemWake.{SemWake}
+use Rattle.rwsem_count.specs.Counts.{early_weight, late_weight, shared_weight}
 use Rattle.rwsem_wake.specs.declared.view.SemHand.{SemHand}
 use Rattle.rwsem_wake.specs.Batches.{batch_of, reads, starts_with_reader, task_of}
 use Rattle.lock_core.specs.Totals.{total}
@@ -15,10 +17,10 @@ use Rattle.rwsem_wake.specs.SemParts.{IsWhole, reader_bit, reader_of, some_of}
 use Rattle.rwsem_wake.proofs.Places.{total-without}
 use Rattle.rwsem_wake.specs.Stated.{IsFirstReader}
 use Rattle.rwsem_slow.specs.ListSteps.{picks-is, reader-counts}
-use Rattle.rwsem_slow.specs.RwSems.{V, MayPick, list_of, may_change, parted, picked, with_list, with_sem}
-use Rattle.rwsem_slow.specs.Removals.{AreHeads, BeginsWith, HasRemoved, KnowsList, RemovesAll, without_all}
+use Rattle.rwsem_slow.specs.RwSems.{V, MayPick, chooses_task, list_of, may_change, parted, parted_wake, picked, sem_of, with_list, with_sem}
+use Rattle.rwsem_slow.specs.Removals.{AreHeads, BeginsWith, Chose, HasRemoved, KnowsList, RemovesAll, without_all}
 use Rattle.rwsem_slow.specs.Wakes.{Grants, batch_in}
-use Rattle.rwsem_wake.specs.Grants.{OnlySem, all_granted}
+use Rattle.rwsem_wake.specs.Grants.{KeepsOut, OnlySem, all_granted}
 
 pub heads-first : (t : ℕ) (ts : List ℕ) (q : List Waiter) → AreHeads (t ∷ ts) q → IsFirstReader t q
 heads-first t ts [] h = absurd h
@@ -148,6 +150,12 @@ parted-picked s t long (inl is) = λ i. parted (is.0 i) (is.1 i) t long s
 parted-picked s t long (inr (inl (b, is))) = λ i. parted (is i) s.wait t long s
 parted-picked s t long (inr (inr is)) = λ i. parted (is i) s.wait t long s
 
+-- and chooses it
+parted-chooses : (s : SemHand) (t : ℕ) (b : SemWake) → MayPick s → parted_wake s.stage s.wait t b ≡ chooses_task t b
+parted-chooses s t b (inl is) = λ i. parted_wake (is.0 i) (is.1 i) t b
+parted-chooses s t b (inr (inl (c, is))) = λ i. parted_wake (is i) s.wait t b
+parted-chooses s t b (inr (inr is)) = λ i. parted_wake (is i) s.wait t b
+
 module _ (u : V) (batch : List ℕ) where
   pub removed-none : KnowsList u → MayPick u.ext.sem → u.ext.sem.rest ≡ [] → AreHeads batch u.ext.list.list → BeginsWith batch u.ext.list.list → HasRemoved u batch 0 u
   removed-none list may none heads begins = record {
@@ -159,8 +167,13 @@ module _ (u : V) (batch : List ℕ) where
     rest = ap (λ (x : List ℕ). x ++ batch) none;
     heads = heads;
     begins = λ _. begins;
+    chose = λ j. record u.ext.wake { chosen = chosen-same j };
+    clear = λ l. absurd (let z = ap (λ (x : List ℕ). length x) none in omega (arith, z, l));
     are = refl;
   }
+    where
+      chosen-same : u.ext.wake.chosen ≡ u.ext.wake.chosen ++ u.ext.sem.rest
+      chosen-same = sym (append-nil u.ext.wake.chosen) ∙ ap (λ (x : List ℕ). u.ext.wake.chosen ++ x) (sym none)
 
   module _ (i : ℕ) (v : V) (g : HasRemoved u batch i v) (more : i < length batch) where
     next : drop i batch ≡ get_or batch i 0 ∷ drop (i + 1) batch
@@ -169,8 +182,8 @@ module _ (u : V) (batch : List ℕ) where
     heads : AreHeads (get_or batch i 0 ∷ drop (i + 1) batch) v.ext.list.list
     heads = subst (λ (z : List ℕ). AreHeads z v.ext.list.list) next g.heads
 
-    pub removed-may : length batch ≤ 256 → (own : ℕ) × (u.hand.task ≡ Some own) → AllowsChange list_of may_change (Leave (get_or batch i 0)) v
-    removed-may few has = λ l same. let is : l ≡ v.ext.list.list = same g.list.knows in subst (may_change (Leave (get_or batch i 0)) v) (sym is) (inr (inr (inr (
+    pub removed-may : length batch ≤ 256 → (own : ℕ) × (u.hand.task ≡ Some own) → KeepsOut sem_of u → AllowsChange list_of may_change (Leave (get_or batch i 0)) v
+    removed-may few has keeps = λ l same. let is : l ≡ v.ext.list.list = same g.list.knows in subst (may_change (Leave (get_or batch i 0)) v) (sym is) (inr (inr (inr (
       g.may,
       (has.0, ap (λ h. h.task) g.beside.hand ∙ has.1),
       (
@@ -179,12 +192,16 @@ module _ (u : V) (batch : List ℕ) where
         let a = ap (λ (z : List ℕ). length z) g.rest in let b = length-append v.ext.sem.rest (drop i batch) in let c = ap (λ (z : List ℕ). length z) next in omega (arith, a, b, c, few),
         picks-on v.ext.sem.rest g.begun,
       ),
+      (
+        (λ j. shared_weight (g.beside.hand j).held + early_weight (g.bias j)) ∙ keeps.0,
+        ap late_weight g.bias ∙ keeps.1,
+      ),
     ))))
 
     pub removed-one : (w : V) → v.steps ≤ w.steps → Removes list_of with_list v (get_or batch i 0) w → HasRemoved u batch (i + 1) w
     removed-one w more_steps r = let t : ℕ = get_or batch i 0 in let was : r.was ≡ v.ext.list.list = r.before g.list.knows in let now : r.hand.list ≡ without t v.ext.list.list = r.now ∙ ap (without t) was in
-        let x : V = record v { steps = w.steps; ext = record { list = r.hand; sem = picked t v.ext.sem; appends = v.ext.appends } } in
-        let same : w ≡ x = r.view ∙ (λ j. record v { steps = w.steps; ext = record { list = r.hand; sem = parted-picked v.ext.sem t (length r.hand.list) g.may j; appends = v.ext.appends } }) in
+        let x : V = record v { steps = w.steps; ext = record { list = r.hand; sem = picked t v.ext.sem; appends = v.ext.appends; wake = chooses_task t v.ext.wake } } in
+        let same : w ≡ x = r.view ∙ (λ j. record v { steps = w.steps; ext = record { list = r.hand; sem = parted-picked v.ext.sem t (length r.hand.list) g.may j; appends = v.ext.appends; wake = parted-chooses v.ext.sem t v.ext.wake g.may j } }) in
         subst (HasRemoved u batch (i + 1)) (sym same) record {
           beside = record { later = (let a = g.beside.later in omega (arith, a, more_steps)); hand = g.beside.hand; spin = g.beside.spin; fronts = g.beside.fronts; appends = g.beside.appends; wait = g.beside.wait };
           bias = g.bias;
@@ -194,6 +211,8 @@ module _ (u : V) (batch : List ℕ) where
           rest = append_assoc v.ext.sem.rest (t ∷ []) (drop (i + 1) batch) ∙ (ap (λ (z : List ℕ). v.ext.sem.rest ++ z) (sym next) ∙ g.rest);
           heads = subst (AreHeads (drop (i + 1) batch)) (sym now) (heads-next t (drop (i + 1) batch) v.ext.list.list (g.list.sound.once t) heads);
           begins = λ none. absurd (let a = ap (λ (z : List ℕ). length z) none in let b = length-append v.ext.sem.rest (t ∷ []) in omega (arith, a, b));
+          chose = ap (chooses_task t) g.chose ∙ (λ j. record u.ext.wake { owing = false; chosen = append_assoc u.ext.wake.chosen v.ext.sem.rest (t ∷ []) j });
+          clear = λ _. refl;
           are = ap (without_all (drop (i + 1) batch)) now ∙ (ap (λ (z : List ℕ). without_all z v.ext.list.list) (sym next) ∙ g.are);
         }
 
@@ -204,6 +223,8 @@ module _ (u : V) (batch : List ℕ) where
     list = g.list;
     rest = rest;
     stage = λ p. g.begun (let e = ap (λ (z : List ℕ). length z) rest in omega (arith, e, p));
+    chose = subst (λ (z : List ℕ). Chose z u.ext.wake v.ext.wake) rest g.chose;
+    clear = λ p. g.clear (let e = ap (λ (z : List ℕ). length z) rest in omega (arith, e, p));
     are = ap (λ (z : List ℕ). without_all z v.ext.list.list) (sym none) ∙ g.are;
   }
 
@@ -222,6 +243,8 @@ removes-since v w u batch more_steps kept r = record {
   list = r.list;
   rest = r.rest;
   stage = r.stage;
+  chose = subst (λ (z : SemWake). Chose batch z u.ext.wake) (ap (λ (z : V). z.ext.wake) kept) r.chose;
+  clear = r.clear;
   are = r.are ∙ ap (λ (z : V). without_all batch z.ext.list.list) kept;
 }
 
@@ -239,8 +262,8 @@ first-reads (x ∷ q) w e reads = ap (λ (b : Bool). if b then false else true) 
     same = ap {A = Waiter} (λ z. z.writer) (let is : x ≡ w = cc in is)
 
 -- the batch that a pass has removed is granted
-pub grants-removed : (v w u : V) → w.steps ≤ u.steps → RemovesAll v (batch_in v.ext.list.list) w → OnlySem with_sem w (all_granted w.ext.sem) u → Grants false v u
-grants-removed v w u more_steps r only = let list = ap (λ (z : V). z.ext.list) only in let spin = ap (λ (z : V). z.spin) only in record {
+pub grants-removed : (v w u : V) → w.steps ≤ u.steps → 0 < length (batch_in v.ext.list.list) → RemovesAll v (batch_in v.ext.list.list) w → OnlySem with_sem w (all_granted w.ext.sem) u → Grants false v u
+grants-removed v w u more_steps some r only = let wake = ap (λ (z : V). z.ext.wake) only in let list = ap (λ (z : V). z.ext.list) only in let spin = ap (λ (z : V). z.spin) only in record {
   beside = record {
     later = let a = r.beside.later in omega (arith, a, more_steps);
     hand = ap (λ (z : V). z.hand) only ∙ r.beside.hand;
@@ -261,4 +284,8 @@ grants-removed v w u more_steps r only = let list = ap (λ (z : V). z.ext.list) 
     sound = subst IsList (sym (ap (λ (b : ListHand). b.list) list)) r.list.sound;
   };
   left = ap (λ (b : ListHand). b.list) list ∙ r.are;
+  chosen = record {
+    chose = subst (Chose (batch_in v.ext.list.list) v.ext.wake) (sym wake) r.chose;
+    clear = ap (λ (b : SemWake). b.owing) wake ∙ r.clear some;
+  };
 }

@@ -1,44 +1,52 @@
 -- The rule of a semaphore implies what is stated of it.
-use Rattle.std.proofs.Common.{◌≡◌, ◌∙◌, ℕ, zero, suc, ◌+◌, ◌/◌, ◌%◌, ◌==◌, ◌<◌, ◌≤◌, true, false, List, [], ◌∷◌, length, map, Option, Some, None, ne_eqb, refl, sym, ap, arith}
-use mathlib.Core.Option.{some}
+use Rattle.std.proofs.Common.{◌≡◌, ◌∙◌, ℕ, zero, suc, ◌+◌, ◌/◌, ◌%◌, ◌==◌, ◌<◌, ◌≤◌, true, false, ◌⊎◌, inl, inr, Bool, List, [], ◌∷◌, length, map, Option, Some, None, ne_eqb, refl, sym, ap, subst, arith, ⊎_elim}
+use mathlib.Core.Option.{some, some-injective}
 use lib.ListN.{get_elem?}
 use Rattle.atomic_table.proofs.Lists.{at_map}
 use Rattle.word_bits.specs.LockWords.{counted as shut}
 use Rattle.word_bits.specs.Objects.{Obj}
 use Rattle.word_bits.specs.Histories.{Plan}
 use Rattle.lock_core.specs.declared.view.Hand.{Hand}
+use Rattle.lock_core.specs.declared.view.Moment.{Moment}
 use Rattle.lock_core.specs.Layout.{site}
 use Rattle.lock_core.specs.Locked.{HasPass, IsWaitLockFree}
 use Rattle.lock_core.specs.Parts.{Each, at_unmap}
 use Rattle.lock_core.specs.Pasts.{instant, marks_of, moment}
 use Rattle.lock_core.specs.Records.{bit}
 use Rattle.lock_core.specs.Spins.{holds_in}
-use Rattle.lock_core.specs.Totals.{total}
+use Rattle.lock_core.specs.Totals.{total, total-at}
 use Rattle.lock_core.specs.Views.{hand_of, is_number, named_of, spin_of}
 use Rattle.lock_core.proofs.HandLaws.{false-or-true, held-none, not-both}
 use Rattle.lock_core.proofs.Stating.{kept-states}
 use Rattle.wait_list.specs.declared.view.Waiter.{Waiter}
-use Rattle.wait_list.specs.Lists.{Part, PartOk, changes_of, counted, list_part}
+use Rattle.wait_list.specs.Lists.{AreTasks, Part, PartOk, changes_of, counted, first_code, list_part}
 use Rattle.wait_list.specs.ListLaws.{holds-or-not}
-use Rattle.rwsem_wake.specs.SemParts.{SemPart, busy_of, busy_weight, named_weight, reads_at, reads_weight, reserve_of, rest_of, transit_weight, writes_at, writes_weight}
+use Rattle.wake_duty.specs.declared.view.Vigil.{Vigil}
+use Rattle.wake_duty.specs.declared.view.Vigil.TheVariants.{Absent, Awake, Tried}
+use Rattle.wake_duty.specs.Wakes.{awake, wake_word}
+use Rattle.sem_duty.specs.SemDuties.{DutyPart, answers, chose, first_writes, rouses, stirs, times, wakes_first, where_so}
+use Rattle.rwsem_wake.specs.SemParts.{SemPart, alone_of, busy_of, busy_weight, granted_of, granting_of, named_weight, reads_at, reads_weight, reserve_of, rest_of, shared_of, transit_weight, writes_at, writes_weight}
+use Rattle.rwsem_wake.specs.Duties.{overdue_of}
+use Rattle.rwsem_wake.specs.Stated.{readers}
+use Rattle.rwsem_wake.proofs.DutySteps.{late-are}
 use Rattle.rwsem_wake.specs.Semaphores.{Quiet}
 use Rattle.rwsem_wake.proofs.Readers.{only-first, readers-are, readers-once}
 use Rattle.rwsem_wake.proofs.Stating.{sem-states, sem-waiters}
 use Rattle.rwsem_slow.specs.ListLaws.{batch-busy}
 use Rattle.rwsem_slow.specs.ListSteps.{counted-is}
-use Rattle.rwsem_slow.specs.RwSems.{V, Kept, RwSemKept, count_in, grants_in, list_of, marks_in, seen, standing}
+use Rattle.rwsem_slow.specs.RwSems.{V, Kept, RwSemKept, count_in, duty_seen, grants_in, list_of, marks_in, seen, standing, wake_words}
 use Rattle.rwsem_slow.specs.RwSemLaws.{few-named}
-use Rattle.rwsem_slow.specs.Stated.{HasWaitLock, IsQueued, IsRwSemThen}
+use Rattle.rwsem_slow.specs.Stated.{HasWaitLock, IsQueued, IsRoused, IsRwSemThen, SomebodyKeepsOut, SomebodyLooks, WakesMarked}
 
 length-map : {A B : Type 0} (f : A → B) (xs : List A) → length (map f xs) ≡ length xs
 length-map f [] = refl
 length-map f (x ∷ xs) = let e = length-map f xs in omega (arith, e)
 
 -- whose weight in a total isn't 0
-view-of : (f : SemPart → ℕ) (vs : List V) → 0 < total f (map seen vs) → (j : ℕ) × (v : V) × (get_elem? vs j ≡ some v) × (0 < f (seen v))
-view-of f [] more = absurd (omega (arith, more))
-view-of f (v ∷ vs) more = elim (native.Mathlib.Decide.dec_le (f (seen v)) 0) [
-  | yes none ↦ let s = view-of f vs (omega (arith, more, none)) in (suc s.0, s.1, s.2, s.3)
+view-of : {X : Type 0} (part : V → X) (f : X → ℕ) (vs : List V) → 0 < total f (map part vs) → (j : ℕ) × (v : V) × (get_elem? vs j ≡ some v) × (0 < f (part v))
+view-of part f [] more = absurd (omega (arith, more))
+view-of part f (v ∷ vs) more = elim (native.Mathlib.Decide.dec_le (f (part v)) 0) [
+  | yes none ↦ let s = view-of part f vs (omega (arith, more, none)) in (suc s.0, s.1, s.2, s.3)
   | no weighs ↦ (zero, v, refl, omega (arith, weighs))
 ]
 
@@ -50,9 +58,32 @@ named-is t (Some u) (suc n) more = false-or-true (u == t) (λ same. ap Some (eqb
     eqb-eq : (m n : ℕ) → (m == n) ≡ true → m ≡ n
     eqb-eq m n e = elim (native.Mathlib.Decide.ℕ_discrete m n) [ yes same ↦ same | no other ↦ not-both (m == n) (ne_eqb m n other) e ]
 
+awake-is : (t : ℕ) (task : Option ℕ) (x : Vigil) → 0 < awake t task x → (task ≡ Some t) × (x ≡ Awake)
+awake-is t task Absent more = absurd (omega (arith, more))
+awake-is t task Awake more = (named-is t task 1 more, refl)
+awake-is t task (Tried n) more = absurd (omega (arith, more))
+
+so-is : (b : Bool) → 0 < bit b → b ≡ true
+so-is true more = refl
+so-is false more = absurd (omega (arith, more))
+
+where-weighs : (n m : ℕ) → 0 < where_so n m → (0 < n) × (0 < m)
+where-weighs zero m more = absurd (omega (arith, more))
+where-weighs (suc n) m more = (omega arith, more)
+
 module _ {Call : Type 0} (o : Obj Call) (size : ℕ) (k : Plan) (ws : List ℕ) (vs : List V) (q : List Waiter) (r : RwSemKept o size k ws vs q) where
   abbrev ps : List SemPart
   ps = map seen vs
+
+  -- what of the passes concerns wakes
+  abbrev duty : V → DutyPart
+  duty = duty_seen (grants_in ws)
+
+  abbrev ds : List DutyPart
+  ds = map duty vs
+
+  abbrev here : Moment
+  here = moment standing (instant ws vs)
 
   changes : {words : List ℕ} {p : Part} → PartOk words q p → holds_in p.0 ≡ 0 → p.1.changes ≡ false
   changes {words} {p} ok out = false-or-true p.1.changes (λ t. let h = (ok.changes t).0.0 in absurd (omega (arith, h, out))) (λ f. f)
@@ -75,8 +106,8 @@ module _ {Call : Type 0} (o : Obj Call) (size : ℕ) (k : Plan) (ws : List ℕ) 
   -- who waits has a pass
   pub has-pass : (t : ℕ) → 0 < counted t q → HasPass (map hand_of vs) t
   has-pass t more = let c = counted-is t q in let a = r.sem.reads t in let b = r.sem.writes t in elim (native.Mathlib.Decide.dec_le 1 (total (reads_at t) ps)) [
-    | yes reads ↦ let s = view-of (reads_at t) vs (omega (arith, reads)) in (s.0, s.1.hand, at_map hand_of vs s.0 s.1 s.2, named-is t s.1.hand.task (reads_weight s.1.ext.sem.wait) s.3)
-    | no none ↦ let s = view-of (writes_at t) vs (omega (arith, none, a, b, c, more)) in (s.0, s.1.hand, at_map hand_of vs s.0 s.1 s.2, named-is t s.1.hand.task (writes_weight s.1.ext.sem.wait) s.3)
+    | yes reads ↦ let s = view-of seen (reads_at t) vs (omega (arith, reads)) in (s.0, s.1.hand, at_map hand_of vs s.0 s.1 s.2, named-is t s.1.hand.task (reads_weight s.1.ext.sem.wait) s.3)
+    | no none ↦ let s = view-of seen (writes_at t) vs (omega (arith, none, a, b, c, more)) in (s.0, s.1.hand, at_map hand_of vs s.0 s.1 s.2, named-is t s.1.hand.task (writes_weight s.1.ext.sem.wait) s.3)
   ]
 
   small : Each (λ (p : SemPart). (t : ℕ) → p.task ≡ Some t → t < 64) ps
@@ -94,6 +125,75 @@ module _ {Call : Type 0} (o : Obj Call) (size : ℕ) (k : Plan) (ws : List ℕ) 
   locks id p at more = let v = at_unmap seen vs id p at in let ok = r.sem.each id p at in let a = ok.reserved in let c = batch-busy p.sem.stage in let d : busy_of p ≡ 0 → rest_of p ≡ 0 = λ none. ap (λ (l : List ℕ). length l) (ok.rest (omega (arith, none, c))) in let e : busy_weight v.0.ext.sem.stage ≡ busy_of p = ap {A = SemPart} (λ x. busy_of x) v.2 in let l = r.locked id v.0 v.1 in
       holds-or-not v.0.spin (λ one. (v.0.spin, at_map spin_of vs id v.0 v.1, one)) (λ out. absurd (let z : busy_of p ≡ 0 = omega (arith, e, l, out) in let f = d z in omega (arith, a, z, f, more)))
 
+  marked-as : (j : ℕ) (v : V) → get_elem? vs j ≡ some v → WakesMarked j v.ext.wake here
+  marked-as j v at = (v.ext.sem, v.ext.appends, at_map (marks_of standing) vs j v at)
+
+  -- a task is roused that somebody has chosen, whose wake word is set, or that is awake
+  chosen-roused : (t j : ℕ) (v : V) → get_elem? vs j ≡ some v → 0 < times t v.ext.wake.chosen → IsRoused here t
+  chosen-roused t j v at more = inl (j, v.ext.wake, marked-as j v at, omega (arith, more))
+
+  word-roused : (t : ℕ) → t < 64 → 0 < wake_word (wake_words ws) t → IsRoused here t
+  word-roused t few more = let l = r.duty.bits t few in inr (inl (omega (arith, l, more)))
+
+  awake-roused : (t j : ℕ) (v : V) → get_elem? vs j ≡ some v → 0 < awake t v.hand.task v.ext.wake.vigil → IsRoused here t
+  awake-roused t j v at more = let a = awake-is t v.hand.task v.ext.wake.vigil more in inr (inr (j, v.hand, v.ext.wake, at_map hand_of vs j v at, a.0, marked-as j v at, a.1))
+
+  -- the pass of this weight writes, or is to look whom to wake
+  looks-or : (j : ℕ) (v : V) → get_elem? vs j ≡ some v → SomebodyLooks here ⊎ (bit v.ext.wake.owing ≡ 0)
+  looks-or j v at = elim (native.Mathlib.Decide.dec_le 1 (bit v.ext.wake.owing)) [
+    | yes owes ↦ inl (j, v.ext.wake, marked-as j v at, so-is v.ext.wake.owing owes)
+    | no clear ↦ inr (omega (arith, clear))
+  ]
+
+  -- the first of those who wait, where nobody writes or reads
+  first-there : (w : Waiter) (behind : List Waiter) → q ≡ w ∷ behind → total alone_of ps ≡ 0 → readers (grants_in ws) ps ≡ 0 → SomebodyLooks here ⊎ SomebodyKeepsOut ps ⊎ ((w.writer ≡ true) × IsRoused here w.task)
+  first-there w behind is none unread = elim (native.Mathlib.Decide.dec_le 1 (total stirs ds)) [
+    | yes stir ↦ somebody stir
+    | no still ↦ let kept = r.duty.first t (ap first_code is) in let e : wakes_first (wake_words ws) q ds t ≡ where_so (bit w.writer) (total (rouses t) ds + wake_word (wake_words ws) t) = ap (λ (z : List Waiter). where_so (first_writes z) (total (rouses t) ds + wake_word (wake_words ws) t)) is in
+        let s = where-weighs (bit w.writer) (total (rouses t) ds + wake_word (wake_words ws) t) (omega (arith, kept, still, e)) in inr (inr (so-is w.writer s.0, roused s.1))
+  ]
+    where
+      t : ℕ
+      t = w.task
+
+      few : w.task < 64
+      few = (subst AreTasks is r.list.sound.small).0
+
+      somebody : 1 ≤ total stirs ds → SomebodyLooks here ⊎ SomebodyKeepsOut ps ⊎ ((w.writer ≡ true) × IsRoused here w.task)
+      somebody stir = let s = view-of duty stirs vs (omega (arith, stir)) in let x : V = s.1 in let at = at_map seen vs s.0 x s.2 in ⊎_elim
+          (λ (looks : SomebodyLooks here). inl looks)
+          (λ (clear : bit x.ext.wake.owing ≡ 0). inr (inl (s.0, seen x, at, (let a = total-at alone_of ps s.0 (seen x) at in let b = total-at shared_of ps s.0 (seen x) at in let c = total-at (granted_of (grants_in ws)) ps s.0 (seen x) at in let d = total-at granting_of ps s.0 (seen x) at in let m = s.3 in omega (arith, m, clear, a, b, c, d, none, unread)))))
+          (looks-or s.0 x s.2)
+
+      roused : 0 < total (rouses w.task) ds + wake_word (wake_words ws) w.task → IsRoused here w.task
+      roused more = elim (native.Mathlib.Decide.dec_le 1 (wake_word (wake_words ws) w.task)) [
+        | yes set_it ↦ word-roused w.task few (omega (arith, set_it))
+        | no unset ↦ let s = view-of duty (rouses w.task) vs (omega (arith, more, unset)) in let x : V = s.1 in let m = s.3 in elim (native.Mathlib.Decide.dec_le 1 (times w.task x.ext.wake.chosen)) [
+          | yes chosen ↦ chosen-roused w.task s.0 x s.2 (omega (arith, chosen))
+          | no unchosen ↦ awake-roused w.task s.0 x s.2 (where-weighs (duty x).writes (awake w.task x.hand.task x.ext.wake.vigil) (omega (arith, m, unchosen))).1
+        ]
+      ]
+
+  -- while a bias stands that came under a writer
+  late-there : (id : ℕ) (p : SemPart) → get_elem? ps id ≡ some p → 1 ≤ overdue_of p → (1 ≤ total alone_of ps) ⊎ SomebodyLooks here
+  late-there id p at more = let l = total-at overdue_of ps id p at in let e = late-are seen (λ (x : V). x.ext.wake) (grants_in ws) vs in let k = r.duty.late (omega (arith, l, e, more)) in let s = view-of duty answers vs (omega (arith, k)) in ⊎_elim
+      (λ (looks : SomebodyLooks here). inr looks)
+      (λ (clear : bit s.1.ext.wake.owing ≡ 0). inl (let a = total-at alone_of ps s.0 (seen s.1) (at_map seen vs s.0 s.1 s.2) in let m = s.3 in omega (arith, a, m, clear)))
+      (looks-or s.0 s.1 s.2)
+
+  -- a reader that is granted while it waits
+  granted-there : (id : ℕ) (h : Hand) (p : SemPart) → get_elem? (map hand_of vs) id ≡ some h → get_elem? ps id ≡ some p → 1 ≤ granted_of (grants_in ws) p → (t : ℕ) → h.task ≡ Some t → IsRoused here t
+  granted-there id h p at at' more t named = let x = at_unmap hand_of vs id h at in let v : V = x.0 in let there = at_map seen vs id v x.1 in let task : v.hand.task ≡ Some t = ap {A = Hand} (λ g. g.task) x.2 ∙ named in
+      let g : granted_of (grants_in ws) p ≡ granted_of (grants_in ws) (seen v) = ap (granted_of (grants_in ws)) (some-injective p (seen v) (sym at' ∙ there)) in
+      let kept = r.duty.granted id (duty v) (at_map duty vs id v x.1) (omega (arith, g, more)) t task in
+      elim (native.Mathlib.Decide.dec_le 1 (total (chose t) ds)) [
+        | yes chosen ↦ let s = view-of duty (chose t) vs (omega (arith, chosen)) in chosen-roused t s.0 s.1 s.2 s.3
+        | no unchosen ↦ elim (native.Mathlib.Decide.dec_le 1 (wake_word (wake_words ws) t)) [
+          | yes set_it ↦ word-roused t (small id (seen v) there t task) (omega (arith, set_it))
+          | no unset ↦ awake-roused t id v x.1 (omega (arith, kept, unchosen, unset))
+        ]
+      ]
+
   pub queued : IsQueued (moment standing (instant ws vs)) q ps
   queued = record {
     parts = record {
@@ -105,6 +205,7 @@ module _ {Call : Type 0} (o : Obj Call) (size : ℕ) (k : Plan) (ws : List ℕ) 
           task = ap {A = Hand} (λ g. g.task) p.2;
           held = ap {A = Hand} (λ g. g.held) p.2;
           appends = p.0.ext.appends;
+          wake = p.0.ext.wake;
           marked = at_map (marks_of standing) vs id p.0 p.1;
         },
       );
@@ -122,6 +223,9 @@ module _ {Call : Type 0} (o : Obj Call) (size : ℕ) (k : Plan) (ws : List ℕ) 
       (let a = (r.sem.each id p at).apart in held-none p.held (omega (arith, a, one))),
       λ none. let b = (r.sem.each id p at).numbered none in let z : transit_weight p.sem.bias ≡ 0 = ap transit_weight b.1 in absurd (omega (arith, one, z)),
     );
+    first = first-there;
+    late = late-there;
+    granted = granted-there;
   }
 
 module _ {Call : Type 0} (o : Obj Call) (size : ℕ) where

@@ -41,7 +41,7 @@ use Rattle.rwsem_count.specs.Tries.{MissesSince}
 use Rattle.rwsem_count.proofs.Counting.{alone-parts, held-parts, its-plan}
 use Rattle.rwsem_count.proofs.Sitting.{sits-missed}
 use Rattle.rwsem_wake.specs.declared.view.SemHand.{SemHand}
-use Rattle.rwsem_wake.specs.SemParts.{apart_hand}
+use Rattle.rwsem_wake.specs.SemParts.{apart_hand, transit_weight}
 use Rattle.rwsem_slow.specs.declared.view.RwSemHand.{RwSemHand}
 use Rattle.rwsem_slow.specs.CountHosting.{sem-count, sem-counted}
 use Rattle.rwsem_slow.specs.Places.{line_of}
@@ -91,8 +91,8 @@ module _ {Call : Type 0} (o : Obj Call) (size : ℕ) (k : Plan) where
       (t.0, keeps, tt, subst (λ (z : List ℕ). Goes Place (RwSemMoves k) id ws vs z (set vs id t.0)) (sym (set-get_or ws count_at 0)) t.2, t.1, t.3)
 
   -- its exchange
-  pub unqueued-takes : (slots id t old : ℕ) (me : M) → me.0.hand.task ≡ Some t → me.0.hand.held ≡ No → me.0.ext.sem ≡ apart_hand → IsUnlocked old → IsLawfulCount old → Lets Place (RwSemMoves k) slots id me count_at (Exchange old (old + 1)) (TakenUnqueued o (step slots count_at old (old + 1) none) me)
-  unqueued-takes slots id t old me has out apart free fits = let v : V = me.0 in let numbered : v.hand.task ≢ None = λ e. none-some t (sym e ∙ has) in let low = fits.0 in let high = fits.1 in let even = free.0 in let field = free.1 in let clear = free.2 in let nobody : old / 256 ≡ 0 = omega (arith, low, high, field) in
+  pub unqueued-takes : (slots id t old : ℕ) (me : M) → me.0.hand.task ≡ Some t → me.0.hand.held ≡ No → me.0.ext.sem ≡ apart_hand → me.0.ext.wake.owing ≡ false → IsUnlocked old → IsLawfulCount old → Lets Place (RwSemMoves k) slots id me count_at (Exchange old (old + 1)) (TakenUnqueued o (step slots count_at old (old + 1) none) me)
+  unqueued-takes slots id t old me has out apart clear_wake free fits = let v : V = me.0 in let numbered : v.hand.task ≢ None = λ e. none-some t (sym e ∙ has) in let low = fits.0 in let high = fits.1 in let even = free.0 in let field = free.1 in let clear = free.2 in let nobody : old / 256 ≡ 0 = omega (arith, low, high, field) in
       chooses Place (RwSemMoves k) slots id count_at old (old + 1) me (TakenUnqueued o (step slots count_at old (old + 1) none) me)
       (λ ws vs h at found. let r = h.1.site_holds in let hs : List Hand = map hand_of vs in let ps : List CountPart = map (count_part bias_of) vs in let mine = at_map hand_of vs id v at in let mine' = at_map (count_part bias_of) vs id v at in
       let c = subst (λ (z : ℕ). CountKept z (more_in k ws vs) ps) found (sem-count o size k ws vs h).0 in let g : Hand = took v.hand Alone (take size (site k ws).guarded) r.log in
@@ -100,7 +100,7 @@ module _ {Call : Type 0} (o : Obj Call) (size : ℕ) (k : Plan) where
         based biased v g Clear,
         refl,
         sem-counted o size k ws vs id (old + 1) v g Clear h at record { numbered = numbered; task = refl; goes = (record { misses = omega arith; freed = λ e. refl; takes = omega arith; comes = λ _ _. omega arith }, refl); left = λ held. absurd (held out) } (inl (refl, inl (refl, refl)))
-            (ap (λ (s : SemHand). s.wait) apart, omega arith, refl, ap (λ (s : SemHand). s.rest) apart)
+            (ap (λ (s : SemHand). s.wait) apart, omega arith, refl, ap (λ (s : SemHand). s.rest) apart, ap (λ (s : SemHand). s.stage) apart, clear_wake, (let e = ap (λ (s : SemHand). transit_weight s.bias) apart in omega (arith, e)))
             (subst (λ (z : ℕ). CountMove z (old + 1) (count_part bias_of v) (part g Clear)) (sym found) record { flags = omega (arith, even); writer = λ x y. clear; lone = λ x y. nobody; reader = λ e. alone-shared e; bias = inr (inl refl) })
             (count-writes ps id (count_part bias_of v) (part g Clear) mine' old (old + 1) (more_in k ws vs) c nobody even (omega (arith, even)) (omega (arith, low, nobody, even, clear)) out refl (sym (ap (λ (s : SemHand). s.bias) apart)))
             (site-takes o counted size k (site k ws) hs id t v.hand Alone r mine out has (λ e. no-alone (sym e)) (λ _. none_held) none_alone),

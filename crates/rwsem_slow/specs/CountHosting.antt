@@ -15,7 +15,9 @@ use Rattle.lock_core.specs.Views.{SpinHolds, hand_of, is_number}
 use Rattle.lock_core.specs.Sites.{SiteKept}
 use Rattle.lock_core.specs.Totals.{total}
 use Rattle.lock_core.proofs.HandLaws.{is_number-else, number-or-not}
+use Rattle.lock_core.specs.Spins.{holds_in}
 use Rattle.wait_list.specs.declared.view.Waiter.{Waiter}
+use Rattle.wait_list.specs.declared.view.Change.TheVariants.{Stay}
 use Rattle.rwsem_count.specs.declared.view.Bias.{Bias}
 use Rattle.rwsem_count.specs.Counts.{CountKept, CountMove, CountPart, HandStep, based, count_part, part, shared_weight}
 use Rattle.rwsem_wake.specs.declared.view.SemHand.{SemHand}
@@ -25,7 +27,10 @@ use Rattle.rwsem_wake.specs.Handoffs.{KeepsHandoff, Unasked, granting_at, reads_
 use Rattle.rwsem_wake.proofs.HandoffSteps.{PassGoes, hands-free, hands-reads, hands-step, own-comes}
 use Rattle.rwsem_wake.proofs.Lines.{lines-else}
 use Rattle.rwsem_wake.proofs.WakeLaws.{held-most, ok-of, sem-counts, transit-most}
-use Rattle.rwsem_slow.specs.RwSems.{V, any_count, bias_of, biased, count_at, count_in, grants_at, grants_in, marks_at, marks_in, may_count, more_in, seen, RwSemKept, Kept as IsKept}
+use Rattle.rwsem_slow.specs.RwSems.{V, any_count, bias_of, biased, count_at, count_in, grants_at, grants_in, marks_at, marks_in, may_count, more_in, seen, wake_words, RwSemKept, Kept as IsKept}
+use Rattle.rwsem_slow.specs.WakesGo.{WakesGo, wake_stands}
+use Rattle.rwsem_slow.specs.WakesGoLaws.{count-goes}
+use Rattle.rwsem_slow.specs.DutyRule.{Duties, duties-counted}
 use Rattle.rwsem_slow.specs.RwSemLaws.{Go as Going, SemWords, Tries, sem_words, sem-lawful, sem-only, sem-turns}
 
 pub bias-back : (v : V) (h : Hand) (b : Bias) → bias_of (biased v h b) ≡ b
@@ -125,6 +130,9 @@ module _ {Call : Type 0} (o : Obj Call) (size : ℕ) where
       let ok : SemPartOk u = number-or-not h.task (λ out. absurd (step.numbered (sym step.task ∙ out))) (λ t has. ok-of u t has ((r.sem.each id (seen v) mine).rest) (let s = (held-most h.held).1 in omega (arith, none, light, s)) (omega (arith, clear)) (omega (arith, none, light)) (let l = transit-most b in omega (arith, light, l))) in
       let kept = counts-kept ps id (seen v) u mine (count_in ws) n q (marks_in ws) (grants_in ws) r.sem step.task refl refl refl move (subst (λ (z : List CountPart). CountKept n (more_in k ws vs) (set z id (part h b))) (sym (same-parts vs)) count) ok in
       let hands = number-or-not v.hand.task (λ out. absurd (step.numbered out)) (λ t has. counts-hands ps id (seen v) u mine (count_in ws) n q (marks_in ws) (grants_in ws) r.sem step.task refl refl refl move t has may.3) in
-      sem-turns o size k ws vs q id count_at n v h s r at (omega arith) (omega arith) (λ l. absurd (omega (arith, l))) (r.locked id v at) (subst (HandStep v.hand h) (sym word) step) tries
+      sem-turns o size k ws vs q id count_at n v h s (biased v h b).wake r at (omega arith) (omega arith) (λ l. absurd (omega (arith, l))) (r.locked id v at) (subst (HandStep v.hand h) (sym word) step) tries
       (subst (λ (z : SemWords). SemKept z.0 q z.1 z.2 (set ps id u)) (sym words) kept)
-      (subst (λ (z : SemWords). KeepsHandoff id (count_in ws) q (marks_in ws) (grants_in ws) ps z.0 z.1 z.2 (set ps id u)) (sym words) hands) there
+      (subst (λ (z : SemWords). KeepsHandoff id (count_in ws) q (marks_in ws) (grants_in ws) ps z.0 z.1 z.2 (set ps id u)) (sym words) hands)
+      (subst (λ (z : List ℕ). Duties (wake_words ws) z q (set vs id (based biased v h b))) (sym grants) (number-or-not v.hand.task (λ out. absurd (step.numbered out)) (λ own has.
+      duties-counted (wake_words ws) (grants_in ws) (marks_in ws) (count_in ws) n q vs id v (r.duty, r.staged) at r.sem h b kept may step.task own has (let f = move.flags in omega (arith, f)) step.left)))
+      (subst (λ (z : ℕ). WakesGo (count_in ws) z q Stay (grants_in ws) (wake_words ws) (wake_words ws) (holds_in v.spin) (seen v) u (wake_stands v.ext.wake) (wake_stands (biased v h b).wake)) (sym word) (count-goes (count_in ws) n q (grants_in ws) (wake_words ws) (holds_in v.spin) (seen v) u v.ext.wake h.freed step.left may.5)) there

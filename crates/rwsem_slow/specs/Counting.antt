@@ -1,22 +1,13 @@
 -- What a call on a semaphore counts on its CPU.
-use Rattle.std.specs.Prelude.{◌≡◌, ℕ, zero, suc, ◌+◌, ◌≤◌}
-use Rattle.cpu_task.specs.Counting.{one_more}
+use Rattle.std.specs.Prelude.{◌≡◌, ℕ, ◌+◌, ◌≤◌}
+use Rattle.cpu_task.specs.Counting.{SleepsAtMost, SleepsInTurns}
 use Rattle.lock_core.specs.declared.how.How.{How}
 use Rattle.lock_core.specs.declared.how.How.TheVariants.{Fast, Spun, Slept}
 use Rattle.lock_core.specs.Shown.{Shown}
 
--- a CPU's count of sleeps, after so many more
-abbrev pub slept : (turns sleeps : ℕ) → ℕ
-slept zero sleeps = sleeps
-slept (suc turns) sleeps = one_more (slept turns sleeps)
-
--- the CPU slept once for each time that the pass took the wait lock anew
-abbrev pub SleepsEachTurn : (entries entries' sleeps sleeps' : ℕ) → Type 0
-SleepsEachTurn entries entries' sleeps sleeps' = (turns : ℕ) × (entries' ≡ entries + turns) × (sleeps' ≡ slept turns sleeps)
-
 -- the CPU slept once for each step of the pass at most
 abbrev pub SleepsBetween : (steps steps' sleeps sleeps' : ℕ) → Type 0
-SleepsBetween steps steps' sleeps sleeps' = (turns : ℕ) × (steps + turns ≤ steps') × (sleeps' ≡ slept turns sleeps)
+SleepsBetween steps steps' sleeps sleeps' = (turns : ℕ) × (steps + turns ≤ steps') × SleepsAtMost turns sleeps sleeps'
 
 -- What a call that reads counted on its CPU: no true answer, and no sleep unless it appended itself; it made a step before each sleep.
 abbrev pub CountsReading : How → (sleeps sleeps' rescheds rescheds' : ℕ) → Shown → Shown → Type 0
@@ -24,12 +15,12 @@ CountsReading Fast sleeps sleeps' rescheds rescheds' v u = (sleeps' ≡ sleeps) 
 CountsReading Spun sleeps sleeps' rescheds rescheds' v u = (sleeps' ≡ sleeps) × (rescheds' ≡ rescheds)
 CountsReading Slept sleeps sleeps' rescheds rescheds' v u = SleepsBetween v.steps u.steps sleeps sleeps' × (rescheds' ≡ rescheds)
 
--- What a call that writes counted on its CPU: nothing by its first try, and no sleep while it spun. If it appended itself, it took the wait lock once, and once more behind each sleep.
+-- What a call that writes counted on its CPU: nothing by its first try, and no sleep while it spun. If it appended itself, it took the wait lock once, and once more behind each turn in which it slept or was woken before.
 abbrev pub CountsWriting : How → (sleeps sleeps' rescheds rescheds' : ℕ) → Shown → Shown → Type 0
 CountsWriting Fast sleeps sleeps' rescheds rescheds' v u = (sleeps' ≡ sleeps) × (rescheds' ≡ rescheds)
 CountsWriting Spun sleeps sleeps' rescheds rescheds' v u = (sleeps' ≡ sleeps) × (rescheds ≤ rescheds')
-CountsWriting Slept sleeps sleeps' rescheds rescheds' v u = SleepsEachTurn (v.spin.entries + 1) u.spin.entries sleeps sleeps' × (rescheds ≤ rescheds')
+CountsWriting Slept sleeps sleeps' rescheds rescheds' v u = SleepsInTurns (v.spin.entries + 1) u.spin.entries sleeps sleeps' × (rescheds ≤ rescheds')
 
 -- what one that was interrupted counted: it heard of its signal after it had released the wait lock, and took that anew without a sleep
 abbrev pub CountsLeaving : (sleeps sleeps' rescheds rescheds' : ℕ) → Shown → Shown → Type 0
-CountsLeaving sleeps sleeps' rescheds rescheds' v u = SleepsEachTurn (v.spin.entries + 2) u.spin.entries sleeps sleeps' × (rescheds ≤ rescheds')
+CountsLeaving sleeps sleeps' rescheds rescheds' v u = SleepsInTurns (v.spin.entries + 2) u.spin.entries sleeps sleeps' × (rescheds ≤ rescheds')

@@ -17,7 +17,7 @@ use Rattle.osq_nodes.specs.Handles as queue
 use Rattle.rwsem_slow.specs.declared.calls.RwSem.{RwSem}
 use Rattle.rwsem_slow.specs.declared.calls.RwPass.{RwPass}
 use Rattle.rwsem_slow.specs.RwSems.{idle, standing}
-use Rattle.rwsem_slow.specs.Places.{IsOutside, line_of}
+use Rattle.rwsem_slow.specs.Places.{AreCounts, IsOutside, line_of}
 
 -- a new table of this plan
 abbrev pub newest : Plan → Moment
@@ -61,11 +61,24 @@ module _ {O C : Type 0} where
   abbrev pub KeepsMisses : RwPass O C → RwPass O C → Type 0
   KeepsMisses old new = (hand_in new).misses ≡ (hand_in old).misses
 
+  -- how many wake words it has set, and how often its task has fallen asleep
+  abbrev pub wakes_in : RwPass O C → ℕ
+  wakes_in pass = pass.counts.wakes
+
+  abbrev pub dozes_in : RwPass O C → ℕ
+  dozes_in pass = pass.counts.dozes
+
+  -- it has neither set a wake word nor fallen asleep
+  pub record KeepsWakes (old new : RwPass O C) : Type 0 where
+    pub wakes : wakes_in new ≡ wakes_in old
+    pub dozes : dozes_in new ≡ dozes_in old
+
   -- the pass is one of the semaphore's, and no call on it is under way
   pub record SitsAt (sem : RwSem O C) (pass : RwPass O C) : Type 0 where
     pub sits : inner.SitsAt sem.site pass.pass
     pub unspun : SpinRests (inner.view_of pass.pass).spin
     pub outside : IsOutside (inner.view_of pass.pass)
+    pub counts : AreCounts pass.counts (inner.view_of pass.pass)
     pub queued : queue.SitsAt sem.osq pass.queue
     pub off : queue.place_in pass.queue ≡ Out
     pub same : queue.task_in pass.queue ≡ inner.task_in pass.pass

@@ -1,5 +1,5 @@
 -- Where a pass stands that leaves the list before it holds.
-use Rattle.std.specs.Prelude.{◌≡◌, ℕ, ◌≤◌, ◌⊎◌, Bool, true, false, List, if◌then◌else◌}
+use Rattle.std.specs.Prelude.{◌≡◌, ℕ, ◌≤◌, ◌⊎◌, ◌++◌, Bool, true, false, List, if◌then◌else◌}
 use Rattle.lock_core.specs.Shown.{Shown}
 use Rattle.wait_list.specs.declared.view.Waiter.{Waiter}
 use Rattle.rwsem_wake.specs.Batches.{starts_with_reader}
@@ -7,9 +7,10 @@ use Rattle.rwsem_wake.specs.declared.view.SemHand.{SemHand}
 use Rattle.rwsem_wake.specs.declared.view.Stage.TheVariants.{Rest, Armed, Emptied, Summing}
 use Rattle.rwsem_wake.specs.declared.view.Wait.TheVariants.{Reads, Writes}
 use Rattle.rwsem_wake.specs.SemParts.{apart_hand}
+use Rattle.wake_duty.specs.declared.view.Vigil.TheVariants.{Absent}
+use Rattle.sem_duty.specs.declared.view.SemWake.{SemWake}
 use Rattle.rwsem_slow.specs.RwSems.{V}
-use Rattle.rwsem_slow.specs.Places.{IsOutside}
-use Rattle.rwsem_slow.specs.Queued.{IsInLine, waiting}
+use Rattle.rwsem_slow.specs.Queued.{IsInLine, IsListed, waiting}
 use Rattle.rwsem_slow.specs.Wakes.{SawWriter, woken_of}
 use Rattle.rwsem_slow.specs.declared.waking.WakeType.TheVariants.{Any}
 
@@ -25,6 +26,7 @@ SeesUngranted v u = u ≡ record v { steps = u.steps; ext = record v.ext { sem =
 pub record IsUngranted (v : V) : Type 0 where
   pub sem : v.ext.sem ≡ ungranted
   pub still : v.ext.list.changes ≡ false
+  pub listed : IsListed v.ext.wake
 
 -- who may leave the list under the wait lock: a writer that waits, and a reader that isn't granted
 abbrev pub MayLeave : V → Type 0
@@ -39,10 +41,16 @@ pub record IsUnmarked (v : V) : Type 0 where
 abbrev pub gone_first : Bool → SemHand
 gone_first empty = record apart_hand { stage = if empty then Emptied else Rest }
 
--- it waits for nothing; all but what it knows of the list and the semaphore is as before
-pub record HasLeft (v u : V) : Type 0 where
+-- what it knows of wakes then: it has chosen these tasks too, is to look for nobody, and waits for nothing
+abbrev pub left_wake : List ℕ → SemWake → SemWake
+left_wake tasks b = record b { owing = false; chosen = b.chosen ++ tasks; vigil = Absent }
+
+-- it waits for nothing, has chosen these tasks too, and is to look for nobody; all but what it knows of the list and the semaphore is as before
+pub record HasLeft (tasks : List ℕ) (v u : V) : Type 0 where
   pub later : v.steps ≤ u.steps
-  pub outside : IsOutside u
+  pub apart : u.ext.sem ≡ apart_hand
+  pub still : u.ext.list.changes ≡ false
+  pub wake : u.ext.wake ≡ left_wake tasks v.ext.wake
   pub hand : u.hand ≡ v.hand
   pub spin : u.spin ≡ v.spin
   pub fronts : u.fronts ≡ v.fronts

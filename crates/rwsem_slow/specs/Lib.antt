@@ -1,6 +1,10 @@
+pub mod WakesGo
 pub mod RwSems
+pub mod WakesGoLaws
 pub mod ListSteps
+pub mod DutyRule
 pub mod RwSemLaws
+pub mod SleepLaws
 pub mod ListLaws
 pub mod CountHosting
 pub mod Places

@@ -1,5 +1,5 @@
 -- The rule of a semaphore hosts a list of waiters.
-use Rattle.std.proofs.Common.{◌≡◌, ℕ, zero, suc, ◌+◌, ◌<◌, ◌≤◌, ◌==◌, ◌⊎◌, inl, inr, Bool, true, false, List, [], ◌∷◌, ◌++◌, length, map, get_or, set, Option, Some, sym, refl, ap, ◌∙◌, subst, arith, length-set}
+use Rattle.std.proofs.Common.{◌≡◌, ◌&&◌, ne_eqb, None, ℕ, zero, suc, ◌+◌, ◌<◌, ◌≤◌, ◌==◌, ◌⊎◌, inl, inr, Bool, true, false, List, [], ◌∷◌, ◌++◌, length, map, get_or, set, Option, Some, sym, refl, ap, ◌∙◌, subst, arith, length-set}
 use mathlib.Core.Option.{some, some-injective, some-ne-none}
 use lib.ListN.{get_elem?}
 use Rattle.atomic_table.proofs.Lists.{at_map, set_again}
@@ -18,27 +18,37 @@ use Rattle.lock_core.specs.Spins.{SpinMoves, holds_in}
 use Rattle.lock_core.specs.SpinLaws.{spin-same}
 use Rattle.lock_core.specs.Totals.{total, total-at}
 use Rattle.lock_core.specs.Parts.{Each, each-set, keep_part, set_part, set-there}
-use Rattle.lock_core.specs.Regions.{part-in, part-below}
-use Rattle.lock_core.proofs.HandLaws.{is_number-here}
+use Rattle.lock_core.specs.Regions.{part-above, part-in, part-below}
+use Rattle.lock_core.proofs.HandLaws.{is_number-here, not-both}
 use Rattle.wait_list.specs.declared.view.Waiter.{Waiter}
 use Rattle.wait_list.specs.declared.view.Change.{Change}
 use Rattle.wait_list.specs.declared.view.Change.TheVariants.{Stay, Enter, Leave}
 use Rattle.wait_list.specs.declared.view.ListHand.{ListHand}
 use Rattle.wait_list.specs.declared.words.TheConstants.{LIST_WORDS}
-use Rattle.wait_list.specs.Lists.{Part, ListKept, LeaverGoes, MadeBy, Allowed, changed, counted, list_part, listed, sighted, without}
+use Rattle.wait_list.specs.ListLaws.{list-known}
+use Rattle.wait_list.specs.Lists.{AreTasks, Part, ListKept, first_code, LeaverGoes, MadeBy, Allowed, changed, counted, list_part, listed, sighted, without}
+use Rattle.wake_duty.specs.declared.view.Vigil.TheVariants.{Awake}
+use Rattle.wake_duty.specs.Wakes.{WAKE_WORDS}
+use Rattle.sem_duty.specs.declared.view.SemWake.{SemWake}
+use Rattle.rwsem_count.specs.declared.view.Bias.{Bias}
+use Rattle.rwsem_count.specs.declared.view.Bias.TheVariants.{Clear, Transit, Reserve}
+use Rattle.rwsem_wake.specs.Stated.{IsFirstReader, Picks}
 use Rattle.rwsem_wake.specs.declared.view.SemHand.{SemHand}
 use Rattle.rwsem_wake.specs.declared.view.Wait.{Wait}
 use Rattle.rwsem_wake.specs.declared.view.Wait.TheVariants.{Apart, Reads, Writes}
 use Rattle.rwsem_wake.specs.declared.view.Stage.{Stage}
 use Rattle.rwsem_wake.specs.declared.view.Stage.TheVariants.{Rest, Armed, Took, Overdue, Removing}
-use Rattle.rwsem_wake.specs.SemParts.{SemPart, busy_weight, busy_of, named_weight, reads_weight, writes_weight, reads_at, writes_at, rest_at, here}
+use Rattle.rwsem_wake.specs.SemParts.{SemPart, busy_weight, busy_of, granted_at, granted_of, granted_weight, named_weight, reads_weight, writes_weight, reads_at, writes_at, rest_at, here}
 use Rattle.rwsem_wake.specs.Semaphores.{SemPartOk, batch_weight}
 use Rattle.rwsem_wake.proofs.Sums.{busy-most}
 use Rattle.rwsem_wake.proofs.QueueLaws.{a_writer, reader, mine-at, reads-at-w, writes-at-w}
 use Rattle.rwsem_wake.proofs.Places.{granted-all}
 use Rattle.rwsem_wake.proofs.HandoffSteps.{hands-none}
-use Rattle.rwsem_slow.specs.RwSems.{V, list_of, seen, list_at, spin_words, count_in, list_words, marks_in, grants_in, IsLocked, RwSemKept, Kept as IsKept, entered, IsMadeBy, joined, picked, parted as parted_at, with_list, saw_first, may_change, MayJoin, MayPick, LeavesTaken, LeavesFirst, LeavesBehind, LeavesPicked}
-use Rattle.rwsem_slow.specs.RwSemLaws.{SemWords, sem_words, sem-else, Go as Going, Sem, Hands, sem-only, goes, goes-on, hands-same, same-site}
+use Rattle.rwsem_slow.specs.RwSems.{V, list_of, seen, list_at, spin_words, count_in, list_words, marks_in, grants_in, IsLocked, RwSemKept, Kept as IsKept, entered, IsMadeBy, chooses_task, joined, leaves_wake, picked, parted as parted_at, parted_wake, has_number, is_clear, looked, may_look, wake_words, wakes_at, with_list, saw_first, may_change, MayJoin, MayPick, LeavesTaken, LeavesFirst, LeavesBehind, LeavesPicked}
+use Rattle.rwsem_slow.specs.WakesGo.{WakesGo, wake_stands}
+use Rattle.rwsem_slow.specs.WakesGoLaws.{goes-chooses, goes-leaves, goes-vigil, leave-enters, look-goes, still-goes}
+use Rattle.rwsem_slow.specs.DutyRule.{Duties, duties-enter, duties-leave-behind, duties-leave-first, duties-leave-taken, duties-look, duties-pick, duties-stay}
+use Rattle.rwsem_slow.specs.RwSemLaws.{SemWords, sem_words, sem-else, Go as Going, Sem, Hands, one-takes, sem-only, sem-only-in, goes, goes-on, hands-same, same-site}
 use Rattle.rwsem_slow.specs.ListSteps.{alone-long, counted-is, enters-reader, enters-writer, first-counts, leaves-first, leaves-picked, leaves-reader, leaves-taken, leaves-writer, reader-counts}
 
 abbrev parted : V → Part
@@ -188,10 +198,14 @@ module _ {Call : Type 0} (o : Obj Call) (size : ℕ) where
     abbrev Facts : List Waiter → SemHand → Type 0
     Facts q' s = let u : SemPart = record (seen v) { sem = s } in Sem o size (sem_words ws) q' (set (map seen vs) id u) × Hands o size id (sem_words ws) q (map seen vs) (sem_words ws) (set (map seen vs) id u)
 
+    -- what a change of the list makes of wakes
+    abbrev Wakes : Change → ListHand → Type 0
+    Wakes c b = let w : V = listed with_list c v b in WakesGo (count_in ws) (count_in ws) q c (grants_in ws) (wake_words ws) (wake_words ws) (holds_in v.spin) (seen v) (seen w) (wake_stands v.ext.wake) (wake_stands w.ext.wake)
+
     -- a step on the list's words, once they are there
-    lists-by : (i n : ℕ) (c : Change) (b : ListHand) → SpinHolds v.spin → i < LIST_WORDS → ListKept (set (list_words ws) i n) (changed c q) (set (map parted vs) id (v.spin, b)) → Allowed c q → MadeBy c id (map parted vs) → IsMadeBy id vs (with_list c v b).sem.rest c q → Facts (changed c q) (with_list c v b).sem
+    lists-by : (i n : ℕ) (c : Change) (b : ListHand) → SpinHolds v.spin → i < LIST_WORDS → ListKept (set (list_words ws) i n) (changed c q) (set (map parted vs) id (v.spin, b)) → Allowed c q → MadeBy c id (map parted vs) → IsMadeBy id vs (with_list c v b).sem.rest c q → Facts (changed c q) (with_list c v b).sem → Duties (wake_words ws) (grants_in ws) (changed c q) (set vs id (listed with_list c v b)) → Wakes c b
         → Go k id ws vs (set ws (list_at + i) n) (set vs id (listed with_list c v b))
-    lists-by i n c b has inside list may made own facts = let w : V = listed with_list c v b in let j : ℕ = list_at + i in let us : List ℕ = set ws j n in let same = same-site o size k ws vs q r id v at j n (omega (arith, inside)) in let words = sem-else ws j n (inl (λ e. omega (arith, e), omega (arith, inside))) in
+    lists-by i n c b has inside list may made own facts duties wakes = let w : V = listed with_list c v b in let j : ℕ = list_at + i in let us : List ℕ = set ws j n in let same = same-site o size k ws vs q r id v at j n (omega (arith, inside)) in let words = sem-else ws j n (inl (λ e. omega (arith, e), omega (arith, inside))) in
         let m = busy-most w.ext.sem.stage in let holds : holds_in v.spin ≡ 1 = ap holds_at has in
         goes o size k ws vs q r id v at us (set vs id w) c (length-set ws j n ∙ r.wide)
         (subst (λ (z : SiteWords). SiteKept o unavailable size k z (map hand_of (set vs id w))) (sym same) (keep_part hand_of (SiteKept o unavailable size k (site k ws)) vs id v w at refl r.site_holds))
@@ -201,9 +215,11 @@ module _ {Call : Type 0} (o : Obj Call) (size : ℕ) where
         (subst (λ (z : List ℕ). ListKept z (changed c q) (map parted (set vs id w))) (sym (part-in ws list_at LIST_WORDS i n inside))
         (set_part parted (ListKept (set (list_words ws) i n) (changed c q)) vs id w (subst (λ (z : ListHand). ListKept (set (list_words ws) i n) (changed c q) (set (map parted vs) id (v.spin, z))) (sym (list-back c v b)) list)))
         (subst (λ (z : SemWords). Sem o size z (changed c q) (map seen (set vs id w))) (sym words) (set_part seen (Sem o size (sem_words ws) (changed c q)) vs id w facts.0))
-        (each-set IsLocked IsLocked vs id w (omega (arith, m, holds)) (λ j x _ _ p. p) r.locked) may made own
+        (each-set IsLocked IsLocked vs id w (omega (arith, m, holds)) (λ j x _ _ p. p) r.locked)
+        (subst (λ (z : List ℕ × List ℕ). Duties z.0 z.1 (changed c q) (set vs id w)) (λ e. (sym (part-above ws wakes_at WAKE_WORDS j n (omega (arith, inside))) e, (sym words e).2)) duties) may made own
         (subst (λ (z : SemWords). Hands o size id (sem_words ws) q (map seen vs) z (map seen (set vs id w))) (sym words) (set_part seen (Hands o size id (sem_words ws) q (map seen vs) (sem_words ws)) vs id w facts.1))
         (λ out other. absurd (other refl)) (omega (arith, m, holds)) (list-appends c v b) (λ other. absurd (other refl))
+        (subst (λ (z : ℕ × List ℕ). WakesGo (count_in ws) z.0 q c (grants_in ws) (wake_words ws) z.1 (holds_in v.spin) (seen v) (seen w) (wake_stands v.ext.wake) (wake_stands w.ext.wake)) (λ e. ((sym words e).0, sym (part-above ws wakes_at WAKE_WORDS j n (omega (arith, inside))) e)) wakes)
 
     module _ (has : SpinHolds v.spin) where
       only : total busy_of (map seen vs) ≡ busy_of (seen v)
@@ -276,16 +292,86 @@ module _ {Call : Type 0} (o : Obj Call) (size : ℕ) where
       leaves-by t long (inr (inr (inl may))) = (v, at, inl (may.0.0, elim may.2 [ inl reads ↦ no-rest Armed reads.0 refl | inr writes ↦ no-rest Rest writes.0 refl ]))
       leaves-by t long (inr (inr (inr may))) = (v, at, inr (may.2, picks-rest t long may.0))
 
+    -- a reader that is to join has 1 in its grant word
+    armed-word : SpinHolds v.spin → (t : ℕ) → v.hand.task ≡ Some t → (kind : Bool) → kind ≡ false → MayJoin kind v.ext.sem → 1 ≤ get_or (grants_in ws) t 0
+    armed-word has t named true reads join = not-both true reads refl
+    armed-word has t named false reads join = (mine-at (map seen vs) id (seen v) mine (count_in ws) q (marks_in ws) (grants_in ws) r.sem t named Armed (only has) join.0).1 t named
+
+    -- who waits in the list as a reader isn't granted
+    reads-ungranted : (t : ℕ) → v.hand.task ≡ Some t → v.ext.sem.wait ≡ Reads → 1 ≤ counted t q → granted_of (grants_in ws) (seen v) ≡ 0
+    reads-ungranted t named wait listed_it = let a = r.sem.reads t in let w = r.sem.writes t in let c = counted-is t q in let alone = waits-alone t named in let m = total-at (reads_at t) (map seen vs) id (seen v) mine in let b : reads_at t (seen v) ≡ 1 = reads-at-w (seen v) t named Reads wait t ∙ is_number-here t in
+        let g = total-at (granted_at (grants_in ws) t) (map seen vs) id (seen v) mine in let one : named_weight t (Some t) 1 ≡ 1 = is_number-here t in by-grant (granted_of (grants_in ws) (seen v)) (λ i. named_weight t (named i) (granted_of (grants_in ws) (seen v))) (omega (arith, a, w, c, alone, m, b, g, listed_it))
+      where
+        by-grant : (x : ℕ) → named_weight t v.hand.task x ≡ named_weight t (Some t) x → named_weight t v.hand.task x ≡ 0 → x ≡ 0
+        by-grant zero e none = refl
+        by-grant (suc x) e none = absurd (let one : named_weight t (Some t) (suc x) ≡ 1 = is_number-here t in omega (arith, e, none, one))
+
+    writes-ungranted : v.ext.sem.wait ≡ Writes → granted_of (grants_in ws) (seen v) ≡ 0
+    writes-ungranted wait = by-task v.hand.task
+      where
+        by-task : (task : Option ℕ) → granted_weight (grants_in ws) task v.ext.sem.wait ≡ 0
+        by-task None = refl
+        by-task (Some t) = ap (granted_weight (grants_in ws) (Some t)) wait
+
+    leaves-duties : SpinHolds v.spin → (t : ℕ) (b : ListHand) → may_change (Leave t) v q → Duties (wake_words ws) (grants_in ws) (without t q) (set vs id (listed with_list (Leave t) v b))
+    leaves-duties has t b (inl may) = duties-leave-taken (wake_words ws) (grants_in ws) (marks_in ws) (count_in ws) q vs id v (r.duty, r.staged) at r.sem t may.1 (only has) t b may
+    leaves-duties has t b (inr (inl may)) = duties-leave-first (wake_words ws) (grants_in ws) (marks_in ws) (count_in ws) q vs id v (r.duty, r.staged) at r.sem t may.0.0 (only has) t b may (elim may.3 [ inl reads ↦ reads-ungranted t may.0.0 reads (first-counts t q may.4) | inr writes ↦ writes-ungranted writes ])
+    leaves-duties has t b (inr (inr (inl may))) = duties-leave-behind (wake_words ws) (grants_in ws) (marks_in ws) (count_in ws) q vs id v (r.duty, r.staged) at r.sem t may.0.0 (only has) t b may (elim may.2 [ inl reads ↦ reads-ungranted t may.0.0 reads.1 (armed-there t has may.0.0 reads.0 reads.1) | inr writes ↦ writes-ungranted writes.1 ])
+    leaves-duties has t b (inr (inr (inr may))) = duties-pick (wake_words ws) (grants_in ws) (marks_in ws) (count_in ws) q vs id v (r.duty, r.staged) at r.sem may.1.0 may.1.1 (only has) t b may.0 may.3 (reader-small t q r.list.sound.small may.2.0)
+      where
+        reader-small : (t : ℕ) (l : List Waiter) → AreTasks l → IsFirstReader t l → t < MAX_TASKS
+        reader-small t [] all first = absurd first
+        reader-small t (w ∷ l) all (inl is) = let a = all.0 in let e = is.1 in omega (arith, a, e)
+        reader-small t (w ∷ l) all (inr more) = reader-small t l all.1 more.1
+
+    -- what a task's leave makes of wakes
+    leaves-wakes : SpinHolds v.spin → (t : ℕ) (b : ListHand) → may_change (Leave t) v q → Wakes (Leave t) b
+    leaves-wakes has t b may = by-may may
+      where
+        u : V
+        u = listed with_list (Leave t) v b
+
+        After : SemWake → Type 0
+        After x = WakesGo (count_in ws) (count_in ws) q (Leave t) (grants_in ws) (wake_words ws) (wake_words ws) (holds_in v.spin) (seen v) (seen u) (wake_stands v.ext.wake) (wake_stands x)
+
+        -- it stops waiting
+        leaves : v.hand.task ≡ Some t → (o : Bool) → (v.ext.wake.owing ≡ true → o ≡ true) → (v.ext.wake.owing ≡ false → o ≡ true → first_code q ≡ t + 1) → After (leaves_wake o v.ext.wake)
+        leaves mine = goes-leaves (count_in ws) (count_in ws) q (Leave t) (grants_in ws) (wake_words ws) (wake_words ws) (holds_in v.spin) (seen v) (seen u) v.ext.wake refl t refl mine
+
+        leaves-same : v.hand.task ≡ Some t → After (leaves_wake v.ext.wake.owing v.ext.wake)
+        leaves-same mine = leaves mine v.ext.wake.owing (λ e. e) (λ e e'. not-both v.ext.wake.owing e e')
+
+        -- the pass chooses the next of its batch
+        picks : Picks (seen v) q t → After (chooses_task t v.ext.wake)
+        picks picked_it = goes-chooses (count_in ws) (count_in ws) q (Leave t) (grants_in ws) (wake_words ws) (wake_words ws) (holds_in v.spin) (seen v) (seen u) v.ext.wake refl (λ w e. leave-enters t w e) (ap holds_at has) t (inl (refl, picked_it))
+
+        picks-at : MayPick v.ext.sem → After (chooses_task t v.ext.wake) → After (parted_wake v.ext.sem.stage v.ext.sem.wait t v.ext.wake)
+        picks-at (inl is) = subst (λ (z : Stage × Wait). After (parted_wake z.0 z.1 t v.ext.wake)) (λ i. (sym is.0 i, sym is.1 i))
+        picks-at (inr (inl (x, is))) = subst (λ (z : Stage). After (parted_wake z v.ext.sem.wait t v.ext.wake)) (sym is)
+        picks-at (inr (inr is)) = subst (λ (z : Stage). After (parted_wake z v.ext.sem.wait t v.ext.wake)) (sym is)
+
+        by-may : may_change (Leave t) v q → After (parted_wake v.ext.sem.stage v.ext.sem.wait t v.ext.wake)
+        by-may (inl taken) = subst (λ (z : Stage). After (parted_wake z v.ext.sem.wait t v.ext.wake)) (sym taken.0) (leaves-same taken.1)
+        by-may (inr (inl first)) = subst (λ (z : Stage). After (parted_wake z v.ext.sem.wait t v.ext.wake)) (sym first.1) (leaves first.0.0 true (λ _. refl) (λ _ _. first.4))
+        by-may (inr (inr (inl behind))) = elim behind.2 [
+          | inl reads ↦ subst (λ (z : Stage). After (parted_wake z v.ext.sem.wait t v.ext.wake)) (sym reads.0) (leaves-same behind.0.0)
+          | inr writes ↦ subst (λ (z : Stage × Wait). After (parted_wake z.0 z.1 t v.ext.wake)) (λ i. (sym writes.0 i, sym writes.1 i)) (leaves-same behind.0.0)
+        ]
+        by-may (inr (inr (inr picked_it))) = picks-at picked_it.0 (picks picked_it.2)
+
     -- who is to join has no batch under way
     joins-none : (writer : Bool) → MayJoin writer v.ext.sem → v.ext.sem.rest ≡ []
     joins-none true join = no-rest Rest join.0 refl
     joins-none false join = no-rest Armed join.0 refl
 
     pub sem-lists : (i n : ℕ) (c : Change) (b : ListHand) → i < LIST_WORDS → SpinHolds v.spin → may_change c v q → b.list ≡ changed c q → LeaverGoes c v.ext.list.leaver b.leaver → ListKept (set (list_words ws) i n) (changed c q) (set (map parted vs) id (v.spin, b)) → Go k id ws vs (set ws (list_at + i) n) (set vs id (listed with_list c v b))
-    sem-lists i n Stay b inside has may is leaver list = lists-by i n Stay b has inside list tt tt tt (stays-facts has)
+    sem-lists i n Stay b inside has may is leaver list = lists-by i n Stay b has inside list tt tt tt (stays-facts has) (duties-stay (wake_words ws) (grants_in ws) q vs id v (r.duty, r.staged) at (listed with_list Stay v b) refl refl refl refl)
+        (still-goes (count_in ws) (count_in ws) q (grants_in ws) (wake_words ws) (holds_in v.spin) (seen v) (seen (listed with_list Stay v b)) v.ext.wake)
     sem-lists i n (Enter w) b inside has may is leaver list = lists-by i n (Enter w) b has inside list (sem-list-may (Enter w) has may) (parted v, at_map parted vs id v at, ap holds_at has) (v, at, may.0, may.1, joins-none w.writer may.3) (enters-facts has w b may is)
+        (duties-enter (wake_words ws) (grants_in ws) (marks_in ws) (count_in ws) q vs id v (r.duty, r.staged) at r.sem w.task may.0 (only has) w b may.0 may.2 may.3 (λ reads. armed-word has w.task may.0 w.writer reads may.3))
+        (goes-vigil (count_in ws) (count_in ws) q (Enter w) (grants_in ws) (wake_words ws) (wake_words ws) (holds_in v.spin) (seen v) (seen (listed with_list (Enter w) v b)) v.ext.wake refl Awake (λ _ _. refl) (λ _ _. (w, refl)) (λ e e'. absurd (omega (arith, e'))) (λ _. inl ((w, refl), refl)))
     sem-lists i n (Leave t) b inside has may is leaver list = lists-by i n (Leave t) b has inside list (sem-list-may (Leave t) has may) (parted v, at_map parted vs id v at, ap holds_at has) (leaves-by has t (length b.list) may)
-        (subst (λ (z : List Waiter). Facts (without t q) (parted_at v.ext.sem.stage v.ext.sem.wait t (length z) v.ext.sem)) (sym is) (leaves-facts has t may))
+        (subst (λ (z : List Waiter). Facts (without t q) (parted_at v.ext.sem.stage v.ext.sem.wait t (length z) v.ext.sem)) (sym is) (leaves-facts has t may)) (leaves-duties has t b may) (leaves-wakes has t b may)
 
     -- a load of the head
     pub sem-firsts : Go k id ws vs ws (set vs id (sighted saw_first v (get_or (list_words ws) 0 0)))
@@ -293,7 +379,42 @@ module _ {Call : Type 0} (o : Obj Call) (size : ℕ) where
         (set-moves id (site k ws) (site k ws) vs v w at (hold-moved (site k ws) v v.hand w.ext (hand-stays v.hand) (inl (saw-stays v.hand)))) w (set-there vs id v w at)
         (keep_part spin_part (SpinMoves id (spin_words ws) (map spin_part vs) (spin_words ws)) vs id v w at refl (spin-same id (spin_words ws) (map spin_part vs) r.spin))
         (keep_part parted (ListKept (list_words ws) q) vs id v w at refl r.list)
-        refl
+        refl refl
         (keep_part seen (Sem o size (sem_words ws) q) vs id v w at refl r.sem)
         (each-set IsLocked IsLocked vs id w (r.locked id v at) (λ j x _ _ p. p) r.locked)
+        (by-look (may_look v) refl)
         (hands-same o size k ws vs q r id v at (set vs id w) (keep_part seen (λ z. z ≡ map seen vs) vs id v w at refl refl)) refl refl refl (λ other. absurd (other refl))
+        (look-goes (count_in ws) q (grants_in ws) (wake_words ws) (holds_in v.spin) (seen v) (seen w) v.ext.wake (may_look v) v.ext.list.list (λ is. let k = knows is in (k.0, k.1)))
+      where
+        After : Bool → Type 0
+        After c = Duties (wake_words ws) (grants_in ws) q (set vs id (record v { steps = v.steps + 1; ext = record v.ext { wake = looked c v.hand.held v.ext.list.list v.ext.wake } }))
+
+        both : (a b : Bool) → (a && b) ≡ true → (a ≡ true) × (b ≡ true)
+        both true b e = (refl, e)
+        both false b e = not-both false refl e
+
+        equal : (x y : ℕ) → (x == y) ≡ true → x ≡ y
+        equal x y e = elim (native.Mathlib.Decide.ℕ_discrete x y) [ yes is ↦ is | no other ↦ not-both (x == y) (ne_eqb x y other) e ]
+
+        clear-is : (b : Bias) → is_clear b ≡ true → b ≡ Clear
+        clear-is Clear e = refl
+        clear-is (Transit m) e = not-both false refl e
+        clear-is (Reserve m) e = not-both false refl e
+
+        numbered : (t : Option ℕ) → has_number t ≡ true → (own : ℕ) × (t ≡ Some own)
+        numbered None e = not-both false refl e
+        numbered (Some t) e = (t, refl)
+
+        -- what its test says
+        knows : may_look v ≡ true → (holds_in v.spin ≡ 1) × (v.ext.list.list ≡ q) × (v.ext.sem.bias ≡ Clear) × ((own : ℕ) × (v.hand.task ≡ Some own))
+        knows is = let c = both ((holds_in v.spin == 1) && (v.ext.list.since == v.spin.entries) && is_clear v.ext.sem.bias) (has_number v.hand.task) is in let b = both ((holds_in v.spin == 1) && (v.ext.list.since == v.spin.entries)) (is_clear v.ext.sem.bias) c.0 in let a = both (holds_in v.spin == 1) (v.ext.list.since == v.spin.entries) b.0 in
+            let holds = equal (holds_in v.spin) 1 a.0 in (
+              holds,
+              (list-known (list_words ws) q (map parted vs) id (parted v) r.list (at_map parted vs id v at) (one-takes o size k ws vs q r) (holds, equal v.ext.list.since v.spin.entries a.1)).0,
+              clear-is v.ext.sem.bias b.1,
+              numbered v.hand.task c.1,
+            )
+
+        by-look : (c : Bool) → may_look v ≡ c → After (may_look v)
+        by-look false is = subst After (sym is) (duties-stay (wake_words ws) (grants_in ws) q vs id v (r.duty, r.staged) at (record v { steps = v.steps + 1 }) refl refl refl refl)
+        by-look true is = let k' = knows is in subst After (sym is) (duties-look (wake_words ws) (grants_in ws) (marks_in ws) (count_in ws) q vs id v (r.duty, r.staged) at r.sem k'.3.0 k'.3.1 (sem-only-in o size k ws vs q r id v at k'.0) (v.steps + 1) k'.2 k'.1 r.list.sound.small)

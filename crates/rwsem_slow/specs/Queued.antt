@@ -1,5 +1,5 @@
 -- Where a pass stands that queues on a semaphore.
-use Rattle.std.specs.Prelude.{◌≡◌, ℕ, ◌+◌, ◌<◌, ◌≤◌, ◌⊎◌, Bool, true, false, List}
+use Rattle.std.specs.Prelude.{◌≡◌, ℕ, ◌+◌, ◌<◌, ◌≤◌, ◌⊎◌, Bool, true, false, List, []}
 use Rattle.word_bits.specs.declared.entry.Entry.{Entry}
 use Rattle.word_bits.specs.Objects.{Obj}
 use Rattle.word_bits.specs.Histories.{Plan}
@@ -16,23 +16,48 @@ use Rattle.rwsem_wake.specs.declared.view.Stage.TheVariants.{Took, Summing}
 use Rattle.rwsem_wake.specs.declared.view.Wait.{Wait}
 use Rattle.rwsem_wake.specs.declared.view.Wait.TheVariants.{Writes}
 use Rattle.rwsem_wake.specs.SemParts.{apart_hand}
-use Rattle.rwsem_slow.specs.RwSems.{V}
+use Rattle.wake_duty.specs.declared.view.Vigil.TheVariants.{Awake}
+use Rattle.wake_duty.specs.Wakes.{waits}
+use Rattle.wake_duty.specs.WakeSteps.{HasTried}
+use Rattle.sem_duty.specs.declared.view.SemWake.{SemWake}
+use Rattle.rwsem_wake.specs.Duties.{is_left}
+use Rattle.rwsem_slow.specs.RwSems.{V, IsDone, after_swap, vigil_of}
 use Rattle.rwsem_slow.specs.Removals.{KnowsList}
 
 -- its task waits so, has no bias in the count, and is about nothing
 abbrev pub waiting : Wait → SemHand
 waiting wait = record apart_hand { wait = wait }
 
--- it stands in the list so, and is between no two steps that belong together
+-- its task waits in the list, and it has no wake to do
+pub record IsListed (b : SemWake) : Type 0 where
+  pub clear : b.owing ≡ false
+  pub none : b.chosen ≡ []
+  pub waits : waits b.vigil ≡ 1
+
+-- it stands in the list so, and is between no two steps that belong together; it has no wake to do
 pub record IsInLine (wait : Wait) (v : V) : Type 0 where
   pub waits : v.ext.sem ≡ waiting wait
   pub still : v.ext.list.changes ≡ false
+  pub listed : IsListed v.ext.wake
 
--- after some steps under the wait lock it knows the list, has this part of what concerns the semaphore, and has appended itself so often; all but that is as before
-pub record Becomes (v : V) (appends : ℕ) (s : SemHand) (u : V) : Type 0 where
+-- after some steps under the wait lock it knows the list, has these parts of what concerns the semaphore and of wakes, and has appended itself so often; all but that is as before
+pub record Becomes (v : V) (appends : ℕ) (s : SemHand) (b : SemWake) (u : V) : Type 0 where
   pub later : v.steps ≤ u.steps
   pub list : KnowsList u
-  pub is : u ≡ record v { steps = u.steps; ext = record { list = u.ext.list; sem = s; appends = v.ext.appends + appends } }
+  pub is : u ≡ record v { steps = u.steps; ext = record { list = u.ext.list; sem = s; appends = v.ext.appends + appends; wake = b } }
+
+-- it enters the list: it tries, or loads its grant word, before it sleeps
+abbrev pub comes : SemWake → SemWake
+comes b = record b { vigil = Awake }
+
+-- how it waits may have changed, and nothing else of wakes
+pub record KeepsWaiting (b c : SemWake) : Type 0 where
+  pub is : c ≡ record b { vigil = c.vigil }
+  pub waits : waits c.vigil ≡ waits b.vigil
+
+-- it has tried, unless it may have this count
+abbrev pub HasTriedAt : ℕ → V → Type 0
+HasTriedAt word v = is_left word ≡ false → HasTried vigil_of v
 
 -- it has only made steps
 abbrev pub Stays : V → V → Type 0
@@ -42,9 +67,19 @@ Stays v u = u ≡ record v { steps = u.steps }
 abbrev pub IsTrying : SemHand → Type 0
 IsTrying s = (s ≡ waiting Writes) ⊎ (s ≡ record (waiting Writes) { stage = Summing })
 
--- it has made steps, and is a queued writer about nothing
-abbrev pub Rests : V → V → Type 0
-Rests v u = u ≡ record v { steps = u.steps; ext = record v.ext { sem = waiting Writes } }
+-- it has made steps, by which it may have tried
+pub record Tries (v u : V) : Type 0 where
+  pub is : u ≡ record v { steps = u.steps; ext = record v.ext { wake = u.ext.wake } }
+  pub keeps : KeepsWaiting v.ext.wake u.ext.wake
+
+-- the same, and it is a queued writer about nothing
+pub record Rests (v u : V) : Type 0 where
+  pub is : u ≡ record v { steps = u.steps; ext = record v.ext { sem = waiting Writes; wake = u.ext.wake } }
+  pub keeps : KeepsWaiting v.ext.wake u.ext.wake
+
+-- its own wake word, which had some number, is 0: it has fallen asleep, or was woken before
+abbrev pub Drowses : V → V → Type 0
+Drowses v u = (n : ℕ) × (u ≡ record v { steps = v.steps + 1; ext = after_swap v.ext n })
 
 -- a queued writer saw that nobody is marked
 abbrev pub SeesUnmarked : V → V → Type 0
@@ -52,7 +87,7 @@ SeesUnmarked v u = u ≡ record v { steps = u.steps; ext = record v.ext { sem = 
 
 -- What a writer knows of the first waiter's mark, before it tries a count that it saw. It has loaded the mark where its answer depends on it: where another is first, nobody holds and a handoff is asked for.
 abbrev pub KnowsMark : (me first count : ℕ) → (marked : Bool) → V → V → Type 0
-KnowsMark me first count true v u = Stays v u
+KnowsMark me first count true v u = Tries v u × HasTried vigil_of u
 KnowsMark me first count false v u = (Stays v u × ((me ≡ first) ⊎ IsLocked count ⊎ (HasHandoff count → ⊥))) ⊎ (SeesUnmarked v u × (IsLocked count → ⊥))
 
 -- a queued writer has taken under the wait lock, and is to leave the list, which it knows
@@ -62,7 +97,8 @@ pub record HasTaken {Call : Type 0} (o : Obj Call) (k : Plan) (v u : V) : Type 0
   pub learns : Learns o k v.hand known log
   pub later : v.steps ≤ u.steps
   pub list : KnowsList u
-  pub is : u ≡ record v { hand = took v.hand Alone known log; steps = u.steps; ext = record { list = u.ext.list; sem = record (waiting Writes) { stage = Took }; appends = v.ext.appends } }
+  pub is : u ≡ record v { hand = took v.hand Alone known log; steps = u.steps; ext = record { list = u.ext.list; sem = record (waiting Writes) { stage = Took }; appends = v.ext.appends; wake = u.ext.wake } }
+  pub waits : KeepsWaiting v.ext.wake u.ext.wake
 
 -- what a call knows of its pass beyond the hand and what it does in line: no count of its steps falls, and it was the front of no spin queue and has not appended itself
 pub record KeepsLine (v u : V) : Type 0 where
@@ -85,6 +121,7 @@ Listens v u = u ≡ record v { hand = record v.hand { heard = u.hand.heard }; st
 pub record IsToQuit (v : V) : Type 0 where
   pub sem : v.ext.sem ≡ record (waiting Writes) { stage = Took }
   pub still : v.ext.list.changes ≡ false
+  pub listed : IsListed v.ext.wake
 
 -- a writer that waited has taken, and is to leave the list
 pub record TookInLine {Call : Type 0} (o : Obj Call) (k : Plan) (v u : V) : Type 0 where
@@ -95,6 +132,7 @@ pub record TookInLine {Call : Type 0} (o : Obj Call) (k : Plan) (v u : V) : Type
   pub hand : u.hand ≡ took v.hand Alone known log
   pub sem : u.ext.sem ≡ record (waiting Writes) { stage = Took }
   pub still : u.ext.list.changes ≡ false
+  pub waits : KeepsWaiting v.ext.wake u.ext.wake
 
 -- a call has taken the wait lock, and counts no failed try more
 pub record EntersLock (v u : V) : Type 0 where
@@ -108,9 +146,11 @@ AppendedBy Fast v u = ⊥
 AppendedBy Spun v u = u.ext.appends ≡ v.ext.appends
 AppendedBy Slept v u = u.ext.appends ≡ v.ext.appends + 1
 
--- a reader whose bias is in the count, and whose try saw that it may not hold by it at once
-abbrev pub IsInTransit : V → Type 0
-IsInTransit v = ((word : ℕ) × (v.ext.sem ≡ record apart_hand { bias = Transit word })) × (v.ext.list.changes ≡ false)
+-- a reader whose bias is in the count, and whose try saw that it may not hold by it at once; it has no wake to do
+pub record IsInTransit (v : V) : Type 0 where
+  pub transit : (word : ℕ) × (v.ext.sem ≡ record apart_hand { bias = Transit word })
+  pub still : v.ext.list.changes ≡ false
+  pub done : IsDone v.ext.wake
 
 -- it has looked at the list, which it knows since
 pub record LooksAt (v u : V) : Type 0 where
@@ -127,3 +167,6 @@ pub record Shares {Call : Type 0} (o : Obj Call) (k : Plan) (v u : V) : Type 0 w
   pub hand : u.hand ≡ took v.hand Shared known log
   pub sem : u.ext.sem ≡ apart_hand
   pub still : u.ext.list.changes ≡ false
+  pub done : IsDone u.ext.wake
+  pub wakes : u.ext.wake.wakes ≡ v.ext.wake.wakes
+  pub dozes : u.ext.wake.dozes ≡ v.ext.wake.dozes

@@ -3,6 +3,7 @@ use Rattle.std.specs.Prelude.{◌≡◌, ℕ, ◌+◌, ◌<◌, ◌≤◌, ◌�
 use Rattle.wait_list.specs.declared.view.Waiter.{Waiter}
 use Rattle.wait_list.specs.Lists.{IsList, Knows, first_code, list_part, without}
 use Rattle.rwsem_wake.specs.declared.view.Stage.TheVariants.{Removing}
+use Rattle.sem_duty.specs.declared.view.SemWake.{SemWake}
 use Rattle.rwsem_slow.specs.RwSems.{V, MayPick, list_of}
 
 -- these are the first readers of the list, in order
@@ -36,6 +37,10 @@ pub record StaysBeside (v u : V) : Type 0 where
   pub appends : u.ext.appends ≡ v.ext.appends
   pub wait : u.ext.sem.wait ≡ v.ext.sem.wait
 
+-- it has chosen these tasks too, and may have looked by that
+abbrev pub Chose : List ℕ → SemWake → SemWake → Type 0
+Chose tasks b c = c ≡ record b { owing = c.owing; chosen = b.chosen ++ tasks }
+
 -- from the first view on the pass has removed so many of a batch
 pub record HasRemoved (v : V) (batch : List ℕ) (i : ℕ) (u : V) : Type 0 where
   pub beside : StaysBeside v u
@@ -46,6 +51,8 @@ pub record HasRemoved (v : V) (batch : List ℕ) (i : ℕ) (u : V) : Type 0 wher
   pub rest : u.ext.sem.rest ++ drop i batch ≡ batch
   pub heads : AreHeads (drop i batch) u.ext.list.list
   pub begins : u.ext.sem.rest ≡ [] → BeginsWith (drop i batch) u.ext.list.list
+  pub chose : Chose u.ext.sem.rest v.ext.wake u.ext.wake
+  pub clear : 0 < length u.ext.sem.rest → u.ext.wake.owing ≡ false
   pub are : without_all (drop i batch) u.ext.list.list ≡ without_all batch v.ext.list.list
 
 -- it has removed the batch
@@ -55,6 +62,8 @@ pub record RemovesAll (v : V) (batch : List ℕ) (u : V) : Type 0 where
   pub list : KnowsList u
   pub rest : u.ext.sem.rest ≡ batch
   pub stage : 0 < length batch → u.ext.sem.stage ≡ Removing
+  pub chose : Chose batch v.ext.wake u.ext.wake
+  pub clear : 0 < length batch → u.ext.wake.owing ≡ false
   pub are : u.ext.list.list ≡ without_all batch v.ext.list.list
 
 -- of this list so many are read, of which this waiter is the last

@@ -1,5 +1,5 @@
 -- The rule of a reader-writer semaphore: the facts of its parts, and what a step may do.
-use Rattle.std.specs.Prelude.{◌≡◌, ◌≢◌, ℕ, ◌+◌, ◌*◌, ◌≤◌, ◌==◌, ◌⊎◌, true, false, List, [], ◌∷◌, ◌++◌, length, map, slice_index, Bool, Some, if◌then◌else◌}
+use Rattle.std.specs.Prelude.{◌≡◌, ◌≢◌, ℕ, ◌+◌, ◌-◌, ◌*◌, ◌/◌, ◌%◌, ◌<◌, ◌≤◌, ◌==◌, ◌&&◌, ◌⊎◌, true, false, List, [], ◌∷◌, ◌++◌, length, map, slice_index, Bool, Option, Some, None, if◌then◌else◌}
 use mathlib.Core.Option.{some}
 use lib.ListN.{get_elem?}
 use Rattle.word_bits.specs.declared.TheConstants.{MAX_TASKS}
@@ -8,41 +8,50 @@ use Rattle.word_bits.specs.Objects.{Obj}
 use Rattle.word_bits.specs.Histories.{Plan}
 use Rattle.lock_core.specs.declared.view.View.{View}
 use Rattle.lock_core.specs.declared.view.Hand.{Hand}
-use Rattle.lock_core.specs.declared.view.Held.TheVariants.{No}
-use Rattle.lock_core.specs.declared.layout.TheConstants.{SPIN_ROOM, SPIN_WORDS}
+use Rattle.lock_core.specs.declared.view.Held.{Held}
+use Rattle.lock_core.specs.declared.view.Held.TheVariants.{No, Shared, Alone}
+use Rattle.lock_core.specs.declared.layout.TheConstants.{LOCK_WORDS, SPIN_ROOM, SPIN_WORDS}
 use Rattle.lock_core.specs.Layout.{site, width, part}
 use Rattle.lock_core.specs.Views.{hand_of, held_weight, spin_part}
 use Rattle.lock_core.specs.Sites.{SiteKept}
 use Rattle.lock_core.specs.Moves.{SiteMove}
 use Rattle.lock_core.specs.Spins.{SpinKept, SpinMoves, holds_in}
 use Rattle.lock_core.specs.Parts.{Each}
+use Rattle.lock_core.specs.Records.{bit}
 use Rattle.wait_list.specs.declared.view.Waiter.{Waiter}
 use Rattle.wait_list.specs.declared.view.Change.{Change}
 use Rattle.wait_list.specs.declared.view.Change.TheVariants.{Stay, Enter, Leave}
 use Rattle.wait_list.specs.declared.view.ListHand.{ListHand}
 use Rattle.wait_list.specs.declared.words.TheConstants.{LIST_WORDS}
 use Rattle.wait_list.specs.Lists.{ListKept, ListMoves, list_part, no_list, first_code}
+use Rattle.wake_duty.specs.declared.view.Vigil.{Vigil}
+use Rattle.wake_duty.specs.declared.view.Vigil.TheVariants.{Absent, Awake, Tried}
+use Rattle.wake_duty.specs.Wakes.{WAKE_WORDS, waits}
+use Rattle.sem_duty.specs.declared.view.SemWake.{SemWake}
+use Rattle.sem_duty.specs.SemDuties.{DutyPart, DutyKept, no_wake, times, setting, drowsing}
 use Rattle.rwsem_count.specs.declared.view.Bias.{Bias}
 use Rattle.rwsem_count.specs.declared.view.Bias.TheVariants.{Clear, Transit, Reserve}
-use Rattle.rwsem_count.specs.Counts.{CountPart, early_weight, late_weight}
+use Rattle.rwsem_count.specs.Counts.{CountPart, early_weight, late_weight, shared_weight}
 use Rattle.rwsem_wake.specs.declared.view.SemHand.{SemHand}
 use Rattle.rwsem_wake.specs.declared.view.Wait.{Wait}
 use Rattle.rwsem_wake.specs.declared.view.Wait.TheVariants.{Apart, Reads, Writes}
 use Rattle.rwsem_wake.specs.declared.view.Stage.{Stage}
 use Rattle.rwsem_wake.specs.declared.view.Stage.TheVariants.{Rest, Armed, Joining, First, Marking, Took, Removed, Emptied, Overdue, Removing, Summing, Granting}
-use Rattle.rwsem_wake.specs.SemParts.{SemPart, apart_hand, busy_weight, reserve_weight}
+use Rattle.rwsem_wake.specs.SemParts.{SemPart, apart_hand, busy_weight, reserve_weight, transit_weight}
 use Rattle.rwsem_wake.specs.Semaphores.{SemKept, more_of}
 use Rattle.rwsem_wake.specs.Handoffs.{KeepsHandoff}
 use Rattle.rwsem_wake.specs.Stated.{Picks}
 use Rattle.rwsem_wake.specs.Lines.{lines_in}
-use Rattle.rwsem_wake.specs.Grants.{sem_part}
+use Rattle.rwsem_wake.specs.Grants.{KeepsOut, sem_part}
+use Rattle.rwsem_wake.specs.Duties.{StageOk, duty_of, is_left, paid}
+use Rattle.rwsem_slow.specs.WakesGo.{WakesGo, awake_bit, wake_stands}
 use Rattle.rwsem_slow.specs.declared.view.RwSemHand.{RwSemHand}
 
 abbrev pub V : Type 0
 V = View RwSemHand
 
 abbrev pub idle : RwSemHand
-idle = record { list = no_list; sem = apart_hand; appends = 0 }
+idle = record { list = no_list; sem = apart_hand; appends = 0; wake = no_wake }
 
 abbrev pub list_of : RwSemHand → ListHand
 list_of e = e.list
@@ -53,12 +62,39 @@ sem_of e = e.sem
 abbrev pub with_sem : RwSemHand → SemHand → RwSemHand
 with_sem e s = record e { sem = s }
 
+abbrev pub wake_of : RwSemHand → SemWake
+wake_of e = e.wake
+
+abbrev pub with_wake : RwSemHand → SemWake → RwSemHand
+with_wake e b = record e { wake = b }
+
+abbrev pub vigil_of : RwSemHand → Vigil
+vigil_of e = e.wake.vigil
+
+-- it has chosen this task, and hasn't set its wake word, and each of its batch is granted
+abbrev pub HasChosen : RwSemHand → ℕ → Type 0
+HasChosen e t = (1 ≤ times t e.wake.chosen) × (e.sem.rest ≡ []) × (t < MAX_TASKS)
+
+abbrev pub after_set : RwSemHand → ℕ → RwSemHand
+after_set e t = with_wake e (setting t e.wake)
+
+abbrev pub after_swap : RwSemHand → ℕ → RwSemHand
+after_swap e n = with_wake e (drowsing n e.wake)
+
 abbrev pub bias_of : RwSemHand → Bias
 bias_of e = e.sem.bias
 
 -- what of a view concerns the count, the marks and the grant words
 abbrev pub seen : V → SemPart
 seen v = sem_part sem_of v
+
+-- what of a view concerns wakes, by these grant words
+abbrev pub duty_seen : List ℕ → V → DutyPart
+duty_seen grants v = duty_of grants (seen v) v.ext.wake
+
+-- at its stage it stands as that asks
+abbrev pub IsStaged : V → Type 0
+IsStaged v = StageOk (seen v) v.ext.wake
 
 -- what a moment keeps of what a pass knows
 
@@ -80,12 +116,16 @@ stage_code Granting = 2
 stage_code Marking = 3
 stage_code _ = 1
 
--- how it waits, how far it is under the wait lock, how often it has appended itself, its bias, and the tasks of its batch that aren't granted yet
-abbrev pub numbers_of : SemHand → ℕ → List ℕ
-numbers_of s appends = wait_code s.wait ∷ stage_code s.stage ∷ appends ∷ (bias_codes s.bias ++ s.rest)
+-- whether it is to look whom to wake, whether it waits, whether it is awake, how many wake words it has set, how often it has fallen asleep, and whom it has chosen
+abbrev pub wake_codes : SemWake → List ℕ
+wake_codes b = bit b.owing ∷ waits b.vigil ∷ awake_bit b.vigil ∷ b.wakes ∷ b.dozes ∷ length b.chosen ∷ b.chosen
+
+-- how it waits, how far it is under the wait lock, how often it has appended itself, its bias, what it has of wakes, and the tasks of its batch that aren't granted yet
+abbrev pub numbers_of : SemHand → ℕ → SemWake → List ℕ
+numbers_of s appends b = wait_code s.wait ∷ stage_code s.stage ∷ appends ∷ (bias_codes s.bias ++ (wake_codes b ++ s.rest))
 
 abbrev pub standing : RwSemHand → List ℕ
-standing e = numbers_of e.sem e.appends
+standing e = numbers_of e.sem e.appends e.wake
 
 -- where the words stand: the wait lock's, the count, the owner hint, those of the list, and the marks and the grant words of all tasks
 
@@ -107,6 +147,9 @@ marks_at = list_at + LIST_WORDS
 abbrev pub grants_at : ℕ
 grants_at = marks_at + 8 * MAX_TASKS
 
+abbrev pub wakes_at : ℕ
+wakes_at = LOCK_WORDS - WAKE_WORDS
+
 abbrev pub spin_words : List ℕ → List ℕ
 spin_words ws = part wait_lock_at SPIN_WORDS ws
 
@@ -121,6 +164,9 @@ marks_in ws = lines_in marks_at ws
 
 abbrev pub grants_in : List ℕ → List ℕ
 grants_in ws = lines_in grants_at ws
+
+abbrev pub wake_words : List ℕ → List ℕ
+wake_words ws = part wakes_at WAKE_WORDS ws
 
 -- how many readers of the count the grant words and the batches tell of
 abbrev pub more_in : Plan → List ℕ → List V → ℕ
@@ -139,6 +185,8 @@ module _ {Call : Type 0} (o : Obj Call) (size : ℕ) where
     pub list : ListKept (list_words ws) q (map (list_part list_of) vs)
     pub sem : SemKept (count_in ws) q (marks_in ws) (grants_in ws) (map seen vs)
     pub locked : Each IsLocked vs
+    pub duty : DutyKept (wake_words ws) q (map (duty_seen (grants_in ws)) vs)
+    pub staged : Each IsStaged vs
 
   abbrev pub Kept : Plan → List ℕ → List V → Type 0
   Kept k ws vs = (q : List Waiter) × RwSemKept k ws vs q
@@ -163,7 +211,7 @@ KeepsCount h g word = h.held ≢ No → g.held ≢ h.held → g.freed ≡ word
 abbrev pub MayMiss : V → Type 0
 MayMiss v = (v.ext.sem.wait ≡ Apart) × (v.ext.sem.bias ≡ Clear)
 
--- what a step may do: all that each step of a site, of a spin lock and of a list does; a waiter enters by itself, and leaves by itself or in a waker's batch; while the first waiter is marked and HANDOFF is set, nobody but it writes, and who reads had a bias since before, or held alone; at any time who reads comes to it by itself, with no batch under way, or in a whole batch, and does so until it ends its hold; a waker or a writer of the list asks for a handoff, and marks the first waiter; a batch is granted in the order in which it was picked; who ends or downgrades a hold keeps the count that it left; who is at a stage has the wait lock; an append is counted by the pass that enters; and a failed try by one that waits for nothing and has no bias in the count
+-- what a step may do: all that each step of a site, of a spin lock and of a list does; a waiter enters by itself, and leaves by itself or in a waker's batch; while the first waiter is marked and HANDOFF is set, nobody but it writes, and who reads had a bias since before, or held alone; at any time who reads comes to it by itself, with no batch under way, or in a whole batch, and does so until it ends its hold; a waker or a writer of the list asks for a handoff, and marks the first waiter; a batch is granted in the order in which it was picked; who ends or downgrades a hold keeps the count that it left; who is at a stage has the wait lock; an append is counted by the pass that enters; a failed try by one that waits for nothing and has no bias in the count; and what `WakesGo` says of wakes
 pub record RwSemMoves (k : Plan) (id : ℕ) (ws : List ℕ) (vs : List V) (us : List ℕ) (vs' : List V) : Type 0 where
   pub site : SiteMove id (count_in ws) (site k ws) vs (site k us) vs'
   pub spin : SpinMoves id (spin_words ws) (map spin_part vs) (spin_words us) (map spin_part vs')
@@ -174,20 +222,41 @@ pub record RwSemMoves (k : Plan) (id : ℕ) (ws : List ℕ) (vs : List V) (us : 
   pub locked : busy_weight site.after.ext.sem.stage ≤ holds_in site.before.spin
   pub appends : site.after.ext.appends ≡ site.before.ext.appends + entered list.change
   pub missed : site.after.hand.misses ≢ site.before.hand.misses → MayMiss site.before
+  pub wakes : WakesGo (count_in ws) (count_in us) list.list list.change (grants_in ws) (wake_words ws) (wake_words us) (holds_in site.before.spin) (seen site.before) (seen site.after) (wake_stands site.before.ext.wake) (wake_stands site.after.ext.wake)
 
 abbrev pub may_free : V → Type 0
 may_free v = (v.ext.sem.stage ≡ Rest) × (v.ext.list.changes ≡ false)
 
+-- it owes nothing, has chosen nobody, and waits for nothing
+pub record IsDone (b : SemWake) : Type 0 where
+  pub clear : b.owing ≡ false
+  pub none : b.chosen ≡ []
+  pub absent : b.vigil ≡ Absent
+
 abbrev pub rests : V → Type 0
-rests v = v.ext.sem ≡ apart_hand
+rests v = (v.ext.sem ≡ apart_hand) × IsDone v.ext.wake
+
+-- the count says that tasks wait
+abbrev pub has_waiters : ℕ → Bool
+has_waiters word = word / 2 % 2 == 1
+
+-- whether a pass is to look whom to wake that left this count: who ends or lowers an exclusive hold does where tasks wait, and who ends a shared one where besides nobody is counted
+abbrev pub owes_after : Held → Held → ℕ → Bool → Bool
+owes_after Alone No word owing = has_waiters word
+owes_after Alone Shared word owing = has_waiters word
+owes_after Alone Alone word owing = owing
+owes_after Shared No word owing = has_waiters word && is_left word
+owes_after Shared Shared word owing = owing
+owes_after Shared Alone word owing = owing
+owes_after No held word owing = owing
 
 -- a step on the count gives a pass this bias
 abbrev pub biased : V → Hand → Bias → RwSemHand
-biased v h b = with_sem v.ext (record v.ext.sem { bias = b })
+biased v h b = record v.ext { sem = record v.ext.sem { bias = b }; wake = record v.ext.wake { owing = owes_after v.hand.held h.held h.freed v.ext.wake.owing } }
 
--- a pass that waits for nothing, and has no batch under way, may change how it holds and its bias: it has one of them at most, and reserves none
+-- a pass that waits for nothing, and has no batch under way, may change how it holds and its bias: it has one of them at most, and reserves none; a bias in transit goes only for a shared hold
 abbrev pub may_count : V → CountPart → Type 0
-may_count v p = (v.ext.sem.wait ≡ Apart) × (held_weight p.held + (early_weight p.bias + late_weight p.bias) ≤ 1) × (reserve_weight p.bias ≡ 0) × (v.ext.sem.rest ≡ [])
+may_count v p = (v.ext.sem.wait ≡ Apart) × (held_weight p.held + (early_weight p.bias + late_weight p.bias) ≤ 1) × (reserve_weight p.bias ≡ 0) × (v.ext.sem.rest ≡ []) × (v.ext.sem.stage ≡ Rest) × (v.ext.wake.owing ≡ false) × (transit_weight v.ext.sem.bias ≤ shared_weight p.held + transit_weight p.bias)
 
 -- any count may stand there
 abbrev pub any_count : ℕ → Type 0
@@ -215,14 +284,56 @@ parted Armed wait t long s = gone Rest s
 parted Rest Writes t long s = gone Rest s
 parted _ wait t long s = picked t s
 
+-- it leaves the list, and is to look whom to wake or not
+abbrev pub leaves_wake : Bool → SemWake → SemWake
+leaves_wake owing b = record b { owing = owing; vigil = Absent }
+
+-- it chooses this task, and has looked by that
+abbrev pub chooses_task : ℕ → SemWake → SemWake
+chooses_task t b = record b { owing = false; chosen = b.chosen ++ t ∷ [] }
+
+-- what it knows of wakes when a task leaves the list so
+abbrev pub parted_wake : Stage → Wait → ℕ → SemWake → SemWake
+parted_wake Took wait t b = leaves_wake b.owing b
+parted_wake Summing wait t b = leaves_wake true b
+parted_wake Armed wait t b = leaves_wake b.owing b
+parted_wake Rest Writes t b = leaves_wake b.owing b
+parted_wake _ wait t b = chooses_task t b
+
 abbrev pub with_list : Change → V → ListHand → RwSemHand
 with_list Stay v b = record v.ext { list = b }
-with_list (Enter w) v b = record { list = b; sem = joined w.writer (length b.list) v.ext.sem; appends = v.ext.appends + 1 }
-with_list (Leave t) v b = record { list = b; sem = parted v.ext.sem.stage v.ext.sem.wait t (length b.list) v.ext.sem; appends = v.ext.appends }
+with_list (Enter w) v b = record { list = b; sem = joined w.writer (length b.list) v.ext.sem; appends = v.ext.appends + 1; wake = record v.ext.wake { vigil = Awake } }
+with_list (Leave t) v b = record { list = b; sem = parted v.ext.sem.stage v.ext.sem.wait t (length b.list) v.ext.sem; appends = v.ext.appends; wake = parted_wake v.ext.sem.stage v.ext.sem.wait t v.ext.wake }
 
--- a look at the head tells nothing
+abbrev pub is_clear : Bias → Bool
+is_clear Clear = true
+is_clear (Transit word) = false
+is_clear (Reserve word) = false
+
+abbrev pub has_number : Option ℕ → Bool
+has_number None = false
+has_number (Some t) = true
+
+-- a pass with a number that knows the list, and has no bias
+abbrev pub may_look : V → Bool
+may_look v = (holds_in v.spin == 1) && (v.ext.list.since == v.spin.entries) && is_clear v.ext.sem.bias && has_number v.hand.task
+
+-- who keeps writers out by its hold chooses no writer
+abbrev pub looks_at : Held → Bool → ℕ → SemWake → SemWake
+looks_at No true t b = chooses_task t b
+looks_at Alone true t b = chooses_task t b
+looks_at Shared true t b = paid b
+looks_at held false t b = b
+
+-- a look at this list, which it knows or not: where nobody waits it has looked, and where the first waiter is a writer it chooses that one
+abbrev pub looked : Bool → Held → List Waiter → SemWake → SemWake
+looked false held q b = b
+looked true held [] b = paid b
+looked true held (w ∷ q) b = looks_at held w.writer w.task b
+
+-- a look at the head under the wait lock is the look whom to wake
 abbrev pub saw_first : V → ℕ → RwSemHand
-saw_first v n = v.ext
+saw_first v n = record v.ext { wake = looked (may_look v) v.hand.held v.ext.list.list v.ext.wake }
 
 -- a writer enters with no bias; a reader with its own in the count, and with 1 in its grant word
 abbrev pub MayJoin : Bool → SemHand → Type 0
@@ -249,9 +360,9 @@ LeavesBehind v q t = GivesUp v t × (first_code q ≢ t + 1) × (((v.ext.sem.sta
 abbrev pub MayPick : SemHand → Type 0
 MayPick s = ((s.stage ≡ Rest) × (s.wait ≡ Apart)) ⊎ ((b : Bool) × (s.stage ≡ Overdue b)) ⊎ (s.stage ≡ Removing)
 
--- a task leaves as the next of the pass's batch
+-- a task leaves as the next of the pass's batch, which keeps writers out
 abbrev pub LeavesPicked : V → List Waiter → ℕ → Type 0
-LeavesPicked v q t = MayPick v.ext.sem × ((own : ℕ) × (v.hand.task ≡ Some own)) × Picks (seen v) q t
+LeavesPicked v q t = MayPick v.ext.sem × ((own : ℕ) × (v.hand.task ≡ Some own)) × Picks (seen v) q t × KeepsOut sem_of v
 
 abbrev pub may_change : Change → V → List Waiter → Type 0
 may_change Stay v q = Unit {0}

@@ -39,12 +39,14 @@ pub record SawUnqueued (v : V) (word : ℕ) (u : V) : Type 0 where
   pub on : IsUnlocked word → u ≡ ticked (at_step v step)
   pub fails : (IsUnlocked word → ⊥) → MissesCount (at_step v step) word u
 
--- how it stands in line, beside its misses: it has neither taken the wait lock nor appended itself
+-- how it stands in line, beside its misses: it has neither taken the wait lock nor appended itself, has set no wake word, and has not fallen asleep
 pub record StandsSame (v u : V) : Type 0 where
   pub spin : u.spin ≡ v.spin
   pub entries : u.spin.entries ≡ v.spin.entries
   pub fronts : u.fronts ≡ v.fronts
   pub appends : u.ext.appends ≡ v.ext.appends
+  pub wakes : u.ext.wake.wakes ≡ v.ext.wake.wakes
+  pub dozes : u.ext.wake.dozes ≡ v.ext.wake.dozes
 
 -- a step of it, which is the last that the pass keeps, saw a count that a writer can't have
 abbrev pub SeesShut : Shown → Shown → Type 0

@@ -1,5 +1,5 @@
 -- What is so of a semaphore at each moment, and of each step.
-use Rattle.std.specs.Prelude.{◌≡◌, ◌≢◌, ℕ, ◌+◌, ◌/◌, ◌%◌, ◌<◌, ◌≤◌, ◌⊎◌, List, [], ◌∷◌, ◌++◌, length, map, Some, None}
+use Rattle.std.specs.Prelude.{◌≡◌, ◌≢◌, ℕ, ◌+◌, ◌/◌, ◌%◌, ◌<◌, ◌≤◌, ◌⊎◌, true, List, [], ◌∷◌, ◌++◌, length, map, Some, None}
 use mathlib.Core.Option.{some}
 use lib.ListN.{get_elem?}
 use Rattle.word_bits.specs.LockWords.{counted as shut}
@@ -19,25 +19,50 @@ use Rattle.wait_list.specs.declared.view.Waiter.{Waiter}
 use Rattle.wait_list.specs.declared.view.Change.{Change}
 use Rattle.wait_list.specs.declared.view.Change.TheVariants.{Stay, Enter, Leave}
 use Rattle.wait_list.specs.Lists.{Allowed, IsList, Lists, changed, counted}
+use Rattle.wake_duty.specs.declared.view.Vigil.TheVariants.{Awake}
+use Rattle.wake_duty.specs.Wakes.{wake_word}
+use Rattle.sem_duty.specs.declared.view.SemWake.{SemWake}
+use Rattle.sem_duty.specs.SemDuties.{times}
 use Rattle.rwsem_count.specs.declared.view.Bias.TheVariants.{Clear}
 use Rattle.rwsem_wake.specs.declared.view.SemHand.{SemHand}
 use Rattle.rwsem_wake.specs.declared.view.Wait.TheVariants.{Apart}
-use Rattle.rwsem_wake.specs.SemParts.{SemPart, apart_hand, busy_of, reserve_of, rest_of, transit_of}
+use Rattle.rwsem_wake.specs.SemParts.{SemPart, alone_of, apart_hand, busy_of, granted_of, reserve_of, rest_of, transit_of}
+use Rattle.rwsem_wake.specs.Duties.{kept_of, overdue_of}
 use Rattle.rwsem_wake.specs.Semaphores.{Quiet}
 use Rattle.rwsem_wake.specs.Handoffs.{KeepsHandoff, reads_as}
 use Rattle.rwsem_wake.specs.Stated.{OnlyFirst, Picks, StatesCount, StatesWaiters, over, readers}
-use Rattle.rwsem_slow.specs.RwSems.{KeepsCount, count_at, count_in, entered, grants_in, list_words, marks_in, numbers_of}
+use Rattle.rwsem_slow.specs.WakesGo.{WakesGo, wake_stands}
+use Rattle.rwsem_slow.specs.RwSems.{IsDone, KeepsCount, count_at, count_in, entered, grants_in, list_words, marks_in, numbers_of, wake_words}
 
--- what a moment keeps of a pass that stands so, and has appended itself so often
-abbrev pub stance : SemHand → ℕ → Marks
-stance s appends = record { numbers = numbers_of s appends }
+-- what a moment keeps of a pass that stands so, has appended itself so often, and has this of wakes
+abbrev pub stance : SemHand → ℕ → SemWake → Marks
+stance s appends b = record { numbers = numbers_of s appends b }
+
+-- this moment marks the pass of this number as having this of wakes
+abbrev pub WakesMarked : ℕ → SemWake → Moment → Type 0
+WakesMarked id b m = (s : SemHand) × (appends : ℕ) × (get_elem? m.marks id ≡ some (stance s appends b))
+
+-- a pass is to look whom to wake
+abbrev pub SomebodyLooks : Moment → Type 0
+SomebodyLooks m = (id : ℕ) × (b : SemWake) × WakesMarked id b m × (b.owing ≡ true)
+
+-- a bias keeps writers out: that of a reader in transit, or one that a waker has reserved where there was no writer
+abbrev pub SomebodyKeepsOut : List SemPart → Type 0
+SomebodyKeepsOut ps = (id : ℕ) × (p : SemPart) × (get_elem? ps id ≡ some p) × (1 ≤ kept_of p)
+
+-- this task needs no more: a pass has chosen it, and hasn't set its wake word yet; or that word is set; or it is awake, and tries or loads its grant word before it sleeps
+abbrev pub IsRoused : Moment → ℕ → Type 0
+IsRoused m t = ((id : ℕ) × (b : SemWake) × WakesMarked id b m × (1 ≤ times t b.chosen))
+    ⊎ (wake_word (wake_words m.words) t ≡ 1)
+    ⊎ ((id : ℕ) × (h : Hand) × (b : SemWake) × (get_elem? m.hands id ≡ some h) × (h.task ≡ Some t) × WakesMarked id b m × (b.vigil ≡ Awake))
 
 -- what concerns the semaphore of the pass of this number, as the moment has it
 pub record IsPartThen (m : Moment) (id : ℕ) (h : Hand) (p : SemPart) : Type 0 where
   pub task : p.task ≡ h.task
   pub held : p.held ≡ h.held
   pub appends : ℕ
-  pub marked : get_elem? m.marks id ≡ some (stance p.sem appends)
+  pub wake : SemWake
+  pub marked : get_elem? m.marks id ≡ some (stance p.sem appends wake)
 
 -- these are the parts of all passes, in turn
 pub record AreParts (m : Moment) (ps : List SemPart) : Type 0 where
@@ -54,6 +79,7 @@ abbrev pub HasWaitLock : ℕ → Moment → Type 0
 HasWaitLock id m = (s : SpinHand) × (get_elem? m.spins id ≡ some s) × (holds_in s ≡ 1)
 
 -- While this is the list, and these are the parts of the passes. The list's words state it while the wait lock is free, and each waiter has a pass. The count states whether a task writes, which then is alone, how many read, which biases are in it, and, while the wait lock is free, that tasks wait. Then the first waiter alone may be marked, and HANDOFF is set where it is. Who is about something, has reserved a bias, or has tasks of a batch still to grant, has the wait lock; whose bias is in transit holds nothing, and has a number.
+-- Where nobody writes or reads and tasks wait, a pass is to look whom to wake, or a bias keeps writers out, or the first waiter is a writer that is roused. While a bias stands that came under a writer, a task writes, or a pass is to look whom to wake. A reader that is granted while it waits is roused.
 pub record IsQueued (m : Moment) (q : List Waiter) (ps : List SemPart) : Type 0 where
   pub parts : AreParts m ps
   pub sound : IsList q
@@ -66,6 +92,9 @@ pub record IsQueued (m : Moment) (q : List Waiter) (ps : List SemPart) : Type 0 
   pub marked : IsWaitLockFree m.spins → OnlyFirst (count_in m.words / 4 % 2) q (marks_in m.words)
   pub locked : (id : ℕ) (p : SemPart) → get_elem? ps id ≡ some p → 0 < busy_of p + reserve_of p + rest_of p → HasWaitLock id m
   pub apart : (id : ℕ) (p : SemPart) → get_elem? ps id ≡ some p → transit_of p ≡ 1 → (p.held ≡ No) × (p.task ≢ None)
+  pub first : (w : Waiter) (behind : List Waiter) → q ≡ w ∷ behind → total alone_of ps ≡ 0 → readers (grants_in m.words) ps ≡ 0 → SomebodyLooks m ⊎ SomebodyKeepsOut ps ⊎ ((w.writer ≡ true) × IsRoused m w.task)
+  pub late : (id : ℕ) (p : SemPart) → get_elem? ps id ≡ some p → 1 ≤ overdue_of p → (1 ≤ total alone_of ps) ⊎ SomebodyLooks m
+  pub granted : (id : ℕ) (h : Hand) (p : SemPart) → get_elem? m.hands id ≡ some h → get_elem? ps id ≡ some p → 1 ≤ granted_of (grants_in m.words) p → (t : ℕ) → h.task ≡ Some t → IsRoused m t
 
 -- the facts of a site, and a list
 abbrev pub IsRwSemThen : {Call : Type 0} → Obj Call → ℕ → Plan → Moment → Type 0
@@ -87,6 +116,7 @@ MadeBy (Leave t) id h ps ps' q m = HasWaitLock id m × (((h.task ≡ Some t) × 
 -- HANDOFF is set by a waker with a reserved bias where the first waiter is marked, or by a writer of the list, which is to mark it from then on, and stays until a writer takes, a waker puts a batch of some readers into the count, or nobody waits. A mark is set by one of these, and is the first waiter's; it goes by that waiter's own pass, or by a waker whose batch has it next.
 -- A batch grows by the readers that its waker picks, and is granted in this order once it is in the count; no other step clears a grant word.
 -- Who is about something, before its step or behind it, has the wait lock. Who ends or downgrades a hold keeps the count that its step left. Whose failed try is counted waits for nothing, and has no bias in the count.
+-- What the pass has of wakes, and the wake words, go as `WakesGo` says.
 pub record IsRwSemStep (k : Plan) (x : Moment) (q : List Waiter) (ps : List SemPart) (y : Moment) (q' : List Waiter) (ps' : List SemPart) : Type 0 where
   pub by : IsSiteStep k count_at x y
   pub change : Change
@@ -96,8 +126,10 @@ pub record IsRwSemStep (k : Plan) (x : Moment) (q : List Waiter) (ps : List SemP
   pub hands : KeepsHandoff by.id (count_in x.words) q (marks_in x.words) (grants_in x.words) ps (count_in y.words) (marks_in y.words) (grants_in y.words) ps'
   pub locked : (p p' : SemPart) → get_elem? ps by.id ≡ some p → get_elem? ps' by.id ≡ some p' → 0 < busy_of p + busy_of p' → HasWaitLock by.id x
   pub freed : KeepsCount by.before by.after (count_in y.words)
-  pub appends : (s : SemHand) (appends : ℕ) → get_elem? x.marks by.id ≡ some (stance s appends) → (s' : SemHand) × (get_elem? y.marks by.id ≡ some (stance s' (appends + entered change)))
+  pub appends : (s : SemHand) (appends : ℕ) (b : SemWake) → get_elem? x.marks by.id ≡ some (stance s appends b) → (s' : SemHand) × (b' : SemWake) × (get_elem? y.marks by.id ≡ some (stance s' (appends + entered change) b'))
   pub missed : by.after.misses ≢ by.before.misses → (p : SemPart) × (get_elem? ps by.id ≡ some p) × (p.sem.wait ≡ Apart) × (p.sem.bias ≡ Clear)
+  pub wakes : (p p' : SemPart) (appends : ℕ) (b : SemWake) → get_elem? ps by.id ≡ some p → get_elem? ps' by.id ≡ some p' → get_elem? x.marks by.id ≡ some (stance p.sem appends b) → (b' : SemWake) × (get_elem? y.marks by.id ≡ some (stance p'.sem (appends + entered change) b'))
+      × ((spin : SpinHand) × (get_elem? x.spins by.id ≡ some spin) × WakesGo (count_in x.words) (count_in y.words) q change (grants_in x.words) (wake_words x.words) (wake_words y.words) (holds_in spin) p p' (wake_stands b) (wake_stands b'))
 
 -- the last of these moments, which stands first, has this list and these parts, and has come to be by such steps from that of the first
 abbrev pub HasBecome : Plan → List Moment → List Waiter → List SemPart → Type 0
@@ -105,10 +137,16 @@ HasBecome k [] q ps = ⊥
 HasBecome k (m ∷ []) q ps = IsQueued m q ps
 HasBecome k (m ∷ before ∷ past) q ps = IsQueued m q ps × ((old : List Waiter) × (were : List SemPart) × HasBecome k (before ∷ past) old were × IsRwSemStep k before old were m q ps)
 
--- the last moment of its past, which is that of its own last step, marks the pass at the seat of that step as waiting for nothing and without a bias in the count, and as having appended itself as often as it says
+-- the last moment of its past, which is that of its own last step, marks the pass at the seat of that step as waiting for nothing and without a bias in the count, as having appended itself as often as it says, and as having no wake to do
 pub record IsOutOfLine (v : Shown) : Type 0 where
   pub own : IsLatestStep v
-  pub marked : get_elem? own.step.now.marks own.step.seat ≡ some (stance apart_hand v.line.appends)
+  pub wake : SemWake
+  pub done : IsDone wake
+  pub marked : get_elem? own.step.now.marks own.step.seat ≡ some (stance apart_hand v.line.appends wake)
+
+-- that moment marks the pass as having set so many wake words, and as having fallen asleep so often
+abbrev pub MarksCounts : (wakes dozes : ℕ) → Shown → Type 0
+MarksCounts wakes dozes v = (own : IsLatestStep v) × ((b : SemWake) × WakesMarked own.step.seat b own.step.now × (b.wakes ≡ wakes) × (b.dozes ≡ dozes))
 
 abbrev pub task_of : Waiter → ℕ
 task_of w = w.task

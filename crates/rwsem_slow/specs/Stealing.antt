@@ -12,7 +12,7 @@ use Rattle.rwsem_count.specs.declared.view.Bias.{Bias}
 use Rattle.rwsem_count.specs.declared.view.Bias.TheVariants.{Clear, Transit, Reserve}
 use Rattle.rwsem_wake.specs.Queues.{GetsSem}
 use Rattle.rwsem_slow.specs.declared.view.RwSemHand.{RwSemHand}
-use Rattle.rwsem_slow.specs.RwSems.{with_sem}
+use Rattle.rwsem_slow.specs.RwSems.{with_sem, with_wake}
 
 -- the count that the addition of a bias left
 abbrev pub left_by : Bias → ℕ
@@ -30,7 +30,7 @@ MaySteal left hint = lets_in semaphore left × (IsShared left hint → ⊥)
 
 -- a reader whose bias is in the count looked at the owner hint, and holds by its bias where it may
 abbrev pub StealsBy : {Call : Type 0} → Obj Call → Sat RwSemHand → ℕ → Sat RwSemHand → Type 0
-StealsBy o m n m' = (MaySteal (left_by m.0.ext.sem.bias) n → GetsSem with_sem o Shared (record m.0.ext.sem { bias = Clear }) m m') × ((MaySteal (left_by m.0.ext.sem.bias) n → ⊥) → Turns m (ticked m.0) m')
+StealsBy o m n m' = (MaySteal (left_by m.0.ext.sem.bias) n → GetsSem with_sem with_wake o Shared (record m.0.ext.sem { bias = Clear }) m.0.ext.wake m m') × ((MaySteal (left_by m.0.ext.sem.bias) n → ⊥) → Turns m (ticked m.0) m')
 
 -- How a reader went on whose addition left this count, and didn't let it in at once: by way of the wait lock, with the list or without, or by its bias, by which its next step left it holding.
 abbrev pub WentOn : (left : ℕ) → How → Shown → Shown → Type 0

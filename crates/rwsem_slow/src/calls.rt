@@ -16,8 +16,9 @@ ghost use Rattle.lock_core.specs.Handles as inner;
 ghost use Rattle.wait_list.specs.declared.view.Waiter.{Waiter as Waiters};
 ghost use Rattle.rwsem_wake.specs.SemParts.{SemPart};
 ghost use Rattle.rwsem_slow.specs.RwSems.{count_at, standing, wait_lock_at};
-ghost use Rattle.rwsem_slow.specs.Stated.{HasBecome, IsOutOfLine, IsRwSemThen, waits_on};
+ghost use Rattle.rwsem_slow.specs.Stated.{HasBecome, IsOutOfLine, IsRwSemThen, MarksCounts, waits_on};
 
+use crate::counts::{NO_WAKES, WakeCounts};
 use crate::rule::SemRule;
 use lock_core::{Pass, Plan, Site, Tally};
 use osq_nodes::{Osq, OsqPass};
@@ -48,10 +49,11 @@ pub struct RwPass<O: Object> {
     pass: Pass<SemRule<O>>,
     queue: OsqPass,
     tally: Tally,
+    counts: WakeCounts,
 }
 
 impl<O: Object> RwPass<O> {
-    ghost use Rattle.rwsem_slow.specs.Handles.{shown_of};
+    ghost use Rattle.rwsem_slow.specs.Handles.{dozes_in, shown_of, wakes_in};
 
     /// What it has counted of its calls that waited.
     pub fn tally(&self) -> Tally
@@ -59,10 +61,26 @@ impl<O: Object> RwPass<O> {
     {
         self.tally
     }
+
+    /// How many wake words it has set: one for each task that it chose to be woken. It stays at the
+    /// last value of a u64.
+    pub fn wakes(&self) -> u64
+        ensures { result ≡ wakes_in self.now }
+    {
+        self.counts.wakes
+    }
+
+    /// How often its task fell asleep in the list: it swapped its own wake word for 0, and that
+    /// was 0. It stays at the last value of a u64.
+    pub fn dozes(&self) -> u64
+        ensures { result ≡ dozes_in self.now }
+    {
+        self.counts.dozes
+    }
 }
 
 impl<O: Object> RwSem<O> {
-    ghost use Rattle.rwsem_slow.specs.Handles.{newest, plan_of, shown_of, hand_in, SitsAt, SpunGoesOn};
+    ghost use Rattle.rwsem_slow.specs.Handles.{newest, plan_of, shown_of, hand_in, dozes_in, wakes_in, KeepsWakes, SitsAt, SpunGoesOn};
 
     /// A new semaphore: nobody holds, the state is empty, no call is logged or recorded. The pass
     /// has no task number.
@@ -73,11 +91,17 @@ impl<O: Object> RwSem<O> {
         ensures new { IfOk result (λ _. IsNew O.object O.WORDS plan (newest plan)) }
         ensures view { IfOk result (λ t.
             shown_of t.1 ≡ shown_new (Some plan) [] (newest plan ∷ [])) }
+        ensures fresh { IfOk result (λ t. (wakes_in t.1 ≡ 0) × (dozes_in t.1 ≡ 0)) }
     {
         let (site, pass) = Site::open(alloc, plan)?;
         let (osq, queue) = Osq::open(alloc, site.tasks())?;
-        let tally = Tally::new();
-        Ok((RwSem { site, osq }, RwPass { pass, queue, tally }))
+        let first = RwPass {
+            pass,
+            queue,
+            tally: Tally::new(),
+            counts: NO_WAKES,
+        };
+        Ok((RwSem { site, osq }, first))
     }
 
     /// A pass without a task number, which has seen as many entries.
@@ -88,6 +112,8 @@ impl<O: Object> RwSem<O> {
         ensures goes_on { PastGoesOn (shown_of pass.old) (shown_of pass.new) }
         ensures kept { Looks (shown_of pass.old) (shown_of pass.new) }
         ensures given { shown_of result ≡ shown_split (shown_of pass.old) }
+        ensures still { KeepsWakes pass.old pass.new }
+        ensures fresh { (wakes_in result ≡ 0) × (dozes_in result ≡ 0) }
     {
         let other = self.site.split(&mut pass.pass);
         let queue = self.osq.split(&mut pass.queue);
@@ -95,6 +121,7 @@ impl<O: Object> RwSem<O> {
             pass: other,
             queue,
             tally: Tally::new(),
+            counts: NO_WAKES,
         }
     }
 
@@ -110,6 +137,7 @@ impl<O: Object> RwSem<O> {
         ensures became { Numbered O.object (unavailable semaphore) (plan_of self.now)
             (hand_in pass.old) task (hand_in pass.new) }
         ensures beside { AllButHand (shown_of pass.old) (shown_of pass.new) }
+        ensures still { KeepsWakes pass.old pass.new }
     {
         self.site.begin(rt, &mut pass.pass, task);
         self.osq.begin(rt, &mut pass.queue, task);
@@ -126,6 +154,7 @@ impl<O: Object> RwSem<O> {
         ensures goes_on { PastGoesOn (shown_of pass.old) (shown_of pass.new) }
         ensures queue { SpunGoesOn pass.old pass.new }
         ensures kept { Has (gave_up (hand_in pass.old)) (shown_of pass.old) (shown_of pass.new) }
+        ensures still { KeepsWakes pass.old pass.new }
     {
         self.osq.end(&mut pass.queue);
         self.site.end(&mut pass.pass);
@@ -144,6 +173,7 @@ impl<O: Object> RwSem<O> {
             (shown_of into.old) (shown_of into.new) }
         ensures queue { SpunGoesOn into.old into.new }
         ensures others_queue { SpunGoesOn other into.new }
+        ensures still { KeepsWakes into.old into.new }
     {
         let RwPass { pass, queue, .. } = other;
         self.site.gather(&mut into.pass, pass);
@@ -162,8 +192,16 @@ impl<O: Object> RwSem<O> {
     /// marks, which are the first waiter's, are set under the wait lock, by a waker or by a writer
     /// of the list, which is then to mark; a mark is cleared by its own waiter, or by a waker whose
     /// batch has it next. A batch is granted in the order in which it was picked. At each moment
-    /// the words of the wait lock say who has it, and each step is one of a spin lock's. The pass
-    /// itself waits for nothing.
+    /// the words of the wait lock say who has it, and each step is one of a spin lock's.
+    ///
+    /// Nobody is forgotten: where tasks wait and nobody writes or reads, a pass is to look whom to
+    /// wake, or a bias keeps writers out, or the first waiter is a writer that needs no more. A
+    /// reader that is granted while it waits needs no more. A task needs no more where a pass has
+    /// chosen it, where its wake word is set, or where it is awake. Each step says how these come
+    /// and go.
+    ///
+    /// The pass itself waits for nothing, is to look for nobody, and has woken whom it chose. It has
+    /// set so many wake words and fallen asleep so often as it says.
     pub fn recall(&self, pass: &mut RwPass<O>)
         requires own { SitsAt self.now pass.old }
         ensures own { SitsAt self.now pass.new }
@@ -184,6 +222,8 @@ impl<O: Object> RwSem<O> {
         ensures wait_lock { EachMoment (IsSpinLockThen wait_lock_at) (shown_of pass.new).past }
         ensures wait_moves { Ran standing (newest (plan_of self.now)) (IsSpinMove wait_lock_at)
             (shown_of pass.new).past }
+        ensures counts { MarksCounts (wakes_in pass.new) (dozes_in pass.new) (shown_of pass.new) }
+        ensures still { KeepsWakes pass.old pass.new }
     {
         self.site.recall(&mut pass.pass);
     }

@@ -9,12 +9,14 @@ ghost use Rattle.lock_core.specs.Views.{SpinHolds, SpinRests};
 ghost use Rattle.wait_list.specs.Lists.{first_code, without};
 ghost use Rattle.rwsem_wake.specs.SemParts.{apart_hand, some_of};
 ghost use Rattle.rwsem_wake.specs.Grants.{OnlySem, summing};
-ghost use Rattle.rwsem_slow.specs.RwSems.{with_sem};
+ghost use Rattle.rwsem_slow.specs.RwSems.{leaves_wake, with_sem};
+ghost use Rattle.rwsem_wake.specs.Grants.{AreTaskNumbers};
 ghost use Rattle.rwsem_slow.specs.Removals.{KnowsList};
-ghost use Rattle.rwsem_slow.specs.Places.{IsOutside, StepsOn, seen_of};
+ghost use Rattle.rwsem_slow.specs.Places.{AreCounts, IsOutside, StepsOn, dozes_of, seen_of};
 ghost use Rattle.rwsem_slow.specs.Queued.{Becomes, KeepsLine, Listens, LooksAt};
 ghost use Rattle.rwsem_slow.specs.Leaving.{HasLeft, IsUnmarked, MayLeave, WakesOn, gone_first};
 
+use crate::counts::WakeCounts;
 use crate::rule::SemRule;
 use crate::waking::{Waited, WakeType, wake, wake_tasks};
 use arrayvec::ArrayVec;
@@ -100,7 +102,8 @@ fn remove_first<O: Object>(site: &Site<SemRule<O>>, pass: &mut Pass<SemRule<O>>,
     ensures own { SitsAt site.now pass.new }
     ensures goes_on { KeepsPast pass.old pass.new }
     ensures face { SaysSame pass.old pass.new }
-    ensures gone { Becomes (view_of pass.old) 0 (gone_first result) (view_of pass.new) }
+    ensures gone { Becomes (view_of pass.old) 0 (gone_first result)
+        (leaves_wake true (view_of pass.old).ext.wake) (view_of pass.new) }
     ensures left { (view_of pass.new).ext.list.list ≡
         without task (view_of pass.old).ext.list.list }
     ensures none_left { bit result + some_of (view_of pass.new).ext.list.list ≡ 1 }
@@ -125,7 +128,9 @@ fn remove_behind<O: Object>(site: &Site<SemRule<O>>, pass: &mut Pass<SemRule<O>>
     ensures own { SitsAt site.now pass.new }
     ensures goes_on { KeepsPast pass.old pass.new }
     ensures face { SaysSame pass.old pass.new }
-    ensures gone { Becomes (view_of pass.old) 0 apart_hand (view_of pass.new) }
+    ensures gone { Becomes (view_of pass.old) 0 apart_hand
+        (leaves_wake (view_of pass.old).ext.wake.owing (view_of pass.old).ext.wake)
+        (view_of pass.new) }
 {
     list::remove(site, pass, task);
 }
@@ -149,7 +154,8 @@ fn leave_first<O: Object, C: Cpu>(
     requires task { task < MAX_TASKS }
     requires empty { woken.old.items ≡ [] }
     ensures on { StepsOn site.now pass.old pass.new }
-    ensures left { HasLeft (view_of pass.old) (view_of pass.new) }
+    ensures left { HasLeft woken.new.items (view_of pass.old) (view_of pass.new) }
+    ensures tasks { AreTaskNumbers woken.new.items }
     ensures woken { WakesOn (without task (view_of pass.old).ext.list.list) woken.new.items
         (seen_of pass.old) (seen_of pass.new) }
     ensures sleeps { C.sleeps cpu.new ≡ C.sleeps cpu.old }
@@ -187,7 +193,8 @@ fn leave<O: Object, C: Cpu>(
     requires may { MayLeave (view_of pass.old) }
     requires empty { woken.old.items ≡ [] }
     ensures on { StepsOn site.now pass.old pass.new }
-    ensures left { HasLeft (view_of pass.old) (view_of pass.new) }
+    ensures left { HasLeft woken.new.items (view_of pass.old) (view_of pass.new) }
+    ensures tasks { AreTaskNumbers woken.new.items }
     ensures sleeps { C.sleeps cpu.new ≡ C.sleeps cpu.old }
     ensures rescheds { C.rescheds cpu.new ≡ C.rescheds cpu.old }
 {
@@ -209,6 +216,7 @@ pub fn interrupt<O: Object, C: Cpu, K: Crew>(
     pass: &mut Pass<SemRule<O>>,
     cpu: &mut C,
     crew: &K,
+    counts: &mut WakeCounts,
     why: Interrupted,
 )
     requires own { SitsAt site.now pass.old }
@@ -217,6 +225,7 @@ pub fn interrupt<O: Object, C: Cpu, K: Crew>(
     requires locked { SpinHolds (view_of pass.old).spin }
     requires may { MayLeave (view_of pass.old) }
     requires heard { HasHeard why (hand_in pass.old) }
+    requires counted { AreCounts counts.old (view_of pass.old) }
     ensures on { StepsOn site.now pass.old pass.new }
     ensures unspun { SpinRests (view_of pass.new).spin }
     ensures outside { IsOutside (view_of pass.new) }
@@ -225,11 +234,13 @@ pub fn interrupt<O: Object, C: Cpu, K: Crew>(
     ensures entries { (view_of pass.new).spin.entries ≡ (view_of pass.old).spin.entries }
     ensures sleeps { C.sleeps cpu.new ≡ C.sleeps cpu.old }
     ensures rescheds { C.rescheds cpu.new ≡ C.rescheds cpu.old }
+    ensures counted { AreCounts counts.new (view_of pass.new) }
+    ensures dozes { dozes_of (view_of pass.new) ≡ dozes_of (view_of pass.old) }
 {
     let mut woken: ArrayVec<u32, BATCH> = ArrayVec::new();
     // Under the wait lock: a reader that is granted before has its hold, and its signal stays.
     site.consume_pending(pass, why);
     leave(site, pass, cpu, &mut woken);
     qspin_word::unlock(site, pass);
-    wake_tasks(crew, woken.as_slice());
+    wake_tasks(site, pass, crew, counts, woken.as_slice());
 }

@@ -2,6 +2,7 @@
 #![tactic(auto)]
 
 mod calls;
+mod counts;
 mod hint;
 pub mod laws;
 mod leaving;

@@ -9,16 +9,18 @@ ghost use Rattle.lock_core.specs.Records.{bit};
 ghost use Rattle.lock_core.specs.Views.{SpinHolds, SpinRests};
 ghost use Rattle.rwsem_wake.specs.declared.view.Wait.TheVariants.{Reads};
 ghost use Rattle.rwsem_wake.specs.SemParts.{some_of};
+ghost use Rattle.cpu_task.specs.Counting.{Dozes};
 ghost use Rattle.rwsem_slow.specs.Counting.{SleepsBetween};
-ghost use Rattle.rwsem_slow.specs.Places.{IsOutside, StepsOn, seen_of};
+ghost use Rattle.rwsem_slow.specs.Places.{AreCounts, IsOutside, StepsOn, dozes_of, seen_of};
 ghost use Rattle.rwsem_slow.specs.Queued.{AppendedBy, EntersLock, IsInLine, IsInTransit, KeepsLine, Shares};
 ghost use Rattle.rwsem_slow.specs.Removals.{KnowsList};
 
+use crate::counts::WakeCounts;
 use crate::hint::note_reader;
 use crate::leaving::{interrupt, pending};
 use crate::reading;
 use crate::rule::SemRule;
-use crate::write_path::wake_others;
+use crate::write_path::{doze, wake_others};
 use cpu_task::{Cpu, Crew};
 use lock_core::{How, Interrupted, Pass, Site};
 use std::sync::Wait;
@@ -30,6 +32,7 @@ fn queue<O: Object, C: Cpu, K: Crew>(
     pass: &mut Pass<SemRule<O>>,
     cpu: &mut C,
     crew: &K,
+    counts: &mut WakeCounts,
     empty: bool,
 )
     requires own { SitsAt site.now pass.old }
@@ -39,6 +42,7 @@ fn queue<O: Object, C: Cpu, K: Crew>(
     requires transit { IsInTransit (view_of pass.old) }
     requires list { KnowsList (view_of pass.old) }
     requires empty { bit empty + some_of (view_of pass.old).ext.list.list ≡ 1 }
+    requires counted { AreCounts counts.old (view_of pass.old) }
     ensures on { StepsOn site.now pass.old pass.new }
     ensures listed { IsInLine Reads (view_of pass.new) }
     ensures hand { (view_of pass.new).hand ≡ (view_of pass.old).hand }
@@ -47,11 +51,13 @@ fn queue<O: Object, C: Cpu, K: Crew>(
     ensures appended { (view_of pass.new).ext.appends ≡ (view_of pass.old).ext.appends + 1 }
     ensures sleeps { C.sleeps cpu.new ≡ C.sleeps cpu.old }
     ensures rescheds { C.rescheds cpu.new ≡ C.rescheds cpu.old }
+    ensures counted { AreCounts counts.new (view_of pass.new) }
+    ensures dozes { dozes_of (view_of pass.new) ≡ dozes_of (view_of pass.old) }
 {
     // The count that its own bias leaves says who is to be woken: the writer that the bias kept out
     // may be waiting for nobody else.
     let count = reading::join(site, pass, empty);
-    wake_others(site, pass, cpu, crew, count);
+    wake_others(site, pass, cpu, crew, counts, count);
 }
 
 /// Leaves the list for a signal that is pending, unless the reader is granted meanwhile: then it
@@ -62,6 +68,7 @@ fn quit<O: Object, W: Wait, C: Cpu, K: Crew>(
     pass: &mut Pass<SemRule<O>>,
     cpu: &mut C,
     crew: &K,
+    counts: &mut WakeCounts,
     why: Interrupted,
 ) -> bool
     requires own { SitsAt site.now pass.old }
@@ -70,6 +77,7 @@ fn quit<O: Object, W: Wait, C: Cpu, K: Crew>(
     requires unspun { SpinRests (view_of pass.old).spin }
     requires listed { IsInLine Reads (view_of pass.old) }
     requires heard { HasHeard why (hand_in pass.old) }
+    requires counted { AreCounts counts.old (view_of pass.old) }
     ensures on { StepsOn site.now pass.old pass.new }
     ensures unspun { SpinRests (view_of pass.new).spin }
     ensures outside { IsOutside (view_of pass.new) }
@@ -79,6 +87,8 @@ fn quit<O: Object, W: Wait, C: Cpu, K: Crew>(
     ensures consumed { result ≡ true → OnlyConsumed (view_of pass.old) (view_of pass.new) }
     ensures sleeps { C.sleeps cpu.new ≡ C.sleeps cpu.old }
     ensures rescheds { C.rescheds cpu.new ≡ C.rescheds cpu.old }
+    ensures counted { AreCounts counts.new (view_of pass.new) }
+    ensures dozes { dozes_of (view_of pass.new) ≡ dozes_of (view_of pass.old) }
 {
     qspin_queue::lock(site, rt, pass);
     // The batch of a waker that came first has the reader's bias in the count: who left then would
@@ -87,7 +97,7 @@ fn quit<O: Object, W: Wait, C: Cpu, K: Crew>(
         qspin_word::unlock(site, pass);
         return false;
     }
-    interrupt(site, pass, cpu, crew, why);
+    interrupt(site, pass, cpu, crew, counts, why);
     true
 }
 
@@ -99,6 +109,7 @@ fn wait<O: Object, W: Wait, C: Cpu, K: Crew>(
     pass: &mut Pass<SemRule<O>>,
     cpu: &mut C,
     crew: &K,
+    counts: &mut WakeCounts,
     interruptible: bool,
 ) -> Result<(), Interrupted>
     requires own { SitsAt site.now pass.old }
@@ -106,6 +117,7 @@ fn wait<O: Object, W: Wait, C: Cpu, K: Crew>(
     requires out { held_in pass.old ≡ No }
     requires unspun { SpinRests (view_of pass.old).spin }
     requires listed { IsInLine Reads (view_of pass.old) }
+    requires counted { AreCounts counts.old (view_of pass.old) }
     ensures on { StepsOn site.now pass.old pass.new }
     ensures unspun { SpinRests (view_of pass.new).spin }
     ensures outside { IsOutside (view_of pass.new) }
@@ -118,6 +130,9 @@ fn wait<O: Object, W: Wait, C: Cpu, K: Crew>(
     ensures pending { IfErr result (λ why.
         SawPending why (seen_of pass.old) (seen_of pass.new)) }
     ensures asked { IfErr result (λ _. interruptible ≡ true) }
+    ensures counted { AreCounts counts.new (view_of pass.new) }
+    ensures dozed { Dozes (C.sleeps cpu.old) (C.sleeps cpu.new)
+        (dozes_of (view_of pass.old)) (dozes_of (view_of pass.new)) }
     ensures sleeps { SleepsBetween (view_of pass.old).steps (view_of pass.new).steps
         (C.sleeps cpu.old) (C.sleeps cpu.new) }
     ensures rescheds { C.rescheds cpu.new ≡ C.rescheds cpu.old }
@@ -128,12 +143,12 @@ fn wait<O: Object, W: Wait, C: Cpu, K: Crew>(
             return Ok(());
         }
         if let Some(why) = pending(site, pass, interruptible) {
-            if quit(site, rt, pass, cpu, crew, why) {
+            if quit(site, rt, pass, cpu, crew, counts, why) {
                 return Err(why);
             }
             return Ok(());
         }
-        cpu.sleep(rt);
+        doze(site, rt, pass, cpu, counts);
     }
     unreachable!()
 }
@@ -147,6 +162,7 @@ pub fn read_in_line<O: Object, W: Wait, C: Cpu, K: Crew>(
     pass: &mut Pass<SemRule<O>>,
     cpu: &mut C,
     crew: &K,
+    counts: &mut WakeCounts,
     interruptible: bool,
 ) -> Result<How, Interrupted>
     requires own { SitsAt site.now pass.old }
@@ -154,6 +170,7 @@ pub fn read_in_line<O: Object, W: Wait, C: Cpu, K: Crew>(
     requires out { held_in pass.old ≡ No }
     requires unspun { SpinRests (view_of pass.old).spin }
     requires transit { IsInTransit (view_of pass.old) }
+    requires counted { AreCounts counts.old (view_of pass.old) }
     ensures on { StepsOn site.now pass.old pass.new }
     ensures unspun { SpinRests (view_of pass.new).spin }
     ensures outside { IsOutside (view_of pass.new) }
@@ -168,6 +185,9 @@ pub fn read_in_line<O: Object, W: Wait, C: Cpu, K: Crew>(
     ensures pending { IfErr result (λ why.
         SawPending why (seen_of pass.old) (seen_of pass.new)) }
     ensures asked { IfErr result (λ _. interruptible ≡ true) }
+    ensures counted { AreCounts counts.new (view_of pass.new) }
+    ensures dozed { Dozes (C.sleeps cpu.old) (C.sleeps cpu.new)
+        (dozes_of (view_of pass.old)) (dozes_of (view_of pass.new)) }
     ensures sleeps { SleepsBetween (view_of pass.old).steps (view_of pass.new).steps
         (C.sleeps cpu.old) (C.sleeps cpu.new) }
     ensures rescheds { C.rescheds cpu.new ≡ C.rescheds cpu.old }
@@ -179,9 +199,9 @@ pub fn read_in_line<O: Object, W: Wait, C: Cpu, K: Crew>(
         note_reader(site, pass);
         return Ok(How::Spun);
     };
-    queue(site, pass, cpu, crew, empty);
+    queue(site, pass, cpu, crew, counts, empty);
     qspin_word::unlock(site, pass);
-    let Err(why) = wait(site, rt, pass, cpu, crew, interruptible) else {
+    let Err(why) = wait(site, rt, pass, cpu, crew, counts, interruptible) else {
         return Ok(How::Slept);
     };
     Err(why)

@@ -6,7 +6,10 @@ ghost use Rattle.lock_core.specs.Records.{bit};
 ghost use Rattle.lock_core.specs.Views.{SpinHolds};
 ghost use Rattle.rwsem_wake.specs.declared.view.Wait.TheVariants.{Reads};
 ghost use Rattle.rwsem_wake.specs.SemParts.{some_of};
-ghost use Rattle.rwsem_slow.specs.Queued.{Becomes, IsInLine, IsInTransit, LooksAt, Shares, Stays, waiting};
+ghost use Rattle.wake_duty.specs.WakeSteps.{HasTried};
+ghost use Rattle.rwsem_wake.specs.Duties.{left_by};
+ghost use Rattle.rwsem_slow.specs.RwSems.{vigil_of};
+ghost use Rattle.rwsem_slow.specs.Queued.{Becomes, IsInLine, IsInTransit, LooksAt, Shares, Tries, comes, waiting};
 ghost use Rattle.rwsem_slow.specs.Leaving.{SeesUngranted};
 ghost use Rattle.rwsem_slow.specs.Removals.{KnowsList};
 
@@ -58,7 +61,8 @@ pub fn join<O: Object>(site: &Site<SemRule<O>>, pass: &mut Pass<SemRule<O>>, emp
     ensures own { SitsAt site.now pass.new }
     ensures goes_on { KeepsPast pass.old pass.new }
     ensures face { SaysSame pass.old pass.new }
-    ensures came { Becomes (view_of pass.old) 1 (waiting Reads) (view_of pass.new) }
+    ensures came { Becomes (view_of pass.old) 1 (waiting Reads)
+        (left_by result (comes (view_of pass.old).ext.wake)) (view_of pass.new) }
 {
     let Some(task) = pass.task() else {
         unreachable!()
@@ -90,7 +94,8 @@ pub fn hear<O: Object>(site: &Site<SemRule<O>>, pass: &mut Pass<SemRule<O>>) -> 
     ensures spin { (view_of pass.new).spin ≡ (view_of pass.old).spin }
     ensures face { result ≡ false → SaysSame pass.old pass.new }
     ensures later { (view_of pass.new).steps ≡ (view_of pass.old).steps + 1 }
-    ensures missed { result ≡ false → Stays (view_of pass.old) (view_of pass.new) }
+    ensures missed { result ≡ false → Tries (view_of pass.old) (view_of pass.new) }
+    ensures tried { result ≡ false → HasTried vigil_of (view_of pass.new) }
 {
     let Some(task) = pass.task() else {
         unreachable!()

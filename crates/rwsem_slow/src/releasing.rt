@@ -5,10 +5,11 @@ ghost use Rattle.lock_core.specs.Handles.{view_of, hand_in, task_in, held_in, Si
 ghost use Rattle.lock_core.specs.Kinds.{semaphore, wakes_alone, wakes_down, wakes_shared};
 ghost use Rattle.lock_core.specs.Locking.{Downgrades, Releases};
 ghost use Rattle.lock_core.specs.Views.{SpinRests};
-ghost use Rattle.rwsem_slow.specs.Places.{IsOutside, StepsOn, seen_of};
+ghost use Rattle.rwsem_slow.specs.Places.{AreCounts, IsOutside, MayOwe, StepsOn, dozes_of, seen_of};
 ghost use Rattle.rwsem_slow.specs.Releasing.{LeavesCount, WentThrough};
 ghost use Rattle.rwsem_slow.specs.Wakes.{MayWake};
 
+use crate::counts::WakeCounts;
 use crate::hint::{NOBODY, reader_hint, set_hint};
 use crate::rule::SemRule;
 use crate::waking::{Endless, WakeType, wake, wake_tasks};
@@ -40,23 +41,27 @@ pub fn wake_waiters<O: Object, W: Wait, C: Crew>(
     rt: &W,
     pass: &mut Pass<SemRule<O>>,
     crew: &C,
+    counts: &mut WakeCounts,
     kind: WakeType,
 )
     requires own { SitsAt site.now pass.old }
     requires numbered { IsSome (task_in pass.old) }
     requires unspun { SpinRests (view_of pass.old).spin }
-    requires outside { IsOutside (view_of pass.old) }
+    requires outside { MayOwe (view_of pass.old) }
     requires may { MayWake kind (view_of pass.old) }
+    requires counted { AreCounts counts.old (view_of pass.old) }
     ensures on { StepsOn site.now pass.old pass.new }
     ensures unspun { SpinRests (view_of pass.new).spin }
     ensures outside { IsOutside (view_of pass.new) }
     ensures went { WentThrough (view_of pass.old) (view_of pass.new) }
+    ensures counted { AreCounts counts.new (view_of pass.new) }
+    ensures dozes { dozes_of (view_of pass.new) ≡ dozes_of (view_of pass.old) }
 {
     let mut woken: ArrayVec<u32, BATCH> = ArrayVec::new();
     qspin_queue::lock(site, rt, pass);
     wake(site, pass, kind, &mut Endless, &mut woken);
     qspin_word::unlock(site, pass);
-    wake_tasks(crew, woken.as_slice());
+    wake_tasks(site, pass, crew, counts, woken.as_slice());
 }
 
 /// Ends the pass's shared hold. The kernel's `__up_read`.
@@ -65,6 +70,7 @@ pub fn up_read<O: Object, W: Wait, C: Crew>(
     rt: &W,
     pass: &mut Pass<SemRule<O>>,
     crew: &C,
+    counts: &mut WakeCounts,
 )
     requires own { SitsAt site.now pass.old }
     requires numbered { IsSome (task_in pass.old) }
@@ -72,18 +78,21 @@ pub fn up_read<O: Object, W: Wait, C: Crew>(
     requires quiet { (hand_in pass.old).writes ≡ false }
     requires unspun { SpinRests (view_of pass.old).spin }
     requires outside { IsOutside (view_of pass.old) }
+    requires counted { AreCounts counts.old (view_of pass.old) }
     ensures on { StepsOn site.now pass.old pass.new }
     ensures unspun { SpinRests (view_of pass.new).spin }
     ensures outside { IsOutside (view_of pass.new) }
     ensures released { Releases (wakes_shared semaphore) (seen_of pass.old) (seen_of pass.new) }
     ensures left { LeavesCount (wakes_shared semaphore) No 256 0
         (seen_of pass.old) (seen_of pass.new) }
+    ensures counted { AreCounts counts.new (view_of pass.new) }
+    ensures dozes { dozes_of (view_of pass.new) ≡ dozes_of (view_of pass.old) }
 {
     let left = steps::up_read(site, pass);
     // The last reader alone wakes, which it learns from the count that its own step left: two that
     // looked afterwards could both find nobody, or a reader that came since.
     if is_left_to_waiters(left) {
-        wake_waiters(site, rt, pass, crew, WakeType::Any);
+        wake_waiters(site, rt, pass, crew, counts, WakeType::Any);
     }
 }
 
@@ -93,6 +102,7 @@ pub fn up_write<O: Object, W: Wait, C: Crew>(
     rt: &W,
     pass: &mut Pass<SemRule<O>>,
     crew: &C,
+    counts: &mut WakeCounts,
 )
     requires own { SitsAt site.now pass.old }
     requires numbered { IsSome (task_in pass.old) }
@@ -100,18 +110,21 @@ pub fn up_write<O: Object, W: Wait, C: Crew>(
     requires quiet { (hand_in pass.old).writes ≡ false }
     requires unspun { SpinRests (view_of pass.old).spin }
     requires outside { IsOutside (view_of pass.old) }
+    requires counted { AreCounts counts.old (view_of pass.old) }
     ensures on { StepsOn site.now pass.old pass.new }
     ensures unspun { SpinRests (view_of pass.new).spin }
     ensures outside { IsOutside (view_of pass.new) }
     ensures released { Releases (wakes_alone semaphore) (seen_of pass.old) (seen_of pass.new) }
     ensures left { LeavesCount (wakes_alone semaphore) No 1 0
         (seen_of pass.old) (seen_of pass.new) }
+    ensures counted { AreCounts counts.new (view_of pass.new) }
+    ensures dozes { dozes_of (view_of pass.new) ≡ dozes_of (view_of pass.old) }
 {
     // While it still holds: behind the release the store could undo that of the next holder.
     set_hint(site, pass, NOBODY);
     let left = steps::up_write(site, pass);
     if has_waiters(left) {
-        wake_waiters(site, rt, pass, crew, WakeType::Any);
+        wake_waiters(site, rt, pass, crew, counts, WakeType::Any);
     }
 }
 
@@ -121,6 +134,7 @@ pub fn downgrade_write<O: Object, W: Wait, C: Crew>(
     rt: &W,
     pass: &mut Pass<SemRule<O>>,
     crew: &C,
+    counts: &mut WakeCounts,
 )
     requires own { SitsAt site.now pass.old }
     requires numbered { IsSome (task_in pass.old) }
@@ -128,12 +142,15 @@ pub fn downgrade_write<O: Object, W: Wait, C: Crew>(
     requires quiet { (hand_in pass.old).writes ≡ false }
     requires unspun { SpinRests (view_of pass.old).spin }
     requires outside { IsOutside (view_of pass.old) }
+    requires counted { AreCounts counts.old (view_of pass.old) }
     ensures on { StepsOn site.now pass.old pass.new }
     ensures unspun { SpinRests (view_of pass.new).spin }
     ensures outside { IsOutside (view_of pass.new) }
     ensures downgraded { Downgrades semaphore (seen_of pass.old) (seen_of pass.new) }
     ensures left { LeavesCount (wakes_down semaphore) Shared 0 255
         (seen_of pass.old) (seen_of pass.new) }
+    ensures counted { AreCounts counts.new (view_of pass.new) }
+    ensures dozes { dozes_of (view_of pass.new) ≡ dozes_of (view_of pass.old) }
 {
     let Some(me) = pass.task() else {
         unreachable!()
@@ -143,6 +160,6 @@ pub fn downgrade_write<O: Object, W: Wait, C: Crew>(
     // Readers that queued behind the writer wait for nobody now, and no later release need come
     // before they are let in.
     if has_waiters(left) {
-        wake_waiters(site, rt, pass, crew, WakeType::ReadOwned);
+        wake_waiters(site, rt, pass, crew, counts, WakeType::ReadOwned);
     }
 }

@@ -3,9 +3,9 @@ ghost use Rattle.std.specs.Prelude.{◌≡◌, ◌≤◌, [], IsSome, Some, leng
 ghost use Rattle.lock_core.specs.Handles.{IsLatest, view_of, task_in, SitsAt, KeepsPast, SaysSame};
 ghost use Rattle.lock_core.specs.Views.{SpinHolds};
 ghost use Rattle.wait_list.specs.Lists.{first_of, only_steps};
-ghost use Rattle.rwsem_slow.specs.RwSems.{MayPick};
+ghost use Rattle.rwsem_slow.specs.RwSems.{MayPick, sem_of};
 ghost use Rattle.rwsem_slow.specs.Removals.{AreHeads, BeginsWith, KnowsList, RemovesAll};
-ghost use Rattle.rwsem_wake.specs.Grants.{AreTaskNumbers};
+ghost use Rattle.rwsem_wake.specs.Grants.{AreTaskNumbers, KeepsOut};
 
 use crate::rule::SemRule;
 use arrayvec::ArrayVec;
@@ -60,6 +60,7 @@ pub fn remove_all<O: Object>(site: &Site<SemRule<O>>, pass: &mut Pass<SemRule<O>
     requires list { KnowsList (view_of pass.old) }
     requires may { MayPick (view_of pass.old).ext.sem }
     requires none { (view_of pass.old).ext.sem.rest ≡ [] }
+    requires keeps { KeepsOut sem_of (view_of pass.old) }
     requires few { length batch.now ≤ 256 }
     requires tasks { AreTaskNumbers batch.now }
     requires heads { AreHeads batch.now (view_of pass.old).ext.list.list }

@@ -2,22 +2,24 @@
 ghost use Rattle.std.specs.Prelude.{◌≡◌, refl};
 ghost use Rattle.word_bits.specs.LockWords.{counted};
 ghost use Rattle.lock_core.specs.SpinTables.{one-some, one-eight};
-ghost use Rattle.rwsem_slow.specs.RwSems.{Kept, MayMiss, RwSemKept, RwSemMoves, any_count, bias_of, biased, count_at, grants_at, idle, list_at, list_of, marks_at, may_change, may_count, may_free, more_in, rests, saw_first, sem_of, standing, with_list, with_sem};
+ghost use Rattle.rwsem_slow.specs.RwSems.{Kept, MayMiss, RwSemKept, RwSemMoves, any_count, bias_of, biased, count_at, grants_at, idle, list_at, list_of, marks_at, may_change, may_count, may_free, more_in, rests, saw_first, sem_of, standing, wake_of, with_list, with_sem, with_wake, vigil_of, wakes_at, HasChosen, after_set, after_swap};
 ghost use Rattle.rwsem_slow.specs.RwSemLaws.{count-inside, list-inside, sem-joins-rule, sem-looks, sem-opens-rule, sem-places, sem-sems, sem-site, sem-sites, sem-spin, sem-spins, sem-splits, spin-inside};
 ghost use Rattle.rwsem_slow.specs.ListLaws.{list-again, list-back, list-over, list-same, may-on, may-stay, sem-firsts, sem-list, sem-list-may, sem-lists, sem-queued};
 ghost use Rattle.rwsem_slow.specs.CountHosting.{bias-back, sem-alone, sem-count, sem-counted, sem-words};
+ghost use Rattle.rwsem_slow.specs.SleepLaws.{sem-bits, sem-sets, sem-swaps, wake-inside};
 
 use crate::view::RwSemHand;
-use lock_core::{SPIN_ROOM, SiteRule, SpinHost};
+use lock_core::{LOCK_WORDS, SPIN_ROOM, SiteRule, SpinHost};
 use rwsem_count::CountHost;
 use rwsem_wake::GrantHost;
 use std::marker::PhantomData;
 use wait_list::{LIST_WORDS, ListHost};
+use wake_duty::SleepHost;
 use word_bits::{MAX_TASKS, Object};
 
 /// The rule of the table of a semaphore that guards an object of the kind `O`: a spin lock, a
-/// count, a list of waiters, which changes under the spin lock, and a mark and a grant word for
-/// each task.
+/// count, a list of waiters, which changes under the spin lock, and a mark, a grant word and a wake
+/// word for each task.
 pub struct SemRule<O> {
     object: PhantomData<O>,
 }
@@ -169,6 +171,12 @@ impl<O: Object> GrantHost for SemRule<O> {
 
     ghost sem_list = { λ e s. refl };
 
+    ghost wake = { wake_of };
+
+    ghost with_wake = { with_wake };
+
+    ghost wake_same = { λ e s. refl };
+
     ghost sem_places = { sem-places };
 
     ghost sem_kept = { sem-words O.object O.WORDS };
@@ -176,4 +184,28 @@ impl<O: Object> GrantHost for SemRule<O> {
     ghost sem_only = { sem-alone O.object O.WORDS };
 
     ghost sems = { sem-sems O.object O.WORDS };
+}
+
+impl<O: Object> SleepHost for SemRule<O> {
+    const WAKE: usize = LOCK_WORDS - 8 * MAX_TASKS as usize;
+
+    ghost WAKE = { wakes_at };
+
+    ghost vigil = { vigil_of };
+
+    ghost has_chosen = { HasChosen };
+
+    ghost after_set = { after_set };
+
+    ghost after_swap = { after_swap };
+
+    ghost wake_inside = { wake-inside };
+
+    ghost chosen_few = { λ e t chosen. chosen.2 };
+
+    ghost wake_bits = { sem-bits O.object O.WORDS };
+
+    ghost sets_word = { sem-sets O.object O.WORDS };
+
+    ghost swaps_word = { sem-swaps O.object O.WORDS };
 }

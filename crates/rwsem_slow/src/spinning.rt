@@ -75,6 +75,7 @@ fn take<O: Object>(site: &Site<SemRule<O>>, pass: &mut Pass<SemRule<O>>, word: u
     requires numbered { IsSome (task_in pass.old) }
     requires out { held_in pass.old ≡ No }
     requires apart { (view_of pass.old).ext.sem ≡ apart_hand }
+    requires clear { (view_of pass.old).ext.wake.owing ≡ false }
     requires free { IsUnlocked word }
     requires lawful { IsLawfulCount word }
     ensures own { SitsAt site.now pass.new }
@@ -107,6 +108,7 @@ fn try_unqueued<O: Object, W: Wait>(
     requires numbered { IsSome (task_in pass.old) }
     requires out { held_in pass.old ≡ No }
     requires apart { (view_of pass.old).ext.sem ≡ apart_hand }
+    requires clear { (view_of pass.old).ext.wake.owing ≡ false }
     ensures own { SitsAt site.now pass.new }
     ensures goes_on { KeepsPast pass.old pass.new }
     ensures last { IsLatest pass.new }

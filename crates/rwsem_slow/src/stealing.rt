@@ -9,12 +9,14 @@ ghost use Rattle.lock_core.specs.Locking.{SawPending, Takes};
 ghost use Rattle.lock_core.specs.Shown.{LeavesHold};
 ghost use Rattle.lock_core.specs.Signals.{OnlyConsumed};
 ghost use Rattle.lock_core.specs.Views.{SpinRests, ticked};
+ghost use Rattle.cpu_task.specs.Counting.{Dozes};
 ghost use Rattle.rwsem_slow.specs.Counting.{SleepsBetween};
-ghost use Rattle.rwsem_slow.specs.Places.{IsOutside, StepsOn, seen_of};
+ghost use Rattle.rwsem_slow.specs.Places.{AreCounts, IsOutside, StepsOn, dozes_of, seen_of};
 ghost use Rattle.rwsem_slow.specs.Queued.{EntersLock, IsInTransit, KeepsLine, Shares};
 ghost use Rattle.rwsem_slow.specs.Stealing.{IsShared, MaySteal, StealsBy, WentOn, left_by};
 ghost use Rattle.rwsem_slow.specs.Wakes.{MayWake};
 
+use crate::counts::WakeCounts;
 use crate::hint::{HINT, is_reader_hint, note_reader};
 use crate::read_path::read_in_line;
 use crate::releasing::{has_waiters, wake_waiters};
@@ -100,6 +102,7 @@ fn wake_beside<O: Object, W: Wait, K: Crew>(
     rt: &W,
     pass: &mut Pass<SemRule<O>>,
     crew: &K,
+    counts: &mut WakeCounts,
     left: u64,
 )
     requires own { SitsAt site.now pass.old }
@@ -107,16 +110,19 @@ fn wake_beside<O: Object, W: Wait, K: Crew>(
     requires unspun { SpinRests (view_of pass.old).spin }
     requires outside { IsOutside (view_of pass.old) }
     requires may { MayWake WakeType.ReadOwned (view_of pass.old) }
+    requires counted { AreCounts counts.old (view_of pass.old) }
     ensures on { StepsOn site.now pass.old pass.new }
     ensures unspun { SpinRests (view_of pass.new).spin }
     ensures outside { IsOutside (view_of pass.new) }
     ensures hand { (view_of pass.new).hand ≡ (view_of pass.old).hand }
     ensures keeps { KeepsLine (view_of pass.old) (view_of pass.new) }
+    ensures counted { AreCounts counts.new (view_of pass.new) }
+    ensures dozes { dozes_of (view_of pass.new) ≡ dozes_of (view_of pass.old) }
 {
     // Readers that wait may share the hold. The first reader alone lets them in: those that come
     // later find them there.
     if left % READ_FAIL / BIAS == 1 && has_waiters(left) {
-        wake_waiters(site, rt, pass, crew, WakeType::ReadOwned);
+        wake_waiters(site, rt, pass, crew, counts, WakeType::ReadOwned);
     }
 }
 
@@ -130,6 +136,7 @@ pub fn read_slowly<O: Object, W: Wait, C: Cpu, K: Crew>(
     cpu: &mut C,
     crew: &K,
     left: u64,
+    counts: &mut WakeCounts,
     interruptible: bool,
 ) -> Result<How, Interrupted>
     requires own { SitsAt site.now pass.old }
@@ -137,6 +144,7 @@ pub fn read_slowly<O: Object, W: Wait, C: Cpu, K: Crew>(
     requires out { held_in pass.old ≡ No }
     requires unspun { SpinRests (view_of pass.old).spin }
     requires transit { IsInTransit (view_of pass.old) }
+    requires counted { AreCounts counts.old (view_of pass.old) }
     requires left { left ≡ left_by (view_of pass.old).ext.sem.bias }
     ensures on { StepsOn site.now pass.old pass.new }
     ensures unspun { SpinRests (view_of pass.new).spin }
@@ -152,6 +160,9 @@ pub fn read_slowly<O: Object, W: Wait, C: Cpu, K: Crew>(
     ensures pending { IfErr result (λ why.
         SawPending why (seen_of pass.old) (seen_of pass.new)) }
     ensures asked { IfErr result (λ _. interruptible ≡ true) }
+    ensures counted { AreCounts counts.new (view_of pass.new) }
+    ensures dozed { Dozes (C.sleeps cpu.old) (C.sleeps cpu.new)
+        (dozes_of (view_of pass.old)) (dozes_of (view_of pass.new)) }
     ensures sleeps { SleepsBetween (view_of pass.old).steps (view_of pass.new).steps
         (C.sleeps cpu.old) (C.sleeps cpu.new) }
     ensures rescheds { C.rescheds cpu.new ≡ C.rescheds cpu.old }
@@ -161,8 +172,8 @@ pub fn read_slowly<O: Object, W: Wait, C: Cpu, K: Crew>(
         // Spinning writers see early that readers have the lock: not only once the readers that
         // wait are let in too.
         note_reader(site, pass);
-        wake_beside(site, rt, pass, crew, left);
+        wake_beside(site, rt, pass, crew, counts, left);
         return Ok(How::Spun);
     }
-    read_in_line(site, rt, pass, cpu, crew, interruptible)
+    read_in_line(site, rt, pass, cpu, crew, counts, interruptible)
 }

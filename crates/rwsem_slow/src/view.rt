@@ -2,6 +2,7 @@
 //! proofs alone.
 
 use rwsem_wake::SemHand;
+use sem_duty::SemWake;
 use wait_list::ListHand;
 
 /// What concerns the words of the list, the count, the marks and the grant words.
@@ -10,4 +11,6 @@ pub struct RwSemHand {
     pub sem: SemHand,
     /// How often it has appended itself.
     pub appends: u64,
+    /// What it owes, whom it has chosen, and how its task waits.
+    pub wake: SemWake,
 }

@@ -3,15 +3,16 @@ ghost use Rattle.std.specs.Prelude.{◌≡◌, ◌<◌, ◌≤◌, ◌+◌, ◌|
 ghost use Rattle.lock_core.specs.Handles.{IsLatest, view_of, task_in, SitsAt, KeepsPast, SaysSame};
 ghost use Rattle.lock_core.specs.Records.{bit};
 ghost use Rattle.lock_core.specs.Views.{SpinHolds};
-ghost use Rattle.wait_list.specs.Lists.{first_of};
 ghost use Rattle.rwsem_count.specs.Counts.{early_weight, shared_weight};
 ghost use Rattle.rwsem_wake.specs.Grants.{AreTaskNumbers, KeepsOut};
 ghost use Rattle.rwsem_wake.specs.SemParts.{some_of};
+ghost use Rattle.wait_list.specs.Lists.{first_of};
 ghost use Rattle.rwsem_slow.specs.RwSems.{MayPick, sem_of};
-ghost use Rattle.rwsem_slow.specs.Places.{StepsOn, seen_of};
+ghost use Rattle.rwsem_slow.specs.Places.{AreCounts, StepsOn, seen_of};
 ghost use Rattle.rwsem_slow.specs.Removals.{KnowsList, RemovesAll};
-ghost use Rattle.rwsem_slow.specs.Wakes.{Grants, IsAtRest, MayWake, SawWriter, Wakes, batch_in, readers_woken};
+ghost use Rattle.rwsem_slow.specs.Wakes.{Grants, IsAtRest, Looks, MayWake, SawWriter, SetsAll, Wakes, batch_in, readers_woken};
 
+use crate::counts::WakeCounts;
 use crate::hint::{reader_hint, set_hint};
 use crate::removal::{MAX_WAITERS, read_list, remove_all};
 use crate::rule::SemRule;
@@ -118,6 +119,7 @@ fn remove_batch<O: Object>(
     requires reader { first.writer ≡ false }
     requires may { MayPick (view_of pass.old).ext.sem }
     requires none { (view_of pass.old).ext.sem.rest ≡ [] }
+    requires keeps { KeepsOut sem_of (view_of pass.old) }
     requires empty { readers.old.items ≡ [] }
     ensures own { SitsAt site.now pass.new }
     ensures goes_on { KeepsPast pass.old pass.new }
@@ -167,6 +169,7 @@ fn grant<O: Object>(
     ensures face { SaysSame pass.old pass.new }
     ensures granted { Grants false (view_of pass.old) (view_of pass.new) }
     ensures woken { woken.new.items ≡ batch_in (view_of pass.old).ext.list.list }
+    ensures tasks { AreTaskNumbers woken.new.items }
 {
     let empty = remove_batch(site, pass, first, woken);
     let readers = woken.as_slice();
@@ -198,6 +201,7 @@ fn grant_unless_written<O: Object, P: Patience>(
     ensures granted { Grants result (view_of pass.old) (view_of pass.new) }
     ensures woken { woken.new.items ≡
         readers_woken result (view_of pass.old).ext.list.list }
+    ensures tasks { AreTaskNumbers woken.new.items }
     ensures saw { SawWriter result (seen_of pass.old) (seen_of pass.new) }
     ensures steps { result ≡ true → P.said patience.old ≡ false →
         (view_of pass.new).steps ≡ (view_of pass.old).steps + 2 + bit (P.said patience.new) }
@@ -220,15 +224,62 @@ fn grant_unless_written<O: Object, P: Patience>(
     false
 }
 
-/// Wakes these tasks.
-pub fn wake_tasks<C: Crew>(crew: &C, tasks: &[u32]) {
+/// Ends the sleeps of these tasks, once the pass has set the wake word of each that it had chosen.
+fn rouse<O: Object, C: Crew>(pass: &Pass<SemRule<O>>, crew: &C, tasks: &[u32])
+    requires set { (view_of pass.now).ext.wake.chosen ≡ [] }
+{
     for task in tasks {
         crew.wake(*task);
     }
 }
 
-/// Wakes waiters under the wait lock: `woken`, which was empty, has the tasks that the caller is to
-/// wake. Nobody is woken where nobody waits. The kernel's `rwsem_mark_wake`.
+/// Wakes these tasks, which are those that the pass has chosen. The kernel's `wake_up_q`.
+pub fn wake_tasks<O: Object, C: Crew>(
+    site: &Site<SemRule<O>>,
+    pass: &mut Pass<SemRule<O>>,
+    crew: &C,
+    counts: &mut WakeCounts,
+    tasks: &[u32],
+)
+    requires own { SitsAt site.now pass.old }
+    requires chosen { (view_of pass.old).ext.wake.chosen ≡ tasks.now }
+    requires granted { (view_of pass.old).ext.sem.rest ≡ [] }
+    requires tasks { AreTaskNumbers tasks.now }
+    requires counted { AreCounts counts.old (view_of pass.old) }
+    ensures own { SitsAt site.now pass.new }
+    ensures goes_on { KeepsPast pass.old pass.new }
+    ensures face { SaysSame pass.old pass.new }
+    ensures set { SetsAll (length tasks.now) (view_of pass.old) (view_of pass.new) }
+    ensures counted { AreCounts counts.new (view_of pass.new) }
+{
+    for task in tasks {
+        wake_duty::set(site, pass, *task);
+        counts.wakes = counts.wakes.saturating_add(1);
+    }
+    // The words are set before the sleeps are ended: a task that swaps its word between the two
+    // finds it set and doesn't sleep. The sleep of one that swapped it before is ended by the wake.
+    rouse(pass, crew, tasks);
+}
+
+/// Looks once more at the head of the list, which the pass knows. By this look it chooses the first
+/// waiter where that is a writer, unless it holds shared.
+fn choose<O: Object>(site: &Site<SemRule<O>>, pass: &mut Pass<SemRule<O>>)
+    requires own { SitsAt site.now pass.old }
+    requires numbered { IsSome (task_in pass.old) }
+    requires held { SpinHolds (view_of pass.old).spin }
+    requires rests { IsAtRest (view_of pass.old) }
+    requires list { KnowsList (view_of pass.old) }
+    ensures own { SitsAt site.now pass.new }
+    ensures goes_on { KeepsPast pass.old pass.new }
+    ensures face { SaysSame pass.old pass.new }
+    ensures looks { Looks (view_of pass.old) (view_of pass.new) }
+{
+    list::first_task(site, pass);
+}
+
+/// Looks under the wait lock whom to wake, and grants readers: `woken`, which was empty, has the
+/// tasks that the caller is to wake. Nobody is woken where nobody waits. The kernel's
+/// `rwsem_mark_wake`.
 pub fn wake<O: Object, P: Patience>(
     site: &Site<SemRule<O>>,
     pass: &mut Pass<SemRule<O>>,
@@ -244,17 +295,24 @@ pub fn wake<O: Object, P: Patience>(
     requires empty { woken.old.items ≡ [] }
     ensures on { StepsOn site.now pass.old pass.new }
     ensures wakes { Wakes kind woken.new.items pass.old pass.new }
+    ensures tasks { AreTaskNumbers woken.new.items }
     ensures asked { P.asked patience.new ≡ P.asked patience.old }
     ensures sleeps { P.sleeps patience.new ≡ P.sleeps patience.old }
     ensures rescheds { P.rescheds patience.new ≡ P.rescheds patience.old }
 {
     let Some(first) = list::first(site, pass) else {
+        choose(site, pass);
         return;
     };
     if first.writer {
         match kind {
-            WakeType::Any => woken.push(first.task),
-            WakeType::Readers | WakeType::ReadOwned => {}
+            WakeType::Any => {
+                choose(site, pass);
+                woken.push(first.task);
+            }
+            // Who wakes readers alone, and doesn't hold, has seen others who hold: they look.
+            WakeType::Readers => {}
+            WakeType::ReadOwned => choose(site, pass),
         }
         return;
     }

@@ -11,11 +11,13 @@ ghost use Rattle.rwsem_count.specs.WordSteps.{HasHandoff, IsLocked};
 ghost use Rattle.rwsem_wake.specs.declared.view.Stage.TheVariants.{Took};
 ghost use Rattle.rwsem_wake.specs.SemParts.{apart_hand};
 ghost use Rattle.rwsem_wake.specs.Queues.{MayTake};
-ghost use Rattle.rwsem_slow.specs.RwSems.{list_of, sem_of};
+ghost use Rattle.rwsem_slow.specs.RwSems.{leaves_wake, list_of, sem_of, vigil_of};
 ghost use Rattle.rwsem_slow.specs.Removals.{KnowsList};
 ghost use Rattle.rwsem_slow.specs.Opening.{TakesOpen};
 ghost use Rattle.rwsem_slow.specs.Places.{IsOutside, StepsOn, seen_of};
-ghost use Rattle.rwsem_slow.specs.Queued.{Becomes, HasTaken, IsInLine, IsTrying, KnowsMark, Rests, Stays, TookInLine, waiting};
+ghost use Rattle.wake_duty.specs.WakeSteps.{HasTried};
+ghost use Rattle.rwsem_wake.specs.Duties.{is_left};
+ghost use Rattle.rwsem_slow.specs.Queued.{Becomes, HasTaken, HasTriedAt, IsInLine, IsListed, IsTrying, KeepsWaiting, KnowsMark, Rests, Stays, TookInLine, Tries, comes, waiting};
 
 use crate::rule::SemRule;
 use cpu_task::Cpu;
@@ -37,7 +39,8 @@ pub fn join<O: Object>(site: &Site<SemRule<O>>, pass: &mut Pass<SemRule<O>>) -> 
     ensures own { SitsAt site.now pass.new }
     ensures goes_on { KeepsPast pass.old pass.new }
     ensures face { SaysSame pass.old pass.new }
-    ensures came { Becomes (view_of pass.old) 1 (waiting Writes) (view_of pass.new) }
+    ensures came { Becomes (view_of pass.old) 1 (waiting Writes)
+        (comes (view_of pass.old).ext.wake) (view_of pass.new) }
 {
     let Some(task) = pass.task() else {
         unreachable!()
@@ -89,12 +92,15 @@ fn ask<O: Object>(
     requires task { first < MAX_TASKS }
     requires unasked { HasHandoff old → ⊥ }
     requires asks { new ≡ old + 4 }
+    requires listed { IsListed (view_of pass.old).ext.wake }
+    requires tried { HasTried vigil_of (view_of pass.old) }
     ensures own { SitsAt site.now pass.new }
     ensures goes_on { KeepsPast pass.old pass.new }
     ensures face { SaysSame pass.old pass.new }
     ensures later { (view_of pass.old).steps ≤ (view_of pass.new).steps }
-    ensures missed { Stays (view_of pass.old) (view_of pass.new) }
+    ensures missed { Tries (view_of pass.old) (view_of pass.new) }
     ensures untaken { result ≢ Attempt.Took }
+    ensures tried { HasTried vigil_of (view_of pass.new) }
     ensures again { (word : ℕ) → result ≡ Attempt.Again word → IsLawfulCount word }
 {
     let found = queueing::ask(site, pass, old, new);
@@ -122,6 +128,7 @@ fn take<O: Object>(
     requires locked { SpinHolds (view_of pass.old).spin }
     requires list { KnowsList (view_of pass.old) }
     requires queued { IsTrying (view_of pass.old).ext.sem }
+    requires listed { IsListed (view_of pass.old).ext.wake }
     requires may { MayTake list_of sem_of (view_of pass.old) me alone old new }
     ensures own { SitsAt site.now pass.new }
     ensures goes_on { KeepsPast pass.old pass.new }
@@ -133,7 +140,9 @@ fn take<O: Object>(
     ensures face { result ≢ Attempt.Took → SaysSame pass.old pass.new }
     ensures later { (view_of pass.old).steps ≤ (view_of pass.new).steps }
     ensures missed { result ≢ Attempt.Took → Rests (view_of pass.old) (view_of pass.new) }
-    ensures again { (word : ℕ) → result ≡ Attempt.Again word → IsLawfulCount word }
+    ensures again { (word : ℕ) → result ≡ Attempt.Again word →
+        (IsLawfulCount word × HasTriedAt word (view_of pass.new)) }
+    ensures untired { result ≢ Attempt.Failed }
 {
     let found = queueing::take(site, pass, me, alone, old, new);
     if found == old {
@@ -143,12 +152,13 @@ fn take<O: Object>(
     }
 }
 
-/// Where a queued writer stands while it has the wait lock.
+/// Where a queued writer stands while it has the wait lock, and the count that it saw.
 #[derive(Clone, Copy, Debug, PartialEq, Eq)]
 struct Standing {
     me: u32,
     first: u32,
     alone: bool,
+    count: u64,
 }
 
 /// Whether the first waiter, which this is, is alone in the list.
@@ -170,8 +180,8 @@ fn is_alone<O: Object>(site: &Site<SemRule<O>>, pass: &mut Pass<SemRule<O>>, fir
     }
 }
 
-/// Looks who is first in the list, and whether it is alone there.
-fn stand<O: Object>(site: &Site<SemRule<O>>, pass: &mut Pass<SemRule<O>>) -> Option<Standing>
+/// Looks who is first in the list, whether it is alone there, and at the count.
+fn stand<O: Object>(site: &Site<SemRule<O>>, pass: &mut Pass<SemRule<O>>) -> Standing
     requires own { SitsAt site.now pass.old }
     requires numbered { IsSome (task_in pass.old) }
     requires locked { SpinHolds (view_of pass.old).spin }
@@ -179,24 +189,32 @@ fn stand<O: Object>(site: &Site<SemRule<O>>, pass: &mut Pass<SemRule<O>>) -> Opt
     ensures own { SitsAt site.now pass.new }
     ensures goes_on { KeepsPast pass.old pass.new }
     ensures face { SaysSame pass.old pass.new }
-    ensures kept { Becomes (view_of pass.old) 0 (waiting Writes) (view_of pass.new) }
-    ensures mine { IfSome result (λ s. task_in pass.old ≡ Some s.me) }
-    ensures task { IfSome result (λ s. s.first < MAX_TASKS) }
-    ensures first { IfSome result (λ s.
-        first_code (view_of pass.new).ext.list.list ≡ s.first + 1) }
-    ensures only { IfSome result (λ s.
-        (s.alone ≡ true) ↔ (length (view_of pass.new).ext.list.list ≡ 1)) }
+    ensures kept { Becomes (view_of pass.old) 0 (waiting Writes)
+        (view_of pass.new).ext.wake (view_of pass.new) }
+    ensures waits { KeepsWaiting (view_of pass.old).ext.wake (view_of pass.new).ext.wake }
+    ensures mine { task_in pass.old ≡ Some result.me }
+    ensures task { result.first < MAX_TASKS }
+    ensures first { first_code (view_of pass.new).ext.list.list ≡ result.first + 1 }
+    ensures only { (result.alone ≡ true) ↔ (length (view_of pass.new).ext.list.list ≡ 1) }
+    ensures lawful { IsLawfulCount result.count }
+    ensures tried { HasTriedAt result.count (view_of pass.new) }
 {
     let Some(me) = pass.task() else {
         unreachable!()
     };
-    let first = list::first(site, pass)?;
+    let first = list::first(site, pass);
+    let count = queueing::look_listed(site, pass);
+    // It stands in the list itself.
+    let Some(first) = first else {
+        unreachable!()
+    };
     let alone = is_alone(site, pass, first);
-    Some(Standing {
+    Standing {
         me,
         first: first.task,
         alone,
-    })
+        count,
+    }
 }
 
 /// Whether the first waiter is marked, where the answer to this count depends on that.
@@ -207,12 +225,13 @@ fn sees_mark<O: Object>(
     count: u64,
 ) -> bool
     requires own { SitsAt site.now pass.old }
-    requires numbered { IsSome (task_in pass.old) }
+    requires mine { task_in pass.old ≡ Some standing.me }
     requires locked { SpinHolds (view_of pass.old).spin }
     requires queued { (view_of pass.old).ext.sem ≡ waiting Writes }
     requires list { KnowsList (view_of pass.old) }
     requires first { first_code (view_of pass.old).ext.list.list ≡ standing.first + 1 }
     requires task { standing.first < MAX_TASKS }
+    requires listed { IsListed (view_of pass.old).ext.wake }
     ensures own { SitsAt site.now pass.new }
     ensures goes_on { KeepsPast pass.old pass.new }
     ensures face { SaysSame pass.old pass.new }
@@ -244,6 +263,8 @@ fn exchange<O: Object>(
     requires task { standing.first < MAX_TASKS }
     requires only { (standing.alone ≡ true) ↔ (length (view_of pass.old).ext.list.list ≡ 1) }
     requires lawful { IsLawfulCount count }
+    requires listed { IsListed (view_of pass.old).ext.wake }
+    requires tried { HasTriedAt count (view_of pass.old) }
     ensures own { SitsAt site.now pass.new }
     ensures goes_on { KeepsPast pass.old pass.new }
     ensures task { task_in pass.new ≡ task_in pass.old }
@@ -253,8 +274,10 @@ fn exchange<O: Object>(
         TakesOpen Slept (seen_of pass.old) (seen_of pass.new) }
     ensures face { result ≢ Attempt.Took → SaysSame pass.old pass.new }
     ensures later { (view_of pass.old).steps ≤ (view_of pass.new).steps }
-    ensures missed { result ≢ Attempt.Took → Stays (view_of pass.old) (view_of pass.new) }
-    ensures again { (word : ℕ) → result ≡ Attempt.Again word → IsLawfulCount word }
+    ensures missed { result ≢ Attempt.Took → Tries (view_of pass.old) (view_of pass.new) }
+    ensures tried { result ≡ Attempt.Failed → HasTried vigil_of (view_of pass.new) }
+    ensures again { (word : ℕ) → result ≡ Attempt.Again word →
+        (IsLawfulCount word × HasTriedAt word (view_of pass.new)) }
 {
     let me_first = standing.me == standing.first;
     let marked = sees_mark(site, pass, standing, count);
@@ -265,7 +288,7 @@ fn exchange<O: Object>(
     }
 }
 
-/// Looks at the count, and answers it by exchanges until one is done or the count can't be had.
+/// Answers the count that was seen by exchanges, until one is done or the count can't be had.
 fn try_standing<O: Object, W: Wait>(
     site: &Site<SemRule<O>>,
     rt: &W,
@@ -282,6 +305,9 @@ fn try_standing<O: Object, W: Wait>(
     requires first { first_code (view_of pass.old).ext.list.list ≡ standing.first + 1 }
     requires task { standing.first < MAX_TASKS }
     requires only { (standing.alone ≡ true) ↔ (length (view_of pass.old).ext.list.list ≡ 1) }
+    requires lawful { IsLawfulCount standing.count }
+    requires listed { IsListed (view_of pass.old).ext.wake }
+    requires tried { HasTriedAt standing.count (view_of pass.old) }
     ensures own { SitsAt site.now pass.new }
     ensures goes_on { KeepsPast pass.old pass.new }
     ensures task { task_in pass.new ≡ task_in pass.old }
@@ -290,9 +316,10 @@ fn try_standing<O: Object, W: Wait>(
     ensures opened { result ≡ true → TakesOpen Slept (seen_of pass.old) (seen_of pass.new) }
     ensures face { result ≡ false → SaysSame pass.old pass.new }
     ensures later { (view_of pass.old).steps ≤ (view_of pass.new).steps }
-    ensures missed { result ≡ false → Stays (view_of pass.old) (view_of pass.new) }
+    ensures missed { result ≡ false → Tries (view_of pass.old) (view_of pass.new) }
+    ensures tried { result ≡ false → HasTried vigil_of (view_of pass.new) }
 {
-    let mut count = queueing::look_listed(site, pass);
+    let mut count = standing.count;
     for _ in rt.forever() {
         match exchange(site, pass, standing, overdue, count) {
             Attempt::Took => return true,
@@ -323,15 +350,15 @@ pub fn try_queued<O: Object, W: Wait, C: Cpu>(
     ensures opened { result ≡ true → TakesOpen Slept (seen_of pass.old) (seen_of pass.new) }
     ensures face { result ≡ false → SaysSame pass.old pass.new }
     ensures locked { SpinHolds (view_of pass.new).spin }
-    ensures missed { result ≡ false →
-        Becomes (view_of pass.old) 0 (waiting Writes) (view_of pass.new) }
+    ensures missed { result ≡ false → Becomes (view_of pass.old) 0 (waiting Writes)
+        (view_of pass.new).ext.wake (view_of pass.new) }
+    ensures waits { KeepsWaiting (view_of pass.old).ext.wake (view_of pass.new).ext.wake }
+    ensures tried { result ≡ false → HasTried vigil_of (view_of pass.new) }
     ensures entries { (view_of pass.new).spin.entries ≡ (view_of pass.old).spin.entries }
     ensures sleeps { C.sleeps cpu.new ≡ C.sleeps cpu.old }
     ensures rescheds { C.rescheds cpu.new ≡ C.rescheds cpu.old }
 {
-    let Some(standing) = stand(site, pass) else {
-        return false;
-    };
+    let standing = stand(site, pass);
     let overdue = cpu.overdue();
     try_standing(site, rt, pass, standing, overdue)
 }
@@ -346,7 +373,9 @@ pub fn quit_taken<O: Object>(site: &Site<SemRule<O>>, pass: &mut Pass<SemRule<O>
     ensures own { SitsAt site.now pass.new }
     ensures goes_on { KeepsPast pass.old pass.new }
     ensures face { SaysSame pass.old pass.new }
-    ensures gone { Becomes (view_of pass.old) 0 apart_hand (view_of pass.new) }
+    ensures gone { Becomes (view_of pass.old) 0 apart_hand
+        (leaves_wake (view_of pass.old).ext.wake.owing (view_of pass.old).ext.wake)
+        (view_of pass.new) }
 {
     let Some(task) = pass.task() else {
         unreachable!()

@@ -12,6 +12,7 @@ use Rattle.lock_core.specs.SpinFrames.{holds_at}
 use Rattle.lock_core.specs.Spins.{holds_in}
 use Rattle.lock_core.specs.Views.{SpinHolds, held_weight}
 use Rattle.lock_core.specs.Pasts.{unseen}
+use Rattle.sem_duty.specs.declared.view.SemWake.{SemWake}
 use Rattle.rwsem_wake.specs.declared.view.SemHand.{SemHand}
 use Rattle.rwsem_wake.specs.declared.view.Wait.TheVariants.{Apart}
 use Rattle.rwsem_wake.specs.declared.view.Stage.{Stage}
@@ -20,8 +21,8 @@ use Rattle.rwsem_wake.specs.SemParts.{busy_weight}
 use Rattle.rwsem_wake.specs.Queues.{GetsSem, HoldsBy, heard}
 use Rattle.rwsem_wake.proofs.Sums.{busy-most}
 
-module _ {E Call : Type 0} (with_sem : E → SemHand → E) (o : Obj Call) (k : Plan) (held : Held) (s : SemHand) where
-  pub holds-by : (me me' : Me (Unit {0}) (Seen E)) (u : View E) → me.0.view.hand.plan ≡ Some k → u ≡ me'.0.view → GetsSem with_sem o held s (unseen me) (unseen me') → HoldsBy with_sem o k held s me.0.view u
+module _ {E Call : Type 0} (with_sem : E → SemHand → E) (with_wake : E → SemWake → E) (o : Obj Call) (k : Plan) (held : Held) (s : SemHand) (b : SemWake) where
+  pub holds-by : (me me' : Me (Unit {0}) (Seen E)) (u : View E) → me.0.view.hand.plan ≡ Some k → u ≡ me'.0.view → GetsSem with_sem with_wake o held s b (unseen me) (unseen me') → HoldsBy with_sem with_wake o k held s b me.0.view u
   holds-by me me' u plan is gets = (gets.0, gets.1, gets.2 k plan, is ∙ gets.3.0)
 
 -- to hold isn't to hold nothing

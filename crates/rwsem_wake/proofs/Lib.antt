@@ -17,4 +17,6 @@ pub mod Courses
 pub mod Flags
 pub mod FirstLaws
 pub mod QueueSteps
+pub mod DutySteps
+pub mod WakeKinds
 pub mod Holding

@@ -31,7 +31,7 @@ module _ (grants : List ℕ) (t x : ℕ) where
   abbrev Grants : List ℕ
   Grants = set grants t x
 
-  unread-one : (v : SemPart) → reads_at t v ≡ 0 → granted_of Grants v ≡ granted_of grants v
+  pub unread-one : (v : SemPart) → reads_at t v ≡ 0 → granted_of Grants v ≡ granted_of grants v
   unread-one v = go v.task v.sem.wait
     where
       go : (task : Option ℕ) (wait : Wait) → named_weight t task (reads_weight wait) ≡ 0 → granted_weight Grants task wait ≡ granted_weight grants task wait

@@ -1,5 +1,5 @@
 -- What the steps of those that queue keep.
-use Rattle.std.proofs.Common.{◌≡◌, ◌≢◌, ℕ, ◌+◌, ◌-◌, ◌*◌, ◌/◌, ◌%◌, ◌^◌, ◌<◌, ◌≤◌, ◌==◌, ◌⊎◌, ◌↔◌, inl, inr, Bool, true, false, List, [], length, map, get_or, set, Option, Some, sym, refl, ap, ◌∙◌, subst, arith, eq-eqb, ne_eqb, if◌then◌else◌, get_or-set_same}
+use Rattle.std.proofs.Common.{◌≡◌, ◌≢◌, ℕ, ◌+◌, ◌-◌, ◌*◌, ◌/◌, ◌%◌, ◌^◌, ◌<◌, ◌≤◌, ◌==◌, ◌⊎◌, ◌↔◌, inl, inr, Bool, true, false, List, [], ◌∷◌, length, map, get_or, set, Option, Some, sym, refl, ap, ◌∙◌, subst, arith, eq-eqb, ne_eqb, if◌then◌else◌, get_or-set_same}
 use mathlib.Core.Logic.{dite}
 use native.Mathlib.Decide.{ℕ_discrete}
 use lib.Seq.{set-get_or}
@@ -11,7 +11,7 @@ use Rattle.lock_core.specs.Ops.{word_after}
 use Rattle.lock_core.specs.Records.{bit}
 use Rattle.lock_core.specs.Views.{alone_weight, is_number}
 use Rattle.lock_core.specs.Totals.{total, total-at, total-set}
-use Rattle.lock_core.proofs.HandLaws.{is_number-else, not-both}
+use Rattle.lock_core.proofs.HandLaws.{is_number-else, is_number-here, not-both}
 use Rattle.word_bits.specs.LockWords.{IsLawfulCount}
 use Rattle.wait_list.specs.declared.view.Waiter.{Waiter}
 use Rattle.wait_list.specs.Lists.{Part, Knows, first_code}
@@ -23,7 +23,7 @@ use Rattle.rwsem_wake.specs.declared.view.Wait.TheVariants.{Apart, Reads, Writes
 use Rattle.rwsem_wake.specs.declared.view.Stage.{Stage}
 use Rattle.rwsem_wake.specs.declared.view.Stage.TheVariants.{Rest, Armed, Joining, First, Marking, Took, Removed, Emptied, Summing}
 use Rattle.rwsem_wake.specs.declared.view.SemHand.{SemHand}
-use Rattle.rwsem_wake.specs.SemParts.{SemPart, busy_of, early_of, late_of, first_mark, tasks, granted_of, granting_weight, here, is_zero, named_weight, part_of, reads_of, reads_weight}
+use Rattle.rwsem_wake.specs.SemParts.{SemPart, busy_of, early_of, late_of, first_mark, tasks, granted_of, granting_weight, here, is_zero, named_weight, part_of, reads_of, reads_weight, writer_at, writes_at}
 use Rattle.rwsem_wake.specs.Semaphores.{FlagsAt, IsFirst, SemKept, batch_weight, more_of}
 use Rattle.rwsem_wake.specs.Handoffs.{KeepsHandoff, Unasked, granting_at, shared_at}
 use Rattle.rwsem_wake.specs.Grants.{summing, unmarked, unreserved}
@@ -31,7 +31,7 @@ use Rattle.rwsem_wake.specs.Queues.{rested, asked, taken, own_unmarked, heard, h
 use Rattle.rwsem_wake.proofs.Sums.{set-mine}
 use Rattle.rwsem_wake.proofs.Places.{first-least, some-length}
 use Rattle.rwsem_wake.proofs.WakeLaws.{staged, ok-of}
-use Rattle.rwsem_wake.proofs.QueueLaws.{granted-w, mine-at, sem-backs, sem-granted, sem-stages}
+use Rattle.rwsem_wake.proofs.QueueLaws.{granted-w, mine-at, sem-backs, sem-granted, sem-stages, writes-at-w}
 use Rattle.rwsem_wake.proofs.HandoffLaws.{sem-sets, sem-takes, sem-unmarks-own, sem-clears, sem-asks-write, sem-marks}
 use Rattle.rwsem_wake.proofs.HandoffSteps.{PassGoes, first-marked, marking, marks-stay, pass-from, pass-same, pass-turns, hands-asks, hands-empties, hands-free, hands-granted, hands-step, hands-takes, hands-unmarks, own-comes, unasked-same}
 use Rattle.rwsem_wake.proofs.FirstLaws.{light-of, sem-arms-again, sem-clears-first, sem-first-clear, sem-own-clear, sem-rests}
@@ -71,6 +71,14 @@ module _ (sees : List SemPart) (id : ℕ) (v : SemPart) (known : Part) (n : ℕ)
 
   there : Knows known → 1 ≤ length known.1.list → 1 ≤ length q
   there knows some_there = subst (λ (z : List Waiter). 1 ≤ length z) (loc.list knows) some_there
+
+  -- a writer of the list finds somebody in it
+  pub on-listed : v.sem.wait ≡ Writes → Knows known → 1 ≤ length known.1.list
+  on-listed writes knows = subst (λ (z : List Waiter). 1 ≤ length z) (sym (loc.list knows)) (some-there q (let w = loc.kept.writes own in let t = total-at (writes_at own) sees id v loc.mine in let a = writes-at-w v own has Writes writes own in let b = is_number-here own in omega (arith, w, t, a, b)))
+    where
+      some-there : (l : List Waiter) → 1 ≤ total (writer_at own) l → 1 ≤ length l
+      some-there [] more = absurd (omega (arith, more))
+      some-there (x ∷ l) more = omega arith
 
   -- who is alone in the list sets WAITERS
   pub on-set : v.sem.stage ≡ First → v.sem.bias ≡ Clear → After (word_after (Or 2) n) marks grants (rested v.sem) × IsLawfulCount n

@@ -54,7 +54,7 @@ head-is [] t e = absurd (omega (arith, e))
 head-is (x ∷ xs) t e = (x, xs, refl, omega (arith, e))
 
 -- who reads has a name
-reads-name : (t : ℕ) (task : Option ℕ) (w : Wait) → named_weight t task (reads_weight w) ≤ is_number t task
+pub reads-name : (t : ℕ) (task : Option ℕ) (w : Wait) → named_weight t task (reads_weight w) ≤ is_number t task
 reads-name t task Apart = omega arith
 reads-name t task Reads = omega arith
 reads-name t task Writes = omega arith
@@ -63,7 +63,7 @@ reads-names : (t : ℕ) (vs : List SemPart) → total (reads_at t) vs ≤ total 
 reads-names t vs = total-least (reads_at t) (named_in t) (λ v. reads-name t v.task v.sem.wait) vs
 
 -- where one of a list weighs all that may weigh, no other does
-only-one : {V : Type 0} (f g : V → ℕ) → ((v : V) → f v ≤ g v) → (vs : List V) (id : ℕ) (v : V) → get_elem? vs id ≡ some v → g v ≡ 1 → total g vs ≤ 1 → total f vs ≡ f v
+pub only-one : {V : Type 0} (f g : V → ℕ) → ((v : V) → f v ≤ g v) → (vs : List V) (id : ℕ) (v : V) → get_elem? vs id ≡ some v → g v ≡ 1 → total g vs ≤ 1 → total f vs ≡ f v
 only-one f g less [] id v at one most = absurd (some-ne-none v (sym at))
 only-one f g less (x ∷ vs) zero v at one most = let is = some-injective x v at in let a : g x ≡ 1 = ap g is ∙ one in let b = total-least f g less vs in let c = ap f is in omega (arith, a, b, c, most)
 only-one f g less (x ∷ vs) (suc id) v at one most = let a = total-at g vs id v at in let b = less x in let c = only-one f g less vs id v at one (omega (arith, most)) in omega (arith, a, b, c, one, most)

@@ -9,6 +9,7 @@ use Rattle.lock_core.specs.Plays.{Sat, Turns}
 use Rattle.wait_list.specs.declared.view.ListHand.{ListHand}
 use Rattle.wait_list.specs.declared.view.Waiter.{Waiter}
 use Rattle.wait_list.specs.Lists.{Knows, first_code, list_part}
+use Rattle.sem_duty.specs.declared.view.SemWake.{SemWake}
 use Rattle.rwsem_count.specs.declared.view.Bias.{Bias}
 use Rattle.rwsem_count.specs.declared.view.Bias.TheVariants.{Clear, Transit, Reserve}
 use Rattle.rwsem_count.specs.Counts.{shared_weight, early_weight, late_weight}
@@ -26,6 +27,10 @@ module _ {E : Type 0} (sem : E → SemHand) where
   -- what its view has of it
   abbrev pub sem_at : View E → SemHand
   sem_at v = sem v.ext
+
+-- what its view knows of wakes
+abbrev pub wake_at : {E : Type 0} → (E → SemWake) → View E → SemWake
+wake_at wake v = wake v.ext
 
 module _ {E : Type 0} (with_sem : E → SemHand → E) where
   -- a step that gives a pass this hand and this part
@@ -124,6 +129,7 @@ HasFoundWriter s = (word : ℕ) × IsReserved s word × (word % 2 ≡ 1)
 -- it has marked the first waiter since, and HANDOFF was set before or not
 pub record HasMarked (s : SemHand) (handoff : Bool) : Type 0 where
   pub word : ℕ
+  pub written : word % 2 ≡ 1
   pub bias : s.bias ≡ Reserve word
   pub stage : s.stage ≡ Marked handoff
 
@@ -175,6 +181,19 @@ still_granting s rest = record s { bias = Clear; rest = rest; stage = granting_o
 -- the whole batch is granted
 abbrev pub all_granted : SemHand → SemHand
 all_granted s = record s { bias = Clear; rest = []; stage = Rest }
+
+module _ {E : Type 0} (with_sem : E → SemHand → E) (with_wake : E → SemWake → E) where
+  -- a step that gives a pass this hand and this part, and what it knows of wakes then
+  abbrev pub stirred : View E → Hand → SemHand → SemWake → View E
+  stirred v h s b = record v { hand = h; steps = v.steps + 1; ext = with_wake (with_sem v.ext s) b }
+
+  -- after one step nothing but the part and what it knows of wakes has changed
+  abbrev pub StirsTo : View E → SemHand → SemWake → View E → Type 0
+  StirsTo v s b u = u ≡ stirred v v.hand s b
+
+  -- so it is, by a step that found a word of which this holds
+  abbrev pub Stirred : (View E → ℕ → SemHand) → (View E → ℕ → SemWake) → (ℕ → Type 0) → Step (Unit {0}) → Sat E → ℕ → Sat E → Type 0
+  Stirred does stirs tells st m n m' = tells n × Turns m (stirred m.0 m.0.hand (does m.0 n) (stirs m.0 n)) m'
 
 module _ {E : Type 0} (with_sem : E → SemHand → E) where
   -- after some steps nothing but the part has changed

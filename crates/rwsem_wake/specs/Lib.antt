@@ -6,3 +6,4 @@ pub mod Stated
 pub mod Lines
 pub mod Grants
 pub mod Queues
+pub mod Duties

@@ -1,5 +1,5 @@
 -- What the words of a semaphore state of its passes at each moment, and whom a batch goes on with.
-use Rattle.std.proofs.Common.{◌≡◌, ◌⊎◌, true, false, Some, ℕ, zero, suc, ◌+◌, ◌*◌, ◌/◌, ◌%◌, ◌<◌, ◌≤◌, List, [], ◌∷◌, ◌++◌, length, get_or}
+use Rattle.std.proofs.Common.{◌≡◌, ◌⊎◌, true, false, ℕ, zero, suc, ◌+◌, ◌*◌, ◌/◌, ◌%◌, ◌<◌, ◌≤◌, List, [], ◌∷◌, ◌++◌, length, get_or}
 use Rattle.lock_core.specs.Totals.{total}
 use Rattle.word_bits.specs.declared.TheConstants.{MAX_TASKS}
 use Rattle.wait_list.specs.Lists.{first_code}

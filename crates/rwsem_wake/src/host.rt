@@ -21,10 +21,13 @@ ghost use Rattle.rwsem_wake.specs.SemParts.{SemPart, busy_weight, busy_of};
 ghost use Rattle.rwsem_wake.specs.Semaphores.{SemKept};
 ghost use Rattle.rwsem_wake.specs.Handoffs.{KeepsHandoff};
 ghost use Rattle.rwsem_wake.specs.Lines.{lines_in};
-ghost use Rattle.rwsem_wake.specs.Grants.{sem_part, semmed};
+ghost use Rattle.rwsem_wake.specs.Grants.{sem_part, stirred};
+ghost use Rattle.rwsem_wake.specs.Duties.{WakeGoes};
+ghost use Rattle.sem_duty.specs.declared.view.SemWake.{SemWake as ASemWake};
 
 use crate::view::SemHand;
 use rwsem_count::CountHost;
+use sem_duty::SemWake;
 use wait_list::ListHost;
 
 /// A rule whose table has a count, a list of waiters, and for each task a mark and a grant word.
@@ -35,8 +38,8 @@ use wait_list::ListHost;
 /// that it keeps to a handoff.
 pub trait GrantHost: ListHost + CountHost {
     /// The place of the mark of task 0 among the words of the locks. That of each further task
-    /// stands 8 words behind. The law `sems` speaks of every word from here to `LOCK_WORDS`, also
-    /// of those between marks and grant words: no word of the list and no hint may stand there.
+    /// stands 8 words behind. The law `sems` speaks of every word from here to the last grant word,
+    /// also of those between marks and grant words: no other word may stand there.
     const MARKS: usize;
 
     /// The place of the grant word of task 0. That of each further task stands 8 words behind.
@@ -61,6 +64,13 @@ pub trait GrantHost: ListHost + CountHost {
     // The list is no part of it.
     ghost sem_list: { (e : Self.Ext) (s : ASemHand) → Self.list (with_sem e s) ≡ Self.list e };
 
+    // What the pass knows of wakes, and what it knows where this is that part.
+    ghost wake: { Self.Ext → ASemWake };
+
+    ghost with_wake: { Self.Ext → ASemWake → Self.Ext };
+
+    ghost wake_same: { (e : Self.Ext) (s : ASemHand) → with_wake (with_sem e s) (wake e) ≡ with_sem e s };
+
     ghost sem_places: { (Self.COUNT < MARKS) × (MARKS + 8 * MAX_TASKS ≤ GRANTS) × (GRANTS + 8 * MAX_TASKS ≤ LOCK_WORDS) };
 
     ghost sem_kept: { (k : Calls) (ws : List ℕ) (vs : List (View Self.Ext)) (q : List Waiter) → Self.queue k ws vs q → SemKept (slice_index ws Self.COUNT) q (lines_in MARKS ws) (lines_in GRANTS ws) (map (sem_part sem) vs) × IsLawfulCount (slice_index ws Self.COUNT) × (LOCK_WORDS ≤ length ws) };
@@ -68,7 +78,7 @@ pub trait GrantHost: ListHost + CountHost {
     // The holder of the wait lock alone may be at a stage.
     ghost sem_only: { (k : Calls) (ws : List ℕ) (vs : List (View Self.Ext)) (q : List Waiter) (id : ℕ) (v : View Self.Ext) → Self.queue k ws vs q → get_elem? vs id ≡ some v → SpinHolds v.spin → total busy_of (map (sem_part sem) vs) ≡ busy_weight (sem v.ext).stage };
 
-    // A step on one of these words that keeps their own facts and the site's, and to a handoff, and
-    // counts no failed try, keeps every other fact of the rule.
-    ghost sems: { (k : Calls) (ws : List ℕ) (vs : List (View Self.Ext)) (q : List Waiter) (id i n : ℕ) (v : View Self.Ext) (h : Hand) (s : ASemHand) → Self.queue k ws vs q → get_elem? vs id ≡ some v → Self.COUNT ≤ i → i < LOCK_WORDS → (Self.COUNT < i → MARKS ≤ i) → busy_weight s.stage ≤ holds_in v.spin → HandStep v.hand h (slice_index (slice_set ws i n) Self.COUNT) → KeepsSaw v.hand h → SemKept (slice_index (slice_set ws i n) Self.COUNT) q (lines_in MARKS (slice_set ws i n)) (lines_in GRANTS (slice_set ws i n)) (slice_set (map (sem_part sem) vs) id (record { task = h.task; held = h.held; sem = s })) → KeepsHandoff id (slice_index ws Self.COUNT) q (lines_in MARKS ws) (lines_in GRANTS ws) (map (sem_part sem) vs) (slice_index (slice_set ws i n) Self.COUNT) (lines_in MARKS (slice_set ws i n)) (lines_in GRANTS (slice_set ws i n)) (slice_set (map (sem_part sem) vs) id (record { task = h.task; held = h.held; sem = s })) → SiteKept Self.O.object Self.unavailable Self.O.WORDS k (site k ws) (slice_set (map hand_of vs) id h) → Goes (Self.holds k) (Self.moves k) id ws vs (slice_set ws i n) (slice_set vs id (semmed with_sem v h s)) };
+    // A step on one of these words that keeps their own facts and the site's, and to a handoff, is
+    // of a kind that keeps wakes, and counts no failed try, keeps every other fact of the rule.
+    ghost sems: { (k : Calls) (ws : List ℕ) (vs : List (View Self.Ext)) (q : List Waiter) (id i n : ℕ) (v : View Self.Ext) (h : Hand) (s : ASemHand) (b : ASemWake) → Self.queue k ws vs q → get_elem? vs id ≡ some v → Self.COUNT ≤ i → i < GRANTS + 8 * MAX_TASKS → (Self.COUNT < i → MARKS ≤ i) → busy_weight s.stage ≤ holds_in v.spin → HandStep v.hand h (slice_index (slice_set ws i n) Self.COUNT) → KeepsSaw v.hand h → SemKept (slice_index (slice_set ws i n) Self.COUNT) q (lines_in MARKS (slice_set ws i n)) (lines_in GRANTS (slice_set ws i n)) (slice_set (map (sem_part sem) vs) id (record { task = h.task; held = h.held; sem = s })) → KeepsHandoff id (slice_index ws Self.COUNT) q (lines_in MARKS ws) (lines_in GRANTS ws) (map (sem_part sem) vs) (slice_index (slice_set ws i n) Self.COUNT) (lines_in MARKS (slice_set ws i n)) (lines_in GRANTS (slice_set ws i n)) (slice_set (map (sem_part sem) vs) id (record { task = h.task; held = h.held; sem = s })) → WakeGoes (slice_index ws Self.COUNT) q (lines_in GRANTS ws) (map (sem_part sem) vs) (slice_index (slice_set ws i n) Self.COUNT) (lines_in GRANTS (slice_set ws i n)) (sem_part sem v) (record { task = h.task; held = h.held; sem = s }) (wake v.ext) b → SiteKept Self.O.object Self.unavailable Self.O.WORDS k (site k ws) (slice_set (map hand_of vs) id h) → Goes (Self.holds k) (Self.moves k) id ws vs (slice_set ws i n) (slice_set vs id (stirred with_sem with_wake v h s b)) };
 }

@@ -1,5 +1,5 @@
 //! The single steps of tasks that queue, on the count, the marks and the grant words of any host.
-ghost use Rattle.std.specs.Prelude.{◌≡◌, ◌≢◌, ℕ, ◌<◌, ◌≤◌, ◌+◌, ◌*◌, ◌%◌, ◌==◌, Bool, true, IsSome, Some, IfOk, IfErr};
+ghost use Rattle.std.specs.Prelude.{◌≡◌, ◌≢◌, ℕ, ◌<◌, ◌≤◌, ◌+◌, ◌-◌, ◌*◌, ◌%◌, ◌==◌, ◌⊎◌, true, false, IsSome, Some};
 ghost use Rattle.word_bits.specs.LockWords.{IsLawfulCount};
 ghost use Rattle.lock_core.specs.Handles.{IsLatest, plan_of, view_of, past_of, task_in, held_in, SitsAt, KeepsPast, SaysSame};
 ghost use Rattle.lock_core.specs.declared.view.Held.TheVariants.{No, Shared, Alone};
@@ -7,10 +7,11 @@ ghost use Rattle.lock_core.specs.Pasts.{FoundAt};
 ghost use Rattle.lock_core.specs.Records.{bit};
 ghost use Rattle.lock_core.specs.Views.{SpinHolds};
 ghost use Rattle.rwsem_count.specs.declared.view.Bias.TheVariants.{Clear, Transit};
-ghost use Rattle.rwsem_wake.specs.declared.view.Stage.TheVariants.{First, Joining, Marking, Removed, Emptied};
+ghost use Rattle.rwsem_wake.specs.declared.view.Stage.TheVariants.{Rest, First, Joining, Marking, Removed, Emptied};
 ghost use Rattle.rwsem_wake.specs.declared.view.Wait.TheVariants.{Writes};
-ghost use Rattle.rwsem_wake.specs.Grants.{Did, KnowsFirst, TurnsTo, anything, sem_at, summing, unmarked, unreserved};
-ghost use Rattle.rwsem_wake.specs.Queues.{HoldsBy, HoldsWhere, MayAsk, MayHear, MayLook, MaySettle, MayTake, asked, heard, heard_locked, own_unmarked, rested, settled, taken};
+ghost use Rattle.rwsem_wake.specs.Grants.{Did, KnowsFirst, Stirred, StirsTo, TurnsTo, anything, sem_at, summing, unmarked, unreserved, wake_at};
+ghost use Rattle.rwsem_wake.specs.Duties.{exchanged, heard_at, heard_locked_at, left_by, paid, saw_count, saw_mark, sees_itself};
+ghost use Rattle.rwsem_wake.specs.Queues.{HoldsBy, HoldsWhere, KnowsSome, MayAsk, MayHear, MayLook, MaySettle, MayTake, asked, heard, heard_locked, own_unmarked, rested, settled, taken};
 
 use crate::host::GrantHost;
 use crate::steps::{LINE, MARKED};
@@ -59,7 +60,7 @@ struct TakeBack<H> {
 }
 
 impl<H: GrantHost> Play<(), View<H::Ext>> for TakeBack<H> {
-    ghost then = { Did H.with_sem (λ v n. unreserved (H.sem v.ext)) (λ n. IsLawfulCount n × (256 ≤ n)) };
+    ghost then = { λ st. Stirred H.with_sem H.with_wake (λ v n. unreserved (H.sem v.ext)) (λ v n. left_by (n - st.first) (H.wake v.ext)) (λ n. IsLawfulCount n × (256 ≤ n)) st };
 }
 
 /// Takes back the bias of a reader that has joined the list, and sets WAITERS where it stands alone
@@ -74,8 +75,9 @@ pub fn take_back<H: GrantHost>(site: &Site<H>, pass: &mut Pass<H>, alone: bool) 
     ensures goes_on { KeepsPast pass.old pass.new }
     ensures last { IsLatest pass.new }
     ensures face { SaysSame pass.old pass.new }
-    ensures kept { TurnsTo H.with_sem (view_of pass.old)
-        (unreserved (sem_at H.sem (view_of pass.old))) (view_of pass.new) }
+    ensures kept { StirsTo H.with_sem H.with_wake (view_of pass.old)
+        (unreserved (sem_at H.sem (view_of pass.old)))
+        (left_by result (wake_at H.wake (view_of pass.old))) (view_of pass.new) }
     ensures left { (word : ℕ) × FoundAt H.COUNT word (past_of pass.new) × IsLawfulCount word
         × (result + 256 ≡ word + 2 * bit alone) }
 {
@@ -91,20 +93,26 @@ struct LookListed<H> {
 }
 
 impl<H: GrantHost> Play<(), View<H::Ext>> for LookListed<H> {
-    ghost then = { Did H.with_sem (λ v n. H.sem v.ext) IsLawfulCount };
+    ghost then = { λ st m. Stirred H.with_sem H.with_wake (λ v n. H.sem v.ext) (λ v n. saw_count n (H.wake v.ext)) (λ n. KnowsSome H.list m.0 × IsLawfulCount n) st m };
 }
 
-/// Loads the count, under the wait lock.
+/// A queued writer loads the count, under the wait lock. Where that isn't free, the writer may
+/// sleep once it has released the lock. The list isn't empty, since the writer stands in it.
 pub fn look_listed<H: GrantHost>(site: &Site<H>, pass: &mut Pass<H>) -> u64
     requires own { SitsAt site.now pass.old }
     requires numbered { IsSome (task_in pass.old) }
     requires held { SpinHolds (view_of pass.old).spin }
+    requires rests { (sem_at H.sem (view_of pass.old)).stage ≡ Rest }
+    requires writes { (sem_at H.sem (view_of pass.old)).wait ≡ Writes }
+    requires clear { (sem_at H.sem (view_of pass.old)).bias ≡ Clear }
     ensures own { SitsAt site.now pass.new }
     ensures goes_on { KeepsPast pass.old pass.new }
     ensures last { IsLatest pass.new }
     ensures face { SaysSame pass.old pass.new }
-    ensures kept { TurnsTo H.with_sem (view_of pass.old)
-        (sem_at H.sem (view_of pass.old)) (view_of pass.new) }
+    ensures kept { StirsTo H.with_sem H.with_wake (view_of pass.old)
+        (sem_at H.sem (view_of pass.old))
+        (saw_count result (wake_at H.wake (view_of pass.old))) (view_of pass.new) }
+    ensures there { KnowsSome H.list (view_of pass.old) }
     ensures lawful { IsLawfulCount result }
     ensures found { FoundAt H.COUNT result (past_of pass.new) }
 {
@@ -173,22 +181,27 @@ struct LookFirst<H> {
 }
 
 impl<H: GrantHost> Play<(), View<H::Ext>> for LookFirst<H> {
-    ghost then = { Did H.with_sem (λ v n. unmarked (H.sem v.ext) n) anything };
+    ghost then = { Stirred H.with_sem H.with_wake (λ v n. unmarked (H.sem v.ext) n) (λ v n. saw_mark (sees_itself H.list v) n (H.wake v.ext)) anything };
 }
 
-/// Loads the mark of the first waiter. Where it is 0, nobody is marked.
+/// Loads the mark of the first waiter. Where it is 0, nobody is marked. A writer behind a marked
+/// one may sleep once it has released the wait lock.
 pub fn look_first<H: GrantHost>(site: &Site<H>, pass: &mut Pass<H>, task: u32) -> u64
     requires own { SitsAt site.now pass.old }
     requires numbered { IsSome (task_in pass.old) }
     requires held { SpinHolds (view_of pass.old).spin }
     requires may { MayLook H.list H.sem (view_of pass.old) task }
+    requires waits { (sees_itself H.list (view_of pass.old) ≡ true)
+        ⊎ ((sem_at H.sem (view_of pass.old)).wait ≡ Writes) }
     requires task { task < MAX_TASKS }
     ensures own { SitsAt site.now pass.new }
     ensures goes_on { KeepsPast pass.old pass.new }
     ensures last { IsLatest pass.new }
     ensures face { SaysSame pass.old pass.new }
-    ensures kept { TurnsTo H.with_sem (view_of pass.old)
-        (unmarked (sem_at H.sem (view_of pass.old)) result) (view_of pass.new) }
+    ensures kept { StirsTo H.with_sem H.with_wake (view_of pass.old)
+        (unmarked (sem_at H.sem (view_of pass.old)) result)
+        (saw_mark (sees_itself H.list (view_of pass.old)) result
+        (wake_at H.wake (view_of pass.old))) (view_of pass.new) }
     ensures found { FoundAt (H.MARKS + 8 * task) result (past_of pass.new) }
 {
     site.step::<LookFirst<H>>(pass, H::MARKS + LINE * task as usize, Op::Load)
@@ -279,7 +292,7 @@ struct ClearFlags<H> {
 }
 
 impl<H: GrantHost> Play<(), View<H::Ext>> for ClearFlags<H> {
-    ghost then = { Did H.with_sem (λ v n. rested (H.sem v.ext)) IsLawfulCount };
+    ghost then = { Stirred H.with_sem H.with_wake (λ v n. rested (H.sem v.ext)) (λ v n. paid (H.wake v.ext)) IsLawfulCount };
 }
 
 /// Clears WAITERS and HANDOFF. The list is empty.
@@ -293,8 +306,9 @@ pub fn clear_flags<H: GrantHost>(site: &Site<H>, pass: &mut Pass<H>)
     ensures goes_on { KeepsPast pass.old pass.new }
     ensures last { IsLatest pass.new }
     ensures face { SaysSame pass.old pass.new }
-    ensures kept { TurnsTo H.with_sem (view_of pass.old)
-        (rested (sem_at H.sem (view_of pass.old))) (view_of pass.new) }
+    ensures kept { StirsTo H.with_sem H.with_wake (view_of pass.old)
+        (rested (sem_at H.sem (view_of pass.old))) (paid (wake_at H.wake (view_of pass.old)))
+        (view_of pass.new) }
 {
     site.step::<ClearFlags<H>>(pass, H::COUNT, Op::And(!(WAITERS + HANDOFF)));
 }
@@ -304,7 +318,7 @@ struct TakeFree<H> {
 }
 
 impl<H: GrantHost> Play<(), View<H::Ext>> for TakeFree<H> {
-    ghost then = { λ st m. HoldsWhere H.with_sem H.O.object Alone (λ n. n == st.first) (λ n. taken (H.sem m.0.ext) st.first n) IsLawfulCount m };
+    ghost then = { λ st m. HoldsWhere H.with_sem H.with_wake H.O.object Alone (λ n. n == st.first) (λ n. taken (H.sem m.0.ext) st.first n) (λ n. exchanged st.first n (H.wake m.0.ext)) IsLawfulCount m };
 }
 
 /// A queued writer's exchange of a free count for one with a writer. Answers the count that it
@@ -325,11 +339,14 @@ pub fn take<H: GrantHost>(
     ensures own { SitsAt site.now pass.new }
     ensures goes_on { KeepsPast pass.old pass.new }
     ensures last { IsLatest pass.new }
-    ensures took { result ≡ old → HoldsBy H.with_sem H.O.object (plan_of site.now) Alone
-        (taken (sem_at H.sem (view_of pass.old)) old result) (view_of pass.old) (view_of pass.new) }
+    ensures took { result ≡ old → HoldsBy H.with_sem H.with_wake H.O.object (plan_of site.now) Alone
+        (taken (sem_at H.sem (view_of pass.old)) old result)
+        (exchanged old result (wake_at H.wake (view_of pass.old)))
+        (view_of pass.old) (view_of pass.new) }
     ensures face { result ≢ old → SaysSame pass.old pass.new }
-    ensures missed { result ≢ old → TurnsTo H.with_sem (view_of pass.old)
-        (taken (sem_at H.sem (view_of pass.old)) old result) (view_of pass.new) }
+    ensures missed { result ≢ old → StirsTo H.with_sem H.with_wake (view_of pass.old)
+        (taken (sem_at H.sem (view_of pass.old)) old result)
+        (exchanged old result (wake_at H.wake (view_of pass.old))) (view_of pass.new) }
     ensures lawful { IsLawfulCount result }
     ensures found { FoundAt H.COUNT result (past_of pass.new) }
 {
@@ -346,7 +363,7 @@ struct LookSettled<H> {
 }
 
 impl<H: GrantHost> Play<(), View<H::Ext>> for LookSettled<H> {
-    ghost then = { λ st m. HoldsWhere H.with_sem H.O.object Shared (λ n. n % 2 == 0) (λ n. settled (H.sem m.0.ext) n) IsLawfulCount m };
+    ghost then = { λ st m. HoldsWhere H.with_sem H.with_wake H.O.object Shared (λ n. n % 2 == 0) (λ n. settled (H.sem m.0.ext) n) (λ n. H.wake m.0.ext) IsLawfulCount m };
 }
 
 /// A reader whose bias is in the count loads it, while nobody waits. Where it has no writer the
@@ -361,11 +378,12 @@ pub fn settle<H: GrantHost>(site: &Site<H>, pass: &mut Pass<H>) -> bool
     ensures goes_on { KeepsPast pass.old pass.new }
     ensures last { IsLatest pass.new }
     ensures took { result ≡ true → (word : ℕ) × FoundAt H.COUNT word (past_of pass.new)
-        × (word % 2 ≡ 0) × HoldsBy H.with_sem H.O.object (plan_of site.now) Shared
-        (settled (sem_at H.sem (view_of pass.old)) word) (view_of pass.old) (view_of pass.new) }
+        × (word % 2 ≡ 0) × HoldsBy H.with_sem H.with_wake H.O.object (plan_of site.now) Shared
+        (settled (sem_at H.sem (view_of pass.old)) word) (wake_at H.wake (view_of pass.old))
+        (view_of pass.old) (view_of pass.new) }
     ensures face { result ≢ true → SaysSame pass.old pass.new }
-    ensures missed { result ≢ true → TurnsTo H.with_sem (view_of pass.old)
-        (sem_at H.sem (view_of pass.old)) (view_of pass.new) }
+    ensures missed { result ≢ true → StirsTo H.with_sem H.with_wake (view_of pass.old)
+        (sem_at H.sem (view_of pass.old)) (wake_at H.wake (view_of pass.old)) (view_of pass.new) }
 {
     // The writer that the addition saw may have left, and found nobody to wake: the reader must not
     // queue then.
@@ -381,7 +399,7 @@ struct LookGrant<H> {
 }
 
 impl<H: GrantHost> Play<(), View<H::Ext>> for LookGrant<H> {
-    ghost then = { λ st m. HoldsWhere H.with_sem H.O.object Shared (λ n. n == 0) (λ n. heard (H.sem m.0.ext) n) anything m };
+    ghost then = { λ st m. HoldsWhere H.with_sem H.with_wake H.O.object Shared (λ n. n == 0) (λ n. heard (H.sem m.0.ext) n) (λ n. heard_at n (H.wake m.0.ext)) anything m };
 }
 
 /// A queued reader loads its own grant word. Where it is 0 the reader holds.
@@ -391,14 +409,18 @@ pub fn hear<H: GrantHost>(site: &Site<H>, pass: &mut Pass<H>, task: u32) -> u64
     requires task { task < MAX_TASKS }
     requires out { held_in pass.old ≡ No }
     requires may { MayHear (sem_at H.sem (view_of pass.old)) }
+    requires owes { (wake_at H.wake (view_of pass.old)).owing ≡ false }
     ensures own { SitsAt site.now pass.new }
     ensures goes_on { KeepsPast pass.old pass.new }
     ensures last { IsLatest pass.new }
-    ensures took { result ≡ 0 → HoldsBy H.with_sem H.O.object (plan_of site.now) Shared
-        (heard (sem_at H.sem (view_of pass.old)) result) (view_of pass.old) (view_of pass.new) }
+    ensures took { result ≡ 0 → HoldsBy H.with_sem H.with_wake H.O.object (plan_of site.now) Shared
+        (heard (sem_at H.sem (view_of pass.old)) result)
+        (heard_at result (wake_at H.wake (view_of pass.old)))
+        (view_of pass.old) (view_of pass.new) }
     ensures face { result ≢ 0 → SaysSame pass.old pass.new }
-    ensures missed { result ≢ 0 → TurnsTo H.with_sem (view_of pass.old)
-        (heard (sem_at H.sem (view_of pass.old)) result) (view_of pass.new) }
+    ensures missed { result ≢ 0 → StirsTo H.with_sem H.with_wake (view_of pass.old)
+        (heard (sem_at H.sem (view_of pass.old)) result)
+        (heard_at result (wake_at H.wake (view_of pass.old))) (view_of pass.new) }
     ensures found { FoundAt (H.GRANTS + 8 * task) result (past_of pass.new) }
 {
     let word = site.step::<LookGrant<H>>(pass, H::GRANTS + LINE * task as usize, Op::Load);
@@ -413,7 +435,7 @@ struct LookGrantLocked<H> {
 }
 
 impl<H: GrantHost> Play<(), View<H::Ext>> for LookGrantLocked<H> {
-    ghost then = { λ st m. HoldsWhere H.with_sem H.O.object Shared (λ n. n == 0) (λ n. heard_locked (H.sem m.0.ext) n) anything m };
+    ghost then = { λ st m. HoldsWhere H.with_sem H.with_wake H.O.object Shared (λ n. n == 0) (λ n. heard_locked (H.sem m.0.ext) n) (λ n. heard_locked_at n (H.wake m.0.ext)) anything m };
 }
 
 /// The same under the wait lock. Where the word isn't 0, it stays so until that is released.
@@ -424,15 +446,18 @@ pub fn hear_locked<H: GrantHost>(site: &Site<H>, pass: &mut Pass<H>, task: u32) 
     requires out { held_in pass.old ≡ No }
     requires held { SpinHolds (view_of pass.old).spin }
     requires may { MayHear (sem_at H.sem (view_of pass.old)) }
+    requires owes { (wake_at H.wake (view_of pass.old)).owing ≡ false }
     ensures own { SitsAt site.now pass.new }
     ensures goes_on { KeepsPast pass.old pass.new }
     ensures last { IsLatest pass.new }
-    ensures took { result ≡ 0 → HoldsBy H.with_sem H.O.object (plan_of site.now) Shared
+    ensures took { result ≡ 0 → HoldsBy H.with_sem H.with_wake H.O.object (plan_of site.now) Shared
         (heard_locked (sem_at H.sem (view_of pass.old)) result)
+        (heard_locked_at result (wake_at H.wake (view_of pass.old)))
         (view_of pass.old) (view_of pass.new) }
     ensures face { result ≢ 0 → SaysSame pass.old pass.new }
-    ensures missed { result ≢ 0 → TurnsTo H.with_sem (view_of pass.old)
-        (heard_locked (sem_at H.sem (view_of pass.old)) result) (view_of pass.new) }
+    ensures missed { result ≢ 0 → StirsTo H.with_sem H.with_wake (view_of pass.old)
+        (heard_locked (sem_at H.sem (view_of pass.old)) result)
+        (heard_locked_at result (wake_at H.wake (view_of pass.old))) (view_of pass.new) }
     ensures found { FoundAt (H.GRANTS + 8 * task) result (past_of pass.new) }
 {
     let word = site.step::<LookGrantLocked<H>>(pass, H::GRANTS + LINE * task as usize, Op::Load);

@@ -10,7 +10,8 @@ ghost use Rattle.lock_core.specs.Views.{SpinHolds};
 ghost use Rattle.wait_list.specs.Lists.{Knows, hand_at, list_part};
 ghost use Rattle.rwsem_count.specs.declared.view.Bias.TheVariants.{Clear};
 ghost use Rattle.rwsem_wake.specs.declared.view.Stage.TheVariants.{Granting, Removing, Summing};
-ghost use Rattle.rwsem_wake.specs.Grants.{Did, HasFoundWriter, HasMarked, HasReserved, HasWholeBatch, IsNext, KeepsOut, KnowsFirst, MayArm, MayReserve, MaySum, TurnsTo, anything, armed, counted, granted, looked, marked, reserved, sem_at, summing, unmarked, unreserved};
+ghost use Rattle.rwsem_wake.specs.Grants.{Did, HasFoundWriter, HasMarked, HasWholeBatch, IsNext, KeepsOut, KnowsFirst, MayArm, MayReserve, MaySum, Stirred, StirsTo, TurnsTo, anything, armed, counted, granted, looked, marked, reserved, sem_at, summing, unmarked, unreserved, wake_at};
+ghost use Rattle.rwsem_wake.specs.Duties.{paid};
 
 use crate::host::GrantHost;
 use atomic_table::Play;
@@ -67,7 +68,7 @@ struct AddReserved<H> {
 }
 
 impl<H: GrantHost> Play<(), View<H::Ext>> for AddReserved<H> {
-    ghost then = { Did H.with_sem (λ v n. reserved (H.sem v.ext) n) IsLawfulCount };
+    ghost then = { Stirred H.with_sem H.with_wake (λ v n. reserved (H.sem v.ext) n) (λ v n. paid (H.wake v.ext)) IsLawfulCount };
 }
 
 /// Adds a waker's own bias. Answers the count that it found. The kernel's first addition in
@@ -81,8 +82,9 @@ pub fn reserve<H: GrantHost>(site: &Site<H>, pass: &mut Pass<H>) -> u64
     ensures goes_on { KeepsPast pass.old pass.new }
     ensures last { IsLatest pass.new }
     ensures face { SaysSame pass.old pass.new }
-    ensures kept { TurnsTo H.with_sem (view_of pass.old)
-        (reserved (sem_at H.sem (view_of pass.old)) result) (view_of pass.new) }
+    ensures kept { StirsTo H.with_sem H.with_wake (view_of pass.old)
+        (reserved (sem_at H.sem (view_of pass.old)) result) (paid (wake_at H.wake (view_of pass.old)))
+        (view_of pass.new) }
     ensures lawful { IsLawfulCount result }
     ensures found { FoundAt H.COUNT result (past_of pass.new) }
 {
@@ -99,12 +101,12 @@ impl<H: GrantHost> Play<(), View<H::Ext>> for SubReserved<H> {
     ghost then = { Did H.with_sem (λ v n. unreserved (H.sem v.ext)) IsLawfulCount };
 }
 
-/// Takes that bias back, after its addition saw a writer.
+/// Takes that bias back, whose addition saw a writer.
 pub fn unreserve<H: GrantHost>(site: &Site<H>, pass: &mut Pass<H>)
     requires own { SitsAt site.now pass.old }
     requires numbered { IsSome (task_in pass.old) }
     requires held { SpinHolds (view_of pass.old).spin }
-    requires reserved { HasReserved (sem_at H.sem (view_of pass.old)) }
+    requires written { HasFoundWriter (sem_at H.sem (view_of pass.old)) }
     ensures own { SitsAt site.now pass.new }
     ensures goes_on { KeepsPast pass.old pass.new }
     ensures last { IsLatest pass.new }

@@ -1,3 +1,4 @@
 pub mod Wakes
 pub mod WakeLaws
 pub mod WakeSteps
+pub mod WakeMoves

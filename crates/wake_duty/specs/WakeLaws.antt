@@ -31,7 +31,7 @@ awake-none (Tried n) t task e = refl
 pub tried-waits : {P : Type 0} (x : Vigil) (e : ℕ) → x ≡ Tried e → waits x ≡ 0 → P
 tried-waits x e is none = let w : waits x ≡ 1 = ap waits is in absurd (omega (arith, w, none))
 
-awake-else : (x : Vigil) (t u : ℕ) → u ≢ t → awake t (Some u) x ≡ 0
+pub awake-else : (x : Vigil) (t u : ℕ) → u ≢ t → awake t (Some u) x ≡ 0
 awake-else Absent t u not = refl
 awake-else Awake t u not = is_number-else t u not
 awake-else (Tried n) t u not = refl

@@ -1,42 +1,35 @@
 -- What the steps on wake words tell, and when they may be made.
-use Rattle.std.specs.Prelude.{IsTrue, ◌↔◌, ◌≡◌, ℕ, ◌+◌, ◌*◌, ◌<◌, ◌≤◌, Bool, List, Option, Some}
+use Rattle.std.specs.Prelude.{IsTrue, ◌↔◌, ◌≡◌, ℕ, ◌+◌, ◌*◌, ◌≤◌, Bool, List, Option, Some}
 use Rattle.atomic_table.specs.Table.{Step}
-use Rattle.word_bits.specs.declared.TheConstants.{MAX_TASKS}
 use Rattle.lock_core.specs.declared.view.Moment.{Moment}
 use Rattle.lock_core.specs.declared.view.View.{View}
 use Rattle.lock_core.specs.Pasts.{FoundAt}
 use Rattle.lock_core.specs.Plays.{Sat, Turns}
-use Rattle.wake_duty.specs.declared.view.Duty.TheVariants.{Chosen}
+use Rattle.wake_duty.specs.declared.view.Vigil.{Vigil}
 use Rattle.wake_duty.specs.declared.view.Vigil.TheVariants.{Tried}
-use Rattle.wake_duty.specs.declared.view.WakeHand.{WakeHand}
-use Rattle.wake_duty.specs.Wakes.{waked, setting, drowsing}
 
-module _ {E : Type 0} (wake : E → WakeHand) where
-  -- what it knows of wakes
-  abbrev pub wake_in : View E → WakeHand
-  wake_in v = wake v.ext
+-- its task is in the list, and a try of it failed under the wait lock since it last woke
+abbrev pub HasTried : {E : Type 0} → (E → Vigil) → View E → Type 0
+HasTried vigil v = (e : ℕ) × (vigil v.ext ≡ Tried e)
 
-  -- it has chosen this task, and hasn't set its wake word
-  abbrev pub HasChosen : View E → ℕ → Type 0
-  HasChosen v t = ((wake v.ext).duty ≡ Chosen t) × (t < MAX_TASKS)
+-- one step later it knows this beyond the site and the spin lock
+abbrev pub knowing : {E : Type 0} → View E → E → View E
+knowing v e = record v { steps = v.steps + 1; ext = e }
 
-  -- its task is in the list, and a try of it failed under the wait lock since it last woke
-  abbrev pub HasTried : View E → Type 0
-  HasTried v = (e : ℕ) × ((wake v.ext).vigil ≡ Tried e)
-
-module _ {E : Type 0} (wake : E → WakeHand) (with_wake : E → WakeHand → E) where
-  -- it set a wake word
+module _ {E : Type 0} (place : ℕ) (after_set : E → ℕ → E) where
+  -- it set the wake word of a task
   abbrev pub Woke : Step (Unit {0}) → Sat E → ℕ → Sat E → Type 0
-  Woke st m n m' = Turns m (waked with_wake m.0 (setting (wake m.0.ext))) m'
+  Woke st m n m' = (t : ℕ) → st.word ≡ place + 8 * t → Turns m (knowing m.0 (after_set m.0.ext t)) m'
 
+module _ {E : Type 0} (after_swap : E → ℕ → E) where
   -- it swapped its own wake word, which had this number, for 0
   abbrev pub Drowsed : Step (Unit {0}) → Sat E → ℕ → Sat E → Type 0
-  Drowsed st m n m' = (n ≤ 1) × Turns m (waked with_wake m.0 (drowsing n (wake m.0.ext))) m'
+  Drowsed st m n m' = (n ≤ 1) × Turns m (knowing m.0 (after_swap m.0.ext n)) m'
 
   -- it swapped the wake word of its task for 0, and is asleep exactly where that was 0
   pub record FallsAsleep (place : ℕ) (v : View E) (task : Option ℕ) (asleep : Bool) (u : View E) (past : List Moment) : Type 0 where
     pub word : ℕ
     pub small : word ≤ 1
-    pub view : u ≡ waked with_wake v (drowsing word (wake v.ext))
+    pub view : u ≡ knowing v (after_swap v.ext word)
     pub found : (t : ℕ) → task ≡ Some t → FoundAt (place + 8 * t) word past
     pub tells : IsTrue asleep ↔ (word ≡ 0)

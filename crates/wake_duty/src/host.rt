@@ -1,46 +1,53 @@
-//! The rules whose tables have an owner word, a list of waiters and wake words.
-ghost use Rattle.std.specs.Prelude.{◌≡◌, ◌⊎◌, ℕ, ◌+◌, ◌*◌, ◌<◌, ◌≤◌, List, map, slice_set};
+//! The rules whose tables have a list of waiters and wake words.
+ghost use Rattle.std.specs.Prelude.{◌≡◌, ℕ, ◌+◌, ◌*◌, ◌<◌, ◌≤◌, List, Some, slice_index, slice_set};
 ghost use mathlib.Core.Option.{some};
 ghost use lib.ListN.{get_elem?};
 ghost use Rattle.word_bits.specs.declared.TheConstants.{MAX_TASKS};
 ghost use Rattle.word_bits.specs.Histories.{Plan as Calls};
 ghost use Rattle.lock_core.specs.declared.view.View.{View};
 ghost use Rattle.lock_core.specs.declared.layout.TheConstants.{LOCK_WORDS};
-ghost use Rattle.lock_core.specs.Layout.{part};
 ghost use Rattle.lock_core.specs.Moves.{Goes};
+ghost use Rattle.lock_core.specs.Views.{SpinRests};
 ghost use Rattle.wait_list.specs.declared.view.Waiter.{Waiter};
-ghost use Rattle.wake_duty.specs.declared.view.WakeHand.{WakeHand as AWakeHand};
-ghost use Rattle.wake_duty.specs.Wakes.{WAKE_WORDS, WakeKept, Sets, Drowses, wake_part, wake_word, with_hand, waked};
+ghost use Rattle.wake_duty.specs.declared.view.Vigil.{Vigil as AVigil};
+ghost use Rattle.wake_duty.specs.Wakes.{WAKE_WORDS};
+ghost use Rattle.wake_duty.specs.WakeSteps.{HasTried, knowing};
 
-use crate::view::WakeHand;
-use mutex_word::OwnerHost;
+use crate::view::Vigil;
 use wait_list::ListHost;
 
-/// A rule whose table has an owner word, a list of waiters, and for each task a wake word, by which
-/// it sleeps.
+/// A rule whose table has a list of waiters, and for each task a wake word, by which it sleeps.
 ///
-/// The wake words, and what each pass owes and how its task waits, have their own facts,
-/// `WakeKept`, which the rule implies: somebody has the duty to wake the first waiter, or it needs
-/// nobody. Each kind of step on a wake word is proved once, against those facts; the law `wakes`
-/// carries it to the rule.
-pub trait WakeHost: ListHost + OwnerHost {
+/// What a pass owes and whom it has chosen is the host's own, as is what its rule makes of it. The
+/// two kinds of step on a wake word are told to the host, which proves that they keep its rule.
+pub trait SleepHost: ListHost {
     /// The place of the wake word of task 0 among the words of the locks. That of each further task
     /// stands 8 words behind.
     const WAKE: usize;
 
     ghost WAKE: { ℕ };
 
-    // The part of what a pass knows that concerns wakes.
-    ghost wake: { Self.Ext → AWakeHand };
+    // How the pass's task waits, in what the pass knows.
+    ghost vigil: { Self.Ext → AVigil };
 
-    // What it knows where this is that part.
-    ghost with_wake: { Self.Ext → AWakeHand → Self.Ext };
+    // The pass has chosen this task, and hasn't set its wake word.
+    ghost has_chosen: { Self.Ext → ℕ → Type 0 };
+
+    // What it knows once it has set the wake word of this task.
+    ghost after_set: { Self.Ext → ℕ → Self.Ext };
+
+    // What it knows once it has swapped its own wake word, which had this number, for 0.
+    ghost after_swap: { Self.Ext → ℕ → Self.Ext };
 
     ghost wake_inside: { WAKE + WAKE_WORDS ≤ LOCK_WORDS };
 
-    ghost wake_kept: { (k : Calls) (ws : List ℕ) (vs : List (View Self.Ext)) (l : List Waiter) → Self.queue k ws vs l → WakeKept (part WAKE WAKE_WORDS ws) l (map (wake_part wake) vs) };
+    ghost chosen_few: { (e : Self.Ext) (t : ℕ) → has_chosen e t → t < MAX_TASKS };
 
-    // A step on the wake word of a task that keeps their own facts, and sets the word of the waiter
-    // that was chosen or is that of a waiter which drowses, keeps every other fact of the rule.
-    ghost wakes: { (k : Calls) (ws : List ℕ) (vs : List (View Self.Ext)) (l : List Waiter) (id t n : ℕ) (v : View Self.Ext) (b : AWakeHand) → Self.queue k ws vs l → get_elem? vs id ≡ some v → t < MAX_TASKS → Sets t n (wake_part wake v) b ⊎ Drowses t (wake_word (part WAKE WAKE_WORDS ws) t) n (wake_part wake v) b → WakeKept (slice_set (part WAKE WAKE_WORDS ws) (8 * t) n) l (slice_set (map (wake_part wake) vs) id (with_hand (wake_part wake v) b)) → Goes (Self.holds k) (Self.moves k) id ws vs (slice_set ws (WAKE + 8 * t) n) (slice_set vs id (waked with_wake v b)) };
+    ghost wake_bits: { (k : Calls) (ws : List ℕ) (vs : List (View Self.Ext)) (l : List Waiter) (t : ℕ) → Self.queue k ws vs l → t < MAX_TASKS → slice_index ws (WAKE + 8 * t) ≤ 1 };
+
+    // The task that a pass has chosen may be woken.
+    ghost sets_word: { (k : Calls) (ws : List ℕ) (vs : List (View Self.Ext)) (l : List Waiter) (id t : ℕ) (v : View Self.Ext) → Self.queue k ws vs l → get_elem? vs id ≡ some v → has_chosen v.ext t → Goes (Self.holds k) (Self.moves k) id ws vs (slice_set ws (WAKE + 8 * t) 1) (slice_set vs id (knowing v (after_set v.ext t))) };
+
+    // A waiter whose try failed under the wait lock, which it has released since, may drowse.
+    ghost swaps_word: { (k : Calls) (ws : List ℕ) (vs : List (View Self.Ext)) (l : List Waiter) (id t : ℕ) (v : View Self.Ext) → Self.queue k ws vs l → get_elem? vs id ≡ some v → v.hand.task ≡ Some t → t < MAX_TASKS → SpinRests v.spin → HasTried vigil v → Goes (Self.holds k) (Self.moves k) id ws vs (slice_set ws (WAKE + 8 * t) 0) (slice_set vs id (knowing v (after_swap v.ext (slice_index ws (WAKE + 8 * t))))) };
 }

@@ -5,6 +5,6 @@ mod host;
 mod steps;
 mod view;
 
-pub use host::WakeHost;
+pub use host::SleepHost;
 pub use steps::{drowse, set};
 pub use view::{Duty, Vigil, WakeHand};

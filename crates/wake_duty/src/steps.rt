@@ -2,10 +2,9 @@
 ghost use Rattle.std.specs.Prelude.{◌≡◌, ◌+◌, ◌*◌, IsSome};
 ghost use Rattle.lock_core.specs.Handles.{IsLatest, view_of, past_of, task_in, SitsAt, KeepsPast, SaysSame};
 ghost use Rattle.lock_core.specs.Views.{SpinRests};
-ghost use Rattle.wake_duty.specs.Wakes.{waked, setting};
-ghost use Rattle.wake_duty.specs.WakeSteps.{HasChosen, HasTried, Woke, Drowsed, FallsAsleep, wake_in};
+ghost use Rattle.wake_duty.specs.WakeSteps.{HasTried, Woke, Drowsed, FallsAsleep, knowing};
 
-use crate::host::WakeHost;
+use crate::host::SleepHost;
 use atomic_table::Play;
 use lock_core::view::View;
 use lock_core::{Op, Pass, Site};
@@ -24,46 +23,46 @@ struct SetWord<H> {
     host: PhantomData<H>,
 }
 
-impl<H: WakeHost> Play<(), View<H::Ext>> for SetWord<H> {
-    ghost then = { Woke H.wake H.with_wake };
+impl<H: SleepHost> Play<(), View<H::Ext>> for SetWord<H> {
+    ghost then = { Woke H.WAKE H.after_set };
 }
 
 struct SwapWord<H> {
     host: PhantomData<H>,
 }
 
-impl<H: WakeHost> Play<(), View<H::Ext>> for SwapWord<H> {
-    ghost then = { Drowsed H.wake H.with_wake };
+impl<H: SleepHost> Play<(), View<H::Ext>> for SwapWord<H> {
+    ghost then = { Drowsed H.after_swap };
 }
 
 /// Sets the wake word of the waiter that the pass has chosen, which ends its duty. Only then is the
 /// task to be woken: until it swaps the word for 0 it doesn't fall asleep again.
-pub fn set<H: WakeHost>(site: &Site<H>, pass: &mut Pass<H>, target: u32)
+pub fn set<H: SleepHost>(site: &Site<H>, pass: &mut Pass<H>, target: u32)
     requires own { SitsAt site.now pass.old }
-    requires chosen { HasChosen H.wake (view_of pass.old) target }
+    requires chosen { H.has_chosen (view_of pass.old).ext target }
     ensures own { SitsAt site.now pass.new }
     ensures goes_on { KeepsPast pass.old pass.new }
     ensures last { IsLatest pass.new }
     ensures face { SaysSame pass.old pass.new }
-    ensures kept { view_of pass.new ≡ waked H.with_wake (view_of pass.old)
-        (setting (wake_in H.wake (view_of pass.old))) }
+    ensures kept { view_of pass.new ≡ knowing (view_of pass.old)
+        (H.after_set (view_of pass.old).ext target) }
 {
     site.step::<SetWord<H>>(pass, H::WAKE + LINE * target as usize, Op::Store(WOKEN));
 }
 
 /// Swaps the wake word of the pass's own task for 0. True exactly where that was 0: only then may
 /// it sleep. Otherwise it was woken, and tries again first.
-pub fn drowse<H: WakeHost>(site: &Site<H>, pass: &mut Pass<H>) -> bool
+pub fn drowse<H: SleepHost>(site: &Site<H>, pass: &mut Pass<H>) -> bool
     requires own { SitsAt site.now pass.old }
     requires numbered { IsSome (task_in pass.old) }
     requires out { SpinRests (view_of pass.old).spin }
-    requires tried { HasTried H.wake (view_of pass.old) }
+    requires tried { HasTried H.vigil (view_of pass.old) }
     ensures own { SitsAt site.now pass.new }
     ensures goes_on { KeepsPast pass.old pass.new }
     ensures last { IsLatest pass.new }
     ensures face { SaysSame pass.old pass.new }
-    ensures asleep { FallsAsleep H.wake H.with_wake H.WAKE (view_of pass.old) (task_in pass.old)
-        result (view_of pass.new) (past_of pass.new) }
+    ensures asleep { FallsAsleep H.after_swap H.WAKE (view_of pass.old) (task_in pass.old) result
+        (view_of pass.new) (past_of pass.new) }
 {
     let Some(me) = pass.task() else {
         unreachable!()

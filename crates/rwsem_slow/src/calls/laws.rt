@@ -5,7 +5,7 @@ ghost use Rattle.lock_core.specs.Locking.{Looks};
 ghost use Rattle.lock_core.specs.Pasts.{BeganWith, EachMoment, Ran, Tail};
 ghost use Rattle.lock_core.specs.Shown.{IsLatestStep, PastGoesOn};
 ghost use Rattle.lock_core.specs.SpinStated.{IsSpinLockThen, IsSpinMove};
-ghost use Rattle.rwsem_slow.specs.Handles.{hand_in, newest, plan_of, shown_of, spun_of, SitsAt, SpunGoesOn};
+ghost use Rattle.rwsem_slow.specs.Handles.{hand_in, newest, plan_of, shown_of, spun_of, KeepsWakes, SitsAt, SpunGoesOn};
 ghost use Rattle.rwsem_slow.specs.RwSems.{standing, wait_lock_at};
 ghost use Rattle.osq_nodes.specs.Places.{node_marks};
 ghost use Rattle.osq_nodes.specs.Ruled.{IsOsqMove, newest as newest_queue};
@@ -23,6 +23,7 @@ impl<O: Object> RwSem<O> {
     pub fn recall_wait_lock(&self, pass: &mut RwPass<O>)
         requires own { SitsAt self.now pass.old }
         ensures own { SitsAt self.now pass.new }
+        ensures still { KeepsWakes pass.old pass.new }
         ensures goes_on { PastGoesOn (shown_of pass.old) (shown_of pass.new) }
         ensures kept { Looks (shown_of pass.old) (shown_of pass.new) }
         ensures last { IsLatestStep (shown_of pass.new) }
@@ -41,6 +42,7 @@ impl<O: Object> RwSem<O> {
     pub fn recall_spin_queue(&self, pass: &mut RwPass<O>)
         requires own { SitsAt self.now pass.old }
         ensures own { SitsAt self.now pass.new }
+        ensures still { KeepsWakes pass.old pass.new }
         ensures goes_on { SpunGoesOn pass.old pass.new }
         ensures kept { shown_of pass.new ≡ shown_of pass.old }
         ensures begins { BeganWith (newest_queue (length (plan_of self.now))) (spun_of pass.new) }

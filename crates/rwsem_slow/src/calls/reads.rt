@@ -7,7 +7,8 @@ ghost use Rattle.lock_core.specs.Locking.{Got, Interrupts, KeepsPlace, TalliesLo
 ghost use Rattle.lock_core.specs.Shown.{PastGoesOn};
 ghost use Rattle.osq_unqueue.specs.Rising.{LeavesForCpu};
 ghost use Rattle.rwsem_slow.specs.RwSems.{count_at};
-ghost use Rattle.rwsem_slow.specs.Handles.{shown_of, hand_in, SitsAt, TakesShared};
+ghost use Rattle.rwsem_slow.specs.Handles.{shown_of, dozes_in, hand_in, SitsAt, TakesShared};
+ghost use Rattle.cpu_task.specs.Counting.{Dozes};
 ghost use Rattle.rwsem_slow.specs.Counting.{CountsReading, SleepsBetween};
 ghost use Rattle.rwsem_slow.specs.Opening.{EntersOpen};
 
@@ -33,6 +34,8 @@ impl<O: Object> RwSem<O> {
         requires numbered { IsSome (hand_in pass.old).task }
         requires out { (hand_in pass.old).held ≡ No }
         ensures own { SitsAt self.now pass.new }
+        ensures dozed { Dozes (C.C.sleeps cpu.old) (C.C.sleeps cpu.new)
+            (dozes_in pass.old) (dozes_in pass.new) }
         ensures goes_on { PastGoesOn (shown_of pass.old) (shown_of pass.new) }
         ensures took { TakesShared O.object self.now pass.old pass.new }
         ensures opened { result ≡ Fast → EntersOpen (shown_of pass.old) (shown_of pass.new) }
@@ -64,6 +67,8 @@ impl<O: Object> RwSem<O> {
         requires numbered { IsSome (hand_in pass.old).task }
         requires out { (hand_in pass.old).held ≡ No }
         ensures own { SitsAt self.now pass.new }
+        ensures dozed { Dozes (C.C.sleeps cpu.old) (C.C.sleeps cpu.new)
+            (dozes_in pass.old) (dozes_in pass.new) }
         ensures goes_on { PastGoesOn (shown_of pass.old) (shown_of pass.new) }
         ensures took { IfOk result (λ _. TakesShared O.object self.now pass.old pass.new) }
         ensures opened { IfOk result (λ how. how ≡ Fast →
@@ -105,6 +110,8 @@ impl<O: Object> RwSem<O> {
         requires numbered { IsSome (hand_in pass.old).task }
         requires out { (hand_in pass.old).held ≡ No }
         ensures own { SitsAt self.now pass.new }
+        ensures dozed { Dozes (C.C.sleeps cpu.old) (C.C.sleeps cpu.new)
+            (dozes_in pass.old) (dozes_in pass.new) }
         ensures goes_on { PastGoesOn (shown_of pass.old) (shown_of pass.new) }
         ensures took { IfOk result (λ _. TakesShared O.object self.now pass.old pass.new) }
         ensures opened { IfOk result (λ how. how ≡ Fast →
@@ -142,6 +149,7 @@ impl<O: Object> RwSem<O> {
                     cpu,
                     crew,
                     left,
+                    &mut pass.counts,
                     interruptible,
                 );
                 pass.tally.answer(got);

@@ -4,7 +4,7 @@ ghost use Rattle.lock_core.specs.declared.view.Held.TheVariants.{No, Shared, Alo
 ghost use Rattle.lock_core.specs.Kinds.{semaphore, wakes_alone, wakes_down, wakes_shared};
 ghost use Rattle.lock_core.specs.Locking.{Downgrades, Releases};
 ghost use Rattle.lock_core.specs.Shown.{PastGoesOn};
-ghost use Rattle.rwsem_slow.specs.Handles.{shown_of, hand_in, SitsAt, SpunGoesOn};
+ghost use Rattle.rwsem_slow.specs.Handles.{shown_of, dozes_in, hand_in, SitsAt, SpunGoesOn};
 ghost use Rattle.rwsem_slow.specs.Releasing.{LeavesCount};
 
 use super::{RwPass, RwSem};
@@ -20,13 +20,14 @@ impl<O: Object> RwSem<O> {
         requires own { SitsAt self.now pass.old }
         requires held { (hand_in pass.old).held ≡ Shared }
         ensures own { SitsAt self.now pass.new }
+        ensures dozes { dozes_in pass.new ≡ dozes_in pass.old }
         ensures goes_on { PastGoesOn (shown_of pass.old) (shown_of pass.new) }
         ensures released { Releases (wakes_shared semaphore)
             (shown_of pass.old) (shown_of pass.new) }
         ensures left { LeavesCount (wakes_shared semaphore) No 256 0
             (shown_of pass.old) (shown_of pass.new) }
     {
-        releasing::up_read(&self.site, rt, &mut pass.pass, crew);
+        releasing::up_read(&self.site, rt, &mut pass.pass, crew, &mut pass.counts);
     }
 
     /// Ends the pass's exclusive hold. Where tasks wait, it wakes the first of them, and with a
@@ -36,6 +37,7 @@ impl<O: Object> RwSem<O> {
         requires held { (hand_in pass.old).held ≡ Alone }
         requires quiet { (hand_in pass.old).writes ≡ false }
         ensures own { SitsAt self.now pass.new }
+        ensures dozes { dozes_in pass.new ≡ dozes_in pass.old }
         ensures goes_on { PastGoesOn (shown_of pass.old) (shown_of pass.new) }
         ensures queue { SpunGoesOn pass.old pass.new }
         ensures released { Releases (wakes_alone semaphore)
@@ -43,7 +45,7 @@ impl<O: Object> RwSem<O> {
         ensures left { LeavesCount (wakes_alone semaphore) No 1 0
             (shown_of pass.old) (shown_of pass.new) }
     {
-        releasing::up_write(&self.site, rt, &mut pass.pass, crew);
+        releasing::up_write(&self.site, rt, &mut pass.pass, crew, &mut pass.counts);
     }
 
     /// Turns the pass's exclusive hold into a shared one. Where a reader waits first, it lets all
@@ -53,11 +55,12 @@ impl<O: Object> RwSem<O> {
         requires held { (hand_in pass.old).held ≡ Alone }
         requires quiet { (hand_in pass.old).writes ≡ false }
         ensures own { SitsAt self.now pass.new }
+        ensures dozes { dozes_in pass.new ≡ dozes_in pass.old }
         ensures goes_on { PastGoesOn (shown_of pass.old) (shown_of pass.new) }
         ensures downgraded { Downgrades semaphore (shown_of pass.old) (shown_of pass.new) }
         ensures left { LeavesCount (wakes_down semaphore) Shared 0 255
             (shown_of pass.old) (shown_of pass.new) }
     {
-        releasing::downgrade_write(&self.site, rt, &mut pass.pass, crew);
+        releasing::downgrade_write(&self.site, rt, &mut pass.pass, crew, &mut pass.counts);
     }
 }

@@ -9,7 +9,7 @@ ghost use Rattle.lock_core.specs.Shown.{PastGoesOn};
 ghost use Rattle.rwsem_count.specs.Tries.{FindsFree};
 ghost use Rattle.rwsem_count.specs.WordSteps.{IsReadFree};
 ghost use Rattle.rwsem_slow.specs.RwSems.{count_at};
-ghost use Rattle.rwsem_slow.specs.Handles.{shown_of, hand_in, SitsAt, TakesAlone, TakesShared};
+ghost use Rattle.rwsem_slow.specs.Handles.{shown_of, hand_in, KeepsWakes, SitsAt, TakesAlone, TakesShared};
 
 use super::{RwPass, RwSem};
 use rwsem_count::{steps, tries};
@@ -25,6 +25,7 @@ impl<O: Object> RwSem<O> {
         requires numbered { IsSome (hand_in pass.old).task }
         requires out { (hand_in pass.old).held ≡ No }
         ensures own { SitsAt self.now pass.new }
+        ensures still { KeepsWakes pass.old pass.new }
         ensures goes_on { PastGoesOn (shown_of pass.old) (shown_of pass.new) }
         ensures took { IfOk result (λ _. TakesShared O.object self.now pass.old pass.new) }
         ensures at_once { IfOk result (λ _. Got Fast (shown_of pass.old) (shown_of pass.new)) }
@@ -44,6 +45,7 @@ impl<O: Object> RwSem<O> {
         requires numbered { IsSome (hand_in pass.old).task }
         requires out { (hand_in pass.old).held ≡ No }
         ensures own { SitsAt self.now pass.new }
+        ensures still { KeepsWakes pass.old pass.new }
         ensures goes_on { PastGoesOn (shown_of pass.old) (shown_of pass.new) }
         ensures took { IfOk result (λ _. TakesAlone O.object self.now pass.old pass.new) }
         ensures at_once { IfOk result (λ _. Got Fast (shown_of pass.old) (shown_of pass.new)) }

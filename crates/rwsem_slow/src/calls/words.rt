@@ -13,7 +13,7 @@ ghost use Rattle.lock_core.specs.Pasts.{FoundAt};
 ghost use Rattle.lock_core.specs.Records.{row};
 ghost use Rattle.lock_core.specs.Shown.{PastGoesOn};
 ghost use Rattle.lock_core.specs.Views.{next_entry, wrote, committed, noted, sending, OwesNoSignal, Unsent};
-ghost use Rattle.rwsem_slow.specs.Handles.{plan_of, shown_of, hand_in, SitsAt, SpunGoesOn, TellsRecord};
+ghost use Rattle.rwsem_slow.specs.Handles.{plan_of, shown_of, hand_in, KeepsWakes, SitsAt, SpunGoesOn, TellsRecord};
 
 use super::{RwPass, RwSem};
 use lock_core::Held;
@@ -26,6 +26,7 @@ impl<O: Object> RwSem<O> {
         requires held { (hand_in pass.old).held ≢ No }
         requires inside { at < O.WORDS }
         ensures own { SitsAt self.now pass.new }
+        ensures still { KeepsWakes pass.old pass.new }
         ensures goes_on { PastGoesOn (shown_of pass.old) (shown_of pass.new) }
         ensures queue { SpunGoesOn pass.old pass.new }
         ensures kept { Looks (shown_of pass.old) (shown_of pass.new) }
@@ -41,6 +42,7 @@ impl<O: Object> RwSem<O> {
         requires held { (hand_in pass.old).held ≡ Alone }
         requires inside { at < O.WORDS }
         ensures own { SitsAt self.now pass.new }
+        ensures still { KeepsWakes pass.old pass.new }
         ensures goes_on { PastGoesOn (shown_of pass.old) (shown_of pass.new) }
         ensures kept { Has (wrote (hand_in pass.old) at value)
             (shown_of pass.old) (shown_of pass.new) }
@@ -59,6 +61,7 @@ impl<O: Object> RwSem<O> {
         requires change { IsChange O.object (plan_of self.now)
             (hand_in pass.old) (next_entry (hand_in pass.old)) reply }
         ensures own { SitsAt self.now pass.new }
+        ensures still { KeepsWakes pass.old pass.new }
         ensures goes_on { PastGoesOn (shown_of pass.old) (shown_of pass.new) }
         ensures kept { HasSince
             (λ step. committed (hand_in pass.old) step (next_entry (hand_in pass.old)) reply)
@@ -78,6 +81,7 @@ impl<O: Object> RwSem<O> {
         requires may { MayNote O.object (unavailable semaphore) (plan_of self.now)
             (hand_in pass.old) (next_entry (hand_in pass.old)) reply }
         ensures own { SitsAt self.now pass.new }
+        ensures still { KeepsWakes pass.old pass.new }
         ensures goes_on { PastGoesOn (shown_of pass.old) (shown_of pass.new) }
         ensures kept { HasSince
             (λ step. noted (hand_in pass.old) step (next_entry (hand_in pass.old)) reply)
@@ -94,6 +98,7 @@ impl<O: Object> RwSem<O> {
         requires unsent { (hand_in pass.old).sent ≡ None }
         requires next { IsSignal (plan_of self.now) (next_entry (hand_in pass.old)) target }
         ensures own { SitsAt self.now pass.new }
+        ensures still { KeepsWakes pass.old pass.new }
         ensures goes_on { PastGoesOn (shown_of pass.old) (shown_of pass.new) }
         ensures kept { Has (sending (hand_in pass.old) target)
             (shown_of pass.old) (shown_of pass.new) }
@@ -122,6 +127,7 @@ impl<O: Object> RwSem<O> {
         requires task { task < length (plan_of self.now) }
         requires call { call < length (row (plan_of self.now) task) }
         ensures own { SitsAt self.now pass.new }
+        ensures still { KeepsWakes pass.old pass.new }
         ensures goes_on { PastGoesOn (shown_of pass.old) (shown_of pass.new) }
         ensures kept { Looks (shown_of pass.old) (shown_of pass.new) }
         ensures words { slice_get (row (plan_of self.now) task) call ≡ Some result }
@@ -135,6 +141,7 @@ impl<O: Object> RwSem<O> {
         requires task { task < length (plan_of self.now) }
         requires call { call < length (row (plan_of self.now) task) }
         ensures own { SitsAt self.now pass.new }
+        ensures still { KeepsWakes pass.old pass.new }
         ensures goes_on { PastGoesOn (shown_of pass.old) (shown_of pass.new) }
         ensures queue { SpunGoesOn pass.old pass.new }
         ensures kept { Looks (shown_of pass.old) (shown_of pass.new) }
@@ -153,6 +160,7 @@ impl<O: Object> RwSem<O> {
         requires own { SitsAt self.now pass.old }
         requires held { (hand_in pass.old).held ≢ No }
         ensures own { SitsAt self.now pass.new }
+        ensures still { KeepsWakes pass.old pass.new }
         ensures goes_on { PastGoesOn (shown_of pass.old) (shown_of pass.new) }
         ensures queue { SpunGoesOn pass.old pass.new }
         ensures kept { Looks (shown_of pass.old) (shown_of pass.new) }
@@ -170,6 +178,7 @@ impl<O: Object> RwSem<O> {
         requires held { (hand_in pass.old).held ≢ No }
         requires inside { at < length (hand_in pass.old).log }
         ensures own { SitsAt self.now pass.new }
+        ensures still { KeepsWakes pass.old pass.new }
         ensures goes_on { PastGoesOn (shown_of pass.old) (shown_of pass.new) }
         ensures queue { SpunGoesOn pass.old pass.new }
         ensures kept { Looks (shown_of pass.old) (shown_of pass.new) }

@@ -7,7 +7,8 @@ ghost use Rattle.lock_core.specs.Locking.{Got, Interrupts, KeepsPlace, Looks, On
 ghost use Rattle.lock_core.specs.Shown.{PastGoesOn};
 ghost use Rattle.osq_unqueue.specs.Rising.{LeavesForCpu};
 ghost use Rattle.rwsem_slow.specs.RwSems.{count_at};
-ghost use Rattle.rwsem_slow.specs.Handles.{shown_of, hand_in, KeepsFronts, KeepsMisses, SitsAt, SpunGoesOn, TakesAlone};
+ghost use Rattle.rwsem_slow.specs.Handles.{shown_of, dozes_in, hand_in, KeepsFronts, KeepsMisses, KeepsWakes, SitsAt, SpunGoesOn, TakesAlone};
+ghost use Rattle.cpu_task.specs.Counting.{Dozes};
 ghost use Rattle.rwsem_slow.specs.Counting.{CountsLeaving, CountsWriting};
 ghost use Rattle.rwsem_slow.specs.Opening.{TakesOpen};
 ghost use Rattle.rwsem_slow.specs.Spinning.{SawIfTried};
@@ -35,6 +36,8 @@ impl<O: Object> RwSem<O> {
         requires numbered { IsSome (hand_in pass.old).task }
         requires out { (hand_in pass.old).held ≡ No }
         ensures own { SitsAt self.now pass.new }
+        ensures dozed { Dozes (C.C.sleeps cpu.old) (C.C.sleeps cpu.new)
+            (dozes_in pass.old) (dozes_in pass.new) }
         ensures goes_on { PastGoesOn (shown_of pass.old) (shown_of pass.new) }
         ensures queue { SpunGoesOn pass.old pass.new }
         ensures took { TakesAlone O.object self.now pass.old pass.new }
@@ -67,6 +70,8 @@ impl<O: Object> RwSem<O> {
         requires numbered { IsSome (hand_in pass.old).task }
         requires out { (hand_in pass.old).held ≡ No }
         ensures own { SitsAt self.now pass.new }
+        ensures dozed { Dozes (C.C.sleeps cpu.old) (C.C.sleeps cpu.new)
+            (dozes_in pass.old) (dozes_in pass.new) }
         ensures goes_on { PastGoesOn (shown_of pass.old) (shown_of pass.new) }
         ensures took { IfOk result (λ _. TakesAlone O.object self.now pass.old pass.new) }
         ensures opened { IfOk result (λ how. TakesOpen how (shown_of pass.old) (shown_of pass.new)) }
@@ -103,6 +108,8 @@ impl<O: Object> RwSem<O> {
         requires numbered { IsSome (hand_in pass.old).task }
         requires out { (hand_in pass.old).held ≡ No }
         ensures own { SitsAt self.now pass.new }
+        ensures dozed { Dozes (C.C.sleeps cpu.old) (C.C.sleeps cpu.new)
+            (dozes_in pass.old) (dozes_in pass.new) }
         ensures goes_on { PastGoesOn (shown_of pass.old) (shown_of pass.new) }
         ensures queue { SpunGoesOn pass.old pass.new }
         ensures took { IfOk result (λ _. TakesAlone O.object self.now pass.old pass.new) }
@@ -141,6 +148,7 @@ impl<O: Object> RwSem<O> {
         requires numbered { IsSome (hand_in pass.old).task }
         requires out { (hand_in pass.old).held ≡ No }
         ensures own { SitsAt self.now pass.new }
+        ensures still { KeepsWakes pass.old pass.new }
         ensures goes_on { PastGoesOn (shown_of pass.old) (shown_of pass.new) }
         ensures queue { SpunGoesOn pass.old pass.new }
         ensures numbered { (hand_in pass.new).task ≡ (hand_in pass.old).task }
@@ -190,6 +198,8 @@ impl<O: Object> RwSem<O> {
         requires numbered { IsSome (hand_in pass.old).task }
         requires out { (hand_in pass.old).held ≡ No }
         ensures own { SitsAt self.now pass.new }
+        ensures dozed { Dozes (C.C.sleeps cpu.old) (C.C.sleeps cpu.new)
+            (dozes_in pass.old) (dozes_in pass.new) }
         ensures goes_on { PastGoesOn (shown_of pass.old) (shown_of pass.new) }
         ensures queue { SpunGoesOn pass.old pass.new }
         ensures took { IfOk result (λ _. TakesAlone O.object self.now pass.old pass.new) }
@@ -217,7 +227,15 @@ impl<O: Object> RwSem<O> {
         if self.spin(rt, pass, cpu) {
             return Ok(How::Spun);
         }
-        let got = write_in_line(&self.site, rt, &mut pass.pass, cpu, crew, interruptible);
+        let got = write_in_line(
+            &self.site,
+            rt,
+            &mut pass.pass,
+            cpu,
+            crew,
+            &mut pass.counts,
+            interruptible,
+        );
         pass.tally.answer(got);
         got
     }
@@ -227,6 +245,7 @@ impl<O: Object> RwSem<O> {
         requires own { SitsAt self.now pass.old }
         requires numbered { IsSome (hand_in pass.old).task }
         ensures own { SitsAt self.now pass.new }
+        ensures still { KeepsWakes pass.old pass.new }
         ensures goes_on { PastGoesOn (shown_of pass.old) (shown_of pass.new) }
         ensures queue { SpunGoesOn pass.old pass.new }
         ensures kept { Looks (shown_of pass.old) (shown_of pass.new) }

@@ -21,22 +21,22 @@ pub remove_first-requires-clause-first : goal.remove_first-requires-clause-first
 remove_first-requires-clause-first g c = unmarked-first c.args.pass.now.seat.me.0.view c.unmark.new.pass.seat.me.0.view c.unmark.ensures.kept _ c.requires.first
 
 pub clear_flags-requires-clause-emptied : goal.clear_flags-requires-clause-emptied
-clear_flags-requires-clause-emptied g c = ap (λ (s : SemHand). s.stage) (empty-stage c.args.pass.now.seat.me.0.view c.unmark.new.pass.seat.me.0.view c.remove_first.new.pass.seat.me.0.view (summing c.args.pass.now.seat.me.0.view.ext.sem) c.unmark.ensures.kept c.unmark.ensures.later c.remove_first.result c.remove_first.ensures.gone c.if-remove_first.true)
+clear_flags-requires-clause-emptied g c = ap (λ (s : SemHand). s.stage) (empty-stage c.args.woken.now.items c.args.pass.now.seat.me.0.view c.unmark.new.pass.seat.me.0.view c.remove_first.new.pass.seat.me.0.view (summing c.args.pass.now.seat.me.0.view.ext.sem) c.unmark.ensures.kept c.unmark.ensures.later c.remove_first.result c.remove_first.ensures.gone c.if-remove_first.true)
 
 pub clear_flags-requires-clause-clear : goal.clear_flags-requires-clause-clear
-clear_flags-requires-clause-clear g c = ap (λ (s : SemHand). s.bias) (empty-stage c.args.pass.now.seat.me.0.view c.unmark.new.pass.seat.me.0.view c.remove_first.new.pass.seat.me.0.view (summing c.args.pass.now.seat.me.0.view.ext.sem) c.unmark.ensures.kept c.unmark.ensures.later c.remove_first.result c.remove_first.ensures.gone c.if-remove_first.true)
+clear_flags-requires-clause-clear g c = ap (λ (s : SemHand). s.bias) (empty-stage c.args.woken.now.items c.args.pass.now.seat.me.0.view c.unmark.new.pass.seat.me.0.view c.remove_first.new.pass.seat.me.0.view (summing c.args.pass.now.seat.me.0.view.ext.sem) c.unmark.ensures.kept c.unmark.ensures.later c.remove_first.result c.remove_first.ensures.gone c.if-remove_first.true)
 
 pub wake-requires-clause-rests : goal.wake-requires-clause-rests
-wake-requires-clause-rests g c = others-rest c.args.pass.now.seat.me.0.view c.unmark.new.pass.seat.me.0.view c.remove_first.new.pass.seat.me.0.view (summing c.args.pass.now.seat.me.0.view.ext.sem) c.unmark.ensures.kept c.unmark.ensures.later c.remove_first.result c.remove_first.ensures.gone c.if-remove_first.false
+wake-requires-clause-rests g c = others-rest c.args.woken.now.items c.args.pass.now.seat.me.0.view c.unmark.new.pass.seat.me.0.view c.remove_first.new.pass.seat.me.0.view (summing c.args.pass.now.seat.me.0.view.ext.sem) c.unmark.ensures.kept c.unmark.ensures.later c.remove_first.result c.remove_first.ensures.gone c.if-remove_first.false
 
 pub wake-requires-clause-may : goal.wake-requires-clause-may
 wake-requires-clause-may g c = ap shared_weight (ap (λ (z : V). z.hand.held) c.remove_first.ensures.gone.is ∙ (ap (λ (z : V). z.hand.held) c.unmark.ensures.kept ∙ (sym c.requires.own.held ∙ c.requires.out)))
 
 pub returns-then-remove_first-clause-left : goal.returns-then-remove_first-clause-left
-returns-then-remove_first-clause-left g c = left-empty c.args.pass.now.seat.me.0.view c.unmark.new.pass.seat.me.0.view c.remove_first.new.pass.seat.me.0.view (summing c.args.pass.now.seat.me.0.view.ext.sem) c.unmark.ensures.kept c.unmark.ensures.later c.remove_first.result c.remove_first.ensures.gone c.clear_flags.new.pass.seat.me.0.view c.if-remove_first.true c.clear_flags.ensures.kept
+returns-then-remove_first-clause-left g c = left-empty c.args.woken.now.items c.args.pass.now.seat.me.0.view c.unmark.new.pass.seat.me.0.view c.remove_first.new.pass.seat.me.0.view (summing c.args.pass.now.seat.me.0.view.ext.sem) c.unmark.ensures.kept c.unmark.ensures.later c.remove_first.result c.remove_first.ensures.gone c.clear_flags.new.pass.seat.me.0.view c.if-remove_first.true c.requires.empty c.clear_flags.ensures.kept
 
 pub returns-else-remove_first-clause-left : goal.returns-else-remove_first-clause-left
-returns-else-remove_first-clause-left g c = left-others c.args.pass.now.seat.me.0.view c.unmark.new.pass.seat.me.0.view c.remove_first.new.pass.seat.me.0.view (summing c.args.pass.now.seat.me.0.view.ext.sem) c.unmark.ensures.kept c.unmark.ensures.later c.remove_first.result c.remove_first.ensures.gone c.wake.new.pass.seat.me.0.view c.if-remove_first.false c.wake.ensures.wakes.beside c.wake.ensures.wakes.rests
+returns-else-remove_first-clause-left g c = left-others c.wake.new.woken.items c.args.pass.now.seat.me.0.view c.unmark.new.pass.seat.me.0.view c.remove_first.new.pass.seat.me.0.view (summing c.args.pass.now.seat.me.0.view.ext.sem) c.unmark.ensures.kept c.unmark.ensures.later c.remove_first.result c.remove_first.ensures.gone c.wake.new.pass.seat.me.0.view c.if-remove_first.false c.wake.ensures.wakes.beside c.wake.ensures.wakes.rests c.wake.ensures.wakes.chosen
 
 pub returns-then-remove_first-clause-woken : goal.returns-then-remove_first-clause-woken
 returns-then-remove_first-clause-woken g c = wakes-nobody c.remove_first.new.pass.seat.me.0.view.ext.list.list (without c.args.task c.args.pass.now.seat.me.0.view.ext.list.list) c.args.woken.now.items (seen_of c.args.pass.now) (seen_of c.clear_flags.new.pass)

@@ -24,7 +24,7 @@ remove-requires-clause-still g c = c.loop-task.invariant.removed.list.still
 
 pub remove-requires-clause-host : goal.remove-requires-clause-host
 remove-requires-clause-host g c = let own = some-number c.args.pass.now.face.task c.requires.numbered in
-    removed-may c.args.pass.now.seat.me.0.view c.args.batch.now c.loop-task.task-index c.loop-task.pass.seat.me.0.view c.loop-task.invariant.removed c.loop-task-test.true c.requires.few (own.0, sym c.requires.own.task ∙ own.1)
+    removed-may c.args.pass.now.seat.me.0.view c.args.batch.now c.loop-task.task-index c.loop-task.pass.seat.me.0.view c.loop-task.invariant.removed c.loop-task-test.true c.requires.few (own.0, sym c.requires.own.task ∙ own.1) c.requires.keeps
 
 pub loop-task-preserved : goal.loop-task-preserved
 loop-task-preserved g c = record {

@@ -10,7 +10,7 @@ use Rattle.rwsem_slow.proofs.spinning.take.Goals as goal
 
 pub step-found-requires-clause-lets : goal.step-found-requires-clause-lets
 step-found-requires-clause-lets g c = let t = some-number c.args.pass.now.face.task c.requires.numbered in
-    unqueued-takes g.O.Object.object g.O.Object.WORDS c.args.site.now.table.shared.key _ _ t.0 c.args.word _ (sym c.requires.own.task ∙ t.1) (sym c.requires.own.held ∙ c.requires.out) c.requires.apart c.requires.free c.requires.lawful
+    unqueued-takes g.O.Object.object g.O.Object.WORDS c.args.site.now.table.shared.key _ _ t.0 c.args.word _ (sym c.requires.own.task ∙ t.1) (sym c.requires.own.held ∙ c.requires.out) c.requires.apart c.requires.clear c.requires.free c.requires.lawful
 
 pub returns-then-found-word-clause-own : goal.returns-then-found-word-clause-own
 returns-then-found-word-clause-own g c = let told = c.step-found.ensures.told.0 c.if-found-word.true in

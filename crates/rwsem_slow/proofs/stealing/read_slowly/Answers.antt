@@ -1,4 +1,4 @@
-use Rattle.std.proofs.Common.{◌∙◌, sym, ap, arith}
+use Rattle.std.proofs.Common.{◌∙◌, sym, subst, ap, arith}
 use Rattle.lock_core.specs.declared.how.Interrupted.{Interrupted}
 use Rattle.lock_core.specs.declared.view.Hand.{Hand}
 use Rattle.lock_core.specs.Locking.{SawPending}
@@ -6,12 +6,12 @@ use Rattle.lock_core.proofs.Within.{err-map, pending-within}
 use Rattle.rwsem_count.specs.Counts.{shared_weight}
 use Rattle.rwsem_wake.specs.declared.view.SemHand.{SemHand}
 use Rattle.rwsem_slow.specs.Places.{seen_of}
-use Rattle.rwsem_slow.specs.RwSems.{V}
+use Rattle.rwsem_slow.specs.RwSems.{V, IsDone}
 use Rattle.rwsem_slow.proofs.BiasHolds.{consumed-on, keeps-line-on, line-on, lock-on, shares-on, shares-takes, still-transit, waited-on}
 use Rattle.rwsem_slow.proofs.stealing.read_slowly.Goals as goal
 
 pub wake_beside-requires-clause-outside : goal.wake_beside-requires-clause-outside
-wake_beside-requires-clause-outside g c = let s = c.steal.ensures.took c.if-steal.true in let noted = c.note_reader.ensures.kept in record { apart = ap (λ (z : V). z.ext.sem) noted ∙ s.sem; still = ap (λ (z : V). z.ext.list.changes) noted ∙ s.still }
+wake_beside-requires-clause-outside g c = let s = c.steal.ensures.took c.if-steal.true in let noted = c.note_reader.ensures.kept in record { apart = ap (λ (z : V). z.ext.sem) noted ∙ s.sem; still = ap (λ (z : V). z.ext.list.changes) noted ∙ s.still; done = subst IsDone (sym (ap (λ (z : V). z.ext.wake) noted)) s.done }
 
 pub wake_beside-requires-clause-may : goal.wake_beside-requires-clause-may
 wake_beside-requires-clause-may g c = let s = c.steal.ensures.took c.if-steal.true in let noted = c.note_reader.ensures.kept in (ap (λ (z : V). shared_weight z.hand.held) noted ∙ ap (λ (h : Hand). shared_weight h.held) s.hand, ap (λ (z : V). z.ext.sem.wait) noted ∙ ap (λ (x : SemHand). x.wait) s.sem)

@@ -8,14 +8,14 @@ use Rattle.rwsem_count.specs.declared.view.Bias.TheVariants.{Clear}
 use Rattle.rwsem_count.proofs.Sitting.{some-number, sits-took}
 use Rattle.rwsem_wake.specs.declared.view.SemHand.{SemHand}
 use Rattle.rwsem_wake.proofs.Holding.{holds-by}
-use Rattle.rwsem_slow.specs.RwSems.{V, biased, with_sem}
+use Rattle.rwsem_slow.specs.RwSems.{V, biased, with_sem, with_wake}
 use Rattle.rwsem_slow.specs.Stealing.{MaySteal}
 use Rattle.rwsem_slow.proofs.BiasHolds.{next-leaves, steals, stolen}
 use Rattle.rwsem_slow.proofs.stealing.steal.Goals as goal
 
 pub step-hint-requires-clause-lets : goal.step-hint-requires-clause-lets
 step-hint-requires-clause-lets g c = let own = some-number c.args.pass.now.face.task c.requires.numbered in
-    steals g.O.Object.object g.O.Object.WORDS c.args.site.now.table.shared.key _ _ own.0 c.requires.transit.0.0 _ (sym c.requires.own.task ∙ own.1) (sym c.requires.own.held ∙ c.requires.out) (ap (λ (s : SemHand). s.wait) c.requires.transit.0.1) (ap (λ (s : SemHand). s.bias) c.requires.transit.0.1) (ap (λ (s : SemHand). s.rest) c.requires.transit.0.1)
+    steals g.O.Object.object g.O.Object.WORDS c.args.site.now.table.shared.key _ _ own.0 c.requires.transit.transit.0 _ (sym c.requires.own.task ∙ own.1) (sym c.requires.own.held ∙ c.requires.out) (ap (λ (s : SemHand). s.wait) c.requires.transit.transit.1) (ap (λ (s : SemHand). s.bias) c.requires.transit.transit.1) (ap (λ (s : SemHand). s.rest) c.requires.transit.transit.1) (ap (λ (s : SemHand). s.stage) c.requires.transit.transit.1) c.requires.transit.done.clear
 
 pub returns-then-may_steal-clause-own : goal.returns-then-may_steal-clause-own
 returns-then-may_steal-clause-own g c = let gets = c.step-hint.ensures.told.0 (subst (λ (z : ℕ). MaySteal z c.step-hint.result) c.requires.left (c.may_steal.ensures.0 c.if-may_steal.true)) in
@@ -25,7 +25,7 @@ returns-then-may_steal-clause-own g c = let gets = c.step-hint.ensures.told.0 (s
 
 pub returns-then-may_steal-clause-took : goal.returns-then-may_steal-clause-took
 returns-then-may_steal-clause-took g c = λ is. stolen g.O.Object.object c.args.site.now.table.shared.key c.args.pass.now.seat.me.0.view c.set_held.new.self.seat.me.0.view c.requires.transit
-    (holds-by with_sem g.O.Object.object c.args.site.now.table.shared.key Shared _ c.args.pass.now.seat.me c.step-hint.new.pass.seat.me c.set_held.new.self.seat.me.0.view c.requires.own.plan (ap (λ s. s.me.0.view) c.set_held.ensures.seat)
+    (holds-by with_sem with_wake g.O.Object.object c.args.site.now.table.shared.key Shared _ _ c.args.pass.now.seat.me c.step-hint.new.pass.seat.me c.set_held.new.self.seat.me.0.view c.requires.own.plan (ap (λ s. s.me.0.view) c.set_held.ensures.seat)
     (c.step-hint.ensures.told.0 (subst (λ (z : ℕ). MaySteal z c.step-hint.result) c.requires.left (c.may_steal.ensures.0 c.if-may_steal.true))))
 
 pub returns-then-may_steal-clause-let_in : goal.returns-then-may_steal-clause-let_in

@@ -16,4 +16,4 @@ grant_removed-requires-clause-whole g c = let v = c.args.pass.now.seat.me.0.view
     has-whole v c.remove_batch-empty.new.pass.seat.me.0.view c.requires.list (first-reads v.ext.list.list c.args.first c.requires.first c.requires.reader) c.remove_batch-empty.ensures.removed
 
 pub returns-clause-granted : goal.returns-clause-granted
-returns-clause-granted g c = grants-removed c.args.pass.now.seat.me.0.view c.remove_batch-empty.new.pass.seat.me.0.view c.grant_removed.new.pass.seat.me.0.view c.grant_removed.ensures.later c.remove_batch-empty.ensures.removed c.grant_removed.ensures.kept
+returns-clause-granted g c = grants-removed c.args.pass.now.seat.me.0.view c.remove_batch-empty.new.pass.seat.me.0.view c.grant_removed.new.pass.seat.me.0.view c.grant_removed.ensures.later (let n = ap (λ (z : List ℕ). length z) c.remove_batch-empty.ensures.batch in let some = c.remove_batch-empty.ensures.some in omega (arith, n, some)) c.remove_batch-empty.ensures.removed c.grant_removed.ensures.kept

@@ -2,7 +2,8 @@ use Rattle.std.proofs.Common.{◌∙◌, ◌<◌, ℕ, List, length, get_or, sym
 use Rattle.wait_list.specs.declared.view.Waiter.{Waiter}
 use Rattle.wait_list.proofs.Waiters.{few-tasks}
 use Rattle.rwsem_wake.specs.Batches.{batch_of}
-use Rattle.rwsem_slow.specs.RwSems.{V, MayPick}
+use Rattle.rwsem_wake.specs.Grants.{KeepsOut}
+use Rattle.rwsem_slow.specs.RwSems.{V, MayPick, sem_of}
 use Rattle.rwsem_slow.specs.Removals.{AreHeads, BeginsWith, RemovesAll, without_all}
 use Rattle.rwsem_slow.proofs.Removing.{batch-begins, batch-heads, batch-some, empty-is, first-reads, heads-few, heads-small, length-all, removes-since}
 use Rattle.rwsem_slow.proofs.Walking.{knows-on}
@@ -13,6 +14,9 @@ remove_all-requires-clause-list g c = knows-on c.args.pass.now.seat.me.0.view c.
 
 pub remove_all-requires-clause-may : goal.remove_all-requires-clause-may
 remove_all-requires-clause-may g c = subst (λ (z : V). MayPick z.ext.sem) (sym c.read_list.ensures.kept) c.requires.may
+
+pub remove_all-requires-clause-keeps : goal.remove_all-requires-clause-keeps
+remove_all-requires-clause-keeps g c = subst (KeepsOut sem_of) (sym c.read_list.ensures.kept) c.requires.keeps
 
 pub remove_all-requires-clause-few : goal.remove_all-requires-clause-few
 remove_all-requires-clause-few g c = let l = c.args.pass.now.seat.me.0.view.ext.list.list in let is = c.as_slice-picked.ensures.value ∙ (c.batch.ensures ∙ ap (batch_of 256) (c.as_slice-known.ensures.value ∙ c.read_list.ensures.read)) in

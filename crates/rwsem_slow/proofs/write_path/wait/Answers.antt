@@ -1,5 +1,4 @@
-use Rattle.std.proofs.Common.{◌∙◌, ap, arith, rules}
-use Rattle.cpu_task.specs.Counting.{one_more}
+use Rattle.std.proofs.Common.{◌∙◌, refl, ap, arith, rules}
 use Rattle.lock_core.specs.declared.view.Hand.{Hand}
 use Rattle.rwsem_slow.specs.RwSems.{V}
 use Rattle.rwsem_slow.specs.Places.{seen_of}
@@ -7,7 +6,8 @@ use Rattle.lock_core.proofs.Within.{pending-within}
 use Rattle.lock_core.specs.declared.how.How.TheVariants.{Slept}
 use Rattle.lock_core.specs.declared.view.Held.TheVariants.{Alone}
 use Rattle.rwsem_slow.specs.Opening.{IsOpen}
-use Rattle.rwsem_slow.proofs.Counting.{turns-again}
+use Rattle.sem_duty.specs.declared.view.SemWake.{SemWake}
+use Rattle.rwsem_slow.proofs.Counting.{dozes-again, once-within, turns-again, turns-moved}
 use Rattle.rwsem_slow.proofs.Opening.{takes-behind}
 use Rattle.rwsem_slow.proofs.write_path.wait.Goals as goal
 
@@ -21,15 +21,19 @@ returns-then-try_queued-clause-opened g c = let on = c.loop.invariant.2 in
     takes-behind c.args.site.now Alone (IsOpen Slept) c.args.pass.now c.loop.pass c.try_queued.new.pass c.requires.own on.own on.task on.steps on.goes_on (c.try_queued.ensures.opened c.if-try_queued.true)
 
 pub returns-then-try_queued-clause-slept : goal.returns-then-try_queued-clause-slept
-returns-then-try_queued-clause-slept g c = let turns = c.loop.invariant.7 in let is = turns.1 in let tries = c.try_queued.ensures.entries in (turns.0, omega (arith, is, tries), c.try_queued.ensures.sleeps ∙ turns.2)
+returns-then-try_queued-clause-slept g c = let tries = c.try_queued.ensures.entries in turns-moved _ _ _ _ _ _ _ _ c.loop.invariant.7 (omega (arith, tries)) refl c.try_queued.ensures.sleeps
 
 pub returns-in-Some-sleep-clause-awake : goal.returns-in-Some-sleep-clause-awake
-returns-in-Some-sleep-clause-awake g c = let tries = c.try_queued.ensures.entries in let enters = c.sleep.ensures.entries in let turns = c.loop.invariant.7 in let is = turns.1 in
-    (turns.0, omega (arith, tries, enters, is), c.in-Some-sleep.ensures.awake ∙ (c.try_queued.ensures.sleeps ∙ turns.2))
+returns-in-Some-sleep-clause-awake g c = let tries = c.try_queued.ensures.entries in let enters = c.sleep.ensures.entries in
+    turns-moved _ _ _ _ _ _ _ _ c.loop.invariant.7 (omega (arith, tries, enters)) refl (c.in-Some-sleep.ensures.awake ∙ c.try_queued.ensures.sleeps)
+
+pub returns-in-Some-sleep-clause-dozed : goal.returns-in-Some-sleep-clause-dozed
+returns-in-Some-sleep-clause-dozed g c = dozes-again _ _ _ _ _ _ _ c.loop.invariant.10 refl (once-within _ _ _ _ _ _ _ _ c.try_queued.ensures.sleeps (ap (λ (b : SemWake). b.dozes) c.try_queued.ensures.waits.is) c.in-Some-sleep.ensures.dozed refl refl)
 
 -- it sleeps, and takes the wait lock anew
 pub loop-preserved : goal.loop-preserved
-loop-preserved g c = let tries = c.try_queued.ensures.entries in let enters = c.sleep.ensures.entries in let turns = c.loop.invariant.7 in (
+loop-preserved g c = let tries = c.try_queued.ensures.entries in let enters = c.sleep.ensures.entries in let i = c.loop.invariant in
+    let once = once-within _ _ _ _ _ _ _ _ c.try_queued.ensures.sleeps (ap (λ (b : SemWake). b.dozes) c.try_queued.ensures.waits.is) c.in_default.ensures.dozed refl refl in (
   tt,
   tt,
   search rules,
@@ -37,6 +41,8 @@ loop-preserved g c = let tries = c.try_queued.ensures.entries in let enters = c.
   search rules,
   search rules,
   search rules,
-  turns-again _ _ _ _ _ _ turns (omega (arith, tries, enters)) (c.in_default.ensures.slept ∙ ap one_more c.try_queued.ensures.sleeps),
+  turns-again _ _ _ _ _ _ _ _ i.7 (omega (arith, tries, enters)) once,
   search rules,
+  search rules,
+  dozes-again _ _ _ _ _ _ _ i.10 refl once,
 )

@@ -2,8 +2,8 @@ use Rattle.std.proofs.Common.{◌≡◌, IsSome}
 use Rattle.lock_core.specs.declared.view.Held.TheVariants.{No}
 use Rattle.lock_core.specs.Views.{SpinHolds}
 use Rattle.rwsem_wake.specs.declared.view.Wait.TheVariants.{Writes}
-use Rattle.rwsem_slow.specs.Counting.{SleepsEachTurn}
-use Rattle.rwsem_slow.specs.Places.{StepsOn}
+use Rattle.cpu_task.specs.Counting.{Dozes, SleepsInTurns}
+use Rattle.rwsem_slow.specs.Places.{AreCounts, StepsOn, dozes_of}
 use Rattle.rwsem_slow.specs.Queued.{WaitsOn}
 use Rattle.rwsem_slow.proofs.write_path.wait.Given as goal
 
@@ -11,4 +11,5 @@ abbrev pub invariant-loop : goal.invariant-loop
 invariant-loop g l = let v = l.fn.pass.seat.me.0.view in let u = l.pass.seat.me.0.view in
     (goal.iterator-loop g).can_next l.iterator' × (goal.iterator-loop g).is_finite l.iterator'
     × StepsOn l.site l.fn.pass l.pass × IsSome l.pass.face.task × (l.pass.face.held ≡ No) × SpinHolds u.spin × WaitsOn Writes v u
-    × SleepsEachTurn v.spin.entries u.spin.entries (g.C.Cpu.sleeps l.fn.cpu) (g.C.Cpu.sleeps l.cpu) × (g.C.Cpu.rescheds l.cpu ≡ g.C.Cpu.rescheds l.fn.cpu)
+    × SleepsInTurns v.spin.entries u.spin.entries (g.C.Cpu.sleeps l.fn.cpu) (g.C.Cpu.sleeps l.cpu) × (g.C.Cpu.rescheds l.cpu ≡ g.C.Cpu.rescheds l.fn.cpu) × AreCounts l.counts u
+    × Dozes (g.C.Cpu.sleeps l.fn.cpu) (g.C.Cpu.sleeps l.cpu) (dozes_of v) (dozes_of u)

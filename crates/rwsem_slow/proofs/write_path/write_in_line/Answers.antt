@@ -6,9 +6,9 @@ use Rattle.lock_core.specs.declared.how.How.TheVariants.{Slept}
 use Rattle.lock_core.specs.declared.pass.Face.{Face}
 use Rattle.lock_core.specs.declared.view.Held.TheVariants.{Alone}
 use Rattle.lock_core.specs.declared.view.SpinHand.{SpinHand}
-use Rattle.rwsem_slow.specs.Counting.{slept}
 use Rattle.rwsem_slow.specs.Opening.{IsOpen}
 use Rattle.rwsem_slow.specs.RwSems.{V}
+use Rattle.rwsem_slow.proofs.Counting.{turns-moved}
 use Rattle.rwsem_slow.proofs.Opening.{takes-before, takes-behind}
 use Rattle.rwsem_slow.proofs.write_path.write_in_line.Goals as goal
 
@@ -32,9 +32,9 @@ returns-in_default-clause-opened g c = let site = c.args.site.now in let took = 
     c.quit_taken.ensures.gone.later c.quit_taken.ensures.goes_on) (omega (arith, steps)) c.unlock.ensures.goes_on
 
 pub returns-in_default-clause-turns : goal.returns-in_default-clause-turns
-returns-in_default-clause-turns g c = let turns = c.in_default.ensures.slept in let is = turns.1 in let enters = c.lock.ensures.gained.counted in let queues = ap (λ (s : SpinHand). s.entries) c.queue.ensures.spin in let quits = ap (λ (z : V). z.spin.entries) c.quit_taken.ensures.gone.is in let leaves = ap (λ (z : V). z.spin.entries) c.unlock.ensures.kept in
-    (turns.0, omega (arith, is, enters, queues, quits, leaves), turns.2 ∙ ap (slept turns.0) c.queue.ensures.sleeps)
+returns-in_default-clause-turns g c = let enters = c.lock.ensures.gained.counted in let queues = ap (λ (s : SpinHand). s.entries) c.queue.ensures.spin in let quits = ap (λ (z : V). z.spin.entries) c.quit_taken.ensures.gone.is in let leaves = ap (λ (z : V). z.spin.entries) c.unlock.ensures.kept in
+    turns-moved _ _ _ _ _ _ _ _ c.in_default.ensures.slept (omega (arith, enters, queues, quits, leaves)) c.queue.ensures.sleeps refl
 
 pub returns-clause-awake : goal.returns-clause-awake
-returns-clause-awake g c = let turns = c.in-Err.ensures.awake in let is = turns.1 in let enters = c.lock.ensures.gained.counted in let queues = ap (λ (s : SpinHand). s.entries) c.queue.ensures.spin in let leaves = c.interrupt.ensures.entries in
-    (turns.0, omega (arith, is, enters, queues, leaves), c.interrupt.ensures.sleeps ∙ (turns.2 ∙ ap (slept turns.0) c.queue.ensures.sleeps))
+returns-clause-awake g c = let enters = c.lock.ensures.gained.counted in let queues = ap (λ (s : SpinHand). s.entries) c.queue.ensures.spin in let leaves = c.interrupt.ensures.entries in
+    turns-moved _ _ _ _ _ _ _ _ c.in-Err.ensures.awake (omega (arith, enters, queues, leaves)) c.queue.ensures.sleeps c.interrupt.ensures.sleeps

@@ -1,5 +1,7 @@
-use Rattle.std.proofs.Common.{ap}
+use Rattle.std.proofs.Common.{◌∙◌, ap}
 use Rattle.rwsem_wake.specs.declared.view.SemHand.{SemHand}
+use Rattle.rwsem_slow.specs.RwSems.{V}
+use Rattle.rwsem_slow.proofs.Vigils.{tried-same}
 use Rattle.rwsem_slow.proofs.WriterSteps.{ask-done}
 use Rattle.rwsem_slow.proofs.Joining.{code-waits}
 use Rattle.rwsem_slow.proofs.writing.ask.Goals as goal
@@ -15,3 +17,6 @@ mark_asked-requires-clause-writes g c = ap (λ (s : SemHand). s.wait) (ask-done 
 
 pub mark_asked-requires-clause-clear : goal.mark_asked-requires-clause-clear
 mark_asked-requires-clause-clear g c = ap (λ (s : SemHand). s.bias) (ask-done c.args.pass.now.seat.me.0.view c.ask-found.new.pass.seat.me.0.view c.args.old c.ask-found.result c.requires.queued c.ask-found.ensures.kept c.if-found-old.false)
+
+pub returns-clause-tried : goal.returns-clause-tried
+returns-clause-tried g c = tried-same c.args.pass.now.seat.me.0.view c.mark_asked.new.pass.seat.me.0.view (ap (λ (z : V). z.ext.wake) c.mark_asked.ensures.kept ∙ ap (λ (z : V). z.ext.wake) c.ask-found.ensures.kept) c.requires.tried

@@ -7,5 +7,5 @@ use Rattle.rwsem_slow.proofs.Opening.{takes-behind}
 use Rattle.rwsem_slow.proofs.writing.try_queued.Goals as goal
 
 pub returns-clause-opened : goal.returns-clause-opened
-returns-clause-opened g c = λ is. let e = c.stand.ensures in
-    takes-behind c.args.site.now Alone (IsOpen Slept) c.args.pass.now c.stand.new.pass c.try_standing.new.pass c.requires.own e.own (ap (λ (f : Face). f.task) e.face) e.kept.later e.goes_on (c.try_standing.ensures.opened is)
+returns-clause-opened g c = λ is. let e = c.stand-standing.ensures in
+    takes-behind c.args.site.now Alone (IsOpen Slept) c.args.pass.now c.stand-standing.new.pass c.try_standing.new.pass c.requires.own e.own (ap (λ (f : Face). f.task) e.face) e.kept.later e.goes_on (c.try_standing.ensures.opened is)

@@ -8,6 +8,8 @@ use Rattle.lock_core.proofs.Sitting.{sits-on}
 use Rattle.rwsem_count.specs.declared.view.Bias.TheVariants.{Clear}
 use Rattle.rwsem_count.proofs.Sitting.{some-number, sits-took}
 use Rattle.rwsem_wake.specs.Queues.{settled}
+use Rattle.rwsem_wake.proofs.WakeKinds.{wakes-settle}
+use Rattle.rwsem_wake.specs.Grants.{sem_part}
 use Rattle.rwsem_wake.proofs.Holding.{holds-by, shared-holds, busy-held}
 use Rattle.rwsem_wake.proofs.Stepping.{count-holds}
 use Rattle.rwsem_wake.proofs.QueueSteps.{on-settle}
@@ -15,9 +17,9 @@ use Rattle.rwsem_wake.proofs.queueing.settle.Goals as goal
 
 pub step-requires-clause-lets : goal.step-requires-clause-lets
 step-requires-clause-lets g c = let k = c.args.site.now.table.shared.key in let v = c.args.pass.now.seat.me.0.view in let own = some-number c.args.pass.now.face.task c.requires.numbered in let t0 = own.0 in let has = sym c.requires.own.task ∙ own.1 in
-    count-holds g.H.O.Object.object g.H.SiteRule.unavailable g.H.O.Object.WORDS k g.H.SpinHost.LOCKS g.H.SpinHost.FIRST g.H.ListHost.LIST g.H.CountHost.COUNT g.H.GrantHost.MARKS g.H.GrantHost.GRANTS g.H.ListHost.list g.H.GrantHost.sem g.H.GrantHost.with_sem (g.H.SiteRule.holds k) (g.H.SiteRule.moves k) (g.H.ListHost.queue k) (g.met.H.SiteRule.site_kept k) (g.met.H.SpinHost.spin_kept k) (g.met.H.ListHost.queued k) (g.H.ListHost.list_kept k) g.met.H.GrantHost.sem_places (g.met.H.GrantHost.sem_kept k) (g.met.H.GrantHost.sem_only k) (g.met.H.GrantHost.sems k)
-    _ _ _ t0 _ Load Shared (λ n. n % 2 == 0) (λ n. settled (g.H.GrantHost.sem v.ext) n) IsLawfulCount c.COUNT.ensures has (sym c.requires.own.held ∙ c.requires.out) (λ e. shared-holds e)
-    (λ n q marks grants sees loc only. let m = c.requires.may in let t = on-settle sees _ _ _ n q marks grants loc (only c.requires.held) t0 has m.transit.0 m.stage m.waits m.transit.1 (sym c.requires.own.held ∙ c.requires.out) m.knows m.nobody in (busy-held v.spin _ c.requires.held, t.0.0, t.0.1, t.1, t.2))
+    count-holds g.H.O.Object.object g.H.SiteRule.unavailable g.H.O.Object.WORDS k g.H.SpinHost.LOCKS g.H.SpinHost.FIRST g.H.ListHost.LIST g.H.CountHost.COUNT g.H.GrantHost.MARKS g.H.GrantHost.GRANTS g.H.ListHost.list g.H.GrantHost.sem g.H.GrantHost.with_sem g.H.GrantHost.wake g.H.GrantHost.with_wake g.H.GrantHost.wake_same (g.H.SiteRule.holds k) (g.H.SiteRule.moves k) (g.H.ListHost.queue k) (g.met.H.SiteRule.site_kept k) (g.met.H.SpinHost.spin_kept k) (g.met.H.ListHost.queued k) (g.H.ListHost.list_kept k) g.met.H.GrantHost.sem_places (g.met.H.GrantHost.sem_kept k) (g.met.H.GrantHost.sem_only k) (g.met.H.GrantHost.sems k)
+    _ _ _ t0 _ Load Shared (λ n. n % 2 == 0) (λ n. settled (g.H.GrantHost.sem v.ext) n) (λ n. (g.H.GrantHost.wake v.ext)) IsLawfulCount c.COUNT.ensures has (sym c.requires.own.held ∙ c.requires.out) (λ e. shared-holds e)
+    (λ n q marks grants sees loc only. let m = c.requires.may in let t = on-settle sees _ _ _ n q marks grants loc (only c.requires.held) t0 has m.transit.0 m.stage m.waits m.transit.1 (sym c.requires.own.held ∙ c.requires.out) m.knows m.nobody in (busy-held v.spin _ c.requires.held, t.0.0, t.0.1, wakes-settle n q grants sees (sem_part g.H.GrantHost.sem v) (g.H.GrantHost.wake v.ext) _ m.transit.0 m.stage m.transit.1 (sym c.requires.own.held ∙ c.requires.out), t.1, t.2))
 
 pub returns-then-free-clause-own : goal.returns-then-free-clause-own
 returns-then-free-clause-own g c = let gets = c.step.ensures.told.1 (eq-eqb _ _ c.if-free.true) in
@@ -26,7 +28,7 @@ returns-then-free-clause-own g c = let gets = c.step.ensures.told.1 (eq-eqb _ _ 
     (c.set_held.ensures.face ∙ ap (λ (f : Face). record f { held = Shared }) c.step.ensures.face) c.requires.own
 
 pub returns-then-free-clause-took : goal.returns-then-free-clause-took
-returns-then-free-clause-took g c = λ is. (c.step.result, subst (λ (p : ℕ). FoundAt p c.step.result c.set_held.new.self.seat.me.0.past) c.COUNT.ensures (subst (FoundAt _ _) (sym (ap (λ s. s.me.0.past) c.set_held.ensures.seat)) c.step.ensures.found), c.if-free.true, holds-by g.H.GrantHost.with_sem g.H.O.Object.object c.args.site.now.table.shared.key Shared _ c.args.pass.now.seat.me c.step.new.pass.seat.me c.set_held.new.self.seat.me.0.view c.requires.own.plan (ap (λ s. s.me.0.view) c.set_held.ensures.seat) (c.step.ensures.told.1 (eq-eqb _ _ c.if-free.true)))
+returns-then-free-clause-took g c = λ is. (c.step.result, subst (λ (p : ℕ). FoundAt p c.step.result c.set_held.new.self.seat.me.0.past) c.COUNT.ensures (subst (FoundAt _ _) (sym (ap (λ s. s.me.0.past) c.set_held.ensures.seat)) c.step.ensures.found), c.if-free.true, holds-by g.H.GrantHost.with_sem g.H.GrantHost.with_wake g.H.O.Object.object c.args.site.now.table.shared.key Shared _ _ c.args.pass.now.seat.me c.step.new.pass.seat.me c.set_held.new.self.seat.me.0.view c.requires.own.plan (ap (λ s. s.me.0.view) c.set_held.ensures.seat) (c.step.ensures.told.1 (eq-eqb _ _ c.if-free.true)))
 
 pub returns-then-free-clause-goes_on : goal.returns-then-free-clause-goes_on
 returns-then-free-clause-goes_on g c = λ p t. subst (Tail p) (sym (ap (λ s. s.me.0.past) c.set_held.ensures.seat)) (c.step.ensures.goes_on p t)

@@ -12,7 +12,7 @@ mark_first-requires-clause-written g c = (c.args.seen, c.requires.reserved, c.re
 pub ask_handoff-requires-clause-marked : goal.ask_handoff-requires-clause-marked
 ask_handoff-requires-clause-marked g c = let with_sem = g.H.GrantHost.with_sem in let v = c.args.pass.now.seat.me.0.view in let s = g.H.GrantHost.sem v.ext in let u = c.mark_first.new.pass.seat.me.0.view in
     let after = sem-after with_sem g.H.GrantHost.sem g.H.GrantHost.sem_back v (marked s) u (only-one-step with_sem v (marked s) u c.mark_first.ensures.kept) in
-    subst (λ (z : SemHand). HasMarked z (c.args.seen / 4 % 2 == 1)) (sym after) record { word = c.args.seen; bias = c.requires.reserved.0; stage = ap (λ (b : Bias). Marked (saw_handoff b)) c.requires.reserved.0 }
+    subst (λ (z : SemHand). HasMarked z (c.args.seen / 4 % 2 == 1)) (sym after) record { word = c.args.seen; written = c.requires.written; bias = c.requires.reserved.0; stage = ap (λ (b : Bias). Marked (saw_handoff b)) c.requires.reserved.0 }
 
 pub returns-then-overdue-clause-kept : goal.returns-then-overdue-clause-kept
 returns-then-overdue-clause-kept g c = let with_sem = g.H.GrantHost.with_sem in let v = c.args.pass.now.seat.me.0.view in let s = g.H.GrantHost.sem v.ext in let u = c.mark_first.new.pass.seat.me.0.view in let w = c.ask_handoff.new.pass.seat.me.0.view in

@@ -4,11 +4,11 @@ use Rattle.wake_duty.proofs.Waking.{drowses}
 use Rattle.wake_duty.proofs.steps.drowse.Goals as goal
 
 pub step-requires : goal.step-requires
-step-requires g c = let k = c.args.site.now.table.shared.key in let s = g.H.WakeHost.wake_inside in let e = c.WAKE.ensures in let is = sym c.task.ensures ∙ c.in-Some.is in
+step-requires g c = let k = c.args.site.now.table.shared.key in let s = g.H.SleepHost.wake_inside in let e = c.WAKE.ensures in let is = sym c.task.ensures ∙ c.in-Some.is in
     let few = its-number c.args.site.now.table.shared.key c.args.site.now.table.shared.table_id c.args.pass.now.seat.table_id c.args.pass.now.seat.me c.args.pass.now.face c.args.site.now.small c.requires.own c.in-Some.me is in record {
       own = c.requires.own.own;
       inside = omega (arith, s, e, few);
-      lets = drowses (g.H.SiteRule.holds k) (g.H.SiteRule.moves k) (g.H.ListHost.queue k) g.H.WakeHost.WAKE g.H.WakeHost.wake g.H.WakeHost.with_wake (g.met.H.ListHost.queued k) (g.met.H.WakeHost.wake_kept k) (g.met.H.WakeHost.wakes k) _ _ _ c.in-Some.me _ (ap (λ n. n + 8 * c.in-Some.me) e) (sym c.requires.own.task ∙ is) few c.requires.out c.requires.tried;
+      lets = drowses (g.H.SiteRule.holds k) (g.H.SiteRule.moves k) (g.H.ListHost.queue k) g.H.SleepHost.WAKE (g.met.H.ListHost.queued k) g.H.SleepHost.vigil g.H.SleepHost.after_swap (g.met.H.SleepHost.wake_bits k) (g.met.H.SleepHost.swaps_word k) _ _ _ c.in-Some.me _ (ap (λ n. n + 8 * c.in-Some.me) e) (sym c.requires.own.task ∙ is) few c.requires.out c.requires.tried;
     }
 
 pub returns-clause-own : goal.returns-clause-own

@@ -4,13 +4,16 @@ use Rattle.wake_duty.proofs.Waking.{sets}
 use Rattle.wake_duty.proofs.steps.set.Goals as goal
 
 pub step-requires : goal.step-requires
-step-requires g c = let k = c.args.site.now.table.shared.key in let s = g.H.WakeHost.wake_inside in let e = c.WAKE.ensures in let few = c.requires.chosen.1 in record {
+step-requires g c = let k = c.args.site.now.table.shared.key in let s = g.H.SleepHost.wake_inside in let e = c.WAKE.ensures in let few = g.H.SleepHost.chosen_few c.args.pass.now.seat.me.0.view.ext c.args.target c.requires.chosen in record {
   own = c.requires.own.own;
   inside = omega (arith, s, e, few);
-  lets = sets (g.H.SiteRule.holds k) (g.H.SiteRule.moves k) (g.H.ListHost.queue k) g.H.WakeHost.WAKE g.H.WakeHost.wake g.H.WakeHost.with_wake (g.met.H.ListHost.queued k) (g.met.H.WakeHost.wake_kept k) (g.met.H.WakeHost.wakes k) _ _ _ c.args.target _ (ap (λ n. n + 8 * c.args.target) e) c.requires.chosen;
+  lets = sets (g.H.SiteRule.holds k) (g.H.SiteRule.moves k) (g.H.ListHost.queue k) g.H.SleepHost.WAKE (g.met.H.ListHost.queued k) g.H.SleepHost.has_chosen g.H.SleepHost.after_set (g.met.H.SleepHost.sets_word k) _ _ _ c.args.target _ (ap (λ n. n + 8 * c.args.target) e) c.requires.chosen;
 }
 
 pub returns-clause-own : goal.returns-clause-own
-returns-clause-own g c = let turn = c.step.ensures.told in
+returns-clause-own g c = let turn = c.step.ensures.told c.args.target (ap (λ n. n + 8 * c.args.target) c.WAKE.ensures) in
     sits-on c.args.site.now.table.shared.key c.args.site.now.table.shared.table_id c.args.pass.now.seat.table_id c.step.new.pass.seat.table_id c.args.pass.now.seat.me c.step.new.pass.seat.me c.args.pass.now.face c.step.new.pass.face
     c.step.ensures.own.0 turn.1 (ap (λ v. v.hand) turn.0) (let n = ap (λ v. v.steps) turn.0 in omega (arith, n)) c.step.ensures.face c.requires.own
+
+pub returns-clause-kept : goal.returns-clause-kept
+returns-clause-kept g c = (c.step.ensures.told c.args.target (ap (λ n. n + 8 * c.args.target) c.WAKE.ensures)).0

@@ -1,4 +1,4 @@
-use Rattle.std.proofs.Common.{◌≡◌, ◌∙◌, refl, ap}
+use Rattle.std.proofs.Common.{◌≡◌, ◌∙◌, refl, sym, ap, subst}
 use mathlib.Core.Option.{some}
 use Rattle.word_bits.specs.LockWords.{counted}
 use Rattle.lock_core.specs.Kinds.{semaphore}
@@ -12,10 +12,11 @@ use Rattle.lock_core.proofs.Showing.{latest-shown}
 use Rattle.osq_nodes.specs.Handles.{fronts_in}
 use Rattle.qspin_word.proofs.Turning.{numbers}
 use Rattle.qspin_queue.proofs.Recalling.{each-lock, each-move}
+use Rattle.sem_duty.specs.declared.view.SemWake.{SemWake}
 use Rattle.rwsem_wake.specs.declared.view.SemHand.{SemHand}
 use Rattle.rwsem_wake.specs.SemParts.{apart_hand}
 use Rattle.rwsem_slow.specs.Places.{line_of}
-use Rattle.rwsem_slow.specs.RwSems.{Kept, RwSemMoves, V, count_at, standing, wait_lock_at}
+use Rattle.rwsem_slow.specs.RwSems.{IsDone, Kept, RwSemMoves, V, count_at, standing, wait_lock_at}
 use Rattle.rwsem_slow.specs.RwSemLaws.{sem-site, sem-spin}
 use Rattle.rwsem_slow.specs.Handles.{newest}
 use Rattle.rwsem_slow.specs.Stated.{IsRwSemThen, stance, waits_on}
@@ -40,10 +41,23 @@ returns-clause-moves g c = let k = c.args.self.now.site.table.shared.key in let 
     ran-steps standing k count_at (newest k) _ (ran-so standing (newest k) (Moves (Kept o n k) (RwSemMoves k)) (IsSiteMove k count_at) (λ x y m. (m.0, m.3.site, m.4)) _ c.recall.ensures.run)
 
 pub returns-clause-out : goal.returns-clause-out
-returns-clause-out g c = let m = c.recall.ensures.marked in let u = c.recall.new.pass.seat.me.0.view in let apart : u.ext.sem ≡ apart_hand = ap (λ (v : V). v.ext.sem) c.recall.ensures.kept ∙ c.requires.own.outside.apart in record {
+returns-clause-out g c = let m = c.recall.ensures.marked in let u = c.recall.new.pass.seat.me.0.view in let kept = c.recall.ensures.kept in let apart : u.ext.sem ≡ apart_hand = ap (λ (v : V). v.ext.sem) kept ∙ c.requires.own.outside.apart in record {
   own = record { step = step-by u u.hand.task c.recall.new.pass.seat.me.0.past refl m.own; hand = refl; spin = m.own.spin };
-  marked = m.kept ∙ ap (λ (s : SemHand). some (stance s u.ext.appends)) apart;
+  wake = u.ext.wake;
+  done = subst IsDone (sym (ap (λ (v : V). v.ext.wake) kept)) c.requires.own.outside.done;
+  marked = m.kept ∙ ap (λ (s : SemHand). some (stance s u.ext.appends u.ext.wake)) apart;
 }
+
+pub returns-clause-counts : goal.returns-clause-counts
+returns-clause-counts g c = let m = c.recall.ensures.marked in let u = c.recall.new.pass.seat.me.0.view in let same : u.ext.wake ≡ c.args.pass.now.pass.seat.me.0.view.ext.wake = ap (λ (v : V). v.ext.wake) c.recall.ensures.kept in let counts = c.requires.own.counts in (
+  record { step = step-by u u.hand.task c.recall.new.pass.seat.me.0.past refl m.own; hand = refl; spin = m.own.spin },
+  (
+    u.ext.wake,
+    (u.ext.sem, u.ext.appends, m.kept),
+    ap (λ (b : SemWake). b.wakes) same ∙ sym counts.wakes,
+    ap (λ (b : SemWake). b.dozes) same ∙ sym counts.dozes,
+  ),
+)
 
 pub returns-clause-lists : goal.returns-clause-lists
 returns-clause-lists g c = let k = c.args.self.now.site.table.shared.key in let o = g.O.Object.object in let n = g.O.Object.WORDS in let own = c.recall.ensures.last in

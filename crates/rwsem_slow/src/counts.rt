@@ -1,0 +1,12 @@
+//! How often a pass wakes others, and sleeps.
+
+/// How many tasks a pass has woken, and how often it has fallen asleep. Each count stops at the
+/// last value of a u64.
+#[derive(Clone, Copy, Debug, PartialEq, Eq)]
+pub struct WakeCounts {
+    pub wakes: u64,
+    pub dozes: u64,
+}
+
+/// Those of a pass that has done neither.
+pub const NO_WAKES: WakeCounts = WakeCounts { wakes: 0, dozes: 0 };

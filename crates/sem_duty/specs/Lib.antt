@@ -1,0 +1,2 @@
+pub mod SemDuties
+pub mod SemDutyLaws
