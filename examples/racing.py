@@ -2,7 +2,7 @@
 import random
 
 
-def call_of(chance, tasks, is_space):
+def call_of(chance, tasks, is_space, version):
     """A call that meets those of other tasks on few pages or descriptors, in some mode."""
     if chance.random() < 0.08:
         return "", f"signal {chance.randrange(tasks)}"
@@ -15,17 +15,21 @@ def call_of(chance, tasks, is_space):
     prot = "".join(letter if chance.random() < 0.6 else "-" for letter in "rwx")
     fault = f"fault {start} {chance.choice('rwx')}"
     changes = [f"{verb} {start} {length} {prot}" for verb in ("map", "mapnew", "protect", "populate")]
-    return mode, chance.choice([fault, fault, *changes, f"unmap {start} {length}", f"map any {length} {prot}"])
+    changes += [f"unmap {start} {length}", f"map any {length} {prot}"]
+    if version == 2:
+        changes += [f"remap {start} {1 + length // 3} {chance.randrange(56)}"] * 2
+    return mode, chance.choice([fault, fault, *changes])
 
 
-def script(seed, tasks, calls, spaces=("a",), tables=("f",)):
-    """Tasks of so many calls each; seven calls in ten are on a space."""
+def script(seed, tasks, calls, spaces=1, tables=1, version=1):
+    """Tasks of so many calls each. Seven calls in ten are on a space; of version 2, a fifth of these are remaps."""
     chance = random.Random(seed)
-    lines = [f"space {name}" for name in spaces] + [f"table {name}" for name in tables]
+    spaces, tables = ([f"{letter}{number}" for number in range(count)] for letter, count in (("a", spaces), ("f", tables)))
+    lines = ["version 2"] * (version == 2) + [f"space {name}" for name in spaces] + [f"table {name}" for name in tables]
     for _ in range(tasks):
         lines.append("task")
         for _ in range(calls):
             is_space = chance.random() < 0.7
-            mode, call = call_of(chance, tasks, is_space)
+            mode, call = call_of(chance, tasks, is_space, version)
             lines.append(f"{mode}{chance.choice(spaces if is_space else tables)} {call}")
     return "\n".join(lines) + "\n"

@@ -1,9 +1,10 @@
 """A second reading of scripts and their texts, on pages and descriptors one by one.
 
 It shares nothing with the program. `faults` says what keeps a text from being that of one legal
-history for each object of a script: a reply that the calls before it don't give, a call that stands
-out of its task's order, one that is missing, a state that the calls don't leave.
+history for each object of a script, of version 1 or 2: a reply that the calls before it don't give, a
+call that stands out of its task's order, one that is missing, a state that the calls don't leave.
 """
+from collections import Counter, deque
 
 PAGES = 1_048_576
 AREAS = 256
@@ -46,7 +47,20 @@ class Space:
             start = page + 1
         return start if start + length <= PAGES else None
 
+    def remap(self, start, length, to):
+        """Moves the protection of each page of a range, all at once: no map is tested in between."""
+        if length == 0 or max(start, to) + length > PAGES or abs(to - start) < length:
+            return "EINVAL"
+        source, target = range(start, start + length), range(to, to + length)
+        if any(page not in self.pages for page in source):
+            return "EFAULT"
+        stay = {page: prot for page, prot in self.pages.items() if page not in source and page not in target}
+        moved = {to + place: self.pages[page] for place, page in enumerate(source)}
+        return self.becomes({**stay, **moved}, str(to))
+
     def apply(self, verb, words):
+        if verb == "remap":
+            return self.remap(*map(int, words))
         if verb == "fault":
             page, access = int(words[0]), words[1]
             if page not in self.pages:
@@ -80,9 +94,13 @@ class Space:
         return verb == "fault"
 
     @staticmethod
-    def is_unavailable(word, verb):
-        """Whether a count bars a try: a reader by a flag or a full count, a writer by any bit."""
-        return word & (1 | 2 | 4 | 1 << 63) != 0 if verb == "fault" else word != 0
+    def bars(word, verb, task, tasks):
+        """Whether this is a count that bars a try: a reader by a flag, a writer by any bit.
+
+        It has at most a bias for each task, and a waker's.
+        """
+        is_count = word & 0xF8 == 0 and word >> 8 <= tasks + 1
+        return is_count and (word & 7 if verb == "fault" else word) != 0
 
 
 class Table:
@@ -125,9 +143,9 @@ class Table:
         return verb == "get"
 
     @staticmethod
-    def is_unavailable(word, verb):
-        """Whether an owner word bars a try: it names a task."""
-        return word >= 8
+    def bars(word, verb, task, tasks):
+        """Whether this is an owner word that bars a task's try: it names another of the tasks."""
+        return 1 <= word >> 3 <= tasks and word >> 3 != task + 1
 
 
 def script_of(text):
@@ -135,7 +153,7 @@ def script_of(text):
     objects, tasks = {}, []
     for line in text.split("\n"):
         words = line.split("#")[0].split()
-        if not words:
+        if not words or words == ["version", "2"]:
             continue
         if words[0] in ("space", "table"):
             objects[words[1]] = Space() if words[0] == "space" else Table()
@@ -153,10 +171,9 @@ class History:
     def __init__(self, name, thing, tasks):
         self.name, self.thing, self.tasks = name, thing, tasks
         self.calls = [[number for number, call in enumerate(calls) if call[0] == name] for calls in tasks]
-        self.signals = [
-            sum(call[0] == name and call[2] == "signal" and int(call[3][0]) == task for calls in tasks for call in calls)
-            for task in range(len(tasks))
-        ]
+        self.signals = Counter(
+            int(words[0]) for calls in tasks for thing, _, verb, words in calls if thing == name and verb == "signal"
+        )
         self.seen = [0] * len(tasks)
         self.interrupts = [0] * len(tasks)
         self.logged, self.last = 0, None
@@ -166,11 +183,16 @@ class History:
         last, self.last = self.last, (task, number)
         return last is None or last < (task, number)
 
+    def is_barred(self, task, verb, word):
+        return str(int(word)) == word and self.thing.bars(int(word), verb, task, len(self.tasks))
+
     def follow(self, line):
         """What is wrong with this line as the next one, or nothing."""
         label, rest = line.split(" ", 1)
         task, number = map(int, label.split("."))
         text, reply = rest.rsplit(" = ", 1)
+        if task < 0 or label != f"{task}.{number}":
+            return "no number of a call"
         if not self.calls[task] or self.calls[task].pop(0) != number:
             return "another call of this task comes next"
         _, mode, verb, words = self.tasks[task][number]
@@ -179,7 +201,7 @@ class History:
         is_busy, is_interrupted, is_signal = reply.startswith("busy "), reply == "EINTR", verb == "signal"
         if is_busy or is_interrupted or is_signal:
             self.interrupts[task] += is_interrupted
-            if is_busy and (mode != "try" or not self.thing.is_unavailable(int(reply.split()[1]), verb)):
+            if is_busy and (mode != "try" or not self.is_barred(task, verb, reply.removeprefix("busy "))):
                 return "nothing barred this call"
             if is_interrupted and (mode != "int" or self.interrupts[task] > self.signals[task]):
                 return "no signal interrupted this call"
@@ -201,16 +223,16 @@ class History:
 def faults(script, text):
     """What is wrong with a text, or nothing."""
     objects, tasks = script_of(script)
-    lines = text.split("\n")
+    lines = deque(text.split("\n"))
     if lines.pop() != "":
         return "the last line has no end"
     for name, thing in objects.items():
         history = History(name, thing, tasks)
         kind = "space" if isinstance(thing, Space) else "table"
-        if not lines or lines.pop(0) != f"{kind} {name}":
+        if not lines or lines.popleft() != f"{kind} {name}":
             return f"{name} doesn't begin"
         for _ in range(sum(map(len, history.calls))):
-            line = lines.pop(0) if lines else "nothing"
+            line = lines.popleft() if lines else "nothing"
             try:
                 wrong = history.follow(line)
             except (ValueError, IndexError):
@@ -219,7 +241,7 @@ def faults(script, text):
                 return f"{name}: {line}: {wrong}"
         left = thing.left()
         for line in [f"left {len(left)}", *left]:
-            if not lines or lines.pop(0) != line:
+            if not lines or lines.popleft() != line:
                 return f"{name}: not left as {line}"
     return f"more lines: {lines[0]}" if lines else None
 

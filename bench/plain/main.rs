@@ -1,6 +1,7 @@
-//! What the program does, in plain Rust over the locks of its standard library, to compare times and
-//! instructions with. Each space is under a `RwLock`, each table under a `Mutex`. Modes and signals are
-//! read; a call with a mode waits as one without it, and no signal interrupts a wait.
+//! What the program does with scripts of version 1, in plain Rust over the locks of its standard
+//! library, to compare times and instructions with. A `version` line is refused. Each space is
+//! under a `RwLock`, each table under a `Mutex`. Modes and signals are read; a call with a mode
+//! waits as one without it, and no signal interrupts a wait.
 mod call;
 mod parse;
 mod report;

@@ -4,7 +4,7 @@ use Rattle.std.proofs.lemmas.Bool.Decides.{nat_tests}
 use Rattle.word_bits.specs.declared.call.CallWords.{CallWords}
 use Rattle.word_bits.specs.declared.call.Mode.{Mode}
 use Rattle.word_bits.proofs.Modes.{mode_number-lt, mode_at}
-use Rattle.word_bits.specs.Calls.{words_of, mode_number, kind_in, first_in, second_in, prot_in, access_in}
+use Rattle.word_bits.specs.Calls.{words_of, mode_number, kind_in, first_in, second_in, third_in, prot_in, access_in}
 use Rattle.word_bits.specs.Packed.{IsFound}
 use Rattle.fd_table.specs.declared.call.TableCall.{TableCall}
 use Rattle.fd_table.specs.declared.call.TableCall.TheVariants.{Open, Close, Dup, Dup2, Get}
@@ -15,13 +15,14 @@ call_of-words_of : (kind first second mode : ℕ) → kind < 2 ^ 8 → first < 2
 call_of-words_of kind first second mode k f m =
     let b = kind + 0 * 2 ^ 8 + 0 * 2 ^ 16 + mode * 2 ^ 24 in
     let a = first + second * 2 ^ 32 in
-    let e0 : b / 2 ^ 24 ≡ mode = omega arith in
+    let e0 : b / 2 ^ 24 % 2 ^ 8 ≡ mode = omega arith in
+    let e5 : b / 2 ^ 32 ≡ 0 = omega arith in
     let e1 : b % 2 ^ 8 ≡ kind = omega arith in
     let e2 : b / 2 ^ 8 % 2 ^ 8 ≡ 0 = omega arith in
     let e2' : b / 2 ^ 16 % 2 ^ 8 ≡ 0 = omega arith in
     let e3 : a % 2 ^ 32 ≡ first = omega arith in
     let e4 : a / 2 ^ 32 ≡ second = omega arith in
-    rw (e0, e1, e2, e2', e3, e4) (grind (arith, nat_tests))
+    rw (e0, e1, e2, e2', e3, e4, e5) (grind (arith, nat_tests))
 
 -- words that are packed from a valid call tell it
 call_of-packed : (call : TableCall) (mode : Mode) → IsCall call → call_of (words_of_call call mode) ≡ Some call
@@ -47,13 +48,19 @@ tests kind first second (Dup fd) e = grind (arith, nat_tests)
 tests kind first second (Dup2 fd to) e = grind (arith, nat_tests)
 tests kind first second (Get fd) e = grind (arith, nat_tests)
 
--- a call is read from words of a mode, with no protection and no access
-mode_test : (w : CallWords) (call : TableCall) → call_of w ≡ Some call → (w.b / 2 ^ 24 < 3) × (w.b / 2 ^ 8 % 2 ^ 16 ≡ 0) × (call_with (kind_in w) (first_in w) (second_in w) ≡ Some call)
+-- words of a mode with no protection, no access and no third number have no other bits
+abbrev IsBare : CallWords → Type 0
+IsBare w = (w.b / 2 ^ 24 < 3) × (w.b / 2 ^ 8 % 2 ^ 16 ≡ 0)
+
+-- a call is read from such words
+mode_test : (w : CallWords) (call : TableCall) → call_of w ≡ Some call → IsBare w × (call_with (kind_in w) (first_in w) (second_in w) ≡ Some call)
 mode_test w call e =
-    let t : (w.b / 2 ^ 24 < 3) × (prot_in w ≡ 0) × (access_in w ≡ 0) × (call_with (kind_in w) (first_in w) (second_in w) ≡ Some call) = grind (arith, nat_tests) in
+    let t : (w.b / 2 ^ 24 % 2 ^ 8 < 3) × (prot_in w ≡ 0) × (access_in w ≡ 0) × (third_in w ≡ 0) × (call_with (kind_in w) (first_in w) (second_in w) ≡ Some call) = grind (arith, nat_tests) in
+    let mode = t.0 in
     let prot = t.1 in
     let access = t.2 in
-    (t.0, omega arith, t.3)
+    let third = t.3 in
+    ((omega (arith, mode, third), omega (arith, prot, access)), t.4)
 
 -- the words of a call's kind and numbers are the words that were read
 words_of-fields : (w : CallWords) (kind first second mode : ℕ) → w.b / 2 ^ 8 % 2 ^ 16 ≡ 0 → w.b % 2 ^ 8 ≡ kind → w.a % 2 ^ 32 ≡ first → w.a / 2 ^ 32 ≡ second → mode ≡ w.b / 2 ^ 24 → words_of kind first second 0 0 mode ≡ w
@@ -73,8 +80,8 @@ tested-sound w (Get fd) none m t = (omega arith, (m.0, words_of-fields w 12 fd 0
 -- what is read is a valid call with these words
 pub call_of-sound : (w : CallWords) (call : TableCall) → call_of w ≡ Some call → IsCallOf w call
 call_of-sound w call e =
-    let (below, none, is) = mode_test w call e in
-    tested-sound w call none (mode_at (w.b / 2 ^ 24) below) (tests _ _ _ call is)
+    let (bare, is) = mode_test w call e in
+    tested-sound w call bare.1 (mode_at (w.b / 2 ^ 24) bare.0) (tests _ _ _ call is)
 
 -- a valid call is read from its words
 pub call_of-complete : (w : CallWords) (call : TableCall) → IsCallOf w call → call_of w ≡ Some call

@@ -1,5 +1,5 @@
 -- What the calls on a table of descriptors mean.
-use Rattle.std.specs.Prelude.{◌≡◌, ℕ, ◌+◌, ◌/◌, ◌%◌, ◌^◌, ◌<◌, ◌≤◌, ◌==◌, ◌&&◌, nat_lt, Bool, true, false, List, length, map, count_by, find, slice_index_or, Option, Some, None, IfSome, IsSome, is_some, is_none, if◌then◌else◌}
+use Rattle.std.specs.Prelude.{◌≡◌, ℕ, ◌+◌, ◌^◌, ◌<◌, ◌≤◌, ◌==◌, ◌&&◌, nat_lt, Bool, true, false, List, length, map, count_by, find, slice_index_or, Option, Some, None, IfSome, IsSome, is_some, is_none, if◌then◌else◌}
 use Rattle.std.specs.List.{range_with_len}
 use Rattle.std.specs.Option.{option_map_or}
 use Rattle.word_bits.specs.declared.call.CallWords.{CallWords}
@@ -7,7 +7,7 @@ use Rattle.word_bits.specs.declared.call.Mode.{Mode}
 use Rattle.word_bits.specs.declared.reply.Reply.{Reply}
 use Rattle.word_bits.specs.declared.reply.Reply.TheVariants.{Good, Num, Refused}
 use Rattle.word_bits.specs.declared.reply.Errno.TheVariants.{BadF, MFile}
-use Rattle.word_bits.specs.Calls.{words_of, mode_number, has_mode, kind_in, first_in, second_in, prot_in, access_in}
+use Rattle.word_bits.specs.Calls.{words_of, mode_number, has_mode, kind_in, first_in, second_in, third_in, prot_in, access_in}
 use Rattle.word_bits.specs.Objects.{Obj}
 use Rattle.fd_table.specs.declared.call.TableCall.{TableCall}
 use Rattle.fd_table.specs.declared.call.TableCall.TheVariants.{Open, Close, Dup, Dup2, Get}
@@ -108,7 +108,7 @@ call_with kind first second =
 -- the call whose words in some mode these are
 abbrev pub call_of : CallWords → Option TableCall
 call_of w =
-    if has_mode w && (prot_in w == 0) && (access_in w == 0) then call_with (kind_in w) (first_in w) (second_in w) else None
+    if has_mode w && (prot_in w == 0) && (access_in w == 0) && (third_in w == 0) then call_with (kind_in w) (first_in w) (second_in w) else None
 
 -- the word of a descriptor: 0, or the file's number plus 1
 abbrev pub slot_word : Option ℕ → ℕ

@@ -26,7 +26,7 @@ impl TableCall {
         ensures value { result ≡ call_of words }
         ensures exact { IsFound (IsCallOf words) result }
     {
-        if !words.has_mode() || words.prot() != 0 || words.access() != 0 {
+        if !words.has_mode() || words.prot() != 0 || words.access() != 0 || words.third() != 0 {
             return None;
         }
         let first = words.first();

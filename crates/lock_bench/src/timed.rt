@@ -1,5 +1,6 @@
 //! Rounds on any of the locks, on threads.
 ghost use Rattle.std.specs.Prelude.{◌≡◌, ◌<◌, ◌≤◌, ◌*◌, ℕ, length, All, IfOk};
+ghost use Rattle.word_bits.specs.declared.TheConstants.{MAX_TASKS};
 
 use std::alloc::{AllocError, Global};
 use std::io;
@@ -62,7 +63,7 @@ pub trait Timed: Sized {
         ensures made { made count worker.old worker.new };
 
     // A law: as many threads as there can be have room for a round each.
-    ghost enough: { 64 ≤ ROOM };
+    ghost enough: { MAX_TASKS ≤ ROOM };
 }
 
 /// Each worker makes so many rounds on a thread of its own, in the name of the task of its place.

@@ -3,7 +3,7 @@ use Rattle.std.proofs.Common.{◌≡◌, ℕ, ◌/◌, ◌%◌, ◌^◌, ◌<◌
 use Rattle.word_bits.specs.declared.call.CallWords.{CallWords}
 use Rattle.word_bits.specs.declared.entry.Entry.{Entry}
 use Rattle.word_bits.specs.declared.reply.Errno.{Errno}
-use Rattle.word_bits.specs.declared.reply.Errno.TheVariants.{BadF, NoMem, Exist, Inval, MFile}
+use Rattle.word_bits.specs.declared.reply.Errno.TheVariants.{BadF, NoMem, Exist, Inval, MFile, Fault}
 use Rattle.word_bits.specs.declared.reply.Reply.{Reply}
 use Rattle.word_bits.specs.declared.reply.Reply.TheVariants.{Good, Num, Refused, MapErr, AccErr, Busy, Intr, Sent}
 use Rattle.word_bits.specs.Replies.{errno_number}
@@ -24,6 +24,7 @@ errno-small NoMem = omega arith
 errno-small Exist = omega arith
 errno-small Inval = omega arith
 errno-small MFile = omega arith
+errno-small Fault = omega arith
 
 pub reply-small : (r : Reply) → IsObjectReply r → value_of r < 2 ^ 22
 reply-small Good i = omega arith

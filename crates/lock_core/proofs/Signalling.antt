@@ -36,7 +36,7 @@ bit-most true = omega arith
 bit-most false = omega arith
 
 -- at most one pass for each number, so as many at most have a signal in hand
-abbrev upto : ℕ → Hand → ℕ
+upto : ℕ → Hand → ℕ
 upto zero h = 0
 upto (suc m) h = named_of m h + upto m h
 
@@ -45,6 +45,7 @@ total-plus f g [] = refl
 total-plus f g (h ∷ hs) = let r = total-plus f g hs in omega (arith, r)
 
 total-upto : (m : ℕ) (hs : List Hand) → ((u : ℕ) → u < m → total (named_of u) hs ≤ 1) → total (upto m) hs ≤ m
+unfolding upto
 total-upto zero hs each = none hs
   where
     none : (hs : List Hand) → total (upto zero) hs ≤ 0
@@ -53,6 +54,7 @@ total-upto zero hs each = none hs
 total-upto (suc m) hs each = let r = total-upto m hs (λ u l. each u (omega (arith, l))) in let a = total-plus (named_of m) (upto m) hs in let b = each m (omega arith) in omega (arith, r, a, b)
 
 upto-has : (m t : ℕ) (h : Hand) → h.task ≡ Some t → t < m → 1 ≤ upto m h
+unfolding upto
 upto-has zero t h is l = absurd (omega (arith, l))
 upto-has (suc m) t h is l = dite (ℕ_discrete t m)
     (λ e. let a : named_of m h ≡ 1 = ap (is_number m) is ∙ (ap (λ (z : ℕ). is_number m (Some z)) e ∙ is_number-here m) in omega (arith, a))

@@ -1,5 +1,5 @@
 -- A pass between two tasks.
-use Rattle.std.specs.Prelude.{◌≡◌, ℕ, List, [], length, None}
+use Rattle.std.specs.Prelude.{◌≡◌, ℕ, List, [], All, length, None}
 use Rattle.word_bits.specs.declared.rec.Rec.{Rec}
 use Rattle.word_bits.specs.LockWords.{Unavailable}
 use Rattle.word_bits.specs.Objects.{Obj}
@@ -12,6 +12,10 @@ use Rattle.guarded.specs.Gathering.{HasDone}
 pub record IsFresh (v : Shown) : Type 0 where
   pub numberless : v.hand.task ≡ None
   pub unseen : v.hand.seen ≡ []
+
+-- each of the passes, which have a CPU each, is the lock's and fresh
+abbrev pub AreFresh : {P C : Type 0} → (sits : P → Type 0) → (view : P → Shown) → List (P × C) → Type 0
+AreFresh {P} {C} sits view members = All (λ m. sits m.0 × IsFresh (view m.0)) members
 
 -- it has no number any more, and knows the records of all calls of the task
 pub record HasDoneItsCalls {Call : Type 0} (o : Obj Call) (unavailable : Unavailable) (k : Plan) (t : ℕ) (v : Shown) : Type 0 where

@@ -4,7 +4,11 @@
 #[cfg(test)]
 mod at_once;
 #[cfg(test)]
+mod batch_tests;
+#[cfg(test)]
 mod calls;
+#[cfg(test)]
+mod crowd;
 #[cfg(test)]
 mod gate_tests;
 #[cfg(test)]
@@ -19,6 +23,8 @@ mod owner_tests;
 mod plans;
 #[cfg(test)]
 mod rounds;
+#[cfg(test)]
+mod semaphore;
 #[cfg(test)]
 mod serve;
 #[cfg(test)]

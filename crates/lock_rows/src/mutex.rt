@@ -5,5 +5,5 @@ mod interrupt_tests;
 mod lockers;
 mod thread_tests;
 mod wake_tests;
-mod watched;
+pub mod watched;
 mod word_tests;

@@ -1,5 +1,5 @@
 -- The texts that stand within a line, and what a byte that none of them has tells.
-use Rattle.std.proofs.Common.{◌≡◌, ℕ, ◌==◌, ◌&&◌, Bool, true, false, not, List, [], ◌∷◌, ◌++◌, refl, sym, ap, ◌∙◌, arith, codes}
+use Rattle.std.proofs.Common.{◌≡◌, ℕ, ◌==◌, Bool, true, not, List, [], ◌∷◌, ◌++◌, refl, sym, ap, ◌∙◌, arith, codes}
 use Rattle.std.specs.Prelude.{decimal}
 use Rattle.std.specs.List.{list_all}
 use Rattle.std.proofs.lemmas.Bool.{and_from, and_parts}
@@ -7,7 +7,7 @@ use Rattle.std.proofs.lemmas.Bool.Decides.{nat_tests}
 use Rattle.std.proofs.lemmas.List.Folds.{list_all-append}
 use Rattle.word_bits.specs.declared.call.CallWords.{CallWords}
 use Rattle.word_bits.specs.declared.reply.Errno.{Errno}
-use Rattle.word_bits.specs.declared.reply.Errno.TheVariants.{BadF, NoMem, Exist, Inval, MFile}
+use Rattle.word_bits.specs.declared.reply.Errno.TheVariants.{BadF, NoMem, Exist, Inval, MFile, Fault}
 use Rattle.word_bits.specs.declared.reply.Reply.{Reply}
 use Rattle.word_bits.specs.declared.reply.Reply.TheVariants.{Good, Num, Refused, MapErr, AccErr, Busy, Intr, Sent}
 use Rattle.task_script.specs.Texts.{call_text, prot_text}
@@ -48,6 +48,7 @@ errno_in_line NoMem = refl
 errno_in_line Exist = refl
 errno_in_line Inval = refl
 errno_in_line MFile = refl
+errno_in_line Fault = refl
 
 pub reply_in_line : (reply : Reply) → IsInLine (reply_text reply)
 reply_in_line Good = refl

@@ -1,5 +1,5 @@
 -- A reply is read again from its text, and from the line of its call.
-use Rattle.std.proofs.Common.{◌≡◌, ℕ, ◌+◌, ◌^◌, ◌<◌, ◌==◌, Bool, true, false, cond, List, [], ◌∷◌, ◌++◌, drop, refl, sym, ap, ◌∙◌, arith, append_assoc, codes, Option, Some, None}
+use Rattle.std.proofs.Common.{◌≡◌, ℕ, ◌^◌, ◌<◌, ◌==◌, Bool, true, false, cond, List, [], ◌∷◌, ◌++◌, drop, refl, sym, ap, ◌∙◌, arith, append_assoc, codes}
 use Rattle.std.specs.Prelude.{decimal}
 use Rattle.std.specs.Char.{is_ascii_digit}
 use Rattle.std.specs.List.{list_all}
@@ -11,7 +11,7 @@ use Rattle.std.proofs.lemmas.Fmt.{decimal_injective}
 use Rattle.std.proofs.lemmas.List.Folds.{list_all-append}
 use Rattle.word_bits.specs.declared.call.CallWords.{CallWords}
 use Rattle.word_bits.specs.declared.reply.Errno.{Errno}
-use Rattle.word_bits.specs.declared.reply.Errno.TheVariants.{BadF, NoMem, Exist, Inval, MFile}
+use Rattle.word_bits.specs.declared.reply.Errno.TheVariants.{BadF, NoMem, Exist, Inval, MFile, Fault}
 use Rattle.word_bits.specs.declared.reply.Reply.{Reply}
 use Rattle.word_bits.specs.declared.reply.Reply.TheVariants.{Good, Num, Refused, MapErr, AccErr, Busy, Intr, Sent}
 use Rattle.word_bits.specs.RecWord.{value_of}
@@ -37,9 +37,10 @@ fixed text =
     (cond (bytes_eq text (codes "EEXIST")) (Refused Exist)
     (cond (bytes_eq text (codes "EINVAL")) (Refused Inval)
     (cond (bytes_eq text (codes "EMFILE")) (Refused MFile)
+    (cond (bytes_eq text (codes "EFAULT")) (Refused Fault)
     (cond (bytes_eq text (codes "maperr")) MapErr
     (cond (bytes_eq text (codes "accerr")) AccErr
-    (cond (bytes_eq text (codes "EINTR")) Intr Sent))))))))
+    (cond (bytes_eq text (codes "EINTR")) Intr Sent)))))))))
 
 begins_busy : List ℕ → Bool
 begins_busy [] = false
@@ -66,6 +67,7 @@ refused_read NoMem = refl
 refused_read Exist = refl
 refused_read Inval = refl
 refused_read MFile = refl
+refused_read Fault = refl
 
 reply_read : (reply : Reply) → value_of reply < 2 ^ 22 → reply_in (reply_text reply) ≡ reply
 unfolding begins_with_digit begins_busy fixed reply_in

@@ -1,5 +1,5 @@
 -- Calls that are counted object by object.
-use Rattle.std.proofs.Common.{◌≡◌, ℕ, ◌+◌, ◌<◌, true, false, List, length, take, get_or, sym, ap, ◌∙◌, arith, ◌⊎◌, inl, inr}
+use Rattle.std.proofs.Common.{◌≡◌, ℕ, ◌+◌, ◌<◌, true, false, List, length, take, get_or, ap, ◌∙◌, arith, ◌⊎◌, inl, inr}
 use Rattle.std.specs.Prelude.{count_by}
 use Rattle.std.proofs.Math.ListN.{set}
 use Rattle.std.proofs.lemmas.Bool.{cases_eq}
@@ -12,7 +12,7 @@ use Rattle.task_script.specs.Scripts.{is_on}
 use Rattle.mm_report.specs.Results.{AddsCalls}
 
 -- one more call is counted on its object
-pub one_more_call : (lines : List Line) (i : ℕ) (d : Line) (old now : List ℕ) (count : ℕ) → i < length lines → length now ≡ 16 → (get_or lines i d).object < 16 → count ≡ get_or now (get_or lines i d).object 0 + 1 → AddsCalls (take i lines) old now
+pub one_more_call : (lines : List Line) (i : ℕ) (d : Line) (old now : List ℕ) (count : ℕ) → i < length lines → length now ≡ 32 → (get_or lines i d).object < 32 → count ≡ get_or now (get_or lines i d).object 0 + 1 → AddsCalls (take i lines) old now
     → AddsCalls (take (i + 1) lines) old (set now (get_or lines i d).object count)
 one_more_call lines i d old now count within all fits is so_far object below = go (cases_eq object (get_or lines i d).object)
   where

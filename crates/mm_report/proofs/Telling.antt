@@ -1,18 +1,13 @@
 -- A text that is cut into its lines again, object by object.
-use Rattle.std.proofs.Common.{◌≡◌, ℕ, ◌+◌, ◌/◌, ◌%◌, ◌<◌, ◌==◌, Bool, true, false, cond, not, zero, suc, List, [], ◌∷◌, ◌++◌, map, refl, sym, ap, ◌∙◌, subst, arith, append_assoc, codes, Option, Some, None}
+use Rattle.std.proofs.Common.{◌≡◌, ℕ, ◌+◌, Bool, true, false, cond, List, [], ◌∷◌, ◌++◌, map, refl, sym, ap, ◌∙◌, subst, append_assoc, codes, Option, Some, None}
 use Rattle.std.specs.Prelude.{flat_map, decimal}
 use Rattle.std.specs.Char.{is_ascii_digit}
-use Rattle.std.specs.List.{AllByRecursion, list_all, range_with_len}
-use Rattle.std.proofs.lemmas.Bool.{and_from}
-use Rattle.std.proofs.lemmas.Bool.Decides.{nat_tests}
+use Rattle.std.specs.List.{AllByRecursion, range_with_len}
 use Rattle.std.proofs.lemmas.List.{append_cancel_left}
-use Rattle.std.proofs.lemmas.List.Folds.{flat_map-map, list_all-append}
+use Rattle.std.proofs.lemmas.List.Folds.{flat_map-map}
 use Rattle.word_bits.specs.declared.area.Area.{Area}
 use Rattle.word_bits.specs.declared.call.CallWords.{CallWords}
-use Rattle.word_bits.specs.declared.reply.Errno.{Errno}
-use Rattle.word_bits.specs.declared.reply.Errno.TheVariants.{BadF, NoMem, Exist, Inval, MFile}
 use Rattle.word_bits.specs.declared.reply.Reply.{Reply}
-use Rattle.word_bits.specs.declared.reply.Reply.TheVariants.{Good, Num, Refused, MapErr, AccErr, Busy, Intr, Sent}
 use Rattle.word_bits.specs.Histories.{Event, history, state_after}
 use Rattle.word_bits.specs.PageMaps.{PageMap, runs}
 use Rattle.vma_map.specs.Spaces.{space}
@@ -22,7 +17,7 @@ use Rattle.task_script.specs.Texts.{call_text, declaration_text, prot_text}
 use Rattle.task_script.proofs.Inner.{BeginsWithDigit, decimal_begins}
 use Rattle.mm_report.proofs.LineTexts.{IsInLine, line_both, decimal_in_line, prot_in_line, call_in_line, reply_in_line, same_front}
 use Rattle.mm_report.specs.Results.{Told}
-use Rattle.mm_report.specs.Text.{errno_text, reply_text, event_line, event_text, number_of, task_lines, area_text, left_text, descriptor_text, descriptors_text, space_text, table_text, told_text}
+use Rattle.mm_report.specs.Text.{reply_text, event_line, event_text, number_of, task_lines, area_text, left_text, descriptor_text, descriptors_text, space_text, table_text, told_text}
 use Rattle.mm_report.specs.Reports.{report_from}
 use Rattle.mm_report.specs.Telling.{lines_told, state_told, TellTheSame, TextDeterminesHistories}
 

@@ -21,7 +21,7 @@ calls_on s object = sum_by (count_by (is_on object)) s.tasks
 
 -- the calls of these lines are counted, each on its object
 abbrev pub AddsCalls : List Line → (old new : List ℕ) → Type 0
-AddsCalls lines old new = (object : ℕ) → object < 16 → get_or new object 0 ≡ get_or old object 0 + count_by (is_on object) lines
+AddsCalls lines old new = (object : ℕ) → object < 32 → get_or new object 0 ≡ get_or old object 0 + count_by (is_on object) lines
 
 -- an object's empty snapshot, with room for a record and an entry of each call and for the state
 abbrev pub empty_snapshot : Listing → (object : ℕ) → (is_space : Bool) → Words

@@ -4,7 +4,7 @@ use Rattle.std.specs.List.{range_with_len}
 use Rattle.word_bits.specs.declared.area.Area.{Area}
 use Rattle.word_bits.specs.declared.call.CallWords.{CallWords}
 use Rattle.word_bits.specs.declared.reply.Errno.{Errno}
-use Rattle.word_bits.specs.declared.reply.Errno.TheVariants.{BadF, NoMem, Exist, Inval, MFile}
+use Rattle.word_bits.specs.declared.reply.Errno.TheVariants.{BadF, NoMem, Exist, Inval, MFile, Fault}
 use Rattle.word_bits.specs.declared.reply.Reply.{Reply}
 use Rattle.word_bits.specs.declared.reply.Reply.TheVariants.{Good, Num, Refused, MapErr, AccErr, Busy, Intr, Sent}
 use Rattle.word_bits.specs.Histories.{Event, history, state_after}
@@ -24,6 +24,7 @@ errno_text NoMem = codes "ENOMEM"
 errno_text Exist = codes "EEXIST"
 errno_text Inval = codes "EINVAL"
 errno_text MFile = codes "EMFILE"
+errno_text Fault = codes "EFAULT"
 
 -- a reply, in its word or its number
 abbrev pub reply_text : Reply → List ℕ

@@ -25,7 +25,8 @@ pub fn history_keeps_order()
     ensures table { KeepsOrder table owned }
 {}
 
-/// The name and the arguments of a call in a script mean the call of that name, and are told again.
+/// The name and the arguments of a call in a script mean the call of that name, in each version
+/// that has it, and are told again.
 #[tactic(auto, using(crate::proofs::NamedCalls::space_calls_are_named, crate::proofs::NamedCalls::table_calls_are_named, crate::proofs::NamedCalls::signals_are_named))]
 pub fn calls_are_named()
     ensures space { SpaceCallsAreNamed }

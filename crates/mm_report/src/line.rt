@@ -18,6 +18,7 @@ fn errno_name(errno: Errno) -> &'static [u8]
         Errno::Exist => b"EEXIST",
         Errno::Inval => b"EINVAL",
         Errno::MFile => b"EMFILE",
+        Errno::Fault => b"EFAULT",
     }
 }
 

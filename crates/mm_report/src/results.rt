@@ -10,12 +10,9 @@ ghost use Rattle.mm_report.specs.Lending.{LendsSnapshot};
 use fd_table::Fds;
 use std::alloc::{AllocError, Global};
 use std::marker::Model;
-use task_script::{Line, Script};
+use task_script::{Line, MOST_OBJECTS, Script};
 use vma_map::Areas;
 use word_bits::{Object, Snapshot};
-
-/// The most objects of a script.
-const MAX_OBJECTS: usize = 16;
 
 /// A snapshot of each object of a script, in the order of declaration.
 #[derive(Drop)]
@@ -48,10 +45,10 @@ pub(crate) fn state_words(is_space: bool) -> usize
 fn count_task(
     script: &Script,
     task: usize,
-    counts: &mut [usize; MAX_OBJECTS],
+    counts: &mut [usize; MOST_OBJECTS],
 ) -> Result<(), AllocError>
     requires task { task < length script.now.tasks }
-    requires few { length script.now.objects ≤ 16 }
+    requires few { length script.now.objects ≤ 32 }
     ensures counted { (lines : List Line) → slice_get script.now.tasks task ≡ Some lines →
         OnOk result (AddsCalls lines counts.old counts.new) }
 {
@@ -63,12 +60,12 @@ fn count_task(
 }
 
 /// How many calls of the script are on each object.
-pub(crate) fn count_calls(script: &Script) -> Result<[usize; MAX_OBJECTS], AllocError>
-    requires { length script.now.objects ≤ 16 }
-    ensures { IfOk result (λ counts. (object : ℕ) → object < 16 →
+pub(crate) fn count_calls(script: &Script) -> Result<[usize; MOST_OBJECTS], AllocError>
+    requires { length script.now.objects ≤ 32 }
+    ensures { IfOk result (λ counts. (object : ℕ) → object < 32 →
         get_or counts object 0 ≡ calls_on script.now object) }
 {
-    let mut counts = [0; MAX_OBJECTS];
+    let mut counts = [0; MOST_OBJECTS];
     for task in 0..script.tasks() {
         count_task(script, task, &mut counts)?;
     }

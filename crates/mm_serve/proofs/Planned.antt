@@ -1,14 +1,15 @@
 -- The lines of a script are calls of their objects, or signals.
-use Rattle.std.proofs.Common.{◌≡◌, ℕ, zero, suc, ◌<◌, Bool, true, false, List, [], ◌∷◌, cond, map, refl, sym, ap, subst, ◌∙◌, arith, is_some, Some, inl, inr}
+use Rattle.std.proofs.Common.{◌≡◌, ℕ, zero, suc, ◌+◌, ◌*◌, ◌^◌, ◌<◌, Bool, true, false, List, [], ◌∷◌, cond, map, refl, sym, ap, subst, ◌∙◌, arith, is_some, Some, inl, inr}
 use Rattle.std.specs.Prelude.{◌⊎◌, filter, slice_get}
 use Rattle.std.specs.List.{AllByRecursion}
 use Rattle.std.proofs.lemmas.Bool.Decides.{nat_tests}
 use Rattle.std.proofs.lemmas.Option.{same_Some}
 use Rattle.word_bits.specs.declared.call.CallWords.{CallWords}
-use Rattle.word_bits.specs.Calls.{first_in, mode_number, words_of}
+use Rattle.word_bits.specs.declared.TheConstants.{MAX_TASKS}
+use Rattle.word_bits.specs.Calls.{first_in, mode_number, words_of, with_third}
 use Rattle.word_bits.specs.Histories.{Plan}
 use Rattle.vma_map.specs.declared.call.SpaceCall.{SpaceCall}
-use Rattle.vma_map.specs.declared.call.SpaceCall.TheVariants.{Map, MapAny, MapNew, Unmap, Protect, Populate, Fault}
+use Rattle.vma_map.specs.declared.call.SpaceCall.TheVariants.{Map, MapAny, MapNew, Unmap, Protect, Populate, Fault, Remap}
 use Rattle.vma_map.specs.Spaces.{space, IsCall as IsSpaceCall, IsCallOf as IsSpaceCallOf, words_of_call as space_words_of}
 use Rattle.vma_map.specs.CallLaws.{call_of-complete as space_call_of}
 use Rattle.fd_table.specs.declared.call.TableCall.{TableCall}
@@ -18,17 +19,29 @@ use Rattle.fd_table.specs.CallLaws.{call_of-complete as table_call_of}
 use Rattle.lock_core.specs.Records.{row, IsCallOrSignal}
 use Rattle.lock_core.proofs.RowLaws.{none-some, same-some}
 use Rattle.task_script.specs.declared.script.Line.{Line}
+use Rattle.task_script.specs.declared.version.Version.{Version}
+use Rattle.task_script.specs.declared.version.Version.TheVariants.{One, Two}
 use Rattle.task_script.specs.Scripts.{Declared, Listing, call_words, is_on, plan_of}
 use Rattle.task_script.specs.Sound.{IsCall, IsLine, IsSound, only}
 use Rattle.task_script.specs.Verbs.{arguments_of, kind_of}
+use Rattle.task_script.specs.Versions.{most_tasks}
 use Rattle.mm_serve.specs.Histories.{IsPlanOn}
 use Rattle.mm_serve.specs.Machines.{staffed}
 
+-- words without a third number have 0 there
+unthirded : (w : CallWords) → w ≡ with_third w 0
+unthirded w = let b : w.b ≡ w.b + 0 * 2 ^ 32 = omega arith in λ i. record { a = w.a; b = b i }
+
+-- the tasks of a script are among those of a table
+few_tasks : (version : Version) (task : ℕ) → task < most_tasks version → task < MAX_TASKS
+few_tasks One task few = omega arith
+few_tasks Two task few = omega arith
+
 -- a plain signal to a task
-signal_sent : (w : CallWords) (first : ℕ) → first < 64 → w ≡ words_of 15 first 0 0 0 0 → IsCallOrSignal space w × IsCallOrSignal table w
+signal_sent : (w : CallWords) (first : ℕ) → first < MAX_TASKS → w ≡ words_of 15 first 0 0 0 0 → IsCallOrSignal space w × IsCallOrSignal table w
 signal_sent w first few is =
     let sent = words_of 15 first 0 0 0 0 in
-    let target : first_in sent < 64 = omega (arith, few) in (
+    let target : first_in sent < MAX_TASKS = omega (arith, few) in (
       subst (λ (v : CallWords). IsCallOrSignal space v) (sym is) (inl (refl, (first_in sent, refl, target))),
       subst (λ (v : CallWords). IsCallOrSignal table v) (sym is) (inl (refl, (first_in sent, refl, target))),
     )
@@ -40,46 +53,55 @@ table_call : (w : CallWords) (call : TableCall) → IsTableCallOf w call → IsC
 table_call w call is = inr (ap is_some (table_call_of w call is))
 
 -- the fields of a call's words
-abbrev kind : {is_space : Bool} {w : CallWords} → IsCall is_space w → ℕ
+abbrev kind : {version : Version} {is_space : Bool} {w : CallWords} → IsCall version is_space w → ℕ
 kind is = kind_of is.verb
 
-abbrev first : {is_space : Bool} {w : CallWords} → IsCall is_space w → ℕ
+abbrev first : {version : Version} {is_space : Bool} {w : CallWords} → IsCall version is_space w → ℕ
 first is = (only (arguments_of is.verb) is.values).first
 
-abbrev second : {is_space : Bool} {w : CallWords} → IsCall is_space w → ℕ
+abbrev second : {version : Version} {is_space : Bool} {w : CallWords} → IsCall version is_space w → ℕ
 second is = (only (arguments_of is.verb) is.values).second
 
-abbrev prot : {is_space : Bool} {w : CallWords} → IsCall is_space w → ℕ
+abbrev third : {version : Version} {is_space : Bool} {w : CallWords} → IsCall version is_space w → ℕ
+third is = (only (arguments_of is.verb) is.values).third
+
+abbrev prot : {version : Version} {is_space : Bool} {w : CallWords} → IsCall version is_space w → ℕ
 prot is = (only (arguments_of is.verb) is.values).prot
 
-abbrev access : {is_space : Bool} {w : CallWords} → IsCall is_space w → ℕ
+abbrev access : {version : Version} {is_space : Bool} {w : CallWords} → IsCall version is_space w → ℕ
 access is = (only (arguments_of is.verb) is.values).access
 
 -- the words of these fields
-abbrev fields : {is_space : Bool} {w : CallWords} → IsCall is_space w → CallWords
-fields is = words_of (kind is) (first is) (second is) (prot is) (access is) (mode_number is.mode)
+abbrev fields : {version : Version} {is_space : Bool} {w : CallWords} → IsCall version is_space w → CallWords
+fields is = with_third (words_of (kind is) (first is) (second is) (prot is) (access is) (mode_number is.mode)) (third is)
 
 -- words of the kind of a signal are those of a plain one
-signal_on : {is_space : Bool} (w : CallWords) (is : IsCall is_space w) → kind is ≡ 15 → IsCallOrSignal space w × IsCallOrSignal table w
-signal_on w is k =
-    let few : first is < 64 = grind (arith, is.ranged, k) in
+signal_on : (version : Version) {is_space : Bool} (w : CallWords) (is : IsCall version is_space w) → kind is ≡ 15 → IsCallOrSignal space w × IsCallOrSignal table w
+signal_on version w is k =
+    let few : first is < most_tasks version = grind (arith, is.ranged, k) in
     let plain : mode_number is.mode ≡ 0 = grind (arith, is.moded, k) in
     let none : second is ≡ 0 = grind (arith, is.ranged, k) in
+    let no_third : third is ≡ 0 = grind (arith, is.ranged, k) in
     let no_prot : prot is ≡ 0 = grind (arith, is.ranged, k) in
     let no_access : access is ≡ 0 = grind (arith, is.ranged, k) in
-    signal_sent w (first is) few (is.words ∙ (λ i. words_of (k i) (first is) (none i) (no_prot i) (no_access i) (plain i)))
+    let words : w ≡ with_third (words_of 15 (first is) 0 0 0 0) 0 = is.words ∙ (λ i. with_third (words_of (k i) (first is) (none i) (no_prot i) (no_access i) (plain i)) (no_third i)) in
+    signal_sent w (first is) (few_tasks version (first is) few) (words ∙ sym (unthirded (words_of 15 (first is) 0 0 0 0)))
 
-space_words : (w : CallWords) (is : IsCall true w) (call : SpaceCall) → IsSpaceCall call × (space_words_of call is.mode ≡ fields is) → IsCallOrSignal space w
-space_words w is call (valid, same) = space_call w call (valid, (is.mode, same ∙ sym is.words))
+-- words of no third number are those of a call that has none
+space_words : {version : Version} (w : CallWords) (is : IsCall version true w) (call : SpaceCall) → IsSpaceCall call × (with_third (space_words_of call is.mode) 0 ≡ fields is) → IsCallOrSignal space w
+space_words w is call (valid, same) = space_call w call (valid, (is.mode, unthirded (space_words_of call is.mode) ∙ same ∙ sym is.words))
 
-table_words : (w : CallWords) (is : IsCall false w) (call : TableCall) → IsTableCall call × (table_words_of call is.mode ≡ fields is) → IsCallOrSignal table w
-table_words w is call (valid, same) = table_call w call (valid, (is.mode, same ∙ sym is.words))
+remap_words : {version : Version} (w : CallWords) (is : IsCall version true w) (call : SpaceCall) → IsSpaceCall call × (space_words_of call is.mode ≡ fields is) → IsCallOrSignal space w
+remap_words w is call (valid, same) = space_call w call (valid, (is.mode, same ∙ sym is.words))
+
+table_words : {version : Version} (w : CallWords) (is : IsCall version false w) (call : TableCall) → IsTableCall call × (with_third (table_words_of call is.mode) 0 ≡ fields is) → IsCallOrSignal table w
+table_words w is call (valid, same) = table_call w call (valid, (is.mode, unthirded (table_words_of call is.mode) ∙ same ∙ sym is.words))
 
 -- a call on a space is one of its calls, or a signal
-space_on : (w : CallWords) (is : IsCall true w) → IsCallOrSignal space w
-space_on w is = go (grind (arith, is.known))
+space_on : (version : Version) (w : CallWords) (is : IsCall version true w) → IsCallOrSignal space w
+space_on version w is = go (grind (arith, is.known))
   where
-    go : (kind is ≡ 1) ⊎ (kind is ≡ 2) ⊎ (kind is ≡ 3) ⊎ (kind is ≡ 4) ⊎ (kind is ≡ 5) ⊎ (kind is ≡ 6) ⊎ (kind is ≡ 7) ⊎ (kind is ≡ 15) → IsCallOrSignal space w
+    go : (kind is ≡ 1) ⊎ (kind is ≡ 2) ⊎ (kind is ≡ 3) ⊎ (kind is ≡ 4) ⊎ (kind is ≡ 5) ⊎ (kind is ≡ 6) ⊎ (kind is ≡ 7) ⊎ (kind is ≡ 13) ⊎ (kind is ≡ 15) → IsCallOrSignal space w
     go (inl k) = space_words w is (Map (first is) (second is) (prot is)) (grind (arith, is.ranged, k))
     go (inr (inl k)) = space_words w is (MapAny (first is) (prot is)) (grind (arith, is.ranged, k))
     go (inr (inr (inl k))) = space_words w is (MapNew (first is) (second is) (prot is)) (grind (arith, is.ranged, k))
@@ -87,11 +109,12 @@ space_on w is = go (grind (arith, is.known))
     go (inr (inr (inr (inr (inl k))))) = space_words w is (Protect (first is) (second is) (prot is)) (grind (arith, is.ranged, k))
     go (inr (inr (inr (inr (inr (inl k)))))) = space_words w is (Populate (first is) (second is) (prot is)) (grind (arith, is.ranged, k))
     go (inr (inr (inr (inr (inr (inr (inl k))))))) = space_words w is (Fault (first is) (access is)) (grind (arith, is.ranged, k))
-    go (inr (inr (inr (inr (inr (inr (inr k))))))) = (signal_on w is k).0
+    go (inr (inr (inr (inr (inr (inr (inr (inl k)))))))) = remap_words w is (Remap (first is) (second is) (third is)) (grind (arith, is.ranged, k))
+    go (inr (inr (inr (inr (inr (inr (inr (inr k)))))))) = (signal_on version w is k).0
 
 -- a call on a table is one of its calls, or a signal
-table_on : (w : CallWords) (is : IsCall false w) → IsCallOrSignal table w
-table_on w is = go (grind (arith, is.known))
+table_on : (version : Version) (w : CallWords) (is : IsCall version false w) → IsCallOrSignal table w
+table_on version w is = go (grind (arith, is.known))
   where
     go : (kind is ≡ 8) ⊎ (kind is ≡ 9) ⊎ (kind is ≡ 10) ⊎ (kind is ≡ 11) ⊎ (kind is ≡ 12) ⊎ (kind is ≡ 15) → IsCallOrSignal table w
     go (inl k) = table_words w is (Open (first is)) (grind (arith, is.ranged, k))
@@ -99,37 +122,37 @@ table_on w is = go (grind (arith, is.known))
     go (inr (inr (inl k))) = table_words w is (Dup (first is)) (grind (arith, is.ranged, k))
     go (inr (inr (inr (inl k)))) = table_words w is (Dup2 (first is) (second is)) (grind (arith, is.ranged, k))
     go (inr (inr (inr (inr (inl k))))) = table_words w is (Get (first is)) (grind (arith, is.ranged, k))
-    go (inr (inr (inr (inr (inr k))))) = (signal_on w is k).1
+    go (inr (inr (inr (inr (inr k))))) = (signal_on version w is k).1
 
 -- a call of this kind of object, or a signal
 abbrev IsCallOn : (is_space : Bool) → CallWords → Type 0
 IsCallOn true w = IsCallOrSignal space w
 IsCallOn false w = IsCallOrSignal table w
 
-call_on : (is_space : Bool) (w : CallWords) → IsCall is_space w → IsCallOn is_space w
-call_on true w is = space_on w is
-call_on false w is = table_on w is
+call_on : (version : Version) (is_space : Bool) (w : CallWords) → IsCall version is_space w → IsCallOn is_space w
+call_on version true w is = space_on version w is
+call_on version false w is = table_on version w is
 
 -- a line is a call of its object
-line_on : (objects : List Declared) (l : Line) (object : ℕ) (d : Declared) → IsLine objects l → is_on object l ≡ true → slice_get objects object ≡ Some d → IsCallOn d.is_space (call_words l)
-line_on objects l object d is on at =
+line_on : (version : Version) (objects : List Declared) (l : Line) (object : ℕ) (d : Declared) → IsLine version objects l → is_on object l ≡ true → slice_get objects object ≡ Some d → IsCallOn d.is_space (call_words l)
+line_on version objects l object d is on at =
     let same : l.object ≡ object = grind (arith, nat_tests) in
     let declared : is.declared ≡ d = same_Some is.declared d (sym is.place ∙ ap (slice_get objects) same ∙ at) in
-    subst (λ e. IsCallOn e.is_space (call_words l)) declared (subst (IsCallOn is.declared.is_space) (sym (ap call_words is.words)) (call_on is.declared.is_space is.call is.is))
+    subst (λ e. IsCallOn e.is_space (call_words l)) declared (subst (IsCallOn is.declared.is_space) (sym (ap call_words is.words)) (call_on version is.declared.is_space is.call is.is))
 
-task_on : (objects : List Declared) (object : ℕ) (d : Declared) (ls : List Line) → AllByRecursion (IsLine objects) ls → slice_get objects object ≡ Some d → (c : ℕ) (w : CallWords) → slice_get (map call_words (filter (is_on object) ls)) c ≡ Some w → IsCallOn d.is_space w
-task_on objects object d [] each at c w has = none-some w has
-task_on objects object d (l ∷ ls) each at c w has = go (λ n more. task_on objects object d ls each.1 at n w more) (is_on object l) refl c has
+task_on : (version : Version) (objects : List Declared) (object : ℕ) (d : Declared) (ls : List Line) → AllByRecursion (IsLine version objects) ls → slice_get objects object ≡ Some d → (c : ℕ) (w : CallWords) → slice_get (map call_words (filter (is_on object) ls)) c ≡ Some w → IsCallOn d.is_space w
+task_on version objects object d [] each at c w has = none-some w has
+task_on version objects object d (l ∷ ls) each at c w has = go (λ n more. task_on version objects object d ls each.1 at n w more) (is_on object l) refl c has
   where
     go : ((n : ℕ) → slice_get (map call_words (filter (is_on object) ls)) n ≡ Some w → IsCallOn d.is_space w) → (b : Bool) → is_on object l ≡ b → (c : ℕ) → slice_get (map call_words (cond b (l ∷ filter (is_on object) ls) (filter (is_on object) ls))) c ≡ Some w → IsCallOn d.is_space w
-    go rest true on zero has = subst (IsCallOn d.is_space) (same-some (call_words l) w has) (line_on objects l object d each.0 on at)
+    go rest true on zero has = subst (IsCallOn d.is_space) (same-some (call_words l) w has) (line_on version objects l object d each.0 on at)
     go rest true on (suc c) has = rest c has
     go rest false on c has = rest c has
 
-tasks_on : (objects : List Declared) (object : ℕ) (d : Declared) (lss : List (List Line)) → AllByRecursion (AllByRecursion (IsLine objects)) lss → slice_get objects object ≡ Some d → (t c : ℕ) (w : CallWords) → slice_get (row (map (λ ls. map call_words (filter (is_on object) ls)) lss) t) c ≡ Some w → IsCallOn d.is_space w
-tasks_on objects object d [] each at t c w has = none-some w has
-tasks_on objects object d (ls ∷ lss) each at zero c w has = task_on objects object d ls each.0 at c w has
-tasks_on objects object d (ls ∷ lss) each at (suc t) c w has = tasks_on objects object d lss each.1 at t c w has
+tasks_on : (version : Version) (objects : List Declared) (object : ℕ) (d : Declared) (lss : List (List Line)) → AllByRecursion (AllByRecursion (IsLine version objects)) lss → slice_get objects object ≡ Some d → (t c : ℕ) (w : CallWords) → slice_get (row (map (λ ls. map call_words (filter (is_on object) ls)) lss) t) c ≡ Some w → IsCallOn d.is_space w
+tasks_on version objects object d [] each at t c w has = none-some w has
+tasks_on version objects object d (ls ∷ lss) each at zero c w has = task_on version objects object d ls each.0 at c w has
+tasks_on version objects object d (ls ∷ lss) each at (suc t) c w has = tasks_on version objects object d lss each.1 at t c w has
 
 staffed_on : (plan : Plan) (is_space : Bool) → ((t c : ℕ) (w : CallWords) → slice_get (row plan t) c ≡ Some w → IsCallOn is_space w) → (t c : ℕ) (w : CallWords) → slice_get (row (staffed plan) t) c ≡ Some w → IsCallOn is_space w
 staffed_on [] is_space each zero c w has = none-some w has
@@ -142,4 +165,4 @@ plan_on false plan each = each
 
 -- the calls of a script that are planned on an object are calls of its kind, or signals
 pub planned_on : (s : Listing) (object : ℕ) (d : Declared) → IsSound s → slice_get s.objects object ≡ Some d → IsPlanOn d.is_space (staffed (plan_of s object))
-planned_on s object d sound at = plan_on d.is_space (staffed (plan_of s object)) (staffed_on (plan_of s object) d.is_space (tasks_on s.objects object d s.tasks sound.calls at))
+planned_on s object d sound at = plan_on d.is_space (staffed (plan_of s object)) (staffed_on (plan_of s object) d.is_space (tasks_on s.version s.objects object d s.tasks sound.calls at))

@@ -1,8 +1,8 @@
 //! Ranges of pages that move. The replies and the runs are known by hand.
 ghost use Rattle.std.specs.Prelude.{◌<◌};
 
-use vma_map::{Areas, RemapError, SpaceCall};
-use word_bits::{Area, Object, Reply};
+use vma_map::{Areas, SpaceCall};
+use word_bits::{Area, CallWords, Errno, Object, Reply};
 
 fn area(start: u32, end: u32, prot: u8) -> Area {
     Area { start, end, prot }
@@ -36,8 +36,8 @@ fn full() -> Areas {
 fn moves_a_range_of_several_areas(rt: HostRuntime) {
     let mut space = two_runs();
     assert_eq!(rt; space.remap(16, 4, 100), Ok(100));
-    assert_eq!(rt; space.remap(16, 1, 5), Err(RemapError::Unmapped));
-    assert_eq!(rt; space.remap(100, 2, 101), Err(RemapError::Invalid));
+    assert_eq!(rt; space.remap(16, 1, 5), Err(Errno::Fault));
+    assert_eq!(rt; space.remap(100, 2, 101), Err(Errno::Inval));
     let write = SpaceCall::Fault {
         page: 102,
         access: 2,
@@ -45,6 +45,53 @@ fn moves_a_range_of_several_areas(rt: HostRuntime) {
     assert_eq!(rt; space.apply(write), Reply::AccErr);
     let runs = [area(100, 102, 3), area(102, 104, 1)];
     assert_eq!(rt; space.runs(), runs.as_slice());
+}
+
+// What a call does is what `remap` does, and its errors are those of the reply.
+#[test]
+fn moves_pages_by_a_call(rt: HostRuntime) {
+    let mut space = two_runs();
+    for (start, len, to, wanted) in [
+        (16, 4, 100, Reply::Num(100)),
+        (16, 1, 5, Reply::Refused(Errno::Fault)),
+        (100, 2, 101, Reply::Refused(Errno::Inval)),
+    ] {
+        assert_eq!(rt; space.apply(SpaceCall::Remap { start, len, to }), wanted);
+    }
+    let runs = [area(100, 102, 3), area(102, 104, 1)];
+    assert_eq!(rt; space.runs(), runs.as_slice());
+    let mut space = full();
+    let call = SpaceCall::Remap {
+        start: 0,
+        len: 1,
+        to: 1000,
+    };
+    assert_eq!(rt; space.apply(call), Reply::Refused(Errno::NoMem));
+}
+
+#[test]
+fn has_a_third_number_in_its_words(rt: HostRuntime) {
+    let words = CallWords {
+        a: 17_179_869_200,
+        b: 429_496_729_613,
+    };
+    let call = SpaceCall::Remap {
+        start: 16,
+        len: 4,
+        to: 100,
+    };
+    assert_eq!(rt; SpaceCall::call_of(words), Some(call));
+    // A map of those pages has no third number.
+    let map = CallWords {
+        a: words.a,
+        b: 0x0301,
+    };
+    assert!(rt; SpaceCall::call_of(map).is_some());
+    let map = CallWords {
+        a: words.a,
+        b: 0x0301 + (1 << 32),
+    };
+    assert_eq!(rt; SpaceCall::call_of(map), None);
 }
 
 #[test]
@@ -105,19 +152,19 @@ fn moves_to_both_ends_of_the_space(rt: HostRuntime) {
 fn refuses_in_order(rt: HostRuntime) {
     let before = two_runs();
     for (start, len, to, wanted) in [
-        (16, 0, 100, RemapError::Invalid),
-        (1_048_575, 2, 0, RemapError::Invalid),
-        (16, 2, 1_048_575, RemapError::Invalid),
-        (u32::MAX, 1, 0, RemapError::Invalid),
-        (16, u32::MAX, 0, RemapError::Invalid),
-        (16, 4, u32::MAX, RemapError::Invalid),
-        (16, 4, 16, RemapError::Invalid),
-        (16, 4, 19, RemapError::Invalid),
-        (16, 4, 13, RemapError::Invalid),
-        (40, 4, 41, RemapError::Invalid),
-        (15, 2, 100, RemapError::Unmapped),
-        (19, 2, 100, RemapError::Unmapped),
-        (40, 1, 41, RemapError::Unmapped),
+        (16, 0, 100, Errno::Inval),
+        (1_048_575, 2, 0, Errno::Inval),
+        (16, 2, 1_048_575, Errno::Inval),
+        (u32::MAX, 1, 0, Errno::Inval),
+        (16, u32::MAX, 0, Errno::Inval),
+        (16, 4, u32::MAX, Errno::Inval),
+        (16, 4, 16, Errno::Inval),
+        (16, 4, 19, Errno::Inval),
+        (16, 4, 13, Errno::Inval),
+        (40, 4, 41, Errno::Inval),
+        (15, 2, 100, Errno::Fault),
+        (19, 2, 100, Errno::Fault),
+        (40, 1, 41, Errno::Fault),
     ] {
         let mut space = two_runs();
         assert_eq!(rt; space.remap(start, len, to), Err(wanted));
@@ -131,9 +178,9 @@ fn counts_the_areas_of_the_whole_next_space(rt: HostRuntime) {
     assert_eq!(rt; before.runs().len(), 256);
     let mut space = full();
     for page in 0..3 {
-        assert_eq!(rt; space.remap(page, 1, 1000), Err(RemapError::TooMany));
+        assert_eq!(rt; space.remap(page, 1, 1000), Err(Errno::NoMem));
     }
-    assert_eq!(rt; space.remap(3, 1, 1000), Err(RemapError::Unmapped));
+    assert_eq!(rt; space.remap(3, 1, 1000), Err(Errno::Fault));
     assert_eq!(rt; space.runs(), before.runs());
     assert_eq!(rt; space.remap(512, 1, 1000), Ok(1000));
     // It cuts the first run in two and joins the next two.

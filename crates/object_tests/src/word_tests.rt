@@ -34,6 +34,8 @@ fn packs_the_words_of_the_layouts(rt: HostRuntime) {
     };
     assert_eq!(rt; largest.pack(), 17_592_177_655_815);
     assert_eq!(rt; Entry { task: 63, call: 5 }.pack(), 16_515_077);
+    let last = Entry { task: 399, call: 5 };
+    assert_eq!(rt; last.pack(), 104_595_461);
     let rec = Rec {
         k: 1,
         reply: Reply::Num(16),
@@ -43,14 +45,17 @@ fn packs_the_words_of_the_layouts(rt: HostRuntime) {
         (owner(None, [false; 3]), 0),
         (owner(Some(1), [true, false, true]), 21),
         (owner(Some(63), [true; 3]), 519),
+        (owner(Some(64), [false; 3]), 520),
+        (owner(Some(399), [true; 3]), 3_207),
     ] {
         assert_eq!(rt; owner.pack(), word);
         assert_eq!(rt; Owner::unpack(word), Some(owner));
     }
-    assert_eq!(rt; Owner::unpack(520), None);
+    assert_eq!(rt; Owner::unpack(3_208), None);
     for (reply, word) in [
         (Reply::Good, 262_146),
         (Reply::Refused(Errno::NoMem), 51_118_082),
+        (Reply::Refused(Errno::Fault), 59_506_690),
         (Reply::MapErr, 1_048_578),
         (Reply::AccErr, 1_310_722),
         (Reply::Busy(256), 1_075_314_690),
@@ -67,6 +72,7 @@ fn packs_the_words_of_the_layouts(rt: HostRuntime) {
         Entry::unpack(16_515_077),
         Some(Entry { task: 63, call: 5 })
     );
+    assert_eq!(rt; Entry::unpack(104_595_461), Some(last));
 }
 
 #[test]
@@ -130,7 +136,10 @@ fn unpacks_no_other_word(rt: HostRuntime) {
     for word in [0, 16 << 24 | 16 << 3, 1_048_577 << 3, 1 << 44 | 1 << 3] {
         assert_eq!(rt; Area::unpack(word), None, "area {word}");
     }
-    assert_eq!(rt; Entry::unpack(1 << 24), None);
+    // The first task that isn't there, the last that its bits could name, and a bit above them.
+    for word in [400 << 18, (1 << 27) - 1, 1 << 27] {
+        assert_eq!(rt; Entry::unpack(word), None, "entry {word}");
+    }
     assert_eq!(rt; Count::unpack(8), None);
     // A locked byte of 2, a node of no CPU, and a bit above the layout.
     for word in [2, 512, 1 << 32] {
@@ -177,6 +186,7 @@ fn reads_modes_signals_and_errors(rt: HostRuntime) {
         (Errno::Exist, 17),
         (Errno::Inval, 22),
         (Errno::MFile, 24),
+        (Errno::Fault, 14),
     ] {
         assert_eq!(rt; errno.number(), number);
     }

@@ -67,7 +67,7 @@ seat-moves place vs id t v w r at same has one = let hs : List Hand = map hand_o
 
 module _ (k : Plan) where
   -- a task's number is small
-  pub its-small : (ws : List ℕ) (vs : List V) (id t : ℕ) (v : V) → OsqKept k ws vs → get_elem? vs id ≡ some v → v.hand.task ≡ Some t → (t < length k) × (length k ≤ 64)
+  pub its-small : (ws : List ℕ) (vs : List V) (id t : ℕ) (v : V) → OsqKept k ws vs → get_elem? vs id ≡ some v → v.hand.task ≡ Some t → (t < length k) × (length k ≤ MAX_TASKS)
   its-small ws vs id t v r at has = (((r.site_holds.each id v.hand (at_map hand_of vs id v at)).mine t has).0, r.site_holds.laid.small.tasks)
 
   row-long : (ws : List ℕ) (vs : List V) → OsqKept k ws vs → length (row_of ws) ≡ LOCK_WORDS

@@ -1,5 +1,5 @@
 -- What a clause reads of a pass in the queue of a spin lock.
-use Rattle.std.specs.Prelude.{◌≡◌, ◌≢◌, ℕ, ◌+◌, ◌<◌, ◌≤◌, ◌⊎◌, Some, None, IsSome}
+use Rattle.std.specs.Prelude.{◌≡◌, ◌≢◌, ℕ, ◌+◌, ◌*◌, ◌<◌, ◌≤◌, ◌⊎◌, Some, None, IsSome}
 use Rattle.word_bits.specs.declared.TheConstants.{MAX_TASKS}
 use Rattle.lock_core.specs.declared.pass.Pass.{Pass}
 use Rattle.lock_core.specs.declared.view.Point.TheVariants.{Taking, Trying, Cleared, Ready}
@@ -13,7 +13,7 @@ use Rattle.qspin_word.specs.Handles.{spin_in, KeepsFlagsBeside}
 
 -- the codes of nodes are smaller
 abbrev pub codes : ℕ
-codes = 260
+codes = 4 * MAX_TASKS + 4
 
 -- its node at the lock is the one that it began to use last
 pub record IsTop (l : ℕ) (p : SpinPart) : Type 0 where

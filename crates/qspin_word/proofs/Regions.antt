@@ -1,10 +1,11 @@
 -- A step on one of the spin words, from what it makes of its lock.
-use Rattle.std.proofs.Common.{◌≡◌, ◌≢◌, ℕ, suc, ◌<◌, ◌⊎◌, Bool, true, false, List, length, map, get_or, set, sym, refl, ap, ◌∙◌, subst, inr, arith, length-set, get_or-set_same, get_or-set_other, Some}
+use Rattle.std.proofs.Common.{◌≡◌, ◌≢◌, ℕ, suc, ◌+◌, ◌*◌, ◌<◌, ◌⊎◌, Bool, true, false, List, length, map, get_or, set, sym, refl, ap, ◌∙◌, subst, inr, arith, length-set, get_or-set_same, get_or-set_other, Some}
 use mathlib.Core.Logic.{dite}
 use native.Mathlib.Decide.{ℕ_discrete}
 use mathlib.Core.Option.{some}
 use lib.ListN.{get_elem?}
 use lib.Seq.{set-get_or}
+use Rattle.word_bits.specs.declared.TheConstants.{MAX_TASKS}
 use Rattle.lock_core.specs.declared.layout.TheConstants.{SPIN_WORDS}
 use Rattle.lock_core.specs.declared.view.SpinHand.{SpinHand}
 use Rattle.lock_core.specs.declared.view.LockHand.{LockHand}
@@ -21,7 +22,7 @@ use Rattle.lock_core.specs.Spins.{SpinFacts, SpinsMove, LockIn, IsFew, OwnNodes,
 
 -- the codes of nodes are small
 abbrev pub codes : ℕ
-codes = 260
+codes = 4 * MAX_TASKS + 4
 
 pub put-next : (w : List ℕ) (c n : ℕ) → length w ≡ SPIN_WORDS → c < codes → Put (next_in w) (next_in (set w (next_at c) n)) c n
 put-next w c n wide small = record { here = get_or-set_same w (next_at c) n 0 (omega arith); other = λ d far. get_or-set_other w (next_at c) (next_at d) n 0 (λ e. far (omega arith)) }

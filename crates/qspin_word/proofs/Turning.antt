@@ -6,6 +6,7 @@ use native.Mathlib.Decide.{ℕ_discrete}
 use lib.ListN.{get_elem?}
 use Rattle.atomic_table.specs.Table.{Me, keeps, step}
 use Rattle.atomic_table.proofs.Lists.{at_map}
+use Rattle.word_bits.specs.declared.TheConstants.{MAX_TASKS}
 use Rattle.word_bits.specs.LockWords.{Unavailable}
 use Rattle.word_bits.specs.Objects.{Obj}
 use Rattle.word_bits.specs.Histories.{Plan}
@@ -40,7 +41,7 @@ numbers {E} o unavailable size k w vs r = record {
       let l = (r.balances.named t (few i p at t mine)).1 in absurd (omega (arith, a, b, two, l)));
 }
   where
-    few : (j : ℕ) (p : SpinPart) → get_elem? (map spin_part vs) j ≡ some p → (t : ℕ) → p.task ≡ Some t → t < 64
+    few : (j : ℕ) (p : SpinPart) → get_elem? (map spin_part vs) j ≡ some p → (t : ℕ) → p.task ≡ Some t → t < MAX_TASKS
     few j p at t task = let v = at_view vs j p at in let m = (r.each j v.0.hand (at_map hand_of vs j v.0 v.1)).mine t (ap (λ (x : SpinPart). x.task) v.2 ∙ task) in let s = r.laid.small.tasks in let l = m.0 in omega (arith, s, l)
 
 module _ {E : Type 0} (holds : List ℕ → List (View E) → Type 0) (moves : ℕ → List ℕ → List (View E) → List ℕ → List (View E) → Type 0) (first locks l : ℕ) (may_free : View E → Type 0)

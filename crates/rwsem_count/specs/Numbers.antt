@@ -17,19 +17,22 @@ total-both f g [] = omega arith
 total-both f g (v ∷ vs) = let a = total-both f g vs in omega arith
 
 module _ {V : Type 0} (task : V → Option ℕ) where
-  abbrev below : ℕ → V → ℕ
+  below : ℕ → V → ℕ
   below zero v = 0
   below (suc m) v = below m v + is_number m (task v)
 
   none-below : (vs : List V) → total (below 0) vs ≤ 0
+  unfolding below
   none-below [] = omega arith
   none-below (v ∷ vs) = let a = none-below vs in omega arith
 
   below-most : (m : ℕ) (vs : List V) → ((t : ℕ) → t < m → total (λ (v : V). is_number t (task v)) vs ≤ 1) → total (below m) vs ≤ m
+  unfolding below
   below-most zero vs each = none-below vs
   below-most (suc m) vs each = let a = below-most m vs (λ t l. each t (omega arith)) in let b = each m (omega arith) in let c = total-both (below m) (λ (v : V). is_number m (task v)) vs in omega arith
 
   below-here : (m t : ℕ) (v : V) → task v ≡ Some t → t < m → 1 ≤ below m v
+  unfolding below
   below-here zero t v has l = absurd (omega arith)
   below-here (suc m) t v has l = dite (ℕ_discrete t m)
       (λ is. let e : is_number m (task v) ≡ 1 = ap (is_number m) has ∙ (ap (λ (z : ℕ). is_number m (Some z)) is ∙ is_number-here m) in omega arith)

@@ -1,5 +1,5 @@
 -- What a call counts on its CPU.
-use Rattle.std.proofs.Common.{◌≡◌, ◌∙◌, ℕ, suc, ◌+◌, ◌≤◌, ◌⊎◌, inl, inr, ⊎_elim, Bool, true, false, refl, sym, ap, subst, arith}
+use Rattle.std.proofs.Common.{◌≡◌, ◌∙◌, ℕ, suc, ◌+◌, ◌≤◌, inl, inr, ⊎_elim, Bool, true, false, refl, sym, ap, subst, arith}
 use Rattle.std.specs.Prelude.{Result, Ok, Err, IfOk, IfErr}
 use Rattle.cpu_task.specs.Counting.{Dozes, DozesOnce, SleepsAtMost, SleepsInTurns, one_more, rescheds_after, slept}
 use Rattle.lock_core.specs.declared.how.How.{How}

@@ -1,5 +1,5 @@
 -- What a wake comes to, from its look at the first waiter on.
-use Rattle.std.proofs.Common.{◌≡◌, ◌≢◌, ◌∙◌, ℕ, ◌≤◌, ◌⊎◌, ◌++◌, ◌==◌, ◌&&◌, inl, inr, eq-eqb, Bool, true, false, List, [], ◌∷◌, map, filter, take, Option, Some, None, refl, sym, ap, subst, arith, if◌then◌else◌}
+use Rattle.std.proofs.Common.{◌≡◌, ◌≢◌, ◌∙◌, ℕ, ◌≤◌, ◌⊎◌, ◌++◌, ◌&&◌, inl, inr, eq-eqb, Bool, true, false, List, [], ◌∷◌, map, filter, take, Option, Some, None, refl, sym, ap, subst, arith, if◌then◌else◌}
 use Rattle.std.proofs.lemmas.List.{append-nil}
 use Rattle.lock_core.specs.declared.pass.Pass.{Pass}
 use Rattle.lock_core.specs.Handles.{view_of, Finds, KeepsPast}

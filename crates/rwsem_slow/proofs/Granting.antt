@@ -1,6 +1,7 @@
 -- A wake, from its look at the list to its last grant.
 use Rattle.std.proofs.Common.{◌≡◌, ◌≢◌, ◌∙◌, ℕ, ◌+◌, ◌/◌, ◌%◌, ◌<◌, ◌≤◌, ◌==◌, ◌||◌, Bool, true, false, List, [], ◌∷◌, ◌++◌, length, Some, refl, sym, ap, subst, arith, inl, inr}
 use Rattle.std.proofs.lemmas.List.{append-nil}
+use Rattle.word_bits.specs.declared.TheConstants.{MAX_TASKS}
 use Rattle.lock_core.specs.declared.view.Moment.{Moment}
 use Rattle.lock_core.specs.Pasts.{FoundAt, GoesOn, IsOwnStep}
 use Rattle.lock_core.specs.RunLaws.{found-at-step}
@@ -37,7 +38,7 @@ module _ (v w : V) (list : KnowsList v) (starts : starts_with_reader v.ext.list.
   pub has-whole : IsWhole w.ext.sem.rest w.ext.list.list
   has-whole = subst (λ (z : List ℕ × List Waiter). IsWhole z.0 z.1) (λ i. (sym r.rest i, sym r.are i)) (batch-whole v.ext.list.list list.sound starts)
 
-  pub is-removed : (readers : List ℕ) → readers ≡ batch_in v.ext.list.list → 0 < length readers → length readers ≤ 64 → IsRemoved w.ext.sem readers
+  pub is-removed : (readers : List ℕ) → readers ≡ batch_in v.ext.list.list → 0 < length readers → length readers ≤ MAX_TASKS → IsRemoved w.ext.sem readers
   is-removed readers is some few = let same = ap (λ (z : List ℕ). length z) is in record { stage = r.stage (omega (arith, same, some)); rest = r.rest ∙ sym is; some = some; few = few }
 
   pub keeps-out : KeepsOut sem_of v → KeepsOut sem_of w
@@ -135,9 +136,9 @@ pub first-code : (q : List Waiter) (w : Waiter) → Some w ≡ first_of q → fi
 first-code [] w e = absurd cc
 first-code (x ∷ q) w e = ap {A = Waiter} (λ z. z.task + 1) (let is : x ≡ w = cc in is)
 
-pub first-small : (q : List Waiter) (w : Waiter) → Some w ≡ first_of q → AreTasks q → w.task < 64
+pub first-small : (q : List Waiter) (w : Waiter) → Some w ≡ first_of q → AreTasks q → w.task < MAX_TASKS
 first-small [] w e small = absurd cc
-first-small (x ∷ q) w e small = let is : x ≡ w = cc in subst (λ (z : Waiter). z.task < 64) is small.0
+first-small (x ∷ q) w e small = let is : x ≡ w = cc in subst (λ (z : Waiter). z.task < MAX_TASKS) is small.0
 
 pub first-waits : (q : List Waiter) (w : Waiter) → Some w ≡ first_of q → 1 ≤ length q
 first-waits [] w e = absurd cc

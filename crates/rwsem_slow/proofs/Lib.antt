@@ -1,3 +1,4 @@
+pub mod Marking
 pub mod Stating
 pub mod Chaining
 pub mod Locking

@@ -1,5 +1,6 @@
 -- How a reader queues, and comes to hold.
 use Rattle.std.proofs.Common.{◌≡◌, ◌∙◌, rules, ℕ, zero, suc, ◌+◌, ◌%◌, ◌<◌, ◌≤◌, Bool, false, List, [], ◌∷◌, length, None, sym, refl, ap, subst, arith, eq-eqb, if◌then◌else◌}
+use Rattle.word_bits.specs.declared.TheConstants.{MAX_TASKS}
 use Rattle.word_bits.specs.Objects.{Obj}
 use Rattle.word_bits.specs.Histories.{Plan}
 use Rattle.lock_core.specs.declared.view.Hand.{Hand}
@@ -36,7 +37,7 @@ none-first [] e = refl
 none-first (x ∷ q) e = absurd cc
 
 -- a reader whose bias is in the count appends itself, and takes the bias back
-module _ (v u x y : V) (w : Waiter) (reads : w.writer ≡ false) (few : w.task < 64) (t : IsInTransit v) (arms : TurnsTo with_sem v (armed v.ext.sem) u) (a : Appends list_of with_list u w x) where
+module _ (v u x y : V) (w : Waiter) (reads : w.writer ≡ false) (few : w.task < MAX_TASKS) (t : IsInTransit v) (arms : TurnsTo with_sem v (armed v.ext.sem) u) (a : Appends list_of with_list u w x) where
   pub joins-bias : (word : ℕ) × (x.ext.sem.bias ≡ Transit word)
   joins-bias = (t.transit.0, ap (λ (z : V). z.ext.sem.bias) a.view ∙ (ap (λ (z : V). z.ext.sem.bias) arms ∙ ap (λ (s : SemHand). s.bias) t.transit.1))
 

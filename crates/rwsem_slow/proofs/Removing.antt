@@ -2,6 +2,7 @@
 use Rattle.std.proofs.Common.{◌≡◌, ◌≢◌, ℕ, zero, suc, ◌+◌, ◌<◌, ◌≤◌, ◌==◌, ◌⊎◌, inl, inr, Bool, true, false, List, [], ◌∷◌, ◌++◌, length, map, filter, take, drop, get_or, Some, sym, refl, ap, ◌∙◌, subst, arith, eq-eqb, ne_eqb, if◌then◌else◌, append_assoc, length-append}
 use Rattle.std.proofs.lemmas.List.{drop_more, append-nil}
 use Rattle.std.proofs.Math.ListN.{drop_of_length-le}
+use Rattle.word_bits.specs.declared.TheConstants.{MAX_TASKS}
 use Rattle.lock_core.specs.Records.{bit}
 use Rattle.wait_list.specs.declared.view.Waiter.{Waiter}
 use Rattle.wait_list.specs.declared.view.Change.TheVariants.{Leave}
@@ -74,10 +75,10 @@ batch-begins n (w ∷ q) = go w.writer refl n
         one zero = tt
         one (suc n) = refl
 
-pub heads-small : (ts : List ℕ) (q : List Waiter) → AreTasks q → AreHeads ts q → (i : ℕ) → i < length ts → get_or ts i 0 < 64
+pub heads-small : (ts : List ℕ) (q : List Waiter) → AreTasks q → AreHeads ts q → (i : ℕ) → i < length ts → get_or ts i 0 < MAX_TASKS
 heads-small [] q small h i few = absurd (omega (arith, few))
 heads-small (t ∷ ts) [] small h i few = absurd h
-heads-small (t ∷ ts) (w ∷ q) small h zero few = elim h [ inl is ↦ subst (λ (z : ℕ). z < 64) is.1 small.0 | inr more ↦ heads-small (t ∷ ts) q small.1 more.1 zero few ]
+heads-small (t ∷ ts) (w ∷ q) small h zero few = elim h [ inl is ↦ subst (λ (z : ℕ). z < MAX_TASKS) is.1 small.0 | inr more ↦ heads-small (t ∷ ts) q small.1 more.1 zero few ]
 heads-small (t ∷ ts) (w ∷ q) small h (suc i) few = elim h [ inl is ↦ heads-small ts q small.1 is.2 i (omega (arith, few)) | inr more ↦ heads-small (t ∷ ts) q small.1 more.1 (suc i) few ]
 
 pub heads-few : (ts : List ℕ) (q : List Waiter) → AreHeads ts q → length ts ≤ length q

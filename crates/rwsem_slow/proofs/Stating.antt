@@ -2,6 +2,7 @@
 use Rattle.std.proofs.Common.{◌≡◌, ◌∙◌, ℕ, zero, suc, ◌+◌, ◌/◌, ◌%◌, ◌==◌, ◌<◌, ◌≤◌, true, false, ◌⊎◌, inl, inr, Bool, List, [], ◌∷◌, length, map, Option, Some, None, ne_eqb, refl, sym, ap, subst, arith, ⊎_elim}
 use mathlib.Core.Option.{some, some-injective}
 use lib.ListN.{get_elem?}
+use Rattle.word_bits.specs.declared.TheConstants.{MAX_TASKS}
 use Rattle.atomic_table.proofs.Lists.{at_map}
 use Rattle.word_bits.specs.LockWords.{counted as shut}
 use Rattle.word_bits.specs.Objects.{Obj}
@@ -23,7 +24,8 @@ use Rattle.wait_list.specs.Lists.{AreTasks, Part, PartOk, changes_of, counted, f
 use Rattle.wait_list.specs.ListLaws.{holds-or-not}
 use Rattle.wake_duty.specs.declared.view.Vigil.{Vigil}
 use Rattle.wake_duty.specs.declared.view.Vigil.TheVariants.{Absent, Awake, Tried}
-use Rattle.wake_duty.specs.Wakes.{awake, wake_word}
+use Rattle.wake_duty.specs.Wakes.{awake, waits, wake_word}
+use Rattle.sem_duty.specs.declared.view.SemWake.{SemWake}
 use Rattle.sem_duty.specs.SemDuties.{DutyPart, answers, chose, first_writes, rouses, stirs, times, wakes_first, where_so}
 use Rattle.rwsem_wake.specs.SemParts.{SemPart, alone_of, busy_of, busy_weight, granted_of, granting_of, named_weight, reads_at, reads_weight, reserve_of, rest_of, shared_of, transit_weight, writes_at, writes_weight}
 use Rattle.rwsem_wake.specs.Duties.{overdue_of}
@@ -34,9 +36,17 @@ use Rattle.rwsem_wake.proofs.Readers.{only-first, readers-are, readers-once}
 use Rattle.rwsem_wake.proofs.Stating.{sem-states, sem-waiters}
 use Rattle.rwsem_slow.specs.ListLaws.{batch-busy}
 use Rattle.rwsem_slow.specs.ListSteps.{counted-is}
-use Rattle.rwsem_slow.specs.RwSems.{V, Kept, RwSemKept, count_in, duty_seen, grants_in, list_of, marks_in, seen, standing, wake_words}
+use Rattle.rwsem_slow.specs.WakesGo.{WakeStands}
+use Rattle.rwsem_slow.proofs.Marking.{same-wakes}
+use Rattle.rwsem_slow.specs.RwSems.{V, IsDone, Kept, RwSemKept, count_in, duty_seen, grants_in, list_of, marks_in, seen, standing, wake_words}
 use Rattle.rwsem_slow.specs.RwSemLaws.{few-named}
-use Rattle.rwsem_slow.specs.Stated.{HasWaitLock, IsQueued, IsRoused, IsRwSemThen, SomebodyKeepsOut, SomebodyLooks, WakesMarked}
+use Rattle.rwsem_slow.specs.Stated.{HasWaitLock, IsQueued, IsRoused, IsRwSemThen, SomebodyKeepsOut, SomebodyOwes, WakesMarked, stance}
+
+-- who doesn't wait has no vigil
+waits-none : (x : Vigil) → waits x ≡ 0 → x ≡ Absent
+waits-none Absent e = refl
+waits-none Awake e = absurd (omega (arith, e))
+waits-none (Tried n) e = absurd (omega (arith, e))
 
 length-map : {A B : Type 0} (f : A → B) (xs : List A) → length (map f xs) ≡ length xs
 length-map f [] = refl
@@ -110,10 +120,10 @@ module _ {Call : Type 0} (o : Obj Call) (size : ℕ) (k : Plan) (ws : List ℕ) 
     | no none ↦ let s = view-of seen (writes_at t) vs (omega (arith, none, a, b, c, more)) in (s.0, s.1.hand, at_map hand_of vs s.0 s.1 s.2, named-is t s.1.hand.task (writes_weight s.1.ext.sem.wait) s.3)
   ]
 
-  small : Each (λ (p : SemPart). (t : ℕ) → p.task ≡ Some t → t < 64) ps
+  small : Each (λ (p : SemPart). (t : ℕ) → p.task ≡ Some t → t < MAX_TASKS) ps
   small j p at t has = let v = at_unmap seen vs j p at in let named : v.0.hand.task ≡ Some t = ap {A = SemPart} (λ x. x.task) v.2 ∙ has in let m = (r.site_holds.each j v.0.hand (at_map hand_of vs j v.0 v.1)).mine t named in let l = m.0 in let s = r.site_holds.laid.small.tasks in omega (arith, l, s)
 
-  named-once : (t : ℕ) → t < 64 → total (λ (p : SemPart). is_number t p.task) ps ≤ 1
+  named-once : (t : ℕ) → t < MAX_TASKS → total (λ (p : SemPart). is_number t p.task) ps ≤ 1
   named-once t few = let a = (r.site_holds.balances.named t few).1 in let e = same vs in omega (arith, a, e)
     where
       same : (xs : List V) → total (λ (p : SemPart). is_number t p.task) (map seen xs) ≡ total (named_of t) (map hand_of xs)
@@ -128,25 +138,37 @@ module _ {Call : Type 0} (o : Obj Call) (size : ℕ) (k : Plan) (ws : List ℕ) 
   marked-as : (j : ℕ) (v : V) → get_elem? vs j ≡ some v → WakesMarked j v.ext.wake here
   marked-as j v at = (v.ext.sem, v.ext.appends, at_map (marks_of standing) vs j v at)
 
+  -- a pass without a number has no wake to do
+  done : (j : ℕ) (v : V) → get_elem? vs j ≡ some v → v.hand.task ≡ None → IsDone v.ext.wake
+  done j v at none = let quiet = (r.duty.each j (duty v) (at_map duty vs j v at)).unnamed none in record { clear = quiet.clear; none = quiet.none; absent = waits-none v.ext.wake.vigil quiet.absent }
+
+  unnamed-there : (id : ℕ) (h : Hand) (b : SemWake) → get_elem? (map hand_of vs) id ≡ some h → h.task ≡ None → WakesMarked id b here → IsDone b
+  unnamed-there id h b at none (s, appends, marked) = let x = at_unmap hand_of vs id h at in let v : V = x.0 in let quiet = done id v x.1 (ap {A = Hand} (λ g. g.task) x.2 ∙ none) in
+      let e = same-wakes v s appends b (some-injective (marks_of standing v) (stance s appends b) (sym (at_map (marks_of standing) vs id v x.1) ∙ marked)) in record {
+        clear = sym (ap (λ (w : WakeStands). w.owing) e) ∙ quiet.clear;
+        none = sym (ap (λ (w : WakeStands). w.chosen) e) ∙ quiet.none;
+        absent = waits-none b.vigil (sym (ap (λ (w : WakeStands). w.queued) e) ∙ ap waits quiet.absent);
+      }
+
   -- a task is roused that somebody has chosen, whose wake word is set, or that is awake
   chosen-roused : (t j : ℕ) (v : V) → get_elem? vs j ≡ some v → 0 < times t v.ext.wake.chosen → IsRoused here t
-  chosen-roused t j v at more = inl (j, v.ext.wake, marked-as j v at, omega (arith, more))
+  chosen-roused t j v at more = inl (j, v.hand, v.ext.wake, at_map hand_of vs j v at, (λ none. let quiet = done j v at none in absurd (let z = ap (times t) quiet.none in omega (arith, more, z))), marked-as j v at, omega (arith, more))
 
-  word-roused : (t : ℕ) → t < 64 → 0 < wake_word (wake_words ws) t → IsRoused here t
+  word-roused : (t : ℕ) → t < MAX_TASKS → 0 < wake_word (wake_words ws) t → IsRoused here t
   word-roused t few more = let l = r.duty.bits t few in inr (inl (omega (arith, l, more)))
 
   awake-roused : (t j : ℕ) (v : V) → get_elem? vs j ≡ some v → 0 < awake t v.hand.task v.ext.wake.vigil → IsRoused here t
   awake-roused t j v at more = let a = awake-is t v.hand.task v.ext.wake.vigil more in inr (inr (j, v.hand, v.ext.wake, at_map hand_of vs j v at, a.0, marked-as j v at, a.1))
 
-  -- the pass of this weight writes, or is to look whom to wake
-  looks-or : (j : ℕ) (v : V) → get_elem? vs j ≡ some v → SomebodyLooks here ⊎ (bit v.ext.wake.owing ≡ 0)
+  -- the pass of this weight writes, or owes a wake
+  looks-or : (j : ℕ) (v : V) → get_elem? vs j ≡ some v → SomebodyOwes here ⊎ (bit v.ext.wake.owing ≡ 0)
   looks-or j v at = elim (native.Mathlib.Decide.dec_le 1 (bit v.ext.wake.owing)) [
-    | yes owes ↦ inl (j, v.ext.wake, marked-as j v at, so-is v.ext.wake.owing owes)
+    | yes owes ↦ inl (j, v.hand, v.ext.wake, at_map hand_of vs j v at, (λ none. let quiet = done j v at none in absurd (let z = ap bit quiet.clear in omega (arith, owes, z))), marked-as j v at, so-is v.ext.wake.owing owes)
     | no clear ↦ inr (omega (arith, clear))
   ]
 
   -- the first of those who wait, where nobody writes or reads
-  first-there : (w : Waiter) (behind : List Waiter) → q ≡ w ∷ behind → total alone_of ps ≡ 0 → readers (grants_in ws) ps ≡ 0 → SomebodyLooks here ⊎ SomebodyKeepsOut ps ⊎ ((w.writer ≡ true) × IsRoused here w.task)
+  first-there : (w : Waiter) (behind : List Waiter) → q ≡ w ∷ behind → total alone_of ps ≡ 0 → readers (grants_in ws) ps ≡ 0 → SomebodyOwes here ⊎ SomebodyKeepsOut ps ⊎ ((w.writer ≡ true) × IsRoused here w.task)
   first-there w behind is none unread = elim (native.Mathlib.Decide.dec_le 1 (total stirs ds)) [
     | yes stir ↦ somebody stir
     | no still ↦ let kept = r.duty.first t (ap first_code is) in let e : wakes_first (wake_words ws) q ds t ≡ where_so (bit w.writer) (total (rouses t) ds + wake_word (wake_words ws) t) = ap (λ (z : List Waiter). where_so (first_writes z) (total (rouses t) ds + wake_word (wake_words ws) t)) is in
@@ -156,12 +178,12 @@ module _ {Call : Type 0} (o : Obj Call) (size : ℕ) (k : Plan) (ws : List ℕ) 
       t : ℕ
       t = w.task
 
-      few : w.task < 64
+      few : w.task < MAX_TASKS
       few = (subst AreTasks is r.list.sound.small).0
 
-      somebody : 1 ≤ total stirs ds → SomebodyLooks here ⊎ SomebodyKeepsOut ps ⊎ ((w.writer ≡ true) × IsRoused here w.task)
+      somebody : 1 ≤ total stirs ds → SomebodyOwes here ⊎ SomebodyKeepsOut ps ⊎ ((w.writer ≡ true) × IsRoused here w.task)
       somebody stir = let s = view-of duty stirs vs (omega (arith, stir)) in let x : V = s.1 in let at = at_map seen vs s.0 x s.2 in ⊎_elim
-          (λ (looks : SomebodyLooks here). inl looks)
+          (λ (looks : SomebodyOwes here). inl looks)
           (λ (clear : bit x.ext.wake.owing ≡ 0). inr (inl (s.0, seen x, at, (let a = total-at alone_of ps s.0 (seen x) at in let b = total-at shared_of ps s.0 (seen x) at in let c = total-at (granted_of (grants_in ws)) ps s.0 (seen x) at in let d = total-at granting_of ps s.0 (seen x) at in let m = s.3 in omega (arith, m, clear, a, b, c, d, none, unread)))))
           (looks-or s.0 x s.2)
 
@@ -175,9 +197,9 @@ module _ {Call : Type 0} (o : Obj Call) (size : ℕ) (k : Plan) (ws : List ℕ) 
       ]
 
   -- while a bias stands that came under a writer
-  late-there : (id : ℕ) (p : SemPart) → get_elem? ps id ≡ some p → 1 ≤ overdue_of p → (1 ≤ total alone_of ps) ⊎ SomebodyLooks here
+  late-there : (id : ℕ) (p : SemPart) → get_elem? ps id ≡ some p → 1 ≤ overdue_of p → (1 ≤ total alone_of ps) ⊎ SomebodyOwes here
   late-there id p at more = let l = total-at overdue_of ps id p at in let e = late-are seen (λ (x : V). x.ext.wake) (grants_in ws) vs in let k = r.duty.late (omega (arith, l, e, more)) in let s = view-of duty answers vs (omega (arith, k)) in ⊎_elim
-      (λ (looks : SomebodyLooks here). inr looks)
+      (λ (looks : SomebodyOwes here). inr looks)
       (λ (clear : bit s.1.ext.wake.owing ≡ 0). inl (let a = total-at alone_of ps s.0 (seen s.1) (at_map seen vs s.0 s.1 s.2) in let m = s.3 in omega (arith, a, m, clear)))
       (looks-or s.0 s.1 s.2)
 
@@ -225,6 +247,7 @@ module _ {Call : Type 0} (o : Obj Call) (size : ℕ) (k : Plan) (ws : List ℕ) 
     );
     first = first-there;
     late = late-there;
+    unnamed = unnamed-there;
     granted = granted-there;
   }
 

@@ -1,9 +1,6 @@
 -- How a waiter that tries waits then.
-use Rattle.std.proofs.Common.{◌≡◌, ◌∙◌, ℕ, zero, suc, inl, inr, ◌+◌, ◌/◌, ◌%◌, ◌≤◌, ◌==◌, ◌&&◌, ◌⊎◌, Bool, true, false, Some, refl, sym, ap, subst, arith, eq-eqb, ne_eqb, if◌then◌else◌}
-use mathlib.Core.Logic.{dite}
-use native.Mathlib.Decide.{ℕ_discrete}
+use Rattle.std.proofs.Common.{◌≡◌, ◌∙◌, ℕ, zero, suc, inl, inr, ◌+◌, ◌/◌, ◌%◌, ◌==◌, ◌&&◌, Bool, true, false, [], Some, refl, sym, ap, subst, arith, eq-eqb, ne_eqb, if◌then◌else◌}
 use Rattle.word_bits.specs.LockWords.{IsLawfulCount}
-use Rattle.lock_core.proofs.HandLaws.{not-both}
 use Rattle.wake_duty.specs.declared.view.Vigil.{Vigil}
 use Rattle.wake_duty.specs.declared.view.Vigil.TheVariants.{Absent, Awake, Tried}
 use Rattle.wake_duty.specs.Wakes.{foiled, waits}
@@ -13,9 +10,10 @@ use Rattle.rwsem_count.specs.WordSteps.{IsLocked}
 use Rattle.rwsem_wake.specs.Duties.{exchanged, foiled_by, foiled_unless, heard_locked_at, is_left, is_own, saw_count, saw_mark, sees_itself}
 use Rattle.rwsem_wake.specs.Grants.{StirsTo, TurnsTo}
 use Rattle.rwsem_wake.specs.declared.view.SemHand.{SemHand}
+use Rattle.rwsem_wake.specs.declared.view.Wait.TheVariants.{Reads, Writes}
 use Rattle.wait_list.specs.Lists.{first_code}
-use Rattle.rwsem_slow.specs.RwSems.{V, list_of, vigil_of, with_sem, with_wake}
-use Rattle.rwsem_slow.specs.Queued.{HasTriedAt, IsListed, KeepsWaiting}
+use Rattle.rwsem_slow.specs.RwSems.{V, list_of, sleep_vigil, sleeps_as, vigil_of, with_sem, with_wake}
+use Rattle.rwsem_slow.specs.Queued.{HasTriedAt, IsInLine, IsListed, KeepsWaiting, Listens, Tries, waiting}
 
 pub keeps-same : (b : SemWake) → KeepsWaiting b b
 keeps-same b = record { is = refl; waits = refl }
@@ -63,6 +61,17 @@ tried-same v u same tried = (tried.0, ap (λ (z : SemWake). z.vigil) same ∙ tr
 
 pub at-same : (word : ℕ) (v u : V) → u.ext.wake ≡ v.ext.wake → HasTriedAt word v → HasTriedAt word u
 at-same word v u same tried = λ held. tried-same v u same (tried held)
+
+-- a writer in line that has tried may sleep once it has released the wait lock and heard of its signals
+pub writer-sleeps : (v u : V) → u.ext ≡ v.ext → IsInLine Writes v → HasTried vigil_of v → HasTried sleep_vigil u
+writer-sleeps v u same line tried = (tried.0, ap sleep_vigil same ∙ ((λ i. sleeps_as (line.listed.clear i) (line.listed.none i) (line.waits i).bias (line.waits i).wait v.ext.wake.vigil) ∙ tried.1))
+
+-- and so may a reader
+pub reader-sleeps : (u h p : V) → IsInLine Reads u → Tries u h → Listens h p → HasTried vigil_of p → HasTried sleep_vigil p
+reader-sleeps u h p line tries listens tried = let sem : p.ext.sem ≡ waiting Reads = ap (λ (z : V). z.ext.sem) listens ∙ (ap (λ (z : V). z.ext.sem) tries.is ∙ line.waits) in
+    let clear : p.ext.wake.owing ≡ false = ap (λ (z : V). z.ext.wake.owing) listens ∙ (ap (λ (b : SemWake). b.owing) tries.keeps.is ∙ line.listed.clear) in
+    let none : p.ext.wake.chosen ≡ [] = ap (λ (z : V). z.ext.wake.chosen) listens ∙ (ap (λ (b : SemWake). b.chosen) tries.keeps.is ∙ line.listed.none) in
+    (tried.0, (λ i. sleeps_as (clear i) (none i) (sem i).bias (sem i).wait p.ext.wake.vigil) ∙ tried.1)
 
 pub listed-on : (b c : SemWake) → KeepsWaiting b c → IsListed b → IsListed c
 listed-on b c k l = record { clear = ap (λ (z : SemWake). z.owing) k.is ∙ l.clear; none = ap (λ (z : SemWake). z.chosen) k.is ∙ l.none; waits = k.waits ∙ l.waits }

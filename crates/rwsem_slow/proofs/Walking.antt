@@ -1,5 +1,6 @@
 -- The walk along a list, from waiter to waiter.
 use Rattle.std.proofs.Common.{◌≡◌, ◌≢◌, ℕ, ◌<◌, ◌≤◌, ◌==◌, Bool, List, [], ◌∷◌, ◌++◌, length, Option, Some, None, sym, refl, ap, ◌∙◌, subst, arith, eq-eqb, ne_eqb, if◌then◌else◌, append_assoc, length-append}
+use Rattle.word_bits.specs.declared.TheConstants.{MAX_TASKS}
 use Rattle.lock_core.specs.Records.{bit}
 use Rattle.wait_list.specs.declared.view.Waiter.{Waiter}
 use Rattle.wait_list.specs.declared.view.ListHand.{ListHand}
@@ -34,10 +35,10 @@ pub along-starts : (known : List Waiter) (w : Waiter) (read : List Waiter) → S
 along-starts known w read first is = let s = some-first known w first in ([], s.0, is, s.1)
 
 module _ (known read : List Waiter) (last : Waiter) (a : IsAlong known read last) where
-  pub along-small : AreTasks known → last.task < 64
+  pub along-small : AreTasks known → last.task < MAX_TASKS
   along-small small = go a.0 (subst AreTasks a.3 small)
     where
-      go : (pre : List Waiter) → AreTasks (pre ++ last ∷ a.1) → last.task < 64
+      go : (pre : List Waiter) → AreTasks (pre ++ last ∷ a.1) → last.task < MAX_TASKS
       go [] s = s.0
       go (x ∷ pre) s = go pre s.1
 
@@ -58,7 +59,7 @@ module _ (known read : List Waiter) (last : Waiter) (a : IsAlong known read last
   pub along-ends : ((t : ℕ) → counted t known ≤ 1) → (0 < counted last.task known → None ≡ next_of last.task known) → read ≡ known
   along-ends once is = a.2 ∙ sym (a.3 ∙ ap (λ (z : List Waiter). a.0 ++ last ∷ z) (none-first a.1 (along-next None once is)))
 
-  pub along-full : length known ≤ 64 → 64 ≤ length read → read ≡ known
+  pub along-full : length known ≤ MAX_TASKS → MAX_TASKS ≤ length read → read ≡ known
   along-full few many = a.2 ∙ sym (a.3 ∙ ap (λ (z : List Waiter). a.0 ++ last ∷ z) (none a.1 refl))
     where
       none : (post : List Waiter) → a.1 ≡ post → a.1 ≡ []

@@ -1,6 +1,6 @@
 -- Each kind of step of a semaphore keeps the facts of its wake words.
-use Rattle.std.proofs.Common.{◌≡◌, ◌≢◌, ℕ, zero, suc, ◌+◌, ◌-◌, ◌*◌, ◌/◌, ◌%◌, ◌<◌, ◌≤◌, ◌==◌, ◌&&◌, ◌⊎◌, inl, inr, Bool, true, false, List, [], ◌∷◌, ◌++◌, length, map, get_or, set, Option, Some, None, sym, refl, ap, ◌∙◌, subst, arith, ⊎_elim, eq-eqb, ne_eqb, if◌then◌else◌}
-use mathlib.Core.Option.{some, some-injective, some-ne-none}
+use Rattle.std.proofs.Common.{◌≡◌, ◌≢◌, ℕ, zero, suc, ◌+◌, ◌*◌, ◌/◌, ◌%◌, ◌<◌, ◌≤◌, ◌==◌, ◌&&◌, ◌⊎◌, inl, inr, Bool, true, false, List, [], ◌∷◌, ◌++◌, length, map, get_or, set, Option, Some, None, sym, refl, ap, ◌∙◌, subst, arith, eq-eqb, ne_eqb, if◌then◌else◌}
+use mathlib.Core.Option.{some, some-injective}
 use mathlib.Core.Logic.{dite}
 use native.Mathlib.Decide.{ℕ_discrete}
 use lib.ListN.{get_elem?}
@@ -16,15 +16,14 @@ use Rattle.lock_core.specs.Parts.{Each, at_unmap, each-set, keep_part, set_part,
 use Rattle.lock_core.proofs.HandLaws.{false-or-true, is_number-here, not-both}
 use Rattle.lock_core.proofs.RowLaws.{none-some}
 use Rattle.wait_list.specs.declared.view.Waiter.{Waiter}
-use Rattle.wait_list.specs.declared.view.Change.TheVariants.{Stay, Enter, Leave}
+use Rattle.wait_list.specs.declared.view.Change.TheVariants.{Enter, Leave}
 use Rattle.wait_list.specs.declared.view.ListHand.{ListHand}
 use Rattle.wait_list.specs.Lists.{AreTasks, first_code, listed, without}
-use Rattle.wake_duty.specs.declared.view.Vigil.{Vigil}
-use Rattle.wake_duty.specs.declared.view.Vigil.TheVariants.{Absent, Awake, Tried}
+use Rattle.wake_duty.specs.declared.view.Vigil.TheVariants.{Awake}
 use Rattle.wake_duty.specs.Wakes.{awake, waits, wake_word}
 use Rattle.sem_duty.specs.declared.view.SemWake.{SemWake}
-use Rattle.sem_duty.specs.SemDuties.{DutyPart, DutyKept, IsQuiet, alone_of as alone_in_duty, late_of as late_in_duty, owes, answers, stirs, chose, rouses, times, where_so, first_writes, wakes_first, recounted, entering, leaving, choosing}
-use Rattle.sem_duty.specs.SemDutyLaws.{duty-guards, duty-counts, duty-owes, duty-ends, duty-lets-go, duty-writes, duty-unwaited, duty-enters, duty-leaves, duty-picks, duty-chooses, duty-quiet, duty-pays}
+use Rattle.sem_duty.specs.SemDuties.{DutyPart, DutyKept, IsQuiet, alone_of as alone_in_duty, late_of as late_in_duty, owes, stirs, chose, rouses, where_so, first_writes, wakes_first, recounted, entering, leaving}
+use Rattle.sem_duty.specs.SemDutyLaws.{duty-guards, duty-owes, duty-ends, duty-lets-go, duty-writes, duty-unwaited, duty-enters, duty-leaves, duty-picks, duty-chooses, duty-quiet, duty-pays}
 use Rattle.rwsem_count.specs.declared.view.Bias.{Bias}
 use Rattle.rwsem_count.specs.declared.view.Bias.TheVariants.{Clear, Transit, Reserve}
 use Rattle.rwsem_count.specs.Counts.{early_weight, late_weight, part, shared_in, shared_weight}
@@ -35,12 +34,11 @@ use Rattle.rwsem_wake.specs.declared.view.Stage.{Stage}
 use Rattle.rwsem_wake.specs.declared.view.Stage.TheVariants.{Rest, Armed, Joining, First, Marking, Took, Removed, Emptied, Overdue, Marked, Removing, Summing, Counted, Granting}
 use Rattle.rwsem_wake.specs.SemParts.{SemPart, alone_of, apart_hand, busy_of, busy_weight, granted_of, granted_weight, granting_of, granting_weight, is_zero, nobody, reads_weight, reserve_weight, part_of, shared_of, some_of, transit_of, transit_weight, writes_weight, writes_at, writer_at, named_weight}
 use Rattle.rwsem_wake.specs.Semaphores.{SemKept, SemPartOk, FlagsAt, FlagsOf, now, pick}
-use Rattle.rwsem_wake.specs.Stated.{IsFirstReader}
 use Rattle.rwsem_wake.specs.Grants.{KeepsOut}
 use Rattle.rwsem_wake.specs.Duties.{StageOk, WakeGoes, begun_weight, waited_weight, duty_of, guards_of, is_left, kept_of, kept_weight, overdue_of, overdue_weight, paid, writes_of}
-use Rattle.rwsem_wake.proofs.DutySteps.{duty_at, duty-goes-on, field-is, writer-is, guards-are, late-are, alone-are, not-left, overdue-only}
+use Rattle.rwsem_wake.proofs.DutySteps.{field-is, writer-is, guards-are, late-are, alone-are, not-left, overdue-only}
 use Rattle.rwsem_wake.proofs.Sums.{busy-most, now-at}
-use Rattle.rwsem_slow.specs.RwSems.{V, LeavesBehind, LeavesFirst, LeavesTaken, MayJoin, MayPick, biased, gone, may_count, picked, sem_of, with_list, IsDone, IsStaged, duty_seen, has_waiters, joined, leaves_wake, chooses_task, looked, looks_at, owes_after, parted, parted_wake, seen, wake_of}
+use Rattle.rwsem_slow.specs.RwSems.{V, LeavesBehind, LeavesFirst, LeavesTaken, MayJoin, MayPick, biased, gone, may_count, picked, sem_of, with_list, IsDone, IsStaged, duty_seen, has_waiters, joined, leaves_wake, chooses_task, looked, looks_at, owes_after, parted, parted_wake, seen}
 
 -- the facts of the wake words, and that each pass stands as its stage asks
 abbrev pub Duties : List ℕ → List ℕ → List Waiter → List V → Type 0
@@ -660,7 +658,7 @@ module _ (words grants marks : List ℕ) (n : ℕ) (q : List Waiter) (vs : List 
       by-pick (inr (inl (c, is))) = picks (Overdue c) is refl (λ i. record y { ext = record { list = b; sem = parted (is i) v.ext.sem.wait t (length b.list) v.ext.sem; appends = v.ext.appends; wake = parted_wake (is i) v.ext.sem.wait t v.ext.wake } })
       by-pick (inr (inr is)) = picks Removing is refl (λ i. record y { ext = record { list = b; sem = parted (is i) v.ext.sem.wait t (length b.list) v.ext.sem; appends = v.ext.appends; wake = parted_wake (is i) v.ext.sem.wait t v.ext.wake } })
 
-  -- a look whom to wake, by a pass without a bias that knows the list
+  -- a look that pays for a wake, by a pass without a bias that knows the list
   pub duties-look : (m : ℕ) → v.ext.sem.bias ≡ Clear → v.ext.list.list ≡ q → AreTasks q → Duties words grants q (set vs id (record v { steps = m; ext = record v.ext { wake = looked true v.hand.held v.ext.list.list v.ext.wake } }))
   duties-look m clear known small = by-list q known refl small
     where

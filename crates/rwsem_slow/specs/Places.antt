@@ -21,7 +21,7 @@ pub record IsOutside (v : V) : Type 0 where
   pub still : v.ext.list.changes ≡ false
   pub done : IsDone v.ext.wake
 
--- the same, but it may be to look whom to wake
+-- the same, but it may owe a wake
 pub record MayOwe (v : V) : Type 0 where
   pub apart : v.ext.sem ≡ apart_hand
   pub still : v.ext.list.changes ≡ false

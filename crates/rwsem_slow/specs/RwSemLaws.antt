@@ -144,7 +144,7 @@ module _ {Call : Type 0} (o : Obj Call) (size : ℕ) where
     one-takes = let b = r.spin.1.lock.balanced.comes in let t = takes-total vs in omega (arith, b, t)
 
     -- at most as many passes have a number as there are tasks
-    pub few-named : total number_of (map seen vs) ≤ 64
+    pub few-named : total number_of (map seen vs) ≤ MAX_TASKS
     few-named = let n = numbers in let e = same vs in omega (arith, n, e)
       where
         same : (xs : List V) → total number_of (map seen xs) ≡ total (λ (v : V). number_in v.hand.task) xs

@@ -25,7 +25,7 @@ use Rattle.wait_list.specs.declared.view.ListHand.{ListHand}
 use Rattle.wait_list.specs.declared.words.TheConstants.{LIST_WORDS}
 use Rattle.wait_list.specs.Lists.{ListKept, ListMoves, list_part, no_list, first_code}
 use Rattle.wake_duty.specs.declared.view.Vigil.{Vigil}
-use Rattle.wake_duty.specs.declared.view.Vigil.TheVariants.{Absent, Awake, Tried}
+use Rattle.wake_duty.specs.declared.view.Vigil.TheVariants.{Absent, Awake}
 use Rattle.wake_duty.specs.Wakes.{WAKE_WORDS, waits}
 use Rattle.sem_duty.specs.declared.view.SemWake.{SemWake}
 use Rattle.sem_duty.specs.SemDuties.{DutyPart, DutyKept, no_wake, times, setting, drowsing}
@@ -70,6 +70,16 @@ with_wake e b = record e { wake = b }
 
 abbrev pub vigil_of : RwSemHand → Vigil
 vigil_of e = e.wake.vigil
+
+-- how a pass waits that leaves nothing undone: it owes no wake, has chosen nobody, has no bias in the count, and waits
+abbrev pub sleeps_as : Bool → List ℕ → Bias → Wait → Vigil → Vigil
+sleeps_as false [] Clear Reads x = x
+sleeps_as false [] Clear Writes x = x
+sleeps_as _ _ _ _ x = Absent
+
+-- so it waits where it may sleep; any other is as one that doesn't wait
+abbrev pub sleep_vigil : RwSemHand → Vigil
+sleep_vigil e = sleeps_as e.wake.owing e.wake.chosen e.sem.bias e.sem.wait e.wake.vigil
 
 -- it has chosen this task, and hasn't set its wake word, and each of its batch is granted
 abbrev pub HasChosen : RwSemHand → ℕ → Type 0
@@ -116,7 +126,7 @@ stage_code Granting = 2
 stage_code Marking = 3
 stage_code _ = 1
 
--- whether it is to look whom to wake, whether it waits, whether it is awake, how many wake words it has set, how often it has fallen asleep, and whom it has chosen
+-- whether it owes a wake, whether it waits, whether it is awake, how many wake words it has set, how often it has fallen asleep, and whom it has chosen
 abbrev pub wake_codes : SemWake → List ℕ
 wake_codes b = bit b.owing ∷ waits b.vigil ∷ awake_bit b.vigil ∷ b.wakes ∷ b.dozes ∷ length b.chosen ∷ b.chosen
 
@@ -240,7 +250,7 @@ rests v = (v.ext.sem ≡ apart_hand) × IsDone v.ext.wake
 abbrev pub has_waiters : ℕ → Bool
 has_waiters word = word / 2 % 2 == 1
 
--- whether a pass is to look whom to wake that left this count: who ends or lowers an exclusive hold does where tasks wait, and who ends a shared one where besides nobody is counted
+-- whether a pass owes a wake that left this count: who ends or lowers an exclusive hold does where tasks wait, and who ends a shared one where besides nobody is counted
 abbrev pub owes_after : Held → Held → ℕ → Bool → Bool
 owes_after Alone No word owing = has_waiters word
 owes_after Alone Shared word owing = has_waiters word
@@ -284,7 +294,7 @@ parted Armed wait t long s = gone Rest s
 parted Rest Writes t long s = gone Rest s
 parted _ wait t long s = picked t s
 
--- it leaves the list, and is to look whom to wake or not
+-- it leaves the list, and owes a wake or not
 abbrev pub leaves_wake : Bool → SemWake → SemWake
 leaves_wake owing b = record b { owing = owing; vigil = Absent }
 
@@ -331,7 +341,7 @@ looked false held q b = b
 looked true held [] b = paid b
 looked true held (w ∷ q) b = looks_at held w.writer w.task b
 
--- a look at the head under the wait lock is the look whom to wake
+-- a look at the head under the wait lock is the look that pays for a wake
 abbrev pub saw_first : V → ℕ → RwSemHand
 saw_first v n = record v.ext { wake = looked (may_look v) v.hand.held v.ext.list.list v.ext.wake }
 

@@ -1,5 +1,5 @@
 -- The rule of a semaphore has wake words.
-use Rattle.std.proofs.Common.{◌≡◌, ◌≢◌, ℕ, zero, suc, ◌+◌, ◌*◌, ◌<◌, ◌≤◌, ◌==◌, inl, inr, List, [], ◌∷◌, None, eq-eqb, length, map, get_or, set, Option, Some, sym, refl, ap, ◌∙◌, subst, arith, length-set}
+use Rattle.std.proofs.Common.{◌≡◌, ◌≢◌, ℕ, zero, suc, ◌+◌, ◌*◌, ◌<◌, ◌≤◌, ◌==◌, inl, inr, List, [], ◌∷◌, None, eq-eqb, map, get_or, set, Option, Some, sym, refl, ap, ◌∙◌, subst, arith, length-set, Bool, true, false, ◌⊎◌}
 use mathlib.Core.Option.{some, some-injective}
 use mathlib.Core.Logic.{dite}
 use native.Mathlib.Decide.{ℕ_discrete}
@@ -19,8 +19,8 @@ use Rattle.lock_core.specs.Records.{bit}
 use Rattle.lock_core.specs.SpinFrames.{holds_at}
 use Rattle.lock_core.specs.Spins.{SpinMoves, holds_in}
 use Rattle.lock_core.specs.SpinLaws.{spin-same}
-use Rattle.lock_core.specs.Totals.{total, total-at, total-two}
-use Rattle.lock_core.specs.Parts.{Each, at_unmap, each-set, keep_part, set-there, set_part}
+use Rattle.lock_core.specs.Totals.{total, total-two}
+use Rattle.lock_core.specs.Parts.{at_unmap, each-set, keep_part, set-there, set_part}
 use Rattle.lock_core.specs.Regions.{part-in, part-below, part-at}
 use Rattle.lock_core.proofs.HandLaws.{is_number-else, is_number-here}
 use Rattle.wait_list.specs.declared.view.Waiter.{Waiter}
@@ -29,14 +29,17 @@ use Rattle.wait_list.specs.Lists.{ListKept, Part, list_part, first_code}
 use Rattle.wait_list.specs.declared.words.TheConstants.{LIST_WORDS}
 use Rattle.wake_duty.specs.Wakes.{WAKE_WORDS, wake_word}
 use Rattle.wake_duty.specs.WakeSteps.{HasTried, knowing}
+use Rattle.wake_duty.specs.declared.view.Vigil.{Vigil}
+use Rattle.wake_duty.specs.declared.view.Vigil.TheVariants.{Absent, Awake, Tried}
+use Rattle.rwsem_count.specs.declared.view.Bias.{Bias}
+use Rattle.rwsem_count.specs.declared.view.Bias.TheVariants.{Clear, Transit, Reserve}
 use Rattle.sem_duty.specs.declared.view.SemWake.{SemWake}
 use Rattle.sem_duty.specs.SemDuties.{DutyKept, DutyPart, drowsing, setting, first_writes}
 use Rattle.sem_duty.specs.SemDutyLaws.{duty-sets, duty-drowses}
 use Rattle.rwsem_wake.specs.SemParts.{SemPart, busy_weight, writes_weight, writes_at, writer_at, named_weight}
 use Rattle.rwsem_wake.specs.declared.view.Wait.{Wait}
 use Rattle.rwsem_wake.specs.declared.view.Wait.TheVariants.{Apart, Reads, Writes}
-use Rattle.rwsem_wake.proofs.Lines.{lines-else}
-use Rattle.rwsem_slow.specs.RwSems.{V, HasChosen, IsLocked, IsStaged, Kept as IsKept, RwSemKept, after_set, after_swap, count_at, count_in, duty_seen, grants_at, grants_in, list_at, list_of, list_words, marks_at, marks_in, seen, spin_words, vigil_of, wake_words, wakes_at, with_wake}
+use Rattle.rwsem_slow.specs.RwSems.{V, HasChosen, IsLocked, IsStaged, RwSemKept, after_set, after_swap, count_in, duty_seen, grants_in, list_at, list_of, list_words, seen, spin_words, sleep_vigil, sleeps_as, wake_words, wakes_at, with_wake}
 use Rattle.rwsem_slow.specs.WakesGo.{WakesGo, wake_stands}
 use Rattle.rwsem_slow.specs.WakesGoLaws.{goes-drowses, goes-sets, stay-enters}
 use Rattle.rwsem_slow.specs.DutyRule.{Duties, staged-same}
@@ -48,6 +51,16 @@ parted v = list_part list_of v
 
 pub wake-inside : wakes_at + WAKE_WORDS ≤ LOCK_WORDS
 wake-inside = omega arith
+
+-- who may sleep, and how it waits
+sleeps-is : (owing : Bool) (chosen : List ℕ) (bias : Bias) (wait : Wait) (x : Vigil) (e : ℕ) → sleeps_as owing chosen bias wait x ≡ Tried e → (owing ≡ false) × (chosen ≡ []) × (bias ≡ Clear) × ((wait ≡ Reads) ⊎ (wait ≡ Writes)) × (x ≡ Tried e)
+sleeps-is false [] Clear Reads x e is = (refl, refl, refl, inl refl, is)
+sleeps-is false [] Clear Writes x e is = (refl, refl, refl, inr refl, is)
+sleeps-is false [] Clear Apart x e is = absurd cc
+sleeps-is false [] (Transit m) wait x e is = absurd cc
+sleeps-is false [] (Reserve m) wait x e is = absurd cc
+sleeps-is false (t ∷ chosen) bias wait x e is = absurd cc
+sleeps-is true chosen bias wait x e is = absurd cc
 
 module _ {Call : Type 0} (o : Obj Call) (size : ℕ) where
   abbrev Queue : Plan → List ℕ → List V → List Waiter → Type 0
@@ -86,16 +99,22 @@ module _ {Call : Type 0} (o : Obj Call) (size : ℕ) where
       (goes-sets (count_in ws) (count_in ws) q Stay (grants_in ws) (wake_words ws) (set (wake_words ws) (8 * t) 1) (holds_in v.spin) (seen v) (seen v) v.ext.wake t 1 chosen.2 r.duty.wide refl (λ w e. stay-enters w e) refl chosen.0)
 
   -- a waiter swaps its own wake word for 0
-  pub sem-swaps : (k : Plan) (ws : List ℕ) (vs : List V) (q : List Waiter) (id t : ℕ) (v : V) → Queue k ws vs q → get_elem? vs id ≡ some v → v.hand.task ≡ Some t → t < MAX_TASKS → SpinRests v.spin → HasTried vigil_of v
+  pub sem-swaps : (k : Plan) (ws : List ℕ) (vs : List V) (q : List Waiter) (id t : ℕ) (v : V) → Queue k ws vs q → get_elem? vs id ≡ some v → v.hand.task ≡ Some t → t < MAX_TASKS → SpinRests v.spin → HasTried sleep_vigil v
       → Go k id ws vs (set ws (wakes_at + 8 * t) 0) (set vs id (knowing v (after_swap v.ext (get_or ws (wakes_at + 8 * t) 0))))
   sem-swaps k ws vs q id t v r at mine few rests tried = let n : ℕ = get_or ws (wakes_at + 8 * t) 0 in let old : ℕ = wake_word (wake_words ws) t in let word : old ≡ n = part-at ws wakes_at WAKE_WORDS (8 * t) (omega (arith, few)) in
       sem-waking k ws vs q id t 0 v (drowsing n v.ext.wake) r at few
       (subst (λ (z : ℕ). DutyKept (set (wake_words ws) (8 * t) 0) q (set (map (duty_seen (grants_in ws)) vs) id (record (duty_seen (grants_in ws) v) { wake = drowsing z v.ext.wake }))) word
-      (duty-drowses (wake_words ws) q (map (duty_seen (grants_in ws)) vs) id (duty_seen (grants_in ws) v) r.duty (at_map (duty_seen (grants_in ws)) vs id v at) t mine few tried writer apart))
+      (duty-drowses (wake_words ws) q (map (duty_seen (grants_in ws)) vs) id (duty_seen (grants_in ws) v) r.duty (at_map (duty_seen (grants_in ws)) vs id v at) t mine few has_tried writer apart))
       (unstaged (r.staged id v at))
       (subst (λ (z : ℕ). WakesGo (count_in ws) (count_in ws) q Stay (grants_in ws) (wake_words ws) (set (wake_words ws) (8 * t) 0) (holds_in v.spin) (seen v) (seen v) (wake_stands v.ext.wake) (wake_stands (drowsing z v.ext.wake))) word
-      (goes-drowses (count_in ws) (count_in ws) q Stay (grants_in ws) (wake_words ws) (set (wake_words ws) (8 * t) 0) (holds_in v.spin) (seen v) (seen v) v.ext.wake t 0 few r.duty.wide refl (λ w e. stay-enters w e) refl mine (ap holds_at rests) tried))
+      (goes-drowses (count_in ws) (count_in ws) q Stay (grants_in ws) (wake_words ws) (set (wake_words ws) (8 * t) 0) (holds_in v.spin) (seen v) (seen v) v.ext.wake t 0 few r.duty.wide refl (λ w e. stay-enters w e) refl mine (ap holds_at rests) has_tried (idle_is.0, idle_is.1, idle_is.2, idle_is.3)))
     where
+      idle_is : (v.ext.wake.owing ≡ false) × (v.ext.wake.chosen ≡ []) × (v.ext.sem.bias ≡ Clear) × ((v.ext.sem.wait ≡ Reads) ⊎ (v.ext.sem.wait ≡ Writes)) × (v.ext.wake.vigil ≡ Tried tried.0)
+      idle_is = sleeps-is v.ext.wake.owing v.ext.wake.chosen v.ext.sem.bias v.ext.sem.wait v.ext.wake.vigil tried.0 tried.1
+
+      has_tried : (e : ℕ) × (v.ext.wake.vigil ≡ Tried e)
+      has_tried = (tried.0, idle_is.4)
+
       -- a pass that may sleep is about nothing, for it doesn't have the wait lock
       idle : busy_weight v.ext.sem.stage ≡ 0
       idle = let l = r.locked id v at in let out : holds_in v.spin ≡ 0 = ap holds_at rests in omega (arith, l, out)

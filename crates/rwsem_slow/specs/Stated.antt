@@ -2,6 +2,7 @@
 use Rattle.std.specs.Prelude.{◌≡◌, ◌≢◌, ℕ, ◌+◌, ◌/◌, ◌%◌, ◌<◌, ◌≤◌, ◌⊎◌, true, List, [], ◌∷◌, ◌++◌, length, map, Some, None}
 use mathlib.Core.Option.{some}
 use lib.ListN.{get_elem?}
+use Rattle.word_bits.specs.declared.TheConstants.{MAX_TASKS}
 use Rattle.word_bits.specs.LockWords.{counted as shut}
 use Rattle.word_bits.specs.Objects.{Obj}
 use Rattle.word_bits.specs.Histories.{Plan}
@@ -42,17 +43,17 @@ stance s appends b = record { numbers = numbers_of s appends b }
 abbrev pub WakesMarked : ℕ → SemWake → Moment → Type 0
 WakesMarked id b m = (s : SemHand) × (appends : ℕ) × (get_elem? m.marks id ≡ some (stance s appends b))
 
--- a pass is to look whom to wake
-abbrev pub SomebodyLooks : Moment → Type 0
-SomebodyLooks m = (id : ℕ) × (b : SemWake) × WakesMarked id b m × (b.owing ≡ true)
+-- a pass with a task's number owes a wake
+abbrev pub SomebodyOwes : Moment → Type 0
+SomebodyOwes m = (id : ℕ) × (h : Hand) × (b : SemWake) × (get_elem? m.hands id ≡ some h) × (h.task ≢ None) × WakesMarked id b m × (b.owing ≡ true)
 
 -- a bias keeps writers out: that of a reader in transit, or one that a waker has reserved where there was no writer
 abbrev pub SomebodyKeepsOut : List SemPart → Type 0
 SomebodyKeepsOut ps = (id : ℕ) × (p : SemPart) × (get_elem? ps id ≡ some p) × (1 ≤ kept_of p)
 
--- this task needs no more: a pass has chosen it, and hasn't set its wake word yet; or that word is set; or it is awake, and tries or loads its grant word before it sleeps
+-- this task needs no further wake: a pass has chosen it, and hasn't set its wake word yet; or that word is set; or it is awake, and tries or loads its grant word before it sleeps
 abbrev pub IsRoused : Moment → ℕ → Type 0
-IsRoused m t = ((id : ℕ) × (b : SemWake) × WakesMarked id b m × (1 ≤ times t b.chosen))
+IsRoused m t = ((id : ℕ) × (h : Hand) × (b : SemWake) × (get_elem? m.hands id ≡ some h) × (h.task ≢ None) × WakesMarked id b m × (1 ≤ times t b.chosen))
     ⊎ (wake_word (wake_words m.words) t ≡ 1)
     ⊎ ((id : ℕ) × (h : Hand) × (b : SemWake) × (get_elem? m.hands id ≡ some h) × (h.task ≡ Some t) × WakesMarked id b m × (b.vigil ≡ Awake))
 
@@ -71,15 +72,15 @@ pub record AreParts (m : Moment) (ps : List SemPart) : Type 0 where
 
 -- Each reader is a task, once: it holds shared, its grant word is 0 while it waits, or it is in the rest of a batch that is in the count. `readers` is how many there are.
 pub record AreReaders (grants : List ℕ) (ps : List SemPart) : Type 0 where
-  pub once : (t : ℕ) → t < 64 → total (reads_as grants t) ps ≤ 1
-  pub are : over (λ t. total (reads_as grants t) ps) 64 ≡ readers grants ps
+  pub once : (t : ℕ) → t < MAX_TASKS → total (reads_as grants t) ps ≤ 1
+  pub are : over (λ t. total (reads_as grants t) ps) MAX_TASKS ≡ readers grants ps
 
 -- the pass of this number has the wait lock
 abbrev pub HasWaitLock : ℕ → Moment → Type 0
 HasWaitLock id m = (s : SpinHand) × (get_elem? m.spins id ≡ some s) × (holds_in s ≡ 1)
 
 -- While this is the list, and these are the parts of the passes. The list's words state it while the wait lock is free, and each waiter has a pass. The count states whether a task writes, which then is alone, how many read, which biases are in it, and, while the wait lock is free, that tasks wait. Then the first waiter alone may be marked, and HANDOFF is set where it is. Who is about something, has reserved a bias, or has tasks of a batch still to grant, has the wait lock; whose bias is in transit holds nothing, and has a number.
--- Where nobody writes or reads and tasks wait, a pass is to look whom to wake, or a bias keeps writers out, or the first waiter is a writer that is roused. While a bias stands that came under a writer, a task writes, or a pass is to look whom to wake. A reader that is granted while it waits is roused.
+-- Where nobody writes or reads and tasks wait, a pass owes a wake, or a bias keeps writers out, or the first waiter is a writer that is roused. While a bias stands that came under a writer, a task writes, or a pass owes a wake. A reader that is granted while it waits is roused. A pass without a number owes no wake, has chosen nobody and waits for nothing.
 pub record IsQueued (m : Moment) (q : List Waiter) (ps : List SemPart) : Type 0 where
   pub parts : AreParts m ps
   pub sound : IsList q
@@ -92,8 +93,9 @@ pub record IsQueued (m : Moment) (q : List Waiter) (ps : List SemPart) : Type 0 
   pub marked : IsWaitLockFree m.spins → OnlyFirst (count_in m.words / 4 % 2) q (marks_in m.words)
   pub locked : (id : ℕ) (p : SemPart) → get_elem? ps id ≡ some p → 0 < busy_of p + reserve_of p + rest_of p → HasWaitLock id m
   pub apart : (id : ℕ) (p : SemPart) → get_elem? ps id ≡ some p → transit_of p ≡ 1 → (p.held ≡ No) × (p.task ≢ None)
-  pub first : (w : Waiter) (behind : List Waiter) → q ≡ w ∷ behind → total alone_of ps ≡ 0 → readers (grants_in m.words) ps ≡ 0 → SomebodyLooks m ⊎ SomebodyKeepsOut ps ⊎ ((w.writer ≡ true) × IsRoused m w.task)
-  pub late : (id : ℕ) (p : SemPart) → get_elem? ps id ≡ some p → 1 ≤ overdue_of p → (1 ≤ total alone_of ps) ⊎ SomebodyLooks m
+  pub first : (w : Waiter) (behind : List Waiter) → q ≡ w ∷ behind → total alone_of ps ≡ 0 → readers (grants_in m.words) ps ≡ 0 → SomebodyOwes m ⊎ SomebodyKeepsOut ps ⊎ ((w.writer ≡ true) × IsRoused m w.task)
+  pub late : (id : ℕ) (p : SemPart) → get_elem? ps id ≡ some p → 1 ≤ overdue_of p → (1 ≤ total alone_of ps) ⊎ SomebodyOwes m
+  pub unnamed : (id : ℕ) (h : Hand) (b : SemWake) → get_elem? m.hands id ≡ some h → h.task ≡ None → WakesMarked id b m → IsDone b
   pub granted : (id : ℕ) (h : Hand) (p : SemPart) → get_elem? m.hands id ≡ some h → get_elem? ps id ≡ some p → 1 ≤ granted_of (grants_in m.words) p → (t : ℕ) → h.task ≡ Some t → IsRoused m t
 
 -- the facts of a site, and a list

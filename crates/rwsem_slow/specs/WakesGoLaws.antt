@@ -1,5 +1,5 @@
 -- What each kind of step makes of wake words, debts, choices and sleep.
-use Rattle.std.proofs.Common.{◌≡◌, ◌≢◌, ℕ, zero, suc, ◌+◌, ◌*◌, ◌/◌, ◌%◌, ◌<◌, ◌≤◌, ◌==◌, ◌&&◌, ◌⊎◌, inl, inr, Bool, true, false, List, [], ◌∷◌, ◌++◌, length, set, Option, Some, sym, refl, ap, ◌∙◌, subst, arith, ne_eqb, get_or-set_same, get_or-set_other}
+use Rattle.std.proofs.Common.{◌≡◌, ◌≢◌, ℕ, zero, suc, ◌+◌, ◌*◌, ◌/◌, ◌%◌, ◌<◌, ◌≤◌, ◌==◌, ◌&&◌, ◌⊎◌, inl, inr, Bool, true, false, List, [], ◌∷◌, length, set, Some, sym, refl, ap, ◌∙◌, subst, arith, ne_eqb, get_or-set_same, get_or-set_other}
 use mathlib.Core.Logic.{dite}
 use native.Mathlib.Decide.{ℕ_discrete}
 use Rattle.word_bits.specs.declared.TheConstants.{MAX_TASKS}
@@ -7,6 +7,7 @@ use Rattle.lock_core.specs.declared.view.Held.{Held}
 use Rattle.lock_core.specs.declared.view.Held.TheVariants.{No, Shared, Alone}
 use Rattle.lock_core.specs.Records.{bit}
 use Rattle.lock_core.proofs.HandLaws.{false-or-true, not-both}
+use Rattle.lock_core.proofs.RowLaws.{same-some}
 use Rattle.wait_list.specs.declared.view.Waiter.{Waiter}
 use Rattle.wait_list.specs.declared.view.Change.{Change}
 use Rattle.wait_list.specs.declared.view.Change.TheVariants.{Stay, Enter, Leave}
@@ -18,9 +19,9 @@ use Rattle.wake_duty.specs.WakeMoves.{WordGoes}
 use Rattle.sem_duty.specs.declared.view.SemWake.{SemWake}
 use Rattle.sem_duty.specs.SemDuties.{drowsing, first_writes, setting, times}
 use Rattle.rwsem_wake.specs.SemParts.{SemPart, busy_weight}
-use Rattle.rwsem_wake.specs.Duties.{WakeGoes, foiled_by, heard_by, is_left, left_by, paid}
+use Rattle.rwsem_wake.specs.Duties.{WakeGoes, is_left, paid}
 use Rattle.rwsem_wake.specs.Stated.{Picks}
-use Rattle.rwsem_slow.specs.WakesGo.{HearsBy, OwesBy, PaysBy, QueuesBy, SetsBy, TiresBy, WakesGo, awake_bit, wake_stands}
+use Rattle.rwsem_slow.specs.WakesGo.{HearsBy, LeavesNothing, OwesBy, PaysBy, QueuesBy, SetsBy, SetsTask, TiresBy, WakesGo, awake_bit, wake_stands}
 use Rattle.rwsem_slow.specs.RwSems.{has_waiters, leaves_wake, chooses_task, looked, looks_at, owes_after}
 
 -- nobody enters by a step that leaves the list, or by which a task leaves it
@@ -48,17 +49,23 @@ module _ (n n' : ℕ) (q : List Waiter) (c : Change) (grants words words' : List
     Words : (t : ℕ) → t < MAX_TASKS → WordGoes words words' p.task locked (waits b.vigil) (awake_bit b.vigil) (λ u. 1 ≤ times u b.chosen) t
     Words t few = inl (ap (λ (z : List ℕ). wake_word z t) same)
 
-    -- whether it is to look whom to wake changes
+    -- no wake word changes
+    unchanged : {P : Type 0} (t m m' : ℕ) → m ≢ m' → wake_word words t ≡ m → wake_word words' t ≡ m' → P
+    unchanged t m m' other was is = absurd (other (sym was ∙ (sym (ap (λ (z : List ℕ). wake_word z t) same) ∙ is)))
+
+    -- whether it owes a wake changes
     pub goes-owing : ((w : Waiter) → c ≡ Enter w → ⊥) → (o : Bool) → (b.owing ≡ false → o ≡ true → OwesBy n' q c p p') → (b.owing ≡ true → (o ≡ true) ⊎ PaysBy n n' q locked p p') → Go (record b { owing = o })
     goes-owing out o owes pays = record {
       words_go = Words;
       owes = owes;
       pays = λ e. elim (pays e) [ inl stays ↦ inl stays | inr paid_it ↦ inr (inr paid_it) ];
       chooses = inl refl;
+      sets = λ t few was is. unchanged t 0 1 (λ e. omega (arith, e)) was is;
       wakes = λ other. absurd (other refl);
       dozes = λ other. absurd (other refl);
       queues = λ other. absurd (other refl);
       enters = λ w e. absurd (out w e);
+      again = λ t few mine was is. unchanged t 1 0 (λ e. omega (arith, e)) was is;
       rouses = λ e e'. absurd (omega (arith, e, e'));
       tires = λ e e'. absurd (omega (arith, e, e'));
     }
@@ -74,10 +81,12 @@ module _ (n n' : ℕ) (q : List Waiter) (c : Change) (grants words words' : List
       owes = λ e e'. not-both b.owing e e';
       pays = λ e. inl e;
       chooses = inl refl;
+      sets = λ t few was is. unchanged t 0 1 (λ e. omega (arith, e)) was is;
       wakes = λ other. absurd (other refl);
       dozes = λ other. absurd (other refl);
       queues = queues;
       enters = enters;
+      again = λ t few mine was is. unchanged t 1 0 (λ e. omega (arith, e)) was is;
       rouses = λ e e'. inl (rises e e');
       tires = falls;
     }
@@ -89,10 +98,12 @@ module _ (n n' : ℕ) (q : List Waiter) (c : Change) (grants words words' : List
       owes = λ e e'. inr (inr (t, is, mine, first e e'));
       pays = λ e. inl (keeps e);
       chooses = inl refl;
+      sets = λ t few was is. unchanged t 0 1 (λ e. omega (arith, e)) was is;
       wakes = λ other. absurd (other refl);
       dozes = λ other. absurd (other refl);
       queues = λ _. inr (inl (t, is, mine), refl);
       enters = λ w e. leave-enters t w (sym is ∙ e);
+      again = λ t few mine was is. unchanged t 1 0 (λ e. omega (arith, e)) was is;
       rouses = λ e e'. absurd (omega (arith, e'));
       tires = λ e e'. inl (t, is, mine);
     }
@@ -104,10 +115,12 @@ module _ (n n' : ℕ) (q : List Waiter) (c : Change) (grants words words' : List
       owes = λ e e'. not-both false refl e';
       pays = λ e. inr (inl (t, refl, has, why));
       chooses = inr (inl (t, refl, has, why));
+      sets = λ t few was is. unchanged t 0 1 (λ e. omega (arith, e)) was is;
       wakes = λ other. absurd (other refl);
       dozes = λ other. absurd (other refl);
       queues = λ other. absurd (other refl);
       enters = λ w e. absurd (out w e);
+      again = λ t few mine was is. unchanged t 1 0 (λ e. omega (arith, e)) was is;
       rouses = λ e e'. absurd (omega (arith, e, e'));
       tires = λ e e'. absurd (omega (arith, e, e'));
     }
@@ -133,17 +146,19 @@ module _ (n n' : ℕ) (q : List Waiter) (c : Change) (grants words words' : List
       owes = λ e e'. not-both b.owing e e';
       pays = λ e. inl e;
       chooses = inr (inr done);
+      sets = λ u small was is. dite (ℕ_discrete u t) (λ same. subst (λ (z : ℕ). SetsTask z (wake_stands b) (wake_stands (setting t b))) (sym same) (chosen, refl, refl)) (λ other. absurd (let e = word-else u other in omega (arith, e, was, is)));
       wakes = λ _. done;
       dozes = λ other. absurd (other refl);
       queues = λ other. absurd (other refl);
       enters = λ w e. absurd (out w e);
+      again = λ u small mine was is. dite (ℕ_discrete u t) (λ same. absurd (let e : wake_word words' u ≡ wake_word words' t = ap (wake_word words') same in let h = word-here in omega (arith, e, h, one, is))) (λ other. absurd (let e = word-else u other in omega (arith, e, was, is)));
       rouses = λ e e'. absurd (omega (arith, e, e'));
       tires = λ e e'. absurd (omega (arith, e, e'));
     }
 
     -- its own wake word is swapped for 0
-    pub goes-drowses : m ≡ 0 → p.task ≡ Some t → locked ≡ 0 → (e : ℕ) × (b.vigil ≡ Tried e) → Go (drowsing (wake_word words t) b)
-    goes-drowses none mine free tried = by-word (wake_word words t) refl
+    pub goes-drowses : m ≡ 0 → p.task ≡ Some t → locked ≡ 0 → (e : ℕ) × (b.vigil ≡ Tried e) → LeavesNothing p (wake_stands b) → Go (drowsing (wake_word words t) b)
+    goes-drowses none mine free tried idle = by-word (wake_word words t) refl
       where
         queued : waits b.vigil ≡ 1
         queued = ap waits tried.1
@@ -154,16 +169,22 @@ module _ (n n' : ℕ) (q : List Waiter) (c : Change) (grants words words' : List
         words_go : (s : ℕ) → s < MAX_TASKS → WordStep s
         words_go = one-word (inr (inr (word-here ∙ none, mine, free, queued, before)))
 
+        -- no other word changes, and this one isn't set
+        unset : {P : Type 0} (u : ℕ) → wake_word words u ≡ 0 → wake_word words' u ≡ 1 → P
+        unset u was is = dite (ℕ_discrete u t) (λ same. absurd (let e : wake_word words' u ≡ wake_word words' t = ap (wake_word words') same in let h = word-here in omega (arith, e, h, none, is))) (λ other. absurd (let e = word-else u other in omega (arith, e, was, is)))
+
         by-word : (old : ℕ) → wake_word words t ≡ old → Go (drowsing old b)
         by-word zero was = record {
           words_go = words_go;
           owes = λ e e'. not-both b.owing e e';
           pays = λ e. inl e;
           chooses = inl refl;
+          sets = λ u small now is. unset u now is;
           wakes = λ other. absurd (other refl);
-          dozes = λ _. ((t, mine, was), free, queued, before, before, refl);
+          dozes = λ _. (((t, mine, was), free, queued, before, before, refl), idle);
           queues = λ other. absurd (other refl);
           enters = λ w e. absurd (out w e);
+          again = λ u small own now is. absurd (let same = same-some t u (sym mine ∙ own) in let e : wake_word words u ≡ wake_word words t = ap (wake_word words) (sym same) in omega (arith, e, now, was));
           rouses = λ e e'. absurd (omega (arith, before, e'));
           tires = λ e e'. absurd (omega (arith, before, e));
         }
@@ -172,10 +193,12 @@ module _ (n n' : ℕ) (q : List Waiter) (c : Change) (grants words words' : List
           owes = λ e e'. not-both b.owing e e';
           pays = λ e. inl e;
           chooses = inl refl;
+          sets = λ u small now is. unset u now is;
           wakes = λ other. absurd (other refl);
           dozes = λ other. absurd (other refl);
           queues = λ other. absurd (other (sym queued));
           enters = λ w e. absurd (out w e);
+          again = λ u small own now is. refl;
           rouses = λ e e'. inr ((t, mine, omega (arith, was)), free, refl);
           tires = λ e e'. absurd (omega (arith, before, e));
         }

@@ -195,8 +195,8 @@ impl<O: Object> RwSem<O> {
     /// the words of the wait lock say who has it, and each step is one of a spin lock's.
     ///
     /// Nobody is forgotten: where tasks wait and nobody writes or reads, a pass is to look whom to
-    /// wake, or a bias keeps writers out, or the first waiter is a writer that needs no more. A
-    /// reader that is granted while it waits needs no more. A task needs no more where a pass has
+    /// wake, or a bias keeps writers out, or the first waiter is a writer that needs no further wake. A
+    /// reader that is granted while it waits needs no further wake. A task needs no further wake where a pass has
     /// chosen it, where its wake word is set, or where it is awake. Each step says how these come
     /// and go.
     ///

@@ -11,10 +11,10 @@ use crate::rule::SemRule;
 use arrayvec::ArrayVec;
 use lock_core::{Pass, Site};
 use wait_list::{Waiter, list};
-use word_bits::Object;
+use word_bits::{MAX_TASKS, Object};
 
 /// How many waiters a list has at most: one for each task.
-pub const MAX_WAITERS: usize = 64;
+pub const MAX_WAITERS: usize = MAX_TASKS as usize;
 
 /// Reads the whole list, which begins with this waiter.
 pub fn read_list<O: Object>(

@@ -2,7 +2,7 @@
 ghost use Rattle.std.specs.Prelude.{◌≡◌, refl};
 ghost use Rattle.word_bits.specs.LockWords.{counted};
 ghost use Rattle.lock_core.specs.SpinTables.{one-some, one-eight};
-ghost use Rattle.rwsem_slow.specs.RwSems.{Kept, MayMiss, RwSemKept, RwSemMoves, any_count, bias_of, biased, count_at, grants_at, idle, list_at, list_of, marks_at, may_change, may_count, may_free, more_in, rests, saw_first, sem_of, standing, wake_of, with_list, with_sem, with_wake, vigil_of, wakes_at, HasChosen, after_set, after_swap};
+ghost use Rattle.rwsem_slow.specs.RwSems.{Kept, MayMiss, RwSemKept, RwSemMoves, any_count, bias_of, biased, count_at, grants_at, idle, list_at, list_of, marks_at, may_change, may_count, may_free, more_in, rests, saw_first, sem_of, standing, wake_of, with_list, with_sem, with_wake, sleep_vigil, wakes_at, HasChosen, after_set, after_swap};
 ghost use Rattle.rwsem_slow.specs.RwSemLaws.{count-inside, list-inside, sem-joins-rule, sem-looks, sem-opens-rule, sem-places, sem-sems, sem-site, sem-sites, sem-spin, sem-spins, sem-splits, spin-inside};
 ghost use Rattle.rwsem_slow.specs.ListLaws.{list-again, list-back, list-over, list-same, may-on, may-stay, sem-firsts, sem-list, sem-list-may, sem-lists, sem-queued};
 ghost use Rattle.rwsem_slow.specs.CountHosting.{bias-back, sem-alone, sem-count, sem-counted, sem-words};
@@ -191,7 +191,7 @@ impl<O: Object> SleepHost for SemRule<O> {
 
     ghost WAKE = { wakes_at };
 
-    ghost vigil = { vigil_of };
+    ghost vigil = { sleep_vigil };
 
     ghost has_chosen = { HasChosen };
 

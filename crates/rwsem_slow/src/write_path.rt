@@ -11,7 +11,7 @@ ghost use Rattle.rwsem_count.specs.Counts.{shared_weight};
 ghost use Rattle.rwsem_wake.specs.declared.view.Wait.TheVariants.{Writes};
 ghost use Rattle.wake_duty.specs.WakeSteps.{HasTried};
 ghost use Rattle.rwsem_wake.specs.Duties.{is_left};
-ghost use Rattle.rwsem_slow.specs.RwSems.{vigil_of};
+ghost use Rattle.rwsem_slow.specs.RwSems.{sleep_vigil, vigil_of};
 ghost use Rattle.rwsem_slow.specs.Opening.{TakesOpen};
 ghost use Rattle.rwsem_slow.specs.Places.{AreCounts, IsOutside, StepsOn, dozes_of, seen_of};
 ghost use Rattle.rwsem_slow.specs.Queued.{AppendedBy, Drowses, EntersLock, IsInLine, IsToQuit, KeepsLine, WaitsOn};
@@ -98,7 +98,7 @@ pub fn doze<O: Object, W: Wait, C: Cpu>(
     requires own { SitsAt site.now pass.old }
     requires numbered { IsSome (task_in pass.old) }
     requires unspun { SpinRests (view_of pass.old).spin }
-    requires tried { HasTried vigil_of (view_of pass.old) }
+    requires tried { HasTried sleep_vigil (view_of pass.old) }
     requires counted { AreCounts counts.old (view_of pass.old) }
     ensures own { SitsAt site.now pass.new }
     ensures goes_on { KeepsPast pass.old pass.new }

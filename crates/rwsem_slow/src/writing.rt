@@ -205,9 +205,7 @@ fn stand<O: Object>(site: &Site<SemRule<O>>, pass: &mut Pass<SemRule<O>>) -> Sta
     let first = list::first(site, pass);
     let count = queueing::look_listed(site, pass);
     // It stands in the list itself.
-    let Some(first) = first else {
-        unreachable!()
-    };
+    let Some(first) = first else { unreachable!() };
     let alone = is_alone(site, pass, first);
     Standing {
         me,

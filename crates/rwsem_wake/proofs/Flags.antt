@@ -10,7 +10,7 @@ pub sets_waiters : (n : ℕ) → n / 2 % 2 ≡ 0 → bit_or n 2 ≡ n + 2
 sets_waiters n clear = let a = or_add_and n 2 in let b : bit_and n 2 ≡ n / 2 % 2 * 2 = and_pow n 1 in omega (arith, a, b, clear)
 
 -- WAITERS and HANDOFF are cleared: the mask is all ones but for these
-pub clears_waiters : (n : ℕ) → n < 65536 → bit_and n 18446744073709551609 + (n % 8 - n % 2) ≡ n
+pub clears_waiters : (n : ℕ) → n < 18446744073709551616 → bit_and n 18446744073709551609 + (n % 8 - n % 2) ≡ n
 clears_waiters n small = let a = and_shr n 18446744073709551609 3 in let b = and_mod n 18446744073709551609 3 in let c = and_mask (n / 8) 61 in let d = low (n % 8) (omega arith) in omega arith
   where
     low : (m : ℕ) → m < 8 → bit_and m 1 ≡ m % 2

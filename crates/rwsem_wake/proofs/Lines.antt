@@ -1,5 +1,6 @@
 -- Where a store goes among the words of tasks, and what a load finds.
 use Rattle.std.proofs.Common.{◌≡◌, ◌≢◌, ℕ, zero, suc, ◌+◌, ◌<◌, ◌≤◌, List, ◌∷◌, length, get_or, set, sym, refl, ap, ◌∙◌, subst, arith, get_or-set_same, get_or-set_other}
+use Rattle.word_bits.specs.declared.TheConstants.{MAX_TASKS}
 use Rattle.rwsem_wake.specs.SemParts.{marks_sum}
 use Rattle.rwsem_wake.specs.Lines.{line_place, gather, lines_in}
 
@@ -26,27 +27,27 @@ module _ (place : ℕ → ℕ) where
       (ap (λ (z : ℕ). gather place (suc n) m (set ws (place z) x)) e ∙ gather-set (suc n) m t x ws (omega arith) (subst (λ (z : ℕ). place z < length ws) e inside) (λ u k z. apart u (λ y. k (y ∙ e)) (z ∙ ap place (sym e)))) j
 
 -- of the words of all tasks
-pub length-lines : (base : ℕ) (ws : List ℕ) → length (lines_in base ws) ≡ 64
+pub length-lines : (base : ℕ) (ws : List ℕ) → length (lines_in base ws) ≡ MAX_TASKS
 unfolding lines_in
-length-lines base ws = length-gather (line_place base) 0 64 ws
+length-lines base ws = length-gather (line_place base) 0 MAX_TASKS ws
 
-pub lines-at : (base : ℕ) (ws : List ℕ) (t : ℕ) → t < 64 → get_or (lines_in base ws) t 0 ≡ get_or ws (line_place base t) 0
+pub lines-at : (base : ℕ) (ws : List ℕ) (t : ℕ) → t < MAX_TASKS → get_or (lines_in base ws) t 0 ≡ get_or ws (line_place base t) 0
 unfolding lines_in
-lines-at base ws t l = gather-at (line_place base) 0 64 t ws l ∙ ap (λ (z : ℕ). get_or ws (line_place base z) 0) (let e : 0 + t ≡ t = omega arith in e)
+lines-at base ws t l = gather-at (line_place base) 0 MAX_TASKS t ws l ∙ ap (λ (z : ℕ). get_or ws (line_place base z) 0) (let e : 0 + t ≡ t = omega arith in e)
 
-pub lines-set : (base : ℕ) (ws : List ℕ) (t x : ℕ) → t < 64 → line_place base t < length ws → lines_in base (set ws (line_place base t) x) ≡ set (lines_in base ws) t x
+pub lines-set : (base : ℕ) (ws : List ℕ) (t x : ℕ) → t < MAX_TASKS → line_place base t < length ws → lines_in base (set ws (line_place base t) x) ≡ set (lines_in base ws) t x
 unfolding lines_in
-lines-set base ws t x l wide = let same : 0 + t ≡ t = omega arith in subst (λ (z : ℕ). gather (line_place base) 0 64 (set ws (line_place base z) x) ≡ set (gather (line_place base) 0 64 ws) t x) same
-    (gather-set (line_place base) 0 64 t x ws l (omega (arith, wide)) (λ u n e. n (omega (arith, e))))
+lines-set base ws t x l wide = let same : 0 + t ≡ t = omega arith in subst (λ (z : ℕ). gather (line_place base) 0 MAX_TASKS (set ws (line_place base z) x) ≡ set (gather (line_place base) 0 MAX_TASKS ws) t x) same
+    (gather-set (line_place base) 0 MAX_TASKS t x ws l (omega (arith, wide)) (λ u n e. n (omega (arith, e))))
 
-pub lines-else : (base : ℕ) (ws : List ℕ) (i x : ℕ) → ((t : ℕ) → t < 64 → line_place base t ≢ i) → lines_in base (set ws i x) ≡ lines_in base ws
+pub lines-else : (base : ℕ) (ws : List ℕ) (i x : ℕ) → ((t : ℕ) → t < MAX_TASKS → line_place base t ≢ i) → lines_in base (set ws i x) ≡ lines_in base ws
 unfolding lines_in
-lines-else base ws i x apart = gather-else (line_place base) 0 64 i x ws (λ t a b. apart t (omega arith))
+lines-else base ws i x apart = gather-else (line_place base) 0 MAX_TASKS i x ws (λ t a b. apart t (omega arith))
 
 -- where all of them are 0, nobody is marked
-pub lines-zero : (base : ℕ) (ws : List ℕ) → ((t : ℕ) → t < 64 → get_or ws (line_place base t) 0 ≡ 0) → marks_sum (lines_in base ws) ≡ 0
+pub lines-zero : (base : ℕ) (ws : List ℕ) → ((t : ℕ) → t < MAX_TASKS → get_or ws (line_place base t) 0 ≡ 0) → marks_sum (lines_in base ws) ≡ 0
 unfolding lines_in
-lines-zero base ws zeros = go 0 64 (λ t l. zeros t (omega arith))
+lines-zero base ws zeros = go 0 MAX_TASKS (λ t l. zeros t (omega arith))
   where
     go : (n m : ℕ) → ((t : ℕ) → t < n + m → get_or ws (line_place base t) 0 ≡ 0) → marks_sum (gather (line_place base) n m ws) ≡ 0
     go n zero z = refl

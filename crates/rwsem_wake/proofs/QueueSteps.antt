@@ -3,6 +3,7 @@ use Rattle.std.proofs.Common.{◌≡◌, ◌≢◌, ℕ, ◌+◌, ◌-◌, ◌*�
 use mathlib.Core.Logic.{dite}
 use native.Mathlib.Decide.{ℕ_discrete}
 use lib.Seq.{set-get_or}
+use Rattle.word_bits.specs.declared.TheConstants.{MAX_TASKS}
 use Rattle.atomic_table.proofs.Lists.{set_again}
 use Rattle.lock_core.specs.declared.op.Op.TheVariants.{Load, Sub, Or, And, Exchange}
 use Rattle.lock_core.specs.declared.view.Held.{Held}
@@ -47,7 +48,7 @@ module _ (sees : List SemPart) (id : ℕ) (v : SemPart) (known : Part) (n : ℕ)
   abbrev H : ℕ
   H = n / 4 % 2
 
-  small : n < 16896
+  small : n < 256 * (MAX_TASKS + 2)
   small = let low = loc.lawful.0 in let high = loc.lawful.1 in omega (arith, low, high)
 
   abbrev After : ℕ → List ℕ → List ℕ → SemHand → Type 0
@@ -62,7 +63,7 @@ module _ (sees : List SemPart) (id : ℕ) (v : SemPart) (known : Part) (n : ℕ)
   turns {n'} marks' from to is none out later = pass-turns q marks' grants v v.sem.bias from to is none out later (inl refl)
 
   -- it clears a mark that it may clear
-  clears-mark : (t : ℕ) (s : Stage) → (v.task ≡ Some t) → t < 64 → ((m : ℕ) → granting_weight s m ≡ 0) → PassGoes n n q (set marks t 0) grants v (staged v s) → KeepsHandoff id n q marks grants sees n (set marks t 0) grants (set sees id (staged v s))
+  clears-mark : (t : ℕ) (s : Stage) → (v.task ≡ Some t) → t < MAX_TASKS → ((m : ℕ) → granting_weight s m ≡ 0) → PassGoes n n q (set marks t 0) grants v (staged v s) → KeepsHandoff id n q marks grants sees n (set marks t 0) grants (set sees id (staged v s))
   clears-mark t s mine few none goes = let wide = loc.marks_wide in hands-unmarks id n q marks grants sees v (staged v s) loc.mine t (inl mine) (omega (arith, few, wide)) (λ x. let z = none (here x v.sem.rest) in omega (arith, z)) goes
 
   -- it leaves all
@@ -118,7 +119,7 @@ module _ (sees : List SemPart) (id : ℕ) (v : SemPart) (known : Part) (n : ℕ)
       (λ other. subst (λ (b : Bool). After (if b then new else n) marks grants (if b then record v.sem { stage = Marking } else v.sem) × IsLawfulCount n) (sym (ne_eqb n old other)) (on-stay, loc.lawful))
 
   -- and marks the first waiter
-  pub on-mark-asked : (t : ℕ) → v.sem.stage ≡ Marking → v.sem.wait ≡ Writes → v.sem.bias ≡ Clear → Knows known → first_code known.1.list ≡ t + 1 → t < 64 → After n (set marks t 1) grants (rested v.sem)
+  pub on-mark-asked : (t : ℕ) → v.sem.stage ≡ Marking → v.sem.wait ≡ Writes → v.sem.bias ≡ Clear → Knows known → first_code known.1.list ≡ t + 1 → t < MAX_TASKS → After n (set marks t 1) grants (rested v.sem)
   on-mark-asked t stage writes clear knows code few = let x = head-is q t (ap first_code (sym (loc.list knows)) ∙ code) in let wide = loc.marks_wide in
       let set_it : n / 4 % 2 ≡ 1 = (mine-at sees id v loc.mine n q marks grants loc.kept own has Marking only stage).1 in
       let first : first_mark (set marks t 1) (tasks q) ≡ 1 = ap (λ (z : List Waiter). first_mark (set marks t 1) (tasks z)) x.2 ∙ (ap (λ (z : ℕ). get_or (set marks t 1) z 0) x.3 ∙ get_or-set_same marks t 1 0 (omega (arith, few, wide))) in
@@ -139,7 +140,7 @@ module _ (sees : List SemPart) (id : ℕ) (v : SemPart) (known : Part) (n : ℕ)
       ))
       (λ set_it. subst (λ (z : Bool). After n marks grants (if z then record v.sem { stage = Summing } else v.sem)) (sym (ne_eqb m 0 set_it)) on-stay))
 
-  pub on-clear-first : (v.sem.stage ≡ Rest) ⊎ (v.sem.stage ≡ Armed) → Knows known → first_code known.1.list ≡ own + 1 → own < 64 → After n (set marks own 0) grants (summing v.sem)
+  pub on-clear-first : (v.sem.stage ≡ Rest) ⊎ (v.sem.stage ≡ Armed) → Knows known → first_code known.1.list ≡ own + 1 → own < MAX_TASKS → After n (set marks own 0) grants (summing v.sem)
   on-clear-first stage knows code few = let x = head-is q own (ap first_code (sym (loc.list knows)) ∙ code) in let wide = loc.marks_wide in (
     subst (λ (z : ℕ). SemKept n q (set marks z 0) grants (set sees id (staged v Summing))) x.3 (sem-clears-first sees id v loc.mine n q marks grants loc.kept own has only x.0 x.1 stage x.2 (let e = x.3 in omega (arith, e, few, wide))),
     clears-mark own Summing has few (λ m. refl) (from-either (set marks own 0) Summing stage refl),
@@ -151,7 +152,7 @@ module _ (sees : List SemPart) (id : ℕ) (v : SemPart) (known : Part) (n : ℕ)
       (λ none. subst (λ (z : Bool). After n marks grants (if z then record v.sem { stage = Rest } else v.sem)) (sym (eq-eqb m 0 none)) (sem-own-clear sees id v loc.mine n q marks grants loc.kept own has only stage clear none, same-readers n marks Rest (omega arith) (λ m. refl) (unasked-same n marks) (turns marks Removed Rest stage (λ m. refl) refl refl)))
       (λ set_it. subst (λ (z : Bool). After n marks grants (if z then record v.sem { stage = Rest } else v.sem)) (sym (ne_eqb m 0 set_it)) on-stay))
 
-  pub on-clear-own : v.sem.stage ≡ Removed → v.sem.bias ≡ Clear → own < 64 → After n (set marks own 0) grants (rested v.sem)
+  pub on-clear-own : v.sem.stage ≡ Removed → v.sem.bias ≡ Clear → own < MAX_TASKS → After n (set marks own 0) grants (rested v.sem)
   on-clear-own stage clear few = let wide = loc.marks_wide in (
     sem-unmarks-own sees id v loc.mine n q marks grants loc.kept own has only stage (light-of v own has clear n q marks grants sees id loc.kept loc.mine) (omega (arith, few, wide)),
     clears-mark own Rest has few (λ m. refl) (turns (set marks own 0) Removed Rest stage (λ m. refl) refl refl),

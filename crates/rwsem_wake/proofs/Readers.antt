@@ -4,6 +4,7 @@ use mathlib.Core.Option.{some}
 use mathlib.Core.Logic.{dite}
 use native.Mathlib.Decide.{ℕ_discrete}
 use lib.ListN.{get_elem?}
+use Rattle.word_bits.specs.declared.TheConstants.{MAX_TASKS}
 use Rattle.lock_core.specs.Records.{bit}
 use Rattle.lock_core.specs.Views.{is_number}
 use Rattle.lock_core.specs.Totals.{total, total-at}
@@ -49,19 +50,23 @@ only-first w h q marks one f = record { handoff = λ t l. let a = mark-least mar
     go (x ∷ ys) t l e = dite (ℕ_discrete x.task t) (λ is. (x, ys, refl, is)) (λ not. let a = two-marks marks x.task t not in absurd (omega (arith, a, e, l)))
 
 over-zero : (f : ℕ → ℕ) (m : ℕ) → ((t : ℕ) → t < m → f t ≡ 0) → over f m ≡ 0
+unfolding over
 over-zero f zero each = refl
 over-zero f (suc m) each = let a = over-zero f m (λ t l. each t (omega arith)) in let b = each m (omega arith) in omega arith
 
 over-same : (f g : ℕ → ℕ) (m : ℕ) → ((t : ℕ) → t < m → f t ≡ g t) → over f m ≡ over g m
+unfolding over
 over-same f g zero each = refl
 over-same f g (suc m) each = let a = over-same f g m (λ t l. each t (omega arith)) in let b = each m (omega arith) in omega arith
 
 over-both : (f g : ℕ → ℕ) (m : ℕ) → over (λ t. f t + g t) m ≡ over f m + over g m
+unfolding over
 over-both f g zero = refl
 over-both f g (suc m) = let a = over-both f g m in omega arith
 
 -- a weight at one number
 over-one : (f : ℕ → ℕ) (m u x : ℕ) → u < m → f u ≡ x → ((t : ℕ) → t ≢ u → f t ≡ 0) → over f m ≡ x
+unfolding over
 over-one f zero u x l is none = absurd (omega arith)
 over-one f (suc m) u x l is none = dite (ℕ_discrete u m)
     (λ e. let a = over-zero f m (λ t k. none t (λ z. omega (arith, z, e, k))) in let b : f m ≡ x = ap f (sym e) ∙ is in omega (arith, a, b))
@@ -84,24 +89,24 @@ here-over (u ∷ ts) m small = over-both (λ t. bit (u == t)) (λ t. here t ts) 
 
 -- The readers are tasks, each once: the sum over views is the number of tasks that are readers.
 module _ (q : List Waiter) (n : ℕ) (marks grants : List ℕ) (vs : List SemPart) (r : SemKept n q marks grants vs)
-    (small : Each (λ (v : SemPart). (t : ℕ) → v.task ≡ Some t → t < 64) vs) (named : (t : ℕ) → t < 64 → total (λ (v : SemPart). is_number t v.task) vs ≤ 1) where
-  nobody-reads : (xs : List SemPart) → Each (λ (v : SemPart). (t : ℕ) → v.task ≡ Some t → t < 64) xs → (t : ℕ) → 64 ≤ t → total (reads_at t) xs ≡ 0
+    (small : Each (λ (v : SemPart). (t : ℕ) → v.task ≡ Some t → t < MAX_TASKS) vs) (named : (t : ℕ) → t < MAX_TASKS → total (λ (v : SemPart). is_number t v.task) vs ≤ 1) where
+  nobody-reads : (xs : List SemPart) → Each (λ (v : SemPart). (t : ℕ) → v.task ≡ Some t → t < MAX_TASKS) xs → (t : ℕ) → MAX_TASKS ≤ t → total (reads_at t) xs ≡ 0
   nobody-reads [] s t l = refl
   nobody-reads (v ∷ xs) s t l = let a = nobody-reads xs (λ j w e. s (suc j) w e) t l in let b = one v.task (reads_of v) (s zero v refl) in omega arith
     where
-      one : (task : Option ℕ) (x : ℕ) → ((u : ℕ) → task ≡ Some u → u < 64) → named_weight t task x ≡ 0
+      one : (task : Option ℕ) (x : ℕ) → ((u : ℕ) → task ≡ Some u → u < MAX_TASKS) → named_weight t task x ≡ 0
       one task zero s = refl
       one None (suc x) s = refl
       one (Some u) (suc x) s = is_number-else t u (λ e. let k = s u refl in omega (arith, k, e, l))
 
-  rest-small : (v : SemPart) (id : ℕ) → get_elem? vs id ≡ some v → (t : ℕ) → 0 < here t v.sem.rest → t < 64
-  rest-small v id at t l = elim (native.Mathlib.Decide.dec_le 64 t) [ yes k ↦ (let a = r.reads t in let b = nobody-reads vs small t k in let c = total-at (rest_at t) vs id v at in absurd (omega (arith, a, b, c, l))) | no k ↦ omega (arith, k) ]
+  rest-small : (v : SemPart) (id : ℕ) → get_elem? vs id ≡ some v → (t : ℕ) → 0 < here t v.sem.rest → t < MAX_TASKS
+  rest-small v id at t l = elim (native.Mathlib.Decide.dec_le MAX_TASKS t) [ yes k ↦ (let a = r.reads t in let b = nobody-reads vs small t k in let c = total-at (rest_at t) vs id v at in absurd (omega (arith, a, b, c, l))) | no k ↦ omega (arith, k) ]
 
-  one-view : (v : SemPart) (id : ℕ) → get_elem? vs id ≡ some v → over (λ t. reads_as grants t v) 64 ≡ shared_of v + granted_of grants v + granting_of v
-  one-view v id at = let ok = r.each id v at in let a = over-both (λ t. shared_at t v + granted_at grants t v) (λ t. granting_at t v) 64 in let b = over-both (λ t. shared_at t v) (λ t. granted_at grants t v) 64 in
-      let c = named-over v.task (shared_of v) 64 (small id v at) (λ e. let s = ok.single in let h = (held-most v.held).1 in let z : number_of v ≡ 0 = ap number_weight e in omega (arith, s, h, z)) (shared-most v.held) in
-      let d = named-over v.task (granted_of grants v) 64 (small id v at) (λ e. ap (λ (x : Option ℕ). granted_weight grants x v.sem.wait) e) (granted-most v.task v.sem.wait) in
-      let e = granting-over v.sem.stage v.sem.rest (here-over v.sem.rest 64 (rest-small v id at)) in omega arith
+  one-view : (v : SemPart) (id : ℕ) → get_elem? vs id ≡ some v → over (λ t. reads_as grants t v) MAX_TASKS ≡ shared_of v + granted_of grants v + granting_of v
+  one-view v id at = let ok = r.each id v at in let a = over-both (λ t. shared_at t v + granted_at grants t v) (λ t. granting_at t v) MAX_TASKS in let b = over-both (λ t. shared_at t v) (λ t. granted_at grants t v) MAX_TASKS in
+      let c = named-over v.task (shared_of v) MAX_TASKS (small id v at) (λ e. let s = ok.single in let h = (held-most v.held).1 in let z : number_of v ≡ 0 = ap number_weight e in omega (arith, s, h, z)) (shared-most v.held) in
+      let d = named-over v.task (granted_of grants v) MAX_TASKS (small id v at) (λ e. ap (λ (x : Option ℕ). granted_weight grants x v.sem.wait) e) (granted-most v.task v.sem.wait) in
+      let e = granting-over v.sem.stage v.sem.rest (here-over v.sem.rest MAX_TASKS (rest-small v id at)) in omega arith
     where
       zero-most : (x : ℕ) → is_zero x ≤ 1
       zero-most zero = omega arith
@@ -113,10 +118,10 @@ module _ (q : List Waiter) (n : ℕ) (marks grants : List ℕ) (vs : List SemPar
       granted-most (Some t) Writes = omega arith
       granted-most (Some t) Reads = zero-most (get_or grants t 0)
 
-      none-over : over (λ t. 0) 64 ≡ 0
-      none-over = over-zero (λ t. 0) 64 (λ t l. refl)
+      none-over : over (λ t. 0) MAX_TASKS ≡ 0
+      none-over = over-zero (λ t. 0) MAX_TASKS (λ t l. refl)
 
-      granting-over : (s : Stage) (ts : List ℕ) → over (λ t. here t ts) 64 ≡ length ts → over (λ t. granting_weight s (here t ts)) 64 ≡ granting_weight s (length ts)
+      granting-over : (s : Stage) (ts : List ℕ) → over (λ t. here t ts) MAX_TASKS ≡ length ts → over (λ t. granting_weight s (here t ts)) MAX_TASKS ≡ granting_weight s (length ts)
       granting-over Rest ts e = none-over
       granting-over Armed ts e = none-over
       granting-over (Joining b) ts e = none-over
@@ -132,14 +137,14 @@ module _ (q : List Waiter) (n : ℕ) (marks grants : List ℕ) (vs : List SemPar
       granting-over (Counted b) ts e = none-over
       granting-over Granting ts e = e
 
-  pub readers-are : over (λ t. total (reads_as grants t) vs) 64 ≡ total shared_of vs + total (granted_of grants) vs + total granting_of vs
-  readers-are = exchange (reads_as grants) vs 64 ∙ all vs (λ j v at. one-view v j at)
+  pub readers-are : over (λ t. total (reads_as grants t) vs) MAX_TASKS ≡ total shared_of vs + total (granted_of grants) vs + total granting_of vs
+  readers-are = exchange (reads_as grants) vs MAX_TASKS ∙ all vs (λ j v at. one-view v j at)
     where
-      all : (xs : List SemPart) → Each (λ (v : SemPart). over (λ t. reads_as grants t v) 64 ≡ shared_of v + granted_of grants v + granting_of v) xs → total (λ (v : SemPart). over (λ t. reads_as grants t v) 64) xs ≡ total shared_of xs + total (granted_of grants) xs + total granting_of xs
+      all : (xs : List SemPart) → Each (λ (v : SemPart). over (λ t. reads_as grants t v) MAX_TASKS ≡ shared_of v + granted_of grants v + granting_of v) xs → total (λ (v : SemPart). over (λ t. reads_as grants t v) MAX_TASKS) xs ≡ total shared_of xs + total (granted_of grants) xs + total granting_of xs
       all [] e = refl
       all (v ∷ xs) e = let a = e zero v refl in let b = all xs (λ j w at. e (suc j) w at) in omega (arith, a, b)
 
-  pub readers-once : (t : ℕ) → t < 64 → total (reads_as grants t) vs ≤ 1
+  pub readers-once : (t : ℕ) → t < MAX_TASKS → total (reads_as grants t) vs ≤ 1
   readers-once t l = let a = r.reads t in let b = named t l in let c = sums vs r.each in omega arith
     where
       part-of : (task : Option ℕ) (s w : ℕ) → s + w ≤ number_weight task → named_weight t task s + named_weight t task w ≤ is_number t task

@@ -1,5 +1,6 @@
 -- The kept rule of a semaphore implies what it states.
 use Rattle.std.proofs.Common.{◌≡◌, ℕ, zero, suc, ◌+◌, ◌*◌, ◌/◌, ◌%◌, ◌<◌, ◌≤◌, List, map, [], ◌∷◌, length, refl, ◌∙◌, subst, arith}
+use Rattle.word_bits.specs.declared.TheConstants.{MAX_TASKS}
 use Rattle.lock_core.specs.Totals.{total}
 use Rattle.lock_core.specs.Parts.{Each}
 use Rattle.wait_list.specs.declared.view.Waiter.{Waiter}
@@ -64,10 +65,10 @@ module _ (n more : ℕ) (vs : List SemPart) (r : CountKept n more (map part_of v
   pub apart-is : 0 < n % 2 → more + total shared_of vs + total early_of vs ≡ 0
   apart-is p = let a = r.apart p in let s = total-map shared_in part_of vs in let e = total-map early_in part_of vs in omega (arith, a, s, e)
 
-pub count-least : (n : ℕ) (q : List Waiter) (marks grants : List ℕ) (vs : List SemPart) → SemKept n q marks grants vs → total number_of vs ≤ 64 → n ≤ 256 * 65 + 7
+pub count-least : (n : ℕ) (q : List Waiter) (marks grants : List ℕ) (vs : List SemPart) → SemKept n q marks grants vs → total number_of vs ≤ MAX_TASKS → n ≤ 256 * (MAX_TASKS + 1) + 7
 count-least n q marks grants vs r few = let f = field-is n (more_of grants vs) vs r.count in let l = r.count.low in let m = r.members in let b = r.busy in let g = granting-least vs in let o = loads vs r.each in omega arith
 
-pub sem-states : (n : ℕ) (q : List Waiter) (marks grants : List ℕ) (vs : List SemPart) → SemKept n q marks grants vs → total number_of vs ≤ 64 → StatesCount n q marks grants vs
+pub sem-states : (n : ℕ) (q : List Waiter) (marks grants : List ℕ) (vs : List SemPart) → SemKept n q marks grants vs → total number_of vs ≤ MAX_TASKS → StatesCount n q marks grants vs
 sem-states n q marks grants vs r few = let b = biases-are vs in let f = field-is n (more_of grants vs) vs r.count in let w = writer-is n (more_of grants vs) vs r.count in record {
   writer = w;
   alone = λ l. let e = apart-is n (more_of grants vs) vs r.count (omega arith) in omega arith;

@@ -56,9 +56,9 @@ pub record Local (sees : List SemPart) (id : ℕ) (v : SemPart) (known : Part) (
   pub mine : get_elem? sees id ≡ some v
   pub list : Knows known → known.1.list ≡ q
   pub sound : IsList q
-  pub marks_wide : length marks ≡ 64
-  pub grants_wide : length grants ≡ 64
-  pub named : (t : ℕ) → t < 64 → total (named_in t) sees ≤ 1
+  pub marks_wide : length marks ≡ MAX_TASKS
+  pub grants_wide : length grants ≡ MAX_TASKS
+  pub named : (t : ℕ) → t < MAX_TASKS → total (named_in t) sees ≤ 1
 
 abbrev pub with_hand : SemPart → SemHand → SemPart
 with_hand v s = record v { sem = s }
@@ -245,7 +245,7 @@ module _ {E Call : Type 0} (o : Obj Call) (unavailable : Unavailable) (size : �
   }
 
   -- the mark of a task
-  pub mark-word : (t : ℕ) → t < 64 → Word (marks_at + 8 * t) (λ n marks grants. get_or marks t 0) (λ n x. n) (λ marks x. set marks t x) (λ grants x. grants)
+  pub mark-word : (t : ℕ) → t < MAX_TASKS → Word (marks_at + 8 * t) (λ n marks grants. get_or marks t 0) (λ n x. n) (λ marks x. set marks t x) (λ grants x. grants)
   mark-word t few = record {
     above = omega (arith, places);
     inside = omega (arith, places, few);
@@ -257,7 +257,7 @@ module _ {E Call : Type 0} (o : Obj Call) (unavailable : Unavailable) (size : �
   }
 
   -- the grant word of a task
-  pub grant-word : (t : ℕ) → t < 64 → Word (grants_at + 8 * t) (λ n marks grants. get_or grants t 0) (λ n x. n) (λ marks x. marks) (λ grants x. set grants t x)
+  pub grant-word : (t : ℕ) → t < MAX_TASKS → Word (grants_at + 8 * t) (λ n marks grants. get_or grants t 0) (λ n x. n) (λ marks x. marks) (λ grants x. set grants t x)
   grant-word t few = record {
     above = omega (arith, places);
     inside = omega (arith, places, few);
@@ -275,19 +275,19 @@ module _ {E Call : Type 0} (o : Obj Call) (unavailable : Unavailable) (size : �
   pub count-stirs : (slots id at : ℕ) (me : M) (op : Op) (does : ℕ → SemHand) (stirs : ℕ → SemWake) (tells : ℕ → Type 0) → at ≡ count → SpinHolds me.0.spin → me.0.hand.task ≢ None → OnStir count (λ n marks grants. n) (λ n x. x) (λ marks x. marks) (λ grants x. grants) count-word id me op does stirs tells → Lets holds moves slots id me at op (λ n m'. tells n × Turns me (stirred with_sem with_wake me.0 me.0.hand (does n) (stirs n)) m')
   count-stirs = word-stirs count (λ n marks grants. n) (λ n x. x) (λ marks x. marks) (λ grants x. grants) count-word
 
-  pub mark-stirs : (t : ℕ) (few : t < 64) (slots id at : ℕ) (me : M) (op : Op) (does : ℕ → SemHand) (stirs : ℕ → SemWake) (tells : ℕ → Type 0) → at ≡ marks_at + 8 * t → SpinHolds me.0.spin → me.0.hand.task ≢ None → OnStir (marks_at + 8 * t) (λ n marks grants. get_or marks t 0) (λ n x. n) (λ marks x. set marks t x) (λ grants x. grants) (mark-word t few) id me op does stirs tells → Lets holds moves slots id me at op (λ n m'. tells n × Turns me (stirred with_sem with_wake me.0 me.0.hand (does n) (stirs n)) m')
+  pub mark-stirs : (t : ℕ) (few : t < MAX_TASKS) (slots id at : ℕ) (me : M) (op : Op) (does : ℕ → SemHand) (stirs : ℕ → SemWake) (tells : ℕ → Type 0) → at ≡ marks_at + 8 * t → SpinHolds me.0.spin → me.0.hand.task ≢ None → OnStir (marks_at + 8 * t) (λ n marks grants. get_or marks t 0) (λ n x. n) (λ marks x. set marks t x) (λ grants x. grants) (mark-word t few) id me op does stirs tells → Lets holds moves slots id me at op (λ n m'. tells n × Turns me (stirred with_sem with_wake me.0 me.0.hand (does n) (stirs n)) m')
   mark-stirs t few = word-stirs (marks_at + 8 * t) (λ n marks grants. get_or marks t 0) (λ n x. n) (λ marks x. set marks t x) (λ grants x. grants) (mark-word t few)
 
-  pub mark-does : (t : ℕ) (few : t < 64) (slots id at : ℕ) (me : M) (op : Op) (does : ℕ → SemHand) (tells : ℕ → Type 0) → at ≡ marks_at + 8 * t → SpinHolds me.0.spin → me.0.hand.task ≢ None → OnWord (marks_at + 8 * t) (λ n marks grants. get_or marks t 0) (λ n x. n) (λ marks x. set marks t x) (λ grants x. grants) (mark-word t few) id me op does tells → Lets holds moves slots id me at op (λ n m'. tells n × Turns me (semmed with_sem me.0 me.0.hand (does n)) m')
+  pub mark-does : (t : ℕ) (few : t < MAX_TASKS) (slots id at : ℕ) (me : M) (op : Op) (does : ℕ → SemHand) (tells : ℕ → Type 0) → at ≡ marks_at + 8 * t → SpinHolds me.0.spin → me.0.hand.task ≢ None → OnWord (marks_at + 8 * t) (λ n marks grants. get_or marks t 0) (λ n x. n) (λ marks x. set marks t x) (λ grants x. grants) (mark-word t few) id me op does tells → Lets holds moves slots id me at op (λ n m'. tells n × Turns me (semmed with_sem me.0 me.0.hand (does n)) m')
   mark-does t few = word-does (marks_at + 8 * t) (λ n marks grants. get_or marks t 0) (λ n x. n) (λ marks x. set marks t x) (λ grants x. grants) (mark-word t few)
 
-  pub grant-does : (t : ℕ) (few : t < 64) (slots id at : ℕ) (me : M) (op : Op) (does : ℕ → SemHand) (tells : ℕ → Type 0) → at ≡ grants_at + 8 * t → SpinHolds me.0.spin → me.0.hand.task ≢ None → OnWord (grants_at + 8 * t) (λ n marks grants. get_or grants t 0) (λ n x. n) (λ marks x. marks) (λ grants x. set grants t x) (grant-word t few) id me op does tells → Lets holds moves slots id me at op (λ n m'. tells n × Turns me (semmed with_sem me.0 me.0.hand (does n)) m')
+  pub grant-does : (t : ℕ) (few : t < MAX_TASKS) (slots id at : ℕ) (me : M) (op : Op) (does : ℕ → SemHand) (tells : ℕ → Type 0) → at ≡ grants_at + 8 * t → SpinHolds me.0.spin → me.0.hand.task ≢ None → OnWord (grants_at + 8 * t) (λ n marks grants. get_or grants t 0) (λ n x. n) (λ marks x. marks) (λ grants x. set grants t x) (grant-word t few) id me op does tells → Lets holds moves slots id me at op (λ n m'. tells n × Turns me (semmed with_sem me.0 me.0.hand (does n)) m')
   grant-does t few = word-does (grants_at + 8 * t) (λ n marks grants. get_or grants t 0) (λ n x. n) (λ marks x. marks) (λ grants x. set grants t x) (grant-word t few)
 
   -- steps on them by which their pass may come to hold
   pub count-holds : (slots id at t : ℕ) (me : M) (op : Op) (held : Held) (gets : ℕ → Bool) (does : ℕ → SemHand) (stirs : ℕ → SemWake) (tells : ℕ → Type 0) → at ≡ count → me.0.hand.task ≡ Some t → me.0.hand.held ≡ No → held ≢ No → OnHold count (λ n marks grants. n) (λ n x. x) (λ marks x. marks) (λ grants x. grants) count-word id me op held gets does stirs tells → Lets holds moves slots id me at op (HoldsWhere with_sem with_wake o held gets does stirs tells me)
   count-holds = word-holds count (λ n marks grants. n) (λ n x. x) (λ marks x. marks) (λ grants x. grants) count-word
 
-  pub grant-holds : (t : ℕ) (few : t < 64) (slots id at own : ℕ) (me : M) (op : Op) (held : Held) (gets : ℕ → Bool) (does : ℕ → SemHand) (stirs : ℕ → SemWake) (tells : ℕ → Type 0) → at ≡ grants_at + 8 * t → me.0.hand.task ≡ Some own → me.0.hand.held ≡ No → held ≢ No
+  pub grant-holds : (t : ℕ) (few : t < MAX_TASKS) (slots id at own : ℕ) (me : M) (op : Op) (held : Held) (gets : ℕ → Bool) (does : ℕ → SemHand) (stirs : ℕ → SemWake) (tells : ℕ → Type 0) → at ≡ grants_at + 8 * t → me.0.hand.task ≡ Some own → me.0.hand.held ≡ No → held ≢ No
       → OnHold (grants_at + 8 * t) (λ n marks grants. get_or grants t 0) (λ n x. n) (λ marks x. marks) (λ grants x. set grants t x) (grant-word t few) id me op held gets does stirs tells → Lets holds moves slots id me at op (HoldsWhere with_sem with_wake o held gets does stirs tells me)
   grant-holds t few = word-holds (grants_at + 8 * t) (λ n marks grants. get_or grants t 0) (λ n x. n) (λ marks x. marks) (λ grants x. set grants t x) (grant-word t few)

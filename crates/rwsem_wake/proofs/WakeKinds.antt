@@ -3,6 +3,7 @@ use Rattle.std.proofs.Common.{◌≡◌, ◌≢◌, ℕ, zero, suc, ◌+◌, ◌
 use mathlib.Core.Logic.{dite}
 use native.Mathlib.Decide.{ℕ_discrete}
 use lib.Seq.{set-get_or}
+use Rattle.word_bits.specs.declared.TheConstants.{MAX_TASKS}
 use Rattle.lock_core.specs.declared.op.Op.TheVariants.{Load}
 use Rattle.lock_core.specs.declared.view.Held.{Held}
 use Rattle.lock_core.specs.declared.view.Held.TheVariants.{No, Shared, Alone}
@@ -254,7 +255,7 @@ module _ (n : ℕ) (q : List Waiter) (grants : List ℕ) (sees : List SemPart) (
 
 -- a grant word is stored
 module _ (sees : List SemPart) (id : ℕ) (v : SemPart) (known : Part) (n : ℕ) (q : List Waiter) (marks grants : List ℕ) (loc : Local sees id v known n q marks grants) (b : SemWake) (own : ℕ) (has : v.task ≡ Some own) where
-  pub wakes-arm : v.sem.stage ≡ Rest → v.sem.wait ≡ Apart → own < 64 → WakeGoes n q grants sees n (set grants own 1) v (staged v Armed) b b
+  pub wakes-arm : v.sem.stage ≡ Rest → v.sem.wait ≡ Apart → own < MAX_TASKS → WakeGoes n q grants sees n (set grants own 1) v (staged v Armed) b b
   wakes-arm stage apart few = inl (
     same,
     inl record {

@@ -5,6 +5,7 @@ use mathlib.Core.Logic.{dite}
 use native.Mathlib.Decide.{ℕ_discrete}
 use lib.ListN.{get_elem?}
 use lib.Seq.{set-get_or}
+use Rattle.word_bits.specs.declared.TheConstants.{MAX_TASKS}
 use Rattle.atomic_table.proofs.Lists.{set_again}
 use Rattle.lock_core.specs.declared.op.Op.{Op}
 use Rattle.lock_core.specs.declared.op.Op.TheVariants.{Load, Add, Sub}
@@ -72,11 +73,11 @@ module _ (sees : List SemPart) (id : ℕ) (v : SemPart) (known : Part) (n : ℕ)
   abbrev H : ℕ
   H = n / 4 % 2
 
-  small : n < 16896
+  small : n < 256 * (MAX_TASKS + 2)
   small = let low = loc.lawful.0 in let high = loc.lawful.1 in omega (arith, low, high)
 
   -- one pass at most reads in the name of a task
-  reads-once : (t : ℕ) → t < 64 → total (reads_at t) sees ≤ 1
+  reads-once : (t : ℕ) → t < MAX_TASKS → total (reads_at t) sees ≤ 1
   reads-once t few = let a = reads-names t sees in let b = loc.named t few in omega (arith, a, b)
 
   abbrev After : ℕ → List ℕ → List ℕ → SemHand → Type 0
@@ -108,7 +109,7 @@ module _ (sees : List SemPart) (id : ℕ) (v : SemPart) (known : Part) (n : ℕ)
     loc.lawful,
   )
 
-  pub on-mark : (m t : ℕ) (b : Bool) → v.sem.stage ≡ Overdue b → v.sem.bias ≡ Reserve m → m % 2 ≡ 1 → b ≡ (m / 4 % 2 == 1) → Knows known → first_code known.1.list ≡ t + 1 → t < 64 → After n (set marks t 1) grants (marked v.sem)
+  pub on-mark : (m t : ℕ) (b : Bool) → v.sem.stage ≡ Overdue b → v.sem.bias ≡ Reserve m → m % 2 ≡ 1 → b ≡ (m / 4 % 2 == 1) → Knows known → first_code known.1.list ≡ t + 1 → t < MAX_TASKS → After n (set marks t 1) grants (marked v.sem)
   on-mark m t b stage bias odd same knows code few = let x = head-is q t (ap first_code (sym (loc.list knows)) ∙ code) in let wide = loc.marks_wide in let saw : b ≡ saw_handoff v.sem.bias = same ∙ ap saw_handoff (sym bias) in (
     subst (λ (z : ℕ × Bool). SemKept n q (set marks z.0 1) grants (set sees id (staged v (Marked z.1)))) (λ i. (x.3 i, saw i)) (sem-overdue sees id v loc.mine n q marks grants loc.kept own has only b x.0 x.1 stage x.2 (let e = x.3 in omega (arith, e, few, wide))),
     hands-asks id n q marks grants sees v (with_hand v (marked v.sem)) loc.mine n (set marks t 1) (omega arith) (λ s. omega arith) (λ z o. absurd (omega (arith, z, o))) (λ set_it. set_it) (λ s none more. (first-marked marks q t (ap first_code (sym (loc.list knows)) ∙ code) s none more, inl (m, bias, odd))) (marks-stay marks t (omega (arith, few, wide))) (pass-turns q (set marks t 1) grants v v.sem.bias (Overdue b) (Marked (saw_handoff v.sem.bias)) stage (λ m. refl) refl refl (inl refl)),
@@ -137,7 +138,7 @@ module _ (sees : List SemPart) (id : ℕ) (v : SemPart) (known : Part) (n : ℕ)
         hands-step id n q marks grants sees v v loc.mine n marks (omega arith) (λ t. omega arith) (unasked-same n marks) (pass-same q marks grants v),
       )))
 
-  pub on-clear-mark : (t : ℕ) (ts : List ℕ) → v.sem.stage ≡ Removing → v.sem.rest ≡ t ∷ ts → t < 64 → After n (set marks t 0) grants (summing v.sem)
+  pub on-clear-mark : (t : ℕ) (ts : List ℕ) → v.sem.stage ≡ Removing → v.sem.rest ≡ t ∷ ts → t < MAX_TASKS → After n (set marks t 0) grants (summing v.sem)
   on-clear-mark t ts stage rest few = let wide = loc.marks_wide in (
     sem-unmarks sees id v loc.mine n q marks grants loc.kept own has only t ts stage rest (omega (arith, few, wide)),
     hands-unmarks id n q marks grants sees v (with_hand v (summing v.sem)) loc.mine t (inr (ts, rest)) (omega (arith, few, wide)) (λ s. omega arith) (pass-turns q (set marks t 0) grants v v.sem.bias Removing Summing stage (λ m. refl) refl refl (inl refl)),
@@ -162,7 +163,7 @@ module _ (sees : List SemPart) (id : ℕ) (v : SemPart) (known : Part) (n : ℕ)
       )))
 
   -- the batch's sum is added
-  pub on-sum : (gain loss : ℕ) (op : Op) → ((m : ℕ) → loss ≤ m + gain → m + gain < 2 ^ 64 + loss → word_after op m + loss ≡ m + gain) → (b : Bool) → v.sem.stage ≡ Counted b → shared_of v + early_of v ≡ 1 → late_of v ≡ 0 → Knows known → 0 < length v.sem.rest → length v.sem.rest ≤ 64
+  pub on-sum : (gain loss : ℕ) (op : Op) → ((m : ℕ) → loss ≤ m + gain → m + gain < 2 ^ 64 + loss → word_after op m + loss ≡ m + gain) → (b : Bool) → v.sem.stage ≡ Counted b → shared_of v + early_of v ≡ 1 → late_of v ≡ 0 → Knows known → 0 < length v.sem.rest → length v.sem.rest ≤ MAX_TASKS
       → gain + losses v.sem (bit b) ≡ loss + gains v.sem known.1.list → After (word_after op n) marks grants (counted v.sem) × IsLawfulCount n
   on-sum gain loss op does b stage keeps tight knows some_read few is = let l = small in let f = mine-at sees id v loc.mine n q marks grants loc.kept own has (Counted b) only stage in let w = f.0 in let h = f.2 in let s = (some-length q).2 in
       let fm = part-least early_in sees id v loc.mine in let field = loc.kept.count.field in let n' : ℕ = word_after op n in let g : ℕ = gains v.sem q in
@@ -177,7 +178,7 @@ module _ (sees : List SemPart) (id : ℕ) (v : SemPart) (known : Part) (n : ℕ)
       )
 
   -- a grant word is cleared
-  pub on-grant : (t : ℕ) (ts : List ℕ) → v.sem.stage ≡ Granting → v.sem.rest ≡ t ∷ ts → v.sem.bias ≡ Clear → t < 64 → After n marks (set grants t 0) (granted v.sem)
+  pub on-grant : (t : ℕ) (ts : List ℕ) → v.sem.stage ≡ Granting → v.sem.rest ≡ t ∷ ts → v.sem.bias ≡ Clear → t < MAX_TASKS → After n marks (set grants t 0) (granted v.sem)
   on-grant t ts stage rest clear few = let wide = loc.grants_wide in let is : tail v.sem.rest ≡ ts = ap tail rest in let kept = sem-grants sees id v loc.mine n t own ts q marks grants loc.kept only has stage rest (reads-once t few) (omega (arith, few, wide)) in
       let hands = hands-grants id n t ts (granting_on ts) q marks grants sees v loc.kept loc.mine stage rest (rests-whole ts) (marks-none ts) (reads-once t few) (omega (arith, few, wide)) in
       subst (λ (z : List ℕ). After n marks (set grants t 0) (record v.sem { rest = z; stage = granting_on z })) (sym is) (go ts kept hands)
@@ -197,7 +198,7 @@ module _ (sees : List SemPart) (id : ℕ) (v : SemPart) (known : Part) (n : ℕ)
           let done = sem-done us id w mine n q marks (set grants t 0) kept own has (omega (arith, B, o, b0)) refl refl (omega (arith, single, h, c)) in (subst (SemKept n q marks (set grants t 0)) (twice sees id w (staged w Rest)) done, hands)
 
   -- a reader that is to queue stores 1 in its own grant word
-  pub on-arm : v.sem.stage ≡ Rest → v.sem.wait ≡ Apart → own < 64 → After n marks (set grants own 1) (armed v.sem)
+  pub on-arm : v.sem.stage ≡ Rest → v.sem.wait ≡ Apart → own < MAX_TASKS → After n marks (set grants own 1) (armed v.sem)
   on-arm stage apart few = let wide = loc.grants_wide in let u : SemPart = with_hand v (armed v.sem) in let goes : PassGoes n n q marks grants v u = turns v.sem.bias Rest Armed stage (λ m. refl) refl refl (inl refl) in let grants' : List ℕ = set grants own 1 in
       let alone : total (reads_at own) sees ≡ 0 = only-one (reads_at own) (named_in own) (λ x. reads-name own x.task x.sem.wait) sees id v loc.mine (ap (is_number own) has ∙ is_number-here own) (loc.named own few) ∙ (reads-at-w v own has Apart apart own) in (
         sem-arms sees id v loc.mine n q marks grants loc.kept own has only stage alone (omega (arith, few, wide)),

@@ -180,7 +180,7 @@ ReservesBias n vs v u b w = IsOnly vs v × (v.sem.bias ≡ Clear) × (granting_o
 abbrev pub ReturnsLate : List SemPart → SemPart → SemPart → SemWake → SemWake → Type 0
 ReturnsLate vs v u b w = IsOnly vs v × ((m : ℕ) × (v.sem.bias ≡ Reserve m) × (m % 2 ≡ 1)) × (granting_of v ≡ 0) × (u ≡ record v { sem = unreserved v.sem }) × (w ≡ b)
 
--- a reader that joined takes its bias back, and is to look whom to wake where nobody else is counted
+-- a reader that joined takes its bias back, and owes a wake where nobody else is counted
 abbrev pub ReturnsOwn : (n' : ℕ) → List SemPart → SemPart → SemPart → SemWake → SemWake → Type 0
 ReturnsOwn n' vs v u b w = IsOnly vs v × ((m : ℕ) × (v.sem.bias ≡ Transit m)) × (u ≡ record v { sem = unreserved v.sem }) × (w ≡ left_by n' b)
 

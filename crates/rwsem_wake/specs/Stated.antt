@@ -23,7 +23,7 @@ pub record StatesCount (n : ℕ) (q : List Waiter) (marks grants : List ℕ) (vs
   pub free : total busy_of vs ≡ 0 → Quiet (n / 2 % 2) (n / 4 % 2) q marks
 
 -- a sum over the numbers below m
-abbrev pub over : (ℕ → ℕ) → ℕ → ℕ
+unfoldable pub over : (ℕ → ℕ) → ℕ → ℕ
 over f zero = 0
 over f (suc m) = over f m + f m
 

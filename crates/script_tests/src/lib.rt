@@ -6,3 +6,5 @@
 mod report_tests;
 #[cfg(test)]
 mod script_tests;
+#[cfg(test)]
+mod version_tests;

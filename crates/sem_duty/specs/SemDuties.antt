@@ -48,11 +48,11 @@ late_of p = p.late
 abbrev pub owes : DutyPart → ℕ
 owes p = bit p.wake.owing
 
--- it writes, or is to look whom to wake
+-- it writes, or owes a wake
 abbrev pub answers : DutyPart → ℕ
 answers p = p.alone + owes p
 
--- it writes or reads, keeps writers out, or is to look whom to wake
+-- it writes or reads, keeps writers out, or owes a wake
 abbrev pub stirs : DutyPart → ℕ
 stirs p = p.alone + p.guards + owes p
 
@@ -90,8 +90,8 @@ pub record PartOk (p : DutyPart) : Type 0 where
   pub chosen : (t : ℕ) → 1 ≤ chose t p → t < MAX_TASKS
   pub rest : (t : ℕ) → times t p.rest ≤ chose t p
 
--- Of a list that isn't empty: somebody writes or reads, keeps writers out, or is to look whom to wake; or the first waiter is a writer, and somebody has chosen it and hasn't set its wake word, or that word is set, or it tries before it sleeps.
--- A bias that was reserved under a writer hides that the last reader lets go: while it stands, somebody writes, or is to look whom to wake.
+-- Of a list that isn't empty: somebody writes or reads, keeps writers out, or owes a wake; or the first waiter is a writer, and somebody has chosen it and hasn't set its wake word, or that word is set, or it tries before it sleeps.
+-- A bias that was reserved under a writer hides that the last reader lets go: while it stands, somebody writes, or owes a wake.
 -- A reader whose grant word was cleared while it waits: somebody has chosen it and hasn't set its wake word, or that word is set, or it loads its grant word before it sleeps.
 pub record DutyKept (words : List ℕ) (q : List Waiter) (ps : List DutyPart) : Type 0 where
   pub wide : length words ≡ WAKE_WORDS
@@ -103,7 +103,7 @@ pub record DutyKept (words : List ℕ) (q : List Waiter) (ps : List DutyPart) : 
 
 -- how steps change a part
 
--- how it holds, its biases, and whether it is to look whom to wake
+-- how it holds, its biases, and whether it owes a wake
 abbrev pub recounted : DutyPart → (alone guards late : ℕ) → (owing : Bool) → DutyPart
 recounted p alone guards late owing = record p { alone = alone; guards = guards; late = late; wake = record p.wake { owing = owing } }
 
@@ -114,7 +114,7 @@ with_vigil p x = record p { wake = record p.wake { vigil = x } }
 abbrev pub entering : DutyPart → Waiter → DutyPart
 entering p w = record p { writes = bit w.writer; wake = record p.wake { vigil = Awake } }
 
--- it waits no more, and is to look whom to wake or not
+-- it waits no more, and owes a wake or not
 abbrev pub leaving : DutyPart → Bool → DutyPart
 leaving p owing = record p { writes = 0; granted = 0; wake = record p.wake { owing = owing; vigil = Absent } }
 

@@ -156,7 +156,7 @@ module _ (words : List ℕ) (q : List Waiter) (ps : List DutyPart) (id : ℕ) (p
       (λ t e. inl (let a = total-at stirs (set ps id x) id x (set-there ps id p x at) in omega (arith, a)))
       (λ _. let a = total-at answers (set ps id x) id x (set-there ps id p x at) in omega (arith, a))
 
-  -- it ends or downgrades a hold, or gives up a bias, and is to look whom to wake
+  -- it ends or downgrades a hold, or gives up a bias, and owes a wake
   pub duty-owes : (alone guards late t : ℕ) → p.task ≡ Some t → DutyKept words q (set ps id (recounted p alone guards late true))
   duty-owes alone guards late t task = let x = recounted p alone guards late true in duty-counts alone guards late true (λ none. none-some t (sym none ∙ task))
       (λ t e. inl (let a = total-at stirs (set ps id x) id x (set-there ps id p x at) in omega (arith, a)))
@@ -256,7 +256,7 @@ module _ (words : List ℕ) (q : List Waiter) (ps : List DutyPart) (id : ℕ) (p
       first-comes (y ∷ l) t is e = first-keeps (q ++ w ∷ []) (entering p w) t (ap (λ (z : List Waiter). first_code (z ++ w ∷ [])) is ∙ sym (ap first_code is)) (ap (λ (z : List Waiter). first_writes (z ++ w ∷ [])) is ∙ sym (ap first_writes is)) (omega arith)
           (λ _. let a = where-none p.writes (is_awake t p) none_yet in omega (arith, a)) e
 
-  -- a waiter that isn't granted leaves: it is to look whom to wake, or writes, or isn't the first
+  -- a waiter that isn't granted leaves: it owes a wake, or writes, or isn't the first
   pub duty-leaves : (t : ℕ) (owing : Bool) → p.task ≡ Some t → owes p ≤ bit owing → (owing ≡ true) ⊎ (1 ≤ p.alone) ⊎ (first_code q ≢ t + 1) → DutyKept words (without t q) (set ps id (leaving p owing))
   duty-leaves t owing task still why = let x = leaving p owing in duty-goes words (without t q) x r.wide r.bits
       record { unnamed = λ none. none-some t (sym none ∙ task); chosen = ok.chosen; rest = ok.rest }
@@ -340,8 +340,8 @@ module _ (words : List ℕ) (q : List Waiter) (ps : List DutyPart) (id : ℕ) (p
         | yes some_s ↦ let g = total-set stirs ps id p x' at in omega (arith, g, some_s)
         | no none ↦ where-some (first_writes q) (total (rouses u) ps + wake_word words u) (omega (arith, none, some_f)) (λ writes some_w.
             let up : 1 ≤ total (rouses u) (set ps id x') + wake_word (set words (8 * t) 1) u = dite (ℕ_discrete u t)
-                (λ same. let few = ok.chosen t chosen in let a = word-here t 1 few in let b : wake_word (set words (8 * t) 1) u ≡ wake_word (set words (8 * t) 1) t = ap (wake_word (set words (8 * t) 1)) same in omega (arith, a, b))
-                (λ other. let a = word-else t u 1 other in let b = total-set (rouses u) ps id p x' at in let c' = less-else t u p.wake.chosen other in omega (arith, a, b, c', some_w)) in
+            (λ same. let few = ok.chosen t chosen in let a = word-here t 1 few in let b : wake_word (set words (8 * t) 1) u ≡ wake_word (set words (8 * t) 1) t = ap (wake_word (set words (8 * t) 1)) same in omega (arith, a, b))
+            (λ other. let a = word-else t u 1 other in let b = total-set (rouses u) ps id p x' at in let c' = less-else t u p.wake.chosen other in omega (arith, a, b, c', some_w)) in
             let a = where-more (first_writes q) 1 (total (rouses u) (set ps id x') + wake_word (set words (8 * t) 1) u) up in let b = where-at-least (first_writes q) writes in omega (arith, a, b))
       ]
         where

@@ -5,7 +5,7 @@ use wake_duty::Vigil;
 
 /// What concerns wakes.
 pub struct SemWake {
-    /// It is to look whom to wake: it ended a hold, or gave up a bias or the first place of the
+    /// It owes a wake: it ended a hold, or gave up a bias or the first place of the
     /// list, and nobody else would look.
     pub owing: bool,
     /// The tasks that it has chosen, and whose wake words it hasn't set, in order.

@@ -16,7 +16,7 @@ fn tries_by_the_table(rt: HostRuntime) -> Result<(), Fail> {
         (9, 0, true, Try::Ask(11)),
         (11, 1, true, Try::Fail),
         (9, 1, false, Try::Fail),
-        (11, 63, false, Try::Fail),
+        (11, 399, false, Try::Fail),
     ] {
         assert!(rt; Owner::unpack(word).is_some());
         assert!(rt; me < MAX_TASKS);
@@ -33,6 +33,7 @@ fn releases_and_hands_over(rt: HostRuntime) -> Result<(), Fail> {
         (11, Some(1), None, 21),
         (11, None, None, 1),
         (519, Some(63), None, 517),
+        (3207, Some(399), None, 3205),
     ] {
         assert!(rt; Owner::unpack(word).is_some());
         assert!(rt; first.is_none_or(|task| task < MAX_TASKS));

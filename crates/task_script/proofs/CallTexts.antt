@@ -11,15 +11,19 @@ use Rattle.word_bits.specs.declared.call.CallWords.{CallWords}
 use Rattle.word_bits.specs.declared.call.Mode.{Mode}
 use Rattle.word_bits.specs.declared.call.Mode.TheVariants.{Plain, Int, Try}
 use Rattle.word_bits.specs.Calls.{mode_of, mode_number}
+use Rattle.word_bits.proofs.Modes.{mode_number-lt}
+use Rattle.task_script.specs.declared.version.Version.{Version}
+use Rattle.task_script.specs.declared.version.Version.TheVariants.{One, Two}
 use Rattle.task_script.specs.declared.verb.Verb.{Verb}
-use Rattle.task_script.specs.declared.verb.Verb.TheVariants.{Map, MapAny, MapNew, Unmap, Protect, Populate, Fault, Open, Close, Dup, Dup2, Get, Signal}
+use Rattle.task_script.specs.declared.verb.Verb.TheVariants.{Map, MapAny, MapNew, Unmap, Protect, Populate, Fault, Open, Close, Dup, Dup2, Get, Remap, Signal}
 use Rattle.task_script.specs.declared.verb.Argument.{Argument}
-use Rattle.task_script.specs.declared.verb.Argument.TheVariants.{First, Second, File, Target, Protection, AccessBit}
+use Rattle.task_script.specs.declared.verb.Argument.TheVariants.{First, Second, Third, File, Target, Protection, AccessBit}
 use Rattle.task_script.specs.declared.verb.Values.{Values}
 use Rattle.task_script.specs.Cuts.{words}
 use Rattle.task_script.specs.Tokens.{number, prot, access}
 use Rattle.task_script.specs.Verbs.{with_argument, with_arguments, arguments_of, no_values, is_on_kind, takes_mode, kind_of, verb_text, call_with, call_on, call_words_of}
 use Rattle.task_script.specs.Sound.{IsAccess, IsInRange, only, IsCall}
+use Rattle.task_script.specs.Versions.{most_tasks}
 use Rattle.task_script.specs.Texts.{prot_text, access_text, argument_text, arguments_text, verb_of_kind, values_of, verb_and_arguments}
 use Rattle.task_script.proofs.Accepted.{text_same}
 use Rattle.task_script.proofs.Decimals.{number-decimal, digits-decimal, some-decimal}
@@ -30,6 +34,7 @@ use Rattle.task_script.proofs.Splitting.{is_clean, words-cut, words-visible, cle
 pub record AreSmall (v : Values) : Type 0 where
   pub first : v.first < 2 ^ 32
   pub second : v.second < 2 ^ 32
+  pub third : v.third < 2 ^ 32
   pub prot : v.prot < 8
   pub access : v.access < 8
 
@@ -38,14 +43,19 @@ access_small n (inl is) = omega arith
 access_small n (inr (inl is)) = omega arith
 access_small n (inr (inr is)) = omega arith
 
-only_small : (arguments : List Argument) (v : Values) → AllByRecursion (IsInRange v) arguments → AreSmall (only arguments v)
-only_small [] v each = record { first = omega arith; second = omega arith; prot = omega arith; access = omega arith }
-only_small (First ∷ arguments) v each = let rest = only_small arguments v each.1 in record { first = each.0; second = rest.second; prot = rest.prot; access = rest.access }
-only_small (Second ∷ arguments) v each = let rest = only_small arguments v each.1 in record { first = rest.first; second = each.0; prot = rest.prot; access = rest.access }
-only_small (File ∷ arguments) v each = let rest = only_small arguments v each.1 in let here = each.0 in record { first = omega arith; second = rest.second; prot = rest.prot; access = rest.access }
-only_small (Target ∷ arguments) v each = let rest = only_small arguments v each.1 in let here = each.0 in record { first = omega arith; second = rest.second; prot = rest.prot; access = rest.access }
-only_small (Protection ∷ arguments) v each = let rest = only_small arguments v each.1 in record { first = rest.first; second = rest.second; prot = each.0; access = rest.access }
-only_small (AccessBit ∷ arguments) v each = let rest = only_small arguments v each.1 in record { first = rest.first; second = rest.second; prot = rest.prot; access = access_small v.access each.0 }
+target_small : (version : Version) (task : ℕ) → task < most_tasks version → task < 2 ^ 32
+target_small One task few = omega arith
+target_small Two task few = omega arith
+
+only_small : (version : Version) (arguments : List Argument) (v : Values) → AllByRecursion (IsInRange version v) arguments → AreSmall (only arguments v)
+only_small version [] v each = record { first = omega arith; second = omega arith; third = omega arith; prot = omega arith; access = omega arith }
+only_small version (First ∷ arguments) v each = let rest = only_small version arguments v each.1 in record { first = each.0; second = rest.second; third = rest.third; prot = rest.prot; access = rest.access }
+only_small version (Second ∷ arguments) v each = let rest = only_small version arguments v each.1 in record { first = rest.first; second = each.0; third = rest.third; prot = rest.prot; access = rest.access }
+only_small version (Third ∷ arguments) v each = let rest = only_small version arguments v each.1 in record { first = rest.first; second = rest.second; third = each.0; prot = rest.prot; access = rest.access }
+only_small version (File ∷ arguments) v each = let rest = only_small version arguments v each.1 in let here = each.0 in record { first = omega arith; second = rest.second; third = rest.third; prot = rest.prot; access = rest.access }
+only_small version (Target ∷ arguments) v each = let rest = only_small version arguments v each.1 in record { first = target_small version v.first each.0; second = rest.second; third = rest.third; prot = rest.prot; access = rest.access }
+only_small version (Protection ∷ arguments) v each = let rest = only_small version arguments v each.1 in record { first = rest.first; second = rest.second; third = rest.third; prot = each.0; access = rest.access }
+only_small version (AccessBit ∷ arguments) v each = let rest = only_small version arguments v each.1 in record { first = rest.first; second = rest.second; third = rest.third; prot = rest.prot; access = access_small v.access each.0 }
 
 kind_small : (verb : Verb) → kind_of verb < 16
 kind_small Map = omega arith
@@ -60,6 +70,7 @@ kind_small Close = omega arith
 kind_small Dup = omega arith
 kind_small Dup2 = omega arith
 kind_small Get = omega arith
+kind_small Remap = omega arith
 kind_small Signal = omega arith
 
 verb_of_kind-kind_of : (verb : Verb) → verb_of_kind (kind_of verb) ≡ Some verb
@@ -75,6 +86,7 @@ verb_of_kind-kind_of Close = refl
 verb_of_kind-kind_of Dup = refl
 verb_of_kind-kind_of Dup2 = refl
 verb_of_kind-kind_of Get = refl
+verb_of_kind-kind_of Remap = refl
 verb_of_kind-kind_of Signal = refl
 
 -- the fields of a call's words are read again
@@ -82,17 +94,20 @@ fields : (verb : Verb) (mode : Mode) (v : Values) → AreSmall v → (verb_of_ki
 fields verb mode v small =
     let kind = kind_small verb in
     let b = (call_words_of verb mode v).b in
+    let modes = mode_number-lt mode in
     let low : b % 2 ^ 8 ≡ kind_of verb = omega (arith, small.prot, small.access) in
+    let third : b / 2 ^ 32 ≡ v.third = omega (arith, small.prot, small.access, modes) in
     let first : (call_words_of verb mode v).a % 2 ^ 32 ≡ v.first = omega (arith, small.first) in
     let second : (call_words_of verb mode v).a / 2 ^ 32 ≡ v.second = omega (arith, small.first, small.second) in
     let bits : b / 2 ^ 8 % 2 ^ 8 ≡ v.prot = omega (arith, small.prot, small.access) in
     let accesses : b / 2 ^ 16 % 2 ^ 8 ≡ v.access = omega (arith, small.prot, small.access) in
-    (ap verb_of_kind low ∙ verb_of_kind-kind_of verb, λ i. record { first = first i; second = second i; prot = bits i; access = accesses i })
+    (ap verb_of_kind low ∙ verb_of_kind-kind_of verb, λ i. record { first = first i; second = second i; third = third i; prot = bits i; access = accesses i })
 
 pub mode_kept : (verb : Verb) (mode : Mode) (v : Values) → AreSmall v → mode_of (call_words_of verb mode v) ≡ mode
 mode_kept verb mode v small =
     let kind = kind_small verb in
-    let high : (call_words_of verb mode v).b / 2 ^ 24 ≡ mode_number mode = omega (arith, small.prot, small.access) in
+    let modes = mode_number-lt mode in
+    let high : (call_words_of verb mode v).b / 2 ^ 24 % 2 ^ 8 ≡ mode_number mode = omega (arith, small.prot, small.access, modes) in
     rw high (numbered mode)
   where
     numbered : (mode : Mode) → cond (mode_number mode == 1) Int (cond (mode_number mode == 2) Try Plain) ≡ mode
@@ -135,52 +150,55 @@ some_word (b ∷ bs) some all = words-visible b bs all
 abbrev said : Argument → Values → Values → Values
 said First v u = record u { first = v.first }
 said Second v u = record u { second = v.second }
+said Third v u = record u { third = v.third }
 said File v u = record u { first = v.first }
 said Target v u = record u { first = v.first }
 said Protection v u = record u { prot = v.prot }
 said AccessBit v u = record u { access = v.access }
 
-record IsRead (v : Values) (a : Argument) : Type 0 where
+record IsRead (version : Version) (v : Values) (a : Argument) : Type 0 where
   visible : list_all is_visible (argument_text v a) ≡ true
   word : words (argument_text v a) ≡ argument_text v a ∷ []
-  value : (u : Values) → with_argument a (argument_text v a) u ≡ Ok (said a v u)
+  value : (u : Values) → with_argument version a (argument_text v a) u ≡ Ok (said a v u)
 
 number_word : (n : ℕ) → n < 2 ^ 32 → (list_all is_visible (decimal n) ≡ true) × (words (decimal n) ≡ decimal n ∷ [])
 number_word n fits = let all = digit_visible (decimal n) (digits-decimal n fits) in (all, some_word (decimal n) (some-decimal n fits) all)
 
-is_read : (v : Values) (a : Argument) → IsInRange v a → IsRead v a
-is_read v First fits = let w = number_word v.first fits in record { visible = w.0; word = w.1; value = λ u. rw (number-decimal v.first fits) refl }
-is_read v Second fits = let w = number_word v.second fits in record { visible = w.0; word = w.1; value = λ u. rw (number-decimal v.second fits) refl }
-is_read v File fits =
+is_read : (version : Version) (v : Values) (a : Argument) → IsInRange version v a → IsRead version v a
+is_read version v First fits = let w = number_word v.first fits in record { visible = w.0; word = w.1; value = λ u. rw (number-decimal v.first fits) refl }
+is_read version v Second fits = let w = number_word v.second fits in record { visible = w.0; word = w.1; value = λ u. rw (number-decimal v.second fits) refl }
+is_read version v Third fits = let w = number_word v.third fits in record { visible = w.0; word = w.1; value = λ u. rw (number-decimal v.third fits) refl }
+is_read version v File fits =
     let w = number_word v.first (omega arith) in
     let small : nat_lt v.first 65536 ≡ true = grind (arith, nat_tests) in
     record { visible = w.0; word = w.1; value = λ u. rw (number-decimal v.first (omega arith), small) refl }
-is_read v Target fits =
-    let w = number_word v.first (omega arith) in
-    let small : nat_lt v.first 64 ≡ true = grind (arith, nat_tests) in
-    record { visible = w.0; word = w.1; value = λ u. rw (number-decimal v.first (omega arith), small) refl }
-is_read v Protection fits = let p = prot_read v.prot fits in record { visible = p.1; word = words-visible _ _ p.1; value = λ u. rw p.0 refl }
-is_read v AccessBit fits = let w = access-text v.access fits in record { visible = w.2; word = w.1; value = λ u. rw w.0 refl }
+is_read version v Target fits =
+    let few = target_small version v.first fits in
+    let w = number_word v.first few in
+    let small : nat_lt v.first (most_tasks version) ≡ true = grind (arith, nat_tests) in
+    record { visible = w.0; word = w.1; value = λ u. rw (number-decimal v.first few, small) refl }
+is_read version v Protection fits = let p = prot_read v.prot fits in record { visible = p.1; word = words-visible _ _ p.1; value = λ u. rw p.0 refl }
+is_read version v AccessBit fits = let w = access-text v.access fits in record { visible = w.2; word = w.1; value = λ u. rw w.0 refl }
 
 -- so are all of them
 abbrev say_all : List Argument → Values → Values → Values
 say_all [] v u = u
 say_all (a ∷ arguments) v u = say_all arguments v (said a v u)
 
-with_arguments-text : (arguments : List Argument) (v u : Values) → AllByRecursion (IsInRange v) arguments → with_arguments arguments (map (argument_text v) arguments) u ≡ Ok (say_all arguments v u)
-with_arguments-text [] v u each = refl
-with_arguments-text (a ∷ arguments) v u each = rw ((is_read v a each.0).value u) (with_arguments-text arguments v (said a v u) each.1)
+with_arguments-text : (version : Version) (arguments : List Argument) (v u : Values) → AllByRecursion (IsInRange version v) arguments → with_arguments version arguments (map (argument_text v) arguments) u ≡ Ok (say_all arguments v u)
+with_arguments-text version [] v u each = refl
+with_arguments-text version (a ∷ arguments) v u each = rw ((is_read version v a each.0).value u) (with_arguments-text version arguments v (said a v u) each.1)
 
-words-arguments : (arguments : List Argument) (v : Values) (xs : List ℕ) → AllByRecursion (IsInRange v) arguments → words (xs ++ arguments_text v arguments) ≡ words xs ++ map (argument_text v) arguments
-words-arguments [] v xs each = ap words (append-nil xs) ∙ sym (append-nil (words xs))
-words-arguments (a ∷ arguments) v xs each =
-    ap words (sym (append_assoc xs (32 ∷ argument_text v a) (arguments_text v arguments))) ∙ words-arguments arguments v (xs ++ 32 ∷ argument_text v a) each.1
-    ∙ ap (λ ws. ws ++ map (argument_text v) arguments) (words-cut xs (argument_text v a) ∙ ap (λ ws. words xs ++ ws) (is_read v a each.0).word)
+words-arguments : (version : Version) (arguments : List Argument) (v : Values) (xs : List ℕ) → AllByRecursion (IsInRange version v) arguments → words (xs ++ arguments_text v arguments) ≡ words xs ++ map (argument_text v) arguments
+words-arguments version [] v xs each = ap words (append-nil xs) ∙ sym (append-nil (words xs))
+words-arguments version (a ∷ arguments) v xs each =
+    ap words (sym (append_assoc xs (32 ∷ argument_text v a) (arguments_text v arguments))) ∙ words-arguments version arguments v (xs ++ 32 ∷ argument_text v a) each.1
+    ∙ ap (λ ws. ws ++ map (argument_text v) arguments) (words-cut xs (argument_text v a) ∙ ap (λ ws. words xs ++ ws) (is_read version v a each.0).word)
     ∙ append_assoc (words xs) (argument_text v a ∷ []) (map (argument_text v) arguments)
 
-clean-arguments : (arguments : List Argument) (v : Values) → AllByRecursion (IsInRange v) arguments → list_all is_clean (arguments_text v arguments) ≡ true
-clean-arguments [] v each = refl
-clean-arguments (a ∷ arguments) v each = clean-append (argument_text v a) (arguments_text v arguments) (clean-visible (argument_text v a) (is_read v a each.0).visible) (clean-arguments arguments v each.1)
+clean-arguments : (version : Version) (arguments : List Argument) (v : Values) → AllByRecursion (IsInRange version v) arguments → list_all is_clean (arguments_text v arguments) ≡ true
+clean-arguments version [] v each = refl
+clean-arguments version (a ∷ arguments) v each = clean-append (argument_text v a) (arguments_text v arguments) (clean-visible (argument_text v a) (is_read version v a each.0).visible) (clean-arguments version arguments v each.1)
 
 -- what a verb's arguments say of values is all that is kept of them
 kept : (verb : Verb) (v : Values) → say_all (arguments_of verb) (only (arguments_of verb) v) no_values ≡ only (arguments_of verb) v
@@ -196,22 +214,24 @@ kept Close v = refl
 kept Dup v = refl
 kept Dup2 v = refl
 kept Get v = refl
+kept Remap v = refl
 kept Signal v = refl
 
-kept_ranged : (verb : Verb) (v : Values) → AllByRecursion (IsInRange v) (arguments_of verb) → AllByRecursion (IsInRange (only (arguments_of verb) v)) (arguments_of verb)
-kept_ranged Map v each = each
-kept_ranged MapAny v each = each
-kept_ranged MapNew v each = each
-kept_ranged Unmap v each = each
-kept_ranged Protect v each = each
-kept_ranged Populate v each = each
-kept_ranged Fault v each = each
-kept_ranged Open v each = each
-kept_ranged Close v each = each
-kept_ranged Dup v each = each
-kept_ranged Dup2 v each = each
-kept_ranged Get v each = each
-kept_ranged Signal v each = each
+kept_ranged : (version : Version) (verb : Verb) (v : Values) → AllByRecursion (IsInRange version v) (arguments_of verb) → AllByRecursion (IsInRange version (only (arguments_of verb) v)) (arguments_of verb)
+kept_ranged version Map v each = each
+kept_ranged version MapAny v each = each
+kept_ranged version MapNew v each = each
+kept_ranged version Unmap v each = each
+kept_ranged version Protect v each = each
+kept_ranged version Populate v each = each
+kept_ranged version Fault v each = each
+kept_ranged version Open v each = each
+kept_ranged version Close v each = each
+kept_ranged version Dup v each = each
+kept_ranged version Dup2 v each = each
+kept_ranged version Get v each = each
+kept_ranged version Remap v each = each
+kept_ranged version Signal v each = each
 
 -- any isn't a number
 not_any : (n : ℕ) → n < 2 ^ 32 → bytes_eq (decimal n) (codes "any") ≡ false
@@ -222,46 +242,49 @@ not_any n fits = go (cases_Bool (bytes_eq (decimal n) (codes "any")))
     go (inr other) = other
 
 -- a verb's word and those behind it
-record IsBegun (is_space : Bool) (mode : Mode) (verb : Verb) (arguments : List (List ℕ)) : Type 0 where
+record IsBegun (version : Version) (is_space : Bool) (mode : Mode) (verb : Verb) (arguments : List (List ℕ)) : Type 0 where
   word : List ℕ
   behind : List (List ℕ)
   words : words (verb_text verb) ++ arguments ≡ word ∷ behind
-  is : call_on is_space mode word behind ≡ call_with mode (record { verb = verb; behind = arguments })
+  is : call_on version is_space mode word behind ≡ call_with version mode (record { verb = verb; behind = arguments })
 
-begun : (is_space : Bool) (mode : Mode) (verb : Verb) (v : Values) → is_on_kind is_space verb ≡ true → AllByRecursion (IsInRange v) (arguments_of verb) → IsBegun is_space mode verb (map (argument_text v) (arguments_of verb))
-begun true mode Map v on each = record { word = codes "map"; behind = map (argument_text v) (arguments_of Map); words = refl; is = rw (not_any v.first each.0) refl }
-begun true mode MapAny v on each = record { word = codes "map"; behind = codes "any" ∷ map (argument_text v) (arguments_of MapAny); words = refl; is = refl }
-begun true mode MapNew v on each = record { word = codes "mapnew"; behind = map (argument_text v) (arguments_of MapNew); words = refl; is = refl }
-begun true mode Unmap v on each = record { word = codes "unmap"; behind = map (argument_text v) (arguments_of Unmap); words = refl; is = refl }
-begun true mode Protect v on each = record { word = codes "protect"; behind = map (argument_text v) (arguments_of Protect); words = refl; is = refl }
-begun true mode Populate v on each = record { word = codes "populate"; behind = map (argument_text v) (arguments_of Populate); words = refl; is = refl }
-begun true mode Fault v on each = record { word = codes "fault"; behind = map (argument_text v) (arguments_of Fault); words = refl; is = refl }
-begun true mode Signal v on each = record { word = codes "signal"; behind = map (argument_text v) (arguments_of Signal); words = refl; is = refl }
-begun true mode Open v on each = cc
-begun true mode Close v on each = cc
-begun true mode Dup v on each = cc
-begun true mode Dup2 v on each = cc
-begun true mode Get v on each = cc
-begun false mode Open v on each = record { word = codes "open"; behind = map (argument_text v) (arguments_of Open); words = refl; is = refl }
-begun false mode Close v on each = record { word = codes "close"; behind = map (argument_text v) (arguments_of Close); words = refl; is = refl }
-begun false mode Dup v on each = record { word = codes "dup"; behind = map (argument_text v) (arguments_of Dup); words = refl; is = refl }
-begun false mode Dup2 v on each = record { word = codes "dup2"; behind = map (argument_text v) (arguments_of Dup2); words = refl; is = refl }
-begun false mode Get v on each = record { word = codes "get"; behind = map (argument_text v) (arguments_of Get); words = refl; is = refl }
-begun false mode Signal v on each = record { word = codes "signal"; behind = map (argument_text v) (arguments_of Signal); words = refl; is = refl }
-begun false mode Map v on each = cc
-begun false mode MapAny v on each = cc
-begun false mode MapNew v on each = cc
-begun false mode Unmap v on each = cc
-begun false mode Protect v on each = cc
-begun false mode Populate v on each = cc
-begun false mode Fault v on each = cc
+begun : (version : Version) (is_space : Bool) (mode : Mode) (verb : Verb) (v : Values) → is_on_kind version is_space verb ≡ true → AllByRecursion (IsInRange version v) (arguments_of verb) → IsBegun version is_space mode verb (map (argument_text v) (arguments_of verb))
+begun version true mode Map v on each = record { word = codes "map"; behind = map (argument_text v) (arguments_of Map); words = refl; is = rw (not_any v.first each.0) refl }
+begun version true mode MapAny v on each = record { word = codes "map"; behind = codes "any" ∷ map (argument_text v) (arguments_of MapAny); words = refl; is = refl }
+begun version true mode MapNew v on each = record { word = codes "mapnew"; behind = map (argument_text v) (arguments_of MapNew); words = refl; is = refl }
+begun version true mode Unmap v on each = record { word = codes "unmap"; behind = map (argument_text v) (arguments_of Unmap); words = refl; is = refl }
+begun version true mode Protect v on each = record { word = codes "protect"; behind = map (argument_text v) (arguments_of Protect); words = refl; is = refl }
+begun version true mode Populate v on each = record { word = codes "populate"; behind = map (argument_text v) (arguments_of Populate); words = refl; is = refl }
+begun version true mode Fault v on each = record { word = codes "fault"; behind = map (argument_text v) (arguments_of Fault); words = refl; is = refl }
+begun One true mode Remap v on each = cc
+begun Two true mode Remap v on each = record { word = codes "remap"; behind = map (argument_text v) (arguments_of Remap); words = refl; is = refl }
+begun version true mode Signal v on each = record { word = codes "signal"; behind = map (argument_text v) (arguments_of Signal); words = refl; is = refl }
+begun version true mode Open v on each = cc
+begun version true mode Close v on each = cc
+begun version true mode Dup v on each = cc
+begun version true mode Dup2 v on each = cc
+begun version true mode Get v on each = cc
+begun version false mode Open v on each = record { word = codes "open"; behind = map (argument_text v) (arguments_of Open); words = refl; is = refl }
+begun version false mode Close v on each = record { word = codes "close"; behind = map (argument_text v) (arguments_of Close); words = refl; is = refl }
+begun version false mode Dup v on each = record { word = codes "dup"; behind = map (argument_text v) (arguments_of Dup); words = refl; is = refl }
+begun version false mode Dup2 v on each = record { word = codes "dup2"; behind = map (argument_text v) (arguments_of Dup2); words = refl; is = refl }
+begun version false mode Get v on each = record { word = codes "get"; behind = map (argument_text v) (arguments_of Get); words = refl; is = refl }
+begun version false mode Signal v on each = record { word = codes "signal"; behind = map (argument_text v) (arguments_of Signal); words = refl; is = refl }
+begun version false mode Map v on each = cc
+begun version false mode MapAny v on each = cc
+begun version false mode MapNew v on each = cc
+begun version false mode Unmap v on each = cc
+begun version false mode Protect v on each = cc
+begun version false mode Populate v on each = cc
+begun version false mode Fault v on each = cc
+begun version false mode Remap v on each = cc
 
 -- the call of a verb, from the words of its arguments
-call_with-text : (mode : Mode) (verb : Verb) (v : Values) → takes_mode verb mode ≡ true → AllByRecursion (IsInRange v) (arguments_of verb)
-    → call_with mode (record { verb = verb; behind = map (argument_text (only (arguments_of verb) v)) (arguments_of verb) }) ≡ Ok (call_words_of verb mode (only (arguments_of verb) v))
-call_with-text mode verb v moded each =
+call_with-text : (version : Version) (mode : Mode) (verb : Verb) (v : Values) → takes_mode verb mode ≡ true → AllByRecursion (IsInRange version v) (arguments_of verb)
+    → call_with version mode (record { verb = verb; behind = map (argument_text (only (arguments_of verb) v)) (arguments_of verb) }) ≡ Ok (call_words_of verb mode (only (arguments_of verb) v))
+call_with-text version mode verb v moded each =
     let counted : (length (map (argument_text (only (arguments_of verb) v)) (arguments_of verb)) == length (arguments_of verb)) ≡ true = same_length (arguments_of verb) in
-    rw (moded, counted, with_arguments-text (arguments_of verb) (only (arguments_of verb) v) no_values (kept_ranged verb v each), kept verb v) refl
+    rw (moded, counted, with_arguments-text version (arguments_of verb) (only (arguments_of verb) v) no_values (kept_ranged version verb v each), kept verb v) refl
   where
     same_length : (arguments : List Argument) → (length (map (argument_text (only (arguments_of verb) v)) arguments) == length arguments) ≡ true
     same_length arguments = rw length-map (grind (arith, nat_tests))
@@ -279,28 +302,29 @@ verb_clean Close = refl
 verb_clean Dup = refl
 verb_clean Dup2 = refl
 verb_clean Get = refl
+verb_clean Remap = refl
 verb_clean Signal = refl
 
 -- the words of a call's text, and what they are read as
-pub record IsCallText (is_space : Bool) (w : CallWords) : Type 0 where
+pub record IsCallText (version : Version) (is_space : Bool) (w : CallWords) : Type 0 where
   pub word : List ℕ
   pub behind : List (List ℕ)
   pub words : words (verb_and_arguments w) ≡ word ∷ behind
   pub clean : list_all is_clean (verb_and_arguments w) ≡ true
-  pub is : call_on is_space (mode_of w) word behind ≡ Ok w
+  pub is : call_on version is_space (mode_of w) word behind ≡ Ok w
 
-pub call_text_is : (is_space : Bool) (w : CallWords) → IsCall is_space w → IsCallText is_space w
-call_text_is is_space w call =
+pub call_text_is : (version : Version) (is_space : Bool) (w : CallWords) → IsCall version is_space w → IsCallText version is_space w
+call_text_is version is_space w call =
     let v = only (arguments_of call.verb) call.values in
-    let small = only_small (arguments_of call.verb) call.values call.ranged in
-    let in_range = kept_ranged call.verb call.values call.ranged in
+    let small = only_small version (arguments_of call.verb) call.values call.ranged in
+    let in_range = kept_ranged version call.verb call.values call.ranged in
     let read = fields call.verb call.mode v small in
     let text : verb_and_arguments w ≡ verb_text call.verb ++ arguments_text v (arguments_of call.verb) = rw (call.words, read.0, read.1) refl in
-    let start = begun is_space call.mode call.verb v call.known in_range in
+    let start = begun version is_space call.mode call.verb v call.known in_range in
     record {
       word = start.word;
       behind = start.behind;
-      words = ap words text ∙ words-arguments (arguments_of call.verb) v (verb_text call.verb) in_range ∙ start.words;
-      clean = rw text (clean-append (verb_text call.verb) (arguments_text v (arguments_of call.verb)) (verb_clean call.verb) (clean-arguments (arguments_of call.verb) v in_range));
-      is = ap (λ m. call_on is_space m start.word start.behind) (ap mode_of call.words ∙ mode_kept call.verb call.mode v small) ∙ start.is ∙ call_with-text call.mode call.verb call.values call.moded call.ranged ∙ ap Ok (sym call.words);
+      words = ap words text ∙ words-arguments version (arguments_of call.verb) v (verb_text call.verb) in_range ∙ start.words;
+      clean = rw text (clean-append (verb_text call.verb) (arguments_text v (arguments_of call.verb)) (verb_clean call.verb) (clean-arguments version (arguments_of call.verb) v in_range));
+      is = ap (λ m. call_on version is_space m start.word start.behind) (ap mode_of call.words ∙ mode_kept call.verb call.mode v small) ∙ start.is ∙ call_with-text version call.mode call.verb call.values call.moded call.ranged ∙ ap Ok (sym call.words);
     }

@@ -1,20 +1,23 @@
 -- Why a script has few calls.
-use Rattle.std.proofs.Common.{◌≡◌, ℕ, ◌+◌, ◌*◌, ◌<◌, ◌≤◌, Bool, true, false, cond, not, ◌==◌, List, [], ◌∷◌, ◌++◌, filter, length, length-append, sum_by, refl, arith, Option, Some, None, Result, Ok, Err, is_some, nat_le, ok_or}
+use Rattle.std.proofs.Common.{◌≡◌, ℕ, ◌+◌, ◌*◌, ◌<◌, ◌≤◌, Bool, true, false, cond, not, ◌==◌, List, [], ◌∷◌, ◌++◌, filter, length, length-append, sum_by, refl, arith, codes, Option, Some, None, Result, Ok, Err, is_some, nat_le, ok_or}
 use Rattle.std.proofs.lemmas.List.Sums.{sum_by-cons, sum_by-append, prefix_len-le-length}
 use Rattle.std.proofs.lemmas.List.Folds.{length-prefix_len}
 use Rattle.std.specs.List.{AllByRecursion, slice_split, onto_first, list_all}
 use Rattle.word_bits.specs.declared.call.Mode.{Mode}
 use Rattle.word_bits.specs.declared.call.Mode.TheVariants.{Plain, Int, Try}
 use Rattle.task_script.specs.declared.script.Line.{Line}
+use Rattle.task_script.specs.declared.version.Version.TheVariants.{Two}
 use Rattle.task_script.specs.declared.reason.Reason.{Reason}
-use Rattle.task_script.specs.declared.reason.Reason.TheVariants.{Byte, Place, Name, Twice, Limit, Unknown}
+use Rattle.task_script.specs.declared.reason.Reason.TheVariants.{Byte, Version as NoVersion, Place, Name, Twice, Limit, Unknown}
 use Rattle.task_script.specs.declared.token.Keyword.{Keyword}
 use Rattle.task_script.specs.declared.token.Keyword.TheVariants.{Version as KVersion, Space as KSpace, Table as KTable, Task as KTask, Int as KInt, Try as KTry}
 use Rattle.task_script.specs.Cuts.{is_blank, is_empty, is_plain, lines, without_return, words}
 use Rattle.task_script.specs.Tokens.{is_name, keyword_of}
 use Rattle.task_script.specs.Verbs.{call_on}
+use Rattle.std.specs.Str.{bytes_eq}
+use Rattle.task_script.specs.Versions.{most_objects, most_tasks}
 use Rattle.task_script.specs.Scripts.{Listing, nothing, count_of_calls}
-use Rattle.task_script.specs.Grammar.{place_of, with_call, line_of, is_space_at, declare_line, task_line, object_line, call_line, line_of_words, line_after, said, text_after, then_lines, lines_after}
+use Rattle.task_script.specs.Grammar.{place_of, with_call, line_of, is_space_at, is_begun, version_line, declare_line, task_line, object_line, call_line, line_of_words, line_after, said, text_after, then_lines, lines_after}
 use Rattle.task_script.proofs.Accepted.{and_then_ok, unless_refused, accepted_call}
 
 -- the bytes of parts, each with the one that closes it
@@ -83,24 +86,33 @@ few-declare is_space s t (name ∷ []) is =
     let place = unless_refused (not (is_empty s.tasks)) Place _ t is in
     let named = unless_refused (not (is_name name)) Name _ t place.1 in
     let twice = unless_refused (is_some (place_of name s.objects)) Twice _ t named.1 in
-    let limit = unless_refused (nat_le 16 (length s.objects)) Limit _ t twice.1 in
-    let same : record { objects = s.objects ++ record { name = name; is_space = is_space } ∷ []; tasks = s.tasks } ≡ t = cc (limit.1) in
+    let limit = unless_refused (nat_le (most_objects s.version) (length s.objects)) Limit _ t twice.1 in
+    let same : record { version = s.version; objects = s.objects ++ record { name = name; is_space = is_space } ∷ []; tasks = s.tasks } ≡ t = cc (limit.1) in
     rw (← same) refl
 few-declare is_space s t (name ∷ word ∷ more) is = cc
 
+few-version : (s t : Listing) (ws : List (List ℕ)) → version_line s ws ≡ Ok t → count_of_calls t ≡ count_of_calls s
+few-version s t [] is = cc
+few-version s t (word ∷ []) is =
+    let second = unless_refused (not (bytes_eq word (codes "2"))) NoVersion _ t is in
+    let first = unless_refused (is_begun s) Place _ t second.1 in
+    let same : record s { version = Two } ≡ t = cc (first.1) in
+    rw (← same) refl
+few-version s t (word ∷ more ∷ others) is = cc
+
 few-task : (s t : Listing) (ws : List (List ℕ)) → task_line s ws ≡ Ok t → count_of_calls t ≡ count_of_calls s
 few-task s t [] is =
-    let limit = unless_refused (nat_le 64 (length s.tasks)) Limit _ t is in
-    let same : record { objects = s.objects; tasks = s.tasks ++ [] ∷ [] } ≡ t = cc (limit.1) in
+    let limit = unless_refused (nat_le (most_tasks s.version) (length s.tasks)) Limit _ t is in
+    let same : record { version = s.version; objects = s.objects; tasks = s.tasks ++ [] ∷ [] } ≡ t = cc (limit.1) in
     rw (← same) (omega (arith, sum_by-append length s.tasks ([] ∷ []), sum_by-cons {X = List Line} length [] []))
 few-task s t (word ∷ ws) is = cc
 
 few-object : (mode : Mode) (s t : Listing) (object : ℕ) (name : List ℕ) (ws : List (List ℕ)) → AllByRecursion (λ w. 1 ≤ length w) (name ∷ ws) → object_line mode s object ws ≡ Ok t → IsWithin s t (name ∷ ws)
 few-object mode s t object name [] full is = cc
 few-object mode s t object name (verb ∷ ws) full is =
-    let read = and_then_ok (call_on (is_space_at s.objects object) mode verb ws) (λ w. Ok (record { objects = s.objects; tasks = with_call s.tasks (line_of object w) })) t is in
-    let call = accepted_call (is_space_at s.objects object) mode verb ws read.0 read.1 in
-    let same : record { objects = s.objects; tasks = with_call s.tasks (line_of object read.0) } ≡ t = cc (read.2) in
+    let read = and_then_ok (call_on s.version (is_space_at s.objects object) mode verb ws) (λ w. Ok (record { version = s.version; objects = s.objects; tasks = with_call s.tasks (line_of object w) })) t is in
+    let call = accepted_call s.version (is_space_at s.objects object) mode verb ws read.0 read.1 in
+    let same : record { version = s.version; objects = s.objects; tasks = with_call s.tasks (line_of object read.0) } ≡ t = cc (read.2) in
     let here = full.0 in
     let letters = call.verb in
     let some = call.arguments in
@@ -115,7 +127,7 @@ few-call mode s t (name ∷ ws) full is =
     few-object mode s t read.0 name ws full read.2
 
 few-words : (keyword : Option Keyword) (s t : Listing) (word : List ℕ) (ws : List (List ℕ)) → AllByRecursion (λ w. 1 ≤ length w) (word ∷ ws) → line_of_words keyword s word ws ≡ Ok t → IsWithin s t (word ∷ ws)
-few-words (Some KVersion) s t word ws full is = cc
+few-words (Some KVersion) s t word ws full is = let same = few-version s t ws is in omega arith
 few-words (Some KSpace) s t word ws full is = let same = few-declare true s t ws is in omega arith
 few-words (Some KTable) s t word ws full is = let same = few-declare false s t ws is in omega arith
 few-words (Some KTask) s t word ws full is = let same = few-task s t ws is in omega arith

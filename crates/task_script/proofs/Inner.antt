@@ -12,9 +12,9 @@ use Rattle.word_bits.specs.declared.call.Mode.{Mode}
 use Rattle.word_bits.specs.declared.call.Mode.TheVariants.{Plain, Int, Try}
 use Rattle.word_bits.specs.Calls.{mode_of}
 use Rattle.task_script.specs.declared.verb.Verb.{Verb}
-use Rattle.task_script.specs.declared.verb.Verb.TheVariants.{Map, MapAny, MapNew, Unmap, Protect, Populate, Fault, Open, Close, Dup, Dup2, Get, Signal}
+use Rattle.task_script.specs.declared.verb.Verb.TheVariants.{Map, MapAny, MapNew, Unmap, Protect, Populate, Fault, Open, Close, Dup, Dup2, Get, Remap, Signal}
 use Rattle.task_script.specs.declared.verb.Argument.{Argument}
-use Rattle.task_script.specs.declared.verb.Argument.TheVariants.{First, Second, File, Target, Protection, AccessBit}
+use Rattle.task_script.specs.declared.verb.Argument.TheVariants.{First, Second, Third, File, Target, Protection, AccessBit}
 use Rattle.task_script.specs.declared.verb.Values.{Values}
 use Rattle.task_script.specs.Verbs.{verb_text, arguments_of}
 use Rattle.task_script.specs.Texts.{mode_text, letter, prot_text, access_text, verb_of_kind, values_of, argument_text, arguments_text, bare_text, call_text}
@@ -89,6 +89,7 @@ access_inner access = go (access == 1) (access == 2)
 argument_inner : (v : Values) (a : Argument) → IsInner (argument_text v a)
 argument_inner v First = decimal_inner v.first
 argument_inner v Second = decimal_inner v.second
+argument_inner v Third = decimal_inner v.third
 argument_inner v File = decimal_inner v.first
 argument_inner v Target = decimal_inner v.first
 argument_inner v Protection = prot_inner v.prot
@@ -111,6 +112,7 @@ verb_inner Close = refl
 verb_inner Dup = refl
 verb_inner Dup2 = refl
 verb_inner Get = refl
+verb_inner Remap = refl
 verb_inner Signal = refl
 
 bare_inner : (v : Values) (verb : Option Verb) → IsInner (bare_text v verb)

@@ -11,6 +11,7 @@ use Rattle.std.proofs.lemmas.Bool.Decides.{nat_tests}
 use Rattle.arrayvec.specs.ArrayString.{ArrayString}
 use Rattle.indexmap.specs.IndexMap.{insert_entry}
 use Rattle.task_script.specs.declared.script.Line.{Line}
+use Rattle.task_script.specs.declared.version.Version.{Version}
 use Rattle.task_script.specs.declared.script.Kind.{Kind}
 use Rattle.task_script.specs.declared.script.Kind.TheVariants.{Space, Table}
 use Rattle.task_script.specs.Scripts.{Declared}
@@ -44,16 +45,16 @@ named_at before (d ∷ ds) zero name named at = rw (← same_Some d.name name at
 named_at before (d ∷ ds) (suc i) name named at = named_at (before ++ d ∷ []) ds i name named.2 at
 
 -- each call is on a declared object
-pub lines_declared : (objects : List Declared) (ls : List Line) → AllByRecursion (IsLine objects) ls → All (λ (l : Line). l.object < length objects) ls
-lines_declared objects [] each i d within = absurd (omega arith)
-lines_declared objects (l ∷ ls) each zero d within = slice_get_within objects l.object each.0.declared each.0.place
-lines_declared objects (l ∷ ls) each (suc i) d within = lines_declared objects ls each.1 i d (omega arith)
+pub lines_declared : (version : Version) (objects : List Declared) (ls : List Line) → AllByRecursion (IsLine version objects) ls → All (λ (l : Line). l.object < length objects) ls
+lines_declared version objects [] each i d within = absurd (omega arith)
+lines_declared version objects (l ∷ ls) each zero d within = slice_get_within objects l.object each.0.declared each.0.place
+lines_declared version objects (l ∷ ls) each (suc i) d within = lines_declared version objects ls each.1 i d (omega arith)
 
 -- so are those of a task
-pub task_declared : (objects : List Declared) (tasks : List (List Line)) (i : ℕ) (ls : List Line) → AllByRecursion (AllByRecursion (IsLine objects)) tasks → slice_get tasks i ≡ Some ls → All (λ (l : Line). l.object < length objects) ls
-task_declared objects [] i ls each at = cc
-task_declared objects (ms ∷ more) zero ls each at = subst (All (λ (l : Line). l.object < length objects)) (same_Some ms ls at) (lines_declared objects ms each.0)
-task_declared objects (ms ∷ more) (suc i) ls each at = task_declared objects more i ls each.1 at
+pub task_declared : (version : Version) (objects : List Declared) (tasks : List (List Line)) (i : ℕ) (ls : List Line) → AllByRecursion (AllByRecursion (IsLine version objects)) tasks → slice_get tasks i ≡ Some ls → All (λ (l : Line). l.object < length objects) ls
+task_declared version objects [] i ls each at = cc
+task_declared version objects (ms ∷ more) zero ls each at = subst (All (λ (l : Line). l.object < length objects)) (same_Some ms ls at) (lines_declared version objects ms each.0)
+task_declared version objects (ms ∷ more) (suc i) ls each at = task_declared version objects more i ls each.1 at
 
 -- the kind that is kept at a place is that of the object there
 pub kind_kept : (entries : List (ArrayString × Kind)) (i : ℕ) (kind : Kind) → slice_get (map (λ (e : ArrayString × Kind). e.1) entries) i ≡ Some kind → slice_get (map (λ (d : Declared). d.is_space) (map declared_of entries)) i ≡ Some (is_space_kind kind)

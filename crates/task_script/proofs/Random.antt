@@ -10,6 +10,7 @@ use Rattle.std.proofs.lemmas.List.Sums.{sum_by-cons}
 use Rattle.word_bits.specs.declared.call.CallWords.{CallWords}
 use Rattle.word_bits.specs.declared.call.Mode.TheVariants.{Plain}
 use Rattle.task_script.specs.declared.script.Line.{Line}
+use Rattle.task_script.specs.declared.version.Version.TheVariants.{One}
 use Rattle.task_script.specs.declared.verb.Verb.TheVariants.{Map, Unmap, Protect, Fault}
 use Rattle.task_script.specs.Generated.{generated, next_random, random_access, random_call, random_line, random_lines, random_task, randoms, the_space}
 use Rattle.task_script.specs.declared.script.Kind.{Kind}
@@ -37,32 +38,32 @@ access_ok n = elim (n == 0) as (λ t. IsAccess (if t then 1 else if n == 1 then 
 ]
 
 abbrev maps : (start len prot : ℕ) → CallWords
-maps start len prot = call_words_of Map Plain (record { first = start; second = len; prot = prot; access = 0 })
+maps start len prot = call_words_of Map Plain (record { first = start; second = len; third = 0; prot = prot; access = 0 })
 
 abbrev unmaps : (start len : ℕ) → CallWords
-unmaps start len = call_words_of Unmap Plain (record { first = start; second = len; prot = 0; access = 0 })
+unmaps start len = call_words_of Unmap Plain (record { first = start; second = len; third = 0; prot = 0; access = 0 })
 
 abbrev protects : (start len prot : ℕ) → CallWords
-protects start len prot = call_words_of Protect Plain (record { first = start; second = len; prot = prot; access = 0 })
+protects start len prot = call_words_of Protect Plain (record { first = start; second = len; third = 0; prot = prot; access = 0 })
 
 abbrev looks : (start prot : ℕ) → CallWords
-looks start prot = call_words_of Fault Plain (record { first = start; second = 0; prot = 0; access = random_access (prot % 3) })
+looks start prot = call_words_of Fault Plain (record { first = start; second = 0; third = 0; prot = 0; access = random_access (prot % 3) })
 
 -- each kind of call is one that a space has
-call_ok : (kind start len prot : ℕ) → start < 2 ^ 32 → len < 2 ^ 32 → prot < 8 → IsCall true (random_call kind start len prot)
+call_ok : (kind start len prot : ℕ) → start < 2 ^ 32 → len < 2 ^ 32 → prot < 8 → IsCall One true (random_call kind start len prot)
 call_ok kind start len prot s l p =
-    elim (nat_lt kind 2) as (λ t. IsCall true (if t then maps start len prot else if kind == 2 then unmaps start len else if kind == 3 then protects start len prot else looks start prot)) [
-      | true ↦ record { verb = Map; mode = Plain; values = record { first = start; second = len; prot = prot; access = 0 }; known = refl; moded = refl; ranged = (s, (l, (p, tt))); words = refl }
-      | false ↦ elim (kind == 2) as (λ t. IsCall true (if t then unmaps start len else if kind == 3 then protects start len prot else looks start prot)) [
-        | true ↦ record { verb = Unmap; mode = Plain; values = record { first = start; second = len; prot = 0; access = 0 }; known = refl; moded = refl; ranged = (s, (l, tt)); words = refl }
-        | false ↦ elim (kind == 3) as (λ t. IsCall true (if t then protects start len prot else looks start prot)) [
-          | true ↦ record { verb = Protect; mode = Plain; values = record { first = start; second = len; prot = prot; access = 0 }; known = refl; moded = refl; ranged = (s, (l, (p, tt))); words = refl }
-          | false ↦ record { verb = Fault; mode = Plain; values = record { first = start; second = 0; prot = 0; access = random_access (prot % 3) }; known = refl; moded = refl; ranged = (s, (access_ok (prot % 3), tt)); words = refl }
+    elim (nat_lt kind 2) as (λ t. IsCall One true (if t then maps start len prot else if kind == 2 then unmaps start len else if kind == 3 then protects start len prot else looks start prot)) [
+      | true ↦ record { verb = Map; mode = Plain; values = record { first = start; second = len; third = 0; prot = prot; access = 0 }; known = refl; moded = refl; ranged = (s, (l, (p, tt))); words = refl }
+      | false ↦ elim (kind == 2) as (λ t. IsCall One true (if t then unmaps start len else if kind == 3 then protects start len prot else looks start prot)) [
+        | true ↦ record { verb = Unmap; mode = Plain; values = record { first = start; second = len; third = 0; prot = 0; access = 0 }; known = refl; moded = refl; ranged = (s, (l, tt)); words = refl }
+        | false ↦ elim (kind == 3) as (λ t. IsCall One true (if t then protects start len prot else looks start prot)) [
+          | true ↦ record { verb = Protect; mode = Plain; values = record { first = start; second = len; third = 0; prot = prot; access = 0 }; known = refl; moded = refl; ranged = (s, (l, (p, tt))); words = refl }
+          | false ↦ record { verb = Fault; mode = Plain; values = record { first = start; second = 0; third = 0; prot = 0; access = random_access (prot % 3) }; known = refl; moded = refl; ranged = (s, (access_ok (prot % 3), tt)); words = refl }
         ]
       ]
     ]
 
-line_ok : (task x : ℕ) → task < 8 → IsLine (the_space ∷ []) (random_line task x)
+line_ok : (task x : ℕ) → task < 8 → IsLine One (the_space ∷ []) (random_line task x)
 line_ok task x t = record {
   declared = the_space;
   call = random_call (x / 2 ^ 28 % 8) (task * 4096 + x / 2 ^ 8 % 24) (1 + x / 2 ^ 16 % 8) (x / 2 ^ 20 % 8);
@@ -71,11 +72,11 @@ line_ok task x t = record {
   words = refl;
 }
 
-lines_ok : (task : ℕ) (xs : List ℕ) → task < 8 → AllByRecursion (IsLine (the_space ∷ [])) (map (random_line task) xs)
+lines_ok : (task : ℕ) (xs : List ℕ) → task < 8 → AllByRecursion (IsLine One (the_space ∷ [])) (map (random_line task) xs)
 lines_ok task [] t = tt
 lines_ok task (x ∷ xs) t = (line_ok task x t, lines_ok task xs t)
 
-tasks_ok : (number first count : ℕ) → first + count ≤ 8 → AllByRecursion (AllByRecursion (IsLine (the_space ∷ []))) (map (random_task number) (range_with_len first count))
+tasks_ok : (number first count : ℕ) → first + count ≤ 8 → AllByRecursion (AllByRecursion (IsLine One (the_space ∷ []))) (map (random_task number) (range_with_len first count))
 tasks_ok number first zero within = tt
 tasks_ok number first (suc count) within = (lines_ok first (randoms ((number + first) % 2 ^ 32) 2000) (omega arith), tasks_ok number (first + 1) count (omega arith))
 
@@ -125,8 +126,8 @@ tasks_more number task tasks v so_far is =
 
 -- the space and all tasks
 pub generated_is : (number count : ℕ) (objects : List (ArrayString × Kind)) (tasks : List (Vec Line)) → count ≡ 8 → map declared_of objects ≡ the_space ∷ [] → map (λ w. w.items) tasks ≡ map (random_task number) (range_with_len 0 count)
-    → listing objects tasks ≡ generated number
+    → listing One objects tasks ≡ generated number
 generated_is number count objects tasks all named lined =
     let lines : map (λ (w : Vec Line). w.items) tasks ≡ map (random_task number) (range_with_len 0 8) = lined ∙ ap (λ n. map (random_task number) (range_with_len 0 n)) all in
-    let P : List Declared → List (List Line) → Listing = λ os ls. record { objects = os; tasks = ls } in
+    let P : List Declared → List (List Line) → Listing = λ os ls. record { version = One; objects = os; tasks = ls } in
     ap (λ os. P os (map (λ (w : Vec Line). w.items) tasks)) named ∙ ap (λ ls. P (the_space ∷ []) ls) lines

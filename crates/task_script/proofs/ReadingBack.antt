@@ -11,11 +11,14 @@ use Rattle.word_bits.specs.declared.call.Mode.{Mode}
 use Rattle.word_bits.specs.declared.call.Mode.TheVariants.{Plain, Int, Try}
 use Rattle.word_bits.specs.Calls.{mode_of}
 use Rattle.task_script.specs.declared.script.Line.{Line}
+use Rattle.task_script.specs.declared.version.Version.{Version}
+use Rattle.task_script.specs.declared.version.Version.TheVariants.{One, Two}
 use Rattle.task_script.specs.Cuts.{is_empty, lines, words}
 use Rattle.task_script.specs.Tokens.{is_lower, is_name_byte, has_name_bytes, is_name, keyword_of}
 use Rattle.task_script.specs.Scripts.{Declared, Listing, nothing, call_words}
 use Rattle.task_script.specs.Sound.{IsLine, AreNamed, IsSound}
-use Rattle.task_script.specs.Texts.{mode_text, declaration_text, name_at, named_text, line_text, task_text, canonical_text, verb_and_arguments}
+use Rattle.task_script.specs.Texts.{mode_text, declaration_text, name_at, named_text, line_text, task_text, body_text, canonical_text, verb_and_arguments}
+use Rattle.task_script.specs.Versions.{most_objects, most_tasks, version_text}
 use Rattle.task_script.specs.Grammar.{place_of, with_call, line_of, declare_line, call_line, line_of_words, line_after, then_lines, lines_after, script_of}
 use Rattle.task_script.proofs.CallTexts.{IsCallText, call_text_is}
 use Rattle.task_script.proofs.Reading.{short_script}
@@ -74,30 +77,30 @@ name_word (b ∷ bs) is =
 
 -- ---- declarations
 
-declaration_is : (d : Declared) (s : Listing) → is_name d.name ≡ true → s.tasks ≡ [] → place_of d.name s.objects ≡ None → length s.objects < 16
-    → Reaches s (record { objects = s.objects ++ d ∷ []; tasks = s.tasks }) (declaration_text d)
+declaration_is : (d : Declared) (s : Listing) → is_name d.name ≡ true → s.tasks ≡ [] → place_of d.name s.objects ≡ None → length s.objects < most_objects s.version
+    → Reaches s (record { version = s.version; objects = s.objects ++ d ∷ []; tasks = s.tasks }) (declaration_text d)
 declaration_is d s is empty none few = go d.is_space refl
   where
     w : IsNameWord d.name
     w = name_word d.name is
 
-    limit : nat_le 16 (length s.objects) ≡ false
+    limit : nat_le (most_objects s.version) (length s.objects) ≡ false
     limit = grind (arith, nat_tests)
 
-    accepted : (is_space : Bool) → d.is_space ≡ is_space → declare_line is_space s (d.name ∷ []) ≡ Ok (record { objects = s.objects ++ d ∷ []; tasks = s.tasks })
+    accepted : (is_space : Bool) → d.is_space ≡ is_space → declare_line is_space s (d.name ∷ []) ≡ Ok (record { version = s.version; objects = s.objects ++ d ∷ []; tasks = s.tasks })
     accepted is_space kind = rw (empty, is, none, limit, ← kind) refl
 
-    go : (is_space : Bool) → d.is_space ≡ is_space → Reaches s (record { objects = s.objects ++ d ∷ []; tasks = s.tasks }) (cond is_space (codes "space ") (codes "table ") ++ d.name ++ codes "\n")
+    go : (is_space : Bool) → d.is_space ≡ is_space → Reaches s (record { version = s.version; objects = s.objects ++ d ∷ []; tasks = s.tasks }) (cond is_space (codes "space ") (codes "table ") ++ d.name ++ codes "\n")
     go true kind = reaches_line s _ (codes "space " ++ d.name) (clean-append (codes "space ") d.name refl (clean-visible d.name w.visible)) (ap (λ ws. line_after s (codes "space" ∷ ws)) w.word ∙ accepted true kind)
     go false kind = reaches_line s _ (codes "table " ++ d.name) (clean-append (codes "table ") d.name refl (clean-visible d.name w.visible)) (ap (λ ws. line_after s (codes "table" ∷ ws)) w.word ∙ accepted false kind)
 
-declarations_are : (before ds : List Declared) → AreNamed before ds → length before + length ds ≤ 16 → Reaches (record { objects = before; tasks = [] }) (record { objects = before ++ ds; tasks = [] }) (flat_map declaration_text ds)
-declarations_are before [] named few = subst (λ objects. Reaches (record { objects = before; tasks = [] }) (record { objects = objects; tasks = [] }) []) (sym (append-nil before)) (reaches_nothing (record { objects = before; tasks = [] }))
-declarations_are before (d ∷ ds) named few =
-    subst (λ objects. Reaches (record { objects = before; tasks = [] }) (record { objects = objects; tasks = [] }) (declaration_text d ++ flat_map declaration_text ds)) (append_assoc before (d ∷ []) ds)
-    (reaches_both (record { objects = before; tasks = [] }) (record { objects = before ++ d ∷ []; tasks = [] }) (record { objects = (before ++ d ∷ []) ++ ds; tasks = [] }) (declaration_text d) (flat_map declaration_text ds)
-    (declaration_is d (record { objects = before; tasks = [] }) named.0 refl named.1 (omega arith))
-    (declarations_are (before ++ d ∷ []) ds named.2 (omega (arith, length-append before (d ∷ [])))))
+declarations_are : (version : Version) (before ds : List Declared) → AreNamed before ds → length before + length ds ≤ most_objects version → Reaches (record { version = version; objects = before; tasks = [] }) (record { version = version; objects = before ++ ds; tasks = [] }) (flat_map declaration_text ds)
+declarations_are version before [] named few = subst (λ objects. Reaches (record { version = version; objects = before; tasks = [] }) (record { version = version; objects = objects; tasks = [] }) []) (sym (append-nil before)) (reaches_nothing (record { version = version; objects = before; tasks = [] }))
+declarations_are version before (d ∷ ds) named few =
+    subst (λ objects. Reaches (record { version = version; objects = before; tasks = [] }) (record { version = version; objects = objects; tasks = [] }) (declaration_text d ++ flat_map declaration_text ds)) (append_assoc before (d ∷ []) ds)
+    (reaches_both (record { version = version; objects = before; tasks = [] }) (record { version = version; objects = before ++ d ∷ []; tasks = [] }) (record { version = version; objects = (before ++ d ∷ []) ++ ds; tasks = [] }) (declaration_text d) (flat_map declaration_text ds)
+    (declaration_is d (record { version = version; objects = before; tasks = [] }) named.0 refl named.1 (omega arith))
+    (declarations_are version (before ++ d ∷ []) ds named.2 (omega (arith, length-append before (d ∷ [])))))
 
 -- ---- calls
 
@@ -169,18 +172,18 @@ mode_clean Int = refl
 mode_clean Try = refl
 
 -- one call
-call_is : (objects : List Declared) (done : List (List Line)) (ls : List Line) (l : Line) → AreNamed [] objects → IsLine objects l
-    → Reaches (record { objects = objects; tasks = done ++ ls ∷ [] }) (record { objects = objects; tasks = done ++ (ls ++ l ∷ []) ∷ [] }) (line_text objects l)
-call_is objects done ls l named is = subst (Reaches s t) (sym (ap (named_text (name_at objects l.object)) same ∙ ap (λ n. named_text n is.call) name)) (reaches_line s t line clean accepted)
+call_is : (version : Version) (objects : List Declared) (done : List (List Line)) (ls : List Line) (l : Line) → AreNamed [] objects → IsLine version objects l
+    → Reaches (record { version = version; objects = objects; tasks = done ++ ls ∷ [] }) (record { version = version; objects = objects; tasks = done ++ (ls ++ l ∷ []) ∷ [] }) (line_text objects l)
+call_is version objects done ls l named is = subst (Reaches s t) (sym (ap (named_text (name_at objects l.object)) same ∙ ap (λ n. named_text n is.call) name)) (reaches_line s t line clean accepted)
   where
     d : Declared
     d = is.declared
 
     s : Listing
-    s = record { objects = objects; tasks = done ++ ls ∷ [] }
+    s = record { version = version; objects = objects; tasks = done ++ ls ∷ [] }
 
     t : Listing
-    t = record { objects = objects; tasks = done ++ (ls ++ l ∷ []) ∷ [] }
+    t = record { version = version; objects = objects; tasks = done ++ (ls ++ l ∷ []) ∷ [] }
 
     line : List ℕ
     line = mode_text (mode_of is.call) ++ d.name ++ codes " " ++ verb_and_arguments is.call
@@ -194,8 +197,8 @@ call_is objects done ls l named is = subst (Reaches s t) (sym (ap (named_text (n
     w : IsNameWord d.name
     w = name_word d.name (named_at [] objects l.object d named is.place)
 
-    text : IsCallText d.is_space is.call
-    text = call_text_is d.is_space is.call is.is
+    text : IsCallText version d.is_space is.call
+    text = call_text_is version d.is_space is.call is.is
 
     clean : list_all is_clean line ≡ true
     clean =
@@ -214,33 +217,40 @@ call_is objects done ls l named is = subst (Reaches s t) (sym (ap (named_text (n
     accepted : line_after s (words line) ≡ Ok t
     accepted = mode_line (mode_of is.call) s d.name (text.word ∷ text.behind) (verb_and_arguments is.call) w text.words ∙ called
 
-calls_are : (objects : List Declared) (done : List (List Line)) (before ls : List Line) → AreNamed [] objects → AllByRecursion (IsLine objects) ls
-    → Reaches (record { objects = objects; tasks = done ++ before ∷ [] }) (record { objects = objects; tasks = done ++ (before ++ ls) ∷ [] }) (flat_map (line_text objects) ls)
-calls_are objects done before [] named each = subst (λ cs. Reaches (record { objects = objects; tasks = done ++ before ∷ [] }) (record { objects = objects; tasks = done ++ cs ∷ [] }) []) (sym (append-nil before)) (reaches_nothing _)
-calls_are objects done before (l ∷ ls) named each =
-    subst (λ cs. Reaches (record { objects = objects; tasks = done ++ before ∷ [] }) (record { objects = objects; tasks = done ++ cs ∷ [] }) (line_text objects l ++ flat_map (line_text objects) ls)) (append_assoc before (l ∷ []) ls)
-    (reaches_both _ (record { objects = objects; tasks = done ++ (before ++ l ∷ []) ∷ [] }) _ (line_text objects l) (flat_map (line_text objects) ls) (call_is objects done before l named each.0) (calls_are objects done (before ++ l ∷ []) ls named each.1))
+calls_are : (version : Version) (objects : List Declared) (done : List (List Line)) (before ls : List Line) → AreNamed [] objects → AllByRecursion (IsLine version objects) ls
+    → Reaches (record { version = version; objects = objects; tasks = done ++ before ∷ [] }) (record { version = version; objects = objects; tasks = done ++ (before ++ ls) ∷ [] }) (flat_map (line_text objects) ls)
+calls_are version objects done before [] named each = subst (λ cs. Reaches (record { version = version; objects = objects; tasks = done ++ before ∷ [] }) (record { version = version; objects = objects; tasks = done ++ cs ∷ [] }) []) (sym (append-nil before)) (reaches_nothing _)
+calls_are version objects done before (l ∷ ls) named each =
+    subst (λ cs. Reaches (record { version = version; objects = objects; tasks = done ++ before ∷ [] }) (record { version = version; objects = objects; tasks = done ++ cs ∷ [] }) (line_text objects l ++ flat_map (line_text objects) ls)) (append_assoc before (l ∷ []) ls)
+    (reaches_both _ (record { version = version; objects = objects; tasks = done ++ (before ++ l ∷ []) ∷ [] }) _ (line_text objects l) (flat_map (line_text objects) ls) (call_is version objects done before l named each.0) (calls_are version objects done (before ++ l ∷ []) ls named each.1))
 
 -- ---- tasks
 
-task_is : (objects : List Declared) (done : List (List Line)) (ls : List Line) → AreNamed [] objects → AllByRecursion (IsLine objects) ls → length done < 64
-    → Reaches (record { objects = objects; tasks = done }) (record { objects = objects; tasks = done ++ ls ∷ [] }) (task_text objects ls)
-task_is objects done ls named each few =
-    let limit : nat_le 64 (length done) ≡ false = grind (arith, nat_tests) in
-    reaches_both _ (record { objects = objects; tasks = done ++ [] ∷ [] }) _ (codes "task\n") (flat_map (line_text objects) ls)
-    (reaches_line (record { objects = objects; tasks = done }) (record { objects = objects; tasks = done ++ [] ∷ [] }) (codes "task") refl (rw limit refl)) (calls_are objects done [] ls named each)
+task_is : (version : Version) (objects : List Declared) (done : List (List Line)) (ls : List Line) → AreNamed [] objects → AllByRecursion (IsLine version objects) ls → length done < most_tasks version
+    → Reaches (record { version = version; objects = objects; tasks = done }) (record { version = version; objects = objects; tasks = done ++ ls ∷ [] }) (task_text objects ls)
+task_is version objects done ls named each few =
+    let limit : nat_le (most_tasks version) (length done) ≡ false = grind (arith, nat_tests) in
+    reaches_both _ (record { version = version; objects = objects; tasks = done ++ [] ∷ [] }) _ (codes "task\n") (flat_map (line_text objects) ls)
+    (reaches_line (record { version = version; objects = objects; tasks = done }) (record { version = version; objects = objects; tasks = done ++ [] ∷ [] }) (codes "task") refl (rw limit refl)) (calls_are version objects done [] ls named each)
 
-tasks_are : (objects : List Declared) (done tasks : List (List Line)) → AreNamed [] objects → AllByRecursion (AllByRecursion (IsLine objects)) tasks → length done + length tasks ≤ 64
-    → Reaches (record { objects = objects; tasks = done }) (record { objects = objects; tasks = done ++ tasks }) (flat_map (task_text objects) tasks)
-tasks_are objects done [] named each few = subst (λ ts. Reaches (record { objects = objects; tasks = done }) (record { objects = objects; tasks = ts }) []) (sym (append-nil done)) (reaches_nothing _)
-tasks_are objects done (ls ∷ tasks) named each few =
-    subst (λ ts. Reaches (record { objects = objects; tasks = done }) (record { objects = objects; tasks = ts }) (task_text objects ls ++ flat_map (task_text objects) tasks)) (append_assoc done (ls ∷ []) tasks)
-    (reaches_both _ (record { objects = objects; tasks = done ++ ls ∷ [] }) _ (task_text objects ls) (flat_map (task_text objects) tasks) (task_is objects done ls named each.0 (omega arith))
-    (tasks_are objects (done ++ ls ∷ []) tasks named each.1 (omega (arith, length-append done (ls ∷ [])))))
+tasks_are : (version : Version) (objects : List Declared) (done tasks : List (List Line)) → AreNamed [] objects → AllByRecursion (AllByRecursion (IsLine version objects)) tasks → length done + length tasks ≤ most_tasks version
+    → Reaches (record { version = version; objects = objects; tasks = done }) (record { version = version; objects = objects; tasks = done ++ tasks }) (flat_map (task_text objects) tasks)
+tasks_are version objects done [] named each few = subst (λ ts. Reaches (record { version = version; objects = objects; tasks = done }) (record { version = version; objects = objects; tasks = ts }) []) (sym (append-nil done)) (reaches_nothing _)
+tasks_are version objects done (ls ∷ tasks) named each few =
+    subst (λ ts. Reaches (record { version = version; objects = objects; tasks = done }) (record { version = version; objects = objects; tasks = ts }) (task_text objects ls ++ flat_map (task_text objects) tasks)) (append_assoc done (ls ∷ []) tasks)
+    (reaches_both _ (record { version = version; objects = objects; tasks = done ++ ls ∷ [] }) _ (task_text objects ls) (flat_map (task_text objects) tasks) (task_is version objects done ls named each.0 (omega arith))
+    (tasks_are version objects (done ++ ls ∷ []) tasks named each.1 (omega (arith, length-append done (ls ∷ [])))))
+
+-- the line of a version leads to a script of it
+version_is : (version : Version) → Reaches nothing (record { version = version; objects = []; tasks = [] }) (version_text version)
+version_is One = reaches_nothing nothing
+version_is Two = reaches_line nothing (record { version = Two; objects = []; tasks = [] }) (codes "version 2") refl refl
 
 -- the canonical text of a sound script is read as it
 pub read_back : (s : Listing) → IsSound s → length (canonical_text s) ≤ 1048576 → script_of (canonical_text s) ≡ Ok s
 read_back s sound short =
-    let declared = declarations_are [] s.objects sound.named (omega (arith, sound.few_objects)) in
-    let all = reaches_both nothing (record { objects = s.objects; tasks = [] }) s (flat_map declaration_text s.objects) (flat_map (task_text s.objects) s.tasks) declared (tasks_are s.objects [] s.tasks sound.named sound.calls (omega (arith, sound.few_tasks))) in
+    let empty : Listing = record { version = s.version; objects = []; tasks = [] } in
+    let declared = declarations_are s.version [] s.objects sound.named (omega (arith, sound.few_objects)) in
+    let body = reaches_both empty (record { version = s.version; objects = s.objects; tasks = [] }) s (flat_map declaration_text s.objects) (flat_map (task_text s.objects) s.tasks) declared (tasks_are s.version s.objects [] s.tasks sound.named sound.calls (omega (arith, sound.few_tasks))) in
+    let all = reaches_both nothing empty s (version_text s.version) (body_text s) (version_is s.version) body in
     short_script (canonical_text s) short ∙ ap (λ l. lines_after 1 nothing (lines l)) (sym (append-nil (canonical_text s))) ∙ (all 1 []).1

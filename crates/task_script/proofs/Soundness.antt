@@ -1,5 +1,5 @@
 -- What every accepted script is.
-use Rattle.std.proofs.Common.{◌≡◌, ℕ, ◌+◌, ◌<◌, Bool, true, false, cond, not, zero, suc, List, [], ◌∷◌, ◌++◌, length, refl, sym, subst, arith, Option, Some, None, is_some, Result, Ok, Err, nat_lt, nat_le, ok_or, append-nil, append_assoc, length-append}
+use Rattle.std.proofs.Common.{◌≡◌, ℕ, ◌+◌, ◌<◌, Bool, true, false, cond, not, zero, suc, List, [], ◌∷◌, ◌++◌, length, refl, sym, subst, arith, ◌||◌, codes, Option, Some, None, is_some, Result, Ok, Err, nat_lt, nat_le, ok_or, append-nil, append_assoc, length-append}
 use Rattle.std.specs.Prelude.{slice_get}
 use Rattle.std.specs.List.{AllByRecursion, list_all, position_or_len}
 use Rattle.std.specs.Str.{bytes_eq}
@@ -7,16 +7,18 @@ use Rattle.std.proofs.lemmas.Bool.Decides.{nat_tests}
 use Rattle.word_bits.specs.declared.call.Mode.{Mode}
 use Rattle.word_bits.specs.declared.call.Mode.TheVariants.{Plain, Int, Try}
 use Rattle.task_script.specs.declared.script.Line.{Line}
+use Rattle.task_script.specs.declared.version.Version.TheVariants.{Two}
 use Rattle.task_script.specs.declared.reason.Reason.{Reason}
-use Rattle.task_script.specs.declared.reason.Reason.TheVariants.{Byte, Place, Name, Twice, Limit, Unknown}
+use Rattle.task_script.specs.declared.reason.Reason.TheVariants.{Byte, Version as NoVersion, Place, Name, Twice, Limit, Unknown}
 use Rattle.task_script.specs.declared.token.Keyword.{Keyword}
 use Rattle.task_script.specs.declared.token.Keyword.TheVariants.{Version as KVersion, Space as KSpace, Table as KTable, Task as KTask, Int as KInt, Try as KTry}
 use Rattle.task_script.specs.Cuts.{is_empty, is_plain, lines, words}
 use Rattle.task_script.specs.Tokens.{is_name, keyword_of}
 use Rattle.task_script.specs.Verbs.{call_on}
+use Rattle.task_script.specs.Versions.{is_second, most_objects, most_tasks}
 use Rattle.task_script.specs.Scripts.{Declared, Listing, nothing}
 use Rattle.task_script.specs.Sound.{IsCall, IsLine, AreNamed, IsSound}
-use Rattle.task_script.specs.Grammar.{place_of, with_call, line_of, is_space_at, declare_line, task_line, object_line, call_line, line_of_words, line_after, said, text_after, then_lines, lines_after}
+use Rattle.task_script.specs.Grammar.{place_of, with_call, line_of, is_space_at, is_begun, version_line, declare_line, task_line, object_line, call_line, line_of_words, line_after, said, text_after, then_lines, lines_after}
 use Rattle.task_script.proofs.Accepted.{and_then_ok, ok_or_ok, unless_refused, accepted_call}
 
 -- an empty list
@@ -38,8 +40,8 @@ is_none_so : {X : Type 0} (o : Option X) → is_some o ≡ false → o ≡ None
 is_none_so None is = refl
 is_none_so (Some x) is = cc
 
-declared_sound : (is_space : Bool) (s : Listing) (name : List ℕ) → IsSound s → is_empty s.tasks ≡ true → is_name name ≡ true → place_of name s.objects ≡ None → length s.objects < 16
-    → IsSound (record { objects = s.objects ++ record { name = name; is_space = is_space } ∷ []; tasks = s.tasks })
+declared_sound : (is_space : Bool) (s : Listing) (name : List ℕ) → IsSound s → is_empty s.tasks ≡ true → is_name name ≡ true → place_of name s.objects ≡ None → length s.objects < most_objects s.version
+    → IsSound (record { version = s.version; objects = s.objects ++ record { name = name; is_space = is_space } ∷ []; tasks = s.tasks })
 declared_sound is_space s name sound empty is none few = record {
   few_objects = omega (arith, length-append s.objects (record { name = name; is_space = is_space } ∷ []));
   few_tasks = sound.few_tasks;
@@ -54,18 +56,42 @@ sound-declare is_space s t (name ∷ []) sound is =
     let place = unless_refused (not (is_empty s.tasks)) Place _ t is in
     let named = unless_refused (not (is_name name)) Name _ t place.1 in
     let twice = unless_refused (is_some (place_of name s.objects)) Twice _ t named.1 in
-    let limit = unless_refused (nat_le 16 (length s.objects)) Limit _ t twice.1 in
-    let few : length s.objects < 16 = below limit.0 in
-    let same : record { objects = s.objects ++ record { name = name; is_space = is_space } ∷ []; tasks = s.tasks } ≡ t = cc (limit.1) in
+    let limit = unless_refused (nat_le (most_objects s.version) (length s.objects)) Limit _ t twice.1 in
+    let few : length s.objects < most_objects s.version = below limit.0 in
+    let same : record { version = s.version; objects = s.objects ++ record { name = name; is_space = is_space } ∷ []; tasks = s.tasks } ≡ t = cc (limit.1) in
     subst IsSound same (declared_sound is_space s name sound (truly (is_empty s.tasks) place.0) (truly (is_name name) named.0) (is_none_so (place_of name s.objects) twice.0) few)
   where
     truly : (b : Bool) → not b ≡ false → b ≡ true
     truly true is = refl
     truly false is = cc
 
-    below : nat_le 16 (length s.objects) ≡ false → length s.objects < 16
+    below : nat_le (most_objects s.version) (length s.objects) ≡ false → length s.objects < most_objects s.version
     below is = grind (arith, nat_tests)
 sound-declare is_space s t (name ∷ word ∷ more) sound is = cc
+
+-- nothing is read in front of a version
+begun_by : (a b c : Bool) → (a || b || c) ≡ false → (a ≡ false) × (b ≡ false) × (c ≡ false)
+begun_by false false false is = (refl, refl, refl)
+begun_by true b c is = cc
+begun_by false true c is = cc
+begun_by false false true is = cc
+
+not_some : (b : Bool) → not b ≡ false → b ≡ true
+not_some true is = refl
+not_some false is = cc
+
+-- a version leaves a sound script
+sound-version : (s t : Listing) (ws : List (List ℕ)) → version_line s ws ≡ Ok t → IsSound t
+sound-version s t [] is = cc
+sound-version s t (word ∷ []) is =
+    let second = unless_refused (not (bytes_eq word (codes "2"))) NoVersion _ t is in
+    let first = unless_refused (is_begun s) Place _ t second.1 in
+    let parts = begun_by (is_second s.version) (not (is_empty s.objects)) (not (is_empty s.tasks)) first.0 in
+    let objects = none_there s.objects (not_some (is_empty s.objects) parts.1) in
+    let tasks = none_there s.tasks (not_some (is_empty s.tasks) parts.2) in
+    let same : record s { version = Two } ≡ t = cc (first.1) in
+    subst IsSound same (rw (objects, tasks) (record { few_objects = omega arith; few_tasks = omega arith; named = tt; calls = tt }))
+sound-version s t (word ∷ more ∷ others) is = cc
 
 -- one more task without calls
 task_added : (P : List Line → Type 0) (tasks : List (List Line)) → AllByRecursion P tasks → P [] → AllByRecursion P (tasks ++ [] ∷ [])
@@ -74,17 +100,17 @@ task_added P (ls ∷ tasks) each none = (each.0, task_added P tasks each.1 none)
 
 sound-task : (s t : Listing) (ws : List (List ℕ)) → IsSound s → task_line s ws ≡ Ok t → IsSound t
 sound-task s t [] sound is =
-    let limit = unless_refused (nat_le 64 (length s.tasks)) Limit _ t is in
-    let few : length s.tasks < 64 = below limit.0 in
-    let same : record { objects = s.objects; tasks = s.tasks ++ [] ∷ [] } ≡ t = cc (limit.1) in
+    let limit = unless_refused (nat_le (most_tasks s.version) (length s.tasks)) Limit _ t is in
+    let few : length s.tasks < most_tasks s.version = below limit.0 in
+    let same : record { version = s.version; objects = s.objects; tasks = s.tasks ++ [] ∷ [] } ≡ t = cc (limit.1) in
     subst IsSound same (record {
       few_objects = sound.few_objects;
       few_tasks = omega (arith, length-append s.tasks ([] ∷ []));
       named = sound.named;
-      calls = task_added (AllByRecursion (IsLine s.objects)) s.tasks sound.calls tt;
+      calls = task_added (AllByRecursion (IsLine s.version s.objects)) s.tasks sound.calls tt;
     })
   where
-    below : nat_le 64 (length s.tasks) ≡ false → length s.tasks < 64
+    below : nat_le (most_tasks s.version) (length s.tasks) ≡ false → length s.tasks < most_tasks s.version
     below is = grind (arith, nat_tests)
 sound-task s t (word ∷ ws) sound is = cc
 
@@ -120,18 +146,18 @@ sound-object : (mode : Mode) (s t : Listing) (object : ℕ) (ws : List (List ℕ
 sound-object mode s t object [] sound within is = cc
 sound-object mode s t object (verb ∷ ws) sound within is =
     let at = object_at s.objects object within in
-    let read = and_then_ok (call_on (is_space_at s.objects object) mode verb ws) (λ w. Ok (record { objects = s.objects; tasks = with_call s.tasks (line_of object w) })) t is in
-    let call = accepted_call (is_space_at s.objects object) mode verb ws read.0 read.1 in
-    let same : record { objects = s.objects; tasks = with_call s.tasks (line_of object read.0) } ≡ t = cc (read.2) in
+    let read = and_then_ok (call_on s.version (is_space_at s.objects object) mode verb ws) (λ w. Ok (record { version = s.version; objects = s.objects; tasks = with_call s.tasks (line_of object w) })) t is in
+    let call = accepted_call s.version (is_space_at s.objects object) mode verb ws read.0 read.1 in
+    let same : record { version = s.version; objects = s.objects; tasks = with_call s.tasks (line_of object read.0) } ≡ t = cc (read.2) in
     subst IsSound same (record {
       few_objects = sound.few_objects;
       few_tasks = let len = length-with_call s.tasks (line_of object read.0) in let few = sound.few_tasks in omega arith;
       named = sound.named;
-      calls = call_added (IsLine s.objects) s.tasks (line_of object read.0) sound.calls (record {
+      calls = call_added (IsLine s.version s.objects) s.tasks (line_of object read.0) sound.calls (record {
         declared = at.0;
         call = read.0;
         place = at.1;
-        is = subst (λ b. IsCall b read.0) at.2 call.call;
+        is = subst (λ b. IsCall s.version b read.0) at.2 call.call;
         words = refl;
       });
     })
@@ -146,7 +172,7 @@ sound-call mode s t (name ∷ ws) sound is =
 
 -- so does each line
 sound-words : (keyword : Option Keyword) (s t : Listing) (word : List ℕ) (ws : List (List ℕ)) → IsSound s → line_of_words keyword s word ws ≡ Ok t → IsSound t
-sound-words (Some KVersion) s t word ws sound is = cc
+sound-words (Some KVersion) s t word ws sound is = sound-version s t ws is
 sound-words (Some KSpace) s t word ws sound is = sound-declare true s t ws sound is
 sound-words (Some KTable) s t word ws sound is = sound-declare false s t ws sound is
 sound-words (Some KTask) s t word ws sound is = sound-task s t ws sound is

@@ -4,6 +4,7 @@ use Rattle.std.specs.List.{range_with_len}
 use Rattle.word_bits.specs.declared.call.CallWords.{CallWords}
 use Rattle.word_bits.specs.declared.call.Mode.TheVariants.{Plain}
 use Rattle.task_script.specs.declared.script.Line.{Line}
+use Rattle.task_script.specs.declared.version.Version.TheVariants.{One}
 use Rattle.task_script.specs.declared.verb.Verb.TheVariants.{Map, Unmap, Protect, Fault}
 use Rattle.task_script.specs.Verbs.{call_words_of}
 use Rattle.task_script.specs.Grammar.{line_of}
@@ -25,10 +26,10 @@ random_access n = if n == 0 then 1 else if n == 1 then 2 else 4
 -- a quarter of the calls map a range, half look at a page
 abbrev pub random_call : (kind start len prot : ℕ) → CallWords
 random_call kind start len prot =
-    if nat_lt kind 2 then call_words_of Map Plain (record { first = start; second = len; prot = prot; access = 0 })
-    else if kind == 2 then call_words_of Unmap Plain (record { first = start; second = len; prot = 0; access = 0 })
-    else if kind == 3 then call_words_of Protect Plain (record { first = start; second = len; prot = prot; access = 0 })
-    else call_words_of Fault Plain (record { first = start; second = 0; prot = 0; access = random_access (prot % 3) })
+    if nat_lt kind 2 then call_words_of Map Plain (record { first = start; second = len; third = 0; prot = prot; access = 0 })
+    else if kind == 2 then call_words_of Unmap Plain (record { first = start; second = len; third = 0; prot = 0; access = 0 })
+    else if kind == 3 then call_words_of Protect Plain (record { first = start; second = len; third = 0; prot = prot; access = 0 })
+    else call_words_of Fault Plain (record { first = start; second = 0; third = 0; prot = 0; access = random_access (prot % 3) })
 
 -- the call that a number makes of a task, on some of 31 pages of its own
 abbrev pub random_line : (task x : ℕ) → Line
@@ -47,4 +48,4 @@ the_space = record { name = codes "m"; is_space = true }
 
 -- the script
 abbrev pub generated : (number : ℕ) → Listing
-generated number = record { objects = the_space ∷ []; tasks = map (random_task number) (range_with_len 0 8) }
+generated number = record { version = One; objects = the_space ∷ []; tasks = map (random_task number) (range_with_len 0 8) }

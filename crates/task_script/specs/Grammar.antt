@@ -1,5 +1,5 @@
 -- The grammar: from a text to a script, or to its first refused line with the reason.
-use Rattle.std.specs.Prelude.{ℕ, ◌+◌, nat_lt, nat_le, not, Bool, true, false, List, [], ◌∷◌, ◌++◌, slice_get, length, position, is_some, ok_or, if◌then◌else◌, Option, Some, None, Result, Ok, Err}
+use Rattle.std.specs.Prelude.{ℕ, ◌+◌, nat_lt, nat_le, not, ◌||◌, Bool, true, false, List, [], ◌∷◌, ◌++◌, slice_get, length, position, is_some, ok_or, if◌then◌else◌, Option, Some, None, Result, Ok, Err, codes}
 use Rattle.std.specs.List.{list_all}
 use Rattle.std.specs.Option.{option_map_or}
 use Rattle.std.specs.Str.{bytes_eq}
@@ -7,13 +7,15 @@ use Rattle.word_bits.specs.declared.call.CallWords.{CallWords}
 use Rattle.word_bits.specs.declared.call.Mode.{Mode}
 use Rattle.word_bits.specs.declared.call.Mode.TheVariants.{Plain, Int, Try}
 use Rattle.task_script.specs.declared.script.Line.{Line}
+use Rattle.task_script.specs.declared.version.Version.TheVariants.{Two}
 use Rattle.task_script.specs.declared.reason.Reason.{Reason}
-use Rattle.task_script.specs.declared.reason.Reason.TheVariants.{TooLong, Byte, Version, Words, Place, Name, Twice, Limit, Unknown}
+use Rattle.task_script.specs.declared.reason.Reason.TheVariants.{TooLong, Byte, Version as NoVersion, Words, Place, Name, Twice, Limit, Unknown}
 use Rattle.task_script.specs.Cuts.{is_empty, is_plain, lines, uncommented, without_return, words}
 use Rattle.task_script.specs.declared.token.Keyword.{Keyword}
 use Rattle.task_script.specs.declared.token.Keyword.TheVariants.{Version as KVersion, Space as KSpace, Table as KTable, Task as KTask, Int as KInt, Try as KTry}
 use Rattle.task_script.specs.Tokens.{is_name, keyword_of}
 use Rattle.task_script.specs.Verbs.{and_then, call_on}
+use Rattle.task_script.specs.Versions.{is_second, most_objects, most_tasks}
 use Rattle.task_script.specs.Scripts.{Declared, Listing, nothing}
 
 -- a line that is accepted gives the script with it, any other a reason
@@ -24,19 +26,31 @@ Accepted = Result Listing Reason
 abbrev pub place_of : List ℕ → List Declared → Option ℕ
 place_of name objects = position (λ d. bytes_eq name d.name) objects
 
+-- a line with words was read: each leaves the second version, an object or a task
+abbrev pub is_begun : Listing → Bool
+is_begun s = is_second s.version || not (is_empty s.objects) || not (is_empty s.tasks)
+
+-- version 2, in front of all else
+abbrev pub version_line : Listing → List (List ℕ) → Accepted
+version_line s (word ∷ []) =
+    if not (bytes_eq word (codes "2")) then Err NoVersion
+    else if is_begun s then Err Place
+    else Ok (record s { version = Two })
+version_line s ws = Err NoVersion
+
 -- space NAME or table NAME, in front of all tasks
 abbrev pub declare_line : (is_space : Bool) → Listing → List (List ℕ) → Accepted
 declare_line is_space s (name ∷ []) =
     if not (is_empty s.tasks) then Err Place
     else if not (is_name name) then Err Name
     else if is_some (place_of name s.objects) then Err Twice
-    else if nat_le 16 (length s.objects) then Err Limit
-    else Ok (record { objects = s.objects ++ record { name = name; is_space = is_space } ∷ []; tasks = s.tasks })
+    else if nat_le (most_objects s.version) (length s.objects) then Err Limit
+    else Ok (record { version = s.version; objects = s.objects ++ record { name = name; is_space = is_space } ∷ []; tasks = s.tasks })
 declare_line is_space s ws = Err Words
 
 -- task, alone
 abbrev pub task_line : Listing → List (List ℕ) → Accepted
-task_line s [] = if nat_le 64 (length s.tasks) then Err Limit else Ok (record { objects = s.objects; tasks = s.tasks ++ [] ∷ [] })
+task_line s [] = if nat_le (most_tasks s.version) (length s.tasks) then Err Limit else Ok (record { version = s.version; objects = s.objects; tasks = s.tasks ++ [] ∷ [] })
 task_line s (word ∷ ws) = Err Words
 
 -- one more call of the last task
@@ -56,7 +70,7 @@ is_space_at objects place = option_map_or (λ d. d.is_space) (slice_get objects 
 abbrev pub object_line : Mode → Listing → ℕ → List (List ℕ) → Accepted
 object_line mode s object [] = Err Words
 object_line mode s object (verb ∷ arguments) =
-    and_then (call_on (is_space_at s.objects object) mode verb arguments) (λ w. Ok (record { objects = s.objects; tasks = with_call s.tasks (line_of object w) }))
+    and_then (call_on s.version (is_space_at s.objects object) mode verb arguments) (λ w. Ok (record { version = s.version; objects = s.objects; tasks = with_call s.tasks (line_of object w) }))
 
 -- NAME and a call, behind the mode
 abbrev pub call_line : Mode → Listing → List (List ℕ) → Accepted
@@ -68,7 +82,7 @@ call_line mode s (name ∷ ws) =
 
 -- the script after one more line, from its first word and those behind it
 abbrev pub line_of_words : Option Keyword → Listing → List ℕ → List (List ℕ) → Accepted
-line_of_words (Some KVersion) s word ws = Err Version
+line_of_words (Some KVersion) s word ws = version_line s ws
 line_of_words (Some KSpace) s word ws = declare_line true s ws
 line_of_words (Some KTable) s word ws = declare_line false s ws
 line_of_words (Some KTask) s word ws = task_line s ws

@@ -3,6 +3,7 @@ use Rattle.std.specs.Prelude.{◌≡◌, ℕ, Bool, true, false, List, map, Opti
 use Rattle.std.specs.Global.{Vec}
 use Rattle.arrayvec.specs.ArrayString.{ArrayString}
 use Rattle.task_script.specs.declared.script.Line.{Line}
+use Rattle.task_script.specs.declared.version.Version.{Version}
 use Rattle.task_script.specs.declared.script.Kind.{Kind}
 use Rattle.task_script.specs.declared.script.Kind.TheVariants.{Space, Table}
 use Rattle.task_script.specs.Scripts.{Declared, Listing}
@@ -15,8 +16,8 @@ is_space_kind Table = false
 abbrev pub declared_of : ArrayString × Kind → Declared
 declared_of entry = record { name = entry.0.bytes; is_space = is_space_kind entry.1 }
 
-abbrev pub listing : List (ArrayString × Kind) → List (Vec Line) → Listing
-listing objects tasks = record { objects = map declared_of objects; tasks = map (λ v. v.items) tasks }
+abbrev pub listing : Version → List (ArrayString × Kind) → List (Vec Line) → Listing
+listing version objects tasks = record { version = version; objects = map declared_of objects; tasks = map (λ v. v.items) tasks }
 
 -- the name that a word is, if it is one
 abbrev pub NameIs : List ℕ → Option ArrayString → Type 0

@@ -1,6 +1,7 @@
 pub mod Causes
 pub mod Cuts
 pub mod Parts
+pub mod Versions
 pub mod Scripts
 pub mod Inside
 pub mod Tokens

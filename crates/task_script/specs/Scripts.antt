@@ -3,19 +3,22 @@ use Rattle.std.specs.Prelude.{ℕ, ◌==◌, Bool, List, [], get_or, length, map
 use Rattle.word_bits.specs.declared.call.CallWords.{CallWords}
 use Rattle.word_bits.specs.Histories.{Plan}
 use Rattle.task_script.specs.declared.script.Line.{Line}
+use Rattle.task_script.specs.declared.version.Version.{Version}
+use Rattle.task_script.specs.declared.version.Version.TheVariants.{One}
 
 -- an object that it declares
 pub record Declared : Type 0 where
   pub name : List ℕ
   pub is_space : Bool
 
--- the objects in order, and for each task its calls
+-- its version, the objects in order, and for each task its calls
 pub record Listing : Type 0 where
+  pub version : Version
   pub objects : List Declared
   pub tasks : List (List Line)
 
 abbrev pub nothing : Listing
-nothing = record { objects = []; tasks = [] }
+nothing = record { version = One; objects = []; tasks = [] }
 
 abbrev pub names_of : Listing → List (List ℕ)
 names_of s = map (λ d. d.name) s.objects

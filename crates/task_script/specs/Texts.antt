@@ -4,15 +4,16 @@ use Rattle.std.specs.Option.{option_map_or}
 use Rattle.word_bits.specs.declared.call.CallWords.{CallWords}
 use Rattle.word_bits.specs.declared.call.Mode.{Mode}
 use Rattle.word_bits.specs.declared.call.Mode.TheVariants.{Plain, Int, Try}
-use Rattle.word_bits.specs.Calls.{mode_of, kind_in, first_in, second_in, prot_in, access_in}
+use Rattle.word_bits.specs.Calls.{mode_of, kind_in, first_in, second_in, third_in, prot_in, access_in}
 use Rattle.task_script.specs.declared.script.Line.{Line}
 use Rattle.task_script.specs.declared.verb.Verb.{Verb}
-use Rattle.task_script.specs.declared.verb.Verb.TheVariants.{Map, MapAny, MapNew, Unmap, Protect, Populate, Fault, Open, Close, Dup, Dup2, Get, Signal}
+use Rattle.task_script.specs.declared.verb.Verb.TheVariants.{Map, MapAny, MapNew, Unmap, Protect, Populate, Fault, Open, Close, Dup, Dup2, Get, Remap, Signal}
 use Rattle.task_script.specs.declared.verb.Argument.{Argument}
-use Rattle.task_script.specs.declared.verb.Argument.TheVariants.{First, Second, File, Target, Protection, AccessBit}
+use Rattle.task_script.specs.declared.verb.Argument.TheVariants.{First, Second, Third, File, Target, Protection, AccessBit}
 use Rattle.task_script.specs.declared.verb.Values.{Values}
 use Rattle.task_script.specs.Verbs.{verb_text, arguments_of}
 use Rattle.task_script.specs.Scripts.{Declared, Listing, call_words}
+use Rattle.task_script.specs.Versions.{version_text}
 
 -- what stands in front of a call of this mode
 abbrev pub mode_text : Mode → List ℕ
@@ -47,17 +48,19 @@ verb_of_kind kind =
     else if kind == 10 then Some Dup
     else if kind == 11 then Some Dup2
     else if kind == 12 then Some Get
+    else if kind == 13 then Some Remap
     else if kind == 15 then Some Signal
     else None
 
 -- what the words of a call say
 abbrev pub values_of : CallWords → Values
-values_of w = record { first = first_in w; second = second_in w; prot = prot_in w; access = access_in w }
+values_of w = record { first = first_in w; second = second_in w; third = third_in w; prot = prot_in w; access = access_in w }
 
 -- an argument of these values
 abbrev pub argument_text : Values → Argument → List ℕ
 argument_text v First = decimal v.first
 argument_text v Second = decimal v.second
+argument_text v Third = decimal v.third
 argument_text v File = decimal v.first
 argument_text v Target = decimal v.first
 argument_text v Protection = prot_text v.prot
@@ -96,6 +99,10 @@ line_text objects l = named_text (name_at objects l.object) (call_words l)
 abbrev pub task_text : List Declared → List Line → List ℕ
 task_text objects ls = codes "task\n" ++ flat_map (line_text objects) ls
 
--- the text of a script: the declarations, then task by task its calls
+-- the declarations of a script, then task by task its calls
+abbrev pub body_text : Listing → List ℕ
+body_text s = flat_map declaration_text s.objects ++ flat_map (task_text s.objects) s.tasks
+
+-- the text of a script: its version, and what follows
 abbrev pub canonical_text : Listing → List ℕ
-canonical_text s = flat_map declaration_text s.objects ++ flat_map (task_text s.objects) s.tasks
+canonical_text s = version_text s.version ++ body_text s

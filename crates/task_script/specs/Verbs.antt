@@ -1,18 +1,20 @@
 -- The calls that a script can name: their verbs and arguments, and the words that they are kept in.
-use Rattle.std.specs.Prelude.{ℕ, ◌==◌, nat_lt, not, Bool, true, false, List, [], ◌∷◌, length, if◌then◌else◌, Option, Some, None, ok_or, Result, Ok, Err, codes}
+use Rattle.std.specs.Prelude.{ℕ, ◌==◌, ◌&&◌, nat_lt, not, Bool, true, false, List, [], ◌∷◌, length, if◌then◌else◌, Option, Some, None, ok_or, Result, Ok, Err, codes}
 use Rattle.std.specs.Str.{bytes_eq}
 use Rattle.word_bits.specs.declared.call.CallWords.{CallWords}
 use Rattle.word_bits.specs.declared.call.Mode.{Mode}
 use Rattle.word_bits.specs.declared.call.Mode.TheVariants.{Int, Try}
-use Rattle.word_bits.specs.Calls.{words_of, mode_number}
+use Rattle.word_bits.specs.Calls.{words_of, with_third, mode_number}
+use Rattle.task_script.specs.declared.version.Version.{Version}
 use Rattle.task_script.specs.declared.verb.Verb.{Verb}
-use Rattle.task_script.specs.declared.verb.Verb.TheVariants.{Map, MapAny, MapNew, Unmap, Protect, Populate, Fault, Open, Close, Dup, Dup2, Get, Signal}
+use Rattle.task_script.specs.declared.verb.Verb.TheVariants.{Map, MapAny, MapNew, Unmap, Protect, Populate, Fault, Open, Close, Dup, Dup2, Get, Remap, Signal}
 use Rattle.task_script.specs.declared.verb.Argument.{Argument}
-use Rattle.task_script.specs.declared.verb.Argument.TheVariants.{First, Second, File, Target, Protection, AccessBit}
+use Rattle.task_script.specs.declared.verb.Argument.TheVariants.{First, Second, Third, File, Target, Protection, AccessBit}
 use Rattle.task_script.specs.declared.verb.Values.{Values}
 use Rattle.task_script.specs.declared.reason.Reason.{Reason}
 use Rattle.task_script.specs.declared.reason.Reason.TheVariants.{Words, Call, Mode as NoMode, Number, Limit, Prot, Access}
 use Rattle.task_script.specs.Tokens.{number, access, prot}
+use Rattle.task_script.specs.Versions.{has_remap, most_tasks}
 
 -- the verb of a call
 abbrev pub verb_text : Verb → List ℕ
@@ -28,6 +30,7 @@ verb_text Close = codes "close"
 verb_text Dup = codes "dup"
 verb_text Dup2 = codes "dup2"
 verb_text Get = codes "get"
+verb_text Remap = codes "remap"
 verb_text Signal = codes "signal"
 
 -- the kind in a call's words
@@ -44,6 +47,7 @@ kind_of Close = 9
 kind_of Dup = 10
 kind_of Dup2 = 11
 kind_of Get = 12
+kind_of Remap = 13
 kind_of Signal = 15
 
 -- the arguments behind the verb
@@ -60,17 +64,19 @@ arguments_of Close = First ∷ []
 arguments_of Dup = First ∷ []
 arguments_of Dup2 = First ∷ Second ∷ []
 arguments_of Get = First ∷ []
+arguments_of Remap = First ∷ Second ∷ Third ∷ []
 arguments_of Signal = Target ∷ []
 
--- a call on a space, or else one on a table; a signal is on both
-abbrev pub is_on_kind : (is_space : Bool) → Verb → Bool
-is_on_kind is_space Signal = true
-is_on_kind is_space Open = not is_space
-is_on_kind is_space Close = not is_space
-is_on_kind is_space Dup = not is_space
-is_on_kind is_space Dup2 = not is_space
-is_on_kind is_space Get = not is_space
-is_on_kind is_space verb = is_space
+-- a call on a space, or else one on a table; a signal is on both, and a remap is there from version 2 on
+abbrev pub is_on_kind : Version → (is_space : Bool) → Verb → Bool
+is_on_kind version is_space Signal = true
+is_on_kind version is_space Remap = is_space && has_remap version
+is_on_kind version is_space Open = not is_space
+is_on_kind version is_space Close = not is_space
+is_on_kind version is_space Dup = not is_space
+is_on_kind version is_space Dup2 = not is_space
+is_on_kind version is_space Get = not is_space
+is_on_kind version is_space verb = is_space
 
 -- a signal has no mode
 abbrev pub takes_mode : Verb → Mode → Bool
@@ -80,11 +86,11 @@ takes_mode verb mode = true
 
 -- 0 for each value
 abbrev pub no_values : Values
-no_values = record { first = 0; second = 0; prot = 0; access = 0 }
+no_values = record { first = 0; second = 0; third = 0; prot = 0; access = 0 }
 
 -- the words of a call
 abbrev pub call_words_of : Verb → Mode → Values → CallWords
-call_words_of verb mode v = words_of (kind_of verb) v.first v.second v.prot v.access (mode_number mode)
+call_words_of verb mode v = with_third (words_of (kind_of verb) v.first v.second v.prot v.access (mode_number mode)) v.third
 
 -- what is done with a value, unless it was refused
 abbrev pub and_then : {A B : Type 0} → Result A Reason → (A → Result B Reason) → Result B Reason
@@ -96,34 +102,36 @@ abbrev pub number_below : ℕ → Reason → List ℕ → Result ℕ Reason
 number_below limit reason word = and_then (ok_or (number word) Number) (λ n. if nat_lt n limit then Ok n else Err reason)
 
 -- what the arguments in front say, and what this word says as the next one
-abbrev pub with_argument : Argument → List ℕ → Values → Result Values Reason
-with_argument First word v = and_then (ok_or (number word) Number) (λ n. Ok (record v { first = n }))
-with_argument Second word v = and_then (ok_or (number word) Number) (λ n. Ok (record v { second = n }))
-with_argument File word v = and_then (number_below 65536 Number word) (λ n. Ok (record v { first = n }))
-with_argument Target word v = and_then (number_below 64 Limit word) (λ n. Ok (record v { first = n }))
-with_argument Protection word v = and_then (ok_or (prot word) Prot) (λ bits. Ok (record v { prot = bits }))
-with_argument AccessBit word v = and_then (ok_or (access word) Access) (λ bits. Ok (record v { access = bits }))
+abbrev pub with_argument : Version → Argument → List ℕ → Values → Result Values Reason
+with_argument version First word v = and_then (ok_or (number word) Number) (λ n. Ok (record v { first = n }))
+with_argument version Second word v = and_then (ok_or (number word) Number) (λ n. Ok (record v { second = n }))
+with_argument version Third word v = and_then (ok_or (number word) Number) (λ n. Ok (record v { third = n }))
+with_argument version File word v = and_then (number_below 65536 Number word) (λ n. Ok (record v { first = n }))
+with_argument version Target word v = and_then (number_below (most_tasks version) Limit word) (λ n. Ok (record v { first = n }))
+with_argument version Protection word v = and_then (ok_or (prot word) Prot) (λ bits. Ok (record v { prot = bits }))
+with_argument version AccessBit word v = and_then (ok_or (access word) Access) (λ bits. Ok (record v { access = bits }))
 
 -- the same of all arguments, from the left
-abbrev pub with_arguments : List Argument → List (List ℕ) → Values → Result Values Reason
-with_arguments arguments [] v = Ok v
-with_arguments [] (w ∷ ws) v = Ok v
-with_arguments (a ∷ arguments) (w ∷ ws) v = and_then (with_argument a w v) (with_arguments arguments ws)
+abbrev pub with_arguments : Version → List Argument → List (List ℕ) → Values → Result Values Reason
+with_arguments version arguments [] v = Ok v
+with_arguments version [] (w ∷ ws) v = Ok v
+with_arguments version (a ∷ arguments) (w ∷ ws) v = and_then (with_argument version a w v) (with_arguments version arguments ws)
 
 -- the same of as many words as there are arguments
-abbrev pub counted_arguments : List Argument → List (List ℕ) → Result Values Reason
-counted_arguments arguments ws =
-    if length ws == length arguments then with_arguments arguments ws no_values else Err Words
+abbrev pub counted_arguments : Version → List Argument → List (List ℕ) → Result Values Reason
+counted_arguments version arguments ws =
+    if length ws == length arguments then with_arguments version arguments ws no_values else Err Words
 
 -- the verb of a call on a space that a word is
-abbrev pub space_verb : List ℕ → Option Verb
-space_verb w =
+abbrev pub space_verb : Version → List ℕ → Option Verb
+space_verb version w =
     if bytes_eq w (codes "map") then Some Map
     else if bytes_eq w (codes "mapnew") then Some MapNew
     else if bytes_eq w (codes "unmap") then Some Unmap
     else if bytes_eq w (codes "protect") then Some Protect
     else if bytes_eq w (codes "populate") then Some Populate
     else if bytes_eq w (codes "fault") then Some Fault
+    else if bytes_eq w (codes "remap") && has_remap version then Some Remap
     else if bytes_eq w (codes "signal") then Some Signal
     else None
 
@@ -139,8 +147,8 @@ table_verb w =
     else None
 
 -- the same of either
-abbrev pub verb_of : (is_space : Bool) → List ℕ → Option Verb
-verb_of is_space w = if is_space then space_verb w else table_verb w
+abbrev pub verb_of : Version → (is_space : Bool) → List ℕ → Option Verb
+verb_of version is_space w = if is_space then space_verb version w else table_verb w
 
 -- a verb and what stands behind it, where map and any are one verb
 pub record Begun : Type 0 where
@@ -152,12 +160,12 @@ with_any Map (w ∷ ws) = if bytes_eq w (codes "any") then record { verb = MapAn
 with_any verb ws = record { verb = verb; behind = ws }
 
 -- the call of a verb with these arguments
-abbrev pub call_with : Mode → Begun → Result CallWords Reason
-call_with mode c =
+abbrev pub call_with : Version → Mode → Begun → Result CallWords Reason
+call_with version mode c =
     if not (takes_mode c.verb mode) then Err NoMode
     else if not (length c.behind == length (arguments_of c.verb)) then Err Words
-    else and_then (with_arguments (arguments_of c.verb) c.behind no_values) (λ v. Ok (call_words_of c.verb mode v))
+    else and_then (with_arguments version (arguments_of c.verb) c.behind no_values) (λ v. Ok (call_words_of c.verb mode v))
 
 -- a call on this kind of object, from its verb's word and what stands behind it
-abbrev pub call_on : (is_space : Bool) → Mode → List ℕ → List (List ℕ) → Result CallWords Reason
-call_on is_space mode w ws = and_then (ok_or (verb_of is_space w) Call) (λ verb. call_with mode (with_any verb ws))
+abbrev pub call_on : Version → (is_space : Bool) → Mode → List ℕ → List (List ℕ) → Result CallWords Reason
+call_on version is_space mode w ws = and_then (ok_or (verb_of version is_space w) Call) (λ verb. call_with version mode (with_any verb ws))

@@ -3,7 +3,7 @@ ghost use Rattle.std.specs.Prelude.{◌≡◌, ◌<◌, ◌++◌, ◌∷◌, [],
 ghost use Rattle.std.specs.Str.{bytes_eq};
 ghost use Rattle.task_script.specs.Cuts.{words};
 ghost use Rattle.task_script.specs.Grammar.{call_line, declare_line, line_after, line_of, object_line};
-ghost use Rattle.task_script.specs.Grammar.{is_space_at, place_of, task_line, text_after, with_call};
+ghost use Rattle.task_script.specs.Grammar.{is_begun, is_space_at, place_of, task_line, text_after, version_line, with_call};
 ghost use Rattle.task_script.specs.Inside.{declared_of, is_space_kind};
 ghost use Rattle.task_script.specs.Parts.{all_words};
 ghost use Rattle.task_script.specs.Scripts.{nothing};
@@ -14,10 +14,11 @@ use crate::reason::Reason;
 use crate::script::{Kind, Line};
 use crate::token::{Keyword, Name, keyword_of, name_of, names_object};
 use crate::verb::read_call;
+use crate::version::Version;
 use indexmap::IndexMap;
 use std::alloc::Global;
 use std::marker::Model;
-use word_bits::{CallWords, MAX_TASKS, Mode};
+use word_bits::{CallWords, Mode};
 
 /// Why a line doesn't become part of the script.
 pub(crate) enum LineError {
@@ -35,12 +36,10 @@ impl From<Reason> for LineError {
     }
 }
 
-/// The most objects of a script.
-const MAX_OBJECTS: usize = 16;
-
 /// What was read so far. Contracts see it as a script.
 #[derive(Drop)]
 pub(crate) struct Draft {
+    pub(crate) version: Version,
     pub(crate) objects: IndexMap<Name, Kind>,
     pub(crate) tasks: Vec<Vec<Line>>,
 }
@@ -52,9 +51,9 @@ impl Model for Draft {
 
     ghost Value = { Listing };
 
-    ghost view = { λ d. listing d.objects.entries d.tasks.items };
+    ghost view = { λ d. listing d.version d.objects.entries d.tasks.items };
 
-    ghost invariant = { λ d. length d.objects.entries ≤ 16 };
+    ghost invariant = { λ d. length d.objects.entries ≤ 32 };
 }
 
 /// The place of a name among those of the objects.
@@ -72,9 +71,30 @@ impl Draft {
         ensures { result ≡ nothing }
     {
         Draft {
+            version: Version::One,
             objects: IndexMap::new(alloc),
             tasks: Vec::new(alloc),
         }
+    }
+
+    /// Whether a line with words was read.
+    fn is_begun(&self) -> bool
+        ensures { result ≡ is_begun self.now }
+    {
+        self.version.is_second() || !self.objects.is_empty() || !self.tasks.is_empty()
+    }
+
+    fn version_line(&mut self, mut words: Words) -> Result<(), LineError>
+        ensures { Becomes result self.new (version_line self.old words.entry) }
+    {
+        if !words.skip(b"2") || words.next().is_some() {
+            return Err(Reason::Version.into());
+        }
+        if self.is_begun() {
+            return Err(Reason::Place.into());
+        }
+        self.version = Version::Two;
+        Ok(())
     }
 
     fn place(&self, name: &[u8]) -> Option<u32>
@@ -94,8 +114,8 @@ impl Draft {
 
     fn push_object(&mut self, name: Name, kind: Kind) -> Result<(), LineError>
         requires new { place_of name.bytes self.old.objects ≡ None }
-        requires few { length self.old.objects < 16 }
-        ensures { Becomes result self.new (Ok record { objects = self.old.objects ++ declared_of (name, kind) ∷ []; tasks = self.old.tasks }) }
+        requires few { length self.old.objects < 32 }
+        ensures { Becomes result self.new (Ok record { version = self.old.version; objects = self.old.objects ++ declared_of (name, kind) ∷ []; tasks = self.old.tasks }) }
     {
         if self.objects.insert(name, kind).is_err() {
             return Err(LineError::Memory);
@@ -116,7 +136,7 @@ impl Draft {
         if self.place(word).is_some() {
             return Err(Reason::Twice.into());
         }
-        if self.objects.len() >= MAX_OBJECTS {
+        if self.objects.len() >= self.version.most_objects() {
             return Err(Reason::Limit.into());
         }
         self.push_object(name, kind)
@@ -128,7 +148,7 @@ impl Draft {
         if words.next().is_some() {
             return Err(Reason::Words.into());
         }
-        if self.tasks.len() >= MAX_TASKS as usize {
+        if self.tasks.len() >= self.version.most_tasks() as usize {
             return Err(Reason::Limit.into());
         }
         self.tasks
@@ -138,7 +158,7 @@ impl Draft {
 
     fn push_call(&mut self, object: u32, call: CallWords) -> Result<(), LineError>
         requires { 0 < length self.old.tasks }
-        ensures { Becomes result self.new (Ok record { objects = self.old.objects; tasks = with_call self.old.tasks (line_of object call) }) }
+        ensures { Becomes result self.new (Ok record { version = self.old.version; objects = self.old.objects; tasks = with_call self.old.tasks (line_of object call) }) }
     {
         let calls = self.tasks.last_mut().unwrap();
         if calls.push(Line::new(object, call)).is_err() {
@@ -153,7 +173,7 @@ impl Draft {
         ensures { Becomes result self.new (object_line mode self.old object words.entry) }
     {
         let verb = words.next().ok_or(Reason::Words)?;
-        let call = read_call(self.is_space(object), mode, verb, words)?;
+        let call = read_call(self.version, self.is_space(object), mode, verb, words)?;
         self.push_call(object, call)
     }
 
@@ -178,7 +198,7 @@ impl Draft {
             return Ok(());
         };
         let (mode, name) = match keyword_of(first) {
-            Some(Keyword::Version) => return Err(Reason::Version.into()),
+            Some(Keyword::Version) => return self.version_line(words),
             Some(Keyword::Space) => return self.declare(Kind::Space, words),
             Some(Keyword::Table) => return self.declare(Kind::Table, words),
             Some(Keyword::Task) => return self.task(alloc, words),

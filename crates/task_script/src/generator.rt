@@ -10,6 +10,7 @@ use crate::draft::{Draft, LineError};
 use crate::script::{Kind, Line, Script};
 use crate::token::Name;
 use crate::verb::{Values, Verb};
+use crate::version::Version;
 use indexmap::IndexMap;
 use std::alloc::{AllocError, Global};
 use word_bits::{CallWords, Mode};
@@ -42,6 +43,7 @@ fn random_call(kind: u32, start: u32, len: u32, prot: u8) -> CallWords
     let range = Values {
         first: start,
         second: len,
+        third: 0,
         prot: 0,
         access: 0,
     };
@@ -97,8 +99,8 @@ fn one_space(alloc: Global) -> Result<IndexMap<Name, Kind>, AllocError>
     }
 }
 
-/// The script of a number: eight tasks of 2,000 calls on one space. Each task has 31 pages of its
-/// own, so no reply depends on another task.
+/// The script of a number, of version 1: eight tasks of 2,000 calls on one space. Each task has 31
+/// pages of its own, so no reply depends on another task.
 pub fn generate(alloc: Global, number: u32) -> Result<Script, AllocError>
     ensures script { IfOk result (λ s. s ≡ generated number) }
     ensures few { IfOk result (λ s. count_of_calls s ≡ 16000) }
@@ -110,5 +112,9 @@ pub fn generate(alloc: Global, number: u32) -> Result<Script, AllocError>
         let seed = number.wrapping_add(task);
         tasks.push(random_lines(alloc, task, seed, CALLS)?)?;
     }
-    Ok(Script { objects, tasks })
+    Ok(Script {
+        version: Version::One,
+        objects,
+        tasks,
+    })
 }

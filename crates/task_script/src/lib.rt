@@ -17,6 +17,7 @@ mod stream;
 mod text;
 mod token;
 mod verb;
+mod version;
 mod writer;
 
 pub use generator::generate;
@@ -30,4 +31,5 @@ pub use sink::{Sink, put};
 pub use source::{Failed, Source};
 pub use stream::{ReadSource, WriteSink};
 pub use token::number_of;
+pub use version::{MOST_OBJECTS, MOST_TASKS};
 pub use writer::{write, write_declaration};

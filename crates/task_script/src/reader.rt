@@ -52,10 +52,11 @@ fn read_lines(alloc: Global, bytes: &[u8]) -> Result<Draft, ScriptError>
 /// Reads a script. Lines end at a line feed or at a carriage return and a line feed, and `#` begins
 /// a comment. Words are separated by spaces and tabs.
 ///
-/// `space NAME` and `table NAME` declare an object, `task` begins a task, and its calls follow,
-/// each as `[int or try] NAME CALL ARGUMENTS`. A number is decimal, without leading zeros, and
-/// below 2^32. An access is `r`, `w` or `x`, and a protection is three bytes: `r` or `-`, `w` or
-/// `-`, `x` or `-`.
+/// `version 2` in the first line with words makes it a script of version 2, which may have more
+/// objects and tasks, and move pages. `space NAME` and `table NAME` declare an object, `task`
+/// begins a task, and its calls follow, each as `[int or try] NAME CALL ARGUMENTS`. A number is
+/// decimal, without leading zeros, and below 2^32. An access is `r`, `w` or `x`, and a protection
+/// is three bytes: `r` or `-`, `w` or `-`, `x` or `-`.
 ///
 /// # Errors
 ///
@@ -69,6 +70,14 @@ pub fn read(alloc: Global, bytes: &[u8]) -> Result<Script, ScriptError>
     if bytes.len() > LONGEST_TEXT {
         return Err(refused(0, Reason::TooLong));
     }
-    let Draft { objects, tasks } = read_lines(alloc, bytes)?;
-    Ok(Script { objects, tasks })
+    let Draft {
+        version,
+        objects,
+        tasks,
+    } = read_lines(alloc, bytes)?;
+    Ok(Script {
+        version,
+        objects,
+        tasks,
+    })
 }

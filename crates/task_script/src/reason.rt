@@ -7,17 +7,18 @@ pub enum Reason {
     TooLong,
     /// A byte outside a comment is neither a blank nor a visible ASCII character.
     Byte,
-    /// A version that isn't read.
+    /// A line that begins as that of a version, and isn't `version 2`.
     Version,
     /// The number of words is wrong.
     Words,
-    /// A declaration behind a task, or a call in front of all tasks.
+    /// A version behind other lines, a declaration behind a task, or a call in front of all tasks.
     Place,
     /// A word isn't a name.
     Name,
     /// The name is declared already.
     Twice,
-    /// There are 16 objects or 64 tasks already, or a signal goes to a task past 63.
+    /// There are 16 objects or 64 tasks already, or a signal goes to a task past 63. In version 2 the
+    /// numbers are 32, 400 and 399.
     Limit,
     /// The name isn't declared.
     Unknown,

@@ -2,6 +2,7 @@
 ghost use Rattle.std.specs.Prelude.{◌≡◌, ◌<◌, ◌≤◌, length, slice_get, Some, All};
 
 use crate::token::Name;
+use crate::version::Version;
 use indexmap::IndexMap;
 use std::marker::Model;
 use word_bits::CallWords;
@@ -45,10 +46,11 @@ pub(crate) enum Kind {
     Table,
 }
 
-/// A script that was read. Contracts see its objects, each with its name and whether it is a space,
-/// and for each task the list of its calls.
+/// A script that was read. Contracts see its version, its objects, each with its name and whether
+/// it is a space, and for each task the list of its calls.
 #[derive(Drop)]
 pub struct Script {
+    pub(crate) version: Version,
     pub(crate) objects: IndexMap<Name, Kind>,
     pub(crate) tasks: Vec<Vec<Line>>,
 }
@@ -60,28 +62,43 @@ impl Model for Script {
 
     ghost Value = { Listing };
 
-    ghost view = { λ s. listing s.objects.entries s.tasks.items };
+    ghost view = { λ s. listing s.version s.objects.entries s.tasks.items };
 
-    ghost invariant = { λ s. IsSound (listing s.objects.entries s.tasks.items) };
+    ghost invariant = { λ s. IsSound (listing s.version s.objects.entries s.tasks.items) };
 }
 
 impl Script {
     ghost use Rattle.task_script.specs.Scripts.{names_of, kinds_of};
     ghost use Rattle.task_script.specs.Sound.{IsSound};
+    ghost use Rattle.task_script.specs.Versions.{version_number};
 
-    /// How many objects there are, at most 16.
+    /// The number of the script's version: 1 or 2.
+    pub fn version(&self) -> u32
+        ensures { result ≡ version_number self.now.version }
+    {
+        self.version.number()
+    }
+
+    pub(crate) fn language(&self) -> Version
+        ensures version { result ≡ self.now.version }
+        ensures sound { IsSound self.now }
+    {
+        self.version
+    }
+
+    /// How many objects there are: at most 16 in version 1, or 32 in version 2.
     pub fn objects(&self) -> usize
         ensures count { result ≡ length self.now.objects }
-        ensures few { result ≤ 16 }
+        ensures few { result ≤ 32 }
         ensures sound { IsSound self.now }
     {
         self.objects.len()
     }
 
-    /// How many tasks there are, at most 64.
+    /// How many tasks there are: at most 64 in version 1, or 400 in version 2.
     pub fn tasks(&self) -> usize
         ensures count { result ≡ length self.now.tasks }
-        ensures few { result ≤ 64 }
+        ensures few { result ≤ 400 }
     {
         self.tasks.len()
     }

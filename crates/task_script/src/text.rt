@@ -4,9 +4,11 @@ ghost use Rattle.task_script.specs.Texts.{access_text, argument_text, arguments_
 ghost use Rattle.task_script.specs.Texts.{call_text, declaration_text, letter, mode_text, named_text};
 ghost use Rattle.task_script.specs.Texts.{prot_text, verb_and_arguments};
 ghost use Rattle.task_script.specs.Verbs.{verb_text};
+ghost use Rattle.task_script.specs.Versions.{version_text};
 
 use crate::outbox::Outbox;
 use crate::verb::{Argument, Values, Verb};
+use crate::version::Version;
 use word_bits::{CallWords, Mode};
 
 fn access_letter(access: u8) -> &'static [u8]
@@ -51,6 +53,7 @@ impl Outbox {
                 self.add_number(u64::from(values.first));
             }
             Argument::Second => self.add_number(u64::from(values.second)),
+            Argument::Third => self.add_number(u64::from(values.third)),
             Argument::Protection => self.add_prot(values.prot),
             Argument::AccessBit => self.add(access_letter(values.access)),
         }
@@ -87,6 +90,7 @@ impl Outbox {
             Verb::Dup => self.add(b"dup"),
             Verb::Dup2 => self.add(b"dup2"),
             Verb::Get => self.add(b"get"),
+            Verb::Remap => self.add(b"remap"),
             Verb::Signal => self.add(b"signal"),
         }
     }
@@ -144,6 +148,16 @@ impl Outbox {
         self.add(b" ");
         self.add_verb_and_arguments(words);
         self.add(b"\n");
+    }
+
+    /// Adds the line of a version. The first has none.
+    pub(crate) fn add_version(&mut self, version: Version)
+        requires { length self.old + 10 ≤ 4096 }
+        ensures { self.new ≡ self.old ++ version_text version }
+    {
+        if version.is_second() {
+            self.add(b"version 2\n");
+        }
     }
 
     /// Adds the line that declares an object.

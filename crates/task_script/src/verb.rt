@@ -9,7 +9,8 @@ ghost use Rattle.task_script.specs.Verbs.{takes_mode, verb_of, with_any, with_ar
 use crate::cut::Words;
 use crate::reason::Reason;
 use crate::token::{access_of, number_of, prot_of};
-use word_bits::{CallWords, MAX_TASKS, Mode};
+use crate::version::Version;
+use word_bits::{CallWords, Mode};
 
 /// What a call does.
 #[derive(Clone, Copy, Debug, PartialEq, Eq)]
@@ -26,6 +27,7 @@ pub(crate) enum Verb {
     Dup,
     Dup2,
     Get,
+    Remap,
     Signal,
 }
 
@@ -36,6 +38,8 @@ pub(crate) enum Argument {
     First,
     /// Its second number.
     Second,
+    /// Its third number.
+    Third,
     /// The number of a file, as the first number.
     File,
     /// The number of a task, as the first number.
@@ -49,6 +53,7 @@ pub(crate) enum Argument {
 pub(crate) struct Values {
     pub(crate) first: u32,
     pub(crate) second: u32,
+    pub(crate) third: u32,
     pub(crate) prot: u8,
     pub(crate) access: u8,
 }
@@ -57,6 +62,7 @@ impl Values {
     const NONE: Values = Values {
         first: 0,
         second: 0,
+        third: 0,
         prot: 0,
         access: 0,
     };
@@ -68,6 +74,7 @@ impl Values {
         Values {
             first: words.first(),
             second: words.second(),
+            third: words.third(),
             prot: words.prot(),
             access: words.access(),
         }
@@ -93,15 +100,18 @@ fn number_below(word: &[u8], limit: u32, reason: Reason) -> Result<u32, Reason>
 
 impl Argument {
     /// What the arguments in front say, and this one, which is the word.
-    fn read(self, word: &[u8], values: Values) -> Result<Values, Reason>
-        ensures { result ≡ with_argument self word.now values }
+    fn read(self, version: Version, word: &[u8], values: Values) -> Result<Values, Reason>
+        ensures { result ≡ with_argument version self word.now values }
     {
         let mut values = values;
         match self {
             Argument::First => values.first = number_in(word)?,
             Argument::Second => values.second = number_in(word)?,
+            Argument::Third => values.third = number_in(word)?,
             Argument::File => values.first = number_below(word, 65_536, Reason::Number)?,
-            Argument::Target => values.first = number_below(word, MAX_TASKS, Reason::Limit)?,
+            Argument::Target => {
+                values.first = number_below(word, version.most_tasks(), Reason::Limit)?;
+            }
             Argument::Protection => values.prot = prot_of(word).ok_or(Reason::Prot)?,
             Argument::AccessBit => values.access = access_of(word).ok_or(Reason::Access)?,
         }
@@ -110,8 +120,12 @@ impl Argument {
 }
 
 /// What the words say, which are to be as many as the arguments.
-fn read_arguments(arguments: &[Argument], mut words: Words) -> Result<Values, Reason>
-    ensures { result ≡ counted_arguments arguments.now words.entry }
+fn read_arguments(
+    version: Version,
+    arguments: &[Argument],
+    mut words: Words,
+) -> Result<Values, Reason>
+    ensures { result ≡ counted_arguments version arguments.now words.entry }
 {
     let mut values = Values::NONE;
     let mut left = arguments.len();
@@ -120,7 +134,7 @@ fn read_arguments(arguments: &[Argument], mut words: Words) -> Result<Values, Re
         let Some(word) = words.next() else {
             return Err(Reason::Words);
         };
-        values = match argument.read(word, values) {
+        values = match argument.read(version, word, values) {
             Ok(values) => values,
             Err(reason) if words.count_is(left) => return Err(reason),
             Err(_) => return Err(Reason::Words),
@@ -134,8 +148,8 @@ fn read_arguments(arguments: &[Argument], mut words: Words) -> Result<Values, Re
 
 impl Verb {
     /// The verb of a call on a space. `map any` is found by its second word.
-    fn of_space(word: &[u8]) -> Option<Verb>
-        ensures { result ≡ space_verb word.now }
+    fn of_space(version: Version, word: &[u8]) -> Option<Verb>
+        ensures { result ≡ space_verb version word.now }
     {
         match word {
             b"map" => Some(Verb::Map),
@@ -144,6 +158,7 @@ impl Verb {
             b"protect" => Some(Verb::Protect),
             b"populate" => Some(Verb::Populate),
             b"fault" => Some(Verb::Fault),
+            b"remap" if version.has_remap() => Some(Verb::Remap),
             b"signal" => Some(Verb::Signal),
             _ => None,
         }
@@ -164,11 +179,11 @@ impl Verb {
         }
     }
 
-    fn of_word(is_space: bool, word: &[u8]) -> Option<Verb>
-        ensures { result ≡ verb_of is_space word.now }
+    fn of_word(version: Version, is_space: bool, word: &[u8]) -> Option<Verb>
+        ensures { result ≡ verb_of version is_space word.now }
     {
         if is_space {
-            Verb::of_space(word)
+            Verb::of_space(version, word)
         } else {
             Verb::of_table(word)
         }
@@ -197,6 +212,7 @@ impl Verb {
             Verb::Dup => 10,
             Verb::Dup2 => 11,
             Verb::Get => 12,
+            Verb::Remap => 13,
             Verb::Signal => 15,
         }
     }
@@ -218,6 +234,7 @@ impl Verb {
             10 => Some(Verb::Dup),
             11 => Some(Verb::Dup2),
             12 => Some(Verb::Get),
+            13 => Some(Verb::Remap),
             15 => Some(Verb::Signal),
             _ => None,
         }
@@ -239,6 +256,7 @@ impl Verb {
             Verb::Fault => &[Argument::First, Argument::AccessBit],
             Verb::Open => &[Argument::File],
             Verb::Close | Verb::Dup | Verb::Get => &[Argument::First],
+            Verb::Remap => &[Argument::First, Argument::Second, Argument::Third],
             Verb::Signal => &[Argument::Target],
         }
     }
@@ -257,6 +275,7 @@ impl Verb {
             values.access,
             mode,
         )
+        .with_third(values.third)
     }
 
     /// This verb, or `map any` where `any` is the next word, which is then taken.
@@ -272,27 +291,28 @@ impl Verb {
     }
 
     /// The call of this verb with these arguments.
-    fn call(self, mode: Mode, words: Words) -> Result<CallWords, Reason>
-        ensures { result ≡ call_with mode record { verb = self; behind = words.entry } }
+    fn call(self, version: Version, mode: Mode, words: Words) -> Result<CallWords, Reason>
+        ensures { result ≡ call_with version mode record { verb = self; behind = words.entry } }
     {
         if !self.takes(mode) {
             return Err(Reason::Mode);
         }
-        let values = read_arguments(self.arguments(), words)?;
+        let values = read_arguments(version, self.arguments(), words)?;
         Ok(self.words(mode, values))
     }
 }
 
 /// The call on this kind of object that a word and those behind it stand for.
 pub(crate) fn read_call(
+    version: Version,
     is_space: bool,
     mode: Mode,
     word: &[u8],
     mut words: Words,
 ) -> Result<CallWords, Reason>
-    ensures { result ≡ call_on is_space mode word.now words.entry }
+    ensures { result ≡ call_on version is_space mode word.now words.entry }
 {
-    let verb = Verb::of_word(is_space, word).ok_or(Reason::Call)?;
+    let verb = Verb::of_word(version, is_space, word).ok_or(Reason::Call)?;
     let verb = verb.with_any(&mut words);
-    verb.call(mode, words)
+    verb.call(version, mode, words)
 }

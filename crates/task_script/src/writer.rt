@@ -4,7 +4,8 @@ ghost use Rattle.task_script.specs.Causes.{CountsFailure, Adds, Puts};
 ghost use Rattle.task_script.specs.Grammar.{script_of};
 ghost use Rattle.task_script.specs.Scripts.{Declared};
 ghost use Rattle.task_script.specs.Sound.{IsSound};
-ghost use Rattle.task_script.specs.Texts.{canonical_text, declaration_text, line_text, task_text};
+ghost use Rattle.task_script.specs.Texts.{body_text, canonical_text, declaration_text, line_text, task_text};
+ghost use Rattle.task_script.specs.Versions.{version_text};
 
 use crate::outbox::Outbox;
 use crate::script::{Line, Script};
@@ -111,9 +112,21 @@ fn write_tasks<K: Sink>(script: &Script, out: &mut Outbox, sink: &mut K) -> Resu
     Ok(())
 }
 
-fn write_lines<K: Sink>(script: &Script, out: &mut Outbox, sink: &mut K) -> Result<(), Failed>
+fn write_version<K: Sink>(script: &Script, out: &mut Outbox, sink: &mut K) -> Result<(), Failed>
     ensures text { Adds (K.written sink.old) (K.written sink.new) out.old out.new
-        (canonical_text script.now) result }
+        (version_text script.now.version) result }
+    ensures cause { CountsFailure (K.faults sink.old) (K.faults sink.new) result }
+    ensures sound { IsSound script.now }
+{
+    let version = script.language();
+    out.make_room(sink)?;
+    out.add_version(version);
+    Ok(())
+}
+
+fn write_body<K: Sink>(script: &Script, out: &mut Outbox, sink: &mut K) -> Result<(), Failed>
+    ensures text { Adds (K.written sink.old) (K.written sink.new) out.old out.new
+        (body_text script.now) result }
     ensures cause { CountsFailure (K.faults sink.old) (K.faults sink.new) result }
     ensures sound { IsSound script.now }
 {
@@ -121,9 +134,19 @@ fn write_lines<K: Sink>(script: &Script, out: &mut Outbox, sink: &mut K) -> Resu
     write_tasks(script, out, sink)
 }
 
-/// Writes the canonical text of a script: the declarations in order, then for each task the line
-/// `task` and its calls, with single spaces between the words and no comments. `read` of it gives
-/// the script back.
+fn write_lines<K: Sink>(script: &Script, out: &mut Outbox, sink: &mut K) -> Result<(), Failed>
+    ensures text { Adds (K.written sink.old) (K.written sink.new) out.old out.new
+        (canonical_text script.now) result }
+    ensures cause { CountsFailure (K.faults sink.old) (K.faults sink.new) result }
+    ensures sound { IsSound script.now }
+{
+    write_version(script, out, sink)?;
+    write_body(script, out, sink)
+}
+
+/// Writes the canonical text of a script: its version if that is 2, the declarations in order, then
+/// for each task the line `task` and its calls, with single spaces between the words and no
+/// comments. `read` of it gives the script back.
 ///
 /// # Errors
 ///

@@ -12,3 +12,4 @@ mod SearchLemmas
 mod EndsLemmas
 mod ChangeLemmas
 mod MoveLemmas
+mod RemapLemmas

@@ -12,8 +12,8 @@ use Rattle.word_bits.specs.declared.area.Area.{Area}
 use Rattle.word_bits.specs.PageMaps.{PageMap, no_pages, runs}
 use Rattle.vma_map.specs.Runs.{page_map, AreRuns, spliced}
 use Rattle.vma_map.specs.RunLaws.{runs-page_map}
-use Rattle.vma_map.specs.declared.remapping.RemapError.{RemapError}
-use Rattle.vma_map.specs.declared.remapping.RemapError.TheVariants.{TooMany}
+use Rattle.word_bits.specs.declared.reply.Errno.{Errno}
+use Rattle.word_bits.specs.declared.reply.Errno.TheVariants.{NoMem}
 use Rattle.vma_map.specs.Spaces.{changed, is_mapped}
 use Rattle.vma_map.specs.AreaLaws.{changed-in, changed-below, changed-above}
 use Rattle.vma_map.specs.Remaps.{AreApart, IsOutside, IsMoved, IsRemapAnswer, with_moved}
@@ -133,7 +133,7 @@ module _ (m n1 n2 n3 n4 : PageMap) (start len to : ℕ) (past : (q : ℕ) → 10
           e4 page ∙ with_moved-past n3 m (to + len) 1048576 (to + len) page (omega (arith, over, within)) ∙ sym (past page over)
 
 -- pages go to one place
-IsMoved-unique : (m f g : PageMap) (start len to : ℕ) → IsMoved m start len to f → IsMoved m start len to g → f ≡ g
+pub IsMoved-unique : (m f g : PageMap) (start len to : ℕ) → IsMoved m start len to f → IsMoved m start len to g → f ≡ g
 IsMoved-unique m f g start len to is_f is_g = fun_ext (λ page. go page (cases_lt page start) (cases_lt page (start + len)) (cases_lt page to) (cases_lt page (to + len)))
   where
     moved : (page : ℕ) → to ≤ page → page < to + len → f page ≡ g page
@@ -209,10 +209,10 @@ module _ (areas ps : List Area) (at count start len to low high : ℕ) (ended : 
       subst (λ (xs : List Area). IsMoved (page_map areas) start len to (page_map xs)) regroup (subst (λ (xs : List Area). IsMoved (page_map xs) start len to (page_map (take at areas ++ (ps ++ drop count (drop at areas))))) whole (IsMoved-within (take at areas) (take count (drop at areas)) (drop count (drop at areas)) ps start len to low high ended others low_start low_to start_high to_high is))
 
 -- where the ranges are apart and mapped, too many areas are the only cause left
-pub answered : (m : PageMap) (start len to : ℕ) (r : Result ℕ RemapError) → AreApart start len to → is_mapped m start len ≡ true → IfOk r (λ page. page ≡ to) → IfErr r (λ error. error ≡ TooMany) → OnErr r ((next : PageMap) → IsMoved m start len to next → 256 < length (runs next)) → IsRemapAnswer m start len to r
+pub answered : (m : PageMap) (start len to : ℕ) (r : Result ℕ Errno) → AreApart start len to → is_mapped m start len ≡ true → IfOk r (λ page. page ≡ to) → IfErr r (λ error. error ≡ NoMem) → OnErr r ((next : PageMap) → IsMoved m start len to next → 256 < length (runs next)) → IsRemapAnswer m start len to r
 answered m start len to (Ok page) apart mapped ok error many = (apart, mapped, ok)
 answered m start len to (Err e) apart mapped ok error many =
-    subst (λ (x : RemapError). IsRemapAnswer m start len to (Err x)) (sym error) (apart, mapped, many)
+    subst (λ (x : Errno). IsRemapAnswer m start len to (Err x)) (sym error) (apart, mapped, many)
 
 -- one more area is read
 pub read-more : (areas now xs : List Area) (at i : ℕ) (a : Area) → now ≡ areas → slice_get now (at + i) ≡ Some a → xs ≡ take i (drop at areas) → xs ++ a ∷ [] ≡ take (i + 1) (drop at areas)

@@ -2,8 +2,8 @@
 use Rattle.std.specs.Prelude.{◌≡◌, ℕ, ◌+◌, ◌-◌, ◌<◌, ◌≤◌, nat_lt, true, false, length, None, Result, Ok, Err, ◌⊎◌, if◌then◌else◌}
 use Rattle.word_bits.specs.PageMaps.{PageMap, runs}
 use Rattle.vma_map.specs.Spaces.{is_mapped}
-use Rattle.vma_map.specs.declared.remapping.RemapError.{RemapError}
-use Rattle.vma_map.specs.declared.remapping.RemapError.TheVariants.{Invalid, Unmapped, TooMany}
+use Rattle.word_bits.specs.declared.reply.Errno.{Errno}
+use Rattle.word_bits.specs.declared.reply.Errno.TheVariants.{NoMem, Inval, Fault}
 
 -- two ranges of so many pages, at least one, are within the space and have no page in common
 pub record AreApart (start len to : ℕ) : Type 0 where
@@ -23,15 +23,16 @@ pub record IsMoved (m : PageMap) (start len to : ℕ) (next : PageMap) : Type 0 
   pub others : (page : ℕ) → IsOutside start len page → IsOutside to len page → next page ≡ m page
 
 -- how a remap of these pages ends
-abbrev pub IsRemapAnswer : PageMap → (start len to : ℕ) → Result ℕ RemapError → Type 0
+abbrev pub IsRemapAnswer : PageMap → (start len to : ℕ) → Result ℕ Errno → Type 0
 IsRemapAnswer m start len to (Ok page) =
     AreApart start len to × (is_mapped m start len ≡ true) × (page ≡ to)
-IsRemapAnswer m start len to (Err Invalid) = AreApart start len to → ⊥
-IsRemapAnswer m start len to (Err Unmapped) =
+IsRemapAnswer m start len to (Err Inval) = AreApart start len to → ⊥
+IsRemapAnswer m start len to (Err Fault) =
     AreApart start len to × (is_mapped m start len ≡ false)
-IsRemapAnswer m start len to (Err TooMany) =
+IsRemapAnswer m start len to (Err NoMem) =
     AreApart start len to × (is_mapped m start len ≡ true)
     × ((next : PageMap) → IsMoved m start len to next → 256 < length (runs next))
+IsRemapAnswer m start len to (Err other) = ⊥
 
 -- up to a page these pages, then those of a range of others, and no more
 abbrev pub with_moved : PageMap → PageMap → (from end to : ℕ) → PageMap

@@ -1,22 +1,24 @@
 -- The laws of an address space.
-use Rattle.std.proofs.Common.{◌≡◌, ℕ, ◌+◌, ◌-◌, ◌<◌, ◌≤◌, List, [], ◌++◌, ◌==◌, ◌/◌, ◌%◌, length, take, map, replicate, Option, Some, None, IfSome, true, ◌&&◌, ◌||◌, ◌^◌, leb, ltb, refl, sym, ap, ◌∙◌, arith}
+use Rattle.std.proofs.Common.{◌≡◌, ℕ, ◌+◌, ◌-◌, ◌<◌, ◌≤◌, List, [], ◌++◌, ◌==◌, ◌/◌, ◌%◌, length, take, map, replicate, Option, Some, None, IfSome, Bool, cond, true, ◌&&◌, ◌||◌, ◌^◌, leb, ltb, refl, sym, ap, ◌∙◌, arith}
 use Rattle.std.proofs.lemmas.List.{length-map, length-append, length-replicate, take_at}
 use Rattle.std.proofs.lemmas.Bool.{false≢true, cond_both, or_parts, ltb-false, leb-true}
+use Rattle.std.proofs.lemmas.Bool.Decides.{nat_tests}
 use Rattle.word_bits.specs.declared.area.Area.{Area}
 use Rattle.word_bits.specs.declared.call.CallWords.{CallWords}
 use Rattle.word_bits.specs.declared.reply.Reply.{Reply}
 use Rattle.word_bits.specs.declared.reply.Reply.TheVariants.{Good, Num, Refused, AccErr}
 use Rattle.word_bits.specs.declared.reply.Errno.{Errno}
 use Rattle.word_bits.specs.declared.reply.Errno.TheVariants.{NoMem, Exist, Inval}
+use Rattle.word_bits.specs.declared.reply.Errno.TheVariants as errnos
 use Rattle.word_bits.specs.AreaWord.{area_word}
 use Rattle.word_bits.specs.Calls.{signal_of}
 use Rattle.word_bits.specs.Objects.{IsObjectReply}
 use Rattle.word_bits.proofs.Signals.{none_either, signal_kind}
 use Rattle.word_bits.specs.PageMaps.{PageMap, IsPageMap, no_pages, runs}
 use Rattle.vma_map.specs.declared.call.SpaceCall.{SpaceCall}
-use Rattle.vma_map.specs.declared.call.SpaceCall.TheVariants.{Map, MapAny, MapNew, Unmap, Protect, Populate, Fault}
+use Rattle.vma_map.specs.declared.call.SpaceCall.TheVariants.{Map, MapAny, MapNew, Unmap, Protect, Populate, Fault, Remap}
 use Rattle.vma_map.specs.Runs.{page_map, AreRuns, IsSpace, words_of_areas}
-use Rattle.vma_map.specs.Spaces.{changed, with_range, if_valid, is_free, is_mapped, lowest_free, mapped, mapped_at, readable, access_reply, IsCall, call_of, reads, meaning, stores}
+use Rattle.vma_map.specs.Spaces.{changed, unless_many, with_range, moved, share_page, remapped, if_valid, is_free, is_mapped, lowest_free, mapped, mapped_at, readable, access_reply, IsCall, call_of, reads, meaning, stores}
 use Rattle.vma_map.specs.AreaLaws.{page_map-past, page_map-prots, changed-above}
 use Rattle.vma_map.specs.RunLaws.{runs-runs, page_map-runs, runs-page_map}
 use Rattle.vma_map.specs.AreaLaws.{map-area_word-injective}
@@ -87,6 +89,31 @@ IsPageMap-changed m start end prot is within small few = record {
   few = few;
 }
 
+-- a page behind the range that a move leads to
+moved-above : (m : PageMap) (start len to page : ℕ) → to + len ≤ page → moved m start len to page ≡ changed m start (start + len) None page
+moved-above m start len to page high = grind (arith, nat_tests)
+
+-- a move keeps the protections small
+moved-prots : (m : PageMap) (start len to : ℕ) → ((page : ℕ) → IfSome (m page) (λ p. p < 8)) → (page : ℕ) → IfSome (moved m start len to page) (λ p. p < 8)
+moved-prots m start len to prots page =
+    cond_both (leb to page && ltb page (to + len)) (m (start + (page - to))) (changed m start (start + len) None page) (λ o. IfSome o (λ p. p < 8)) (λ _. prots (start + (page - to))) (λ _. changed-prots m start (start + len) None prots tt page)
+
+-- a move of a range that a call makes
+record IsMove (m : PageMap) (start len to : ℕ) : Type 0 where
+  source : start + len ≤ 1048576
+  target : to + len ≤ 1048576
+  few : length (runs (moved m start len to)) ≤ 256
+
+-- its pages can be stored
+IsPageMap-moved : (m : PageMap) (start len to : ℕ) → IsPageMap m → IsMove m start len to → IsPageMap (moved m start len to)
+IsPageMap-moved m start len to is move =
+    let source = move.source in
+    let target = move.target in record {
+      within = λ page past. moved-above m start len to page (omega (arith, target, past)) ∙ changed-above m start (start + len) None page (omega (arith, source, past)) ∙ is.within page past;
+      prots = moved-prots m start len to is.prots;
+      few = move.few;
+    }
+
 -- the reply of a change
 abbrev IsDone : Reply → Type 0
 IsDone Good = Unit {0}
@@ -123,9 +150,19 @@ module _ (m : PageMap) (P : PageMap × Reply → Type 0) (none : (errno : Errno)
       cond_both ((len == 0) || ltb 1048576 (start + len)) (m, Refused Inval) next P (λ _. none Inval) (λ e. holds (ltb-false 1048576 (start + len) (or_parts (len == 0) (ltb 1048576 (start + len)) e).1))
 
   -- the test of the number of runs
+  unless_many-cases : (next : PageMap) (reply : Reply) → (length (runs next) ≤ 256 → P (next, reply)) → P (unless_many m next reply)
+  unless_many-cases next reply holds =
+      cond_both (leb (length (runs next)) 256) (next, reply) (m, Refused NoMem) P (λ e. holds (leb-true (length (runs next)) 256 e)) (λ _. none NoMem)
+
+  -- that of a change
   with_range-cases : (start len : ℕ) (prot : Option ℕ) (reply : Reply) → (length (runs (changed m start (start + len) prot)) ≤ 256 → P (changed m start (start + len) prot, reply)) → P (with_range m start len prot reply)
   with_range-cases start len prot reply holds =
-      cond_both (leb (length (runs (changed m start (start + len) prot))) 256) (changed m start (start + len) prot, reply) (m, Refused NoMem) P (λ e. holds (leb-true (length (runs (changed m start (start + len) prot))) 256 e)) (λ _. none NoMem)
+      unless_many-cases (changed m start (start + len) prot) reply holds
+
+  -- the tests of a remap
+  remapped-cases : (start len to : ℕ) → (IsMove m start len to → P (moved m start len to, Num to)) → P (remapped m start len to)
+  remapped-cases start len to holds =
+      if_valid-cases start len _ (λ source. if_valid-cases to len _ (λ target. cond_both (share_page start to len) (m, Refused Inval) _ P (λ _. none Inval) (λ _. cond_both (is_mapped m start len) _ (m, Refused errnos.Fault) P (λ _. unless_many-cases (moved m start len to) (Num to) (λ few. holds (record { source = source; target = target; few = few }))) (λ _. none errnos.Fault))))
 
   module _ (call : SpaceCall) (holds : (start len : ℕ) (prot : Option ℕ) (reply : Reply) → IsChange m call start len prot reply → P (changed m start (start + len) prot, reply)) where
     -- both tests
@@ -143,26 +180,27 @@ module _ (m : PageMap) (P : PageMap × Reply → Type 0) (none : (errno : Errno)
     mapped_at-cases None len prot small = none NoMem
     mapped_at-cases (Some start) len prot small = mapped-cases start len prot small
 
-  -- a call is refused, or changes a range, or is a fault: what holds of all three holds of its meaning
-  meaning-cases : (call : SpaceCall) → ((start len : ℕ) (prot : Option ℕ) (reply : Reply) → IsChange m call start len prot reply → P (changed m start (start + len) prot, reply)) → ((page access : ℕ) → P (m, access_reply (m page) access)) → P (meaning m call)
-  meaning-cases (Map start len prot) holds fault =
+  -- a call is refused, changes a range, moves one, or is a fault: what holds of all four holds of its meaning
+  meaning-cases : (call : SpaceCall) → ((start len : ℕ) (prot : Option ℕ) (reply : Reply) → IsChange m call start len prot reply → P (changed m start (start + len) prot, reply)) → ((start len to : ℕ) → IsMove m start len to → P (moved m start len to, Num to)) → ((page access : ℕ) → P (m, access_reply (m page) access)) → P (meaning m call)
+  meaning-cases (Map start len prot) holds moves fault =
       mapped-cases (Map start len prot) holds start len prot (λ is. is.2)
-  meaning-cases (MapAny len prot) holds fault =
+  meaning-cases (MapAny len prot) holds moves fault =
       cond_both (len == 0) (m, Refused Inval) (mapped_at m (lowest_free m len) len prot) P (λ _. none Inval) (λ _. mapped_at-cases (MapAny len prot) holds (lowest_free m len) len prot (λ is. is.1))
-  meaning-cases (MapNew start len prot) holds fault =
+  meaning-cases (MapNew start len prot) holds moves fault =
       if_valid-cases start len _ (λ within. cond_both (is_free m start len) _ (m, Refused Exist) P (λ _. both-cases (MapNew start len prot) holds start len (Some prot) (Num start) (λ is. is.2) within (omega arith)) (λ _. none Exist))
-  meaning-cases (Unmap start len) holds fault =
+  meaning-cases (Unmap start len) holds moves fault =
       if_valid-cases start len _ (λ within. both-cases (Unmap start len) holds start len None Good (λ is. tt) within tt)
-  meaning-cases (Protect start len prot) holds fault =
+  meaning-cases (Protect start len prot) holds moves fault =
       if_valid-cases start len _ (λ within. cond_both (is_mapped m start len) _ (m, Refused NoMem) P (λ _. both-cases (Protect start len prot) holds start len (Some prot) Good (λ is. is.2) within tt) (λ _. none NoMem))
-  meaning-cases (Populate start len prot) holds fault =
+  meaning-cases (Populate start len prot) holds moves fault =
       if_valid-cases start len _ (λ within. both-cases (Populate start len prot) holds start len (Some prot) (Num (readable len prot)) (λ is. is.2) within (omega (arith, readable-le len prot)))
-  meaning-cases (Fault page access) holds fault = fault page access
+  meaning-cases (Fault page access) holds moves fault = fault page access
+  meaning-cases (Remap start len to) holds moves fault = remapped-cases start len to (moves start len to)
 
 -- a call leads from stored pages to such
 pub goes_on : (s : PageMap) (call : SpaceCall) → IsPageMap s → IsCall call → IsPageMap (meaning s call).0
 goes_on s call is_s is_call =
-    meaning-cases s (λ r. IsPageMap r.0) (λ _. is_s) call (λ start len prot reply c. IsPageMap-changed s start (start + len) prot is_s c.within (c.small is_call) c.few) (λ _ _. is_s)
+    meaning-cases s (λ r. IsPageMap r.0) (λ _. is_s) call (λ start len prot reply c. IsPageMap-changed s start (start + len) prot is_s c.within (c.small is_call) c.few) (λ start len to move. IsPageMap-moved s start len to is_s move) (λ _ _. is_s)
 
 -- what an access meets is an object's reply
 access_reply-object : (o : Option ℕ) (access : ℕ) → IsObjectReply (access_reply o access)
@@ -172,7 +210,7 @@ access_reply-object (Some prot) access = cond_both ((prot / access % 2) == 1) Go
 -- replies are an object's
 pub replies : (s : PageMap) (call : SpaceCall) → IsPageMap s → IsCall call → IsObjectReply (meaning s call).1
 replies s call is_s is_call =
-    meaning-cases s (λ r. IsObjectReply r.1) (λ _. tt) call (λ start len prot reply c. IsDone-object reply c.done) (λ page access. access_reply-object (s page) access)
+    meaning-cases s (λ r. IsObjectReply r.1) (λ _. tt) call (λ start len prot reply c. IsDone-object reply c.done) (λ start len to move. let target = move.target in omega (arith, target)) (λ page access. access_reply-object (s page) access)
 
 -- a call that reads changes nothing
 pub reading : (s : PageMap) (call : SpaceCall) → reads call ≡ true → (meaning s call).0 ≡ s
@@ -183,15 +221,20 @@ reading s (MapNew start len prot) e = absurd (false≢true e)
 reading s (Unmap start len) e = absurd (false≢true e)
 reading s (Protect start len prot) e = absurd (false≢true e)
 reading s (Populate start len prot) e = absurd (false≢true e)
+reading s (Remap start len to) e = absurd (false≢true e)
 
 -- a refused call changes nothing
 pub refused : (s : PageMap) (call : SpaceCall) (errno : Errno) → (meaning s call).1 ≡ Refused errno → (meaning s call).0 ≡ s
 refused s call errno =
-    meaning-cases s (λ r. r.1 ≡ Refused errno → r.0 ≡ s) (λ _ _. refl) call (λ start len prot reply c e. absurd (IsDone-refused reply errno c.done e)) (λ _ _ _. refl)
+    meaning-cases s (λ r. r.1 ≡ Refused errno → r.0 ≡ s) (λ _ _. refl) call (λ start len prot reply c e. absurd (IsDone-refused reply errno c.done e)) (λ start len to _ e. absurd cc) (λ _ _ _. refl)
+
+-- two tests of which neither tells a call
+none_twice : (test inner : Bool) → cond {A = Option SpaceCall} test (cond inner None None) None ≡ None
+none_twice test inner = ap (λ o. cond test o None) (none_either inner) ∙ none_either test
 
 -- the words of a signal are no call
 pub signals : (w : CallWords) (task : ℕ) → signal_of w ≡ Some task → call_of w ≡ None
-signals w task is = let kind = signal_kind w task is in rw kind (none_either _)
+signals w task is = let kind = signal_kind w task is in rw kind (none_twice _ _)
 
 -- the words are as many as may be
 pub few_words : 257 ≤ 257

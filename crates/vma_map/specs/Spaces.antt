@@ -7,12 +7,13 @@ use Rattle.word_bits.specs.declared.reply.Reply.{Reply}
 use Rattle.word_bits.specs.declared.reply.Reply.TheVariants.{Good, Num, Refused, MapErr, AccErr}
 use Rattle.word_bits.specs.declared.reply.Errno.{Errno}
 use Rattle.word_bits.specs.declared.reply.Errno.TheVariants.{NoMem, Exist, Inval}
-use Rattle.word_bits.specs.Calls.{words_of, mode_number, has_mode, kind_in, first_in, second_in, prot_in, access_in}
+use Rattle.word_bits.specs.declared.reply.Errno.TheVariants as errnos
+use Rattle.word_bits.specs.Calls.{words_of, with_third, mode_number, has_mode, kind_in, first_in, second_in, third_in, prot_in, access_in}
 use Rattle.word_bits.specs.Objects.{Obj}
 use Rattle.word_bits.specs.PageMaps.{PageMap, IsPageMap, no_pages, runs}
 use Rattle.vma_map.specs.Runs.{words_of_areas}
 use Rattle.vma_map.specs.declared.call.SpaceCall.{SpaceCall}
-use Rattle.vma_map.specs.declared.call.SpaceCall.TheVariants.{Map, MapAny, MapNew, Unmap, Protect, Populate, Fault}
+use Rattle.vma_map.specs.declared.call.SpaceCall.TheVariants.{Map, MapAny, MapNew, Unmap, Protect, Populate, Fault, Remap}
 
 -- each page of the range has this protection, or none; the others are as before
 abbrev pub changed : PageMap → (start end : ℕ) → Option ℕ → PageMap
@@ -89,6 +90,25 @@ readable len prot = if (prot % 2) == 1 then len else 0
 abbrev pub populated : PageMap → (start len prot : ℕ) → PageMap × Reply
 populated m start len prot = if_valid m start len (with_range m start len (Some prot) (Num (readable len prot)))
 
+-- two ranges of so many pages have one in common
+abbrev pub share_page : (start to len : ℕ) → Bool
+share_page start to len = nat_lt start (to + len) && nat_lt to (start + len)
+
+-- the pages of the range at one start have gone to that at another, whatever was there
+abbrev pub moved : PageMap → (start len to : ℕ) → PageMap
+moved m start len to page =
+    if nat_le to page && nat_lt page (to + len) then m (start + (page - to))
+    else changed m start (start + len) None page
+
+-- remap: the pages of the range move, refused where the ranges meet or a page of the first is unmapped
+abbrev pub remapped : PageMap → (start len to : ℕ) → PageMap × Reply
+remapped m start len to =
+    if_valid m start len (if_valid m to len (
+    if share_page start to len then (m, Refused Inval)
+    else if is_mapped m start len then unless_many m (moved m start len to) (Num to)
+    else (m, Refused errnos.Fault)
+    ))
+
 -- what an access to a page of this protection meets
 abbrev pub access_reply : Option ℕ → ℕ → Reply
 access_reply None access = MapErr
@@ -103,6 +123,7 @@ meaning m (Unmap start len) = unmapped m start len
 meaning m (Protect start len prot) = protected m start len prot
 meaning m (Populate start len prot) = populated m start len prot
 meaning m (Fault page access) = (m, access_reply (m page) access)
+meaning m (Remap start len to) = remapped m start len to
 
 -- the reply of an outcome
 abbrev pub reply_of : Result Reply Errno → Reply
@@ -122,6 +143,7 @@ IsCall (Unmap start len) = (start < 2 ^ 32) × (len < 2 ^ 32)
 IsCall (Protect start len prot) = (start < 2 ^ 32) × (len < 2 ^ 32) × (prot < 8)
 IsCall (Populate start len prot) = (start < 2 ^ 32) × (len < 2 ^ 32) × (prot < 8)
 IsCall (Fault page access) = (page < 2 ^ 32) × IsAccess access
+IsCall (Remap start len to) = (start < 2 ^ 32) × (len < 2 ^ 32) × (to < 2 ^ 32)
 
 -- only a fault leaves the pages as they are
 abbrev pub reads : SpaceCall → Bool
@@ -132,6 +154,7 @@ reads (Unmap start len) = false
 reads (Protect start len prot) = false
 reads (Populate start len prot) = false
 reads (Fault page access) = true
+reads (Remap start len to) = false
 
 -- the words of a call in a mode
 abbrev pub words_of_call : SpaceCall → Mode → CallWords
@@ -142,6 +165,7 @@ words_of_call (Unmap start len) mode = words_of 4 start len 0 0 (mode_number mod
 words_of_call (Protect start len prot) mode = words_of 5 start len prot 0 (mode_number mode)
 words_of_call (Populate start len prot) mode = words_of 6 start len prot 0 (mode_number mode)
 words_of_call (Fault page access) mode = words_of 7 page 0 0 access (mode_number mode)
+words_of_call (Remap start len to) mode = with_third (words_of 13 start len 0 0 (mode_number mode)) to
 
 -- a valid call, whose words in some mode these are
 abbrev pub IsCallOf : CallWords → SpaceCall → Type 0
@@ -164,9 +188,21 @@ call_with kind first second prot access =
     else if kind == 7 then call_if ((second == 0) && (prot == 0) && ((access == 1) || (access == 2) || (access == 4))) (Fault first access)
     else None
 
+-- the remap of these numbers, with no protection and no access
+abbrev pub remap_with : (first second third prot access : ℕ) → Option SpaceCall
+remap_with first second third prot access =
+    call_if (nat_lt second (2 ^ 32) && nat_lt third (2 ^ 32) && (prot == 0) && (access == 0)) (Remap first second third)
+
+-- the call of this kind with three numbers: only a remap has the third
+abbrev pub call_in : (kind first second third prot access : ℕ) → Option SpaceCall
+call_in kind first second third prot access =
+    if kind == 13 then remap_with first second third prot access
+    else if third == 0 then call_with kind first second prot access
+    else None
+
 -- the call whose words in some mode these are
 abbrev pub call_of : CallWords → Option SpaceCall
-call_of w = if has_mode w then call_with (kind_in w) (first_in w) (second_in w) (prot_in w) (access_in w) else None
+call_of w = if has_mode w then call_in (kind_in w) (first_in w) (second_in w) (third_in w) (prot_in w) (access_in w) else None
 
 -- the words that store a space are those of its runs
 abbrev pub stores : PageMap → List ℕ

@@ -8,12 +8,12 @@ use crate::MAX_AREAS;
 use crate::call::SpaceCall;
 use crate::calls::apply;
 use crate::range::splice;
-use crate::remapping::{RemapError, remap};
+use crate::remapping::remap;
 use crate::store::AreaStore;
 use crate::words::{self, SPACE_WORDS};
 use arrayvec::ArrayVec;
 use std::marker::Model;
-use word_bits::{Area, CallWords, Object, Reply};
+use word_bits::{Area, CallWords, Errno, Object, Reply};
 
 /// An address space. Contracts see its areas in order; `page_map` is what they say of each page.
 #[derive(Drop)]
@@ -53,7 +53,7 @@ impl Areas {
     }
 
     /// Moves `len` pages from `start` on to `to`, and answers that page.
-    pub fn remap(&mut self, start: u32, len: u32, to: u32) -> Result<u32, RemapError>
+    pub fn remap(&mut self, start: u32, len: u32, to: u32) -> Result<u32, Errno>
         ensures answer { IsRemapAnswer (page_map self.old) start len to result }
         ensures moved { OnOk result (IsMoved (page_map self.old) start len to (page_map self.new)) }
         ensures refused { OnErr result (self.new ≡ self.old) }

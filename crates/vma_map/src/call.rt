@@ -1,7 +1,7 @@
 //! The calls on an address space.
 ghost use Rattle.std.specs.Prelude.{◌≡◌};
 ghost use Rattle.word_bits.specs.Packed.{IsFound};
-ghost use Rattle.vma_map.specs.Spaces.{IsCallOf, call_of, call_with};
+ghost use Rattle.vma_map.specs.Spaces.{IsCallOf, call_in, call_of, call_with};
 
 use word_bits::CallWords;
 
@@ -22,6 +22,8 @@ pub enum SpaceCall {
     Populate { start: u32, len: u32, prot: u8 },
     /// Touches a page by an access: r 1, w 2 or x 4.
     Fault { page: u32, access: u8 },
+    /// Moves `len` pages from `start` on to `to`, whatever was there, where each of them is mapped.
+    Remap { start: u32, len: u32, to: u32 },
 }
 
 /// The call of a kind, from 1, with these numbers, protection and access. What it doesn't have must
@@ -46,6 +48,25 @@ fn call_with(kind: u8, first: u32, second: u32, prot: u8, access: u8) -> Option<
     }
 }
 
+/// The kind of a remap, the one call with a third number.
+const REMAP: u8 = 13;
+
+/// The call of a kind with three numbers, of which only a remap has the third.
+fn call_in(kind: u8, first: u32, second: u32, third: u32, prot: u8, access: u8) -> Option<SpaceCall>
+    ensures { result ≡ call_in kind first second third prot access }
+{
+    match kind {
+        REMAP if prot == 0 && access == 0 => Some(SpaceCall::Remap {
+            start: first,
+            len: second,
+            to: third,
+        }),
+        REMAP => None,
+        _ if third == 0 => call_with(kind, first, second, prot, access),
+        _ => None,
+    }
+}
+
 impl SpaceCall {
     /// The call whose words in some mode these are. `None` where no call has them.
     pub fn call_of(words: CallWords) -> Option<SpaceCall>
@@ -55,10 +76,11 @@ impl SpaceCall {
         if !words.has_mode() {
             return None;
         }
-        call_with(
+        call_in(
             words.kind(),
             words.first(),
             words.second(),
+            words.third(),
             words.prot(),
             words.access(),
         )

@@ -1,12 +1,13 @@
 //! What the calls do to an address space, wherever its areas are kept.
 ghost use Rattle.std.specs.Prelude.{◌≡◌, ◌+◌, ◌<◌, ◌≤◌, ◌↔◌, IsOk, IfOk, IfErr};
 ghost use Rattle.vma_map.specs.Runs.{page_map};
-ghost use Rattle.vma_map.specs.Spaces.{IsAccess, IsCall, mapped, mapped_any, mapped_new, unmapped, protected, populated, readable, access_reply, meaning, reply_of};
+ghost use Rattle.vma_map.specs.Spaces.{IsAccess, IsCall, mapped, mapped_any, mapped_new, unmapped, protected, populated, readable, remapped, access_reply, meaning, reply_of};
 
 use crate::PAGES;
 use crate::call::SpaceCall;
 use crate::query::{is_free, is_mapped, lowest_free, prot_of};
 use crate::range::change;
+use crate::remapping::remap;
 use crate::store::AreaStore;
 use word_bits::{Errno, Reply};
 
@@ -46,6 +47,7 @@ fn outcome<S: AreaStore>(
         SpaceCall::Protect { start, len, prot } => protect::<S>(place, hand, start, len, prot),
         SpaceCall::Populate { start, len, prot } => populate::<S>(place, hand, start, len, prot),
         SpaceCall::Fault { page, access } => Ok(fault::<S>(place, hand, page, access)),
+        SpaceCall::Remap { start, len, to } => remap_pages::<S>(place, hand, start, len, to),
     }
 }
 
@@ -178,6 +180,28 @@ fn populate<S: AreaStore>(
     let end = range_end(start, len)?;
     change::<S>(place, hand, start, end, Some(prot))?;
     Ok(Reply::Num(readable(len, prot)))
+}
+
+// It isn't inlined, so that the lists of areas that it builds stay out of the frame of the other
+// calls.
+#[inline(never)]
+fn remap_pages<S: AreaStore>(
+    place: &S::Place,
+    hand: &mut S::Hand,
+    start: u32,
+    len: u32,
+    to: u32,
+) -> Result<Reply, Errno>
+    requires has { S.has place.now hand.old }
+    ensures has { S.has place.now hand.new }
+    ensures kept { S.keeps place.now hand.old hand.new }
+    ensures next { page_map (S.areas place.now hand.new)
+        ≡ (remapped (page_map (S.areas place.now hand.old)) start len to).0 }
+    ensures reply { reply_of result
+        ≡ (remapped (page_map (S.areas place.now hand.old)) start len to).1 }
+{
+    let page = remap::<S>(place, hand, start, len, to)?;
+    Ok(Reply::Num(page))
 }
 
 fn fault<S: AreaStore>(place: &S::Place, hand: &mut S::Hand, page: u32, access: u8) -> Reply

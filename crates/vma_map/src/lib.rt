@@ -15,7 +15,7 @@ mod words;
 pub use areas::Areas;
 pub use call::SpaceCall;
 pub use calls::{apply, meet};
-pub use remapping::{RemapError, remap};
+pub use remapping::remap;
 pub use search::Search;
 pub use store::AreaStore;
 pub use words::find;

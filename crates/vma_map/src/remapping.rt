@@ -11,18 +11,7 @@ use crate::range::append;
 use crate::store::AreaStore;
 use crate::{MAX_AREAS, PAGES};
 use arrayvec::ArrayVec;
-use word_bits::Area;
-
-/// Why a range of pages isn't moved.
-#[derive(Clone, Copy, Debug, PartialEq, Eq)]
-pub enum RemapError {
-    /// A range is empty or ends past the last page, or the two share a page: EINVAL.
-    Invalid,
-    /// A page of the range is unmapped: EFAULT.
-    Unmapped,
-    /// The space would have too many areas: ENOMEM.
-    TooMany,
-}
+use word_bits::{Area, Errno};
 
 /// The most pieces in a list that is built: of each of four parts of the space one of each area.
 const PIECES: usize = 4 * MAX_AREAS;
@@ -164,7 +153,7 @@ fn move_apart<S: AreaStore>(
     start: u32,
     len: u32,
     to: u32,
-) -> Result<u32, RemapError>
+) -> Result<u32, Errno>
     requires has { S.has place.now hand.old }
     requires apart { AreApart start len to }
     ensures has { S.has place.now hand.new }
@@ -176,26 +165,28 @@ fn move_apart<S: AreaStore>(
     ensures many { OnErr result ((next : PageMap) →
         IsMoved (page_map (S.areas place.now hand.old)) start len to next →
         256 < length (runs next)) }
-    ensures error { IfErr result (λ error. error ≡ RemapError.TooMany) }
+    ensures error { IfErr result (λ error. error ≡ Errno.NoMem) }
 {
     let (at, count) = meeting::<S>(place, hand, start.min(to), start.max(to) + len);
     let met = areas_at::<S>(place, hand, at, count);
     let next = moved(met.as_slice(), start, len, to);
     if S::len(place, hand) - count + next.len() > MAX_AREAS {
-        return Err(RemapError::TooMany);
+        return Err(Errno::NoMem);
     }
     S::splice(place, hand, at, count, next.as_slice());
     Ok(to)
 }
 
-/// Moves `len` pages from `start` on to `to`, and answers that page.
+/// Moves `len` pages from `start` on to `to`, and answers that page. `Inval` where a range is empty,
+/// ends past the last page or meets the other, `Fault` where a page of the first is unmapped, and
+/// `NoMem` where the space would have too many areas.
 pub fn remap<S: AreaStore>(
     place: &S::Place,
     hand: &mut S::Hand,
     start: u32,
     len: u32,
     to: u32,
-) -> Result<u32, RemapError>
+) -> Result<u32, Errno>
     requires has { S.has place.now hand.old }
     ensures has { S.has place.now hand.new }
     ensures kept { S.keeps place.now hand.old hand.new }
@@ -205,10 +196,10 @@ pub fn remap<S: AreaStore>(
     ensures refused { OnErr result (S.areas place.now hand.new ≡ S.areas place.now hand.old) }
 {
     if !are_apart(start, len, to) {
-        return Err(RemapError::Invalid);
+        return Err(Errno::Inval);
     }
     if !is_mapped::<S>(place, hand, start, len) {
-        return Err(RemapError::Unmapped);
+        return Err(Errno::Fault);
     }
     move_apart::<S>(place, hand, start, len, to)
 }

@@ -1,6 +1,7 @@
 -- The words that show a lock unavailable, as words of owners and of counts.
 use Rattle.std.proofs.Common.{◌≡◌, ◌∙◌, ℕ, ◌+◌, ◌-◌, ◌*◌, ◌/◌, ◌%◌, ◌<◌, ◌≤◌, ◌≢◌, ◌==◌, ◌||◌, inl, inr, Bool, true, false, IsTrue, IsSome, IfSome, Option, Some, None, zero, suc, refl, sym, ap, arith}
 use Rattle.word_bits.specs.declared.count.Count.{Count}
+use Rattle.word_bits.specs.declared.TheConstants.{MAX_TASKS}
 use Rattle.word_bits.specs.CountWord.{count_word}
 use Rattle.word_bits.specs.LockWords.{owned, counted, IsLawfulCount}
 use Rattle.word_bits.specs.OwnerWord.{bit, task_code}
@@ -34,7 +35,7 @@ owned-owner reads word range =
       packs = rw (waiters, handoff, pickup) (omega arith);
     }
 
-code-range : (task : Option ℕ) → IfSome task (λ t. t < 64) → IsSome task → (1 ≤ task_code task) × (task_code task ≤ 64)
+code-range : (task : Option ℕ) → IfSome task (λ t. t < MAX_TASKS) → IsSome task → (1 ≤ task_code task) × (task_code task ≤ MAX_TASKS)
 code-range None fits names = absurd (grind arith)
 code-range (Some t) fits names = (omega arith, omega arith)
 

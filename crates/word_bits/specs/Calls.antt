@@ -25,12 +25,18 @@ prot_in w = w.b / 2 ^ 8 % 2 ^ 8
 abbrev pub access_in : CallWords → ℕ
 access_in w = w.b / 2 ^ 16 % 2 ^ 8
 
+abbrev pub mode_in : CallWords → ℕ
+mode_in w = w.b / 2 ^ 24 % 2 ^ 8
+
+abbrev pub third_in : CallWords → ℕ
+third_in w = w.b / 2 ^ 32
+
 -- the words have one of the modes
 abbrev pub has_mode : CallWords → Bool
-has_mode w = nat_lt (w.b / 2 ^ 24) 3
+has_mode w = nat_lt (mode_in w) 3
 
 abbrev pub mode_of : CallWords → Mode
-mode_of w = if (w.b / 2 ^ 24) == 1 then Int else if (w.b / 2 ^ 24) == 2 then Try else Plain
+mode_of w = if mode_in w == 1 then Int else if mode_in w == 2 then Try else Plain
 
 -- the words of a call: its kind, its two numbers, and its protection, access and mode
 abbrev pub words_of : (kind first second prot access mode : ℕ) → CallWords
@@ -39,6 +45,10 @@ words_of kind first second prot access mode = record {
   b = kind + prot * 2 ^ 8 + access * 2 ^ 16 + mode * 2 ^ 24;
 }
 
+-- these words, with a third number
+abbrev pub with_third : CallWords → ℕ → CallWords
+with_third w third = record { a = w.a; b = w.b + third * 2 ^ 32 }
+
 -- words say this of each part of a call
 pub record Says (w : CallWords) (kind first second prot access : ℕ) (mode : Mode) : Type 0 where
   pub has_kind : kind_in w ≡ kind
@@ -46,6 +56,7 @@ pub record Says (w : CallWords) (kind first second prot access : ℕ) (mode : Mo
   pub has_second : second_in w ≡ second
   pub has_prot : prot_in w ≡ prot
   pub has_access : access_in w ≡ access
+  pub has_third : third_in w ≡ 0
   pub moded : has_mode w ≡ true
   pub mode_is : mode_of w ≡ mode
 

@@ -2,6 +2,7 @@
 ghost use Rattle.std.specs.Prelude.{◌≡◌, ◌<◌};
 ghost use Rattle.word_bits.specs.Calls.{Says, has_mode, mode_number, mode_of, signal_of, words_of};
 ghost use Rattle.word_bits.specs.Calls.{access_in, first_in, kind_in, prot_in, second_in};
+ghost use Rattle.word_bits.specs.Calls.{third_in, with_third};
 
 use crate::bits::field;
 
@@ -34,8 +35,8 @@ impl Mode {
 const SIGNAL: u8 = 15;
 
 /// A call as two words. `a` has its first number, and its second one times 2^32. `b` has its kind
-/// in bits 0 to 7, the protection from bit 8 on, the access from bit 16 on, and the mode from bit
-/// 24 on.
+/// in bits 0 to 7, the protection from bit 8 on, the access from bit 16 on, the mode from bit 24 on,
+/// and the third number from bit 32 on.
 #[derive(Clone, Copy, Debug, PartialEq, Eq)]
 pub struct CallWords {
     pub a: u64,
@@ -54,6 +55,17 @@ impl CallWords {
                 + (u64::from(prot) << 8)
                 + (u64::from(access) << 16)
                 + (mode.number() << 24),
+        }
+    }
+
+    /// These words, with a third number.
+    pub fn with_third(self, third: u32) -> CallWords
+        requires none { third_in self ≡ 0 }
+        ensures words { result ≡ with_third self third }
+    {
+        CallWords {
+            a: self.a,
+            b: self.b + (u64::from(third) << 32),
         }
     }
 
@@ -78,6 +90,13 @@ impl CallWords {
         (self.a >> 32) as u32
     }
 
+    /// The third number.
+    pub fn third(self) -> u32
+        ensures { result ≡ third_in self }
+    {
+        (self.b >> 32) as u32
+    }
+
     /// The protection: r 1, w 2, x 4.
     pub fn prot(self) -> u8
         ensures { result ≡ prot_in self }
@@ -96,14 +115,14 @@ impl CallWords {
     pub fn has_mode(self) -> bool
         ensures { result ≡ has_mode self }
     {
-        self.b >> 24 < 3
+        field(self.b, 24, 8) < 3
     }
 
     /// The mode. Words of no mode are read as plain ones.
     pub fn mode(self) -> Mode
         ensures { result ≡ mode_of self }
     {
-        match self.b >> 24 {
+        match field(self.b, 24, 8) {
             1 => Mode::Int,
             2 => Mode::Try,
             _ => Mode::Plain,

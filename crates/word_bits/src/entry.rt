@@ -3,6 +3,7 @@ ghost use Rattle.std.specs.Prelude.{◌≡◌};
 ghost use Rattle.word_bits.specs.Packed.{Unpacks};
 ghost use Rattle.word_bits.specs.EntryWord.{IsEntry, entry_word};
 
+use crate::MAX_TASKS;
 use crate::bits::{field, join};
 
 /// A call that an object's log names.
@@ -15,7 +16,7 @@ pub struct Entry {
 }
 
 impl Entry {
-    /// The word of an entry: the call in bits 0 to 17, the task in bits 18 to 23.
+    /// The word of an entry: the call in bits 0 to 17, the task in bits 18 to 26.
     pub fn pack(self) -> u64
         requires { IsEntry self }
         ensures { result ≡ entry_word self }
@@ -27,11 +28,12 @@ impl Entry {
     pub fn unpack(word: u64) -> Option<Entry>
         ensures { Unpacks IsEntry entry_word word result }
     {
-        if word >> 24 != 0 {
+        let task = field(word, 18, 9) as u32;
+        if word >> 27 != 0 || task >= MAX_TASKS {
             return None;
         }
         Some(Entry {
-            task: field(word, 18, 6) as u32,
+            task,
             call: field(word, 0, 18) as u32,
         })
     }

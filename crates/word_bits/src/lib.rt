@@ -30,4 +30,4 @@ pub use snapshot::Snapshot;
 pub use spin::{Spin, Tail};
 
 /// The largest number of tasks of a script. Task numbers are below it.
-pub const MAX_TASKS: u32 = 64;
+pub const MAX_TASKS: u32 = 400;

@@ -1,8 +1,9 @@
 //! Who owns a mutex, and the owner word.
-ghost use Rattle.std.specs.Prelude.{◌≡◌, ◌<◌};
+ghost use Rattle.std.specs.Prelude.{◌≡◌, ◌≤◌};
 ghost use Rattle.word_bits.specs.Packed.{Unpacks};
 ghost use Rattle.word_bits.specs.OwnerWord.{IsOwner, owner_word, task_code};
 
+use crate::MAX_TASKS;
 use crate::bits::is_set;
 
 /// What an owner word says. With `pickup` the task is the waiter that is to take the mutex, and
@@ -29,7 +30,7 @@ fn code_of(task: Option<u32>) -> u64
 }
 
 fn task_of(code: u64) -> Option<u32>
-    requires { code < 65 }
+    requires { code ≤ MAX_TASKS }
     ensures { task_code result ≡ code }
 {
     match code {
@@ -40,7 +41,7 @@ fn task_of(code: u64) -> Option<u32>
 
 impl Owner {
     /// The word of an owner: the flags `waiters`, `handoff` and `pickup` in bits 0 to 2, and above
-    /// them the task's number plus 1, or 0 without a task. It is below 520.
+    /// them the task's number plus 1, or 0 without a task. It is below 3,208.
     pub fn pack(self) -> u64
         requires { IsOwner self }
         ensures { result ≡ owner_word self }
@@ -55,7 +56,7 @@ impl Owner {
     pub fn unpack(word: u64) -> Option<Owner>
         ensures { Unpacks IsOwner owner_word word result }
     {
-        if word >= 520 {
+        if word / 8 > u64::from(MAX_TASKS) {
             return None;
         }
         Some(Owner {

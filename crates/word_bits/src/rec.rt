@@ -48,6 +48,7 @@ fn errno(number: u64) -> Option<Errno>
     match number {
         9 => Some(Errno::BadF),
         12 => Some(Errno::NoMem),
+        14 => Some(Errno::Fault),
         17 => Some(Errno::Exist),
         22 => Some(Errno::Inval),
         24 => Some(Errno::MFile),

@@ -10,6 +10,7 @@ pub enum Errno {
     Exist,
     Inval,
     MFile,
+    Fault,
 }
 
 impl Errno {
@@ -23,6 +24,7 @@ impl Errno {
             Errno::Exist => 17,
             Errno::Inval => 22,
             Errno::MFile => 24,
+            Errno::Fault => 14,
         }
     }
 }

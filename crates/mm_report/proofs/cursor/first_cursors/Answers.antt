@@ -1,4 +1,4 @@
-use Rattle.std.proofs.Common.{◌≡◌, ◌<◌, ◌≤◌, ℕ, ◌+◌, length, get_or, refl, sym, ap, ◌∙◌, arith, replicate, ◌⊎◌, inl, inr, List, Some}
+use Rattle.std.proofs.Common.{◌≡◌, ◌<◌, ℕ, ◌+◌, length, get_or, refl, sym, ap, ◌∙◌, arith, replicate, ◌⊎◌, inl, inr, List, Some}
 use Rattle.std.specs.Prelude.{count_by}
 use Rattle.std.proofs.Math.ListN.{set}
 use Rattle.std.proofs.lemmas.Bool.{cases_eq}
@@ -15,8 +15,8 @@ abbrev at_record : Cursor → ℕ → Cursor
 at_record c rec = record { line = c.line; rec = rec; position = c.position }
 
 -- at first no task has one
-fresh : (task : ℕ) → task < 64 → get_or (replicate 64 at_start) task no_cursor ≡ at_start
-fresh task within = get_or-replicate 64 task at_start no_cursor within
+fresh : (task : ℕ) → task < 400 → get_or (replicate 400 at_start) task no_cursor ≡ at_start
+fresh task within = get_or-replicate 400 task at_start no_cursor within
 
 -- one more task has its place
 set_more : (cursors : List Cursor) (i : ℕ) (first : ℕ → ℕ) (rec : ℕ) → i < length cursors → rec ≡ first i → get_or cursors i no_cursor ≡ at_start → ((task : ℕ) → task < i → get_or cursors task no_cursor ≡ record { line = 0; rec = first task; position = Some 0 })

@@ -5,7 +5,7 @@ use Rattle.mm_report.proofs.cursor.first_cursors.Given as goal
 abbrev pub invariant-loop-task : goal.invariant-loop-task
 invariant-loop-task l = record {
   rec : l.rec ≡ first_record l.script l.object l.task;
-  all : length l.cursors ≡ 64;
+  all : length l.cursors ≡ 400;
   set : (task : ℕ) → task < l.task → get_or l.cursors task no_cursor ≡ record { line = 0; rec = first_record l.script l.object task; position = Some 0 };
-  unset : (task : ℕ) → l.task ≤ task → task < 64 → get_or l.cursors task no_cursor ≡ at_start;
+  unset : (task : ℕ) → l.task ≤ task → task < 400 → get_or l.cursors task no_cursor ≡ at_start;
 }

@@ -8,7 +8,7 @@ abbrev pub invariant-loop-position : goal.invariant-loop-position
 invariant-loop-position g l = record {
   text : (records : Records) → AreRead l.script l.object l.snapshot.recs records →
       HistoryLeft g.O.Object.object l.script l.object records l.end l.position l.cursors (g.K.Sink.written l.fn.sink) (g.K.Sink.written l.sink) l.fn.out l.out;
-  all : length l.cursors ≡ 64;
+  all : length l.cursors ≡ 400;
   kept : g.K.Sink.faults l.sink ≡ g.K.Sink.faults l.fn.sink;
 }
 

@@ -1,5 +1,5 @@
 -- One more task's calls are counted, and at the end those of all are.
-use Rattle.std.proofs.Common.{◌≡◌, ◌+◌, ◌<◌, ◌∙◌, ℕ, sym, ap, arith}
+use Rattle.std.proofs.Common.{◌∙◌, ap, arith}
 use Rattle.std.specs.Prelude.{count_by, sum_by}
 use Rattle.std.proofs.lemmas.List.{get_or-replicate, take_all}
 use Rattle.task_script.specs.Scripts.{is_on}
@@ -8,7 +8,7 @@ use Rattle.mm_report.proofs.Reserved.{more_sum}
 use Rattle.mm_report.proofs.results.count_calls.Goals as goal
 
 pub loop-task-init : goal.loop-task-init
-loop-task-init c = λ object below. get_or-replicate 16 object 0 0 below
+loop-task-init c = λ object below. get_or-replicate 32 object 0 0 below
 
 pub loop-task-preserved : goal.loop-task-preserved
 loop-task-preserved c = λ object below.

@@ -6,5 +6,5 @@ use Rattle.mm_report.proofs.results.count_task.Given as goal
 abbrev pub invariant-loop-line : goal.invariant-loop-line
 invariant-loop-line l = record {
   counted : AddsCalls (take l.line-index l.line-items) l.fn.counts l.counts;
-  all : length l.counts ≡ 16;
+  all : length l.counts ≡ 32;
 }

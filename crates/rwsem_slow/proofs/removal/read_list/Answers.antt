@@ -1,4 +1,5 @@
 use Rattle.std.proofs.Common.{◌∙◌, ◌≤◌, length, Some, None, arith}
+use Rattle.word_bits.specs.declared.TheConstants.{MAX_TASKS}
 use Rattle.wait_list.proofs.Waiters.{few-tasks}
 use Rattle.rwsem_slow.proofs.Walking.{along-ends, along-full, along-on, along-small, walk-next, walk-steps}
 use Rattle.rwsem_slow.proofs.removal.read_list.Goals as goal
@@ -22,5 +23,5 @@ walk-preserved g c = let v = c.args.pass.now.seat.me.0.view in record {
 }
 
 pub returns-clause-read : goal.returns-clause-read
-returns-clause-read g c = let known = c.args.pass.now.seat.me.0.view.ext.list.list in let few = few-tasks known c.requires.list.sound in let many : 64 ≤ length c.walk.waiters.items = omega arith in
+returns-clause-read g c = let known = c.args.pass.now.seat.me.0.view.ext.list.list in let few = few-tasks known c.requires.list.sound in let many : MAX_TASKS ≤ length c.walk.waiters.items = omega arith in
     along-full known c.walk.waiters.items c.walk.last c.walk.invariant.along few many

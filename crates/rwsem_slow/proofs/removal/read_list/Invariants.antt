@@ -1,4 +1,5 @@
 use Rattle.std.proofs.Common.{◌≡◌, ◌-◌, ◌≤◌, length}
+use Rattle.word_bits.specs.declared.TheConstants.{MAX_TASKS}
 use Rattle.lock_core.specs.Passes.{Sits}
 use Rattle.lock_core.specs.Pasts.{GoesOn, IsOwnStep}
 use Rattle.wait_list.specs.Lists.{only_steps}
@@ -17,4 +18,4 @@ invariant-walk g l = record {
 }
 
 abbrev pub decreases-walk : goal.decreases-walk
-decreases-walk g l = 64 - length l.waiters.items
+decreases-walk g l = MAX_TASKS - length l.waiters.items

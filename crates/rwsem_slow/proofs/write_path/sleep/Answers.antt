@@ -1,9 +1,13 @@
-use Rattle.std.proofs.Common.{ap, arith, inl, refl}
+use Rattle.std.proofs.Common.{◌∙◌, ap, arith, inl, refl}
 use Rattle.rwsem_slow.specs.RwSems.{V}
 use Rattle.rwsem_slow.specs.Places.{seen_of}
 use Rattle.rwsem_slow.proofs.Quitting.{heard-on}
+use Rattle.rwsem_slow.proofs.Vigils.{writer-sleeps}
 use Rattle.lock_core.proofs.Within.{pending-within}
 use Rattle.rwsem_slow.proofs.write_path.sleep.Goals as goal
+
+pub doze-requires-clause-tried : goal.doze-requires-clause-tried
+doze-requires-clause-tried g c = writer-sleeps c.args.pass.now.seat.me.0.view c.pending.new.pass.seat.me.0.view (ap (λ (z : V). z.ext) c.pending.ensures.listens ∙ ap (λ (z : V). z.ext) c.unlock.ensures.kept) c.requires.listed c.requires.tried
 
 pub lock-requires-clause-told : goal.lock-requires-clause-told
 lock-requires-clause-told g c = inl refl

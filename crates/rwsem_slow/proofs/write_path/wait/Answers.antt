@@ -34,15 +34,15 @@ returns-in-Some-sleep-clause-dozed g c = dozes-again _ _ _ _ _ _ _ c.loop.invari
 pub loop-preserved : goal.loop-preserved
 loop-preserved g c = let tries = c.try_queued.ensures.entries in let enters = c.sleep.ensures.entries in let i = c.loop.invariant in
     let once = once-within _ _ _ _ _ _ _ _ c.try_queued.ensures.sleeps (ap (λ (b : SemWake). b.dozes) c.try_queued.ensures.waits.is) c.in_default.ensures.dozed refl refl in (
-  tt,
-  tt,
-  search rules,
-  search rules,
-  search rules,
-  search rules,
-  search rules,
-  turns-again _ _ _ _ _ _ _ _ i.7 (omega (arith, tries, enters)) once,
-  search rules,
-  search rules,
-  dozes-again _ _ _ _ _ _ _ i.10 refl once,
-)
+      tt,
+      tt,
+      search rules,
+      search rules,
+      search rules,
+      search rules,
+      search rules,
+      turns-again _ _ _ _ _ _ _ _ i.7 (omega (arith, tries, enters)) once,
+      search rules,
+      search rules,
+      dozes-again _ _ _ _ _ _ _ i.10 refl once,
+    )

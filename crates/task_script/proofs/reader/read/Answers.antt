@@ -6,10 +6,10 @@ use Rattle.task_script.proofs.Soundness.{accepted_sound}
 use Rattle.task_script.proofs.reader.read.Goals as goal
 
 pub invariant_of-result : goal.invariant_of-result
-invariant_of-result c = subst IsSound (sym c.objects.view_is) (accepted_sound c.args.bytes.now c.in_ok-objects.field-0 c.in_ok-objects.ensures)
+invariant_of-result c = subst IsSound (sym c.version.view_is) (accepted_sound c.args.bytes.now c.in_ok-version.field-0 c.in_ok-version.ensures)
 
 pub returns-clause-few : goal.returns-clause-few
-returns-clause-few c = subst (λ s. 8 * count_of_calls s ≤ length c.args.bytes.now + 1) (sym c.objects.view_is) (few_calls c.args.bytes.now c.in_ok-objects.field-0 c.in_ok-objects.ensures)
+returns-clause-few c = subst (λ s. 8 * count_of_calls s ≤ length c.args.bytes.now + 1) (sym c.version.view_is) (few_calls c.args.bytes.now c.in_ok-version.field-0 c.in_ok-version.ensures)
 
 pub returns-clause-sound : goal.returns-clause-sound
-returns-clause-sound c = subst IsSound (sym c.objects.view_is) (accepted_sound c.args.bytes.now c.in_ok-objects.field-0 c.in_ok-objects.ensures)
+returns-clause-sound c = subst IsSound (sym c.version.view_is) (accepted_sound c.args.bytes.now c.in_ok-version.field-0 c.in_ok-version.ensures)

@@ -6,5 +6,5 @@ abbrev pub invariant-loop-argument : goal.invariant-loop-argument
 invariant-loop-argument l = record {
   left : l.left + l.argument-index ≡ length l.arguments;
   taken : length l.words + l.argument-index ≡ length l.fn.words;
-  read : with_arguments (drop l.argument-index l.arguments) l.words l.values ≡ with_arguments l.arguments l.fn.words no_values;
+  read : with_arguments l.version (drop l.argument-index l.arguments) l.words l.values ≡ with_arguments l.version l.arguments l.fn.words no_values;
 }

@@ -1,5 +1,5 @@
 -- What is returned is what the meaning of the words says, which is exact.
-use Rattle.std.proofs.Common.{◌≡◌, ◌/◌, Option, Some, subst, arith, bit_and}
+use Rattle.std.proofs.Common.{◌≡◌, Option, Some, subst, arith}
 use Rattle.std.proofs.lemmas.Grind.{common_steps}
 use Rattle.word_bits.specs.declared.call.CallWords.{CallWords}
 use Rattle.word_bits.specs.Packed.{IsFound}

@@ -44,7 +44,7 @@ returns-in-Err-clause-interrupted g c = let fronts = fronts_in c.args.pass.now.q
 
 pub returns-in-Ok-clause-opened : goal.returns-in-Ok-clause-opened
 returns-in-Ok-clause-opened g c = λ _. let v = c.args.pass.now.pass.seat.me.0 in let u = c.read_add.new.pass.seat.me.0 in let free = c.in-Ok.ensures.free in let shown_v = shown_of c.args.pass.now in let noted = ap (λ (z : V). z.steps) c.note_reader.ensures.kept in
-    takes-within Shared (λ n. IsReadFree (n + 256)) shown_v shown_v (shown_of (record { pass = c.read_add.new.pass; queue = c.args.pass.now.queue; tally = c.args.pass.now.tally })) (shown_of (record { pass = c.note_reader.new.pass; queue = c.args.pass.now.queue; tally = c.args.pass.now.tally })) refl (omega arith) (λ p t. t)
+    takes-within Shared (λ n. IsReadFree (n + 256)) shown_v shown_v (shown_of (record { pass = c.read_add.new.pass; queue = c.args.pass.now.queue; tally = c.args.pass.now.tally; counts = c.args.pass.now.counts })) (shown_of (record { pass = c.note_reader.new.pass; queue = c.args.pass.now.queue; tally = c.args.pass.now.tally; counts = c.args.pass.now.counts })) refl (omega arith) (λ p t. t)
     (took-since g.O.Object.object c.args.self.now.site.table.shared.key Shared (λ n. IsReadFree (n + 256)) v.view u.view v.past u.past free.0 (v.view.steps, omega arith, c.in-Ok.ensures.took) c.read_add.ensures.last c.read_add.ensures.goes_on free.1 free.2)
     (omega (arith, noted)) c.note_reader.ensures.goes_on
 
@@ -53,7 +53,7 @@ returns-in-Err-clause-opened g c = slow-reads _ c.in-Err.left (seen_of c.read_ad
 
 pub returns-in-Err-clause-counts : goal.returns-in-Err-clause-counts
 returns-in-Err-clause-counts g c = let added = ap (λ (z : V). z.steps) c.in-Err.ensures.transit.3 in
-    counts-reading c.in-Err.left _ _ _ _ (shown_of c.args.pass.now) (shown_of (record { pass = c.read_slowly-got.new.pass; queue = c.args.pass.now.queue; tally = c.answer.new.self })) (seen_of c.read_add.new.pass) (seen_of c.read_slowly-got.new.pass) c.read_slowly-got.result c.read_slowly-got.ensures.line
+    counts-reading c.in-Err.left _ _ _ _ (shown_of c.args.pass.now) (shown_of (record { pass = c.read_slowly-got.new.pass; queue = c.args.pass.now.queue; tally = c.answer.new.self; counts = c.read_slowly-got.new.counts })) (seen_of c.read_add.new.pass) (seen_of c.read_slowly-got.new.pass) c.read_slowly-got.result c.read_slowly-got.ensures.line
     (between-on _ _ _ _ _ _ _ _ c.read_slowly-got.ensures.sleeps (omega (arith, added)) (omega arith) refl refl) c.read_slowly-got.ensures.rescheds c.read_slowly-got.ensures.awake
 
 pub returns-in-Err-clause-slept : goal.returns-in-Err-clause-slept
@@ -66,7 +66,7 @@ returns-in-Err-clause-unasked g c = err-all c.read_slowly-got.result c.read_slow
 -- a reader doesn't enter the spin queue
 pub returns-in-Err-clause-tallied : goal.returns-in-Err-clause-tallied
 returns-in-Err-clause-tallied g c = let v = shown_of c.args.pass.now in
-    tallies-answer c.read_slowly-got.result v v (shown_of (record { pass = c.read_slowly-got.new.pass; queue = c.args.pass.now.queue; tally = c.answer.new.self })) (false, omega arith, refl) c.answer.ensures refl refl
+    tallies-answer c.read_slowly-got.result v v (shown_of (record { pass = c.read_slowly-got.new.pass; queue = c.args.pass.now.queue; tally = c.answer.new.self; counts = c.read_slowly-got.new.counts })) (false, omega arith, refl) c.answer.ensures refl refl
 
 pub returns-in-Err-clause-left : goal.returns-in-Err-clause-left
 returns-in-Err-clause-left g c = λ other. absurd (other (ap (λ (t : Tally). t.left) c.answer.ensures))

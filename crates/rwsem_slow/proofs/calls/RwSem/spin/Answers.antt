@@ -23,7 +23,7 @@ pub returns-clause-saw : goal.returns-clause-saw
 returns-clause-saw g c = λ failed. let looks = c.is_reader_owned.ensures.kept in let steps = ap (λ (z : V). z.steps) looks in let saw = c.spin-took.ensures.saw failed in
     inr (
       saw.0,
-      sees-within (shown_of c.args.pass.now) (seen_of c.is_reader_owned.new.pass) (seen_of c.spin-took.new.pass) (shown_of (record { pass = c.spin-took.new.pass; queue = c.unlock.new.pass; tally = c.args.pass.now.tally }))
+      sees-within (shown_of c.args.pass.now) (seen_of c.is_reader_owned.new.pass) (seen_of c.spin-took.new.pass) (shown_of (record { pass = c.spin-took.new.pass; queue = c.unlock.new.pass; tally = c.args.pass.now.tally; counts = c.args.pass.now.counts }))
           (ap (λ (z : V). z.hand.task) looks) (omega (arith, steps)) c.is_reader_owned.ensures.goes_on saw.1 refl (omega arith) (λ p e. e),
     )
 
@@ -32,7 +32,7 @@ returns-then-need_resched-clause-rescheds g c = answers-rise (g.C.Cpu.rescheds c
 
 pub returns-clause-opened : goal.returns-clause-opened
 returns-clause-opened g c = λ took. let looks = c.is_reader_owned.ensures.kept in let steps = ap (λ (z : V). z.steps) looks in
-    takes-within Alone (IsOpen Spun) (shown_of c.args.pass.now) (seen_of c.is_reader_owned.new.pass) (seen_of c.spin-took.new.pass) (shown_of (record { pass = c.spin-took.new.pass; queue = c.unlock.new.pass; tally = c.args.pass.now.tally }))
+    takes-within Alone (IsOpen Spun) (shown_of c.args.pass.now) (seen_of c.is_reader_owned.new.pass) (seen_of c.spin-took.new.pass) (shown_of (record { pass = c.spin-took.new.pass; queue = c.unlock.new.pass; tally = c.args.pass.now.tally; counts = c.args.pass.now.counts }))
     (ap (λ (z : V). z.hand.task) looks) (omega (arith, steps)) c.is_reader_owned.ensures.goes_on (c.spin-took.ensures.opened took) (omega arith) (λ p t. t)
 
 pub returns-clause-queue : goal.returns-clause-queue

@@ -6,7 +6,7 @@ use Rattle.lock_core.proofs.Within.{err-all, tallies-answer, tried-then}
 use Rattle.osq_nodes.specs.Handles.{fronts_in, swaps_in}
 use Rattle.rwsem_slow.specs.Handles.{shown_of}
 use Rattle.rwsem_slow.specs.RwSems.{V}
-use Rattle.rwsem_slow.proofs.Counting.{err-turns, left-counts, ok-turns, slept-counts}
+use Rattle.rwsem_slow.proofs.Counting.{dozes-none, err-turns, left-counts, ok-turns, slept-counts}
 use Rattle.rwsem_slow.proofs.Showing.{first-sees, first-tried, spun-sees, waits-quit}
 use Rattle.lock_core.specs.declared.how.How.TheVariants.{Fast, Spun}
 use Rattle.lock_core.specs.declared.view.Held.TheVariants.{Alone}
@@ -16,7 +16,7 @@ use Rattle.rwsem_slow.proofs.calls.RwSem.take_alone.Goals as goal
 
 pub returns-clause-interrupted : goal.returns-clause-interrupted
 returns-clause-interrupted g c = let fronts = fronts_in c.args.pass.now.queue in let swaps = swaps_in c.args.pass.now.queue in let tally = c.args.pass.now.tally in let word = c.in-Err.field-0 in let v = c.args.pass.now.pass.seat.me.0 in let a = c.write_try.new.pass.seat.me.0 in let m = c.spin.new.pass.pass.seat.me.0 in let u = c.write_in_line-got.new.pass.seat.me.0 in
-    let first = shown_of (record { pass = c.write_try.new.pass; queue = c.args.pass.now.queue; tally = c.args.pass.now.tally }) in let spun = shown_of c.spin.new.pass in
+    let first = shown_of (record { pass = c.write_try.new.pass; queue = c.args.pass.now.queue; tally = c.args.pass.now.tally; counts = c.args.pass.now.counts }) in let spun = shown_of c.spin.new.pass in
     let is = c.in-Err.ensures.missed in let shut = c.in-Err.ensures.shut in let hand = ap (λ (z : V). z.hand) is in let steps = ap (λ (z : V). z.steps) is in let appends = ap (λ (z : V). z.ext.appends) is in
     let tried = first-tried fronts swaps tally word v.view a.view v.past a.past hand steps (ap (λ (z : V). z.spin.entries) is) appends in let failed = c.spin.ensures.missed c.if-spin.false in
     let sees = spun-sees (shown_of c.args.pass.now) first spun word tried c.write_try.ensures.goes_on (first-sees fronts swaps tally word v.view a.view v.past a.past hand steps false c.write_try.ensures.last c.in-Err.ensures.found c.write_try.ensures.goes_on (shut.1, shut.0)) failed c.spin.ensures.goes_on (c.spin.ensures.saw c.if-spin.false) in
@@ -31,22 +31,22 @@ returns-in_default-clause-opened g c = let v = c.args.pass.now.pass.seat.me.0 in
 
 pub returns-then-spin-clause-opened : goal.returns-then-spin-clause-opened
 returns-then-spin-clause-opened g c = let is = c.in-Err.ensures.missed in let steps = ap (λ (z : V). z.steps) is in let after = shown_of c.spin.new.pass in
-    takes-within Alone (IsOpen Spun) (shown_of c.args.pass.now) (shown_of (record { pass = c.write_try.new.pass; queue = c.args.pass.now.queue; tally = c.args.pass.now.tally })) after after
+    takes-within Alone (IsOpen Spun) (shown_of c.args.pass.now) (shown_of (record { pass = c.write_try.new.pass; queue = c.args.pass.now.queue; tally = c.args.pass.now.tally; counts = c.args.pass.now.counts })) after after
     (ap (λ (z : V). z.hand.task) is) (omega (arith, steps)) c.write_try.ensures.goes_on (c.spin.ensures.opened c.if-spin.true) (omega arith) (λ p t. t)
 
 pub returns-clause-opened : goal.returns-clause-opened
-returns-clause-opened g c = let is = c.in-Err.ensures.missed in let steps = ap (λ (z : V). z.steps) is in let failed = c.spin.ensures.missed c.if-spin.false in let more = failed.keeps.counts.steps in let after = shown_of (record { pass = c.write_in_line-got.new.pass; queue = c.spin.new.pass.queue; tally = c.answer.new.self }) in
+returns-clause-opened g c = let is = c.in-Err.ensures.missed in let steps = ap (λ (z : V). z.steps) is in let failed = c.spin.ensures.missed c.if-spin.false in let more = failed.keeps.counts.steps in let after = shown_of (record { pass = c.write_in_line-got.new.pass; queue = c.spin.new.pass.queue; tally = c.answer.new.self; counts = c.write_in_line-got.new.counts }) in
     slept-takes (shown_of c.args.pass.now) (shown_of c.spin.new.pass) after after c.write_in_line-got.result (failed.keeps.task ∙ ap (λ (z : V). z.hand.task) is) (omega (arith, steps, more)) (λ p t. c.spin.ensures.goes_on p (c.write_try.ensures.goes_on p t)) (omega arith) (λ p t. t) c.write_in_line-got.ensures.slept c.write_in_line-got.ensures.opened
 
 -- the entries of the wait lock up to the list
 pub returns-clause-counts : goal.returns-clause-counts
 returns-clause-counts g c = let entries : c.spin.new.pass.pass.seat.me.0.view.spin.entries ≡ c.args.pass.now.pass.seat.me.0.view.spin.entries = c.spin.ensures.entries ∙ ap (λ (z : V). z.spin.entries) c.in-Err.ensures.missed in let spun = c.spin.ensures.rescheds in let same = c.write_in_line-got.ensures.rescheds in
-    slept-counts _ _ _ _ (shown_of c.args.pass.now) (shown_of (record { pass = c.write_in_line-got.new.pass; queue = c.spin.new.pass.queue; tally = c.answer.new.self })) c.write_in_line-got.result c.write_in_line-got.ensures.slept
+    slept-counts _ _ _ _ (shown_of c.args.pass.now) (shown_of (record { pass = c.write_in_line-got.new.pass; queue = c.spin.new.pass.queue; tally = c.answer.new.self; counts = c.write_in_line-got.new.counts })) c.write_in_line-got.result c.write_in_line-got.ensures.slept
     (ok-turns 1 _ _ _ _ _ _ c.write_in_line-got.result entries c.spin.ensures.sleeps c.write_in_line-got.ensures.turns) (omega (arith, spun, same))
 
 pub returns-clause-slept : goal.returns-clause-slept
 returns-clause-slept g c = let entries : c.spin.new.pass.pass.seat.me.0.view.spin.entries ≡ c.args.pass.now.pass.seat.me.0.view.spin.entries = c.spin.ensures.entries ∙ ap (λ (z : V). z.spin.entries) c.in-Err.ensures.missed in let spun = c.spin.ensures.rescheds in let same = c.write_in_line-got.ensures.rescheds in
-    left-counts _ _ _ _ (shown_of c.args.pass.now) (shown_of (record { pass = c.write_in_line-got.new.pass; queue = c.spin.new.pass.queue; tally = c.answer.new.self })) c.write_in_line-got.result
+    left-counts _ _ _ _ (shown_of c.args.pass.now) (shown_of (record { pass = c.write_in_line-got.new.pass; queue = c.spin.new.pass.queue; tally = c.answer.new.self; counts = c.write_in_line-got.new.counts })) c.write_in_line-got.result
     (err-turns 2 _ _ _ _ _ _ c.write_in_line-got.result entries c.spin.ensures.sleeps c.write_in_line-got.ensures.awake) (omega (arith, spun, same))
 
 pub returns-then-spin-clause-goes_on : goal.returns-then-spin-clause-goes_on
@@ -59,7 +59,10 @@ pub returns-then-spin-clause-tallied : goal.returns-then-spin-clause-tallied
 returns-then-spin-clause-tallied g c = tallies-answer (Ok Spun) (shown_of c.args.pass.now) (shown_of c.spin.new.pass) (shown_of c.spin.new.pass) c.spin.ensures.tallied refl refl refl
 
 pub returns-clause-tallied : goal.returns-clause-tallied
-returns-clause-tallied g c = tallies-answer c.write_in_line-got.result (shown_of c.args.pass.now) (shown_of c.spin.new.pass) (shown_of (record { pass = c.write_in_line-got.new.pass; queue = c.spin.new.pass.queue; tally = c.answer.new.self })) c.spin.ensures.tallied c.answer.ensures refl refl
+returns-clause-tallied g c = tallies-answer c.write_in_line-got.result (shown_of c.args.pass.now) (shown_of c.spin.new.pass) (shown_of (record { pass = c.write_in_line-got.new.pass; queue = c.spin.new.pass.queue; tally = c.answer.new.self; counts = c.write_in_line-got.new.counts })) c.spin.ensures.tallied c.answer.ensures refl refl
 
 pub returns-clause-left : goal.returns-clause-left
 returns-clause-left g c = λ other. subst (Rises (g.C.C.Cpu.rescheds c.args.cpu.now)) (sym c.write_in_line-got.ensures.rescheds) (c.spin.ensures.left (λ same. other (ap (λ (t : Tally). t.left) c.answer.ensures ∙ same)))
+
+pub returns-then-spin-clause-dozed : goal.returns-then-spin-clause-dozed
+returns-then-spin-clause-dozed g c = dozes-none _ _ _ _ c.spin.ensures.sleeps c.spin.ensures.still.dozes

@@ -8,4 +8,4 @@ pub returns : goal.returns
 returns c =
     let all = declared_new c.args.name c.args.kind c.self.inside.objects.entries (rw (← c.self.view_is) at c.requires.new) in
     let entries = on_ok c.insert.result c.if-is_err.ensures.negation c.insert.ensures.entries in
-    rw (← c.self.view_is) (ap (λ objects. Ok (let l : Listing = record { objects = objects; tasks = map (λ v. v.items) c.self.inside.tasks.items } in l)) (sym (ap (map declared_of) entries ∙ all)))
+    rw (← c.self.view_is) (ap (λ objects. Ok (let l : Listing = record { version = c.self.inside.version; objects = objects; tasks = map (λ v. v.items) c.self.inside.tasks.items } in l)) (sym (ap (map declared_of) entries ∙ all)))

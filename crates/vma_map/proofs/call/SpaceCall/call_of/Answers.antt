@@ -8,5 +8,5 @@ use Rattle.vma_map.proofs.call.SpaceCall.call_of.Goals as goal
 
 pub returns-clause-exact : goal.returns-clause-exact
 returns-clause-exact c =
-    let value : call_of c.args.words ≡ c.call_with.result = grind (arith, common_steps) in
+    let value : call_of c.args.words ≡ c.call_in.result = grind (arith, common_steps) in
     subst (IsFound (IsCallOf c.args.words)) value (call_of-exact c.args.words)

@@ -1,0 +1,80 @@
+//! What no clause says: a signal that came before ends a wait for a semaphore before the task
+//! sleeps, and the task leaves the list. Who releases then sets no wake word.
+ghost use Rattle.std.specs.Prelude.{◌≡◌, None};
+ghost use Rattle.rwsem_slow.specs.Handles.{hand_in};
+ghost use Rattle.rwsem_slow.specs.Standing.{IsReady};
+
+use super::pairs::{NO_TURNS, Pair, open_pair};
+use crate::mutex::watched::{Watch, WatchedCrew};
+use cpu_task::Crew;
+use lock_core::{Interrupted, Nothing};
+use rwsem_slow::{RwPass, RwSem};
+use std::sync::atomic::Ordering;
+use std::test::Fail;
+use word_bits::MAX_TASKS;
+
+/// Sends the signal that the next call of the pass's task is, and answers its target. `None` where
+/// that call is no signal to a task.
+fn send(sem: &RwSem<Nothing>, pass: &mut RwPass<Nothing>) -> Option<u32>
+    requires ready { IsReady sem.now pass.old }
+    requires unsent { (hand_in pass.old).sent ≡ None }
+    ensures { IsReady sem.now pass.new }
+{
+    let task = sem.task(pass)?;
+    let call = sem.done(pass);
+    if task >= sem.tasks() || call >= sem.calls(task) {
+        return None;
+    }
+    let target = sem.call(pass, task, call).signal()?;
+    if target >= MAX_TASKS {
+        return None;
+    }
+    sem.signal(pass, target);
+    Some(target)
+}
+
+#[test]
+fn a_reader_that_a_signal_ended_is_woken_by_nobody(rt: HostRuntime) -> Result<(), Fail> {
+    let Pair {
+        sem,
+        mut holder,
+        mut waiter,
+    } = open_pair(&rt, rt.alloc())?;
+    let watch = Watch::default();
+    let mut crew = WatchedCrew { watch: &watch };
+    let mut cpu = crew.cpu(rt.alloc(), 1, NO_TURNS)?;
+    assert_eq!(rt; send(&sem, &mut holder), Some(1));
+    assert!(rt; sem.down_write_trylock(&mut holder).is_ok());
+    assert_eq!(rt;
+        sem.down_read_interruptible(&rt, &mut waiter, &mut cpu, &crew),
+        Err(Interrupted { sent: 1, taken: 0 })
+    );
+    assert_eq!(rt; watch.sleeps.load(Ordering::SeqCst), 0);
+    sem.up_write(&rt, &mut holder, &crew);
+    assert_eq!(rt; holder.wakes(), 0);
+    assert_eq!(rt; waiter.dozes(), 0);
+    Ok(())
+}
+
+#[test]
+fn a_writer_that_a_signal_ended_is_woken_by_nobody(rt: HostRuntime) -> Result<(), Fail> {
+    let Pair {
+        sem,
+        mut holder,
+        mut waiter,
+    } = open_pair(&rt, rt.alloc())?;
+    let watch = Watch::default();
+    let mut crew = WatchedCrew { watch: &watch };
+    let mut cpu = crew.cpu(rt.alloc(), 1, NO_TURNS)?;
+    assert_eq!(rt; send(&sem, &mut holder), Some(1));
+    assert!(rt; sem.down_write_trylock(&mut holder).is_ok());
+    assert_eq!(rt;
+        sem.down_write_interruptible(&rt, &mut waiter, &mut cpu, &crew),
+        Err(Interrupted { sent: 1, taken: 0 })
+    );
+    assert_eq!(rt; watch.sleeps.load(Ordering::SeqCst), 0);
+    sem.up_write(&rt, &mut holder, &crew);
+    assert_eq!(rt; holder.wakes(), 0);
+    assert_eq!(rt; waiter.dozes(), 0);
+    Ok(())
+}
