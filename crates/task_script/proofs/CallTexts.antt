@@ -19,7 +19,7 @@ use Rattle.task_script.specs.declared.verb.Verb.TheVariants.{Map, MapAny, MapNew
 use Rattle.task_script.specs.declared.verb.Argument.{Argument}
 use Rattle.task_script.specs.declared.verb.Argument.TheVariants.{First, Second, Third, File, Target, Protection, AccessBit}
 use Rattle.task_script.specs.declared.verb.Values.{Values}
-use Rattle.task_script.specs.Cuts.{words}
+use Rattle.task_script.specs.Cuts.{is_clean, words}
 use Rattle.task_script.specs.Tokens.{number, prot, access}
 use Rattle.task_script.specs.Verbs.{with_argument, with_arguments, arguments_of, no_values, is_on_kind, takes_mode, kind_of, verb_text, call_with, call_on, call_words_of}
 use Rattle.task_script.specs.Sound.{IsAccess, IsInRange, only, IsCall}
@@ -28,7 +28,7 @@ use Rattle.task_script.specs.Texts.{prot_text, access_text, argument_text, argum
 use Rattle.task_script.proofs.Accepted.{text_same}
 use Rattle.task_script.proofs.Decimals.{number-decimal, digits-decimal, some-decimal}
 use Rattle.task_script.specs.Padding.{is_visible}
-use Rattle.task_script.proofs.Splitting.{is_clean, words-cut, words-visible, clean-visible, clean-append}
+use Rattle.task_script.proofs.Splitting.{words-cut, words-visible, clean-visible, clean-append}
 
 -- values whose fields can be packed
 pub record AreSmall (v : Values) : Type 0 where

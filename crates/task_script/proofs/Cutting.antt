@@ -1,11 +1,11 @@
 -- A text, cut at the first byte that passes.
-use Rattle.std.proofs.Common.{◌≡◌, ℕ, ◌+◌, ◌<◌, ◌≤◌, zero, suc, Bool, true, false, List, [], ◌∷◌, ◌++◌, length, take, refl, ap, arith, nat_lt, Option, Some, None}
+use Rattle.std.proofs.Common.{◌≡◌, ℕ, ◌+◌, ◌<◌, ◌≤◌, zero, suc, Bool, true, false, List, [], ◌∷◌, ◌++◌, length, take, drop, refl, ap, arith, nat_lt, Option, Some, None}
 use Rattle.std.specs.Prelude.{slice_index}
 use Rattle.std.proofs.lemmas.Bool.Decides.{nat_tests}
-use Rattle.std.specs.List.{between, slice_split, position, position_or_len}
+use Rattle.std.specs.List.{between, list_all, slice_split, position, position_or_len}
 use Rattle.std.proofs.lemmas.List.Splits.{slice_split_first}
 use Rattle.std.proofs.lemmas.Slice.{between_to_end}
-use Rattle.std.proofs.lemmas.Bool.{ne_eqb}
+use Rattle.std.proofs.lemmas.Bool.{and_parts, ne_eqb}
 use Rattle.memchr.specs.Find.{IsFirstByte}
 use Rattle.task_script.specs.Cuts.{without_return}
 
@@ -38,6 +38,15 @@ cut_at p bs i found = go (nat_lt (position_or_len p bs) (length bs)) refl
         let here : position_or_len p bs ≡ i = cc in
         rw (between_to_end bs (i + 1) (length bs) (omega arith), ← here) (slice_split_first p bs 0 (grind (arith, nat_tests)))
     go false outside = let e = rw outside at found in cc
+
+-- what passes for each byte does for each behind a place
+all_behind : (p : ℕ → Bool) (bs : List ℕ) (i : ℕ) → list_all p bs ≡ true → list_all p (drop i bs) ≡ true
+all_behind p bs zero all = all
+all_behind p [] (suc i) all = refl
+all_behind p (b ∷ bs) (suc i) all = all_behind p bs i (and_parts (p b) (list_all p bs) all).1
+
+pub kept_behind : (p : ℕ → Bool) (bs : List ℕ) (i : ℕ) → i < length bs → list_all p bs ≡ true → list_all p (between (i + 1) (length bs) bs) ≡ true
+kept_behind p bs i within all = rw (between_to_end bs (i + 1) (length bs) (omega arith)) (all_behind p bs (i + 1) all)
 
 -- a carriage return at the end is dropped
 pub drops_return : (line front : List ℕ) → line ≡ front ++ 13 ∷ [] → front ≡ without_return line

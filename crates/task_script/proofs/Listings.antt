@@ -1,11 +1,14 @@
 -- What a script keeps, and what of it is read.
-use Rattle.std.proofs.Common.{◌≡◌, ℕ, ◌+◌, ◌<◌, ◌≤◌, Bool, true, false, cond, not, zero, suc, List, [], ◌∷◌, ◌++◌, length, get_or, map, refl, sym, ap, subst, ◌∙◌, arith, Some, None, nat_lt, nat_eq, All, Result, Ok, Err, is_ok}
+use Rattle.std.proofs.Common.{◌≡◌, ℕ, ◌+◌, ◌<◌, ◌≤◌, Bool, true, false, cond, not, zero, suc, List, [], ◌∷◌, ◌++◌, length, length-append, ◌&&◌, get_or, map, refl, sym, ap, subst, ◌∙◌, arith, Some, None, nat_lt, nat_eq, All, Result, Ok, Err, is_ok}
 use Rattle.std.specs.Prelude.{slice_get, slice_set, position, OnOk}
 use Rattle.std.specs.List.{position_or_len, AllByRecursion}
 use Rattle.std.specs.Global.{Vec}
 use Rattle.std.specs.Str.{bytes_eq}
 use Rattle.std.specs.Cmp.Lexicographic.{pointwise}
+use Rattle.std.proofs.lemmas.Bool.{and_parts, and_from}
 use Rattle.std.proofs.lemmas.List.{length-map}
+use Rattle.std.proofs.lemmas.List.Folds.{list_all-append}
+use Rattle.std.proofs.lemmas.Slice.Eq.{bytes_eq-Decides}
 use Rattle.std.proofs.lemmas.Option.{slice_get-map, slice_get_read, slice_get_within, same_Some}
 use Rattle.std.proofs.lemmas.Bool.Decides.{nat_tests}
 use Rattle.arrayvec.specs.ArrayString.{ArrayString}
@@ -15,7 +18,7 @@ use Rattle.task_script.specs.declared.version.Version.{Version}
 use Rattle.task_script.specs.declared.script.Kind.{Kind}
 use Rattle.task_script.specs.declared.script.Kind.TheVariants.{Space, Table}
 use Rattle.task_script.specs.Scripts.{Declared}
-use Rattle.task_script.specs.Inside.{declared_of, is_space_kind}
+use Rattle.task_script.specs.Inside.{are_named, declared_of, is_space_kind}
 use Rattle.task_script.specs.Texts.{name_at}
 use Rattle.task_script.specs.Tokens.{is_name}
 use Rattle.task_script.specs.Sound.{IsLine, AreNamed}
@@ -96,6 +99,33 @@ declared_new k kind entries none = declared_last k kind entries (go (nat_lt (pos
     go : (t : Bool) → nat_lt (position_or_len (λ (d : Declared). bytes_eq k.bytes d.name) (map declared_of entries)) (length (map declared_of entries)) ≡ t → length entries ≤ position_or_len (λ (d : Declared). bytes_eq k.bytes d.name) (map declared_of entries)
     go true inside = let e = rw inside at none in cc
     go false outside = rw length-map at (let past : length (map declared_of entries) ≤ position_or_len (λ (d : Declared). bytes_eq k.bytes d.name) (map declared_of entries) = grind (arith, nat_tests) in past)
+
+-- a name that is found is one
+named_place : (name : List ℕ) (ds : List Declared) → are_named ds ≡ true → position_or_len (λ (d : Declared). bytes_eq name d.name) ds < length ds → is_name name ≡ true
+named_place name [] named within = absurd (omega arith)
+named_place name (d ∷ ds) named within = go (bytes_eq name d.name) refl (named_place name ds (and_parts (is_name d.name) (are_named ds) named).1)
+  where
+    go : (t : Bool) → bytes_eq name d.name ≡ t → (position_or_len (λ (d : Declared). bytes_eq name d.name) ds < length ds → is_name name ≡ true) → is_name name ≡ true
+    go true same rest = rw ((bytes_eq-Decides name d.name).0 same) (and_parts (is_name d.name) (are_named ds) named).0
+    go false other rest =
+        let more : position_or_len (λ (d : Declared). bytes_eq name d.name) (d ∷ ds) ≡ 1 + position_or_len (λ (d : Declared). bytes_eq name d.name) ds = rw other refl in
+        rest (omega arith)
+
+pub found_named : (name : List ℕ) (ds : List Declared) (i : ℕ) → are_named ds ≡ true → place_of name ds ≡ Some i → is_name name ≡ true
+found_named name ds i named found = go (nat_lt (position_or_len (λ (d : Declared). bytes_eq name d.name) ds) (length ds)) refl
+  where
+    go : (t : Bool) → nat_lt (position_or_len (λ (d : Declared). bytes_eq name d.name) ds) (length ds) ≡ t → is_name name ≡ true
+    go true inside = named_place name ds named (grind (arith, nat_tests))
+    go false outside = let e = rw outside at found in cc
+
+-- one more object with a name leaves few objects with names
+pub named_more : (objects : List Declared) (d : Declared) (entries : List (ArrayString × Kind)) → map declared_of entries ≡ objects ++ d ∷ [] → length objects < 32 → are_named objects ≡ true → is_name d.name ≡ true
+    → (length entries ≤ 32) × (are_named (map declared_of entries) ≡ true)
+named_more objects d entries added few named is =
+    let len : length (map declared_of entries) ≡ length (objects ++ d ∷ []) = ap length added in (
+      omega (arith, length-map entries declared_of, length-append objects (d ∷ [])),
+      rw added (list_all-append (λ (d : Declared). is_name d.name) objects (d ∷ []) ∙ and_from (are_named objects) (is_name d.name && true) named (and_from (is_name d.name) true is refl)),
+    )
 
 -- the last task has one more call
 pub call_added : (tasks : List (Vec Line)) (v w : Vec Line) (l : Line) (n : ℕ) → length tasks ≡ suc n → v ≡ get_or tasks n v → w.items ≡ v.items ++ l ∷ []

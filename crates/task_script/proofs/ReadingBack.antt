@@ -13,7 +13,7 @@ use Rattle.word_bits.specs.Calls.{mode_of}
 use Rattle.task_script.specs.declared.script.Line.{Line}
 use Rattle.task_script.specs.declared.version.Version.{Version}
 use Rattle.task_script.specs.declared.version.Version.TheVariants.{One, Two}
-use Rattle.task_script.specs.Cuts.{is_empty, lines, words}
+use Rattle.task_script.specs.Cuts.{is_clean, is_empty, lines, words}
 use Rattle.task_script.specs.Tokens.{is_lower, is_name_byte, has_name_bytes, is_name, keyword_of}
 use Rattle.task_script.specs.Scripts.{Declared, Listing, nothing, call_words}
 use Rattle.task_script.specs.Sound.{IsLine, AreNamed, IsSound}
@@ -23,7 +23,7 @@ use Rattle.task_script.specs.Grammar.{place_of, with_call, line_of, declare_line
 use Rattle.task_script.proofs.CallTexts.{IsCallText, call_text_is}
 use Rattle.task_script.proofs.Reading.{short_script}
 use Rattle.task_script.specs.Padding.{is_visible}
-use Rattle.task_script.proofs.Splitting.{is_clean, words-cut, words-visible, clean-visible, clean-append, clean_line}
+use Rattle.task_script.proofs.Splitting.{words-cut, words-visible, clean-visible, clean-append, clean_line}
 
 -- reading this text leads from a script to a script, whatever line it begins at and whatever stands behind it
 abbrev Reaches : (s t : Listing) → List ℕ → Type 0

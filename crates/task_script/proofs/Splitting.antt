@@ -1,12 +1,12 @@
 -- Texts of lines and words, cut again.
-use Rattle.std.proofs.Common.{◌≡◌, ℕ, ◌+◌, Bool, true, false, cond, not, ◌&&◌, ◌==◌, List, [], ◌∷◌, ◌++◌, filter, length, refl, ap, ◌∙◌, arith}
+use Rattle.std.proofs.Common.{◌≡◌, ℕ, ◌+◌, Bool, true, false, cond, not, ◌==◌, List, [], ◌∷◌, ◌++◌, filter, length, refl, sym, ap, ◌∙◌, arith}
 use Rattle.std.specs.List.{list_all, slice_split, onto_first, position_or_len}
 use Rattle.std.proofs.lemmas.Bool.{and_parts, and_from}
 use Rattle.std.proofs.lemmas.Bool.Decides.{nat_tests}
 use Rattle.std.proofs.lemmas.List.{take_all}
 use Rattle.std.proofs.lemmas.List.Elements.{filter-append}
 use Rattle.std.proofs.lemmas.List.Folds.{list_all-append}
-use Rattle.task_script.specs.Cuts.{is_blank, is_empty, is_plain, lines, uncommented, without_return, words}
+use Rattle.task_script.specs.Cuts.{is_blank, is_clean, is_clean_or_feed, is_empty, is_plain, lines, uncommented, without_return, words}
 use Rattle.task_script.specs.Scripts.{Listing}
 use Rattle.task_script.specs.Padding.{is_visible}
 use Rattle.task_script.specs.Grammar.{said, text_after, line_after, then_lines, lines_after}
@@ -33,10 +33,6 @@ slice_split-cut p (x ∷ xs) y ys cuts = go (p x) (some_part p xs) (slice_split-
 -- so are their words
 pub words-cut : (xs ys : List ℕ) → words (xs ++ 32 ∷ ys) ≡ words xs ++ words ys
 words-cut xs ys = ap (filter (λ w. not (is_empty w))) (slice_split-cut is_blank xs 32 ys refl) ∙ filter-append (λ w. not (is_empty w)) (slice_split is_blank xs) (slice_split is_blank ys)
-
--- a byte of a line in front of a comment
-abbrev pub is_clean : ℕ → Bool
-is_clean b = is_plain b && not (b == 35)
 
 visible_clean : (b : ℕ) → is_visible b ≡ true → is_clean b ≡ true
 visible_clean b is = grind (arith, nat_tests)
@@ -106,3 +102,24 @@ pub clean_line : (n : ℕ) (s : Listing) (line rest : List ℕ) → list_all is_
 clean_line n s line rest all =
     ap (lines_after n s) (slice_split-cut (λ b. b == 10) line 10 rest refl ∙ ap (λ parts. parts ++ lines rest) (one_part (λ b. b == 10) is_clean clean_line_end line all))
     ∙ ap (λ a. then_lines n a (λ t. lines_after (n + 1) t (lines rest))) (text_after-clean s line all)
+
+-- a byte of a clean text that ends no line is of a line
+clean_byte : (b : ℕ) → is_clean_or_feed b ≡ true → (b == 10) ≡ false → is_clean b ≡ true
+clean_byte b is other = grind (arith, nat_tests)
+
+-- the lines of a clean text are clean
+pub clean_lines : (text : List ℕ) → list_all is_clean_or_feed text ≡ true → list_all (list_all is_clean) (lines text) ≡ true
+clean_lines [] all = refl
+clean_lines (b ∷ bs) all =
+    let parts = and_parts (is_clean_or_feed b) (list_all is_clean_or_feed bs) all in
+    go (b == 10) refl (some_part (λ c. c == 10) bs) (clean_lines bs parts.1) parts.0
+  where
+    go : (t : Bool) → (b == 10) ≡ t → (part : List ℕ) × (parts : List (List ℕ)) × (lines bs ≡ part ∷ parts) → list_all (list_all is_clean) (lines bs) ≡ true → is_clean_or_feed b ≡ true → list_all (list_all is_clean) (cond t ([] ∷ lines bs) (onto_first b (lines bs))) ≡ true
+    go true ends first rest is = rest
+    go false on first rest is =
+        let others = and_parts (list_all is_clean first.0) (list_all (list_all is_clean) first.1) (rw first.2 at rest) in
+        rw (first.2, clean_byte b is on) (and_from (list_all is_clean first.0) (list_all (list_all is_clean) first.1) others.0 others.1)
+
+-- and a clean line says itself, which is plain
+pub clean_said : (line : List ℕ) → list_all is_clean line ≡ true → (line ≡ said line) × (list_all is_plain line ≡ true)
+clean_said line all = (sym (said-clean line all), list_all-weaker is_clean is_plain clean_plain line all)

@@ -14,6 +14,14 @@ is_blank b = (b == 32) || (b == 9)
 abbrev pub is_plain : ℕ → Bool
 is_plain b = is_blank b || (nat_le 33 b && nat_le b 126)
 
+-- a byte of a line in front of a comment
+abbrev pub is_clean : ℕ → Bool
+is_clean b = is_plain b && not (b == 35)
+
+-- such a byte, or a line feed
+abbrev pub is_clean_or_feed : ℕ → Bool
+is_clean_or_feed b = is_clean b || (b == 10)
+
 -- what stands before, between and behind the line feeds
 abbrev pub lines : List ℕ → List (List ℕ)
 lines text = slice_split (λ b. b == 10) text

@@ -1,6 +1,7 @@
 -- What of a script is kept, and what of it contracts see.
 use Rattle.std.specs.Prelude.{◌≡◌, ℕ, Bool, true, false, List, map, Option, Some, None}
 use Rattle.std.specs.Global.{Vec}
+use Rattle.std.specs.List.{list_all}
 use Rattle.arrayvec.specs.ArrayString.{ArrayString}
 use Rattle.task_script.specs.declared.script.Line.{Line}
 use Rattle.task_script.specs.declared.version.Version.{Version}
@@ -18,6 +19,10 @@ declared_of entry = record { name = entry.0.bytes; is_space = is_space_kind entr
 
 abbrev pub listing : Version → List (ArrayString × Kind) → List (Vec Line) → Listing
 listing version objects tasks = record { version = version; objects = map declared_of objects; tasks = map (λ v. v.items) tasks }
+
+-- each object has a name
+abbrev pub are_named : List Declared → Bool
+are_named objects = list_all (λ d. is_name d.name) objects
 
 -- the name that a word is, if it is one
 abbrev pub NameIs : List ℕ → Option ArrayString → Type 0

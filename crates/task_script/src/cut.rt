@@ -1,18 +1,12 @@
 //! Cutting a text into lines, and a line into words.
 ghost use Rattle.std.specs.Prelude.{◌≡◌, ◌==◌, ◌∷◌, ◌<◌, ℕ, Bool, true, false, [], length, position, MatchBool, MatchOption, IfSome};
 ghost use Rattle.std.specs.List.{list_all, slice_split};
-ghost use Rattle.task_script.specs.Cuts.{is_blank, is_plain, lines, uncommented, without_return};
+ghost use Rattle.task_script.specs.Cuts.{is_blank, is_clean, is_clean_or_feed, is_plain, lines, uncommented, without_return};
 ghost use Rattle.task_script.specs.Grammar.{said};
 ghost use Rattle.task_script.specs.Parts.{IsBegunOtherwise, parts_of};
 
 use memchr::memchr;
 use std::marker::Model;
-
-fn blank(byte: u8) -> bool
-    ensures { result ≡ is_blank byte }
-{
-    byte == b' ' || byte == b'\t'
-}
 
 fn place_of(bytes: &[u8], at: u8) -> Option<usize>
     ensures place { result ≡ position (λ b. b == at) bytes.now }
@@ -21,20 +15,29 @@ fn place_of(bytes: &[u8], at: u8) -> Option<usize>
     memchr(at, bytes)
 }
 
+/// Where the first blank stands. Among plain bytes each up to the space is one.
 fn first_blank(bytes: &[u8]) -> Option<usize>
+    requires { list_all is_plain bytes.now ≡ true }
     ensures place { result ≡ position is_blank bytes.now }
     ensures within { IfSome result (λ place. place < length bytes.now) }
 {
-    bytes.iter().position(|byte| blank(*byte))
+    for (place, byte) in bytes.iter().enumerate() {
+        if *byte <= b' ' {
+            return Some(place);
+        }
+    }
+    None
 }
 
 /// What stands before a place, and what stands behind it. Without a place all stands before.
-#[tactic(auto, using(crate::proofs::Cutting::cut_at, crate::proofs::Cutting::uncut))]
+#[tactic(auto, using(crate::proofs::Cutting::cut_at, crate::proofs::Cutting::uncut, crate::proofs::Cutting::kept_behind))]
 fn cut(bytes: &[u8], place: Option<usize>) -> (&[u8], Option<&[u8]>)
     requires { IfSome place (λ place. place < length bytes.now) }
     ensures parts { (cuts : ℕ → Bool) → position cuts bytes.now ≡ place →
         slice_split cuts bytes.now ≡ result.0.now ∷ parts_of cuts result.1 }
     ensures shorter { IfSome result.1 (λ rest. length rest.now < length bytes.now) }
+    ensures kept { (passes : ℕ → Bool) → list_all passes bytes.now ≡ true →
+        IfSome result.1 (λ rest. list_all passes rest.now ≡ true) }
 {
     match place {
         Some(place) => (&bytes[..place], Some(&bytes[place + 1..])),
@@ -75,17 +78,40 @@ fn plain_front(line: &[u8]) -> Option<&[u8]>
     Some(line)
 }
 
+/// Whether a clean text may have the byte: a line feed, a blank, or a visible character but `#`.
+fn clean_or_feed(byte: u8) -> bool
+    ensures { result ≡ is_clean_or_feed byte }
+{
+    byte == b'\n' || byte == b'\t' || (b' ' <= byte && byte <= b'~' && byte != b'#')
+}
+
 /// What a line says: without a carriage return at its end, and without a comment. `None` where a
-/// byte of it is neither a blank nor a visible character.
-pub(crate) fn said(line: &[u8]) -> Option<&[u8]>
+/// byte of it is neither a blank nor a visible character. A clean line says all of itself.
+pub(crate) fn said(line: &[u8], clean: bool) -> Option<&[u8]>
+    requires { clean ≡ true → list_all is_clean line.now ≡ true }
     ensures { MatchOption result
         (list_all is_plain (said line.now) ≡ false)
         (λ front. (front.now ≡ said line.now) × (list_all is_plain front.now ≡ true)) }
 {
+    if clean {
+        return Some(line);
+    }
     plain_front(without_return(line))
 }
 
-/// The words of a line that weren't taken yet. Contracts see their list.
+/// Whether a text is clean: it has line feeds, blanks and visible characters alone, and no comment.
+/// This one look at all of it spares each line a look of its own.
+pub(crate) fn is_clean_text(text: &[u8]) -> bool
+    ensures { result ≡ list_all is_clean_or_feed text.now }
+{
+    let mut clean = true;
+    for byte in text {
+        clean &= clean_or_feed(*byte);
+    }
+    clean
+}
+
+/// The words of a plain line that weren't taken yet. Contracts see their list.
 #[derive(Drop)]
 pub(crate) struct Words<'a> {
     rest: Option<&'a [u8]>,
@@ -94,17 +120,20 @@ pub(crate) struct Words<'a> {
 impl<'a> Model for Words<'a> {
     ghost use Rattle.std.specs.Prelude.{ℕ, List, not, filter};
     ghost use Rattle.task_script.specs.Cuts.{is_blank, is_empty};
-    ghost use Rattle.task_script.specs.Parts.{IsBegunOtherwise, parts_of};
+    ghost use Rattle.task_script.specs.Parts.{IsBegunOtherwise, IsPlainLeft, parts_of};
 
     ghost Value = { List (List ℕ) };
 
     ghost view = { λ w. filter (λ v. not (is_empty v)) (parts_of is_blank w.rest) };
+
+    ghost invariant = { λ w. IsPlainLeft w.rest };
 }
 
 impl<'a> Words<'a> {
     ghost use Rattle.task_script.specs.Cuts.{words};
 
     pub(crate) fn new(line: &'a [u8]) -> Words<'a>
+        requires { list_all is_plain line.now ≡ true }
         ensures { result ≡ words line.now }
     {
         Words { rest: Some(line) }

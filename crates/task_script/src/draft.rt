@@ -1,13 +1,15 @@
 //! A script while its lines are read.
-ghost use Rattle.std.specs.Prelude.{◌≡◌, ◌<◌, ◌++◌, ◌∷◌, [], length, map, position, IfSome, None, Ok};
+ghost use Rattle.std.specs.Prelude.{◌≡◌, ◌<◌, ◌++◌, ◌∷◌, [], length, map, position, IfSome, None, Ok, if◌then◌else◌, true};
+ghost use Rattle.std.specs.List.{list_all};
 ghost use Rattle.std.specs.Str.{bytes_eq};
-ghost use Rattle.task_script.specs.Cuts.{words};
+ghost use Rattle.task_script.specs.Cuts.{is_clean, words};
 ghost use Rattle.task_script.specs.Grammar.{call_line, declare_line, line_after, line_of, object_line};
 ghost use Rattle.task_script.specs.Grammar.{is_begun, is_space_at, place_of, task_line, text_after, version_line, with_call};
 ghost use Rattle.task_script.specs.Inside.{declared_of, is_space_kind};
 ghost use Rattle.task_script.specs.Parts.{all_words};
 ghost use Rattle.task_script.specs.Scripts.{nothing};
 ghost use Rattle.task_script.specs.Readings.{Becomes};
+ghost use Rattle.task_script.specs.Tokens.{is_name};
 
 use crate::cut::{Words, said};
 use crate::reason::Reason;
@@ -45,15 +47,24 @@ pub(crate) struct Draft {
 }
 
 impl Model for Draft {
-    ghost use Rattle.std.specs.Prelude.{◌≤◌, length};
-    ghost use Rattle.task_script.specs.Inside.{listing};
+    ghost use Rattle.std.specs.Prelude.{◌≡◌, ◌≤◌, length, map, true};
+    ghost use Rattle.task_script.specs.Inside.{are_named, declared_of, listing};
     ghost use Rattle.task_script.specs.Scripts.{Listing};
 
     ghost Value = { Listing };
 
     ghost view = { λ d. listing d.version d.objects.entries d.tasks.items };
 
-    ghost invariant = { λ d. length d.objects.entries ≤ 32 };
+    ghost invariant = { λ d. (length d.objects.entries ≤ 32)
+        × (are_named (map declared_of d.objects.entries) ≡ true) };
+}
+
+/// Whether a key is the name. Names that differ mostly do so in their last byte.
+fn is_key(key: &Name, name: &[u8]) -> bool
+    ensures { result ≡ bytes_eq name.now key.now.bytes }
+{
+    let key = key.as_str().as_bytes();
+    name.len() == key.len() && name.last() == key.last() && *name == *key
 }
 
 /// The place of a name among those of the objects.
@@ -61,9 +72,18 @@ fn place_of(objects: &IndexMap<Name, Kind>, name: &[u8]) -> Option<usize>
     ensures { result ≡ position (λ key. bytes_eq name.now key.bytes)
         (map (λ entry. entry.0) objects.now.entries) }
 {
-    objects
-        .keys()
-        .position(|key| name == key.as_str().as_bytes())
+    objects.keys().position(|key| is_key(key, name))
+}
+
+/// Why no object has the name.
+fn unknown(name: &[u8]) -> Reason
+    ensures { result ≡ if is_name name.now then Reason.Unknown else Reason.Name }
+{
+    if names_object(name) {
+        Reason::Unknown
+    } else {
+        Reason::Name
+    }
 }
 
 impl Draft {
@@ -100,6 +120,7 @@ impl Draft {
     fn place(&self, name: &[u8]) -> Option<u32>
         ensures place { result ≡ place_of name.now self.now.objects }
         ensures declared { IfSome result (λ place. place < length self.now.objects) }
+        ensures named { IfSome result (λ place. is_name name.now ≡ true) }
     {
         let place = place_of(&self.objects, name)?;
         Some(place as u32)
@@ -115,6 +136,7 @@ impl Draft {
     fn push_object(&mut self, name: Name, kind: Kind) -> Result<(), LineError>
         requires new { place_of name.bytes self.old.objects ≡ None }
         requires few { length self.old.objects < 32 }
+        requires named { is_name name.bytes ≡ true }
         ensures { Becomes result self.new (Ok record { version = self.old.version; objects = self.old.objects ++ declared_of (name, kind) ∷ []; tasks = self.old.tasks }) }
     {
         if self.objects.insert(name, kind).is_err() {
@@ -184,10 +206,9 @@ impl Draft {
         if self.tasks.is_empty() {
             return Err(Reason::Place.into());
         }
-        if !names_object(name) {
-            return Err(Reason::Name.into());
-        }
-        let object = self.place(name).ok_or(Reason::Unknown)?;
+        let Some(object) = self.place(name) else {
+            return Err(unknown(name).into());
+        };
         self.call_on(mode, object, words)
     }
 
@@ -209,11 +230,12 @@ impl Draft {
         self.call(mode, name, words)
     }
 
-    /// Reads one more line.
-    pub(crate) fn line(&mut self, alloc: Global, line: &[u8]) -> Result<(), LineError>
+    /// Reads one more line, which may be known to be clean.
+    pub(crate) fn line(&mut self, alloc: Global, line: &[u8], clean: bool) -> Result<(), LineError>
+        requires { clean ≡ true → list_all is_clean line.now ≡ true }
         ensures { Becomes result self.new (text_after self.old line.now) }
     {
-        let line = said(line).ok_or(Reason::Byte)?;
+        let line = said(line, clean).ok_or(Reason::Byte)?;
         self.line_of(alloc, Words::new(line))
     }
 }

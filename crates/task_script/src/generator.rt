@@ -92,7 +92,7 @@ fn one_space(alloc: Global) -> Result<IndexMap<Name, Kind>, AllocError>
     ensures { IfOk result (λ m. map declared_of m.entries ≡ the_space ∷ []) }
 {
     let mut draft = Draft::new(alloc);
-    match draft.line(alloc, b"space m") {
+    match draft.line(alloc, b"space m", true) {
         Ok(()) => Ok(draft.objects),
         Err(LineError::Memory) => Err(AllocError),
         Err(LineError::Refused(_)) => unreachable!(),

@@ -1,4 +1,4 @@
-//! Reads a script in one pass over its text.
+//! Reads a script line by line, after one look over its whole text.
 ghost use Rattle.std.specs.Prelude.{◌≡◌, ◌+◌, ◌*◌, ◌≤◌, length, IfOk};
 ghost use Rattle.task_script.specs.Cuts.{lines};
 ghost use Rattle.task_script.specs.Grammar.{lines_after, script_of};
@@ -6,7 +6,7 @@ ghost use Rattle.task_script.specs.Scripts.{count_of_calls, nothing};
 ghost use Rattle.task_script.specs.Sound.{IsSound};
 ghost use Rattle.task_script.specs.Readings.{Reads, ReadsLines};
 
-use crate::cut::first_line;
+use crate::cut::{first_line, is_clean_text};
 use crate::draft::{Draft, LineError};
 use crate::reason::Reason;
 use crate::script::Script;
@@ -29,16 +29,18 @@ fn refused(line: u32, reason: Reason) -> ScriptError
     ScriptError::Refused { line, reason }
 }
 
+#[tactic(auto, using(crate::proofs::Splitting::clean_lines))]
 fn read_lines(alloc: Global, bytes: &[u8]) -> Result<Draft, ScriptError>
     requires { length bytes.now ≤ 1048576 }
     ensures { ReadsLines result (lines_after 1 nothing (lines bytes.now)) }
 {
+    let clean = is_clean_text(bytes);
     let mut draft = Draft::new(alloc);
     let mut rest = Some(bytes);
     let mut number = 1;
     while let Some(text) = rest {
         let (line, behind) = first_line(text);
-        match draft.line(alloc, line) {
+        match draft.line(alloc, line, clean) {
             Ok(()) => {}
             Err(LineError::Refused(reason)) => return Err(refused(number, reason)),
             Err(LineError::Memory) => return Err(ScriptError::Memory),

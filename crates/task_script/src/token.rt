@@ -86,6 +86,9 @@ fn has_leading_zero(word: &[u8]) -> bool
     }
 }
 
+/// The most digits of a number below 2^32.
+const MOST_DIGITS: usize = 10;
+
 /// The number that a word is: `0`, or decimal digits that begin with 1 to 9, below 2^32.
 pub fn number_of(word: &[u8]) -> Option<u32>
     ensures { result ≡ number word.now }
@@ -93,18 +96,17 @@ pub fn number_of(word: &[u8]) -> Option<u32>
     if has_leading_zero(word) {
         return None;
     }
-    let mut value: u32 = 0;
+    if word.len() > MOST_DIGITS {
+        return None;
+    }
+    let mut value: u64 = 0;
     for digit in word {
         if !digit.is_ascii_digit() {
             return None;
         }
-        let longer = u64::from(value) * 10 + u64::from(*digit - b'0');
-        if longer > u64::from(u32::MAX) {
-            return None;
-        }
-        value = longer as u32;
+        value = value * 10 + u64::from(*digit - b'0');
     }
-    Some(value)
+    u32::try_from(value).ok()
 }
 
 /// The access that the word stands for, as the bits of its protection.

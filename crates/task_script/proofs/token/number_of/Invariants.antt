@@ -8,5 +8,5 @@ abbrev pub invariant-loop-digit : goal.invariant-loop-digit
 invariant-loop-digit l = record {
   value : value_after l.value (drop l.digit-index l.word) ≡ value_after 0 l.word;
   digits : list_all is_ascii_digit (drop l.digit-index l.word) ≡ list_all is_ascii_digit l.word;
-  fits : l.value < 2 ^ 32;
+  fits : l.value < 10 ^ l.digit-index;
 }
