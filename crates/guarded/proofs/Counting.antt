@@ -8,6 +8,7 @@ use Rattle.word_bits.specs.declared.reply.Reply.TheVariants.{Num, Refused}
 use Rattle.word_bits.specs.PageMaps.{PageMap, runs}
 use Rattle.lock_core.specs.Records.{bit}
 use Rattle.vma_map.specs.Spaces.{changed, with_range, populated, readable}
+use Rattle.std.specs.List.{AllByRecursion}
 use Rattle.std.proofs.lemmas.List.{take_more}
 use Rattle.word_bits.specs.declared.area.Area.{Area}
 use Rattle.vma_map.specs.Runs.{page_map, AreRuns}
@@ -77,6 +78,40 @@ shares-more areas i d start end below = ap (λ xs. shares xs start end) (take_mo
 pub shares-le : (areas : List Area) (start end : ℕ) → shares areas start end ≤ covered areas
 shares-le [] start end = omega arith
 shares-le (a ∷ areas) start end = let rest = shares-le areas start end in let here = part-le ((a.prot % 2) == 1) (min a.end end - max a.start start) in omega (arith, rest, here)
+
+-- areas that end at the first page or before it have no share
+pub shares-ended : (areas : List Area) (start end : ℕ) → AllByRecursion (λ a. a.end ≤ start) areas → shares areas start end ≡ 0
+shares-ended [] start end all = refl
+shares-ended (a ∷ areas) start end all = let e = all.0 in let z : min a.end end - max a.start start ≡ 0 = omega (arith, e) in let here = part-none ((a.prot % 2) == 1) (min a.end end - max a.start start) z in let rest = shares-ended areas start end all.1 in omega (arith, here, rest)
+
+-- all up to one that has ended have
+pub ended-by : (areas : List Area) (i : ℕ) (d : Area) (page : ℕ) → AreRuns areas → i < length areas → (get_or areas i d).end ≤ page → AllByRecursion (λ a. a.end ≤ page) (take (suc i) areas)
+ended-by [] i d page runs below ended = absurd (omega (arith, below))
+ended-by (a ∷ areas) zero d page runs below ended = (ended, tt)
+ended-by (a ∷ []) (suc i) d page runs below ended = absurd (omega (arith, below))
+ended-by (a ∷ (b ∷ areas)) (suc i) d page runs below ended =
+    let rest = ended-by (b ∷ areas) i d page runs.2 (omega (arith, below)) ended in
+    let first = rest.0 in
+    let ascend = runs.1.ascend in
+    let some = (AreRuns-head b areas runs.2).some in
+    (omega (arith, first, ascend, some), rest)
+
+-- nor have areas of which the first begins at the end or behind it
+pub shares-behind : (a : Area) (areas : List Area) (start end : ℕ) → AreRuns (a ∷ areas) → end ≤ a.start → shares (a ∷ areas) start end ≡ 0
+shares-behind a [] start end runs low = let z : min a.end end - max a.start start ≡ 0 = omega (arith, low) in let here = part-none ((a.prot % 2) == 1) (min a.end end - max a.start start) z in omega (arith, here)
+shares-behind a (b ∷ areas) start end runs low =
+    let ascend = runs.1.ascend in
+    let some = (AreRuns-head a (b ∷ areas) runs).some in
+    let z : min a.end end - max a.start start ≡ 0 = omega (arith, low) in
+    let here = part-none ((a.prot % 2) == 1) (min a.end end - max a.start start) z in
+    let rest = shares-behind b areas start end runs.2 (omega (arith, low, ascend, some)) in
+    omega (arith, here, rest)
+
+-- so the areas in front of such a one have all shares
+pub shares-front : (areas : List Area) (i : ℕ) (d : Area) (start end : ℕ) → AreRuns areas → i < length areas → end ≤ (get_or areas i d).start → shares areas start end ≡ shares (take i areas) start end
+shares-front [] i d start end runs below low = absurd (omega (arith, below))
+shares-front (a ∷ areas) zero d start end runs below low = shares-behind a areas start end runs low
+shares-front (a ∷ areas) (suc i) d start end runs below low = ap (λ (n : ℕ). share a start end + n) (shares-front areas i d start end (AreRuns-tail a areas runs) (omega (arith, below)) low)
 
 -- an end behind all pages is as good as another
 pub shares-end : (areas : List Area) (start end end' : ℕ) → AreRuns areas → (end ≡ end') ⊎ ((1048576 ≤ end) × (1048576 ≤ end')) → shares areas start end ≡ shares areas start end'

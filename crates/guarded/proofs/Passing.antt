@@ -1,5 +1,5 @@
 -- One call of a lock after another.
-use Rattle.std.proofs.Common.{◌≡◌, zero, suc, ◌+◌, ◌<◌, ◌≤◌, ◌∷◌, ◌∙◌, arith}
+use Rattle.std.proofs.Common.{◌∙◌, arith}
 use Rattle.lock_core.specs.Shown.{Shown, AllButHand}
 use Rattle.lock_core.specs.Locking.{Looks}
 

@@ -1,5 +1,6 @@
 //! What a holder looks for in an address space under its lock.
-ghost use Rattle.std.specs.Prelude.{◌≡◌, ◌≢◌, ◌<◌, Some, length, slice_get};
+ghost use Rattle.std.specs.Prelude.{◌≡◌, ◌≢◌, ◌<◌, ◌≤◌, Some, length, slice_get, take};
+ghost use Rattle.std.specs.List.{AllByRecursion};
 ghost use Rattle.word_bits.specs.PageMaps.{PageMap, IsPageMap, runs};
 ghost use Rattle.lock_core.specs.declared.view.Held.TheVariants.{No};
 ghost use Rattle.lock_core.specs.Shown.{PastGoesOn};
@@ -53,7 +54,33 @@ pub(crate) fn area_at<L: SleepLock<Areas>>(lock: &L, pass: &mut L::Pass, at: usi
     }
 }
 
-/// How many pages of a range admit reading, area by area.
+/// How many areas end at a page or before it: each of the first so many does.
+fn count_ended<L: SleepLock<Areas>>(lock: &L, pass: &mut L::Pass, page: u32, count: usize) -> usize
+    requires own { L.sits lock.now pass.old }
+    requires held { (L.view pass.old).hand.held ≢ No }
+    requires areas { HaveAreas (L.view pass.old).hand.known }
+    requires all { count ≡ length (areas_in (L.view pass.old).hand.known) }
+    ensures own { L.sits lock.now pass.new }
+    ensures goes_on { PastGoesOn (L.view pass.old) (L.view pass.new) }
+    ensures kept { Looks (L.view pass.old) (L.view pass.new) }
+    ensures within { result ≤ count }
+    ensures ended { AllByRecursion (λ area. area.end ≤ page)
+        (take result (areas_in (L.view pass.old).hand.known)) }
+{
+    let mut low = 0;
+    let mut high = count;
+    while low < high {
+        let middle = low + (high - low) / 2;
+        if area_at(lock, pass, middle).end <= page {
+            low = middle + 1;
+        } else {
+            high = middle;
+        }
+    }
+    low
+}
+
+/// How many pages of a range admit reading, by the areas that meet it.
 pub(crate) fn count_readable<L: SleepLock<Areas>>(
     lock: &L,
     pass: &mut L::Pass,
@@ -72,9 +99,13 @@ pub(crate) fn count_readable<L: SleepLock<Areas>>(
     let count = lock.word(pass, 0) as usize;
     let end = start.saturating_add(len);
     let mut pages = 0;
-    for at in 0..count {
-        // Nobody writes while the pass holds, so the areas are those of one moment.
+    // Nobody writes while the pass holds, so the areas are those of one moment.
+    for at in count_ended(lock, pass, start, count)..count {
         let area = area_at(lock, pass, at);
+        if end <= area.start {
+            // The areas stand in order, so none behind this one meets the range.
+            return pages;
+        }
         pages += readable_between(area, start, end);
     }
     pages

@@ -1,6 +1,6 @@
 -- Each area's share of the range is counted once.
-use Rattle.std.proofs.Common.{◌≡◌, ◌+◌, ◌<◌, ◌≤◌, ◌⊎◌, inl, inr, Some, length, take, sym, ap, subst, ◌∙◌, arith}
-use Rattle.std.specs.List.{slice_get}
+use Rattle.std.proofs.Common.{◌≡◌, ◌+◌, ◌<◌, ◌≤◌, ◌⊎◌, inl, inr, min, Some, ℕ, List, length, take, sym, ap, subst, ◌∙◌, arith}
+use Rattle.std.specs.List.{AllByRecursion, slice_get}
 use Rattle.std.proofs.lemmas.List.{take_all}
 use Rattle.std.proofs.lemmas.Option.{get_or_from_slice_get}
 use Rattle.word_bits.specs.declared.area.Area.{Area}
@@ -9,7 +9,7 @@ use Rattle.vma_map.proofs.WordLemmas.{AreRuns-take}
 use Rattle.vma_map.proofs.CountLemmas.{covered-le}
 use Rattle.guarded.specs.Serving.{share}
 use Rattle.guarded.specs.Splicing.{HaveAreas, areas_in}
-use Rattle.guarded.proofs.Counting.{shares, shares-more, shares-le, shares-end, counted-runs}
+use Rattle.guarded.proofs.Counting.{shares, shares-more, shares-le, shares-end, shares-ended, shares-front, counted-runs}
 use Rattle.guarded.proofs.Passing.{looks-trans}
 use Rattle.guarded.proofs.Spliced.{number-of}
 use Rattle.guarded.proofs.Written.{same-known}
@@ -17,6 +17,27 @@ use Rattle.guarded.proofs.searching.count_readable.Goals as goal
 
 pub area_at-area-requires-clause-areas : goal.area_at-area-requires-clause-areas
 area_at-area-requires-clause-areas g c = subst HaveAreas (sym (same-known (g.L.SleepLock.view c.args.pass.now) (g.L.SleepLock.view c.loop-at.pass) c.loop-at.invariant.1)) c.requires.areas
+
+-- the end of the range, or both ends lie behind all pages
+fits : (start len end : ℕ) → end ≡ min (start + len) 4294967295 → (end ≡ start + len) ⊎ ((1048576 ≤ end) × (1048576 ≤ start + len))
+fits start len end is = elim (native.Mathlib.Decide.dec_le (start + len) 4294967295) [
+  | yes few ↦ inl (omega (arith, is, few))
+  | no many ↦ inr (omega (arith, is, many), omega (arith, many))
+]
+
+pub loop-at-init : goal.loop-at-init
+loop-at-init g c =
+    let v = g.L.SleepLock.view c.args.pass.now in
+    let u = g.L.SleepLock.view c.word-count.new.pass in
+    let w = g.L.SleepLock.view c.count_ended-at.new.pass in
+    let n = c.count_ended-at.result in
+    let end = c.saturating_add-end.result in
+    let ended = subst (λ (ws : List ℕ). AllByRecursion (λ (a : Area). a.end ≤ c.args.start) (take n (areas_in ws))) (same-known v u c.word-count.ensures.kept) c.count_ended-at.ensures.ended in (
+      c.count_ended-at.ensures.own,
+      looks-trans v u w c.word-count.ensures.kept c.count_ended-at.ensures.kept,
+      (λ p t. c.count_ended-at.ensures.goes_on p (c.word-count.ensures.goes_on p t)),
+      sym (shares-ended (take n (areas_in v.hand.known)) c.args.start end ended),
+    )
 
 pub area_at-area-requires-clause-inside : goal.area_at-area-requires-clause-inside
 area_at-area-requires-clause-inside g c =
@@ -73,9 +94,20 @@ returns-clause-pages g c =
     let is = c.saturating_add-end.ensures in
     let number = c.word-count.ensures.value ∙ number-of v.hand.known c.requires.areas in
     let out = c.loop-at-test.false in
-    let fits : (end ≡ c.args.start + c.args.len) ⊎ ((1048576 ≤ end) × (1048576 ≤ c.args.start + c.args.len)) = elim (native.Mathlib.Decide.dec_le (c.args.start + c.args.len) 4294967295) [
-      | yes few ↦ inl (omega (arith, is, few))
-      | no many ↦ inr (omega (arith, is, many), omega (arith, many))
-    ] in
     let whole = ap (λ xs. shares xs c.args.start end) (take_all c.loop-at.at areas (omega (arith, number, out))) in
-    c.loop-at.invariant.3 ∙ (whole ∙ (shares-end areas c.args.start end (c.args.start + c.args.len) runs fits ∙ sym (counted-runs areas runs c.args.start c.args.len)))
+    c.loop-at.invariant.3 ∙ (whole ∙ (shares-end areas c.args.start end (c.args.start + c.args.len) runs (fits c.args.start c.args.len end is) ∙ sym (counted-runs areas runs c.args.start c.args.len)))
+
+pub returns-then-end-area-clause-pages : goal.returns-then-end-area-clause-pages
+returns-then-end-area-clause-pages g c =
+    let v = g.L.SleepLock.view c.args.pass.now in
+    let u = g.L.SleepLock.view c.loop-at.pass in
+    let areas = areas_in v.hand.known in
+    let i = c.loop-at.at in
+    let end = c.saturating_add-end.result in
+    let runs = c.requires.areas.space.runs in
+    let number = c.word-count.ensures.value ∙ number-of v.hand.known c.requires.areas in
+    let test = c.loop-at-test.true in
+    let inside : i < length areas = omega (arith, number, test) in
+    let is : slice_get areas i ≡ Some c.area_at-area.result = ap (λ ws. slice_get (areas_in ws) i) (sym (same-known v u c.loop-at.invariant.1)) ∙ c.area_at-area.ensures.area in
+    let low = subst (λ (a : Area). end ≤ a.start) (sym (get_or_from_slice_get areas i c.area_at-area.result no_area is)) c.if-end-area.true in
+    c.loop-at.invariant.3 ∙ (sym (shares-front areas i no_area c.args.start end runs inside low) ∙ (shares-end areas c.args.start end (c.args.start + c.args.len) runs (fits c.args.start c.args.len end c.saturating_add-end.ensures) ∙ sym (counted-runs areas runs c.args.start c.args.len)))
