@@ -20,6 +20,7 @@ use crate::parts;
 use crate::parts::Released;
 use crate::rule::MutexRule;
 use cpu_task::{Cpu, Crew};
+use crossbeam_utils::Backoff;
 use lock_core::{How, Interrupted, Pass, Site};
 use osq_nodes::OsqPass;
 use std::sync::Wait;
@@ -56,6 +57,7 @@ pub fn spin_outside<O: Object, W: Wait, C: Cpu>(
     ensures rescheds { C.rescheds cpu.old ≤ C.rescheds cpu.new }
     ensures stops { result ≡ false → Rises (C.rescheds cpu.old) (C.rescheds cpu.new) }
 {
+    let backoff = Backoff::new();
     for _ in rt.forever() {
         let Err(_) = parts::try_outside(site, rt, pass) else {
             return true;
@@ -63,6 +65,7 @@ pub fn spin_outside<O: Object, W: Wait, C: Cpu>(
         if cpu.need_resched() {
             return false;
         }
+        backoff.snooze();
     }
     unreachable!()
 }

@@ -34,6 +34,7 @@ fn spin<C: Cpu, W: Wait>(osq: &Osq, rt: &W, pass: &mut OsqPass, cpu: &mut C, tas
     ensures rescheds { C.rescheds cpu.old ≤ C.rescheds cpu.new }
     ensures sleeps { C.sleeps cpu.new ≡ C.sleeps cpu.old }
 {
+    let backoff = Backoff::new();
     for _ in rt.forever() {
         if is_granted(osq, pass, task) {
             return true;
@@ -41,6 +42,7 @@ fn spin<C: Cpu, W: Wait>(osq: &Osq, rt: &W, pass: &mut OsqPass, cpu: &mut C, tas
         if cpu.need_resched() {
             return false;
         }
+        backoff.snooze();
     }
     unreachable!()
 }

@@ -21,6 +21,7 @@ use crate::rule::SemRule;
 use crate::view::RwSemHand;
 use atomic_table::Play;
 use cpu_task::Cpu;
+use crossbeam_utils::Backoff;
 use lock_core::view::View;
 use lock_core::{Held, Op, Pass, SPIN_ROOM, Site};
 use osq_nodes::OsqPass;
@@ -191,6 +192,7 @@ pub fn spin<O: Object, W: Wait, C: Cpu>(
     ensures sleeps { C.sleeps cpu.new ≡ C.sleeps cpu.old }
     ensures rescheds { C.rescheds cpu.old ≤ C.rescheds cpu.new }
 {
+    let backoff = Backoff::new();
     for _ in rt.forever() {
         if try_outside(site, rt, pass) {
             return true;
@@ -203,6 +205,7 @@ pub fn spin<O: Object, W: Wait, C: Cpu>(
         if cpu.need_resched() {
             return false;
         }
+        backoff.snooze();
     }
     unreachable!()
 }
