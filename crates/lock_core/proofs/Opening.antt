@@ -47,7 +47,7 @@ zero-at zero i = refl
 zero-at (suc n) zero = refl
 zero-at (suc n) (suc i) = zero-at n i
 
-zero-in : (n i : ℕ) (ys : List ℕ) → i < n → get_or (replicate {A = ℕ} n 0 ++ ys) i 0 ≡ 0
+pub zero-in : (n i : ℕ) (ys : List ℕ) → i < n → get_or (replicate {A = ℕ} n 0 ++ ys) i 0 ≡ 0
 zero-in n i ys l = get-front (replicate {A = ℕ} n 0) ys i (omega (arith, length-replicate {A = ℕ} n 0)) ∙ zero-at n i
 
 empty-row : (n t : ℕ) → row (replicate {A = List Rec} n []) t ≡ []

@@ -1,5 +1,5 @@
 -- The steps on a site's words, from the laws of `SiteRule`.
-use Rattle.std.proofs.Common.{◌-◌, ◌≡◌, ◌≢◌, ℕ, ◌+◌, inl, inr, List, [], ◌∷◌, ◌++◌, get_or, map, set, drop, None, Some, refl, sym, ap, subst, ◌∙◌, arith, ◌%◌, ◌<◌}
+use Rattle.std.proofs.Common.{◌-◌, ◌≡◌, ◌≢◌, ℕ, ◌+◌, inl, inr, List, [], ◌∷◌, ◌++◌, get_or, map, set, drop, None, Some, refl, sym, ap, subst, ◌∙◌, arith, ◌%◌, ◌<◌, ◌≤◌, length}
 use Rattle.std.proofs.lemmas.List.{get_or-drop, drop-set-add}
 use mathlib.Core.Option.{some, none}
 use mathlib.Core.List.{map-append}
@@ -28,6 +28,9 @@ use Rattle.lock_core.specs.Pasts.{ChangesOneWord, KeepsJoined, GoesOn, Instant, 
 use Rattle.lock_core.proofs.RowLaws.{same-some}
 use Rattle.lock_core.proofs.Living.{older, goes-on, grown, lived-after, own-step, own-marks}
 use Rattle.lock_core.proofs.Steps.{loads, stores, exchanges, modifies}
+use Rattle.word_bits.specs.declared.TheConstants.{MAX_TASKS}
+use Rattle.lock_core.specs.Stored.{LivedStored}
+use Rattle.lock_core.proofs.Storing.{allows-stored, stored-first}
 use Rattle.lock_core.proofs.SeatSteps.{site-splits, site-gathers, site-leaves}
 
 module _ {E Call : Type 0} (o : Obj Call) (unavailable : Unavailable) (size : ℕ) (k : Plan) (rests : View E → Type 0)
@@ -112,11 +115,15 @@ module _ {E Call : Type 0} (o : Obj Call) (unavailable : Unavailable) (size : �
       (site-leaves o unavailable size k (site k ws) (set hs id g) other w.hand (site-gathers o unavailable size k (site k ws) hs id other v.hand w.hand (kept ws vs h) at at' mine) (set_else hs id other g apart ∙ at') free out)
 
 module _ {E : Type 0} (k : Plan) (marks : E → List ℕ) (begun : Plan → Moment) (holds : Plan → List ℕ → List (View E) → Type 0) (moves : Plan → ℕ → List ℕ → List (View E) → List ℕ → List (View E) → Type 0) where
+  -- what a load tells of the run
+  abbrev Recalled : Me (Unit {0}) (Seen E) → ℕ → Me (Unit {0}) (Seen E) → Type 0
+  Recalled me n m' = (m'.0.view ≡ ticked me.0.view) × (m'.1 ≡ me.1) × GoesOn me.0.past m'.0.past × IsOwnStep m'.0.view m'.0.past × IsMarked marks m'.0.view m'.0.past × ((p : Plan) → me.0.view.hand.plan ≡ Some p → Ran marks (begun p) (Moves (holds p) (moves p)) m'.0.past) × KeepsJoined me.0.joined m'.0.past
+
   -- a load that tells the run
   pub recalls : (slots id : ℕ) (me : Me (Unit {0}) (Seen E)) → me.0.view.hand.plan ≡ Some k
       → ((ws : List ℕ) (vs : List (View E)) (id at : ℕ) (v : View E) → holds k ws vs → get_elem? vs id ≡ some v → Goes (holds k) (moves k) id ws vs ws (set vs id (ticked v)))
       → Allows (λ s. Lived marks (begun k) (holds k) (moves k) s.words s.views) slots id me 0 (λ n. n)
-      (λ n m'. (m'.0.view ≡ ticked me.0.view) × (m'.1 ≡ me.1) × GoesOn me.0.past m'.0.past × IsOwnStep m'.0.view m'.0.past × IsMarked marks m'.0.view m'.0.past × ((p : Plan) → me.0.view.hand.plan ≡ Some p → Ran marks (begun p) (Moves (holds p) (moves p)) m'.0.past) × KeepsJoined me.0.joined m'.0.past)
+      (Recalled me)
   recalls slots id me plan looks s r l at small = let vs : List (View E) = map view_of s.views in let v = me.0.view in let there = at_map view_of s.views id me.0 at in let ws' : List ℕ = set s.words 0 (get_or s.words 0 0) in
       let one : ChangesOneWord s.words ws' = (0, get_or s.words 0 0, refl) in let goes : Goes (holds k) (moves k) id s.words vs ws' (set vs id (ticked v)) = subst (λ (z : List ℕ). Goes (holds k) (moves k) id s.words vs z (set vs id (ticked v))) (sym (set-get_or s.words 0 0)) (looks s.words vs id 0 v r.1 there) in
       let lived = lived-after marks (begun k) (holds k) (moves k) s.words ws' s.views id (ticked v) r goes one in let g : Seen E = grown marks (begun k) (holds k) (moves k) s.words vs ws' r.0 id (ticked v) in let new : Instant E = instant ws' (set vs id (ticked v)) in let now : Instant E = instant s.words vs in
@@ -136,3 +143,9 @@ module _ {E : Type 0} (k : Plan) (marks : E → List ℕ) (begun : Plan → Mome
           λ i p e. goes-on p.moments (moment marks new ∷ h) (older (moment marks new) h p.moments ((r.4 id me.0 at).joined i p e)),
         ),
       )
+
+  -- the same, where the table stores the first word
+  pub recalls-stored : (slots id : ℕ) (me : Me (Unit {0}) (Seen E)) → length k ≤ MAX_TASKS → me.0.view.hand.plan ≡ Some k
+      → ((ws : List ℕ) (vs : List (View E)) (id at : ℕ) (v : View E) → holds k ws vs → get_elem? vs id ≡ some v → Goes (holds k) (moves k) id ws vs ws (set vs id (ticked v)))
+      → Allows (λ s. LivedStored marks (begun k) (holds k) (moves k) k s.words s.views) slots id me 0 (λ n. n) (Recalled me)
+  recalls-stored slots id me few plan looks = allows-stored marks (begun k) (holds k) (moves k) k slots id 0 0 me (λ n. n) (Recalled me) few (omega arith) (stored-first (length k)) (recalls slots id me plan looks)

@@ -1,6 +1,7 @@
 pub mod Ops
 pub mod Plans
 pub mod Layout
+pub mod Stores
 pub mod Regions
 pub mod Records
 pub mod Totals
@@ -14,6 +15,7 @@ pub mod Sites
 pub mod Moves
 pub mod MoveLaws
 pub mod Pasts
+pub mod Stored
 pub mod RunLaws
 pub mod Spins
 pub mod SpinLaws

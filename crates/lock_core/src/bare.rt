@@ -114,6 +114,8 @@ impl SpinHost for Bare {
 
     ghost may_free = { λ _. Unit {0} };
 
+    ghost spin_first = { refl };
+
     ghost spin_inside = { spins-inside };
 
     ghost spin_some = { one-some };

@@ -17,7 +17,7 @@ pub mod view;
 
 pub use bare::{Bare, Nothing};
 pub use how::{How, Interrupted};
-pub use layout::{LENGTH_AT, LOCK_WORDS, SPIN_LOCKS, SPIN_ROOM, SPIN_WORDS};
+pub use layout::{LENGTH_AT, LOCK_WORDS, ROW_WORDS, SPIN_LOCKS, SPIN_ROOM, SPIN_WORDS};
 pub use nest::Nest;
 pub use op::Op;
 pub use pass::Pass;

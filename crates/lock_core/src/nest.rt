@@ -1,5 +1,5 @@
 //! The rule of a table with eight spin locks alone.
-ghost use Rattle.std.specs.Prelude.{[]};
+ghost use Rattle.std.specs.Prelude.{[], refl};
 ghost use Rattle.lock_core.specs.Nothings.{never};
 ghost use Rattle.lock_core.specs.LockHands.{RestsEverywhere};
 ghost use Rattle.lock_core.specs.SpinTables.{SpinTableKept, SpinTableMoves, table-site, table-sites, table-opens, table-splits, table-joins, table-spins, table-spin, spins-inside, one-eight, eight-most, apart-out};
@@ -53,6 +53,8 @@ impl SpinHost for Nest {
     ghost LOCKS = { 8 };
 
     ghost may_free = { λ _. Unit {0} };
+
+    ghost spin_first = { refl };
 
     ghost spin_inside = { spins-inside };
 

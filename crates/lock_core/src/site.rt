@@ -1,7 +1,7 @@
 //! Sites: tables under a rule, and the steps of their passes.
-ghost use Rattle.std.specs.Prelude.{◌≡◌, ◌<◌, ◌≤◌, [], ◌∷◌, None, IfOk, max};
+ghost use Rattle.std.specs.Prelude.{◌≡◌, ◌<◌, ◌≤◌, [], ◌∷◌, None, IfOk, length, max};
 ghost use Rattle.lock_core.specs.Plans.{IsSmall, calls_in, starts_from};
-ghost use Rattle.lock_core.specs.Layout.{width};
+ghost use Rattle.lock_core.specs.Stores.{memory_width, lock_room, left_out as left_out_of};
 ghost use Rattle.lock_core.specs.Records.{IsPlan};
 ghost use Rattle.lock_core.specs.Views.{first, ticked, split_off, merged, HoldsNothing};
 ghost use Rattle.lock_core.specs.Pasts.{opening};
@@ -33,8 +33,15 @@ pub struct Site<R: SiteRule> {
     starts: Vec<usize>,
     /// How many calls the plan has.
     count: usize,
+    /// How many words of each row the table leaves out, since its plan has fewer than `MAX_TASKS`
+    /// tasks.
+    left_out: usize,
+    /// Where in memory the site's words begin.
+    site_at: usize,
     ghost started: { starts.items ≡ starts_from 0 table.shared.key },
-    ghost wide: { table.shared.table_id.words ≡ width table.shared.key },
+    ghost wide: { table.shared.table_id.words ≡ memory_width table.shared.key },
+    ghost lessened: { left_out ≡ left_out_of (length table.shared.key) },
+    ghost behind: { site_at ≡ lock_room (length table.shared.key) },
     ghost counted: { count ≡ calls_in table.shared.key },
     ghost small: { IsSmall table.shared.key },
 }
@@ -56,14 +63,18 @@ impl<R: SiteRule> Site<R> {
     {
         let starts = plan.starts(alloc)?;
         let count = plan.calls();
-        let words = plan.table_words(alloc)?;
-        let (table, seat) = Table::of_words(alloc, words.as_slice(), &plan)?;
+        let site_at = plan.lock_room();
+        let left_out = (LOCK_WORDS - site_at) / 8;
+        let memory = plan.memory(alloc)?;
+        let (table, seat) = Table::of_words(alloc, memory.as_slice(), &plan)?;
         let face = Face::stranger(0);
         Ok((
             Site {
                 table,
                 starts,
                 count,
+                left_out,
+                site_at,
             },
             Pass {
                 seat,

@@ -16,7 +16,7 @@ use crate::view::View;
 
 /// A rule whose table has the words of spin locks, of which no other fact of the rule speaks.
 pub trait SpinHost: SiteRule {
-    /// The place of the first of them, which is the word of the first lock.
+    /// The place of the first of them, which is the word of the first lock. It is 0.
     const FIRST: usize;
 
     /// How many locks there are.
@@ -28,6 +28,9 @@ pub trait SpinHost: SiteRule {
 
     // Where a pass may release a spin lock.
     ghost may_free: { View Self.Ext → Type 0 };
+
+    // A table stores spin words from its first place on.
+    ghost spin_first: { FIRST ≡ 0 };
 
     ghost spin_inside: { FIRST + SPIN_WORDS ≤ LOCK_WORDS };
 

@@ -1,5 +1,5 @@
 -- What a pass owes after the steps by which it chooses, wakes, tries and drowses.
-use Rattle.std.proofs.Common.{◌≡◌, ◌∙◌, ℕ, zero, suc, ◌+◌, ◌<◌, ◌==◌, ◌&&◌, ◌↔◌, IsTrue, Bool, true, false, List, [], ◌∷◌, Option, Some, None, IfSome, sym, refl, ap, subst, arith}
+use Rattle.std.proofs.Common.{◌≡◌, ◌∙◌, ℕ, zero, suc, ◌+◌, ◌<◌, ◌==◌, ◌&&◌, ◌↔◌, IsTrue, Bool, true, false, List, [], ◌∷◌, Option, Some, None, IfSome, sym, refl, ap, subst, arith, ◌≤◌}
 use Rattle.word_bits.specs.declared.TheConstants.{MAX_TASKS}
 use Rattle.word_bits.specs.OwnerWord.{task_code}
 use Rattle.lock_core.specs.Views.{SpinHolds}
@@ -47,8 +47,8 @@ handed w u s m None is first all = clear-none u (ap (λ (z : V). z.ext.wake.duty
 handed w u s m (Some x) is first all = (ap (λ (z : V). z.ext.wake.duty) is ∙ duty-first (first_code w.ext.list.list) x.task (code-some w.ext.list.list x first), some-small w.ext.list.list x first all)
 
 -- so is whom a debtor sees first under the wait lock
-pub chooses : (v u : V) (first : Option ℕ) → u ≡ sighted saw_first v (task_code first) → SpinHolds v.spin → v.ext.list.changes ≡ false → OwesWake v → IfSome first (λ t. t < MAX_TASKS) → IsToWake u first
-chooses v u first is has still owes small = to-wake first is small
+pub chooses : (v u : V) (first : Option ℕ) → u ≡ sighted saw_first v (task_code first) → SpinHolds v.spin → v.ext.list.changes ≡ false → OwesWake v → (n : ℕ) → n ≤ MAX_TASKS → IfSome first (λ t. t < n) → IsToWake u first
+chooses v u first is has still owes n few small = to-wake first is small
   where
     duty : (code : ℕ) → u ≡ sighted saw_first v code → u.ext.wake.duty ≡ duty_of code
     duty code is = ap (λ (z : V). z.ext.wake.duty) is ∙ ((λ i. owing_at (holds_at-has i) (still i) v.hand.freed code (owes.owing i)) ∙ ap (λ (z : ℕ). choosing Owing z code) owes.flag)
@@ -56,9 +56,9 @@ chooses v u first is has still owes small = to-wake first is small
         holds_at-has : holds_in v.spin ≡ 1
         holds_at-has = ap holds_at has
 
-    to-wake : (r : Option ℕ) → u ≡ sighted saw_first v (task_code r) → IfSome r (λ t. t < MAX_TASKS) → IsToWake u r
+    to-wake : (r : Option ℕ) → u ≡ sighted saw_first v (task_code r) → IfSome r (λ t. t < n) → IsToWake u r
     to-wake None is small = clear-none u (duty 0 is)
-    to-wake (Some t) is small = (duty (t + 1) is ∙ duty-first (t + 1) t refl, small)
+    to-wake (Some t) is small = (duty (t + 1) is ∙ duty-first (t + 1) t refl, omega (arith, small, few))
 
 never-both : (b : Bool) (h : ℕ) → h ≡ 1 → (b && (h == 0)) ≡ false
 never-both true h is = ap (λ (z : ℕ). z == 0) is

@@ -15,6 +15,7 @@ use Rattle.lock_core.specs.declared.view.SpinHand.{SpinHand}
 use Rattle.lock_core.specs.declared.view.Held.TheVariants.{No, Alone}
 use Rattle.lock_core.specs.declared.layout.TheConstants.{LOCK_WORDS, SPIN_WORDS}
 use Rattle.lock_core.specs.Records.{bit}
+use Rattle.lock_core.specs.Stores.{HasWord}
 use Rattle.lock_core.specs.Layout.{SiteWords, fresh, site, lay, width}
 use Rattle.lock_core.specs.Views.{SpinHolds, SpinRests, SpinStays, hand_of, spin_part, part_with, no_part, held_of, handed, seated, ticked, first, split_off, merged, spent, stranger, named_of, is_number, HoldsNothing, held_weight}
 use Rattle.lock_core.specs.Sites.{HandGoes, HoldGoes, SiteKept}
@@ -26,7 +27,7 @@ use Rattle.lock_core.specs.SpinLaws.{spin-same, spin-renames, spin-comes, spin-e
 use Rattle.lock_core.specs.Totals.{total, total-set, total-at, total-two}
 use Rattle.lock_core.specs.Parts.{at_unmap, keep_part, set_part, set-there, snoc_part}
 use Rattle.lock_core.specs.Regions.{part-in, part-above, part-below, part-at, wide-part}
-use Rattle.lock_core.proofs.HandLaws.{held-none, not-both, false-or-true, is_number-here, number-or-not}
+use Rattle.lock_core.proofs.HandLaws.{held-none, not-both, false-or-true, is_number-here, number-or-not, is_number-else}
 use Rattle.mutex_word.specs.declared.host.Turn.{Turn}
 use Rattle.mutex_word.specs.declared.host.Turn.TheVariants.{Fail, Take, Ask, Free, Hand as HandOn, Flag, Clear}
 use Rattle.mutex_word.specs.Holders.{KeepsLeft, OwnKept, IsTurn, turns}
@@ -36,7 +37,7 @@ use Rattle.wait_list.specs.declared.view.Change.{Change}
 use Rattle.wait_list.specs.declared.view.Change.TheVariants.{Stay, Enter, Leave}
 use Rattle.wait_list.specs.declared.view.ListHand.{ListHand}
 use Rattle.wait_list.specs.declared.words.TheConstants.{LIST_WORDS}
-use Rattle.wait_list.specs.Lists.{Part, ListKept, MadeBy, Knows, Lists, LeaverGoes, Allowed, changed, list_part, listed, sighted, first_code, changes_of, takes_of}
+use Rattle.wait_list.specs.Lists.{Part, ListKept, MadeBy, Knows, Lists, LeaverGoes, Allowed, changed, list_part, listed, sighted, first_code, changes_of, takes_of, counted}
 use Rattle.wait_list.proofs.Walks.{head-is}
 use Rattle.wait_list.specs.ListLaws.{none-change, list-spins, list-keeps, list-leaves, list-strangers, list-opens, list-known}
 use Rattle.wake_duty.specs.declared.view.Vigil.TheVariants.{Absent, Awake, Tried}
@@ -47,7 +48,7 @@ use Rattle.wake_duty.specs.WakeLaws.{wake-opens, wake-snoc, wake-quiet, wake-set
 use Rattle.wake_duty.specs.WakeSteps.{HasTried, knowing}
 use Rattle.mutex_slow.specs.DutyLaws.{wparted, some-of, same-holders, duty-stays, duty-renames, duty-spins, duty-fails, duty-takes, duty-frees, duty-hands, duty-enters, duty-leaves, duty-looks}
 use Rattle.mutex_slow.specs.StandingLaws.{StandingGoes, chosen-code, chosen-debt, goes-clear, goes-drowses, goes-fails, goes-looks, goes-same, goes-sets, goes-vigil}
-use Rattle.mutex_slow.specs.Mutexes.{V, HasLock, HasChosen, after_set, after_swap, vigil_of, with_wake, wake_words, wakes_at, idle, list_of, IsOut, Coupled, MutexKept, Kept, Leaves, LeavesToFirst, PicksFirst, Asks, HasHandoff, IsFirstTask, AnswersHandoff, TookUp, IsOwnChange, IsUnpicked, MutexMoves, entered, owner_at, list_at, spin_words, owner_in, list_words, may_free, may_miss, rests, may_own, turned, with_list, may_change, is_code, saw_first}
+use Rattle.mutex_slow.specs.Mutexes.{V, HasLock, HasChosen, after_set, after_swap, vigil_of, with_wake, wake_words, wakes_at, idle, list_of, IsOut, Coupled, MutexKept, Kept, Leaves, LeavesToFirst, PicksFirst, Asks, HasHandoff, IsFirstTask, AnswersHandoff, TookUp, IsOwnChange, IsUnpicked, MutexMoves, entered, owner_at, list_at, spin_words, owner_in, list_words, may_free, may_miss, rests, may_own, turned, with_list, may_change, is_code, saw_first, queued_of}
 use Rattle.mutex_slow.specs.CoupledLaws.{Apart, coupled-stays, coupled-hands, coupled-seats, coupled-spins, coupled-fails, coupled-takes-free, coupled-takes-picked, coupled-asks, coupled-frees, coupled-hands-over, coupled-flags, coupled-clears, coupled-enters, coupled-leaves, coupled-opens, coupled-snoc, idle-ok, flagged, not-in, is-in, locked-free}
 
 pub spin-inside : 0 + SPIN_WORDS ≤ LOCK_WORDS
@@ -55,6 +56,12 @@ spin-inside = omega arith
 
 pub own-inside : owner_at < LOCK_WORDS
 own-inside = omega arith
+
+pub own-there : (tasks : ℕ) → HasWord tasks owner_at
+own-there tasks = record { spin = λ _. omega arith; first = λ m. absurd (omega (arith, m)); second = λ m. absurd (omega (arith, m)); third = λ m. absurd (omega (arith, m)); fourth = λ m. absurd (omega (arith, m)) }
+
+pub list-room : (SPIN_WORDS ≤ list_at) × (list_at + 8 ≤ SPIN_WORDS + 64)
+list-room = (omega arith, omega arith)
 
 pub list-inside : list_at + LIST_WORDS ≤ LOCK_WORDS
 list-inside = omega arith
@@ -148,6 +155,16 @@ module _ {Call : Type 0} (o : Obj Call) (size : ℕ) where
 
   pub mutex-queued : (k : Plan) (ws : List ℕ) (vs : List V) → Kept o size k ws vs → (l : List Waiter) × Queue k ws vs l
   mutex-queued k ws vs r = r
+
+  -- a pass that counts for a task has its number
+  counts-number : (t : ℕ) (task : Option ℕ) (b : Bool) → 0 < when b (is_number t task) → task ≡ Some t
+  counts-number t task false l = absurd (omega (arith, l))
+  counts-number t None true l = absurd (omega (arith, l))
+  counts-number t (Some u) true l = dite (ℕ_discrete u t) (λ is. ap Some is) (λ other. let e = is_number-else t u other in absurd (omega (arith, l, e)))
+
+  -- who waits is a task of the plan
+  pub mutex-few : (k : Plan) (ws : List ℕ) (vs : List V) (l : List Waiter) (t : ℕ) → Queue k ws vs l → 0 < counted t l → t < length k
+  mutex-few k ws vs l t r there = let places = r.coupled.places t in let s = some-of (queued_of t) vs (omega (arith, places, there)) in let v : V = s.1 in ((r.site_holds.each s.0 v.hand (at_map hand_of vs s.0 v s.2)).mine t (counts-number t v.hand.task v.ext.queued s.3)).0
 
   named : (k : Plan) (ws : List ℕ) (hs : List Hand) → Site k ws hs → Named hs
   named k ws hs r j h at out = ((r.each j h at).nameless out).0

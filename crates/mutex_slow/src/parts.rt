@@ -1,11 +1,11 @@
 //! The parts of the calls of a mutex.
-ghost use Rattle.std.specs.Prelude.{◌≡◌, ◌≢◌, ◌<◌, ◌+◌, ◌%◌, ◌⊎◌, Bool, true, false, Some, None, IsSome, IfOk, IfErr, IfSome, IfNone};
+ghost use Rattle.std.specs.Prelude.{◌≡◌, ◌≢◌, ◌<◌, ◌+◌, ◌%◌, ◌⊎◌, Bool, true, false, Some, None, IsSome, IfOk, IfErr, IfSome, IfNone, length};
 ghost use Rattle.lock_core.specs.declared.view.Held.TheVariants.{No, Alone};
 ghost use Rattle.lock_core.specs.Views.{SpinHolds, SpinRests};
 ghost use Rattle.lock_core.specs.Kinds.{mutex};
 ghost use Rattle.lock_core.specs.Locking.{Misses, OnlyTried, SawPending};
 ghost use Rattle.lock_core.specs.Signals.{OnlyConsumed, OnlyHeard};
-ghost use Rattle.lock_core.specs.Handles.{view_of, hand_in, task_in, held_in, SitsAt};
+ghost use Rattle.lock_core.specs.Handles.{plan_of, view_of, hand_in, task_in, held_in, SitsAt};
 ghost use Rattle.lock_core.specs.Tallies.{raised};
 ghost use Rattle.lock_core.specs.Shown.{FindsSince};
 ghost use Rattle.word_bits.specs.OwnerWord.{task_code};
@@ -228,6 +228,7 @@ pub fn choose<O: Object>(site: &Site<MutexRule<O>>, pass: &mut Pass<MutexRule<O>
     ensures on { StepsOn site.now pass.old pass.new }
     ensures outside { IsOutside (view_of pass.new) }
     ensures chosen { IsToWake (view_of pass.new) result }
+    ensures task { IfSome result (λ t. t < length (plan_of site.now)) }
     ensures hand { KeepsHand pass.old pass.new }
     ensures same { StandsSame (view_of pass.old) (view_of pass.new) }
     ensures counts { KeepsWakes (view_of pass.old) (view_of pass.new) }
@@ -239,6 +240,7 @@ pub fn choose<O: Object>(site: &Site<MutexRule<O>>, pass: &mut Pass<MutexRule<O>
 /// Sets the wake word of the task that is to be woken.
 pub fn set<O: Object>(site: &Site<MutexRule<O>>, pass: &mut Pass<MutexRule<O>>, target: u32)
     requires own { SitsAt site.now pass.old }
+    requires task { target < length (plan_of site.now) }
     requires outside { IsOutside (view_of pass.old) }
     requires chosen { HasChosen (view_of pass.old).ext target }
     ensures on { StepsOn site.now pass.old pass.new }
@@ -339,6 +341,7 @@ pub fn hand_over<O: Object, W: Wait>(
     ensures same { StandsSame (view_of pass.old) (view_of pass.new) }
     ensures counts { KeepsWakes (view_of pass.old) (view_of pass.new) }
     ensures chosen { IsToWake (view_of pass.new) (task_of result) }
+    ensures task { IfSome result (λ w. w.task < length (plan_of site.now)) }
     ensures freed { IsFreed (view_of pass.old) (view_of pass.new) }
     ensures named { NamesFirst (view_of pass.old).steps result
         (seen_of pass.old) (seen_of pass.new) }

@@ -1,10 +1,10 @@
 //! The rule of a mutex.
-ghost use Rattle.std.specs.Prelude.{◌<◌};
+ghost use Rattle.std.specs.Prelude.{◌<◌, refl};
 ghost use Rattle.word_bits.specs.LockWords.{owned};
 ghost use Rattle.lock_core.specs.SpinTables.{one-some, one-eight};
 ghost use Rattle.mutex_slow.specs.Mutexes.{Kept, MutexMoves, idle, list_at, list_of, may_change, may_free, may_miss, may_own, owner_at, rests, saw_first, turned, uncounted, standing, vigil_of, wakes_at, with_list, HasChosen, after_set, after_swap};
 ghost use Rattle.mutex_slow.specs.Mutexes.{MutexKept};
-ghost use Rattle.mutex_slow.specs.MutexLaws.{list-again, list-back, list-inside, list-over, list-same, may-on, may-stay, own-inside, spin-inside};
+ghost use Rattle.mutex_slow.specs.MutexLaws.{list-again, list-back, list-inside, list-over, list-same, may-on, may-stay, own-inside, spin-inside, own-there, list-room, mutex-few};
 ghost use Rattle.mutex_slow.specs.MutexLaws.{mutex-firsts, mutex-joins, mutex-list, mutex-list-may, mutex-lists, mutex-opens, mutex-bits, mutex-sets, mutex-swaps, wake-inside, mutex-own, mutex-own-looks, mutex-own-may, mutex-owns, mutex-queued, mutex-site, mutex-sites, mutex-spin, mutex-spins, mutex-splits};
 
 use crate::view::MutexHand;
@@ -64,6 +64,8 @@ impl<O: Object> SpinHost for MutexRule<O> {
 
     ghost may_free = { may_free };
 
+    ghost spin_first = { refl };
+
     ghost spin_inside = { spin-inside };
 
     ghost spin_some = { one-some };
@@ -94,6 +96,8 @@ impl<O: Object> OwnerHost for MutexRule<O> {
 
     ghost own_inside = { own-inside };
 
+    ghost own_there = { own-there };
+
     ghost own_kept = { mutex-own O.object O.WORDS };
 
     ghost own_may = { mutex-own-may O.object O.WORDS };
@@ -120,6 +124,8 @@ impl<O: Object> ListHost for MutexRule<O> {
 
     ghost list_inside = { list-inside };
 
+    ghost list_room = { list-room };
+
     ghost list_back = { list-back };
 
     ghost list_same = { list-same };
@@ -135,6 +141,8 @@ impl<O: Object> ListHost for MutexRule<O> {
     ghost queued = { mutex-queued O.object O.WORDS };
 
     ghost list_kept = { mutex-list O.object O.WORDS };
+
+    ghost listed_few = { mutex-few O.object O.WORDS };
 
     ghost list_moves = { λ k id ws us vs vs' step. step.list };
 
@@ -159,6 +167,8 @@ impl<O: Object> SleepHost for MutexRule<O> {
     ghost after_swap = { after_swap };
 
     ghost wake_inside = { wake-inside };
+
+    ghost wake_room = { refl };
 
     ghost chosen_few = { λ e t chosen. chosen.1 };
 

@@ -1,5 +1,5 @@
 //! The slow path of a mutex: its wait lock, its list, and the sleep of a waiter.
-ghost use Rattle.std.specs.Prelude.{◌≡◌, ◌<◌, ◌≤◌, ◌+◌, Bool, true, false, Some, IsSome, IfOk, IfErr};
+ghost use Rattle.std.specs.Prelude.{◌≡◌, ◌<◌, ◌≤◌, ◌+◌, Bool, true, false, Some, IsSome, IfOk, IfErr, IfSome, length};
 ghost use Rattle.osq_unqueue.specs.Rising.{Rises};
 ghost use Rattle.lock_core.specs.declared.how.How.TheVariants.{Spun};
 ghost use Rattle.lock_core.specs.declared.view.Held.TheVariants.{No, Alone};
@@ -8,7 +8,7 @@ ghost use Rattle.lock_core.specs.Kinds.{mutex, wakes_alone};
 ghost use Rattle.lock_core.specs.Locking.{Interrupts, OnlyTried, Releases, SawPending};
 ghost use Rattle.lock_core.specs.Signals.{OnlyConsumed};
 ghost use Rattle.lock_core.specs.Tallies.{raised};
-ghost use Rattle.lock_core.specs.Handles.{view_of, hand_in, task_in, held_in, SitsAt};
+ghost use Rattle.lock_core.specs.Handles.{plan_of, view_of, hand_in, task_in, held_in, SitsAt};
 ghost use Rattle.osq_nodes.specs.declared.node.Place.TheVariants.{Front};
 ghost use Rattle.osq_nodes.specs.Handles as spinners;
 ghost use Rattle.wake_duty.specs.WakeSteps.{HasTried};
@@ -352,6 +352,7 @@ fn wake<O: Object, C: Crew>(
     requires own { SitsAt site.now pass.old }
     requires outside { IsOutside (view_of pass.old) }
     requires chosen { IsToWake (view_of pass.old) target }
+    requires task { IfSome target (λ t. t < length (plan_of site.now)) }
     ensures on { StepsOn site.now pass.old pass.new }
     ensures outside { IsOutside (view_of pass.new) }
     ensures clear { OwesNoWake (view_of pass.new) }

@@ -1,5 +1,5 @@
 -- The steps on the owner word keep its own facts and the site's, and so the host's rule.
-use Rattle.std.proofs.Common.{IsSome, ap, ⊎_elim, ◌*◌, Bool, true, ◌/◌, ◌%◌, ◌<◌, ◌≤◌, ◌⊎◌, inr, ◌≡◌, ◌≢◌, ◌∙◌, ℕ, ◌+◌, inl, false, List, map, take, get_or, set, Option, Some, None, sym, refl, subst, arith}
+use Rattle.std.proofs.Common.{IsSome, ap, ⊎_elim, ◌*◌, Bool, true, ◌/◌, ◌%◌, ◌<◌, ◌≤◌, inr, ◌≡◌, ◌≢◌, ◌∙◌, ℕ, ◌+◌, inl, false, List, map, take, get_or, set, Option, Some, None, sym, refl, subst, arith}
 use mathlib.Core.Option.{some, none}
 use lib.ListN.{get_elem?}
 use lib.Seq.{set-get_or}

@@ -1,5 +1,5 @@
 -- The laws of the rule of a table with an owner word alone.
-use Rattle.std.proofs.Common.{◌≡◌, ◌≢◌, ℕ, ◌+◌, ◌<◌, ◌≤◌, ◌⊎◌, inl, inr, List, [], ◌∷◌, ◌++◌, length, map, get_or, set, None, sym, refl, ap, ◌∙◌, subst, arith, length-set, get_or-set_same, get_or-set_other}
+use Rattle.std.proofs.Common.{◌≡◌, ◌≢◌, ℕ, ◌+◌, ◌<◌, ◌⊎◌, inl, inr, List, [], ◌∷◌, ◌++◌, length, map, get_or, set, None, sym, refl, ap, ◌∙◌, subst, arith, length-set, get_or-set_same, get_or-set_other}
 use Rattle.std.proofs.lemmas.List.{drop-set-lt}
 use mathlib.Core.Option.{some}
 use lib.ListN.{get_elem?}
@@ -12,6 +12,7 @@ use Rattle.lock_core.specs.declared.view.SpinHand.{SpinHand}
 use Rattle.lock_core.specs.declared.view.Held.TheVariants.{No}
 use Rattle.lock_core.specs.declared.layout.TheConstants.{LOCK_WORDS}
 use Rattle.lock_core.specs.Layout.{SiteWords, fresh, site, lay, width}
+use Rattle.lock_core.specs.Stores.{HasWord}
 use Rattle.lock_core.specs.Views.{hand_of, handed, seated, ticked, first, split_off, merged, spent, stranger}
 use Rattle.lock_core.specs.Sites.{HandGoes, SiteKept}
 use Rattle.lock_core.specs.Moves.{Goes, KeepsHold, SiteMove, TriesWhere}
@@ -27,6 +28,9 @@ Rests v = Unit {0}
 
 pub own-inside : owner_at < LOCK_WORDS
 own-inside = omega arith
+
+pub own-there : (n : ℕ) → HasWord n owner_at
+own-there n = record { spin = λ _. omega arith; first = λ m. absurd (omega (arith, m)); second = λ m. absurd (omega (arith, m)); third = λ m. absurd (omega (arith, m)); fourth = λ m. absurd (omega (arith, m)) }
 
 module _ {Call : Type 0} (o : Obj Call) (size : ℕ) where
   abbrev Kept : Plan → List ℕ → List V → Type 0

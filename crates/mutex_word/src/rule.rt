@@ -2,7 +2,7 @@
 ghost use Rattle.std.specs.Prelude.{◌<◌};
 ghost use Rattle.word_bits.specs.LockWords.{owned};
 ghost use Rattle.mutex_word.specs.Ruled.{OwnerKept, OwnerMoves, IsPlain, leaves_plain, owner_at, unmarked, unturned};
-ghost use Rattle.mutex_word.specs.RuledLaws.{own-inside, owner-site, owner-own, owner-sites, owner-opens, owner-splits, owner-joins, owner-owns, owner-looks};
+ghost use Rattle.mutex_word.specs.RuledLaws.{own-inside, own-there, owner-site, owner-own, owner-sites, owner-opens, owner-splits, owner-joins, owner-owns, owner-looks};
 
 use crate::host::OwnerHost;
 use lock_core::{SPIN_ROOM, SiteRule};
@@ -63,6 +63,8 @@ impl<O: Object> OwnerHost for OwnerRule<O> {
     ghost turned = { unturned };
 
     ghost own_inside = { own-inside };
+
+    ghost own_there = { own-there };
 
     ghost own_kept = { owner-own O.object O.WORDS };
 

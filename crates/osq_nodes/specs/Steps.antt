@@ -53,4 +53,4 @@ taking_of _ n = Granting n
 
 -- the task whose `next` stands there
 abbrev pub task_at : ℕ → ℕ
-task_at at = (at - 128) / 64
+task_at at = (at - 64) / 32

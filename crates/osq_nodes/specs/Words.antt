@@ -8,13 +8,13 @@ abbrev pub tail_at : ℕ
 tail_at = 0
 
 abbrev pub next_at : ℕ → ℕ
-next_at t = 128 + 64 * t
+next_at t = 64 + 32 * t
 
 abbrev pub prev_at : ℕ → ℕ
-prev_at t = 129 + 64 * t
+prev_at t = 65 + 32 * t
 
 abbrev pub locked_at : ℕ → ℕ
-locked_at t = 136 + 64 * t
+locked_at t = 72 + 32 * t
 
 -- the code of a task, and 0 where there is none
 abbrev pub code_in : Option ℕ → ℕ

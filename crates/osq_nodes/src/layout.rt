@@ -9,9 +9,9 @@ pub const TAIL: usize = 0;
 
 // A task's node is in its lines: `next` and `prev` on the first one. It spins on `locked`, which
 // has the second one for itself.
-const NODES: usize = 128;
+const NODES: usize = 64;
 
-const NODE_WORDS: usize = 64;
+const NODE_WORDS: usize = 32;
 
 /// The place of a node's `next`: the code of its successor, or 0.
 pub fn next_of(task: u32) -> usize

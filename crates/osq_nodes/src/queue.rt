@@ -132,7 +132,7 @@ impl Osq {
             (λ prev. fronts_in pass.new ≡ fronts_in pass.old) }
         ensures steps { MatchOption result (steps_in pass.new ≡ steps_in pass.old + 3)
             (λ prev. steps_in pass.new ≡ steps_in pass.old + 5) }
-        ensures there { MatchOption result (Unit {0}) (λ prev. prev < MAX_TASKS) }
+        ensures there { MatchOption result (Unit {0}) (λ prev. prev < tasks_of self.now) }
     {
         steps::clear_locked(self, pass, task);
         steps::clear_next(self, pass, task);
@@ -167,7 +167,7 @@ impl Osq {
         ensures found { found_in pass.new ≡ found_in pass.old }
         ensures fronts { fronts_in pass.new ≡ fronts_in pass.old }
         ensures place { MatchOption result (place_in pass.new ≡ Out)
-            (λ next. (next < MAX_TASKS) × (place_in pass.new ≡ takes_at prev next)) }
+            (λ next. (next < tasks_of self.now) × (place_in pass.new ≡ takes_at prev next)) }
     {
         let backoff = Backoff::new();
         for _ in rt.forever() {

@@ -1,6 +1,5 @@
 //! The steps of a spin queue, each one atomic operation.
 ghost use Rattle.std.specs.Prelude.{◌≡◌, ◌≢◌, ◌-◌, ◌<◌, ◌≤◌, Some, MatchOption, MatchBool};
-ghost use Rattle.word_bits.specs.declared.TheConstants.{MAX_TASKS};
 ghost use Rattle.lock_core.specs.Pasts.{FoundAt};
 ghost use Rattle.lock_core.specs.Views.{ticked};
 ghost use Rattle.osq_nodes.specs.declared.node.Place.TheVariants.{Out, Cleared, Swapped, Linking, Waiting, Granting};
@@ -86,7 +85,7 @@ pub fn link(osq: &Osq, pass: &mut OsqPass, task: u32, prev: u32)
     requires own { SitsAt osq.now pass.old }
     requires mine { task_in pass.old ≡ Some task }
     requires here { place_in pass.old ≡ Linking prev }
-    requires there { prev < MAX_TASKS }
+    requires there { prev < tasks_of osq.now }
     ensures own { SitsAt osq.now pass.new }
     ensures number { KeepsNumber pass.old pass.new }
     ensures goes_on { KeepsPast pass.old pass.new }
@@ -172,7 +171,7 @@ fn swap_next(osq: &Osq, pass: &mut OsqPass, task: u32, prev: Option<u32>) -> u64
     ensures number { KeepsNumber pass.old pass.new }
     ensures goes_on { KeepsPast pass.old pass.new }
     ensures last { IsLatest pass.new }
-    ensures code { result ≤ MAX_TASKS }
+    ensures code { result ≤ tasks_of osq.now }
     ensures none { result ≡ 0 → view_of pass.new ≡ ticked (view_of pass.old) }
     ensures some { result ≢ 0
         → view_of pass.new ≡ placed (view_of pass.old) (takes_at prev (result - 1)) }
@@ -193,7 +192,7 @@ pub fn take_next(osq: &Osq, pass: &mut OsqPass, task: u32, prev: Option<u32>) ->
     ensures goes_on { KeepsPast pass.old pass.new }
     ensures last { IsLatest pass.new }
     ensures kept { MatchOption result (view_of pass.new ≡ ticked (view_of pass.old)) (λ n.
-        (n < MAX_TASKS) × (view_of pass.new ≡ placed (view_of pass.old) (takes_at prev n))) }
+        (n < tasks_of osq.now) × (view_of pass.new ≡ placed (view_of pass.old) (takes_at prev n))) }
     ensures found { FoundAt (next_at task) (code_in result) (past_of pass.new) }
 {
     let found = swap_next(osq, pass, task, prev);
@@ -209,7 +208,7 @@ pub fn grant(osq: &Osq, pass: &mut OsqPass, task: u32, next: u32)
     requires own { SitsAt osq.now pass.old }
     requires mine { task_in pass.old ≡ Some task }
     requires here { place_in pass.old ≡ Granting next }
-    requires there { next < MAX_TASKS }
+    requires there { next < tasks_of osq.now }
     ensures own { SitsAt osq.now pass.new }
     ensures number { KeepsNumber pass.old pass.new }
     ensures goes_on { KeepsPast pass.old pass.new }

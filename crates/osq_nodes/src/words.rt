@@ -1,6 +1,6 @@
 //! The one operation on a word of a spin queue, whatever it is for.
 ghost use Rattle.std.specs.Prelude.{◌≡◌, ◌<◌, ℕ, Some, IsSome};
-ghost use Rattle.lock_core.specs.declared.layout.TheConstants.{LOCK_WORDS};
+ghost use Rattle.lock_core.specs.Stores.{spin_room};
 ghost use Rattle.lock_core.specs.Pasts.{FindsAt};
 ghost use Rattle.lock_core.specs.Plays.{Turns};
 ghost use Rattle.osq_nodes.specs.declared.node.Place.{Place as At};
@@ -42,7 +42,7 @@ impl<L: Leads> Play<(), View<Node>> for Does<L> {
 pub fn step<L: Leads>(osq: &Osq, pass: &mut OsqPass, word: usize, op: Op) -> u64
     requires own { SitsAt osq.now pass.old }
     requires numbered { IsSome (task_in pass.old) }
-    requires inside { word < LOCK_WORDS }
+    requires inside { word < spin_room (tasks_of osq.now) }
     requires keeps { (t : ℕ) → task_in pass.old ≡ Some t → Local
         (tasks_of osq.now) t (place_in pass.old) word op (L.to (place_in pass.old)) L.tells }
     ensures own { SitsAt osq.now pass.new }

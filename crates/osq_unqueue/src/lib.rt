@@ -2,9 +2,8 @@
 #![tactic(auto)]
 
 ghost use Rattle.std.specs.Prelude.{◌≡◌, ◌≢◌, ◌<◌, ◌≤◌, ◌+◌, true, false, Some, None, IsSome, MatchBool, MatchOption};
-ghost use Rattle.word_bits.specs.declared.TheConstants.{MAX_TASKS};
 ghost use Rattle.osq_nodes.specs.declared.node.Place.TheVariants.{Out, Waiting, Unlinked, Front};
-ghost use Rattle.osq_nodes.specs.Handles.{task_in, place_in, fronts_in, swaps_in, found_in, steps_in, SawTail, SitsAt, KeepsNumber, KeepsPast, IsLatest};
+ghost use Rattle.osq_nodes.specs.Handles.{tasks_of, task_in, place_in, fronts_in, swaps_in, found_in, steps_in, SawTail, SitsAt, KeepsNumber, KeepsPast, IsLatest};
 ghost use Rattle.osq_unqueue.specs.Rising.{Rises};
 
 mod steps;
@@ -53,7 +52,7 @@ fn unlink<W: Wait>(osq: &Osq, rt: &W, pass: &mut OsqPass, task: u32, mut prev: u
     requires own { SitsAt osq.now pass.old }
     requires mine { task_in pass.old ≡ Some task }
     requires waits { place_in pass.old ≡ Waiting }
-    requires there { prev < MAX_TASKS }
+    requires there { prev < tasks_of osq.now }
     ensures own { SitsAt osq.now pass.new }
     ensures number { KeepsNumber pass.old pass.new }
     ensures goes_on { KeepsPast pass.old pass.new }
@@ -61,7 +60,7 @@ fn unlink<W: Wait>(osq: &Osq, rt: &W, pass: &mut OsqPass, task: u32, mut prev: u
     ensures swaps { swaps_in pass.new ≡ swaps_in pass.old }
     ensures found { found_in pass.new ≡ found_in pass.old }
     ensures place { MatchOption result (place_in pass.new ≡ Front)
-        (λ p. (p < MAX_TASKS) × (place_in pass.new ≡ Unlinked p)) }
+        (λ p. (p < tasks_of osq.now) × (place_in pass.new ≡ Unlinked p)) }
     ensures fronts { MatchOption result (fronts_in pass.new ≡ fronts_in pass.old + 1)
         (λ p. fronts_in pass.new ≡ fronts_in pass.old) }
 {

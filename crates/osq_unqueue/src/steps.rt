@@ -1,10 +1,9 @@
 //! The steps by which a task leaves the queue before its turn, each one atomic operation.
 ghost use Rattle.std.specs.Prelude.{◌≡◌, ◌+◌, ◌<◌, Some, MatchBool};
-ghost use Rattle.word_bits.specs.declared.TheConstants.{MAX_TASKS};
 ghost use Rattle.lock_core.specs.Pasts.{FoundAt};
 ghost use Rattle.lock_core.specs.Views.{ticked};
 ghost use Rattle.osq_nodes.specs.declared.node.Place.TheVariants.{Out, Waiting, Unlinked, Splicing, Relinking};
-ghost use Rattle.osq_nodes.specs.Handles.{view_of, task_in, place_in, past_of, FoundThere, SitsAt, KeepsNumber, KeepsPast, IsLatest};
+ghost use Rattle.osq_nodes.specs.Handles.{tasks_of, view_of, task_in, place_in, past_of, FoundThere, SitsAt, KeepsNumber, KeepsPast, IsLatest};
 ghost use Rattle.osq_nodes.specs.Steps.{placed};
 ghost use Rattle.osq_nodes.specs.Words.{next_at, prev_at};
 
@@ -19,7 +18,7 @@ pub fn take_back(osq: &Osq, pass: &mut OsqPass, task: u32, prev: u32) -> bool
     requires own { SitsAt osq.now pass.old }
     requires mine { task_in pass.old ≡ Some task }
     requires here { place_in pass.old ≡ Waiting }
-    requires there { prev < MAX_TASKS }
+    requires there { prev < tasks_of osq.now }
     ensures own { SitsAt osq.now pass.new }
     ensures number { KeepsNumber pass.old pass.new }
     ensures goes_on { KeepsPast pass.old pass.new }
@@ -43,7 +42,7 @@ pub fn reread(osq: &Osq, pass: &mut OsqPass, task: u32) -> u32
     ensures goes_on { KeepsPast pass.old pass.new }
     ensures last { IsLatest pass.new }
     ensures kept { view_of pass.new ≡ ticked (view_of pass.old) }
-    ensures there { result < MAX_TASKS }
+    ensures there { result < tasks_of osq.now }
     ensures found { FoundAt (prev_at task) (result + 1) (past_of pass.new) }
 {
     (step::<Brand>(osq, pass, prev_of(task), Op::Load) - 1) as u32
@@ -54,7 +53,7 @@ pub fn splice(osq: &Osq, pass: &mut OsqPass, task: u32, prev: u32, next: u32)
     requires own { SitsAt osq.now pass.old }
     requires mine { task_in pass.old ≡ Some task }
     requires here { place_in pass.old ≡ Splicing prev next }
-    requires there { next < MAX_TASKS }
+    requires there { next < tasks_of osq.now }
     ensures own { SitsAt osq.now pass.new }
     ensures number { KeepsNumber pass.old pass.new }
     ensures goes_on { KeepsPast pass.old pass.new }
@@ -71,7 +70,7 @@ pub fn relink(osq: &Osq, pass: &mut OsqPass, task: u32, prev: u32, next: u32)
     requires own { SitsAt osq.now pass.old }
     requires mine { task_in pass.old ≡ Some task }
     requires here { place_in pass.old ≡ Relinking prev next }
-    requires there { prev < MAX_TASKS }
+    requires there { prev < tasks_of osq.now }
     ensures own { SitsAt osq.now pass.new }
     ensures number { KeepsNumber pass.old pass.new }
     ensures goes_on { KeepsPast pass.old pass.new }

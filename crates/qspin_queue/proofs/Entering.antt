@@ -64,7 +64,7 @@ module _ {R O E C : Type 0} (site : Site R O E C) (l : ℕ) (quiet : Type 0) whe
   }
 
   -- it clears its next node
-  module _ (a m : Pass R O E C) (code : ℕ) (out : RestsAt l (spin_in a)) (node : IsNextNode a code) (t : SpinSteps site a m (cleared_locked l (view_of a))) where
+  module _ (a m : Pass R O E C) (code : ℕ) (out : RestsAt l (spin_in a)) (node : IsNextNode site a code) (t : SpinSteps site a m (cleared_locked l (view_of a))) where
     is_code : code_for (hand_in a).task (depth_of (spin_in a)) ≡ code
     is_code = ap (λ (o : Option ℕ). code_for o (depth_of (spin_in a))) node.named ∙ (ap (node_code node.task) (sym node.depth) ∙ sym node.is)
 

@@ -5,7 +5,6 @@ use Rattle.std.proofs.lemmas.Bool.{eqb-true, ltb-true, ltb-false}
 use mathlib.Core.Logic.{dite}
 use native.Mathlib.Decide.{ℕ_discrete}
 use lib.ListN.{get_elem?}
-use Rattle.word_bits.specs.declared.TheConstants.{MAX_TASKS}
 use Rattle.lock_core.specs.declared.layout.TheConstants.{SPIN_WORDS}
 use Rattle.lock_core.specs.declared.op.Op.TheVariants.{Load, Store, Or, Exchange}
 use Rattle.lock_core.specs.declared.view.View.{View}
@@ -22,7 +21,7 @@ use Rattle.lock_core.specs.SpinQueues.{LockKept, tail_unit}
 use Rattle.lock_core.specs.Spins.{SpinFacts, SpinGoes, SpinsMove, OwnNodes, QueueMoves, TakesFrom, ComesTo, LeavesBy, frame_on, node_code, tail_in, word_in, next_in, locked_in, word_at, next_at, locked_at, holds_on}
 use Rattle.qspin_word.specs.Allows.{AreNumbered, SpinAllows}
 use Rattle.qspin_word.specs.Hands.{at_point, went, framed, taken, took_at}
-use Rattle.qspin_queue.specs.Handles.{IsTop}
+use Rattle.qspin_queue.specs.Handles.{IsTop, codes_of}
 use Rattle.qspin_queue.specs.Hands.{code_for, node_at, as_front, retried, cleared_locked, cleared_next, queued, linked, heard, learnt, readied, took_last, took_front, passed}
 use Rattle.qspin_word.proofs.Bits.{or_byte}
 use Rattle.qspin_word.proofs.WordSteps as step
@@ -134,12 +133,12 @@ module _ {E : Type 0} (n l : ℕ) (less : l < n) (most : n ≤ 8) (v : View E) (
     still : (i : ℕ) → Afters (set w i (get_or w i 0)) v.spin
     still i = looks-still n l less most v id w q ps k at i
 
-    module _ (named : AreNumbered ps) where
+    module _ {tasks : ℕ} (named : AreNumbered tasks ps) where
       -- the code of its own node is small, and no other lock has it
       my-node : (p : Point) → f.point ≡ p → uses p ≡ true → User n w q ps k named l f.code
       my-node p e used = (id, spin_part v, at, ap uses e ∙ used, refl)
 
-  pub retries : f.point ≡ Cleared → IsTop l (spin_part v) → SpinAllows n l id v (word_at l) (Exchange 0 1) (λ x. retried l x v) (λ x. Unit {0})
+  pub retries : {tasks : ℕ} → f.point ≡ Cleared → IsTop l (spin_part v) → SpinAllows n tasks l id v (word_at l) (Exchange 0 1) (λ x. retried l x v) (λ x. Unit {0})
   retries e top w q ps k named at small = let x : ℕ = word_in w l in let t : Afters w q ps k at (set w (word_at l) (if x == 0 then 1 else x)) (retried l x v) = dite (ℕ_discrete x 0)
       (λ free. subst (λ (b : Bool). Afters w q ps k at (set w (word_at l) (if b then 1 else x)) (if b then took_at l v.spin (v.steps + 1) Holding else v.spin)) (sym (eq-eqb x 0 free))
       (to-taken w q ps k at (q l) Holding (own-left w q ps k at (taken l v.spin (v.steps + 1) Holding) Cleared e refl refl top) Cleared e refl refl refl free tt 1 tt
@@ -147,8 +146,8 @@ module _ {E : Type 0} (n l : ℕ) (less : l < n) (most : n ≤ 8) (v : View E) (
       (λ not. subst (λ (b : Bool). Afters w q ps k at (set w (word_at l) (if b then 1 else x)) (if b then took_at l v.spin (v.steps + 1) Holding else v.spin)) (sym (ne_eqb x 0 not)) (still w q ps k at (word_at l))) in (t.0, t.1, tt)
 
   -- the words of the own node are cleared
-  pub clears-locked : (t i : ℕ) → v.hand.task ≡ Some t → t < MAX_TASKS → i < 4 → i ≡ depth_of v.spin → f.point ≡ Out → SpinAllows n l id v (locked_at (node_code t i)) (Store 0) (λ x. cleared_locked l v) (λ x. Unit {0})
-  clears-locked t i task few four deep e w q ps k named at small = let c : ℕ = node_code t i in let wide = k.wide in let fits : c < codes = omega (arith, few, four) in
+  pub clears-locked : {tasks : ℕ} → (t i : ℕ) → v.hand.task ≡ Some t → t < tasks → i < 4 → i ≡ depth_of v.spin → f.point ≡ Out → SpinAllows n tasks l id v (locked_at (node_code t i)) (Store 0) (λ x. cleared_locked l v) (λ x. Unit {0})
+  clears-locked t i task few four deep e w q ps k named at small = let c : ℕ = node_code t i in let wide = k.wide in let top = named.most in let fits : c < codes = omega (arith, few, four, top) in
       let own : c ≡ code_for v.hand.task (depth_of v.spin) = ap (node_code t) deep ∙ ap (λ (o : Option ℕ). code_for o (depth_of v.spin)) (sym task) in
       let unused : (m : ℕ) → total (uses_as c) (map (frame_on m) ps) ≡ 0 = unused-new n w q ps k named id (spin_part v) t i at task four (omega (arith, deep)) in
       let r = to-locked w q ps k at (q l) (node_at Clearing c) (own-enter l (spin_part v) (moved n l less most v id (node_at Clearing c)) t i e refl task deep four refl (mine w q ps k at)) Out e (omega arith) refl (λ no. absurd (omega arith)) tt c 0 tt
@@ -156,14 +155,14 @@ module _ {E : Type 0} (n l : ℕ) (less : l < n) (most : n ≤ 8) (v : View E) (
       (node.wipes (word_in w l) (next_in w) (locked_in w) (q l) (map (frame_on l) ps) id (locked_in (set w (locked_at c) 0)) f c (unused l) (put-locked w c 0 wide fits) (lock w q ps k at) (old w q ps k at Out e)) in
       let r' : Afters w q ps k at (set w (locked_at c) 0) (cleared_locked l v) = subst (λ (z : ℕ). Afters w q ps k at (set w (locked_at c) 0) (framed l v.spin (node_at Clearing z))) own r in (r'.0, r'.1, tt)
 
-  pub clears-next : f.point ≡ Clearing → SpinAllows n l id v (next_at f.code) (Store 0) (λ x. cleared_next l v) (λ x. Unit {0})
+  pub clears-next : {tasks : ℕ} → f.point ≡ Clearing → SpinAllows n tasks l id v (next_at f.code) (Store 0) (λ x. cleared_next l v) (λ x. Unit {0})
   clears-next e w q ps k named at small = let c : ℕ = f.code in let wide = k.wide in let user = my-node w q ps k at named Clearing e refl in let fits = small-user n w q ps k named l c user in
       let r = to-next w q ps k at (q l) (at_point f Cleared) (own-same w q ps k at (at_point f Cleared) Clearing e refl refl refl) Clearing e (omega arith) refl (λ no. absurd (omega arith)) tt c 0 tt
       (λ m apart more. away-next n w q ps k named m c 0 more fits (unused-else n w q ps k named l m c apart user))
       (node.cleans (word_in w l) (next_in w) (locked_in w) (q l) (map (frame_on l) ps) id (next_in (set w (next_at c) 0)) f (put-next w c 0 wide fits) (lock w q ps k at) (old w q ps k at Clearing e)) in (r.0, r.1, tt)
 
   -- the exchange of the tail
-  pub queues : (from : ℕ) → f.point ≡ Cleared → SpinAllows n l id v (word_at l) (Exchange from (from % 512 + tail_unit * f.code)) (λ x. queued l from x v) (λ x. x / tail_unit < codes)
+  pub queues : {tasks : ℕ} → (from : ℕ) → f.point ≡ Cleared → SpinAllows n tasks l id v (word_at l) (Exchange from (from % 512 + tail_unit * f.code)) (λ x. queued l from x v) (λ x. x / tail_unit < codes_of tasks)
   queues from e w q ps k named at small = let x : ℕ = word_in w l in let c : ℕ = f.code in let o = (mine w q ps k at).node l (ap uses e) in let m = o.is in let true_code : c ≢ 0 = λ z. omega (arith, m, z) in let r : List ℕ = q l ++ c ∷ [] in
       let first : Frame = record f { point = Front; found = 0; next = 0 } in let behind : Frame = record f { point = Linking; found = x / tail_unit } in let i : ℕ = word_at l in
       let t : Afters w q ps k at (set w i (if x == from then from % 512 + tail_unit * c else x)) (queued l from x v) = by_test (eqb x from) (λ b. Afters w q ps k at (set w i (if b then from % 512 + tail_unit * c else x)) (if b then (if ltb x 512 then framed l v.spin first else framed l v.spin behind) else v.spin))
@@ -177,14 +176,14 @@ module _ {E : Type 0} (n l : ℕ) (less : l < n) (most : n ≤ 8) (v : View E) (
       (t.0, t.1, small-tail n w q ps k named l less)
 
   -- it tells its predecessor
-  pub links : f.point ≡ Linking → SpinAllows n l id v (next_at f.found) (Store f.code) (λ x. linked l v) (λ x. Unit {0})
+  pub links : {tasks : ℕ} → f.point ≡ Linking → SpinAllows n tasks l id v (next_at f.found) (Store f.code) (λ x. linked l v) (λ x. Unit {0})
   links e w q ps k named at small = let wide = k.wide in let there = old w q ps k at Linking e in let ok = (lock w q ps k at).each id (at_point f Linking) there in let user = queued-user n w q ps k named l less ok.0.0 f.found ok.0.1 in let fits = small-user n w q ps k named l f.found user in
       let r = to-next w q ps k at (q l) (at_point f Waiting) (own-same w q ps k at (at_point f Waiting) Linking e refl refl refl) Linking e (omega arith) (refl, refl) (λ no. absurd (omega arith)) tt f.found f.code tt
       (λ m apart more. away-next n w q ps k named m f.found f.code more fits (unused-else n w q ps k named l m f.found apart user))
       (node.links (word_in w l) (next_in w) (locked_in w) (q l) (map (frame_on l) ps) id (next_in (set w (next_at f.found) f.code)) f (put-next w f.found f.code wide fits) (lock w q ps k at) there) in (r.0, r.1, tt)
 
   -- a load of the own `locked`
-  pub hears : f.point ≡ Waiting → SpinAllows n l id v (locked_at f.code) Load (λ x. heard l x v) (λ x. Unit {0})
+  pub hears : {tasks : ℕ} → f.point ≡ Waiting → SpinAllows n tasks l id v (locked_at f.code) Load (λ x. heard l x v) (λ x. Unit {0})
   hears e w q ps k named at small = let i : ℕ = locked_at f.code in let x : ℕ = get_or w i 0 in
       let t : Afters w q ps k at (set w i x) (heard l x v) = by_test (eqb x 1) (λ b. Afters w q ps k at (set w i x) (if b then framed l v.spin (as_front f) else v.spin))
       (λ one. to-look w q ps k at (q l) (as_front f) (own-same w q ps k at (as_front f) Waiting e refl refl refl) Waiting e (omega arith) (refl, refl) (λ no. absurd (omega arith)) tt i tt
@@ -192,25 +191,25 @@ module _ {E : Type 0} (n l : ℕ) (less : l < n) (most : n ≤ 8) (v : View E) (
       (λ other. still w q ps k at i) in (t.0, t.1, tt)
 
   -- loads of the own `next`
-  pub learns : f.point ≡ Front → SpinAllows n l id v (next_at f.code) Load (λ x. learnt l Front x v) (λ x. x < codes)
+  pub learns : {tasks : ℕ} → f.point ≡ Front → SpinAllows n tasks l id v (next_at f.code) Load (λ x. learnt l Front x v) (λ x. x < codes_of tasks)
   learns e w q ps k named at small = let x : ℕ = next_in w f.code in let g : Frame = record f { point = Front; next = x } in let there = old w q ps k at Front e in
       let r = to-look w q ps k at (q l) g (own-same w q ps k at g Front e refl refl refl) Front e (omega arith) (refl, refl) (λ no. absurd (omega arith)) tt (next_at f.code) tt (node.learns (word_in w l) (next_in w) (locked_in w) (q l) (map (frame_on l) ps) id f (lock w q ps k at) there) in
       (r.0, r.1, small-next n w q ps k named l less f.code ((lock w q ps k at).each id (at_point f Front) there).0)
 
-  pub learns-late : f.point ≡ Passing → SpinAllows n l id v (next_at f.code) Load (λ x. learnt l Passing x v) (λ x. x < codes)
+  pub learns-late : {tasks : ℕ} → f.point ≡ Passing → SpinAllows n tasks l id v (next_at f.code) Load (λ x. learnt l Passing x v) (λ x. x < codes_of tasks)
   learns-late e w q ps k named at small = let x : ℕ = next_in w f.code in let g : Frame = record f { point = Passing; next = x } in let there = old w q ps k at Passing e in
       let r = to-look w q ps k at (q l) g (own-same w q ps k at g Passing e refl refl refl) Passing e (omega arith) (refl, refl) (λ _. tt) tt (next_at f.code) tt (node.learns-late (word_in w l) (next_in w) (locked_in w) (q l) (map (frame_on l) ps) id f (lock w q ps k at) there) in
       (r.0, r.1, small-next n w q ps k named l less f.code ((lock w q ps k at).each id (at_point f Passing) there).0)
 
   -- the front loads the word
-  pub readies : f.point ≡ Front → SpinAllows n l id v (word_at l) Load (λ x. readied l x v) (λ x. Unit {0})
+  pub readies : {tasks : ℕ} → f.point ≡ Front → SpinAllows n tasks l id v (word_at l) Load (λ x. readied l x v) (λ x. Unit {0})
   readies e w q ps k named at small = let i : ℕ = word_at l in let x : ℕ = word_in w l in let t : Afters w q ps k at (set w i x) (readied l x v) = by_test (eqb (x % 512) 0) (λ b. Afters w q ps k at (set w i x) (if b then went l v.spin Ready else v.spin))
       (λ free. let z = eqb-true (x % 512) 0 free in to-look w q ps k at (q l) (at_point f Ready) (own-same w q ps k at (at_point f Ready) Front e refl refl refl) Front e (omega arith) (refl, refl) (λ no. absurd (omega arith)) (omega (arith, z), omega (arith, z)) i tt
       (node.readies x (next_in w) (locked_in w) (q l) (map (frame_on l) ps) id f z (lock w q ps k at) (old w q ps k at Front e)))
       (λ held. still w q ps k at i) in (t.0, t.1, tt)
 
   -- the exchange of the own tail alone for 1
-  pub takes-last : (from : ℕ) → from ≡ tail_unit * f.code → f.point ≡ Ready → IsTop l (spin_part v) → SpinAllows n l id v (word_at l) (Exchange from 1) (λ x. took_last l from x v) (λ x. Unit {0})
+  pub takes-last : {tasks : ℕ} → (from : ℕ) → from ≡ tail_unit * f.code → f.point ≡ Ready → IsTop l (spin_part v) → SpinAllows n tasks l id v (word_at l) (Exchange from 1) (λ x. took_last l from x v) (λ x. Unit {0})
   takes-last from is e top w q ps k named at small = let i : ℕ = word_at l in let x : ℕ = word_in w l in let s : SpinHand = took_at l v.spin (v.steps + 1) Holding in let there = old w q ps k at Ready e in
       let t : Afters w q ps k at (set w i (if x == from then 1 else x)) (took_last l from x v) = by_test (eqb x from) (λ b. Afters w q ps k at (set w i (if b then 1 else x)) (if b then s else v.spin))
       (λ same. let own : x ≡ tail_unit * f.code = eqb-true x from same ∙ is in let wide = k.wide in
@@ -223,7 +222,7 @@ module _ {E : Type 0} (n l : ℕ) (less : l < n) (most : n ≤ 8) (v : View E) (
       first-word w x wide = let e = eight in get_or-set_same w (word_at l) x 0 (omega (arith, wide, e))
 
   -- the front sets the locked byte
-  pub takes-front : f.point ≡ Ready → SpinAllows n l id v (word_at l) (Or 1) (λ x. took_front l v) (λ x. Unit {0})
+  pub takes-front : {tasks : ℕ} → f.point ≡ Ready → SpinAllows n tasks l id v (word_at l) (Or 1) (λ x. took_front l v) (λ x. Unit {0})
   takes-front e w q ps k named at small = let x : ℕ = word_in w l in let there = old w q ps k at Ready e in let b = (lock w q ps k at).balanced in let h : 1 ≤ total ready_of (map (frame_on l) ps) = total-at ready_of (map (frame_on l) ps) id (at_point f Ready) there in
       let r = to-taken w q ps k at (q l) Passing (own-node l (spin_part v) (taken l v.spin (v.steps + 1) Passing) (ap uses e) refl refl (mine w q ps k at)) Ready e refl refl (refl, refl) (let m : x % 256 ≡ 0 = omega arith in m) tt (x + 1) tt (node.passes x (next_in w) (locked_in w) (q l) (map (frame_on l) ps) id f (lock w q ps k at) there) in (
         subst (λ (m : ℕ). SpinsMove n id w ps (set w (word_at l) m) (set ps id (part_with v (took_front l v)))) (sym (or_byte x (omega arith))) r.0,
@@ -232,7 +231,7 @@ module _ {E : Type 0} (n l : ℕ) (less : l < n) (most : n ≤ 8) (v : View E) (
       )
 
   -- it makes its successor the front
-  pub tells-next : f.next ≢ 0 → f.point ≡ Passing → IsTop l (spin_part v) → SpinAllows n l id v (locked_at f.next) (Store 1) (λ x. passed l v) (λ x. Unit {0})
+  pub tells-next : {tasks : ℕ} → f.next ≢ 0 → f.point ≡ Passing → IsTop l (spin_part v) → SpinAllows n tasks l id v (locked_at f.next) (Store 1) (λ x. passed l v) (λ x. Unit {0})
   tells-next some_next e top w q ps k named at small = let wide = k.wide in let there = old w q ps k at Passing e in let ok = (lock w q ps k at).each id (at_point f Passing) there in
       let second : (get_elem? (q l) 1 ≡ some f.next) × (next_in w f.code ≡ f.next) = ⊎_elim (λ z. absurd (some_next z)) (λ s. s) ok.2 in
       let user = queued-user n w q ps k named l less 1 f.next second.0 in let fits = small-user n w q ps k named l f.next user in let stated = states (word_in w l) (next_in w) (locked_in w) (q l) (map (frame_on l) ps) (lock w q ps k at) in

@@ -14,9 +14,9 @@ use Rattle.qspin_word.specs.Allows.{AreNumbered}
 use Rattle.qspin_queue.proofs.Saying.{says}
 use Rattle.qspin_queue.proofs.Moving.{moved}
 
-module _ {E : Type 0} (marks : E → List ℕ) (holds : List ℕ → List (View E) → Type 0) (moves : ℕ → List ℕ → List (View E) → List ℕ → List (View E) → Type 0) (n first : ℕ) where
+module _ {E : Type 0} (marks : E → List ℕ) (holds : List ℕ → List (View E) → Type 0) (moves : ℕ → List ℕ → List (View E) → List ℕ → List (View E) → Type 0) (n tasks first : ℕ) where
   -- at each moment the spin words stated where each pass was at the lock
-  pub each-lock : ((ws : List ℕ) (vs : List (View E)) → holds ws vs → SpinsKept n (part first SPIN_WORDS ws) (map spin_part vs)) → ((ws : List ℕ) (vs : List (View E)) → holds ws vs → AreNumbered (map spin_part vs))
+  pub each-lock : ((ws : List ℕ) (vs : List (View E)) → holds ws vs → SpinsKept n (part first SPIN_WORDS ws) (map spin_part vs)) → ((ws : List ℕ) (vs : List (View E)) → holds ws vs → AreNumbered tasks (map spin_part vs))
       → (begun now before : Moment) (rest past : List Moment) → past ≡ now ∷ before ∷ rest → Ran marks begun (Moves holds moves) past → EachMoment (AreSpinLocksThen n first) past
   each-lock kept numbered begun now before rest past two r = ran-each marks holds moves (AreSpinLocksThen n first) (λ ws vs h. says marks n first ws vs (kept ws vs h) (numbered ws vs h)) begun now before rest past two r
 

@@ -67,7 +67,7 @@ one_view [] j h s at at' = absurd (some-ne-none h (sym at))
 one_view (v ∷ vs) zero h s at at' = (v, refl, some-injective v.hand h at, some-injective v.spin s at')
 one_view (v ∷ vs) (suc j) h s at at' = one_view vs j h s at at'
 
-module _ {E : Type 0} (n : ℕ) (w : List ℕ) (q : ℕ → List ℕ) (vs : List (View E)) (k : SpinFacts n w q (map spin_part vs)) (named : AreNumbered (map spin_part vs)) where
+module _ {E : Type 0} {tasks : ℕ} (n : ℕ) (w : List ℕ) (q : ℕ → List ℕ) (vs : List (View E)) (k : SpinFacts n w q (map spin_part vs)) (named : AreNumbered tasks (map spin_part vs)) where
   own_nodes : (j : ℕ) (h : Hand) (s : SpinHand) → get_elem? (map hand_of vs) j ≡ some h → get_elem? (map spin_of vs) j ≡ some s → UsesOwnNodes h s
   own_nodes j h s at at' = let v = one_view vs j h s at at' in subst (λ (z : Hand × SpinHand). UsesOwnNodes z.0 z.1) (λ i. (v.2 i, v.3 i)) (k.own j (spin_part v.0) (at_map spin_part vs j v.0 v.1))
 
@@ -82,10 +82,10 @@ module _ {E : Type 0} (n : ℕ) (w : List ℕ) (q : ℕ → List ℕ) (vs : List
   stated l less = subst (λ (fs : List Frame). SpinWordsSay l w (q l) fs) (map-frames l vs) (states (word_in w l) (next_in w) (locked_in w) (q l) (map (frame_on l) (map spin_part vs)) (lock-of n w q (map spin_part vs) k l less))
 
   packed : (l : ℕ) → l < n → IsSpinWord (word_in w l)
-  packed l less = let b = (lock-of n w q (map spin_part vs) k l less).balanced in let t = small-tail n w q (map spin_part vs) k named l less in let c = b.comes in let i = b.word_is in let o = b.owner in
-      packs (word_in w l) _ _ (tail_of (q l)) i (omega (arith, c)) o (omega (arith, i, c, o, t)) (big l less)
+  packed l less = let b = (lock-of n w q (map spin_part vs) k l less).balanced in let t = small-tail n w q (map spin_part vs) k named l less in let c = b.comes in let i = b.word_is in let o = b.owner in let most = named.most in
+      packs (word_in w l) _ _ (tail_of (q l)) i (omega (arith, c)) o (omega (arith, i, c, o, t, most)) (big l less)
 
-pub says : {E : Type 0} (marks : E → List ℕ) (n first : ℕ) (ws : List ℕ) (vs : List (View E)) → SpinsKept n (part first SPIN_WORDS ws) (map spin_part vs) → AreNumbered (map spin_part vs) → AreSpinLocksThen n first (moment marks (instant ws vs))
+pub says : {E : Type 0} {tasks : ℕ} (marks : E → List ℕ) (n first : ℕ) (ws : List ℕ) (vs : List (View E)) → SpinsKept n (part first SPIN_WORDS ws) (map spin_part vs) → AreNumbered tasks (map spin_part vs) → AreSpinLocksThen n first (moment marks (instant ws vs))
 says marks n first ws vs (q, k) named = let w : List ℕ = part first SPIN_WORDS ws in let ps : List SpinPart = map spin_part vs in record {
   queues = q;
   says = stated n w q vs k named;

@@ -21,7 +21,7 @@ use Rattle.lock_core.specs.Spins.{SpinFacts, IsOwnNode, OwnNodes, frame_on, node
 use Rattle.qspin_word.specs.Allows.{AreNumbered}
 use Rattle.qspin_word.proofs.Codes.{some_summand, tail-in, total-below}
 use Rattle.qspin_word.proofs.Regions.{codes, put-next, put-locked}
-use Rattle.qspin_queue.specs.Handles.{IsTop}
+use Rattle.qspin_queue.specs.Handles.{IsTop, codes_of}
 use Rattle.qspin_queue.proofs.Standing.{counted, counts-stands, stands-below, stands-uses, uses-one, relocked, renext}
 
 -- a node that nobody uses at the lock isn't in its queue, and no frame speaks of it
@@ -52,7 +52,7 @@ locked-away word next locked locked' q fs c x unused put k = record {
 }
 
 -- the codes that the words have are those of tasks' nodes, and no two locks have one
-module _ (n : ℕ) (w : List ℕ) (q : ℕ → List ℕ) (ps : List SpinPart) (k : SpinFacts n w q ps) (named : AreNumbered ps) where
+module _ {tasks : ℕ} (n : ℕ) (w : List ℕ) (q : ℕ → List ℕ) (ps : List SpinPart) (k : SpinFacts n w q ps) (named : AreNumbered tasks ps) where
   -- a pass uses the node of this code at this lock
   abbrev pub User : ℕ → ℕ → Type 0
   User l c = (j : ℕ) × (p : SpinPart) × (get_elem? ps j ≡ some p) × (uses (point_at l p.spin) ≡ true) × ((frame_at l p.spin).code ≡ c)
@@ -61,19 +61,22 @@ module _ (n : ℕ) (w : List ℕ) (q : ℕ → List ℕ) (ps : List SpinPart) (k
   user l c found = let s = some_summand (uses_as c) (map (frame_on l) ps) found in let t = counts-stands (uses s.1.point) c s.1.code s.3 in let r = at_unmap (frame_on l) ps s.0 s.1 s.2 in
       (s.0, r.0, r.1, ap (λ (f : Frame). uses f.point) r.2 ∙ t.0, ap (λ (f : Frame). f.code) r.2 ∙ t.1)
 
+  pub planned-user : (l c : ℕ) → User l c → c < codes_of tasks
+  planned-user l c (j, p, at, used, is) = let o = (k.own j p at).node l used in let few = named.few j p at o.task o.named in let e = o.is in let i = o.four in omega (arith, few, e, i, is)
+
   pub small-user : (l c : ℕ) → User l c → c < codes
-  small-user l c (j, p, at, used, is) = let o = (k.own j p at).node l used in let few = named.few j p at o.task o.named in let e = o.is in let i = o.four in omega (arith, few, e, i, is)
+  small-user l c u = let s = planned-user l c u in let most = named.most in omega (arith, s, most)
 
   pub queued-user : (l : ℕ) → l < n → (r x : ℕ) → get_elem? (q l) r ≡ some x → User l x
   queued-user l less r x there = let fs : List Frame = map (frame_on l) ps in let c = counted (q l) r x there in let m = (lock-of n w q ps k l less).queued.members x in let b = total-below (stands_as x) (uses_as x) (λ f. stands-below f.point (code_is x f.code)) fs in user l x (omega (arith, c, m, b))
 
-  pub small-queued : (l : ℕ) → l < n → (r x : ℕ) → get_elem? (q l) r ≡ some x → x < codes
-  small-queued l less r x there = small-user l x (queued-user l less r x there)
+  pub small-queued : (l : ℕ) → l < n → (r x : ℕ) → get_elem? (q l) r ≡ some x → x < codes_of tasks
+  small-queued l less r x there = planned-user l x (queued-user l less r x there)
 
-  pub small-tail : (l : ℕ) → l < n → word_in w l / tail_unit < codes
+  pub small-tail : (l : ℕ) → l < n → word_in w l / tail_unit < codes_of tasks
   small-tail l less = let b = (lock-of n w q ps k l less).balanced in ⊎_elim (λ e. let z = ap tail_of e in omega (arith, b.word_is, b.owner, b.comes, z)) (λ t. let s = small-queued l less t.0 (tail_of (q l)) t.1 in omega (arith, b.word_is, b.owner, b.comes, s)) (tail-in (q l))
 
-  pub small-next : (l : ℕ) → l < n → (code : ℕ) → get_elem? (q l) 0 ≡ some code → next_in w code < codes
+  pub small-next : (l : ℕ) → l < n → (code : ℕ) → get_elem? (q l) 0 ≡ some code → next_in w code < codes_of tasks
   small-next l less code first = ⊎_elim (λ z. omega (arith, z)) (λ t. small-queued l less 1 (next_in w code) t) ((lock-of n w q ps k l less).linked 0 code first)
 
   same-pass : (j r : ℕ) (p s : SpinPart) (c : ℕ) → get_elem? ps j ≡ some p → get_elem? ps r ≡ some s → IsOwnNode p c → IsOwnNode s c → (j ≡ r) × (p ≡ s)

@@ -1,19 +1,18 @@
 -- What a clause reads of a pass in the queue of a spin lock.
-use Rattle.std.specs.Prelude.{◌≡◌, ◌≢◌, ℕ, ◌+◌, ◌*◌, ◌<◌, ◌≤◌, ◌⊎◌, Some, None, IsSome}
-use Rattle.word_bits.specs.declared.TheConstants.{MAX_TASKS}
+use Rattle.std.specs.Prelude.{◌≡◌, ◌≢◌, ℕ, ◌+◌, ◌*◌, ◌<◌, ◌≤◌, ◌⊎◌, length, Some, None, IsSome}
 use Rattle.lock_core.specs.declared.pass.Pass.{Pass}
 use Rattle.lock_core.specs.declared.view.Point.TheVariants.{Taking, Trying, Cleared, Ready}
 use Rattle.lock_core.specs.declared.site.Site.{Site}
 use Rattle.lock_core.specs.Views.{SpinPart, SpinRests, SpinHolds, spin_part}
 use Rattle.lock_core.specs.LockHands.{lock_hand_at, frame_at, depth_of, RestsEverywhere}
 use Rattle.lock_core.specs.Spins.{node_code}
-use Rattle.lock_core.specs.Handles.{view_of, hand_in, task_in, SitsAt, SaysSame, KeepsPast, IsLatest, IsDepthTold, IsNestTold}
+use Rattle.lock_core.specs.Handles.{plan_of, view_of, hand_in, task_in, SitsAt, SaysSame, KeepsPast, IsLatest, IsDepthTold, IsNestTold}
 use Rattle.qspin_word.specs.Ways.{LockGained}
 use Rattle.qspin_word.specs.Handles.{spin_in, KeepsFlagsBeside}
 
--- the codes of nodes are smaller
-abbrev pub codes : ℕ
-codes = 4 * MAX_TASKS + 4
+-- the codes of the nodes of so many tasks are smaller
+abbrev pub codes_of : ℕ → ℕ
+codes_of tasks = 4 * tasks + 4
 
 -- its node at the lock is the one that it began to use last
 pub record IsTop (l : ℕ) (p : SpinPart) : Type 0 where
@@ -24,6 +23,10 @@ pub record IsTop (l : ℕ) (p : SpinPart) : Type 0 where
   pub is : (frame_at l p.spin).code ≡ node_code task index
 
 module _ {R O E C : Type 0} where
+  -- the codes of the nodes of the plan's tasks are smaller
+  abbrev pub codes : Site R O E C → ℕ
+  codes site = codes_of (length (plan_of site))
+
   -- the code of its node
   abbrev pub code_in : ℕ → Pass R O E C → ℕ
   code_in l pass = (frame_at l (view_of pass).spin).code
@@ -37,13 +40,13 @@ module _ {R O E C : Type 0} where
   successor_in l pass = (frame_at l (view_of pass).spin).next
 
   -- this is the code of the next node of its task
-  pub record IsNextNode (pass : Pass R O E C) (code : ℕ) : Type 0 where
+  pub record IsNextNode (site : Site R O E C) (pass : Pass R O E C) (code : ℕ) : Type 0 where
     pub task : ℕ
     pub index : ℕ
     pub named : (hand_in pass).task ≡ Some task
     pub is : code ≡ node_code task index
     pub depth : index ≡ depth_of (spin_in pass)
-    pub small : task < MAX_TASKS
+    pub small : task < length (plan_of site)
     pub four : index < 4
 
   -- it took the lock as the ready front of the queue; or, before it stood there, by a try with its node cleared, at one of its first so many steps; or by a try that it repeated, since all nodes of its task were in use

@@ -36,13 +36,13 @@ fn enter_queue<H: SpinHost, W: Wait>(
     requires told { IsNestTold pass.old }
     requires point { point_in lock pass.old ≡ Cleared }
     requires node { code_in lock pass.old ≡ code }
-    requires small { code < codes }
+    requires small { code < codes site.now }
     ensures waits { SpinWaits lock (Unit {0}) site.now pass.old pass.new
         (lock_hand_with (entered result (frame_at lock (spin_in pass.old)))
         (lock_hand_of lock pass.old)) }
     ensures told { IsNestTold pass.new }
     ensures nodes { KeepsNodes pass.old pass.new }
-    ensures tail { tail_in result < codes }
+    ensures tail { tail_in result < codes site.now }
 {
     for _ in rt.forever() {
         let seen = peek(site, pass, lock);
@@ -70,7 +70,7 @@ fn wait_front<H: SpinHost, W: Wait, I: Interrupt<Site<H>>>(
     requires told { IsNestTold pass.old }
     requires point { point_in lock pass.old ≡ Waiting }
     requires node { code_in lock pass.old ≡ code }
-    requires small { code < codes }
+    requires small { code < codes site.now }
     ensures waits { SpinWaits lock I.silent site.now pass.old pass.new
         (lock_hand_with (as_front (frame_at lock (spin_in pass.old)))
         (lock_hand_of lock pass.old)) }
@@ -139,14 +139,14 @@ fn become_front<H: SpinHost, W: Wait, I: Interrupt<Site<H>>>(
     requires point { point_in lock pass.old ≡ Linking }
     requires found { found_in lock pass.old ≡ predecessor }
     requires node { code_in lock pass.old ≡ code }
-    requires tail { predecessor < codes }
-    requires small { code < codes }
+    requires tail { predecessor < codes site.now }
+    requires small { code < codes site.now }
     ensures waits { SpinWaits lock I.silent site.now pass.old pass.new
         (lock_hand_with (learning Front result (frame_at lock (spin_in pass.old)))
         (lock_hand_of lock pass.old)) }
     ensures told { IsNestTold pass.new }
     ensures nodes { KeepsNodes pass.old pass.new }
-    ensures next { result < codes }
+    ensures next { result < codes site.now }
 {
     // Until it reads this, the predecessor can't leave: it waits for a successor that it knows.
     link(site, pass, lock, predecessor, code);
@@ -170,14 +170,14 @@ fn wait_successor<H: SpinHost, W: Wait, I: Interrupt<Site<H>>>(
     requires point { point_in lock pass.old ≡ Passing }
     requires none { successor_in lock pass.old ≡ 0 }
     requires node { code_in lock pass.old ≡ code }
-    requires small { code < codes }
+    requires small { code < codes site.now }
     ensures waits { SpinWaits lock I.silent site.now pass.old pass.new
         (lock_hand_with (learning Passing result (frame_at lock (spin_in pass.old)))
         (lock_hand_of lock pass.old)) }
     ensures told { IsNestTold pass.new }
     ensures nodes { KeepsNodes pass.old pass.new }
     ensures some { result ≢ 0 }
-    ensures next { result < codes }
+    ensures next { result < codes site.now }
 {
     let backoff = Backoff::new();
     for _ in rt.forever() {
@@ -204,7 +204,7 @@ fn take_last<H: SpinHost>(
     requires told { IsNestTold pass.old }
     requires point { point_in lock pass.old ≡ Ready }
     requires node { code_in lock pass.old ≡ code }
-    requires small { code < codes }
+    requires small { code < codes site.now }
     requires top { HasTop lock pass.old }
     ensures takes { result ≡ true → SpinTakes lock (Unit {0}) site.now pass.old pass.new }
     ensures left { result ≡ true → LeavesNode pass.old pass.new }
@@ -235,9 +235,9 @@ fn hand_on<H: SpinHost, W: Wait, I: Interrupt<Site<H>>>(
     requires told { IsNestTold pass.old }
     requires point { point_in lock pass.old ≡ Ready }
     requires next { successor_in lock pass.old ≡ next }
-    requires fits { next < codes }
+    requires fits { next < codes site.now }
     requires node { code_in lock pass.old ≡ code }
-    requires small { code < codes }
+    requires small { code < codes site.now }
     requires top { HasTop lock pass.old }
     ensures takes { SpinTakes lock I.silent site.now pass.old pass.new }
     ensures left { LeavesNode pass.old pass.new }
@@ -271,9 +271,9 @@ fn take_front<H: SpinHost, W: Wait, I: Interrupt<Site<H>>>(
     requires told { IsNestTold pass.old }
     requires point { point_in lock pass.old ≡ Front }
     requires next { successor_in lock pass.old ≡ next }
-    requires fits { next < codes }
+    requires fits { next < codes site.now }
     requires node { code_in lock pass.old ≡ code }
-    requires small { code < codes }
+    requires small { code < codes site.now }
     requires top { HasTop lock pass.old }
     ensures takes { SpinTakes lock I.silent site.now pass.old pass.new }
     ensures left { LeavesNode pass.old pass.new }
@@ -311,7 +311,7 @@ fn clear_node<H: SpinHost>(site: &Site<H>, pass: &mut Pass<H>, lock: usize, code
     requires there { lock < H.LOCKS }
     requires told { IsNestTold pass.old }
     requires out { RestsAt lock (spin_in pass.old) }
-    requires node { IsNextNode pass.old code }
+    requires node { IsNextNode site.now pass.old code }
     ensures waits { SpinWaits lock (Unit {0}) site.now pass.old pass.new
         (lock_hand_with (node_at Cleared code) (lock_hand_of lock pass.old)) }
     ensures told { IsNestTold pass.new }
@@ -341,7 +341,7 @@ fn queue_up<H: SpinHost, W: Wait, I: Interrupt<Site<H>>>(
     requires told { IsNestTold pass.old }
     requires point { point_in lock pass.old ≡ Cleared }
     requires node { code_in lock pass.old ≡ code }
-    requires small { code < codes }
+    requires small { code < codes site.now }
     requires top { HasTop lock pass.old }
     ensures takes { SpinTakes lock I.silent site.now pass.old pass.new }
     ensures left { LeavesNode pass.old pass.new }
@@ -370,7 +370,7 @@ fn take_with<H: SpinHost, W: Wait, I: Interrupt<Site<H>>>(
     requires numbered { IsSome (task_in pass.old) }
     requires told { IsNestTold pass.old }
     requires out { RestsAt lock (spin_in pass.old) }
-    requires node { IsNextNode pass.old code }
+    requires node { IsNextNode site.now pass.old code }
     ensures takes { SpinTakes lock I.silent site.now pass.old pass.new }
     ensures nodes { KeepsNodes pass.old pass.new }
     ensures in_turn { TakesInTurn lock 4 pass.old pass.new }
@@ -463,7 +463,7 @@ fn node_code<H: SpinHost>(site: &Site<H>, pass: &Pass<H>) -> u64
     requires numbered { IsSome (task_in pass.now) }
     requires told { IsNestTold pass.now }
     requires room { depth_of (spin_in pass.now) < 4 }
-    ensures { IsNextNode pass.now result }
+    ensures { IsNextNode site.now pass.now result }
 {
     let Some(task) = pass.task() else {
         unreachable!()

@@ -1,6 +1,7 @@
 //! The single steps of the slow path, each at the point of the lock at which a pass may make it.
 //! `code` is the code of the pass's node: four times its task's number plus 1, and the node's number.
 ghost use Rattle.std.specs.Prelude.{◌≡◌, ◌≢◌, ◌+◌, ◌*◌, ◌/◌, ◌<◌};
+ghost use Rattle.word_bits.specs.declared.TheConstants.{MAX_TASKS};
 ghost use Rattle.lock_core.specs.declared.view.Point.TheVariants.{Clearing, Cleared, Linking, Waiting, Front, Ready, Passing};
 ghost use Rattle.lock_core.specs.LockHands.{RestsAt};
 ghost use Rattle.lock_core.specs.Spins.{tail_in, word_at, next_at, locked_at};
@@ -8,7 +9,7 @@ ghost use Rattle.lock_core.specs.Handles.{view_of, past_of, SitsAt};
 ghost use Rattle.lock_core.specs.Pasts.{FoundAt};
 ghost use Rattle.qspin_word.specs.Handles.{spin_in, point_in, SpinSteps};
 ghost use Rattle.qspin_queue.specs.Hands.{retried, cleared_locked, cleared_next, queued, linked, heard, learnt, readied, took_last, took_front, passed};
-ghost use Rattle.qspin_queue.specs.Handles.{codes, code_in, found_in, successor_in, IsNextNode, HasTop};
+ghost use Rattle.qspin_queue.specs.Handles.{codes, codes_of, code_in, found_in, successor_in, IsNextNode, HasTop};
 
 use lock_core::{Op, Pass, Site, SpinHost};
 use qspin_word::{LOCKED, TAIL, TAILLESS, spin_step, word_step};
@@ -16,7 +17,7 @@ use std::marker::Brand;
 
 /// The place of `next` of a node among the spin words.
 fn next_place(code: u64) -> usize
-    requires { code < codes }
+    requires { code < codes_of MAX_TASKS }
     ensures { result ≡ next_at code }
 {
     8 * code as usize + 33
@@ -24,7 +25,7 @@ fn next_place(code: u64) -> usize
 
 /// The place of `locked` of a node, on the same line.
 fn locked_place(code: u64) -> usize
-    requires { code < codes }
+    requires { code < codes_of MAX_TASKS }
     ensures { result ≡ locked_at code }
 {
     8 * code as usize + 34
@@ -47,7 +48,7 @@ pub fn clear_locked<H: SpinHost>(site: &Site<H>, pass: &mut Pass<H>, lock: usize
     requires own { SitsAt site.now pass.old }
     requires there { lock < H.LOCKS }
     requires out { RestsAt lock (spin_in pass.old) }
-    requires node { IsNextNode pass.old code }
+    requires node { IsNextNode site.now pass.old code }
     ensures steps { SpinSteps site.now pass.old pass.new (cleared_locked lock (view_of pass.old)) }
 {
     spin_step::<H, Brand>(site, pass, lock, locked_place(code), Op::Store(0));
@@ -59,7 +60,7 @@ pub fn clear_next<H: SpinHost>(site: &Site<H>, pass: &mut Pass<H>, lock: usize, 
     requires there { lock < H.LOCKS }
     requires point { point_in lock pass.old ≡ Clearing }
     requires node { code_in lock pass.old ≡ code }
-    requires small { code < codes }
+    requires small { code < codes site.now }
     ensures steps { SpinSteps site.now pass.old pass.new (cleared_next lock (view_of pass.old)) }
 {
     spin_step::<H, Brand>(site, pass, lock, next_place(code), Op::Store(0));
@@ -77,10 +78,10 @@ pub fn exchange_tail<H: SpinHost>(
     requires there { lock < H.LOCKS }
     requires point { point_in lock pass.old ≡ Cleared }
     requires node { code_in lock pass.old ≡ code }
-    requires small { code < codes }
+    requires small { code < codes site.now }
     ensures steps { SpinSteps site.now pass.old pass.new
         (queued lock from result (view_of pass.old)) }
-    ensures tail { tail_in result < codes }
+    ensures tail { tail_in result < codes site.now }
     ensures found { FoundAt (H.FIRST + word_at lock) result (past_of pass.new) }
 {
     word_step::<H, Brand>(
@@ -104,7 +105,7 @@ pub fn link<H: SpinHost>(
     requires point { point_in lock pass.old ≡ Linking }
     requires found { found_in lock pass.old ≡ predecessor }
     requires node { code_in lock pass.old ≡ code }
-    requires small { predecessor < codes }
+    requires small { predecessor < codes site.now }
     ensures steps { SpinSteps site.now pass.old pass.new (linked lock (view_of pass.old)) }
 {
     spin_step::<H, Brand>(site, pass, lock, next_place(predecessor), Op::Store(code));
@@ -116,7 +117,7 @@ pub fn load_locked<H: SpinHost>(site: &Site<H>, pass: &mut Pass<H>, lock: usize,
     requires there { lock < H.LOCKS }
     requires point { point_in lock pass.old ≡ Waiting }
     requires node { code_in lock pass.old ≡ code }
-    requires small { code < codes }
+    requires small { code < codes site.now }
     ensures steps { SpinSteps site.now pass.old pass.new (heard lock result (view_of pass.old)) }
     ensures found { FoundAt (H.FIRST + locked_at code) result (past_of pass.new) }
 {
@@ -129,11 +130,11 @@ pub fn load_next<H: SpinHost>(site: &Site<H>, pass: &mut Pass<H>, lock: usize, c
     requires there { lock < H.LOCKS }
     requires point { point_in lock pass.old ≡ Front }
     requires node { code_in lock pass.old ≡ code }
-    requires small { code < codes }
+    requires small { code < codes site.now }
     ensures steps { SpinSteps site.now pass.old pass.new
         (learnt lock Front result (view_of pass.old)) }
     ensures found { FoundAt (H.FIRST + next_at code) result (past_of pass.new) }
-    ensures next { result < codes }
+    ensures next { result < codes site.now }
 {
     spin_step::<H, Brand>(site, pass, lock, next_place(code), Op::Load)
 }
@@ -184,11 +185,11 @@ pub fn load_successor<H: SpinHost>(
     requires there { lock < H.LOCKS }
     requires point { point_in lock pass.old ≡ Passing }
     requires node { code_in lock pass.old ≡ code }
-    requires small { code < codes }
+    requires small { code < codes site.now }
     ensures steps { SpinSteps site.now pass.old pass.new
         (learnt lock Passing result (view_of pass.old)) }
     ensures found { FoundAt (H.FIRST + next_at code) result (past_of pass.new) }
-    ensures next { result < codes }
+    ensures next { result < codes site.now }
 {
     spin_step::<H, Brand>(site, pass, lock, next_place(code), Op::Load)
 }
@@ -201,7 +202,7 @@ pub fn pass_front<H: SpinHost>(site: &Site<H>, pass: &mut Pass<H>, lock: usize, 
     requires top { HasTop lock pass.old }
     requires next { successor_in lock pass.old ≡ successor }
     requires some { successor ≢ 0 }
-    requires small { successor < codes }
+    requires small { successor < codes site.now }
     ensures steps { SpinSteps site.now pass.old pass.new (passed lock (view_of pass.old)) }
 {
     spin_step::<H, Brand>(site, pass, lock, locked_place(successor), Op::Store(1));

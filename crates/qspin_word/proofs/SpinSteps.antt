@@ -166,33 +166,33 @@ module _ {E : Type 0} (n l : ℕ) (less : l < n) (most : n ≤ 8) (v : View E) (
       counts-took l v.spin (v.steps + 1) Holding (ap holds_at e ∙ free) refl,
     )
 
-  pub tries : f.point ≡ Out → SpinAllows n l id v (word_at l) (Exchange 0 1) (λ x. tried l x v) (λ x. Unit {0})
+  pub tries : {tasks : ℕ} → f.point ≡ Out → SpinAllows n tasks l id v (word_at l) (Exchange 0 1) (λ x. tried l x v) (λ x. Unit {0})
   tries e w q ps k named at small = let x : ℕ = word_in w l in let t : After w q ps k at (set w (word_at l) (if x == 0 then 1 else x)) (tried l x v) = dite (ℕ_discrete x 0)
       (λ free. subst (λ (b : Bool). After w q ps k at (set w (word_at l) (if b then 1 else x)) (if b then took_at l v.spin (v.steps + 1) Holding else saw_word v.spin x (v.steps + 1))) (sym (eq-eqb x 0 free))
       (takes-word w q ps k at 1 Out e refl refl refl free (step.takes-out (next_in w) (locked_in w) (q l) (map (frame_on l) ps) id f (subst (λ (z : ℕ). LockKept z (next_in w) (locked_in w) (q l) (map (frame_on l) ps)) free (kept w q ps k at)) (here w q ps k at Out e))))
       (λ not. subst (λ (b : Bool). After w q ps k at (set w (word_at l) (if b then 1 else x)) (if b then took_at l v.spin (v.steps + 1) Holding else saw_word v.spin x (v.steps + 1))) (sym (ne_eqb x 0 not))
       (looks-seen w q ps k at e)) in (t.0, t.1, tt)
 
-  pub peeks : SpinAllows n l id v (word_at l) Load (λ x. v.spin) (λ x. Unit {0})
+  pub peeks : {tasks : ℕ} → SpinAllows n tasks l id v (word_at l) Load (λ x. v.spin) (λ x. Unit {0})
   peeks w q ps k named at small = let t = looks-still w q ps k at (word_at l) in (t.0, t.1, tt)
 
-  pub looks : f.point ≡ Out → SpinAllows n l id v (word_at l) Load (λ x. looked l x v) (λ x. Unit {0})
+  pub looks : {tasks : ℕ} → f.point ≡ Out → SpinAllows n tasks l id v (word_at l) Load (λ x. looked l x v) (λ x. Unit {0})
   looks e w q ps k named at small = let x : ℕ = word_in w l in let t : After w q ps k at (set w (word_at l) x) (looked l x v) = by_test (eqb x 0) (λ b. After w q ps k at (set w (word_at l) x) (if b then v.spin else saw_word v.spin x (v.steps + 1))) (λ free. looks-still w q ps k at (word_at l)) (λ taken. looks-seen w q ps k at e) in (t.0, t.1, tt)
 
   -- the pass waits without a node
-  pub seeks : (f.point ≡ Out) ⊎ (f.point ≡ Trying) → SpinAllows n l id v (word_at l) Load (λ x. sought l v) (λ x. Unit {0})
+  pub seeks : {tasks : ℕ} → (f.point ≡ Out) ⊎ (f.point ≡ Trying) → SpinAllows n tasks l id v (word_at l) Load (λ x. sought l v) (λ x. Unit {0})
   seeks which w q ps k named at small = let x : ℕ = word_in w l in let t : After w q ps k at (set w (word_at l) x) (sought l v) = ⊎_elim
       (λ e. turns-word w q ps k at x (at_point f Trying) v.spin.saw Out e refl refl refl refl (omega arith) (λ x e. inl e) (λ x e. inl e) (λ no. absurd (omega arith)) tt (step.tries-on (next_in w) (locked_in w) (q l) (map (frame_on l) ps) id f x Out (inl refl) (kept w q ps k at) (here w q ps k at Out e)))
       (λ e. turns-word w q ps k at x (at_point f Trying) v.spin.saw Trying e refl refl refl refl (omega arith) (λ x e. inl e) (λ x e. inl e) (λ no. absurd (omega arith)) tt (step.tries-on (next_in w) (locked_in w) (q l) (map (frame_on l) ps) id f x Trying (inr refl) (kept w q ps k at) (here w q ps k at Trying e))) which in (t.0, t.1, tt)
 
-  pub grabs : f.point ≡ Trying → SpinAllows n l id v (word_at l) (Exchange 0 1) (λ x. grabbed l x v) (λ x. Unit {0})
+  pub grabs : {tasks : ℕ} → f.point ≡ Trying → SpinAllows n tasks l id v (word_at l) (Exchange 0 1) (λ x. grabbed l x v) (λ x. Unit {0})
   grabs e w q ps k named at small = let x : ℕ = word_in w l in let t : After w q ps k at (set w (word_at l) (if x == 0 then 1 else x)) (grabbed l x v) = dite (ℕ_discrete x 0)
       (λ free. subst (λ (b : Bool). After w q ps k at (set w (word_at l) (if b then 1 else x)) (if b then took_at l v.spin (v.steps + 1) Holding else v.spin)) (sym (eq-eqb x 0 free))
       (takes-word w q ps k at 1 Trying e refl refl refl free (step.takes-trying (next_in w) (locked_in w) (q l) (map (frame_on l) ps) id f (subst (λ (z : ℕ). LockKept z (next_in w) (locked_in w) (q l) (map (frame_on l) ps)) free (kept w q ps k at)) (here w q ps k at Trying e))))
       (λ not. subst (λ (b : Bool). After w q ps k at (set w (word_at l) (if b then 1 else x)) (if b then took_at l v.spin (v.steps + 1) Holding else v.spin)) (sym (ne_eqb x 0 not)) (looks-still w q ps k at (word_at l))) in (t.0, t.1, tt)
 
   -- the holder clears the locked byte: 2 ^ 64 - 1 is added
-  pub frees : f.point ≡ Holding → SpinAllows n l id v (word_at l) (Sub 1) (λ x. freed l v) (λ x. Unit {0})
+  pub frees : {tasks : ℕ} → f.point ≡ Holding → SpinAllows n tasks l id v (word_at l) (Sub 1) (λ x. freed l v) (λ x. Unit {0})
   frees e w q ps k named at small = let x : ℕ = word_in w l in let old = here w q ps k at Holding e in let r = kept w q ps k at in let b = r.balanced in let h : 1 ≤ total holds_of (map (frame_on l) ps) = total-at holds_of (map (frame_on l) ps) id (at_point f Holding) old in
       let t = turns-word w q ps k at (x - 1) (at_point f Out) v.spin.saw Holding e refl refl refl refl (omega arith) (λ x e. inl e) (λ x e. inl e) (λ no. absurd (omega arith)) tt (step.frees (next_in w) (locked_in w) (q l) (map (frame_on l) ps) id f x r old) in (
         subst (λ (m : ℕ). SpinsMove n id w ps (set w (word_at l) m) (set ps id (part_with v (freed l v)))) (let m : x - 1 ≡ (x + 18446744073709551615) % 18446744073709551616 = omega arith in m) t.0,
@@ -201,7 +201,7 @@ module _ {E : Type 0} (n l : ℕ) (less : l < n) (most : n ≤ 8) (v : View E) (
       )
 
   -- the pending bit is set
-  pub pends : f.point ≡ Out → SpinAllows n l id v (word_at l) (Or 256) (λ x. pended l x v) (λ x. Unit {0})
+  pub pends : {tasks : ℕ} → f.point ≡ Out → SpinAllows n tasks l id v (word_at l) (Or 256) (λ x. pended l x v) (λ x. Unit {0})
   pends e w q ps k named at small = let x : ℕ = word_in w l in let old = here w q ps k at Out e in let i : ℕ = word_at l in
       let t : After w q ps k at (set w i (bit_or x 256)) (pended l x v) = by_test (ltb x 256) (λ b. After w q ps k at (set w i (bit_or x 256)) (if b then went l v.spin Pending else if (x / 256) % 2 == 0 then saw_word (went l v.spin Undoing) x (v.steps + 1) else saw_word v.spin x (v.steps + 1)))
       (λ low. let low' = ltb-true x 256 low in subst (λ (m : ℕ). After w q ps k at (set w i m) (went l v.spin Pending)) (sym (or_pending x (omega arith)))
@@ -216,7 +216,7 @@ module _ {E : Type 0} (n l : ℕ) (less : l < n) (most : n ≤ 8) (v : View E) (
       tail-there w q ps k at high unset none = let b = (kept w q ps k at).balanced in omega arith
 
   -- the clear of the pending bit
-  pub undoes : f.point ≡ Undoing → SpinAllows n l id v (word_at l) (And 18446744073709551359) (λ x. undone l v) (λ x. Unit {0})
+  pub undoes : {tasks : ℕ} → f.point ≡ Undoing → SpinAllows n tasks l id v (word_at l) (And 18446744073709551359) (λ x. undone l v) (λ x. Unit {0})
   undoes e w q ps k named at small = let x : ℕ = word_in w l in let old = here w q ps k at Undoing e in let r = kept w q ps k at in let b = r.balanced in let h : 1 ≤ total undoes_of (map (frame_on l) ps) = total-at undoes_of (map (frame_on l) ps) id (at_point f Undoing) old in
       let t = turns-word w q ps k at (x - 256) (at_point f Out) v.spin.saw Undoing e refl refl refl refl (omega arith) (λ x e. inl e) (λ x e. inl e) (λ no. absurd (omega arith)) tt (step.clears (next_in w) (locked_in w) (q l) (map (frame_on l) ps) id f x r old) in (
         subst (λ (m : ℕ). SpinsMove n id w ps (set w (word_at l) m) (set ps id (part_with v (undone l v)))) (sym (and_pending x small (omega arith))) t.0,
@@ -225,13 +225,13 @@ module _ {E : Type 0} (n l : ℕ) (less : l < n) (most : n ≤ 8) (v : View E) (
       )
 
   -- a load by the owner of the pending bit
-  pub awaits : f.point ≡ Pending → SpinAllows n l id v (word_at l) Load (λ x. awaited l x v) (λ x. Unit {0})
+  pub awaits : {tasks : ℕ} → f.point ≡ Pending → SpinAllows n tasks l id v (word_at l) Load (λ x. awaited l x v) (λ x. Unit {0})
   awaits e w q ps k named at small = let x : ℕ = word_in w l in let t : After w q ps k at (set w (word_at l) x) (awaited l x v) = by_test (eqb (x % 256) 0) (λ b. After w q ps k at (set w (word_at l) x) (if b then went l v.spin Taking else v.spin))
       (λ free. turns-word w q ps k at x (at_point f Taking) v.spin.saw Pending e refl refl refl refl (omega arith) (λ x e. inl e) (λ x e. inl e) (λ no. absurd (omega arith)) (eqb-true (x % 256) 0 free) (step.turns (next_in w) (locked_in w) (q l) (map (frame_on l) ps) id f x (eqb-true (x % 256) 0 free) (kept w q ps k at) (here w q ps k at Pending e)))
       (λ held. looks-still w q ps k at (word_at l)) in (t.0, t.1, tt)
 
   -- the owner of the pending bit takes the lock: 1 - 256 is added
-  pub turns : f.point ≡ Taking → SpinAllows n l id v (word_at l) (Add 18446744073709551361) (λ x. turned l v) (λ x. Unit {0})
+  pub turns : {tasks : ℕ} → f.point ≡ Taking → SpinAllows n tasks l id v (word_at l) (Add 18446744073709551361) (λ x. turned l v) (λ x. Unit {0})
   turns e w q ps k named at small = let x : ℕ = word_in w l in let old = here w q ps k at Taking e in let r = kept w q ps k at in let b = r.balanced in let h : 1 ≤ total takes_of (map (frame_on l) ps) = total-at takes_of (map (frame_on l) ps) id (at_point f Taking) old in
       let t = takes-word w q ps k at (x - 255) Taking e refl refl refl (let m : x % 256 ≡ 0 = omega arith in m) (step.takes-turn (next_in w) (locked_in w) (q l) (map (frame_on l) ps) id f x r old) in (
         subst (λ (m : ℕ). SpinsMove n id w ps (set w (word_at l) m) (set ps id (part_with v (turned l v)))) (let m : x - 255 ≡ (x + 18446744073709551361) % 18446744073709551616 = omega arith in m) t.0,

@@ -1,5 +1,5 @@
 -- What a clause reads of a pass at a spin lock.
-use Rattle.std.specs.Prelude.{◌≡◌, ◌≢◌, ℕ, ◌+◌, ◌<◌, ◌≤◌, IsSome, true}
+use Rattle.std.specs.Prelude.{◌≡◌, ◌≢◌, ℕ, ◌+◌, ◌<◌, ◌≤◌, length, IsSome, true}
 use Rattle.lock_core.specs.declared.op.Op.{Op}
 use Rattle.lock_core.specs.declared.view.SpinHand.{SpinHand}
 use Rattle.lock_core.specs.declared.view.LockHand.{LockHand}
@@ -9,7 +9,7 @@ use Rattle.lock_core.specs.declared.site.Site.{Site}
 use Rattle.lock_core.specs.LockHands.{lock_hand_at, point_at, RestsEverywhere, depth_of}
 use Rattle.lock_core.specs.Spins.{spun}
 use Rattle.lock_core.specs.Pasts.{FoundAtStep}
-use Rattle.lock_core.specs.Handles.{view_of, hand_in, past_of, task_in, SitsAt, SaysSame, KeepsPast, IsLatest, KeepsNest, IsDepthTold, IsNestTold}
+use Rattle.lock_core.specs.Handles.{plan_of, view_of, hand_in, past_of, task_in, SitsAt, SaysSame, KeepsPast, IsLatest, KeepsNest, IsDepthTold, IsNestTold}
 use Rattle.lock_core.specs.Nestings.{pauses_at, SameFlags, SameFlagsBeside}
 use Rattle.qspin_word.specs.Allows.{SpinAllows}
 use Rattle.qspin_word.specs.Ways.{PendedAtStep, RivalSince, AreAlike, HitLeaves}
@@ -51,9 +51,9 @@ module _ {R O E C : Type 0} where
   abbrev pub OwnsPendingAt : (l step at : ℕ) → Pass R O E C → Pass R O E C → Type 0
   OwnsPendingAt l step at old new = PendedAtStep l (hand_in old).task ((view_of old).steps + step) at (past_of old) (past_of new)
 
-  -- whatever the words of so many spin locks are, the pass may do the operation on the one at this place
-  abbrev pub MaySpin : (locks l : ℕ) → Pass R O E C → ℕ → Op → (ℕ → SpinHand) → (ℕ → Type 0) → Type 0
-  MaySpin locks l pass at op after tells = SpinAllows locks l pass.seat.id (view_of pass) at op after tells
+  -- whatever the words of so many spin locks of the site are, the pass may do the operation on the one at this place
+  abbrev pub MaySpin : (locks l : ℕ) → Site R O E C → Pass R O E C → ℕ → Op → (ℕ → SpinHand) → (ℕ → Type 0) → Type 0
+  MaySpin locks l site pass at op after tells = SpinAllows locks (length (plan_of site)) l pass.seat.id (view_of pass) at op after tells
 
   -- it notes the same of each lock, or of each but this one
   abbrev pub KeepsFlags : Pass R O E C → Pass R O E C → Type 0

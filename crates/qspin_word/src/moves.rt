@@ -1,11 +1,11 @@
 //! A step on one of the spin words of any table, which asks for the locks' own facts alone.
-ghost use Rattle.std.specs.Prelude.{◌<◌, ◌+◌, ◌*◌, ℕ};
+ghost use Rattle.std.specs.Prelude.{◌<◌, ◌+◌, ◌*◌, ℕ, length};
 ghost use Rattle.lock_core.specs.declared.view.SpinHand.{SpinHand};
-ghost use Rattle.lock_core.specs.declared.layout.TheConstants.{SPIN_WORDS};
+ghost use Rattle.lock_core.specs.Stores.{spin_room};
 ghost use Rattle.lock_core.specs.Views.{no_spin};
 ghost use Rattle.lock_core.specs.Spins.{SpinFrees, word_at};
 ghost use Rattle.lock_core.specs.Pasts.{FindsAt};
-ghost use Rattle.lock_core.specs.Handles.{view_of, past_of, SitsAt};
+ghost use Rattle.lock_core.specs.Handles.{plan_of, view_of, past_of, SitsAt};
 ghost use Rattle.qspin_word.specs.Allows.{SpunBy};
 ghost use Rattle.qspin_word.specs.Handles.{spin_in, MaySpin, SpinSteps};
 
@@ -37,7 +37,8 @@ impl<E, A: SpinAfter> Play<(), View<E>> for By<A> {
 }
 
 /// Does one operation on a spin word, counted from the first of them, at the lock of this number,
-/// and answers what the word was before; a store answers what it stored.
+/// and answers what the word was before; a store answers what it stored. The word must be a lock's
+/// or one of a node of the plan's tasks: the table has no other spin word.
 #[inline]
 pub fn spin_step<H: SpinHost, A: SpinAfter>(
     site: &Site<H>,
@@ -48,10 +49,10 @@ pub fn spin_step<H: SpinHost, A: SpinAfter>(
 ) -> u64
     requires own { SitsAt site.now pass.old }
     requires there { lock < H.LOCKS }
-    requires inside { at < SPIN_WORDS }
+    requires inside { at < spin_room (length (plan_of site.now)) }
     requires may { (n : ℕ) →
         SpinFrees lock (spin_in pass.old) (A.after n) → H.may_free (view_of pass.old) }
-    requires allows { MaySpin H.LOCKS lock pass.old at op A.after A.tells }
+    requires allows { MaySpin H.LOCKS lock site.now pass.old at op A.after A.tells }
     ensures steps { SpinSteps site.now pass.old pass.new (A.after result) }
     ensures tells { A.tells result }
     ensures found { FindsAt op (H.FIRST + at) result (past_of pass.new) }
@@ -71,7 +72,7 @@ pub fn word_step<H: SpinHost, A: SpinAfter>(
     requires there { lock < H.LOCKS }
     requires may { (n : ℕ) →
         SpinFrees lock (spin_in pass.old) (A.after n) → H.may_free (view_of pass.old) }
-    requires allows { MaySpin H.LOCKS lock pass.old (word_at lock) op A.after A.tells }
+    requires allows { MaySpin H.LOCKS lock site.now pass.old (word_at lock) op A.after A.tells }
     ensures steps { SpinSteps site.now pass.old pass.new (A.after result) }
     ensures tells { A.tells result }
     ensures found { FindsAt op (H.FIRST + word_at lock) result (past_of pass.new) }

@@ -16,6 +16,7 @@ use Rattle.lock_core.specs.declared.view.Held.TheVariants.{No, Shared, Alone}
 use Rattle.lock_core.specs.declared.view.SpinHand.{SpinHand}
 use Rattle.lock_core.specs.declared.layout.TheConstants.{LOCK_WORDS}
 use Rattle.lock_core.specs.Layout.{SiteWords, fresh, site, lay, width}
+use Rattle.lock_core.specs.Stores.{HasWord}
 use Rattle.lock_core.specs.Views.{hand_of, handed, seated, ticked, first, split_off, merged, spent, is_number, named_of, held_weight, alone_of, HoldsNothing}
 use Rattle.lock_core.specs.Sites.{SiteKept}
 use Rattle.lock_core.specs.Moves.{Goes, KeepsHold, SiteMove, TriesWhere}
@@ -35,6 +36,9 @@ use Rattle.rwsem_count.specs.Ruled.{V, same_bias, new_bias, IsPlain, bias_kind, 
 
 pub count-inside : count_at < LOCK_WORDS
 count-inside = omega arith
+
+pub count-there : (n : ℕ) → HasWord n count_at
+count-there n = record { spin = λ _. omega arith; first = λ m. absurd (omega (arith, m)); second = λ m. absurd (omega (arith, m)); third = λ m. absurd (omega (arith, m)); fourth = λ m. absurd (omega (arith, m)) }
 
 abbrev parts : List V → List CountPart
 parts vs = map (count_part same_bias) vs

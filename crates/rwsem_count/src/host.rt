@@ -8,6 +8,7 @@ ghost use Rattle.lock_core.specs.declared.view.View.{View};
 ghost use Rattle.lock_core.specs.declared.view.Hand.{Hand};
 ghost use Rattle.lock_core.specs.declared.layout.TheConstants.{LOCK_WORDS};
 ghost use Rattle.lock_core.specs.Layout.{site};
+ghost use Rattle.lock_core.specs.Stores.{HasWord};
 ghost use Rattle.lock_core.specs.Views.{hand_of, handed};
 ghost use Rattle.lock_core.specs.Sites.{SiteKept};
 ghost use Rattle.lock_core.specs.Moves.{Goes, TriesWhere};
@@ -49,6 +50,9 @@ pub trait CountHost: SiteRule {
     ghost may_miss: { View Self.Ext → Type 0 };
 
     ghost count_inside: { COUNT < LOCK_WORDS };
+
+    // A table has the word, however few tasks its plan has.
+    ghost count_there: { (tasks : ℕ) → HasWord tasks COUNT };
 
     ghost bias_back: { (v : View Self.Ext) (h : Hand) (b : ABias) → bias (counted v h b) ≡ b };
 

@@ -2,7 +2,7 @@
 ghost use Rattle.word_bits.specs.LockWords.{counted};
 ghost use Rattle.rwsem_count.specs.declared.view.Bias.TheVariants.{Clear};
 ghost use Rattle.rwsem_count.specs.Ruled.{CountMoves, CountRuleKept, IsPlain, count_at, may_count, may_miss, new_bias, same_bias};
-ghost use Rattle.rwsem_count.specs.RuledLaws.{count-inside, rule-site, rule-count, rule-sites, rule-opens, rule-splits, rule-joins, rule-counts, rule-looks};
+ghost use Rattle.rwsem_count.specs.RuledLaws.{count-inside, count-there, rule-site, rule-count, rule-sites, rule-opens, rule-splits, rule-joins, rule-counts, rule-looks};
 ghost use Rattle.rwsem_count.specs.Stated.{kept_bias};
 ghost use Rattle.std.specs.Prelude.{◌≡◌, ◌<◌, refl};
 
@@ -68,6 +68,8 @@ impl<O: Object> CountHost for CountRule<O> {
     ghost may_miss = { may_miss };
 
     ghost count_inside = { count-inside };
+
+    ghost count_there = { count-there };
 
     ghost bias_back = { λ v h b. refl };
 

@@ -1,5 +1,5 @@
 -- The lists of a run: each came of the one before it by one step.
-use Rattle.std.proofs.Common.{◌≡◌, ◌∙◌, ℕ, ◌+◌, ◌<◌, ◌⊎◌, inl, inr, Bool, true, false, List, [], ◌∷◌, ◌++◌, Some, length, map, get_or, refl, sym, ap, subst, arith}
+use Rattle.std.proofs.Common.{◌≡◌, ◌∙◌, ℕ, ◌+◌, ◌<◌, ◌⊎◌, inl, inr, List, [], ◌∷◌, ◌++◌, Some, length, map, get_or, sym, ap, subst, arith}
 use mathlib.Core.Option.{some, some-injective}
 use lib.ListN.{get_elem?}
 use Rattle.atomic_table.proofs.Lists.{at_map}
@@ -18,17 +18,14 @@ use Rattle.wait_list.specs.declared.view.Change.TheVariants.{Stay, Enter, Leave}
 use Rattle.wait_list.specs.Lists.{Allowed, MadeBy as MadeUnderLock, Part, changed, list_part}
 use Rattle.wait_list.specs.ListLaws.{holds-or-not}
 use Rattle.wait_list.proofs.Determining.{kept-same}
-use Rattle.lock_core.specs.Records.{bit}
 use Rattle.sem_duty.specs.declared.view.SemWake.{SemWake}
-use Rattle.rwsem_count.specs.declared.view.Bias.{Bias}
-use Rattle.rwsem_count.specs.declared.view.Bias.TheVariants.{Clear, Transit, Reserve}
 use Rattle.rwsem_wake.specs.declared.view.SemHand.{SemHand}
 use Rattle.rwsem_wake.specs.SemParts.{SemPart, busy_of}
 use Rattle.rwsem_wake.specs.Handoffs.{KeepsHandoff}
 use Rattle.rwsem_wake.specs.Stated.{Picks}
 use Rattle.rwsem_slow.specs.declared.view.RwSemHand.{RwSemHand}
 use Rattle.rwsem_slow.specs.WakesGo.{WakeStands, WakesGo, wake_stands}
-use Rattle.rwsem_slow.specs.RwSems.{IsLocked, IsMadeBy, Kept, RwSemKept, RwSemMoves, V, bias_codes, count_at, count_in, entered, grants_in, list_of, marks_in, numbers_of, seen, stage_code, standing, wait_code, wake_codes, wake_words}
+use Rattle.rwsem_slow.specs.RwSems.{IsLocked, IsMadeBy, Kept, RwSemKept, RwSemMoves, V, count_at, count_in, entered, grants_in, list_of, marks_in, seen, standing, wake_words}
 use Rattle.rwsem_slow.specs.Stated.{HasBecome, HasNoBatch, HasWaitLock, IsRwSemStep, MadeBy, stance}
 use Rattle.rwsem_slow.proofs.Marking.{same-wakes}
 use Rattle.rwsem_slow.proofs.Stating.{queued}

@@ -10,7 +10,7 @@ use Rattle.lock_core.specs.Shown.{shown}
 use Rattle.lock_core.specs.Views.{ticked}
 use Rattle.wait_list.specs.declared.view.Waiter.{Waiter}
 use Rattle.wait_list.specs.declared.view.ListHand.{ListHand}
-use Rattle.wait_list.specs.Lists.{AreTasks, IsList, Knows, first_code, first_of}
+use Rattle.wait_list.specs.Lists.{IsList, Knows, first_code, first_of}
 use Rattle.rwsem_count.specs.declared.view.Bias.TheVariants.{Reserve}
 use Rattle.rwsem_count.specs.Counts.{early_weight, late_weight, shared_weight}
 use Rattle.rwsem_wake.specs.Batches.{starts_with_reader}
@@ -135,10 +135,6 @@ module _ (v b : V) (seen : ℕ) (rests : IsAtRest v) (list : KnowsList v) (turns
 pub first-code : (q : List Waiter) (w : Waiter) → Some w ≡ first_of q → first_code q ≡ w.task + 1
 first-code [] w e = absurd cc
 first-code (x ∷ q) w e = ap {A = Waiter} (λ z. z.task + 1) (let is : x ≡ w = cc in is)
-
-pub first-small : (q : List Waiter) (w : Waiter) → Some w ≡ first_of q → AreTasks q → w.task < MAX_TASKS
-first-small [] w e small = absurd cc
-first-small (x ∷ q) w e small = let is : x ≡ w = cc in subst (λ (z : Waiter). z.task < MAX_TASKS) is small.0
 
 pub first-waits : (q : List Waiter) (w : Waiter) → Some w ≡ first_of q → 1 ≤ length q
 first-waits [] w e = absurd cc

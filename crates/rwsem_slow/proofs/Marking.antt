@@ -1,35 +1,15 @@
 -- What the marks of a pass say of wakes.
-use Rattle.std.proofs.Common.{◌≡◌, ◌∙◌, ℕ, ◌+◌, ◌<◌, ◌⊎◌, inl, inr, Bool, true, false, List, [], ◌∷◌, ◌++◌, Some, length, map, get_or, refl, sym, ap, subst, arith}
-use mathlib.Core.Option.{some, some-injective}
-use lib.ListN.{get_elem?}
-use Rattle.atomic_table.proofs.Lists.{at_map}
-use Rattle.word_bits.specs.Objects.{Obj}
-use Rattle.word_bits.specs.Histories.{Plan}
-use Rattle.lock_core.specs.declared.view.Moment.{Moment}
+use Rattle.std.proofs.Common.{◌≡◌, ◌∙◌, ℕ, Bool, true, false, List, [], ◌∷◌, ◌++◌, length, get_or, refl, sym, ap, arith}
 use Rattle.lock_core.specs.declared.view.Marks.{Marks}
-use Rattle.lock_core.specs.LockedLaws.{move-steps}
-use Rattle.lock_core.specs.Parts.{Each}
-use Rattle.lock_core.specs.Pasts.{ChangesOneWord, Instant, Moves, marks_of, Paced, Ran, instant, moment}
-use Rattle.lock_core.specs.Spins.{holds_in}
-use Rattle.lock_core.specs.Views.{spin_of}
-use Rattle.wait_list.specs.declared.view.Waiter.{Waiter}
-use Rattle.wait_list.specs.declared.view.Change.{Change}
-use Rattle.wait_list.specs.declared.view.Change.TheVariants.{Stay, Enter, Leave}
-use Rattle.wait_list.specs.Lists.{Allowed, MadeBy as MadeUnderLock, Part, changed, list_part}
-use Rattle.wait_list.specs.ListLaws.{holds-or-not}
-use Rattle.wait_list.proofs.Determining.{kept-same}
+use Rattle.lock_core.specs.Pasts.{marks_of}
 use Rattle.lock_core.specs.Records.{bit}
 use Rattle.sem_duty.specs.declared.view.SemWake.{SemWake}
 use Rattle.rwsem_count.specs.declared.view.Bias.{Bias}
 use Rattle.rwsem_count.specs.declared.view.Bias.TheVariants.{Clear, Transit, Reserve}
 use Rattle.rwsem_wake.specs.declared.view.SemHand.{SemHand}
-use Rattle.rwsem_wake.specs.SemParts.{SemPart, busy_of}
-use Rattle.rwsem_wake.specs.Handoffs.{KeepsHandoff}
-use Rattle.rwsem_wake.specs.Stated.{Picks}
-use Rattle.rwsem_slow.specs.declared.view.RwSemHand.{RwSemHand}
-use Rattle.rwsem_slow.specs.WakesGo.{WakeStands, WakesGo, wake_stands}
-use Rattle.rwsem_slow.specs.RwSems.{IsLocked, IsMadeBy, Kept, RwSemKept, RwSemMoves, V, bias_codes, count_at, count_in, entered, grants_in, list_of, marks_in, numbers_of, seen, stage_code, standing, wait_code, wake_codes, wake_words}
-use Rattle.rwsem_slow.specs.Stated.{HasBecome, HasNoBatch, HasWaitLock, IsRwSemStep, MadeBy, stance}
+use Rattle.rwsem_slow.specs.WakesGo.{wake_stands}
+use Rattle.rwsem_slow.specs.RwSems.{V, bias_codes, numbers_of, stage_code, standing, wait_code, wake_codes}
+use Rattle.rwsem_slow.specs.Stated.{stance}
 
 -- the numbers of a mark behind those of its bias
 abbrev behind-bias : List ℕ → List ℕ

@@ -2,13 +2,12 @@
 use Rattle.std.proofs.Common.{◌≡◌, ◌≢◌, ℕ, zero, suc, ◌+◌, ◌<◌, ◌≤◌, ◌==◌, ◌⊎◌, inl, inr, Bool, true, false, List, [], ◌∷◌, ◌++◌, length, map, filter, take, drop, get_or, Some, sym, refl, ap, ◌∙◌, subst, arith, eq-eqb, ne_eqb, if◌then◌else◌, append_assoc, length-append}
 use Rattle.std.proofs.lemmas.List.{drop_more, append-nil}
 use Rattle.std.proofs.Math.ListN.{drop_of_length-le}
-use Rattle.word_bits.specs.declared.TheConstants.{MAX_TASKS}
 use Rattle.lock_core.specs.Records.{bit}
 use Rattle.wait_list.specs.declared.view.Waiter.{Waiter}
 use Rattle.wait_list.specs.declared.view.Change.TheVariants.{Leave}
 use Rattle.wait_list.specs.declared.view.ListHand.{ListHand}
-use Rattle.wait_list.specs.Lists.{AllowsChange, AreTasks, IsList, Knows, Removes, counted, first_of, without}
-use Rattle.wait_list.proofs.Waiters.{length-without, sound-changed}
+use Rattle.wait_list.specs.Lists.{AllowsChange, AreAmong, IsList, Knows, Removes, counted, first_of, without}
+use Rattle.wait_list.proofs.Waiters.{counted-behind, counted-own, length-without, sound-changed}
 use Rattle.sem_duty.specs.declared.view.SemWake.{SemWake}
 use Rattle.rwsem_count.specs.Counts.{early_weight, late_weight, shared_weight}
 use Rattle.rwsem_wake.specs.declared.view.SemHand.{SemHand}
@@ -75,11 +74,11 @@ batch-begins n (w ∷ q) = go w.writer refl n
         one zero = tt
         one (suc n) = refl
 
-pub heads-small : (ts : List ℕ) (q : List Waiter) → AreTasks q → AreHeads ts q → (i : ℕ) → i < length ts → get_or ts i 0 < MAX_TASKS
-heads-small [] q small h i few = absurd (omega (arith, few))
-heads-small (t ∷ ts) [] small h i few = absurd h
-heads-small (t ∷ ts) (w ∷ q) small h zero few = elim h [ inl is ↦ subst (λ (z : ℕ). z < MAX_TASKS) is.1 small.0 | inr more ↦ heads-small (t ∷ ts) q small.1 more.1 zero few ]
-heads-small (t ∷ ts) (w ∷ q) small h (suc i) few = elim h [ inl is ↦ heads-small ts q small.1 is.2 i (omega (arith, few)) | inr more ↦ heads-small (t ∷ ts) q small.1 more.1 (suc i) few ]
+pub heads-among : (n : ℕ) (ts : List ℕ) (q : List Waiter) → AreAmong n q → AreHeads ts q → (i : ℕ) → i < length ts → get_or ts i 0 < n
+heads-among n [] q are h i few = absurd (omega (arith, few))
+heads-among n (t ∷ ts) [] are h i few = absurd h
+heads-among n (t ∷ ts) (w ∷ q) are h zero few = elim h [ inl is ↦ subst (λ (z : ℕ). z < n) is.1 (are w.task (counted-own w q)) | inr more ↦ heads-among n (t ∷ ts) q (λ u there. are u (counted-behind w q u there)) more.1 zero few ]
+heads-among n (t ∷ ts) (w ∷ q) are h (suc i) few = elim h [ inl is ↦ heads-among n ts q (λ u there. are u (counted-behind w q u there)) is.2 i (omega (arith, few)) | inr more ↦ heads-among n (t ∷ ts) q (λ u there. are u (counted-behind w q u there)) more.1 (suc i) few ]
 
 pub heads-few : (ts : List ℕ) (q : List Waiter) → AreHeads ts q → length ts ≤ length q
 heads-few [] q h = omega arith

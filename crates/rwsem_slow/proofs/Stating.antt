@@ -1,5 +1,5 @@
 -- The rule of a semaphore implies what is stated of it.
-use Rattle.std.proofs.Common.{◌≡◌, ◌∙◌, ℕ, zero, suc, ◌+◌, ◌/◌, ◌%◌, ◌==◌, ◌<◌, ◌≤◌, true, false, ◌⊎◌, inl, inr, Bool, List, [], ◌∷◌, length, map, Option, Some, None, ne_eqb, refl, sym, ap, subst, arith, ⊎_elim}
+use Rattle.std.proofs.Common.{◌≡◌, ◌∙◌, ℕ, zero, suc, ◌+◌, ◌/◌, ◌%◌, ◌<◌, ◌≤◌, true, false, ◌⊎◌, inl, inr, Bool, List, [], ◌∷◌, length, map, Option, Some, None, refl, sym, ap, subst, arith, ⊎_elim}
 use mathlib.Core.Option.{some, some-injective}
 use lib.ListN.{get_elem?}
 use Rattle.word_bits.specs.declared.TheConstants.{MAX_TASKS}
@@ -10,24 +10,24 @@ use Rattle.word_bits.specs.Histories.{Plan}
 use Rattle.lock_core.specs.declared.view.Hand.{Hand}
 use Rattle.lock_core.specs.declared.view.Moment.{Moment}
 use Rattle.lock_core.specs.Layout.{site}
-use Rattle.lock_core.specs.Locked.{HasPass, IsWaitLockFree}
+use Rattle.lock_core.specs.Locked.{IsWaitLockFree}
 use Rattle.lock_core.specs.Parts.{Each, at_unmap}
 use Rattle.lock_core.specs.Pasts.{instant, marks_of, moment}
 use Rattle.lock_core.specs.Records.{bit}
 use Rattle.lock_core.specs.Spins.{holds_in}
 use Rattle.lock_core.specs.Totals.{total, total-at}
 use Rattle.lock_core.specs.Views.{hand_of, is_number, named_of, spin_of}
-use Rattle.lock_core.proofs.HandLaws.{false-or-true, held-none, not-both}
+use Rattle.lock_core.proofs.HandLaws.{false-or-true, held-none}
 use Rattle.lock_core.proofs.Stating.{kept-states}
 use Rattle.wait_list.specs.declared.view.Waiter.{Waiter}
-use Rattle.wait_list.specs.Lists.{AreTasks, Part, PartOk, changes_of, counted, first_code, list_part}
+use Rattle.wait_list.specs.Lists.{AreTasks, Part, PartOk, changes_of, first_code, list_part}
 use Rattle.wait_list.specs.ListLaws.{holds-or-not}
 use Rattle.wake_duty.specs.declared.view.Vigil.{Vigil}
 use Rattle.wake_duty.specs.declared.view.Vigil.TheVariants.{Absent, Awake, Tried}
 use Rattle.wake_duty.specs.Wakes.{awake, waits, wake_word}
 use Rattle.sem_duty.specs.declared.view.SemWake.{SemWake}
 use Rattle.sem_duty.specs.SemDuties.{DutyPart, answers, chose, first_writes, rouses, stirs, times, wakes_first, where_so}
-use Rattle.rwsem_wake.specs.SemParts.{SemPart, alone_of, busy_of, busy_weight, granted_of, granting_of, named_weight, reads_at, reads_weight, reserve_of, rest_of, shared_of, transit_weight, writes_at, writes_weight}
+use Rattle.rwsem_wake.specs.SemParts.{SemPart, alone_of, busy_of, busy_weight, granted_of, granting_of, reserve_of, rest_of, shared_of, transit_weight}
 use Rattle.rwsem_wake.specs.Duties.{overdue_of}
 use Rattle.rwsem_wake.specs.Stated.{readers}
 use Rattle.rwsem_wake.proofs.DutySteps.{late-are}
@@ -35,7 +35,7 @@ use Rattle.rwsem_wake.specs.Semaphores.{Quiet}
 use Rattle.rwsem_wake.proofs.Readers.{only-first, readers-are, readers-once}
 use Rattle.rwsem_wake.proofs.Stating.{sem-states, sem-waiters}
 use Rattle.rwsem_slow.specs.ListLaws.{batch-busy}
-use Rattle.rwsem_slow.specs.ListSteps.{counted-is}
+use Rattle.rwsem_slow.specs.WaiterLaws.{has-pass, named-is, view-of}
 use Rattle.rwsem_slow.specs.WakesGo.{WakeStands}
 use Rattle.rwsem_slow.proofs.Marking.{same-wakes}
 use Rattle.rwsem_slow.specs.RwSems.{V, IsDone, Kept, RwSemKept, count_in, duty_seen, grants_in, list_of, marks_in, seen, standing, wake_words}
@@ -51,22 +51,6 @@ waits-none (Tried n) e = absurd (omega (arith, e))
 length-map : {A B : Type 0} (f : A → B) (xs : List A) → length (map f xs) ≡ length xs
 length-map f [] = refl
 length-map f (x ∷ xs) = let e = length-map f xs in omega (arith, e)
-
--- whose weight in a total isn't 0
-view-of : {X : Type 0} (part : V → X) (f : X → ℕ) (vs : List V) → 0 < total f (map part vs) → (j : ℕ) × (v : V) × (get_elem? vs j ≡ some v) × (0 < f (part v))
-view-of part f [] more = absurd (omega (arith, more))
-view-of part f (v ∷ vs) more = elim (native.Mathlib.Decide.dec_le (f (part v)) 0) [
-  | yes none ↦ let s = view-of part f vs (omega (arith, more, none)) in (suc s.0, s.1, s.2, s.3)
-  | no weighs ↦ (zero, v, refl, omega (arith, weighs))
-]
-
-named-is : (t : ℕ) (task : Option ℕ) (n : ℕ) → 0 < named_weight t task n → task ≡ Some t
-named-is t task zero more = absurd (omega (arith, more))
-named-is t None (suc n) more = absurd (omega (arith, more))
-named-is t (Some u) (suc n) more = false-or-true (u == t) (λ same. ap Some (eqb-eq u t same)) (λ other. absurd (let b : bit (u == t) ≡ 0 = ap bit other in omega (arith, b, more)))
-  where
-    eqb-eq : (m n : ℕ) → (m == n) ≡ true → m ≡ n
-    eqb-eq m n e = elim (native.Mathlib.Decide.ℕ_discrete m n) [ yes same ↦ same | no other ↦ not-both (m == n) (ne_eqb m n other) e ]
 
 awake-is : (t : ℕ) (task : Option ℕ) (x : Vigil) → 0 < awake t task x → (task ≡ Some t) × (x ≡ Awake)
 awake-is t task Absent more = absurd (omega (arith, more))
@@ -112,13 +96,6 @@ module _ {Call : Type 0} (o : Obj Call) (size : ℕ) (k : Plan) (ws : List ℕ) 
 
   quiet : IsWaitLockFree (map spin_of vs) → Quiet (count_in ws / 2 % 2) (count_in ws / 4 % 2) q (marks_in ws)
   quiet free = (sem-states (count_in ws) q (marks_in ws) (grants_in ws) ps r.sem (few-named o size k ws vs q r)).free (resting vs (λ j v at. let l = r.locked j v at in let h = all free j v at in omega (arith, l, h)))
-
-  -- who waits has a pass
-  pub has-pass : (t : ℕ) → 0 < counted t q → HasPass (map hand_of vs) t
-  has-pass t more = let c = counted-is t q in let a = r.sem.reads t in let b = r.sem.writes t in elim (native.Mathlib.Decide.dec_le 1 (total (reads_at t) ps)) [
-    | yes reads ↦ let s = view-of seen (reads_at t) vs (omega (arith, reads)) in (s.0, s.1.hand, at_map hand_of vs s.0 s.1 s.2, named-is t s.1.hand.task (reads_weight s.1.ext.sem.wait) s.3)
-    | no none ↦ let s = view-of seen (writes_at t) vs (omega (arith, none, a, b, c, more)) in (s.0, s.1.hand, at_map hand_of vs s.0 s.1 s.2, named-is t s.1.hand.task (writes_weight s.1.ext.sem.wait) s.3)
-  ]
 
   small : Each (λ (p : SemPart). (t : ℕ) → p.task ≡ Some t → t < MAX_TASKS) ps
   small j p at t has = let v = at_unmap seen vs j p at in let named : v.0.hand.task ≡ Some t = ap {A = SemPart} (λ x. x.task) v.2 ∙ has in let m = (r.site_holds.each j v.0.hand (at_map hand_of vs j v.0 v.1)).mine t named in let l = m.0 in let s = r.site_holds.laid.small.tasks in omega (arith, l, s)
@@ -234,7 +211,7 @@ module _ {Call : Type 0} (o : Obj Call) (size : ℕ) (k : Plan) (ws : List ℕ) 
     };
     sound = r.list.sound;
     states = λ free. r.list.quiet (still vs (λ j v at. changes (r.list.each j (list_part list_of v) (at_map (list_part list_of) vs j v at)) (all free j v at)));
-    passes = has-pass;
+    passes = has-pass o size k ws vs q r;
     waiters = sem-waiters (count_in ws) q (marks_in ws) (grants_in ws) ps r.sem;
     count = sem-states (count_in ws) q (marks_in ws) (grants_in ws) ps r.sem (few-named o size k ws vs q r);
     read = record { once = readers-once q (count_in ws) (marks_in ws) (grants_in ws) ps r.sem small named-once; are = readers-are q (count_in ws) (marks_in ws) (grants_in ws) ps r.sem small named-once };

@@ -1,10 +1,13 @@
 -- The walk along a list, from waiter to waiter.
 use Rattle.std.proofs.Common.{◌≡◌, ◌≢◌, ℕ, ◌<◌, ◌≤◌, ◌==◌, Bool, List, [], ◌∷◌, ◌++◌, length, Option, Some, None, sym, refl, ap, ◌∙◌, subst, arith, eq-eqb, ne_eqb, if◌then◌else◌, append_assoc, length-append}
+use mathlib.Core.Logic.{dite}
+use native.Mathlib.Decide.{ℕ_discrete}
 use Rattle.word_bits.specs.declared.TheConstants.{MAX_TASKS}
 use Rattle.lock_core.specs.Records.{bit}
 use Rattle.wait_list.specs.declared.view.Waiter.{Waiter}
 use Rattle.wait_list.specs.declared.view.ListHand.{ListHand}
-use Rattle.wait_list.specs.Lists.{AreTasks, FindsNext, IsList, Knows, counted, first_of, next_of}
+use Rattle.wait_list.specs.Lists.{AreAmong, FindsNext, IsList, Knows, KnowsWaiter, counted, first_of, next_of}
+use Rattle.wait_list.proofs.Waiters.{counted-append, counted-else}
 use Rattle.rwsem_slow.specs.RwSems.{V, list_of, with_list}
 use Rattle.rwsem_slow.specs.Removals.{IsAlong, KnowsList}
 
@@ -34,13 +37,14 @@ none-first (x ∷ q) e = absurd cc
 pub along-starts : (known : List Waiter) (w : Waiter) (read : List Waiter) → Some w ≡ first_of known → read ≡ w ∷ [] → IsAlong known read w
 along-starts known w read first is = let s = some-first known w first in ([], s.0, is, s.1)
 
+-- tasks of a plan of so many, and one more behind them
+pub among-on : (n : ℕ) (l : List Waiter) (w : Waiter) → AreAmong n l → w.task < n → AreAmong n (l ++ w ∷ [])
+among-on n l w are few t more = dite (ℕ_discrete w.task t) (λ is. subst (λ (z : ℕ). z < n) is few) (λ not. are t (let a = counted-append t l w in let b = counted-else w [] t not in omega (arith, a, b, more)))
+
 module _ (known read : List Waiter) (last : Waiter) (a : IsAlong known read last) where
-  pub along-small : AreTasks known → last.task < MAX_TASKS
-  along-small small = go a.0 (subst AreTasks a.3 small)
-    where
-      go : (pre : List Waiter) → AreTasks (pre ++ last ∷ a.1) → last.task < MAX_TASKS
-      go [] s = s.0
-      go (x ∷ pre) s = go pre s.1
+  -- the last that is read is one of those that are
+  pub along-read : 0 < counted last.task read
+  along-read = subst (λ (z : List Waiter). 0 < counted last.task z) (sym a.2) (let l = there a.0 last [] in omega (arith, l))
 
   pub along-there : 0 < counted last.task known
   along-there = subst (λ (z : List Waiter). 0 < counted last.task z) (sym a.3) (let l = there a.0 last a.1 in omega (arith, l))
@@ -88,6 +92,9 @@ module _ (v w : V) (list : KnowsList v) (kept : w ≡ record v { steps = w.steps
     still = ap (λ (b : ListHand). b.changes) same-list ∙ list.still;
     sound = subst IsList (sym (ap (λ (b : ListHand). b.list) same-list)) list.sound;
   }
+
+  pub walk-there : (t : ℕ) → 0 < counted t v.ext.list.list → KnowsWaiter list_of t w
+  walk-there t inside = (knows-on.knows, subst (λ (b : ListHand). 0 < counted t b.list) (sym same-list) inside)
 
   module _ (t : ℕ) (next : Option Waiter) (u : V) (f : FindsNext list_of with_list w t next u) where
     pub walk-steps : u ≡ record v { steps = u.steps }

@@ -3,6 +3,7 @@ pub mod RwSems
 pub mod WakesGoLaws
 pub mod ListSteps
 pub mod DutyRule
+pub mod WaiterLaws
 pub mod RwSemLaws
 pub mod SleepLaws
 pub mod ListLaws

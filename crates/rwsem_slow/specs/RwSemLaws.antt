@@ -12,6 +12,7 @@ use Rattle.lock_core.specs.declared.view.Hand.{Hand}
 use Rattle.lock_core.specs.declared.view.SpinHand.{SpinHand}
 use Rattle.lock_core.specs.declared.view.Held.TheVariants.{No}
 use Rattle.lock_core.specs.declared.layout.TheConstants.{LOCK_WORDS, SPIN_WORDS}
+use Rattle.lock_core.specs.Stores.{HasWord}
 use Rattle.lock_core.specs.Layout.{SiteWords, fresh, site, lay, width}
 use Rattle.lock_core.specs.Views.{SpinHolds, SpinStays, hand_of, spin_part, part_with, no_part, handed, seated, ticked, first, split_off, merged, spent, named_of, is_number, HoldsNothing}
 use Rattle.lock_core.specs.Sites.{KeepsSaw, SiteKept}
@@ -61,6 +62,15 @@ count-inside = omega arith
 
 pub list-inside : list_at + LIST_WORDS ≤ LOCK_WORDS
 list-inside = omega arith
+
+pub count-there : (tasks : ℕ) → HasWord tasks count_at
+count-there tasks = record { spin = λ _. omega arith; first = λ m. absurd (omega (arith, m)); second = λ m. absurd (omega (arith, m)); third = λ m. absurd (omega (arith, m)); fourth = λ m. absurd (omega (arith, m)) }
+
+pub hint-there : (tasks : ℕ) → HasWord tasks hint_at
+hint-there tasks = record { spin = λ _. omega arith; first = λ m. absurd (omega (arith, m)); second = λ m. absurd (omega (arith, m)); third = λ m. absurd (omega (arith, m)); fourth = λ m. absurd (omega (arith, m)) }
+
+pub list-room : (SPIN_WORDS ≤ list_at) × (list_at + 8 ≤ SPIN_WORDS + 64)
+list-room = (omega arith, omega arith)
 
 pub sem-places : (count_at < marks_at) × (marks_at + 8 * MAX_TASKS ≤ grants_at) × (grants_at + 8 * MAX_TASKS ≤ LOCK_WORDS)
 sem-places = (omega arith, omega arith, omega arith)

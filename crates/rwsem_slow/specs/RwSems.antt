@@ -10,7 +10,7 @@ use Rattle.lock_core.specs.declared.view.View.{View}
 use Rattle.lock_core.specs.declared.view.Hand.{Hand}
 use Rattle.lock_core.specs.declared.view.Held.{Held}
 use Rattle.lock_core.specs.declared.view.Held.TheVariants.{No, Shared, Alone}
-use Rattle.lock_core.specs.declared.layout.TheConstants.{LOCK_WORDS, SPIN_ROOM, SPIN_WORDS}
+use Rattle.lock_core.specs.declared.layout.TheConstants.{LOCK_WORDS, ROW_WORDS, SPIN_ROOM, SPIN_WORDS}
 use Rattle.lock_core.specs.Layout.{site, width, part}
 use Rattle.lock_core.specs.Views.{hand_of, held_weight, spin_part}
 use Rattle.lock_core.specs.Sites.{SiteKept}
@@ -152,10 +152,10 @@ abbrev pub list_at : ℕ
 list_at = SPIN_ROOM + 16
 
 abbrev pub marks_at : ℕ
-marks_at = list_at + LIST_WORDS
+marks_at = SPIN_ROOM + ROW_WORDS
 
 abbrev pub grants_at : ℕ
-grants_at = marks_at + 8 * MAX_TASKS
+grants_at = SPIN_ROOM + 2 * ROW_WORDS
 
 abbrev pub wakes_at : ℕ
 wakes_at = LOCK_WORDS - WAKE_WORDS

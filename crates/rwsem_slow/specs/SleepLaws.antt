@@ -30,7 +30,7 @@ use Rattle.wait_list.specs.declared.words.TheConstants.{LIST_WORDS}
 use Rattle.wake_duty.specs.Wakes.{WAKE_WORDS, wake_word}
 use Rattle.wake_duty.specs.WakeSteps.{HasTried, knowing}
 use Rattle.wake_duty.specs.declared.view.Vigil.{Vigil}
-use Rattle.wake_duty.specs.declared.view.Vigil.TheVariants.{Absent, Awake, Tried}
+use Rattle.wake_duty.specs.declared.view.Vigil.TheVariants.{Tried}
 use Rattle.rwsem_count.specs.declared.view.Bias.{Bias}
 use Rattle.rwsem_count.specs.declared.view.Bias.TheVariants.{Clear, Transit, Reserve}
 use Rattle.sem_duty.specs.declared.view.SemWake.{SemWake}

@@ -1,7 +1,7 @@
 //! How a waiter that a signal interrupts leaves the list.
-ghost use Rattle.std.specs.Prelude.{◌≡◌, ◌≢◌, ◌+◌, ◌<◌, ◌≤◌, [], true, false, IfSome, IsSome, Some};
+ghost use Rattle.std.specs.Prelude.{◌≡◌, ◌≢◌, ◌+◌, ◌<◌, ◌≤◌, [], true, false, IfSome, IsSome, Some, length};
 ghost use Rattle.lock_core.specs.declared.view.Held.TheVariants.{No};
-ghost use Rattle.lock_core.specs.Handles.{view_of, hand_in, task_in, held_in, SitsAt, KeepsPast, SaysSame};
+ghost use Rattle.lock_core.specs.Handles.{plan_of, view_of, hand_in, task_in, held_in, SitsAt, KeepsPast, SaysSame};
 ghost use Rattle.lock_core.specs.Locking.{SawPending};
 ghost use Rattle.lock_core.specs.Records.{bit};
 ghost use Rattle.lock_core.specs.Signals.{HasHeard, OnlyConsumed};
@@ -25,7 +25,7 @@ use lock_core::{Interrupted, Pass, Site};
 use rwsem_wake::batches::BATCH;
 use rwsem_wake::queueing;
 use wait_list::list;
-use word_bits::{MAX_TASKS, Object};
+use word_bits::Object;
 
 /// Whether a signal to the pass's task is pending, where the call is interruptible. It consumes
 /// none.
@@ -76,7 +76,7 @@ fn unmark<O: Object>(site: &Site<SemRule<O>>, pass: &mut Pass<SemRule<O>>, task:
     requires may { MayLeave (view_of pass.old) }
     requires list { KnowsList (view_of pass.old) }
     requires first { first_code (view_of pass.old).ext.list.list ≡ task + 1 }
-    requires task { task < MAX_TASKS }
+    requires task { task < length (plan_of site.now) }
     ensures own { SitsAt site.now pass.new }
     ensures goes_on { KeepsPast pass.old pass.new }
     ensures face { SaysSame pass.old pass.new }
@@ -98,7 +98,7 @@ fn remove_first<O: Object>(site: &Site<SemRule<O>>, pass: &mut Pass<SemRule<O>>,
     requires unmarked { IsUnmarked (view_of pass.old) }
     requires list { KnowsList (view_of pass.old) }
     requires first { first_code (view_of pass.old).ext.list.list ≡ task + 1 }
-    requires task { task < MAX_TASKS }
+    requires task { task < length (plan_of site.now) }
     ensures own { SitsAt site.now pass.new }
     ensures goes_on { KeepsPast pass.old pass.new }
     ensures face { SaysSame pass.old pass.new }
@@ -124,7 +124,7 @@ fn remove_behind<O: Object>(site: &Site<SemRule<O>>, pass: &mut Pass<SemRule<O>>
     requires may { MayLeave (view_of pass.old) }
     requires list { KnowsList (view_of pass.old) }
     requires behind { first_code (view_of pass.old).ext.list.list ≢ task + 1 }
-    requires task { task < MAX_TASKS }
+    requires task { task < length (plan_of site.now) }
     ensures own { SitsAt site.now pass.new }
     ensures goes_on { KeepsPast pass.old pass.new }
     ensures face { SaysSame pass.old pass.new }
@@ -151,11 +151,11 @@ fn leave_first<O: Object, C: Cpu>(
     requires may { MayLeave (view_of pass.old) }
     requires list { KnowsList (view_of pass.old) }
     requires first { first_code (view_of pass.old).ext.list.list ≡ task + 1 }
-    requires task { task < MAX_TASKS }
+    requires task { task < length (plan_of site.now) }
     requires empty { woken.old.items ≡ [] }
     ensures on { StepsOn site.now pass.old pass.new }
     ensures left { HasLeft woken.new.items (view_of pass.old) (view_of pass.new) }
-    ensures tasks { AreTaskNumbers woken.new.items }
+    ensures tasks { AreTaskNumbers (plan_of site.now) woken.new.items }
     ensures woken { WakesOn (without task (view_of pass.old).ext.list.list) woken.new.items
         (seen_of pass.old) (seen_of pass.new) }
     ensures sleeps { C.sleeps cpu.new ≡ C.sleeps cpu.old }
@@ -194,7 +194,7 @@ fn leave<O: Object, C: Cpu>(
     requires empty { woken.old.items ≡ [] }
     ensures on { StepsOn site.now pass.old pass.new }
     ensures left { HasLeft woken.new.items (view_of pass.old) (view_of pass.new) }
-    ensures tasks { AreTaskNumbers woken.new.items }
+    ensures tasks { AreTaskNumbers (plan_of site.now) woken.new.items }
     ensures sleeps { C.sleeps cpu.new ≡ C.sleeps cpu.old }
     ensures rescheds { C.rescheds cpu.new ≡ C.rescheds cpu.old }
 {

@@ -1,8 +1,8 @@
 //! The walk along the list of waiters, and the removal of a batch from it.
-ghost use Rattle.std.specs.Prelude.{◌≡◌, ◌≤◌, [], IsSome, Some, length};
-ghost use Rattle.lock_core.specs.Handles.{IsLatest, view_of, task_in, SitsAt, KeepsPast, SaysSame};
+ghost use Rattle.std.specs.Prelude.{◌≡◌, ◌≤◌, [], IsSome, Some, length, ◌<◌};
+ghost use Rattle.lock_core.specs.Handles.{IsLatest, plan_of, view_of, task_in, SitsAt, KeepsPast, SaysSame};
 ghost use Rattle.lock_core.specs.Views.{SpinHolds};
-ghost use Rattle.wait_list.specs.Lists.{first_of, only_steps};
+ghost use Rattle.wait_list.specs.Lists.{AreAmong, first_of, only_steps};
 ghost use Rattle.rwsem_slow.specs.RwSems.{MayPick, sem_of};
 ghost use Rattle.rwsem_slow.specs.Removals.{AreHeads, BeginsWith, KnowsList, RemovesAll};
 ghost use Rattle.rwsem_wake.specs.Grants.{AreTaskNumbers, KeepsOut};
@@ -28,6 +28,7 @@ pub fn read_list<O: Object>(
     requires held { SpinHolds (view_of pass.old).spin }
     requires list { KnowsList (view_of pass.old) }
     requires first { Some first ≡ first_of (view_of pass.old).ext.list.list }
+    requires task { first.task < length (plan_of site.now) }
     requires empty { waiters.old.items ≡ [] }
     ensures own { SitsAt site.now pass.new }
     ensures goes_on { KeepsPast pass.old pass.new }
@@ -36,6 +37,7 @@ pub fn read_list<O: Object>(
     ensures later { (view_of pass.old).steps ≤ (view_of pass.new).steps }
     ensures kept { only_steps (view_of pass.old) (view_of pass.new) }
     ensures read { waiters.new.items ≡ (view_of pass.old).ext.list.list }
+    ensures tasks { AreAmong (length (plan_of site.now)) (view_of pass.old).ext.list.list }
 {
     waiters.push(first);
     let mut last = first;
@@ -62,7 +64,7 @@ pub fn remove_all<O: Object>(site: &Site<SemRule<O>>, pass: &mut Pass<SemRule<O>
     requires none { (view_of pass.old).ext.sem.rest ≡ [] }
     requires keeps { KeepsOut sem_of (view_of pass.old) }
     requires few { length batch.now ≤ 256 }
-    requires tasks { AreTaskNumbers batch.now }
+    requires tasks { AreTaskNumbers (plan_of site.now) batch.now }
     requires heads { AreHeads batch.now (view_of pass.old).ext.list.list }
     requires begins { BeginsWith batch.now (view_of pass.old).ext.list.list }
     ensures own { SitsAt site.now pass.new }

@@ -3,17 +3,18 @@ ghost use Rattle.std.specs.Prelude.{◌≡◌, refl};
 ghost use Rattle.word_bits.specs.LockWords.{counted};
 ghost use Rattle.lock_core.specs.SpinTables.{one-some, one-eight};
 ghost use Rattle.rwsem_slow.specs.RwSems.{Kept, MayMiss, RwSemKept, RwSemMoves, any_count, bias_of, biased, count_at, grants_at, idle, list_at, list_of, marks_at, may_change, may_count, may_free, more_in, rests, saw_first, sem_of, standing, wake_of, with_list, with_sem, with_wake, sleep_vigil, wakes_at, HasChosen, after_set, after_swap};
-ghost use Rattle.rwsem_slow.specs.RwSemLaws.{count-inside, list-inside, sem-joins-rule, sem-looks, sem-opens-rule, sem-places, sem-sems, sem-site, sem-sites, sem-spin, sem-spins, sem-splits, spin-inside};
+ghost use Rattle.rwsem_slow.specs.RwSemLaws.{count-inside, count-there, list-inside, list-room, sem-joins-rule, sem-looks, sem-opens-rule, sem-places, sem-sems, sem-site, sem-sites, sem-spin, sem-spins, sem-splits, spin-inside};
+ghost use Rattle.rwsem_slow.specs.WaiterLaws.{few-waiters};
 ghost use Rattle.rwsem_slow.specs.ListLaws.{list-again, list-back, list-over, list-same, may-on, may-stay, sem-firsts, sem-list, sem-list-may, sem-lists, sem-queued};
 ghost use Rattle.rwsem_slow.specs.CountHosting.{bias-back, sem-alone, sem-count, sem-counted, sem-words};
 ghost use Rattle.rwsem_slow.specs.SleepLaws.{sem-bits, sem-sets, sem-swaps, wake-inside};
 
 use crate::view::RwSemHand;
-use lock_core::{LOCK_WORDS, SPIN_ROOM, SiteRule, SpinHost};
+use lock_core::{LOCK_WORDS, ROW_WORDS, SPIN_ROOM, SiteRule, SpinHost};
 use rwsem_count::CountHost;
 use rwsem_wake::GrantHost;
 use std::marker::PhantomData;
-use wait_list::{LIST_WORDS, ListHost};
+use wait_list::ListHost;
 use wake_duty::SleepHost;
 use word_bits::{MAX_TASKS, Object};
 
@@ -67,6 +68,8 @@ impl<O: Object> SpinHost for SemRule<O> {
 
     ghost may_free = { may_free };
 
+    ghost spin_first = { refl };
+
     ghost spin_inside = { spin-inside };
 
     ghost spin_some = { one-some };
@@ -97,6 +100,8 @@ impl<O: Object> ListHost for SemRule<O> {
 
     ghost list_inside = { list-inside };
 
+    ghost list_room = { list-room };
+
     ghost list_back = { list-back };
 
     ghost list_same = { list-same };
@@ -112,6 +117,8 @@ impl<O: Object> ListHost for SemRule<O> {
     ghost queued = { sem-queued O.object O.WORDS };
 
     ghost list_kept = { sem-list O.object O.WORDS };
+
+    ghost listed_few = { λ k ws vs q t r. few-waiters O.object O.WORDS k ws vs q r t };
 
     ghost list_moves = { λ k id ws us vs vs' step. step.list };
 
@@ -141,6 +148,8 @@ impl<O: Object> CountHost for SemRule<O> {
 
     ghost count_inside = { count-inside };
 
+    ghost count_there = { count-there };
+
     ghost bias_back = { bias-back };
 
     ghost count_kept = { sem-count O.object O.WORDS };
@@ -151,9 +160,9 @@ impl<O: Object> CountHost for SemRule<O> {
 }
 
 impl<O: Object> GrantHost for SemRule<O> {
-    const MARKS: usize = SPIN_ROOM + 16 + LIST_WORDS;
+    const MARKS: usize = SPIN_ROOM + ROW_WORDS;
 
-    const GRANTS: usize = SPIN_ROOM + 16 + LIST_WORDS + 8 * MAX_TASKS as usize;
+    const GRANTS: usize = SPIN_ROOM + 2 * ROW_WORDS;
 
     ghost MARKS = { marks_at };
 
@@ -176,6 +185,10 @@ impl<O: Object> GrantHost for SemRule<O> {
     ghost with_wake = { with_wake };
 
     ghost wake_same = { λ e s. refl };
+
+    ghost marks_row = { refl };
+
+    ghost grants_row = { refl };
 
     ghost sem_places = { sem-places };
 
@@ -200,6 +213,8 @@ impl<O: Object> SleepHost for SemRule<O> {
     ghost after_swap = { after_swap };
 
     ghost wake_inside = { wake-inside };
+
+    ghost wake_room = { refl };
 
     ghost chosen_few = { λ e t chosen. chosen.2 };
 

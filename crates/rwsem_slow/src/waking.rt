@@ -1,6 +1,6 @@
 //! Wakes of a semaphore's waiters, under its wait lock.
 ghost use Rattle.std.specs.Prelude.{◌≡◌, ◌<◌, ◌≤◌, ◌+◌, ◌||◌, ℕ, [], Bool, true, false, IsSome, Some, length};
-ghost use Rattle.lock_core.specs.Handles.{IsLatest, view_of, task_in, SitsAt, KeepsPast, SaysSame};
+ghost use Rattle.lock_core.specs.Handles.{IsLatest, plan_of, view_of, task_in, SitsAt, KeepsPast, SaysSame};
 ghost use Rattle.lock_core.specs.Records.{bit};
 ghost use Rattle.lock_core.specs.Views.{SpinHolds};
 ghost use Rattle.rwsem_count.specs.Counts.{early_weight, shared_weight};
@@ -116,6 +116,7 @@ fn remove_batch<O: Object>(
     requires held { SpinHolds (view_of pass.old).spin }
     requires list { KnowsList (view_of pass.old) }
     requires first { Some first ≡ first_of (view_of pass.old).ext.list.list }
+    requires task { first.task < length (plan_of site.now) }
     requires reader { first.writer ≡ false }
     requires may { MayPick (view_of pass.old).ext.sem }
     requires none { (view_of pass.old).ext.sem.rest ≡ [] }
@@ -131,7 +132,7 @@ fn remove_batch<O: Object>(
     ensures none_left { bit result + some_of (view_of pass.new).ext.list.list ≡ 1 }
     ensures some { 0 < length readers.new.items }
     ensures few { length readers.new.items ≤ MAX_WAITERS }
-    ensures tasks { AreTaskNumbers readers.new.items }
+    ensures tasks { AreTaskNumbers (plan_of site.now) readers.new.items }
 {
     let mut waiters: ArrayVec<Waiter, MAX_WAITERS> = ArrayVec::new();
     read_list(site, pass, first, &mut waiters);
@@ -157,6 +158,7 @@ fn grant<O: Object>(
     requires held { SpinHolds (view_of pass.old).spin }
     requires list { KnowsList (view_of pass.old) }
     requires first { Some first ≡ first_of (view_of pass.old).ext.list.list }
+    requires task { first.task < length (plan_of site.now) }
     requires reader { first.writer ≡ false }
     requires may { MayPick (view_of pass.old).ext.sem }
     requires none { (view_of pass.old).ext.sem.rest ≡ [] }
@@ -169,7 +171,7 @@ fn grant<O: Object>(
     ensures face { SaysSame pass.old pass.new }
     ensures granted { Grants false (view_of pass.old) (view_of pass.new) }
     ensures woken { woken.new.items ≡ batch_in (view_of pass.old).ext.list.list }
-    ensures tasks { AreTaskNumbers woken.new.items }
+    ensures tasks { AreTaskNumbers (plan_of site.now) woken.new.items }
 {
     let empty = remove_batch(site, pass, first, woken);
     let readers = woken.as_slice();
@@ -191,6 +193,7 @@ fn grant_unless_written<O: Object, P: Patience>(
     requires rests { IsAtRest (view_of pass.old) }
     requires list { KnowsList (view_of pass.old) }
     requires first { Some first ≡ first_of (view_of pass.old).ext.list.list }
+    requires task { first.task < length (plan_of site.now) }
     requires reader { first.writer ≡ false }
     requires may { shared_weight (view_of pass.old).hand.held ≡ 0 }
     requires empty { woken.old.items ≡ [] }
@@ -201,7 +204,7 @@ fn grant_unless_written<O: Object, P: Patience>(
     ensures granted { Grants result (view_of pass.old) (view_of pass.new) }
     ensures woken { woken.new.items ≡
         readers_woken result (view_of pass.old).ext.list.list }
-    ensures tasks { AreTaskNumbers woken.new.items }
+    ensures tasks { AreTaskNumbers (plan_of site.now) woken.new.items }
     ensures saw { SawWriter result (seen_of pass.old) (seen_of pass.new) }
     ensures steps { result ≡ true → P.said patience.old ≡ false →
         (view_of pass.new).steps ≡ (view_of pass.old).steps + 2 + bit (P.said patience.new) }
@@ -244,7 +247,7 @@ pub fn wake_tasks<O: Object, C: Crew>(
     requires own { SitsAt site.now pass.old }
     requires chosen { (view_of pass.old).ext.wake.chosen ≡ tasks.now }
     requires granted { (view_of pass.old).ext.sem.rest ≡ [] }
-    requires tasks { AreTaskNumbers tasks.now }
+    requires tasks { AreTaskNumbers (plan_of site.now) tasks.now }
     requires counted { AreCounts counts.old (view_of pass.old) }
     ensures own { SitsAt site.now pass.new }
     ensures goes_on { KeepsPast pass.old pass.new }
@@ -295,7 +298,7 @@ pub fn wake<O: Object, P: Patience>(
     requires empty { woken.old.items ≡ [] }
     ensures on { StepsOn site.now pass.old pass.new }
     ensures wakes { Wakes kind woken.new.items pass.old pass.new }
-    ensures tasks { AreTaskNumbers woken.new.items }
+    ensures tasks { AreTaskNumbers (plan_of site.now) woken.new.items }
     ensures asked { P.asked patience.new ≡ P.asked patience.old }
     ensures sleeps { P.sleeps patience.new ≡ P.sleeps patience.old }
     ensures rescheds { P.rescheds patience.new ≡ P.rescheds patience.old }

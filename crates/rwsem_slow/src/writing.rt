@@ -26,7 +26,7 @@ use rwsem_count::{BIAS, HANDOFF, READ_FAIL, WRITER, Write, write_step};
 use rwsem_wake::queueing;
 use std::sync::Wait;
 use wait_list::{Waiter, list};
-use word_bits::{MAX_TASKS, Object};
+use word_bits::Object;
 
 /// Appends the pass's own task to the list as a writer, and sets WAITERS where it stands alone
 /// there. Answers whether it does.
@@ -89,7 +89,7 @@ fn ask<O: Object>(
     requires queued { (view_of pass.old).ext.sem ≡ waiting Writes }
     requires list { KnowsList (view_of pass.old) }
     requires first { first_code (view_of pass.old).ext.list.list ≡ first + 1 }
-    requires task { first < MAX_TASKS }
+    requires task { first < length (plan_of site.now) }
     requires unasked { HasHandoff old → ⊥ }
     requires asks { new ≡ old + 4 }
     requires listed { IsListed (view_of pass.old).ext.wake }
@@ -167,6 +167,7 @@ fn is_alone<O: Object>(site: &Site<SemRule<O>>, pass: &mut Pass<SemRule<O>>, fir
     requires locked { SpinHolds (view_of pass.old).spin }
     requires list { KnowsList (view_of pass.old) }
     requires first { Some first ≡ first_of (view_of pass.old).ext.list.list }
+    requires task { first.task < length (plan_of site.now) }
     ensures own { SitsAt site.now pass.new }
     ensures goes_on { KeepsPast pass.old pass.new }
     ensures face { SaysSame pass.old pass.new }
@@ -193,7 +194,7 @@ fn stand<O: Object>(site: &Site<SemRule<O>>, pass: &mut Pass<SemRule<O>>) -> Sta
         (view_of pass.new).ext.wake (view_of pass.new) }
     ensures waits { KeepsWaiting (view_of pass.old).ext.wake (view_of pass.new).ext.wake }
     ensures mine { task_in pass.old ≡ Some result.me }
-    ensures task { result.first < MAX_TASKS }
+    ensures task { result.first < length (plan_of site.now) }
     ensures first { first_code (view_of pass.new).ext.list.list ≡ result.first + 1 }
     ensures only { (result.alone ≡ true) ↔ (length (view_of pass.new).ext.list.list ≡ 1) }
     ensures lawful { IsLawfulCount result.count }
@@ -228,7 +229,7 @@ fn sees_mark<O: Object>(
     requires queued { (view_of pass.old).ext.sem ≡ waiting Writes }
     requires list { KnowsList (view_of pass.old) }
     requires first { first_code (view_of pass.old).ext.list.list ≡ standing.first + 1 }
-    requires task { standing.first < MAX_TASKS }
+    requires task { standing.first < length (plan_of site.now) }
     requires listed { IsListed (view_of pass.old).ext.wake }
     ensures own { SitsAt site.now pass.new }
     ensures goes_on { KeepsPast pass.old pass.new }
@@ -258,7 +259,7 @@ fn exchange<O: Object>(
     requires queued { (view_of pass.old).ext.sem ≡ waiting Writes }
     requires list { KnowsList (view_of pass.old) }
     requires first { first_code (view_of pass.old).ext.list.list ≡ standing.first + 1 }
-    requires task { standing.first < MAX_TASKS }
+    requires task { standing.first < length (plan_of site.now) }
     requires only { (standing.alone ≡ true) ↔ (length (view_of pass.old).ext.list.list ≡ 1) }
     requires lawful { IsLawfulCount count }
     requires listed { IsListed (view_of pass.old).ext.wake }
@@ -301,7 +302,7 @@ fn try_standing<O: Object, W: Wait>(
     requires queued { (view_of pass.old).ext.sem ≡ waiting Writes }
     requires list { KnowsList (view_of pass.old) }
     requires first { first_code (view_of pass.old).ext.list.list ≡ standing.first + 1 }
-    requires task { standing.first < MAX_TASKS }
+    requires task { standing.first < length (plan_of site.now) }
     requires only { (standing.alone ≡ true) ↔ (length (view_of pass.old).ext.list.list ≡ 1) }
     requires lawful { IsLawfulCount standing.count }
     requires listed { IsListed (view_of pass.old).ext.wake }

@@ -11,6 +11,7 @@ pub mod HandoffSteps
 pub mod Readers
 pub mod Stating
 pub mod Lines
+pub mod Having
 pub mod Stepping
 pub mod Waking
 pub mod Courses

@@ -2,6 +2,7 @@
 use Rattle.std.specs.Prelude.{◌≡◌, ℕ, ◌+◌, ◌*◌, ◌/◌, ◌%◌, ◌≤◌, ◌==◌, Bool, false, List, [], ◌∷◌, length, slice_index, ◌<◌, if◌then◌else◌}
 use Rattle.atomic_table.specs.Table.{Step}
 use Rattle.word_bits.specs.declared.TheConstants.{MAX_TASKS}
+use Rattle.word_bits.specs.Histories.{Plan}
 use Rattle.lock_core.specs.declared.view.View.{View}
 use Rattle.lock_core.specs.declared.view.Hand.{Hand}
 use Rattle.lock_core.specs.Records.{bit}
@@ -158,8 +159,9 @@ pub record MaySum {E : Type 0} (list : E → ListHand) (sem : E → SemHand) (v 
   pub few : length (sem v.ext).rest ≤ MAX_TASKS
   pub is : gain + losses (sem v.ext) (bit handoff) ≡ loss + gains (sem v.ext) (list v.ext).list
 
-abbrev pub AreTaskNumbers : List ℕ → Type 0
-AreTaskNumbers batch = (i : ℕ) → i < length batch → slice_index batch i < MAX_TASKS
+-- these are tasks of the plan
+abbrev pub AreTaskNumbers : Plan → List ℕ → Type 0
+AreTaskNumbers k batch = (i : ℕ) → i < length batch → slice_index batch i < length k
 
 -- the batch is in the count, and none of it is granted
 pub record IsGranting (s : SemHand) (batch : List ℕ) : Type 0 where

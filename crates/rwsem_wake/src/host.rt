@@ -9,6 +9,7 @@ ghost use Rattle.lock_core.specs.declared.view.View.{View};
 ghost use Rattle.lock_core.specs.declared.view.Hand.{Hand};
 ghost use Rattle.lock_core.specs.declared.layout.TheConstants.{LOCK_WORDS};
 ghost use Rattle.lock_core.specs.Layout.{site};
+ghost use Rattle.lock_core.specs.Stores.{row_at};
 ghost use Rattle.lock_core.specs.Views.{SpinHolds, hand_of};
 ghost use Rattle.lock_core.specs.Spins.{holds_in};
 ghost use Rattle.lock_core.specs.Sites.{KeepsSaw, SiteKept};
@@ -48,6 +49,11 @@ pub trait GrantHost: ListHost + CountHost {
     ghost MARKS: { ℕ };
 
     ghost GRANTS: { ℕ };
+
+    // The marks stand in a row, the grant words in the next: a table has those of its plan's tasks.
+    ghost marks_row: { MARKS ≡ row_at 1 };
+
+    ghost grants_row: { GRANTS ≡ row_at 2 };
 
     // The part of what a pass knows that concerns the semaphore.
     ghost sem: { Self.Ext → ASemHand };

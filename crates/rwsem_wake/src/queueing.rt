@@ -1,5 +1,5 @@
 //! The single steps of tasks that queue, on the count, the marks and the grant words of any host.
-ghost use Rattle.std.specs.Prelude.{◌≡◌, ◌≢◌, ℕ, ◌<◌, ◌≤◌, ◌+◌, ◌-◌, ◌*◌, ◌%◌, ◌==◌, ◌⊎◌, true, false, IsSome, Some};
+ghost use Rattle.std.specs.Prelude.{◌≡◌, ◌≢◌, ℕ, ◌<◌, ◌≤◌, ◌+◌, ◌-◌, ◌*◌, ◌%◌, ◌==◌, ◌⊎◌, true, false, IsSome, Some, length};
 ghost use Rattle.word_bits.specs.LockWords.{IsLawfulCount};
 ghost use Rattle.lock_core.specs.Handles.{IsLatest, plan_of, view_of, past_of, task_in, held_in, SitsAt, KeepsPast, SaysSame};
 ghost use Rattle.lock_core.specs.declared.view.Held.TheVariants.{No, Shared, Alone};
@@ -20,7 +20,6 @@ use lock_core::view::View;
 use lock_core::{Held, Op, Pass, Site};
 use rwsem_count::{BIAS, HANDOFF, WAITERS};
 use std::marker::PhantomData;
-use word_bits::MAX_TASKS;
 
 /// What is to be taken from a count so that a bias goes and, where the task is alone in the list,
 /// WAITERS comes.
@@ -165,7 +164,7 @@ pub fn mark_asked<H: GrantHost>(site: &Site<H>, pass: &mut Pass<H>, task: u32)
     requires writes { (sem_at H.sem (view_of pass.old)).wait ≡ Writes }
     requires clear { (sem_at H.sem (view_of pass.old)).bias ≡ Clear }
     requires first { KnowsFirst H.list (view_of pass.old) task }
-    requires task { task < MAX_TASKS }
+    requires task { task < length (plan_of site.now) }
     ensures own { SitsAt site.now pass.new }
     ensures goes_on { KeepsPast pass.old pass.new }
     ensures last { IsLatest pass.new }
@@ -193,7 +192,7 @@ pub fn look_first<H: GrantHost>(site: &Site<H>, pass: &mut Pass<H>, task: u32) -
     requires may { MayLook H.list H.sem (view_of pass.old) task }
     requires waits { (sees_itself H.list (view_of pass.old) ≡ true)
         ⊎ ((sem_at H.sem (view_of pass.old)).wait ≡ Writes) }
-    requires task { task < MAX_TASKS }
+    requires task { task < length (plan_of site.now) }
     ensures own { SitsAt site.now pass.new }
     ensures goes_on { KeepsPast pass.old pass.new }
     ensures last { IsLatest pass.new }
@@ -222,7 +221,7 @@ pub fn clear_first<H: GrantHost>(site: &Site<H>, pass: &mut Pass<H>, task: u32)
     requires held { SpinHolds (view_of pass.old).spin }
     requires mine { task_in pass.old ≡ Some task }
     requires may { MayLook H.list H.sem (view_of pass.old) task }
-    requires task { task < MAX_TASKS }
+    requires task { task < length (plan_of site.now) }
     ensures own { SitsAt site.now pass.new }
     ensures goes_on { KeepsPast pass.old pass.new }
     ensures last { IsLatest pass.new }
@@ -249,7 +248,7 @@ pub fn look_own<H: GrantHost>(site: &Site<H>, pass: &mut Pass<H>, task: u32) -> 
     requires mine { task_in pass.old ≡ Some task }
     requires removed { (sem_at H.sem (view_of pass.old)).stage ≡ Removed }
     requires clear { (sem_at H.sem (view_of pass.old)).bias ≡ Clear }
-    requires task { task < MAX_TASKS }
+    requires task { task < length (plan_of site.now) }
     ensures own { SitsAt site.now pass.new }
     ensures goes_on { KeepsPast pass.old pass.new }
     ensures last { IsLatest pass.new }
@@ -276,7 +275,7 @@ pub fn clear_own<H: GrantHost>(site: &Site<H>, pass: &mut Pass<H>, task: u32)
     requires mine { task_in pass.old ≡ Some task }
     requires removed { (sem_at H.sem (view_of pass.old)).stage ≡ Removed }
     requires clear { (sem_at H.sem (view_of pass.old)).bias ≡ Clear }
-    requires task { task < MAX_TASKS }
+    requires task { task < length (plan_of site.now) }
     ensures own { SitsAt site.now pass.new }
     ensures goes_on { KeepsPast pass.old pass.new }
     ensures last { IsLatest pass.new }
@@ -406,7 +405,7 @@ impl<H: GrantHost> Play<(), View<H::Ext>> for LookGrant<H> {
 pub fn hear<H: GrantHost>(site: &Site<H>, pass: &mut Pass<H>, task: u32) -> u64
     requires own { SitsAt site.now pass.old }
     requires mine { task_in pass.old ≡ Some task }
-    requires task { task < MAX_TASKS }
+    requires task { task < length (plan_of site.now) }
     requires out { held_in pass.old ≡ No }
     requires may { MayHear (sem_at H.sem (view_of pass.old)) }
     requires owes { (wake_at H.wake (view_of pass.old)).owing ≡ false }
@@ -442,7 +441,7 @@ impl<H: GrantHost> Play<(), View<H::Ext>> for LookGrantLocked<H> {
 pub fn hear_locked<H: GrantHost>(site: &Site<H>, pass: &mut Pass<H>, task: u32) -> u64
     requires own { SitsAt site.now pass.old }
     requires mine { task_in pass.old ≡ Some task }
-    requires task { task < MAX_TASKS }
+    requires task { task < length (plan_of site.now) }
     requires out { held_in pass.old ≡ No }
     requires held { SpinHolds (view_of pass.old).spin }
     requires may { MayHear (sem_at H.sem (view_of pass.old)) }

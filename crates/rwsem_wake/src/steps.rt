@@ -1,8 +1,8 @@
 //! The single steps of queues and wakes on the count, the marks and the grant words of any host,
 //! under the wait lock.
-ghost use Rattle.std.specs.Prelude.{◌≡◌, ℕ, ◌<◌, ◌≤◌, ◌+◌, ◌*◌, ◌^◌, IsSome, Some, true};
+ghost use Rattle.std.specs.Prelude.{◌≡◌, ℕ, ◌<◌, ◌≤◌, ◌+◌, ◌*◌, ◌^◌, IsSome, Some, true, length};
 ghost use Rattle.word_bits.specs.LockWords.{IsLawfulCount};
-ghost use Rattle.lock_core.specs.Handles.{IsLatest, view_of, past_of, task_in, SitsAt, KeepsPast, SaysSame};
+ghost use Rattle.lock_core.specs.Handles.{IsLatest, plan_of, view_of, past_of, task_in, SitsAt, KeepsPast, SaysSame};
 ghost use Rattle.lock_core.specs.Ops.{word_after};
 ghost use Rattle.lock_core.specs.Pasts.{FoundAt};
 ghost use Rattle.lock_core.specs.Records.{bit};
@@ -19,7 +19,6 @@ use lock_core::view::View;
 use lock_core::{Op, Pass, Site};
 use rwsem_count::{BIAS, HANDOFF};
 use std::marker::PhantomData;
-use word_bits::MAX_TASKS;
 
 /// How far the word of a task stands from that of the task before.
 pub(crate) const LINE: usize = 8;
@@ -51,7 +50,7 @@ pub fn arm<H: GrantHost>(site: &Site<H>, pass: &mut Pass<H>, task: u32)
     requires own { SitsAt site.now pass.old }
     requires held { SpinHolds (view_of pass.old).spin }
     requires mine { task_in pass.old ≡ Some task }
-    requires task { task < MAX_TASKS }
+    requires task { task < length (plan_of site.now) }
     requires rests { MayArm (sem_at H.sem (view_of pass.old)) }
     ensures own { SitsAt site.now pass.new }
     ensures goes_on { KeepsPast pass.old pass.new }
@@ -132,7 +131,7 @@ pub fn mark_first<H: GrantHost>(site: &Site<H>, pass: &mut Pass<H>, task: u32)
     requires held { SpinHolds (view_of pass.old).spin }
     requires written { HasFoundWriter (sem_at H.sem (view_of pass.old)) }
     requires first { KnowsFirst H.list (view_of pass.old) task }
-    requires task { task < MAX_TASKS }
+    requires task { task < length (plan_of site.now) }
     ensures own { SitsAt site.now pass.new }
     ensures goes_on { KeepsPast pass.old pass.new }
     ensures last { IsLatest pass.new }
@@ -183,7 +182,7 @@ pub fn look_mark<H: GrantHost>(site: &Site<H>, pass: &mut Pass<H>, task: u32) ->
     requires numbered { IsSome (task_in pass.old) }
     requires held { SpinHolds (view_of pass.old).spin }
     requires next { IsNext (sem_at H.sem (view_of pass.old)) Removing task }
-    requires task { task < MAX_TASKS }
+    requires task { task < length (plan_of site.now) }
     ensures own { SitsAt site.now pass.new }
     ensures goes_on { KeepsPast pass.old pass.new }
     ensures last { IsLatest pass.new }
@@ -209,7 +208,7 @@ pub fn clear_mark<H: GrantHost>(site: &Site<H>, pass: &mut Pass<H>, task: u32)
     requires numbered { IsSome (task_in pass.old) }
     requires held { SpinHolds (view_of pass.old).spin }
     requires next { IsNext (sem_at H.sem (view_of pass.old)) Removing task }
-    requires task { task < MAX_TASKS }
+    requires task { task < length (plan_of site.now) }
     ensures own { SitsAt site.now pass.new }
     ensures goes_on { KeepsPast pass.old pass.new }
     ensures last { IsLatest pass.new }
@@ -304,7 +303,7 @@ pub fn clear_grant<H: GrantHost>(site: &Site<H>, pass: &mut Pass<H>, task: u32)
     requires held { SpinHolds (view_of pass.old).spin }
     requires next { IsNext (sem_at H.sem (view_of pass.old)) Granting task }
     requires clear { (sem_at H.sem (view_of pass.old)).bias ≡ Clear }
-    requires task { task < MAX_TASKS }
+    requires task { task < length (plan_of site.now) }
     ensures own { SitsAt site.now pass.new }
     ensures goes_on { KeepsPast pass.old pass.new }
     ensures last { IsLatest pass.new }

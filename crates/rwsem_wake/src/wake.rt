@@ -1,6 +1,6 @@
 //! The parts of a wake that are steps on the count, the marks and the grant words.
 ghost use Rattle.std.specs.Prelude.{◌≡◌, ◌<◌, ◌≤◌, ◌+◌, ◌%◌, IsSome, List, [], ◌∷◌, length, slice_index, ℕ};
-ghost use Rattle.lock_core.specs.Handles.{IsLatest, view_of, task_in, SitsAt, KeepsPast, SaysSame};
+ghost use Rattle.lock_core.specs.Handles.{IsLatest, plan_of, view_of, task_in, SitsAt, KeepsPast, SaysSame};
 ghost use Rattle.lock_core.specs.Records.{bit};
 ghost use Rattle.lock_core.specs.Views.{SpinHolds};
 ghost use Rattle.wait_list.specs.Lists.{Knows, hand_at, list_part};
@@ -30,7 +30,7 @@ pub fn back_out<H: GrantHost>(
     requires reserved { IsReserved (sem_at H.sem (view_of pass.old)) seen }
     requires written { seen % 2 ≡ 1 }
     requires first { KnowsFirst H.list (view_of pass.old) first }
-    requires task { first < MAX_TASKS }
+    requires task { first < length (plan_of site.now) }
     ensures own { SitsAt site.now pass.new }
     ensures goes_on { KeepsPast pass.old pass.new }
     ensures last { IsLatest pass.new }
@@ -54,7 +54,7 @@ pub fn clear_first<H: GrantHost>(site: &Site<H>, pass: &mut Pass<H>, task: u32)
     requires numbered { IsSome (task_in pass.old) }
     requires held { SpinHolds (view_of pass.old).spin }
     requires next { IsNext (sem_at H.sem (view_of pass.old)) Removing task }
-    requires task { task < MAX_TASKS }
+    requires task { task < length (plan_of site.now) }
     ensures own { SitsAt site.now pass.new }
     ensures goes_on { KeepsPast pass.old pass.new }
     ensures last { IsLatest pass.new }
@@ -114,7 +114,7 @@ pub fn grant_all<H: GrantHost>(site: &Site<H>, pass: &mut Pass<H>, batch: &[u32]
     requires numbered { IsSome (task_in pass.old) }
     requires held { SpinHolds (view_of pass.old).spin }
     requires granting { IsGranting (sem_at H.sem (view_of pass.old)) batch.now }
-    requires tasks { AreTaskNumbers batch.now }
+    requires tasks { AreTaskNumbers (plan_of site.now) batch.now }
     ensures own { SitsAt site.now pass.new }
     ensures goes_on { KeepsPast pass.old pass.new }
     ensures last { IsLatest pass.new }
@@ -141,7 +141,7 @@ pub fn grant_removed<H: GrantHost>(
     requires numbered { IsSome (task_in pass.old) }
     requires held { SpinHolds (view_of pass.old).spin }
     requires removed { IsRemoved (sem_at H.sem (view_of pass.old)) batch.now }
-    requires tasks { AreTaskNumbers batch.now }
+    requires tasks { AreTaskNumbers (plan_of site.now) batch.now }
     requires keeps { KeepsOut H.sem (view_of pass.old) }
     requires knows { Knows (list_part H.list (view_of pass.old)) }
     requires whole { HasWholeBatch H.list H.sem (view_of pass.old) }

@@ -1,5 +1,5 @@
 -- Each kind of step of a semaphore's pass keeps the facts of its wake words.
-use Rattle.std.proofs.Common.{◌≡◌, ◌≢◌, ℕ, zero, suc, ◌+◌, ◌-◌, ◌*◌, ◌<◌, ◌≤◌, ◌==◌, ◌⊎◌, inl, inr, Bool, true, false, List, [], ◌∷◌, ◌++◌, length, set, get_or, Option, Some, None, sym, refl, ap, ◌∙◌, subst, arith, eq-eqb, ne_eqb, ⊎_elim, length-set, get_or-set_same, get_or-set_other, if◌then◌else◌}
+use Rattle.std.proofs.Common.{◌≡◌, ◌≢◌, ℕ, zero, suc, ◌+◌, ◌*◌, ◌<◌, ◌≤◌, ◌==◌, ◌⊎◌, inl, inr, Bool, true, false, List, [], ◌∷◌, ◌++◌, length, set, get_or, Option, Some, None, sym, refl, ap, ◌∙◌, subst, arith, eq-eqb, ne_eqb, ⊎_elim, length-set, get_or-set_same, get_or-set_other, if◌then◌else◌}
 use mathlib.Core.Option.{some, some-ne-none}
 use mathlib.Core.Logic.{dite}
 use native.Mathlib.Decide.{ℕ_discrete}
@@ -9,16 +9,15 @@ use Rattle.lock_core.specs.Records.{bit}
 use Rattle.lock_core.specs.Views.{is_number}
 use Rattle.lock_core.specs.Totals.{total, total-set, total-snoc, total-at}
 use Rattle.lock_core.specs.Parts.{Each, each-set, each-snoc, set-there}
-use Rattle.lock_core.proofs.HandLaws.{is_number-here, is_number-else, not-both}
+use Rattle.lock_core.proofs.HandLaws.{is_number-here}
 use Rattle.lock_core.proofs.RowLaws.{none-some, same-some}
 use Rattle.wait_list.specs.declared.view.Waiter.{Waiter}
 use Rattle.wait_list.specs.Lists.{first_code, without}
 use Rattle.wait_list.proofs.Waiters.{first-without, without-else}
 use Rattle.wake_duty.specs.declared.view.Vigil.{Vigil}
-use Rattle.wake_duty.specs.declared.view.Vigil.TheVariants.{Absent, Awake, Tried}
-use Rattle.wake_duty.specs.Wakes.{WAKE_WORDS, wake_word, awake, waits, foiled, drowsed_at, dozed_at}
+use Rattle.wake_duty.specs.declared.view.Vigil.TheVariants.{Awake, Tried}
+use Rattle.wake_duty.specs.Wakes.{WAKE_WORDS, wake_word, awake, waits, foiled}
 use Rattle.wake_duty.specs.WakeLaws.{awake-none, awake-else}
-use Rattle.sem_duty.specs.declared.view.SemWake.{SemWake}
 use Rattle.sem_duty.specs.SemDuties.{DutyPart, DutyKept, PartOk, IsQuiet, times, where_so, alone_of, late_of, owes, answers, stirs, chose, is_awake, rouses, first_writes, wakes_first, recounted, with_vigil, entering, leaving, choosing, less, setting, drowsing, with_wake}
 
 -- numbers

@@ -1,5 +1,5 @@
 -- The stores of an append, one after the other.
-use Rattle.std.proofs.Common.{◌≡◌, ◌∙◌, ℕ, ◌+◌, ◌*◌, ◌<◌, ◌≤◌, inl, inr, Bool, true, false, List, [], ◌∷◌, ◌++◌, length, get_or, set, sym, refl, ap, subst, arith, length-set, get_or-set_same, get_or-set_other}
+use Rattle.std.proofs.Common.{◌≡◌, ◌∙◌, ℕ, ◌+◌, ◌*◌, ◌<◌, ◌≤◌, inl, inr, Bool, true, false, List, [], ◌∷◌, ◌++◌, Some, length, get_or, set, sym, refl, ap, subst, arith, length-set, get_or-set_same, get_or-set_other}
 use Rattle.lock_core.specs.declared.view.View.{View}
 use Rattle.lock_core.specs.declared.view.SpinHand.{SpinHand}
 use Rattle.lock_core.specs.Records.{bit}
@@ -9,10 +9,11 @@ use Rattle.wait_list.specs.declared.view.Change.{Change}
 use Rattle.wait_list.specs.declared.view.Change.TheVariants.{Stay, Enter}
 use Rattle.wait_list.specs.declared.view.ListHand.{ListHand}
 use Rattle.wait_list.specs.Lists.{AllowsChange, Appends, IsList, IsNear, IsPrepared, IsStill, Knows, Learnt, LearntWord, Lists, MayStore, Part, counted, ending, entering, first_code, going_on, list_part, listed}
-use Rattle.wait_list.proofs.Walks.{appended-lists, apart-lists, head-is, last-small}
+use Rattle.wait_list.proofs.Walks.{appended-lists, apart-lists, head-is, last-among, last-small}
 use Rattle.wait_list.proofs.Courses.{Came, allowed-on, comes, comes-on, end-may, part-of, stay-may, stays-on}
 use Rattle.wait_list.specs.declared.words.TheConstants.{LIST_WORDS}
 use Rattle.word_bits.specs.declared.TheConstants.{MAX_TASKS}
+use Rattle.word_bits.specs.Histories.{Plan}
 
 first-append : (ws : List ℕ) (l : List Waiter) (w : Waiter) → get_or ws 0 0 ≡ first_code l → IsNear ws (l ++ w ∷ []) 0
 first-append ws [] w is = inr (inl is)
@@ -112,6 +113,10 @@ module _ {E : Type 0} (list : E → ListHand) (with_list : Change → View E →
   pub tail-small : tail ≤ MAX_TASKS
   tail-small = let t = lists.tail in let m = last-small told.0.list learnt.sound.small in let e = told.2 in omega (arith, t, m, e)
 
+  -- the last waiter is a task of the plan
+  pub tail-few : (k : Plan) → v.hand.plan ≡ Some k → tail ≤ length k
+  tail-few k its = let t = lists.tail in let m = last-among (length k) told.0.list (told.5 k its) in let e = told.2 in omega (arith, t, m, e)
+
   abbrev hand_next : ListHand
   hand_next = after_next told.0 w tail n lists learnt.wide fresh small told.2
 
@@ -190,6 +195,7 @@ module _ {E : Type 0} (list : E → ListHand) (with_list : Change → View E →
           hand = hand_link;
           before = λ k. ap (λ (d : ListHand). d.list) (learnt.same k);
           sound = learnt.sound;
+          few = told.5;
           fresh = fresh;
           now = refl;
           since = learnt.knows.1;

@@ -1,6 +1,9 @@
 -- What loads tell of the list: who is first, and who stands behind a task.
-use Rattle.std.proofs.Common.{◌≡◌, ◌≢◌, ◌∙◌, ℕ, ◌+◌, ◌-◌, ◌*◌, ◌%◌, ◌==◌, ◌<◌, ◌≤◌, false, List, Option, Some, None, get_or, sym, refl, ap, subst, arith}
+use Rattle.std.proofs.Common.{◌≡◌, ◌≢◌, ◌∙◌, ℕ, ◌+◌, ◌-◌, ◌*◌, ◌%◌, ◌==◌, ◌<◌, ◌≤◌, false, List, Option, Some, None, length, get_or, sym, refl, ap, subst, arith}
+use mathlib.Core.Logic.{dite}
+use native.Mathlib.Decide.{ℕ_discrete}
 use Rattle.word_bits.specs.declared.TheConstants.{MAX_TASKS}
+use Rattle.word_bits.specs.Histories.{Plan}
 use Rattle.lock_core.specs.declared.view.Moment.{Moment}
 use Rattle.lock_core.specs.declared.view.View.{View}
 use Rattle.lock_core.specs.Pasts.{FoundAt, FoundSince, GoesOn, IsOwnStep}
@@ -9,8 +12,8 @@ use Rattle.wait_list.specs.declared.view.Waiter.{Waiter}
 use Rattle.wait_list.specs.declared.view.Change.{Change}
 use Rattle.wait_list.specs.declared.view.Change.TheVariants.{Stay}
 use Rattle.wait_list.specs.declared.view.ListHand.{ListHand}
-use Rattle.wait_list.specs.Lists.{FindsBehind, FindsFirst, FindsNext, Knows, Learnt, Part, list_part, listed}
-use Rattle.wait_list.proofs.Walks.{behind-first, behind-next, parity}
+use Rattle.wait_list.specs.Lists.{ArePlanned, FindsBehind, FindsFirst, FindsNext, Knows, KnowsCode, Learnt, counted, Part, list_part, listed}
+use Rattle.wait_list.proofs.Walks.{behind-among, behind-first, behind-next, first-among, head-is, parity}
 
 -- what a step of a pass found, it has found since an earlier one
 pub found-since : {E : Type 0} (v : View E) (task : Option ℕ) (begun done i n : ℕ) (old past new : List Moment) → v.hand.task ≡ task → begun < v.steps → v.steps ≤ done → IsOwnStep v past → FoundAt i n past → GoesOn old past → GoesOn past new → FoundSince task begun done i n old new
@@ -46,27 +49,34 @@ module _ {E : Type 0} (list : E → ListHand) (with_list : Change → View E →
         ext : with_list Stay w1 b2 ≡ with_list Stay v b
         ext = ap (λ (z : View E). with_list Stay z b2) e1 ∙ (over Stay v (v.steps + 1) b b2 ∙ ap (with_list Stay v) same2)
 
-  module _ (still : (list v.ext).changes ≡ false) (code next at : ℕ) (small : code ≤ MAX_TASKS) (is_at : at ≡ 8 * code) (told : next ≡ get_or b.words at 0) where
+  module _ (still : (list v.ext).changes ≡ false) (code next at : ℕ) (small : code ≤ MAX_TASKS) (is_at : at ≡ 8 * code) (told : next ≡ get_or b.words at 0) (few : ArePlanned v b.list) where
     names : get_or b.words (8 * code) 0 ≡ next
     names = ap (λ (z : ℕ). get_or b.words z 0) (sym is_at) ∙ sym told
 
     pub next-small : next ≤ MAX_TASKS
     next-small = let f = (learnt.lists (learnt.changes ∙ still)).codes code small in let e = names in omega (arith, f, e)
 
+    -- whom the word of a waiter's code names, or the head, is a task of the plan
+    pub next-few : (k : Plan) → v.hand.plan ≡ Some k → KnowsCode list code v → next ≤ length k
+    next-few k its knows = let r = learnt.lists (learnt.changes ∙ still) in let e = names in dite (ℕ_discrete code 0)
+        (λ none. let f = first-among (length k) b.list (few k its) in let h = head-is b.words b.list r in let g = ap (λ (z : ℕ). get_or b.words (8 * z) 0) none in omega (arith, e, f, g, h))
+        (λ some. let t : ℕ = code - 1 in let one = knows t (omega (arith, some)) in let there : 0 < counted t b.list = subst (λ (d : ListHand). 0 < counted t d.list) (sym (learnt.same one.0)) one.1 in let f = behind-among b.words t (length k) b.list (few k its) there r.walk in let g : code ≡ t + 1 = omega (arith, some) in let h = ap (λ (z : ℕ). get_or b.words (8 * z) 0) g in omega (arith, e, f, h))
+
     pub finds-none : next ≡ 0 → FindsBehind list with_list v code None w1
-    finds-none none = record { hand = b; learnt = learnt; is = names ∙ none; view = view1 }
+    finds-none none = record { hand = b; learnt = learnt; few = few; is = names ∙ none; view = view1 }
 
     pub finds-some : (prev task at2 : ℕ) (w2 : View E) (b2 : ListHand) → next ≢ 0 → task ≡ next - 1 → at2 ≡ 8 * next + 1 → Learnt (list_part list w1) b2 → prev ≡ get_or b2.words at2 0 → w2 ≡ listed with_list Stay w1 b2 → FindsBehind list with_list v code (Some (record { task = task; writer = prev % 2 == 1 })) w2
     finds-some prev task at2 w2 b2 some is is2 learnt2 told2 e2 = let up : next ≡ task + 1 = omega (arith, some, is) in record {
       hand = b;
       learnt = learnt;
+      few = few;
       is = (names ∙ up, (let e : prev ≡ get_or b.words (8 * (task + 1) + 1) 0 = told2 ∙ ((λ i. get_or (same2 w2 b2 learnt2 e2 i).words (is2 i) 0) ∙ ap (λ (z : ℕ). get_or b.words (8 * z + 1) 0) up) in let p = parity prev in omega (arith, e, p)));
       view = view2 w2 b2 learnt2 e2;
     }
 
 module _ {E : Type 0} (list : E → ListHand) (with_list : Change → View E → ListHand → E) (v u : View E) (still : (list v.ext).changes ≡ false) where
   pub finds-first : (first : Option Waiter) → FindsBehind list with_list v 0 first u → FindsFirst list with_list v first u
-  finds-first first f = let lists = f.learnt.lists (f.learnt.changes ∙ still) in record { hand = f.hand; learnt = f.learnt; is = behind-first f.hand.words 0 f.hand.list first lists.walk f.is; view = f.view }
+  finds-first first f = let lists = f.learnt.lists (f.learnt.changes ∙ still) in record { hand = f.hand; learnt = f.learnt; few = f.few; is = behind-first f.hand.words 0 f.hand.list first lists.walk f.is; view = f.view }
 
   pub finds-next : (t : ℕ) (next : Option Waiter) → FindsBehind list with_list v (t + 1) next u → FindsNext list with_list v t next u
-  finds-next t next f = let lists = f.learnt.lists (f.learnt.changes ∙ still) in record { hand = f.hand; learnt = f.learnt; is = λ there. behind-next f.hand.words t 0 f.hand.list next there lists.walk f.is; view = f.view }
+  finds-next t next f = let lists = f.learnt.lists (f.learnt.changes ∙ still) in record { hand = f.hand; learnt = f.learnt; few = f.few; is = λ there. behind-next f.hand.words t 0 f.hand.list next there lists.walk f.is; view = f.view }

@@ -1,5 +1,5 @@
 -- The steps of a removal, one after the other.
-use Rattle.std.proofs.Common.{◌≡◌, ◌∙◌, ℕ, ◌+◌, ◌*◌, ◌/◌, ◌<◌, ◌≤◌, inl, inr, true, List, length, get_or, set, sym, refl, ap, subst, arith, length-set, get_or-set_same, get_or-set_other}
+use Rattle.std.proofs.Common.{◌≡◌, ◌∙◌, ℕ, ◌+◌, ◌*◌, ◌/◌, ◌<◌, ◌≤◌, inl, inr, true, List, Some, length, get_or, set, sym, refl, ap, subst, arith, length-set, get_or-set_same, get_or-set_other}
 use mathlib.Core.Logic.{dite}
 use native.Mathlib.Decide.{ℕ_discrete}
 use Rattle.lock_core.specs.declared.view.View.{View}
@@ -11,10 +11,11 @@ use Rattle.wait_list.specs.declared.view.Change.TheVariants.{Stay, Leave}
 use Rattle.wait_list.specs.declared.view.ListHand.{ListHand}
 use Rattle.wait_list.specs.Lists.{AllowsChange, AllowsStill, IsList, IsStill, Knows, Learnt, LearntWord, Lists, MayStore, Part, Removes, counted, ending, first_code, leaving, list_part, listed, only_steps, prev_with, without}
 use Rattle.wait_list.proofs.Waiters.{first-without}
-use Rattle.wait_list.proofs.Walks.{before-small, head-is, removed-lists}
+use Rattle.wait_list.proofs.Walks.{before-among, before-small, behind-among, head-is, removed-lists}
 use Rattle.wait_list.proofs.Courses.{Came, allowed-on, comes, comes-on, end-may, loads-on, part-of, stays-on, steps-on}
 use Rattle.wait_list.specs.declared.words.TheConstants.{LIST_WORDS}
 use Rattle.word_bits.specs.declared.TheConstants.{MAX_TASKS}
+use Rattle.word_bits.specs.Histories.{Plan}
 
 -- the store by which a task leaves: the head is still that of the list before
 pub leave-may : (s : SpinHand) (b : ListHand) (t at n : ℕ) → Knows (s, b) → Lists b.words b.list → 0 < at → MayStore (s, b) at n (Leave t) (leaving b t at n)
@@ -63,6 +64,10 @@ module _ {E : Type 0} (list : E → ListHand) (with_list : Change → View E →
   pub next-small : next ≤ MAX_TASKS
   next-small = let f = lists.codes (t + 1) (omega (arith, small)) in let e = next-is in omega (arith, f, e)
 
+  -- whom it names is a task of the plan
+  pub next-few : (k : Plan) → v.hand.plan ≡ Some k → next ≤ length k
+  next-few k its = let f = behind-among told.0.words t (length k) told.0.list (told.5 k its) there lists.walk in let e = next-is in omega (arith, f, e)
+
   came1 : Came list with_list back over again v Stay told.0 u1
   came1 = comes list with_list back over again v Stay told.0 u1 told.3
 
@@ -75,6 +80,9 @@ module _ {E : Type 0} (list : E → ListHand) (with_list : Change → View E →
 
     pub prev-small : word / 2 ≤ MAX_TASKS
     prev-small = let m = before-small told.0.words t told.0.list learnt.sound.small there lists.walk in let e = prev-is in omega (arith, m, e)
+
+    pub prev-few : (k : Plan) → v.hand.plan ≡ Some k → word / 2 ≤ length k
+    prev-few k its = let m = before-among told.0.words t (length k) told.0.list (told.5 k its) there lists.walk in let e = prev-is in omega (arith, m, e)
 
     part2 : list_part list u2 ≡ (v.spin, told.0)
     part2 = part-of list with_list back over again v Stay told.0 u2 loaded.1
@@ -123,6 +131,7 @@ module _ {E : Type 0} (list : E → ListHand) (with_list : Change → View E →
           hand = ending left (8 * (word / 2)) next;
           before = λ k. ap (λ (d : ListHand). d.list) (learnt.same k);
           sound = learnt.sound;
+          few = told.5;
           there = there;
           now = refl;
           since = learnt.knows.1;

@@ -9,6 +9,13 @@ use Rattle.wait_list.specs.declared.view.Change.TheVariants.{Stay, Enter, Leave}
 use Rattle.wait_list.specs.Lists.{first_code, without, counted, AreTasks, IsList, Allowed, changed}
 use Rattle.word_bits.specs.declared.TheConstants.{MAX_TASKS}
 
+-- a task of the plan
+pub task-of : (n t : ℕ) → n ≤ MAX_TASKS → t < n → t < MAX_TASKS
+task-of n t few there = omega (arith, few, there)
+
+pub code-of : (n c : ℕ) → n ≤ MAX_TASKS → c ≤ n → c ≤ MAX_TASKS
+code-of n c few there = omega (arith, few, there)
+
 module _ (w : Waiter) (ws : List Waiter) where
   pub without-here : (t : ℕ) → w.task ≡ t → without t (w ∷ ws) ≡ ws
   without-here t is = ap (λ (b : Bool). if b then ws else w ∷ without t ws) (eq-eqb w.task t is)

@@ -5,7 +5,7 @@ use native.Mathlib.Decide.{ℕ_discrete}
 use Rattle.word_bits.specs.declared.TheConstants.{MAX_TASKS}
 use Rattle.lock_core.specs.Records.{bit}
 use Rattle.wait_list.specs.declared.view.Waiter.{Waiter}
-use Rattle.wait_list.specs.Lists.{AreTasks, IsBehind, IsList, IsPrepared, Lists, Walks, counted, first_code, first_of, last_code, next_of, prev_with, without}
+use Rattle.wait_list.specs.Lists.{AreAmong, AreTasks, IsBehind, IsList, IsPrepared, Lists, Walks, counted, first_code, first_of, last_code, next_of, prev_with, without}
 use Rattle.wait_list.proofs.Waiters.{counted-behind, counted-else, counted-here, counted-own, without-else, without-here}
 
 pub bit-few : (b : Bool) → bit b < 2
@@ -68,6 +68,14 @@ pub last-small : (l : List Waiter) → AreTasks l → last_code 0 l ≤ MAX_TASK
 last-small [] all = omega arith
 last-small (x ∷ l) all = let r = last-is 0 x l in let t = task-small (x ∷ l) r.0 all r.2 in let e = r.1 in omega (arith, e, t)
 
+pub last-among : (n : ℕ) (l : List Waiter) → AreAmong n l → last_code 0 l ≤ n
+last-among n [] all = omega arith
+last-among n (x ∷ l) all = let r = last-is 0 x l in let t = all r.0 r.2 in let e = r.1 in omega (arith, e, t)
+
+pub first-among : (n : ℕ) (l : List Waiter) → AreAmong n l → first_code l ≤ n
+first-among n [] all = omega arith
+first-among n (x ∷ l) all = let t = all x.task (counted-own x l) in omega (arith, t)
+
 last-append : (c : ℕ) (l : List Waiter) (w : Waiter) → last_code c (l ++ w ∷ []) ≡ w.task + 1
 last-append c [] w = refl
 last-append c (x ∷ l) w = last-append (x.task + 1) l w
@@ -115,6 +123,18 @@ module _ (ws : List ℕ) (t : ℕ) where
   before-small l all there walk = elim (before-is 0 l there walk) [
     | inl is ↦ omega (arith, is)
     | inr one ↦ let few = task-small l one.0 all one.2 in let is = one.1 in omega (arith, is, few)
+  ]
+
+  pub before-among : (n : ℕ) (l : List Waiter) → AreAmong n l → 0 < counted t l → Walks ws 0 l → get_or ws (8 * (t + 1) + 1) 0 / 2 ≤ n
+  before-among n l all there walk = elim (before-is 0 l there walk) [
+    | inl is ↦ omega (arith, is)
+    | inr one ↦ let few = all one.0 one.2 in let is = one.1 in omega (arith, is, few)
+  ]
+
+  pub behind-among : (n : ℕ) (l : List Waiter) → AreAmong n l → 0 < counted t l → Walks ws 0 l → get_or ws (8 * (t + 1)) 0 ≤ n
+  behind-among n l all there walk = elim (behind-is 0 l there walk) [
+    | inl none ↦ omega (arith, none)
+    | inr one ↦ let few = all one.0 one.2 in let is = one.1 in omega (arith, is, few)
   ]
 
   -- the last of the list without the last stands before it

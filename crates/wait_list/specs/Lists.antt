@@ -8,6 +8,7 @@ use Rattle.lock_core.specs.Spins.{holds_in}
 use Rattle.lock_core.specs.declared.view.Moment.{Moment}
 use Rattle.lock_core.specs.Pasts.{FoundAt}
 use Rattle.word_bits.specs.declared.TheConstants.{MAX_TASKS}
+use Rattle.word_bits.specs.Histories.{Plan}
 use Rattle.wait_list.specs.declared.words.TheConstants.{LIST_WORDS}
 use mathlib.Core.Option.{some}
 use lib.ListN.{get_elem?}
@@ -59,6 +60,10 @@ AreTasks (w ∷ ws) = (w.task < MAX_TASKS) × AreTasks ws
 pub record IsList (l : List Waiter) : Type 0 where
   pub small : AreTasks l
   pub once : (t : ℕ) → counted t l ≤ 1
+
+-- each is one of so many tasks
+abbrev pub AreAmong : ℕ → List Waiter → Type 0
+AreAmong n l = (t : ℕ) → 0 < counted t l → t < n
 
 -- the place of the `next` of the waiter of this code; that of the head, for 0
 abbrev pub next_place : ℕ → ℕ
@@ -158,6 +163,18 @@ module _ {E : Type 0} where
   abbrev pub IsStill : (E → ListHand) → View E → Type 0
   IsStill list v = (list v.ext).changes ≡ false
 
+  -- it knows the list, and the task is in it
+  abbrev pub KnowsWaiter : (E → ListHand) → ℕ → View E → Type 0
+  KnowsWaiter list t v = Knows (list_part list v) × (0 < counted t (list v.ext).list)
+
+  -- the code is 0, or that of a waiter of the list that it knows
+  abbrev pub KnowsCode : (E → ListHand) → ℕ → View E → Type 0
+  KnowsCode list code v = (t : ℕ) → code ≡ t + 1 → KnowsWaiter list t v
+
+  -- each is a task of the pass's plan
+  abbrev pub ArePlanned : View E → List Waiter → Type 0
+  ArePlanned v l = (k : Plan) → v.hand.plan ≡ Some k → AreAmong (length k) l
+
   -- the host lets it make the change at every list that it may find
   abbrev pub AllowsChange : (E → ListHand) → (Change → View E → List Waiter → Type 0) → Change → View E → Type 0
   AllowsChange list may_change c v = (l : List Waiter) → (Knows (list_part list v) → l ≡ (list v.ext).list) → may_change c v l
@@ -239,6 +256,7 @@ module _ {E : Type 0} (list : E → ListHand) (with_list : Change → View E →
     pub hand : ListHand
     pub before : Knows (list_part list v) → was ≡ (list v.ext).list
     pub sound : IsList was
+    pub few : ArePlanned v was
     pub fresh : counted w.task was ≡ 0
     pub now : hand.list ≡ was ++ w ∷ []
     pub since : hand.since ≡ v.spin.entries
@@ -252,9 +270,9 @@ module _ {E : Type 0} where
   abbrev pub IsLawful : (Change → View E → List Waiter → Type 0) → View E → List Waiter → Type 0
   IsLawful may_change v l = (c : Change) → may_change c v l → Allowed c l
 
-  -- it has learnt what this word is
+  -- it has learnt what this word is, and that each waiter is a task of the plan
   abbrev pub LearntWord : (E → ListHand) → (Change → View E → ListHand → E) → (Change → View E → List Waiter → Type 0) → View E → ℕ → ℕ → View E → Type 0
-  LearntWord list with_list may_change v at n u = (b : ListHand) × Learnt (list_part list v) b × (n ≡ slice_index b.words at) × (u ≡ listed with_list Stay v b) × IsLawful may_change v b.list
+  LearntWord list with_list may_change v at n u = (b : ListHand) × Learnt (list_part list v) b × (n ≡ slice_index b.words at) × (u ≡ listed with_list Stay v b) × IsLawful may_change v b.list × ArePlanned v b.list
 
 -- whom the `next` of this code names, and that waiter's kind
 abbrev pub IsBehind : List ℕ → ℕ → Option Waiter → Type 0
@@ -270,6 +288,7 @@ module _ {E : Type 0} (list : E → ListHand) (with_list : Change → View E →
   pub record FindsBehind (v : View E) (code : ℕ) (next : Option Waiter) (u : View E) : Type 0 where
     pub hand : ListHand
     pub learnt : Learnt (list_part list v) hand
+    pub few : ArePlanned v hand.list
     pub is : IsBehind hand.words code next
     pub view : u ≡ record v { steps = u.steps; ext = with_list Stay v hand }
 
@@ -280,6 +299,7 @@ module _ {E : Type 0} (list : E → ListHand) (with_list : Change → View E →
     pub hand : ListHand
     pub before : Knows (list_part list v) → was ≡ (list v.ext).list
     pub sound : IsList was
+    pub few : ArePlanned v was
     pub there : 0 < counted t was
     pub now : hand.list ≡ without t was
     pub since : hand.since ≡ v.spin.entries
@@ -292,6 +312,7 @@ module _ {E : Type 0} (list : E → ListHand) (with_list : Change → View E →
   pub record FindsFirst (v : View E) (first : Option Waiter) (u : View E) : Type 0 where
     pub hand : ListHand
     pub learnt : Learnt (list_part list v) hand
+    pub few : ArePlanned v hand.list
     pub is : first ≡ first_of hand.list
     pub view : u ≡ record v { steps = u.steps; ext = with_list Stay v hand }
 
@@ -299,6 +320,7 @@ module _ {E : Type 0} (list : E → ListHand) (with_list : Change → View E →
   pub record FindsNext (v : View E) (t : ℕ) (next : Option Waiter) (u : View E) : Type 0 where
     pub hand : ListHand
     pub learnt : Learnt (list_part list v) hand
+    pub few : ArePlanned v hand.list
     pub is : 0 < counted t hand.list → next ≡ next_of t hand.list
     pub view : u ≡ record v { steps = u.steps; ext = with_list Stay v hand }
 

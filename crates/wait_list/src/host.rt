@@ -1,10 +1,10 @@
 //! The rules whose tables have a list of waiters.
-ghost use Rattle.std.specs.Prelude.{◌≡◌, ℕ, ◌+◌, ◌<◌, ◌≤◌, List, map, slice_set, slice_index};
+ghost use Rattle.std.specs.Prelude.{◌≡◌, ℕ, ◌+◌, ◌<◌, ◌≤◌, List, map, length, slice_set, slice_index};
 ghost use mathlib.Core.Option.{some};
 ghost use lib.ListN.{get_elem?};
 ghost use Rattle.word_bits.specs.Histories.{Plan as Calls};
 ghost use Rattle.lock_core.specs.declared.view.View.{View};
-ghost use Rattle.lock_core.specs.declared.layout.TheConstants.{LOCK_WORDS};
+ghost use Rattle.lock_core.specs.declared.layout.TheConstants.{LOCK_WORDS, SPIN_WORDS};
 ghost use Rattle.lock_core.specs.Layout.{part};
 ghost use Rattle.lock_core.specs.Moves.{Goes};
 ghost use Rattle.lock_core.specs.Views.{SpinHolds};
@@ -13,7 +13,7 @@ ghost use Rattle.wait_list.specs.declared.view.Change.{Change};
 ghost use Rattle.wait_list.specs.declared.view.Change.TheVariants.{Stay};
 ghost use Rattle.wait_list.specs.declared.view.ListHand.{ListHand};
 ghost use Rattle.wait_list.specs.declared.words.TheConstants.{LIST_WORDS};
-ghost use Rattle.wait_list.specs.Lists.{ListKept, ListMoves, LeaverGoes, Allowed, changed, list_part, listed, sighted};
+ghost use Rattle.wait_list.specs.Lists.{ListKept, ListMoves, LeaverGoes, Allowed, changed, counted, list_part, listed, sighted};
 
 use lock_core::SpinHost;
 
@@ -45,6 +45,9 @@ pub trait ListHost: SpinHost {
 
     ghost list_inside: { LIST + LIST_WORDS ≤ LOCK_WORDS };
 
+    // Head and tail stand in the first 64 words of row 0, and the lines of the tasks behind.
+    ghost list_room: { (SPIN_WORDS ≤ LIST) × (LIST + 8 ≤ SPIN_WORDS + 64) };
+
     ghost list_back: { (c : Change) (v : View Self.Ext) (b : ListHand) → list (with_list c v b) ≡ b };
 
     ghost list_same: { (v : View Self.Ext) → with_list Stay v (list v.ext) ≡ v.ext };
@@ -60,6 +63,9 @@ pub trait ListHost: SpinHost {
     ghost queued: { (k : Calls) (ws : List ℕ) (vs : List (View Self.Ext)) → Self.holds k ws vs → (l : List Waiter) × queue k ws vs l };
 
     ghost list_kept: { (k : Calls) (ws : List ℕ) (vs : List (View Self.Ext)) (l : List Waiter) → queue k ws vs l → ListKept (part LIST LIST_WORDS ws) l (map (list_part list) vs) };
+
+    // Whoever waits is a task of the plan.
+    ghost listed_few: { (k : Calls) (ws : List ℕ) (vs : List (View Self.Ext)) (l : List Waiter) (t : ℕ) → queue k ws vs l → 0 < counted t l → t < length k };
 
     // Each move of the rule leaves the list, appends one waiter, or removes one.
     ghost list_moves: { (k : Calls) (id : ℕ) (ws us : List ℕ) (vs vs' : List (View Self.Ext)) → Self.moves k id ws vs us vs' → ListMoves id (part LIST LIST_WORDS ws) (map (list_part list) vs) (part LIST LIST_WORDS us) (map (list_part list) vs') };

@@ -1,9 +1,9 @@
 //! The list of a site, on which passes work that hold its spin lock.
-ghost use Rattle.std.specs.Prelude.{◌≡◌, ◌<◌, ◌≤◌, Option, IsSome, IfSome, Some, ◌+◌};
-ghost use Rattle.lock_core.specs.Handles.{Finds, IsLatest, view_of, past_of, task_in, SitsAt, KeepsPast, SaysSame};
+ghost use Rattle.std.specs.Prelude.{◌≡◌, ◌<◌, ◌≤◌, Option, IsSome, IfSome, Some, ◌+◌, length};
+ghost use Rattle.lock_core.specs.Handles.{Finds, IsLatest, plan_of, view_of, past_of, task_in, SitsAt, KeepsPast, SaysSame};
 ghost use Rattle.lock_core.specs.Views.{SpinHolds};
 ghost use Rattle.wait_list.specs.declared.view.Change.TheVariants.{Enter, Leave};
-ghost use Rattle.wait_list.specs.Lists.{AllowsChange, AllowsStill, Appends, FindsBehind, FindsFirst, FindsNext, IsStill, Knows, Removes, TellsFirst, hand_at, list_part, next_place, only_steps, prev_with, sighted, waiter_code};
+ghost use Rattle.wait_list.specs.Lists.{AllowsChange, AllowsStill, Appends, FindsBehind, FindsFirst, FindsNext, IsStill, Knows, KnowsCode, KnowsWaiter, Removes, TellsFirst, hand_at, list_part, next_place, only_steps, prev_with, sighted, waiter_code};
 ghost use Rattle.word_bits.specs.OwnerWord.{task_code};
 ghost use Rattle.lock_core.specs.Pasts.{FoundAt};
 
@@ -12,7 +12,6 @@ use crate::view::Waiter;
 use crate::words;
 use crate::words::{TAIL_AT, next_at, prev_at, word};
 use lock_core::{Pass, Site};
-use word_bits::MAX_TASKS;
 
 /// Appends the pass's own task, which isn't in the list: it is the last waiter from then on. The
 /// kernel's `__mutex_add_waiter` and `rwsem_add_waiter`.
@@ -20,7 +19,7 @@ pub fn append<H: ListHost>(site: &Site<H>, pass: &mut Pass<H>, waiter: Waiter)
     requires own { SitsAt site.now pass.old }
     requires held { SpinHolds (view_of pass.old).spin }
     requires still { IsStill H.list (view_of pass.old) }
-    requires task { waiter.task < MAX_TASKS }
+    requires task { waiter.task < length (plan_of site.now) }
     requires host { AllowsChange H.list H.may_change (Enter waiter) (view_of pass.old) }
     ensures own { SitsAt site.now pass.new }
     ensures goes_on { KeepsPast pass.old pass.new }
@@ -49,7 +48,7 @@ fn prev_after<H: ListHost>(site: &Site<H>, pass: &mut Pass<H>, next: u64, prev: 
     requires own { SitsAt site.now pass.old }
     requires held { SpinHolds (view_of pass.old).spin }
     requires last { IsLatest pass.old }
-    requires codes { (next ≤ MAX_TASKS) × (prev ≤ MAX_TASKS) }
+    requires codes { (next ≤ length (plan_of site.now)) × (prev ≤ length (plan_of site.now)) }
     requires knows { Knows (list_part H.list (view_of pass.old)) }
     ensures own { SitsAt site.now pass.new }
     ensures goes_on { KeepsPast pass.old pass.new }
@@ -73,7 +72,7 @@ pub fn remove<H: ListHost>(site: &Site<H>, pass: &mut Pass<H>, task: u32)
     requires own { SitsAt site.now pass.old }
     requires held { SpinHolds (view_of pass.old).spin }
     requires still { IsStill H.list (view_of pass.old) }
-    requires task { task < MAX_TASKS }
+    requires task { task < length (plan_of site.now) }
     requires host { AllowsChange H.list H.may_change (Leave task) (view_of pass.old) }
     ensures own { SitsAt site.now pass.new }
     ensures goes_on { KeepsPast pass.old pass.new }
@@ -92,12 +91,14 @@ pub fn remove<H: ListHost>(site: &Site<H>, pass: &mut Pass<H>, task: u32)
     words::close(site, pass, next_at(prev), next);
 }
 
-/// The waiter behind the one of this code, and the first one for code 0.
+/// The waiter behind the one of this code, which the pass knows to be in the list, and the first
+/// one for code 0.
 fn behind<H: ListHost>(site: &Site<H>, pass: &mut Pass<H>, code: u64) -> Option<Waiter>
     requires own { SitsAt site.now pass.old }
     requires held { SpinHolds (view_of pass.old).spin }
     requires still { IsStill H.list (view_of pass.old) }
-    requires code { code ≤ MAX_TASKS }
+    requires code { code ≤ length (plan_of site.now) }
+    requires there { KnowsCode H.list code (view_of pass.old) }
     ensures own { SitsAt site.now pass.new }
     ensures goes_on { KeepsPast pass.old pass.new }
     ensures last { IsLatest pass.new }
@@ -106,6 +107,7 @@ fn behind<H: ListHost>(site: &Site<H>, pass: &mut Pass<H>, code: u64) -> Option<
     ensures steps { (view_of pass.new).steps ≤ (view_of pass.old).steps + 2 }
     ensures told { FindsBehind H.list H.with_list
         (view_of pass.old) code result (view_of pass.new) }
+    ensures small { IfSome result (λ w. w.task < length (plan_of site.now)) }
     ensures found { Finds (H.LIST + next_place code) (waiter_code result) pass.old pass.new }
 {
     let next = word(site, pass, next_at(code));
@@ -130,6 +132,7 @@ pub fn first<H: ListHost>(site: &Site<H>, pass: &mut Pass<H>) -> Option<Waiter>
     ensures later { (view_of pass.old).steps ≤ (view_of pass.new).steps }
     ensures steps { (view_of pass.new).steps ≤ (view_of pass.old).steps + 2 }
     ensures told { FindsFirst H.list H.with_list (view_of pass.old) result (view_of pass.new) }
+    ensures small { IfSome result (λ w. w.task < length (plan_of site.now)) }
     ensures found { Finds H.LIST (waiter_code result) pass.old pass.new }
 {
     behind(site, pass, 0)
@@ -146,7 +149,7 @@ pub fn first_task<H: ListHost>(site: &Site<H>, pass: &mut Pass<H>) -> Option<u32
     ensures face { SaysSame pass.old pass.new }
     ensures kept { view_of pass.new ≡ sighted H.saw_first (view_of pass.old) (task_code result) }
     ensures found { FoundAt H.LIST (task_code result) (past_of pass.new) }
-    ensures small { IfSome result (λ t. t < MAX_TASKS) }
+    ensures small { IfSome result (λ t. t < length (plan_of site.now)) }
 {
     let code = words::head_code(site, pass);
     if code == 0 {
@@ -155,12 +158,14 @@ pub fn first_task<H: ListHost>(site: &Site<H>, pass: &mut Pass<H>) -> Option<u32
     Some((code - 1) as u32)
 }
 
-/// The waiter behind this task, which is in the list. `None` exactly where it is the last.
+/// The waiter behind this task, which the pass knows to be in the list. `None` exactly where it is
+/// the last.
 pub fn next<H: ListHost>(site: &Site<H>, pass: &mut Pass<H>, task: u32) -> Option<Waiter>
     requires own { SitsAt site.now pass.old }
     requires held { SpinHolds (view_of pass.old).spin }
     requires still { IsStill H.list (view_of pass.old) }
-    requires task { task < MAX_TASKS }
+    requires task { task < length (plan_of site.now) }
+    requires there { KnowsWaiter H.list task (view_of pass.old) }
     ensures own { SitsAt site.now pass.new }
     ensures goes_on { KeepsPast pass.old pass.new }
     ensures last { IsLatest pass.new }
@@ -168,6 +173,7 @@ pub fn next<H: ListHost>(site: &Site<H>, pass: &mut Pass<H>, task: u32) -> Optio
     ensures later { (view_of pass.old).steps ≤ (view_of pass.new).steps }
     ensures steps { (view_of pass.new).steps ≤ (view_of pass.old).steps + 2 }
     ensures told { FindsNext H.list H.with_list (view_of pass.old) task result (view_of pass.new) }
+    ensures small { IfSome result (λ w. w.task < length (plan_of site.now)) }
 {
     behind(site, pass, u64::from(task) + 1)
 }

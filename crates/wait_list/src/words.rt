@@ -6,8 +6,8 @@
 //! for the first, and 1 more where the task waits as a writer. Head and tail stand where the `next`
 //! and the `prev` of code 0 would, so a code gives the place of a link, from the list or from a
 //! waiter. The tail is a code. The kernel's `struct list_head` is such a ring.
-ghost use Rattle.std.specs.Prelude.{◌≡◌, ◌<◌, ◌≤◌, ◌+◌};
-ghost use Rattle.lock_core.specs.Handles.{IsLatest, view_of, past_of, SitsAt, KeepsPast, SaysSame};
+ghost use Rattle.std.specs.Prelude.{◌≡◌, ◌<◌, ◌≤◌, ◌+◌, ◌*◌, length};
+ghost use Rattle.lock_core.specs.Handles.{IsLatest, plan_of, view_of, past_of, SitsAt, KeepsPast, SaysSame};
 ghost use Rattle.lock_core.specs.Pasts.{FoundAt};
 ghost use Rattle.lock_core.specs.Views.{SpinHolds};
 ghost use Rattle.wait_list.specs.declared.view.ListHand.{ListHand};
@@ -30,7 +30,8 @@ pub(crate) const HEAD_AT: usize = 0;
 /// The place of the tail: the code of the last waiter, or 0.
 pub(crate) const TAIL_AT: usize = 1;
 
-/// How many words a list has: a line for head and tail, and one for each task.
+/// How many places the words of a list have: a line for head and tail, and one for each of
+/// `MAX_TASKS` tasks. The table need not have those of tasks that aren't its plan's.
 pub const LIST_WORDS: usize = 8 + 8 * MAX_TASKS as usize;
 
 /// The place of the `next` of the waiter of this code. That of the head for code 0.
@@ -99,7 +100,7 @@ impl<H: ListHost> Play<(), View<H::Ext>> for FindHead<H> {
 pub(crate) fn word<H: ListHost>(site: &Site<H>, pass: &mut Pass<H>, at: usize) -> u64
     requires own { SitsAt site.now pass.old }
     requires held { SpinHolds (view_of pass.old).spin }
-    requires inside { at < LIST_WORDS }
+    requires inside { at < 8 + 8 * length (plan_of site.now) }
     ensures own { SitsAt site.now pass.new }
     ensures goes_on { KeepsPast pass.old pass.new }
     ensures last { IsLatest pass.new }
@@ -121,7 +122,7 @@ fn store<H: ListHost, L: StoreKind>(
 )
     requires own { SitsAt site.now pass.old }
     requires held { SpinHolds (view_of pass.old).spin }
-    requires inside { at < LIST_WORDS }
+    requires inside { at < 8 + 8 * length (plan_of site.now) }
     requires host { AllowsKnown H.list H.may_change L.change (view_of pass.old) }
     requires may { MayStore (list_part H.list (view_of pass.old)) at new L.change L.hand }
     ensures own { SitsAt site.now pass.new }
@@ -137,7 +138,7 @@ fn store<H: ListHost, L: StoreKind>(
 pub(crate) fn prepare<H: ListHost>(site: &Site<H>, pass: &mut Pass<H>, at: usize, new: u64)
     requires own { SitsAt site.now pass.old }
     requires held { SpinHolds (view_of pass.old).spin }
-    requires inside { at < LIST_WORDS }
+    requires inside { at < 8 + 8 * length (plan_of site.now) }
     requires still { IsStill H.list (view_of pass.old) }
     requires may { MayStore (list_part H.list (view_of pass.old)) at new Stay
         (going_on (H.list (view_of pass.old).ext) at new) }
@@ -155,7 +156,7 @@ pub(crate) fn prepare<H: ListHost>(site: &Site<H>, pass: &mut Pass<H>, at: usize
 pub(crate) fn enter<H: ListHost>(site: &Site<H>, pass: &mut Pass<H>, waiter: Waiter)
     requires own { SitsAt site.now pass.old }
     requires held { SpinHolds (view_of pass.old).spin }
-    requires task { waiter.task < MAX_TASKS }
+    requires task { waiter.task < length (plan_of site.now) }
     requires knows { Knows (list_part H.list (view_of pass.old)) }
     requires lists { HasWords (H.list (view_of pass.old).ext) }
     requires prepared { IsPrepared (H.list (view_of pass.old).ext).words waiter }
@@ -175,7 +176,7 @@ pub(crate) fn enter<H: ListHost>(site: &Site<H>, pass: &mut Pass<H>, waiter: Wai
 pub(crate) fn leave<H: ListHost>(site: &Site<H>, pass: &mut Pass<H>, task: u32, at: usize, new: u64)
     requires own { SitsAt site.now pass.old }
     requires held { SpinHolds (view_of pass.old).spin }
-    requires inside { (HEAD_AT < at) × (at < LIST_WORDS) }
+    requires inside { (HEAD_AT < at) × (at < 8 + 8 * length (plan_of site.now)) }
     requires knows { Knows (list_part H.list (view_of pass.old)) }
     requires lists { HasWords (H.list (view_of pass.old).ext) }
     requires host { AllowsKnown H.list H.may_change (Leave task) (view_of pass.old) }
@@ -193,7 +194,7 @@ pub(crate) fn leave<H: ListHost>(site: &Site<H>, pass: &mut Pass<H>, task: u32, 
 pub(crate) fn close<H: ListHost>(site: &Site<H>, pass: &mut Pass<H>, at: usize, new: u64)
     requires own { SitsAt site.now pass.old }
     requires held { SpinHolds (view_of pass.old).spin }
-    requires inside { at < LIST_WORDS }
+    requires inside { at < 8 + 8 * length (plan_of site.now) }
     requires may { MayStore (list_part H.list (view_of pass.old)) at new Stay
         (ending (H.list (view_of pass.old).ext) at new) }
     ensures own { SitsAt site.now pass.new }
@@ -229,7 +230,7 @@ pub(crate) fn head_code<H: ListHost>(site: &Site<H>, pass: &mut Pass<H>) -> u64
     ensures goes_on { KeepsPast pass.old pass.new }
     ensures last { IsLatest pass.new }
     ensures face { SaysSame pass.old pass.new }
-    ensures small { result ≤ MAX_TASKS }
+    ensures small { result ≤ length (plan_of site.now) }
     ensures kept { view_of pass.new ≡ sighted H.saw_first (view_of pass.old) result }
     ensures found { FoundAt H.LIST result (past_of pass.new) }
 {

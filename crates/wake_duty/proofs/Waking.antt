@@ -1,5 +1,5 @@
 -- The steps on the wake words keep the host's rule.
-use Rattle.std.proofs.Common.{◌≡◌, ℕ, ◌+◌, ◌*◌, ◌<◌, ◌≤◌, List, get_or, set, Some, sym, refl, ap, subst, arith}
+use Rattle.std.proofs.Common.{◌≡◌, ℕ, ◌+◌, ◌*◌, ◌<◌, ◌≤◌, List, get_or, set, Some, sym, refl, subst, arith}
 use mathlib.Core.Option.{some, none}
 use lib.ListN.{get_elem?}
 use Rattle.atomic_table.specs.Table.{Me, step, keeps}
@@ -7,12 +7,23 @@ use Rattle.word_bits.specs.declared.TheConstants.{MAX_TASKS}
 use Rattle.lock_core.specs.declared.op.Op.TheVariants.{Store, Swap}
 use Rattle.lock_core.specs.declared.view.View.{View}
 use Rattle.lock_core.specs.Plays.{Turns}
+use Rattle.lock_core.specs.Stores.{HasWord, row_at}
 use Rattle.lock_core.specs.Views.{SpinRests}
 use Rattle.lock_core.specs.Moves.{Goes, Lets}
 use Rattle.lock_core.proofs.Steps.{stores}
 use Rattle.wait_list.specs.declared.view.Waiter.{Waiter}
 use Rattle.wake_duty.specs.declared.view.Vigil.{Vigil}
 use Rattle.wake_duty.specs.WakeSteps.{HasTried, Woke, Drowsed, knowing}
+
+-- the wake word of a task of the plan is one that the table has
+pub has-wake : (tasks place t word : ℕ) → tasks ≤ MAX_TASKS → place ≡ row_at 3 + 64 → t < tasks → word ≡ place + 8 * t → HasWord tasks word
+has-wake tasks place t word few at there is = record {
+  spin = λ _. omega (arith, at, is);
+  first = λ _. omega (arith, at, is);
+  second = λ _. omega (arith, at, is);
+  third = λ _. omega (arith, at, is);
+  fourth = λ m. absurd (omega (arith, at, is, there, m));
+}
 
 module _ {E : Type 0} (holds : List ℕ → List (View E) → Type 0) (moves : ℕ → List ℕ → List (View E) → List ℕ → List (View E) → Type 0) (queue : List ℕ → List (View E) → List Waiter → Type 0) (place : ℕ) (queued : (ws : List ℕ) (vs : List (View E)) → holds ws vs → (l : List Waiter) × queue ws vs l) where
   abbrev M : Type 0

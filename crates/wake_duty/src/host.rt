@@ -7,6 +7,7 @@ ghost use Rattle.word_bits.specs.Histories.{Plan as Calls};
 ghost use Rattle.lock_core.specs.declared.view.View.{View};
 ghost use Rattle.lock_core.specs.declared.layout.TheConstants.{LOCK_WORDS};
 ghost use Rattle.lock_core.specs.Moves.{Goes};
+ghost use Rattle.lock_core.specs.Stores.{row_at};
 ghost use Rattle.lock_core.specs.Views.{SpinRests};
 ghost use Rattle.wait_list.specs.declared.view.Waiter.{Waiter};
 ghost use Rattle.wake_duty.specs.declared.view.Vigil.{Vigil as AVigil};
@@ -40,6 +41,9 @@ pub trait SleepHost: ListHost {
     ghost after_swap: { Self.Ext → ℕ → Self.Ext };
 
     ghost wake_inside: { WAKE + WAKE_WORDS ≤ LOCK_WORDS };
+
+    // The wake words are the lines of the tasks in row 3.
+    ghost wake_room: { WAKE ≡ row_at 3 + 64 };
 
     ghost chosen_few: { (e : Self.Ext) (t : ℕ) → has_chosen e t → t < MAX_TASKS };
 

@@ -1,6 +1,6 @@
 //! The two steps on wake words: the waiter that was chosen is woken, and a waiter drowses.
-ghost use Rattle.std.specs.Prelude.{◌≡◌, ◌+◌, ◌*◌, IsSome};
-ghost use Rattle.lock_core.specs.Handles.{IsLatest, view_of, past_of, task_in, SitsAt, KeepsPast, SaysSame};
+ghost use Rattle.std.specs.Prelude.{◌≡◌, ◌<◌, ◌+◌, ◌*◌, IsSome, length};
+ghost use Rattle.lock_core.specs.Handles.{IsLatest, plan_of, view_of, past_of, task_in, SitsAt, KeepsPast, SaysSame};
 ghost use Rattle.lock_core.specs.Views.{SpinRests};
 ghost use Rattle.wake_duty.specs.WakeSteps.{HasTried, Woke, Drowsed, FallsAsleep, knowing};
 
@@ -39,6 +39,7 @@ impl<H: SleepHost> Play<(), View<H::Ext>> for SwapWord<H> {
 /// task to be woken: until it swaps the word for 0 it doesn't fall asleep again.
 pub fn set<H: SleepHost>(site: &Site<H>, pass: &mut Pass<H>, target: u32)
     requires own { SitsAt site.now pass.old }
+    requires task { target < length (plan_of site.now) }
     requires chosen { H.has_chosen (view_of pass.old).ext target }
     ensures own { SitsAt site.now pass.new }
     ensures goes_on { KeepsPast pass.old pass.new }

@@ -13,10 +13,12 @@ use crate::layout::{LINES_AT, LOCK_WORDS};
 use crate::op::Op;
 use crate::pass::Pass;
 use crate::rule::SiteRule;
+use std::marker::Brand;
 use word_bits::MAX_TASKS;
 
 impl<R: SiteRule> Site<R> {
     /// Loads a word, of which the site's facts tell something.
+    #[inline]
     pub(crate) fn find<T: Tells>(&self, pass: &mut Pass<R>, at: usize) -> u64
         requires own { IsOneOf self.now pass.old }
         requires inside { at < site_width (plan_of self.now) }
@@ -27,10 +29,11 @@ impl<R: SiteRule> Site<R> {
         ensures told { T.tells (hand_in pass.old) at result }
         ensures found { FoundAt (LOCK_WORDS + at) result (past_of pass.new) }
     {
-        self.step::<Find<T>>(pass, LOCK_WORDS + at, Op::Load)
+        self.step_stored::<Find<T>, Brand>(pass, LOCK_WORDS + at, self.site_at + at, Op::Load)
     }
 
     /// Stores a word, after which the pass has another hand.
+    #[inline]
     pub(crate) fn put<P: Puts>(&self, pass: &mut Pass<R>, at: usize, new: u64)
         requires own { IsOneOf self.now pass.old }
         requires inside { at < site_width (plan_of self.now) }
@@ -40,10 +43,11 @@ impl<R: SiteRule> Site<R> {
         ensures face { SaysSame pass.old pass.new }
         ensures kept { view_of pass.new ≡ handed (view_of pass.old) P.hand }
     {
-        self.step::<Put<P>>(pass, LOCK_WORDS + at, Op::Store(new));
+        self.step_stored::<Put<P>, Brand>(pass, LOCK_WORDS + at, self.site_at + at, Op::Store(new));
     }
 
     /// Adds to a word, after which the pass has another hand.
+    #[inline]
     pub(crate) fn add<P: Puts>(&self, pass: &mut Pass<R>, at: usize, by: u64)
         requires own { IsOneOf self.now pass.old }
         requires inside { at < site_width (plan_of self.now) }
@@ -53,11 +57,12 @@ impl<R: SiteRule> Site<R> {
         ensures face { SaysSame pass.old pass.new }
         ensures kept { view_of pass.new ≡ handed (view_of pass.old) P.hand }
     {
-        self.step::<Put<P>>(pass, LOCK_WORDS + at, Op::Add(by));
+        self.step_stored::<Put<P>, Brand>(pass, LOCK_WORDS + at, self.site_at + at, Op::Add(by));
     }
 
     /// Takes a task's number where nobody has it, and says whether it did. The pass then has such a
     /// hand, and what it saw of the spin word is forgotten.
+    #[inline]
     pub(crate) fn take<B: Becomes>(&self, pass: &mut Pass<R>, task: u32) -> bool
         requires own { IsOneOf self.now pass.old }
         requires inside { task < MAX_TASKS }
@@ -69,10 +74,13 @@ impl<R: SiteRule> Site<R> {
             (g : Hand) × B.becomes g × (view_of pass.new ≡ with_number (view_of pass.old) g) }
         ensures missed { result ≡ false → view_of pass.new ≡ ticked (view_of pass.old) }
     {
-        self.step::<Begin<B>>(
+        let at = LINES_AT + 8 * task as usize;
+        let found = self.step_stored::<Begin<B>, Brand>(
             pass,
-            LOCK_WORDS + (LINES_AT + 8 * task as usize),
+            LOCK_WORDS + at,
+            self.site_at + at,
             Op::Exchange(0, 1),
-        ) == 0
+        );
+        found == 0
     }
 }

@@ -111,22 +111,33 @@ impl<E, B: Becomes> Play<(), View<E>> for Begin<B> {
     ghost then = { Begun B.becomes };
 }
 
-/// The same, said of a view beside the run.
-pub(super) struct Lift<M> {
-    play: PhantomData<M>,
+/// The place of the word on which a step is made.
+pub(super) trait Placed {
+    ghost place: { ℕ };
 }
 
-impl<E, M: Play<(), View<E>>> Play<(), Seen<E>> for Lift<M> {
-    ghost then = { λ st m n m'. M.then st (unseen m) n (unseen m') × GoesOn m.0.past m'.0.past × IsOwnStep m'.0.view m'.0.past };
+impl Placed for Brand {
+    ghost place = { 0 };
+}
+
+/// The same, said of a view beside the run, and of the word's place.
+pub(super) struct Lift<M, P> {
+    play: PhantomData<M>,
+    place: PhantomData<P>,
+}
+
+impl<E, M: Play<(), View<E>>, P: Placed> Play<(), Seen<E>> for Lift<M, P> {
+    ghost then = { λ st m n m'. M.then (record st { word = P.place }) (unseen m) n (unseen m') × GoesOn m.0.past m'.0.past × IsOwnStep m'.0.view m'.0.past };
 }
 
 /// The same, beside what the step found in its word.
-pub(super) struct LiftFound<M> {
+pub(super) struct LiftFound<M, P> {
     play: PhantomData<M>,
+    place: PhantomData<P>,
 }
 
-impl<E, M: Play<(), View<E>>> Play<(), Seen<E>> for LiftFound<M> {
-    ghost then = { λ st m n m'. M.then st (unseen m) n (unseen m') × FoundAt st.word n m'.0.past × GoesOn m.0.past m'.0.past × IsOwnStep m'.0.view m'.0.past };
+impl<E, M: Play<(), View<E>>, P: Placed> Play<(), Seen<E>> for LiftFound<M, P> {
+    ghost then = { λ st m n m'. M.then (record st { word = P.place }) (unseen m) n (unseen m') × FoundAt P.place n m'.0.past × GoesOn m.0.past m'.0.past × IsOwnStep m'.0.view m'.0.past };
 }
 
 pub(super) struct Recall<R> {

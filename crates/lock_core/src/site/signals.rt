@@ -123,10 +123,7 @@ impl<R: SiteRule> Site<R> {
         ensures heard { HearsOf result (view_of pass.old) (view_of pass.new) }
         ensures found { FoundAt (sent_place task) result (past_of pass.new) }
     {
-        self.step::<Hear>(
-            pass,
-            LOCK_WORDS + (LINES_AT + (8 * task as usize + 1)),
-            Op::Load,
-        )
+        let at = LINES_AT + (8 * task as usize + 1);
+        self.step_stored::<Hear, Brand>(pass, LOCK_WORDS + at, self.site_at + at, Op::Load)
     }
 }

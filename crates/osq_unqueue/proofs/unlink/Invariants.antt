@@ -1,10 +1,9 @@
 use Rattle.std.proofs.Common.{◌≡◌, ◌<◌}
-use Rattle.word_bits.specs.declared.TheConstants.{MAX_TASKS}
 use Rattle.lock_core.specs.Pasts.{GoesOn}
-use Rattle.osq_nodes.specs.Handles.{SitsAt, view_of, past_of, KeepsNumber}
+use Rattle.osq_nodes.specs.Handles.{tasks_of, SitsAt, view_of, past_of, KeepsNumber}
 use Rattle.osq_unqueue.proofs.unlink.Given as goal
 
 abbrev pub invariant-loop : goal.invariant-loop
 invariant-loop g l = let v = view_of l.pass in let u = view_of l.initial.pass in
     (goal.iterator-loop g).can_next l.iterator' × (goal.iterator-loop g).is_finite l.iterator' × SitsAt l.osq l.pass
-    × (v.ext ≡ u.ext) × (v.fronts ≡ u.fronts) × KeepsNumber l.initial.pass l.pass × GoesOn (past_of l.initial.pass) (past_of l.pass) × (l.prev < MAX_TASKS)
+    × (v.ext ≡ u.ext) × (v.fronts ≡ u.fronts) × KeepsNumber l.initial.pass l.pass × GoesOn (past_of l.initial.pass) (past_of l.pass) × (l.prev < tasks_of l.osq)

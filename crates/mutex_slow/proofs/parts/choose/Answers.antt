@@ -1,4 +1,4 @@
-use Rattle.std.proofs.Common.{arith, ap}
+use Rattle.std.proofs.Common.{length, arith, ap}
 use Rattle.lock_core.specs.RunLaws.{step-by}
 use Rattle.mutex_slow.specs.Mutexes.{V}
 use Rattle.word_bits.specs.OwnerWord.{task_code}
@@ -6,7 +6,7 @@ use Rattle.mutex_slow.proofs.Duties.{chooses, looks-outside}
 use Rattle.mutex_slow.proofs.parts.choose.Goals as goal
 
 pub returns-clause-chosen : goal.returns-clause-chosen
-returns-clause-chosen g c = chooses c.args.pass.now.seat.me.0.view c.first_task.new.pass.seat.me.0.view c.first_task.result c.first_task.ensures.kept c.requires.locked c.requires.outside.still c.requires.owes c.first_task.ensures.small
+returns-clause-chosen g c = chooses c.args.pass.now.seat.me.0.view c.first_task.new.pass.seat.me.0.view c.first_task.result c.first_task.ensures.kept c.requires.locked c.requires.outside.still c.requires.owes (length c.args.site.now.table.shared.key) c.args.site.now.small.tasks c.first_task.ensures.small
 
 pub returns-clause-outside : goal.returns-clause-outside
 returns-clause-outside g c = looks-outside c.args.pass.now.seat.me.0.view c.first_task.new.pass.seat.me.0.view (task_code c.first_task.result) c.first_task.ensures.kept c.requires.locked c.requires.outside

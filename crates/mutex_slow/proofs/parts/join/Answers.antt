@@ -1,6 +1,5 @@
 use Rattle.std.proofs.Common.{arith, subst, ap, sym, ◌∙◌, Option, true}
 use Rattle.lock_core.specs.declared.pass.Face.{Face}
-use Rattle.lock_core.proofs.Sitting.{its-number}
 use Rattle.mutex_word.specs.OwnKinds.{or-one}
 use Rattle.wait_list.specs.declared.view.Waiter.{Waiter}
 use Rattle.wait_list.specs.Lists.{FindsFirst}
@@ -9,7 +8,7 @@ use Rattle.mutex_slow.proofs.Queueing.{point-joins, flagged-listed, behind-liste
 use Rattle.mutex_slow.proofs.parts.join.Goals as goal
 
 pub append-requires-clause-task : goal.append-requires-clause-task
-append-requires-clause-task g c = its-number c.args.site.now.table.shared.key c.args.site.now.table.shared.table_id c.args.pass.now.seat.table_id c.args.pass.now.seat.me c.args.pass.now.face c.args.site.now.small c.requires.own c.in-Some.task (sym c.task.ensures ∙ c.in-Some.is)
+append-requires-clause-task g c = (c.requires.own.planned c.in-Some.task (sym c.task.ensures ∙ c.in-Some.is)).0
 
 pub set_waiters-requires-clause-may : goal.set_waiters-requires-clause-may
 set_waiters-requires-clause-may g c = λ n. (

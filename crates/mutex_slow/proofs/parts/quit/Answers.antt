@@ -1,11 +1,10 @@
 use Rattle.std.proofs.Common.{arith, ap, sym, ◌∙◌}
 use Rattle.lock_core.specs.declared.pass.Face.{Face}
-use Rattle.lock_core.proofs.Sitting.{its-number}
 use Rattle.mutex_slow.specs.Mutexes.{V}
 use Rattle.mutex_slow.proofs.parts.quit.Goals as goal
 
 pub remove-requires-clause-task : goal.remove-requires-clause-task
-remove-requires-clause-task g c = its-number c.args.site.now.table.shared.key c.args.site.now.table.shared.table_id c.args.pass.now.seat.table_id c.args.pass.now.seat.me c.args.pass.now.face c.args.site.now.small c.requires.own c.in-Some.task (sym c.task.ensures ∙ c.in-Some.is)
+remove-requires-clause-task g c = (c.requires.own.planned c.in-Some.task (sym c.task.ensures ∙ c.in-Some.is)).0
 
 pub returns-then-is_none-clause-on : goal.returns-then-is_none-clause-on
 returns-then-is_none-clause-on g c = let remove = c.remove.ensures.later in let first = c.first.ensures.later in let clear = ap (λ (v : V). v.steps) c.clear_flags.ensures.kept in record {

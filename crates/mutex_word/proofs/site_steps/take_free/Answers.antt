@@ -1,4 +1,4 @@
-use Rattle.std.proofs.Common.{false, subst, sym, ap, refl, ◌∙◌, IsSome}
+use Rattle.std.proofs.Common.{false, subst, sym, ap, refl, ◌∙◌, IsSome, length}
 use Rattle.lock_core.specs.declared.view.Held.TheVariants.{Alone}
 use Rattle.lock_core.specs.declared.pass.Face.{Face}
 use Rattle.lock_core.specs.Pasts.{IsOwnStep, Tail}
@@ -6,10 +6,14 @@ use Rattle.lock_core.proofs.HandLaws.{not-both}
 use Rattle.mutex_word.specs.declared.host.Turn.TheVariants.{Take}
 use Rattle.mutex_word.proofs.Owning.{takes}
 use Rattle.mutex_word.proofs.Sitting.{sits-took, sits-missed, its-number}
+use Rattle.lock_core.specs.Stores.{HasWord}
 use Rattle.mutex_word.proofs.site_steps.take_free.Goals as goal
 
 pub own_code-code-requires : goal.own_code-code-requires
 own_code-code-requires g c = its-number c.args.site.now.table.shared.key c.args.site.now.table.shared.table_id c.args.pass.now.seat.table_id c.args.pass.now.seat.me c.args.pass.now.face c.args.site.now.small c.requires.own
+
+pub step-found-requires-clause-there : goal.step-found-requires-clause-there
+step-found-requires-clause-there g c = subst (HasWord (length c.args.site.now.table.shared.key)) (sym c.OWNER.ensures) (g.H.OwnerHost.own_there (length c.args.site.now.table.shared.key))
 
 pub step-found-requires-clause-lets : goal.step-found-requires-clause-lets
 step-found-requires-clause-lets g c = let k = c.args.site.now.table.shared.key in

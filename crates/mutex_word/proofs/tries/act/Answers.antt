@@ -1,6 +1,5 @@
-use Rattle.std.proofs.Common.{subst, sym, ap, refl, ◌∙◌, Option, ℕ}
-use Rattle.mutex_word.specs.declared.word_steps.Try.{Try}
-use Rattle.mutex_word.specs.Tries.{IsFail, Says}
+use Rattle.std.proofs.Common.{subst}
+use Rattle.mutex_word.specs.Tries.{Says}
 use Rattle.mutex_word.proofs.Owning.{take-on, ask-on}
 use Rattle.mutex_word.proofs.tries.act.Goals as goal
 

@@ -1,16 +1,15 @@
-use Rattle.std.proofs.Common.{arith, ap, refl, sym, subst, Option, ℕ, ◌∙◌, IsSome, false, Some, None}
+use Rattle.std.proofs.Common.{arith, ap, sym, subst, length}
 use Rattle.lock_core.proofs.Sitting.{sits-on}
 use Rattle.lock_core.specs.Pasts.{unseen}
-use Rattle.lock_core.proofs.HandLaws.{not-both}
-use Rattle.lock_core.specs.declared.pass.Face.{Face}
-use Rattle.lock_core.specs.declared.view.Held.TheVariants.{No, Alone}
-use Rattle.mutex_word.specs.Tries.{IsFail}
-use Rattle.mutex_word.specs.declared.host.Turn.TheVariants.{Take, Ask}
-use Rattle.mutex_word.proofs.Sitting.{sits-saw, sits-took, sits-released}
-use Rattle.mutex_word.proofs.Owning.{sees, gets, begs, reads, leaves, saw-word, some-number}
+use Rattle.mutex_word.proofs.Sitting.{sits-saw}
+use Rattle.mutex_word.proofs.Owning.{begs, saw-word}
 use mathlib.Core.Logic.{dite}
 use native.Mathlib.Decide.{ℕ_discrete}
+use Rattle.lock_core.specs.Stores.{HasWord}
 use Rattle.mutex_word.proofs.tries.ask.Goals as goal
+
+pub step-requires-clause-there : goal.step-requires-clause-there
+step-requires-clause-there g c = subst (HasWord (length c.args.site.now.table.shared.key)) (sym c.OWNER.ensures) (g.H.OwnerHost.own_there (length c.args.site.now.table.shared.key))
 
 pub step-requires-clause-lets : goal.step-requires-clause-lets
 step-requires-clause-lets g c = let k = c.args.site.now.table.shared.key in begs g.H.O.Object.object g.H.SiteRule.unavailable g.H.O.Object.WORDS k (g.H.SiteRule.holds k) (g.H.SiteRule.moves k) g.H.OwnerHost.OWNER g.H.OwnerHost.may_be g.H.OwnerHost.may_own g.H.OwnerHost.may_miss g.H.OwnerHost.turned (g.met.H.SiteRule.site_kept k) (g.met.H.OwnerHost.own_kept k) (g.met.H.OwnerHost.owns k) (g.met.H.OwnerHost.own_may k) (g.met.H.OwnerHost.own_looks k) _ _ _ _ _ g.A.TryKind.asks g.A.TryKind.counts _ c.OWNER.ensures c.requires.asks c.requires.may c.requires.fails

@@ -1,4 +1,4 @@
-use Rattle.std.proofs.Common.{subst, sym, ap, refl, ◌∙◌, ◌<◌, Option, Bool, ℕ, IfSome}
+use Rattle.std.proofs.Common.{subst, sym, ap, ◌∙◌, ◌<◌, Option, Bool, ℕ, IfSome}
 use Rattle.lock_core.specs.declared.pass.Face.{Face}
 use Rattle.mutex_word.specs.Tries.{IsFail, IsOpen, Says}
 use Rattle.word_bits.specs.declared.TheConstants.{MAX_TASKS}

@@ -1,10 +1,9 @@
-use Rattle.std.proofs.Common.{subst, sym, ap, refl, ◌∙◌, ◌<◌, ◌≤◌, ◌≡◌, Option, Some, None, Bool, ℕ, IfSome, inl, arith}
-use Rattle.lock_core.specs.declared.pass.Face.{Face}
+use Rattle.std.proofs.Common.{subst, sym, ap, Option, ℕ}
 use Rattle.lock_core.specs.declared.view.View.{View}
 use Rattle.lock_core.specs.Pasts.{FoundAt}
-use Rattle.mutex_word.specs.declared.host.Turn.TheVariants.{Free, Hand as HandOn}
-use Rattle.mutex_word.specs.Tries.{IsReleased, IsHanded, IsMine, Left}
-use Rattle.mutex_word.proofs.Table.{owner-of, released-flags, handed-on, handed-left}
+use Rattle.mutex_word.specs.declared.host.Turn.TheVariants.{Hand as HandOn}
+use Rattle.mutex_word.specs.Tries.{IsHanded, IsMine, Left}
+use Rattle.mutex_word.proofs.Table.{owner-of, handed-on, handed-left}
 use Rattle.mutex_word.proofs.tries.hand_over.Goals as goal
 
 pub handoff_word-new-requires-clause-word : goal.handoff_word-new-requires-clause-word

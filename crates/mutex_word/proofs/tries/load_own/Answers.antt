@@ -1,14 +1,12 @@
-use Rattle.std.proofs.Common.{arith, ap, refl, sym, subst, Option, ℕ, ◌∙◌, IsSome, false, Some, None}
+use Rattle.std.proofs.Common.{arith, ap, sym, subst, Option, ℕ, ◌∙◌, length}
 use Rattle.lock_core.proofs.Sitting.{sits-on}
-use Rattle.lock_core.specs.Pasts.{unseen}
-use Rattle.lock_core.proofs.HandLaws.{not-both}
-use Rattle.lock_core.specs.declared.pass.Face.{Face}
-use Rattle.lock_core.specs.declared.view.Held.TheVariants.{No, Alone}
-use Rattle.mutex_word.specs.Tries.{IsFail, IsMine}
-use Rattle.mutex_word.specs.declared.host.Turn.TheVariants.{Take, Ask}
-use Rattle.mutex_word.proofs.Sitting.{sits-saw, sits-took, sits-released}
-use Rattle.mutex_word.proofs.Owning.{sees, gets, begs, reads, leaves, saw-word, some-number}
+use Rattle.mutex_word.specs.Tries.{IsMine}
+use Rattle.mutex_word.proofs.Owning.{reads, some-number}
+use Rattle.lock_core.specs.Stores.{HasWord}
 use Rattle.mutex_word.proofs.tries.load_own.Goals as goal
+
+pub step-requires-clause-there : goal.step-requires-clause-there
+step-requires-clause-there g c = subst (HasWord (length c.args.site.now.table.shared.key)) (sym c.OWNER.ensures) (g.H.OwnerHost.own_there (length c.args.site.now.table.shared.key))
 
 pub step-requires-clause-lets : goal.step-requires-clause-lets
 step-requires-clause-lets g c = let k = c.args.site.now.table.shared.key in let t = some-number c.args.pass.now.face.task c.requires.numbered in reads g.H.O.Object.object g.H.SiteRule.unavailable g.H.O.Object.WORDS k (g.H.SiteRule.holds k) (g.H.SiteRule.moves k) g.H.OwnerHost.OWNER g.H.OwnerHost.may_be g.H.OwnerHost.may_own g.H.OwnerHost.may_miss g.H.OwnerHost.turned (g.met.H.SiteRule.site_kept k) (g.met.H.OwnerHost.own_kept k) (g.met.H.OwnerHost.owns k) (g.met.H.OwnerHost.own_may k) (g.met.H.OwnerHost.own_looks k) _ _ _ t.0 _ c.OWNER.ensures (sym c.requires.own.task ∙ t.1) (sym c.requires.own.held ∙ c.requires.held)

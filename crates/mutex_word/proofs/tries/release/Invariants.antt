@@ -1,9 +1,8 @@
-use Rattle.std.proofs.Common.{◌≡◌, ◌≤◌, ℕ, Some, IsSome}
-use Rattle.lock_core.specs.declared.view.Held.TheVariants.{No, Alone}
+use Rattle.std.proofs.Common.{◌≡◌, ◌≤◌, ℕ}
 use Rattle.lock_core.specs.Passes.{Sits}
 use Rattle.lock_core.specs.Pasts.{FoundAt, GoesOn, IsOwnStep}
 use Rattle.mutex_word.specs.Tries.{FindsUnasked, IsMine}
-use Rattle.mutex_word.specs.declared.host.Turn.TheVariants.{Free, Hand as HandOn}
+use Rattle.mutex_word.specs.declared.host.Turn.TheVariants.{Free}
 use Rattle.mutex_word.proofs.tries.release.Given as goal
 
 abbrev pub invariant-loop : goal.invariant-loop

@@ -1,14 +1,16 @@
-use Rattle.std.proofs.Common.{arith, ap, refl, sym, subst, Option, ℕ, ◌∙◌, IsSome, false, Some, None}
-use Rattle.lock_core.proofs.Sitting.{sits-on}
+use Rattle.std.proofs.Common.{ap, refl, sym, subst, ◌∙◌, IsSome, false, length}
 use Rattle.lock_core.specs.Pasts.{unseen, Tail}
 use Rattle.lock_core.proofs.HandLaws.{not-both}
 use Rattle.lock_core.specs.declared.pass.Face.{Face}
-use Rattle.lock_core.specs.declared.view.Held.TheVariants.{No, Alone}
-use Rattle.mutex_word.specs.Tries.{IsFail}
-use Rattle.mutex_word.specs.declared.host.Turn.TheVariants.{Take, Ask}
-use Rattle.mutex_word.proofs.Sitting.{sits-saw, sits-took, sits-released}
-use Rattle.mutex_word.proofs.Owning.{sees, gets, begs, reads, leaves, saw-word, some-number}
+use Rattle.lock_core.specs.declared.view.Held.TheVariants.{Alone}
+use Rattle.mutex_word.specs.declared.host.Turn.TheVariants.{Take}
+use Rattle.mutex_word.proofs.Sitting.{sits-saw, sits-took}
+use Rattle.mutex_word.proofs.Owning.{gets, saw-word, some-number}
+use Rattle.lock_core.specs.Stores.{HasWord}
 use Rattle.mutex_word.proofs.tries.take.Goals as goal
+
+pub step-found-requires-clause-there : goal.step-found-requires-clause-there
+step-found-requires-clause-there g c = subst (HasWord (length c.args.site.now.table.shared.key)) (sym c.OWNER.ensures) (g.H.OwnerHost.own_there (length c.args.site.now.table.shared.key))
 
 pub step-found-requires-clause-lets : goal.step-found-requires-clause-lets
 step-found-requires-clause-lets g c = let k = c.args.site.now.table.shared.key in let t = some-number c.args.pass.now.face.task c.requires.numbered in gets g.H.O.Object.object g.H.SiteRule.unavailable g.H.O.Object.WORDS k (g.H.SiteRule.holds k) (g.H.SiteRule.moves k) g.H.OwnerHost.OWNER g.H.OwnerHost.may_be g.H.OwnerHost.may_own g.H.OwnerHost.may_miss g.H.OwnerHost.turned (g.met.H.SiteRule.site_kept k) (g.met.H.OwnerHost.own_kept k) (g.met.H.OwnerHost.owns k) (g.met.H.OwnerHost.own_may k) (g.met.H.OwnerHost.own_looks k) _ _ _ t.0 _ _ g.A.TryKind.asks g.A.TryKind.counts _ c.OWNER.ensures (sym c.requires.own.task ∙ t.1) (sym c.requires.own.held ∙ c.requires.out) (c.requires.takes t.0 t.1) c.requires.may c.requires.fails

@@ -10,7 +10,7 @@ pub next_of-requires : goal.next_of-requires
 next_of-requires c = its-task c.args.osq.now.site.table.shared.key c.args.osq.now.site.table.shared.table_id c.args.pass.now.pass.seat.table_id c.args.pass.now.pass.seat.me c.args.pass.now.pass.face c.args.task c.args.osq.now.site.small.tasks c.requires.own c.requires.mine
 
 pub step-requires-clause-inside : goal.step-requires-clause-inside
-step-requires-clause-inside c = let l = its-task c.args.osq.now.site.table.shared.key c.args.osq.now.site.table.shared.table_id c.args.pass.now.pass.seat.table_id c.args.pass.now.pass.seat.me c.args.pass.now.pass.face c.args.task c.args.osq.now.site.small.tasks c.requires.own c.requires.mine in let e = c.next_of.ensures in omega (arith, l, e)
+step-requires-clause-inside c = let l = (c.requires.own.sits.planned c.args.task c.requires.mine).0 in let e = c.next_of.ensures in omega (arith, l, e)
 
 pub step-requires-clause-keeps : goal.step-requires-clause-keeps
 step-requires-clause-keeps c = moves-by (length c.args.osq.now.site.table.shared.key) c.args.task c.args.pass.now.pass.face.task Cleared c.args.pass.now.pass.seat.me.0.view.ext.place (next_at c.args.task) c.next_of.result (Store 0) (Store 0) (λ _. Cleared) (λ _. Cleared) (λ _. Unit {0})

@@ -6,6 +6,12 @@ use Rattle.osq_nodes.proofs.Owning.{kept-by, moves-by}
 use Rattle.osq_unqueue.proofs.Unqueueing.{relinks-next}
 use Rattle.osq_unqueue.proofs.steps.relink.Goals as goal
 
+pub next_of-requires : goal.next_of-requires
+next_of-requires c = let few = c.args.osq.now.site.small.tasks in let l = c.requires.there in omega (arith, few, l)
+
+pub step-requires-clause-inside : goal.step-requires-clause-inside
+step-requires-clause-inside c = let l = c.requires.there in let e = c.next_of.ensures in omega (arith, l, e)
+
 pub step-requires-clause-keeps : goal.step-requires-clause-keeps
 step-requires-clause-keeps c = moves-by (length c.args.osq.now.site.table.shared.key) c.args.task c.args.pass.now.pass.face.task (Relinking c.args.prev c.args.next) c.args.pass.now.pass.seat.me.0.view.ext.place (next_at c.args.prev) c.next_of.result (Store (suc c.args.next)) (Store c.code.result) (λ _. Out) (λ _. Out) (λ _. Unit {0})
     c.requires.mine c.requires.here c.next_of.ensures (ap (λ (x : ℕ). Store x) (let e : suc c.args.next ≡ c.code.result = omega (arith, c.code.ensures) in e)) refl (relinks-next (length c.args.osq.now.site.table.shared.key) c.args.task c.args.prev c.args.next)

@@ -1,12 +1,16 @@
-use Rattle.std.proofs.Common.{◌∙◌, ◌+◌, arith, ap, subst, sym, refl, IsSome}
+use Rattle.std.proofs.Common.{◌∙◌, ◌+◌, arith, ap, subst, sym, refl, IsSome, length}
 use Rattle.lock_core.proofs.Sitting.{sits-on}
 use Rattle.lock_core.specs.declared.pass.Face.{Face}
 use Rattle.lock_core.specs.declared.view.Held.TheVariants.{Alone}
 use Rattle.lock_core.specs.Pasts.{IsOwnStep, Tail}
 use Rattle.percpu_rwsem.specs.declared.view.Phase.TheVariants.{Blocks}
 use Rattle.percpu_rwsem.proofs.Sitting.{sits-took}
+use Rattle.percpu_rwsem.proofs.Having.{has-count}
 use Rattle.percpu_rwsem.proofs.Stepping.{drains-at}
 use Rattle.percpu_rwsem.proofs.steps.drain.Goals as goal
+
+pub step-found-requires-clause-there : goal.step-found-requires-clause-there
+step-found-requires-clause-there g c = has-count (length c.args.site.now.table.shared.key) c.args.seen c.count_place-place.result c.args.site.now.small.tasks c.requires.there c.count_place-place.ensures
 
 pub step-found-requires-clause-lets : goal.step-found-requires-clause-lets
 step-found-requires-clause-lets g c = drains-at g.O.Object.object g.O.Object.WORDS c.args.site.now.table.shared.key _ _ _ c.args.task c.args.seen _ c.count_place-place.ensures (let s = c.args.site.now.small in let a = s.tasks in let b = c.requires.there in omega (arith, a, b)) c.requires.there (sym c.requires.own.task ∙ c.requires.mine) (sym c.requires.own.held ∙ c.requires.out) c.requires.blocks

@@ -1,12 +1,16 @@
-use Rattle.std.proofs.Common.{◌∙◌, ℕ, ap, subst, sym}
+use Rattle.std.proofs.Common.{◌∙◌, ℕ, ap, subst, sym, length}
 use Rattle.lock_core.specs.declared.pass.Face.{Face}
 use Rattle.lock_core.specs.declared.view.Held.TheVariants.{No}
 use Rattle.lock_core.specs.Pasts.{FoundAt, IsOwnStep, Tail}
 use Rattle.percpu_rwsem.specs.declared.view.Phase.TheVariants.{Idle}
 use Rattle.percpu_rwsem.specs.Ruled.{count_at}
 use Rattle.percpu_rwsem.proofs.Sitting.{sits-released}
+use Rattle.percpu_rwsem.proofs.Having.{has-count}
 use Rattle.percpu_rwsem.proofs.Stepping.{ends-at}
 use Rattle.percpu_rwsem.proofs.steps.end_read.Goals as goal
+
+pub step-requires-clause-there : goal.step-requires-clause-there
+step-requires-clause-there g c = has-count (length c.args.site.now.table.shared.key) c.args.task c.count_place-place.result c.args.site.now.small.tasks ((c.requires.own.planned c.args.task c.requires.mine).0) c.count_place-place.ensures
 
 pub step-requires-clause-lets : goal.step-requires-clause-lets
 step-requires-clause-lets g c = ends-at g.O.Object.object g.O.Object.WORDS c.args.site.now.table.shared.key _ _ _ c.args.task _ c.count_place-place.ensures c.requires.small (sym c.requires.own.task ∙ c.requires.mine) (sym c.requires.own.held ∙ c.requires.held) c.requires.reads c.requires.quiet c.requires.own.stage

@@ -1,12 +1,16 @@
-use Rattle.std.proofs.Common.{◌∙◌, arith, ap, subst, sym, refl, IsSome}
+use Rattle.std.proofs.Common.{◌∙◌, arith, ap, subst, sym, refl, IsSome, length}
 use Rattle.lock_core.proofs.Sitting.{sits-on}
 use Rattle.lock_core.specs.declared.pass.Face.{Face}
 use Rattle.lock_core.specs.declared.view.Held.TheVariants.{Shared}
 use Rattle.lock_core.specs.Pasts.{IsOwnStep, Tail}
 use Rattle.percpu_rwsem.specs.declared.view.Phase.TheVariants.{Reads}
 use Rattle.percpu_rwsem.proofs.Sitting.{sits-took}
+use Rattle.percpu_rwsem.proofs.Having.{has-block}
 use Rattle.percpu_rwsem.proofs.Stepping.{looks-after}
 use Rattle.percpu_rwsem.proofs.steps.look.Goals as goal
+
+pub step-found-requires-clause-there : goal.step-found-requires-clause-there
+step-found-requires-clause-there g c = has-block (length c.args.site.now.table.shared.key) c.args.site.now.small.tasks
 
 pub step-found-requires-clause-lets : goal.step-found-requires-clause-lets
 step-found-requires-clause-lets g c = looks-after g.O.Object.object g.O.Object.WORDS c.args.site.now.table.shared.key _ _ c.args.task _ (sym c.requires.own.task ∙ c.requires.mine) (sym c.requires.own.held ∙ c.requires.out) c.requires.added

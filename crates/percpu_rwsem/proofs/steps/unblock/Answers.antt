@@ -1,11 +1,15 @@
-use Rattle.std.proofs.Common.{◌∙◌, ap, subst, sym}
+use Rattle.std.proofs.Common.{◌∙◌, ap, subst, sym, length}
 use Rattle.lock_core.specs.declared.pass.Face.{Face}
 use Rattle.lock_core.specs.declared.view.Held.TheVariants.{No}
 use Rattle.lock_core.specs.Pasts.{IsOwnStep, Tail}
 use Rattle.percpu_rwsem.specs.declared.view.Phase.TheVariants.{Idle}
 use Rattle.percpu_rwsem.proofs.Sitting.{sits-unheld}
+use Rattle.percpu_rwsem.proofs.Having.{has-block}
 use Rattle.percpu_rwsem.proofs.Stepping.{unblocks}
 use Rattle.percpu_rwsem.proofs.steps.unblock.Goals as goal
+
+pub step-requires-clause-there : goal.step-requires-clause-there
+step-requires-clause-there g c = has-block (length c.args.site.now.table.shared.key) c.args.site.now.small.tasks
 
 pub step-requires-clause-lets : goal.step-requires-clause-lets
 step-requires-clause-lets g c = unblocks g.O.Object.object g.O.Object.WORDS c.args.site.now.table.shared.key _ _ c.args.task c.requires.blocks.0 _ (sym c.requires.own.task ∙ c.requires.mine) c.requires.blocks.1 (λ z. c.requires.unshared (c.requires.own.held ∙ z)) c.requires.quiet c.requires.own.stage

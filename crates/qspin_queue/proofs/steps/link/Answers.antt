@@ -1,4 +1,4 @@
-use Rattle.std.proofs.Common.{ap, sym, ◌∙◌, ℕ, subst}
+use Rattle.std.proofs.Common.{ap, sym, ◌∙◌, ℕ, subst, length}
 use Rattle.lock_core.specs.declared.op.Op.TheVariants.{Store}
 use Rattle.lock_core.specs.SpinFrames.{holds_at}
 use Rattle.lock_core.specs.LockHands.{frame_at}
@@ -13,4 +13,4 @@ pub spin_step-requires-clause-may : goal.spin_step-requires-clause-may
 spin_step-requires-clause-may g c = λ n ends. ends-none c.args.lock c.args.pass.now.seat.me.0.view.spin (linked c.args.lock c.args.pass.now.seat.me.0.view) (g.H.SpinHost.may_free c.args.pass.now.seat.me.0.view) (ap holds_at c.requires.point) ends
 
 pub spin_step-requires-clause-allows : goal.spin_step-requires-clause-allows
-spin_step-requires-clause-allows g c = subst (λ (z : ℕ). SpinAllows g.H.SpinHost.LOCKS c.args.lock c.args.pass.now.seat.id c.args.pass.now.seat.me.0.view z (Store c.args.code) (λ n. linked c.args.lock c.args.pass.now.seat.me.0.view) (λ n. Unit {0})) (sym (c.next_place.ensures ∙ ap next_at (sym c.requires.found))) (subst (λ (z : ℕ). SpinAllows g.H.SpinHost.LOCKS c.args.lock c.args.pass.now.seat.id c.args.pass.now.seat.me.0.view (next_at (frame_at c.args.lock c.args.pass.now.seat.me.0.view.spin).found) (Store z) (λ n. linked c.args.lock c.args.pass.now.seat.me.0.view) (λ n. Unit {0})) c.requires.node (links g.H.SpinHost.LOCKS c.args.lock c.requires.there g.H.SpinHost.spin_eight c.args.pass.now.seat.me.0.view c.args.pass.now.seat.id c.requires.point))
+spin_step-requires-clause-allows g c = subst (λ (z : ℕ). SpinAllows g.H.SpinHost.LOCKS (length c.args.site.now.table.shared.key) c.args.lock c.args.pass.now.seat.id c.args.pass.now.seat.me.0.view z (Store c.args.code) (λ n. linked c.args.lock c.args.pass.now.seat.me.0.view) (λ n. Unit {0})) (sym (c.next_place.ensures ∙ ap next_at (sym c.requires.found))) (subst (λ (z : ℕ). SpinAllows g.H.SpinHost.LOCKS (length c.args.site.now.table.shared.key) c.args.lock c.args.pass.now.seat.id c.args.pass.now.seat.me.0.view (next_at (frame_at c.args.lock c.args.pass.now.seat.me.0.view.spin).found) (Store z) (λ n. linked c.args.lock c.args.pass.now.seat.me.0.view) (λ n. Unit {0})) c.requires.node (links g.H.SpinHost.LOCKS c.args.lock c.requires.there g.H.SpinHost.spin_eight c.args.pass.now.seat.me.0.view c.args.pass.now.seat.id c.requires.point))

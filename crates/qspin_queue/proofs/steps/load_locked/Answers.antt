@@ -1,4 +1,4 @@
-use Rattle.std.proofs.Common.{ap, sym, ◌∙◌, ℕ, subst}
+use Rattle.std.proofs.Common.{ap, sym, ◌∙◌, ℕ, subst, length}
 use Rattle.lock_core.specs.declared.op.Op.TheVariants.{Load}
 use Rattle.lock_core.specs.SpinFrames.{holds_at}
 use Rattle.lock_core.specs.Spins.{locked_at}
@@ -12,4 +12,4 @@ pub spin_step-requires-clause-may : goal.spin_step-requires-clause-may
 spin_step-requires-clause-may g c = λ n ends. ends-none c.args.lock c.args.pass.now.seat.me.0.view.spin (heard c.args.lock n c.args.pass.now.seat.me.0.view) (g.H.SpinHost.may_free c.args.pass.now.seat.me.0.view) (ap holds_at c.requires.point) ends
 
 pub spin_step-requires-clause-allows : goal.spin_step-requires-clause-allows
-spin_step-requires-clause-allows g c = subst (λ (z : ℕ). SpinAllows g.H.SpinHost.LOCKS c.args.lock c.args.pass.now.seat.id c.args.pass.now.seat.me.0.view z (Load) (λ n. heard c.args.lock n c.args.pass.now.seat.me.0.view) (λ n. Unit {0})) (sym (c.locked_place.ensures ∙ ap locked_at (sym c.requires.node))) (hears g.H.SpinHost.LOCKS c.args.lock c.requires.there g.H.SpinHost.spin_eight c.args.pass.now.seat.me.0.view c.args.pass.now.seat.id c.requires.point)
+spin_step-requires-clause-allows g c = subst (λ (z : ℕ). SpinAllows g.H.SpinHost.LOCKS (length c.args.site.now.table.shared.key) c.args.lock c.args.pass.now.seat.id c.args.pass.now.seat.me.0.view z (Load) (λ n. heard c.args.lock n c.args.pass.now.seat.me.0.view) (λ n. Unit {0})) (sym (c.locked_place.ensures ∙ ap locked_at (sym c.requires.node))) (hears g.H.SpinHost.LOCKS c.args.lock c.requires.there g.H.SpinHost.spin_eight c.args.pass.now.seat.me.0.view c.args.pass.now.seat.id c.requires.point)

@@ -5,4 +5,4 @@ use Rattle.qspin_queue.specs.Handles.{codes}
 use Rattle.qspin_queue.proofs.steps.load_next.Given as goal
 
 abbrev pub ghosts-spin_step : goal.ghosts-spin_step
-ghosts-spin_step g a = record { after = λ n. learnt a.lock Front n a.pass.now.seat.me.0.view; tells = λ n. n < codes }
+ghosts-spin_step g a = record { after = λ n. learnt a.lock Front n a.pass.now.seat.me.0.view; tells = λ n. n < codes a.site.now }

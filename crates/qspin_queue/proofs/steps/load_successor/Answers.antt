@@ -1,4 +1,4 @@
-use Rattle.std.proofs.Common.{ap, sym, ◌∙◌, ℕ, ◌<◌, subst}
+use Rattle.std.proofs.Common.{ap, sym, ◌∙◌, ℕ, ◌<◌, subst, length}
 use Rattle.lock_core.specs.declared.op.Op.TheVariants.{Load}
 use Rattle.lock_core.specs.declared.view.Point.TheVariants.{Passing}
 use Rattle.lock_core.specs.Spins.{next_at}
@@ -13,4 +13,4 @@ pub spin_step-requires-clause-may : goal.spin_step-requires-clause-may
 spin_step-requires-clause-may g c = λ n ends. still-holds c.args.lock c.args.pass.now.seat.me.0.view.spin (learnt c.args.lock Passing n c.args.pass.now.seat.me.0.view) (g.H.SpinHost.may_free c.args.pass.now.seat.me.0.view) (learnt-holds c.args.lock c.args.pass.now.seat.me.0.view n c.requires.point) ends
 
 pub spin_step-requires-clause-allows : goal.spin_step-requires-clause-allows
-spin_step-requires-clause-allows g c = subst (λ (z : ℕ). SpinAllows g.H.SpinHost.LOCKS c.args.lock c.args.pass.now.seat.id c.args.pass.now.seat.me.0.view z (Load) (λ n. learnt c.args.lock Passing n c.args.pass.now.seat.me.0.view) (λ n. n < codes)) (sym (c.next_place.ensures ∙ ap next_at (sym c.requires.node))) (learns-late g.H.SpinHost.LOCKS c.args.lock c.requires.there g.H.SpinHost.spin_eight c.args.pass.now.seat.me.0.view c.args.pass.now.seat.id c.requires.point)
+spin_step-requires-clause-allows g c = subst (λ (z : ℕ). SpinAllows g.H.SpinHost.LOCKS (length c.args.site.now.table.shared.key) c.args.lock c.args.pass.now.seat.id c.args.pass.now.seat.me.0.view z (Load) (λ n. learnt c.args.lock Passing n c.args.pass.now.seat.me.0.view) (λ n. n < codes c.args.site.now)) (sym (c.next_place.ensures ∙ ap next_at (sym c.requires.node))) (learns-late g.H.SpinHost.LOCKS c.args.lock c.requires.there g.H.SpinHost.spin_eight c.args.pass.now.seat.me.0.view c.args.pass.now.seat.id c.requires.point)

@@ -1,4 +1,4 @@
-use Rattle.std.proofs.Common.{◌∙◌, arith, ap, subst, sym}
+use Rattle.std.proofs.Common.{◌∙◌, arith, ap, subst, sym, length}
 use Rattle.lock_core.specs.declared.pass.Face.{Face}
 use Rattle.lock_core.specs.declared.view.Held.TheVariants.{Shared}
 use Rattle.lock_core.specs.Pasts.{Tail}
@@ -8,7 +8,11 @@ use Rattle.rwsem_count.proofs.Sitting.{some-number, sits-took}
 use Rattle.lock_core.specs.Pasts.{unseen}
 use Rattle.rwsem_count.proofs.Trying.{saw-word}
 use Rattle.rwsem_count.proofs.Sitting.{sits-saw}
+use Rattle.lock_core.specs.Stores.{HasWord}
 use Rattle.rwsem_count.proofs.tries.take.Goals as goal
+
+pub step-found-requires-clause-there : goal.step-found-requires-clause-there
+step-found-requires-clause-there g c = subst (HasWord (length c.args.site.now.table.shared.key)) (sym c.COUNT.ensures) (g.H.CountHost.count_there (length c.args.site.now.table.shared.key))
 
 pub step-found-requires-clause-lets : goal.step-found-requires-clause-lets
 step-found-requires-clause-lets g c = let k = c.args.site.now.table.shared.key in let t = some-number c.args.pass.now.face.task c.requires.numbered in reader-gets g.H.O.Object.object g.H.SiteRule.unavailable g.H.O.Object.WORDS k g.H.CountHost.bias g.H.CountHost.counted (g.H.SiteRule.holds k) (g.H.SiteRule.moves k) g.H.CountHost.COUNT g.H.CountHost.may_be (g.H.CountHost.more k) g.H.CountHost.may_count g.H.CountHost.may_miss (g.met.H.SiteRule.site_kept k) (g.met.H.CountHost.count_kept k) (g.met.H.CountHost.counts k) (g.met.H.CountHost.count_looks k) _ _ _ t.0 _ _ c.COUNT.ensures (sym c.requires.own.task ∙ t.1) (sym c.requires.own.held ∙ c.requires.out) c.requires.clear c.requires.free c.requires.may c.requires.misses

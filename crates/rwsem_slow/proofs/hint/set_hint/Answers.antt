@@ -1,7 +1,11 @@
-use Rattle.std.proofs.Common.{ap, arith}
+use Rattle.std.proofs.Common.{ap, arith, length}
 use Rattle.lock_core.proofs.Sitting.{sits-on}
 use Rattle.rwsem_slow.proofs.Hinting.{hint-does}
+use Rattle.rwsem_slow.specs.RwSemLaws.{hint-there}
 use Rattle.rwsem_slow.proofs.hint.set_hint.Goals as goal
+
+pub step-requires-clause-there : goal.step-requires-clause-there
+step-requires-clause-there g c = hint-there (length c.args.site.now.table.shared.key)
 
 pub step-requires-clause-lets : goal.step-requires-clause-lets
 step-requires-clause-lets g c = hint-does g.O.Object.object g.O.Object.WORDS c.args.site.now.table.shared.key _ _ c.args.hint _

@@ -1,5 +1,4 @@
 use Rattle.std.proofs.Common.{◌∙◌, sym}
-use Rattle.lock_core.proofs.Sitting.{its-number}
 use Rattle.rwsem_slow.proofs.Quitting.{leaves-listed, leaves-still, left-becomes, left-looked, looks-leaves}
 use Rattle.rwsem_slow.proofs.leaving.leave.Goals as goal
 
@@ -10,13 +9,13 @@ pub leave_first-requires-clause-may : goal.leave_first-requires-clause-may
 leave_first-requires-clause-may g c = looks-leaves c.args.pass.now.seat.me.0.view c.is_first.new.pass.seat.me.0.view c.is_first.ensures.looked c.requires.may
 
 pub leave_first-requires-clause-task : goal.leave_first-requires-clause-task
-leave_first-requires-clause-task g c = its-number c.args.site.now.table.shared.key c.args.site.now.table.shared.table_id c.args.pass.now.seat.table_id c.args.pass.now.seat.me c.args.pass.now.face c.args.site.now.small c.requires.own c.in-Some.task (sym c.task.ensures ∙ c.in-Some.is)
+leave_first-requires-clause-task g c = (c.requires.own.planned c.in-Some.task (sym c.task.ensures ∙ c.in-Some.is)).0
 
 pub remove_behind-requires-clause-may : goal.remove_behind-requires-clause-may
 remove_behind-requires-clause-may g c = looks-leaves c.args.pass.now.seat.me.0.view c.is_first.new.pass.seat.me.0.view c.is_first.ensures.looked c.requires.may
 
 pub remove_behind-requires-clause-task : goal.remove_behind-requires-clause-task
-remove_behind-requires-clause-task g c = its-number c.args.site.now.table.shared.key c.args.site.now.table.shared.table_id c.args.pass.now.seat.table_id c.args.pass.now.seat.me c.args.pass.now.face c.args.site.now.small c.requires.own c.in-Some.task (sym c.task.ensures ∙ c.in-Some.is)
+remove_behind-requires-clause-task g c = (c.requires.own.planned c.in-Some.task (sym c.task.ensures ∙ c.in-Some.is)).0
 
 pub returns-then-is_first-clause-left : goal.returns-then-is_first-clause-left
 returns-then-is_first-clause-left g c = left-looked c.leave_first.new.woken.items c.args.pass.now.seat.me.0.view c.is_first.new.pass.seat.me.0.view c.leave_first.new.pass.seat.me.0.view c.is_first.ensures.looked c.leave_first.ensures.left

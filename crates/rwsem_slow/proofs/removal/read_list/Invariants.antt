@@ -2,7 +2,7 @@ use Rattle.std.proofs.Common.{◌≡◌, ◌-◌, ◌≤◌, length}
 use Rattle.word_bits.specs.declared.TheConstants.{MAX_TASKS}
 use Rattle.lock_core.specs.Passes.{Sits}
 use Rattle.lock_core.specs.Pasts.{GoesOn, IsOwnStep}
-use Rattle.wait_list.specs.Lists.{only_steps}
+use Rattle.wait_list.specs.Lists.{AreAmong, only_steps}
 use Rattle.rwsem_slow.specs.Removals.{IsAlong}
 use Rattle.rwsem_slow.proofs.removal.read_list.Given as goal
 
@@ -15,6 +15,7 @@ invariant-walk g l = record {
   later : l.fn.pass.seat.me.0.view.steps ≤ l.pass.seat.me.0.view.steps;
   kept : only_steps l.fn.pass.seat.me.0.view l.pass.seat.me.0.view;
   along : IsAlong l.fn.pass.seat.me.0.view.ext.list.list l.waiters.items l.last;
+  few : AreAmong (length l.site.table.shared.key) l.waiters.items;
 }
 
 abbrev pub decreases-walk : goal.decreases-walk

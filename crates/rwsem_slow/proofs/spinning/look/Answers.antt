@@ -1,8 +1,12 @@
-use Rattle.std.proofs.Common.{◌∙◌, sym}
+use Rattle.std.proofs.Common.{◌∙◌, sym, length}
 use Rattle.lock_core.specs.Pasts.{unseen}
 use Rattle.rwsem_count.proofs.Sitting.{has-number}
 use Rattle.rwsem_slow.proofs.Unqueued.{saw-unqueued, sits-unqueued, unqueued-looks}
+use Rattle.rwsem_slow.specs.RwSemLaws.{count-there}
 use Rattle.rwsem_slow.proofs.spinning.look.Goals as goal
+
+pub step-requires-clause-there : goal.step-requires-clause-there
+step-requires-clause-there g c = count-there (length c.args.site.now.table.shared.key)
 
 pub step-requires-clause-lets : goal.step-requires-clause-lets
 step-requires-clause-lets g c = unqueued-looks g.O.Object.object g.O.Object.WORDS c.args.site.now.table.shared.key _ _ _ (has-number _ c.args.pass.now.face.task c.requires.own.task c.requires.numbered) (sym c.requires.own.held ∙ c.requires.out) c.requires.apart

@@ -1,4 +1,4 @@
-use Rattle.std.proofs.Common.{◌∙◌, arith, ap, subst, sym}
+use Rattle.std.proofs.Common.{◌∙◌, arith, ap, subst, sym, length}
 use Rattle.lock_core.specs.declared.pass.Face.{Face}
 use Rattle.lock_core.specs.declared.view.Held.TheVariants.{Alone}
 use Rattle.lock_core.specs.Pasts.{Tail, unseen}
@@ -6,7 +6,11 @@ use Rattle.rwsem_count.specs.declared.view.Bias.TheVariants.{Clear}
 use Rattle.rwsem_count.proofs.Sitting.{some-number, sits-took}
 use Rattle.rwsem_slow.specs.RwSems.{biased}
 use Rattle.rwsem_slow.proofs.Unqueued.{saw-unqueued, sits-unqueued, unqueued-takes}
+use Rattle.rwsem_slow.specs.RwSemLaws.{count-there}
 use Rattle.rwsem_slow.proofs.spinning.take.Goals as goal
+
+pub step-found-requires-clause-there : goal.step-found-requires-clause-there
+step-found-requires-clause-there g c = count-there (length c.args.site.now.table.shared.key)
 
 pub step-found-requires-clause-lets : goal.step-found-requires-clause-lets
 step-found-requires-clause-lets g c = let t = some-number c.args.pass.now.face.task c.requires.numbered in

@@ -1,4 +1,4 @@
-use Rattle.std.proofs.Common.{◌∙◌, ℕ, sym, ap, subst, arith}
+use Rattle.std.proofs.Common.{◌∙◌, ℕ, sym, ap, subst, arith, length}
 use Rattle.lock_core.specs.declared.pass.Face.{Face}
 use Rattle.lock_core.specs.declared.view.Held.TheVariants.{Shared}
 use Rattle.lock_core.specs.Pasts.{IsOwnStep, Tail}
@@ -11,7 +11,11 @@ use Rattle.rwsem_wake.proofs.Holding.{holds-by}
 use Rattle.rwsem_slow.specs.RwSems.{V, biased, with_sem, with_wake}
 use Rattle.rwsem_slow.specs.Stealing.{MaySteal}
 use Rattle.rwsem_slow.proofs.BiasHolds.{next-leaves, steals, stolen}
+use Rattle.rwsem_slow.specs.RwSemLaws.{hint-there}
 use Rattle.rwsem_slow.proofs.stealing.steal.Goals as goal
+
+pub step-hint-requires-clause-there : goal.step-hint-requires-clause-there
+step-hint-requires-clause-there g c = hint-there (length c.args.site.now.table.shared.key)
 
 pub step-hint-requires-clause-lets : goal.step-hint-requires-clause-lets
 step-hint-requires-clause-lets g c = let own = some-number c.args.pass.now.face.task c.requires.numbered in

@@ -1,12 +1,11 @@
-use Rattle.std.proofs.Common.{◌∙◌, ◌<◌, ℕ, List, length, get_or, sym, ap, subst, arith}
-use Rattle.word_bits.specs.declared.TheConstants.{MAX_TASKS}
+use Rattle.std.proofs.Common.{◌∙◌, ℕ, List, length, sym, ap, subst, arith}
 use Rattle.wait_list.specs.declared.view.Waiter.{Waiter}
 use Rattle.wait_list.proofs.Waiters.{few-tasks}
 use Rattle.rwsem_wake.specs.Batches.{batch_of}
-use Rattle.rwsem_wake.specs.Grants.{KeepsOut}
+use Rattle.rwsem_wake.specs.Grants.{AreTaskNumbers, KeepsOut}
 use Rattle.rwsem_slow.specs.RwSems.{V, MayPick, sem_of}
 use Rattle.rwsem_slow.specs.Removals.{AreHeads, BeginsWith, RemovesAll, without_all}
-use Rattle.rwsem_slow.proofs.Removing.{batch-begins, batch-heads, batch-some, empty-is, first-reads, heads-few, heads-small, length-all, removes-since}
+use Rattle.rwsem_slow.proofs.Removing.{batch-begins, batch-heads, batch-some, empty-is, first-reads, heads-among, heads-few, length-all, removes-since}
 use Rattle.rwsem_slow.proofs.Walking.{knows-on}
 use Rattle.rwsem_slow.proofs.waking.remove_batch.Goals as goal
 
@@ -25,7 +24,7 @@ remove_all-requires-clause-few g c = let l = c.args.pass.now.seat.me.0.view.ext.
 
 pub remove_all-requires-clause-tasks : goal.remove_all-requires-clause-tasks
 remove_all-requires-clause-tasks g c = let l = c.args.pass.now.seat.me.0.view.ext.list.list in let is = c.as_slice-picked.ensures.value ∙ (c.batch.ensures ∙ ap (batch_of 256) (c.as_slice-known.ensures.value ∙ c.read_list.ensures.read)) in
-    subst (λ (z : List ℕ). (i : ℕ) → i < length z → get_or z i 0 < MAX_TASKS) (sym is) (heads-small (batch_of 256 l) l c.requires.list.sound.small (batch-heads 256 l))
+    subst (AreTaskNumbers c.args.site.now.table.shared.key) (sym is) (heads-among (length c.args.site.now.table.shared.key) (batch_of 256 l) l c.read_list.ensures.tasks (batch-heads 256 l))
 
 pub remove_all-requires-clause-heads : goal.remove_all-requires-clause-heads
 remove_all-requires-clause-heads g c = let l = c.args.pass.now.seat.me.0.view.ext.list.list in let is = c.as_slice-picked.ensures.value ∙ (c.batch.ensures ∙ ap (batch_of 256) (c.as_slice-known.ensures.value ∙ c.read_list.ensures.read)) in
@@ -51,4 +50,4 @@ pub returns-clause-few : goal.returns-clause-few
 returns-clause-few g c = let l = c.args.pass.now.seat.me.0.view.ext.list.list in let are = c.batch.ensures ∙ ap (batch_of 256) (c.as_slice-known.ensures.value ∙ c.read_list.ensures.read) in let few = heads-few (batch_of 256 l) l (batch-heads 256 l) in let all = few-tasks l c.requires.list.sound in let n = ap (λ (z : List ℕ). length z) are in omega (arith, few, all, n)
 
 pub returns-clause-tasks : goal.returns-clause-tasks
-returns-clause-tasks g c = let l = c.args.pass.now.seat.me.0.view.ext.list.list in let are = c.batch.ensures ∙ ap (batch_of 256) (c.as_slice-known.ensures.value ∙ c.read_list.ensures.read) in subst (λ (z : List ℕ). (i : ℕ) → i < length z → get_or z i 0 < MAX_TASKS) (sym are) (heads-small (batch_of 256 l) l c.requires.list.sound.small (batch-heads 256 l))
+returns-clause-tasks g c = let l = c.args.pass.now.seat.me.0.view.ext.list.list in let are = c.batch.ensures ∙ ap (batch_of 256) (c.as_slice-known.ensures.value ∙ c.read_list.ensures.read) in subst (AreTaskNumbers c.args.site.now.table.shared.key) (sym are) (heads-among (length c.args.site.now.table.shared.key) (batch_of 256 l) l c.read_list.ensures.tasks (batch-heads 256 l))

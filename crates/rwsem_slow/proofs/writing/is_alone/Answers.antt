@@ -1,11 +1,10 @@
-use Rattle.rwsem_slow.proofs.Granting.{first-small}
 use Rattle.rwsem_slow.proofs.Walking.{finds-steps}
-use Rattle.rwsem_slow.proofs.WriterSteps.{only-none, only-some}
+use Rattle.rwsem_slow.proofs.WriterSteps.{first-there, only-none, only-some}
 use Rattle.std.proofs.Common.{None, Some}
 use Rattle.rwsem_slow.proofs.writing.is_alone.Goals as goal
 
-pub next-requires-clause-task : goal.next-requires-clause-task
-next-requires-clause-task g c = first-small c.args.pass.now.seat.me.0.view.ext.list.list c.args.first c.requires.first c.requires.list.sound.small
+pub next-requires-clause-there : goal.next-requires-clause-there
+next-requires-clause-there g c = (c.requires.list.knows, first-there c.args.pass.now.seat.me.0.view.ext.list.list c.args.first c.requires.first)
 
 pub returns-in-None-clause-kept : goal.returns-in-None-clause-kept
 returns-in-None-clause-kept g c = finds-steps c.args.pass.now.seat.me.0.view c.requires.list c.args.first.task None c.next.new.pass.seat.me.0.view c.in-None.ensures.told

@@ -4,11 +4,10 @@ use Rattle.wait_list.specs.Lists.{FindsFirst}
 use Rattle.rwsem_slow.specs.RwSems.{list_of, with_list}
 use Rattle.rwsem_wake.specs.declared.view.SemHand.{SemHand}
 use Rattle.rwsem_slow.proofs.Joining.{writer-alone, writer-behind, writer-first}
-use Rattle.lock_core.proofs.Sitting.{its-number}
 use Rattle.rwsem_slow.proofs.writing.join.Goals as goal
 
 pub append-requires-clause-task : goal.append-requires-clause-task
-append-requires-clause-task g c = its-number c.args.site.now.table.shared.key c.args.site.now.table.shared.table_id c.args.pass.now.seat.table_id c.args.pass.now.seat.me c.args.pass.now.face c.args.site.now.small c.requires.own c.in-Some.task (sym c.task.ensures ∙ c.in-Some.is)
+append-requires-clause-task g c = (c.requires.own.planned c.in-Some.task (sym c.task.ensures ∙ c.in-Some.is)).0
 
 pub set_waiters-requires-clause-first : goal.set_waiters-requires-clause-first
 set_waiters-requires-clause-first g c = ap (λ (s : SemHand). s.stage) (writer-first c.args.pass.now.seat.me.0.view c.append.new.pass.seat.me.0.view c.first.new.pass.seat.me.0.view (record { task = c.in-Some.task; writer = true }) c.in-Some-first.first c.requires.locked

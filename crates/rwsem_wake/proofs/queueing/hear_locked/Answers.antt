@@ -1,4 +1,4 @@
-use Rattle.std.proofs.Common.{◌∙◌, ◌+◌, ◌*◌, ◌==◌, IsSome, sym, refl, ap, subst, arith, eq-eqb, ne_eqb}
+use Rattle.std.proofs.Common.{◌∙◌, ◌+◌, ◌*◌, ◌==◌, IsSome, sym, refl, ap, subst, arith, eq-eqb, ne_eqb, length}
 use Rattle.lock_core.specs.declared.op.Op.TheVariants.{Load}
 use Rattle.lock_core.specs.declared.pass.Face.{Face}
 use Rattle.lock_core.specs.declared.view.Held.TheVariants.{Shared}
@@ -13,12 +13,17 @@ use Rattle.rwsem_wake.specs.Duties.{heard_locked_at}
 use Rattle.rwsem_wake.proofs.Holding.{holds-by, shared-holds, busy-held}
 use Rattle.rwsem_wake.proofs.Stepping.{grant-holds}
 use Rattle.rwsem_wake.proofs.QueueSteps.{on-hear-locked}
+use Rattle.rwsem_wake.proofs.Having.{has-line}
+use Rattle.wait_list.proofs.Waiters.{task-of}
 use Rattle.rwsem_wake.proofs.queueing.hear_locked.Goals as goal
 
+pub step-word-requires-clause-there : goal.step-word-requires-clause-there
+step-word-requires-clause-there g c = has-line (length c.args.site.now.table.shared.key) 2 c.args.task g.H.GrantHost.GRANTS c.GRANTS.result c.args.site.now.small.tasks (omega arith) c.requires.task g.H.GrantHost.grants_row c.GRANTS.ensures
+
 pub step-word-requires-clause-lets : goal.step-word-requires-clause-lets
-step-word-requires-clause-lets g c = let k = c.args.site.now.table.shared.key in let v = c.args.pass.now.seat.me.0.view in let t0 = c.args.task in let has = sym c.requires.own.task ∙ c.requires.mine in
+step-word-requires-clause-lets g c = let k = c.args.site.now.table.shared.key in let few = task-of _ _ c.args.site.now.small.tasks c.requires.task in let v = c.args.pass.now.seat.me.0.view in let t0 = c.args.task in let has = sym c.requires.own.task ∙ c.requires.mine in
     grant-holds g.H.O.Object.object g.H.SiteRule.unavailable g.H.O.Object.WORDS k g.H.SpinHost.LOCKS g.H.SpinHost.FIRST g.H.ListHost.LIST g.H.CountHost.COUNT g.H.GrantHost.MARKS g.H.GrantHost.GRANTS g.H.ListHost.list g.H.GrantHost.sem g.H.GrantHost.with_sem g.H.GrantHost.wake g.H.GrantHost.with_wake g.H.GrantHost.wake_same (g.H.SiteRule.holds k) (g.H.SiteRule.moves k) (g.H.ListHost.queue k) (g.met.H.SiteRule.site_kept k) (g.met.H.SpinHost.spin_kept k) (g.met.H.ListHost.queued k) (g.H.ListHost.list_kept k) g.met.H.GrantHost.sem_places (g.met.H.GrantHost.sem_kept k) (g.met.H.GrantHost.sem_only k) (g.met.H.GrantHost.sems k)
-    c.args.task c.requires.task _ _ _ t0 _ Load Shared (λ n. n == 0) (λ n. heard_locked (g.H.GrantHost.sem v.ext) n) (λ n. heard_locked_at n (g.H.GrantHost.wake v.ext)) anything (ap (λ n. n + 8 * c.args.task) c.GRANTS.ensures) has (sym c.requires.own.held ∙ c.requires.out) (λ e. shared-holds e)
+    c.args.task few _ _ _ t0 _ Load Shared (λ n. n == 0) (λ n. heard_locked (g.H.GrantHost.sem v.ext) n) (λ n. heard_locked_at n (g.H.GrantHost.wake v.ext)) anything (ap (λ n. n + 8 * c.args.task) c.GRANTS.ensures) has (sym c.requires.own.held ∙ c.requires.out) (λ e. shared-holds e)
     (λ n q marks grants sees loc only. let m = c.requires.may in let t = on-hear-locked sees _ _ _ n q marks grants loc t0 has m.stage m.waits m.clear (sym c.requires.own.held ∙ c.requires.out) (only c.requires.held) in (busy-held v.spin _ c.requires.held, t.0.0, t.0.1, wakes-hear-locked n q grants sees (sem_part g.H.GrantHost.sem v) (g.H.GrantHost.wake v.ext) t0 has m.stage m.waits (sym c.requires.own.held ∙ c.requires.out) c.requires.owes, t.1, tt))
 
 pub returns-then-word-eq0-clause-own : goal.returns-then-word-eq0-clause-own

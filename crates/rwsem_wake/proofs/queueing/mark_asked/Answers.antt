@@ -1,4 +1,4 @@
-use Rattle.std.proofs.Common.{◌∙◌, ◌+◌, ◌*◌, sym, ap, arith, refl, inl}
+use Rattle.std.proofs.Common.{◌∙◌, ◌+◌, ◌*◌, sym, ap, arith, refl, inl, length}
 use Rattle.lock_core.specs.declared.op.Op.TheVariants.{Store}
 use Rattle.lock_core.proofs.Sitting.{sits-on}
 use Rattle.rwsem_count.proofs.Sitting.{has-number, some-number}
@@ -9,13 +9,18 @@ use Rattle.rwsem_wake.specs.Duties.{overdue_weight}
 use Rattle.rwsem_wake.specs.declared.view.Stage.TheVariants.{Rest, Marking}
 use Rattle.rwsem_wake.proofs.Stepping.{mark-does}
 use Rattle.rwsem_wake.proofs.QueueSteps.{on-mark-asked}
+use Rattle.rwsem_wake.proofs.Having.{has-line}
+use Rattle.wait_list.proofs.Waiters.{task-of}
 use Rattle.rwsem_wake.proofs.queueing.mark_asked.Goals as goal
 
+pub step-requires-clause-there : goal.step-requires-clause-there
+step-requires-clause-there g c = has-line (length c.args.site.now.table.shared.key) 1 c.args.task g.H.GrantHost.MARKS c.MARKS.result c.args.site.now.small.tasks (omega arith) c.requires.task g.H.GrantHost.marks_row c.MARKS.ensures
+
 pub step-requires-clause-lets : goal.step-requires-clause-lets
-step-requires-clause-lets g c = let k = c.args.site.now.table.shared.key in let v = c.args.pass.now.seat.me.0.view in let own = some-number c.args.pass.now.face.task c.requires.numbered in let has = sym c.requires.own.task ∙ own.1 in
+step-requires-clause-lets g c = let k = c.args.site.now.table.shared.key in let few = task-of _ _ c.args.site.now.small.tasks c.requires.task in let v = c.args.pass.now.seat.me.0.view in let own = some-number c.args.pass.now.face.task c.requires.numbered in let has = sym c.requires.own.task ∙ own.1 in
     mark-does g.H.O.Object.object g.H.SiteRule.unavailable g.H.O.Object.WORDS k g.H.SpinHost.LOCKS g.H.SpinHost.FIRST g.H.ListHost.LIST g.H.CountHost.COUNT g.H.GrantHost.MARKS g.H.GrantHost.GRANTS g.H.ListHost.list g.H.GrantHost.sem g.H.GrantHost.with_sem g.H.GrantHost.wake g.H.GrantHost.with_wake g.H.GrantHost.wake_same (g.H.SiteRule.holds k) (g.H.SiteRule.moves k) (g.H.ListHost.queue k) (g.met.H.SiteRule.site_kept k) (g.met.H.SpinHost.spin_kept k) (g.met.H.ListHost.queued k) (g.H.ListHost.list_kept k) g.met.H.GrantHost.sem_places (g.met.H.GrantHost.sem_kept k) (g.met.H.GrantHost.sem_only k) (g.met.H.GrantHost.sems k)
-    c.args.task c.requires.task _ _ _ _ (Store 1) (λ n. rested (g.H.GrantHost.sem v.ext)) anything (ap (λ n. n + 8 * c.args.task) c.MARKS.ensures) c.requires.held (has-number _ c.args.pass.now.face.task c.requires.own.task c.requires.numbered)
-    (λ n q marks grants sees loc only. let t = on-mark-asked sees _ _ _ n q marks grants loc only own.0 has c.args.task c.requires.asked c.requires.writes c.requires.clear c.requires.first.knows c.requires.first.first c.requires.task in (t.0, t.1, wakes-turn n q grants sees (sem_part g.H.GrantHost.sem v) (g.H.GrantHost.wake v.ext) n Marking Rest c.requires.asked (λ m. refl) refl (inl (ap overdue_weight c.requires.clear)), tt))
+    c.args.task few _ _ _ _ (Store 1) (λ n. rested (g.H.GrantHost.sem v.ext)) anything (ap (λ n. n + 8 * c.args.task) c.MARKS.ensures) c.requires.held (has-number _ c.args.pass.now.face.task c.requires.own.task c.requires.numbered)
+    (λ n q marks grants sees loc only. let t = on-mark-asked sees _ _ _ n q marks grants loc only own.0 has c.args.task c.requires.asked c.requires.writes c.requires.clear c.requires.first.knows c.requires.first.first few in (t.0, t.1, wakes-turn n q grants sees (sem_part g.H.GrantHost.sem v) (g.H.GrantHost.wake v.ext) n Marking Rest c.requires.asked (λ m. refl) refl (inl (ap overdue_weight c.requires.clear)), tt))
 
 pub returns-clause-own : goal.returns-clause-own
 returns-clause-own g c = let turn = c.step.ensures.told.1 in

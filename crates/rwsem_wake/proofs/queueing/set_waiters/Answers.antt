@@ -1,4 +1,4 @@
-use Rattle.std.proofs.Common.{◌∙◌, sym, ap, arith, refl, inr}
+use Rattle.std.proofs.Common.{◌∙◌, sym, ap, arith, refl, inr, subst, length}
 use Rattle.word_bits.specs.LockWords.{IsLawfulCount}
 use Rattle.lock_core.specs.declared.op.Op.TheVariants.{Or}
 use Rattle.lock_core.proofs.Sitting.{sits-on}
@@ -9,7 +9,11 @@ use Rattle.rwsem_wake.specs.Grants.{sem_part}
 use Rattle.rwsem_wake.specs.declared.view.Stage.TheVariants.{Rest, First}
 use Rattle.rwsem_wake.proofs.Stepping.{count-does}
 use Rattle.rwsem_wake.proofs.QueueSteps.{on-set}
+use Rattle.lock_core.specs.Stores.{HasWord}
 use Rattle.rwsem_wake.proofs.queueing.set_waiters.Goals as goal
+
+pub step-requires-clause-there : goal.step-requires-clause-there
+step-requires-clause-there g c = subst (HasWord (length c.args.site.now.table.shared.key)) (sym c.COUNT.ensures) (g.H.CountHost.count_there (length c.args.site.now.table.shared.key))
 
 pub step-requires-clause-lets : goal.step-requires-clause-lets
 step-requires-clause-lets g c = let k = c.args.site.now.table.shared.key in let v = c.args.pass.now.seat.me.0.view in let own = some-number c.args.pass.now.face.task c.requires.numbered in let has = sym c.requires.own.task ∙ own.1 in

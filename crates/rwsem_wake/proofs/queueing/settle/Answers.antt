@@ -1,4 +1,4 @@
-use Rattle.std.proofs.Common.{◌∙◌, ℕ, ◌%◌, ◌==◌, sym, ap, subst, arith, eq-eqb, ne_eqb}
+use Rattle.std.proofs.Common.{◌∙◌, ℕ, ◌%◌, ◌==◌, sym, ap, subst, arith, eq-eqb, ne_eqb, length}
 use Rattle.word_bits.specs.LockWords.{IsLawfulCount}
 use Rattle.lock_core.specs.declared.op.Op.TheVariants.{Load}
 use Rattle.lock_core.specs.declared.pass.Face.{Face}
@@ -13,7 +13,11 @@ use Rattle.rwsem_wake.specs.Grants.{sem_part}
 use Rattle.rwsem_wake.proofs.Holding.{holds-by, shared-holds, busy-held}
 use Rattle.rwsem_wake.proofs.Stepping.{count-holds}
 use Rattle.rwsem_wake.proofs.QueueSteps.{on-settle}
+use Rattle.lock_core.specs.Stores.{HasWord}
 use Rattle.rwsem_wake.proofs.queueing.settle.Goals as goal
+
+pub step-requires-clause-there : goal.step-requires-clause-there
+step-requires-clause-there g c = subst (HasWord (length c.args.site.now.table.shared.key)) (sym c.COUNT.ensures) (g.H.CountHost.count_there (length c.args.site.now.table.shared.key))
 
 pub step-requires-clause-lets : goal.step-requires-clause-lets
 step-requires-clause-lets g c = let k = c.args.site.now.table.shared.key in let v = c.args.pass.now.seat.me.0.view in let own = some-number c.args.pass.now.face.task c.requires.numbered in let t0 = own.0 in let has = sym c.requires.own.task ∙ own.1 in

@@ -1,4 +1,4 @@
-use Rattle.std.proofs.Common.{◌∙◌, ◌==◌, IsSome, sym, refl, ap, subst, arith, eq-eqb, ne_eqb}
+use Rattle.std.proofs.Common.{◌∙◌, ◌==◌, IsSome, sym, refl, ap, subst, arith, eq-eqb, ne_eqb, length}
 use Rattle.word_bits.specs.LockWords.{IsLawfulCount}
 use Rattle.lock_core.specs.declared.op.Op.TheVariants.{Exchange}
 use Rattle.lock_core.specs.declared.pass.Face.{Face}
@@ -14,7 +14,11 @@ use Rattle.rwsem_wake.specs.Duties.{exchanged}
 use Rattle.rwsem_wake.proofs.Holding.{holds-by, alone-holds, busy-held}
 use Rattle.rwsem_wake.proofs.Stepping.{count-holds}
 use Rattle.rwsem_wake.proofs.QueueSteps.{on-take}
+use Rattle.lock_core.specs.Stores.{HasWord}
 use Rattle.rwsem_wake.proofs.queueing.take.Goals as goal
+
+pub step-found-requires-clause-there : goal.step-found-requires-clause-there
+step-found-requires-clause-there g c = subst (HasWord (length c.args.site.now.table.shared.key)) (sym c.COUNT.ensures) (g.H.CountHost.count_there (length c.args.site.now.table.shared.key))
 
 pub step-found-requires-clause-lets : goal.step-found-requires-clause-lets
 step-found-requires-clause-lets g c = let k = c.args.site.now.table.shared.key in let v = c.args.pass.now.seat.me.0.view in let t0 = c.args.task in let has = sym c.requires.own.task ∙ c.requires.mine in

@@ -1,4 +1,4 @@
-use Rattle.std.proofs.Common.{◌∙◌, ◌+◌, ◌*◌, sym, ap, arith}
+use Rattle.std.proofs.Common.{◌∙◌, ◌+◌, ◌*◌, sym, ap, arith, length}
 use Rattle.lock_core.specs.declared.op.Op.TheVariants.{Store}
 use Rattle.lock_core.proofs.RowLaws.{none-some}
 use Rattle.lock_core.proofs.Sitting.{sits-on}
@@ -6,13 +6,18 @@ use Rattle.rwsem_wake.specs.Grants.{armed, anything}
 use Rattle.rwsem_wake.proofs.WakeKinds.{wakes-arm}
 use Rattle.rwsem_wake.proofs.Stepping.{grant-does}
 use Rattle.rwsem_wake.proofs.Waking.{on-arm}
+use Rattle.rwsem_wake.proofs.Having.{has-line}
+use Rattle.wait_list.proofs.Waiters.{task-of}
 use Rattle.rwsem_wake.proofs.steps.arm.Goals as goal
 
+pub step-requires-clause-there : goal.step-requires-clause-there
+step-requires-clause-there g c = has-line (length c.args.site.now.table.shared.key) 2 c.args.task g.H.GrantHost.GRANTS c.GRANTS.result c.args.site.now.small.tasks (omega arith) c.requires.task g.H.GrantHost.grants_row c.GRANTS.ensures
+
 pub step-requires-clause-lets : goal.step-requires-clause-lets
-step-requires-clause-lets g c = let k = c.args.site.now.table.shared.key in let v = c.args.pass.now.seat.me.0.view in let has = sym c.requires.own.task ∙ c.requires.mine in
+step-requires-clause-lets g c = let k = c.args.site.now.table.shared.key in let few = task-of _ _ c.args.site.now.small.tasks c.requires.task in let v = c.args.pass.now.seat.me.0.view in let has = sym c.requires.own.task ∙ c.requires.mine in
     grant-does g.H.O.Object.object g.H.SiteRule.unavailable g.H.O.Object.WORDS k g.H.SpinHost.LOCKS g.H.SpinHost.FIRST g.H.ListHost.LIST g.H.CountHost.COUNT g.H.GrantHost.MARKS g.H.GrantHost.GRANTS g.H.ListHost.list g.H.GrantHost.sem g.H.GrantHost.with_sem g.H.GrantHost.wake g.H.GrantHost.with_wake g.H.GrantHost.wake_same (g.H.SiteRule.holds k) (g.H.SiteRule.moves k) (g.H.ListHost.queue k) (g.met.H.SiteRule.site_kept k) (g.met.H.SpinHost.spin_kept k) (g.met.H.ListHost.queued k) (g.H.ListHost.list_kept k) g.met.H.GrantHost.sem_places (g.met.H.GrantHost.sem_kept k) (g.met.H.GrantHost.sem_only k) (g.met.H.GrantHost.sems k)
-    c.args.task c.requires.task _ _ _ _ (Store 1) (λ n. armed (g.H.GrantHost.sem v.ext)) anything (ap (λ n. n + 8 * c.args.task) c.GRANTS.ensures) c.requires.held (λ e. none-some c.args.task (sym e ∙ has))
-    (λ n q marks grants sees loc only. let t = on-arm sees _ _ _ n q marks grants loc only c.args.task has c.requires.rests.stage c.requires.rests.apart c.requires.task in (t.0, t.1, wakes-arm sees _ _ _ n q marks grants loc (g.H.GrantHost.wake v.ext) c.args.task has c.requires.rests.stage c.requires.rests.apart c.requires.task, tt))
+    c.args.task few _ _ _ _ (Store 1) (λ n. armed (g.H.GrantHost.sem v.ext)) anything (ap (λ n. n + 8 * c.args.task) c.GRANTS.ensures) c.requires.held (λ e. none-some c.args.task (sym e ∙ has))
+    (λ n q marks grants sees loc only. let t = on-arm sees _ _ _ n q marks grants loc only c.args.task has c.requires.rests.stage c.requires.rests.apart few in (t.0, t.1, wakes-arm sees _ _ _ n q marks grants loc (g.H.GrantHost.wake v.ext) c.args.task has c.requires.rests.stage c.requires.rests.apart few, tt))
 
 pub returns-clause-own : goal.returns-clause-own
 returns-clause-own g c = let turn = c.step.ensures.told.1 in

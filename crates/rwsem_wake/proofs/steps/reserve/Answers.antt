@@ -1,4 +1,4 @@
-use Rattle.std.proofs.Common.{◌∙◌, sym, ap, arith}
+use Rattle.std.proofs.Common.{◌∙◌, sym, ap, arith, subst, length}
 use Rattle.word_bits.specs.LockWords.{IsLawfulCount}
 use Rattle.lock_core.specs.declared.op.Op.TheVariants.{Add}
 use Rattle.lock_core.proofs.Sitting.{sits-on}
@@ -8,7 +8,11 @@ use Rattle.rwsem_wake.proofs.WakeKinds.{wakes-reserve}
 use Rattle.rwsem_wake.specs.Duties.{paid}
 use Rattle.rwsem_wake.proofs.Stepping.{count-stirs}
 use Rattle.rwsem_wake.proofs.Waking.{on-reserve}
+use Rattle.lock_core.specs.Stores.{HasWord}
 use Rattle.rwsem_wake.proofs.steps.reserve.Goals as goal
+
+pub step-requires-clause-there : goal.step-requires-clause-there
+step-requires-clause-there g c = subst (HasWord (length c.args.site.now.table.shared.key)) (sym c.COUNT.ensures) (g.H.CountHost.count_there (length c.args.site.now.table.shared.key))
 
 pub step-requires-clause-lets : goal.step-requires-clause-lets
 step-requires-clause-lets g c = let k = c.args.site.now.table.shared.key in let v = c.args.pass.now.seat.me.0.view in let own = some-number c.args.pass.now.face.task c.requires.numbered in let has = sym c.requires.own.task ∙ own.1 in

@@ -5,8 +5,12 @@ use Rattle.lock_core.specs.Pasts.{FoundAt, IsOwnStep, Tail}
 use Rattle.seq_fault.specs.declared.view.Watch.TheVariants.{Off}
 use Rattle.seq_fault.specs.Ruled.{V, seq_at}
 use Rattle.seq_fault.proofs.Sitting.{sits-saw}
+use Rattle.seq_fault.proofs.Having.{has-sequence}
 use Rattle.seq_fault.proofs.Stepping.{confirms}
 use Rattle.seq_fault.proofs.steps.confirm.Goals as goal
+
+pub step-after-requires-clause-there : goal.step-after-requires-clause-there
+step-after-requires-clause-there g c = has-sequence (length c.args.site.now.table.shared.key) c.args.site.now.small.tasks
 
 pub step-after-requires-clause-lets : goal.step-after-requires-clause-lets
 step-after-requires-clause-lets g c = confirms g.O.Object.object g.O.Object.WORDS c.args.site.now.table.shared.key _ _ _ c.requires.on.0 c.requires.on.1

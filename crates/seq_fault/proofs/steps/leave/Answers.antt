@@ -1,10 +1,14 @@
-use Rattle.std.proofs.Common.{◌∙◌, ap, subst, sym}
+use Rattle.std.proofs.Common.{◌∙◌, ap, subst, sym, length}
 use Rattle.lock_core.specs.declared.pass.Face.{Face}
 use Rattle.lock_core.specs.declared.view.Held.TheVariants.{No}
 use Rattle.lock_core.specs.Pasts.{IsOwnStep, Tail}
 use Rattle.seq_fault.proofs.Sitting.{sits-released}
+use Rattle.seq_fault.proofs.Having.{has-sequence}
 use Rattle.seq_fault.proofs.Stepping.{leaves}
 use Rattle.seq_fault.proofs.steps.leave.Goals as goal
+
+pub step-requires-clause-there : goal.step-requires-clause-there
+step-requires-clause-there g c = has-sequence (length c.args.site.now.table.shared.key) c.args.site.now.small.tasks
 
 pub step-requires-clause-lets : goal.step-requires-clause-lets
 step-requires-clause-lets g c = leaves g.O.Object.object g.O.Object.WORDS c.args.site.now.table.shared.key _ _ _ (sym c.requires.own.held ∙ c.requires.held) c.requires.quiet c.requires.own.stage

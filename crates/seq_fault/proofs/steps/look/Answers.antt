@@ -1,7 +1,11 @@
-use Rattle.std.proofs.Common.{arith, ap}
+use Rattle.std.proofs.Common.{arith, ap, length}
 use Rattle.lock_core.proofs.Sitting.{sits-on}
+use Rattle.seq_fault.proofs.Having.{has-sequence}
 use Rattle.seq_fault.proofs.Stepping.{peers}
 use Rattle.seq_fault.proofs.steps.look.Goals as goal
+
+pub step-requires-clause-there : goal.step-requires-clause-there
+step-requires-clause-there g c = has-sequence (length c.args.site.now.table.shared.key) c.args.site.now.small.tasks
 
 pub step-requires-clause-lets : goal.step-requires-clause-lets
 step-requires-clause-lets g c = peers g.O.Object.object g.O.Object.WORDS c.args.site.now.table.shared.key _ _ _

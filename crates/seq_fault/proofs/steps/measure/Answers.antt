@@ -1,8 +1,13 @@
-use Rattle.std.proofs.Common.{arith, ap}
+use Rattle.std.proofs.Common.{arith, ap, length}
 use Rattle.lock_core.proofs.Sitting.{sits-on}
 use Rattle.std.proofs.Common.{inl, inr}
+use Rattle.lock_core.proofs.Having.{has-site}
+use Rattle.lock_core.specs.declared.layout.TheConstants.{LENGTH_AT}
 use Rattle.seq_fault.proofs.Stepping.{measures}
 use Rattle.seq_fault.proofs.steps.measure.Goals as goal
+
+pub step-requires-clause-there : goal.step-requires-clause-there
+step-requires-clause-there g c = has-site (length c.args.site.now.table.shared.key) LENGTH_AT
 
 pub step-requires-clause-lets : goal.step-requires-clause-lets
 step-requires-clause-lets g c = measures g.O.Object.object g.O.Object.WORDS c.args.site.now.table.shared.key _ _ _ c.requires.on.0 c.requires.on.1

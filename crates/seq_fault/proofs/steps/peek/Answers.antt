@@ -1,8 +1,12 @@
-use Rattle.std.proofs.Common.{arith, ap}
+use Rattle.std.proofs.Common.{arith, ap, length}
 use Rattle.lock_core.proofs.Sitting.{sits-on}
 use Rattle.std.proofs.Common.{inl, inr}
+use Rattle.lock_core.proofs.Having.{has-site}
 use Rattle.seq_fault.proofs.Stepping.{peeks}
 use Rattle.seq_fault.proofs.steps.peek.Goals as goal
+
+pub step-requires-clause-there : goal.step-requires-clause-there
+step-requires-clause-there g c = has-site (length c.args.site.now.table.shared.key) c.args.at
 
 pub step-requires-clause-lets : goal.step-requires-clause-lets
 step-requires-clause-lets g c = peeks g.O.Object.object g.O.Object.WORDS c.args.site.now.table.shared.key _ _ c.args.at _ c.requires.on.0 g.met.O.Object.few_words c.requires.inside c.requires.on.1

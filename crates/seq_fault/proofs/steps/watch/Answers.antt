@@ -1,9 +1,13 @@
-use Rattle.std.proofs.Common.{◌%◌, arith, ap}
+use Rattle.std.proofs.Common.{◌%◌, arith, ap, length}
 use Rattle.lock_core.proofs.Sitting.{sits-on}
 use mathlib.Core.Logic.{dite}
 use native.Mathlib.Decide.{ℕ_discrete}
+use Rattle.seq_fault.proofs.Having.{has-sequence}
 use Rattle.seq_fault.proofs.Stepping.{watches}
 use Rattle.seq_fault.proofs.steps.watch.Goals as goal
+
+pub step-requires-clause-there : goal.step-requires-clause-there
+step-requires-clause-there g c = has-sequence (length c.args.site.now.table.shared.key) c.args.site.now.small.tasks
 
 pub step-requires-clause-lets : goal.step-requires-clause-lets
 step-requires-clause-lets g c = watches g.O.Object.object g.O.Object.WORDS c.args.site.now.table.shared.key _ _ _

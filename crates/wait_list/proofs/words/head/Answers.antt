@@ -1,13 +1,14 @@
-use Rattle.std.proofs.Common.{arith, ap}
+use Rattle.std.proofs.Common.{arith, ap, length}
 use Rattle.lock_core.proofs.Sitting.{sits-on}
-use Rattle.wait_list.proofs.Listing.{sights}
+use Rattle.wait_list.proofs.Listing.{has-list, sights}
 use Rattle.wait_list.proofs.words.head.Goals as goal
 
 pub step-requires : goal.step-requires
-step-requires g c = let k = c.args.site.now.table.shared.key in let s = g.H.ListHost.list_inside in let e = c.LIST.ensures in record {
+step-requires g c = let k = c.args.site.now.table.shared.key in let s = g.H.ListHost.list_inside in let e = c.LIST.ensures in let few = c.args.site.now.small.tasks in record {
   own = c.requires.own.own;
   inside = omega (arith, s, e);
-  lets = sights (g.H.SiteRule.holds k) (g.H.SiteRule.moves k) g.H.SpinHost.LOCKS g.H.SpinHost.FIRST g.H.ListHost.LIST g.H.ListHost.list g.H.ListHost.with_list g.H.ListHost.saw_first g.H.ListHost.may_change (g.H.ListHost.queue k) (g.met.H.SpinHost.spin_kept k) (g.met.H.ListHost.queued k) (g.H.ListHost.list_kept k) (g.H.ListHost.list_may k) (g.met.H.ListHost.lists k) (g.met.H.ListHost.firsts k) _ _ _ _ c.LIST.ensures;
+  there = has-list (length k) g.H.ListHost.LIST 0 _ few g.H.ListHost.list_room (omega arith) (omega (arith, e));
+  lets = sights (g.H.SiteRule.holds k) (g.H.SiteRule.moves k) g.H.SpinHost.LOCKS g.H.SpinHost.FIRST g.H.ListHost.LIST g.H.ListHost.list g.H.ListHost.with_list g.H.ListHost.saw_first g.H.ListHost.may_change (g.H.ListHost.queue k) (g.met.H.SpinHost.spin_kept k) (g.met.H.ListHost.queued k) (g.H.ListHost.list_kept k) (g.H.ListHost.list_may k) (g.met.H.ListHost.lists k) (g.met.H.ListHost.firsts k) k (g.H.ListHost.listed_few k) _ _ _ _ c.LIST.ensures;
 }
 
 pub returns-clause-own : goal.returns-clause-own

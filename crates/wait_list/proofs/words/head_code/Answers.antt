@@ -1,16 +1,20 @@
-use Rattle.std.proofs.Common.{arith, ap}
+use Rattle.std.proofs.Common.{arith, ap, length}
 use Rattle.lock_core.proofs.Sitting.{sits-on}
-use Rattle.wait_list.proofs.Listing.{finds-head}
+use Rattle.wait_list.proofs.Listing.{finds-head, has-list}
 use Rattle.wait_list.proofs.words.head_code.Goals as goal
 
 pub step-requires : goal.step-requires
-step-requires g c = let k = c.args.site.now.table.shared.key in let s = g.H.ListHost.list_inside in let e = c.LIST.ensures in record {
+step-requires g c = let k = c.args.site.now.table.shared.key in let s = g.H.ListHost.list_inside in let e = c.LIST.ensures in let few = c.args.site.now.small.tasks in record {
   own = c.requires.own.own;
   inside = omega (arith, s, e);
-  lets = finds-head (g.H.SiteRule.holds k) (g.H.SiteRule.moves k) g.H.SpinHost.LOCKS g.H.SpinHost.FIRST g.H.ListHost.LIST g.H.ListHost.list g.H.ListHost.with_list g.H.ListHost.saw_first g.H.ListHost.may_change (g.H.ListHost.queue k) (g.met.H.SpinHost.spin_kept k) (g.met.H.ListHost.queued k) (g.H.ListHost.list_kept k) (g.H.ListHost.list_may k) (g.met.H.ListHost.lists k) (g.met.H.ListHost.firsts k) _ _ _ _ c.LIST.ensures c.requires.held c.requires.still;
+  there = has-list (length k) g.H.ListHost.LIST 0 _ few g.H.ListHost.list_room (omega arith) (omega (arith, e));
+  lets = finds-head (g.H.SiteRule.holds k) (g.H.SiteRule.moves k) g.H.SpinHost.LOCKS g.H.SpinHost.FIRST g.H.ListHost.LIST g.H.ListHost.list g.H.ListHost.with_list g.H.ListHost.saw_first g.H.ListHost.may_change (g.H.ListHost.queue k) (g.met.H.SpinHost.spin_kept k) (g.met.H.ListHost.queued k) (g.H.ListHost.list_kept k) (g.H.ListHost.list_may k) (g.met.H.ListHost.lists k) (g.met.H.ListHost.firsts k) k (g.H.ListHost.listed_few k) _ _ _ _ c.requires.own.plan c.LIST.ensures c.requires.held c.requires.still;
 }
 
 pub returns-clause-own : goal.returns-clause-own
 returns-clause-own g c = let turn = c.step.ensures.told.1 in
     sits-on c.args.site.now.table.shared.key c.args.site.now.table.shared.table_id c.args.pass.now.seat.table_id c.step.new.pass.seat.table_id c.args.pass.now.seat.me c.step.new.pass.seat.me c.args.pass.now.face c.step.new.pass.face
     c.step.ensures.own.0 turn.1 (ap (λ v. v.hand) turn.0) (let n = ap (λ v. v.steps) turn.0 in omega (arith, n)) c.step.ensures.face c.requires.own
+
+pub returns-clause-small : goal.returns-clause-small
+returns-clause-small g c = c.step.ensures.told.0 c.args.site.now.table.shared.key c.requires.own.plan

@@ -1,13 +1,14 @@
-use Rattle.std.proofs.Common.{arith, ap, ◌+◌}
+use Rattle.std.proofs.Common.{arith, ap, length, ◌+◌}
 use Rattle.lock_core.proofs.Sitting.{sits-on}
-use Rattle.wait_list.proofs.Listing.{puts}
+use Rattle.wait_list.proofs.Listing.{has-list, puts}
 use Rattle.wait_list.proofs.words.store.Goals as goal
 
 pub step-requires : goal.step-requires
-step-requires g c = let k = c.args.site.now.table.shared.key in let s = g.H.ListHost.list_inside in let e = c.LIST.ensures in let i = c.requires.inside in record {
+step-requires g c = let k = c.args.site.now.table.shared.key in let s = g.H.ListHost.list_inside in let e = c.LIST.ensures in let i = c.requires.inside in let few = c.args.site.now.small.tasks in record {
   own = c.requires.own.own;
-  inside = omega (arith, s, e, i);
-  lets = puts (g.H.SiteRule.holds k) (g.H.SiteRule.moves k) g.H.SpinHost.LOCKS g.H.SpinHost.FIRST g.H.ListHost.LIST g.H.ListHost.list g.H.ListHost.with_list g.H.ListHost.saw_first g.H.ListHost.may_change (g.H.ListHost.queue k) (g.met.H.SpinHost.spin_kept k) (g.met.H.ListHost.queued k) (g.H.ListHost.list_kept k) (g.H.ListHost.list_may k) (g.met.H.ListHost.lists k) (g.met.H.ListHost.firsts k) _ _ _ c.args.at c.args.new _ g.L.StoreKind.change g.L.StoreKind.hand (ap (λ n. n + c.args.at) c.LIST.ensures) c.requires.inside c.requires.held c.requires.host c.requires.may;
+  inside = omega (arith, s, e, i, few);
+  there = has-list (length k) g.H.ListHost.LIST c.args.at _ few g.H.ListHost.list_room i (ap (λ n. n + c.args.at) e);
+  lets = puts (g.H.SiteRule.holds k) (g.H.SiteRule.moves k) g.H.SpinHost.LOCKS g.H.SpinHost.FIRST g.H.ListHost.LIST g.H.ListHost.list g.H.ListHost.with_list g.H.ListHost.saw_first g.H.ListHost.may_change (g.H.ListHost.queue k) (g.met.H.SpinHost.spin_kept k) (g.met.H.ListHost.queued k) (g.H.ListHost.list_kept k) (g.H.ListHost.list_may k) (g.met.H.ListHost.lists k) (g.met.H.ListHost.firsts k) k (g.H.ListHost.listed_few k) _ _ _ c.args.at c.args.new _ g.L.StoreKind.change g.L.StoreKind.hand (ap (λ n. n + c.args.at) c.LIST.ensures) (omega (arith, i, few)) c.requires.held c.requires.host c.requires.may;
 }
 
 pub returns-clause-own : goal.returns-clause-own

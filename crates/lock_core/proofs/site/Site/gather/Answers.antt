@@ -13,9 +13,12 @@ join_seat-requires g c = let k = c.args.self.now.table.shared.key in let w = c.a
       c.requires.others_own.own,
       c.requires.others_own.slots,
       omega (arith, w),
-      λ s r at apart there. let here = at_map view_of s.views _ _ at in let other = at_map view_of s.views _ _ (sym (set_else s.views _ _ _ apart) ∙ there) in
-          lived-join R.marks (opening R.marks k R.idle) (R.holds k) (R.moves k) s.words s.views _ _ _ _ _ _ at (sym (set_else s.views _ _ _ apart) ∙ there) r (l.joins k s.words (map view_of s.views) _ _ _ _ r.1 here apart other c.requires.rests (c.requires.other_rests.0, c.requires.other_rests.1, out)
-          (joins-kept O.object R.unavailable O.WORDS k R.rests (R.holds k) (R.moves k) R.word_at (l.site_kept k) (l.sites k) R.idle s.words (map view_of s.views) _ _ _ _ r.1 here apart other c.requires.rests.0.0 c.requires.other_rests.0.0 out) (join-moves _ _ _ (map view_of s.views) _ _ R.idle here apart other c.requires.other_rests.0 out)),
+      λ s r at apart there. let here = at_map view_of s.views _ _ at in let other = at_map view_of s.views _ _ (sym (set_else s.views _ _ _ apart) ∙ there) in (
+        r.0,
+        r.1,
+        lived-join R.marks (opening R.marks k R.idle) (R.holds k) (R.moves k) r.0 s.views _ _ _ _ _ _ at (sym (set_else s.views _ _ _ apart) ∙ there) r.2 (l.joins k r.0 (map view_of s.views) _ _ _ _ r.2.1 here apart other c.requires.rests (c.requires.other_rests.0, c.requires.other_rests.1, out)
+            (joins-kept O.object R.unavailable O.WORDS k R.rests (R.holds k) (R.moves k) R.word_at (l.site_kept k) (l.sites k) R.idle r.0 (map view_of s.views) _ _ _ _ r.2.1 here apart other c.requires.rests.0.0 c.requires.other_rests.0.0 out) (join-moves _ _ _ (map view_of s.views) _ _ R.idle here apart other c.requires.other_rests.0 out)),
+      ),
     )
 
 pub returns-clause-goes_on : goal.returns-clause-goes_on

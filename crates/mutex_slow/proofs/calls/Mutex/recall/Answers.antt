@@ -1,4 +1,4 @@
-use Rattle.std.proofs.Common.{◌≡◌, ◌∙◌, refl, ap, subst, sym}
+use Rattle.std.proofs.Common.{◌≡◌, ◌∙◌, refl, ap, subst, sym, length}
 use Rattle.word_bits.specs.LockWords.{owned}
 use Rattle.lock_core.specs.Layout.{site}
 use Rattle.lock_core.specs.Records.{bit}
@@ -61,9 +61,9 @@ returns-clause-lists g c = let k = c.args.self.now.site.table.shared.key in let 
 
 pub returns-clause-wait_lock : goal.returns-clause-wait_lock
 returns-clause-wait_lock g c = let k = c.args.self.now.site.table.shared.key in let o = g.O.Object.object in let n = g.O.Object.WORDS in let own = c.recall.ensures.last in
-    each-lock standing (Kept o n k) (MutexMoves k) 1 wait_lock_at (mutex-spin o n k) (λ ws vs h. numbers o owned n k (site k ws) vs (mutex-site o n k ws vs h)) (newest k) own.now own.before own.rest _ own.past_is c.recall.ensures.run
+    each-lock standing (Kept o n k) (MutexMoves k) 1 (length k) wait_lock_at (mutex-spin o n k) (λ ws vs h. numbers o owned n k (site k ws) vs (mutex-site o n k ws vs h)) (newest k) own.now own.before own.rest _ own.past_is c.recall.ensures.run
 
 pub returns-clause-wait_moves : goal.returns-clause-wait_moves
 returns-clause-wait_moves g c = let k = c.args.self.now.site.table.shared.key in let o = g.O.Object.object in let n = g.O.Object.WORDS in
-    each-move standing (Kept o n k) (MutexMoves k) 1 wait_lock_at (λ id ws us vs vs' m. m.spin)
+    each-move standing (Kept o n k) (MutexMoves k) 1 (length k) wait_lock_at (λ id ws us vs vs' m. m.spin)
     (λ id ws us vs vs' _ m. counts-spin id (owner_in ws) (site k ws) (site k us) vs vs' m.site) (newest k) _ c.recall.ensures.run

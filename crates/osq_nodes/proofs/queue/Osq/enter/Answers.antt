@@ -18,10 +18,10 @@ pub overflow_cast-prev : goal.overflow_cast-prev
 overflow_cast-prev c = let few = c.args.self.now.site.small.tasks in let f = c.if-found-eq0.false in let e : c.swap_tail-found.result ≡ suc (c.swap_tail-found.result - 1) = omega (arith, f) in let s = c.swap_tail-found.ensures.code (c.swap_tail-found.result - 1) e in omega (arith, s, few)
 
 pub link-requires-clause-there : goal.link-requires-clause-there
-link-requires-clause-there c = let few = c.args.self.now.site.small.tasks in let f = c.if-found-eq0.false in let e : c.swap_tail-found.result ≡ suc (c.swap_tail-found.result - 1) = omega (arith, f) in let s = c.swap_tail-found.ensures.code (c.swap_tail-found.result - 1) e in omega (arith, s, few)
+link-requires-clause-there c = let f = c.if-found-eq0.false in let e : c.swap_tail-found.result ≡ suc (c.swap_tail-found.result - 1) = omega (arith, f) in c.swap_tail-found.ensures.code (c.swap_tail-found.result - 1) e
 
 pub returns-clause-there : goal.returns-clause-there
-returns-clause-there c = let few = c.args.self.now.site.small.tasks in let f = c.if-found-eq0.false in let e : c.swap_tail-found.result ≡ suc (c.swap_tail-found.result - 1) = omega (arith, f) in let s = c.swap_tail-found.ensures.code (c.swap_tail-found.result - 1) e in omega (arith, s, few)
+returns-clause-there c = let f = c.if-found-eq0.false in let e : c.swap_tail-found.result ≡ suc (c.swap_tail-found.result - 1) = omega (arith, f) in c.swap_tail-found.ensures.code (c.swap_tail-found.result - 1) e
 
 pub returns-clause-found : goal.returns-clause-found
 returns-clause-found c = let swapped = ap (λ (v : V). v.ext.found) c.swap_tail-found.ensures.kept ∙ swap-found c.clear_next.new.pass.pass.seat.me.0.view c.swap_tail-found.result in

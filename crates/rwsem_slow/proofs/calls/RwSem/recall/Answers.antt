@@ -1,4 +1,4 @@
-use Rattle.std.proofs.Common.{◌≡◌, ◌∙◌, refl, sym, ap, subst}
+use Rattle.std.proofs.Common.{◌≡◌, ◌∙◌, length, refl, sym, ap, subst}
 use mathlib.Core.Option.{some}
 use Rattle.word_bits.specs.LockWords.{counted}
 use Rattle.lock_core.specs.Kinds.{semaphore}
@@ -65,8 +65,8 @@ returns-clause-lists g c = let k = c.args.self.now.site.table.shared.key in let 
 
 pub returns-clause-wait_lock : goal.returns-clause-wait_lock
 returns-clause-wait_lock g c = let k = c.args.self.now.site.table.shared.key in let o = g.O.Object.object in let n = g.O.Object.WORDS in let own = c.recall.ensures.last in
-    each-lock standing (Kept o n k) (RwSemMoves k) 1 wait_lock_at (sem-spin o n k) (λ ws vs h. numbers o counted n k (site k ws) vs (sem-site o n k ws vs h)) (newest k) own.now own.before own.rest _ own.past_is c.recall.ensures.run
+    each-lock standing (Kept o n k) (RwSemMoves k) 1 (length k) wait_lock_at (sem-spin o n k) (λ ws vs h. numbers o counted n k (site k ws) vs (sem-site o n k ws vs h)) (newest k) own.now own.before own.rest _ own.past_is c.recall.ensures.run
 
 pub returns-clause-wait_moves : goal.returns-clause-wait_moves
 returns-clause-wait_moves g c = let k = c.args.self.now.site.table.shared.key in let o = g.O.Object.object in let n = g.O.Object.WORDS in
-    each-move standing (Kept o n k) (RwSemMoves k) 1 wait_lock_at (λ id ws us vs vs' m. m.spin) (λ id ws us vs vs' h m. let s = m.site in (s.before, s.after, s.at, s.at', s.moved.spin)) (newest k) _ c.recall.ensures.run
+    each-move standing (Kept o n k) (RwSemMoves k) 1 (length k) wait_lock_at (λ id ws us vs vs' m. m.spin) (λ id ws us vs vs' h m. let s = m.site in (s.before, s.after, s.at, s.at', s.moved.spin)) (newest k) _ c.recall.ensures.run
