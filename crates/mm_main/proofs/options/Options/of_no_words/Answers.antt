@@ -1,5 +1,0 @@
-use Rattle.mm_main.proofs.CommandLines.{no_words}
-use Rattle.mm_main.proofs.options.Options.of_no_words.Goals as goal
-
-pub returns : goal.returns
-returns c = no_words

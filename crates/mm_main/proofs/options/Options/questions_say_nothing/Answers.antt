@@ -1,6 +1,0 @@
--- The lemma is the law.
-use Rattle.mm_main.proofs.CommandLines.{questions_say_nothing as law}
-use Rattle.mm_main.proofs.options.Options.questions_say_nothing.Goals as goal
-
-pub returns : goal.returns
-returns c = law

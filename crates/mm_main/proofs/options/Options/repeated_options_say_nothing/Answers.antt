@@ -1,6 +1,0 @@
--- The lemma is the law.
-use Rattle.mm_main.proofs.CommandLines.{repeated_options_say_nothing as law}
-use Rattle.mm_main.proofs.options.Options.repeated_options_say_nothing.Goals as goal
-
-pub returns : goal.returns
-returns c = law

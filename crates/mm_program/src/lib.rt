@@ -1,0 +1,16 @@
+//! The program over any source and sink: reads a script of tasks, does them at once, each on a thread
+//! of its own, and writes for each object one history with every reply and the state that it leaves.
+#![tactic(auto)]
+
+mod input;
+mod objects;
+mod options;
+mod program;
+mod run;
+mod status;
+mod threads;
+
+pub use objects::ScriptMachine;
+pub use program::top;
+pub use run::run_to_end;
+pub use status::Status;

@@ -1,0 +1,264 @@
+//! The program over any source and sink.
+ghost use Rattle.std.specs.Prelude.{◌≡◌, ◌≢◌, ◌≤◌, ◌+◌, None, false, length, true};
+ghost use Rattle.std.specs.Io.KnownBytes.{IsAtEnd};
+ghost use Rattle.task_script.specs.Generated.{generated};
+ghost use Rattle.task_script.specs.Grammar.{script_of};
+ghost use Rattle.mm_program.specs.CommandLine.{asks_help, said_by};
+ghost use Rattle.mm_program.specs.Requests.{helped, misused, refused, accepted, reads_input, reason_text};
+ghost use Rattle.mm_program.specs.Requests.{request, request_of};
+ghost use Rattle.mm_program.specs.Answers.{AnswersTo, CompletesTo, NoService, SaysTo, TakesAtMost};
+ghost use Rattle.mm_program.specs.Answers.{read_faults, write_faults};
+ghost use Rattle.mm_program.specs.Kept.{HasServed};
+
+use crate::input::{InputError, read_all};
+use crate::objects::ScriptMachine;
+use crate::options::{Options, OptionsError, asks_help};
+use crate::status::Status;
+use crate::threads::run_on_threads;
+use cpu_task::{Crew, Gate};
+use mm_serve::{SpaceLock, TableLock};
+use std::alloc::{AllocError, Global};
+use std::sync::Wait;
+use std::thread::Threads;
+use task_script::{Outbox, Reason, ScriptError, Sink, Source, generate, put, read};
+
+const USAGE: &[u8] = b"usage: mm_main [--spin N] [--overdue N] [--generate N] [--summary]\n";
+
+const HELP: &[u8] = b"usage: mm_main [--spin N] [--overdue N] [--generate N] [--summary] < SCRIPT\n\
+    Does the tasks of a script at once and prints a history of each object.\n\
+    \x20 --summary     one line for each object in place of its history\n\
+    \x20 --generate N  a script that is made from N; none is read\n\
+    \x20 --spin N      how often a CPU is asked before a spin ends, 100\n\
+    \x20 --overdue N   how often before a wait is too long, 4\n\
+    A script: space a; task; a map 16 4 rw-; a fault 17 w; a line end for each ;\n\
+    Status: 0 done, 2 misuse, 3 refused line, 4 no input, 5 no output, 6 no memory\n";
+
+fn help<K: Sink>(sink: &mut K) -> Status
+    ensures says { SaysTo K.faults K.written sink.old sink.new NoService None helped result }
+    ensures served { result ≢ Status.NoMemory }
+    ensures faults { K.faults sink.new ≡ write_faults result (K.faults sink.old) }
+{
+    match put(sink, HELP) {
+        Ok(()) => Status::Done,
+        Err(_) => Status::WriteFault,
+    }
+}
+
+fn usage<K: Sink>(sink: &mut K) -> Status
+    ensures says { SaysTo K.faults K.written sink.old sink.new NoService None misused result }
+    ensures faults { K.faults sink.new ≡ write_faults result (K.faults sink.old) }
+{
+    match put(sink, USAGE) {
+        Ok(()) => Status::Usage,
+        Err(_) => Status::WriteFault,
+    }
+}
+
+fn reason_name(reason: Reason) -> &'static [u8]
+    ensures text { result.now ≡ reason_text reason }
+    ensures short { length result.now ≤ 7 }
+{
+    match reason {
+        Reason::TooLong => b"TooLong",
+        Reason::Byte => b"Byte",
+        Reason::Version => b"Version",
+        Reason::Words => b"Words",
+        Reason::Place => b"Place",
+        Reason::Name => b"Name",
+        Reason::Twice => b"Twice",
+        Reason::Limit => b"Limit",
+        Reason::Unknown => b"Unknown",
+        Reason::Call => b"Call",
+        Reason::Mode => b"Mode",
+        Reason::Number => b"Number",
+        Reason::Prot => b"Prot",
+        Reason::Access => b"Access",
+    }
+}
+
+fn refuse<K: Sink>(line: u32, reason: Reason, sink: &mut K) -> Status
+    ensures says { SaysTo K.faults K.written sink.old sink.new NoService None
+        (refused record { line = line; reason = reason }) result }
+    ensures faults { K.faults sink.new ≡ write_faults result (K.faults sink.old) }
+{
+    let mut out = Outbox::new();
+    out.add(b"refused ");
+    out.add_number(u64::from(line));
+    out.add(b" ");
+    out.add(reason_name(reason));
+    out.add(b"\n");
+    match out.flush(sink) {
+        Ok(()) => Status::Refused,
+        Err(_) => Status::WriteFault,
+    }
+}
+
+fn answer<
+    A: SpaceLock + Drop + Sync,
+    T: TableLock + Drop + Sync,
+    K: Sink,
+    R: Threads + Wait + Sync,
+    C: Crew + Sync,
+    G: Gate + Sync,
+>(
+    rt: &R,
+    alloc: Global,
+    input: &[u8],
+    options: &Options,
+    sink: &mut K,
+    crew: &mut C,
+    gate: &G,
+    kept: &mut Option<ScriptMachine<A, T, C>>,
+) -> Status
+where
+    A::Pass: Send,
+    T::Pass: Send,
+    C::C: Send,
+    requires { kept.old ≡ None }
+    ensures says { SaysTo K.faults K.written sink.old sink.new
+        (HasServed A.SleepLock T.SleepLock) kept.new
+        (request_of options.now.summary (script_of input.now)) result }
+    ensures faults { K.faults sink.new ≡ write_faults result (K.faults sink.old) }
+{
+    match read(alloc, input) {
+        Ok(script) => run_on_threads(rt, alloc, &script, options, sink, crew, gate, kept),
+        Err(ScriptError::Refused { line, reason }) => refuse(line, reason, sink),
+        Err(ScriptError::Memory) => Status::NoMemory,
+    }
+}
+
+// Answers the script of a number.
+fn answer_generated<
+    A: SpaceLock + Drop + Sync,
+    T: TableLock + Drop + Sync,
+    K: Sink,
+    R: Threads + Wait + Sync,
+    C: Crew + Sync,
+    G: Gate + Sync,
+>(
+    rt: &R,
+    alloc: Global,
+    number: u32,
+    options: &Options,
+    sink: &mut K,
+    crew: &mut C,
+    gate: &G,
+    kept: &mut Option<ScriptMachine<A, T, C>>,
+) -> Status
+where
+    A::Pass: Send,
+    T::Pass: Send,
+    C::C: Send,
+    requires { kept.old ≡ None }
+    ensures says { SaysTo K.faults K.written sink.old sink.new
+        (HasServed A.SleepLock T.SleepLock) kept.new
+        (accepted options.now.summary (generated number)) result }
+    ensures faults { K.faults sink.new ≡ write_faults result (K.faults sink.old) }
+{
+    match generate(alloc, number) {
+        Ok(script) => run_on_threads(rt, alloc, &script, options, sink, crew, gate, kept),
+        Err(AllocError) => Status::NoMemory,
+    }
+}
+
+// Answers the script that the source gives.
+fn answer_input<
+    A: SpaceLock + Drop + Sync,
+    T: TableLock + Drop + Sync,
+    S: Source,
+    K: Sink,
+    R: Threads + Wait + Sync,
+    C: Crew + Sync,
+    G: Gate + Sync,
+>(
+    rt: &R,
+    alloc: Global,
+    options: &Options,
+    source: &mut S,
+    sink: &mut K,
+    crew: &mut C,
+    gate: &G,
+    kept: &mut Option<ScriptMachine<A, T, C>>,
+) -> Status
+where
+    A::Pass: Send,
+    T::Pass: Send,
+    C::C: Send,
+    requires { kept.old ≡ None }
+    ensures answer { AnswersTo S.left S.faults K.faults K.written source.old source.new
+        sink.old sink.new (HasServed A.SleepLock T.SleepLock) kept.new
+        (λ input. request_of options.now.summary (script_of input)) result }
+    ensures read_faults { S.faults source.new ≡ read_faults result (S.faults source.old) }
+    ensures write_faults { K.faults sink.new ≡ write_faults result (K.faults sink.old) }
+    ensures taken { TakesAtMost 1048577 (S.left source.old) (S.left source.new) }
+    ensures few_reads { S.gave source.new ≤ S.gave source.old + 1048577 }
+    ensures one_end { S.ended source.new ≤ S.ended source.old + 1 }
+    ensures whole { result ≡ Status.Done → IsAtEnd (S.left source.new) }
+{
+    match read_all(alloc, source) {
+        Ok(input) => answer(rt, alloc, input.as_slice(), options, sink, crew, gate, kept),
+        Err(InputError::Memory) => Status::NoMemory,
+        Err(InputError::Failed) => Status::ReadFault,
+    }
+}
+
+/// Reads a script from the source, or generates one, does its tasks at once, each on a thread of
+/// its own, and writes their histories to the sink, or the summary. `kept` has the machine that
+/// did them then. Where no machine ran nothing is kept.
+///
+/// `words` are the words of the command line after the program's name. Where they ask how to use
+/// the program, that is written, and nothing is read or done. No memory is taken once the
+/// first task has begun. Where a thread can't be made its task is done after another's, on that
+/// one's thread, so tasks that wait for each other can then wait for good.
+pub fn top<
+    A: SpaceLock + Drop + Sync,
+    T: TableLock + Drop + Sync,
+    S: Source,
+    K: Sink,
+    R: Threads + Wait + Sync,
+    C: Crew + Sync,
+    G: Gate + Sync,
+>(
+    rt: &R,
+    alloc: Global,
+    words: &[String],
+    source: &mut S,
+    sink: &mut K,
+    crew: &mut C,
+    gate: &G,
+    kept: &mut Option<ScriptMachine<A, T, C>>,
+) -> Status
+where
+    A::Pass: Send,
+    T::Pass: Send,
+    C::C: Send,
+    requires { kept.old ≡ None }
+    ensures answer { AnswersTo S.left S.faults K.faults K.written source.old source.new
+        sink.old sink.new (HasServed A.SleepLock T.SleepLock) kept.new
+        (request (asks_help words.now) (said_by words.now)) result }
+    ensures helps { asks_help words.now ≡ true → result ≢ Status.NoMemory }
+    ensures complete { CompletesTo S.left S.faults K.faults K.written source.old source.new
+        sink.old sink.new (HasServed A.SleepLock T.SleepLock) kept.new
+        (said_by words.now) result }
+    ensures read_faults { S.faults source.new ≡ read_faults result (S.faults source.old) }
+    ensures write_faults { K.faults sink.new ≡ write_faults result (K.faults sink.old) }
+    ensures taken { TakesAtMost 1048577 (S.left source.old) (S.left source.new) }
+    ensures unread { reads_input (said_by words.now) ≡ false → source.new ≡ source.old }
+    ensures few_reads { S.gave source.new ≤ S.gave source.old + 1048577 }
+    ensures one_end { S.ended source.new ≤ S.ended source.old + 1 }
+    ensures whole { result ≡ Status.Done → reads_input (said_by words.now) ≡ true →
+        IsAtEnd (S.left source.new) }
+{
+    if asks_help(words) {
+        return help(sink);
+    }
+    let options = match Options::read(alloc, words) {
+        Ok(options) => options,
+        Err(OptionsError::Misused) => return usage(sink),
+        Err(OptionsError::Memory) => return Status::NoMemory,
+    };
+    match options.generate {
+        Some(number) => answer_generated(rt, alloc, number, &options, sink, crew, gate, kept),
+        None => answer_input(rt, alloc, &options, source, sink, crew, gate, kept),
+    }
+}

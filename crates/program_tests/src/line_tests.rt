@@ -1,0 +1,24 @@
+//! A command line that couldn't be read for want of memory.
+use fd_table::Fds;
+use guarded::{Mutex, RwSem};
+use mm_program::{Status, run_to_end};
+use std::io;
+use std::test::Fail;
+use task_script::{MemSink, MemSource};
+use vma_map::Areas;
+
+#[test]
+fn ends_with_no_memory_where_the_line_had_none(rt: HostRuntime) -> Result<(), Fail> {
+    let mut source = MemSource::new(rt.alloc(), b"space a\n", 8, &[])?;
+    let mut sink = MemSink::new(rt.alloc(), 1000, 1000, &[])?;
+    let (status, _) = run_to_end::<RwSem<Areas>, Mutex<Fds>, _, _, _>(
+        &rt,
+        rt.alloc(),
+        Err(io::Error::from(io::ErrorKind::OutOfMemory)),
+        &mut source,
+        &mut sink,
+    );
+    assert_eq!(rt; status, Status::NoMemory);
+    assert_eq!(rt; sink.written(), b"".as_slice());
+    Ok(())
+}
