@@ -148,10 +148,10 @@ fn exit_code(status: Status) -> ExitCode
 /// another, scripts have at most `MAX_TASKS` tasks, and their threads park. Answers how it ended, and
 /// the exit code that says so.
 ///
-/// `line` is the whole command line, its first word the program's name. Where a word isn't text or
-/// the line couldn't be read, it is no command line (`Status::Usage`); where there was no memory for
-/// it, the status is `Status::NoMemory`. The machine isn't kept, so of it no more is said than that
-/// what was told are legal histories.
+/// `line` is the whole command line, its first word the program's name. A line with a word that isn't
+/// text, or that couldn't be read, is misuse (`Status::Usage`), but for one that there was no memory
+/// for (`Status::NoMemory`). The machine isn't kept, so of it no more is said than that what was told
+/// are legal histories.
 pub fn run_to_end<
     A: SpaceLock + Drop + Sync,
     T: TableLock + Drop + Sync,
