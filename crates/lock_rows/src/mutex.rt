@@ -1,9 +1,7 @@
 //! Tests of a mutex without an object.
 mod handoff_tests;
-mod how_tests;
 mod interrupt_tests;
 mod lockers;
+mod release_tests;
 mod thread_tests;
-mod wake_tests;
-pub mod watched;
 mod word_tests;

@@ -1,8 +1,8 @@
 //! What a third task is told while a mutex is handed over on threads.
 ghost use Rattle.mutex_slow.specs.Standing.{IsHolder, IsReady};
 
-use super::lockers::{Held, NO_TURNS, how_it_locks, open_held};
-use super::watched::{Watch, WatchedCrew, await_count};
+use super::lockers::{Three, lock_and_count, open_held};
+use crate::watched::{NO_TURNS, Watch, WatchedCrew, await_count};
 use cpu_task::Crew;
 use lock_core::{How, Nothing};
 use mutex_slow::{Mutex, MutexPass};
@@ -70,17 +70,18 @@ fn wait_and_hand_over<R: Threads + Wait + Sync, C: Crew<C: Send> + Sync>(
     ensures { IsReady mutex.now result.1 }
 {
     let (holder, waiter, other) = passes;
-    let (how, seen) = join(
+    let (locked, seen) = join(
         rt,
-        || -> How
+        || -> (How, u64)
             requires { IsReady mutex.now waiter }
-        { how_it_locks(rt, mutex, crew, cpu, waiter) },
+        { lock_and_count(rt, mutex, crew, cpu, waiter) },
         || -> (MutexPass<Nothing>, [Result<(), u64>; 3])
             requires holder { IsHolder mutex.now holder }
             requires other { IsReady mutex.now other }
             ensures { IsReady mutex.entry.now result.0 }
         { hand_over(rt, mutex, crew, watch, holder, other) },
     );
+    let (how, _dozes) = locked;
     let (pass, words) = seen;
     (how, pass, words)
 }
@@ -88,7 +89,7 @@ fn wait_and_hand_over<R: Threads + Wait + Sync, C: Crew<C: Send> + Sync>(
 // A word has the flags waiters 1, handoff 2 and pickup 4, and 8 times the task's number plus 1.
 #[test]
 fn a_third_task_is_told_of_the_handoff(rt: HostRuntime) -> Result<(), Fail> {
-    let Held {
+    let Three {
         mutex,
         holder,
         waiter,

@@ -4,14 +4,14 @@ ghost use Rattle.std.specs.Prelude.{◌≡◌, None};
 ghost use Rattle.mutex_slow.specs.Handles.{hand_in};
 ghost use Rattle.mutex_slow.specs.Standing.{IsReady};
 
-use super::lockers::NO_TURNS;
-use super::watched::{Watch, WatchedCrew};
+use super::lockers::{Three, open_free};
+use crate::watched::{NO_TURNS, Watch, WatchedCrew};
 use cpu_task::Crew;
-use lock_core::{Interrupted, Nothing, Plan};
+use lock_core::{Interrupted, Nothing};
 use mutex_slow::{Mutex, MutexPass};
 use std::sync::atomic::Ordering;
 use std::test::Fail;
-use word_bits::{CallWords, MAX_TASKS};
+use word_bits::MAX_TASKS;
 
 /// Sends the signal that the next call of the pass's task is, and answers its target. `None` where
 /// that call is no signal to a task.
@@ -37,14 +37,12 @@ fn send(mutex: &Mutex<Nothing>, pass: &mut MutexPass<Nothing>) -> Option<u32>
 fn a_signal_that_came_before_ends_the_wait_without_a_sleep_and_nobody_waits_then(
     rt: HostRuntime,
 ) -> Result<(), Fail> {
-    let mut plan = Plan::new(rt.alloc(), 3)?;
-    plan.push(0, CallWords { a: 1, b: 15 })?;
-    let (mutex, mut holder) = Mutex::<Nothing>::open(rt.alloc(), plan)?;
-    let mut waiter = mutex.split(&mut holder);
-    let mut other = mutex.split(&mut holder);
-    mutex.begin(&rt, &mut holder, 0);
-    mutex.begin(&rt, &mut waiter, 1);
-    mutex.begin(&rt, &mut other, 2);
+    let Three {
+        mutex,
+        mut holder,
+        mut waiter,
+        mut other,
+    } = open_free(&rt, rt.alloc())?;
     let watch = Watch::default();
     let mut crew = WatchedCrew { watch: &watch };
     let mut cpu = crew.cpu(rt.alloc(), 1, NO_TURNS)?;

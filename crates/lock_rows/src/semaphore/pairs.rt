@@ -3,18 +3,11 @@ ghost use Rattle.std.specs.Prelude.{◌≡◌, IfOk, None};
 ghost use Rattle.rwsem_slow.specs.Handles.{hand_in};
 ghost use Rattle.rwsem_slow.specs.Standing.{IsReady};
 
-use cpu_task::{Crew, Turns};
-use lock_core::{How, Nothing, Plan};
+use lock_core::{Nothing, Plan};
 use rwsem_slow::{RwPass, RwSem};
 use std::alloc::{AllocError, Global};
 use std::sync::Wait;
 use word_bits::CallWords;
-
-/// A task doesn't spin.
-pub const NO_TURNS: Turns = Turns {
-    spin: 0,
-    overdue: 0,
-};
 
 /// How a task takes a semaphore.
 #[derive(Clone, Copy, Debug, PartialEq, Eq)]
@@ -50,22 +43,4 @@ pub fn open_pair(rt: &impl Wait, alloc: Global) -> Result<Pair, AllocError>
         holder,
         waiter,
     })
-}
-
-/// How the pass's task gets the semaphore in this way, and how often it has fallen asleep then.
-pub fn take_and_count<W: Wait, C: Crew>(
-    rt: &W,
-    sem: &RwSem<Nothing>,
-    crew: &C,
-    mut cpu: C::C,
-    mut pass: RwPass<Nothing>,
-    way: Way,
-) -> (How, u64)
-    requires { IsReady sem.now pass }
-{
-    let how = match way {
-        Way::Shared => sem.down_read(rt, &mut pass, &mut cpu, crew),
-        Way::Alone => sem.down_write(rt, &mut pass, &mut cpu, crew),
-    };
-    (how, pass.dozes())
 }

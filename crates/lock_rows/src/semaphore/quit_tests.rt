@@ -4,8 +4,8 @@ ghost use Rattle.std.specs.Prelude.{◌≡◌, None};
 ghost use Rattle.rwsem_slow.specs.Handles.{hand_in};
 ghost use Rattle.rwsem_slow.specs.Standing.{IsReady};
 
-use super::pairs::{NO_TURNS, Pair, open_pair};
-use crate::mutex::watched::{Watch, WatchedCrew};
+use super::pairs::{Pair, Way, open_pair};
+use crate::watched::{NO_TURNS, Watch, WatchedCrew};
 use cpu_task::Crew;
 use lock_core::{Interrupted, Nothing};
 use rwsem_slow::{RwPass, RwSem};
@@ -34,47 +34,27 @@ fn send(sem: &RwSem<Nothing>, pass: &mut RwPass<Nothing>) -> Option<u32>
 }
 
 #[test]
-fn a_reader_that_a_signal_ended_is_woken_by_nobody(rt: HostRuntime) -> Result<(), Fail> {
-    let Pair {
-        sem,
-        mut holder,
-        mut waiter,
-    } = open_pair(&rt, rt.alloc())?;
-    let watch = Watch::default();
-    let mut crew = WatchedCrew { watch: &watch };
-    let mut cpu = crew.cpu(rt.alloc(), 1, NO_TURNS)?;
-    assert_eq!(rt; send(&sem, &mut holder), Some(1));
-    assert!(rt; sem.down_write_trylock(&mut holder).is_ok());
-    assert_eq!(rt;
-        sem.down_read_interruptible(&rt, &mut waiter, &mut cpu, &crew),
-        Err(Interrupted { sent: 1, taken: 0 })
-    );
-    assert_eq!(rt; watch.sleeps.load(Ordering::SeqCst), 0);
-    sem.up_write(&rt, &mut holder, &crew);
-    assert_eq!(rt; holder.wakes(), 0);
-    assert_eq!(rt; waiter.dozes(), 0);
-    Ok(())
-}
-
-#[test]
-fn a_writer_that_a_signal_ended_is_woken_by_nobody(rt: HostRuntime) -> Result<(), Fail> {
-    let Pair {
-        sem,
-        mut holder,
-        mut waiter,
-    } = open_pair(&rt, rt.alloc())?;
-    let watch = Watch::default();
-    let mut crew = WatchedCrew { watch: &watch };
-    let mut cpu = crew.cpu(rt.alloc(), 1, NO_TURNS)?;
-    assert_eq!(rt; send(&sem, &mut holder), Some(1));
-    assert!(rt; sem.down_write_trylock(&mut holder).is_ok());
-    assert_eq!(rt;
-        sem.down_write_interruptible(&rt, &mut waiter, &mut cpu, &crew),
-        Err(Interrupted { sent: 1, taken: 0 })
-    );
-    assert_eq!(rt; watch.sleeps.load(Ordering::SeqCst), 0);
-    sem.up_write(&rt, &mut holder, &crew);
-    assert_eq!(rt; holder.wakes(), 0);
-    assert_eq!(rt; waiter.dozes(), 0);
+fn a_task_that_a_signal_ended_is_woken_by_nobody(rt: HostRuntime) -> Result<(), Fail> {
+    for way in [Way::Shared, Way::Alone] {
+        let Pair {
+            sem,
+            mut holder,
+            mut waiter,
+        } = open_pair(&rt, rt.alloc())?;
+        let watch = Watch::default();
+        let mut crew = WatchedCrew { watch: &watch };
+        let mut cpu = crew.cpu(rt.alloc(), 1, NO_TURNS)?;
+        assert_eq!(rt; send(&sem, &mut holder), Some(1), "{way:?}");
+        assert!(rt; sem.down_write_trylock(&mut holder).is_ok(), "{way:?}");
+        let ended = match way {
+            Way::Shared => sem.down_read_interruptible(&rt, &mut waiter, &mut cpu, &crew),
+            Way::Alone => sem.down_write_interruptible(&rt, &mut waiter, &mut cpu, &crew),
+        };
+        assert_eq!(rt; ended, Err(Interrupted { sent: 1, taken: 0 }), "{way:?}");
+        assert_eq!(rt; watch.sleeps.load(Ordering::SeqCst), 0, "{way:?}");
+        sem.up_write(&rt, &mut holder, &crew);
+        assert_eq!(rt; holder.wakes(), 0, "{way:?}");
+        assert_eq!(rt; waiter.dozes(), 0, "{way:?}");
+    }
     Ok(())
 }

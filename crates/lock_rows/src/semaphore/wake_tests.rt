@@ -1,13 +1,12 @@
 //! Whom a release of a semaphore wakes, and what the passes count of it.
 ghost use Rattle.std.specs.Prelude.{◌≡◌, false};
-ghost use Rattle.lock_core.specs.declared.view.Held.TheVariants.{Shared, Alone};
 ghost use Rattle.rwsem_slow.specs.Handles.{hand_in, SitsAt};
 ghost use Rattle.rwsem_slow.specs.Standing.{IsReady};
 
-use super::pairs::{NO_TURNS, Pair, Way, open_pair, take_and_count};
-use crate::mutex::watched::{Watch, WatchedCrew, await_count};
+use super::pairs::{Pair, Way, open_pair};
+use crate::watched::{NO_TURNS, Watch, WatchedCrew, await_count};
 use cpu_task::Crew;
-use lock_core::{How, Nothing};
+use lock_core::{Held, How, Nothing};
 use rwsem_slow::{RwPass, RwSem};
 use std::alloc::{AllocError, Global};
 use std::process::Abort;
@@ -16,189 +15,132 @@ use std::sync::atomic::Ordering;
 use std::test::Fail;
 use std::thread::{Threads, join};
 
-/// Ends an exclusive hold once a task sleeps for the first time, lets that task wake, and answers
-/// how many wake words the pass has set.
-fn up_write_behind_sleeper<'a, W: Wait>(
-    rt: &W,
-    sem: &RwSem<Nothing>,
-    crew: &WatchedCrew<'a>,
-    mut holder: RwPass<Nothing>,
-) -> u64
-    requires own { SitsAt sem.now holder }
-    requires held { (hand_in holder).held ≡ Alone }
-    requires quiet { (hand_in holder).writes ≡ false }
-{
-    await_count(&crew.watch.sleeps, 1);
-    sem.up_write(rt, &mut holder, crew);
-    crew.watch.ends.store(1, Ordering::SeqCst);
-    holder.wakes()
+/// How a task holds a semaphore until another one sleeps, and then releases it.
+#[derive(Clone, Copy, Debug, PartialEq, Eq)]
+enum Hold {
+    Reader,
+    Writer,
+    /// A writer that becomes a reader before it releases.
+    Downgrader,
 }
 
-/// The same of a shared hold.
-fn up_read_behind_sleeper<'a, W: Wait>(
-    rt: &W,
+/// Takes a free semaphore for such a hold.
+fn take_free<R: Wait + Abort>(
+    rt: &R,
     sem: &RwSem<Nothing>,
-    crew: &WatchedCrew<'a>,
-    mut holder: RwPass<Nothing>,
-) -> u64
-    requires own { SitsAt sem.now holder }
-    requires held { (hand_in holder).held ≡ Shared }
+    mut pass: RwPass<Nothing>,
+    hold: Hold,
+) -> RwPass<Nothing>
+    requires { IsReady sem.now pass }
+    ensures own { SitsAt sem.now result }
+    ensures quiet { (hand_in result).writes ≡ false }
 {
-    await_count(&crew.watch.sleeps, 1);
-    sem.up_read(rt, &mut holder, crew);
-    crew.watch.ends.store(1, Ordering::SeqCst);
-    holder.wakes()
+    if hold == Hold::Reader {
+        assert!(rt; sem.down_read_trylock(rt, &mut pass).is_ok());
+        return pass;
+    }
+    assert!(rt; sem.down_write_trylock(&mut pass).is_ok());
+    pass
 }
 
-/// Turns an exclusive hold into a shared one once a task sleeps for the first time, ends that one,
-/// and lets the task wake. Answers how many wake words the pass has set after either call.
-fn downgrade_behind_sleeper<'a, W: Wait>(
+/// Releases the semaphore once a task sleeps for the first time, and lets that task wake. Answers
+/// how many wake words the pass has set in front of its last call, and behind it.
+fn release_behind_sleeper<'a, W: Wait>(
     rt: &W,
     sem: &RwSem<Nothing>,
     crew: &WatchedCrew<'a>,
-    mut holder: RwPass<Nothing>,
+    mut pass: RwPass<Nothing>,
+    hold: Hold,
 ) -> [u64; 2]
-    requires own { SitsAt sem.now holder }
-    requires held { (hand_in holder).held ≡ Alone }
-    requires quiet { (hand_in holder).writes ≡ false }
+    requires own { SitsAt sem.now pass }
+    requires quiet { (hand_in pass).writes ≡ false }
 {
     await_count(&crew.watch.sleeps, 1);
-    sem.downgrade_write(rt, &mut holder, crew);
-    let downgraded = holder.wakes();
-    sem.up_read(rt, &mut holder, crew);
+    let mut before = pass.wakes();
+    match sem.held(&pass) {
+        Held::Shared => sem.up_read(rt, &mut pass, crew),
+        Held::Alone => {
+            if hold == Hold::Downgrader {
+                sem.downgrade_write(rt, &mut pass, crew);
+                before = pass.wakes();
+                sem.up_read(rt, &mut pass, crew);
+            } else {
+                sem.up_write(rt, &mut pass, crew);
+            }
+        }
+        Held::No => {}
+    }
     crew.watch.ends.store(1, Ordering::SeqCst);
-    [downgraded, holder.wakes()]
+    [before, pass.wakes()]
 }
 
-/// How task 1 gets a semaphore in this way that task 0 holds alone, and then shared, until it
-/// sleeps, and how many wake words the downgrade and the release have set.
-fn behind_a_downgrade<R: Threads + Wait + Sync + Abort>(
+/// How the pass's task gets the semaphore in this way, and how often it has fallen asleep then.
+fn take_and_count<W: Wait, C: Crew>(
+    rt: &W,
+    sem: &RwSem<Nothing>,
+    crew: &C,
+    mut cpu: C::C,
+    mut pass: RwPass<Nothing>,
+    way: Way,
+) -> (How, u64)
+    requires { IsReady sem.now pass }
+{
+    let how = match way {
+        Way::Shared => sem.down_read(rt, &mut pass, &mut cpu, crew),
+        Way::Alone => sem.down_write(rt, &mut pass, &mut cpu, crew),
+    };
+    (how, pass.dozes())
+}
+
+/// How task 1 gets a semaphore in this way that task 0 holds until it sleeps, how often it has
+/// fallen asleep then, and how many wake words task 0 has set before its last call and after it.
+fn behind_a_hold<R: Threads + Wait + Sync + Abort>(
     rt: &R,
     alloc: Global,
     watch: &Watch,
+    held: Hold,
     way: Way,
-) -> Result<(How, [u64; 2]), AllocError> {
+) -> Result<((How, u64), [u64; 2]), AllocError> {
     let Pair {
         sem,
-        mut holder,
+        holder,
         waiter,
     } = open_pair(rt, alloc)?;
     let mut crew = WatchedCrew { watch };
     let cpu = crew.cpu(alloc, 1, NO_TURNS)?;
-    assert!(rt; sem.down_write_trylock(&mut holder).is_ok());
-    let ((how, _dozes), wakes) = join(
+    let holder = take_free(rt, &sem, holder, held);
+    Ok(join(
         rt,
         || -> (How, u64)
             requires { IsReady sem waiter }
         { take_and_count(rt, &sem, &crew, cpu, waiter, way) },
         || -> [u64; 2]
             requires own { SitsAt sem holder }
-            requires held { (hand_in holder).held ≡ Alone }
             requires quiet { (hand_in holder).writes ≡ false }
-        { downgrade_behind_sleeper(rt, &sem, &crew, holder) },
-    );
-    Ok((how, wakes))
-}
-
-/// How task 1 gets a semaphore in this way that task 0 holds alone until it sleeps, how often it
-/// has fallen asleep then, and how many wake words the release has set.
-fn behind_a_writer<R: Threads + Wait + Sync + Abort>(
-    rt: &R,
-    alloc: Global,
-    watch: &Watch,
-    way: Way,
-) -> Result<((How, u64), u64), AllocError> {
-    let Pair {
-        sem,
-        mut holder,
-        waiter,
-    } = open_pair(rt, alloc)?;
-    let mut crew = WatchedCrew { watch };
-    let cpu = crew.cpu(alloc, 1, NO_TURNS)?;
-    assert!(rt; sem.down_write_trylock(&mut holder).is_ok());
-    Ok(join(
-        rt,
-        || -> (How, u64)
-            requires { IsReady sem waiter }
-        { take_and_count(rt, &sem, &crew, cpu, waiter, way) },
-        || -> u64
-            requires own { SitsAt sem holder }
-            requires held { (hand_in holder).held ≡ Alone }
-            requires quiet { (hand_in holder).writes ≡ false }
-        { up_write_behind_sleeper(rt, &sem, &crew, holder) },
+        { release_behind_sleeper(rt, &sem, &crew, holder, held) },
     ))
 }
 
+// A downgrade wakes a reader, and leaves a writer to the last reader's release.
 #[test]
-fn a_writer_that_releases_sets_the_wake_word_of_a_reader(rt: HostRuntime) -> Result<(), Fail> {
-    let watch = Watch::default();
-    let ((how, dozes), wakes) = behind_a_writer(&rt, rt.alloc(), &watch, Way::Shared)?;
-    assert_eq!(rt; how, How::Slept);
-    assert!(rt; dozes >= 1);
-    assert_eq!(rt; wakes, 1);
-    assert_eq!(rt; watch.wakes.load(Ordering::SeqCst), 1);
-    assert_eq!(rt; watch.woken.load(Ordering::SeqCst), 2);
-    Ok(())
-}
-
-#[test]
-fn a_writer_that_releases_sets_the_wake_word_of_a_writer(rt: HostRuntime) -> Result<(), Fail> {
-    let watch = Watch::default();
-    let ((how, dozes), wakes) = behind_a_writer(&rt, rt.alloc(), &watch, Way::Alone)?;
-    assert_eq!(rt; how, How::Slept);
-    assert!(rt; dozes >= 1);
-    assert_eq!(rt; wakes, 1);
-    assert_eq!(rt; watch.wakes.load(Ordering::SeqCst), 1);
-    assert_eq!(rt; watch.woken.load(Ordering::SeqCst), 2);
-    Ok(())
-}
-
-#[test]
-fn the_last_reader_that_releases_sets_the_wake_word_of_a_writer(
+fn each_hold_sets_one_wake_word_and_wakes_the_task_that_sleeps(
     rt: HostRuntime,
 ) -> Result<(), Fail> {
-    let Pair {
-        sem,
-        mut holder,
-        waiter,
-    } = open_pair(&rt, rt.alloc())?;
-    let watch = Watch::default();
-    let mut crew = WatchedCrew { watch: &watch };
-    let cpu = crew.cpu(rt.alloc(), 1, NO_TURNS)?;
-    assert!(rt; sem.down_read_trylock(&rt, &mut holder).is_ok());
-    let ((how, dozes), wakes) = join(
-        &rt,
-        || -> (How, u64)
-            requires { IsReady sem waiter }
-        { take_and_count(&rt, &sem, &crew, cpu, waiter, Way::Alone) },
-        || -> u64
-            requires own { SitsAt sem holder }
-            requires held { (hand_in holder).held ≡ Shared }
-        { up_read_behind_sleeper(&rt, &sem, &crew, holder) },
-    );
-    assert_eq!(rt; how, How::Slept);
-    assert!(rt; dozes >= 1);
-    assert_eq!(rt; wakes, 1);
-    assert_eq!(rt; watch.wakes.load(Ordering::SeqCst), 1);
-    assert_eq!(rt; watch.woken.load(Ordering::SeqCst), 2);
-    Ok(())
-}
-
-#[test]
-fn a_downgrade_sets_the_wake_word_of_a_reader(rt: HostRuntime) -> Result<(), Fail> {
-    let watch = Watch::default();
-    let (how, wakes) = behind_a_downgrade(&rt, rt.alloc(), &watch, Way::Shared)?;
-    assert_eq!(rt; how, How::Slept);
-    assert_eq!(rt; wakes, [1, 1]);
-    Ok(())
-}
-
-#[test]
-fn a_downgrade_leaves_a_writer_to_the_last_reader(rt: HostRuntime) -> Result<(), Fail> {
-    let watch = Watch::default();
-    let (how, wakes) = behind_a_downgrade(&rt, rt.alloc(), &watch, Way::Alone)?;
-    assert_eq!(rt; how, How::Slept);
-    assert_eq!(rt; wakes, [0, 1]);
+    for (hold, way, set) in [
+        (Hold::Writer, Way::Shared, [0, 1]),
+        (Hold::Writer, Way::Alone, [0, 1]),
+        (Hold::Reader, Way::Alone, [0, 1]),
+        (Hold::Downgrader, Way::Shared, [1, 1]),
+        (Hold::Downgrader, Way::Alone, [0, 1]),
+    ] {
+        let watch = Watch::default();
+        let ((how, dozes), wakes) = behind_a_hold(&rt, rt.alloc(), &watch, hold, way)?;
+        assert_eq!(rt; how, How::Slept, "{hold:?} {way:?}");
+        assert!(rt; dozes >= 1, "{hold:?} {way:?}");
+        assert_eq!(rt; wakes, set, "{hold:?} {way:?}");
+        assert_eq!(rt; watch.wakes.load(Ordering::SeqCst), 1, "{hold:?} {way:?}");
+        assert_eq!(rt; watch.woken.load(Ordering::SeqCst), 2, "{hold:?} {way:?}");
+    }
     Ok(())
 }
 

@@ -1,0 +1,10 @@
+use Rattle.std.proofs.Common.{◌≡◌}
+use Rattle.lock_core.specs.Handles.{hand_in, SaysSame}
+use Rattle.mutex_word.specs.Handles.{SitsAt}
+use Rattle.call_tests.proofs.owner_tests.replay.Given as goal
+
+abbrev pub invariant-loop-at : goal.invariant-loop-at
+invariant-loop-at l =
+    SitsAt l.site l.pass
+    × SaysSame l.fn.pass l.pass
+    × ((hand_in l.pass) ≡ (hand_in l.fn.pass))

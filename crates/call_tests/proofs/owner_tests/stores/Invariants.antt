@@ -1,0 +1,10 @@
+use Rattle.std.proofs.Common.{◌≢◌}
+use Rattle.lock_core.specs.declared.view.Held.TheVariants.{No}
+use Rattle.lock_core.specs.Handles.{held_in}
+use Rattle.mutex_word.specs.Handles.{SitsAt}
+use Rattle.call_tests.proofs.owner_tests.stores.Given as goal
+
+abbrev pub invariant-loop-at : goal.invariant-loop-at
+invariant-loop-at l =
+    SitsAt l.site l.pass
+    × (held_in l.pass ≢ No)

@@ -1,5 +1,0 @@
-use Rattle.lock_rows.specs.Standing.{Idles}
-use Rattle.lock_rows.proofs.owner_tests.each_signal_of_two_threads_interrupts_a_call_of_another.Given as goal
-
-abbrev pub invariant-loop-task : goal.invariant-loop-task
-invariant-loop-task g l = Idles l.site l.pass
