@@ -14,6 +14,8 @@ use Rattle.rwsem_wake.specs.Batches.{batch_of, starts_with_reader}
 use Rattle.rwsem_slow.specs.declared.view.RwSemHand.{RwSemHand}
 use Rattle.rwsem_slow.specs.declared.waking.WakeType.{WakeType}
 use Rattle.rwsem_slow.specs.declared.waking.WakeType.TheVariants.{Any, Readers, ReadOwned}
+use Rattle.rwsem_slow.specs.declared.woken.Woken.{Woken}
+use Rattle.rwsem_slow.specs.declared.woken.Woken.TheVariants.{Nobody, First, Batch}
 use Rattle.rwsem_slow.specs.RwSems.{V, count_at, list_at, list_of, looked}
 use Rattle.rwsem_slow.specs.Places.{seen_of}
 use Rattle.cpu_task.specs.Counting.{slept}
@@ -31,6 +33,12 @@ abbrev pub MayWake : WakeType → V → Type 0
 MayWake ReadOwned v = (shared_weight v.hand.held ≡ 1) × (v.ext.sem.wait ≡ Apart)
 MayWake Readers v = (shared_weight v.hand.held ≡ 0) × (v.ext.wake.owing ≡ false)
 MayWake Any v = shared_weight v.hand.held ≡ 0
+
+-- the tasks that it names
+abbrev pub woken_tasks : Woken → List ℕ
+woken_tasks Nobody = []
+woken_tasks (First task) = task ∷ []
+woken_tasks (Batch tasks) = tasks.items
 
 -- the list's batch
 abbrev pub batch_in : List Waiter → List ℕ

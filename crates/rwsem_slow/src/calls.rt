@@ -194,14 +194,14 @@ impl<O: Object> RwSem<O> {
     /// batch has it next. A batch is granted in the order in which it was picked. At each moment
     /// the words of the wait lock say who has it, and each step is one of a spin lock's.
     ///
-    /// Nobody is forgotten: where tasks wait and nobody writes or reads, a pass is to look whom to
-    /// wake, or a bias keeps writers out, or the first waiter is a writer that needs no further wake. A
-    /// reader that is granted while it waits needs no further wake. A task needs no further wake where a pass has
-    /// chosen it, where its wake word is set, or where it is awake. Each step says how these come
-    /// and go.
+    /// Nobody is forgotten: if tasks wait and nobody writes or reads, a pass owes a wake, or a bias
+    /// keeps writers out, or the first waiter is a writer that needs no further wake. A reader that
+    /// is granted while it waits needs no further wake. A task needs none if a pass has chosen it
+    /// and is to set its wake word, if that word is set, or if it is awake. Each step says how
+    /// these come and go.
     ///
-    /// The pass itself waits for nothing, is to look for nobody, and has woken whom it chose. It has
-    /// set so many wake words and fallen asleep so often as it says.
+    /// The pass itself waits for nothing, owes no wake, and has set the wake word of each task that
+    /// it chose. It has set so many wake words and fallen asleep so often as it says.
     pub fn recall(&self, pass: &mut RwPass<O>)
         requires own { SitsAt self.now pass.old }
         ensures own { SitsAt self.now pass.new }

@@ -1,7 +1,7 @@
-//! How often a pass wakes others, and sleeps.
+//! How often a pass sets wake words, and sleeps.
 
-/// How many tasks a pass has woken, and how often it has fallen asleep. Each count stops at the
-/// last value of a u64.
+/// How many wake words a pass has set, and how often its task has fallen asleep. Each count stops
+/// at the last value of a u64.
 #[derive(Clone, Copy, Debug, PartialEq, Eq)]
 pub struct WakeCounts {
     pub wakes: u64,

@@ -14,15 +14,15 @@ ghost use Rattle.rwsem_wake.specs.Grants.{AreTaskNumbers};
 ghost use Rattle.rwsem_slow.specs.Removals.{KnowsList};
 ghost use Rattle.rwsem_slow.specs.Places.{AreCounts, IsOutside, StepsOn, dozes_of, seen_of};
 ghost use Rattle.rwsem_slow.specs.Queued.{Becomes, KeepsLine, Listens, LooksAt};
+ghost use Rattle.rwsem_slow.specs.Wakes.{woken_tasks};
 ghost use Rattle.rwsem_slow.specs.Leaving.{HasLeft, IsUnmarked, MayLeave, WakesOn, gone_first};
 
 use crate::counts::WakeCounts;
 use crate::rule::SemRule;
 use crate::waking::{Waited, WakeType, wake, wake_tasks};
-use arrayvec::ArrayVec;
+use crate::woken::Woken;
 use cpu_task::{Cpu, Crew};
 use lock_core::{Interrupted, Pass, Site};
-use rwsem_wake::batches::BATCH;
 use rwsem_wake::queueing;
 use wait_list::list;
 use word_bits::Object;
@@ -142,7 +142,7 @@ fn leave_first<O: Object, C: Cpu>(
     pass: &mut Pass<SemRule<O>>,
     task: u32,
     cpu: &mut C,
-    woken: &mut ArrayVec<u32, BATCH>,
+    woken: &mut Woken,
 )
     requires own { SitsAt site.now pass.old }
     requires mine { task_in pass.old ≡ Some task }
@@ -152,11 +152,11 @@ fn leave_first<O: Object, C: Cpu>(
     requires list { KnowsList (view_of pass.old) }
     requires first { first_code (view_of pass.old).ext.list.list ≡ task + 1 }
     requires task { task < length (plan_of site.now) }
-    requires empty { woken.old.items ≡ [] }
+    requires empty { woken_tasks woken.old ≡ [] }
     ensures on { StepsOn site.now pass.old pass.new }
-    ensures left { HasLeft woken.new.items (view_of pass.old) (view_of pass.new) }
-    ensures tasks { AreTaskNumbers (plan_of site.now) woken.new.items }
-    ensures woken { WakesOn (without task (view_of pass.old).ext.list.list) woken.new.items
+    ensures left { HasLeft (woken_tasks woken.new) (view_of pass.old) (view_of pass.new) }
+    ensures tasks { AreTaskNumbers (plan_of site.now) (woken_tasks woken.new) }
+    ensures woken { WakesOn (without task (view_of pass.old).ext.list.list) (woken_tasks woken.new)
         (seen_of pass.old) (seen_of pass.new) }
     ensures sleeps { C.sleeps cpu.new ≡ C.sleeps cpu.old }
     ensures rescheds { C.rescheds cpu.new ≡ C.rescheds cpu.old }
@@ -184,17 +184,17 @@ fn leave<O: Object, C: Cpu>(
     site: &Site<SemRule<O>>,
     pass: &mut Pass<SemRule<O>>,
     cpu: &mut C,
-    woken: &mut ArrayVec<u32, BATCH>,
+    woken: &mut Woken,
 )
     requires own { SitsAt site.now pass.old }
     requires numbered { IsSome (task_in pass.old) }
     requires out { held_in pass.old ≡ No }
     requires locked { SpinHolds (view_of pass.old).spin }
     requires may { MayLeave (view_of pass.old) }
-    requires empty { woken.old.items ≡ [] }
+    requires empty { woken_tasks woken.old ≡ [] }
     ensures on { StepsOn site.now pass.old pass.new }
-    ensures left { HasLeft woken.new.items (view_of pass.old) (view_of pass.new) }
-    ensures tasks { AreTaskNumbers (plan_of site.now) woken.new.items }
+    ensures left { HasLeft (woken_tasks woken.new) (view_of pass.old) (view_of pass.new) }
+    ensures tasks { AreTaskNumbers (plan_of site.now) (woken_tasks woken.new) }
     ensures sleeps { C.sleeps cpu.new ≡ C.sleeps cpu.old }
     ensures rescheds { C.rescheds cpu.new ≡ C.rescheds cpu.old }
 {
@@ -237,10 +237,10 @@ pub fn interrupt<O: Object, C: Cpu, K: Crew>(
     ensures counted { AreCounts counts.new (view_of pass.new) }
     ensures dozes { dozes_of (view_of pass.new) ≡ dozes_of (view_of pass.old) }
 {
-    let mut woken: ArrayVec<u32, BATCH> = ArrayVec::new();
+    let mut woken = Woken::Nobody;
     // Under the wait lock: a reader that is granted before has its hold, and its signal stays.
     site.consume_pending(pass, why);
     leave(site, pass, cpu, &mut woken);
     qspin_word::unlock(site, pass);
-    wake_tasks(site, pass, crew, counts, woken.as_slice());
+    wake_tasks(site, pass, crew, counts, woken.tasks());
 }

@@ -15,6 +15,7 @@ mod spinning;
 mod stealing;
 mod view;
 mod waking;
+mod woken;
 mod write_path;
 mod writing;
 

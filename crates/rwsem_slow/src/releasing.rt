@@ -13,11 +13,10 @@ use crate::counts::WakeCounts;
 use crate::hint::{NOBODY, reader_hint, set_hint};
 use crate::rule::SemRule;
 use crate::waking::{Endless, WakeType, wake, wake_tasks};
-use arrayvec::ArrayVec;
+use crate::woken::Woken;
 use cpu_task::Crew;
 use lock_core::{Pass, Site};
 use rwsem_count::{BIAS, READ_FAIL, WAITERS, steps};
-use rwsem_wake::batches::BATCH;
 use std::sync::Wait;
 use word_bits::Object;
 
@@ -57,11 +56,11 @@ pub fn wake_waiters<O: Object, W: Wait, C: Crew>(
     ensures counted { AreCounts counts.new (view_of pass.new) }
     ensures dozes { dozes_of (view_of pass.new) ≡ dozes_of (view_of pass.old) }
 {
-    let mut woken: ArrayVec<u32, BATCH> = ArrayVec::new();
+    let mut woken = Woken::Nobody;
     qspin_queue::lock(site, rt, pass);
     wake(site, pass, kind, &mut Endless, &mut woken);
     qspin_word::unlock(site, pass);
-    wake_tasks(site, pass, crew, counts, woken.as_slice());
+    wake_tasks(site, pass, crew, counts, woken.tasks());
 }
 
 /// Ends the pass's shared hold. The kernel's `__up_read`.

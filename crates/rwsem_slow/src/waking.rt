@@ -10,12 +10,13 @@ ghost use Rattle.wait_list.specs.Lists.{first_of};
 ghost use Rattle.rwsem_slow.specs.RwSems.{MayPick, sem_of};
 ghost use Rattle.rwsem_slow.specs.Places.{AreCounts, StepsOn, seen_of};
 ghost use Rattle.rwsem_slow.specs.Removals.{KnowsList, RemovesAll};
-ghost use Rattle.rwsem_slow.specs.Wakes.{Grants, IsAtRest, Looks, MayWake, SawWriter, SetsAll, Wakes, batch_in, readers_woken};
+ghost use Rattle.rwsem_slow.specs.Wakes.{Grants, IsAtRest, Looks, MayWake, SawWriter, SetsAll, Wakes, batch_in, readers_woken, woken_tasks};
 
 use crate::counts::WakeCounts;
 use crate::hint::{reader_hint, set_hint};
 use crate::removal::{MAX_WAITERS, read_list, remove_all};
 use crate::rule::SemRule;
+use crate::woken::Woken;
 use arrayvec::ArrayVec;
 use cpu_task::{Cpu, Crew};
 use lock_core::{Pass, Site};
@@ -150,7 +151,7 @@ fn grant<O: Object>(
     pass: &mut Pass<SemRule<O>>,
     first: Waiter,
     reserved: bool,
-    woken: &mut ArrayVec<u32, BATCH>,
+    woken: &mut Woken,
 )
     requires own { SitsAt site.now pass.old }
     requires last { IsLatest pass.old }
@@ -164,18 +165,18 @@ fn grant<O: Object>(
     requires none { (view_of pass.old).ext.sem.rest ≡ [] }
     requires keeps { KeepsOut sem_of (view_of pass.old) }
     requires reserved { bit reserved ≡ early_weight (view_of pass.old).ext.sem.bias }
-    requires empty { woken.old.items ≡ [] }
     ensures own { SitsAt site.now pass.new }
     ensures goes_on { KeepsPast pass.old pass.new }
     ensures last { IsLatest pass.new }
     ensures face { SaysSame pass.old pass.new }
     ensures granted { Grants false (view_of pass.old) (view_of pass.new) }
-    ensures woken { woken.new.items ≡ batch_in (view_of pass.old).ext.list.list }
-    ensures tasks { AreTaskNumbers (plan_of site.now) woken.new.items }
+    ensures woken { woken_tasks woken.new ≡ batch_in (view_of pass.old).ext.list.list }
+    ensures tasks { AreTaskNumbers (plan_of site.now) (woken_tasks woken.new) }
 {
-    let empty = remove_batch(site, pass, first, woken);
-    let readers = woken.as_slice();
-    grant_removed(site, pass, readers, reserved, empty);
+    let mut readers: ArrayVec<u32, BATCH> = ArrayVec::new();
+    let empty = remove_batch(site, pass, first, &mut readers);
+    grant_removed(site, pass, readers.as_slice(), reserved, empty);
+    *woken = Woken::Batch(readers);
 }
 
 /// Grants the batch of the list, which begins with this waiter, a reader, unless there is a writer.
@@ -185,7 +186,7 @@ fn grant_unless_written<O: Object, P: Patience>(
     pass: &mut Pass<SemRule<O>>,
     first: Waiter,
     patience: &mut P,
-    woken: &mut ArrayVec<u32, BATCH>,
+    woken: &mut Woken,
 ) -> bool
     requires own { SitsAt site.now pass.old }
     requires numbered { IsSome (task_in pass.old) }
@@ -196,15 +197,15 @@ fn grant_unless_written<O: Object, P: Patience>(
     requires task { first.task < length (plan_of site.now) }
     requires reader { first.writer ≡ false }
     requires may { shared_weight (view_of pass.old).hand.held ≡ 0 }
-    requires empty { woken.old.items ≡ [] }
+    requires empty { woken_tasks woken.old ≡ [] }
     ensures own { SitsAt site.now pass.new }
     ensures goes_on { KeepsPast pass.old pass.new }
     ensures last { IsLatest pass.new }
     ensures face { SaysSame pass.old pass.new }
     ensures granted { Grants result (view_of pass.old) (view_of pass.new) }
-    ensures woken { woken.new.items ≡
+    ensures woken { woken_tasks woken.new ≡
         readers_woken result (view_of pass.old).ext.list.list }
-    ensures tasks { AreTaskNumbers (plan_of site.now) woken.new.items }
+    ensures tasks { AreTaskNumbers (plan_of site.now) (woken_tasks woken.new) }
     ensures saw { SawWriter result (seen_of pass.old) (seen_of pass.new) }
     ensures steps { result ≡ true → P.said patience.old ≡ false →
         (view_of pass.new).steps ≡ (view_of pass.old).steps + 2 + bit (P.said patience.new) }
@@ -288,17 +289,17 @@ pub fn wake<O: Object, P: Patience>(
     pass: &mut Pass<SemRule<O>>,
     kind: WakeType,
     patience: &mut P,
-    woken: &mut ArrayVec<u32, BATCH>,
+    woken: &mut Woken,
 )
     requires own { SitsAt site.now pass.old }
     requires numbered { IsSome (task_in pass.old) }
     requires held { SpinHolds (view_of pass.old).spin }
     requires rests { IsAtRest (view_of pass.old) }
     requires may { MayWake kind (view_of pass.old) }
-    requires empty { woken.old.items ≡ [] }
+    requires empty { woken_tasks woken.old ≡ [] }
     ensures on { StepsOn site.now pass.old pass.new }
-    ensures wakes { Wakes kind woken.new.items pass.old pass.new }
-    ensures tasks { AreTaskNumbers (plan_of site.now) woken.new.items }
+    ensures wakes { Wakes kind (woken_tasks woken.new) pass.old pass.new }
+    ensures tasks { AreTaskNumbers (plan_of site.now) (woken_tasks woken.new) }
     ensures asked { P.asked patience.new ≡ P.asked patience.old }
     ensures sleeps { P.sleeps patience.new ≡ P.sleeps patience.old }
     ensures rescheds { P.rescheds patience.new ≡ P.rescheds patience.old }
@@ -311,7 +312,7 @@ pub fn wake<O: Object, P: Patience>(
         match kind {
             WakeType::Any => {
                 choose(site, pass);
-                woken.push(first.task);
+                *woken = Woken::First(first.task);
             }
             // Who wakes readers alone, and doesn't hold, has seen others who hold: they look.
             WakeType::Readers => {}

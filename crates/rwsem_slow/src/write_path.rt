@@ -22,12 +22,11 @@ use crate::counts::WakeCounts;
 use crate::leaving::{interrupt, pending};
 use crate::rule::SemRule;
 use crate::waking::{Waited, WakeType, wake, wake_tasks};
+use crate::woken::Woken;
 use crate::writing;
-use arrayvec::ArrayVec;
 use cpu_task::{Cpu, Crew};
 use lock_core::{How, Interrupted, Pass, Site};
 use rwsem_count::{BIAS, READ_FAIL, WRITER};
-use rwsem_wake::batches::BATCH;
 use rwsem_wake::queueing::look_listed;
 use std::sync::Wait;
 use word_bits::Object;
@@ -74,7 +73,7 @@ pub fn wake_others<O: Object, C: Cpu, K: Crew>(
     if count % 2 == WRITER {
         return;
     }
-    let mut woken: ArrayVec<u32, BATCH> = ArrayVec::new();
+    let mut woken = Woken::Nobody;
     let kind = kind_for(count);
     wake(
         site,
@@ -83,7 +82,7 @@ pub fn wake_others<O: Object, C: Cpu, K: Crew>(
         &mut Waited { cpu, over: false },
         &mut woken,
     );
-    wake_tasks(site, pass, crew, counts, woken.as_slice());
+    wake_tasks(site, pass, crew, counts, woken.tasks());
 }
 
 /// Swaps the wake word of the pass's task for 0, and sleeps where that was 0. Then it counts one

@@ -14,8 +14,8 @@ use std::sync::Wait;
 use word_bits::Object;
 
 impl<O: Object> RwSem<O> {
-    /// Ends the pass's shared hold. Where it leaves nobody who holds, and tasks wait, it wakes the
-    /// first of them, and with a reader all readers. The kernel's `up_read`.
+    /// Ends the pass's shared hold. If it leaves nobody who holds, and tasks wait, it wakes the
+    /// first of them, and with a reader the batch: at most 256 readers. The kernel's `up_read`.
     pub fn up_read<W: Wait, C: Crew>(&self, rt: &W, pass: &mut RwPass<O>, crew: &C)
         requires own { SitsAt self.now pass.old }
         requires held { (hand_in pass.old).held ≡ Shared }
@@ -30,8 +30,8 @@ impl<O: Object> RwSem<O> {
         releasing::up_read(&self.site, rt, &mut pass.pass, crew, &mut pass.counts);
     }
 
-    /// Ends the pass's exclusive hold. Where tasks wait, it wakes the first of them, and with a
-    /// reader all readers. The kernel's `up_write`.
+    /// Ends the pass's exclusive hold. If tasks wait, it wakes the first of them, and with a reader
+    /// the batch: at most 256 readers. The kernel's `up_write`.
     pub fn up_write<W: Wait, C: Crew>(&self, rt: &W, pass: &mut RwPass<O>, crew: &C)
         requires own { SitsAt self.now pass.old }
         requires held { (hand_in pass.old).held ≡ Alone }
@@ -48,8 +48,8 @@ impl<O: Object> RwSem<O> {
         releasing::up_write(&self.site, rt, &mut pass.pass, crew, &mut pass.counts);
     }
 
-    /// Turns the pass's exclusive hold into a shared one. Where a reader waits first, it lets all
-    /// readers in. The kernel's `downgrade_write`.
+    /// Turns the pass's exclusive hold into a shared one. If a reader waits first, it lets the
+    /// batch in: at most 256 readers. The kernel's `downgrade_write`.
     pub fn downgrade_write<W: Wait, C: Crew>(&self, rt: &W, pass: &mut RwPass<O>, crew: &C)
         requires own { SitsAt self.now pass.old }
         requires held { (hand_in pass.old).held ≡ Alone }

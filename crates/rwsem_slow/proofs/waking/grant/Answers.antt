@@ -4,8 +4,8 @@ use Rattle.rwsem_slow.proofs.Removing.{first-reads, grants-removed}
 use Rattle.rwsem_slow.proofs.waking.grant.Goals as goal
 
 pub grant_removed-requires-clause-removed : goal.grant_removed-requires-clause-removed
-grant_removed-requires-clause-removed g c = let v = c.args.pass.now.seat.me.0.view in let e = c.remove_batch-empty.ensures in let n = ap (λ (z : List ℕ). length z) c.as_slice-readers.ensures.value in let some = e.some in let few = e.few in
-    is-removed v c.remove_batch-empty.new.pass.seat.me.0.view c.requires.list (first-reads v.ext.list.list c.args.first c.requires.first c.requires.reader) e.removed _ (c.as_slice-readers.ensures.value ∙ e.batch) (omega (arith, n, some)) (omega (arith, n, few))
+grant_removed-requires-clause-removed g c = let v = c.args.pass.now.seat.me.0.view in let e = c.remove_batch-empty.ensures in let n = ap (λ (z : List ℕ). length z) c.as_slice.ensures.value in let some = e.some in let few = e.few in
+    is-removed v c.remove_batch-empty.new.pass.seat.me.0.view c.requires.list (first-reads v.ext.list.list c.args.first c.requires.first c.requires.reader) e.removed _ (c.as_slice.ensures.value ∙ e.batch) (omega (arith, n, some)) (omega (arith, n, few))
 
 pub grant_removed-requires-clause-keeps : goal.grant_removed-requires-clause-keeps
 grant_removed-requires-clause-keeps g c = let v = c.args.pass.now.seat.me.0.view in
