@@ -16,6 +16,7 @@ use Rattle.lock_core.specs.declared.view.Hand.{Hand}
 use Rattle.lock_core.specs.declared.view.Told.{Told}
 use Rattle.lock_core.specs.Records.{row, seen_by}
 use Rattle.lock_core.specs.Views.{Knows, next_entry}
+use Rattle.lock_core.proofs.RecordLaws.{seen_by-snoc}
 use Rattle.lock_core.proofs.RowLaws.{none-some, same-some, get-either, some-inside}
 use Rattle.lock_core.specs.Shown.{Shown}
 use Rattle.lock_core.specs.Kinds.{Kind}
@@ -46,12 +47,6 @@ module _ {Call : Type 0} (o : Obj Call) (unavailable : Unavailable) where
   exact-more seen [] (x ∷ rs) w r at are is = absurd are
   exact-more seen (v ∷ ws) (x ∷ rs) w r at are is = (are.0, exact-more (seen_after (logs o v x.reply) x) ws rs w r at are.1 is)
 
-  seen-more : (seen : ℕ) (ws : List CallWords) (rs : List Rec) (w : CallWords) (r : Rec) → slice_get ws (length rs) ≡ Some w → seen_by o seen ws (rs ++ r ∷ []) ≡ seen_after (logs o w r.reply) r
-  seen-more seen [] rs w r at = none-some w at
-  seen-more seen (v ∷ []) [] w r at = ap (λ x. seen_after (logs o x r.reply) r) (same-some v w at)
-  seen-more seen (v ∷ (z ∷ ws)) [] w r at = ap (λ x. seen_after (logs o x r.reply) r) (same-some v w at)
-  seen-more seen (v ∷ ws) (x ∷ rs) w r at = seen-more (seen_after (logs o v x.reply) x) ws rs w r at
-
 -- a pass that knows a record still knows it when it has made another
 still-knows : (h g : Hand) (x : Told) (e : Entry) (r : Rec) → g.records ≡ x ∷ h.records → Knows h e r → Knows g e r
 still-knows h g x e r is knows = (suc knows.0, ap (λ xs. slice_get xs (suc knows.0)) is ∙ knows.1)
@@ -75,7 +70,7 @@ one-more o lawful kind at k t count reply rs v u task p d =
       };
       many = let m = d.many in omega (arith, long, m);
       next = p.done ∙ ap (λ n. n + 1) d.next;
-      seen = p.sees ∙ (ap (λ x. seen_after (logs o p.words x) p.rec) (sym p.says) ∙ sym (seen-more o (kinds.unavailable kind) 0 (row k t) rs p.words p.rec there));
+      seen = p.sees ∙ (ap (λ x. seen_after (logs o p.words x) p.rec) (sym p.says) ∙ sym (seen_by-snoc o 0 (row k t) rs p.words p.rec there));
     }
 
 pub seen-none : {Call : Type 0} (o : Obj Call) (seen : ℕ) (ws : List CallWords) → seen_by o seen ws [] ≡ seen

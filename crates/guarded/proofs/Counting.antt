@@ -1,5 +1,5 @@
 -- What populate counts.
-use Rattle.std.proofs.Common.{◌≡◌, ◌≢◌, ℕ, zero, suc, ◌+◌, ◌*◌, ◌%◌, ◌<◌, ◌≤◌, ◌==◌, ◌||◌, nat_le, nat_lt, Bool, true, false, ◌-◌, min, max, List, [], ◌∷◌, ◌++◌, ◌⊎◌, ⊎_elim, length, take, get_or, None, Some, refl, sym, ap, ◌∙◌, arith, if◌then◌else◌}
+use Rattle.std.proofs.Common.{◌≡◌, ◌≢◌, ℕ, zero, suc, ◌+◌, ◌*◌, ◌%◌, ◌<◌, ◌≤◌, ◌==◌, ◌||◌, nat_le, nat_lt, Bool, true, false, ◌-◌, min, max, List, [], ◌∷◌, ◌++◌, ◌⊎◌, ⊎_elim, length, drop, take, get_or, None, Some, refl, sym, ap, ◌∙◌, arith, if◌then◌else◌}
 use Rattle.std.proofs.lemmas.Bool.Decides.{nat_tests}
 use Rattle.word_bits.specs.declared.reply.Errno.{Errno}
 use Rattle.word_bits.specs.declared.reply.Errno.TheVariants.{NoMem, Inval}
@@ -96,7 +96,20 @@ ended-by (a ∷ (b ∷ areas)) (suc i) d page runs below ended =
     let some = (AreRuns-head b areas runs.2).some in
     (omega (arith, first, ascend, some), rest)
 
--- nor have areas of which the first begins at the end or behind it
+-- all behind one that ends behind the page do
+ending-first : (a : Area) (areas : List Area) (page : ℕ) → AreRuns (a ∷ areas) → page < a.end → AllByRecursion (λ a. page < a.end) (a ∷ areas)
+ending-first a [] page runs high = (high, tt)
+ending-first a (b ∷ areas) page runs high =
+    let ascend = runs.1.ascend in
+    let some = (AreRuns-head b areas runs.2).some in
+    (high, ending-first b areas page runs.2 (omega (arith, high, ascend, some)))
+
+pub ending-from : (areas : List Area) (i : ℕ) (d : Area) (page : ℕ) → AreRuns areas → i < length areas → page < (get_or areas i d).end → AllByRecursion (λ a. page < a.end) (drop i areas)
+ending-from [] i d page runs below high = absurd (omega (arith, below))
+ending-from (a ∷ areas) zero d page runs below high = ending-first a areas page runs high
+ending-from (a ∷ areas) (suc i) d page runs below high = ending-from areas i d page (AreRuns-tail a areas runs) (omega (arith, below)) high
+
+-- areas of which the first begins at the range's end or behind it have no share
 pub shares-behind : (a : Area) (areas : List Area) (start end : ℕ) → AreRuns (a ∷ areas) → end ≤ a.start → shares (a ∷ areas) start end ≡ 0
 shares-behind a [] start end runs low = let z : min a.end end - max a.start start ≡ 0 = omega (arith, low) in let here = part-none ((a.prot % 2) == 1) (min a.end end - max a.start start) z in omega (arith, here)
 shares-behind a (b ∷ areas) start end runs low =

@@ -7,7 +7,7 @@ use Rattle.lock_core.specs.Shown.{Shown, PastGoesOn}
 use Rattle.lock_core.specs.Locking.{Looks, Has}
 use Rattle.lock_core.specs.Views.{wrote}
 use Rattle.guarded.specs.Serving.{AreZeroFrom}
-use Rattle.guarded.specs.Splicing.{ChangesWords, IsWritten, MakeRoom}
+use Rattle.guarded.specs.Splicing.{ChangesWords, IsCleared, IsWritten, MakeRoom, MovesDown}
 use Rattle.guarded.proofs.Spliced.{set-here, set-off}
 
 pub looked : (v u : Shown) → PastGoesOn v u → Looks v u → ChangesWords v u
@@ -65,16 +65,45 @@ fits-more at count pieces old new more made = record {
 }
 
 -- what a move down leaves
-pub closed-all : (old now : List ℕ) (at fewer place len : ℕ) → length now ≡ length old → len + 1 ≤ place → AreZeroFrom (len + 1) old → ((i : ℕ) → i ≤ at → slice_index now i ≡ slice_index old i) → ((i : ℕ) → at < i → i < place → slice_index now i ≡ slice_index old (i + fewer)) → ((i : ℕ) → place ≤ i → slice_index now i ≡ slice_index old i) → MakeRoom at fewer 0 old now
-closed-all old now at fewer place len long out zeros front moved behind = record {
+pub moved-down : (old now : List ℕ) (at fewer left place : ℕ) → length now ≡ length old → left + 1 ≤ place → place ≤ left + 1 → ((i : ℕ) → i ≤ at → slice_index now i ≡ slice_index old i) → ((i : ℕ) → at < i → i < place → slice_index now i ≡ slice_index old (i + fewer)) → ((i : ℕ) → place ≤ i → slice_index now i ≡ slice_index old i) → MovesDown at fewer left old now
+moved-down old now at fewer left place long done upto front moved behind = record {
   as_long = long;
   front = front;
-  back = λ i l. go i (omega (arith, l)) (cases_lt i place);
+  moved = λ i l u. moved i l (omega (arith, u, done));
+  back = λ i l. behind i (omega (arith, l, upto));
+}
+
+-- a word more that is cleared
+pub cleared-more : (now new : List ℕ) (at place : ℕ) → place < length now → new ≡ slice_set now place 0 → ((i : ℕ) → at < i → i < place → slice_index now i ≡ 0) → (i : ℕ) → at < i → i < place + 1 → slice_index new i ≡ 0
+cleared-more now new at place below is cleared i over upto = go (cases_eq i place)
+  where
+    go : (i ≡ place) ⊎ (i ≡ place → ⊥) → slice_index new i ≡ 0
+    go (inl here) = ap (slice_index new) here ∙ ap (λ xs. slice_index xs place) is ∙ set-here now place 0 below
+    go (inr there) = ap (λ xs. slice_index xs i) is ∙ set-off now place i 0 there ∙ cleared i over (omega (arith, there, upto))
+
+pub cleared-all : (old now : List ℕ) (at upto place : ℕ) → length now ≡ length old → upto + 1 ≤ place → place ≤ upto + 1 → ((i : ℕ) → i ≤ at → slice_index now i ≡ slice_index old i) → ((i : ℕ) → at < i → i < place → slice_index now i ≡ 0) → ((i : ℕ) → place ≤ i → slice_index now i ≡ slice_index old i) → IsCleared at upto old now
+cleared-all old now at upto place long done most front cleared behind = record {
+  as_long = long;
+  front = front;
+  zeros = λ i l u. cleared i l (omega (arith, u, done));
+  back = λ i l. behind i (omega (arith, l, most));
+}
+
+-- the areas that are left have moved down, and behind them stands 0
+pub closed-up : (old mid now : List ℕ) (at fewer len : ℕ) → at + fewer ≤ len → AreZeroFrom (len + 1) old → MovesDown at fewer (len - fewer) old mid → IsCleared (len - fewer) len mid now → MakeRoom at fewer 0 old now
+closed-up old mid now at fewer len within zeros moved cleared = record {
+  as_long = cleared.as_long ∙ moved.as_long;
+  front = λ i l. cleared.front i (omega (arith, l, within)) ∙ moved.front i l;
+  back = λ i l. go i (omega (arith, l)) (cases_lt (len - fewer) i);
 }
   where
-    go : (i : ℕ) → at < i → (i < place) ⊎ (place ≤ i) → slice_index now i ≡ slice_index old (i + fewer - 0)
-    go i over (inl low) = moved i over low ∙ ap (slice_index old) (let e : i + fewer ≡ i + fewer - 0 = omega arith in e)
-    go i over (inr high) = behind i high ∙ zeros i (omega (arith, out, high)) ∙ sym (zeros (i + fewer - 0) (omega (arith, out, high)))
+    go : (i : ℕ) → at < i → (len - fewer < i) ⊎ (i ≤ len - fewer) → slice_index now i ≡ slice_index old (i + fewer - 0)
+    go i over (inr low) = cleared.front i low ∙ moved.moved i over low ∙ ap (slice_index old) (let e : i + fewer ≡ i + fewer - 0 = omega arith in e)
+    go i over (inl high) = empty i high (cases_lt len i) ∙ sym (zeros (i + fewer - 0) (omega (arith, within, high)))
+      where
+        empty : (i : ℕ) → len - fewer < i → (len < i) ⊎ (i ≤ len) → slice_index now i ≡ 0
+        empty i high (inl out) = cleared.back i out ∙ moved.back i high ∙ zeros i (omega (arith, out))
+        empty i high (inr inside) = cleared.zeros i high inside
 
 -- what a move up leaves
 pub roomed-all : (old now : List ℕ) (at more place : ℕ) → length now ≡ length old → place ≤ at → at ≤ place → ((i : ℕ) → i ≤ place → slice_index now i ≡ slice_index old i) → ((i : ℕ) → place + more < i → slice_index now i ≡ slice_index old (i - more)) → MakeRoom at 0 more old now

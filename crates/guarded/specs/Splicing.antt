@@ -28,6 +28,20 @@ pub record MakeRoom (at count pieces : ℕ) (old new : List ℕ) : Type 0 where
   pub front : (i : ℕ) → i ≤ at → slice_index new i ≡ slice_index old i
   pub back : (i : ℕ) → at + pieces < i → slice_index new i ≡ slice_index old (i + count - pieces)
 
+-- behind a place stand the words that stood so many places behind, up to the last area that is left, and all else is as before
+pub record MovesDown (at fewer left : ℕ) (old new : List ℕ) : Type 0 where
+  pub as_long : length new ≡ length old
+  pub front : (i : ℕ) → i ≤ at → slice_index new i ≡ slice_index old i
+  pub moved : (i : ℕ) → at < i → i ≤ left → slice_index new i ≡ slice_index old (i + fewer)
+  pub back : (i : ℕ) → left < i → slice_index new i ≡ slice_index old i
+
+-- the words behind a place and up to another are 0, and all else is as before
+pub record IsCleared (from upto : ℕ) (old new : List ℕ) : Type 0 where
+  pub as_long : length new ≡ length old
+  pub front : (i : ℕ) → i ≤ from → slice_index new i ≡ slice_index old i
+  pub zeros : (i : ℕ) → from < i → i ≤ upto → slice_index new i ≡ 0
+  pub back : (i : ℕ) → upto < i → slice_index new i ≡ slice_index old i
+
 -- the pieces' words stand behind so many areas, and all else is as before
 pub record IsWritten (at : ℕ) (words old new : List ℕ) : Type 0 where
   pub as_long : length new ≡ length old

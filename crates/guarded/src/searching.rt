@@ -1,5 +1,5 @@
 //! What a holder looks for in an address space under its lock.
-ghost use Rattle.std.specs.Prelude.{◌≡◌, ◌≢◌, ◌<◌, ◌≤◌, Some, length, slice_get, take};
+ghost use Rattle.std.specs.Prelude.{◌≡◌, ◌≢◌, ◌<◌, ◌≤◌, Some, drop, length, slice_get, take};
 ghost use Rattle.std.specs.List.{AllByRecursion};
 ghost use Rattle.word_bits.specs.PageMaps.{PageMap, IsPageMap, runs};
 ghost use Rattle.lock_core.specs.declared.view.Held.TheVariants.{No};
@@ -11,7 +11,7 @@ ghost use Rattle.guarded.specs.Serving.{readable_from, share};
 ghost use Rattle.guarded.specs.Splicing.{HaveAreas, areas_in};
 
 use crate::lock::SleepLock;
-use vma_map::{Areas, Search};
+use vma_map::{Areas, Bisection, Search};
 use word_bits::Area;
 
 /// The run that has the page. `None` where the page is unmapped. It loads only the words that the
@@ -54,8 +54,13 @@ pub(crate) fn area_at<L: SleepLock<Areas>>(lock: &L, pass: &mut L::Pass, at: usi
     }
 }
 
-/// How many areas end at a page or before it: each of the first so many does.
-fn count_ended<L: SleepLock<Areas>>(lock: &L, pass: &mut L::Pass, page: u32, count: usize) -> usize
+/// How many areas end at a page or before it. The space has `count` areas.
+fn count_ended_by<L: SleepLock<Areas>>(
+    lock: &L,
+    pass: &mut L::Pass,
+    page: u32,
+    count: usize,
+) -> usize
     requires own { L.sits lock.now pass.old }
     requires held { (L.view pass.old).hand.held ≢ No }
     requires areas { HaveAreas (L.view pass.old).hand.known }
@@ -66,18 +71,18 @@ fn count_ended<L: SleepLock<Areas>>(lock: &L, pass: &mut L::Pass, page: u32, cou
     ensures within { result ≤ count }
     ensures ended { AllByRecursion (λ area. area.end ≤ page)
         (take result (areas_in (L.view pass.old).hand.known)) }
+    ensures others { AllByRecursion (λ area. page < area.end)
+        (drop result (areas_in (L.view pass.old).hand.known)) }
 {
-    let mut low = 0;
-    let mut high = count;
-    while low < high {
-        let middle = low + (high - low) / 2;
+    let mut ended = Bisection::new(count);
+    while let Some(middle) = ended.middle() {
         if area_at(lock, pass, middle).end <= page {
-            low = middle + 1;
+            ended.passes();
         } else {
-            high = middle;
+            ended.fails();
         }
     }
-    low
+    ended.least()
 }
 
 /// How many pages of a range admit reading, by the areas that meet it.
@@ -100,7 +105,7 @@ pub(crate) fn count_readable<L: SleepLock<Areas>>(
     let end = start.saturating_add(len);
     let mut pages = 0;
     // Nobody writes while the pass holds, so the areas are those of one moment.
-    for at in count_ended(lock, pass, start, count)..count {
+    for at in count_ended_by(lock, pass, start, count)..count {
         let area = area_at(lock, pass, at);
         if end <= area.start {
             // The areas stand in order, so none behind this one meets the range.

@@ -1,12 +1,10 @@
 //! The areas of a space in the words that its lock guards.
-ghost use Rattle.std.specs.Prelude.{◌≡◌, ◌≢◌, ◌+◌, ◌≤◌, length, map, slice_index};
+ghost use Rattle.std.specs.Prelude.{◌≡◌, ◌+◌, ◌-◌, ◌≤◌, length, map};
 ghost use Rattle.word_bits.specs.AreaWord.{area_word};
-ghost use Rattle.lock_core.specs.declared.view.Held.TheVariants.{No, Alone};
-ghost use Rattle.lock_core.specs.Shown.{PastGoesOn};
-ghost use Rattle.lock_core.specs.Locking.{Looks};
+ghost use Rattle.lock_core.specs.declared.view.Held.TheVariants.{Alone};
 ghost use Rattle.vma_map.specs.Runs.{AreRuns};
 ghost use Rattle.guarded.specs.Serving.{AreZeroFrom};
-ghost use Rattle.guarded.specs.Splicing.{ChangesWords, HaveAreas, IsWritten, MakeRoom, areas_in};
+ghost use Rattle.guarded.specs.Splicing.{ChangesWords, HaveAreas, IsCleared, IsWritten, MakeRoom, MovesDown, areas_in};
 
 use crate::lock::SleepLock;
 use crate::searching::area_at;
@@ -97,28 +95,42 @@ fn close_up<L: SleepLock<Areas>>(lock: &L, pass: &mut L::Pass, at: usize, fewer:
     ensures moved { MakeRoom at fewer 0
         (L.view pass.old).hand.known (L.view pass.new).hand.known }
 {
-    for place in at + 1..len + 1 {
-        let word = word_or_zero(lock, pass, place + fewer, len);
+    move_down(lock, pass, at, fewer, len);
+    write_zeros(lock, pass, len - fewer, len);
+}
+
+/// Moves the areas behind so many down over these. Of the places of the last ones none is written.
+fn move_down<L: SleepLock<Areas>>(lock: &L, pass: &mut L::Pass, at: usize, fewer: usize, len: usize)
+    requires own { L.sits lock.now pass.old }
+    requires held { (L.view pass.old).hand.held ≡ Alone }
+    requires long { length (L.view pass.old).hand.known ≡ 257 }
+    requires within { at + fewer ≤ len }
+    requires few { len ≤ 256 }
+    ensures own { L.sits lock.now pass.new }
+    ensures kept { ChangesWords (L.view pass.old) (L.view pass.new) }
+    ensures moved { MovesDown at fewer (len - fewer)
+        (L.view pass.old).hand.known (L.view pass.new).hand.known }
+{
+    for place in at + 1..len - fewer + 1 {
+        let word = lock.word(pass, place + fewer);
         lock.set_word(pass, place, word);
     }
 }
 
-/// The word at a place, and 0 behind those of the areas.
-fn word_or_zero<L: SleepLock<Areas>>(lock: &L, pass: &mut L::Pass, place: usize, len: usize) -> u64
+/// Writes 0 over the areas behind so many, up to the last of `len`.
+fn write_zeros<L: SleepLock<Areas>>(lock: &L, pass: &mut L::Pass, at: usize, len: usize)
     requires own { L.sits lock.now pass.old }
-    requires held { (L.view pass.old).hand.held ≢ No }
+    requires held { (L.view pass.old).hand.held ≡ Alone }
+    requires long { length (L.view pass.old).hand.known ≡ 257 }
+    requires within { at ≤ len }
     requires few { len ≤ 256 }
-    requires zeros { AreZeroFrom (len + 1) (L.view pass.old).hand.known }
     ensures own { L.sits lock.now pass.new }
-    ensures goes_on { PastGoesOn (L.view pass.old) (L.view pass.new) }
-    ensures kept { Looks (L.view pass.old) (L.view pass.new) }
-    ensures value { result ≡ slice_index (L.view pass.old).hand.known place }
+    ensures kept { ChangesWords (L.view pass.old) (L.view pass.new) }
+    ensures zeros { IsCleared at len
+        (L.view pass.old).hand.known (L.view pass.new).hand.known }
 {
-    // A place behind the areas may be past the last word, and what is there is known.
-    if place <= len {
-        lock.word(pass, place)
-    } else {
-        0
+    for place in at + 1..len + 1 {
+        lock.set_word(pass, place, 0);
     }
 }
 

@@ -26,6 +26,15 @@ ended-begun (a ∷ areas) (suc at) (suc begun) start end runs some within ended 
     let rest = ended-begun areas at begun start end (AreRuns-tail a areas runs) some (omega (arith, within)) ended.1 behind in
     omega (arith, rest)
 
+-- areas that end before a range have begun in front of its end
+pub ended-starts : (areas : List Area) (at start end : ℕ) → AreRuns areas → start < end → AllByRecursion (λ a. a.end < start) (take at areas) → AllByRecursion (λ a. a.start ≤ end) (take at areas)
+ended-starts areas zero start end runs some ended = tt
+ended-starts [] (suc at) start end runs some ended = tt
+ended-starts (a ∷ areas) (suc at) start end runs some ended =
+    let first = ended.0 in
+    let is = (AreRuns-head a areas runs).some in
+    (omega (arith, first, is, some), ended-starts areas at start end (AreRuns-tail a areas runs) some ended.1)
+
 -- those that begin behind the range, behind the ones that end in front of it
 pub behind-met : (areas : List Area) (at begun start end : ℕ) → AreRuns areas → start < end → at ≤ length areas → AllByRecursion (λ a. a.end < start) (take at areas) → AllByRecursion (λ a. end < a.start) (drop begun areas) → AllByRecursion (λ a. end < a.start) (drop (begun - at) (drop at areas))
 behind-met areas at begun start end runs some within ended behind =

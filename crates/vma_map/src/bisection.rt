@@ -4,7 +4,7 @@ ghost use Rattle.std.specs.Prelude.{◌≤◌};
 /// A binary search for how many places in order pass a test, where those that do come first. Who
 /// searches tests only the place in the middle of those that are left.
 #[derive(Clone, Copy)]
-pub(crate) struct Bisection {
+pub struct Bisection {
     /// How many places pass, at least and at most.
     low: usize,
     high: usize,
@@ -16,7 +16,7 @@ impl Bisection {
     ghost use Rattle.vma_map.specs.Bisections.{least, most, middle_of};
 
     /// A search among so many places of which nothing is known.
-    pub(crate) fn new(count: usize) -> Bisection
+    pub fn new(count: usize) -> Bisection
         ensures least { least result ≡ 0 }
         ensures most { most result ≡ count }
     {
@@ -27,14 +27,14 @@ impl Bisection {
     }
 
     /// How many places are known to pass.
-    pub(crate) fn least(&self) -> usize
+    pub fn least(&self) -> usize
         ensures { result ≡ least self.now }
     {
         self.low
     }
 
     /// The place to test next. `None` where none is left.
-    pub(crate) fn middle(&self) -> Option<usize>
+    pub fn middle(&self) -> Option<usize>
         ensures some { IfSome result (λ at. at ≡ middle_of self.now) }
         ensures left { IfSome result (λ at. least self.now < most self.now) }
         ensures none { IfNone result (least self.now ≡ most self.now) }
@@ -47,7 +47,7 @@ impl Bisection {
     }
 
     /// Tells that the place in the middle passes.
-    pub(crate) fn passes(&mut self)
+    pub fn passes(&mut self)
         requires left { least self.old < most self.old }
         ensures least { least self.new ≡ middle_of self.old + 1 }
         ensures most { most self.new ≡ most self.old }
@@ -56,7 +56,7 @@ impl Bisection {
     }
 
     /// Tells that the place in the middle fails.
-    pub(crate) fn fails(&mut self)
+    pub fn fails(&mut self)
         requires left { least self.old < most self.old }
         ensures least { least self.new ≡ least self.old }
         ensures most { most self.new ≡ middle_of self.old }

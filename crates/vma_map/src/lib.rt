@@ -13,6 +13,7 @@ mod store;
 mod words;
 
 pub use areas::Areas;
+pub use bisection::Bisection;
 pub use call::SpaceCall;
 pub use calls::{apply, meet};
 pub use remapping::remap;

@@ -54,6 +54,36 @@ pub(crate) fn count_begun<S: AreaStore>(place: &S::Place, hand: &mut S::Hand, pa
     begun.least()
 }
 
+/// The same, where those in front of a place are known to have begun. It looks at the next ones in
+/// turn: of the areas that a change meets, all but the first and the last vanish by it.
+pub(crate) fn count_begun_from<S: AreaStore>(
+    place: &S::Place,
+    hand: &mut S::Hand,
+    from: usize,
+    page: u32,
+) -> usize
+    requires has { S.has place.now hand.old }
+    requires inside { from ≤ length (S.areas place.now hand.old) }
+    requires front { AllByRecursion (λ area. area.start ≤ page)
+        (take from (S.areas place.now hand.old)) }
+    ensures has { S.has place.now hand.new }
+    ensures kept { S.keeps place.now hand.old hand.new }
+    ensures same { S.areas place.now hand.new ≡ S.areas place.now hand.old }
+    ensures within { result ≤ length (S.areas place.now hand.old) }
+    ensures begun { AllByRecursion (λ area. area.start ≤ page)
+        (take result (S.areas place.now hand.old)) }
+    ensures others { AllByRecursion (λ area. page < area.start)
+        (drop result (S.areas place.now hand.old)) }
+{
+    let count = S::len(place, hand);
+    for at in from..count {
+        if page < S::get(place, hand, at).start {
+            return at;
+        }
+    }
+    count
+}
+
 /// The protection of a page, where it is mapped.
 pub(crate) fn prot_of<S: AreaStore>(place: &S::Place, hand: &mut S::Hand, page: u32) -> Option<u8>
     requires has { S.has place.now hand.old }

@@ -7,7 +7,7 @@ ghost use Rattle.vma_map.specs.Runs.{page_map, AreRuns, ends_of};
 ghost use Rattle.vma_map.specs.Spaces.{changed};
 
 use crate::MAX_AREAS;
-use crate::query::{count_begun, count_ended};
+use crate::query::{count_begun_from, count_ended};
 use crate::store::AreaStore;
 use arrayvec::ArrayVec;
 use word_bits::{Area, Errno};
@@ -222,7 +222,7 @@ pub(crate) fn change<S: AreaStore>(
     ensures errno { IfErr result (λ errno. errno ≡ Errno.NoMem) }
 {
     let at = count_ended::<S>(place, hand, start);
-    let count = count_begun::<S>(place, hand, end) - at;
+    let count = count_begun_from::<S>(place, hand, at, end) - at;
     let met = ends_of::<S>(place, hand, at, count);
     let pieces = pieces_of(met.as_slice(), start, end, prot);
     if S::len(place, hand) - count + pieces.len() > MAX_AREAS {

@@ -6,7 +6,7 @@ ghost use Rattle.word_bits.specs.PageMaps.{PageMap, runs};
 ghost use Rattle.vma_map.specs.Runs.{page_map, AreRuns};
 ghost use Rattle.vma_map.specs.Remaps.{AreApart, IsMoved, IsRemapAnswer, with_moved};
 
-use crate::query::{count_begun, count_ended, is_mapped};
+use crate::query::{count_begun_from, count_ended, is_mapped};
 use crate::range::append;
 use crate::store::AreaStore;
 use crate::{MAX_AREAS, PAGES};
@@ -142,7 +142,7 @@ fn meeting<S: AreaStore>(
         (drop result.1 (drop result.0 (S.areas place.now hand.old))) }
 {
     let at = count_ended::<S>(place, hand, start);
-    (at, count_begun::<S>(place, hand, end) - at)
+    (at, count_begun_from::<S>(place, hand, at, end) - at)
 }
 
 /// Moves pages to a range apart, and answers its start. All areas from the one range to the other

@@ -29,13 +29,13 @@ pub loop-at-init : goal.loop-at-init
 loop-at-init g c =
     let v = g.L.SleepLock.view c.args.pass.now in
     let u = g.L.SleepLock.view c.word-count.new.pass in
-    let w = g.L.SleepLock.view c.count_ended-at.new.pass in
-    let n = c.count_ended-at.result in
+    let w = g.L.SleepLock.view c.count_ended_by-at.new.pass in
+    let n = c.count_ended_by-at.result in
     let end = c.saturating_add-end.result in
-    let ended = subst (λ (ws : List ℕ). AllByRecursion (λ (a : Area). a.end ≤ c.args.start) (take n (areas_in ws))) (same-known v u c.word-count.ensures.kept) c.count_ended-at.ensures.ended in (
-      c.count_ended-at.ensures.own,
-      looks-trans v u w c.word-count.ensures.kept c.count_ended-at.ensures.kept,
-      (λ p t. c.count_ended-at.ensures.goes_on p (c.word-count.ensures.goes_on p t)),
+    let ended = subst (λ (ws : List ℕ). AllByRecursion (λ (a : Area). a.end ≤ c.args.start) (take n (areas_in ws))) (same-known v u c.word-count.ensures.kept) c.count_ended_by-at.ensures.ended in (
+      c.count_ended_by-at.ensures.own,
+      looks-trans v u w c.word-count.ensures.kept c.count_ended_by-at.ensures.kept,
+      (λ p t. c.count_ended_by-at.ensures.goes_on p (c.word-count.ensures.goes_on p t)),
       sym (shares-ended (take n (areas_in v.hand.known)) c.args.start end ended),
     )
 

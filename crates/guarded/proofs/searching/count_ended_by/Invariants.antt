@@ -1,0 +1,20 @@
+-- The areas in front of the least number have ended, and those from the greatest on haven't.
+use Rattle.std.proofs.Common.{◌-◌, ◌<◌, ◌≤◌, drop, take, length}
+use Rattle.std.specs.List.{AllByRecursion}
+use Rattle.lock_core.specs.Shown.{PastGoesOn}
+use Rattle.lock_core.specs.Locking.{Looks}
+use Rattle.vma_map.specs.Bisections.{least, most}
+use Rattle.guarded.specs.Splicing.{areas_in}
+use Rattle.guarded.proofs.searching.count_ended_by.Given as goal
+
+abbrev pub invariant-loop-middle : goal.invariant-loop-middle
+invariant-loop-middle g l =
+    g.L.SleepLock.sits l.lock l.pass
+    × Looks (g.L.SleepLock.view l.fn.pass) (g.L.SleepLock.view l.pass)
+    × PastGoesOn (g.L.SleepLock.view l.fn.pass) (g.L.SleepLock.view l.pass)
+    × (most l.ended ≤ length (areas_in (g.L.SleepLock.view l.fn.pass).hand.known))
+    × AllByRecursion (λ a. a.end ≤ l.page) (take (least l.ended) (areas_in (g.L.SleepLock.view l.fn.pass).hand.known))
+    × AllByRecursion (λ a. l.page < a.end) (drop (most l.ended) (areas_in (g.L.SleepLock.view l.fn.pass).hand.known))
+
+abbrev pub decreases-loop-middle : goal.decreases-loop-middle
+decreases-loop-middle g l = most l.ended - least l.ended
