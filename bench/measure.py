@@ -30,15 +30,14 @@ def space_call(number):
     return f"fault {page} {'rwx'[number % 3]}"
 
 
+def table_calls(number):
+    """One of each kind: opens, looks, copies and closes."""
+    return [f"open {number % 65536}", f"get {number % 64}", f"dup {number % 32}", f"close {number * 7 % 64}"]
+
+
 def table_call(number):
-    """Opens, closes and copies, with a signal to each fifth."""
-    return [
-        f"open {number % 65536}",
-        f"get {number % 64}",
-        f"dup {number % 32}",
-        f"close {number * 7 % 64}",
-        f"signal {number % 64}",
-    ][number % 5]
+    """One of these, and each fifth a signal."""
+    return [*table_calls(number), f"signal {number % 64}"][number % 5]
 
 
 def one_task(number):
@@ -71,7 +70,7 @@ def full_space(number):
 
 
 def one_table(number):
-    return f"a {[f'open {number % 65536}', f'get {number % 64}', f'dup {number % 32}', f'close {number * 7 % 64}'][number % 4]}"
+    return f"a {table_calls(number)[number % 4]}"
 
 
 def mostly_read(number):

@@ -4,6 +4,8 @@ use crate::run::Object;
 use crate::space::Area;
 use std::io::Write;
 
+/// Writes a number by hand, because std's formatting takes longer: with `write!` a run of
+/// `--generate 7` takes 24 million instructions in place of 14 million.
 fn put(out: &mut Vec<u8>, number: u32) {
     let (mut digits, mut at, mut rest) = ([0; 10], 10, number);
     loop {
