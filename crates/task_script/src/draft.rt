@@ -59,12 +59,28 @@ impl Model for Draft {
         × (are_named (map declared_of d.objects.entries) ≡ true) };
 }
 
-/// Whether a key is the name. Names that differ mostly do so in their last byte.
+/// Whether two texts of one length are the same. Names that differ mostly do so in their last byte,
+/// so this one goes first.
+fn is_same(text: &[u8], name: &[u8]) -> bool
+    requires { length text.now ≡ length name.now }
+    ensures { result ≡ bytes_eq name.now text.now }
+{
+    let mut left = name.len();
+    while left > 0 {
+        left -= 1;
+        if text[left] != name[left] {
+            return false;
+        }
+    }
+    true
+}
+
+/// Whether a key is the name.
 fn is_key(key: &Name, name: &[u8]) -> bool
     ensures { result ≡ bytes_eq name.now key.now.bytes }
 {
     let key = key.as_str().as_bytes();
-    name.len() == key.len() && name.last() == key.last() && *name == *key
+    key.len() == name.len() && is_same(key, name)
 }
 
 /// The place of a name among those of the objects.

@@ -1,5 +1,5 @@
 //! Text on its way to a sink, gathered into large pieces, so that a line costs no call of the sink.
-ghost use Rattle.std.specs.Prelude.{◌≡◌, ◌+◌, ◌≤◌, ◌++◌, [], length, decimal, OnOk, OnErr};
+ghost use Rattle.std.specs.Prelude.{◌≡◌, ◌+◌, ◌%◌, ◌≤◌, ◌++◌, [], length, decimal, OnOk, OnErr};
 ghost use Rattle.task_script.specs.Causes.{CountsFailure, Flushes};
 ghost use Rattle.task_script.specs.Rooms.{MakesRoom};
 
@@ -10,6 +10,13 @@ use std::marker::Model;
 
 /// How many bytes are free after room was made.
 const ROOM: usize = 256;
+
+/// The last decimal digit of a number.
+fn digit(number: u64) -> u8
+    ensures { result ≡ 48 + number % 10 }
+{
+    b'0' + (number % 10) as u8
+}
 
 /// Up to 4096 bytes that wait to be written. Contracts see the list of them.
 #[derive(Drop)]
@@ -56,12 +63,15 @@ impl Outbox {
         ensures text { self.new ≡ self.old ++ decimal number }
         ensures short { length self.new ≤ length self.old + 20 }
     {
-        // Most numbers have one digit or two, which need no buffer.
+        // Most numbers have one to three digits, which need no buffer.
         if number < 10 {
-            return self.add(&[b'0' + number as u8]);
+            return self.add(&[digit(number)]);
         }
         if number < 100 {
-            return self.add(&[b'0' + (number / 10) as u8, b'0' + (number % 10) as u8]);
+            return self.add(&[digit(number / 10), digit(number)]);
+        }
+        if number < 1000 {
+            return self.add(&[digit(number / 100), digit(number / 10), digit(number)]);
         }
         let mut digits = Buffer::new();
         self.add(digits.format(number).as_bytes());

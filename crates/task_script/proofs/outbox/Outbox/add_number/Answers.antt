@@ -1,13 +1,19 @@
--- The decimal of a number below a hundred is its one digit or its two.
-use Rattle.std.proofs.Common.{◌++◌, ◌∷◌, [], ◌+◌, ◌%◌, ◌/◌, ◌∙◌, ap, sym, arith}
-use Rattle.std.proofs.lemmas.Fmt.{decimal_digit, decimal_step}
+-- The decimal of a number below a thousand is its one digit, its two or its three.
+use Rattle.std.proofs.Common.{◌++◌, ◌∙◌, ap, sym}
+use Rattle.task_script.proofs.Decimals.{one_digit, two_digits, three_digits}
 use Rattle.task_script.proofs.outbox.Outbox.add_number.Goals as goal
 
 pub returns-then-number-lt10-clause-text : goal.returns-then-number-lt10-clause-text
-returns-then-number-lt10-clause-text c = c.add.ensures ∙ ap (λ t. c.args.self.now ++ t) (sym (decimal_digit c.args.number c.if-number-lt10.true))
+returns-then-number-lt10-clause-text c =
+    let digits = one_digit c.args.number c.if-number-lt10.true in
+    c.add.ensures ∙ ap (λ t. c.args.self.now ++ t) (rw c.digit.ensures (sym digits))
 
 pub returns-then-number-lt100-clause-text : goal.returns-then-number-lt100-clause-text
 returns-then-number-lt100-clause-text c =
-    let n = c.args.number in
-    let first = ap (λ t. t ++ (48 + n % 10) ∷ []) (decimal_digit (n / 10) (omega arith)) in
-    c.add-then-number-lt100.ensures ∙ ap (λ t. c.args.self.now ++ t) (sym (decimal_step n (omega arith) (omega arith) ∙ first))
+    let digits = two_digits c.args.number c.if-number-lt10.false c.if-number-lt100.true in
+    c.add-then-number-lt100.ensures ∙ ap (λ t. c.args.self.now ++ t) (rw (c.digit-then-number-lt100.ensures, c.digit-then-number-lt100-2.ensures) (sym digits))
+
+pub returns-then-number-lt1000-clause-text : goal.returns-then-number-lt1000-clause-text
+returns-then-number-lt1000-clause-text c =
+    let digits = three_digits c.args.number c.if-number-lt100.false c.if-number-lt1000.true in
+    c.add-then-number-lt1000.ensures ∙ ap (λ t. c.args.self.now ++ t) (rw (c.digit-then-number-lt1000.ensures, c.digit-then-number-lt1000-2.ensures, c.digit-then-number-lt1000-3.ensures) (sym digits))
