@@ -14,7 +14,7 @@ use Rattle.guarded.specs.Splicing.{area_of, areas_in, HaveAreas, MakeRoom, IsWri
 use Rattle.guarded.proofs.Padding.{zeros-index, space-zero}
 
 -- the area of an area's word
-area_of-word : (a : Area) → IsArea a → area_of (area_word a) ≡ a
+pub area_of-word : (a : Area) → IsArea a → area_of (area_word a) ≡ a
 area_of-word a is =
     let prot = is.prot in
     let some = is.some in
@@ -23,6 +23,14 @@ area_of-word a is =
     let end' : area_word a / 2 ^ 3 % 2 ^ 21 ≡ a.end = omega (arith, prot, within) in
     let prot' : area_word a % 2 ^ 3 ≡ a.prot = omega (arith, prot, within) in
     λ i. record { start = start' i; end = end' i; prot = prot' i }
+
+-- which has 44 bits
+pub area_word-fits : (a : Area) → IsArea a → area_word a < 2 ^ 44
+area_word-fits a is =
+    let prot = is.prot in
+    let some = is.some in
+    let within = is.within in
+    omega (arith, prot, some, within)
 
 areas-of : (areas : List Area) → AreRuns areas → map area_of (map area_word areas) ≡ areas
 areas-of [] runs = refl

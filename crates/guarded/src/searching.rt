@@ -1,5 +1,5 @@
 //! What a holder looks for in an address space under its lock.
-ghost use Rattle.std.specs.Prelude.{◌≡◌, ◌≢◌, ◌<◌, ◌≤◌, Some, drop, length, slice_get, take};
+ghost use Rattle.std.specs.Prelude.{◌≡◌, ◌≢◌, ◌^◌, ◌<◌, ◌≤◌, Some, drop, length, slice_get, take};
 ghost use Rattle.std.specs.List.{AllByRecursion};
 ghost use Rattle.word_bits.specs.PageMaps.{PageMap, IsPageMap, runs};
 ghost use Rattle.lock_core.specs.declared.view.Held.TheVariants.{No};
@@ -8,7 +8,7 @@ ghost use Rattle.lock_core.specs.Locking.{Looks};
 ghost use Rattle.vma_map.specs.Runs.{page_map};
 ghost use Rattle.vma_map.specs.Spaces.{IsRunAt, stores};
 ghost use Rattle.guarded.specs.Serving.{readable_from, share};
-ghost use Rattle.guarded.specs.Splicing.{HaveAreas, areas_in};
+ghost use Rattle.guarded.specs.Splicing.{HaveAreas, area_of, areas_in};
 
 use crate::lock::SleepLock;
 use vma_map::{Areas, Bisection, Search};
@@ -48,9 +48,18 @@ pub(crate) fn area_at<L: SleepLock<Areas>>(lock: &L, pass: &mut L::Pass, at: usi
     ensures kept { Looks (L.view pass.old) (L.view pass.new) }
     ensures area { slice_get (areas_in (L.view pass.old).hand.known) at ≡ Some result }
 {
-    match Area::unpack(lock.word(pass, at + 1)) {
-        Some(area) => area,
-        None => unreachable!(),
+    area_of(lock.word(pass, at + 1))
+}
+
+/// The area that has this word. Each word of a space has one, so it isn't tested again.
+fn area_of(word: u64) -> Area
+    requires { word < 2 ^ 44 }
+    ensures { result ≡ area_of word }
+{
+    Area {
+        start: (word >> 24) as u32,
+        end: ((word >> 3) & 0x1f_ffff) as u32,
+        prot: (word & 7) as u8,
     }
 }
 
