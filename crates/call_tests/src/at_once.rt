@@ -68,7 +68,7 @@ fn two_serve_at_once<
     R: Threads + Wait + Sync,
     C: Crew<C: Send> + Sync,
     G: Start + Sync,
-    L: SleepLock<O, Pass: Send> + Sync,
+    L: SleepLock<O, Pass: Send, Site: Sync, Rule: Sync> + Sync,
     O: Served<Call: Sync> + Drop + Sync,
 >(
     rt: &R,
@@ -128,7 +128,7 @@ fn four_serve_at_once<
     R: Threads + Wait + Sync,
     C: Crew<C: Send> + Sync,
     G: Start + Sync,
-    L: SleepLock<O, Pass: Send> + Sync,
+    L: SleepLock<O, Pass: Send, Site: Sync, Rule: Sync> + Sync,
     O: Served<Call: Sync> + Drop + Sync,
 >(
     rt: &R,
@@ -207,7 +207,7 @@ pub fn history_of_four<
     R: Threads + Wait + Sync,
     C: Crew<C: Send> + Sync + Drop,
     G: Start + Sync,
-    L: SleepLock<O, Pass: Send> + Sync + Drop,
+    L: SleepLock<O, Pass: Send, Site: Sync, Rule: Sync> + Sync + Drop,
     O: Served<Call: Sync> + Drop + Sync,
 >(rt: &R, alloc: Global, plan: Plan, mut crew: C, gate: &G) -> Result<Snapshot, AllocError>
     requires plan { IsPlan O.object plan }

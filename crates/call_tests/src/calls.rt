@@ -3,12 +3,12 @@ ghost use Rattle.std.specs.Prelude.{◌≡◌, ◌≢◌, length, true, false, I
 ghost use Rattle.lock_core.specs.declared.view.Held.TheVariants.{No, Alone};
 ghost use Rattle.lock_core.specs.Shown.{IsNextCall};
 ghost use Rattle.lock_core.specs.Locking.{IsStored};
-ghost use Rattle.lock_core.specs.Handles.{hand_in, task_in, held_in, done_in, SaysSame};
-ghost use Rattle.mutex_word.specs.Handles.{plan_of, SitsAt};
-ghost use Rattle.call_tests.specs.Standing.{OwesNothing, OwesSame, SameSpin};
+ghost use Rattle.mutex_word.specs.Handles.{plan_of, hand_in, task_in, held_in, SitsAt};
+ghost use Rattle.call_tests.specs.Standing.{OwesNothing, OwesSame, SameSpin, SaysSame};
 
 use lock_core::Interrupted;
 use mutex_word::{OwnerPass, OwnerSite};
+use site_lock::SiteLock;
 use std::thread;
 use word_bits::{CallWords, MAX_TASKS, Mode, Object, Reply};
 
@@ -29,12 +29,12 @@ fn next_call<O: Object>(site: &OwnerSite<O>, pass: &mut OwnerPass<O>) -> Option<
     ensures face { SaysSame pass.old pass.new }
     ensures hand { hand_in pass.new ≡ hand_in pass.old }
     ensures spin { SameSpin pass.old pass.new }
-    ensures number { IfSome result (λ next. next.call ≡ done_in pass.old) }
+    ensures number { IfSome result (λ next. next.call ≡ (hand_in pass.old).done) }
     ensures words { IfSome result (λ next.
         IsNextCall (plan_of site.now) (hand_in pass.old) next.words) }
 {
-    let task = pass.task()?;
-    let call = pass.done();
+    let task = site.task(pass)?;
+    let call = site.done(pass);
     if task >= site.tasks() || call >= site.calls(task) {
         return None;
     }

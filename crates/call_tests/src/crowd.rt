@@ -28,7 +28,7 @@ fn serve_each<
     R: Threads + Wait + Sync,
     C: Crew<C: Send> + Sync,
     G: Start + Sync,
-    L: SleepLock<O, Pass: Send> + Sync,
+    L: SleepLock<O, Pass: Send, Site: Sync, Rule: Sync> + Sync,
     O: Served<Call: Sync> + Drop + Sync,
 >(rt: &R, guarded: &Guarded<L, O>, members: &mut [(L::Pass, C::C)], crew: &C, gate: &G)
     requires fresh { AreFresh (L.sits (lock_of guarded.now)) L.view members.old }
@@ -90,7 +90,7 @@ pub fn what_all_leave<
     R: Threads + Wait + Sync,
     C: Crew<C: Send> + Sync + Drop,
     G: Start + Sync,
-    L: SleepLock<O, Pass: Send> + Sync + Drop,
+    L: SleepLock<O, Pass: Send, Site: Sync, Rule: Sync> + Sync + Drop,
     O: Served<Call: Sync> + Drop + Sync,
 >(rt: &R, alloc: Global, plan: Plan, mut crew: C, gate: &G) -> Result<Snapshot, AllocError>
     requires plan { IsPlan O.object plan }

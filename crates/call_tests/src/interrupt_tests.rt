@@ -60,11 +60,10 @@ struct Calls {
 }
 
 /// A copy of what the tasks leave that do these calls on a space under such a lock.
-fn history_of<R: Threads + Wait + Sync, L: SleepLock<Areas, Pass: Send> + Sync + Drop>(
-    rt: &R,
-    alloc: Global,
-    calls: Calls,
-) -> Result<Snapshot, AllocError> {
+fn history_of<
+    R: Threads + Wait + Sync,
+    L: SleepLock<Areas, Pass: Send, Site: Sync, Rule: Sync> + Sync + Drop,
+>(rt: &R, alloc: Global, calls: Calls) -> Result<Snapshot, AllocError> {
     let plan = plan_with::<Areas>(
         alloc,
         4,

@@ -3,11 +3,12 @@
 
 use cpu_task::Crew;
 use guarded::SleepLock;
-use lock_core::{Held, How, Interrupted, Plan, Tally};
-use mutex_word::{OwnerPass, OwnerSite};
+use lock_core::{How, Interrupted, Pass, Plan, Site, Tally};
+use mutex_word::{OwnerPass, OwnerRule, OwnerSite};
+use site_lock::SiteLock;
 use std::alloc::{AllocError, Global};
 use std::sync::Wait;
-use word_bits::{CallWords, Object, Reply};
+use word_bits::Object;
 
 /// An object under an owner word.
 #[derive(Drop)]
@@ -15,22 +16,65 @@ pub struct OwnerLock<O: Object> {
     site: OwnerSite<O>,
 }
 
-impl<O: Object> SleepLock<O> for OwnerLock<O> {
-    ghost use Rattle.std.specs.Prelude.{◌≡◌, []};
-    ghost use Rattle.lock_core.specs.Kinds.{mutex};
+impl<O: Object> SiteLock<O> for OwnerLock<O> {
+    ghost use Rattle.std.specs.Prelude.{refl};
     ghost use Rattle.mutex_word.specs.Handles.{plan_of, shown_of};
-    ghost use Rattle.lock_core.specs.Pasts.{EachMoment};
-    ghost use Rattle.mutex_word.specs.Ruled.{IsOwnerSiteThen, newest, owner_at};
-    ghost use Rattle.call_tests.specs.OwnerLocks.{nobody_waits, SitsIdle};
-    ghost use Rattle.call_tests.specs.OwnerLockLaws.{sits-stands};
+    ghost use Rattle.call_tests.specs.OwnerLocks.{SitsIdle};
+    ghost use Rattle.call_tests.specs.OwnerLockLaws.{owner-frame};
+
+    type Rule = OwnerRule<O>;
+
+    type Site = Site<OwnerRule<O>>;
 
     type Pass = OwnerPass<O>;
+
+    ghost site_of = { λ l. l.site.site };
+
+    ghost seat_of = { λ p. p.pass };
+
+    ghost with_seat = { λ p w. record p { pass = w } };
+
+    ghost calls_on = { λ l. plan_of l.site };
+
+    ghost view = { shown_of };
+
+    ghost sits = { λ l p. SitsIdle O.object l.site p };
+
+    fn site(&self) -> &Site<OwnerRule<O>> {
+        self.site.site()
+    }
+
+    fn peek(pass: &OwnerPass<O>) -> &Pass<OwnerRule<O>> {
+        OwnerSite::peek(pass)
+    }
+
+    fn seat(pass: &mut OwnerPass<O>) -> &mut Pass<OwnerRule<O>> {
+        OwnerSite::seat(pass)
+    }
+
+    ghost plans = { λ l. refl };
+
+    ghost faces = { λ p. record { hand = refl; spin = refl; steps = refl; past = refl } };
+
+    ghost owns = { λ l p is. is.own };
+
+    ghost puts = { λ p w. refl };
+
+    ghost frame = { λ l p w is at beside hold.
+        owner-frame O.object l.site p w is at beside };
+}
+
+impl<O: Object> SleepLock<O> for OwnerLock<O> {
+    ghost use Rattle.std.specs.Prelude.{◌≡◌, [], refl};
+    ghost use Rattle.lock_core.specs.Kinds.{mutex};
+    ghost use Rattle.lock_core.specs.Pasts.{EachMoment};
+    ghost use Rattle.mutex_word.specs.Ruled.{IsOwnerSiteThen, newest, owner_at};
+    ghost use Rattle.call_tests.specs.OwnerLocks.{nobody_waits};
+    ghost use Rattle.call_tests.specs.OwnerLockLaws.{sits-stands};
 
     ghost kind = { mutex };
 
     ghost word_at = { owner_at };
-
-    ghost calls_on = { λ l. plan_of l.site };
 
     ghost opened = { newest };
 
@@ -50,11 +94,7 @@ impl<O: Object> SleepLock<O> for OwnerLock<O> {
 
     ghost turns_shared = { λ v u. u ≡ v };
 
-    ghost view = { shown_of };
-
     ghost spun = { λ p. [] };
-
-    ghost sits = { λ l p. SitsIdle O.object l.site p };
 
     fn open(alloc: Global, plan: Plan) -> Result<(OwnerLock<O>, OwnerPass<O>), AllocError> {
         let (site, pass) = OwnerSite::open(alloc, plan)?;
@@ -82,66 +122,6 @@ impl<O: Object> SleepLock<O> for OwnerLock<O> {
     }
 
     fn recall_queue(&self, _pass: &mut OwnerPass<O>) {}
-
-    fn word(&self, pass: &mut OwnerPass<O>, at: usize) -> u64 {
-        self.site.word(pass, at)
-    }
-
-    fn set_word(&self, pass: &mut OwnerPass<O>, at: usize, value: u64) {
-        self.site.set_word(pass, at, value);
-    }
-
-    fn commit(&self, pass: &mut OwnerPass<O>, call: u32, reply: Reply) {
-        self.site.commit(pass, call, reply);
-    }
-
-    fn note(&self, pass: &mut OwnerPass<O>, call: u32, reply: Reply) {
-        self.site.note(pass, call, reply);
-    }
-
-    fn signal(&self, pass: &mut OwnerPass<O>, target: u32) {
-        self.site.signal(pass, target);
-    }
-
-    fn tasks(&self) -> u32 {
-        self.site.tasks()
-    }
-
-    fn calls(&self, task: u32) -> u32 {
-        self.site.calls(task)
-    }
-
-    fn call(&self, pass: &mut OwnerPass<O>, task: u32, call: u32) -> CallWords {
-        self.site.call(pass, task, call)
-    }
-
-    fn rec_word(&self, pass: &mut OwnerPass<O>, task: u32, call: u32) -> u64 {
-        self.site.rec_word(pass, task, call)
-    }
-
-    fn log_len(&self, pass: &mut OwnerPass<O>) -> u32 {
-        self.site.log_len(pass)
-    }
-
-    fn log_word(&self, pass: &mut OwnerPass<O>, at: u32) -> u64 {
-        self.site.log_word(pass, at)
-    }
-
-    fn task(&self, pass: &OwnerPass<O>) -> Option<u32> {
-        pass.task()
-    }
-
-    fn held(&self, pass: &OwnerPass<O>) -> Held {
-        pass.held()
-    }
-
-    fn done(&self, pass: &OwnerPass<O>) -> u32 {
-        pass.done()
-    }
-
-    fn front(&self, pass: &OwnerPass<O>) -> u32 {
-        pass.front()
-    }
 
     fn tally(_pass: &OwnerPass<O>) -> Tally {
         Tally::new()
@@ -212,6 +192,14 @@ impl<O: Object> SleepLock<O> for OwnerLock<O> {
     }
 
     fn downgrade<W: Wait, C: Crew>(&self, _rt: &W, _pass: &mut OwnerPass<O>, _crew: &C) {}
+
+    ghost shuts = { λ reads word shut. shut };
+
+    ghost opens = { λ reads word shut. shut };
+
+    ghost leaves = { λ p w. refl };
+
+    ghost planned = { λ l p is. is.planned };
 
     ghost small = { λ l. l.site.site.small };
 

@@ -1,14 +1,15 @@
 //! Sites with an owner word over address spaces.
 ghost use Rattle.std.specs.Prelude.{◌≡◌, ◌≢◌, ◌<◌, length};
 ghost use Rattle.lock_core.specs.declared.view.Held.TheVariants.{No};
-ghost use Rattle.lock_core.specs.Handles.{hand_in, held_in, SaysSame};
-ghost use Rattle.mutex_word.specs.Handles.{plan_of, SitsAt};
+ghost use Rattle.mutex_word.specs.Handles.{plan_of, hand_in, held_in, SitsAt};
+ghost use Rattle.call_tests.specs.Standing.{SaysSame};
 
 use crate::calls::{interrupt, perform, send, take, try_next};
 use crate::plans::{fault_page, int_fault_page, map_page, plan_with, signal_task, try_map_page};
 use crate::rounds::four_at_once;
 use lock_core::{Held, Interrupted};
 use mutex_word::{OwnerPass, OwnerSite};
+use site_lock::SiteLock;
 use std::test::Fail;
 use vma_map::Areas;
 use word_bits::{Entry, Object, Reply};
@@ -27,6 +28,22 @@ fn stores(site: &OwnerSite<Areas>, pass: &mut OwnerPass<Areas>, want: &[u64; 257
         }
     }
     true
+}
+
+/// How many areas there are, how many entries the log has, and the word of the first.
+fn areas_and_log(site: &OwnerSite<Areas>, pass: &mut OwnerPass<Areas>) -> (u64, u32, Option<u64>)
+    requires own { SitsAt site.now pass.old }
+    requires held { (held_in pass.old) ≢ No }
+    ensures own { SitsAt site.now pass.new }
+    ensures face { SaysSame pass.old pass.new }
+    ensures hand { hand_in pass.new ≡ hand_in pass.old }
+{
+    let areas = site.word(pass, 0);
+    let entries = site.log_len(pass);
+    if entries == 0 {
+        return (areas, 0, None);
+    }
+    (areas, entries, Some(site.log_word(pass, 0)))
 }
 
 /// Does the log's calls one after the other on an empty space. Counts how many each task has, and
@@ -113,14 +130,15 @@ fn a_second_task_takes_the_lock_once_the_first_lets_it_go(rt: HostRuntime) -> Re
     assert_eq!(rt; perform(&site, &mut one), Some(Reply::Num(0)));
     site.unlock_once(&mut one);
     assert_eq!(rt; site.trylock_once(&mut two), Ok(()));
-    assert_eq!(rt; site.word(&mut two, 0), 1);
-    assert_eq!(rt; site.log_len(&mut two), 1);
-    assert_eq!(rt; site.log_word(&mut two, 0), 0);
+    assert_eq!(rt; areas_and_log(&site, &mut two), (1, 1, Some(0)));
     assert_eq!(rt; perform(&site, &mut two), Some(Reply::Num(2)));
     assert_eq!(rt; perform(&site, &mut two), Some(Reply::Good));
     assert_eq!(rt; perform(&site, &mut two), None);
     site.unlock_once(&mut two);
-    assert_eq!(rt; (two.done(), two.front(), two.held()), (2, 2, Held::No));
+    assert_eq!(rt;
+        (site.done(&two), site.front(&two), site.held(&two)),
+        (2, 2, Held::No)
+    );
     site.recall_holders(&mut two);
     site.grown(&mut two);
     Ok(())
@@ -148,7 +166,7 @@ fn a_call_that_does_not_wait_is_busy(rt: HostRuntime) -> Result<(), Fail> {
     );
     site.unlock_once(&mut one);
     assert_eq!(rt; try_next(&site, &mut two), Some(true));
-    assert_eq!(rt; (two.done(), two.held()), (1, Held::Alone));
+    assert_eq!(rt; (site.done(&two), site.held(&two)), (1, Held::Alone));
     Ok(())
 }
 
@@ -185,7 +203,10 @@ fn a_signal_interrupts_a_call_that_waits(rt: HostRuntime) -> Result<(), Fail> {
         record_word(&site, &mut two, interrupted),
         Some(7 * 262_144)
     );
-    assert_eq!(rt; (one.done(), two.done(), two.front()), (2, 2, 0));
+    assert_eq!(rt;
+        (site.done(&one), site.done(&two), site.front(&two)),
+        (2, 2, 0)
+    );
     Ok(())
 }
 
@@ -205,7 +226,7 @@ fn the_log_of_four_threads_has_each_commit_once(rt: HostRuntime) -> Result<(), F
     let (site, pass) = OwnerSite::<Areas>::open(rt.alloc(), plan)?;
     let mut pass = four_at_once(&rt, &site, pass);
     site.begin(&rt, &mut pass, 3);
-    assert_eq!(rt; pass.done(), ROUNDS);
+    assert_eq!(rt; site.done(&pass), ROUNDS);
     assert!(rt; take(&site, &mut pass));
     assert_eq!(rt; site.log_len(&mut pass), 4 * ROUNDS);
     let mut done = [0; 4];
@@ -236,7 +257,7 @@ fn each_signal_of_two_threads_interrupts_a_call_of_another(rt: HostRuntime) -> R
     let mut pass = four_at_once(&rt, &site, pass);
     for task in 0..4 {
         site.begin(&rt, &mut pass, task);
-        assert_eq!(rt; (pass.done(), pass.front()), (ROUNDS, 0));
+        assert_eq!(rt; (site.done(&pass), site.front(&pass)), (ROUNDS, 0));
         site.end(&mut pass);
     }
     assert!(rt; records_are(&site, &mut pass, 1, 8 * 262_144));

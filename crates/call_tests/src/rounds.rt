@@ -1,12 +1,12 @@
 //! Passes that do all calls of their tasks, on threads.
 ghost use Rattle.std.specs.Prelude.{◌≡◌, ◌+◌, ◌<◌, ◌≤◌, false, length, IsSome};
 ghost use Rattle.lock_core.specs.declared.view.Held.TheVariants.{No};
-ghost use Rattle.lock_core.specs.Handles.{hand_in, held_in, task_in};
-ghost use Rattle.mutex_word.specs.Handles.{plan_of, SitsAt};
+ghost use Rattle.mutex_word.specs.Handles.{plan_of, hand_in, held_in, task_in, SitsAt};
 ghost use Rattle.call_tests.specs.Standing.{Idles, OwesNothing, SameSpin};
 
 use crate::calls::{await_signal, perform, send, take};
 use mutex_word::{OwnerPass, OwnerSite};
+use site_lock::SiteLock;
 use std::sync::Wait;
 use std::thread::{Threads, join};
 use vma_map::Areas;

@@ -219,10 +219,10 @@ fn numbers(recs: &[u64]) -> (u32, u32) {
 
 /// How many calls of two tasks that try at once for a space under such a lock had it, how many
 /// found it taken, and how many the log has.
-fn try_at_once<R: Threads + Wait + Sync, L: SleepLock<Areas, Pass: Send> + Sync + Drop>(
-    rt: &R,
-    alloc: Global,
-) -> Result<(u32, u32, usize), AllocError> {
+fn try_at_once<
+    R: Threads + Wait + Sync,
+    L: SleepLock<Areas, Pass: Send, Site: Sync, Rule: Sync> + Sync + Drop,
+>(rt: &R, alloc: Global) -> Result<(u32, u32, usize), AllocError> {
     let plan = plan_with::<Areas>(
         alloc,
         4,

@@ -98,10 +98,10 @@ fn change_of(task: u32, call: u32) -> Option<TableCall>
 
 /// What four tasks leave that make their rounds on a table under such a lock at once, and how often
 /// one of them held alone.
-fn table_rounds<R: Threads + Wait + Sync, L: SleepLock<Fds, Pass: Send> + Sync + Drop>(
-    rt: &R,
-    alloc: Global,
-) -> Result<(Snapshot, Option<u64>), AllocError> {
+fn table_rounds<
+    R: Threads + Wait + Sync,
+    L: SleepLock<Fds, Pass: Send, Site: Sync, Rule: Sync> + Sync + Drop,
+>(rt: &R, alloc: Global) -> Result<(Snapshot, Option<u64>), AllocError> {
     let gate = Exclusion::default();
     let mut rows = Vec::new(alloc);
     for task in 0..4 {

@@ -1,5 +1,5 @@
 -- Lists that are copied one by one.
-use Rattle.std.proofs.Common.{◌≡◌, ◌≢◌, ⊎_elim, ℕ, zero, suc, ◌+◌, ◌<◌, List, [], ◌∷◌, ◌++◌, length, take, map, slice_get, Some, false, refl, sym, ap, ◌∙◌, subst, arith, add-one, append_assoc, length-append}
+use Rattle.std.proofs.Common.{◌≡◌, ◌≢◌, ⊎_elim, ℕ, zero, suc, ◌+◌, ◌<◌, List, [], ◌∷◌, ◌++◌, length, take, map, slice_get, slice_index, Some, false, refl, sym, ap, ◌∙◌, subst, arith, add-one, append_assoc, length-append}
 use mathlib.Core.Logic.{dite}
 use native.Mathlib.Decide.{ℕ_discrete}
 use Rattle.std.proofs.lemmas.Grind.{common_steps}
@@ -130,6 +130,11 @@ joined-snoc rows words xs is = ap (λ z. z ++ words) is ∙ sym (joined-more row
 
 pub log-pushed : (a b c : Words) (xs ys : List ℕ) (w : ℕ) → b ≡ record a { log = xs } → c ≡ record b { log = b.log ++ w ∷ [] } → xs ++ w ∷ [] ≡ ys → c ≡ record a { log = ys }
 log-pushed a b c xs ys w before now is = now ∙ ((λ i. record (before i) { log = (before i).log ++ w ∷ [] }) ∙ (λ i. record a { log = is i }))
+
+pub state-pushed : (a b c : Words) (known : List ℕ) (at word : ℕ) → at < length known → b ≡ record a { state = take at known } → c ≡ record b { state = b.state ++ word ∷ [] } → word ≡ slice_index known at → c ≡ record a { state = take (at + 1) known }
+state-pushed a b c known at word inside before now is =
+    let grown : take at known ++ word ∷ [] ≡ take (at + 1) known = grind (arith, common_steps) in
+    now ∙ ((λ i. record (before i) { state = (before i).state ++ word ∷ [] }) ∙ (λ i. record a { state = grown i }))
 
 pub recs-pushed : (a b c : Words) (xs ws ys : List ℕ) → b ≡ record a { recs = xs } → c ≡ record b { recs = b.recs ++ ws } → xs ++ ws ≡ ys → c ≡ record a { recs = ys }
 recs-pushed a b c xs ws ys before now is = now ∙ ((λ i. record (before i) { recs = (before i).recs ++ ws }) ∙ (λ i. record a { recs = is i }))

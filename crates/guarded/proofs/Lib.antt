@@ -1,5 +1,7 @@
 pub mod Serving
 pub mod Passing
+pub mod Unavailable
+pub mod Planned
 pub mod Counting
 pub mod Recording
 pub mod Chained

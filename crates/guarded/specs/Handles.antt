@@ -2,5 +2,5 @@
 use Rattle.guarded.specs.declared.guarded.Guarded.{Guarded}
 
 -- the lock, with all that it guards
-abbrev pub lock_of : {L O P C : Type 0} → Guarded L O P C → L
+abbrev pub lock_of : {L O R S P E C : Type 0} → Guarded L O R S P E C → L
 lock_of g = g.lock

@@ -7,8 +7,8 @@ pub mod SplicingLaws
 pub mod Slots
 pub mod Copying
 pub mod Gathering
-pub mod SiteLocks
 pub mod MutexLocks
 pub mod RwSemLocks
 pub mod SpinQueues
+pub mod LockMembers
 pub mod LockLaws

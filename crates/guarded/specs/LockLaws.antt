@@ -17,7 +17,7 @@ use Rattle.rwsem_slow.specs.declared.calls.RwSem.{RwSem}
 use Rattle.rwsem_slow.specs.declared.calls.RwPass.{RwPass}
 use Rattle.rwsem_slow.specs.Handles as rwsem
 use Rattle.rwsem_slow.specs.Places as rwsem_places
-use Rattle.guarded.specs.SiteLocks.{SitsIdle}
+use Rattle.site_lock.specs.Sitting.{SitsIdle}
 
 -- a pass of any site, however its lock counts and stands in line
 pub site-stands : {R O E C : Type 0} (line : E → Line) (fronts swaps : ℕ) (tally : Tally) (site : Site R O E C) (pass : Pass R O E C) → SitsAt site pass → SpinRests (view_of pass).spin → Stands (plan_of site) (record (shown line fronts (view_of pass) (past_of pass)) { swaps = swaps; tally = tally })

@@ -2,31 +2,26 @@
 
 use crate::lock::SleepLock;
 use cpu_task::Crew;
-use lock_core::{Held, How, Interrupted, Plan, Tally};
+use lock_core::{How, Interrupted, Plan, Tally};
 use mutex_slow::{Mutex, MutexPass};
 use std::alloc::{AllocError, Global};
 use std::sync::Wait;
-use word_bits::{CallWords, Object, Reply};
+use word_bits::Object;
 
 impl<O: Object> SleepLock<O> for Mutex<O> {
-    ghost use Rattle.std.specs.Prelude.{◌≡◌};
+    ghost use Rattle.std.specs.Prelude.{◌≡◌, refl};
     ghost use Rattle.lock_core.specs.Kinds.{mutex as mutex_kind};
-    ghost use Rattle.mutex_slow.specs.Handles.{newest, plan_of, shown_of, spun_of, SitsAt};
+    ghost use Rattle.mutex_slow.specs.Handles.{newest, spun_of};
     ghost use Rattle.mutex_slow.specs.Mutexes.{owner_at};
     ghost use Rattle.mutex_slow.specs.Places.{EndsHold};
     ghost use Rattle.mutex_slow.specs.Stated.{waits_on};
     ghost use Rattle.guarded.specs.MutexLocks.{KnowsMutex};
-    ghost use Rattle.guarded.specs.SiteLocks.{SitsIdle};
     ghost use Rattle.guarded.specs.SpinQueues.{KnowsSpinQueue};
     ghost use Rattle.guarded.specs.LockLaws.{mutex-stands};
-
-    type Pass = MutexPass<O>;
 
     ghost kind = { mutex_kind };
 
     ghost word_at = { owner_at };
-
-    ghost calls_on = { plan_of };
 
     ghost opened = { newest };
 
@@ -45,11 +40,7 @@ impl<O: Object> SleepLock<O> for Mutex<O> {
 
     ghost turns_shared = { λ v u. u ≡ v };
 
-    ghost view = { shown_of };
-
     ghost spun = { spun_of };
-
-    ghost sits = { λ m p. SitsIdle O.object (plan_of m) (SitsAt m p) };
 
     fn open(alloc: Global, plan: Plan) -> Result<(Mutex<O>, MutexPass<O>), AllocError> {
         Mutex::open(alloc, plan)
@@ -77,66 +68,6 @@ impl<O: Object> SleepLock<O> for Mutex<O> {
 
     fn recall_queue(&self, pass: &mut MutexPass<O>) {
         self.recall_spin_queue(pass);
-    }
-
-    fn word(&self, pass: &mut MutexPass<O>, at: usize) -> u64 {
-        self.word(pass, at)
-    }
-
-    fn set_word(&self, pass: &mut MutexPass<O>, at: usize, value: u64) {
-        self.set_word(pass, at, value);
-    }
-
-    fn commit(&self, pass: &mut MutexPass<O>, call: u32, reply: Reply) {
-        self.commit(pass, call, reply);
-    }
-
-    fn note(&self, pass: &mut MutexPass<O>, call: u32, reply: Reply) {
-        self.note(pass, call, reply);
-    }
-
-    fn signal(&self, pass: &mut MutexPass<O>, target: u32) {
-        self.signal(pass, target);
-    }
-
-    fn tasks(&self) -> u32 {
-        self.tasks()
-    }
-
-    fn calls(&self, task: u32) -> u32 {
-        self.calls(task)
-    }
-
-    fn call(&self, pass: &mut MutexPass<O>, task: u32, call: u32) -> CallWords {
-        self.call(pass, task, call)
-    }
-
-    fn rec_word(&self, pass: &mut MutexPass<O>, task: u32, call: u32) -> u64 {
-        self.rec_word(pass, task, call)
-    }
-
-    fn log_len(&self, pass: &mut MutexPass<O>) -> u32 {
-        self.log_len(pass)
-    }
-
-    fn log_word(&self, pass: &mut MutexPass<O>, at: u32) -> u64 {
-        self.log_word(pass, at)
-    }
-
-    fn task(&self, pass: &MutexPass<O>) -> Option<u32> {
-        self.task(pass)
-    }
-
-    fn held(&self, pass: &MutexPass<O>) -> Held {
-        self.held(pass)
-    }
-
-    fn done(&self, pass: &MutexPass<O>) -> u32 {
-        self.done(pass)
-    }
-
-    fn front(&self, pass: &MutexPass<O>) -> u32 {
-        self.front(pass)
     }
 
     fn tally(pass: &MutexPass<O>) -> Tally {
@@ -200,6 +131,14 @@ impl<O: Object> SleepLock<O> for Mutex<O> {
     }
 
     fn downgrade<W: Wait, C: Crew>(&self, _rt: &W, _pass: &mut MutexPass<O>, _crew: &C) {}
+
+    ghost shuts = { λ reads word shut. shut };
+
+    ghost opens = { λ reads word shut. shut };
+
+    ghost leaves = { λ p w. refl };
+
+    ghost planned = { λ m p is. is.planned };
 
     ghost small = { λ m. m.site.small };
 

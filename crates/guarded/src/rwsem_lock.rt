@@ -2,32 +2,27 @@
 
 use crate::lock::SleepLock;
 use cpu_task::Crew;
-use lock_core::{Held, How, Interrupted, Plan, Tally};
+use lock_core::{How, Interrupted, Plan, Tally};
 use rwsem_slow::{RwPass, RwSem};
 use std::alloc::{AllocError, Global};
 use std::sync::Wait;
-use word_bits::{CallWords, Object, Reply};
+use word_bits::Object;
 
 impl<O: Object> SleepLock<O> for RwSem<O> {
-    ghost use Rattle.std.specs.Prelude.{◌≡◌, ◌+◌};
+    ghost use Rattle.std.specs.Prelude.{◌≡◌, ◌+◌, refl};
     ghost use Rattle.lock_core.specs.declared.view.Held.TheVariants.{No, Shared};
     ghost use Rattle.lock_core.specs.Kinds.{semaphore, wakes_alone, wakes_down, wakes_shared};
-    ghost use Rattle.rwsem_slow.specs.Handles.{newest, plan_of, shown_of, spun_of, SitsAt};
+    ghost use Rattle.rwsem_slow.specs.Handles.{newest, spun_of};
     ghost use Rattle.rwsem_slow.specs.Releasing.{LeavesCount};
     ghost use Rattle.rwsem_slow.specs.RwSems.{count_at};
     ghost use Rattle.rwsem_slow.specs.Stated.{waits_on};
     ghost use Rattle.guarded.specs.RwSemLocks.{KnowsRwSem};
-    ghost use Rattle.guarded.specs.SiteLocks.{SitsIdle};
     ghost use Rattle.guarded.specs.SpinQueues.{KnowsSpinQueue};
     ghost use Rattle.guarded.specs.LockLaws.{rwsem-stands};
-
-    type Pass = RwPass<O>;
 
     ghost kind = { semaphore };
 
     ghost word_at = { count_at };
-
-    ghost calls_on = { plan_of };
 
     ghost opened = { newest };
 
@@ -46,11 +41,7 @@ impl<O: Object> SleepLock<O> for RwSem<O> {
 
     ghost turns_shared = { LeavesCount (wakes_down semaphore) Shared 0 255 };
 
-    ghost view = { shown_of };
-
     ghost spun = { spun_of };
-
-    ghost sits = { λ s p. SitsIdle O.object (plan_of s) (SitsAt s p) };
 
     fn open(alloc: Global, plan: Plan) -> Result<(RwSem<O>, RwPass<O>), AllocError> {
         RwSem::open(alloc, plan)
@@ -78,66 +69,6 @@ impl<O: Object> SleepLock<O> for RwSem<O> {
 
     fn recall_queue(&self, pass: &mut RwPass<O>) {
         self.recall_spin_queue(pass);
-    }
-
-    fn word(&self, pass: &mut RwPass<O>, at: usize) -> u64 {
-        self.word(pass, at)
-    }
-
-    fn set_word(&self, pass: &mut RwPass<O>, at: usize, value: u64) {
-        self.set_word(pass, at, value);
-    }
-
-    fn commit(&self, pass: &mut RwPass<O>, call: u32, reply: Reply) {
-        self.commit(pass, call, reply);
-    }
-
-    fn note(&self, pass: &mut RwPass<O>, call: u32, reply: Reply) {
-        self.note(pass, call, reply);
-    }
-
-    fn signal(&self, pass: &mut RwPass<O>, target: u32) {
-        self.signal(pass, target);
-    }
-
-    fn tasks(&self) -> u32 {
-        self.tasks()
-    }
-
-    fn calls(&self, task: u32) -> u32 {
-        self.calls(task)
-    }
-
-    fn call(&self, pass: &mut RwPass<O>, task: u32, call: u32) -> CallWords {
-        self.call(pass, task, call)
-    }
-
-    fn rec_word(&self, pass: &mut RwPass<O>, task: u32, call: u32) -> u64 {
-        self.rec_word(pass, task, call)
-    }
-
-    fn log_len(&self, pass: &mut RwPass<O>) -> u32 {
-        self.log_len(pass)
-    }
-
-    fn log_word(&self, pass: &mut RwPass<O>, at: u32) -> u64 {
-        self.log_word(pass, at)
-    }
-
-    fn task(&self, pass: &RwPass<O>) -> Option<u32> {
-        self.task(pass)
-    }
-
-    fn held(&self, pass: &RwPass<O>) -> Held {
-        self.held(pass)
-    }
-
-    fn done(&self, pass: &RwPass<O>) -> u32 {
-        self.done(pass)
-    }
-
-    fn front(&self, pass: &RwPass<O>) -> u32 {
-        self.front(pass)
     }
 
     fn tally(pass: &RwPass<O>) -> Tally {
@@ -203,6 +134,14 @@ impl<O: Object> SleepLock<O> for RwSem<O> {
     fn downgrade<W: Wait, C: Crew>(&self, rt: &W, pass: &mut RwPass<O>, crew: &C) {
         self.downgrade_write(rt, pass, crew);
     }
+
+    ghost shuts = { λ reads word shut. shut };
+
+    ghost opens = { λ reads word shut. shut };
+
+    ghost leaves = { λ p w. refl };
+
+    ghost planned = { λ s p is. is.planned };
 
     ghost small = { λ s. s.site.small };
 

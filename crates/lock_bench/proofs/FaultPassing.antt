@@ -6,21 +6,18 @@ use Rattle.word_bits.specs.declared.entry.Entry.{Entry}
 use Rattle.word_bits.specs.declared.reply.Reply.{Reply}
 use Rattle.word_bits.specs.LockWords.{Unavailable}
 use Rattle.word_bits.specs.Objects.{Obj}
-use Rattle.lock_core.specs.declared.pass.Pass.{Pass}
 use Rattle.lock_core.specs.declared.view.Hand.{Hand}
 use Rattle.lock_core.specs.declared.view.Held.TheVariants.{No}
 use Rattle.lock_core.specs.declared.view.SpinHand.{SpinHand}
-use Rattle.lock_core.specs.Handles.{done_in, hand_in, held_in, view_of}
 use Rattle.lock_core.specs.Passes.{Numbered}
 use Rattle.lock_core.specs.Records.{row}
 use Rattle.lock_core.specs.Views.{gave_up, handed, ticked, Beside, BesideForgetting}
 use Rattle.lock_core.proofs.Recording.{next-is}
 use Rattle.vma_map.specs.declared.call.SpaceCall.TheVariants.{Map}
 use Rattle.vma_map.specs.Spaces.{space}
-use Rattle.seq_fault.specs.declared.rule.SeqRule.{SeqRule}
+use Rattle.seq_fault.specs.declared.site.SeqPass.{SeqPass}
 use Rattle.seq_fault.specs.declared.site.SeqSite.{SeqSite}
-use Rattle.seq_fault.specs.declared.view.Watch.{Watch}
-use Rattle.seq_fault.specs.Handles.{SitsAt, plan_of}
+use Rattle.seq_fault.specs.Handles.{done_in, hand_in, held_in, plan_of, view_of, SitsAt}
 use Rattle.seq_fault.specs.Ruled.{V}
 use Rattle.seq_fault.specs.Steps.{Faults, HasNextFault, StepsOn}
 use Rattle.seq_fault.specs.Writing.{HasNextChange, Writes}
@@ -30,7 +27,7 @@ use Rattle.lock_bench.proofs.Planned.{get-replicate}
 
 module _ {O C : Type 0} (site : SeqSite O C) where
   abbrev P : Type 0
-  P = Pass (SeqRule O) O Watch C
+  P = SeqPass O C
 
   pub begun : {Call : Type 0} (o : Obj Call) (unavailable : Unavailable) (old new : P) (t : ℕ) → IsIdle site old → SitsAt site new → Numbered o unavailable (plan_of site) (hand_in old) t (hand_in new) → BesideForgetting (view_of old) (view_of new) → IsAtCall site t (done_in new) new
   begun o unavailable old new t idle own became beside = let before = idle.own in let none = before.nameless (sym before.task ∙ idle.numberless) in let now = became.4 in record {

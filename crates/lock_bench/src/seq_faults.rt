@@ -1,7 +1,6 @@
 //! Faults on an address space without its lock.
 ghost use Rattle.std.specs.Prelude.{◌≡◌};
-ghost use Rattle.lock_core.specs.Handles.{done_in};
-ghost use Rattle.seq_fault.specs.Handles.{plan_of};
+ghost use Rattle.seq_fault.specs.Handles.{done_in, plan_of};
 ghost use Rattle.lock_bench.specs.FaultPlans.{HasFaults, MapsArea};
 ghost use Rattle.lock_bench.specs.FaultPasses.{IsIdle};
 ghost use Rattle.lock_bench.specs.Rooms.{but_one};
@@ -9,6 +8,7 @@ ghost use Rattle.lock_bench.specs.Rooms.{but_one};
 use crate::plan::with_faults;
 use crate::timed::Timed;
 use seq_fault::{SeqSpace, SpacePass};
+use site_lock::SiteLock;
 use std::alloc::{AllocError, Global};
 use std::sync::Wait;
 
@@ -19,7 +19,7 @@ fn map_area<W: Wait>(rt: &W, space: &SeqSpace, pass: &mut SpacePass, task: u32)
     ensures idle { IsIdle space.now pass.new }
 {
     space.begin(rt, pass, task);
-    if pass.done() == 0 {
+    if space.done(pass) == 0 {
         space.write(rt, pass, 0);
     }
     space.end(pass);
@@ -64,7 +64,7 @@ impl Timed for SeqSpace {
 
     fn rounds<W: Wait>(&self, rt: &W, worker: &mut SpacePass, task: u32, count: u32) {
         self.begin(rt, worker, task);
-        for call in worker.done()..count {
+        for call in self.done(worker)..count {
             self.fault_wait(rt, worker, call);
         }
         self.end(worker);

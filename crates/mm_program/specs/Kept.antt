@@ -1,6 +1,6 @@
 -- The machine that a run of a script leaves.
 use Rattle.std.specs.Prelude.{List}
-use Rattle.guarded.specs.declared.lock.SleepLock.{Ghosts as LockMembers}
+use Rattle.guarded.specs.LockMembers.{LockMembers}
 use Rattle.task_script.specs.Scripts.{Listing}
 use Rattle.mm_report.specs.Results.{Told, AreLegal}
 use Rattle.mm_serve.specs.declared.machine.Machine.{Machine}
@@ -10,12 +10,12 @@ use Rattle.mm_serve.specs.Sites.{holds_space}
 use Rattle.mm_serve.specs.UnderLocks.{HasLookedBackUnder, IsIdleUnder, KnowsPastUnder, LockedObject, calls_under, hand_under, past_under, spun_under}
 
 -- a machine over spaces under locks of one kind and tables under locks of another
-abbrev pub LockedMachine : (A S P C T F Q D B U : Type 0) → Type 0
-LockedMachine A S P C T F Q D B U = Machine (LockedObject A S P C T F Q D) B (SpaceOrTablePass P Q) U
+abbrev pub LockedMachine : (A S R X P E C T F G Y Q H D B U : Type 0) → Type 0
+LockedMachine A S R X P E C T F G Y Q H D B U = Machine (LockedObject A S R X P E C T F G Y Q H D) B (SpaceOrTablePass P Q) U
 
-module _ {A S P C T F Q D B U : Type 0} (spaces : LockMembers A S P C) (tables : LockMembers T F Q D) where
+module _ {A S R X P E C T F G Y Q H D B U : Type 0} (spaces : LockMembers A P) (tables : LockMembers T Q) where
   -- the machine has done all calls of the script, and its results tell this of the objects
-  pub record HasServed (script : Listing) (told : List Told) (m : LockedMachine A S P C T F Q D B U) : Type 0 where
+  pub record HasServed (script : Listing) (told : List Told) (m : LockedMachine A S R X P E C T F G Y Q H D B U) : Type 0 where
     -- its objects are those of the script, each with the calls on it
     pub of : IsMachineOf holds_space (calls_under spaces tables) script m
     -- what its results tell are legal histories of the script

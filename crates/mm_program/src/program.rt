@@ -8,6 +8,7 @@ ghost use Rattle.mm_program.specs.Requests.{helped, misused, refused, accepted, 
 ghost use Rattle.mm_program.specs.Requests.{request, request_of};
 ghost use Rattle.mm_program.specs.Answers.{AnswersTo, CompletesTo, NoService, SaysTo, TakesAtMost};
 ghost use Rattle.mm_program.specs.Answers.{read_faults, write_faults};
+ghost use Rattle.guarded.specs.LockMembers.{members};
 ghost use Rattle.mm_program.specs.Kept.{HasServed};
 
 use crate::input::{InputError, read_all};
@@ -113,10 +114,17 @@ fn answer<
 where
     A::Pass: Send,
     T::Pass: Send,
+    A::Site: Sync,
+    T::Site: Sync,
+    A::Rule: Sync,
+    T::Rule: Sync,
     C::C: Send,
     requires { kept.old ≡ None }
     ensures says { SaysTo K.faults K.written sink.old sink.new
-        (HasServed A.SleepLock T.SleepLock) kept.new
+        (HasServed
+        (members A.calls_on A.view A.sits A.spun A.kind A.word_at A.opened A.waits)
+        (members T.calls_on T.view T.sits T.spun T.kind T.word_at T.opened T.waits))
+        kept.new
         (request_of options.now.summary (script_of input.now)) result }
     ensures faults { K.faults sink.new ≡ write_faults result (K.faults sink.old) }
 {
@@ -148,10 +156,17 @@ fn answer_generated<
 where
     A::Pass: Send,
     T::Pass: Send,
+    A::Site: Sync,
+    T::Site: Sync,
+    A::Rule: Sync,
+    T::Rule: Sync,
     C::C: Send,
     requires { kept.old ≡ None }
     ensures says { SaysTo K.faults K.written sink.old sink.new
-        (HasServed A.SleepLock T.SleepLock) kept.new
+        (HasServed
+        (members A.calls_on A.view A.sits A.spun A.kind A.word_at A.opened A.waits)
+        (members T.calls_on T.view T.sits T.spun T.kind T.word_at T.opened T.waits))
+        kept.new
         (accepted options.now.summary (generated number)) result }
     ensures faults { K.faults sink.new ≡ write_faults result (K.faults sink.old) }
 {
@@ -183,10 +198,18 @@ fn answer_input<
 where
     A::Pass: Send,
     T::Pass: Send,
+    A::Site: Sync,
+    T::Site: Sync,
+    A::Rule: Sync,
+    T::Rule: Sync,
     C::C: Send,
     requires { kept.old ≡ None }
     ensures answer { AnswersTo S.left S.faults K.faults K.written source.old source.new
-        sink.old sink.new (HasServed A.SleepLock T.SleepLock) kept.new
+        sink.old sink.new
+        (HasServed
+        (members A.calls_on A.view A.sits A.spun A.kind A.word_at A.opened A.waits)
+        (members T.calls_on T.view T.sits T.spun T.kind T.word_at T.opened T.waits))
+        kept.new
         (λ input. request_of options.now.summary (script_of input)) result }
     ensures read_faults { S.faults source.new ≡ read_faults result (S.faults source.old) }
     ensures write_faults { K.faults sink.new ≡ write_faults result (K.faults sink.old) }
@@ -231,14 +254,26 @@ pub fn top<
 where
     A::Pass: Send,
     T::Pass: Send,
+    A::Site: Sync,
+    T::Site: Sync,
+    A::Rule: Sync,
+    T::Rule: Sync,
     C::C: Send,
     requires { kept.old ≡ None }
     ensures answer { AnswersTo S.left S.faults K.faults K.written source.old source.new
-        sink.old sink.new (HasServed A.SleepLock T.SleepLock) kept.new
+        sink.old sink.new
+        (HasServed
+        (members A.calls_on A.view A.sits A.spun A.kind A.word_at A.opened A.waits)
+        (members T.calls_on T.view T.sits T.spun T.kind T.word_at T.opened T.waits))
+        kept.new
         (request (asks_help words.now) (said_by words.now)) result }
     ensures helps { asks_help words.now ≡ true → result ≢ Status.NoMemory }
     ensures complete { CompletesTo S.left S.faults K.faults K.written source.old source.new
-        sink.old sink.new (HasServed A.SleepLock T.SleepLock) kept.new
+        sink.old sink.new
+        (HasServed
+        (members A.calls_on A.view A.sits A.spun A.kind A.word_at A.opened A.waits)
+        (members T.calls_on T.view T.sits T.spun T.kind T.word_at T.opened T.waits))
+        kept.new
         (said_by words.now) result }
     ensures read_faults { S.faults source.new ≡ read_faults result (S.faults source.old) }
     ensures write_faults { K.faults sink.new ≡ write_faults result (K.faults sink.old) }

@@ -7,6 +7,7 @@ ghost use Rattle.mm_program.specs.Answers.{AnswersLegally, AnswersTo, CompletesL
 ghost use Rattle.mm_program.specs.Answers.{TakesAtMost, status_number};
 ghost use Rattle.mm_program.specs.Answers.{read_faults, write_faults};
 ghost use Rattle.mm_program.specs.CommandLine.{asks_help, line_asks_help, said_by, said_by_line};
+ghost use Rattle.guarded.specs.LockMembers.{members};
 ghost use Rattle.mm_program.specs.Kept.{HasServed};
 ghost use Rattle.mm_program.specs.Requests.{reads_input, request};
 
@@ -69,14 +70,26 @@ fn run_under<
 where
     A::Pass: Send,
     T::Pass: Send,
+    A::Site: Sync,
+    T::Site: Sync,
+    A::Rule: Sync,
+    T::Rule: Sync,
     requires none { kept.old ≡ None }
     requires places { length crew.old ≡ MAX_TASKS }
     ensures answer { AnswersTo S.left S.faults K.faults K.written source.old source.new
-        sink.old sink.new (HasServed A.SleepLock T.SleepLock) kept.new
+        sink.old sink.new
+        (HasServed
+        (members A.calls_on A.view A.sits A.spun A.kind A.word_at A.opened A.waits)
+        (members T.calls_on T.view T.sits T.spun T.kind T.word_at T.opened T.waits))
+        kept.new
         (request (asks_help words.now) (said_by words.now)) result }
     ensures helps { asks_help words.now ≡ true → result ≢ Status.NoMemory }
     ensures complete { CompletesTo S.left S.faults K.faults K.written source.old source.new
-        sink.old sink.new (HasServed A.SleepLock T.SleepLock) kept.new
+        sink.old sink.new
+        (HasServed
+        (members A.calls_on A.view A.sits A.spun A.kind A.word_at A.opened A.waits)
+        (members T.calls_on T.view T.sits T.spun T.kind T.word_at T.opened T.waits))
+        kept.new
         (said_by words.now) result }
     ensures read_faults { S.faults source.new ≡ read_faults result (S.faults source.old) }
     ensures write_faults { K.faults sink.new ≡ write_faults result (K.faults sink.old) }
@@ -110,12 +123,24 @@ fn run<
 where
     A::Pass: Send,
     T::Pass: Send,
+    A::Site: Sync,
+    T::Site: Sync,
+    A::Rule: Sync,
+    T::Rule: Sync,
     requires { kept.old ≡ None }
     ensures answer { AnswersTo S.left S.faults K.faults K.written source.old source.new
-        sink.old sink.new (HasServed A.SleepLock T.SleepLock) kept.new
+        sink.old sink.new
+        (HasServed
+        (members A.calls_on A.view A.sits A.spun A.kind A.word_at A.opened A.waits)
+        (members T.calls_on T.view T.sits T.spun T.kind T.word_at T.opened T.waits))
+        kept.new
         (request (line_asks_help line) (said_by_line line)) result.0 }
     ensures complete { CompletesTo S.left S.faults K.faults K.written source.old source.new
-        sink.old sink.new (HasServed A.SleepLock T.SleepLock) kept.new
+        sink.old sink.new
+        (HasServed
+        (members A.calls_on A.view A.sits A.spun A.kind A.word_at A.opened A.waits)
+        (members T.calls_on T.view T.sits T.spun T.kind T.word_at T.opened T.waits))
+        kept.new
         (said_by_line line) result.0 }
     ensures read_faults { S.faults source.new ≡ read_faults result.0 (S.faults source.old) }
     ensures write_faults { K.faults sink.new ≡ write_faults result.0 (K.faults sink.old) }
@@ -168,6 +193,10 @@ pub fn run_to_end<
 where
     A::Pass: Send,
     T::Pass: Send,
+    A::Site: Sync,
+    T::Site: Sync,
+    A::Rule: Sync,
+    T::Rule: Sync,
     ensures answer { AnswersLegally S.left S.faults K.faults K.written source.old source.new
         sink.old sink.new (request (line_asks_help line) (said_by_line line)) result.0 }
     ensures complete { CompletesLegally S.left S.faults K.faults K.written source.old source.new

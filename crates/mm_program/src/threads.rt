@@ -1,6 +1,7 @@
 //! Does the tasks of a script at once, each on a thread of its own, over objects under locks.
 ghost use Rattle.std.specs.Prelude.{◌≡◌, None};
 ghost use Rattle.mm_program.specs.Answers.{SaysTo, write_faults};
+ghost use Rattle.guarded.specs.LockMembers.{members};
 ghost use Rattle.mm_program.specs.Kept.{HasServed};
 ghost use Rattle.mm_program.specs.Requests.{accepted};
 
@@ -49,10 +50,17 @@ pub(crate) fn run_on_threads<
 where
     A::Pass: Send,
     T::Pass: Send,
+    A::Site: Sync,
+    T::Site: Sync,
+    A::Rule: Sync,
+    T::Rule: Sync,
     C::C: Send,
     requires { kept.old ≡ None }
     ensures says { SaysTo K.faults K.written sink.old sink.new
-        (HasServed A.SleepLock T.SleepLock) kept.new
+        (HasServed
+        (members A.calls_on A.view A.sits A.spun A.kind A.word_at A.opened A.waits)
+        (members T.calls_on T.view T.sits T.spun T.kind T.word_at T.opened T.waits))
+        kept.new
         (accepted options.now.summary script.now) result }
     ensures faults { K.faults sink.new ≡ write_faults result (K.faults sink.old) }
 {

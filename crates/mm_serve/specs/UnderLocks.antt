@@ -6,7 +6,7 @@ use Rattle.lock_core.specs.declared.view.Moment.{Moment}
 use Rattle.vma_map.specs.Spaces.{space}
 use Rattle.fd_table.specs.Tables.{table}
 use Rattle.guarded.specs.declared.guarded.Guarded.{Guarded}
-use Rattle.guarded.specs.declared.lock.SleepLock.{Ghosts as LockMembers}
+use Rattle.guarded.specs.LockMembers.{LockMembers}
 use Rattle.guarded.specs.Handles.{lock_of}
 use Rattle.guarded.specs.MutexLocks.{KnowsMutex}
 use Rattle.guarded.specs.RwSemLocks.{KnowsRwSem}
@@ -19,10 +19,10 @@ use Rattle.mm_serve.specs.Serving.{IsIdle}
 use Rattle.mm_serve.specs.Sites.{Matches, calls_of, hand_of, past_of, spun_of}
 
 -- a space or a table, each under its lock
-abbrev pub LockedObject : (A S P C T F Q D : Type 0) → Type 0
-LockedObject A S P C T F Q D = SpaceOrTable (Guarded A S P C) (Guarded T F Q D)
+abbrev pub LockedObject : (A S R X P E C T F G Y Q H D : Type 0) → Type 0
+LockedObject A S R X P E C T F G Y Q H D = SpaceOrTable (Guarded A S R X P E C) (Guarded T F G Y Q H D)
 
-module _ {A S P C T F Q D : Type 0} (spaces : LockMembers A S P C) (tables : LockMembers T F Q D) where
+module _ {A P T Q : Type 0} (spaces : LockMembers A P) (tables : LockMembers T Q) where
   -- what a pass knows, by what its lock shows of it
   abbrev pub hand_under : SpaceOrTablePass P Q → Hand
   hand_under = hand_of spaces.view tables.view
@@ -35,23 +35,24 @@ module _ {A S P C T F Q D : Type 0} (spaces : LockMembers A S P C) (tables : Loc
   abbrev pub spun_under : SpaceOrTablePass P Q → List Moment
   spun_under = spun_of spaces.spun tables.spun
 
+module _ {A S R X P E C T F G Y Q H D : Type 0} (spaces : LockMembers A P) (tables : LockMembers T Q) where
   -- the calls that the tasks are to make on the object, by its lock
-  abbrev pub calls_under : LockedObject A S P C T F Q D → Plan
+  abbrev pub calls_under : LockedObject A S R X P E C T F G Y Q H D → Plan
   calls_under = calls_of (λ s. spaces.calls_on (lock_of s)) (λ s. tables.calls_on (lock_of s))
 
   -- the pass is one of the object's lock; it has no task's number, and owes nothing
-  abbrev pub IsIdleUnder : LockedObject A S P C T F Q D → SpaceOrTablePass P Q → Type 0
+  abbrev pub IsIdleUnder : LockedObject A S R X P E C T F G Y Q H D → SpaceOrTablePass P Q → Type 0
   IsIdleUnder = Matches (λ s p. spaces.sits (lock_of s) p × IsIdle (spaces.view p).hand) (λ s p. tables.sits (lock_of s) p × IsIdle (tables.view p).hand)
 
   -- the pass knows what was so of the object's table at each moment so far: what every lock tells, of a space what a semaphore tells of its own, and of a table what a mutex does; and of each moment of the lock's spin queue, up to its last step there, who stood in it
-  abbrev pub KnowsPastUnder : LockedObject A S P C T F Q D → SpaceOrTablePass P Q → Type 0
+  abbrev pub KnowsPastUnder : LockedObject A S R X P E C T F G Y Q H D → SpaceOrTablePass P Q → Type 0
   KnowsPastUnder =
       Matches
       (λ s p. KnowsPast space spaces.kind 257 spaces.word_at spaces.waits (KnowsRwSem space 257) spaces.opened (spaces.calls_on (lock_of s)) (spaces.view p) × KnowsSpinQueue (spaces.calls_on (lock_of s)) (spaces.view p) (spaces.spun p))
       (λ s p. KnowsPast table tables.kind 64 tables.word_at tables.waits (KnowsMutex table 64) tables.opened (tables.calls_on (lock_of s)) (tables.view p) × KnowsSpinQueue (tables.calls_on (lock_of s)) (tables.view p) (tables.spun p))
 
   -- the pass has the task's number and has done all the task's calls; and it knows of each moment of the lock's spin queue, up to its own last step there, who stood in it, and that it had entered the queue and been its front as often as it says
-  abbrev pub HasLookedBackUnder : LockedObject A S P C T F Q D → SpaceOrTablePass P Q → ℕ → Type 0
+  abbrev pub HasLookedBackUnder : LockedObject A S R X P E C T F G Y Q H D → SpaceOrTablePass P Q → ℕ → Type 0
   HasLookedBackUnder site pass task =
       Matches
       (λ s p. HasLookedBack space spaces.kind (spaces.sits (lock_of s) p) KnowsSpinQueue (spaces.calls_on (lock_of s)) (spaces.view p) (spaces.spun p) task)

@@ -32,6 +32,7 @@ impl<A: SpaceLock, T: TableLock> SharedObject for SpaceOrTable<Guarded<A, Areas>
     ghost use Rattle.vma_map.specs.Spaces.{space};
     ghost use Rattle.fd_table.specs.Tables.{table};
     ghost use Rattle.guarded.specs.Handles.{lock_of};
+    ghost use Rattle.guarded.specs.LockMembers.{members};
     ghost use Rattle.mm_serve.specs.Serving.{IsServing};
     ghost use Rattle.mm_serve.specs.Sites.{Matches, holds_space};
     ghost use Rattle.mm_serve.specs.UnderLocks.{HasLookedBackUnder, IsIdleUnder, KnowsPastUnder};
@@ -41,15 +42,25 @@ impl<A: SpaceLock, T: TableLock> SharedObject for SpaceOrTable<Guarded<A, Areas>
 
     ghost is_space = { holds_space };
 
-    ghost calls_on = { calls_under A.SleepLock T.SleepLock };
+    ghost calls_on = { calls_under
+        (members A.calls_on A.view A.sits A.spun A.kind A.word_at A.opened A.waits)
+        (members T.calls_on T.view T.sits T.spun T.kind T.word_at T.opened T.waits) };
 
-    ghost hand = { hand_under A.SleepLock T.SleepLock };
+    ghost hand = { hand_under
+        (members A.calls_on A.view A.sits A.spun A.kind A.word_at A.opened A.waits)
+        (members T.calls_on T.view T.sits T.spun T.kind T.word_at T.opened T.waits) };
 
-    ghost past = { past_under A.SleepLock T.SleepLock };
+    ghost past = { past_under
+        (members A.calls_on A.view A.sits A.spun A.kind A.word_at A.opened A.waits)
+        (members T.calls_on T.view T.sits T.spun T.kind T.word_at T.opened T.waits) };
 
-    ghost spun = { spun_under A.SleepLock T.SleepLock };
+    ghost spun = { spun_under
+        (members A.calls_on A.view A.sits A.spun A.kind A.word_at A.opened A.waits)
+        (members T.calls_on T.view T.sits T.spun T.kind T.word_at T.opened T.waits) };
 
-    ghost idle = { IsIdleUnder A.SleepLock T.SleepLock };
+    ghost idle = { IsIdleUnder
+        (members A.calls_on A.view A.sits A.spun A.kind A.word_at A.opened A.waits)
+        (members T.calls_on T.view T.sits T.spun T.kind T.word_at T.opened T.waits) };
 
     ghost serving = { λ site pass task. Matches
         (λ s p. A.sits (lock_of s) p ×
@@ -58,9 +69,13 @@ impl<A: SpaceLock, T: TableLock> SharedObject for SpaceOrTable<Guarded<A, Areas>
         IsServing table (unavailable T.kind) (T.calls_on (lock_of s)) (T.view p).hand task)
         site pass };
 
-    ghost looked_back = { HasLookedBackUnder A.SleepLock T.SleepLock };
+    ghost looked_back = { HasLookedBackUnder
+        (members A.calls_on A.view A.sits A.spun A.kind A.word_at A.opened A.waits)
+        (members T.calls_on T.view T.sits T.spun T.kind T.word_at T.opened T.waits) };
 
-    ghost knows_past = { KnowsPastUnder A.SleepLock T.SleepLock };
+    ghost knows_past = { KnowsPastUnder
+        (members A.calls_on A.view A.sits A.spun A.kind A.word_at A.opened A.waits)
+        (members T.calls_on T.view T.sits T.spun T.kind T.word_at T.opened T.waits) };
 
     fn open(
         alloc: Global,

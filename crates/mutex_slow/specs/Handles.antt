@@ -11,9 +11,7 @@ use Rattle.lock_core.specs.Kinds.{mutex as kind}
 use Rattle.lock_core.specs.Locking.{Misses, Takes}
 use Rattle.lock_core.specs.Pasts.{opening}
 use Rattle.lock_core.specs.Shown.{Shown, shown}
-use Rattle.word_bits.specs.declared.rec.Rec.{Rec}
-use Rattle.word_bits.specs.RecWord.{rec_word}
-use Rattle.lock_core.specs.Views.{Knows, SpinRests}
+use Rattle.lock_core.specs.Views.{SpinRests}
 use Rattle.osq_nodes.specs.declared.node.Place.TheVariants.{Out}
 use Rattle.osq_nodes.specs.Handles as queue
 use Rattle.mutex_slow.specs.declared.calls.Mutex.{Mutex}
@@ -72,10 +70,6 @@ module _ {O C : Type 0} where
   -- so it did where the word names a task
   abbrev pub MissesIfShut : MutexPass O C → ℕ → MutexPass O C → Type 0
   MissesIfShut old word new = (reads : Bool) → owned reads word → Misses kind reads owner_at word (shown_of old) (shown_of new)
-
-  -- the word is that of this call's record, where the pass knows it
-  abbrev pub TellsRecord : MutexPass O C → (task call word : ℕ) → Type 0
-  TellsRecord pass task call word = (r : Rec) → Knows (hand_in pass) (record { task = task; call = call }) r → word ≡ rec_word r
 
   -- how often it was the front of the spin queue is as it was, and how often it missed
   abbrev pub KeepsFronts : MutexPass O C → MutexPass O C → Type 0

@@ -33,7 +33,7 @@ use std::sync::Wait;
 use word_bits::Object;
 
 mod laws;
-mod words;
+mod site;
 
 /// A mutex that guards an object of the kind `O`, with the object's plan, records and log.
 /// Contracts see its plan (`plan_of`).

@@ -8,3 +8,4 @@ pub mod OwnKinds
 pub mod Ruled
 pub mod RuledLaws
 pub mod Handles
+pub mod SiteLaws

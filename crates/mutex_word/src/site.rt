@@ -18,7 +18,7 @@ use std::alloc::{AllocError, Global};
 use std::sync::Wait;
 use word_bits::Object;
 
-mod words;
+mod calls;
 
 /// A site whose lock is an owner word alone. Contracts see its plan (`plan_of`).
 #[derive(Drop)]
@@ -27,11 +27,13 @@ pub struct OwnerSite<O: Object> {
 }
 
 /// A pass of such a site.
-pub type OwnerPass<O> = Pass<OwnerRule<O>>;
+#[derive(Drop)]
+pub struct OwnerPass<O: Object> {
+    pass: Pass<OwnerRule<O>>,
+}
 
 impl<O: Object> OwnerSite<O> {
-    ghost use Rattle.lock_core.specs.Handles.{IsLatest, view_of, hand_in, past_of, task_in, held_in, front_in, KeepsPast};
-    ghost use Rattle.mutex_word.specs.Handles.{plan_of, shown_of, SitsAt, TakesNumber};
+    ghost use Rattle.mutex_word.specs.Handles.{plan_of, view_of, hand_in, past_of, task_in, held_in, front_in, shown_of, IsLatest, KeepsPast, SitsAt, TakesNumber};
 
     /// A new site: nobody holds, the state is empty, no call is logged or recorded. The pass has no
     /// task number.
@@ -44,7 +46,7 @@ impl<O: Object> OwnerSite<O> {
         ensures past { IfOk result (λ t. past_of t.1 ≡ newest plan ∷ []) }
     {
         let (site, pass) = Site::open(alloc, plan)?;
-        Ok((OwnerSite { site }, pass))
+        Ok((OwnerSite { site }, OwnerPass { pass }))
     }
 
     /// A pass without a task number, which has seen as many entries.
@@ -57,7 +59,8 @@ impl<O: Object> OwnerSite<O> {
         ensures given { view_of result ≡ split_off tt (view_of pass.old) }
         ensures past { past_of result ≡ past_of pass.old }
     {
-        self.site.split(pass)
+        let pass = self.site.split(&mut pass.pass);
+        OwnerPass { pass }
     }
 
     /// Waits until nobody has the task's number, and takes it with the task's records. What the
@@ -74,7 +77,7 @@ impl<O: Object> OwnerSite<O> {
         ensures beside { BesideForgetting (view_of pass.old) (view_of pass.new) }
         ensures rises { (front_in pass.old) ≤ (front_in pass.new) }
     {
-        self.site.begin(rt, pass, task);
+        self.site.begin(rt, &mut pass.pass, task);
     }
 
     /// Gives the pass's number back.
@@ -88,7 +91,7 @@ impl<O: Object> OwnerSite<O> {
         ensures last { IsLatest pass.new }
         ensures kept { view_of pass.new ≡ handed (view_of pass.old) (gave_up (hand_in pass.old)) }
     {
-        self.site.end(pass);
+        self.site.end(&mut pass.pass);
     }
 
     /// Takes in another pass, which is spent: `into` then knows the records that `other` knew, and
@@ -105,7 +108,8 @@ impl<O: Object> OwnerSite<O> {
         ensures rises { front_in into.old ≤ front_in into.new }
         ensures others { front_in other ≤ front_in into.new }
     {
-        self.site.gather(into, other);
+        let OwnerPass { pass } = other;
+        self.site.gather(&mut into.pass, pass);
     }
 
     /// Takes the lock where it is free, by one compare-exchange of the owner word from 0. `Err` has
@@ -129,7 +133,7 @@ impl<O: Object> OwnerSite<O> {
         ensures free { IfOk result (λ _. FoundAt owner_at 0 (past_of pass.new)) }
         ensures found { IfErr result (λ word. FoundAt owner_at word (past_of pass.new)) }
     {
-        site_steps::take_free(&self.site, pass)
+        site_steps::take_free(&self.site, &mut pass.pass)
     }
 
     /// Ends the pass's hold, by one compare-exchange of the owner word from the own code to 0. It
@@ -146,7 +150,7 @@ impl<O: Object> OwnerSite<O> {
         ensures released { ReleasesOwner unturned (view_of pass.old) 0 (view_of pass.new) }
         ensures found { FoundAt owner_at (own_word (task_in pass.old)) (past_of pass.new) }
     {
-        let _ = site_steps::release_plain(&self.site, pass);
+        let _ = site_steps::release_plain(&self.site, &mut pass.pass);
     }
 
     /// A load, after which the pass knows that at each moment of the table so far, from the new
@@ -164,7 +168,7 @@ impl<O: Object> OwnerSite<O> {
         ensures moves { Ran unmarked (newest (plan_of self.now)) (IsSiteMove (plan_of self.now) owner_at)
             (past_of pass.new) }
     {
-        self.site.recall(pass);
+        self.site.recall(&mut pass.pass);
     }
 
     /// A load, after which the pass knows what each step of the table so far did to the site's
@@ -178,6 +182,6 @@ impl<O: Object> OwnerSite<O> {
         ensures moves { Ran unmarked (newest (plan_of self.now)) (IsSiteMove (plan_of self.now) owner_at)
             (past_of pass.new) }
     {
-        self.site.grown(pass);
+        self.site.grown(&mut pass.pass);
     }
 }

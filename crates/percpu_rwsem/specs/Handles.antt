@@ -1,7 +1,6 @@
 -- What a clause reads of a per-CPU semaphore, and of a pass of it.
 use Rattle.std.specs.Prelude.{◌≡◌, ℕ, ◌+◌, ◌*◌, ◌<◌, ◌≤◌, Bool, List, length, Option, Some, None, is_some}
 use Rattle.cpu_task.specs.Counting.{slept}
-use Rattle.word_bits.specs.declared.reply.Reply.{Reply}
 use Rattle.word_bits.specs.LockWords.{Unavailable}
 use Rattle.word_bits.specs.Objects.{Obj}
 use Rattle.word_bits.specs.Histories.{Plan}
@@ -12,6 +11,7 @@ use Rattle.lock_core.specs.declared.view.Moment.{Moment}
 use Rattle.lock_core.specs.declared.view.Past.{Past}
 use Rattle.lock_core.specs.Handles as inner
 use Rattle.lock_core.specs.Pasts.{FoundAtStep, GoesOn, IsOwnStep}
+use Rattle.lock_core.specs.Shown.{Shown, no_line, shown}
 use Rattle.percpu_rwsem.specs.declared.pass.PercpuPass.{PercpuPass}
 use Rattle.percpu_rwsem.specs.declared.site.PercpuRwSem.{PercpuRwSem}
 use Rattle.percpu_rwsem.specs.declared.view.Phase.{Phase}
@@ -71,9 +71,6 @@ module _ {O C : Type 0} where
   abbrev pub held_in : PercpuPass O C → Held
   held_in pass = inner.held_in pass.pass
 
-  abbrev pub done_in : PercpuPass O C → ℕ
-  done_in pass = inner.done_in pass.pass
-
   abbrev pub front_in : PercpuPass O C → ℕ
   front_in pass = inner.front_in pass.pass
 
@@ -84,6 +81,10 @@ module _ {O C : Type 0} where
   -- it blocks new readers
   abbrev pub blocks_in : PercpuPass O C → Bool
   blocks_in pass = is_some pass.seen
+
+  -- what callers of any lock see of a pass: nobody stands in line
+  abbrev pub shown_of : PercpuPass O C → Shown
+  shown_of pass = shown (λ x. no_line) (view_of pass).fronts (view_of pass) (past_of pass)
 
   -- the pass is one of the semaphore's, and says of itself what its view does
   pub record SitsAt (site : PercpuRwSem O C) (pass : PercpuPass O C) : Type 0 where
@@ -97,14 +98,6 @@ module _ {O C : Type 0} where
   -- the last moment of its past is that of its own last step
   abbrev pub IsLatest : PercpuPass O C → Type 0
   IsLatest pass = inner.IsLatest pass.pass
-
-  -- its task's next call changes the object, and this is its reply
-  abbrev pub IsNextChange : {Call : Type 0} → Obj Call → PercpuRwSem O C → PercpuPass O C → Reply → Type 0
-  IsNextChange o site pass reply = inner.IsNextChange o site.site pass.pass reply
-
-  -- the pass may note its task's next call with this reply
-  abbrev pub MayNoteNext : {Call : Type 0} → Obj Call → Unavailable → PercpuRwSem O C → PercpuPass O C → Reply → Type 0
-  MayNoteNext o unavailable site pass reply = inner.MayNoteNext o unavailable site.site pass.pass reply
 
   -- what the pass becomes that takes the task's number
   abbrev pub TakesNumber : {Call : Type 0} → Obj Call → Unavailable → PercpuRwSem O C → ℕ → PercpuPass O C → PercpuPass O C → Type 0

@@ -5,4 +5,5 @@ pub mod Ruled
 pub mod RuledLaws
 pub mod Plays
 pub mod Handles
+pub mod SiteLaws
 pub mod Stated

@@ -45,7 +45,7 @@ impl<O: Object> PercpuRwSem<O> {
             NamesOther (plan_of self.now) (task_in pass.old) word) }
         ensures found { IfErr result (λ word. Finds block_at word pass.old pass.new) }
     {
-        let Some(task) = pass.task() else {
+        let Some(task) = pass.pass.task() else {
             unreachable!()
         };
         // The count goes up before the block word is loaded: a writer that found this count zero
@@ -111,7 +111,7 @@ impl<O: Object> PercpuRwSem<O> {
         ensures out { held_in pass.new ≡ No }
         ensures task { task_in pass.new ≡ task_in pass.old }
     {
-        let Some(task) = pass.task() else {
+        let Some(task) = pass.pass.task() else {
             unreachable!()
         };
         steps::end_read(&self.site, &mut pass.pass, task);

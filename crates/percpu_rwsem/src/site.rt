@@ -1,10 +1,8 @@
-//! Per-CPU reader-writer semaphores, and the calls that every site has.
-ghost use Rattle.std.specs.Prelude.{◌≡◌, ◌≢◌, ◌<◌, ◌≤◌, ◌+◌, false, None, IsSome, IfOk, [], ◌∷◌, length, slice_index};
-ghost use Rattle.lock_core.specs.declared.view.Held.TheVariants.{No, Alone};
-ghost use Rattle.lock_core.specs.declared.layout.TheConstants.{LOCK_WORDS};
+//! Per-CPU reader-writer semaphores and their passes.
+ghost use Rattle.std.specs.Prelude.{◌≡◌, ◌<◌, ◌≤◌, false, None, IsSome, IfOk, [], ◌∷◌, length};
 ghost use Rattle.lock_core.specs.Records.{IsPlan};
-ghost use Rattle.lock_core.specs.Views.{first, ticked, handed, split_off, merged, gave_up, wrote, after_commit, after_note, Unsent, BesideForgetting, HoldsNothing, OwesNoSignal};
-ghost use Rattle.lock_core.specs.Pasts.{EachMoment, FoundAt, IsMarked, KeepsJoined, Paced, Tail};
+ghost use Rattle.lock_core.specs.Views.{first, ticked, handed, split_off, merged, gave_up, BesideForgetting, HoldsNothing, OwesNoSignal};
+ghost use Rattle.lock_core.specs.Pasts.{EachMoment, IsMarked, KeepsJoined, Paced, Tail};
 ghost use Rattle.lock_core.specs.Stated.{IsNew};
 ghost use Rattle.percpu_rwsem.specs.Stated.{IsPercpuSiteThen, IsPercpuStep};
 ghost use Rattle.percpu_rwsem.specs.declared.view.Phase.TheVariants.{Idle};
@@ -15,7 +13,9 @@ use crate::rule::PercpuRule;
 use lock_core::{Plan, Site};
 use std::alloc::{AllocError, Global};
 use std::sync::Wait;
-use word_bits::{Object, Reply};
+use word_bits::Object;
+
+mod calls;
 
 /// A semaphore whose readers count in words of their own tasks. Contracts see its plan (`plan_of`).
 #[derive(Drop)]
@@ -24,7 +24,7 @@ pub struct PercpuRwSem<O: Object> {
 }
 
 impl<O: Object> PercpuRwSem<O> {
-    ghost use Rattle.percpu_rwsem.specs.Handles.{plan_of, view_of, hand_in, past_of, joined_by, task_in, held_in, done_in, front_in, seen_in, blocks_in, after, IsLatest, IsNextChange, MayNoteNext, KeepsPast, SitsAt, TakesNumber};
+    ghost use Rattle.percpu_rwsem.specs.Handles.{plan_of, view_of, hand_in, past_of, joined_by, task_in, held_in, front_in, seen_in, blocks_in, after, IsLatest, KeepsPast, SitsAt, TakesNumber};
 
     /// A new semaphore: nobody holds, the state is empty, no call is logged or recorded. The pass
     /// has no task number.
@@ -113,74 +113,6 @@ impl<O: Object> PercpuRwSem<O> {
     {
         let PercpuPass { pass, seen: _ } = other;
         self.site.gather(&mut into.pass, pass);
-    }
-
-    /// A guarded word.
-    pub fn word(&self, pass: &mut PercpuPass<O>, at: usize) -> u64
-        requires own { SitsAt self.now pass.old }
-        requires held { (held_in pass.old) ≢ No }
-        requires inside { at < O.WORDS }
-        ensures own { SitsAt self.now pass.new }
-        ensures goes_on { KeepsPast pass.old pass.new }
-        ensures seen { seen_in pass.new ≡ seen_in pass.old }
-        ensures last { IsLatest pass.new }
-        ensures kept { view_of pass.new ≡ ticked (view_of pass.old) }
-        ensures value { result ≡ slice_index (hand_in pass.old).known at }
-        ensures found { FoundAt (LOCK_WORDS + at) result (past_of pass.new) }
-    {
-        self.site.word(&mut pass.pass, at)
-    }
-
-    /// Writes a guarded word. Until its next commit the pass writes.
-    pub fn set_word(&self, pass: &mut PercpuPass<O>, at: usize, value: u64)
-        requires own { SitsAt self.now pass.old }
-        requires held { held_in pass.old ≡ Alone }
-        requires inside { at < O.WORDS }
-        ensures own { SitsAt self.now pass.new }
-        ensures goes_on { KeepsPast pass.old pass.new }
-        ensures seen { seen_in pass.new ≡ seen_in pass.old }
-        ensures last { IsLatest pass.new }
-        ensures kept { view_of pass.new ≡
-            handed (view_of pass.old) (wrote (hand_in pass.old) at value) }
-    {
-        self.site.set_word(&mut pass.pass, at, value);
-    }
-
-    /// Records the next call of the pass's task, which changes the object: the guarded words store
-    /// what it leaves of the state after the log. The call is appended to the log.
-    pub fn commit(&self, pass: &mut PercpuPass<O>, call: u32, reply: Reply)
-        requires own { SitsAt self.now pass.old }
-        requires held { held_in pass.old ≡ Alone }
-        requires numbered { IsSome (task_in pass.old) }
-        requires call { call ≡ (done_in pass.old) }
-        requires recorded { OwesNoSignal (hand_in pass.old) }
-        requires next { IsNextChange O.object self.now pass.old reply }
-        ensures own { SitsAt self.now pass.new }
-        ensures goes_on { KeepsPast pass.old pass.new }
-        ensures seen { seen_in pass.new ≡ seen_in pass.old }
-        ensures last { IsLatest pass.new }
-        ensures kept { view_of pass.new ≡ after_commit (view_of pass.old) reply }
-        ensures rises { (front_in pass.old) ≤ (front_in pass.new) }
-    {
-        self.site.commit(&mut pass.pass, call, reply);
-    }
-
-    /// Records the next call of the pass's task, which reads: it stands where the log ends.
-    pub fn note(&self, pass: &mut PercpuPass<O>, call: u32, reply: Reply)
-        requires own { SitsAt self.now pass.old }
-        requires numbered { IsSome (task_in pass.old) }
-        requires call { call ≡ (done_in pass.old) }
-        requires held { held_in pass.old ≢ No }
-        requires unsent { Unsent (hand_in pass.old) reply }
-        requires next { MayNoteNext O.object never self.now pass.old reply }
-        ensures own { SitsAt self.now pass.new }
-        ensures goes_on { KeepsPast pass.old pass.new }
-        ensures seen { seen_in pass.new ≡ seen_in pass.old }
-        ensures last { IsLatest pass.new }
-        ensures kept { view_of pass.new ≡ after_note (view_of pass.old) reply }
-        ensures rises { (front_in pass.old) ≤ (front_in pass.new) }
-    {
-        self.site.note(&mut pass.pass, call, reply);
     }
 
     /// Looks back at the table's whole past, by a load that changes nothing. At each moment, from

@@ -40,7 +40,7 @@ impl<O: Object> PercpuRwSem<O> {
             NamesOther (plan_of self.now) (task_in pass.old) word) }
         ensures found { IfErr result (λ word. FoundAt block_at word (past_of pass.new)) }
     {
-        let Some(task) = pass.task() else {
+        let Some(task) = pass.pass.task() else {
             unreachable!()
         };
         steps::block(&self.site, &mut pass.pass, task)?;
@@ -76,7 +76,7 @@ impl<O: Object> PercpuRwSem<O> {
         ensures looked { IfErr result (λ task. LooksUpTo (task + 1) pass.old pass.new) }
         ensures zero_below { IfErr result (λ task. FindsZerosUpTo task pass.old pass.new) }
     {
-        let Some(task) = pass.task() else {
+        let Some(task) = pass.pass.task() else {
             unreachable!()
         };
         let Some(first) = pass.seen else {
@@ -186,7 +186,7 @@ impl<O: Object> PercpuRwSem<O> {
             after 1 (view_of pass.old) (unheld (hand_in pass.old)) Idle }
         ensures task { task_in pass.new ≡ task_in pass.old }
     {
-        let Some(task) = pass.task() else {
+        let Some(task) = pass.pass.task() else {
             unreachable!()
         };
         steps::unblock(&self.site, &mut pass.pass, task);

@@ -32,6 +32,10 @@ fn run_over<
 where
     A::Pass: Send,
     T::Pass: Send,
+    A::Site: Sync,
+    T::Site: Sync,
+    A::Rule: Sync,
+    T::Rule: Sync,
     C::C: Send,
 {
     let mut kept: Option<ScriptMachine<A, T, C>> = None;

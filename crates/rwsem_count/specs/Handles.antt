@@ -1,11 +1,9 @@
 -- What a clause reads of a site with a count, and of a pass of it.
 use Rattle.std.specs.Prelude.{◌≡◌, ℕ, Bool, List, Option}
 use Rattle.word_bits.specs.OwnerWord.{bit}
-use Rattle.word_bits.specs.declared.reply.Reply.{Reply}
 use Rattle.word_bits.specs.LockWords.{Unavailable}
 use Rattle.word_bits.specs.Objects.{Obj}
 use Rattle.word_bits.specs.Histories.{Plan}
-use Rattle.lock_core.specs.declared.how.Interrupted.{Interrupted}
 use Rattle.lock_core.specs.declared.view.Hand.{Hand}
 use Rattle.lock_core.specs.declared.view.Held.{Held}
 use Rattle.lock_core.specs.declared.view.Moment.{Moment}
@@ -38,9 +36,6 @@ module _ {O C : Type 0} where
   abbrev pub held_in : CountPass O C → Held
   held_in pass = inner.held_in pass.pass
 
-  abbrev pub done_in : CountPass O C → ℕ
-  done_in pass = inner.done_in pass.pass
-
   abbrev pub front_in : CountPass O C → ℕ
   front_in pass = inner.front_in pass.pass
 
@@ -66,30 +61,6 @@ module _ {O C : Type 0} where
   abbrev pub IsLatest : CountPass O C → Type 0
   IsLatest pass = inner.IsLatest pass.pass
 
-  -- its task's next call changes the object, and this is its reply
-  abbrev pub IsNextChange : {Call : Type 0} → Obj Call → CountSite O C → CountPass O C → Reply → Type 0
-  IsNextChange o site pass reply = inner.IsNextChange o site.site pass.pass reply
-
-  -- the pass may note its task's next call with this reply
-  abbrev pub MayNoteNext : {Call : Type 0} → Obj Call → Unavailable → CountSite O C → CountPass O C → Reply → Type 0
-  MayNoteNext o unavailable site pass reply = inner.MayNoteNext o unavailable site.site pass.pass reply
-
-  -- its task's next call is a signal to this task
-  abbrev pub IsNextSignal : CountSite O C → CountPass O C → ℕ → Type 0
-  IsNextSignal site pass target = inner.IsNextSignal site.site pass.pass target
-
   -- what the pass becomes that takes the task's number
   abbrev pub TakesNumber : {Call : Type 0} → Obj Call → Unavailable → CountSite O C → ℕ → CountPass O C → CountPass O C → Type 0
   TakesNumber o unavailable site task old new = inner.TakesNumber o unavailable site.site task old.pass new.pass
-
-  -- steps since found these numbers of signals sent to the pass's task, and consumed by it
-  abbrev pub SawOwnSignals : Interrupted → CountPass O C → CountPass O C → Type 0
-  SawOwnSignals why old new = inner.SawOwnSignals why old.pass new.pass
-
-  -- two steps since found that no signal to its task was pending
-  abbrev pub SawNonePending : CountPass O C → CountPass O C → Type 0
-  SawNonePending old new = inner.SawNonePending old.pass new.pass
-
-  -- a call of its task that isn't done has no record, and so the word 0
-  abbrev pub UndoneIsZero : CountPass O C → (task call word : ℕ) → Type 0
-  UndoneIsZero pass task call word = inner.UndoneIsZero pass.pass task call word

@@ -9,3 +9,4 @@ pub mod Stated
 pub mod Ruled
 pub mod RuledLaws
 pub mod Handles
+pub mod SiteLaws

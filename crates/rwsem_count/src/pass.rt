@@ -2,12 +2,12 @@
 ghost use Rattle.std.specs.Prelude.{◌≡◌};
 
 use crate::rule::CountRule;
-use lock_core::{Held, Pass};
+use lock_core::Pass;
 use word_bits::Object;
 
 /// A pass of a site with a count. Contracts see what it knows (`view_of`), the moments of the table
-/// up to its last step (`past_of`), and what it says of itself (`task_in`, `held_in`, `done_in`,
-/// `front_in`, `transit_in`).
+/// up to its last step (`past_of`), and what it says of itself (`task_in`, `held_in`, `front_in`,
+/// `transit_in`).
 #[derive(Drop)]
 pub struct CountPass<O: Object> {
     pub(crate) pass: Pass<CountRule<O>>,
@@ -16,35 +16,7 @@ pub struct CountPass<O: Object> {
 }
 
 impl<O: Object> CountPass<O> {
-    ghost use Rattle.rwsem_count.specs.Handles.{done_in, front_in, held_in, task_in, transit_in};
-
-    /// The task whose number it has.
-    pub fn task(&self) -> Option<u32>
-        ensures { result ≡ task_in self.now }
-    {
-        self.pass.task()
-    }
-
-    /// How it holds what the site guards.
-    pub fn held(&self) -> Held
-        ensures { result ≡ held_in self.now }
-    {
-        self.pass.held()
-    }
-
-    /// How many of its task's calls are recorded.
-    pub fn done(&self) -> u32
-        ensures { result ≡ done_in self.now }
-    {
-        self.pass.done()
-    }
-
-    /// How many entries of the log it has seen. It never falls.
-    pub fn front(&self) -> u32
-        ensures { result ≡ front_in self.now }
-    {
-        self.pass.front()
-    }
+    ghost use Rattle.rwsem_count.specs.Handles.{transit_in};
 
     /// Whether it is in transit: its try has added a bias to the count, and neither holds by it nor
     /// has taken it back.

@@ -24,7 +24,7 @@ use std::alloc::{AllocError, Global};
 use std::sync::Wait;
 use word_bits::Object;
 
-mod words;
+mod calls;
 
 /// A site whose lock is a count alone. Contracts see its plan (`plan_of`).
 #[derive(Drop)]

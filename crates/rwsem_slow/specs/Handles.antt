@@ -1,8 +1,6 @@
 -- What a clause reads of a semaphore and of a pass of it.
 use Rattle.std.specs.Prelude.{◌≡◌, ℕ, List}
-use Rattle.word_bits.specs.declared.rec.Rec.{Rec}
 use Rattle.word_bits.specs.Histories.{Plan}
-use Rattle.word_bits.specs.RecWord.{rec_word}
 use Rattle.word_bits.specs.Objects.{Obj}
 use Rattle.lock_core.specs.declared.view.Hand.{Hand}
 use Rattle.lock_core.specs.declared.view.Held.TheVariants.{Shared, Alone}
@@ -11,7 +9,7 @@ use Rattle.lock_core.specs.declared.view.Moment.{Moment}
 use Rattle.lock_core.specs.Handles as inner
 use Rattle.lock_core.specs.Pasts.{opening}
 use Rattle.lock_core.specs.Shown.{Shown, shown}
-use Rattle.lock_core.specs.Views.{Knows, SpinRests}
+use Rattle.lock_core.specs.Views.{SpinRests}
 use Rattle.osq_nodes.specs.declared.node.Place.TheVariants.{Out}
 use Rattle.osq_nodes.specs.Handles as queue
 use Rattle.rwsem_slow.specs.declared.calls.RwSem.{RwSem}
@@ -49,10 +47,6 @@ module _ {O C : Type 0} where
 
   abbrev pub TakesShared : {Call : Type 0} → Obj Call → RwSem O C → RwPass O C → RwPass O C → Type 0
   TakesShared o sem old new = Takes o (plan_of sem) Shared (shown_of old) (shown_of new)
-
-  -- the word is that of this call's record, where the pass knows it
-  abbrev pub TellsRecord : RwPass O C → (task call word : ℕ) → Type 0
-  TellsRecord pass task call word = (r : Rec) → Knows (hand_in pass) (record { task = task; call = call }) r → word ≡ rec_word r
 
   -- how often it was the front of the spin queue is as it was, and how often it missed
   abbrev pub KeepsFronts : RwPass O C → RwPass O C → Type 0

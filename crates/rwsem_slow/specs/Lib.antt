@@ -23,3 +23,4 @@ pub mod Stealing
 pub mod Spinning
 pub mod Opening
 pub mod Picking
+pub mod SiteLaws

@@ -29,8 +29,8 @@ use word_bits::Object;
 mod laws;
 mod reads;
 mod releases;
+mod site;
 mod tries;
-mod words;
 mod writes;
 
 /// A reader-writer semaphore that guards an object of the kind `O`, with the object's plan, records
@@ -197,8 +197,8 @@ impl<O: Object> RwSem<O> {
     /// Nobody is forgotten: if tasks wait and nobody writes or reads, a pass owes a wake, or a bias
     /// keeps writers out, or the first waiter is a writer that needs no further wake. A reader that
     /// is granted while it waits needs no further wake. A task needs none if a pass has chosen it
-    /// and is to set its wake word, if that word is set, or if it is awake. Each step says how
-    /// these come and go.
+    /// and is to set its wake word, if that word is set, or if it tries or loads its grant word
+    /// before it sleeps. Each step says how these come and go.
     ///
     /// The pass itself waits for nothing, owes no wake, and has set the wake word of each task that
     /// it chose. It has set so many wake words and fallen asleep so often as it says.

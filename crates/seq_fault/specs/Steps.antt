@@ -5,9 +5,11 @@ use Rattle.word_bits.specs.declared.call.CallWords.{CallWords}
 use Rattle.word_bits.specs.declared.reply.Reply.{Reply}
 use Rattle.word_bits.specs.Objects.{Obj}
 use Rattle.word_bits.specs.Histories.{Plan, state_after}
+use Rattle.lock_core.specs.declared.pass.Pass.{Pass}
 use Rattle.lock_core.specs.declared.view.Hand.{Hand}
 use Rattle.lock_core.specs.declared.view.Held.TheVariants.{Alone}
 use Rattle.lock_core.specs.declared.view.Moment.{Moment}
+use Rattle.lock_core.specs.Handles.{hand_in, past_of, view_of}
 use Rattle.lock_core.specs.Records.{row}
 use Rattle.lock_core.specs.Holding.{Learns}
 use Rattle.lock_core.specs.Layout.{length_place}
@@ -112,3 +114,7 @@ IsRace before after = ((before % 2 ≡ 1) × (after ≡ before)) ⊎ ((before % 
 -- it holds alone after some steps, and has learnt what the lock guards
 abbrev pub EntersSince : {Call : Type 0} → Obj Call → Plan → V → V → Type 0
 EntersSince o k v u = (s : ℕ) × (v.steps ≤ s) × EntersHold o k (record v { steps = s }) u
+
+-- the step of this number of a pass of the site, counted from the old one on, found this number at this place
+abbrev pub FindsAtStep : {R O E C : Type 0} → (count at n : ℕ) → Pass R O E C → Pass R O E C → Type 0
+FindsAtStep count at n old new = FoundAtStep (hand_in old).task ((view_of old).steps + count) at n (past_of old) (past_of new)

@@ -9,6 +9,7 @@ mod rule;
 mod site;
 mod steps;
 mod view;
+mod writes;
 mod writing;
 
 pub use faults::{SeqSpace, SpacePass};

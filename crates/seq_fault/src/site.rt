@@ -1,11 +1,10 @@
 //! Sites with a sequence word.
-ghost use Rattle.std.specs.Prelude.{◌≡◌, ◌≢◌, ◌<◌, ◌≤◌, ◌+◌, ℕ, false, true, None, IsSome, IfOk, [], ◌∷◌, length, slice_index};
+ghost use Rattle.std.specs.Prelude.{◌≡◌, ◌<◌, ◌≤◌, ℕ, false, true, None, IsSome, IfOk, [], ◌∷◌, length};
 ghost use Rattle.lock_core.specs.declared.view.Held.TheVariants.{No, Alone};
-ghost use Rattle.lock_core.specs.declared.layout.TheConstants.{LOCK_WORDS};
 ghost use Rattle.lock_core.specs.Holding.{released};
 ghost use Rattle.lock_core.specs.Records.{IsPlan};
-ghost use Rattle.lock_core.specs.Views.{first, ticked, handed, split_off, merged, gave_up, wrote, after_commit, next_entry, BesideForgetting, HoldsNothing, OwesNoSignal};
-ghost use Rattle.lock_core.specs.Pasts.{BeganWith, EachMoment, FoundAt, KeepsJoined, Paced};
+ghost use Rattle.lock_core.specs.Views.{first, ticked, handed, split_off, merged, gave_up, BesideForgetting, HoldsNothing, OwesNoSignal};
+ghost use Rattle.lock_core.specs.Pasts.{BeganWith, EachMoment, KeepsJoined, Paced};
 ghost use Rattle.lock_core.specs.Stated.{IsNew};
 ghost use Rattle.lock_core.specs.Locked.{IsSiteStep};
 ghost use Rattle.seq_fault.specs.declared.view.Watch.TheVariants.{Off};
@@ -18,7 +17,9 @@ use crate::steps;
 use lock_core::{Pass, Plan, Site};
 use std::alloc::{AllocError, Global};
 use std::sync::Wait;
-use word_bits::{Object, Reply};
+use word_bits::Object;
+
+mod calls;
 
 /// A site whose lock is a sequence word. Contracts see its plan (`plan_of`).
 #[derive(Drop)]
@@ -26,12 +27,16 @@ pub struct SeqSite<O: Object> {
     pub(crate) site: Site<SeqRule<O>>,
 }
 
-/// A pass of such a site.
-pub type SeqPass<O> = Pass<SeqRule<O>>;
+/// A pass of such a site. Contracts see what it knows (`view_of`), the moments of the table up to
+/// its last step (`past_of`), and what it says of itself (`task_in`, `held_in`, `done_in`,
+/// `front_in`).
+#[derive(Drop)]
+pub struct SeqPass<O: Object> {
+    pub(crate) pass: Pass<SeqRule<O>>,
+}
 
 impl<O: Object> SeqSite<O> {
-    ghost use Rattle.lock_core.specs.Handles.{IsLatest, view_of, hand_in, past_of, joined_by, task_in, held_in, done_in, front_in, KeepsPast, SaysSame};
-    ghost use Rattle.seq_fault.specs.Handles.{plan_of, IsNextChange, SitsAt, TakesNumber};
+    ghost use Rattle.seq_fault.specs.Handles.{plan_of, view_of, hand_in, past_of, joined_by, task_in, held_in, front_in, IsLatest, KeepsPast, SaysSame, SitsAt, TakesNumber};
 
     /// A new site: nobody holds, the state is empty, no call is logged or recorded.
     pub fn open(alloc: Global, plan: Plan) -> Result<(SeqSite<O>, SeqPass<O>), AllocError>
@@ -43,7 +48,7 @@ impl<O: Object> SeqSite<O> {
         ensures past { IfOk result (λ t. past_of t.1 ≡ newest plan ∷ []) }
     {
         let (site, pass) = Site::open(alloc, plan)?;
-        Ok((SeqSite { site }, pass))
+        Ok((SeqSite { site }, SeqPass { pass }))
     }
 
     /// A pass without a task number, which has seen as many entries.
@@ -56,7 +61,8 @@ impl<O: Object> SeqSite<O> {
         ensures given { view_of result ≡ split_off Off (view_of pass.old) }
         ensures past { past_of result ≡ past_of pass.old }
     {
-        self.site.split(pass)
+        let pass = self.site.split(&mut pass.pass);
+        SeqPass { pass }
     }
 
     /// Waits until nobody has the task's number, and takes it with the task's records.
@@ -71,7 +77,7 @@ impl<O: Object> SeqSite<O> {
         ensures beside { BesideForgetting (view_of pass.old) (view_of pass.new) }
         ensures rises { (front_in pass.old) ≤ (front_in pass.new) }
     {
-        self.site.begin(rt, pass, task);
+        self.site.begin(rt, &mut pass.pass, task);
     }
 
     /// Gives the pass's number back.
@@ -85,7 +91,7 @@ impl<O: Object> SeqSite<O> {
         ensures last { IsLatest pass.new }
         ensures kept { view_of pass.new ≡ handed (view_of pass.old) (gave_up (hand_in pass.old)) }
     {
-        self.site.end(pass);
+        self.site.end(&mut pass.pass);
     }
 
     /// Takes in another pass, which is spent: `into` then knows the records that `other` knew, and
@@ -104,53 +110,8 @@ impl<O: Object> SeqSite<O> {
         ensures joined { joined_by into.new ≡
             record { moments = past_of other } ∷ joined_by into.old }
     {
-        self.site.gather(into, other);
-    }
-
-    /// A guarded word.
-    pub fn word(&self, pass: &mut SeqPass<O>, at: usize) -> u64
-        requires own { SitsAt self.now pass.old }
-        requires held { (held_in pass.old) ≢ No }
-        requires inside { at < O.WORDS }
-        ensures own { SitsAt self.now pass.new }
-        ensures goes_on { KeepsPast pass.old pass.new }
-        ensures last { IsLatest pass.new }
-        ensures kept { view_of pass.new ≡ ticked (view_of pass.old) }
-        ensures value { result ≡ slice_index (hand_in pass.old).known at }
-        ensures found { FoundAt (LOCK_WORDS + at) result (past_of pass.new) }
-    {
-        self.site.word(pass, at)
-    }
-
-    /// Writes a guarded word. Until its next commit the pass writes.
-    pub fn set_word(&self, pass: &mut SeqPass<O>, at: usize, value: u64)
-        requires own { SitsAt self.now pass.old }
-        requires held { held_in pass.old ≡ Alone }
-        requires inside { at < O.WORDS }
-        ensures own { SitsAt self.now pass.new }
-        ensures goes_on { KeepsPast pass.old pass.new }
-        ensures last { IsLatest pass.new }
-        ensures kept { view_of pass.new ≡
-            handed (view_of pass.old) (wrote (hand_in pass.old) at value) }
-    {
-        self.site.set_word(pass, at, value);
-    }
-
-    /// Records the next call of the pass's task, which changes the object.
-    pub fn commit(&self, pass: &mut SeqPass<O>, call: u32, reply: Reply)
-        requires own { SitsAt self.now pass.old }
-        requires held { held_in pass.old ≡ Alone }
-        requires numbered { IsSome (task_in pass.old) }
-        requires call { call ≡ (done_in pass.old) }
-        requires recorded { OwesNoSignal (hand_in pass.old) }
-        requires next { IsNextChange O.object self.now pass.old reply }
-        ensures own { SitsAt self.now pass.new }
-        ensures goes_on { KeepsPast pass.old pass.new }
-        ensures last { IsLatest pass.new }
-        ensures kept { view_of pass.new ≡ after_commit (view_of pass.old) reply }
-        ensures rises { (front_in pass.old) ≤ (front_in pass.new) }
-    {
-        self.site.commit(pass, call, reply);
+        let SeqPass { pass } = other;
+        self.site.gather(&mut into.pass, pass);
     }
 
     /// Enters where the word is an even one, but for the greatest.
@@ -168,9 +129,9 @@ impl<O: Object> SeqSite<O> {
             × (view_of pass.new ≡ record (view_of pass.old) { steps = s }) }
         ensures face { result ≡ false → SaysSame pass.old pass.new }
     {
-        let word = steps::look(&self.site, pass);
+        let word = steps::look(&self.site, &mut pass.pass);
         if word % 2 == 0 && word < u64::MAX - 1 {
-            return steps::enter(&self.site, pass, word);
+            return steps::enter(&self.site, &mut pass.pass, word);
         }
         false
     }
@@ -208,7 +169,7 @@ impl<O: Object> SeqSite<O> {
             handed (view_of pass.old) (released (hand_in pass.old) 0) }
         ensures out { held_in pass.new ≡ No }
     {
-        steps::leave(&self.site, pass);
+        steps::leave(&self.site, &mut pass.pass);
     }
 
     /// A load, after which the pass knows that at each moment of the table so far, from the new
@@ -229,6 +190,6 @@ impl<O: Object> SeqSite<O> {
         ensures moves { Paced (IsSiteStep (plan_of self.now) seq_at) (past_of pass.new) }
         ensures joined { KeepsJoined (joined_by pass.old) (past_of pass.new) }
     {
-        self.site.recall(pass);
+        self.site.recall(&mut pass.pass);
     }
 }

@@ -1,15 +1,13 @@
-//! Changing calls.
-ghost use Rattle.std.specs.Prelude.{◌≡◌, ◌≢◌, ◌+◌, length, false, IfNone, IfSome, IsSome};
-ghost use Rattle.lock_core.specs.declared.view.Held.TheVariants.{No, Alone};
+//! A changing call on the guarded words of a site whose pass holds alone.
+ghost use Rattle.std.specs.Prelude.{◌≡◌, ◌≢◌, length, false, IfNone, IfSome, IsSome};
+ghost use Rattle.lock_core.specs.declared.view.Held.TheVariants.{Alone};
 ghost use Rattle.lock_core.specs.Locking.{IsStored};
 ghost use Rattle.lock_core.specs.Views.{Beside, OwesNoSignal};
-ghost use Rattle.lock_core.specs.Handles.{IsLatest, plan_of, view_of, hand_in, task_in, held_in, done_in, SitsAt, KeepsPast, SaysSame};
-ghost use Rattle.seq_fault.specs.Writing.{Changes, HasNextChange, SameCall, Writes};
+ghost use Rattle.lock_core.specs.Handles.{plan_of, view_of, hand_in, task_in, held_in, done_in, SitsAt, KeepsPast, SaysSame};
+ghost use Rattle.seq_fault.specs.Writing.{Changes, HasNextChange, SameCall};
 
 use crate::rule::SeqRule;
-use crate::site::{SeqPass, SeqSite};
 use lock_core::{Pass, Site};
-use std::sync::Wait;
 use word_bits::{Object, Reply};
 
 /// The value that the guarded words store.
@@ -55,7 +53,7 @@ fn store<O: Object>(site: &Site<SeqRule<O>>, pass: &mut Pass<SeqRule<O>>, value:
 }
 
 /// Does a changing call on the guarded words, and records it.
-fn change<O: Object + Drop>(
+pub(crate) fn change<O: Object + Drop>(
     site: &Site<SeqRule<O>>,
     pass: &mut Pass<SeqRule<O>>,
     call: u32,
@@ -90,33 +88,4 @@ fn change<O: Object + Drop>(
     store(site, pass, &value);
     site.commit(pass, call, reply);
     reply
-}
-
-impl<O: Object + Drop> SeqSite<O> {
-    ghost use Rattle.seq_fault.specs.Handles.{plan_of as plan_in, SitsAt as Sits};
-
-    /// Does the next call of the pass's task, which changes the object: it enters, does the call on
-    /// a copy, writes that back, and leaves.
-    pub fn write<W: Wait>(&self, rt: &W, pass: &mut SeqPass<O>, call: u32) -> Reply
-        requires own { Sits self.now pass.old }
-        requires numbered { IsSome (task_in pass.old) }
-        requires out { held_in pass.old ≡ No }
-        requires call { call ≡ done_in pass.old }
-        requires recorded { OwesNoSignal (hand_in pass.old) }
-        requires next { HasNextChange O.object (plan_in self.now) (hand_in pass.old) }
-        ensures own { Sits self.now pass.new }
-        ensures goes_on { KeepsPast pass.old pass.new }
-        ensures last { IsLatest pass.new }
-        ensures out { held_in pass.new ≡ No }
-        ensures wrote { Writes O.object (plan_in self.now)
-            (hand_in pass.old) result (hand_in pass.new) }
-        ensures beside { Beside (view_of pass.old) (view_of pass.new) }
-        ensures task { task_in pass.new ≡ task_in pass.old }
-        ensures done { done_in pass.new ≡ done_in pass.old + 1 }
-    {
-        self.enter(rt, pass);
-        let reply = change(&self.site, pass, call);
-        self.leave(pass);
-        reply
-    }
 }

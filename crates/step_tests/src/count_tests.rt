@@ -8,6 +8,7 @@ use lock_core::{Held, Nothing, Op, Plan};
 use rwsem_count::{
     BIAS, CountPass, CountSite, HANDOFF, READ_FAIL, WAITERS, WRITER, Write, read_free, write_step,
 };
+use site_lock::SiteLock;
 use std::alloc::{AllocError, Global};
 use std::sync::Wait;
 use std::test::Fail;
@@ -206,9 +207,12 @@ fn readers_keep_a_writer_out(rt: HostRuntime) -> Result<(), Fail> {
     } = open_three(&rt, rt.alloc())?;
     assert_eq!(rt; site.read_add(&mut zero), Ok(()));
     assert_eq!(rt; site.read_try(&rt, &mut one), Ok(()));
-    assert_eq!(rt; (zero.held(), one.held()), (Held::Shared, Held::Shared));
+    assert_eq!(rt;
+        (site.held(&zero), site.held(&one)),
+        (Held::Shared, Held::Shared)
+    );
     assert_eq!(rt; site.write_try(&mut two), Err(512));
-    assert_eq!(rt; two.held(), Held::No);
+    assert_eq!(rt; site.held(&two), Held::No);
     assert_eq!(rt; site.up_read_once(&mut zero), 256);
     assert_eq!(rt; site.up_read_once(&mut one), 0);
     assert_eq!(rt; site.write_try(&mut two), Ok(()));
@@ -227,9 +231,9 @@ fn a_writer_downgrades_under_a_reader_in_transit(rt: HostRuntime) -> Result<(), 
     } = open_three(&rt, rt.alloc())?;
     assert_eq!(rt; site.write_try(&mut zero), Ok(()));
     assert_eq!(rt; site.read_add(&mut one), Err(257));
-    assert_eq!(rt; (one.in_transit(), one.held()), (true, Held::No));
+    assert_eq!(rt; (one.in_transit(), site.held(&one)), (true, Held::No));
     assert_eq!(rt; site.downgrade_once(&mut zero), 512);
-    assert_eq!(rt; zero.held(), Held::Shared);
+    assert_eq!(rt; site.held(&zero), Held::Shared);
     assert_eq!(rt; site.read_back(&mut one), 256);
     assert_eq!(rt; one.in_transit(), false);
     assert_eq!(rt; site.up_read_once(&mut zero), 0);
@@ -246,7 +250,12 @@ fn a_gathered_pass_leaves_its_number(rt: HostRuntime) -> Result<(), Fail> {
     site.gather(&mut one, two);
     site.begin(&rt, &mut one, 1);
     assert_eq!(rt;
-        (one.task(), one.held(), one.done(), one.front()),
+        (
+            site.task(&one),
+            site.held(&one),
+            site.done(&one),
+            site.front(&one)
+        ),
         (Some(1), Held::No, 0, 0)
     );
     Ok(())

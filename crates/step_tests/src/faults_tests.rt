@@ -1,15 +1,15 @@
 //! Faults beside a writer, on threads.
 ghost use Rattle.std.specs.Prelude.{◌≡◌, ◌≢◌, ◌<◌, length, None, IfOk};
 ghost use Rattle.lock_core.specs.declared.view.Held.TheVariants.{No};
-ghost use Rattle.lock_core.specs.Handles.{hand_in, held_in, task_in, view_of};
 ghost use Rattle.lock_core.specs.Records.{IsPlan};
 ghost use Rattle.lock_core.specs.Views.{HoldsNothing, OwesNoSignal};
-ghost use Rattle.seq_fault.specs.Handles.{SitsAt, plan_of};
+ghost use Rattle.seq_fault.specs.Handles.{SitsAt, hand_in, held_in, plan_of, task_in, view_of};
 ghost use Rattle.vma_map.specs.Spaces.{space};
 
 use crate::seq_calls::{fault_wait, map, push, touch, unmap, write};
 use lock_core::Plan;
 use seq_fault::{SeqSpace, SpacePass};
+use site_lock::SiteLock;
 use std::alloc::Global;
 use std::sync::Wait;
 use std::test::Fail;
@@ -94,7 +94,7 @@ fn fault_all<W: Wait>(rt: &W, site: &SeqSpace, mut pass: SpacePass, task: u32) -
     let mut right = true;
     for call in 0..FAULTS {
         let reply = fault_wait(site, rt, &mut pass);
-        right &= reply == Some(fault_reply(call, pass.front()));
+        right &= reply == Some(fault_reply(call, site.front(&pass)));
     }
     site.end(&mut pass);
     right

@@ -6,6 +6,7 @@ ghost use Rattle.step_tests.specs.PercpuPasses.{IsAt, IsIdle, KnowsState, Repeat
 
 use cpu_task::Crew;
 use percpu_rwsem::{PercpuPass, PercpuRwSem};
+use site_lock::SiteLock;
 use std::sync::Wait;
 use word_bits::{CallWords, Object, Reply};
 
@@ -164,7 +165,7 @@ pub fn write<O: Object + Drop>(
     ensures at { IsAt job.task Alone lock.now pass.new }
     ensures blocks { blocks_in pass.new ≡ blocks_in pass.old }
 {
-    let call = pass.done();
+    let call = lock.done(pass);
     if call >= job.rounds {
         return None;
     }
@@ -190,7 +191,7 @@ pub fn read<O: Object + Drop>(
     requires calls { Repeats (plan_of lock.now) job.task job.rounds job.words }
     ensures at { IsAt job.task Shared lock.now pass.new }
 {
-    let call = pass.done();
+    let call = lock.done(pass);
     if call >= job.rounds {
         return None;
     }

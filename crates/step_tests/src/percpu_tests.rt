@@ -4,6 +4,7 @@ use crate::percpu_plans::{map_pages, one_call};
 use cpu_task::{Crew, ScriptedCrew, Turns};
 use lock_core::{Held, Nothing, Plan};
 use percpu_rwsem::PercpuRwSem;
+use site_lock::SiteLock;
 use std::test::Fail;
 use vma_map::Areas;
 use word_bits::Reply;
@@ -31,25 +32,25 @@ fn a_writer_blocks_readers_and_waits_for_one_inside(rt: HostRuntime) -> Result<(
     let crew = ScriptedCrew::new(rt.alloc(), Vec::new(rt.alloc()), Vec::new(rt.alloc()))?;
     assert_eq!(rt; lock.read_try(&mut zero), Ok(()));
     assert_eq!(rt; try_block(&lock, &mut one, job), Ok(()));
-    assert_eq!(rt; (one.blocks(), one.held()), (true, Held::No));
+    assert_eq!(rt; (one.blocks(), lock.held(&one)), (true, Held::No));
     let Err(inside) = try_drain(&lock, &mut one, job) else {
         return Err("it holds beside a reader".into());
     };
     assert_eq!(rt; inside, 0);
     assert_eq!(rt; lock.read_try(&mut two), Err(2));
     assert_eq!(rt; lock.block(&mut two), Err(2));
-    assert_eq!(rt; (two.blocks(), two.held()), (false, Held::No));
+    assert_eq!(rt; (two.blocks(), lock.held(&two)), (false, Held::No));
     lock.up_read(&mut zero, &crew);
-    assert_eq!(rt; zero.held(), Held::No);
+    assert_eq!(rt; lock.held(&zero), Held::No);
     let Ok(()) = try_drain(&lock, &mut one, job) else {
         return Err("it waits for nobody".into());
     };
-    assert_eq!(rt; (one.blocks(), one.held()), (true, Held::Alone));
+    assert_eq!(rt; (one.blocks(), lock.held(&one)), (true, Held::Alone));
     assert_eq!(rt; write(&lock, &mut one, job), Some(Reply::Num(16)));
     let_go_alone(&lock, &mut one, &crew, job);
-    assert_eq!(rt; (one.blocks(), one.held()), (false, Held::No));
+    assert_eq!(rt; (one.blocks(), lock.held(&one)), (false, Held::No));
     assert_eq!(rt; lock.read_try(&mut two), Ok(()));
-    assert_eq!(rt; two.held(), Held::Shared);
+    assert_eq!(rt; lock.held(&two), Held::Shared);
     assert_eq!(rt; lock.word(&mut two, 0), 1);
     Ok(())
 }
@@ -68,7 +69,10 @@ fn counts_below_stay_seen(rt: HostRuntime) -> Result<(), Fail> {
     assert_eq!(rt; lock.drain(&mut zero), Err(2));
     lock.unblock(&mut zero, &crew);
     assert_eq!(rt; lock.read_try(&mut zero), Ok(()));
-    assert_eq!(rt; (zero.held(), two.held()), (Held::Shared, Held::Shared));
+    assert_eq!(rt;
+        (lock.held(&zero), lock.held(&two)),
+        (Held::Shared, Held::Shared)
+    );
     Ok(())
 }
 
@@ -81,25 +85,30 @@ fn a_free_semaphore_is_got_at_once(rt: HostRuntime) -> Result<(), Fail> {
     let mut crew = ScriptedCrew::new(rt.alloc(), Vec::new(rt.alloc()), Vec::new(rt.alloc()))?;
     let mut cpu = crew.cpu(rt.alloc(), 1, NO_TURNS)?;
     lock.down_read(&rt, &mut pass, &mut cpu, &crew);
-    assert_eq!(rt; pass.held(), Held::Shared);
+    assert_eq!(rt; lock.held(&pass), Held::Shared);
     lock.up_read(&mut pass, &crew);
     lock.down_write(&rt, &mut pass, &mut cpu, &crew);
     assert_eq!(rt;
-        (pass.task(), pass.held(), pass.done(), pass.front()),
+        (
+            lock.task(&pass),
+            lock.held(&pass),
+            lock.done(&pass),
+            lock.front(&pass)
+        ),
         (Some(1), Held::Alone, 0, 0)
     );
     lock.recall(&mut pass);
     lock.unblock(&mut pass, &crew);
     lock.end(&mut pass);
     lock.gather(&mut other, pass);
-    assert_eq!(rt; other.task(), None);
+    assert_eq!(rt; lock.task(&other), None);
     Ok(())
 }
 
 #[test]
 fn a_plan_without_tasks_opens(rt: HostRuntime) -> Result<(), Fail> {
     let plan = Plan::new(rt.alloc(), 0)?;
-    let (_lock, pass) = PercpuRwSem::<Nothing>::open(rt.alloc(), plan)?;
-    assert_eq!(rt; pass.held(), Held::No);
+    let (lock, pass) = PercpuRwSem::<Nothing>::open(rt.alloc(), plan)?;
+    assert_eq!(rt; lock.held(&pass), Held::No);
     Ok(())
 }

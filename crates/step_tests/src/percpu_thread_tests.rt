@@ -10,6 +10,7 @@ use crate::percpu_calls::{
 use crate::percpu_plans::{map_next, planned, touch_first};
 use cpu_task::{Crew, ParkCpu, ParkCrew, Turns};
 use percpu_rwsem::{PercpuPass, PercpuRwSem};
+use site_lock::SiteLock;
 use std::sync::Wait;
 use std::test::Fail;
 use std::thread::{Threads, join};
@@ -61,7 +62,7 @@ fn read_next<W: Wait>(
     // The first area is the only one, and begins at page 0.
     let pages = end_of(word(&crewed.lock, pass, 1, job));
     let reply = read(&crewed.lock, pass, job);
-    let log = pass.front();
+    let log = crewed.lock.front(pass);
     let_go_shared(&crewed.lock, pass, &crewed.crew, job);
     match reply {
         Some(Reply::MapErr) => pages == 0 && log == 0,
@@ -85,7 +86,7 @@ fn write_next<W: Wait>(
     ensures at { IsAt job.task No crewed.now.lock pass.new }
     ensures apart { blocks_in pass.new ≡ false }
 {
-    let done = pass.done();
+    let done = crewed.lock.done(pass);
     hold_alone(rt, &crewed.lock, pass, cpu, &crewed.crew, job);
     let reply = write(&crewed.lock, pass, job);
     let_go_alone(&crewed.lock, pass, &crewed.crew, job);
@@ -250,7 +251,10 @@ fn three_readers_see_states_of_the_log_beside_a_writer(rt: HostRuntime) -> Resul
     let right = four_at_once(&rt, &crewed, zero, one, two, three);
     assert_eq!(rt; right, ((ROUNDS, ROUNDS), (ROUNDS, ROUNDS)));
     start(&rt, &crewed.lock, &mut pass, 3);
-    assert_eq!(rt; (pass.done(), pass.front()), (ROUNDS, ROUNDS));
+    assert_eq!(rt;
+        (crewed.lock.done(&pass), crewed.lock.front(&pass)),
+        (ROUNDS, ROUNDS)
+    );
     assert_eq!(rt; crewed.lock.read_try(&mut pass), Ok(()));
     assert_eq!(rt; crewed.lock.word(&mut pass, 0), 1);
     Ok(())

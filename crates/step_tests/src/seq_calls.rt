@@ -1,14 +1,14 @@
 //! Calls of tasks on an address space with a sequence word.
 ghost use Rattle.std.specs.Prelude.{◌≡◌, ◌<◌, ◌+◌, length, Some, IsSome, IfSome, IfOk, slice_get};
-ghost use Rattle.lock_core.specs.Handles.{hand_in, task_in, view_of};
 ghost use Rattle.lock_core.specs.Records.{row, IsPlan};
 ghost use Rattle.lock_core.specs.Plans.{calls_in};
 ghost use Rattle.lock_core.specs.Views.{HoldsNothing, OwesNoSignal, next_entry};
 ghost use Rattle.vma_map.specs.Spaces.{space};
-ghost use Rattle.seq_fault.specs.Handles.{SitsAt, plan_of};
+ghost use Rattle.seq_fault.specs.Handles.{SitsAt, hand_in, plan_of, task_in, view_of};
 
 use lock_core::Plan;
 use seq_fault::{Raced, SeqSpace, SpacePass};
+use site_lock::SiteLock;
 use std::sync::Wait;
 use std::test::Fail;
 use vma_map::{Areas, SpaceCall};
@@ -58,8 +58,8 @@ fn next_words(site: &SeqSpace, pass: &mut SpacePass) -> Option<CallWords>
     ensures words { IfSome result (λ words. slice_get (row (plan_of site.now)
         (next_entry (hand_in pass.new)).task) (next_entry (hand_in pass.new)).call ≡ Some words) }
 {
-    let task = pass.task()?;
-    let call = pass.done();
+    let task = site.task(pass)?;
+    let call = site.done(pass);
     if task >= site.tasks() || call >= site.calls(task) {
         return None;
     }
@@ -82,7 +82,7 @@ pub fn write<W: Wait>(site: &SeqSpace, rt: &W, pass: &mut SpacePass) -> Option<R
     if Areas::reads(known) {
         return None;
     }
-    let call = pass.done();
+    let call = site.done(pass);
     Some(site.write(rt, pass, call))
 }
 
@@ -99,7 +99,7 @@ pub fn fault(site: &SeqSpace, pass: &mut SpacePass) -> Option<Result<Reply, Race
 {
     let words = next_words(site, pass)?;
     if let Some(SpaceCall::Fault { .. }) = SpaceCall::call_of(words) {
-        let call = pass.done();
+        let call = site.done(pass);
         return Some(site.fault(pass, call));
     }
     None
@@ -118,7 +118,7 @@ pub fn fault_wait<W: Wait>(site: &SeqSpace, rt: &W, pass: &mut SpacePass) -> Opt
 {
     let words = next_words(site, pass)?;
     if let Some(SpaceCall::Fault { .. }) = SpaceCall::call_of(words) {
-        let call = pass.done();
+        let call = site.done(pass);
         return Some(site.fault_wait(rt, pass, call));
     }
     None

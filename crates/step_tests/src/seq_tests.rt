@@ -6,6 +6,7 @@ ghost use Rattle.vma_map.specs.Spaces.{space};
 use crate::seq_calls::{fault, map, push, touch, unmap, write};
 use lock_core::{Held, Nothing, Plan};
 use seq_fault::{Raced, SeqSite, SeqSpace};
+use site_lock::SiteLock;
 use std::alloc::Global;
 use std::test::Fail;
 use word_bits::Reply;
@@ -32,26 +33,32 @@ fn a_fault_reads_what_was_written(rt: HostRuntime) -> Result<(), Fail> {
     site.begin(&rt, &mut zero, 0);
     site.begin(&rt, &mut one, 1);
     assert_eq!(rt; write(&site, &rt, &mut zero), Some(Reply::Num(16)));
-    assert_eq!(rt; (zero.held(), zero.done(), zero.front()), (Held::No, 1, 1));
+    assert_eq!(rt;
+        (site.held(&zero), site.done(&zero), site.front(&zero)),
+        (Held::No, 1, 1)
+    );
     assert_eq!(rt; fault(&site, &mut one), Some(Ok(Reply::Good)));
-    assert_eq!(rt; (one.held(), one.done(), one.front()), (Held::No, 1, 1));
+    assert_eq!(rt;
+        (site.held(&one), site.done(&one), site.front(&one)),
+        (Held::No, 1, 1)
+    );
     site.enter(&rt, &mut zero);
     let raced = Raced {
         before: 3,
         after: 3,
     };
     assert_eq!(rt; fault(&site, &mut one), Some(Err(raced)));
-    assert_eq!(rt; (one.done(), one.front()), (1, 1));
+    assert_eq!(rt; (site.done(&one), site.front(&one)), (1, 1));
     site.leave(&mut zero);
     assert_eq!(rt; fault(&site, &mut one), Some(Ok(Reply::MapErr)));
-    assert_eq!(rt; (one.done(), one.front()), (2, 1));
+    assert_eq!(rt; (site.done(&one), site.front(&one)), (2, 1));
     assert_eq!(rt; write(&site, &rt, &mut zero), Some(Reply::Good));
     assert_eq!(rt; fault(&site, &mut one), Some(Ok(Reply::MapErr)));
-    assert_eq!(rt; (one.done(), one.front()), (3, 2));
+    assert_eq!(rt; (site.done(&one), site.front(&one)), (3, 2));
     site.end(&mut one);
     site.gather(&mut zero, one);
     site.end(&mut zero);
-    assert_eq!(rt; (zero.task(), zero.front()), (None, 2));
+    assert_eq!(rt; (site.task(&zero), site.front(&zero)), (None, 2));
     Ok(())
 }
 
@@ -63,14 +70,23 @@ fn one_holds_after_the_other(rt: HostRuntime) -> Result<(), Fail> {
     site.begin(&rt, &mut zero, 0);
     site.begin(&rt, &mut one, 1);
     site.enter(&rt, &mut zero);
-    assert_eq!(rt; (zero.held(), one.held()), (Held::Alone, Held::No));
+    assert_eq!(rt;
+        (site.held(&zero), site.held(&one)),
+        (Held::Alone, Held::No)
+    );
     site.leave(&mut zero);
     site.enter(&rt, &mut one);
-    assert_eq!(rt; (zero.held(), one.held()), (Held::No, Held::Alone));
+    assert_eq!(rt;
+        (site.held(&zero), site.held(&one)),
+        (Held::No, Held::Alone)
+    );
     site.recall(&mut one);
     site.leave(&mut one);
     site.end(&mut one);
     site.gather(&mut zero, one);
-    assert_eq!(rt; (zero.task(), zero.done(), zero.front()), (Some(0), 0, 0));
+    assert_eq!(rt;
+        (site.task(&zero), site.done(&zero), site.front(&zero)),
+        (Some(0), 0, 0)
+    );
     Ok(())
 }

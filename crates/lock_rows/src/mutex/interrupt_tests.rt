@@ -1,7 +1,9 @@
 //! What no clause says: a signal that came before ends a wait for a mutex before the task sleeps,
 //! and the task leaves the list. Who releases then sets no wake word.
 ghost use Rattle.std.specs.Prelude.{◌≡◌, None};
-ghost use Rattle.mutex_slow.specs.Handles.{hand_in};
+ghost use Rattle.lock_core.specs.Nothings.{nothing};
+ghost use Rattle.lock_core.specs.Records.{IsPlan};
+ghost use Rattle.mutex_slow.specs.Handles.{hand_in, plan_of};
 ghost use Rattle.mutex_slow.specs.Standing.{IsReady};
 
 use super::lockers::{Three, open_free};
@@ -9,6 +11,7 @@ use crate::watched::{NO_TURNS, Watch, WatchedCrew};
 use cpu_task::Crew;
 use lock_core::{Interrupted, Nothing};
 use mutex_slow::{Mutex, MutexPass};
+use site_lock::SiteLock;
 use std::sync::atomic::Ordering;
 use std::test::Fail;
 use word_bits::MAX_TASKS;
@@ -17,6 +20,7 @@ use word_bits::MAX_TASKS;
 /// that call is no signal to a task.
 fn send(mutex: &Mutex<Nothing>, pass: &mut MutexPass<Nothing>) -> Option<u32>
     requires ready { IsReady mutex.now pass.old }
+    requires planned { IsPlan nothing (plan_of mutex.now) }
     requires unsent { (hand_in pass.old).sent ≡ None }
     ensures { IsReady mutex.now pass.new }
 {

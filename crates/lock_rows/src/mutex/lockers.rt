@@ -1,6 +1,8 @@
 //! A mutex with three tasks, and how a task takes it, for tests.
 ghost use Rattle.std.specs.Prelude.{◌≡◌, IfOk, None};
-ghost use Rattle.mutex_slow.specs.Handles.{hand_in};
+ghost use Rattle.lock_core.specs.Nothings.{nothing};
+ghost use Rattle.lock_core.specs.Records.{IsPlan};
+ghost use Rattle.mutex_slow.specs.Handles.{hand_in, plan_of};
 ghost use Rattle.mutex_slow.specs.Standing.{IsHolder, IsReady};
 
 use cpu_task::Crew;
@@ -25,6 +27,7 @@ pub struct Three {
 
 /// A new mutex, on which three tasks have begun.
 pub fn open_free(rt: &impl Wait, alloc: Global) -> Result<Three, AllocError>
+    ensures planned { IfOk result (λ t. IsPlan nothing (plan_of t.mutex)) }
     ensures holder { IfOk result (λ t. IsReady t.mutex t.holder) }
     ensures unsent { IfOk result (λ t. (hand_in t.holder).sent ≡ None) }
     ensures waiter { IfOk result (λ t. IsReady t.mutex t.waiter) }

@@ -5,6 +5,7 @@ ghost use Rattle.mutex_slow.specs.Handles.{IsIdle, plan_of};
 use cpu_task::{Crew, ParkCpu, ParkCrew, Turns};
 use lock_core::{Nothing, Plan};
 use mutex_slow::{Mutex, MutexPass};
+use site_lock::SiteLock;
 use std::sync::Wait;
 use std::sync::atomic::{AtomicU64, Ordering};
 use std::test::Fail;

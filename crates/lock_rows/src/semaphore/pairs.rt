@@ -1,6 +1,8 @@
 //! A semaphore with two tasks, for tests.
 ghost use Rattle.std.specs.Prelude.{◌≡◌, IfOk, None};
-ghost use Rattle.rwsem_slow.specs.Handles.{hand_in};
+ghost use Rattle.lock_core.specs.Nothings.{nothing};
+ghost use Rattle.lock_core.specs.Records.{IsPlan};
+ghost use Rattle.rwsem_slow.specs.Handles.{hand_in, plan_of};
 ghost use Rattle.rwsem_slow.specs.Standing.{IsReady};
 
 use lock_core::{Nothing, Plan};
@@ -28,6 +30,7 @@ pub struct Pair {
 
 /// A new semaphore, on which two tasks have begun.
 pub fn open_pair(rt: &impl Wait, alloc: Global) -> Result<Pair, AllocError>
+    ensures planned { IfOk result (λ p. IsPlan nothing (plan_of p.sem)) }
     ensures holder { IfOk result (λ p. IsReady p.sem p.holder) }
     ensures unsent { IfOk result (λ p. (hand_in p.holder).sent ≡ None) }
     ensures waiter { IfOk result (λ p. IsReady p.sem p.waiter) }

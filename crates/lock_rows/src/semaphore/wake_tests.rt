@@ -1,6 +1,8 @@
 //! Whom a release of a semaphore wakes, and what the passes count of it.
 ghost use Rattle.std.specs.Prelude.{◌≡◌, false};
-ghost use Rattle.rwsem_slow.specs.Handles.{hand_in, SitsAt};
+ghost use Rattle.lock_core.specs.Nothings.{nothing};
+ghost use Rattle.lock_core.specs.Records.{IsPlan};
+ghost use Rattle.rwsem_slow.specs.Handles.{hand_in, plan_of, SitsAt};
 ghost use Rattle.rwsem_slow.specs.Standing.{IsReady};
 
 use super::pairs::{Pair, Way, open_pair};
@@ -8,6 +10,7 @@ use crate::watched::{NO_TURNS, Watch, WatchedCrew, await_count};
 use cpu_task::Crew;
 use lock_core::{Held, How, Nothing};
 use rwsem_slow::{RwPass, RwSem};
+use site_lock::SiteLock;
 use std::alloc::{AllocError, Global};
 use std::process::Abort;
 use std::sync::Wait;
@@ -53,6 +56,7 @@ fn release_behind_sleeper<'a, W: Wait>(
     hold: Hold,
 ) -> [u64; 2]
     requires own { SitsAt sem.now pass }
+    requires planned { IsPlan nothing (plan_of sem.now) }
     requires quiet { (hand_in pass).writes ≡ false }
 {
     await_count(&crew.watch.sleeps, 1);
@@ -116,6 +120,7 @@ fn behind_a_hold<R: Threads + Wait + Sync + Abort>(
         { take_and_count(rt, &sem, &crew, cpu, waiter, way) },
         || -> [u64; 2]
             requires own { SitsAt sem holder }
+            requires planned { IsPlan nothing (plan_of sem) }
             requires quiet { (hand_in holder).writes ≡ false }
         { release_behind_sleeper(rt, &sem, &crew, holder, held) },
     ))

@@ -11,7 +11,7 @@ returns-clause-gathered g c =
     let first = c.gather.ensures in
     let second = c.gather-2.ensures in
     let third = c.gather-3.ensures in
-    four-gathered g.O.Object.object (unavailable g.L.SleepLock.kind) (g.L.SleepLock.calls_on c.args.guarded.now.lock) (g.L.SleepLock.view c.gather-3.new.into).hand one.made two.made three.made four.made
+    four-gathered g.O.Object.object (unavailable g.L.SleepLock.kind) (g.L.SiteLock.calls_on c.args.guarded.now.lock) (g.L.SiteLock.view c.gather-3.new.into).hand one.made two.made three.made four.made
     c.requires.four one.all two.all three.all four.all
     (third.done 0 one.made (second.done 0 one.made (first.done 0 one.made one.done)))
     (third.done 1 two.made (second.done 1 two.made (first.done_by_other 1 two.made two.done)))

@@ -1,7 +1,6 @@
 use Rattle.std.proofs.Common.{◌≡◌, IsSome, false}
 use Rattle.lock_core.specs.declared.view.Held.TheVariants.{No}
-use Rattle.lock_core.specs.Handles.{hand_in, held_in, task_in}
-use Rattle.mutex_word.specs.Handles.{SitsAt}
+use Rattle.mutex_word.specs.Handles.{hand_in, held_in, task_in, SitsAt}
 use Rattle.call_tests.specs.Standing.{OwesNothing, SameSpin}
 use Rattle.call_tests.proofs.calls.await_signal.Given as goal
 

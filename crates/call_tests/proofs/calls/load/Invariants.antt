@@ -1,7 +1,6 @@
 use Rattle.std.proofs.Common.{◌≡◌, length, take}
-use Rattle.lock_core.specs.Handles.{hand_in, SaysSame}
-use Rattle.mutex_word.specs.Handles.{SitsAt}
-use Rattle.call_tests.specs.Standing.{SameSpin}
+use Rattle.mutex_word.specs.Handles.{hand_in, SitsAt}
+use Rattle.call_tests.specs.Standing.{SameSpin, SaysSame}
 use Rattle.call_tests.proofs.calls.load.Given as goal
 
 abbrev pub invariant-loop-at : goal.invariant-loop-at

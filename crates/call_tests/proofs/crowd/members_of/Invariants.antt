@@ -4,7 +4,7 @@ use Rattle.call_tests.proofs.crowd.members_of.Given as goal
 
 abbrev pub invariant-loop-task : goal.invariant-loop-task
 invariant-loop-task g l =
-    g.L.SleepLock.sits l.guarded.lock l.first
-    × IsFresh (g.L.SleepLock.view l.first)
-    × AreFresh (g.L.SleepLock.sits l.guarded.lock) g.L.SleepLock.view l.members.items
+    g.L.SiteLock.sits l.guarded.lock l.first
+    × IsFresh (g.L.SiteLock.view l.first)
+    × AreFresh (g.L.SiteLock.sits l.guarded.lock) g.L.SiteLock.view l.members.items
     × (length l.members.items ≡ l.task)

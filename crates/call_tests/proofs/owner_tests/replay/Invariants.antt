@@ -1,6 +1,6 @@
 use Rattle.std.proofs.Common.{◌≡◌}
-use Rattle.lock_core.specs.Handles.{hand_in, SaysSame}
-use Rattle.mutex_word.specs.Handles.{SitsAt}
+use Rattle.mutex_word.specs.Handles.{hand_in, SitsAt}
+use Rattle.call_tests.specs.Standing.{SaysSame}
 use Rattle.call_tests.proofs.owner_tests.replay.Given as goal
 
 abbrev pub invariant-loop-at : goal.invariant-loop-at

@@ -4,8 +4,8 @@ use Rattle.call_tests.proofs.serve.replies_of.Given as goal
 
 abbrev pub invariant-loop-call : goal.invariant-loop-call
 invariant-loop-call g l =
-    g.L.SleepLock.sits l.guarded.lock l.pass
-    × ((g.L.SleepLock.view l.pass).hand.task ≡ Some l.task)
-    × ((g.L.SleepLock.view l.pass).hand.held ≡ No)
-    × ((g.L.SleepLock.view l.pass).hand.sent ≡ None)
-    × ((g.L.SleepLock.view l.pass).hand.consumed ≡ 0)
+    g.L.SiteLock.sits l.guarded.lock l.pass
+    × ((g.L.SiteLock.view l.pass).hand.task ≡ Some l.task)
+    × ((g.L.SiteLock.view l.pass).hand.held ≡ No)
+    × ((g.L.SiteLock.view l.pass).hand.sent ≡ None)
+    × ((g.L.SiteLock.view l.pass).hand.consumed ≡ 0)

@@ -12,8 +12,8 @@ use Rattle.guarded.proofs.searching.count_ended_by.Goals as goal
 
 pub loop-middle-preserved-then-area_at-page : goal.loop-middle-preserved-then-area_at-page
 loop-middle-preserved-then-area_at-page g c =
-    let v = g.L.SleepLock.view c.args.pass.now in
-    let u = g.L.SleepLock.view c.loop-middle.pass in
+    let v = g.L.SiteLock.view c.args.pass.now in
+    let u = g.L.SiteLock.view c.loop-middle.pass in
     let areas = areas_in v.hand.known in
     let at = c.in-Some.middle in
     let is : slice_get areas at ≡ Some c.area_at.result = ap (λ ws. slice_get (areas_in ws) at) (sym (same-known v u c.loop-middle.invariant.1)) ∙ c.area_at.ensures.area in
@@ -21,7 +21,7 @@ loop-middle-preserved-then-area_at-page g c =
     let most = c.passes.ensures.most in
     let below = slice_get_within areas at c.area_at.result is in (
       c.area_at.ensures.own,
-      looks-trans v u (g.L.SleepLock.view c.area_at.new.pass) c.loop-middle.invariant.1 c.area_at.ensures.kept,
+      looks-trans v u (g.L.SiteLock.view c.area_at.new.pass) c.loop-middle.invariant.1 c.area_at.ensures.kept,
       (λ p t. c.area_at.ensures.goes_on p (c.loop-middle.invariant.2 p t)),
       subst (λ (n : ℕ). n ≤ length areas) (sym most) c.loop-middle.invariant.3,
       subst (λ n. AllByRecursion (λ (a : Area). a.end ≤ c.args.page) (take n areas)) (sym least) (subst (λ (n : ℕ). AllByRecursion (λ (a : Area). a.end ≤ c.args.page) (take n areas)) (sym (add-one at)) (ended-by areas at no_area c.args.page c.requires.areas.space.runs below (subst (λ (a : Area). a.end ≤ c.args.page) (sym (get_or_from_slice_get areas at c.area_at.result no_area is)) c.if-area_at-page.true))),
@@ -30,8 +30,8 @@ loop-middle-preserved-then-area_at-page g c =
 
 pub loop-middle-preserved : goal.loop-middle-preserved
 loop-middle-preserved g c =
-    let v = g.L.SleepLock.view c.args.pass.now in
-    let u = g.L.SleepLock.view c.loop-middle.pass in
+    let v = g.L.SiteLock.view c.args.pass.now in
+    let u = g.L.SiteLock.view c.loop-middle.pass in
     let areas = areas_in v.hand.known in
     let at = c.in-Some.middle in
     let is : slice_get areas at ≡ Some c.area_at.result = ap (λ ws. slice_get (areas_in ws) at) (sym (same-known v u c.loop-middle.invariant.1)) ∙ c.area_at.ensures.area in
@@ -39,7 +39,7 @@ loop-middle-preserved g c =
     let most = c.fails.ensures.most ∙ sym c.in-Some.ensures.some in
     let below = slice_get_within areas at c.area_at.result is in (
       c.area_at.ensures.own,
-      looks-trans v u (g.L.SleepLock.view c.area_at.new.pass) c.loop-middle.invariant.1 c.area_at.ensures.kept,
+      looks-trans v u (g.L.SiteLock.view c.area_at.new.pass) c.loop-middle.invariant.1 c.area_at.ensures.kept,
       (λ p t. c.area_at.ensures.goes_on p (c.loop-middle.invariant.2 p t)),
       omega (arith, most, below),
       subst (λ n. AllByRecursion (λ (a : Area). a.end ≤ c.args.page) (take n areas)) (sym least) c.loop-middle.invariant.4,

@@ -9,12 +9,12 @@ use Rattle.guarded.proofs.searching.count_ended_by.Given as goal
 
 abbrev pub invariant-loop-middle : goal.invariant-loop-middle
 invariant-loop-middle g l =
-    g.L.SleepLock.sits l.lock l.pass
-    × Looks (g.L.SleepLock.view l.fn.pass) (g.L.SleepLock.view l.pass)
-    × PastGoesOn (g.L.SleepLock.view l.fn.pass) (g.L.SleepLock.view l.pass)
-    × (most l.ended ≤ length (areas_in (g.L.SleepLock.view l.fn.pass).hand.known))
-    × AllByRecursion (λ a. a.end ≤ l.page) (take (least l.ended) (areas_in (g.L.SleepLock.view l.fn.pass).hand.known))
-    × AllByRecursion (λ a. l.page < a.end) (drop (most l.ended) (areas_in (g.L.SleepLock.view l.fn.pass).hand.known))
+    g.L.SiteLock.sits l.lock l.pass
+    × Looks (g.L.SiteLock.view l.fn.pass) (g.L.SiteLock.view l.pass)
+    × PastGoesOn (g.L.SiteLock.view l.fn.pass) (g.L.SiteLock.view l.pass)
+    × (most l.ended ≤ length (areas_in (g.L.SiteLock.view l.fn.pass).hand.known))
+    × AllByRecursion (λ a. a.end ≤ l.page) (take (least l.ended) (areas_in (g.L.SiteLock.view l.fn.pass).hand.known))
+    × AllByRecursion (λ a. l.page < a.end) (drop (most l.ended) (areas_in (g.L.SiteLock.view l.fn.pass).hand.known))
 
 abbrev pub decreases-loop-middle : goal.decreases-loop-middle
 decreases-loop-middle g l = most l.ended - least l.ended

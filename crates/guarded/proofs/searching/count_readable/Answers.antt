@@ -16,7 +16,7 @@ use Rattle.guarded.proofs.Written.{same-known}
 use Rattle.guarded.proofs.searching.count_readable.Goals as goal
 
 pub area_at-area-requires-clause-areas : goal.area_at-area-requires-clause-areas
-area_at-area-requires-clause-areas g c = subst HaveAreas (sym (same-known (g.L.SleepLock.view c.args.pass.now) (g.L.SleepLock.view c.loop-at.pass) c.loop-at.invariant.1)) c.requires.areas
+area_at-area-requires-clause-areas g c = subst HaveAreas (sym (same-known (g.L.SiteLock.view c.args.pass.now) (g.L.SiteLock.view c.loop-at.pass) c.loop-at.invariant.1)) c.requires.areas
 
 -- the end of the range, or both ends lie behind all pages
 fits : (start len end : ℕ) → end ≡ min (start + len) 4294967295 → (end ≡ start + len) ⊎ ((1048576 ≤ end) × (1048576 ≤ start + len))
@@ -27,9 +27,9 @@ fits start len end is = elim (native.Mathlib.Decide.dec_le (start + len) 4294967
 
 pub loop-at-init : goal.loop-at-init
 loop-at-init g c =
-    let v = g.L.SleepLock.view c.args.pass.now in
-    let u = g.L.SleepLock.view c.word-count.new.pass in
-    let w = g.L.SleepLock.view c.count_ended_by-at.new.pass in
+    let v = g.L.SiteLock.view c.args.pass.now in
+    let u = g.L.SiteLock.view c.word-count.new.pass in
+    let w = g.L.SiteLock.view c.count_ended_by-at.new.pass in
     let n = c.count_ended_by-at.result in
     let end = c.saturating_add-end.result in
     let ended = subst (λ (ws : List ℕ). AllByRecursion (λ (a : Area). a.end ≤ c.args.start) (take n (areas_in ws))) (same-known v u c.word-count.ensures.kept) c.count_ended_by-at.ensures.ended in (
@@ -41,22 +41,22 @@ loop-at-init g c =
 
 pub area_at-area-requires-clause-inside : goal.area_at-area-requires-clause-inside
 area_at-area-requires-clause-inside g c =
-    let v = g.L.SleepLock.view c.args.pass.now in
+    let v = g.L.SiteLock.view c.args.pass.now in
     let number = c.word-count.ensures.value ∙ number-of v.hand.known c.requires.areas in
-    let same = ap (λ ws. length (areas_in ws)) (same-known v (g.L.SleepLock.view c.loop-at.pass) c.loop-at.invariant.1) in
+    let same = ap (λ ws. length (areas_in ws)) (same-known v (g.L.SiteLock.view c.loop-at.pass) c.loop-at.invariant.1) in
     let inside = c.loop-at-test.true in
     omega (arith, number, same, inside)
 
 pub overflow_add-pages : goal.overflow_add-pages
 overflow_add-pages g c =
-    let v = g.L.SleepLock.view c.args.pass.now in
+    let v = g.L.SiteLock.view c.args.pass.now in
     let areas = areas_in v.hand.known in
     let i = c.loop-at.at in
     let end = c.saturating_add-end.result in
     let number = c.word-count.ensures.value ∙ number-of v.hand.known c.requires.areas in
     let test = c.loop-at-test.true in
     let inside : i < length areas = omega (arith, number, test) in
-    let is : slice_get areas i ≡ Some c.area_at-area.result = ap (λ ws. slice_get (areas_in ws) i) (sym (same-known v (g.L.SleepLock.view c.loop-at.pass) c.loop-at.invariant.1)) ∙ c.area_at-area.ensures.area in
+    let is : slice_get areas i ≡ Some c.area_at-area.result = ap (λ ws. slice_get (areas_in ws) i) (sym (same-known v (g.L.SiteLock.view c.loop-at.pass) c.loop-at.invariant.1)) ∙ c.area_at-area.ensures.area in
     let more = shares-more areas i no_area c.args.start end inside ∙ ap (λ (a : Area). shares (take i areas) c.args.start end + share a c.args.start end) (get_or_from_slice_get areas i c.area_at-area.result no_area is) in
     let most = covered-le (take (i + 1) areas) (AreRuns-take (i + 1) areas c.requires.areas.space.runs) in
     let least = shares-le (take (i + 1) areas) c.args.start end in
@@ -66,9 +66,9 @@ overflow_add-pages g c =
 
 pub loop-at-preserved : goal.loop-at-preserved
 loop-at-preserved g c =
-    let v = g.L.SleepLock.view c.args.pass.now in
-    let u = g.L.SleepLock.view c.loop-at.pass in
-    let w = g.L.SleepLock.view c.area_at-area.new.pass in
+    let v = g.L.SiteLock.view c.args.pass.now in
+    let u = g.L.SiteLock.view c.loop-at.pass in
+    let w = g.L.SiteLock.view c.area_at-area.new.pass in
     let areas = areas_in v.hand.known in
     let i = c.loop-at.at in
     let end = c.saturating_add-end.result in
@@ -87,7 +87,7 @@ loop-at-preserved g c =
 
 pub returns-clause-pages : goal.returns-clause-pages
 returns-clause-pages g c =
-    let v = g.L.SleepLock.view c.args.pass.now in
+    let v = g.L.SiteLock.view c.args.pass.now in
     let areas = areas_in v.hand.known in
     let end = c.saturating_add-end.result in
     let runs = c.requires.areas.space.runs in
@@ -99,8 +99,8 @@ returns-clause-pages g c =
 
 pub returns-then-end-area-clause-pages : goal.returns-then-end-area-clause-pages
 returns-then-end-area-clause-pages g c =
-    let v = g.L.SleepLock.view c.args.pass.now in
-    let u = g.L.SleepLock.view c.loop-at.pass in
+    let v = g.L.SiteLock.view c.args.pass.now in
+    let u = g.L.SiteLock.view c.loop-at.pass in
     let areas = areas_in v.hand.known in
     let i = c.loop-at.at in
     let end = c.saturating_add-end.result in

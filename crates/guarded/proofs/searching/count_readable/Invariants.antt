@@ -8,7 +8,7 @@ use Rattle.guarded.proofs.searching.count_readable.Given as goal
 
 abbrev pub invariant-loop-at : goal.invariant-loop-at
 invariant-loop-at g l =
-    g.L.SleepLock.sits l.lock l.pass
-    × Looks (g.L.SleepLock.view l.fn.pass) (g.L.SleepLock.view l.pass)
-    × PastGoesOn (g.L.SleepLock.view l.fn.pass) (g.L.SleepLock.view l.pass)
-    × (l.pages ≡ shares (take l.at (areas_in (g.L.SleepLock.view l.fn.pass).hand.known)) l.start l.end)
+    g.L.SiteLock.sits l.lock l.pass
+    × Looks (g.L.SiteLock.view l.fn.pass) (g.L.SiteLock.view l.pass)
+    × PastGoesOn (g.L.SiteLock.view l.fn.pass) (g.L.SiteLock.view l.pass)
+    × (l.pages ≡ shares (take l.at (areas_in (g.L.SiteLock.view l.fn.pass).hand.known)) l.start l.end)

@@ -9,9 +9,9 @@ use Rattle.guarded.proofs.searching.find_page.Goals as goal
 
 pub loop-at-preserved : goal.loop-at-preserved
 loop-at-preserved g c =
-    let v = g.L.SleepLock.view c.args.pass.now in
-    let u = g.L.SleepLock.view c.loop-at.pass in
-    let w = g.L.SleepLock.view c.word.new.pass in
+    let v = g.L.SiteLock.view c.args.pass.now in
+    let u = g.L.SiteLock.view c.loop-at.pass in
+    let w = g.L.SiteLock.view c.word.new.pass in
     let at = c.in-Some.at in
     let value : slice_index v.hand.known at ≡ c.word.result = sym (c.word.ensures.value ∙ ap {A = Hand} (λ h. slice_index h.known at) c.loop-at.invariant.1.0) in (
       c.word.ensures.own,

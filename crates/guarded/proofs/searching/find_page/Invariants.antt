@@ -7,11 +7,11 @@ use Rattle.guarded.proofs.searching.find_page.Given as goal
 
 abbrev pub invariant-loop-at : goal.invariant-loop-at
 invariant-loop-at g l =
-    g.L.SleepLock.sits l.lock l.pass
-    × Looks (g.L.SleepLock.view l.fn.pass) (g.L.SleepLock.view l.pass)
-    × PastGoesOn (g.L.SleepLock.view l.fn.pass) (g.L.SleepLock.view l.pass)
+    g.L.SiteLock.sits l.lock l.pass
+    × Looks (g.L.SiteLock.view l.fn.pass) (g.L.SiteLock.view l.pass)
+    × PastGoesOn (g.L.SiteLock.view l.fn.pass) (g.L.SiteLock.view l.pass)
     × (page_of l.search ≡ l.page)
-    × AgreesWith (g.L.SleepLock.view l.fn.pass).hand.known l.search
+    × AgreesWith (g.L.SiteLock.view l.fn.pass).hand.known l.search
 
 abbrev pub decreases-loop-at : goal.decreases-loop-at
 decreases-loop-at g l = 10 - asked l.search

@@ -8,8 +8,8 @@ use Rattle.guarded.proofs.slots.dup.Goals as goal
 
 pub returns-then-word-eq0-clause-done : goal.returns-then-word-eq0-clause-done
 returns-then-word-eq0-clause-done g c = λ m is same.
-    let v = g.L.SleepLock.view c.args.pass.now in
-    let r = g.L.SleepLock.view c.slot-word.new.pass in
+    let v = g.L.SiteLock.view c.args.pass.now in
+    let r = g.L.SiteLock.view c.slot-word.new.pass in
     let fd = c.args.fd in
     does-nothing m v r r c.slot-word.ensures.kept is same (Dup fd) (Refused BadF) (dupped-none m fd (slot-none (m fd) c.slot-word.result (c.slot-word.ensures.value m is same) c.if-word-eq0.true))
 
@@ -20,9 +20,9 @@ open-requires-clause-table g c =
 
 pub returns-clause-done : goal.returns-clause-done
 returns-clause-done g c = λ m is same.
-    let v = g.L.SleepLock.view c.args.pass.now in
-    let r = g.L.SleepLock.view c.slot-word.new.pass in
-    let u = g.L.SleepLock.view c.open.new.pass in
+    let v = g.L.SiteLock.view c.args.pass.now in
+    let r = g.L.SiteLock.view c.slot-word.new.pass in
+    let u = g.L.SiteLock.view c.open.new.pass in
     let fd = c.args.fd in
     let word = c.slot-word.result in
     let value = c.slot-word.ensures.value m is same in

@@ -8,8 +8,8 @@ use Rattle.guarded.proofs.slots.dup2.Goals.{then-word-eq0-via-then-word-eq0, the
 
 pub returns-then-word-eq0-clause-done : goal.returns-then-word-eq0-clause-done
 returns-then-word-eq0-clause-done g c = λ m is same.
-    let v = g.L.SleepLock.view c.args.pass.now in
-    let r = g.L.SleepLock.view c.slot-word.new.pass in
+    let v = g.L.SiteLock.view c.args.pass.now in
+    let r = g.L.SiteLock.view c.slot-word.new.pass in
     let fd = c.args.fd in
     let to = c.args.to in
     does-nothing m v r r c.slot-word.ensures.kept is same (Dup2 fd to) (Refused BadF) (elim c.then-word-eq0.branch [
@@ -19,9 +19,9 @@ returns-then-word-eq0-clause-done g c = λ m is same.
 
 pub returns-clause-done : goal.returns-clause-done
 returns-clause-done g c = λ m is same.
-    let v = g.L.SleepLock.view c.args.pass.now in
-    let r = g.L.SleepLock.view c.slot-word.new.pass in
-    let u = g.L.SleepLock.view c.set_word.new.pass in
+    let v = g.L.SiteLock.view c.args.pass.now in
+    let r = g.L.SiteLock.view c.slot-word.new.pass in
+    let u = g.L.SiteLock.view c.set_word.new.pass in
     let fd = c.args.fd in
     let to = c.args.to in
     let word = c.slot-word.result in

@@ -7,7 +7,7 @@ use Rattle.guarded.proofs.slots.lowest_free.Goals as goal
 
 pub returns-then-word-eq0-clause-value : goal.returns-then-word-eq0-clause-value
 returns-then-word-eq0-clause-value g c = λ m is same.
-    let v = g.L.SleepLock.view c.args.pass.now in
+    let v = g.L.SiteLock.view c.args.pass.now in
     let fd = c.loop-fd.fd in
     let below : fd < 64 = let test = c.loop-fd-test.true in omega (arith, test) in
     let value = c.word.ensures.value ∙ ap {A = Hand} (λ h. slice_index h.known fd) c.loop-fd.invariant.1.0 in
@@ -15,9 +15,9 @@ returns-then-word-eq0-clause-value g c = λ m is same.
 
 pub loop-fd-preserved : goal.loop-fd-preserved
 loop-fd-preserved g c =
-    let v = g.L.SleepLock.view c.args.pass.now in
-    let u = g.L.SleepLock.view c.loop-fd.pass in
-    let w = g.L.SleepLock.view c.word.new.pass in
+    let v = g.L.SiteLock.view c.args.pass.now in
+    let u = g.L.SiteLock.view c.loop-fd.pass in
+    let w = g.L.SiteLock.view c.word.new.pass in
     let fd = c.loop-fd.fd in
     let below : fd < 64 = let test = c.loop-fd-test.true in omega (arith, test) in
     let value = c.word.ensures.value ∙ ap {A = Hand} (λ h. slice_index h.known fd) c.loop-fd.invariant.1.0 in (

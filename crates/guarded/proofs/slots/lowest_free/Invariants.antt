@@ -7,7 +7,7 @@ use Rattle.guarded.proofs.slots.lowest_free.Given as goal
 
 abbrev pub invariant-loop-fd : goal.invariant-loop-fd
 invariant-loop-fd g l =
-    g.L.SleepLock.sits l.lock l.pass
-    × Looks (g.L.SleepLock.view l.fn.pass) (g.L.SleepLock.view l.pass)
-    × PastGoesOn (g.L.SleepLock.view l.fn.pass) (g.L.SleepLock.view l.pass)
-    × ((m : FdMap) → IsFdMap m → stores m ≡ (g.L.SleepLock.view l.fn.pass).hand.known → (k : ℕ) → k < l.fd → IsSome (m k))
+    g.L.SiteLock.sits l.lock l.pass
+    × Looks (g.L.SiteLock.view l.fn.pass) (g.L.SiteLock.view l.pass)
+    × PastGoesOn (g.L.SiteLock.view l.fn.pass) (g.L.SiteLock.view l.pass)
+    × ((m : FdMap) → IsFdMap m → stores m ≡ (g.L.SiteLock.view l.fn.pass).hand.known → (k : ℕ) → k < l.fd → IsSome (m k))

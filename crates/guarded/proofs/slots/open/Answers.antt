@@ -7,8 +7,8 @@ use Rattle.guarded.proofs.slots.open.Goals as goal
 
 pub returns-in-None-clause-done : goal.returns-in-None-clause-done
 returns-in-None-clause-done g c = λ m is same.
-    let v = g.L.SleepLock.view c.args.pass.now in
-    let r = g.L.SleepLock.view c.lowest_free.new.pass in
+    let v = g.L.SiteLock.view c.args.pass.now in
+    let r = g.L.SiteLock.view c.lowest_free.new.pass in
     does-nothing m v r r c.lowest_free.ensures.kept is same (Open c.args.file) (Refused MFile) (opened-none m c.args.file (c.in-None.ensures.value m is same))
 
 pub set_word-requires-clause-inside : goal.set_word-requires-clause-inside
@@ -18,9 +18,9 @@ set_word-requires-clause-inside g c =
 
 pub returns-in-Some-clause-done : goal.returns-in-Some-clause-done
 returns-in-Some-clause-done g c = λ m is same.
-    let v = g.L.SleepLock.view c.args.pass.now in
-    let r = g.L.SleepLock.view c.lowest_free.new.pass in
-    let u = g.L.SleepLock.view c.set_word.new.pass in
+    let v = g.L.SiteLock.view c.args.pass.now in
+    let r = g.L.SiteLock.view c.lowest_free.new.pass in
+    let u = g.L.SiteLock.view c.set_word.new.pass in
     let fd = c.in-Some.fd in
     let found = c.in-Some.ensures.value m is same in
     does-write m v r u c.lowest_free.ensures.kept is same (Open c.args.file) (Num fd) fd (c.from.result + 1) (Some c.args.file) (lowest-within m fd found) (ap (λ (n : ℕ). n + 1) c.from.ensures) c.set_word.ensures.kept (opened-some m c.args.file fd found)

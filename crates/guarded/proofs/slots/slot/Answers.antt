@@ -8,4 +8,4 @@ returns-then-fd-ge-DESCRIPTORS-clause-value g c = λ m is same. let past = c.if-
 pub returns-clause-value : goal.returns-clause-value
 returns-clause-value g c = λ m is same.
     let below = c.if-fd-ge-DESCRIPTORS.false in
-    slot-at m (g.L.SleepLock.view c.args.pass.now).hand.known c.args.fd c.word.result (omega (arith, below)) same c.word.ensures.value
+    slot-at m (g.L.SiteLock.view c.args.pass.now).hand.known c.args.fd c.word.result (omega (arith, below)) same c.word.ensures.value

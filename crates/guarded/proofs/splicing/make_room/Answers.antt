@@ -7,27 +7,27 @@ use Rattle.guarded.proofs.Written.{looked, wrote-word, still-alone, same-known, 
 use Rattle.guarded.proofs.splicing.make_room.Goals as goal
 
 pub returns-then-more-eq0-clause-kept : goal.returns-then-more-eq0-clause-kept
-returns-then-more-eq0-clause-kept g c = changes-none (g.L.SleepLock.view c.args.pass.now)
+returns-then-more-eq0-clause-kept g c = changes-none (g.L.SiteLock.view c.args.pass.now)
 
 pub returns-then-more-eq0-clause-moved : goal.returns-then-more-eq0-clause-moved
-returns-then-more-eq0-clause-moved g c = roomed-none (g.L.SleepLock.view c.args.pass.now).hand.known c.args.at c.args.more c.if-more-eq0.true
+returns-then-more-eq0-clause-moved g c = roomed-none (g.L.SiteLock.view c.args.pass.now).hand.known c.args.at c.args.more c.if-more-eq0.true
 
 pub loop-place-init : goal.loop-place-init
-loop-place-init g c = (c.requires.own, changes-none (g.L.SleepLock.view c.args.pass.now), refl, c.requires.within, omega arith, (λ i l. refl), (λ i l. c.requires.zeros i (omega (arith, l)) ∙ sym (c.requires.zeros (i - c.args.more) (omega (arith, l)))))
+loop-place-init g c = (c.requires.own, changes-none (g.L.SiteLock.view c.args.pass.now), refl, c.requires.within, omega arith, (λ i l. refl), (λ i l. c.requires.zeros i (omega (arith, l)) ∙ sym (c.requires.zeros (i - c.args.more) (omega (arith, l)))))
 
 pub word-word-requires-clause-held : goal.word-word-requires-clause-held
-word-word-requires-clause-held g c = λ e. let alone = still-alone (g.L.SleepLock.view c.args.pass.now) (g.L.SleepLock.view c.loop-place.pass) c.loop-place.invariant.1 c.requires.held in absurd cc
+word-word-requires-clause-held g c = λ e. let alone = still-alone (g.L.SiteLock.view c.args.pass.now) (g.L.SiteLock.view c.loop-place.pass) c.loop-place.invariant.1 c.requires.held in absurd cc
 
 pub set_word-requires-clause-held : goal.set_word-requires-clause-held
 set_word-requires-clause-held g c =
-    ap {A = Hand} (λ h. h.held) c.word-word.ensures.kept.0 ∙ still-alone (g.L.SleepLock.view c.args.pass.now) (g.L.SleepLock.view c.loop-place.pass) c.loop-place.invariant.1 c.requires.held
+    ap {A = Hand} (λ h. h.held) c.word-word.ensures.kept.0 ∙ still-alone (g.L.SiteLock.view c.args.pass.now) (g.L.SiteLock.view c.loop-place.pass) c.loop-place.invariant.1 c.requires.held
 
 pub loop-place-preserved : goal.loop-place-preserved
 loop-place-preserved g c =
-    let v = g.L.SleepLock.view c.args.pass.now in
-    let u = g.L.SleepLock.view c.loop-place.pass in
-    let r = g.L.SleepLock.view c.word-word.new.pass in
-    let w = g.L.SleepLock.view c.set_word.new.pass in
+    let v = g.L.SiteLock.view c.args.pass.now in
+    let u = g.L.SiteLock.view c.loop-place.pass in
+    let r = g.L.SiteLock.view c.word-word.new.pass in
+    let w = g.L.SiteLock.view c.set_word.new.pass in
     let place = c.loop-place.place in
     let more = c.args.more in
     let word = c.word-word.result in
@@ -50,4 +50,4 @@ loop-place-preserved g c =
 
 pub returns-clause-moved : goal.returns-clause-moved
 returns-clause-moved g c =
-    roomed-all (g.L.SleepLock.view c.args.pass.now).hand.known (g.L.SleepLock.view c.loop-place.pass).hand.known c.args.at c.args.more c.loop-place.place c.loop-place.invariant.2 c.loop-place-test.false c.loop-place.invariant.3 c.loop-place.invariant.5 c.loop-place.invariant.6
+    roomed-all (g.L.SiteLock.view c.args.pass.now).hand.known (g.L.SiteLock.view c.loop-place.pass).hand.known c.args.at c.args.more c.loop-place.place c.loop-place.invariant.2 c.loop-place-test.false c.loop-place.invariant.3 c.loop-place.invariant.5 c.loop-place.invariant.6

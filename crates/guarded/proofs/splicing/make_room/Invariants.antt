@@ -5,13 +5,13 @@ use Rattle.guarded.proofs.splicing.make_room.Given as goal
 
 abbrev pub invariant-loop-place : goal.invariant-loop-place
 invariant-loop-place g l =
-    g.L.SleepLock.sits l.lock l.pass
-    × ChangesWords (g.L.SleepLock.view l.fn.pass) (g.L.SleepLock.view l.pass)
-    × (length (g.L.SleepLock.view l.pass).hand.known ≡ length (g.L.SleepLock.view l.fn.pass).hand.known)
+    g.L.SiteLock.sits l.lock l.pass
+    × ChangesWords (g.L.SiteLock.view l.fn.pass) (g.L.SiteLock.view l.pass)
+    × (length (g.L.SiteLock.view l.pass).hand.known ≡ length (g.L.SiteLock.view l.fn.pass).hand.known)
     × (l.at ≤ l.place)
     × (l.place ≤ l.len)
-    × ((i : ℕ) → i ≤ l.place → slice_index (g.L.SleepLock.view l.pass).hand.known i ≡ slice_index (g.L.SleepLock.view l.fn.pass).hand.known i)
-    × ((i : ℕ) → l.place + l.more < i → slice_index (g.L.SleepLock.view l.pass).hand.known i ≡ slice_index (g.L.SleepLock.view l.fn.pass).hand.known (i - l.more))
+    × ((i : ℕ) → i ≤ l.place → slice_index (g.L.SiteLock.view l.pass).hand.known i ≡ slice_index (g.L.SiteLock.view l.fn.pass).hand.known i)
+    × ((i : ℕ) → l.place + l.more < i → slice_index (g.L.SiteLock.view l.pass).hand.known i ≡ slice_index (g.L.SiteLock.view l.fn.pass).hand.known (i - l.more))
 
 abbrev pub decreases-loop-place : goal.decreases-loop-place
 decreases-loop-place g l = l.place

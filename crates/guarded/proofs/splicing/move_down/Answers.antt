@@ -7,21 +7,21 @@ use Rattle.guarded.proofs.Written.{looked, wrote-word, still-alone, same-known, 
 use Rattle.guarded.proofs.splicing.move_down.Goals as goal
 
 pub loop-place-init : goal.loop-place-init
-loop-place-init g c = let within = c.requires.within in (c.requires.own, changes-none (g.L.SleepLock.view c.args.pass.now), refl, omega arith, omega (arith, within), (λ i l. refl), (λ i a b. absurd (omega (arith, a, b))), (λ i l. refl))
+loop-place-init g c = let within = c.requires.within in (c.requires.own, changes-none (g.L.SiteLock.view c.args.pass.now), refl, omega arith, omega (arith, within), (λ i l. refl), (λ i a b. absurd (omega (arith, a, b))), (λ i l. refl))
 
 pub word-word-requires-clause-held : goal.word-word-requires-clause-held
-word-word-requires-clause-held g c = λ e. let alone = still-alone (g.L.SleepLock.view c.args.pass.now) (g.L.SleepLock.view c.loop-place.pass) c.loop-place.invariant.1 c.requires.held in absurd cc
+word-word-requires-clause-held g c = λ e. let alone = still-alone (g.L.SiteLock.view c.args.pass.now) (g.L.SiteLock.view c.loop-place.pass) c.loop-place.invariant.1 c.requires.held in absurd cc
 
 pub set_word-requires-clause-held : goal.set_word-requires-clause-held
 set_word-requires-clause-held g c =
-    ap {A = Hand} (λ h. h.held) c.word-word.ensures.kept.0 ∙ still-alone (g.L.SleepLock.view c.args.pass.now) (g.L.SleepLock.view c.loop-place.pass) c.loop-place.invariant.1 c.requires.held
+    ap {A = Hand} (λ h. h.held) c.word-word.ensures.kept.0 ∙ still-alone (g.L.SiteLock.view c.args.pass.now) (g.L.SiteLock.view c.loop-place.pass) c.loop-place.invariant.1 c.requires.held
 
 pub loop-place-preserved : goal.loop-place-preserved
 loop-place-preserved g c =
-    let v = g.L.SleepLock.view c.args.pass.now in
-    let u = g.L.SleepLock.view c.loop-place.pass in
-    let r = g.L.SleepLock.view c.word-word.new.pass in
-    let w = g.L.SleepLock.view c.set_word.new.pass in
+    let v = g.L.SiteLock.view c.args.pass.now in
+    let u = g.L.SiteLock.view c.loop-place.pass in
+    let r = g.L.SiteLock.view c.word-word.new.pass in
+    let w = g.L.SiteLock.view c.set_word.new.pass in
     let place = c.loop-place.place in
     let word = c.word-word.result in
     let long = c.loop-place.invariant.2 in
@@ -44,4 +44,4 @@ loop-place-preserved g c =
 
 pub returns-clause-moved : goal.returns-clause-moved
 returns-clause-moved g c =
-    moved-down (g.L.SleepLock.view c.args.pass.now).hand.known (g.L.SleepLock.view c.loop-place.pass).hand.known c.args.at c.args.fewer (c.args.len - c.args.fewer) c.loop-place.place c.loop-place.invariant.2 c.loop-place-test.false c.loop-place.invariant.4 c.loop-place.invariant.5 c.loop-place.invariant.6 c.loop-place.invariant.7
+    moved-down (g.L.SiteLock.view c.args.pass.now).hand.known (g.L.SiteLock.view c.loop-place.pass).hand.known c.args.at c.args.fewer (c.args.len - c.args.fewer) c.loop-place.place c.loop-place.invariant.2 c.loop-place-test.false c.loop-place.invariant.4 c.loop-place.invariant.5 c.loop-place.invariant.6 c.loop-place.invariant.7

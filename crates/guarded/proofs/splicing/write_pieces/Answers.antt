@@ -10,19 +10,19 @@ use Rattle.guarded.proofs.Written.{wrote-word, still-alone, pieced-more, others-
 use Rattle.guarded.proofs.splicing.write_pieces.Goals as goal
 
 pub loop-i-init : goal.loop-i-init
-loop-i-init g c = (c.requires.own, changes-none (g.L.SleepLock.view c.args.pass.now), refl, (λ i l. refl), (λ i l. absurd (omega (arith, l))), omega arith, (λ i l. refl))
+loop-i-init g c = (c.requires.own, changes-none (g.L.SiteLock.view c.args.pass.now), refl, (λ i l. refl), (λ i l. absurd (omega (arith, l))), omega arith, (λ i l. refl))
 
 pub pack-requires : goal.pack-requires
 pack-requires g c = AreRuns-at c.args.pieces.now c.loop-i.i no_area c.loop-i-test.true c.requires.runs
 
 pub set_word-requires-clause-held : goal.set_word-requires-clause-held
-set_word-requires-clause-held g c = still-alone (g.L.SleepLock.view c.args.pass.now) (g.L.SleepLock.view c.loop-i.pass) c.loop-i.invariant.1 c.requires.held
+set_word-requires-clause-held g c = still-alone (g.L.SiteLock.view c.args.pass.now) (g.L.SiteLock.view c.loop-i.pass) c.loop-i.invariant.1 c.requires.held
 
 pub loop-i-preserved : goal.loop-i-preserved
 loop-i-preserved g c =
-    let v = g.L.SleepLock.view c.args.pass.now in
-    let u = g.L.SleepLock.view c.loop-i.pass in
-    let w = g.L.SleepLock.view c.set_word.new.pass in
+    let v = g.L.SiteLock.view c.args.pass.now in
+    let u = g.L.SiteLock.view c.loop-i.pass in
+    let w = g.L.SiteLock.view c.set_word.new.pass in
     let at = c.args.at in
     let n = c.loop-i.i in
     let word = c.pack.result in
@@ -47,4 +47,4 @@ returns-clause-written g c =
     let all = c.loop-i-test.false in
     let few = c.loop-i.invariant.5 in
     let many = length-map c.args.pieces.now area_word in
-    pieced-all (map area_word c.args.pieces.now) (g.L.SleepLock.view c.args.pass.now).hand.known (g.L.SleepLock.view c.loop-i.pass).hand.known c.args.at c.loop-i.i c.loop-i.invariant.2 (omega (arith, all, many)) (omega (arith, few, many)) c.loop-i.invariant.3 c.loop-i.invariant.4 c.loop-i.invariant.6
+    pieced-all (map area_word c.args.pieces.now) (g.L.SiteLock.view c.args.pass.now).hand.known (g.L.SiteLock.view c.loop-i.pass).hand.known c.args.at c.loop-i.i c.loop-i.invariant.2 (omega (arith, all, many)) (omega (arith, few, many)) c.loop-i.invariant.3 c.loop-i.invariant.4 c.loop-i.invariant.6

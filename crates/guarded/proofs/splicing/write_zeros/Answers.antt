@@ -6,16 +6,16 @@ use Rattle.guarded.proofs.Written.{wrote-word, still-alone, others-same, cleared
 use Rattle.guarded.proofs.splicing.write_zeros.Goals as goal
 
 pub loop-place-init : goal.loop-place-init
-loop-place-init g c = let within = c.requires.within in (c.requires.own, changes-none (g.L.SleepLock.view c.args.pass.now), refl, omega arith, omega (arith, within), (λ i l. refl), (λ i a b. absurd (omega (arith, a, b))), (λ i l. refl))
+loop-place-init g c = let within = c.requires.within in (c.requires.own, changes-none (g.L.SiteLock.view c.args.pass.now), refl, omega arith, omega (arith, within), (λ i l. refl), (λ i a b. absurd (omega (arith, a, b))), (λ i l. refl))
 
 pub set_word-requires-clause-held : goal.set_word-requires-clause-held
-set_word-requires-clause-held g c = still-alone (g.L.SleepLock.view c.args.pass.now) (g.L.SleepLock.view c.loop-place.pass) c.loop-place.invariant.1 c.requires.held
+set_word-requires-clause-held g c = still-alone (g.L.SiteLock.view c.args.pass.now) (g.L.SiteLock.view c.loop-place.pass) c.loop-place.invariant.1 c.requires.held
 
 pub loop-place-preserved : goal.loop-place-preserved
 loop-place-preserved g c =
-    let v = g.L.SleepLock.view c.args.pass.now in
-    let u = g.L.SleepLock.view c.loop-place.pass in
-    let w = g.L.SleepLock.view c.set_word.new.pass in
+    let v = g.L.SiteLock.view c.args.pass.now in
+    let u = g.L.SiteLock.view c.loop-place.pass in
+    let w = g.L.SiteLock.view c.set_word.new.pass in
     let place = c.loop-place.place in
     let long = c.loop-place.invariant.2 in
     let whole = c.requires.long in
@@ -36,4 +36,4 @@ loop-place-preserved g c =
 
 pub returns-clause-zeros : goal.returns-clause-zeros
 returns-clause-zeros g c =
-    cleared-all (g.L.SleepLock.view c.args.pass.now).hand.known (g.L.SleepLock.view c.loop-place.pass).hand.known c.args.at c.args.len c.loop-place.place c.loop-place.invariant.2 c.loop-place-test.false c.loop-place.invariant.4 c.loop-place.invariant.5 c.loop-place.invariant.6 c.loop-place.invariant.7
+    cleared-all (g.L.SiteLock.view c.args.pass.now).hand.known (g.L.SiteLock.view c.loop-place.pass).hand.known c.args.at c.args.len c.loop-place.place c.loop-place.invariant.2 c.loop-place-test.false c.loop-place.invariant.4 c.loop-place.invariant.5 c.loop-place.invariant.6 c.loop-place.invariant.7

@@ -5,11 +5,11 @@ use Rattle.guarded.proofs.splicing.write_zeros.Given as goal
 
 abbrev pub invariant-loop-place : goal.invariant-loop-place
 invariant-loop-place g l =
-    g.L.SleepLock.sits l.lock l.pass
-    × ChangesWords (g.L.SleepLock.view l.fn.pass) (g.L.SleepLock.view l.pass)
-    × (length (g.L.SleepLock.view l.pass).hand.known ≡ length (g.L.SleepLock.view l.fn.pass).hand.known)
+    g.L.SiteLock.sits l.lock l.pass
+    × ChangesWords (g.L.SiteLock.view l.fn.pass) (g.L.SiteLock.view l.pass)
+    × (length (g.L.SiteLock.view l.pass).hand.known ≡ length (g.L.SiteLock.view l.fn.pass).hand.known)
     × (l.at + 1 ≤ l.place)
     × (l.place ≤ l.len + 1)
-    × ((i : ℕ) → i ≤ l.at → slice_index (g.L.SleepLock.view l.pass).hand.known i ≡ slice_index (g.L.SleepLock.view l.fn.pass).hand.known i)
-    × ((i : ℕ) → l.at < i → i < l.place → slice_index (g.L.SleepLock.view l.pass).hand.known i ≡ 0)
-    × ((i : ℕ) → l.place ≤ i → slice_index (g.L.SleepLock.view l.pass).hand.known i ≡ slice_index (g.L.SleepLock.view l.fn.pass).hand.known i)
+    × ((i : ℕ) → i ≤ l.at → slice_index (g.L.SiteLock.view l.pass).hand.known i ≡ slice_index (g.L.SiteLock.view l.fn.pass).hand.known i)
+    × ((i : ℕ) → l.at < i → i < l.place → slice_index (g.L.SiteLock.view l.pass).hand.known i ≡ 0)
+    × ((i : ℕ) → l.place ≤ i → slice_index (g.L.SiteLock.view l.pass).hand.known i ≡ slice_index (g.L.SiteLock.view l.fn.pass).hand.known i)

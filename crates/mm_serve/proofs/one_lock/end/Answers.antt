@@ -10,15 +10,15 @@ use Rattle.mm_serve.proofs.one_lock.end.Goals as goal
 
 pub returns-clause-idle : goal.returns-clause-idle
 returns-clause-idle g c = let same = ap {A = Shown} (λ v. v.hand) c.recall_queue.ensures.kept in
-    now-idle g.O.Object.object (g.L.SleepLock.view c.args.pass.now).hand (g.L.SleepLock.view c.end.new.pass).hand c.requires.serving.quiet (c.end.ensures.kept.0 ∙ ap gave_up same)
+    now-idle g.O.Object.object (g.L.SiteLock.view c.args.pass.now).hand (g.L.SiteLock.view c.end.new.pass).hand c.requires.serving.quiet (c.end.ensures.kept.0 ∙ ap gave_up same)
 
 pub returns-clause-done : goal.returns-clause-done
-returns-clause-done g c = let k = g.L.SleepLock.calls_on c.args.guarded.now.lock in let same = ap {A = Shown} (λ v. v.hand) c.recall_queue.ensures.kept in
-    all-done g.O.Object.object (unavailable g.L.SleepLock.kind) k (g.L.SleepLock.view c.args.pass.now).hand (g.L.SleepLock.view c.end.new.pass).hand c.args.task c.requires.serving c.requires.all
-    (subst (λ (h : Hand). KeepsDone g.O.Object.object (unavailable g.L.SleepLock.kind) k h (g.L.SleepLock.view c.end.new.pass).hand) same c.end.ensures.done)
+returns-clause-done g c = let k = g.L.SiteLock.calls_on c.args.guarded.now.lock in let same = ap {A = Shown} (λ v. v.hand) c.recall_queue.ensures.kept in
+    all-done g.O.Object.object (unavailable g.L.SleepLock.kind) k (g.L.SiteLock.view c.args.pass.now).hand (g.L.SiteLock.view c.end.new.pass).hand c.args.task c.requires.serving c.requires.all
+    (subst (λ (h : Hand). KeepsDone g.O.Object.object (unavailable g.L.SleepLock.kind) k h (g.L.SiteLock.view c.end.new.pass).hand) same c.end.ensures.done)
 
 pub returns-clause-queue : goal.returns-clause-queue
-returns-clause-queue g c = let k = g.L.SleepLock.calls_on c.args.guarded.now.lock in let same = ap {A = Shown} (λ v. v.hand) c.recall_queue.ensures.kept in record {
+returns-clause-queue g c = let k = g.L.SiteLock.calls_on c.args.guarded.now.lock in let same = ap {A = Shown} (λ v. v.hand) c.recall_queue.ensures.kept in record {
   pass = c.recall_queue.new.pass;
   looked = record {
     own = c.recall_queue.ensures.own;

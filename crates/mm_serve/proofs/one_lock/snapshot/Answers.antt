@@ -10,17 +10,17 @@ pub returns-clause-copied : goal.returns-clause-copied
 returns-clause-copied g c =
     let o = g.O.Object.object in
     let u = unavailable g.L.SleepLock.kind in
-    let k = g.L.SleepLock.calls_on c.args.guarded.now.lock in
-    let h = (g.L.SleepLock.view c.args.pass.now).hand in
-    let b = (g.L.SleepLock.view c.begin.new.pass).hand in
-    let e = (g.L.SleepLock.view c.end.new.pass).hand in
+    let k = g.L.SiteLock.calls_on c.args.guarded.now.lock in
+    let h = (g.L.SiteLock.view c.args.pass.now).hand in
+    let b = (g.L.SiteLock.view c.begin.new.pass).hand in
+    let e = (g.L.SiteLock.view c.end.new.pass).hand in
     still-known o u k b e c.snapshot.new.out (ap {A = Hand} (λ x. x.records) c.end.ensures.kept.0 ∙ c.snapshot.ensures.kept.records)
     (c.snapshot.ensures.legal (all-gathered o u k b (still-done o u k h b c.begin.ensures.done c.requires.done)))
 
 pub returns-clause-held : goal.returns-clause-held
 returns-clause-held g c =
     let copies = c.snapshot.ensures.copied in
-    let b = g.L.SleepLock.view c.begin.new.pass in
+    let b = g.L.SiteLock.view c.begin.new.pass in
     let known = ap {A = Hand} (λ x. x.records) c.end.ensures.kept.0 ∙ c.snapshot.ensures.kept.records in record {
       entries = copies.entries;
       log_is = copies.log_is;

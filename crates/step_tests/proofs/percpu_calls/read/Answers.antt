@@ -21,8 +21,8 @@ load-requires-clause-sized g c = let o = g.O.Object.object in let h = c.args.pas
 pub load-requires-clause-held : goal.load-requires-clause-held
 load-requires-clause-held g c = λ out. no-shared (sym out ∙ c.requires.at.holds)
 
-pub note-requires-clause-next : goal.note-requires-clause-next
-note-requires-clause-next g c = let o = g.O.Object.object in let k = c.args.lock.now.site.table.shared.key in let h = c.args.pass.now.pass.seat.me.0.view.hand in let own = c.requires.at.own.seat in
+pub note-requires-clause-may : goal.note-requires-clause-may
+note-requires-clause-may g c = let o = g.O.Object.object in let k = c.args.lock.now.site.table.shared.key in let h = c.args.pass.now.pass.seat.me.0.view.hand in let own = c.requires.at.own.seat in
     let is = sym c.call_of.ensures ∙ c.in_ok-known.was in
     let call = c.in_ok-known.known in
     let found = c.in_ok-value.ensures in
@@ -32,7 +32,7 @@ note-requires-clause-next g c = let o = g.O.Object.object in let k = c.args.lock
     (record {
       words = c.args.job.words;
       call = call;
-      planned = next-call k h c.args.job.task c.done-call.result c.args.job.rounds c.args.job.words (sym own.task ∙ c.requires.at.mine) (sym own.done ∙ sym c.done-call.ensures) (let fits = c.if-call-job.false in omega (arith, fits)) c.requires.calls;
+      planned = next-call k h c.args.job.task c.done-call.result c.args.job.rounds c.args.job.words (sym own.task ∙ c.requires.at.mine) (sym c.done-call.ensures) (let fits = c.if-call-job.false in omega (arith, fits)) c.requires.calls;
       is = is;
       reads = sym c.reads.ensures ∙ c.if-not-reads.false;
       held = λ out. no-shared (sym out ∙ (sym own.held ∙ c.requires.at.holds));

@@ -5,10 +5,10 @@ use Rattle.percpu_rwsem.specs.PhaseLaws.{no-shared}
 use Rattle.step_tests.proofs.percpu_calls.word.Goals as goal
 
 pub word-requires-clause-held : goal.word-requires-clause-held
-word-requires-clause-held g c = λ out. no-shared (sym out ∙ c.requires.at.holds)
+word-requires-clause-held g c = let at = c.requires.at in λ out. no-shared (sym out ∙ (sym at.own.seat.held ∙ at.holds))
 
 pub returns-clause-at : goal.returns-clause-at
-returns-clause-at g c = let at = c.requires.at in let old = at.own.seat in let new = c.word.ensures.own.seat in let is = c.word.ensures.kept in record {
+returns-clause-at g c = let at = c.requires.at in let old = at.own.seat in let new = c.word.ensures.own.seat in let is = c.word.ensures.seat in record {
   own = c.word.ensures.own;
   mine = new.task ∙ (ap (λ v. v.hand.task) is ∙ (sym old.task ∙ at.mine));
   holds = new.held ∙ (ap (λ v. v.hand.held) is ∙ (sym old.held ∙ at.holds));
@@ -18,4 +18,4 @@ returns-clause-at g c = let at = c.requires.at in let old = at.own.seat in let n
 }
 
 pub returns-clause-knows : goal.returns-clause-knows
-returns-clause-knows g c = subst (λ (h : Hand). IsStored g.O.Object.object c.args.lock.now.site.table.shared.key h) (sym (ap (λ v. v.hand) c.word.ensures.kept)) c.requires.knows
+returns-clause-knows g c = subst (λ (h : Hand). IsStored g.O.Object.object c.args.lock.now.site.table.shared.key h) (sym (ap (λ v. v.hand) c.word.ensures.seat)) c.requires.knows

@@ -30,16 +30,16 @@ store-requires-clause-sized g c = let o = g.O.Object.object in let h = c.args.pa
     ap (λ (x : Hand). length x.known) c.load.ensures.hand ∙ (ap length c.requires.knows ∙ g.met.O.Object.sized (state_after o k h.log) (state_is_state o (lawful g) k h.log))
 
 pub commit-requires-clause-numbered : goal.commit-requires-clause-numbered
-commit-requires-clause-numbered g c = let own = c.requires.at.own.seat in subst IsSome (sym (c.store.ensures.own.seat.task ∙ (c.store.ensures.task ∙ (ap (λ (x : Hand). x.task) c.load.ensures.hand ∙ (sym own.task ∙ c.requires.at.mine))))) refl
+commit-requires-clause-numbered g c = let own = c.requires.at.own.seat in subst IsSome (sym (c.store.ensures.task ∙ (ap (λ (x : Hand). x.task) c.load.ensures.hand ∙ (sym own.task ∙ c.requires.at.mine)))) refl
 
 pub commit-requires-clause-recorded : goal.commit-requires-clause-recorded
 commit-requires-clause-recorded g c = let owes = c.requires.at.owes in let hand = c.load.ensures.hand in (c.store.ensures.sent ∙ (ap (λ (x : Hand). x.sent) hand ∙ owes.0), c.store.ensures.consumed ∙ (ap (λ (x : Hand). x.consumed) hand ∙ owes.1))
 
-pub commit-requires-clause-next : goal.commit-requires-clause-next
-commit-requires-clause-next g c = let o = g.O.Object.object in let k = c.args.lock.now.site.table.shared.key in let h = c.args.pass.now.pass.seat.me.0.view.hand in let own = c.requires.at.own.seat in
+pub commit-requires-clause-change : goal.commit-requires-clause-change
+commit-requires-clause-change g c = let o = g.O.Object.object in let k = c.args.lock.now.site.table.shared.key in let h = c.args.pass.now.pass.seat.me.0.view.hand in let own = c.requires.at.own.seat in
     let hand = c.load.ensures.hand in
     let task = c.store.ensures.task ∙ (ap (λ (x : Hand). x.task) hand ∙ (sym own.task ∙ c.requires.at.mine)) in
-    let done = c.store.ensures.done ∙ (ap (λ (x : Hand). x.done) hand ∙ (sym own.done ∙ sym c.done-call.ensures)) in
+    let done = c.store.ensures.done ∙ (ap (λ (x : Hand). x.done) hand ∙ sym c.done-call.ensures) in
     let log = c.store.ensures.log ∙ ap (λ (x : Hand). x.log) hand in
     let is = sym c.call_of.ensures ∙ c.in_ok-known.was in
     let call = c.in_ok-known.known in

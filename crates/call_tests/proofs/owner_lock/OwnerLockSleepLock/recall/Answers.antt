@@ -11,7 +11,7 @@ use Rattle.call_tests.proofs.Locked.{each-moment, owner-locked}
 use Rattle.call_tests.proofs.owner_lock.OwnerLockSleepLock.recall.Goals as goal
 
 pub returns-clause-last : goal.returns-clause-last
-returns-clause-last g c = let v = c.recall_holders.new.pass.seat.me.0.view in latest-shown (λ x. no_line) v.fronts v c.recall_holders.new.pass.seat.me.0.past c.recall_holders.ensures.last
+returns-clause-last g c = let v = c.recall_holders.new.pass.pass.seat.me.0.view in latest-shown (λ x. no_line) v.fronts v c.recall_holders.new.pass.pass.seat.me.0.past c.recall_holders.ensures.last
 
 pub returns-clause-new : goal.returns-clause-new
 returns-clause-new g c = let m = g.met.O.Object in fresh-new g.O.Object.object owned g.O.Object.WORDS c.args.self.now.site.site.table.shared.key unmarked tt m.few_words m.zeros

@@ -7,18 +7,18 @@ use Rattle.guarded.proofs.guarded.Guarded.change.Goals as goal
 pub commit-requires-clause-change : goal.commit-requires-clause-change
 commit-requires-clause-change g c =
     let o = g.O.Object.object in
-    let k = g.L.SleepLock.calls_on c.args.self.now.lock in
-    let v = g.L.SleepLock.view c.args.pass.now in
-    let m = g.L.SleepLock.view c.change-reply.new.pass in
+    let k = g.L.SiteLock.calls_on c.args.self.now.lock in
+    let v = g.L.SiteLock.view c.args.pass.now in
+    let m = g.L.SiteLock.view c.change-reply.new.pass in
     let words = o.stores (o.meaning (state_after o k v.hand.log) c.args.next.call).0 in
     may-commit v m words c.change-reply.ensures.stored o k c.args.next c.change-reply.result c.requires.next c.requires.changes refl c.change-reply.ensures.reply
 
 pub returns-clause-kept : goal.returns-clause-kept
 returns-clause-kept g c =
     let o = g.O.Object.object in
-    let k = g.L.SleepLock.calls_on c.args.self.now.lock in
-    let v = g.L.SleepLock.view c.args.pass.now in
-    let m = g.L.SleepLock.view c.change-reply.new.pass in
+    let k = g.L.SiteLock.calls_on c.args.self.now.lock in
+    let v = g.L.SiteLock.view c.args.pass.now in
+    let m = g.L.SiteLock.view c.change-reply.new.pass in
     let words = o.stores (o.meaning (state_after o k v.hand.log) c.args.next.call).0 in
-    let u = g.L.SleepLock.view c.commit.new.pass in
+    let u = g.L.SiteLock.view c.commit.new.pass in
     change-kept v m words c.change-reply.ensures.stored u c.change-reply.result c.commit.ensures.kept

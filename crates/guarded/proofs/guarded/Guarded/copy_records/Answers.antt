@@ -15,13 +15,13 @@ start-zero (xs ∷ k) = refl
 
 pub loop-task-init : goal.loop-task-init
 loop-task-init g c =
-    let k = g.L.SleepLock.calls_on c.args.self.now.lock in
-    let v = g.L.SleepLock.view c.args.pass.now in
+    let k = g.L.SiteLock.calls_on c.args.self.now.lock in
+    let v = g.L.SiteLock.view c.args.pass.now in
     (c.requires.own, (refl, (refl, refl, refl, omega arith, refl, refl)), (λ p t. t), ap length c.requires.empty ∙ sym (start-zero k), ([], rows-none k v.hand v.past v.past, (λ i. record c.args.out.now { recs = c.requires.empty i })), (λ p t. t))
 
 pub copy_task-requires-clause-room : goal.copy_task-requires-clause-room
 copy_task-requires-clause-room g c =
-    let k = g.L.SleepLock.calls_on c.args.self.now.lock in
+    let k = g.L.SiteLock.calls_on c.args.self.now.lock in
     let at = c.loop-task.invariant.3 in
     let inside = c.loop-task-test.true in
     let end = c.tasks-task-end.ensures in
@@ -33,10 +33,10 @@ copy_task-requires-clause-room g c =
 
 pub loop-task-preserved : goal.loop-task-preserved
 loop-task-preserved g c =
-    let k = g.L.SleepLock.calls_on c.args.self.now.lock in
-    let v = g.L.SleepLock.view c.args.pass.now in
-    let u = g.L.SleepLock.view c.loop-task.pass in
-    let w = g.L.SleepLock.view c.copy_task.new.pass in
+    let k = g.L.SiteLock.calls_on c.args.self.now.lock in
+    let v = g.L.SiteLock.view c.args.pass.now in
+    let u = g.L.SiteLock.view c.loop-task.pass in
+    let w = g.L.SiteLock.view c.copy_task.new.pass in
     let same = c.loop-task.invariant.1.0 in
     let rows = c.loop-task.invariant.4.0 in
     let words = c.copy_task.ensures.copied.0 in

@@ -8,9 +8,9 @@ use Rattle.guarded.proofs.guarded.Guarded.copy_records.Given as goal
 
 abbrev pub invariant-loop-task : goal.invariant-loop-task
 invariant-loop-task g l =
-    g.L.SleepLock.sits l.self.lock l.pass
-    × Looks (g.L.SleepLock.view l.fn.pass) (g.L.SleepLock.view l.pass)
-    × PastGoesOn (g.L.SleepLock.view l.fn.pass) (g.L.SleepLock.view l.pass)
-    × (length l.out.recs ≡ start (g.L.SleepLock.calls_on l.self.lock) l.task)
-    × ((rows : List (List ℕ)) × AreRecWords (g.L.SleepLock.calls_on l.self.lock) (g.L.SleepLock.view l.fn.pass).hand (g.L.SleepLock.view l.fn.pass).past (g.L.SleepLock.view l.pass).past l.task rows × (l.out ≡ record l.fn.out { recs = joined rows }))
+    g.L.SiteLock.sits l.self.lock l.pass
+    × Looks (g.L.SiteLock.view l.fn.pass) (g.L.SiteLock.view l.pass)
+    × PastGoesOn (g.L.SiteLock.view l.fn.pass) (g.L.SiteLock.view l.pass)
+    × (length l.out.recs ≡ start (g.L.SiteLock.calls_on l.self.lock) l.task)
+    × ((rows : List (List ℕ)) × AreRecWords (g.L.SiteLock.calls_on l.self.lock) (g.L.SiteLock.view l.fn.pass).hand (g.L.SiteLock.view l.fn.pass).past (g.L.SiteLock.view l.pass).past l.task rows × (l.out ≡ record l.fn.out { recs = joined rows }))
     × GoesOn (g.L.SleepLock.spun l.fn.pass) (g.L.SleepLock.spun l.pass)

@@ -2,16 +2,16 @@ use Rattle.std.proofs.Common.{◌++◌, ◌∷◌, [], sym, subst, append_assoc}
 use Rattle.lock_core.specs.declared.view.Hand.{Hand}
 use Rattle.lock_core.specs.Layout.{record_place}
 use Rattle.lock_core.specs.Views.{Knows}
-use Rattle.guarded.proofs.Passing.{looks-trans}
+use Rattle.guarded.proofs.Passing.{looks-trans, spun-goes-on}
 use Rattle.guarded.proofs.Copied.{words-more, found-now, recs-pushed}
 use Rattle.guarded.proofs.guarded.Guarded.copy_task.Goals as goal
 
 pub loop-call-preserved : goal.loop-call-preserved
 loop-call-preserved g c =
-    let k = g.L.SleepLock.calls_on c.args.self.now.lock in
-    let v = g.L.SleepLock.view c.args.pass.now in
-    let u = g.L.SleepLock.view c.loop-call.pass in
-    let w = g.L.SleepLock.view c.rec_word.new.pass in
+    let k = g.L.SiteLock.calls_on c.args.self.now.lock in
+    let v = g.L.SiteLock.view c.args.pass.now in
+    let u = g.L.SiteLock.view c.loop-call.pass in
+    let w = g.L.SiteLock.view c.rec_word.new.pass in
     let same = c.loop-call.invariant.1.0 in
     let words = c.loop-call.invariant.3.0 in (
       c.rec_word.ensures.own,
@@ -23,5 +23,5 @@ loop-call-preserved g c =
             (found-now (record_place k c.args.task c.loop-call.call) c.rec_word.result v.past w.past (λ p t. c.rec_word.ensures.goes_on p (c.loop-call.invariant.2 p t)) c.rec_word.ensures.found),
         recs-pushed c.args.out.now c.loop-call.out c.push_rec.new.self (c.args.out.now.recs ++ words) (c.rec_word.result ∷ []) _ c.loop-call.invariant.3.2 c.push_rec.ensures (append_assoc c.args.out.now.recs words (c.rec_word.result ∷ [])),
       ),
-      (λ p t. c.rec_word.ensures.queue p (c.loop-call.invariant.4 p t)),
+      (λ p t. spun-goes-on g.L.SleepLock.spun g.L.SiteLock.with_seat g.met.L.SleepLock.leaves c.loop-call.pass c.rec_word.new.pass _ c.rec_word.ensures.beside p (c.loop-call.invariant.4 p t)),
     )

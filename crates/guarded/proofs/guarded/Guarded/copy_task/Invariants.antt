@@ -7,8 +7,8 @@ use Rattle.guarded.proofs.guarded.Guarded.copy_task.Given as goal
 
 abbrev pub invariant-loop-call : goal.invariant-loop-call
 invariant-loop-call g l =
-    g.L.SleepLock.sits l.self.lock l.pass
-    × Looks (g.L.SleepLock.view l.fn.pass) (g.L.SleepLock.view l.pass)
-    × PastGoesOn (g.L.SleepLock.view l.fn.pass) (g.L.SleepLock.view l.pass)
-    × ((words : List ℕ) × AreTaskWords (g.L.SleepLock.calls_on l.self.lock) (g.L.SleepLock.view l.fn.pass).hand (g.L.SleepLock.view l.fn.pass).past (g.L.SleepLock.view l.pass).past l.task l.call words × (l.out ≡ record l.fn.out { recs = l.fn.out.recs ++ words }))
+    g.L.SiteLock.sits l.self.lock l.pass
+    × Looks (g.L.SiteLock.view l.fn.pass) (g.L.SiteLock.view l.pass)
+    × PastGoesOn (g.L.SiteLock.view l.fn.pass) (g.L.SiteLock.view l.pass)
+    × ((words : List ℕ) × AreTaskWords (g.L.SiteLock.calls_on l.self.lock) (g.L.SiteLock.view l.fn.pass).hand (g.L.SiteLock.view l.fn.pass).past (g.L.SiteLock.view l.pass).past l.task l.call words × (l.out ≡ record l.fn.out { recs = l.fn.out.recs ++ words }))
     × GoesOn (g.L.SleepLock.spun l.fn.pass) (g.L.SleepLock.spun l.pass)

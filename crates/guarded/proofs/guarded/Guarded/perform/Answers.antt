@@ -1,5 +1,7 @@
+use Rattle.std.proofs.Common.{sym, ◌∙◌}
 use Rattle.word_bits.proofs.States.{IsLawful}
 use Rattle.guarded.proofs.Chained.{one-more}
+use Rattle.guarded.proofs.Planned.{signal-there, is-either}
 use Rattle.guarded.proofs.Recording.{performs-looked}
 use Rattle.guarded.proofs.guarded.Guarded.perform.Given as given
 use Rattle.guarded.proofs.guarded.Guarded.perform.Goals as goal
@@ -14,28 +16,38 @@ lawful g = record {
 
 pub returns-in-Some-default-clause-performs : goal.returns-in-Some-default-clause-performs
 returns-in-Some-default-clause-performs g c =
-    let v = g.L.SleepLock.view c.args.pass.now in
-    let w = g.L.SleepLock.view c.call-words.new.pass in
-    let u = g.L.SleepLock.view c.send.new.pass in
-    performs-looked v w u c.call-words.ensures.kept c.call-words.ensures.goes_on g.O.Object.object g.L.SleepLock.kind g.L.SleepLock.word_at (g.L.SleepLock.calls_on c.args.self.now.lock) c.send.result c.send.ensures.performs
+    let v = g.L.SiteLock.view c.args.pass.now in
+    let w = g.L.SiteLock.view c.call-words.new.pass in
+    let u = g.L.SiteLock.view c.send.new.pass in
+    performs-looked v w u c.call-words.ensures.kept c.call-words.ensures.goes_on g.O.Object.object g.L.SleepLock.kind g.L.SleepLock.word_at (g.L.SiteLock.calls_on c.args.self.now.lock) c.send.result c.send.ensures.performs
 
 pub returns-in-Some-default-clause-one_more : goal.returns-in-Some-default-clause-one_more
 returns-in-Some-default-clause-one_more g c = λ t count rs task done.
-    let v = g.L.SleepLock.view c.args.pass.now in
-    let u = g.L.SleepLock.view c.send.new.pass in
+    let v = g.L.SiteLock.view c.args.pass.now in
+    let u = g.L.SiteLock.view c.send.new.pass in
     let p = returns-in-Some-default-clause-performs g c in
-    (p.rec, one-more g.O.Object.object (lawful g) g.L.SleepLock.kind g.L.SleepLock.word_at (g.L.SleepLock.calls_on c.args.self.now.lock) t count c.send.result rs v u task p done)
+    (p.rec, one-more g.O.Object.object (lawful g) g.L.SleepLock.kind g.L.SleepLock.word_at (g.L.SiteLock.calls_on c.args.self.now.lock) t count c.send.result rs v u task p done)
 
 pub returns-in-None-Some-clause-performs : goal.returns-in-None-Some-clause-performs
 returns-in-None-Some-clause-performs g c =
-    let v = g.L.SleepLock.view c.args.pass.now in
-    let w = g.L.SleepLock.view c.call-words.new.pass in
-    let u = g.L.SleepLock.view c.perform_known.new.pass in
-    performs-looked v w u c.call-words.ensures.kept c.call-words.ensures.goes_on g.O.Object.object g.L.SleepLock.kind g.L.SleepLock.word_at (g.L.SleepLock.calls_on c.args.self.now.lock) c.perform_known.result c.perform_known.ensures.performs
+    let v = g.L.SiteLock.view c.args.pass.now in
+    let w = g.L.SiteLock.view c.call-words.new.pass in
+    let u = g.L.SiteLock.view c.perform_known.new.pass in
+    performs-looked v w u c.call-words.ensures.kept c.call-words.ensures.goes_on g.O.Object.object g.L.SleepLock.kind g.L.SleepLock.word_at (g.L.SiteLock.calls_on c.args.self.now.lock) c.perform_known.result c.perform_known.ensures.performs
 
 pub returns-in-None-Some-clause-one_more : goal.returns-in-None-Some-clause-one_more
 returns-in-None-Some-clause-one_more g c = λ t count rs task done.
-    let v = g.L.SleepLock.view c.args.pass.now in
-    let u = g.L.SleepLock.view c.perform_known.new.pass in
+    let v = g.L.SiteLock.view c.args.pass.now in
+    let u = g.L.SiteLock.view c.perform_known.new.pass in
     let p = returns-in-None-Some-clause-performs g c in
-    (p.rec, one-more g.O.Object.object (lawful g) g.L.SleepLock.kind g.L.SleepLock.word_at (g.L.SleepLock.calls_on c.args.self.now.lock) t count c.perform_known.result rs v u task p done)
+    (p.rec, one-more g.O.Object.object (lawful g) g.L.SleepLock.kind g.L.SleepLock.word_at (g.L.SiteLock.calls_on c.args.self.now.lock) t count c.perform_known.result rs v u task p done)
+
+pub send-requires-clause-there : goal.send-requires-clause-there
+send-requires-clause-there g c =
+    let planned = c.call-words.ensures.planned (g.met.L.SleepLock.planned c.args.self.now.lock c.args.pass.now c.requires.own) in
+    signal-there g.O.Object.object c.call-words.result planned g.met.O.Object.signals c.in-Some-default.target (sym c.signal.ensures ∙ c.in-Some-default.is-0)
+
+pub unreachable-requires-in-None-None : goal.unreachable-requires-in-None-None
+unreachable-requires-in-None-None g c =
+    let planned = c.call-words.ensures.planned (g.met.L.SleepLock.planned c.args.self.now.lock c.args.pass.now c.requires.own) in
+    is-either g.O.Object.object c.call-words.result planned (sym c.signal.ensures ∙ c.in-None-None.is-0) (sym c.call_of.ensures ∙ c.in-None-None.is-1)

@@ -21,26 +21,26 @@ loop-call-init g c = (
   c.requires.out,
   c.requires.sent,
   c.requires.consumed,
-  ([], none-done g.O.Object.object (unavailable g.L.SleepLock.kind) (g.L.SleepLock.calls_on c.args.self.now.lock) (g.L.SleepLock.view c.args.pass.now).hand c.args.task c.requires.none_done c.requires.none_seen),
+  ([], none-done g.O.Object.object (unavailable g.L.SleepLock.kind) (g.L.SiteLock.calls_on c.args.self.now.lock) (g.L.SiteLock.view c.args.pass.now).hand c.args.task c.requires.none_done c.requires.none_seen),
 )
 
 pub loop-call-preserved : goal.loop-call-preserved
 loop-call-preserved g c =
     let p = c.perform.ensures.performs in
     let done = c.loop-call.invariant.6 in
-    let v = g.L.SleepLock.view c.loop-call.pass in
-    let u = g.L.SleepLock.view c.perform.new.pass in (
+    let v = g.L.SiteLock.view c.loop-call.pass in
+    let u = g.L.SiteLock.view c.perform.new.pass in (
       c.perform.ensures.own,
       (λ q t. c.perform.ensures.goes_on q (c.loop-call.invariant.1 q t)),
       p.task ∙ c.loop-call.invariant.2,
       p.out,
       p.accounted.0,
       p.accounted.1,
-      (done.0 ++ p.rec ∷ [], one-more g.O.Object.object (lawful g) g.L.SleepLock.kind g.L.SleepLock.word_at (g.L.SleepLock.calls_on c.args.self.now.lock) c.args.task c.loop-call.call c.perform.result done.0 v u c.loop-call.invariant.2 p done.1),
+      (done.0 ++ p.rec ∷ [], one-more g.O.Object.object (lawful g) g.L.SleepLock.kind g.L.SleepLock.word_at (g.L.SiteLock.calls_on c.args.self.now.lock) c.args.task c.loop-call.call c.perform.result done.0 v u c.loop-call.invariant.2 p done.1),
     )
 
 pub perform-requires-clause-there : goal.perform-requires-clause-there
 perform-requires-clause-there g c =
     let l = c.loop-call-test.true in
     let end = c.calls-call-end.ensures in
-    next-there (g.L.SleepLock.calls_on c.args.self.now.lock) (g.L.SleepLock.view c.loop-call.pass).hand c.args.task c.loop-call.call c.loop-call.invariant.2 (omega (arith, l, end))
+    next-there (g.L.SiteLock.calls_on c.args.self.now.lock) (g.L.SiteLock.view c.loop-call.pass).hand c.args.task c.loop-call.call c.loop-call.invariant.2 (omega (arith, l, end))

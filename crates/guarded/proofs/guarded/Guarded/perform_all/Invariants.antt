@@ -8,10 +8,10 @@ use Rattle.guarded.proofs.guarded.Guarded.perform_all.Given as goal
 
 abbrev pub invariant-loop-call : goal.invariant-loop-call
 invariant-loop-call g l =
-    g.L.SleepLock.sits l.self.lock l.pass
-    × PastGoesOn (g.L.SleepLock.view l.fn.pass) (g.L.SleepLock.view l.pass)
-    × ((g.L.SleepLock.view l.pass).hand.task ≡ Some l.task)
-    × ((g.L.SleepLock.view l.pass).hand.held ≡ No)
-    × ((g.L.SleepLock.view l.pass).hand.sent ≡ None)
-    × ((g.L.SleepLock.view l.pass).hand.consumed ≡ 0)
-    × ((rs : List Rec) × HasDoneSoFar g.O.Object.object (unavailable g.L.SleepLock.kind) (g.L.SleepLock.calls_on l.self.lock) (g.L.SleepLock.view l.pass).hand l.task l.call rs)
+    g.L.SiteLock.sits l.self.lock l.pass
+    × PastGoesOn (g.L.SiteLock.view l.fn.pass) (g.L.SiteLock.view l.pass)
+    × ((g.L.SiteLock.view l.pass).hand.task ≡ Some l.task)
+    × ((g.L.SiteLock.view l.pass).hand.held ≡ No)
+    × ((g.L.SiteLock.view l.pass).hand.sent ≡ None)
+    × ((g.L.SiteLock.view l.pass).hand.consumed ≡ 0)
+    × ((rs : List Rec) × HasDoneSoFar g.O.Object.object (unavailable g.L.SleepLock.kind) (g.L.SiteLock.calls_on l.self.lock) (g.L.SiteLock.view l.pass).hand l.task l.call rs)

@@ -19,17 +19,17 @@ lawful g = record {
 
 pub look_again-requires-clause-stored : goal.look_again-requires-clause-stored
 look_again-requires-clause-stored g c =
-    let v = g.L.SleepLock.view c.args.pass.now in
-    let m = g.L.SleepLock.view c.change-reply.new.pass in
+    let v = g.L.SiteLock.view c.args.pass.now in
+    let m = g.L.SiteLock.view c.change-reply.new.pass in
     let kept = c.change-reply.ensures.kept in
-    still-stored g.O.Object.object (lawful g) (g.L.SleepLock.calls_on c.args.self.now.lock) v.hand.log c.args.next.words c.args.next.call c.requires.next.is v.hand m.hand kept.0 c.change-reply.result refl c.requires.next.planned kept.3.0
+    still-stored g.O.Object.object (lawful g) (g.L.SiteLock.calls_on c.args.self.now.lock) v.hand.log c.args.next.words c.args.next.call c.requires.next.is v.hand m.hand kept.0 c.change-reply.result refl c.requires.next.planned kept.3.0
 
 pub look_again-requires-clause-done : goal.look_again-requires-clause-done
 look_again-requires-clause-done g c =
     let o = g.O.Object.object in
-    let k = g.L.SleepLock.calls_on c.args.self.now.lock in
-    let v = g.L.SleepLock.view c.args.pass.now in
-    let m = g.L.SleepLock.view c.change-reply.new.pass in
+    let k = g.L.SiteLock.calls_on c.args.self.now.lock in
+    let v = g.L.SiteLock.view c.args.pass.now in
+    let m = g.L.SiteLock.view c.change-reply.new.pass in
     let kept = c.change-reply.ensures.kept in (
       state_after o k v.hand.log,
       state_is_state o (lawful g) k v.hand.log,
@@ -40,10 +40,10 @@ look_again-requires-clause-done g c =
 pub returns-then-downgrades-clause-served : goal.returns-then-downgrades-clause-served
 returns-then-downgrades-clause-served g c =
     let o = g.O.Object.object in
-    let k = g.L.SleepLock.calls_on c.args.self.now.lock in
-    let v = g.L.SleepLock.view c.args.pass.now in
-    let m = g.L.SleepLock.view c.change-reply.new.pass in
-    let u = g.L.SleepLock.view c.look_again.new.pass in
+    let k = g.L.SiteLock.calls_on c.args.self.now.lock in
+    let v = g.L.SiteLock.view c.args.pass.now in
+    let m = g.L.SiteLock.view c.change-reply.new.pass in
+    let u = g.L.SiteLock.view c.look_again.new.pass in
     let kept = c.change-reply.ensures.kept in
     subst (λ (r : Reply). Serves o g.L.SleepLock.kind k c.args.next.words r v u) (sym c.look_again.ensures.reply)
     (serves-change o g.L.SleepLock.kind k no_word v m u c.args.next.words c.args.next.call c.change-reply.result kept.0 _ c.requires.next.is c.requires.changes
@@ -52,10 +52,10 @@ returns-then-downgrades-clause-served g c =
 pub returns-else-downgrades-clause-served : goal.returns-else-downgrades-clause-served
 returns-else-downgrades-clause-served g c =
     let o = g.O.Object.object in
-    let k = g.L.SleepLock.calls_on c.args.self.now.lock in
-    let v = g.L.SleepLock.view c.args.pass.now in
-    let m = g.L.SleepLock.view c.change-reply.new.pass in
-    let u = g.L.SleepLock.view c.release_alone.new.pass in
+    let k = g.L.SiteLock.calls_on c.args.self.now.lock in
+    let v = g.L.SiteLock.view c.args.pass.now in
+    let m = g.L.SiteLock.view c.change-reply.new.pass in
+    let u = g.L.SiteLock.view c.release_alone.new.pass in
     let kept = c.change-reply.ensures.kept in
     serves-change o g.L.SleepLock.kind k (wakes_alone g.L.SleepLock.kind) v m u c.args.next.words c.args.next.call c.change-reply.result kept.0 _ c.requires.next.is c.requires.changes
     (is-object o (lawful g) k v.hand.log c.args.next.words c.args.next.call c.requires.next.is c.change-reply.result c.change-reply.ensures.reply) c.change-reply.ensures.reply kept.3.0 kept.3.1 c.release_alone.ensures.released

@@ -28,9 +28,9 @@ copy_log-requires-clause-room g c =
 
 pub copy_state-requires-clause-sized : goal.copy_state-requires-clause-sized
 copy_state-requires-clause-sized g c =
-    let u = g.L.SleepLock.view c.alone.new.pass in
+    let u = g.L.SiteLock.view c.alone.new.pass in
     let at = ap {A = Hand} (λ (h : Hand). length h.known) (c.copy_records.ensures.kept.0 ∙ (c.copy_log.ensures.kept.0 ∙ c.recall.ensures.kept.0)) in
-    at ∙ known-sized g.O.Object.object (lawful g) (g.L.SleepLock.calls_on c.args.self.now.lock) u.hand c.alone.ensures.took.stored g.O.Object.WORDS g.met.O.Object.sized
+    at ∙ known-sized g.O.Object.object (lawful g) (g.L.SiteLock.calls_on c.args.self.now.lock) u.hand c.alone.ensures.took.stored g.O.Object.WORDS g.met.O.Object.sized
 
 pub returns-clause-goes_on : goal.returns-clause-goes_on
 returns-clause-goes_on g c = λ p t.
@@ -43,13 +43,13 @@ returns-clause-queue g c = λ p t.
 pub returns-clause-copied : goal.returns-clause-copied
 returns-clause-copied g c =
     let o = g.O.Object.object in
-    let k = g.L.SleepLock.calls_on c.args.self.now.lock in
-    let v = g.L.SleepLock.view c.args.pass.now in
-    let m = g.L.SleepLock.view c.alone.new.pass in
-    let first = g.L.SleepLock.view c.recall.new.pass in
-    let logged = g.L.SleepLock.view c.copy_log.new.pass in
-    let read = g.L.SleepLock.view c.copy_records.new.pass in
-    let last = g.L.SleepLock.view c.recall-2.new.pass in
+    let k = g.L.SiteLock.calls_on c.args.self.now.lock in
+    let v = g.L.SiteLock.view c.args.pass.now in
+    let m = g.L.SiteLock.view c.alone.new.pass in
+    let first = g.L.SiteLock.view c.recall.new.pass in
+    let logged = g.L.SiteLock.view c.copy_log.new.pass in
+    let read = g.L.SiteLock.view c.copy_records.new.pass in
+    let last = g.L.SiteLock.view c.recall-2.new.pass in
     let took = c.alone.ensures.took in
     let same : logged.hand ≡ m.hand = c.copy_log.ensures.kept.0 ∙ c.recall.ensures.kept.0 in
     let still : last.hand ≡ m.hand = c.recall-2.ensures.kept.0 ∙ (c.copy_state.ensures.kept.0 ∙ (c.copy_records.ensures.kept.0 ∙ same)) in
@@ -78,4 +78,4 @@ returns-clause-copied g c =
     }
 
 pub returns-clause-legal : goal.returns-clause-legal
-returns-clause-legal g c = is-history g.O.Object.object (unavailable g.L.SleepLock.kind) (g.L.SleepLock.calls_on c.args.self.now.lock) (g.L.SleepLock.view c.args.pass.now) (g.L.SleepLock.view c.release_alone.new.pass) _ (g.met.L.SleepLock.small c.args.self.now.lock) (returns-clause-copied g c)
+returns-clause-legal g c = is-history g.O.Object.object (unavailable g.L.SleepLock.kind) (g.L.SiteLock.calls_on c.args.self.now.lock) (g.L.SiteLock.view c.args.pass.now) (g.L.SiteLock.view c.release_alone.new.pass) _ (g.met.L.SleepLock.small c.args.self.now.lock) (returns-clause-copied g c)

@@ -17,8 +17,8 @@ lawful = record { starts = starts; called = called; goes_on = goes_on; replies =
 
 pub apply-requires-clause-has : goal.apply-requires-clause-has
 apply-requires-clause-has g c =
-    let k = g.L.SleepLock.calls_on c.args.lock.now in
-    let v = g.L.SleepLock.view c.args.pass.now in
+    let k = g.L.SiteLock.calls_on c.args.lock.now in
+    let v = g.L.SiteLock.view c.args.pass.now in
     let m = state_after space k v.hand.log in
     let is = state_is_state space lawful k v.hand.log in
     let found = have-areas (runs m) v.hand.known (IsSpace-runs m is) (sym c.requires.stored) in
@@ -34,13 +34,13 @@ returns-clause-goes_on g c =
 
 pub returns-clause-stored : goal.returns-clause-stored
 returns-clause-stored g c =
-    let k = g.L.SleepLock.calls_on c.args.lock.now in
-    let v = g.L.SleepLock.view c.args.pass.now in
+    let k = g.L.SiteLock.calls_on c.args.lock.now in
+    let v = g.L.SiteLock.view c.args.pass.now in
     let m = state_after space k v.hand.log in
     let is = state_is_state space lawful k v.hand.log in
     let found = have-areas (runs m) v.hand.known (IsSpace-runs m is) (sym c.requires.stored) in
     let before : page_map (areas_in v.hand.known) ≡ m = ap page_map found.1 ∙ page_map-runs m is in
-    let u = g.L.SleepLock.view c.apply.new.hand in
+    let u = g.L.SiteLock.view c.apply.new.hand in
     let after = c.apply.ensures.has.2 in
     let next = c.apply.ensures.next ∙ ap (λ (n : PageMap). (meaning n c.args.call).0) before in
     let now : u.hand.known ≡ stores (meaning m c.args.call).0 = sym after.whole ∙ ap words_of_areas (sym (runs-page_map (areas_in u.hand.known) after.space.runs)) ∙ ap (λ (n : PageMap). words_of_areas (runs n)) next in
@@ -48,8 +48,8 @@ returns-clause-stored g c =
 
 pub returns-clause-reply : goal.returns-clause-reply
 returns-clause-reply g c =
-    let k = g.L.SleepLock.calls_on c.args.lock.now in
-    let v = g.L.SleepLock.view c.args.pass.now in
+    let k = g.L.SiteLock.calls_on c.args.lock.now in
+    let v = g.L.SiteLock.view c.args.pass.now in
     let m = state_after space k v.hand.log in
     let is = state_is_state space lawful k v.hand.log in
     let found = have-areas (runs m) v.hand.known (IsSpace-runs m is) (sym c.requires.stored) in

@@ -19,15 +19,15 @@ lawful = record { starts = starts; called = called; goes_on = goes_on; replies =
 
 pub returns-in-Fault-clause-read : goal.returns-in-Fault-clause-read
 returns-in-Fault-clause-read g c =
-    let k = g.L.SleepLock.calls_on c.args.lock.now in
-    let h = (g.L.SleepLock.view c.args.pass.now).hand in
+    let k = g.L.SiteLock.calls_on c.args.lock.now in
+    let h = (g.L.SiteLock.view c.args.pass.now).hand in
     let m = state_after space k h.log in
     λ _. c.fault.ensures.reply m (state_is_state space lawful k h.log) (sym c.requires.stored) ∙ ap (λ (x : SpaceCall). (meaning m x).1) (sym c.in-Fault.is)
 
 pub count_readable-requires-clause-areas : goal.count_readable-requires-clause-areas
 count_readable-requires-clause-areas g c =
-    let k = g.L.SleepLock.calls_on c.args.lock.now in
-    let v = g.L.SleepLock.view c.args.pass.now in
+    let k = g.L.SiteLock.calls_on c.args.lock.now in
+    let v = g.L.SiteLock.view c.args.pass.now in
     let m = state_after space k v.hand.log in
     let is = state_is_state space lawful k v.hand.log in
     let found = have-areas (runs m) v.hand.known (IsSpace-runs m is) (sym c.requires.stored) in
@@ -35,8 +35,8 @@ count_readable-requires-clause-areas g c =
 
 pub returns-in-Populate-clause-done : goal.returns-in-Populate-clause-done
 returns-in-Populate-clause-done g c =
-    let k = g.L.SleepLock.calls_on c.args.lock.now in
-    let v = g.L.SleepLock.view c.args.pass.now in
+    let k = g.L.SiteLock.calls_on c.args.lock.now in
+    let v = g.L.SiteLock.view c.args.pass.now in
     let m = state_after space k v.hand.log in
     let is = state_is_state space lawful k v.hand.log in
     let found = have-areas (runs m) v.hand.known (IsSpace-runs m is) (sym c.requires.stored) in

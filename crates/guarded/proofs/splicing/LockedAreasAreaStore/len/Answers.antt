@@ -7,15 +7,15 @@ use Rattle.guarded.proofs.splicing.LockedAreasAreaStore.len.Goals as goal
 
 pub returns-clause-has : goal.returns-clause-has
 returns-clause-has g c =
-    let v = g.L.SleepLock.view c.args.hand.now in
-    let u = g.L.SleepLock.view c.word.new.pass in
+    let v = g.L.SiteLock.view c.args.hand.now in
+    let u = g.L.SiteLock.view c.word.new.pass in
     (c.word.ensures.own, ap {A = Hand} (λ h. h.held) c.word.ensures.kept.0 ∙ c.requires.has.1, subst HaveAreas (sym (same-known v u c.word.ensures.kept)) c.requires.has.2)
 
 pub returns-clause-kept : goal.returns-clause-kept
-returns-clause-kept g c = looked (g.L.SleepLock.view c.args.hand.now) (g.L.SleepLock.view c.word.new.pass) c.word.ensures.goes_on c.word.ensures.kept
+returns-clause-kept g c = looked (g.L.SiteLock.view c.args.hand.now) (g.L.SiteLock.view c.word.new.pass) c.word.ensures.goes_on c.word.ensures.kept
 
 pub returns-clause-same : goal.returns-clause-same
-returns-clause-same g c = ap areas_in (same-known (g.L.SleepLock.view c.args.hand.now) (g.L.SleepLock.view c.word.new.pass) c.word.ensures.kept)
+returns-clause-same g c = ap areas_in (same-known (g.L.SiteLock.view c.args.hand.now) (g.L.SiteLock.view c.word.new.pass) c.word.ensures.kept)
 
 pub returns-clause-count : goal.returns-clause-count
-returns-clause-count g c = c.word.ensures.value ∙ number-of (g.L.SleepLock.view c.args.hand.now).hand.known c.requires.has.2
+returns-clause-count g c = c.word.ensures.value ∙ number-of (g.L.SiteLock.view c.args.hand.now).hand.known c.requires.has.2

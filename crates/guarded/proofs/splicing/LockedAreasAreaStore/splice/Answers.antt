@@ -15,8 +15,8 @@ fit-requires-clause-held g c =
 
 pub fit-requires-clause-long : goal.fit-requires-clause-long
 fit-requires-clause-long g c =
-    let v = g.L.SleepLock.view c.args.hand.now in
-    let r = g.L.SleepLock.view c.word-len.new.pass in
+    let v = g.L.SiteLock.view c.args.hand.now in
+    let r = g.L.SiteLock.view c.word-len.new.pass in
     let areas = areas_in v.hand.known in
     let ps = c.args.pieces.now in
     let at = c.args.at in
@@ -28,8 +28,8 @@ fit-requires-clause-long g c =
 
 pub fit-requires-clause-within : goal.fit-requires-clause-within
 fit-requires-clause-within g c =
-    let v = g.L.SleepLock.view c.args.hand.now in
-    let r = g.L.SleepLock.view c.word-len.new.pass in
+    let v = g.L.SiteLock.view c.args.hand.now in
+    let r = g.L.SiteLock.view c.word-len.new.pass in
     let areas = areas_in v.hand.known in
     let ps = c.args.pieces.now in
     let at = c.args.at in
@@ -41,8 +41,8 @@ fit-requires-clause-within g c =
 
 pub fit-requires-clause-room : goal.fit-requires-clause-room
 fit-requires-clause-room g c =
-    let v = g.L.SleepLock.view c.args.hand.now in
-    let r = g.L.SleepLock.view c.word-len.new.pass in
+    let v = g.L.SiteLock.view c.args.hand.now in
+    let r = g.L.SiteLock.view c.word-len.new.pass in
     let areas = areas_in v.hand.known in
     let ps = c.args.pieces.now in
     let at = c.args.at in
@@ -54,8 +54,8 @@ fit-requires-clause-room g c =
 
 pub fit-requires-clause-few : goal.fit-requires-clause-few
 fit-requires-clause-few g c =
-    let v = g.L.SleepLock.view c.args.hand.now in
-    let r = g.L.SleepLock.view c.word-len.new.pass in
+    let v = g.L.SiteLock.view c.args.hand.now in
+    let r = g.L.SiteLock.view c.word-len.new.pass in
     let areas = areas_in v.hand.known in
     let ps = c.args.pieces.now in
     let at = c.args.at in
@@ -67,8 +67,8 @@ fit-requires-clause-few g c =
 
 pub fit-requires-clause-zeros : goal.fit-requires-clause-zeros
 fit-requires-clause-zeros g c =
-    let v = g.L.SleepLock.view c.args.hand.now in
-    let r = g.L.SleepLock.view c.word-len.new.pass in
+    let v = g.L.SiteLock.view c.args.hand.now in
+    let r = g.L.SiteLock.view c.word-len.new.pass in
     let areas = areas_in v.hand.known in
     let ps = c.args.pieces.now in
     let at = c.args.at in
@@ -80,8 +80,8 @@ fit-requires-clause-zeros g c =
 
 pub write_pieces-requires-clause-held : goal.write_pieces-requires-clause-held
 write_pieces-requires-clause-held g c =
-    let v = g.L.SleepLock.view c.args.hand.now in
-    let r = g.L.SleepLock.view c.word-len.new.pass in
+    let v = g.L.SiteLock.view c.args.hand.now in
+    let r = g.L.SiteLock.view c.word-len.new.pass in
     let areas = areas_in v.hand.known in
     let ps = c.args.pieces.now in
     let at = c.args.at in
@@ -89,13 +89,13 @@ write_pieces-requires-clause-held g c =
     let has = c.requires.has.2 in
     let loaded = same-known v r c.word-len.ensures.kept in
     let number : c.word-len.result ≡ length areas = c.word-len.ensures.value ∙ number-of v.hand.known has in
-    let f = g.L.SleepLock.view c.fit.new.pass in
+    let f = g.L.SiteLock.view c.fit.new.pass in
     still-alone r f c.fit.ensures.kept (ap {A = Hand} (λ h. h.held) c.word-len.ensures.kept.0 ∙ c.requires.has.1)
 
 pub write_pieces-requires-clause-long : goal.write_pieces-requires-clause-long
 write_pieces-requires-clause-long g c =
-    let v = g.L.SleepLock.view c.args.hand.now in
-    let r = g.L.SleepLock.view c.word-len.new.pass in
+    let v = g.L.SiteLock.view c.args.hand.now in
+    let r = g.L.SiteLock.view c.word-len.new.pass in
     let areas = areas_in v.hand.known in
     let ps = c.args.pieces.now in
     let at = c.args.at in
@@ -107,8 +107,8 @@ write_pieces-requires-clause-long g c =
 
 pub write_pieces-requires-clause-room : goal.write_pieces-requires-clause-room
 write_pieces-requires-clause-room g c =
-    let v = g.L.SleepLock.view c.args.hand.now in
-    let r = g.L.SleepLock.view c.word-len.new.pass in
+    let v = g.L.SiteLock.view c.args.hand.now in
+    let r = g.L.SiteLock.view c.word-len.new.pass in
     let areas = areas_in v.hand.known in
     let ps = c.args.pieces.now in
     let at = c.args.at in
@@ -120,8 +120,8 @@ write_pieces-requires-clause-room g c =
 
 pub write_pieces-requires-clause-runs : goal.write_pieces-requires-clause-runs
 write_pieces-requires-clause-runs g c =
-    let v = g.L.SleepLock.view c.args.hand.now in
-    let r = g.L.SleepLock.view c.word-len.new.pass in
+    let v = g.L.SiteLock.view c.args.hand.now in
+    let r = g.L.SiteLock.view c.word-len.new.pass in
     let areas = areas_in v.hand.known in
     let ps = c.args.pieces.now in
     let at = c.args.at in
@@ -133,8 +133,8 @@ write_pieces-requires-clause-runs g c =
 
 pub set_word-requires-clause-held : goal.set_word-requires-clause-held
 set_word-requires-clause-held g c =
-    let v = g.L.SleepLock.view c.args.hand.now in
-    let r = g.L.SleepLock.view c.word-len.new.pass in
+    let v = g.L.SiteLock.view c.args.hand.now in
+    let r = g.L.SiteLock.view c.word-len.new.pass in
     let areas = areas_in v.hand.known in
     let ps = c.args.pieces.now in
     let at = c.args.at in
@@ -142,14 +142,14 @@ set_word-requires-clause-held g c =
     let has = c.requires.has.2 in
     let loaded = same-known v r c.word-len.ensures.kept in
     let number : c.word-len.result ≡ length areas = c.word-len.ensures.value ∙ number-of v.hand.known has in
-    let f = g.L.SleepLock.view c.fit.new.pass in
-    let p = g.L.SleepLock.view c.write_pieces.new.pass in
+    let f = g.L.SiteLock.view c.fit.new.pass in
+    let p = g.L.SiteLock.view c.write_pieces.new.pass in
     still-alone r p (changes-more r f p c.fit.ensures.kept c.write_pieces.ensures.kept) (ap {A = Hand} (λ h. h.held) c.word-len.ensures.kept.0 ∙ c.requires.has.1)
 
 pub overflow_sub-len : goal.overflow_sub-len
 overflow_sub-len g c =
-    let v = g.L.SleepLock.view c.args.hand.now in
-    let r = g.L.SleepLock.view c.word-len.new.pass in
+    let v = g.L.SiteLock.view c.args.hand.now in
+    let r = g.L.SiteLock.view c.word-len.new.pass in
     let areas = areas_in v.hand.known in
     let ps = c.args.pieces.now in
     let at = c.args.at in
@@ -161,8 +161,8 @@ overflow_sub-len g c =
 
 pub returns-clause-has : goal.returns-clause-has
 returns-clause-has g c =
-    let v = g.L.SleepLock.view c.args.hand.now in
-    let r = g.L.SleepLock.view c.word-len.new.pass in
+    let v = g.L.SiteLock.view c.args.hand.now in
+    let r = g.L.SiteLock.view c.word-len.new.pass in
     let areas = areas_in v.hand.known in
     let ps = c.args.pieces.now in
     let at = c.args.at in
@@ -170,9 +170,9 @@ returns-clause-has g c =
     let has = c.requires.has.2 in
     let loaded = same-known v r c.word-len.ensures.kept in
     let number : c.word-len.result ≡ length areas = c.word-len.ensures.value ∙ number-of v.hand.known has in
-    let f = g.L.SleepLock.view c.fit.new.pass in
-    let p = g.L.SleepLock.view c.write_pieces.new.pass in
-    let u = g.L.SleepLock.view c.set_word.new.pass in
+    let f = g.L.SiteLock.view c.fit.new.pass in
+    let p = g.L.SiteLock.view c.write_pieces.new.pass in
+    let u = g.L.SiteLock.view c.set_word.new.pass in
     let made = subst (λ (xs : List ℕ). MakeRoom at count (length ps) xs f.hand.known) loaded c.fit.ensures.moved in
     let set : u.hand.known ≡ slice_set p.hand.known 0 (length areas - count + length ps) = ap {A = Hand} (λ h. h.known) c.set_word.ensures.kept.0 ∙ ap (λ (n : ℕ). slice_set p.hand.known 0 (n - count + length ps)) number in
     let stored = spliced-stored areas ps at count v.hand.known f.hand.known p.hand.known u.hand.known has.space c.requires.space c.requires.within has.whole made c.write_pieces.ensures.written set in
@@ -182,8 +182,8 @@ returns-clause-has g c =
 
 pub returns-clause-kept : goal.returns-clause-kept
 returns-clause-kept g c =
-    let v = g.L.SleepLock.view c.args.hand.now in
-    let r = g.L.SleepLock.view c.word-len.new.pass in
+    let v = g.L.SiteLock.view c.args.hand.now in
+    let r = g.L.SiteLock.view c.word-len.new.pass in
     let areas = areas_in v.hand.known in
     let ps = c.args.pieces.now in
     let at = c.args.at in
@@ -191,15 +191,15 @@ returns-clause-kept g c =
     let has = c.requires.has.2 in
     let loaded = same-known v r c.word-len.ensures.kept in
     let number : c.word-len.result ≡ length areas = c.word-len.ensures.value ∙ number-of v.hand.known has in
-    let f = g.L.SleepLock.view c.fit.new.pass in
-    let p = g.L.SleepLock.view c.write_pieces.new.pass in
-    let u = g.L.SleepLock.view c.set_word.new.pass in
+    let f = g.L.SiteLock.view c.fit.new.pass in
+    let p = g.L.SiteLock.view c.write_pieces.new.pass in
+    let u = g.L.SiteLock.view c.set_word.new.pass in
     changes-more v r u (looked v r c.word-len.ensures.goes_on c.word-len.ensures.kept) (changes-more r f u c.fit.ensures.kept (changes-more f p u c.write_pieces.ensures.kept (wrote-word p u 0 _ c.set_word.ensures.goes_on c.set_word.ensures.kept)))
 
 pub returns-clause-areas : goal.returns-clause-areas
 returns-clause-areas g c =
-    let v = g.L.SleepLock.view c.args.hand.now in
-    let r = g.L.SleepLock.view c.word-len.new.pass in
+    let v = g.L.SiteLock.view c.args.hand.now in
+    let r = g.L.SiteLock.view c.word-len.new.pass in
     let areas = areas_in v.hand.known in
     let ps = c.args.pieces.now in
     let at = c.args.at in
@@ -207,9 +207,9 @@ returns-clause-areas g c =
     let has = c.requires.has.2 in
     let loaded = same-known v r c.word-len.ensures.kept in
     let number : c.word-len.result ≡ length areas = c.word-len.ensures.value ∙ number-of v.hand.known has in
-    let f = g.L.SleepLock.view c.fit.new.pass in
-    let p = g.L.SleepLock.view c.write_pieces.new.pass in
-    let u = g.L.SleepLock.view c.set_word.new.pass in
+    let f = g.L.SiteLock.view c.fit.new.pass in
+    let p = g.L.SiteLock.view c.write_pieces.new.pass in
+    let u = g.L.SiteLock.view c.set_word.new.pass in
     let made = subst (λ (xs : List ℕ). MakeRoom at count (length ps) xs f.hand.known) loaded c.fit.ensures.moved in
     let set : u.hand.known ≡ slice_set p.hand.known 0 (length areas - count + length ps) = ap {A = Hand} (λ h. h.known) c.set_word.ensures.kept.0 ∙ ap (λ (n : ℕ). slice_set p.hand.known 0 (n - count + length ps)) number in
     let stored = spliced-stored areas ps at count v.hand.known f.hand.known p.hand.known u.hand.known has.space c.requires.space c.requires.within has.whole made c.write_pieces.ensures.written set in

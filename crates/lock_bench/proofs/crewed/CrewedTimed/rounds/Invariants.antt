@@ -4,7 +4,7 @@ use Rattle.lock_bench.proofs.crewed.CrewedTimed.rounds.Given as goal
 
 abbrev pub invariant-loop-number : goal.invariant-loop-number
 invariant-loop-number g l = record {
-  own : g.L.SleepLock.sits l.self.lock l.worker.pass;
-  between : IsBetween (g.L.SleepLock.view l.worker.pass);
-  takes : takes_in (g.L.SleepLock.view l.worker.pass) ≡ takes_in (g.L.SleepLock.view l.fn.worker.pass) + l.number;
+  own : g.L.SiteLock.sits l.self.lock l.worker.pass;
+  between : IsBetween (g.L.SiteLock.view l.worker.pass);
+  takes : takes_in (g.L.SiteLock.view l.worker.pass) ≡ takes_in (g.L.SiteLock.view l.fn.worker.pass) + l.number;
 }

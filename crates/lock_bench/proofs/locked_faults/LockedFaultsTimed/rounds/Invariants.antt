@@ -4,9 +4,9 @@ use Rattle.lock_bench.proofs.locked_faults.LockedFaultsTimed.rounds.Given as goa
 
 abbrev pub invariant-loop-call : goal.invariant-loop-call
 invariant-loop-call g l = record {
-  own : g.L.SleepLock.sits l.self.space.lock l.worker.pass;
-  between : IsBetween (g.L.SleepLock.view l.worker.pass);
-  task : (g.L.SleepLock.view l.worker.pass).hand.task ≡ Some l.task;
-  next : (g.L.SleepLock.view l.worker.pass).hand.done ≡ l.call;
+  own : g.L.SiteLock.sits l.self.space.lock l.worker.pass;
+  between : IsBetween (g.L.SiteLock.view l.worker.pass);
+  task : (g.L.SiteLock.view l.worker.pass).hand.task ≡ Some l.task;
+  next : (g.L.SiteLock.view l.worker.pass).hand.done ≡ l.call;
   within : l.call ≤ l.count;
 }

@@ -1,4 +1,4 @@
-use Rattle.std.proofs.Common.{ℕ, arith, subst, sym}
+use Rattle.std.proofs.Common.{ℕ, ◌∙◌, arith, subst, sym}
 use Rattle.seq_fault.specs.Ruled.{never}
 use Rattle.vma_map.specs.Spaces.{space}
 use Rattle.lock_bench.specs.FaultPasses.{IsAtCall}
@@ -8,7 +8,7 @@ use Rattle.lock_bench.proofs.seq_faults.SeqSpaceTimed.rounds.Goals as goal
 pub loop-call-init : goal.loop-call-init
 loop-call-init g c =
     let site = c.args.self.now in
-    let at = subst (λ (n : ℕ). IsAtCall site c.args.task n c.begin.new.pass) (sym c.done-call.ensures) (begun site space never c.args.worker.now c.begin.new.pass c.args.task c.requires.idle c.begin.ensures.own c.begin.ensures.became c.begin.ensures.beside) in
+    let at = subst (λ (n : ℕ). IsAtCall site c.args.task n c.begin.new.pass) (c.begin.ensures.own.done ∙ sym c.done-call.ensures) (begun site space never c.args.worker.now c.begin.new.pass c.args.task c.requires.idle c.begin.ensures.own c.begin.ensures.became c.begin.ensures.beside) in
     (at, within site c.begin.new.pass c.args.task c.done-call.result c.args.count at c.requires.serves)
 
 pub fault_wait-requires-clause-next : goal.fault_wait-requires-clause-next

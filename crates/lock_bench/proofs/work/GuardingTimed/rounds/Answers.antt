@@ -10,6 +10,6 @@ loop-init g c =
     let now = c.begin.ensures.became.4 in
     let takes = ap {A = Hand} (λ h. h.takes) now in record {
       own = c.begin.ensures.own;
-      between = begun-between (g.L.SleepLock.view c.args.worker.now.pass) (g.L.SleepLock.view c.begin.new.pass) _ now refl refl refl refl none;
+      between = begun-between (g.L.SiteLock.view c.args.worker.now.pass) (g.L.SiteLock.view c.begin.new.pass) _ now refl refl refl refl none;
       takes = omega (arith, takes);
     }

@@ -4,7 +4,7 @@ use Rattle.lock_bench.proofs.work.GuardingTimed.rounds.Given as goal
 
 abbrev pub invariant-loop : goal.invariant-loop
 invariant-loop g l = record {
-  own : g.L.SleepLock.sits l.self.crewed.lock l.worker.pass;
-  between : IsBetween (g.L.SleepLock.view l.worker.pass);
-  takes : takes_in (g.L.SleepLock.view l.worker.pass) ≡ takes_in (g.L.SleepLock.view l.fn.worker.pass) + l.counter;
+  own : g.L.SiteLock.sits l.self.crewed.lock l.worker.pass;
+  between : IsBetween (g.L.SiteLock.view l.worker.pass);
+  takes : takes_in (g.L.SiteLock.view l.worker.pass) ≡ takes_in (g.L.SiteLock.view l.fn.worker.pass) + l.counter;
 }

@@ -8,8 +8,8 @@ use Rattle.mm_serve.proofs.space_or_table.SpaceOrTableGuardedAreasGuardedFdsShar
 
 pub returns-clause-done : goal.returns-clause-done
 returns-clause-done g c = elim c.match-self.branch [
-  | in-Space-OfSpace w ↦ rw (w.in-Space-OfSpace.is-0, w.pass-is) (done-of space g.A.SleepLock.kind semaphore g.met.A.SpaceLock.counts (g.A.SleepLock.calls_on w.in-Space-OfSpace.site.lock) (g.A.SleepLock.view w.end.new.pass).hand c.args.task w.end.ensures.done)
-  | in-Table-OfTable w ↦ rw (w.in-Table-OfTable.is-0, w.pass-is) (done-of table g.T.SleepLock.kind mutex g.met.T.TableLock.owned (g.T.SleepLock.calls_on w.in-Table-OfTable.site.lock) (g.T.SleepLock.view w.end-in-Table-OfTable.new.pass).hand c.args.task w.end-in-Table-OfTable.ensures.done)
+  | in-Space-OfSpace w ↦ rw (w.in-Space-OfSpace.is-0, w.pass-is) (done-of space g.A.SleepLock.kind semaphore g.met.A.SpaceLock.counts (g.A.SiteLock.calls_on w.in-Space-OfSpace.site.lock) (g.A.SiteLock.view w.end.new.pass).hand c.args.task w.end.ensures.done)
+  | in-Table-OfTable w ↦ rw (w.in-Table-OfTable.is-0, w.pass-is) (done-of table g.T.SleepLock.kind mutex g.met.T.TableLock.owned (g.T.SiteLock.calls_on w.in-Table-OfTable.site.lock) (g.T.SiteLock.view w.end-in-Table-OfTable.new.pass).hand c.args.task w.end-in-Table-OfTable.ensures.done)
 ]
 
 pub returns-clause-queue : goal.returns-clause-queue
@@ -21,7 +21,7 @@ returns-clause-queue g c = elim c.match-self.branch [
           own = told.looked.own;
           serving = told.looked.serving;
           all = told.looked.all;
-          queue = g.met.A.SpaceLock.has_queue (g.A.SleepLock.calls_on w.in-Space-OfSpace.site.lock) (g.A.SleepLock.view q) (g.A.SleepLock.spun q) told.looked.queue;
+          queue = g.met.A.SpaceLock.has_queue (g.A.SiteLock.calls_on w.in-Space-OfSpace.site.lock) (g.A.SiteLock.view q) (g.A.SleepLock.spun q) told.looked.queue;
         };
         goes_on = told.goes_on;
       }
@@ -33,7 +33,7 @@ returns-clause-queue g c = elim c.match-self.branch [
           own = told.looked.own;
           serving = told.looked.serving;
           all = told.looked.all;
-          queue = g.met.T.TableLock.has_queue (g.T.SleepLock.calls_on w.in-Table-OfTable.site.lock) (g.T.SleepLock.view q) (g.T.SleepLock.spun q) told.looked.queue;
+          queue = g.met.T.TableLock.has_queue (g.T.SiteLock.calls_on w.in-Table-OfTable.site.lock) (g.T.SiteLock.view q) (g.T.SleepLock.spun q) told.looked.queue;
         };
         goes_on = told.goes_on;
       }

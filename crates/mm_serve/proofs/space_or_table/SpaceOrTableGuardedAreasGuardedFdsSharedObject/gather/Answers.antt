@@ -4,8 +4,8 @@ use Rattle.mm_serve.proofs.space_or_table.SpaceOrTableGuardedAreasGuardedFdsShar
 
 pub returns-clause-taken : goal.returns-clause-taken
 returns-clause-taken g c = elim c.match-self.branch [
-  | in-Space-OfSpace-OfSpace w ↦ rw (w.in-Space-OfSpace-OfSpace.is-2, w.into-is) (takes-in (g.A.SleepLock.view w.in-Space-OfSpace-OfSpace.into).hand (g.A.SleepLock.view w.in-Space-OfSpace-OfSpace.other).hand (g.A.SleepLock.view w.gather.new.into).hand w.gather.ensures.kept.0)
-  | in-Table-OfTable-OfTable w ↦ rw (w.in-Table-OfTable-OfTable.is-2, w.into-is) (takes-in (g.T.SleepLock.view w.in-Table-OfTable-OfTable.into).hand (g.T.SleepLock.view w.in-Table-OfTable-OfTable.other).hand (g.T.SleepLock.view w.gather-in-Table-OfTable-OfTable.new.into).hand w.gather-in-Table-OfTable-OfTable.ensures.kept.0)
+  | in-Space-OfSpace-OfSpace w ↦ rw (w.in-Space-OfSpace-OfSpace.is-2, w.into-is) (takes-in (g.A.SiteLock.view w.in-Space-OfSpace-OfSpace.into).hand (g.A.SiteLock.view w.in-Space-OfSpace-OfSpace.other).hand (g.A.SiteLock.view w.gather.new.into).hand w.gather.ensures.kept.0)
+  | in-Table-OfTable-OfTable w ↦ rw (w.in-Table-OfTable-OfTable.is-2, w.into-is) (takes-in (g.T.SiteLock.view w.in-Table-OfTable-OfTable.into).hand (g.T.SiteLock.view w.in-Table-OfTable-OfTable.other).hand (g.T.SiteLock.view w.gather-in-Table-OfTable-OfTable.new.into).hand w.gather-in-Table-OfTable-OfTable.ensures.kept.0)
 ]
 
 pub returns-clause-queue : goal.returns-clause-queue

@@ -5,14 +5,15 @@ use Rattle.lock_core.specs.Pasts.{GoesOn}
 use Rattle.lock_core.specs.Shown.{Shown}
 use Rattle.guarded.specs.MutexLocks.{KnowsMutex}
 use Rattle.guarded.specs.RwSemLocks.{KnowsRwSem}
+use Rattle.guarded.specs.LockMembers.{members}
 use Rattle.mm_serve.specs.Pasts.{KnowsPast}
 use Rattle.mm_serve.proofs.space_or_table.SpaceOrTableGuardedAreasGuardedFdsSharedObject.recall.Goals.{in-Space-OfSpace, in-Table-OfTable}
 use Rattle.mm_serve.proofs.space_or_table.SpaceOrTableGuardedAreasGuardedFdsSharedObject.recall.Goals as goal
 
 pub returns-clause-goes_on : goal.returns-clause-goes_on
 returns-clause-goes_on g c = elim c.match-self.branch [
-  | in-Space-OfSpace w ↦ rw (w.in-Space-OfSpace.is-1, w.pass-is) (subst (λ (v : Shown). GoesOn (g.A.SleepLock.view w.in-Space-OfSpace.pass).past v.past) (sym w.recall_queue.ensures.kept) w.recall.ensures.goes_on)
-  | in-Table-OfTable w ↦ rw (w.in-Table-OfTable.is-1, w.pass-is) (subst (λ (v : Shown). GoesOn (g.T.SleepLock.view w.in-Table-OfTable.pass).past v.past) (sym w.recall_queue-in-Table-OfTable.ensures.kept) w.recall-in-Table-OfTable.ensures.goes_on)
+  | in-Space-OfSpace w ↦ rw (w.in-Space-OfSpace.is-1, w.pass-is) (subst (λ (v : Shown). GoesOn (g.A.SiteLock.view w.in-Space-OfSpace.pass).past v.past) (sym w.recall_queue.ensures.kept) w.recall.ensures.goes_on)
+  | in-Table-OfTable w ↦ rw (w.in-Table-OfTable.is-1, w.pass-is) (subst (λ (v : Shown). GoesOn (g.T.SiteLock.view w.in-Table-OfTable.pass).past v.past) (sym w.recall_queue-in-Table-OfTable.ensures.kept) w.recall-in-Table-OfTable.ensures.goes_on)
 ]
 
 pub returns-clause-queue : goal.returns-clause-queue
@@ -24,7 +25,7 @@ returns-clause-queue g c = elim c.match-self.branch [
 pub returns-clause-past : goal.returns-clause-past
 returns-clause-past g c = elim c.match-self.branch [
   | in-Space-OfSpace w ↦ rw (w.in-Space-OfSpace.is-0, w.pass-is) (
-      let l = g.A.SleepLock in
+      let l = members g.A.SiteLock.calls_on g.A.SiteLock.view g.A.SiteLock.sits g.A.SleepLock.spun g.A.SleepLock.kind g.A.SleepLock.word_at g.A.SleepLock.opened g.A.SleepLock.waits in
       let k = l.calls_on w.in-Space-OfSpace.site.lock in (
         subst (λ (v : Shown). KnowsPast space l.kind 257 l.word_at l.waits (KnowsRwSem space 257) l.opened k v) (sym w.recall_queue.ensures.kept) (record {
           last = w.recall.ensures.last;
@@ -38,7 +39,7 @@ returns-clause-past g c = elim c.match-self.branch [
       )
       )
   | in-Table-OfTable w ↦ rw (w.in-Table-OfTable.is-0, w.pass-is) (
-      let l = g.T.SleepLock in
+      let l = members g.T.SiteLock.calls_on g.T.SiteLock.view g.T.SiteLock.sits g.T.SleepLock.spun g.T.SleepLock.kind g.T.SleepLock.word_at g.T.SleepLock.opened g.T.SleepLock.waits in
       let k = l.calls_on w.in-Table-OfTable.site.lock in (
         subst (λ (v : Shown). KnowsPast table l.kind 64 l.word_at l.waits (KnowsMutex table 64) l.opened k v) (sym w.recall_queue-in-Table-OfTable.ensures.kept) (record {
           last = w.recall-in-Table-OfTable.ensures.last;

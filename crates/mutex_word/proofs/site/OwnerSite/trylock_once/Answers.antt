@@ -18,5 +18,5 @@ misses-err (Ok x) v u p q out own goes missed found fits = tt
 misses-err (Err word) v u p q out own goes missed found fits = λ reads. let some = missed.0 in let few = fits.0 in let plain = fits.1 in missed-misses (λ x. no_line) v.fronts u.fronts (ap {A = V} (λ w. w.fronts) missed.1) mutex reads owner_at word v u p q missed.1 own found goes (omega (arith, some, plain), omega (arith, few)) out
 
 pub returns-clause-misses : goal.returns-clause-misses
-returns-clause-misses g c = misses-err c.take_free.result c.args.pass.now.seat.me.0.view c.take_free.new.pass.seat.me.0.view c.args.pass.now.seat.me.0.past c.take_free.new.pass.seat.me.0.past
+returns-clause-misses g c = misses-err c.take_free.result c.args.pass.now.pass.seat.me.0.view c.take_free.new.pass.seat.me.0.view c.args.pass.now.pass.seat.me.0.past c.take_free.new.pass.seat.me.0.past
     (sym c.requires.own.held ∙ c.requires.out) c.take_free.ensures.last c.take_free.ensures.goes_on c.take_free.ensures.missed c.take_free.ensures.found c.take_free.ensures.word

@@ -20,7 +20,7 @@ returns-clause-ok c =
 
 pub returns-clause-read : goal.returns-clause-read
 returns-clause-read c =
-    let v = c.args.pass.now.seat.me.0.view in
+    let v = c.args.pass.now.pass.seat.me.0.view in
     let x = c.next_fault-page.new.pass.seat.me.0.view in
     let u = c.read_optimistically.new.pass.seat.me.0.view in
     let z = c.validate.new.pass.seat.me.0.view in
@@ -39,7 +39,7 @@ returns-clause-raced c = err-maps c.validate.result (λ why t. inr (subst (λ (n
 
 pub returns-clause-first : goal.returns-clause-first
 returns-clause-first c =
-    let v = c.args.pass.now.seat.me.0.view in
+    let v = c.args.pass.now.pass.seat.me.0.view in
     let x = c.next_fault-page.new.pass.seat.me.0.view in
     let px = c.next_fault-page.new.pass.seat.me.0.past in
     let pu = c.read_optimistically.new.pass.seat.me.0.past in
@@ -48,7 +48,7 @@ returns-clause-first c =
 
 pub returns-clause-kept : goal.returns-clause-kept
 returns-clause-kept c =
-    let v = c.args.pass.now.seat.me.0.view in
+    let v = c.args.pass.now.pass.seat.me.0.view in
     let x = c.next_fault-page.new.pass.seat.me.0.view in
     let u = c.read_optimistically.new.pass.seat.me.0.view in
     let z = c.validate.new.pass.seat.me.0.view in
@@ -59,20 +59,23 @@ returns-clause-face c = err-maps c.validate.result (λ why e. e ∙ (c.read_opti
 
 pub returns-clause-few : goal.returns-clause-few
 returns-clause-few c =
-    let v = c.args.pass.now.seat.me.0.view in
+    let v = c.args.pass.now.pass.seat.me.0.view in
     let most = c.read_optimistically.ensures.few.few in
     let more = ap (λ (z : V). z.steps) c.read_optimistically.ensures.few.is in
     let two = ap (λ (z : V). z.steps) c.next_fault-page.ensures.kept in
     err-maps c.validate.result (λ why e. let one = ap (λ (z : V). z.steps) e in omega (arith, most, more, two, one)) c.validate.ensures.kept
 
+pub returns-in-Err-clause-goes_on : goal.returns-in-Err-clause-goes_on
+returns-in-Err-clause-goes_on c = λ p t. c.read_optimistically.ensures.goes_on p (c.next_fault-page.ensures.goes_on p t)
+
 pub returns-in-Err-clause-raced : goal.returns-in-Err-clause-raced
 returns-in-Err-clause-raced c = inl c.in-Err.ensures.odd
 
 pub returns-in-Err-clause-first : goal.returns-in-Err-clause-first
-returns-in-Err-clause-first c = finds-before c.args.pass.now.seat.me.0.view c.next_fault-page.new.pass.seat.me.0.view _ _ _ c.next_fault-page.ensures.kept c.next_fault-page.ensures.goes_on 1 seq_at c.in-Err.raced.before c.in-Err.ensures.raced
+returns-in-Err-clause-first c = finds-before c.args.pass.now.pass.seat.me.0.view c.next_fault-page.new.pass.seat.me.0.view _ _ _ c.next_fault-page.ensures.kept c.next_fault-page.ensures.goes_on 1 seq_at c.in-Err.raced.before c.in-Err.ensures.raced
 
 pub returns-in-Err-clause-kept : goal.returns-in-Err-clause-kept
-returns-in-Err-clause-kept c = steps-on c.args.pass.now.seat.me.0.view c.next_fault-page.new.pass.seat.me.0.view c.read_optimistically.new.pass.seat.me.0.view c.next_fault-page.ensures.kept c.read_optimistically.ensures.few
+returns-in-Err-clause-kept c = steps-on c.args.pass.now.pass.seat.me.0.view c.next_fault-page.new.pass.seat.me.0.view c.read_optimistically.new.pass.seat.me.0.view c.next_fault-page.ensures.kept c.read_optimistically.ensures.few
 
 pub returns-in-Err-clause-face : goal.returns-in-Err-clause-face
 returns-in-Err-clause-face c = c.read_optimistically.ensures.face ∙ c.next_fault-page.ensures.face

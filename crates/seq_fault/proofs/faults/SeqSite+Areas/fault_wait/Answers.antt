@@ -8,7 +8,7 @@ use Rattle.seq_fault.proofs.Faulting.{one-word-since}
 use Rattle.seq_fault.proofs.faults.SeqSite+Areas.fault_wait.Goals as goal
 
 pub loop-init : goal.loop-init
-loop-init g c = (tt, tt, c.requires.own, refl, (λ p t. t), (c.args.pass.now.seat.me.0.view.steps, c.args.pass.now.seat.me.0.view.ext, omega arith, refl))
+loop-init g c = (tt, tt, c.requires.own, refl, (λ p t. t), (c.args.pass.now.pass.seat.me.0.view.steps, c.args.pass.now.pass.seat.me.0.view.ext, omega arith, refl))
 
 pub loop-preserved : goal.loop-preserved
 loop-preserved g c = let was = c.loop.invariant.5 in let kept = c.in_default.ensures.kept in let more = kept.2 in let before = was.2 in let steps = ap (λ (v : V). v.steps) was.3 in (
@@ -39,4 +39,4 @@ pub fault-requires-clause-next : goal.fault-requires-clause-next
 fault-requires-clause-next g c = subst (λ (h : Hand). HasNextFault c.args.self.now.site.table.shared.key h) (sym (ap (λ (v : V). v.hand) c.loop.invariant.5.3)) c.requires.next
 
 pub returns-in-Ok-clause-read : goal.returns-in-Ok-clause-read
-returns-in-Ok-clause-read g c = let i = c.loop.invariant in (c.loop.pass.seat.me.0.view, i.5, one-word-since 2 c.fault.new.pass.face.front c.loop.pass.seat.me.0.view c.fault.new.pass.seat.me.0.view _ _ _ i.4 c.in-Ok.ensures.read)
+returns-in-Ok-clause-read g c = let i = c.loop.invariant in (c.loop.pass.pass.seat.me.0.view, i.5, one-word-since 2 c.fault.new.pass.pass.face.front c.loop.pass.pass.seat.me.0.view c.fault.new.pass.pass.seat.me.0.view _ _ _ i.4 c.in-Ok.ensures.read)

@@ -1,7 +1,7 @@
 -- Each word that was loaded stands at the place that the search wanted.
 use Rattle.std.proofs.Common.{◌∙◌, refl, sym}
 use Rattle.seq_fault.proofs.Faulting.{searched-none, searched-more, still-watching}
-use Rattle.seq_fault.proofs.faults.search_words.Goals as goal
+use Rattle.seq_fault.proofs.reading.search_words.Goals as goal
 
 pub loop-at-init : goal.loop-at-init
 loop-at-init c = (c.requires.own, refl, (λ p t. t), c.requires.latest, refl, λ m on. searched-none m c.args.search.now c.args.pass.now.seat.me.0.view c.requires.begins c.requires.agrees on)

@@ -6,7 +6,7 @@ use Rattle.vma_map.specs.Searches.{asked, page_of}
 use Rattle.seq_fault.specs.declared.view.Glance.{Glance}
 use Rattle.seq_fault.specs.declared.view.Watch.TheVariants.{On}
 use Rattle.seq_fault.specs.Steps.{HasSearched}
-use Rattle.seq_fault.proofs.faults.search_words.Given as goal
+use Rattle.seq_fault.proofs.reading.search_words.Given as goal
 
 abbrev pub invariant-loop-at : goal.invariant-loop-at
 invariant-loop-at l = Sits l.site.table.shared.key l.site.table.shared.table_id l.pass.seat.table_id l.pass.seat.me l.pass.face × (l.pass.face ≡ l.fn.pass.face) × GoesOn l.fn.pass.seat.me.0.past l.pass.seat.me.0.past × IsOwnStep l.pass.seat.me.0.view l.pass.seat.me.0.past

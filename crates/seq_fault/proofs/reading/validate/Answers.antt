@@ -2,7 +2,7 @@
 use Rattle.std.proofs.Common.{◌∙◌, arith, ap}
 use Rattle.seq_fault.specs.Ruled.{V, seq_at}
 use Rattle.seq_fault.proofs.Faulting.{finds, read-measured, confirmed, seen-reading, faulted, saw-front}
-use Rattle.seq_fault.proofs.faults.validate.Goals as goal
+use Rattle.seq_fault.proofs.reading.validate.Goals as goal
 
 pub confirm-requires-clause-on : goal.confirm-requires-clause-on
 confirm-requires-clause-on c = (c.requires.read.moment, c.requires.read.on)

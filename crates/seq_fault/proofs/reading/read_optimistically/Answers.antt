@@ -8,7 +8,7 @@ use Rattle.vma_map.specs.Spaces.{space}
 use Rattle.seq_fault.specs.Plays.{glance, staled}
 use Rattle.seq_fault.specs.Ruled.{V, seq_at}
 use Rattle.seq_fault.proofs.Faulting.{finds, gathers, gathered-few, gathered-read, told-next}
-use Rattle.seq_fault.proofs.faults.read_optimistically.Goals as goal
+use Rattle.seq_fault.proofs.reading.read_optimistically.Goals as goal
 
 pub returns-then-before-eq1-clause-few : goal.returns-then-before-eq1-clause-few
 returns-then-before-eq1-clause-few c =

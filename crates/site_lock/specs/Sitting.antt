@@ -1,4 +1,4 @@
--- Passes of a lock that is a site, whose plan is one of the object that it guards.
+-- Passes of a lock whose plan is one of the object that it guards.
 use Rattle.word_bits.specs.Objects.{Obj}
 use Rattle.word_bits.specs.Histories.{Plan}
 use Rattle.lock_core.specs.Records.{IsPlan}

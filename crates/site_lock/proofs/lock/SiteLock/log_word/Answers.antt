@@ -1,0 +1,32 @@
+use Rattle.std.proofs.Common.{◌∙◌, ap, subst, sym, rules}
+use Rattle.lock_core.specs.Handles.{view_of, IsLatest}
+use Rattle.site_lock.proofs.Facing.{goes-on, found-at, has}
+use Rattle.site_lock.proofs.lock.SiteLock.log_word.Goals as goal
+
+pub returns-clause-own : goal.returns-clause-own
+returns-clause-own g c = let o = g.met.Self.SiteLock in let p = c.args.pass.now in let new = c.log_word.new.pass in
+    (o.frame c.args.self.now p new c.requires.own (search rules) (search rules) (search rules)).0
+
+pub returns-clause-goes_on : goal.returns-clause-goes_on
+returns-clause-goes_on g c = let o = g.met.Self.SiteLock in let p = c.args.pass.now in let new = c.log_word.new.pass in let old = g.Self.SiteLock.seat_of p in
+    goes-on old new _ _ (o.faces p) (o.frame c.args.self.now p new c.requires.own (search rules) (search rules) (search rules)).1 (search rules)
+
+pub returns-clause-beside : goal.returns-clause-beside
+returns-clause-beside g c = let o = g.met.Self.SiteLock in let p = c.args.pass.now in let new = c.log_word.new.pass in
+    ap (λ w. g.Self.SiteLock.with_seat p w) (sym (o.puts p new))
+
+pub returns-clause-last : goal.returns-clause-last
+returns-clause-last g c = let o = g.met.Self.SiteLock in let p = c.args.pass.now in let new = c.log_word.new.pass in
+    subst (λ w. IsLatest w) (sym (o.puts p new)) (search rules)
+
+pub returns-clause-seat : goal.returns-clause-seat
+returns-clause-seat g c = let o = g.met.Self.SiteLock in let p = c.args.pass.now in let new = c.log_word.new.pass in
+    ap view_of (o.puts p new) ∙ (search rules)
+
+pub returns-clause-kept : goal.returns-clause-kept
+returns-clause-kept g c = let o = g.met.Self.SiteLock in let p = c.args.pass.now in let new = c.log_word.new.pass in let old = g.Self.SiteLock.seat_of p in
+    has old new _ _ (λ h. h) 1 (o.faces p) (o.frame c.args.self.now p new c.requires.own (search rules) (search rules) (search rules)).1 (search rules)
+
+pub returns-clause-found : goal.returns-clause-found
+returns-clause-found g c = let o = g.met.Self.SiteLock in let p = c.args.pass.now in let new = c.log_word.new.pass in let old = g.Self.SiteLock.seat_of p in
+    found-at old new _ _ _ _ (o.frame c.args.self.now p new c.requires.own (search rules) (search rules) (search rules)).1 (search rules)

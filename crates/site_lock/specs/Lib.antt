@@ -1,0 +1,3 @@
+pub mod Faces
+pub mod Lending
+pub mod Sitting
