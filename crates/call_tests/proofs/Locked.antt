@@ -19,7 +19,7 @@ use Rattle.lock_core.specs.Shown.{Shown}
 use Rattle.lock_core.specs.Pasts.{EachMoment}
 use Rattle.lock_core.specs.Locked.{OwnerStates, FlagStates, IsLockedThen}
 use Rattle.mutex_word.specs.Holders.{own_word, IsHolder, StatesHolder}
-use Rattle.mutex_word.specs.Ruled.{IsOwnerSiteThen, owner_at}
+use Rattle.mutex_word.specs.OwnerRuled.{IsOwnerSiteThen, owner_at}
 use Rattle.call_tests.specs.OwnerLocks.{nobody_waits}
 
 -- a call that took at once counted nothing

@@ -17,12 +17,12 @@ use Rattle.std.specs.Option.{option_map_or}
 use Rattle.lock_core.specs.declared.pass.Face.{Face}
 use Rattle.lock_core.specs.declared.pass.Pass.{Pass}
 use Rattle.lock_core.specs.declared.site.Site.{Site}
-use Rattle.lock_core.specs.Handles.{hand_in, SitsAt, SaysSame}
+use Rattle.lock_core.specs.SiteHandles.{hand_in, SitsAt, SaysSame}
 use Rattle.lock_core.specs.Records.{row}
 use Rattle.lock_core.specs.Views.{consuming, next_entry}
 use Rattle.lock_core.specs.Shown.{IsNextCall}
 use Rattle.lock_core.specs.declared.how.Interrupted.{Interrupted}
-use Rattle.lock_core.specs.Passes.{Consumes, IsBusy, IsInterrupted, IsReading, MayNote}
+use Rattle.lock_core.specs.SitePasses.{Consumes, IsBusy, IsInterrupted, IsReading, MayNote}
 use Rattle.lock_core.proofs.HandLaws.{not-both}
 use Rattle.mutex_word.specs.Holders.{MissesOwner}
 use Rattle.lock_core.specs.Locking.{IsStored}

@@ -1,4 +1,4 @@
-pub mod Standing
+pub mod OwnerLockStanding
 pub mod OwnerLocks
 pub mod OwnerLockLaws
-pub mod Between
+pub mod CallsBetween

@@ -2,14 +2,14 @@
 use Rattle.std.proofs.Common.{◌≡◌, sym, subst, refl}
 use Rattle.word_bits.specs.Objects.{Obj}
 use Rattle.lock_core.specs.declared.pass.Pass.{Pass}
-use Rattle.lock_core.specs.Handles as inner
+use Rattle.lock_core.specs.SiteHandles as inner
 use Rattle.lock_core.specs.Shown.{Stands, no_line}
 use Rattle.lock_core.specs.Tallies.{no_tally}
 use Rattle.lock_core.specs.Views.{Beside, SpinRests}
 use Rattle.mutex_word.specs.declared.rule.OwnerRule.{OwnerRule}
 use Rattle.mutex_word.specs.declared.site.OwnerPass.{OwnerPass}
 use Rattle.mutex_word.specs.declared.site.OwnerSite.{OwnerSite}
-use Rattle.mutex_word.specs.Handles.{plan_of, shown_of}
+use Rattle.mutex_word.specs.OwnerHandles.{plan_of, shown_of}
 use Rattle.site_lock.specs.Faces.{Follows}
 use Rattle.guarded.specs.LockLaws.{site-stands}
 use Rattle.call_tests.specs.OwnerLocks.{SitsIdle}

@@ -7,7 +7,7 @@ use Rattle.lock_core.specs.Views.{SpinRests}
 use Rattle.lock_core.specs.Records.{IsPlan}
 use Rattle.mutex_word.specs.declared.site.OwnerPass.{OwnerPass}
 use Rattle.mutex_word.specs.declared.site.OwnerSite.{OwnerSite}
-use Rattle.mutex_word.specs.Handles.{plan_of, view_of, SitsAt}
+use Rattle.mutex_word.specs.OwnerHandles.{plan_of, view_of, SitsAt}
 
 -- no task stands in a list
 abbrev pub nobody_waits : Plan → Moment → List ℕ → Type 0

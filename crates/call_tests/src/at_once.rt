@@ -2,10 +2,10 @@
 ghost use Rattle.std.specs.Prelude.{◌≡◌, ◌+◌, ◌<◌, ◌≤◌, length, None, IfOk};
 ghost use Rattle.lock_core.specs.Records.{IsPlan};
 ghost use Rattle.lock_core.specs.Kinds.{unavailable};
-ghost use Rattle.guarded.specs.Handles.{lock_of};
-ghost use Rattle.guarded.specs.Copying.{IsHistory};
+ghost use Rattle.guarded.specs.GuardedHandles.{lock_of};
+ghost use Rattle.guarded.specs.ObjectCopying.{IsHistory};
 ghost use Rattle.guarded.specs.Gathering.{IsGathered};
-ghost use Rattle.call_tests.specs.Between.{IsFresh, HasDoneItsCalls};
+ghost use Rattle.call_tests.specs.CallsBetween.{IsFresh, HasDoneItsCalls};
 
 use crate::serve::copy_of;
 use cpu_task::{Crew, Gate, OpenGate, Turns};

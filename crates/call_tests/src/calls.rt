@@ -3,8 +3,8 @@ ghost use Rattle.std.specs.Prelude.{◌≡◌, ◌≢◌, length, true, false, I
 ghost use Rattle.lock_core.specs.declared.view.Held.TheVariants.{No, Alone};
 ghost use Rattle.lock_core.specs.Shown.{IsNextCall};
 ghost use Rattle.lock_core.specs.Locking.{IsStored};
-ghost use Rattle.mutex_word.specs.Handles.{plan_of, hand_in, task_in, held_in, SitsAt};
-ghost use Rattle.call_tests.specs.Standing.{OwesNothing, OwesSame, SameSpin, SaysSame};
+ghost use Rattle.mutex_word.specs.OwnerHandles.{plan_of, hand_in, task_in, held_in, SitsAt};
+ghost use Rattle.call_tests.specs.OwnerLockStanding.{OwesNothing, OwesSame, SameSpin, SaysSame};
 
 use lock_core::Interrupted;
 use mutex_word::{OwnerPass, OwnerSite};

@@ -3,8 +3,8 @@
 ghost use Rattle.std.specs.Prelude.{◌≡◌, ◌<◌, ◌≤◌, length, IfOk, OnOk};
 ghost use Rattle.word_bits.specs.declared.TheConstants.{MAX_TASKS};
 ghost use Rattle.lock_core.specs.Records.{IsPlan};
-ghost use Rattle.guarded.specs.Handles.{lock_of};
-ghost use Rattle.call_tests.specs.Between.{AreFresh, IsFresh};
+ghost use Rattle.guarded.specs.GuardedHandles.{lock_of};
+ghost use Rattle.call_tests.specs.CallsBetween.{AreFresh, IsFresh};
 
 use crate::at_once::{Start, serve_all};
 use crate::serve::copy_of;

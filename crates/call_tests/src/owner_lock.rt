@@ -18,7 +18,7 @@ pub struct OwnerLock<O: Object> {
 
 impl<O: Object> SiteLock<O> for OwnerLock<O> {
     ghost use Rattle.std.specs.Prelude.{refl};
-    ghost use Rattle.mutex_word.specs.Handles.{plan_of, shown_of};
+    ghost use Rattle.mutex_word.specs.OwnerHandles.{plan_of, shown_of};
     ghost use Rattle.call_tests.specs.OwnerLocks.{SitsIdle};
     ghost use Rattle.call_tests.specs.OwnerLockLaws.{owner-frame};
 
@@ -68,7 +68,7 @@ impl<O: Object> SleepLock<O> for OwnerLock<O> {
     ghost use Rattle.std.specs.Prelude.{◌≡◌, [], refl};
     ghost use Rattle.lock_core.specs.Kinds.{mutex};
     ghost use Rattle.lock_core.specs.Pasts.{EachMoment};
-    ghost use Rattle.mutex_word.specs.Ruled.{IsOwnerSiteThen, newest, owner_at};
+    ghost use Rattle.mutex_word.specs.OwnerRuled.{IsOwnerSiteThen, newest, owner_at};
     ghost use Rattle.call_tests.specs.OwnerLocks.{nobody_waits};
     ghost use Rattle.call_tests.specs.OwnerLockLaws.{sits-stands};
 

@@ -1,8 +1,8 @@
 //! Sites with an owner word over address spaces.
 ghost use Rattle.std.specs.Prelude.{◌≡◌, ◌≢◌, ◌<◌, length};
 ghost use Rattle.lock_core.specs.declared.view.Held.TheVariants.{No};
-ghost use Rattle.mutex_word.specs.Handles.{plan_of, hand_in, held_in, SitsAt};
-ghost use Rattle.call_tests.specs.Standing.{SaysSame};
+ghost use Rattle.mutex_word.specs.OwnerHandles.{plan_of, hand_in, held_in, SitsAt};
+ghost use Rattle.call_tests.specs.OwnerLockStanding.{SaysSame};
 
 use crate::calls::{interrupt, perform, send, take, try_next};
 use crate::plans::{fault_page, int_fault_page, map_page, plan_with, signal_task, try_map_page};

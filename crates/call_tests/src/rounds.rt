@@ -1,8 +1,8 @@
 //! Passes that do all calls of their tasks, on threads.
 ghost use Rattle.std.specs.Prelude.{◌≡◌, ◌+◌, ◌<◌, ◌≤◌, false, length, IsSome};
 ghost use Rattle.lock_core.specs.declared.view.Held.TheVariants.{No};
-ghost use Rattle.mutex_word.specs.Handles.{plan_of, hand_in, held_in, task_in, SitsAt};
-ghost use Rattle.call_tests.specs.Standing.{Idles, OwesNothing, SameSpin};
+ghost use Rattle.mutex_word.specs.OwnerHandles.{plan_of, hand_in, held_in, task_in, SitsAt};
+ghost use Rattle.call_tests.specs.OwnerLockStanding.{Idles, OwesNothing, SameSpin};
 
 use crate::calls::{await_signal, perform, send, take};
 use mutex_word::{OwnerPass, OwnerSite};

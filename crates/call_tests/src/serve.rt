@@ -3,8 +3,8 @@ ghost use Rattle.std.specs.Prelude.{◌≡◌, ◌<◌, length, None, Some, IfOk
 ghost use Rattle.lock_core.specs.declared.view.Held.TheVariants.{No};
 ghost use Rattle.lock_core.specs.Records.{row};
 ghost use Rattle.lock_core.specs.Kinds.{unavailable};
-ghost use Rattle.guarded.specs.Handles.{lock_of};
-ghost use Rattle.guarded.specs.Copying.{IsHistory};
+ghost use Rattle.guarded.specs.GuardedHandles.{lock_of};
+ghost use Rattle.guarded.specs.ObjectCopying.{IsHistory};
 ghost use Rattle.guarded.specs.Gathering.{IsGathered};
 
 use cpu_task::{Crew, Gate, ScriptedCrew, Turns};

@@ -1,5 +1,5 @@
-pub mod Counting
+pub mod CpuCounting
 pub mod Countdowns
 pub mod Gates
 pub mod Parking
-pub mod Scripts
+pub mod AnswerScripts

@@ -1,6 +1,6 @@
 //! The two counts that contracts see of a CPU.
 ghost use Rattle.std.specs.Prelude.{◌≡◌};
-ghost use Rattle.cpu_task.specs.Counting.{one_more, rescheds_after};
+ghost use Rattle.cpu_task.specs.CpuCounting.{one_more, rescheds_after};
 
 /// How often a CPU answered that it needs to reschedule, and how often it slept.
 #[derive(Clone, Copy, Debug, PartialEq, Eq)]

@@ -1,6 +1,6 @@
 //! What a lock asks of the CPU that its caller runs on.
 ghost use Rattle.std.specs.Prelude.{◌≡◌, ℕ};
-ghost use Rattle.cpu_task.specs.Counting.{one_more, rescheds_after};
+ghost use Rattle.cpu_task.specs.CpuCounting.{one_more, rescheds_after};
 
 use std::sync::Wait;
 

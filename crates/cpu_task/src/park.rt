@@ -1,6 +1,6 @@
 //! The crew of a real run: a task sleeps on a parker, and the crew wakes it by the unparker.
 ghost use Rattle.std.specs.Prelude.{◌≡◌, None, IfOk, OnErr, replicate};
-ghost use Rattle.cpu_task.specs.Counting.{one_more, rescheds_after};
+ghost use Rattle.cpu_task.specs.CpuCounting.{one_more, rescheds_after};
 ghost use Rattle.cpu_task.specs.Countdowns.{Answers, full};
 ghost use Rattle.cpu_task.specs.Parking.{Keeps, parker_of};
 

@@ -1,8 +1,8 @@
 //! A crew for tests, whose CPUs answer from lists.
 ghost use Rattle.std.specs.Prelude.{◌≡◌, drop, IfOk};
 ghost use Rattle.std.specs.Vec.Iter.{into_iter_items};
-ghost use Rattle.cpu_task.specs.Counting.{one_more, rescheds_after};
-ghost use Rattle.cpu_task.specs.Scripts.{next_answer};
+ghost use Rattle.cpu_task.specs.CpuCounting.{one_more, rescheds_after};
+ghost use Rattle.cpu_task.specs.AnswerScripts.{next_answer};
 
 use crate::counts::Counts;
 use crate::cpu::Cpu;
@@ -33,7 +33,7 @@ pub struct ScriptedCpu {
 
 impl Model for ScriptedCpu {
     ghost use Rattle.std.specs.Vec.Iter.{into_iter_items};
-    ghost use Rattle.cpu_task.specs.Scripts.{ScriptedCpuState};
+    ghost use Rattle.cpu_task.specs.AnswerScripts.{ScriptedCpuState};
 
     ghost Value = { ScriptedCpuState };
 
@@ -91,7 +91,7 @@ pub struct ScriptedCrew {
 }
 
 impl Model for ScriptedCrew {
-    ghost use Rattle.cpu_task.specs.Scripts.{Scripts};
+    ghost use Rattle.cpu_task.specs.AnswerScripts.{Scripts};
 
     ghost Value = { Scripts };
 

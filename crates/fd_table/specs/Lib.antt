@@ -1,3 +1,3 @@
 pub mod Tables
-pub mod CallLaws
+pub mod TableCallLaws
 pub mod TableLaws

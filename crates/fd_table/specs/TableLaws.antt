@@ -17,7 +17,7 @@ use Rattle.word_bits.proofs.Signals.{none_either, signal_kind}
 use Rattle.fd_table.specs.declared.call.TableCall.{TableCall}
 use Rattle.fd_table.specs.declared.call.TableCall.TheVariants.{Open, Close, Dup, Dup2, Get}
 use Rattle.fd_table.specs.Tables.{FdMap, no_files, IsFdMap, IsFull, IsLowestFree, lowest_from, lowest_free, with_file, opened, unless_closed, reopened, meaning, IsCall, reads, call_of, slot_word, words_from, stores}
-use Rattle.fd_table.specs.CallLaws.{call_of-sound}
+use Rattle.fd_table.specs.TableCallLaws.{call_of-sound}
 
 -- the words of a signal are no call
 pub signals : (w : CallWords) (task : ℕ) → signal_of w ≡ Some task → call_of w ≡ None

@@ -19,7 +19,7 @@ use Rattle.lock_core.specs.Views.{Knows}
 use Rattle.lock_core.specs.Pasts.{FoundAt, GoesOn}
 use Rattle.lock_core.specs.Shown.{Shown, IsLatestStep}
 use Rattle.lock_core.proofs.RowLaws.{none-some, same-some, some-inside, get-there, get-longer, get-last, get-either}
-use Rattle.guarded.specs.Copying.{AreTaskWords, AreRecWords, FoundBetween, HeldAlone, joined}
+use Rattle.guarded.specs.ObjectCopying.{AreTaskWords, AreRecWords, FoundBetween, HeldAlone, joined}
 
 module _ {X : Type 0} where
   take-some : (xs : List X) (i : ℕ) (x : X) → slice_get xs i ≡ Some x → take (suc i) xs ≡ take i xs ++ x ∷ []

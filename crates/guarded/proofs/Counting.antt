@@ -14,7 +14,7 @@ use Rattle.word_bits.specs.declared.area.Area.{Area}
 use Rattle.vma_map.specs.Runs.{page_map, AreRuns}
 use Rattle.vma_map.specs.AreaLaws.{page_map-in, page_map-behind, page_map-below, page_map-low, AreRuns-head, AreRuns-tail}
 use Rattle.vma_map.proofs.CountLemmas.{covered}
-use Rattle.guarded.specs.Serving.{part, share, readable_from, is_readable}
+use Rattle.guarded.specs.CallServing.{part, share, readable_from, is_readable}
 
 inside : (s : PageMap) (start end page prot : ℕ) → start ≤ page → page < end → changed s start end (Some prot) page ≡ Some prot
 inside s start end page prot a b = grind (arith, nat_tests)

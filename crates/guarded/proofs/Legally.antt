@@ -23,7 +23,7 @@ use Rattle.guarded.specs.Gathering.{AreExact, IsGathered}
 use Rattle.lock_core.specs.declared.view.Moment.{Moment}
 use Rattle.lock_core.specs.Shown.{Shown}
 use Rattle.lock_core.specs.Chronicles.{Chronicles}
-use Rattle.guarded.specs.Copying.{Copies, AreRecWords, GatheredIsHistory, joined}
+use Rattle.guarded.specs.ObjectCopying.{Copies, AreRecWords, GatheredIsHistory, joined}
 
 module _ {Call : Type 0} (o : Obj Call) (unavailable : Unavailable) (k : Plan) (log : List Entry) where
   exact-record : (e : Entry) (seen : ℕ) (w : CallWords) (r : Rec) → IsRecord o unavailable k log r.k e w r → (IsUnheldReply o unavailable w r.reply → r.k ≡ seen) → IsRecord o unavailable k log seen e w r

@@ -3,7 +3,7 @@ use Rattle.std.proofs.Common.{◌≡◌, ℕ, zero, suc, ◌+◌, ◌≤◌, Lis
 use Rattle.word_bits.specs.declared.area.Area.{Area}
 use Rattle.word_bits.specs.AreaWord.{area_word}
 use Rattle.vma_map.specs.Runs.{words_of_areas}
-use Rattle.guarded.specs.Serving.{AreZeroFrom}
+use Rattle.guarded.specs.CallServing.{AreZeroFrom}
 
 -- zeros
 pub zeros-index : (n i : ℕ) → slice_index (replicate n 0) i ≡ 0

@@ -22,7 +22,7 @@ use Rattle.lock_core.specs.declared.view.Stage.TheVariants.{Logged}
 use Rattle.lock_core.specs.Records.{is_sent, row}
 use Rattle.lock_core.specs.Tallies.{raised}
 use Rattle.lock_core.specs.Views.{recorded, committed, noted, next_entry, OwesNoSignal, Unsent}
-use Rattle.lock_core.specs.Passes.{IsReading, MayNote}
+use Rattle.lock_core.specs.SitePasses.{IsReading, MayNote}
 use Rattle.lock_core.proofs.RowLaws.{get-last}
 use Rattle.lock_core.proofs.RecordLaws.{object-logs, changes-is}
 use Rattle.lock_core.proofs.Replies.{settled-object}

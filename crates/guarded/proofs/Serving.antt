@@ -9,7 +9,7 @@ use Rattle.word_bits.proofs.States.{IsLawful, state_is_state}
 use Rattle.lock_core.specs.declared.view.Hand.{Hand}
 use Rattle.lock_core.specs.Views.{committed, next_entry}
 use Rattle.lock_core.proofs.RecordLaws.{state-snoc}
-use Rattle.lock_core.specs.Passes.{IsChange}
+use Rattle.lock_core.specs.SitePasses.{IsChange}
 use Rattle.lock_core.specs.Shown.{Shown, IsNextCall}
 use Rattle.lock_core.specs.Locking.{IsStored, HasSince}
 use Rattle.guarded.specs.declared.next.Next.{Next}

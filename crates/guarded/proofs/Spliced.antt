@@ -9,7 +9,7 @@ use Rattle.vma_map.specs.AreaLaws.{AreRuns-head, AreRuns-tail}
 use Rattle.vma_map.specs.SpaceLaws.{length-words_of_areas}
 use Rattle.vma_map.proofs.RangeLemmas.{no_area, AreRuns-at}
 use Rattle.vma_map.proofs.WordLemmas.{AreRuns-take}
-use Rattle.guarded.specs.Serving.{AreZeroFrom}
+use Rattle.guarded.specs.CallServing.{AreZeroFrom}
 use Rattle.guarded.specs.Splicing.{area_of, areas_in, HaveAreas, MakeRoom, IsWritten}
 use Rattle.guarded.proofs.Padding.{zeros-index, space-zero}
 

@@ -12,7 +12,7 @@ use Rattle.word_bits.specs.Objects.{Obj}
 use Rattle.lock_core.specs.declared.view.Hand.{Hand}
 use Rattle.lock_core.specs.declared.view.Told.{Told}
 use Rattle.lock_core.specs.Chronicles.{Chronicles}
-use Rattle.lock_core.specs.Passes.{MayNote}
+use Rattle.lock_core.specs.SitePasses.{MayNote}
 use Rattle.lock_core.specs.Records.{AreNext, row}
 
 module _ {Call : Type 0} (o : Obj Call) (one other : Unavailable) (so : (reads : Bool) (word : ℕ) → one reads word → other reads word) where

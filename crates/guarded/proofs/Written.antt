@@ -6,7 +6,7 @@ use Rattle.lock_core.specs.declared.view.Held.TheVariants.{Alone}
 use Rattle.lock_core.specs.Shown.{Shown, PastGoesOn}
 use Rattle.lock_core.specs.Locking.{Looks, Has}
 use Rattle.lock_core.specs.Views.{wrote}
-use Rattle.guarded.specs.Serving.{AreZeroFrom}
+use Rattle.guarded.specs.CallServing.{AreZeroFrom}
 use Rattle.guarded.specs.Splicing.{ChangesWords, IsCleared, IsWritten, MakeRoom, MovesDown}
 use Rattle.guarded.proofs.Spliced.{set-here, set-off}
 

@@ -5,9 +5,9 @@ use Rattle.word_bits.specs.Histories.{Plan}
 use Rattle.lock_core.specs.Pasts.{EachMoment, Ran}
 use Rattle.lock_core.specs.Shown.{Shown}
 use Rattle.lock_core.specs.SpinStated.{IsSpinLockThen, IsSpinMove}
-use Rattle.mutex_slow.specs.Handles.{newest}
+use Rattle.mutex_slow.specs.MutexHandles.{newest}
 use Rattle.mutex_slow.specs.Mutexes.{standing, wait_lock_at}
-use Rattle.mutex_slow.specs.Stated.{HasBecome, IsMutexThen, IsOutOfList}
+use Rattle.mutex_slow.specs.MutexStated.{HasBecome, IsMutexThen, IsOutOfList}
 use Rattle.wait_list.specs.declared.view.Waiter.{Waiter}
 
 -- What a pass knows that has looked back: at each moment so far the owner word stated who held, who was picked and whether tasks waited; which tasks wait now, first to last, and that this list and the word have come to be by the steps of a mutex alone; and that its own task doesn't wait. At each moment the spin words stated who had the wait lock, and each step was one of a spin lock's.

@@ -8,8 +8,8 @@ ghost use Rattle.lock_core.specs.Records.{row};
 ghost use Rattle.lock_core.specs.Kinds.{unavailable};
 ghost use Rattle.lock_core.specs.Shown.{PastGoesOn};
 ghost use Rattle.lock_core.specs.Locking.{Looks, Keeps};
-ghost use Rattle.guarded.specs.Handles.{lock_of};
-ghost use Rattle.guarded.specs.Copying.{Copies, GatheredIsHistory, KnowsChronicle, AddsTaskWords, AddsRecWords};
+ghost use Rattle.guarded.specs.GuardedHandles.{lock_of};
+ghost use Rattle.guarded.specs.ObjectCopying.{Copies, GatheredIsHistory, KnowsChronicle, AddsTaskWords, AddsRecWords};
 ghost use Rattle.guarded.specs.Gathering.{HasDoneAll};
 
 use crate::guarded::Guarded;

@@ -3,9 +3,9 @@ ghost use Rattle.std.specs.Prelude.{◌≡◌, ◌<◌, [], ◌∷◌, length, N
 ghost use Rattle.lock_core.specs.declared.view.Held.TheVariants.{No};
 ghost use Rattle.lock_core.specs.Records.{row, IsPlan};
 ghost use Rattle.lock_core.specs.Views.{gave_up, gathered};
-ghost use Rattle.lock_core.specs.Passes.{Numbered};
+ghost use Rattle.lock_core.specs.SitePasses.{Numbered};
 ghost use Rattle.lock_core.specs.Pasts.{EachMoment, GoesOn, Paced, Tail};
-ghost use Rattle.lock_core.specs.Stated.{IsNew};
+ghost use Rattle.lock_core.specs.SiteStated.{IsNew};
 ghost use Rattle.lock_core.specs.Kinds.{unavailable};
 ghost use Rattle.lock_core.specs.Shown.{AllButHand, IsLatestStep, PastGoesOn, shown_new, shown_split};
 ghost use Rattle.lock_core.specs.Locking.{Looks, Has};
@@ -29,7 +29,7 @@ pub struct Guarded<L: SleepLock<O>, O: Served> {
 }
 
 impl<L: SleepLock<O>, O: Served + Drop> Guarded<L, O> {
-    ghost use Rattle.guarded.specs.Handles.{lock_of};
+    ghost use Rattle.guarded.specs.GuardedHandles.{lock_of};
     ghost use Rattle.guarded.specs.Gathering.{KeepsDone};
 
     /// A new object under a lock that nobody holds: its state is empty, and no call is logged or

@@ -11,12 +11,12 @@ use word_bits::Object;
 impl<O: Object> SleepLock<O> for Mutex<O> {
     ghost use Rattle.std.specs.Prelude.{◌≡◌, refl};
     ghost use Rattle.lock_core.specs.Kinds.{mutex as mutex_kind};
-    ghost use Rattle.mutex_slow.specs.Handles.{newest, spun_of};
+    ghost use Rattle.mutex_slow.specs.MutexHandles.{newest, spun_of};
     ghost use Rattle.mutex_slow.specs.Mutexes.{owner_at};
-    ghost use Rattle.mutex_slow.specs.Places.{EndsHold};
-    ghost use Rattle.mutex_slow.specs.Stated.{waits_on};
+    ghost use Rattle.mutex_slow.specs.MutexPlaces.{EndsHold};
+    ghost use Rattle.mutex_slow.specs.MutexStated.{waits_on};
     ghost use Rattle.guarded.specs.MutexLocks.{KnowsMutex};
-    ghost use Rattle.guarded.specs.SpinQueues.{KnowsSpinQueue};
+    ghost use Rattle.guarded.specs.LockSpinQueues.{KnowsSpinQueue};
     ghost use Rattle.guarded.specs.LockLaws.{mutex-stands};
 
     ghost kind = { mutex_kind };

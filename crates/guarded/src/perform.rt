@@ -8,7 +8,7 @@ ghost use Rattle.lock_core.specs.Views.{OwesNoSignal, next_entry};
 ghost use Rattle.lock_core.specs.Kinds.{shares, unavailable};
 ghost use Rattle.lock_core.specs.Shown.{IsNextCall, PastGoesOn};
 ghost use Rattle.lock_core.specs.Locking.{Looks, Takes, KeepsPlace, Releases, IsStored, held_by};
-ghost use Rattle.guarded.specs.Handles.{lock_of};
+ghost use Rattle.guarded.specs.GuardedHandles.{lock_of};
 ghost use Rattle.guarded.specs.Performing.{IsNext, Refuses, TriesOnce, Serves, Performs, Changes, no_word};
 ghost use Rattle.guarded.specs.Gathering.{DoesOneMore};
 ghost use Rattle.guarded.specs.States.{WasDone, reply_in};

@@ -12,12 +12,12 @@ impl<O: Object> SleepLock<O> for RwSem<O> {
     ghost use Rattle.std.specs.Prelude.{◌≡◌, ◌+◌, refl};
     ghost use Rattle.lock_core.specs.declared.view.Held.TheVariants.{No, Shared};
     ghost use Rattle.lock_core.specs.Kinds.{semaphore, wakes_alone, wakes_down, wakes_shared};
-    ghost use Rattle.rwsem_slow.specs.Handles.{newest, spun_of};
+    ghost use Rattle.rwsem_slow.specs.RwSemHandles.{newest, spun_of};
     ghost use Rattle.rwsem_slow.specs.Releasing.{LeavesCount};
     ghost use Rattle.rwsem_slow.specs.RwSems.{count_at};
-    ghost use Rattle.rwsem_slow.specs.Stated.{waits_on};
+    ghost use Rattle.rwsem_slow.specs.RwSemStated.{waits_on};
     ghost use Rattle.guarded.specs.RwSemLocks.{KnowsRwSem};
-    ghost use Rattle.guarded.specs.SpinQueues.{KnowsSpinQueue};
+    ghost use Rattle.guarded.specs.LockSpinQueues.{KnowsSpinQueue};
     ghost use Rattle.guarded.specs.LockLaws.{rwsem-stands};
 
     ghost kind = { semaphore };

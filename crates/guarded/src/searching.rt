@@ -7,7 +7,7 @@ ghost use Rattle.lock_core.specs.Shown.{PastGoesOn};
 ghost use Rattle.lock_core.specs.Locking.{Looks};
 ghost use Rattle.vma_map.specs.Runs.{page_map};
 ghost use Rattle.vma_map.specs.Spaces.{IsRunAt, stores};
-ghost use Rattle.guarded.specs.Serving.{readable_from, share};
+ghost use Rattle.guarded.specs.CallServing.{readable_from, share};
 ghost use Rattle.guarded.specs.Splicing.{HaveAreas, area_of, areas_in};
 
 use crate::lock::SleepLock;

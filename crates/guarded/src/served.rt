@@ -61,7 +61,7 @@ pub trait Served: Object {
 }
 
 impl Served for Fds {
-    ghost use Rattle.guarded.specs.Serving.{no_call, nothing_downgrades};
+    ghost use Rattle.guarded.specs.CallServing.{no_call, nothing_downgrades};
 
     ghost downgrades = { no_call };
 
@@ -104,7 +104,7 @@ fn fault<L: SleepLock<Areas>>(lock: &L, pass: &mut L::Pass, page: u32, access: u
 }
 
 impl Served for Areas {
-    ghost use Rattle.guarded.specs.Serving.{is_populate, populates_change};
+    ghost use Rattle.guarded.specs.CallServing.{is_populate, populates_change};
 
     ghost downgrades = { is_populate };
 

@@ -3,7 +3,7 @@ ghost use Rattle.std.specs.Prelude.{◌≡◌, ◌+◌, ◌-◌, ◌≤◌, leng
 ghost use Rattle.word_bits.specs.AreaWord.{area_word};
 ghost use Rattle.lock_core.specs.declared.view.Held.TheVariants.{Alone};
 ghost use Rattle.vma_map.specs.Runs.{AreRuns};
-ghost use Rattle.guarded.specs.Serving.{AreZeroFrom};
+ghost use Rattle.guarded.specs.CallServing.{AreZeroFrom};
 ghost use Rattle.guarded.specs.Splicing.{ChangesWords, HaveAreas, IsCleared, IsWritten, MakeRoom, MovesDown, areas_in};
 
 use crate::lock::SleepLock;

@@ -3,7 +3,7 @@ use Rattle.std.proofs.Common.{◌≡◌, true, None, is_some, ap, ◌∙◌}
 use Rattle.lock_core.specs.declared.view.Hand.{Hand}
 use Rattle.lock_core.specs.declared.view.Held.TheVariants.{No}
 use Rattle.lock_core.specs.Shown.{Shown}
-use Rattle.lock_bench.specs.Between.{IsBetween}
+use Rattle.lock_bench.specs.RoundsBetween.{IsBetween}
 
 pub begun-between : (v u : Shown) (g : Hand) → u.hand ≡ g → is_some g.task ≡ true → g.held ≡ v.hand.held → g.sent ≡ v.hand.sent → g.consumed ≡ v.hand.consumed → (v.hand.held ≡ No) × (v.hand.sent ≡ None) × (v.hand.consumed ≡ 0) → IsBetween u
 begun-between v u g now task held sent consumed none = record {

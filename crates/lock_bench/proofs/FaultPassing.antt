@@ -9,7 +9,7 @@ use Rattle.word_bits.specs.Objects.{Obj}
 use Rattle.lock_core.specs.declared.view.Hand.{Hand}
 use Rattle.lock_core.specs.declared.view.Held.TheVariants.{No}
 use Rattle.lock_core.specs.declared.view.SpinHand.{SpinHand}
-use Rattle.lock_core.specs.Passes.{Numbered}
+use Rattle.lock_core.specs.SitePasses.{Numbered}
 use Rattle.lock_core.specs.Records.{row}
 use Rattle.lock_core.specs.Views.{gave_up, handed, ticked, Beside, BesideForgetting}
 use Rattle.lock_core.proofs.Recording.{next-is}
@@ -17,10 +17,10 @@ use Rattle.vma_map.specs.declared.call.SpaceCall.TheVariants.{Map}
 use Rattle.vma_map.specs.Spaces.{space}
 use Rattle.seq_fault.specs.declared.site.SeqPass.{SeqPass}
 use Rattle.seq_fault.specs.declared.site.SeqSite.{SeqSite}
-use Rattle.seq_fault.specs.Handles.{done_in, hand_in, held_in, plan_of, view_of, SitsAt}
-use Rattle.seq_fault.specs.Ruled.{V}
-use Rattle.seq_fault.specs.Steps.{Faults, HasNextFault, StepsOn}
-use Rattle.seq_fault.specs.Writing.{HasNextChange, Writes}
+use Rattle.seq_fault.specs.SeqHandles.{done_in, hand_in, held_in, plan_of, view_of, SitsAt}
+use Rattle.seq_fault.specs.SeqRuled.{V}
+use Rattle.seq_fault.specs.SeqSteps.{Faults, HasNextFault, StepsOn}
+use Rattle.seq_fault.specs.SeqWriting.{HasNextChange, Writes}
 use Rattle.lock_bench.specs.FaultPasses.{IsAtCall, IsIdle}
 use Rattle.lock_bench.specs.FaultPlans.{HasFaults, MapsArea, fault_words, map_words}
 use Rattle.lock_bench.proofs.Planned.{get-replicate}

@@ -7,14 +7,14 @@ use Rattle.lock_core.specs.declared.view.Hand.{Hand}
 use Rattle.lock_core.specs.declared.view.Held.TheVariants.{Shared}
 use Rattle.lock_core.specs.declared.view.SpinHand.{SpinHand}
 use Rattle.lock_core.specs.Holding.{released}
-use Rattle.lock_core.specs.Passes.{Numbered}
+use Rattle.lock_core.specs.SitePasses.{Numbered}
 use Rattle.lock_core.specs.Views.{gave_up, handed, BesideForgetting}
 use Rattle.percpu_rwsem.specs.declared.pass.PercpuPass.{PercpuPass}
 use Rattle.percpu_rwsem.specs.declared.site.PercpuRwSem.{PercpuRwSem}
 use Rattle.percpu_rwsem.specs.declared.view.Phase.TheVariants.{Idle, Reads}
-use Rattle.percpu_rwsem.specs.Handles.{after, blocks_in, hand_in, seen_in, task_in, view_of, SitsAt, TakesSince}
-use Rattle.percpu_rwsem.specs.Ruled.{V}
-use Rattle.lock_bench.specs.PercpuPasses.{IsBetween, IsIdle}
+use Rattle.percpu_rwsem.specs.PercpuHandles.{after, blocks_in, hand_in, seen_in, task_in, view_of, SitsAt, TakesSince}
+use Rattle.percpu_rwsem.specs.PercpuRuled.{V}
+use Rattle.lock_bench.specs.BenchPercpuPasses.{IsBetween, IsIdle}
 
 module _ {O C Call : Type 0} (o : Obj Call) (k : Plan) (sem : PercpuRwSem O C) where
   pub begun : (unavailable : Unavailable) (old new : PercpuPass O C) (t : ℕ) → IsIdle sem old → SitsAt sem new → seen_in new ≡ seen_in old → Numbered o unavailable k (hand_in old) t (hand_in new) → BesideForgetting (view_of old) (view_of new)

@@ -3,7 +3,7 @@ use Rattle.std.specs.Prelude.{◌≡◌, ℕ, Some, None}
 use Rattle.lock_core.specs.Views.{HoldsNothing, OwesNoSignal, SpinRests}
 use Rattle.seq_fault.specs.declared.site.SeqPass.{SeqPass}
 use Rattle.seq_fault.specs.declared.site.SeqSite.{SeqSite}
-use Rattle.seq_fault.specs.Handles.{done_in, hand_in, task_in, view_of, SitsAt}
+use Rattle.seq_fault.specs.SeqHandles.{done_in, hand_in, task_in, view_of, SitsAt}
 
 module _ {O C : Type 0} where
   -- it is one of the table's, has no number, and isn't at the spin lock

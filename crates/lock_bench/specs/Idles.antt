@@ -3,7 +3,7 @@ use Rattle.std.specs.Prelude.{◌≡◌, None}
 use Rattle.osq_nodes.specs.declared.node.Place.TheVariants.{Out}
 use Rattle.osq_nodes.specs.declared.pass.OsqPass.{OsqPass}
 use Rattle.osq_nodes.specs.declared.queue.Osq.{Osq}
-use Rattle.osq_nodes.specs.Handles.{place_in, task_in, SitsAt}
+use Rattle.osq_nodes.specs.OsqHandles.{place_in, task_in, SitsAt}
 
 -- it has no number, and no node in the queue
 pub record IsIdle (osq : Osq) (pass : OsqPass) : Type 0 where

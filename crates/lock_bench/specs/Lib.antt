@@ -1,6 +1,6 @@
-pub mod Rooms
+pub mod BenchRooms
 pub mod Idles
-pub mod Between
-pub mod PercpuPasses
+pub mod RoundsBetween
+pub mod BenchPercpuPasses
 pub mod FaultPlans
 pub mod FaultPasses

@@ -1,6 +1,6 @@
 //! Rounds on the locks that tasks sleep on.
 ghost use Rattle.std.specs.Prelude.{◌≡◌, ◌+◌};
-ghost use Rattle.lock_bench.specs.Between.{IsBetween};
+ghost use Rattle.lock_bench.specs.RoundsBetween.{IsBetween};
 
 use crate::plan::without_calls;
 use crate::timed::Timed;
@@ -106,8 +106,8 @@ pub struct Crewed<L: SleepLock<Nothing>, T> {
 
 impl<L: SleepLock<Nothing> + Drop, T: Round> Timed for Crewed<L, T> {
     ghost use Rattle.std.specs.Prelude.{◌≡◌, ◌+◌, ◌<◌, length};
-    ghost use Rattle.lock_bench.specs.Between.{IsIdle, takes_in};
-    ghost use Rattle.lock_bench.specs.Rooms.{unbounded};
+    ghost use Rattle.lock_bench.specs.RoundsBetween.{IsIdle, takes_in};
+    ghost use Rattle.lock_bench.specs.BenchRooms.{unbounded};
 
     type Worker = Worker<L::Pass>;
 

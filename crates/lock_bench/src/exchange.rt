@@ -15,7 +15,7 @@ pub struct Exchanges {
 pub struct Exchanger;
 
 impl Timed for Exchanges {
-    ghost use Rattle.lock_bench.specs.Rooms.{unbounded};
+    ghost use Rattle.lock_bench.specs.BenchRooms.{unbounded};
 
     type Worker = Exchanger;
 

@@ -1,8 +1,8 @@
 //! Rounds on the front of the optimistic spin queue.
 ghost use Rattle.std.specs.Prelude.{◌≡◌, ◌+◌, ◌<◌};
-ghost use Rattle.osq_nodes.specs.Handles.{fronts_in, tasks_of};
+ghost use Rattle.osq_nodes.specs.OsqHandles.{fronts_in, tasks_of};
 ghost use Rattle.lock_bench.specs.Idles.{IsIdle};
-ghost use Rattle.lock_bench.specs.Rooms.{unbounded};
+ghost use Rattle.lock_bench.specs.BenchRooms.{unbounded};
 
 use crate::timed::Timed;
 use osq_nodes::{Osq, OsqPass};

@@ -1,9 +1,9 @@
 //! Faults on an address space under its lock.
 ghost use Rattle.std.specs.Prelude.{◌≡◌};
-ghost use Rattle.guarded.specs.Handles.{lock_of};
-ghost use Rattle.lock_bench.specs.Between.{IsIdle};
+ghost use Rattle.guarded.specs.GuardedHandles.{lock_of};
+ghost use Rattle.lock_bench.specs.RoundsBetween.{IsIdle};
 ghost use Rattle.lock_bench.specs.FaultPlans.{HasFaults, MapsArea};
-ghost use Rattle.lock_bench.specs.Rooms.{but_one};
+ghost use Rattle.lock_bench.specs.BenchRooms.{but_one};
 
 use crate::crewed::{TURNS, Worker};
 use crate::plan::with_faults;

@@ -2,10 +2,10 @@
 ghost use Rattle.std.specs.Prelude.{◌≡◌, ◌+◌, ◌*◌, ◌<◌, length, IsSome};
 ghost use Rattle.lock_core.specs.LockHands.{RestsAt, RestsEverywhere};
 ghost use Rattle.lock_core.specs.Views.{HoldsNothing, OwesNoSignal};
-ghost use Rattle.lock_core.specs.Handles.{plan_of, view_of, hand_in, task_in, SitsAt, SaysSame, IsNestTold};
-ghost use Rattle.qspin_word.specs.Handles.{spin_in, NotesItself, SpinIdles};
-ghost use Rattle.qspin_queue.specs.Handles.{IsApart, IsApartIdle};
-ghost use Rattle.lock_bench.specs.Rooms.{unbounded};
+ghost use Rattle.lock_core.specs.SiteHandles.{plan_of, view_of, hand_in, task_in, SitsAt, SaysSame, IsNestTold};
+ghost use Rattle.qspin_word.specs.SpinWordHandles.{spin_in, NotesItself, SpinIdles};
+ghost use Rattle.qspin_queue.specs.SpinQueueHandles.{IsApart, IsApartIdle};
+ghost use Rattle.lock_bench.specs.BenchRooms.{unbounded};
 
 use crate::plan::without_calls;
 use crate::timed::Timed;

@@ -1,8 +1,8 @@
 //! Rounds of readers of the per-CPU semaphore.
 ghost use Rattle.std.specs.Prelude.{◌≡◌, ◌+◌, ◌<◌, length};
-ghost use Rattle.percpu_rwsem.specs.Handles.{hand_in, plan_of};
-ghost use Rattle.lock_bench.specs.PercpuPasses.{IsIdle};
-ghost use Rattle.lock_bench.specs.Rooms.{unbounded};
+ghost use Rattle.percpu_rwsem.specs.PercpuHandles.{hand_in, plan_of};
+ghost use Rattle.lock_bench.specs.BenchPercpuPasses.{IsIdle};
+ghost use Rattle.lock_bench.specs.BenchRooms.{unbounded};
 
 use crate::crewed::{TURNS, Worker};
 use crate::plan::without_calls;

@@ -1,9 +1,9 @@
 //! Faults on an address space without its lock.
 ghost use Rattle.std.specs.Prelude.{◌≡◌};
-ghost use Rattle.seq_fault.specs.Handles.{done_in, plan_of};
+ghost use Rattle.seq_fault.specs.SeqHandles.{done_in, plan_of};
 ghost use Rattle.lock_bench.specs.FaultPlans.{HasFaults, MapsArea};
 ghost use Rattle.lock_bench.specs.FaultPasses.{IsIdle};
-ghost use Rattle.lock_bench.specs.Rooms.{but_one};
+ghost use Rattle.lock_bench.specs.BenchRooms.{but_one};
 
 use crate::plan::with_faults;
 use crate::timed::Timed;

@@ -1,8 +1,8 @@
 //! Rounds on the queued spin lock.
 ghost use Rattle.std.specs.Prelude.{◌≡◌, ◌+◌, ◌<◌, length};
-ghost use Rattle.lock_core.specs.Handles.{plan_of, view_of};
-ghost use Rattle.qspin_queue.specs.Handles.{IsIdle};
-ghost use Rattle.lock_bench.specs.Rooms.{unbounded};
+ghost use Rattle.lock_core.specs.SiteHandles.{plan_of, view_of};
+ghost use Rattle.qspin_queue.specs.SpinQueueHandles.{IsIdle};
+ghost use Rattle.lock_bench.specs.BenchRooms.{unbounded};
 
 use crate::plan::without_calls;
 use crate::timed::Timed;

@@ -40,8 +40,8 @@ fn stepped(mut number: u64) -> u64 {
 
 impl<L: SleepLock<Nothing> + Drop> Timed for Guarding<L> {
     ghost use Rattle.std.specs.Prelude.{◌≡◌, ◌+◌, ◌<◌, length};
-    ghost use Rattle.lock_bench.specs.Between.{IsIdle, takes_in};
-    ghost use Rattle.lock_bench.specs.Rooms.{unbounded};
+    ghost use Rattle.lock_bench.specs.RoundsBetween.{IsIdle, takes_in};
+    ghost use Rattle.lock_bench.specs.BenchRooms.{unbounded};
 
     type Worker = Worker<L::Pass>;
 

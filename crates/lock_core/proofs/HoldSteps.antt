@@ -18,7 +18,7 @@ use Rattle.lock_core.specs.Views.{took, held_weight, alone_weight, held_of, alon
 use Rattle.lock_core.specs.Holding.{missed, released, downgraded}
 use Rattle.lock_core.specs.Sites.{HeardOk, HandOk, SiteKept}
 use Rattle.lock_core.specs.Totals.{total, total-set, total-same, total-at}
-use Rattle.lock_core.specs.Parts.{Each, each-set}
+use Rattle.lock_core.specs.ViewParts.{Each, each-set}
 use Rattle.lock_core.proofs.RowLaws.{none-some, same-some}
 use Rattle.lock_core.proofs.HandLaws.{no-alone, rest-logged, rest-entered, not-both, false-or-true, one-stays, sum-stays}
 use Rattle.lock_core.proofs.SeatSteps.{site-rehands}

@@ -11,7 +11,7 @@ use Rattle.lock_core.specs.declared.view.Moment.{Moment}
 use Rattle.lock_core.specs.declared.view.Past.{Past}
 use Rattle.lock_core.specs.declared.view.Seen.{Seen}
 use Rattle.lock_core.specs.Moves.{Goes}
-use Rattle.lock_core.specs.Parts.{each-set, each-snoc, set-there}
+use Rattle.lock_core.specs.ViewParts.{each-set, each-snoc, set-there}
 use Rattle.lock_core.specs.Views.{hand_of, spin_of}
 use Rattle.lock_core.specs.Pasts.{Tail, ChangesOneWord, GoesOn, Instant, instant, view_of, steps_of, fronts_of, marks_of, moment, Moves, Lived, HasSeen, IsMarked, IsOwnStep}
 use Rattle.lock_core.proofs.RowLaws.{none-some, same-some}
@@ -51,7 +51,7 @@ module _ {E : Type 0} (marks : E → List ℕ) (begun : Moment) (holds : List �
 
   pub lived-after : (ws ws' : List ℕ) (vs : List (Seen E)) (id : ℕ) (w : View E) (r : Lived marks begun holds moves ws vs) → Goes holds moves id ws (map view_of vs) ws' (set (map view_of vs) id w) → ChangesOneWord ws ws' → Lived marks begun holds moves ws' (set vs id (grown ws (map view_of vs) ws' r.0 id w))
   lived-after ws ws' vs id w r goes one = let us : List (View E) = map view_of vs in let now : Instant E = instant ws us in let new : Instant E = instant ws' (set us id w) in let g : Seen E = grown ws us ws' r.0 id w in let h : List Moment = map (moment marks) (now ∷ r.0) in
-      subst (λ (z : List (View E)). (h : List (Instant E)) × holds ws' z × Rattle.lock_core.specs.Pasts.Paced (Moves holds moves) (instant ws' z ∷ h) × Tail (begun ∷ []) (map (moment marks) (instant ws' z ∷ h)) × Rattle.lock_core.specs.Parts.Each (HasSeen (map (moment marks) (instant ws' z ∷ h))) (set vs id g)) (sym (map-set view_of vs id g)) (
+      subst (λ (z : List (View E)). (h : List (Instant E)) × holds ws' z × Rattle.lock_core.specs.Pasts.Paced (Moves holds moves) (instant ws' z ∷ h) × Tail (begun ∷ []) (map (moment marks) (instant ws' z ∷ h)) × Rattle.lock_core.specs.ViewParts.Each (HasSeen (map (moment marks) (instant ws' z ∷ h))) (set vs id g)) (sym (map-set view_of vs id g)) (
         now ∷ r.0,
         goes.0,
         ((id, r.1, goes.0, goes.1, one), r.2),
@@ -63,7 +63,7 @@ module _ {E : Type 0} (marks : E → List ℕ) (begun : Moment) (holds : List �
       → Goes holds moves id ws (map view_of vs) ws (set (map view_of vs) id a ++ b ∷ []) → Lived marks begun holds moves ws (set vs id (record v { view = a }) ++ record { view = b; past = v.past; joined = [] } ∷ [])
   lived-split ws vs id v a b at r goes = let us : List (View E) = map view_of vs in let now : Instant E = instant ws us in let new : Instant E = instant ws (set us id a ++ b ∷ []) in let h : List Moment = map (moment marks) (now ∷ r.0) in let x : Seen E = record v { view = a } in let y : Seen E = record { view = b; past = v.past; joined = [] } in
       let is : map view_of (set vs id x ++ y ∷ []) ≡ set us id a ++ b ∷ [] = map-append view_of (set vs id x) (y ∷ []) ∙ ap (λ (z : List (View E)). z ++ b ∷ []) (map-set view_of vs id x) in
-      subst (λ (z : List (View E)). (h : List (Instant E)) × holds ws z × Rattle.lock_core.specs.Pasts.Paced (Moves holds moves) (instant ws z ∷ h) × Tail (begun ∷ []) (map (moment marks) (instant ws z ∷ h)) × Rattle.lock_core.specs.Parts.Each (HasSeen (map (moment marks) (instant ws z ∷ h))) (set vs id x ++ y ∷ [])) (sym is) (
+      subst (λ (z : List (View E)). (h : List (Instant E)) × holds ws z × Rattle.lock_core.specs.Pasts.Paced (Moves holds moves) (instant ws z ∷ h) × Tail (begun ∷ []) (map (moment marks) (instant ws z ∷ h)) × Rattle.lock_core.specs.ViewParts.Each (HasSeen (map (moment marks) (instant ws z ∷ h))) (set vs id x ++ y ∷ [])) (sym is) (
         now ∷ r.0,
         goes.0,
         ((id, r.1, goes.0, goes.1, same-words ws), r.2),
@@ -76,7 +76,7 @@ module _ {E : Type 0} (marks : E → List ℕ) (begun : Moment) (holds : List �
       → Goes holds moves id ws (map view_of vs) ws (set (set (map view_of vs) id a) other b) → Lived marks begun holds moves ws (set (set vs id (record v { view = a; joined = record { moments = w.past } ∷ v.joined })) other (record { view = b; past = []; joined = [] }))
   lived-join ws vs id other v w a b at at' r goes = let us : List (View E) = map view_of vs in let now : Instant E = instant ws us in let new : Instant E = instant ws (set (set us id a) other b) in let h : List Moment = map (moment marks) (now ∷ r.0) in let x : Seen E = record v { view = a; joined = record { moments = w.past } ∷ v.joined } in let y : Seen E = record { view = b; past = []; joined = [] } in
       let is : map view_of (set (set vs id x) other y) ≡ set (set us id a) other b = map-set view_of (set vs id x) other y ∙ ap (λ (z : List (View E)). set z other b) (map-set view_of vs id x) in
-      subst (λ (z : List (View E)). (h : List (Instant E)) × holds ws z × Rattle.lock_core.specs.Pasts.Paced (Moves holds moves) (instant ws z ∷ h) × Tail (begun ∷ []) (map (moment marks) (instant ws z ∷ h)) × Rattle.lock_core.specs.Parts.Each (HasSeen (map (moment marks) (instant ws z ∷ h))) (set (set vs id x) other y)) (sym is) (
+      subst (λ (z : List (View E)). (h : List (Instant E)) × holds ws z × Rattle.lock_core.specs.Pasts.Paced (Moves holds moves) (instant ws z ∷ h) × Tail (begun ∷ []) (map (moment marks) (instant ws z ∷ h)) × Rattle.lock_core.specs.ViewParts.Each (HasSeen (map (moment marks) (instant ws z ∷ h))) (set (set vs id x) other y)) (sym is) (
         now ∷ r.0,
         goes.0,
         ((id, r.1, goes.0, goes.1, same-words ws), r.2),

@@ -22,7 +22,7 @@ use Rattle.atomic_table.specs.Seated.{TableId}
 use Rattle.lock_core.specs.declared.view.Seen.{Seen}
 use Rattle.lock_core.specs.declared.view.Held.{Held}
 use Rattle.lock_core.specs.declared.pass.Face.{Face}
-use Rattle.lock_core.specs.Passes.{Sits, Numbered}
+use Rattle.lock_core.specs.SitePasses.{Sits, Numbered}
 use Rattle.lock_core.specs.Regions.{part-at}
 use Rattle.lock_core.proofs.RowLaws.{none-some, same-some, get-longer, get-there}
 use Rattle.lock_core.proofs.HandLaws.{longer-is}

@@ -13,10 +13,10 @@ use Rattle.lock_core.specs.Plans.{calls_in, task_words, call_words, IsSmall}
 use Rattle.lock_core.specs.Layout.{SiteWords, part, calls_at, width, lay, fresh, site}
 use Rattle.lock_core.specs.Records.{row, task_recs, rec_words, sends, task_sends, intrs, IsPlan, AreNext}
 use Rattle.lock_core.specs.Views.{stranger}
-use Rattle.lock_core.specs.Stated.{IsNew}
+use Rattle.lock_core.specs.SiteStated.{IsNew}
 use Rattle.lock_core.specs.Pasts.{opening}
 use Rattle.lock_core.specs.Sites.{HeardOk, SiteKept, HandOk, taken_at, sent_at, consumed_at}
-use Rattle.lock_core.specs.Parts.{each-snoc}
+use Rattle.lock_core.specs.ViewParts.{each-snoc}
 use Rattle.lock_core.proofs.RowLaws.{none-some, get-front}
 use Rattle.lock_core.proofs.SeatSteps.{stranger-ok}
 use Rattle.word_bits.specs.declared.TheConstants.{MAX_TASKS}

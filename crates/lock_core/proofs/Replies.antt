@@ -13,7 +13,7 @@ use Rattle.word_bits.specs.Objects.{Obj, IsObjectReply}
 use Rattle.word_bits.specs.Histories.{Plan, state_after}
 use Rattle.word_bits.proofs.States.{state_is_state}
 use Rattle.lock_core.specs.declared.view.Hand.{Hand}
-use Rattle.lock_core.specs.Passes.{Accounts}
+use Rattle.lock_core.specs.SitePasses.{Accounts}
 use Rattle.lock_core.specs.Records.{row}
 use Rattle.lock_core.specs.Sites.{HasSent}
 use Rattle.lock_core.specs.Views.{entry_of, settled, OwesNoSignal}

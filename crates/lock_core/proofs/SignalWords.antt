@@ -10,7 +10,7 @@ use Rattle.lock_core.specs.declared.view.Heard.{Heard}
 use Rattle.lock_core.specs.Layout.{SiteWords, lay}
 use Rattle.lock_core.specs.Regions.{part-at}
 use Rattle.lock_core.specs.Views.{sending, hearing, consuming, next_entry}
-use Rattle.lock_core.specs.Passes.{IsSignal, IsTaken}
+use Rattle.lock_core.specs.SitePasses.{IsSignal, IsTaken}
 use Rattle.lock_core.specs.Sites.{SiteKept, SiteStep, sent_at, consumed_at}
 use Rattle.lock_core.proofs.HandLaws.{not-both}
 use Rattle.lock_core.proofs.SeatLaws.{line-stored}

@@ -13,7 +13,7 @@ use Rattle.lock_core.specs.declared.pass.Face.{Face}
 use Rattle.lock_core.specs.Plans.{IsSmall, calls_in}
 use Rattle.lock_core.specs.Records.{row}
 use Rattle.lock_core.specs.Views.{front}
-use Rattle.lock_core.specs.Passes.{Sits}
+use Rattle.lock_core.specs.SitePasses.{Sits}
 
 -- after a step that leaves its hand
 pub sits-on : {E : Type 0} (k : Plan) (table seat seat' : TableId) (me me' : Me (Unit {0}) (Seen E)) (face face' : Face) → seat' ≡ seat → me'.1 ≡ me.1 → me'.0.view.hand ≡ me.0.view.hand → me.0.view.steps ≤ me'.0.view.steps → face' ≡ face → Sits k table seat me face → Sits k table seat' me' face'

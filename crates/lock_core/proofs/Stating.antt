@@ -11,9 +11,9 @@ use Rattle.lock_core.specs.Layout.{SiteWords}
 use Rattle.lock_core.specs.Records.{bit}
 use Rattle.lock_core.specs.Views.{owed_weight, owed_of, writes_of}
 use Rattle.lock_core.specs.Sites.{SiteKept}
-use Rattle.lock_core.specs.Stated.{IsSite}
+use Rattle.lock_core.specs.SiteStated.{IsSite}
 use Rattle.lock_core.specs.Totals.{total}
-use Rattle.lock_core.specs.Parts.{Each}
+use Rattle.lock_core.specs.ViewParts.{Each}
 use Rattle.lock_core.proofs.RowLaws.{same-some, some-inside}
 use Rattle.lock_core.proofs.WordSteps.{some-of, owed-one, others-free}
 

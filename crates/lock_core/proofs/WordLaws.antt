@@ -20,7 +20,7 @@ use Rattle.lock_core.specs.Records.{row}
 use Rattle.lock_core.specs.Views.{wrote, entered, logged, recorded, owed_weight, sent_after, consumed_after, settled}
 use Rattle.lock_core.specs.Sites.{SiteKept, SiteStep}
 use Rattle.lock_core.specs.MoveLaws.{keeps-recs}
-use Rattle.lock_core.specs.Passes.{IsLength, IsEntryAt, MayRecord}
+use Rattle.lock_core.specs.SitePasses.{IsLength, IsEntryAt, MayRecord}
 use Rattle.lock_core.proofs.LayoutLaws.{lay-guarded, lay-len, lay-entries, lay-recs}
 use Rattle.lock_core.specs.Regions.{part-at}
 use Rattle.lock_core.proofs.RowLaws.{none-some, same-some, some-inside, start-below, rec_words-at, task_recs-none}
@@ -86,7 +86,7 @@ module _ {Call : Type 0} (o : Obj Call) (unavailable : Unavailable) (size : ℕ)
             (subst (λ (c : ℕ). Kept (record (lay k s) { recs = set (lay k s).recs (start k e.task + c) (rec_word x) }) (set hs id (recorded (settled h x.reply) step (record { task = e.task; call = c }) x seen))) is
             (site-records o unavailable size k (lay k s) hs id e.task step h words x seen (sent_after h.sent x.reply) (consumed_after h.consumed x.reply) r at may.task (ap (slice_get (row k e.task)) is ∙ may.planned) settles.2 may.fits
             (subst (λ (c : ℕ). Rattle.word_bits.specs.Legal.IsRecord o unavailable k r.log x.k (record { task = e.task; call = c }) words x) (sym is) means.0) means.1 settles.0 settles.1 (means.2, means.3) may.enough
-            (subst (λ (c : ℕ). Rattle.lock_core.specs.Passes.Settles o h r.log (record { task = e.task; call = c }) words x) (sym is) means.4))),
+            (subst (λ (c : ℕ). Rattle.lock_core.specs.SitePasses.Settles o h r.log (record { task = e.task; call = c }) words x) (sym is) means.4))),
         subst (λ (w : SiteWords). SiteStep step (lay k s) w h (recorded (settled h x.reply) step e x seen)) f record {
           grows = (omega arith, refl);
           records = inr record {

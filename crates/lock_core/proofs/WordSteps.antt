@@ -28,7 +28,7 @@ use Rattle.lock_core.specs.Records.{row, sends, intrs, seen_by, AreNext, IsLogge
 use Rattle.lock_core.specs.Views.{wrote, entered, logged, recorded, is_number, consumed_weight, held_weight, alone_weight, owed_weight, held_of, alone_of, writes_of, owed_of, named_of, sent_of, consumed_of}
 use Rattle.lock_core.specs.Sites.{HeardOk, HandOk, SiteKept, Balances}
 use Rattle.lock_core.specs.Totals.{total, total-set, total-same, total-at, total-two}
-use Rattle.lock_core.specs.Parts.{Each, each-set}
+use Rattle.lock_core.specs.ViewParts.{Each, each-set}
 use Rattle.lock_core.proofs.RowLaws.{none-some, same-some, some-inside, get-longer, get-last, get-either, row-appended, row-beside, length-appended, calls_in-appended, rec_words-appended}
 use Rattle.lock_core.proofs.HandLaws.{no-alone, rest-logged, rest-entered, alone-is-held, held-none, not-both, is_number-here, tally-same, one-stays, sum-stays}
 use Rattle.lock_core.proofs.RecordLaws.{grows-next, next-snoc, seen_by-snoc, state-snoc, intrs-snoc}

@@ -10,10 +10,10 @@ use Rattle.lock_core.specs.declared.view.Held.{Held}
 use Rattle.lock_core.specs.declared.view.Held.TheVariants.{No, Shared, Alone}
 use Rattle.lock_core.specs.declared.view.Moment.{Moment}
 use Rattle.lock_core.specs.Layout.{site}
-use Rattle.lock_core.specs.Parts.{Each}
+use Rattle.lock_core.specs.ViewParts.{Each}
 use Rattle.lock_core.specs.Pasts.{ChangesOneWord}
 use Rattle.lock_core.specs.Sites.{SawGoes, SiteStep}
-use Rattle.lock_core.specs.Stated.{IsSiteThen}
+use Rattle.lock_core.specs.SiteStated.{IsSiteThen}
 use Rattle.lock_core.specs.Totals.{total}
 use Rattle.lock_core.specs.Views.{SpinRests, alone_of, stranger, no_spin}
 use Rattle.lock_core.specs.Spins.{holds_in}

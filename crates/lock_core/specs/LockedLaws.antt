@@ -9,11 +9,11 @@ use Rattle.lock_core.specs.declared.view.Moment.{Moment}
 use Rattle.lock_core.specs.declared.view.View.{View}
 use Rattle.lock_core.specs.declared.view.Hand.{Hand}
 use Rattle.lock_core.specs.declared.view.Held.TheVariants.{No, Shared, Alone}
-use Rattle.lock_core.specs.Parts.{at_unmap}
+use Rattle.lock_core.specs.ViewParts.{at_unmap}
 use Rattle.lock_core.specs.Moves.{IsTakenIn}
 use Rattle.lock_core.specs.Views.{hand_of, spin_of, spent, split_off, held_weight}
 use Rattle.lock_core.specs.Pasts.{Instant, fronts_of, marks_of, moment, steps_of, Paced, Ran}
-use Rattle.lock_core.specs.Stated.{IsSiteMove}
+use Rattle.lock_core.specs.SiteStated.{IsSiteMove}
 use Rattle.lock_core.specs.Kinds.{Kind, mutex, semaphore, shares}
 use Rattle.lock_core.specs.Locked.{IsBorn, IsGone, IsSiteStep, SamePass}
 

@@ -14,7 +14,7 @@ use Rattle.lock_core.specs.declared.op.Op.{Op}
 use Rattle.lock_core.specs.declared.op.Op.TheVariants.{Load, Store, Swap, Add, Sub, Or, And, Exchange}
 use Rattle.lock_core.specs.Layout.{fresh}
 use Rattle.lock_core.specs.Views.{hand_of, spin_of, first}
-use Rattle.lock_core.specs.Parts.{Each}
+use Rattle.lock_core.specs.ViewParts.{Each}
 
 abbrev pub Tail : {A : Type 0} → List A → List A → Type 0
 Tail p h = (n : ℕ) × (drop n h ≡ p)

@@ -23,7 +23,7 @@ use Rattle.lock_core.specs.Layout.{SiteWords, site_width}
 use Rattle.lock_core.specs.Records.{row, rec_words, sends, intrs, IsPlan, IsLoggedAt, seen_by, AreNext}
 use Rattle.lock_core.specs.Views.{held_of, alone_of, writes_of, owed_of, named_of, sent_of, consumed_of, OwesNoSignal}
 use Rattle.lock_core.specs.Totals.{total}
-use Rattle.lock_core.specs.Parts.{Each}
+use Rattle.lock_core.specs.ViewParts.{Each}
 
 -- the weights of all hands, added up
 pub record Tally : Type 0 where

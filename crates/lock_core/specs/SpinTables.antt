@@ -18,7 +18,7 @@ use Rattle.lock_core.specs.Spins.{SpinsKept, SpinGoes, SpinsMove, IsFew, spun}
 use Rattle.lock_core.specs.SpinLaws.{spins-rename, spins-come, spins-end, spins-open, rests-everywhere}
 use Rattle.lock_core.specs.Moves.{Goes, KeepsHold, SiteMove}
 use Rattle.lock_core.specs.MoveLaws.{set-moves, spin-moved}
-use Rattle.lock_core.specs.Parts.{keep_part, set_part, snoc_part}
+use Rattle.lock_core.specs.ViewParts.{keep_part, set_part, snoc_part}
 use Rattle.lock_core.specs.Regions.{wide-part, part-in, part-below, part-at}
 
 abbrev V : Type 0

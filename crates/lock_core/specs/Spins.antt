@@ -13,7 +13,7 @@ use Rattle.lock_core.specs.Views.{SpinPart, SpinStays, no_spin}
 use Rattle.lock_core.specs.LockHands.{lock_hand_at, frame_at, point_at, depth_of, RestsAt, RestsEverywhere}
 use Rattle.lock_core.specs.SpinFrames.{uses, stands, holds_of}
 use Rattle.lock_core.specs.SpinQueues.{LockKept, tail_unit}
-use Rattle.lock_core.specs.Parts.{Each}
+use Rattle.lock_core.specs.ViewParts.{Each}
 
 -- the parts of the spin word: the locked byte, the pending bit, and the code of the tail
 abbrev pub byte_in : ℕ → ℕ

@@ -5,7 +5,7 @@ ghost use Rattle.lock_core.specs.Stores.{memory_width, lock_room, left_out as le
 ghost use Rattle.lock_core.specs.Records.{IsPlan};
 ghost use Rattle.lock_core.specs.Views.{first, ticked, split_off, merged, HoldsNothing};
 ghost use Rattle.lock_core.specs.Pasts.{opening};
-ghost use Rattle.lock_core.specs.Stated.{IsNew};
+ghost use Rattle.lock_core.specs.SiteStated.{IsNew};
 
 use crate::layout::LOCK_WORDS;
 use crate::pass::{Face, Nesting, Pass};
@@ -47,7 +47,7 @@ pub struct Site<R: SiteRule> {
 }
 
 impl<R: SiteRule> Site<R> {
-    ghost use Rattle.lock_core.specs.Handles.{plan_of, view_of, past_of, joined_by, task_in, front_in, SitsAt, KeepsPast, KeepsNest, IsNestTold};
+    ghost use Rattle.lock_core.specs.SiteHandles.{plan_of, view_of, past_of, joined_by, task_in, front_in, SitsAt, KeepsPast, KeepsNest, IsNestTold};
 
     /// A new site: all lock words are 0, the state is empty, no call is logged or recorded. The
     /// pass has no task number.

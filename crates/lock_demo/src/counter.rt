@@ -1,6 +1,6 @@
 //! Mutual exclusion: a counter that is raised by a load and a store.
 ghost use Rattle.std.specs.Prelude.{◌<◌, length};
-ghost use Rattle.mutex_slow.specs.Handles.{IsIdle, plan_of};
+ghost use Rattle.mutex_slow.specs.MutexHandles.{IsIdle, plan_of};
 
 use crate::{ROUNDS, TURNS};
 use cpu_task::{Crew, ParkCpu, ParkCrew};

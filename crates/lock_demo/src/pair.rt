@@ -1,6 +1,6 @@
 //! Readers beside each other, and a writer alone: two numbers that are only written together.
 ghost use Rattle.std.specs.Prelude.{◌≡◌, ◌<◌, None, length};
-ghost use Rattle.rwsem_slow.specs.Handles.{hand_in, plan_of, SitsAt};
+ghost use Rattle.rwsem_slow.specs.RwSemHandles.{hand_in, plan_of, SitsAt};
 
 use crate::{ROUNDS, TURNS};
 use cpu_task::{Crew, ParkCpu, ParkCrew};

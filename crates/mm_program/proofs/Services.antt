@@ -4,9 +4,9 @@ use Rattle.guarded.specs.LockMembers.{LockMembers}
 use Rattle.task_script.specs.Scripts.{Listing}
 use Rattle.mm_serve.specs.Machines.{AreSitesOf, GoBackToTasks, HasLegalResults, HasRun, IsAtRest, IsMachineOf, KnowsPasts}
 use Rattle.mm_serve.proofs.Copies.{all-held}
-use Rattle.mm_serve.specs.Sites.{holds_space}
+use Rattle.mm_serve.specs.MachineSites.{holds_space}
 use Rattle.mm_serve.specs.UnderLocks.{HasLookedBackUnder, IsIdleUnder, KnowsPastUnder, LockedObject, calls_under, hand_under, past_under, spun_under}
-use Rattle.mm_program.specs.Kept.{HasServed, LockedMachine}
+use Rattle.mm_program.specs.ProgramKept.{HasServed, LockedMachine}
 
 module _ {A S R X P E C T F G Y Q H D B U : Type 0} (spaces : LockMembers A P) (tables : LockMembers T Q) where
   -- also where its results were lent since, and came back as they were

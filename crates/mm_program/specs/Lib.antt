@@ -1,5 +1,5 @@
 pub mod Requests
-pub mod Kept
+pub mod ProgramKept
 pub mod Answers
 pub mod Inputs
 pub mod CommandLine

@@ -9,7 +9,7 @@ ghost use Rattle.mm_program.specs.Requests.{request, request_of};
 ghost use Rattle.mm_program.specs.Answers.{AnswersTo, CompletesTo, NoService, SaysTo, TakesAtMost};
 ghost use Rattle.mm_program.specs.Answers.{read_faults, write_faults};
 ghost use Rattle.guarded.specs.LockMembers.{members};
-ghost use Rattle.mm_program.specs.Kept.{HasServed};
+ghost use Rattle.mm_program.specs.ProgramKept.{HasServed};
 
 use crate::input::{InputError, read_all};
 use crate::objects::ScriptMachine;

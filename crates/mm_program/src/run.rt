@@ -8,7 +8,7 @@ ghost use Rattle.mm_program.specs.Answers.{TakesAtMost, status_number};
 ghost use Rattle.mm_program.specs.Answers.{read_faults, write_faults};
 ghost use Rattle.mm_program.specs.CommandLine.{asks_help, line_asks_help, said_by, said_by_line};
 ghost use Rattle.guarded.specs.LockMembers.{members};
-ghost use Rattle.mm_program.specs.Kept.{HasServed};
+ghost use Rattle.mm_program.specs.ProgramKept.{HasServed};
 ghost use Rattle.mm_program.specs.Requests.{reads_input, request};
 
 use crate::objects::ScriptMachine;

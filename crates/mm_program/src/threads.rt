@@ -2,7 +2,7 @@
 ghost use Rattle.std.specs.Prelude.{◌≡◌, None};
 ghost use Rattle.mm_program.specs.Answers.{SaysTo, write_faults};
 ghost use Rattle.guarded.specs.LockMembers.{members};
-ghost use Rattle.mm_program.specs.Kept.{HasServed};
+ghost use Rattle.mm_program.specs.ProgramKept.{HasServed};
 ghost use Rattle.mm_program.specs.Requests.{accepted};
 
 use crate::objects::ScriptMachine;

@@ -1,10 +1,10 @@
 pub mod Results
 pub mod Text
-pub mod Lending
+pub mod ResultsLending
 pub mod Merged
 pub mod Cursors
 pub mod Telling
-pub mod Writing
+pub mod ReportWriting
 pub mod Summary
 pub mod Reports
 pub mod Orders

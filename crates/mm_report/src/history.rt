@@ -10,8 +10,8 @@ ghost use Rattle.task_script.specs.Causes.{CountsFailure, Adds};
 ghost use Rattle.mm_report.specs.Results.{calls_on};
 ghost use Rattle.mm_report.specs.Text.{event_line};
 ghost use Rattle.mm_report.specs.Merged.{position as where_it_stands};
-ghost use Rattle.mm_report.specs.Writing.{WritesCalls, WritesTask, WritesTasks, WritesHistory};
-ghost use Rattle.mm_report.specs.Writing.{PassesCalls, PassesTask, PassesTasks};
+ghost use Rattle.mm_report.specs.ReportWriting.{WritesCalls, WritesTask, WritesTasks, WritesHistory};
+ghost use Rattle.mm_report.specs.ReportWriting.{PassesCalls, PassesTask, PassesTasks};
 
 use crate::cursor::{Cursor, first_cursors, next_bound};
 use crate::line::add_event;

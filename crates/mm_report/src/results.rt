@@ -5,7 +5,7 @@ ghost use Rattle.task_script.specs.Scripts.{is_on};
 ghost use Rattle.task_script.specs.declared.script.Line.{Line};
 ghost use Rattle.mm_report.specs.Results.{AddsCalls, empty_results, calls_on, words_of_kind};
 ghost use Rattle.std.specs.Borrow.{sem};
-ghost use Rattle.mm_report.specs.Lending.{LendsSnapshot};
+ghost use Rattle.mm_report.specs.ResultsLending.{LendsSnapshot};
 
 use fd_table::Fds;
 use std::alloc::{AllocError, Global};

@@ -10,7 +10,7 @@ ghost use Rattle.task_script.specs.Causes.{CountsFailure};
 ghost use Rattle.mm_report.specs.Results.{Told, IsLegalOn};
 ghost use Rattle.mm_report.specs.Reports.{object_report};
 ghost use Rattle.mm_report.specs.Summary.{counts_of, is_refused};
-ghost use Rattle.mm_report.specs.Writing.{WritesObject};
+ghost use Rattle.mm_report.specs.ReportWriting.{WritesObject};
 
 use crate::line::add_summary;
 use fd_table::Fds;

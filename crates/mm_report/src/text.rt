@@ -4,7 +4,7 @@ ghost use Rattle.task_script.specs.Causes.{CountsFailure};
 ghost use Rattle.mm_report.specs.Results.{AreComplete, calls_on};
 ghost use Rattle.mm_report.specs.Reports.{object_report};
 ghost use Rattle.mm_report.specs.Text.{told_text};
-ghost use Rattle.mm_report.specs.Writing.{PutsReport, WritesObject, WritesReport};
+ghost use Rattle.mm_report.specs.ReportWriting.{PutsReport, WritesObject, WritesReport};
 
 use crate::history::write_history;
 use crate::results::Results;

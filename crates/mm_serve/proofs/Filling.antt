@@ -14,7 +14,7 @@ use Rattle.lock_core.proofs.RowLaws.{none-some, same-some, row-appended, row-bes
 use Rattle.task_script.specs.declared.script.Line.{Line}
 use Rattle.task_script.specs.Scripts.{Listing, call_words, is_on, plan_of}
 use Rattle.mm_serve.specs.Machines.{staffed}
-use Rattle.mm_serve.specs.Opening.{AddsLines, HaveRoom, HaveTask, with_line}
+use Rattle.mm_serve.specs.ObjectsOpening.{AddsLines, HaveRoom, HaveTask, with_line}
 use Rattle.mm_serve.proofs.Turns.{is-on, is-off}
 
 -- the calls of the lines that are on the object

@@ -11,8 +11,8 @@ use native.Mathlib.Decide.{ℕ_discrete}
 use Rattle.lock_core.proofs.RowLaws.{get-there, none-some, same-some}
 use Rattle.mm_serve.specs.declared.worker.Worker.{Worker}
 use Rattle.mm_serve.specs.Workers.{EachOf, KnowsMore, HaveGathered, HaveDoneTheirTasks, KnowsFrom, AreNumbered, KnowsAllDone, TakesUp}
-use Rattle.mm_serve.specs.Histories.{HasDoneOn}
-use Rattle.mm_serve.specs.Queues.{GoesBackToTask, GoesBackToTasks}
+use Rattle.mm_serve.specs.MachineHistories.{HasDoneOn}
+use Rattle.mm_serve.specs.MachineQueues.{GoesBackToTask, GoesBackToTasks}
 use Rattle.mm_serve.proofs.Each.{each-set, each-at, each-map}
 
 last_of : {X : Type 0} (others new : List X) (x : X) → new ++ x ∷ [] ≡ take (suc (length new)) others → (new ≡ take (length new) others) × (x ≡ get_or others (length new) x) × (length new < length others)

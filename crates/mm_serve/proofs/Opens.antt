@@ -12,12 +12,12 @@ use Rattle.mm_report.specs.Results.{calls_on, empty_from, empty_results, words_o
 use Rattle.task_script.specs.declared.script.Line.{Line}
 use Rattle.task_script.specs.Scripts.{Declared, Listing, is_on, kinds_of, plan_of}
 use Rattle.mm_serve.specs.declared.worker.Worker.{Worker}
-use Rattle.mm_serve.specs.Copying.{AreBlank}
+use Rattle.mm_serve.specs.MachineCopying.{AreBlank}
 use Rattle.std.proofs.Math.Seq.{get_or-append_seam}
 use Rattle.task_script.specs.Sound.{IsSound}
-use Rattle.mm_serve.specs.Histories.{IsPlanOn}
+use Rattle.mm_serve.specs.MachineHistories.{IsPlanOn}
 use Rattle.mm_serve.specs.Machines.{AreSitesOf, staffed}
-use Rattle.mm_serve.specs.Opening.{ArePlansOf}
+use Rattle.mm_serve.specs.ObjectsOpening.{ArePlansOf}
 use Rattle.mm_serve.specs.Workers.{EachOf, AreNumbered, calls_to}
 use Rattle.mm_serve.proofs.Filling.{calls_of, staffed-row}
 use Rattle.mm_serve.proofs.Planned.{planned_on}

@@ -7,14 +7,14 @@ use Rattle.word_bits.specs.Histories.{Plan}
 use Rattle.lock_core.specs.declared.view.Hand.{Hand}
 use Rattle.lock_core.specs.Records.{row}
 use Rattle.lock_core.specs.Views.{gave_up}
-use Rattle.lock_core.specs.Passes.{Numbered}
+use Rattle.lock_core.specs.SitePasses.{Numbered}
 use Rattle.lock_core.specs.Shown.{Shown}
 use Rattle.lock_core.specs.Kinds.{Kind, unavailable}
 use Rattle.guarded.specs.Performing.{Performs}
-use Rattle.guarded.specs.Copying.{IsKnownHistory}
+use Rattle.guarded.specs.ObjectCopying.{IsKnownHistory}
 use Rattle.guarded.specs.Gathering.{HasDone, HasDoneAll, HasDoneSoFar, IsGathered, DoesOneMore, KeepsDone}
 use Rattle.guarded.proofs.Chained.{none-done}
-use Rattle.mm_serve.specs.Serving.{AllTasksDone, IsIdle, IsQuiet, IsServing}
+use Rattle.mm_serve.specs.TaskServing.{AllTasksDone, IsIdle, IsQuiet, IsServing}
 
 -- a pass that has another's hand but for the fields that say nothing of what it owes
 still-quiet : (h g : Hand) → g.held ≡ h.held → g.sent ≡ h.sent → g.consumed ≡ h.consumed → IsQuiet h → IsQuiet g

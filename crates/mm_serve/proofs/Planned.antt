@@ -11,11 +11,11 @@ use Rattle.word_bits.specs.Histories.{Plan}
 use Rattle.vma_map.specs.declared.call.SpaceCall.{SpaceCall}
 use Rattle.vma_map.specs.declared.call.SpaceCall.TheVariants.{Map, MapAny, MapNew, Unmap, Protect, Populate, Fault, Remap}
 use Rattle.vma_map.specs.Spaces.{space, IsCall as IsSpaceCall, IsCallOf as IsSpaceCallOf, words_of_call as space_words_of}
-use Rattle.vma_map.specs.CallLaws.{call_of-complete as space_call_of}
+use Rattle.vma_map.specs.SpaceCallLaws.{call_of-complete as space_call_of}
 use Rattle.fd_table.specs.declared.call.TableCall.{TableCall}
 use Rattle.fd_table.specs.declared.call.TableCall.TheVariants.{Open, Close, Dup, Dup2, Get}
 use Rattle.fd_table.specs.Tables.{table, IsCall as IsTableCall, IsCallOf as IsTableCallOf, words_of_call as table_words_of}
-use Rattle.fd_table.specs.CallLaws.{call_of-complete as table_call_of}
+use Rattle.fd_table.specs.TableCallLaws.{call_of-complete as table_call_of}
 use Rattle.lock_core.specs.Records.{row, IsCallOrSignal}
 use Rattle.lock_core.proofs.RowLaws.{none-some, same-some}
 use Rattle.task_script.specs.declared.script.Line.{Line}
@@ -25,7 +25,7 @@ use Rattle.task_script.specs.Scripts.{Declared, Listing, call_words, is_on, plan
 use Rattle.task_script.specs.Sound.{IsCall, IsLine, IsSound, only}
 use Rattle.task_script.specs.Verbs.{arguments_of, kind_of}
 use Rattle.task_script.specs.Versions.{most_tasks}
-use Rattle.mm_serve.specs.Histories.{IsPlanOn}
+use Rattle.mm_serve.specs.MachineHistories.{IsPlanOn}
 use Rattle.mm_serve.specs.Machines.{staffed}
 
 -- words without a third number have 0 there

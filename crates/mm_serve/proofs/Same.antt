@@ -6,7 +6,7 @@ use Rattle.word_bits.specs.Histories.{Plan}
 use Rattle.lock_core.specs.declared.view.Hand.{Hand}
 use Rattle.lock_core.specs.Kinds.{Kind, unavailable}
 use Rattle.lock_core.specs.Views.{Knows, gathered}
-use Rattle.guarded.specs.Copying.{IsKnownHistory}
+use Rattle.guarded.specs.ObjectCopying.{IsKnownHistory}
 use Rattle.guarded.specs.Gathering.{HasDoneAll}
 use Rattle.guarded.proofs.Joining.{knows-left, knows-right}
 use Rattle.mm_serve.specs.Workers.{KnowsMore}

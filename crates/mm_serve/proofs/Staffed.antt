@@ -16,14 +16,14 @@ use Rattle.word_bits.specs.Histories.{Plan, Records, at_entry, event_logs, event
 use Rattle.word_bits.specs.Legal.{AreTaskRecords, AreRecords, Tells, seen_after}
 use Rattle.vma_map.specs.Spaces.{space}
 use Rattle.fd_table.specs.Tables.{table}
-use Rattle.guarded.specs.Copying.{AreKnown, IsKnownHistory}
+use Rattle.guarded.specs.ObjectCopying.{AreKnown, IsKnownHistory}
 use Rattle.lock_core.specs.declared.view.Hand.{Hand}
 use Rattle.lock_core.specs.Plans.{calls_in}
 use Rattle.lock_core.proofs.RowLaws.{none-some}
 use Rattle.task_script.specs.declared.script.Line.{Line}
 use Rattle.task_script.specs.Scripts.{Listing, call_words, is_on, plan_of}
 use Rattle.mm_report.specs.Results.{Told, IsLegalOn, calls_on}
-use Rattle.mm_serve.specs.Histories.{IsKnownHistoryOn}
+use Rattle.mm_serve.specs.MachineHistories.{IsKnownHistoryOn}
 use Rattle.mm_serve.specs.Machines.{staffed}
 
 -- a history of an object that the words tell, of which the pass knows each record

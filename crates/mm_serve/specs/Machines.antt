@@ -2,15 +2,15 @@
 use Rattle.std.specs.Prelude.{◌≡◌, ◌≢◌, ℕ, ◌<◌, Bool, List, [], ◌∷◌, All, length, slice_get, slice_index_or, Some}
 use Rattle.word_bits.specs.Histories.{Plan}
 use Rattle.word_bits.specs.Snapshots.{Words}
-use Rattle.guarded.specs.Copying.{AreKnown}
+use Rattle.guarded.specs.ObjectCopying.{AreKnown}
 use Rattle.lock_core.specs.declared.view.Hand.{Hand}
 use Rattle.lock_core.specs.declared.view.Moment.{Moment}
 use Rattle.lock_core.specs.Pasts.{GoesOn}
 use Rattle.mm_report.specs.Results.{Told, AreLegal, AreComplete}
 use Rattle.task_script.specs.Scripts.{Declared, Listing, plan_of}
 use Rattle.mm_serve.specs.declared.machine.Machine.{Machine}
-use Rattle.mm_serve.specs.Copying.{AreBlank, IsCopied, KnowPasts, WasHeldWith}
-use Rattle.mm_serve.specs.Queues.{GoesBackToTasks}
+use Rattle.mm_serve.specs.MachineCopying.{AreBlank, IsCopied, KnowPasts, WasHeldWith}
+use Rattle.mm_serve.specs.MachineQueues.{GoesBackToTasks}
 use Rattle.mm_serve.specs.Workers.{EachOf, IsReady, AreNumbered}
 
 -- one task at least, as which the histories are copied

@@ -7,16 +7,16 @@ use Rattle.vma_map.specs.Spaces.{space}
 use Rattle.fd_table.specs.Tables.{table}
 use Rattle.guarded.specs.declared.guarded.Guarded.{Guarded}
 use Rattle.guarded.specs.LockMembers.{LockMembers}
-use Rattle.guarded.specs.Handles.{lock_of}
+use Rattle.guarded.specs.GuardedHandles.{lock_of}
 use Rattle.guarded.specs.MutexLocks.{KnowsMutex}
 use Rattle.guarded.specs.RwSemLocks.{KnowsRwSem}
-use Rattle.guarded.specs.SpinQueues.{KnowsSpinQueue}
+use Rattle.guarded.specs.LockSpinQueues.{KnowsSpinQueue}
 use Rattle.mm_serve.specs.declared.space_or_table.SpaceOrTable.{SpaceOrTable}
 use Rattle.mm_serve.specs.declared.space_or_table.SpaceOrTablePass.{SpaceOrTablePass}
-use Rattle.mm_serve.specs.Pasts.{KnowsPast}
-use Rattle.mm_serve.specs.Queues.{HasLookedBack}
-use Rattle.mm_serve.specs.Serving.{IsIdle}
-use Rattle.mm_serve.specs.Sites.{Matches, calls_of, hand_of, past_of, spun_of}
+use Rattle.mm_serve.specs.MachinePasts.{KnowsPast}
+use Rattle.mm_serve.specs.MachineQueues.{HasLookedBack}
+use Rattle.mm_serve.specs.TaskServing.{IsIdle}
+use Rattle.mm_serve.specs.MachineSites.{Matches, calls_of, hand_of, past_of, spun_of}
 
 -- a space or a table, each under its lock
 abbrev pub LockedObject : (A S R X P E C T F G Y Q H D : Type 0) → Type 0

@@ -9,8 +9,8 @@ use Rattle.lock_core.specs.Pasts.{GoesOn}
 use Rattle.lock_core.specs.Records.{row}
 use Rattle.lock_core.specs.Views.{Knows}
 use Rattle.mm_serve.specs.declared.worker.Worker.{Worker}
-use Rattle.mm_serve.specs.Histories.{HasDoneOn, AllHaveDone}
-use Rattle.mm_serve.specs.Queues.{GoesBackToTask}
+use Rattle.mm_serve.specs.MachineHistories.{HasDoneOn, AllHaveDone}
+use Rattle.mm_serve.specs.MachineQueues.{GoesBackToTask}
 
 -- there is a pass of each object, and this is so of each object's number, the object and its pass
 abbrev pub EachOf : {S P : Type 0} → (ℕ → S → P → Type 0) → List S → List P → Type 0

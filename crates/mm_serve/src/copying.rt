@@ -1,7 +1,7 @@
 //! The copies of all objects' histories.
 ghost use Rattle.std.specs.Prelude.{◌≡◌, ◌≢◌, ℕ, ◌<◌, length, slice_get, slice_index_or, Some};
 ghost use Rattle.lock_core.specs.Pasts.{GoesOn};
-ghost use Rattle.mm_serve.specs.Copying.{IsCopied, IsToCopy, KnowPasts};
+ghost use Rattle.mm_serve.specs.MachineCopying.{IsCopied, IsToCopy, KnowPasts};
 ghost use Rattle.mm_serve.specs.Workers.{EachOf};
 
 use crate::shared_object::SharedObject;

@@ -8,7 +8,7 @@ ghost use Rattle.lock_core.specs.Kinds.{mutex, semaphore};
 ghost use Rattle.lock_core.specs.Shown.{Shown};
 ghost use Rattle.guarded.specs.MutexLocks.{KnowsMutex};
 ghost use Rattle.guarded.specs.RwSemLocks.{KnowsRwSem};
-ghost use Rattle.guarded.specs.SpinQueues.{KnowsSpinQueue};
+ghost use Rattle.guarded.specs.LockSpinQueues.{KnowsSpinQueue};
 
 use fd_table::Fds;
 use guarded::{Mutex, RwSem, SleepLock};

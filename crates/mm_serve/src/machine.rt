@@ -32,7 +32,7 @@ pub struct Machine<S: SharedObject, C: Crew> {
 
 impl<S: SharedObject, C: Crew> Machine<S, C> {
     ghost use Rattle.std.specs.Borrow.{sem};
-    ghost use Rattle.mm_serve.specs.Lending.{LendsResults};
+    ghost use Rattle.mm_serve.specs.MachineLending.{LendsResults};
     ghost use Rattle.mm_serve.specs.Machines.{HasRecalled, IsAtRest, results_of, sites_of};
 
     /// Looks at an object's table, after which the object's gathered pass knows its past: what was

@@ -5,12 +5,12 @@ ghost use Rattle.lock_core.specs.Kinds.{unavailable};
 ghost use Rattle.lock_core.specs.Pasts.{GoesOn};
 ghost use Rattle.lock_core.specs.Plans.{calls_in};
 ghost use Rattle.lock_core.specs.Records.{row};
-ghost use Rattle.guarded.specs.Copying.{IsKnownHistory};
+ghost use Rattle.guarded.specs.ObjectCopying.{IsKnownHistory};
 ghost use Rattle.guarded.specs.Gathering.{HasDoneAll};
-ghost use Rattle.guarded.specs.Handles.{lock_of};
-ghost use Rattle.mm_serve.specs.Copying.{WasHeldWith};
-ghost use Rattle.mm_serve.specs.Queues.{GoesBackToTask, HasLookedBack};
-ghost use Rattle.mm_serve.specs.Serving.{AllTasksDone, IsIdle, IsServing};
+ghost use Rattle.guarded.specs.GuardedHandles.{lock_of};
+ghost use Rattle.mm_serve.specs.MachineCopying.{WasHeldWith};
+ghost use Rattle.mm_serve.specs.MachineQueues.{GoesBackToTask, HasLookedBack};
+ghost use Rattle.mm_serve.specs.TaskServing.{AllTasksDone, IsIdle, IsServing};
 
 use cpu_task::{Crew, Gate};
 use guarded::{Guarded, Served, SleepLock};

@@ -2,7 +2,7 @@
 ghost use Rattle.std.specs.Prelude.{◌≡◌, ◌<◌, [], All, IfOk, OnOk, length};
 ghost use Rattle.std.specs.Prelude.{map, max, slice_index_or};
 ghost use Rattle.mm_serve.specs.Machines.{AreSitesOf};
-ghost use Rattle.mm_serve.specs.Opening.{ArePlansOf};
+ghost use Rattle.mm_serve.specs.ObjectsOpening.{ArePlansOf};
 ghost use Rattle.mm_serve.specs.Workers.{AreNumbered, HaveSeenNothing, IsReady};
 
 use crate::shared_object::SharedObject;

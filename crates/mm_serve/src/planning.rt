@@ -1,6 +1,6 @@
 //! The plans of a script's objects.
 ghost use Rattle.std.specs.Prelude.{◌≡◌, ◌<◌, ◌≤◌, [], All, OnOk, IfOk, length, max, replicate};
-ghost use Rattle.mm_serve.specs.Opening.{AddsLines, ArePlansOf, HaveRoom, HaveTask};
+ghost use Rattle.mm_serve.specs.ObjectsOpening.{AddsLines, ArePlansOf, HaveRoom, HaveTask};
 
 use lock_core::Plan;
 use std::alloc::{AllocError, Global};

@@ -1,7 +1,7 @@
 //! All tasks at once, and what is known then.
 ghost use Rattle.std.specs.Prelude.{◌≡◌, ℕ, ◌<◌, All, length, slice_get, Some};
-ghost use Rattle.mm_serve.specs.Copying.{AreBlank, IsCopied, KnowPasts};
-ghost use Rattle.mm_serve.specs.Queues.{GoesBackToTasks};
+ghost use Rattle.mm_serve.specs.MachineCopying.{AreBlank, IsCopied, KnowPasts};
+ghost use Rattle.mm_serve.specs.MachineQueues.{GoesBackToTasks};
 ghost use Rattle.mm_serve.specs.Workers.{AreNumbered, EachOf, IsReady, KnowsAllDone};
 
 use crate::copying::{recall_all, snapshot_all};

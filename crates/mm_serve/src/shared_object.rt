@@ -5,9 +5,9 @@ ghost use Rattle.lock_core.specs.declared.view.Hand.{Hand};
 ghost use Rattle.lock_core.specs.declared.view.Moment.{Moment};
 ghost use Rattle.lock_core.specs.Pasts.{GoesOn};
 ghost use Rattle.lock_core.specs.Records.{row};
-ghost use Rattle.mm_serve.specs.Copying.{WasHeldWith, blank};
-ghost use Rattle.mm_serve.specs.Histories.{HasDoneOn, AllHaveDone, IsKnownHistoryOn, IsPlanOn};
-ghost use Rattle.mm_serve.specs.Queues.{GoesBackToTask};
+ghost use Rattle.mm_serve.specs.MachineCopying.{WasHeldWith, blank};
+ghost use Rattle.mm_serve.specs.MachineHistories.{HasDoneOn, AllHaveDone, IsKnownHistoryOn, IsPlanOn};
+ghost use Rattle.mm_serve.specs.MachineQueues.{GoesBackToTask};
 ghost use Rattle.mm_serve.specs.Workers.{KnowsMore};
 
 use cpu_task::{Crew, Gate};

@@ -31,10 +31,10 @@ impl<A: SpaceLock, T: TableLock> SharedObject for SpaceOrTable<Guarded<A, Areas>
     ghost use Rattle.lock_core.specs.Kinds.{unavailable};
     ghost use Rattle.vma_map.specs.Spaces.{space};
     ghost use Rattle.fd_table.specs.Tables.{table};
-    ghost use Rattle.guarded.specs.Handles.{lock_of};
+    ghost use Rattle.guarded.specs.GuardedHandles.{lock_of};
     ghost use Rattle.guarded.specs.LockMembers.{members};
-    ghost use Rattle.mm_serve.specs.Serving.{IsServing};
-    ghost use Rattle.mm_serve.specs.Sites.{Matches, holds_space};
+    ghost use Rattle.mm_serve.specs.TaskServing.{IsServing};
+    ghost use Rattle.mm_serve.specs.MachineSites.{Matches, holds_space};
     ghost use Rattle.mm_serve.specs.UnderLocks.{HasLookedBackUnder, IsIdleUnder, KnowsPastUnder};
     ghost use Rattle.mm_serve.specs.UnderLocks.{calls_under, hand_under, past_under, spun_under};
 

@@ -1,8 +1,8 @@
 //! Tasks at work, each with a CPU and a pass of each object of its own.
 ghost use Rattle.std.specs.Prelude.{◌≡◌, ℕ, ◌<◌, [], All, length, slice_get, Some};
 ghost use Rattle.lock_core.specs.Records.{row};
-ghost use Rattle.mm_serve.specs.Histories.{HasDoneOn};
-ghost use Rattle.mm_serve.specs.Queues.{GoesBackToTask};
+ghost use Rattle.mm_serve.specs.MachineHistories.{HasDoneOn};
+ghost use Rattle.mm_serve.specs.MachineQueues.{GoesBackToTask};
 ghost use Rattle.mm_serve.specs.Workers.{EachOf, HaveDoneTheirTasks, HaveSeenNothing};
 ghost use Rattle.mm_serve.specs.Workers.{HasDoneItsTask, IsReady, calls_to};
 

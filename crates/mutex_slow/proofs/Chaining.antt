@@ -19,7 +19,7 @@ use Rattle.wait_list.specs.Lists.{Allowed, MadeBy as MadeUnderLock, Part, change
 use Rattle.wait_list.proofs.Determining.{kept-same}
 use Rattle.mutex_slow.specs.declared.view.MutexHand.{MutexHand}
 use Rattle.mutex_slow.specs.Mutexes.{AnswersHandoff, HasHandoff, HasLock, IsFirstTask, IsOwnChange, Kept, LeavesToFirst, MutexKept, MutexMoves, PicksFirst, TookUp, V, entered, list_of, may_miss, owner_at, owner_in, standing, standing_of, wake_words, Standing, WakesGo}
-use Rattle.mutex_slow.specs.Stated.{line_marks, HasBecome, HasWaitLock, IsMutexStep, MadeBy, TakesUp}
+use Rattle.mutex_slow.specs.MutexStated.{line_marks, HasBecome, HasWaitLock, IsMutexStep, MadeBy, TakesUp}
 use Rattle.mutex_slow.proofs.Stating.{listed, same-standing}
 
 has-lock : (id : ℕ) (ws : List ℕ) (vs : List V) (v : V) (p : Part) → get_elem? vs id ≡ some v → get_elem? (map (list_part list_of) vs) id ≡ some p → holds_in p.0 ≡ 1 → HasWaitLock id (moment standing (instant ws vs))

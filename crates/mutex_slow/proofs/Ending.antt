@@ -6,15 +6,15 @@ use Rattle.lock_core.specs.declared.view.Held.{Held}
 use Rattle.lock_core.specs.declared.view.Held.TheVariants.{No, Alone}
 use Rattle.lock_core.specs.Pasts.{FoundAt, FoundSince, GoesOn, IsOwnStep}
 use Rattle.lock_core.specs.Shown.{Shown, PastGoesOn, shown}
-use Rattle.lock_core.specs.RunLaws.{step-by}
+use Rattle.lock_core.specs.SiteRunLaws.{step-by}
 use Rattle.lock_core.specs.Spins.{holds_in}
 use Rattle.lock_core.specs.Views.{ticked}
 use Rattle.mutex_word.specs.Holders.{ReleasesOwner, own_word}
-use Rattle.mutex_word.specs.Tries.{FindsUnasked, IsMine, LeavesFlags, ReleasedTo, FindsAsked as AsksThere}
+use Rattle.mutex_word.specs.OwnerTries.{FindsUnasked, IsMine, LeavesFlags, ReleasedTo, FindsAsked as AsksThere}
 use Rattle.wait_list.specs.declared.view.Waiter.{Waiter}
 use Rattle.wait_list.specs.Lists.{waiter_code}
 use Rattle.mutex_slow.specs.Mutexes.{V, list_at, owner_at, turned}
-use Rattle.mutex_slow.specs.Places.{task_of, DecidesAt, EndsUnasked, FindsAsked, FindsOwnCode, Names, NamesFirst, line_of}
+use Rattle.mutex_slow.specs.MutexPlaces.{task_of, DecidesAt, EndsUnasked, FindsAsked, FindsOwnCode, Names, NamesFirst, line_of}
 use Rattle.lock_core.proofs.Within.{found-within}
 
 -- the pass's last step found its own code, with these flags

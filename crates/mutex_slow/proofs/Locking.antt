@@ -18,7 +18,7 @@ use Rattle.mutex_word.specs.Holders.{IsHolder}
 use Rattle.wait_list.specs.declared.view.Waiter.{Waiter}
 use Rattle.wait_list.specs.Lists.{counted}
 use Rattle.mutex_slow.specs.Mutexes.{owner_at, owner_in}
-use Rattle.mutex_slow.specs.Stated.{IsListed, IsMutexThen, StatesOwner, task_of, waits_on}
+use Rattle.mutex_slow.specs.MutexStated.{IsListed, IsMutexThen, StatesOwner, task_of, waits_on}
 
 pub each-moment : (P Q : Moment → Type 0) → ((m : Moment) → P m → Q m) → (past : List Moment) → EachMoment P past → EachMoment Q past
 each-moment P Q so [] e = tt

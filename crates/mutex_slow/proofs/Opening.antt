@@ -3,24 +3,24 @@ use Rattle.std.proofs.Common.{◌≡◌, ℕ, suc, ◌+◌, ◌<◌, ◌≤◌, 
 use Rattle.std.specs.Prelude.{Result, Ok, Err, IfOk}
 use Rattle.word_bits.specs.Objects.{Obj}
 use Rattle.word_bits.specs.Histories.{Plan}
-use Rattle.cpu_task.specs.Counting.{one_more, rescheds_after, slept, Dozes, DozesOnce, SleepsInTurns}
+use Rattle.cpu_task.specs.CpuCounting.{one_more, rescheds_after, slept, Dozes, DozesOnce, SleepsInTurns}
 use Rattle.lock_core.specs.declared.how.How.{How}
 use Rattle.lock_core.specs.declared.how.How.TheVariants.{Fast, Spun, Slept}
 use Rattle.lock_core.specs.declared.pass.Pass.{Pass}
 use Rattle.lock_core.specs.declared.site.Site.{Site}
 use Rattle.lock_core.specs.declared.view.Held.TheVariants.{Alone}
 use Rattle.lock_core.specs.declared.view.Moment.{Moment}
-use Rattle.lock_core.specs.Handles.{SitsAt}
+use Rattle.lock_core.specs.SiteHandles.{SitsAt}
 use Rattle.lock_core.specs.Pasts.{GoesOn, IsOwnStep}
-use Rattle.lock_core.specs.RunLaws.{step-by}
+use Rattle.lock_core.specs.SiteRunLaws.{step-by}
 use Rattle.lock_core.specs.Shown.{Shown, PastGoesOn, shown}
 use Rattle.lock_core.proofs.Within.{found-within}
 use Rattle.mutex_word.specs.declared.tries.Tried.TheVariants.{Took}
-use Rattle.mutex_word.specs.Tries.{CameTo, FindsOpen, IsOpen}
+use Rattle.mutex_word.specs.OwnerTries.{CameTo, FindsOpen, IsOpen}
 use Rattle.osq_unqueue.specs.Rising.{Rises}
 use Rattle.mutex_slow.specs.declared.view.MutexHand.{MutexHand}
 use Rattle.mutex_slow.specs.Mutexes.{V, owner_at, turned}
-use Rattle.mutex_slow.specs.Places.{CountsBy, GotInLine, StepsOn, TakesOpen, line_of, seen_of}
+use Rattle.mutex_slow.specs.MutexPlaces.{CountsBy, GotInLine, StepsOn, TakesOpen, line_of, seen_of}
 
 -- the pass's last step found the word, and left the pass holding
 pub takes-open : (v u : V) (p q : List Moment) (task : Option ℕ) → task ≡ v.hand.task → u.hand.task ≡ v.hand.task → u.hand.held ≡ Alone → v.steps < u.steps → IsOwnStep u q → GoesOn p q → FindsOpen owner_at task q → TakesOpen (shown line_of v.fronts v p) (shown line_of u.fronts u q)

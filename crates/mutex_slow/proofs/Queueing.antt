@@ -7,9 +7,9 @@ use Rattle.wait_list.specs.declared.view.ListHand.{ListHand}
 use Rattle.wait_list.specs.Lists.{Appends, FindsFirst, Knows, list_part, first_of}
 use Rattle.wait_list.proofs.Joining.{alone-first, holds-one, others-first}
 use Rattle.mutex_slow.specs.declared.view.Point.TheVariants.{Rest, Joins}
-use Rattle.wake_duty.specs.Wakes.{waits}
+use Rattle.wake_duty.specs.DutyWakes.{waits}
 use Rattle.mutex_slow.specs.Mutexes.{V, OwesNoWake, list_of, with_list, turned}
-use Rattle.mutex_slow.specs.Places.{IsInLine}
+use Rattle.mutex_slow.specs.MutexPlaces.{IsInLine}
 use Rattle.mutex_word.specs.declared.host.Turn.TheVariants.{Flag}
 use Rattle.mutex_word.specs.Holders.{turns}
 

@@ -14,7 +14,7 @@ use Rattle.lock_core.specs.Locked.{HasPass, IsWaitLockFree}
 use Rattle.lock_core.specs.SpinFrames.{when}
 use Rattle.lock_core.specs.Spins.{holds_in}
 use Rattle.lock_core.specs.Totals.{total, total-at, total-two}
-use Rattle.lock_core.specs.Parts.{Each, at_unmap}
+use Rattle.lock_core.specs.ViewParts.{Each, at_unmap}
 use Rattle.lock_core.specs.Records.{bit}
 use Rattle.lock_core.specs.Views.{hand_of, spin_of, held_weight, held_of, is_number}
 use Rattle.lock_core.specs.declared.view.Marks.{Marks}
@@ -33,10 +33,10 @@ use Rattle.wake_duty.specs.declared.view.Duty.{Duty}
 use Rattle.wake_duty.specs.declared.view.Duty.TheVariants.{NoDuty, Owing, Chosen}
 use Rattle.wake_duty.specs.declared.view.Vigil.{Vigil}
 use Rattle.wake_duty.specs.declared.view.Vigil.TheVariants.{Absent, Awake, Tried}
-use Rattle.wake_duty.specs.Wakes.{WakePart, owed, chose, awake, waits, keeps_awake, wake_word}
+use Rattle.wake_duty.specs.DutyWakes.{WakePart, owed, chose, awake, waits, keeps_awake, wake_word}
 use Rattle.mutex_slow.specs.DutyLaws.{wparted, first-small, some-of as any-of}
 use Rattle.mutex_slow.specs.StandingLaws.{owed-some, owes-none}
-use Rattle.mutex_slow.specs.Stated.{line_marks, waits_in, HasDuty, IsListed, IsMutexThen, OwesNone}
+use Rattle.mutex_slow.specs.MutexStated.{line_marks, waits_in, HasDuty, IsListed, IsMutexThen, OwesNone}
 
 -- who holds, by a word that picks nobody
 holder-of : (hs : List Hand) (word : ℕ) → OwnKept word hs → Named hs → word % 8 < 4 → (task : Option ℕ) × (word / 8 ≡ task_code task) × IsHolder hs task

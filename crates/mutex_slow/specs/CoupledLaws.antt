@@ -10,7 +10,7 @@ use Rattle.lock_core.specs.Views.{SpinStays, forgot, handed, seated, is_number}
 use Rattle.lock_core.specs.SpinFrames.{when}
 use Rattle.lock_core.specs.Spins.{spun, holds_in}
 use Rattle.lock_core.specs.Totals.{total, total-set, total-same, total-snoc, total-at}
-use Rattle.lock_core.specs.Parts.{each-set, each-snoc}
+use Rattle.lock_core.specs.ViewParts.{each-set, each-snoc}
 use Rattle.lock_core.proofs.HandLaws.{not-both, is_number-here, is_number-else}
 use Rattle.lock_core.proofs.RowLaws.{none-some, same-some}
 use Rattle.mutex_word.specs.declared.host.Turn.TheVariants.{Fail, Take, Ask, Free, Hand as HandOn, Flag, Clear}
@@ -23,7 +23,7 @@ use Rattle.wait_list.specs.Lists.{first_code, counted, without, listed}
 use Rattle.wait_list.proofs.Waiters.{counted-append, counted-without-own, counted-without-other, counted-here, counted-else, length-without, first-without}
 use Rattle.wake_duty.specs.declared.view.WakeHand.{WakeHand}
 use Rattle.wake_duty.specs.declared.view.Duty.TheVariants.{NoDuty, Owing}
-use Rattle.wake_duty.specs.Wakes.{waits, duty_of}
+use Rattle.wake_duty.specs.DutyWakes.{waits, duty_of}
 use Rattle.wake_duty.specs.WakeLaws.{waits-failing}
 use Rattle.lock_core.specs.Records.{bit}
 use Rattle.mutex_slow.specs.declared.view.MutexHand.{MutexHand}

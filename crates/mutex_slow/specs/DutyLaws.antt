@@ -14,7 +14,7 @@ use Rattle.lock_core.specs.Views.{SpinRests, hand_of, held_of, is_number}
 use Rattle.lock_core.specs.SpinFrames.{holds_at}
 use Rattle.lock_core.specs.Spins.{spun, holds_in}
 use Rattle.lock_core.specs.Totals.{total, total-at}
-use Rattle.lock_core.specs.Parts.{at_unmap, keep_part, set_part, set-there}
+use Rattle.lock_core.specs.ViewParts.{at_unmap, keep_part, set_part, set-there}
 use Rattle.lock_core.proofs.HandLaws.{false-or-true, is_number-here}
 use Rattle.lock_core.proofs.RowLaws.{none-some, same-some}
 use Rattle.mutex_word.specs.declared.host.Turn.TheVariants.{Fail, Take, Free, Hand as HandOn}
@@ -29,7 +29,7 @@ use Rattle.wake_duty.specs.declared.view.Duty.{Duty}
 use Rattle.wake_duty.specs.declared.view.Duty.TheVariants.{NoDuty, Owing, Chosen}
 use Rattle.wake_duty.specs.declared.view.Vigil.TheVariants.{Awake, Tried}
 use Rattle.wake_duty.specs.declared.view.WakeHand.{WakeHand}
-use Rattle.wake_duty.specs.Wakes.{WakePart, WakeKept, PartOk, IsQuiet, wake_part, with_hand, owed, chose_any, waits, guards, keeps_awake, awake, duty_of, choosing, foiled, failing, roused, looking}
+use Rattle.wake_duty.specs.DutyWakes.{WakePart, WakeKept, PartOk, IsQuiet, wake_part, with_hand, owed, chose_any, waits, guards, keeps_awake, awake, duty_of, choosing, foiled, failing, roused, looking}
 use Rattle.wake_duty.specs.WakeLaws.{wake-goes, wake-guarded, wake-quiet, wake-fails, wake-hands, wake-enters, wake-leaves, wake-looks, wake-chooses, wake-spins, no-chosen, owing-chosen, tried-waits, awake-tried}
 use Rattle.mutex_slow.specs.Mutexes.{V, HasLock, Coupled, IsUnpicked, point_of, wake_of, turned, with_list, saw_first}
 use Rattle.mutex_slow.specs.CoupledLaws.{Apart, first-none, point-cases, rest-weighs}

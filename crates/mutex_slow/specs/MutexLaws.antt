@@ -25,7 +25,7 @@ use Rattle.lock_core.specs.SpinFrames.{when, holds_at, holds_of}
 use Rattle.lock_core.specs.Spins.{SpinKept, SpinGoes, SpinFrees, SpinMoves, spun, holds_in, frame_of}
 use Rattle.lock_core.specs.SpinLaws.{spin-same, spin-renames, spin-comes, spin-ends, spin-opens}
 use Rattle.lock_core.specs.Totals.{total, total-set, total-at, total-two}
-use Rattle.lock_core.specs.Parts.{at_unmap, keep_part, set_part, set-there, snoc_part}
+use Rattle.lock_core.specs.ViewParts.{at_unmap, keep_part, set_part, set-there, snoc_part}
 use Rattle.lock_core.specs.Regions.{part-in, part-above, part-below, part-at, wide-part}
 use Rattle.lock_core.proofs.HandLaws.{held-none, not-both, false-or-true, is_number-here, number-or-not, is_number-else}
 use Rattle.mutex_word.specs.declared.host.Turn.{Turn}
@@ -43,7 +43,7 @@ use Rattle.wait_list.specs.ListLaws.{none-change, list-spins, list-keeps, list-l
 use Rattle.wake_duty.specs.declared.view.Vigil.TheVariants.{Absent, Awake, Tried}
 use Rattle.wake_duty.specs.declared.view.Duty.TheVariants.{NoDuty, Owing}
 use Rattle.wake_duty.specs.declared.view.WakeHand.{WakeHand}
-use Rattle.wake_duty.specs.Wakes.{WAKE_WORDS, WakeKept, IsQuiet, Sets, Drowses, wake_word, with_hand, waked, duty_of, waits, setting, drowsing}
+use Rattle.wake_duty.specs.DutyWakes.{WAKE_WORDS, WakeKept, IsQuiet, Sets, Drowses, wake_word, with_hand, waked, duty_of, waits, setting, drowsing}
 use Rattle.wake_duty.specs.WakeLaws.{wake-opens, wake-snoc, wake-quiet, wake-sets, wake-drowses, waits-looking, waits-drowsing, vigil-looking}
 use Rattle.wake_duty.specs.WakeSteps.{HasTried, knowing}
 use Rattle.mutex_slow.specs.DutyLaws.{wparted, some-of, same-holders, duty-stays, duty-renames, duty-spins, duty-fails, duty-takes, duty-frees, duty-hands, duty-enters, duty-leaves, duty-looks}

@@ -17,7 +17,7 @@ use Rattle.wake_duty.specs.declared.view.Duty.TheVariants.{NoDuty, Owing, Chosen
 use Rattle.wake_duty.specs.declared.view.Vigil.{Vigil}
 use Rattle.wake_duty.specs.declared.view.Vigil.TheVariants.{Absent, Awake, Tried}
 use Rattle.wake_duty.specs.declared.view.WakeHand.{WakeHand}
-use Rattle.wake_duty.specs.Wakes.{WAKE_WORDS, wake_word, owed, chose_any, choosing, duty_of, foiled, roused, failing, looking, setting, drowsing}
+use Rattle.wake_duty.specs.DutyWakes.{WAKE_WORDS, wake_word, owed, chose_any, choosing, duty_of, foiled, roused, failing, looking, setting, drowsing}
 use Rattle.wake_duty.specs.WakeMoves.{ChoosesFirst, WordGoes}
 use Rattle.mutex_slow.specs.Mutexes.{V, HasLock, OwesNoWake, FailsUnderLock, IsUnpicked, MayChoose, EndsChoice, WakesGo, awake_bit, chosen_code, debt_of, entered, left, standing_of}
 use Rattle.mutex_slow.specs.DutyLaws.{choosing-or}

@@ -6,19 +6,19 @@ ghost use Rattle.lock_core.specs.Kinds.{mutex, unavailable, wakes_alone};
 ghost use Rattle.lock_core.specs.Holding.{missed};
 ghost use Rattle.lock_core.specs.Pasts.{EachMoment, FoundAt, Paced, Ran, Tail};
 ghost use Rattle.lock_core.specs.Locking.{Looks, Has, HasSince, Interrupts, OnlyTried, Releases, Got, KeepsPlace, TalliesLock, TalliesSpin};
-ghost use Rattle.lock_core.specs.Passes.{Numbered};
+ghost use Rattle.lock_core.specs.SitePasses.{Numbered};
 ghost use Rattle.lock_core.specs.Records.{IsPlan};
 ghost use Rattle.lock_core.specs.Shown.{AllButHand, IsLatestStep, PastGoesOn, shown_new, shown_split};
 ghost use Rattle.lock_core.specs.SpinStated.{IsSpinLockThen, IsSpinMove};
-ghost use Rattle.lock_core.specs.Stated.{IsNew};
+ghost use Rattle.lock_core.specs.SiteStated.{IsNew};
 ghost use Rattle.lock_core.specs.Views.{gathered, gave_up};
-ghost use Rattle.osq_nodes.specs.Handles.{tasks_of};
-ghost use Rattle.lock_core.specs.Handles as inner;
+ghost use Rattle.osq_nodes.specs.OsqHandles.{tasks_of};
+ghost use Rattle.lock_core.specs.SiteHandles as inner;
 ghost use Rattle.mutex_slow.specs.Mutexes.{owner_at, standing, wait_lock_at};
 ghost use Rattle.osq_unqueue.specs.Rising.{LeavesForCpu, Rises};
-ghost use Rattle.cpu_task.specs.Counting.{Dozes};
-ghost use Rattle.mutex_slow.specs.Places.{CountsBy, CountsInLine, EndsHold, TakesOpen, WakesFirst};
-ghost use Rattle.mutex_slow.specs.Stated.{HasBecome, IsMutexThen, IsOutOfList, MarksCounts, waits_on};
+ghost use Rattle.cpu_task.specs.CpuCounting.{Dozes};
+ghost use Rattle.mutex_slow.specs.MutexPlaces.{CountsBy, CountsInLine, EndsHold, TakesOpen, WakesFirst};
+ghost use Rattle.mutex_slow.specs.MutexStated.{HasBecome, IsMutexThen, IsOutOfList, MarksCounts, waits_on};
 ghost use Rattle.lock_core.specs.Locked.{IsLockedThen, IsSiteStep};
 ghost use Rattle.wait_list.specs.declared.view.Waiter.{Waiter as Waiters};
 
@@ -56,7 +56,7 @@ pub struct MutexPass<O: Object> {
 }
 
 impl<O: Object> MutexPass<O> {
-    ghost use Rattle.mutex_slow.specs.Handles.{dozes_in, shown_of, wakes_in};
+    ghost use Rattle.mutex_slow.specs.MutexHandles.{dozes_in, shown_of, wakes_in};
 
     /// What it has counted of its calls that waited.
     pub fn tally(&self) -> Tally
@@ -83,7 +83,7 @@ impl<O: Object> MutexPass<O> {
 }
 
 impl<O: Object> Mutex<O> {
-    ghost use Rattle.mutex_slow.specs.Handles.{newest, plan_of, shown_of, hand_in, SitsAt, SpunGoesOn, TakesAlone, KeepsFronts, KeepsMisses, KeepsWakes, EntersOnce, MissesAt, MissesIfShut, dozes_in, wakes_in};
+    ghost use Rattle.mutex_slow.specs.MutexHandles.{newest, plan_of, shown_of, hand_in, SitsAt, SpunGoesOn, TakesAlone, KeepsFronts, KeepsMisses, KeepsWakes, EntersOnce, MissesAt, MissesIfShut, dozes_in, wakes_in};
 
     /// A new mutex: nobody holds, the state is empty, no call is logged or recorded. The pass has
     /// no task number.

@@ -5,14 +5,14 @@ ghost use Rattle.lock_core.specs.Views.{SpinHolds, SpinRests};
 ghost use Rattle.lock_core.specs.Kinds.{mutex};
 ghost use Rattle.lock_core.specs.Locking.{Misses, OnlyTried, SawPending};
 ghost use Rattle.lock_core.specs.Signals.{OnlyConsumed, OnlyHeard};
-ghost use Rattle.lock_core.specs.Handles.{plan_of, view_of, hand_in, task_in, held_in, SitsAt};
+ghost use Rattle.lock_core.specs.SiteHandles.{plan_of, view_of, hand_in, task_in, held_in, SitsAt};
 ghost use Rattle.lock_core.specs.Tallies.{raised};
 ghost use Rattle.lock_core.specs.Shown.{FindsSince};
 ghost use Rattle.word_bits.specs.OwnerWord.{task_code};
 ghost use Rattle.wake_duty.specs.WakeSteps.{HasTried};
 ghost use Rattle.mutex_slow.specs.Mutexes.{HasChosen, OwesNoWake, list_at, owner_at, vigil_of};
 ghost use Rattle.qspin_word.specs.Ways.{SpinGained};
-ghost use Rattle.mutex_slow.specs.Places.{seen_of, StepsOn, TakesAlone, TakesOpen, KeepsHand, KeepsMisses, KeepsFronts, StandsSame, IsOutside, IsInLine, HasFailed, OwesWake, IsToWake, KeepsWakes, SetsNoWord, Wakes, dozes_of, task_of, IsFreed, EndsUnasked, FindsAsked, NamesFirst};
+ghost use Rattle.mutex_slow.specs.MutexPlaces.{seen_of, StepsOn, TakesAlone, TakesOpen, KeepsHand, KeepsMisses, KeepsFronts, StandsSame, IsOutside, IsInLine, HasFailed, OwesWake, IsToWake, KeepsWakes, SetsNoWord, Wakes, dozes_of, task_of, IsFreed, EndsUnasked, FindsAsked, NamesFirst};
 
 use crate::rule::MutexRule;
 use lock_core::{Interrupted, Pass, Site};

@@ -8,13 +8,13 @@ ghost use Rattle.lock_core.specs.Kinds.{mutex, wakes_alone};
 ghost use Rattle.lock_core.specs.Locking.{Interrupts, OnlyTried, Releases, SawPending};
 ghost use Rattle.lock_core.specs.Signals.{OnlyConsumed};
 ghost use Rattle.lock_core.specs.Tallies.{raised};
-ghost use Rattle.lock_core.specs.Handles.{plan_of, view_of, hand_in, task_in, held_in, SitsAt};
+ghost use Rattle.lock_core.specs.SiteHandles.{plan_of, view_of, hand_in, task_in, held_in, SitsAt};
 ghost use Rattle.osq_nodes.specs.declared.node.Place.TheVariants.{Front};
-ghost use Rattle.osq_nodes.specs.Handles as spinners;
+ghost use Rattle.osq_nodes.specs.OsqHandles as spinners;
 ghost use Rattle.wake_duty.specs.WakeSteps.{HasTried};
 ghost use Rattle.mutex_slow.specs.Mutexes.{OwesNoWake, owner_at, vigil_of};
-ghost use Rattle.cpu_task.specs.Counting.{Dozes, DozesOnce, SleepsInTurns};
-ghost use Rattle.mutex_slow.specs.Places.{seen_of, StepsOn, TakesAlone, TakesOpen, KeepsHand, KeepsMisses, KeepsFronts, KeepsAppends, StandsSame, IsOutside, IsInLine, HasFailed, IsToWake, KeepsWakes, SetsNoWord, Wakes, WakesFirst, dozes_of, task_of, GotInLine, WentInLine, EndsHold};
+ghost use Rattle.cpu_task.specs.CpuCounting.{Dozes, DozesOnce, SleepsInTurns};
+ghost use Rattle.mutex_slow.specs.MutexPlaces.{seen_of, StepsOn, TakesAlone, TakesOpen, KeepsHand, KeepsMisses, KeepsFronts, KeepsAppends, StandsSame, IsOutside, IsInLine, HasFailed, IsToWake, KeepsWakes, SetsNoWord, Wakes, WakesFirst, dozes_of, task_of, GotInLine, WentInLine, EndsHold};
 
 use crate::parts;
 use crate::parts::Released;

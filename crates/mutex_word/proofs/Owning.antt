@@ -22,13 +22,13 @@ use Rattle.lock_core.proofs.HandLaws.{no-alone, alone-is-held, not-both}
 use Rattle.lock_core.proofs.HoldSteps.{none-alone, quiet-state, site-takes, site-misses, site-frees}
 use Rattle.lock_core.proofs.Steps.{chooses, exchanges, modifies}
 use Rattle.mutex_word.specs.Holders.{KeepsLeft, own_word, OwnKept, IsTurn, IsShut, IsAsk, turns}
-use Rattle.mutex_word.specs.Tries.{IsFail, IsLawful, IsTake, IsLeft, IsMine, MayFail, MayMiss, SawWord, missing}
+use Rattle.mutex_word.specs.OwnerTries.{IsFail, IsLawful, IsTake, IsLeft, IsMine, MayFail, MayMiss, SawWord, missing}
 use Rattle.word_bits.specs.declared.TheConstants.{MAX_TASKS}
 use Rattle.lock_core.specs.Totals.{total}
 use Rattle.lock_core.specs.Holding.{Learns, missed, released}
 use Rattle.mutex_word.specs.declared.host.Turn.{Turn}
 use Rattle.mutex_word.specs.declared.host.Turn.TheVariants.{Take, Ask, Free, Flag, Clear, Fail}
-use Rattle.mutex_word.specs.Plays.{Tried, Freed, Flagged, SeenBy, Looked, TookBy, AskedBy, Mine, LeftBy}
+use Rattle.mutex_word.specs.OwnerPlays.{Tried, Freed, Flagged, SeenBy, Looked, TookBy, AskedBy, Mine, LeftBy}
 use Rattle.mutex_word.specs.OwnKinds.{own-flags, own-clears, own-asks, own-takes-free, own-takes-picked, own-leaves, or-one, or-odd, and-clears}
 use Rattle.word_bits.specs.OwnerWord.{task_code}
 use lib.Bits.{bit_and, bit_or}

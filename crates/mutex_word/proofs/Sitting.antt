@@ -13,12 +13,12 @@ use Rattle.lock_core.specs.declared.pass.Face.{Face}
 use Rattle.lock_core.specs.Plans.{IsSmall, calls_in}
 use Rattle.lock_core.specs.Records.{row}
 use Rattle.lock_core.specs.Views.{handed, took}
-use Rattle.lock_core.specs.Passes.{Sits}
+use Rattle.lock_core.specs.SitePasses.{Sits}
 use Rattle.lock_core.specs.declared.view.View.{View}
 use Rattle.lock_core.proofs.Sitting.{sits-on}
 use Rattle.mutex_word.specs.declared.host.Turn.{Turn}
 use Rattle.mutex_word.specs.declared.host.Turn.TheVariants.{Fail}
-use Rattle.mutex_word.specs.Tries.{SawWord, missing}
+use Rattle.mutex_word.specs.OwnerTries.{SawWord, missing}
 use Rattle.mutex_word.proofs.Owning.{fail-or-on}
 use Rattle.lock_core.proofs.RowLaws.{same-some}
 use Rattle.lock_core.proofs.HandLaws.{not-both}

@@ -8,7 +8,7 @@ use Rattle.lock_core.specs.declared.view.Hand.{Hand}
 use Rattle.lock_core.specs.declared.view.Held.TheVariants.{No, Alone}
 use Rattle.lock_core.specs.Views.{held_weight, held_of}
 use Rattle.lock_core.specs.Totals.{total-set, total-at}
-use Rattle.lock_core.specs.Parts.{each-set}
+use Rattle.lock_core.specs.ViewParts.{each-set}
 use Rattle.mutex_word.specs.Holders.{code_of, OwnKept}
 use Rattle.mutex_word.specs.OwnLaws.{Named, no-holders, no-codes, only-code, free-code, alone-code, own-stays}
 use Rattle.word_bits.specs.declared.TheConstants.{MAX_TASKS}

@@ -9,7 +9,7 @@ use Rattle.lock_core.specs.declared.view.Held.{Held}
 use Rattle.lock_core.specs.declared.view.Held.TheVariants.{No, Shared, Alone}
 use Rattle.lock_core.specs.Views.{stranger, held_weight, held_of}
 use Rattle.lock_core.specs.Totals.{total, total-set, total-same, total-snoc, total-at, total-two}
-use Rattle.lock_core.specs.Parts.{Each, each-set, each-snoc}
+use Rattle.lock_core.specs.ViewParts.{Each, each-set, each-snoc}
 use Rattle.lock_core.proofs.HandLaws.{held-none, number-or-not}
 use Rattle.lock_core.proofs.WordSteps.{some-of}
 use Rattle.mutex_word.specs.Holders.{own_word, held_code, code_of, OwnKept, StatesHolder}

@@ -1,8 +1,8 @@
 //! The rule of a table with an owner word alone.
 ghost use Rattle.std.specs.Prelude.{◌<◌};
 ghost use Rattle.word_bits.specs.LockWords.{owned};
-ghost use Rattle.mutex_word.specs.Ruled.{OwnerKept, OwnerMoves, IsPlain, leaves_plain, owner_at, unmarked, unturned};
-ghost use Rattle.mutex_word.specs.RuledLaws.{own-inside, own-there, owner-site, owner-own, owner-sites, owner-opens, owner-splits, owner-joins, owner-owns, owner-looks};
+ghost use Rattle.mutex_word.specs.OwnerRuled.{OwnerKept, OwnerMoves, IsPlain, leaves_plain, owner_at, unmarked, unturned};
+ghost use Rattle.mutex_word.specs.OwnerRuledLaws.{own-inside, own-there, owner-site, owner-own, owner-sites, owner-opens, owner-splits, owner-joins, owner-owns, owner-looks};
 
 use crate::host::OwnerHost;
 use lock_core::{SPIN_ROOM, SiteRule};

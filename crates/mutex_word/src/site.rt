@@ -7,9 +7,9 @@ ghost use Rattle.lock_core.specs.Locking.{Misses, Releases, Takes};
 ghost use Rattle.lock_core.specs.Records.{IsPlan};
 ghost use Rattle.lock_core.specs.Views.{first, ticked, handed, split_off, merged, gave_up, BesideForgetting, HoldsNothing};
 ghost use Rattle.lock_core.specs.Pasts.{EachMoment, FoundAt, Ran, Tail};
-ghost use Rattle.lock_core.specs.Stated.{IsNew, IsSiteMove};
+ghost use Rattle.lock_core.specs.SiteStated.{IsNew, IsSiteMove};
 ghost use Rattle.mutex_word.specs.Holders.{own_word, TakesOwner, MissesOwner, ReleasesOwner};
-ghost use Rattle.mutex_word.specs.Ruled.{IsOwnerSiteThen, newest, owner_at, unmarked, unturned};
+ghost use Rattle.mutex_word.specs.OwnerRuled.{IsOwnerSiteThen, newest, owner_at, unmarked, unturned};
 
 use crate::rule::OwnerRule;
 use crate::site_steps;
@@ -33,7 +33,7 @@ pub struct OwnerPass<O: Object> {
 }
 
 impl<O: Object> OwnerSite<O> {
-    ghost use Rattle.mutex_word.specs.Handles.{plan_of, view_of, hand_in, past_of, task_in, held_in, front_in, shown_of, IsLatest, KeepsPast, SitsAt, TakesNumber};
+    ghost use Rattle.mutex_word.specs.OwnerHandles.{plan_of, view_of, hand_in, past_of, task_in, held_in, front_in, shown_of, IsLatest, KeepsPast, SitsAt, TakesNumber};
 
     /// A new site: nobody holds, the state is empty, no call is logged or recorded. The pass has no
     /// task number.

@@ -5,8 +5,8 @@ ghost use Rattle.mutex_word.specs.declared.host.Turn.TheVariants.{Take as TakeTu
 ghost use Rattle.lock_core.specs.Views.{ticked};
 ghost use Rattle.lock_core.specs.Pasts.{FoundAt};
 ghost use Rattle.mutex_word.specs.Holders.{own_word, turns, TakesOwner, MissesOwner, ReleasesOwner, HasFlags};
-ghost use Rattle.mutex_word.specs.Plays.{Tried, Freed, Flagged};
-ghost use Rattle.lock_core.specs.Handles.{IsLatest, plan_of, view_of, hand_in, past_of, task_in, held_in, SitsAt, KeepsPast, SaysSame};
+ghost use Rattle.mutex_word.specs.OwnerPlays.{Tried, Freed, Flagged};
+ghost use Rattle.lock_core.specs.SiteHandles.{IsLatest, plan_of, view_of, hand_in, past_of, task_in, held_in, SitsAt, KeepsPast, SaysSame};
 
 use crate::host::OwnerHost;
 use atomic_table::Play;

@@ -7,11 +7,11 @@ use Rattle.lock_core.specs.Layout.{fresh, calls_at}
 use Rattle.lock_core.specs.Plans.{call_words}
 use Rattle.lock_core.specs.Pasts.{Instant, moment, Moves, Tail, Paced, Ran}
 use Rattle.osq_nodes.specs.declared.node.Node.{Node}
-use Rattle.osq_nodes.specs.Places.{node_marks}
+use Rattle.osq_nodes.specs.OsqPlaces.{node_marks}
 use Rattle.osq_nodes.specs.Words.{tail_in, prev_in, locked_in}
-use Rattle.osq_nodes.specs.Stated.{row_at, places_at, IsQueueAt, Changes, HasBecome}
+use Rattle.osq_nodes.specs.OsqStated.{row_at, places_at, IsQueueAt, Changes, HasBecome}
 use Rattle.osq_nodes.specs.Walks.{queue-same}
-use Rattle.osq_nodes.specs.Ruled.{OsqKept, OsqMoves, newest, no_calls}
+use Rattle.osq_nodes.specs.OsqRuled.{OsqKept, OsqMoves, newest, no_calls}
 
 -- what the passes keep of an instant
 abbrev kept_of : Instant Node → Moment

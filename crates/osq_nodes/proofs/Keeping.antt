@@ -5,8 +5,8 @@ use native.Mathlib.Decide.{ℕ_discrete}
 use Rattle.osq_nodes.specs.declared.node.Place.{Place}
 use Rattle.osq_nodes.specs.declared.node.Place.TheVariants.{Out, Cleared, Swapped, Linking, Waiting, Unlinked, Splicing, Relinking, Front, Granting}
 use Rattle.lock_core.specs.NodeLists.{Has, IsFirst, Precedes, last_from, without}
-use Rattle.osq_nodes.specs.Places.{Owes}
-use Rattle.osq_nodes.specs.Kept.{IsBehind, IsHead, IsCode, Owed, IsAt, Sets, QueueKept, with_at}
+use Rattle.osq_nodes.specs.OsqPlaces.{Owes}
+use Rattle.osq_nodes.specs.OsqKept.{IsBehind, IsHead, IsCode, Owed, IsAt, Sets, QueueKept, with_at}
 use Rattle.osq_nodes.proofs.Updating.{with_at-sets}
 use Rattle.lock_core.specs.NodeListLaws.{left-has, right-has, same-successor, has-kept, kept-has, once-kept, first-kept, precedes-kept, kept-precedes}
 

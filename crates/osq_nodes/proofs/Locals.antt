@@ -12,11 +12,11 @@ use Rattle.lock_core.specs.NodeListLaws.{left-has, right-has, first-has, last-ha
 use Rattle.osq_nodes.specs.declared.node.Place.{Place}
 use Rattle.osq_nodes.specs.declared.node.Place.TheVariants.{Out, Cleared, Swapped, Linking, Waiting, Unlinked, Splicing, Relinking, Front, Granting}
 use Rattle.osq_nodes.specs.Words.{code_in, tail_at, tail_in, next_in, prev_in, locked_in, next_at, prev_at, locked_at}
-use Rattle.osq_nodes.specs.Places.{is_swap, waits_at}
-use Rattle.osq_nodes.specs.Stated.{Changes}
-use Rattle.osq_nodes.specs.Kept.{Owed, QueueKept, RowKept, with_at}
-use Rattle.osq_nodes.specs.Ruled.{FindsTail, Local}
-use Rattle.osq_nodes.specs.Steps.{swap_place, look_place, try_place, take_place, taking_of, IsCodeOrNone}
+use Rattle.osq_nodes.specs.OsqPlaces.{is_swap, waits_at}
+use Rattle.osq_nodes.specs.OsqStated.{Changes}
+use Rattle.osq_nodes.specs.OsqKept.{Owed, QueueKept, RowKept, with_at}
+use Rattle.osq_nodes.specs.OsqRuled.{FindsTail, Local}
+use Rattle.osq_nodes.specs.OsqSteps.{swap_place, look_place, try_place, take_place, taking_of, IsCodeOrNone}
 use Rattle.osq_nodes.proofs.Updating.{with_at-sets, sets-next, sets-prev, sets-locked, wrote-next, wrote-prev, wrote-locked, wrote-tail}
 use Rattle.osq_nodes.proofs.Keeping.{there}
 use Rattle.osq_nodes.proofs.Stepping.{clears, enters-first, enters, stores-prev, links-itself, sees-grant, lets-go, takes-own, grants, leaves-last, takes-both, leaves-alone, leaves-granting, leaves-apart}

@@ -9,7 +9,7 @@ use Rattle.lock_core.specs.declared.pass.Face.{Face}
 use Rattle.lock_core.specs.Views.{SpinRests}
 use Rattle.lock_core.proofs.Sitting.{sits-on}
 use Rattle.osq_nodes.specs.declared.node.Node.{Node}
-use Rattle.osq_nodes.specs.Passes.{OnQueue}
+use Rattle.osq_nodes.specs.OsqPasses.{OnQueue}
 
 module _ (k : Plan) (table seat seat' : TableId) (me me' : Me (Unit {0}) (Seen Node)) (face face' : Face) where
   -- after a step that leaves its hand

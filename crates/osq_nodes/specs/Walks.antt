@@ -5,9 +5,9 @@ use mathlib.Core.List.{reverse_aux}
 use Rattle.osq_nodes.specs.declared.node.Place.{Place}
 use Rattle.osq_nodes.specs.declared.node.Place.TheVariants.{Out, Cleared, Swapped, Linking, Waiting, Unlinked, Splicing, Relinking, Front, Granting}
 use Rattle.lock_core.specs.NodeLists.{IsFirst, Precedes, last_from}
-use Rattle.osq_nodes.specs.Places.{back_of, IsFrontNode, Owes}
-use Rattle.osq_nodes.specs.Stated.{IsWalk, IsQueue, AreLinked}
-use Rattle.osq_nodes.specs.Kept.{IsBehind, IsHead, IsAt, QueueKept}
+use Rattle.osq_nodes.specs.OsqPlaces.{back_of, IsFrontNode, Owes}
+use Rattle.osq_nodes.specs.OsqStated.{IsWalk, IsQueue, AreLinked}
+use Rattle.osq_nodes.specs.OsqKept.{IsBehind, IsHead, IsAt, QueueKept}
 
 same-end : (x y c : ℕ) → c ≡ suc x → c ≡ suc y → x ≡ y
 same-end x y c e f = omega arith

@@ -1,6 +1,6 @@
 //! Passes of spin queues.
 ghost use Rattle.std.specs.Prelude.{◌≡◌};
-ghost use Rattle.osq_nodes.specs.Handles.{task_in};
+ghost use Rattle.osq_nodes.specs.OsqHandles.{task_in};
 
 use crate::rule::QueueRule;
 use lock_core::Pass;

@@ -1,13 +1,13 @@
 //! Spin queues.
 ghost use Rattle.std.specs.Prelude.{◌≡◌, ◌+◌, ◌<◌, ◌≤◌, ◌⊎◌, List, [], ◌∷◌, IfOk, IsSome, MatchOption, None, Some, length, ℕ};
 ghost use Rattle.word_bits.specs.declared.TheConstants.{MAX_TASKS};
-ghost use Rattle.lock_core.specs.Handles.{plan_of};
+ghost use Rattle.lock_core.specs.SiteHandles.{plan_of};
 ghost use Rattle.lock_core.specs.Pasts.{BeganWith, EachMoment, Ran};
 ghost use Rattle.lock_core.specs.Views.{merged, ticked};
 ghost use Rattle.osq_nodes.specs.declared.node.Place.TheVariants.{Out, Waiting, Front};
-ghost use Rattle.osq_nodes.specs.Places.{node_marks, waits_at, takes_at};
-ghost use Rattle.osq_nodes.specs.Ruled.{IsOsqMove, newest, no_calls};
-ghost use Rattle.osq_nodes.specs.Stated.{HasBecome, IsSpinQueue};
+ghost use Rattle.osq_nodes.specs.OsqPlaces.{node_marks, waits_at, takes_at};
+ghost use Rattle.osq_nodes.specs.OsqRuled.{IsOsqMove, newest, no_calls};
+ghost use Rattle.osq_nodes.specs.OsqStated.{HasBecome, IsSpinQueue};
 
 use crate::pass::OsqPass;
 use crate::rule::QueueRule;
@@ -25,7 +25,7 @@ pub struct Osq {
 }
 
 impl Osq {
-    ghost use Rattle.osq_nodes.specs.Handles.{tasks_of, view_of, task_in, place_in, fronts_in, swaps_in, found_in, steps_in, past_of, SawOther, SawTail, SitsAt, KeepsNode, KeepsNumber, KeepsPast, IsLatest, StatesOwn};
+    ghost use Rattle.osq_nodes.specs.OsqHandles.{tasks_of, view_of, task_in, place_in, fronts_in, swaps_in, found_in, steps_in, past_of, SawOther, SawTail, SitsAt, KeepsNode, KeepsNumber, KeepsPast, IsLatest, StatesOwn};
 
     /// An empty queue for so many tasks. The pass has no task number.
     pub fn open(alloc: Global, tasks: u32) -> Result<(Osq, OsqPass), AllocError>

@@ -2,10 +2,10 @@
 ghost use Rattle.std.specs.Prelude.{◌≡◌, ◌<◌, ℕ, Some, IsSome};
 ghost use Rattle.lock_core.specs.Stores.{spin_room};
 ghost use Rattle.lock_core.specs.Pasts.{FindsAt};
-ghost use Rattle.lock_core.specs.Plays.{Turns};
+ghost use Rattle.lock_core.specs.SitePlays.{Turns};
 ghost use Rattle.osq_nodes.specs.declared.node.Place.{Place as At};
-ghost use Rattle.osq_nodes.specs.Handles.{tasks_of, view_of, task_in, place_in, past_of, SitsAt, KeepsNumber, KeepsPast, IsLatest};
-ghost use Rattle.osq_nodes.specs.Ruled.{stepped, Local};
+ghost use Rattle.osq_nodes.specs.OsqHandles.{tasks_of, view_of, task_in, place_in, past_of, SitsAt, KeepsNumber, KeepsPast, IsLatest};
+ghost use Rattle.osq_nodes.specs.OsqRuled.{stepped, Local};
 
 use crate::node::Node;
 use crate::pass::OsqPass;

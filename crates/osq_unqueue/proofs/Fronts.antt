@@ -1,15 +1,15 @@
 -- What a look at a spin queue tells of its fronts, and of who looks.
 use Rattle.std.proofs.Common.{◌≡◌, ◌∙◌, ℕ, List, [], ◌∷◌, Option, sym}
 use Rattle.lock_core.specs.declared.view.Moment.{Moment}
-use Rattle.lock_core.specs.Handles as inner
+use Rattle.lock_core.specs.SiteHandles as inner
 use Rattle.lock_core.specs.NodeLists.{IsFirst}
 use Rattle.lock_core.specs.Pasts.{EachMoment}
-use Rattle.lock_core.specs.RunLaws.{step-by}
+use Rattle.lock_core.specs.SiteRunLaws.{step-by}
 use Rattle.osq_nodes.specs.declared.node.Place.TheVariants.{Out}
 use Rattle.osq_nodes.specs.declared.pass.OsqPass.{OsqPass}
 use Rattle.osq_nodes.specs.declared.queue.Osq.{Osq}
-use Rattle.osq_nodes.specs.Handles.{fronts_in, past_of, place_in, swaps_in, view_of, SitsAt, StatesOwn}
-use Rattle.osq_nodes.specs.Stated.{IsSpinQueue}
+use Rattle.osq_nodes.specs.OsqHandles.{fronts_in, past_of, place_in, swaps_in, view_of, SitsAt, StatesOwn}
+use Rattle.osq_nodes.specs.OsqStated.{IsSpinQueue}
 use Rattle.osq_unqueue.specs.Fronts.{HasOneFront, IsOutOfQueue}
 
 first-once : (queue : List ℕ) (t u : ℕ) → IsFirst queue t → IsFirst queue u → t ≡ u

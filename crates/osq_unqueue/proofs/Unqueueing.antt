@@ -8,12 +8,12 @@ use Rattle.lock_core.specs.NodeLists.{Has, IsFirst, Precedes, without}
 use Rattle.lock_core.specs.NodeListLaws.{first-has, first-before, left-has, right-has, same-predecessor, same-successor, precedes-apart, last-stays, kept-has, kept-first, kept-precedes, bridge}
 use Rattle.osq_nodes.specs.declared.node.Place.{Place}
 use Rattle.osq_nodes.specs.declared.node.Place.TheVariants.{Out, Cleared, Swapped, Linking, Waiting, Unlinked, Splicing, Relinking, Front, Granting}
-use Rattle.osq_nodes.specs.Places.{Owes}
-use Rattle.osq_nodes.specs.Kept.{IsBehind, IsHead, IsCode, Owed, IsAt, Sets, QueueKept, with_at}
-use Rattle.osq_nodes.specs.Stated.{OwnsLinks}
+use Rattle.osq_nodes.specs.OsqPlaces.{Owes}
+use Rattle.osq_nodes.specs.OsqKept.{IsBehind, IsHead, IsCode, Owed, IsAt, Sets, QueueKept, with_at}
+use Rattle.osq_nodes.specs.OsqStated.{OwnsLinks}
 use Rattle.osq_nodes.specs.Words.{tail_in, next_in, prev_in, locked_in, next_at, prev_at}
-use Rattle.osq_nodes.specs.Ruled.{Local}
-use Rattle.osq_nodes.specs.Steps.{try_place}
+use Rattle.osq_nodes.specs.OsqRuled.{Local}
+use Rattle.osq_nodes.specs.OsqSteps.{try_place}
 use Rattle.osq_nodes.proofs.Updating.{with_at-sets, sets-next, sets-prev, wrote-next, wrote-prev}
 use Rattle.osq_nodes.proofs.Keeping.{same-task, there, takes, puts, removes}
 use Rattle.osq_nodes.proofs.Stepping.{Owns, owns-links}

@@ -6,8 +6,8 @@ use Rattle.lock_core.specs.declared.view.Marks.{Marks}
 use Rattle.lock_core.specs.declared.view.Moment.{Moment}
 use Rattle.lock_core.specs.Pasts.{IsStepBy}
 use Rattle.osq_nodes.specs.declared.node.Place.TheVariants.{Out, Front}
-use Rattle.osq_nodes.specs.Places.{swaps_in}
-use Rattle.osq_nodes.specs.Stated.{places_at}
+use Rattle.osq_nodes.specs.OsqPlaces.{swaps_in}
+use Rattle.osq_nodes.specs.OsqStated.{places_at}
 
 -- one task at most is the front of the queue
 abbrev pub HasOneFront : Moment → Type 0

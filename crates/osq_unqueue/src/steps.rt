@@ -3,8 +3,8 @@ ghost use Rattle.std.specs.Prelude.{◌≡◌, ◌+◌, ◌<◌, Some, MatchBool
 ghost use Rattle.lock_core.specs.Pasts.{FoundAt};
 ghost use Rattle.lock_core.specs.Views.{ticked};
 ghost use Rattle.osq_nodes.specs.declared.node.Place.TheVariants.{Out, Waiting, Unlinked, Splicing, Relinking};
-ghost use Rattle.osq_nodes.specs.Handles.{tasks_of, view_of, task_in, place_in, past_of, FoundThere, SitsAt, KeepsNumber, KeepsPast, IsLatest};
-ghost use Rattle.osq_nodes.specs.Steps.{placed};
+ghost use Rattle.osq_nodes.specs.OsqHandles.{tasks_of, view_of, task_in, place_in, past_of, FoundThere, SitsAt, KeepsNumber, KeepsPast, IsLatest};
+ghost use Rattle.osq_nodes.specs.OsqSteps.{placed};
 ghost use Rattle.osq_nodes.specs.Words.{next_at, prev_at};
 
 use lock_core::Op;

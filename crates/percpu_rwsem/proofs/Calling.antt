@@ -2,7 +2,7 @@
 use Rattle.std.proofs.Common.{◌≡◌, ◌≢◌, ◌∙◌, ℕ, ◌+◌, ◌<◌, ◌≤◌, List, length, Option, Some, None, zero, suc, true, false, sym, refl, ap, subst, arith}
 use Rattle.std.specs.Prelude.{Result, Ok, Err, IfErr, is_some}
 use Rattle.std.specs.Result.{is_ok}
-use Rattle.cpu_task.specs.Counting.{one_more, slept}
+use Rattle.cpu_task.specs.CpuCounting.{one_more, slept}
 use mathlib.Core.Logic.{dite}
 use native.Mathlib.Decide.{ℕ_discrete}
 use Rattle.word_bits.specs.Objects.{Obj}
@@ -11,17 +11,17 @@ use Rattle.lock_core.specs.declared.view.Held.{Held}
 use Rattle.lock_core.specs.declared.view.Held.TheVariants.{No, Alone}
 use Rattle.lock_core.specs.declared.view.Moment.{Moment}
 use Rattle.lock_core.specs.Pasts.{GoesOn, FoundAt, FoundAtStep, FoundSince, IsOwnStep, IsStepBy}
-use Rattle.lock_core.specs.RunLaws.{found-at-step}
+use Rattle.lock_core.specs.SiteRunLaws.{found-at-step}
 use Rattle.lock_core.proofs.HandLaws.{not-both}
 use Rattle.lock_core.proofs.RowLaws.{none-some}
 use Rattle.percpu_rwsem.specs.declared.view.Phase.{Phase}
 use Rattle.percpu_rwsem.specs.declared.view.Phase.TheVariants.{Idle, Added, Back, Reads, Blocks}
-use Rattle.percpu_rwsem.specs.Handles.{FindsZeros, Phased, SleepsBehind, SleepsEachTry, TakesSince}
-use Rattle.percpu_rwsem.specs.Plays.{TakesPhase, phased}
-use Rattle.percpu_rwsem.specs.Ruled.{V, block_at, count_at}
+use Rattle.percpu_rwsem.specs.PercpuHandles.{FindsZeros, Phased, SleepsBehind, SleepsEachTry, TakesSince}
+use Rattle.percpu_rwsem.specs.PercpuPlays.{TakesPhase, phased}
+use Rattle.percpu_rwsem.specs.PercpuRuled.{V, block_at, count_at}
 use Rattle.percpu_rwsem.specs.PhaseLaws.{no-alone, held-all, held-some}
 use Rattle.percpu_rwsem.specs.Phases.{held_by}
-use Rattle.percpu_rwsem.specs.Stated.{CountFalls}
+use Rattle.percpu_rwsem.specs.PercpuStated.{CountFalls}
 use Rattle.percpu_rwsem.proofs.Stating.{count-left}
 use mathlib.Core.Option.{some}
 
@@ -132,7 +132,7 @@ seen-some (Some n) is = (n, refl)
 
 -- between two tries of a call that waits
 pub idle-view : (tasks : ℕ) (v : V) → Phased tasks None v → v.hand.held ≡ No → v ≡ record v { ext = Idle }
-idle-view tasks v r out = ap (λ (e : Phase). record v { ext = e }) (r.phase ∙ ap (λ (h : Held). Rattle.percpu_rwsem.specs.Handles.phase_by None h) out)
+idle-view tasks v r out = ap (λ (e : Phase). record v { ext = e }) (r.phase ∙ ap (λ (h : Held). Rattle.percpu_rwsem.specs.PercpuHandles.phase_by None h) out)
 
 -- the step by which a reader ends its hold
 pub count-falls : (k : Plan) (task : Option ℕ) (own step : ℕ) (u : V) (old past new : List Moment) → task ≡ Some own → u.hand.task ≡ task → u.hand.held ≡ No → u.steps ≡ step → IsOwnStep u past → FoundAt (count_at own) 1 past → GoesOn old past → GoesOn past new → CountFalls k task step old new

@@ -3,7 +3,7 @@ use Rattle.std.proofs.Common.{◌≡◌, ℕ, ◌+◌, ◌*◌, ◌<◌, ◌≤�
 use Rattle.word_bits.specs.declared.TheConstants.{MAX_TASKS}
 use Rattle.lock_core.specs.Stores.{HasWord, row_at}
 use Rattle.lock_core.proofs.Having.{has-row}
-use Rattle.percpu_rwsem.specs.Ruled.{block_at, count_at}
+use Rattle.percpu_rwsem.specs.PercpuRuled.{block_at, count_at}
 
 pub has-block : (n : ℕ) → n ≤ MAX_TASKS → HasWord n block_at
 has-block n few = let e : row_at 0 + 0 ≡ block_at = omega arith in subst (λ (i : ℕ). HasWord n i) e (has-row n 0 0 few (omega arith) (omega arith))

@@ -17,7 +17,7 @@ use Rattle.lock_core.specs.Layout.{site}
 use Rattle.lock_core.specs.LockedLaws.{move-steps}
 use Rattle.lock_core.specs.Locked.{IsGone, IsSiteStep, SamePass}
 use Rattle.lock_core.specs.Pasts.{Instant, marks_of, moment, Moves, Paced, Ran}
-use Rattle.lock_core.specs.Parts.{at_unmap}
+use Rattle.lock_core.specs.ViewParts.{at_unmap}
 use Rattle.lock_core.specs.Totals.{total, total-at, total-two}
 use Rattle.lock_core.specs.Views.{hand_of, is_number}
 use Rattle.lock_core.proofs.HandLaws.{is_number-here}
@@ -28,8 +28,8 @@ use Rattle.percpu_rwsem.specs.declared.view.Phase.TheVariants.{Idle, Added, Back
 use Rattle.percpu_rwsem.specs.PhaseSteps.{PhaseGoes, Words}
 use Rattle.percpu_rwsem.specs.Phases.{PhasePart, PartOk, phase_part, inside_of, code_of, blocks_of, inside_weight, code_weight, blocks_weight, held_by}
 use Rattle.percpu_rwsem.specs.PhaseLaws.{held-all, held-some, no-alone, no-shared, shared-alone, shared-reads, alone-blocks, blocks-codes, only-code, some-of, inside-named}
-use Rattle.percpu_rwsem.specs.Ruled.{V, PercpuKept, PercpuMoves, block_at, count_at, kept_phase, never, words_in}
-use Rattle.percpu_rwsem.specs.Stated.{phase_in, seen_in, IsInside, IsBlocking, IsPassAt, CountStates, empty, full, BlockStates, free, taken, IsPercpuSite, IsPercpuStep, phase_marks}
+use Rattle.percpu_rwsem.specs.PercpuRuled.{V, PercpuKept, PercpuMoves, block_at, count_at, kept_phase, never, words_in}
+use Rattle.percpu_rwsem.specs.PercpuStated.{phase_in, seen_in, IsInside, IsBlocking, IsPassAt, CountStates, empty, full, BlockStates, free, taken, IsPercpuSite, IsPercpuStep, phase_marks}
 use Rattle.percpu_rwsem.proofs.Stepping.{count-bit, part-ok}
 
 abbrev marks : V → Marks

@@ -23,7 +23,7 @@ use Rattle.lock_core.specs.Ops.{word_after}
 use Rattle.lock_core.specs.Views.{hand_of, held_of, alone_of, named_of, is_number, ticked, took, held_weight, alone_weight}
 use Rattle.lock_core.specs.Holding.{Learns, released}
 use Rattle.lock_core.specs.Totals.{total, total-at, total-two}
-use Rattle.lock_core.specs.Parts.{Each, at_unmap}
+use Rattle.lock_core.specs.ViewParts.{Each, at_unmap}
 use Rattle.lock_core.specs.Sites.{SiteKept, HandGoes, KeepsSaw, HasPlan}
 use Rattle.lock_core.specs.Moves.{Lets}
 use Rattle.lock_core.specs.MoveLaws.{hand-stays, saw-stays}
@@ -35,9 +35,9 @@ use Rattle.percpu_rwsem.specs.declared.view.Phase.TheVariants.{Idle, Added, Back
 use Rattle.percpu_rwsem.specs.Phases.{PhasePart, PartOk, part, phase_part, inside_of, code_of, blocks_of, inside_weight, code_weight, blocks_weight}
 use Rattle.percpu_rwsem.specs.PhaseSteps.{BlockGoes, CountGoes, PhaseGoes}
 use Rattle.percpu_rwsem.specs.PhaseLaws.{no-shared, no-alone, held-all, held-some, shared-reads, alone-blocks, blocks-codes, only-code, some-of, inside-named, phases-step}
-use Rattle.percpu_rwsem.specs.Ruled.{V, PercpuKept, PercpuMoves, Phases, block_at, count_at, never, words_in}
-use Rattle.percpu_rwsem.specs.RuledLaws.{phase-stays, rule-goes, rule-puts}
-use Rattle.percpu_rwsem.specs.Plays as play
+use Rattle.percpu_rwsem.specs.PercpuRuled.{V, PercpuKept, PercpuMoves, Phases, block_at, count_at, never, words_in}
+use Rattle.percpu_rwsem.specs.PercpuRuledLaws.{phase-stays, rule-goes, rule-puts}
+use Rattle.percpu_rwsem.specs.PercpuPlays as play
 
 -- a live view's plan is the table's
 its-plan : (k p : Plan) (plan : Option Plan) → HasPlan k plan → plan ≡ Some p → k ≡ p

@@ -1,9 +1,9 @@
 pub mod Phases
 pub mod PhaseLaws
 pub mod PhaseSteps
-pub mod Ruled
-pub mod RuledLaws
-pub mod Plays
-pub mod Handles
-pub mod SiteLaws
-pub mod Stated
+pub mod PercpuRuled
+pub mod PercpuRuledLaws
+pub mod PercpuPlays
+pub mod PercpuHandles
+pub mod PercpuSiteLaws
+pub mod PercpuStated

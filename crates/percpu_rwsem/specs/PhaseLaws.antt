@@ -9,7 +9,7 @@ use Rattle.word_bits.specs.declared.TheConstants.{MAX_TASKS}
 use Rattle.lock_core.specs.declared.view.Held.TheVariants.{No, Shared, Alone}
 use Rattle.lock_core.specs.Views.{held_weight, alone_weight, is_number}
 use Rattle.lock_core.specs.Totals.{total, total-set, total-snoc, total-at}
-use Rattle.lock_core.specs.Parts.{Each, each-set, each-snoc}
+use Rattle.lock_core.specs.ViewParts.{Each, each-set, each-snoc}
 use Rattle.percpu_rwsem.specs.declared.view.Phase.{Phase}
 use Rattle.percpu_rwsem.specs.declared.view.Phase.TheVariants.{Idle, Added, Back, Reads, Blocks}
 use Rattle.percpu_rwsem.specs.Phases.{PhasePart, PartOk, PhasesKept, inside_of, code_of, blocks_of, inside_weight, code_weight, blocks_weight, held_by}

@@ -4,9 +4,9 @@ ghost use Rattle.lock_core.specs.declared.view.Held.TheVariants.{No, Shared};
 ghost use Rattle.lock_core.specs.Holding.{released};
 ghost use Rattle.lock_core.specs.Pasts.{FoundAt};
 ghost use Rattle.percpu_rwsem.specs.declared.view.Phase.TheVariants.{Idle, Reads};
-ghost use Rattle.percpu_rwsem.specs.Plays.{NamesOther};
-ghost use Rattle.percpu_rwsem.specs.Ruled.{block_at};
-ghost use Rattle.percpu_rwsem.specs.Stated.{CountFalls};
+ghost use Rattle.percpu_rwsem.specs.PercpuPlays.{NamesOther};
+ghost use Rattle.percpu_rwsem.specs.PercpuRuled.{block_at};
+ghost use Rattle.percpu_rwsem.specs.PercpuStated.{CountFalls};
 
 use crate::pass::PercpuPass;
 use crate::site::PercpuRwSem;
@@ -16,7 +16,7 @@ use std::sync::Wait;
 use word_bits::Object;
 
 impl<O: Object> PercpuRwSem<O> {
-    ghost use Rattle.percpu_rwsem.specs.Handles.{plan_of, view_of, hand_in, past_of, task_in, held_in, blocks_in, after, CameTo, Finds, IsLatest, KeepsPast, SitsAt, SleepsEachTry, TakesSince};
+    ghost use Rattle.percpu_rwsem.specs.PercpuHandles.{plan_of, view_of, hand_in, past_of, task_in, held_in, blocks_in, after, CameTo, Finds, IsLatest, KeepsPast, SitsAt, SleepsEachTry, TakesSince};
 
     /// Tries once to read, as `__percpu_down_read_trylock` does: two steps if it gets in, three if
     /// not. `Ok`: the pass holds shared. `Err` has the code of the task that blocks, 1 plus its

@@ -3,10 +3,10 @@ ghost use Rattle.std.specs.Prelude.{◌≡◌, ◌<◌, ◌≤◌, false, None, 
 ghost use Rattle.lock_core.specs.Records.{IsPlan};
 ghost use Rattle.lock_core.specs.Views.{first, ticked, handed, split_off, merged, gave_up, BesideForgetting, HoldsNothing, OwesNoSignal};
 ghost use Rattle.lock_core.specs.Pasts.{EachMoment, IsMarked, KeepsJoined, Paced, Tail};
-ghost use Rattle.lock_core.specs.Stated.{IsNew};
-ghost use Rattle.percpu_rwsem.specs.Stated.{IsPercpuSiteThen, IsPercpuStep};
+ghost use Rattle.lock_core.specs.SiteStated.{IsNew};
+ghost use Rattle.percpu_rwsem.specs.PercpuStated.{IsPercpuSiteThen, IsPercpuStep};
 ghost use Rattle.percpu_rwsem.specs.declared.view.Phase.TheVariants.{Idle};
-ghost use Rattle.percpu_rwsem.specs.Ruled.{kept_phase, never, newest};
+ghost use Rattle.percpu_rwsem.specs.PercpuRuled.{kept_phase, never, newest};
 
 use crate::pass::PercpuPass;
 use crate::rule::PercpuRule;
@@ -24,7 +24,7 @@ pub struct PercpuRwSem<O: Object> {
 }
 
 impl<O: Object> PercpuRwSem<O> {
-    ghost use Rattle.percpu_rwsem.specs.Handles.{plan_of, view_of, hand_in, past_of, joined_by, task_in, held_in, front_in, seen_in, blocks_in, after, IsLatest, KeepsPast, SitsAt, TakesNumber};
+    ghost use Rattle.percpu_rwsem.specs.PercpuHandles.{plan_of, view_of, hand_in, past_of, joined_by, task_in, held_in, front_in, seen_in, blocks_in, after, IsLatest, KeepsPast, SitsAt, TakesNumber};
 
     /// A new semaphore: nobody holds, the state is empty, no call is logged or recorded. The pass
     /// has no task number.

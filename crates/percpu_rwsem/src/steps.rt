@@ -4,10 +4,10 @@ ghost use Rattle.lock_core.specs.declared.view.Held.TheVariants.{No, Shared, Alo
 ghost use Rattle.lock_core.specs.Holding.{released};
 ghost use Rattle.lock_core.specs.Pasts.{FoundAt};
 ghost use Rattle.lock_core.specs.Views.{ticked};
-ghost use Rattle.lock_core.specs.Handles.{IsLatest, plan_of, view_of, hand_in, past_of, task_in, held_in, SitsAt, KeepsPast, SaysSame};
+ghost use Rattle.lock_core.specs.SiteHandles.{IsLatest, plan_of, view_of, hand_in, past_of, task_in, held_in, SitsAt, KeepsPast, SaysSame};
 ghost use Rattle.percpu_rwsem.specs.declared.view.Phase.TheVariants.{Idle, Added, Back, Reads, Blocks};
-ghost use Rattle.percpu_rwsem.specs.Plays.{NamesOther, NamesTask, TakesPhase, phased, unheld, Goes, Looked, Ended, Seen, Blocked, Drained, Unblocked};
-ghost use Rattle.percpu_rwsem.specs.Ruled.{block_at, count_at};
+ghost use Rattle.percpu_rwsem.specs.PercpuPlays.{NamesOther, NamesTask, TakesPhase, phased, unheld, Goes, Looked, Ended, Seen, Blocked, Drained, Unblocked};
+ghost use Rattle.percpu_rwsem.specs.PercpuRuled.{block_at, count_at};
 
 use crate::rule::{BLOCK, COUNTS, PercpuRule};
 use crate::view::Phase;

@@ -4,8 +4,8 @@ ghost use Rattle.lock_core.specs.declared.view.Held.TheVariants.{No, Alone};
 ghost use Rattle.lock_core.specs.Views.{first, ticked};
 ghost use Rattle.lock_core.specs.Pasts.{FoundAt};
 ghost use Rattle.percpu_rwsem.specs.declared.view.Phase.TheVariants.{Idle, Blocks};
-ghost use Rattle.percpu_rwsem.specs.Plays.{NamesOther, unheld};
-ghost use Rattle.percpu_rwsem.specs.Ruled.{block_at, count_at};
+ghost use Rattle.percpu_rwsem.specs.PercpuPlays.{NamesOther, unheld};
+ghost use Rattle.percpu_rwsem.specs.PercpuRuled.{block_at, count_at};
 
 use crate::pass::PercpuPass;
 use crate::site::PercpuRwSem;
@@ -15,7 +15,7 @@ use std::sync::Wait;
 use word_bits::Object;
 
 impl<O: Object> PercpuRwSem<O> {
-    ghost use Rattle.percpu_rwsem.specs.Handles.{plan_of, view_of, hand_in, past_of, task_in, held_in, seen_in, blocks_in, after, FindsZerosUpTo, IsLatest, KeepsPast, LooksUpTo, SitsAt, SleepsBehind, StepsTo, TakesSince};
+    ghost use Rattle.percpu_rwsem.specs.PercpuHandles.{plan_of, view_of, hand_in, past_of, task_in, held_in, seen_in, blocks_in, after, FindsZerosUpTo, IsLatest, KeepsPast, LooksUpTo, SitsAt, SleepsBehind, StepsTo, TakesSince};
 
     /// Blocks new readers by one compare-exchange. `Err` has the code of the task that blocks
     /// already, 1 plus its number. After `Ok` the pass blocks, and holds nothing until `drain`

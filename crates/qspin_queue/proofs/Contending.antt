@@ -16,11 +16,11 @@ use Rattle.lock_core.specs.LockHands.{lock_hand_in, lock_hands, lock_hand_at, po
 use Rattle.lock_core.specs.Nestings.{is_held, waits_at, no_nesting, Tells}
 use Rattle.lock_core.specs.Pasts.{GoesOn, FoundAt}
 use Rattle.lock_core.specs.Spins.{spun}
-use Rattle.lock_core.specs.Handles.{view_of, hand_in, past_of, KeepsPast, NotesLock, NotesNone, IsNestTold}
-use Rattle.qspin_word.specs.Hands.{saw_word, took_at, tried}
+use Rattle.lock_core.specs.SiteHandles.{view_of, hand_in, past_of, KeepsPast, NotesLock, NotesNone, IsNestTold}
+use Rattle.qspin_word.specs.SpinWordHands.{saw_word, took_at, tried}
 use Rattle.qspin_word.specs.Ways.{LockGained, SpinGained, RivalSince, SawAtStep, PendedAtStep}
-use Rattle.qspin_word.specs.Handles.{spin_in, lock_hand_of, SpinSteps, IsSameBut, KeepsFlagsBeside, KeepsNodes, OwnsPendingAt, FindsRivalSince}
-use Rattle.qspin_queue.specs.Handles.{TakesInTurn}
+use Rattle.qspin_word.specs.SpinWordHandles.{spin_in, lock_hand_of, SpinSteps, IsSameBut, KeepsFlagsBeside, KeepsNodes, OwnsPendingAt, FindsRivalSince}
+use Rattle.qspin_queue.specs.SpinQueueHandles.{TakesInTurn}
 use Rattle.qspin_word.proofs.Owning.{owns-within}
 use Rattle.qspin_word.proofs.Rivals.{saw-at-step, saw-since, saw-then}
 use Rattle.qspin_word.proofs.Idling.{alike-same, alike-then}

@@ -15,13 +15,13 @@ use Rattle.lock_core.specs.SpinFrames.{uses}
 use Rattle.lock_core.specs.Records.{bit}
 use Rattle.lock_core.specs.Spins.{node_code, spun}
 use Rattle.lock_core.specs.LockHands.{lock_hand_at, frame_at, depth_of, RestsAt, depth-with}
-use Rattle.lock_core.specs.Handles.{view_of, hand_in, IsDepthTold, IsNestTold, KeepsNest, NotesDepth, NotesLock}
-use Rattle.qspin_word.specs.Hands.{at_point, taken, took_at, saw_word, tried, sought, grabbed}
+use Rattle.lock_core.specs.SiteHandles.{view_of, hand_in, IsDepthTold, IsNestTold, KeepsNest, NotesDepth, NotesLock}
+use Rattle.qspin_word.specs.SpinWordHands.{at_point, taken, took_at, saw_word, tried, sought, grabbed}
 use Rattle.lock_core.specs.Nestings.{is_held, waits_at, SameFlagsBeside}
 use Rattle.qspin_word.specs.Ways.{lock_hand_to, AreAlike}
-use Rattle.qspin_word.specs.Handles.{spin_in, lock_hand_of, point_in, SpinSteps, SpinWaits, SpinIdles, KeepsNodes}
-use Rattle.qspin_queue.specs.Handles.{IsNextNode, HasTop, SpinTakes, EntersNode}
-use Rattle.qspin_queue.specs.Hands.{lock_hand_with, node_at, code_for, cleared_locked, cleared_next}
+use Rattle.qspin_word.specs.SpinWordHandles.{spin_in, lock_hand_of, point_in, SpinSteps, SpinWaits, SpinIdles, KeepsNodes}
+use Rattle.qspin_queue.specs.SpinQueueHandles.{IsNextNode, HasTop, SpinTakes, EntersNode}
+use Rattle.qspin_queue.specs.SpinQueueHands.{lock_hand_with, node_at, code_for, cleared_locked, cleared_next}
 use Rattle.qspin_word.proofs.OwnNodes.{same-depth}
 use Rattle.qspin_word.proofs.Noting.{noted-is, flags-eq, flags-beside, beside-then, others-told, others-on, told-noted, told-points}
 use Rattle.qspin_word.proofs.Idling.{alike-same, alike-then}

@@ -7,13 +7,13 @@ use Rattle.lock_core.specs.declared.view.LockHand.{LockHand}
 use Rattle.lock_core.specs.declared.view.Point.TheVariants.{Linking, Waiting, Front, Ready, Passing, Holding}
 use Rattle.lock_core.specs.SpinFrames.{uses}
 use Rattle.lock_core.specs.LockHands.{frame_at, depth_of}
-use Rattle.lock_core.specs.Handles.{view_of, IsDepthTold, IsNestTold, NotesLock}
-use Rattle.qspin_word.specs.Hands.{at_point, went, took_at}
+use Rattle.lock_core.specs.SiteHandles.{view_of, IsDepthTold, IsNestTold, NotesLock}
+use Rattle.qspin_word.specs.SpinWordHands.{at_point, went, took_at}
 use Rattle.lock_core.specs.Nestings.{is_held, waits_at}
 use Rattle.qspin_word.specs.Ways.{lock_hand_to}
-use Rattle.qspin_word.specs.Handles.{spin_in, lock_hand_of, point_in, SpinSteps, SpinWaits, SpinIdles, KeepsNodes}
-use Rattle.qspin_queue.specs.Handles.{HasTop, SpinTakes, LeavesNode}
-use Rattle.qspin_queue.specs.Hands.{lock_hand_with, as_front, learning, learnt}
+use Rattle.qspin_word.specs.SpinWordHandles.{spin_in, lock_hand_of, point_in, SpinSteps, SpinWaits, SpinIdles, KeepsNodes}
+use Rattle.qspin_queue.specs.SpinQueueHandles.{HasTop, SpinTakes, LeavesNode}
+use Rattle.qspin_queue.specs.SpinQueueHands.{lock_hand_with, as_front, learning, learnt}
 use Rattle.qspin_word.proofs.Passing.{nodes-then}
 use Rattle.qspin_word.proofs.Noting.{flags-eq, flags-beside, others-told, others-on, told-noted}
 use Rattle.qspin_word.proofs.Idling.{idles-lock-hand}

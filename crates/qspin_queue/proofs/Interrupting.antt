@@ -14,10 +14,10 @@ use Rattle.lock_core.specs.Nestings.{Tells}
 use Rattle.lock_core.specs.SpinFrames.{uses}
 use Rattle.lock_core.specs.Spins.{spun}
 use Rattle.lock_core.specs.Views.{forgot}
-use Rattle.lock_core.specs.Handles.{view_of, SitsAt, SaysSame, KeepsPast, IsNestTold}
-use Rattle.qspin_word.specs.Hands.{at_point, freed}
+use Rattle.lock_core.specs.SiteHandles.{view_of, SitsAt, SaysSame, KeepsPast, IsNestTold}
+use Rattle.qspin_word.specs.SpinWordHands.{at_point, freed}
 use Rattle.qspin_word.specs.Ways.{AreAlike, LockGained}
-use Rattle.qspin_word.specs.Handles.{spin_in, point_in, lock_hand_of, SpinIdles}
+use Rattle.qspin_word.specs.SpinWordHandles.{spin_in, point_in, lock_hand_of, SpinIdles}
 use Rattle.qspin_word.proofs.Idling.{alike-same, alike-then}
 use Rattle.qspin_word.proofs.Noting.{flags-told}
 use Rattle.qspin_word.proofs.OwnNodes.{same-depth}

@@ -10,7 +10,7 @@ use Rattle.lock_core.specs.declared.view.LockHand.{LockHand}
 use Rattle.lock_core.specs.declared.view.Frame.{Frame}
 use Rattle.lock_core.specs.declared.view.Point.{Point}
 use Rattle.lock_core.specs.declared.view.SpinHand.{SpinHand}
-use Rattle.lock_core.specs.Parts.{set-there}
+use Rattle.lock_core.specs.ViewParts.{set-there}
 use Rattle.lock_core.specs.Totals.{total, total-set, total-at}
 use Rattle.lock_core.specs.Views.{SpinPart}
 use Rattle.lock_core.specs.LockHands.{point_at}

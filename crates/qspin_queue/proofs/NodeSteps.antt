@@ -5,7 +5,7 @@ use mathlib.Core.Logic.{dite}
 use native.Mathlib.Decide.{ℕ_discrete}
 use lib.ListN.{get_elem?}
 use Rattle.atomic_table.proofs.Lists.{at_longer, at_last, at_snoc}
-use Rattle.lock_core.specs.Parts.{each-set}
+use Rattle.lock_core.specs.ViewParts.{each-set}
 use Rattle.lock_core.specs.Totals.{total, total-set, total-same, total-snoc, total-at}
 use Rattle.lock_core.specs.declared.view.Frame.{Frame}
 use Rattle.lock_core.specs.declared.view.Point.TheVariants.{Out, Clearing, Cleared, Linking, Waiting, Front, Ready, Passing, Holding}
@@ -15,7 +15,7 @@ use Rattle.qspin_word.proofs.Codes.{code_is-same, code_is-else, one_place, one_b
 use Rattle.lock_core.specs.SpinLaws.{Recount, recount, requeued, rekept}
 use Rattle.qspin_queue.proofs.Fronts.{none_ready}
 use Rattle.qspin_queue.proofs.Standing.{once, other_code, not_there, stands-uses, stands-one, uses-one, relocked, renext, longer, outside, shifted}
-use Rattle.qspin_word.specs.Hands.{at_point}
+use Rattle.qspin_word.specs.SpinWordHands.{at_point}
 
 module _ (word : ℕ) (next locked : ℕ → ℕ) (q : List ℕ) (fs : List Frame) (id : ℕ) where
   -- the first word of a node that nobody uses is cleared

@@ -20,9 +20,9 @@ use Rattle.lock_core.specs.SpinFrames.{uses, uses_as, stands, holds_at, holds_of
 use Rattle.lock_core.specs.SpinQueues.{LockKept, tail_unit}
 use Rattle.lock_core.specs.Spins.{SpinFacts, SpinGoes, SpinsMove, OwnNodes, QueueMoves, TakesFrom, ComesTo, LeavesBy, frame_on, node_code, tail_in, word_in, next_in, locked_in, word_at, next_at, locked_at, holds_on}
 use Rattle.qspin_word.specs.Allows.{AreNumbered, SpinAllows}
-use Rattle.qspin_word.specs.Hands.{at_point, went, framed, taken, took_at}
-use Rattle.qspin_queue.specs.Handles.{IsTop, codes_of}
-use Rattle.qspin_queue.specs.Hands.{code_for, node_at, as_front, retried, cleared_locked, cleared_next, queued, linked, heard, learnt, readied, took_last, took_front, passed}
+use Rattle.qspin_word.specs.SpinWordHands.{at_point, went, framed, taken, took_at}
+use Rattle.qspin_queue.specs.SpinQueueHandles.{IsTop, codes_of}
+use Rattle.qspin_queue.specs.SpinQueueHands.{code_for, node_at, as_front, retried, cleared_locked, cleared_next, queued, linked, heard, learnt, readied, took_last, took_front, passed}
 use Rattle.qspin_word.proofs.Bits.{or_byte}
 use Rattle.qspin_word.proofs.WordSteps as step
 use Rattle.qspin_word.proofs.OwnNodes.{own-node}

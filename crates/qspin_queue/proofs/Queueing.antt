@@ -10,13 +10,13 @@ use Rattle.lock_core.specs.declared.view.Point.TheVariants.{Taking, Ready, Passi
 use Rattle.lock_core.specs.Records.{bit}
 use Rattle.lock_core.specs.SpinFrames.{uses}
 use Rattle.lock_core.specs.LockHands.{lock_hand_at, frame_at, depth_of, at-with, at-else, depth-with}
-use Rattle.lock_core.specs.Handles.{view_of, hand_in, IsDepthTold, IsNestTold}
-use Rattle.qspin_word.specs.Hands.{at_point, framed, went, taken, took_at}
+use Rattle.lock_core.specs.SiteHandles.{view_of, hand_in, IsDepthTold, IsNestTold}
+use Rattle.qspin_word.specs.SpinWordHands.{at_point, framed, went, taken, took_at}
 use Rattle.lock_core.specs.Nestings.{is_held, waits_at}
 use Rattle.qspin_word.specs.Ways.{lock_hand_to, AreAlike}
-use Rattle.qspin_word.specs.Handles.{spin_in, lock_hand_of, point_in, SpinSteps, SpinWaits, SpinIdles, KeepsNodes}
-use Rattle.qspin_queue.specs.Handles.{HasTop, SpinTakes, LeavesNode}
-use Rattle.qspin_queue.specs.Hands.{lock_hand_with}
+use Rattle.qspin_word.specs.SpinWordHandles.{spin_in, lock_hand_of, point_in, SpinSteps, SpinWaits, SpinIdles, KeepsNodes}
+use Rattle.qspin_queue.specs.SpinQueueHandles.{HasTop, SpinTakes, LeavesNode}
+use Rattle.qspin_queue.specs.SpinQueueHands.{lock_hand_with}
 use Rattle.qspin_word.proofs.OwnNodes.{same-depth}
 use Rattle.qspin_word.proofs.Noting.{flags-eq, flags-then, flags-beside, beside-then, told-on}
 use Rattle.qspin_word.proofs.Idling.{alike-then, alike-same, waits-once, waits-after, waits-then, idles-lock-hand}

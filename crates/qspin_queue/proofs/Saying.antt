@@ -15,7 +15,7 @@ use Rattle.lock_core.specs.declared.layout.TheConstants.{SPIN_WORDS}
 use Rattle.lock_core.specs.Layout.{part}
 use Rattle.lock_core.specs.Views.{SpinPart, hand_of, spin_of, spin_part}
 use Rattle.lock_core.specs.LockHands.{frame_at, RestsAt}
-use Rattle.lock_core.specs.Parts.{at_unmap}
+use Rattle.lock_core.specs.ViewParts.{at_unmap}
 use Rattle.lock_core.specs.Pasts.{instant, moment}
 use Rattle.lock_core.specs.SpinQueues.{tail_of}
 use Rattle.lock_core.specs.SpinLaws.{lock-of}

@@ -9,7 +9,7 @@ use Rattle.lock_core.specs.declared.view.LockHand.{LockHand}
 use Rattle.lock_core.specs.declared.view.Frame.{Frame}
 use Rattle.lock_core.specs.declared.view.Point.{Point}
 use Rattle.lock_core.specs.declared.view.Point.TheVariants.{Linking}
-use Rattle.lock_core.specs.Parts.{at_unmap}
+use Rattle.lock_core.specs.ViewParts.{at_unmap}
 use Rattle.lock_core.specs.Records.{bit}
 use Rattle.lock_core.specs.Totals.{total, total-at}
 use Rattle.lock_core.specs.Views.{SpinPart}
@@ -21,7 +21,7 @@ use Rattle.lock_core.specs.Spins.{SpinFacts, IsOwnNode, OwnNodes, frame_on, node
 use Rattle.qspin_word.specs.Allows.{AreNumbered}
 use Rattle.qspin_word.proofs.Codes.{some_summand, tail-in, total-below}
 use Rattle.qspin_word.proofs.Regions.{codes, put-next, put-locked}
-use Rattle.qspin_queue.specs.Handles.{IsTop, codes_of}
+use Rattle.qspin_queue.specs.SpinQueueHandles.{IsTop, codes_of}
 use Rattle.qspin_queue.proofs.Standing.{counted, counts-stands, stands-below, stands-uses, uses-one, relocked, renext}
 
 -- a node that nobody uses at the lock isn't in its queue, and no frame speaks of it

@@ -12,13 +12,13 @@ use Rattle.lock_core.specs.declared.view.Point.TheVariants.{Taking, Cleared, Lin
 use Rattle.lock_core.specs.SpinFrames.{uses}
 use Rattle.lock_core.specs.LockHands.{lock_hand_at, frame_at, point_at, depth_of, at-with, at-else}
 use Rattle.lock_core.specs.Spins.{tail_in}
-use Rattle.lock_core.specs.Handles.{view_of, IsNestTold}
-use Rattle.qspin_word.specs.Hands.{at_point, framed, went, took_at}
+use Rattle.lock_core.specs.SiteHandles.{view_of, IsNestTold}
+use Rattle.qspin_word.specs.SpinWordHands.{at_point, framed, went, took_at}
 use Rattle.lock_core.specs.Nestings.{is_held, waits_at}
 use Rattle.qspin_word.specs.Ways.{lock_hand_to}
-use Rattle.qspin_word.specs.Handles.{spin_in, lock_hand_of, point_in, SpinSteps, SpinWaits, SpinIdles, KeepsNodes}
-use Rattle.qspin_queue.specs.Handles.{SpinTakes, LeavesNode}
-use Rattle.qspin_queue.specs.Hands.{lock_hand_with, as_front, entered, queued, heard, learnt, readied, retried, took_last}
+use Rattle.qspin_word.specs.SpinWordHandles.{spin_in, lock_hand_of, point_in, SpinSteps, SpinWaits, SpinIdles, KeepsNodes}
+use Rattle.qspin_queue.specs.SpinQueueHandles.{SpinTakes, LeavesNode}
+use Rattle.qspin_queue.specs.SpinQueueHands.{lock_hand_with, as_front, entered, queued, heard, learnt, readied, retried, took_last}
 use Rattle.qspin_word.proofs.Noting.{flags-eq, told-points}
 use Rattle.qspin_word.proofs.Idling.{alike-same, idles-then, idles-look}
 use Rattle.qspin_word.proofs.Passing.{steps-as}

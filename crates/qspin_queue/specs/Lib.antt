@@ -1,2 +1,2 @@
-pub mod Hands
-pub mod Handles
+pub mod SpinQueueHands
+pub mod SpinQueueHandles

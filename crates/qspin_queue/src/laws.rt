@@ -3,7 +3,7 @@ ghost use Rattle.std.specs.Prelude.{◌≡◌, [], ◌∷◌};
 ghost use Rattle.lock_core.specs.Views.{ticked};
 ghost use Rattle.lock_core.specs.SpinStated.{AreSpinLocksThen, IsSpinLocksMove};
 ghost use Rattle.lock_core.specs.Pasts.{EachMoment, Ran, Tail, opening};
-ghost use Rattle.lock_core.specs.Handles.{plan_of, view_of, past_of, SitsAt, KeepsPast, KeepsNest, IsLatest};
+ghost use Rattle.lock_core.specs.SiteHandles.{plan_of, view_of, past_of, SitsAt, KeepsPast, KeepsNest, IsLatest};
 
 use lock_core::{Pass, Site, SpinHost};
 

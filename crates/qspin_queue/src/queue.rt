@@ -4,11 +4,11 @@ ghost use Rattle.lock_core.specs.declared.view.Point.TheVariants.{Out, Taking, T
 ghost use Rattle.lock_core.specs.LockHands.{RestsAt, frame_at, depth_of};
 ghost use Rattle.lock_core.specs.Views.{SpinRests};
 ghost use Rattle.lock_core.specs.Spins.{tail_in, word_at};
-ghost use Rattle.lock_core.specs.Handles.{view_of, task_in, SitsAt, SaysSame, KeepsPast, IsLatest, KeepsNest, NotesNone, IsDepthTold, IsNestTold};
+ghost use Rattle.lock_core.specs.SiteHandles.{view_of, task_in, SitsAt, SaysSame, KeepsPast, IsLatest, KeepsNest, NotesNone, IsDepthTold, IsNestTold};
 ghost use Rattle.qspin_word.specs.Ways.{lock_hand_to, LockGained, SpinGained};
-ghost use Rattle.qspin_word.specs.Handles.{spin_in, point_in, lock_hand_of, FindsRival, FindsRivalSince, IsAtNone, IsSameBut, KeepsFlagsBeside, KeepsNodes, OwnsPendingAt, SpinIdles, SpinWaits};
-ghost use Rattle.qspin_queue.specs.Hands.{lock_hand_with, node_at, as_front, learning, entered};
-ghost use Rattle.qspin_queue.specs.Handles.{codes, code_in, found_in, successor_in, IsNextNode, HasTop, SpinTakes, TakesInTurn, LeavesNode, EntersNode};
+ghost use Rattle.qspin_word.specs.SpinWordHandles.{spin_in, point_in, lock_hand_of, FindsRival, FindsRivalSince, IsAtNone, IsSameBut, KeepsFlagsBeside, KeepsNodes, OwnsPendingAt, SpinIdles, SpinWaits};
+ghost use Rattle.qspin_queue.specs.SpinQueueHands.{lock_hand_with, node_at, as_front, learning, entered};
+ghost use Rattle.qspin_queue.specs.SpinQueueHandles.{codes, code_in, found_in, successor_in, IsNextNode, HasTop, SpinTakes, TakesInTurn, LeavesNode, EntersNode};
 
 use crate::steps::{
     clear_locked, clear_next, exchange_last, exchange_tail, link, load_front, load_locked,

@@ -5,11 +5,11 @@ ghost use Rattle.word_bits.specs.declared.TheConstants.{MAX_TASKS};
 ghost use Rattle.lock_core.specs.declared.view.Point.TheVariants.{Clearing, Cleared, Linking, Waiting, Front, Ready, Passing};
 ghost use Rattle.lock_core.specs.LockHands.{RestsAt};
 ghost use Rattle.lock_core.specs.Spins.{tail_in, word_at, next_at, locked_at};
-ghost use Rattle.lock_core.specs.Handles.{view_of, past_of, SitsAt};
+ghost use Rattle.lock_core.specs.SiteHandles.{view_of, past_of, SitsAt};
 ghost use Rattle.lock_core.specs.Pasts.{FoundAt};
-ghost use Rattle.qspin_word.specs.Handles.{spin_in, point_in, SpinSteps};
-ghost use Rattle.qspin_queue.specs.Hands.{retried, cleared_locked, cleared_next, queued, linked, heard, learnt, readied, took_last, took_front, passed};
-ghost use Rattle.qspin_queue.specs.Handles.{codes, codes_of, code_in, found_in, successor_in, IsNextNode, HasTop};
+ghost use Rattle.qspin_word.specs.SpinWordHandles.{spin_in, point_in, SpinSteps};
+ghost use Rattle.qspin_queue.specs.SpinQueueHands.{retried, cleared_locked, cleared_next, queued, linked, heard, learnt, readied, took_last, took_front, passed};
+ghost use Rattle.qspin_queue.specs.SpinQueueHandles.{codes, codes_of, code_in, found_in, successor_in, IsNextNode, HasTop};
 
 use lock_core::{Op, Pass, Site, SpinHost};
 use qspin_word::{LOCKED, TAIL, TAILLESS, spin_step, word_step};

@@ -8,11 +8,11 @@ use Rattle.lock_core.specs.declared.view.LockHand.{LockHand}
 use Rattle.lock_core.specs.declared.view.SpinHand.{SpinHand}
 use Rattle.lock_core.specs.LockHands.{lock_hand_at, depth_of}
 use Rattle.lock_core.specs.Spins.{spun}
-use Rattle.lock_core.specs.Handles.{view_of, task_in, SitsAt, IsNestTold}
+use Rattle.lock_core.specs.SiteHandles.{view_of, task_in, SitsAt, IsNestTold}
 use Rattle.lock_core.specs.Nestings.{waits_at, pauses_at}
 use Rattle.qspin_word.specs.Ways.{AreAlike, HitLeaves}
 use Rattle.qspin_word.proofs.Noting.{flags-eq, flags-then, flags-beside, beside-then, told-same}
-use Rattle.qspin_word.specs.Handles.{spin_in, lock_hand_of, point_in, IsInterruptible, SpinSteps, SpinWaits, SpinIdles}
+use Rattle.qspin_word.specs.SpinWordHandles.{spin_in, lock_hand_of, point_in, IsInterruptible, SpinSteps, SpinWaits, SpinIdles}
 
 pub alike-self : (b : LockHand) → AreAlike b b
 alike-self b = record { point = refl; stays = λ _. refl }

@@ -10,11 +10,11 @@ use Rattle.lock_core.specs.Nestings.{is_held, waits_at, notes_held, notes_wait, 
 use Rattle.lock_core.specs.declared.site.Site.{Site}
 use Rattle.lock_core.specs.declared.view.LockHand.{LockHand}
 use Rattle.lock_core.specs.LockHands.{RestsAt}
-use Rattle.lock_core.specs.Handles.{view_of, KeepsPast, NotesLock, IsDepthTold, IsNestTold}
+use Rattle.lock_core.specs.SiteHandles.{view_of, KeepsPast, NotesLock, IsDepthTold, IsNestTold}
 use Rattle.qspin_word.specs.Ways.{LockRefused}
 use Rattle.lock_core.specs.Pasts.{GoesOn}
-use Rattle.lock_core.specs.Handles.{past_of}
-use Rattle.qspin_word.specs.Handles.{spin_in, point_in, lock_hand_of, IsSameBut, SpinWaits, KeepsNodes}
+use Rattle.lock_core.specs.SiteHandles.{past_of}
+use Rattle.qspin_word.specs.SpinWordHandles.{spin_in, point_in, lock_hand_of, IsSameBut, SpinWaits, KeepsNodes}
 
 pub flags-eq : (n n' : Nesting) → n' ≡ n → SameFlags n n'
 flags-eq n n' e m few = (ap (notes_held m) e, ap (notes_wait m) e)

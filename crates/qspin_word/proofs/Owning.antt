@@ -9,7 +9,7 @@ use Rattle.lock_core.specs.declared.view.Moment.{Moment}
 use Rattle.lock_core.specs.Pasts.{FoundAt, GoesOn, IsOwnStep}
 use Rattle.lock_core.specs.LockHands.{lock_hand_at, point_at, at-with}
 use Rattle.lock_core.specs.Spins.{spun, pending_in}
-use Rattle.qspin_word.specs.Hands.{went, saw_word, pended}
+use Rattle.qspin_word.specs.SpinWordHands.{went, saw_word, pended}
 use Rattle.qspin_word.specs.Ways.{PendedAtStep, lock_hand_to}
 
 module _ {E : Type 0} (l at : ℕ) where

@@ -10,11 +10,11 @@ use Rattle.lock_core.specs.declared.view.Point.{Point}
 use Rattle.lock_core.specs.declared.view.Point.TheVariants.{Out, Undoing, Pending, Taking, Holding}
 use Rattle.lock_core.specs.SpinFrames.{uses}
 use Rattle.lock_core.specs.LockHands.{lock_hand_at, point_at, depth_of, RestsAt, at-with, at-else}
-use Rattle.lock_core.specs.Handles.{view_of, IsDepthTold, IsNestTold, NotesLock}
-use Rattle.qspin_word.specs.Hands.{went, taken, saw_word, pended, undone, awaited, turned}
+use Rattle.lock_core.specs.SiteHandles.{view_of, IsDepthTold, IsNestTold, NotesLock}
+use Rattle.qspin_word.specs.SpinWordHands.{went, taken, saw_word, pended, undone, awaited, turned}
 use Rattle.lock_core.specs.Nestings.{is_held, waits_at}
 use Rattle.qspin_word.specs.Ways.{lock_hand_to, LockGained}
-use Rattle.qspin_word.specs.Handles.{spin_in, lock_hand_of, point_in, SpinSteps, SpinWaits, SpinIdles, KeepsNodes}
+use Rattle.qspin_word.specs.SpinWordHandles.{spin_in, lock_hand_of, point_in, SpinSteps, SpinWaits, SpinIdles, KeepsNodes}
 use Rattle.qspin_word.proofs.OwnNodes.{same-depth}
 use Rattle.qspin_word.proofs.Going.{depth-step}
 use Rattle.qspin_word.proofs.Noting.{noted-point, others-on, others-told, told-noted}

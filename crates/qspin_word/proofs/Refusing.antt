@@ -8,7 +8,7 @@ use Rattle.lock_core.specs.declared.view.Point.TheVariants.{Out, Undoing, Pendin
 use Rattle.lock_core.specs.SpinFrames.{uses}
 use Rattle.lock_core.specs.LockHands.{lock_hand_at, point_at, depth_of, at-with, at-else}
 use Rattle.lock_core.specs.Spins.{spun}
-use Rattle.qspin_word.specs.Hands.{went, saw_word, pended, undone}
+use Rattle.qspin_word.specs.SpinWordHands.{went, saw_word, pended, undone}
 use Rattle.qspin_word.specs.Ways.{LockRefused, lock_hand_to}
 use Rattle.qspin_word.proofs.OwnNodes.{same-depth}
 

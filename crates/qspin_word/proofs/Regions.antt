@@ -12,7 +12,7 @@ use Rattle.lock_core.specs.declared.view.LockHand.{LockHand}
 use Rattle.lock_core.specs.declared.view.Frame.{Frame}
 use Rattle.lock_core.specs.declared.view.Saw.{Saw}
 use Rattle.lock_core.specs.declared.view.Point.{Point}
-use Rattle.lock_core.specs.Parts.{each-set, set_part, keep_part}
+use Rattle.lock_core.specs.ViewParts.{each-set, set_part, keep_part}
 use Rattle.lock_core.specs.Views.{SpinPart}
 use Rattle.lock_core.specs.LockHands.{lock_hand_at, frame_at, point_at, RestsAt}
 use Rattle.lock_core.specs.SpinFrames.{stands, holds_of}

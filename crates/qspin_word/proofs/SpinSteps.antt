@@ -23,7 +23,7 @@ use Rattle.lock_core.specs.SpinQueues.{LockKept}
 use Rattle.lock_core.specs.SpinLaws.{lock-of}
 use Rattle.lock_core.specs.Spins.{SpinFacts, SpinGoes, SpinsMove, OwnNodes, LockIn, tail_in, QueueMoves, TakesFrom, ComesTo, LeavesBy, frame_on, word_in, word_at, next_in, locked_in, holds_on}
 use Rattle.qspin_word.specs.Allows.{SpinAllows}
-use Rattle.qspin_word.specs.Hands.{at_point, framed, went, taken, took_at, saw_word, tried, looked, sought, grabbed, freed, pended, undone, awaited, turned}
+use Rattle.qspin_word.specs.SpinWordHands.{at_point, framed, went, taken, took_at, saw_word, tried, looked, sought, grabbed, freed, pended, undone, awaited, turned}
 use Rattle.qspin_word.proofs.Bits.{or_pending, or_pending_again, and_pending}
 use Rattle.qspin_word.proofs.WordSteps as step
 use Rattle.qspin_word.proofs.OwnNodes.{own-word, own-still}

@@ -8,7 +8,7 @@ use Rattle.lock_core.specs.declared.view.Point.TheVariants.{Out, Undoing, Pendin
 use Rattle.lock_core.specs.SpinQueues.{LockKept}
 use Rattle.qspin_word.proofs.Codes.{no_tail, some_stand}
 use Rattle.lock_core.specs.SpinLaws.{recount, rekept}
-use Rattle.qspin_word.specs.Hands.{at_point}
+use Rattle.qspin_word.specs.SpinWordHands.{at_point}
 
 module _ (next locked : ℕ → ℕ) (q : List ℕ) (fs : List Frame) (id : ℕ) (f : Frame) where
   abbrev Kept : ℕ → List Frame → Type 0

@@ -10,7 +10,7 @@ use Rattle.lock_core.specs.declared.view.SpinHand.{SpinHand}
 use Rattle.lock_core.specs.Ops.{word_after, told_by}
 use Rattle.lock_core.specs.Views.{SpinPart, spin_part, part_with}
 use Rattle.lock_core.specs.Spins.{SpinFacts, SpinGoes, SpinsMove, spun}
-use Rattle.lock_core.specs.Plays.{Sat, Turns}
+use Rattle.lock_core.specs.SitePlays.{Sat, Turns}
 
 -- passes have the numbers of so many tasks, and no two the same one
 pub record AreNumbered (tasks : ℕ) (ps : List SpinPart) : Type 0 where

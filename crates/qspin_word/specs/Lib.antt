@@ -1,4 +1,4 @@
 pub mod Allows
-pub mod Hands
+pub mod SpinWordHands
 pub mod Ways
-pub mod Handles
+pub mod SpinWordHandles

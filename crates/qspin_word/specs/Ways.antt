@@ -12,7 +12,7 @@ use Rattle.lock_core.specs.declared.view.Moment.{Moment}
 use Rattle.lock_core.specs.Views.{SpinHolds}
 use Rattle.lock_core.specs.LockHands.{lock_hand_at, point_at, RestsAt, HoldsAt, depth_of}
 use Rattle.lock_core.specs.Pasts.{GoesOn, FoundAt, IsStepBy, FoundAtStep}
-use Rattle.qspin_word.specs.Hands.{at_point, took_at, saw_word}
+use Rattle.qspin_word.specs.SpinWordHands.{at_point, took_at, saw_word}
 
 -- what a pass has to do with a lock, at another point
 abbrev pub lock_hand_to : Point → LockHand → LockHand

@@ -1,5 +1,5 @@
 //! What interrupts a pass that waits for a spin lock.
-ghost use Rattle.qspin_word.specs.Handles.{IsInterruptible, SpinIdles};
+ghost use Rattle.qspin_word.specs.SpinWordHandles.{IsInterruptible, SpinIdles};
 
 use lock_core::{Pass, Site, SpinHost};
 use std::sync::Wait;

@@ -5,9 +5,9 @@ ghost use Rattle.lock_core.specs.Stores.{spin_room};
 ghost use Rattle.lock_core.specs.Views.{no_spin};
 ghost use Rattle.lock_core.specs.Spins.{SpinFrees, word_at};
 ghost use Rattle.lock_core.specs.Pasts.{FindsAt};
-ghost use Rattle.lock_core.specs.Handles.{plan_of, view_of, past_of, SitsAt};
+ghost use Rattle.lock_core.specs.SiteHandles.{plan_of, view_of, past_of, SitsAt};
 ghost use Rattle.qspin_word.specs.Allows.{SpunBy};
-ghost use Rattle.qspin_word.specs.Handles.{spin_in, MaySpin, SpinSteps};
+ghost use Rattle.qspin_word.specs.SpinWordHandles.{spin_in, MaySpin, SpinSteps};
 
 use atomic_table::Play;
 use lock_core::view::View;

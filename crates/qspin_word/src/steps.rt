@@ -4,10 +4,10 @@ ghost use Rattle.lock_core.specs.declared.view.Point.TheVariants.{Out, Undoing, 
 ghost use Rattle.lock_core.specs.LockHands.{RestsAt, HoldsAt};
 ghost use Rattle.lock_core.specs.Spins.{word_at};
 ghost use Rattle.lock_core.specs.Pasts.{FoundAt};
-ghost use Rattle.lock_core.specs.Handles.{view_of, past_of, task_in, SitsAt, IsNestTold};
-ghost use Rattle.qspin_word.specs.Hands.{tried, looked, sought, grabbed, freed, pended, undone, awaited, turned};
+ghost use Rattle.lock_core.specs.SiteHandles.{view_of, past_of, task_in, SitsAt, IsNestTold};
+ghost use Rattle.qspin_word.specs.SpinWordHands.{tried, looked, sought, grabbed, freed, pended, undone, awaited, turned};
 ghost use Rattle.qspin_word.specs.Ways.{lock_hand_to};
-ghost use Rattle.qspin_word.specs.Handles.{spin_in, point_in, lock_hand_of, IsAtNone, SpinSteps, SpinWaits, KeepsNodes};
+ghost use Rattle.qspin_word.specs.SpinWordHandles.{spin_in, point_in, lock_hand_of, IsAtNone, SpinSteps, SpinWaits, KeepsNodes};
 
 use crate::interrupt::Interrupt;
 use crate::moves::word_step;

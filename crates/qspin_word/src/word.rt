@@ -5,9 +5,9 @@ ghost use Rattle.lock_core.specs.Views.{SpinRests, SpinHolds};
 ghost use Rattle.lock_core.specs.LockHands.{RestsAt, HoldsAt};
 ghost use Rattle.lock_core.specs.Spins.{spun, word_at};
 ghost use Rattle.lock_core.specs.Pasts.{FoundAt};
-ghost use Rattle.lock_core.specs.Handles.{view_of, past_of, task_in, SitsAt, SaysSame, KeepsPast, IsLatest, IsNestTold, NotesLock};
-ghost use Rattle.qspin_word.specs.Hands.{freed};
-ghost use Rattle.qspin_word.specs.Handles.{spin_in, lock_hand_of, FindsRival, FirstFoundFree, IsSameBut, KeepsFlagsBeside, OwnsPendingAt, TriesOnlyFree, KeepsNodes};
+ghost use Rattle.lock_core.specs.SiteHandles.{view_of, past_of, task_in, SitsAt, SaysSame, KeepsPast, IsLatest, IsNestTold, NotesLock};
+ghost use Rattle.qspin_word.specs.SpinWordHands.{freed};
+ghost use Rattle.qspin_word.specs.SpinWordHandles.{spin_in, lock_hand_of, FindsRival, FirstFoundFree, IsSameBut, KeepsFlagsBeside, OwnsPendingAt, TriesOnlyFree, KeepsNodes};
 ghost use Rattle.qspin_word.specs.Ways.{LockTaken, LockGained, LockRefused, SpinTaken, SpinMissed};
 
 use crate::PENDING;

@@ -33,8 +33,8 @@ use Rattle.rwsem_count.specs.declared.view.Bias.{Bias}
 use Rattle.rwsem_count.specs.declared.view.Bias.TheVariants.{Clear, Transit}
 use Rattle.rwsem_count.specs.Counts.{CountKept, CountMove, CountPart, HandStep, alone_in, shared_in, early_in, late_in, shared_weight, early_weight, late_weight, based, count_part, part}
 use Rattle.rwsem_count.specs.CountLaws.{count-reads, count-transit, count-backs, count-writes, count-frees-shared, count-frees-alone, count-downgrades}
-use Rattle.rwsem_count.specs.WordSteps.{IsReadFree}
-use Rattle.rwsem_count.specs.Plays.{SeenBy, Looked, Gets, ReadAdded, ReadTaken, WriteTaken, Leaves}
+use Rattle.rwsem_count.specs.CountWordSteps.{IsReadFree}
+use Rattle.rwsem_count.specs.CountPlays.{SeenBy, Looked, Gets, ReadAdded, ReadTaken, WriteTaken, Leaves}
 
 -- a lawful count lets a reader in exactly where it has no flag, and so it does with one bias more
 pub free-or-shut : (n m : ℕ) {P : Type 0} → IsLawfulCount n → m % 256 ≡ n % 256 → m ≤ n + 256 → (IsReadFree m → n % 8 ≡ 0 → P) → ((IsReadFree m → ⊥) → n % 8 ≢ 0 → P) → P

@@ -7,8 +7,8 @@ use Rattle.word_bits.specs.declared.TheConstants.{MAX_TASKS}
 use Rattle.word_bits.specs.CountWord.{IsCount, count_word}
 use Rattle.word_bits.specs.OwnerWord.{bit}
 use Rattle.lock_core.proofs.HandLaws.{not-both}
-use Rattle.rwsem_count.specs.Semaphores.{Semaphore, States, is_waited}
-use Rattle.rwsem_count.specs.WordSteps.{HasFlags, IsLocked}
+use Rattle.rwsem_count.specs.CountSemaphores.{Semaphore, States, is_waited}
+use Rattle.rwsem_count.specs.CountWordSteps.{HasFlags, IsLocked}
 
 bit-less : (b : Bool) → bit b < 2
 bit-less true = omega arith

@@ -12,9 +12,9 @@ use Rattle.lock_core.specs.Shown.{Shown, no_line, shown}
 use Rattle.lock_core.specs.Views.{handed}
 use Rattle.lock_core.proofs.Showing.{missed-misses}
 use Rattle.rwsem_count.specs.declared.view.Bias.{Bias}
-use Rattle.rwsem_count.specs.Ruled.{V, count_at, new_bias}
-use Rattle.rwsem_count.specs.Tries.{FindsShut, IsTransit, MissesCount, MissesSince, at_step}
-use Rattle.rwsem_count.specs.WordSteps.{IsReadFree}
+use Rattle.rwsem_count.specs.CountRuled.{V, count_at, new_bias}
+use Rattle.rwsem_count.specs.CountTries.{FindsShut, IsTransit, MissesCount, MissesSince, at_step}
+use Rattle.rwsem_count.specs.CountWordSteps.{IsReadFree}
 use Rattle.rwsem_count.proofs.Counting.{free-or-shut}
 
 abbrev show : V → List Moment → Shown

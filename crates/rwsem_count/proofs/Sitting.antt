@@ -16,10 +16,10 @@ use Rattle.lock_core.specs.Plans.{calls_in}
 use Rattle.lock_core.specs.Records.{row}
 use Rattle.lock_core.specs.Views.{took}
 use Rattle.lock_core.specs.Holding.{missed, released, downgraded}
-use Rattle.lock_core.specs.Passes.{Sits}
+use Rattle.lock_core.specs.SitePasses.{Sits}
 use Rattle.lock_core.specs.Pasts.{unseen}
 use Rattle.lock_core.proofs.Sitting.{sits-on}
-use Rattle.rwsem_count.specs.Plays.{SeenBy}
+use Rattle.rwsem_count.specs.CountPlays.{SeenBy}
 use Rattle.rwsem_count.proofs.Counting.{free-or-not}
 use Rattle.lock_core.proofs.RowLaws.{same-some}
 use Rattle.lock_core.proofs.HandLaws.{no-alone, not-both}

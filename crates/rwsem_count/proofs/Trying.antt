@@ -2,9 +2,9 @@
 use Rattle.std.proofs.Common.{◌≡◌, ℕ, ◌+◌, subst, arith}
 use Rattle.atomic_table.specs.Table.{Me}
 use Rattle.lock_core.specs.declared.view.View.{View}
-use Rattle.rwsem_count.specs.WordSteps.{IsReadFree}
-use Rattle.rwsem_count.specs.Plays.{SeenBy}
-use Rattle.rwsem_count.specs.Tries.{SawCount}
+use Rattle.rwsem_count.specs.CountWordSteps.{IsReadFree}
+use Rattle.rwsem_count.specs.CountPlays.{SeenBy}
+use Rattle.rwsem_count.specs.CountTries.{SawCount}
 
 module _ {E : Type 0} where
   -- what a step tells of the word that a try saw

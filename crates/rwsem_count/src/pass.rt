@@ -16,7 +16,7 @@ pub struct CountPass<O: Object> {
 }
 
 impl<O: Object> CountPass<O> {
-    ghost use Rattle.rwsem_count.specs.Handles.{transit_in};
+    ghost use Rattle.rwsem_count.specs.CountHandles.{transit_in};
 
     /// Whether it is in transit: its try has added a bias to the count, and neither holds by it nor
     /// has taken it back.

@@ -8,13 +8,13 @@ ghost use Rattle.lock_core.specs.Locking.{Downgrades, Misses, Releases, Takes};
 ghost use Rattle.lock_core.specs.Records.{IsPlan};
 ghost use Rattle.lock_core.specs.Views.{first, ticked, handed, split_off, merged, gave_up, BesideForgetting, HoldsNothing, OwesNoSignal};
 ghost use Rattle.lock_core.specs.Pasts.{EachMoment, FoundAt, IsMarked, Ran, Tail};
-ghost use Rattle.lock_core.specs.Stated.{IsNew, IsSiteMove};
+ghost use Rattle.lock_core.specs.SiteStated.{IsNew, IsSiteMove};
 ghost use Rattle.rwsem_count.specs.declared.view.Bias.TheVariants.{Clear};
 ghost use Rattle.rwsem_count.specs.Counts.{based};
-ghost use Rattle.rwsem_count.specs.Ruled.{IsCountSiteThen, IsPlain, count_at, new_bias, newest};
-ghost use Rattle.rwsem_count.specs.Stated.{kept_bias};
-ghost use Rattle.rwsem_count.specs.Tries.{FindsFree, FindsShut, IsTransit, LeftBy, MissesCount, MissesSince, TakesCount, TakesSince};
-ghost use Rattle.rwsem_count.specs.WordSteps.{IsReadFree};
+ghost use Rattle.rwsem_count.specs.CountRuled.{IsCountSiteThen, IsPlain, count_at, new_bias, newest};
+ghost use Rattle.rwsem_count.specs.CountStated.{kept_bias};
+ghost use Rattle.rwsem_count.specs.CountTries.{FindsFree, FindsShut, IsTransit, LeftBy, MissesCount, MissesSince, TakesCount, TakesSince};
+ghost use Rattle.rwsem_count.specs.CountWordSteps.{IsReadFree};
 
 use crate::pass::CountPass;
 use crate::rule::CountRule;
@@ -33,7 +33,7 @@ pub struct CountSite<O: Object> {
 }
 
 impl<O: Object> CountSite<O> {
-    ghost use Rattle.rwsem_count.specs.Handles.{plan_of, view_of, hand_in, past_of, task_in, held_in, front_in, shown_of, transit_in, IsLatest, KeepsPast, SitsAt, TakesNumber};
+    ghost use Rattle.rwsem_count.specs.CountHandles.{plan_of, view_of, hand_in, past_of, task_in, held_in, front_in, shown_of, transit_in, IsLatest, KeepsPast, SitsAt, TakesNumber};
 
     /// A new site: nobody holds, the state is empty, no call is logged or recorded. The pass has no
     /// task number.

@@ -2,13 +2,13 @@
 ghost use Rattle.std.specs.Prelude.{◌≡◌, ◌≢◌, ◌+◌, ◌-◌, ℕ, false, IsSome, IfOk, IfErr};
 ghost use Rattle.word_bits.specs.LockWords.{IsLawfulCount};
 ghost use Rattle.lock_core.specs.declared.view.Held.TheVariants.{No, Shared, Alone};
-ghost use Rattle.lock_core.specs.Handles.{IsLatest, plan_of, view_of, hand_in, past_of, task_in, held_in, SitsAt, KeepsPast, SaysSame};
+ghost use Rattle.lock_core.specs.SiteHandles.{IsLatest, plan_of, view_of, hand_in, past_of, task_in, held_in, SitsAt, KeepsPast, SaysSame};
 ghost use Rattle.lock_core.specs.Holding.{downgraded, missed, released};
 ghost use Rattle.lock_core.specs.Pasts.{FoundAt};
 ghost use Rattle.rwsem_count.specs.declared.view.Bias.TheVariants.{Clear, Transit};
 ghost use Rattle.rwsem_count.specs.Counts.{based};
-ghost use Rattle.rwsem_count.specs.Plays.{Leaves, ReadAdded, WriteTaken};
-ghost use Rattle.rwsem_count.specs.Tries.{FindsFree, FindsShut, LeftBy, MissesCount, TakesCount, IsTransit};
+ghost use Rattle.rwsem_count.specs.CountPlays.{Leaves, ReadAdded, WriteTaken};
+ghost use Rattle.rwsem_count.specs.CountTries.{FindsFree, FindsShut, LeftBy, MissesCount, TakesCount, IsTransit};
 
 use crate::host::CountHost;
 use crate::word_steps::{BIAS, WRITER, read_free};

@@ -2,12 +2,12 @@
 ghost use Rattle.std.specs.Prelude.{◌≡◌, ◌≢◌, ◌+◌, ℕ, IsSome, IfOk, IfErr};
 ghost use Rattle.word_bits.specs.LockWords.{IsLawfulCount};
 ghost use Rattle.lock_core.specs.declared.view.Held.TheVariants.{No, Shared};
-ghost use Rattle.lock_core.specs.Handles.{IsLatest, plan_of, view_of, past_of, task_in, held_in, SitsAt, KeepsPast, SaysSame};
+ghost use Rattle.lock_core.specs.SiteHandles.{IsLatest, plan_of, view_of, past_of, task_in, held_in, SitsAt, KeepsPast, SaysSame};
 ghost use Rattle.lock_core.specs.Pasts.{FoundAt};
 ghost use Rattle.rwsem_count.specs.declared.view.Bias.TheVariants.{Clear};
-ghost use Rattle.rwsem_count.specs.Plays.{Looked, ReadTaken};
-ghost use Rattle.rwsem_count.specs.Tries.{FindsFree, MayMissSince, MayReadSince, MissesSince, SawCount, TakesCount, TakesSince};
-ghost use Rattle.rwsem_count.specs.WordSteps.{IsReadFree};
+ghost use Rattle.rwsem_count.specs.CountPlays.{Looked, ReadTaken};
+ghost use Rattle.rwsem_count.specs.CountTries.{FindsFree, MayMissSince, MayReadSince, MissesSince, SawCount, TakesCount, TakesSince};
+ghost use Rattle.rwsem_count.specs.CountWordSteps.{IsReadFree};
 
 use crate::host::CountHost;
 use crate::word_steps::{BIAS, read_free};

@@ -1,7 +1,7 @@
 //! What one step makes of a count word.
 ghost use Rattle.std.specs.Prelude.{◌≡◌, ◌++◌, ◌/◌, ◌%◌, ◌↔◌, ℕ, IsTrue, List, if◌then◌else◌};
-ghost use Rattle.rwsem_count.specs.Semaphores.{Semaphore, States};
-ghost use Rattle.rwsem_count.specs.WordSteps.{HasFlags, IsLocked, IsReadFree, IsTold, LetsReadersIn, Writes, WritesLawfully};
+ghost use Rattle.rwsem_count.specs.CountSemaphores.{Semaphore, States};
+ghost use Rattle.rwsem_count.specs.CountWordSteps.{HasFlags, IsLocked, IsReadFree, IsTold, LetsReadersIn, Writes, WritesLawfully};
 
 /// A writer holds.
 pub const WRITER: u64 = 1;

@@ -8,7 +8,7 @@ use Rattle.word_bits.specs.Histories.{Plan}
 use Rattle.lock_core.specs.declared.view.Moment.{Moment}
 use Rattle.lock_core.specs.declared.view.Marks.{Marks}
 use Rattle.lock_core.specs.LockedLaws.{move-steps}
-use Rattle.lock_core.specs.Parts.{Each}
+use Rattle.lock_core.specs.ViewParts.{Each}
 use Rattle.lock_core.specs.Pasts.{ChangesOneWord, Instant, Moves, marks_of, Paced, Ran, instant, moment}
 use Rattle.lock_core.specs.Spins.{holds_in}
 use Rattle.lock_core.specs.Views.{spin_of}
@@ -22,11 +22,11 @@ use Rattle.sem_duty.specs.declared.view.SemWake.{SemWake}
 use Rattle.rwsem_wake.specs.declared.view.SemHand.{SemHand}
 use Rattle.rwsem_wake.specs.SemParts.{SemPart, busy_of}
 use Rattle.rwsem_wake.specs.Handoffs.{KeepsHandoff}
-use Rattle.rwsem_wake.specs.Stated.{Picks}
+use Rattle.rwsem_wake.specs.GrantsStated.{Picks}
 use Rattle.rwsem_slow.specs.declared.view.RwSemHand.{RwSemHand}
 use Rattle.rwsem_slow.specs.WakesGo.{WakeStands, WakesGo, wake_stands}
 use Rattle.rwsem_slow.specs.RwSems.{IsLocked, IsMadeBy, Kept, RwSemKept, RwSemMoves, V, count_at, count_in, entered, grants_in, list_of, marks_in, seen, standing, wake_words}
-use Rattle.rwsem_slow.specs.Stated.{HasBecome, HasNoBatch, HasWaitLock, IsRwSemStep, MadeBy, stance}
+use Rattle.rwsem_slow.specs.RwSemStated.{HasBecome, HasNoBatch, HasWaitLock, IsRwSemStep, MadeBy, stance}
 use Rattle.rwsem_slow.proofs.Marking.{same-wakes}
 use Rattle.rwsem_slow.proofs.Stating.{queued}
 

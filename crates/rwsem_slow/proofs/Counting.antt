@@ -1,12 +1,12 @@
 -- What a call counts on its CPU.
 use Rattle.std.proofs.Common.{◌≡◌, ◌∙◌, ℕ, suc, ◌+◌, ◌≤◌, inl, inr, ⊎_elim, Bool, true, false, refl, sym, ap, subst, arith}
 use Rattle.std.specs.Prelude.{Result, Ok, Err, IfOk, IfErr}
-use Rattle.cpu_task.specs.Counting.{Dozes, DozesOnce, SleepsAtMost, SleepsInTurns, one_more, rescheds_after, slept}
+use Rattle.cpu_task.specs.CpuCounting.{Dozes, DozesOnce, SleepsAtMost, SleepsInTurns, one_more, rescheds_after, slept}
 use Rattle.lock_core.specs.declared.how.How.{How}
 use Rattle.lock_core.specs.declared.how.How.TheVariants.{Fast, Spun, Slept}
 use Rattle.lock_core.specs.declared.how.Interrupted.{Interrupted}
 use Rattle.lock_core.specs.Shown.{Shown}
-use Rattle.rwsem_slow.specs.Counting.{CountsLeaving, CountsReading, CountsWriting, SleepsBetween}
+use Rattle.rwsem_slow.specs.SleepCounting.{CountsLeaving, CountsReading, CountsWriting, SleepsBetween}
 use Rattle.rwsem_slow.specs.Stealing.{WentOn}
 
 -- an answer lets the count fall by nothing

@@ -3,10 +3,10 @@ use Rattle.std.proofs.Common.{◌≡◌, ◌∙◌, ℕ, ◌+◌, ◌<◌, ◌�
 use Rattle.lock_core.specs.declared.view.Held.{Held}
 use Rattle.lock_core.specs.declared.view.Moment.{Moment}
 use Rattle.lock_core.specs.Pasts.{FoundAt, GoesOn, IsOwnStep}
-use Rattle.lock_core.specs.RunLaws.{step-by}
+use Rattle.lock_core.specs.SiteRunLaws.{step-by}
 use Rattle.lock_core.specs.Shown.{LeavesHold, shown}
 use Rattle.rwsem_slow.specs.RwSems.{V, count_at}
-use Rattle.rwsem_slow.specs.Places.{line_of}
+use Rattle.rwsem_slow.specs.RwSemPlaces.{line_of}
 use Rattle.rwsem_slow.specs.Releasing.{LeavesCount, WentThrough}
 
 -- a step that left the hand

@@ -2,7 +2,7 @@
 use Rattle.std.proofs.Common.{◌≡◌, ◌≢◌, ◌∙◌, ℕ, ◌≤◌, ◌⊎◌, ◌++◌, ◌&&◌, inl, inr, eq-eqb, Bool, true, false, List, [], ◌∷◌, map, filter, take, Option, Some, None, refl, sym, ap, subst, arith, if◌then◌else◌}
 use Rattle.std.proofs.lemmas.List.{append-nil}
 use Rattle.lock_core.specs.declared.pass.Pass.{Pass}
-use Rattle.lock_core.specs.Handles.{view_of, Finds, KeepsPast}
+use Rattle.lock_core.specs.SiteHandles.{view_of, Finds, KeepsPast}
 use Rattle.lock_core.specs.Pasts.{IsStepBy}
 use Rattle.lock_core.specs.Records.{bit}
 use Rattle.wait_list.specs.declared.view.Waiter.{Waiter}
@@ -20,9 +20,9 @@ use Rattle.rwsem_slow.specs.declared.view.RwSemHand.{RwSemHand}
 use Rattle.rwsem_slow.specs.declared.waking.WakeType.{WakeType}
 use Rattle.rwsem_slow.specs.declared.waking.WakeType.TheVariants.{Any, Readers, ReadOwned}
 use Rattle.rwsem_slow.specs.RwSems.{V, chooses_task, has_number, is_clear, list_at, list_of, looked, looks_at, may_look, saw_first, with_list}
-use Rattle.rwsem_slow.specs.Places.{seen_of}
+use Rattle.rwsem_slow.specs.RwSemPlaces.{seen_of}
 use Rattle.rwsem_slow.specs.Removals.{KnowsList, without_all}
-use Rattle.rwsem_slow.specs.Wakes.{Grants, HasChosenAll, IsAtRest, Looks, MayWake, SawWriter, Wakes, first_woken, readers_woken}
+use Rattle.rwsem_slow.specs.RwSemWakes.{Grants, HasChosenAll, IsAtRest, Looks, MayWake, SawWriter, Wakes, first_woken, readers_woken}
 
 -- the first of a list
 

@@ -4,7 +4,7 @@ use Rattle.std.proofs.lemmas.List.{append-nil}
 use Rattle.word_bits.specs.declared.TheConstants.{MAX_TASKS}
 use Rattle.lock_core.specs.declared.view.Moment.{Moment}
 use Rattle.lock_core.specs.Pasts.{FoundAt, GoesOn, IsOwnStep}
-use Rattle.lock_core.specs.RunLaws.{found-at-step}
+use Rattle.lock_core.specs.SiteRunLaws.{found-at-step}
 use Rattle.lock_core.specs.Records.{bit}
 use Rattle.lock_core.specs.Shown.{shown}
 use Rattle.lock_core.specs.Views.{ticked}
@@ -19,9 +19,9 @@ use Rattle.rwsem_wake.specs.Duties.{paid}
 use Rattle.rwsem_wake.specs.SemParts.{IsWhole}
 use Rattle.sem_duty.specs.declared.view.SemWake.{SemWake}
 use Rattle.rwsem_slow.specs.RwSems.{V, MayPick, count_at, sem_of, with_sem, with_wake}
-use Rattle.rwsem_slow.specs.Places.{line_of}
+use Rattle.rwsem_slow.specs.RwSemPlaces.{line_of}
 use Rattle.rwsem_slow.specs.Removals.{KnowsList, RemovesAll, without_all}
-use Rattle.rwsem_slow.specs.Wakes.{Grants, IsAtRest, SawWriter, batch_in}
+use Rattle.rwsem_slow.specs.RwSemWakes.{Grants, IsAtRest, SawWriter, batch_in}
 use Rattle.rwsem_slow.proofs.Removing.{batch-whole}
 
 pub or-false : (a b : Bool) → b ≡ false → (a || b) ≡ a

@@ -5,7 +5,7 @@ use Rattle.word_bits.specs.Objects.{Obj}
 use Rattle.word_bits.specs.Histories.{Plan}
 use Rattle.lock_core.specs.declared.op.Op.TheVariants.{Load, Store}
 use Rattle.lock_core.specs.Moves.{Lets}
-use Rattle.lock_core.specs.Plays.{Turns}
+use Rattle.lock_core.specs.SitePlays.{Turns}
 use Rattle.lock_core.specs.Views.{ticked}
 use Rattle.rwsem_slow.specs.RwSems.{V, Kept, RwSemMoves, hint_at}
 use Rattle.rwsem_slow.specs.RwSemLaws.{sem-hints}

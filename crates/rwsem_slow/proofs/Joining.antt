@@ -10,7 +10,7 @@ use Rattle.rwsem_wake.specs.declared.view.Stage.TheVariants.{Rest, First, Joinin
 use Rattle.rwsem_wake.specs.declared.view.Wait.TheVariants.{Reads, Writes}
 use Rattle.rwsem_wake.specs.SemParts.{apart_hand}
 use Rattle.rwsem_wake.specs.Grants.{TurnsTo}
-use Rattle.rwsem_wake.specs.Queues.{rested}
+use Rattle.rwsem_wake.specs.GrantQueues.{rested}
 use Rattle.rwsem_slow.specs.Queued.{Becomes, comes, waiting}
 use Rattle.rwsem_slow.specs.Removals.{KnowsList}
 use Rattle.rwsem_slow.specs.RwSems.{V, list_of, with_list, with_sem}

@@ -9,7 +9,7 @@ use Rattle.rwsem_count.specs.declared.view.Bias.TheVariants.{Clear, Transit, Res
 use Rattle.rwsem_wake.specs.declared.view.SemHand.{SemHand}
 use Rattle.rwsem_slow.specs.WakesGo.{wake_stands}
 use Rattle.rwsem_slow.specs.RwSems.{V, bias_codes, numbers_of, stage_code, standing, wait_code, wake_codes}
-use Rattle.rwsem_slow.specs.Stated.{stance}
+use Rattle.rwsem_slow.specs.RwSemStated.{stance}
 
 -- the numbers of a mark behind those of its bias
 abbrev behind-bias : List ℕ → List ℕ

@@ -10,15 +10,15 @@ use Rattle.lock_core.specs.declared.pass.Pass.{Pass}
 use Rattle.lock_core.specs.declared.site.Site.{Site}
 use Rattle.lock_core.specs.declared.view.Held.{Held}
 use Rattle.lock_core.specs.declared.view.Moment.{Moment}
-use Rattle.lock_core.specs.Handles.{view_of, task_in, SitsAt, KeepsPast}
+use Rattle.lock_core.specs.SiteHandles.{view_of, task_in, SitsAt, KeepsPast}
 use Rattle.lock_core.specs.Pasts.{FoundAt, GoesOn, IsOwnStep}
-use Rattle.lock_core.specs.RunLaws.{step-by}
+use Rattle.lock_core.specs.SiteRunLaws.{step-by}
 use Rattle.lock_core.specs.Shown.{Shown, PastGoesOn, shown}
 use Rattle.lock_core.proofs.Within.{found-within}
-use Rattle.rwsem_count.specs.Tries.{TakesSince}
+use Rattle.rwsem_count.specs.CountTries.{TakesSince}
 use Rattle.rwsem_slow.specs.declared.view.RwSemHand.{RwSemHand}
-use Rattle.rwsem_slow.specs.Opening.{TakesFrom, TakesOpen}
-use Rattle.rwsem_slow.specs.Places.{line_of, seen_of}
+use Rattle.rwsem_slow.specs.RwSemOpening.{TakesFrom, TakesOpen}
+use Rattle.rwsem_slow.specs.RwSemPlaces.{line_of, seen_of}
 use Rattle.rwsem_slow.specs.RwSems.{V, biased, count_at}
 use Rattle.rwsem_slow.specs.Stealing.{WentOn}
 

@@ -7,7 +7,7 @@ use Rattle.wait_list.specs.declared.view.Waiter.{Waiter}
 use Rattle.wait_list.specs.Lists.{IsList, counted, first_code, without}
 use Rattle.rwsem_wake.specs.Batches.{batch_of, reads, starts_with_reader, task_of}
 use Rattle.rwsem_wake.specs.SemParts.{IsWhole}
-use Rattle.rwsem_wake.specs.Stated.{IsFirstReader}
+use Rattle.rwsem_wake.specs.GrantsStated.{IsFirstReader}
 use Rattle.rwsem_slow.specs.ListSteps.{reader-counts}
 use Rattle.rwsem_slow.specs.Picking.{PicksBatchInTurn, PicksFirstReaders, PicksInTurn, PicksWholeBatch}
 use Rattle.rwsem_slow.specs.Removals.{AreHeads, BeginsWith, without_all}

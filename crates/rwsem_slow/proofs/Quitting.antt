@@ -22,13 +22,13 @@ use Rattle.rwsem_wake.specs.declared.view.Wait.TheVariants.{Apart, Reads}
 use Rattle.rwsem_wake.specs.SemParts.{apart_hand, some_of}
 use Rattle.rwsem_wake.specs.Batches.{starts_with_reader}
 use Rattle.rwsem_wake.specs.Grants.{OnlySem, StirsTo, TurnsTo, summing, unmarked}
-use Rattle.rwsem_wake.specs.Queues.{MayLook, heard_locked, rested}
+use Rattle.rwsem_wake.specs.GrantQueues.{MayLook, heard_locked, rested}
 use Rattle.rwsem_slow.specs.RwSems.{V, leaves_wake, list_of, may_change, parted, parted_wake, sem_of, with_list, with_sem, with_wake}
 use Rattle.rwsem_slow.specs.Removals.{KnowsList, StaysBeside}
 use Rattle.rwsem_slow.specs.Queued.{Becomes, IsListed, Listens, LooksAt, Stays, waiting}
 use Rattle.rwsem_slow.specs.declared.waking.WakeType.TheVariants.{Any}
 use Rattle.rwsem_slow.specs.Leaving.{HasLeft, IsUnmarked, MayLeave, SeesUngranted, WakesOn, gone_first, left_wake, ungranted}
-use Rattle.rwsem_slow.specs.Wakes.{HasChosenAll, IsAtRest, SawWriter, woken_of}
+use Rattle.rwsem_slow.specs.RwSemWakes.{HasChosenAll, IsAtRest, SawWriter, woken_of}
 use Rattle.wait_list.proofs.Joining.{holds-one}
 use Rattle.rwsem_slow.proofs.FirstLooks.{code-of}
 use Rattle.rwsem_slow.proofs.Vigils.{heard-same, stirs-turns}

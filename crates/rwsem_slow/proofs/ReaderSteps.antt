@@ -23,9 +23,9 @@ use Rattle.rwsem_wake.specs.declared.view.Wait.TheVariants.{Reads}
 use Rattle.rwsem_wake.specs.SemParts.{apart_hand}
 use Rattle.rwsem_wake.specs.Grants.{StirsTo, TurnsTo, armed, unreserved}
 use Rattle.rwsem_wake.specs.Duties.{left_by}
-use Rattle.rwsem_wake.specs.Queues.{HoldsBy, MaySettle, settled}
+use Rattle.rwsem_wake.specs.GrantQueues.{HoldsBy, MaySettle, settled}
 use Rattle.rwsem_slow.specs.Queued.{Becomes, Drowses, IsInTransit, IsListed, Listens, Shares, Tries, WaitsOn, comes, waiting}
-use Rattle.rwsem_slow.specs.Places.{dozes_of}
+use Rattle.rwsem_slow.specs.RwSemPlaces.{dozes_of}
 use Rattle.rwsem_slow.specs.Removals.{KnowsList}
 use Rattle.rwsem_slow.specs.RwSems.{V, IsDone, joined, list_of, sem_of, vigil_of, with_list, with_sem, with_wake}
 use Rattle.wait_list.proofs.Joining.{holds-one}

@@ -15,11 +15,11 @@ use Rattle.rwsem_wake.specs.Batches.{batch_of, reads, starts_with_reader, task_o
 use Rattle.lock_core.specs.Totals.{total}
 use Rattle.rwsem_wake.specs.SemParts.{IsWhole, reader_bit, reader_of, some_of}
 use Rattle.rwsem_wake.proofs.Places.{total-without}
-use Rattle.rwsem_wake.specs.Stated.{IsFirstReader}
+use Rattle.rwsem_wake.specs.GrantsStated.{IsFirstReader}
 use Rattle.rwsem_slow.specs.ListSteps.{picks-is, reader-counts}
 use Rattle.rwsem_slow.specs.RwSems.{V, MayPick, chooses_task, list_of, may_change, parted, parted_wake, picked, sem_of, with_list, with_sem}
 use Rattle.rwsem_slow.specs.Removals.{AreHeads, BeginsWith, Chose, HasRemoved, KnowsList, RemovesAll, without_all}
-use Rattle.rwsem_slow.specs.Wakes.{Grants, batch_in}
+use Rattle.rwsem_slow.specs.RwSemWakes.{Grants, batch_in}
 use Rattle.rwsem_wake.specs.Grants.{KeepsOut, OnlySem, all_granted}
 
 pub heads-first : (t : ℕ) (ts : List ℕ) (q : List Waiter) → AreHeads (t ∷ ts) q → IsFirstReader t q

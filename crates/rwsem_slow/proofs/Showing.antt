@@ -12,15 +12,15 @@ use Rattle.lock_core.specs.Holding.{missed}
 use Rattle.lock_core.specs.Kinds.{semaphore, unavailable}
 use Rattle.lock_core.specs.Locking.{Interrupts, KeepsPlace, Looks, Misses, OnlyTried, SawPending, Sees}
 use Rattle.lock_core.specs.Pasts.{GoesOn, FoundAt, FoundAtStep, IsOwnStep}
-use Rattle.lock_core.specs.RunLaws.{found-at-step}
+use Rattle.lock_core.specs.SiteRunLaws.{found-at-step}
 use Rattle.lock_core.specs.Shown.{PastGoesOn, Shown, shown}
 use Rattle.lock_core.specs.Signals.{OnlyConsumed}
 use Rattle.lock_core.proofs.Showing.{missed-misses}
 use Rattle.lock_core.proofs.Within.{sees-within, waits-interrupted}
-use Rattle.rwsem_count.specs.Tries.{MissesCount, MissesSince, at_step}
-use Rattle.rwsem_count.specs.WordSteps.{IsReadFree}
+use Rattle.rwsem_count.specs.CountTries.{MissesCount, MissesSince, at_step}
+use Rattle.rwsem_count.specs.CountWordSteps.{IsReadFree}
 use Rattle.rwsem_count.proofs.Counting.{free-or-shut}
-use Rattle.rwsem_slow.specs.Places.{line_of}
+use Rattle.rwsem_slow.specs.RwSemPlaces.{line_of}
 use Rattle.rwsem_slow.specs.Queued.{EntersLock}
 use Rattle.rwsem_slow.specs.RwSems.{V, count_at}
 use Rattle.rwsem_slow.specs.Spinning.{SawIfTried, SeesShut}

@@ -11,7 +11,7 @@ use Rattle.lock_core.specs.declared.view.Hand.{Hand}
 use Rattle.lock_core.specs.declared.view.Moment.{Moment}
 use Rattle.lock_core.specs.Layout.{site}
 use Rattle.lock_core.specs.Locked.{IsWaitLockFree}
-use Rattle.lock_core.specs.Parts.{Each, at_unmap}
+use Rattle.lock_core.specs.ViewParts.{Each, at_unmap}
 use Rattle.lock_core.specs.Pasts.{instant, marks_of, moment}
 use Rattle.lock_core.specs.Records.{bit}
 use Rattle.lock_core.specs.Spins.{holds_in}
@@ -24,23 +24,23 @@ use Rattle.wait_list.specs.Lists.{AreTasks, Part, PartOk, changes_of, first_code
 use Rattle.wait_list.specs.ListLaws.{holds-or-not}
 use Rattle.wake_duty.specs.declared.view.Vigil.{Vigil}
 use Rattle.wake_duty.specs.declared.view.Vigil.TheVariants.{Absent, Awake, Tried}
-use Rattle.wake_duty.specs.Wakes.{awake, waits, wake_word}
+use Rattle.wake_duty.specs.DutyWakes.{awake, waits, wake_word}
 use Rattle.sem_duty.specs.declared.view.SemWake.{SemWake}
 use Rattle.sem_duty.specs.SemDuties.{DutyPart, answers, chose, first_writes, rouses, stirs, times, wakes_first, where_so}
 use Rattle.rwsem_wake.specs.SemParts.{SemPart, alone_of, busy_of, busy_weight, granted_of, granting_of, reserve_of, rest_of, shared_of, transit_weight}
 use Rattle.rwsem_wake.specs.Duties.{overdue_of}
-use Rattle.rwsem_wake.specs.Stated.{readers}
+use Rattle.rwsem_wake.specs.GrantsStated.{readers}
 use Rattle.rwsem_wake.proofs.DutySteps.{late-are}
-use Rattle.rwsem_wake.specs.Semaphores.{Quiet}
+use Rattle.rwsem_wake.specs.GrantSemaphores.{Quiet}
 use Rattle.rwsem_wake.proofs.Readers.{only-first, readers-are, readers-once}
 use Rattle.rwsem_wake.proofs.Stating.{sem-states, sem-waiters}
-use Rattle.rwsem_slow.specs.ListLaws.{batch-busy}
+use Rattle.rwsem_slow.specs.RwSemListLaws.{batch-busy}
 use Rattle.rwsem_slow.specs.WaiterLaws.{has-pass, named-is, view-of}
 use Rattle.rwsem_slow.specs.WakesGo.{WakeStands}
 use Rattle.rwsem_slow.proofs.Marking.{same-wakes}
 use Rattle.rwsem_slow.specs.RwSems.{V, IsDone, Kept, RwSemKept, count_in, duty_seen, grants_in, list_of, marks_in, seen, standing, wake_words}
 use Rattle.rwsem_slow.specs.RwSemLaws.{few-named}
-use Rattle.rwsem_slow.specs.Stated.{HasWaitLock, IsQueued, IsRoused, IsRwSemThen, SomebodyKeepsOut, SomebodyOwes, WakesMarked, stance}
+use Rattle.rwsem_slow.specs.RwSemStated.{HasWaitLock, IsQueued, IsRoused, IsRwSemThen, SomebodyKeepsOut, SomebodyOwes, WakesMarked, stance}
 
 -- who doesn't wait has no vigil
 waits-none : (x : Vigil) → waits x ≡ 0 → x ≡ Absent

@@ -20,7 +20,7 @@ use Rattle.lock_core.specs.declared.pass.Face.{Face}
 use Rattle.lock_core.specs.Holding.{Learns, missed}
 use Rattle.lock_core.specs.Layout.{site}
 use Rattle.lock_core.specs.Moves.{Goes, Lets}
-use Rattle.lock_core.specs.Passes.{Sits}
+use Rattle.lock_core.specs.SitePasses.{Sits}
 use Rattle.lock_core.specs.Pasts.{unseen}
 use Rattle.lock_core.specs.Kinds.{semaphore, unavailable}
 use Rattle.lock_core.specs.Locking.{OnlyTried}
@@ -37,14 +37,14 @@ use Rattle.lock_core.proofs.Steps.{chooses}
 use Rattle.rwsem_count.specs.declared.view.Bias.TheVariants.{Clear}
 use Rattle.rwsem_count.specs.Counts.{CountKept, CountMove, CountPart, based, count_part, part}
 use Rattle.rwsem_count.specs.CountLaws.{count-writes}
-use Rattle.rwsem_count.specs.Tries.{MissesSince}
+use Rattle.rwsem_count.specs.CountTries.{MissesSince}
 use Rattle.rwsem_count.proofs.Counting.{alone-parts, held-parts, its-plan}
 use Rattle.rwsem_count.proofs.Sitting.{sits-missed}
 use Rattle.rwsem_wake.specs.declared.view.SemHand.{SemHand}
 use Rattle.rwsem_wake.specs.SemParts.{apart_hand, transit_weight}
 use Rattle.rwsem_slow.specs.declared.view.RwSemHand.{RwSemHand}
 use Rattle.rwsem_slow.specs.CountHosting.{sem-count, sem-counted}
-use Rattle.rwsem_slow.specs.Places.{line_of}
+use Rattle.rwsem_slow.specs.RwSemPlaces.{line_of}
 use Rattle.rwsem_slow.specs.RwSemLaws.{sem-looks}
 use Rattle.rwsem_slow.specs.RwSems.{V, Kept, RwSemMoves, bias_of, biased, count_at, count_in, more_in}
 use Rattle.rwsem_slow.specs.Spinning.{IsUnlocked, LookedUnqueued, SawUnqueued, SeenUnqueued, TakenUnqueued}

@@ -3,10 +3,10 @@ use Rattle.std.proofs.Common.{◌≡◌, ◌∙◌, ℕ, zero, suc, inl, inr, �
 use Rattle.word_bits.specs.LockWords.{IsLawfulCount}
 use Rattle.wake_duty.specs.declared.view.Vigil.{Vigil}
 use Rattle.wake_duty.specs.declared.view.Vigil.TheVariants.{Absent, Awake, Tried}
-use Rattle.wake_duty.specs.Wakes.{foiled, waits}
+use Rattle.wake_duty.specs.DutyWakes.{foiled, waits}
 use Rattle.wake_duty.specs.WakeSteps.{HasTried}
 use Rattle.sem_duty.specs.declared.view.SemWake.{SemWake}
-use Rattle.rwsem_count.specs.WordSteps.{IsLocked}
+use Rattle.rwsem_count.specs.CountWordSteps.{IsLocked}
 use Rattle.rwsem_wake.specs.Duties.{exchanged, foiled_by, foiled_unless, heard_locked_at, is_left, is_own, saw_count, saw_mark, sees_itself}
 use Rattle.rwsem_wake.specs.Grants.{StirsTo, TurnsTo}
 use Rattle.rwsem_wake.specs.declared.view.SemHand.{SemHand}

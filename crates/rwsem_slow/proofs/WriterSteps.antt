@@ -16,10 +16,10 @@ use Rattle.wait_list.specs.declared.view.Waiter.{Waiter}
 use Rattle.wait_list.specs.Lists.{FindsFirst, FindsNext, IsList, Knows, Removes, counted, first_code, first_of, next_of}
 use Rattle.wait_list.proofs.Waiters.{sound-changed}
 use Rattle.rwsem_count.specs.declared.word_steps.Write.TheVariants.{Fail, Mark, Take}
-use Rattle.rwsem_count.specs.WordSteps.{HasFlags, HasHandoff, Writes as WritesBy}
+use Rattle.rwsem_count.specs.CountWordSteps.{HasFlags, HasHandoff, Writes as WritesBy}
 use Rattle.wake_duty.specs.WakeSteps.{HasTried}
 use Rattle.sem_duty.specs.declared.view.SemWake.{SemWake}
-use Rattle.rwsem_count.specs.WordSteps.{IsLocked}
+use Rattle.rwsem_count.specs.CountWordSteps.{IsLocked}
 use Rattle.rwsem_wake.specs.Duties.{exchanged, saw_count}
 use Rattle.rwsem_wake.specs.declared.view.SemHand.{SemHand}
 use Rattle.rwsem_wake.specs.declared.view.Stage.TheVariants.{Rest, Marking, Took, Removed, Summing}
@@ -28,7 +28,7 @@ use Rattle.rwsem_wake.specs.declared.view.Wait.TheVariants.{Writes}
 use Rattle.rwsem_wake.specs.SemParts.{apart_hand}
 use Rattle.lock_core.specs.Views.{SpinHolds, took}
 use Rattle.rwsem_wake.specs.Grants.{StirsTo, TurnsTo, stirred}
-use Rattle.rwsem_wake.specs.Queues.{HoldsBy, MayTake, asked, own_unmarked, rested, taken}
+use Rattle.rwsem_wake.specs.GrantQueues.{HoldsBy, MayTake, asked, own_unmarked, rested, taken}
 use Rattle.rwsem_slow.specs.Queued.{Becomes, HasTaken, HasTriedAt, IsInLine, IsListed, IsTrying, KeepsWaiting, KnowsMark, Rests, Stays, Tries, waiting}
 use Rattle.rwsem_slow.specs.Removals.{KnowsList}
 use Rattle.rwsem_slow.specs.RwSems.{V, leaves_wake, list_of, parted, parted_wake, sem_of, vigil_of, with_list, with_sem, with_wake}

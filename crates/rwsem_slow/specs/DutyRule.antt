@@ -12,7 +12,7 @@ use Rattle.lock_core.specs.declared.view.Held.TheVariants.{No, Shared, Alone}
 use Rattle.lock_core.specs.Records.{bit}
 use Rattle.lock_core.specs.Views.{alone_weight, held_weight, is_number}
 use Rattle.lock_core.specs.Totals.{total, total-set, total-at, total-two}
-use Rattle.lock_core.specs.Parts.{Each, at_unmap, each-set, keep_part, set_part, set-there}
+use Rattle.lock_core.specs.ViewParts.{Each, at_unmap, each-set, keep_part, set_part, set-there}
 use Rattle.lock_core.proofs.HandLaws.{false-or-true, is_number-here, not-both}
 use Rattle.lock_core.proofs.RowLaws.{none-some}
 use Rattle.wait_list.specs.declared.view.Waiter.{Waiter}
@@ -20,7 +20,7 @@ use Rattle.wait_list.specs.declared.view.Change.TheVariants.{Enter, Leave}
 use Rattle.wait_list.specs.declared.view.ListHand.{ListHand}
 use Rattle.wait_list.specs.Lists.{AreTasks, first_code, listed, without}
 use Rattle.wake_duty.specs.declared.view.Vigil.TheVariants.{Awake}
-use Rattle.wake_duty.specs.Wakes.{awake, waits, wake_word}
+use Rattle.wake_duty.specs.DutyWakes.{awake, waits, wake_word}
 use Rattle.sem_duty.specs.declared.view.SemWake.{SemWake}
 use Rattle.sem_duty.specs.SemDuties.{DutyPart, DutyKept, IsQuiet, alone_of as alone_in_duty, late_of as late_in_duty, owes, stirs, chose, rouses, where_so, first_writes, wakes_first, recounted, entering, leaving}
 use Rattle.sem_duty.specs.SemDutyLaws.{duty-guards, duty-owes, duty-ends, duty-lets-go, duty-writes, duty-unwaited, duty-enters, duty-leaves, duty-picks, duty-chooses, duty-quiet, duty-pays}
@@ -33,7 +33,7 @@ use Rattle.rwsem_wake.specs.declared.view.Wait.TheVariants.{Apart, Reads, Writes
 use Rattle.rwsem_wake.specs.declared.view.Stage.{Stage}
 use Rattle.rwsem_wake.specs.declared.view.Stage.TheVariants.{Rest, Armed, Joining, First, Marking, Took, Removed, Emptied, Overdue, Marked, Removing, Summing, Counted, Granting}
 use Rattle.rwsem_wake.specs.SemParts.{SemPart, alone_of, apart_hand, busy_of, busy_weight, granted_of, granted_weight, granting_of, granting_weight, is_zero, nobody, reads_weight, reserve_weight, part_of, shared_of, some_of, transit_of, transit_weight, writes_weight, writes_at, writer_at, named_weight}
-use Rattle.rwsem_wake.specs.Semaphores.{SemKept, SemPartOk, FlagsAt, FlagsOf, now, pick}
+use Rattle.rwsem_wake.specs.GrantSemaphores.{SemKept, SemPartOk, FlagsAt, FlagsOf, now, pick}
 use Rattle.rwsem_wake.specs.Grants.{KeepsOut}
 use Rattle.rwsem_wake.specs.Duties.{StageOk, WakeGoes, begun_weight, waited_weight, duty_of, guards_of, is_left, kept_of, kept_weight, overdue_of, overdue_weight, paid, writes_of}
 use Rattle.rwsem_wake.proofs.DutySteps.{field-is, writer-is, guards-are, late-are, alone-are, not-left, overdue-only}

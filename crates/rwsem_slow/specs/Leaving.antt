@@ -11,7 +11,7 @@ use Rattle.wake_duty.specs.declared.view.Vigil.TheVariants.{Absent}
 use Rattle.sem_duty.specs.declared.view.SemWake.{SemWake}
 use Rattle.rwsem_slow.specs.RwSems.{V}
 use Rattle.rwsem_slow.specs.Queued.{IsInLine, IsListed, waiting}
-use Rattle.rwsem_slow.specs.Wakes.{SawWriter, woken_of}
+use Rattle.rwsem_slow.specs.RwSemWakes.{SawWriter, woken_of}
 use Rattle.rwsem_slow.specs.declared.waking.WakeType.TheVariants.{Any}
 
 -- a reader that waits has seen under the wait lock that it isn't granted

@@ -18,9 +18,9 @@ use Rattle.rwsem_wake.specs.declared.view.Wait.TheVariants.{Apart, Reads, Writes
 use Rattle.rwsem_wake.specs.declared.view.Stage.{Stage}
 use Rattle.rwsem_wake.specs.declared.view.Stage.TheVariants.{Rest, Armed, Joining, First, Took, Removed, Emptied, Overdue, Removing, Summing}
 use Rattle.rwsem_wake.specs.SemParts.{SemPart, busy_of, named_weight, reads_at, writes_at, granted_at, granting_of, granting_weight, here, reader_at, writer_at, reader_bit, reserve_weight, reserve_of, early_of, late_of, some_of, marks_sum, first_mark, tasks}
-use Rattle.rwsem_wake.specs.Semaphores.{FlagsAt, Quiet, SemKept, batch_weight, load_of}
+use Rattle.rwsem_wake.specs.GrantSemaphores.{FlagsAt, Quiet, SemKept, batch_weight, load_of}
 use Rattle.rwsem_wake.specs.Handoffs.{KeepsHandoff, granting_at}
-use Rattle.rwsem_wake.specs.Stated.{IsFirstReader, Picks, Without}
+use Rattle.rwsem_wake.specs.GrantsStated.{IsFirstReader, Picks, Without}
 use Rattle.rwsem_wake.proofs.Sums.{busy-most}
 use Rattle.rwsem_wake.proofs.Places.{first-least, granted-all, not-zero, some-length, total-without}
 use Rattle.rwsem_wake.proofs.WakeLaws.{batched, held-most, single-of}

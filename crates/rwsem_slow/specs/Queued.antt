@@ -10,14 +10,14 @@ use Rattle.lock_core.specs.Holding.{Learns}
 use Rattle.lock_core.specs.Signals.{OnlyHeard}
 use Rattle.lock_core.specs.Views.{took}
 use Rattle.rwsem_count.specs.declared.view.Bias.TheVariants.{Transit}
-use Rattle.rwsem_count.specs.WordSteps.{HasHandoff, IsLocked}
+use Rattle.rwsem_count.specs.CountWordSteps.{HasHandoff, IsLocked}
 use Rattle.rwsem_wake.specs.declared.view.SemHand.{SemHand}
 use Rattle.rwsem_wake.specs.declared.view.Stage.TheVariants.{Took, Summing}
 use Rattle.rwsem_wake.specs.declared.view.Wait.{Wait}
 use Rattle.rwsem_wake.specs.declared.view.Wait.TheVariants.{Writes}
 use Rattle.rwsem_wake.specs.SemParts.{apart_hand}
 use Rattle.wake_duty.specs.declared.view.Vigil.TheVariants.{Awake}
-use Rattle.wake_duty.specs.Wakes.{waits}
+use Rattle.wake_duty.specs.DutyWakes.{waits}
 use Rattle.wake_duty.specs.WakeSteps.{HasTried}
 use Rattle.sem_duty.specs.declared.view.SemWake.{SemWake}
 use Rattle.rwsem_wake.specs.Duties.{is_left}

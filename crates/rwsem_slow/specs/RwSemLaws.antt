@@ -22,7 +22,7 @@ use Rattle.lock_core.specs.SpinFrames.{holds_at, holds_of}
 use Rattle.lock_core.specs.Spins.{SpinKept, SpinGoes, SpinFrees, SpinMoves, spun, holds_in, frame_of}
 use Rattle.lock_core.specs.SpinLaws.{spin-same, spin-renames, spin-comes, spin-ends, spin-opens}
 use Rattle.lock_core.specs.Totals.{total, total-at, total-snoc}
-use Rattle.lock_core.specs.Parts.{Each, each-set, each-snoc, keep_part, set_part, set-there, snoc_part}
+use Rattle.lock_core.specs.ViewParts.{Each, each-set, each-snoc, keep_part, set_part, set-there, snoc_part}
 use Rattle.lock_core.specs.Regions.{part-in, part-above, part-below, part-at, wide-part}
 use Rattle.lock_core.proofs.HandLaws.{number-or-not}
 use Rattle.wait_list.specs.declared.view.Waiter.{Waiter}
@@ -36,12 +36,12 @@ use Rattle.rwsem_count.specs.Numbers.{few-numbers, number_weight as number_in}
 use Rattle.rwsem_wake.specs.declared.view.SemHand.{SemHand}
 use Rattle.rwsem_wake.specs.declared.view.Stage.TheVariants.{Rest}
 use Rattle.rwsem_wake.specs.SemParts.{SemPart, apart_hand, busy_of, busy_weight, nobody}
-use Rattle.rwsem_wake.specs.Semaphores.{SemKept, batch_weight, number_of, number_weight}
+use Rattle.rwsem_wake.specs.GrantSemaphores.{SemKept, batch_weight, number_of, number_weight}
 use Rattle.rwsem_wake.specs.Handoffs.{KeepsHandoff, reads_as}
 use Rattle.rwsem_wake.specs.Grants.{stirred}
 use Rattle.rwsem_wake.specs.Duties.{WakeGoes}
 use Rattle.rwsem_wake.proofs.DutySteps.{duty-goes-on}
-use Rattle.wake_duty.specs.Wakes.{WAKE_WORDS}
+use Rattle.wake_duty.specs.DutyWakes.{WAKE_WORDS}
 use Rattle.sem_duty.specs.declared.view.SemWake.{SemWake}
 use Rattle.sem_duty.specs.SemDuties.{DutyKept}
 use Rattle.sem_duty.specs.SemDutyLaws.{duty-opens, duty-snoc}

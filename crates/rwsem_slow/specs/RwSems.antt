@@ -16,7 +16,7 @@ use Rattle.lock_core.specs.Views.{hand_of, held_weight, spin_part}
 use Rattle.lock_core.specs.Sites.{SiteKept}
 use Rattle.lock_core.specs.Moves.{SiteMove}
 use Rattle.lock_core.specs.Spins.{SpinKept, SpinMoves, holds_in}
-use Rattle.lock_core.specs.Parts.{Each}
+use Rattle.lock_core.specs.ViewParts.{Each}
 use Rattle.lock_core.specs.Records.{bit}
 use Rattle.wait_list.specs.declared.view.Waiter.{Waiter}
 use Rattle.wait_list.specs.declared.view.Change.{Change}
@@ -26,7 +26,7 @@ use Rattle.wait_list.specs.declared.words.TheConstants.{LIST_WORDS}
 use Rattle.wait_list.specs.Lists.{ListKept, ListMoves, list_part, no_list, first_code}
 use Rattle.wake_duty.specs.declared.view.Vigil.{Vigil}
 use Rattle.wake_duty.specs.declared.view.Vigil.TheVariants.{Absent, Awake}
-use Rattle.wake_duty.specs.Wakes.{WAKE_WORDS, waits}
+use Rattle.wake_duty.specs.DutyWakes.{WAKE_WORDS, waits}
 use Rattle.sem_duty.specs.declared.view.SemWake.{SemWake}
 use Rattle.sem_duty.specs.SemDuties.{DutyPart, DutyKept, no_wake, times, setting, drowsing}
 use Rattle.rwsem_count.specs.declared.view.Bias.{Bias}
@@ -38,9 +38,9 @@ use Rattle.rwsem_wake.specs.declared.view.Wait.TheVariants.{Apart, Reads, Writes
 use Rattle.rwsem_wake.specs.declared.view.Stage.{Stage}
 use Rattle.rwsem_wake.specs.declared.view.Stage.TheVariants.{Rest, Armed, Joining, First, Marking, Took, Removed, Emptied, Overdue, Removing, Summing, Granting}
 use Rattle.rwsem_wake.specs.SemParts.{SemPart, apart_hand, busy_weight, reserve_weight, transit_weight}
-use Rattle.rwsem_wake.specs.Semaphores.{SemKept, more_of}
+use Rattle.rwsem_wake.specs.GrantSemaphores.{SemKept, more_of}
 use Rattle.rwsem_wake.specs.Handoffs.{KeepsHandoff}
-use Rattle.rwsem_wake.specs.Stated.{Picks}
+use Rattle.rwsem_wake.specs.GrantsStated.{Picks}
 use Rattle.rwsem_wake.specs.Lines.{lines_in}
 use Rattle.rwsem_wake.specs.Grants.{KeepsOut, sem_part}
 use Rattle.rwsem_wake.specs.Duties.{StageOk, duty_of, is_left, paid}

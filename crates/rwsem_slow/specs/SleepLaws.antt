@@ -20,14 +20,14 @@ use Rattle.lock_core.specs.SpinFrames.{holds_at}
 use Rattle.lock_core.specs.Spins.{SpinMoves, holds_in}
 use Rattle.lock_core.specs.SpinLaws.{spin-same}
 use Rattle.lock_core.specs.Totals.{total, total-two}
-use Rattle.lock_core.specs.Parts.{at_unmap, each-set, keep_part, set-there, set_part}
+use Rattle.lock_core.specs.ViewParts.{at_unmap, each-set, keep_part, set-there, set_part}
 use Rattle.lock_core.specs.Regions.{part-in, part-below, part-at}
 use Rattle.lock_core.proofs.HandLaws.{is_number-else, is_number-here}
 use Rattle.wait_list.specs.declared.view.Waiter.{Waiter}
 use Rattle.wait_list.specs.declared.view.Change.TheVariants.{Stay}
 use Rattle.wait_list.specs.Lists.{ListKept, Part, list_part, first_code}
 use Rattle.wait_list.specs.declared.words.TheConstants.{LIST_WORDS}
-use Rattle.wake_duty.specs.Wakes.{WAKE_WORDS, wake_word}
+use Rattle.wake_duty.specs.DutyWakes.{WAKE_WORDS, wake_word}
 use Rattle.wake_duty.specs.WakeSteps.{HasTried, knowing}
 use Rattle.wake_duty.specs.declared.view.Vigil.{Vigil}
 use Rattle.wake_duty.specs.declared.view.Vigil.TheVariants.{Tried}

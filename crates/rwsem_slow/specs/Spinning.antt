@@ -7,11 +7,11 @@ use Rattle.lock_core.specs.declared.view.Held.TheVariants.{Alone}
 use Rattle.lock_core.specs.Holding.{missed}
 use Rattle.lock_core.specs.Kinds.{semaphore}
 use Rattle.lock_core.specs.Locking.{Sees}
-use Rattle.lock_core.specs.Plays.{Sat, Turns}
+use Rattle.lock_core.specs.SitePlays.{Sat, Turns}
 use Rattle.lock_core.specs.Shown.{Shown}
 use Rattle.lock_core.specs.Views.{handed, ticked}
-use Rattle.rwsem_count.specs.Plays.{Gets}
-use Rattle.rwsem_count.specs.Tries.{MissesCount, at_step}
+use Rattle.rwsem_count.specs.CountPlays.{Gets}
+use Rattle.rwsem_count.specs.CountTries.{MissesCount, at_step}
 use Rattle.rwsem_slow.specs.declared.view.RwSemHand.{RwSemHand}
 use Rattle.rwsem_slow.specs.RwSems.{V, biased, count_at}
 

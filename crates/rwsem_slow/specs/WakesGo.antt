@@ -9,7 +9,7 @@ use Rattle.wait_list.specs.declared.view.Change.TheVariants.{Enter, Leave}
 use Rattle.wait_list.specs.Lists.{first_code}
 use Rattle.wake_duty.specs.declared.view.Vigil.{Vigil}
 use Rattle.wake_duty.specs.declared.view.Vigil.TheVariants.{Absent, Awake, Tried}
-use Rattle.wake_duty.specs.Wakes.{wake_word, waits}
+use Rattle.wake_duty.specs.DutyWakes.{wake_word, waits}
 use Rattle.wake_duty.specs.WakeMoves.{DozesOff, SetsChosen, WordGoes}
 use Rattle.sem_duty.specs.declared.view.SemWake.{SemWake}
 use Rattle.sem_duty.specs.SemDuties.{first_writes, less, times}
@@ -17,7 +17,7 @@ use Rattle.rwsem_count.specs.declared.view.Bias.TheVariants.{Clear, Transit, Res
 use Rattle.rwsem_wake.specs.declared.view.Wait.TheVariants.{Reads, Writes}
 use Rattle.rwsem_wake.specs.SemParts.{SemPart, granted_of}
 use Rattle.rwsem_wake.specs.Duties.{is_left}
-use Rattle.rwsem_wake.specs.Stated.{Picks}
+use Rattle.rwsem_wake.specs.GrantsStated.{Picks}
 
 -- whether it waits, and tries or loads its grant word before it sleeps
 abbrev pub awake_bit : Vigil → ℕ

@@ -14,13 +14,13 @@ use Rattle.wait_list.specs.declared.view.Change.TheVariants.{Stay, Enter, Leave}
 use Rattle.wait_list.specs.Lists.{first_code}
 use Rattle.wake_duty.specs.declared.view.Vigil.{Vigil}
 use Rattle.wake_duty.specs.declared.view.Vigil.TheVariants.{Absent, Awake, Tried}
-use Rattle.wake_duty.specs.Wakes.{WAKE_WORDS, foiled, wake_word, waits}
+use Rattle.wake_duty.specs.DutyWakes.{WAKE_WORDS, foiled, wake_word, waits}
 use Rattle.wake_duty.specs.WakeMoves.{WordGoes}
 use Rattle.sem_duty.specs.declared.view.SemWake.{SemWake}
 use Rattle.sem_duty.specs.SemDuties.{drowsing, first_writes, setting, times}
 use Rattle.rwsem_wake.specs.SemParts.{SemPart, busy_weight}
 use Rattle.rwsem_wake.specs.Duties.{WakeGoes, is_left, paid}
-use Rattle.rwsem_wake.specs.Stated.{Picks}
+use Rattle.rwsem_wake.specs.GrantsStated.{Picks}
 use Rattle.rwsem_slow.specs.WakesGo.{HearsBy, LeavesNothing, OwesBy, PaysBy, QueuesBy, SetsBy, SetsTask, TiresBy, WakesGo, awake_bit, wake_stands}
 use Rattle.rwsem_slow.specs.RwSems.{has_waiters, leaves_wake, chooses_task, looked, looks_at, owes_after}
 

@@ -5,18 +5,18 @@ ghost use Rattle.lock_core.specs.Kinds.{semaphore, unavailable};
 ghost use Rattle.lock_core.specs.Pasts.{EachMoment, Paced, Ran, Tail};
 ghost use Rattle.lock_core.specs.Locking.{Looks, Has};
 ghost use Rattle.lock_core.specs.Locked.{IsLockedThen, IsSiteStep};
-ghost use Rattle.lock_core.specs.Passes.{Numbered};
+ghost use Rattle.lock_core.specs.SitePasses.{Numbered};
 ghost use Rattle.lock_core.specs.Records.{IsPlan};
 ghost use Rattle.lock_core.specs.Shown.{AllButHand, IsLatestStep, PastGoesOn, shown_new, shown_split};
 ghost use Rattle.lock_core.specs.SpinStated.{IsSpinLockThen, IsSpinMove};
-ghost use Rattle.lock_core.specs.Stated.{IsNew};
+ghost use Rattle.lock_core.specs.SiteStated.{IsNew};
 ghost use Rattle.lock_core.specs.Views.{gathered, gave_up};
-ghost use Rattle.osq_nodes.specs.Handles.{tasks_of};
-ghost use Rattle.lock_core.specs.Handles as inner;
+ghost use Rattle.osq_nodes.specs.OsqHandles.{tasks_of};
+ghost use Rattle.lock_core.specs.SiteHandles as inner;
 ghost use Rattle.wait_list.specs.declared.view.Waiter.{Waiter as Waiters};
 ghost use Rattle.rwsem_wake.specs.SemParts.{SemPart};
 ghost use Rattle.rwsem_slow.specs.RwSems.{count_at, standing, wait_lock_at};
-ghost use Rattle.rwsem_slow.specs.Stated.{HasBecome, IsOutOfLine, IsRwSemThen, MarksCounts, waits_on};
+ghost use Rattle.rwsem_slow.specs.RwSemStated.{HasBecome, IsOutOfLine, IsRwSemThen, MarksCounts, waits_on};
 
 use crate::counts::{NO_WAKES, WakeCounts};
 use crate::rule::SemRule;
@@ -53,7 +53,7 @@ pub struct RwPass<O: Object> {
 }
 
 impl<O: Object> RwPass<O> {
-    ghost use Rattle.rwsem_slow.specs.Handles.{dozes_in, shown_of, wakes_in};
+    ghost use Rattle.rwsem_slow.specs.RwSemHandles.{dozes_in, shown_of, wakes_in};
 
     /// What it has counted of its calls that waited.
     pub fn tally(&self) -> Tally
@@ -80,7 +80,7 @@ impl<O: Object> RwPass<O> {
 }
 
 impl<O: Object> RwSem<O> {
-    ghost use Rattle.rwsem_slow.specs.Handles.{newest, plan_of, shown_of, hand_in, dozes_in, wakes_in, KeepsWakes, SitsAt, SpunGoesOn};
+    ghost use Rattle.rwsem_slow.specs.RwSemHandles.{newest, plan_of, shown_of, hand_in, dozes_in, wakes_in, KeepsWakes, SitsAt, SpunGoesOn};
 
     /// A new semaphore: nobody holds, the state is empty, no call is logged or recorded. The pass
     /// has no task number.

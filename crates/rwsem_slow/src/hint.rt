@@ -1,8 +1,8 @@
 //! The owner hint: who holds, where a task that has come to hold stored it. No fact rests on it.
 ghost use Rattle.std.specs.Prelude.{◌≡◌, ◌↔◌, ◌+◌, ◌*◌, ◌%◌, ◌<◌, IsSome, IsTrue};
-ghost use Rattle.lock_core.specs.Handles.{IsLatest, view_of, task_in, SitsAt, KeepsPast, SaysSame};
+ghost use Rattle.lock_core.specs.SiteHandles.{IsLatest, view_of, task_in, SitsAt, KeepsPast, SaysSame};
 ghost use Rattle.lock_core.specs.Views.{ticked};
-ghost use Rattle.rwsem_slow.specs.Plays.{Ticks};
+ghost use Rattle.rwsem_slow.specs.HintPlays.{Ticks};
 
 use crate::rule::SemRule;
 use crate::view::RwSemHand;

@@ -1,7 +1,7 @@
 //! How a waiter that a signal interrupts leaves the list.
 ghost use Rattle.std.specs.Prelude.{◌≡◌, ◌≢◌, ◌+◌, ◌<◌, ◌≤◌, [], true, false, IfSome, IsSome, Some, length};
 ghost use Rattle.lock_core.specs.declared.view.Held.TheVariants.{No};
-ghost use Rattle.lock_core.specs.Handles.{plan_of, view_of, hand_in, task_in, held_in, SitsAt, KeepsPast, SaysSame};
+ghost use Rattle.lock_core.specs.SiteHandles.{plan_of, view_of, hand_in, task_in, held_in, SitsAt, KeepsPast, SaysSame};
 ghost use Rattle.lock_core.specs.Locking.{SawPending};
 ghost use Rattle.lock_core.specs.Records.{bit};
 ghost use Rattle.lock_core.specs.Signals.{HasHeard, OnlyConsumed};
@@ -12,9 +12,9 @@ ghost use Rattle.rwsem_wake.specs.Grants.{OnlySem, summing};
 ghost use Rattle.rwsem_slow.specs.RwSems.{leaves_wake, with_sem};
 ghost use Rattle.rwsem_wake.specs.Grants.{AreTaskNumbers};
 ghost use Rattle.rwsem_slow.specs.Removals.{KnowsList};
-ghost use Rattle.rwsem_slow.specs.Places.{AreCounts, IsOutside, StepsOn, dozes_of, seen_of};
+ghost use Rattle.rwsem_slow.specs.RwSemPlaces.{AreCounts, IsOutside, StepsOn, dozes_of, seen_of};
 ghost use Rattle.rwsem_slow.specs.Queued.{Becomes, KeepsLine, Listens, LooksAt};
-ghost use Rattle.rwsem_slow.specs.Wakes.{woken_tasks};
+ghost use Rattle.rwsem_slow.specs.RwSemWakes.{woken_tasks};
 ghost use Rattle.rwsem_slow.specs.Leaving.{HasLeft, IsUnmarked, MayLeave, WakesOn, gone_first};
 
 use crate::counts::WakeCounts;

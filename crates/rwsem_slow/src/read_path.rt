@@ -2,16 +2,16 @@
 ghost use Rattle.std.specs.Prelude.{◌≡◌, ◌+◌, true, false, IfErr, IfOk, IsSome};
 ghost use Rattle.lock_core.specs.declared.how.How.TheVariants.{Spun};
 ghost use Rattle.lock_core.specs.declared.view.Held.TheVariants.{No, Shared};
-ghost use Rattle.lock_core.specs.Handles.{plan_of, view_of, hand_in, task_in, held_in, SitsAt};
+ghost use Rattle.lock_core.specs.SiteHandles.{plan_of, view_of, hand_in, task_in, held_in, SitsAt};
 ghost use Rattle.lock_core.specs.Locking.{SawPending, Takes};
 ghost use Rattle.lock_core.specs.Signals.{HasHeard, OnlyConsumed};
 ghost use Rattle.lock_core.specs.Records.{bit};
 ghost use Rattle.lock_core.specs.Views.{SpinHolds, SpinRests};
 ghost use Rattle.rwsem_wake.specs.declared.view.Wait.TheVariants.{Reads};
 ghost use Rattle.rwsem_wake.specs.SemParts.{some_of};
-ghost use Rattle.cpu_task.specs.Counting.{Dozes};
-ghost use Rattle.rwsem_slow.specs.Counting.{SleepsBetween};
-ghost use Rattle.rwsem_slow.specs.Places.{AreCounts, IsOutside, StepsOn, dozes_of, seen_of};
+ghost use Rattle.cpu_task.specs.CpuCounting.{Dozes};
+ghost use Rattle.rwsem_slow.specs.SleepCounting.{SleepsBetween};
+ghost use Rattle.rwsem_slow.specs.RwSemPlaces.{AreCounts, IsOutside, StepsOn, dozes_of, seen_of};
 ghost use Rattle.rwsem_slow.specs.Queued.{AppendedBy, EntersLock, IsInLine, IsInTransit, KeepsLine, Shares};
 ghost use Rattle.rwsem_slow.specs.Removals.{KnowsList};
 

@@ -1,7 +1,7 @@
 //! How a reader queues, and hears that it is granted.
 ghost use Rattle.std.specs.Prelude.{◌≡◌, ◌≢◌, ◌≤◌, ◌+◌, ℕ, true, false, IfSome, IfNone, IsSome};
 ghost use Rattle.lock_core.specs.declared.view.Held.TheVariants.{No};
-ghost use Rattle.lock_core.specs.Handles.{plan_of, view_of, task_in, held_in, SitsAt, KeepsPast, SaysSame};
+ghost use Rattle.lock_core.specs.SiteHandles.{plan_of, view_of, task_in, held_in, SitsAt, KeepsPast, SaysSame};
 ghost use Rattle.lock_core.specs.Records.{bit};
 ghost use Rattle.lock_core.specs.Views.{SpinHolds};
 ghost use Rattle.rwsem_wake.specs.declared.view.Wait.TheVariants.{Reads};

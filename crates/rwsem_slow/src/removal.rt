@@ -1,6 +1,6 @@
 //! The walk along the list of waiters, and the removal of a batch from it.
 ghost use Rattle.std.specs.Prelude.{◌≡◌, ◌≤◌, [], IsSome, Some, length, ◌<◌};
-ghost use Rattle.lock_core.specs.Handles.{IsLatest, plan_of, view_of, task_in, SitsAt, KeepsPast, SaysSame};
+ghost use Rattle.lock_core.specs.SiteHandles.{IsLatest, plan_of, view_of, task_in, SitsAt, KeepsPast, SaysSame};
 ghost use Rattle.lock_core.specs.Views.{SpinHolds};
 ghost use Rattle.wait_list.specs.Lists.{AreAmong, first_of, only_steps};
 ghost use Rattle.rwsem_slow.specs.RwSems.{MayPick, sem_of};

@@ -5,7 +5,7 @@ ghost use Rattle.lock_core.specs.SpinTables.{one-some, one-eight};
 ghost use Rattle.rwsem_slow.specs.RwSems.{Kept, MayMiss, RwSemKept, RwSemMoves, any_count, bias_of, biased, count_at, grants_at, idle, list_at, list_of, marks_at, may_change, may_count, may_free, more_in, rests, saw_first, sem_of, standing, wake_of, with_list, with_sem, with_wake, sleep_vigil, wakes_at, HasChosen, after_set, after_swap};
 ghost use Rattle.rwsem_slow.specs.RwSemLaws.{count-inside, count-there, list-inside, list-room, sem-joins-rule, sem-looks, sem-opens-rule, sem-places, sem-sems, sem-site, sem-sites, sem-spin, sem-spins, sem-splits, spin-inside};
 ghost use Rattle.rwsem_slow.specs.WaiterLaws.{few-waiters};
-ghost use Rattle.rwsem_slow.specs.ListLaws.{list-again, list-back, list-over, list-same, may-on, may-stay, sem-firsts, sem-list, sem-list-may, sem-lists, sem-queued};
+ghost use Rattle.rwsem_slow.specs.RwSemListLaws.{list-again, list-back, list-over, list-same, may-on, may-stay, sem-firsts, sem-list, sem-list-may, sem-lists, sem-queued};
 ghost use Rattle.rwsem_slow.specs.CountHosting.{bias-back, sem-alone, sem-count, sem-counted, sem-words};
 ghost use Rattle.rwsem_slow.specs.SleepLaws.{sem-bits, sem-sets, sem-swaps, wake-inside};
 

@@ -3,16 +3,16 @@ ghost use Rattle.std.specs.Prelude.{◌≡◌, ◌≢◌, ◌↔◌, ◌+◌, �
 ghost use Rattle.word_bits.specs.LockWords.{IsLawfulCount};
 ghost use Rattle.lock_core.specs.declared.how.How.TheVariants.{Spun};
 ghost use Rattle.lock_core.specs.declared.view.Held.TheVariants.{No, Alone};
-ghost use Rattle.lock_core.specs.Handles.{IsLatest, plan_of, view_of, past_of, task_in, held_in, SitsAt, KeepsPast, SaysSame};
+ghost use Rattle.lock_core.specs.SiteHandles.{IsLatest, plan_of, view_of, past_of, task_in, held_in, SitsAt, KeepsPast, SaysSame};
 ghost use Rattle.lock_core.specs.Kinds.{semaphore, unavailable};
 ghost use Rattle.lock_core.specs.Locking.{OnlyTried, Takes};
 ghost use Rattle.lock_core.specs.Pasts.{FoundAt};
 ghost use Rattle.osq_nodes.specs.declared.node.Place.TheVariants.{Front};
-ghost use Rattle.osq_nodes.specs.Handles as spinners;
-ghost use Rattle.rwsem_count.specs.Tries.{MissesSince, TakesCount, TakesSince};
+ghost use Rattle.osq_nodes.specs.OsqHandles as spinners;
+ghost use Rattle.rwsem_count.specs.CountTries.{MissesSince, TakesCount, TakesSince};
 ghost use Rattle.rwsem_wake.specs.SemParts.{apart_hand};
-ghost use Rattle.rwsem_slow.specs.Opening.{FindsUnlocked, TakesOpen};
-ghost use Rattle.rwsem_slow.specs.Places.{IsOutside, StepsOn, seen_of};
+ghost use Rattle.rwsem_slow.specs.RwSemOpening.{FindsUnlocked, TakesOpen};
+ghost use Rattle.rwsem_slow.specs.RwSemPlaces.{IsOutside, StepsOn, seen_of};
 ghost use Rattle.rwsem_slow.specs.RwSems.{biased, count_at};
 ghost use Rattle.rwsem_slow.specs.Spinning.{IsUnlocked, LookedUnqueued, SawUnqueued, SeesShut, StandsSame, TakenUnqueued};
 

@@ -3,18 +3,18 @@
 ghost use Rattle.std.specs.Prelude.{◌≡◌, ◌↔◌, ◌+◌, true, false, IfErr, IfOk, IsSome, IsTrue};
 ghost use Rattle.lock_core.specs.declared.how.How.TheVariants.{Spun};
 ghost use Rattle.lock_core.specs.declared.view.Held.TheVariants.{No, Shared};
-ghost use Rattle.lock_core.specs.Handles.{plan_of, view_of, task_in, held_in, SitsAt, KeepsPast, SaysSame};
+ghost use Rattle.lock_core.specs.SiteHandles.{plan_of, view_of, task_in, held_in, SitsAt, KeepsPast, SaysSame};
 ghost use Rattle.lock_core.specs.Kinds.{lets_in, semaphore};
 ghost use Rattle.lock_core.specs.Locking.{SawPending, Takes};
 ghost use Rattle.lock_core.specs.Shown.{LeavesHold};
 ghost use Rattle.lock_core.specs.Signals.{OnlyConsumed};
 ghost use Rattle.lock_core.specs.Views.{SpinRests, ticked};
-ghost use Rattle.cpu_task.specs.Counting.{Dozes};
-ghost use Rattle.rwsem_slow.specs.Counting.{SleepsBetween};
-ghost use Rattle.rwsem_slow.specs.Places.{AreCounts, IsOutside, StepsOn, dozes_of, seen_of};
+ghost use Rattle.cpu_task.specs.CpuCounting.{Dozes};
+ghost use Rattle.rwsem_slow.specs.SleepCounting.{SleepsBetween};
+ghost use Rattle.rwsem_slow.specs.RwSemPlaces.{AreCounts, IsOutside, StepsOn, dozes_of, seen_of};
 ghost use Rattle.rwsem_slow.specs.Queued.{EntersLock, IsInTransit, KeepsLine, Shares};
 ghost use Rattle.rwsem_slow.specs.Stealing.{IsShared, MaySteal, StealsBy, WentOn, left_by};
-ghost use Rattle.rwsem_slow.specs.Wakes.{MayWake};
+ghost use Rattle.rwsem_slow.specs.RwSemWakes.{MayWake};
 
 use crate::counts::WakeCounts;
 use crate::hint::{HINT, is_reader_hint, note_reader};

@@ -1,6 +1,6 @@
 //! Wakes of a semaphore's waiters, under its wait lock.
 ghost use Rattle.std.specs.Prelude.{◌≡◌, ◌<◌, ◌≤◌, ◌+◌, ◌||◌, ℕ, [], Bool, true, false, IsSome, Some, length};
-ghost use Rattle.lock_core.specs.Handles.{IsLatest, plan_of, view_of, task_in, SitsAt, KeepsPast, SaysSame};
+ghost use Rattle.lock_core.specs.SiteHandles.{IsLatest, plan_of, view_of, task_in, SitsAt, KeepsPast, SaysSame};
 ghost use Rattle.lock_core.specs.Records.{bit};
 ghost use Rattle.lock_core.specs.Views.{SpinHolds};
 ghost use Rattle.rwsem_count.specs.Counts.{early_weight, shared_weight};
@@ -8,9 +8,9 @@ ghost use Rattle.rwsem_wake.specs.Grants.{AreTaskNumbers, KeepsOut};
 ghost use Rattle.rwsem_wake.specs.SemParts.{some_of};
 ghost use Rattle.wait_list.specs.Lists.{first_of};
 ghost use Rattle.rwsem_slow.specs.RwSems.{MayPick, sem_of};
-ghost use Rattle.rwsem_slow.specs.Places.{AreCounts, StepsOn, seen_of};
+ghost use Rattle.rwsem_slow.specs.RwSemPlaces.{AreCounts, StepsOn, seen_of};
 ghost use Rattle.rwsem_slow.specs.Removals.{KnowsList, RemovesAll};
-ghost use Rattle.rwsem_slow.specs.Wakes.{Grants, IsAtRest, Looks, MayWake, SawWriter, SetsAll, Wakes, batch_in, readers_woken, woken_tasks};
+ghost use Rattle.rwsem_slow.specs.RwSemWakes.{Grants, IsAtRest, Looks, MayWake, SawWriter, SetsAll, Wakes, batch_in, readers_woken, woken_tasks};
 
 use crate::counts::WakeCounts;
 use crate::hint::{reader_hint, set_hint};

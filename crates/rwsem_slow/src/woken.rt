@@ -15,7 +15,7 @@ pub enum Woken {
 }
 
 impl Woken {
-    ghost use Rattle.rwsem_slow.specs.Wakes.{woken_tasks};
+    ghost use Rattle.rwsem_slow.specs.RwSemWakes.{woken_tasks};
 
     /// The tasks, in the order of the list.
     pub fn tasks(&self) -> &[u32]

@@ -2,21 +2,21 @@
 ghost use Rattle.std.specs.Prelude.{◌≡◌, ◌≢◌, ◌+◌, true, false, [], IfErr, IfOk, IfNone, IfSome, IsSome};
 ghost use Rattle.lock_core.specs.declared.how.How.TheVariants.{Slept};
 ghost use Rattle.lock_core.specs.declared.view.Held.TheVariants.{No, Alone};
-ghost use Rattle.lock_core.specs.Handles.{plan_of, view_of, hand_in, task_in, held_in, SitsAt, KeepsPast, SaysSame};
+ghost use Rattle.lock_core.specs.SiteHandles.{plan_of, view_of, hand_in, task_in, held_in, SitsAt, KeepsPast, SaysSame};
 ghost use Rattle.lock_core.specs.Locking.{SawPending, Takes};
 ghost use Rattle.lock_core.specs.Signals.{HasHeard, OnlyConsumed};
 ghost use Rattle.lock_core.specs.Views.{SpinHolds, SpinRests};
-ghost use Rattle.cpu_task.specs.Counting.{Dozes, DozesOnce, SleepsInTurns};
+ghost use Rattle.cpu_task.specs.CpuCounting.{Dozes, DozesOnce, SleepsInTurns};
 ghost use Rattle.rwsem_count.specs.Counts.{shared_weight};
 ghost use Rattle.rwsem_wake.specs.declared.view.Wait.TheVariants.{Writes};
 ghost use Rattle.wake_duty.specs.WakeSteps.{HasTried};
 ghost use Rattle.rwsem_wake.specs.Duties.{is_left};
 ghost use Rattle.rwsem_slow.specs.RwSems.{sleep_vigil, vigil_of};
-ghost use Rattle.rwsem_slow.specs.Opening.{TakesOpen};
-ghost use Rattle.rwsem_slow.specs.Places.{AreCounts, IsOutside, StepsOn, dozes_of, seen_of};
+ghost use Rattle.rwsem_slow.specs.RwSemOpening.{TakesOpen};
+ghost use Rattle.rwsem_slow.specs.RwSemPlaces.{AreCounts, IsOutside, StepsOn, dozes_of, seen_of};
 ghost use Rattle.rwsem_slow.specs.Queued.{AppendedBy, Drowses, EntersLock, IsInLine, IsToQuit, KeepsLine, WaitsOn};
 ghost use Rattle.rwsem_slow.specs.Removals.{StaysBeside};
-ghost use Rattle.rwsem_slow.specs.Wakes.{IsAtRest, PaysBy};
+ghost use Rattle.rwsem_slow.specs.RwSemWakes.{IsAtRest, PaysBy};
 
 use crate::counts::WakeCounts;
 use crate::leaving::{interrupt, pending};

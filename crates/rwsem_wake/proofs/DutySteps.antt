@@ -7,12 +7,12 @@ use lib.ListN.{get_elem?}
 use Rattle.atomic_table.proofs.Lists.{at_map, at_set}
 use Rattle.lock_core.specs.Records.{bit}
 use Rattle.lock_core.specs.Totals.{total, total-set, total-at}
-use Rattle.lock_core.specs.Parts.{Each, at_unmap}
+use Rattle.lock_core.specs.ViewParts.{Each, at_unmap}
 use Rattle.lock_core.proofs.HandLaws.{false-or-true, not-both}
 use Rattle.lock_core.proofs.RowLaws.{none-some, same-some}
 use Rattle.wait_list.specs.declared.view.Waiter.{Waiter}
 use Rattle.wake_duty.specs.declared.view.Vigil.TheVariants.{Absent}
-use Rattle.wake_duty.specs.Wakes.{awake, foiled}
+use Rattle.wake_duty.specs.DutyWakes.{awake, foiled}
 use Rattle.sem_duty.specs.declared.view.SemWake.{SemWake}
 use Rattle.sem_duty.specs.SemDuties.{DutyPart, DutyKept, PartOk, alone_of as alone_in_duty, late_of as late_in_duty, owes, answers, stirs, chose, rouses, times, where_so, recounted, with_vigil, leaving}
 use Rattle.sem_duty.specs.SemDutyLaws.{duty-guards, duty-pays, duty-reserves-late, duty-takes-back, duty-owes, duty-returns, duty-writes, duty-hears, duty-waits, duty-fails, duty-unwaited, duty-grants}
@@ -23,7 +23,7 @@ use Rattle.rwsem_wake.specs.declared.view.Wait.{Wait}
 use Rattle.rwsem_wake.specs.declared.view.Wait.TheVariants.{Apart, Reads, Writes}
 use Rattle.rwsem_wake.specs.declared.view.Stage.{Stage}
 use Rattle.rwsem_wake.specs.SemParts.{SemPart, alone_of, busy_of, granted_of, granted_weight, granting_of, granting_weight, is_zero, part_of, reserve_weight, shared_of, writes_weight}
-use Rattle.rwsem_wake.specs.Semaphores.{SemKept, SemPartOk, more_of}
+use Rattle.rwsem_wake.specs.GrantSemaphores.{SemKept, SemPartOk, more_of}
 use Rattle.rwsem_wake.specs.Duties.{kept_weight, overdue_weight, kept_of, overdue_of, guards_of, writes_of, duty_of, SameGrants, IsOnly, Keeps, ReservesBias, ReturnsLate, ReturnsOwn, TakesAlone, HearsGrant, FailsWaiting, LeavesEmpty, GrantsTask, WakeGoes, is_left}
 
 -- a bias is counted once

@@ -15,13 +15,13 @@ use Rattle.rwsem_wake.specs.declared.view.Stage.{Stage}
 use Rattle.rwsem_wake.specs.declared.view.Stage.TheVariants.{Rest, First, Marking, Took, Removed, Emptied, Overdue, Marked, Removing, Summing, Counted, Granting}
 use Rattle.rwsem_count.specs.Counts.{shared_weight, early_weight, late_weight, shared_in, early_in, late_in}
 use Rattle.rwsem_wake.specs.SemParts.{SemPart, named_weight, granting_weight, busy_weight, reads_weight, transit_weight, shared_of, holds_of, alone_of, early_of, late_of, reserve_of, reads_of, reads_at, writes_at, reader_at, writer_at, reader_of, busy_of, granting_of, granted_of, granted_at, is_zero, reader_bit, IsWhole, some_of, marks_sum, first_mark, tasks, own_mark}
-use Rattle.rwsem_wake.specs.Semaphores.{batch_weight, Quiet, IsFirst, FlagsAt, load_of, SemKept, more_of}
+use Rattle.rwsem_wake.specs.GrantSemaphores.{batch_weight, Quiet, IsFirst, FlagsAt, load_of, SemKept, more_of}
 use Rattle.rwsem_wake.proofs.Sums.{busy-most, of-mine}
 use Rattle.rwsem_wake.proofs.Counting.{count-step, count-back, count-reserves, count-writes, part-least}
 use Rattle.rwsem_wake.proofs.Places.{total-without, length-without, some-length, first-least, here-behind, mark-set, mark-least, not-zero}
 use Rattle.rwsem_wake.proofs.WakeLaws.{staged, biased, batched, waiting, ok-of, slim-of, held-most, single-of, reserve-most, sem-moves, more-same}
 use Rattle.rwsem_wake.proofs.QueueLaws.{reads-w, reads-at-w, writes-at-w, granted-w, granted-at-w, reader, a_writer, joined-flags, fresh-flags, set-flags, sem-stages, same-count, mine-at}
-use Rattle.rwsem_wake.specs.Stated.{Without}
+use Rattle.rwsem_wake.specs.GrantsStated.{Without}
 
 -- the list without its first waiter, and without another
 first-left : (marks : List ℕ) (q q' : List Waiter) (w : Waiter) (s : Without q w q') → s.before ≡ [] → first_mark marks (tasks q) ≡ get_or marks w.task 0

@@ -16,7 +16,7 @@ use Rattle.rwsem_wake.specs.declared.view.Wait.TheVariants.{Apart, Reads}
 use Rattle.rwsem_wake.specs.declared.view.Stage.{Stage}
 use Rattle.rwsem_wake.specs.declared.view.Stage.TheVariants.{Marking, Counted, Granting}
 use Rattle.rwsem_wake.specs.SemParts.{SemPart, named_weight, granting_weight, is_zero, granted_at, reads_at, rest_at, here, first_mark, IsWhole, tasks, busy_of}
-use Rattle.rwsem_wake.specs.Semaphores.{IsFirst, FlagsAt, SemKept}
+use Rattle.rwsem_wake.specs.GrantSemaphores.{IsFirst, FlagsAt, SemKept}
 use Rattle.rwsem_wake.proofs.Sums.{mine-of, set-mine}
 use Rattle.rwsem_wake.proofs.Places.{first-least, granted-all, grant-here, grant-else, here-mine, here-else}
 use Rattle.rwsem_wake.proofs.WakeLaws.{batched, biased, holding}

@@ -18,7 +18,7 @@ use Rattle.rwsem_wake.specs.declared.view.Wait.TheVariants.{Apart}
 use Rattle.rwsem_wake.specs.declared.view.Stage.{Stage}
 use Rattle.rwsem_wake.specs.declared.view.Stage.TheVariants.{Rest}
 use Rattle.rwsem_wake.specs.SemParts.{busy_weight}
-use Rattle.rwsem_wake.specs.Queues.{GetsSem, HoldsBy, heard}
+use Rattle.rwsem_wake.specs.GrantQueues.{GetsSem, HoldsBy, heard}
 use Rattle.rwsem_wake.proofs.Sums.{busy-most}
 
 module _ {E Call : Type 0} (with_sem : E → SemHand → E) (with_wake : E → SemWake → E) (o : Obj Call) (k : Plan) (held : Held) (s : SemHand) (b : SemWake) where

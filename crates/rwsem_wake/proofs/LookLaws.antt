@@ -8,7 +8,7 @@ use Rattle.wait_list.specs.declared.view.Waiter.{Waiter}
 use Rattle.rwsem_count.specs.declared.view.Bias.TheVariants.{Clear}
 use Rattle.rwsem_wake.specs.declared.view.Stage.TheVariants.{Summing, Counted, Granting}
 use Rattle.rwsem_wake.specs.SemParts.{SemPart, busy_weight, busy_of, shared_of, early_of, late_of, IsWhole, some_of}
-use Rattle.rwsem_wake.specs.Semaphores.{SemKept}
+use Rattle.rwsem_wake.specs.GrantSemaphores.{SemKept}
 use Rattle.rwsem_wake.proofs.Sums.{set-mine}
 use Rattle.rwsem_wake.proofs.WakeLaws.{staged, biased, sem-sums}
 use Rattle.rwsem_wake.proofs.HandoffLaws.{sem-looks}

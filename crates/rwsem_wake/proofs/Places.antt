@@ -10,7 +10,7 @@ use Rattle.wait_list.specs.declared.view.Waiter.{Waiter}
 use Rattle.rwsem_wake.specs.declared.view.Wait.{Wait}
 use Rattle.rwsem_wake.specs.declared.view.Wait.TheVariants.{Apart, Reads, Writes}
 use Rattle.rwsem_wake.specs.SemParts.{SemPart, reads_weight, granted_weight, named_weight, is_zero, granted_of, granted_at, reads_at, here, some_of, marks_sum, first_mark}
-use Rattle.rwsem_wake.specs.Stated.{Without}
+use Rattle.rwsem_wake.specs.GrantsStated.{Without}
 
 total-append : {V : Type 0} (f : V → ℕ) (xs ys : List V) → total f (xs ++ ys) ≡ total f xs + total f ys
 total-append f [] ys = omega arith

@@ -19,16 +19,16 @@ use Rattle.wait_list.specs.Lists.{Part, Knows, first_code}
 use Rattle.rwsem_count.specs.declared.view.Bias.{Bias}
 use Rattle.rwsem_count.specs.declared.view.Bias.TheVariants.{Clear, Transit}
 use Rattle.rwsem_count.specs.Counts.{shared_weight, early_weight, late_weight, early_in, late_in, alone_in, shared_in}
-use Rattle.rwsem_count.specs.WordSteps.{HasFlags, HasHandoff, IsLocked}
+use Rattle.rwsem_count.specs.CountWordSteps.{HasFlags, HasHandoff, IsLocked}
 use Rattle.rwsem_wake.specs.declared.view.Wait.TheVariants.{Apart, Reads, Writes}
 use Rattle.rwsem_wake.specs.declared.view.Stage.{Stage}
 use Rattle.rwsem_wake.specs.declared.view.Stage.TheVariants.{Rest, Armed, Joining, First, Marking, Took, Removed, Emptied, Summing}
 use Rattle.rwsem_wake.specs.declared.view.SemHand.{SemHand}
 use Rattle.rwsem_wake.specs.SemParts.{SemPart, busy_of, early_of, late_of, first_mark, tasks, granted_of, granting_weight, here, is_zero, named_weight, part_of, reads_of, reads_weight, writer_at, writes_at}
-use Rattle.rwsem_wake.specs.Semaphores.{FlagsAt, IsFirst, SemKept, batch_weight, more_of}
+use Rattle.rwsem_wake.specs.GrantSemaphores.{FlagsAt, IsFirst, SemKept, batch_weight, more_of}
 use Rattle.rwsem_wake.specs.Handoffs.{KeepsHandoff, Unasked, granting_at, shared_at}
 use Rattle.rwsem_wake.specs.Grants.{summing, unmarked, unreserved}
-use Rattle.rwsem_wake.specs.Queues.{rested, asked, taken, own_unmarked, heard, heard_locked, settled}
+use Rattle.rwsem_wake.specs.GrantQueues.{rested, asked, taken, own_unmarked, heard, heard_locked, settled}
 use Rattle.rwsem_wake.proofs.Sums.{set-mine}
 use Rattle.rwsem_wake.proofs.Places.{first-least, some-length}
 use Rattle.rwsem_wake.proofs.WakeLaws.{staged, ok-of}

@@ -2,7 +2,7 @@
 use Rattle.std.proofs.Common.{◌≡◌, ℕ, zero, suc, ◌+◌, ◌*◌, ◌/◌, ◌%◌, ◌<◌, ◌≤◌, List, map, [], ◌∷◌, length, refl, ◌∙◌, subst, arith}
 use Rattle.word_bits.specs.declared.TheConstants.{MAX_TASKS}
 use Rattle.lock_core.specs.Totals.{total}
-use Rattle.lock_core.specs.Parts.{Each}
+use Rattle.lock_core.specs.ViewParts.{Each}
 use Rattle.wait_list.specs.declared.view.Waiter.{Waiter}
 use Rattle.rwsem_count.specs.declared.view.Bias.{Bias}
 use Rattle.rwsem_count.specs.declared.view.Bias.TheVariants.{Clear, Transit, Reserve}
@@ -10,10 +10,10 @@ use Rattle.rwsem_wake.specs.declared.view.Stage.{Stage}
 use Rattle.rwsem_wake.specs.declared.view.Stage.TheVariants.{Rest, Armed, Joining, First, Marking, Took, Removed, Emptied, Overdue, Marked, Removing, Summing, Counted, Granting}
 use Rattle.rwsem_count.specs.Counts.{early_weight, late_weight, CountKept, shared_in, early_in, late_in, alone_in}
 use Rattle.rwsem_wake.specs.SemParts.{SemPart, nobody, transit_weight, reserve_weight, granting_weight, shared_of, alone_of, transit_of, reserve_of, early_of, late_of, reads_of, rest_of, granting_of, busy_of, part_of}
-use Rattle.rwsem_wake.specs.Semaphores.{number_of, FlagsOf, SemPartOk, SemKept, more_of}
+use Rattle.rwsem_wake.specs.GrantSemaphores.{number_of, FlagsOf, SemPartOk, SemKept, more_of}
 use Rattle.rwsem_wake.proofs.Sums.{total-least, now-idle, flags-rest}
 use Rattle.rwsem_wake.proofs.Counting.{total-map}
-use Rattle.rwsem_wake.specs.Stated.{StatesCount, StatesWaiters}
+use Rattle.rwsem_wake.specs.GrantsStated.{StatesCount, StatesWaiters}
 
 bias-is : (v : SemPart) → early_of v + late_of v ≡ transit_of v + reserve_of v
 bias-is v = go v.sem.bias

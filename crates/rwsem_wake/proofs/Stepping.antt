@@ -23,7 +23,7 @@ use Rattle.lock_core.specs.Views.{SpinHolds, hand_of, spin_part, held_of, alone_
 use Rattle.lock_core.specs.Totals.{total}
 use Rattle.lock_core.specs.Sites.{KeepsSaw, SiteKept}
 use Rattle.lock_core.specs.Moves.{Goes, Lets}
-use Rattle.lock_core.specs.Plays.{Turns}
+use Rattle.lock_core.specs.SitePlays.{Turns}
 use Rattle.lock_core.proofs.HandLaws.{false-or-true, not-both}
 use Rattle.lock_core.proofs.HoldSteps.{quiet-state, site-takes}
 use Rattle.lock_core.proofs.RowLaws.{none-some}
@@ -37,12 +37,12 @@ use Rattle.rwsem_count.proofs.Counting.{held-parts, its-plan}
 use Rattle.sem_duty.specs.declared.view.SemWake.{SemWake}
 use Rattle.rwsem_wake.specs.declared.view.SemHand.{SemHand}
 use Rattle.rwsem_wake.specs.SemParts.{SemPart, part_of, busy_weight, busy_of}
-use Rattle.rwsem_wake.specs.Semaphores.{SemKept}
+use Rattle.rwsem_wake.specs.GrantSemaphores.{SemKept}
 use Rattle.rwsem_wake.specs.Handoffs.{KeepsHandoff}
 use Rattle.rwsem_wake.specs.Lines.{lines_in}
 use Rattle.rwsem_wake.specs.Grants.{sem_part, semmed, stirred}
 use Rattle.rwsem_wake.specs.Duties.{WakeGoes}
-use Rattle.rwsem_wake.specs.Queues.{HoldsWhere}
+use Rattle.rwsem_wake.specs.GrantQueues.{HoldsWhere}
 use Rattle.rwsem_wake.proofs.Sums.{busy-most}
 use Rattle.rwsem_wake.proofs.Lines.{length-lines, lines-at, lines-set, lines-else}
 

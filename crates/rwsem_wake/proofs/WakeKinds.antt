@@ -22,7 +22,7 @@ use Rattle.rwsem_wake.specs.declared.view.Stage.{Stage}
 use Rattle.rwsem_wake.specs.declared.view.Stage.TheVariants.{Rest, Armed, Marking, Took, Removed, Emptied, Removing, Summing, Counted, Granting}
 use Rattle.rwsem_wake.specs.SemParts.{SemPart, late_of, granted_of, granted_weight, granting_of, granting_weight, is_zero, reads_at, shared_of, some_of}
 use Rattle.rwsem_wake.specs.Grants.{reserved, unreserved, unmarked, gains, losses, looked, counted, granting_on, granted, tail}
-use Rattle.rwsem_wake.specs.Queues.{rested, asked, taken, own_unmarked, heard, heard_locked, settled}
+use Rattle.rwsem_wake.specs.GrantQueues.{rested, asked, taken, own_unmarked, heard, heard_locked, settled}
 use Rattle.rwsem_wake.specs.Duties.{kept_weight, overdue_weight, kept_of, overdue_of, begun_weight, waited_weight, SameGrants, IsOnly, WakeGoes, paid, is_left, left_by, heard_by, foiled_by, foiled_unless, saw_count, exchanged, is_own, saw_mark, heard_at, heard_locked_at}
 use Rattle.rwsem_wake.proofs.WakeLaws.{staged}
 use Rattle.rwsem_wake.proofs.QueueLaws.{unread-one, reads-at-w}

@@ -26,7 +26,7 @@ use Rattle.rwsem_wake.specs.declared.view.Stage.TheVariants.{Rest, Armed, Overdu
 use Rattle.rwsem_wake.specs.declared.view.SemHand.{SemHand}
 use Rattle.rwsem_count.specs.Counts.{early_weight, late_weight, early_in, late_in}
 use Rattle.rwsem_wake.specs.SemParts.{SemPart, busy_of, busy_weight, shared_of, early_of, late_of, reserve_weight, reserve_of, granting_weight, IsWhole, first_mark, tasks, here, reads_weight, named_weight, granted_at, reads_at}
-use Rattle.rwsem_wake.specs.Semaphores.{SemKept}
+use Rattle.rwsem_wake.specs.GrantSemaphores.{SemKept}
 use Rattle.rwsem_wake.proofs.Sums.{set-mine, total-least}
 use Rattle.rwsem_wake.proofs.Places.{first-least, some-length}
 use Rattle.rwsem_wake.proofs.WakeLaws.{staged, biased, batched, held-most, sem-sums, sem-grants, single-of}

@@ -6,7 +6,7 @@ use Rattle.word_bits.specs.Histories.{Plan}
 use Rattle.lock_core.specs.declared.view.View.{View}
 use Rattle.lock_core.specs.declared.view.Hand.{Hand}
 use Rattle.lock_core.specs.Records.{bit}
-use Rattle.lock_core.specs.Plays.{Sat, Turns}
+use Rattle.lock_core.specs.SitePlays.{Sat, Turns}
 use Rattle.wait_list.specs.declared.view.ListHand.{ListHand}
 use Rattle.wait_list.specs.declared.view.Waiter.{Waiter}
 use Rattle.wait_list.specs.Lists.{Knows, first_code, list_part}

@@ -11,8 +11,8 @@ use Rattle.rwsem_count.specs.Counts.{BiasGoes}
 use Rattle.rwsem_wake.specs.declared.view.Wait.TheVariants.{Writes}
 use Rattle.rwsem_wake.specs.declared.view.Stage.TheVariants.{Marking, Granting}
 use Rattle.rwsem_wake.specs.SemParts.{SemPart, named_weight, granting_weight, shared_of, granted_at, here, first_mark, IsWhole, tasks}
-use Rattle.rwsem_wake.specs.Semaphores.{IsFirst}
-use Rattle.rwsem_wake.specs.Stated.{Picks}
+use Rattle.rwsem_wake.specs.GrantSemaphores.{IsFirst}
+use Rattle.rwsem_wake.specs.GrantsStated.{Picks}
 
 abbrev pub shared_at : ℕ → SemPart → ℕ
 shared_at t v = named_weight t v.task (shared_of v)

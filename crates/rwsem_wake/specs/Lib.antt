@@ -1,9 +1,9 @@
 pub mod Batches
 pub mod SemParts
-pub mod Semaphores
+pub mod GrantSemaphores
 pub mod Handoffs
-pub mod Stated
+pub mod GrantsStated
 pub mod Lines
 pub mod Grants
-pub mod Queues
+pub mod GrantQueues
 pub mod Duties

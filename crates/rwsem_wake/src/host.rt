@@ -19,7 +19,7 @@ ghost use Rattle.wait_list.specs.declared.view.Waiter.{Waiter};
 ghost use Rattle.rwsem_count.specs.Counts.{HandStep};
 ghost use Rattle.rwsem_wake.specs.declared.view.SemHand.{SemHand as ASemHand};
 ghost use Rattle.rwsem_wake.specs.SemParts.{SemPart, busy_weight, busy_of};
-ghost use Rattle.rwsem_wake.specs.Semaphores.{SemKept};
+ghost use Rattle.rwsem_wake.specs.GrantSemaphores.{SemKept};
 ghost use Rattle.rwsem_wake.specs.Handoffs.{KeepsHandoff};
 ghost use Rattle.rwsem_wake.specs.Lines.{lines_in};
 ghost use Rattle.rwsem_wake.specs.Grants.{sem_part, stirred};

@@ -1,7 +1,7 @@
 //! The single steps of tasks that queue, on the count, the marks and the grant words of any host.
 ghost use Rattle.std.specs.Prelude.{◌≡◌, ◌≢◌, ℕ, ◌<◌, ◌≤◌, ◌+◌, ◌-◌, ◌*◌, ◌%◌, ◌==◌, ◌⊎◌, true, false, IsSome, Some, length};
 ghost use Rattle.word_bits.specs.LockWords.{IsLawfulCount};
-ghost use Rattle.lock_core.specs.Handles.{IsLatest, plan_of, view_of, past_of, task_in, held_in, SitsAt, KeepsPast, SaysSame};
+ghost use Rattle.lock_core.specs.SiteHandles.{IsLatest, plan_of, view_of, past_of, task_in, held_in, SitsAt, KeepsPast, SaysSame};
 ghost use Rattle.lock_core.specs.declared.view.Held.TheVariants.{No, Shared, Alone};
 ghost use Rattle.lock_core.specs.Pasts.{FoundAt};
 ghost use Rattle.lock_core.specs.Records.{bit};
@@ -11,7 +11,7 @@ ghost use Rattle.rwsem_wake.specs.declared.view.Stage.TheVariants.{Rest, First, 
 ghost use Rattle.rwsem_wake.specs.declared.view.Wait.TheVariants.{Writes};
 ghost use Rattle.rwsem_wake.specs.Grants.{Did, KnowsFirst, Stirred, StirsTo, TurnsTo, anything, sem_at, summing, unmarked, unreserved, wake_at};
 ghost use Rattle.rwsem_wake.specs.Duties.{exchanged, heard_at, heard_locked_at, left_by, paid, saw_count, saw_mark, sees_itself};
-ghost use Rattle.rwsem_wake.specs.Queues.{HoldsBy, HoldsWhere, KnowsSome, MayAsk, MayHear, MayLook, MaySettle, MayTake, asked, heard, heard_locked, own_unmarked, rested, settled, taken};
+ghost use Rattle.rwsem_wake.specs.GrantQueues.{HoldsBy, HoldsWhere, KnowsSome, MayAsk, MayHear, MayLook, MaySettle, MayTake, asked, heard, heard_locked, own_unmarked, rested, settled, taken};
 
 use crate::host::GrantHost;
 use crate::steps::{LINE, MARKED};

@@ -3,13 +3,13 @@ use Rattle.std.specs.Prelude.{◌≡◌, ℕ, zero, suc, ◌+◌, ◌<◌, ◌�
 use Rattle.word_bits.specs.declared.TheConstants.{MAX_TASKS}
 use Rattle.lock_core.specs.Records.{bit}
 use Rattle.lock_core.specs.Totals.{total}
-use Rattle.lock_core.specs.Parts.{Each}
+use Rattle.lock_core.specs.ViewParts.{Each}
 use Rattle.lock_core.specs.Tallies.{raised}
 use Rattle.wait_list.specs.declared.view.Waiter.{Waiter}
 use Rattle.wait_list.specs.Lists.{first_code}
 use Rattle.wake_duty.specs.declared.view.Vigil.{Vigil}
 use Rattle.wake_duty.specs.declared.view.Vigil.TheVariants.{Absent, Awake}
-use Rattle.wake_duty.specs.Wakes.{WAKE_WORDS, wake_word, awake, waits, drowsed_at, dozed_at}
+use Rattle.wake_duty.specs.DutyWakes.{WAKE_WORDS, wake_word, awake, waits, drowsed_at, dozed_at}
 use Rattle.sem_duty.specs.declared.view.SemWake.{SemWake}
 
 -- it owes nothing, and isn't in the list

@@ -8,7 +8,7 @@ use Rattle.word_bits.specs.declared.TheConstants.{MAX_TASKS}
 use Rattle.lock_core.specs.Records.{bit}
 use Rattle.lock_core.specs.Views.{is_number}
 use Rattle.lock_core.specs.Totals.{total, total-set, total-snoc, total-at}
-use Rattle.lock_core.specs.Parts.{Each, each-set, each-snoc, set-there}
+use Rattle.lock_core.specs.ViewParts.{Each, each-set, each-snoc, set-there}
 use Rattle.lock_core.proofs.HandLaws.{is_number-here}
 use Rattle.lock_core.proofs.RowLaws.{none-some, same-some}
 use Rattle.wait_list.specs.declared.view.Waiter.{Waiter}
@@ -16,7 +16,7 @@ use Rattle.wait_list.specs.Lists.{first_code, without}
 use Rattle.wait_list.proofs.Waiters.{first-without, without-else}
 use Rattle.wake_duty.specs.declared.view.Vigil.{Vigil}
 use Rattle.wake_duty.specs.declared.view.Vigil.TheVariants.{Awake, Tried}
-use Rattle.wake_duty.specs.Wakes.{WAKE_WORDS, wake_word, awake, waits, foiled}
+use Rattle.wake_duty.specs.DutyWakes.{WAKE_WORDS, wake_word, awake, waits, foiled}
 use Rattle.wake_duty.specs.WakeLaws.{awake-none, awake-else}
 use Rattle.sem_duty.specs.SemDuties.{DutyPart, DutyKept, PartOk, IsQuiet, times, where_so, alone_of, late_of, owes, answers, stirs, chose, is_awake, rouses, first_writes, wakes_first, recounted, with_vigil, entering, leaving, choosing, less, setting, drowsing, with_wake}
 

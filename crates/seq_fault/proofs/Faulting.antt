@@ -9,9 +9,9 @@ use Rattle.lock_core.specs.declared.view.Hand.{Hand}
 use Rattle.lock_core.specs.declared.view.Moment.{Moment}
 use Rattle.lock_core.specs.Holding.{Learns}
 use Rattle.lock_core.specs.Layout.{length_place}
-use Rattle.lock_core.specs.Passes.{IsSeenReading}
+use Rattle.lock_core.specs.SitePasses.{IsSeenReading}
 use Rattle.lock_core.specs.Pasts.{FoundAt, FoundAtStep, GoesOn, IsOwnStep, IsStepBy}
-use Rattle.lock_core.specs.RunLaws.{found-at-step}
+use Rattle.lock_core.specs.SiteRunLaws.{found-at-step}
 use Rattle.lock_core.specs.Views.{next_entry, ticked, after_seen}
 use Rattle.lock_core.proofs.HandLaws.{not-both}
 use Rattle.vma_map.specs.declared.call.SpaceCall.TheVariants.{Fault}
@@ -20,9 +20,9 @@ use Rattle.vma_map.specs.Searches.{AgreesWith, asked, page_of, wanted}
 use Rattle.vma_map.specs.Spaces.{access_reply, space, stores}
 use Rattle.seq_fault.specs.declared.view.Glance.{Glance}
 use Rattle.seq_fault.specs.declared.view.Watch.TheVariants.{Off, On}
-use Rattle.seq_fault.specs.Plays.{turned, glance, staled, saw_log}
-use Rattle.seq_fault.specs.Ruled.{V, seq_at}
-use Rattle.seq_fault.specs.Steps.{AtOneWord, Faults, HasSearched, IsMeasured, IsNextFault, IsOptimisticRead, IsWatching, StepsAtMost, StepsOn, TellsSince}
+use Rattle.seq_fault.specs.SeqPlays.{turned, glance, staled, saw_log}
+use Rattle.seq_fault.specs.SeqRuled.{V, seq_at}
+use Rattle.seq_fault.specs.SeqSteps.{AtOneWord, Faults, HasSearched, IsMeasured, IsNextFault, IsOptimisticRead, IsWatching, StepsAtMost, StepsOn, TellsSince}
 use Rattle.seq_fault.proofs.Stepping.{on-off}
 
 -- what the pass's step of this number found

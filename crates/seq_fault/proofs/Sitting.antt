@@ -15,10 +15,10 @@ use Rattle.lock_core.specs.Plans.{calls_in}
 use Rattle.lock_core.specs.Records.{row}
 use Rattle.lock_core.specs.Views.{took}
 use Rattle.lock_core.specs.Holding.{released}
-use Rattle.lock_core.specs.Passes.{Sits}
+use Rattle.lock_core.specs.SitePasses.{Sits}
 use Rattle.lock_core.proofs.HandLaws.{no-alone, not-both}
 use Rattle.seq_fault.specs.declared.view.Glance.{Glance}
-use Rattle.seq_fault.specs.Plays.{saw_log}
+use Rattle.seq_fault.specs.SeqPlays.{saw_log}
 
 pub some-number : (task : Option ℕ) → IsSome task → (t : ℕ) × (task ≡ Some t)
 some-number (Some t) is = (t, refl)

@@ -13,9 +13,9 @@ use Rattle.lock_core.proofs.Opening.{fresh-free}
 use Rattle.lock_core.proofs.RowLaws.{none-some, same-some}
 use Rattle.lock_core.proofs.Stating.{kept-states}
 use Rattle.seq_fault.specs.declared.view.Watch.{Watch}
-use Rattle.seq_fault.specs.Ruled.{V, SeqKept, SeqMoves, never, newest, seq_at, unmarked}
-use Rattle.seq_fault.specs.RuledLaws.{none-alone}
-use Rattle.seq_fault.specs.Stated.{CountsEnters, IsSeqSite, StaysAtOneWord, holders, seq_of}
+use Rattle.seq_fault.specs.SeqRuled.{V, SeqKept, SeqMoves, never, newest, seq_at, unmarked}
+use Rattle.seq_fault.specs.SeqRuledLaws.{none-alone}
+use Rattle.seq_fault.specs.SeqStated.{CountsEnters, IsSeqSite, StaysAtOneWord, holders, seq_of}
 use Rattle.seq_fault.proofs.Stepping.{each-hand}
 
 module _ {Call : Type 0} (o : Obj Call) (size : ℕ) (k : Plan) where

@@ -26,7 +26,7 @@ use Rattle.lock_core.specs.Holding.{Learns, released}
 use Rattle.lock_core.specs.Plans.{calls_in}
 use Rattle.lock_core.specs.Records.{row}
 use Rattle.lock_core.specs.Totals.{total, total-at}
-use Rattle.lock_core.specs.Parts.{Each}
+use Rattle.lock_core.specs.ViewParts.{Each}
 use Rattle.lock_core.specs.Sites.{SiteKept, HandGoes, KeepsSaw, HasPlan}
 use Rattle.lock_core.specs.Moves.{Lets}
 use Rattle.lock_core.specs.MoveLaws.{hand-stays, saw-stays}
@@ -42,9 +42,9 @@ use Rattle.seq_fault.specs.declared.view.Glance.{Glance}
 use Rattle.seq_fault.specs.declared.view.Watch.{Watch}
 use Rattle.seq_fault.specs.declared.view.Watch.TheVariants.{Off, On}
 use Rattle.seq_fault.specs.Watches.{Fits, GlanceOk, IsAsThen, WatchOk}
-use Rattle.seq_fault.specs.Ruled.{V, SeqKept, SeqMoves, never, seq_at}
-use Rattle.seq_fault.specs.RuledLaws.{no-shared, none-alone, rule-goes, watch-rises}
-use Rattle.seq_fault.specs.Plays as play
+use Rattle.seq_fault.specs.SeqRuled.{V, SeqKept, SeqMoves, never, seq_at}
+use Rattle.seq_fault.specs.SeqRuledLaws.{no-shared, none-alone, rule-goes, watch-rises}
+use Rattle.seq_fault.specs.SeqPlays as play
 
 its-plan : (k p : Plan) (plan : Option Plan) → HasPlan k plan → plan ≡ Some p → k ≡ p
 its-plan k p plan has is = sym (subst (HasPlan k) is has)
@@ -68,7 +68,7 @@ unheld (h ∷ hs) each = let a = unheld hs (λ j g at. each (suc j) g at) in let
     weighs Alone n = refl
 
 pub each-hand : (vs : List V) → Each (λ v. v.hand.held ≢ Shared) vs → Each (λ h. h.held ≢ Shared) (map hand_of vs)
-each-hand vs each j h at = let x = Rattle.lock_core.specs.Parts.at_unmap hand_of vs j h at in λ e. each j x.0 x.1 (ap (λ (z : Hand). z.held) x.2 ∙ e)
+each-hand vs each j h at = let x = Rattle.lock_core.specs.ViewParts.at_unmap hand_of vs j h at in λ e. each j x.0 x.1 (ap (λ (z : Hand). z.held) x.2 ∙ e)
 
 pub on-off : (g h : Glance) → On g ≡ On h → g ≡ h
 on-off g h e = ap of e

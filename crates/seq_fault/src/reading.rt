@@ -2,7 +2,7 @@
 ghost use Rattle.std.specs.Prelude.{◌≡◌, ◌≢◌, ℕ, ◌+◌, ◌%◌, List, None, IsSome, IfOk, IfErr};
 ghost use Rattle.lock_core.specs.declared.view.Held.TheVariants.{No};
 ghost use Rattle.lock_core.specs.Layout.{length_place};
-ghost use Rattle.lock_core.specs.Handles.{IsLatest, plan_of, view_of, hand_in, past_of, task_in, held_in, done_in, front_in, SitsAt, KeepsPast, SaysSame};
+ghost use Rattle.lock_core.specs.SiteHandles.{IsLatest, plan_of, view_of, hand_in, past_of, task_in, held_in, done_in, front_in, SitsAt, KeepsPast, SaysSame};
 ghost use Rattle.lock_core.specs.Pasts.{FoundAt};
 ghost use Rattle.lock_core.specs.Views.{OwesNoSignal, ticked};
 ghost use Rattle.word_bits.specs.PageMaps.{PageMap, IsPageMap};
@@ -10,9 +10,9 @@ ghost use Rattle.vma_map.specs.Searches.{AgreesWith, asked, page_of, wanted};
 ghost use Rattle.vma_map.specs.Spaces.{IsAccess, access_reply, stores};
 ghost use Rattle.seq_fault.specs.declared.view.Glance.{Glance as Moment};
 ghost use Rattle.seq_fault.specs.declared.view.Watch.TheVariants.{Off, On};
-ghost use Rattle.seq_fault.specs.Plays.{turned};
-ghost use Rattle.seq_fault.specs.Ruled.{seq_at};
-ghost use Rattle.seq_fault.specs.Steps.{Faults, FindsAtStep, HasNextFault, HasSearched, IsNextFault, IsOptimisticRead, IsWatching, StepsAtMost};
+ghost use Rattle.seq_fault.specs.SeqPlays.{turned};
+ghost use Rattle.seq_fault.specs.SeqRuled.{seq_at};
+ghost use Rattle.seq_fault.specs.SeqSteps.{Faults, FindsAtStep, HasNextFault, HasSearched, IsNextFault, IsOptimisticRead, IsWatching, StepsAtMost};
 
 use crate::rule::SeqRule;
 use crate::steps::{self, Raced};

@@ -1,7 +1,7 @@
 //! The rule of a table with a sequence word.
 ghost use Rattle.seq_fault.specs.declared.view.Watch.TheVariants.{Off};
-ghost use Rattle.seq_fault.specs.Ruled.{SeqKept, SeqMoves, never, seq_at, unmarked};
-ghost use Rattle.seq_fault.specs.RuledLaws.{rule-site, rule-sites, rule-opens, rule-splits, rule-joins};
+ghost use Rattle.seq_fault.specs.SeqRuled.{SeqKept, SeqMoves, never, seq_at, unmarked};
+ghost use Rattle.seq_fault.specs.SeqRuledLaws.{rule-site, rule-sites, rule-opens, rule-splits, rule-joins};
 ghost use Rattle.std.specs.Prelude.{◌≡◌};
 
 use crate::view::Watch;

@@ -5,12 +5,12 @@ ghost use Rattle.lock_core.specs.Holding.{released};
 ghost use Rattle.lock_core.specs.Records.{IsPlan};
 ghost use Rattle.lock_core.specs.Views.{first, ticked, handed, split_off, merged, gave_up, BesideForgetting, HoldsNothing, OwesNoSignal};
 ghost use Rattle.lock_core.specs.Pasts.{BeganWith, EachMoment, KeepsJoined, Paced};
-ghost use Rattle.lock_core.specs.Stated.{IsNew};
+ghost use Rattle.lock_core.specs.SiteStated.{IsNew};
 ghost use Rattle.lock_core.specs.Locked.{IsSiteStep};
 ghost use Rattle.seq_fault.specs.declared.view.Watch.TheVariants.{Off};
-ghost use Rattle.seq_fault.specs.Ruled.{never, newest, seq_at};
-ghost use Rattle.seq_fault.specs.Stated.{CountsEnters, IsSeqSiteThen, StaysAtOneWord};
-ghost use Rattle.seq_fault.specs.Steps.{EntersSince};
+ghost use Rattle.seq_fault.specs.SeqRuled.{never, newest, seq_at};
+ghost use Rattle.seq_fault.specs.SeqStated.{CountsEnters, IsSeqSiteThen, StaysAtOneWord};
+ghost use Rattle.seq_fault.specs.SeqSteps.{EntersSince};
 
 use crate::rule::SeqRule;
 use crate::steps;
@@ -36,7 +36,7 @@ pub struct SeqPass<O: Object> {
 }
 
 impl<O: Object> SeqSite<O> {
-    ghost use Rattle.seq_fault.specs.Handles.{plan_of, view_of, hand_in, past_of, joined_by, task_in, held_in, front_in, IsLatest, KeepsPast, SaysSame, SitsAt, TakesNumber};
+    ghost use Rattle.seq_fault.specs.SeqHandles.{plan_of, view_of, hand_in, past_of, joined_by, task_in, held_in, front_in, IsLatest, KeepsPast, SaysSame, SitsAt, TakesNumber};
 
     /// A new site: nobody holds, the state is empty, no call is logged or recorded.
     pub fn open(alloc: Global, plan: Plan) -> Result<(SeqSite<O>, SeqPass<O>), AllocError>

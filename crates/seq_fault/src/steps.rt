@@ -7,12 +7,12 @@ ghost use Rattle.lock_core.specs.Layout.{length_place};
 ghost use Rattle.lock_core.specs.Plans.{calls_in};
 ghost use Rattle.lock_core.specs.Pasts.{FoundAt};
 ghost use Rattle.lock_core.specs.Views.{handed, ticked};
-ghost use Rattle.lock_core.specs.Handles.{IsLatest, plan_of, view_of, hand_in, past_of, task_in, held_in, done_in, SitsAt, KeepsPast, SaysSame};
+ghost use Rattle.lock_core.specs.SiteHandles.{IsLatest, plan_of, view_of, hand_in, past_of, task_in, held_in, done_in, SitsAt, KeepsPast, SaysSame};
 ghost use Rattle.seq_fault.specs.declared.view.Glance.{Glance as Moment};
 ghost use Rattle.seq_fault.specs.declared.view.Watch.TheVariants.{Off, On};
-ghost use Rattle.seq_fault.specs.Plays.{turned, glance, staled, saw_log, Looked, Entered, Left, Watched, Peeked, Measured, Confirmed};
-ghost use Rattle.seq_fault.specs.Steps.{Begins, EntersHold, IsWatching, TellsSince, IsMeasured};
-ghost use Rattle.seq_fault.specs.Ruled.{seq_at};
+ghost use Rattle.seq_fault.specs.SeqPlays.{turned, glance, staled, saw_log, Looked, Entered, Left, Watched, Peeked, Measured, Confirmed};
+ghost use Rattle.seq_fault.specs.SeqSteps.{Begins, EntersHold, IsWatching, TellsSince, IsMeasured};
+ghost use Rattle.seq_fault.specs.SeqRuled.{seq_at};
 
 use crate::rule::{SEQUENCE, SeqRule};
 use crate::view::Watch;

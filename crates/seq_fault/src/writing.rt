@@ -3,8 +3,8 @@ ghost use Rattle.std.specs.Prelude.{◌≡◌, ◌≢◌, length, false, IfNone,
 ghost use Rattle.lock_core.specs.declared.view.Held.TheVariants.{Alone};
 ghost use Rattle.lock_core.specs.Locking.{IsStored};
 ghost use Rattle.lock_core.specs.Views.{Beside, OwesNoSignal};
-ghost use Rattle.lock_core.specs.Handles.{plan_of, view_of, hand_in, task_in, held_in, done_in, SitsAt, KeepsPast, SaysSame};
-ghost use Rattle.seq_fault.specs.Writing.{Changes, HasNextChange, SameCall};
+ghost use Rattle.lock_core.specs.SiteHandles.{plan_of, view_of, hand_in, task_in, held_in, done_in, SitsAt, KeepsPast, SaysSame};
+ghost use Rattle.seq_fault.specs.SeqWriting.{Changes, HasNextChange, SameCall};
 
 use crate::rule::SeqRule;
 use lock_core::{Pass, Site};

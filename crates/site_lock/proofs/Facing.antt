@@ -6,10 +6,10 @@ use Rattle.lock_core.specs.declared.pass.Pass.{Pass}
 use Rattle.lock_core.specs.declared.view.Hand.{Hand}
 use Rattle.std.specs.Prelude.{Option, Some, None, IfSome, IfNone}
 use Rattle.lock_core.specs.declared.how.Interrupted.{Interrupted}
-use Rattle.lock_core.specs.Handles.{view_of, hand_in, past_of, KeepsPast, SawNonePending}
+use Rattle.lock_core.specs.SiteHandles.{view_of, hand_in, past_of, KeepsPast, SawNonePending}
 use Rattle.lock_core.specs.Locking.{Has, HasSince}
 use Rattle.lock_core.specs.Pasts.{FoundAt, GoesOn}
-use Rattle.lock_core.specs.Passes.{Consumes}
+use Rattle.lock_core.specs.SitePasses.{Consumes}
 use Rattle.lock_core.specs.Shown.{Shown, PastGoesOn}
 use Rattle.lock_core.specs.Views.{Beside, note_steps}
 use Rattle.site_lock.specs.Faces.{IsFace, Follows, KeepsHold}

@@ -1,7 +1,7 @@
 -- What a pass of a lock shows that has a pass of a site.
 use Rattle.std.specs.Prelude.{◌≡◌}
 use Rattle.lock_core.specs.declared.pass.Pass.{Pass}
-use Rattle.lock_core.specs.Handles.{view_of, hand_in, past_of}
+use Rattle.lock_core.specs.SiteHandles.{view_of, hand_in, past_of}
 use Rattle.lock_core.specs.Shown.{Shown}
 
 module _ {R O E C : Type 0} where

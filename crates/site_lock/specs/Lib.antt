@@ -1,3 +1,3 @@
 pub mod Faces
-pub mod Lending
+pub mod SeatLending
 pub mod Sitting

@@ -16,11 +16,11 @@ use Rattle.lock_core.specs.declared.view.Hand.{Hand}
 use Rattle.lock_core.specs.declared.view.Held.TheVariants.{No}
 use Rattle.lock_core.specs.declared.view.Seen.{Seen}
 use Rattle.lock_core.specs.Locking.{IsStored}
-use Rattle.lock_core.specs.Passes.{IsReading, MayNote, Sits}
+use Rattle.lock_core.specs.SitePasses.{IsReading, MayNote, Sits}
 use Rattle.lock_core.specs.Records.{row}
 use Rattle.lock_core.specs.Views.{next_entry}
 use Rattle.lock_core.proofs.HandLaws.{false-or-true, no-alone}
-use Rattle.step_tests.specs.PercpuPasses.{Repeats}
+use Rattle.step_tests.specs.TestPercpuPasses.{Repeats}
 
 -- the task's next call is the one that it repeats
 pub next-call : (k : Plan) (h : Hand) (task done count : ℕ) (words : CallWords) → h.task ≡ Some task → h.done ≡ done → done < count → Repeats k task count words → slice_get (row k (next_entry h).task) (next_entry h).call ≡ Some words

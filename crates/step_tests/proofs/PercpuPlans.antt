@@ -8,7 +8,7 @@ use Rattle.word_bits.specs.Histories.{Plan}
 use Rattle.lock_core.specs.Plans.{appended}
 use Rattle.lock_core.specs.Records.{row, IsPlan, IsCallOrSignal}
 use Rattle.lock_core.proofs.RowLaws.{none-some, same-some, get-either, get-last, get-longer, row-appended, row-beside}
-use Rattle.step_tests.specs.PercpuPasses.{Repeats}
+use Rattle.step_tests.specs.TestPercpuPasses.{Repeats}
 
 only-one : (w x : CallWords) (j : ℕ) → slice_get (w ∷ []) j ≡ Some x → w ≡ x
 only-one w x zero e = same-some w x e

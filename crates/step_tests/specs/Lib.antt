@@ -1,3 +1,3 @@
 pub mod Nests
-pub mod PercpuPasses
+pub mod TestPercpuPasses
 pub mod Ready

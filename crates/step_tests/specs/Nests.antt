@@ -3,7 +3,7 @@ use Rattle.std.specs.Prelude.{IsSome}
 use Rattle.lock_core.specs.declared.pass.Pass.{Pass}
 use Rattle.lock_core.specs.declared.site.Site.{Site}
 use Rattle.lock_core.specs.LockHands.{HoldsAt}
-use Rattle.lock_core.specs.Handles.{view_of, task_in, SitsAt, IsNestTold}
+use Rattle.lock_core.specs.SiteHandles.{view_of, task_in, SitsAt, IsNestTold}
 
 module _ {R O E C : Type 0} where
   pub record HoldsThree (site : Site R O E C) (pass : Pass R O E C) : Type 0 where

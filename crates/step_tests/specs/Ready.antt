@@ -3,7 +3,7 @@ use Rattle.std.specs.Prelude.{◌≡◌, false, IsSome}
 use Rattle.lock_core.specs.declared.view.Held.TheVariants.{No}
 use Rattle.rwsem_count.specs.declared.pass.CountPass.{CountPass}
 use Rattle.rwsem_count.specs.declared.site.CountSite.{CountSite}
-use Rattle.rwsem_count.specs.Handles.{SitsAt, held_in, task_in, transit_in}
+use Rattle.rwsem_count.specs.CountHandles.{SitsAt, held_in, task_in, transit_in}
 
 module _ {O C : Type 0} where
   -- it has a task's number, holds nothing, and no try of it is in transit

@@ -3,7 +3,7 @@ ghost use Rattle.std.specs.Prelude.{◌≡◌, ◌≢◌, ◌<◌, length, None,
 ghost use Rattle.lock_core.specs.declared.view.Held.TheVariants.{No};
 ghost use Rattle.lock_core.specs.Records.{IsPlan};
 ghost use Rattle.lock_core.specs.Views.{HoldsNothing, OwesNoSignal};
-ghost use Rattle.seq_fault.specs.Handles.{SitsAt, hand_in, held_in, plan_of, task_in, view_of};
+ghost use Rattle.seq_fault.specs.SeqHandles.{SitsAt, hand_in, held_in, plan_of, task_in, view_of};
 ghost use Rattle.vma_map.specs.Spaces.{space};
 
 use crate::seq_calls::{fault_wait, map, push, touch, unmap, write};

@@ -2,7 +2,7 @@
 //! give up, one after the other and on threads.
 ghost use Rattle.std.specs.Prelude.{◌≡◌, ◌<◌, ◌+◌, None};
 ghost use Rattle.osq_nodes.specs.declared.node.Place.TheVariants.{Out};
-ghost use Rattle.osq_nodes.specs.Handles.{place_in, task_in, tasks_of, SitsAt};
+ghost use Rattle.osq_nodes.specs.OsqHandles.{place_in, task_in, tasks_of, SitsAt};
 
 use crate::course::first_unfound;
 use cpu_task::{Cpu, Crew, ParkCrew, ScriptedCrew, Turns};

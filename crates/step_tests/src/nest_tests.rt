@@ -1,10 +1,10 @@
 //! What no clause says: the words of a call that is interrupted and takes another lock meanwhile,
 //! and such interrupts on threads.
 ghost use Rattle.std.specs.Prelude.{◌≡◌, ◌<◌, ◌≤◌, ◌+◌, length, None, IsSome, IfOk};
-ghost use Rattle.lock_core.specs.Handles.{plan_of, task_in, SitsAt, SaysSame, IsNestTold};
+ghost use Rattle.lock_core.specs.SiteHandles.{plan_of, task_in, SitsAt, SaysSame, IsNestTold};
 ghost use Rattle.lock_core.specs.LockHands.{RestsAt, HoldsAt, RestsEverywhere};
-ghost use Rattle.qspin_word.specs.Handles.{spin_in, NotesItself, SpinIdles};
-ghost use Rattle.qspin_queue.specs.Handles.{IsApart, IsApartIdle};
+ghost use Rattle.qspin_word.specs.SpinWordHandles.{spin_in, NotesItself, SpinIdles};
+ghost use Rattle.qspin_queue.specs.SpinQueueHandles.{IsApart, IsApartIdle};
 ghost use Rattle.step_tests.specs.Nests.{HoldsThree};
 
 use lock_core::{Nest, Pass, Plan, Site};

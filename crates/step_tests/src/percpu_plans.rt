@@ -3,7 +3,7 @@ ghost use Rattle.std.specs.Prelude.{◌≡◌, ◌≢◌, ℕ, ◌+◌, ◌*◌,
 ghost use Rattle.lock_core.specs.Plans.{calls_in};
 ghost use Rattle.lock_core.specs.Records.{row, IsPlan, IsCallOrSignal};
 ghost use Rattle.vma_map.specs.Spaces.{space};
-ghost use Rattle.step_tests.specs.PercpuPasses.{Repeats};
+ghost use Rattle.step_tests.specs.TestPercpuPasses.{Repeats};
 
 use lock_core::Plan;
 use std::alloc::{AllocError, Global};

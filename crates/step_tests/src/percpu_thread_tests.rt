@@ -1,8 +1,8 @@
 //! What no clause says: readers and a writer of a per-CPU semaphore on threads.
 ghost use Rattle.std.specs.Prelude.{◌≡◌, false};
 ghost use Rattle.lock_core.specs.declared.view.Held.TheVariants.{No};
-ghost use Rattle.percpu_rwsem.specs.Handles.{blocks_in, plan_of};
-ghost use Rattle.step_tests.specs.PercpuPasses.{IsAt, MayMake, Repeats};
+ghost use Rattle.percpu_rwsem.specs.PercpuHandles.{blocks_in, plan_of};
+ghost use Rattle.step_tests.specs.TestPercpuPasses.{IsAt, MayMake, Repeats};
 
 use crate::percpu_calls::{
     Job, hold_alone, hold_shared, let_go_alone, let_go_shared, read, start, word, write,

@@ -1,7 +1,7 @@
 //! What no clause says: the words of a queue step by step, and passes that hand the front on.
 ghost use Rattle.std.specs.Prelude.{◌≡◌, Some};
 ghost use Rattle.osq_nodes.specs.declared.node.Place.TheVariants.{Waiting, Front};
-ghost use Rattle.osq_nodes.specs.Handles.{place_in, task_in, SitsAt};
+ghost use Rattle.osq_nodes.specs.OsqHandles.{place_in, task_in, SitsAt};
 
 use crate::course::first_unfound;
 use lock_core::Op;

@@ -4,7 +4,7 @@ ghost use Rattle.lock_core.specs.Records.{row, IsPlan};
 ghost use Rattle.lock_core.specs.Plans.{calls_in};
 ghost use Rattle.lock_core.specs.Views.{HoldsNothing, OwesNoSignal, next_entry};
 ghost use Rattle.vma_map.specs.Spaces.{space};
-ghost use Rattle.seq_fault.specs.Handles.{SitsAt, hand_in, plan_of, task_in, view_of};
+ghost use Rattle.seq_fault.specs.SeqHandles.{SitsAt, hand_in, plan_of, task_in, view_of};
 
 use lock_core::Plan;
 use seq_fault::{Raced, SeqSpace, SpacePass};

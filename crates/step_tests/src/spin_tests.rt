@@ -1,8 +1,8 @@
 //! What no clause says: the words of a lock that several contend for, and how its calls go on
 //! threads.
 ghost use Rattle.std.specs.Prelude.{◌<◌, ◌≤◌, ◌+◌, length, IfOk};
-ghost use Rattle.lock_core.specs.Handles.{plan_of};
-ghost use Rattle.qspin_queue.specs.Handles.{IsReady, IsHolder, IsIdle};
+ghost use Rattle.lock_core.specs.SiteHandles.{plan_of};
+ghost use Rattle.qspin_queue.specs.SpinQueueHandles.{IsReady, IsHolder, IsIdle};
 
 use crate::course::first_wrong;
 use lock_core::{Bare, Op, Pass, Plan, Site};

@@ -2,7 +2,7 @@
 //! left, while the front stays.
 ghost use Rattle.std.specs.Prelude.{◌≡◌, ◌<◌, None, IsSome};
 ghost use Rattle.osq_nodes.specs.declared.node.Place.TheVariants.{Front, Out};
-ghost use Rattle.osq_nodes.specs.Handles.{place_in, task_in, tasks_of, SitsAt};
+ghost use Rattle.osq_nodes.specs.OsqHandles.{place_in, task_in, tasks_of, SitsAt};
 
 use cpu_task::Cpu;
 use osq_nodes::{Osq, OsqPass};

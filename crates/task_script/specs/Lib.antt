@@ -1,6 +1,6 @@
 pub mod Causes
 pub mod Cuts
-pub mod Parts
+pub mod LineParts
 pub mod Versions
 pub mod Scripts
 pub mod Inside

@@ -3,7 +3,7 @@ ghost use Rattle.std.specs.Prelude.{◌≡◌, ◌==◌, ◌∷◌, ◌<◌, ℕ
 ghost use Rattle.std.specs.List.{list_all, slice_split};
 ghost use Rattle.task_script.specs.Cuts.{is_blank, is_clean, is_clean_or_feed, is_plain, lines, uncommented, without_return};
 ghost use Rattle.task_script.specs.Grammar.{said};
-ghost use Rattle.task_script.specs.Parts.{IsBegunOtherwise, parts_of};
+ghost use Rattle.task_script.specs.LineParts.{IsBegunOtherwise, parts_of};
 
 use memchr::memchr;
 use std::marker::Model;
@@ -120,7 +120,7 @@ pub(crate) struct Words<'a> {
 impl<'a> Model for Words<'a> {
     ghost use Rattle.std.specs.Prelude.{ℕ, List, not, filter};
     ghost use Rattle.task_script.specs.Cuts.{is_blank, is_empty};
-    ghost use Rattle.task_script.specs.Parts.{IsBegunOtherwise, IsPlainLeft, parts_of};
+    ghost use Rattle.task_script.specs.LineParts.{IsBegunOtherwise, IsPlainLeft, parts_of};
 
     ghost Value = { List (List ℕ) };
 

@@ -6,7 +6,7 @@ ghost use Rattle.task_script.specs.Cuts.{is_clean, words};
 ghost use Rattle.task_script.specs.Grammar.{call_line, declare_line, line_after, line_of, object_line};
 ghost use Rattle.task_script.specs.Grammar.{is_begun, is_space_at, place_of, task_line, text_after, version_line, with_call};
 ghost use Rattle.task_script.specs.Inside.{declared_of, is_space_kind};
-ghost use Rattle.task_script.specs.Parts.{all_words};
+ghost use Rattle.task_script.specs.LineParts.{all_words};
 ghost use Rattle.task_script.specs.Scripts.{nothing};
 ghost use Rattle.task_script.specs.Readings.{Becomes};
 ghost use Rattle.task_script.specs.Tokens.{is_name};

@@ -11,7 +11,7 @@ use Rattle.std.proofs.lemmas.Bool.{cases_lt}
 use Rattle.word_bits.specs.declared.area.Area.{Area}
 use Rattle.word_bits.specs.PageMaps.{PageMap, no_pages, runs}
 use Rattle.vma_map.specs.Runs.{page_map, AreRuns, spliced}
-use Rattle.vma_map.specs.RunLaws.{runs-page_map}
+use Rattle.vma_map.specs.PageRunLaws.{runs-page_map}
 use Rattle.word_bits.specs.declared.reply.Errno.{Errno}
 use Rattle.word_bits.specs.declared.reply.Errno.TheVariants.{NoMem}
 use Rattle.vma_map.specs.Spaces.{changed, is_mapped}

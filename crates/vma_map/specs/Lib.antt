@@ -1,8 +1,8 @@
 pub mod Runs
 pub mod Spaces
 pub mod AreaLaws
-pub mod RunLaws
-pub mod CallLaws
+pub mod PageRunLaws
+pub mod SpaceCallLaws
 pub mod SpaceLaws
 pub mod Bisections
 pub mod Searches

@@ -20,9 +20,9 @@ use Rattle.vma_map.specs.declared.call.SpaceCall.TheVariants.{Map, MapAny, MapNe
 use Rattle.vma_map.specs.Runs.{page_map, AreRuns, IsSpace, words_of_areas}
 use Rattle.vma_map.specs.Spaces.{changed, unless_many, with_range, moved, share_page, remapped, if_valid, is_free, is_mapped, lowest_free, mapped, mapped_at, readable, access_reply, IsCall, call_of, reads, meaning, stores}
 use Rattle.vma_map.specs.AreaLaws.{page_map-past, page_map-prots, changed-above}
-use Rattle.vma_map.specs.RunLaws.{runs-runs, page_map-runs, runs-page_map}
+use Rattle.vma_map.specs.PageRunLaws.{runs-runs, page_map-runs, runs-page_map}
 use Rattle.vma_map.specs.AreaLaws.{map-area_word-injective}
-use Rattle.vma_map.specs.CallLaws.{call_of-sound}
+use Rattle.vma_map.specs.SpaceCallLaws.{call_of-sound}
 
 -- stored areas fill all words
 pub length-words_of_areas : (areas : List Area) → length areas ≤ 256 → length (words_of_areas areas) ≡ 257

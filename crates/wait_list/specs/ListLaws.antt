@@ -13,7 +13,7 @@ use Rattle.lock_core.specs.declared.view.Point.TheVariants.{Out, Undoing, Pendin
 use Rattle.lock_core.specs.Spins.{holds_in}
 use Rattle.wait_list.specs.declared.words.TheConstants.{LIST_WORDS}
 use Rattle.lock_core.specs.Totals.{total, total-set, total-same, total-snoc, total-at, total-two}
-use Rattle.lock_core.specs.Parts.{Each, each-set, each-snoc}
+use Rattle.lock_core.specs.ViewParts.{Each, each-set, each-snoc}
 use Rattle.lock_core.proofs.HandLaws.{not-both, false-or-true}
 use Rattle.wait_list.specs.declared.view.Waiter.{Waiter}
 use Rattle.wait_list.specs.declared.view.ListHand.{ListHand}

@@ -7,14 +7,14 @@
 //! and the `prev` of code 0 would, so a code gives the place of a link, from the list or from a
 //! waiter. The tail is a code. The kernel's `struct list_head` is such a ring.
 ghost use Rattle.std.specs.Prelude.{◌≡◌, ◌<◌, ◌≤◌, ◌+◌, ◌*◌, length};
-ghost use Rattle.lock_core.specs.Handles.{IsLatest, plan_of, view_of, past_of, SitsAt, KeepsPast, SaysSame};
+ghost use Rattle.lock_core.specs.SiteHandles.{IsLatest, plan_of, view_of, past_of, SitsAt, KeepsPast, SaysSame};
 ghost use Rattle.lock_core.specs.Pasts.{FoundAt};
 ghost use Rattle.lock_core.specs.Views.{SpinHolds};
 ghost use Rattle.wait_list.specs.declared.view.ListHand.{ListHand};
 ghost use Rattle.wait_list.specs.declared.view.Change.{Change};
 ghost use Rattle.wait_list.specs.declared.view.Change.TheVariants.{Stay, Enter, Leave};
 ghost use Rattle.wait_list.specs.Lists.{AllowsKnown, HasWords, IsPrepared, IsStill, Knows, LearntWord, MayStore, list_part, listed, sighted, no_list, next_place, prev_place, entering, leaving, going_on, ending};
-ghost use Rattle.wait_list.specs.Plays.{Got, Laid, Sighted, FoundHead};
+ghost use Rattle.wait_list.specs.ListPlays.{Got, Laid, Sighted, FoundHead};
 
 use crate::host::ListHost;
 use crate::view::{Change, Waiter};

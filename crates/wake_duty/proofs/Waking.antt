@@ -6,7 +6,7 @@ use Rattle.atomic_table.specs.Table.{Me, step, keeps}
 use Rattle.word_bits.specs.declared.TheConstants.{MAX_TASKS}
 use Rattle.lock_core.specs.declared.op.Op.TheVariants.{Store, Swap}
 use Rattle.lock_core.specs.declared.view.View.{View}
-use Rattle.lock_core.specs.Plays.{Turns}
+use Rattle.lock_core.specs.SitePlays.{Turns}
 use Rattle.lock_core.specs.Stores.{HasWord, row_at}
 use Rattle.lock_core.specs.Views.{SpinRests}
 use Rattle.lock_core.specs.Moves.{Goes, Lets}

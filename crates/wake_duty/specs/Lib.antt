@@ -1,4 +1,4 @@
-pub mod Wakes
+pub mod DutyWakes
 pub mod WakeLaws
 pub mod WakeSteps
 pub mod WakeMoves

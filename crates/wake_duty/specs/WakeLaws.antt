@@ -9,7 +9,7 @@ use Rattle.lock_core.specs.declared.view.Held.TheVariants.{Alone}
 use Rattle.lock_core.specs.Records.{bit}
 use Rattle.lock_core.specs.Views.{held_weight, is_number}
 use Rattle.lock_core.specs.Totals.{total, total-set, total-snoc, total-at}
-use Rattle.lock_core.specs.Parts.{each-set, each-snoc, set-there}
+use Rattle.lock_core.specs.ViewParts.{each-set, each-snoc, set-there}
 use Rattle.lock_core.proofs.HandLaws.{is_number-here, is_number-else}
 use Rattle.lock_core.proofs.RowLaws.{none-some}
 use Rattle.wait_list.specs.declared.view.Waiter.{Waiter}
@@ -20,7 +20,7 @@ use Rattle.wake_duty.specs.declared.view.Duty.TheVariants.{NoDuty, Owing, Chosen
 use Rattle.wake_duty.specs.declared.view.Vigil.{Vigil}
 use Rattle.wake_duty.specs.declared.view.Vigil.TheVariants.{Absent, Awake, Tried}
 use Rattle.wake_duty.specs.declared.view.WakeHand.{WakeHand}
-use Rattle.wake_duty.specs.Wakes.{WAKE_WORDS, wake_word, WakePart, owed, chose, chose_any, awake, waits, guards, keeps_awake, debt, IsStuck, IsQuiet, PartOk, WakeKept, duty_of, roused, foiled, tried_at, looked_at, owing_at, drowsed_at, failing, looking, drowsing, Sets, Drowses, with_hand}
+use Rattle.wake_duty.specs.DutyWakes.{WAKE_WORDS, wake_word, WakePart, owed, chose, chose_any, awake, waits, guards, keeps_awake, debt, IsStuck, IsQuiet, PartOk, WakeKept, duty_of, roused, foiled, tried_at, looked_at, owing_at, drowsed_at, failing, looking, drowsing, Sets, Drowses, with_hand}
 
 -- who isn't in the list isn't awake, and has tried nothing
 pub awake-none : (x : Vigil) (t : ℕ) (task : Option ℕ) → waits x ≡ 0 → awake t task x ≡ 0

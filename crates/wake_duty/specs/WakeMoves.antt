@@ -3,7 +3,7 @@ use Rattle.std.specs.Prelude.{◌≡◌, ◌⊎◌, ℕ, true, List, Option, Som
 use Rattle.lock_core.specs.Tallies.{raised}
 use Rattle.wait_list.specs.declared.view.Waiter.{Waiter}
 use Rattle.wait_list.specs.Lists.{first_code}
-use Rattle.wake_duty.specs.Wakes.{wake_word}
+use Rattle.wake_duty.specs.DutyWakes.{wake_word}
 
 -- what a step of a pass of this task makes of a wake word: it stays; or it is set, and the pass had chosen its task; or it is 0, and it is the own task's, which waits without the wait lock and isn't to try
 abbrev pub WordGoes : (words words' : List ℕ) (task : Option ℕ) (locked queued awake : ℕ) (chosen : ℕ → Type 0) (t : ℕ) → Type 0

@@ -4,7 +4,7 @@ use Rattle.atomic_table.specs.Table.{Step}
 use Rattle.lock_core.specs.declared.view.Moment.{Moment}
 use Rattle.lock_core.specs.declared.view.View.{View}
 use Rattle.lock_core.specs.Pasts.{FoundAt}
-use Rattle.lock_core.specs.Plays.{Sat, Turns}
+use Rattle.lock_core.specs.SitePlays.{Sat, Turns}
 use Rattle.wake_duty.specs.declared.view.Vigil.{Vigil}
 use Rattle.wake_duty.specs.declared.view.Vigil.TheVariants.{Tried}
 

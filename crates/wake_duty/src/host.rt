@@ -11,7 +11,7 @@ ghost use Rattle.lock_core.specs.Stores.{row_at};
 ghost use Rattle.lock_core.specs.Views.{SpinRests};
 ghost use Rattle.wait_list.specs.declared.view.Waiter.{Waiter};
 ghost use Rattle.wake_duty.specs.declared.view.Vigil.{Vigil as AVigil};
-ghost use Rattle.wake_duty.specs.Wakes.{WAKE_WORDS};
+ghost use Rattle.wake_duty.specs.DutyWakes.{WAKE_WORDS};
 ghost use Rattle.wake_duty.specs.WakeSteps.{HasTried, knowing};
 
 use crate::view::Vigil;

@@ -1,6 +1,6 @@
 //! The two steps on wake words: the waiter that was chosen is woken, and a waiter drowses.
 ghost use Rattle.std.specs.Prelude.{◌≡◌, ◌<◌, ◌+◌, ◌*◌, IsSome, length};
-ghost use Rattle.lock_core.specs.Handles.{IsLatest, plan_of, view_of, past_of, task_in, SitsAt, KeepsPast, SaysSame};
+ghost use Rattle.lock_core.specs.SiteHandles.{IsLatest, plan_of, view_of, past_of, task_in, SitsAt, KeepsPast, SaysSame};
 ghost use Rattle.lock_core.specs.Views.{SpinRests};
 ghost use Rattle.wake_duty.specs.WakeSteps.{HasTried, Woke, Drowsed, FallsAsleep, knowing};
 

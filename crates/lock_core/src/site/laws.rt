@@ -2,9 +2,9 @@
 ghost use Rattle.std.specs.Prelude.{◌≡◌};
 ghost use Rattle.lock_core.specs.Layout.{site};
 ghost use Rattle.lock_core.specs.Views.{ticked};
-ghost use Rattle.lock_core.specs.Stated.{IsSiteThen, IsSiteMove};
+ghost use Rattle.lock_core.specs.SiteStated.{IsSiteThen, IsSiteMove};
 ghost use Rattle.lock_core.specs.Pasts.{BeganWith, EachMoment, IsMarked, KeepsJoined, Ran, RanByRule, opening};
-ghost use Rattle.lock_core.specs.Handles.{plan_of, view_of, past_of, joined_by, SitsAt, KeepsPast, KeepsNest, IsLatest};
+ghost use Rattle.lock_core.specs.SiteHandles.{plan_of, view_of, past_of, joined_by, SitsAt, KeepsPast, KeepsNest, IsLatest};
 
 use super::Site;
 use super::plays::Recall;

@@ -5,7 +5,7 @@ ghost use Rattle.lock_core.specs.Layout.{site_width};
 ghost use Rattle.lock_core.specs.Views.{ticked, handed, with_number};
 ghost use Rattle.lock_core.specs.Moves.{KeepsHold};
 ghost use Rattle.lock_core.specs.Pasts.{FoundAt};
-ghost use Rattle.lock_core.specs.Handles.{plan_of, view_of, hand_in, past_of, IsOneOf, KeepsSeat, SaysSame, MayFind, MayPut, MayAdd, MayTake};
+ghost use Rattle.lock_core.specs.SiteHandles.{plan_of, view_of, hand_in, past_of, IsOneOf, KeepsSeat, SaysSame, MayFind, MayPut, MayAdd, MayTake};
 
 use super::Site;
 use super::plays::{Becomes, Begin, Find, Put, Puts, Tells};

@@ -1,10 +1,10 @@
 //! What each step tells its pass. A call picks the facts and hands that it needs by `Brand`.
 ghost use Rattle.std.specs.Prelude.{◌≡◌, ℕ, None, Some, [], ◌∷◌, slice_index};
-ghost use Rattle.lock_core.specs.Passes.{IsLength, IsEntryAt, IsCallWord, IsRecWord, IsTaken};
+ghost use Rattle.lock_core.specs.SitePasses.{IsLength, IsEntryAt, IsCallWord, IsRecWord, IsTaken};
 ghost use Rattle.lock_core.specs.Chronicles.{Chronicles};
 ghost use Rattle.lock_core.specs.declared.view.Hand.{Hand};
 ghost use Rattle.lock_core.specs.Views.{stranger, ticked, split_off, merged, spent};
-ghost use Rattle.lock_core.specs.Plays.{Found, PutBy, Begun};
+ghost use Rattle.lock_core.specs.SitePlays.{Found, PutBy, Begun};
 ghost use Rattle.lock_core.specs.Pasts.{KeepsJoined, unseen, FoundAt, IsMarked, IsOwnStep, Moves, Ran, GoesOn, opening};
 ghost use Rattle.word_bits.specs.Histories.{Plan as Calls};
 

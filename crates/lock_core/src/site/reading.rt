@@ -7,8 +7,8 @@ ghost use Rattle.lock_core.specs.Layout.{record_place};
 ghost use Rattle.lock_core.specs.Records.{row};
 ghost use Rattle.lock_core.specs.Pasts.{FoundAt};
 ghost use Rattle.lock_core.specs.Views.{ticked};
-ghost use Rattle.lock_core.specs.Passes.{Shows, TellsKnown};
-ghost use Rattle.lock_core.specs.Handles.{plan_of, view_of, hand_in, past_of, SitsAt, IsOneOf, KeepsSeat, KeepsPast, KeepsNest, SaysSame, IsLatest, UndoneIsZero};
+ghost use Rattle.lock_core.specs.SitePasses.{Shows, TellsKnown};
+ghost use Rattle.lock_core.specs.SiteHandles.{plan_of, view_of, hand_in, past_of, SitsAt, IsOneOf, KeepsSeat, KeepsPast, KeepsNest, SaysSame, IsLatest, UndoneIsZero};
 
 use super::Site;
 use super::plays::{CallWord, RecWord};

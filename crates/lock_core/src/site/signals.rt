@@ -2,11 +2,11 @@
 ghost use Rattle.std.specs.Prelude.{◌≡◌, ◌+◌, ◌<◌, None, Some, IsSome, IfSome, IfNone};
 ghost use Rattle.lock_core.specs.Sites.{sent_place};
 ghost use Rattle.lock_core.specs.Pasts.{FoundAt};
-ghost use Rattle.lock_core.specs.Plays.{Heeded};
+ghost use Rattle.lock_core.specs.SitePlays.{Heeded};
 ghost use Rattle.lock_core.specs.Views.{consuming, handed, sending};
-ghost use Rattle.lock_core.specs.Passes.{Hears, HearsOf, Consumes};
+ghost use Rattle.lock_core.specs.SitePasses.{Hears, HearsOf, Consumes};
 ghost use Rattle.lock_core.specs.Signals.{HearsOfSome, HasHeard};
-ghost use Rattle.lock_core.specs.Handles.{view_of, hand_in, past_of, task_in, SitsAt, IsOneOf, KeepsSeat, KeepsPast, KeepsNest, SaysSame, IsLatest, IsNextSignal, SawOwnSignals, SawNonePending};
+ghost use Rattle.lock_core.specs.SiteHandles.{view_of, hand_in, past_of, task_in, SitsAt, IsOneOf, KeepsSeat, KeepsPast, KeepsNest, SaysSame, IsLatest, IsNextSignal, SawOwnSignals, SawNonePending};
 
 use super::Site;
 use super::plays::Taken;

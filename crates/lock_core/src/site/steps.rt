@@ -6,7 +6,7 @@ ghost use Rattle.lock_core.specs.Layout.{width};
 ghost use Rattle.lock_core.specs.Stores.{HasWord, IsStoredAt};
 ghost use Rattle.lock_core.specs.Ops.{told_by};
 ghost use Rattle.lock_core.specs.Pasts.{FindsAt};
-ghost use Rattle.lock_core.specs.Handles.{plan_of, past_of, seat_in, step_at, IsOneOf, IsSameSeat, KeepsPast, SaysSame, KeepsNest, MayStep, IsLatest};
+ghost use Rattle.lock_core.specs.SiteHandles.{plan_of, past_of, seat_in, step_at, IsOneOf, IsSameSeat, KeepsPast, SaysSame, KeepsNest, MayStep, IsLatest};
 
 use super::Site;
 use super::plays::{Lift, LiftFound, Placed};

@@ -11,8 +11,8 @@ ghost use Rattle.lock_core.specs.Pasts.{FoundAt};
 ghost use Rattle.lock_core.specs.Plans.{calls_in};
 ghost use Rattle.lock_core.specs.Views.{ticked, handed, wrote, entered, logged, recorded, note_steps, settled, OwesNoSignal, Unsent, after_commit, after_note, after_read, after_seen, with_record};
 ghost use Rattle.lock_core.specs.Chronicles.{Chronicles};
-ghost use Rattle.lock_core.specs.Passes.{IsLength, IsChange, IsEntryWord};
-ghost use Rattle.lock_core.specs.Handles.{plan_of, view_of, hand_in, past_of, task_in, held_in, done_in, front_in, SitsAt, IsOneOf, KeepsSeat, KeepsPast, KeepsNest, SaysSame, IsLatest, IsNextChange, IsNextReading, IsNextSeenReading, MayNoteNext, MayStoreRecord};
+ghost use Rattle.lock_core.specs.SitePasses.{IsLength, IsChange, IsEntryWord};
+ghost use Rattle.lock_core.specs.SiteHandles.{plan_of, view_of, hand_in, past_of, task_in, held_in, done_in, front_in, SitsAt, IsOneOf, KeepsSeat, KeepsPast, KeepsNest, SaysSame, IsLatest, IsNextChange, IsNextReading, IsNextSeenReading, MayNoteNext, MayStoreRecord};
 
 use super::Site;
 use super::plays::{Chronicle, Guarded, Length, LogEntry, Puts};

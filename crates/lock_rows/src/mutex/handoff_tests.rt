@@ -1,5 +1,5 @@
 //! What a third task is told while a mutex is handed over on threads.
-ghost use Rattle.mutex_slow.specs.Standing.{IsHolder, IsReady};
+ghost use Rattle.mutex_slow.specs.MutexStanding.{IsHolder, IsReady};
 
 use super::lockers::{Three, lock_and_count, open_held};
 use crate::watched::{NO_TURNS, Watch, WatchedCrew, await_count};

@@ -3,8 +3,8 @@
 ghost use Rattle.std.specs.Prelude.{◌≡◌, None};
 ghost use Rattle.lock_core.specs.Nothings.{nothing};
 ghost use Rattle.lock_core.specs.Records.{IsPlan};
-ghost use Rattle.mutex_slow.specs.Handles.{hand_in, plan_of};
-ghost use Rattle.mutex_slow.specs.Standing.{IsReady};
+ghost use Rattle.mutex_slow.specs.MutexHandles.{hand_in, plan_of};
+ghost use Rattle.mutex_slow.specs.MutexStanding.{IsReady};
 
 use super::lockers::{Three, open_free};
 use crate::watched::{NO_TURNS, Watch, WatchedCrew};

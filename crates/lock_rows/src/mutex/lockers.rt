@@ -2,8 +2,8 @@
 ghost use Rattle.std.specs.Prelude.{◌≡◌, IfOk, None};
 ghost use Rattle.lock_core.specs.Nothings.{nothing};
 ghost use Rattle.lock_core.specs.Records.{IsPlan};
-ghost use Rattle.mutex_slow.specs.Handles.{hand_in, plan_of};
-ghost use Rattle.mutex_slow.specs.Standing.{IsHolder, IsReady};
+ghost use Rattle.mutex_slow.specs.MutexHandles.{hand_in, plan_of};
+ghost use Rattle.mutex_slow.specs.MutexStanding.{IsHolder, IsReady};
 
 use cpu_task::Crew;
 use lock_core::{How, Nothing, Plan};

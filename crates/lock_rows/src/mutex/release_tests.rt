@@ -1,6 +1,6 @@
 //! By which way a call that waits gets the mutex, whom a release wakes that nobody asked to hand
 //! over, and what the passes count of it.
-ghost use Rattle.mutex_slow.specs.Standing.{IsHolder, IsReady};
+ghost use Rattle.mutex_slow.specs.MutexStanding.{IsHolder, IsReady};
 
 use super::lockers::{Three, lock_and_count, open_free, open_held};
 use crate::watched::{LOOKS, NO_TURNS, Watch, WatchedCrew, await_count};

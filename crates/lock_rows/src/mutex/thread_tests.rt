@@ -1,6 +1,6 @@
 //! What no clause says: a mutex that two threads contend for loses nothing.
 ghost use Rattle.std.specs.Prelude.{◌<◌, length};
-ghost use Rattle.mutex_slow.specs.Handles.{IsIdle, plan_of};
+ghost use Rattle.mutex_slow.specs.MutexHandles.{IsIdle, plan_of};
 
 use cpu_task::{Crew, ParkCpu, ParkCrew, Turns};
 use lock_core::{Nothing, Plan};

@@ -2,8 +2,8 @@
 ghost use Rattle.std.specs.Prelude.{◌≡◌, IfOk, None};
 ghost use Rattle.lock_core.specs.Nothings.{nothing};
 ghost use Rattle.lock_core.specs.Records.{IsPlan};
-ghost use Rattle.rwsem_slow.specs.Handles.{hand_in, plan_of};
-ghost use Rattle.rwsem_slow.specs.Standing.{IsReady};
+ghost use Rattle.rwsem_slow.specs.RwSemHandles.{hand_in, plan_of};
+ghost use Rattle.rwsem_slow.specs.RwSemStanding.{IsReady};
 
 use lock_core::{Nothing, Plan};
 use rwsem_slow::{RwPass, RwSem};

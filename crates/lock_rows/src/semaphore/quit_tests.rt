@@ -3,8 +3,8 @@
 ghost use Rattle.std.specs.Prelude.{◌≡◌, None};
 ghost use Rattle.lock_core.specs.Nothings.{nothing};
 ghost use Rattle.lock_core.specs.Records.{IsPlan};
-ghost use Rattle.rwsem_slow.specs.Handles.{hand_in, plan_of};
-ghost use Rattle.rwsem_slow.specs.Standing.{IsReady};
+ghost use Rattle.rwsem_slow.specs.RwSemHandles.{hand_in, plan_of};
+ghost use Rattle.rwsem_slow.specs.RwSemStanding.{IsReady};
 
 use super::pairs::{Pair, Way, open_pair};
 use crate::watched::{NO_TURNS, Watch, WatchedCrew};

@@ -2,8 +2,8 @@
 ghost use Rattle.std.specs.Prelude.{◌≡◌, false};
 ghost use Rattle.lock_core.specs.Nothings.{nothing};
 ghost use Rattle.lock_core.specs.Records.{IsPlan};
-ghost use Rattle.rwsem_slow.specs.Handles.{hand_in, plan_of, SitsAt};
-ghost use Rattle.rwsem_slow.specs.Standing.{IsReady};
+ghost use Rattle.rwsem_slow.specs.RwSemHandles.{hand_in, plan_of, SitsAt};
+ghost use Rattle.rwsem_slow.specs.RwSemStanding.{IsReady};
 
 use super::pairs::{Pair, Way, open_pair};
 use crate::watched::{NO_TURNS, Watch, WatchedCrew, await_count};

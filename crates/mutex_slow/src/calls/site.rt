@@ -1,7 +1,7 @@
 //! A mutex, as a lock over a site. Beside its pass of the site, a pass has one of the spin queue,
 //! and what it counts.
 ghost use Rattle.std.specs.Prelude.{refl};
-ghost use Rattle.mutex_slow.specs.Handles.{plan_of, shown_of, SitsAt};
+ghost use Rattle.mutex_slow.specs.MutexHandles.{plan_of, shown_of, SitsAt};
 
 use super::{Mutex, MutexPass};
 use crate::rule::MutexRule;
@@ -11,7 +11,7 @@ use word_bits::Object;
 
 impl<O: Object> SiteLock<O> for Mutex<O> {
     ghost use Rattle.site_lock.specs.Sitting.{SitsIdle};
-    ghost use Rattle.mutex_slow.specs.SiteLaws.{mutex-frame};
+    ghost use Rattle.mutex_slow.specs.MutexSiteLaws.{mutex-frame};
 
     type Rule = MutexRule<O>;
 

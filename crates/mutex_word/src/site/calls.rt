@@ -1,6 +1,6 @@
 //! A site with an owner word, as a lock over a site: its pass is the site's.
 ghost use Rattle.std.specs.Prelude.{refl};
-ghost use Rattle.mutex_word.specs.Handles.{plan_of, shown_of, SitsAt};
+ghost use Rattle.mutex_word.specs.OwnerHandles.{plan_of, shown_of, SitsAt};
 
 use super::{OwnerPass, OwnerSite};
 use crate::rule::OwnerRule;
@@ -9,7 +9,7 @@ use site_lock::SiteLock;
 use word_bits::Object;
 
 impl<O: Object> SiteLock<O> for OwnerSite<O> {
-    ghost use Rattle.mutex_word.specs.SiteLaws.{owner-frame};
+    ghost use Rattle.mutex_word.specs.OwnerSiteLaws.{owner-frame};
 
     type Rule = OwnerRule<O>;
 

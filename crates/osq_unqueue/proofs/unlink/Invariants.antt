@@ -1,6 +1,6 @@
 use Rattle.std.proofs.Common.{◌≡◌, ◌<◌}
 use Rattle.lock_core.specs.Pasts.{GoesOn}
-use Rattle.osq_nodes.specs.Handles.{tasks_of, SitsAt, view_of, past_of, KeepsNumber}
+use Rattle.osq_nodes.specs.OsqHandles.{tasks_of, SitsAt, view_of, past_of, KeepsNumber}
 use Rattle.osq_unqueue.proofs.unlink.Given as goal
 
 abbrev pub invariant-loop : goal.invariant-loop

@@ -1,7 +1,7 @@
 //! The calls of a site, for a per-CPU semaphore. Beside its pass of the site, a pass has how many
 //! counts it has seen zero, which no such call changes.
 ghost use Rattle.std.specs.Prelude.{refl};
-ghost use Rattle.percpu_rwsem.specs.Handles.{plan_of, shown_of, SitsAt};
+ghost use Rattle.percpu_rwsem.specs.PercpuHandles.{plan_of, shown_of, SitsAt};
 
 use super::PercpuRwSem;
 use crate::pass::PercpuPass;
@@ -11,7 +11,7 @@ use site_lock::SiteLock;
 use word_bits::Object;
 
 impl<O: Object> SiteLock<O> for PercpuRwSem<O> {
-    ghost use Rattle.percpu_rwsem.specs.SiteLaws.{percpu-frame};
+    ghost use Rattle.percpu_rwsem.specs.PercpuSiteLaws.{percpu-frame};
 
     type Rule = PercpuRule<O>;
 

@@ -1,6 +1,6 @@
 //! A site with a count, as a lock over a site.
 ghost use Rattle.std.specs.Prelude.{◌≡◌, refl};
-ghost use Rattle.rwsem_count.specs.Handles.{plan_of, shown_of, SitsAt};
+ghost use Rattle.rwsem_count.specs.CountHandles.{plan_of, shown_of, SitsAt};
 
 use super::CountSite;
 use crate::pass::CountPass;
@@ -10,7 +10,7 @@ use site_lock::SiteLock;
 use word_bits::Object;
 
 impl<O: Object> SiteLock<O> for CountSite<O> {
-    ghost use Rattle.rwsem_count.specs.SiteLaws.{count-frame};
+    ghost use Rattle.rwsem_count.specs.CountSiteLaws.{count-frame};
 
     type Rule = CountRule<O>;
 

@@ -7,10 +7,10 @@ ghost use Rattle.lock_core.specs.Locking.{Got, Interrupts, KeepsPlace, TalliesLo
 ghost use Rattle.lock_core.specs.Shown.{PastGoesOn};
 ghost use Rattle.osq_unqueue.specs.Rising.{LeavesForCpu};
 ghost use Rattle.rwsem_slow.specs.RwSems.{count_at};
-ghost use Rattle.rwsem_slow.specs.Handles.{shown_of, dozes_in, hand_in, SitsAt, TakesShared};
-ghost use Rattle.cpu_task.specs.Counting.{Dozes};
-ghost use Rattle.rwsem_slow.specs.Counting.{CountsReading, SleepsBetween};
-ghost use Rattle.rwsem_slow.specs.Opening.{EntersOpen};
+ghost use Rattle.rwsem_slow.specs.RwSemHandles.{shown_of, dozes_in, hand_in, SitsAt, TakesShared};
+ghost use Rattle.cpu_task.specs.CpuCounting.{Dozes};
+ghost use Rattle.rwsem_slow.specs.SleepCounting.{CountsReading, SleepsBetween};
+ghost use Rattle.rwsem_slow.specs.RwSemOpening.{EntersOpen};
 
 use super::{RwPass, RwSem};
 use crate::hint::note_reader;

@@ -4,7 +4,7 @@ ghost use Rattle.lock_core.specs.declared.view.Held.TheVariants.{No, Shared, Alo
 ghost use Rattle.lock_core.specs.Kinds.{semaphore, wakes_alone, wakes_down, wakes_shared};
 ghost use Rattle.lock_core.specs.Locking.{Downgrades, Releases};
 ghost use Rattle.lock_core.specs.Shown.{PastGoesOn};
-ghost use Rattle.rwsem_slow.specs.Handles.{shown_of, dozes_in, hand_in, SitsAt, SpunGoesOn};
+ghost use Rattle.rwsem_slow.specs.RwSemHandles.{shown_of, dozes_in, hand_in, SitsAt, SpunGoesOn};
 ghost use Rattle.rwsem_slow.specs.Releasing.{LeavesCount};
 
 use super::{RwPass, RwSem};

@@ -1,7 +1,7 @@
 //! A semaphore, as a lock over a site. Beside its pass of the site, a pass has one of the spin
 //! queue, and what it counts.
 ghost use Rattle.std.specs.Prelude.{◌≡◌, refl};
-ghost use Rattle.rwsem_slow.specs.Handles.{plan_of, shown_of, SitsAt};
+ghost use Rattle.rwsem_slow.specs.RwSemHandles.{plan_of, shown_of, SitsAt};
 
 use super::{RwPass, RwSem};
 use crate::rule::SemRule;
@@ -11,7 +11,7 @@ use word_bits::Object;
 
 impl<O: Object> SiteLock<O> for RwSem<O> {
     ghost use Rattle.site_lock.specs.Sitting.{SitsIdle};
-    ghost use Rattle.rwsem_slow.specs.SiteLaws.{sem-frame};
+    ghost use Rattle.rwsem_slow.specs.RwSemSiteLaws.{sem-frame};
 
     type Rule = SemRule<O>;
 

@@ -6,10 +6,10 @@ ghost use Rattle.lock_core.specs.Kinds.{semaphore};
 ghost use Rattle.lock_core.specs.Locking.{Got, Misses};
 ghost use Rattle.lock_core.specs.Pasts.{FoundAt};
 ghost use Rattle.lock_core.specs.Shown.{PastGoesOn};
-ghost use Rattle.rwsem_count.specs.Tries.{FindsFree};
-ghost use Rattle.rwsem_count.specs.WordSteps.{IsReadFree};
+ghost use Rattle.rwsem_count.specs.CountTries.{FindsFree};
+ghost use Rattle.rwsem_count.specs.CountWordSteps.{IsReadFree};
 ghost use Rattle.rwsem_slow.specs.RwSems.{count_at};
-ghost use Rattle.rwsem_slow.specs.Handles.{shown_of, hand_in, KeepsWakes, SitsAt, TakesAlone, TakesShared};
+ghost use Rattle.rwsem_slow.specs.RwSemHandles.{shown_of, hand_in, KeepsWakes, SitsAt, TakesAlone, TakesShared};
 
 use super::{RwPass, RwSem};
 use rwsem_count::{steps, tries};

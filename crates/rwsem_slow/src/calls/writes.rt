@@ -7,10 +7,10 @@ ghost use Rattle.lock_core.specs.Locking.{Got, Interrupts, KeepsPlace, Looks, On
 ghost use Rattle.lock_core.specs.Shown.{PastGoesOn};
 ghost use Rattle.osq_unqueue.specs.Rising.{LeavesForCpu};
 ghost use Rattle.rwsem_slow.specs.RwSems.{count_at};
-ghost use Rattle.rwsem_slow.specs.Handles.{shown_of, dozes_in, hand_in, KeepsFronts, KeepsMisses, KeepsWakes, SitsAt, SpunGoesOn, TakesAlone};
-ghost use Rattle.cpu_task.specs.Counting.{Dozes};
-ghost use Rattle.rwsem_slow.specs.Counting.{CountsLeaving, CountsWriting};
-ghost use Rattle.rwsem_slow.specs.Opening.{TakesOpen};
+ghost use Rattle.rwsem_slow.specs.RwSemHandles.{shown_of, dozes_in, hand_in, KeepsFronts, KeepsMisses, KeepsWakes, SitsAt, SpunGoesOn, TakesAlone};
+ghost use Rattle.cpu_task.specs.CpuCounting.{Dozes};
+ghost use Rattle.rwsem_slow.specs.SleepCounting.{CountsLeaving, CountsWriting};
+ghost use Rattle.rwsem_slow.specs.RwSemOpening.{TakesOpen};
 ghost use Rattle.rwsem_slow.specs.Spinning.{SawIfTried};
 
 use super::{RwPass, RwSem};

@@ -1,6 +1,6 @@
 //! The calls of a site, for a site with a sequence word: its pass is the site's.
 ghost use Rattle.std.specs.Prelude.{refl};
-ghost use Rattle.seq_fault.specs.Handles.{plan_of, shown_of, SitsAt};
+ghost use Rattle.seq_fault.specs.SeqHandles.{plan_of, shown_of, SitsAt};
 
 use super::{SeqPass, SeqSite};
 use crate::rule::SeqRule;

@@ -1,7 +1,7 @@
 use Rattle.std.proofs.Common.{◌≡◌, IsSome, false}
 use Rattle.lock_core.specs.declared.view.Held.TheVariants.{No}
-use Rattle.mutex_word.specs.Handles.{hand_in, held_in, task_in, SitsAt}
-use Rattle.call_tests.specs.Standing.{OwesNothing, SameSpin}
+use Rattle.mutex_word.specs.OwnerHandles.{hand_in, held_in, task_in, SitsAt}
+use Rattle.call_tests.specs.OwnerLockStanding.{OwesNothing, SameSpin}
 use Rattle.call_tests.proofs.calls.await_signal.Given as goal
 
 abbrev pub invariant-loop : goal.invariant-loop

@@ -1,6 +1,6 @@
 use Rattle.std.proofs.Common.{◌≡◌, length, take}
-use Rattle.mutex_word.specs.Handles.{hand_in, SitsAt}
-use Rattle.call_tests.specs.Standing.{SameSpin, SaysSame}
+use Rattle.mutex_word.specs.OwnerHandles.{hand_in, SitsAt}
+use Rattle.call_tests.specs.OwnerLockStanding.{SameSpin, SaysSame}
 use Rattle.call_tests.proofs.calls.load.Given as goal
 
 abbrev pub invariant-loop-at : goal.invariant-loop-at

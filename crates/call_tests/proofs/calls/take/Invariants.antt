@@ -1,7 +1,7 @@
 use Rattle.std.proofs.Common.{◌≡◌}
 use Rattle.lock_core.specs.declared.view.Held.TheVariants.{No}
-use Rattle.mutex_word.specs.Handles.{hand_in, held_in, task_in, SitsAt}
-use Rattle.call_tests.specs.Standing.{OwesSame, SameSpin}
+use Rattle.mutex_word.specs.OwnerHandles.{hand_in, held_in, task_in, SitsAt}
+use Rattle.call_tests.specs.OwnerLockStanding.{OwesSame, SameSpin}
 use Rattle.call_tests.proofs.calls.take.Given as goal
 
 abbrev pub invariant-loop : goal.invariant-loop

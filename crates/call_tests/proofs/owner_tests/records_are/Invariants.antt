@@ -1,4 +1,4 @@
-use Rattle.mutex_word.specs.Handles.{SitsAt}
+use Rattle.mutex_word.specs.OwnerHandles.{SitsAt}
 use Rattle.call_tests.proofs.owner_tests.records_are.Given as goal
 
 abbrev pub invariant-loop-call : goal.invariant-loop-call

@@ -1,6 +1,6 @@
 use Rattle.std.proofs.Common.{◌≡◌}
-use Rattle.mutex_word.specs.Handles.{hand_in, SitsAt}
-use Rattle.call_tests.specs.Standing.{SaysSame}
+use Rattle.mutex_word.specs.OwnerHandles.{hand_in, SitsAt}
+use Rattle.call_tests.specs.OwnerLockStanding.{SaysSame}
 use Rattle.call_tests.proofs.owner_tests.replay.Given as goal
 
 abbrev pub invariant-loop-at : goal.invariant-loop-at

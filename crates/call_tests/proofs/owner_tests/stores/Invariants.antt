@@ -1,6 +1,6 @@
 use Rattle.std.proofs.Common.{◌≢◌}
 use Rattle.lock_core.specs.declared.view.Held.TheVariants.{No}
-use Rattle.mutex_word.specs.Handles.{held_in, SitsAt}
+use Rattle.mutex_word.specs.OwnerHandles.{held_in, SitsAt}
 use Rattle.call_tests.proofs.owner_tests.stores.Given as goal
 
 abbrev pub invariant-loop-at : goal.invariant-loop-at

@@ -1,8 +1,8 @@
 use Rattle.std.proofs.Common.{◌≡◌, false, Some}
 use Rattle.lock_core.specs.declared.view.Held.TheVariants.{No}
 use Rattle.lock_core.specs.Views.{SpinRests}
-use Rattle.mutex_word.specs.Handles.{hand_in, held_in, task_in, view_of, SitsAt}
-use Rattle.call_tests.specs.Standing.{OwesNothing}
+use Rattle.mutex_word.specs.OwnerHandles.{hand_in, held_in, task_in, view_of, SitsAt}
+use Rattle.call_tests.specs.OwnerLockStanding.{OwesNothing}
 use Rattle.call_tests.proofs.rounds.all_calls.Given as goal
 
 abbrev pub invariant-loop : goal.invariant-loop

@@ -7,7 +7,7 @@ use Rattle.word_bits.specs.declared.area.Area.{Area}
 use Rattle.vma_map.proofs.RangeLemmas.{no_area}
 use Rattle.vma_map.proofs.WordLemmas.{AreRuns-take}
 use Rattle.vma_map.proofs.CountLemmas.{covered-le}
-use Rattle.guarded.specs.Serving.{share}
+use Rattle.guarded.specs.CallServing.{share}
 use Rattle.guarded.specs.Splicing.{HaveAreas, areas_in}
 use Rattle.guarded.proofs.Counting.{shares, shares-more, shares-le, shares-end, shares-ended, shares-front, counted-runs}
 use Rattle.guarded.proofs.Passing.{looks-trans}

@@ -5,7 +5,7 @@ use Rattle.std.specs.Prelude.{IsSome}
 use Rattle.lock_core.specs.declared.pass.Face.{Face}
 use Rattle.lock_core.specs.declared.view.View.{View}
 use Rattle.lock_core.specs.LockHands.{RestsAt}
-use Rattle.qspin_word.specs.Handles.{spin_in}
+use Rattle.qspin_word.specs.SpinWordHandles.{spin_in}
 use Rattle.qspin_queue.proofs.Interrupting.{freed-here, freed-else}
 use Rattle.lock_bench.proofs.nested.nested_pair.Goals as goal
 

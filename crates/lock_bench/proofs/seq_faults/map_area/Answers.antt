@@ -1,6 +1,6 @@
 use Rattle.std.proofs.Common.{◌∙◌, sym}
-use Rattle.seq_fault.specs.Handles.{done_in}
-use Rattle.seq_fault.specs.Ruled.{never}
+use Rattle.seq_fault.specs.SeqHandles.{done_in}
+use Rattle.seq_fault.specs.SeqRuled.{never}
 use Rattle.vma_map.specs.Spaces.{space}
 use Rattle.lock_bench.proofs.FaultPassing.{begun, next-map}
 use Rattle.lock_bench.proofs.seq_faults.map_area.Goals as goal

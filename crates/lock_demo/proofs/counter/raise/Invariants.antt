@@ -1,6 +1,6 @@
 use Rattle.std.proofs.Common.{◌≡◌, None, IsSome}
 use Rattle.lock_core.specs.declared.view.Held.TheVariants.{No}
-use Rattle.mutex_slow.specs.Handles.{SitsAt, hand_in}
+use Rattle.mutex_slow.specs.MutexHandles.{SitsAt, hand_in}
 use Rattle.lock_demo.proofs.counter.raise.Given as goal
 
 abbrev pub invariant-loop : goal.invariant-loop

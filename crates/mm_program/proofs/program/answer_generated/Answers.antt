@@ -1,7 +1,7 @@
 use Rattle.std.proofs.Common.{ap, sym}
 use Rattle.task_script.specs.Generated.{generated}
 use Rattle.guarded.specs.LockMembers.{members}
-use Rattle.mm_program.specs.Kept.{HasServed}
+use Rattle.mm_program.specs.ProgramKept.{HasServed}
 use Rattle.mm_program.specs.Requests.{accepted}
 use Rattle.mm_program.proofs.Inputs.{said}
 use Rattle.mm_program.proofs.program.answer_generated.Goals as goal

@@ -1,7 +1,7 @@
 use Rattle.std.proofs.Common.{◌∙◌, ap, sym, rules}
 use Rattle.task_script.specs.Grammar.{script_of}
 use Rattle.guarded.specs.LockMembers.{members}
-use Rattle.mm_program.specs.Kept.{HasServed}
+use Rattle.mm_program.specs.ProgramKept.{HasServed}
 use Rattle.mm_program.specs.Requests.{request_of}
 use Rattle.mm_program.proofs.Inputs.{answers_memory, any_input, never_read, said, said_failed, same_input}
 use Rattle.mm_program.proofs.program.answer_input.Goals as goal

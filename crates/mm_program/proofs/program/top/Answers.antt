@@ -5,7 +5,7 @@ use Rattle.task_script.specs.Generated.{generated}
 use Rattle.task_script.specs.Grammar.{script_of}
 use Rattle.guarded.specs.LockMembers.{members}
 use Rattle.mm_program.specs.CommandLine.{is_question, options_of}
-use Rattle.mm_program.specs.Kept.{HasServed}
+use Rattle.mm_program.specs.ProgramKept.{HasServed}
 use Rattle.mm_program.specs.Requests.{accepted, helped, misused, reads_input, request, request_of}
 use Rattle.mm_program.proofs.CommandLines.{misused_says, questions_say_nothing}
 use Rattle.mm_program.proofs.Inputs.{answers_any, answers_as, answers_memory, answers_unasked, asks_generated, asks_input, completes, completes_memory, completes_nothing, said_unkept}

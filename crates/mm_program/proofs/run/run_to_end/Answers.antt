@@ -1,6 +1,6 @@
 use Rattle.guarded.specs.LockMembers.{members}
 use Rattle.mm_program.specs.CommandLine.{line_asks_help, said_by_line}
-use Rattle.mm_program.specs.Kept.{HasServed}
+use Rattle.mm_program.specs.ProgramKept.{HasServed}
 use Rattle.mm_program.specs.Requests.{request}
 use Rattle.mm_program.proofs.Unnamed.{answers-unnamed, completes-unnamed}
 use Rattle.mm_serve.specs.Machines.{results_of}

@@ -1,7 +1,7 @@
 use Rattle.std.proofs.Common.{arith, ◌∙◌}
 use Rattle.std.proofs.Math.ListN.{length-set}
 use Rattle.lock_core.specs.Pasts.{GoesOn}
-use Rattle.mm_serve.specs.Copying.{IsCopied, IsToCopy}
+use Rattle.mm_serve.specs.MachineCopying.{IsCopied, IsToCopy}
 use Rattle.mm_serve.proofs.Each.{between-none, between-at, between-all, get-of, set-related}
 use Rattle.mm_serve.proofs.Copies.{copies, still-blank}
 use Rattle.mm_serve.proofs.copying.snapshot_all.Goals as goal

@@ -2,7 +2,7 @@ use Rattle.std.proofs.Common.{◌≡◌, ℕ, length}
 use Rattle.std.specs.Prelude.{slice_index_or}
 use Rattle.lock_core.specs.Pasts.{GoesOn}
 use Rattle.mm_serve.specs.Workers.{EachOf}
-use Rattle.mm_serve.specs.Copying.{IsCopied, IsToCopy}
+use Rattle.mm_serve.specs.MachineCopying.{IsCopied, IsToCopy}
 use Rattle.mm_serve.proofs.Each.{Between}
 use Rattle.mm_serve.proofs.copying.snapshot_all.Given as goal
 

@@ -4,7 +4,7 @@ use Rattle.lock_core.specs.Kinds.{unavailable}
 use Rattle.lock_core.specs.Shown.{Shown}
 use Rattle.lock_core.specs.Views.{gave_up}
 use Rattle.guarded.specs.Gathering.{KeepsDone}
-use Rattle.mm_serve.specs.Serving.{IsServing}
+use Rattle.mm_serve.specs.TaskServing.{IsServing}
 use Rattle.mm_serve.proofs.Passes.{all-done, now-idle}
 use Rattle.mm_serve.proofs.one_lock.end.Goals as goal
 

@@ -1,5 +1,5 @@
 use Rattle.std.proofs.Common.{◌≡◌, take, length}
-use Rattle.mm_serve.specs.Opening.{AddsLines, HaveRoom, HaveTask}
+use Rattle.mm_serve.specs.ObjectsOpening.{AddsLines, HaveRoom, HaveTask}
 use Rattle.mm_serve.proofs.planning.plan_task.Given as goal
 
 abbrev pub invariant-loop-line : goal.invariant-loop-line

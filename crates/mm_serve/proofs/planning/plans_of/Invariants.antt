@@ -1,4 +1,4 @@
-use Rattle.mm_serve.specs.Opening.{HaveRoom}
+use Rattle.mm_serve.specs.ObjectsOpening.{HaveRoom}
 use Rattle.mm_serve.proofs.Filling.{ArePlannedTo}
 use Rattle.mm_serve.proofs.planning.plans_of.Given as goal
 

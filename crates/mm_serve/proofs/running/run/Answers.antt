@@ -1,6 +1,6 @@
 use Rattle.std.proofs.Common.{arith}
 use Rattle.mm_serve.specs.Workers.{KnowsAllDone}
-use Rattle.mm_serve.specs.Copying.{IsToCopy}
+use Rattle.mm_serve.specs.MachineCopying.{IsToCopy}
 use Rattle.mm_serve.proofs.Copies.{still-copied}
 use Rattle.mm_serve.proofs.Each.{each-map}
 use Rattle.mm_serve.proofs.running.run.Goals as goal

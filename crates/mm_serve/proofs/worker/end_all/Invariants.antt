@@ -1,7 +1,7 @@
 use Rattle.std.proofs.Common.{◌≡◌, length}
 use Rattle.lock_core.specs.Records.{row}
-use Rattle.mm_serve.specs.Histories.{HasDoneOn}
-use Rattle.mm_serve.specs.Queues.{GoesBackToTask}
+use Rattle.mm_serve.specs.MachineHistories.{HasDoneOn}
+use Rattle.mm_serve.specs.MachineQueues.{GoesBackToTask}
 use Rattle.mm_serve.specs.Workers.{EachOf}
 use Rattle.mm_serve.proofs.Each.{Between}
 use Rattle.mm_serve.proofs.worker.end_all.Given as goal

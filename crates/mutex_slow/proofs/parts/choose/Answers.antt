@@ -1,5 +1,5 @@
 use Rattle.std.proofs.Common.{length, arith, ap}
-use Rattle.lock_core.specs.RunLaws.{step-by}
+use Rattle.lock_core.specs.SiteRunLaws.{step-by}
 use Rattle.mutex_slow.specs.Mutexes.{V}
 use Rattle.word_bits.specs.OwnerWord.{task_code}
 use Rattle.mutex_slow.proofs.Duties.{chooses, looks-outside}

@@ -1,6 +1,6 @@
 use Rattle.std.proofs.Common.{sym, ◌∙◌, subst, true, false, Some}
 use Rattle.mutex_slow.specs.Mutexes.{turned}
-use Rattle.mutex_word.specs.Tries.{CameTo}
+use Rattle.mutex_word.specs.OwnerTries.{CameTo}
 use Rattle.mutex_slow.proofs.Opening.{took-open}
 use Rattle.mutex_slow.proofs.Showing.{failed-misses}
 use Rattle.mutex_slow.proofs.parts.try_outside.Goals as goal

@@ -2,7 +2,7 @@ use Rattle.std.proofs.Common.{arith, ap, ◌∙◌, ◌+◌, ℕ, refl, rules}
 use Rattle.lock_core.specs.declared.view.SpinHand.{SpinHand}
 use Rattle.lock_core.specs.declared.view.Hand.{Hand}
 use Rattle.mutex_slow.specs.declared.view.MutexHand.{MutexHand}
-use Rattle.mutex_slow.specs.Places.{dozes_of, seen_of}
+use Rattle.mutex_slow.specs.MutexPlaces.{dozes_of, seen_of}
 use Rattle.lock_core.proofs.Within.{pending-within, sees-within}
 use Rattle.mutex_slow.proofs.Opening.{dozes-none, dozes-within, opens-behind, opens-before}
 use Rattle.mutex_slow.proofs.slow.lock_in_line.Goals as goal

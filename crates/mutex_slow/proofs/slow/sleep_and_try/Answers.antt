@@ -1,6 +1,6 @@
 use Rattle.std.proofs.Common.{ap, ◌∙◌}
 use Rattle.mutex_slow.specs.declared.view.MutexHand.{MutexHand}
-use Rattle.mutex_slow.specs.Places.{dozes_of}
+use Rattle.mutex_slow.specs.MutexPlaces.{dozes_of}
 use Rattle.mutex_slow.proofs.Opening.{once-within, opens-behind, opens-before}
 use Rattle.mutex_slow.proofs.slow.sleep_and_try.Goals as goal
 

@@ -1,6 +1,6 @@
 use Rattle.std.proofs.Common.{◌≡◌, IsSome}
 use Rattle.lock_core.specs.declared.view.Held.TheVariants.{No}
-use Rattle.mutex_slow.specs.Places.{StepsOn, StandsSame, IsInLine}
+use Rattle.mutex_slow.specs.MutexPlaces.{StepsOn, StandsSame, IsInLine}
 use Rattle.mutex_slow.proofs.slow.spin_listed.Given as goal
 
 abbrev pub invariant-loop : goal.invariant-loop

@@ -1,7 +1,7 @@
 use Rattle.std.proofs.Common.{◌≡◌, IsSome}
 use Rattle.lock_core.specs.declared.view.Held.TheVariants.{No}
 use Rattle.lock_core.specs.Locking.{OnlyTried}
-use Rattle.mutex_slow.specs.Places.{seen_of, StepsOn, StandsSame, IsOutside}
+use Rattle.mutex_slow.specs.MutexPlaces.{seen_of, StepsOn, StandsSame, IsOutside}
 use Rattle.mutex_slow.specs.Mutexes.{OwesNoWake}
 use Rattle.mutex_slow.proofs.slow.spin_outside.Given as goal
 

@@ -4,7 +4,7 @@ use Rattle.lock_core.specs.declared.view.SpinHand.{SpinHand}
 use Rattle.word_bits.specs.OwnerWord.{task_code}
 use Rattle.mutex_slow.specs.declared.view.MutexHand.{MutexHand}
 use Rattle.mutex_slow.specs.declared.parts.Released.TheVariants.{Done, Waiters, Asked}
-use Rattle.mutex_slow.specs.Places.{seen_of, task_of, wakes_after}
+use Rattle.mutex_slow.specs.MutexPlaces.{seen_of, task_of, wakes_after}
 use Rattle.mutex_slow.proofs.Ending.{asked-then, looks-within, named-looks, named-within, unasked-then}
 use Rattle.mutex_slow.proofs.slow.unlock.Goals as goal
 

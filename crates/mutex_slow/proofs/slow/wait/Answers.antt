@@ -1,7 +1,7 @@
 use Rattle.std.proofs.Common.{arith, ap, ◌∙◌, rules}
 use Rattle.lock_core.specs.declared.view.Hand.{Hand}
 use Rattle.mutex_slow.specs.declared.view.MutexHand.{MutexHand}
-use Rattle.mutex_slow.specs.Places.{dozes_of, seen_of}
+use Rattle.mutex_slow.specs.MutexPlaces.{dozes_of, seen_of}
 use Rattle.lock_core.proofs.Within.{pending-within}
 use Rattle.mutex_slow.proofs.Opening.{dozes-again, opens-behind, sleeps-again}
 use Rattle.mutex_slow.proofs.slow.wait.Goals as goal

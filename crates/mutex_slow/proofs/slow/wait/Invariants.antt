@@ -2,8 +2,8 @@ use Rattle.std.proofs.Common.{◌≡◌, ◌≤◌, IsSome}
 use Rattle.lock_core.specs.declared.view.Held.TheVariants.{No}
 use Rattle.lock_core.specs.Views.{SpinHolds}
 use Rattle.lock_core.specs.Signals.{OnlyHeard}
-use Rattle.cpu_task.specs.Counting.{SleepsInTurns, Dozes}
-use Rattle.mutex_slow.specs.Places.{StepsOn, IsInLine, SetsNoWord, dozes_of}
+use Rattle.cpu_task.specs.CpuCounting.{SleepsInTurns, Dozes}
+use Rattle.mutex_slow.specs.MutexPlaces.{StepsOn, IsInLine, SetsNoWord, dozes_of}
 use Rattle.mutex_slow.proofs.slow.wait.Given as goal
 
 abbrev pub invariant-loop : goal.invariant-loop

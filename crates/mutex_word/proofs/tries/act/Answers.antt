@@ -1,5 +1,5 @@
 use Rattle.std.proofs.Common.{subst}
-use Rattle.mutex_word.specs.Tries.{Says}
+use Rattle.mutex_word.specs.OwnerTries.{Says}
 use Rattle.mutex_word.proofs.Owning.{take-on, ask-on}
 use Rattle.mutex_word.proofs.tries.act.Goals as goal
 

@@ -1,7 +1,7 @@
 use Rattle.std.proofs.Common.{◌≡◌}
-use Rattle.lock_core.specs.Passes.{Sits}
+use Rattle.lock_core.specs.SitePasses.{Sits}
 use Rattle.lock_core.specs.Pasts.{FoundAt, GoesOn, IsOwnStep}
-use Rattle.mutex_word.specs.Tries.{SawWord}
+use Rattle.mutex_word.specs.OwnerTries.{SawWord}
 use Rattle.mutex_word.proofs.tries.attempt.Given as goal
 
 abbrev pub invariant-loop : goal.invariant-loop

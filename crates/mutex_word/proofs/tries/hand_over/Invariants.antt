@@ -1,7 +1,7 @@
 use Rattle.std.proofs.Common.{◌≡◌, ◌≤◌, ℕ}
-use Rattle.lock_core.specs.Passes.{Sits}
+use Rattle.lock_core.specs.SitePasses.{Sits}
 use Rattle.lock_core.specs.Pasts.{FoundAt, GoesOn, IsOwnStep}
-use Rattle.mutex_word.specs.Tries.{IsMine}
+use Rattle.mutex_word.specs.OwnerTries.{IsMine}
 use Rattle.mutex_word.specs.declared.host.Turn.TheVariants.{Hand as HandOn}
 use Rattle.mutex_word.proofs.tries.hand_over.Given as goal
 

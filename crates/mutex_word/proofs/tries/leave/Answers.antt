@@ -3,7 +3,7 @@ use Rattle.lock_core.proofs.Sitting.{sits-on}
 use Rattle.lock_core.specs.Pasts.{Tail}
 use Rattle.lock_core.specs.declared.pass.Face.{Face}
 use Rattle.lock_core.specs.declared.view.Held.TheVariants.{No}
-use Rattle.mutex_word.specs.Tries.{IsMine}
+use Rattle.mutex_word.specs.OwnerTries.{IsMine}
 use Rattle.mutex_word.proofs.Sitting.{sits-released}
 use Rattle.mutex_word.proofs.Owning.{leaves, some-number}
 use Rattle.lock_core.specs.Stores.{HasWord}

@@ -1,6 +1,6 @@
 use Rattle.std.proofs.Common.{arith, ap, sym, subst, Option, ℕ, ◌∙◌, length}
 use Rattle.lock_core.proofs.Sitting.{sits-on}
-use Rattle.mutex_word.specs.Tries.{IsMine}
+use Rattle.mutex_word.specs.OwnerTries.{IsMine}
 use Rattle.mutex_word.proofs.Owning.{reads, some-number}
 use Rattle.lock_core.specs.Stores.{HasWord}
 use Rattle.mutex_word.proofs.tries.load_own.Goals as goal

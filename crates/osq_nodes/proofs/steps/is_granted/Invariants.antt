@@ -1,4 +1,4 @@
-use Rattle.osq_nodes.specs.Steps.{look_place}
+use Rattle.osq_nodes.specs.OsqSteps.{look_place}
 use Rattle.osq_nodes.proofs.steps.is_granted.Given as goal
 
 abbrev pub ghosts-step : goal.ghosts-step

@@ -1,4 +1,4 @@
-use Rattle.osq_nodes.specs.Steps.{linking_of}
+use Rattle.osq_nodes.specs.OsqSteps.{linking_of}
 use Rattle.osq_nodes.proofs.steps.store_prev.Given as goal
 
 abbrev pub ghosts-step : goal.ghosts-step

@@ -1,5 +1,5 @@
 use Rattle.std.proofs.Common.{length}
-use Rattle.osq_nodes.specs.Steps.{take_place, taking_of, IsCodeOrNone}
+use Rattle.osq_nodes.specs.OsqSteps.{take_place, taking_of, IsCodeOrNone}
 use Rattle.osq_nodes.proofs.steps.swap_next.Given as goal
 
 abbrev pub ghosts-step : goal.ghosts-step

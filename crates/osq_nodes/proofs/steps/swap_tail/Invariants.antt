@@ -1,5 +1,5 @@
 use Rattle.std.proofs.Common.{length}
-use Rattle.osq_nodes.specs.Steps.{swap_place, IsCodeOrNone}
+use Rattle.osq_nodes.specs.OsqSteps.{swap_place, IsCodeOrNone}
 use Rattle.osq_nodes.proofs.steps.swap_tail.Given as goal
 
 abbrev pub ghosts-step : goal.ghosts-step

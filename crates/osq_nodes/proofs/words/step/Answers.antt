@@ -1,7 +1,7 @@
 use Rattle.std.proofs.Common.{ap, arith}
 use Rattle.lock_core.specs.Pasts.{unseen}
 use Rattle.lock_core.proofs.Having.{has-spin}
-use Rattle.osq_nodes.specs.Handles.{tasks_of}
+use Rattle.osq_nodes.specs.OsqHandles.{tasks_of}
 use Rattle.osq_nodes.proofs.Sitting.{stays-on}
 use Rattle.osq_nodes.proofs.Owning.{lets-numbered}
 use Rattle.osq_nodes.proofs.words.step.Goals as goal

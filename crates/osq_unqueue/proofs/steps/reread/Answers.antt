@@ -2,8 +2,8 @@ use Rattle.std.proofs.Common.{◌≡◌, ◌+◌, ◌-◌, ℕ, length, refl, sy
 use Rattle.lock_core.specs.declared.op.Op.TheVariants.{Load}
 use Rattle.osq_nodes.specs.declared.node.Place.TheVariants.{Waiting}
 use Rattle.lock_core.specs.Pasts.{FoundAt}
-use Rattle.osq_nodes.specs.Kept.{IsCode}
-use Rattle.osq_nodes.specs.Handles.{past_of}
+use Rattle.osq_nodes.specs.OsqKept.{IsCode}
+use Rattle.osq_nodes.specs.OsqHandles.{past_of}
 use Rattle.osq_nodes.specs.Words.{prev_at}
 use Rattle.osq_nodes.proofs.Owning.{its-task, moves-by}
 use Rattle.osq_unqueue.proofs.Unqueueing.{rereads}

@@ -1,5 +1,5 @@
 use Rattle.std.proofs.Common.{length}
-use Rattle.osq_nodes.specs.Kept.{IsCode}
+use Rattle.osq_nodes.specs.OsqKept.{IsCode}
 use Rattle.osq_unqueue.proofs.steps.reread.Given as goal
 
 abbrev pub ghosts-step : goal.ghosts-step

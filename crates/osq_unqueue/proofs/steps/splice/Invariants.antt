@@ -1,4 +1,4 @@
-use Rattle.osq_nodes.specs.Steps.{relinking_of}
+use Rattle.osq_nodes.specs.OsqSteps.{relinking_of}
 use Rattle.osq_unqueue.proofs.steps.splice.Given as goal
 
 abbrev pub ghosts-step : goal.ghosts-step

@@ -1,7 +1,7 @@
 use Rattle.std.proofs.Common.{◌≡◌, ◌+◌, suc, length, sym, arith}
 use Rattle.lock_core.specs.declared.op.Op.TheVariants.{Exchange}
 use Rattle.osq_nodes.specs.declared.node.Place.TheVariants.{Waiting, Unlinked}
-use Rattle.osq_nodes.specs.Steps.{try_place, task_at}
+use Rattle.osq_nodes.specs.OsqSteps.{try_place, task_at}
 use Rattle.osq_nodes.specs.Words.{next_at}
 use Rattle.osq_nodes.proofs.Owning.{found-there, moves-by}
 use Rattle.osq_unqueue.proofs.Unqueueing.{takes-code-back}

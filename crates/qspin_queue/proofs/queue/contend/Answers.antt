@@ -1,6 +1,6 @@
 use Rattle.std.proofs.Common.{◌+◌, arith}
 use Rattle.lock_core.specs.Spins.{word_at}
-use Rattle.lock_core.specs.Handles.{view_of, past_of}
+use Rattle.lock_core.specs.SiteHandles.{view_of, past_of}
 use Rattle.qspin_queue.proofs.Contending.{found-since}
 use Rattle.qspin_queue.proofs.queue.contend.Goals as goal
 

@@ -1,6 +1,6 @@
 use Rattle.std.proofs.Common.{◌≡◌, ℕ, ◌+◌, ◌*◌, subst, arith}
-use Rattle.lock_core.specs.Handles.{view_of}
-use Rattle.qspin_word.specs.Handles.{OwnsPendingAt, FindsRival}
+use Rattle.lock_core.specs.SiteHandles.{view_of}
+use Rattle.qspin_word.specs.SpinWordHandles.{OwnsPendingAt, FindsRival}
 use Rattle.qspin_queue.proofs.Contending.{first-gained}
 use Rattle.qspin_queue.proofs.queue.lock.Goals as goal
 

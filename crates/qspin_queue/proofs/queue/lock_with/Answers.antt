@@ -1,9 +1,9 @@
 use Rattle.std.proofs.Common.{◌+◌, refl, sym, ap, ◌∙◌, subst, arith}
 use Rattle.lock_core.specs.Spins.{word_at}
 use Rattle.lock_core.specs.LockHands.{lock_hand_at, depth_of}
-use Rattle.lock_core.specs.Handles.{view_of}
+use Rattle.lock_core.specs.SiteHandles.{view_of}
 use Rattle.qspin_word.specs.Ways.{LockGained}
-use Rattle.qspin_word.specs.Handles.{FindsRivalSince}
+use Rattle.qspin_word.specs.SpinWordHandles.{FindsRivalSince}
 use Rattle.qspin_word.proofs.Noting.{same-past}
 use Rattle.qspin_word.proofs.Going.{takes-told}
 use Rattle.qspin_queue.proofs.Entering.{fast-takes, fast-depth, fast-took, fast-from}

@@ -1,9 +1,9 @@
 use Rattle.qspin_queue.proofs.Turns.{heard-none, front-waits, front-nodes, front-told}
 use Rattle.std.proofs.Common.{ap, arith}
 use Rattle.lock_core.specs.Nestings.{waits_at, pauses_at}
-use Rattle.lock_core.specs.Handles.{view_of}
+use Rattle.lock_core.specs.SiteHandles.{view_of}
 use Rattle.qspin_word.proofs.Idling.{look-ready}
-use Rattle.qspin_queue.specs.Hands.{heard}
+use Rattle.qspin_queue.specs.SpinQueueHands.{heard}
 use Rattle.qspin_queue.proofs.queue.wait_front.Goals as goal
 
 pub returns-then-load_locked-eq1-clause-waits : goal.returns-then-load_locked-eq1-clause-waits

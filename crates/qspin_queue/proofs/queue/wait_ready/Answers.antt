@@ -1,9 +1,9 @@
 use Rattle.qspin_queue.proofs.Turns.{readied-taken, ready-waits, ready-nodes, ready-told}
 use Rattle.std.proofs.Common.{ap, arith}
 use Rattle.lock_core.specs.Nestings.{waits_at, pauses_at}
-use Rattle.lock_core.specs.Handles.{view_of}
+use Rattle.lock_core.specs.SiteHandles.{view_of}
 use Rattle.qspin_word.proofs.Idling.{look-ready}
-use Rattle.qspin_queue.specs.Hands.{readied}
+use Rattle.qspin_queue.specs.SpinQueueHands.{readied}
 use Rattle.qspin_queue.proofs.queue.wait_ready.Goals as goal
 
 pub returns-then-seen-eq0-clause-waits : goal.returns-then-seen-eq0-clause-waits

@@ -1,4 +1,4 @@
-use Rattle.qspin_word.specs.Handles.{SpinIdles}
+use Rattle.qspin_word.specs.SpinWordHandles.{SpinIdles}
 use Rattle.qspin_queue.proofs.queue.wait_ready.Given as goal
 
 abbrev pub invariant-loop : goal.invariant-loop

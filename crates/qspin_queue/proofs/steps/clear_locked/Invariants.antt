@@ -1,4 +1,4 @@
-use Rattle.qspin_queue.specs.Hands.{cleared_locked}
+use Rattle.qspin_queue.specs.SpinQueueHands.{cleared_locked}
 use Rattle.qspin_queue.proofs.steps.clear_locked.Given as goal
 
 abbrev pub ghosts-spin_step : goal.ghosts-spin_step

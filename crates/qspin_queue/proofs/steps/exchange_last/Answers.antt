@@ -1,7 +1,7 @@
 use Rattle.std.proofs.Common.{ap}
 use Rattle.lock_core.specs.SpinFrames.{holds_at}
 use Rattle.qspin_word.proofs.SpinSteps.{ends-none}
-use Rattle.qspin_queue.specs.Hands.{took_last}
+use Rattle.qspin_queue.specs.SpinQueueHands.{took_last}
 use Rattle.qspin_queue.proofs.QueueSteps.{takes-last}
 use Rattle.qspin_queue.proofs.steps.exchange_last.Goals as goal
 

@@ -1,4 +1,4 @@
-use Rattle.qspin_queue.specs.Hands.{took_last}
+use Rattle.qspin_queue.specs.SpinQueueHands.{took_last}
 use Rattle.lock_core.specs.Ops.{first_of}
 use Rattle.qspin_queue.proofs.steps.exchange_last.Given as goal
 

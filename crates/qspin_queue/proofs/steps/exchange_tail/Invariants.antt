@@ -1,6 +1,6 @@
-use Rattle.qspin_queue.specs.Hands.{queued}
+use Rattle.qspin_queue.specs.SpinQueueHands.{queued}
 use Rattle.std.proofs.Common.{◌<◌, ◌/◌}
-use Rattle.qspin_queue.specs.Handles.{codes}
+use Rattle.qspin_queue.specs.SpinQueueHandles.{codes}
 use Rattle.lock_core.specs.Ops.{first_of}
 use Rattle.qspin_queue.proofs.steps.exchange_tail.Given as goal
 

@@ -1,4 +1,4 @@
-use Rattle.qspin_queue.specs.Hands.{linked}
+use Rattle.qspin_queue.specs.SpinQueueHands.{linked}
 use Rattle.qspin_queue.proofs.steps.link.Given as goal
 
 abbrev pub ghosts-spin_step : goal.ghosts-spin_step

@@ -1,7 +1,7 @@
 use Rattle.std.proofs.Common.{ap}
 use Rattle.lock_core.specs.SpinFrames.{holds_at}
 use Rattle.qspin_word.proofs.SpinSteps.{ends-none}
-use Rattle.qspin_queue.specs.Hands.{readied}
+use Rattle.qspin_queue.specs.SpinQueueHands.{readied}
 use Rattle.qspin_queue.proofs.QueueSteps.{readies}
 use Rattle.qspin_queue.proofs.steps.load_front.Goals as goal
 

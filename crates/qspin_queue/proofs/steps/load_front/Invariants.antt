@@ -1,4 +1,4 @@
-use Rattle.qspin_queue.specs.Hands.{readied}
+use Rattle.qspin_queue.specs.SpinQueueHands.{readied}
 use Rattle.qspin_queue.proofs.steps.load_front.Given as goal
 
 abbrev pub ghosts-word_step : goal.ghosts-word_step

@@ -4,7 +4,7 @@ use Rattle.lock_core.specs.SpinFrames.{holds_at}
 use Rattle.lock_core.specs.Spins.{locked_at}
 use Rattle.qspin_word.specs.Allows.{SpinAllows}
 use Rattle.qspin_word.proofs.SpinSteps.{ends-none}
-use Rattle.qspin_queue.specs.Hands.{heard}
+use Rattle.qspin_queue.specs.SpinQueueHands.{heard}
 use Rattle.qspin_queue.proofs.QueueSteps.{hears}
 use Rattle.qspin_queue.proofs.steps.load_locked.Goals as goal
 

@@ -1,4 +1,4 @@
-use Rattle.qspin_queue.specs.Hands.{heard}
+use Rattle.qspin_queue.specs.SpinQueueHands.{heard}
 use Rattle.qspin_queue.proofs.steps.load_locked.Given as goal
 
 abbrev pub ghosts-spin_step : goal.ghosts-spin_step

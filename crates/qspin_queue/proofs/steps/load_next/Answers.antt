@@ -4,9 +4,9 @@ use Rattle.lock_core.specs.declared.view.Point.TheVariants.{Front}
 use Rattle.lock_core.specs.SpinFrames.{holds_at}
 use Rattle.lock_core.specs.Spins.{next_at}
 use Rattle.qspin_word.specs.Allows.{SpinAllows}
-use Rattle.qspin_queue.specs.Handles.{codes}
+use Rattle.qspin_queue.specs.SpinQueueHandles.{codes}
 use Rattle.qspin_word.proofs.SpinSteps.{ends-none}
-use Rattle.qspin_queue.specs.Hands.{learnt}
+use Rattle.qspin_queue.specs.SpinQueueHands.{learnt}
 use Rattle.qspin_queue.proofs.QueueSteps.{learns}
 use Rattle.qspin_queue.proofs.steps.load_next.Goals as goal
 

@@ -3,7 +3,7 @@ use Rattle.lock_core.specs.declared.op.Op.TheVariants.{Store}
 use Rattle.lock_core.specs.Spins.{locked_at}
 use Rattle.qspin_word.specs.Allows.{SpinAllows}
 use Rattle.qspin_word.proofs.SpinSteps.{still-holds}
-use Rattle.qspin_queue.specs.Hands.{passed}
+use Rattle.qspin_queue.specs.SpinQueueHands.{passed}
 use Rattle.qspin_queue.proofs.QueueSteps.{tells-next, passed-holds}
 use Rattle.qspin_queue.proofs.steps.pass_front.Goals as goal
 

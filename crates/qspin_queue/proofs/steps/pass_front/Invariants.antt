@@ -1,4 +1,4 @@
-use Rattle.qspin_queue.specs.Hands.{passed}
+use Rattle.qspin_queue.specs.SpinQueueHands.{passed}
 use Rattle.qspin_queue.proofs.steps.pass_front.Given as goal
 
 abbrev pub ghosts-spin_step : goal.ghosts-spin_step

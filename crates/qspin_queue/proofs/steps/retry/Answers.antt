@@ -1,7 +1,7 @@
 use Rattle.std.proofs.Common.{ap}
 use Rattle.lock_core.specs.SpinFrames.{holds_at}
 use Rattle.qspin_word.proofs.SpinSteps.{ends-none}
-use Rattle.qspin_queue.specs.Hands.{retried}
+use Rattle.qspin_queue.specs.SpinQueueHands.{retried}
 use Rattle.qspin_queue.proofs.QueueSteps.{retries}
 use Rattle.qspin_queue.proofs.steps.retry.Goals as goal
 

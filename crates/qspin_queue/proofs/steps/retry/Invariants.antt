@@ -1,4 +1,4 @@
-use Rattle.qspin_queue.specs.Hands.{retried}
+use Rattle.qspin_queue.specs.SpinQueueHands.{retried}
 use Rattle.qspin_queue.proofs.steps.retry.Given as goal
 
 abbrev pub ghosts-word_step : goal.ghosts-word_step

@@ -1,7 +1,7 @@
 use Rattle.std.proofs.Common.{ap}
 use Rattle.lock_core.specs.SpinFrames.{holds_at}
 use Rattle.qspin_word.proofs.SpinSteps.{ends-none}
-use Rattle.qspin_queue.specs.Hands.{took_front}
+use Rattle.qspin_queue.specs.SpinQueueHands.{took_front}
 use Rattle.qspin_queue.proofs.QueueSteps.{takes-front}
 use Rattle.qspin_queue.proofs.steps.set_locked.Goals as goal
 

@@ -1,4 +1,4 @@
-use Rattle.qspin_queue.specs.Hands.{took_front}
+use Rattle.qspin_queue.specs.SpinQueueHands.{took_front}
 use Rattle.qspin_queue.proofs.steps.set_locked.Given as goal
 
 abbrev pub ghosts-word_step : goal.ghosts-word_step

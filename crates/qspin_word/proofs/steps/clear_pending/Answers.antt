@@ -1,6 +1,6 @@
 use Rattle.std.proofs.Common.{ap}
 use Rattle.lock_core.specs.SpinFrames.{holds_at}
-use Rattle.qspin_word.specs.Hands.{undone}
+use Rattle.qspin_word.specs.SpinWordHands.{undone}
 use Rattle.qspin_word.proofs.SpinSteps.{ends-none, undoes}
 use Rattle.qspin_word.proofs.steps.clear_pending.Goals as goal
 

@@ -1,4 +1,4 @@
-use Rattle.qspin_word.specs.Hands.{undone}
+use Rattle.qspin_word.specs.SpinWordHands.{undone}
 use Rattle.qspin_word.proofs.steps.clear_pending.Given as goal
 
 abbrev pub ghosts-word_step : goal.ghosts-word_step

@@ -1,6 +1,6 @@
 use Rattle.std.proofs.Common.{ap}
 use Rattle.lock_core.specs.SpinFrames.{holds_at}
-use Rattle.qspin_word.specs.Hands.{turned}
+use Rattle.qspin_word.specs.SpinWordHands.{turned}
 use Rattle.qspin_word.proofs.SpinSteps.{ends-none, turns}
 use Rattle.qspin_word.proofs.steps.clear_pending_set_locked.Goals as goal
 

@@ -1,4 +1,4 @@
-use Rattle.qspin_word.specs.Hands.{turned}
+use Rattle.qspin_word.specs.SpinWordHands.{turned}
 use Rattle.qspin_word.proofs.steps.clear_pending_set_locked.Given as goal
 
 abbrev pub ghosts-word_step : goal.ghosts-word_step

@@ -1,7 +1,7 @@
 use Rattle.std.proofs.Common.{ap}
 use Rattle.lock_core.specs.SpinFrames.{holds_at}
 use Rattle.lock_core.specs.Views.{spin_part}
-use Rattle.qspin_word.specs.Hands.{tried}
+use Rattle.qspin_word.specs.SpinWordHands.{tried}
 use Rattle.qspin_word.proofs.SpinSteps.{ends-none, tries, rests-alone}
 use Rattle.qspin_word.proofs.steps.exchange_free.Goals as goal
 

@@ -1,6 +1,6 @@
 use Rattle.std.proofs.Common.{◌≡◌}
 use Rattle.lock_core.specs.LockHands.{RestsEverywhere}
-use Rattle.qspin_word.specs.Hands.{tried}
+use Rattle.qspin_word.specs.SpinWordHands.{tried}
 use Rattle.qspin_word.proofs.steps.exchange_free.Given as goal
 
 abbrev pub ghosts-word_step : goal.ghosts-word_step

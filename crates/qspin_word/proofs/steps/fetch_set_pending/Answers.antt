@@ -1,6 +1,6 @@
 use Rattle.std.proofs.Common.{ap}
 use Rattle.lock_core.specs.SpinFrames.{holds_at}
-use Rattle.qspin_word.specs.Hands.{pended}
+use Rattle.qspin_word.specs.SpinWordHands.{pended}
 use Rattle.qspin_word.proofs.SpinSteps.{ends-none, pends}
 use Rattle.qspin_word.proofs.steps.fetch_set_pending.Goals as goal
 

@@ -1,4 +1,4 @@
-use Rattle.qspin_word.specs.Hands.{pended}
+use Rattle.qspin_word.specs.SpinWordHands.{pended}
 use Rattle.qspin_word.proofs.steps.fetch_set_pending.Given as goal
 
 abbrev pub ghosts-word_step : goal.ghosts-word_step

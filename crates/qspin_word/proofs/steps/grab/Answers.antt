@@ -1,6 +1,6 @@
 use Rattle.std.proofs.Common.{ap}
 use Rattle.lock_core.specs.SpinFrames.{holds_at}
-use Rattle.qspin_word.specs.Hands.{grabbed}
+use Rattle.qspin_word.specs.SpinWordHands.{grabbed}
 use Rattle.qspin_word.proofs.SpinSteps.{ends-none, grabs}
 use Rattle.qspin_word.proofs.steps.grab.Goals as goal
 

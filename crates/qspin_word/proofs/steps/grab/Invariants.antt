@@ -1,4 +1,4 @@
-use Rattle.qspin_word.specs.Hands.{grabbed}
+use Rattle.qspin_word.specs.SpinWordHands.{grabbed}
 use Rattle.qspin_word.proofs.steps.grab.Given as goal
 
 abbrev pub ghosts-word_step : goal.ghosts-word_step

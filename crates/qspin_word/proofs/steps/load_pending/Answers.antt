@@ -1,6 +1,6 @@
 use Rattle.std.proofs.Common.{ap}
 use Rattle.lock_core.specs.SpinFrames.{holds_at}
-use Rattle.qspin_word.specs.Hands.{awaited}
+use Rattle.qspin_word.specs.SpinWordHands.{awaited}
 use Rattle.qspin_word.proofs.SpinSteps.{ends-none, awaits}
 use Rattle.qspin_word.proofs.steps.load_pending.Goals as goal
 

@@ -1,4 +1,4 @@
-use Rattle.qspin_word.specs.Hands.{awaited}
+use Rattle.qspin_word.specs.SpinWordHands.{awaited}
 use Rattle.qspin_word.proofs.steps.load_pending.Given as goal
 
 abbrev pub ghosts-word_step : goal.ghosts-word_step

@@ -1,6 +1,6 @@
 use Rattle.std.proofs.Common.{ap}
 use Rattle.lock_core.specs.SpinFrames.{holds_at}
-use Rattle.qspin_word.specs.Hands.{looked}
+use Rattle.qspin_word.specs.SpinWordHands.{looked}
 use Rattle.qspin_word.proofs.SpinSteps.{ends-none, looks}
 use Rattle.qspin_word.proofs.steps.look.Goals as goal
 

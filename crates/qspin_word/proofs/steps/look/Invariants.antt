@@ -1,4 +1,4 @@
-use Rattle.qspin_word.specs.Hands.{looked}
+use Rattle.qspin_word.specs.SpinWordHands.{looked}
 use Rattle.qspin_word.proofs.steps.look.Given as goal
 
 abbrev pub ghosts-word_step : goal.ghosts-word_step

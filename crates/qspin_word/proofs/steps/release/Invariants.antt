@@ -1,4 +1,4 @@
-use Rattle.qspin_word.specs.Hands.{freed}
+use Rattle.qspin_word.specs.SpinWordHands.{freed}
 use Rattle.qspin_word.proofs.steps.release.Given as goal
 
 abbrev pub ghosts-word_step : goal.ghosts-word_step

@@ -1,6 +1,6 @@
 use Rattle.std.proofs.Common.{ap, ⊎_elim}
 use Rattle.lock_core.specs.SpinFrames.{holds_at}
-use Rattle.qspin_word.specs.Hands.{sought}
+use Rattle.qspin_word.specs.SpinWordHands.{sought}
 use Rattle.qspin_word.proofs.SpinSteps.{ends-none, seeks}
 use Rattle.qspin_word.proofs.steps.seek.Goals as goal
 

@@ -1,4 +1,4 @@
-use Rattle.qspin_word.specs.Hands.{sought}
+use Rattle.qspin_word.specs.SpinWordHands.{sought}
 use Rattle.qspin_word.proofs.steps.seek.Given as goal
 
 abbrev pub ghosts-word_step : goal.ghosts-word_step

@@ -1,7 +1,7 @@
 use Rattle.std.proofs.Common.{ap}
 use Rattle.lock_core.specs.Nestings.{waits_at, pauses_at}
-use Rattle.lock_core.specs.Handles.{view_of}
-use Rattle.qspin_word.specs.Hands.{awaited}
+use Rattle.lock_core.specs.SiteHandles.{view_of}
+use Rattle.qspin_word.specs.SpinWordHands.{awaited}
 use Rattle.qspin_word.proofs.Idling.{look-ready}
 use Rattle.qspin_word.proofs.Passing.{held-seen, pending-seen, pending-nodes}
 use Rattle.qspin_word.proofs.steps.wait_unlocked.Goals as goal

@@ -1,5 +1,5 @@
 use Rattle.std.proofs.Common.{◌≡◌, ℕ, ◌+◌, ◌*◌, subst, arith, IfOk, IfErr}
-use Rattle.qspin_word.specs.Handles.{FirstFoundFree, TriesOnlyFree}
+use Rattle.qspin_word.specs.SpinWordHandles.{FirstFoundFree, TriesOnlyFree}
 use Rattle.qspin_word.proofs.word.trylock.Goals as goal
 
 pub returns-clause-loaded : goal.returns-clause-loaded

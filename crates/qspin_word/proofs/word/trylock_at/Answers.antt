@@ -1,7 +1,7 @@
 use Rattle.std.proofs.Common.{ℕ, ◌+◌, subst, arith}
 use Rattle.lock_core.specs.Spins.{word_at}
 use Rattle.lock_core.specs.Pasts.{FoundAt}
-use Rattle.lock_core.specs.Handles.{past_of}
+use Rattle.lock_core.specs.SiteHandles.{past_of}
 use Rattle.qspin_word.proofs.Noting.{same-past}
 use Rattle.qspin_word.proofs.Going.{first_found, tries-told}
 use Rattle.qspin_word.proofs.word.trylock_at.Goals as goal

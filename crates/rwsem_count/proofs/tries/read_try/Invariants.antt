@@ -1,7 +1,7 @@
 use Rattle.std.proofs.Common.{◌≡◌}
-use Rattle.lock_core.specs.Passes.{Sits}
+use Rattle.lock_core.specs.SitePasses.{Sits}
 use Rattle.lock_core.specs.Pasts.{FoundAt, GoesOn, IsOwnStep}
-use Rattle.rwsem_count.specs.Tries.{SawCount}
+use Rattle.rwsem_count.specs.CountTries.{SawCount}
 use Rattle.rwsem_count.proofs.tries.read_try.Given as goal
 
 abbrev pub invariant-loop : goal.invariant-loop

@@ -1,6 +1,6 @@
 use Rattle.std.proofs.Common.{◌∙◌, sym}
 use Rattle.rwsem_slow.proofs.Quitting.{leaves-listed, leaves-still, left-becomes, left-looked, looks-leaves}
-use Rattle.rwsem_slow.specs.Wakes.{woken_tasks}
+use Rattle.rwsem_slow.specs.RwSemWakes.{woken_tasks}
 use Rattle.rwsem_slow.proofs.leaving.leave.Goals as goal
 
 pub is_first-requires-clause-still : goal.is_first-requires-clause-still

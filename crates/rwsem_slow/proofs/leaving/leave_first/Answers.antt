@@ -5,11 +5,11 @@ use Rattle.rwsem_count.specs.Counts.{shared_weight}
 use Rattle.rwsem_wake.specs.declared.view.SemHand.{SemHand}
 use Rattle.rwsem_wake.specs.Grants.{summing}
 use Rattle.rwsem_wake.specs.SemParts.{some_of}
-use Rattle.rwsem_slow.specs.Places.{seen_of}
+use Rattle.rwsem_slow.specs.RwSemPlaces.{seen_of}
 use Rattle.rwsem_slow.specs.RwSems.{V}
 use Rattle.rwsem_slow.proofs.FirstLooks.{any-other}
 use Rattle.rwsem_slow.proofs.Quitting.{empty-stage, left-empty, left-others, others-rest, unmarked-first, unmarked-is, unmarked-list, wakes-nobody, wakes-others}
-use Rattle.rwsem_slow.specs.Wakes.{woken_tasks}
+use Rattle.rwsem_slow.specs.RwSemWakes.{woken_tasks}
 use Rattle.rwsem_slow.proofs.leaving.leave_first.Goals as goal
 
 pub remove_first-requires-clause-unmarked : goal.remove_first-requires-clause-unmarked

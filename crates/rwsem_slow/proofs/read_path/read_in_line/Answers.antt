@@ -1,7 +1,7 @@
 use Rattle.std.proofs.Common.{◌∙◌, ap, arith, inl, refl}
 use Rattle.lock_core.specs.declared.view.Hand.{Hand}
 use Rattle.rwsem_slow.specs.RwSems.{V}
-use Rattle.rwsem_slow.specs.Places.{seen_of}
+use Rattle.rwsem_slow.specs.RwSemPlaces.{seen_of}
 use Rattle.lock_core.proofs.Within.{pending-within}
 use Rattle.rwsem_slow.proofs.read_path.read_in_line.Goals as goal
 

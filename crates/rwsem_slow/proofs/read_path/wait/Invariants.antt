@@ -1,10 +1,10 @@
 use Rattle.std.proofs.Common.{◌≡◌, IsSome}
 use Rattle.lock_core.specs.declared.view.Held.TheVariants.{No}
 use Rattle.lock_core.specs.Views.{SpinRests}
-use Rattle.cpu_task.specs.Counting.{Dozes}
+use Rattle.cpu_task.specs.CpuCounting.{Dozes}
 use Rattle.rwsem_wake.specs.declared.view.Wait.TheVariants.{Reads}
-use Rattle.rwsem_slow.specs.Places.{AreCounts, StepsOn, dozes_of}
-use Rattle.rwsem_slow.specs.Counting.{SleepsBetween}
+use Rattle.rwsem_slow.specs.RwSemPlaces.{AreCounts, StepsOn, dozes_of}
+use Rattle.rwsem_slow.specs.SleepCounting.{SleepsBetween}
 use Rattle.rwsem_slow.specs.Queued.{WaitsOn}
 use Rattle.rwsem_slow.proofs.read_path.wait.Given as goal
 

@@ -1,5 +1,5 @@
 use Rattle.std.proofs.Common.{◌≡◌}
-use Rattle.lock_core.specs.Passes.{Sits}
+use Rattle.lock_core.specs.SitePasses.{Sits}
 use Rattle.lock_core.specs.Pasts.{GoesOn, IsOwnStep}
 use Rattle.rwsem_slow.specs.Removals.{HasRemoved}
 use Rattle.rwsem_slow.proofs.removal.remove_all.Given as goal

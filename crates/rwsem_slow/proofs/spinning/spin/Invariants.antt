@@ -1,7 +1,7 @@
 use Rattle.std.proofs.Common.{◌≡◌, IsSome}
 use Rattle.lock_core.specs.declared.view.Held.TheVariants.{No}
 use Rattle.lock_core.specs.Locking.{OnlyTried}
-use Rattle.rwsem_slow.specs.Places.{seen_of, StepsOn, IsOutside}
+use Rattle.rwsem_slow.specs.RwSemPlaces.{seen_of, StepsOn, IsOutside}
 use Rattle.rwsem_slow.specs.Spinning.{StandsSame}
 use Rattle.rwsem_slow.proofs.spinning.spin.Given as goal
 

@@ -2,13 +2,13 @@ use Rattle.std.proofs.Common.{◌∙◌, false, sym, ap, arith}
 use Rattle.lock_core.specs.Shown.{shown}
 use Rattle.lock_core.specs.Tallies.{no_tally}
 use Rattle.lock_core.proofs.Within.{sees-fronts}
-use Rattle.rwsem_slow.specs.Places.{line_of}
+use Rattle.rwsem_slow.specs.RwSemPlaces.{line_of}
 use Rattle.rwsem_slow.specs.RwSems.{V}
 use Rattle.rwsem_slow.proofs.Showing.{misses-by}
 use Rattle.rwsem_slow.proofs.Unqueued.{misses-tried}
 use Rattle.lock_core.specs.declared.how.How.TheVariants.{Spun}
 use Rattle.lock_core.specs.declared.view.Held.TheVariants.{Alone}
-use Rattle.rwsem_slow.specs.Opening.{IsOpen}
+use Rattle.rwsem_slow.specs.RwSemOpening.{IsOpen}
 use Rattle.rwsem_slow.proofs.Opening.{took-since}
 use Rattle.rwsem_slow.proofs.spinning.try_outside.Goals as goal
 

@@ -1,5 +1,5 @@
 use Rattle.std.proofs.Common.{◌≡◌}
-use Rattle.lock_core.specs.Passes.{Sits}
+use Rattle.lock_core.specs.SitePasses.{Sits}
 use Rattle.lock_core.specs.Pasts.{FoundAt, GoesOn, IsOwnStep}
 use Rattle.rwsem_slow.specs.RwSems.{count_at}
 use Rattle.rwsem_slow.specs.Spinning.{SawUnqueued}

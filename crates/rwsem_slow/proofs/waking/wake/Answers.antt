@@ -1,7 +1,7 @@
 use Rattle.std.proofs.Common.{◌∙◌, ◌++◌, [], ◌∷◌, false, None, Some, refl, ap, arith}
 use Rattle.rwsem_slow.proofs.Removing.{first-reads}
 use Rattle.rwsem_slow.proofs.FirstLooks.{looked-first, not-owned, wakes-nobody, wakes-none-beside, wakes-readers, wakes-readers-none, wakes-writer}
-use Rattle.rwsem_slow.specs.Wakes.{woken_tasks}
+use Rattle.rwsem_slow.specs.RwSemWakes.{woken_tasks}
 use Rattle.rwsem_slow.proofs.waking.wake.Goals as goal
 
 pub returns-in_default-clause-on : goal.returns-in_default-clause-on

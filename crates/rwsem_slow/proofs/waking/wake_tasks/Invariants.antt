@@ -1,8 +1,8 @@
 use Rattle.std.proofs.Common.{◌≡◌}
-use Rattle.lock_core.specs.Passes.{Sits}
+use Rattle.lock_core.specs.SitePasses.{Sits}
 use Rattle.lock_core.specs.Pasts.{GoesOn}
-use Rattle.rwsem_slow.specs.Places.{AreCounts}
-use Rattle.rwsem_slow.specs.Wakes.{HasSet}
+use Rattle.rwsem_slow.specs.RwSemPlaces.{AreCounts}
+use Rattle.rwsem_slow.specs.RwSemWakes.{HasSet}
 use Rattle.rwsem_slow.proofs.waking.wake_tasks.Given as goal
 
 abbrev pub invariant-loop-task : goal.invariant-loop-task

@@ -1,6 +1,6 @@
 use Rattle.std.proofs.Common.{◌∙◌, ap, arith, inl, refl}
 use Rattle.rwsem_slow.specs.RwSems.{V}
-use Rattle.rwsem_slow.specs.Places.{seen_of}
+use Rattle.rwsem_slow.specs.RwSemPlaces.{seen_of}
 use Rattle.rwsem_slow.proofs.Quitting.{heard-on}
 use Rattle.rwsem_slow.proofs.Vigils.{writer-sleeps}
 use Rattle.lock_core.proofs.Within.{pending-within}

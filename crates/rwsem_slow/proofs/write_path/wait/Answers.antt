@@ -1,11 +1,11 @@
 use Rattle.std.proofs.Common.{◌∙◌, refl, ap, arith, rules}
 use Rattle.lock_core.specs.declared.view.Hand.{Hand}
 use Rattle.rwsem_slow.specs.RwSems.{V}
-use Rattle.rwsem_slow.specs.Places.{seen_of}
+use Rattle.rwsem_slow.specs.RwSemPlaces.{seen_of}
 use Rattle.lock_core.proofs.Within.{pending-within}
 use Rattle.lock_core.specs.declared.how.How.TheVariants.{Slept}
 use Rattle.lock_core.specs.declared.view.Held.TheVariants.{Alone}
-use Rattle.rwsem_slow.specs.Opening.{IsOpen}
+use Rattle.rwsem_slow.specs.RwSemOpening.{IsOpen}
 use Rattle.sem_duty.specs.declared.view.SemWake.{SemWake}
 use Rattle.rwsem_slow.proofs.Counting.{dozes-again, once-within, turns-again, turns-moved}
 use Rattle.rwsem_slow.proofs.Opening.{takes-behind}

@@ -2,8 +2,8 @@ use Rattle.std.proofs.Common.{◌≡◌, IsSome}
 use Rattle.lock_core.specs.declared.view.Held.TheVariants.{No}
 use Rattle.lock_core.specs.Views.{SpinHolds}
 use Rattle.rwsem_wake.specs.declared.view.Wait.TheVariants.{Writes}
-use Rattle.cpu_task.specs.Counting.{Dozes, SleepsInTurns}
-use Rattle.rwsem_slow.specs.Places.{AreCounts, StepsOn, dozes_of}
+use Rattle.cpu_task.specs.CpuCounting.{Dozes, SleepsInTurns}
+use Rattle.rwsem_slow.specs.RwSemPlaces.{AreCounts, StepsOn, dozes_of}
 use Rattle.rwsem_slow.specs.Queued.{WaitsOn}
 use Rattle.rwsem_slow.proofs.write_path.wait.Given as goal
 

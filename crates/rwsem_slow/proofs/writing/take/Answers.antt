@@ -2,7 +2,7 @@ use Rattle.std.proofs.Common.{ap, subst, arith}
 use Rattle.lock_core.specs.declared.how.How.TheVariants.{Slept}
 use Rattle.lock_core.specs.declared.view.Held.TheVariants.{Alone}
 use Rattle.lock_core.specs.Pasts.{FoundAt}
-use Rattle.rwsem_slow.specs.Opening.{IsOpen}
+use Rattle.rwsem_slow.specs.RwSemOpening.{IsOpen}
 use Rattle.rwsem_slow.specs.RwSems.{V, count_at}
 use Rattle.rwsem_slow.proofs.Opening.{takes-from}
 use Rattle.rwsem_slow.proofs.writing.take.Goals as goal

@@ -1,6 +1,6 @@
 use Rattle.std.proofs.Common.{◌≡◌, ◌≤◌}
 use Rattle.word_bits.specs.LockWords.{IsLawfulCount}
-use Rattle.lock_core.specs.Passes.{Sits}
+use Rattle.lock_core.specs.SitePasses.{Sits}
 use Rattle.lock_core.specs.Pasts.{GoesOn}
 use Rattle.rwsem_slow.specs.Queued.{HasTriedAt, Tries}
 use Rattle.rwsem_slow.proofs.writing.try_standing.Given as goal

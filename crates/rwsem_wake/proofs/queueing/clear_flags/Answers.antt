@@ -3,7 +3,7 @@ use Rattle.word_bits.specs.LockWords.{IsLawfulCount}
 use Rattle.lock_core.specs.declared.op.Op.TheVariants.{And}
 use Rattle.lock_core.proofs.Sitting.{sits-on}
 use Rattle.rwsem_count.proofs.Sitting.{has-number, some-number}
-use Rattle.rwsem_wake.specs.Queues.{rested}
+use Rattle.rwsem_wake.specs.GrantQueues.{rested}
 use Rattle.rwsem_wake.proofs.WakeKinds.{wakes-empty}
 use Rattle.rwsem_wake.specs.Grants.{sem_part}
 use Rattle.rwsem_wake.specs.Duties.{paid}

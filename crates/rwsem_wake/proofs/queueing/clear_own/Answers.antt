@@ -3,7 +3,7 @@ use Rattle.lock_core.specs.declared.op.Op.TheVariants.{Store}
 use Rattle.lock_core.proofs.RowLaws.{none-some}
 use Rattle.lock_core.proofs.Sitting.{sits-on}
 use Rattle.rwsem_wake.specs.Grants.{sem_part, anything}
-use Rattle.rwsem_wake.specs.Queues.{rested}
+use Rattle.rwsem_wake.specs.GrantQueues.{rested}
 use Rattle.rwsem_wake.proofs.WakeKinds.{wakes-turn}
 use Rattle.rwsem_wake.specs.declared.view.Stage.TheVariants.{Removed, Rest}
 use Rattle.rwsem_wake.proofs.Stepping.{mark-does}

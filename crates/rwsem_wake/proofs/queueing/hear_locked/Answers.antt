@@ -7,7 +7,7 @@ use Rattle.lock_core.proofs.Sitting.{sits-on}
 use Rattle.rwsem_count.specs.declared.view.Bias.TheVariants.{Clear}
 use Rattle.rwsem_count.proofs.Sitting.{sits-took}
 use Rattle.rwsem_wake.specs.Grants.{sem_part, anything}
-use Rattle.rwsem_wake.specs.Queues.{heard_locked}
+use Rattle.rwsem_wake.specs.GrantQueues.{heard_locked}
 use Rattle.rwsem_wake.proofs.WakeKinds.{wakes-hear-locked}
 use Rattle.rwsem_wake.specs.Duties.{heard_locked_at}
 use Rattle.rwsem_wake.proofs.Holding.{holds-by, shared-holds, busy-held}

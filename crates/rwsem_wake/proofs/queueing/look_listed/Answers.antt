@@ -8,7 +8,7 @@ use Rattle.rwsem_wake.specs.Grants.{sem_part}
 use Rattle.rwsem_wake.specs.Duties.{saw_count}
 use Rattle.rwsem_wake.proofs.Stepping.{count-stirs}
 use Rattle.rwsem_wake.proofs.QueueSteps.{on-listed, on-stay}
-use Rattle.rwsem_wake.specs.Queues.{KnowsSome}
+use Rattle.rwsem_wake.specs.GrantQueues.{KnowsSome}
 use Rattle.lock_core.specs.Stores.{HasWord}
 use Rattle.rwsem_wake.proofs.queueing.look_listed.Goals as goal
 

@@ -3,7 +3,7 @@ use Rattle.lock_core.specs.declared.op.Op.TheVariants.{Load}
 use Rattle.lock_core.proofs.RowLaws.{none-some}
 use Rattle.lock_core.proofs.Sitting.{sits-on}
 use Rattle.rwsem_wake.specs.Grants.{sem_part, anything}
-use Rattle.rwsem_wake.specs.Queues.{own_unmarked}
+use Rattle.rwsem_wake.specs.GrantQueues.{own_unmarked}
 use Rattle.rwsem_wake.proofs.WakeKinds.{wakes-own}
 use Rattle.rwsem_wake.proofs.Stepping.{mark-does}
 use Rattle.rwsem_wake.proofs.QueueSteps.{on-look-own}

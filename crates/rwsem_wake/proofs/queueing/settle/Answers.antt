@@ -7,7 +7,7 @@ use Rattle.lock_core.specs.Pasts.{FoundAt, IsOwnStep, Tail}
 use Rattle.lock_core.proofs.Sitting.{sits-on}
 use Rattle.rwsem_count.specs.declared.view.Bias.TheVariants.{Clear}
 use Rattle.rwsem_count.proofs.Sitting.{some-number, sits-took}
-use Rattle.rwsem_wake.specs.Queues.{settled}
+use Rattle.rwsem_wake.specs.GrantQueues.{settled}
 use Rattle.rwsem_wake.proofs.WakeKinds.{wakes-settle}
 use Rattle.rwsem_wake.specs.Grants.{sem_part}
 use Rattle.rwsem_wake.proofs.Holding.{holds-by, shared-holds, busy-held}

@@ -7,7 +7,7 @@ use Rattle.lock_core.specs.Pasts.{IsOwnStep, Tail}
 use Rattle.lock_core.proofs.Sitting.{sits-on}
 use Rattle.rwsem_count.specs.declared.view.Bias.TheVariants.{Clear}
 use Rattle.rwsem_count.proofs.Sitting.{sits-took}
-use Rattle.rwsem_wake.specs.Queues.{taken}
+use Rattle.rwsem_wake.specs.GrantQueues.{taken}
 use Rattle.rwsem_wake.proofs.WakeKinds.{wakes-take}
 use Rattle.rwsem_wake.specs.Grants.{sem_part}
 use Rattle.rwsem_wake.specs.Duties.{exchanged}

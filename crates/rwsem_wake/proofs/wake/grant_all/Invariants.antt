@@ -1,5 +1,5 @@
 use Rattle.std.proofs.Common.{◌≡◌, ◌≤◌, drop}
-use Rattle.lock_core.specs.Passes.{Sits}
+use Rattle.lock_core.specs.SitePasses.{Sits}
 use Rattle.lock_core.specs.Pasts.{GoesOn, IsOwnStep}
 use Rattle.rwsem_wake.specs.Grants.{OnlySem, still_granting}
 use Rattle.rwsem_wake.proofs.wake.grant_all.Given as goal

@@ -5,8 +5,8 @@ use Rattle.lock_core.specs.Layout.{length_place}
 use Rattle.lock_core.specs.Views.{ticked}
 use Rattle.vma_map.specs.SpaceLaws.{starts, called, goes_on, replies}
 use Rattle.vma_map.specs.Spaces.{space}
-use Rattle.seq_fault.specs.Plays.{glance, staled}
-use Rattle.seq_fault.specs.Ruled.{V, seq_at}
+use Rattle.seq_fault.specs.SeqPlays.{glance, staled}
+use Rattle.seq_fault.specs.SeqRuled.{V, seq_at}
 use Rattle.seq_fault.proofs.Faulting.{finds, gathers, gathered-few, gathered-read, told-next}
 use Rattle.seq_fault.proofs.reading.read_optimistically.Goals as goal
 

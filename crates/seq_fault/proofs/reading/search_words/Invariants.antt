@@ -1,11 +1,11 @@
 -- The words that were given were found while the pass watched.
 use Rattle.std.proofs.Common.{◌≡◌, ◌-◌}
-use Rattle.lock_core.specs.Passes.{Sits}
+use Rattle.lock_core.specs.SitePasses.{Sits}
 use Rattle.lock_core.specs.Pasts.{GoesOn, IsOwnStep}
 use Rattle.vma_map.specs.Searches.{asked, page_of}
 use Rattle.seq_fault.specs.declared.view.Glance.{Glance}
 use Rattle.seq_fault.specs.declared.view.Watch.TheVariants.{On}
-use Rattle.seq_fault.specs.Steps.{HasSearched}
+use Rattle.seq_fault.specs.SeqSteps.{HasSearched}
 use Rattle.seq_fault.proofs.reading.search_words.Given as goal
 
 abbrev pub invariant-loop-at : goal.invariant-loop-at

@@ -1,6 +1,6 @@
 -- What follows where the second load of the sequence word found the word of the first.
 use Rattle.std.proofs.Common.{◌∙◌, arith, ap}
-use Rattle.seq_fault.specs.Ruled.{V, seq_at}
+use Rattle.seq_fault.specs.SeqRuled.{V, seq_at}
 use Rattle.seq_fault.proofs.Faulting.{finds, read-measured, confirmed, seen-reading, faulted, saw-front}
 use Rattle.seq_fault.proofs.reading.validate.Goals as goal
 

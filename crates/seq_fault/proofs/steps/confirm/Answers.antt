@@ -3,7 +3,7 @@ use Rattle.lock_core.proofs.Sitting.{sits-on}
 use Rattle.lock_core.specs.declared.pass.Face.{Face}
 use Rattle.lock_core.specs.Pasts.{FoundAt, IsOwnStep, Tail}
 use Rattle.seq_fault.specs.declared.view.Watch.TheVariants.{Off}
-use Rattle.seq_fault.specs.Ruled.{V, seq_at}
+use Rattle.seq_fault.specs.SeqRuled.{V, seq_at}
 use Rattle.seq_fault.proofs.Sitting.{sits-saw}
 use Rattle.seq_fault.proofs.Having.{has-sequence}
 use Rattle.seq_fault.proofs.Stepping.{confirms}

@@ -7,7 +7,7 @@ use Rattle.word_bits.proofs.States.{IsLawful, state_is_state}
 use Rattle.lock_core.specs.declared.view.Hand.{Hand}
 use Rattle.lock_core.specs.Records.{row}
 use Rattle.lock_core.proofs.Recording.{next-is}
-use Rattle.seq_fault.specs.Ruled.{V}
+use Rattle.seq_fault.specs.SeqRuled.{V}
 use Rattle.seq_fault.proofs.writing.change.Given as given
 use Rattle.seq_fault.proofs.writing.change.Goals as goal
 

@@ -1,6 +1,6 @@
 -- The words so far are those that the pass knows.
 use Rattle.std.proofs.Common.{◌≡◌, length, take}
-use Rattle.lock_core.specs.Handles.{hand_in, view_of, KeepsPast, SaysSame, SitsAt}
+use Rattle.lock_core.specs.SiteHandles.{hand_in, view_of, KeepsPast, SaysSame, SitsAt}
 use Rattle.lock_core.specs.Views.{Beside}
 use Rattle.seq_fault.proofs.writing.load.Given as goal
 

@@ -1,8 +1,8 @@
 -- The words so far are written.
 use Rattle.std.proofs.Common.{◌≡◌, length, take}
-use Rattle.lock_core.specs.Handles.{hand_in, view_of, KeepsPast, SaysSame, SitsAt}
+use Rattle.lock_core.specs.SiteHandles.{hand_in, view_of, KeepsPast, SaysSame, SitsAt}
 use Rattle.lock_core.specs.Views.{Beside}
-use Rattle.seq_fault.specs.Writing.{SameCall}
+use Rattle.seq_fault.specs.SeqWriting.{SameCall}
 use Rattle.seq_fault.proofs.writing.store.Given as goal
 
 abbrev pub invariant-loop-at : goal.invariant-loop-at

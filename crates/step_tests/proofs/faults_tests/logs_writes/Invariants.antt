@@ -1,5 +1,5 @@
 use Rattle.std.proofs.Common.{◌≡◌}
-use Rattle.seq_fault.specs.Handles.{SitsAt, SaysSame, hand_in}
+use Rattle.seq_fault.specs.SeqHandles.{SitsAt, SaysSame, hand_in}
 use Rattle.step_tests.proofs.faults_tests.logs_writes.Given as goal
 
 abbrev pub invariant-loop-call : goal.invariant-loop-call

@@ -1,4 +1,4 @@
-use Rattle.qspin_queue.specs.Handles.{IsApart}
+use Rattle.qspin_queue.specs.SpinQueueHandles.{IsApart}
 use Rattle.step_tests.proofs.nest_tests.sees.Given as goal
 
 abbrev pub invariant-loop : goal.invariant-loop

@@ -1,7 +1,7 @@
 use Rattle.std.proofs.Common.{◌≡◌, ◌∙◌, ap, sym}
 use Rattle.lock_core.specs.declared.view.Hand.{Hand}
 use Rattle.lock_core.specs.Holding.{released}
-use Rattle.percpu_rwsem.specs.Plays.{unheld, unheld_by}
+use Rattle.percpu_rwsem.specs.PercpuPlays.{unheld, unheld_by}
 use Rattle.step_tests.proofs.percpu_calls.let_go_alone.Goals as goal
 
 pub returns-clause-at : goal.returns-clause-at

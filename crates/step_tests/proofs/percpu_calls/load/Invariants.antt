@@ -1,5 +1,5 @@
 use Rattle.std.proofs.Common.{◌≡◌, length, take}
-use Rattle.percpu_rwsem.specs.Handles.{hand_in, held_in, seen_in, view_of, SitsAt}
+use Rattle.percpu_rwsem.specs.PercpuHandles.{hand_in, held_in, seen_in, view_of, SitsAt}
 use Rattle.step_tests.proofs.percpu_calls.load.Given as goal
 
 abbrev pub invariant-loop-at : goal.invariant-loop-at

@@ -1,6 +1,6 @@
 use Rattle.std.proofs.Common.{◌≡◌, length, take}
 use Rattle.lock_core.specs.declared.view.Held.TheVariants.{Alone}
-use Rattle.percpu_rwsem.specs.Handles.{hand_in, held_in, seen_in, view_of, SitsAt}
+use Rattle.percpu_rwsem.specs.PercpuHandles.{hand_in, held_in, seen_in, view_of, SitsAt}
 use Rattle.step_tests.proofs.percpu_calls.store.Given as goal
 
 abbrev pub invariant-loop-at : goal.invariant-loop-at

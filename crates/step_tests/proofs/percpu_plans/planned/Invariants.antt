@@ -2,7 +2,7 @@ use Rattle.std.proofs.Common.{◌≡◌, ◌*◌, ◌<◌, ◌≤◌, ℕ, [], l
 use Rattle.lock_core.specs.Plans.{calls_in}
 use Rattle.lock_core.specs.Records.{row, IsPlan}
 use Rattle.vma_map.specs.Spaces.{space}
-use Rattle.step_tests.specs.PercpuPasses.{Repeats}
+use Rattle.step_tests.specs.TestPercpuPasses.{Repeats}
 use Rattle.step_tests.proofs.percpu_plans.planned.Given as goal
 
 abbrev pub invariant-loop-task : goal.invariant-loop-task

@@ -1,7 +1,7 @@
 use Rattle.std.proofs.Common.{◌≡◌, false}
 use Rattle.lock_core.specs.declared.view.Held.TheVariants.{No}
-use Rattle.percpu_rwsem.specs.Handles.{blocks_in}
-use Rattle.step_tests.specs.PercpuPasses.{IsAt}
+use Rattle.percpu_rwsem.specs.PercpuHandles.{blocks_in}
+use Rattle.step_tests.specs.TestPercpuPasses.{IsAt}
 use Rattle.step_tests.proofs.percpu_thread_tests.write_all.Given as goal
 
 abbrev pub invariant-loop : goal.invariant-loop

@@ -1,6 +1,6 @@
 use Rattle.std.proofs.Common.{◌≡◌, Some}
 use Rattle.osq_nodes.specs.declared.node.Place.TheVariants.{Waiting}
-use Rattle.osq_nodes.specs.Handles.{SitsAt, place_in, task_in}
+use Rattle.osq_nodes.specs.OsqHandles.{SitsAt, place_in, task_in}
 use Rattle.step_tests.proofs.queue_tests.pass_on.Given as goal
 
 abbrev pub invariant-loop : goal.invariant-loop

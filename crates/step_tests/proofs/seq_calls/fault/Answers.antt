@@ -1,7 +1,7 @@
 -- The words of the call are those of a fault.
 use Rattle.std.proofs.Common.{◌∙◌, Some, ap, sym}
 use Rattle.vma_map.specs.declared.call.SpaceCall.{SpaceCall}
-use Rattle.seq_fault.specs.Steps.{IsNextFault}
+use Rattle.seq_fault.specs.SeqSteps.{IsNextFault}
 use Rattle.step_tests.proofs.seq_calls.fault.Goals as goal
 
 pub fault-requires-clause-next : goal.fault-requires-clause-next

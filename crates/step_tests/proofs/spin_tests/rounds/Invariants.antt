@@ -1,6 +1,6 @@
 use Rattle.std.proofs.Common.{◌≡◌}
-use Rattle.lock_core.specs.Handles.{hand_in}
-use Rattle.qspin_queue.specs.Handles.{IsReady}
+use Rattle.lock_core.specs.SiteHandles.{hand_in}
+use Rattle.qspin_queue.specs.SpinQueueHandles.{IsReady}
 use Rattle.step_tests.proofs.spin_tests.rounds.Given as goal
 
 abbrev pub invariant-loop : goal.invariant-loop

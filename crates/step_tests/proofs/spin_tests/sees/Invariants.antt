@@ -1,4 +1,4 @@
-use Rattle.qspin_queue.specs.Handles.{IsReady}
+use Rattle.qspin_queue.specs.SpinQueueHandles.{IsReady}
 use Rattle.step_tests.proofs.spin_tests.sees.Given as goal
 
 abbrev pub invariant-loop : goal.invariant-loop

@@ -2,7 +2,7 @@ use Rattle.std.proofs.Common.{◌≡◌, ◌+◌, ◌==◌, ◌≤◌, true, len
 use Rattle.std.specs.List.{list_all}
 use Rattle.std.specs.Option.{option_map_or}
 use Rattle.task_script.specs.Cuts.{is_clean, lines}
-use Rattle.task_script.specs.Parts.{parts_of}
+use Rattle.task_script.specs.LineParts.{parts_of}
 use Rattle.task_script.specs.Scripts.{nothing}
 use Rattle.task_script.specs.Grammar.{lines_after}
 use Rattle.task_script.proofs.reader.read_lines.Given as goal

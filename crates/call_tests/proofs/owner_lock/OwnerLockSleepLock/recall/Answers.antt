@@ -5,7 +5,7 @@ use Rattle.lock_core.specs.LockedLaws.{ran-steps}
 use Rattle.lock_core.specs.Shown.{no_line}
 use Rattle.lock_core.proofs.Opening.{fresh-new}
 use Rattle.lock_core.proofs.Showing.{latest-shown}
-use Rattle.mutex_word.specs.Ruled.{IsOwnerSiteThen, newest, owner_at, unmarked}
+use Rattle.mutex_word.specs.OwnerRuled.{IsOwnerSiteThen, newest, owner_at, unmarked}
 use Rattle.call_tests.specs.OwnerLocks.{nobody_waits}
 use Rattle.call_tests.proofs.Locked.{each-moment, owner-locked}
 use Rattle.call_tests.proofs.owner_lock.OwnerLockSleepLock.recall.Goals as goal

@@ -3,7 +3,7 @@ use Rattle.lock_core.specs.Plans.{start}
 use Rattle.lock_core.specs.Pasts.{GoesOn}
 use Rattle.lock_core.specs.Shown.{PastGoesOn}
 use Rattle.lock_core.specs.Locking.{Looks}
-use Rattle.guarded.specs.Copying.{AreRecWords, joined}
+use Rattle.guarded.specs.ObjectCopying.{AreRecWords, joined}
 use Rattle.guarded.proofs.guarded.Guarded.copy_records.Given as goal
 
 abbrev pub invariant-loop-task : goal.invariant-loop-task

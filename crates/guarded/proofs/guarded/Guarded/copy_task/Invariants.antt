@@ -2,7 +2,7 @@ use Rattle.std.proofs.Common.{◌≡◌, ℕ, List, ◌++◌}
 use Rattle.lock_core.specs.Pasts.{GoesOn}
 use Rattle.lock_core.specs.Shown.{PastGoesOn}
 use Rattle.lock_core.specs.Locking.{Looks}
-use Rattle.guarded.specs.Copying.{AreTaskWords}
+use Rattle.guarded.specs.ObjectCopying.{AreTaskWords}
 use Rattle.guarded.proofs.guarded.Guarded.copy_task.Given as goal
 
 abbrev pub invariant-loop-call : goal.invariant-loop-call

@@ -3,14 +3,14 @@ use Rattle.word_bits.specs.Histories.{state_after}
 use Rattle.word_bits.specs.PageMaps.{PageMap, runs}
 use Rattle.word_bits.proofs.States.{IsLawful, state_is_state}
 use Rattle.vma_map.specs.Runs.{page_map}
-use Rattle.vma_map.specs.RunLaws.{page_map-runs}
+use Rattle.vma_map.specs.PageRunLaws.{page_map-runs}
 use Rattle.vma_map.specs.Spaces.{space, meaning}
 use Rattle.vma_map.specs.SpaceLaws.{IsSpace-runs, starts, called, goes_on, replies}
 use Rattle.guarded.specs.Splicing.{areas_in}
 use Rattle.guarded.proofs.Spliced.{have-areas}
 use Rattle.word_bits.specs.declared.reply.Reply.TheVariants.{Num}
 use Rattle.vma_map.specs.declared.call.SpaceCall.{SpaceCall}
-use Rattle.guarded.specs.Serving.{readable_from}
+use Rattle.guarded.specs.CallServing.{readable_from}
 use Rattle.guarded.proofs.Counting.{populate-counts}
 use Rattle.guarded.proofs.served.AreasServed.look.Goals as goal
 

@@ -2,7 +2,7 @@
 use Rattle.std.proofs.Common.{◌≡◌, ℕ, ◌+◌, ◌-◌, List, length, slice_index, slice_set, sym, ap, subst, ◌∙◌, arith}
 use Rattle.lock_core.specs.declared.view.Hand.{Hand}
 use Rattle.vma_map.specs.Runs.{spliced}
-use Rattle.guarded.specs.Serving.{AreZeroFrom}
+use Rattle.guarded.specs.CallServing.{AreZeroFrom}
 use Rattle.guarded.specs.Splicing.{MakeRoom, areas_in}
 use Rattle.guarded.specs.SplicingLaws.{changes-more}
 use Rattle.guarded.proofs.Spliced.{number-of, long-of, zeros-of, length-of, pieces-runs, spliced-stored, have-areas}

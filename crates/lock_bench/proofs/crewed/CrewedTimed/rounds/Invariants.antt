@@ -1,5 +1,5 @@
 use Rattle.std.proofs.Common.{◌≡◌, ◌+◌}
-use Rattle.lock_bench.specs.Between.{IsBetween, takes_in}
+use Rattle.lock_bench.specs.RoundsBetween.{IsBetween, takes_in}
 use Rattle.lock_bench.proofs.crewed.CrewedTimed.rounds.Given as goal
 
 abbrev pub invariant-loop-number : goal.invariant-loop-number

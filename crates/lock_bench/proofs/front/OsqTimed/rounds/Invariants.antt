@@ -1,6 +1,6 @@
 use Rattle.std.proofs.Common.{◌≡◌, ◌+◌, Some}
 use Rattle.osq_nodes.specs.declared.node.Place.TheVariants.{Out}
-use Rattle.osq_nodes.specs.Handles.{SitsAt, fronts_in, place_in, task_in}
+use Rattle.osq_nodes.specs.OsqHandles.{SitsAt, fronts_in, place_in, task_in}
 use Rattle.lock_bench.proofs.front.OsqTimed.rounds.Given as goal
 
 abbrev pub invariant-loop : goal.invariant-loop

@@ -1,5 +1,5 @@
 use Rattle.std.proofs.Common.{◌≡◌, ◌≤◌, Some}
-use Rattle.lock_bench.specs.Between.{IsBetween}
+use Rattle.lock_bench.specs.RoundsBetween.{IsBetween}
 use Rattle.lock_bench.proofs.locked_faults.LockedFaultsTimed.rounds.Given as goal
 
 abbrev pub invariant-loop-call : goal.invariant-loop-call

@@ -1,7 +1,7 @@
 use Rattle.std.proofs.Common.{◌≡◌, ◌+◌, ◌*◌}
-use Rattle.lock_core.specs.Handles.{hand_in}
-use Rattle.qspin_word.specs.Handles.{spin_in}
-use Rattle.qspin_queue.specs.Handles.{IsApart}
+use Rattle.lock_core.specs.SiteHandles.{hand_in}
+use Rattle.qspin_word.specs.SpinWordHandles.{spin_in}
+use Rattle.qspin_queue.specs.SpinQueueHandles.{IsApart}
 use Rattle.lock_bench.proofs.nested.SiteNestTimed.rounds.Given as goal
 
 abbrev pub invariant-loop : goal.invariant-loop

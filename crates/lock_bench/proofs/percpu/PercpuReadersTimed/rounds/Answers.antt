@@ -1,7 +1,7 @@
 use Rattle.std.proofs.Common.{arith}
 use Rattle.lock_core.specs.Nothings.{nothing}
-use Rattle.percpu_rwsem.specs.Handles.{plan_of}
-use Rattle.percpu_rwsem.specs.Ruled.{never}
+use Rattle.percpu_rwsem.specs.PercpuHandles.{plan_of}
+use Rattle.percpu_rwsem.specs.PercpuRuled.{never}
 use Rattle.lock_bench.proofs.PercpuPassing.{begun, ended, round}
 use Rattle.lock_bench.proofs.percpu.PercpuReadersTimed.rounds.Goals as goal
 

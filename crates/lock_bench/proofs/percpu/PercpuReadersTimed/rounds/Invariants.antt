@@ -1,6 +1,6 @@
 use Rattle.std.proofs.Common.{◌≡◌, ◌+◌}
-use Rattle.percpu_rwsem.specs.Handles.{hand_in}
-use Rattle.lock_bench.specs.PercpuPasses.{IsBetween}
+use Rattle.percpu_rwsem.specs.PercpuHandles.{hand_in}
+use Rattle.lock_bench.specs.BenchPercpuPasses.{IsBetween}
 use Rattle.lock_bench.proofs.percpu.PercpuReadersTimed.rounds.Given as goal
 
 abbrev pub invariant-loop : goal.invariant-loop

@@ -1,5 +1,5 @@
 use Rattle.std.proofs.Common.{ℕ, ◌∙◌, arith, subst, sym}
-use Rattle.seq_fault.specs.Ruled.{never}
+use Rattle.seq_fault.specs.SeqRuled.{never}
 use Rattle.vma_map.specs.Spaces.{space}
 use Rattle.lock_bench.specs.FaultPasses.{IsAtCall}
 use Rattle.lock_bench.proofs.FaultPassing.{begun, faulted, next-fault, within}

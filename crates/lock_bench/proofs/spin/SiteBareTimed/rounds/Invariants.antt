@@ -1,6 +1,6 @@
 use Rattle.std.proofs.Common.{◌≡◌, ◌+◌}
-use Rattle.lock_core.specs.Handles.{hand_in, view_of}
-use Rattle.qspin_queue.specs.Handles.{IsReady}
+use Rattle.lock_core.specs.SiteHandles.{hand_in, view_of}
+use Rattle.qspin_queue.specs.SpinQueueHandles.{IsReady}
 use Rattle.lock_bench.proofs.spin.SiteBareTimed.rounds.Given as goal
 
 abbrev pub invariant-loop : goal.invariant-loop

@@ -1,5 +1,5 @@
-use Rattle.lock_core.specs.RunLaws.{ran-so}
-use Rattle.lock_core.specs.Stated.{IsSiteMove}
+use Rattle.lock_core.specs.SiteRunLaws.{ran-so}
+use Rattle.lock_core.specs.SiteStated.{IsSiteMove}
 use Rattle.lock_core.specs.Pasts.{opening, Moves}
 use Rattle.lock_core.proofs.site.Site.grown.Goals as goal
 

@@ -1,6 +1,6 @@
 use Rattle.std.proofs.Common.{length, ◌+◌, ◌*◌, arith, inl, refl}
 use Rattle.lock_core.specs.Views.{hearing}
-use Rattle.lock_core.specs.Passes.{Hears}
+use Rattle.lock_core.specs.SitePasses.{Hears}
 use Rattle.lock_core.proofs.SiteLaws.{heeds}
 use Rattle.lock_core.proofs.SignalWords.{hears-there}
 use Rattle.lock_core.proofs.Storing.{stored-site}

@@ -1,4 +1,4 @@
-use Rattle.mutex_slow.specs.Standing.{IsReady}
+use Rattle.mutex_slow.specs.MutexStanding.{IsReady}
 use Rattle.lock_rows.proofs.mutex.release_tests.await_queued.Given as goal
 
 abbrev pub invariant-loop : goal.invariant-loop

@@ -1,7 +1,7 @@
 use Rattle.std.proofs.Common.{◌≡◌, ◌∙◌, [], All, List, ap, arith, length, subst, sym}
 use Rattle.word_bits.specs.Histories.{Plan}
 use Rattle.word_bits.specs.Snapshots.{Words}
-use Rattle.mm_serve.specs.Copying.{AreBlank}
+use Rattle.mm_serve.specs.MachineCopying.{AreBlank}
 use Rattle.mm_serve.specs.Workers.{EachOf, IsReady}
 use Rattle.mm_serve.proofs.Each.{each-map}
 use Rattle.mm_serve.proofs.Filling.{staffed-tasks}

@@ -1,6 +1,6 @@
 use Rattle.std.proofs.Common.{refl, ap, length, ◌∙◌, subst, List}
-use Rattle.mm_serve.specs.Copying.{IsCopied, KnowPasts}
-use Rattle.mm_serve.specs.Queues.{GoesBackToTasks}
+use Rattle.mm_serve.specs.MachineCopying.{IsCopied, KnowPasts}
+use Rattle.mm_serve.specs.MachineQueues.{GoesBackToTasks}
 use Rattle.mm_serve.specs.Workers.{EachOf}
 use Rattle.mm_serve.proofs.Copies.{all-legal, all-complete}
 use Rattle.mm_serve.proofs.Each.{each-map}

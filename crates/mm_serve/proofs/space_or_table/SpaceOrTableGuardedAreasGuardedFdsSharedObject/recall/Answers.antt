@@ -6,7 +6,7 @@ use Rattle.lock_core.specs.Shown.{Shown}
 use Rattle.guarded.specs.MutexLocks.{KnowsMutex}
 use Rattle.guarded.specs.RwSemLocks.{KnowsRwSem}
 use Rattle.guarded.specs.LockMembers.{members}
-use Rattle.mm_serve.specs.Pasts.{KnowsPast}
+use Rattle.mm_serve.specs.MachinePasts.{KnowsPast}
 use Rattle.mm_serve.proofs.space_or_table.SpaceOrTableGuardedAreasGuardedFdsSharedObject.recall.Goals.{in-Space-OfSpace, in-Table-OfTable}
 use Rattle.mm_serve.proofs.space_or_table.SpaceOrTableGuardedAreasGuardedFdsSharedObject.recall.Goals as goal
 

@@ -2,7 +2,7 @@ use Rattle.std.proofs.Common.{◌<◌, ℕ, length, true, false, sym}
 use Rattle.lock_core.specs.Kinds.{mutex, semaphore}
 use Rattle.vma_map.specs.Spaces.{space}
 use Rattle.fd_table.specs.Tables.{table}
-use Rattle.mm_serve.specs.Histories.{HasDoneOn}
+use Rattle.mm_serve.specs.MachineHistories.{HasDoneOn}
 use Rattle.mm_serve.proofs.Same.{done-of, history-of}
 use Rattle.mm_serve.proofs.space_or_table.SpaceOrTableGuardedAreasGuardedFdsSharedObject.snapshot.Goals.{in-Space-OfSpace, in-Table-OfTable}
 use Rattle.mm_serve.proofs.space_or_table.SpaceOrTableGuardedAreasGuardedFdsSharedObject.snapshot.Goals as goal

@@ -6,18 +6,18 @@ use Rattle.lock_core.specs.Kinds.{mutex}
 use Rattle.lock_core.specs.Locked.{IsLockedThen}
 use Rattle.lock_core.specs.LockedLaws.{ran-steps}
 use Rattle.lock_core.specs.Pasts.{Moves}
-use Rattle.lock_core.specs.RunLaws.{ran-each, ran-so, step-by}
-use Rattle.lock_core.specs.Stated.{IsSiteMove}
+use Rattle.lock_core.specs.SiteRunLaws.{ran-each, ran-so, step-by}
+use Rattle.lock_core.specs.SiteStated.{IsSiteMove}
 use Rattle.lock_core.proofs.Showing.{latest-shown}
-use Rattle.osq_nodes.specs.Handles.{fronts_in}
-use Rattle.mutex_slow.specs.Places.{line_of}
+use Rattle.osq_nodes.specs.OsqHandles.{fronts_in}
+use Rattle.mutex_slow.specs.MutexPlaces.{line_of}
 use Rattle.qspin_word.proofs.Turning.{numbers}
 use Rattle.qspin_queue.proofs.Recalling.{counts-spin, each-lock, each-move}
 use Rattle.mutex_slow.specs.Mutexes.{Kept, MutexMoves, OwesNoWake, V, owner_at, owner_in, standing, standing_of, wait_lock_at}
 use Rattle.mutex_slow.specs.MutexLaws.{mutex-site, mutex-spin}
 use Rattle.mutex_slow.specs.StandingLaws.{owes-none}
-use Rattle.mutex_slow.specs.Handles.{newest}
-use Rattle.mutex_slow.specs.Stated.{IsMutexThen, waits_on}
+use Rattle.mutex_slow.specs.MutexHandles.{newest}
+use Rattle.mutex_slow.specs.MutexStated.{IsMutexThen, waits_on}
 use Rattle.mutex_slow.proofs.Stating.{mutex-states}
 use Rattle.mutex_slow.proofs.Chaining.{becomes}
 use Rattle.mutex_slow.proofs.Locking.{each-moment, mutex-locked}

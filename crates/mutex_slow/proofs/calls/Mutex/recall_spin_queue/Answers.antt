@@ -1,10 +1,10 @@
 use Rattle.std.proofs.Common.{◌∙◌, sym, ap, subst}
 use Rattle.lock_core.specs.declared.view.Hand.{Hand}
 use Rattle.lock_core.specs.Pasts.{BeganWith, EachMoment, Ran}
-use Rattle.osq_nodes.specs.Handles.{past_of, tasks_of}
-use Rattle.osq_nodes.specs.Places.{node_marks}
-use Rattle.osq_nodes.specs.Ruled.{IsOsqMove, newest}
-use Rattle.osq_nodes.specs.Stated.{IsSpinQueue}
+use Rattle.osq_nodes.specs.OsqHandles.{past_of, tasks_of}
+use Rattle.osq_nodes.specs.OsqPlaces.{node_marks}
+use Rattle.osq_nodes.specs.OsqRuled.{IsOsqMove, newest}
+use Rattle.osq_nodes.specs.OsqStated.{IsSpinQueue}
 use Rattle.osq_unqueue.proofs.Fronts.{each-front, out-of-queue}
 use Rattle.mutex_slow.proofs.calls.Mutex.recall_spin_queue.Goals as goal
 

@@ -1,6 +1,6 @@
 use Rattle.lock_core.proofs.Showing.{latest-shown}
-use Rattle.osq_nodes.specs.Handles.{fronts_in}
-use Rattle.mutex_slow.specs.Places.{line_of}
+use Rattle.osq_nodes.specs.OsqHandles.{fronts_in}
+use Rattle.mutex_slow.specs.MutexPlaces.{line_of}
 use Rattle.mutex_slow.proofs.calls.Mutex.recall_wait_lock.Goals as goal
 
 pub returns-clause-last : goal.returns-clause-last

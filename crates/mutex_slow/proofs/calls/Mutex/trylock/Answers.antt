@@ -1,6 +1,6 @@
-use Rattle.osq_nodes.specs.Handles.{fronts_in, swaps_in}
+use Rattle.osq_nodes.specs.OsqHandles.{fronts_in, swaps_in}
 use Rattle.lock_core.proofs.Within.{misses-fronts}
-use Rattle.mutex_slow.specs.Places.{seen_of}
+use Rattle.mutex_slow.specs.MutexPlaces.{seen_of}
 use Rattle.mutex_slow.proofs.calls.Mutex.trylock.Goals as goal
 
 pub returns-in-Err-clause-missed : goal.returns-in-Err-clause-missed

@@ -3,9 +3,9 @@ use Rattle.lock_core.specs.Kinds.{mutex}
 use Rattle.lock_core.specs.Shown.{shown}
 use Rattle.lock_core.proofs.Showing.{missed-misses}
 use Rattle.lock_core.proofs.Within.{misses-fronts}
-use Rattle.osq_nodes.specs.Handles.{fronts_in, swaps_in}
+use Rattle.osq_nodes.specs.OsqHandles.{fronts_in, swaps_in}
 use Rattle.mutex_slow.specs.Mutexes.{owner_at}
-use Rattle.mutex_slow.specs.Places.{line_of}
+use Rattle.mutex_slow.specs.MutexPlaces.{line_of}
 use Rattle.mutex_slow.specs.Mutexes.{V}
 use Rattle.mutex_slow.proofs.Opening.{takes-open}
 use Rattle.mutex_slow.proofs.calls.Mutex.trylock_once.Goals as goal

@@ -9,7 +9,7 @@ use Rattle.lock_core.specs.Pasts.{GoesOn, FoundAt, IsOwnStep}
 use Rattle.lock_core.specs.Shown.{no_line, shown}
 use Rattle.lock_core.proofs.Showing.{missed-misses}
 use Rattle.mutex_word.specs.Holders.{MissesOwner}
-use Rattle.mutex_word.specs.Ruled.{V, IsPlain, owner_at}
+use Rattle.mutex_word.specs.OwnerRuled.{V, IsPlain, owner_at}
 use Rattle.mutex_word.proofs.site.OwnerSite.trylock_once.Goals as goal
 
 misses-err : (r : Result (Unit {0}) ℕ) (v u : V) (p q : List Moment) → v.hand.held ≡ No → IsOwnStep u q → GoesOn p q → IfErr r (λ word. MissesOwner v word u) → IfErr r (λ word. FoundAt owner_at word q) → IfErr r (λ word. (word < 8 * MAX_TASKS + 8) × IsPlain word)

@@ -5,9 +5,9 @@ use Rattle.lock_core.specs.Pasts.{opening}
 use Rattle.lock_core.specs.Records.{IsPlan}
 use Rattle.lock_core.specs.Nothings.{nothing}
 use Rattle.lock_core.proofs.Planning.{empty-plan}
-use Rattle.osq_nodes.specs.Places.{node_marks}
-use Rattle.osq_nodes.specs.Ruled.{idle}
-use Rattle.osq_nodes.specs.Stated.{HasBecome}
+use Rattle.osq_nodes.specs.OsqPlaces.{node_marks}
+use Rattle.osq_nodes.specs.OsqRuled.{idle}
+use Rattle.osq_nodes.specs.OsqStated.{HasBecome}
 use Rattle.osq_nodes.proofs.Chaining.{newest-queue}
 use Rattle.osq_nodes.proofs.queue.Osq.open.Goals as goal
 

@@ -1,11 +1,11 @@
 use Rattle.std.proofs.Common.{subst, length, sym, ◌∙◌}
 use Rattle.word_bits.specs.Histories.{Plan}
 use Rattle.lock_core.specs.Pasts.{EachMoment, Moves, Ran, opening}
-use Rattle.lock_core.specs.RunLaws.{ran-each, ran-so}
-use Rattle.osq_nodes.specs.Places.{node_marks}
-use Rattle.osq_nodes.specs.Stated.{IsSpinQueue}
-use Rattle.osq_nodes.specs.Ruled.{OsqKept, OsqMoves, IsOsqMove, idle, newest, no_calls}
-use Rattle.osq_nodes.specs.RuledLaws.{osq-states, place-back, swaps-back, its-place}
+use Rattle.lock_core.specs.SiteRunLaws.{ran-each, ran-so}
+use Rattle.osq_nodes.specs.OsqPlaces.{node_marks}
+use Rattle.osq_nodes.specs.OsqStated.{IsSpinQueue}
+use Rattle.osq_nodes.specs.OsqRuled.{OsqKept, OsqMoves, IsOsqMove, idle, newest, no_calls}
+use Rattle.osq_nodes.specs.OsqRuledLaws.{osq-states, place-back, swaps-back, its-place}
 use Rattle.osq_nodes.proofs.Chaining.{becomes}
 use Rattle.osq_nodes.proofs.queue.Osq.recall_queue.Goals as goal
 

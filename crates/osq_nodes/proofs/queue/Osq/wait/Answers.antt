@@ -1,5 +1,5 @@
 use Rattle.std.proofs.Common.{ap, ◌∙◌}
-use Rattle.osq_nodes.specs.Ruled.{V}
+use Rattle.osq_nodes.specs.OsqRuled.{V}
 use Rattle.osq_nodes.specs.Words.{tail_at}
 use Rattle.osq_nodes.proofs.Owning.{since-later}
 use Rattle.osq_nodes.proofs.queue.Osq.wait.Goals as goal

@@ -1,6 +1,6 @@
 use Rattle.std.proofs.Common.{◌≡◌}
 use Rattle.lock_core.specs.Pasts.{GoesOn}
-use Rattle.osq_nodes.specs.Passes.{OnQueue}
+use Rattle.osq_nodes.specs.OsqPasses.{OnQueue}
 use Rattle.osq_nodes.proofs.queue.Osq.wait_next.Given as goal
 
 abbrev pub invariant-loop : goal.invariant-loop

@@ -1,6 +1,6 @@
 use Rattle.std.proofs.Common.{◌∙◌, arith, ap, sym, length}
 use Rattle.lock_core.proofs.Sitting.{its-number}
-use Rattle.percpu_rwsem.specs.Ruled.{V}
+use Rattle.percpu_rwsem.specs.PercpuRuled.{V}
 use Rattle.percpu_rwsem.proofs.Calling.{blocks-phased}
 use Rattle.percpu_rwsem.proofs.site.PercpuRwSem.block.Goals as goal
 

@@ -3,9 +3,9 @@ use Rattle.std.proofs.lemmas.Option.{same_Some}
 use Rattle.lock_core.specs.declared.view.Held.TheVariants.{Alone}
 use Rattle.lock_core.specs.Pasts.{FoundAt}
 use Rattle.percpu_rwsem.specs.declared.view.Phase.TheVariants.{Blocks}
-use Rattle.percpu_rwsem.specs.Handles.{FindsZeros}
-use Rattle.percpu_rwsem.specs.Plays.{TakesPhase, phased}
-use Rattle.percpu_rwsem.specs.Ruled.{V, count_at}
+use Rattle.percpu_rwsem.specs.PercpuHandles.{FindsZeros}
+use Rattle.percpu_rwsem.specs.PercpuPlays.{TakesPhase, phased}
+use Rattle.percpu_rwsem.specs.PercpuRuled.{V, count_at}
 use Rattle.percpu_rwsem.proofs.Calling.{drained-one, zeros-next, zeros-stay}
 use Rattle.percpu_rwsem.proofs.site.PercpuRwSem.drain.Goals as goal
 

@@ -1,6 +1,6 @@
-use Rattle.lock_core.specs.RunLaws.{ran-each}
-use Rattle.percpu_rwsem.specs.Ruled.{PercpuKept, PercpuMoves, kept_phase, newest}
-use Rattle.percpu_rwsem.specs.Stated.{IsPercpuSiteThen}
+use Rattle.lock_core.specs.SiteRunLaws.{ran-each}
+use Rattle.percpu_rwsem.specs.PercpuRuled.{PercpuKept, PercpuMoves, kept_phase, newest}
+use Rattle.percpu_rwsem.specs.PercpuStated.{IsPercpuSiteThen}
 use Rattle.percpu_rwsem.proofs.Stating.{percpu-steps, rule-states}
 use Rattle.percpu_rwsem.proofs.site.PercpuRwSem.recall.Goals as goal
 

@@ -1,6 +1,6 @@
 use Rattle.std.proofs.Common.{rules, ◌∙◌, ◌+◌, ap, sym, arith}
 use Rattle.lock_core.specs.Views.{ticked}
-use Rattle.percpu_rwsem.specs.Ruled.{V}
+use Rattle.percpu_rwsem.specs.PercpuRuled.{V}
 use Rattle.percpu_rwsem.proofs.Calling.{err-of, sleeps-again}
 use Rattle.percpu_rwsem.proofs.site.PercpuRwSem.wait_to_block.Goals as goal
 

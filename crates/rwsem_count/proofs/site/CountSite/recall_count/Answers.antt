@@ -1,9 +1,9 @@
 use Rattle.lock_core.specs.Pasts.{Moves}
-use Rattle.lock_core.specs.RunLaws.{ran-each, ran-so}
-use Rattle.lock_core.specs.Stated.{IsSiteMove}
-use Rattle.rwsem_count.specs.Ruled.{CountRuleKept, CountMoves, IsCountSiteThen, newest, count_at}
-use Rattle.rwsem_count.specs.RuledLaws.{rule-states}
-use Rattle.rwsem_count.specs.Stated.{kept_bias}
+use Rattle.lock_core.specs.SiteRunLaws.{ran-each, ran-so}
+use Rattle.lock_core.specs.SiteStated.{IsSiteMove}
+use Rattle.rwsem_count.specs.CountRuled.{CountRuleKept, CountMoves, IsCountSiteThen, newest, count_at}
+use Rattle.rwsem_count.specs.CountRuledLaws.{rule-states}
+use Rattle.rwsem_count.specs.CountStated.{kept_bias}
 use Rattle.rwsem_count.proofs.site.CountSite.recall_count.Goals as goal
 
 pub returns-clause-always : goal.returns-clause-always

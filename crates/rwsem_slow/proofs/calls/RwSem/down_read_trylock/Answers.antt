@@ -1,4 +1,4 @@
-use Rattle.osq_nodes.specs.Handles.{fronts_in, swaps_in}
+use Rattle.osq_nodes.specs.OsqHandles.{fronts_in, swaps_in}
 use Rattle.rwsem_slow.proofs.Showing.{reader-misses}
 use Rattle.rwsem_slow.proofs.calls.RwSem.down_read_trylock.Goals as goal
 

@@ -6,20 +6,20 @@ use Rattle.lock_core.specs.Layout.{site}
 use Rattle.lock_core.specs.Locked.{IsLockedThen}
 use Rattle.lock_core.specs.LockedLaws.{ran-steps}
 use Rattle.lock_core.specs.Pasts.{Moves}
-use Rattle.lock_core.specs.RunLaws.{ran-each, ran-so, step-by}
-use Rattle.lock_core.specs.Stated.{IsSiteMove}
+use Rattle.lock_core.specs.SiteRunLaws.{ran-each, ran-so, step-by}
+use Rattle.lock_core.specs.SiteStated.{IsSiteMove}
 use Rattle.lock_core.proofs.Showing.{latest-shown}
-use Rattle.osq_nodes.specs.Handles.{fronts_in}
+use Rattle.osq_nodes.specs.OsqHandles.{fronts_in}
 use Rattle.qspin_word.proofs.Turning.{numbers}
 use Rattle.qspin_queue.proofs.Recalling.{each-lock, each-move}
 use Rattle.sem_duty.specs.declared.view.SemWake.{SemWake}
 use Rattle.rwsem_wake.specs.declared.view.SemHand.{SemHand}
 use Rattle.rwsem_wake.specs.SemParts.{apart_hand}
-use Rattle.rwsem_slow.specs.Places.{line_of}
+use Rattle.rwsem_slow.specs.RwSemPlaces.{line_of}
 use Rattle.rwsem_slow.specs.RwSems.{IsDone, Kept, RwSemMoves, V, count_at, standing, wait_lock_at}
 use Rattle.rwsem_slow.specs.RwSemLaws.{sem-site, sem-spin}
-use Rattle.rwsem_slow.specs.Handles.{newest}
-use Rattle.rwsem_slow.specs.Stated.{IsRwSemThen, stance, waits_on}
+use Rattle.rwsem_slow.specs.RwSemHandles.{newest}
+use Rattle.rwsem_slow.specs.RwSemStated.{IsRwSemThen, stance, waits_on}
 use Rattle.rwsem_slow.proofs.Stating.{sem-then}
 use Rattle.rwsem_slow.proofs.Chaining.{becomes}
 use Rattle.rwsem_slow.proofs.Locking.{sem-locked}

@@ -1,12 +1,12 @@
 use Rattle.std.proofs.Common.{inl, inr, refl, ap, arith}
 use Rattle.lock_core.proofs.Within.{sees-within}
-use Rattle.rwsem_slow.specs.Handles.{shown_of}
-use Rattle.rwsem_slow.specs.Places.{seen_of}
+use Rattle.rwsem_slow.specs.RwSemHandles.{shown_of}
+use Rattle.rwsem_slow.specs.RwSemPlaces.{seen_of}
 use Rattle.rwsem_slow.specs.RwSems.{V}
 use Rattle.rwsem_slow.proofs.Counting.{answers-rise}
 use Rattle.lock_core.specs.declared.how.How.TheVariants.{Spun}
 use Rattle.lock_core.specs.declared.view.Held.TheVariants.{Alone}
-use Rattle.rwsem_slow.specs.Opening.{IsOpen}
+use Rattle.rwsem_slow.specs.RwSemOpening.{IsOpen}
 use Rattle.rwsem_slow.proofs.Opening.{takes-within}
 use Rattle.rwsem_slow.proofs.calls.RwSem.spin.Goals as goal
 

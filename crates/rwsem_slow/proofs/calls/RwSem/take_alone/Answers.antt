@@ -3,14 +3,14 @@ use Rattle.std.specs.Prelude.{Ok}
 use Rattle.lock_core.specs.declared.tally.Tally.{Tally}
 use Rattle.osq_unqueue.specs.Rising.{Rises}
 use Rattle.lock_core.proofs.Within.{err-all, tallies-answer, tried-then}
-use Rattle.osq_nodes.specs.Handles.{fronts_in, swaps_in}
-use Rattle.rwsem_slow.specs.Handles.{shown_of}
+use Rattle.osq_nodes.specs.OsqHandles.{fronts_in, swaps_in}
+use Rattle.rwsem_slow.specs.RwSemHandles.{shown_of}
 use Rattle.rwsem_slow.specs.RwSems.{V}
 use Rattle.rwsem_slow.proofs.Counting.{dozes-none, err-turns, left-counts, ok-turns, slept-counts}
 use Rattle.rwsem_slow.proofs.Showing.{first-sees, first-tried, spun-sees, waits-quit}
 use Rattle.lock_core.specs.declared.how.How.TheVariants.{Fast, Spun}
 use Rattle.lock_core.specs.declared.view.Held.TheVariants.{Alone}
-use Rattle.rwsem_slow.specs.Opening.{IsOpen}
+use Rattle.rwsem_slow.specs.RwSemOpening.{IsOpen}
 use Rattle.rwsem_slow.proofs.Opening.{slept-takes, takes-within, took-since}
 use Rattle.rwsem_slow.proofs.calls.RwSem.take_alone.Goals as goal
 

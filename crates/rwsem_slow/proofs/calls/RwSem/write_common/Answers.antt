@@ -1,9 +1,9 @@
-use Rattle.rwsem_slow.specs.Handles.{shown_of}
+use Rattle.rwsem_slow.specs.RwSemHandles.{shown_of}
 use Rattle.rwsem_slow.proofs.Showing.{keeps-looks}
 use Rattle.std.proofs.Common.{◌∙◌, refl, ap, arith}
 use Rattle.lock_core.specs.declared.tally.Tally.{Tally}
 use Rattle.lock_core.specs.declared.view.Held.TheVariants.{Alone}
-use Rattle.rwsem_slow.specs.Opening.{IsOpen}
+use Rattle.rwsem_slow.specs.RwSemOpening.{IsOpen}
 use Rattle.rwsem_slow.proofs.Counting.{counts-behind}
 use Rattle.rwsem_slow.proofs.Opening.{takes-within}
 use Rattle.rwsem_slow.proofs.calls.RwSem.write_common.Goals as goal

@@ -2,8 +2,8 @@
 use Rattle.std.proofs.Common.{◌≡◌, ◌∙◌, ◌%◌, ◌+◌, ℕ, arith, ap, inl, inr, subst, sym}
 use Rattle.lock_core.specs.Layout.{length_place}
 use Rattle.lock_core.specs.Pasts.{FoundAtStep}
-use Rattle.seq_fault.specs.Ruled.{V, seq_at}
-use Rattle.seq_fault.specs.Steps.{Faults}
+use Rattle.seq_fault.specs.SeqRuled.{V, seq_at}
+use Rattle.seq_fault.specs.SeqSteps.{Faults}
 use Rattle.seq_fault.proofs.Faulting.{err-maps, ok-joins, faults-since, finds-before, found-longer, one-word-before, reads-at-one-word, steps-on, turned-on}
 use Rattle.seq_fault.proofs.faults.SeqSite+Areas.fault.Goals as goal
 

@@ -1,8 +1,8 @@
 -- Until a try is no race, the pass knows what it knew.
 use Rattle.std.proofs.Common.{◌≡◌}
-use Rattle.lock_core.specs.Passes.{Sits}
+use Rattle.lock_core.specs.SitePasses.{Sits}
 use Rattle.lock_core.specs.Pasts.{GoesOn}
-use Rattle.seq_fault.specs.Steps.{StepsOn}
+use Rattle.seq_fault.specs.SeqSteps.{StepsOn}
 use Rattle.seq_fault.proofs.faults.SeqSite+Areas.fault_wait.Given as goal
 
 abbrev pub invariant-loop : goal.invariant-loop

@@ -1,10 +1,10 @@
 -- What the rule says of each moment and of each step.
 use Rattle.lock_core.specs.Pasts.{Moves}
 use Rattle.lock_core.specs.LockedLaws.{ran-steps}
-use Rattle.lock_core.specs.RunLaws.{ran-each, ran-so}
-use Rattle.lock_core.specs.Stated.{IsSiteMove}
-use Rattle.seq_fault.specs.Ruled.{SeqKept, SeqMoves, newest, seq_at, unmarked}
-use Rattle.seq_fault.specs.Stated.{IsSeqSiteThen}
+use Rattle.lock_core.specs.SiteRunLaws.{ran-each, ran-so}
+use Rattle.lock_core.specs.SiteStated.{IsSiteMove}
+use Rattle.seq_fault.specs.SeqRuled.{SeqKept, SeqMoves, newest, seq_at, unmarked}
+use Rattle.seq_fault.specs.SeqStated.{IsSeqSiteThen}
 use Rattle.seq_fault.proofs.Stating.{rule-states, counts-enters, stays-at-one-word}
 use Rattle.seq_fault.proofs.site.SeqSite.recall.Goals as goal
 

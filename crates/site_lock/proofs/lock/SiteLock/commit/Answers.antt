@@ -1,5 +1,5 @@
 use Rattle.std.proofs.Common.{◌∙◌, ap, subst, sym, arith, rules}
-use Rattle.lock_core.specs.Handles.{view_of, IsLatest}
+use Rattle.lock_core.specs.SiteHandles.{view_of, IsLatest}
 use Rattle.lock_core.specs.Views.{committed, next_entry}
 use Rattle.site_lock.proofs.Facing.{goes-on, has-since}
 use Rattle.site_lock.proofs.lock.SiteLock.commit.Goals as goal

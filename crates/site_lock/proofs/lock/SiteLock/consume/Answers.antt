@@ -1,6 +1,6 @@
 use Rattle.std.proofs.Common.{subst, sym, rules}
 use Rattle.std.specs.Prelude.{IfNone}
-use Rattle.lock_core.specs.Handles.{IsLatest, SawNonePending}
+use Rattle.lock_core.specs.SiteHandles.{IsLatest, SawNonePending}
 use Rattle.site_lock.proofs.Facing.{goes-on, heard}
 use Rattle.site_lock.proofs.lock.SiteLock.consume.Goals as goal
 

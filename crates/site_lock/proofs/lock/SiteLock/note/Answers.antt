@@ -1,5 +1,5 @@
 use Rattle.std.proofs.Common.{◌∙◌, ap, subst, sym, rules}
-use Rattle.lock_core.specs.Handles.{view_of, IsLatest}
+use Rattle.lock_core.specs.SiteHandles.{view_of, IsLatest}
 use Rattle.lock_core.specs.Views.{next_entry, note_steps, noted}
 use Rattle.site_lock.proofs.Facing.{goes-on, has-since, note-moves}
 use Rattle.site_lock.proofs.lock.SiteLock.note.Goals as goal

@@ -1,5 +1,5 @@
 use Rattle.std.proofs.Common.{◌∙◌, ap, subst, sym, rules}
-use Rattle.lock_core.specs.Handles.{view_of, IsLatest}
+use Rattle.lock_core.specs.SiteHandles.{view_of, IsLatest}
 use Rattle.site_lock.proofs.Facing.{goes-on, found-at, has}
 use Rattle.site_lock.proofs.lock.SiteLock.word.Goals as goal
 

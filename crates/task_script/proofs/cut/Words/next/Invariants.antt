@@ -1,7 +1,7 @@
 use Rattle.std.proofs.Common.{◌≡◌, ◌+◌, not, filter, length}
 use Rattle.std.specs.Option.{option_map_or}
 use Rattle.task_script.specs.Cuts.{is_blank, is_empty}
-use Rattle.task_script.specs.Parts.{IsPlainLeft, parts_of}
+use Rattle.task_script.specs.LineParts.{IsPlainLeft, parts_of}
 use Rattle.task_script.proofs.cut.Words.next.Given as goal
 
 abbrev pub invariant-loop-self : goal.invariant-loop-self

@@ -3,7 +3,7 @@ use Rattle.std.proofs.lemmas.Grind.{common_steps}
 use Rattle.task_script.specs.Cuts.{is_empty}
 use Rattle.task_script.specs.Tokens.{is_name}
 use Rattle.task_script.specs.declared.draft.LineError.TheVariants.{Refused}
-use Rattle.task_script.specs.Parts.{all_words}
+use Rattle.task_script.specs.LineParts.{all_words}
 use Rattle.task_script.specs.Grammar.{call_line, place_of}
 use Rattle.task_script.specs.Readings.{Becomes}
 use Rattle.task_script.proofs.Verbs.{line_called, line_unknown}

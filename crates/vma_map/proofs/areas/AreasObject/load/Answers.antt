@@ -2,7 +2,7 @@
 use Rattle.std.proofs.Common.{ap, ◌∙◌}
 use Rattle.word_bits.specs.PageMaps.{runs}
 use Rattle.vma_map.specs.Runs.{words_of_areas}
-use Rattle.vma_map.specs.RunLaws.{runs-page_map}
+use Rattle.vma_map.specs.PageRunLaws.{runs-page_map}
 use Rattle.vma_map.specs.SpaceLaws.{IsPageMap-page_map, IsSpace-runs}
 use Rattle.vma_map.proofs.areas.AreasObject.load.Goals as goal
 

@@ -2,7 +2,7 @@
 use Rattle.std.proofs.Common.{sym, ap, ◌∙◌, subst}
 use Rattle.word_bits.specs.PageMaps.{IsPageMap, runs}
 use Rattle.vma_map.specs.Runs.{page_map, words_of_areas}
-use Rattle.vma_map.specs.RunLaws.{runs-page_map}
+use Rattle.vma_map.specs.PageRunLaws.{runs-page_map}
 use Rattle.vma_map.specs.SpaceLaws.{IsPageMap-page_map}
 use Rattle.vma_map.proofs.areas.AreasObject.store.Goals as goal
 

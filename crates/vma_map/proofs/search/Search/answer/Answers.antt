@@ -3,7 +3,7 @@ use Rattle.std.proofs.Common.{◌≤◌, ◌<◌, drop, Some, refl, sym, ap, sub
 use Rattle.std.specs.List.{AllByRecursion}
 use Rattle.word_bits.specs.declared.area.Area.{Area}
 use Rattle.word_bits.specs.PageMaps.{PageMap, runs}
-use Rattle.vma_map.specs.RunLaws.{page_map-runs}
+use Rattle.vma_map.specs.PageRunLaws.{page_map-runs}
 use Rattle.vma_map.specs.SpaceLaws.{IsSpace-runs}
 use Rattle.vma_map.specs.Spaces.{IsRunAt, stores}
 use Rattle.vma_map.proofs.Ascending.{last-packs, none-behind, run-found, run-none}
