@@ -3,7 +3,7 @@ ghost use Rattle.std.specs.Prelude.{◌≡◌};
 ghost use Rattle.word_bits.specs.Packed.{IsFound};
 ghost use Rattle.fd_table.specs.Tables.{IsCallOf, call_of};
 
-use word_bits::CallWords;
+use word_bits::{CallKind, CallWords};
 
 /// A call on a table of descriptors. A descriptor past the last one isn't open.
 #[derive(Clone, Copy, Debug, PartialEq, Eq)]
@@ -30,14 +30,14 @@ impl TableCall {
             return None;
         }
         let first = words.first();
-        match (words.kind(), words.second()) {
-            (8, 0) => Some(TableCall::Open {
+        match (CallKind::of_number(words.kind())?, words.second()) {
+            (CallKind::Open, 0) => Some(TableCall::Open {
                 file: u16::try_from(first).ok()?,
             }),
-            (9, 0) => Some(TableCall::Close { fd: first }),
-            (10, 0) => Some(TableCall::Dup { fd: first }),
-            (11, to) => Some(TableCall::Dup2 { fd: first, to }),
-            (12, 0) => Some(TableCall::Get { fd: first }),
+            (CallKind::Close, 0) => Some(TableCall::Close { fd: first }),
+            (CallKind::Dup, 0) => Some(TableCall::Dup { fd: first }),
+            (CallKind::Dup2, to) => Some(TableCall::Dup2 { fd: first, to }),
+            (CallKind::Get, 0) => Some(TableCall::Get { fd: first }),
             _ => None,
         }
     }

@@ -1,9 +1,10 @@
 //! The calls on an address space.
 ghost use Rattle.std.specs.Prelude.{◌≡◌};
+ghost use Rattle.word_bits.specs.CallKinds.{kind_number};
 ghost use Rattle.word_bits.specs.Packed.{IsFound};
 ghost use Rattle.vma_map.specs.Spaces.{IsCallOf, call_in, call_of, call_with};
 
-use word_bits::CallWords;
+use word_bits::{CallKind, CallWords};
 
 /// A call on an address space. Pages are numbered from 0 to 1,048,575.
 #[derive(Clone, Copy, Debug, PartialEq, Eq)]
@@ -26,42 +27,47 @@ pub enum SpaceCall {
     Remap { start: u32, len: u32, to: u32 },
 }
 
-/// The call of a kind, from 1, with these numbers, protection and access. What it doesn't have must
-/// be 0.
-fn call_with(kind: u8, first: u32, second: u32, prot: u8, access: u8) -> Option<SpaceCall>
-    ensures { result ≡ call_with kind first second prot access }
+/// The call of a kind with these numbers, protection and access. What it doesn't have must be 0.
+fn call_with(kind: CallKind, first: u32, second: u32, prot: u8, access: u8) -> Option<SpaceCall>
+    ensures { result ≡ call_with (kind_number kind) first second prot access }
 {
     let (start, len) = (first, second);
     let has_prot = prot < 8 && access == 0;
     match kind {
-        1 if has_prot => Some(SpaceCall::Map { start, len, prot }),
-        2 if has_prot && second == 0 => Some(SpaceCall::MapAny { len: first, prot }),
-        3 if has_prot => Some(SpaceCall::MapNew { start, len, prot }),
-        4 if has_prot && prot == 0 => Some(SpaceCall::Unmap { start, len }),
-        5 if has_prot => Some(SpaceCall::Protect { start, len, prot }),
-        6 if has_prot => Some(SpaceCall::Populate { start, len, prot }),
-        7 if second == 0 && prot == 0 && matches!(access, 1 | 2 | 4) => Some(SpaceCall::Fault {
-            page: first,
-            access,
-        }),
+        CallKind::Map if has_prot => Some(SpaceCall::Map { start, len, prot }),
+        CallKind::MapAny if has_prot && second == 0 => Some(SpaceCall::MapAny { len: first, prot }),
+        CallKind::MapNew if has_prot => Some(SpaceCall::MapNew { start, len, prot }),
+        CallKind::Unmap if has_prot && prot == 0 => Some(SpaceCall::Unmap { start, len }),
+        CallKind::Protect if has_prot => Some(SpaceCall::Protect { start, len, prot }),
+        CallKind::Populate if has_prot => Some(SpaceCall::Populate { start, len, prot }),
+        CallKind::Fault if second == 0 && prot == 0 && matches!(access, 1 | 2 | 4) => Some(
+            SpaceCall::Fault {
+                page: first,
+                access,
+            },
+        ),
         _ => None,
     }
 }
 
-/// The kind of a remap, the one call with a third number.
-const REMAP: u8 = 13;
-
 /// The call of a kind with three numbers, of which only a remap has the third.
-fn call_in(kind: u8, first: u32, second: u32, third: u32, prot: u8, access: u8) -> Option<SpaceCall>
-    ensures { result ≡ call_in kind first second third prot access }
+fn call_in(
+    kind: CallKind,
+    first: u32,
+    second: u32,
+    third: u32,
+    prot: u8,
+    access: u8,
+) -> Option<SpaceCall>
+    ensures { result ≡ call_in (kind_number kind) first second third prot access }
 {
     match kind {
-        REMAP if prot == 0 && access == 0 => Some(SpaceCall::Remap {
+        CallKind::Remap if prot == 0 && access == 0 => Some(SpaceCall::Remap {
             start: first,
             len: second,
             to: third,
         }),
-        REMAP => None,
+        CallKind::Remap => None,
         _ if third == 0 => call_with(kind, first, second, prot, access),
         _ => None,
     }
@@ -77,7 +83,7 @@ impl SpaceCall {
             return None;
         }
         call_in(
-            words.kind(),
+            CallKind::of_number(words.kind())?,
             words.first(),
             words.second(),
             words.third(),

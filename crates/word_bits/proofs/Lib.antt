@@ -1,4 +1,6 @@
 pub mod Fields
+pub mod CallKinds
+pub mod CallParts
 pub mod Modes
 pub mod States
 pub mod Signals

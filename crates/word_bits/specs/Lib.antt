@@ -6,6 +6,7 @@ pub mod OwnerWord
 pub mod CountWord
 pub mod SpinWord
 pub mod RecWord
+pub mod CallKinds
 pub mod Calls
 pub mod LockWords
 pub mod Unavailables

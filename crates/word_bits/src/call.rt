@@ -5,6 +5,7 @@ ghost use Rattle.word_bits.specs.Calls.{access_in, first_in, kind_in, prot_in, s
 ghost use Rattle.word_bits.specs.Calls.{third_in, with_third};
 
 use crate::bits::field;
+use crate::kind::CallKind;
 
 /// How a call takes the lock of its object.
 #[derive(Clone, Copy, Debug, PartialEq, Eq)]
@@ -30,9 +31,6 @@ impl Mode {
         }
     }
 }
-
-/// The kind of a signal's words.
-const SIGNAL: u8 = 15;
 
 /// A call as two words. `a` has its first number, and its second one times 2^32. `b` has its kind
 /// in bits 0 to 7, the protection from bit 8 on, the access from bit 16 on, the mode from bit 24 on,
@@ -133,7 +131,7 @@ impl CallWords {
     pub fn signal(self) -> Option<u32>
         ensures { result ≡ signal_of self }
     {
-        if self.kind() != SIGNAL {
+        if self.kind() != CallKind::Signal.number() {
             return None;
         }
         Some(self.first())

@@ -7,6 +7,7 @@ mod bits;
 mod call;
 mod count;
 mod entry;
+mod kind;
 mod laws;
 mod logged;
 mod object;
@@ -20,6 +21,7 @@ pub use area::Area;
 pub use call::{CallWords, Mode};
 pub use count::Count;
 pub use entry::Entry;
+pub use kind::CallKind;
 pub use laws::{counted_is_closed, owned_names_task};
 pub use logged::is_logged;
 pub use object::Object;
@@ -31,3 +33,6 @@ pub use spin::{Spin, Tail};
 
 /// The largest number of tasks of a script. Task numbers are below it.
 pub const MAX_TASKS: u32 = 400;
+
+/// The largest number of calls of a plan.
+pub const MAX_CALLS: u32 = 131_072;

@@ -13,22 +13,22 @@ use Rattle.fd_table.proofs.call.TableCall.call_of.Goals as goal
 exact_as : (w : CallWords) (result : Option TableCall) → call_of w ≡ result → IsFound (IsCallOf w) result
 exact_as w result e = subst (IsFound (IsCallOf w)) e (call_of-exact w)
 
-pub returns-in_ok-ok-in-8-eq0-clause-exact : goal.returns-in_ok-ok-in-8-eq0-clause-exact
-returns-in_ok-ok-in-8-eq0-clause-exact c =
-    exact_as c.args.words (Some (Open c.in_ok-ok-in-8-eq0.field-0)) (grind (arith, common_steps))
+pub returns-in_ok-ok-in-Open-eq0-clause-exact : goal.returns-in_ok-ok-in-Open-eq0-clause-exact
+returns-in_ok-ok-in-Open-eq0-clause-exact c =
+    exact_as c.args.words (Some (Open c.in_ok-ok-in-Open-eq0.field-0)) (grind (arith, common_steps))
 
-pub returns-in-9-eq0-clause-exact : goal.returns-in-9-eq0-clause-exact
-returns-in-9-eq0-clause-exact c =
+pub returns-in-Close-eq0-clause-exact : goal.returns-in-Close-eq0-clause-exact
+returns-in-Close-eq0-clause-exact c =
     exact_as c.args.words (Some (Close c.first-first.result)) (grind (arith, common_steps))
 
-pub returns-in-10-eq0-clause-exact : goal.returns-in-10-eq0-clause-exact
-returns-in-10-eq0-clause-exact c =
+pub returns-in-Dup-eq0-clause-exact : goal.returns-in-Dup-eq0-clause-exact
+returns-in-Dup-eq0-clause-exact c =
     exact_as c.args.words (Some (Dup c.first-first.result)) (grind (arith, common_steps))
 
-pub returns-in-11-default-clause-exact : goal.returns-in-11-default-clause-exact
-returns-in-11-default-clause-exact c =
+pub returns-in-Dup2-default-clause-exact : goal.returns-in-Dup2-default-clause-exact
+returns-in-Dup2-default-clause-exact c =
     exact_as c.args.words (Some (Dup2 c.first-first.result c.second.result)) (grind (arith, common_steps))
 
-pub returns-in-12-eq0-clause-exact : goal.returns-in-12-eq0-clause-exact
-returns-in-12-eq0-clause-exact c =
+pub returns-in-Get-eq0-clause-exact : goal.returns-in-Get-eq0-clause-exact
+returns-in-Get-eq0-clause-exact c =
     exact_as c.args.words (Some (Get c.first-first.result)) (grind (arith, common_steps))
