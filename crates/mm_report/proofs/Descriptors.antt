@@ -1,6 +1,6 @@
 -- The lines of a table's descriptors.
 use Rattle.std.proofs.Common.{◌≡◌, ◌<◌, ◌≤◌, ℕ, ◌+◌, zero, suc, List, [], ◌++◌, refl, arith, Option, subst}
-use Rattle.task_script.specs.Causes.{Fronts, IsOnItsWay}
+use Rattle.byte_streams.specs.Causes.{Fronts, IsOnItsWay}
 use Rattle.fd_table.specs.Tables.{FdMap}
 use Rattle.mm_report.specs.Text.{descriptor_text, descriptors_text}
 use Rattle.mm_report.proofs.Remaining.{Remains, remains_added, remains_failed, remains_none}

@@ -4,9 +4,11 @@ use Rattle.std.specs.Prelude.{decimal, flat_map}
 use Rattle.std.specs.Str.{bytes_eq}
 use Rattle.std.proofs.lemmas.Bool.Decides.{nat_tests}
 use Rattle.word_bits.proofs.Modes.{mode_number-lt}
+use Rattle.word_bits.proofs.CallParts.{unthirded}
 use Rattle.word_bits.specs.declared.call.CallWords.{CallWords}
 use Rattle.word_bits.specs.declared.call.Mode.{Mode}
 use Rattle.word_bits.specs.declared.call.Mode.TheVariants.{Plain, Int, Try}
+use Rattle.word_bits.specs.CallKinds.{kind_of_number}
 use Rattle.word_bits.specs.Calls.{words_of, with_third, mode_number, signal_of}
 use Rattle.vma_map.specs.Spaces.{IsAccess}
 use Rattle.vma_map.specs.SpaceCallLaws as space_laws
@@ -18,7 +20,7 @@ use Rattle.task_script.specs.Verbs.{call_on}
 use Rattle.task_script.specs.declared.version.Version.{Version}
 use Rattle.task_script.specs.declared.version.Version.TheVariants.{One, Two}
 use Rattle.task_script.specs.Versions.{most_tasks}
-use Rattle.task_script.specs.Texts.{prot_text, access_text, bare_text, verb_of_kind}
+use Rattle.task_script.specs.Texts.{prot_text, access_text, bare_text}
 use Rattle.task_script.proofs.Decimals.{number-decimal}
 use Rattle.task_script.proofs.Inner.{BeginsWithDigit, decimal_begins}
 use Rattle.mm_report.specs.Meanings.{IsKeptAs, SpaceCallsAreNamed, TableCallsAreNamed, SignalsAreNamed}
@@ -54,13 +56,9 @@ mode_numbered Plain = refl
 mode_numbered Int = refl
 mode_numbered Try = refl
 
--- words without a third number have 0 there
-unthirded : (w : CallWords) → w ≡ with_third w 0
-unthirded w = let b : w.b ≡ w.b + 0 * 2 ^ 32 = omega arith in λ i. record { a = w.a; b = b i }
-
 -- packed words are told by what they were packed from
 kept_as : (version : Version) (is_space : Bool) (mode : Mode) (name : List ℕ) (arguments : List (List ℕ)) (kind first second third p a : ℕ) → kind < 2 ^ 8 → first < 2 ^ 32 → p < 2 ^ 8 → a < 2 ^ 8
-    → call_on version is_space mode name arguments ≡ Ok (with_third (words_of kind first second p a (mode_number mode)) third) → bare_text (record { first = first; second = second; third = third; prot = p; access = a }) (verb_of_kind kind) ≡ name ++ flat_map (λ word. 32 ∷ word) arguments
+    → call_on version is_space mode name arguments ≡ Ok (with_third (words_of kind first second p a (mode_number mode)) third) → bare_text (record { first = first; second = second; third = third; prot = p; access = a }) (kind_of_number kind) ≡ name ++ flat_map (λ word. 32 ∷ word) arguments
     → IsKeptAs version is_space mode name arguments (with_third (words_of kind first second p a (mode_number mode)) third)
 kept_as version is_space mode name arguments kind first second third p a k f p8 a8 read told =
     let w = with_third (words_of kind first second p a (mode_number mode)) third in
@@ -74,7 +72,7 @@ kept_as version is_space mode name arguments kind first second third p a k f p8 
     let accesses : w.b / 2 ^ 16 % 2 ^ 8 ≡ a = omega (arith, k, p8, a8, mode3) in record {
       read = read;
       moded = rw high (mode_numbered mode);
-      told = (λ i. bare_text (record { first = one i; second = two i; third = three i; prot = bits i; access = accesses i }) (verb_of_kind (low i))) ∙ told;
+      told = (λ i. bare_text (record { first = one i; second = two i; third = three i; prot = bits i; access = accesses i }) (kind_of_number (low i))) ∙ told;
     }
 
 pub space_calls_are_named : SpaceCallsAreNamed

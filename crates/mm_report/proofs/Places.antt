@@ -2,7 +2,7 @@
 use Rattle.std.proofs.Common.{◌≡◌, ℕ, ◌+◌, ◌<◌, Bool, true, false, cond, zero, suc, List, [], ◌∷◌, ◌++◌, length, take, map, ◌-◌, refl, sym, ap, ◌∙◌, add-zero, zero-add, nat_eq, arith, Some, subst}
 use Rattle.std.specs.Prelude.{slice_get, filter, count_by}
 use Rattle.std.proofs.lemmas.Option.{same_Some, slice_get-map, slice_get_within}
-use Rattle.std.proofs.lemmas.List.Sums.{sum_by-cons, length-filter}
+use Rattle.std.proofs.lemmas.List.Sums.{length-filter}
 use Rattle.std.proofs.lemmas.Bool.Decides.{nat_tests}
 use Rattle.word_bits.specs.declared.call.CallWords.{CallWords}
 use Rattle.word_bits.specs.declared.rec.Rec.{Rec}
@@ -10,14 +10,11 @@ use Rattle.word_bits.specs.Histories.{task_events}
 use Rattle.task_script.specs.declared.script.Line.{Line}
 use Rattle.task_script.specs.Scripts.{call_words, is_on}
 use Rattle.word_bits.specs.RecWord.{IsRec, rec_word}
-use Rattle.task_script.proofs.Pieces.{mapped_at}
+use Rattle.word_bits.proofs.EventCounts.{count_cons}
+use Rattle.task_script.proofs.Mapped.{mapped_at}
 use Rattle.mm_report.specs.Text.{number_of}
 use Rattle.mm_report.specs.Cursors.{HasRecords, calls_before, events_of}
-use Rattle.task_script.proofs.Pieces.{at_place}
-
--- what one more element in front counts
-pub count_cons : {X : Type 0} (p : X → Bool) (x : X) (xs : List X) → count_by p (x ∷ xs) ≡ cond (p x) 1 0 + count_by p xs
-count_cons p x xs = sum_by-cons (λ y. cond (p y) 1 0) x xs
+use Rattle.task_script.proofs.Mapped.{at_place}
 
 -- one more element in front, kept or dropped, moves a place
 filter_step : {X : Type 0} (y x : X) (b : Bool) (n : ℕ) (fs : List X) → slice_get fs n ≡ Some x → slice_get (cond b (y ∷ fs) fs) (cond b 1 0 + n) ≡ Some x

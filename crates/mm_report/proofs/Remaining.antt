@@ -1,8 +1,8 @@
 -- A text that is added piece by piece, of which the rest is known.
 use Rattle.std.proofs.Common.{◌≡◌, ℕ, List, [], ◌++◌, refl, sym, ◌∙◌, append_assoc, append-nil, subst, Option, Ok, Err}
 use Rattle.std.proofs.KnownBytes.{Appends-nil}
-use Rattle.task_script.specs.Causes.{Fronts, IsOnItsWay}
-use Rattle.task_script.proofs.Pieces.{adds_then, fronts_more}
+use Rattle.byte_streams.specs.Causes.{Fronts, IsOnItsWay}
+use Rattle.byte_streams.proofs.Pieces.{adds_then, fronts_more}
 
 -- of a text some is on its way, and this is left
 pub record Remains (old new : Option (List ℕ)) (before now left all : List ℕ) : Type 0 where

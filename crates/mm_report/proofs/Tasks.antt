@@ -15,9 +15,9 @@ use Rattle.word_bits.specs.RecWord.{IsRec, rec_word}
 use Rattle.word_bits.specs.Objects.{Obj}
 use Rattle.word_bits.specs.Histories.{Plan, Records, Event, task_events}
 use Rattle.task_script.specs.declared.script.Line.{Line}
-use Rattle.task_script.specs.Causes.{Fronts, IsOnItsWay}
+use Rattle.byte_streams.specs.Causes.{Fronts, IsOnItsWay}
 use Rattle.task_script.specs.Scripts.{Listing, call_words, is_on, plan_of}
-use Rattle.task_script.proofs.Pieces.{flat_map_split}
+use Rattle.byte_streams.proofs.Pieces.{flat_map_split}
 use Rattle.mm_report.specs.declared.cursor.Cursor.{Cursor}
 use Rattle.mm_report.specs.Text.{event_text}
 use Rattle.mm_report.specs.Merged.{front, behind, merged, task_lists, NextFrom}

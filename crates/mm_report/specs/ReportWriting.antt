@@ -6,7 +6,7 @@ use Rattle.word_bits.specs.Snapshots.{Words}
 use Rattle.word_bits.specs.Histories.{Records, Event}
 use Rattle.word_bits.specs.Legal.{Tells}
 use Rattle.task_script.specs.declared.script.Line.{Line}
-use Rattle.task_script.specs.Causes.{Adds, Puts}
+use Rattle.byte_streams.specs.Causes.{Adds, Puts}
 use Rattle.task_script.specs.Scripts.{Declared, Listing, plan_of}
 use Rattle.mm_report.specs.declared.cursor.Cursor.{Cursor}
 use Rattle.mm_report.specs.Cursors.{HasRecords, AreRead, IsAt, AreAt, first_record}

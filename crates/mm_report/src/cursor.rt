@@ -4,7 +4,8 @@ ghost use Rattle.mm_report.specs.Results.{calls_on};
 ghost use Rattle.mm_report.specs.Cursors.{earliest, IsOneBelow, StandFirst};
 
 use crate::results::count_on;
-use task_script::{MOST_TASKS, Script};
+use task_script::Script;
+use word_bits::MAX_TASKS;
 
 /// How far a task's calls on one object are told.
 #[derive(Clone, Copy)]
@@ -37,13 +38,13 @@ pub(crate) fn first_cursors(
     script: &Script,
     object: u32,
     recs: &[u64],
-) -> [Cursor; MOST_TASKS as usize]
+) -> [Cursor; MAX_TASKS as usize]
     requires complete { length recs.now ≡ calls_on script.now object }
     ensures all { length result ≡ 400 }
     ensures room { length script.now.tasks ≤ 400 }
     ensures starts { StandFirst script.now object result }
 {
-    let mut cursors = [START; MOST_TASKS as usize];
+    let mut cursors = [START; MAX_TASKS as usize];
     let mut rec = 0;
     for task in 0..script.tasks() {
         cursors[task].rec = rec;

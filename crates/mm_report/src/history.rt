@@ -6,16 +6,16 @@
 ghost use Rattle.std.specs.Prelude.{◌≡◌, ◌<◌, ◌≤◌, length, slice_get, Some, IsSome};
 ghost use Rattle.word_bits.specs.declared.rec.Rec.{Rec};
 ghost use Rattle.word_bits.specs.RecWord.{IsRec, rec_word};
-ghost use Rattle.task_script.specs.Causes.{CountsFailure, Adds};
+ghost use Rattle.byte_streams.specs.Causes.{CountsFailure, Adds};
 ghost use Rattle.mm_report.specs.Results.{calls_on};
 ghost use Rattle.mm_report.specs.Text.{event_line};
 ghost use Rattle.mm_report.specs.Merged.{position as where_it_stands};
-ghost use Rattle.mm_report.specs.ReportWriting.{WritesCalls, WritesTask, WritesTasks, WritesHistory};
-ghost use Rattle.mm_report.specs.ReportWriting.{PassesCalls, PassesTask, PassesTasks};
+ghost use Rattle.mm_report.specs.ReportWriting.{WritesCalls, WritesTask, WritesTasks, WritesHistory, PassesCalls, PassesTask, PassesTasks};
 
 use crate::cursor::{Cursor, first_cursors, next_bound};
 use crate::line::add_event;
-use task_script::{Failed, Line, Outbox, Script, Sink};
+use byte_streams::{Failed, Outbox, Sink};
+use task_script::{Line, Script};
 use word_bits::{CallWords, Object, Rec, Reply, Snapshot, is_logged};
 
 // Where a call stands: in front of an entry of the log, or as that entry.

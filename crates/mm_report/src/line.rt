@@ -1,11 +1,11 @@
 //! The pieces of the text's lines.
 ghost use Rattle.std.specs.Prelude.{◌≡◌, ◌+◌, ◌≤◌, ◌++◌, length, Some};
-ghost use Rattle.mm_report.specs.Text.{area_text, descriptor_text, errno_text, event_line};
+ghost use Rattle.mm_report.specs.Text.{area_text, descriptor_text, errno_text, event_line, left_text, reply_text};
 ghost use Rattle.mm_report.specs.Summary.{counts_text};
-ghost use Rattle.mm_report.specs.Text.{left_text, reply_text};
 
 use crate::summary::Counts;
-use task_script::Outbox;
+use byte_streams::Outbox;
+use task_script::{add_call, add_prot};
 use word_bits::{Area, CallWords, Errno, Reply};
 
 fn errno_name(errno: Errno) -> &'static [u8]
@@ -51,7 +51,7 @@ pub(crate) fn add_event(out: &mut Outbox, task: u32, number: usize, words: CallW
     out.add(b".");
     out.add_number(number as u64);
     out.add(b" ");
-    out.add_call(words);
+    add_call(out, words);
     out.add(b" = ");
     add_reply(out, reply);
     out.add(b"\n");
@@ -66,7 +66,7 @@ pub(crate) fn add_area(out: &mut Outbox, area: Area)
     out.add(b"-");
     out.add_number(u64::from(area.end));
     out.add(b" ");
-    out.add_prot(area.prot);
+    add_prot(out, area.prot);
     out.add(b"\n");
 }
 

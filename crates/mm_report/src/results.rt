@@ -1,6 +1,5 @@
 //! What each object of a script leaves.
-ghost use Rattle.std.specs.Prelude.{◌≡◌, ◌<◌, ◌≤◌, length, slice_get, Some, IfOk};
-ghost use Rattle.std.specs.Prelude.{ℕ, List, OnOk, count_by, get_or};
+ghost use Rattle.std.specs.Prelude.{◌≡◌, ◌<◌, ◌≤◌, length, slice_get, Some, IfOk, ℕ, List, OnOk, count_by, get_or};
 ghost use Rattle.task_script.specs.Scripts.{is_on};
 ghost use Rattle.task_script.specs.declared.script.Line.{Line};
 ghost use Rattle.mm_report.specs.Results.{AddsCalls, empty_results, calls_on, words_of_kind};
@@ -10,7 +9,7 @@ ghost use Rattle.mm_report.specs.ResultsLending.{LendsSnapshot};
 use fd_table::Fds;
 use std::alloc::{AllocError, Global};
 use std::marker::Model;
-use task_script::{Line, MOST_OBJECTS, Script};
+use task_script::{Line, MAX_OBJECTS, Script};
 use vma_map::Areas;
 use word_bits::{Object, Snapshot};
 
@@ -45,7 +44,7 @@ pub(crate) fn state_words(is_space: bool) -> usize
 fn count_task(
     script: &Script,
     task: usize,
-    counts: &mut [usize; MOST_OBJECTS],
+    counts: &mut [usize; MAX_OBJECTS],
 ) -> Result<(), AllocError>
     requires task { task < length script.now.tasks }
     requires few { length script.now.objects ≤ 32 }
@@ -60,12 +59,12 @@ fn count_task(
 }
 
 /// How many calls of the script are on each object.
-pub(crate) fn count_calls(script: &Script) -> Result<[usize; MOST_OBJECTS], AllocError>
+pub(crate) fn count_calls(script: &Script) -> Result<[usize; MAX_OBJECTS], AllocError>
     requires { length script.now.objects ≤ 32 }
     ensures { IfOk result (λ counts. (object : ℕ) → object < 32 →
         get_or counts object 0 ≡ calls_on script.now object) }
 {
-    let mut counts = [0; MOST_OBJECTS];
+    let mut counts = [0; MAX_OBJECTS];
     for task in 0..script.tasks() {
         count_task(script, task, &mut counts)?;
     }

@@ -3,12 +3,12 @@ ghost use Rattle.std.specs.Prelude.{◌≡◌, ◌++◌, length, flat_map};
 ghost use Rattle.word_bits.specs.PageMaps.{PageMap, IsPageMap};
 ghost use Rattle.vma_map.specs.Spaces.{stores as stores_space};
 ghost use Rattle.fd_table.specs.Tables.{FdMap, IsFdMap, fd_map, stores};
-ghost use Rattle.task_script.specs.Causes.{CountsFailure, Adds};
+ghost use Rattle.byte_streams.specs.Causes.{CountsFailure, Adds};
 ghost use Rattle.mm_report.specs.Text.{area_text, descriptor_text, descriptors_text, left_text, space_text, table_text};
 
 use crate::line::{add_area, add_descriptor, add_left};
+use byte_streams::{Failed, Outbox, Sink};
 use fd_table::{DESCRIPTORS, Fds};
-use task_script::{Failed, Outbox, Sink};
 use vma_map::Areas;
 use word_bits::{Area, Object};
 

@@ -6,15 +6,16 @@ ghost use Rattle.word_bits.specs.Histories.{Plan};
 ghost use Rattle.word_bits.specs.Legal.{Tells};
 ghost use Rattle.word_bits.specs.RecWord.{IsRec, rec_word};
 ghost use Rattle.fd_table.specs.Tables.{FdMap, IsFdMap, stores, used_from};
-ghost use Rattle.task_script.specs.Causes.{CountsFailure};
+ghost use Rattle.byte_streams.specs.Causes.{CountsFailure};
 ghost use Rattle.mm_report.specs.Results.{Told, IsLegalOn};
 ghost use Rattle.mm_report.specs.Reports.{object_report};
 ghost use Rattle.mm_report.specs.Summary.{counts_of, is_refused};
 ghost use Rattle.mm_report.specs.ReportWriting.{WritesObject};
 
 use crate::line::add_summary;
+use byte_streams::{Failed, Outbox, Sink};
 use fd_table::Fds;
-use task_script::{Failed, Outbox, Script, Sink};
+use task_script::Script;
 use word_bits::{Object, Rec, Reply, Snapshot};
 
 /// The numbers of an object's history and of the state that it leaves.

@@ -1,6 +1,6 @@
 //! The report of a script's objects: of each its calls and what it is left in, or its numbers.
 ghost use Rattle.std.specs.Prelude.{◌≡◌, ◌<◌, length};
-ghost use Rattle.task_script.specs.Causes.{CountsFailure};
+ghost use Rattle.byte_streams.specs.Causes.{CountsFailure};
 ghost use Rattle.mm_report.specs.Results.{AreComplete, calls_on};
 ghost use Rattle.mm_report.specs.Reports.{object_report};
 ghost use Rattle.mm_report.specs.Text.{told_text};
@@ -10,8 +10,9 @@ use crate::history::write_history;
 use crate::results::Results;
 use crate::state::{write_space, write_table};
 use crate::summary::write_summary;
+use byte_streams::{Failed, Outbox, Sink};
 use fd_table::Fds;
-use task_script::{Failed, Outbox, Script, Sink, write_declaration};
+use task_script::{Script, write_declaration};
 use vma_map::Areas;
 use word_bits::Snapshot;
 

@@ -8,11 +8,11 @@ use Rattle.std.proofs.lemmas.Bool.Decides.{nat_tests}
 use Rattle.std.proofs.lemmas.Option.{same_Some}
 use Rattle.word_bits.specs.declared.call.CallWords.{CallWords}
 use Rattle.word_bits.specs.declared.call.Mode.{Mode}
+use Rattle.word_bits.specs.declared.kind.CallKind.{CallKind}
+use Rattle.word_bits.specs.declared.kind.CallKind.TheVariants.{Map, MapAny, MapNew, Unmap, Protect, Populate, Fault, Open, Close, Dup, Dup2, Get, Remap, Signal}
 use Rattle.task_script.specs.declared.reason.Reason.{Reason}
 use Rattle.task_script.specs.declared.reason.Reason.TheVariants.{Words, Call, Mode as NoMode, Number, Limit, Prot, Access}
 use Rattle.task_script.specs.declared.version.Version.{Version}
-use Rattle.task_script.specs.declared.verb.Verb.{Verb}
-use Rattle.task_script.specs.declared.verb.Verb.TheVariants.{Map, MapAny, MapNew, Unmap, Protect, Populate, Fault, Open, Close, Dup, Dup2, Get, Remap, Signal}
 use Rattle.task_script.specs.declared.verb.Argument.{Argument}
 use Rattle.task_script.specs.declared.verb.Argument.TheVariants.{First, Second, Third, File, Target, Protection, AccessBit}
 use Rattle.task_script.specs.declared.verb.Values.{Values}
@@ -196,7 +196,7 @@ ranged_target version u s =
     let is : u ≡ record { first = first.0; second = 0; third = 0; prot = 0; access = 0 } = cc (s.2, first.2) in
     rw is ((first.1, tt), refl)
 
-ranged : (version : Version) (verb : Verb) → Ranged version (arguments_of verb)
+ranged : (version : Version) (verb : CallKind) → Ranged version (arguments_of verb)
 ranged version Map = ranged_prot version
 ranged version MapAny = ranged_length version
 ranged version MapNew = ranged_prot version
@@ -241,7 +241,7 @@ call_with_is version is_space mode c w known is =
     counts m n is = grind (arith, nat_tests)
 
 -- a verb of a kind of object is on it, and has at least three letters
-abbrev IsVerbOf : Version → Bool → List ℕ → Verb → Type 0
+abbrev IsVerbOf : Version → Bool → List ℕ → CallKind → Type 0
 IsVerbOf version is_space w verb = (is_on_kind version is_space verb ≡ true) × (3 ≤ length w)
 
 pub text_same : (w t : List ℕ) → bytes_eq w t ≡ true → w ≡ t
@@ -250,10 +250,10 @@ text_same w t same = (bytes_eq-Decides w t).0 same
 same_text : (w t : List ℕ) → bytes_eq w t ≡ true → 3 ≤ length t → 3 ≤ length w
 same_text w t same long = let e = text_same w t same in rw e long
 
-space_verb_is : (version : Version) (w : List ℕ) (verb : Verb) → space_verb version w ≡ Some verb → IsVerbOf version true w verb
+space_verb_is : (version : Version) (w : List ℕ) (verb : CallKind) → space_verb version w ≡ Some verb → IsVerbOf version true w verb
 space_verb_is version w verb is = go (bytes_eq w (codes "map")) (bytes_eq w (codes "mapnew")) (bytes_eq w (codes "unmap")) (bytes_eq w (codes "protect")) (bytes_eq w (codes "populate")) (bytes_eq w (codes "fault")) (bytes_eq w (codes "remap")) (has_remap version) (bytes_eq w (codes "signal")) refl refl refl refl refl refl refl refl refl is
   where
-    made : (v : Verb) (t : List ℕ) → bytes_eq w t ≡ true → 3 ≤ length t → is_on_kind version true v ≡ true → Some v ≡ Some verb → IsVerbOf version true w verb
+    made : (v : CallKind) (t : List ℕ) → bytes_eq w t ≡ true → 3 ≤ length t → is_on_kind version true v ≡ true → Some v ≡ Some verb → IsVerbOf version true w verb
     made v t same long on e = let is : v ≡ verb = cc in (subst (λ u. is_on_kind version true u ≡ true) is on, same_text w t same long)
 
     -- a remap is told from a version on that has it
@@ -274,10 +274,10 @@ space_verb_is version w verb is = go (bytes_eq w (codes "map")) (bytes_eq w (cod
     go false false false false false true g h k pa pb pc pd pe pf pg ph pk is = made Fault (codes "fault") pf (omega arith) refl is
     go false false false false false false g h k pa pb pc pd pe pf pg ph pk is = last g h k pg ph pk is
 
-table_verb_is : (version : Version) (w : List ℕ) (verb : Verb) → table_verb w ≡ Some verb → IsVerbOf version false w verb
+table_verb_is : (version : Version) (w : List ℕ) (verb : CallKind) → table_verb w ≡ Some verb → IsVerbOf version false w verb
 table_verb_is version w verb is = go (bytes_eq w (codes "open")) (bytes_eq w (codes "close")) (bytes_eq w (codes "dup")) (bytes_eq w (codes "dup2")) (bytes_eq w (codes "get")) (bytes_eq w (codes "signal")) refl refl refl refl refl refl is
   where
-    made : (v : Verb) (t : List ℕ) → bytes_eq w t ≡ true → 3 ≤ length t → is_on_kind version false v ≡ true → Some v ≡ Some verb → IsVerbOf version false w verb
+    made : (v : CallKind) (t : List ℕ) → bytes_eq w t ≡ true → 3 ≤ length t → is_on_kind version false v ≡ true → Some v ≡ Some verb → IsVerbOf version false w verb
     made v t same long on e = let is : v ≡ verb = cc in (subst (λ u. is_on_kind version false u ≡ true) is on, same_text w t same long)
 
     go : (a b c d e f : Bool) → bytes_eq w (codes "open") ≡ a → bytes_eq w (codes "close") ≡ b → bytes_eq w (codes "dup") ≡ c → bytes_eq w (codes "dup2") ≡ d → bytes_eq w (codes "get") ≡ e → bytes_eq w (codes "signal") ≡ f
@@ -290,12 +290,12 @@ table_verb_is version w verb is = go (bytes_eq w (codes "open")) (bytes_eq w (co
     go false false false false false true pa pb pc pd pe pf is = made Signal (codes "signal") pf (omega arith) refl is
     go false false false false false false pa pb pc pd pe pf is = cc
 
-verb_is : (version : Version) (is_space : Bool) (w : List ℕ) (verb : Verb) → verb_of version is_space w ≡ Some verb → IsVerbOf version is_space w verb
+verb_is : (version : Version) (is_space : Bool) (w : List ℕ) (verb : CallKind) → verb_of version is_space w ≡ Some verb → IsVerbOf version is_space w verb
 verb_is version true w verb is = space_verb_is version w verb is
 verb_is version false w verb is = table_verb_is version w verb is
 
 -- map and any are on a space as map is
-with_any_on : (version : Version) (is_space : Bool) (verb : Verb) (ws : List (List ℕ)) → is_on_kind version is_space verb ≡ true → is_on_kind version is_space (with_any verb ws).verb ≡ true
+with_any_on : (version : Version) (is_space : Bool) (verb : CallKind) (ws : List (List ℕ)) → is_on_kind version is_space verb ≡ true → is_on_kind version is_space (with_any verb ws).verb ≡ true
 with_any_on version is_space Map [] on = on
 with_any_on version is_space Map (w ∷ ws) on = go (bytes_eq w (codes "any"))
   where
@@ -317,7 +317,7 @@ with_any_on version is_space Remap ws on = on
 with_any_on version is_space Signal ws on = on
 
 -- and leave at most as many words
-with_any_behind : (verb : Verb) (ws : List (List ℕ)) → length (with_any verb ws).behind ≤ length ws
+with_any_behind : (verb : CallKind) (ws : List (List ℕ)) → length (with_any verb ws).behind ≤ length ws
 with_any_behind Map [] = omega arith
 with_any_behind Map (w ∷ ws) = go (bytes_eq w (codes "any"))
   where
@@ -338,7 +338,7 @@ with_any_behind Get ws = omega arith
 with_any_behind Remap ws = omega arith
 with_any_behind Signal ws = omega arith
 
-some_argument : (verb : Verb) → 1 ≤ length (arguments_of verb)
+some_argument : (verb : CallKind) → 1 ≤ length (arguments_of verb)
 some_argument Map = omega arith
 some_argument MapAny = omega arith
 some_argument MapNew = omega arith

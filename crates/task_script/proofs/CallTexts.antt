@@ -10,21 +10,23 @@ use Rattle.std.proofs.lemmas.List.{length-map}
 use Rattle.word_bits.specs.declared.call.CallWords.{CallWords}
 use Rattle.word_bits.specs.declared.call.Mode.{Mode}
 use Rattle.word_bits.specs.declared.call.Mode.TheVariants.{Plain, Int, Try}
+use Rattle.word_bits.specs.declared.kind.CallKind.{CallKind}
+use Rattle.word_bits.specs.declared.kind.CallKind.TheVariants.{Map, MapAny, MapNew, Unmap, Protect, Populate, Fault, Open, Close, Dup, Dup2, Get, Remap, Signal}
+use Rattle.word_bits.specs.CallKinds.{kind_number, kind_of_number}
+use Rattle.word_bits.proofs.CallKinds.{kind_number-lt, kind_of_number-kind_number}
 use Rattle.word_bits.specs.Calls.{mode_of, mode_number}
 use Rattle.word_bits.proofs.Modes.{mode_number-lt}
 use Rattle.task_script.specs.declared.version.Version.{Version}
 use Rattle.task_script.specs.declared.version.Version.TheVariants.{One, Two}
-use Rattle.task_script.specs.declared.verb.Verb.{Verb}
-use Rattle.task_script.specs.declared.verb.Verb.TheVariants.{Map, MapAny, MapNew, Unmap, Protect, Populate, Fault, Open, Close, Dup, Dup2, Get, Remap, Signal}
 use Rattle.task_script.specs.declared.verb.Argument.{Argument}
 use Rattle.task_script.specs.declared.verb.Argument.TheVariants.{First, Second, Third, File, Target, Protection, AccessBit}
 use Rattle.task_script.specs.declared.verb.Values.{Values}
 use Rattle.task_script.specs.Cuts.{is_clean, words}
 use Rattle.task_script.specs.Tokens.{number, prot, access}
-use Rattle.task_script.specs.Verbs.{with_argument, with_arguments, arguments_of, no_values, is_on_kind, takes_mode, kind_of, verb_text, call_with, call_on, call_words_of}
+use Rattle.task_script.specs.Verbs.{with_argument, with_arguments, arguments_of, no_values, is_on_kind, takes_mode, verb_text, call_with, call_on, call_words_of}
 use Rattle.task_script.specs.Sound.{IsAccess, IsInRange, only, IsCall}
 use Rattle.task_script.specs.Versions.{most_tasks}
-use Rattle.task_script.specs.Texts.{prot_text, access_text, argument_text, arguments_text, verb_of_kind, values_of, verb_and_arguments}
+use Rattle.task_script.specs.Texts.{prot_text, access_text, argument_text, arguments_text, values_of, verb_and_arguments}
 use Rattle.task_script.proofs.Accepted.{text_same}
 use Rattle.task_script.proofs.Decimals.{number-decimal, digits-decimal, some-decimal}
 use Rattle.task_script.specs.Padding.{is_visible}
@@ -57,55 +59,23 @@ only_small version (Target ∷ arguments) v each = let rest = only_small version
 only_small version (Protection ∷ arguments) v each = let rest = only_small version arguments v each.1 in record { first = rest.first; second = rest.second; third = rest.third; prot = each.0; access = rest.access }
 only_small version (AccessBit ∷ arguments) v each = let rest = only_small version arguments v each.1 in record { first = rest.first; second = rest.second; third = rest.third; prot = rest.prot; access = access_small v.access each.0 }
 
-kind_small : (verb : Verb) → kind_of verb < 16
-kind_small Map = omega arith
-kind_small MapAny = omega arith
-kind_small MapNew = omega arith
-kind_small Unmap = omega arith
-kind_small Protect = omega arith
-kind_small Populate = omega arith
-kind_small Fault = omega arith
-kind_small Open = omega arith
-kind_small Close = omega arith
-kind_small Dup = omega arith
-kind_small Dup2 = omega arith
-kind_small Get = omega arith
-kind_small Remap = omega arith
-kind_small Signal = omega arith
-
-verb_of_kind-kind_of : (verb : Verb) → verb_of_kind (kind_of verb) ≡ Some verb
-verb_of_kind-kind_of Map = refl
-verb_of_kind-kind_of MapAny = refl
-verb_of_kind-kind_of MapNew = refl
-verb_of_kind-kind_of Unmap = refl
-verb_of_kind-kind_of Protect = refl
-verb_of_kind-kind_of Populate = refl
-verb_of_kind-kind_of Fault = refl
-verb_of_kind-kind_of Open = refl
-verb_of_kind-kind_of Close = refl
-verb_of_kind-kind_of Dup = refl
-verb_of_kind-kind_of Dup2 = refl
-verb_of_kind-kind_of Get = refl
-verb_of_kind-kind_of Remap = refl
-verb_of_kind-kind_of Signal = refl
-
 -- the fields of a call's words are read again
-fields : (verb : Verb) (mode : Mode) (v : Values) → AreSmall v → (verb_of_kind ((call_words_of verb mode v).b % 2 ^ 8) ≡ Some verb) × (values_of (call_words_of verb mode v) ≡ v)
+fields : (verb : CallKind) (mode : Mode) (v : Values) → AreSmall v → (kind_of_number ((call_words_of verb mode v).b % 2 ^ 8) ≡ Some verb) × (values_of (call_words_of verb mode v) ≡ v)
 fields verb mode v small =
-    let kind = kind_small verb in
+    let kind = kind_number-lt verb in
     let b = (call_words_of verb mode v).b in
     let modes = mode_number-lt mode in
-    let low : b % 2 ^ 8 ≡ kind_of verb = omega (arith, small.prot, small.access) in
+    let low : b % 2 ^ 8 ≡ kind_number verb = omega (arith, small.prot, small.access) in
     let third : b / 2 ^ 32 ≡ v.third = omega (arith, small.prot, small.access, modes) in
     let first : (call_words_of verb mode v).a % 2 ^ 32 ≡ v.first = omega (arith, small.first) in
     let second : (call_words_of verb mode v).a / 2 ^ 32 ≡ v.second = omega (arith, small.first, small.second) in
     let bits : b / 2 ^ 8 % 2 ^ 8 ≡ v.prot = omega (arith, small.prot, small.access) in
     let accesses : b / 2 ^ 16 % 2 ^ 8 ≡ v.access = omega (arith, small.prot, small.access) in
-    (ap verb_of_kind low ∙ verb_of_kind-kind_of verb, λ i. record { first = first i; second = second i; third = third i; prot = bits i; access = accesses i })
+    (ap kind_of_number low ∙ kind_of_number-kind_number verb, λ i. record { first = first i; second = second i; third = third i; prot = bits i; access = accesses i })
 
-pub mode_kept : (verb : Verb) (mode : Mode) (v : Values) → AreSmall v → mode_of (call_words_of verb mode v) ≡ mode
+pub mode_kept : (verb : CallKind) (mode : Mode) (v : Values) → AreSmall v → mode_of (call_words_of verb mode v) ≡ mode
 mode_kept verb mode v small =
-    let kind = kind_small verb in
+    let kind = kind_number-lt verb in
     let modes = mode_number-lt mode in
     let high : (call_words_of verb mode v).b / 2 ^ 24 % 2 ^ 8 ≡ mode_number mode = omega (arith, small.prot, small.access, modes) in
     rw high (numbered mode)
@@ -201,7 +171,7 @@ clean-arguments version [] v each = refl
 clean-arguments version (a ∷ arguments) v each = clean-append (argument_text v a) (arguments_text v arguments) (clean-visible (argument_text v a) (is_read version v a each.0).visible) (clean-arguments version arguments v each.1)
 
 -- what a verb's arguments say of values is all that is kept of them
-kept : (verb : Verb) (v : Values) → say_all (arguments_of verb) (only (arguments_of verb) v) no_values ≡ only (arguments_of verb) v
+kept : (verb : CallKind) (v : Values) → say_all (arguments_of verb) (only (arguments_of verb) v) no_values ≡ only (arguments_of verb) v
 kept Map v = refl
 kept MapAny v = refl
 kept MapNew v = refl
@@ -217,7 +187,7 @@ kept Get v = refl
 kept Remap v = refl
 kept Signal v = refl
 
-kept_ranged : (version : Version) (verb : Verb) (v : Values) → AllByRecursion (IsInRange version v) (arguments_of verb) → AllByRecursion (IsInRange version (only (arguments_of verb) v)) (arguments_of verb)
+kept_ranged : (version : Version) (verb : CallKind) (v : Values) → AllByRecursion (IsInRange version v) (arguments_of verb) → AllByRecursion (IsInRange version (only (arguments_of verb) v)) (arguments_of verb)
 kept_ranged version Map v each = each
 kept_ranged version MapAny v each = each
 kept_ranged version MapNew v each = each
@@ -242,13 +212,13 @@ not_any n fits = go (cases_Bool (bytes_eq (decimal n) (codes "any")))
     go (inr other) = other
 
 -- a verb's word and those behind it
-record IsBegun (version : Version) (is_space : Bool) (mode : Mode) (verb : Verb) (arguments : List (List ℕ)) : Type 0 where
+record IsBegun (version : Version) (is_space : Bool) (mode : Mode) (verb : CallKind) (arguments : List (List ℕ)) : Type 0 where
   word : List ℕ
   behind : List (List ℕ)
   words : words (verb_text verb) ++ arguments ≡ word ∷ behind
   is : call_on version is_space mode word behind ≡ call_with version mode (record { verb = verb; behind = arguments })
 
-begun : (version : Version) (is_space : Bool) (mode : Mode) (verb : Verb) (v : Values) → is_on_kind version is_space verb ≡ true → AllByRecursion (IsInRange version v) (arguments_of verb) → IsBegun version is_space mode verb (map (argument_text v) (arguments_of verb))
+begun : (version : Version) (is_space : Bool) (mode : Mode) (verb : CallKind) (v : Values) → is_on_kind version is_space verb ≡ true → AllByRecursion (IsInRange version v) (arguments_of verb) → IsBegun version is_space mode verb (map (argument_text v) (arguments_of verb))
 begun version true mode Map v on each = record { word = codes "map"; behind = map (argument_text v) (arguments_of Map); words = refl; is = rw (not_any v.first each.0) refl }
 begun version true mode MapAny v on each = record { word = codes "map"; behind = codes "any" ∷ map (argument_text v) (arguments_of MapAny); words = refl; is = refl }
 begun version true mode MapNew v on each = record { word = codes "mapnew"; behind = map (argument_text v) (arguments_of MapNew); words = refl; is = refl }
@@ -280,7 +250,7 @@ begun version false mode Fault v on each = cc
 begun version false mode Remap v on each = cc
 
 -- the call of a verb, from the words of its arguments
-call_with-text : (version : Version) (mode : Mode) (verb : Verb) (v : Values) → takes_mode verb mode ≡ true → AllByRecursion (IsInRange version v) (arguments_of verb)
+call_with-text : (version : Version) (mode : Mode) (verb : CallKind) (v : Values) → takes_mode verb mode ≡ true → AllByRecursion (IsInRange version v) (arguments_of verb)
     → call_with version mode (record { verb = verb; behind = map (argument_text (only (arguments_of verb) v)) (arguments_of verb) }) ≡ Ok (call_words_of verb mode (only (arguments_of verb) v))
 call_with-text version mode verb v moded each =
     let counted : (length (map (argument_text (only (arguments_of verb) v)) (arguments_of verb)) == length (arguments_of verb)) ≡ true = same_length (arguments_of verb) in
@@ -289,7 +259,7 @@ call_with-text version mode verb v moded each =
     same_length : (arguments : List Argument) → (length (map (argument_text (only (arguments_of verb) v)) arguments) == length arguments) ≡ true
     same_length arguments = rw length-map (grind (arith, nat_tests))
 
-verb_clean : (verb : Verb) → list_all is_clean (verb_text verb) ≡ true
+verb_clean : (verb : CallKind) → list_all is_clean (verb_text verb) ≡ true
 verb_clean Map = refl
 verb_clean MapAny = refl
 verb_clean MapNew = refl

@@ -5,7 +5,7 @@ use Rattle.std.specs.Char.{is_ascii_digit}
 use Rattle.std.specs.List.{list_all}
 use Rattle.std.proofs.lemmas.Bool.{ne_eqb}
 use Rattle.std.proofs.lemmas.Bool.Decides.{nat_tests}
-use Rattle.std.proofs.lemmas.Fmt.{decimal_by_steps, decimal_digit, decimal_step, decimal_nonempty, first_decimal}
+use Rattle.std.proofs.lemmas.Fmt.{decimal_by_steps, decimal_digit, decimal_nonempty, first_decimal}
 use Rattle.std.proofs.lemmas.List.Folds.{list_all-append}
 use Rattle.task_script.specs.Tokens.{value_after, leads_zero, number}
 
@@ -56,15 +56,3 @@ digits-decimal n fits = (written n (omega arith)).digits
 
 pub some-decimal : (n : ℕ) → n < 2 ^ 32 → 0 < length (decimal n)
 some-decimal n fits = decimal_nonempty n (omega arith)
-
--- the decimal of a number of few digits, one by one
-pub one_digit : (n : ℕ) → n < 10 → decimal n ≡ (48 + n % 10) ∷ []
-one_digit n small = let same : n % 10 ≡ n = omega arith in rw same (decimal_digit n small)
-
-pub two_digits : (n : ℕ) → 10 ≤ n → n < 100 → decimal n ≡ (48 + n / 10 % 10) ∷ (48 + n % 10) ∷ []
-two_digits n large small = decimal_step n large (omega arith) ∙ rw (one_digit (n / 10) (omega arith)) refl
-
-pub three_digits : (n : ℕ) → 100 ≤ n → n < 1000 → decimal n ≡ (48 + n / 100 % 10) ∷ (48 + n / 10 % 10) ∷ (48 + n % 10) ∷ []
-three_digits n large small =
-    let same : n / 10 / 10 ≡ n / 100 = omega arith in
-    decimal_step n (omega arith) (omega arith) ∙ rw (two_digits (n / 10) (omega arith) (omega arith), same) refl

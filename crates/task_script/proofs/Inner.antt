@@ -10,14 +10,15 @@ use Rattle.std.proofs.lemmas.List.Folds.{list_all-append}
 use Rattle.word_bits.specs.declared.call.CallWords.{CallWords}
 use Rattle.word_bits.specs.declared.call.Mode.{Mode}
 use Rattle.word_bits.specs.declared.call.Mode.TheVariants.{Plain, Int, Try}
+use Rattle.word_bits.specs.declared.kind.CallKind.{CallKind}
+use Rattle.word_bits.specs.declared.kind.CallKind.TheVariants.{Map, MapAny, MapNew, Unmap, Protect, Populate, Fault, Open, Close, Dup, Dup2, Get, Remap, Signal}
+use Rattle.word_bits.specs.CallKinds.{kind_of_number}
 use Rattle.word_bits.specs.Calls.{mode_of}
-use Rattle.task_script.specs.declared.verb.Verb.{Verb}
-use Rattle.task_script.specs.declared.verb.Verb.TheVariants.{Map, MapAny, MapNew, Unmap, Protect, Populate, Fault, Open, Close, Dup, Dup2, Get, Remap, Signal}
 use Rattle.task_script.specs.declared.verb.Argument.{Argument}
 use Rattle.task_script.specs.declared.verb.Argument.TheVariants.{First, Second, Third, File, Target, Protection, AccessBit}
 use Rattle.task_script.specs.declared.verb.Values.{Values}
 use Rattle.task_script.specs.Verbs.{verb_text, arguments_of}
-use Rattle.task_script.specs.Texts.{mode_text, letter, prot_text, access_text, verb_of_kind, values_of, argument_text, arguments_text, bare_text, call_text}
+use Rattle.task_script.specs.Texts.{mode_text, letter, prot_text, access_text, values_of, argument_text, arguments_text, bare_text, call_text}
 
 -- no line feed and no equals sign
 abbrev pub is_inner : ℕ → Bool
@@ -99,7 +100,7 @@ arguments_inner : (v : Values) (arguments : List Argument) → IsInner (argument
 arguments_inner v [] = refl
 arguments_inner v (a ∷ arguments) = inner_both (32 ∷ argument_text v a) (arguments_text v arguments) (argument_inner v a) (arguments_inner v arguments)
 
-verb_inner : (verb : Verb) → IsInner (verb_text verb)
+verb_inner : (verb : CallKind) → IsInner (verb_text verb)
 verb_inner Map = refl
 verb_inner MapAny = refl
 verb_inner MapNew = refl
@@ -115,7 +116,7 @@ verb_inner Get = refl
 verb_inner Remap = refl
 verb_inner Signal = refl
 
-bare_inner : (v : Values) (verb : Option Verb) → IsInner (bare_text v verb)
+bare_inner : (v : Values) (verb : Option CallKind) → IsInner (bare_text v verb)
 bare_inner v None = refl
 bare_inner v (Some verb) = inner_both (verb_text verb) (arguments_text v (arguments_of verb)) (verb_inner verb) (arguments_inner v (arguments_of verb))
 
@@ -125,4 +126,4 @@ mode_inner Int = refl
 mode_inner Try = refl
 
 pub call_inner : (w : CallWords) → IsInner (call_text w)
-call_inner w = inner_both (mode_text (mode_of w)) (bare_text (values_of w) (verb_of_kind (w.b % 256))) (mode_inner (mode_of w)) (bare_inner (values_of w) (verb_of_kind (w.b % 256)))
+call_inner w = inner_both (mode_text (mode_of w)) (bare_text (values_of w) (kind_of_number (w.b % 256))) (mode_inner (mode_of w)) (bare_inner (values_of w) (kind_of_number (w.b % 256)))

@@ -12,7 +12,6 @@ mod ReadingBack
 mod Soundness
 pub mod Splitting
 mod Verbs
-pub mod Ways
-pub mod Pieces
+pub mod Mapped
 pub mod Padding
 pub mod Inner

@@ -9,9 +9,9 @@ use Rattle.std.proofs.lemmas.List.FromFn.{length-map-range_with_len, map-range_w
 use Rattle.std.proofs.lemmas.List.Sums.{sum_by-cons}
 use Rattle.word_bits.specs.declared.call.CallWords.{CallWords}
 use Rattle.word_bits.specs.declared.call.Mode.TheVariants.{Plain}
+use Rattle.word_bits.specs.declared.kind.CallKind.TheVariants.{Map, Unmap, Protect, Fault}
 use Rattle.task_script.specs.declared.script.Line.{Line}
 use Rattle.task_script.specs.declared.version.Version.TheVariants.{One}
-use Rattle.task_script.specs.declared.verb.Verb.TheVariants.{Map, Unmap, Protect, Fault}
 use Rattle.task_script.specs.Generated.{generated, next_random, random_access, random_call, random_line, random_lines, random_task, randoms, the_space}
 use Rattle.task_script.specs.declared.script.Kind.{Kind}
 use Rattle.task_script.specs.Inside.{declared_of, listing}

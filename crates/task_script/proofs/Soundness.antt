@@ -3,6 +3,7 @@ use Rattle.std.proofs.Common.{◌≡◌, ℕ, ◌+◌, ◌<◌, Bool, true, fals
 use Rattle.std.specs.Prelude.{slice_get}
 use Rattle.std.specs.List.{AllByRecursion, list_all, position_or_len}
 use Rattle.std.specs.Str.{bytes_eq}
+use Rattle.std.proofs.lemmas.Bool.{not-false}
 use Rattle.std.proofs.lemmas.Bool.Decides.{nat_tests}
 use Rattle.word_bits.specs.declared.call.Mode.{Mode}
 use Rattle.word_bits.specs.declared.call.Mode.TheVariants.{Plain, Int, Try}
@@ -76,10 +77,6 @@ begun_by true b c is = cc
 begun_by false true c is = cc
 begun_by false false true is = cc
 
-not_some : (b : Bool) → not b ≡ false → b ≡ true
-not_some true is = refl
-not_some false is = cc
-
 -- a version leaves a sound script
 sound-version : (s t : Listing) (ws : List (List ℕ)) → version_line s ws ≡ Ok t → IsSound t
 sound-version s t [] is = cc
@@ -87,8 +84,8 @@ sound-version s t (word ∷ []) is =
     let second = unless_refused (not (bytes_eq word (codes "2"))) NoVersion _ t is in
     let first = unless_refused (is_begun s) Place _ t second.1 in
     let parts = begun_by (is_second s.version) (not (is_empty s.objects)) (not (is_empty s.tasks)) first.0 in
-    let objects = none_there s.objects (not_some (is_empty s.objects) parts.1) in
-    let tasks = none_there s.tasks (not_some (is_empty s.tasks) parts.2) in
+    let objects = none_there s.objects (not-false (is_empty s.objects) parts.1) in
+    let tasks = none_there s.tasks (not-false (is_empty s.tasks) parts.2) in
     let same : record s { version = Two } ≡ t = cc (first.1) in
     subst IsSound same (rw (objects, tasks) (record { few_objects = omega arith; few_tasks = omega arith; named = tt; calls = tt }))
 sound-version s t (word ∷ more ∷ others) is = cc

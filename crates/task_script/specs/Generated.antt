@@ -3,9 +3,9 @@ use Rattle.std.specs.Prelude.{ℕ, ◌+◌, ◌*◌, ◌/◌, ◌%◌, ◌^◌, 
 use Rattle.std.specs.List.{range_with_len}
 use Rattle.word_bits.specs.declared.call.CallWords.{CallWords}
 use Rattle.word_bits.specs.declared.call.Mode.TheVariants.{Plain}
+use Rattle.word_bits.specs.declared.kind.CallKind.TheVariants.{Map, Unmap, Protect, Fault}
 use Rattle.task_script.specs.declared.script.Line.{Line}
 use Rattle.task_script.specs.declared.version.Version.TheVariants.{One}
-use Rattle.task_script.specs.declared.verb.Verb.TheVariants.{Map, Unmap, Protect, Fault}
 use Rattle.task_script.specs.Verbs.{call_words_of}
 use Rattle.task_script.specs.Grammar.{line_of}
 use Rattle.task_script.specs.Scripts.{Declared, Listing}

@@ -1,4 +1,3 @@
-pub mod Causes
 pub mod Cuts
 pub mod LineParts
 pub mod Versions
@@ -9,8 +8,6 @@ pub mod Verbs
 pub mod Texts
 pub mod Grammar
 pub mod Readings
-pub mod Rooms
-pub mod Memories
 pub mod Sound
 pub mod Padding
 pub mod Generated

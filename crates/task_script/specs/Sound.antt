@@ -3,9 +3,9 @@ use Rattle.std.specs.Prelude.{◌≡◌, ℕ, ◌^◌, ◌<◌, ◌≤◌, ◌�
 use Rattle.std.specs.List.{AllByRecursion}
 use Rattle.word_bits.specs.declared.call.CallWords.{CallWords}
 use Rattle.word_bits.specs.declared.call.Mode.{Mode}
+use Rattle.word_bits.specs.declared.kind.CallKind.{CallKind}
 use Rattle.task_script.specs.declared.script.Line.{Line}
 use Rattle.task_script.specs.declared.version.Version.{Version}
-use Rattle.task_script.specs.declared.verb.Verb.{Verb}
 use Rattle.task_script.specs.declared.verb.Argument.{Argument}
 use Rattle.task_script.specs.declared.verb.Argument.TheVariants.{First, Second, Third, File, Target, Protection, AccessBit}
 use Rattle.task_script.specs.declared.verb.Values.{Values}
@@ -42,7 +42,7 @@ only (AccessBit ∷ arguments) v = record (only arguments v) { access = v.access
 
 -- the words of a call on this kind of object
 pub record IsCall (version : Version) (is_space : Bool) (w : CallWords) : Type 0 where
-  pub verb : Verb
+  pub verb : CallKind
   pub mode : Mode
   pub values : Values
   pub known : is_on_kind version is_space verb ≡ true

@@ -4,10 +4,10 @@ use Rattle.std.specs.Option.{option_map_or}
 use Rattle.word_bits.specs.declared.call.CallWords.{CallWords}
 use Rattle.word_bits.specs.declared.call.Mode.{Mode}
 use Rattle.word_bits.specs.declared.call.Mode.TheVariants.{Plain, Int, Try}
+use Rattle.word_bits.specs.declared.kind.CallKind.{CallKind}
+use Rattle.word_bits.specs.CallKinds.{kind_of_number}
 use Rattle.word_bits.specs.Calls.{mode_of, kind_in, first_in, second_in, third_in, prot_in, access_in}
 use Rattle.task_script.specs.declared.script.Line.{Line}
-use Rattle.task_script.specs.declared.verb.Verb.{Verb}
-use Rattle.task_script.specs.declared.verb.Verb.TheVariants.{Map, MapAny, MapNew, Unmap, Protect, Populate, Fault, Open, Close, Dup, Dup2, Get, Remap, Signal}
 use Rattle.task_script.specs.declared.verb.Argument.{Argument}
 use Rattle.task_script.specs.declared.verb.Argument.TheVariants.{First, Second, Third, File, Target, Protection, AccessBit}
 use Rattle.task_script.specs.declared.verb.Values.{Values}
@@ -33,25 +33,6 @@ prot_text prot = letter prot 1 114 ∷ letter prot 2 119 ∷ letter prot 4 120 �
 abbrev pub access_text : ℕ → List ℕ
 access_text access = if access == 1 then codes "r" else if access == 2 then codes "w" else codes "x"
 
--- the verb of the kind in a call's words
-abbrev pub verb_of_kind : ℕ → Option Verb
-verb_of_kind kind =
-    if kind == 1 then Some Map
-    else if kind == 2 then Some MapAny
-    else if kind == 3 then Some MapNew
-    else if kind == 4 then Some Unmap
-    else if kind == 5 then Some Protect
-    else if kind == 6 then Some Populate
-    else if kind == 7 then Some Fault
-    else if kind == 8 then Some Open
-    else if kind == 9 then Some Close
-    else if kind == 10 then Some Dup
-    else if kind == 11 then Some Dup2
-    else if kind == 12 then Some Get
-    else if kind == 13 then Some Remap
-    else if kind == 15 then Some Signal
-    else None
-
 -- what the words of a call say
 abbrev pub values_of : CallWords → Values
 values_of w = record { first = first_in w; second = second_in w; third = third_in w; prot = prot_in w; access = access_in w }
@@ -70,13 +51,13 @@ argument_text v AccessBit = access_text v.access
 abbrev pub arguments_text : Values → List Argument → List ℕ
 arguments_text v arguments = flat_map (λ a. 32 ∷ argument_text v a) arguments
 
-abbrev pub bare_text : Values → Option Verb → List ℕ
+abbrev pub bare_text : Values → Option CallKind → List ℕ
 bare_text v None = []
 bare_text v (Some verb) = verb_text verb ++ arguments_text v (arguments_of verb)
 
 -- the verb and the arguments of a call
 abbrev pub verb_and_arguments : CallWords → List ℕ
-verb_and_arguments w = bare_text (values_of w) (verb_of_kind (kind_in w))
+verb_and_arguments w = bare_text (values_of w) (kind_of_number (kind_in w))
 
 -- a call without its object: its mode, its verb and its arguments
 abbrev pub call_text : CallWords → List ℕ

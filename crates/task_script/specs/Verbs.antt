@@ -4,10 +4,11 @@ use Rattle.std.specs.Str.{bytes_eq}
 use Rattle.word_bits.specs.declared.call.CallWords.{CallWords}
 use Rattle.word_bits.specs.declared.call.Mode.{Mode}
 use Rattle.word_bits.specs.declared.call.Mode.TheVariants.{Int, Try}
+use Rattle.word_bits.specs.declared.kind.CallKind.{CallKind}
+use Rattle.word_bits.specs.declared.kind.CallKind.TheVariants.{Map, MapAny, MapNew, Unmap, Protect, Populate, Fault, Open, Close, Dup, Dup2, Get, Remap, Signal}
+use Rattle.word_bits.specs.CallKinds.{kind_number}
 use Rattle.word_bits.specs.Calls.{words_of, with_third, mode_number}
 use Rattle.task_script.specs.declared.version.Version.{Version}
-use Rattle.task_script.specs.declared.verb.Verb.{Verb}
-use Rattle.task_script.specs.declared.verb.Verb.TheVariants.{Map, MapAny, MapNew, Unmap, Protect, Populate, Fault, Open, Close, Dup, Dup2, Get, Remap, Signal}
 use Rattle.task_script.specs.declared.verb.Argument.{Argument}
 use Rattle.task_script.specs.declared.verb.Argument.TheVariants.{First, Second, Third, File, Target, Protection, AccessBit}
 use Rattle.task_script.specs.declared.verb.Values.{Values}
@@ -17,7 +18,7 @@ use Rattle.task_script.specs.Tokens.{number, access, prot}
 use Rattle.task_script.specs.Versions.{has_remap, most_tasks}
 
 -- the verb of a call
-abbrev pub verb_text : Verb → List ℕ
+abbrev pub verb_text : CallKind → List ℕ
 verb_text Map = codes "map"
 verb_text MapAny = codes "map any"
 verb_text MapNew = codes "mapnew"
@@ -33,25 +34,8 @@ verb_text Get = codes "get"
 verb_text Remap = codes "remap"
 verb_text Signal = codes "signal"
 
--- the kind in a call's words
-abbrev pub kind_of : Verb → ℕ
-kind_of Map = 1
-kind_of MapAny = 2
-kind_of MapNew = 3
-kind_of Unmap = 4
-kind_of Protect = 5
-kind_of Populate = 6
-kind_of Fault = 7
-kind_of Open = 8
-kind_of Close = 9
-kind_of Dup = 10
-kind_of Dup2 = 11
-kind_of Get = 12
-kind_of Remap = 13
-kind_of Signal = 15
-
 -- the arguments behind the verb
-abbrev pub arguments_of : Verb → List Argument
+abbrev pub arguments_of : CallKind → List Argument
 arguments_of Map = First ∷ Second ∷ Protection ∷ []
 arguments_of MapAny = First ∷ Protection ∷ []
 arguments_of MapNew = First ∷ Second ∷ Protection ∷ []
@@ -68,7 +52,7 @@ arguments_of Remap = First ∷ Second ∷ Third ∷ []
 arguments_of Signal = Target ∷ []
 
 -- a call on a space, or else one on a table; a signal is on both, and a remap is there from version 2 on
-abbrev pub is_on_kind : Version → (is_space : Bool) → Verb → Bool
+abbrev pub is_on_kind : Version → (is_space : Bool) → CallKind → Bool
 is_on_kind version is_space Signal = true
 is_on_kind version is_space Remap = is_space && has_remap version
 is_on_kind version is_space Open = not is_space
@@ -79,7 +63,7 @@ is_on_kind version is_space Get = not is_space
 is_on_kind version is_space verb = is_space
 
 -- a signal has no mode
-abbrev pub takes_mode : Verb → Mode → Bool
+abbrev pub takes_mode : CallKind → Mode → Bool
 takes_mode Signal Int = false
 takes_mode Signal Try = false
 takes_mode verb mode = true
@@ -89,8 +73,8 @@ abbrev pub no_values : Values
 no_values = record { first = 0; second = 0; third = 0; prot = 0; access = 0 }
 
 -- the words of a call
-abbrev pub call_words_of : Verb → Mode → Values → CallWords
-call_words_of verb mode v = with_third (words_of (kind_of verb) v.first v.second v.prot v.access (mode_number mode)) v.third
+abbrev pub call_words_of : CallKind → Mode → Values → CallWords
+call_words_of verb mode v = with_third (words_of (kind_number verb) v.first v.second v.prot v.access (mode_number mode)) v.third
 
 -- what is done with a value, unless it was refused
 abbrev pub and_then : {A B : Type 0} → Result A Reason → (A → Result B Reason) → Result B Reason
@@ -123,7 +107,7 @@ counted_arguments version arguments ws =
     if length ws == length arguments then with_arguments version arguments ws no_values else Err Words
 
 -- the verb of a call on a space that a word is
-abbrev pub space_verb : Version → List ℕ → Option Verb
+abbrev pub space_verb : Version → List ℕ → Option CallKind
 space_verb version w =
     if bytes_eq w (codes "map") then Some Map
     else if bytes_eq w (codes "mapnew") then Some MapNew
@@ -136,7 +120,7 @@ space_verb version w =
     else None
 
 -- the same of a table
-abbrev pub table_verb : List ℕ → Option Verb
+abbrev pub table_verb : List ℕ → Option CallKind
 table_verb w =
     if bytes_eq w (codes "open") then Some Open
     else if bytes_eq w (codes "close") then Some Close
@@ -147,15 +131,15 @@ table_verb w =
     else None
 
 -- the same of either
-abbrev pub verb_of : Version → (is_space : Bool) → List ℕ → Option Verb
+abbrev pub verb_of : Version → (is_space : Bool) → List ℕ → Option CallKind
 verb_of version is_space w = if is_space then space_verb version w else table_verb w
 
 -- a verb and what stands behind it, where map and any are one verb
 pub record Begun : Type 0 where
-  pub verb : Verb
+  pub verb : CallKind
   pub behind : List (List ℕ)
 
-abbrev pub with_any : Verb → List (List ℕ) → Begun
+abbrev pub with_any : CallKind → List (List ℕ) → Begun
 with_any Map (w ∷ ws) = if bytes_eq w (codes "any") then record { verb = MapAny; behind = ws } else record { verb = Map; behind = w ∷ ws }
 with_any verb ws = record { verb = verb; behind = ws }
 

@@ -3,8 +3,7 @@ ghost use Rattle.std.specs.Prelude.{◌≡◌, ◌<◌, ◌++◌, ◌∷◌, [],
 ghost use Rattle.std.specs.List.{list_all};
 ghost use Rattle.std.specs.Str.{bytes_eq};
 ghost use Rattle.task_script.specs.Cuts.{is_clean, words};
-ghost use Rattle.task_script.specs.Grammar.{call_line, declare_line, line_after, line_of, object_line};
-ghost use Rattle.task_script.specs.Grammar.{is_begun, is_space_at, place_of, task_line, text_after, version_line, with_call};
+ghost use Rattle.task_script.specs.Grammar.{call_line, declare_line, line_after, line_of, object_line, is_begun, is_space_at, place_of, task_line, text_after, version_line, with_call};
 ghost use Rattle.task_script.specs.Inside.{declared_of, is_space_kind};
 ghost use Rattle.task_script.specs.LineParts.{all_words};
 ghost use Rattle.task_script.specs.Scripts.{nothing};

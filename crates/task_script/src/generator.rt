@@ -1,7 +1,6 @@
 //! A script that a number generates.
 ghost use Rattle.std.specs.Prelude.{◌≡◌, ◌<◌, ◌∷◌, [], map, IfOk};
-ghost use Rattle.task_script.specs.Generated.{generated, next_random, random_access, random_call};
-ghost use Rattle.task_script.specs.Generated.{random_line, random_lines, the_space};
+ghost use Rattle.task_script.specs.Generated.{generated, next_random, random_access, random_call, random_line, random_lines, the_space};
 ghost use Rattle.task_script.specs.Inside.{declared_of};
 ghost use Rattle.task_script.specs.Scripts.{count_of_calls};
 ghost use Rattle.task_script.specs.Sound.{IsSound};
@@ -9,11 +8,11 @@ ghost use Rattle.task_script.specs.Sound.{IsSound};
 use crate::draft::{Draft, LineError};
 use crate::script::{Kind, Line, Script};
 use crate::token::Name;
-use crate::verb::{Values, Verb};
+use crate::verb::{Values, call_words};
 use crate::version::Version;
 use indexmap::IndexMap;
 use std::alloc::{AllocError, Global};
-use word_bits::{CallWords, Mode};
+use word_bits::{CallKind, CallWords, Mode};
 
 /// How many tasks a generated script has.
 const TASKS: u32 = 8;
@@ -49,10 +48,11 @@ fn random_call(kind: u32, start: u32, len: u32, prot: u8) -> CallWords
     };
     let access = random_access(prot % 3);
     match kind {
-        0 | 1 => Verb::Map.words(Mode::Plain, Values { prot, ..range }),
-        2 => Verb::Unmap.words(Mode::Plain, range),
-        3 => Verb::Protect.words(Mode::Plain, Values { prot, ..range }),
-        _ => Verb::Fault.words(
+        0 | 1 => call_words(CallKind::Map, Mode::Plain, Values { prot, ..range }),
+        2 => call_words(CallKind::Unmap, Mode::Plain, range),
+        3 => call_words(CallKind::Protect, Mode::Plain, Values { prot, ..range }),
+        _ => call_words(
+            CallKind::Fault,
             Mode::Plain,
             Values {
                 second: 0,

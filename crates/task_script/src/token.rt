@@ -2,8 +2,7 @@
 ghost use Rattle.std.specs.Prelude.{◌≡◌, ◌<◌, ◌^◌, ◌≤◌, IfSome};
 ghost use Rattle.std.specs.List.{list_all};
 ghost use Rattle.task_script.specs.Inside.{NameIs};
-ghost use Rattle.task_script.specs.Tokens.{is_name_byte, has_name_bytes, is_name, keyword_of};
-ghost use Rattle.task_script.specs.Tokens.{leads_zero, number, access, flag, prot};
+ghost use Rattle.task_script.specs.Tokens.{is_name_byte, has_name_bytes, is_name, keyword_of, leads_zero, number, access, flag, prot};
 
 use arrayvec::ArrayString;
 

@@ -1,35 +1,14 @@
 //! The calls that a script can name, and their arguments.
 ghost use Rattle.std.specs.Prelude.{◌≡◌, ◌<◌, ◌≤◌, length, ok_or};
 ghost use Rattle.task_script.specs.Tokens.{access, number, prot};
-ghost use Rattle.task_script.specs.Texts.{values_of, verb_of_kind};
-ghost use Rattle.task_script.specs.Verbs.{arguments_of, call_on, call_with, call_words_of, kind_of};
-ghost use Rattle.task_script.specs.Verbs.{counted_arguments, number_below, space_verb, table_verb};
-ghost use Rattle.task_script.specs.Verbs.{takes_mode, verb_of, with_any, with_argument};
+ghost use Rattle.task_script.specs.Texts.{values_of};
+ghost use Rattle.task_script.specs.Verbs.{arguments_of, call_on, call_with, call_words_of, counted_arguments, number_below, space_verb, table_verb, takes_mode, verb_of, with_any, with_argument};
 
 use crate::cut::Words;
 use crate::reason::Reason;
 use crate::token::{access_of, number_of, prot_of};
 use crate::version::Version;
-use word_bits::{CallWords, Mode};
-
-/// What a call does.
-#[derive(Clone, Copy, Debug, PartialEq, Eq)]
-pub(crate) enum Verb {
-    Map,
-    MapAny,
-    MapNew,
-    Unmap,
-    Protect,
-    Populate,
-    Fault,
-    Open,
-    Close,
-    Dup,
-    Dup2,
-    Get,
-    Remap,
-    Signal,
-}
+use word_bits::{CallKind, CallWords, Mode};
 
 /// What an argument is.
 #[derive(Clone, Copy, Debug, PartialEq, Eq)]
@@ -146,160 +125,116 @@ fn read_arguments(
     Ok(values)
 }
 
-impl Verb {
-    /// The verb of a call on a space. `map any` is found by its second word.
-    fn of_space(version: Version, word: &[u8]) -> Option<Verb>
-        ensures { result ≡ space_verb version word.now }
-    {
-        match word {
-            b"map" => Some(Verb::Map),
-            b"mapnew" => Some(Verb::MapNew),
-            b"unmap" => Some(Verb::Unmap),
-            b"protect" => Some(Verb::Protect),
-            b"populate" => Some(Verb::Populate),
-            b"fault" => Some(Verb::Fault),
-            b"remap" if version.has_remap() => Some(Verb::Remap),
-            b"signal" => Some(Verb::Signal),
-            _ => None,
-        }
-    }
-
-    /// The verb of a call on a table.
-    fn of_table(word: &[u8]) -> Option<Verb>
-        ensures { result ≡ table_verb word.now }
-    {
-        match word {
-            b"open" => Some(Verb::Open),
-            b"close" => Some(Verb::Close),
-            b"dup" => Some(Verb::Dup),
-            b"dup2" => Some(Verb::Dup2),
-            b"get" => Some(Verb::Get),
-            b"signal" => Some(Verb::Signal),
-            _ => None,
-        }
-    }
-
-    fn of_word(version: Version, is_space: bool, word: &[u8]) -> Option<Verb>
-        ensures { result ≡ verb_of version is_space word.now }
-    {
-        if is_space {
-            Verb::of_space(version, word)
-        } else {
-            Verb::of_table(word)
-        }
-    }
-
-    fn takes(self, mode: Mode) -> bool
-        ensures { result ≡ takes_mode self mode }
-    {
-        self != Verb::Signal || mode == Mode::Plain
-    }
-
-    /// The kind in a call's words.
-    fn kind(self) -> u8
-        ensures { result ≡ kind_of self }
-    {
-        match self {
-            Verb::Map => 1,
-            Verb::MapAny => 2,
-            Verb::MapNew => 3,
-            Verb::Unmap => 4,
-            Verb::Protect => 5,
-            Verb::Populate => 6,
-            Verb::Fault => 7,
-            Verb::Open => 8,
-            Verb::Close => 9,
-            Verb::Dup => 10,
-            Verb::Dup2 => 11,
-            Verb::Get => 12,
-            Verb::Remap => 13,
-            Verb::Signal => 15,
-        }
-    }
-
-    /// The verb of a kind. `None` where no call has the kind.
-    pub(crate) fn of_kind(kind: u8) -> Option<Verb>
-        ensures { result ≡ verb_of_kind kind }
-    {
-        match kind {
-            1 => Some(Verb::Map),
-            2 => Some(Verb::MapAny),
-            3 => Some(Verb::MapNew),
-            4 => Some(Verb::Unmap),
-            5 => Some(Verb::Protect),
-            6 => Some(Verb::Populate),
-            7 => Some(Verb::Fault),
-            8 => Some(Verb::Open),
-            9 => Some(Verb::Close),
-            10 => Some(Verb::Dup),
-            11 => Some(Verb::Dup2),
-            12 => Some(Verb::Get),
-            13 => Some(Verb::Remap),
-            15 => Some(Verb::Signal),
-            _ => None,
-        }
-    }
-
-    /// The arguments behind the verb, at most three.
-    pub(crate) fn arguments(self) -> &'static [Argument]
-        ensures list { result.now ≡ arguments_of self }
-        ensures few { length result.now ≤ 3 }
-    {
-        match self {
-            Verb::Map | Verb::MapNew | Verb::Protect | Verb::Populate => &[
-                Argument::First,
-                Argument::Second,
-                Argument::Protection,
-            ],
-            Verb::MapAny => &[Argument::First, Argument::Protection],
-            Verb::Unmap | Verb::Dup2 => &[Argument::First, Argument::Second],
-            Verb::Fault => &[Argument::First, Argument::AccessBit],
-            Verb::Open => &[Argument::File],
-            Verb::Close | Verb::Dup | Verb::Get => &[Argument::First],
-            Verb::Remap => &[Argument::First, Argument::Second, Argument::Third],
-            Verb::Signal => &[Argument::Target],
-        }
+/// The kind of a call on a space that the word names. `map any` is found by its second word.
+fn space_verb(version: Version, word: &[u8]) -> Option<CallKind>
+    ensures { result ≡ space_verb version word.now }
+{
+    match word {
+        b"map" => Some(CallKind::Map),
+        b"mapnew" => Some(CallKind::MapNew),
+        b"unmap" => Some(CallKind::Unmap),
+        b"protect" => Some(CallKind::Protect),
+        b"populate" => Some(CallKind::Populate),
+        b"fault" => Some(CallKind::Fault),
+        b"remap" if version.has_remap() => Some(CallKind::Remap),
+        b"signal" => Some(CallKind::Signal),
+        _ => None,
     }
 }
 
-impl Verb {
-    /// The words of a call.
-    pub(crate) fn words(self, mode: Mode, values: Values) -> CallWords
-        ensures { result ≡ call_words_of self mode values }
-    {
-        CallWords::new(
-            self.kind(),
-            values.first,
-            values.second,
-            values.prot,
-            values.access,
-            mode,
-        )
-        .with_third(values.third)
+/// The same of a table.
+fn table_verb(word: &[u8]) -> Option<CallKind>
+    ensures { result ≡ table_verb word.now }
+{
+    match word {
+        b"open" => Some(CallKind::Open),
+        b"close" => Some(CallKind::Close),
+        b"dup" => Some(CallKind::Dup),
+        b"dup2" => Some(CallKind::Dup2),
+        b"get" => Some(CallKind::Get),
+        b"signal" => Some(CallKind::Signal),
+        _ => None,
     }
+}
 
-    /// This verb, or `map any` where `any` is the next word, which is then taken.
-    fn with_any(self, words: &mut Words) -> Verb
-        ensures verb { result ≡ (with_any self words.old).verb }
-        ensures behind { words.new ≡ (with_any self words.old).behind }
-    {
-        if self == Verb::Map && words.skip(b"any") {
-            Verb::MapAny
-        } else {
-            self
-        }
+fn verb_of(version: Version, is_space: bool, word: &[u8]) -> Option<CallKind>
+    ensures { result ≡ verb_of version is_space word.now }
+{
+    if is_space {
+        space_verb(version, word)
+    } else {
+        table_verb(word)
     }
+}
 
-    /// The call of this verb with these arguments.
-    fn call(self, version: Version, mode: Mode, words: Words) -> Result<CallWords, Reason>
-        ensures { result ≡ call_with version mode record { verb = self; behind = words.entry } }
-    {
-        if !self.takes(mode) {
-            return Err(Reason::Mode);
-        }
-        let values = read_arguments(version, self.arguments(), words)?;
-        Ok(self.words(mode, values))
+fn takes_mode(verb: CallKind, mode: Mode) -> bool
+    ensures { result ≡ takes_mode verb mode }
+{
+    verb != CallKind::Signal || mode == Mode::Plain
+}
+
+/// The arguments behind the verb, at most three.
+pub(crate) fn arguments_of(verb: CallKind) -> &'static [Argument]
+    ensures list { result.now ≡ arguments_of verb }
+    ensures few { length result.now ≤ 3 }
+{
+    match verb {
+        CallKind::Map | CallKind::MapNew | CallKind::Protect | CallKind::Populate => &[
+            Argument::First,
+            Argument::Second,
+            Argument::Protection,
+        ],
+        CallKind::MapAny => &[Argument::First, Argument::Protection],
+        CallKind::Unmap | CallKind::Dup2 => &[Argument::First, Argument::Second],
+        CallKind::Fault => &[Argument::First, Argument::AccessBit],
+        CallKind::Open => &[Argument::File],
+        CallKind::Close | CallKind::Dup | CallKind::Get => &[Argument::First],
+        CallKind::Remap => &[Argument::First, Argument::Second, Argument::Third],
+        CallKind::Signal => &[Argument::Target],
     }
+}
+
+/// The words of a call.
+pub(crate) fn call_words(verb: CallKind, mode: Mode, values: Values) -> CallWords
+    ensures { result ≡ call_words_of verb mode values }
+{
+    CallWords::new(
+        verb.number(),
+        values.first,
+        values.second,
+        values.prot,
+        values.access,
+        mode,
+    )
+    .with_third(values.third)
+}
+
+/// This verb, or `map any` where `any` is the next word, which is then taken.
+fn with_any(verb: CallKind, words: &mut Words) -> CallKind
+    ensures verb { result ≡ (with_any verb words.old).verb }
+    ensures behind { words.new ≡ (with_any verb words.old).behind }
+{
+    if verb == CallKind::Map && words.skip(b"any") {
+        CallKind::MapAny
+    } else {
+        verb
+    }
+}
+
+/// The call of this verb with these arguments.
+fn call_with(
+    version: Version,
+    verb: CallKind,
+    mode: Mode,
+    words: Words,
+) -> Result<CallWords, Reason>
+    ensures { result ≡ call_with version mode record { verb = verb; behind = words.entry } }
+{
+    if !takes_mode(verb, mode) {
+        return Err(Reason::Mode);
+    }
+    let values = read_arguments(version, arguments_of(verb), words)?;
+    Ok(call_words(verb, mode, values))
 }
 
 /// The call on this kind of object that a word and those behind it stand for.
@@ -312,7 +247,7 @@ pub(crate) fn read_call(
 ) -> Result<CallWords, Reason>
     ensures { result ≡ call_on version is_space mode word.now words.entry }
 {
-    let verb = Verb::of_word(version, is_space, word).ok_or(Reason::Call)?;
-    let verb = verb.with_any(&mut words);
-    verb.call(version, mode, words)
+    let verb = verb_of(version, is_space, word).ok_or(Reason::Call)?;
+    let verb = with_any(verb, &mut words);
+    call_with(version, verb, mode, words)
 }

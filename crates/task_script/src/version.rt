@@ -1,13 +1,11 @@
 //! The versions of the language of scripts.
 ghost use Rattle.std.specs.Prelude.{◌≡◌, ◌≤◌};
-ghost use Rattle.task_script.specs.Versions.{has_remap, is_second, most_objects, most_tasks};
-ghost use Rattle.task_script.specs.Versions.{version_number};
+ghost use Rattle.task_script.specs.Versions.{has_remap, is_second, most_objects, most_tasks, version_number};
 
-/// The most objects of a script of any version.
-pub const MOST_OBJECTS: usize = 32;
+use word_bits::MAX_TASKS;
 
-/// The most tasks of a script of any version.
-pub const MOST_TASKS: u32 = 400;
+/// The largest number of objects of a script.
+pub const MAX_OBJECTS: usize = 32;
 
 /// A version of the language. A script is of the first unless it says otherwise.
 #[derive(Clone, Copy, Debug, PartialEq, Eq)]
@@ -38,7 +36,7 @@ impl Version {
     {
         match self {
             Version::One => 16,
-            Version::Two => MOST_OBJECTS,
+            Version::Two => MAX_OBJECTS,
         }
     }
 
@@ -47,7 +45,7 @@ impl Version {
     {
         match self {
             Version::One => 64,
-            Version::Two => MOST_TASKS,
+            Version::Two => MAX_TASKS,
         }
     }
 

@@ -1,16 +1,15 @@
 //! Writes a script, line by line.
 ghost use Rattle.std.specs.Prelude.{◌≡◌, ◌<◌, ◌≤◌, length, flat_map, slice_get, All, List, Ok, OnErr, Some};
-ghost use Rattle.task_script.specs.Causes.{CountsFailure, Adds, Puts};
+ghost use Rattle.byte_streams.specs.Causes.{CountsFailure, Adds, Puts};
 ghost use Rattle.task_script.specs.Grammar.{script_of};
 ghost use Rattle.task_script.specs.Scripts.{Declared};
 ghost use Rattle.task_script.specs.Sound.{IsSound};
 ghost use Rattle.task_script.specs.Texts.{body_text, canonical_text, declaration_text, line_text, task_text};
 ghost use Rattle.task_script.specs.Versions.{version_text};
 
-use crate::outbox::Outbox;
 use crate::script::{Line, Script};
-use crate::sink::Sink;
-use crate::source::Failed;
+use crate::text::{add_declaration, add_line, add_version};
+use byte_streams::{Failed, Outbox, Sink};
 
 /// Adds the line that declares an object to the outbox, for which room is made.
 ///
@@ -31,7 +30,7 @@ pub fn write_declaration<K: Sink>(
     ensures cause { CountsFailure (K.faults sink.old) (K.faults sink.new) result }
 {
     out.make_room(sink)?;
-    out.add_declaration(script.is_space(object), script.name(object));
+    add_declaration(out, script.is_space(object), script.name(object));
     Ok(())
 }
 
@@ -63,7 +62,7 @@ fn write_line<K: Sink>(
     ensures cause { CountsFailure (K.faults sink.old) (K.faults sink.new) result }
 {
     out.make_room(sink)?;
-    out.add_line(script.name(line.object as usize), line.call());
+    add_line(out, script.name(line.object as usize), line.call());
     Ok(())
 }
 
@@ -120,7 +119,7 @@ fn write_version<K: Sink>(script: &Script, out: &mut Outbox, sink: &mut K) -> Re
 {
     let version = script.language();
     out.make_room(sink)?;
-    out.add_version(version);
+    add_version(out, version);
     Ok(())
 }
 

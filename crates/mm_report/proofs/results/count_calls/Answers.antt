@@ -3,7 +3,7 @@ use Rattle.std.proofs.Common.{◌∙◌, ap, arith}
 use Rattle.std.specs.Prelude.{count_by, sum_by}
 use Rattle.std.proofs.lemmas.List.{get_or-replicate, take_all}
 use Rattle.task_script.specs.Scripts.{is_on}
-use Rattle.task_script.proofs.Pieces.{at_place}
+use Rattle.task_script.proofs.Mapped.{at_place}
 use Rattle.mm_report.proofs.Reserved.{more_sum}
 use Rattle.mm_report.proofs.results.count_calls.Goals as goal
 

@@ -1,6 +1,6 @@
 use Rattle.std.proofs.Common.{◌≡◌, ◌++◌, take}
 use Rattle.std.specs.Prelude.{flat_map}
-use Rattle.task_script.specs.Causes.{IsOnItsWay}
+use Rattle.byte_streams.specs.Causes.{IsOnItsWay}
 use Rattle.mm_report.specs.Text.{area_text}
 use Rattle.mm_report.proofs.state.write_areas.Given as goal
 

@@ -1,5 +1,5 @@
 use Rattle.std.proofs.lemmas.Result.{err_from_is_err_and}
-use Rattle.task_script.proofs.Pieces.{fronts_line}
+use Rattle.byte_streams.proofs.Pieces.{fronts_line}
 use Rattle.mm_report.specs.Text.{descriptor_text}
 use Rattle.mm_report.proofs.state.write_descriptor.Goals as goal
 

@@ -1,6 +1,6 @@
 use Rattle.std.proofs.Common.{refl, subst, ◌++◌, Option, ℕ, ◌∙◌}
 use Rattle.std.proofs.lemmas.Result.{err_from_is_err_and}
-use Rattle.task_script.specs.Causes.{Fronts, IsOnItsWay}
+use Rattle.byte_streams.specs.Causes.{Fronts, IsOnItsWay}
 use Rattle.fd_table.specs.Tables.{fd_map}
 use Rattle.mm_report.specs.Text.{descriptor_text, descriptors_text}
 use Rattle.mm_report.proofs.Remaining.{remains_all}

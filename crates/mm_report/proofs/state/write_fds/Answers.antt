@@ -1,7 +1,7 @@
 use Rattle.std.proofs.Common.{◌++◌, ◌∙◌, subst, ℕ}
 use Rattle.std.proofs.lemmas.Result.{err_from_is_err_and}
-use Rattle.task_script.specs.Causes.{Fronts, IsOnItsWay}
-use Rattle.task_script.proofs.Pieces.{adds_then, fronts_more}
+use Rattle.byte_streams.specs.Causes.{Fronts, IsOnItsWay}
+use Rattle.byte_streams.proofs.Pieces.{adds_then, fronts_more}
 use Rattle.fd_table.specs.Tables.{fd_map, used_from}
 use Rattle.mm_report.specs.Text.{left_text, descriptors_text}
 use Rattle.mm_report.proofs.state.write_fds.Goals as goal

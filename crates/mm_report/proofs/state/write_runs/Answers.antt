@@ -1,7 +1,7 @@
 use Rattle.std.proofs.Common.{length}
 use Rattle.std.specs.Prelude.{flat_map}
 use Rattle.std.proofs.lemmas.Result.{err_from_is_err_and}
-use Rattle.task_script.proofs.Pieces.{adds_then, fronts_more}
+use Rattle.byte_streams.proofs.Pieces.{adds_then, fronts_more}
 use Rattle.mm_report.specs.Text.{area_text, left_text}
 use Rattle.mm_report.proofs.state.write_runs.Goals as goal
 

@@ -1,7 +1,8 @@
 use Rattle.std.proofs.Common.{ap, ap₂, sym, ◌∙◌, subst, ◌++◌}
 use Rattle.std.proofs.lemmas.Result.{err_from_is_err_and}
 use Rattle.task_script.specs.Scripts.{Declared, plan_of}
-use Rattle.task_script.proofs.Pieces.{adds_line, fronts_line, mapped_same}
+use Rattle.byte_streams.proofs.Pieces.{adds_line, fronts_line}
+use Rattle.task_script.proofs.Mapped.{mapped_same}
 use Rattle.mm_report.specs.Results.{IsLegalOn}
 use Rattle.mm_report.specs.Summary.{counts_of, counts_text}
 use Rattle.mm_report.proofs.summary.write_summary.Goals as goal

@@ -1,4 +1,4 @@
-use Rattle.task_script.proofs.Pieces.{sent}
+use Rattle.byte_streams.proofs.Pieces.{sent}
 use Rattle.mm_report.specs.Reports.{report_of}
 use Rattle.mm_report.proofs.text.report.Goals as goal
 

@@ -1,11 +1,11 @@
 use Rattle.std.proofs.Common.{◌<◌, ◌+◌, ◌++◌, length, drop, ap, ◌∙◌, zero-add, arith, subst, Ok, Err}
 use Rattle.std.proofs.lemmas.Result.{err_from_is_err_and}
-use Rattle.task_script.specs.Causes.{Fronts}
-use Rattle.task_script.proofs.Pieces.{adds_then, fronts_more}
+use Rattle.byte_streams.specs.Causes.{Fronts}
+use Rattle.byte_streams.proofs.Pieces.{adds_then, fronts_more}
 use Rattle.mm_report.specs.Results.{calls_on}
 use Rattle.mm_report.specs.Reports.{object_report, report_from, report_of}
 use Rattle.mm_report.proofs.Objects.{complete_length, complete_at, step_at, behind_at, report_split}
-use Rattle.task_script.proofs.Pieces.{at_place}
+use Rattle.task_script.proofs.Mapped.{at_place}
 use Rattle.mm_report.proofs.text.write_objects.Goals as goal
 
 pub snapshot-requires : goal.snapshot-requires

@@ -1,5 +1,5 @@
 use Rattle.std.proofs.Common.{◌≡◌, ◌++◌, drop, List, ℕ}
-use Rattle.task_script.specs.Causes.{IsOnItsWay}
+use Rattle.byte_streams.specs.Causes.{IsOnItsWay}
 use Rattle.mm_report.specs.Results.{Told, AreLegal, AreLegalFrom}
 use Rattle.mm_report.specs.Reports.{report_from, report_of}
 use Rattle.mm_report.proofs.text.write_objects.Given as goal

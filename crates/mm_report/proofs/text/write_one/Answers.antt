@@ -1,7 +1,7 @@
 use Rattle.std.proofs.Common.{◌++◌, subst, sym}
 use Rattle.std.proofs.lemmas.Result.{err_from_is_err_and}
-use Rattle.task_script.proofs.Pieces.{adds_then, fronts_more}
-use Rattle.task_script.specs.Causes.{Adds, Fronts}
+use Rattle.byte_streams.proofs.Pieces.{adds_then, fronts_more}
+use Rattle.byte_streams.specs.Causes.{Adds, Fronts}
 use Rattle.task_script.specs.Texts.{declaration_text}
 use Rattle.mm_report.specs.Reports.{object_report}
 use Rattle.mm_report.specs.Text.{told_text}

@@ -4,12 +4,12 @@ use Rattle.word_bits.specs.Histories.{state_after}
 use Rattle.word_bits.specs.LockWords.{counted, owned}
 use Rattle.vma_map.specs.Spaces.{space}
 use Rattle.fd_table.specs.Tables.{table}
-use Rattle.task_script.specs.Causes.{Fronts, IsOnItsWay, Adds}
+use Rattle.byte_streams.specs.Causes.{Fronts, IsOnItsWay, Adds}
 use Rattle.task_script.specs.Scripts.{Declared, plan_of}
-use Rattle.task_script.proofs.Pieces.{adds_then, fronts_more}
+use Rattle.byte_streams.proofs.Pieces.{adds_then, fronts_more}
 use Rattle.mm_report.specs.Results.{IsLegalOn}
 use Rattle.mm_report.specs.Text.{calls_text, space_text, table_text, told_text}
-use Rattle.task_script.proofs.Pieces.{mapped_same}
+use Rattle.task_script.proofs.Mapped.{mapped_same}
 use Rattle.mm_report.proofs.Legal.{space_left, table_left, legal_read, legal_text}
 use Rattle.mm_report.proofs.text.write_told.Goals as goal
 

@@ -1,5 +1,5 @@
 use Rattle.task_script.specs.Texts.{canonical_text}
-use Rattle.task_script.proofs.Pieces.{sent}
+use Rattle.byte_streams.proofs.Pieces.{sent}
 use Rattle.task_script.proofs.writer.write.Goals as goal
 
 pub returns-clause-text : goal.returns-clause-text

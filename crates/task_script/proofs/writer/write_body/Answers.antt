@@ -1,7 +1,7 @@
 use Rattle.std.specs.Prelude.{flat_map}
 use Rattle.std.proofs.lemmas.Result.{err_from_is_err_and}
 use Rattle.task_script.specs.Texts.{declaration_text, task_text}
-use Rattle.task_script.proofs.Pieces.{adds_then, fronts_more}
+use Rattle.byte_streams.proofs.Pieces.{adds_then, fronts_more}
 use Rattle.task_script.proofs.writer.write_body.Goals as goal
 
 pub returns-in_err-write_declarations-clause-text : goal.returns-in_err-write_declarations-clause-text

@@ -1,10 +1,10 @@
 use Rattle.std.proofs.Common.{arith, [], ◌∙◌, ap, refl}
-use Rattle.task_script.specs.Causes.{one_more}
+use Rattle.byte_streams.specs.Causes.{one_more}
 use Rattle.std.proofs.lemmas.Option.{slice_get-get_or}
 use Rattle.std.proofs.lemmas.Result.{err_from_is_err_and}
 use Rattle.task_script.specs.Texts.{line_text}
 use Rattle.task_script.specs.declared.script.Line.{Line}
-use Rattle.task_script.proofs.Pieces.{pieces_begin, piece_added, piece_failed, pieces_done}
+use Rattle.byte_streams.proofs.Pieces.{pieces_begin, piece_added, piece_failed, pieces_done}
 use Rattle.task_script.proofs.writer.write_calls.Goals as goal
 
 pub loop-line-init : goal.loop-line-init

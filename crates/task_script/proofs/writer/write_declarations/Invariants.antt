@@ -1,6 +1,6 @@
 use Rattle.std.proofs.Common.{◌≡◌, ◌++◌, take}
 use Rattle.std.specs.Prelude.{flat_map}
-use Rattle.task_script.specs.Causes.{IsOnItsWay}
+use Rattle.byte_streams.specs.Causes.{IsOnItsWay}
 use Rattle.task_script.specs.Texts.{declaration_text}
 use Rattle.task_script.proofs.writer.write_declarations.Given as goal
 

@@ -1,7 +1,7 @@
 use Rattle.std.proofs.lemmas.Result.{err_from_is_err_and}
 use Rattle.task_script.specs.Texts.{body_text}
 use Rattle.task_script.specs.Versions.{version_text}
-use Rattle.task_script.proofs.Pieces.{adds_then, fronts_more}
+use Rattle.byte_streams.proofs.Pieces.{adds_then, fronts_more}
 use Rattle.task_script.proofs.writer.write_lines.Goals as goal
 
 pub returns-in_err-write_version-clause-text : goal.returns-in_err-write_version-clause-text

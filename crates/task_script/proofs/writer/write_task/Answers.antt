@@ -2,9 +2,9 @@ use Rattle.std.proofs.Common.{◌∙◌, codes, subst, sym}
 use Rattle.std.specs.Prelude.{flat_map}
 use Rattle.std.proofs.lemmas.Option.{same_Some}
 use Rattle.std.proofs.lemmas.Result.{err_from_is_err_and}
-use Rattle.task_script.specs.Causes.{Adds}
+use Rattle.byte_streams.specs.Causes.{Adds}
 use Rattle.task_script.specs.Texts.{line_text, task_text}
-use Rattle.task_script.proofs.Pieces.{adds_line, adds_then, fronts_line}
+use Rattle.byte_streams.proofs.Pieces.{adds_line, adds_then, fronts_line}
 use Rattle.task_script.proofs.writer.write_task.Goals as goal
 
 pub returns-in_err-make_room-clause-text : goal.returns-in_err-make_room-clause-text

@@ -1,8 +1,9 @@
 use Rattle.std.proofs.Common.{arith, ◌∙◌, ap, refl}
-use Rattle.task_script.specs.Causes.{one_more}
+use Rattle.byte_streams.specs.Causes.{one_more}
 use Rattle.std.proofs.lemmas.Result.{err_from_is_err_and}
 use Rattle.task_script.specs.Texts.{task_text}
-use Rattle.task_script.proofs.Pieces.{at_place, pieces_begin, piece_added, piece_failed, pieces_done}
+use Rattle.byte_streams.proofs.Pieces.{pieces_begin, piece_added, piece_failed, pieces_done}
+use Rattle.task_script.proofs.Mapped.{at_place}
 use Rattle.task_script.proofs.writer.write_tasks.Goals as goal
 
 pub loop-task-init : goal.loop-task-init

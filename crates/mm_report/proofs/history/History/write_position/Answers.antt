@@ -7,11 +7,11 @@ use Rattle.std.proofs.lemmas.Result.{err_from_is_err_and}
 use Rattle.word_bits.specs.declared.rec.Rec.{Rec}
 use Rattle.word_bits.specs.Histories.{Records, Event}
 use Rattle.task_script.specs.declared.script.Line.{Line}
-use Rattle.task_script.proofs.Pieces.{pieces_begin, piece_added, piece_failed, pieces_done}
+use Rattle.byte_streams.proofs.Pieces.{pieces_begin, piece_added, piece_failed, pieces_done}
 use Rattle.mm_report.specs.Text.{event_text}
 use Rattle.mm_report.specs.Merged.{front, behind}
 use Rattle.mm_report.specs.Cursors.{AreRead, AreAt, IsAt, no_cursor, first_record}
-use Rattle.task_script.proofs.Pieces.{at_place}
+use Rattle.task_script.proofs.Mapped.{at_place}
 use Rattle.mm_report.proofs.Tasks.{task_read, task_has, one_further, text_of_texts}
 use Rattle.mm_report.proofs.Reserved.{unmapped_at}
 use Rattle.mm_report.proofs.history.History.write_position.Goals as goal

@@ -3,7 +3,7 @@ use Rattle.std.specs.Prelude.{flat_map, slice_get}
 use Rattle.word_bits.specs.declared.rec.Rec.{Rec}
 use Rattle.word_bits.specs.Histories.{Records, Event}
 use Rattle.task_script.specs.declared.script.Line.{Line}
-use Rattle.task_script.specs.Causes.{IsOnItsWay}
+use Rattle.byte_streams.specs.Causes.{IsOnItsWay}
 use Rattle.mm_report.specs.Text.{event_text}
 use Rattle.mm_report.specs.Merged.{front, behind}
 use Rattle.mm_report.specs.Cursors.{AreRead, AreAt, IsAt, no_cursor, first_record}

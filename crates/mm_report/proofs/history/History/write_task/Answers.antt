@@ -1,8 +1,8 @@
 use Rattle.std.proofs.Common.{◌≤◌, ◌++◌, arith, subst, sym, ap, ◌∙◌, append-nil}
 use Rattle.std.specs.Prelude.{flat_map, OnOk}
 use Rattle.std.proofs.lemmas.Option.{same_Some}
-use Rattle.task_script.specs.Causes.{Adds}
-use Rattle.task_script.proofs.Pieces.{adds_waiting}
+use Rattle.byte_streams.specs.Causes.{Adds}
+use Rattle.byte_streams.proofs.Pieces.{adds_waiting}
 use Rattle.mm_report.specs.Text.{event_text}
 use Rattle.mm_report.specs.Merged.{front, behind}
 use Rattle.mm_report.specs.Cursors.{earliest, HasRecords, IsAt, first_record}
