@@ -53,6 +53,11 @@ shown_split v = shown_new v.hand.plan v.hand.seen v.past
 abbrev pub PastGoesOn : Shown → Shown → Type 0
 PastGoesOn v u = GoesOn v.past u.past
 
+-- of a lock and its passes: the pass is one of the lock's as before, and its past goes on
+pub record StepsOn {L P : Type 0} (Sits : L → P → Type 0) (shown_of : P → Shown) (lock : L) (old new : P) : Type 0 where
+  pub own : Sits lock new
+  pub goes_on : PastGoesOn (shown_of old) (shown_of new)
+
 -- at this step, which the pass made since, the word had this number
 abbrev pub FindsAtStep : (step at n : ℕ) → Shown → Shown → Type 0
 FindsAtStep step at n v u = FoundAtStep v.hand.task step at n v.past u.past

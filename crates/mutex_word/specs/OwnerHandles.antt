@@ -8,6 +8,7 @@ use Rattle.lock_core.specs.declared.view.Held.{Held}
 use Rattle.lock_core.specs.declared.view.Moment.{Moment}
 use Rattle.lock_core.specs.declared.view.View.{View}
 use Rattle.lock_core.specs.SiteHandles as inner
+use Rattle.lock_core.specs.Shown as callers
 use Rattle.lock_core.specs.Shown.{Shown, no_line, shown}
 use Rattle.mutex_word.specs.declared.site.OwnerPass.{OwnerPass}
 use Rattle.mutex_word.specs.declared.site.OwnerSite.{OwnerSite}
@@ -58,3 +59,7 @@ module _ {O C : Type 0} where
   -- what callers of any lock see of a pass: nobody stands in line
   abbrev pub shown_of : OwnerPass O C → Shown
   shown_of pass = shown (λ x. no_line) (view_of pass).fronts (view_of pass) (past_of pass)
+
+  -- the pass is one of the site's as before, and its past goes on
+  abbrev pub StepsOn : OwnerSite O C → OwnerPass O C → OwnerPass O C → Type 0
+  StepsOn lock old new = callers.StepsOn SitsAt shown_of lock old new

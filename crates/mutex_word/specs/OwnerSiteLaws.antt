@@ -1,4 +1,4 @@
--- A call of the site leaves a pass what it is: that of the site.
+-- A call of the site leaves a pass one of the owner site's: it has a pass of the site alone.
 use Rattle.std.specs.Prelude.{refl}
 use Rattle.lock_core.specs.declared.pass.Pass.{Pass}
 use Rattle.lock_core.specs.SiteHandles as inner

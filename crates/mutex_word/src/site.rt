@@ -33,7 +33,7 @@ pub struct OwnerPass<O: Object> {
 }
 
 impl<O: Object> OwnerSite<O> {
-    ghost use Rattle.mutex_word.specs.OwnerHandles.{plan_of, view_of, hand_in, past_of, task_in, held_in, front_in, shown_of, IsLatest, KeepsPast, SitsAt, TakesNumber};
+    ghost use Rattle.mutex_word.specs.OwnerHandles.{plan_of, view_of, hand_in, past_of, task_in, held_in, front_in, shown_of, IsLatest, SitsAt, TakesNumber, StepsOn};
 
     /// A new site: nobody holds, the state is empty, no call is logged or recorded. The pass has no
     /// task number.
@@ -52,8 +52,7 @@ impl<O: Object> OwnerSite<O> {
     /// A pass without a task number, which has seen as many entries.
     pub fn split(&self, pass: &mut OwnerPass<O>) -> OwnerPass<O>
         requires own { SitsAt self.now pass.old }
-        ensures own { SitsAt self.now pass.new }
-        ensures goes_on { KeepsPast pass.old pass.new }
+        ensures on { StepsOn self.now pass.old pass.new }
         ensures kept { view_of pass.new ≡ ticked (view_of pass.old) }
         ensures its_own { SitsAt self.now result }
         ensures given { view_of result ≡ split_off tt (view_of pass.old) }
@@ -70,8 +69,7 @@ impl<O: Object> OwnerSite<O> {
         requires own { SitsAt self.now pass.old }
         requires numberless { task_in pass.old ≡ None }
         requires there { task < length (plan_of self.now) }
-        ensures own { SitsAt self.now pass.new }
-        ensures goes_on { KeepsPast pass.old pass.new }
+        ensures on { StepsOn self.now pass.old pass.new }
         ensures last { IsLatest pass.new }
         ensures became { TakesNumber O.object owned self.now task pass.old pass.new }
         ensures beside { BesideForgetting (view_of pass.old) (view_of pass.new) }
@@ -86,8 +84,7 @@ impl<O: Object> OwnerSite<O> {
         requires numbered { IsSome (task_in pass.old) }
         requires rests { HoldsNothing (view_of pass.old) }
         requires recorded { ((hand_in pass.old).sent ≡ None) × ((hand_in pass.old).consumed ≡ 0) }
-        ensures own { SitsAt self.now pass.new }
-        ensures goes_on { KeepsPast pass.old pass.new }
+        ensures on { StepsOn self.now pass.old pass.new }
         ensures last { IsLatest pass.new }
         ensures kept { view_of pass.new ≡ handed (view_of pass.old) (gave_up (hand_in pass.old)) }
     {
@@ -102,8 +99,7 @@ impl<O: Object> OwnerSite<O> {
         requires rests { HoldsNothing (view_of into.old) }
         requires other_rests { HoldsNothing (view_of other) }
         requires numberless { task_in other ≡ None }
-        ensures own { SitsAt self.now into.new }
-        ensures goes_on { KeepsPast into.old into.new }
+        ensures on { StepsOn self.now into.old into.new }
         ensures kept { view_of into.new ≡ merged (view_of into.old) (view_of other) }
         ensures rises { front_in into.old ≤ front_in into.new }
         ensures others { front_in other ≤ front_in into.new }
@@ -118,8 +114,7 @@ impl<O: Object> OwnerSite<O> {
         requires own { SitsAt self.now pass.old }
         requires numbered { IsSome (task_in pass.old) }
         requires out { held_in pass.old ≡ No }
-        ensures own { SitsAt self.now pass.new }
-        ensures goes_on { KeepsPast pass.old pass.new }
+        ensures on { StepsOn self.now pass.old pass.new }
         ensures last { IsLatest pass.new }
         ensures took { IfOk result (λ _.
             TakesOwner unturned O.object (plan_of self.now) (view_of pass.old) (view_of pass.new)) }
@@ -142,8 +137,7 @@ impl<O: Object> OwnerSite<O> {
         requires own { SitsAt self.now pass.old }
         requires held { held_in pass.old ≡ Alone }
         requires quiet { (hand_in pass.old).writes ≡ false }
-        ensures own { SitsAt self.now pass.new }
-        ensures goes_on { KeepsPast pass.old pass.new }
+        ensures on { StepsOn self.now pass.old pass.new }
         ensures last { IsLatest pass.new }
         ensures releases { Releases (wakes_alone mutex)
             (shown_of pass.old) (shown_of pass.new) }
@@ -158,8 +152,7 @@ impl<O: Object> OwnerSite<O> {
     /// step did to the site's words and to what the passes count.
     pub fn recall_holders(&self, pass: &mut OwnerPass<O>)
         requires own { SitsAt self.now pass.old }
-        ensures own { SitsAt self.now pass.new }
-        ensures goes_on { KeepsPast pass.old pass.new }
+        ensures on { StepsOn self.now pass.old pass.new }
         ensures kept { view_of pass.new ≡ ticked (view_of pass.old) }
         ensures last { IsLatest pass.new }
         ensures begins { Tail (newest (plan_of self.now) ∷ []) (past_of pass.new) }
@@ -175,8 +168,7 @@ impl<O: Object> OwnerSite<O> {
     /// words and to what the passes count: no entry of the log was lost, and no count fell.
     pub fn grown(&self, pass: &mut OwnerPass<O>)
         requires own { SitsAt self.now pass.old }
-        ensures own { SitsAt self.now pass.new }
-        ensures goes_on { KeepsPast pass.old pass.new }
+        ensures on { StepsOn self.now pass.old pass.new }
         ensures kept { view_of pass.new ≡ ticked (view_of pass.old) }
         ensures last { IsLatest pass.new }
         ensures moves { Ran unmarked (newest (plan_of self.now)) (IsSiteMove (plan_of self.now) owner_at)

@@ -1,8 +1,7 @@
 //! What one step makes of an owner word.
 ghost use Rattle.std.specs.Prelude.{◌≡◌, ◌<◌, ℕ, IfSome, None, Some};
 ghost use Rattle.mutex_word.specs.Owners.{ForOwner, IsOwnerWord, Mutex, States};
-ghost use Rattle.mutex_word.specs.OwnerWordSteps.{first_of, handoff_of, release_of, try_of};
-ghost use Rattle.mutex_word.specs.OwnerWordSteps.{HandsOverLawfully, ReleasesLawfully, TriesLawfully};
+ghost use Rattle.mutex_word.specs.OwnerWordSteps.{first_of, handoff_of, release_of, try_of, HandsOverLawfully, ReleasesLawfully, TriesLawfully};
 
 use word_bits::{MAX_TASKS, Owner};
 

@@ -11,6 +11,7 @@ use Rattle.lock_core.specs.declared.view.Moment.{Moment}
 use Rattle.lock_core.specs.declared.view.Past.{Past}
 use Rattle.lock_core.specs.SiteHandles as inner
 use Rattle.lock_core.specs.Pasts.{FoundAtStep, GoesOn, IsOwnStep}
+use Rattle.lock_core.specs.Shown as callers
 use Rattle.lock_core.specs.Shown.{Shown, no_line, shown}
 use Rattle.percpu_rwsem.specs.declared.pass.PercpuPass.{PercpuPass}
 use Rattle.percpu_rwsem.specs.declared.site.PercpuRwSem.{PercpuRwSem}
@@ -118,6 +119,10 @@ module _ {O C : Type 0} where
   -- a step of the pass since found this number at this place
   abbrev pub Finds : ℕ → ℕ → PercpuPass O C → PercpuPass O C → Type 0
   Finds at n old new = inner.Finds at n old.pass new.pass
+
+  -- the pass is one of the semaphore's as before, and its past goes on
+  abbrev pub StepsOn : PercpuRwSem O C → PercpuPass O C → PercpuPass O C → Type 0
+  StepsOn lock old new = callers.StepsOn SitsAt shown_of lock old new
 
 -- the view after so many steps, with this hand and phase
 abbrev pub after : ℕ → V → Hand → Phase → V

@@ -16,7 +16,7 @@ use std::sync::Wait;
 use word_bits::Object;
 
 impl<O: Object> PercpuRwSem<O> {
-    ghost use Rattle.percpu_rwsem.specs.PercpuHandles.{plan_of, view_of, hand_in, past_of, task_in, held_in, blocks_in, after, CameTo, Finds, IsLatest, KeepsPast, SitsAt, SleepsEachTry, TakesSince};
+    ghost use Rattle.percpu_rwsem.specs.PercpuHandles.{plan_of, view_of, hand_in, past_of, task_in, held_in, blocks_in, after, CameTo, Finds, IsLatest, SitsAt, SleepsEachTry, TakesSince, StepsOn};
 
     /// Tries once to read, as `__percpu_down_read_trylock` does: two steps if it gets in, three if
     /// not. `Ok`: the pass holds shared. `Err` has the code of the task that blocks, 1 plus its
@@ -27,8 +27,7 @@ impl<O: Object> PercpuRwSem<O> {
         requires numbered { IsSome (task_in pass.old) }
         requires out { held_in pass.old ≡ No }
         requires apart { blocks_in pass.old ≡ false }
-        ensures own { SitsAt self.now pass.new }
-        ensures goes_on { KeepsPast pass.old pass.new }
+        ensures on { StepsOn self.now pass.old pass.new }
         ensures last { IsLatest pass.new }
         ensures apart { blocks_in pass.new ≡ false }
         ensures took { IfOk result (λ _. TakesSince O.object (plan_of self.now) Shared Reads
@@ -71,8 +70,7 @@ impl<O: Object> PercpuRwSem<O> {
         requires numbered { IsSome (task_in pass.old) }
         requires out { held_in pass.old ≡ No }
         requires apart { blocks_in pass.old ≡ false }
-        ensures own { SitsAt self.now pass.new }
-        ensures goes_on { KeepsPast pass.old pass.new }
+        ensures on { StepsOn self.now pass.old pass.new }
         ensures last { IsLatest pass.new }
         ensures apart { blocks_in pass.new ≡ false }
         ensures took { TakesSince O.object (plan_of self.now) Shared Reads
@@ -98,8 +96,7 @@ impl<O: Object> PercpuRwSem<O> {
     pub fn up_read<C: Crew>(&self, pass: &mut PercpuPass<O>, crew: &C)
         requires own { SitsAt self.now pass.old }
         requires held { held_in pass.old ≡ Shared }
-        ensures own { SitsAt self.now pass.new }
-        ensures goes_on { KeepsPast pass.old pass.new }
+        ensures on { StepsOn self.now pass.old pass.new }
         ensures last { IsLatest pass.new }
         ensures apart { blocks_in pass.new ≡ false }
         ensures kept { view_of pass.new ≡

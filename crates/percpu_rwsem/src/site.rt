@@ -24,7 +24,7 @@ pub struct PercpuRwSem<O: Object> {
 }
 
 impl<O: Object> PercpuRwSem<O> {
-    ghost use Rattle.percpu_rwsem.specs.PercpuHandles.{plan_of, view_of, hand_in, past_of, joined_by, task_in, held_in, front_in, seen_in, blocks_in, after, IsLatest, KeepsPast, SitsAt, TakesNumber};
+    ghost use Rattle.percpu_rwsem.specs.PercpuHandles.{plan_of, view_of, hand_in, past_of, joined_by, task_in, front_in, seen_in, blocks_in, IsLatest, SitsAt, TakesNumber, StepsOn};
 
     /// A new semaphore: nobody holds, the state is empty, no call is logged or recorded. The pass
     /// has no task number.
@@ -45,8 +45,7 @@ impl<O: Object> PercpuRwSem<O> {
     /// A pass without a task number, which has seen as many entries.
     pub fn split(&self, pass: &mut PercpuPass<O>) -> PercpuPass<O>
         requires own { SitsAt self.now pass.old }
-        ensures own { SitsAt self.now pass.new }
-        ensures goes_on { KeepsPast pass.old pass.new }
+        ensures on { StepsOn self.now pass.old pass.new }
         ensures seen { seen_in pass.new ≡ seen_in pass.old }
         ensures kept { view_of pass.new ≡ ticked (view_of pass.old) }
         ensures its_own { SitsAt self.now result }
@@ -65,8 +64,7 @@ impl<O: Object> PercpuRwSem<O> {
         requires own { SitsAt self.now pass.old }
         requires numberless { task_in pass.old ≡ None }
         requires there { task < length (plan_of self.now) }
-        ensures own { SitsAt self.now pass.new }
-        ensures goes_on { KeepsPast pass.old pass.new }
+        ensures on { StepsOn self.now pass.old pass.new }
         ensures seen { seen_in pass.new ≡ seen_in pass.old }
         ensures last { IsLatest pass.new }
         ensures became { TakesNumber O.object never self.now task pass.old pass.new }
@@ -83,8 +81,7 @@ impl<O: Object> PercpuRwSem<O> {
         requires rests { HoldsNothing (view_of pass.old) }
         requires apart { blocks_in pass.old ≡ false }
         requires recorded { OwesNoSignal (hand_in pass.old) }
-        ensures own { SitsAt self.now pass.new }
-        ensures goes_on { KeepsPast pass.old pass.new }
+        ensures on { StepsOn self.now pass.old pass.new }
         ensures seen { seen_in pass.new ≡ seen_in pass.old }
         ensures last { IsLatest pass.new }
         ensures kept { view_of pass.new ≡ handed (view_of pass.old) (gave_up (hand_in pass.old)) }
@@ -102,8 +99,7 @@ impl<O: Object> PercpuRwSem<O> {
         requires other_rests { HoldsNothing (view_of other) }
         requires other_apart { blocks_in other ≡ false }
         requires numberless { task_in other ≡ None }
-        ensures own { SitsAt self.now into.new }
-        ensures goes_on { KeepsPast into.old into.new }
+        ensures on { StepsOn self.now into.old into.new }
         ensures seen { seen_in into.new ≡ seen_in into.old }
         ensures kept { view_of into.new ≡ merged (view_of into.old) (view_of other) }
         ensures rises { front_in into.old ≤ front_in into.new }
@@ -121,8 +117,7 @@ impl<O: Object> PercpuRwSem<O> {
     /// led it to a next phase and did to the words what goes with that.
     pub fn recall(&self, pass: &mut PercpuPass<O>)
         requires own { SitsAt self.now pass.old }
-        ensures own { SitsAt self.now pass.new }
-        ensures goes_on { KeepsPast pass.old pass.new }
+        ensures on { StepsOn self.now pass.old pass.new }
         ensures seen { seen_in pass.new ≡ seen_in pass.old }
         ensures kept { view_of pass.new ≡ ticked (view_of pass.old) }
         ensures last { IsLatest pass.new }

@@ -1,5 +1,5 @@
 //! The calls of a writer.
-ghost use Rattle.std.specs.Prelude.{◌≡◌, ◌≢◌, ◌<◌, ◌≤◌, ◌+◌, ℕ, false, true, None, Some, IsSome, IfOk, IfErr, length};
+ghost use Rattle.std.specs.Prelude.{◌≡◌, ◌≢◌, ◌<◌, ◌+◌, false, true, None, Some, IsSome, IfOk, IfErr, length};
 ghost use Rattle.lock_core.specs.declared.view.Held.TheVariants.{No, Alone};
 ghost use Rattle.lock_core.specs.Views.{first, ticked};
 ghost use Rattle.lock_core.specs.Pasts.{FoundAt};
@@ -15,7 +15,7 @@ use std::sync::Wait;
 use word_bits::Object;
 
 impl<O: Object> PercpuRwSem<O> {
-    ghost use Rattle.percpu_rwsem.specs.PercpuHandles.{plan_of, view_of, hand_in, past_of, task_in, held_in, seen_in, blocks_in, after, FindsZerosUpTo, IsLatest, KeepsPast, LooksUpTo, SitsAt, SleepsBehind, StepsTo, TakesSince};
+    ghost use Rattle.percpu_rwsem.specs.PercpuHandles.{plan_of, view_of, hand_in, past_of, task_in, held_in, seen_in, blocks_in, after, FindsZerosUpTo, IsLatest, LooksUpTo, SitsAt, SleepsBehind, StepsTo, TakesSince, StepsOn};
 
     /// Blocks new readers by one compare-exchange. `Err` has the code of the task that blocks
     /// already, 1 plus its number. After `Ok` the pass blocks, and holds nothing until `drain`
@@ -25,8 +25,7 @@ impl<O: Object> PercpuRwSem<O> {
         requires numbered { IsSome (task_in pass.old) }
         requires out { held_in pass.old ≡ No }
         requires apart { blocks_in pass.old ≡ false }
-        ensures own { SitsAt self.now pass.new }
-        ensures goes_on { KeepsPast pass.old pass.new }
+        ensures on { StepsOn self.now pass.old pass.new }
         ensures last { IsLatest pass.new }
         ensures out { held_in pass.new ≡ No }
         ensures task { task_in pass.new ≡ task_in pass.old }
@@ -55,8 +54,7 @@ impl<O: Object> PercpuRwSem<O> {
         requires own { SitsAt self.now pass.old }
         requires blocks { blocks_in pass.old ≡ true }
         requires out { held_in pass.old ≡ No }
-        ensures own { SitsAt self.now pass.new }
-        ensures goes_on { KeepsPast pass.old pass.new }
+        ensures on { StepsOn self.now pass.old pass.new }
         ensures last { IsLatest pass.new }
         ensures blocks { blocks_in pass.new ≡ true }
         ensures took { IfOk result (λ _. TakesSince O.object (plan_of self.now) Alone
@@ -99,8 +97,7 @@ impl<O: Object> PercpuRwSem<O> {
         requires numbered { IsSome (task_in pass.old) }
         requires out { held_in pass.old ≡ No }
         requires apart { blocks_in pass.old ≡ false }
-        ensures own { SitsAt self.now pass.new }
-        ensures goes_on { KeepsPast pass.old pass.new }
+        ensures on { StepsOn self.now pass.old pass.new }
         ensures blocks { blocks_in pass.new ≡ true }
         ensures out { held_in pass.new ≡ No }
         ensures kept { StepsTo (Blocks 0) (view_of pass.old) (view_of pass.new) }
@@ -122,8 +119,7 @@ impl<O: Object> PercpuRwSem<O> {
         requires own { SitsAt self.now pass.old }
         requires blocks { blocks_in pass.old ≡ true }
         requires out { held_in pass.old ≡ No }
-        ensures own { SitsAt self.now pass.new }
-        ensures goes_on { KeepsPast pass.old pass.new }
+        ensures on { StepsOn self.now pass.old pass.new }
         ensures last { IsLatest pass.new }
         ensures blocks { blocks_in pass.new ≡ true }
         ensures took { TakesSince O.object (plan_of self.now) Alone
@@ -156,8 +152,7 @@ impl<O: Object> PercpuRwSem<O> {
         requires numbered { IsSome (task_in pass.old) }
         requires out { held_in pass.old ≡ No }
         requires apart { blocks_in pass.old ≡ false }
-        ensures own { SitsAt self.now pass.new }
-        ensures goes_on { KeepsPast pass.old pass.new }
+        ensures on { StepsOn self.now pass.old pass.new }
         ensures last { IsLatest pass.new }
         ensures blocks { blocks_in pass.new ≡ true }
         ensures took { TakesSince O.object (plan_of self.now) Alone
@@ -177,8 +172,7 @@ impl<O: Object> PercpuRwSem<O> {
         requires own { SitsAt self.now pass.old }
         requires blocks { blocks_in pass.old ≡ true }
         requires quiet { (hand_in pass.old).writes ≡ false }
-        ensures own { SitsAt self.now pass.new }
-        ensures goes_on { KeepsPast pass.old pass.new }
+        ensures on { StepsOn self.now pass.old pass.new }
         ensures last { IsLatest pass.new }
         ensures apart { blocks_in pass.new ≡ false }
         ensures out { held_in pass.new ≡ No }

@@ -22,7 +22,7 @@ use Rattle.seq_fault.specs.declared.view.Glance.{Glance}
 use Rattle.seq_fault.specs.declared.view.Watch.TheVariants.{Off, On}
 use Rattle.seq_fault.specs.SeqPlays.{turned, glance, staled, saw_log}
 use Rattle.seq_fault.specs.SeqRuled.{V, seq_at}
-use Rattle.seq_fault.specs.SeqSteps.{AtOneWord, Faults, HasSearched, IsMeasured, IsNextFault, IsOptimisticRead, IsWatching, StepsAtMost, StepsOn, TellsSince}
+use Rattle.seq_fault.specs.SeqSteps.{AtOneWord, Faults, HasSearched, IsMeasured, IsNextFault, IsOptimisticRead, IsWatching, StepsAtMost, OnlySteps, TellsSince}
 use Rattle.seq_fault.proofs.Stepping.{on-off}
 
 -- what the pass's step of this number found
@@ -171,10 +171,10 @@ reads-at-one-word x u z before front old middle new p even first measured again 
 }
 
 -- a race leaves what it knew, and its two loads found the words that it tells
-pub steps-on : (v x u : V) → x ≡ ticked (ticked v) → StepsAtMost 12 x u → StepsOn v u
+pub steps-on : (v x u : V) → x ≡ ticked (ticked v) → StepsAtMost 12 x u → OnlySteps v u
 steps-on v x u is p = (v.steps + 2 + p.steps, p.watch, omega arith, p.is ∙ (ap (λ (z : V). record z { steps = z.steps + p.steps; ext = p.watch }) is ∙ ap (λ (n : ℕ). record v { steps = n; ext = p.watch }) (let e : v.steps + 1 + 1 + p.steps ≡ v.steps + 2 + p.steps = omega arith in e)))
 
-pub turned-on : (v u w : V) → StepsOn v u → w ≡ turned u u.hand Off → StepsOn v w
+pub turned-on : (v u w : V) → OnlySteps v u → w ≡ turned u u.hand Off → OnlySteps v w
 turned-on v u w s is = let l = s.2 in (s.0 + 1, Off, omega (arith, l), is ∙ ap (λ (z : V). turned z z.hand Off) s.3)
 
 -- what a step found, counted from two steps later on

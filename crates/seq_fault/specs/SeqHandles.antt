@@ -8,6 +8,7 @@ use Rattle.lock_core.specs.declared.view.Held.{Held}
 use Rattle.lock_core.specs.declared.view.Moment.{Moment}
 use Rattle.lock_core.specs.declared.view.Past.{Past}
 use Rattle.lock_core.specs.SiteHandles as inner
+use Rattle.lock_core.specs.Shown as callers
 use Rattle.lock_core.specs.Shown.{Shown, no_line, shown}
 use Rattle.seq_fault.specs.declared.site.SeqPass.{SeqPass}
 use Rattle.seq_fault.specs.declared.site.SeqSite.{SeqSite}
@@ -79,3 +80,7 @@ module _ {O C : Type 0} where
   -- Behind so many steps it found the length of what it has seen of the log, between two loads of one even sequence word.
   abbrev pub ReadsAtOneWord : (ahead : ℕ) → SeqPass O C → SeqPass O C → Type 0
   ReadsAtOneWord ahead old new = AtOneWord ahead (front_in new) (view_of old) (view_of new) (past_of old) (past_of new)
+
+  -- the pass is one of the site's as before, and its past goes on
+  abbrev pub StepsOn : SeqSite O C → SeqPass O C → SeqPass O C → Type 0
+  StepsOn lock old new = callers.StepsOn SitsAt shown_of lock old new

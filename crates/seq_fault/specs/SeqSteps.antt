@@ -62,8 +62,8 @@ pub record HasSearched (g : Glance) (s : Search) (v u : V) : Type 0 where
   pub fresh : stale ≡ false → (g.stale ≡ false) × AgreesWith g.known s
 
 -- all that it knows is as it was, after some steps; it may watch or not
-abbrev pub StepsOn : V → V → Type 0
-StepsOn v u = (s : ℕ) × (e : Watch) × (v.steps ≤ s) × (u ≡ record v { steps = s; ext = e })
+abbrev pub OnlySteps : V → V → Type 0
+OnlySteps v u = (s : ℕ) × (e : Watch) × (v.steps ≤ s) × (u ≡ record v { steps = s; ext = e })
 
 -- all that it knows is as it was, after at most so many steps; it may watch or not
 pub record StepsAtMost (most : ℕ) (v u : V) : Type 0 where

@@ -3,9 +3,9 @@ ghost use Rattle.std.specs.Prelude.{◌≡◌, ◌+◌, ◌≤◌, IsSome, IfOk,
 ghost use Rattle.lock_core.specs.declared.view.Held.TheVariants.{No};
 ghost use Rattle.lock_core.specs.Pasts.{FoundAt};
 ghost use Rattle.lock_core.specs.Views.{OwesNoSignal, ticked};
-ghost use Rattle.seq_fault.specs.SeqHandles.{plan_of, view_of, hand_in, past_of, task_in, held_in, done_in, front_in, FindsAtStep, IsLatest, KeepsPast, ReadsAtOneWord, SaysSame, SitsAt};
+ghost use Rattle.seq_fault.specs.SeqHandles.{plan_of, view_of, hand_in, past_of, task_in, held_in, done_in, front_in, FindsAtStep, IsLatest, ReadsAtOneWord, SaysSame, SitsAt, StepsOn};
 ghost use Rattle.seq_fault.specs.SeqRuled.{V, seq_at};
-ghost use Rattle.seq_fault.specs.SeqSteps.{AtOneWord, Faults, HasNextFault, IsRace, StepsOn};
+ghost use Rattle.seq_fault.specs.SeqSteps.{AtOneWord, Faults, HasNextFault, IsRace, OnlySteps};
 
 use crate::reading::{next_fault, read_optimistically, validate};
 use crate::site::{SeqPass, SeqSite};
@@ -31,8 +31,7 @@ impl SeqSite<Areas> {
         requires call { call ≡ done_in pass.old }
         requires recorded { OwesNoSignal (hand_in pass.old) }
         requires next { HasNextFault (plan_of self.now) (hand_in pass.old) }
-        ensures own { SitsAt self.now pass.new }
-        ensures goes_on { KeepsPast pass.old pass.new }
+        ensures on { StepsOn self.now pass.old pass.new }
         ensures last { IsLatest pass.new }
         ensures ok { IfOk result (λ reply. Faults (plan_of self.now)
             (ticked (ticked (view_of pass.old))) reply (view_of pass.new)) }
@@ -40,7 +39,7 @@ impl SeqSite<Areas> {
         ensures raced { IfErr result (λ why. IsRace why.before why.after) }
         ensures first { IfErr result (λ why. FindsAtStep 3 seq_at why.before pass.old pass.new) }
         ensures second { IfErr result (λ why. FoundAt seq_at why.after (past_of pass.new)) }
-        ensures kept { IfErr result (λ _. StepsOn (view_of pass.old) (view_of pass.new)) }
+        ensures kept { IfErr result (λ _. OnlySteps (view_of pass.old) (view_of pass.new)) }
         ensures face { IfErr result (λ _. SaysSame pass.old pass.new) }
         ensures few { IfErr result (λ _.
             (view_of pass.new).steps ≤ (view_of pass.old).steps + 15) }
@@ -61,12 +60,11 @@ impl SeqSite<Areas> {
         requires call { call ≡ done_in pass.old }
         requires recorded { OwesNoSignal (hand_in pass.old) }
         requires next { HasNextFault (plan_of self.now) (hand_in pass.old) }
-        ensures own { SitsAt self.now pass.new }
-        ensures goes_on { KeepsPast pass.old pass.new }
+        ensures on { StepsOn self.now pass.old pass.new }
         ensures last { IsLatest pass.new }
-        ensures ok { (v : V) × StepsOn (view_of pass.old) v
+        ensures ok { (v : V) × OnlySteps (view_of pass.old) v
             × Faults (plan_of self.now) (ticked (ticked v)) result (view_of pass.new) }
-        ensures read { (v : V) × StepsOn (view_of pass.old) v × AtOneWord 2 (front_in pass.new)
+        ensures read { (v : V) × OnlySteps (view_of pass.old) v × AtOneWord 2 (front_in pass.new)
             v (view_of pass.new) (past_of pass.old) (past_of pass.new) }
     {
         for _ in rt.forever() {

@@ -36,7 +36,7 @@ pub struct SeqPass<O: Object> {
 }
 
 impl<O: Object> SeqSite<O> {
-    ghost use Rattle.seq_fault.specs.SeqHandles.{plan_of, view_of, hand_in, past_of, joined_by, task_in, held_in, front_in, IsLatest, KeepsPast, SaysSame, SitsAt, TakesNumber};
+    ghost use Rattle.seq_fault.specs.SeqHandles.{plan_of, view_of, hand_in, past_of, joined_by, task_in, held_in, front_in, IsLatest, SaysSame, SitsAt, TakesNumber, StepsOn};
 
     /// A new site: nobody holds, the state is empty, no call is logged or recorded.
     pub fn open(alloc: Global, plan: Plan) -> Result<(SeqSite<O>, SeqPass<O>), AllocError>
@@ -54,8 +54,7 @@ impl<O: Object> SeqSite<O> {
     /// A pass without a task number, which has seen as many entries.
     pub fn split(&self, pass: &mut SeqPass<O>) -> SeqPass<O>
         requires own { SitsAt self.now pass.old }
-        ensures own { SitsAt self.now pass.new }
-        ensures goes_on { KeepsPast pass.old pass.new }
+        ensures on { StepsOn self.now pass.old pass.new }
         ensures kept { view_of pass.new ≡ ticked (view_of pass.old) }
         ensures its_own { SitsAt self.now result }
         ensures given { view_of result ≡ split_off Off (view_of pass.old) }
@@ -70,8 +69,7 @@ impl<O: Object> SeqSite<O> {
         requires own { SitsAt self.now pass.old }
         requires numberless { task_in pass.old ≡ None }
         requires there { task < length (plan_of self.now) }
-        ensures own { SitsAt self.now pass.new }
-        ensures goes_on { KeepsPast pass.old pass.new }
+        ensures on { StepsOn self.now pass.old pass.new }
         ensures last { IsLatest pass.new }
         ensures became { TakesNumber O.object never self.now task pass.old pass.new }
         ensures beside { BesideForgetting (view_of pass.old) (view_of pass.new) }
@@ -86,8 +84,7 @@ impl<O: Object> SeqSite<O> {
         requires numbered { IsSome (task_in pass.old) }
         requires rests { HoldsNothing (view_of pass.old) }
         requires recorded { OwesNoSignal (hand_in pass.old) }
-        ensures own { SitsAt self.now pass.new }
-        ensures goes_on { KeepsPast pass.old pass.new }
+        ensures on { StepsOn self.now pass.old pass.new }
         ensures last { IsLatest pass.new }
         ensures kept { view_of pass.new ≡ handed (view_of pass.old) (gave_up (hand_in pass.old)) }
     {
@@ -102,8 +99,7 @@ impl<O: Object> SeqSite<O> {
         requires rests { HoldsNothing (view_of into.old) }
         requires other_rests { HoldsNothing (view_of other) }
         requires numberless { task_in other ≡ None }
-        ensures own { SitsAt self.now into.new }
-        ensures goes_on { KeepsPast into.old into.new }
+        ensures on { StepsOn self.now into.old into.new }
         ensures kept { view_of into.new ≡ merged (view_of into.old) (view_of other) }
         ensures rises { front_in into.old ≤ front_in into.new }
         ensures others { front_in other ≤ front_in into.new }
@@ -119,8 +115,7 @@ impl<O: Object> SeqSite<O> {
         requires own { SitsAt self.now pass.old }
         requires numbered { IsSome (task_in pass.old) }
         requires out { held_in pass.old ≡ No }
-        ensures own { SitsAt self.now pass.new }
-        ensures goes_on { KeepsPast pass.old pass.new }
+        ensures on { StepsOn self.now pass.old pass.new }
         ensures last { IsLatest pass.new }
         ensures took { result ≡ true → EntersSince O.object (plan_of self.now)
             (view_of pass.old) (view_of pass.new) }
@@ -142,8 +137,7 @@ impl<O: Object> SeqSite<O> {
         requires own { SitsAt self.now pass.old }
         requires numbered { IsSome (task_in pass.old) }
         requires out { held_in pass.old ≡ No }
-        ensures own { SitsAt self.now pass.new }
-        ensures goes_on { KeepsPast pass.old pass.new }
+        ensures on { StepsOn self.now pass.old pass.new }
         ensures last { IsLatest pass.new }
         ensures took { EntersSince O.object (plan_of self.now)
             (view_of pass.old) (view_of pass.new) }
@@ -162,8 +156,7 @@ impl<O: Object> SeqSite<O> {
         requires own { SitsAt self.now pass.old }
         requires held { held_in pass.old ≡ Alone }
         requires quiet { (hand_in pass.old).writes ≡ false }
-        ensures own { SitsAt self.now pass.new }
-        ensures goes_on { KeepsPast pass.old pass.new }
+        ensures on { StepsOn self.now pass.old pass.new }
         ensures last { IsLatest pass.new }
         ensures kept { view_of pass.new ≡
             handed (view_of pass.old) (released (hand_in pass.old) 0) }
@@ -178,8 +171,7 @@ impl<O: Object> SeqSite<O> {
     /// word; and what each step did to the site's words.
     pub fn recall(&self, pass: &mut SeqPass<O>)
         requires own { SitsAt self.now pass.old }
-        ensures own { SitsAt self.now pass.new }
-        ensures goes_on { KeepsPast pass.old pass.new }
+        ensures on { StepsOn self.now pass.old pass.new }
         ensures kept { view_of pass.new ≡ ticked (view_of pass.old) }
         ensures last { IsLatest pass.new }
         ensures begins { BeganWith (newest (plan_of self.now)) (past_of pass.new) }

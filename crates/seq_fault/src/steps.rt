@@ -1,8 +1,8 @@
 //! The single steps on a table with a sequence word.
-ghost use Rattle.std.specs.Prelude.{◌≡◌, ◌≢◌, ◌⊎◌, ℕ, ◌+◌, ◌%◌, ◌<◌, ◌≤◌, false, true, length, slice_index, Some, IsSome, IfOk, IfErr};
+ghost use Rattle.std.specs.Prelude.{◌≡◌, ◌≢◌, ◌+◌, ◌%◌, ◌<◌, ◌≤◌, false, true, length, slice_index, IsSome, IfOk, IfErr};
 ghost use Rattle.lock_core.specs.declared.view.Held.TheVariants.{No, Alone};
 ghost use Rattle.lock_core.specs.declared.layout.TheConstants.{LOCK_WORDS};
-ghost use Rattle.lock_core.specs.Holding.{TakesHold, released};
+ghost use Rattle.lock_core.specs.Holding.{released};
 ghost use Rattle.lock_core.specs.Layout.{length_place};
 ghost use Rattle.lock_core.specs.Plans.{calls_in};
 ghost use Rattle.lock_core.specs.Pasts.{FoundAt};
@@ -10,7 +10,7 @@ ghost use Rattle.lock_core.specs.Views.{handed, ticked};
 ghost use Rattle.lock_core.specs.SiteHandles.{IsLatest, plan_of, view_of, hand_in, past_of, task_in, held_in, done_in, SitsAt, KeepsPast, SaysSame};
 ghost use Rattle.seq_fault.specs.declared.view.Glance.{Glance as Moment};
 ghost use Rattle.seq_fault.specs.declared.view.Watch.TheVariants.{Off, On};
-ghost use Rattle.seq_fault.specs.SeqPlays.{turned, glance, staled, saw_log, Looked, Entered, Left, Watched, Peeked, Measured, Confirmed};
+ghost use Rattle.seq_fault.specs.SeqPlays.{turned, saw_log, Looked, Entered, Left, Watched, Peeked, Measured, Confirmed};
 ghost use Rattle.seq_fault.specs.SeqSteps.{Begins, EntersHold, IsWatching, TellsSince, IsMeasured};
 ghost use Rattle.seq_fault.specs.SeqRuled.{seq_at};
 

@@ -2,7 +2,7 @@
 ghost use Rattle.std.specs.Prelude.{◌≡◌, ◌+◌, IsSome};
 ghost use Rattle.lock_core.specs.declared.view.Held.TheVariants.{No};
 ghost use Rattle.lock_core.specs.Views.{Beside, OwesNoSignal};
-ghost use Rattle.seq_fault.specs.SeqHandles.{plan_of, view_of, hand_in, task_in, held_in, done_in, IsLatest, KeepsPast, SitsAt};
+ghost use Rattle.seq_fault.specs.SeqHandles.{plan_of, view_of, hand_in, task_in, held_in, done_in, IsLatest, SitsAt, StepsOn};
 ghost use Rattle.seq_fault.specs.SeqWriting.{HasNextChange, Writes};
 
 use crate::site::{SeqPass, SeqSite};
@@ -20,8 +20,7 @@ impl<O: Object + Drop> SeqSite<O> {
         requires call { call ≡ done_in pass.old }
         requires recorded { OwesNoSignal (hand_in pass.old) }
         requires next { HasNextChange O.object (plan_of self.now) (hand_in pass.old) }
-        ensures own { SitsAt self.now pass.new }
-        ensures goes_on { KeepsPast pass.old pass.new }
+        ensures on { StepsOn self.now pass.old pass.new }
         ensures last { IsLatest pass.new }
         ensures out { held_in pass.new ≡ No }
         ensures wrote { Writes O.object (plan_of self.now)

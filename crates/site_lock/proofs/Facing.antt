@@ -10,7 +10,7 @@ use Rattle.lock_core.specs.SiteHandles.{view_of, hand_in, past_of, KeepsPast, Sa
 use Rattle.lock_core.specs.Locking.{Has, HasSince}
 use Rattle.lock_core.specs.Pasts.{FoundAt, GoesOn}
 use Rattle.lock_core.specs.SitePasses.{Consumes}
-use Rattle.lock_core.specs.Shown.{Shown, PastGoesOn}
+use Rattle.lock_core.specs.Shown.{Shown, AllButHand, PastGoesOn}
 use Rattle.lock_core.specs.Views.{Beside, note_steps}
 use Rattle.site_lock.specs.Faces.{IsFace, Follows, KeepsHold}
 
@@ -33,6 +33,10 @@ module _ {R O E C : Type 0} (old new : Pass R O E C) where
 
   pub goes-on : (v u : Shown) → IsFace old v → Follows new v u → KeepsPast old new → PastGoesOn v u
   goes-on v u a b goes = subst (λ q. GoesOn q u.past) (sym a.past) (subst (λ q. GoesOn (past_of old) q) (sym b.face.past) goes)
+
+  -- beside the hand, what it shows is as it was
+  pub all-but-hand : (v u : Shown) → IsFace old v → Follows new v u → Beside (view_of old) (view_of new) → AllButHand v u
+  all-but-hand v u a b beside = (ap (λ s. s.entries) (b.face.spin ∙ (beside.0 ∙ sym a.spin)), b.fronts, b.line, (let moved = beside.3 in let before = a.steps in let after = b.face.steps in omega (arith, moved, before, after)), b.swaps, b.tally)
 
   -- a hand that the call made of the one before
   pub has : (v u : Shown) (f : Hand → Hand) (n : ℕ) → IsFace old v → Follows new v u → view_of new ≡ record (view_of old) { hand = f (hand_in old); steps = (view_of old).steps + n } → Has (f v.hand) v u

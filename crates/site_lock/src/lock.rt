@@ -15,7 +15,7 @@ ghost use Rattle.lock_core.specs.Locking.{Looks, Has, HasSince};
 ghost use Rattle.lock_core.specs.SitePasses.{Consumes, IsChange, IsSignal, MayNote, IsEntryWord, TellsKnown};
 ghost use Rattle.lock_core.specs.Pasts.{FoundAt};
 ghost use Rattle.lock_core.specs.Records.{row, IsPlan, IsCallOrSignal};
-ghost use Rattle.lock_core.specs.Shown.{Shown, PastGoesOn};
+ghost use Rattle.lock_core.specs.Shown.{Shown, AllButHand, StepsOn};
 ghost use Rattle.lock_core.specs.Views.{after_commit, after_note, committed, handed, next_entry, noted, sending, ticked, wrote, Beside, OwesNoSignal, Unsent};
 ghost use Rattle.site_lock.specs.Faces.{IsFace, Follows, KeepsHold};
 ghost use Rattle.site_lock.specs.SeatLending.{LendsSeat};
@@ -70,8 +70,7 @@ pub trait SiteLock<O: Object>: Sized {
         requires own { sits self.now pass.old }
         requires held { (view pass.old).hand.held ≢ No }
         requires inside { at < O.WORDS }
-        ensures own { sits self.now pass.new }
-        ensures goes_on { PastGoesOn (view pass.old) (view pass.new) }
+        ensures on { StepsOn sits view self.now pass.old pass.new }
         ensures beside { pass.new ≡ with_seat pass.old (seat_of pass.new) }
         ensures last { IsLatest (seat_of pass.new) }
         ensures seat { view_of (seat_of pass.new) ≡ ticked (view_of (seat_of pass.old)) }
@@ -87,8 +86,7 @@ pub trait SiteLock<O: Object>: Sized {
         requires own { sits self.now pass.old }
         requires held { (view pass.old).hand.held ≡ Alone }
         requires inside { at < O.WORDS }
-        ensures own { sits self.now pass.new }
-        ensures goes_on { PastGoesOn (view pass.old) (view pass.new) }
+        ensures on { StepsOn sits view self.now pass.old pass.new }
         ensures beside { pass.new ≡ with_seat pass.old (seat_of pass.new) }
         ensures last { IsLatest (seat_of pass.new) }
         ensures seat { view_of (seat_of pass.new) ≡
@@ -109,8 +107,7 @@ pub trait SiteLock<O: Object>: Sized {
         requires recorded { OwesNoSignal (view pass.old).hand }
         requires change { IsChange O.object (calls_on self.now)
             (view pass.old).hand (next_entry (view pass.old).hand) reply }
-        ensures own { sits self.now pass.new }
-        ensures goes_on { PastGoesOn (view pass.old) (view pass.new) }
+        ensures on { StepsOn sits view self.now pass.old pass.new }
         ensures beside { pass.new ≡ with_seat pass.old (seat_of pass.new) }
         ensures last { IsLatest (seat_of pass.new) }
         ensures seat { view_of (seat_of pass.new) ≡
@@ -133,8 +130,7 @@ pub trait SiteLock<O: Object>: Sized {
         requires unsent { Unsent (view pass.old).hand reply }
         requires may { MayNote O.object Self.Rule.unavailable (calls_on self.now)
             (view pass.old).hand (next_entry (view pass.old).hand) reply }
-        ensures own { sits self.now pass.new }
-        ensures goes_on { PastGoesOn (view pass.old) (view pass.new) }
+        ensures on { StepsOn sits view self.now pass.old pass.new }
         ensures beside { pass.new ≡ with_seat pass.old (seat_of pass.new) }
         ensures last { IsLatest (seat_of pass.new) }
         ensures seat { view_of (seat_of pass.new) ≡ after_note (view_of (seat_of pass.old)) reply }
@@ -153,8 +149,7 @@ pub trait SiteLock<O: Object>: Sized {
         requires there { target < MAX_TASKS }
         requires unsent { (view pass.old).hand.sent ≡ None }
         requires next { IsSignal (calls_on self.now) (next_entry (view pass.old).hand) target }
-        ensures own { sits self.now pass.new }
-        ensures goes_on { PastGoesOn (view pass.old) (view pass.new) }
+        ensures on { StepsOn sits view self.now pass.old pass.new }
         ensures beside { pass.new ≡ with_seat pass.old (seat_of pass.new) }
         ensures last { IsLatest (seat_of pass.new) }
         ensures seat { view_of (seat_of pass.new) ≡
@@ -170,8 +165,7 @@ pub trait SiteLock<O: Object>: Sized {
     final fn consume(&self, pass: &mut Self::Pass) -> Option<Interrupted>
         requires own { sits self.now pass.old }
         requires numbered { IsSome (view pass.old).hand.task }
-        ensures own { sits self.now pass.new }
-        ensures goes_on { PastGoesOn (view pass.old) (view pass.new) }
+        ensures on { StepsOn sits view self.now pass.old pass.new }
         ensures beside { pass.new ≡ with_seat pass.old (seat_of pass.new) }
         ensures last { IsLatest (seat_of pass.new) }
         ensures consumed { IfSome result (λ why.
@@ -179,6 +173,7 @@ pub trait SiteLock<O: Object>: Sized {
         ensures saw { IfSome result (λ why.
             SawOwnSignals why (seat_of pass.old) (seat_of pass.new)) }
         ensures none { IfNone result (SawNonePending (seat_of pass.old) (seat_of pass.new)) }
+        ensures kept { AllButHand (view pass.old) (view pass.new) }
     {
         self.site().get().consume(Self::seat(pass))
     }
@@ -203,8 +198,7 @@ pub trait SiteLock<O: Object>: Sized {
         requires own { sits self.now pass.old }
         requires task { task < length (calls_on self.now) }
         requires call { call < length (row (calls_on self.now) task) }
-        ensures own { sits self.now pass.new }
-        ensures goes_on { PastGoesOn (view pass.old) (view pass.new) }
+        ensures on { StepsOn sits view self.now pass.old pass.new }
         ensures beside { pass.new ≡ with_seat pass.old (seat_of pass.new) }
         ensures last { IsLatest (seat_of pass.new) }
         ensures seat { view_of (seat_of pass.new) ≡ ticked (ticked (view_of (seat_of pass.old))) }
@@ -220,8 +214,7 @@ pub trait SiteLock<O: Object>: Sized {
         requires own { sits self.now pass.old }
         requires task { task < length (calls_on self.now) }
         requires call { call < length (row (calls_on self.now) task) }
-        ensures own { sits self.now pass.new }
-        ensures goes_on { PastGoesOn (view pass.old) (view pass.new) }
+        ensures on { StepsOn sits view self.now pass.old pass.new }
         ensures beside { pass.new ≡ with_seat pass.old (seat_of pass.new) }
         ensures last { IsLatest (seat_of pass.new) }
         ensures seat { view_of (seat_of pass.new) ≡ ticked (view_of (seat_of pass.old)) }
@@ -242,8 +235,7 @@ pub trait SiteLock<O: Object>: Sized {
     final fn log_len(&self, pass: &mut Self::Pass) -> u32
         requires own { sits self.now pass.old }
         requires held { (view pass.old).hand.held ≢ No }
-        ensures own { sits self.now pass.new }
-        ensures goes_on { PastGoesOn (view pass.old) (view pass.new) }
+        ensures on { StepsOn sits view self.now pass.old pass.new }
         ensures beside { pass.new ≡ with_seat pass.old (seat_of pass.new) }
         ensures last { IsLatest (seat_of pass.new) }
         ensures seat { view_of (seat_of pass.new) ≡ ticked (view_of (seat_of pass.old)) }
@@ -261,8 +253,7 @@ pub trait SiteLock<O: Object>: Sized {
         requires own { sits self.now pass.old }
         requires held { (view pass.old).hand.held ≢ No }
         requires inside { at < length (view pass.old).hand.log }
-        ensures own { sits self.now pass.new }
-        ensures goes_on { PastGoesOn (view pass.old) (view pass.new) }
+        ensures on { StepsOn sits view self.now pass.old pass.new }
         ensures beside { pass.new ≡ with_seat pass.old (seat_of pass.new) }
         ensures last { IsLatest (seat_of pass.new) }
         ensures seat { view_of (seat_of pass.new) ≡ ticked (view_of (seat_of pass.old)) }
@@ -316,6 +307,10 @@ pub trait SiteLock<O: Object>: Sized {
 
     ghost puts: { (p : Self.Pass) (w : Seat Self.Rule O Self.Rule.Ext O.Call) →
         seat_of (with_seat p w) ≡ w };
+
+    // It changes nothing else of the lock's pass: put back, the pass of the site leaves all as it was.
+    ghost whole: { (p : Self.Pass) (w : Seat Self.Rule O Self.Rule.Ext O.Call) →
+        w ≡ seat_of p → with_seat p w ≡ p };
 
     // A call of the site that leaves its pass a number and a hold leaves the lock's pass as it was.
     ghost frame: { (l : Self) (p : Self.Pass) (w : Seat Self.Rule O Self.Rule.Ext O.Call) →

@@ -1,4 +1,4 @@
-//! A site with an owner word, as a lock over a site: its pass is the site's.
+//! A site with an owner word, as a lock over a site: its pass has a pass of the site alone.
 ghost use Rattle.std.specs.Prelude.{refl};
 ghost use Rattle.mutex_word.specs.OwnerHandles.{plan_of, shown_of, SitsAt};
 
@@ -9,6 +9,7 @@ use site_lock::SiteLock;
 use word_bits::Object;
 
 impl<O: Object> SiteLock<O> for OwnerSite<O> {
+    ghost use Rattle.site_lock.specs.Faces.{same-put};
     ghost use Rattle.mutex_word.specs.OwnerSiteLaws.{owner-frame};
 
     type Rule = OwnerRule<O>;
@@ -48,6 +49,8 @@ impl<O: Object> SiteLock<O> for OwnerSite<O> {
     ghost owns = { λ s p at. at };
 
     ghost puts = { λ p w. refl };
+
+    ghost whole = { λ p w same. same-put (λ put. record p { pass = put }) w p.pass same };
 
     ghost frame = { owner-frame };
 }

@@ -11,6 +11,7 @@ use site_lock::SiteLock;
 use word_bits::Object;
 
 impl<O: Object> SiteLock<O> for PercpuRwSem<O> {
+    ghost use Rattle.site_lock.specs.Faces.{same-put};
     ghost use Rattle.percpu_rwsem.specs.PercpuSiteLaws.{percpu-frame};
 
     type Rule = PercpuRule<O>;
@@ -50,6 +51,8 @@ impl<O: Object> SiteLock<O> for PercpuRwSem<O> {
     ghost owns = { λ s p at. at.seat };
 
     ghost puts = { λ p w. refl };
+
+    ghost whole = { λ p w same. same-put (λ put. record p { pass = put }) w p.pass same };
 
     ghost frame = { percpu-frame };
 }

@@ -1,4 +1,4 @@
-//! The calls of a site, for a site with a sequence word: its pass is the site's.
+//! A site with a sequence word, as a lock over a site: its pass has a pass of the site alone.
 ghost use Rattle.std.specs.Prelude.{refl};
 ghost use Rattle.seq_fault.specs.SeqHandles.{plan_of, shown_of, SitsAt};
 
@@ -9,6 +9,8 @@ use site_lock::SiteLock;
 use word_bits::Object;
 
 impl<O: Object> SiteLock<O> for SeqSite<O> {
+    ghost use Rattle.site_lock.specs.Faces.{same-put};
+
     type Rule = SeqRule<O>;
 
     type Site = Site<SeqRule<O>>;
@@ -46,6 +48,8 @@ impl<O: Object> SiteLock<O> for SeqSite<O> {
     ghost owns = { λ s p at. at };
 
     ghost puts = { λ p w. refl };
+
+    ghost whole = { λ p w same. same-put (λ put. record p { pass = put }) w p.pass same };
 
     ghost frame = { λ s p w at on beside hold. (on, record { face = record { hand = refl; spin = refl; steps = refl; past = refl }; fronts = beside.1; line = refl; swaps = refl; tally = refl }) };
 }

@@ -7,8 +7,8 @@ use Rattle.seq_fault.specs.SeqSteps.{Faults}
 use Rattle.seq_fault.proofs.Faulting.{err-maps, ok-joins, faults-since, finds-before, found-longer, one-word-before, reads-at-one-word, steps-on, turned-on}
 use Rattle.seq_fault.proofs.faults.SeqSite+Areas.fault.Goals as goal
 
-pub returns-clause-goes_on : goal.returns-clause-goes_on
-returns-clause-goes_on c = λ p t. c.validate.ensures.goes_on p (c.read_optimistically.ensures.goes_on p (c.next_fault-page.ensures.goes_on p t))
+pub returns-clause-on : goal.returns-clause-on
+returns-clause-on c = record { own = c.validate.ensures.own; goes_on = λ p t. c.validate.ensures.goes_on p (c.read_optimistically.ensures.goes_on p (c.next_fault-page.ensures.goes_on p t)) }
 
 pub returns-clause-ok : goal.returns-clause-ok
 returns-clause-ok c =
@@ -65,8 +65,8 @@ returns-clause-few c =
     let two = ap (λ (z : V). z.steps) c.next_fault-page.ensures.kept in
     err-maps c.validate.result (λ why e. let one = ap (λ (z : V). z.steps) e in omega (arith, most, more, two, one)) c.validate.ensures.kept
 
-pub returns-in-Err-clause-goes_on : goal.returns-in-Err-clause-goes_on
-returns-in-Err-clause-goes_on c = λ p t. c.read_optimistically.ensures.goes_on p (c.next_fault-page.ensures.goes_on p t)
+pub returns-in-Err-clause-on : goal.returns-in-Err-clause-on
+returns-in-Err-clause-on c = record { own = c.read_optimistically.ensures.own; goes_on = λ p t. c.read_optimistically.ensures.goes_on p (c.next_fault-page.ensures.goes_on p t) }
 
 pub returns-in-Err-clause-raced : goal.returns-in-Err-clause-raced
 returns-in-Err-clause-raced c = inl c.in-Err.ensures.odd

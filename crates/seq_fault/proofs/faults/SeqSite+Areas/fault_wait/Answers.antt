@@ -14,9 +14,9 @@ pub loop-preserved : goal.loop-preserved
 loop-preserved g c = let was = c.loop.invariant.5 in let kept = c.in_default.ensures.kept in let more = kept.2 in let before = was.2 in let steps = ap (λ (v : V). v.steps) was.3 in (
   tt,
   tt,
-  c.fault.ensures.own,
+  c.fault.ensures.on.own,
   c.in_default.ensures.face ∙ c.loop.invariant.3,
-  (λ p t. c.fault.ensures.goes_on p (c.loop.invariant.4 p t)),
+  (λ p t. c.fault.ensures.on.goes_on p (c.loop.invariant.4 p t)),
   (kept.0, kept.1, omega (arith, more, before, steps), kept.3 ∙ ap (λ (v : V). record v { steps = kept.0; ext = kept.1 }) was.3),
 )
 
@@ -40,3 +40,6 @@ fault-requires-clause-next g c = subst (λ (h : Hand). HasNextFault c.args.self.
 
 pub returns-in-Ok-clause-read : goal.returns-in-Ok-clause-read
 returns-in-Ok-clause-read g c = let i = c.loop.invariant in (c.loop.pass.pass.seat.me.0.view, i.5, one-word-since 2 c.fault.new.pass.pass.face.front c.loop.pass.pass.seat.me.0.view c.fault.new.pass.pass.seat.me.0.view _ _ _ i.4 c.in-Ok.ensures.read)
+
+pub returns-in-Ok-clause-on : goal.returns-in-Ok-clause-on
+returns-in-Ok-clause-on g c = record { own = c.fault.ensures.on.own; goes_on = λ p t. c.fault.ensures.on.goes_on p (c.loop.invariant.4 p t) }

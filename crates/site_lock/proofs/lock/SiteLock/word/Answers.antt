@@ -3,13 +3,10 @@ use Rattle.lock_core.specs.SiteHandles.{view_of, IsLatest}
 use Rattle.site_lock.proofs.Facing.{goes-on, found-at, has}
 use Rattle.site_lock.proofs.lock.SiteLock.word.Goals as goal
 
-pub returns-clause-own : goal.returns-clause-own
-returns-clause-own g c = let o = g.met.Self.SiteLock in let p = c.args.pass.now in let new = c.word.new.pass in
-    (o.frame c.args.self.now p new c.requires.own (search rules) (search rules) (search rules)).0
-
-pub returns-clause-goes_on : goal.returns-clause-goes_on
-returns-clause-goes_on g c = let o = g.met.Self.SiteLock in let p = c.args.pass.now in let new = c.word.new.pass in let old = g.Self.SiteLock.seat_of p in
-    goes-on old new _ _ (o.faces p) (o.frame c.args.self.now p new c.requires.own (search rules) (search rules) (search rules)).1 (search rules)
+pub returns-clause-on : goal.returns-clause-on
+returns-clause-on g c = let o = g.met.Self.SiteLock in let p = c.args.pass.now in let new = c.word.new.pass in let old = g.Self.SiteLock.seat_of p in
+    let frame = o.frame c.args.self.now p new c.requires.own (search rules) (search rules) (search rules) in
+    record { own = frame.0; goes_on = goes-on old new _ _ (o.faces p) frame.1 (search rules) }
 
 pub returns-clause-beside : goal.returns-clause-beside
 returns-clause-beside g c = let o = g.met.Self.SiteLock in let p = c.args.pass.now in let new = c.word.new.pass in
