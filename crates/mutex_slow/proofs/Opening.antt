@@ -20,7 +20,7 @@ use Rattle.mutex_word.specs.OwnerTries.{CameTo, FindsOpen, IsOpen}
 use Rattle.osq_unqueue.specs.Rising.{Rises}
 use Rattle.mutex_slow.specs.declared.view.MutexHand.{MutexHand}
 use Rattle.mutex_slow.specs.Mutexes.{V, owner_at, turned}
-use Rattle.mutex_slow.specs.MutexPlaces.{CountsBy, GotInLine, StepsOn, TakesOpen, line_of, seen_of}
+use Rattle.mutex_slow.specs.MutexPlaces.{CountsBy, GotInLine, MovesOn, TakesOpen, line_of, seen_of}
 
 -- the pass's last step found the word, and left the pass holding
 pub takes-open : (v u : V) (p q : List Moment) (task : Option ℕ) → task ≡ v.hand.task → u.hand.task ≡ v.hand.task → u.hand.held ≡ Alone → v.steps < u.steps → IsOwnStep u q → GoesOn p q → FindsOpen owner_at task q → TakesOpen (shown line_of v.fronts v p) (shown line_of u.fronts u q)
@@ -36,10 +36,10 @@ pub opens-within : (v a b u : Shown) → a.hand.task ≡ v.hand.task → v.steps
 opens-within v a b u same steps before f more after = let later = f.2 in let by_now = f.3 in (f.0, f.1, omega (arith, later, steps), omega (arith, by_now, more), (found-within same before after f.4.0, f.4.1), subst (λ (t : Option ℕ). IsOpen t f.1) same f.5)
 
 module _ {R O C : Type 0} (site : Site R O MutexHand C) where
-  pub opens-behind : (v a u : Pass R O MutexHand C) → SitsAt site v → StepsOn site v a → TakesOpen (seen_of a) (seen_of u) → TakesOpen (seen_of v) (seen_of u)
+  pub opens-behind : (v a u : Pass R O MutexHand C) → SitsAt site v → MovesOn site v a → TakesOpen (seen_of a) (seen_of u) → TakesOpen (seen_of v) (seen_of u)
   opens-behind v a u own on f = opens-within (seen_of v) (seen_of a) (seen_of u) (seen_of u) (sym on.own.task ∙ (on.task ∙ own.task)) on.steps on.goes_on f (omega arith) (λ p t. t)
 
-  pub opens-before : (v b u : Pass R O MutexHand C) → TakesOpen (seen_of v) (seen_of b) → StepsOn site b u → TakesOpen (seen_of v) (seen_of u)
+  pub opens-before : (v b u : Pass R O MutexHand C) → TakesOpen (seen_of v) (seen_of b) → MovesOn site b u → TakesOpen (seen_of v) (seen_of u)
   opens-before v b u f on = opens-within (seen_of v) (seen_of v) (seen_of b) (seen_of u) refl (omega arith) (λ p t. t) f on.steps on.goes_on
 
 -- an answer lets the count of true answers fall by nothing

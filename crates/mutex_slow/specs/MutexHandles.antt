@@ -10,6 +10,7 @@ use Rattle.lock_core.specs.SiteHandles as inner
 use Rattle.lock_core.specs.Kinds.{mutex as kind}
 use Rattle.lock_core.specs.Locking.{Misses, Takes}
 use Rattle.lock_core.specs.Pasts.{opening}
+use Rattle.lock_core.specs.Shown as callers
 use Rattle.lock_core.specs.Shown.{Shown, shown}
 use Rattle.lock_core.specs.Views.{SpinRests}
 use Rattle.osq_nodes.specs.declared.node.Place.TheVariants.{Out}
@@ -94,3 +95,7 @@ module _ {O C : Type 0} where
   pub record IsIdle (mutex : Mutex O C) (pass : MutexPass O C) : Type 0 where
     pub own : SitsAt mutex pass
     pub numberless : (hand_in pass).task ≡ None
+
+  -- the pass is one of the mutex's as before, and its past goes on
+  abbrev pub StepsOn : Mutex O C → MutexPass O C → MutexPass O C → Type 0
+  StepsOn lock old new = callers.StepsOn SitsAt shown_of lock old new

@@ -73,7 +73,7 @@ module _ {R O C : Type 0} where
   seen_of pass = shown line_of (view_of pass).fronts (view_of pass) (past_of pass)
 
   -- it made some steps, and is one of the site's as before
-  pub record StepsOn (site : Site R O MutexHand C) (old new : Pass R O MutexHand C) : Type 0 where
+  pub record MovesOn (site : Site R O MutexHand C) (old new : Pass R O MutexHand C) : Type 0 where
     pub own : SitsAt site new
     pub task : task_in new ≡ task_in old
     pub goes_on : KeepsPast old new

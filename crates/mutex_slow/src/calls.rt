@@ -8,7 +8,7 @@ ghost use Rattle.lock_core.specs.Pasts.{EachMoment, FoundAt, Paced, Ran, Tail};
 ghost use Rattle.lock_core.specs.Locking.{Looks, Has, HasSince, Interrupts, OnlyTried, Releases, Got, KeepsPlace, TalliesLock, TalliesSpin};
 ghost use Rattle.lock_core.specs.SitePasses.{Numbered};
 ghost use Rattle.lock_core.specs.Records.{IsPlan};
-ghost use Rattle.lock_core.specs.Shown.{AllButHand, IsLatestStep, PastGoesOn, shown_new, shown_split};
+ghost use Rattle.lock_core.specs.Shown.{AllButHand, IsLatestStep, shown_new, shown_split};
 ghost use Rattle.lock_core.specs.SpinStated.{IsSpinLockThen, IsSpinMove};
 ghost use Rattle.lock_core.specs.SiteStated.{IsNew};
 ghost use Rattle.lock_core.specs.Views.{gathered, gave_up};
@@ -23,7 +23,7 @@ ghost use Rattle.lock_core.specs.Locked.{IsLockedThen, IsSiteStep};
 ghost use Rattle.wait_list.specs.declared.view.Waiter.{Waiter as Waiters};
 
 use crate::rule::MutexRule;
-use crate::{parts, slow};
+use crate::{fast, queue, release, spin};
 use cpu_task::{Cpu, Crew};
 use lock_core::{How, Interrupted, Pass, Plan, Site, Tally};
 use mutex_word::site_steps::take_free;
@@ -83,7 +83,7 @@ impl<O: Object> MutexPass<O> {
 }
 
 impl<O: Object> Mutex<O> {
-    ghost use Rattle.mutex_slow.specs.MutexHandles.{newest, plan_of, shown_of, hand_in, SitsAt, SpunGoesOn, TakesAlone, KeepsFronts, KeepsMisses, KeepsWakes, EntersOnce, MissesAt, MissesIfShut, dozes_in, wakes_in};
+    ghost use Rattle.mutex_slow.specs.MutexHandles.{newest, plan_of, shown_of, hand_in, SitsAt, SpunGoesOn, TakesAlone, KeepsFronts, KeepsMisses, KeepsWakes, EntersOnce, MissesAt, MissesIfShut, dozes_in, wakes_in, StepsOn};
 
     /// A new mutex: nobody holds, the state is empty, no call is logged or recorded. The pass has
     /// no task number.
@@ -112,9 +112,8 @@ impl<O: Object> Mutex<O> {
     /// A pass without a task number, which has seen as many entries.
     pub fn split(&self, pass: &mut MutexPass<O>) -> MutexPass<O>
         requires own { SitsAt self.now pass.old }
-        ensures own { SitsAt self.now pass.new }
+        ensures on { StepsOn self.now pass.old pass.new }
         ensures its_own { SitsAt self.now result }
-        ensures goes_on { PastGoesOn (shown_of pass.old) (shown_of pass.new) }
         ensures kept { Looks (shown_of pass.old) (shown_of pass.new) }
         ensures given { shown_of result ≡ shown_split (shown_of pass.old) }
         ensures still { KeepsWakes pass.old pass.new }
@@ -137,8 +136,7 @@ impl<O: Object> Mutex<O> {
         requires own { SitsAt self.now pass.old }
         requires numberless { (hand_in pass.old).task ≡ None }
         requires there { task < length (plan_of self.now) }
-        ensures own { SitsAt self.now pass.new }
-        ensures goes_on { PastGoesOn (shown_of pass.old) (shown_of pass.new) }
+        ensures on { StepsOn self.now pass.old pass.new }
         ensures queue { SpunGoesOn pass.old pass.new }
         ensures became { Numbered O.object (unavailable mutex) (plan_of self.now)
             (hand_in pass.old) task (hand_in pass.new) }
@@ -156,8 +154,7 @@ impl<O: Object> Mutex<O> {
         requires out { (hand_in pass.old).held ≡ No }
         requires sent { (hand_in pass.old).sent ≡ None }
         requires consumed { (hand_in pass.old).consumed ≡ 0 }
-        ensures own { SitsAt self.now pass.new }
-        ensures goes_on { PastGoesOn (shown_of pass.old) (shown_of pass.new) }
+        ensures on { StepsOn self.now pass.old pass.new }
         ensures queue { SpunGoesOn pass.old pass.new }
         ensures kept { Has (gave_up (hand_in pass.old)) (shown_of pass.old) (shown_of pass.new) }
         ensures still { KeepsWakes pass.old pass.new }
@@ -173,8 +170,7 @@ impl<O: Object> Mutex<O> {
         requires others_own { SitsAt self.now other }
         requires out { (hand_in into.old).held ≡ No }
         requires numberless { (hand_in other).task ≡ None }
-        ensures own { SitsAt self.now into.new }
-        ensures goes_on { PastGoesOn (shown_of into.old) (shown_of into.new) }
+        ensures on { StepsOn self.now into.old into.new }
         ensures kept { Has (gathered (hand_in into.old) (hand_in other))
             (shown_of into.old) (shown_of into.new) }
         ensures queue { SpunGoesOn into.old into.new }
@@ -192,11 +188,10 @@ impl<O: Object> Mutex<O> {
         requires own { SitsAt self.now pass.old }
         requires numbered { IsSome (hand_in pass.old).task }
         requires out { (hand_in pass.old).held ≡ No }
-        ensures own { SitsAt self.now pass.new }
+        ensures on { StepsOn self.now pass.old pass.new }
         ensures dozed { Dozes (C.sleeps cpu.old) (C.sleeps cpu.new)
             (dozes_in pass.old) (dozes_in pass.new) }
         ensures set { wakes_in pass.new ≡ wakes_in pass.old }
-        ensures goes_on { PastGoesOn (shown_of pass.old) (shown_of pass.new) }
         ensures queue { SpunGoesOn pass.old pass.new }
         ensures numbered { (hand_in pass.new).task ≡ (hand_in pass.old).task }
         ensures line { (shown_of pass.new).line ≡ (shown_of pass.old).line }
@@ -225,7 +220,7 @@ impl<O: Object> Mutex<O> {
             pass.tally.leave();
             return false;
         }
-        let took = slow::spin_outside(&self.site, rt, &mut pass.pass, &pass.queue, cpu);
+        let took = spin::spin_outside(&self.site, rt, &mut pass.pass, &pass.queue, cpu);
         self.osq.unlock(rt, &mut pass.queue);
         took
     }
@@ -242,11 +237,10 @@ impl<O: Object> Mutex<O> {
         requires own { SitsAt self.now pass.old }
         requires numbered { IsSome (hand_in pass.old).task }
         requires out { (hand_in pass.old).held ≡ No }
-        ensures own { SitsAt self.now pass.new }
+        ensures on { StepsOn self.now pass.old pass.new }
         ensures dozed { Dozes (C.sleeps cpu.old) (C.sleeps cpu.new)
             (dozes_in pass.old) (dozes_in pass.new) }
         ensures set { wakes_in pass.new ≡ wakes_in pass.old }
-        ensures goes_on { PastGoesOn (shown_of pass.old) (shown_of pass.new) }
         ensures queue { SpunGoesOn pass.old pass.new }
         ensures took { IfOk result (λ _. TakesAlone O.object self.now pass.old pass.new) }
         ensures opened { IfOk result (λ _. TakesOpen (shown_of pass.old) (shown_of pass.new)) }
@@ -264,13 +258,13 @@ impl<O: Object> Mutex<O> {
         ensures left { LeavesForCpu (C.rescheds cpu.old) (C.rescheds cpu.new)
             (shown_of pass.old) (shown_of pass.new) }
     {
-        let Err(_) = parts::try_outside(&self.site, rt, &mut pass.pass) else {
+        let Err(_) = fast::try_outside(&self.site, rt, &mut pass.pass) else {
             return Ok(How::Fast);
         };
         if self.spin(rt, pass, cpu) {
             return Ok(How::Spun);
         }
-        let got = slow::lock_in_line(
+        let got = queue::lock_in_line(
             &self.site,
             rt,
             &mut pass.pass,
@@ -293,11 +287,10 @@ impl<O: Object> Mutex<O> {
         requires own { SitsAt self.now pass.old }
         requires numbered { IsSome (hand_in pass.old).task }
         requires out { (hand_in pass.old).held ≡ No }
-        ensures own { SitsAt self.now pass.new }
+        ensures on { StepsOn self.now pass.old pass.new }
         ensures dozed { Dozes (C.C.sleeps cpu.old) (C.C.sleeps cpu.new)
             (dozes_in pass.old) (dozes_in pass.new) }
         ensures set { wakes_in pass.new ≡ wakes_in pass.old }
-        ensures goes_on { PastGoesOn (shown_of pass.old) (shown_of pass.new) }
         ensures queue { SpunGoesOn pass.old pass.new }
         ensures took { TakesAlone O.object self.now pass.old pass.new }
         ensures opened { TakesOpen (shown_of pass.old) (shown_of pass.new) }
@@ -327,11 +320,10 @@ impl<O: Object> Mutex<O> {
         requires own { SitsAt self.now pass.old }
         requires numbered { IsSome (hand_in pass.old).task }
         requires out { (hand_in pass.old).held ≡ No }
-        ensures own { SitsAt self.now pass.new }
+        ensures on { StepsOn self.now pass.old pass.new }
         ensures dozed { Dozes (C.C.sleeps cpu.old) (C.C.sleeps cpu.new)
             (dozes_in pass.old) (dozes_in pass.new) }
         ensures set { wakes_in pass.new ≡ wakes_in pass.old }
-        ensures goes_on { PastGoesOn (shown_of pass.old) (shown_of pass.new) }
         ensures took { IfOk result (λ _. TakesAlone O.object self.now pass.old pass.new) }
         ensures opened { IfOk result (λ _. TakesOpen (shown_of pass.old) (shown_of pass.new)) }
         ensures how { IfOk result (λ how. Got how (shown_of pass.old) (shown_of pass.new)) }
@@ -356,8 +348,7 @@ impl<O: Object> Mutex<O> {
         requires own { SitsAt self.now pass.old }
         requires numbered { IsSome (hand_in pass.old).task }
         requires out { (hand_in pass.old).held ≡ No }
-        ensures own { SitsAt self.now pass.new }
-        ensures goes_on { PastGoesOn (shown_of pass.old) (shown_of pass.new) }
+        ensures on { StepsOn self.now pass.old pass.new }
         ensures took { IfOk result (λ _. TakesAlone O.object self.now pass.old pass.new) }
         ensures opened { IfOk result (λ _. TakesOpen (shown_of pass.old) (shown_of pass.new)) }
         ensures at_once { IfOk result (λ _. Got Fast (shown_of pass.old) (shown_of pass.new)) }
@@ -366,7 +357,7 @@ impl<O: Object> Mutex<O> {
         ensures missed { IfErr result (λ word. MissesAt pass.old word pass.new) }
         ensures still { KeepsWakes pass.old pass.new }
     {
-        match parts::try_outside(&self.site, rt, &mut pass.pass) {
+        match fast::try_outside(&self.site, rt, &mut pass.pass) {
             Ok(()) => Ok(()),
             Err(word) => Err(word),
         }
@@ -378,8 +369,7 @@ impl<O: Object> Mutex<O> {
         requires own { SitsAt self.now pass.old }
         requires numbered { IsSome (hand_in pass.old).task }
         requires out { (hand_in pass.old).held ≡ No }
-        ensures own { SitsAt self.now pass.new }
-        ensures goes_on { PastGoesOn (shown_of pass.old) (shown_of pass.new) }
+        ensures on { StepsOn self.now pass.old pass.new }
         ensures took { IfOk result (λ _. TakesAlone O.object self.now pass.old pass.new) }
         ensures opened { IfOk result (λ _. TakesOpen (shown_of pass.old) (shown_of pass.new)) }
         ensures at_once { IfOk result (λ _. Got Fast (shown_of pass.old) (shown_of pass.new)) }
@@ -407,8 +397,7 @@ impl<O: Object> Mutex<O> {
         requires own { SitsAt self.now pass.old }
         requires held { (hand_in pass.old).held ≡ Alone }
         requires quiet { (hand_in pass.old).writes ≡ false }
-        ensures own { SitsAt self.now pass.new }
-        ensures goes_on { PastGoesOn (shown_of pass.old) (shown_of pass.new) }
+        ensures on { StepsOn self.now pass.old pass.new }
         ensures queue { SpunGoesOn pass.old pass.new }
         ensures released { Releases (wakes_alone mutex) (shown_of pass.old) (shown_of pass.new) }
         ensures wakes { WakesFirst (wakes_in pass.old) (wakes_in pass.new)
@@ -418,7 +407,7 @@ impl<O: Object> Mutex<O> {
         ensures line { (shown_of pass.new).line ≡ (shown_of pass.old).line }
         ensures entries { EntersOnce pass.old pass.new }
     {
-        if slow::unlock(&self.site, rt, &mut pass.pass, crew) {
+        if release::unlock(&self.site, rt, &mut pass.pass, crew) {
             pass.wakes = pass.wakes.saturating_add(1);
         }
     }
@@ -438,8 +427,7 @@ impl<O: Object> Mutex<O> {
     /// - The pass itself isn't in the list, and has no wake to do.
     pub fn recall(&self, pass: &mut MutexPass<O>)
         requires own { SitsAt self.now pass.old }
-        ensures own { SitsAt self.now pass.new }
-        ensures goes_on { PastGoesOn (shown_of pass.old) (shown_of pass.new) }
+        ensures on { StepsOn self.now pass.old pass.new }
         ensures queue { SpunGoesOn pass.old pass.new }
         ensures kept { Looks (shown_of pass.old) (shown_of pass.new) }
         ensures last { IsLatestStep (shown_of pass.new) }

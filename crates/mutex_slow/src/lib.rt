@@ -2,10 +2,16 @@
 #![tactic(auto)]
 
 mod calls;
-mod parts;
+mod fast;
+mod leave;
+mod queue;
+mod release;
 mod rule;
-mod slow;
+mod sleep;
+mod spin;
 mod view;
+mod wait_lock;
+mod wake;
 
 pub use calls::{Mutex, MutexPass};
 pub use rule::MutexRule;

@@ -10,6 +10,7 @@ use site_lock::SiteLock;
 use word_bits::Object;
 
 impl<O: Object> SiteLock<O> for Mutex<O> {
+    ghost use Rattle.site_lock.specs.Faces.{same-put};
     ghost use Rattle.site_lock.specs.Sitting.{SitsIdle};
     ghost use Rattle.mutex_slow.specs.MutexSiteLaws.{mutex-frame};
 
@@ -50,6 +51,8 @@ impl<O: Object> SiteLock<O> for Mutex<O> {
     ghost owns = { λ m p at. at.own.sits };
 
     ghost puts = { λ p w. refl };
+
+    ghost whole = { λ p w same. same-put (λ put. record p { pass = put }) w p.pass same };
 
     ghost frame = { mutex-frame O.object };
 }

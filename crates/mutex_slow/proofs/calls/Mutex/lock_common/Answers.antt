@@ -21,7 +21,7 @@ returns-clause-interrupted g c = let before = shown_of c.args.pass.now in let sp
     (λ why i reads. tried-interrupts before spun after
     (tried-then (tried-fronts (seen_of c.args.pass.now.pass) (seen_of c.try_outside.new.pass) (fronts_in c.args.pass.now.queue) (fronts_in c.args.pass.now.queue) (swaps_in c.args.pass.now.queue) (swaps_in c.args.pass.now.queue) c.args.pass.now.tally c.args.pass.now.tally (omega arith) c.in-Err.ensures.tried) (c.spin.ensures.missed c.if-spin.false))
     (c.spin.ensures.line ∙ ap (λ (n : ℕ). record { appends = n }) c.try_outside.ensures.same.appends)
-    (λ p t. c.spin.ensures.goes_on p (c.try_outside.ensures.on.goes_on p t)) (interrupts-fronts (seen_of c.spin.new.pass.pass) (seen_of c.lock_in_line-got.new.pass) (fronts_in c.spin.new.pass.queue) (fronts_in c.spin.new.pass.queue) (swaps_in c.spin.new.pass.queue) (swaps_in c.spin.new.pass.queue) c.spin.new.pass.tally c.answer.new.self (omega arith) (i reads)))
+    (λ p t. c.spin.ensures.on.goes_on p (c.try_outside.ensures.on.goes_on p t)) (interrupts-fronts (seen_of c.spin.new.pass.pass) (seen_of c.lock_in_line-got.new.pass) (fronts_in c.spin.new.pass.queue) (fronts_in c.spin.new.pass.queue) (swaps_in c.spin.new.pass.queue) (swaps_in c.spin.new.pass.queue) c.spin.new.pass.tally c.answer.new.self (omega arith) (i reads)))
     c.lock_in_line-got.ensures.interrupted
 
 pub returns-then-spin-clause-opened : goal.returns-then-spin-clause-opened
@@ -35,7 +35,7 @@ pub returns-clause-opened : goal.returns-clause-opened
 returns-clause-opened g c = let before = shown_of c.args.pass.now in let spun = shown_of c.spin.new.pass in let after = shown_of (record { pass = c.lock_in_line-got.new.pass; queue = c.spin.new.pass.queue; tally = c.answer.new.self; wakes = c.spin.new.pass.wakes; dozes = c.lock_in_line-got.new.dozes }) in
     let tried = tried-then (tried-fronts (seen_of c.args.pass.now.pass) (seen_of c.try_outside.new.pass) (fronts_in c.args.pass.now.queue) (fronts_in c.args.pass.now.queue) (swaps_in c.args.pass.now.queue) (swaps_in c.args.pass.now.queue) c.args.pass.now.tally c.args.pass.now.tally (omega arith) c.in-Err.ensures.tried) (c.spin.ensures.missed c.if-spin.false) in
     ok-map (λ (how : How). TakesOpen (seen_of c.spin.new.pass.pass) (seen_of c.lock_in_line-got.new.pass)) (λ (how : How). TakesOpen before after) c.lock_in_line-got.result
-    (λ how f. opens-within before spun after after tried.keeps.task tried.keeps.counts.steps (λ p t. c.spin.ensures.goes_on p (c.try_outside.ensures.on.goes_on p t)) f (omega arith) (λ p t. t)) c.lock_in_line-got.ensures.opened
+    (λ how f. opens-within before spun after after tried.keeps.task tried.keeps.counts.steps (λ p t. c.spin.ensures.on.goes_on p (c.try_outside.ensures.on.goes_on p t)) f (omega arith) (λ p t. t)) c.lock_in_line-got.ensures.opened
 
 pub returns-clause-counts : goal.returns-clause-counts
 returns-clause-counts g c = let sleeps = g.C.Cpu.sleeps in let rescheds = g.C.Cpu.rescheds in let before = shown_of c.args.pass.now in let spun = seen_of c.spin.new.pass.pass in let after = seen_of c.lock_in_line-got.new.pass in let spins = c.spin.ensures.entries in let tries = c.try_outside.ensures.same.entries in
@@ -51,8 +51,8 @@ returns-clause-slept g c = let sleeps = g.C.Cpu.sleeps in let rescheds = g.C.Cpu
     (λ why _. ((turns.0, omega (arith, is, spins, tries), turns.2), omega (arith, less, more), rises-on (rescheds c.args.cpu.now) (rescheds c.spin.new.cpu) (rescheds c.lock_in_line-got.new.cpu) (c.spin.ensures.stops c.if-spin.false) more))
     c.lock_in_line-got.ensures.interrupted
 
-pub returns-then-spin-clause-goes_on : goal.returns-then-spin-clause-goes_on
-returns-then-spin-clause-goes_on g c = λ p t. c.spin.ensures.goes_on p (c.try_outside.ensures.on.goes_on p t)
+pub returns-then-spin-clause-on : goal.returns-then-spin-clause-on
+returns-then-spin-clause-on g c = record { own = c.spin.ensures.on.own; goes_on = λ p t. c.spin.ensures.on.goes_on p (c.try_outside.ensures.on.goes_on p t) }
 
 pub returns-clause-tallied : goal.returns-clause-tallied
 returns-clause-tallied g c = tallies-answer c.lock_in_line-got.result (shown_of c.args.pass.now) (shown_of c.spin.new.pass) (shown_of (record { pass = c.lock_in_line-got.new.pass; queue = c.spin.new.pass.queue; tally = c.answer.new.self; wakes = c.spin.new.pass.wakes; dozes = c.lock_in_line-got.new.dozes })) c.spin.ensures.tallied c.answer.ensures refl refl
@@ -68,4 +68,4 @@ returns-then-spin-clause-dozed g c = dozes-none _ _ _ _ c.spin.ensures.sleeps c.
 
 pub returns-clause-dozed : goal.returns-clause-dozed
 returns-clause-dozed g c = let sleeps = g.C.Cpu.sleeps in dozes-within (sleeps c.args.cpu.now) (sleeps c.spin.new.cpu) (sleeps c.lock_in_line-got.new.cpu) c.args.pass.now.dozes (dozes_of c.spin.new.pass.pass.seat.me.0.view) (dozes_of c.lock_in_line-got.new.pass.seat.me.0.view) c.lock_in_line-got.new.dozes
-    c.spin.ensures.sleeps (sym c.spin.ensures.own.dozed ∙ c.spin.ensures.still.dozes) c.lock_in_line-got.ensures.dozed c.lock_in_line-got.ensures.counted
+    c.spin.ensures.sleeps (sym c.spin.ensures.on.own.dozed ∙ c.spin.ensures.still.dozes) c.lock_in_line-got.ensures.dozed c.lock_in_line-got.ensures.counted

@@ -1,5 +1,0 @@
-use Rattle.std.proofs.Common.{false}
-use Rattle.mutex_slow.proofs.parts.try_listed.Given as goal
-
-abbrev pub ghosts-attempt : goal.ghosts-attempt
-ghosts-attempt g a = record { asks = a.asks; counts = false }

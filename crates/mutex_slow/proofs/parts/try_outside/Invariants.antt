@@ -1,5 +1,0 @@
-use Rattle.std.proofs.Common.{true, false}
-use Rattle.mutex_slow.proofs.parts.try_outside.Given as goal
-
-abbrev pub ghosts-attempt : goal.ghosts-attempt
-ghosts-attempt g a = record { asks = false; counts = true }

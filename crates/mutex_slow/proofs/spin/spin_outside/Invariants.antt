@@ -1,0 +1,14 @@
+use Rattle.std.proofs.Common.{◌≡◌, IsSome}
+use Rattle.lock_core.specs.declared.view.Held.TheVariants.{No}
+use Rattle.lock_core.specs.Locking.{OnlyTried}
+use Rattle.mutex_slow.specs.MutexPlaces.{seen_of, MovesOn, StandsSame, IsOutside}
+use Rattle.mutex_slow.specs.Mutexes.{OwesNoWake}
+use Rattle.mutex_slow.proofs.spin.spin_outside.Given as goal
+
+abbrev pub invariant-loop : goal.invariant-loop
+invariant-loop g l = let v = l.fn.pass.seat.me.0.view in let u = l.pass.seat.me.0.view in
+    (goal.iterator-loop g).can_next l.iterator' × (goal.iterator-loop g).is_finite l.iterator'
+    × MovesOn l.site l.fn.pass l.pass × IsSome l.pass.face.task × (l.pass.face.held ≡ No)
+    × IsOutside u × StandsSame v u × OnlyTried (seen_of l.fn.pass) (seen_of l.pass)
+    × (g.C.Cpu.sleeps l.cpu ≡ g.C.Cpu.sleeps l.fn.cpu) × (g.C.Cpu.rescheds l.cpu ≡ g.C.Cpu.rescheds l.fn.cpu)
+    × OwesNoWake u × (u.ext.wake.wakes ≡ v.ext.wake.wakes) × (u.ext.wake.dozes ≡ v.ext.wake.dozes)
