@@ -8,6 +8,7 @@ use Rattle.lock_core.specs.declared.view.Hand.{Hand}
 use Rattle.lock_core.specs.declared.view.Held.{Held}
 use Rattle.lock_core.specs.declared.view.Moment.{Moment}
 use Rattle.lock_core.specs.SiteHandles as inner
+use Rattle.lock_core.specs.Shown as callers
 use Rattle.lock_core.specs.Shown.{Shown, no_line, shown}
 use Rattle.rwsem_count.specs.declared.pass.CountPass.{CountPass}
 use Rattle.rwsem_count.specs.declared.site.CountSite.{CountSite}
@@ -64,3 +65,7 @@ module _ {O C : Type 0} where
   -- what the pass becomes that takes the task's number
   abbrev pub TakesNumber : {Call : Type 0} → Obj Call → Unavailable → CountSite O C → ℕ → CountPass O C → CountPass O C → Type 0
   TakesNumber o unavailable site task old new = inner.TakesNumber o unavailable site.site task old.pass new.pass
+
+  -- the pass is one of the site's as before, and its past goes on
+  abbrev pub StepsOn : CountSite O C → CountPass O C → CountPass O C → Type 0
+  StepsOn lock old new = callers.StepsOn SitsAt shown_of lock old new

@@ -8,6 +8,7 @@ mod site;
 pub mod steps;
 pub mod tries;
 mod view;
+mod word;
 mod word_steps;
 
 pub use host::CountHost;
@@ -15,4 +16,8 @@ pub use pass::CountPass;
 pub use rule::CountRule;
 pub use site::CountSite;
 pub use view::Bias;
-pub use word_steps::{BIAS, HANDOFF, READ_FAIL, WAITERS, WRITER, Write, read_free, write_step};
+pub use word::{
+    BIAS, HANDOFF, READ_FAIL, WAITERS, WRITER, has_handoff, has_waiters, has_writer, is_locked,
+    readers,
+};
+pub use word_steps::{Write, read_free, write_step};

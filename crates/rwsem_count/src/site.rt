@@ -33,7 +33,7 @@ pub struct CountSite<O: Object> {
 }
 
 impl<O: Object> CountSite<O> {
-    ghost use Rattle.rwsem_count.specs.CountHandles.{plan_of, view_of, hand_in, past_of, task_in, held_in, front_in, shown_of, transit_in, IsLatest, KeepsPast, SitsAt, TakesNumber};
+    ghost use Rattle.rwsem_count.specs.CountHandles.{plan_of, view_of, hand_in, past_of, task_in, held_in, front_in, shown_of, transit_in, IsLatest, SitsAt, TakesNumber, StepsOn};
 
     /// A new site: nobody holds, the state is empty, no call is logged or recorded. The pass has no
     /// task number.
@@ -54,8 +54,7 @@ impl<O: Object> CountSite<O> {
     /// A pass without a task number, which has seen as many entries.
     pub fn split(&self, pass: &mut CountPass<O>) -> CountPass<O>
         requires own { SitsAt self.now pass.old }
-        ensures own { SitsAt self.now pass.new }
-        ensures goes_on { KeepsPast pass.old pass.new }
+        ensures on { StepsOn self.now pass.old pass.new }
         ensures transit { transit_in pass.new ≡ transit_in pass.old }
         ensures kept { view_of pass.new ≡ ticked (view_of pass.old) }
         ensures its_own { SitsAt self.now result }
@@ -75,8 +74,7 @@ impl<O: Object> CountSite<O> {
         requires own { SitsAt self.now pass.old }
         requires numberless { task_in pass.old ≡ None }
         requires there { task < length (plan_of self.now) }
-        ensures own { SitsAt self.now pass.new }
-        ensures goes_on { KeepsPast pass.old pass.new }
+        ensures on { StepsOn self.now pass.old pass.new }
         ensures transit { transit_in pass.new ≡ transit_in pass.old }
         ensures last { IsLatest pass.new }
         ensures became { TakesNumber O.object counted self.now task pass.old pass.new }
@@ -93,8 +91,7 @@ impl<O: Object> CountSite<O> {
         requires rests { HoldsNothing (view_of pass.old) }
         requires apart { transit_in pass.old ≡ false }
         requires recorded { OwesNoSignal (hand_in pass.old) }
-        ensures own { SitsAt self.now pass.new }
-        ensures goes_on { KeepsPast pass.old pass.new }
+        ensures on { StepsOn self.now pass.old pass.new }
         ensures transit { transit_in pass.new ≡ transit_in pass.old }
         ensures last { IsLatest pass.new }
         ensures kept { view_of pass.new ≡ handed (view_of pass.old) (gave_up (hand_in pass.old)) }
@@ -111,8 +108,7 @@ impl<O: Object> CountSite<O> {
         requires apart { transit_in into.old ≡ false }
         requires other_rests { HoldsNothing (view_of other) }
         requires numberless { task_in other ≡ None }
-        ensures own { SitsAt self.now into.new }
-        ensures goes_on { KeepsPast into.old into.new }
+        ensures on { StepsOn self.now into.old into.new }
         ensures transit { transit_in into.new ≡ false }
         ensures kept { view_of into.new ≡ merged (view_of into.old) (view_of other) }
         ensures rises { front_in into.old ≤ front_in into.new }
@@ -130,8 +126,7 @@ impl<O: Object> CountSite<O> {
         requires numbered { IsSome (task_in pass.old) }
         requires out { held_in pass.old ≡ No }
         requires apart { transit_in pass.old ≡ false }
-        ensures own { SitsAt self.now pass.new }
-        ensures goes_on { KeepsPast pass.old pass.new }
+        ensures on { StepsOn self.now pass.old pass.new }
         ensures last { IsLatest pass.new }
         ensures apart { transit_in pass.new ≡ false }
         ensures took { IfOk result (λ _. TakesSince new_bias O.object (plan_of self.now) Shared
@@ -156,8 +151,7 @@ impl<O: Object> CountSite<O> {
         requires numbered { IsSome (task_in pass.old) }
         requires out { held_in pass.old ≡ No }
         requires apart { transit_in pass.old ≡ false }
-        ensures own { SitsAt self.now pass.new }
-        ensures goes_on { KeepsPast pass.old pass.new }
+        ensures on { StepsOn self.now pass.old pass.new }
         ensures last { IsLatest pass.new }
         ensures apart { transit_in pass.new ≡ false }
         ensures took { IfOk result (λ _. TakesCount new_bias O.object (plan_of self.now) Alone
@@ -182,8 +176,7 @@ impl<O: Object> CountSite<O> {
         requires numbered { IsSome (task_in pass.old) }
         requires out { held_in pass.old ≡ No }
         requires apart { transit_in pass.old ≡ false }
-        ensures own { SitsAt self.now pass.new }
-        ensures goes_on { KeepsPast pass.old pass.new }
+        ensures on { StepsOn self.now pass.old pass.new }
         ensures last { IsLatest pass.new }
         ensures took { IfOk result (λ _. TakesCount new_bias O.object (plan_of self.now) Shared
             (view_of pass.old) (view_of pass.new)) }
@@ -207,8 +200,7 @@ impl<O: Object> CountSite<O> {
     pub fn read_back(&self, pass: &mut CountPass<O>) -> u64
         requires own { SitsAt self.now pass.old }
         requires transit { transit_in pass.old ≡ true }
-        ensures own { SitsAt self.now pass.new }
-        ensures goes_on { KeepsPast pass.old pass.new }
+        ensures on { StepsOn self.now pass.old pass.new }
         ensures last { IsLatest pass.new }
         ensures apart { transit_in pass.new ≡ false }
         ensures kept { view_of pass.new ≡
@@ -224,8 +216,7 @@ impl<O: Object> CountSite<O> {
     pub fn up_read_once(&self, pass: &mut CountPass<O>) -> u64
         requires own { SitsAt self.now pass.old }
         requires held { held_in pass.old ≡ Shared }
-        ensures own { SitsAt self.now pass.new }
-        ensures goes_on { KeepsPast pass.old pass.new }
+        ensures on { StepsOn self.now pass.old pass.new }
         ensures last { IsLatest pass.new }
         ensures apart { transit_in pass.new ≡ false }
         ensures kept { view_of pass.new ≡
@@ -242,8 +233,7 @@ impl<O: Object> CountSite<O> {
         requires own { SitsAt self.now pass.old }
         requires held { held_in pass.old ≡ Alone }
         requires quiet { (hand_in pass.old).writes ≡ false }
-        ensures own { SitsAt self.now pass.new }
-        ensures goes_on { KeepsPast pass.old pass.new }
+        ensures on { StepsOn self.now pass.old pass.new }
         ensures last { IsLatest pass.new }
         ensures apart { transit_in pass.new ≡ false }
         ensures kept { view_of pass.new ≡
@@ -260,8 +250,7 @@ impl<O: Object> CountSite<O> {
         requires own { SitsAt self.now pass.old }
         requires held { held_in pass.old ≡ Alone }
         requires quiet { (hand_in pass.old).writes ≡ false }
-        ensures own { SitsAt self.now pass.new }
-        ensures goes_on { KeepsPast pass.old pass.new }
+        ensures on { StepsOn self.now pass.old pass.new }
         ensures last { IsLatest pass.new }
         ensures apart { transit_in pass.new ≡ false }
         ensures kept { view_of pass.new ≡
@@ -277,8 +266,7 @@ impl<O: Object> CountSite<O> {
     /// transit; and what each step did to the site's words and to what the passes count.
     pub fn recall_count(&self, pass: &mut CountPass<O>)
         requires own { SitsAt self.now pass.old }
-        ensures own { SitsAt self.now pass.new }
-        ensures goes_on { KeepsPast pass.old pass.new }
+        ensures on { StepsOn self.now pass.old pass.new }
         ensures transit { transit_in pass.new ≡ transit_in pass.old }
         ensures kept { view_of pass.new ≡ ticked (view_of pass.old) }
         ensures last { IsLatest pass.new }
@@ -296,8 +284,7 @@ impl<O: Object> CountSite<O> {
     /// words and to what the passes count: no entry of the log was lost, and no count fell.
     pub fn grown(&self, pass: &mut CountPass<O>)
         requires own { SitsAt self.now pass.old }
-        ensures own { SitsAt self.now pass.new }
-        ensures goes_on { KeepsPast pass.old pass.new }
+        ensures on { StepsOn self.now pass.old pass.new }
         ensures transit { transit_in pass.new ≡ transit_in pass.old }
         ensures kept { view_of pass.new ≡ ticked (view_of pass.old) }
         ensures last { IsLatest pass.new }

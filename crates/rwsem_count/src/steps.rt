@@ -11,7 +11,8 @@ ghost use Rattle.rwsem_count.specs.CountPlays.{Leaves, ReadAdded, WriteTaken};
 ghost use Rattle.rwsem_count.specs.CountTries.{FindsFree, FindsShut, LeftBy, MissesCount, TakesCount, IsTransit};
 
 use crate::host::CountHost;
-use crate::word_steps::{BIAS, WRITER, read_free};
+use crate::word::{BIAS, WRITER};
+use crate::word_steps::read_free;
 use atomic_table::Play;
 use lock_core::view::View;
 use lock_core::{Held, Op, Pass, Site};

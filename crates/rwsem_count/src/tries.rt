@@ -10,7 +10,8 @@ ghost use Rattle.rwsem_count.specs.CountTries.{FindsFree, MayMissSince, MayReadS
 ghost use Rattle.rwsem_count.specs.CountWordSteps.{IsReadFree};
 
 use crate::host::CountHost;
-use crate::word_steps::{BIAS, read_free};
+use crate::word::BIAS;
+use crate::word_steps::read_free;
 use atomic_table::Play;
 use lock_core::view::View;
 use lock_core::{Held, Op, Pass, Site};

@@ -1,22 +1,9 @@
 //! What one step makes of a count word.
 ghost use Rattle.std.specs.Prelude.{◌≡◌, ◌++◌, ◌/◌, ◌%◌, ◌↔◌, ℕ, IsTrue, List, if◌then◌else◌};
 ghost use Rattle.rwsem_count.specs.CountSemaphores.{Semaphore, States};
-ghost use Rattle.rwsem_count.specs.CountWordSteps.{HasFlags, IsLocked, IsReadFree, IsTold, LetsReadersIn, Writes, WritesLawfully};
+ghost use Rattle.rwsem_count.specs.CountWordSteps.{HasFlags, IsReadFree, IsTold, LetsReadersIn, Writes, WritesLawfully};
 
-/// A writer holds.
-pub const WRITER: u64 = 1;
-
-/// There are waiters in the list.
-pub const WAITERS: u64 = 2;
-
-/// The semaphore is to be handed to the first waiter.
-pub const HANDOFF: u64 = 4;
-
-/// What one reader adds to the count.
-pub const BIAS: u64 = 256;
-
-/// There are so many readers that no further one may come in.
-pub const READ_FAIL: u64 = 1 << 63;
+use crate::word::{HANDOFF, READ_FAIL, WAITERS, WRITER, has_handoff, has_waiters, is_locked};
 
 /// What a queued writer's try makes of the count.
 #[derive(Clone, Copy, Debug, PartialEq, Eq)]
@@ -53,7 +40,7 @@ pub fn write_step(
         IsTold s me before after me_first first_marked alone →
         WritesLawfully s me (before ++ after) result }
 {
-    let handoff = word / HANDOFF % 2 == 1;
+    let handoff = has_handoff(word);
     // A writer that isn't the marked waiter stands back, or the handoff would go to whoever tries
     // first.
     if handoff && first_marked && !me_first {
@@ -66,20 +53,13 @@ pub fn write_step(
     }
 }
 
-/// Whether a writer holds, or some reader is counted.
-fn is_locked(word: u64) -> bool
-    ensures { IsTrue result ↔ IsLocked word }
-{
-    word % 2 == 1 || word % READ_FAIL / BIAS != 0
-}
-
 /// The word by which a queued writer takes it: no handoff is asked for, and others wait where it
 /// isn't alone in the list.
 fn taken(word: u64, alone: bool) -> u64
     ensures { HasFlags word result 1 (if alone then 0 else word / 2 % 2) 0 }
 {
     let free = word - word % 8 + WRITER;
-    let waiters = word / WAITERS % 2 == 1;
+    let waiters = has_waiters(word);
     if waiters && !alone {
         free + WAITERS
     } else {

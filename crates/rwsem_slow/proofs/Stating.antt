@@ -34,12 +34,12 @@ use Rattle.rwsem_wake.proofs.DutySteps.{late-are}
 use Rattle.rwsem_wake.specs.GrantSemaphores.{Quiet}
 use Rattle.rwsem_wake.proofs.Readers.{only-first, readers-are, readers-once}
 use Rattle.rwsem_wake.proofs.Stating.{sem-states, sem-waiters}
-use Rattle.rwsem_slow.specs.RwSemListLaws.{batch-busy}
-use Rattle.rwsem_slow.specs.WaiterLaws.{has-pass, named-is, view-of}
-use Rattle.rwsem_slow.specs.WakesGo.{WakeStands}
+use Rattle.rwsem_rule.specs.RwSemListLaws.{batch-busy}
+use Rattle.rwsem_rule.specs.WaiterLaws.{has-pass, named-is, view-of}
+use Rattle.rwsem_rule.specs.WakesGo.{WakeStands}
 use Rattle.rwsem_slow.proofs.Marking.{same-wakes}
-use Rattle.rwsem_slow.specs.RwSems.{V, IsDone, Kept, RwSemKept, count_in, duty_seen, grants_in, list_of, marks_in, seen, standing, wake_words}
-use Rattle.rwsem_slow.specs.RwSemLaws.{few-named}
+use Rattle.rwsem_rule.specs.RwSems.{V, IsDone, Kept, RwSemKept, count_in, duty_seen, grants_in, list_of, marks_in, seen, standing, wake_words}
+use Rattle.rwsem_rule.specs.RwSemLaws.{few-named}
 use Rattle.rwsem_slow.specs.RwSemStated.{HasWaitLock, IsQueued, IsRoused, IsRwSemThen, SomebodyKeepsOut, SomebodyOwes, WakesMarked, stance}
 
 -- who doesn't wait has no vigil

@@ -8,14 +8,15 @@ use Rattle.lock_core.specs.Locking.{Takes}
 use Rattle.lock_core.specs.declared.view.Moment.{Moment}
 use Rattle.lock_core.specs.SiteHandles as inner
 use Rattle.lock_core.specs.Pasts.{opening}
+use Rattle.lock_core.specs.Shown as callers
 use Rattle.lock_core.specs.Shown.{Shown, shown}
 use Rattle.lock_core.specs.Views.{SpinRests}
 use Rattle.osq_nodes.specs.declared.node.Place.TheVariants.{Out}
 use Rattle.osq_nodes.specs.OsqHandles as queue
 use Rattle.rwsem_slow.specs.declared.calls.RwSem.{RwSem}
 use Rattle.rwsem_slow.specs.declared.calls.RwPass.{RwPass}
-use Rattle.rwsem_slow.specs.RwSems.{idle, standing}
-use Rattle.rwsem_slow.specs.RwSemPlaces.{AreCounts, IsOutside, line_of}
+use Rattle.rwsem_rule.specs.RwSems.{idle, standing}
+use Rattle.rwsem_rule.specs.RwSemPlaces.{AreCounts, IsOutside, line_of}
 
 -- a new table of this plan
 abbrev pub newest : Plan → Moment
@@ -76,3 +77,7 @@ module _ {O C : Type 0} where
     pub queued : queue.SitsAt sem.osq pass.queue
     pub off : queue.place_in pass.queue ≡ Out
     pub same : queue.task_in pass.queue ≡ inner.task_in pass.pass
+
+  -- the pass is one of the semaphore's as before, and its past goes on
+  abbrev pub StepsOn : RwSem O C → RwPass O C → RwPass O C → Type 0
+  StepsOn lock old new = callers.StepsOn SitsAt shown_of lock old new

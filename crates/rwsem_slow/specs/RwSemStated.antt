@@ -32,8 +32,8 @@ use Rattle.rwsem_wake.specs.Duties.{kept_of, overdue_of}
 use Rattle.rwsem_wake.specs.GrantSemaphores.{Quiet}
 use Rattle.rwsem_wake.specs.Handoffs.{KeepsHandoff, reads_as}
 use Rattle.rwsem_wake.specs.GrantsStated.{OnlyFirst, Picks, StatesCount, StatesWaiters, over, readers}
-use Rattle.rwsem_slow.specs.WakesGo.{WakesGo, wake_stands}
-use Rattle.rwsem_slow.specs.RwSems.{IsDone, KeepsCount, count_at, count_in, entered, grants_in, list_words, marks_in, numbers_of, wake_words}
+use Rattle.rwsem_rule.specs.WakesGo.{WakesGo, wake_stands}
+use Rattle.rwsem_rule.specs.RwSems.{IsDone, KeepsCount, count_at, count_in, entered, grants_in, list_words, marks_in, numbers_of, wake_words}
 
 -- what a moment keeps of a pass that stands so, has appended itself so often, and has this of wakes
 abbrev pub stance : SemHand → ℕ → SemWake → Marks

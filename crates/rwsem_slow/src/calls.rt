@@ -7,7 +7,7 @@ ghost use Rattle.lock_core.specs.Locking.{Looks, Has};
 ghost use Rattle.lock_core.specs.Locked.{IsLockedThen, IsSiteStep};
 ghost use Rattle.lock_core.specs.SitePasses.{Numbered};
 ghost use Rattle.lock_core.specs.Records.{IsPlan};
-ghost use Rattle.lock_core.specs.Shown.{AllButHand, IsLatestStep, PastGoesOn, shown_new, shown_split};
+ghost use Rattle.lock_core.specs.Shown.{AllButHand, IsLatestStep, shown_new, shown_split};
 ghost use Rattle.lock_core.specs.SpinStated.{IsSpinLockThen, IsSpinMove};
 ghost use Rattle.lock_core.specs.SiteStated.{IsNew};
 ghost use Rattle.lock_core.specs.Views.{gathered, gave_up};
@@ -15,13 +15,12 @@ ghost use Rattle.osq_nodes.specs.OsqHandles.{tasks_of};
 ghost use Rattle.lock_core.specs.SiteHandles as inner;
 ghost use Rattle.wait_list.specs.declared.view.Waiter.{Waiter as Waiters};
 ghost use Rattle.rwsem_wake.specs.SemParts.{SemPart};
-ghost use Rattle.rwsem_slow.specs.RwSems.{count_at, standing, wait_lock_at};
+ghost use Rattle.rwsem_rule.specs.RwSems.{count_at, standing, wait_lock_at};
 ghost use Rattle.rwsem_slow.specs.RwSemStated.{HasBecome, IsOutOfLine, IsRwSemThen, MarksCounts, waits_on};
 
-use crate::counts::{NO_WAKES, WakeCounts};
-use crate::rule::SemRule;
 use lock_core::{Pass, Plan, Site, Tally};
 use osq_nodes::{Osq, OsqPass};
+use rwsem_rule::{NO_WAKES, SemRule, WakeCounts};
 use std::alloc::{AllocError, Global};
 use std::sync::Wait;
 use word_bits::Object;
@@ -80,7 +79,7 @@ impl<O: Object> RwPass<O> {
 }
 
 impl<O: Object> RwSem<O> {
-    ghost use Rattle.rwsem_slow.specs.RwSemHandles.{newest, plan_of, shown_of, hand_in, dozes_in, wakes_in, KeepsWakes, SitsAt, SpunGoesOn};
+    ghost use Rattle.rwsem_slow.specs.RwSemHandles.{newest, plan_of, shown_of, hand_in, dozes_in, wakes_in, KeepsWakes, SitsAt, SpunGoesOn, StepsOn};
 
     /// A new semaphore: nobody holds, the state is empty, no call is logged or recorded. The pass
     /// has no task number.
@@ -107,9 +106,8 @@ impl<O: Object> RwSem<O> {
     /// A pass without a task number, which has seen as many entries.
     pub fn split(&self, pass: &mut RwPass<O>) -> RwPass<O>
         requires own { SitsAt self.now pass.old }
-        ensures own { SitsAt self.now pass.new }
+        ensures on { StepsOn self.now pass.old pass.new }
         ensures its_own { SitsAt self.now result }
-        ensures goes_on { PastGoesOn (shown_of pass.old) (shown_of pass.new) }
         ensures kept { Looks (shown_of pass.old) (shown_of pass.new) }
         ensures given { shown_of result ≡ shown_split (shown_of pass.old) }
         ensures still { KeepsWakes pass.old pass.new }
@@ -131,8 +129,7 @@ impl<O: Object> RwSem<O> {
         requires own { SitsAt self.now pass.old }
         requires numberless { (hand_in pass.old).task ≡ None }
         requires there { task < length (plan_of self.now) }
-        ensures own { SitsAt self.now pass.new }
-        ensures goes_on { PastGoesOn (shown_of pass.old) (shown_of pass.new) }
+        ensures on { StepsOn self.now pass.old pass.new }
         ensures queue { SpunGoesOn pass.old pass.new }
         ensures became { Numbered O.object (unavailable semaphore) (plan_of self.now)
             (hand_in pass.old) task (hand_in pass.new) }
@@ -150,8 +147,7 @@ impl<O: Object> RwSem<O> {
         requires out { (hand_in pass.old).held ≡ No }
         requires sent { (hand_in pass.old).sent ≡ None }
         requires consumed { (hand_in pass.old).consumed ≡ 0 }
-        ensures own { SitsAt self.now pass.new }
-        ensures goes_on { PastGoesOn (shown_of pass.old) (shown_of pass.new) }
+        ensures on { StepsOn self.now pass.old pass.new }
         ensures queue { SpunGoesOn pass.old pass.new }
         ensures kept { Has (gave_up (hand_in pass.old)) (shown_of pass.old) (shown_of pass.new) }
         ensures still { KeepsWakes pass.old pass.new }
@@ -167,8 +163,7 @@ impl<O: Object> RwSem<O> {
         requires others_own { SitsAt self.now other }
         requires out { (hand_in into.old).held ≡ No }
         requires numberless { (hand_in other).task ≡ None }
-        ensures own { SitsAt self.now into.new }
-        ensures goes_on { PastGoesOn (shown_of into.old) (shown_of into.new) }
+        ensures on { StepsOn self.now into.old into.new }
         ensures kept { Has (gathered (hand_in into.old) (hand_in other))
             (shown_of into.old) (shown_of into.new) }
         ensures queue { SpunGoesOn into.old into.new }
@@ -204,8 +199,7 @@ impl<O: Object> RwSem<O> {
     /// it chose. It has set so many wake words and fallen asleep so often as it says.
     pub fn recall(&self, pass: &mut RwPass<O>)
         requires own { SitsAt self.now pass.old }
-        ensures own { SitsAt self.now pass.new }
-        ensures goes_on { PastGoesOn (shown_of pass.old) (shown_of pass.new) }
+        ensures on { StepsOn self.now pass.old pass.new }
         ensures queue { SpunGoesOn pass.old pass.new }
         ensures kept { Looks (shown_of pass.old) (shown_of pass.new) }
         ensures last { IsLatestStep (shown_of pass.new) }

@@ -18,7 +18,7 @@ use crate::steps::{LINE, MARKED};
 use atomic_table::Play;
 use lock_core::view::View;
 use lock_core::{Held, Op, Pass, Site};
-use rwsem_count::{BIAS, HANDOFF, WAITERS};
+use rwsem_count::{BIAS, HANDOFF, WAITERS, has_writer};
 use std::marker::PhantomData;
 
 /// What is to be taken from a count so that a bias goes and, where the task is alone in the list,
@@ -386,7 +386,7 @@ pub fn settle<H: GrantHost>(site: &Site<H>, pass: &mut Pass<H>) -> bool
 {
     // The writer that the addition saw may have left, and found nobody to wake: the reader must not
     // queue then.
-    let free = site.step::<LookSettled<H>>(pass, H::COUNT, Op::Load) % 2 == 0;
+    let free = !has_writer(site.step::<LookSettled<H>>(pass, H::COUNT, Op::Load));
     if free {
         pass.set_held(Held::Shared);
     }

@@ -12,7 +12,7 @@ ghost use Rattle.rwsem_wake.specs.Grants.{AreTaskNumbers, HasWholeBatch, IsGrant
 use crate::host::GrantHost;
 use crate::steps;
 use lock_core::{Pass, Site};
-use rwsem_count::{BIAS, HANDOFF, WAITERS};
+use rwsem_count::{BIAS, HANDOFF, WAITERS, has_handoff};
 use word_bits::MAX_TASKS;
 
 /// Takes a waker's bias back that was added while there was a writer. `seen` is the count that its
@@ -42,7 +42,7 @@ pub fn back_out<H: GrantHost>(
 {
     if overdue {
         steps::mark_first(site, pass, first);
-        steps::ask_handoff(site, pass, seen / HANDOFF % 2 == 1);
+        steps::ask_handoff(site, pass, has_handoff(seen));
     } else {
         steps::unreserve(site, pass);
     }
@@ -99,9 +99,11 @@ pub fn count_batch<H: GrantHost>(
         (counted (sem_at H.sem (view_of pass.old))) (view_of pass.new) }
 {
     // HANDOFF is loaded and answered under the wait lock, under which alone it changes.
-    let handoff = steps::look_count(site, pass) / HANDOFF % 2;
+    let handoff = has_handoff(steps::look_count(site, pass));
     let gain = BIAS * readers;
-    let loss = BIAS * u64::from(reserved) + HANDOFF * handoff + WAITERS * u64::from(empty);
+    let loss = BIAS * u64::from(reserved)
+        + HANDOFF * u64::from(handoff)
+        + WAITERS * u64::from(empty);
     if gain != loss {
         steps::add_sum(site, pass, gain, loss);
     }

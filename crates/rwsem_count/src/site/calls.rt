@@ -1,5 +1,5 @@
 //! A site with a count, as a lock over a site.
-ghost use Rattle.std.specs.Prelude.{◌≡◌, refl};
+ghost use Rattle.std.specs.Prelude.{refl};
 ghost use Rattle.rwsem_count.specs.CountHandles.{plan_of, shown_of, SitsAt};
 
 use super::CountSite;
@@ -10,6 +10,7 @@ use site_lock::SiteLock;
 use word_bits::Object;
 
 impl<O: Object> SiteLock<O> for CountSite<O> {
+    ghost use Rattle.site_lock.specs.Faces.{same-put};
     ghost use Rattle.rwsem_count.specs.CountSiteLaws.{count-frame};
 
     type Rule = CountRule<O>;
@@ -49,6 +50,8 @@ impl<O: Object> SiteLock<O> for CountSite<O> {
     ghost owns = { λ s p at. at.seat };
 
     ghost puts = { λ p w. refl };
+
+    ghost whole = { λ p w same. same-put (λ put. record p { pass = put }) w p.pass same };
 
     ghost frame = { count-frame };
 }

@@ -3,10 +3,10 @@
 ghost use Rattle.std.specs.Prelude.{◌≡◌, ℕ, List, [], ◌∷◌, length};
 ghost use Rattle.lock_core.specs.Locking.{Looks};
 ghost use Rattle.lock_core.specs.Pasts.{BeganWith, EachMoment, Ran, Tail};
-ghost use Rattle.lock_core.specs.Shown.{IsLatestStep, PastGoesOn};
+ghost use Rattle.lock_core.specs.Shown.{IsLatestStep};
 ghost use Rattle.lock_core.specs.SpinStated.{IsSpinLockThen, IsSpinMove};
-ghost use Rattle.rwsem_slow.specs.RwSemHandles.{hand_in, newest, plan_of, shown_of, spun_of, KeepsWakes, SitsAt, SpunGoesOn};
-ghost use Rattle.rwsem_slow.specs.RwSems.{standing, wait_lock_at};
+ghost use Rattle.rwsem_slow.specs.RwSemHandles.{hand_in, newest, plan_of, shown_of, spun_of, KeepsWakes, SitsAt, SpunGoesOn, StepsOn};
+ghost use Rattle.rwsem_rule.specs.RwSems.{standing, wait_lock_at};
 ghost use Rattle.osq_nodes.specs.OsqPlaces.{node_marks};
 ghost use Rattle.osq_nodes.specs.OsqRuled.{IsOsqMove, newest as newest_queue};
 ghost use Rattle.osq_nodes.specs.OsqStated.{HasBecome, IsSpinQueue};
@@ -22,9 +22,8 @@ impl<O: Object> RwSem<O> {
     /// each step did to them.
     pub fn recall_wait_lock(&self, pass: &mut RwPass<O>)
         requires own { SitsAt self.now pass.old }
-        ensures own { SitsAt self.now pass.new }
+        ensures on { StepsOn self.now pass.old pass.new }
         ensures still { KeepsWakes pass.old pass.new }
-        ensures goes_on { PastGoesOn (shown_of pass.old) (shown_of pass.new) }
         ensures kept { Looks (shown_of pass.old) (shown_of pass.new) }
         ensures last { IsLatestStep (shown_of pass.new) }
         ensures begins { Tail (newest (plan_of self.now) ∷ []) (shown_of pass.new).past }

@@ -4,20 +4,19 @@ ghost use Rattle.lock_core.specs.declared.how.How.TheVariants.{Fast};
 ghost use Rattle.lock_core.specs.declared.view.Held.TheVariants.{No};
 ghost use Rattle.lock_core.specs.Kinds.{semaphore};
 ghost use Rattle.lock_core.specs.Locking.{Got, Interrupts, KeepsPlace, TalliesLock};
-ghost use Rattle.lock_core.specs.Shown.{PastGoesOn};
 ghost use Rattle.osq_unqueue.specs.Rising.{LeavesForCpu};
-ghost use Rattle.rwsem_slow.specs.RwSems.{count_at};
-ghost use Rattle.rwsem_slow.specs.RwSemHandles.{shown_of, dozes_in, hand_in, SitsAt, TakesShared};
+ghost use Rattle.rwsem_rule.specs.RwSems.{count_at};
+ghost use Rattle.rwsem_slow.specs.RwSemHandles.{shown_of, dozes_in, hand_in, SitsAt, TakesShared, StepsOn};
 ghost use Rattle.cpu_task.specs.CpuCounting.{Dozes};
-ghost use Rattle.rwsem_slow.specs.SleepCounting.{CountsReading, SleepsBetween};
-ghost use Rattle.rwsem_slow.specs.RwSemOpening.{EntersOpen};
+ghost use Rattle.rwsem_paths.specs.SleepCounting.{CountsReading, SleepsBetween};
+ghost use Rattle.rwsem_paths.specs.RwSemOpening.{EntersOpen};
 
 use super::{RwPass, RwSem};
-use crate::hint::note_reader;
-use crate::stealing::read_slowly;
 use cpu_task::Crew;
 use lock_core::{How, Interrupted};
 use rwsem_count::steps;
+use rwsem_paths::reader::read_slowly;
+use rwsem_rule::hint::note_reader;
 use std::sync::Wait;
 use word_bits::Object;
 
@@ -33,10 +32,9 @@ impl<O: Object> RwSem<O> {
         requires own { SitsAt self.now pass.old }
         requires numbered { IsSome (hand_in pass.old).task }
         requires out { (hand_in pass.old).held ≡ No }
-        ensures own { SitsAt self.now pass.new }
+        ensures on { StepsOn self.now pass.old pass.new }
         ensures dozed { Dozes (C.C.sleeps cpu.old) (C.C.sleeps cpu.new)
             (dozes_in pass.old) (dozes_in pass.new) }
-        ensures goes_on { PastGoesOn (shown_of pass.old) (shown_of pass.new) }
         ensures took { TakesShared O.object self.now pass.old pass.new }
         ensures opened { result ≡ Fast → EntersOpen (shown_of pass.old) (shown_of pass.new) }
         ensures how { Got result (shown_of pass.old) (shown_of pass.new) }
@@ -66,10 +64,9 @@ impl<O: Object> RwSem<O> {
         requires own { SitsAt self.now pass.old }
         requires numbered { IsSome (hand_in pass.old).task }
         requires out { (hand_in pass.old).held ≡ No }
-        ensures own { SitsAt self.now pass.new }
+        ensures on { StepsOn self.now pass.old pass.new }
         ensures dozed { Dozes (C.C.sleeps cpu.old) (C.C.sleeps cpu.new)
             (dozes_in pass.old) (dozes_in pass.new) }
-        ensures goes_on { PastGoesOn (shown_of pass.old) (shown_of pass.new) }
         ensures took { IfOk result (λ _. TakesShared O.object self.now pass.old pass.new) }
         ensures opened { IfOk result (λ how. how ≡ Fast →
             EntersOpen (shown_of pass.old) (shown_of pass.new)) }
@@ -109,10 +106,9 @@ impl<O: Object> RwSem<O> {
         requires own { SitsAt self.now pass.old }
         requires numbered { IsSome (hand_in pass.old).task }
         requires out { (hand_in pass.old).held ≡ No }
-        ensures own { SitsAt self.now pass.new }
+        ensures on { StepsOn self.now pass.old pass.new }
         ensures dozed { Dozes (C.C.sleeps cpu.old) (C.C.sleeps cpu.new)
             (dozes_in pass.old) (dozes_in pass.new) }
-        ensures goes_on { PastGoesOn (shown_of pass.old) (shown_of pass.new) }
         ensures took { IfOk result (λ _. TakesShared O.object self.now pass.old pass.new) }
         ensures opened { IfOk result (λ how. how ≡ Fast →
             EntersOpen (shown_of pass.old) (shown_of pass.new)) }

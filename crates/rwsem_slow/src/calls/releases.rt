@@ -3,13 +3,12 @@ ghost use Rattle.std.specs.Prelude.{◌≡◌, false};
 ghost use Rattle.lock_core.specs.declared.view.Held.TheVariants.{No, Shared, Alone};
 ghost use Rattle.lock_core.specs.Kinds.{semaphore, wakes_alone, wakes_down, wakes_shared};
 ghost use Rattle.lock_core.specs.Locking.{Downgrades, Releases};
-ghost use Rattle.lock_core.specs.Shown.{PastGoesOn};
-ghost use Rattle.rwsem_slow.specs.RwSemHandles.{shown_of, dozes_in, hand_in, SitsAt, SpunGoesOn};
-ghost use Rattle.rwsem_slow.specs.Releasing.{LeavesCount};
+ghost use Rattle.rwsem_slow.specs.RwSemHandles.{shown_of, dozes_in, hand_in, SitsAt, SpunGoesOn, StepsOn};
+ghost use Rattle.rwsem_paths.specs.Releasing.{LeavesCount};
 
 use super::{RwPass, RwSem};
-use crate::releasing;
 use cpu_task::Crew;
+use rwsem_paths::release;
 use std::sync::Wait;
 use word_bits::Object;
 
@@ -19,15 +18,14 @@ impl<O: Object> RwSem<O> {
     pub fn up_read<W: Wait, C: Crew>(&self, rt: &W, pass: &mut RwPass<O>, crew: &C)
         requires own { SitsAt self.now pass.old }
         requires held { (hand_in pass.old).held ≡ Shared }
-        ensures own { SitsAt self.now pass.new }
+        ensures on { StepsOn self.now pass.old pass.new }
         ensures dozes { dozes_in pass.new ≡ dozes_in pass.old }
-        ensures goes_on { PastGoesOn (shown_of pass.old) (shown_of pass.new) }
         ensures released { Releases (wakes_shared semaphore)
             (shown_of pass.old) (shown_of pass.new) }
         ensures left { LeavesCount (wakes_shared semaphore) No 256 0
             (shown_of pass.old) (shown_of pass.new) }
     {
-        releasing::up_read(&self.site, rt, &mut pass.pass, crew, &mut pass.counts);
+        release::up_read(&self.site, rt, &mut pass.pass, crew, &mut pass.counts);
     }
 
     /// Ends the pass's exclusive hold. If tasks wait, it wakes the first of them, and with a reader
@@ -36,16 +34,15 @@ impl<O: Object> RwSem<O> {
         requires own { SitsAt self.now pass.old }
         requires held { (hand_in pass.old).held ≡ Alone }
         requires quiet { (hand_in pass.old).writes ≡ false }
-        ensures own { SitsAt self.now pass.new }
+        ensures on { StepsOn self.now pass.old pass.new }
         ensures dozes { dozes_in pass.new ≡ dozes_in pass.old }
-        ensures goes_on { PastGoesOn (shown_of pass.old) (shown_of pass.new) }
         ensures queue { SpunGoesOn pass.old pass.new }
         ensures released { Releases (wakes_alone semaphore)
             (shown_of pass.old) (shown_of pass.new) }
         ensures left { LeavesCount (wakes_alone semaphore) No 1 0
             (shown_of pass.old) (shown_of pass.new) }
     {
-        releasing::up_write(&self.site, rt, &mut pass.pass, crew, &mut pass.counts);
+        release::up_write(&self.site, rt, &mut pass.pass, crew, &mut pass.counts);
     }
 
     /// Turns the pass's exclusive hold into a shared one. If a reader waits first, it lets the
@@ -54,13 +51,12 @@ impl<O: Object> RwSem<O> {
         requires own { SitsAt self.now pass.old }
         requires held { (hand_in pass.old).held ≡ Alone }
         requires quiet { (hand_in pass.old).writes ≡ false }
-        ensures own { SitsAt self.now pass.new }
+        ensures on { StepsOn self.now pass.old pass.new }
         ensures dozes { dozes_in pass.new ≡ dozes_in pass.old }
-        ensures goes_on { PastGoesOn (shown_of pass.old) (shown_of pass.new) }
         ensures downgraded { Downgrades semaphore (shown_of pass.old) (shown_of pass.new) }
         ensures left { LeavesCount (wakes_down semaphore) Shared 0 255
             (shown_of pass.old) (shown_of pass.new) }
     {
-        releasing::downgrade_write(&self.site, rt, &mut pass.pass, crew, &mut pass.counts);
+        release::downgrade_write(&self.site, rt, &mut pass.pass, crew, &mut pass.counts);
     }
 }

@@ -1,15 +1,16 @@
 //! A semaphore, as a lock over a site. Beside its pass of the site, a pass has one of the spin
 //! queue, and what it counts.
-ghost use Rattle.std.specs.Prelude.{◌≡◌, refl};
+ghost use Rattle.std.specs.Prelude.{refl};
 ghost use Rattle.rwsem_slow.specs.RwSemHandles.{plan_of, shown_of, SitsAt};
 
 use super::{RwPass, RwSem};
-use crate::rule::SemRule;
 use lock_core::{Pass, Site};
+use rwsem_rule::SemRule;
 use site_lock::SiteLock;
 use word_bits::Object;
 
 impl<O: Object> SiteLock<O> for RwSem<O> {
+    ghost use Rattle.site_lock.specs.Faces.{same-put};
     ghost use Rattle.site_lock.specs.Sitting.{SitsIdle};
     ghost use Rattle.rwsem_slow.specs.RwSemSiteLaws.{sem-frame};
 
@@ -50,6 +51,8 @@ impl<O: Object> SiteLock<O> for RwSem<O> {
     ghost owns = { λ s p at. at.own.sits };
 
     ghost puts = { λ p w. refl };
+
+    ghost whole = { λ p w same. same-put (λ put. record p { pass = put }) w p.pass same };
 
     ghost frame = { sem-frame O.object };
 }

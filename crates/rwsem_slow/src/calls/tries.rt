@@ -1,15 +1,14 @@
 //! The tries of a semaphore.
-ghost use Rattle.std.specs.Prelude.{◌≡◌, ◌≢◌, ◌+◌, true, false, IsSome, IfOk, IfErr};
+ghost use Rattle.std.specs.Prelude.{◌≡◌, ◌+◌, true, false, IsSome, IfOk, IfErr};
 ghost use Rattle.lock_core.specs.declared.how.How.TheVariants.{Fast};
 ghost use Rattle.lock_core.specs.declared.view.Held.TheVariants.{No};
 ghost use Rattle.lock_core.specs.Kinds.{semaphore};
 ghost use Rattle.lock_core.specs.Locking.{Got, Misses};
 ghost use Rattle.lock_core.specs.Pasts.{FoundAt};
-ghost use Rattle.lock_core.specs.Shown.{PastGoesOn};
 ghost use Rattle.rwsem_count.specs.CountTries.{FindsFree};
 ghost use Rattle.rwsem_count.specs.CountWordSteps.{IsReadFree};
-ghost use Rattle.rwsem_slow.specs.RwSems.{count_at};
-ghost use Rattle.rwsem_slow.specs.RwSemHandles.{shown_of, hand_in, KeepsWakes, SitsAt, TakesAlone, TakesShared};
+ghost use Rattle.rwsem_rule.specs.RwSems.{count_at};
+ghost use Rattle.rwsem_slow.specs.RwSemHandles.{shown_of, hand_in, KeepsWakes, SitsAt, TakesAlone, TakesShared, StepsOn};
 
 use super::{RwPass, RwSem};
 use rwsem_count::{steps, tries};
@@ -24,9 +23,8 @@ impl<O: Object> RwSem<O> {
         requires own { SitsAt self.now pass.old }
         requires numbered { IsSome (hand_in pass.old).task }
         requires out { (hand_in pass.old).held ≡ No }
-        ensures own { SitsAt self.now pass.new }
+        ensures on { StepsOn self.now pass.old pass.new }
         ensures still { KeepsWakes pass.old pass.new }
-        ensures goes_on { PastGoesOn (shown_of pass.old) (shown_of pass.new) }
         ensures took { IfOk result (λ _. TakesShared O.object self.now pass.old pass.new) }
         ensures at_once { IfOk result (λ _. Got Fast (shown_of pass.old) (shown_of pass.new)) }
         ensures free { IfOk result (λ _. FindsFree count_at 0 (shown_of pass.new).past) }
@@ -44,9 +42,8 @@ impl<O: Object> RwSem<O> {
         requires own { SitsAt self.now pass.old }
         requires numbered { IsSome (hand_in pass.old).task }
         requires out { (hand_in pass.old).held ≡ No }
-        ensures own { SitsAt self.now pass.new }
+        ensures on { StepsOn self.now pass.old pass.new }
         ensures still { KeepsWakes pass.old pass.new }
-        ensures goes_on { PastGoesOn (shown_of pass.old) (shown_of pass.new) }
         ensures took { IfOk result (λ _. TakesAlone O.object self.now pass.old pass.new) }
         ensures at_once { IfOk result (λ _. Got Fast (shown_of pass.old) (shown_of pass.new)) }
         ensures step { (shown_of pass.new).steps ≡ (shown_of pass.old).steps + 1 }

@@ -4,22 +4,20 @@ ghost use Rattle.lock_core.specs.declared.how.How.TheVariants.{Spun};
 ghost use Rattle.lock_core.specs.declared.view.Held.TheVariants.{No};
 ghost use Rattle.lock_core.specs.Kinds.{semaphore};
 ghost use Rattle.lock_core.specs.Locking.{Got, Interrupts, KeepsPlace, Looks, OnlyTried, TalliesLock, TalliesSpin};
-ghost use Rattle.lock_core.specs.Shown.{PastGoesOn};
 ghost use Rattle.osq_unqueue.specs.Rising.{LeavesForCpu};
-ghost use Rattle.rwsem_slow.specs.RwSems.{count_at};
-ghost use Rattle.rwsem_slow.specs.RwSemHandles.{shown_of, dozes_in, hand_in, KeepsFronts, KeepsMisses, KeepsWakes, SitsAt, SpunGoesOn, TakesAlone};
+ghost use Rattle.rwsem_rule.specs.RwSems.{count_at};
+ghost use Rattle.rwsem_slow.specs.RwSemHandles.{shown_of, dozes_in, hand_in, KeepsFronts, KeepsMisses, KeepsWakes, SitsAt, SpunGoesOn, TakesAlone, StepsOn};
 ghost use Rattle.cpu_task.specs.CpuCounting.{Dozes};
-ghost use Rattle.rwsem_slow.specs.SleepCounting.{CountsLeaving, CountsWriting};
-ghost use Rattle.rwsem_slow.specs.RwSemOpening.{TakesOpen};
-ghost use Rattle.rwsem_slow.specs.Spinning.{SawIfTried};
+ghost use Rattle.rwsem_paths.specs.SleepCounting.{CountsLeaving, CountsWriting};
+ghost use Rattle.rwsem_paths.specs.RwSemOpening.{TakesOpen};
+ghost use Rattle.rwsem_paths.specs.Spinning.{SawIfTried};
 
 use super::{RwPass, RwSem};
-use crate::hint::{is_reader_owned, set_hint, writer_hint};
-use crate::spinning;
-use crate::write_path::write_in_line;
 use cpu_task::{Cpu, Crew};
 use lock_core::{How, Interrupted};
 use rwsem_count::steps;
+use rwsem_paths::writer::{spin, write_in_line};
+use rwsem_rule::hint::{is_reader_owned, set_hint, writer_hint};
 use std::sync::Wait;
 use word_bits::Object;
 
@@ -35,10 +33,9 @@ impl<O: Object> RwSem<O> {
         requires own { SitsAt self.now pass.old }
         requires numbered { IsSome (hand_in pass.old).task }
         requires out { (hand_in pass.old).held ≡ No }
-        ensures own { SitsAt self.now pass.new }
+        ensures on { StepsOn self.now pass.old pass.new }
         ensures dozed { Dozes (C.C.sleeps cpu.old) (C.C.sleeps cpu.new)
             (dozes_in pass.old) (dozes_in pass.new) }
-        ensures goes_on { PastGoesOn (shown_of pass.old) (shown_of pass.new) }
         ensures queue { SpunGoesOn pass.old pass.new }
         ensures took { TakesAlone O.object self.now pass.old pass.new }
         ensures opened { TakesOpen result (shown_of pass.old) (shown_of pass.new) }
@@ -69,10 +66,9 @@ impl<O: Object> RwSem<O> {
         requires own { SitsAt self.now pass.old }
         requires numbered { IsSome (hand_in pass.old).task }
         requires out { (hand_in pass.old).held ≡ No }
-        ensures own { SitsAt self.now pass.new }
+        ensures on { StepsOn self.now pass.old pass.new }
         ensures dozed { Dozes (C.C.sleeps cpu.old) (C.C.sleeps cpu.new)
             (dozes_in pass.old) (dozes_in pass.new) }
-        ensures goes_on { PastGoesOn (shown_of pass.old) (shown_of pass.new) }
         ensures took { IfOk result (λ _. TakesAlone O.object self.now pass.old pass.new) }
         ensures opened { IfOk result (λ how. TakesOpen how (shown_of pass.old) (shown_of pass.new)) }
         ensures how { IfOk result (λ how. Got how (shown_of pass.old) (shown_of pass.new)) }
@@ -107,10 +103,9 @@ impl<O: Object> RwSem<O> {
         requires own { SitsAt self.now pass.old }
         requires numbered { IsSome (hand_in pass.old).task }
         requires out { (hand_in pass.old).held ≡ No }
-        ensures own { SitsAt self.now pass.new }
+        ensures on { StepsOn self.now pass.old pass.new }
         ensures dozed { Dozes (C.C.sleeps cpu.old) (C.C.sleeps cpu.new)
             (dozes_in pass.old) (dozes_in pass.new) }
-        ensures goes_on { PastGoesOn (shown_of pass.old) (shown_of pass.new) }
         ensures queue { SpunGoesOn pass.old pass.new }
         ensures took { IfOk result (λ _. TakesAlone O.object self.now pass.old pass.new) }
         ensures opened { IfOk result (λ how. TakesOpen how (shown_of pass.old) (shown_of pass.new)) }
@@ -147,9 +142,8 @@ impl<O: Object> RwSem<O> {
         requires own { SitsAt self.now pass.old }
         requires numbered { IsSome (hand_in pass.old).task }
         requires out { (hand_in pass.old).held ≡ No }
-        ensures own { SitsAt self.now pass.new }
+        ensures on { StepsOn self.now pass.old pass.new }
         ensures still { KeepsWakes pass.old pass.new }
-        ensures goes_on { PastGoesOn (shown_of pass.old) (shown_of pass.new) }
         ensures queue { SpunGoesOn pass.old pass.new }
         ensures numbered { (hand_in pass.new).task ≡ (hand_in pass.old).task }
         ensures line { (shown_of pass.new).line ≡ (shown_of pass.old).line }
@@ -180,7 +174,7 @@ impl<O: Object> RwSem<O> {
             pass.tally.leave();
             return false;
         }
-        let took = spinning::spin(&self.site, rt, &mut pass.pass, &pass.queue, cpu);
+        let took = spin::spin(&self.site, rt, &mut pass.pass, &pass.queue, cpu);
         self.osq.unlock(rt, &mut pass.queue);
         took
     }
@@ -197,10 +191,9 @@ impl<O: Object> RwSem<O> {
         requires own { SitsAt self.now pass.old }
         requires numbered { IsSome (hand_in pass.old).task }
         requires out { (hand_in pass.old).held ≡ No }
-        ensures own { SitsAt self.now pass.new }
+        ensures on { StepsOn self.now pass.old pass.new }
         ensures dozed { Dozes (C.C.sleeps cpu.old) (C.C.sleeps cpu.new)
             (dozes_in pass.old) (dozes_in pass.new) }
-        ensures goes_on { PastGoesOn (shown_of pass.old) (shown_of pass.new) }
         ensures queue { SpunGoesOn pass.old pass.new }
         ensures took { IfOk result (λ _. TakesAlone O.object self.now pass.old pass.new) }
         ensures opened { IfOk result (λ how. TakesOpen how (shown_of pass.old) (shown_of pass.new)) }
@@ -244,9 +237,8 @@ impl<O: Object> RwSem<O> {
     fn note_writer(&self, pass: &mut RwPass<O>)
         requires own { SitsAt self.now pass.old }
         requires numbered { IsSome (hand_in pass.old).task }
-        ensures own { SitsAt self.now pass.new }
+        ensures on { StepsOn self.now pass.old pass.new }
         ensures still { KeepsWakes pass.old pass.new }
-        ensures goes_on { PastGoesOn (shown_of pass.old) (shown_of pass.new) }
         ensures queue { SpunGoesOn pass.old pass.new }
         ensures kept { Looks (shown_of pass.old) (shown_of pass.new) }
     {

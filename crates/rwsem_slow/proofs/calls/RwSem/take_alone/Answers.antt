@@ -1,17 +1,17 @@
-use Rattle.std.proofs.Common.{◌≡◌, ◌∙◌, ℕ, false, refl, sym, ap, subst, arith}
+use Rattle.std.proofs.Common.{◌≡◌, ◌∙◌, ℕ, false, refl, sym, ap, subst, arith, rules}
 use Rattle.std.specs.Prelude.{Ok}
 use Rattle.lock_core.specs.declared.tally.Tally.{Tally}
 use Rattle.osq_unqueue.specs.Rising.{Rises}
 use Rattle.lock_core.proofs.Within.{err-all, tallies-answer, tried-then}
 use Rattle.osq_nodes.specs.OsqHandles.{fronts_in, swaps_in}
 use Rattle.rwsem_slow.specs.RwSemHandles.{shown_of}
-use Rattle.rwsem_slow.specs.RwSems.{V}
-use Rattle.rwsem_slow.proofs.Counting.{dozes-none, err-turns, left-counts, ok-turns, slept-counts}
-use Rattle.rwsem_slow.proofs.Showing.{first-sees, first-tried, spun-sees, waits-quit}
+use Rattle.rwsem_rule.specs.RwSems.{V}
+use Rattle.rwsem_paths.proofs.Counting.{dozes-none, err-turns, left-counts, ok-turns, slept-counts}
+use Rattle.rwsem_paths.proofs.Showing.{first-sees, first-tried, spun-sees, waits-quit}
 use Rattle.lock_core.specs.declared.how.How.TheVariants.{Fast, Spun}
 use Rattle.lock_core.specs.declared.view.Held.TheVariants.{Alone}
-use Rattle.rwsem_slow.specs.RwSemOpening.{IsOpen}
-use Rattle.rwsem_slow.proofs.Opening.{slept-takes, takes-within, took-since}
+use Rattle.rwsem_paths.specs.RwSemOpening.{IsOpen}
+use Rattle.rwsem_paths.proofs.Opening.{slept-takes, takes-within, took-since}
 use Rattle.rwsem_slow.proofs.calls.RwSem.take_alone.Goals as goal
 
 pub returns-clause-interrupted : goal.returns-clause-interrupted
@@ -19,9 +19,9 @@ returns-clause-interrupted g c = let fronts = fronts_in c.args.pass.now.queue in
     let first = shown_of (record { pass = c.write_try.new.pass; queue = c.args.pass.now.queue; tally = c.args.pass.now.tally; counts = c.args.pass.now.counts }) in let spun = shown_of c.spin.new.pass in
     let is = c.in-Err.ensures.missed in let shut = c.in-Err.ensures.shut in let hand = ap (λ (z : V). z.hand) is in let steps = ap (λ (z : V). z.steps) is in let appends = ap (λ (z : V). z.ext.appends) is in
     let tried = first-tried fronts swaps tally word v.view a.view v.past a.past hand steps (ap (λ (z : V). z.spin.entries) is) appends in let failed = c.spin.ensures.missed c.if-spin.false in
-    let sees = spun-sees (shown_of c.args.pass.now) first spun word tried c.write_try.ensures.goes_on (first-sees fronts swaps tally word v.view a.view v.past a.past hand steps false c.write_try.ensures.last c.in-Err.ensures.found c.write_try.ensures.goes_on (shut.1, shut.0)) failed c.spin.ensures.goes_on (c.spin.ensures.saw c.if-spin.false) in
+    let sees = spun-sees (shown_of c.args.pass.now) first spun word tried c.write_try.ensures.goes_on (first-sees fronts swaps tally word v.view a.view v.past a.past hand steps false c.write_try.ensures.last c.in-Err.ensures.found c.write_try.ensures.goes_on (shut.1, shut.0)) failed c.spin.ensures.on.goes_on (c.spin.ensures.saw c.if-spin.false) in
     waits-quit (fronts_in c.spin.new.pass.queue) (swaps_in c.spin.new.pass.queue) c.spin.new.pass.tally c.answer.new.self false sees.0 (shown_of c.args.pass.now) m.view u.view m.past u.past
-    (tried-then tried failed) (c.spin.ensures.line ∙ ap (λ (n : ℕ). record { appends = n }) appends) (λ p t. c.spin.ensures.goes_on p (c.write_try.ensures.goes_on p t)) (c.spin.ensures.out c.if-spin.false) sees.1
+    (tried-then tried failed) (c.spin.ensures.line ∙ ap (λ (n : ℕ). record { appends = n }) appends) (λ p t. c.spin.ensures.on.goes_on p (c.write_try.ensures.goes_on p t)) (c.spin.ensures.out c.if-spin.false) sees.1
     c.write_in_line-got.ensures.on.steps c.write_in_line-got.ensures.on.goes_on
     c.write_in_line-got.result (err-all c.write_in_line-got.result c.write_in_line-got.ensures.lock) c.write_in_line-got.ensures.waited c.write_in_line-got.ensures.consumed c.write_in_line-got.ensures.pending
 
@@ -36,7 +36,7 @@ returns-then-spin-clause-opened g c = let is = c.in-Err.ensures.missed in let st
 
 pub returns-clause-opened : goal.returns-clause-opened
 returns-clause-opened g c = let is = c.in-Err.ensures.missed in let steps = ap (λ (z : V). z.steps) is in let failed = c.spin.ensures.missed c.if-spin.false in let more = failed.keeps.counts.steps in let after = shown_of (record { pass = c.write_in_line-got.new.pass; queue = c.spin.new.pass.queue; tally = c.answer.new.self; counts = c.write_in_line-got.new.counts }) in
-    slept-takes (shown_of c.args.pass.now) (shown_of c.spin.new.pass) after after c.write_in_line-got.result (failed.keeps.task ∙ ap (λ (z : V). z.hand.task) is) (omega (arith, steps, more)) (λ p t. c.spin.ensures.goes_on p (c.write_try.ensures.goes_on p t)) (omega arith) (λ p t. t) c.write_in_line-got.ensures.slept c.write_in_line-got.ensures.opened
+    slept-takes (shown_of c.args.pass.now) (shown_of c.spin.new.pass) after after c.write_in_line-got.result (failed.keeps.task ∙ ap (λ (z : V). z.hand.task) is) (omega (arith, steps, more)) (λ p t. c.spin.ensures.on.goes_on p (c.write_try.ensures.goes_on p t)) (omega arith) (λ p t. t) c.write_in_line-got.ensures.slept c.write_in_line-got.ensures.opened
 
 -- the entries of the wait lock up to the list
 pub returns-clause-counts : goal.returns-clause-counts
@@ -49,11 +49,11 @@ returns-clause-slept g c = let entries : c.spin.new.pass.pass.seat.me.0.view.spi
     left-counts _ _ _ _ (shown_of c.args.pass.now) (shown_of (record { pass = c.write_in_line-got.new.pass; queue = c.spin.new.pass.queue; tally = c.answer.new.self; counts = c.write_in_line-got.new.counts })) c.write_in_line-got.result
     (err-turns 2 _ _ _ _ _ _ c.write_in_line-got.result entries c.spin.ensures.sleeps c.write_in_line-got.ensures.awake) (omega (arith, spun, same))
 
-pub returns-then-spin-clause-goes_on : goal.returns-then-spin-clause-goes_on
-returns-then-spin-clause-goes_on g c = λ p t. c.spin.ensures.goes_on p (c.write_try.ensures.goes_on p t)
+pub returns-then-spin-clause-on : goal.returns-then-spin-clause-on
+returns-then-spin-clause-on g c = record { own = c.spin.ensures.on.own; goes_on = λ p t. c.spin.ensures.on.goes_on p (c.write_try.ensures.goes_on p t) }
 
-pub returns-clause-goes_on : goal.returns-clause-goes_on
-returns-clause-goes_on g c = λ p t. c.write_in_line-got.ensures.on.goes_on p (c.spin.ensures.goes_on p (c.write_try.ensures.goes_on p t))
+pub returns-clause-on : goal.returns-clause-on
+returns-clause-on g c = record { own = search rules; goes_on = λ p t. c.write_in_line-got.ensures.on.goes_on p (c.spin.ensures.on.goes_on p (c.write_try.ensures.goes_on p t)) }
 
 pub returns-then-spin-clause-tallied : goal.returns-then-spin-clause-tallied
 returns-then-spin-clause-tallied g c = tallies-answer (Ok Spun) (shown_of c.args.pass.now) (shown_of c.spin.new.pass) (shown_of c.spin.new.pass) c.spin.ensures.tallied refl refl refl

@@ -1,25 +1,25 @@
 use Rattle.rwsem_slow.specs.RwSemHandles.{shown_of}
-use Rattle.rwsem_slow.proofs.Showing.{keeps-looks}
+use Rattle.rwsem_paths.proofs.Showing.{keeps-looks}
 use Rattle.std.proofs.Common.{◌∙◌, refl, ap, arith}
 use Rattle.lock_core.specs.declared.tally.Tally.{Tally}
 use Rattle.lock_core.specs.declared.view.Held.TheVariants.{Alone}
-use Rattle.rwsem_slow.specs.RwSemOpening.{IsOpen}
-use Rattle.rwsem_slow.proofs.Counting.{counts-behind}
-use Rattle.rwsem_slow.proofs.Opening.{takes-within}
+use Rattle.rwsem_paths.specs.RwSemOpening.{IsOpen}
+use Rattle.rwsem_paths.proofs.Counting.{counts-behind}
+use Rattle.rwsem_paths.proofs.Opening.{takes-within}
 use Rattle.rwsem_slow.proofs.calls.RwSem.write_common.Goals as goal
 
 pub returns-in-Ok-clause-line : goal.returns-in-Ok-clause-line
-returns-in-Ok-clause-line g c = λ shared. keeps-looks shared (shown_of c.args.pass.now) (shown_of c.take_alone.new.pass) (shown_of c.note_writer.new.pass) (c.take_alone.ensures.line shared) c.note_writer.ensures.kept c.note_writer.ensures.goes_on
+returns-in-Ok-clause-line g c = λ shared. keeps-looks shared (shown_of c.args.pass.now) (shown_of c.take_alone.new.pass) (shown_of c.note_writer.new.pass) (c.take_alone.ensures.line shared) c.note_writer.ensures.kept c.note_writer.ensures.on.goes_on
 
 pub returns-in-Ok-clause-opened : goal.returns-in-Ok-clause-opened
 returns-in-Ok-clause-opened g c = let v = shown_of c.args.pass.now in
-    takes-within Alone (IsOpen c.in-Ok.how) v v (shown_of c.take_alone.new.pass) (shown_of c.note_writer.new.pass) refl (omega arith) (λ p t. t) c.in-Ok.ensures.opened c.note_writer.ensures.kept.1.3 c.note_writer.ensures.goes_on
+    takes-within Alone (IsOpen c.in-Ok.how) v v (shown_of c.take_alone.new.pass) (shown_of c.note_writer.new.pass) refl (omega arith) (λ p t. t) c.in-Ok.ensures.opened c.note_writer.ensures.kept.1.3 c.note_writer.ensures.on.goes_on
 
 pub returns-in-Ok-clause-counts : goal.returns-in-Ok-clause-counts
 returns-in-Ok-clause-counts g c = counts-behind c.in-Ok.how _ _ _ _ (shown_of c.args.pass.now) (shown_of c.take_alone.new.pass) (shown_of c.note_writer.new.pass) c.in-Ok.ensures.counts c.note_writer.ensures.kept.1.0
 
-pub returns-in-Ok-clause-goes_on : goal.returns-in-Ok-clause-goes_on
-returns-in-Ok-clause-goes_on g c = λ p t. c.note_writer.ensures.goes_on p (c.take_alone.ensures.goes_on p t)
+pub returns-in-Ok-clause-on : goal.returns-in-Ok-clause-on
+returns-in-Ok-clause-on g c = record { own = c.note_writer.ensures.on.own; goes_on = λ p t. c.note_writer.ensures.on.goes_on p (c.take_alone.ensures.on.goes_on p t) }
 
 pub returns-in-Ok-clause-tallied : goal.returns-in-Ok-clause-tallied
 returns-in-Ok-clause-tallied g c = let t = c.in-Ok.ensures.tallied in let looks = c.note_writer.ensures.kept.1 in let tally = looks.5 in record {

@@ -1,0 +1,12 @@
+pub mod Showing
+pub mod Ending
+pub mod Joining
+pub mod WriterSteps
+pub mod Quitting
+pub mod ReaderSteps
+pub mod BiasHolds
+pub mod Unqueued
+pub mod Counting
+pub mod Opening
+pub mod Vigils
+pub mod Marking

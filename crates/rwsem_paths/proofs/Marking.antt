@@ -1,0 +1,31 @@
+-- A task that queued has chosen others, and sets their wake words.
+use Rattle.std.proofs.Common.{◌≡◌, ◌∙◌, ℕ, ◌++◌, List, [], ap}
+use Rattle.rwsem_wake.specs.declared.view.Wait.{Wait}
+use Rattle.sem_duty.specs.declared.view.SemWake.{SemWake}
+use Rattle.wake_duty.specs.DutyWakes.{waits}
+use Rattle.rwsem_rule.specs.RwSems.{V}
+use Rattle.rwsem_rule.specs.Removals.{StaysBeside}
+use Rattle.rwsem_rule.specs.RwSemWakes.{HasChosenAll, IsAtRest, SetsAll}
+use Rattle.rwsem_paths.specs.Queued.{IsInLine, IsInLineToWake}
+
+-- it looked whom to wake, and is to wake those
+pub marks : (wait : Wait) (tasks : List ℕ) (v u : V) → v.ext.sem.wait ≡ wait → v.ext.wake.chosen ≡ [] → waits v.ext.wake.vigil ≡ 1 → StaysBeside v u → IsAtRest u → HasChosenAll tasks v u → IsInLineToWake wait tasks u
+marks wait tasks v u waits_so none vigil beside rests chosen = record {
+  waits = λ i. record { wait = (beside.wait ∙ waits_so) i; bias = rests.clear i; stage = rests.stage i; rest = rests.none i };
+  still = rests.still;
+  clear = chosen.clear;
+  chosen = ap (λ (b : SemWake). b.chosen) chosen.chose ∙ ap (λ (ts : List ℕ). ts ++ tasks) none;
+  vigil = ap (λ (b : SemWake). waits b.vigil) chosen.chose ∙ vigil;
+}
+
+-- it has set their wake words since, and waits in line
+pub marked : (wait : Wait) (tasks : List ℕ) (many : ℕ) (u m w : V) → IsInLineToWake wait tasks u → m.ext ≡ u.ext → SetsAll many m w → IsInLine wait w
+marked wait tasks many u m w to_wake same sets = record {
+  waits = ap (λ (z : V). z.ext.sem) sets.is ∙ (ap (λ e. e.sem) same ∙ to_wake.waits);
+  still = ap (λ (z : V). z.ext.list.changes) sets.is ∙ (ap (λ e. e.list.changes) same ∙ to_wake.still);
+  listed = record {
+    clear = ap (λ (z : V). z.ext.wake.owing) sets.is ∙ (ap (λ e. e.wake.owing) same ∙ to_wake.clear);
+    none = ap (λ (z : V). z.ext.wake.chosen) sets.is;
+    waits = ap (λ (z : V). waits z.ext.wake.vigil) sets.is ∙ (ap (λ e. waits e.wake.vigil) same ∙ to_wake.vigil);
+  };
+}

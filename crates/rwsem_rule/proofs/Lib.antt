@@ -1,0 +1,6 @@
+pub mod Hinting
+pub mod Removing
+pub mod Walking
+pub mod Granting
+pub mod FirstLooks
+pub mod Owing

@@ -1,0 +1,14 @@
+pub mod WakesGo
+pub mod RwSems
+pub mod WakesGoLaws
+pub mod ListSteps
+pub mod DutyRule
+pub mod WaiterLaws
+pub mod RwSemLaws
+pub mod SleepLaws
+pub mod RwSemListLaws
+pub mod CountHosting
+pub mod RwSemPlaces
+pub mod HintPlays
+pub mod Removals
+pub mod RwSemWakes
