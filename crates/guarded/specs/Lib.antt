@@ -7,8 +7,3 @@ pub mod SplicingLaws
 pub mod Slots
 pub mod ObjectCopying
 pub mod Gathering
-pub mod MutexLocks
-pub mod RwSemLocks
-pub mod LockSpinQueues
-pub mod LockMembers
-pub mod LockLaws

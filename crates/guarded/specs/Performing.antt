@@ -28,6 +28,10 @@ pub record IsNext {Call : Type 0} (o : Obj Call) (k : Plan) (h : Hand) (n : Next
   pub number : n.number ≡ h.done
   pub is : o.call_of n.words ≡ Some n.call
 
+-- the next call of the pass's task sends a signal to this one
+abbrev pub SendsNext : Plan → Hand → (target : ℕ) → Type 0
+SendsNext k h target = (words : CallWords) × IsNextCall k h words × (signal_of words ≡ Some target)
+
 -- the guarded words are these now, and all else is as before, but that the pass may write
 abbrev pub HasStored : List ℕ → Shown → Shown → Type 0
 HasStored words v u = (writes : Bool) × Has (record v.hand { writes = writes; known = words }) v u

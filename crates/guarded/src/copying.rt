@@ -6,16 +6,16 @@ ghost use Rattle.lock_core.specs.Pasts.{GoesOn};
 ghost use Rattle.lock_core.specs.Plans.{calls_in};
 ghost use Rattle.lock_core.specs.Records.{row};
 ghost use Rattle.lock_core.specs.Kinds.{unavailable};
-ghost use Rattle.lock_core.specs.Shown.{PastGoesOn};
+ghost use Rattle.lock_core.specs.Shown.{StepsOn};
 ghost use Rattle.lock_core.specs.Locking.{Looks, Keeps};
 ghost use Rattle.guarded.specs.GuardedHandles.{lock_of};
 ghost use Rattle.guarded.specs.ObjectCopying.{Copies, GatheredIsHistory, KnowsChronicle, AddsTaskWords, AddsRecWords};
 ghost use Rattle.guarded.specs.Gathering.{HasDoneAll};
 
 use crate::guarded::Guarded;
-use crate::lock::SleepLock;
 use crate::served::Served;
 use cpu_task::{Crew, Gate};
+use sleep_lock::SleepLock;
 use std::sync::Wait;
 use word_bits::{Object, Snapshot};
 
@@ -41,8 +41,7 @@ impl<L: SleepLock<O>, O: Served + Drop> Guarded<L, O> {
         requires recs_room { calls_in (L.calls_on (lock_of self.now)) ≤ out.old.recs_room }
         requires log_room { calls_in (L.calls_on (lock_of self.now)) ≤ out.old.log_room }
         requires state_room { O.WORDS ≤ out.old.state_room }
-        ensures own { L.sits (lock_of self.now) pass.new }
-        ensures goes_on { PastGoesOn (L.view pass.old) (L.view pass.new) }
+        ensures on { StepsOn L.sits L.view (lock_of self.now) pass.old pass.new }
         ensures queue { GoesOn (L.spun pass.old) (L.spun pass.new) }
         ensures kept { Keeps (L.view pass.old) (L.view pass.new) }
         ensures signals { (L.view pass.new).hand.consumed ≡ (L.view pass.old).hand.consumed }
@@ -69,8 +68,7 @@ impl<L: SleepLock<O>, O: Served + Drop> Guarded<L, O> {
         requires held { (L.view pass.old).hand.held ≢ No }
         requires empty { out.old.log ≡ [] }
         requires room { length (L.view pass.old).hand.log ≤ out.old.log_room }
-        ensures own { L.sits (lock_of self.now) pass.new }
-        ensures goes_on { PastGoesOn (L.view pass.old) (L.view pass.new) }
+        ensures on { StepsOn L.sits L.view (lock_of self.now) pass.old pass.new }
         ensures queue { GoesOn (L.spun pass.old) (L.spun pass.new) }
         ensures kept { Looks (L.view pass.old) (L.view pass.new) }
         ensures copied { out.new ≡
@@ -89,8 +87,7 @@ impl<L: SleepLock<O>, O: Served + Drop> Guarded<L, O> {
         requires own { L.sits (lock_of self.now) pass.old }
         requires empty { out.old.recs ≡ [] }
         requires room { calls_in (L.calls_on (lock_of self.now)) ≤ out.old.recs_room }
-        ensures own { L.sits (lock_of self.now) pass.new }
-        ensures goes_on { PastGoesOn (L.view pass.old) (L.view pass.new) }
+        ensures on { StepsOn L.sits L.view (lock_of self.now) pass.old pass.new }
         ensures queue { GoesOn (L.spun pass.old) (L.spun pass.new) }
         ensures kept { Looks (L.view pass.old) (L.view pass.new) }
         ensures copied { AddsRecWords (L.calls_on (lock_of self.now)) (L.view pass.old)
@@ -107,8 +104,7 @@ impl<L: SleepLock<O>, O: Served + Drop> Guarded<L, O> {
         requires there { task < length (L.calls_on (lock_of self.now)) }
         requires room { length out.old.recs +
             length (row (L.calls_on (lock_of self.now)) task) ≤ out.old.recs_room }
-        ensures own { L.sits (lock_of self.now) pass.new }
-        ensures goes_on { PastGoesOn (L.view pass.old) (L.view pass.new) }
+        ensures on { StepsOn L.sits L.view (lock_of self.now) pass.old pass.new }
         ensures queue { GoesOn (L.spun pass.old) (L.spun pass.new) }
         ensures kept { Looks (L.view pass.old) (L.view pass.new) }
         ensures copied { AddsTaskWords (L.calls_on (lock_of self.now)) (L.view pass.old)
@@ -126,8 +122,7 @@ impl<L: SleepLock<O>, O: Served + Drop> Guarded<L, O> {
         requires sized { length (L.view pass.old).hand.known ≡ O.WORDS }
         requires empty { out.old.state ≡ [] }
         requires room { O.WORDS ≤ out.old.state_room }
-        ensures own { L.sits (lock_of self.now) pass.new }
-        ensures goes_on { PastGoesOn (L.view pass.old) (L.view pass.new) }
+        ensures on { StepsOn L.sits L.view (lock_of self.now) pass.old pass.new }
         ensures queue { GoesOn (L.spun pass.old) (L.spun pass.new) }
         ensures kept { Looks (L.view pass.old) (L.view pass.new) }
         ensures copied { out.new ≡ record out.old { state = (L.view pass.old).hand.known } }
@@ -155,8 +150,7 @@ impl<L: SleepLock<O>, O: Served + Drop> Guarded<L, O> {
         requires out { (L.view pass.old).hand.held ≡ No }
         requires sent { (L.view pass.old).hand.sent ≡ None }
         requires consumed { (L.view pass.old).hand.consumed ≡ 0 }
-        ensures own { L.sits (lock_of self.now) pass.new }
-        ensures goes_on { PastGoesOn (L.view pass.old) (L.view pass.new) }
+        ensures on { StepsOn L.sits L.view (lock_of self.now) pass.old pass.new }
         ensures numbered { (L.view pass.new).hand.task ≡ Some task }
         ensures out { (L.view pass.new).hand.held ≡ No }
         ensures sent { (L.view pass.new).hand.sent ≡ None }

@@ -7,13 +7,13 @@ ghost use Rattle.lock_core.specs.SitePasses.{Numbered};
 ghost use Rattle.lock_core.specs.Pasts.{EachMoment, GoesOn, Paced, Tail};
 ghost use Rattle.lock_core.specs.SiteStated.{IsNew};
 ghost use Rattle.lock_core.specs.Kinds.{unavailable};
-ghost use Rattle.lock_core.specs.Shown.{AllButHand, IsLatestStep, PastGoesOn, shown_new, shown_split};
+ghost use Rattle.lock_core.specs.Shown.{AllButHand, IsLatestStep, shown_new, shown_split, StepsOn};
 ghost use Rattle.lock_core.specs.Locking.{Looks, Has};
 ghost use Rattle.lock_core.specs.Locked.{IsLockedThen, IsSiteStep};
 
-use crate::lock::SleepLock;
 use crate::served::Served;
 use lock_core::Plan;
+use sleep_lock::SleepLock;
 use std::alloc::{AllocError, Global};
 use std::marker::PhantomData;
 use std::sync::Wait;
@@ -58,8 +58,8 @@ impl<L: SleepLock<O>, O: Served + Drop> Guarded<L, O> {
     /// A pass without a task number, which has seen as many entries.
     pub fn split(&self, pass: &mut L::Pass) -> L::Pass
         requires own { L.sits (lock_of self.now) pass.old }
-        ensures own { L.sits (lock_of self.now) pass.new × L.sits (lock_of self.now) result }
-        ensures goes_on { PastGoesOn (L.view pass.old) (L.view pass.new) }
+        ensures on { StepsOn L.sits L.view (lock_of self.now) pass.old pass.new }
+        ensures its_own { L.sits (lock_of self.now) result }
         ensures kept { Looks (L.view pass.old) (L.view pass.new) }
         ensures given { L.view result ≡ shown_split (L.view pass.old) }
     {
@@ -72,8 +72,7 @@ impl<L: SleepLock<O>, O: Served + Drop> Guarded<L, O> {
         requires own { L.sits (lock_of self.now) pass.old }
         requires numberless { (L.view pass.old).hand.task ≡ None }
         requires there { task < length (L.calls_on (lock_of self.now)) }
-        ensures own { L.sits (lock_of self.now) pass.new }
-        ensures goes_on { PastGoesOn (L.view pass.old) (L.view pass.new) }
+        ensures on { StepsOn L.sits L.view (lock_of self.now) pass.old pass.new }
         ensures queue { GoesOn (L.spun pass.old) (L.spun pass.new) }
         ensures became { Numbered O.object (unavailable L.kind) (L.calls_on (lock_of self.now))
             (L.view pass.old).hand task (L.view pass.new).hand }
@@ -93,8 +92,7 @@ impl<L: SleepLock<O>, O: Served + Drop> Guarded<L, O> {
         requires out { (L.view pass.old).hand.held ≡ No }
         requires sent { (L.view pass.old).hand.sent ≡ None }
         requires consumed { (L.view pass.old).hand.consumed ≡ 0 }
-        ensures own { L.sits (lock_of self.now) pass.new }
-        ensures goes_on { PastGoesOn (L.view pass.old) (L.view pass.new) }
+        ensures on { StepsOn L.sits L.view (lock_of self.now) pass.old pass.new }
         ensures queue { GoesOn (L.spun pass.old) (L.spun pass.new) }
         ensures kept { Has (gave_up (L.view pass.old).hand) (L.view pass.old) (L.view pass.new) }
         ensures done { KeepsDone O.object (unavailable L.kind) (L.calls_on (lock_of self.now))
@@ -110,8 +108,7 @@ impl<L: SleepLock<O>, O: Served + Drop> Guarded<L, O> {
         requires own { L.sits (lock_of self.now) into.old × L.sits (lock_of self.now) other }
         requires out { (L.view into.old).hand.held ≡ No }
         requires numberless { (L.view other).hand.task ≡ None }
-        ensures own { L.sits (lock_of self.now) into.new }
-        ensures goes_on { PastGoesOn (L.view into.old) (L.view into.new) }
+        ensures on { StepsOn L.sits L.view (lock_of self.now) into.old into.new }
         ensures kept { Has (gathered (L.view into.old).hand (L.view other).hand)
             (L.view into.old) (L.view into.new) }
         ensures done { KeepsDone O.object (unavailable L.kind) (L.calls_on (lock_of self.now))
@@ -130,8 +127,7 @@ impl<L: SleepLock<O>, O: Served + Drop> Guarded<L, O> {
     /// what the lock tells of its own.
     pub fn recall(&self, pass: &mut L::Pass)
         requires own { L.sits (lock_of self.now) pass.old }
-        ensures own { L.sits (lock_of self.now) pass.new }
-        ensures goes_on { PastGoesOn (L.view pass.old) (L.view pass.new) }
+        ensures on { StepsOn L.sits L.view (lock_of self.now) pass.old pass.new }
         ensures queue { GoesOn (L.spun pass.old) (L.spun pass.new) }
         ensures kept { Looks (L.view pass.old) (L.view pass.new) }
         ensures last { IsLatestStep (L.view pass.new) }

@@ -6,21 +6,21 @@ ghost use Rattle.lock_core.specs.declared.view.Held.TheVariants.{No, Alone};
 ghost use Rattle.lock_core.specs.Records.{row};
 ghost use Rattle.lock_core.specs.Views.{OwesNoSignal, next_entry};
 ghost use Rattle.lock_core.specs.Kinds.{shares, unavailable};
-ghost use Rattle.lock_core.specs.Shown.{IsNextCall, PastGoesOn};
+ghost use Rattle.lock_core.specs.Shown.{StepsOn};
 ghost use Rattle.lock_core.specs.Locking.{Looks, Takes, KeepsPlace, Releases, IsStored, held_by};
 ghost use Rattle.guarded.specs.GuardedHandles.{lock_of};
-ghost use Rattle.guarded.specs.Performing.{IsNext, Refuses, TriesOnce, Serves, Performs, Changes, no_word};
+ghost use Rattle.guarded.specs.Performing.{IsNext, SendsNext, Refuses, TriesOnce, Serves, Performs, Changes, no_word};
 ghost use Rattle.guarded.specs.Gathering.{DoesOneMore};
 ghost use Rattle.guarded.specs.States.{WasDone, reply_in};
 
 use crate::guarded::Guarded;
-use crate::lock::SleepLock;
 use crate::next::Next;
 use crate::served::Served;
-use cpu_task::{Crew, Gate};
+use cpu_task::{Context, Crew, Gate};
 use lock_core::Held;
+use sleep_lock::SleepLock;
 use std::sync::Wait;
-use word_bits::{CallWords, MAX_TASKS, Mode, Reply};
+use word_bits::{MAX_TASKS, Mode, Reply};
 
 impl<L: SleepLock<O>, O: Served + Drop> Guarded<L, O> {
     /// Does the next call of the pass's task on the object, and records it: under a shared hold
@@ -47,8 +47,7 @@ impl<L: SleepLock<O>, O: Served + Drop> Guarded<L, O> {
         requires out { (L.view pass.old).hand.held ≡ No }
         requires sent { (L.view pass.old).hand.sent ≡ None }
         requires consumed { (L.view pass.old).hand.consumed ≡ 0 }
-        ensures own { L.sits (lock_of self.now) pass.new }
-        ensures goes_on { PastGoesOn (L.view pass.old) (L.view pass.new) }
+        ensures on { StepsOn L.sits L.view (lock_of self.now) pass.old pass.new }
         ensures performs { Performs O.object L.kind L.word_at (L.calls_on (lock_of self.now))
             result (L.view pass.old) (L.view pass.new) }
         ensures one_more { DoesOneMore O.object (unavailable L.kind) (L.calls_on (lock_of self.now))
@@ -60,35 +59,33 @@ impl<L: SleepLock<O>, O: Served + Drop> Guarded<L, O> {
         };
         let words = self.lock.call(pass, task, call);
         match (words.signal(), O::call_of(words)) {
-            (Some(target), _) => self.send(pass, call, words, target),
+            (Some(target), _) => self.send(pass, call, target),
             (None, Some(known)) => {
                 let next = Next {
                     number: call,
                     words,
                     call: known,
                 };
-                self.perform_known(rt, pass, cpu, crew, gate, next)
+                let context = Context { rt, crew, gate };
+                self.perform_known(context, pass, cpu, next)
             }
             (None, None) => unreachable!(),
         }
     }
 
-    /// Sends a signal, and records it.
-    fn send(&self, pass: &mut L::Pass, call: u32, words: CallWords, target: u32) -> Reply
+    /// Sends a signal to the target, and records it.
+    fn send(&self, pass: &mut L::Pass, call: u32, target: u32) -> Reply
         requires own { L.sits (lock_of self.now) pass.old }
-        requires next { IsNextCall (L.calls_on (lock_of self.now)) (L.view pass.old).hand words }
+        requires next { SendsNext (L.calls_on (lock_of self.now)) (L.view pass.old).hand target }
         requires call { call ≡ (L.view pass.old).hand.done }
         requires out { (L.view pass.old).hand.held ≡ No }
         requires sent { (L.view pass.old).hand.sent ≡ None }
         requires consumed { (L.view pass.old).hand.consumed ≡ 0 }
         requires there { target < MAX_TASKS }
-        requires signal { signal_of words ≡ Some target }
-        ensures own { L.sits (lock_of self.now) pass.new }
-        ensures goes_on { PastGoesOn (L.view pass.old) (L.view pass.new) }
+        ensures on { StepsOn L.sits L.view (lock_of self.now) pass.old pass.new }
         ensures performs { Performs O.object L.kind L.word_at (L.calls_on (lock_of self.now))
             result (L.view pass.old) (L.view pass.new) }
     {
-        let _ = words;
         self.lock.signal(pass, target);
         // Until its record is there the signal counts as sent by this pass, so none is lost or
         // counted twice whoever consumes it first.
@@ -99,11 +96,9 @@ impl<L: SleepLock<O>, O: Served + Drop> Guarded<L, O> {
     /// Does a call of the object, and records it.
     fn perform_known<W: Wait, C: Crew, G: Gate>(
         &self,
-        rt: &W,
+        context: Context<'_, W, C, G>,
         pass: &mut L::Pass,
         cpu: &mut C::C,
-        crew: &C,
-        gate: &G,
         next: Next<O::Call>,
     ) -> Reply
         requires own { L.sits (lock_of self.now) pass.old }
@@ -113,22 +108,21 @@ impl<L: SleepLock<O>, O: Served + Drop> Guarded<L, O> {
         requires sent { (L.view pass.old).hand.sent ≡ None }
         requires consumed { (L.view pass.old).hand.consumed ≡ 0 }
         requires no_signal { signal_of next.words ≡ None }
-        ensures own { L.sits (lock_of self.now) pass.new }
-        ensures goes_on { PastGoesOn (L.view pass.old) (L.view pass.new) }
+        ensures on { StepsOn L.sits L.view (lock_of self.now) pass.old pass.new }
         ensures performs { Performs O.object L.kind L.word_at (L.calls_on (lock_of self.now))
             result (L.view pass.old) (L.view pass.new) }
     {
         let reads = O::reads(next.call);
-        match self.enter(rt, pass, cpu, crew, next.words.mode(), reads) {
+        match self.enter(context, pass, cpu, next.words.mode(), reads) {
             Err(reply) => {
                 self.lock.note(pass, next.number, reply);
                 reply
             }
             Ok(()) => {
                 if reads {
-                    self.serve_reading(rt, pass, crew, gate, next)
+                    self.serve_reading(context, pass, next)
                 } else {
-                    self.serve_change(rt, pass, crew, gate, next)
+                    self.serve_change(context, pass, next)
                 }
             }
         }
@@ -136,20 +130,18 @@ impl<L: SleepLock<O>, O: Served + Drop> Guarded<L, O> {
 
     /// Takes the lock as a call of this mode does. `Err` has the reply of one that couldn't have
     /// it.
-    fn enter<W: Wait, C: Crew>(
+    fn enter<W: Wait, C: Crew, G>(
         &self,
-        rt: &W,
+        context: Context<'_, W, C, G>,
         pass: &mut L::Pass,
         cpu: &mut C::C,
-        crew: &C,
         mode: Mode,
         reads: bool,
     ) -> Result<(), Reply>
         requires own { L.sits (lock_of self.now) pass.old }
         requires numbered { IsSome (L.view pass.old).hand.task }
         requires out { (L.view pass.old).hand.held ≡ No }
-        ensures own { L.sits (lock_of self.now) pass.new }
-        ensures goes_on { PastGoesOn (L.view pass.old) (L.view pass.new) }
+        ensures on { StepsOn L.sits L.view (lock_of self.now) pass.old pass.new }
         ensures took { IfOk result (λ _. Takes O.object (L.calls_on (lock_of self.now))
             (held_by L.kind reads) (L.view pass.old) (L.view pass.new)) }
         ensures counted { IfOk result (λ _. (L.view pass.new).tally.interrupted ≡
@@ -164,34 +156,33 @@ impl<L: SleepLock<O>, O: Served + Drop> Guarded<L, O> {
     {
         match mode {
             Mode::Plain => {
-                self.wait(rt, pass, cpu, crew, reads);
+                self.wait(context, pass, cpu, reads);
                 Ok(())
             }
-            Mode::Int => self.wait_int(rt, pass, cpu, crew, reads),
-            Mode::Try => self.try_once(rt, pass, reads),
+            Mode::Int => self.wait_int(context, pass, cpu, reads),
+            Mode::Try => self.try_once(context.rt, pass, reads),
         }
     }
 
     /// Waits for the lock.
-    fn wait<W: Wait, C: Crew>(
+    fn wait<W: Wait, C: Crew, G>(
         &self,
-        rt: &W,
+        context: Context<'_, W, C, G>,
         pass: &mut L::Pass,
         cpu: &mut C::C,
-        crew: &C,
         reads: bool,
     )
         requires own { L.sits (lock_of self.now) pass.old }
         requires numbered { IsSome (L.view pass.old).hand.task }
         requires out { (L.view pass.old).hand.held ≡ No }
-        ensures own { L.sits (lock_of self.now) pass.new }
-        ensures goes_on { PastGoesOn (L.view pass.old) (L.view pass.new) }
+        ensures on { StepsOn L.sits L.view (lock_of self.now) pass.old pass.new }
         ensures took { Takes O.object (L.calls_on (lock_of self.now))
             (held_by L.kind reads) (L.view pass.old) (L.view pass.new) }
         ensures counted { (L.view pass.new).tally.interrupted ≡
             (L.view pass.old).tally.interrupted }
         ensures line { KeepsPlace L.kind reads L.word_at (L.view pass.old) (L.view pass.new) }
     {
+        let Context { rt, crew, .. } = context;
         if reads {
             self.lock.shared(rt, pass, cpu, crew);
         } else {
@@ -200,19 +191,17 @@ impl<L: SleepLock<O>, O: Served + Drop> Guarded<L, O> {
     }
 
     /// Waits for the lock until a signal interrupts it.
-    fn wait_int<W: Wait, C: Crew>(
+    fn wait_int<W: Wait, C: Crew, G>(
         &self,
-        rt: &W,
+        context: Context<'_, W, C, G>,
         pass: &mut L::Pass,
         cpu: &mut C::C,
-        crew: &C,
         reads: bool,
     ) -> Result<(), Reply>
         requires own { L.sits (lock_of self.now) pass.old }
         requires numbered { IsSome (L.view pass.old).hand.task }
         requires out { (L.view pass.old).hand.held ≡ No }
-        ensures own { L.sits (lock_of self.now) pass.new }
-        ensures goes_on { PastGoesOn (L.view pass.old) (L.view pass.new) }
+        ensures on { StepsOn L.sits L.view (lock_of self.now) pass.old pass.new }
         ensures took { IfOk result (λ _. Takes O.object (L.calls_on (lock_of self.now))
             (held_by L.kind reads) (L.view pass.old) (L.view pass.new)) }
         ensures counted { IfOk result (λ _. (L.view pass.new).tally.interrupted ≡
@@ -224,6 +213,7 @@ impl<L: SleepLock<O>, O: Served + Drop> Guarded<L, O> {
         ensures stood { IfErr result (λ _.
             KeepsPlace L.kind false L.word_at (L.view pass.old) (L.view pass.new)) }
     {
+        let Context { rt, crew, .. } = context;
         let got = if reads {
             self.lock.shared_int(rt, pass, cpu, crew)
         } else {
@@ -240,8 +230,7 @@ impl<L: SleepLock<O>, O: Served + Drop> Guarded<L, O> {
         requires own { L.sits (lock_of self.now) pass.old }
         requires numbered { IsSome (L.view pass.old).hand.task }
         requires out { (L.view pass.old).hand.held ≡ No }
-        ensures own { L.sits (lock_of self.now) pass.new }
-        ensures goes_on { PastGoesOn (L.view pass.old) (L.view pass.new) }
+        ensures on { StepsOn L.sits L.view (lock_of self.now) pass.old pass.new }
         ensures took { IfOk result (λ _. Takes O.object (L.calls_on (lock_of self.now))
             (held_by L.kind reads) (L.view pass.old) (L.view pass.new)) }
         ensures counted { IfOk result (λ _. (L.view pass.new).tally.interrupted ≡
@@ -264,10 +253,8 @@ impl<L: SleepLock<O>, O: Served + Drop> Guarded<L, O> {
     /// Does a call that reads, with the lock held, and lets go.
     fn serve_reading<W: Wait, C: Crew, G: Gate>(
         &self,
-        rt: &W,
+        context: Context<'_, W, C, G>,
         pass: &mut L::Pass,
-        crew: &C,
-        gate: &G,
         next: Next<O::Call>,
     ) -> Reply
         requires own { L.sits (lock_of self.now) pass.old }
@@ -279,12 +266,12 @@ impl<L: SleepLock<O>, O: Served + Drop> Guarded<L, O> {
         requires next { IsNext O.object (L.calls_on (lock_of self.now))
             (L.view pass.old).hand next }
         requires reads { O.object.reads next.call ≡ true }
-        ensures own { L.sits (lock_of self.now) pass.new }
-        ensures goes_on { PastGoesOn (L.view pass.old) (L.view pass.new) }
+        ensures on { StepsOn L.sits L.view (lock_of self.now) pass.old pass.new }
         ensures served { Serves O.object L.kind (L.calls_on (lock_of self.now)) next.words result
             (L.view pass.old) (L.view pass.new) }
     {
-        self.show(rt, pass, gate, self.lock.held(pass));
+        let Context { rt, crew, .. } = context;
+        self.show(context, pass, self.lock.held(pass));
         let reply = O::look(&self.lock, pass, next.call);
         // Recorded before the hold ends: no change can come between the call and its place in the
         // log.
@@ -296,10 +283,8 @@ impl<L: SleepLock<O>, O: Served + Drop> Guarded<L, O> {
     /// Does a call that changes the object, with the lock held alone, and lets go.
     fn serve_change<W: Wait, C: Crew, G: Gate>(
         &self,
-        rt: &W,
+        context: Context<'_, W, C, G>,
         pass: &mut L::Pass,
-        crew: &C,
-        gate: &G,
         next: Next<O::Call>,
     ) -> Reply
         requires own { L.sits (lock_of self.now) pass.old }
@@ -311,17 +296,16 @@ impl<L: SleepLock<O>, O: Served + Drop> Guarded<L, O> {
         requires next { IsNext O.object (L.calls_on (lock_of self.now))
             (L.view pass.old).hand next }
         requires changes { O.object.reads next.call ≡ false }
-        ensures own { L.sits (lock_of self.now) pass.new }
-        ensures goes_on { PastGoesOn (L.view pass.old) (L.view pass.new) }
+        ensures on { StepsOn L.sits L.view (lock_of self.now) pass.old pass.new }
         ensures served { Serves O.object L.kind (L.calls_on (lock_of self.now)) next.words result
             (L.view pass.old) (L.view pass.new) }
     {
         let reply = self.change(pass, next);
         if O::downgrades(next.call) {
-            self.look_again(rt, pass, crew, gate, next.call, reply)
+            self.look_again(context, pass, next.call, reply)
         } else {
-            self.show(rt, pass, gate, Held::Alone);
-            self.lock.release_alone(rt, pass, crew);
+            self.show(context, pass, Held::Alone);
+            self.lock.release_alone(context.rt, pass, context.crew);
             reply
         }
     }
@@ -330,10 +314,8 @@ impl<L: SleepLock<O>, O: Served + Drop> Guarded<L, O> {
     /// the one that the call had.
     fn look_again<W: Wait, C: Crew, G: Gate>(
         &self,
-        rt: &W,
+        context: Context<'_, W, C, G>,
         pass: &mut L::Pass,
-        crew: &C,
-        gate: &G,
         known: O::Call,
         reply: Reply,
     ) -> Reply
@@ -346,15 +328,15 @@ impl<L: SleepLock<O>, O: Served + Drop> Guarded<L, O> {
         requires downgrades { O.downgrades known ≡ true }
         requires done { WasDone O.object (L.calls_on (lock_of self.now))
             (L.view pass.old).hand known reply }
-        ensures own { L.sits (lock_of self.now) pass.new }
-        ensures goes_on { PastGoesOn (L.view pass.old) (L.view pass.new) }
+        ensures on { StepsOn L.sits L.view (lock_of self.now) pass.old pass.new }
         ensures reply { result ≡ reply }
         ensures released { Releases no_word (L.view pass.old) (L.view pass.new) }
     {
+        let Context { rt, crew, .. } = context;
         // No moment without the lock: another change could come in between, and the pages that are
         // counted would not be those that the call left.
         self.lock.downgrade(rt, pass, crew);
-        self.show(rt, pass, gate, self.lock.held(pass));
+        self.show(context, pass, self.lock.held(pass));
         let found = self.found(pass, known, reply);
         self.lock.release_shared(rt, pass, crew);
         found
@@ -370,8 +352,7 @@ impl<L: SleepLock<O>, O: Served + Drop> Guarded<L, O> {
         requires downgrades { O.downgrades known ≡ true }
         requires done { WasDone O.object (L.calls_on (lock_of self.now))
             (L.view pass.old).hand known reply }
-        ensures own { L.sits (lock_of self.now) pass.new }
-        ensures goes_on { PastGoesOn (L.view pass.old) (L.view pass.new) }
+        ensures on { StepsOn L.sits L.view (lock_of self.now) pass.old pass.new }
         ensures kept { Looks (L.view pass.old) (L.view pass.new) }
         ensures reply { result ≡ reply }
     {
@@ -391,8 +372,7 @@ impl<L: SleepLock<O>, O: Served + Drop> Guarded<L, O> {
         requires next { IsNext O.object (L.calls_on (lock_of self.now))
             (L.view pass.old).hand next }
         requires changes { O.object.reads next.call ≡ false }
-        ensures own { L.sits (lock_of self.now) pass.new }
-        ensures goes_on { PastGoesOn (L.view pass.old) (L.view pass.new) }
+        ensures on { StepsOn L.sits L.view (lock_of self.now) pass.old pass.new }
         ensures reply { result ≡ reply_in O.object (L.calls_on (lock_of self.now))
             (L.view pass.old).hand next.call }
         ensures kept { Changes O.object (L.calls_on (lock_of self.now)) next.call result
@@ -405,12 +385,13 @@ impl<L: SleepLock<O>, O: Served + Drop> Guarded<L, O> {
     }
 
     /// Lets the gate see the task, which holds in this way.
-    fn show<W: Wait, G: Gate>(&self, rt: &W, pass: &L::Pass, gate: &G, how: Held)
+    fn show<W: Wait, C, G: Gate>(&self, context: Context<'_, W, C, G>, pass: &L::Pass, how: Held)
         requires own { L.sits (lock_of self.now) pass.now }
         requires held { (L.view pass.now).hand.held ≡ how }
         requires inside { how ≢ No }
     {
         if let Some(task) = self.lock.task(pass) {
+            let Context { rt, gate, .. } = context;
             gate.inside(rt, self.object, task, how == Held::Shared);
         }
     }

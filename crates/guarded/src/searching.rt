@@ -3,14 +3,14 @@ ghost use Rattle.std.specs.Prelude.{◌≡◌, ◌≢◌, ◌^◌, ◌<◌, ◌�
 ghost use Rattle.std.specs.List.{AllByRecursion};
 ghost use Rattle.word_bits.specs.PageMaps.{PageMap, IsPageMap, runs};
 ghost use Rattle.lock_core.specs.declared.view.Held.TheVariants.{No};
-ghost use Rattle.lock_core.specs.Shown.{PastGoesOn};
+ghost use Rattle.lock_core.specs.Shown.{StepsOn};
 ghost use Rattle.lock_core.specs.Locking.{Looks};
 ghost use Rattle.vma_map.specs.Runs.{page_map};
 ghost use Rattle.vma_map.specs.Spaces.{IsRunAt, stores};
 ghost use Rattle.guarded.specs.CallServing.{readable_from, share};
 ghost use Rattle.guarded.specs.Splicing.{HaveAreas, area_of, areas_in};
 
-use crate::lock::SleepLock;
+use sleep_lock::SleepLock;
 use vma_map::{Areas, Bisection, Search};
 use word_bits::Area;
 
@@ -23,8 +23,7 @@ pub(crate) fn find_page<L: SleepLock<Areas>>(
 ) -> Option<Area>
     requires own { L.sits lock.now pass.old }
     requires held { (L.view pass.old).hand.held ≢ No }
-    ensures own { L.sits lock.now pass.new }
-    ensures goes_on { PastGoesOn (L.view pass.old) (L.view pass.new) }
+    ensures on { StepsOn L.sits L.view lock.now pass.old pass.new }
     ensures kept { Looks (L.view pass.old) (L.view pass.new) }
     ensures found { (m : PageMap) → IsPageMap m → stores m ≡ (L.view pass.old).hand.known →
         IsRunAt (runs m) m page result }
@@ -43,8 +42,7 @@ pub(crate) fn area_at<L: SleepLock<Areas>>(lock: &L, pass: &mut L::Pass, at: usi
     requires held { (L.view pass.old).hand.held ≢ No }
     requires areas { HaveAreas (L.view pass.old).hand.known }
     requires inside { at < length (areas_in (L.view pass.old).hand.known) }
-    ensures own { L.sits lock.now pass.new }
-    ensures goes_on { PastGoesOn (L.view pass.old) (L.view pass.new) }
+    ensures on { StepsOn L.sits L.view lock.now pass.old pass.new }
     ensures kept { Looks (L.view pass.old) (L.view pass.new) }
     ensures area { slice_get (areas_in (L.view pass.old).hand.known) at ≡ Some result }
 {
@@ -74,8 +72,7 @@ fn count_ended_by<L: SleepLock<Areas>>(
     requires held { (L.view pass.old).hand.held ≢ No }
     requires areas { HaveAreas (L.view pass.old).hand.known }
     requires all { count ≡ length (areas_in (L.view pass.old).hand.known) }
-    ensures own { L.sits lock.now pass.new }
-    ensures goes_on { PastGoesOn (L.view pass.old) (L.view pass.new) }
+    ensures on { StepsOn L.sits L.view lock.now pass.old pass.new }
     ensures kept { Looks (L.view pass.old) (L.view pass.new) }
     ensures within { result ≤ count }
     ensures ended { AllByRecursion (λ area. area.end ≤ page)
@@ -104,8 +101,7 @@ pub(crate) fn count_readable<L: SleepLock<Areas>>(
     requires own { L.sits lock.now pass.old }
     requires held { (L.view pass.old).hand.held ≢ No }
     requires areas { HaveAreas (L.view pass.old).hand.known }
-    ensures own { L.sits lock.now pass.new }
-    ensures goes_on { PastGoesOn (L.view pass.old) (L.view pass.new) }
+    ensures on { StepsOn L.sits L.view lock.now pass.old pass.new }
     ensures kept { Looks (L.view pass.old) (L.view pass.new) }
     ensures pages { result
         ≡ readable_from (page_map (areas_in (L.view pass.old).hand.known)) start len }

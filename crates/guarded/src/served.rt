@@ -2,17 +2,17 @@
 ghost use Rattle.std.specs.Prelude.{◌≡◌, ◌≢◌, ◌⊎◌, Bool, true, false};
 ghost use Rattle.word_bits.specs.PageMaps.{PageMap, IsPageMap};
 ghost use Rattle.lock_core.specs.declared.view.Held.TheVariants.{No, Alone};
-ghost use Rattle.lock_core.specs.Shown.{PastGoesOn};
+ghost use Rattle.lock_core.specs.Shown.{StepsOn};
 ghost use Rattle.lock_core.specs.Locking.{Looks, IsStored};
 ghost use Rattle.vma_map.specs.Spaces.{IsAccess, access_reply, stores};
 ghost use Rattle.guarded.specs.States.{Confirms, reply_in, words_after};
 ghost use Rattle.guarded.specs.Performing.{HasStored};
 
-use crate::lock::SleepLock;
 use crate::searching::{count_readable, find_page};
 use crate::slots;
 use crate::splicing::LockedAreas;
 use fd_table::{Fds, TableCall};
+use sleep_lock::SleepLock;
 use vma_map::{Areas, SpaceCall, apply, meet};
 use word_bits::{Object, Reply};
 
@@ -32,8 +32,7 @@ pub trait Served: Object {
         requires stored { IsStored Self.object (L.calls_on lock.now) (L.view pass.old).hand }
         requires valid { Self.object.IsCall call }
         requires looks { (Self.object.reads call ≡ true) ⊎ (downgrades call ≡ true) }
-        ensures own { L.sits lock.now pass.new }
-        ensures goes_on { PastGoesOn (L.view pass.old) (L.view pass.new) }
+        ensures on { StepsOn L.sits L.view lock.now pass.old pass.new }
         ensures kept { Looks (L.view pass.old) (L.view pass.new) }
         ensures read { Self.object.reads call ≡ true →
             result ≡ reply_in Self.object (L.calls_on lock.now) (L.view pass.old).hand call }
@@ -48,8 +47,7 @@ pub trait Served: Object {
         requires stored { IsStored Self.object (L.calls_on lock.now) (L.view pass.old).hand }
         requires valid { Self.object.IsCall call }
         requires changes { Self.object.reads call ≡ false }
-        ensures own { L.sits lock.now pass.new }
-        ensures goes_on { PastGoesOn (L.view pass.old) (L.view pass.new) }
+        ensures on { StepsOn L.sits L.view lock.now pass.old pass.new }
         ensures stored { HasStored (words_after Self.object (L.calls_on lock.now)
             (L.view pass.old).hand call) (L.view pass.old) (L.view pass.new) }
         ensures reply { result
@@ -94,8 +92,7 @@ fn fault<L: SleepLock<Areas>>(lock: &L, pass: &mut L::Pass, page: u32, access: u
     requires own { L.sits lock.now pass.old }
     requires held { (L.view pass.old).hand.held ≢ No }
     requires access { IsAccess access }
-    ensures own { L.sits lock.now pass.new }
-    ensures goes_on { PastGoesOn (L.view pass.old) (L.view pass.new) }
+    ensures on { StepsOn L.sits L.view lock.now pass.old pass.new }
     ensures kept { Looks (L.view pass.old) (L.view pass.new) }
     ensures reply { (m : PageMap) → IsPageMap m → stores m ≡ (L.view pass.old).hand.known →
         result ≡ access_reply (m page) access }

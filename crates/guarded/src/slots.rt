@@ -1,14 +1,14 @@
 //! Calls on a table of descriptors, on the words that its lock guards.
 ghost use Rattle.std.specs.Prelude.{◌≡◌, ◌≢◌};
 ghost use Rattle.lock_core.specs.declared.view.Held.TheVariants.{No, Alone};
-ghost use Rattle.lock_core.specs.Shown.{PastGoesOn};
+ghost use Rattle.lock_core.specs.Shown.{StepsOn};
 ghost use Rattle.lock_core.specs.Locking.{Looks};
 ghost use Rattle.fd_table.specs.declared.call.TableCall.TheVariants.{Open, Close, Dup, Dup2, Get};
 ghost use Rattle.fd_table.specs.Tables.{FdMap, IsFdMap, lowest_free, meaning, slot_word, stores};
 ghost use Rattle.guarded.specs.Slots.{AreTableWords, DoesTo};
 
-use crate::lock::SleepLock;
 use fd_table::{DESCRIPTORS, Fds};
+use sleep_lock::SleepLock;
 use word_bits::{Errno, Reply};
 
 /// The word of a descriptor. It is 0 where the descriptor isn't open.
@@ -16,8 +16,7 @@ fn slot<L: SleepLock<Fds>>(lock: &L, pass: &mut L::Pass, fd: u32) -> u64
     requires own { L.sits lock.now pass.old }
     requires held { (L.view pass.old).hand.held ≢ No }
     requires table { AreTableWords (L.view pass.old).hand.known }
-    ensures own { L.sits lock.now pass.new }
-    ensures goes_on { PastGoesOn (L.view pass.old) (L.view pass.new) }
+    ensures on { StepsOn L.sits L.view lock.now pass.old pass.new }
     ensures kept { Looks (L.view pass.old) (L.view pass.new) }
     ensures value { (m : FdMap) → IsFdMap m → stores m ≡ (L.view pass.old).hand.known →
         result ≡ slot_word (m fd) }
@@ -33,8 +32,7 @@ fn lowest_free<L: SleepLock<Fds>>(lock: &L, pass: &mut L::Pass) -> Option<u32>
     requires own { L.sits lock.now pass.old }
     requires held { (L.view pass.old).hand.held ≢ No }
     requires table { AreTableWords (L.view pass.old).hand.known }
-    ensures own { L.sits lock.now pass.new }
-    ensures goes_on { PastGoesOn (L.view pass.old) (L.view pass.new) }
+    ensures on { StepsOn L.sits L.view lock.now pass.old pass.new }
     ensures kept { Looks (L.view pass.old) (L.view pass.new) }
     ensures value { (m : FdMap) → IsFdMap m → stores m ≡ (L.view pass.old).hand.known →
         result ≡ lowest_free m }
@@ -52,8 +50,7 @@ pub(crate) fn get<L: SleepLock<Fds>>(lock: &L, pass: &mut L::Pass, fd: u32) -> R
     requires own { L.sits lock.now pass.old }
     requires held { (L.view pass.old).hand.held ≢ No }
     requires table { AreTableWords (L.view pass.old).hand.known }
-    ensures own { L.sits lock.now pass.new }
-    ensures goes_on { PastGoesOn (L.view pass.old) (L.view pass.new) }
+    ensures on { StepsOn L.sits L.view lock.now pass.old pass.new }
     ensures kept { Looks (L.view pass.old) (L.view pass.new) }
     ensures reply { (m : FdMap) → IsFdMap m → stores m ≡ (L.view pass.old).hand.known →
         result ≡ (meaning m (Get fd)).1 }
@@ -71,8 +68,7 @@ pub(crate) fn open<L: SleepLock<Fds>>(lock: &L, pass: &mut L::Pass, file: u16) -
     requires own { L.sits lock.now pass.old }
     requires held { (L.view pass.old).hand.held ≡ Alone }
     requires table { AreTableWords (L.view pass.old).hand.known }
-    ensures own { L.sits lock.now pass.new }
-    ensures goes_on { PastGoesOn (L.view pass.old) (L.view pass.new) }
+    ensures on { StepsOn L.sits L.view lock.now pass.old pass.new }
     ensures done { (m : FdMap) → IsFdMap m → stores m ≡ (L.view pass.old).hand.known →
         DoesTo m (Open file) result (L.view pass.old) (L.view pass.new) }
 {
@@ -90,8 +86,7 @@ pub(crate) fn close<L: SleepLock<Fds>>(lock: &L, pass: &mut L::Pass, fd: u32) ->
     requires own { L.sits lock.now pass.old }
     requires held { (L.view pass.old).hand.held ≡ Alone }
     requires table { AreTableWords (L.view pass.old).hand.known }
-    ensures own { L.sits lock.now pass.new }
-    ensures goes_on { PastGoesOn (L.view pass.old) (L.view pass.new) }
+    ensures on { StepsOn L.sits L.view lock.now pass.old pass.new }
     ensures done { (m : FdMap) → IsFdMap m → stores m ≡ (L.view pass.old).hand.known →
         DoesTo m (Close fd) result (L.view pass.old) (L.view pass.new) }
 {
@@ -107,8 +102,7 @@ pub(crate) fn dup<L: SleepLock<Fds>>(lock: &L, pass: &mut L::Pass, fd: u32) -> R
     requires own { L.sits lock.now pass.old }
     requires held { (L.view pass.old).hand.held ≡ Alone }
     requires table { AreTableWords (L.view pass.old).hand.known }
-    ensures own { L.sits lock.now pass.new }
-    ensures goes_on { PastGoesOn (L.view pass.old) (L.view pass.new) }
+    ensures on { StepsOn L.sits L.view lock.now pass.old pass.new }
     ensures done { (m : FdMap) → IsFdMap m → stores m ≡ (L.view pass.old).hand.known →
         DoesTo m (Dup fd) result (L.view pass.old) (L.view pass.new) }
 {
@@ -124,8 +118,7 @@ pub(crate) fn dup2<L: SleepLock<Fds>>(lock: &L, pass: &mut L::Pass, fd: u32, to:
     requires own { L.sits lock.now pass.old }
     requires held { (L.view pass.old).hand.held ≡ Alone }
     requires table { AreTableWords (L.view pass.old).hand.known }
-    ensures own { L.sits lock.now pass.new }
-    ensures goes_on { PastGoesOn (L.view pass.old) (L.view pass.new) }
+    ensures on { StepsOn L.sits L.view lock.now pass.old pass.new }
     ensures done { (m : FdMap) → IsFdMap m → stores m ≡ (L.view pass.old).hand.known →
         DoesTo m (Dup2 fd to) result (L.view pass.old) (L.view pass.new) }
 {

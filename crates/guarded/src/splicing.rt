@@ -6,8 +6,8 @@ ghost use Rattle.vma_map.specs.Runs.{AreRuns};
 ghost use Rattle.guarded.specs.CallServing.{AreZeroFrom};
 ghost use Rattle.guarded.specs.Splicing.{ChangesWords, HaveAreas, IsCleared, IsWritten, MakeRoom, MovesDown, areas_in};
 
-use crate::lock::SleepLock;
 use crate::searching::area_at;
+use sleep_lock::SleepLock;
 use std::marker::PhantomData;
 use vma_map::{AreaStore, Areas};
 use word_bits::Area;

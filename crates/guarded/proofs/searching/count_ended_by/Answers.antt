@@ -20,9 +20,9 @@ loop-middle-preserved-then-area_at-page g c =
     let least = c.passes.ensures.least ∙ ap (λ (n : ℕ). n + 1) (sym c.in-Some.ensures.some) in
     let most = c.passes.ensures.most in
     let below = slice_get_within areas at c.area_at.result is in (
-      c.area_at.ensures.own,
+      c.area_at.ensures.on.own,
       looks-trans v u (g.L.SiteLock.view c.area_at.new.pass) c.loop-middle.invariant.1 c.area_at.ensures.kept,
-      (λ p t. c.area_at.ensures.goes_on p (c.loop-middle.invariant.2 p t)),
+      (λ p t. c.area_at.ensures.on.goes_on p (c.loop-middle.invariant.2 p t)),
       subst (λ (n : ℕ). n ≤ length areas) (sym most) c.loop-middle.invariant.3,
       subst (λ n. AllByRecursion (λ (a : Area). a.end ≤ c.args.page) (take n areas)) (sym least) (subst (λ (n : ℕ). AllByRecursion (λ (a : Area). a.end ≤ c.args.page) (take n areas)) (sym (add-one at)) (ended-by areas at no_area c.args.page c.requires.areas.space.runs below (subst (λ (a : Area). a.end ≤ c.args.page) (sym (get_or_from_slice_get areas at c.area_at.result no_area is)) c.if-area_at-page.true))),
       subst (λ n. AllByRecursion (λ (a : Area). c.args.page < a.end) (drop n areas)) (sym most) c.loop-middle.invariant.5,
@@ -38,9 +38,9 @@ loop-middle-preserved g c =
     let least = c.fails.ensures.least in
     let most = c.fails.ensures.most ∙ sym c.in-Some.ensures.some in
     let below = slice_get_within areas at c.area_at.result is in (
-      c.area_at.ensures.own,
+      c.area_at.ensures.on.own,
       looks-trans v u (g.L.SiteLock.view c.area_at.new.pass) c.loop-middle.invariant.1 c.area_at.ensures.kept,
-      (λ p t. c.area_at.ensures.goes_on p (c.loop-middle.invariant.2 p t)),
+      (λ p t. c.area_at.ensures.on.goes_on p (c.loop-middle.invariant.2 p t)),
       omega (arith, most, below),
       subst (λ n. AllByRecursion (λ (a : Area). a.end ≤ c.args.page) (take n areas)) (sym least) c.loop-middle.invariant.4,
       subst (λ n. AllByRecursion (λ (a : Area). c.args.page < a.end) (drop n areas)) (sym most) (ending-from areas at no_area c.args.page c.requires.areas.space.runs below (subst (λ (a : Area). c.args.page < a.end) (sym (get_or_from_slice_get areas at c.area_at.result no_area is)) c.if-area_at-page.false)),

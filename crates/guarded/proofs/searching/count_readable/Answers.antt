@@ -33,9 +33,9 @@ loop-at-init g c =
     let n = c.count_ended_by-at.result in
     let end = c.saturating_add-end.result in
     let ended = subst (λ (ws : List ℕ). AllByRecursion (λ (a : Area). a.end ≤ c.args.start) (take n (areas_in ws))) (same-known v u c.word-count.ensures.kept) c.count_ended_by-at.ensures.ended in (
-      c.count_ended_by-at.ensures.own,
+      c.count_ended_by-at.ensures.on.own,
       looks-trans v u w c.word-count.ensures.kept c.count_ended_by-at.ensures.kept,
-      (λ p t. c.count_ended_by-at.ensures.goes_on p (c.word-count.ensures.goes_on p t)),
+      (λ p t. c.count_ended_by-at.ensures.on.goes_on p (c.word-count.ensures.on.goes_on p t)),
       sym (shares-ended (take n (areas_in v.hand.known)) c.args.start end ended),
     )
 
@@ -79,9 +79,9 @@ loop-at-preserved g c =
     let more = shares-more areas i no_area c.args.start end inside ∙ ap (λ (a : Area). shares (take i areas) c.args.start end + share a c.args.start end) (get_or_from_slice_get areas i c.area_at-area.result no_area is) in
     let now = c.loop-at.invariant.3 in
     let part = c.readable_between-pages.ensures in (
-      c.area_at-area.ensures.own,
+      c.area_at-area.ensures.on.own,
       looks-trans v u w c.loop-at.invariant.1 c.area_at-area.ensures.kept,
-      (λ p t. c.area_at-area.ensures.goes_on p (c.loop-at.invariant.2 p t)),
+      (λ p t. c.area_at-area.ensures.on.goes_on p (c.loop-at.invariant.2 p t)),
       omega (arith, more, now, part),
     )
 

@@ -14,9 +14,9 @@ loop-at-preserved g c =
     let w = g.L.SiteLock.view c.word.new.pass in
     let at = c.in-Some.at in
     let value : slice_index v.hand.known at ≡ c.word.result = sym (c.word.ensures.value ∙ ap {A = Hand} (λ h. slice_index h.known at) c.loop-at.invariant.1.0) in (
-      c.word.ensures.own,
+      c.word.ensures.on.own,
       looks-trans v u w c.loop-at.invariant.1 c.word.ensures.kept,
-      (λ p t. c.word.ensures.goes_on p (c.loop-at.invariant.2 p t)),
+      (λ p t. c.word.ensures.on.goes_on p (c.loop-at.invariant.2 p t)),
       c.give.ensures.page ∙ c.loop-at.invariant.3,
       c.give.ensures.agrees v.hand.known (subst (λ (o : Option ℕ). IfSome o (λ i. slice_index v.hand.known i ≡ c.word.result)) (sym c.in-Some.is ∙ c.want.ensures.is) value) c.loop-at.invariant.4,
     )

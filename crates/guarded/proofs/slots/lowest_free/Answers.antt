@@ -21,9 +21,9 @@ loop-fd-preserved g c =
     let fd = c.loop-fd.fd in
     let below : fd < 64 = let test = c.loop-fd-test.true in omega (arith, test) in
     let value = c.word.ensures.value ∙ ap {A = Hand} (λ h. slice_index h.known fd) c.loop-fd.invariant.1.0 in (
-      c.word.ensures.own,
+      c.word.ensures.on.own,
       looks-trans v u w c.loop-fd.invariant.1 c.word.ensures.kept,
-      (λ p t. c.word.ensures.goes_on p (c.loop-fd.invariant.2 p t)),
+      (λ p t. c.word.ensures.on.goes_on p (c.loop-fd.invariant.2 p t)),
       (λ m is same. open-more m fd (slot-open (m fd) c.word.result (slot-at m v.hand.known fd c.word.result below same value) c.if-word-eq0.false) (c.loop-fd.invariant.3 m is same)),
     )
 

@@ -39,8 +39,8 @@ loop-place-preserved g c =
     let below : place + more < length u.hand.known = omega (arith, long, whole, room, upper) in
     let is : w.hand.known ≡ slice_set u.hand.known (place + more) word = ap {A = Hand} (λ h. h.known) c.set_word.ensures.kept.0 ∙ ap (λ xs. slice_set xs (place + more) word) (same-known u r c.word-word.ensures.kept) in
     let found : word ≡ slice_index v.hand.known place = c.word-word.ensures.value ∙ c.loop-place.invariant.5 place (omega arith) in (
-      c.set_word.ensures.own,
-      changes-more v u w c.loop-place.invariant.1 (changes-more u r w (looked u r c.word-word.ensures.goes_on c.word-word.ensures.kept) (wrote-word r w (place + more) word c.set_word.ensures.goes_on c.set_word.ensures.kept)),
+      c.set_word.ensures.on.own,
+      changes-more v u w c.loop-place.invariant.1 (changes-more u r w (looked u r c.word-word.ensures.on.goes_on c.word-word.ensures.kept) (wrote-word r w (place + more) word c.set_word.ensures.on.goes_on c.set_word.ensures.kept)),
       ap length is ∙ set-long u.hand.known (place + more) word ∙ long,
       omega (arith, some),
       omega (arith, upper),

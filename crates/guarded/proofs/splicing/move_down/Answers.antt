@@ -32,8 +32,8 @@ loop-place-preserved g c =
     let below : place < length u.hand.known = omega (arith, long, whole, few, inside) in
     let is : w.hand.known ≡ slice_set u.hand.known place word = ap {A = Hand} (λ h. h.known) c.set_word.ensures.kept.0 ∙ ap (λ xs. slice_set xs place word) (same-known u r c.word-word.ensures.kept) in
     let found : word ≡ slice_index v.hand.known (place + c.args.fewer) = c.word-word.ensures.value ∙ c.loop-place.invariant.7 (place + c.args.fewer) (omega arith) in (
-      c.set_word.ensures.own,
-      changes-more v u w c.loop-place.invariant.1 (changes-more u r w (looked u r c.word-word.ensures.goes_on c.word-word.ensures.kept) (wrote-word r w place word c.set_word.ensures.goes_on c.set_word.ensures.kept)),
+      c.set_word.ensures.on.own,
+      changes-more v u w c.loop-place.invariant.1 (changes-more u r w (looked u r c.word-word.ensures.on.goes_on c.word-word.ensures.kept) (wrote-word r w place word c.set_word.ensures.on.goes_on c.set_word.ensures.kept)),
       ap length is ∙ set-long u.hand.known place word ∙ long,
       omega (arith, from),
       omega (arith, inside),

@@ -33,8 +33,8 @@ loop-i-preserved g c =
     let below : at + n + 1 < length u.hand.known = omega (arith, long, whole, room, inside) in
     let is : w.hand.known ≡ slice_set u.hand.known (at + n + 1) word = ap {A = Hand} (λ h. h.known) c.set_word.ensures.kept.0 in
     let found : word ≡ slice_index (map area_word c.args.pieces.now) n = c.pack.ensures ∙ sym (get_or-map area_word c.args.pieces.now n no_area 0 inside) in (
-      c.set_word.ensures.own,
-      changes-more v u w c.loop-i.invariant.1 (wrote-word u w (at + n + 1) word c.set_word.ensures.goes_on c.set_word.ensures.kept),
+      c.set_word.ensures.on.own,
+      changes-more v u w c.loop-i.invariant.1 (wrote-word u w (at + n + 1) word c.set_word.ensures.on.goes_on c.set_word.ensures.kept),
       ap length is ∙ set-long u.hand.known (at + n + 1) word ∙ long,
       (λ i l. others-same v.hand.known u.hand.known w.hand.known (at + n + 1) i word is (λ e. omega (arith, e, l)) (c.loop-i.invariant.3 i l)),
       pieced-more (map area_word c.args.pieces.now) u.hand.known w.hand.known at n word below is found c.loop-i.invariant.4,

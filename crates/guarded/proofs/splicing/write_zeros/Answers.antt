@@ -24,8 +24,8 @@ loop-place-preserved g c =
     let from = c.loop-place.invariant.3 in
     let below : place < length u.hand.known = omega (arith, long, whole, few, inside) in
     let is : w.hand.known ≡ slice_set u.hand.known place 0 = ap {A = Hand} (λ h. h.known) c.set_word.ensures.kept.0 in (
-      c.set_word.ensures.own,
-      changes-more v u w c.loop-place.invariant.1 (wrote-word u w place 0 c.set_word.ensures.goes_on c.set_word.ensures.kept),
+      c.set_word.ensures.on.own,
+      changes-more v u w c.loop-place.invariant.1 (wrote-word u w place 0 c.set_word.ensures.on.goes_on c.set_word.ensures.kept),
       ap length is ∙ set-long u.hand.known place 0 ∙ long,
       omega (arith, from),
       omega (arith, inside),

@@ -14,9 +14,9 @@ loop-at-preserved g c =
     let same = c.loop-at.invariant.1.0 in
     let inside = c.loop-at-test.true in
     let end = c.log_len-len.ensures.value in (
-      c.log_word.ensures.own,
+      c.log_word.ensures.on.own,
       looks-trans v u w c.loop-at.invariant.1 c.log_word.ensures.kept,
-      (λ p t. c.log_word.ensures.goes_on p (c.loop-at.invariant.2 p t)),
+      (λ p t. c.log_word.ensures.on.goes_on p (c.loop-at.invariant.2 p t)),
       log-pushed c.args.out.now c.loop-at.out c.push_log.new.self _ _ c.log_word.result c.loop-at.invariant.3 c.push_log.ensures
           (log-more v.hand.log c.loop-at.at c.log_word.result (omega (arith, inside, end)) (λ e at. c.log_word.ensures.value e (ap {A = Hand} (λ h. slice_get h.log c.loop-at.at) same ∙ at))),
       (λ p t. spun-goes-on g.L.SleepLock.spun g.L.SiteLock.with_seat g.met.L.SleepLock.leaves c.loop-at.pass c.log_word.new.pass _ c.log_word.ensures.beside p (c.loop-at.invariant.4 p t)),

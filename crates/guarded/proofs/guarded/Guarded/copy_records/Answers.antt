@@ -48,13 +48,13 @@ loop-task-preserved g c =
     let many = new.many in
     let l = length-append c.loop-task.out.recs words in
     let next = start-next k c.loop-task.task (omega (arith, inside, end)) in (
-      c.copy_task.ensures.own,
+      c.copy_task.ensures.on.own,
       looks-trans v u w c.loop-task.invariant.1 c.copy_task.ensures.kept,
-      (λ p t. c.copy_task.ensures.goes_on p (c.loop-task.invariant.2 p t)),
+      (λ p t. c.copy_task.ensures.on.goes_on p (c.loop-task.invariant.2 p t)),
       omega (arith, grown, at, many, l, next),
       (
         rows ++ words ∷ [],
-        rows-more k v.hand v.past u.past w.past c.loop-task.task rows words c.loop-task.invariant.4.1 c.loop-task.invariant.2 c.copy_task.ensures.goes_on new,
+        rows-more k v.hand v.past u.past w.past c.loop-task.task rows words c.loop-task.invariant.4.1 c.loop-task.invariant.2 c.copy_task.ensures.on.goes_on new,
         recs-pushed c.args.out.now c.loop-task.out c.copy_task.new.out (joined rows) words _ c.loop-task.invariant.4.2 c.copy_task.ensures.copied.2 (joined-snoc rows words (joined rows) refl),
       ),
       (λ p t. c.copy_task.ensures.queue p (c.loop-task.invariant.5 p t)),

@@ -11,9 +11,9 @@ loop-at-preserved g c =
     let inside = c.loop-at-test.true in
     let end = c.WORDS-at-end.ensures in
     let sized = c.requires.sized in (
-      c.word.ensures.own,
+      c.word.ensures.on.own,
       looks-trans v u w c.loop-at.invariant.1 c.word.ensures.kept,
-      (λ p t. c.word.ensures.goes_on p (c.loop-at.invariant.2 p t)),
+      (λ p t. c.word.ensures.on.goes_on p (c.loop-at.invariant.2 p t)),
       state-pushed c.args.out.now c.loop-at.out c.push_state.new.self v.hand.known c.loop-at.at c.word.result (omega (arith, inside, end, sized)) c.loop-at.invariant.3 c.push_state.ensures (c.word.ensures.value ∙ ap (λ h. slice_index h.known c.loop-at.at) c.loop-at.invariant.1.0),
       (λ p t. spun-goes-on g.L.SleepLock.spun g.L.SiteLock.with_seat g.met.L.SleepLock.leaves c.loop-at.pass c.word.new.pass _ c.word.ensures.beside p (c.loop-at.invariant.4 p t)),
     )

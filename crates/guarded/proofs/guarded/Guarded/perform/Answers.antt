@@ -1,4 +1,4 @@
-use Rattle.std.proofs.Common.{sym, ◌∙◌}
+use Rattle.std.proofs.Common.{sym, ◌∙◌, rules}
 use Rattle.word_bits.proofs.States.{IsLawful}
 use Rattle.guarded.proofs.Chained.{one-more}
 use Rattle.guarded.proofs.Planned.{signal-there, is-either}
@@ -19,7 +19,7 @@ returns-in-Some-default-clause-performs g c =
     let v = g.L.SiteLock.view c.args.pass.now in
     let w = g.L.SiteLock.view c.call-words.new.pass in
     let u = g.L.SiteLock.view c.send.new.pass in
-    performs-looked v w u c.call-words.ensures.kept c.call-words.ensures.goes_on g.O.Object.object g.L.SleepLock.kind g.L.SleepLock.word_at (g.L.SiteLock.calls_on c.args.self.now.lock) c.send.result c.send.ensures.performs
+    performs-looked v w u c.call-words.ensures.kept c.call-words.ensures.on.goes_on g.O.Object.object g.L.SleepLock.kind g.L.SleepLock.word_at (g.L.SiteLock.calls_on c.args.self.now.lock) c.send.result c.send.ensures.performs
 
 pub returns-in-Some-default-clause-one_more : goal.returns-in-Some-default-clause-one_more
 returns-in-Some-default-clause-one_more g c = λ t count rs task done.
@@ -33,7 +33,7 @@ returns-in-None-Some-clause-performs g c =
     let v = g.L.SiteLock.view c.args.pass.now in
     let w = g.L.SiteLock.view c.call-words.new.pass in
     let u = g.L.SiteLock.view c.perform_known.new.pass in
-    performs-looked v w u c.call-words.ensures.kept c.call-words.ensures.goes_on g.O.Object.object g.L.SleepLock.kind g.L.SleepLock.word_at (g.L.SiteLock.calls_on c.args.self.now.lock) c.perform_known.result c.perform_known.ensures.performs
+    performs-looked v w u c.call-words.ensures.kept c.call-words.ensures.on.goes_on g.O.Object.object g.L.SleepLock.kind g.L.SleepLock.word_at (g.L.SiteLock.calls_on c.args.self.now.lock) c.perform_known.result c.perform_known.ensures.performs
 
 pub returns-in-None-Some-clause-one_more : goal.returns-in-None-Some-clause-one_more
 returns-in-None-Some-clause-one_more g c = λ t count rs task done.
@@ -46,6 +46,9 @@ pub send-requires-clause-there : goal.send-requires-clause-there
 send-requires-clause-there g c =
     let planned = c.call-words.ensures.planned (g.met.L.SleepLock.planned c.args.self.now.lock c.args.pass.now c.requires.own) in
     signal-there g.O.Object.object c.call-words.result planned g.met.O.Object.signals c.in-Some-default.target (sym c.signal.ensures ∙ c.in-Some-default.is-0)
+
+pub send-requires-clause-next : goal.send-requires-clause-next
+send-requires-clause-next g c = (c.call-words.result, search rules, sym c.signal.ensures ∙ c.in-Some-default.is-0)
 
 pub unreachable-requires-in-None-None : goal.unreachable-requires-in-None-None
 unreachable-requires-in-None-None g c =

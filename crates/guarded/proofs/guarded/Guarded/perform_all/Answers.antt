@@ -30,8 +30,8 @@ loop-call-preserved g c =
     let done = c.loop-call.invariant.6 in
     let v = g.L.SiteLock.view c.loop-call.pass in
     let u = g.L.SiteLock.view c.perform.new.pass in (
-      c.perform.ensures.own,
-      (λ q t. c.perform.ensures.goes_on q (c.loop-call.invariant.1 q t)),
+      c.perform.ensures.on.own,
+      (λ q t. c.perform.ensures.on.goes_on q (c.loop-call.invariant.1 q t)),
       p.task ∙ c.loop-call.invariant.2,
       p.out,
       p.accounted.0,

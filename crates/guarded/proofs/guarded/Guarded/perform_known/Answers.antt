@@ -25,7 +25,7 @@ returns-in-Err-clause-performs g c =
     let u = g.L.SiteLock.view c.note.new.pass in
     let next = c.requires.next in
     performs-refused g.O.Object.object g.L.SleepLock.kind g.L.SleepLock.word_at (g.L.SiteLock.calls_on c.args.self.now.lock) v m u c.args.next.words c.args.next.call c.reads-reads.result c.mode.result c.in-Err.reply c.note.ensures.kept.0
-    next.planned next.is c.reads-reads.ensures c.mode.ensures c.requires.no_signal (c.requires.sent, c.requires.consumed) c.in-Err.ensures.refused c.enter.ensures.at_once c.in-Err.ensures.stood c.note.ensures.kept.3.0 c.note.ensures.kept.3.1 c.note.ensures.goes_on
+    next.planned next.is c.reads-reads.ensures c.mode.ensures c.requires.no_signal (c.requires.sent, c.requires.consumed) c.in-Err.ensures.refused c.enter.ensures.at_once c.in-Err.ensures.stood c.note.ensures.kept.3.0 c.note.ensures.kept.3.1 c.note.ensures.on.goes_on
 
 pub returns-then-reads-clause-performs : goal.returns-then-reads-clause-performs
 returns-then-reads-clause-performs g c =
@@ -35,7 +35,7 @@ returns-then-reads-clause-performs g c =
     let next = c.requires.next in
     let got = c.in-Ok.ensures in
     performs-served g.O.Object.object g.L.SleepLock.kind g.L.SleepLock.word_at (g.L.SiteLock.calls_on c.args.self.now.lock) v m u c.args.next.words c.args.next.call c.reads-reads.result c.serve_reading.result (held_by g.L.SleepLock.kind c.reads-reads.result)
-    next.planned next.is c.reads-reads.ensures c.requires.no_signal (c.requires.sent, c.requires.consumed) got.took (λ tries. c.enter.ensures.at_once (c.mode.ensures ∙ tries)) (λ waits. got.line (λ tries. waits (sym c.mode.ensures ∙ tries))) c.serve_reading.ensures.served c.serve_reading.ensures.goes_on
+    next.planned next.is c.reads-reads.ensures c.requires.no_signal (c.requires.sent, c.requires.consumed) got.took (λ tries. c.enter.ensures.at_once (c.mode.ensures ∙ tries)) (λ waits. got.line (λ tries. waits (sym c.mode.ensures ∙ tries))) c.serve_reading.ensures.served c.serve_reading.ensures.on.goes_on
     got.counted
 
 pub returns-else-reads-clause-performs : goal.returns-else-reads-clause-performs
@@ -46,5 +46,5 @@ returns-else-reads-clause-performs g c =
     let next = c.requires.next in
     let got = c.in-Ok.ensures in
     performs-served g.O.Object.object g.L.SleepLock.kind g.L.SleepLock.word_at (g.L.SiteLock.calls_on c.args.self.now.lock) v m u c.args.next.words c.args.next.call c.reads-reads.result c.serve_change.result (held_by g.L.SleepLock.kind c.reads-reads.result)
-    next.planned next.is c.reads-reads.ensures c.requires.no_signal (c.requires.sent, c.requires.consumed) got.took (λ tries. c.enter.ensures.at_once (c.mode.ensures ∙ tries)) (λ waits. got.line (λ tries. waits (sym c.mode.ensures ∙ tries))) c.serve_change.ensures.served c.serve_change.ensures.goes_on
+    next.planned next.is c.reads-reads.ensures c.requires.no_signal (c.requires.sent, c.requires.consumed) got.took (λ tries. c.enter.ensures.at_once (c.mode.ensures ∙ tries)) (λ waits. got.line (λ tries. waits (sym c.mode.ensures ∙ tries))) c.serve_change.ensures.served c.serve_change.ensures.on.goes_on
     got.counted

@@ -23,7 +23,7 @@ lawful g = record {
 
 pub copy_log-requires-clause-room : goal.copy_log-requires-clause-room
 copy_log-requires-clause-room g c =
-    let short = (g.met.L.SleepLock.stands c.args.self.now.lock c.recall.new.pass c.recall.ensures.own).short in
+    let short = (g.met.L.SleepLock.stands c.args.self.now.lock c.recall.new.pass c.recall.ensures.on.own).short in
     let room = c.requires.log_room in omega (arith, short, room)
 
 pub copy_state-requires-clause-sized : goal.copy_state-requires-clause-sized
@@ -32,9 +32,8 @@ copy_state-requires-clause-sized g c =
     let at = ap {A = Hand} (λ (h : Hand). length h.known) (c.copy_records.ensures.kept.0 ∙ (c.copy_log.ensures.kept.0 ∙ c.recall.ensures.kept.0)) in
     at ∙ known-sized g.O.Object.object (lawful g) (g.L.SiteLock.calls_on c.args.self.now.lock) u.hand c.alone.ensures.took.stored g.O.Object.WORDS g.met.O.Object.sized
 
-pub returns-clause-goes_on : goal.returns-clause-goes_on
-returns-clause-goes_on g c = λ p t.
-    c.release_alone.ensures.goes_on p (c.recall-2.ensures.goes_on p (c.copy_state.ensures.goes_on p (c.copy_records.ensures.goes_on p (c.copy_log.ensures.goes_on p (c.recall.ensures.goes_on p (c.alone.ensures.goes_on p t))))))
+pub returns-clause-on : goal.returns-clause-on
+returns-clause-on g c = record { own = c.release_alone.ensures.on.own; goes_on = λ p t. c.release_alone.ensures.on.goes_on p (c.recall-2.ensures.on.goes_on p (c.copy_state.ensures.on.goes_on p (c.copy_records.ensures.on.goes_on p (c.copy_log.ensures.on.goes_on p (c.recall.ensures.on.goes_on p (c.alone.ensures.on.goes_on p t)))))) }
 
 pub returns-clause-queue : goal.returns-clause-queue
 returns-clause-queue g c = λ p t.
@@ -65,13 +64,13 @@ returns-clause-copied g c =
       recs_are = ap {A = Words} (λ w. w.recs) state ∙ ap {A = Words} (λ w. w.recs) recs.2;
       first = first.past;
       last = last.past;
-      after = λ p t. c.recall.ensures.goes_on p (c.alone.ensures.goes_on p t);
-      between = λ p t. c.recall-2.ensures.goes_on p (c.copy_state.ensures.goes_on p (c.copy_records.ensures.goes_on p (c.copy_log.ensures.goes_on p t)));
-      goes_on = c.release_alone.ensures.goes_on;
+      after = λ p t. c.recall.ensures.on.goes_on p (c.alone.ensures.on.goes_on p t);
+      between = λ p t. c.recall-2.ensures.on.goes_on p (c.copy_state.ensures.on.goes_on p (c.copy_records.ensures.on.goes_on p (c.copy_log.ensures.on.goes_on p t)));
+      goes_on = c.release_alone.ensures.on.goes_on;
       once = c.release_alone.ensures.released.0.takes ∙ (ap {A = Hand} (λ h. h.takes) still ∙ took.takes);
       begun = held-alone v m first c.copy_state.new.out.state c.recall.ensures.kept.0 took.keeps.task took.holds took.quiet took.takes took.keeps.records (sym stored) c.recall.ensures.last;
       ended = held-alone v m last c.copy_state.new.out.state still took.keeps.task took.holds took.quiet took.takes took.keeps.records (sym stored) c.recall-2.ensures.last;
-      words = rows-wider k v.hand first.past logged.past read.past last.past (length k) recs.0 c.copy_log.ensures.goes_on (λ p t. c.recall-2.ensures.goes_on p (c.copy_state.ensures.goes_on p t))
+      words = rows-wider k v.hand first.past logged.past read.past last.past (length k) recs.0 c.copy_log.ensures.on.goes_on (λ p t. c.recall-2.ensures.on.goes_on p (c.copy_state.ensures.on.goes_on p t))
           (words-same k logged.hand v.hand logged.past read.past (length k) recs.0 (sym (ap {A = Hand} (λ h. h.records) same ∙ took.keeps.records)) recs.1);
       chronicle = subst (λ (known : List Told). Chronicles o (unavailable g.L.SleepLock.kind) k known m.hand.log) (ap {A = Hand} (λ h. h.records) c.recall.ensures.kept.0 ∙ took.keeps.records)
           (subst (λ (entries : List Entry). Chronicles o (unavailable g.L.SleepLock.kind) k first.hand.records entries) (ap {A = Hand} (λ h. h.log) c.recall.ensures.kept.0) c.copy_log.ensures.history);

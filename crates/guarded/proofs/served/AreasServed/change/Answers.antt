@@ -24,13 +24,8 @@ apply-requires-clause-has g c =
     let found = have-areas (runs m) v.hand.known (IsSpace-runs m is) (sym c.requires.stored) in
     (c.requires.own, c.requires.held, found.0)
 
-pub returns-clause-own : goal.returns-clause-own
-returns-clause-own g c =
-    c.apply.ensures.has.0
-
-pub returns-clause-goes_on : goal.returns-clause-goes_on
-returns-clause-goes_on g c =
-    c.apply.ensures.kept.0
+pub returns-clause-on : goal.returns-clause-on
+returns-clause-on g c = record { own = c.apply.ensures.has.0; goes_on = c.apply.ensures.kept.0 }
 
 pub returns-clause-stored : goal.returns-clause-stored
 returns-clause-stored g c =

@@ -178,7 +178,7 @@ returns-clause-has g c =
     let stored = spliced-stored areas ps at count v.hand.known f.hand.known p.hand.known u.hand.known has.space c.requires.space c.requires.within has.whole made c.write_pieces.ensures.written set in
     let after = have-areas (spliced at count ps areas) u.hand.known c.requires.space stored in
     let alone = still-alone r p (changes-more r f p c.fit.ensures.kept c.write_pieces.ensures.kept) (ap {A = Hand} (λ h. h.held) c.word-len.ensures.kept.0 ∙ c.requires.has.1) in
-    (c.set_word.ensures.own, ap {A = Hand} (λ h. h.held) c.set_word.ensures.kept.0 ∙ alone, after.0)
+    (c.set_word.ensures.on.own, ap {A = Hand} (λ h. h.held) c.set_word.ensures.kept.0 ∙ alone, after.0)
 
 pub returns-clause-kept : goal.returns-clause-kept
 returns-clause-kept g c =
@@ -194,7 +194,7 @@ returns-clause-kept g c =
     let f = g.L.SiteLock.view c.fit.new.pass in
     let p = g.L.SiteLock.view c.write_pieces.new.pass in
     let u = g.L.SiteLock.view c.set_word.new.pass in
-    changes-more v r u (looked v r c.word-len.ensures.goes_on c.word-len.ensures.kept) (changes-more r f u c.fit.ensures.kept (changes-more f p u c.write_pieces.ensures.kept (wrote-word p u 0 _ c.set_word.ensures.goes_on c.set_word.ensures.kept)))
+    changes-more v r u (looked v r c.word-len.ensures.on.goes_on c.word-len.ensures.kept) (changes-more r f u c.fit.ensures.kept (changes-more f p u c.write_pieces.ensures.kept (wrote-word p u 0 _ c.set_word.ensures.on.goes_on c.set_word.ensures.kept)))
 
 pub returns-clause-areas : goal.returns-clause-areas
 returns-clause-areas g c =

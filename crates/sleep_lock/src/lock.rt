@@ -12,7 +12,7 @@ ghost use Rattle.lock_core.specs.SitePasses.{Numbered};
 ghost use Rattle.lock_core.specs.Pasts.{EachMoment, GoesOn, Paced, Tail};
 ghost use Rattle.lock_core.specs.SiteStated.{IsNew};
 ghost use Rattle.lock_core.specs.Kinds.{Kind, unavailable, shares, wakes_shared, wakes_alone};
-ghost use Rattle.lock_core.specs.Shown.{Shown, Stands, AllButHand, PastGoesOn, IsLatestStep, shown_new, shown_split};
+ghost use Rattle.lock_core.specs.Shown.{Shown, Stands, AllButHand, IsLatestStep, StepsOn, shown_new, shown_split};
 ghost use Rattle.lock_core.specs.Locking.{Looks, Has, Takes, Misses, Interrupts, Releases, Downgrades, Got, KeepsPlace, TalliesLock};
 ghost use Rattle.lock_core.specs.Locked.{IsLockedThen, IsSiteStep};
 ghost use Rattle.osq_unqueue.specs.Rising.{LeavesForCpu};
@@ -28,8 +28,8 @@ use word_bits::Object;
 ///
 /// What a clause says of a pass it says of what the pass shows (`view`): its hand, its counts, and
 /// the moments of the table up to its last step. `recall` says what was so at each of these
-/// moments, whatever the lock is. What a pass shows is the lock's own choice: that it is a table's
-/// is a fact of the lock's types.
+/// moments, whatever the lock is. A pass shows what its pass of the site knows (`SiteLock`'s law
+/// `faces`); how it has stood in line and what it counted is the lock's own to say.
 pub trait SleepLock<O: Object>: SiteLock<O> {
     // What the lock's words tell.
     ghost kind: { Kind };
@@ -76,8 +76,8 @@ pub trait SleepLock<O: Object>: SiteLock<O> {
     /// A pass without a task number, which has seen as many entries.
     fn split(&self, pass: &mut Self::Pass) -> Self::Pass
         requires own { Self.sits self.now pass.old }
-        ensures own { Self.sits self.now pass.new × Self.sits self.now result }
-        ensures goes_on { PastGoesOn (Self.view pass.old) (Self.view pass.new) }
+        ensures on { StepsOn Self.sits Self.view self.now pass.old pass.new }
+        ensures its_own { Self.sits self.now result }
         ensures kept { Looks (Self.view pass.old) (Self.view pass.new) }
         ensures given { Self.view result ≡ shown_split (Self.view pass.old) };
 
@@ -87,8 +87,7 @@ pub trait SleepLock<O: Object>: SiteLock<O> {
         requires own { Self.sits self.now pass.old }
         requires numberless { (Self.view pass.old).hand.task ≡ None }
         requires there { task < length (Self.calls_on self.now) }
-        ensures own { Self.sits self.now pass.new }
-        ensures goes_on { PastGoesOn (Self.view pass.old) (Self.view pass.new) }
+        ensures on { StepsOn Self.sits Self.view self.now pass.old pass.new }
         ensures queue { GoesOn (spun pass.old) (spun pass.new) }
         ensures became { Numbered O.object (unavailable kind) (Self.calls_on self.now)
             (Self.view pass.old).hand task (Self.view pass.new).hand }
@@ -101,8 +100,7 @@ pub trait SleepLock<O: Object>: SiteLock<O> {
         requires out { (Self.view pass.old).hand.held ≡ No }
         requires sent { (Self.view pass.old).hand.sent ≡ None }
         requires consumed { (Self.view pass.old).hand.consumed ≡ 0 }
-        ensures own { Self.sits self.now pass.new }
-        ensures goes_on { PastGoesOn (Self.view pass.old) (Self.view pass.new) }
+        ensures on { StepsOn Self.sits Self.view self.now pass.old pass.new }
         ensures queue { GoesOn (spun pass.old) (spun pass.new) }
         ensures kept { Has (gave_up (Self.view pass.old).hand)
             (Self.view pass.old) (Self.view pass.new) };
@@ -114,8 +112,7 @@ pub trait SleepLock<O: Object>: SiteLock<O> {
         requires own { Self.sits self.now into.old × Self.sits self.now other }
         requires out { (Self.view into.old).hand.held ≡ No }
         requires numberless { (Self.view other).hand.task ≡ None }
-        ensures own { Self.sits self.now into.new }
-        ensures goes_on { PastGoesOn (Self.view into.old) (Self.view into.new) }
+        ensures on { StepsOn Self.sits Self.view self.now into.old into.new }
         ensures kept { Has (gathered (Self.view into.old).hand (Self.view other).hand)
             (Self.view into.old) (Self.view into.new) }
         ensures queue { GoesOn (spun into.old) (spun into.new) }
@@ -127,8 +124,7 @@ pub trait SleepLock<O: Object>: SiteLock<O> {
     /// this lock tells of its own (`tells`).
     fn recall(&self, pass: &mut Self::Pass)
         requires own { Self.sits self.now pass.old }
-        ensures own { Self.sits self.now pass.new }
-        ensures goes_on { PastGoesOn (Self.view pass.old) (Self.view pass.new) }
+        ensures on { StepsOn Self.sits Self.view self.now pass.old pass.new }
         ensures queue { GoesOn (spun pass.old) (spun pass.new) }
         ensures kept { Looks (Self.view pass.old) (Self.view pass.new) }
         ensures last { IsLatestStep (Self.view pass.new) }
@@ -167,8 +163,7 @@ pub trait SleepLock<O: Object>: SiteLock<O> {
         requires own { Self.sits self.now pass.old }
         requires numbered { IsSome (Self.view pass.old).hand.task }
         requires out { (Self.view pass.old).hand.held ≡ No }
-        ensures own { Self.sits self.now pass.new }
-        ensures goes_on { PastGoesOn (Self.view pass.old) (Self.view pass.new) }
+        ensures on { StepsOn Self.sits Self.view self.now pass.old pass.new }
         ensures took { Takes O.object (Self.calls_on self.now) (shares kind)
             (Self.view pass.old) (Self.view pass.new) }
         ensures how { Got result (Self.view pass.old) (Self.view pass.new) }
@@ -188,8 +183,7 @@ pub trait SleepLock<O: Object>: SiteLock<O> {
         requires own { Self.sits self.now pass.old }
         requires numbered { IsSome (Self.view pass.old).hand.task }
         requires out { (Self.view pass.old).hand.held ≡ No }
-        ensures own { Self.sits self.now pass.new }
-        ensures goes_on { PastGoesOn (Self.view pass.old) (Self.view pass.new) }
+        ensures on { StepsOn Self.sits Self.view self.now pass.old pass.new }
         ensures queue { GoesOn (spun pass.old) (spun pass.new) }
         ensures took { Takes O.object (Self.calls_on self.now) Alone
             (Self.view pass.old) (Self.view pass.new) }
@@ -210,8 +204,7 @@ pub trait SleepLock<O: Object>: SiteLock<O> {
         requires own { Self.sits self.now pass.old }
         requires numbered { IsSome (Self.view pass.old).hand.task }
         requires out { (Self.view pass.old).hand.held ≡ No }
-        ensures own { Self.sits self.now pass.new }
-        ensures goes_on { PastGoesOn (Self.view pass.old) (Self.view pass.new) }
+        ensures on { StepsOn Self.sits Self.view self.now pass.old pass.new }
         ensures took { IfOk result (λ _. Takes O.object (Self.calls_on self.now) (shares kind)
             (Self.view pass.old) (Self.view pass.new)) }
         ensures how { IfOk result (λ how. Got how (Self.view pass.old) (Self.view pass.new)) }
@@ -236,8 +229,7 @@ pub trait SleepLock<O: Object>: SiteLock<O> {
         requires own { Self.sits self.now pass.old }
         requires numbered { IsSome (Self.view pass.old).hand.task }
         requires out { (Self.view pass.old).hand.held ≡ No }
-        ensures own { Self.sits self.now pass.new }
-        ensures goes_on { PastGoesOn (Self.view pass.old) (Self.view pass.new) }
+        ensures on { StepsOn Self.sits Self.view self.now pass.old pass.new }
         ensures took { IfOk result (λ _. Takes O.object (Self.calls_on self.now) Alone
             (Self.view pass.old) (Self.view pass.new)) }
         ensures how { IfOk result (λ how. Got how (Self.view pass.old) (Self.view pass.new)) }
@@ -256,8 +248,7 @@ pub trait SleepLock<O: Object>: SiteLock<O> {
         requires own { Self.sits self.now pass.old }
         requires numbered { IsSome (Self.view pass.old).hand.task }
         requires out { (Self.view pass.old).hand.held ≡ No }
-        ensures own { Self.sits self.now pass.new }
-        ensures goes_on { PastGoesOn (Self.view pass.old) (Self.view pass.new) }
+        ensures on { StepsOn Self.sits Self.view self.now pass.old pass.new }
         ensures took { IfOk result (λ _. Takes O.object (Self.calls_on self.now) (shares kind)
             (Self.view pass.old) (Self.view pass.new)) }
         ensures at_once { IfOk result (λ _. Got Fast (Self.view pass.old) (Self.view pass.new)) }
@@ -269,8 +260,7 @@ pub trait SleepLock<O: Object>: SiteLock<O> {
         requires own { Self.sits self.now pass.old }
         requires numbered { IsSome (Self.view pass.old).hand.task }
         requires out { (Self.view pass.old).hand.held ≡ No }
-        ensures own { Self.sits self.now pass.new }
-        ensures goes_on { PastGoesOn (Self.view pass.old) (Self.view pass.new) }
+        ensures on { StepsOn Self.sits Self.view self.now pass.old pass.new }
         ensures took { IfOk result (λ _. Takes O.object (Self.calls_on self.now) Alone
             (Self.view pass.old) (Self.view pass.new)) }
         ensures at_once { IfOk result (λ _. Got Fast (Self.view pass.old) (Self.view pass.new)) }
@@ -283,8 +273,7 @@ pub trait SleepLock<O: Object>: SiteLock<O> {
         requires own { Self.sits self.now pass.old }
         requires held { (Self.view pass.old).hand.held ≡ shares kind }
         requires quiet { (Self.view pass.old).hand.writes ≡ false }
-        ensures own { Self.sits self.now pass.new }
-        ensures goes_on { PastGoesOn (Self.view pass.old) (Self.view pass.new) }
+        ensures on { StepsOn Self.sits Self.view self.now pass.old pass.new }
         ensures released { Releases (wakes_shared kind) (Self.view pass.old) (Self.view pass.new) }
         ensures left { ends_shared (Self.view pass.old) (Self.view pass.new) };
 
@@ -293,8 +282,7 @@ pub trait SleepLock<O: Object>: SiteLock<O> {
         requires own { Self.sits self.now pass.old }
         requires held { (Self.view pass.old).hand.held ≡ Alone }
         requires quiet { (Self.view pass.old).hand.writes ≡ false }
-        ensures own { Self.sits self.now pass.new }
-        ensures goes_on { PastGoesOn (Self.view pass.old) (Self.view pass.new) }
+        ensures on { StepsOn Self.sits Self.view self.now pass.old pass.new }
         ensures queue { GoesOn (spun pass.old) (spun pass.new) }
         ensures released { Releases (wakes_alone kind) (Self.view pass.old) (Self.view pass.new) }
         ensures left { ends_alone (Self.view pass.old) (Self.view pass.new) };
@@ -304,8 +292,7 @@ pub trait SleepLock<O: Object>: SiteLock<O> {
         requires own { Self.sits self.now pass.old }
         requires held { (Self.view pass.old).hand.held ≡ Alone }
         requires quiet { (Self.view pass.old).hand.writes ≡ false }
-        ensures own { Self.sits self.now pass.new }
-        ensures goes_on { PastGoesOn (Self.view pass.old) (Self.view pass.new) }
+        ensures on { StepsOn Self.sits Self.view self.now pass.old pass.new }
         ensures downgraded { Downgrades kind (Self.view pass.old) (Self.view pass.new) }
         ensures left { turns_shared (Self.view pass.old) (Self.view pass.new) };
 

@@ -6,7 +6,7 @@ use Rattle.lock_core.specs.Pasts.{EachMoment, Ran}
 use Rattle.lock_core.specs.Shown.{Shown}
 use Rattle.lock_core.specs.SpinStated.{IsSpinLockThen, IsSpinMove}
 use Rattle.rwsem_slow.specs.RwSemHandles.{newest}
-use Rattle.rwsem_slow.specs.RwSems.{standing, wait_lock_at}
+use Rattle.rwsem_rule.specs.RwSems.{standing, wait_lock_at}
 use Rattle.rwsem_slow.specs.RwSemStated.{HasBecome, IsOutOfLine, IsRwSemThen}
 use Rattle.rwsem_wake.specs.SemParts.{SemPart}
 use Rattle.wait_list.specs.declared.view.Waiter.{Waiter}

@@ -13,12 +13,12 @@ impl<O: Object> SleepLock<O> for RwSem<O> {
     ghost use Rattle.lock_core.specs.declared.view.Held.TheVariants.{No, Shared};
     ghost use Rattle.lock_core.specs.Kinds.{semaphore, wakes_alone, wakes_down, wakes_shared};
     ghost use Rattle.rwsem_slow.specs.RwSemHandles.{newest, spun_of};
-    ghost use Rattle.rwsem_slow.specs.Releasing.{LeavesCount};
-    ghost use Rattle.rwsem_slow.specs.RwSems.{count_at};
+    ghost use Rattle.rwsem_paths.specs.Releasing.{LeavesCount};
+    ghost use Rattle.rwsem_rule.specs.RwSems.{count_at};
     ghost use Rattle.rwsem_slow.specs.RwSemStated.{waits_on};
-    ghost use Rattle.guarded.specs.RwSemLocks.{KnowsRwSem};
-    ghost use Rattle.guarded.specs.LockSpinQueues.{KnowsSpinQueue};
-    ghost use Rattle.guarded.specs.LockLaws.{rwsem-stands};
+    ghost use Rattle.sleep_lock.specs.RwSemLocks.{KnowsRwSem};
+    ghost use Rattle.sleep_lock.specs.LockSpinQueues.{KnowsSpinQueue};
+    ghost use Rattle.sleep_lock.specs.LockLaws.{rwsem-stands};
 
     ghost kind = { semaphore };
 

@@ -15,9 +15,9 @@ impl<O: Object> SleepLock<O> for Mutex<O> {
     ghost use Rattle.mutex_slow.specs.Mutexes.{owner_at};
     ghost use Rattle.mutex_slow.specs.MutexPlaces.{EndsHold};
     ghost use Rattle.mutex_slow.specs.MutexStated.{waits_on};
-    ghost use Rattle.guarded.specs.MutexLocks.{KnowsMutex};
-    ghost use Rattle.guarded.specs.LockSpinQueues.{KnowsSpinQueue};
-    ghost use Rattle.guarded.specs.LockLaws.{mutex-stands};
+    ghost use Rattle.sleep_lock.specs.MutexLocks.{KnowsMutex};
+    ghost use Rattle.sleep_lock.specs.LockSpinQueues.{KnowsSpinQueue};
+    ghost use Rattle.sleep_lock.specs.LockLaws.{mutex-stands};
 
     ghost kind = { mutex_kind };
 

@@ -1,0 +1,5 @@
+pub mod LockLaws
+pub mod LockMembers
+pub mod LockSpinQueues
+pub mod MutexLocks
+pub mod RwSemLocks
