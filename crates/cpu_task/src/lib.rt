@@ -5,6 +5,7 @@
 //! so that what is proved of a lock holds whatever they answer.
 #![tactic(auto)]
 
+mod context;
 mod countdown;
 mod counts;
 mod cpu;
@@ -13,6 +14,7 @@ mod gate;
 mod park;
 mod scripted;
 
+pub use context::Context;
 pub use cpu::Cpu;
 pub use crew::{Crew, Turns};
 pub use gate::{Gate, HoldGate, OpenGate};

@@ -2,12 +2,12 @@
 //! prints for each object one history with every reply and the state that it leaves.
 #![tactic(auto)]
 
+use byte_streams::{ReadSource, WriteSink};
 use fd_table::Fds;
-use guarded::{Mutex, RwSem};
 use mm_program::run_to_end;
+use sleep_lock::{Mutex, RwSem};
 use std::process::ExitCode;
 use std::{env, io};
-use task_script::{ReadSource, WriteSink};
 use vma_map::Areas;
 
 /// Spaces are under semaphores and tables under mutexes.

@@ -1,6 +1,6 @@
 -- A machine that ran has done all calls of its script.
 use Rattle.std.proofs.Common.{◌≡◌, List, sym, subst}
-use Rattle.guarded.specs.LockMembers.{LockMembers}
+use Rattle.sleep_lock.specs.LockMembers.{LockMembers}
 use Rattle.task_script.specs.Scripts.{Listing}
 use Rattle.mm_serve.specs.Machines.{AreSitesOf, GoBackToTasks, HasLegalResults, HasRun, IsAtRest, IsMachineOf, KnowsPasts}
 use Rattle.mm_serve.proofs.Copies.{all-held}

@@ -1,7 +1,7 @@
 -- What is said of a machine holds where nobody names it.
 use Rattle.std.proofs.Common.{◌≡◌, ℕ, Bool, List, ap, Option, Some, None, ◌⊎◌, inl, inr}
 use Rattle.std.specs.Io.KnownBytes.{Appends}
-use Rattle.task_script.specs.Causes.{Fronts}
+use Rattle.byte_streams.specs.Causes.{Fronts}
 use Rattle.task_script.specs.Scripts.{Listing}
 use Rattle.mm_report.specs.Results.{AreLegal, Told}
 use Rattle.word_bits.specs.Snapshots.{Words}

@@ -2,7 +2,7 @@
 use Rattle.std.specs.Prelude.{◌≡◌, ◌≤◌, ℕ, Bool, List, length, Option, Some, None, IfSome, Ok, ◌⊎◌}
 use Rattle.std.specs.Io.KnownBytes.{Appends, Consumes, Keeps}
 use Rattle.word_bits.specs.Snapshots.{Words}
-use Rattle.task_script.specs.Causes.{Fronts, Rose, one_more}
+use Rattle.byte_streams.specs.Causes.{Fronts, Rose, one_more}
 use Rattle.task_script.specs.Scripts.{Listing}
 use Rattle.task_script.specs.Generated.{generated}
 use Rattle.task_script.specs.Grammar.{script_of}

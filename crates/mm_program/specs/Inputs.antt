@@ -1,6 +1,6 @@
 -- What reading the whole input leaves.
 use Rattle.std.specs.Prelude.{ℕ, Result, Ok, Err}
-use Rattle.task_script.specs.Causes.{one_more}
+use Rattle.byte_streams.specs.Causes.{one_more}
 use Rattle.mm_program.specs.declared.input.InputError.{InputError}
 use Rattle.mm_program.specs.declared.input.InputError.TheVariants.{Memory, Failed}
 

@@ -1,6 +1,6 @@
 -- The machine that a run of a script leaves.
 use Rattle.std.specs.Prelude.{List}
-use Rattle.guarded.specs.LockMembers.{LockMembers}
+use Rattle.sleep_lock.specs.LockMembers.{LockMembers}
 use Rattle.task_script.specs.Scripts.{Listing}
 use Rattle.mm_report.specs.Results.{Told, AreLegal}
 use Rattle.mm_serve.specs.declared.machine.Machine.{Machine}

@@ -4,8 +4,8 @@ ghost use Rattle.std.specs.Io.KnownBytes.{Consumes, IsAtEnd};
 ghost use Rattle.mm_program.specs.Answers.{TakesAtMost};
 ghost use Rattle.mm_program.specs.Inputs.{faults_after};
 
+use byte_streams::Source;
 use std::alloc::Global;
-use task_script::Source;
 
 /// Why there is no input.
 #[derive(Clone, Copy, Debug, PartialEq, Eq)]

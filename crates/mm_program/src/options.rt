@@ -3,10 +3,7 @@ ghost use Rattle.std.specs.Prelude.{◌≡◌, [], IfOk, Some, false, option_map
 ghost use Rattle.clap.specs.Matches.{found_of};
 ghost use Rattle.clap.specs.Simple.{app_of};
 ghost use Rattle.clap.specs.Walk.{rows_of, rule_of};
-ghost use Rattle.mm_program.specs.CommandLine.{QuestionsSayNothing, asks_help, flag_rule, is_from_words, number_if_used, number_or};
-ghost use Rattle.mm_program.specs.CommandLine.{number_up_to, options_from, options_of, said_by, the_command};
-ghost use Rattle.mm_program.specs.CommandLine.{JoinedOptionsSay, LoneOptionsSay};
-ghost use Rattle.mm_program.specs.CommandLine.{RepeatedOptionsSayNothing, value_rule};
+ghost use Rattle.mm_program.specs.CommandLine.{QuestionsSayNothing, asks_help, flag_rule, is_from_words, number_if_used, number_or, number_up_to, options_from, options_of, said_by, the_command, JoinedOptionsSay, LoneOptionsSay, RepeatedOptionsSayNothing, value_rule};
 ghost use Rattle.mm_program.specs.Parsed.{Gives, error_of};
 
 use clap::error::ErrorKind;

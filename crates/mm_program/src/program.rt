@@ -4,11 +4,9 @@ ghost use Rattle.std.specs.Io.KnownBytes.{IsAtEnd};
 ghost use Rattle.task_script.specs.Generated.{generated};
 ghost use Rattle.task_script.specs.Grammar.{script_of};
 ghost use Rattle.mm_program.specs.CommandLine.{asks_help, said_by};
-ghost use Rattle.mm_program.specs.Requests.{helped, misused, refused, accepted, reads_input, reason_text};
-ghost use Rattle.mm_program.specs.Requests.{request, request_of};
-ghost use Rattle.mm_program.specs.Answers.{AnswersTo, CompletesTo, NoService, SaysTo, TakesAtMost};
-ghost use Rattle.mm_program.specs.Answers.{read_faults, write_faults};
-ghost use Rattle.guarded.specs.LockMembers.{members};
+ghost use Rattle.mm_program.specs.Requests.{helped, misused, refused, accepted, reads_input, reason_text, request, request_of};
+ghost use Rattle.mm_program.specs.Answers.{AnswersTo, CompletesTo, NoService, SaysTo, TakesAtMost, read_faults, write_faults};
+ghost use Rattle.sleep_lock.specs.LockMembers.{members};
 ghost use Rattle.mm_program.specs.ProgramKept.{HasServed};
 
 use crate::input::{InputError, read_all};
@@ -16,12 +14,13 @@ use crate::objects::ScriptMachine;
 use crate::options::{Options, OptionsError, asks_help};
 use crate::status::Status;
 use crate::threads::run_on_threads;
+use byte_streams::{Outbox, Sink, Source, put};
 use cpu_task::{Crew, Gate};
 use mm_serve::{SpaceLock, TableLock};
 use std::alloc::{AllocError, Global};
 use std::sync::Wait;
 use std::thread::Threads;
-use task_script::{Outbox, Reason, ScriptError, Sink, Source, generate, put, read};
+use task_script::{Reason, ScriptError, generate, read};
 
 const USAGE: &[u8] = b"usage: mm_main [--spin N] [--overdue N] [--generate N] [--summary]\n";
 

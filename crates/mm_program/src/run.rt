@@ -3,26 +3,24 @@ ghost use Rattle.std.specs.Prelude.{◌≡◌, ◌≢◌, ◌≤◌, ◌+◌, If
 ghost use Rattle.std.specs.Io.KnownBytes.{IsAtEnd};
 ghost use Rattle.std.specs.Process.{exit_status};
 ghost use Rattle.std.specs.Vec.Iter.{into_iter_items};
-ghost use Rattle.mm_program.specs.Answers.{AnswersLegally, AnswersTo, CompletesLegally, CompletesTo};
-ghost use Rattle.mm_program.specs.Answers.{TakesAtMost, status_number};
-ghost use Rattle.mm_program.specs.Answers.{read_faults, write_faults};
+ghost use Rattle.mm_program.specs.Answers.{AnswersLegally, AnswersTo, CompletesLegally, CompletesTo, TakesAtMost, status_number, read_faults, write_faults};
 ghost use Rattle.mm_program.specs.CommandLine.{asks_help, line_asks_help, said_by, said_by_line};
-ghost use Rattle.guarded.specs.LockMembers.{members};
+ghost use Rattle.sleep_lock.specs.LockMembers.{members};
 ghost use Rattle.mm_program.specs.ProgramKept.{HasServed};
 ghost use Rattle.mm_program.specs.Requests.{reads_input, request};
 
 use crate::objects::ScriptMachine;
 use crate::program::top;
 use crate::status::Status;
+use byte_streams::{Sink, Source};
 use cpu_task::{OpenGate, ParkCrew};
-use guarded::SleepLock;
 use mm_serve::{SpaceLock, TableLock};
+use sleep_lock::SleepLock;
 use std::alloc::{AllocError, Global};
 use std::process::ExitCode;
 use std::sync::Wait;
 use std::thread::Threads;
 use std::{env, io};
-use task_script::{Sink, Source};
 use word_bits::MAX_TASKS;
 
 /// The words after the program's name.

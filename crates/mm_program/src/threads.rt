@@ -1,20 +1,21 @@
 //! Does the tasks of a script at once, each on a thread of its own, over objects under locks.
 ghost use Rattle.std.specs.Prelude.{◌≡◌, None};
 ghost use Rattle.mm_program.specs.Answers.{SaysTo, write_faults};
-ghost use Rattle.guarded.specs.LockMembers.{members};
+ghost use Rattle.sleep_lock.specs.LockMembers.{members};
 ghost use Rattle.mm_program.specs.ProgramKept.{HasServed};
 ghost use Rattle.mm_program.specs.Requests.{accepted};
 
 use crate::objects::ScriptMachine;
 use crate::options::Options;
 use crate::status::Status;
-use cpu_task::{Crew, Gate, Turns};
+use byte_streams::Sink;
+use cpu_task::{Context, Crew, Gate, Turns};
 use mm_report::report;
 use mm_serve::{Machine, SpaceLock, TableLock};
 use std::alloc::Global;
 use std::sync::Wait;
 use std::thread::Threads;
-use task_script::{Script, Sink};
+use task_script::Script;
 
 /// How patient the options make the CPUs.
 pub(crate) fn turns_of(options: &Options) -> Turns
@@ -67,7 +68,7 @@ where
     let Ok(mut machine) = Machine::open(alloc, script, crew, turns_of(options)) else {
         return Status::NoMemory;
     };
-    machine.run(rt, crew, gate);
+    machine.run(Context { rt, crew, gate });
     let written = report(script, machine.results(), options.summary, sink);
     *kept = Some(machine);
     match written {

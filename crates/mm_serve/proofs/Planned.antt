@@ -6,8 +6,10 @@ use Rattle.std.proofs.lemmas.Bool.Decides.{nat_tests}
 use Rattle.std.proofs.lemmas.Option.{same_Some}
 use Rattle.word_bits.specs.declared.call.CallWords.{CallWords}
 use Rattle.word_bits.specs.declared.TheConstants.{MAX_TASKS}
+use Rattle.word_bits.specs.CallKinds.{kind_number}
 use Rattle.word_bits.specs.Calls.{first_in, mode_number, words_of, with_third}
 use Rattle.word_bits.specs.Histories.{Plan}
+use Rattle.word_bits.proofs.CallParts.{unthirded}
 use Rattle.vma_map.specs.declared.call.SpaceCall.{SpaceCall}
 use Rattle.vma_map.specs.declared.call.SpaceCall.TheVariants.{Map, MapAny, MapNew, Unmap, Protect, Populate, Fault, Remap}
 use Rattle.vma_map.specs.Spaces.{space, IsCall as IsSpaceCall, IsCallOf as IsSpaceCallOf, words_of_call as space_words_of}
@@ -23,14 +25,10 @@ use Rattle.task_script.specs.declared.version.Version.{Version}
 use Rattle.task_script.specs.declared.version.Version.TheVariants.{One, Two}
 use Rattle.task_script.specs.Scripts.{Declared, Listing, call_words, is_on, plan_of}
 use Rattle.task_script.specs.Sound.{IsCall, IsLine, IsSound, only}
-use Rattle.task_script.specs.Verbs.{arguments_of, kind_of}
+use Rattle.task_script.specs.Verbs.{arguments_of}
 use Rattle.task_script.specs.Versions.{most_tasks}
 use Rattle.mm_serve.specs.MachineHistories.{IsPlanOn}
 use Rattle.mm_serve.specs.Machines.{staffed}
-
--- words without a third number have 0 there
-unthirded : (w : CallWords) → w ≡ with_third w 0
-unthirded w = let b : w.b ≡ w.b + 0 * 2 ^ 32 = omega arith in λ i. record { a = w.a; b = b i }
 
 -- the tasks of a script are among those of a table
 few_tasks : (version : Version) (task : ℕ) → task < most_tasks version → task < MAX_TASKS
@@ -54,7 +52,7 @@ table_call w call is = inr (ap is_some (table_call_of w call is))
 
 -- the fields of a call's words
 abbrev kind : {version : Version} {is_space : Bool} {w : CallWords} → IsCall version is_space w → ℕ
-kind is = kind_of is.verb
+kind is = kind_number is.verb
 
 abbrev first : {version : Version} {is_space : Bool} {w : CallWords} → IsCall version is_space w → ℕ
 first is = (only (arguments_of is.verb) is.values).first

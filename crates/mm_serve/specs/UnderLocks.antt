@@ -6,11 +6,11 @@ use Rattle.lock_core.specs.declared.view.Moment.{Moment}
 use Rattle.vma_map.specs.Spaces.{space}
 use Rattle.fd_table.specs.Tables.{table}
 use Rattle.guarded.specs.declared.guarded.Guarded.{Guarded}
-use Rattle.guarded.specs.LockMembers.{LockMembers}
+use Rattle.sleep_lock.specs.LockMembers.{LockMembers}
 use Rattle.guarded.specs.GuardedHandles.{lock_of}
-use Rattle.guarded.specs.MutexLocks.{KnowsMutex}
-use Rattle.guarded.specs.RwSemLocks.{KnowsRwSem}
-use Rattle.guarded.specs.LockSpinQueues.{KnowsSpinQueue}
+use Rattle.sleep_lock.specs.MutexLocks.{KnowsMutex}
+use Rattle.sleep_lock.specs.RwSemLocks.{KnowsRwSem}
+use Rattle.sleep_lock.specs.LockSpinQueues.{KnowsSpinQueue}
 use Rattle.mm_serve.specs.declared.space_or_table.SpaceOrTable.{SpaceOrTable}
 use Rattle.mm_serve.specs.declared.space_or_table.SpaceOrTablePass.{SpaceOrTablePass}
 use Rattle.mm_serve.specs.MachinePasts.{KnowsPast}

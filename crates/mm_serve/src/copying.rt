@@ -5,14 +5,13 @@ ghost use Rattle.mm_serve.specs.MachineCopying.{IsCopied, IsToCopy, KnowPasts};
 ghost use Rattle.mm_serve.specs.Workers.{EachOf};
 
 use crate::shared_object::SharedObject;
-use cpu_task::Crew;
+use cpu_task::{Context, Crew};
 use mm_report::Results;
 use std::sync::Wait;
 
 /// Copies the history of each object.
-pub(crate) fn snapshot_all<S: SharedObject, W: Wait, C: Crew>(
-    rt: &W,
-    crew: &C,
+pub(crate) fn snapshot_all<S: SharedObject, W: Wait, C: Crew, G>(
+    context: Context<'_, W, C, G>,
     cpu: &mut C::C,
     sites: &[S],
     gathered: &mut Vec<S::Pass>,
@@ -32,10 +31,9 @@ pub(crate) fn snapshot_all<S: SharedObject, W: Wait, C: Crew>(
 {
     for object in 0..sites.len() {
         sites[object].snapshot(
-            rt,
+            context,
             &mut gathered[object],
             cpu,
-            crew,
             results.snapshot_mut(object),
         );
     }

@@ -6,12 +6,12 @@ ghost use Rattle.fd_table.specs.Tables.{table};
 ghost use Rattle.lock_core.specs.declared.view.Moment.{Moment};
 ghost use Rattle.lock_core.specs.Kinds.{mutex, semaphore};
 ghost use Rattle.lock_core.specs.Shown.{Shown};
-ghost use Rattle.guarded.specs.MutexLocks.{KnowsMutex};
-ghost use Rattle.guarded.specs.RwSemLocks.{KnowsRwSem};
-ghost use Rattle.guarded.specs.LockSpinQueues.{KnowsSpinQueue};
+ghost use Rattle.sleep_lock.specs.MutexLocks.{KnowsMutex};
+ghost use Rattle.sleep_lock.specs.RwSemLocks.{KnowsRwSem};
+ghost use Rattle.sleep_lock.specs.LockSpinQueues.{KnowsSpinQueue};
 
 use fd_table::Fds;
-use guarded::{Mutex, RwSem, SleepLock};
+use sleep_lock::{Mutex, RwSem, SleepLock};
 use vma_map::Areas;
 
 /// A lock of spaces. Its word is a count, and what it tells of its own is what a semaphore tells.

@@ -8,7 +8,7 @@ use crate::planning::plans_of;
 use crate::running::run;
 use crate::shared_object::SharedObject;
 use crate::worker::Worker;
-use cpu_task::{Crew, Gate, Turns};
+use cpu_task::{Context, Crew, Gate, Turns};
 use mm_report::Results;
 use std::alloc::{AllocError, Global};
 use std::mem;
@@ -98,8 +98,7 @@ where
     S::Pass: Send,
     C::C: Send,
 {
-    ghost use Rattle.mm_serve.specs.Machines.{IsFresh, HasRun, HasLegalResults};
-    ghost use Rattle.mm_serve.specs.Machines.{GoBackToTasks, IsAtRest, IsMachineOf, KnowsPasts};
+    ghost use Rattle.mm_serve.specs.Machines.{IsFresh, HasRun, HasLegalResults, GoBackToTasks, IsAtRest, IsMachineOf, KnowsPasts};
 
     /// Does all tasks at once, each on a thread of its own, and takes a snapshot of each object
     /// when all are done. The results are legal histories of the machine's script. Then looks back
@@ -108,7 +107,7 @@ where
     ///
     /// Where a thread can't be made, its task is done by another task's thread after that one's
     /// own, so tasks that wait for each other can then wait for good.
-    pub fn run<R: Threads + Wait + Sync, G: Gate + Sync>(&mut self, rt: &R, crew: &C, gate: &G)
+    pub fn run<R: Threads + Wait + Sync, G: Gate + Sync>(&mut self, context: Context<'_, R, C, G>)
         requires { IsFresh S.idle S.hand S.is_space S.calls_on self.old }
         ensures ran { HasRun S.idle S.hand S.past S.is_space S.calls_on self.old self.new }
         ensures legal { (script : Listing) → IsMachineOf S.is_space S.calls_on script self.old →
@@ -120,9 +119,7 @@ where
         let none = Vec::new(*self.workers.allocator());
         let workers = mem::replace(&mut self.workers, none);
         run(
-            rt,
-            crew,
-            gate,
+            context,
             self.sites.as_slice(),
             &mut self.gathered,
             workers,

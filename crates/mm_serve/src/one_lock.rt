@@ -12,8 +12,9 @@ ghost use Rattle.mm_serve.specs.MachineCopying.{WasHeldWith};
 ghost use Rattle.mm_serve.specs.MachineQueues.{GoesBackToTask, HasLookedBack};
 ghost use Rattle.mm_serve.specs.TaskServing.{AllTasksDone, IsIdle, IsServing};
 
-use cpu_task::{Crew, Gate};
-use guarded::{Guarded, Served, SleepLock};
+use cpu_task::{Context, Crew, Gate};
+use guarded::{Guarded, Served};
+use sleep_lock::SleepLock;
 use std::sync::Wait;
 use std::thread;
 use word_bits::{Object, Snapshot};
@@ -55,11 +56,9 @@ pub(crate) fn begin<O: Served + Drop, L: SleepLock<O>, W: Wait>(
 /// Does the task's next call.
 pub(crate) fn perform<O: Served + Drop, L: SleepLock<O>, W: Wait, C: Crew, G: Gate>(
     guarded: &Guarded<L, O>,
-    rt: &W,
+    context: Context<'_, W, C, G>,
     pass: &mut L::Pass,
     cpu: &mut C::C,
-    crew: &C,
-    gate: &G,
     task: u32,
 )
     requires own { L.sits (lock_of guarded.now) pass.old }
@@ -74,6 +73,7 @@ pub(crate) fn perform<O: Served + Drop, L: SleepLock<O>, W: Wait, C: Crew, G: Ga
 {
     let _ = task;
     let call = guarded.done(pass);
+    let Context { rt, crew, gate } = context;
     guarded.perform(rt, pass, cpu, crew, gate, call);
 }
 
@@ -104,12 +104,11 @@ pub(crate) fn end<O: Served + Drop, L: SleepLock<O>>(
 }
 
 /// Copies one thread's history.
-pub(crate) fn snapshot<O: Served + Drop, L: SleepLock<O>, W: Wait, C: Crew>(
+pub(crate) fn snapshot<O: Served + Drop, L: SleepLock<O>, W: Wait, C: Crew, G>(
     guarded: &Guarded<L, O>,
-    rt: &W,
+    context: Context<'_, W, C, G>,
     pass: &mut L::Pass,
     cpu: &mut C::C,
-    crew: &C,
     out: &mut Snapshot,
 )
     requires own { L.sits (lock_of guarded.now) pass.old }
@@ -126,6 +125,7 @@ pub(crate) fn snapshot<O: Served + Drop, L: SleepLock<O>, W: Wait, C: Crew>(
     ensures held { WasHeldWith out.new (L.view pass.new).hand.records (L.view pass.new).past }
     ensures queue { GoesOn (L.spun pass.old) (L.spun pass.new) }
 {
+    let Context { rt, crew, .. } = context;
     guarded.begin(rt, pass, 0);
     guarded.snapshot(rt, pass, cpu, crew, out);
     guarded.end(pass);

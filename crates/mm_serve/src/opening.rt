@@ -1,6 +1,5 @@
 //! The objects and the tasks of a script, before any task has begun.
-ghost use Rattle.std.specs.Prelude.{◌≡◌, ◌<◌, [], All, IfOk, OnOk, length};
-ghost use Rattle.std.specs.Prelude.{map, max, slice_index_or};
+ghost use Rattle.std.specs.Prelude.{◌≡◌, ◌<◌, [], All, IfOk, OnOk, length, map, max, slice_index_or};
 ghost use Rattle.mm_serve.specs.Machines.{AreSitesOf};
 ghost use Rattle.mm_serve.specs.ObjectsOpening.{ArePlansOf};
 ghost use Rattle.mm_serve.specs.Workers.{AreNumbered, HaveSeenNothing, IsReady};

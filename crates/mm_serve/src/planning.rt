@@ -1,13 +1,11 @@
 //! The plans of a script's objects.
-ghost use Rattle.std.specs.Prelude.{◌≡◌, ◌<◌, ◌≤◌, [], All, OnOk, IfOk, length, max, replicate};
+ghost use Rattle.std.specs.Prelude.{◌≡◌, ◌<◌, [], All, OnOk, IfOk, length, max, replicate};
 ghost use Rattle.mm_serve.specs.ObjectsOpening.{AddsLines, ArePlansOf, HaveRoom, HaveTask};
 
 use lock_core::Plan;
 use std::alloc::{AllocError, Global};
 use task_script::{Line, Script};
-
-/// The most calls that a plan has room for. A text of at most 1,048,576 bytes has no more.
-const MOST_CALLS: u32 = 131_072;
+use word_bits::MAX_CALLS;
 
 /// Puts a task's calls into the plans of their objects. `room` is how many calls each plan still
 /// has room for.
@@ -45,13 +43,13 @@ fn empty_plans(alloc: Global, script: &Script) -> Result<Vec<Plan>, AllocError>
     Ok(plans)
 }
 
-/// The calls on each object, task by task. More than a plan has room for are no text's, and are
-/// refused as memory is.
+/// The calls on each object, task by task. A text of at most 1,048,576 bytes has no more than a plan
+/// has room for. More are refused as memory is.
 pub(crate) fn plans_of(alloc: Global, script: &Script) -> Result<Vec<Plan>, AllocError>
     ensures { IfOk result (λ plans. ArePlansOf script.now plans.items) }
 {
     let mut plans = empty_plans(alloc, script)?;
-    let mut room = MOST_CALLS;
+    let mut room = MAX_CALLS;
     for task in 0..script.tasks() {
         plan_task(&mut plans, &mut room, task as u32, script.calls(task))?;
     }

@@ -8,7 +8,7 @@ use crate::copying::{recall_all, snapshot_all};
 use crate::gathering::gather_all;
 use crate::shared_object::SharedObject;
 use crate::worker::{Worker, serve_all};
-use cpu_task::{Crew, Gate};
+use cpu_task::{Context, Crew, Gate};
 use mm_report::Results;
 use std::sync::Wait;
 use std::thread::Threads;
@@ -20,9 +20,7 @@ fn serve_and_gather<
     C: Crew + Sync,
     G: Gate + Sync,
 >(
-    rt: &R,
-    crew: &C,
-    gate: &G,
+    context: Context<'_, R, C, G>,
     sites: &[S],
     gathered: &mut Vec<S::Pass>,
     mut workers: Vec<Worker<C::C, S::Pass>>,
@@ -40,15 +38,13 @@ where
     ensures tasks { EachOf (λ k s p. GoesBackToTasks S.looked_back S.spun S.calls_on s p)
         sites.now gathered.new.items }
 {
-    serve_all(rt, crew, gate, sites, workers.as_mut_slice());
+    serve_all(context, sites, workers.as_mut_slice());
     gather_all(sites, gathered, workers);
 }
 
 /// Does all tasks at once, copies the history of each object then, and looks back at its table.
 pub(crate) fn run<S: SharedObject + Sync, R: Threads + Wait + Sync, C: Crew + Sync, G: Gate + Sync>(
-    rt: &R,
-    crew: &C,
-    gate: &G,
+    context: Context<'_, R, C, G>,
     sites: &[S],
     gathered: &mut Vec<S::Pass>,
     workers: Vec<Worker<C::C, S::Pass>>,
@@ -72,7 +68,7 @@ where
     ensures tasks { EachOf (λ k s p. GoesBackToTasks S.looked_back S.spun S.calls_on s p)
         sites.now gathered.new.items }
 {
-    serve_and_gather(rt, crew, gate, sites, gathered, workers);
-    snapshot_all(rt, crew, cpu, sites, gathered, results);
+    serve_and_gather(context, sites, gathered, workers);
+    snapshot_all(context, cpu, sites, gathered, results);
     recall_all(sites, gathered);
 }

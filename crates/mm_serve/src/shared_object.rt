@@ -10,7 +10,7 @@ ghost use Rattle.mm_serve.specs.MachineHistories.{HasDoneOn, AllHaveDone, IsKnow
 ghost use Rattle.mm_serve.specs.MachineQueues.{GoesBackToTask};
 ghost use Rattle.mm_serve.specs.Workers.{KnowsMore};
 
-use cpu_task::{Crew, Gate};
+use cpu_task::{Context, Crew, Gate};
 use lock_core::Plan;
 use std::alloc::{AllocError, Global};
 use std::sync::Wait;
@@ -81,11 +81,9 @@ pub trait SharedObject: Sized {
     /// Does the task's next call.
     fn perform<W: Wait, C: Crew, G: Gate>(
         &self,
-        rt: &W,
+        context: Context<'_, W, C, G>,
         pass: &mut Self::Pass,
         cpu: &mut C::C,
-        crew: &C,
-        gate: &G,
         task: u32,
     )
         requires own { serving self.now pass.old task }
@@ -112,12 +110,11 @@ pub trait SharedObject: Sized {
         ensures others_queue { GoesOn (spun other) (spun into.new) };
 
     /// Copies what there is when all tasks have done their calls: one thread's history.
-    fn snapshot<W: Wait, C: Crew>(
+    fn snapshot<W: Wait, C: Crew, G>(
         &self,
-        rt: &W,
+        context: Context<'_, W, C, G>,
         pass: &mut Self::Pass,
         cpu: &mut C::C,
-        crew: &C,
         out: &mut Snapshot,
     )
         requires own { idle self.now pass.old }

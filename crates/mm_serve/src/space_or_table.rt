@@ -1,10 +1,9 @@
 //! A space or a table under its lock.
-ghost use Rattle.std.specs.Prelude.{◌≡◌};
 
 use crate::locks::{SpaceLock, TableLock};
 use crate::one_lock;
 use crate::shared_object::SharedObject;
-use cpu_task::{Crew, Gate};
+use cpu_task::{Context, Crew, Gate};
 use fd_table::Fds;
 use guarded::Guarded;
 use lock_core::Plan;
@@ -32,11 +31,10 @@ impl<A: SpaceLock, T: TableLock> SharedObject for SpaceOrTable<Guarded<A, Areas>
     ghost use Rattle.vma_map.specs.Spaces.{space};
     ghost use Rattle.fd_table.specs.Tables.{table};
     ghost use Rattle.guarded.specs.GuardedHandles.{lock_of};
-    ghost use Rattle.guarded.specs.LockMembers.{members};
+    ghost use Rattle.sleep_lock.specs.LockMembers.{members};
     ghost use Rattle.mm_serve.specs.TaskServing.{IsServing};
     ghost use Rattle.mm_serve.specs.MachineSites.{Matches, holds_space};
-    ghost use Rattle.mm_serve.specs.UnderLocks.{HasLookedBackUnder, IsIdleUnder, KnowsPastUnder};
-    ghost use Rattle.mm_serve.specs.UnderLocks.{calls_under, hand_under, past_under, spun_under};
+    ghost use Rattle.mm_serve.specs.UnderLocks.{HasLookedBackUnder, IsIdleUnder, KnowsPastUnder, calls_under, hand_under, past_under, spun_under};
 
     type Pass = SpaceOrTablePass<A::Pass, T::Pass>;
 
@@ -119,19 +117,17 @@ impl<A: SpaceLock, T: TableLock> SharedObject for SpaceOrTable<Guarded<A, Areas>
 
     fn perform<W: Wait, C: Crew, G: Gate>(
         &self,
-        rt: &W,
+        context: Context<'_, W, C, G>,
         pass: &mut SpaceOrTablePass<A::Pass, T::Pass>,
         cpu: &mut C::C,
-        crew: &C,
-        gate: &G,
         task: u32,
     ) {
         match (self, pass) {
             (SpaceOrTable::Space(site), SpaceOrTablePass::OfSpace(pass)) => {
-                one_lock::perform(site, rt, pass, cpu, crew, gate, task)
+                one_lock::perform(site, context, pass, cpu, task)
             }
             (SpaceOrTable::Table(site), SpaceOrTablePass::OfTable(pass)) => {
-                one_lock::perform(site, rt, pass, cpu, crew, gate, task)
+                one_lock::perform(site, context, pass, cpu, task)
             }
             _ => unreachable!(),
         }
@@ -169,20 +165,19 @@ impl<A: SpaceLock, T: TableLock> SharedObject for SpaceOrTable<Guarded<A, Areas>
         }
     }
 
-    fn snapshot<W: Wait, C: Crew>(
+    fn snapshot<W: Wait, C: Crew, G>(
         &self,
-        rt: &W,
+        context: Context<'_, W, C, G>,
         pass: &mut SpaceOrTablePass<A::Pass, T::Pass>,
         cpu: &mut C::C,
-        crew: &C,
         out: &mut Snapshot,
     ) {
         match (self, pass) {
             (SpaceOrTable::Space(site), SpaceOrTablePass::OfSpace(pass)) => {
-                one_lock::snapshot(site, rt, pass, cpu, crew, out)
+                one_lock::snapshot(site, context, pass, cpu, out)
             }
             (SpaceOrTable::Table(site), SpaceOrTablePass::OfTable(pass)) => {
-                one_lock::snapshot(site, rt, pass, cpu, crew, out)
+                one_lock::snapshot(site, context, pass, cpu, out)
             }
             _ => unreachable!(),
         }

@@ -1,13 +1,12 @@
 //! Tasks at work, each with a CPU and a pass of each object of its own.
-ghost use Rattle.std.specs.Prelude.{◌≡◌, ℕ, ◌<◌, [], All, length, slice_get, Some};
+ghost use Rattle.std.specs.Prelude.{◌≡◌, ℕ, ◌<◌, All, length, slice_get, Some};
 ghost use Rattle.lock_core.specs.Records.{row};
 ghost use Rattle.mm_serve.specs.MachineHistories.{HasDoneOn};
 ghost use Rattle.mm_serve.specs.MachineQueues.{GoesBackToTask};
-ghost use Rattle.mm_serve.specs.Workers.{EachOf, HaveDoneTheirTasks, HaveSeenNothing};
-ghost use Rattle.mm_serve.specs.Workers.{HasDoneItsTask, IsReady, calls_to};
+ghost use Rattle.mm_serve.specs.Workers.{EachOf, HaveDoneTheirTasks, HaveSeenNothing, HasDoneItsTask, IsReady, calls_to};
 
 use crate::shared_object::SharedObject;
-use cpu_task::{Crew, Gate};
+use cpu_task::{Context, Crew, Gate};
 use std::sync::Wait;
 use std::thread;
 use std::thread::Threads;
@@ -38,9 +37,7 @@ fn begin_all<S: SharedObject, W: Wait>(rt: &W, sites: &[S], passes: &mut Vec<S::
 
 /// Does the task's calls in order.
 fn perform_all<S: SharedObject, W: Wait, C: Crew, G: Gate>(
-    rt: &W,
-    crew: &C,
-    gate: &G,
+    context: Context<'_, W, C, G>,
     sites: &[S],
     objects: &[u32],
     cpu: &mut C::C,
@@ -57,7 +54,7 @@ fn perform_all<S: SharedObject, W: Wait, C: Crew, G: Gate>(
 {
     for number in objects {
         let object = *number as usize;
-        sites[object].perform(rt, &mut passes[object], cpu, crew, gate, task);
+        sites[object].perform(context, &mut passes[object], cpu, task);
     }
 }
 
@@ -76,9 +73,7 @@ fn end_all<S: SharedObject>(sites: &[S], passes: &mut Vec<S::Pass>, task: u32)
 
 /// Does all of a task.
 pub(crate) fn serve<S: SharedObject, W: Wait, C: Crew, G: Gate>(
-    rt: &W,
-    crew: &C,
-    gate: &G,
+    context: Context<'_, W, C, G>,
     sites: &[S],
     worker: &mut Worker<C::C, S::Pass>,
 )
@@ -86,11 +81,9 @@ pub(crate) fn serve<S: SharedObject, W: Wait, C: Crew, G: Gate>(
     ensures { HasDoneItsTask S.idle S.hand S.looked_back S.spun S.is_space S.calls_on
         sites.now worker.old worker.new }
 {
-    begin_all(rt, sites, &mut worker.passes, worker.task);
+    begin_all(context.rt, sites, &mut worker.passes, worker.task);
     perform_all(
-        rt,
-        crew,
-        gate,
+        context,
         sites,
         worker.objects.as_slice(),
         &mut worker.cpu,
@@ -107,7 +100,7 @@ pub(crate) fn serve_all<
     R: Threads + Wait + Sync,
     C: Crew + Sync,
     G: Gate + Sync,
->(rt: &R, crew: &C, gate: &G, sites: &[S], workers: &mut [Worker<C::C, S::Pass>])
+>(context: Context<'_, R, C, G>, sites: &[S], workers: &mut [Worker<C::C, S::Pass>])
 where
     S::Pass: Send,
     C::C: Send,
@@ -118,13 +111,13 @@ where
     // With fewer threads than tasks, two that wait for each other could share one.
     let threads = workers.len().max(1);
     thread::for_each_mut(
-        rt,
+        context.rt,
         workers,
         threads,
         &|_, worker: &mut Worker<C::C, S::Pass>|
             requires { IsReady S.idle S.hand S.calls_on sites.now worker.old }
             ensures { HasDoneItsTask S.idle S.hand S.looked_back S.spun S.is_space S.calls_on
                 sites.entry.now worker.old worker.new }
-        { serve(rt, crew, gate, sites, worker) },
+        { serve(context, sites, worker) },
     );
 }

@@ -1,6 +1,6 @@
 use Rattle.std.proofs.Common.{ap}
 use Rattle.task_script.specs.Grammar.{Refusal, script_of}
-use Rattle.guarded.specs.LockMembers.{members}
+use Rattle.sleep_lock.specs.LockMembers.{members}
 use Rattle.mm_program.specs.ProgramKept.{HasServed}
 use Rattle.mm_program.specs.Requests.{accepted, refused, request_of}
 use Rattle.mm_program.proofs.Inputs.{refused_by, said, said_no_memory, said_unkept}

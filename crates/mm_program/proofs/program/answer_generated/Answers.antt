@@ -1,6 +1,6 @@
 use Rattle.std.proofs.Common.{ap, sym}
 use Rattle.task_script.specs.Generated.{generated}
-use Rattle.guarded.specs.LockMembers.{members}
+use Rattle.sleep_lock.specs.LockMembers.{members}
 use Rattle.mm_program.specs.ProgramKept.{HasServed}
 use Rattle.mm_program.specs.Requests.{accepted}
 use Rattle.mm_program.proofs.Inputs.{said}

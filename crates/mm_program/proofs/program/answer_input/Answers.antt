@@ -1,6 +1,6 @@
 use Rattle.std.proofs.Common.{◌∙◌, ap, sym, rules}
 use Rattle.task_script.specs.Grammar.{script_of}
-use Rattle.guarded.specs.LockMembers.{members}
+use Rattle.sleep_lock.specs.LockMembers.{members}
 use Rattle.mm_program.specs.ProgramKept.{HasServed}
 use Rattle.mm_program.specs.Requests.{request_of}
 use Rattle.mm_program.proofs.Inputs.{answers_memory, any_input, never_read, said, said_failed, same_input}

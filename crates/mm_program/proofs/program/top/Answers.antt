@@ -3,7 +3,7 @@ use Rattle.std.proofs.lemmas.Bool.{false≢true}
 use Rattle.std.specs.Prelude.{string_bytes}
 use Rattle.task_script.specs.Generated.{generated}
 use Rattle.task_script.specs.Grammar.{script_of}
-use Rattle.guarded.specs.LockMembers.{members}
+use Rattle.sleep_lock.specs.LockMembers.{members}
 use Rattle.mm_program.specs.CommandLine.{is_question, options_of}
 use Rattle.mm_program.specs.ProgramKept.{HasServed}
 use Rattle.mm_program.specs.Requests.{accepted, helped, misused, reads_input, request, request_of}

@@ -1,4 +1,4 @@
-use Rattle.guarded.specs.LockMembers.{members}
+use Rattle.sleep_lock.specs.LockMembers.{members}
 use Rattle.mm_program.specs.CommandLine.{line_asks_help, said_by_line}
 use Rattle.mm_program.specs.ProgramKept.{HasServed}
 use Rattle.mm_program.specs.Requests.{request}

@@ -1,6 +1,6 @@
 use Rattle.std.proofs.Common.{List, refl, sym, ap, subst, ◌∙◌, rules}
 use Rattle.word_bits.specs.Snapshots.{Words}
-use Rattle.guarded.specs.LockMembers.{members}
+use Rattle.sleep_lock.specs.LockMembers.{members}
 use Rattle.mm_report.specs.Results.{AreComplete, AreLegal}
 use Rattle.mm_program.proofs.Services.{has_served}
 use Rattle.mm_program.proofs.threads.run_on_threads.Goals as goal

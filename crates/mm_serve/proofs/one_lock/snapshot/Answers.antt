@@ -28,7 +28,7 @@ returns-clause-held g c =
       takes = b.hand.takes + 1;
       until = copies.last;
       held = subst (λ (records : List Told). HeldAlone b.hand.task (b.hand.takes + 1) records copies.entries c.snapshot.new.out.state copies.last) (sym known) copies.ended;
-      goes_on = λ p t. c.end.ensures.goes_on p (copies.goes_on p t);
+      goes_on = λ p t. c.end.ensures.on.goes_on p (copies.goes_on p t);
     }
 
 pub returns-clause-queue : goal.returns-clause-queue

@@ -3,17 +3,17 @@ use Rattle.vma_map.specs.Spaces.{space}
 use Rattle.fd_table.specs.Tables.{table}
 use Rattle.lock_core.specs.Pasts.{GoesOn}
 use Rattle.lock_core.specs.Shown.{Shown}
-use Rattle.guarded.specs.MutexLocks.{KnowsMutex}
-use Rattle.guarded.specs.RwSemLocks.{KnowsRwSem}
-use Rattle.guarded.specs.LockMembers.{members}
+use Rattle.sleep_lock.specs.MutexLocks.{KnowsMutex}
+use Rattle.sleep_lock.specs.RwSemLocks.{KnowsRwSem}
+use Rattle.sleep_lock.specs.LockMembers.{members}
 use Rattle.mm_serve.specs.MachinePasts.{KnowsPast}
 use Rattle.mm_serve.proofs.space_or_table.SpaceOrTableGuardedAreasGuardedFdsSharedObject.recall.Goals.{in-Space-OfSpace, in-Table-OfTable}
 use Rattle.mm_serve.proofs.space_or_table.SpaceOrTableGuardedAreasGuardedFdsSharedObject.recall.Goals as goal
 
 pub returns-clause-goes_on : goal.returns-clause-goes_on
 returns-clause-goes_on g c = elim c.match-self.branch [
-  | in-Space-OfSpace w ↦ rw (w.in-Space-OfSpace.is-1, w.pass-is) (subst (λ (v : Shown). GoesOn (g.A.SiteLock.view w.in-Space-OfSpace.pass).past v.past) (sym w.recall_queue.ensures.kept) w.recall.ensures.goes_on)
-  | in-Table-OfTable w ↦ rw (w.in-Table-OfTable.is-1, w.pass-is) (subst (λ (v : Shown). GoesOn (g.T.SiteLock.view w.in-Table-OfTable.pass).past v.past) (sym w.recall_queue-in-Table-OfTable.ensures.kept) w.recall-in-Table-OfTable.ensures.goes_on)
+  | in-Space-OfSpace w ↦ rw (w.in-Space-OfSpace.is-1, w.pass-is) (subst (λ (v : Shown). GoesOn (g.A.SiteLock.view w.in-Space-OfSpace.pass).past v.past) (sym w.recall_queue.ensures.kept) w.recall.ensures.on.goes_on)
+  | in-Table-OfTable w ↦ rw (w.in-Table-OfTable.is-1, w.pass-is) (subst (λ (v : Shown). GoesOn (g.T.SiteLock.view w.in-Table-OfTable.pass).past v.past) (sym w.recall_queue-in-Table-OfTable.ensures.kept) w.recall-in-Table-OfTable.ensures.on.goes_on)
 ]
 
 pub returns-clause-queue : goal.returns-clause-queue
