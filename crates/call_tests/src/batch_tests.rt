@@ -3,13 +3,13 @@ ghost use Rattle.std.specs.Prelude.{◌≡◌, length, IfOk};
 ghost use Rattle.lock_core.specs.Records.{IsPlan};
 ghost use Rattle.vma_map.specs.Spaces.{space};
 
-use crate::at_once::Start;
 use crate::crowd::what_all_leave;
-use crate::plans::{fault_page, map_page, plan_with, try_map_page};
-use crate::signs::{CountedCrew, KIND, VALUE, await_count, await_flag, count};
 use cpu_task::{Gate, ParkCrew};
-use guarded::RwSem;
 use lock_core::{Plan, Tally};
+use plan_runs::at_once::Start;
+use plan_runs::plans::{fault_page, map_page, plan_with, try_map_page};
+use plan_runs::signs::{CountedCrew, KIND, VALUE, await_count, await_flag, count};
+use sleep_lock::RwSem;
 use std::alloc::{AllocError, Global};
 use std::sync::Wait;
 use std::sync::atomic::{AtomicBool, AtomicU32, Ordering};

@@ -4,13 +4,14 @@ ghost use Rattle.std.specs.Prelude.{◌≡◌, ◌<◌, ◌≤◌, length, IfOk,
 ghost use Rattle.word_bits.specs.declared.TheConstants.{MAX_TASKS};
 ghost use Rattle.lock_core.specs.Records.{IsPlan};
 ghost use Rattle.guarded.specs.GuardedHandles.{lock_of};
-ghost use Rattle.call_tests.specs.CallsBetween.{AreFresh, IsFresh};
+ghost use Rattle.plan_runs.specs.CallsBetween.{AreFresh, IsFresh};
 
-use crate::at_once::{Start, serve_all};
-use crate::serve::copy_of;
 use cpu_task::{Crew, Turns};
-use guarded::{Guarded, Served, SleepLock};
+use guarded::{Guarded, Served};
 use lock_core::Plan;
+use plan_runs::at_once::{Start, serve_all};
+use plan_runs::serve::copy_of;
+use sleep_lock::SleepLock;
 use std::alloc::{AllocError, Global};
 use std::sync::Wait;
 use std::thread;

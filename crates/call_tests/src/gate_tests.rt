@@ -1,12 +1,12 @@
 //! Tasks that are inside an address space together, under a semaphore, on threads.
 
-use crate::at_once::{Start, history_of_four};
-use crate::plans::{
+use cpu_task::{Gate, HoldGate, ParkCrew};
+use plan_runs::at_once::{Start, history_of_four};
+use plan_runs::plans::{
     Row, fault_page, int_map_page, plan_with, populate_pages, signal_task, try_map_page,
 };
-use crate::signs::{KIND, VALUE};
-use cpu_task::{Gate, HoldGate, ParkCrew};
-use guarded::RwSem;
+use plan_runs::signs::{KIND, VALUE};
+use sleep_lock::RwSem;
 use std::alloc::{AllocError, Global};
 use std::sync::Wait;
 use std::test::Fail;

@@ -1,14 +1,14 @@
 //! A task that waits for a lock which another one holds, until signals interrupt it, on threads.
 
-use crate::at_once::{Start, history_of_four};
-use crate::plans::{
+use cpu_task::{Gate, ScriptedCrew};
+use lock_core::Tally;
+use plan_runs::at_once::{Start, history_of_four};
+use plan_runs::plans::{
     fault_page, int_fault_page, int_map_page, map_page, plan_with, signal_task, try_fault_page,
     try_map_page,
 };
-use crate::signs::{KIND, VALUE, await_flag};
-use cpu_task::{Gate, ScriptedCrew};
-use guarded::{Mutex, RwSem, SleepLock};
-use lock_core::Tally;
+use plan_runs::signs::{KIND, VALUE, await_flag};
+use sleep_lock::{Mutex, RwSem, SleepLock};
 use std::alloc::{AllocError, Global};
 use std::sync::Wait;
 use std::sync::atomic::{AtomicBool, Ordering};

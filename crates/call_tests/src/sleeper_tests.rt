@@ -1,11 +1,11 @@
 //! A task that tries for a semaphore which a writer holds while a reader sleeps, on threads.
 
-use crate::at_once::{Start, history_of_four};
-use crate::plans::{fault_page, map_page, plan_with, try_fault_page};
-use crate::signs::{CountedCrew, KIND, VALUE, await_count, await_flag};
 use cpu_task::{Gate, ParkCrew};
-use guarded::RwSem;
 use lock_core::Tally;
+use plan_runs::at_once::{Start, history_of_four};
+use plan_runs::plans::{fault_page, map_page, plan_with, try_fault_page};
+use plan_runs::signs::{CountedCrew, KIND, VALUE, await_count, await_flag};
+use sleep_lock::RwSem;
 use std::sync::Wait;
 use std::sync::atomic::{AtomicBool, AtomicU32, Ordering};
 use std::test::Fail;

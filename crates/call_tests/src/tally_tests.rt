@@ -1,11 +1,11 @@
 //! What passes count of their calls that signals interrupt, on threads.
 
-use crate::at_once::{Start, history_of_four};
-use crate::plans::{fault_page, int_map_readable, plan_with, signal_task};
-use crate::signs::{KIND, await_flag, count};
 use cpu_task::{Gate, ScriptedCrew};
-use guarded::RwSem;
 use lock_core::Tally;
+use plan_runs::at_once::{Start, history_of_four};
+use plan_runs::plans::{fault_page, int_map_readable, plan_with, signal_task};
+use plan_runs::signs::{KIND, await_flag, count};
+use sleep_lock::RwSem;
 use std::alloc::{AllocError, Global};
 use std::sync::Wait;
 use std::sync::atomic::{AtomicBool, AtomicU32, AtomicU64, Ordering};
@@ -28,22 +28,11 @@ const TURNS_INSIDE: u32 = 1_000_000;
 struct Crowd {
     inside: AtomicBool,
     begun: AtomicU32,
-    /// How often each of the others counted that it was interrupted.
-    one: AtomicU64,
-    two: AtomicU64,
-    three: AtomicU64,
+    /// How often each task counted that it was interrupted.
+    interrupted: [AtomicU64; 4],
 }
 
 impl Crowd {
-    /// How often each task but task 0 was interrupted.
-    fn counts(&self) -> (u64, u64, u64) {
-        (
-            self.one.load(Ordering::SeqCst),
-            self.two.load(Ordering::SeqCst),
-            self.three.load(Ordering::SeqCst),
-        )
-    }
-
     /// Waits for so many turns, or until so many tasks have begun.
     fn await_tasks(&self, count: u32, turns: u32) {
         for _ in 0..turns {
@@ -73,13 +62,9 @@ impl Start for Crowd {
     }
 
     fn ended(&self, task: u32, tally: Tally) {
-        let counter = match task {
-            1 => &self.one,
-            2 => &self.two,
-            3 => &self.three,
-            _ => return,
-        };
-        counter.store(tally.interrupted, Ordering::SeqCst);
+        if let Some(counter) = self.interrupted.get(task as usize) {
+            counter.store(tally.interrupted, Ordering::SeqCst);
+        }
     }
 }
 
@@ -90,26 +75,15 @@ fn history_of_mappers<R: Threads + Wait + Sync>(
     alloc: Global,
     gate: &Crowd,
 ) -> Result<Snapshot, AllocError> {
-    let plan = plan_with::<Areas>(
-        alloc,
-        4,
-        [
-            (0, 1, signal_task(1)),
-            (0, 1, signal_task(2)),
-            (0, 1, signal_task(3)),
-            (0, 1, fault_page(5)),
-            (1, 1, int_map_readable(10)),
-            (1, 1, int_map_readable(11)),
-            (1, 1, int_map_readable(12)),
-            (2, 1, int_map_readable(20)),
-            (2, 1, int_map_readable(21)),
-            (2, 1, int_map_readable(22)),
-            (3, 1, int_map_readable(30)),
-            (3, 1, int_map_readable(31)),
-            (3, 1, int_map_readable(32)),
-        ]
-        .as_slice(),
-    )?;
+    let mut rows = Vec::new(alloc);
+    for mapper in 1..MAPPERS + 1 {
+        rows.push((0, 1, signal_task(mapper)))?;
+        for page in 0..3 {
+            rows.push((mapper, 1, int_map_readable(10 * mapper + page)))?;
+        }
+    }
+    rows.push((0, 1, fault_page(5)))?;
+    let plan = plan_with::<Areas>(alloc, 4, rows.as_slice())?;
     let crew = ScriptedCrew::new(alloc, Vec::new(alloc), Vec::new(alloc))?;
     history_of_four::<_, _, _, RwSem<Areas>, Areas>(rt, alloc, plan, crew, gate)
 }
@@ -121,12 +95,8 @@ fn end_of(area: u64) -> u64 {
 
 /// Whether an area of the space's words has the page.
 fn is_mapped(state: &[u64], page: u64) -> bool {
-    for area in state.iter().skip(1) {
-        if *area >> 24 <= page && page < end_of(*area) {
-            return true;
-        }
-    }
-    false
+    let mut areas = state.iter().skip(1);
+    areas.any(|area| *area >> 24 <= page && page < end_of(*area))
 }
 
 /// How many pages the areas have.
@@ -161,17 +131,15 @@ fn each_task_counts_its_interrupted_calls(rt: HostRuntime) -> Result<(), Fail> {
     let gate = Crowd::default();
     let copy = history_of_mappers(&rt, rt.alloc(), &gate)?;
     let (recs, state) = (copy.recs(), copy.state());
-    let (one, two, three) = gate.counts();
     assert_eq!(rt; recs.len(), 13);
-    assert!(rt; has_counted(&recs[4..7], state, 10, one));
-    assert!(rt; has_counted(&recs[7..10], state, 20, two));
-    assert!(rt; has_counted(&recs[10..], state, 30, three));
-    assert_eq!(rt;
-        pages_in(state)
-            .wrapping_add(one)
-            .wrapping_add(two)
-            .wrapping_add(three),
-        9
-    );
+    let mut calls = pages_in(state);
+    for task in 1..4 {
+        let interrupted = gate.interrupted[task].load(Ordering::SeqCst);
+        let own = &recs[3 * task + 1..3 * task + 4];
+        let first = 10 * task as u64;
+        assert!(rt; has_counted(own, state, first, interrupted), "{task}");
+        calls = calls.wrapping_add(interrupted);
+    }
+    assert_eq!(rt; calls, 9);
     Ok(())
 }

@@ -2,14 +2,14 @@
 ghost use Rattle.std.specs.Prelude.{◌<◌, IfSome};
 ghost use Rattle.fd_table.specs.Tables.{IsCall};
 
-use crate::at_once::{Start, history_of_four};
-use crate::plans::{
+use cpu_task::{Gate, ParkCrew};
+use fd_table::{Fds, TableCall};
+use plan_runs::at_once::{Start, history_of_four};
+use plan_runs::plans::{
     Row, close_file, fault_page, get_file, int_close_file, int_get_file, int_open_file, map_page,
     open_file, plan_with, populate_pages, signal_task,
 };
-use cpu_task::{Gate, ParkCrew};
-use fd_table::{Fds, TableCall};
-use guarded::{Mutex, RwSem, SleepLock};
+use sleep_lock::{Mutex, RwSem, SleepLock};
 use std::alloc::{AllocError, Global};
 use std::sync::Wait;
 use std::sync::atomic::{AtomicBool, AtomicU64, Ordering};

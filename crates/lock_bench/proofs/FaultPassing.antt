@@ -19,7 +19,7 @@ use Rattle.seq_fault.specs.declared.site.SeqPass.{SeqPass}
 use Rattle.seq_fault.specs.declared.site.SeqSite.{SeqSite}
 use Rattle.seq_fault.specs.SeqHandles.{done_in, hand_in, held_in, plan_of, view_of, SitsAt}
 use Rattle.seq_fault.specs.SeqRuled.{V}
-use Rattle.seq_fault.specs.SeqSteps.{Faults, HasNextFault, StepsOn}
+use Rattle.seq_fault.specs.SeqSteps.{Faults, HasNextFault, OnlySteps}
 use Rattle.seq_fault.specs.SeqWriting.{HasNextChange, Writes}
 use Rattle.lock_bench.specs.FaultPasses.{IsAtCall, IsIdle}
 use Rattle.lock_bench.specs.FaultPlans.{HasFaults, MapsArea, fault_words, map_words}
@@ -64,7 +64,7 @@ module _ {O C : Type 0} (site : SeqSite O C) where
     changes = refl;
   }
 
-  pub faulted : (old new : P) (t call : ℕ) (reply : Reply) → IsAtCall site t call old → SitsAt site new → ((v : V) × StepsOn (view_of old) v × Faults (plan_of site) (ticked (ticked v)) reply (view_of new)) → IsAtCall site t (call + 1) new
+  pub faulted : (old new : P) (t call : ℕ) (reply : Reply) → IsAtCall site t call old → SitsAt site new → ((v : V) × OnlySteps (view_of old) v × Faults (plan_of site) (ticked (ticked v)) reply (view_of new)) → IsAtCall site t (call + 1) new
   faulted old new t call reply was own did = let on = did.1.3 in let is = did.2.is in record {
     own = own;
     numbered = own.task ∙ (ap (λ (v : V). v.hand.task) is ∙ (ap (λ (v : V). v.hand.task) on ∙ (sym was.own.task ∙ was.numbered)));

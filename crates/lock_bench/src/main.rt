@@ -18,12 +18,12 @@ mod work;
 
 use crewed::{Crewed, Mixed, Read, Write};
 use exchange::Exchanges;
-use guarded::{Mutex, RwSem};
 use lock_core::{Bare, Nest, Nothing, Site};
 use locked_faults::LockedFaults;
 use osq_nodes::Osq;
 use percpu::PercpuReaders;
 use seq_fault::SeqSpace;
+use sleep_lock::{Mutex, RwSem};
 use std::alloc::Global;
 use std::process::ExitCode;
 use std::sync::Wait;
@@ -101,21 +101,7 @@ impl Case {
 
     /// The case of a word.
     fn named(word: &str) -> Option<Case> {
-        match word {
-            "spin" => Some(Case::Spin),
-            "nested" => Some(Case::Nested),
-            "front" => Some(Case::Front),
-            "mutex" => Some(Case::Mutex),
-            "work" => Some(Case::Work),
-            "read" => Some(Case::Read),
-            "write" => Some(Case::Write),
-            "mixed" => Some(Case::Mixed),
-            "percpu" => Some(Case::Percpu),
-            "fault" => Some(Case::Fault),
-            "seq_fault" => Some(Case::SeqFault),
-            "exchange" => Some(Case::Exchange),
-            _ => None,
-        }
+        CASES.into_iter().find(|case| case.name() == word)
     }
 }
 

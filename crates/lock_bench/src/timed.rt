@@ -1,5 +1,5 @@
 //! Rounds on any of the locks, on threads.
-ghost use Rattle.std.specs.Prelude.{◌≡◌, ◌<◌, ◌≤◌, ◌*◌, ℕ, length, All, IfOk};
+ghost use Rattle.std.specs.Prelude.{◌<◌, ◌≤◌, ◌*◌, ℕ, length, All, IfOk};
 ghost use Rattle.word_bits.specs.declared.TheConstants.{MAX_TASKS};
 
 use std::alloc::{AllocError, Global};

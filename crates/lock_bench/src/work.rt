@@ -1,8 +1,8 @@
 //! Rounds on a lock with work inside and outside.
 use crate::crewed::{Crewed, Worker, Write};
 use crate::timed::Timed;
-use guarded::SleepLock;
 use lock_core::Nothing;
+use sleep_lock::SleepLock;
 use std::alloc::{AllocError, Global};
 use std::sync::Wait;
 use std::sync::atomic::{AtomicU64, Ordering};
@@ -65,12 +65,7 @@ impl<L: SleepLock<Nothing> + Drop> Timed for Guarding<L> {
         count: u32,
     ) -> Result<(Guarding<L>, Worker<L::Pass>), AllocError> {
         let (crewed, worker) = Crewed::<L, Write>::start(rt, alloc, threads, count)?;
-        let words = [
-            AtomicU64::new(0),
-            AtomicU64::new(0),
-            AtomicU64::new(0),
-            AtomicU64::new(0),
-        ];
+        let words: [AtomicU64; 4] = Default::default();
         Ok((Guarding { crewed, words }, worker))
     }
 

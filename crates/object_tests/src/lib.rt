@@ -8,6 +8,8 @@ mod search_tests;
 #[cfg(test)]
 mod space_tests;
 #[cfg(test)]
+mod spaces;
+#[cfg(test)]
 mod table_tests;
 #[cfg(test)]
 mod word_tests;

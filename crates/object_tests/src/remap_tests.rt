@@ -1,18 +1,7 @@
 //! Ranges of pages that move. The replies and the runs are known by hand.
-ghost use Rattle.std.specs.Prelude.{◌<◌};
-
+use crate::spaces::{area, map};
 use vma_map::{Areas, SpaceCall};
-use word_bits::{Area, CallWords, Errno, Object, Reply};
-
-fn area(start: u32, end: u32, prot: u8) -> Area {
-    Area { start, end, prot }
-}
-
-fn map(space: &mut Areas, start: u32, len: u32, prot: u8)
-    requires { prot < 8 }
-{
-    let _ = space.apply(SpaceCall::Map { start, len, prot });
-}
+use word_bits::{CallWords, Errno, Object, Reply};
 
 /// A space with these pages: 16 to 18 can be written, 18 to 20 only read.
 fn two_runs() -> Areas {
@@ -38,11 +27,11 @@ fn moves_a_range_of_several_areas(rt: HostRuntime) {
     assert_eq!(rt; space.remap(16, 4, 100), Ok(100));
     assert_eq!(rt; space.remap(16, 1, 5), Err(Errno::Fault));
     assert_eq!(rt; space.remap(100, 2, 101), Err(Errno::Inval));
-    let write = SpaceCall::Fault {
-        page: 102,
-        access: 2,
-    };
-    assert_eq!(rt; space.apply(write), Reply::AccErr);
+    let (page, access) = (102, 2);
+    assert_eq!(rt;
+        space.apply(SpaceCall::Fault { page, access }),
+        Reply::AccErr
+    );
     let runs = [area(100, 102, 3), area(102, 104, 1)];
     assert_eq!(rt; space.runs(), runs.as_slice());
 }
@@ -61,68 +50,35 @@ fn moves_pages_by_a_call(rt: HostRuntime) {
     let runs = [area(100, 102, 3), area(102, 104, 1)];
     assert_eq!(rt; space.runs(), runs.as_slice());
     let mut space = full();
-    let call = SpaceCall::Remap {
-        start: 0,
-        len: 1,
-        to: 1000,
-    };
-    assert_eq!(rt; space.apply(call), Reply::Refused(Errno::NoMem));
+    let (start, len, to) = (0, 1, 1000);
+    let answer = space.apply(SpaceCall::Remap { start, len, to });
+    assert_eq!(rt; answer, Reply::Refused(Errno::NoMem));
 }
 
 #[test]
 fn has_a_third_number_in_its_words(rt: HostRuntime) {
-    let words = CallWords {
-        a: 17_179_869_200,
-        b: 429_496_729_613,
-    };
-    let call = SpaceCall::Remap {
-        start: 16,
-        len: 4,
-        to: 100,
-    };
-    assert_eq!(rt; SpaceCall::call_of(words), Some(call));
-    // A map of those pages has no third number.
-    let map = CallWords {
-        a: words.a,
-        b: 0x0301,
-    };
-    assert!(rt; SpaceCall::call_of(map).is_some());
-    let map = CallWords {
-        a: words.a,
-        b: 0x0301 + (1 << 32),
-    };
-    assert_eq!(rt; SpaceCall::call_of(map), None);
+    let a = 17_179_869_200;
+    let (start, len, to, prot) = (16, 4, 100, 3);
+    for (b, wanted) in [
+        (429_496_729_613, Some(SpaceCall::Remap { start, len, to })),
+        // A map of those pages has no third number.
+        (0x0301, Some(SpaceCall::Map { start, len, prot })),
+        (0x0301 + (1 << 32), None),
+    ] {
+        assert_eq!(rt; SpaceCall::call_of(CallWords { a, b }), wanted);
+    }
 }
 
 #[test]
 fn moves_pages_up_and_down(rt: HostRuntime) {
-    for (start, len, to, runs) in [
-        (
-            17,
-            2,
-            0,
-            [
-                area(0, 1, 3),
-                area(1, 2, 1),
-                area(16, 17, 3),
-                area(19, 20, 1),
-            ],
-        ),
-        (
-            17,
-            2,
-            40,
-            [
-                area(16, 17, 3),
-                area(19, 20, 1),
-                area(40, 41, 3),
-                area(41, 42, 1),
-            ],
-        ),
+    for (to, runs) in [
+        (0, [(0, 1, 3), (1, 2, 1), (16, 17, 3), (19, 20, 1)]),
+        (40, [(16, 17, 3), (19, 20, 1), (40, 41, 3), (41, 42, 1)]),
     ] {
         let mut space = two_runs();
-        assert_eq!(rt; space.remap(start, len, to), Ok(to));
-        assert_eq!(rt; space.runs(), runs.as_slice());
+        assert_eq!(rt; space.remap(17, 2, to), Ok(to));
+        let wanted = runs.map(|(start, end, prot)| area(start, end, prot));
+        assert_eq!(rt; space.runs(), wanted.as_slice());
     }
 }
 

@@ -1,28 +1,10 @@
 //! Calls whose replies and runs are known by hand. The replies of whole scripts stand in examples/.
 ghost use Rattle.std.specs.Prelude.{◌<◌};
-ghost use Rattle.vma_map.specs.Spaces.{AreSpaceWords};
 
+use crate::spaces::{area, map, stored};
 use std::test::Fail;
 use vma_map::{Areas, SpaceCall, find};
-use word_bits::{Area, CallWords, Errno, Object, Reply};
-
-fn map(space: &mut Areas, start: u32, len: u32, prot: u8) -> Reply
-    requires { prot < 8 }
-{
-    space.apply(SpaceCall::Map { start, len, prot })
-}
-
-fn area(start: u32, end: u32, prot: u8) -> Area {
-    Area { start, end, prot }
-}
-
-fn stored(space: &Areas) -> [u64; 257]
-    ensures { AreSpaceWords result }
-{
-    let mut words = [0; 257];
-    space.store(&mut words);
-    words
-}
+use word_bits::{CallWords, Errno, Object, Reply};
 
 /// A space that has one run.
 fn one_run(start: u32, len: u32, prot: u8) -> Areas
@@ -53,29 +35,12 @@ fn each_call_answers(rt: HostRuntime) {
             },
             Reply::Good,
         ),
-        (
-            SpaceCall::Fault {
-                page: 19,
-                access: 1,
-            },
-            Reply::Good,
-        ),
-        (
-            SpaceCall::Fault {
-                page: 16,
-                access: 1,
-            },
-            Reply::AccErr,
-        ),
-        (
-            SpaceCall::Fault {
-                page: 18,
-                access: 1,
-            },
-            Reply::MapErr,
-        ),
     ] {
         assert_eq!(rt; space.apply(call), wanted);
+    }
+    for (page, wanted) in [(19, Reply::Good), (16, Reply::AccErr), (18, Reply::MapErr)] {
+        let touched = SpaceCall::Fault { page, access: 1 };
+        assert_eq!(rt; space.apply(touched), wanted);
     }
     let runs = [area(0, 4, 1), area(16, 18, 4), area(19, 22, 1)];
     assert_eq!(rt; space.runs(), runs.as_slice());
@@ -164,16 +129,12 @@ fn finds_the_run_of_a_page(rt: HostRuntime) {
 
 #[test]
 fn reads_calls(rt: HostRuntime) {
-    let mapped = SpaceCall::Map {
-        start: 16,
-        len: 4,
-        prot: 3,
-    };
+    let (start, len, prot) = (16, 4, 3);
+    let mapped = SpaceCall::Map { start, len, prot };
     let touched = SpaceCall::Fault {
         page: 17,
         access: 2,
     };
-    let (start, len, prot) = (16, 4, 3);
     for (a, b, wanted) in [
         (16 | 4 << 32, 1 | 3 << 8, Some(mapped)),
         (16 | 4 << 32, 1 | 3 << 8 | 2 << 24, Some(mapped)),

@@ -21,26 +21,19 @@ fn owner(task: Option<u32>, flags: [bool; 3]) -> Owner
 
 #[test]
 fn packs_the_words_of_the_layouts(rt: HostRuntime) {
-    let area = Area {
-        start: 16,
-        end: 20,
-        prot: 3,
-    };
-    assert_eq!(rt; area.pack(), 268_435_619);
-    let largest = Area {
-        start: 1_048_575,
-        end: 1_048_576,
-        prot: 7,
-    };
-    assert_eq!(rt; largest.pack(), 17_592_177_655_815);
-    assert_eq!(rt; Entry { task: 63, call: 5 }.pack(), 16_515_077);
-    let last = Entry { task: 399, call: 5 };
-    assert_eq!(rt; last.pack(), 104_595_461);
-    let rec = Rec {
-        k: 1,
-        reply: Reply::Num(16),
-    };
-    assert_eq!(rt; rec.pack(), 67_633_153);
+    for (start, end, prot, word) in [
+        (16, 20, 3, 268_435_619),
+        (1_048_575, 1_048_576, 7, 17_592_177_655_815),
+    ] {
+        let area = Area { start, end, prot };
+        assert_eq!(rt; area.pack(), word);
+        assert_eq!(rt; Area::unpack(word), Some(area));
+    }
+    for (task, word) in [(63, 16_515_077), (399, 104_595_461)] {
+        let entry = Entry { task, call: 5 };
+        assert_eq!(rt; entry.pack(), word);
+        assert_eq!(rt; Entry::unpack(word), Some(entry));
+    }
     for (owner, word) in [
         (owner(None, [false; 3]), 0),
         (owner(Some(1), [true, false, true]), 21),
@@ -52,53 +45,39 @@ fn packs_the_words_of_the_layouts(rt: HostRuntime) {
         assert_eq!(rt; Owner::unpack(word), Some(owner));
     }
     assert_eq!(rt; Owner::unpack(3_208), None);
-    for (reply, word) in [
-        (Reply::Good, 262_146),
-        (Reply::Refused(Errno::NoMem), 51_118_082),
-        (Reply::Refused(Errno::Fault), 59_506_690),
-        (Reply::MapErr, 1_048_578),
-        (Reply::AccErr, 1_310_722),
-        (Reply::Busy(256), 1_075_314_690),
-        (Reply::Intr, 1_835_010),
-        (Reply::Sent, 2_097_154),
+    for (k, reply, word) in [
+        (1, Reply::Num(16), 67_633_153),
+        (2, Reply::Good, 262_146),
+        (2, Reply::Refused(Errno::NoMem), 51_118_082),
+        (2, Reply::Refused(Errno::Fault), 59_506_690),
+        (2, Reply::MapErr, 1_048_578),
+        (2, Reply::AccErr, 1_310_722),
+        (2, Reply::Busy(256), 1_075_314_690),
+        (2, Reply::Intr, 1_835_010),
+        (2, Reply::Sent, 2_097_154),
     ] {
-        let rec = Rec { k: 2, reply };
+        let rec = Rec { k, reply };
         assert_eq!(rt; rec.pack(), word);
         assert_eq!(rt; Rec::unpack(word), Some(rec));
     }
-    assert_eq!(rt; Area::unpack(268_435_619), Some(area));
-    assert_eq!(rt; Area::unpack(17_592_177_655_815), Some(largest));
-    assert_eq!(rt;
-        Entry::unpack(16_515_077),
-        Some(Entry { task: 63, call: 5 })
-    );
-    assert_eq!(rt; Entry::unpack(104_595_461), Some(last));
 }
 
 #[test]
 fn packs_the_words_of_locks(rt: HostRuntime) {
-    for (spin, word) in [
-        (
-            Spin {
-                locked: true,
-                pending: true,
-                tail: Some(Tail { cpu: 2, index: 0 }),
-            },
-            6401,
-        ),
-        (
-            Spin {
-                locked: true,
-                pending: false,
-                tail: Some(Tail { cpu: 2, index: 1 }),
-            },
-            6657,
-        ),
-        (Spin::default(), 0),
+    for (locked, pending, tail, word) in [
+        (true, true, Some(Tail { cpu: 2, index: 0 }), 6401),
+        (true, false, Some(Tail { cpu: 2, index: 1 }), 6657),
+        (false, false, None, 0),
     ] {
+        let spin = Spin {
+            locked,
+            pending,
+            tail,
+        };
         assert_eq!(rt; spin.pack(), word);
         assert_eq!(rt; Spin::unpack(word), Some(spin));
     }
+    assert_eq!(rt; Spin::default().pack(), 0);
     for (count, word) in [
         (
             Count {

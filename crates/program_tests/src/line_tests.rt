@@ -1,10 +1,10 @@
 //! A command line that couldn't be read for want of memory.
+use byte_streams::{MemSink, MemSource};
 use fd_table::Fds;
-use guarded::{Mutex, RwSem};
 use mm_program::{Status, run_to_end};
+use sleep_lock::{Mutex, RwSem};
 use std::io;
 use std::test::Fail;
-use task_script::{MemSink, MemSource};
 use vma_map::Areas;
 
 #[test]

@@ -1,13 +1,13 @@
 //! Runs of the program over streams in memory.
+use byte_streams::{MemSink, MemSource};
 use cpu_task::{Crew, Gate, OpenGate, ParkCrew};
 use fd_table::Fds;
-use guarded::{Mutex, RwSem};
 use mm_program::{ScriptMachine, Status, top};
 use mm_serve::{SpaceLock, TableLock};
+use sleep_lock::{Mutex, RwSem};
 use std::alloc::{AllocError, Global};
 use std::sync::Wait;
 use std::thread::Threads;
-use task_script::{MemSink, MemSource};
 use vma_map::Areas;
 use word_bits::MAX_TASKS;
 

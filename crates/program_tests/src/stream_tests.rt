@@ -1,9 +1,9 @@
 //! Streams that fail, and the machine that is kept then.
 use crate::runs::{ORDINARY, run, run_with};
+use byte_streams::{MemSink, MemSource};
 use cpu_task::{OpenGate, ParkCrew};
 use mm_program::Status;
 use std::test::Fail;
-use task_script::{MemSink, MemSource};
 use word_bits::MAX_TASKS;
 
 #[test]

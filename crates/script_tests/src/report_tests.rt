@@ -1,16 +1,16 @@
 //! Texts and summaries of results that no run needs to have left: busy, interrupted and sent calls of
 //! several tasks among others. Texts of whole runs stand in examples/.
-ghost use Rattle.std.specs.Prelude.{◌≡◌, ◌+◌, ◌<◌, ◌≤◌, ◌++◌, [], length, slice_get, Bool, Some};
-ghost use Rattle.std.specs.Prelude.{IfOk, count_by};
+ghost use Rattle.std.specs.Prelude.{◌≡◌, ◌+◌, ◌<◌, ◌≤◌, ◌++◌, [], length, slice_get, Bool, Some, IfOk, count_by};
 ghost use Rattle.task_script.specs.Scripts.{is_on, kinds_of};
 ghost use Rattle.mm_report.specs.Results.{AreComplete, calls_on, empty_snapshot, words_of_kind};
 
+use byte_streams::MemSink;
 use fd_table::Fds;
 use mm_report::{Results, report};
 use std::alloc::{AllocError, Global};
 use std::process::Abort;
 use std::test::Fail;
-use task_script::{Line, MemSink, Script, read};
+use task_script::{Line, Script, read};
 use vma_map::Areas;
 use word_bits::{Object, Snapshot};
 

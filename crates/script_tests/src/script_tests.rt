@@ -1,10 +1,8 @@
 //! Scripts as values, sources and sinks in memory and over streams, and generated scripts.
+use byte_streams::{Failed, MemSink, MemSource, Outbox, ReadSource, Sink, Source, WriteSink, put};
 use std::io::{self, ErrorKind, Read, Write};
 use std::test::Fail;
-use task_script::{
-    Failed, Line, MemSink, MemSource, Outbox, ReadSource, Sink, Source, WriteSink, generate, put,
-    read, write,
-};
+use task_script::{Line, generate, read, write};
 
 #[test]
 fn keeps_what_it_reads(rt: HostRuntime) -> Result<(), Fail> {

@@ -1,8 +1,9 @@
 //! Scripts of both versions: their limits, the words and the text of a remap, and what is refused.
 //! Each is known by hand.
+use byte_streams::MemSink;
 use std::alloc::{AllocError, Global};
 use std::test::Fail;
-use task_script::{Line, MemSink, Reason, ScriptError, read, write};
+use task_script::{Line, Reason, ScriptError, read, write};
 
 /// A text that begins so, with so many lines `task`.
 fn with_tasks(alloc: Global, front: &[u8], tasks: u32) -> Result<Vec<u8>, AllocError> {
@@ -113,19 +114,16 @@ fn counts_tasks_and_objects_by_version(rt: HostRuntime) -> Result<(), Fail> {
         let text = with_tasks(alloc, front.as_bytes(), tasks)?;
         assert_eq!(rt; refusal(alloc, text.as_slice()), wanted, "{front}{tasks}");
     }
-    let first = with_objects(alloc, b"", 17)?;
-    assert_eq!(rt;
-        refusal(alloc, first.as_slice()),
-        refused(17, Reason::Limit)
-    );
-    let second = with_objects(alloc, b"version 2\n", 26)?;
-    assert_eq!(rt; refusal(alloc, second.as_slice()), None);
-    let six = b"version 2\ntable f0\ntable f1\ntable f2\ntable f3\ntable f4\ntable f5\n";
-    let full = with_objects(alloc, six, 26)?;
-    assert_eq!(rt; refusal(alloc, full.as_slice()), None);
-    let seven =
-        b"version 2\ntable f0\ntable f1\ntable f2\ntable f3\ntable f4\ntable f5\ntable f6\n";
-    let more = with_objects(alloc, seven, 26)?;
-    assert_eq!(rt; refusal(alloc, more.as_slice()), refused(34, Reason::Limit));
+    let six = "version 2\ntable f0\ntable f1\ntable f2\ntable f3\ntable f4\ntable f5\n";
+    let seven = "version 2\ntable f0\ntable f1\ntable f2\ntable f3\ntable f4\ntable f5\ntable f6\n";
+    for (front, spaces, wanted) in [
+        ("", 17, refused(17, Reason::Limit)),
+        ("version 2\n", 26, None),
+        (six, 26, None),
+        (seven, 26, refused(34, Reason::Limit)),
+    ] {
+        let text = with_objects(alloc, front.as_bytes(), spaces)?;
+        assert_eq!(rt; refusal(alloc, text.as_slice()), wanted, "{front}{spaces}");
+    }
     Ok(())
 }

@@ -1,3 +1,2 @@
-pub mod Nests
 pub mod TestPercpuPasses
 pub mod Ready

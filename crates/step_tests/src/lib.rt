@@ -1,5 +1,5 @@
-//! Tests of single steps on the words of locks, of their queues, and of CPUs, crews and gates; of the
-//! per-CPU semaphore; and of faults without the lock.
+//! Tests of single steps on the words of locks, of batches, CPUs, crews and gates; of the per-CPU
+//! semaphore; and of faults without the lock.
 #![tactic(auto)]
 
 #[cfg(test)]
@@ -9,13 +9,11 @@ mod count_tests;
 #[cfg(test)]
 mod course;
 #[cfg(test)]
+mod course_tests;
+#[cfg(test)]
 mod cpu_tests;
 #[cfg(test)]
 mod faults_tests;
-#[cfg(test)]
-mod leave_tests;
-#[cfg(test)]
-mod nest_tests;
 #[cfg(test)]
 mod owner_tests;
 #[cfg(test)]
@@ -27,14 +25,8 @@ mod percpu_tests;
 #[cfg(test)]
 mod percpu_thread_tests;
 #[cfg(test)]
-mod queue_tests;
-#[cfg(test)]
 mod seq_calls;
 #[cfg(test)]
 mod seq_tests;
 #[cfg(test)]
 mod site_tests;
-#[cfg(test)]
-mod spin_tests;
-#[cfg(test)]
-mod successive_leave_tests;

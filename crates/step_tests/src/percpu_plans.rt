@@ -1,5 +1,5 @@
 //! Plans of calls on a space, in which each task makes one call again and again.
-ghost use Rattle.std.specs.Prelude.{◌≡◌, ◌≢◌, ℕ, ◌+◌, ◌*◌, ◌<◌, ◌≤◌, [], IfOk, length};
+ghost use Rattle.std.specs.Prelude.{◌≡◌, ◌≢◌, ℕ, ◌+◌, ◌<◌, ◌≤◌, [], IfOk, length};
 ghost use Rattle.lock_core.specs.Plans.{calls_in};
 ghost use Rattle.lock_core.specs.Records.{row, IsPlan, IsCallOrSignal};
 ghost use Rattle.vma_map.specs.Spaces.{space};

@@ -1,5 +1,5 @@
 use Rattle.std.proofs.Common.{◌≡◌, length}
-use Rattle.call_tests.specs.CallsBetween.{AreFresh, IsFresh}
+use Rattle.plan_runs.specs.CallsBetween.{AreFresh, IsFresh}
 use Rattle.call_tests.proofs.crowd.members_of.Given as goal
 
 abbrev pub invariant-loop-task : goal.invariant-loop-task

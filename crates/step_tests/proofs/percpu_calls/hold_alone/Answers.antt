@@ -4,7 +4,7 @@ use Rattle.step_tests.proofs.percpu_calls.hold_alone.Goals as goal
 
 pub returns-clause-at : goal.returns-clause-at
 returns-clause-at g c = let at = c.requires.at in let is = c.down_write.ensures.took.2.3 in record {
-  own = c.down_write.ensures.own;
+  own = c.down_write.ensures.on.own;
   mine = c.down_write.ensures.task ∙ at.mine;
   holds = c.down_write.ensures.holds;
   unspun = ap (λ v. v.spin.frame.point) is ∙ at.unspun;

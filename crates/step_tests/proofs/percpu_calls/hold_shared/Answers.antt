@@ -4,7 +4,7 @@ use Rattle.step_tests.proofs.percpu_calls.hold_shared.Goals as goal
 
 pub returns-clause-at : goal.returns-clause-at
 returns-clause-at g c = let at = c.requires.at in let is = c.down_read.ensures.took.2.3 in record {
-  own = c.down_read.ensures.own;
+  own = c.down_read.ensures.on.own;
   mine = c.down_read.ensures.task ∙ at.mine;
   holds = c.down_read.ensures.holds;
   unspun = ap (λ v. v.spin.frame.point) is ∙ at.unspun;

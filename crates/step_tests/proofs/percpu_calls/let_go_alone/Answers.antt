@@ -6,7 +6,7 @@ use Rattle.step_tests.proofs.percpu_calls.let_go_alone.Goals as goal
 
 pub returns-clause-at : goal.returns-clause-at
 returns-clause-at g c = let at = c.requires.at in let is = c.unblock.ensures.kept in let h = c.args.pass.now.pass.seat.me.0.view.hand in let left : unheld h ≡ released h 0 = ap (unheld_by h) (sym at.own.seat.held ∙ at.holds) in record {
-  own = c.unblock.ensures.own;
+  own = c.unblock.ensures.on.own;
   mine = c.unblock.ensures.task ∙ at.mine;
   holds = c.unblock.ensures.out;
   unspun = ap (λ v. v.spin.frame.point) is ∙ at.unspun;

@@ -5,7 +5,7 @@ use Rattle.step_tests.proofs.PercpuCalls.{quiet-out}
 use Rattle.step_tests.proofs.percpu_calls.start.Goals as goal
 
 pub returns-clause-at : goal.returns-clause-at
-returns-clause-at g c = let idle = c.requires.idle in let old = idle.own.seat in let own = c.begin.ensures.own in let became = c.begin.ensures.became.4 in let bare = old.nameless (sym old.task ∙ idle.numberless) in record {
+returns-clause-at g c = let idle = c.requires.idle in let old = idle.own.seat in let own = c.begin.ensures.on.own in let became = c.begin.ensures.became.4 in let bare = old.nameless (sym old.task ∙ idle.numberless) in record {
   own = own;
   mine = own.seat.task ∙ ap (λ (x : Hand). x.task) became;
   holds = own.seat.held ∙ (ap (λ (x : Hand). x.held) became ∙ bare.0);

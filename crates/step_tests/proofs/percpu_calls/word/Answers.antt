@@ -8,8 +8,8 @@ pub word-requires-clause-held : goal.word-requires-clause-held
 word-requires-clause-held g c = let at = c.requires.at in λ out. no-shared (sym out ∙ (sym at.own.seat.held ∙ at.holds))
 
 pub returns-clause-at : goal.returns-clause-at
-returns-clause-at g c = let at = c.requires.at in let old = at.own.seat in let new = c.word.ensures.own.seat in let is = c.word.ensures.seat in record {
-  own = c.word.ensures.own;
+returns-clause-at g c = let at = c.requires.at in let old = at.own.seat in let new = c.word.ensures.on.own.seat in let is = c.word.ensures.seat in record {
+  own = c.word.ensures.on.own;
   mine = new.task ∙ (ap (λ v. v.hand.task) is ∙ (sym old.task ∙ at.mine));
   holds = new.held ∙ (ap (λ v. v.hand.held) is ∙ (sym old.held ∙ at.holds));
   unspun = ap (λ v. v.spin.frame.point) is ∙ at.unspun;

@@ -9,7 +9,7 @@ loop-number-init g c =
     let none = (g.met.L.SleepLock.stands c.args.self.now.lock c.args.worker.now.pass idle.own).nameless idle.numberless in
     let now = c.begin.ensures.became.4 in
     let takes = ap {A = Hand} (λ h. h.takes) now in record {
-      own = c.begin.ensures.own;
+      own = c.begin.ensures.on.own;
       between = begun-between (g.L.SiteLock.view c.args.worker.now.pass) (g.L.SiteLock.view c.begin.new.pass) _ now refl refl refl refl none;
       takes = omega (arith, takes);
     }

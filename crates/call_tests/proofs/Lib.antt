@@ -1,4 +1,0 @@
-mod Performing
-mod Planned
-mod Gathered
-pub mod Locked

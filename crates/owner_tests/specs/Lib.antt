@@ -1,0 +1,3 @@
+pub mod OwnerLockStanding
+pub mod OwnerLocks
+pub mod OwnerLockLaws
