@@ -1,5 +1,5 @@
-//! The CPUs that tasks run on: how long a task spins, how it sleeps and who wakes it. And the gates
-//! that tasks pass while they hold an object.
+//! The CPUs that tasks run on: how long a task spins, how it pauses and sleeps, and who wakes it. And
+//! the gates that tasks pass while they hold an object.
 //!
 //! Locks are written over the traits `Cpu`, `Crew` and `Gate`, whose contracts tell almost nothing,
 //! so that what is proved of a lock holds whatever they answer.
@@ -12,6 +12,7 @@ mod cpu;
 mod crew;
 mod gate;
 mod park;
+mod pauses;
 mod scripted;
 
 pub use context::Context;
@@ -19,4 +20,5 @@ pub use cpu::Cpu;
 pub use crew::{Crew, Turns};
 pub use gate::{Gate, HoldGate, OpenGate};
 pub use park::{ParkCpu, ParkCrew};
+pub use pauses::Pauses;
 pub use scripted::{ScriptedCpu, ScriptedCrew};

@@ -12,7 +12,7 @@ ghost use Rattle.osq_nodes.specs.OsqStated.{HasBecome, IsSpinQueue};
 use crate::pass::OsqPass;
 use crate::rule::QueueRule;
 use crate::steps;
-use crossbeam_utils::Backoff;
+use cpu_task::Pauses;
 use lock_core::{Plan, Site};
 use std::alloc::{AllocError, Global};
 use std::sync::Wait;
@@ -169,7 +169,7 @@ impl Osq {
         ensures place { MatchOption result (place_in pass.new ≡ Out)
             (λ next. (next < tasks_of self.now) × (place_in pass.new ≡ takes_at prev next)) }
     {
-        let backoff = Backoff::new();
+        let pauses = Pauses::new();
         for _ in rt.forever() {
             if steps::is_last(self, pass, task, prev) && steps::leave_tail(self, pass, task, prev) {
                 return None;
@@ -180,7 +180,7 @@ impl Osq {
                     return Some(next);
                 }
             }
-            backoff.snooze();
+            pauses.pause();
         }
         unreachable!()
     }
@@ -206,12 +206,12 @@ impl Osq {
         if self.enter(pass, task).is_none() {
             return;
         }
-        let backoff = Backoff::new();
+        let pauses = Pauses::new();
         for _ in rt.forever() {
             if steps::is_granted(self, pass, task) {
                 return;
             }
-            backoff.snooze();
+            pauses.pause();
         }
         unreachable!()
     }

@@ -4,7 +4,7 @@ ghost use Rattle.lock_core.specs.declared.view.Point.TheVariants.{Out, Taking, T
 ghost use Rattle.lock_core.specs.LockHands.{RestsAt, frame_at, depth_of};
 ghost use Rattle.lock_core.specs.Views.{SpinRests};
 ghost use Rattle.lock_core.specs.Spins.{tail_in, word_at};
-ghost use Rattle.lock_core.specs.SiteHandles.{view_of, task_in, SitsAt, SaysSame, KeepsPast, IsLatest, KeepsNest, NotesNone, IsDepthTold, IsNestTold};
+ghost use Rattle.lock_core.specs.SiteHandles.{view_of, task_in, SitsAt, SaysSame, KeepsPast, IsLatest, KeepsNest, IsNestTold};
 ghost use Rattle.qspin_word.specs.Ways.{lock_hand_to, LockGained, SpinGained};
 ghost use Rattle.qspin_word.specs.SpinWordHandles.{spin_in, point_in, lock_hand_of, FindsRival, FindsRivalSince, IsAtNone, IsSameBut, KeepsFlagsBeside, KeepsNodes, OwnsPendingAt, SpinIdles, SpinWaits};
 ghost use Rattle.qspin_queue.specs.SpinQueueHands.{lock_hand_with, node_at, as_front, learning, entered};
@@ -14,7 +14,7 @@ use crate::steps::{
     clear_locked, clear_next, exchange_last, exchange_tail, link, load_front, load_locked,
     load_next, load_successor, pass_front, retry, set_locked,
 };
-use crossbeam_utils::Backoff;
+use cpu_task::Pauses;
 use lock_core::{Pass, Site, SpinHost};
 use qspin_word::steps::{exchange_free, grab, peek, seek};
 use qspin_word::{Interrupt, PENDING, Quiet, TAIL, TAILLESS, note, take_by_pending};
@@ -77,13 +77,13 @@ fn wait_front<H: SpinHost, W: Wait, I: Interrupt<Site<H>>>(
     ensures told { IsNestTold pass.new }
     ensures nodes { KeepsNodes pass.old pass.new }
 {
-    let backoff = Backoff::new();
+    let pauses = Pauses::new();
     for _ in rt.forever() {
         if load_locked(site, pass, lock, code) == 1 {
             return;
         }
         irq.hit(rt, site, pass);
-        backoff.snooze();
+        pauses.pause();
     }
     unreachable!()
 }
@@ -107,7 +107,7 @@ fn wait_ready<H: SpinHost, W: Wait, I: Interrupt<Site<H>>>(
     ensures nodes { KeepsNodes pass.old pass.new }
     ensures free { result % 512 ≡ 0 }
 {
-    let backoff = Backoff::new();
+    let pauses = Pauses::new();
     for _ in rt.forever() {
         let seen = load_front(site, pass, lock);
         // The owner of the pending bit came first, and takes once the byte is 0: so the front waits
@@ -116,7 +116,7 @@ fn wait_ready<H: SpinHost, W: Wait, I: Interrupt<Site<H>>>(
             return seen;
         }
         irq.hit(rt, site, pass);
-        backoff.snooze();
+        pauses.pause();
     }
     unreachable!()
 }
@@ -179,14 +179,14 @@ fn wait_successor<H: SpinHost, W: Wait, I: Interrupt<Site<H>>>(
     ensures some { result ≢ 0 }
     ensures next { result < codes site.now }
 {
-    let backoff = Backoff::new();
+    let pauses = Pauses::new();
     for _ in rt.forever() {
         let next = load_successor(site, pass, lock, code);
         if next != 0 {
             return next;
         }
         irq.hit(rt, site, pass);
-        backoff.snooze();
+        pauses.pause();
     }
     unreachable!()
 }
@@ -422,13 +422,13 @@ fn wait_free<H: SpinHost, W: Wait, I: Interrupt<Site<H>>>(
     ensures nodes { KeepsNodes pass.old pass.new }
     ensures from { (lock_hand_of lock pass.new).from ≡ Trying }
 {
-    let backoff = Backoff::new();
+    let pauses = Pauses::new();
     for _ in rt.forever() {
         irq.hit(rt, site, pass);
         if grab_free(site, pass, lock) {
             return;
         }
-        backoff.snooze();
+        pauses.pause();
     }
     unreachable!()
 }

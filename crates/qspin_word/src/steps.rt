@@ -12,7 +12,7 @@ ghost use Rattle.qspin_word.specs.SpinWordHandles.{spin_in, point_in, lock_hand_
 use crate::interrupt::Interrupt;
 use crate::moves::word_step;
 use crate::{LOCKED, PENDING};
-use crossbeam_utils::Backoff;
+use cpu_task::Pauses;
 use lock_core::{Op, Pass, Site, SpinHost};
 use std::marker::Brand;
 use std::sync::Wait;
@@ -133,13 +133,13 @@ pub fn wait_unlocked<H: SpinHost, W: Wait, I: Interrupt<Site<H>>>(
         (lock_hand_to Taking (lock_hand_of lock pass.old)) }
     ensures nodes { KeepsNodes pass.old pass.new }
 {
-    let backoff = Backoff::new();
+    let pauses = Pauses::new();
     for _ in rt.forever() {
         if load_pending(site, pass, lock) % PENDING == 0 {
             return;
         }
         irq.hit(rt, site, pass);
-        backoff.snooze();
+        pauses.pause();
     }
     unreachable!()
 }
