@@ -2,7 +2,7 @@
 ghost use Rattle.std.specs.Prelude.{◌≡◌};
 ghost use Rattle.word_bits.specs.CallKinds.{kind_number};
 ghost use Rattle.word_bits.specs.Packed.{IsFound};
-ghost use Rattle.vma_map.specs.Spaces.{IsCallOf, call_in, call_of, call_with};
+ghost use Rattle.vma_map.specs.Spaces.{IsCallOf, call_in, call_of};
 
 use word_bits::{CallKind, CallWords};
 
@@ -27,30 +27,7 @@ pub enum SpaceCall {
     Remap { start: u32, len: u32, to: u32 },
 }
 
-/// The call of a kind with these numbers, protection and access. What it doesn't have must be 0.
-fn call_with(kind: CallKind, first: u32, second: u32, prot: u8, access: u8) -> Option<SpaceCall>
-    ensures { result ≡ call_with (kind_number kind) first second prot access }
-{
-    let (start, len) = (first, second);
-    let has_prot = prot < 8 && access == 0;
-    match kind {
-        CallKind::Map if has_prot => Some(SpaceCall::Map { start, len, prot }),
-        CallKind::MapAny if has_prot && second == 0 => Some(SpaceCall::MapAny { len: first, prot }),
-        CallKind::MapNew if has_prot => Some(SpaceCall::MapNew { start, len, prot }),
-        CallKind::Unmap if has_prot && prot == 0 => Some(SpaceCall::Unmap { start, len }),
-        CallKind::Protect if has_prot => Some(SpaceCall::Protect { start, len, prot }),
-        CallKind::Populate if has_prot => Some(SpaceCall::Populate { start, len, prot }),
-        CallKind::Fault if second == 0 && prot == 0 && matches!(access, 1 | 2 | 4) => Some(
-            SpaceCall::Fault {
-                page: first,
-                access,
-            },
-        ),
-        _ => None,
-    }
-}
-
-/// The call of a kind with three numbers, of which only a remap has the third.
+/// The call of a kind with three numbers, a protection and an access. What it doesn't have must be 0.
 fn call_in(
     kind: CallKind,
     first: u32,
@@ -61,14 +38,27 @@ fn call_in(
 ) -> Option<SpaceCall>
     ensures { result ≡ call_in (kind_number kind) first second third prot access }
 {
+    let (start, len) = (first, second);
+    let has_prot = prot < 8 && access == 0 && third == 0;
     match kind {
+        CallKind::Map if has_prot => Some(SpaceCall::Map { start, len, prot }),
+        CallKind::MapAny if has_prot && second == 0 => Some(SpaceCall::MapAny { len: first, prot }),
+        CallKind::MapNew if has_prot => Some(SpaceCall::MapNew { start, len, prot }),
+        CallKind::Unmap if has_prot && prot == 0 => Some(SpaceCall::Unmap { start, len }),
+        CallKind::Protect if has_prot => Some(SpaceCall::Protect { start, len, prot }),
+        CallKind::Populate if has_prot => Some(SpaceCall::Populate { start, len, prot }),
+        CallKind::Fault if second == 0 && third == 0 && prot == 0 && matches!(access, 1 | 2 | 4) =>
+            {
+                Some(SpaceCall::Fault {
+                    page: first,
+                    access,
+                })
+            }
         CallKind::Remap if prot == 0 && access == 0 => Some(SpaceCall::Remap {
-            start: first,
-            len: second,
+            start,
+            len,
             to: third,
         }),
-        CallKind::Remap => None,
-        _ if third == 0 => call_with(kind, first, second, prot, access),
         _ => None,
     }
 }
