@@ -1,10 +1,9 @@
 //! The base of every lock: a table of words under one rule, its passes, plans, records and log.
 #![tactic(auto)]
 
-mod bare;
 mod how;
 mod layout;
-mod nest;
+mod nothing;
 mod op;
 mod pass;
 mod plan;
@@ -12,13 +11,13 @@ mod rule;
 mod shadow;
 mod site;
 mod spin;
+mod tables;
 mod tally;
 pub mod view;
 
-pub use bare::{Bare, Nothing};
 pub use how::{How, Interrupted};
 pub use layout::{LENGTH_AT, LOCK_WORDS, ROW_WORDS, SPIN_LOCKS, SPIN_ROOM, SPIN_WORDS};
-pub use nest::Nest;
+pub use nothing::Nothing;
 pub use op::Op;
 pub use pass::Pass;
 pub use plan::Plan;
@@ -26,5 +25,6 @@ pub use rule::SiteRule;
 pub use shadow::Shadow;
 pub use site::Site;
 pub use spin::SpinHost;
+pub use tables::{Bare, Nest};
 pub use tally::Tally;
 pub use view::Held;

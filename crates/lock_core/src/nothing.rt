@@ -1,0 +1,66 @@
+//! The object that has no words.
+ghost use Rattle.std.specs.Prelude.{refl};
+ghost use Rattle.word_bits.specs.declared.call.CallWords.{CallWords};
+ghost use Rattle.lock_core.specs.Nothings.{nothing, few, sized, apart};
+
+use word_bits::{CallWords, Object, Reply};
+
+/// An object without words and calls.
+#[derive(Drop)]
+pub struct Nothing;
+
+impl Object for Nothing {
+    type Call = ();
+
+    const WORDS: usize = 0;
+
+    ghost WORDS = { 0 };
+
+    ghost object = { nothing };
+
+    ghost state = { λ _. tt };
+
+    fn empty() -> Nothing {
+        Nothing
+    }
+
+    fn call_of(_words: CallWords) -> Option<()> {
+        None
+    }
+
+    fn reads(_call: ()) -> bool {
+        true
+    }
+
+    fn apply(&mut self, _call: ()) -> Reply {
+        Reply::Good
+    }
+
+    fn load(_words: &[u64]) -> Option<Nothing> {
+        Some(Nothing)
+    }
+
+    fn store(&self, _out: &mut [u64]) {}
+
+    ghost few_words = { few };
+
+    ghost sized = { sized };
+
+    ghost starts = { tt };
+
+    ghost zeros = { refl };
+
+    ghost apart = { apart };
+
+    ghost called = { λ words call e. tt };
+
+    ghost signals = { λ words task is. refl };
+
+    ghost goes_on = { λ s call a b. tt };
+
+    ghost replies = { λ s call a b. tt };
+
+    ghost reading = { λ s call e. refl };
+
+    ghost refused = { λ s call errno e. refl };
+}
