@@ -38,7 +38,8 @@ pub fn has_handoff(count: u64) -> bool
     count / HANDOFF % 2 == 1
 }
 
-/// How many biases are counted: those of readers that hold, and those that are taken back later.
+/// How many biases the count has: one for each reader that holds, one for each that asks whether it
+/// may, and one that a waker may have added for the first waiter.
 pub fn readers(count: u64) -> u64
     ensures { result ≡ count % 2 ^ 63 / 256 }
 {

@@ -136,7 +136,8 @@ fn leave_first<O: Object, C: Cpu>(
 {
     unmark(site, pass, task);
     if remove_first(site, pass, task) {
-        // HANDOFF was asked for it, and nobody is left to whom the lock could be handed.
+        // Nobody waits: both flags go under the wait lock, before another can queue. HANDOFF would
+        // keep spinning writers and stealing readers out, for nobody.
         queueing::clear_flags(site, pass);
     } else {
         // A release may have woken it alone, and nobody wakes a second time: it wakes those behind

@@ -27,7 +27,7 @@ mod steal;
 /// Takes the semaphore shared by way of the wait lock, for a reader whose bias is in the count,
 /// until a signal interrupts it where it is interruptible. The kernel's
 /// `rwsem_down_read_slowpath`, in the state `TASK_INTERRUPTIBLE` or `TASK_UNINTERRUPTIBLE`.
-pub fn read_in_line<O: Object, W: Wait, C: Cpu, K: Crew>(
+fn read_in_line<O: Object, W: Wait, C: Cpu, K: Crew>(
     site: &Site<SemRule<O>>,
     rt: &W,
     pass: &mut Pass<SemRule<O>>,
@@ -73,8 +73,9 @@ pub fn read_in_line<O: Object, W: Wait, C: Cpu, K: Crew>(
     let mut woken = Woken::Nobody;
     queue::queue(site, pass, cpu, empty, &mut woken);
     qspin_word::unlock(site, pass);
-    // Behind the release, or a woken task would wait for the wait lock. Before the reader's own
-    // sleep, or those that it has chosen would sleep on: nobody else wakes them.
+    // Behind the release, so that nobody who queues or tries waits for the wait lock while the crew
+    // wakes. Before the reader's own sleep, or those that it has chosen would sleep on: nobody else
+    // wakes them.
     wake_tasks(site, pass, crew, counts, woken.tasks());
     let Err(why) = sleep::wait(site, rt, pass, cpu, crew, counts, interruptible) else {
         return Ok(How::Slept);

@@ -26,7 +26,7 @@ fn is_left_to_waiters(count: u64) -> bool
 }
 
 /// Takes the wait lock, and wakes waiters. The kernel's `rwsem_wake` and `rwsem_downgrade_wake`.
-pub fn wake_waiters<O: Object, W: Wait, C: Crew>(
+pub(crate) fn wake_waiters<O: Object, W: Wait, C: Crew>(
     site: &Site<SemRule<O>>,
     rt: &W,
     pass: &mut Pass<SemRule<O>>,
@@ -147,8 +147,8 @@ pub fn downgrade_write<O: Object, W: Wait, C: Crew>(
     };
     let left = steps::downgrade(site, pass);
     set_hint(site, pass, reader_hint(me));
-    // Readers that queued behind the writer wait for nobody now, and no later release need come
-    // before they are let in.
+    // Readers that queued while it wrote may share the hold now, and nobody else looks at them
+    // before it ends.
     if has_waiters(left) {
         wake_waiters(site, rt, pass, crew, counts, WakeType::ReadOwned);
     }

@@ -1,5 +1,5 @@
 -- What a wake does to its pass and to the list, and whom it wakes.
-use Rattle.std.specs.Prelude.{◌≡◌, ◌≢◌, ℕ, ◌%◌, ◌≤◌, Bool, true, false, List, [], ◌∷◌, drop, if◌then◌else◌}
+use Rattle.std.specs.Prelude.{◌≡◌, ◌≢◌, ℕ, ◌%◌, ◌/◌, ◌^◌, ◌==◌, ◌≤◌, Bool, true, false, List, [], ◌∷◌, drop, if◌then◌else◌}
 use Rattle.lock_core.specs.Records.{bit}
 use Rattle.lock_core.specs.Shown.{Shown, FindsSince}
 use Rattle.lock_core.specs.declared.pass.Pass.{Pass}
@@ -20,6 +20,10 @@ use Rattle.rwsem_rule.specs.RwSems.{V, count_at, list_at, list_of, looked}
 use Rattle.rwsem_rule.specs.RwSemPlaces.{seen_of}
 use Rattle.cpu_task.specs.CpuCounting.{slept}
 use Rattle.rwsem_rule.specs.Removals.{Chose, KnowsList, StaysBeside, without_all}
+
+-- how a task that queues wakes at this count, which no writer holds: readers alone where readers hold, else whoever may go on
+abbrev pub kind_at : ℕ → WakeType
+kind_at count = if (count % 2 ^ 63 / 256) == 0 then Any else Readers
 
 -- it has no bias in the count, is about no batch, and changes no list
 pub record IsAtRest (v : V) : Type 0 where

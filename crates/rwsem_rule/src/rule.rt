@@ -1,5 +1,5 @@
 //! The rule of a semaphore's table.
-ghost use Rattle.std.specs.Prelude.{◌≡◌, refl};
+ghost use Rattle.std.specs.Prelude.{refl};
 ghost use Rattle.word_bits.specs.LockWords.{counted};
 ghost use Rattle.lock_core.specs.SpinTables.{one-some, one-eight};
 ghost use Rattle.rwsem_rule.specs.RwSems.{Kept, MayMiss, RwSemKept, RwSemMoves, any_count, bias_of, biased, count_at, grants_at, idle, list_at, list_of, marks_at, may_change, may_count, may_free, more_in, rests, saw_first, sem_of, standing, wake_of, with_list, with_sem, with_wake, sleep_vigil, wakes_at, HasChosen, after_set, after_swap};
@@ -18,9 +18,9 @@ use wait_list::ListHost;
 use wake_duty::SleepHost;
 use word_bits::{MAX_TASKS, Object};
 
-/// The rule of the table of a semaphore that guards an object of the kind `O`: a spin lock, a
-/// count, a list of waiters, which changes under the spin lock, and a mark, a grant word and a wake
-/// word for each task.
+/// The rule of the table of a semaphore that guards an object of the kind `O`. The table has a spin
+/// lock, a count, and a list of waiters, which changes under the spin lock. Each task has a mark, a
+/// grant word and a wake word there.
 pub struct SemRule<O> {
     object: PhantomData<O>,
 }

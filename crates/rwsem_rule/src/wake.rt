@@ -1,5 +1,5 @@
-//! Wakes of a semaphore's waiters, under its wait lock.
-ghost use Rattle.std.specs.Prelude.{◌≡◌, ◌<◌, ◌≤◌, ◌+◌, [], true, false, IsSome, Some, length, ◌≢◌};
+//! Wakes of a semaphore's waiters. Whom they are for is chosen under the wait lock.
+ghost use Rattle.std.specs.Prelude.{◌≡◌, ◌<◌, ◌≤◌, ◌+◌, ◌%◌, [], true, false, IsSome, Some, length, ◌≢◌};
 ghost use Rattle.lock_core.specs.SiteHandles.{IsLatest, plan_of, view_of, task_in, SitsAt, KeepsPast, SaysSame};
 ghost use Rattle.lock_core.specs.Records.{bit};
 ghost use Rattle.lock_core.specs.Views.{SpinHolds};
@@ -10,7 +10,7 @@ ghost use Rattle.wait_list.specs.Lists.{first_of};
 ghost use Rattle.rwsem_rule.specs.RwSems.{MayPick, sem_of};
 ghost use Rattle.rwsem_rule.specs.RwSemPlaces.{AreCounts, MovesOn, seen_of};
 ghost use Rattle.rwsem_rule.specs.Removals.{KnowsList, RemovesAll, StaysBeside};
-ghost use Rattle.rwsem_rule.specs.RwSemWakes.{Grants, IsAtRest, Looks, MayWake, SawWriter, SetsAll, Wakes, batch_in, readers_woken, woken_tasks, HasChosenAll};
+ghost use Rattle.rwsem_rule.specs.RwSemWakes.{Grants, kind_at, IsAtRest, Looks, MayWake, SawWriter, SetsAll, Wakes, batch_in, readers_woken, woken_tasks, HasChosenAll};
 ghost use Rattle.rwsem_wake.specs.Duties.{is_left};
 
 use crate::counts::WakeCounts;
@@ -203,7 +203,8 @@ pub fn wake_tasks<O: Object, C: Crew>(
 }
 
 /// Looks once more at the head of the list, which the pass knows. By this look it chooses the first
-/// waiter where that is a writer, unless it holds shared.
+/// waiter where that is a writer, unless it holds shared. The second load closes no race: by it
+/// alone the rule lets a pass choose, or owe nothing more.
 fn choose<O: Object>(site: &Site<SemRule<O>>, pass: &mut Pass<SemRule<O>>)
     requires own { SitsAt site.now pass.old }
     requires numbered { IsSome (task_in pass.old) }
@@ -270,6 +271,7 @@ pub fn wake<O: Object, P: Patience>(
 fn kind_for(count: u64) -> WakeType
     ensures other { result ≢ WakeType.ReadOwned }
     ensures left { is_left count ≡ true → result ≡ WakeType.Any }
+    ensures kind { result ≡ kind_at count }
 {
     if readers(count) == 0 {
         WakeType::Any
@@ -280,7 +282,7 @@ fn kind_for(count: u64) -> WakeType
 
 /// Looks under the wait lock which others may go on at this count: nobody where there is a writer,
 /// whose release looks. `woken`, which was empty, has the tasks that the caller is to wake.
-pub fn mark_others<O: Object, C: Cpu>(
+pub fn choose_others<O: Object, C: Cpu>(
     site: &Site<SemRule<O>>,
     pass: &mut Pass<SemRule<O>>,
     cpu: &mut C,
@@ -298,6 +300,8 @@ pub fn mark_others<O: Object, C: Cpu>(
     ensures beside { StaysBeside (view_of pass.old) (view_of pass.new) }
     ensures rests { IsAtRest (view_of pass.new) }
     ensures chosen { HasChosenAll (woken_tasks woken.new) (view_of pass.old) (view_of pass.new) }
+    ensures wakes { count % 2 ≡ 0 →
+        Wakes (kind_at count) (woken_tasks woken.new) pass.old pass.new }
     ensures tasks { AreTaskNumbers (plan_of site.now) (woken_tasks woken.new) }
     ensures sleeps { C.sleeps cpu.new ≡ C.sleeps cpu.old }
     ensures rescheds { C.rescheds cpu.new ≡ C.rescheds cpu.old }

@@ -229,7 +229,8 @@ pub fn clear_first<H: GrantHost>(site: &Site<H>, pass: &mut Pass<H>, task: u32)
     ensures kept { TurnsTo H.with_sem (view_of pass.old)
         (summing (sem_at H.sem (view_of pass.old))) (view_of pass.new) }
 {
-    // The mark goes before its waiter does: else the next first one would look marked.
+    // A mark that stayed would be there at the task's next wait, for which nobody asked for a
+    // handoff.
     site.step::<ClearFirst<H>>(pass, H::MARKS + LINE * task as usize, Op::Store(0));
 }
 

@@ -15,7 +15,7 @@ ghost use Rattle.rwsem_rule.specs.RwSemWakes.{woken_tasks};
 
 use cpu_task::Cpu;
 use lock_core::{Pass, Site};
-use rwsem_rule::wake::mark_others;
+use rwsem_rule::wake::choose_others;
 use rwsem_rule::{SemRule, Woken};
 use rwsem_wake::queueing;
 use rwsem_wake::steps::arm;
@@ -114,5 +114,5 @@ pub fn queue<O: Object, C: Cpu>(
     // The count that its own bias leaves says who is to be woken: the writer that the bias kept out
     // may be waiting for nobody else.
     let count = join(site, pass, empty);
-    mark_others(site, pass, cpu, count, woken);
+    choose_others(site, pass, cpu, count, woken);
 }

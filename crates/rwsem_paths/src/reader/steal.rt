@@ -111,8 +111,8 @@ pub fn wake_beside<O: Object, W: Wait, K: Crew>(
     ensures counted { AreCounts counts.new (view_of pass.new) }
     ensures dozes { dozes_of (view_of pass.new) ≡ dozes_of (view_of pass.old) }
 {
-    // Readers that wait may share the hold. The first reader alone lets them in: those that come
-    // later find them there.
+    // Readers that wait may share the hold. A later reader finds another's bias in the count:
+    // whoever has that lets them in, by this wake, or as it queues and takes its bias back.
     if readers(left) == 1 && has_waiters(left) {
         wake_waiters(site, rt, pass, crew, counts, WakeType::ReadOwned);
     }

@@ -12,7 +12,7 @@ ghost use Rattle.rwsem_paths.specs.Queued.{Becomes, IsInLine, comes, waiting};
 
 use cpu_task::{Cpu, Crew};
 use lock_core::{Pass, Site};
-use rwsem_rule::wake::{mark_others, wake_tasks};
+use rwsem_rule::wake::{choose_others, wake_tasks};
 use rwsem_rule::{SemRule, WakeCounts, Woken};
 use rwsem_wake::queueing;
 use wait_list::{Waiter, list};
@@ -35,6 +35,7 @@ fn join<O: Object>(site: &Site<SemRule<O>>, pass: &mut Pass<SemRule<O>>) -> bool
     let Some(task) = pass.task() else {
         unreachable!()
     };
+    // A release between the append and WAITERS wakes nobody: the writer's try comes behind both.
     list::append(site, pass, Waiter { task, writer: true });
     let Some(first) = list::first(site, pass) else {
         return false;
@@ -78,7 +79,7 @@ pub fn queue<O: Object, C: Cpu, K: Crew>(
     // hold of readers, and where nobody holds the first of them may take.
     let count = queueing::look_listed(site, pass);
     let mut woken = Woken::Nobody;
-    mark_others(site, pass, cpu, count, &mut woken);
+    choose_others(site, pass, cpu, count, &mut woken);
     // Before the first try, until which the writer keeps the wait lock: a failed try is followed by
     // its sleep, and nobody else wakes those that it has chosen.
     wake_tasks(site, pass, crew, counts, woken.tasks());
@@ -101,6 +102,8 @@ pub fn quit_taken<O: Object>(site: &Site<SemRule<O>>, pass: &mut Pass<SemRule<O>
     let Some(task) = pass.task() else {
         unreachable!()
     };
+    // Under the hold of the wait lock by which it took: whoever has that next finds it out of the
+    // list.
     list::remove(site, pass, task);
     if queueing::look_own(site, pass, task) != 0 {
         queueing::clear_own(site, pass, task);

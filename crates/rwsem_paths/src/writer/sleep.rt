@@ -101,8 +101,8 @@ pub fn wait<O: Object, W: Wait, C: Cpu>(
     ensures rescheds { C.rescheds cpu.new ≡ C.rescheds cpu.old }
 {
     for _ in rt.forever() {
-        // A release wakes once: a writer that finds the semaphore free must take it before it
-        // sleeps, or leaves for a signal.
+        // A release that came before WAITERS was set wakes nobody, and one behind it wakes once: so
+        // a try comes between that and each sleep.
         if attempt::try_queued(site, rt, pass, cpu) {
             return Ok(());
         }

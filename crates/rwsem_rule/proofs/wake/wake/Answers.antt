@@ -1,4 +1,4 @@
-use Rattle.std.proofs.Common.{◌∙◌, ◌++◌, [], ◌∷◌, false, None, Some, refl, ap, arith}
+use Rattle.std.proofs.Common.{◌∙◌, [], ◌∷◌, false, None, Some, refl, ap, arith}
 use Rattle.rwsem_rule.proofs.Removing.{first-reads}
 use Rattle.rwsem_rule.proofs.FirstLooks.{looked-first, not-owned, wakes-nobody, wakes-none-beside, wakes-readers, wakes-readers-none, wakes-writer}
 use Rattle.rwsem_rule.specs.RwSemWakes.{woken_tasks}

@@ -1,9 +1,8 @@
-use Rattle.std.proofs.Common.{◌∙◌, ◌++◌, sym, ap, subst, ℕ, List, [], arith}
+use Rattle.std.proofs.Common.{sym, subst, ℕ, List}
 use Rattle.std.proofs.lemmas.List.{append-nil}
-use Rattle.sem_duty.specs.declared.view.SemWake.{SemWake}
 use Rattle.rwsem_rule.specs.Removals.{Chose}
 use Rattle.rwsem_rule.proofs.Owing.{written-left}
-use Rattle.rwsem_rule.proofs.wake.mark_others.Goals as goal
+use Rattle.rwsem_rule.proofs.wake.choose_others.Goals as goal
 
 pub returns-then-has_writer-clause-chosen : goal.returns-then-has_writer-clause-chosen
 returns-then-has_writer-clause-chosen g c = let b = c.args.pass.now.seat.me.0.view.ext.wake in record {
