@@ -176,24 +176,28 @@ impl<O: Object> RwSem<O> {
     }
 
     /// A load, after which the pass knows what was so of the table at each moment so far, from the
-    /// new table on: the facts of every site, which tasks wait and as what, and that the count
-    /// states whether a task writes, which then is alone, how many tasks read and whose bias is in
-    /// it, and whether tasks wait; and what each step did: the list changes by one append or one
-    /// removal, which is the waiter's own or that of a waker whose batch goes on with it; and while
-    /// the first waiter is marked and HANDOFF is set, it alone may come to write, and a task comes
-    /// to read only by a bias whose addition saw no HANDOFF, or by a downgrade; a bias keeps the
-    /// count that its addition found. At any time a task comes to read by a step of its own pass,
-    /// or in a waker's whole batch, and reads until its own pass ends its shared hold. HANDOFF and
-    /// marks, which are the first waiter's, are set under the wait lock, by a waker or by a writer
-    /// of the list, which is then to mark; a mark is cleared by its own waiter, or by a waker whose
-    /// batch has it next. A batch is granted in the order in which it was picked. At each moment
-    /// the words of the wait lock say who has it, and each step is one of a spin lock's.
+    /// new table on, and what each step did.
     ///
-    /// Nobody is forgotten: if tasks wait and nobody writes or reads, a pass owes a wake, or a bias
+    /// - At each moment the facts of every site hold, and which tasks wait and as what is known. The
+    ///   count states whether a task writes, which then is alone. It states how many tasks read,
+    ///   whose bias is in it, and whether tasks wait. The words of the wait lock say who has it.
+    /// - At each step the list changes by one append or one removal, if at all. A removal is the
+    ///   waiter's own, or that of a waker whose batch goes on with it.
+    /// - While the first waiter is marked and HANDOFF is set, it alone may come to write. A task then
+    ///   comes to read only by a bias whose addition saw no HANDOFF, or by a downgrade.
+    /// - A bias keeps the count that its addition found.
+    /// - A task comes to read by a step of its own pass, or in a waker's whole batch. It reads until
+    ///   its own pass ends its shared hold. A batch is granted in the order in which it was picked.
+    /// - HANDOFF and marks are set under the wait lock, by a waker or by a writer of the list, which
+    ///   is then to mark. A mark is the first waiter's. It is cleared by its own waiter, or by a
+    ///   waker whose batch has it next.
+    /// - On the wait lock each step is one of a spin lock's.
+    ///
+    /// Nobody is forgotten. If tasks wait and nobody writes or reads, a pass owes a wake, or a bias
     /// keeps writers out, or the first waiter is a writer that needs no further wake. A reader that
     /// is granted while it waits needs no further wake. A task needs none if a pass has chosen it
-    /// and is to set its wake word, if that word is set, or if it tries or loads its grant word
-    /// before it sleeps. Each step says how these come and go.
+    /// and is to set its wake word, or that word is set. Nor does it if it tries or loads its grant
+    /// word before it sleeps. Each step says how these come and go.
     ///
     /// The pass itself waits for nothing, owes no wake, and has set the wake word of each task that
     /// it chose. It has set so many wake words and fallen asleep so often as it says.

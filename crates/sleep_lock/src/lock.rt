@@ -118,10 +118,10 @@ pub trait SleepLock<O: Object>: SiteLock<O> {
         ensures queue { GoesOn (spun into.old) (spun into.new) }
         ensures others_queue { GoesOn (spun other) (spun into.new) };
 
-    /// Loads, after which the pass knows what was so of the table at each moment so far, from the
-    /// new table on: the facts of every site, that the lock's word stated who held and whether
-    /// tasks waited, and that each step did to the site's words what every step does; and what
-    /// this lock tells of its own (`tells`).
+    /// Loads. Then the pass knows of each moment of the table so far, from the new one on, the
+    /// facts of every site. It knows that the lock's word stated who held and whether tasks waited.
+    /// It knows what each step did to the site's words, and what this lock tells of its own
+    /// (`tells`).
     fn recall(&self, pass: &mut Self::Pass)
         requires own { Self.sits self.now pass.old }
         ensures on { StepsOn Self.sits Self.view self.now pass.old pass.new }
@@ -144,7 +144,7 @@ pub trait SleepLock<O: Object>: SiteLock<O> {
     fn recall_queue(&self, pass: &mut Self::Pass)
         requires own { Self.sits self.now pass.old }
         ensures own { Self.sits self.now pass.new }
-        ensures goes_on { GoesOn (spun pass.old) (spun pass.new) }
+        ensures queue { GoesOn (spun pass.old) (spun pass.new) }
         ensures kept { Self.view pass.new ≡ Self.view pass.old }
         ensures told { tells_queue (Self.calls_on self.now) (Self.view pass.new) (spun pass.new) };
 

@@ -18,8 +18,8 @@ use word_bits::Object;
 
 impl<O: Object> RwSem<O> {
     /// A load, after which the pass knows of each moment of the table so far, from the new table
-    /// on, who had the wait lock, who owned its pending bit and who stood in its queue, and what
-    /// each step did to them.
+    /// on, who had the wait lock, who owned its pending bit and who stood in its queue. It knows
+    /// what each step did to them.
     pub fn recall_wait_lock(&self, pass: &mut RwPass<O>)
         requires own { SitsAt self.now pass.old }
         ensures on { StepsOn self.now pass.old pass.new }
@@ -35,14 +35,14 @@ impl<O: Object> RwSem<O> {
     }
 
     /// A load of the spin queue, after which the pass knows of each moment of that queue so far,
-    /// from the empty one on, who stood in it, and that one task at most was its front; how each
-    /// queue came of the one before; and what each step counted. The pass itself isn't in the
-    /// queue, and has entered it and been its front as often as it says.
+    /// from the empty one on, who stood in it, and that one task at most was its front. It knows
+    /// how each queue came of the one before, and what each step counted. The pass itself isn't in
+    /// the queue, and has entered it and been its front as often as it says.
     pub fn recall_spin_queue(&self, pass: &mut RwPass<O>)
         requires own { SitsAt self.now pass.old }
         ensures own { SitsAt self.now pass.new }
         ensures still { KeepsWakes pass.old pass.new }
-        ensures goes_on { SpunGoesOn pass.old pass.new }
+        ensures queue { SpunGoesOn pass.old pass.new }
         ensures kept { shown_of pass.new ≡ shown_of pass.old }
         ensures begins { BeganWith (newest_queue (length (plan_of self.now))) (spun_of pass.new) }
         ensures always { EachMoment (IsSpinQueue (length (plan_of self.now))) (spun_of pass.new) }
