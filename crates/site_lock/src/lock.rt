@@ -308,7 +308,7 @@ pub trait SiteLock<O: Object>: Sized {
     ghost puts: { (p : Self.Pass) (w : Seat Self.Rule O Self.Rule.Ext O.Call) →
         seat_of (with_seat p w) ≡ w };
 
-    // It changes nothing else of the lock's pass: put back, the pass of the site leaves all as it was.
+    // Put back as it was, the pass of the site leaves the lock's pass as it was.
     ghost whole: { (p : Self.Pass) (w : Seat Self.Rule O Self.Rule.Ext O.Call) →
         w ≡ seat_of p → with_seat p w ≡ p };
 

@@ -6,19 +6,33 @@ ghost use Rattle.word_bits.specs.CallKinds.{kind_number, kind_of_number};
 /// What a call does. Each kind has a number of its own in a call's words.
 #[derive(Clone, Copy, Debug, PartialEq, Eq)]
 pub enum CallKind {
+    /// Maps pages of a space, whatever was there.
     Map,
+    /// Maps pages of a space at the lowest start where they fit.
     MapAny,
+    /// Maps pages of a space where none of them is mapped.
     MapNew,
+    /// Unmaps pages of a space.
     Unmap,
+    /// Changes the protection of pages of a space.
     Protect,
+    /// Maps pages of a space, and counts the readable ones.
     Populate,
+    /// Touches a page of a space.
     Fault,
+    /// Opens a file at the lowest free descriptor of a table.
     Open,
+    /// Closes a descriptor of a table.
     Close,
+    /// Copies a descriptor of a table to the lowest free one.
     Dup,
+    /// Copies a descriptor of a table to a given one.
     Dup2,
+    /// Looks which file a descriptor of a table has.
     Get,
+    /// Moves pages of a space.
     Remap,
+    /// Sends a signal to a task.
     Signal,
 }
 
