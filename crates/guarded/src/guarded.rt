@@ -149,7 +149,7 @@ impl<L: SleepLock<O>, O: Served + Drop> Guarded<L, O> {
     pub fn recall_queue(&self, pass: &mut L::Pass)
         requires own { L.sits (lock_of self.now) pass.old }
         ensures own { L.sits (lock_of self.now) pass.new }
-        ensures goes_on { GoesOn (L.spun pass.old) (L.spun pass.new) }
+        ensures queue { GoesOn (L.spun pass.old) (L.spun pass.new) }
         ensures kept { L.view pass.new ≡ L.view pass.old }
         ensures told { L.tells_queue (L.calls_on (lock_of self.now)) (L.view pass.new)
             (L.spun pass.new) }

@@ -12,3 +12,4 @@ mod splicing;
 
 pub use guarded::Guarded;
 pub use served::Served;
+pub use sleep_lock::SleepLock;

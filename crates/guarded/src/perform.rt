@@ -156,20 +156,21 @@ impl<L: SleepLock<O>, O: Served + Drop> Guarded<L, O> {
     {
         match mode {
             Mode::Plain => {
-                self.wait(context, pass, cpu, reads);
+                self.wait(context.rt, pass, cpu, context.crew, reads);
                 Ok(())
             }
-            Mode::Int => self.wait_int(context, pass, cpu, reads),
+            Mode::Int => self.wait_int(context.rt, pass, cpu, context.crew, reads),
             Mode::Try => self.try_once(context.rt, pass, reads),
         }
     }
 
     /// Waits for the lock.
-    fn wait<W: Wait, C: Crew, G>(
+    fn wait<W: Wait, C: Crew>(
         &self,
-        context: Context<'_, W, C, G>,
+        rt: &W,
         pass: &mut L::Pass,
         cpu: &mut C::C,
+        crew: &C,
         reads: bool,
     )
         requires own { L.sits (lock_of self.now) pass.old }
@@ -182,7 +183,6 @@ impl<L: SleepLock<O>, O: Served + Drop> Guarded<L, O> {
             (L.view pass.old).tally.interrupted }
         ensures line { KeepsPlace L.kind reads L.word_at (L.view pass.old) (L.view pass.new) }
     {
-        let Context { rt, crew, .. } = context;
         if reads {
             self.lock.shared(rt, pass, cpu, crew);
         } else {
@@ -191,11 +191,12 @@ impl<L: SleepLock<O>, O: Served + Drop> Guarded<L, O> {
     }
 
     /// Waits for the lock until a signal interrupts it.
-    fn wait_int<W: Wait, C: Crew, G>(
+    fn wait_int<W: Wait, C: Crew>(
         &self,
-        context: Context<'_, W, C, G>,
+        rt: &W,
         pass: &mut L::Pass,
         cpu: &mut C::C,
+        crew: &C,
         reads: bool,
     ) -> Result<(), Reply>
         requires own { L.sits (lock_of self.now) pass.old }
@@ -213,7 +214,6 @@ impl<L: SleepLock<O>, O: Served + Drop> Guarded<L, O> {
         ensures stood { IfErr result (λ _.
             KeepsPlace L.kind false L.word_at (L.view pass.old) (L.view pass.new)) }
     {
-        let Context { rt, crew, .. } = context;
         let got = if reads {
             self.lock.shared_int(rt, pass, cpu, crew)
         } else {

@@ -5,14 +5,15 @@ ghost use Rattle.mm_serve.specs.MachineCopying.{IsCopied, IsToCopy, KnowPasts};
 ghost use Rattle.mm_serve.specs.Workers.{EachOf};
 
 use crate::shared_object::SharedObject;
-use cpu_task::{Context, Crew};
+use cpu_task::Crew;
 use mm_report::Results;
 use std::sync::Wait;
 
 /// Copies the history of each object.
-pub(crate) fn snapshot_all<S: SharedObject, W: Wait, C: Crew, G>(
-    context: Context<'_, W, C, G>,
+pub(crate) fn snapshot_all<S: SharedObject, W: Wait, C: Crew>(
+    rt: &W,
     cpu: &mut C::C,
+    crew: &C,
     sites: &[S],
     gathered: &mut Vec<S::Pass>,
     results: &mut Results,
@@ -31,9 +32,10 @@ pub(crate) fn snapshot_all<S: SharedObject, W: Wait, C: Crew, G>(
 {
     for object in 0..sites.len() {
         sites[object].snapshot(
-            context,
+            rt,
             &mut gathered[object],
             cpu,
+            crew,
             results.snapshot_mut(object),
         );
     }

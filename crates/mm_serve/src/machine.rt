@@ -107,7 +107,7 @@ where
     ///
     /// Where a thread can't be made, its task is done by another task's thread after that one's
     /// own, so tasks that wait for each other can then wait for good.
-    pub fn run<R: Threads + Wait + Sync, G: Gate + Sync>(&mut self, context: Context<'_, R, C, G>)
+    pub fn run<R: Threads + Wait + Sync, G: Gate + Sync>(&mut self, rt: &R, crew: &C, gate: &G)
         requires { IsFresh S.idle S.hand S.is_space S.calls_on self.old }
         ensures ran { HasRun S.idle S.hand S.past S.is_space S.calls_on self.old self.new }
         ensures legal { (script : Listing) → IsMachineOf S.is_space S.calls_on script self.old →
@@ -119,7 +119,7 @@ where
         let none = Vec::new(*self.workers.allocator());
         let workers = mem::replace(&mut self.workers, none);
         run(
-            context,
+            Context { rt, crew, gate },
             self.sites.as_slice(),
             &mut self.gathered,
             workers,

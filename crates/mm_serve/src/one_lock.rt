@@ -104,11 +104,12 @@ pub(crate) fn end<O: Served + Drop, L: SleepLock<O>>(
 }
 
 /// Copies one thread's history.
-pub(crate) fn snapshot<O: Served + Drop, L: SleepLock<O>, W: Wait, C: Crew, G>(
+pub(crate) fn snapshot<O: Served + Drop, L: SleepLock<O>, W: Wait, C: Crew>(
     guarded: &Guarded<L, O>,
-    context: Context<'_, W, C, G>,
+    rt: &W,
     pass: &mut L::Pass,
     cpu: &mut C::C,
+    crew: &C,
     out: &mut Snapshot,
 )
     requires own { L.sits (lock_of guarded.now) pass.old }
@@ -125,7 +126,6 @@ pub(crate) fn snapshot<O: Served + Drop, L: SleepLock<O>, W: Wait, C: Crew, G>(
     ensures held { WasHeldWith out.new (L.view pass.new).hand.records (L.view pass.new).past }
     ensures queue { GoesOn (L.spun pass.old) (L.spun pass.new) }
 {
-    let Context { rt, crew, .. } = context;
     guarded.begin(rt, pass, 0);
     guarded.snapshot(rt, pass, cpu, crew, out);
     guarded.end(pass);

@@ -69,6 +69,6 @@ where
         sites.now gathered.new.items }
 {
     serve_and_gather(context, sites, gathered, workers);
-    snapshot_all(context, cpu, sites, gathered, results);
+    snapshot_all(context.rt, cpu, context.crew, sites, gathered, results);
     recall_all(sites, gathered);
 }

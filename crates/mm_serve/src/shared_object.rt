@@ -110,11 +110,12 @@ pub trait SharedObject: Sized {
         ensures others_queue { GoesOn (spun other) (spun into.new) };
 
     /// Copies what there is when all tasks have done their calls: one thread's history.
-    fn snapshot<W: Wait, C: Crew, G>(
+    fn snapshot<W: Wait, C: Crew>(
         &self,
-        context: Context<'_, W, C, G>,
+        rt: &W,
         pass: &mut Self::Pass,
         cpu: &mut C::C,
+        crew: &C,
         out: &mut Snapshot,
     )
         requires own { idle self.now pass.old }

@@ -165,19 +165,20 @@ impl<A: SpaceLock, T: TableLock> SharedObject for SpaceOrTable<Guarded<A, Areas>
         }
     }
 
-    fn snapshot<W: Wait, C: Crew, G>(
+    fn snapshot<W: Wait, C: Crew>(
         &self,
-        context: Context<'_, W, C, G>,
+        rt: &W,
         pass: &mut SpaceOrTablePass<A::Pass, T::Pass>,
         cpu: &mut C::C,
+        crew: &C,
         out: &mut Snapshot,
     ) {
         match (self, pass) {
             (SpaceOrTable::Space(site), SpaceOrTablePass::OfSpace(pass)) => {
-                one_lock::snapshot(site, context, pass, cpu, out)
+                one_lock::snapshot(site, rt, pass, cpu, crew, out)
             }
             (SpaceOrTable::Table(site), SpaceOrTablePass::OfTable(pass)) => {
-                one_lock::snapshot(site, context, pass, cpu, out)
+                one_lock::snapshot(site, rt, pass, cpu, crew, out)
             }
             _ => unreachable!(),
         }

@@ -18,8 +18,8 @@ returns-clause-goes_on g c = elim c.match-self.branch [
 
 pub returns-clause-queue : goal.returns-clause-queue
 returns-clause-queue g c = elim c.match-self.branch [
-  | in-Space-OfSpace w ↦ rw (w.in-Space-OfSpace.is-1, w.pass-is) (λ p t. w.recall_queue.ensures.goes_on p (w.recall.ensures.queue p t))
-  | in-Table-OfTable w ↦ rw (w.in-Table-OfTable.is-1, w.pass-is) (λ p t. w.recall_queue-in-Table-OfTable.ensures.goes_on p (w.recall-in-Table-OfTable.ensures.queue p t))
+  | in-Space-OfSpace w ↦ rw (w.in-Space-OfSpace.is-1, w.pass-is) (λ p t. w.recall_queue.ensures.queue p (w.recall.ensures.queue p t))
+  | in-Table-OfTable w ↦ rw (w.in-Table-OfTable.is-1, w.pass-is) (λ p t. w.recall_queue-in-Table-OfTable.ensures.queue p (w.recall-in-Table-OfTable.ensures.queue p t))
 ]
 
 pub returns-clause-past : goal.returns-clause-past
