@@ -14,6 +14,7 @@ mod verb;
 mod version;
 mod writer;
 
+pub use byte_streams::{Failed, MemSink, MemSource, ReadSource, Sink, Source, WriteSink};
 pub use generator::generate;
 pub use laws::padding_is_passed_over;
 pub use reader::{ScriptError, read};
