@@ -2,6 +2,7 @@
 //! of its own, and writes for each object one history with every reply and the state that it leaves.
 #![tactic(auto)]
 
+mod host;
 mod input;
 mod objects;
 mod options;

@@ -9,6 +9,7 @@ ghost use Rattle.mm_program.specs.Answers.{AnswersTo, CompletesTo, NoService, Sa
 ghost use Rattle.sleep_lock.specs.LockMembers.{members};
 ghost use Rattle.mm_program.specs.ProgramKept.{HasServed};
 
+use crate::host::Host;
 use crate::input::{InputError, read_all};
 use crate::objects::ScriptMachine;
 use crate::options::{Options, OptionsError, asks_help};
@@ -101,13 +102,11 @@ fn answer<
     C: Crew + Sync,
     G: Gate + Sync,
 >(
-    rt: &R,
-    alloc: Global,
+    host: Host<'_, R, G>,
     input: &[u8],
     options: &Options,
     sink: &mut K,
     crew: &mut C,
-    gate: &G,
     kept: &mut Option<ScriptMachine<A, T, C>>,
 ) -> Status
 where
@@ -127,8 +126,8 @@ where
         (request_of options.now.summary (script_of input.now)) result }
     ensures faults { K.faults sink.new ≡ write_faults result (K.faults sink.old) }
 {
-    match read(alloc, input) {
-        Ok(script) => run_on_threads(rt, alloc, &script, options, sink, crew, gate, kept),
+    match read(host.alloc, input) {
+        Ok(script) => run_on_threads(host, &script, options, sink, crew, kept),
         Err(ScriptError::Refused { line, reason }) => refuse(line, reason, sink),
         Err(ScriptError::Memory) => Status::NoMemory,
     }
@@ -143,13 +142,11 @@ fn answer_generated<
     C: Crew + Sync,
     G: Gate + Sync,
 >(
-    rt: &R,
-    alloc: Global,
+    host: Host<'_, R, G>,
     number: u32,
     options: &Options,
     sink: &mut K,
     crew: &mut C,
-    gate: &G,
     kept: &mut Option<ScriptMachine<A, T, C>>,
 ) -> Status
 where
@@ -169,8 +166,8 @@ where
         (accepted options.now.summary (generated number)) result }
     ensures faults { K.faults sink.new ≡ write_faults result (K.faults sink.old) }
 {
-    match generate(alloc, number) {
-        Ok(script) => run_on_threads(rt, alloc, &script, options, sink, crew, gate, kept),
+    match generate(host.alloc, number) {
+        Ok(script) => run_on_threads(host, &script, options, sink, crew, kept),
         Err(AllocError) => Status::NoMemory,
     }
 }
@@ -185,13 +182,11 @@ fn answer_input<
     C: Crew + Sync,
     G: Gate + Sync,
 >(
-    rt: &R,
-    alloc: Global,
+    host: Host<'_, R, G>,
     options: &Options,
     source: &mut S,
     sink: &mut K,
     crew: &mut C,
-    gate: &G,
     kept: &mut Option<ScriptMachine<A, T, C>>,
 ) -> Status
 where
@@ -217,8 +212,8 @@ where
     ensures one_end { S.ended source.new ≤ S.ended source.old + 1 }
     ensures whole { result ≡ Status.Done → IsAtEnd (S.left source.new) }
 {
-    match read_all(alloc, source) {
-        Ok(input) => answer(rt, alloc, input.as_slice(), options, sink, crew, gate, kept),
+    match read_all(host.alloc, source) {
+        Ok(input) => answer(host, input.as_slice(), options, sink, crew, kept),
         Err(InputError::Memory) => Status::NoMemory,
         Err(InputError::Failed) => Status::ReadFault,
     }
@@ -291,8 +286,9 @@ where
         Err(OptionsError::Misused) => return usage(sink),
         Err(OptionsError::Memory) => return Status::NoMemory,
     };
+    let host = Host { rt, alloc, gate };
     match options.generate {
-        Some(number) => answer_generated(rt, alloc, number, &options, sink, crew, gate, kept),
-        None => answer_input(rt, alloc, &options, source, sink, crew, gate, kept),
+        Some(number) => answer_generated(host, number, &options, sink, crew, kept),
+        None => answer_input(host, &options, source, sink, crew, kept),
     }
 }

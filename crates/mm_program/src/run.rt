@@ -48,59 +48,6 @@ fn words(alloc: Global, line: io::Result<env::Args>) -> io::Result<Vec<String>>
     }
 }
 
-/// Runs the program with the threads of the host, spaces under locks of one kind and tables under
-/// locks of another, and no gate that holds tasks up.
-fn run_under<
-    A: SpaceLock + Drop + Sync,
-    T: TableLock + Drop + Sync,
-    R: Threads + Wait + Sync,
-    S: Source,
-    K: Sink,
->(
-    rt: &R,
-    alloc: Global,
-    words: &[String],
-    source: &mut S,
-    sink: &mut K,
-    crew: &mut ParkCrew,
-    kept: &mut Option<ScriptMachine<A, T, ParkCrew>>,
-) -> Status
-where
-    A::Pass: Send,
-    T::Pass: Send,
-    A::Site: Sync,
-    T::Site: Sync,
-    A::Rule: Sync,
-    T::Rule: Sync,
-    requires none { kept.old ≡ None }
-    requires places { length crew.old ≡ MAX_TASKS }
-    ensures answer { AnswersTo S.left S.faults K.faults K.written source.old source.new
-        sink.old sink.new
-        (HasServed
-        (members A.calls_on A.view A.sits A.spun A.kind A.word_at A.opened A.waits)
-        (members T.calls_on T.view T.sits T.spun T.kind T.word_at T.opened T.waits))
-        kept.new
-        (request (asks_help words.now) (said_by words.now)) result }
-    ensures helps { asks_help words.now ≡ true → result ≢ Status.NoMemory }
-    ensures complete { CompletesTo S.left S.faults K.faults K.written source.old source.new
-        sink.old sink.new
-        (HasServed
-        (members A.calls_on A.view A.sits A.spun A.kind A.word_at A.opened A.waits)
-        (members T.calls_on T.view T.sits T.spun T.kind T.word_at T.opened T.waits))
-        kept.new
-        (said_by words.now) result }
-    ensures read_faults { S.faults source.new ≡ read_faults result (S.faults source.old) }
-    ensures write_faults { K.faults sink.new ≡ write_faults result (K.faults sink.old) }
-    ensures taken { TakesAtMost 1048577 (S.left source.old) (S.left source.new) }
-    ensures unread { reads_input (said_by words.now) ≡ false → source.new ≡ source.old }
-    ensures few_reads { S.gave source.new ≤ S.gave source.old + 1048577 }
-    ensures one_end { S.ended source.new ≤ S.ended source.old + 1 }
-    ensures whole { result ≡ Status.Done → reads_input (said_by words.now) ≡ true →
-        IsAtEnd (S.left source.new) }
-{
-    top(rt, alloc, words, source, sink, crew, &OpenGate, kept)
-}
-
 /// The program over its streams, with spaces under locks of one kind, tables under locks of another,
 /// and scripts of at most `MAX_TASKS` tasks, whose threads park. Answers how it ended, and the exit
 /// code that says so.
@@ -156,7 +103,8 @@ where
     let Ok(mut crew) = ParkCrew::new(alloc, MAX_TASKS) else {
         return (Status::NoMemory, exit_code(Status::NoMemory));
     };
-    let status = run_under(rt, alloc, words.as_slice(), source, sink, &mut crew, kept);
+    let words = words.as_slice();
+    let status = top(rt, alloc, words, source, sink, &mut crew, &OpenGate, kept);
     (status, exit_code(status))
 }
 

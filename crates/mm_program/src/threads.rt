@@ -5,14 +5,14 @@ ghost use Rattle.sleep_lock.specs.LockMembers.{members};
 ghost use Rattle.mm_program.specs.ProgramKept.{HasServed};
 ghost use Rattle.mm_program.specs.Requests.{accepted};
 
+use crate::host::Host;
 use crate::objects::ScriptMachine;
 use crate::options::Options;
 use crate::status::Status;
 use byte_streams::Sink;
-use cpu_task::{Context, Crew, Gate, Turns};
+use cpu_task::{Crew, Gate, Turns};
 use mm_report::report;
 use mm_serve::{Machine, SpaceLock, TableLock};
-use std::alloc::Global;
 use std::sync::Wait;
 use std::thread::Threads;
 use task_script::Script;
@@ -39,13 +39,11 @@ pub(crate) fn run_on_threads<
     C: Crew + Sync,
     G: Gate + Sync,
 >(
-    rt: &R,
-    alloc: Global,
+    host: Host<'_, R, G>,
     script: &Script,
     options: &Options,
     sink: &mut K,
     crew: &mut C,
-    gate: &G,
     kept: &mut Option<ScriptMachine<A, T, C>>,
 ) -> Status
 where
@@ -65,10 +63,11 @@ where
         (accepted options.now.summary script.now) result }
     ensures faults { K.faults sink.new ≡ write_faults result (K.faults sink.old) }
 {
+    let Host { rt, alloc, gate } = host;
     let Ok(mut machine) = Machine::open(alloc, script, crew, turns_of(options)) else {
         return Status::NoMemory;
     };
-    machine.run(Context { rt, crew, gate });
+    machine.run(rt, crew, gate);
     let written = report(script, machine.results(), options.summary, sink);
     *kept = Some(machine);
     match written {

@@ -16,7 +16,7 @@ returns-in-Err-Refused-clause-says g c =
     let refusal : Refusal = record { line = c.in-Err-Refused.line; reason = c.in-Err-Refused.reason } in
     said (HasServed (members g.A.SiteLock.calls_on g.A.SiteLock.view g.A.SiteLock.sits g.A.SleepLock.spun g.A.SleepLock.kind g.A.SleepLock.word_at g.A.SleepLock.opened g.A.SleepLock.waits) (members g.T.SiteLock.calls_on g.T.SiteLock.view g.T.SiteLock.sits g.T.SleepLock.spun g.T.SleepLock.kind g.T.SleepLock.word_at g.T.SleepLock.opened g.T.SleepLock.waits)) c.args.kept.now (refused refusal) (request_of c.args.options.now.summary (script_of c.args.input.now)) _ _ _ _ c.refuse.result
     (ap (request_of c.args.options.now.summary) (refused_by (script_of c.args.input.now) c.in-Err-Refused.field-0 c.in-Err-Refused.line c.in-Err-Refused.reason c.in-Err-Refused.field-0-is c.in-Err-Refused.ensures.reads))
-    (said_unkept (HasServed (members g.A.SiteLock.calls_on g.A.SiteLock.view g.A.SiteLock.sits g.A.SleepLock.spun g.A.SleepLock.kind g.A.SleepLock.word_at g.A.SleepLock.opened g.A.SleepLock.waits) (members g.T.SiteLock.calls_on g.T.SiteLock.view g.T.SiteLock.sits g.T.SleepLock.spun g.T.SleepLock.kind g.T.SleepLock.word_at g.T.SleepLock.opened g.T.SleepLock.waits)) c.args.kept.now (refused refusal) ⊥ _ _ _ c.refuse.result c.requires (rw c.in-Err-Refused.field-0-is at c.refuse.ensures.says))
+    (said_unkept (HasServed (members g.A.SiteLock.calls_on g.A.SiteLock.view g.A.SiteLock.sits g.A.SleepLock.spun g.A.SleepLock.kind g.A.SleepLock.word_at g.A.SleepLock.opened g.A.SleepLock.waits) (members g.T.SiteLock.calls_on g.T.SiteLock.view g.T.SiteLock.sits g.T.SleepLock.spun g.T.SleepLock.kind g.T.SleepLock.word_at g.T.SleepLock.opened g.T.SleepLock.waits)) c.args.kept.now (refused refusal) ⊥ _ _ _ c.refuse.result c.requires c.refuse.ensures.says)
 
 pub returns-in-Err-Memory-clause-says : goal.returns-in-Err-Memory-clause-says
 returns-in-Err-Memory-clause-says g c = said_no_memory (HasServed (members g.A.SiteLock.calls_on g.A.SiteLock.view g.A.SiteLock.sits g.A.SleepLock.spun g.A.SleepLock.kind g.A.SleepLock.word_at g.A.SleepLock.opened g.A.SleepLock.waits) (members g.T.SiteLock.calls_on g.T.SiteLock.view g.T.SiteLock.sits g.T.SleepLock.spun g.T.SleepLock.kind g.T.SleepLock.word_at g.T.SleepLock.opened g.T.SleepLock.waits)) c.args.kept.now (request_of c.args.options.now.summary (script_of c.args.input.now)) _ _ (g.K.Sink.written c.args.sink.now) c.requires
