@@ -64,46 +64,21 @@ enum Case {
     Exchange,
 }
 
-/// All cases.
-const CASES: [Case; 12] = [
-    Case::Spin,
-    Case::Nested,
-    Case::Front,
-    Case::Mutex,
-    Case::Work,
-    Case::Read,
-    Case::Write,
-    Case::Mixed,
-    Case::Percpu,
-    Case::Fault,
-    Case::SeqFault,
-    Case::Exchange,
+/// The cases, each behind its word.
+const CASES: [(&str, Case); 12] = [
+    ("spin", Case::Spin),
+    ("nested", Case::Nested),
+    ("front", Case::Front),
+    ("mutex", Case::Mutex),
+    ("work", Case::Work),
+    ("read", Case::Read),
+    ("write", Case::Write),
+    ("mixed", Case::Mixed),
+    ("percpu", Case::Percpu),
+    ("fault", Case::Fault),
+    ("seq_fault", Case::SeqFault),
+    ("exchange", Case::Exchange),
 ];
-
-impl Case {
-    /// The word of the case.
-    fn name(self) -> &'static str {
-        match self {
-            Case::Spin => "spin",
-            Case::Nested => "nested",
-            Case::Front => "front",
-            Case::Mutex => "mutex",
-            Case::Work => "work",
-            Case::Read => "read",
-            Case::Write => "write",
-            Case::Mixed => "mixed",
-            Case::Percpu => "percpu",
-            Case::Fault => "fault",
-            Case::SeqFault => "seq_fault",
-            Case::Exchange => "exchange",
-        }
-    }
-
-    /// The case of a word.
-    fn named(word: &str) -> Option<Case> {
-        CASES.into_iter().find(|case| case.name() == word)
-    }
-}
 
 /// Each of so many threads makes so many rounds. How long the threads took.
 fn measure<R: Threads + Wait + Sync + Clock>(
@@ -131,14 +106,15 @@ fn measure<R: Threads + Wait + Sync + Clock>(
     }
 }
 
-/// What the words ask for.
-fn asked(words: &[String]) -> Option<(Case, u32, u32)> {
+/// What the words ask for: a case behind its word, threads and rounds.
+fn asked(words: &[String]) -> Option<((&'static str, Case), u32, u32)> {
     let [case, threads, rounds] = words else {
         return None;
     };
     let threads = threads.parse().ok()?;
     let rounds = rounds.parse().ok()?;
-    Some((Case::named(case)?, threads, rounds))
+    let case = CASES.into_iter().find(|(name, _)| *name == case.as_str())?;
+    Some((case, threads, rounds))
 }
 
 /// What main does, over the runtime twice: as what prints, and as what starts threads.
@@ -148,13 +124,13 @@ fn run<R: Threads + Wait + Sync + Clock>(rt: &HostRuntime, crew: &R) -> io::Resu
         words.push(word)?;
     }
     if words.is_empty() {
-        for case in CASES {
+        for (name, case) in CASES {
             measure(crew, rt.alloc(), case, 2, 100)?;
-            println!(rt; "{} 2 100", case.name())?;
+            println!(rt; "{name} 2 100")?;
         }
         return Ok(ExitCode::SUCCESS);
     }
-    let Some((case, threads, rounds)) = asked(words.as_slice()) else {
+    let Some(((name, case), threads, rounds)) = asked(words.as_slice()) else {
         println!(rt;
             "usage: lock_bench [CASE THREADS ROUNDS], the case one of spin, nested, front, mutex, \
              work, read, write, mixed, percpu, fault, seq_fault, exchange"
@@ -168,8 +144,7 @@ fn run<R: Threads + Wait + Sync + Clock>(rt: &HostRuntime, crew: &R) -> io::Resu
     let spent = measure(crew, rt.alloc(), case, threads, rounds)?.as_nanos();
     let made = u128::from(threads) * u128::from(rounds);
     println!(rt;
-        "{} {threads} {rounds}: {} ns a round, {} ns on its thread",
-        case.name(),
+        "{name} {threads} {rounds}: {} ns a round, {} ns on its thread",
         spent / made.max(1),
         spent / u128::from(rounds.max(1))
     )?;
