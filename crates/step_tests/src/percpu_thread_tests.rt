@@ -37,10 +37,7 @@ struct Runner {
 
 /// Where the area of this word ends. It is 0 if the word is that of none.
 fn end_of(word: u64) -> u32 {
-    match Area::unpack(word) {
-        Some(area) => area.end,
-        None => 0,
-    }
+    Area::unpack(word).map_or(0, |area| area.end)
 }
 
 /// Reads once. Answers whether the state is the one after the calls that the log had, each of which
