@@ -13,23 +13,23 @@ use Rattle.word_bits.specs.Calls.{mode_of, signal_of}
 use Rattle.word_bits.specs.Objects.{Obj, IsObjectReply}
 use Rattle.word_bits.specs.Histories.{Plan, logs, changes, state_after}
 use Rattle.word_bits.specs.Legal.{IsRecord, IsUnheldReply, is_intr, seen_after}
-use Rattle.lock_core.specs.declared.tally.Tally.{Tally}
-use Rattle.lock_core.specs.declared.view.Hand.{Hand}
-use Rattle.lock_core.specs.declared.view.Held.{Held}
-use Rattle.lock_core.specs.declared.view.Held.TheVariants.{No}
-use Rattle.lock_core.specs.declared.view.Stage.{Stage}
-use Rattle.lock_core.specs.declared.view.Stage.TheVariants.{Logged}
+use Rattle.lock_views.specs.declared.tally.Tally.{Tally}
+use Rattle.lock_views.specs.declared.view.Hand.{Hand}
+use Rattle.lock_views.specs.declared.view.Held.{Held}
+use Rattle.lock_views.specs.declared.view.Held.TheVariants.{No}
+use Rattle.lock_views.specs.declared.view.Stage.{Stage}
+use Rattle.lock_views.specs.declared.view.Stage.TheVariants.{Logged}
 use Rattle.lock_core.specs.Records.{is_sent, row}
-use Rattle.lock_core.specs.Tallies.{raised}
+use Rattle.lock_views.specs.Tallies.{raised}
 use Rattle.lock_core.specs.Views.{recorded, committed, noted, next_entry, OwesNoSignal, Unsent}
 use Rattle.lock_core.specs.SitePasses.{IsReading, MayNote}
 use Rattle.lock_core.proofs.RowLaws.{get-last}
 use Rattle.lock_core.proofs.RecordLaws.{object-logs, changes-is}
 use Rattle.lock_core.proofs.Replies.{settled-object}
 use Rattle.guarded.proofs.Passing.{beside-trans}
-use Rattle.lock_core.specs.declared.view.Line.{Line}
-use Rattle.lock_core.specs.declared.view.Moment.{Moment}
-use Rattle.lock_core.specs.declared.how.Interrupted.{Interrupted}
+use Rattle.lock_views.specs.declared.view.Line.{Line}
+use Rattle.lock_views.specs.declared.view.Moment.{Moment}
+use Rattle.lock_views.specs.declared.how.Interrupted.{Interrupted}
 use Rattle.lock_core.specs.Pasts.{FoundAtStep}
 use Rattle.lock_core.specs.Kinds.{Kind, shares, unavailable, wakes_shared}
 use Rattle.lock_core.specs.Shown.{Shown, NoCountFalls, AllButHand, LeavesHold, PastGoesOn, IsNextCall}

@@ -6,7 +6,7 @@ use Rattle.word_bits.specs.declared.reply.Reply.{Reply}
 use Rattle.word_bits.specs.Objects.{Obj, IsObjectReply}
 use Rattle.word_bits.specs.Histories.{Plan, state_after}
 use Rattle.word_bits.proofs.States.{IsLawful, state_is_state}
-use Rattle.lock_core.specs.declared.view.Hand.{Hand}
+use Rattle.lock_views.specs.declared.view.Hand.{Hand}
 use Rattle.lock_core.specs.Views.{committed, next_entry}
 use Rattle.lock_core.proofs.RecordLaws.{state-snoc}
 use Rattle.lock_core.specs.SitePasses.{IsChange}

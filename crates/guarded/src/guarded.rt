@@ -1,6 +1,6 @@
 //! An object under its lock.
 ghost use Rattle.std.specs.Prelude.{◌≡◌, ◌<◌, [], ◌∷◌, length, None, Some, IsSome, IfOk};
-ghost use Rattle.lock_core.specs.declared.view.Held.TheVariants.{No};
+ghost use Rattle.lock_views.specs.declared.view.Held.TheVariants.{No};
 ghost use Rattle.lock_core.specs.Records.{row, IsPlan};
 ghost use Rattle.lock_core.specs.Views.{gave_up, gathered};
 ghost use Rattle.lock_core.specs.SitePasses.{Numbered};

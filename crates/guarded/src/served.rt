@@ -1,7 +1,7 @@
 //! The objects that tasks are served.
 ghost use Rattle.std.specs.Prelude.{◌≡◌, ◌≢◌, ◌⊎◌, Bool, true, false};
 ghost use Rattle.word_bits.specs.PageMaps.{PageMap, IsPageMap};
-ghost use Rattle.lock_core.specs.declared.view.Held.TheVariants.{No, Alone};
+ghost use Rattle.lock_views.specs.declared.view.Held.TheVariants.{No, Alone};
 ghost use Rattle.lock_core.specs.Shown.{StepsOn};
 ghost use Rattle.lock_core.specs.Locking.{Looks, IsStored};
 ghost use Rattle.vma_map.specs.Spaces.{IsAccess, access_reply, stores};

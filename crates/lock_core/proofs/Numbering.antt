@@ -9,8 +9,8 @@ use Rattle.word_bits.specs.LockWords.{Unavailable}
 use Rattle.word_bits.specs.Objects.{Obj}
 use Rattle.word_bits.specs.Histories.{Plan, logs}
 use Rattle.word_bits.specs.Legal.{seen_after}
-use Rattle.lock_core.specs.declared.view.Hand.{Hand}
-use Rattle.lock_core.specs.declared.view.View.{View}
+use Rattle.lock_views.specs.declared.view.Hand.{Hand}
+use Rattle.lock_views.specs.declared.view.View.{View}
 use Rattle.lock_core.specs.Layout.{SiteWords, lay}
 use Rattle.lock_core.specs.Plans.{calls_in}
 use Rattle.lock_core.specs.Records.{row, AreNext, seen_by}
@@ -19,8 +19,8 @@ use Rattle.lock_core.specs.Sites.{SiteKept, SiteStep}
 use Rattle.lock_core.specs.Moves.{KeepsHold}
 use Rattle.atomic_table.specs.Table.{Me}
 use Rattle.atomic_table.specs.Seated.{TableId}
-use Rattle.lock_core.specs.declared.view.Seen.{Seen}
-use Rattle.lock_core.specs.declared.view.Held.{Held}
+use Rattle.lock_views.specs.declared.view.Seen.{Seen}
+use Rattle.lock_views.specs.declared.view.Held.{Held}
 use Rattle.lock_core.specs.declared.pass.Face.{Face}
 use Rattle.lock_core.specs.SitePasses.{Sits, Numbered}
 use Rattle.lock_core.specs.Regions.{part-at}

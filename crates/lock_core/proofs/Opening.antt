@@ -7,7 +7,7 @@ use Rattle.word_bits.specs.declared.rec.Rec.{Rec}
 use Rattle.word_bits.specs.LockWords.{Unavailable}
 use Rattle.word_bits.specs.Objects.{Obj}
 use Rattle.word_bits.specs.Histories.{Plan, Records}
-use Rattle.lock_core.specs.declared.view.Hand.{Hand}
+use Rattle.lock_views.specs.declared.view.Hand.{Hand}
 use Rattle.lock_core.specs.declared.layout.TheConstants.{LOCK_WORDS, ENTRIES_AT, LENGTH_AT, LINES_AT}
 use Rattle.lock_core.specs.Plans.{calls_in, task_words, call_words, IsSmall}
 use Rattle.lock_core.specs.Layout.{SiteWords, part, calls_at, width, lay, fresh, site}

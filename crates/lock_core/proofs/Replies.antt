@@ -12,7 +12,7 @@ use Rattle.word_bits.specs.RecWord.{value_of}
 use Rattle.word_bits.specs.Objects.{Obj, IsObjectReply}
 use Rattle.word_bits.specs.Histories.{Plan, state_after}
 use Rattle.word_bits.proofs.States.{state_is_state}
-use Rattle.lock_core.specs.declared.view.Hand.{Hand}
+use Rattle.lock_views.specs.declared.view.Hand.{Hand}
 use Rattle.lock_core.specs.SitePasses.{Accounts}
 use Rattle.lock_core.specs.Records.{row}
 use Rattle.lock_core.specs.Sites.{HasSent}

@@ -11,9 +11,9 @@ use Rattle.word_bits.specs.RecWord.{rec_word}
 use Rattle.word_bits.specs.LockWords.{Unavailable}
 use Rattle.word_bits.specs.Objects.{Obj}
 use Rattle.word_bits.specs.Histories.{Plan, state_after}
-use Rattle.lock_core.specs.declared.view.Hand.{Hand}
-use Rattle.lock_core.specs.declared.view.Held.TheVariants.{No, Alone}
-use Rattle.lock_core.specs.declared.view.Stage.TheVariants.{Rest, Entered}
+use Rattle.lock_views.specs.declared.view.Hand.{Hand}
+use Rattle.lock_views.specs.declared.view.Held.TheVariants.{No, Alone}
+use Rattle.lock_views.specs.declared.view.Stage.TheVariants.{Rest, Entered}
 use Rattle.lock_core.specs.Plans.{calls_in, start}
 use Rattle.lock_core.specs.Layout.{SiteWords, lay, recs_at}
 use Rattle.lock_core.specs.Records.{row}

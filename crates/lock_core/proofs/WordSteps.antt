@@ -16,12 +16,12 @@ use Rattle.word_bits.specs.LockWords.{Unavailable}
 use Rattle.word_bits.specs.Objects.{Obj}
 use Rattle.word_bits.specs.Histories.{Plan, Records, state_after, logs}
 use Rattle.word_bits.specs.Legal.{IsRecord, seen_after, is_intr}
-use Rattle.lock_core.specs.declared.view.Hand.{Hand}
-use Rattle.lock_core.specs.declared.view.Told.{Told}
-use Rattle.lock_core.specs.declared.view.Held.{Held}
-use Rattle.lock_core.specs.declared.view.Held.TheVariants.{No, Alone}
-use Rattle.lock_core.specs.declared.view.Stage.{Stage}
-use Rattle.lock_core.specs.declared.view.Stage.TheVariants.{Rest, Entered, Logged}
+use Rattle.lock_views.specs.declared.view.Hand.{Hand}
+use Rattle.lock_views.specs.declared.view.Told.{Told}
+use Rattle.lock_views.specs.declared.view.Held.{Held}
+use Rattle.lock_views.specs.declared.view.Held.TheVariants.{No, Alone}
+use Rattle.lock_views.specs.declared.view.Stage.{Stage}
+use Rattle.lock_views.specs.declared.view.Stage.TheVariants.{Rest, Entered, Logged}
 use Rattle.lock_core.specs.Plans.{appended, calls_in, start}
 use Rattle.lock_core.specs.Layout.{SiteWords}
 use Rattle.lock_core.specs.Records.{row, sends, intrs, seen_by, AreNext, IsLoggedAt}

@@ -1,4 +1,3 @@
-pub mod Ops
 pub mod Plans
 pub mod Layout
 pub mod Stores
@@ -28,7 +27,6 @@ pub mod Nestings
 pub mod SiteStated
 pub mod SpinStated
 pub mod Kinds
-pub mod Tallies
 pub mod Shown
 pub mod Locking
 pub mod Locked

@@ -4,11 +4,11 @@ use mathlib.Core.Option.{some}
 use lib.ListN.{get_elem?}
 use Rattle.word_bits.specs.Objects.{Obj}
 use Rattle.word_bits.specs.Histories.{Plan}
-use Rattle.lock_core.specs.declared.view.Hand.{Hand}
-use Rattle.lock_core.specs.declared.view.SpinHand.{SpinHand}
-use Rattle.lock_core.specs.declared.view.Held.{Held}
-use Rattle.lock_core.specs.declared.view.Held.TheVariants.{No, Shared, Alone}
-use Rattle.lock_core.specs.declared.view.Moment.{Moment}
+use Rattle.lock_views.specs.declared.view.Hand.{Hand}
+use Rattle.lock_views.specs.declared.view.SpinHand.{SpinHand}
+use Rattle.lock_views.specs.declared.view.Held.{Held}
+use Rattle.lock_views.specs.declared.view.Held.TheVariants.{No, Shared, Alone}
+use Rattle.lock_views.specs.declared.view.Moment.{Moment}
 use Rattle.lock_core.specs.Layout.{site}
 use Rattle.lock_core.specs.ViewParts.{Each}
 use Rattle.lock_core.specs.Pasts.{ChangesOneWord}

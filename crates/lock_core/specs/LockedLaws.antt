@@ -5,10 +5,10 @@ use lib.ListN.{get_elem?}
 use Rattle.std.proofs.lemmas.List.{length-map}
 use Rattle.atomic_table.proofs.Lists.{at_map}
 use Rattle.word_bits.specs.Histories.{Plan}
-use Rattle.lock_core.specs.declared.view.Moment.{Moment}
-use Rattle.lock_core.specs.declared.view.View.{View}
-use Rattle.lock_core.specs.declared.view.Hand.{Hand}
-use Rattle.lock_core.specs.declared.view.Held.TheVariants.{No, Shared, Alone}
+use Rattle.lock_views.specs.declared.view.Moment.{Moment}
+use Rattle.lock_views.specs.declared.view.View.{View}
+use Rattle.lock_views.specs.declared.view.Hand.{Hand}
+use Rattle.lock_views.specs.declared.view.Held.TheVariants.{No, Shared, Alone}
 use Rattle.lock_core.specs.ViewParts.{at_unmap}
 use Rattle.lock_core.specs.Moves.{IsTakenIn}
 use Rattle.lock_core.specs.Views.{hand_of, spin_of, spent, split_off, held_weight}

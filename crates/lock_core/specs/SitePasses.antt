@@ -14,15 +14,15 @@ use Rattle.word_bits.specs.Histories.{Plan, state_after, logs}
 use Rattle.word_bits.specs.Legal.{IsRecord, seen_after}
 use Rattle.atomic_table.specs.Table.{Me}
 use Rattle.atomic_table.specs.Seated.{TableId}
-use Rattle.lock_core.specs.declared.view.Seen.{Seen}
-use Rattle.lock_core.specs.declared.view.Saw.{Saw}
-use Rattle.lock_core.specs.declared.view.Heard.{Heard}
-use Rattle.lock_core.specs.declared.view.View.{View}
-use Rattle.lock_core.specs.declared.how.Interrupted.{Interrupted}
+use Rattle.lock_views.specs.declared.view.Seen.{Seen}
+use Rattle.lock_views.specs.declared.view.Saw.{Saw}
+use Rattle.lock_views.specs.declared.view.Heard.{Heard}
+use Rattle.lock_views.specs.declared.view.View.{View}
+use Rattle.lock_views.specs.declared.how.Interrupted.{Interrupted}
 use Rattle.lock_core.specs.declared.pass.Face.{Face}
-use Rattle.lock_core.specs.declared.view.Hand.{Hand}
-use Rattle.lock_core.specs.declared.view.Held.TheVariants.{No, Alone}
-use Rattle.lock_core.specs.declared.view.Stage.TheVariants.{Rest, Logged}
+use Rattle.lock_views.specs.declared.view.Hand.{Hand}
+use Rattle.lock_views.specs.declared.view.Held.TheVariants.{No, Alone}
+use Rattle.lock_views.specs.declared.view.Stage.TheVariants.{Rest, Logged}
 use Rattle.lock_core.specs.declared.layout.TheConstants.{ENTRIES_AT, LINES_AT}
 use Rattle.word_bits.specs.EntryWord.{entry_word}
 use Rattle.lock_core.specs.Sites.{SawSince, WasInterrupted, consumed_at}

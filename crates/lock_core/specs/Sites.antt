@@ -11,12 +11,12 @@ use Rattle.word_bits.specs.EntryWord.{entry_word}
 use Rattle.word_bits.specs.LockWords.{Unavailable}
 use Rattle.word_bits.specs.Objects.{Obj}
 use Rattle.word_bits.specs.Histories.{Plan, Records, state_after}
-use Rattle.lock_core.specs.declared.view.Hand.{Hand}
-use Rattle.lock_core.specs.declared.view.Heard.{Heard}
-use Rattle.lock_core.specs.declared.view.Told.{Told}
-use Rattle.lock_core.specs.declared.view.Saw.{Saw}
-use Rattle.lock_core.specs.declared.view.Held.TheVariants.{No, Alone}
-use Rattle.lock_core.specs.declared.view.Stage.TheVariants.{Entered, Logged}
+use Rattle.lock_views.specs.declared.view.Hand.{Hand}
+use Rattle.lock_views.specs.declared.view.Heard.{Heard}
+use Rattle.lock_views.specs.declared.view.Told.{Told}
+use Rattle.lock_views.specs.declared.view.Saw.{Saw}
+use Rattle.lock_views.specs.declared.view.Held.TheVariants.{No, Alone}
+use Rattle.lock_views.specs.declared.view.Stage.TheVariants.{Entered, Logged}
 use Rattle.lock_core.specs.declared.layout.TheConstants.{LOCK_WORDS, LINES_AT}
 use Rattle.lock_core.specs.Plans.{IsSmall, calls_in, call_words, start}
 use Rattle.lock_core.specs.Layout.{SiteWords, site_width}

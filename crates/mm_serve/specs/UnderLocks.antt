@@ -1,8 +1,8 @@
 -- Spaces under locks of one kind and tables under locks of another: what is known of an object and of its pass, by what the trait of locks tells of the two kinds.
 use Rattle.word_bits.specs.Histories.{Plan}
 use Rattle.std.specs.Prelude.{ℕ, List}
-use Rattle.lock_core.specs.declared.view.Hand.{Hand}
-use Rattle.lock_core.specs.declared.view.Moment.{Moment}
+use Rattle.lock_views.specs.declared.view.Hand.{Hand}
+use Rattle.lock_views.specs.declared.view.Moment.{Moment}
 use Rattle.vma_map.specs.Spaces.{space}
 use Rattle.fd_table.specs.Tables.{table}
 use Rattle.guarded.specs.declared.guarded.Guarded.{Guarded}

@@ -3,7 +3,7 @@ ghost use Rattle.std.specs.Prelude.{◌≡◌, List, refl};
 ghost use Rattle.word_bits.specs.Histories.{Plan};
 ghost use Rattle.vma_map.specs.Spaces.{space};
 ghost use Rattle.fd_table.specs.Tables.{table};
-ghost use Rattle.lock_core.specs.declared.view.Moment.{Moment};
+ghost use Rattle.lock_views.specs.declared.view.Moment.{Moment};
 ghost use Rattle.lock_core.specs.Kinds.{mutex, semaphore};
 ghost use Rattle.lock_core.specs.Shown.{Shown};
 ghost use Rattle.sleep_lock.specs.MutexLocks.{KnowsMutex};

@@ -7,8 +7,8 @@ use Rattle.word_bits.specs.OwnerWord.{task_code}
 use Rattle.word_bits.specs.LockWords.{owned}
 use Rattle.word_bits.specs.Objects.{Obj}
 use Rattle.word_bits.specs.Histories.{Plan}
-use Rattle.lock_core.specs.declared.view.Hand.{Hand}
-use Rattle.lock_core.specs.declared.view.Held.TheVariants.{No}
+use Rattle.lock_views.specs.declared.view.Hand.{Hand}
+use Rattle.lock_views.specs.declared.view.Held.TheVariants.{No}
 use Rattle.lock_core.specs.Layout.{site}
 use Rattle.lock_core.specs.Locked.{HasPass, IsWaitLockFree}
 use Rattle.lock_core.specs.SpinFrames.{when}
@@ -17,7 +17,7 @@ use Rattle.lock_core.specs.Totals.{total, total-at, total-two}
 use Rattle.lock_core.specs.ViewParts.{Each, at_unmap}
 use Rattle.lock_core.specs.Records.{bit}
 use Rattle.lock_core.specs.Views.{hand_of, spin_of, held_weight, held_of, is_number}
-use Rattle.lock_core.specs.declared.view.Marks.{Marks}
+use Rattle.lock_views.specs.declared.view.Marks.{Marks}
 use Rattle.lock_core.specs.Pasts.{instant, marks_of, moment}
 use Rattle.lock_core.proofs.HandLaws.{false-or-true, held-none, number-or-not, not-both}
 use Rattle.lock_core.proofs.Stating.{kept-states}

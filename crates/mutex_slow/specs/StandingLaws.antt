@@ -3,7 +3,7 @@ use Rattle.std.proofs.Common.{◌≡◌, ◌≢◌, ℕ, zero, suc, ◌+◌, ◌
 use mathlib.Core.Logic.{dite}
 use native.Mathlib.Decide.{ℕ_discrete}
 use Rattle.word_bits.specs.declared.TheConstants.{MAX_TASKS}
-use Rattle.lock_core.specs.declared.view.Held.TheVariants.{No, Alone}
+use Rattle.lock_views.specs.declared.view.Held.TheVariants.{No, Alone}
 use Rattle.lock_core.specs.Records.{bit}
 use Rattle.lock_core.specs.Spins.{holds_in}
 use Rattle.lock_core.proofs.HandLaws.{false-or-true}

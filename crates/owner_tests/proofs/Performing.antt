@@ -7,12 +7,12 @@ use Rattle.word_bits.specs.LockWords.{Unavailable, owned}
 use Rattle.word_bits.specs.Objects.{Obj, IsObjectReply}
 use Rattle.word_bits.specs.Histories.{Plan, state_after}
 use Rattle.word_bits.proofs.States.{IsLawful, state_is_state}
-use Rattle.lock_core.specs.declared.view.Hand.{Hand}
+use Rattle.lock_views.specs.declared.view.Hand.{Hand}
 use Rattle.word_bits.specs.declared.call.CallWords.{CallWords}
 use Rattle.word_bits.specs.declared.call.Mode.TheVariants.{Int, Try}
 use Rattle.word_bits.specs.Calls.{mode_of}
-use Rattle.lock_core.specs.declared.view.View.{View}
-use Rattle.lock_core.specs.declared.view.Held.TheVariants.{No}
+use Rattle.lock_views.specs.declared.view.View.{View}
+use Rattle.lock_views.specs.declared.view.Held.TheVariants.{No}
 use Rattle.std.specs.Option.{option_map_or}
 use Rattle.lock_core.specs.declared.pass.Face.{Face}
 use Rattle.lock_core.specs.declared.pass.Pass.{Pass}
@@ -21,7 +21,7 @@ use Rattle.lock_core.specs.SiteHandles.{hand_in, SitsAt, SaysSame}
 use Rattle.lock_core.specs.Records.{row}
 use Rattle.lock_core.specs.Views.{consuming, next_entry}
 use Rattle.lock_core.specs.Shown.{IsNextCall}
-use Rattle.lock_core.specs.declared.how.Interrupted.{Interrupted}
+use Rattle.lock_views.specs.declared.how.Interrupted.{Interrupted}
 use Rattle.lock_core.specs.SitePasses.{Consumes, IsBusy, IsInterrupted, IsReading, MayNote}
 use Rattle.lock_core.proofs.HandLaws.{not-both}
 use Rattle.mutex_word.specs.Holders.{MissesOwner}

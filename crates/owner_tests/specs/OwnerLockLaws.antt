@@ -4,7 +4,7 @@ use Rattle.word_bits.specs.Objects.{Obj}
 use Rattle.lock_core.specs.declared.pass.Pass.{Pass}
 use Rattle.lock_core.specs.SiteHandles as inner
 use Rattle.lock_core.specs.Shown.{Stands, no_line}
-use Rattle.lock_core.specs.Tallies.{no_tally}
+use Rattle.lock_views.specs.Tallies.{no_tally}
 use Rattle.lock_core.specs.Views.{Beside, SpinRests}
 use Rattle.mutex_word.specs.declared.rule.OwnerRule.{OwnerRule}
 use Rattle.mutex_word.specs.declared.site.OwnerPass.{OwnerPass}

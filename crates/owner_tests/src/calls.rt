@@ -1,6 +1,6 @@
 //! What a task does with its next call, on a site with an owner word.
 ghost use Rattle.std.specs.Prelude.{◌≡◌, ◌≢◌, length, true, false, IfSome, IsSome, Some, None};
-ghost use Rattle.lock_core.specs.declared.view.Held.TheVariants.{No, Alone};
+ghost use Rattle.lock_views.specs.declared.view.Held.TheVariants.{No, Alone};
 ghost use Rattle.lock_core.specs.Shown.{IsNextCall};
 ghost use Rattle.lock_core.specs.Locking.{IsStored};
 ghost use Rattle.mutex_word.specs.OwnerHandles.{plan_of, hand_in, task_in, held_in, SitsAt};

@@ -1,6 +1,6 @@
 //! Passes that do all calls of their tasks, on threads.
 ghost use Rattle.std.specs.Prelude.{◌≡◌, ◌+◌, ◌<◌, ◌≤◌, false, length, IsSome};
-ghost use Rattle.lock_core.specs.declared.view.Held.TheVariants.{No};
+ghost use Rattle.lock_views.specs.declared.view.Held.TheVariants.{No};
 ghost use Rattle.mutex_word.specs.OwnerHandles.{plan_of, hand_in, held_in, task_in, SitsAt};
 ghost use Rattle.owner_tests.specs.OwnerLockStanding.{Idles, OwesNothing, SameSpin};
 

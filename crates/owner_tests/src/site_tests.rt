@@ -1,6 +1,6 @@
 //! Sites with an owner word over address spaces.
 ghost use Rattle.std.specs.Prelude.{◌≡◌, ◌≢◌, ◌<◌, length};
-ghost use Rattle.lock_core.specs.declared.view.Held.TheVariants.{No};
+ghost use Rattle.lock_views.specs.declared.view.Held.TheVariants.{No};
 ghost use Rattle.mutex_word.specs.OwnerHandles.{plan_of, hand_in, held_in, SitsAt};
 ghost use Rattle.owner_tests.specs.OwnerLockStanding.{SaysSame};
 

@@ -12,14 +12,14 @@ use Rattle.word_bits.specs.OwnerWord.{task_code}
 use Rattle.word_bits.specs.Objects.{Obj}
 use Rattle.word_bits.specs.Histories.{Plan}
 use Rattle.lock_core.specs.declared.layout.TheConstants.{LOCK_WORDS}
-use Rattle.lock_core.specs.declared.op.Op.{Op}
-use Rattle.lock_core.specs.declared.op.Op.TheVariants.{Load, Store, Add, Sub, Exchange}
-use Rattle.lock_core.specs.declared.view.Hand.{Hand}
-use Rattle.lock_core.specs.declared.view.Held.{Held}
-use Rattle.lock_core.specs.declared.view.Held.TheVariants.{No, Shared, Alone}
-use Rattle.lock_core.specs.declared.view.Stage.TheVariants.{Rest}
+use Rattle.lock_views.specs.declared.op.Op.{Op}
+use Rattle.lock_views.specs.declared.op.Op.TheVariants.{Load, Store, Add, Sub, Exchange}
+use Rattle.lock_views.specs.declared.view.Hand.{Hand}
+use Rattle.lock_views.specs.declared.view.Held.{Held}
+use Rattle.lock_views.specs.declared.view.Held.TheVariants.{No, Shared, Alone}
+use Rattle.lock_views.specs.declared.view.Stage.TheVariants.{Rest}
 use Rattle.lock_core.specs.Layout.{site}
-use Rattle.lock_core.specs.Ops.{word_after}
+use Rattle.lock_views.specs.Ops.{word_after}
 use Rattle.lock_core.specs.Views.{hand_of, held_of, alone_of, named_of, is_number, ticked, took, held_weight, alone_weight}
 use Rattle.lock_core.specs.Holding.{Learns, released}
 use Rattle.lock_core.specs.Totals.{total, total-at, total-two}

@@ -4,7 +4,7 @@ use Rattle.word_bits.specs.declared.rec.Rec.{Rec}
 use Rattle.word_bits.specs.LockWords.{Unavailable}
 use Rattle.word_bits.specs.Objects.{Obj}
 use Rattle.word_bits.specs.Histories.{Plan, Records}
-use Rattle.lock_core.specs.declared.view.Hand.{Hand}
+use Rattle.lock_views.specs.declared.view.Hand.{Hand}
 use Rattle.lock_core.specs.Records.{row}
 use Rattle.lock_core.proofs.RowLaws.{row-outside}
 use Rattle.guarded.specs.Gathering.{HasDone, IsGathered, KeepsDone}

@@ -5,9 +5,9 @@ use mathlib.Core.List.{reverse_aux}
 use lib.ListN.{get_elem?}
 use Rattle.std.specs.Prelude.{reverse}
 use Rattle.std.proofs.lemmas.List.{reverse-reverse}
-use Rattle.lock_core.specs.declared.view.Frame.{Frame}
-use Rattle.lock_core.specs.declared.view.Point.{Point}
-use Rattle.lock_core.specs.declared.view.Point.TheVariants.{Linking, Waiting, Front, Ready, Passing}
+use Rattle.lock_views.specs.declared.view.Frame.{Frame}
+use Rattle.lock_views.specs.declared.view.Point.{Point}
+use Rattle.lock_views.specs.declared.view.Point.TheVariants.{Linking, Waiting, Front, Ready, Passing}
 use Rattle.lock_core.specs.Totals.{total}
 use Rattle.lock_core.specs.SpinFrames.{when, code_is, stands, stands_as, takes_of, pends_of, undoes_of}
 use Rattle.lock_core.specs.SpinQueues.{tail_of, tail_unit, Before, PointOk, Queued, LockKept}

@@ -4,11 +4,11 @@ use mathlib.Core.Logic.{dite}
 use native.Mathlib.Decide.{ℕ_discrete}
 use Rattle.lock_core.specs.declared.pass.Pass.{Pass}
 use Rattle.lock_core.specs.declared.pass.Nesting.{Nesting}
-use Rattle.lock_core.specs.declared.view.SpinHand.{SpinHand}
+use Rattle.lock_views.specs.declared.view.SpinHand.{SpinHand}
 use Rattle.lock_core.specs.LockHands.{frame_at, point_at, depth_of}
 use Rattle.lock_core.specs.Nestings.{is_held, waits_at, notes_held, notes_wait, SameFlags, SameFlagsBeside, TellsAt, Tells}
 use Rattle.lock_core.specs.declared.site.Site.{Site}
-use Rattle.lock_core.specs.declared.view.LockHand.{LockHand}
+use Rattle.lock_views.specs.declared.view.LockHand.{LockHand}
 use Rattle.lock_core.specs.LockHands.{RestsAt}
 use Rattle.lock_core.specs.SiteHandles.{view_of, KeepsPast, NotesLock, IsDepthTold, IsNestTold}
 use Rattle.qspin_word.specs.Ways.{LockRefused}

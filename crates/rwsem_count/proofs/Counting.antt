@@ -10,15 +10,15 @@ use Rattle.atomic_table.proofs.Lists.{at_map, set_again}
 use Rattle.word_bits.specs.LockWords.{Unavailable, IsLawfulCount}
 use Rattle.word_bits.specs.Objects.{Obj}
 use Rattle.word_bits.specs.Histories.{Plan}
-use Rattle.lock_core.specs.declared.op.Op.{Op}
-use Rattle.lock_core.specs.declared.op.Op.TheVariants.{Load, Add, Sub, Exchange}
-use Rattle.lock_core.specs.declared.view.View.{View}
-use Rattle.lock_core.specs.declared.view.Hand.{Hand}
-use Rattle.lock_core.specs.declared.view.Held.{Held}
-use Rattle.lock_core.specs.declared.view.Held.TheVariants.{No, Shared, Alone}
-use Rattle.lock_core.specs.declared.view.Stage.TheVariants.{Rest}
+use Rattle.lock_views.specs.declared.op.Op.{Op}
+use Rattle.lock_views.specs.declared.op.Op.TheVariants.{Load, Add, Sub, Exchange}
+use Rattle.lock_views.specs.declared.view.View.{View}
+use Rattle.lock_views.specs.declared.view.Hand.{Hand}
+use Rattle.lock_views.specs.declared.view.Held.{Held}
+use Rattle.lock_views.specs.declared.view.Held.TheVariants.{No, Shared, Alone}
+use Rattle.lock_views.specs.declared.view.Stage.TheVariants.{Rest}
 use Rattle.lock_core.specs.Layout.{SiteWords, site}
-use Rattle.lock_core.specs.Ops.{word_after}
+use Rattle.lock_views.specs.Ops.{word_after}
 use Rattle.lock_core.specs.Views.{hand_of, handed, ticked, took, held_of, alone_of, held_weight, alone_weight}
 use Rattle.lock_core.specs.Holding.{Learns, missed, released, downgraded}
 use Rattle.lock_core.specs.Totals.{total, total-at}

@@ -1,7 +1,7 @@
 //! Sites with a count.
 ghost use Rattle.std.specs.Prelude.{◌≡◌, ◌<◌, ◌≤◌, ◌+◌, ℕ, false, true, None, IsSome, IfOk, IfErr, [], ◌∷◌, length};
 ghost use Rattle.word_bits.specs.LockWords.{counted};
-ghost use Rattle.lock_core.specs.declared.view.Held.TheVariants.{No, Shared, Alone};
+ghost use Rattle.lock_views.specs.declared.view.Held.TheVariants.{No, Shared, Alone};
 ghost use Rattle.lock_core.specs.Holding.{downgraded, released};
 ghost use Rattle.lock_core.specs.Kinds.{semaphore, wakes_alone, wakes_shared};
 ghost use Rattle.lock_core.specs.Locking.{Downgrades, Misses, Releases, Takes};

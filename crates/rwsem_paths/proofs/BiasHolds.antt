@@ -9,15 +9,15 @@ use Rattle.atomic_table.proofs.Lists.{at_map}
 use Rattle.word_bits.specs.LockWords.{counted}
 use Rattle.word_bits.specs.Objects.{Obj}
 use Rattle.word_bits.specs.Histories.{Plan}
-use Rattle.lock_core.specs.declared.how.How.{How}
-use Rattle.lock_core.specs.declared.how.How.TheVariants.{Fast, Spun, Slept}
-use Rattle.lock_core.specs.declared.how.Interrupted.{Interrupted}
-use Rattle.lock_core.specs.declared.op.Op.TheVariants.{Load}
-use Rattle.lock_core.specs.declared.tally.Tally.{Tally}
-use Rattle.lock_core.specs.declared.view.Hand.{Hand}
-use Rattle.lock_core.specs.declared.view.Moment.{Moment}
-use Rattle.lock_core.specs.declared.view.Held.{Held}
-use Rattle.lock_core.specs.declared.view.Held.TheVariants.{No, Shared, Alone}
+use Rattle.lock_views.specs.declared.how.How.{How}
+use Rattle.lock_views.specs.declared.how.How.TheVariants.{Fast, Spun, Slept}
+use Rattle.lock_views.specs.declared.how.Interrupted.{Interrupted}
+use Rattle.lock_views.specs.declared.op.Op.TheVariants.{Load}
+use Rattle.lock_views.specs.declared.tally.Tally.{Tally}
+use Rattle.lock_views.specs.declared.view.Hand.{Hand}
+use Rattle.lock_views.specs.declared.view.Moment.{Moment}
+use Rattle.lock_views.specs.declared.view.Held.{Held}
+use Rattle.lock_views.specs.declared.view.Held.TheVariants.{No, Shared, Alone}
 use Rattle.lock_core.specs.Holding.{Learns}
 use Rattle.lock_core.specs.Kinds.{lets_in, semaphore}
 use Rattle.lock_core.specs.Layout.{site}

@@ -2,9 +2,9 @@
 use Rattle.std.proofs.Common.{◌≡◌, ◌∙◌, ℕ, suc, ◌+◌, ◌≤◌, inl, inr, ⊎_elim, Bool, true, false, refl, sym, ap, subst, arith}
 use Rattle.std.specs.Prelude.{Result, Ok, Err, IfOk, IfErr}
 use Rattle.cpu_task.specs.CpuCounting.{Dozes, DozesOnce, SleepsAtMost, SleepsInTurns, one_more, rescheds_after, slept}
-use Rattle.lock_core.specs.declared.how.How.{How}
-use Rattle.lock_core.specs.declared.how.How.TheVariants.{Fast, Spun, Slept}
-use Rattle.lock_core.specs.declared.how.Interrupted.{Interrupted}
+use Rattle.lock_views.specs.declared.how.How.{How}
+use Rattle.lock_views.specs.declared.how.How.TheVariants.{Fast, Spun, Slept}
+use Rattle.lock_views.specs.declared.how.Interrupted.{Interrupted}
 use Rattle.lock_core.specs.Shown.{Shown}
 use Rattle.rwsem_paths.specs.SleepCounting.{CountsLeaving, CountsReading, CountsWriting, SleepsBetween}
 use Rattle.rwsem_paths.specs.Stealing.{WentOn}

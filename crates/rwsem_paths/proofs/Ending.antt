@@ -1,7 +1,7 @@
 -- How a release changes the count, and whether it goes through the wait lock.
 use Rattle.std.proofs.Common.{◌≡◌, ◌∙◌, ℕ, ◌+◌, ◌<◌, ◌≤◌, List, sym, ap, subst}
-use Rattle.lock_core.specs.declared.view.Held.{Held}
-use Rattle.lock_core.specs.declared.view.Moment.{Moment}
+use Rattle.lock_views.specs.declared.view.Held.{Held}
+use Rattle.lock_views.specs.declared.view.Moment.{Moment}
 use Rattle.lock_core.specs.Pasts.{FoundAt, GoesOn, IsOwnStep}
 use Rattle.lock_core.specs.SiteRunLaws.{step-by}
 use Rattle.lock_core.specs.Shown.{LeavesHold, shown}

@@ -1,8 +1,8 @@
 -- A waiter that is interrupted leaves the list.
 use Rattle.std.proofs.Common.{◌≡◌, ◌≢◌, ◌∙◌, ℕ, ◌+◌, ◌≤◌, ◌==◌, inl, inr, Bool, true, false, List, [], ◌∷◌, ◌++◌, length, Option, Some, None, sym, refl, ap, subst, arith, eq-eqb, ne_eqb, eqb-true, if◌then◌else◌}
 use Rattle.std.proofs.lemmas.List.{append-nil}
-use Rattle.lock_core.specs.declared.view.Hand.{Hand}
-use Rattle.lock_core.specs.declared.how.Interrupted.{Interrupted}
+use Rattle.lock_views.specs.declared.view.Hand.{Hand}
+use Rattle.lock_views.specs.declared.how.Interrupted.{Interrupted}
 use Rattle.lock_core.specs.Signals.{HasHeard, HearsOfBoth}
 use Rattle.lock_core.specs.Records.{bit}
 use Rattle.lock_core.specs.Shown.{PastGoesOn, Shown}

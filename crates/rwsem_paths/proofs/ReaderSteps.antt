@@ -3,8 +3,8 @@ use Rattle.std.proofs.Common.{◌≡◌, ◌∙◌, rules, ℕ, zero, suc, ◌+�
 use Rattle.word_bits.specs.declared.TheConstants.{MAX_TASKS}
 use Rattle.word_bits.specs.Objects.{Obj}
 use Rattle.word_bits.specs.Histories.{Plan}
-use Rattle.lock_core.specs.declared.view.Hand.{Hand}
-use Rattle.lock_core.specs.declared.view.Held.TheVariants.{Shared}
+use Rattle.lock_views.specs.declared.view.Hand.{Hand}
+use Rattle.lock_views.specs.declared.view.Held.TheVariants.{Shared}
 use Rattle.lock_core.specs.Holding.{Learns}
 use Rattle.lock_core.specs.Views.{SpinHolds, took}
 use Rattle.wait_list.specs.declared.view.Change.TheVariants.{Enter}

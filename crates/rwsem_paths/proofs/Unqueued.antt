@@ -11,11 +11,11 @@ use Rattle.atomic_table.proofs.Lists.{at_map, set_again}
 use Rattle.word_bits.specs.LockWords.{IsLawfulCount, counted}
 use Rattle.word_bits.specs.Objects.{Obj}
 use Rattle.word_bits.specs.Histories.{Plan}
-use Rattle.lock_core.specs.declared.op.Op.TheVariants.{Load, Exchange}
-use Rattle.lock_core.specs.declared.view.Hand.{Hand}
-use Rattle.lock_core.specs.declared.view.Held.TheVariants.{No, Shared, Alone}
-use Rattle.lock_core.specs.declared.view.Moment.{Moment}
-use Rattle.lock_core.specs.declared.view.Seen.{Seen}
+use Rattle.lock_views.specs.declared.op.Op.TheVariants.{Load, Exchange}
+use Rattle.lock_views.specs.declared.view.Hand.{Hand}
+use Rattle.lock_views.specs.declared.view.Held.TheVariants.{No, Shared, Alone}
+use Rattle.lock_views.specs.declared.view.Moment.{Moment}
+use Rattle.lock_views.specs.declared.view.Seen.{Seen}
 use Rattle.lock_core.specs.declared.pass.Face.{Face}
 use Rattle.lock_core.specs.Holding.{Learns, missed}
 use Rattle.lock_core.specs.Layout.{site}

@@ -3,9 +3,9 @@ use Rattle.std.specs.Prelude.{◌≡◌, ℕ, ◌+◌, ◌<◌, ◌≤◌, ◌�
 use Rattle.word_bits.specs.declared.entry.Entry.{Entry}
 use Rattle.word_bits.specs.Objects.{Obj}
 use Rattle.word_bits.specs.Histories.{Plan}
-use Rattle.lock_core.specs.declared.how.How.{How}
-use Rattle.lock_core.specs.declared.how.How.TheVariants.{Fast, Spun, Slept}
-use Rattle.lock_core.specs.declared.view.Held.TheVariants.{Shared, Alone}
+use Rattle.lock_views.specs.declared.how.How.{How}
+use Rattle.lock_views.specs.declared.how.How.TheVariants.{Fast, Spun, Slept}
+use Rattle.lock_views.specs.declared.view.Held.TheVariants.{Shared, Alone}
 use Rattle.lock_core.specs.Holding.{Learns}
 use Rattle.lock_core.specs.Signals.{OnlyHeard}
 use Rattle.lock_core.specs.Views.{took}

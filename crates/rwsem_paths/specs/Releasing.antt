@@ -1,6 +1,6 @@
 -- How a call on a semaphore ends a hold, or lowers it.
 use Rattle.std.specs.Prelude.{◌≡◌, ℕ, ◌+◌, ◌<◌, ◌≤◌}
-use Rattle.lock_core.specs.declared.view.Held.{Held}
+use Rattle.lock_views.specs.declared.view.Held.{Held}
 use Rattle.lock_core.specs.Shown.{Shown, FindsAtStep, LeavesHold}
 use Rattle.rwsem_rule.specs.RwSems.{V, count_at}
 

@@ -1,10 +1,10 @@
 -- What count the step found by which a call on a semaphore came to hold.
 use Rattle.std.specs.Prelude.{◌≡◌, ℕ, ◌+◌, ◌<◌, ◌≤◌, List}
-use Rattle.lock_core.specs.declared.how.How.{How}
-use Rattle.lock_core.specs.declared.how.How.TheVariants.{Fast, Spun, Slept}
-use Rattle.lock_core.specs.declared.view.Held.{Held}
-use Rattle.lock_core.specs.declared.view.Held.TheVariants.{Shared, Alone}
-use Rattle.lock_core.specs.declared.view.Moment.{Moment}
+use Rattle.lock_views.specs.declared.how.How.{How}
+use Rattle.lock_views.specs.declared.how.How.TheVariants.{Fast, Spun, Slept}
+use Rattle.lock_views.specs.declared.view.Held.{Held}
+use Rattle.lock_views.specs.declared.view.Held.TheVariants.{Shared, Alone}
+use Rattle.lock_views.specs.declared.view.Moment.{Moment}
 use Rattle.lock_core.specs.Pasts.{FoundAt}
 use Rattle.lock_core.specs.Shown.{Shown, FindsAtStep}
 use Rattle.rwsem_count.specs.CountWordSteps.{IsLocked, IsReadFree}

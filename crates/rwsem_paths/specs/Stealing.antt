@@ -1,9 +1,9 @@
 -- How a reader comes to hold by the bias that its first addition left in the count, though tasks wait.
 use Rattle.std.specs.Prelude.{◌≡◌, ℕ, ◌+◌, ◌/◌, ◌%◌, ◌^◌, ◌<◌, ◌⊎◌}
 use Rattle.word_bits.specs.Objects.{Obj}
-use Rattle.lock_core.specs.declared.how.How.{How}
-use Rattle.lock_core.specs.declared.how.How.TheVariants.{Fast, Spun, Slept}
-use Rattle.lock_core.specs.declared.view.Held.TheVariants.{Shared}
+use Rattle.lock_views.specs.declared.how.How.{How}
+use Rattle.lock_views.specs.declared.how.How.TheVariants.{Fast, Spun, Slept}
+use Rattle.lock_views.specs.declared.view.Held.TheVariants.{Shared}
 use Rattle.lock_core.specs.Kinds.{lets_in, semaphore}
 use Rattle.lock_core.specs.SitePlays.{Sat, Turns}
 use Rattle.lock_core.specs.Shown.{LeavesHold, Shown}

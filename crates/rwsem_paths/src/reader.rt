@@ -1,7 +1,7 @@
 //! The course of a reader whose addition didn't let it in at once: it steals, or queues and sleeps.
 ghost use Rattle.std.specs.Prelude.{◌≡◌, ◌+◌, true, IfErr, IfOk, IsSome};
-ghost use Rattle.lock_core.specs.declared.how.How.TheVariants.{Spun};
-ghost use Rattle.lock_core.specs.declared.view.Held.TheVariants.{No, Shared};
+ghost use Rattle.lock_views.specs.declared.how.How.TheVariants.{Spun};
+ghost use Rattle.lock_views.specs.declared.view.Held.TheVariants.{No, Shared};
 ghost use Rattle.lock_core.specs.SiteHandles.{plan_of, view_of, task_in, held_in, SitsAt};
 ghost use Rattle.lock_core.specs.Locking.{SawPending, Takes};
 ghost use Rattle.lock_core.specs.Signals.{OnlyConsumed};

@@ -2,7 +2,7 @@
 use Rattle.std.proofs.Common.{◌≡◌, ◌≢◌, ◌∙◌, ℕ, ◌+◌, ◌/◌, ◌%◌, ◌<◌, ◌≤◌, ◌==◌, ◌||◌, Bool, true, false, List, [], ◌∷◌, ◌++◌, length, Some, refl, sym, ap, subst, arith, inl, inr}
 use Rattle.std.proofs.lemmas.List.{append-nil}
 use Rattle.word_bits.specs.declared.TheConstants.{MAX_TASKS}
-use Rattle.lock_core.specs.declared.view.Moment.{Moment}
+use Rattle.lock_views.specs.declared.view.Moment.{Moment}
 use Rattle.lock_core.specs.Pasts.{FoundAt, GoesOn, IsOwnStep}
 use Rattle.lock_core.specs.SiteRunLaws.{found-at-step}
 use Rattle.lock_core.specs.Records.{bit}

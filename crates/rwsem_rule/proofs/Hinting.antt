@@ -3,7 +3,7 @@ use Rattle.std.proofs.Common.{ℕ, refl, get_or}
 use Rattle.atomic_table.specs.Table.{Me, keeps}
 use Rattle.word_bits.specs.Objects.{Obj}
 use Rattle.word_bits.specs.Histories.{Plan}
-use Rattle.lock_core.specs.declared.op.Op.TheVariants.{Load, Store}
+use Rattle.lock_views.specs.declared.op.Op.TheVariants.{Load, Store}
 use Rattle.lock_core.specs.Moves.{Lets}
 use Rattle.lock_core.specs.SitePlays.{Turns}
 use Rattle.lock_core.specs.Views.{ticked}

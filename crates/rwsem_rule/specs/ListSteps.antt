@@ -4,7 +4,7 @@ use mathlib.Core.Option.{some}
 use mathlib.Core.Logic.{dite}
 use native.Mathlib.Decide.{ℕ_discrete}
 use lib.ListN.{get_elem?}
-use Rattle.lock_core.specs.declared.view.Held.TheVariants.{No}
+use Rattle.lock_views.specs.declared.view.Held.TheVariants.{No}
 use Rattle.lock_core.specs.Records.{bit}
 use Rattle.lock_core.specs.Totals.{total, total-at}
 use Rattle.lock_core.proofs.HandLaws.{is_number-here}

@@ -8,9 +8,9 @@ use Rattle.word_bits.specs.declared.TheConstants.{MAX_TASKS}
 use Rattle.word_bits.specs.LockWords.{IsLawfulCount, counted}
 use Rattle.word_bits.specs.Objects.{Obj}
 use Rattle.word_bits.specs.Histories.{Plan}
-use Rattle.lock_core.specs.declared.view.Hand.{Hand}
-use Rattle.lock_core.specs.declared.view.SpinHand.{SpinHand}
-use Rattle.lock_core.specs.declared.view.Held.TheVariants.{No}
+use Rattle.lock_views.specs.declared.view.Hand.{Hand}
+use Rattle.lock_views.specs.declared.view.SpinHand.{SpinHand}
+use Rattle.lock_views.specs.declared.view.Held.TheVariants.{No}
 use Rattle.lock_core.specs.declared.layout.TheConstants.{LOCK_WORDS, SPIN_WORDS}
 use Rattle.lock_core.specs.Stores.{HasWord}
 use Rattle.lock_core.specs.Layout.{SiteWords, fresh, site, lay, width}

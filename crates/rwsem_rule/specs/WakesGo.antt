@@ -1,8 +1,8 @@
 -- What a step of a semaphore's pass makes of wake words, of what the pass owes, of whom it has chosen, and of its sleep.
 use Rattle.std.specs.Prelude.{◌≡◌, ◌≢◌, ℕ, ◌+◌, ◌/◌, ◌%◌, ◌<◌, ◌≤◌, ◌⊎◌, Bool, true, false, List, [], ◌∷◌, ◌++◌, Some}
 use Rattle.word_bits.specs.declared.TheConstants.{MAX_TASKS}
-use Rattle.lock_core.specs.Tallies.{raised}
-use Rattle.lock_core.specs.declared.view.Held.TheVariants.{No, Shared}
+use Rattle.lock_views.specs.Tallies.{raised}
+use Rattle.lock_views.specs.declared.view.Held.TheVariants.{No, Shared}
 use Rattle.wait_list.specs.declared.view.Waiter.{Waiter}
 use Rattle.wait_list.specs.declared.view.Change.{Change}
 use Rattle.wait_list.specs.declared.view.Change.TheVariants.{Enter, Leave}

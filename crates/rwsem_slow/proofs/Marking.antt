@@ -1,6 +1,6 @@
 -- What the marks of a pass say of wakes.
 use Rattle.std.proofs.Common.{◌≡◌, ◌∙◌, ℕ, Bool, true, false, List, [], ◌∷◌, ◌++◌, length, get_or, refl, sym, ap, arith}
-use Rattle.lock_core.specs.declared.view.Marks.{Marks}
+use Rattle.lock_views.specs.declared.view.Marks.{Marks}
 use Rattle.lock_core.specs.Pasts.{marks_of}
 use Rattle.lock_core.specs.Records.{bit}
 use Rattle.sem_duty.specs.declared.view.SemWake.{SemWake}

@@ -7,8 +7,8 @@ use Rattle.atomic_table.proofs.Lists.{at_map}
 use Rattle.word_bits.specs.LockWords.{counted as shut}
 use Rattle.word_bits.specs.Objects.{Obj}
 use Rattle.word_bits.specs.Histories.{Plan}
-use Rattle.lock_core.specs.declared.view.Hand.{Hand}
-use Rattle.lock_core.specs.declared.view.Moment.{Moment}
+use Rattle.lock_views.specs.declared.view.Hand.{Hand}
+use Rattle.lock_views.specs.declared.view.Moment.{Moment}
 use Rattle.lock_core.specs.Layout.{site}
 use Rattle.lock_core.specs.Locked.{IsWaitLockFree}
 use Rattle.lock_core.specs.ViewParts.{Each, at_unmap}

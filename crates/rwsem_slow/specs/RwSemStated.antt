@@ -6,11 +6,11 @@ use Rattle.word_bits.specs.declared.TheConstants.{MAX_TASKS}
 use Rattle.word_bits.specs.LockWords.{counted as shut}
 use Rattle.word_bits.specs.Objects.{Obj}
 use Rattle.word_bits.specs.Histories.{Plan}
-use Rattle.lock_core.specs.declared.view.Hand.{Hand}
-use Rattle.lock_core.specs.declared.view.SpinHand.{SpinHand}
-use Rattle.lock_core.specs.declared.view.Marks.{Marks}
-use Rattle.lock_core.specs.declared.view.Moment.{Moment}
-use Rattle.lock_core.specs.declared.view.Held.TheVariants.{No}
+use Rattle.lock_views.specs.declared.view.Hand.{Hand}
+use Rattle.lock_views.specs.declared.view.SpinHand.{SpinHand}
+use Rattle.lock_views.specs.declared.view.Marks.{Marks}
+use Rattle.lock_views.specs.declared.view.Moment.{Moment}
+use Rattle.lock_views.specs.declared.view.Held.TheVariants.{No}
 use Rattle.lock_core.specs.Locked.{HasPass, IsSiteStep, IsWaitLockFree}
 use Rattle.lock_core.specs.Shown.{IsLatestStep, Shown}
 use Rattle.lock_core.specs.Spins.{holds_in}

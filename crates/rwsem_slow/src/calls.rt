@@ -1,6 +1,6 @@
 //! Semaphores, their passes, and their calls.
 ghost use Rattle.std.specs.Prelude.{◌≡◌, ◌<◌, List, [], ◌∷◌, length, Some, None, IsSome, IfOk};
-ghost use Rattle.lock_core.specs.declared.view.Held.TheVariants.{No};
+ghost use Rattle.lock_views.specs.declared.view.Held.TheVariants.{No};
 ghost use Rattle.lock_core.specs.Kinds.{semaphore, unavailable};
 ghost use Rattle.lock_core.specs.Pasts.{EachMoment, Paced, Ran, Tail};
 ghost use Rattle.lock_core.specs.Locking.{Looks, Has};

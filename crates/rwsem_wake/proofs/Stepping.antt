@@ -8,16 +8,16 @@ use Rattle.word_bits.specs.declared.TheConstants.{MAX_TASKS}
 use Rattle.word_bits.specs.LockWords.{Unavailable, IsLawfulCount}
 use Rattle.word_bits.specs.Objects.{Obj}
 use Rattle.word_bits.specs.Histories.{Plan}
-use Rattle.lock_core.specs.declared.op.Op.{Op}
-use Rattle.lock_core.specs.declared.view.View.{View}
-use Rattle.lock_core.specs.declared.view.Hand.{Hand}
+use Rattle.lock_views.specs.declared.op.Op.{Op}
+use Rattle.lock_views.specs.declared.view.View.{View}
+use Rattle.lock_views.specs.declared.view.Hand.{Hand}
 use Rattle.lock_core.specs.declared.layout.TheConstants.{LOCK_WORDS, SPIN_WORDS}
 use Rattle.lock_core.specs.Layout.{SiteWords, site, part}
-use Rattle.lock_core.specs.Ops.{word_after}
+use Rattle.lock_views.specs.Ops.{word_after}
 use Rattle.lock_core.specs.SpinFrames.{holds_of, holds_at}
 use Rattle.lock_core.specs.Spins.{SpinsKept, frame_of, holds_in}
-use Rattle.lock_core.specs.declared.view.Held.{Held}
-use Rattle.lock_core.specs.declared.view.Held.TheVariants.{No}
+use Rattle.lock_views.specs.declared.view.Held.{Held}
+use Rattle.lock_views.specs.declared.view.Held.TheVariants.{No}
 use Rattle.lock_core.specs.Holding.{Learns}
 use Rattle.lock_core.specs.Views.{SpinHolds, hand_of, spin_part, held_of, alone_of, alone_weight, named_of, is_number, took}
 use Rattle.lock_core.specs.Totals.{total}

@@ -1,6 +1,6 @@
 //! A changing call on the guarded words of a site whose pass holds alone.
 ghost use Rattle.std.specs.Prelude.{◌≡◌, ◌≢◌, length, false, IfNone, IfSome, IsSome};
-ghost use Rattle.lock_core.specs.declared.view.Held.TheVariants.{Alone};
+ghost use Rattle.lock_views.specs.declared.view.Held.TheVariants.{Alone};
 ghost use Rattle.lock_core.specs.Locking.{IsStored};
 ghost use Rattle.lock_core.specs.Views.{Beside, OwesNoSignal};
 ghost use Rattle.lock_core.specs.SiteHandles.{plan_of, view_of, hand_in, task_in, held_in, done_in, SitsAt, KeepsPast, SaysSame};

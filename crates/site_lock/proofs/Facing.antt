@@ -3,9 +3,9 @@ use Rattle.std.proofs.Common.{◌≡◌, ◌∙◌, ℕ, ◌+◌, ◌<◌, sym, 
 use Rattle.word_bits.specs.declared.reply.Reply.{Reply}
 use Rattle.word_bits.specs.declared.reply.Reply.TheVariants.{Busy, Intr, Sent, Good, Num, Refused, MapErr, AccErr}
 use Rattle.lock_core.specs.declared.pass.Pass.{Pass}
-use Rattle.lock_core.specs.declared.view.Hand.{Hand}
+use Rattle.lock_views.specs.declared.view.Hand.{Hand}
 use Rattle.std.specs.Prelude.{Option, Some, None, IfSome, IfNone}
-use Rattle.lock_core.specs.declared.how.Interrupted.{Interrupted}
+use Rattle.lock_views.specs.declared.how.Interrupted.{Interrupted}
 use Rattle.lock_core.specs.SiteHandles.{view_of, hand_in, past_of, KeepsPast, SawNonePending}
 use Rattle.lock_core.specs.Locking.{Has, HasSince}
 use Rattle.lock_core.specs.Pasts.{FoundAt, GoesOn}

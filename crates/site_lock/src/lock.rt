@@ -6,7 +6,7 @@ ghost use Rattle.word_bits.specs.RecWord.{IsRec, rec_word};
 ghost use Rattle.word_bits.specs.Histories.{Plan as Calls};
 ghost use Rattle.lock_core.specs.declared.pass.Pass.{Pass as Seat};
 ghost use Rattle.lock_core.specs.declared.site.Site.{Site as Table};
-ghost use Rattle.lock_core.specs.declared.view.Held.TheVariants.{No, Alone};
+ghost use Rattle.lock_views.specs.declared.view.Held.TheVariants.{No, Alone};
 ghost use Rattle.lock_core.specs.declared.layout.TheConstants.{LOCK_WORDS};
 ghost use Rattle.lock_core.specs.Chronicles.{Chronicles};
 ghost use Rattle.lock_core.specs.SiteHandles.{plan_of, view_of, hand_in, front_in, IsLatest, SawNonePending, SawOwnSignals, SitsAt, UndoneIsZero};

@@ -3,7 +3,7 @@ use Rattle.std.proofs.Common.{ℕ, ◌≤◌, length, ◌∙◌, subst}
 use Rattle.word_bits.specs.Objects.{Obj}
 use Rattle.lock_core.specs.declared.pass.Pass.{Pass}
 use Rattle.lock_core.specs.declared.site.Site.{Site}
-use Rattle.lock_core.specs.declared.view.Line.{Line}
+use Rattle.lock_views.specs.declared.view.Line.{Line}
 use Rattle.lock_core.specs.SiteHandles.{past_of, plan_of, view_of, SitsAt}
 use Rattle.lock_core.specs.Records.{row}
 use Rattle.lock_core.specs.Shown.{Stands, shown}
@@ -12,7 +12,7 @@ use Rattle.mutex_slow.specs.declared.calls.Mutex.{Mutex}
 use Rattle.mutex_slow.specs.declared.calls.MutexPass.{MutexPass}
 use Rattle.mutex_slow.specs.MutexHandles as mutex
 use Rattle.mutex_slow.specs.MutexPlaces as mutex_places
-use Rattle.lock_core.specs.declared.tally.Tally.{Tally}
+use Rattle.lock_views.specs.declared.tally.Tally.{Tally}
 use Rattle.rwsem_slow.specs.declared.calls.RwSem.{RwSem}
 use Rattle.rwsem_slow.specs.declared.calls.RwPass.{RwPass}
 use Rattle.rwsem_slow.specs.RwSemHandles as rwsem

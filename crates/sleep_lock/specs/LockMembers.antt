@@ -1,7 +1,7 @@
 -- What definitions above the locks read of a kind of lock.
 use Rattle.std.specs.Prelude.{ℕ, List}
 use Rattle.word_bits.specs.Histories.{Plan}
-use Rattle.lock_core.specs.declared.view.Moment.{Moment}
+use Rattle.lock_views.specs.declared.view.Moment.{Moment}
 use Rattle.lock_core.specs.Kinds.{Kind}
 use Rattle.lock_core.specs.Shown.{Shown}
 

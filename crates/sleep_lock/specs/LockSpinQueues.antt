@@ -1,7 +1,7 @@
 -- What a lock with a spin queue tells of that queue.
 use Rattle.std.specs.Prelude.{ℕ, List, length}
 use Rattle.word_bits.specs.Histories.{Plan}
-use Rattle.lock_core.specs.declared.view.Moment.{Moment}
+use Rattle.lock_views.specs.declared.view.Moment.{Moment}
 use Rattle.lock_core.specs.Pasts.{BeganWith, EachMoment, Ran}
 use Rattle.lock_core.specs.Shown.{Shown}
 use Rattle.osq_nodes.specs.OsqPlaces.{node_marks}

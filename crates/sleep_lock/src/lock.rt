@@ -2,9 +2,9 @@
 ghost use Rattle.std.specs.Prelude.{◌≡◌, ℕ, ◌<◌, Bool, true, false, List, [], ◌∷◌, length, Some, None, IsSome, Ok, IfOk, IfErr};
 ghost use Rattle.word_bits.specs.Histories.{Plan as Calls};
 ghost use Rattle.lock_core.specs.declared.pass.Pass.{Pass as Seat};
-ghost use Rattle.lock_core.specs.declared.view.Held.TheVariants.{No, Alone};
-ghost use Rattle.lock_core.specs.declared.view.Moment.{Moment};
-ghost use Rattle.lock_core.specs.declared.how.How.TheVariants.{Fast};
+ghost use Rattle.lock_views.specs.declared.view.Held.TheVariants.{No, Alone};
+ghost use Rattle.lock_views.specs.declared.view.Moment.{Moment};
+ghost use Rattle.lock_views.specs.declared.how.How.TheVariants.{Fast};
 ghost use Rattle.lock_core.specs.Plans.{IsSmall};
 ghost use Rattle.lock_core.specs.Records.{IsPlan};
 ghost use Rattle.lock_core.specs.Views.{gave_up, gathered};

@@ -10,7 +10,7 @@ use word_bits::Object;
 
 impl<O: Object> SleepLock<O> for RwSem<O> {
     ghost use Rattle.std.specs.Prelude.{◌≡◌, ◌+◌, refl};
-    ghost use Rattle.lock_core.specs.declared.view.Held.TheVariants.{No, Shared};
+    ghost use Rattle.lock_views.specs.declared.view.Held.TheVariants.{No, Shared};
     ghost use Rattle.lock_core.specs.Kinds.{semaphore, wakes_alone, wakes_down, wakes_shared};
     ghost use Rattle.rwsem_slow.specs.RwSemHandles.{newest, spun_of};
     ghost use Rattle.rwsem_paths.specs.Releasing.{LeavesCount};

@@ -12,9 +12,9 @@ use Rattle.word_bits.specs.Objects.{Obj, IsObjectReply}
 use Rattle.word_bits.specs.Histories.{Plan, state_after}
 use Rattle.word_bits.proofs.States.{IsLawful, state_is_state}
 use Rattle.lock_core.specs.declared.pass.Face.{Face}
-use Rattle.lock_core.specs.declared.view.Hand.{Hand}
-use Rattle.lock_core.specs.declared.view.Held.TheVariants.{No}
-use Rattle.lock_core.specs.declared.view.Seen.{Seen}
+use Rattle.lock_views.specs.declared.view.Hand.{Hand}
+use Rattle.lock_views.specs.declared.view.Held.TheVariants.{No}
+use Rattle.lock_views.specs.declared.view.Seen.{Seen}
 use Rattle.lock_core.specs.Locking.{IsStored}
 use Rattle.lock_core.specs.SitePasses.{IsReading, MayNote, Sits}
 use Rattle.lock_core.specs.Records.{row}

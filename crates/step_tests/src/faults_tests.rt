@@ -1,6 +1,6 @@
 //! Faults beside a writer, on threads.
 ghost use Rattle.std.specs.Prelude.{◌≡◌, ◌≢◌, ◌<◌, length, None, IfOk};
-ghost use Rattle.lock_core.specs.declared.view.Held.TheVariants.{No};
+ghost use Rattle.lock_views.specs.declared.view.Held.TheVariants.{No};
 ghost use Rattle.lock_core.specs.Records.{IsPlan};
 ghost use Rattle.lock_core.specs.Views.{HoldsNothing, OwesNoSignal};
 ghost use Rattle.seq_fault.specs.SeqHandles.{SitsAt, hand_in, held_in, plan_of, task_in, view_of};

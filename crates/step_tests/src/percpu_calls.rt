@@ -1,6 +1,6 @@
 //! What a task does with its next call, under a per-CPU semaphore.
 ghost use Rattle.std.specs.Prelude.{◌≡◌, ◌≢◌, ◌<◌, false, true, length, IfOk, IfErr, IfSome};
-ghost use Rattle.lock_core.specs.declared.view.Held.TheVariants.{No, Shared, Alone};
+ghost use Rattle.lock_views.specs.declared.view.Held.TheVariants.{No, Shared, Alone};
 ghost use Rattle.percpu_rwsem.specs.PercpuHandles.{blocks_in, hand_in, held_in, plan_of, seen_in, view_of, SitsAt};
 ghost use Rattle.step_tests.specs.TestPercpuPasses.{IsAt, IsIdle, KnowsState, Repeats};
 

@@ -1,6 +1,6 @@
 //! What no clause says: readers and a writer of a per-CPU semaphore on threads.
 ghost use Rattle.std.specs.Prelude.{◌≡◌, false};
-ghost use Rattle.lock_core.specs.declared.view.Held.TheVariants.{No};
+ghost use Rattle.lock_views.specs.declared.view.Held.TheVariants.{No};
 ghost use Rattle.percpu_rwsem.specs.PercpuHandles.{blocks_in, plan_of};
 ghost use Rattle.step_tests.specs.TestPercpuPasses.{IsAt, MayMake, Repeats};
 

@@ -7,8 +7,8 @@ use lib.ListN.{get_elem?}
 use lib.Seq.{set-get_or}
 use Rattle.atomic_table.specs.Table.{Me, step, keeps}
 use Rattle.atomic_table.proofs.Lists.{at_map, set_again}
-use Rattle.lock_core.specs.declared.op.Op.TheVariants.{Load, Store}
-use Rattle.lock_core.specs.declared.view.View.{View}
+use Rattle.lock_views.specs.declared.op.Op.TheVariants.{Load, Store}
+use Rattle.lock_views.specs.declared.view.View.{View}
 use Rattle.lock_core.specs.Layout.{part}
 use Rattle.lock_core.specs.Views.{spin_part}
 use Rattle.lock_core.specs.Stores.{HasWord}

@@ -4,8 +4,8 @@ use mathlib.Core.Option.{some, none}
 use lib.ListN.{get_elem?}
 use Rattle.atomic_table.specs.Table.{Me, step, keeps}
 use Rattle.word_bits.specs.declared.TheConstants.{MAX_TASKS}
-use Rattle.lock_core.specs.declared.op.Op.TheVariants.{Store, Swap}
-use Rattle.lock_core.specs.declared.view.View.{View}
+use Rattle.lock_views.specs.declared.op.Op.TheVariants.{Store, Swap}
+use Rattle.lock_views.specs.declared.view.View.{View}
 use Rattle.lock_core.specs.SitePlays.{Turns}
 use Rattle.lock_core.specs.Stores.{HasWord, row_at}
 use Rattle.lock_core.specs.Views.{SpinRests}

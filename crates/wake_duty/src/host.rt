@@ -4,7 +4,7 @@ ghost use mathlib.Core.Option.{some};
 ghost use lib.ListN.{get_elem?};
 ghost use Rattle.word_bits.specs.declared.TheConstants.{MAX_TASKS};
 ghost use Rattle.word_bits.specs.Histories.{Plan as Calls};
-ghost use Rattle.lock_core.specs.declared.view.View.{View};
+ghost use Rattle.lock_views.specs.declared.view.View.{View};
 ghost use Rattle.lock_core.specs.declared.layout.TheConstants.{LOCK_WORDS};
 ghost use Rattle.lock_core.specs.Moves.{Goes};
 ghost use Rattle.lock_core.specs.Stores.{row_at};

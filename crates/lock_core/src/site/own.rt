@@ -1,6 +1,6 @@
 //! The steps on the site's own words, which keep the site's own facts and so the rule.
 ghost use Rattle.std.specs.Prelude.{◌≡◌, ◌<◌, ◌+◌, ◌*◌, true, false};
-ghost use Rattle.lock_core.specs.declared.view.Hand.{Hand};
+ghost use Rattle.lock_views.specs.declared.view.Hand.{Hand};
 ghost use Rattle.lock_core.specs.Layout.{site_width};
 ghost use Rattle.lock_core.specs.Views.{ticked, handed, with_number};
 ghost use Rattle.lock_core.specs.Moves.{KeepsHold};
@@ -10,9 +10,9 @@ ghost use Rattle.lock_core.specs.SiteHandles.{plan_of, view_of, hand_in, past_of
 use super::Site;
 use super::plays::{Becomes, Begin, Find, Put, Puts, Tells};
 use crate::layout::{LINES_AT, LOCK_WORDS};
-use crate::op::Op;
 use crate::pass::Pass;
 use crate::rule::SiteRule;
+use lock_views::Op;
 use std::marker::Brand;
 use word_bits::MAX_TASKS;
 

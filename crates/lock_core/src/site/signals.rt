@@ -10,13 +10,12 @@ ghost use Rattle.lock_core.specs.SiteHandles.{view_of, hand_in, past_of, task_in
 
 use super::Site;
 use super::plays::Taken;
-use crate::how::Interrupted;
 use crate::layout::{LINES_AT, LOCK_WORDS};
-use crate::op::Op;
 use crate::pass::Pass;
 use crate::rule::SiteRule;
-use crate::view::View;
 use atomic_table::Play;
+use lock_views::view::View;
+use lock_views::{Interrupted, Op};
 use std::marker::Brand;
 use word_bits::MAX_TASKS;
 

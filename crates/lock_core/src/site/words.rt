@@ -3,8 +3,8 @@
 ghost use Rattle.std.specs.Prelude.{◌≡◌, ◌≢◌, ◌+◌, ◌<◌, ◌≤◌, length, slice_index, Some, None, IsSome};
 ghost use Rattle.word_bits.specs.declared.reply.Reply.TheVariants.{Busy, Intr, Sent};
 ghost use Rattle.word_bits.specs.EntryWord.{IsEntry};
-ghost use Rattle.lock_core.specs.declared.view.Held.TheVariants.{No, Alone};
-ghost use Rattle.lock_core.specs.declared.view.Stage.TheVariants.{Rest, Entered};
+ghost use Rattle.lock_views.specs.declared.view.Held.TheVariants.{No, Alone};
+ghost use Rattle.lock_views.specs.declared.view.Stage.TheVariants.{Rest, Entered};
 ghost use Rattle.lock_core.specs.declared.layout.TheConstants.{LOCK_WORDS};
 ghost use Rattle.lock_core.specs.Layout.{entry_place, length_place};
 ghost use Rattle.lock_core.specs.Pasts.{FoundAt};

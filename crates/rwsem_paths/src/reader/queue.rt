@@ -1,6 +1,6 @@
 //! How a reader queues.
 ghost use Rattle.std.specs.Prelude.{◌≡◌, ◌+◌, [], true, false, IfSome, IfNone, IsSome};
-ghost use Rattle.lock_core.specs.declared.view.Held.TheVariants.{No};
+ghost use Rattle.lock_views.specs.declared.view.Held.TheVariants.{No};
 ghost use Rattle.lock_core.specs.SiteHandles.{plan_of, view_of, task_in, held_in, SitsAt, KeepsPast, SaysSame};
 ghost use Rattle.lock_core.specs.Records.{bit};
 ghost use Rattle.lock_core.specs.Views.{SpinHolds};

@@ -1,6 +1,6 @@
 //! How a queued reader sleeps, and hears that it is granted.
 ghost use Rattle.std.specs.Prelude.{◌≡◌, ◌≤◌, ◌+◌, true, false, IsSome, IfErr, IfOk};
-ghost use Rattle.lock_core.specs.declared.view.Held.TheVariants.{No, Shared};
+ghost use Rattle.lock_views.specs.declared.view.Held.TheVariants.{No, Shared};
 ghost use Rattle.lock_core.specs.SiteHandles.{plan_of, view_of, task_in, held_in, SitsAt, KeepsPast, SaysSame, hand_in};
 ghost use Rattle.lock_core.specs.Views.{SpinHolds, SpinRests};
 ghost use Rattle.rwsem_wake.specs.declared.view.Wait.TheVariants.{Reads};

@@ -1,7 +1,7 @@
 //! A reader that comes to hold by the bias that its first addition left in the count, though tasks
 //! wait.
 ghost use Rattle.std.specs.Prelude.{◌≡◌, ◌↔◌, ◌+◌, true, false, IsSome, IsTrue};
-ghost use Rattle.lock_core.specs.declared.view.Held.TheVariants.{No, Shared};
+ghost use Rattle.lock_views.specs.declared.view.Held.TheVariants.{No, Shared};
 ghost use Rattle.lock_core.specs.SiteHandles.{plan_of, view_of, task_in, held_in, SitsAt, KeepsPast, SaysSame};
 ghost use Rattle.lock_core.specs.Kinds.{lets_in, semaphore};
 ghost use Rattle.lock_core.specs.Shown.{LeavesHold};

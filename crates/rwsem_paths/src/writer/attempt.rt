@@ -1,8 +1,8 @@
 //! The tries of a queued writer, under the wait lock.
 ghost use Rattle.std.specs.Prelude.{◌≡◌, ◌≢◌, ◌↔◌, ◌<◌, ◌≤◌, ◌+◌, ℕ, true, false, IsSome, IsTrue, Some, length};
 ghost use Rattle.word_bits.specs.LockWords.{IsLawfulCount};
-ghost use Rattle.lock_core.specs.declared.how.How.TheVariants.{Slept};
-ghost use Rattle.lock_core.specs.declared.view.Held.TheVariants.{No};
+ghost use Rattle.lock_views.specs.declared.how.How.TheVariants.{Slept};
+ghost use Rattle.lock_views.specs.declared.view.Held.TheVariants.{No};
 ghost use Rattle.lock_core.specs.SiteHandles.{plan_of, view_of, task_in, held_in, SitsAt, KeepsPast, SaysSame};
 ghost use Rattle.lock_core.specs.Views.{SpinHolds};
 ghost use Rattle.rwsem_wake.specs.declared.view.Wait.TheVariants.{Writes};

@@ -1,6 +1,6 @@
 //! How a writer queues, and leaves the list once it has taken.
 ghost use Rattle.std.specs.Prelude.{◌≡◌, ◌<◌, ◌+◌, true, false, IsSome, Some};
-ghost use Rattle.lock_core.specs.declared.view.Held.TheVariants.{No};
+ghost use Rattle.lock_views.specs.declared.view.Held.TheVariants.{No};
 ghost use Rattle.lock_core.specs.SiteHandles.{view_of, task_in, held_in, SitsAt, KeepsPast, SaysSame};
 ghost use Rattle.lock_core.specs.Views.{SpinHolds};
 ghost use Rattle.rwsem_wake.specs.declared.view.Wait.TheVariants.{Writes};

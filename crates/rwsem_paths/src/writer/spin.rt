@@ -1,8 +1,8 @@
 //! Tries of a writer that stands in no list, and spins.
 ghost use Rattle.std.specs.Prelude.{◌≡◌, ◌≢◌, ◌↔◌, ◌+◌, ◌≤◌, true, false, IsSome, IsTrue, IfOk, IfErr};
 ghost use Rattle.word_bits.specs.LockWords.{IsLawfulCount};
-ghost use Rattle.lock_core.specs.declared.how.How.TheVariants.{Spun};
-ghost use Rattle.lock_core.specs.declared.view.Held.TheVariants.{No, Alone};
+ghost use Rattle.lock_views.specs.declared.how.How.TheVariants.{Spun};
+ghost use Rattle.lock_views.specs.declared.view.Held.TheVariants.{No, Alone};
 ghost use Rattle.lock_core.specs.SiteHandles.{IsLatest, plan_of, view_of, past_of, task_in, held_in, SitsAt, KeepsPast, SaysSame};
 ghost use Rattle.lock_core.specs.Kinds.{semaphore, unavailable};
 ghost use Rattle.lock_core.specs.Locking.{OnlyTried, Takes};

@@ -1,7 +1,7 @@
 //! The calls that take a semaphore alone.
 ghost use Rattle.std.specs.Prelude.{◌≡◌, ◌≤◌, ◌+◌, Bool, true, false, Ok, IfErr, IfOk, IsSome};
-ghost use Rattle.lock_core.specs.declared.how.How.TheVariants.{Spun};
-ghost use Rattle.lock_core.specs.declared.view.Held.TheVariants.{No};
+ghost use Rattle.lock_views.specs.declared.how.How.TheVariants.{Spun};
+ghost use Rattle.lock_views.specs.declared.view.Held.TheVariants.{No};
 ghost use Rattle.lock_core.specs.Kinds.{semaphore};
 ghost use Rattle.lock_core.specs.Locking.{Got, Interrupts, KeepsPlace, Looks, OnlyTried, TalliesLock, TalliesSpin};
 ghost use Rattle.osq_unqueue.specs.Rising.{LeavesForCpu};

@@ -1,5 +1,5 @@
 use Rattle.std.proofs.Common.{ap, sym, ◌∙◌, arith, ◌<◌, subst, refl, rules}
-use Rattle.lock_core.specs.declared.view.Held.TheVariants.{No}
+use Rattle.lock_views.specs.declared.view.Held.TheVariants.{No}
 use Rattle.owner_tests.proofs.Performing.{known-call, busy-next}
 use Rattle.owner_tests.proofs.calls.try_next.Goals as goal
 

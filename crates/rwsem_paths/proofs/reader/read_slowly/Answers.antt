@@ -1,6 +1,6 @@
 use Rattle.std.proofs.Common.{◌∙◌, sym, subst, ap, arith}
-use Rattle.lock_core.specs.declared.how.Interrupted.{Interrupted}
-use Rattle.lock_core.specs.declared.view.Hand.{Hand}
+use Rattle.lock_views.specs.declared.how.Interrupted.{Interrupted}
+use Rattle.lock_views.specs.declared.view.Hand.{Hand}
 use Rattle.lock_core.specs.Locking.{SawPending}
 use Rattle.lock_core.proofs.Within.{err-map, pending-within}
 use Rattle.rwsem_count.specs.Counts.{shared_weight}

@@ -1,5 +1,5 @@
 use Rattle.std.proofs.Common.{◌∙◌, ◌+◌, sym, ap, subst, arith}
-use Rattle.lock_core.specs.declared.view.Held.TheVariants.{Shared}
+use Rattle.lock_views.specs.declared.view.Held.TheVariants.{Shared}
 use Rattle.lock_core.specs.Kinds.{semaphore, wakes_down}
 use Rattle.lock_core.specs.Records.{bit}
 use Rattle.rwsem_rule.specs.RwSems.{V}

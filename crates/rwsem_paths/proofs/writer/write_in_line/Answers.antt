@@ -1,11 +1,11 @@
 use Rattle.std.proofs.Common.{◌∙◌, ap, arith, inl, refl}
-use Rattle.lock_core.specs.declared.view.Hand.{Hand}
+use Rattle.lock_views.specs.declared.view.Hand.{Hand}
 use Rattle.rwsem_rule.specs.RwSemPlaces.{seen_of}
 use Rattle.lock_core.proofs.Within.{pending-within}
-use Rattle.lock_core.specs.declared.how.How.TheVariants.{Slept}
+use Rattle.lock_views.specs.declared.how.How.TheVariants.{Slept}
 use Rattle.lock_core.specs.declared.pass.Face.{Face}
-use Rattle.lock_core.specs.declared.view.Held.TheVariants.{Alone}
-use Rattle.lock_core.specs.declared.view.SpinHand.{SpinHand}
+use Rattle.lock_views.specs.declared.view.Held.TheVariants.{Alone}
+use Rattle.lock_views.specs.declared.view.SpinHand.{SpinHand}
 use Rattle.rwsem_paths.specs.RwSemOpening.{IsOpen}
 use Rattle.rwsem_rule.specs.RwSems.{V}
 use Rattle.rwsem_paths.proofs.Counting.{turns-moved}

@@ -1,5 +1,5 @@
 use Rattle.std.proofs.Common.{◌∙◌, ◌≤◌, length, sym, refl, ap, arith}
-use Rattle.lock_core.specs.declared.view.SpinHand.{SpinHand}
+use Rattle.lock_views.specs.declared.view.SpinHand.{SpinHand}
 use Rattle.rwsem_count.proofs.Sitting.{some-number}
 use Rattle.rwsem_rule.proofs.Removing.{removed-all, removed-may, removed-none, removed-one}
 use Rattle.rwsem_rule.proofs.removal.remove_all.Goals as goal

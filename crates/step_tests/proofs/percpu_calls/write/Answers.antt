@@ -1,7 +1,7 @@
 use Rattle.std.proofs.Common.{arith, ◌∙◌, IsSome, length, ap, refl, sym, subst}
 use Rattle.word_bits.specs.Histories.{state_after}
 use Rattle.word_bits.proofs.States.{IsLawful, state_is_state}
-use Rattle.lock_core.specs.declared.view.Hand.{Hand}
+use Rattle.lock_views.specs.declared.view.Hand.{Hand}
 use Rattle.lock_core.proofs.HandLaws.{no-alone}
 use Rattle.step_tests.proofs.PercpuCalls.{loaded, next-call}
 use Rattle.step_tests.proofs.percpu_calls.write.Given as given

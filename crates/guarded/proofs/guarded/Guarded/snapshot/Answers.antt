@@ -3,8 +3,8 @@ use Rattle.word_bits.specs.declared.entry.Entry.{Entry}
 use Rattle.word_bits.specs.EntryWord.{entry_word}
 use Rattle.word_bits.specs.Snapshots.{Words}
 use Rattle.word_bits.proofs.States.{IsLawful}
-use Rattle.lock_core.specs.declared.view.Hand.{Hand}
-use Rattle.lock_core.specs.declared.view.Told.{Told}
+use Rattle.lock_views.specs.declared.view.Hand.{Hand}
+use Rattle.lock_views.specs.declared.view.Told.{Told}
 use Rattle.lock_core.specs.Chronicles.{Chronicles}
 use Rattle.lock_core.specs.Kinds.{unavailable}
 use Rattle.guarded.proofs.Copied.{held-alone, rows-wider}

@@ -1,5 +1,5 @@
 use Rattle.std.proofs.Common.{◌≡◌, ℕ, ◌+◌, inl, set, sym, ap, subst, arith}
-use Rattle.lock_core.specs.declared.view.Hand.{Hand}
+use Rattle.lock_views.specs.declared.view.Hand.{Hand}
 use Rattle.lock_core.specs.Plans.{start}
 use Rattle.lock_core.specs.Layout.{lay, recs_at}
 use Rattle.lock_core.specs.Records.{row}

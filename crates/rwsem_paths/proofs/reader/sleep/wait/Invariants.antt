@@ -1,5 +1,5 @@
 use Rattle.std.proofs.Common.{◌≡◌, IsSome}
-use Rattle.lock_core.specs.declared.view.Held.TheVariants.{No}
+use Rattle.lock_views.specs.declared.view.Held.TheVariants.{No}
 use Rattle.lock_core.specs.Views.{SpinRests}
 use Rattle.cpu_task.specs.CpuCounting.{Dozes}
 use Rattle.rwsem_wake.specs.declared.view.Wait.TheVariants.{Reads}

@@ -1,6 +1,6 @@
 use Rattle.std.proofs.Common.{◌∙◌, ℕ, sym, ap, subst, arith, length}
 use Rattle.lock_core.specs.declared.pass.Face.{Face}
-use Rattle.lock_core.specs.declared.view.Held.TheVariants.{Shared}
+use Rattle.lock_views.specs.declared.view.Held.TheVariants.{Shared}
 use Rattle.lock_core.specs.Pasts.{IsOwnStep, Tail}
 use Rattle.lock_core.specs.Records.{bit}
 use Rattle.lock_core.proofs.Sitting.{sits-on}

@@ -1,6 +1,6 @@
 use Rattle.std.proofs.Common.{ap, subst, arith}
-use Rattle.lock_core.specs.declared.how.How.TheVariants.{Slept}
-use Rattle.lock_core.specs.declared.view.Held.TheVariants.{Alone}
+use Rattle.lock_views.specs.declared.how.How.TheVariants.{Slept}
+use Rattle.lock_views.specs.declared.view.Held.TheVariants.{Alone}
 use Rattle.lock_core.specs.Pasts.{FoundAt}
 use Rattle.rwsem_paths.specs.RwSemOpening.{IsOpen}
 use Rattle.rwsem_rule.specs.RwSems.{V, count_at}

@@ -1,7 +1,7 @@
 use Rattle.std.proofs.Common.{ap}
-use Rattle.lock_core.specs.declared.how.How.TheVariants.{Slept}
+use Rattle.lock_views.specs.declared.how.How.TheVariants.{Slept}
 use Rattle.lock_core.specs.declared.pass.Face.{Face}
-use Rattle.lock_core.specs.declared.view.Held.TheVariants.{Alone}
+use Rattle.lock_views.specs.declared.view.Held.TheVariants.{Alone}
 use Rattle.rwsem_paths.specs.RwSemOpening.{IsOpen}
 use Rattle.rwsem_paths.proofs.Opening.{takes-behind}
 use Rattle.rwsem_paths.proofs.writer.attempt.try_standing.Goals as goal

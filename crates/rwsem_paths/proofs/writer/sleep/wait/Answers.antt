@@ -1,10 +1,10 @@
 use Rattle.std.proofs.Common.{◌∙◌, refl, ap, arith, rules}
-use Rattle.lock_core.specs.declared.view.Hand.{Hand}
+use Rattle.lock_views.specs.declared.view.Hand.{Hand}
 use Rattle.rwsem_rule.specs.RwSems.{V}
 use Rattle.rwsem_rule.specs.RwSemPlaces.{seen_of}
 use Rattle.lock_core.proofs.Within.{pending-within}
-use Rattle.lock_core.specs.declared.how.How.TheVariants.{Slept}
-use Rattle.lock_core.specs.declared.view.Held.TheVariants.{Alone}
+use Rattle.lock_views.specs.declared.how.How.TheVariants.{Slept}
+use Rattle.lock_views.specs.declared.view.Held.TheVariants.{Alone}
 use Rattle.rwsem_paths.specs.RwSemOpening.{IsOpen}
 use Rattle.sem_duty.specs.declared.view.SemWake.{SemWake}
 use Rattle.rwsem_paths.proofs.Counting.{dozes-again, once-within, turns-again, turns-moved}

@@ -3,8 +3,8 @@ use Rattle.lock_core.proofs.Within.{sees-within}
 use Rattle.rwsem_rule.specs.RwSemPlaces.{seen_of}
 use Rattle.rwsem_rule.specs.RwSems.{V}
 use Rattle.rwsem_paths.proofs.Counting.{answers-rise}
-use Rattle.lock_core.specs.declared.how.How.TheVariants.{Spun}
-use Rattle.lock_core.specs.declared.view.Held.TheVariants.{Alone}
+use Rattle.lock_views.specs.declared.how.How.TheVariants.{Spun}
+use Rattle.lock_views.specs.declared.view.Held.TheVariants.{Alone}
 use Rattle.rwsem_paths.specs.RwSemOpening.{IsOpen}
 use Rattle.rwsem_paths.proofs.Opening.{takes-behind}
 use Rattle.rwsem_paths.proofs.writer.spin.spin.Goals as goal

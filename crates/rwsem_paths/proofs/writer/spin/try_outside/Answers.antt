@@ -1,13 +1,13 @@
 use Rattle.std.proofs.Common.{◌∙◌, false, sym, ap, arith}
 use Rattle.lock_core.specs.Shown.{shown}
-use Rattle.lock_core.specs.Tallies.{no_tally}
+use Rattle.lock_views.specs.Tallies.{no_tally}
 use Rattle.lock_core.proofs.Within.{sees-fronts}
 use Rattle.rwsem_rule.specs.RwSemPlaces.{line_of}
 use Rattle.rwsem_rule.specs.RwSems.{V}
 use Rattle.rwsem_paths.proofs.Showing.{misses-by}
 use Rattle.rwsem_paths.proofs.Unqueued.{misses-tried}
-use Rattle.lock_core.specs.declared.how.How.TheVariants.{Spun}
-use Rattle.lock_core.specs.declared.view.Held.TheVariants.{Alone}
+use Rattle.lock_views.specs.declared.how.How.TheVariants.{Spun}
+use Rattle.lock_views.specs.declared.view.Held.TheVariants.{Alone}
 use Rattle.rwsem_paths.specs.RwSemOpening.{IsOpen}
 use Rattle.rwsem_paths.proofs.Opening.{took-since}
 use Rattle.rwsem_paths.proofs.writer.spin.try_outside.Goals as goal

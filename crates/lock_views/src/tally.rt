@@ -1,6 +1,6 @@
 //! What a pass counts of its calls that wait.
 ghost use Rattle.std.specs.Prelude.{◌≡◌};
-ghost use Rattle.lock_core.specs.Tallies.{answered, left, no_tally};
+ghost use Rattle.lock_views.specs.Tallies.{answered, left, no_tally};
 
 use crate::how::{How, Interrupted};
 

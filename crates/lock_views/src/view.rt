@@ -1,8 +1,7 @@
 //! What a pass knows of its table. No value of these types but `Held` is ever made: they exist in
 //! proofs alone. A clause reads an array of length 0 as a list of any length.
 
-use crate::plan::Plan;
-use word_bits::{Entry, Rec};
+use word_bits::{CallWords, Entry, Rec};
 
 /// How a pass holds what its table guards.
 #[derive(Clone, Copy, Debug, PartialEq, Eq)]
@@ -45,8 +44,8 @@ pub struct Heard {
 
 /// What concerns the site's own words.
 pub struct Hand {
-    /// None once the view is spent.
-    pub plan: Option<Plan>,
+    /// The calls of each task. None once the view is spent.
+    pub plan: Option<[[CallWords; 0]; 0]>,
     pub task: Option<u32>,
     pub held: Held,
     /// While it holds: the guarded words, and the log.
