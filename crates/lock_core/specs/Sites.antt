@@ -172,7 +172,7 @@ pub record FailsTry (step word : ℕ) (h g : Hand) : Type 0 where
 abbrev pub SawGoes : (step word : ℕ) → Hand → Hand → Type 0
 SawGoes step word h g = KeepsSaw h g ⊎ FailsTry step word h g
 
--- the step of this number stores, in its place among all records, that of the next call of the pass's own task; one that says that the lock was taken has a word that the pass saw since it last recorded; before one that says that the call was interrupted, the pass consumed one signal and saw a word; before one that says that a signal was sent, the pass sent it; every signal that the pass sent or consumed is then recorded
+-- The step of this number stores the record of the next call of the pass's own task, in its place among all records. One that says that the lock was taken has a word that the pass saw since it last recorded. Before one that says that the call was interrupted, the pass consumed one signal and saw a word. Before one that says that a signal was sent, the pass sent it. Every signal that the pass sent or consumed is then recorded.
 pub record StoresRecord (step : ℕ) (w w' : SiteWords) (h g : Hand) : Type 0 where
   pub plan : Plan
   pub planned : h.plan ≡ Some plan

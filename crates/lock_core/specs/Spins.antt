@@ -110,7 +110,7 @@ TakesFrom Passing word = Unit {0}
 TakesFrom Holding word = Unit {0}
 TakesFrom _ word = ⊥
 
--- what a pass may come to, by the word: to own the pending bit as a taker where it saw neither tail nor bit, or to undo it where it saw a tail and no bit; as the taker, to go on to take the lock where it saw the byte 0; and as the front, to be ready where it saw the byte and the bit 0
+-- What a pass may come to, by the word. It comes to own the pending bit as a taker only where it saw neither tail nor bit, or to undo it only where it saw a tail and no bit. The taker goes on to take the lock only where it saw the byte 0. The front comes to be ready only where it saw the byte and the bit 0.
 abbrev pub ComesTo : Point → Point → ℕ → Type 0
 ComesTo Pending Pending word = Unit {0}
 ComesTo _ Pending word = (pending_in word ≡ 0) × (tail_in word ≡ 0)

@@ -1,4 +1,4 @@
--- What one step does to a word of 64 bits. The rule of every table states a running step by it.
+-- What one step does to a word of 64 bits. What a step of a table asks is stated by it.
 use Rattle.std.specs.Prelude.{ℕ, ◌+◌, ◌-◌, ◌%◌, ◌^◌, ◌==◌, if◌then◌else◌, bit_and, bit_or}
 use Rattle.lock_views.specs.declared.op.Op.{Op}
 use Rattle.lock_views.specs.declared.op.Op.TheVariants.{Load, Store, Swap, Add, Sub, Or, And, Exchange}

@@ -22,9 +22,9 @@ module _ {A S R X P E C T F G Y Q H D B U : Type 0} (spaces : LockMembers A P) (
     pub legal : AreLegal script (results_of m) told
     -- the gathered pass of an object knows each record that is told of the object
     pub known : AreAllKnown (hand_under spaces tables) (gathered_of m) told
-    -- the log and the state that are told of an object are those of the object's table at a moment that this pass goes back to, at which a pass held alone, didn't write, and knew each record that is told
+    -- The log and the state that are told of an object are those of the object's table at a moment that this pass goes back to. At that moment a pass held alone, didn't write, and knew each record that is told.
     pub held : AreHeld (hand_under spaces tables) (past_under spaces tables) m
-    -- it knows all that was so of the object's table, from its opening on: who held, what the lock's word stated, and what the lock tells of its own; and who stood in the lock's spin queue, up to a look there
+    -- The gathered pass knows all that was so of the object's table, from its opening on: who held, what the lock's word stated, and what the lock tells of its own. It knows too who stood in the lock's spin queue, up to a look there.
     pub past : KnowsPasts (KnowsPastUnder spaces tables) m
     -- there it goes back to a look of a pass with each task's number, which wasn't in the queue then and had entered it and been its front as often as a pass that did all the task's calls
     pub tasks : GoBackToTasks (HasLookedBackUnder spaces tables) (spun_under spaces tables) (calls_under spaces tables) m

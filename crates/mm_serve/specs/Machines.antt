@@ -55,13 +55,13 @@ module _ {S C P U : Type 0} where
       pub tasks : (k : ℕ) (s : S) → slice_get (sites_of m) k ≡ Some s → length (calls_on s) ≡ length m.workers.items
       pub blank : AreBlank is_space calls_on (sites_of m) (results_of m)
 
-  -- The objects are the same. All tasks have done their calls, and the results of each object are one thread's history, of which the gathered pass knows each record, with the log and the state of the object's table at one moment, at which a pass held alone and knew the same records.
+  -- The objects are the same. All tasks have done their calls, and the results of each object are one thread's history, of which the gathered pass knows each record. The results of each have the log and the state of its table at one moment, at which a pass held alone and knew the same records.
   pub record HasRun (idle : S → P → Type 0) (hand : P → Hand) (past : P → List Moment) (is_space : S → Bool) (calls_on : S → Plan) (old new : Machine S C P U) : Type 0 where
     pub sites : sites_of new ≡ sites_of old
     pub long : length (results_of new) ≡ length (sites_of new)
     pub copied : EachOf (IsCopied idle hand past is_space calls_on (results_of new)) (sites_of new) (gathered_of new)
 
-  -- the log and the state in the results of each object are those of the object's table at a moment that its gathered pass goes back to, at which a pass held alone, didn't write, and knew just the records that the gathered pass knows
+  -- The log and the state in the results of each object are those of the object's table at a moment that its gathered pass goes back to. At that moment a pass held alone, didn't write, and knew just the records that the gathered pass knows.
   abbrev pub AreHeld : (P → Hand) → (P → List Moment) → Machine S C P U → Type 0
   AreHeld hand past m = (k : ℕ) (w : Words) (p : P) → slice_get (results_of m) k ≡ Some w → slice_get (gathered_of m) k ≡ Some p → WasHeldWith w (hand p).records (past p)
 

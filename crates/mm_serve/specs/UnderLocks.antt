@@ -44,14 +44,14 @@ module _ {A S R X P E C T F G Y Q H D : Type 0} (spaces : LockMembers A P) (tabl
   abbrev pub IsIdleUnder : LockedObject A S R X P E C T F G Y Q H D → SpaceOrTablePass P Q → Type 0
   IsIdleUnder = Matches (λ s p. spaces.sits (lock_of s) p × IsIdle (spaces.view p).hand) (λ s p. tables.sits (lock_of s) p × IsIdle (tables.view p).hand)
 
-  -- the pass knows what was so of the object's table at each moment so far: what every lock tells, of a space what a semaphore tells of its own, and of a table what a mutex does; and of each moment of the lock's spin queue, up to its last step there, who stood in it
+  -- the pass knows what was so of the object's table at each moment so far: what every lock tells, of a space what a semaphore tells of its own, and of a table what a mutex does. It also knows of each moment of the lock's spin queue, up to its last step there, who stood in it.
   abbrev pub KnowsPastUnder : LockedObject A S R X P E C T F G Y Q H D → SpaceOrTablePass P Q → Type 0
   KnowsPastUnder =
       Matches
       (λ s p. KnowsPast space spaces.kind 257 spaces.word_at spaces.waits (KnowsRwSem space 257) spaces.opened (spaces.calls_on (lock_of s)) (spaces.view p) × KnowsSpinQueue (spaces.calls_on (lock_of s)) (spaces.view p) (spaces.spun p))
       (λ s p. KnowsPast table tables.kind 64 tables.word_at tables.waits (KnowsMutex table 64) tables.opened (tables.calls_on (lock_of s)) (tables.view p) × KnowsSpinQueue (tables.calls_on (lock_of s)) (tables.view p) (tables.spun p))
 
-  -- the pass has the task's number and has done all the task's calls; and it knows of each moment of the lock's spin queue, up to its own last step there, who stood in it, and that it had entered the queue and been its front as often as it says
+  -- The pass has the task's number and has done all the task's calls. It knows of each moment of the lock's spin queue, up to its own last step there, who stood in it. It knows too that at that step it had entered the queue and been its front as often as it says.
   abbrev pub HasLookedBackUnder : LockedObject A S R X P E C T F G Y Q H D → SpaceOrTablePass P Q → ℕ → Type 0
   HasLookedBackUnder site pass task =
       Matches

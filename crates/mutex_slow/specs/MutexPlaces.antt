@@ -157,7 +157,7 @@ abbrev pub Names : Option Waiter → ℕ → Type 0
 Names None word = word < 2
 Names (Some w) word = (word / 8 ≡ w.task + 1) × (4 ≤ word % 8)
 
--- a step behind the one of this number found the list's head, which has the code of this waiter or 0; a later one found the task's code in the owner word and ended the hold, and the pass had the wait lock then; and the word that the pass left names the waiter
+-- A step behind the one of this number found the list's head, which has the code of this waiter or 0. A later one found the task's code in the owner word and ended the hold, and the pass had the wait lock then. The word that the pass left names the waiter.
 abbrev pub NamesFirst : ℕ → Option Waiter → Shown → Shown → Type 0
 NamesFirst begun first v u = ((step n looked : ℕ) × (own : FindsOwnCode step n No v u) × HasWaitLock own.2.0.by.seat own.2.0.by.now × (looked < step) × FoundSince v.hand.task begun looked list_at (waiter_code first) v.past u.past) × Names first u.hand.freed
 
@@ -165,7 +165,7 @@ NamesFirst begun first v u = ((step n looked : ℕ) × (own : FindsOwnCode step 
 abbrev pub EndsAsked : Shown → Shown → Type 0
 EndsAsked v u = (v.spin.entries < u.spin.entries) × ((step : ℕ) × FindsAsked step v u × (step < u.spin.took)) × ((first : Option Waiter) × NamesFirst u.spin.took first v u)
 
--- a call that ended its hold: where no flag was left, it set no wake word; else a step, made since it took the wait lock, found the list's head, which has the code of this task or 0, and the call set one wake word where there was such a task, and else none
+-- a call that ended its hold: Where no flag was left, it set no wake word. Else it set one wake word where there is a task of this code, and none where there isn't: a step, made since it took the wait lock, found the list's head, which has the code of this task or 0.
 abbrev pub WakesFirst : (before after : ℕ) → Shown → Shown → Type 0
 WakesFirst before after v u = ((u.hand.freed ≡ 0) × (after ≡ before)) ⊎ ((first : Option ℕ) × FoundSince v.hand.task u.spin.took u.steps list_at (task_code first) v.past u.past × (after ≡ wakes_after first before))
 

@@ -45,7 +45,7 @@ waits_in l (Some t) = counted t l
 abbrev pub StandsMarked : ℕ → Standing → Moment → Type 0
 StandsMarked id s m = get_elem? m.marks id ≡ some (line_marks s)
 
--- who has the duty to wake this waiter, or that it needs nobody: a pass ended its hold, left the flag of the waiters, and has chosen nobody yet; or one has chosen it, and hasn't set its wake word yet; or that word is set; or it is awake, and tries before it sleeps
+-- who has the duty to wake this waiter, or that it needs nobody: A pass ended its hold, left the flag of the waiters, and has chosen nobody yet. Or one has chosen it, and hasn't set its wake word yet. Or that word is set. Or it is awake, and tries before it sleeps.
 abbrev pub HasDuty : Moment → ℕ → Type 0
 HasDuty m t = ((id : ℕ) × (h : Hand) × (s : Standing) × (get_elem? m.hands id ≡ some h) × StandsMarked id s m × (s.debt ≡ 1) × (h.freed % 2 ≡ 1))
     ⊎ ((id : ℕ) × (s : Standing) × StandsMarked id s m × (s.chosen ≡ t + 1))
@@ -56,7 +56,7 @@ HasDuty m t = ((id : ℕ) × (h : Hand) × (s : Standing) × (get_elem? m.hands 
 abbrev pub OwesNone : Standing → Hand → Type 0
 OwesNone s h = (s.chosen ≡ 0) × (s.debt ≡ 1 → h.freed % 2 ≡ 0)
 
--- while this is the list: its words state it while the wait lock is free, each waiter has a pass, each pass has a mark, which says whether its task waits; a pass without a task has no wake to do; and the owner word states who holds, who is picked, and whether tasks wait; and where nobody holds, somebody has the duty to wake the first waiter, or it needs nobody
+-- while this is the list: Its words state it while the wait lock is free. Each waiter has a pass, and each pass has a mark, which says whether its task waits. A pass without a task has no wake to do. The owner word states who holds, who is picked, and whether tasks wait. Where nobody holds, somebody has the duty to wake the first waiter, or it needs nobody.
 pub record IsListed (m : Moment) (l : List Waiter) : Type 0 where
   pub sound : IsList l
   pub states : IsWaitLockFree m.spins → Lists (list_words m.words) l
@@ -108,7 +108,7 @@ HasBecome k [] l = ⊥
 HasBecome k (m ∷ []) l = IsListed m l
 HasBecome k (m ∷ before ∷ past) l = IsListed m l × ((old : List Waiter) × HasBecome k (before ∷ past) old × IsMutexStep k before old m l)
 
--- the last moment of its past, which is that of its own last step, marks the pass at the seat of that step as out of the list, as having appended itself as often as it says, and as having no wake to do
+-- The last moment of its past is that of its own last step. It marks the pass at the seat of that step as out of the list, as having appended itself as often as it says, and as having no wake to do.
 pub record IsOutOfList (v : Shown) : Type 0 where
   pub own : IsLatestStep v
   pub stands : Standing

@@ -64,7 +64,7 @@ awake_bit Absent = 0
 awake_bit Awake = 1
 awake_bit (Tried n) = 0
 
--- how a pass stands in line: whether its task is in the list, and how often it has appended itself; whether it ended its hold by a release and hasn't looked for a first waiter since; the code of the task that it has chosen, whose wake word it hasn't set; whether its task waits and tries before it sleeps; how many wake words it has set; how often it has fallen asleep
+-- how a pass stands in line: Whether its task is in the list, and how often it has appended itself. Whether it ended its hold by a release and hasn't looked for a first waiter since. The code of the task that it has chosen, whose wake word it hasn't set. Whether its task waits and tries before it sleeps. How many wake words it has set. How often it has fallen asleep.
 pub record Standing : Type 0 where
   pub queued : ℕ
   pub appends : ℕ
@@ -256,7 +256,7 @@ EndsChoice words' s s' = (s'.chosen ≡ 0) × SetsChosen words' (λ t. s.chosen 
 abbrev pub FailsUnderLock : (n locked : ℕ) → Hand → Type 0
 FailsUnderLock n locked h = (locked ≡ 1) × (8 ≤ n) × ((t : ℕ) × (h.task ≡ Some t) × IsUnpicked n t)
 
--- What a step of a pass does to the wake words, to what it owes and to how its task waits; `n` is the owner word, `l` the list and `c` its change, `locked` is 1 where the pass had the wait lock, `h` and `s` stand before the step. Nobody owes but by ending a hold, and nobody chooses but to end a debt with the flag of the waiters, or by the step that ends its hold. Such a debt ends by a choice of the first waiter, and a choice by the store of its wake word. A task falls asleep only after it isn't to try any more, and so it is by a try that failed under the wait lock, or by leaving. It is to try once it enters, or once it has made a step without the wait lock by which it didn't fall asleep.
+-- What a step of a pass does to the wake words, to what it owes and to how its task waits. `n` is the owner word, `l` the list and `c` its change. `locked` is 1 where the pass had the wait lock. `h` and `s` stand before the step. Nobody owes but by ending a hold, and nobody chooses but to end a debt with the flag of the waiters, or by the step that ends its hold. Such a debt ends by a choice of the first waiter, and a choice by the store of its wake word. A task falls asleep only after it isn't to try any more, and so it is by a try that failed under the wait lock, or by leaving. It is to try once it enters, or once it has made a step without the wait lock by which it didn't fall asleep.
 pub record WakesGo (n : ℕ) (l : List Waiter) (c : Change) (words words' : List ℕ) (locked : ℕ) (h h' : Hand) (s s' : Standing) : Type 0 where
   pub words_go : (t : ℕ) → t < MAX_TASKS → WordGoes words words' h.task locked s.queued s.awake (λ u. s.chosen ≡ u + 1) t
   pub owes : s.debt ≡ 0 → s'.debt ≡ 1 → (h.held ≡ Alone) × (h'.held ≡ No)
@@ -269,7 +269,7 @@ pub record WakesGo (n : ℕ) (l : List Waiter) (c : Change) (words words' : List
   pub rouses : s.awake ≡ 0 → s'.awake ≡ 1 → (entered c ≡ 1) ⊎ ((locked ≡ 0) × (s'.dozes ≡ s.dozes))
   pub tries : s.awake ≡ 1 → s'.awake ≡ 0 → (left c ≡ 1) ⊎ FailsUnderLock n locked h
 
--- what a step may do: all that each step of a site, of a spin lock and of a list does; where it ends a hold while a handoff is asked for, it picks the first waiter; a word that picks a waiter is changed by that waiter alone, which takes; the first waiter alone asks for a handoff; the flag of the handoff stays until the holder names the first waiter or nobody waits; who ends a hold keeps the word that it left, which is the first waiter's where it has the wait lock; an append is counted by the pass that enters; and a failed try by one that stands outside the list; and what `WakesGo` says of the wake words
+-- What a step may do: all that each step of a site, of a spin lock and of a list does. Where it ends a hold while a handoff is asked for, it picks the first waiter. A word that picks a waiter is changed by that waiter alone, which takes. The first waiter alone asks for a handoff. The flag of the handoff stays until the holder names the first waiter or nobody waits. Who ends a hold keeps the word that it left, which is the first waiter's where it has the wait lock. An append is counted by the pass that enters, and a failed try by one that stands outside the list. `WakesGo` says what becomes of the wake words.
 pub record MutexMoves (k : Plan) (id : ℕ) (ws : List ℕ) (vs : List V) (us : List ℕ) (vs' : List V) : Type 0 where
   pub site : SiteMove id (owner_in ws) (site k ws) vs (site k us) vs'
   pub spin : SpinMoves id (spin_words ws) (map spin_part vs) (spin_words us) (map spin_part vs')

@@ -13,7 +13,7 @@ use Rattle.osq_nodes.specs.OsqStated.{places_at}
 abbrev pub HasOneFront : Moment → Type 0
 HasOneFront m = (t u : ℕ) → places_at m t ≡ Front → places_at m u ≡ Front → t ≡ u
 
--- The last of these moments of the queue is that of a step of the pass with this number, which at the seat of that step had entered the queue and been its front so often; the task of that number isn't in the queue.
+-- The last of these moments of the queue is that of a step of the pass with this number. At the seat of that step it had entered the queue and been its front so often. The task of that number isn't in the queue.
 pub record IsOutOfQueue (task : Option ℕ) (fronts swaps : ℕ) (past : List Moment) : Type 0 where
   pub step : ℕ
   pub own : IsStepBy task step past

@@ -32,7 +32,7 @@ pub record IsAtRest (v : V) : Type 0 where
   pub none : v.ext.sem.rest ≡ []
   pub still : v.ext.list.changes ≡ false
 
--- a pass may wake so: one that holds shared and waits for nothing keeps writers out by its hold, and any other, which holds nothing shared, by a bias that it reserves; who wakes readers alone leaves a writer that is first to others, and so isn't to owe a wake
+-- A pass may wake so. One that holds shared and waits for nothing keeps writers out by its hold. Any other, which holds nothing shared, does so by a bias that it reserves. Who wakes readers alone leaves a writer that is first to others, and so isn't to owe a wake.
 abbrev pub MayWake : WakeType → V → Type 0
 MayWake ReadOwned v = (shared_weight v.hand.held ≡ 1) × (v.ext.sem.wait ≡ Apart)
 MayWake Readers v = (shared_weight v.hand.held ≡ 0) × (v.ext.wake.owing ≡ false)

@@ -207,7 +207,7 @@ entered Stay = 0
 entered (Enter w) = 1
 entered (Leave t) = 0
 
--- who changes the list: a waiter enters by itself, holds nothing, and has no batch under way; it leaves by itself, again with no batch under way, or as the next of a waker's batch, behind which it then stands; `rest` is the batch of the pass behind the step
+-- Who changes the list. A waiter enters by itself, holds nothing, and has no batch under way. It leaves by itself, again with no batch under way, or as the next of a waker's batch, behind which it then stands. `rest` is the batch of the pass behind the step.
 abbrev pub IsMadeBy : ℕ → List V → (rest : List ℕ) → Change → List Waiter → Type 0
 IsMadeBy id vs rest Stay q = Unit {0}
 IsMadeBy id vs rest (Enter w) q = (v : V) × (get_elem? vs id ≡ some v) × (v.hand.task ≡ Some w.task) × (v.hand.held ≡ No) × (v.ext.sem.rest ≡ [])
@@ -221,7 +221,7 @@ KeepsCount h g word = h.held ≢ No → g.held ≢ h.held → g.freed ≡ word
 abbrev pub MayMiss : V → Type 0
 MayMiss v = (v.ext.sem.wait ≡ Apart) × (v.ext.sem.bias ≡ Clear)
 
--- what a step may do: all that each step of a site, of a spin lock and of a list does; a waiter enters by itself, and leaves by itself or in a waker's batch; while the first waiter is marked and HANDOFF is set, nobody but it writes, and who reads had a bias since before, or held alone; at any time who reads comes to it by itself, with no batch under way, or in a whole batch, and does so until it ends its hold; a waker or a writer of the list asks for a handoff, and marks the first waiter; a batch is granted in the order in which it was picked; who ends or downgrades a hold keeps the count that it left; who is at a stage has the wait lock; an append is counted by the pass that enters; a failed try by one that waits for nothing and has no bias in the count; and what `WakesGo` says of wakes
+-- What a step may do: all that each step of a site, of a spin lock and of a list does. A waiter enters by itself, and leaves by itself or in a waker's batch. While the first waiter is marked and HANDOFF is set, nobody but it writes, and who reads had a bias since before, or held alone. At any time who reads comes to it by itself, with no batch under way, or in a whole batch, and does so until it ends its hold. A waker or a writer of the list asks for a handoff, and marks the first waiter. A batch is granted in the order in which it was picked. Who ends or downgrades a hold keeps the count that it left. Who is at a stage has the wait lock. An append is counted by the pass that enters, and a failed try by one that waits for nothing and has no bias in the count. `WakesGo` says what becomes of wakes.
 pub record RwSemMoves (k : Plan) (id : ℕ) (ws : List ℕ) (vs : List V) (us : List ℕ) (vs' : List V) : Type 0 where
   pub site : SiteMove id (count_in ws) (site k ws) vs (site k us) vs'
   pub spin : SpinMoves id (spin_words ws) (map spin_part vs) (spin_words us) (map spin_part vs')

@@ -37,13 +37,13 @@ pub record WakeStands : Type 0 where
 abbrev pub wake_stands : SemWake → WakeStands
 wake_stands b = record { owing = b.owing; chosen = b.chosen; queued = waits b.vigil; awake = awake_bit b.vigil; wakes = b.wakes; dozes = b.dozes }
 
--- In what follows the step goes from the count `n` to `n'`; `q` is the list before it, `c` its change, `locked` is 1 where the pass had the wait lock; `p` and `s` stand before it, `p'` and `s'` behind it.
+-- In what follows the step goes from the count `n` to `n'`. `q` is the list before it, `c` its change. `locked` is 1 where the pass had the wait lock. `p` and `s` stand before it, `p'` and `s'` behind it.
 
 -- it takes back the bias with which its reader queued
 abbrev pub TakesBack : SemPart → SemPart → Type 0
 TakesBack p p' = ((m : ℕ) × (p.sem.bias ≡ Transit m)) × (p'.sem.bias ≡ Clear)
 
--- who comes to owe: it ends or lowers a hold, and leaves a count that says that tasks wait, and where the hold was shared that nobody else is counted; or it takes a bias back, and leaves a count with nobody; or it leaves the list as the first
+-- Who comes to owe. It ends or lowers a hold, and leaves a count that says that tasks wait, and where the hold was shared that nobody else is counted. Or it takes a bias back, and leaves a count with nobody. Or it leaves the list as the first.
 abbrev pub OwesBy : (n' : ℕ) → List Waiter → Change → SemPart → SemPart → Type 0
 OwesBy n' q c p p' = ((p.held ≢ No) × (p'.held ≢ p.held) × (n' / 2 % 2 ≡ 1) × (p.held ≡ Shared → is_left n' ≡ true))
     ⊎ (TakesBack p p' × (is_left n' ≡ true))

@@ -106,7 +106,7 @@ IsRwSemThen o size k m = IsSiteThen o shut size k m × ((q : List Waiter) × (ps
 abbrev pub HasNoBatch : ℕ → List SemPart → Type 0
 HasNoBatch id ps = (p : SemPart) × (get_elem? ps id ≡ some p) × (p.sem.rest ≡ [])
 
--- a change of this list is made under the wait lock by the pass of this number, hand and part: a waiter enters by itself, holds nothing, and has no batch under way; it leaves by itself, again with no batch under way, or as the next of the batch of the pass, behind which it then stands; the second parts are those behind the step
+-- A change of this list is made under the wait lock by the pass of this number, hand and part. A waiter enters by itself, holds nothing, and has no batch under way. It leaves by itself, again with no batch under way, or as the next of the batch of the pass, behind which it then stands. The second parts are those behind the step.
 abbrev pub MadeBy : Change → ℕ → Hand → List SemPart → List SemPart → List Waiter → Moment → Type 0
 MadeBy Stay id h ps ps' q m = Unit {0}
 MadeBy (Enter w) id h ps ps' q m = HasWaitLock id m × (h.task ≡ Some w.task) × (h.held ≡ No) × HasNoBatch id ps
@@ -114,8 +114,8 @@ MadeBy (Leave t) id h ps ps' q m = HasWaitLock id m × (((h.task ≡ Some t) × 
 
 -- One step of one pass, made while this was the list and these the parts of the passes.
 -- The list changes by one append or one removal, which keeps the others in order. Each append is counted by the pass that enters.
--- While the first waiter is marked and HANDOFF is set, the writer's bit comes by that waiter alone, at any time only where nobody is counted, and a task becomes a reader only by a bias whose addition saw no HANDOFF, or by a downgrade. A bias keeps the count that its addition found. At any time it becomes one by a step of its own pass, which has no batch under way, or in a waker's whole batch, and it is one until its own pass ends its shared hold.
--- HANDOFF is set by a waker with a reserved bias where the first waiter is marked, or by a writer of the list, which is to mark it from then on, and stays until a writer takes, a waker puts a batch of some readers into the count, or nobody waits. A mark is set by one of these, and is the first waiter's; it goes by that waiter's own pass, or by a waker whose batch has it next.
+-- At any time the writer's bit comes only where nobody is counted. While the first waiter is marked and HANDOFF is set, it comes by that waiter alone, and a task becomes a reader only by a bias whose addition saw no HANDOFF, or by a downgrade. A bias keeps the count that its addition found. At any time a task becomes a reader by a step of its own pass, which has no batch under way, or in a waker's whole batch, and it is one until its own pass ends its shared hold.
+-- HANDOFF is set by a waker with a reserved bias where the first waiter is marked, or by a writer of the list, which is to mark that waiter from then on. HANDOFF stays until a writer takes, a waker puts a batch of some readers into the count, or nobody waits. A mark is set by one of these, and is the first waiter's; it goes by that waiter's own pass, or by a waker whose batch has it next.
 -- A batch grows by the readers that its waker picks, and is granted in this order once it is in the count; no other step clears a grant word.
 -- Who is about something, before its step or behind it, has the wait lock. Who ends or downgrades a hold keeps the count that its step left. Whose failed try is counted waits for nothing, and has no bias in the count.
 -- What the pass has of wakes, and the wake words, go as `WakesGo` says.
@@ -139,7 +139,7 @@ HasBecome k [] q ps = ⊥
 HasBecome k (m ∷ []) q ps = IsQueued m q ps
 HasBecome k (m ∷ before ∷ past) q ps = IsQueued m q ps × ((old : List Waiter) × (were : List SemPart) × HasBecome k (before ∷ past) old were × IsRwSemStep k before old were m q ps)
 
--- the last moment of its past, which is that of its own last step, marks the pass at the seat of that step as waiting for nothing and without a bias in the count, as having appended itself as often as it says, and as having no wake to do
+-- The last moment of its past is that of its own last step. It marks the pass at the seat of that step as waiting for nothing and without a bias in the count, as having appended itself as often as it says, and as having no wake to do.
 pub record IsOutOfLine (v : Shown) : Type 0 where
   pub own : IsLatestStep v
   pub wake : SemWake

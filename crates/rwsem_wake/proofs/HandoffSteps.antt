@@ -52,7 +52,7 @@ pub is-marking : (s : Stage) → 0 < marking s → s ≡ Marking
 is-marking Marking more = refl
 is-marking _ more = absurd (omega (arith, more))
 
--- what a step that clears no grant word makes of its pass: its task reads on, or its shared hold ends; its batch goes on, and so it does as the one that is to mark, which it comes to be by setting HANDOFF; and a bias that it adds keeps the count that was there
+-- what a step that clears no grant word makes of its pass: its task reads on, or its shared hold ends. Its batch goes on, and so it does as the one that is to mark, which it comes to be by setting HANDOFF. A bias that it adds keeps the count that was there.
 pub record PassGoes (n n' : ℕ) (q : List Waiter) (marks' grants : List ℕ) (v u : SemPart) : Type 0 where
   pub ends : (t : ℕ) → reads_as grants t u < reads_as grants t v → (v.task ≡ Some t) × (v.held ≡ Shared)
   pub batch : BatchGoes q grants v u

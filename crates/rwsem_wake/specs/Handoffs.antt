@@ -90,7 +90,7 @@ BatchGoes q grants' v u = (u.sem.rest ≡ v.sem.rest) ⊎ ((t : ℕ) × (v.sem.s
 
 -- While HANDOFF is set and the first waiter is marked, the writer bit is set by that waiter alone, and a task becomes a reader only by a bias whose addition saw no HANDOFF, or by a downgrade. Who takes clears HANDOFF, and finds nobody counted. A bias keeps the count that its addition found.
 -- At any time a task becomes a reader by itself, with no batch under way, or in a whole batch, and it is one until its own pass ends its shared hold.
--- HANDOFF is set by a waker with a reserved bias where the first waiter is marked, or by a writer of the list, which is to mark the first waiter from then on, until that one is marked, and by no other step comes to be so. HANDOFF then stays until it is answered.
+-- HANDOFF is set by a waker with a reserved bias where the first waiter is marked, or by a writer of the list. That writer is to mark the first waiter from then on, until that one is marked, and no other step makes a pass so. HANDOFF then stays until it is answered.
 -- A mark is set by one of these, and is the first waiter's. It is cleared by its own waiter, or by a waker whose batch has it next.
 -- A batch grows by the readers that its waker picks, and is granted in this order once it is in the count; no other step clears a grant word.
 pub record KeepsHandoff (id n : ℕ) (q : List Waiter) (marks grants : List ℕ) (vs : List SemPart) (n' : ℕ) (marks' grants' : List ℕ) (us : List SemPart) : Type 0 where
