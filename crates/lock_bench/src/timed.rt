@@ -1,7 +1,9 @@
 //! Rounds on any of the locks, on threads.
 ghost use Rattle.std.specs.Prelude.{◌<◌, ◌≤◌, ◌*◌, ℕ, length, All, IfOk};
+ghost use Rattle.crossbeam_utils.specs.Padded.{padded_value};
 ghost use Rattle.word_bits.specs.declared.TheConstants.{MAX_TASKS};
 
+use crossbeam_utils::CachePadded;
 use std::alloc::{AllocError, Global};
 use std::io;
 use std::sync::Wait;
@@ -67,15 +69,16 @@ pub trait Timed: Sized {
 }
 
 /// Each worker makes so many rounds on a thread of its own, in the name of the task of its place.
+/// No two workers share a cache line: each thread writes to its own all the time.
 fn on_threads<R: Threads + Wait + Sync, L: Timed + Sync>(
     rt: &R,
     lock: &L,
-    workers: &mut [L::Worker],
+    workers: &mut [CachePadded<L::Worker>],
     count: u32,
 )
 where
     L::Worker: Send,
-    requires idle { All (L.idle lock.now) workers.old }
+    requires idle { All (λ w. L.idle lock.now (padded_value w)) workers.old }
     requires serves { (task : ℕ) → task < length workers.old → L.serves lock.now task count }
     requires few { length workers.old ≤ MAX_TASKS }
 {
@@ -84,8 +87,8 @@ where
         rt,
         workers,
         threads,
-        &|task, worker: &mut L::Worker|
-            requires idle { L.idle lock.now worker.old }
+        &|task, worker: &mut CachePadded<L::Worker>|
+            requires idle { L.idle lock.now (padded_value worker.old) }
             requires serves { L.serves lock.now task count }
             requires few { task < MAX_TASKS }
         { lock.rounds(rt, worker, task as u32, count) },
@@ -107,7 +110,8 @@ where
     let (mut lock, mut first) = L::start(rt, alloc, threads, count)?;
     let mut workers = Vec::new(alloc);
     for task in 0..threads {
-        workers.push(lock.another(alloc, &mut first, task)?)?;
+        let worker = lock.another(alloc, &mut first, task)?;
+        workers.push(CachePadded::new(worker))?;
     }
     let start = Instant::now(rt)?;
     on_threads(rt, &lock, workers.as_mut_slice(), count);
