@@ -45,10 +45,11 @@ use Rattle.rwsem_wake.specs.Grants.{stirred}
 use Rattle.rwsem_wake.specs.GrantQueues.{HoldsBy}
 use Rattle.rwsem_wake.proofs.Holding.{shared-holds}
 use Rattle.rwsem_rule.specs.CountHosting.{sem-count, sem-counted}
-use Rattle.rwsem_rule.specs.RwSemPlaces.{line_of}
+use Rattle.rwsem_wake.specs.RwSemPlaces.{line_of}
 use Rattle.rwsem_paths.specs.Queued.{AppendedBy, EntersLock, IsInTransit, KeepsLine, Shares}
 use Rattle.rwsem_rule.specs.RwSemLaws.{sem-hints}
-use Rattle.rwsem_rule.specs.RwSems.{V, Kept, RwSemMoves, bias_of, biased, count_at, count_in, hint_at, more_in, owes_after, with_sem, with_wake, IsDone}
+use Rattle.rwsem_wake.specs.RwSemViews.{V, count_at, hint_at, with_sem, with_wake, IsDone}
+use Rattle.rwsem_rule.specs.RwSems.{Kept, RwSemMoves, bias_of, biased, count_in, more_in, owes_after}
 use Rattle.rwsem_paths.specs.Stealing.{MaySteal, StealsBy, WentOn, left_by}
 
 -- it may, or it may not

@@ -5,8 +5,8 @@ use Rattle.lock_views.specs.declared.view.Moment.{Moment}
 use Rattle.lock_core.specs.Pasts.{FoundAt, GoesOn, IsOwnStep}
 use Rattle.lock_core.specs.SiteRunLaws.{step-by}
 use Rattle.lock_core.specs.Shown.{LeavesHold, shown}
-use Rattle.rwsem_rule.specs.RwSems.{V, count_at}
-use Rattle.rwsem_rule.specs.RwSemPlaces.{line_of}
+use Rattle.rwsem_wake.specs.RwSemViews.{V, count_at}
+use Rattle.rwsem_wake.specs.RwSemPlaces.{line_of}
 use Rattle.rwsem_paths.specs.Releasing.{LeavesCount, WentThrough}
 
 -- a step that left the hand

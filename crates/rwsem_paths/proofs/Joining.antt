@@ -12,8 +12,8 @@ use Rattle.rwsem_wake.specs.SemParts.{apart_hand}
 use Rattle.rwsem_wake.specs.Grants.{TurnsTo}
 use Rattle.rwsem_wake.specs.GrantQueues.{rested}
 use Rattle.rwsem_paths.specs.Queued.{Becomes, comes, waiting}
-use Rattle.rwsem_rule.specs.Removals.{KnowsList}
-use Rattle.rwsem_rule.specs.RwSems.{V, list_of, with_list, with_sem}
+use Rattle.rwsem_wake.specs.Removals.{KnowsList}
+use Rattle.rwsem_wake.specs.RwSemViews.{V, list_of, with_list, with_sem}
 
 -- a list with a first waiter isn't empty
 pub code-waits : (q : List Waiter) (t : ℕ) → first_code q ≡ t + 1 → 1 ≤ length q

@@ -3,9 +3,9 @@ use Rattle.std.proofs.Common.{◌≡◌, ◌∙◌, ℕ, ◌++◌, List, [], ap}
 use Rattle.rwsem_wake.specs.declared.view.Wait.{Wait}
 use Rattle.sem_duty.specs.declared.view.SemWake.{SemWake}
 use Rattle.wake_duty.specs.DutyWakes.{waits}
-use Rattle.rwsem_rule.specs.RwSems.{V}
-use Rattle.rwsem_rule.specs.Removals.{StaysBeside}
-use Rattle.rwsem_rule.specs.RwSemWakes.{HasChosenAll, IsAtRest, SetsAll}
+use Rattle.rwsem_wake.specs.RwSemViews.{V}
+use Rattle.rwsem_wake.specs.Removals.{StaysBeside}
+use Rattle.rwsem_wake.specs.RwSemWakes.{HasChosenAll, IsAtRest, SetsAll}
 use Rattle.rwsem_paths.specs.Queued.{IsInLine, IsInLineToWake}
 
 -- it looked whom to wake, and is to wake those

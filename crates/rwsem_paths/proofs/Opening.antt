@@ -16,10 +16,11 @@ use Rattle.lock_core.specs.SiteRunLaws.{step-by}
 use Rattle.lock_core.specs.Shown.{Shown, PastGoesOn, shown}
 use Rattle.lock_core.proofs.Within.{found-within}
 use Rattle.rwsem_count.specs.CountTries.{TakesSince}
-use Rattle.rwsem_rule.specs.declared.view.RwSemHand.{RwSemHand}
+use Rattle.rwsem_wake.specs.declared.view.RwSemHand.{RwSemHand}
 use Rattle.rwsem_paths.specs.RwSemOpening.{TakesFrom, TakesOpen}
-use Rattle.rwsem_rule.specs.RwSemPlaces.{line_of, seen_of}
-use Rattle.rwsem_rule.specs.RwSems.{V, biased, count_at}
+use Rattle.rwsem_wake.specs.RwSemPlaces.{line_of, seen_of}
+use Rattle.rwsem_wake.specs.RwSemViews.{V, count_at}
+use Rattle.rwsem_rule.specs.RwSems.{biased}
 use Rattle.rwsem_paths.specs.Stealing.{WentOn}
 
 -- the pass's last step found the count, and left the pass holding

@@ -23,14 +23,15 @@ use Rattle.rwsem_wake.specs.SemParts.{apart_hand, some_of}
 use Rattle.rwsem_wake.specs.Batches.{starts_with_reader}
 use Rattle.rwsem_wake.specs.Grants.{OnlySem, StirsTo, TurnsTo, summing, unmarked}
 use Rattle.rwsem_wake.specs.GrantQueues.{MayLook, heard_locked, rested}
-use Rattle.rwsem_rule.specs.RwSems.{V, leaves_wake, list_of, may_change, parted, parted_wake, sem_of, with_list, with_sem, with_wake}
-use Rattle.rwsem_rule.specs.Removals.{KnowsList, StaysBeside}
+use Rattle.rwsem_wake.specs.RwSemViews.{V, leaves_wake, list_of, parted, parted_wake, sem_of, with_list, with_sem, with_wake}
+use Rattle.rwsem_rule.specs.RwSems.{may_change}
+use Rattle.rwsem_wake.specs.Removals.{KnowsList, StaysBeside}
 use Rattle.rwsem_paths.specs.Queued.{Becomes, IsListed, Listens, LooksAt, Stays, waiting}
-use Rattle.rwsem_rule.specs.declared.wake.WakeType.TheVariants.{Any}
+use Rattle.rwsem_wake.specs.declared.wake.WakeType.TheVariants.{Any}
 use Rattle.rwsem_paths.specs.Leaving.{HasLeft, IsUnmarked, MayLeave, SeesUngranted, WakesOn, gone_first, left_wake, ungranted}
-use Rattle.rwsem_rule.specs.RwSemWakes.{HasChosenAll, IsAtRest, SawWriter, woken_of}
+use Rattle.rwsem_wake.specs.RwSemWakes.{HasChosenAll, IsAtRest, SawWriter, woken_of}
 use Rattle.wait_list.proofs.Joining.{holds-one}
-use Rattle.rwsem_rule.proofs.FirstLooks.{code-of}
+use Rattle.rwsem_wake.proofs.FirstLooks.{code-of}
 use Rattle.rwsem_paths.proofs.Vigils.{heard-same, stirs-turns}
 use Rattle.rwsem_paths.proofs.WriterSteps.{knows-same, removed-list, stays-turn}
 

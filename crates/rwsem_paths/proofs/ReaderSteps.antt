@@ -25,9 +25,10 @@ use Rattle.rwsem_wake.specs.Grants.{StirsTo, TurnsTo, armed, unreserved}
 use Rattle.rwsem_wake.specs.Duties.{left_by}
 use Rattle.rwsem_wake.specs.GrantQueues.{HoldsBy, MaySettle, settled}
 use Rattle.rwsem_paths.specs.Queued.{Becomes, Drowses, IsInTransit, IsListed, Listens, Shares, Tries, WaitsOn, comes, waiting}
-use Rattle.rwsem_rule.specs.RwSemPlaces.{dozes_of}
-use Rattle.rwsem_rule.specs.Removals.{KnowsList}
-use Rattle.rwsem_rule.specs.RwSems.{V, IsDone, joined, list_of, sem_of, vigil_of, with_list, with_sem, with_wake}
+use Rattle.rwsem_wake.specs.RwSemPlaces.{dozes_of}
+use Rattle.rwsem_wake.specs.Removals.{KnowsList}
+use Rattle.rwsem_wake.specs.RwSemViews.{V, IsDone, joined, list_of, sem_of, with_list, with_sem, with_wake}
+use Rattle.rwsem_rule.specs.RwSems.{vigil_of}
 use Rattle.wait_list.proofs.Joining.{holds-one}
 use Rattle.rwsem_paths.proofs.WriterSteps.{knows-same}
 use Rattle.rwsem_paths.proofs.Vigils.{listed-on}

@@ -20,9 +20,9 @@ use Rattle.lock_core.proofs.Within.{sees-within, waits-interrupted}
 use Rattle.rwsem_count.specs.CountTries.{MissesCount, MissesSince, at_step}
 use Rattle.rwsem_count.specs.CountWordSteps.{IsReadFree}
 use Rattle.rwsem_count.proofs.Counting.{free-or-shut}
-use Rattle.rwsem_rule.specs.RwSemPlaces.{line_of}
+use Rattle.rwsem_wake.specs.RwSemPlaces.{line_of}
 use Rattle.rwsem_paths.specs.Queued.{EntersLock}
-use Rattle.rwsem_rule.specs.RwSems.{V, count_at}
+use Rattle.rwsem_wake.specs.RwSemViews.{V, count_at}
 use Rattle.rwsem_paths.specs.Spinning.{SawIfTried, SeesShut}
 
 module _ (fronts swaps : ℕ) (tally : Tally) (v u : V) (p q : List Moment) (out : v.hand.held ≡ No) (own : IsOwnStep u q) (goes : GoesOn p q) where

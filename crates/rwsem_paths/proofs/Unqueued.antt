@@ -42,11 +42,12 @@ use Rattle.rwsem_count.proofs.Counting.{alone-parts, held-parts, its-plan}
 use Rattle.rwsem_count.proofs.Sitting.{sits-missed}
 use Rattle.rwsem_wake.specs.declared.view.SemHand.{SemHand}
 use Rattle.rwsem_wake.specs.SemParts.{apart_hand, transit_weight}
-use Rattle.rwsem_rule.specs.declared.view.RwSemHand.{RwSemHand}
+use Rattle.rwsem_wake.specs.declared.view.RwSemHand.{RwSemHand}
 use Rattle.rwsem_rule.specs.CountHosting.{sem-count, sem-counted}
-use Rattle.rwsem_rule.specs.RwSemPlaces.{line_of}
+use Rattle.rwsem_wake.specs.RwSemPlaces.{line_of}
 use Rattle.rwsem_rule.specs.RwSemLaws.{sem-looks}
-use Rattle.rwsem_rule.specs.RwSems.{V, Kept, RwSemMoves, bias_of, biased, count_at, count_in, more_in}
+use Rattle.rwsem_wake.specs.RwSemViews.{V, count_at}
+use Rattle.rwsem_rule.specs.RwSems.{Kept, RwSemMoves, bias_of, biased, count_in, more_in}
 use Rattle.rwsem_paths.specs.Spinning.{IsUnlocked, LookedUnqueued, SawUnqueued, SeenUnqueued, TakenUnqueued}
 
 -- to hold alone isn't to share

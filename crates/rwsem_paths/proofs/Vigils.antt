@@ -12,7 +12,8 @@ use Rattle.rwsem_wake.specs.Grants.{StirsTo, TurnsTo}
 use Rattle.rwsem_wake.specs.declared.view.SemHand.{SemHand}
 use Rattle.rwsem_wake.specs.declared.view.Wait.TheVariants.{Reads, Writes}
 use Rattle.wait_list.specs.Lists.{first_code}
-use Rattle.rwsem_rule.specs.RwSems.{V, list_of, sleep_vigil, sleeps_as, vigil_of, with_sem, with_wake}
+use Rattle.rwsem_wake.specs.RwSemViews.{V, list_of, with_sem, with_wake}
+use Rattle.rwsem_rule.specs.RwSems.{sleep_vigil, sleeps_as, vigil_of}
 use Rattle.rwsem_paths.specs.Queued.{HasTriedAt, IsInLine, IsListed, KeepsWaiting, Listens, Tries, waiting}
 
 pub keeps-same : (b : SemWake) → KeepsWaiting b b

@@ -30,11 +30,12 @@ use Rattle.lock_core.specs.Views.{SpinHolds, took}
 use Rattle.rwsem_wake.specs.Grants.{StirsTo, TurnsTo, stirred}
 use Rattle.rwsem_wake.specs.GrantQueues.{HoldsBy, MayTake, asked, own_unmarked, rested, taken}
 use Rattle.rwsem_paths.specs.Queued.{Becomes, HasTaken, HasTriedAt, IsInLine, IsListed, IsTrying, KeepsWaiting, KnowsMark, Rests, Stays, Tries, waiting}
-use Rattle.rwsem_rule.specs.Removals.{KnowsList}
-use Rattle.rwsem_rule.specs.RwSems.{V, leaves_wake, list_of, parted, parted_wake, sem_of, vigil_of, with_list, with_sem, with_wake}
+use Rattle.rwsem_wake.specs.Removals.{KnowsList}
+use Rattle.rwsem_wake.specs.RwSemViews.{V, leaves_wake, list_of, parted, parted_wake, sem_of, with_list, with_sem, with_wake}
+use Rattle.rwsem_rule.specs.RwSems.{vigil_of}
 use Rattle.wait_list.proofs.Joining.{holds-one}
 use Rattle.rwsem_paths.proofs.Joining.{code-waits}
-use Rattle.rwsem_rule.proofs.Walking.{finds-next}
+use Rattle.rwsem_wake.proofs.Walking.{finds-next}
 use Rattle.rwsem_paths.proofs.Vigils.{exchanged-other, exchanged-same, keeps-of, keeps-on, locked-left, saw-keeps, tried-at, tried-same}
 
 -- it knows the list as before where the list and the spin lock are

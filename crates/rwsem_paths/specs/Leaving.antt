@@ -9,10 +9,10 @@ use Rattle.rwsem_wake.specs.declared.view.Wait.TheVariants.{Reads, Writes}
 use Rattle.rwsem_wake.specs.SemParts.{apart_hand}
 use Rattle.wake_duty.specs.declared.view.Vigil.TheVariants.{Absent}
 use Rattle.sem_duty.specs.declared.view.SemWake.{SemWake}
-use Rattle.rwsem_rule.specs.RwSems.{V}
+use Rattle.rwsem_wake.specs.RwSemViews.{V}
 use Rattle.rwsem_paths.specs.Queued.{IsInLine, IsListed, waiting}
-use Rattle.rwsem_rule.specs.RwSemWakes.{SawWriter, woken_of}
-use Rattle.rwsem_rule.specs.declared.wake.WakeType.TheVariants.{Any}
+use Rattle.rwsem_wake.specs.RwSemWakes.{SawWriter, woken_of}
+use Rattle.rwsem_wake.specs.declared.wake.WakeType.TheVariants.{Any}
 
 -- a reader that waits has seen under the wait lock that it isn't granted
 abbrev pub ungranted : SemHand

@@ -21,8 +21,9 @@ use Rattle.wake_duty.specs.DutyWakes.{waits}
 use Rattle.wake_duty.specs.WakeSteps.{HasTried}
 use Rattle.sem_duty.specs.declared.view.SemWake.{SemWake}
 use Rattle.rwsem_wake.specs.Duties.{is_left}
-use Rattle.rwsem_rule.specs.RwSems.{V, IsDone, after_swap, vigil_of}
-use Rattle.rwsem_rule.specs.Removals.{KnowsList}
+use Rattle.rwsem_wake.specs.RwSemViews.{V, IsDone}
+use Rattle.rwsem_rule.specs.RwSems.{after_swap, vigil_of}
+use Rattle.rwsem_wake.specs.Removals.{KnowsList}
 
 -- its task waits so, has no bias in the count, and is about nothing
 abbrev pub waiting : Wait → SemHand

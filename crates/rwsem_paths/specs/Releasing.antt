@@ -2,7 +2,7 @@
 use Rattle.std.specs.Prelude.{◌≡◌, ℕ, ◌+◌, ◌<◌, ◌≤◌}
 use Rattle.lock_views.specs.declared.view.Held.{Held}
 use Rattle.lock_core.specs.Shown.{Shown, FindsAtStep, LeavesHold}
-use Rattle.rwsem_rule.specs.RwSems.{V, count_at}
+use Rattle.rwsem_wake.specs.RwSemViews.{V, count_at}
 
 -- all but the spin lock, and what it knows of the list and the semaphore, is as before, and it has taken the wait lock once
 pub record WentThrough (v u : V) : Type 0 where

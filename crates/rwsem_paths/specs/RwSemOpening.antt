@@ -8,7 +8,7 @@ use Rattle.lock_views.specs.declared.view.Moment.{Moment}
 use Rattle.lock_core.specs.Pasts.{FoundAt}
 use Rattle.lock_core.specs.Shown.{Shown, FindsAtStep}
 use Rattle.rwsem_count.specs.CountWordSteps.{IsLocked, IsReadFree}
-use Rattle.rwsem_rule.specs.RwSems.{count_at}
+use Rattle.rwsem_wake.specs.RwSemViews.{count_at}
 use Rattle.rwsem_paths.specs.Spinning.{IsUnlocked}
 
 -- a step of the call found a count that fits, and left the pass with this hold

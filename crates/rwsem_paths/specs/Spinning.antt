@@ -12,8 +12,9 @@ use Rattle.lock_core.specs.Shown.{Shown}
 use Rattle.lock_core.specs.Views.{handed, ticked}
 use Rattle.rwsem_count.specs.CountPlays.{Gets}
 use Rattle.rwsem_count.specs.CountTries.{MissesCount, at_step}
-use Rattle.rwsem_rule.specs.declared.view.RwSemHand.{RwSemHand}
-use Rattle.rwsem_rule.specs.RwSems.{V, biased, count_at}
+use Rattle.rwsem_wake.specs.declared.view.RwSemHand.{RwSemHand}
+use Rattle.rwsem_wake.specs.RwSemViews.{V, count_at}
+use Rattle.rwsem_rule.specs.RwSems.{biased}
 
 -- nobody holds, and no handoff is asked for: a writer may take this count without a place in the list
 abbrev pub IsUnlocked : ℕ → Type 0

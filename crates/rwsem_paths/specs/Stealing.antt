@@ -11,8 +11,8 @@ use Rattle.lock_core.specs.Views.{ticked}
 use Rattle.rwsem_count.specs.declared.view.Bias.{Bias}
 use Rattle.rwsem_count.specs.declared.view.Bias.TheVariants.{Clear, Transit, Reserve}
 use Rattle.rwsem_wake.specs.GrantQueues.{GetsSem}
-use Rattle.rwsem_rule.specs.declared.view.RwSemHand.{RwSemHand}
-use Rattle.rwsem_rule.specs.RwSems.{with_sem, with_wake}
+use Rattle.rwsem_wake.specs.declared.view.RwSemHand.{RwSemHand}
+use Rattle.rwsem_wake.specs.RwSemViews.{with_sem, with_wake}
 
 -- the count that the addition of a bias left
 abbrev pub left_by : Bias → ℕ

@@ -8,18 +8,18 @@ ghost use Rattle.lock_core.specs.Views.{SpinHolds, SpinRests};
 ghost use Rattle.wait_list.specs.Lists.{first_code, without};
 ghost use Rattle.rwsem_wake.specs.SemParts.{apart_hand, some_of};
 ghost use Rattle.rwsem_wake.specs.Grants.{OnlySem, summing, AreTaskNumbers};
-ghost use Rattle.rwsem_rule.specs.RwSems.{leaves_wake, with_sem};
-ghost use Rattle.rwsem_rule.specs.Removals.{KnowsList};
-ghost use Rattle.rwsem_rule.specs.RwSemPlaces.{AreCounts, IsOutside, MovesOn, dozes_of, seen_of};
+ghost use Rattle.rwsem_wake.specs.RwSemViews.{leaves_wake, with_sem};
+ghost use Rattle.rwsem_wake.specs.Removals.{KnowsList};
+ghost use Rattle.rwsem_wake.specs.RwSemPlaces.{AreCounts, IsOutside, MovesOn, dozes_of, seen_of};
 ghost use Rattle.rwsem_paths.specs.Queued.{Becomes, KeepsLine, LooksAt};
-ghost use Rattle.rwsem_rule.specs.RwSemWakes.{woken_tasks};
+ghost use Rattle.rwsem_wake.specs.RwSemWakes.{woken_tasks};
 ghost use Rattle.rwsem_paths.specs.Leaving.{HasLeft, IsUnmarked, MayLeave, WakesOn, gone_first};
 
 use cpu_task::{Cpu, Crew};
 use lock_core::{Interrupted, Pass, Site};
-use rwsem_rule::wake::{WakeType, wake, wake_tasks};
-use rwsem_rule::{SemRule, Waited, WakeCounts, Woken};
-use rwsem_wake::queueing;
+use rwsem_rule::SemRule;
+use rwsem_wake::wake::{WakeType, wake, wake_tasks};
+use rwsem_wake::{Waited, WakeCounts, Woken, queueing};
 use wait_list::list;
 use word_bits::Object;
 

@@ -8,15 +8,16 @@ ghost use Rattle.lock_core.specs.Signals.{OnlyConsumed};
 ghost use Rattle.lock_core.specs.Views.{SpinRests};
 ghost use Rattle.cpu_task.specs.CpuCounting.{Dozes};
 ghost use Rattle.rwsem_paths.specs.SleepCounting.{SleepsBetween};
-ghost use Rattle.rwsem_rule.specs.RwSemPlaces.{AreCounts, IsOutside, MovesOn, dozes_of, seen_of};
+ghost use Rattle.rwsem_wake.specs.RwSemPlaces.{AreCounts, IsOutside, MovesOn, dozes_of, seen_of};
 ghost use Rattle.rwsem_paths.specs.Queued.{AppendedBy, EntersLock, IsInTransit};
 ghost use Rattle.rwsem_paths.specs.Stealing.{WentOn, left_by};
 
 use cpu_task::{Cpu, Crew};
 use lock_core::{How, Interrupted, Pass, Site};
-use rwsem_rule::hint::note_reader;
-use rwsem_rule::wake::wake_tasks;
-use rwsem_rule::{SemRule, WakeCounts, Woken};
+use rwsem_rule::SemRule;
+use rwsem_wake::hint::note_reader;
+use rwsem_wake::wake::wake_tasks;
+use rwsem_wake::{WakeCounts, Woken};
 use std::sync::Wait;
 use word_bits::Object;
 

@@ -5,16 +5,17 @@ ghost use Rattle.lock_core.specs.SiteHandles.{view_of, hand_in, task_in, held_in
 ghost use Rattle.lock_core.specs.Kinds.{semaphore, wakes_alone, wakes_down, wakes_shared};
 ghost use Rattle.lock_core.specs.Locking.{Downgrades, Releases};
 ghost use Rattle.lock_core.specs.Views.{SpinRests};
-ghost use Rattle.rwsem_rule.specs.RwSemPlaces.{AreCounts, IsOutside, MayOwe, MovesOn, dozes_of, seen_of};
+ghost use Rattle.rwsem_wake.specs.RwSemPlaces.{AreCounts, IsOutside, MayOwe, MovesOn, dozes_of, seen_of};
 ghost use Rattle.rwsem_paths.specs.Releasing.{LeavesCount, WentThrough};
-ghost use Rattle.rwsem_rule.specs.RwSemWakes.{MayWake};
+ghost use Rattle.rwsem_wake.specs.RwSemWakes.{MayWake};
 
 use cpu_task::Crew;
 use lock_core::{Pass, Site};
 use rwsem_count::{has_waiters, is_locked, steps};
-use rwsem_rule::hint::{NOBODY, reader_hint, set_hint};
-use rwsem_rule::wake::{WakeType, wake, wake_tasks};
-use rwsem_rule::{Endless, SemRule, WakeCounts, Woken};
+use rwsem_rule::SemRule;
+use rwsem_wake::hint::{NOBODY, reader_hint, set_hint};
+use rwsem_wake::wake::{WakeType, wake, wake_tasks};
+use rwsem_wake::{Endless, WakeCounts, Woken};
 use std::sync::Wait;
 use word_bits::Object;
 

@@ -4,7 +4,7 @@ ghost use Rattle.lock_core.specs.SiteHandles.{view_of, hand_in, task_in, SitsAt,
 ghost use Rattle.lock_core.specs.Locking.{SawPending};
 ghost use Rattle.lock_core.specs.Signals.{HasHeard};
 ghost use Rattle.lock_core.specs.Views.{SpinRests};
-ghost use Rattle.rwsem_rule.specs.RwSemPlaces.{AreCounts, MovesOn, dozes_of, seen_of};
+ghost use Rattle.rwsem_wake.specs.RwSemPlaces.{AreCounts, MovesOn, dozes_of, seen_of};
 ghost use Rattle.rwsem_paths.specs.Queued.{Listens, Drowses};
 ghost use Rattle.cpu_task.specs.CpuCounting.{DozesOnce};
 ghost use Rattle.wake_duty.specs.WakeSteps.{HasTried};
@@ -12,7 +12,8 @@ ghost use Rattle.rwsem_rule.specs.RwSems.{sleep_vigil};
 
 use cpu_task::Cpu;
 use lock_core::{Interrupted, Pass, Site};
-use rwsem_rule::{SemRule, WakeCounts};
+use rwsem_rule::SemRule;
+use rwsem_wake::WakeCounts;
 use std::sync::Wait;
 use word_bits::Object;
 

@@ -8,13 +8,14 @@ ghost use Rattle.lock_core.specs.Signals.{OnlyConsumed};
 ghost use Rattle.lock_core.specs.Views.{SpinRests};
 ghost use Rattle.cpu_task.specs.CpuCounting.{Dozes, SleepsInTurns};
 ghost use Rattle.rwsem_paths.specs.RwSemOpening.{TakesOpen};
-ghost use Rattle.rwsem_rule.specs.RwSemPlaces.{AreCounts, IsOutside, MovesOn, dozes_of, seen_of};
+ghost use Rattle.rwsem_wake.specs.RwSemPlaces.{AreCounts, IsOutside, MovesOn, dozes_of, seen_of};
 ghost use Rattle.rwsem_paths.specs.Queued.{AppendedBy, EntersLock};
 
 use crate::leave::interrupt;
 use cpu_task::{Cpu, Crew};
 use lock_core::{How, Interrupted, Pass, Site};
-use rwsem_rule::{SemRule, WakeCounts};
+use rwsem_rule::SemRule;
+use rwsem_wake::WakeCounts;
 use std::sync::Wait;
 use word_bits::Object;
 

@@ -27,7 +27,8 @@ use Rattle.rwsem_wake.specs.Handoffs.{KeepsHandoff, Unasked, granting_at, reads_
 use Rattle.rwsem_wake.proofs.HandoffSteps.{PassGoes, hands-free, hands-reads, hands-step, own-comes}
 use Rattle.rwsem_wake.proofs.Lines.{lines-else}
 use Rattle.rwsem_wake.proofs.WakeLaws.{held-most, ok-of, sem-counts, transit-most}
-use Rattle.rwsem_rule.specs.RwSems.{V, any_count, bias_of, biased, count_at, count_in, grants_at, grants_in, marks_at, marks_in, may_count, more_in, seen, wake_words, RwSemKept, Kept as IsKept}
+use Rattle.rwsem_wake.specs.RwSemViews.{V, count_at, seen}
+use Rattle.rwsem_rule.specs.RwSems.{any_count, bias_of, biased, count_in, grants_at, grants_in, marks_at, marks_in, may_count, more_in, wake_words, RwSemKept, Kept as IsKept}
 use Rattle.rwsem_rule.specs.WakesGo.{WakesGo, wake_stands}
 use Rattle.rwsem_rule.specs.WakesGoLaws.{count-goes}
 use Rattle.rwsem_rule.specs.DutyRule.{Duties, duties-counted}

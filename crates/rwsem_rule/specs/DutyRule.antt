@@ -38,7 +38,8 @@ use Rattle.rwsem_wake.specs.Grants.{KeepsOut}
 use Rattle.rwsem_wake.specs.Duties.{StageOk, WakeGoes, begun_weight, waited_weight, duty_of, guards_of, is_left, kept_of, kept_weight, overdue_of, overdue_weight, paid, writes_of}
 use Rattle.rwsem_wake.proofs.DutySteps.{field-is, writer-is, guards-are, late-are, alone-are, not-left, overdue-only}
 use Rattle.rwsem_wake.proofs.Sums.{busy-most, now-at}
-use Rattle.rwsem_rule.specs.RwSems.{V, LeavesBehind, LeavesFirst, LeavesTaken, MayJoin, MayPick, biased, gone, may_count, picked, sem_of, with_list, IsDone, IsStaged, duty_seen, has_waiters, joined, leaves_wake, chooses_task, looked, looks_at, owes_after, parted, parted_wake, seen}
+use Rattle.rwsem_wake.specs.RwSemViews.{V, MayPick, gone, picked, sem_of, with_list, IsDone, joined, leaves_wake, chooses_task, looked, looks_at, parted, parted_wake, seen}
+use Rattle.rwsem_rule.specs.RwSems.{LeavesBehind, LeavesFirst, LeavesTaken, MayJoin, biased, may_count, IsStaged, duty_seen, has_waiters, owes_after}
 
 -- the facts of the wake words, and that each pass stands as its stage asks
 abbrev pub Duties : List ℕ → List ℕ → List Waiter → List V → Type 0

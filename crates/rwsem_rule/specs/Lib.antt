@@ -8,7 +8,3 @@ pub mod RwSemLaws
 pub mod SleepLaws
 pub mod RwSemListLaws
 pub mod CountHosting
-pub mod RwSemPlaces
-pub mod HintPlays
-pub mod Removals
-pub mod RwSemWakes

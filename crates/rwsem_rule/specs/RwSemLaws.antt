@@ -52,7 +52,8 @@ use Rattle.rwsem_wake.proofs.HandoffSteps.{hands-none, hands-step, hands-still, 
 use Rattle.rwsem_wake.proofs.Lines.{lines-else, lines-zero}
 use Rattle.rwsem_wake.proofs.SeatLaws.{sem-opens, sem-renumbers, sem-strangers}
 use Rattle.rwsem_wake.proofs.Stating.{count-least}
-use Rattle.rwsem_rule.specs.RwSems.{IsStaged, duty_seen, wake_words, wakes_at, with_wake, V, MayMiss, idle, list_of, with_sem, seen, count_at, hint_at, list_at, marks_at, grants_at, spin_words, count_in, list_words, marks_in, grants_in, IsLocked, RwSemKept, Kept as IsKept, entered, IsMadeBy, KeepsCount, RwSemMoves, may_free, rests}
+use Rattle.rwsem_wake.specs.RwSemViews.{with_wake, V, list_of, with_sem, seen, count_at, hint_at, list_at}
+use Rattle.rwsem_rule.specs.RwSems.{IsStaged, duty_seen, wake_words, wakes_at, MayMiss, idle, marks_at, grants_at, spin_words, count_in, list_words, marks_in, grants_in, IsLocked, RwSemKept, Kept as IsKept, entered, IsMadeBy, KeepsCount, RwSemMoves, may_free, rests}
 
 pub spin-inside : 0 + SPIN_WORDS ≤ LOCK_WORDS
 spin-inside = omega arith
@@ -65,9 +66,6 @@ list-inside = omega arith
 
 pub count-there : (tasks : ℕ) → HasWord tasks count_at
 count-there tasks = record { spin = λ _. omega arith; first = λ m. absurd (omega (arith, m)); second = λ m. absurd (omega (arith, m)); third = λ m. absurd (omega (arith, m)); fourth = λ m. absurd (omega (arith, m)) }
-
-pub hint-there : (tasks : ℕ) → HasWord tasks hint_at
-hint-there tasks = record { spin = λ _. omega arith; first = λ m. absurd (omega (arith, m)); second = λ m. absurd (omega (arith, m)); third = λ m. absurd (omega (arith, m)); fourth = λ m. absurd (omega (arith, m)) }
 
 pub list-room : (SPIN_WORDS ≤ list_at) × (list_at + 8 ≤ SPIN_WORDS + 64)
 list-room = (omega arith, omega arith)

@@ -44,12 +44,14 @@ use Rattle.rwsem_wake.proofs.Sums.{busy-most}
 use Rattle.rwsem_wake.proofs.QueueLaws.{a_writer, reader, mine-at, reads-at-w, writes-at-w}
 use Rattle.rwsem_wake.proofs.Places.{granted-all}
 use Rattle.rwsem_wake.proofs.HandoffSteps.{hands-none}
-use Rattle.rwsem_rule.specs.RwSems.{V, list_of, seen, list_at, spin_words, count_in, list_words, marks_in, grants_in, IsLocked, RwSemKept, Kept as IsKept, entered, IsMadeBy, chooses_task, joined, leaves_wake, picked, parted as parted_at, parted_wake, has_number, is_clear, looked, may_look, wake_words, wakes_at, with_list, saw_first, may_change, MayJoin, MayPick, LeavesTaken, LeavesFirst, LeavesBehind, LeavesPicked}
+use Rattle.rwsem_wake.specs.RwSemViews.{V, list_of, seen, list_at, chooses_task, joined, leaves_wake, picked, parted as parted_at, parted_wake, has_number, is_clear, looked, may_look, with_list, saw_first, MayPick, LeavesPicked}
+use Rattle.rwsem_rule.specs.RwSems.{spin_words, count_in, list_words, marks_in, grants_in, IsLocked, RwSemKept, Kept as IsKept, entered, IsMadeBy, wake_words, wakes_at, may_change, MayJoin, LeavesTaken, LeavesFirst, LeavesBehind}
 use Rattle.rwsem_rule.specs.WakesGo.{WakesGo, wake_stands}
 use Rattle.rwsem_rule.specs.WakesGoLaws.{goes-chooses, goes-leaves, goes-vigil, leave-enters, look-goes, still-goes}
 use Rattle.rwsem_rule.specs.DutyRule.{Duties, duties-enter, duties-leave-behind, duties-leave-first, duties-leave-taken, duties-look, duties-pick, duties-stay}
 use Rattle.rwsem_rule.specs.RwSemLaws.{SemWords, sem_words, sem-else, Go as Going, Sem, Hands, one-takes, sem-only, sem-only-in, goes, goes-on, hands-same, same-site}
-use Rattle.rwsem_rule.specs.ListSteps.{alone-long, counted-is, enters-reader, enters-writer, first-counts, leaves-first, leaves-picked, leaves-reader, leaves-taken, leaves-writer, reader-counts}
+use Rattle.rwsem_wake.proofs.FirstReaders.{counted-is, first-counts, reader-counts}
+use Rattle.rwsem_rule.specs.ListSteps.{alone-long, enters-reader, enters-writer, leaves-first, leaves-picked, leaves-reader, leaves-taken, leaves-writer}
 
 abbrev parted : V → Part
 parted v = list_part list_of v
@@ -74,6 +76,9 @@ list-again (Leave t) v n b d e = λ i. record (with_list (Leave t) v d) { sem = 
 
 pub may-stay : (v : V) (q : List Waiter) → may_change Stay v q
 may-stay v q = tt
+
+pub may-pick : (v : V) (q : List Waiter) (t : ℕ) → LeavesPicked v q t → may_change (Leave t) v q
+may-pick v q t leaves = inr (inr (inr leaves))
 
 pub may-on : (c : Change) (v : V) (b : ListHand) (q : List Waiter) → may_change c v q → may_change c (listed with_list Stay v b) q
 may-on Stay v b q m = m

@@ -1,12 +1,10 @@
 -- The rule of a reader-writer semaphore: the facts of its parts, and what a step may do.
-use Rattle.std.specs.Prelude.{◌≡◌, ◌≢◌, ℕ, ◌+◌, ◌-◌, ◌*◌, ◌/◌, ◌%◌, ◌<◌, ◌≤◌, ◌==◌, ◌&&◌, ◌⊎◌, true, false, List, [], ◌∷◌, ◌++◌, length, map, slice_index, Bool, Option, Some, None, if◌then◌else◌}
+use Rattle.std.specs.Prelude.{◌≡◌, ◌≢◌, ℕ, ◌+◌, ◌-◌, ◌*◌, ◌/◌, ◌%◌, ◌≤◌, ◌==◌, ◌&&◌, ◌⊎◌, true, false, List, [], ◌∷◌, ◌++◌, length, map, slice_index, Bool, Some}
 use mathlib.Core.Option.{some}
 use lib.ListN.{get_elem?}
-use Rattle.word_bits.specs.declared.TheConstants.{MAX_TASKS}
 use Rattle.word_bits.specs.LockWords.{counted}
 use Rattle.word_bits.specs.Objects.{Obj}
 use Rattle.word_bits.specs.Histories.{Plan}
-use Rattle.lock_views.specs.declared.view.View.{View}
 use Rattle.lock_views.specs.declared.view.Hand.{Hand}
 use Rattle.lock_views.specs.declared.view.Held.{Held}
 use Rattle.lock_views.specs.declared.view.Held.TheVariants.{No, Shared, Alone}
@@ -21,14 +19,13 @@ use Rattle.lock_core.specs.Records.{bit}
 use Rattle.wait_list.specs.declared.view.Waiter.{Waiter}
 use Rattle.wait_list.specs.declared.view.Change.{Change}
 use Rattle.wait_list.specs.declared.view.Change.TheVariants.{Stay, Enter, Leave}
-use Rattle.wait_list.specs.declared.view.ListHand.{ListHand}
 use Rattle.wait_list.specs.declared.words.TheConstants.{LIST_WORDS}
 use Rattle.wait_list.specs.Lists.{ListKept, ListMoves, list_part, no_list, first_code}
 use Rattle.wake_duty.specs.declared.view.Vigil.{Vigil}
-use Rattle.wake_duty.specs.declared.view.Vigil.TheVariants.{Absent, Awake}
+use Rattle.wake_duty.specs.declared.view.Vigil.TheVariants.{Absent}
 use Rattle.wake_duty.specs.DutyWakes.{WAKE_WORDS, waits}
 use Rattle.sem_duty.specs.declared.view.SemWake.{SemWake}
-use Rattle.sem_duty.specs.SemDuties.{DutyPart, DutyKept, no_wake, times, setting, drowsing}
+use Rattle.sem_duty.specs.SemDuties.{DutyPart, DutyKept, no_wake, drowsing}
 use Rattle.rwsem_count.specs.declared.view.Bias.{Bias}
 use Rattle.rwsem_count.specs.declared.view.Bias.TheVariants.{Clear, Transit, Reserve}
 use Rattle.rwsem_count.specs.Counts.{CountPart, early_weight, late_weight, shared_weight}
@@ -36,37 +33,19 @@ use Rattle.rwsem_wake.specs.declared.view.SemHand.{SemHand}
 use Rattle.rwsem_wake.specs.declared.view.Wait.{Wait}
 use Rattle.rwsem_wake.specs.declared.view.Wait.TheVariants.{Apart, Reads, Writes}
 use Rattle.rwsem_wake.specs.declared.view.Stage.{Stage}
-use Rattle.rwsem_wake.specs.declared.view.Stage.TheVariants.{Rest, Armed, Joining, First, Marking, Took, Removed, Emptied, Overdue, Removing, Summing, Granting}
-use Rattle.rwsem_wake.specs.SemParts.{SemPart, apart_hand, busy_weight, reserve_weight, transit_weight}
+use Rattle.rwsem_wake.specs.declared.view.Stage.TheVariants.{Rest, Armed, Marking, Took, Summing, Granting}
+use Rattle.rwsem_wake.specs.SemParts.{apart_hand, busy_weight, reserve_weight, transit_weight}
 use Rattle.rwsem_wake.specs.GrantSemaphores.{SemKept, more_of}
 use Rattle.rwsem_wake.specs.Handoffs.{KeepsHandoff}
 use Rattle.rwsem_wake.specs.GrantsStated.{Picks}
 use Rattle.rwsem_wake.specs.Lines.{lines_in}
-use Rattle.rwsem_wake.specs.Grants.{KeepsOut, sem_part}
-use Rattle.rwsem_wake.specs.Duties.{StageOk, duty_of, is_left, paid}
+use Rattle.rwsem_wake.specs.Duties.{StageOk, duty_of, is_left}
 use Rattle.rwsem_rule.specs.WakesGo.{WakesGo, awake_bit, wake_stands}
-use Rattle.rwsem_rule.specs.declared.view.RwSemHand.{RwSemHand}
-
-abbrev pub V : Type 0
-V = View RwSemHand
+use Rattle.rwsem_wake.specs.RwSemViews.{V, IsDone, LeavesPicked, count_at, list_at, list_of, seen, with_wake}
+use Rattle.rwsem_wake.specs.declared.view.RwSemHand.{RwSemHand}
 
 abbrev pub idle : RwSemHand
 idle = record { list = no_list; sem = apart_hand; appends = 0; wake = no_wake }
-
-abbrev pub list_of : RwSemHand → ListHand
-list_of e = e.list
-
-abbrev pub sem_of : RwSemHand → SemHand
-sem_of e = e.sem
-
-abbrev pub with_sem : RwSemHand → SemHand → RwSemHand
-with_sem e s = record e { sem = s }
-
-abbrev pub wake_of : RwSemHand → SemWake
-wake_of e = e.wake
-
-abbrev pub with_wake : RwSemHand → SemWake → RwSemHand
-with_wake e b = record e { wake = b }
 
 abbrev pub vigil_of : RwSemHand → Vigil
 vigil_of e = e.wake.vigil
@@ -81,22 +60,11 @@ sleeps_as _ _ _ _ x = Absent
 abbrev pub sleep_vigil : RwSemHand → Vigil
 sleep_vigil e = sleeps_as e.wake.owing e.wake.chosen e.sem.bias e.sem.wait e.wake.vigil
 
--- it has chosen this task, and hasn't set its wake word, and each of its batch is granted
-abbrev pub HasChosen : RwSemHand → ℕ → Type 0
-HasChosen e t = (1 ≤ times t e.wake.chosen) × (e.sem.rest ≡ []) × (t < MAX_TASKS)
-
-abbrev pub after_set : RwSemHand → ℕ → RwSemHand
-after_set e t = with_wake e (setting t e.wake)
-
 abbrev pub after_swap : RwSemHand → ℕ → RwSemHand
 after_swap e n = with_wake e (drowsing n e.wake)
 
 abbrev pub bias_of : RwSemHand → Bias
 bias_of e = e.sem.bias
-
--- what of a view concerns the count, the marks and the grant words
-abbrev pub seen : V → SemPart
-seen v = sem_part sem_of v
 
 -- what of a view concerns wakes, by these grant words
 abbrev pub duty_seen : List ℕ → V → DutyPart
@@ -137,19 +105,10 @@ numbers_of s appends b = wait_code s.wait ∷ stage_code s.stage ∷ appends ∷
 abbrev pub standing : RwSemHand → List ℕ
 standing e = numbers_of e.sem e.appends e.wake
 
--- where the words stand: the wait lock's, the count, the owner hint, those of the list, and the marks and the grant words of all tasks
+-- where the words stand: the wait lock's, and the marks, the grant words and the wake words of all tasks
 
 abbrev pub wait_lock_at : ℕ
 wait_lock_at = 0
-
-abbrev pub count_at : ℕ
-count_at = SPIN_ROOM
-
-abbrev pub hint_at : ℕ
-hint_at = SPIN_ROOM + 8
-
-abbrev pub list_at : ℕ
-list_at = SPIN_ROOM + 16
 
 abbrev pub marks_at : ℕ
 marks_at = SPIN_ROOM + ROW_WORDS
@@ -237,12 +196,6 @@ pub record RwSemMoves (k : Plan) (id : ℕ) (ws : List ℕ) (vs : List V) (us : 
 abbrev pub may_free : V → Type 0
 may_free v = (v.ext.sem.stage ≡ Rest) × (v.ext.list.changes ≡ false)
 
--- it owes nothing, has chosen nobody, and waits for nothing
-pub record IsDone (b : SemWake) : Type 0 where
-  pub clear : b.owing ≡ false
-  pub none : b.chosen ≡ []
-  pub absent : b.vigil ≡ Absent
-
 abbrev pub rests : V → Type 0
 rests v = (v.ext.sem ≡ apart_hand) × IsDone v.ext.wake
 
@@ -272,78 +225,7 @@ may_count v p = (v.ext.sem.wait ≡ Apart) × (held_weight p.held + (early_weigh
 abbrev pub any_count : ℕ → Type 0
 any_count word = Unit {0}
 
--- what a change of the list makes of its pass
-
--- who appends itself, to a list that is then so long
-abbrev pub joined : Bool → ℕ → SemHand → SemHand
-joined writer long s = record s { wait = if writer then Writes else Reads; stage = if writer then (if long == 1 then First else Rest) else Joining (long == 1) }
-
--- it leaves the list at this stage
-abbrev pub gone : Stage → SemHand → SemHand
-gone stage s = record s { wait = Apart; stage = stage }
-
--- it removes this task as the next of its batch
-abbrev pub picked : ℕ → SemHand → SemHand
-picked t s = record s { rest = s.rest ++ t ∷ []; stage = Removing }
-
--- a task leaves a list that is then so long. From these stages it is the pass's own: a writer that took, a waiter that gives up as the first and isn't marked, and one that does so behind the first. From any other it is one of a batch.
-abbrev pub parted : Stage → Wait → (t long : ℕ) → SemHand → SemHand
-parted Took wait t long s = gone Removed s
-parted Summing wait t long s = gone (if long == 0 then Emptied else Rest) s
-parted Armed wait t long s = gone Rest s
-parted Rest Writes t long s = gone Rest s
-parted _ wait t long s = picked t s
-
--- it leaves the list, and owes a wake or not
-abbrev pub leaves_wake : Bool → SemWake → SemWake
-leaves_wake owing b = record b { owing = owing; vigil = Absent }
-
--- it chooses this task, and has looked by that
-abbrev pub chooses_task : ℕ → SemWake → SemWake
-chooses_task t b = record b { owing = false; chosen = b.chosen ++ t ∷ [] }
-
--- what it knows of wakes when a task leaves the list so
-abbrev pub parted_wake : Stage → Wait → ℕ → SemWake → SemWake
-parted_wake Took wait t b = leaves_wake b.owing b
-parted_wake Summing wait t b = leaves_wake true b
-parted_wake Armed wait t b = leaves_wake b.owing b
-parted_wake Rest Writes t b = leaves_wake b.owing b
-parted_wake _ wait t b = chooses_task t b
-
-abbrev pub with_list : Change → V → ListHand → RwSemHand
-with_list Stay v b = record v.ext { list = b }
-with_list (Enter w) v b = record { list = b; sem = joined w.writer (length b.list) v.ext.sem; appends = v.ext.appends + 1; wake = record v.ext.wake { vigil = Awake } }
-with_list (Leave t) v b = record { list = b; sem = parted v.ext.sem.stage v.ext.sem.wait t (length b.list) v.ext.sem; appends = v.ext.appends; wake = parted_wake v.ext.sem.stage v.ext.sem.wait t v.ext.wake }
-
-abbrev pub is_clear : Bias → Bool
-is_clear Clear = true
-is_clear (Transit word) = false
-is_clear (Reserve word) = false
-
-abbrev pub has_number : Option ℕ → Bool
-has_number None = false
-has_number (Some t) = true
-
--- a pass with a number that knows the list, and has no bias
-abbrev pub may_look : V → Bool
-may_look v = (holds_in v.spin == 1) && (v.ext.list.since == v.spin.entries) && is_clear v.ext.sem.bias && has_number v.hand.task
-
--- who keeps writers out by its hold chooses no writer
-abbrev pub looks_at : Held → Bool → ℕ → SemWake → SemWake
-looks_at No true t b = chooses_task t b
-looks_at Alone true t b = chooses_task t b
-looks_at Shared true t b = paid b
-looks_at held false t b = b
-
--- a look at this list, which it knows or not: where nobody waits it has looked, and where the first waiter is a writer it chooses that one
-abbrev pub looked : Bool → Held → List Waiter → SemWake → SemWake
-looked false held q b = b
-looked true held [] b = paid b
-looked true held (w ∷ q) b = looks_at held w.writer w.task b
-
--- a look at the head under the wait lock is the look that pays for a wake
-abbrev pub saw_first : V → ℕ → RwSemHand
-saw_first v n = record v.ext { wake = looked (may_look v) v.hand.held v.ext.list.list v.ext.wake }
+-- when a pass may change the list
 
 -- a writer enters with no bias; a reader with its own in the count, and with 1 in its grant word
 abbrev pub MayJoin : Bool → SemHand → Type 0
@@ -365,14 +247,6 @@ LeavesFirst v q t = GivesUp v t × (v.ext.sem.stage ≡ Summing) × (v.ext.sem.r
 -- it is another; a reader has seen that it isn't granted
 abbrev pub LeavesBehind : V → List Waiter → ℕ → Type 0
 LeavesBehind v q t = GivesUp v t × (first_code q ≢ t + 1) × (((v.ext.sem.stage ≡ Armed) × (v.ext.sem.wait ≡ Reads)) ⊎ ((v.ext.sem.stage ≡ Rest) × (v.ext.sem.wait ≡ Writes)))
-
--- where a waker begins, or goes on, to remove its batch: one that holds shared without a reserved bias, one that has reserved one, and one whose batch has begun
-abbrev pub MayPick : SemHand → Type 0
-MayPick s = ((s.stage ≡ Rest) × (s.wait ≡ Apart)) ⊎ ((b : Bool) × (s.stage ≡ Overdue b)) ⊎ (s.stage ≡ Removing)
-
--- a task leaves as the next of the pass's batch, which keeps writers out
-abbrev pub LeavesPicked : V → List Waiter → ℕ → Type 0
-LeavesPicked v q t = MayPick v.ext.sem × ((own : ℕ) × (v.hand.task ≡ Some own)) × Picks (seen v) q t × KeepsOut sem_of v
 
 abbrev pub may_change : Change → V → List Waiter → Type 0
 may_change Stay v q = Unit {0}

@@ -39,7 +39,8 @@ use Rattle.sem_duty.specs.SemDutyLaws.{duty-sets, duty-drowses}
 use Rattle.rwsem_wake.specs.SemParts.{SemPart, busy_weight, writes_weight, writes_at, writer_at, named_weight}
 use Rattle.rwsem_wake.specs.declared.view.Wait.{Wait}
 use Rattle.rwsem_wake.specs.declared.view.Wait.TheVariants.{Apart, Reads, Writes}
-use Rattle.rwsem_rule.specs.RwSems.{V, HasChosen, IsLocked, IsStaged, RwSemKept, after_set, after_swap, count_in, duty_seen, grants_in, list_at, list_of, list_words, seen, spin_words, sleep_vigil, sleeps_as, wake_words, wakes_at, with_wake}
+use Rattle.rwsem_wake.specs.RwSemViews.{V, HasChosen, after_set, list_at, list_of, seen, with_wake}
+use Rattle.rwsem_rule.specs.RwSems.{IsLocked, IsStaged, RwSemKept, after_swap, count_in, duty_seen, grants_in, list_words, spin_words, sleep_vigil, sleeps_as, wake_words, wakes_at}
 use Rattle.rwsem_rule.specs.WakesGo.{WakesGo, wake_stands}
 use Rattle.rwsem_rule.specs.WakesGoLaws.{goes-drowses, goes-sets, stay-enters}
 use Rattle.rwsem_rule.specs.DutyRule.{Duties, staged-same}

@@ -22,7 +22,8 @@ use Rattle.rwsem_wake.specs.SemParts.{SemPart, busy_weight}
 use Rattle.rwsem_wake.specs.Duties.{WakeGoes, is_left, paid}
 use Rattle.rwsem_wake.specs.GrantsStated.{Picks}
 use Rattle.rwsem_rule.specs.WakesGo.{HearsBy, LeavesNothing, OwesBy, PaysBy, QueuesBy, SetsBy, SetsTask, TiresBy, WakesGo, awake_bit, wake_stands}
-use Rattle.rwsem_rule.specs.RwSems.{has_waiters, leaves_wake, chooses_task, looked, looks_at, owes_after}
+use Rattle.rwsem_wake.specs.RwSemViews.{leaves_wake, chooses_task, looked, looks_at}
+use Rattle.rwsem_rule.specs.RwSems.{has_waiters, owes_after}
 
 -- nobody enters by a step that leaves the list, or by which a task leaves it
 pub stay-enters : {P : Type 0} (w : Waiter) → Stay ≡ Enter w → P

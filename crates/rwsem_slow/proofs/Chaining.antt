@@ -23,9 +23,10 @@ use Rattle.rwsem_wake.specs.declared.view.SemHand.{SemHand}
 use Rattle.rwsem_wake.specs.SemParts.{SemPart, busy_of}
 use Rattle.rwsem_wake.specs.Handoffs.{KeepsHandoff}
 use Rattle.rwsem_wake.specs.GrantsStated.{Picks}
-use Rattle.rwsem_rule.specs.declared.view.RwSemHand.{RwSemHand}
+use Rattle.rwsem_wake.specs.declared.view.RwSemHand.{RwSemHand}
 use Rattle.rwsem_rule.specs.WakesGo.{WakeStands, WakesGo, wake_stands}
-use Rattle.rwsem_rule.specs.RwSems.{IsLocked, IsMadeBy, Kept, RwSemKept, RwSemMoves, V, count_at, count_in, entered, grants_in, list_of, marks_in, seen, standing, wake_words}
+use Rattle.rwsem_wake.specs.RwSemViews.{V, count_at, list_of, seen}
+use Rattle.rwsem_rule.specs.RwSems.{IsLocked, IsMadeBy, Kept, RwSemKept, RwSemMoves, count_in, entered, grants_in, marks_in, standing, wake_words}
 use Rattle.rwsem_slow.specs.RwSemStated.{HasBecome, HasNoBatch, HasWaitLock, IsRwSemStep, MadeBy, stance}
 use Rattle.rwsem_slow.proofs.Marking.{same-wakes}
 use Rattle.rwsem_slow.proofs.Stating.{queued}

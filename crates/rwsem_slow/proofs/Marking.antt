@@ -8,7 +8,8 @@ use Rattle.rwsem_count.specs.declared.view.Bias.{Bias}
 use Rattle.rwsem_count.specs.declared.view.Bias.TheVariants.{Clear, Transit, Reserve}
 use Rattle.rwsem_wake.specs.declared.view.SemHand.{SemHand}
 use Rattle.rwsem_rule.specs.WakesGo.{wake_stands}
-use Rattle.rwsem_rule.specs.RwSems.{V, bias_codes, numbers_of, stage_code, standing, wait_code, wake_codes}
+use Rattle.rwsem_wake.specs.RwSemViews.{V}
+use Rattle.rwsem_rule.specs.RwSems.{bias_codes, numbers_of, stage_code, standing, wait_code, wake_codes}
 use Rattle.rwsem_slow.specs.RwSemStated.{stance}
 
 -- the numbers of a mark behind those of its bias

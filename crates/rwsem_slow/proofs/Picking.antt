@@ -8,10 +8,10 @@ use Rattle.wait_list.specs.Lists.{IsList, counted, first_code, without}
 use Rattle.rwsem_wake.specs.Batches.{batch_of, reads, starts_with_reader, task_of}
 use Rattle.rwsem_wake.specs.SemParts.{IsWhole}
 use Rattle.rwsem_wake.specs.GrantsStated.{IsFirstReader}
-use Rattle.rwsem_rule.specs.ListSteps.{reader-counts}
+use Rattle.rwsem_wake.proofs.FirstReaders.{reader-counts}
 use Rattle.rwsem_slow.specs.Picking.{PicksBatchInTurn, PicksFirstReaders, PicksInTurn, PicksWholeBatch}
-use Rattle.rwsem_rule.specs.Removals.{AreHeads, BeginsWith, without_all}
-use Rattle.rwsem_rule.proofs.Removing.{all-readers, heads-behind-it, heads-first, readers-all, sound-behind}
+use Rattle.rwsem_wake.specs.Removals.{AreHeads, BeginsWith, without_all}
+use Rattle.rwsem_wake.proofs.Removing.{all-readers, heads-behind-it, heads-first, readers-all, sound-behind}
 
 one-head : (t : ℕ) (q : List Waiter) → IsFirstReader t q → AreHeads (t ∷ []) q
 one-head t [] first = absurd first

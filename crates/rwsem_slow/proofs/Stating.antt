@@ -38,7 +38,8 @@ use Rattle.rwsem_rule.specs.RwSemListLaws.{batch-busy}
 use Rattle.rwsem_rule.specs.WaiterLaws.{has-pass, named-is, view-of}
 use Rattle.rwsem_rule.specs.WakesGo.{WakeStands}
 use Rattle.rwsem_slow.proofs.Marking.{same-wakes}
-use Rattle.rwsem_rule.specs.RwSems.{V, IsDone, Kept, RwSemKept, count_in, duty_seen, grants_in, list_of, marks_in, seen, standing, wake_words}
+use Rattle.rwsem_wake.specs.RwSemViews.{V, IsDone, list_of, seen}
+use Rattle.rwsem_rule.specs.RwSems.{Kept, RwSemKept, count_in, duty_seen, grants_in, marks_in, standing, wake_words}
 use Rattle.rwsem_rule.specs.RwSemLaws.{few-named}
 use Rattle.rwsem_slow.specs.RwSemStated.{HasWaitLock, IsQueued, IsRoused, IsRwSemThen, SomebodyKeepsOut, SomebodyOwes, WakesMarked, stance}
 

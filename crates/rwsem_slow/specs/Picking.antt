@@ -5,7 +5,7 @@ use Rattle.wait_list.specs.Lists.{IsList, first_code, without}
 use Rattle.rwsem_wake.specs.Batches.{batch_of}
 use Rattle.rwsem_wake.specs.SemParts.{IsWhole}
 use Rattle.rwsem_wake.specs.GrantsStated.{IsFirstReader}
-use Rattle.rwsem_rule.specs.Removals.{AreHeads, BeginsWith, without_all}
+use Rattle.rwsem_wake.specs.Removals.{AreHeads, BeginsWith, without_all}
 
 -- where each is the first reader of the list that is left, they are the first readers of the list that the waker began with, which is left without them
 abbrev pub PicksFirstReaders : Type 0

@@ -16,7 +16,7 @@ use Rattle.osq_nodes.specs.OsqHandles as queue
 use Rattle.rwsem_slow.specs.declared.calls.RwSem.{RwSem}
 use Rattle.rwsem_slow.specs.declared.calls.RwPass.{RwPass}
 use Rattle.rwsem_rule.specs.RwSems.{idle, standing}
-use Rattle.rwsem_rule.specs.RwSemPlaces.{AreCounts, IsOutside, line_of}
+use Rattle.rwsem_wake.specs.RwSemPlaces.{AreCounts, IsOutside, line_of}
 
 -- a new table of this plan
 abbrev pub newest : Plan → Moment

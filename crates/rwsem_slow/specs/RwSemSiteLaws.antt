@@ -8,11 +8,11 @@ use Rattle.site_lock.specs.Faces.{Follows, KeepsHold}
 use Rattle.site_lock.specs.Sitting.{SitsIdle}
 use Rattle.rwsem_slow.specs.declared.calls.RwSem.{RwSem}
 use Rattle.rwsem_slow.specs.declared.calls.RwPass.{RwPass}
-use Rattle.rwsem_rule.specs.declared.rule.SemRule.{SemRule}
-use Rattle.rwsem_rule.specs.declared.view.RwSemHand.{RwSemHand}
+use Rattle.rwsem_rule.specs.declared.SemRule.{SemRule}
+use Rattle.rwsem_wake.specs.declared.view.RwSemHand.{RwSemHand}
 use Rattle.rwsem_slow.specs.RwSemHandles.{plan_of, shown_of, SitsAt}
-use Rattle.rwsem_rule.specs.RwSemPlaces.{line_of}
-use Rattle.rwsem_rule.specs.RwSems.{IsDone}
+use Rattle.rwsem_wake.specs.RwSemPlaces.{line_of}
+use Rattle.rwsem_wake.specs.RwSemViews.{IsDone}
 
 pub sem-frame : {O C Call : Type 0} (o : Obj Call) (s : RwSem O C) (p : RwPass O C) (w : Pass (SemRule O) O RwSemHand C) → SitsIdle o (plan_of s) (SitsAt s p) → inner.SitsAt s.site w → Beside (inner.view_of p.pass) (inner.view_of w) → KeepsHold p.pass w → SitsIdle o (plan_of s) (SitsAt s (record p { pass = w })) × Follows w (shown_of p) (shown_of (record p { pass = w }))
 sem-frame o s p w idle on beside hold = let at = idle.own in (

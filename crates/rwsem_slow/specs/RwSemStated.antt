@@ -33,7 +33,8 @@ use Rattle.rwsem_wake.specs.GrantSemaphores.{Quiet}
 use Rattle.rwsem_wake.specs.Handoffs.{KeepsHandoff, reads_as}
 use Rattle.rwsem_wake.specs.GrantsStated.{OnlyFirst, Picks, StatesCount, StatesWaiters, over, readers}
 use Rattle.rwsem_rule.specs.WakesGo.{WakesGo, wake_stands}
-use Rattle.rwsem_rule.specs.RwSems.{IsDone, KeepsCount, count_at, count_in, entered, grants_in, list_words, marks_in, numbers_of, wake_words}
+use Rattle.rwsem_wake.specs.RwSemViews.{IsDone, count_at}
+use Rattle.rwsem_rule.specs.RwSems.{KeepsCount, count_in, entered, grants_in, list_words, marks_in, numbers_of, wake_words}
 
 -- what a moment keeps of a pass that stands so, has appended itself so often, and has this of wakes
 abbrev pub stance : SemHand → ℕ → SemWake → Marks

@@ -15,12 +15,14 @@ ghost use Rattle.osq_nodes.specs.OsqHandles.{tasks_of};
 ghost use Rattle.lock_core.specs.SiteHandles as inner;
 ghost use Rattle.wait_list.specs.declared.view.Waiter.{Waiter as Waiters};
 ghost use Rattle.rwsem_wake.specs.SemParts.{SemPart};
-ghost use Rattle.rwsem_rule.specs.RwSems.{count_at, standing, wait_lock_at};
+ghost use Rattle.rwsem_wake.specs.RwSemViews.{count_at};
+ghost use Rattle.rwsem_rule.specs.RwSems.{standing, wait_lock_at};
 ghost use Rattle.rwsem_slow.specs.RwSemStated.{HasBecome, IsOutOfLine, IsRwSemThen, MarksCounts, waits_on};
 
 use lock_core::{Pass, Plan, Site, Tally};
 use osq_nodes::{Osq, OsqPass};
-use rwsem_rule::{NO_WAKES, SemRule, WakeCounts};
+use rwsem_rule::SemRule;
+use rwsem_wake::{NO_WAKES, WakeCounts};
 use std::alloc::{AllocError, Global};
 use std::sync::Wait;
 use word_bits::Object;

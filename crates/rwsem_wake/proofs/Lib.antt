@@ -21,3 +21,11 @@ pub mod QueueSteps
 pub mod DutySteps
 pub mod WakeKinds
 pub mod Holding
+pub mod FirstReaders
+pub mod Hosting
+pub mod Hinting
+pub mod Removing
+pub mod Walking
+pub mod Granting
+pub mod FirstLooks
+pub mod Owing

@@ -7,3 +7,8 @@ pub mod Lines
 pub mod Grants
 pub mod GrantQueues
 pub mod Duties
+pub mod RwSemViews
+pub mod RwSemPlaces
+pub mod HintPlays
+pub mod Removals
+pub mod RwSemWakes

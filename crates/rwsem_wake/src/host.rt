@@ -1,4 +1,4 @@
-//! The rules whose tables have a count, a list of waiters, marks and grant words.
+//! The rules over which the steps and the wakes of a semaphore are written.
 ghost use Rattle.std.specs.Prelude.{◌≡◌, ℕ, ◌+◌, ◌*◌, ◌<◌, ◌≤◌, List, map, length, slice_index, slice_set};
 ghost use mathlib.Core.Option.{some};
 ghost use lib.ListN.{get_elem?};
@@ -10,26 +10,31 @@ ghost use Rattle.lock_views.specs.declared.view.Hand.{Hand};
 ghost use Rattle.lock_core.specs.declared.layout.TheConstants.{LOCK_WORDS};
 ghost use Rattle.lock_core.specs.Layout.{site};
 ghost use Rattle.lock_core.specs.Stores.{row_at};
-ghost use Rattle.lock_core.specs.Views.{SpinHolds, hand_of};
+ghost use Rattle.lock_core.specs.Views.{SpinHolds, hand_of, ticked};
 ghost use Rattle.lock_core.specs.Spins.{holds_in};
 ghost use Rattle.lock_core.specs.Sites.{KeepsSaw, SiteKept};
 ghost use Rattle.lock_core.specs.Totals.{total};
 ghost use Rattle.lock_core.specs.Moves.{Goes};
 ghost use Rattle.wait_list.specs.declared.view.Waiter.{Waiter};
+ghost use Rattle.wait_list.specs.declared.view.Change.TheVariants.{Leave};
 ghost use Rattle.rwsem_count.specs.Counts.{HandStep};
 ghost use Rattle.rwsem_wake.specs.declared.view.SemHand.{SemHand as ASemHand};
-ghost use Rattle.rwsem_wake.specs.SemParts.{SemPart, busy_weight, busy_of};
+ghost use Rattle.rwsem_wake.specs.SemParts.{busy_weight, busy_of};
 ghost use Rattle.rwsem_wake.specs.GrantSemaphores.{SemKept};
 ghost use Rattle.rwsem_wake.specs.Handoffs.{KeepsHandoff};
 ghost use Rattle.rwsem_wake.specs.Lines.{lines_in};
 ghost use Rattle.rwsem_wake.specs.Grants.{sem_part, stirred};
 ghost use Rattle.rwsem_wake.specs.Duties.{WakeGoes};
+ghost use Rattle.rwsem_wake.specs.declared.view.RwSemHand.{RwSemHand as ARwSemHand};
+ghost use Rattle.rwsem_wake.specs.RwSemViews.{V, HasChosen, LeavesPicked, after_set as after_set_of, count_at, hint_at, list_at, list_of, saw_first as saw_first_of, sem_of, wake_of, with_list as with_list_of, with_sem as with_sem_of, with_wake as with_wake_of};
 ghost use Rattle.sem_duty.specs.declared.view.SemWake.{SemWake as ASemWake};
 
-use crate::view::SemHand;
+use crate::view::{RwSemHand, SemHand};
+use lock_core::SiteRule;
 use rwsem_count::CountHost;
 use sem_duty::SemWake;
 use wait_list::ListHost;
+use wake_duty::SleepHost;
 
 /// A rule whose table has a count, a list of waiters, and for each task a mark and a grant word.
 ///
@@ -87,4 +92,28 @@ pub trait GrantHost: ListHost + CountHost {
     // A step on one of these words that keeps their own facts and the site's, and to a handoff, is
     // of a kind that keeps wakes, and counts no failed try, keeps every other fact of the rule.
     ghost sems: { (k : Calls) (ws : List ℕ) (vs : List (View Self.Ext)) (q : List Waiter) (id i n : ℕ) (v : View Self.Ext) (h : Hand) (s : ASemHand) (b : ASemWake) → Self.queue k ws vs q → get_elem? vs id ≡ some v → Self.COUNT ≤ i → i < GRANTS + 8 * MAX_TASKS → (Self.COUNT < i → MARKS ≤ i) → busy_weight s.stage ≤ holds_in v.spin → HandStep v.hand h (slice_index (slice_set ws i n) Self.COUNT) → KeepsSaw v.hand h → SemKept (slice_index (slice_set ws i n) Self.COUNT) q (lines_in MARKS (slice_set ws i n)) (lines_in GRANTS (slice_set ws i n)) (slice_set (map (sem_part sem) vs) id (record { task = h.task; held = h.held; sem = s })) → KeepsHandoff id (slice_index ws Self.COUNT) q (lines_in MARKS ws) (lines_in GRANTS ws) (map (sem_part sem) vs) (slice_index (slice_set ws i n) Self.COUNT) (lines_in MARKS (slice_set ws i n)) (lines_in GRANTS (slice_set ws i n)) (slice_set (map (sem_part sem) vs) id (record { task = h.task; held = h.held; sem = s })) → WakeGoes (slice_index ws Self.COUNT) q (lines_in GRANTS ws) (map (sem_part sem) vs) (slice_index (slice_set ws i n) Self.COUNT) (lines_in GRANTS (slice_set ws i n)) (sem_part sem v) (record { task = h.task; held = h.held; sem = s }) (wake v.ext) b → SiteKept Self.O.object Self.unavailable Self.O.WORDS k (site k ws) (slice_set (map hand_of vs) id h) → Goes (Self.holds k) (Self.moves k) id ws vs (slice_set ws i n) (slice_set vs id (stirred with_sem with_wake v h s b)) };
+}
+
+/// A rule whose table has all that a wake needs: wake words, and the owner hint beside the count.
+/// Its passes know `RwSemHand`. Whatever else it says, wakes are proved once for all such rules.
+pub trait WakeHost: SiteRule<Ext = RwSemHand> + GrantHost + SleepHost {
+    // The owner hint stands between the count and the words of the list.
+    ghost places: { (Self.COUNT ≡ count_at) × (Self.LIST ≡ list_at) };
+
+    // The list, the part of the semaphore and the wakes are fields of what a pass knows. RwSemViews
+    // says what a change of the list, a look at its head and a set wake word make of them.
+    ghost list_parts: { (Self.list ≡ list_of) × (Self.with_list ≡ with_list_of) × (Self.saw_first ≡ saw_first_of) };
+
+    ghost sem_parts: { (Self.sem ≡ sem_of) × (Self.with_sem ≡ with_sem_of) };
+
+    ghost wake_parts: { (Self.wake ≡ wake_of) × (Self.with_wake ≡ with_wake_of) × (Self.after_set ≡ after_set_of) };
+
+    // A waker may remove the next of its batch. Once the batch is granted, it may set the wake word
+    // of each task that it has chosen.
+    ghost may_pick: { (v : V) (q : List Waiter) (t : ℕ) → LeavesPicked v q t → Self.may_change (Leave t) v q };
+
+    ghost may_set: { (e : ARwSemHand) (t : ℕ) → HasChosen e t → Self.has_chosen e t };
+
+    // A step on the owner hint keeps the rule, which says nothing of it.
+    ghost hints: { (k : Calls) (ws : List ℕ) (vs : List V) (id n : ℕ) (v : V) → Self.holds k ws vs → get_elem? vs id ≡ some v → Goes (Self.holds k) (Self.moves k) id ws vs (slice_set ws hint_at n) (slice_set vs id (ticked v)) };
 }

@@ -1,12 +1,20 @@
-//! The wake of a reader-writer semaphore: batches of readers, and how they are granted.
+//! The wakes of a reader-writer semaphore: whom they choose, and how batches of readers are granted.
+//! Also the steps of tasks that queue, and the owner hint.
 #![tactic(auto)]
 
 pub mod batches;
+pub mod grants;
+pub mod hint;
 mod host;
+mod patience;
 pub mod queueing;
+mod removal;
 pub mod steps;
 mod view;
 pub mod wake;
+mod woken;
 
-pub use host::GrantHost;
-pub use view::{SemHand, Stage, Wait};
+pub use host::{GrantHost, WakeHost};
+pub use patience::{Endless, Patience, Waited};
+pub use view::{RwSemHand, SemHand, Stage, Wait};
+pub use woken::{NO_WAKES, WakeCounts, Woken};

@@ -2,6 +2,8 @@
 //! alone.
 
 use rwsem_count::Bias;
+use sem_duty::SemWake;
+use wait_list::ListHand;
 
 /// How a task waits.
 pub enum Wait {
@@ -51,4 +53,14 @@ pub struct SemHand {
     pub stage: Stage,
     /// The tasks of its batch that aren't granted yet, in order.
     pub rest: [u32; 0],
+}
+
+/// What concerns the words of the list, the count, the marks, the grant words and the wake words.
+pub struct RwSemHand {
+    pub list: ListHand,
+    pub sem: SemHand,
+    /// How often it has appended itself.
+    pub appends: u64,
+    /// What it owes, whom it has chosen, and how its task waits.
+    pub wake: SemWake,
 }

@@ -16,7 +16,7 @@ use Rattle.lock_views.specs.declared.tally.Tally.{Tally}
 use Rattle.rwsem_slow.specs.declared.calls.RwSem.{RwSem}
 use Rattle.rwsem_slow.specs.declared.calls.RwPass.{RwPass}
 use Rattle.rwsem_slow.specs.RwSemHandles as rwsem
-use Rattle.rwsem_rule.specs.RwSemPlaces as rwsem_places
+use Rattle.rwsem_wake.specs.RwSemPlaces as rwsem_places
 use Rattle.site_lock.specs.Sitting.{SitsIdle}
 
 -- a pass of any site, however its lock counts and stands in line

@@ -14,7 +14,7 @@ impl<O: Object> SleepLock<O> for RwSem<O> {
     ghost use Rattle.lock_core.specs.Kinds.{semaphore, wakes_alone, wakes_down, wakes_shared};
     ghost use Rattle.rwsem_slow.specs.RwSemHandles.{newest, spun_of};
     ghost use Rattle.rwsem_paths.specs.Releasing.{LeavesCount};
-    ghost use Rattle.rwsem_rule.specs.RwSems.{count_at};
+    ghost use Rattle.rwsem_wake.specs.RwSemViews.{count_at};
     ghost use Rattle.rwsem_slow.specs.RwSemStated.{waits_on};
     ghost use Rattle.sleep_lock.specs.RwSemLocks.{KnowsRwSem};
     ghost use Rattle.sleep_lock.specs.LockSpinQueues.{KnowsSpinQueue};

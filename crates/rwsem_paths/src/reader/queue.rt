@@ -9,16 +9,16 @@ ghost use Rattle.rwsem_wake.specs.SemParts.{some_of};
 ghost use Rattle.rwsem_wake.specs.Duties.{left_by};
 ghost use Rattle.rwsem_wake.specs.Grants.{AreTaskNumbers};
 ghost use Rattle.rwsem_paths.specs.Queued.{Becomes, IsInTransit, IsInLineToWake, LooksAt, Shares, comes, waiting};
-ghost use Rattle.rwsem_rule.specs.Removals.{KnowsList};
-ghost use Rattle.rwsem_rule.specs.RwSemPlaces.{MovesOn, dozes_of};
-ghost use Rattle.rwsem_rule.specs.RwSemWakes.{woken_tasks};
+ghost use Rattle.rwsem_wake.specs.Removals.{KnowsList};
+ghost use Rattle.rwsem_wake.specs.RwSemPlaces.{MovesOn, dozes_of};
+ghost use Rattle.rwsem_wake.specs.RwSemWakes.{woken_tasks};
 
 use cpu_task::Cpu;
 use lock_core::{Pass, Site};
-use rwsem_rule::wake::choose_others;
-use rwsem_rule::{SemRule, Woken};
-use rwsem_wake::queueing;
+use rwsem_rule::SemRule;
 use rwsem_wake::steps::arm;
+use rwsem_wake::wake::choose_others;
+use rwsem_wake::{Woken, queueing};
 use wait_list::{Waiter, list};
 use word_bits::Object;
 

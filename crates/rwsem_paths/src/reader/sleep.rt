@@ -12,14 +12,14 @@ ghost use Rattle.lock_core.specs.Locking.{SawPending, Takes};
 ghost use Rattle.lock_core.specs.Signals.{HasHeard, OnlyConsumed};
 ghost use Rattle.cpu_task.specs.CpuCounting.{Dozes};
 ghost use Rattle.rwsem_paths.specs.SleepCounting.{SleepsBetween};
-ghost use Rattle.rwsem_rule.specs.RwSemPlaces.{AreCounts, IsOutside, MovesOn, dozes_of, seen_of};
+ghost use Rattle.rwsem_wake.specs.RwSemPlaces.{AreCounts, IsOutside, MovesOn, dozes_of, seen_of};
 
 use crate::leave::interrupt;
 use crate::sleep::{doze, pending};
 use cpu_task::{Cpu, Crew};
 use lock_core::{Interrupted, Pass, Site};
-use rwsem_rule::{SemRule, WakeCounts};
-use rwsem_wake::queueing;
+use rwsem_rule::SemRule;
+use rwsem_wake::{WakeCounts, queueing};
 use std::sync::Wait;
 use word_bits::Object;
 

@@ -6,10 +6,10 @@ ghost use Rattle.lock_core.specs.SiteHandles.{plan_of, view_of, task_in, held_in
 ghost use Rattle.lock_core.specs.Kinds.{lets_in, semaphore};
 ghost use Rattle.lock_core.specs.Shown.{LeavesHold};
 ghost use Rattle.lock_core.specs.Views.{SpinRests, ticked};
-ghost use Rattle.rwsem_rule.specs.RwSemPlaces.{AreCounts, IsOutside, MovesOn, dozes_of, seen_of};
+ghost use Rattle.rwsem_wake.specs.RwSemPlaces.{AreCounts, IsOutside, MovesOn, dozes_of, seen_of};
 ghost use Rattle.rwsem_paths.specs.Queued.{IsInTransit, KeepsLine, Shares};
 ghost use Rattle.rwsem_paths.specs.Stealing.{IsShared, MaySteal, StealsBy, left_by};
-ghost use Rattle.rwsem_rule.specs.RwSemWakes.{MayWake};
+ghost use Rattle.rwsem_wake.specs.RwSemWakes.{MayWake};
 
 use crate::release::wake_waiters;
 use atomic_table::Play;
@@ -17,9 +17,10 @@ use cpu_task::Crew;
 use lock_core::view::View;
 use lock_core::{Held, Op, Pass, Site};
 use rwsem_count::{has_handoff, has_waiters, has_writer, readers};
-use rwsem_rule::hint::{HINT, is_reader_hint};
-use rwsem_rule::wake::WakeType;
-use rwsem_rule::{RwSemHand, SemRule, WakeCounts};
+use rwsem_rule::SemRule;
+use rwsem_wake::hint::{HINT, is_reader_hint};
+use rwsem_wake::wake::WakeType;
+use rwsem_wake::{RwSemHand, WakeCounts};
 use std::marker::PhantomData;
 use std::sync::Wait;
 use word_bits::Object;

@@ -10,10 +10,11 @@ ghost use Rattle.wait_list.specs.Lists.{first_code, first_of};
 ghost use Rattle.rwsem_count.specs.CountWordSteps.{HasHandoff, IsLocked};
 ghost use Rattle.rwsem_wake.specs.declared.view.Stage.TheVariants.{Took};
 ghost use Rattle.rwsem_wake.specs.GrantQueues.{MayTake};
-ghost use Rattle.rwsem_rule.specs.RwSems.{list_of, sem_of, vigil_of};
-ghost use Rattle.rwsem_rule.specs.Removals.{KnowsList};
+ghost use Rattle.rwsem_wake.specs.RwSemViews.{list_of, sem_of};
+ghost use Rattle.rwsem_rule.specs.RwSems.{vigil_of};
+ghost use Rattle.rwsem_wake.specs.Removals.{KnowsList};
 ghost use Rattle.rwsem_paths.specs.RwSemOpening.{TakesOpen};
-ghost use Rattle.rwsem_rule.specs.RwSemPlaces.{seen_of};
+ghost use Rattle.rwsem_wake.specs.RwSemPlaces.{seen_of};
 ghost use Rattle.wake_duty.specs.WakeSteps.{HasTried};
 ghost use Rattle.rwsem_paths.specs.Queued.{Becomes, HasTaken, HasTriedAt, IsInLine, IsListed, IsTrying, KeepsWaiting, KnowsMark, Rests, Stays, TookInLine, Tries, waiting};
 

@@ -6,15 +6,15 @@ ghost use Rattle.lock_core.specs.Views.{SpinHolds};
 ghost use Rattle.rwsem_wake.specs.declared.view.Wait.TheVariants.{Writes};
 ghost use Rattle.rwsem_wake.specs.declared.view.Stage.TheVariants.{Took};
 ghost use Rattle.rwsem_wake.specs.SemParts.{apart_hand};
-ghost use Rattle.rwsem_rule.specs.RwSems.{leaves_wake};
-ghost use Rattle.rwsem_rule.specs.RwSemPlaces.{IsOutside, MovesOn, AreCounts, dozes_of};
+ghost use Rattle.rwsem_wake.specs.RwSemViews.{leaves_wake};
+ghost use Rattle.rwsem_wake.specs.RwSemPlaces.{IsOutside, MovesOn, AreCounts, dozes_of};
 ghost use Rattle.rwsem_paths.specs.Queued.{Becomes, IsInLine, comes, waiting};
 
 use cpu_task::{Cpu, Crew};
 use lock_core::{Pass, Site};
-use rwsem_rule::wake::{choose_others, wake_tasks};
-use rwsem_rule::{SemRule, WakeCounts, Woken};
-use rwsem_wake::queueing;
+use rwsem_rule::SemRule;
+use rwsem_wake::wake::{choose_others, wake_tasks};
+use rwsem_wake::{WakeCounts, Woken, queueing};
 use wait_list::{Waiter, list};
 use word_bits::Object;
 

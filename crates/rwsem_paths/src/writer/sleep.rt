@@ -11,14 +11,15 @@ ghost use Rattle.rwsem_wake.specs.declared.view.Wait.TheVariants.{Writes};
 ghost use Rattle.wake_duty.specs.WakeSteps.{HasTried};
 ghost use Rattle.rwsem_rule.specs.RwSems.{vigil_of};
 ghost use Rattle.rwsem_paths.specs.RwSemOpening.{TakesOpen};
-ghost use Rattle.rwsem_rule.specs.RwSemPlaces.{AreCounts, MovesOn, dozes_of, seen_of};
+ghost use Rattle.rwsem_wake.specs.RwSemPlaces.{AreCounts, MovesOn, dozes_of, seen_of};
 ghost use Rattle.rwsem_paths.specs.Queued.{IsInLine, IsToQuit, KeepsLine, WaitsOn};
 
 use super::attempt;
 use crate::sleep::{doze, pending};
 use cpu_task::Cpu;
 use lock_core::{Interrupted, Pass, Site};
-use rwsem_rule::{SemRule, WakeCounts};
+use rwsem_rule::SemRule;
+use rwsem_wake::WakeCounts;
 use std::sync::Wait;
 use word_bits::Object;
 

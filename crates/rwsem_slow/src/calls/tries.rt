@@ -7,7 +7,7 @@ ghost use Rattle.lock_core.specs.Locking.{Got, Misses};
 ghost use Rattle.lock_core.specs.Pasts.{FoundAt};
 ghost use Rattle.rwsem_count.specs.CountTries.{FindsFree};
 ghost use Rattle.rwsem_count.specs.CountWordSteps.{IsReadFree};
-ghost use Rattle.rwsem_rule.specs.RwSems.{count_at};
+ghost use Rattle.rwsem_wake.specs.RwSemViews.{count_at};
 ghost use Rattle.rwsem_slow.specs.RwSemHandles.{shown_of, hand_in, KeepsWakes, SitsAt, TakesAlone, TakesShared, StepsOn};
 
 use super::{RwPass, RwSem};

@@ -5,7 +5,7 @@ ghost use Rattle.lock_views.specs.declared.view.Held.TheVariants.{No};
 ghost use Rattle.lock_core.specs.Kinds.{semaphore};
 ghost use Rattle.lock_core.specs.Locking.{Got, Interrupts, KeepsPlace, Looks, OnlyTried, TalliesLock, TalliesSpin};
 ghost use Rattle.osq_unqueue.specs.Rising.{LeavesForCpu};
-ghost use Rattle.rwsem_rule.specs.RwSems.{count_at};
+ghost use Rattle.rwsem_wake.specs.RwSemViews.{count_at};
 ghost use Rattle.rwsem_slow.specs.RwSemHandles.{shown_of, dozes_in, hand_in, KeepsFronts, KeepsMisses, KeepsWakes, SitsAt, SpunGoesOn, TakesAlone, StepsOn};
 ghost use Rattle.cpu_task.specs.CpuCounting.{Dozes};
 ghost use Rattle.rwsem_paths.specs.SleepCounting.{CountsLeaving, CountsWriting};
@@ -17,7 +17,7 @@ use cpu_task::{Cpu, Crew};
 use lock_core::{How, Interrupted};
 use rwsem_count::steps;
 use rwsem_paths::writer::{spin, write_in_line};
-use rwsem_rule::hint::{is_reader_owned, set_hint, writer_hint};
+use rwsem_wake::hint::{is_reader_owned, set_hint, writer_hint};
 use std::sync::Wait;
 use word_bits::Object;
 

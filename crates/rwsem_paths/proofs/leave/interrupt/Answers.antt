@@ -1,5 +1,5 @@
 use Rattle.std.proofs.Common.{ap}
-use Rattle.rwsem_rule.specs.RwSems.{V}
+use Rattle.rwsem_wake.specs.RwSemViews.{V}
 use Rattle.rwsem_paths.proofs.Quitting.{leaves-on}
 use Rattle.rwsem_paths.proofs.leave.interrupt.Goals as goal
 

@@ -1,6 +1,6 @@
 use Rattle.std.proofs.Common.{◌∙◌, sym}
 use Rattle.rwsem_paths.proofs.Quitting.{leaves-listed, leaves-still, left-becomes, left-looked, looks-leaves}
-use Rattle.rwsem_rule.specs.RwSemWakes.{woken_tasks}
+use Rattle.rwsem_wake.specs.RwSemWakes.{woken_tasks}
 use Rattle.rwsem_paths.proofs.leave.leave.Goals as goal
 
 pub is_first-requires-clause-still : goal.is_first-requires-clause-still

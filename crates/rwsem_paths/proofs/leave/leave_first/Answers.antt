@@ -5,11 +5,11 @@ use Rattle.rwsem_count.specs.Counts.{shared_weight}
 use Rattle.rwsem_wake.specs.declared.view.SemHand.{SemHand}
 use Rattle.rwsem_wake.specs.Grants.{summing}
 use Rattle.rwsem_wake.specs.SemParts.{some_of}
-use Rattle.rwsem_rule.specs.RwSemPlaces.{seen_of}
-use Rattle.rwsem_rule.specs.RwSems.{V}
-use Rattle.rwsem_rule.proofs.FirstLooks.{any-other}
+use Rattle.rwsem_wake.specs.RwSemPlaces.{seen_of}
+use Rattle.rwsem_wake.specs.RwSemViews.{V}
+use Rattle.rwsem_wake.proofs.FirstLooks.{any-other}
 use Rattle.rwsem_paths.proofs.Quitting.{empty-stage, left-empty, left-others, others-rest, unmarked-first, unmarked-is, unmarked-list, wakes-nobody, wakes-others}
-use Rattle.rwsem_rule.specs.RwSemWakes.{woken_tasks}
+use Rattle.rwsem_wake.specs.RwSemWakes.{woken_tasks}
 use Rattle.rwsem_paths.proofs.leave.leave_first.Goals as goal
 
 pub remove_first-requires-clause-unmarked : goal.remove_first-requires-clause-unmarked

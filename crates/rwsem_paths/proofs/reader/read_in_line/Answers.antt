@@ -1,7 +1,7 @@
 use Rattle.std.proofs.Common.{◌∙◌, ap, arith, inl, refl}
 use Rattle.lock_views.specs.declared.view.Hand.{Hand}
-use Rattle.rwsem_rule.specs.RwSems.{V}
-use Rattle.rwsem_rule.specs.RwSemPlaces.{seen_of}
+use Rattle.rwsem_wake.specs.RwSemViews.{V}
+use Rattle.rwsem_wake.specs.RwSemPlaces.{seen_of}
 use Rattle.lock_core.proofs.Within.{pending-within}
 use Rattle.rwsem_wake.specs.declared.view.Wait.TheVariants.{Reads}
 use Rattle.rwsem_paths.proofs.Marking.{marked}

@@ -5,8 +5,8 @@ use Rattle.lock_core.specs.Locking.{SawPending}
 use Rattle.lock_core.proofs.Within.{err-map, pending-within}
 use Rattle.rwsem_count.specs.Counts.{shared_weight}
 use Rattle.rwsem_wake.specs.declared.view.SemHand.{SemHand}
-use Rattle.rwsem_rule.specs.RwSemPlaces.{seen_of}
-use Rattle.rwsem_rule.specs.RwSems.{V, IsDone}
+use Rattle.rwsem_wake.specs.RwSemPlaces.{seen_of}
+use Rattle.rwsem_wake.specs.RwSemViews.{V, IsDone}
 use Rattle.rwsem_paths.proofs.BiasHolds.{consumed-on, keeps-line-on, line-on, lock-on, shares-on, shares-takes, still-transit, waited-on}
 use Rattle.rwsem_paths.proofs.reader.read_slowly.Goals as goal
 

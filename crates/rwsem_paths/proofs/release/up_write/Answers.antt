@@ -2,7 +2,7 @@ use Rattle.std.proofs.Common.{◌∙◌, refl, sym, ap, subst, arith}
 use Rattle.lock_views.specs.declared.view.Held.TheVariants.{No}
 use Rattle.lock_core.specs.Kinds.{semaphore, wakes_alone}
 use Rattle.lock_core.specs.Records.{bit}
-use Rattle.rwsem_rule.specs.RwSems.{V}
+use Rattle.rwsem_wake.specs.RwSemViews.{V}
 use Rattle.rwsem_paths.proofs.Ending.{leaves-hold, leaves-spared, leaves-woken}
 use Rattle.rwsem_paths.proofs.release.up_write.Goals as goal
 

@@ -1,13 +1,13 @@
 use Rattle.std.proofs.Common.{◌∙◌, ap, arith, inl, refl}
 use Rattle.lock_views.specs.declared.view.Hand.{Hand}
-use Rattle.rwsem_rule.specs.RwSemPlaces.{seen_of}
+use Rattle.rwsem_wake.specs.RwSemPlaces.{seen_of}
 use Rattle.lock_core.proofs.Within.{pending-within}
 use Rattle.lock_views.specs.declared.how.How.TheVariants.{Slept}
 use Rattle.lock_core.specs.declared.pass.Face.{Face}
 use Rattle.lock_views.specs.declared.view.Held.TheVariants.{Alone}
 use Rattle.lock_views.specs.declared.view.SpinHand.{SpinHand}
 use Rattle.rwsem_paths.specs.RwSemOpening.{IsOpen}
-use Rattle.rwsem_rule.specs.RwSems.{V}
+use Rattle.rwsem_wake.specs.RwSemViews.{V}
 use Rattle.rwsem_paths.proofs.Counting.{turns-moved}
 use Rattle.rwsem_paths.proofs.Opening.{takes-before, takes-behind}
 use Rattle.rwsem_paths.proofs.writer.write_in_line.Goals as goal

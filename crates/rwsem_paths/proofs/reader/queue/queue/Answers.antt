@@ -1,8 +1,8 @@
 use Rattle.std.proofs.Common.{◌∙◌, ap}
 use Rattle.wake_duty.specs.DutyWakes.{waits}
 use Rattle.rwsem_wake.specs.declared.view.Wait.TheVariants.{Reads}
-use Rattle.rwsem_rule.specs.RwSems.{V}
-use Rattle.rwsem_rule.specs.RwSemWakes.{woken_tasks}
+use Rattle.rwsem_wake.specs.RwSemViews.{V}
+use Rattle.rwsem_wake.specs.RwSemWakes.{woken_tasks}
 use Rattle.rwsem_paths.proofs.Marking.{marks}
 use Rattle.rwsem_paths.proofs.reader.queue.queue.Goals as goal
 

@@ -1,7 +1,7 @@
 use Rattle.std.proofs.Common.{◌∙◌, sym, subst, ap, inl, refl}
 use Rattle.rwsem_paths.specs.Queued.{IsListed}
-use Rattle.rwsem_rule.specs.declared.view.RwSemHand.{RwSemHand}
-use Rattle.rwsem_rule.specs.RwSems.{V}
+use Rattle.rwsem_wake.specs.declared.view.RwSemHand.{RwSemHand}
+use Rattle.rwsem_wake.specs.RwSemViews.{V}
 use Rattle.rwsem_paths.proofs.Quitting.{heard-on, ungranted-leaves}
 use Rattle.rwsem_paths.proofs.reader.sleep.quit.Goals as goal
 

@@ -1,7 +1,7 @@
 use Rattle.std.proofs.Common.{◌∙◌, refl, ap, arith, rules}
 use Rattle.lock_views.specs.declared.view.Hand.{Hand}
-use Rattle.rwsem_rule.specs.RwSems.{V}
-use Rattle.rwsem_rule.specs.RwSemPlaces.{seen_of}
+use Rattle.rwsem_wake.specs.RwSemViews.{V}
+use Rattle.rwsem_wake.specs.RwSemPlaces.{seen_of}
 use Rattle.lock_core.proofs.Within.{pending-within}
 use Rattle.rwsem_paths.proofs.Counting.{between-again, between-on, dozes-again}
 use Rattle.rwsem_paths.proofs.ReaderSteps.{dozes-since, waits-again}

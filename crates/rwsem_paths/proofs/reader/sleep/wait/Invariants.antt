@@ -3,7 +3,7 @@ use Rattle.lock_views.specs.declared.view.Held.TheVariants.{No}
 use Rattle.lock_core.specs.Views.{SpinRests}
 use Rattle.cpu_task.specs.CpuCounting.{Dozes}
 use Rattle.rwsem_wake.specs.declared.view.Wait.TheVariants.{Reads}
-use Rattle.rwsem_rule.specs.RwSemPlaces.{AreCounts, MovesOn, dozes_of}
+use Rattle.rwsem_wake.specs.RwSemPlaces.{AreCounts, MovesOn, dozes_of}
 use Rattle.rwsem_paths.specs.SleepCounting.{SleepsBetween}
 use Rattle.rwsem_paths.specs.Queued.{WaitsOn}
 use Rattle.rwsem_paths.proofs.reader.sleep.wait.Given as goal

@@ -8,10 +8,11 @@ use Rattle.rwsem_count.specs.declared.view.Bias.TheVariants.{Clear}
 use Rattle.rwsem_count.proofs.Sitting.{some-number, sits-took}
 use Rattle.rwsem_wake.specs.declared.view.SemHand.{SemHand}
 use Rattle.rwsem_wake.proofs.Holding.{holds-by}
-use Rattle.rwsem_rule.specs.RwSems.{V, biased, with_sem, with_wake}
+use Rattle.rwsem_wake.specs.RwSemViews.{V, with_sem, with_wake}
+use Rattle.rwsem_rule.specs.RwSems.{biased}
 use Rattle.rwsem_paths.specs.Stealing.{MaySteal}
 use Rattle.rwsem_paths.proofs.BiasHolds.{next-leaves, steals, stolen}
-use Rattle.rwsem_rule.specs.RwSemLaws.{hint-there}
+use Rattle.rwsem_wake.proofs.Hinting.{hint-there}
 use Rattle.rwsem_paths.proofs.reader.steal.steal.Goals as goal
 
 pub step-hint-requires-clause-there : goal.step-hint-requires-clause-there

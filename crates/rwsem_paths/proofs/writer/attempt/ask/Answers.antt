@@ -1,6 +1,6 @@
 use Rattle.std.proofs.Common.{◌∙◌, ap}
 use Rattle.rwsem_wake.specs.declared.view.SemHand.{SemHand}
-use Rattle.rwsem_rule.specs.RwSems.{V}
+use Rattle.rwsem_wake.specs.RwSemViews.{V}
 use Rattle.rwsem_paths.proofs.Vigils.{tried-same}
 use Rattle.rwsem_paths.proofs.WriterSteps.{ask-done}
 use Rattle.rwsem_paths.proofs.Joining.{code-waits}

@@ -1,4 +1,4 @@
-use Rattle.rwsem_rule.proofs.Walking.{finds-steps}
+use Rattle.rwsem_wake.proofs.Walking.{finds-steps}
 use Rattle.rwsem_paths.proofs.WriterSteps.{first-there, only-none, only-some}
 use Rattle.std.proofs.Common.{None, Some}
 use Rattle.rwsem_paths.proofs.writer.attempt.is_alone.Goals as goal

@@ -3,7 +3,7 @@ use Rattle.lock_views.specs.declared.how.How.TheVariants.{Slept}
 use Rattle.lock_views.specs.declared.view.Held.TheVariants.{Alone}
 use Rattle.lock_core.specs.Pasts.{FoundAt}
 use Rattle.rwsem_paths.specs.RwSemOpening.{IsOpen}
-use Rattle.rwsem_rule.specs.RwSems.{V, count_at}
+use Rattle.rwsem_wake.specs.RwSemViews.{V, count_at}
 use Rattle.rwsem_paths.proofs.Opening.{takes-from}
 use Rattle.rwsem_paths.proofs.writer.attempt.take.Goals as goal
 

@@ -1,7 +1,7 @@
 use Rattle.std.proofs.Common.{arith, true, ap, sym, refl, ◌∙◌, subst, Option}
 use Rattle.wait_list.specs.declared.view.Waiter.{Waiter}
 use Rattle.wait_list.specs.Lists.{FindsFirst}
-use Rattle.rwsem_rule.specs.RwSems.{list_of, with_list}
+use Rattle.rwsem_wake.specs.RwSemViews.{list_of, with_list}
 use Rattle.rwsem_wake.specs.declared.view.SemHand.{SemHand}
 use Rattle.rwsem_paths.proofs.Joining.{writer-alone, writer-behind, writer-first}
 use Rattle.rwsem_paths.proofs.writer.queue.join.Goals as goal

@@ -2,8 +2,8 @@ use Rattle.std.proofs.Common.{◌∙◌, refl, ap}
 use Rattle.wake_duty.specs.DutyWakes.{waits}
 use Rattle.sem_duty.specs.declared.view.SemWake.{SemWake}
 use Rattle.rwsem_wake.specs.declared.view.Wait.TheVariants.{Writes}
-use Rattle.rwsem_rule.specs.RwSems.{V}
-use Rattle.rwsem_rule.specs.RwSemWakes.{woken_tasks}
+use Rattle.rwsem_wake.specs.RwSemViews.{V}
+use Rattle.rwsem_wake.specs.RwSemWakes.{woken_tasks}
 use Rattle.rwsem_paths.proofs.Marking.{marked, marks}
 use Rattle.rwsem_paths.proofs.Vigils.{saw-keeps}
 use Rattle.rwsem_paths.proofs.writer.queue.queue.Goals as goal

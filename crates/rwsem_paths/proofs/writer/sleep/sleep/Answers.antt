@@ -1,6 +1,6 @@
 use Rattle.std.proofs.Common.{◌∙◌, ap, arith, inl, refl}
-use Rattle.rwsem_rule.specs.RwSems.{V}
-use Rattle.rwsem_rule.specs.RwSemPlaces.{seen_of}
+use Rattle.rwsem_wake.specs.RwSemViews.{V}
+use Rattle.rwsem_wake.specs.RwSemPlaces.{seen_of}
 use Rattle.rwsem_paths.proofs.Quitting.{heard-on}
 use Rattle.rwsem_paths.proofs.Vigils.{writer-sleeps}
 use Rattle.lock_core.proofs.Within.{pending-within}

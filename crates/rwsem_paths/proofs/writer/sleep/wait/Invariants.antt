@@ -3,7 +3,7 @@ use Rattle.lock_views.specs.declared.view.Held.TheVariants.{No}
 use Rattle.lock_core.specs.Views.{SpinHolds}
 use Rattle.rwsem_wake.specs.declared.view.Wait.TheVariants.{Writes}
 use Rattle.cpu_task.specs.CpuCounting.{Dozes, SleepsInTurns}
-use Rattle.rwsem_rule.specs.RwSemPlaces.{AreCounts, MovesOn, dozes_of}
+use Rattle.rwsem_wake.specs.RwSemPlaces.{AreCounts, MovesOn, dozes_of}
 use Rattle.rwsem_paths.specs.Queued.{WaitsOn}
 use Rattle.rwsem_paths.proofs.writer.sleep.wait.Given as goal
 

@@ -1,7 +1,7 @@
 use Rattle.std.proofs.Common.{ap, arith}
 use Rattle.lock_core.proofs.Within.{sees-within}
-use Rattle.rwsem_rule.specs.RwSemPlaces.{seen_of}
-use Rattle.rwsem_rule.specs.RwSems.{V}
+use Rattle.rwsem_wake.specs.RwSemPlaces.{seen_of}
+use Rattle.rwsem_wake.specs.RwSemViews.{V}
 use Rattle.rwsem_paths.proofs.Counting.{answers-rise}
 use Rattle.lock_views.specs.declared.how.How.TheVariants.{Spun}
 use Rattle.lock_views.specs.declared.view.Held.TheVariants.{Alone}

@@ -1,7 +1,7 @@
 use Rattle.std.proofs.Common.{◌≡◌, IsSome}
 use Rattle.lock_views.specs.declared.view.Held.TheVariants.{No}
 use Rattle.lock_core.specs.Locking.{OnlyTried}
-use Rattle.rwsem_rule.specs.RwSemPlaces.{seen_of, MovesOn, IsOutside}
+use Rattle.rwsem_wake.specs.RwSemPlaces.{seen_of, MovesOn, IsOutside}
 use Rattle.rwsem_paths.specs.Spinning.{StandsSame}
 use Rattle.rwsem_paths.proofs.writer.spin.spin.Given as goal
 

@@ -2,8 +2,8 @@ use Rattle.std.proofs.Common.{◌∙◌, false, sym, ap, arith}
 use Rattle.lock_core.specs.Shown.{shown}
 use Rattle.lock_views.specs.Tallies.{no_tally}
 use Rattle.lock_core.proofs.Within.{sees-fronts}
-use Rattle.rwsem_rule.specs.RwSemPlaces.{line_of}
-use Rattle.rwsem_rule.specs.RwSems.{V}
+use Rattle.rwsem_wake.specs.RwSemPlaces.{line_of}
+use Rattle.rwsem_wake.specs.RwSemViews.{V}
 use Rattle.rwsem_paths.proofs.Showing.{misses-by}
 use Rattle.rwsem_paths.proofs.Unqueued.{misses-tried}
 use Rattle.lock_views.specs.declared.how.How.TheVariants.{Spun}

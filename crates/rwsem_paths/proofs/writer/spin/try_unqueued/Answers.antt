@@ -1,7 +1,7 @@
 use Rattle.std.proofs.Common.{◌∙◌, subst}
 use Rattle.rwsem_paths.proofs.Unqueued.{shut-count, unqueued-again}
 use Rattle.lock_core.specs.Pasts.{FoundAt}
-use Rattle.rwsem_rule.specs.RwSems.{count_at}
+use Rattle.rwsem_wake.specs.RwSemViews.{count_at}
 use Rattle.rwsem_paths.proofs.writer.spin.try_unqueued.Goals as goal
 
 pub loop-preserved : goal.loop-preserved

@@ -1,7 +1,7 @@
 use Rattle.std.proofs.Common.{◌≡◌}
 use Rattle.lock_core.specs.SitePasses.{Sits}
 use Rattle.lock_core.specs.Pasts.{FoundAt, GoesOn, IsOwnStep}
-use Rattle.rwsem_rule.specs.RwSems.{count_at}
+use Rattle.rwsem_wake.specs.RwSemViews.{count_at}
 use Rattle.rwsem_paths.specs.Spinning.{SawUnqueued}
 use Rattle.rwsem_paths.proofs.writer.spin.try_unqueued.Given as goal
 

@@ -15,8 +15,9 @@ use Rattle.qspin_queue.proofs.Recalling.{each-lock, each-move}
 use Rattle.sem_duty.specs.declared.view.SemWake.{SemWake}
 use Rattle.rwsem_wake.specs.declared.view.SemHand.{SemHand}
 use Rattle.rwsem_wake.specs.SemParts.{apart_hand}
-use Rattle.rwsem_rule.specs.RwSemPlaces.{line_of}
-use Rattle.rwsem_rule.specs.RwSems.{IsDone, Kept, RwSemMoves, V, count_at, standing, wait_lock_at}
+use Rattle.rwsem_wake.specs.RwSemPlaces.{line_of}
+use Rattle.rwsem_wake.specs.RwSemViews.{IsDone, V, count_at}
+use Rattle.rwsem_rule.specs.RwSems.{Kept, RwSemMoves, standing, wait_lock_at}
 use Rattle.rwsem_rule.specs.RwSemLaws.{sem-site, sem-spin}
 use Rattle.rwsem_slow.specs.RwSemHandles.{newest}
 use Rattle.rwsem_slow.specs.RwSemStated.{IsRwSemThen, stance, waits_on}

@@ -1,6 +1,6 @@
 use Rattle.lock_core.proofs.Showing.{latest-shown}
 use Rattle.osq_nodes.specs.OsqHandles.{fronts_in}
-use Rattle.rwsem_rule.specs.RwSemPlaces.{line_of}
+use Rattle.rwsem_wake.specs.RwSemPlaces.{line_of}
 use Rattle.rwsem_slow.proofs.calls.RwSem.recall_wait_lock.Goals as goal
 
 pub returns-clause-last : goal.returns-clause-last

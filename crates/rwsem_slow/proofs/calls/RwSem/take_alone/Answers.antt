@@ -5,7 +5,7 @@ use Rattle.osq_unqueue.specs.Rising.{Rises}
 use Rattle.lock_core.proofs.Within.{err-all, tallies-answer, tried-then}
 use Rattle.osq_nodes.specs.OsqHandles.{fronts_in, swaps_in}
 use Rattle.rwsem_slow.specs.RwSemHandles.{shown_of}
-use Rattle.rwsem_rule.specs.RwSems.{V}
+use Rattle.rwsem_wake.specs.RwSemViews.{V}
 use Rattle.rwsem_paths.proofs.Counting.{dozes-none, err-turns, left-counts, ok-turns, slept-counts}
 use Rattle.rwsem_paths.proofs.Showing.{first-sees, first-tried, spun-sees, waits-quit}
 use Rattle.lock_views.specs.declared.how.How.TheVariants.{Fast, Spun}
