@@ -1,4 +1,4 @@
-//! Tests of calls on objects under a mutex and under a semaphore, on threads of the tests' own.
+//! Tests of calls on objects under an owner word, a mutex and a semaphore, on threads too.
 #![tactic(auto)]
 
 #[cfg(test)]
@@ -9,6 +9,14 @@ mod crowd;
 mod gate_tests;
 #[cfg(test)]
 mod interrupt_tests;
+#[cfg(test)]
+mod owner_calls;
+#[cfg(test)]
+mod owner_rounds;
+#[cfg(test)]
+mod owner_site_tests;
+#[cfg(test)]
+mod serve_tests;
 #[cfg(test)]
 mod sleeper_tests;
 #[cfg(test)]

@@ -1,16 +1,17 @@
 //! What no clause says: passes that give up in a spin queue, one after the other and on threads.
-ghost use Rattle.std.specs.Prelude.{◌≡◌, ◌<◌, ◌+◌, None};
-ghost use Rattle.osq_nodes.specs.declared.node.Place.TheVariants.{Out};
-ghost use Rattle.osq_nodes.specs.OsqHandles.{place_in, task_in, tasks_of, SitsAt};
+ghost use Rattle.std.specs.Prelude.{◌≡◌, ◌<◌, ◌≤◌, length, All, IfOk};
+ghost use Rattle.osq_nodes.specs.OsqHandles.{tasks_of};
+ghost use Rattle.spin_tests.specs.OsqStanding.{IsIdle};
 
 use cpu_task::{Cpu, Crew, ParkCrew, ScriptedCrew, Turns};
 use osq_nodes::{Osq, OsqPass};
 use osq_unqueue::lock;
+use std::alloc::{AllocError, Global};
 use std::sync::Wait;
 use std::sync::atomic::AtomicU64;
 use std::sync::atomic::Ordering::SeqCst;
 use std::test::Fail;
-use std::thread::{Threads, join};
+use std::thread::{self, Threads};
 
 #[test]
 fn a_cpu_that_needs_rescheduling_leaves_behind_a_front_that_stays(
@@ -58,147 +59,108 @@ fn wait_for_one<W: Wait>(rt: &W, tally: &Tally) {
     unreachable!()
 }
 
-/// Tries many times to be the queue's front, and answers how often it was. The first front of all
-/// stays until another task has given up.
-fn rounds<C: Cpu + Drop, W: Wait>(
+/// Tries many times to be the queue's front, in the name of a task. The first front of all stays
+/// until another task has given up.
+fn rounds<C: Cpu, W: Wait>(
     rt: &W,
     osq: &Osq,
-    mut pass: OsqPass,
-    mut cpu: C,
+    pass: &mut OsqPass,
+    cpu: &mut C,
     task: u32,
     tally: &Tally,
-) -> u64
-    requires own { SitsAt osq.now pass }
-    requires numberless { task_in pass ≡ None }
-    requires out { place_in pass ≡ Out }
+)
+    requires idle { IsIdle osq.now pass.old }
     requires there { task < tasks_of osq.now }
 {
-    osq.begin(rt, &mut pass, task);
-    let mut fronts: u64 = 0;
+    osq.begin(rt, pass, task);
     for _ in 0..ROUNDS {
-        if lock(osq, rt, &mut pass, &mut cpu) {
+        if lock(osq, rt, pass, cpu) {
             wait_for_one(rt, tally);
             let seen = tally.fronts.load(SeqCst);
             tally.fronts.store(seen.wrapping_add(1), SeqCst);
-            fronts = fronts.wrapping_add(1);
-            osq.unlock(rt, &mut pass);
+            osq.unlock(rt, pass);
         } else {
             tally.given_up.fetch_add(1, SeqCst);
         }
     }
-    osq.recall_queue(&mut pass);
-    osq.end(&mut pass);
-    fronts
+    osq.recall_queue(pass);
+    osq.end(pass);
 }
 
-/// A pass without a number, and the CPU of its task.
-#[derive(Drop)]
-struct Runner<C: Drop> {
-    pass: OsqPass,
-    cpu: C,
-    task: u32,
-}
-
-fn two_at_once<R: Threads + Wait + Sync, C: Cpu + Drop + Send>(
+/// Each pass does so in the name of the task of its place, all of them at once. Each has its own
+/// thread, since the first front waits for another task.
+fn all_at_once<R: Threads + Wait + Sync, C: Cpu + Send>(
     rt: &R,
     osq: &Osq,
-    one: Runner<C>,
-    two: Runner<C>,
+    members: &mut [(OsqPass, C)],
     tally: &Tally,
-) -> u64
-    requires one { SitsAt osq.now one.pass }
-    requires two { SitsAt osq.now two.pass }
-    requires numberless { (task_in one.pass ≡ None) × (task_in two.pass ≡ None) }
-    requires out { (place_in one.pass ≡ Out) × (place_in two.pass ≡ Out) }
-    requires there { (one.task < tasks_of osq.now) × (two.task < tasks_of osq.now) }
+)
+    requires idle { All (λ m. IsIdle osq.now m.0) members.old }
+    requires there { length members.old ≤ tasks_of osq.now }
+    requires few { length members.old ≤ 4 }
 {
-    let (first, second) = join(
+    let threads = members.len().max(1);
+    thread::for_each_mut(
         rt,
-        || -> u64
-            requires own { SitsAt osq.now one.pass }
-            requires numberless { task_in one.pass ≡ None }
-            requires out { place_in one.pass ≡ Out }
-            requires there { one.task < tasks_of osq.now }
-        { rounds(rt, osq, one.pass, one.cpu, one.task, tally) },
-        || -> u64
-            requires own { SitsAt osq.now two.pass }
-            requires numberless { task_in two.pass ≡ None }
-            requires out { place_in two.pass ≡ Out }
-            requires there { two.task < tasks_of osq.now }
-        { rounds(rt, osq, two.pass, two.cpu, two.task, tally) },
+        members,
+        threads,
+        &|task, member: &mut (OsqPass, C)|
+            requires idle { IsIdle osq.now member.old.0 }
+            requires there { task < tasks_of osq.now }
+            requires few { task < 4 }
+        {
+            rounds(rt, osq, &mut member.0, &mut member.1, task as u32, tally);
+        },
     );
-    first.wrapping_add(second)
 }
 
-fn four_at_once<R: Threads + Wait + Sync, C: Cpu + Drop + Send>(
-    rt: &R,
-    osq: &Osq,
-    one: (Runner<C>, Runner<C>),
-    two: (Runner<C>, Runner<C>),
-    tally: &Tally,
-) -> u64
-    requires own { (SitsAt osq.now one.0.pass) × (SitsAt osq.now one.1.pass) }
-    requires others_own { (SitsAt osq.now two.0.pass) × (SitsAt osq.now two.1.pass) }
-    requires numberless { (task_in one.0.pass ≡ None) × (task_in one.1.pass ≡ None) }
-    requires no_others { (task_in two.0.pass ≡ None) × (task_in two.1.pass ≡ None) }
-    requires out { (place_in one.0.pass ≡ Out) × (place_in one.1.pass ≡ Out) }
-    requires others_out { (place_in two.0.pass ≡ Out) × (place_in two.1.pass ≡ Out) }
-    requires there { (one.0.task < tasks_of osq.now) × (one.1.task < tasks_of osq.now) }
-    requires others_there { (two.0.task < tasks_of osq.now) × (two.1.task < tasks_of osq.now) }
+/// Another pass without a number.
+fn another(osq: &Osq, first: &mut OsqPass) -> OsqPass
+    requires idle { IsIdle osq.now first.old }
+    ensures first { IsIdle osq.now first.new }
+    ensures other { IsIdle osq.now result }
 {
-    let (first, second) = join(
-        rt,
-        || -> u64
-            requires own { (SitsAt osq.now one.0.pass) × (SitsAt osq.now one.1.pass) }
-            requires numberless { (task_in one.0.pass ≡ None) × (task_in one.1.pass ≡ None) }
-            requires out { (place_in one.0.pass ≡ Out) × (place_in one.1.pass ≡ Out) }
-            requires there { (one.0.task < tasks_of osq.now) × (one.1.task < tasks_of osq.now) }
-        { two_at_once(rt, osq, one.0, one.1, tally) },
-        || -> u64
-            requires own { (SitsAt osq.now two.0.pass) × (SitsAt osq.now two.1.pass) }
-            requires numberless { (task_in two.0.pass ≡ None) × (task_in two.1.pass ≡ None) }
-            requires out { (place_in two.0.pass ≡ Out) × (place_in two.1.pass ≡ Out) }
-            requires there { (two.0.task < tasks_of osq.now) × (two.1.task < tasks_of osq.now) }
-        { two_at_once(rt, osq, two.0, two.1, tally) },
-    );
-    first.wrapping_add(second)
+    osq.split(first)
+}
+
+/// For how many turns each of four tasks waits to be the front.
+const SPINS: [u32; 4] = [3, 30, 0, 300];
+
+/// A pass without a number and a CPU for each of four tasks.
+fn members_of<C: Crew>(
+    alloc: Global,
+    osq: &Osq,
+    first: &mut OsqPass,
+    crew: &mut C,
+) -> Result<Vec<(OsqPass, C::C)>, AllocError>
+    requires { IsIdle osq.now first.old }
+    ensures idle { IfOk result (λ members. All (λ m. IsIdle osq.now m.0) members.items) }
+    ensures four { IfOk result (λ members. length members.items ≡ 4) }
+{
+    let mut members = Vec::new(alloc);
+    for task in 0..4u32 {
+        let turns = Turns {
+            spin: SPINS[task as usize],
+            overdue: 0,
+        };
+        let cpu = crew.cpu(alloc, task, turns)?;
+        let pass = another(osq, first);
+        members.push((pass, cpu))?;
+    }
+    Ok(members)
 }
 
 #[test]
 fn only_the_front_counts_while_others_give_up(rt: HostRuntime) -> Result<(), Fail> {
-    let (osq, mut pass) = Osq::open(rt.alloc(), 4)?;
-    let one = osq.split(&mut pass);
-    let two = osq.split(&mut pass);
-    let three = osq.split(&mut pass);
+    let (osq, mut first) = Osq::open(rt.alloc(), 4)?;
     let tally = Tally {
         fronts: AtomicU64::new(0),
         given_up: AtomicU64::new(0),
     };
     let mut crew = ParkCrew::new(rt.alloc(), 4)?;
-    let overdue = 0;
-    let zeroth = Runner {
-        pass,
-        cpu: crew.cpu(rt.alloc(), 0, Turns { spin: 3, overdue })?,
-        task: 0,
-    };
-    let first = Runner {
-        pass: one,
-        cpu: crew.cpu(rt.alloc(), 1, Turns { spin: 30, overdue })?,
-        task: 1,
-    };
-    let second = Runner {
-        pass: two,
-        cpu: crew.cpu(rt.alloc(), 2, Turns { spin: 0, overdue })?,
-        task: 2,
-    };
-    let third = Runner {
-        pass: three,
-        cpu: crew.cpu(rt.alloc(), 3, Turns { spin: 300, overdue })?,
-        task: 3,
-    };
-    let fronts = four_at_once(&rt, &osq, (zeroth, first), (second, third), &tally);
-    let given_up = tally.given_up.load(SeqCst);
-    assert_eq!(rt; tally.fronts.load(SeqCst), fronts);
+    let mut members = members_of(rt.alloc(), &osq, &mut first, &mut crew)?;
+    all_at_once(&rt, &osq, members.as_mut_slice(), &tally);
+    let (fronts, given_up) = (tally.fronts.load(SeqCst), tally.given_up.load(SeqCst));
     assert!(rt; given_up != 0);
     assert_eq!(rt; fronts.wrapping_add(given_up), u64::from(4 * ROUNDS));
     Ok(())

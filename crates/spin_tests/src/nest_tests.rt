@@ -1,6 +1,6 @@
 //! What no clause says: the words of a call that is interrupted and takes another lock meanwhile,
 //! and such interrupts on threads.
-ghost use Rattle.std.specs.Prelude.{◌≡◌, ◌<◌, ◌≤◌, ◌+◌, length, None, IsSome, IfOk};
+ghost use Rattle.std.specs.Prelude.{◌<◌, ◌≤◌, length, IsSome, IfOk};
 ghost use Rattle.lock_core.specs.SiteHandles.{plan_of, task_in, SitsAt, SaysSame, IsNestTold};
 ghost use Rattle.lock_core.specs.LockHands.{RestsAt, HoldsAt, RestsEverywhere};
 ghost use Rattle.qspin_word.specs.SpinWordHandles.{spin_in, NotesItself, SpinIdles};
@@ -15,7 +15,7 @@ use std::alloc::{AllocError, Global};
 use std::sync::Wait;
 use std::sync::atomic::{AtomicU64, Ordering};
 use std::test::Fail;
-use std::thread::{Threads, join};
+use std::thread::{self, Threads, join};
 
 /// The lock for which a call waits that is interrupted.
 const OUTER: usize = 0;
@@ -105,10 +105,7 @@ fn start<W: Wait>(rt: &W, site: &Site<Nest>, pass: &mut Pass<Nest>, task: u32)
 /// Another pass without a number.
 fn another(site: &Site<Nest>, first: &mut Pass<Nest>) -> Pass<Nest>
     requires idle { IsApartIdle site.now first.old }
-    ensures own { SitsAt site.now first.new }
-    ensures numberless { task_in first.new ≡ None }
-    ensures told { IsNestTold first.new }
-    ensures out { RestsEverywhere (spin_in first.new) }
+    ensures first { IsApartIdle site.now first.new }
     ensures other { IsApartIdle site.now result }
 {
     site.split(first)
@@ -221,8 +218,8 @@ fn once<W: Wait>(
     raise(rt, site, &mut pass, counts, lock, &mut Quiet)
 }
 
-/// Takes the outer lock once. Its interrupt takes the inner one, and that one's the gate. The answer
-/// has how many nodes were in use as each of the two was hit last.
+/// Takes the outer lock once. Its interrupt takes the inner one, and that one's the gate. The
+/// answer has how many nodes were in use as each of the two was hit last.
 fn nested_once<W: Wait>(
     rt: &W,
     site: &Site<Nest>,
@@ -360,19 +357,19 @@ fn a_nested_call_queues_with_its_cpus_next_node(rt: HostRuntime) -> Result<(), F
     Ok(())
 }
 
-/// Takes the outer lock as often, in the name of a task, while each turn in which it waits takes the
-/// inner one. The answer has how often that was.
+/// Takes the outer lock as often, in the name of a task. Each turn in which it waits takes the inner
+/// one: the answer has how often that was.
 fn rounds<W: Wait>(
     rt: &W,
     site: &Site<Nest>,
     counts: &Counts,
-    mut pass: Pass<Nest>,
+    pass: &mut Pass<Nest>,
     task: u32,
 ) -> u64
-    requires idle { IsApartIdle site.now pass }
+    requires idle { IsApartIdle site.now pass.old }
     requires there { task < length (plan_of site.now) }
 {
-    start(rt, site, &mut pass, task);
+    start(rt, site, pass, task);
     let mut irq = Takes {
         counts,
         lock: INNER,
@@ -381,63 +378,53 @@ fn rounds<W: Wait>(
         taken: 0,
     };
     for _ in 0..ROUNDS {
-        raise(rt, site, &mut pass, counts, OUTER, &mut irq);
+        raise(rt, site, pass, counts, OUTER, &mut irq);
     }
     irq.taken
 }
 
-/// Two passes do so at once, in the names of a task and of the next one.
-fn two_at_once<R: Threads + Wait + Sync>(
+/// Four passes do so at once, in the names of tasks 0 to 3. They are split off the first one. The
+/// answer has how often the inner lock was taken.
+fn four_at_once<R: Threads + Wait + Sync>(
     rt: &R,
+    alloc: Global,
     site: &Site<Nest>,
     counts: &Counts,
-    one: Pass<Nest>,
-    two: Pass<Nest>,
-    task: u32,
-) -> u64
-    requires one { IsApartIdle site.now one }
-    requires two { IsApartIdle site.now two }
-    requires there { task + 1 < length (plan_of site.now) }
+    first: &mut Pass<Nest>,
+) -> Result<u64, AllocError>
+    requires idle { IsApartIdle site.now first.old }
+    requires there { 4 ≤ length (plan_of site.now) }
 {
-    let (first, second) = join(
+    let taken = AtomicU64::new(0);
+    let mut passes = Vec::new(alloc);
+    for _ in 0..4u32 {
+        passes.push(another(site, first))?;
+    }
+    thread::for_each_mut(
         rt,
-        || -> u64
-            requires idle { IsApartIdle site.now one }
-            requires there { task < length (plan_of site.now) }
-        { rounds(rt, site, counts, one, task) },
-        || -> u64
-            requires idle { IsApartIdle site.now two }
-            requires there { task + 1 < length (plan_of site.now) }
-        { rounds(rt, site, counts, two, task + 1) },
+        passes.as_mut_slice(),
+        4,
+        &|task, pass: &mut Pass<Nest>|
+            requires idle { IsApartIdle site.now pass.old }
+            requires few { task < 4 }
+            requires there { 4 ≤ length (plan_of site.now) }
+        {
+            taken.fetch_add(
+                rounds(rt, site, counts, pass, task as u32),
+                Ordering::SeqCst,
+            );
+        },
     );
-    first.wrapping_add(second)
+    Ok(taken.load(Ordering::SeqCst))
 }
 
 #[test]
 fn interrupts_lose_nothing_of_either_lock_on_four_threads(rt: HostRuntime) -> Result<(), Fail> {
     let plan = Plan::new(rt.alloc(), 4)?;
-    let (site, mut one) = Site::<Nest>::open(rt.alloc(), plan)?;
-    assert_eq!(rt; site.tasks(), 4);
-    let two = another(&site, &mut one);
-    let three = another(&site, &mut one);
-    let four = another(&site, &mut one);
+    let (site, mut first) = Site::<Nest>::open(rt.alloc(), plan)?;
     let counts = no_counts();
-    let (first, second) = join(
-        &rt,
-        || -> u64
-            requires one { IsApartIdle site one }
-            requires two { IsApartIdle site two }
-            requires there { 4 ≤ length (plan_of site) }
-        { two_at_once(&rt, &site, &counts, one, two, 0) },
-        || -> u64
-            requires one { IsApartIdle site three }
-            requires two { IsApartIdle site four }
-            requires there { 4 ≤ length (plan_of site) }
-        { two_at_once(&rt, &site, &counts, three, four, 2) },
-    );
-    let outer = counts[OUTER].load(Ordering::SeqCst);
-    let inner = counts[INNER].load(Ordering::SeqCst);
-    assert_eq!(rt; outer, 4 * u64::from(ROUNDS));
-    assert_eq!(rt; inner, first.wrapping_add(second));
+    let taken = four_at_once(&rt, rt.alloc(), &site, &counts, &mut first)?;
+    assert_eq!(rt; counts[OUTER].load(Ordering::SeqCst), 4 * u64::from(ROUNDS));
+    assert_eq!(rt; counts[INNER].load(Ordering::SeqCst), taken);
     Ok(())
 }

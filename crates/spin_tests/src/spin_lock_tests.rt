@@ -1,5 +1,5 @@
 //! What no clause says: how the calls of a lock go that several contend for, and on threads.
-ghost use Rattle.std.specs.Prelude.{◌<◌, ◌≤◌, ◌+◌, length, IfOk};
+ghost use Rattle.std.specs.Prelude.{◌<◌, ◌≤◌, length, IfOk, OnOk};
 ghost use Rattle.lock_core.specs.SiteHandles.{plan_of};
 ghost use Rattle.qspin_queue.specs.SpinQueueHandles.{IsReady, IsHolder, IsIdle};
 
@@ -9,7 +9,7 @@ use qspin_word::{trylock, unlock};
 use std::alloc::{AllocError, Global};
 use std::sync::Wait;
 use std::test::Fail;
-use std::thread::{Threads, join};
+use std::thread::{self, Threads, join};
 
 /// Many rounds for each of four threads.
 const ROUNDS: u32 = 10_000;
@@ -70,88 +70,52 @@ fn the_first_comer_is_fast_and_the_second_is_told_the_word(rt: HostRuntime) -> R
 }
 
 /// Takes and releases the lock as often, in the name of a task.
-fn rounds<W: Wait>(rt: &W, site: &Site<Bare>, mut pass: Pass<Bare>, task: u32) -> Pass<Bare>
-    requires idle { IsIdle site.now pass }
+fn rounds<W: Wait>(rt: &W, site: &Site<Bare>, pass: &mut Pass<Bare>, task: u32)
+    requires idle { IsIdle site.now pass.old }
     requires there { task < length (plan_of site.now) }
-    ensures { IsIdle site.now result }
 {
-    site.begin(rt, &mut pass, task);
+    site.begin(rt, pass, task);
     for _ in 0..ROUNDS {
-        lock(site, rt, &mut pass);
-        unlock(site, &mut pass);
+        lock(site, rt, pass);
+        unlock(site, pass);
     }
-    site.end(&mut pass);
-    pass
+    site.end(pass);
 }
 
-/// Two passes do so at once, in the names of a task and of the next one.
-fn two_at_once<R: Threads + Wait + Sync>(
-    rt: &R,
-    site: &Site<Bare>,
-    one: Pass<Bare>,
-    two: Pass<Bare>,
-    task: u32,
-) -> (Pass<Bare>, Pass<Bare>)
-    requires one { IsIdle site.now one }
-    requires two { IsIdle site.now two }
-    requires there { task + 1 < length (plan_of site.now) }
-    ensures one { IsIdle site.now result.0 }
-    ensures two { IsIdle site.now result.1 }
-{
-    join(
-        rt,
-        || -> Pass<Bare>
-            requires idle { IsIdle site.now one }
-            requires there { task < length (plan_of site.now) }
-            ensures { IsIdle site.entry.now result }
-        { rounds(rt, site, one, task) },
-        || -> Pass<Bare>
-            requires idle { IsIdle site.now two }
-            requires there { task + 1 < length (plan_of site.now) }
-            ensures { IsIdle site.entry.now result }
-        { rounds(rt, site, two, task + 1) },
-    )
-}
-
-/// Four passes do so at once. The one that is given comes back.
+/// Four passes do so at once, in the names of tasks 0 to 3. They are split off the first one.
 fn four_at_once<R: Threads + Wait + Sync>(
     rt: &R,
+    alloc: Global,
     site: &Site<Bare>,
-    mut first: Pass<Bare>,
-) -> Pass<Bare>
-    requires idle { IsIdle site.now first }
+    first: &mut Pass<Bare>,
+) -> Result<(), AllocError>
+    requires idle { IsIdle site.now first.old }
     requires there { 4 ≤ length (plan_of site.now) }
-    ensures { IsIdle site.now result }
+    ensures { OnOk result (IsIdle site.now first.new) }
 {
-    let two = site.split(&mut first);
-    let three = site.split(&mut first);
-    let four = site.split(&mut first);
-    let ((one, _two), (_three, _four)) = join(
+    let mut passes = Vec::new(alloc);
+    for _ in 0..4u32 {
+        passes.push(site.split(first))?;
+    }
+    thread::for_each_mut(
         rt,
-        || -> (Pass<Bare>, Pass<Bare>)
-            requires one { IsIdle site.now first }
-            requires two { IsIdle site.now two }
+        passes.as_mut_slice(),
+        4,
+        &|task, pass: &mut Pass<Bare>|
+            requires idle { IsIdle site.now pass.old }
+            requires few { task < 4 }
             requires there { 4 ≤ length (plan_of site.now) }
-            ensures one { IsIdle site.entry.now result.0 }
-            ensures two { IsIdle site.entry.now result.1 }
-        { two_at_once(rt, site, first, two, 0) },
-        || -> (Pass<Bare>, Pass<Bare>)
-            requires one { IsIdle site.now three }
-            requires two { IsIdle site.now four }
-            requires there { 4 ≤ length (plan_of site.now) }
-            ensures one { IsIdle site.entry.now result.0 }
-            ensures two { IsIdle site.entry.now result.1 }
-        { two_at_once(rt, site, three, four, 2) },
+        { rounds(rt, site, pass, task as u32) },
     );
-    one
+    Ok(())
 }
 
 #[test]
 fn four_threads_take_and_release_it_10_000_times_each(rt: HostRuntime) -> Result<(), Fail> {
     let plan = Plan::new(rt.alloc(), 4)?;
-    let (site, first) = Site::<Bare>::open(rt.alloc(), plan)?;
+    let (site, mut pass) = Site::<Bare>::open(rt.alloc(), plan)?;
     assert_eq!(rt; site.tasks(), 4);
-    let mut pass = four_at_once(&rt, &site, first);
+    four_at_once(&rt, rt.alloc(), &site, &mut pass)?;
     site.begin(&rt, &mut pass, 0);
     assert!(rt; trylock(&site, &mut pass).is_ok());
     Ok(())

@@ -1,8 +1,9 @@
 //! What no clause says: a waiter leaves the queue before its turn also where the one before it has
 //! left, while the front stays.
-ghost use Rattle.std.specs.Prelude.{◌≡◌, ◌<◌, None, IsSome};
-ghost use Rattle.osq_nodes.specs.declared.node.Place.TheVariants.{Front, Out};
+ghost use Rattle.std.specs.Prelude.{◌≡◌, ◌<◌, IsSome};
+ghost use Rattle.osq_nodes.specs.declared.node.Place.TheVariants.{Front};
 ghost use Rattle.osq_nodes.specs.OsqHandles.{place_in, task_in, tasks_of, SitsAt};
+ghost use Rattle.spin_tests.specs.OsqStanding.{IsIdle};
 
 use cpu_task::Cpu;
 use osq_nodes::{Osq, OsqPass};
@@ -81,9 +82,7 @@ fn enter<W: Wait>(
     after: u64,
     done: u64,
 ) -> bool
-    requires own { SitsAt osq.now pass }
-    requires numberless { task_in pass ≡ None }
-    requires out { place_in pass ≡ Out }
+    requires idle { IsIdle osq.now pass }
     requires there { task < tasks_of osq.now }
 {
     osq.begin(rt, &mut pass, task);
@@ -117,11 +116,10 @@ fn leave_one_by_one<R: Threads + Wait + Sync>(
     stage: &AtomicU64,
 ) -> (bool, bool)
     requires own { SitsAt osq.now front }
-    requires others_own { (SitsAt osq.now one) × (SitsAt osq.now two) }
     requires numbered { IsSome (task_in front) }
-    requires numberless { (task_in one ≡ None) × (task_in two ≡ None) }
     requires fronted { place_in front ≡ Front }
-    requires out { (place_in one ≡ Out) × (place_in two ≡ Out) }
+    requires one { IsIdle osq.now one }
+    requires two { IsIdle osq.now two }
     requires there { 2 < tasks_of osq.now }
 {
     let first = StagedCpu {
@@ -146,23 +144,18 @@ fn leave_one_by_one<R: Threads + Wait + Sync>(
             requires fronted { place_in front ≡ Front }
         { stay(rt, osq, front, stage) },
         || -> (bool, bool)
-            requires own { (SitsAt osq.now one) × (SitsAt osq.now two) }
-            requires numberless { (task_in one ≡ None) × (task_in two ≡ None) }
-            requires out { (place_in one ≡ Out) × (place_in two ≡ Out) }
+            requires one { IsIdle osq.now one }
+            requires two { IsIdle osq.now two }
             requires there { 2 < tasks_of osq.now }
         {
             join(
                 rt,
                 || -> bool
-                    requires own { SitsAt osq.now one }
-                    requires numberless { task_in one ≡ None }
-                    requires out { place_in one ≡ Out }
+                    requires idle { IsIdle osq.now one }
                     requires there { 2 < tasks_of osq.now }
                 { enter(rt, osq, one, first, 1, 0, FIRST_LEFT) },
                 || -> bool
-                    requires own { SitsAt osq.now two }
-                    requires numberless { task_in two ≡ None }
-                    requires out { place_in two ≡ Out }
+                    requires idle { IsIdle osq.now two }
                     requires there { 2 < tasks_of osq.now }
                 { enter(rt, osq, two, second, 2, FIRST_WAITS, SECOND_LEFT) },
             )

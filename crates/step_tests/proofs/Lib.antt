@@ -1,2 +1,3 @@
+mod Pushes
 mod PercpuCalls
 mod PercpuPlans

@@ -1,2 +1,3 @@
+pub mod SeqStanding
 pub mod TestPercpuPasses
-pub mod Ready
+pub mod CountStanding

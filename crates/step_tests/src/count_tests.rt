@@ -1,7 +1,7 @@
 //! Worked courses of a count, word by word, and sites with a count. A count has the flags writer 1,
 //! waiters 2 and handoff 4, and 256 for each reader.
 ghost use Rattle.std.specs.Prelude.{IfOk};
-ghost use Rattle.step_tests.specs.Ready.{IsReady};
+ghost use Rattle.step_tests.specs.CountStanding.{IsReady};
 
 use crate::course::first_wrong;
 use lock_core::{Held, Nothing, Op, Plan};
@@ -12,7 +12,6 @@ use site_lock::SiteLock;
 use std::alloc::{AllocError, Global};
 use std::sync::Wait;
 use std::test::Fail;
-use word_bits::CallWords;
 
 /// A site with a count, and the passes of its three tasks.
 #[derive(Drop)]
@@ -98,8 +97,8 @@ fn tried(word: u64, alone: bool) -> Op {
     }
 }
 
-/// The step of the first waiter, a writer whose time is over. Where it asks for no handoff it leaves
-/// the word.
+/// The step of the first waiter, a writer whose time is over. Where it asks for no handoff it
+/// leaves the word.
 fn asked(word: u64) -> Op {
     match write_step(word, true, false, true, true) {
         Write::Mark(new) => Op::Exchange(word, new),
@@ -207,16 +206,30 @@ fn readers_keep_a_writer_out(rt: HostRuntime) -> Result<(), Fail> {
     } = open_three(&rt, rt.alloc())?;
     assert_eq!(rt; site.read_add(&mut zero), Ok(()));
     assert_eq!(rt; site.read_try(&rt, &mut one), Ok(()));
-    assert_eq!(rt;
-        (site.held(&zero), site.held(&one)),
-        (Held::Shared, Held::Shared)
-    );
     assert_eq!(rt; site.write_try(&mut two), Err(512));
-    assert_eq!(rt; site.held(&two), Held::No);
+    assert_eq!(rt;
+        (site.held(&zero), site.held(&one), site.held(&two)),
+        (Held::Shared, Held::Shared, Held::No)
+    );
     assert_eq!(rt; site.up_read_once(&mut zero), 256);
     assert_eq!(rt; site.up_read_once(&mut one), 0);
+    Ok(())
+}
+
+#[test]
+fn a_writer_keeps_a_reader_out(rt: HostRuntime) -> Result<(), Fail> {
+    let Opened {
+        site,
+        mut zero,
+        mut two,
+        ..
+    } = open_three(&rt, rt.alloc())?;
     assert_eq!(rt; site.write_try(&mut two), Ok(()));
     assert_eq!(rt; site.read_try(&rt, &mut zero), Err(1));
+    assert_eq!(rt;
+        (site.held(&zero), site.held(&two)),
+        (Held::No, Held::Alone)
+    );
     assert_eq!(rt; site.up_write_once(&mut two), 0);
     Ok(())
 }
@@ -262,20 +275,13 @@ fn a_gathered_pass_leaves_its_number(rt: HostRuntime) -> Result<(), Fail> {
 }
 
 #[test]
-fn a_site_answers_its_plan(rt: HostRuntime) -> Result<(), Fail> {
-    let signal = CallWords { a: 1, b: 15 };
-    let mut plan = Plan::new(rt.alloc(), 2)?;
-    plan.push(0, signal)?;
+fn a_new_site_has_no_entry(rt: HostRuntime) -> Result<(), Fail> {
+    let plan = Plan::new(rt.alloc(), 1)?;
     let (site, mut pass) = CountSite::<Nothing>::open(rt.alloc(), plan)?;
     site.begin(&rt, &mut pass, 0);
-    assert_eq!(rt; (site.tasks(), site.calls(0), site.calls(1)), (2, 1, 0));
-    assert_eq!(rt; site.call(&mut pass, 0, 0), signal);
-    assert_eq!(rt; site.rec_word(&mut pass, 0, 0), 0);
-    assert_eq!(rt; site.read_try(&rt, &mut pass), Ok(()));
-    assert_eq!(rt; site.log_len(&mut pass), 0);
-    assert_eq!(rt; site.up_read_once(&mut pass), 0);
     site.grown(&mut pass);
     site.recall_count(&mut pass);
-    assert_eq!(rt; site.consume(&mut pass), None);
+    assert_eq!(rt; site.read_try(&rt, &mut pass), Ok(()));
+    assert_eq!(rt; site.log_len(&mut pass), 0);
     Ok(())
 }

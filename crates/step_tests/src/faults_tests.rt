@@ -1,19 +1,20 @@
 //! Faults beside a writer, on threads.
-ghost use Rattle.std.specs.Prelude.{◌≡◌, ◌≢◌, ◌<◌, length, None, IfOk};
+ghost use Rattle.std.specs.Prelude.{◌≡◌, ◌≢◌, ◌<◌, ◌≤◌, length, IfOk, OnOk};
 ghost use Rattle.lock_views.specs.declared.view.Held.TheVariants.{No};
 ghost use Rattle.lock_core.specs.Records.{IsPlan};
-ghost use Rattle.lock_core.specs.Views.{HoldsNothing, OwesNoSignal};
-ghost use Rattle.seq_fault.specs.SeqHandles.{SitsAt, hand_in, held_in, plan_of, task_in, view_of};
+ghost use Rattle.seq_fault.specs.SeqHandles.{SitsAt, held_in, plan_of};
+ghost use Rattle.step_tests.specs.SeqStanding.{IsIdle, IsReady};
 ghost use Rattle.vma_map.specs.Spaces.{space};
 
 use crate::seq_calls::{fault_wait, map, push, touch, unmap, write};
 use lock_core::Plan;
 use seq_fault::{SeqSpace, SpacePass};
 use site_lock::SiteLock;
-use std::alloc::Global;
+use std::alloc::{AllocError, Global};
 use std::sync::Wait;
+use std::sync::atomic::{AtomicBool, Ordering};
 use std::test::Fail;
-use std::thread::{Threads, join};
+use std::thread::{self, Threads};
 use word_bits::{Entry, Reply};
 
 /// In each round the writer maps pages 0 to 3 and unmaps them again.
@@ -65,75 +66,82 @@ fn fault_reply(call: u32, logged: u32) -> Reply {
     if mapped { Reply::Good } else { Reply::MapErr }
 }
 
-/// Does the writer's calls, and says whether each replied what it should.
-fn write_all<W: Wait>(rt: &W, site: &SeqSpace, mut pass: SpacePass) -> bool
-    requires own { SitsAt site.now pass }
-    requires numberless { task_in pass ≡ None }
-    requires rests { HoldsNothing (view_of pass) }
-    requires recorded { OwesNoSignal (hand_in pass) }
-    requires there { 0 < length (plan_of site.now) }
+/// Does the task's next call, and says whether it replied what it should: a fault what the state at
+/// its place gives.
+fn replies_right<W: Wait>(
+    rt: &W,
+    site: &SeqSpace,
+    pass: &mut SpacePass,
+    writes: bool,
+    call: u32,
+) -> bool
+    requires ready { IsReady site.now pass.old }
+    ensures ready { IsReady site.now pass.new }
 {
-    site.begin(rt, &mut pass, 0);
-    let mut right = true;
-    for call in 0..WRITES {
-        right &= write(site, rt, &mut pass) == Some(write_reply(call));
+    if writes {
+        return write(site, rt, pass) == Some(write_reply(call));
     }
-    site.end(&mut pass);
-    right
+    let reply = fault_wait(site, rt, pass);
+    reply == Some(fault_reply(call, site.front(pass)))
 }
 
-/// Does the faults of the task, and says whether each replied what the state at its place gives.
-fn fault_all<W: Wait>(rt: &W, site: &SeqSpace, mut pass: SpacePass, task: u32) -> bool
-    requires own { SitsAt site.now pass }
-    requires numberless { task_in pass ≡ None }
-    requires rests { HoldsNothing (view_of pass) }
-    requires recorded { OwesNoSignal (hand_in pass) }
+/// Does all calls of the task, and says whether each replied what it should. Task 0 writes, and the
+/// others fault.
+fn all_calls<W: Wait>(rt: &W, site: &SeqSpace, pass: &mut SpacePass, task: u32) -> bool
+    requires idle { IsIdle site.now pass.old }
     requires there { task < length (plan_of site.now) }
 {
-    site.begin(rt, &mut pass, task);
+    site.begin(rt, pass, task);
     let mut right = true;
-    for call in 0..FAULTS {
-        let reply = fault_wait(site, rt, &mut pass);
-        right &= reply == Some(fault_reply(call, site.front(&pass)));
+    let count = if task == 0 { WRITES } else { FAULTS };
+    for call in 0..count {
+        right &= replies_right(rt, site, pass, task == 0, call);
     }
-    site.end(&mut pass);
+    site.end(pass);
     right
 }
 
-/// Two passes do the faults of tasks 1 and 2 at once.
-fn fault_at_once<R: Threads + Wait + Sync>(
-    rt: &R,
-    site: &SeqSpace,
-    one: SpacePass,
-    two: SpacePass,
-) -> (bool, bool)
-    requires one { SitsAt site.now one }
-    requires one_numberless { task_in one ≡ None }
-    requires one_rests { HoldsNothing (view_of one) }
-    requires one_recorded { OwesNoSignal (hand_in one) }
-    requires two { SitsAt site.now two }
-    requires two_numberless { task_in two ≡ None }
-    requires two_rests { HoldsNothing (view_of two) }
-    requires two_recorded { OwesNoSignal (hand_in two) }
-    requires there { 2 < length (plan_of site.now) }
+/// Another pass without a number.
+fn another(site: &SeqSpace, first: &mut SpacePass) -> SpacePass
+    requires idle { IsIdle site.now first.old }
+    ensures first { IsIdle site.now first.new }
+    ensures other { IsIdle site.now result }
 {
-    join(
+    site.split(first)
+}
+
+/// Tasks 0 to 2 do their calls at once, by passes split off the first one. Says whether each call
+/// replied what it should.
+fn three_at_once<R: Threads + Wait + Sync>(
+    rt: &R,
+    alloc: Global,
+    site: &SeqSpace,
+    first: &mut SpacePass,
+) -> Result<bool, AllocError>
+    requires idle { IsIdle site.now first.old }
+    requires there { 3 ≤ length (plan_of site.now) }
+    ensures { OnOk result (IsIdle site.now first.new) }
+{
+    let right = AtomicBool::new(true);
+    let mut passes = Vec::new(alloc);
+    for _ in 0..3u32 {
+        passes.push(another(site, first))?;
+    }
+    thread::for_each_mut(
         rt,
-        || -> bool
-            requires own { SitsAt site.now one }
-            requires numberless { task_in one ≡ None }
-            requires rests { HoldsNothing (view_of one) }
-            requires recorded { OwesNoSignal (hand_in one) }
-            requires there { 2 < length (plan_of site.now) }
-        { fault_all(rt, site, one, 1) },
-        || -> bool
-            requires own { SitsAt site.now two }
-            requires numberless { task_in two ≡ None }
-            requires rests { HoldsNothing (view_of two) }
-            requires recorded { OwesNoSignal (hand_in two) }
-            requires there { 2 < length (plan_of site.now) }
-        { fault_all(rt, site, two, 2) },
-    )
+        passes.as_mut_slice(),
+        3,
+        &|task, pass: &mut SpacePass|
+            requires idle { IsIdle site.now pass.old }
+            requires few { task < 3 }
+            requires there { 3 ≤ length (plan_of site.now) }
+        {
+            if !all_calls(rt, site, pass, task as u32) {
+                right.store(false, Ordering::SeqCst);
+            }
+        },
+    );
+    Ok(right.load(Ordering::SeqCst))
 }
 
 /// Whether the log has the writer's calls, each once and in their order.
@@ -151,62 +159,13 @@ fn logs_writes(site: &SeqSpace, pass: &mut SpacePass) -> bool
     len == WRITES
 }
 
-/// A writer and two tasks that fault do their calls at once.
-fn beside_a_writer<R: Threads + Wait + Sync>(
-    rt: &R,
-    site: &SeqSpace,
-    writer: SpacePass,
-    one: SpacePass,
-    two: SpacePass,
-) -> (bool, (bool, bool))
-    requires writer { SitsAt site.now writer }
-    requires writer_numberless { task_in writer ≡ None }
-    requires writer_rests { HoldsNothing (view_of writer) }
-    requires writer_recorded { OwesNoSignal (hand_in writer) }
-    requires one { SitsAt site.now one }
-    requires one_numberless { task_in one ≡ None }
-    requires one_rests { HoldsNothing (view_of one) }
-    requires one_recorded { OwesNoSignal (hand_in one) }
-    requires two { SitsAt site.now two }
-    requires two_numberless { task_in two ≡ None }
-    requires two_rests { HoldsNothing (view_of two) }
-    requires two_recorded { OwesNoSignal (hand_in two) }
-    requires there { 2 < length (plan_of site.now) }
-{
-    join(
-        rt,
-        || -> bool
-            requires own { SitsAt site.now writer }
-            requires numberless { task_in writer ≡ None }
-            requires rests { HoldsNothing (view_of writer) }
-            requires recorded { OwesNoSignal (hand_in writer) }
-            requires there { 2 < length (plan_of site.now) }
-        { write_all(rt, site, writer) },
-        || -> (bool, bool)
-            requires one { SitsAt site.now one }
-            requires one_numberless { task_in one ≡ None }
-            requires one_rests { HoldsNothing (view_of one) }
-            requires one_recorded { OwesNoSignal (hand_in one) }
-            requires two { SitsAt site.now two }
-            requires two_numberless { task_in two ≡ None }
-            requires two_rests { HoldsNothing (view_of two) }
-            requires two_recorded { OwesNoSignal (hand_in two) }
-            requires there { 2 < length (plan_of site.now) }
-        { fault_at_once(rt, site, one, two) },
-    )
-}
-
 #[test]
 fn each_fault_beside_a_writer_replies_what_the_log_at_its_place_gives(
     rt: HostRuntime,
 ) -> Result<(), Fail> {
     let plan = planned(rt.alloc())?;
     let (site, mut pass) = SeqSpace::open(rt.alloc(), plan)?;
-    let writer = site.split(&mut pass);
-    let one = site.split(&mut pass);
-    let two = site.split(&mut pass);
-    let right = beside_a_writer(&rt, &site, writer, one, two);
-    assert_eq!(rt; right, (true, (true, true)));
+    assert!(rt; three_at_once(&rt, rt.alloc(), &site, &mut pass)?);
     site.begin(&rt, &mut pass, 3);
     site.enter(&rt, &mut pass);
     assert!(rt; logs_writes(&site, &mut pass));

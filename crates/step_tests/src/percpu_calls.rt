@@ -1,5 +1,5 @@
 //! What a task does with its next call, under a per-CPU semaphore.
-ghost use Rattle.std.specs.Prelude.{◌≡◌, ◌≢◌, ◌<◌, false, true, length, IfOk, IfErr, IfSome};
+ghost use Rattle.std.specs.Prelude.{◌≡◌, ◌≢◌, ◌<◌, false, true, length, IfSome};
 ghost use Rattle.lock_views.specs.declared.view.Held.TheVariants.{No, Shared, Alone};
 ghost use Rattle.percpu_rwsem.specs.PercpuHandles.{blocks_in, hand_in, held_in, plan_of, seen_in, view_of, SitsAt};
 ghost use Rattle.step_tests.specs.TestPercpuPasses.{IsAt, IsIdle, KnowsState, Repeats};
@@ -99,43 +99,6 @@ pub fn let_go_shared<O: Object, C: Crew>(
     ensures apart { blocks_in pass.new ≡ false }
 {
     lock.up_read(pass, crew);
-}
-
-/// Blocks new readers, if nobody does.
-pub fn try_block<O: Object>(
-    lock: &PercpuRwSem<O>,
-    pass: &mut PercpuPass<O>,
-    job: Job,
-) -> Result<(), u64>
-    requires at { IsAt job.task No lock.now pass.old }
-    requires apart { blocks_in pass.old ≡ false }
-    ensures at { IsAt job.task No lock.now pass.new }
-    ensures blocks { IfOk result (λ _. blocks_in pass.new ≡ true) }
-    ensures apart { IfErr result (λ _. blocks_in pass.new ≡ false) }
-{
-    match lock.block(pass) {
-        Ok(()) => Ok(()),
-        Err(word) => Err(word),
-    }
-}
-
-/// Looks at the counts, and holds alone if each is zero.
-pub fn try_drain<O: Object>(
-    lock: &PercpuRwSem<O>,
-    pass: &mut PercpuPass<O>,
-    job: Job,
-) -> Result<(), u32>
-    requires at { IsAt job.task No lock.now pass.old }
-    requires blocks { blocks_in pass.old ≡ true }
-    ensures at { IfOk result (λ _. IsAt job.task Alone lock.now pass.new) }
-    ensures knows { IfOk result (λ _. KnowsState O.object lock.now pass.new) }
-    ensures waits { IfErr result (λ _. IsAt job.task No lock.now pass.new) }
-    ensures blocks { blocks_in pass.new ≡ true }
-{
-    match lock.drain(pass) {
-        Ok(()) => Ok(()),
-        Err(task) => Err(task),
-    }
 }
 
 /// Lets readers in again, and ends the exclusive hold.

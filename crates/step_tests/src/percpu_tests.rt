@@ -1,5 +1,5 @@
 //! Rows of a per-CPU semaphore. The code of task t is t + 1.
-use crate::percpu_calls::{Job, let_go_alone, start, try_block, try_drain, write};
+use crate::percpu_calls::{Job, hold_alone, let_go_alone, start, write};
 use crate::percpu_plans::{map_pages, one_call};
 use cpu_task::{Crew, ScriptedCrew, Turns};
 use lock_core::{Held, Nothing, Plan};
@@ -15,42 +15,63 @@ const NO_TURNS: Turns = Turns {
 };
 
 #[test]
-fn a_writer_blocks_readers_and_waits_for_one_inside(rt: HostRuntime) -> Result<(), Fail> {
-    let words = map_pages();
-    let plan = one_call(rt.alloc(), words)?;
-    let (lock, mut zero) = PercpuRwSem::<Areas>::open(rt.alloc(), plan)?;
+fn a_writer_waits_for_a_reader_inside(rt: HostRuntime) -> Result<(), Fail> {
+    let plan = Plan::new(rt.alloc(), 2)?;
+    let (lock, mut zero) = PercpuRwSem::<Nothing>::open(rt.alloc(), plan)?;
     let mut one = lock.split(&mut zero);
-    let mut two = lock.split(&mut zero);
-    start(&rt, &lock, &mut zero, 0);
-    start(&rt, &lock, &mut one, 1);
-    start(&rt, &lock, &mut two, 2);
-    let job = Job {
-        task: 1,
-        rounds: 1,
-        words,
-    };
+    lock.begin(&rt, &mut zero, 0);
+    lock.begin(&rt, &mut one, 1);
     let crew = ScriptedCrew::new(rt.alloc(), Vec::new(rt.alloc()), Vec::new(rt.alloc()))?;
     assert_eq!(rt; lock.read_try(&mut zero), Ok(()));
-    assert_eq!(rt; try_block(&lock, &mut one, job), Ok(()));
+    assert_eq!(rt; lock.block(&mut one), Ok(()));
+    assert_eq!(rt; lock.drain(&mut one), Err(0));
     assert_eq!(rt; (one.blocks(), lock.held(&one)), (true, Held::No));
-    let Err(inside) = try_drain(&lock, &mut one, job) else {
-        return Err("it holds beside a reader".into());
-    };
-    assert_eq!(rt; inside, 0);
+    lock.up_read(&mut zero, &crew);
+    assert_eq!(rt; lock.drain(&mut one), Ok(()));
+    assert_eq!(rt;
+        (lock.held(&zero), one.blocks(), lock.held(&one)),
+        (Held::No, true, Held::Alone)
+    );
+    Ok(())
+}
+
+#[test]
+fn a_task_that_blocks_turns_readers_and_writers_away(rt: HostRuntime) -> Result<(), Fail> {
+    let plan = Plan::new(rt.alloc(), 3)?;
+    let (lock, mut zero) = PercpuRwSem::<Nothing>::open(rt.alloc(), plan)?;
+    let mut one = lock.split(&mut zero);
+    let mut two = lock.split(&mut zero);
+    lock.begin(&rt, &mut zero, 0);
+    lock.begin(&rt, &mut one, 1);
+    lock.begin(&rt, &mut two, 2);
+    let crew = ScriptedCrew::new(rt.alloc(), Vec::new(rt.alloc()), Vec::new(rt.alloc()))?;
+    assert_eq!(rt; lock.read_try(&mut zero), Ok(()));
+    assert_eq!(rt; lock.block(&mut one), Ok(()));
     assert_eq!(rt; lock.read_try(&mut two), Err(2));
     assert_eq!(rt; lock.block(&mut two), Err(2));
     assert_eq!(rt; (two.blocks(), lock.held(&two)), (false, Held::No));
-    lock.up_read(&mut zero, &crew);
-    assert_eq!(rt; lock.held(&zero), Held::No);
-    let Ok(()) = try_drain(&lock, &mut one, job) else {
-        return Err("it waits for nobody".into());
-    };
-    assert_eq!(rt; (one.blocks(), lock.held(&one)), (true, Held::Alone));
+    lock.unblock(&mut one, &crew);
+    assert_eq!(rt; (one.blocks(), lock.held(&one)), (false, Held::No));
+    assert_eq!(rt; lock.read_try(&mut two), Ok(()));
+    Ok(())
+}
+
+#[test]
+fn a_reader_sees_what_a_writer_wrote(rt: HostRuntime) -> Result<(), Fail> {
+    let words = map_pages();
+    let plan = one_call(rt.alloc(), words)?;
+    let (lock, mut one) = PercpuRwSem::<Areas>::open(rt.alloc(), plan)?;
+    let mut two = lock.split(&mut one);
+    start(&rt, &lock, &mut one, 1);
+    start(&rt, &lock, &mut two, 2);
+    let job = Job::new(1, 1, words);
+    let mut crew = ScriptedCrew::new(rt.alloc(), Vec::new(rt.alloc()), Vec::new(rt.alloc()))?;
+    let mut cpu = crew.cpu(rt.alloc(), 1, NO_TURNS)?;
+    hold_alone(&rt, &lock, &mut one, &mut cpu, &crew, job);
     assert_eq!(rt; write(&lock, &mut one, job), Some(Reply::Num(16)));
     let_go_alone(&lock, &mut one, &crew, job);
     assert_eq!(rt; (one.blocks(), lock.held(&one)), (false, Held::No));
     assert_eq!(rt; lock.read_try(&mut two), Ok(()));
-    assert_eq!(rt; lock.held(&two), Held::Shared);
     assert_eq!(rt; lock.word(&mut two, 0), 1);
     Ok(())
 }

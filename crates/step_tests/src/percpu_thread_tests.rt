@@ -1,8 +1,8 @@
 //! What no clause says: readers and a writer of a per-CPU semaphore on threads.
-ghost use Rattle.std.specs.Prelude.{◌≡◌, false};
+ghost use Rattle.std.specs.Prelude.{◌≡◌, ◌<◌, ℕ, false, length, All, IfOk, OnOk};
 ghost use Rattle.lock_views.specs.declared.view.Held.TheVariants.{No};
 ghost use Rattle.percpu_rwsem.specs.PercpuHandles.{blocks_in, plan_of};
-ghost use Rattle.step_tests.specs.TestPercpuPasses.{IsAt, MayMake, Repeats};
+ghost use Rattle.step_tests.specs.TestPercpuPasses.{IsAt, IsIdle, MayMake, Repeats};
 
 use crate::percpu_calls::{
     Job, hold_alone, hold_shared, let_go_alone, let_go_shared, read, start, word, write,
@@ -11,11 +11,13 @@ use crate::percpu_plans::{map_next, planned, touch_first};
 use cpu_task::{Crew, ParkCpu, ParkCrew, Turns};
 use percpu_rwsem::{PercpuPass, PercpuRwSem};
 use site_lock::SiteLock;
+use std::alloc::{AllocError, Global};
 use std::sync::Wait;
+use std::sync::atomic::{AtomicU32, Ordering};
 use std::test::Fail;
-use std::thread::{Threads, join};
+use std::thread::{self, Threads};
 use vma_map::Areas;
-use word_bits::{Area, Reply};
+use word_bits::{Area, CallWords, Reply};
 
 /// Many rounds for each of four threads.
 const ROUNDS: u32 = 10_000;
@@ -25,14 +27,6 @@ const ROUNDS: u32 = 10_000;
 struct Crewed {
     lock: PercpuRwSem<Areas>,
     crew: ParkCrew,
-}
-
-/// A pass without a number, the CPU of a task, and the call that the task makes.
-#[derive(Drop)]
-struct Runner {
-    pass: PercpuPass<Areas>,
-    cpu: ParkCpu,
-    job: Job,
 }
 
 /// Where the area of this word ends. It is 0 if the word is that of none.
@@ -93,125 +87,102 @@ fn write_next<W: Wait>(
     }
 }
 
-/// Reads as often as the task is to, and answers how many reads were right.
-fn read_all<W: Wait>(rt: &W, crewed: &Crewed, runner: Runner) -> u32
-    requires { MayMake runner.job.task runner.job.rounds runner.job.words
-        crewed.now.lock runner.pass }
+/// Makes the calls of a task, and answers how many were right.
+fn all_calls<W: Wait>(
+    rt: &W,
+    crewed: &Crewed,
+    pass: &mut PercpuPass<Areas>,
+    cpu: &mut ParkCpu,
+    job: Job,
+    writes: bool,
+) -> u32
+    requires { MayMake job.task job.rounds job.words crewed.now.lock pass.old }
 {
-    let Runner {
-        mut pass,
-        mut cpu,
-        job,
-    } = runner;
-    start(rt, &crewed.lock, &mut pass, job.task);
+    start(rt, &crewed.lock, pass, job.task);
     let mut right: u32 = 0;
     for _ in 0..job.rounds {
-        if read_next(rt, crewed, &mut pass, &mut cpu, job) {
-            right = right.wrapping_add(1);
-        }
+        let is_right = if writes {
+            write_next(rt, crewed, pass, cpu, job)
+        } else {
+            read_next(rt, crewed, pass, cpu, job)
+        };
+        right = right.wrapping_add(u32::from(is_right));
     }
-    crewed.lock.end(&mut pass);
+    crewed.lock.end(pass);
     right
 }
 
-/// Writes as often, and answers how many writes were right.
-fn write_all<W: Wait>(rt: &W, crewed: &Crewed, runner: Runner) -> u32
-    requires { MayMake runner.job.task runner.job.rounds runner.job.words
-        crewed.now.lock runner.pass }
-{
-    let Runner {
-        mut pass,
-        mut cpu,
-        job,
-    } = runner;
-    start(rt, &crewed.lock, &mut pass, job.task);
-    let mut right: u32 = 0;
-    for _ in 0..job.rounds {
-        if write_next(rt, crewed, &mut pass, &mut cpu, job) {
-            right = right.wrapping_add(1);
-        }
-    }
-    crewed.lock.end(&mut pass);
-    right
-}
-
-/// Two tasks read at once.
-fn two_read<R: Threads + Wait + Sync>(
-    rt: &R,
-    crewed: &Crewed,
-    one: Runner,
-    two: Runner,
-) -> (u32, u32)
-    requires one { MayMake one.job.task one.job.rounds one.job.words crewed.now.lock one.pass }
-    requires two { MayMake two.job.task two.job.rounds two.job.words crewed.now.lock two.pass }
-{
-    join(
-        rt,
-        || -> u32
-            requires { MayMake one.job.task one.job.rounds one.job.words
-                crewed.now.lock one.pass }
-        { read_all(rt, crewed, one) },
-        || -> u32
-            requires { MayMake two.job.task two.job.rounds two.job.words
-                crewed.now.lock two.pass }
-        { read_all(rt, crewed, two) },
-    )
-}
-
-/// One task reads while another writes.
-fn one_reads_and_one_writes<R: Threads + Wait + Sync>(
-    rt: &R,
-    crewed: &Crewed,
-    one: Runner,
-    two: Runner,
-) -> (u32, u32)
-    requires one { MayMake one.job.task one.job.rounds one.job.words crewed.now.lock one.pass }
-    requires two { MayMake two.job.task two.job.rounds two.job.words crewed.now.lock two.pass }
-{
-    join(
-        rt,
-        || -> u32
-            requires { MayMake one.job.task one.job.rounds one.job.words
-                crewed.now.lock one.pass }
-        { read_all(rt, crewed, one) },
-        || -> u32
-            requires { MayMake two.job.task two.job.rounds two.job.words
-                crewed.now.lock two.pass }
-        { write_all(rt, crewed, two) },
-    )
-}
-
-/// Three tasks read while the last one writes.
+/// Tasks 0 to 2 read while task 3 writes. Answers how many of all calls were right.
 fn four_at_once<R: Threads + Wait + Sync>(
     rt: &R,
     crewed: &Crewed,
-    one: Runner,
-    two: Runner,
-    three: Runner,
-    four: Runner,
-) -> ((u32, u32), (u32, u32))
-    requires one { MayMake one.job.task one.job.rounds one.job.words crewed.now.lock one.pass }
-    requires two { MayMake two.job.task two.job.rounds two.job.words crewed.now.lock two.pass }
-    requires three { MayMake three.job.task three.job.rounds three.job.words
-        crewed.now.lock three.pass }
-    requires four { MayMake four.job.task four.job.rounds four.job.words
-        crewed.now.lock four.pass }
+    members: &mut [(PercpuPass<Areas>, ParkCpu)],
+    touch: CallWords,
+    map: CallWords,
+) -> u32
+    requires idle { All (λ m. IsIdle crewed.now.lock m.0) members.old }
+    requires four { length members.old ≡ 4 }
+    requires there { length (plan_of crewed.now.lock) ≡ 4 }
+    requires first { (t : ℕ) → t < 3 → Repeats (plan_of crewed.now.lock) t ROUNDS touch }
+    requires last { Repeats (plan_of crewed.now.lock) 3 ROUNDS map }
 {
-    join(
+    let right = AtomicU32::new(0);
+    thread::for_each_mut(
         rt,
-        || -> (u32, u32)
-            requires one { MayMake one.job.task one.job.rounds one.job.words
-                crewed.now.lock one.pass }
-            requires two { MayMake two.job.task two.job.rounds two.job.words
-                crewed.now.lock two.pass }
-        { two_read(rt, crewed, one, two) },
-        || -> (u32, u32)
-            requires three { MayMake three.job.task three.job.rounds three.job.words
-                crewed.now.lock three.pass }
-            requires four { MayMake four.job.task four.job.rounds four.job.words
-                crewed.now.lock four.pass }
-        { one_reads_and_one_writes(rt, crewed, three, four) },
-    )
+        members,
+        4,
+        &|task, member: &mut (PercpuPass<Areas>, ParkCpu)|
+            requires idle { IsIdle crewed.now.lock member.old.0 }
+            requires few { task < 4 }
+            requires there { length (plan_of crewed.now.lock) ≡ 4 }
+            requires first { (t : ℕ) → t < 3 → Repeats (plan_of crewed.now.lock) t ROUNDS touch }
+            requires last { Repeats (plan_of crewed.now.lock) 3 ROUNDS map }
+        {
+            let (pass, cpu) = (&mut member.0, &mut member.1);
+            let right_calls = if task < 3 {
+                let job = Job::new(task as u32, ROUNDS, touch);
+                all_calls(rt, crewed, pass, cpu, job, false)
+            } else {
+                all_calls(rt, crewed, pass, cpu, Job::new(3, ROUNDS, map), true)
+            };
+            right.fetch_add(right_calls, Ordering::SeqCst);
+        },
+    );
+    right.load(Ordering::SeqCst)
+}
+
+/// Another pass without a number.
+fn another(lock: &PercpuRwSem<Areas>, first: &mut PercpuPass<Areas>) -> PercpuPass<Areas>
+    requires idle { IsIdle lock.now first.old }
+    ensures first { IsIdle lock.now first.new }
+    ensures other { IsIdle lock.now result }
+{
+    lock.split(first)
+}
+
+/// A pass without a number and a CPU for each of four tasks.
+fn members_of(
+    alloc: Global,
+    lock: &PercpuRwSem<Areas>,
+    first: &mut PercpuPass<Areas>,
+    crew: &mut ParkCrew,
+) -> Result<Vec<(PercpuPass<Areas>, ParkCpu)>, AllocError>
+    requires { IsIdle lock.now first.old }
+    ensures first { OnOk result (IsIdle lock.now first.new) }
+    ensures idle { IfOk result (λ members. All (λ m. IsIdle lock.now m.0) members.items) }
+    ensures four { IfOk result (λ members. length members.items ≡ 4) }
+{
+    let turns = Turns {
+        spin: 0,
+        overdue: 0,
+    };
+    let mut members = Vec::new(alloc);
+    for task in 0..4u32 {
+        let cpu = crew.cpu(alloc, task, turns)?;
+        let pass = another(lock, first);
+        members.push((pass, cpu))?;
+    }
+    Ok(members)
 }
 
 #[test]
@@ -220,33 +191,10 @@ fn three_readers_see_states_of_the_log_beside_a_writer(rt: HostRuntime) -> Resul
     let plan = planned(rt.alloc(), ROUNDS, touch, map)?;
     let (lock, mut pass) = PercpuRwSem::<Areas>::open(rt.alloc(), plan)?;
     let mut crew = ParkCrew::new(rt.alloc(), 4)?;
-    let turns = Turns {
-        spin: 0,
-        overdue: 0,
-    };
-    let zero = Runner {
-        pass: lock.split(&mut pass),
-        cpu: crew.cpu(rt.alloc(), 0, turns)?,
-        job: Job::new(0, ROUNDS, touch),
-    };
-    let one = Runner {
-        pass: lock.split(&mut pass),
-        cpu: crew.cpu(rt.alloc(), 1, turns)?,
-        job: Job::new(1, ROUNDS, touch),
-    };
-    let two = Runner {
-        pass: lock.split(&mut pass),
-        cpu: crew.cpu(rt.alloc(), 2, turns)?,
-        job: Job::new(2, ROUNDS, touch),
-    };
-    let three = Runner {
-        pass: lock.split(&mut pass),
-        cpu: crew.cpu(rt.alloc(), 3, turns)?,
-        job: Job::new(3, ROUNDS, map),
-    };
+    let mut members = members_of(rt.alloc(), &lock, &mut pass, &mut crew)?;
     let crewed = Crewed { lock, crew };
-    let right = four_at_once(&rt, &crewed, zero, one, two, three);
-    assert_eq!(rt; right, ((ROUNDS, ROUNDS), (ROUNDS, ROUNDS)));
+    let right = four_at_once(&rt, &crewed, members.as_mut_slice(), touch, map);
+    assert_eq!(rt; right, 4 * ROUNDS);
     start(&rt, &crewed.lock, &mut pass, 3);
     assert_eq!(rt;
         (crewed.lock.done(&pass), crewed.lock.front(&pass)),

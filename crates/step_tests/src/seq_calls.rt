@@ -1,10 +1,11 @@
 //! Calls of tasks on an address space with a sequence word.
-ghost use Rattle.std.specs.Prelude.{◌≡◌, ◌<◌, ◌+◌, length, Some, IsSome, IfSome, IfOk, slice_get};
+ghost use Rattle.std.specs.Prelude.{◌≡◌, ◌<◌, ◌+◌, length, Some, IfSome, IfOk, slice_get};
 ghost use Rattle.lock_core.specs.Records.{row, IsPlan};
 ghost use Rattle.lock_core.specs.Plans.{calls_in};
-ghost use Rattle.lock_core.specs.Views.{HoldsNothing, OwesNoSignal, next_entry};
+ghost use Rattle.lock_core.specs.Views.{next_entry};
 ghost use Rattle.vma_map.specs.Spaces.{space};
-ghost use Rattle.seq_fault.specs.SeqHandles.{SitsAt, hand_in, plan_of, task_in, view_of};
+ghost use Rattle.seq_fault.specs.SeqHandles.{hand_in, plan_of};
+ghost use Rattle.step_tests.specs.SeqStanding.{IsReady};
 
 use lock_core::Plan;
 use seq_fault::{Raced, SeqSpace, SpacePass};
@@ -47,14 +48,8 @@ pub fn push(plan: &mut Plan, task: u32, words: CallWords) -> Result<(), Fail>
 
 /// The words of the next call of the pass's task, where it has one.
 fn next_words(site: &SeqSpace, pass: &mut SpacePass) -> Option<CallWords>
-    requires own { SitsAt site.now pass.old }
-    requires numbered { IsSome (task_in pass.old) }
-    requires rests { HoldsNothing (view_of pass.old) }
-    requires recorded { OwesNoSignal (hand_in pass.old) }
-    ensures own { SitsAt site.now pass.new }
-    ensures numbered { IsSome (task_in pass.new) }
-    ensures rests { HoldsNothing (view_of pass.new) }
-    ensures recorded { OwesNoSignal (hand_in pass.new) }
+    requires ready { IsReady site.now pass.old }
+    ensures ready { IsReady site.now pass.new }
     ensures words { IfSome result (λ words. slice_get (row (plan_of site.now)
         (next_entry (hand_in pass.new)).task) (next_entry (hand_in pass.new)).call ≡ Some words) }
 {
@@ -68,14 +63,8 @@ fn next_words(site: &SeqSpace, pass: &mut SpacePass) -> Option<CallWords>
 
 /// Does the next call of the pass's task, where it is a changing one.
 pub fn write<W: Wait>(site: &SeqSpace, rt: &W, pass: &mut SpacePass) -> Option<Reply>
-    requires own { SitsAt site.now pass.old }
-    requires numbered { IsSome (task_in pass.old) }
-    requires rests { HoldsNothing (view_of pass.old) }
-    requires recorded { OwesNoSignal (hand_in pass.old) }
-    ensures own { SitsAt site.now pass.new }
-    ensures numbered { IsSome (task_in pass.new) }
-    ensures rests { HoldsNothing (view_of pass.new) }
-    ensures recorded { OwesNoSignal (hand_in pass.new) }
+    requires ready { IsReady site.now pass.old }
+    ensures ready { IsReady site.now pass.new }
 {
     let words = next_words(site, pass)?;
     let known = SpaceCall::call_of(words)?;
@@ -88,14 +77,8 @@ pub fn write<W: Wait>(site: &SeqSpace, rt: &W, pass: &mut SpacePass) -> Option<R
 
 /// Does the next call of the pass's task, where it is a fault.
 pub fn fault(site: &SeqSpace, pass: &mut SpacePass) -> Option<Result<Reply, Raced>>
-    requires own { SitsAt site.now pass.old }
-    requires numbered { IsSome (task_in pass.old) }
-    requires rests { HoldsNothing (view_of pass.old) }
-    requires recorded { OwesNoSignal (hand_in pass.old) }
-    ensures own { SitsAt site.now pass.new }
-    ensures numbered { IsSome (task_in pass.new) }
-    ensures rests { HoldsNothing (view_of pass.new) }
-    ensures recorded { OwesNoSignal (hand_in pass.new) }
+    requires ready { IsReady site.now pass.old }
+    ensures ready { IsReady site.now pass.new }
 {
     let words = next_words(site, pass)?;
     if let Some(SpaceCall::Fault { .. }) = SpaceCall::call_of(words) {
@@ -107,14 +90,8 @@ pub fn fault(site: &SeqSpace, pass: &mut SpacePass) -> Option<Result<Reply, Race
 
 /// The same, as often as a writer comes between its loads.
 pub fn fault_wait<W: Wait>(site: &SeqSpace, rt: &W, pass: &mut SpacePass) -> Option<Reply>
-    requires own { SitsAt site.now pass.old }
-    requires numbered { IsSome (task_in pass.old) }
-    requires rests { HoldsNothing (view_of pass.old) }
-    requires recorded { OwesNoSignal (hand_in pass.old) }
-    ensures own { SitsAt site.now pass.new }
-    ensures numbered { IsSome (task_in pass.new) }
-    ensures rests { HoldsNothing (view_of pass.new) }
-    ensures recorded { OwesNoSignal (hand_in pass.new) }
+    requires ready { IsReady site.now pass.old }
+    ensures ready { IsReady site.now pass.new }
 {
     let words = next_words(site, pass)?;
     if let Some(SpaceCall::Fault { .. }) = SpaceCall::call_of(words) {

@@ -47,10 +47,18 @@ fn a_site_answers_its_plan(rt: HostRuntime) -> Result<(), Fail> {
     let mut plan = Plan::new(rt.alloc(), 2)?;
     plan.push(0, signal)?;
     let (site, mut pass) = Site::<Bare>::open(rt.alloc(), plan)?;
-    site.begin(&rt, &mut pass, 0);
     assert_eq!(rt; (site.tasks(), site.calls(0), site.calls(1)), (2, 1, 0));
     assert_eq!(rt; site.call(&mut pass, 0, 0), signal);
     assert_eq!(rt; site.rec_word(&mut pass, 0, 0), 0);
+    Ok(())
+}
+
+#[test]
+fn a_new_site_has_no_signal(rt: HostRuntime) -> Result<(), Fail> {
+    let mut plan = Plan::new(rt.alloc(), 2)?;
+    plan.push(0, CallWords { a: 1, b: 15 })?;
+    let (site, mut pass) = Site::<Bare>::open(rt.alloc(), plan)?;
+    site.begin(&rt, &mut pass, 0);
     site.grown(&mut pass);
     site.stated(&mut pass);
     site.recall(&mut pass);

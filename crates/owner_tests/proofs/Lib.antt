@@ -1,2 +1,0 @@
-mod Performing
-pub mod Locked

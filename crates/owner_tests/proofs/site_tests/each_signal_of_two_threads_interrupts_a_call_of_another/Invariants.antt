@@ -1,5 +1,0 @@
-use Rattle.owner_tests.specs.OwnerLockStanding.{Idles}
-use Rattle.owner_tests.proofs.site_tests.each_signal_of_two_threads_interrupts_a_call_of_another.Given as goal
-
-abbrev pub invariant-loop-task : goal.invariant-loop-task
-invariant-loop-task g l = Idles l.site l.pass

@@ -1,3 +1,0 @@
-pub mod OwnerLockStanding
-pub mod OwnerLocks
-pub mod OwnerLockLaws
