@@ -32,22 +32,6 @@ fn stores(site: &OwnerSite<Areas>, pass: &mut OwnerPass<Areas>, want: &[u64; 257
     true
 }
 
-/// How many areas there are, how many entries the log has, and the word of the first.
-fn areas_and_log(site: &OwnerSite<Areas>, pass: &mut OwnerPass<Areas>) -> (u64, u32, Option<u64>)
-    requires own { SitsAt site.now pass.old }
-    requires held { (held_in pass.old) ≢ No }
-    ensures own { SitsAt site.now pass.new }
-    ensures face { SaysSame pass.old pass.new }
-    ensures hand { hand_in pass.new ≡ hand_in pass.old }
-{
-    let areas = site.word(pass, 0);
-    let entries = site.log_len(pass);
-    if entries == 0 {
-        return (areas, 0, None);
-    }
-    (areas, entries, Some(site.log_word(pass, 0)))
-}
-
 /// Does the log's calls one after the other on an empty space. Counts how many each task has, and
 /// gives what stores the space. Says whether each task's calls stand in their order.
 fn replay(
@@ -127,20 +111,17 @@ fn a_second_task_takes_the_lock_once_the_first_lets_it_go(rt: HostRuntime) -> Re
     let mut two = site.split(&mut one);
     site.begin(&rt, &mut one, 0);
     site.begin(&rt, &mut two, 2);
-    assert_eq!(rt; site.trylock_once(&mut one), Ok(()));
-    assert_eq!(rt; site.trylock_once(&mut two), Err(8));
-    assert_eq!(rt; perform(&site, &mut one), Some(Reply::Num(0)));
+    assert!(rt; site.trylock_once(&mut one).is_ok());
+    assert!(rt; site.trylock_once(&mut two) == Err(8));
+    assert!(rt; perform(&site, &mut one) == Some(Reply::Num(0)));
     site.unlock_once(&mut one);
-    assert_eq!(rt; site.trylock_once(&mut two), Ok(()));
-    assert_eq!(rt; areas_and_log(&site, &mut two), (1, 1, Some(0)));
-    assert_eq!(rt; perform(&site, &mut two), Some(Reply::Num(2)));
-    assert_eq!(rt; perform(&site, &mut two), Some(Reply::Good));
-    assert_eq!(rt; perform(&site, &mut two), None);
+    assert!(rt; site.trylock_once(&mut two).is_ok());
+    assert!(rt; (site.word(&mut two, 0), site.log_len(&mut two)) == (1, 1));
+    assert!(rt; perform(&site, &mut two) == Some(Reply::Num(2)));
+    assert!(rt; perform(&site, &mut two) == Some(Reply::Good));
+    assert!(rt; perform(&site, &mut two).is_none());
     site.unlock_once(&mut two);
-    assert_eq!(rt;
-        (site.done(&two), site.front(&two), site.held(&two)),
-        (2, 2, Held::No)
-    );
+    assert!(rt; (site.done(&two), site.front(&two), site.held(&two)) == (2, 2, Held::No));
     site.recall_holders(&mut two);
     site.grown(&mut two);
     Ok(())
@@ -152,7 +133,7 @@ fn a_pass_gathers_another(rt: HostRuntime) -> Result<(), Fail> {
     let (site, mut one) = OwnerSite::<Areas>::open(rt.alloc(), plan)?;
     let two = site.split(&mut one);
     site.gather(&mut one, two);
-    assert_eq!(rt; (site.task(&one), site.held(&one)), (None, Held::No));
+    assert!(rt; (site.task(&one), site.held(&one)) == (None, Held::No));
     Ok(())
 }
 
@@ -169,16 +150,13 @@ fn a_call_that_does_not_wait_is_busy(rt: HostRuntime) -> Result<(), Fail> {
     let mut two = site.split(&mut one);
     site.begin(&rt, &mut one, 0);
     site.begin(&rt, &mut two, 1);
-    assert_eq!(rt; site.trylock_once(&mut one), Ok(()));
-    assert_eq!(rt; try_next(&site, &mut two), Some(false));
+    assert!(rt; site.trylock_once(&mut one).is_ok());
+    assert!(rt; try_next(&site, &mut two) == Some(false));
     let entry = Entry { task: 1, call: 0 };
-    assert_eq!(rt;
-        record_word(&site, &mut two, entry),
-        Some(6 * 262_144 + 8 * 4_194_304)
-    );
+    assert!(rt; record_word(&site, &mut two, entry) == Some(6 * 262_144 + 8 * 4_194_304));
     site.unlock_once(&mut one);
-    assert_eq!(rt; try_next(&site, &mut two), Some(true));
-    assert_eq!(rt; (site.done(&two), site.held(&two)), (1, Held::Alone));
+    assert!(rt; try_next(&site, &mut two) == Some(true));
+    assert!(rt; (site.done(&two), site.held(&two)) == (1, Held::Alone));
     Ok(())
 }
 
@@ -195,30 +173,18 @@ fn a_signal_interrupts_a_call_that_waits(rt: HostRuntime) -> Result<(), Fail> {
     site.begin(&rt, &mut one, 0);
     site.begin(&rt, &mut two, 1);
     site.begin(&rt, &mut holder, 2);
-    assert_eq!(rt; site.trylock_once(&mut holder), Ok(()));
-    assert_eq!(rt; interrupt(&site, &mut two), None);
-    assert_eq!(rt; send(&site, &mut one), Some(1));
-    assert_eq!(rt;
-        interrupt(&site, &mut two),
-        Some(Interrupted { sent: 1, taken: 0 })
-    );
-    assert_eq!(rt; interrupt(&site, &mut two), None);
-    assert_eq!(rt; send(&site, &mut one), Some(1));
-    assert_eq!(rt;
-        interrupt(&site, &mut two),
-        Some(Interrupted { sent: 2, taken: 1 })
-    );
-    assert_eq!(rt; send(&site, &mut one), None);
+    assert!(rt; site.trylock_once(&mut holder).is_ok());
+    assert!(rt; interrupt(&site, &mut two).is_none());
+    assert!(rt; send(&site, &mut one) == Some(1));
+    assert!(rt; interrupt(&site, &mut two) == Some(Interrupted { sent: 1, taken: 0 }));
+    assert!(rt; interrupt(&site, &mut two).is_none());
+    assert!(rt; send(&site, &mut one) == Some(1));
+    assert!(rt; interrupt(&site, &mut two) == Some(Interrupted { sent: 2, taken: 1 }));
+    assert!(rt; send(&site, &mut one).is_none());
     let (sent, interrupted) = (Entry { task: 0, call: 1 }, Entry { task: 1, call: 1 });
-    assert_eq!(rt; record_word(&site, &mut two, sent), Some(8 * 262_144));
-    assert_eq!(rt;
-        record_word(&site, &mut two, interrupted),
-        Some(7 * 262_144)
-    );
-    assert_eq!(rt;
-        (site.done(&one), site.done(&two), site.front(&two)),
-        (2, 2, 0)
-    );
+    assert!(rt; record_word(&site, &mut two, sent) == Some(8 * 262_144));
+    assert!(rt; record_word(&site, &mut two, interrupted) == Some(7 * 262_144));
+    assert!(rt; (site.done(&one), site.done(&two), site.front(&two)) == (2, 2, 0));
     Ok(())
 }
 
@@ -238,13 +204,13 @@ fn the_log_of_four_threads_has_each_commit_once(rt: HostRuntime) -> Result<(), F
     let (site, mut pass) = OwnerSite::<Areas>::open(rt.alloc(), plan)?;
     four_at_once(&rt, rt.alloc(), &site, &mut pass)?;
     site.begin(&rt, &mut pass, 3);
-    assert_eq!(rt; site.done(&pass), ROUNDS);
+    assert!(rt; site.done(&pass) == ROUNDS);
     assert!(rt; take(&site, &mut pass));
-    assert_eq!(rt; site.log_len(&mut pass), 4 * ROUNDS);
+    assert!(rt; site.log_len(&mut pass) == 4 * ROUNDS);
     let mut done = [0; 4];
     let mut words = [0; 257];
     assert!(rt; replay(&site, &mut pass, &mut done, &mut words));
-    assert_eq!(rt; done, [ROUNDS; 4]);
+    assert!(rt; done == [ROUNDS; 4]);
     assert!(rt; stores(&site, &mut pass, &words));
     Ok(())
 }
@@ -265,11 +231,11 @@ fn each_signal_of_two_threads_interrupts_a_call_of_another(rt: HostRuntime) -> R
     let (site, mut pass) = OwnerSite::<Areas>::open(rt.alloc(), plan)?;
     let mut holder = site.split(&mut pass);
     site.begin(&rt, &mut holder, 4);
-    assert_eq!(rt; site.trylock_once(&mut holder), Ok(()));
+    assert!(rt; site.trylock_once(&mut holder).is_ok());
     four_at_once(&rt, rt.alloc(), &site, &mut pass)?;
     for task in 0..4 {
         site.begin(&rt, &mut pass, task);
-        assert_eq!(rt; (site.done(&pass), site.front(&pass)), (ROUNDS, 0));
+        assert!(rt; (site.done(&pass), site.front(&pass)) == (ROUNDS, 0));
         site.end(&mut pass);
     }
     assert!(rt; records_are(&site, &mut pass, 1, 8 * 262_144));

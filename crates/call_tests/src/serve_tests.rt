@@ -131,10 +131,10 @@ fn is_left(left: &Left) -> bool {
 fn calls_on_a_space_leave_one_history_under_each_lock(rt: HostRuntime) -> Result<(), Fail> {
     let (left, seen) = serve_a_space::<_, Mutex<Areas>>(&rt, rt.alloc())?;
     assert!(rt; is_left(&left));
-    assert_eq!(rt; seen, (5, 0));
+    assert!(rt; seen == (5, 0));
     let (left, seen) = serve_a_space::<_, RwSem<Areas>>(&rt, rt.alloc())?;
     assert!(rt; is_left(&left));
-    assert_eq!(rt; seen, (2, 3));
+    assert!(rt; seen == (2, 3));
     Ok(())
 }
 
@@ -173,11 +173,11 @@ const POPULATED: [Reply; 4] = [
 #[test]
 fn populate_counts_the_pages_that_it_left_under_each_lock(rt: HostRuntime) -> Result<(), Fail> {
     let (replies, seen) = populate_a_space::<_, Mutex<Areas>>(&rt, rt.alloc())?;
-    assert_eq!(rt; replies.as_slice(), POPULATED.as_slice());
-    assert_eq!(rt; seen, (4, 0));
+    assert!(rt; replies.as_slice() == POPULATED.as_slice());
+    assert!(rt; seen == (4, 0));
     let (replies, seen) = populate_a_space::<_, RwSem<Areas>>(&rt, rt.alloc())?;
-    assert_eq!(rt; replies.as_slice(), POPULATED.as_slice());
-    assert_eq!(rt; seen, (1, 3));
+    assert!(rt; replies.as_slice() == POPULATED.as_slice());
+    assert!(rt; seen == (1, 3));
     Ok(())
 }
 
@@ -203,21 +203,21 @@ fn serve_a_table<W: Wait>(rt: &W, alloc: Global) -> Result<(Vec<Reply>, Snapshot
 #[test]
 fn calls_on_a_table_leave_one_history(rt: HostRuntime) -> Result<(), Fail> {
     let (replies, copy) = serve_a_table(&rt, rt.alloc())?;
-    assert_eq!(rt;
-        replies.as_slice(),
-        [
-            Reply::Num(0),
-            Reply::Num(1),
-            Reply::Num(10),
-            Reply::Refused(Errno::BadF)
-        ]
-        .as_slice()
+    assert!(rt;
+        replies.as_slice()
+            == [
+                Reply::Num(0),
+                Reply::Num(1),
+                Reply::Num(10),
+                Reply::Refused(Errno::BadF)
+            ]
+            .as_slice()
     );
-    assert_eq!(rt; copy.log(), [0, 1, 3].as_slice());
+    assert!(rt; copy.log() == [0, 1, 3].as_slice());
     let mut state = [0; 64];
     state[0] = 11;
     state[1] = 11;
-    assert_eq!(rt; copy.state(), state.as_slice());
+    assert!(rt; copy.state() == state.as_slice());
     Ok(())
 }
 
@@ -256,10 +256,10 @@ fn try_at_once<
 #[test]
 fn two_threads_that_try_leave_one_history_under_each_lock(rt: HostRuntime) -> Result<(), Fail> {
     let (done, busy, logged) = try_at_once::<_, Mutex<Areas>>(&rt, rt.alloc())?;
-    assert_eq!(rt; done.saturating_add(busy), 2 * TRIES);
-    assert_eq!(rt; logged, done as usize);
+    assert!(rt; done.saturating_add(busy) == 2 * TRIES);
+    assert!(rt; logged == done as usize);
     let (done, busy, logged) = try_at_once::<_, RwSem<Areas>>(&rt, rt.alloc())?;
-    assert_eq!(rt; done.saturating_add(busy), 2 * TRIES);
-    assert_eq!(rt; logged, done as usize);
+    assert!(rt; done.saturating_add(busy) == 2 * TRIES);
+    assert!(rt; logged == done as usize);
     Ok(())
 }

@@ -131,7 +131,7 @@ fn each_task_counts_its_interrupted_calls(rt: HostRuntime) -> Result<(), Fail> {
     let gate = Crowd::default();
     let copy = history_of_mappers(&rt, rt.alloc(), &gate)?;
     let (recs, state) = (copy.recs(), copy.state());
-    assert_eq!(rt; recs.len(), 13);
+    assert!(rt; recs.len() == 13);
     let mut calls = pages_in(state);
     for task in 1..4 {
         let interrupted = gate.interrupted[task].load(Ordering::SeqCst);
@@ -140,6 +140,6 @@ fn each_task_counts_its_interrupted_calls(rt: HostRuntime) -> Result<(), Fail> {
         assert!(rt; has_counted(own, state, first, interrupted), "{task}");
         calls = calls.wrapping_add(interrupted);
     }
-    assert_eq!(rt; calls, 9);
+    assert!(rt; calls == 9);
     Ok(())
 }

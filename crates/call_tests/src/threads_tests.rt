@@ -220,14 +220,13 @@ fn four_threads_leave_what_one_thread_could_under_each_lock(rt: HostRuntime) -> 
     let mut counts = Counts::default();
     assert!(rt; is_one_history(&copy, &mut counts));
     let interrupted = all(&counts.changes).saturating_add(all(&counts.readings));
-    assert_eq!(rt;
-        holds.map(|holds| holds.saturating_add(interrupted)),
-        Some(24 * u64::from(ROUNDS))
+    assert!(rt;
+        holds.map(|holds| holds.saturating_add(interrupted)) == Some(24 * u64::from(ROUNDS))
     );
     let (copy, holds) = table_rounds::<_, RwSem<Fds>>(&rt, rt.alloc())?;
     let mut counts = Counts::default();
     assert!(rt; is_one_history(&copy, &mut counts));
-    assert_eq!(rt; holds, Some(all(&counts.done)));
+    assert!(rt; holds == Some(all(&counts.done)));
     Ok(())
 }
 
@@ -276,7 +275,7 @@ fn four_threads_that_populate_a_space_share_it_with_readers_alone(
     let crew = ParkCrew::new(rt.alloc(), 4)?;
     let copy = history_of_four::<_, _, _, RwSem<Areas>, Areas>(&rt, rt.alloc(), plan, crew, &gate)?;
     assert!(rt; are_space_records(copy.recs()));
-    assert_eq!(rt; copy.log().len(), 8 * SPACE_ROUNDS as usize);
-    assert_eq!(rt; gate.holds(), Some(4 * u64::from(SPACE_ROUNDS)));
+    assert!(rt; copy.log().len() == 8 * SPACE_ROUNDS as usize);
+    assert!(rt; gate.holds() == Some(4 * u64::from(SPACE_ROUNDS)));
     Ok(())
 }

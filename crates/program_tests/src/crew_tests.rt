@@ -43,10 +43,10 @@ fn each_task_has_a_cpu_that_is_as_patient_as_the_words_say(rt: HostRuntime) -> R
         };
         let script = format!(in alloc; "{ORDINARY}task\ntask\n")?;
         let (status, _) = run_on(&rt, alloc, words, script.as_str(), &mut crew)?;
-        assert_eq!(rt; status, Status::Done);
+        assert!(rt; status == Status::Done);
         let turns = Turns { spin, overdue };
         let want = [(0, turns), (0, turns), (1, turns), (2, turns)];
-        assert_eq!(rt; crew.made.as_slice(), want.as_slice());
+        assert!(rt; crew.made.as_slice() == want.as_slice());
     }
     Ok(())
 }

@@ -46,9 +46,9 @@ fn two_tasks_are_inside_a_space_at_once(rt: HostRuntime) -> Result<(), Fail> {
     let gate = HoldGate::new(0, 2, 100_000_000);
     let script = "space a\ntask\na fault 5 r\ntask\na fault 6 r\n";
     let (status, _, text) = run(&rt, rt.alloc(), &[], script, &[], 1000, &gate)?;
-    assert_eq!(rt; (status, gate.met()), (Status::Done, true));
+    assert!(rt; (status, gate.met()) == (Status::Done, true));
     let expected = "space a\n0.0 fault 5 r = maperr\n1.0 fault 6 r = maperr\nleft 0\n";
-    assert_eq!(rt; text.as_slice(), expected.as_bytes());
+    assert!(rt; text.as_slice() == expected.as_bytes());
     Ok(())
 }
 
@@ -57,10 +57,10 @@ fn two_tasks_are_inside_two_tables_at_once(rt: HostRuntime) -> Result<(), Fail> 
     let gate = BothInside::default();
     let script = "table f\ntable g\ntask\nf open 7\ntask\ng open 8\n";
     let (status, _, text) = run(&rt, rt.alloc(), &[], script, &[], 1000, &gate)?;
-    assert_eq!(rt; status, Status::Done);
-    assert_eq!(rt; gate.met.load(Ordering::SeqCst), 3);
+    assert!(rt; status == Status::Done);
+    assert!(rt; gate.met.load(Ordering::SeqCst) == 3);
     let expected = "table f\n0.0 open 7 = 0\nleft 1\n0 7\ntable g\n1.0 open 8 = 0\nleft 1\n0 8\n";
-    assert_eq!(rt; text.as_slice(), expected.as_bytes());
+    assert!(rt; text.as_slice() == expected.as_bytes());
     Ok(())
 }
 
@@ -71,7 +71,7 @@ fn one_task_goes_from_table_to_table_in_its_order(rt: HostRuntime) -> Result<(),
     let script =
         "table f\ntable g\ntable h\ntask\ng open 7\nh open 8\nh get 0\nf open 9\ng get 0\n";
     let (status, _, _) = run(&rt, rt.alloc(), &["--summary"], script, &[], 1000, &gate)?;
-    assert_eq!(rt; status, Status::Done);
-    assert_eq!(rt; gate.taken.load(Ordering::SeqCst), 12_201);
+    assert!(rt; status == Status::Done);
+    assert!(rt; gate.taken.load(Ordering::SeqCst) == 12_201);
     Ok(())
 }

@@ -1,5 +1,8 @@
-//! Tests of what a process can't show: streams in memory that fail, gates, CPUs, a command line that
-//! couldn't be read, and the machine that is kept. The texts of scripts stand in examples/.
+//! Tests of values: packed words, address spaces, descriptor tables, scripts, and texts of results.
+//! Tests of the program that no process can show: streams in memory that fail, gates, CPUs, a
+//! command line that couldn't be read, and the machine that is kept.
+//!
+//! The texts of scripts stand in examples/.
 #![tactic(auto)]
 
 #[cfg(test)]
@@ -9,6 +12,24 @@ mod gate_tests;
 #[cfg(test)]
 mod line_tests;
 #[cfg(test)]
+mod remap_tests;
+#[cfg(test)]
+mod report_tests;
+#[cfg(test)]
 mod runs;
 #[cfg(test)]
+mod script_tests;
+#[cfg(test)]
+mod search_tests;
+#[cfg(test)]
+mod space_tests;
+#[cfg(test)]
+mod spaces;
+#[cfg(test)]
 mod stream_tests;
+#[cfg(test)]
+mod table_tests;
+#[cfg(test)]
+mod version_tests;
+#[cfg(test)]
+mod word_tests;

@@ -47,12 +47,14 @@ fn a_machine_is_kept_where_a_script_was_run(rt: HostRuntime) -> Result<(), Fail>
         ),
     ] {
         let outcome = run(&rt, rt.alloc(), words, script, fails, room, &OpenGate)?;
-        assert_eq!(rt;
-            (outcome.0, outcome.1),
-            (status, kept),
+        assert!(rt;
+            (outcome.0, outcome.1) == (status, kept),
             "{words:?} {script}"
         );
-        assert_eq!(rt; outcome.2.as_slice(), text.as_bytes(), "{words:?} {script}");
+        assert!(rt;
+            outcome.2.as_slice() == text.as_bytes(),
+            "{words:?} {script}"
+        );
     }
     Ok(())
 }
@@ -71,7 +73,7 @@ fn a_sink_that_fails_at_its_fourth_byte_has_three(rt: HostRuntime) -> Result<(),
         &mut crew,
         &OpenGate,
     )?;
-    assert_eq!(rt; ended, (Status::WriteFault, true));
-    assert_eq!(rt; sink.written(), b"spa".as_slice());
+    assert!(rt; ended == (Status::WriteFault, true));
+    assert!(rt; sink.written() == b"spa".as_slice());
     Ok(())
 }

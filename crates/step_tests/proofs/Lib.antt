@@ -1,3 +1,3 @@
 mod Pushes
 mod PercpuCalls
-mod PercpuPlans
+mod Plans

@@ -23,10 +23,10 @@ fn a_batch_goes_on_behind_writers_up_to_its_limit(rt: HostRuntime) -> Result<(),
     }
     let mut out = ArrayVec::new();
     batch(list.as_slice(), BATCH, &mut out);
-    assert_eq!(rt; out.as_slice(), expected.as_slice());
+    assert!(rt; out.as_slice() == expected.as_slice());
     let mut none = ArrayVec::new();
     batch(list.as_slice(), 0, &mut none);
-    assert_eq!(rt; none.len(), 0);
+    assert!(rt; none.len() == 0);
     let writer_first = [
         Waiter {
             task: 3,
@@ -39,6 +39,6 @@ fn a_batch_goes_on_behind_writers_up_to_its_limit(rt: HostRuntime) -> Result<(),
     ];
     let mut behind = ArrayVec::new();
     batch(&writer_first, BATCH, &mut behind);
-    assert_eq!(rt; behind.len(), 0);
+    assert!(rt; behind.len() == 0);
     Ok(())
 }

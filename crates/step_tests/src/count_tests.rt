@@ -3,7 +3,7 @@
 ghost use Rattle.std.specs.Prelude.{IfOk};
 ghost use Rattle.step_tests.specs.CountStanding.{IsReady};
 
-use crate::course::first_wrong;
+use crate::course::check_course;
 use lock_core::{Held, Nothing, Op, Plan};
 use rwsem_count::{
     BIAS, CountPass, CountSite, HANDOFF, READ_FAIL, WAITERS, WRITER, Write, read_free, write_step,
@@ -63,9 +63,8 @@ fn a_queued_writer_tries_by_the_table(rt: HostRuntime) {
         // The marked waiter was interrupted: any queued writer takes.
         (6, false, false, false, false, Write::Take(3)),
     ] {
-        assert_eq!(rt;
-            write_step(word, first, marked, alone, overdue),
-            answer,
+        assert!(rt;
+            write_step(word, first, marked, alone, overdue) == answer,
             "of {word}"
         );
     }
@@ -84,7 +83,7 @@ fn a_reader_comes_in_by_the_flags(rt: HostRuntime) {
         (READ_FAIL, false),
         (READ_FAIL + 512, false),
     ] {
-        assert_eq!(rt; read_free(word), free, "of {word}");
+        assert!(rt; read_free(word) == free, "of {word}");
     }
 }
 
@@ -128,7 +127,7 @@ fn a_whole_round_of_a_count(rt: HostRuntime) {
         (2, tried(2, true), 1),
         (1, Op::Sub(WRITER), 0),
     ];
-    assert_eq!(rt; first_wrong(&course), None);
+    check_course(&rt, &course);
 }
 
 #[test]
@@ -142,7 +141,7 @@ fn a_reader_in_transit_outlasts_its_writer(rt: HostRuntime) {
         (256, Op::Exchange(0, WRITER), 256),
         (256, Op::Sub(BIAS), 0),
     ];
-    assert_eq!(rt; first_wrong(&course), None);
+    check_course(&rt, &course);
 }
 
 #[test]
@@ -157,7 +156,7 @@ fn a_downgrade_lets_in_the_reader_that_waits_first(rt: HostRuntime) {
         (3, Op::Add(BIAS - WRITER), 258),
         (258, Op::Add(BIAS), 514),
     ];
-    assert_eq!(rt; first_wrong(&course), None);
+    check_course(&rt, &course);
 }
 
 #[test]
@@ -174,7 +173,7 @@ fn a_writer_is_asked_to_hand_over(rt: HostRuntime) {
         (7, Op::Sub(WRITER), 6),
         (6, tried(6, false), 3),
     ];
-    assert_eq!(rt; first_wrong(&course), None);
+    check_course(&rt, &course);
     for (_, _, left) in course {
         assert!(rt; !read_free(left), "{left}");
     }
@@ -193,7 +192,7 @@ fn a_marked_writer_is_interrupted(rt: HostRuntime) {
         (262, Op::Add(BIAS), 518),
         (518, Op::Sub(WAITERS + HANDOFF), 512),
     ];
-    assert_eq!(rt; first_wrong(&course), None);
+    check_course(&rt, &course);
 }
 
 #[test]
@@ -204,15 +203,15 @@ fn readers_keep_a_writer_out(rt: HostRuntime) -> Result<(), Fail> {
         mut one,
         mut two,
     } = open_three(&rt, rt.alloc())?;
-    assert_eq!(rt; site.read_add(&mut zero), Ok(()));
-    assert_eq!(rt; site.read_try(&rt, &mut one), Ok(()));
-    assert_eq!(rt; site.write_try(&mut two), Err(512));
-    assert_eq!(rt;
-        (site.held(&zero), site.held(&one), site.held(&two)),
-        (Held::Shared, Held::Shared, Held::No)
+    assert!(rt; site.read_add(&mut zero).is_ok());
+    assert!(rt; site.read_try(&rt, &mut one).is_ok());
+    assert!(rt; site.write_try(&mut two) == Err(512));
+    assert!(rt;
+        (site.held(&zero), site.held(&one), site.held(&two))
+            == (Held::Shared, Held::Shared, Held::No)
     );
-    assert_eq!(rt; site.up_read_once(&mut zero), 256);
-    assert_eq!(rt; site.up_read_once(&mut one), 0);
+    assert!(rt; site.up_read_once(&mut zero) == 256);
+    assert!(rt; site.up_read_once(&mut one) == 0);
     Ok(())
 }
 
@@ -224,13 +223,10 @@ fn a_writer_keeps_a_reader_out(rt: HostRuntime) -> Result<(), Fail> {
         mut two,
         ..
     } = open_three(&rt, rt.alloc())?;
-    assert_eq!(rt; site.write_try(&mut two), Ok(()));
-    assert_eq!(rt; site.read_try(&rt, &mut zero), Err(1));
-    assert_eq!(rt;
-        (site.held(&zero), site.held(&two)),
-        (Held::No, Held::Alone)
-    );
-    assert_eq!(rt; site.up_write_once(&mut two), 0);
+    assert!(rt; site.write_try(&mut two).is_ok());
+    assert!(rt; site.read_try(&rt, &mut zero) == Err(1));
+    assert!(rt; (site.held(&zero), site.held(&two)) == (Held::No, Held::Alone));
+    assert!(rt; site.up_write_once(&mut two) == 0);
     Ok(())
 }
 
@@ -242,46 +238,29 @@ fn a_writer_downgrades_under_a_reader_in_transit(rt: HostRuntime) -> Result<(), 
         mut one,
         two: _,
     } = open_three(&rt, rt.alloc())?;
-    assert_eq!(rt; site.write_try(&mut zero), Ok(()));
-    assert_eq!(rt; site.read_add(&mut one), Err(257));
-    assert_eq!(rt; (one.in_transit(), site.held(&one)), (true, Held::No));
-    assert_eq!(rt; site.downgrade_once(&mut zero), 512);
-    assert_eq!(rt; site.held(&zero), Held::Shared);
-    assert_eq!(rt; site.read_back(&mut one), 256);
-    assert_eq!(rt; one.in_transit(), false);
-    assert_eq!(rt; site.up_read_once(&mut zero), 0);
+    assert!(rt; site.write_try(&mut zero).is_ok());
+    assert!(rt; site.read_add(&mut one) == Err(257));
+    assert!(rt; (one.in_transit(), site.held(&one)) == (true, Held::No));
+    assert!(rt; site.downgrade_once(&mut zero) == 512);
+    assert!(rt; site.held(&zero) == Held::Shared);
+    assert!(rt; site.read_back(&mut one) == 256);
+    assert!(rt; !one.in_transit());
+    assert!(rt; site.up_read_once(&mut zero) == 0);
     Ok(())
 }
 
 #[test]
-fn a_gathered_pass_leaves_its_number(rt: HostRuntime) -> Result<(), Fail> {
-    let plan = Plan::new(rt.alloc(), 2)?;
-    let (site, mut one) = CountSite::<Nothing>::open(rt.alloc(), plan)?;
-    let mut two = site.split(&mut one);
-    site.begin(&rt, &mut two, 1);
-    site.end(&mut two);
-    site.gather(&mut one, two);
-    site.begin(&rt, &mut one, 1);
-    assert_eq!(rt;
-        (
-            site.task(&one),
-            site.held(&one),
-            site.done(&one),
-            site.front(&one)
-        ),
-        (Some(1), Held::No, 0, 0)
-    );
-    Ok(())
-}
-
-#[test]
-fn a_new_site_has_no_entry(rt: HostRuntime) -> Result<(), Fail> {
+fn a_number_is_free_again_and_a_new_site_has_no_entry(rt: HostRuntime) -> Result<(), Fail> {
     let plan = Plan::new(rt.alloc(), 1)?;
     let (site, mut pass) = CountSite::<Nothing>::open(rt.alloc(), plan)?;
+    let mut other = site.split(&mut pass);
+    site.begin(&rt, &mut other, 0);
+    site.end(&mut other);
+    site.gather(&mut pass, other);
     site.begin(&rt, &mut pass, 0);
     site.grown(&mut pass);
     site.recall_count(&mut pass);
-    assert_eq!(rt; site.read_try(&rt, &mut pass), Ok(()));
-    assert_eq!(rt; site.log_len(&mut pass), 0);
+    assert!(rt; site.read_try(&rt, &mut pass).is_ok());
+    assert!(rt; site.log_len(&mut pass) == 0);
     Ok(())
 }

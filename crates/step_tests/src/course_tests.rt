@@ -1,5 +1,5 @@
 //! Worked courses of the words of a spin lock and of a spin queue, step by step.
-use crate::course::{first_unfound, first_wrong};
+use crate::course::{check_course, check_found};
 use lock_core::Op;
 
 #[test]
@@ -20,7 +20,7 @@ fn the_pending_bit_is_undone_beside_a_tail(rt: HostRuntime) {
         (6401, Op::And(!256), 6145),
         (6145, Op::Exchange(6145, 8193), 8193),
     ];
-    assert_eq!(rt; first_wrong(&course), None);
+    check_course(&rt, &course);
 }
 
 /// Three CPUs enter in order and hand the front on. The tail is word 0, and the node of a CPU has
@@ -54,7 +54,7 @@ fn three_enter_and_hand_the_front_on(rt: HostRuntime) {
         (0, Op::Exchange(3, 0), 3),
         (0, Op::Load, 0),
     ];
-    assert_eq!(rt; first_unfound(&course), None);
+    check_found(&rt, &course);
 }
 
 /// CPUs 0 to 3 are queued. 1, 2 and 3 leave while their neighbours leave, and 1 enters again
@@ -107,5 +107,5 @@ fn neighbours_leave_at_once(rt: HostRuntime) {
         (17, Op::Load, 1),
         (16, Op::Load, 0),
     ];
-    assert_eq!(rt; first_unfound(&course), None);
+    check_found(&rt, &course);
 }

@@ -62,9 +62,8 @@ fn parked_cpus_answer_true_after_so_many_false_answers(rt: HostRuntime) -> Resul
         };
         let mut cpu = crew.cpu(rt.alloc(), 0, spins)?;
         let got = answers(&mut cpu);
-        assert_eq!(rt;
-            got,
-            (want, [false, false, false, false, true]),
+        assert!(rt;
+            got == (want, [false, false, false, false, true]),
             "spin {turns}"
         );
         let waits = Turns {
@@ -73,9 +72,8 @@ fn parked_cpus_answer_true_after_so_many_false_answers(rt: HostRuntime) -> Resul
         };
         let mut cpu = crew.cpu(rt.alloc(), 0, waits)?;
         let got = answers(&mut cpu);
-        assert_eq!(rt;
-            got,
-            ([false, true, false, true, false], want),
+        assert!(rt;
+            got == ([false, true, false, true, false], want),
             "overdue {turns}"
         );
     }
@@ -112,9 +110,9 @@ fn scripted_cpus_answer_from_copies_of_the_lists(rt: HostRuntime) -> Result<(), 
     for task in 0..2 {
         let mut cpu = crew.cpu(rt.alloc(), task, TURNS)?;
         cpu.sleep(&rt);
-        assert_eq!(rt; answers(&mut cpu), want, "task {task}");
+        assert!(rt; answers(&mut cpu) == want, "task {task}");
         sleeps_until_woken(&rt, &crew, &mut cpu, task);
-        assert_eq!(rt; answers(&mut cpu), ([true; 5], [true; 5]), "task {task}");
+        assert!(rt; answers(&mut cpu) == ([true; 5], [true; 5]), "task {task}");
     }
     Ok(())
 }
@@ -124,7 +122,7 @@ fn a_gate_is_met_by_two_tasks_inside_together(rt: HostRuntime) {
     let gate = HoldGate::new(3, 2, 100_000_000);
     assert!(rt; !gate.met());
     enters_twice(&rt, &gate);
-    assert_eq!(rt; (gate.count(), gate.met()), (2, true));
+    assert!(rt; (gate.count(), gate.met()) == (2, true));
     enters_twice(&rt, &OpenGate);
 }
 
@@ -133,13 +131,13 @@ fn a_gate_is_missed_for_good_by_a_task_alone(rt: HostRuntime) {
     let gate = HoldGate::new(3, 2, 5);
     gate.inside(&rt, 3, 0, false);
     gate.inside(&rt, 4, 0, true);
-    assert_eq!(rt; (gate.count(), gate.met()), (0, false));
+    assert!(rt; (gate.count(), gate.met()) == (0, false));
     gate.inside(&rt, 3, 0, true);
-    assert_eq!(rt; (gate.count(), gate.met()), (1, false));
+    assert!(rt; (gate.count(), gate.met()) == (1, false));
     gate.inside(&rt, 3, 1, true);
-    assert_eq!(rt; (gate.count(), gate.met()), (2, false));
+    assert!(rt; (gate.count(), gate.met()) == (2, false));
     // Who comes last doesn't turn.
     let last = HoldGate::new(3, 1, 0);
     last.inside(&rt, 3, 0, true);
-    assert_eq!(rt; (last.count(), last.met()), (1, true));
+    assert!(rt; (last.count(), last.met()) == (1, true));
 }

@@ -6,7 +6,7 @@ ghost use Rattle.seq_fault.specs.SeqHandles.{SitsAt, held_in, plan_of};
 ghost use Rattle.step_tests.specs.SeqStanding.{IsIdle, IsReady};
 ghost use Rattle.vma_map.specs.Spaces.{space};
 
-use crate::seq_calls::{fault_wait, map, push, touch, unmap, write};
+use crate::seq_calls::{fault_wait, map, push_all, touch, unmap, write};
 use lock_core::Plan;
 use seq_fault::{SeqSpace, SpacePass};
 use site_lock::SiteLock;
@@ -32,15 +32,11 @@ fn planned(alloc: Global) -> Result<Plan, Fail>
     ensures calls { IfOk result (λ plan. IsPlan space plan) }
 {
     let mut plan = Plan::new(alloc, 4)?;
-    push(&mut plan, 0, map(16, 2))?;
-    push(&mut plan, 0, map(20, 4))?;
+    push_all(&mut plan, 0, &[map(16, 2), map(20, 4)])?;
     for _ in 0..ROUNDS {
-        push(&mut plan, 0, map(0, 4))?;
-        push(&mut plan, 0, unmap(0, 4))?;
-        push(&mut plan, 1, touch(20, 1))?;
-        push(&mut plan, 1, touch(1, 1))?;
-        push(&mut plan, 2, touch(20, 1))?;
-        push(&mut plan, 2, touch(1, 1))?;
+        push_all(&mut plan, 0, &[map(0, 4), unmap(0, 4)])?;
+        push_all(&mut plan, 1, &[touch(20, 1), touch(1, 1)])?;
+        push_all(&mut plan, 2, &[touch(20, 1), touch(1, 1)])?;
     }
     Ok(plan)
 }

@@ -1,5 +1,5 @@
 //! Calls of tasks on an address space with a sequence word.
-ghost use Rattle.std.specs.Prelude.{◌≡◌, ◌<◌, ◌+◌, length, Some, IfSome, IfOk, slice_get};
+ghost use Rattle.std.specs.Prelude.{◌≡◌, ◌<◌, ◌≤◌, ◌+◌, length, Some, IfSome, IfOk, slice_get};
 ghost use Rattle.lock_core.specs.Records.{row, IsPlan};
 ghost use Rattle.lock_core.specs.Plans.{calls_in};
 ghost use Rattle.lock_core.specs.Views.{next_entry};
@@ -31,7 +31,7 @@ pub fn touch(page: u32, access: u8) -> CallWords {
 }
 
 /// Appends a call to a task's list.
-pub fn push(plan: &mut Plan, task: u32, words: CallWords) -> Result<(), Fail>
+fn push(plan: &mut Plan, task: u32, words: CallWords) -> Result<(), Fail>
     requires there { task < length plan.old }
     requires room { calls_in plan.old < 131072 }
     requires calls { IsPlan space plan.old }
@@ -43,6 +43,21 @@ pub fn push(plan: &mut Plan, task: u32, words: CallWords) -> Result<(), Fail>
         return Err("no call".into());
     };
     plan.push(task, words)?;
+    Ok(())
+}
+
+/// Appends calls to a task's list.
+pub fn push_all(plan: &mut Plan, task: u32, calls: &[CallWords]) -> Result<(), Fail>
+    requires there { task < length plan.old }
+    requires room { calls_in plan.old + length calls.now ≤ 131072 }
+    requires calls { IsPlan space plan.old }
+    ensures tasks { IfOk result (λ _. length plan.new ≡ length plan.old) }
+    ensures count { IfOk result (λ _. calls_in plan.new ≡ calls_in plan.old + length calls.now) }
+    ensures calls { IfOk result (λ _. IsPlan space plan.new) }
+{
+    for words in calls {
+        push(plan, task, *words)?;
+    }
     Ok(())
 }
 

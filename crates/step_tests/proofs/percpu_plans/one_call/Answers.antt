@@ -6,7 +6,7 @@ use Rattle.lock_core.specs.Plans.{calls_in}
 use Rattle.lock_core.specs.Records.{row, IsPlan}
 use Rattle.lock_core.proofs.Planning.{calls_in-empty, empty-plan}
 use Rattle.vma_map.specs.Spaces.{space}
-use Rattle.step_tests.proofs.PercpuPlans.{empty-rows}
+use Rattle.step_tests.proofs.Plans.{empty-rows}
 use Rattle.step_tests.proofs.percpu_plans.one_call.Goals as goal
 
 pub push_calls-requires-clause-there : goal.push_calls-requires-clause-there

@@ -9,7 +9,7 @@ use Rattle.lock_core.specs.Records.{row, IsPlan}
 use Rattle.lock_core.proofs.Planning.{calls_in-empty, empty-plan}
 use Rattle.vma_map.specs.Spaces.{space}
 use Rattle.step_tests.specs.TestPercpuPasses.{Repeats}
-use Rattle.step_tests.proofs.PercpuPlans.{empty-rows, repeats-on}
+use Rattle.step_tests.proofs.Plans.{empty-rows, repeats-on}
 use Rattle.step_tests.proofs.percpu_plans.planned.Goals as goal
 
 pub loop-task-init : goal.loop-task-init

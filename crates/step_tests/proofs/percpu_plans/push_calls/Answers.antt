@@ -5,7 +5,7 @@ use Rattle.lock_core.specs.Records.{row, IsPlan}
 use Rattle.lock_core.proofs.RowLaws.{length-appended, calls_in-appended, row-appended, row-beside}
 use Rattle.vma_map.specs.Spaces.{space}
 use Rattle.step_tests.specs.TestPercpuPasses.{Repeats}
-use Rattle.step_tests.proofs.PercpuPlans.{plan-appended, repeats-appended}
+use Rattle.step_tests.proofs.Plans.{plan-appended, repeats-appended}
 use Rattle.step_tests.proofs.percpu_plans.push_calls.Goals as goal
 
 pub loop-init : goal.loop-init

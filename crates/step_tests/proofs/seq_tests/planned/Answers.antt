@@ -5,5 +5,5 @@ use Rattle.lock_core.proofs.Planning.{empty-plan}
 use Rattle.vma_map.specs.Spaces.{space}
 use Rattle.step_tests.proofs.seq_tests.planned.Goals as goal
 
-pub push-requires-clause-calls : goal.push-requires-clause-calls
-push-requires-clause-calls c = subst (IsPlan space) (sym c.in_ok-plan.ensures) (empty-plan space 2)
+pub push_all-requires-clause-calls : goal.push_all-requires-clause-calls
+push_all-requires-clause-calls c = subst (IsPlan space) (sym c.in_ok-plan.ensures) (empty-plan space 2)

@@ -1,7 +1,0 @@
-//! Tests of a mutex without an object.
-mod handoff_tests;
-mod interrupt_tests;
-mod lockers;
-mod release_tests;
-mod thread_tests;
-mod word_tests;

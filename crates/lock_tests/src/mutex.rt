@@ -1,0 +1,6 @@
+//! Tests of a mutex without an object.
+mod handoff_tests;
+mod interrupt_tests;
+mod lockers;
+mod release_tests;
+mod thread_tests;
