@@ -2,8 +2,8 @@
 use lock_core::{Op, Shadow};
 use std::process::Abort;
 
-/// Fails at the first step that finds or leaves another word than stands beside it. Each step stands
-/// between the word that it finds and the one that it leaves; the first finds 0.
+/// Fails at the first step that finds or leaves another word than stands beside it. Each step
+/// stands between the word that it finds and the one that it leaves; the first finds 0.
 pub fn check_course(rt: &impl Abort, course: &[(u64, Op, u64)]) {
     let mut shadow = Shadow::new();
     for at in 0..course.len() {

@@ -1,5 +1,5 @@
-//! Tests of single steps on the words of locks, of batches, CPUs, crews and gates; of the per-CPU
-//! semaphore; and of faults without the lock.
+//! Tests of single steps on the words of locks and of courses of them; of batches, CPUs, crews and
+//! gates; of the per-CPU semaphore; and of faults without the lock.
 #![tactic(auto)]
 
 #[cfg(test)]

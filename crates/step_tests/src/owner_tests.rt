@@ -1,11 +1,11 @@
 //! What tries, releases and handoffs make of an owner word, by tables, and worked courses of it.
+//! A word has the flags waiters 1, handoff 2 and pickup 4, and 8 times the task's number plus 1.
 use crate::course::check_course;
 use lock_core::Op;
 use mutex_word::{Try, handoff_word, release_step, try_step};
 use std::test::Fail;
 use word_bits::{MAX_TASKS, Owner};
 
-// A word has the flags waiters 1, handoff 2 and pickup 4, and 8 times the task's number plus 1.
 #[test]
 fn tries_by_the_table(rt: HostRuntime) -> Result<(), Fail> {
     for (word, me, ask, answer) in [
@@ -100,6 +100,7 @@ fn a_mutex_is_handed_to_nobody_where_the_waiter_has_left(rt: HostRuntime) {
     let course = [
         // Task 0 holds, and task 1 asks for the handoff.
         (0, Op::Store(11), 11),
+        // Task 0 sees that, and doesn't release at once.
         (11, Op::Exchange(8, 0), 11),
         (11, released(11), 11),
         // Task 1 is interrupted, and leaves an empty list.
