@@ -1,15 +1,19 @@
 //! Rounds on the locks that tasks sleep on.
-ghost use Rattle.std.specs.Prelude.{◌≡◌, ◌+◌};
+ghost use Rattle.std.specs.Prelude.{◌≡◌, ◌+◌, ◌<◌};
 ghost use Rattle.lock_bench.specs.RoundsBetween.{IsBetween};
 
 use crate::plan::without_calls;
-use crate::timed::Timed;
+use crate::timed::{Timed, rounds};
 use cpu_task::{Crew, ParkCpu, ParkCrew, Turns};
 use lock_core::Nothing;
 use sleep_lock::SleepLock;
 use std::alloc::{AllocError, Global};
+use std::io;
 use std::marker::PhantomData;
 use std::sync::Wait;
+use std::thread::Threads;
+use std::time::{Clock, Duration};
+use word_bits::MAX_TASKS;
 
 /// How long a task spins before it sleeps, and waits before it is owed the lock.
 pub const TURNS: Turns = Turns {
@@ -160,4 +164,16 @@ impl<L: SleepLock<Nothing> + Drop, T: Round> Timed for Crewed<L, T> {
         }
         self.lock.end(&mut worker.pass);
     }
+}
+
+/// Each of so many threads makes so many of these rounds: on one new lock, and on more of them, one
+/// after the other, where one hasn't room for so many. How long the threads took.
+pub fn crewed_rounds<
+    L: SleepLock<Nothing, Pass: Send, Site: Sync, Rule: Sync> + Sync + Drop,
+    T: Round + Sync,
+    R: Threads + Wait + Sync + Clock,
+>(rt: &R, alloc: Global, threads: u32, count: u32) -> io::Result<Duration>
+    requires { threads < MAX_TASKS }
+{
+    rounds::<Crewed<L, T>, R>(rt, alloc, threads, count)
 }

@@ -1,5 +1,5 @@
 //! Faults on an address space under its lock.
-ghost use Rattle.std.specs.Prelude.{◌≡◌};
+ghost use Rattle.std.specs.Prelude.{◌≡◌, ◌<◌};
 ghost use Rattle.guarded.specs.GuardedHandles.{lock_of};
 ghost use Rattle.lock_bench.specs.RoundsBetween.{IsIdle};
 ghost use Rattle.lock_bench.specs.FaultPlans.{HasFaults, MapsArea};
@@ -7,13 +7,17 @@ ghost use Rattle.lock_bench.specs.BenchRooms.{but_one};
 
 use crate::crewed::{TURNS, Worker};
 use crate::plan::with_faults;
-use crate::timed::Timed;
+use crate::timed::{Timed, rounds};
 use cpu_task::{Crew, OpenGate, ParkCpu, ParkCrew};
 use guarded::Guarded;
 use sleep_lock::SleepLock;
 use std::alloc::{AllocError, Global};
+use std::io;
 use std::sync::Wait;
+use std::thread::Threads;
+use std::time::{Clock, Duration};
 use vma_map::Areas;
+use word_bits::MAX_TASKS;
 
 /// An address space under its lock, and the crew that wakes those who sleep on that.
 #[derive(Drop)]
@@ -95,4 +99,15 @@ impl<L: SleepLock<Areas> + Drop> Timed for LockedFaults<L> {
         }
         space.end(&mut worker.pass);
     }
+}
+
+/// Each of so many threads makes so many faults: on one new space, and on more of them, one after
+/// the other, where one hasn't room for so many. How long the threads took.
+pub fn locked_fault_rounds<
+    L: SleepLock<Areas, Pass: Send, Site: Sync, Rule: Sync> + Sync + Drop,
+    R: Threads + Wait + Sync + Clock,
+>(rt: &R, alloc: Global, threads: u32, count: u32) -> io::Result<Duration>
+    requires { threads < MAX_TASKS }
+{
+    rounds::<LockedFaults<L>, R>(rt, alloc, threads, count)
 }

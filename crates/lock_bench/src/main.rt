@@ -16,10 +16,10 @@ mod spin;
 mod timed;
 mod work;
 
-use crewed::{Crewed, Mixed, Read, Write};
+use crewed::{Mixed, Read, Write, crewed_rounds};
 use exchange::Exchanges;
 use lock_core::{Bare, Nest, Nothing, Site};
-use locked_faults::LockedFaults;
+use locked_faults::locked_fault_rounds;
 use osq_nodes::Osq;
 use percpu::PercpuReaders;
 use seq_fault::SeqSpace;
@@ -33,7 +33,7 @@ use std::{env, io};
 use timed::rounds;
 use vma_map::Areas;
 use word_bits::MAX_TASKS;
-use work::Guarding;
+use work::working_rounds;
 
 /// What is done in a round.
 #[derive(Clone, Copy, Debug, PartialEq, Eq)]
@@ -80,6 +80,8 @@ const CASES: [(&str, Case); 12] = [
     ("exchange", Case::Exchange),
 ];
 
+// A struct that is generic over its lock takes long to prove where it is named over a concrete one.
+// So it is named by functions that are generic too.
 /// Each of so many threads makes so many rounds. How long the threads took.
 fn measure<R: Threads + Wait + Sync + Clock>(
     rt: &R,
@@ -94,13 +96,13 @@ fn measure<R: Threads + Wait + Sync + Clock>(
         Case::Spin => rounds::<Site<Bare>, R>(rt, alloc, threads, count),
         Case::Nested => rounds::<Site<Nest>, R>(rt, alloc, threads, count),
         Case::Front => rounds::<Osq, R>(rt, alloc, threads, count),
-        Case::Mutex => rounds::<Crewed<Mutex<Nothing>, Write>, R>(rt, alloc, threads, count),
-        Case::Work => rounds::<Guarding<Mutex<Nothing>>, R>(rt, alloc, threads, count),
-        Case::Read => rounds::<Crewed<RwSem<Nothing>, Read>, R>(rt, alloc, threads, count),
-        Case::Write => rounds::<Crewed<RwSem<Nothing>, Write>, R>(rt, alloc, threads, count),
-        Case::Mixed => rounds::<Crewed<RwSem<Nothing>, Mixed>, R>(rt, alloc, threads, count),
+        Case::Mutex => crewed_rounds::<Mutex<Nothing>, Write, R>(rt, alloc, threads, count),
+        Case::Work => working_rounds::<Mutex<Nothing>, R>(rt, alloc, threads, count),
+        Case::Read => crewed_rounds::<RwSem<Nothing>, Read, R>(rt, alloc, threads, count),
+        Case::Write => crewed_rounds::<RwSem<Nothing>, Write, R>(rt, alloc, threads, count),
+        Case::Mixed => crewed_rounds::<RwSem<Nothing>, Mixed, R>(rt, alloc, threads, count),
         Case::Percpu => rounds::<PercpuReaders, R>(rt, alloc, threads, count),
-        Case::Fault => rounds::<LockedFaults<RwSem<Areas>>, R>(rt, alloc, threads, count),
+        Case::Fault => locked_fault_rounds::<RwSem<Areas>, R>(rt, alloc, threads, count),
         Case::SeqFault => rounds::<SeqSpace, R>(rt, alloc, threads, count),
         Case::Exchange => rounds::<Exchanges, R>(rt, alloc, threads, count),
     }

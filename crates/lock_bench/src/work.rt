@@ -1,11 +1,17 @@
 //! Rounds on a lock with work inside and outside.
+ghost use Rattle.std.specs.Prelude.{◌<◌};
+
 use crate::crewed::{Crewed, Worker, Write};
-use crate::timed::Timed;
+use crate::timed::{Timed, rounds};
 use lock_core::Nothing;
 use sleep_lock::SleepLock;
 use std::alloc::{AllocError, Global};
+use std::io;
 use std::sync::Wait;
 use std::sync::atomic::{AtomicU64, Ordering};
+use std::thread::Threads;
+use std::time::{Clock, Duration};
+use word_bits::MAX_TASKS;
 
 /// How many steps a thread makes between two rounds, each of which needs the result of the one
 /// before.
@@ -91,4 +97,16 @@ impl<L: SleepLock<Nothing> + Drop> Timed for Guarding<L> {
         }
         lock.end(&mut worker.pass);
     }
+}
+
+/// Each of so many threads makes so many rounds with work inside and outside: on one new lock, and
+/// on more of them, one after the other, where one hasn't room for so many. How long the threads
+/// took.
+pub fn working_rounds<
+    L: SleepLock<Nothing, Pass: Send, Site: Sync, Rule: Sync> + Sync + Drop,
+    R: Threads + Wait + Sync + Clock,
+>(rt: &R, alloc: Global, threads: u32, count: u32) -> io::Result<Duration>
+    requires { threads < MAX_TASKS }
+{
+    rounds::<Guarding<L>, R>(rt, alloc, threads, count)
 }
