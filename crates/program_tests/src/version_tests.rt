@@ -40,7 +40,7 @@ fn writes_remaps_in_canonical_form(rt: HostRuntime) -> Result<(), Fail> {
 fn is_of_version_1_where_nothing_is_said(rt: HostRuntime) -> Result<(), Fail> {
     for (text, version) in [("", 1), ("space a\n", 1), ("version 2\n", 2)] {
         let script = read(rt.alloc(), text.as_bytes())?;
-        assert!(rt; script.version() == version, "{text}");
+        assert!(rt; script.version() == version, "{text:?}");
     }
     Ok(())
 }
