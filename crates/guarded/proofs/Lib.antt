@@ -8,6 +8,7 @@ pub mod Chained
 pub mod Copied
 pub mod Once
 pub mod Legally
+pub mod Gathered
 pub mod Joining
 pub mod Padding
 pub mod Descriptors

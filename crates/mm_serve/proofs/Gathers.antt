@@ -1,8 +1,7 @@
 -- Passes that take in others.
-use Rattle.std.proofs.Common.{◌≡◌, ℕ, ◌<◌, ◌≤◌, suc, zero, List, [], ◌∷◌, ◌++◌, length, length-append, take, drop, get_or, set, sym, refl, ap, ◌∙◌, subst, arith, append-nil, Bool, true, false}
+use Rattle.std.proofs.Common.{◌≡◌, ℕ, ◌<◌, ◌≤◌, suc, zero, List, [], ◌∷◌, length, take, get_or, set, sym, ap, ◌∙◌, subst, arith, Bool, true, false}
 use Rattle.std.specs.Prelude.{slice_index_or, slice_get, Some}
-use Rattle.std.proofs.lemmas.List.{get_or_default, drop_all}
-use Rattle.std.proofs.Math.Seq.{take-append_seam}
+use Rattle.std.proofs.lemmas.List.{get_or_default}
 use Rattle.word_bits.specs.Histories.{Plan}
 use Rattle.lock_views.specs.declared.view.Hand.{Hand}
 use Rattle.lock_views.specs.declared.view.Moment.{Moment}
@@ -15,28 +14,10 @@ use Rattle.mm_serve.specs.MachineHistories.{HasDoneOn}
 use Rattle.mm_serve.specs.MachineQueues.{GoesBackToTask, GoesBackToTasks}
 use Rattle.mm_serve.proofs.Each.{each-set, each-at, each-map}
 
-last_of : {X : Type 0} (others new : List X) (x : X) → new ++ x ∷ [] ≡ take (suc (length new)) others → (new ≡ take (length new) others) × (x ≡ get_or others (length new) x) × (length new < length others)
-last_of [] [] x e = cc
-last_of (y ∷ ys) [] x e = (refl, cc, omega arith)
-last_of [] (z ∷ zs) x e = cc
-last_of (y ∷ ys) (z ∷ zs) x e =
-    let tails : zs ++ x ∷ [] ≡ take (suc (length zs)) ys = cc in
-    let heads : z ≡ y = cc in
-    let r = last_of ys zs x tails in ((λ i. heads i ∷ r.0 i), r.1, omega (arith, r.2))
-
-pub popped : {X : Type 0} (others now new : List X) (x : X) → now ≡ take (length now) others → now ≡ new ++ x ∷ [] → (new ≡ take (length new) others) × (x ≡ get_or others (length new) x) × (length now ≡ suc (length new)) × (length new < length others)
-popped others now new x was is =
-    let len : length now ≡ suc (length new) = ap length is ∙ simp length-append (omega arith) in
-    let r = last_of others new x (sym is ∙ (was ∙ ap (λ (n : ℕ). take n others) len)) in (r.0, r.1, len, r.2)
-
 pub get-some : {X : Type 0} (xs : List X) (n : ℕ) (x : X) → slice_get xs n ≡ Some x → get_or xs n x ≡ x
 get-some [] n x at = none-some x at
 get-some (y ∷ ys) zero x at = same-some y x at
 get-some (y ∷ ys) (suc n) x at = get-some ys n x at
-
--- a vector whose slice was lent as a whole
-pub whole : {X : Type 0} (n : ℕ) (new old : List X) → length new ≡ length old → n ≡ length old → take n (new ++ drop (length new) old) ≡ new
-whole n new old same all = rw (drop_all (length new) old (omega arith), all ∙ sym same, append-nil) (ap (take (length new)) (sym (append-nil new)) ∙ take-append_seam new [])
 
 module _ {S P : Type 0} (idle : S → P → Type 0) (takes_up : P → P → Type 0) where
   pub gathers : (sites : List S) (olds others news : List P) (m : ℕ) (s : S) (was other new : P) → length olds ≡ length sites → length others ≡ length sites → HaveGathered idle takes_up (suc m) sites olds others news → m < length sites

@@ -1,5 +1,5 @@
 -- What one pass knows, from call to call and at a copy.
-use Rattle.std.proofs.Common.{◌≡◌, ℕ, zero, suc, ◌<◌, List, [], ◌∷◌, ◌++◌, length, slice_get, refl, sym, ap, ◌∙◌, subst, arith}
+use Rattle.std.proofs.Common.{◌≡◌, ℕ, [], ◌∷◌, ◌++◌, length, slice_get, sym, ap, ◌∙◌, subst}
 use Rattle.word_bits.specs.LockWords.{Unavailable}
 use Rattle.word_bits.specs.Objects.{Obj}
 use Rattle.word_bits.specs.Snapshots.{Words}
@@ -12,7 +12,7 @@ use Rattle.lock_core.specs.Shown.{Shown}
 use Rattle.lock_core.specs.Kinds.{Kind, unavailable}
 use Rattle.guarded.specs.Performing.{Performs}
 use Rattle.guarded.specs.ObjectCopying.{IsKnownHistory}
-use Rattle.guarded.specs.Gathering.{HasDone, HasDoneAll, HasDoneSoFar, IsGathered, DoesOneMore, KeepsDone}
+use Rattle.guarded.specs.Gathering.{HasDoneAll, HasDoneSoFar, DoesOneMore, KeepsDone}
 use Rattle.guarded.proofs.Chained.{none-done}
 use Rattle.mm_serve.specs.TaskServing.{AllTasksDone, IsIdle, IsQuiet, IsServing}
 
@@ -51,33 +51,6 @@ module _ {Call : Type 0} (o : Obj Call) where
 
   pub still-done : (unavailable : Unavailable) (k : Plan) (h g : Hand) → KeepsDone o unavailable k h g → AllTasksDone o unavailable k h → AllTasksDone o unavailable k g
   still-done unavailable k h g keeps all = λ t l. let d = all t l in (d.0, keeps t d.0 d.1, d.2)
-
--- a list of lists, one for each number below n
-tabulate : {X : Type 0} (P : ℕ → List X → Type 0) (n : ℕ) → ((t : ℕ) → t < n → (xs : List X) × P t xs) → (xss : List (List X)) × (length xss ≡ n) × ((t : ℕ) → t < n → P t (row xss t))
-tabulate P zero f = ([], refl, λ t l. absurd (omega (arith, l)))
-tabulate {X} P (suc n) f =
-    let here = f 0 (omega arith) in
-    let rest = tabulate (λ t. P (suc t)) n (λ t l. f (suc t) (omega (arith, l))) in
-    (here.0 ∷ rest.0, ap suc rest.1, at here.0 rest.0 here.1 rest.2)
-  where
-    at : (xs : List X) (xss : List (List X)) → P 0 xs → ((t : ℕ) → t < n → P (suc t) (row xss t)) → (t : ℕ) → t < suc n → P t (row (xs ∷ xss) t)
-    at xs xss one more zero l = one
-    at xs xss one more (suc t) l = more t (omega (arith, l))
-
-outside : {X Y : Type 0} (xss : List (List X)) (yss : List (List Y)) → length xss ≡ length yss → ((t : ℕ) → t < length yss → length (row xss t) ≡ length (row yss t)) → (t : ℕ) → length (row xss t) ≡ length (row yss t)
-outside [] [] same each t = refl
-outside [] (ys ∷ yss) same each t = absurd (omega (arith, same))
-outside (xs ∷ xss) [] same each t = absurd (omega (arith, same))
-outside (xs ∷ xss) (ys ∷ yss) same each zero = each 0 (omega arith)
-outside (xs ∷ xss) (ys ∷ yss) same each (suc t) = outside xss yss (omega (arith, same)) (λ u l. each (suc u) (omega (arith, l))) t
-
-pub all-gathered : {Call : Type 0} (o : Obj Call) (unavailable : Unavailable) (k : Plan) (h : Hand) → AllTasksDone o unavailable k h → IsGathered o unavailable k h
-all-gathered o unavailable k h each =
-    let rows = tabulate (λ t rs. HasDone o unavailable k h t rs × (length rs ≡ length (row k t))) (length k) (λ t l. let d = each t l in (d.0, (d.1, d.2))) in record {
-      made = rows.0;
-      all = outside rows.0 k rows.1 (λ t l. (rows.2 t l).1);
-      done = λ t l. (rows.2 t l).0;
-    }
 
 -- a pass with the same records knows the history too
 pub still-known : {Call : Type 0} (o : Obj Call) (unavailable : Unavailable) (k : Plan) (h g : Hand) (w : Words) → g.records ≡ h.records → IsKnownHistory o unavailable k h w → IsKnownHistory o unavailable k g w

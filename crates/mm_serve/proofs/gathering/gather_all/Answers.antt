@@ -1,7 +1,8 @@
 use Rattle.std.proofs.Common.{◌≡◌, length, rules, subst, sym, ℕ}
 use Rattle.mm_serve.specs.declared.worker.Worker.{Worker}
 use Rattle.mm_serve.specs.Workers.{EachOf, KnowsFrom, TakesUp}
-use Rattle.mm_serve.proofs.Gathers.{takes, on, popped}
+use Rattle.guarded.proofs.Gathered.{popped}
+use Rattle.mm_serve.proofs.Gathers.{takes, on}
 use Rattle.mm_serve.proofs.gathering.gather_all.Goals as goal
 
 pub loop-worker-preserved : goal.loop-worker-preserved

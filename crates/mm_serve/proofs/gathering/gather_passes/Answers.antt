@@ -1,6 +1,7 @@
 use Rattle.std.proofs.Common.{◌≡◌, ◌<◌, length, arith, rules, subst, ℕ}
 use Rattle.mm_serve.specs.Workers.{HaveGathered, TakesUp}
-use Rattle.mm_serve.proofs.Gathers.{gathers, popped}
+use Rattle.guarded.proofs.Gathered.{popped}
+use Rattle.mm_serve.proofs.Gathers.{gathers}
 use Rattle.mm_serve.proofs.gathering.gather_passes.Goals as goal
 
 pub loop-pass-preserved : goal.loop-pass-preserved

@@ -3,7 +3,8 @@ use Rattle.lock_views.specs.declared.view.Hand.{Hand}
 use Rattle.lock_views.specs.declared.view.Told.{Told}
 use Rattle.lock_core.specs.Kinds.{unavailable}
 use Rattle.guarded.specs.ObjectCopying.{HeldAlone}
-use Rattle.mm_serve.proofs.Passes.{all-gathered, still-done, still-known}
+use Rattle.guarded.proofs.Gathered.{all-gathered}
+use Rattle.mm_serve.proofs.Passes.{still-done, still-known}
 use Rattle.mm_serve.proofs.one_lock.snapshot.Goals as goal
 
 pub returns-clause-copied : goal.returns-clause-copied

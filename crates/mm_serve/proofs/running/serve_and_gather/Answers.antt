@@ -1,7 +1,8 @@
 use Rattle.std.proofs.Common.{rules, subst, List}
 use Rattle.mm_serve.specs.declared.worker.Worker.{Worker}
 use Rattle.mm_serve.specs.Workers.{EachOf, KnowsFrom, HaveDoneTheirTasks, TakesUp}
-use Rattle.mm_serve.proofs.Gathers.{whole, runs}
+use Rattle.guarded.proofs.Gathered.{whole}
+use Rattle.mm_serve.proofs.Gathers.{runs}
 use Rattle.mm_serve.proofs.running.serve_and_gather.Goals as goal
 
 pub returns : goal.returns
