@@ -1,25 +1,25 @@
 -- A machine that ran has done all calls of its script.
-use Rattle.std.proofs.Common.{◌≡◌, List, sym, subst}
-use Rattle.sleep_lock.specs.LockMembers.{LockMembers}
+use Rattle.std.proofs.Common.{◌≡◌, ℕ, Bool, List, sym, subst}
+use Rattle.word_bits.specs.Histories.{Plan}
+use Rattle.lock_views.specs.declared.view.Hand.{Hand}
+use Rattle.lock_views.specs.declared.view.Moment.{Moment}
 use Rattle.task_script.specs.Scripts.{Listing}
+use Rattle.mm_serve.specs.declared.machine.Machine.{Machine}
 use Rattle.mm_serve.specs.Machines.{AreSitesOf, GoBackToTasks, HasLegalResults, HasRun, IsAtRest, IsMachineOf, KnowsPasts}
 use Rattle.mm_serve.proofs.Copies.{all-held}
-use Rattle.mm_serve.specs.MachineSites.{holds_space}
-use Rattle.mm_serve.specs.UnderLocks.{HasLookedBackUnder, IsIdleUnder, KnowsPastUnder, LockedObject, calls_under, hand_under, past_under, spun_under}
-use Rattle.mm_program.specs.ProgramKept.{HasServed, LockedMachine}
+use Rattle.mm_program.specs.ProgramKept.{HasServed}
 
-module _ {A S R X P E C T F G Y Q H D B U : Type 0} (spaces : LockMembers A P) (tables : LockMembers T Q) where
+module _ {S C P U : Type 0} (is_space : S → Bool) (calls_on : S → Plan) (hand : P → Hand) (past spun : P → List Moment) (idle : S → P → Type 0) (looked_back : S → P → ℕ → Type 0) (knows_past : S → P → Type 0) where
   -- also where its results were lent since, and came back as they were
-  pub has_served : (script : Listing) (opened ran left : LockedMachine A S R X P E C T F G Y Q H D B U) → IsMachineOf holds_space (calls_under spaces tables) script opened
-      → HasRun (IsIdleUnder spaces tables) (hand_under spaces tables) (past_under spaces tables) holds_space (calls_under spaces tables) opened ran → (results : HasLegalResults (hand_under spaces tables) script ran) → IsAtRest (IsIdleUnder spaces tables) ran
-      → KnowsPasts (KnowsPastUnder spaces tables) ran → GoBackToTasks (HasLookedBackUnder spaces tables) (spun_under spaces tables) (calls_under spaces tables) ran → left ≡ ran → HasServed spaces tables script results.told left
-  has_served script opened ran left of run results rest past tasks same =
-      subst (λ (m : LockedMachine A S R X P E C T F G Y Q H D B U). HasServed spaces tables script results.told m) (sym same) (record {
-        of = subst (λ (sites : List (LockedObject A S R X P E C T F G Y Q H D)). AreSitesOf holds_space (calls_under spaces tables) script sites) (sym run.sites) of;
+  pub has_served : (script : Listing) (opened ran left : Machine S C P U) → IsMachineOf is_space calls_on script opened → HasRun idle hand past is_space calls_on opened ran → (results : HasLegalResults hand script ran)
+      → IsAtRest idle ran → KnowsPasts knows_past ran → GoBackToTasks looked_back spun calls_on ran → left ≡ ran → HasServed is_space calls_on hand past spun idle looked_back knows_past script results.told left
+  has_served script opened ran left of run results rest past_known tasks same =
+      subst (λ (m : Machine S C P U). HasServed is_space calls_on hand past spun idle looked_back knows_past script results.told m) (sym same) (record {
+        of = subst (λ (sites : List S). AreSitesOf is_space calls_on script sites) (sym run.sites) of;
         legal = results.legal;
         known = results.known;
-        held = all-held (IsIdleUnder spaces tables) (hand_under spaces tables) (past_under spaces tables) holds_space (calls_under spaces tables) ran.sites.items ran.gathered.items ran.results run.copied run.long;
-        past = past;
+        held = all-held idle hand past is_space calls_on ran.sites.items ran.gathered.items ran.results run.copied run.long;
+        past = past_known;
         tasks = tasks;
         rest = rest;
       })

@@ -1,5 +1,8 @@
 -- The machine that a run of a script leaves.
-use Rattle.std.specs.Prelude.{List}
+use Rattle.std.specs.Prelude.{ℕ, Bool, List}
+use Rattle.word_bits.specs.Histories.{Plan}
+use Rattle.lock_views.specs.declared.view.Hand.{Hand}
+use Rattle.lock_views.specs.declared.view.Moment.{Moment}
 use Rattle.sleep_lock.specs.LockMembers.{LockMembers}
 use Rattle.task_script.specs.Scripts.{Listing}
 use Rattle.mm_report.specs.Results.{Told, AreLegal}
@@ -9,24 +12,30 @@ use Rattle.mm_serve.specs.Machines.{IsMachineOf, IsAtRest, AreAllKnown, AreHeld,
 use Rattle.mm_serve.specs.MachineSites.{holds_space}
 use Rattle.mm_serve.specs.UnderLocks.{HasLookedBackUnder, IsIdleUnder, KnowsPastUnder, LockedObject, calls_under, hand_under, past_under, spun_under}
 
+-- over objects of any kind, by what a machine knows of an object and of its pass
+module _ {S C P U : Type 0} (is_space : S → Bool) (calls_on : S → Plan) (hand : P → Hand) (past_of spun_of : P → List Moment) (idle : S → P → Type 0) (looked_back : S → P → ℕ → Type 0) (knows_past : S → P → Type 0) where
+  -- the machine has done all calls of the script, and its results tell this of the objects
+  pub record HasServed (script : Listing) (told : List Told) (m : Machine S C P U) : Type 0 where
+    -- its objects are those of the script, each with the calls on it
+    pub of : IsMachineOf is_space calls_on script m
+    -- what its results tell are legal histories of the script
+    pub legal : AreLegal script (results_of m) told
+    -- the gathered pass of an object knows each record that is told of the object
+    pub known : AreAllKnown hand (gathered_of m) told
+    -- The log and the state that are told of an object are those of the object's table at a moment that this pass goes back to. At that moment a pass held alone, didn't write, and knew each record that is told.
+    pub held : AreHeld hand past_of m
+    -- The gathered pass knows all that was so of the object's table, from its opening on. Under locks that is who held, what the lock's word stated, what the lock tells of its own, and who stood in the lock's spin queue, up to a look there.
+    pub past : KnowsPasts knows_past m
+    -- there it goes back to a look of a pass with each task's number, which wasn't in the queue then and had entered it and been its front as often as a pass that did all the task's calls
+    pub tasks : GoBackToTasks looked_back spun_of calls_on m
+    -- no gathered pass has a task's number or owes anything
+    pub rest : IsAtRest idle m
+
 -- a machine over spaces under locks of one kind and tables under locks of another
 abbrev pub LockedMachine : (A S R X P E C T F G Y Q H D B U : Type 0) → Type 0
 LockedMachine A S R X P E C T F G Y Q H D B U = Machine (LockedObject A S R X P E C T F G Y Q H D) B (SpaceOrTablePass P Q) U
 
 module _ {A S R X P E C T F G Y Q H D B U : Type 0} (spaces : LockMembers A P) (tables : LockMembers T Q) where
-  -- the machine has done all calls of the script, and its results tell this of the objects
-  pub record HasServed (script : Listing) (told : List Told) (m : LockedMachine A S R X P E C T F G Y Q H D B U) : Type 0 where
-    -- its objects are those of the script, each with the calls on it
-    pub of : IsMachineOf holds_space (calls_under spaces tables) script m
-    -- what its results tell are legal histories of the script
-    pub legal : AreLegal script (results_of m) told
-    -- the gathered pass of an object knows each record that is told of the object
-    pub known : AreAllKnown (hand_under spaces tables) (gathered_of m) told
-    -- The log and the state that are told of an object are those of the object's table at a moment that this pass goes back to. At that moment a pass held alone, didn't write, and knew each record that is told.
-    pub held : AreHeld (hand_under spaces tables) (past_under spaces tables) m
-    -- The gathered pass knows all that was so of the object's table, from its opening on: who held, what the lock's word stated, and what the lock tells of its own. It knows too who stood in the lock's spin queue, up to a look there.
-    pub past : KnowsPasts (KnowsPastUnder spaces tables) m
-    -- there it goes back to a look of a pass with each task's number, which wasn't in the queue then and had entered it and been its front as often as a pass that did all the task's calls
-    pub tasks : GoBackToTasks (HasLookedBackUnder spaces tables) (spun_under spaces tables) (calls_under spaces tables) m
-    -- no gathered pass has a task's number or owes anything
-    pub rest : IsAtRest (IsIdleUnder spaces tables) m
+  -- the same of such a machine, by what the traits of locks tell of the two kinds
+  abbrev pub HasServedUnder : (script : Listing) (told : List Told) → LockedMachine A S R X P E C T F G Y Q H D B U → Type 0
+  HasServedUnder = HasServed holds_space (calls_under spaces tables) (hand_under spaces tables) (past_under spaces tables) (spun_under spaces tables) (IsIdleUnder spaces tables) (HasLookedBackUnder spaces tables) (KnowsPastUnder spaces tables)

@@ -7,7 +7,7 @@ ghost use Rattle.mm_program.specs.CommandLine.{asks_help, said_by};
 ghost use Rattle.mm_program.specs.Requests.{helped, misused, refused, accepted, reads_input, reason_text, request, request_of};
 ghost use Rattle.mm_program.specs.Answers.{AnswersTo, CompletesTo, NoService, SaysTo, TakesAtMost, read_faults, write_faults};
 ghost use Rattle.sleep_lock.specs.LockMembers.{members};
-ghost use Rattle.mm_program.specs.ProgramKept.{HasServed};
+ghost use Rattle.mm_program.specs.ProgramKept.{HasServed, HasServedUnder};
 
 use crate::host::Host;
 use crate::input::{InputError, read_all};
@@ -17,7 +17,7 @@ use crate::status::Status;
 use crate::threads::run_on_threads;
 use byte_streams::{Outbox, Sink, Source, put};
 use cpu_task::{Crew, Gate};
-use mm_serve::{SpaceLock, TableLock};
+use mm_serve::{Machine, SharedObject, SpaceLock, TableLock};
 use std::alloc::{AllocError, Global};
 use std::sync::Wait;
 use std::thread::Threads;
@@ -95,8 +95,7 @@ fn refuse<K: Sink>(line: u32, reason: Reason, sink: &mut K) -> Status
 }
 
 fn answer<
-    A: SpaceLock + Drop + Sync,
-    T: TableLock + Drop + Sync,
+    O: SharedObject + Drop + Sync,
     K: Sink,
     R: Threads + Wait + Sync,
     C: Crew + Sync,
@@ -107,21 +106,14 @@ fn answer<
     options: &Options,
     sink: &mut K,
     crew: &mut C,
-    kept: &mut Option<ScriptMachine<A, T, C>>,
+    kept: &mut Option<Machine<O, C>>,
 ) -> Status
 where
-    A::Pass: Send,
-    T::Pass: Send,
-    A::Site: Sync,
-    T::Site: Sync,
-    A::Rule: Sync,
-    T::Rule: Sync,
+    O::Pass: Send,
     C::C: Send,
     requires { kept.old ≡ None }
     ensures says { SaysTo K.faults K.written sink.old sink.new
-        (HasServed
-        (members A.calls_on A.view A.sits A.spun A.kind A.word_at A.opened A.waits)
-        (members T.calls_on T.view T.sits T.spun T.kind T.word_at T.opened T.waits))
+        (HasServed O.is_space O.calls_on O.hand O.past O.spun O.idle O.looked_back O.knows_past)
         kept.new
         (request_of options.now.summary (script_of input.now)) result }
     ensures faults { K.faults sink.new ≡ write_faults result (K.faults sink.old) }
@@ -135,8 +127,7 @@ where
 
 // Answers the script of a number.
 fn answer_generated<
-    A: SpaceLock + Drop + Sync,
-    T: TableLock + Drop + Sync,
+    O: SharedObject + Drop + Sync,
     K: Sink,
     R: Threads + Wait + Sync,
     C: Crew + Sync,
@@ -147,21 +138,14 @@ fn answer_generated<
     options: &Options,
     sink: &mut K,
     crew: &mut C,
-    kept: &mut Option<ScriptMachine<A, T, C>>,
+    kept: &mut Option<Machine<O, C>>,
 ) -> Status
 where
-    A::Pass: Send,
-    T::Pass: Send,
-    A::Site: Sync,
-    T::Site: Sync,
-    A::Rule: Sync,
-    T::Rule: Sync,
+    O::Pass: Send,
     C::C: Send,
     requires { kept.old ≡ None }
     ensures says { SaysTo K.faults K.written sink.old sink.new
-        (HasServed
-        (members A.calls_on A.view A.sits A.spun A.kind A.word_at A.opened A.waits)
-        (members T.calls_on T.view T.sits T.spun T.kind T.word_at T.opened T.waits))
+        (HasServed O.is_space O.calls_on O.hand O.past O.spun O.idle O.looked_back O.knows_past)
         kept.new
         (accepted options.now.summary (generated number)) result }
     ensures faults { K.faults sink.new ≡ write_faults result (K.faults sink.old) }
@@ -174,8 +158,7 @@ where
 
 // Answers the script that the source gives.
 fn answer_input<
-    A: SpaceLock + Drop + Sync,
-    T: TableLock + Drop + Sync,
+    O: SharedObject + Drop + Sync,
     S: Source,
     K: Sink,
     R: Threads + Wait + Sync,
@@ -187,22 +170,15 @@ fn answer_input<
     source: &mut S,
     sink: &mut K,
     crew: &mut C,
-    kept: &mut Option<ScriptMachine<A, T, C>>,
+    kept: &mut Option<Machine<O, C>>,
 ) -> Status
 where
-    A::Pass: Send,
-    T::Pass: Send,
-    A::Site: Sync,
-    T::Site: Sync,
-    A::Rule: Sync,
-    T::Rule: Sync,
+    O::Pass: Send,
     C::C: Send,
     requires { kept.old ≡ None }
     ensures answer { AnswersTo S.left S.faults K.faults K.written source.old source.new
         sink.old sink.new
-        (HasServed
-        (members A.calls_on A.view A.sits A.spun A.kind A.word_at A.opened A.waits)
-        (members T.calls_on T.view T.sits T.spun T.kind T.word_at T.opened T.waits))
+        (HasServed O.is_space O.calls_on O.hand O.past O.spun O.idle O.looked_back O.knows_past)
         kept.new
         (λ input. request_of options.now.summary (script_of input)) result }
     ensures read_faults { S.faults source.new ≡ read_faults result (S.faults source.old) }
@@ -256,7 +232,7 @@ where
     requires { kept.old ≡ None }
     ensures answer { AnswersTo S.left S.faults K.faults K.written source.old source.new
         sink.old sink.new
-        (HasServed
+        (HasServedUnder
         (members A.calls_on A.view A.sits A.spun A.kind A.word_at A.opened A.waits)
         (members T.calls_on T.view T.sits T.spun T.kind T.word_at T.opened T.waits))
         kept.new
@@ -264,7 +240,7 @@ where
     ensures helps { asks_help words.now ≡ true → result ≢ Status.NoMemory }
     ensures complete { CompletesTo S.left S.faults K.faults K.written source.old source.new
         sink.old sink.new
-        (HasServed
+        (HasServedUnder
         (members A.calls_on A.view A.sits A.spun A.kind A.word_at A.opened A.waits)
         (members T.calls_on T.view T.sits T.spun T.kind T.word_at T.opened T.waits))
         kept.new

@@ -6,7 +6,7 @@ ghost use Rattle.std.specs.Vec.Iter.{into_iter_items};
 ghost use Rattle.mm_program.specs.Answers.{AnswersLegally, AnswersTo, CompletesLegally, CompletesTo, TakesAtMost, status_number, read_faults, write_faults};
 ghost use Rattle.mm_program.specs.CommandLine.{asks_help, line_asks_help, said_by, said_by_line};
 ghost use Rattle.sleep_lock.specs.LockMembers.{members};
-ghost use Rattle.mm_program.specs.ProgramKept.{HasServed};
+ghost use Rattle.mm_program.specs.ProgramKept.{HasServedUnder};
 ghost use Rattle.mm_program.specs.Requests.{reads_input, request};
 
 use crate::objects::ScriptMachine;
@@ -75,14 +75,14 @@ where
     requires { kept.old ≡ None }
     ensures answer { AnswersTo S.left S.faults K.faults K.written source.old source.new
         sink.old sink.new
-        (HasServed
+        (HasServedUnder
         (members A.calls_on A.view A.sits A.spun A.kind A.word_at A.opened A.waits)
         (members T.calls_on T.view T.sits T.spun T.kind T.word_at T.opened T.waits))
         kept.new
         (request (line_asks_help line) (said_by_line line)) result.0 }
     ensures complete { CompletesTo S.left S.faults K.faults K.written source.old source.new
         sink.old sink.new
-        (HasServed
+        (HasServedUnder
         (members A.calls_on A.view A.sits A.spun A.kind A.word_at A.opened A.waits)
         (members T.calls_on T.view T.sits T.spun T.kind T.word_at T.opened T.waits))
         kept.new

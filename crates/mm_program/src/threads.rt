@@ -1,18 +1,16 @@
 //! Does the tasks of a script at once, each on a thread of its own, over objects under locks.
 ghost use Rattle.std.specs.Prelude.{◌≡◌, None};
 ghost use Rattle.mm_program.specs.Answers.{SaysTo, write_faults};
-ghost use Rattle.sleep_lock.specs.LockMembers.{members};
 ghost use Rattle.mm_program.specs.ProgramKept.{HasServed};
 ghost use Rattle.mm_program.specs.Requests.{accepted};
 
 use crate::host::Host;
-use crate::objects::ScriptMachine;
 use crate::options::Options;
 use crate::status::Status;
 use byte_streams::Sink;
 use cpu_task::{Crew, Gate, Turns};
 use mm_report::report;
-use mm_serve::{Machine, SpaceLock, TableLock};
+use mm_serve::{Machine, SharedObject};
 use std::sync::Wait;
 use std::thread::Threads;
 use task_script::Script;
@@ -32,8 +30,7 @@ pub(crate) fn turns_of(options: &Options) -> Turns
 ///
 /// No memory is taken once the first task has begun.
 pub(crate) fn run_on_threads<
-    A: SpaceLock + Drop + Sync,
-    T: TableLock + Drop + Sync,
+    O: SharedObject + Drop + Sync,
     K: Sink,
     R: Threads + Wait + Sync,
     C: Crew + Sync,
@@ -44,21 +41,14 @@ pub(crate) fn run_on_threads<
     options: &Options,
     sink: &mut K,
     crew: &mut C,
-    kept: &mut Option<ScriptMachine<A, T, C>>,
+    kept: &mut Option<Machine<O, C>>,
 ) -> Status
 where
-    A::Pass: Send,
-    T::Pass: Send,
-    A::Site: Sync,
-    T::Site: Sync,
-    A::Rule: Sync,
-    T::Rule: Sync,
+    O::Pass: Send,
     C::C: Send,
     requires { kept.old ≡ None }
     ensures says { SaysTo K.faults K.written sink.old sink.new
-        (HasServed
-        (members A.calls_on A.view A.sits A.spun A.kind A.word_at A.opened A.waits)
-        (members T.calls_on T.view T.sits T.spun T.kind T.word_at T.opened T.waits))
+        (HasServed O.is_space O.calls_on O.hand O.past O.spun O.idle O.looked_back O.knows_past)
         kept.new
         (accepted options.now.summary script.now) result }
     ensures faults { K.faults sink.new ≡ write_faults result (K.faults sink.old) }

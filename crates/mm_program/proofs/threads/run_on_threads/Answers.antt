@@ -1,6 +1,5 @@
 use Rattle.std.proofs.Common.{List, refl, sym, ap, subst, ◌∙◌, rules}
 use Rattle.word_bits.specs.Snapshots.{Words}
-use Rattle.sleep_lock.specs.LockMembers.{members}
 use Rattle.mm_report.specs.Results.{AreComplete, AreLegal}
 use Rattle.mm_program.proofs.Services.{has_served}
 use Rattle.mm_program.proofs.threads.run_on_threads.Goals as goal
@@ -15,7 +14,7 @@ returns-in-Ok-written-clause-says g c =
       record c.run.new.self { results = c.report-written.new.results },
       results.told,
       refl,
-      has_served (members g.A.SiteLock.calls_on g.A.SiteLock.view g.A.SiteLock.sits g.A.SleepLock.spun g.A.SleepLock.kind g.A.SleepLock.word_at g.A.SleepLock.opened g.A.SleepLock.waits) (members g.T.SiteLock.calls_on g.T.SiteLock.view g.T.SiteLock.sits g.T.SleepLock.spun g.T.SleepLock.kind g.T.SleepLock.word_at g.T.SleepLock.opened g.T.SleepLock.waits) c.args.script.now c.in-Ok.machine c.run.new.self _ c.in-Ok.ensures.script c.run.ensures.ran results c.run.ensures.rest c.run.ensures.past c.run.ensures.tasks
+      has_served g.O.SharedObject.is_space g.O.SharedObject.calls_on g.O.SharedObject.hand g.O.SharedObject.past g.O.SharedObject.spun g.O.SharedObject.idle g.O.SharedObject.looked_back g.O.SharedObject.knows_past c.args.script.now c.in-Ok.machine c.run.new.self _ c.in-Ok.ensures.script c.run.ensures.ran results c.run.ensures.rest c.run.ensures.past c.run.ensures.tasks
           (ap (λ (ws : List Words). record c.run.new.self { results = ws }) same),
       c.in-Ok-written.ensures.text results.told (subst (λ (ws : List Words). AreLegal c.args.script.now ws results.told) (sym c.results.ensures.value) results.legal),
     )
@@ -29,7 +28,7 @@ returns-in-Err-clause-says g c =
         record c.run.new.self { results = c.report-written.new.results },
         results.told,
         refl,
-        has_served (members g.A.SiteLock.calls_on g.A.SiteLock.view g.A.SiteLock.sits g.A.SleepLock.spun g.A.SleepLock.kind g.A.SleepLock.word_at g.A.SleepLock.opened g.A.SleepLock.waits) (members g.T.SiteLock.calls_on g.T.SiteLock.view g.T.SiteLock.sits g.T.SleepLock.spun g.T.SleepLock.kind g.T.SleepLock.word_at g.T.SleepLock.opened g.T.SleepLock.waits) c.args.script.now c.in-Ok.machine c.run.new.self _ c.in-Ok.ensures.script c.run.ensures.ran results c.run.ensures.rest c.run.ensures.past c.run.ensures.tasks
+        has_served g.O.SharedObject.is_space g.O.SharedObject.calls_on g.O.SharedObject.hand g.O.SharedObject.past g.O.SharedObject.spun g.O.SharedObject.idle g.O.SharedObject.looked_back g.O.SharedObject.knows_past c.args.script.now c.in-Ok.machine c.run.new.self _ c.in-Ok.ensures.script c.run.ensures.ran results c.run.ensures.rest c.run.ensures.past c.run.ensures.tasks
             (ap (λ (ws : List Words). record c.run.new.self { results = ws }) same),
         c.in-Err.ensures.text results.told (subst (λ (ws : List Words). AreLegal c.args.script.now ws results.told) (sym c.results.ensures.value) results.legal),
       ),
