@@ -3,10 +3,9 @@ ghost use Rattle.std.specs.Prelude.{◌≡◌, length, IfOk};
 ghost use Rattle.lock_core.specs.Records.{IsPlan};
 ghost use Rattle.vma_map.specs.Spaces.{space};
 
-use crate::crowd::what_all_leave;
 use cpu_task::{Gate, ParkCrew};
 use lock_core::{Plan, Tally};
-use plan_runs::at_once::Start;
+use plan_runs::at_once::{NEVER_OWED, Start, history_of_all};
 use plan_runs::plans::{fault_page, map_page, plan_with, try_map_page};
 use plan_runs::signs::{CountedCrew, KIND, VALUE, await_count, await_flag, count};
 use sleep_lock::RwSem;
@@ -86,7 +85,14 @@ fn a_wake_lets_256_readers_in_and_leaves_the_others(rt: HostRuntime) -> Result<(
         crew: ParkCrew::new(rt.alloc(), TASKS)?,
         slept: &gate.slept,
     };
-    let copy = what_all_leave::<_, _, _, RwSem<Areas>, Areas>(&rt, rt.alloc(), plan, crew, &gate)?;
+    let copy = history_of_all::<_, _, _, RwSem<Areas>, Areas>(
+        &rt,
+        rt.alloc(),
+        plan,
+        crew,
+        NEVER_OWED,
+        &gate,
+    )?;
     let recs = copy.recs();
     assert!(rt; recs.first() == Some(&(2 * KIND + 5 * VALUE)));
     assert!(rt; recs.last() == Some(&(6 * KIND + 65_538 * VALUE)));

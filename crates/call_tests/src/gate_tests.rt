@@ -1,7 +1,7 @@
 //! Tasks that are inside an address space together, under a semaphore, on threads.
 
 use cpu_task::{Gate, HoldGate, ParkCrew};
-use plan_runs::at_once::{Start, history_of_four};
+use plan_runs::at_once::{SOON_OWED, Start, history_of_all};
 use plan_runs::plans::{
     Row, fault_page, int_map_page, plan_with, populate_pages, signal_task, try_map_page,
 };
@@ -61,7 +61,9 @@ fn history_in_turn<R: Threads + Wait + Sync>(
     let plan = plan_with::<Areas>(alloc, 4, calls)?;
     let gate = InTurn::new(tasks);
     let crew = ParkCrew::new(alloc, 4)?;
-    let copy = history_of_four::<_, _, _, RwSem<Areas>, Areas>(rt, alloc, plan, crew, &gate)?;
+    let copy = history_of_all::<_, _, _, RwSem<Areas>, Areas>(
+        rt, alloc, plan, crew, SOON_OWED, &gate,
+    )?;
     if gate.gate.met() {
         Ok(Some(copy))
     } else {

@@ -2,7 +2,7 @@
 
 use cpu_task::{Gate, ScriptedCrew};
 use lock_core::Tally;
-use plan_runs::at_once::{Start, history_of_four};
+use plan_runs::at_once::{SOON_OWED, Start, history_of_all};
 use plan_runs::plans::{
     fault_page, int_fault_page, int_map_page, map_page, plan_with, signal_task, try_fault_page,
     try_map_page,
@@ -78,7 +78,7 @@ fn history_of<
     )?;
     let crew = ScriptedCrew::new(alloc, Vec::new(alloc), Vec::new(alloc))?;
     let gate = KeepOut::default();
-    history_of_four::<_, _, _, L, Areas>(rt, alloc, plan, crew, &gate)
+    history_of_all::<_, _, _, L, Areas>(rt, alloc, plan, crew, SOON_OWED, &gate)
 }
 
 /// Whether these are the words of the records of the call that held, of those that were busy, of

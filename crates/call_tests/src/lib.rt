@@ -4,8 +4,6 @@
 #[cfg(test)]
 mod batch_tests;
 #[cfg(test)]
-mod crowd;
-#[cfg(test)]
 mod gate_tests;
 #[cfg(test)]
 mod interrupt_tests;

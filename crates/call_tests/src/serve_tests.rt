@@ -7,7 +7,7 @@ use cpu_task::{Gate, OpenGate, ParkCrew};
 use fd_table::Fds;
 use guarded::Guarded;
 use lock_core::Plan;
-use plan_runs::at_once::history_of_four;
+use plan_runs::at_once::{SOON_OWED, history_of_all};
 use plan_runs::plans::{
     close_file, dup_file, fault_page, get_file, map_page, open_file, plan_with, populate_pages,
     signal_task, try_map_page,
@@ -246,7 +246,7 @@ fn try_at_once<
         [(0, TRIES, try_map_page(0)), (1, TRIES, try_map_page(7))].as_slice(),
     )?;
     let crew = ParkCrew::new(alloc, 4)?;
-    let copy = history_of_four::<_, _, _, L, Areas>(rt, alloc, plan, crew, &OpenGate)?;
+    let copy = history_of_all::<_, _, _, L, Areas>(rt, alloc, plan, crew, SOON_OWED, &OpenGate)?;
     let (done, busy) = numbers(copy.recs());
     Ok((done, busy, copy.log().len()))
 }

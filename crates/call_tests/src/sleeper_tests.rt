@@ -2,7 +2,7 @@
 
 use cpu_task::{Gate, ParkCrew};
 use lock_core::Tally;
-use plan_runs::at_once::{Start, history_of_four};
+use plan_runs::at_once::{SOON_OWED, Start, history_of_all};
 use plan_runs::plans::{fault_page, map_page, plan_with, try_fault_page};
 use plan_runs::signs::{CountedCrew, KIND, VALUE, await_count, await_flag};
 use sleep_lock::RwSem;
@@ -64,7 +64,14 @@ fn a_try_behind_a_writer_is_told_of_a_reader_that_sleeps(rt: HostRuntime) -> Res
         crew: ParkCrew::new(rt.alloc(), 4)?,
         slept: &gate.slept,
     };
-    let copy = history_of_four::<_, _, _, RwSem<Areas>, Areas>(&rt, rt.alloc(), plan, crew, &gate)?;
+    let copy = history_of_all::<_, _, _, RwSem<Areas>, Areas>(
+        &rt,
+        rt.alloc(),
+        plan,
+        crew,
+        SOON_OWED,
+        &gate,
+    )?;
     let recs = [2 * KIND + 5 * VALUE, KIND + 1, 6 * KIND + 3 * VALUE];
     assert!(rt; copy.recs() == recs.as_slice());
     assert!(rt; copy.log() == [0].as_slice());

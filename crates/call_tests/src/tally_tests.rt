@@ -2,7 +2,7 @@
 
 use cpu_task::{Gate, ScriptedCrew};
 use lock_core::Tally;
-use plan_runs::at_once::{Start, history_of_four};
+use plan_runs::at_once::{SOON_OWED, Start, history_of_all};
 use plan_runs::plans::{fault_page, int_map_readable, plan_with, signal_task};
 use plan_runs::signs::{KIND, await_flag, count};
 use sleep_lock::RwSem;
@@ -85,7 +85,7 @@ fn history_of_mappers<R: Threads + Wait + Sync>(
     rows.push((0, 1, fault_page(5)))?;
     let plan = plan_with::<Areas>(alloc, 4, rows.as_slice())?;
     let crew = ScriptedCrew::new(alloc, Vec::new(alloc), Vec::new(alloc))?;
-    history_of_four::<_, _, _, RwSem<Areas>, Areas>(rt, alloc, plan, crew, gate)
+    history_of_all::<_, _, _, RwSem<Areas>, Areas>(rt, alloc, plan, crew, SOON_OWED, gate)
 }
 
 /// The page behind an area's last.

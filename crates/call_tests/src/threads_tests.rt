@@ -4,7 +4,7 @@ ghost use Rattle.fd_table.specs.Tables.{IsCall};
 
 use cpu_task::{Gate, ParkCrew};
 use fd_table::{Fds, TableCall};
-use plan_runs::at_once::{Start, history_of_four};
+use plan_runs::at_once::{SOON_OWED, Start, history_of_all};
 use plan_runs::plans::{
     Row, close_file, fault_page, get_file, int_close_file, int_get_file, int_open_file, map_page,
     open_file, plan_with, populate_pages, signal_task,
@@ -109,7 +109,7 @@ fn table_rounds<
     }
     let plan = plan_with::<Fds>(alloc, 4, rows.as_slice())?;
     let crew = ParkCrew::new(alloc, 4)?;
-    let copy = history_of_four::<_, _, _, L, Fds>(rt, alloc, plan, crew, &gate)?;
+    let copy = history_of_all::<_, _, _, L, Fds>(rt, alloc, plan, crew, SOON_OWED, &gate)?;
     Ok((copy, gate.holds()))
 }
 
@@ -273,7 +273,14 @@ fn four_threads_that_populate_a_space_share_it_with_readers_alone(
     let plan = plan_with::<Areas>(rt.alloc(), 4, rows.as_slice())?;
     let gate = Exclusion::default();
     let crew = ParkCrew::new(rt.alloc(), 4)?;
-    let copy = history_of_four::<_, _, _, RwSem<Areas>, Areas>(&rt, rt.alloc(), plan, crew, &gate)?;
+    let copy = history_of_all::<_, _, _, RwSem<Areas>, Areas>(
+        &rt,
+        rt.alloc(),
+        plan,
+        crew,
+        SOON_OWED,
+        &gate,
+    )?;
     assert!(rt; are_space_records(copy.recs()));
     assert!(rt; copy.log().len() == 8 * SPACE_ROUNDS as usize);
     assert!(rt; gate.holds() == Some(4 * u64::from(SPACE_ROUNDS)));

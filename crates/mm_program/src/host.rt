@@ -2,8 +2,8 @@
 
 use std::alloc::Global;
 
-/// What a machine runs on beside its crew: `rt` starts its threads and lets them wait, `alloc` gives
-/// memory, and the gate sees the tasks that hold an object.
+/// What a machine runs on beside its crew: `rt` starts its threads and lets them wait, `alloc`
+/// gives memory, and the gate sees the tasks that hold an object.
 #[derive_where(Clone, Copy)]
 pub(crate) struct Host<'a, R, G> {
     pub(crate) rt: &'a R,

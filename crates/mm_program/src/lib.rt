@@ -1,5 +1,6 @@
-//! The program over any source and sink: reads a script of tasks, does them at once, each on a thread
-//! of its own, and writes for each object one history with every reply and the state that it leaves.
+//! The program over any source and sink: reads a script of tasks, does them at once, each on a
+//! thread of its own, and writes for each object one history with every reply and the state that it
+//! leaves.
 #![tactic(auto)]
 
 mod host;

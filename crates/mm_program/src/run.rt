@@ -1,5 +1,5 @@
 //! The program over a command line and two streams, with tasks whose threads park.
-ghost use Rattle.std.specs.Prelude.{◌≡◌, ◌≢◌, ◌≤◌, ◌+◌, IfOk, None, drop, false, length, true};
+ghost use Rattle.std.specs.Prelude.{◌≡◌, ◌≤◌, ◌+◌, IfOk, None, drop, false, true};
 ghost use Rattle.std.specs.Io.KnownBytes.{IsAtEnd};
 ghost use Rattle.std.specs.Process.{exit_status};
 ghost use Rattle.std.specs.Vec.Iter.{into_iter_items};
@@ -48,9 +48,9 @@ fn words(alloc: Global, line: io::Result<env::Args>) -> io::Result<Vec<String>>
     }
 }
 
-/// The program over its streams, with spaces under locks of one kind, tables under locks of another,
-/// and scripts of at most `MAX_TASKS` tasks, whose threads park. Answers how it ended, and the exit
-/// code that says so.
+/// The program over its streams, with spaces under locks of one kind, tables under locks of
+/// another, and scripts of at most `MAX_TASKS` tasks, whose threads park. Answers how it ended, and
+/// the exit code that says so.
 fn run<
     A: SpaceLock + Drop + Sync,
     T: TableLock + Drop + Sync,
@@ -116,13 +116,13 @@ fn exit_code(status: Status) -> ExitCode
 }
 
 /// Runs the program over its streams: spaces are under locks of one kind, tables under locks of
-/// another, scripts have at most `MAX_TASKS` tasks, and their threads park. Answers how it ended, and
-/// the exit code that says so.
+/// another, scripts have at most `MAX_TASKS` tasks, and their threads park. Answers how it ended,
+/// and the exit code that says so.
 ///
-/// `line` is the whole command line, its first word the program's name. A line with a word that isn't
-/// text, or that couldn't be read, is misuse (`Status::Usage`), but for one that there was no memory
-/// for (`Status::NoMemory`). The machine isn't kept, so of it no more is said than that what was told
-/// are legal histories.
+/// `line` is the whole command line, its first word the program's name. A line with a word that
+/// isn't text, or that couldn't be read, is misuse (`Status::Usage`), but for one that there was no
+/// memory for (`Status::NoMemory`). The machine isn't kept, so of it no more is said than that what
+/// was told are legal histories.
 pub fn run_to_end<
     A: SpaceLock + Drop + Sync,
     T: TableLock + Drop + Sync,

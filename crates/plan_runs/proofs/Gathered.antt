@@ -1,37 +1,20 @@
 -- What a pass knows that has gathered others.
-use Rattle.std.proofs.Common.{◌≡◌, ℕ, zero, suc, ◌<◌, List, [], ◌∷◌, length, sym, ap, arith}
-use Rattle.word_bits.specs.declared.rec.Rec.{Rec}
+use Rattle.std.proofs.Common.{◌≡◌, ℕ, suc, ◌<◌, ◌≤◌, sym, subst, arith}
+use mathlib.Core.Logic.{dite}
+use native.Mathlib.Decide.{ℕ_discrete}
 use Rattle.word_bits.specs.LockWords.{Unavailable}
 use Rattle.word_bits.specs.Objects.{Obj}
-use Rattle.word_bits.specs.Histories.{Plan, Records}
+use Rattle.word_bits.specs.Histories.{Plan}
 use Rattle.lock_views.specs.declared.view.Hand.{Hand}
-use Rattle.lock_core.specs.Records.{row}
-use Rattle.lock_core.proofs.RowLaws.{row-outside}
-use Rattle.guarded.specs.Gathering.{HasDone, IsGathered, KeepsDone}
+use Rattle.guarded.specs.Gathering.{HasDoneAll, IsGathered, KeepsDone}
 
 module _ {Call : Type 0} (o : Obj Call) (unavailable : Unavailable) where
-  -- the records of four tasks are all that there are
-  pub four-gathered : (k : Plan) (h : Hand) (xs ys zs ws : List Rec) → length k ≡ 4
-      → length xs ≡ length (row k 0) → length ys ≡ length (row k 1) → length zs ≡ length (row k 2) → length ws ≡ length (row k 3)
-      → HasDone o unavailable k h 0 xs → HasDone o unavailable k h 1 ys → HasDone o unavailable k h 2 zs → HasDone o unavailable k h 3 ws → IsGathered o unavailable k h
-  four-gathered k h xs ys zs ws four all all1 all2 all3 done done1 done2 done3 = record { made = made; all = each; done = does }
-    where
-      made : Records
-      made = xs ∷ ys ∷ zs ∷ ws ∷ []
-
-      each : (t : ℕ) → length (row made t) ≡ length (row k t)
-      each zero = all
-      each (suc zero) = all1
-      each (suc (suc zero)) = all2
-      each (suc (suc (suc zero))) = all3
-      each (suc (suc (suc (suc t)))) = ap length (sym (row-outside k (suc (suc (suc (suc t)))) (omega (arith, four))))
-
-      does : (t : ℕ) → t < length k → HasDone o unavailable k h t (row made t)
-      does zero l = done
-      does (suc zero) l = done1
-      does (suc (suc zero)) l = done2
-      does (suc (suc (suc zero))) l = done3
-      does (suc (suc (suc (suc t)))) l = absurd (omega (arith, l, four))
+  -- what a pass knows of the tasks from one on, once it has taken in the pass of the task before
+  pub one-more : (k : Plan) (old new : Hand) (n u many : ℕ) → u ≡ suc n → KeepsDone o unavailable k old new → HasDoneAll o unavailable k new n → ((t : ℕ) → u ≤ t → t < many → HasDoneAll o unavailable k old t)
+      → (t : ℕ) → n ≤ t → t < many → HasDoneAll o unavailable k new t
+  one-more k old new n u many next keeps own so-far t from below = dite (ℕ_discrete t n)
+      (λ same. subst (HasDoneAll o unavailable k new) (sym same) own)
+      (λ other. let d = so-far t (omega (arith, next, from, other)) below in (d.0, keeps t d.0 d.1, d.2))
 
   -- who knows all that such a pass knew has gathered as much
   pub still-gathered : (k : Plan) (h u : Hand) → KeepsDone o unavailable k h u → IsGathered o unavailable k h → IsGathered o unavailable k u

@@ -1,11 +1,12 @@
 //! Tasks that do their calls on an object under a lock at once, on threads.
-ghost use Rattle.std.specs.Prelude.{◌≡◌, ◌+◌, ◌<◌, ◌≤◌, length, None, IfOk};
+ghost use Rattle.std.specs.Prelude.{◌≡◌, ◌<◌, ◌≤◌, length, None, IfOk, OnOk};
+ghost use Rattle.word_bits.specs.declared.TheConstants.{MAX_TASKS};
 ghost use Rattle.lock_core.specs.Records.{IsPlan};
 ghost use Rattle.lock_core.specs.Kinds.{unavailable};
 ghost use Rattle.guarded.specs.GuardedHandles.{lock_of};
 ghost use Rattle.guarded.specs.ObjectCopying.{IsHistory};
 ghost use Rattle.guarded.specs.Gathering.{IsGathered};
-ghost use Rattle.plan_runs.specs.CallsBetween.{IsFresh, HasDoneItsCalls};
+ghost use Rattle.plan_runs.specs.CallsBetween.{MembersHaveDone, AreFresh, HasDoneItsCalls, MemberHasDone, IsFresh};
 
 use crate::serve::copy_of;
 use cpu_task::{Crew, Gate, OpenGate, Turns};
@@ -14,13 +15,20 @@ use lock_core::{Plan, Tally};
 use sleep_lock::SleepLock;
 use std::alloc::{AllocError, Global};
 use std::sync::Wait;
-use std::thread::{Threads, join};
+use std::thread;
+use std::thread::Threads;
 use word_bits::Snapshot;
 
-/// How long a task spins before it sleeps, and waits before it is owed the lock.
-const TURNS: Turns = Turns {
+/// A task spins before it sleeps, and is soon owed the lock.
+pub const SOON_OWED: Turns = Turns {
     spin: 100,
     overdue: 4,
+};
+
+/// A task doesn't spin, and is never owed the lock, so that nobody asks for it to be handed over.
+pub const NEVER_OWED: Turns = Turns {
+    spin: 0,
+    overdue: u32::MAX,
 };
 
 /// When the tasks begin that pass a gate.
@@ -50,8 +58,8 @@ pub fn serve_all<W: Wait, C: Crew, G: Start, L: SleepLock<O>, O: Served + Drop>(
     requires fresh { IsFresh (L.view pass.old) }
     requires there { task < length (L.calls_on (lock_of guarded.now)) }
     ensures own { L.sits (lock_of guarded.now) pass.new }
-    ensures served { HasDoneItsCalls O.object (unavailable L.kind) (L.calls_on (lock_of guarded.now))
-        task (L.view pass.new) }
+    ensures served { HasDoneItsCalls O.object (unavailable L.kind)
+        (L.calls_on (lock_of guarded.now)) task (L.view pass.new) }
 {
     gate.begins(task);
     guarded.begin(rt, pass, task);
@@ -64,164 +72,119 @@ pub fn serve_all<W: Wait, C: Crew, G: Start, L: SleepLock<O>, O: Served + Drop>(
     gate.ended(task, L::tally(pass));
 }
 
-/// A task and the next one do their calls on an object at once.
-fn two_serve_at_once<
+/// Each pass does all calls of the task of its place. The passes do this at once.
+fn serve_each<
     R: Threads + Wait + Sync,
     C: Crew<C: Send> + Sync,
     G: Start + Sync,
     L: SleepLock<O, Pass: Send, Site: Sync, Rule: Sync> + Sync,
     O: Served<Call: Sync> + Drop + Sync,
->(
-    rt: &R,
-    guarded: &Guarded<L, O>,
-    one: (L::Pass, C::C),
-    two: (L::Pass, C::C),
-    crew: &C,
-    gate: &G,
-    task: u32,
-) -> (L::Pass, L::Pass)
-    requires one { L.sits (lock_of guarded.now) one.0 × IsFresh (L.view one.0) }
-    requires two { L.sits (lock_of guarded.now) two.0 × IsFresh (L.view two.0) }
-    requires there { task + 1 < length (L.calls_on (lock_of guarded.now)) }
-    requires few { task ≤ 2 }
-    ensures own { L.sits (lock_of guarded.now) result.0 × L.sits (lock_of guarded.now) result.1 }
-    ensures one { HasDoneItsCalls O.object (unavailable L.kind) (L.calls_on (lock_of guarded.now))
-        task (L.view result.0) }
-    ensures two { HasDoneItsCalls O.object (unavailable L.kind) (L.calls_on (lock_of guarded.now))
-        (task + 1) (L.view result.1) }
+>(rt: &R, guarded: &Guarded<L, O>, members: &mut [(L::Pass, C::C)], crew: &C, gate: &G)
+    requires fresh { AreFresh (L.sits (lock_of guarded.now)) L.view members.old }
+    requires few { length members.old ≤ length (L.calls_on (lock_of guarded.now)) }
+    requires small { length members.old ≤ MAX_TASKS }
+    ensures { MembersHaveDone O.object (unavailable L.kind) (L.calls_on (lock_of guarded.now))
+        (L.sits (lock_of guarded.now)) L.view (length members.old) members.new }
 {
-    let (first, first_cpu) = one;
-    let (second, second_cpu) = two;
-    join(
+    let threads = members.len().max(1);
+    thread::for_each_mut(
         rt,
-        || -> L::Pass
-            requires own { L.sits (lock_of guarded.now) first }
-            requires fresh { IsFresh (L.view first) }
+        members,
+        threads,
+        &|task, member: &mut (L::Pass, C::C)|
+            requires own { L.sits (lock_of guarded.now) member.old.0 }
+            requires fresh { IsFresh (L.view member.old.0) }
             requires there { task < length (L.calls_on (lock_of guarded.now)) }
-            ensures own { L.sits (lock_of guarded.entry.now) result }
-            ensures served { HasDoneItsCalls O.object (unavailable L.kind)
-                (L.calls_on (lock_of guarded.entry.now)) task (L.view result) }
+            requires small { task < MAX_TASKS }
+            ensures { MemberHasDone O.object (unavailable L.kind)
+                (L.calls_on (lock_of guarded.entry.now)) (L.sits (lock_of guarded.entry.now))
+                L.view task member.new }
         {
-            let mut pass = first;
-            let mut cpu = first_cpu;
-            serve_all(rt, guarded, &mut pass, &mut cpu, crew, gate, task);
-            pass
-        },
-        || -> L::Pass
-            requires own { L.sits (lock_of guarded.now) second }
-            requires fresh { IsFresh (L.view second) }
-            requires there { task + 1 < length (L.calls_on (lock_of guarded.now)) }
-            requires few { task ≤ 2 }
-            ensures own { L.sits (lock_of guarded.entry.now) result }
-            ensures served { HasDoneItsCalls O.object (unavailable L.kind)
-                (L.calls_on (lock_of guarded.entry.now)) (task + 1) (L.view result) }
-        {
-            let mut pass = second;
-            let mut cpu = second_cpu;
-            serve_all(rt, guarded, &mut pass, &mut cpu, crew, gate, task + 1);
-            pass
-        },
-    )
-}
-
-/// Four tasks do their calls on an object at once. The first pass gathers the others.
-fn four_serve_at_once<
-    R: Threads + Wait + Sync,
-    C: Crew<C: Send> + Sync,
-    G: Start + Sync,
-    L: SleepLock<O, Pass: Send, Site: Sync, Rule: Sync> + Sync,
-    O: Served<Call: Sync> + Drop + Sync,
->(
-    rt: &R,
-    guarded: &Guarded<L, O>,
-    mut first: L::Pass,
-    cpus: (C::C, C::C, C::C, C::C),
-    crew: &C,
-    gate: &G,
-) -> L::Pass
-    requires own { L.sits (lock_of guarded.now) first }
-    requires fresh { IsFresh (L.view first) }
-    requires four { length (L.calls_on (lock_of guarded.now)) ≡ 4 }
-    ensures own { L.sits (lock_of guarded.now) result }
-    ensures numberless { (L.view result).hand.task ≡ None }
-    ensures gathered { IsGathered O.object (unavailable L.kind)
-        (L.calls_on (lock_of guarded.now)) (L.view result).hand }
-{
-    let second = guarded.split(&mut first);
-    let third = guarded.split(&mut first);
-    let fourth = guarded.split(&mut first);
-    let (cpu, second_cpu, third_cpu, fourth_cpu) = cpus;
-    let ((mut one, two), (three, four)) = join(
-        rt,
-        || -> (L::Pass, L::Pass)
-            requires one { L.sits (lock_of guarded.now) first × IsFresh (L.view first) }
-            requires two { L.sits (lock_of guarded.now) second × IsFresh (L.view second) }
-            requires there { 1 < length (L.calls_on (lock_of guarded.now)) }
-            ensures own { L.sits (lock_of guarded.entry.now) result.0 ×
-                L.sits (lock_of guarded.entry.now) result.1 }
-            ensures one { HasDoneItsCalls O.object (unavailable L.kind)
-                (L.calls_on (lock_of guarded.entry.now)) 0 (L.view result.0) }
-            ensures two { HasDoneItsCalls O.object (unavailable L.kind)
-                (L.calls_on (lock_of guarded.entry.now)) 1 (L.view result.1) }
-        {
-            two_serve_at_once(
+            serve_all(
                 rt,
                 guarded,
-                (first, cpu),
-                (second, second_cpu),
+                &mut member.0,
+                &mut member.1,
                 crew,
                 gate,
-                0,
-            )
-        },
-        || -> (L::Pass, L::Pass)
-            requires one { L.sits (lock_of guarded.now) third × IsFresh (L.view third) }
-            requires two { L.sits (lock_of guarded.now) fourth × IsFresh (L.view fourth) }
-            requires there { 3 < length (L.calls_on (lock_of guarded.now)) }
-            ensures own { L.sits (lock_of guarded.entry.now) result.0 ×
-                L.sits (lock_of guarded.entry.now) result.1 }
-            ensures one { HasDoneItsCalls O.object (unavailable L.kind)
-                (L.calls_on (lock_of guarded.entry.now)) 2 (L.view result.0) }
-            ensures two { HasDoneItsCalls O.object (unavailable L.kind)
-                (L.calls_on (lock_of guarded.entry.now)) 3 (L.view result.1) }
-        {
-            two_serve_at_once(
-                rt,
-                guarded,
-                (third, third_cpu),
-                (fourth, fourth_cpu),
-                crew,
-                gate,
-                2,
-            )
+                task as u32,
+            );
         },
     );
-    guarded.gather(&mut one, two);
-    guarded.gather(&mut one, three);
-    guarded.gather(&mut one, four);
-    one
 }
 
-/// A copy of what four tasks leave that do all their calls on a new object of number 0 at once: it
-/// is a legal history, one thread's, with each call once.
-pub fn history_of_four<
+/// A fresh pass and a CPU for each task.
+fn members_of<C: Crew, L: SleepLock<O>, O: Served + Drop>(
+    alloc: Global,
+    guarded: &Guarded<L, O>,
+    first: &mut L::Pass,
+    crew: &mut C,
+    turns: Turns,
+) -> Result<Vec<(L::Pass, C::C)>, AllocError>
+    requires own { L.sits (lock_of guarded.now) first.old }
+    requires fresh { IsFresh (L.view first.old) }
+    ensures own { OnOk result (L.sits (lock_of guarded.now) first.new) }
+    ensures kept { OnOk result (IsFresh (L.view first.new)) }
+    ensures fresh { IfOk result (λ members.
+        AreFresh (L.sits (lock_of guarded.now)) L.view members.items) }
+    ensures all { IfOk result (λ members.
+        length members.items ≡ length (L.calls_on (lock_of guarded.now))) }
+{
+    let mut members = Vec::new(alloc);
+    for task in 0..guarded.tasks() {
+        let cpu = crew.cpu(alloc, task, turns)?;
+        let pass = guarded.split(first);
+        members.push((pass, cpu))?;
+    }
+    Ok(members)
+}
+
+/// Takes in the passes of all tasks, which have done their calls.
+fn gather_all<L: SleepLock<O>, O: Served + Drop, P: Drop>(
+    guarded: &Guarded<L, O>,
+    into: &mut L::Pass,
+    mut members: Vec<(L::Pass, P)>,
+)
+    requires own { L.sits (lock_of guarded.now) into.old }
+    requires numberless { (L.view into.old).hand.task ≡ None }
+    requires done { MembersHaveDone O.object (unavailable L.kind)
+        (L.calls_on (lock_of guarded.now)) (L.sits (lock_of guarded.now)) L.view
+        (length (L.calls_on (lock_of guarded.now))) members.items }
+    ensures own { L.sits (lock_of guarded.now) into.new }
+    ensures numberless { (L.view into.new).hand.task ≡ None }
+    ensures gathered { IsGathered O.object (unavailable L.kind)
+        (L.calls_on (lock_of guarded.now)) (L.view into.new).hand }
+{
+    while let Some((pass, _)) = members.pop() {
+        guarded.gather(into, pass);
+    }
+}
+
+/// A copy of what the tasks of the plan leave that do all their calls on a new object of number 0
+/// at once: it is a legal history, one thread's, with each call once. The plan has one task at
+/// least, and `MAX_TASKS` at most.
+pub fn history_of_all<
     R: Threads + Wait + Sync,
     C: Crew<C: Send> + Sync + Drop,
     G: Start + Sync,
     L: SleepLock<O, Pass: Send, Site: Sync, Rule: Sync> + Sync + Drop,
     O: Served<Call: Sync> + Drop + Sync,
->(rt: &R, alloc: Global, plan: Plan, mut crew: C, gate: &G) -> Result<Snapshot, AllocError>
+>(
+    rt: &R,
+    alloc: Global,
+    plan: Plan,
+    mut crew: C,
+    turns: Turns,
+    gate: &G,
+) -> Result<Snapshot, AllocError>
     requires plan { IsPlan O.object plan }
-    requires four { length plan ≡ 4 }
+    requires some { 0 < length plan }
+    requires few { length plan ≤ MAX_TASKS }
     ensures { IfOk result (λ copy. IsHistory O.object (unavailable L.kind) plan copy) }
 {
-    let cpus = (
-        crew.cpu(alloc, 0, TURNS)?,
-        crew.cpu(alloc, 1, TURNS)?,
-        crew.cpu(alloc, 2, TURNS)?,
-        crew.cpu(alloc, 3, TURNS)?,
-    );
-    let (guarded, first) = Guarded::<L, O>::open(alloc, 0, plan)?;
-    let mut pass = four_serve_at_once(rt, &guarded, first, cpus, &crew, gate);
+    let (guarded, mut pass) = Guarded::<L, O>::open(alloc, 0, plan)?;
+    let mut members = members_of(alloc, &guarded, &mut pass, &mut crew, turns)?;
+    serve_each(rt, &guarded, members.as_mut_slice(), &crew, gate);
+    gather_all(&guarded, &mut pass, members);
     copy_of(rt, alloc, &guarded, &mut pass)
 }

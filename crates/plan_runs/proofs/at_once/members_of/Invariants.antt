@@ -1,6 +1,6 @@
 use Rattle.std.proofs.Common.{◌≡◌, length}
 use Rattle.plan_runs.specs.CallsBetween.{AreFresh, IsFresh}
-use Rattle.call_tests.proofs.crowd.members_of.Given as goal
+use Rattle.plan_runs.proofs.at_once.members_of.Given as goal
 
 abbrev pub invariant-loop-task : goal.invariant-loop-task
 invariant-loop-task g l =
