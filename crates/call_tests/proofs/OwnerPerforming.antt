@@ -1,5 +1,5 @@
 -- What a holder may record of its task's next call.
-use Rattle.std.proofs.Common.{◌≡◌, ◌≤◌, ◌+◌, ℕ, Bool, false, Option, Some, None, is_some, true, slice_get, refl, sym, ap, ◌∙◌, subst, arith}
+use Rattle.std.proofs.Common.{◌≡◌, ◌≤◌, ◌+◌, ℕ, Bool, false, Option, Some, None, is_some, true, slice_get, refl, sym, ap, ◌∙◌, subst, arith, List}
 use Rattle.word_bits.specs.declared.entry.Entry.{Entry}
 use Rattle.word_bits.specs.declared.reply.Reply.{Reply}
 use Rattle.word_bits.specs.declared.reply.Reply.TheVariants.{Good, Num, Refused, MapErr, AccErr, Busy, Intr, Sent}
@@ -7,12 +7,12 @@ use Rattle.word_bits.specs.LockWords.{Unavailable, owned}
 use Rattle.word_bits.specs.Objects.{Obj, IsObjectReply}
 use Rattle.word_bits.specs.Histories.{Plan, state_after}
 use Rattle.word_bits.proofs.States.{IsLawful, state_is_state}
-use Rattle.lock_views.specs.declared.view.Hand.{Hand}
+use Rattle.lock_core.specs.declared.view.Hand.{Hand}
 use Rattle.word_bits.specs.declared.call.CallWords.{CallWords}
 use Rattle.word_bits.specs.declared.call.Mode.TheVariants.{Int, Try}
 use Rattle.word_bits.specs.Calls.{mode_of}
-use Rattle.lock_views.specs.declared.view.View.{View}
-use Rattle.lock_views.specs.declared.view.Held.TheVariants.{No}
+use Rattle.lock_core.specs.declared.view.View.{View}
+use Rattle.lock_core.specs.declared.view.Held.TheVariants.{No}
 use Rattle.std.specs.Option.{option_map_or}
 use Rattle.lock_core.specs.declared.pass.Face.{Face}
 use Rattle.lock_core.specs.declared.pass.Pass.{Pass}
@@ -21,7 +21,7 @@ use Rattle.lock_core.specs.SiteHandles.{hand_in, SitsAt, SaysSame}
 use Rattle.lock_core.specs.Records.{row}
 use Rattle.lock_core.specs.Views.{consuming, next_entry}
 use Rattle.lock_core.specs.Shown.{IsNextCall}
-use Rattle.lock_views.specs.declared.how.Interrupted.{Interrupted}
+use Rattle.lock_core.specs.declared.how.Interrupted.{Interrupted}
 use Rattle.lock_core.specs.SitePasses.{Consumes, IsBusy, IsInterrupted, IsReading, MayNote}
 use Rattle.lock_core.proofs.HandLaws.{not-both}
 use Rattle.mutex_word.specs.Holders.{MissesOwner}
@@ -82,7 +82,7 @@ module _ {Call : Type 0} (o : Obj Call) where
   may-note unavailable k h e Intr is r = elim is [ ]
   may-note unavailable k h e Sent is r = elim is [ ]
 
-  module _ (lawful : IsLawful o) (apart : (s t : o.State) → o.IsState s → o.IsState t → o.stores s ≡ o.stores t → s ≡ t) where
+  module _ (lawful : IsLawful o) (apart : (s t : o.State) → o.IsState s → o.IsState t → o.stores s ≡ o.stores t → s ≡ t) (exact : (s : o.State) (ws : List ℕ) → o.Represents s ws → ws ≡ o.stores s) where
     -- the state that was loaded is the one after the log
     pub loaded : (k : Plan) (h : Hand) (s : o.State) → IsStored o k h → o.IsState s → o.stores s ≡ h.known → s ≡ state_after o k h.log
-    loaded k h s stored is same = apart s (state_after o k h.log) is (state_is_state o lawful k h.log) (same ∙ stored)
+    loaded k h s stored is same = apart s (state_after o k h.log) is (state_is_state o lawful k h.log) (same ∙ exact (state_after o k h.log) h.known stored)

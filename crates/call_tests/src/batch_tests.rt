@@ -8,7 +8,7 @@ use lock_core::{Plan, Tally};
 use plan_runs::at_once::{NEVER_OWED, Start, history_of_all};
 use plan_runs::plans::{fault_page, map_page, plan_with, try_map_page};
 use plan_runs::signs::{CountedCrew, KIND, VALUE, await_count, await_flag, count};
-use sleep_lock::RwSem;
+use rwsem_slow::RwSem;
 use std::alloc::{AllocError, Global};
 use std::sync::Wait;
 use std::sync::atomic::{AtomicBool, AtomicU32, Ordering};

@@ -6,7 +6,7 @@ use plan_runs::plans::{
     Row, fault_page, int_map_page, plan_with, populate_pages, signal_task, try_map_page,
 };
 use plan_runs::signs::{KIND, VALUE};
-use sleep_lock::RwSem;
+use rwsem_slow::RwSem;
 use std::alloc::{AllocError, Global};
 use std::sync::Wait;
 use std::test::Fail;

@@ -2,13 +2,15 @@
 
 use cpu_task::{Gate, ScriptedCrew};
 use lock_core::Tally;
+use mutex_slow::Mutex;
 use plan_runs::at_once::{SOON_OWED, Start, history_of_all};
 use plan_runs::plans::{
     fault_page, int_fault_page, int_map_page, map_page, plan_with, signal_task, try_fault_page,
     try_map_page,
 };
 use plan_runs::signs::{KIND, VALUE, await_flag};
-use sleep_lock::{Mutex, RwSem, SleepLock};
+use rwsem_slow::RwSem;
+use sleep_lock::SleepLock;
 use std::alloc::{AllocError, Global};
 use std::sync::Wait;
 use std::sync::atomic::{AtomicBool, Ordering};

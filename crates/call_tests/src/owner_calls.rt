@@ -1,16 +1,15 @@
 //! What a task does with its next call, on a site with an owner word.
 ghost use Rattle.std.specs.Prelude.{◌≡◌, ◌≢◌, length, true, false, IfSome, IsSome, Some, None};
-ghost use Rattle.lock_views.specs.declared.view.Held.TheVariants.{No, Alone};
+ghost use Rattle.lock_core.specs.declared.view.Held.TheVariants.{No, Alone};
 ghost use Rattle.lock_core.specs.Shown.{IsNextCall};
 ghost use Rattle.lock_core.specs.Locking.{IsStored};
 ghost use Rattle.mutex_word.specs.OwnerHandles.{plan_of, hand_in, task_in, held_in, SitsAt};
 ghost use Rattle.call_tests.specs.OwnerStanding.{OwesNothing, OwesSame, SameSpin, SaysSame};
 
-use lock_core::Interrupted;
+use lock_core::{Interrupted, SiteLock};
 use mutex_word::{OwnerPass, OwnerSite};
-use site_lock::SiteLock;
 use std::thread;
-use word_bits::{CallWords, MAX_TASKS, Mode, Object, Reply};
+use word_bits::{CallWords, MAX_TASKS, Mode, Object, Reply, ValueObject};
 
 /// How often a pass tries for the lock.
 const TRIES: u32 = 100_000_000;
@@ -67,7 +66,7 @@ pub fn take<O: Object>(site: &OwnerSite<O>, pass: &mut OwnerPass<O>) -> bool
 
 /// Does the next call of the pass's task, and records it. `None` where the task has no call left
 /// that the object has.
-pub fn perform<O: Object + Drop>(site: &OwnerSite<O>, pass: &mut OwnerPass<O>) -> Option<Reply>
+pub fn perform<O: ValueObject + Drop>(site: &OwnerSite<O>, pass: &mut OwnerPass<O>) -> Option<Reply>
     requires own { SitsAt site.now pass.old }
     requires held { held_in pass.old ≡ Alone }
     requires quiet { (hand_in pass.old).writes ≡ false }
@@ -206,7 +205,7 @@ pub fn await_signal<O: Object>(site: &OwnerSite<O>, pass: &mut OwnerPass<O>) -> 
 }
 
 /// The value that the guarded words store.
-fn load<O: Object>(site: &OwnerSite<O>, pass: &mut OwnerPass<O>) -> Option<O>
+fn load<O: ValueObject>(site: &OwnerSite<O>, pass: &mut OwnerPass<O>) -> Option<O>
     requires own { SitsAt site.now pass.old }
     requires held { held_in pass.old ≡ Alone }
     requires sized { length (hand_in pass.old).known ≡ O.WORDS }
@@ -225,7 +224,7 @@ fn load<O: Object>(site: &OwnerSite<O>, pass: &mut OwnerPass<O>) -> Option<O>
 }
 
 /// Writes the words that store the value.
-fn store<O: Object>(site: &OwnerSite<O>, pass: &mut OwnerPass<O>, value: &O)
+fn store<O: ValueObject>(site: &OwnerSite<O>, pass: &mut OwnerPass<O>, value: &O)
     requires own { SitsAt site.now pass.old }
     requires held { held_in pass.old ≡ Alone }
     requires sized { length (hand_in pass.old).known ≡ O.WORDS }

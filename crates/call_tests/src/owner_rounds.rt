@@ -1,12 +1,12 @@
 //! Passes that do all calls of their tasks, on threads.
 ghost use Rattle.std.specs.Prelude.{◌≡◌, ◌<◌, ◌≤◌, false, length, IsSome, OnOk};
-ghost use Rattle.lock_views.specs.declared.view.Held.TheVariants.{No};
+ghost use Rattle.lock_core.specs.declared.view.Held.TheVariants.{No};
 ghost use Rattle.mutex_word.specs.OwnerHandles.{plan_of, hand_in, held_in, task_in, SitsAt};
 ghost use Rattle.call_tests.specs.OwnerStanding.{Idles, OwesNothing, SameSpin};
 
 use crate::owner_calls::{await_signal, perform, send, take};
+use lock_core::SiteLock;
 use mutex_word::{OwnerPass, OwnerSite};
-use site_lock::SiteLock;
 use std::alloc::{AllocError, Global};
 use std::sync::Wait;
 use std::thread::{self, Threads};

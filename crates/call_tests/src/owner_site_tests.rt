@@ -1,20 +1,19 @@
 //! Sites with an owner word over address spaces.
 ghost use Rattle.std.specs.Prelude.{◌≡◌, ◌≢◌, ◌<◌, length};
-ghost use Rattle.lock_views.specs.declared.view.Held.TheVariants.{No};
+ghost use Rattle.lock_core.specs.declared.view.Held.TheVariants.{No};
 ghost use Rattle.mutex_word.specs.OwnerHandles.{plan_of, hand_in, held_in, SitsAt};
 ghost use Rattle.call_tests.specs.OwnerStanding.{SaysSame};
 
 use crate::owner_calls::{interrupt, perform, send, take, try_next};
 use crate::owner_rounds::four_at_once;
-use lock_core::{Held, Interrupted};
+use lock_core::{Held, Interrupted, SiteLock};
 use mutex_word::{OwnerPass, OwnerSite};
 use plan_runs::plans::{
     fault_page, int_fault_page, map_page, plan_with, signal_task, try_map_page,
 };
-use site_lock::SiteLock;
 use std::test::Fail;
 use vma_map::Areas;
-use word_bits::{Entry, Object, Reply};
+use word_bits::{Entry, Object, Reply, ValueObject};
 
 /// Many rounds for each of four threads.
 const ROUNDS: u32 = 10_000;

@@ -7,6 +7,7 @@ use cpu_task::{Gate, OpenGate, ParkCrew};
 use fd_table::Fds;
 use guarded::Guarded;
 use lock_core::Plan;
+use mutex_slow::Mutex;
 use plan_runs::at_once::{SOON_OWED, history_of_all};
 use plan_runs::plans::{
     close_file, dup_file, fault_page, get_file, map_page, open_file, plan_with, populate_pages,
@@ -14,7 +15,8 @@ use plan_runs::plans::{
 };
 use plan_runs::serve::{copy_of, replies_of};
 use plan_runs::signs::{KIND, VALUE, count};
-use sleep_lock::{Mutex, RwSem, SleepLock};
+use rwsem_slow::RwSem;
+use sleep_lock::SleepLock;
 use std::alloc::{AllocError, Global};
 use std::sync::Wait;
 use std::sync::atomic::{AtomicU32, Ordering};

@@ -5,7 +5,7 @@ use lock_core::Tally;
 use plan_runs::at_once::{SOON_OWED, Start, history_of_all};
 use plan_runs::plans::{fault_page, map_page, plan_with, try_fault_page};
 use plan_runs::signs::{CountedCrew, KIND, VALUE, await_count, await_flag};
-use sleep_lock::RwSem;
+use rwsem_slow::RwSem;
 use std::sync::Wait;
 use std::sync::atomic::{AtomicBool, AtomicU32, Ordering};
 use std::test::Fail;

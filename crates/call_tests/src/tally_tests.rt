@@ -5,7 +5,7 @@ use lock_core::Tally;
 use plan_runs::at_once::{SOON_OWED, Start, history_of_all};
 use plan_runs::plans::{fault_page, int_map_readable, plan_with, signal_task};
 use plan_runs::signs::{KIND, await_flag, count};
-use sleep_lock::RwSem;
+use rwsem_slow::RwSem;
 use std::alloc::{AllocError, Global};
 use std::sync::Wait;
 use std::sync::atomic::{AtomicBool, AtomicU32, AtomicU64, Ordering};

@@ -4,19 +4,21 @@ ghost use Rattle.fd_table.specs.Tables.{IsCall};
 
 use cpu_task::{Gate, ParkCrew};
 use fd_table::{Fds, TableCall};
+use mutex_slow::Mutex;
 use plan_runs::at_once::{SOON_OWED, Start, history_of_all};
 use plan_runs::plans::{
     Row, close_file, fault_page, get_file, int_close_file, int_get_file, int_open_file, map_page,
     open_file, plan_with, populate_pages, signal_task,
 };
-use sleep_lock::{Mutex, RwSem, SleepLock};
+use rwsem_slow::RwSem;
+use sleep_lock::SleepLock;
 use std::alloc::{AllocError, Global};
 use std::sync::Wait;
 use std::sync::atomic::{AtomicBool, AtomicU64, Ordering};
 use std::test::Fail;
 use std::thread::Threads;
 use vma_map::Areas;
-use word_bits::{Entry, Object, Rec, Reply, Snapshot};
+use word_bits::{Entry, Rec, Reply, Snapshot, ValueObject};
 
 /// How many rounds each task makes.
 const ROUNDS: u32 = 2_500;

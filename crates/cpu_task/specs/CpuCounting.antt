@@ -1,9 +1,13 @@
 -- How the two counts of a CPU rise. No count ever falls.
-use Rattle.std.specs.Prelude.{◌≡◌, ℕ, zero, suc, ◌+◌, ◌-◌, ◌^◌, ◌≤◌, ◌⊎◌, min, Bool, if◌then◌else◌}
+use Rattle.std.specs.Prelude.{◌≡◌, ℕ, zero, suc, ◌+◌, ◌-◌, ◌^◌, ◌<◌, ◌≤◌, ◌⊎◌, min, Bool, if◌then◌else◌}
 
 -- one more, unless the count stands at the last value of a u64
 abbrev pub one_more : ℕ → ℕ
 one_more n = n + min 1 (2 ^ 64 - 1 - n)
+
+-- a count that rose, or stands at the last value of a u64
+abbrev pub Rises : ℕ → ℕ → Type 0
+Rises m n = (m < n) ⊎ (2 ^ 64 - 1 ≤ n)
 
 -- the count of sleeps, after so many more
 abbrev pub slept : (turns sleeps : ℕ) → ℕ

@@ -37,7 +37,7 @@ pub starts : IsFdMap no_files
 starts = record { within = λ fd past. refl; files = λ fd. tt }
 
 -- zeros store it
-pub zeros : stores no_files ≡ replicate 64 0
+pub zeros : replicate 64 0 ≡ stores no_files
 unfolding words_from
 zeros = refl
 

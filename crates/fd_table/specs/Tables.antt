@@ -143,4 +143,5 @@ table = record {
   reads = reads;
   meaning = meaning;
   stores = stores;
+  Represents = λ m words. words ≡ stores m;
 }

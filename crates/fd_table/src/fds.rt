@@ -5,7 +5,7 @@ ghost use Rattle.fd_table.specs.Tables.{IsFull, IsLowestFree, fd_map, used_from,
 use crate::call::TableCall;
 use crate::{DESCRIPTORS, words};
 use std::marker::Model;
-use word_bits::{CallWords, Errno, Object, Reply};
+use word_bits::{CallWords, Errno, Object, Reply, ValueObject};
 
 /// A table of descriptors. Contracts see a slot for each; `fd_map` is what the slots say of one.
 #[derive(Drop)]
@@ -119,7 +119,7 @@ impl Fds {
 
 impl Object for Fds {
     ghost use Rattle.fd_table.specs.Tables.{fd_map, table};
-    ghost use Rattle.fd_table.specs.TableLaws.{few_words, sized, starts, zeros, apart, called, signals, goes_on, replies, reading, refused};
+    ghost use Rattle.fd_table.specs.TableLaws.{few_words, starts, zeros, called, signals, goes_on, replies, reading, refused};
 
     type Call = TableCall;
 
@@ -131,18 +131,40 @@ impl Object for Fds {
 
     ghost state = { fd_map };
 
-    fn empty() -> Self {
-        Fds {
-            files: [None; DESCRIPTORS],
-        }
-    }
-
     fn call_of(words: CallWords) -> Option<TableCall> {
         TableCall::call_of(words)
     }
 
     fn reads(call: TableCall) -> bool {
         matches!(call, TableCall::Get { .. })
+    }
+
+    ghost few_words = { few_words };
+
+    ghost starts = { starts };
+
+    ghost zeros = { zeros };
+
+    ghost called = { called };
+
+    ghost signals = { signals };
+
+    ghost goes_on = { goes_on };
+
+    ghost replies = { replies };
+
+    ghost reading = { reading };
+
+    ghost refused = { refused };
+}
+
+impl ValueObject for Fds {
+    ghost use Rattle.fd_table.specs.TableLaws.{sized, apart};
+
+    fn empty() -> Self {
+        Fds {
+            files: [None; DESCRIPTORS],
+        }
     }
 
     fn apply(&mut self, call: TableCall) -> Reply {
@@ -168,25 +190,11 @@ impl Object for Fds {
         words::store(&self.files, out);
     }
 
-    ghost few_words = { few_words };
-
     ghost sized = { sized };
-
-    ghost starts = { starts };
-
-    ghost zeros = { zeros };
 
     ghost apart = { apart };
 
-    ghost called = { called };
+    ghost exact = { λ s words is. is };
 
-    ghost signals = { signals };
-
-    ghost goes_on = { goes_on };
-
-    ghost replies = { replies };
-
-    ghost reading = { reading };
-
-    ghost refused = { refused };
+    ghost represents = { λ s words is. is };
 }

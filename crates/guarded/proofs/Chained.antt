@@ -12,8 +12,8 @@ use Rattle.word_bits.specs.Objects.{Obj, IsObjectReply}
 use Rattle.word_bits.specs.Histories.{Plan, logs}
 use Rattle.word_bits.specs.Legal.{IsRecord, IsUnheldReply, seen_after}
 use Rattle.word_bits.proofs.States.{IsLawful, state_is_state}
-use Rattle.lock_views.specs.declared.view.Hand.{Hand}
-use Rattle.lock_views.specs.declared.view.Told.{Told}
+use Rattle.lock_core.specs.declared.view.Hand.{Hand}
+use Rattle.lock_core.specs.declared.view.Told.{Told}
 use Rattle.lock_core.specs.Records.{row, seen_by}
 use Rattle.lock_core.specs.Views.{Knows, next_entry}
 use Rattle.lock_core.proofs.RecordLaws.{seen_by-snoc}

@@ -8,7 +8,7 @@ use Rattle.std.proofs.lemmas.List.FromFn.{get_or-map-range_with_len, length-map-
 use Rattle.word_bits.specs.declared.reply.Reply.{Reply}
 use Rattle.word_bits.specs.declared.reply.Reply.TheVariants.{Good, Num, Refused}
 use Rattle.word_bits.specs.declared.reply.Errno.TheVariants.{BadF, MFile}
-use Rattle.lock_views.specs.declared.view.Hand.{Hand}
+use Rattle.lock_core.specs.declared.view.Hand.{Hand}
 use Rattle.lock_core.specs.Shown.{Shown}
 use Rattle.lock_core.specs.Locking.{Looks, Has}
 use Rattle.lock_core.specs.Views.{wrote}

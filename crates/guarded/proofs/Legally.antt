@@ -14,13 +14,13 @@ use Rattle.word_bits.specs.LockWords.{Unavailable}
 use Rattle.word_bits.specs.Objects.{Obj}
 use Rattle.word_bits.specs.Histories.{Plan, Records, logs}
 use Rattle.word_bits.specs.Legal.{IsLegal, IsRecord, IsUnheldReply, AreTaskRecords, AreRecords, seen_after, is_intr}
-use Rattle.lock_views.specs.declared.view.Hand.{Hand}
+use Rattle.lock_core.specs.declared.view.Hand.{Hand}
 use Rattle.lock_core.specs.Records.{row, bit, intrs, AreNext}
 use Rattle.lock_core.proofs.RowLaws.{none-some, same-some, some-inside, row-task}
 use Rattle.lock_core.proofs.Recording.{entry-fits}
 use Rattle.lock_core.specs.Plans.{IsSmall}
 use Rattle.guarded.specs.Gathering.{AreExact, IsGathered}
-use Rattle.lock_views.specs.declared.view.Moment.{Moment}
+use Rattle.lock_core.specs.declared.view.Moment.{Moment}
 use Rattle.lock_core.specs.Shown.{Shown}
 use Rattle.lock_core.specs.Chronicles.{Chronicles}
 use Rattle.guarded.specs.ObjectCopying.{Copies, AreRecWords, GatheredIsHistory, joined}

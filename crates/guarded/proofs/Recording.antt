@@ -13,23 +13,23 @@ use Rattle.word_bits.specs.Calls.{mode_of, signal_of}
 use Rattle.word_bits.specs.Objects.{Obj, IsObjectReply}
 use Rattle.word_bits.specs.Histories.{Plan, logs, changes, state_after}
 use Rattle.word_bits.specs.Legal.{IsRecord, IsUnheldReply, is_intr, seen_after}
-use Rattle.lock_views.specs.declared.tally.Tally.{Tally}
-use Rattle.lock_views.specs.declared.view.Hand.{Hand}
-use Rattle.lock_views.specs.declared.view.Held.{Held}
-use Rattle.lock_views.specs.declared.view.Held.TheVariants.{No}
-use Rattle.lock_views.specs.declared.view.Stage.{Stage}
-use Rattle.lock_views.specs.declared.view.Stage.TheVariants.{Logged}
+use Rattle.lock_core.specs.declared.tally.Tally.{Tally}
+use Rattle.lock_core.specs.declared.view.Hand.{Hand}
+use Rattle.lock_core.specs.declared.view.Held.{Held}
+use Rattle.lock_core.specs.declared.view.Held.TheVariants.{No}
+use Rattle.lock_core.specs.declared.view.Stage.{Stage}
+use Rattle.lock_core.specs.declared.view.Stage.TheVariants.{Logged}
 use Rattle.lock_core.specs.Records.{is_sent, row}
-use Rattle.lock_views.specs.Tallies.{raised}
+use Rattle.lock_core.specs.Tallies.{raised}
 use Rattle.lock_core.specs.Views.{recorded, committed, noted, next_entry, OwesNoSignal, Unsent}
 use Rattle.lock_core.specs.SitePasses.{IsReading, MayNote}
 use Rattle.lock_core.proofs.RowLaws.{get-last}
 use Rattle.lock_core.proofs.RecordLaws.{object-logs, changes-is}
 use Rattle.lock_core.proofs.Replies.{settled-object}
 use Rattle.guarded.proofs.Passing.{beside-trans}
-use Rattle.lock_views.specs.declared.view.Line.{Line}
-use Rattle.lock_views.specs.declared.view.Moment.{Moment}
-use Rattle.lock_views.specs.declared.how.Interrupted.{Interrupted}
+use Rattle.lock_core.specs.declared.view.Line.{Line}
+use Rattle.lock_core.specs.declared.view.Moment.{Moment}
+use Rattle.lock_core.specs.declared.how.Interrupted.{Interrupted}
 use Rattle.lock_core.specs.Pasts.{FoundAtStep}
 use Rattle.lock_core.specs.Kinds.{Kind, shares, unavailable, wakes_shared}
 use Rattle.lock_core.specs.Shown.{Shown, NoCountFalls, AllButHand, LeavesHold, PastGoesOn, IsNextCall}
@@ -163,7 +163,7 @@ module _ {Call : Type 0} (o : Obj Call) (kind : Kind) (k : Plan) where
       }
 
   -- what a holder that looked may note
-  pub reading-note : (h g : Hand) (words : CallWords) (c : Call) (reply : Reply) → g ≡ h → IsNextCall k h words → o.call_of words ≡ Some c → o.reads c ≡ true → h.held ≢ No → h.known ≡ o.stores (state_after o k h.log) → IsObjectReply reply → reply ≡ (o.meaning (state_after o k h.log) c).1 → MayNote o (unavailable kind) k g (next_entry g) reply
+  pub reading-note : (h g : Hand) (words : CallWords) (c : Call) (reply : Reply) → g ≡ h → IsNextCall k h words → o.call_of words ≡ Some c → o.reads c ≡ true → h.held ≢ No → o.Represents (state_after o k h.log) h.known → IsObjectReply reply → reply ≡ (o.meaning (state_after o k h.log) c).1 → MayNote o (unavailable kind) k g (next_entry g) reply
   reading-note h g words c reply same next is reads held stored object replies = subst (λ (x : Hand). MayNote o (unavailable kind) k x (next_entry x) reply) (sym same)
       (may-note h (next_entry h) reply object (record { words = words; call = c; planned = next.1; is = is; reads = reads; held = held; stored = stored; replies = replies }))
 

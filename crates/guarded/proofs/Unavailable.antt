@@ -9,8 +9,8 @@ use Rattle.word_bits.specs.Histories.{Plan, logs}
 use Rattle.word_bits.specs.Legal.{IsRecord, IsUnheldReply, seen_after}
 use Rattle.word_bits.specs.LockWords.{Unavailable}
 use Rattle.word_bits.specs.Objects.{Obj}
-use Rattle.lock_views.specs.declared.view.Hand.{Hand}
-use Rattle.lock_views.specs.declared.view.Told.{Told}
+use Rattle.lock_core.specs.declared.view.Hand.{Hand}
+use Rattle.lock_core.specs.declared.view.Told.{Told}
 use Rattle.lock_core.specs.Chronicles.{Chronicles}
 use Rattle.lock_core.specs.SitePasses.{MayNote}
 use Rattle.lock_core.specs.Records.{AreNext, row}

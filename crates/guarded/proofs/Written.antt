@@ -1,8 +1,8 @@
 -- What a pass knows of the guarded words after it looked at them and wrote.
 use Rattle.std.proofs.Common.{◌≡◌, ℕ, ◌+◌, ◌-◌, ◌<◌, ◌≤◌, ◌⊎◌, inl, inr, true, List, length, slice_index, slice_set, refl, sym, ap, ◌∙◌, arith}
 use Rattle.std.proofs.lemmas.Bool.{cases_lt, cases_eq}
-use Rattle.lock_views.specs.declared.view.Hand.{Hand}
-use Rattle.lock_views.specs.declared.view.Held.TheVariants.{Alone}
+use Rattle.lock_core.specs.declared.view.Hand.{Hand}
+use Rattle.lock_core.specs.declared.view.Held.TheVariants.{Alone}
 use Rattle.lock_core.specs.Shown.{Shown, PastGoesOn}
 use Rattle.lock_core.specs.Locking.{Looks, Has}
 use Rattle.lock_core.specs.Views.{wrote}

@@ -9,10 +9,10 @@ use Rattle.word_bits.specs.Objects.{Obj}
 use Rattle.word_bits.specs.Snapshots.{Words}
 use Rattle.word_bits.specs.Histories.{Plan, Records, state_after}
 use Rattle.word_bits.specs.Legal.{IsLegal, Tells}
-use Rattle.lock_views.specs.declared.view.Hand.{Hand}
-use Rattle.lock_views.specs.declared.view.Held.TheVariants.{Alone}
-use Rattle.lock_views.specs.declared.view.Moment.{Moment}
-use Rattle.lock_views.specs.declared.view.Told.{Told}
+use Rattle.lock_core.specs.declared.view.Hand.{Hand}
+use Rattle.lock_core.specs.declared.view.Held.TheVariants.{Alone}
+use Rattle.lock_core.specs.declared.view.Moment.{Moment}
+use Rattle.lock_core.specs.declared.view.Told.{Told}
 use Rattle.lock_core.specs.Layout.{record_place}
 use Rattle.lock_core.specs.Records.{row}
 use Rattle.lock_core.specs.Views.{Knows}

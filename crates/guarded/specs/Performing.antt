@@ -11,11 +11,11 @@ use Rattle.word_bits.specs.Calls.{mode_of, signal_of}
 use Rattle.word_bits.specs.Objects.{Obj, IsObjectReply}
 use Rattle.word_bits.specs.Histories.{Plan, logs, changes}
 use Rattle.word_bits.specs.Legal.{IsRecord, is_intr, seen_after}
-use Rattle.lock_views.specs.declared.how.Interrupted.{Interrupted}
-use Rattle.lock_views.specs.declared.view.Held.TheVariants.{No}
-use Rattle.lock_views.specs.declared.view.Hand.{Hand}
+use Rattle.lock_core.specs.declared.how.Interrupted.{Interrupted}
+use Rattle.lock_core.specs.declared.view.Held.TheVariants.{No}
+use Rattle.lock_core.specs.declared.view.Hand.{Hand}
 use Rattle.lock_core.specs.Views.{committed, next_entry}
-use Rattle.lock_views.specs.Tallies.{raised}
+use Rattle.lock_core.specs.Tallies.{raised}
 use Rattle.guarded.specs.declared.next.Next.{Next}
 use Rattle.lock_core.specs.Kinds.{Kind, unavailable}
 use Rattle.lock_core.specs.Shown.{Shown, NoCountFalls, IsNextCall}

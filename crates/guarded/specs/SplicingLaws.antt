@@ -1,7 +1,7 @@
 -- Laws of what changes the guarded words alone.
 use Rattle.std.specs.Prelude.{ℕ, List, refl}
 use Rattle.std.proofs.Common.{sym, ap, ◌∙◌, arith}
-use Rattle.lock_views.specs.declared.view.Hand.{Hand}
+use Rattle.lock_core.specs.declared.view.Hand.{Hand}
 use Rattle.lock_core.specs.Shown.{Shown}
 use Rattle.guarded.specs.Splicing.{ChangesWords}
 

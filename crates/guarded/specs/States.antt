@@ -5,7 +5,7 @@ use Rattle.word_bits.specs.declared.reply.Reply.{Reply}
 use Rattle.word_bits.specs.declared.reply.Reply.TheVariants.{Refused}
 use Rattle.word_bits.specs.Objects.{Obj}
 use Rattle.word_bits.specs.Histories.{Plan, state_after}
-use Rattle.lock_views.specs.declared.view.Hand.{Hand}
+use Rattle.lock_core.specs.declared.view.Hand.{Hand}
 
 module _ {Call : Type 0} (o : Obj Call) (k : Plan) (h : Hand) where
   -- the state after the log

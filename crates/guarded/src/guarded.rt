@@ -1,6 +1,6 @@
 //! An object under its lock.
 ghost use Rattle.std.specs.Prelude.{◌≡◌, ◌<◌, [], ◌∷◌, length, None, Some, IsSome, IfOk};
-ghost use Rattle.lock_views.specs.declared.view.Held.TheVariants.{No};
+ghost use Rattle.lock_core.specs.declared.view.Held.TheVariants.{No};
 ghost use Rattle.lock_core.specs.Records.{row, IsPlan};
 ghost use Rattle.lock_core.specs.Views.{gave_up, gathered};
 ghost use Rattle.lock_core.specs.SitePasses.{Numbered};
@@ -10,6 +10,7 @@ ghost use Rattle.lock_core.specs.Kinds.{unavailable};
 ghost use Rattle.lock_core.specs.Shown.{AllButHand, IsLatestStep, shown_new, shown_split, StepsOn};
 ghost use Rattle.lock_core.specs.Locking.{Looks, Has};
 ghost use Rattle.lock_core.specs.Locked.{IsLockedThen, IsSiteStep};
+ghost use Rattle.lock_core.specs.Linear.{IsLinear};
 
 use crate::served::Served;
 use lock_core::Plan;
@@ -123,8 +124,8 @@ impl<L: SleepLock<O>, O: Served + Drop> Guarded<L, O> {
 
     /// Loads, after which the pass knows what was so of the object's table at each moment so far,
     /// from the new table on: the facts of every site, that the lock's word stated who held and
-    /// whether tasks waited, and that each step did to the site's words what every step does; and
-    /// what the lock tells of its own.
+    /// whether tasks waited, that each step did to the site's words what every step does, and that
+    /// each call took effect at the step that stored its record; and what the lock tells of its own.
     pub fn recall(&self, pass: &mut L::Pass)
         requires own { L.sits (lock_of self.now) pass.old }
         ensures on { StepsOn L.sits L.view (lock_of self.now) pass.old pass.new }
@@ -138,6 +139,8 @@ impl<L: SleepLock<O>, O: Served + Drop> Guarded<L, O> {
         ensures always { EachMoment (IsLockedThen O.object L.kind O.WORDS
             (L.calls_on (lock_of self.now)) L.word_at L.waits) (L.view pass.new).past }
         ensures moves { Paced (IsSiteStep (L.calls_on (lock_of self.now)) L.word_at)
+            (L.view pass.new).past }
+        ensures linear { IsLinear O.object O.WORDS (L.calls_on (lock_of self.now))
             (L.view pass.new).past }
         ensures told { L.tells (L.calls_on (lock_of self.now)) (L.view pass.new) }
     {

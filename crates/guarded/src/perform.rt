@@ -2,7 +2,7 @@
 ghost use Rattle.std.specs.Prelude.{◌≡◌, ◌≢◌, ◌<◌, true, false, length, None, Some, IsSome, IfOk, IfErr};
 ghost use Rattle.word_bits.specs.declared.call.Mode.TheVariants.{Int, Try};
 ghost use Rattle.word_bits.specs.Calls.{signal_of};
-ghost use Rattle.lock_views.specs.declared.view.Held.TheVariants.{No, Alone};
+ghost use Rattle.lock_core.specs.declared.view.Held.TheVariants.{No, Alone};
 ghost use Rattle.lock_core.specs.Records.{row};
 ghost use Rattle.lock_core.specs.Views.{OwesNoSignal, next_entry};
 ghost use Rattle.lock_core.specs.Kinds.{shares, unavailable};

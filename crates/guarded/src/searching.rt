@@ -2,7 +2,7 @@
 ghost use Rattle.std.specs.Prelude.{◌≡◌, ◌≢◌, ◌^◌, ◌<◌, ◌≤◌, Some, drop, length, slice_get, take};
 ghost use Rattle.std.specs.List.{AllByRecursion};
 ghost use Rattle.word_bits.specs.PageMaps.{PageMap, IsPageMap, runs};
-ghost use Rattle.lock_views.specs.declared.view.Held.TheVariants.{No};
+ghost use Rattle.lock_core.specs.declared.view.Held.TheVariants.{No};
 ghost use Rattle.lock_core.specs.Shown.{StepsOn};
 ghost use Rattle.lock_core.specs.Locking.{Looks};
 ghost use Rattle.vma_map.specs.Runs.{page_map};

@@ -1,7 +1,7 @@
 //! The objects that tasks are served.
 ghost use Rattle.std.specs.Prelude.{◌≡◌, ◌≢◌, ◌⊎◌, Bool, true, false};
 ghost use Rattle.word_bits.specs.PageMaps.{PageMap, IsPageMap};
-ghost use Rattle.lock_views.specs.declared.view.Held.TheVariants.{No, Alone};
+ghost use Rattle.lock_core.specs.declared.view.Held.TheVariants.{No, Alone};
 ghost use Rattle.lock_core.specs.Shown.{StepsOn};
 ghost use Rattle.lock_core.specs.Locking.{Looks, IsStored};
 ghost use Rattle.vma_map.specs.Spaces.{IsAccess, access_reply, stores};
@@ -14,10 +14,10 @@ use crate::splicing::LockedAreas;
 use fd_table::{Fds, TableCall};
 use sleep_lock::SleepLock;
 use vma_map::{Areas, SpaceCall, apply, meet};
-use word_bits::{Object, Reply};
+use word_bits::{Reply, ValueObject};
 
 /// An object that a task looks at while others may do so too.
-pub trait Served: Object {
+pub trait Served: ValueObject {
     ghost downgrades: { Self.Call → Bool };
 
     /// Whether the call changes the object and then looks at it, for which a shared hold is enough.

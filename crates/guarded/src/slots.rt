@@ -1,6 +1,6 @@
 //! Calls on a table of descriptors, on the words that its lock guards.
 ghost use Rattle.std.specs.Prelude.{◌≡◌, ◌≢◌};
-ghost use Rattle.lock_views.specs.declared.view.Held.TheVariants.{No, Alone};
+ghost use Rattle.lock_core.specs.declared.view.Held.TheVariants.{No, Alone};
 ghost use Rattle.lock_core.specs.Shown.{StepsOn};
 ghost use Rattle.lock_core.specs.Locking.{Looks};
 ghost use Rattle.fd_table.specs.declared.call.TableCall.TheVariants.{Open, Close, Dup, Dup2, Get};

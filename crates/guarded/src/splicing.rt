@@ -1,7 +1,7 @@
 //! The areas of a space in the words that its lock guards.
 ghost use Rattle.std.specs.Prelude.{◌≡◌, ◌+◌, ◌-◌, ◌≤◌, length, map};
 ghost use Rattle.word_bits.specs.AreaWord.{area_word};
-ghost use Rattle.lock_views.specs.declared.view.Held.TheVariants.{Alone};
+ghost use Rattle.lock_core.specs.declared.view.Held.TheVariants.{Alone};
 ghost use Rattle.vma_map.specs.Runs.{AreRuns};
 ghost use Rattle.guarded.specs.CallServing.{AreZeroFrom};
 ghost use Rattle.guarded.specs.Splicing.{ChangesWords, HaveAreas, IsCleared, IsWritten, MakeRoom, MovesDown, areas_in};

@@ -1,7 +1,7 @@
 -- A pass that has just taken a number.
 use Rattle.std.proofs.Common.{◌≡◌, true, None, is_some, ap, ◌∙◌}
-use Rattle.lock_views.specs.declared.view.Hand.{Hand}
-use Rattle.lock_views.specs.declared.view.Held.TheVariants.{No}
+use Rattle.lock_core.specs.declared.view.Hand.{Hand}
+use Rattle.lock_core.specs.declared.view.Held.TheVariants.{No}
 use Rattle.lock_core.specs.Shown.{Shown}
 use Rattle.lock_bench.specs.RoundsBetween.{IsBetween}
 

@@ -1,6 +1,6 @@
 -- A pass of a lock that tasks sleep on, as the lock's callers see it, between two pairs and outside all.
 use Rattle.std.specs.Prelude.{◌≡◌, ℕ, None, IsSome}
-use Rattle.lock_views.specs.declared.view.Held.TheVariants.{No}
+use Rattle.lock_core.specs.declared.view.Held.TheVariants.{No}
 use Rattle.lock_core.specs.Shown.{Shown}
 
 -- how often it has come to hold

@@ -7,8 +7,8 @@ ghost use Rattle.lock_bench.specs.BenchRooms.{but_one};
 
 use crate::plan::with_faults;
 use crate::timed::Timed;
+use lock_core::SiteLock;
 use seq_fault::{SeqSpace, SpacePass};
-use site_lock::SiteLock;
 use std::alloc::{AllocError, Global};
 use std::sync::Wait;
 

@@ -13,11 +13,11 @@ use Rattle.word_bits.specs.LockWords.{Unavailable}
 use Rattle.word_bits.specs.Objects.{Obj}
 use Rattle.word_bits.specs.Histories.{Plan, Records}
 use Rattle.word_bits.specs.Legal.{signals_to}
-use Rattle.lock_views.specs.declared.view.Hand.{Hand}
-use Rattle.lock_views.specs.declared.view.Held.{Held}
-use Rattle.lock_views.specs.declared.view.Held.TheVariants.{No, Shared, Alone}
-use Rattle.lock_views.specs.declared.view.Stage.{Stage}
-use Rattle.lock_views.specs.declared.view.Stage.TheVariants.{Rest, Entered, Logged}
+use Rattle.lock_core.specs.declared.view.Hand.{Hand}
+use Rattle.lock_core.specs.declared.view.Held.{Held}
+use Rattle.lock_core.specs.declared.view.Held.TheVariants.{No, Shared, Alone}
+use Rattle.lock_core.specs.declared.view.Stage.{Stage}
+use Rattle.lock_core.specs.declared.view.Stage.TheVariants.{Rest, Entered, Logged}
 use Rattle.lock_core.specs.Layout.{SiteWords}
 use Rattle.lock_core.specs.Records.{bit, row, is_sent, task_sends, sends, intrs, AreNext}
 use Rattle.lock_core.specs.Views.{is_number, held_weight, alone_weight, owed_weight, held_of, alone_of, owed_of, named_of, sent_of}

@@ -4,11 +4,11 @@ use mathlib.Core.Option.{some}
 use lib.ListN.{get_elem?}
 use Rattle.word_bits.specs.declared.entry.Entry.{Entry}
 use Rattle.word_bits.specs.Histories.{Plan}
-use Rattle.lock_views.specs.declared.view.Hand.{Hand}
-use Rattle.lock_views.specs.declared.view.Held.{Held}
-use Rattle.lock_views.specs.declared.view.Held.TheVariants.{No, Shared, Alone}
-use Rattle.lock_views.specs.declared.view.Stage.{Stage}
-use Rattle.lock_views.specs.declared.view.Stage.TheVariants.{Rest, Entered, Logged}
+use Rattle.lock_core.specs.declared.view.Hand.{Hand}
+use Rattle.lock_core.specs.declared.view.Held.{Held}
+use Rattle.lock_core.specs.declared.view.Held.TheVariants.{No, Shared, Alone}
+use Rattle.lock_core.specs.declared.view.Stage.{Stage}
+use Rattle.lock_core.specs.declared.view.Stage.TheVariants.{Rest, Entered, Logged}
 use Rattle.lock_core.specs.Records.{bit}
 use Rattle.lock_core.specs.Views.{stranger, longer, held_weight, alone_weight, owed_weight, is_number, consumed_weight, held_of, alone_of, writes_of, owed_of, named_of, sent_of, consumed_of}
 use Rattle.lock_core.specs.Sites.{tally}

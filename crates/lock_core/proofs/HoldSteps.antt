@@ -6,12 +6,12 @@ use Rattle.word_bits.specs.LockWords.{Unavailable}
 use Rattle.word_bits.specs.Objects.{Obj}
 use Rattle.word_bits.specs.declared.entry.Entry.{Entry}
 use Rattle.word_bits.specs.Histories.{Plan, Records, state_after}
-use Rattle.lock_views.specs.declared.view.Hand.{Hand}
-use Rattle.lock_views.specs.declared.view.Saw.{Saw}
-use Rattle.lock_views.specs.declared.view.Held.{Held}
-use Rattle.lock_views.specs.declared.view.Held.TheVariants.{No, Shared, Alone}
-use Rattle.lock_views.specs.declared.view.Stage.{Stage}
-use Rattle.lock_views.specs.declared.view.Stage.TheVariants.{Rest, Entered, Logged}
+use Rattle.lock_core.specs.declared.view.Hand.{Hand}
+use Rattle.lock_core.specs.declared.view.Saw.{Saw}
+use Rattle.lock_core.specs.declared.view.Held.{Held}
+use Rattle.lock_core.specs.declared.view.Held.TheVariants.{No, Shared, Alone}
+use Rattle.lock_core.specs.declared.view.Stage.{Stage}
+use Rattle.lock_core.specs.declared.view.Stage.TheVariants.{Rest, Entered, Logged}
 use Rattle.lock_core.specs.Layout.{SiteWords}
 use Rattle.lock_core.specs.Records.{bit}
 use Rattle.lock_core.specs.Views.{took, held_weight, alone_weight, held_of, alone_of, writes_of, owed_of, named_of, sent_of, consumed_of}
@@ -42,8 +42,8 @@ module _ {Call : Type 0} (o : Obj Call) (unavailable : Unavailable) (size : ℕ)
   abbrev Kept : SiteWords → List Hand → Type 0
   Kept = SiteKept o unavailable size k
 
-  -- where nobody holds alone, the guarded words are the state after the log
-  pub quiet-state : (w : SiteWords) (hs : List Hand) (r : Kept w hs) → total alone_of hs ≡ 0 → take size w.guarded ≡ o.stores (state_after o k r.log)
+  -- where nobody holds alone, the guarded words represent the state after the log
+  pub quiet-state : (w : SiteWords) (hs : List Hand) (r : Kept w hs) → total alone_of hs ≡ 0 → o.Represents (state_after o k r.log) (take size w.guarded)
   quiet-state w hs r none = r.balances.quiet (let a = writing w hs r in omega arith)
     where
       writes-least : (hs : List Hand) → Each (λ h. h.writes ≡ true → h.held ≡ Alone) hs → total writes_of hs ≤ total alone_of hs

@@ -6,10 +6,10 @@ use mathlib.Core.List.{map-append}
 use lib.ListN.{get_elem?}
 use lib.Seq.{map-set, set-get_or}
 use Rattle.atomic_table.proofs.Lists.{at_map}
-use Rattle.lock_views.specs.declared.view.View.{View}
-use Rattle.lock_views.specs.declared.view.Moment.{Moment}
-use Rattle.lock_views.specs.declared.view.Past.{Past}
-use Rattle.lock_views.specs.declared.view.Seen.{Seen}
+use Rattle.lock_core.specs.declared.view.View.{View}
+use Rattle.lock_core.specs.declared.view.Moment.{Moment}
+use Rattle.lock_core.specs.declared.view.Past.{Past}
+use Rattle.lock_core.specs.declared.view.Seen.{Seen}
 use Rattle.lock_core.specs.Moves.{Goes}
 use Rattle.lock_core.specs.ViewParts.{each-set, each-snoc, set-there}
 use Rattle.lock_core.specs.Views.{hand_of, spin_of}

@@ -1,5 +1,5 @@
 -- What a pass knows that has taken a number.
-use Rattle.std.proofs.Common.{◌≡◌, ℕ, zero, suc, ◌+◌, ◌*◌, ◌<◌, ◌≤◌, max, List, [], ◌∷◌, length, take, get_or, set, slice_get, Some, None, refl, sym, ap, subst, ◌∙◌, arith, length-take-le, inl, inr}
+use Rattle.std.proofs.Common.{◌≡◌, ℕ, zero, suc, ◌+◌, ◌*◌, ◌<◌, ◌≤◌, max, Bool, List, [], ◌∷◌, length, take, get_or, set, slice_get, Some, None, refl, sym, ap, subst, ◌∙◌, arith, length-take-le, inl, inr}
 use mathlib.Core.Option.{some}
 use lib.ListN.{get_elem?}
 use Rattle.word_bits.specs.declared.call.CallWords.{CallWords}
@@ -9,8 +9,8 @@ use Rattle.word_bits.specs.LockWords.{Unavailable}
 use Rattle.word_bits.specs.Objects.{Obj}
 use Rattle.word_bits.specs.Histories.{Plan, logs}
 use Rattle.word_bits.specs.Legal.{seen_after}
-use Rattle.lock_views.specs.declared.view.Hand.{Hand}
-use Rattle.lock_views.specs.declared.view.View.{View}
+use Rattle.lock_core.specs.declared.view.Hand.{Hand}
+use Rattle.lock_core.specs.declared.view.View.{View}
 use Rattle.lock_core.specs.Layout.{SiteWords, lay}
 use Rattle.lock_core.specs.Plans.{calls_in}
 use Rattle.lock_core.specs.Records.{row, AreNext, seen_by}
@@ -19,8 +19,8 @@ use Rattle.lock_core.specs.Sites.{SiteKept, SiteStep}
 use Rattle.lock_core.specs.Moves.{KeepsHold}
 use Rattle.atomic_table.specs.Table.{Me}
 use Rattle.atomic_table.specs.Seated.{TableId}
-use Rattle.lock_views.specs.declared.view.Seen.{Seen}
-use Rattle.lock_views.specs.declared.view.Held.{Held}
+use Rattle.lock_core.specs.declared.view.Seen.{Seen}
+use Rattle.lock_core.specs.declared.view.Held.{Held}
 use Rattle.lock_core.specs.declared.pass.Face.{Face}
 use Rattle.lock_core.specs.SitePasses.{Sits, Numbered}
 use Rattle.lock_core.specs.Regions.{part-at}
@@ -69,10 +69,10 @@ module _ {E Call : Type 0} (o : Obj Call) (unavailable : Unavailable) (size : �
   abbrev Kept : SiteWords → List Hand → Type 0
   Kept = SiteKept o unavailable size k
 
-  pub begins-there : (s : List ℕ) (hs : List Hand) (id t : ℕ) (v : View E) → t < length k → Kept (lay k s) hs → get_elem? hs id ≡ some v.hand → v.hand.task ≡ None → get_or s (LINES_AT + 8 * t) 0 ≡ 0
-      → (g : Hand) × Numbered o unavailable k v.hand t g × KeepsHold rests v g × Kept (lay k (set s (LINES_AT + 8 * t) 1)) (set hs id g) × SiteStep (v.steps + 1) (lay k s) (lay k (set s (LINES_AT + 8 * t) 1)) v.hand g
+  pub begins-there : {unheld : Bool} (s : List ℕ) (hs : List Hand) (id t : ℕ) (v : View E) → t < length k → Kept (lay k s) hs → get_elem? hs id ≡ some v.hand → v.hand.task ≡ None → get_or s (LINES_AT + 8 * t) 0 ≡ 0
+      → (g : Hand) × Numbered o unavailable k v.hand t g × KeepsHold rests v g × Kept (lay k (set s (LINES_AT + 8 * t) 1)) (set hs id g) × SiteStep unheld (v.steps + 1) (lay k s) (lay k (set s (LINES_AT + 8 * t) 1)) v.hand g
   begins-there s hs id t v inside r at out zero_there = let few = r.laid.small.tasks in let rs = row r.told t in let g : Hand = became v.hand t rs (longer v.hand.seen (take (seen_by o 0 (row k t) rs) r.log)) in
-      let kept = line-stored o unavailable size k s (set hs id g) (8 * t) 1 v.hand g (omega (arith, inside, few)) (record { misses = omega arith; freed = λ _. refl; takes = omega arith; comes = λ out holds. absurd (holds out) }, refl) (site-begins o unavailable size k (lay k s) hs id t v.hand r at out inside (part-at s LINES_AT (8 * MAX_TASKS) (8 * t) (omega (arith, inside, few)) ∙ zero_there)) in
+      let kept = line-stored o unavailable size k s (set hs id g) (8 * t) 1 v.hand g (omega (arith, inside, few)) (record { misses = omega arith; freed = λ _. refl; takes = omega arith; comes = λ out holds. absurd (holds out) }, refl, refl) (site-begins o unavailable size k (lay k s) hs id t v.hand r at out inside (part-at s LINES_AT (8 * MAX_TASKS) (8 * t) (omega (arith, inside, few)) ∙ zero_there)) in
       (g, (rs, r.log, r.tells.legal t, r.tells.within, refl), (refl, inr (inl out), (refl, inr refl)), kept.0, kept.1)
 
 module _ {Call : Type 0} (o : Obj Call) (unavailable : Unavailable) (k : Plan) (h g : Hand) (t : ℕ) (n : Numbered o unavailable k h t g) where

@@ -7,7 +7,7 @@ use Rattle.word_bits.specs.declared.rec.Rec.{Rec}
 use Rattle.word_bits.specs.LockWords.{Unavailable}
 use Rattle.word_bits.specs.Objects.{Obj}
 use Rattle.word_bits.specs.Histories.{Plan, Records}
-use Rattle.lock_views.specs.declared.view.Hand.{Hand}
+use Rattle.lock_core.specs.declared.view.Hand.{Hand}
 use Rattle.lock_core.specs.declared.layout.TheConstants.{LOCK_WORDS, ENTRIES_AT, LENGTH_AT, LINES_AT}
 use Rattle.lock_core.specs.Plans.{calls_in, task_words, call_words, IsSmall}
 use Rattle.lock_core.specs.Layout.{SiteWords, part, calls_at, width, lay, fresh, site}
@@ -93,7 +93,7 @@ pub fresh-free : (k : Plan) (i : ℕ) → i < LOCK_WORDS → get_or (fresh k) i 
 fresh-free k i l = zero-in (LOCK_WORDS + calls_at k) i (call_words k) (omega arith)
 
 module _ {Call : Type 0} (o : Obj Call) (unavailable : Unavailable) (size : ℕ) (k : Plan) where
-  opens : IsSmall k → IsPlan o k → size ≤ 257 → o.stores o.empty ≡ replicate size 0 → SiteKept o unavailable size k (lay k (replicate {A = ℕ} (calls_at k) 0 ++ call_words k)) (stranger (Some k) [] ∷ [])
+  opens : IsSmall k → IsPlan o k → size ≤ 257 → o.Represents o.empty (replicate size 0) → SiteKept o unavailable size k (lay k (replicate {A = ℕ} (calls_at k) 0 ++ call_words k)) (stranger (Some k) [] ∷ [])
   opens small planned fits zeros = let n : ℕ = calls_at k in let cs : List ℕ = call_words k in let s : List ℕ = replicate {A = ℕ} n 0 ++ cs in let w : SiteWords = lay k s in
       let told : Records = replicate {A = List Rec} (length k) [] in let h : Hand = stranger (Some k) [] in
       let guarded : w.guarded ≡ replicate {A = ℕ} LINES_AT 0 = take-zeros LINES_AT n cs (omega arith) in
@@ -124,7 +124,7 @@ module _ {Call : Type 0} (o : Obj Call) (unavailable : Unavailable) (size : ℕ)
         };
         balances = record {
           apart = λ l. absurd (omega (arith, l));
-          quiet = λ _. ap (take size) guarded ∙ (take-front size (omega (arith, fits)) ∙ sym zeros);
+          quiet = λ _. subst (λ (z : List ℕ). o.Represents o.empty z) (sym (ap (take size) guarded ∙ take-front size (omega (arith, fits)))) zeros;
           recorded = λ j e there l. none-some e there;
           few = omega arith;
           named = λ t l. (line (taken_at t), omega arith);
@@ -145,15 +145,15 @@ module _ {Call : Type 0} (o : Obj Call) (unavailable : Unavailable) (size : ℕ)
       none-next t (w ∷ ws) = tt
 
   -- the site's facts hold of a new table
-  pub site-opens : IsSmall k → IsPlan o k → size ≤ 257 → o.stores o.empty ≡ replicate size 0 → SiteKept o unavailable size k (site k (fresh k)) (stranger (Some k) [] ∷ [])
+  pub site-opens : IsSmall k → IsPlan o k → size ≤ 257 → o.Represents o.empty (replicate size 0) → SiteKept o unavailable size k (site k (fresh k)) (stranger (Some k) [] ∷ [])
   site-opens small planned fits zeros = subst (λ (s : List ℕ). SiteKept o unavailable size k (lay k s) (stranger (Some k) [] ∷ [])) (sym (fresh-site k)) (opens small planned fits zeros)
 
   -- such a table is new
-  pub fresh-new : {E : Type 0} (marks : E → List ℕ) (idle : E) → size ≤ 257 → o.stores o.empty ≡ replicate size 0 → IsNew o size k (opening marks k idle)
+  pub fresh-new : {E : Type 0} (marks : E → List ℕ) (idle : E) → size ≤ 257 → o.Represents o.empty (replicate size 0) → IsNew o size k (opening marks k idle)
   fresh-new marks idle fits zeros = let n : ℕ = calls_at k in let cs : List ℕ = call_words k in let there = fresh-site k in record {
     free = fresh-free k;
     lines = λ i. ap (λ (s : List ℕ). get_or (take (8 * MAX_TASKS) (drop LINES_AT s)) i 0) there ∙ (ap (λ (s : List ℕ). get_or s i 0) (part-zeros LINES_AT (8 * MAX_TASKS) n cs (omega arith)) ∙ zero-at (8 * MAX_TASKS) i);
-    stored = ap (λ (s : List ℕ). take size (take LINES_AT s)) there ∙ (ap (take size) (take-zeros LINES_AT n cs (omega arith)) ∙ (front size (omega (arith, fits)) ∙ sym zeros));
+    stored = subst (λ (z : List ℕ). o.Represents o.empty z) (sym (ap (λ (s : List ℕ). take size (take LINES_AT s)) there ∙ (ap (take size) (take-zeros LINES_AT n cs (omega arith)) ∙ front size (omega (arith, fits))))) zeros;
     logged = ap (λ (s : List ℕ). get_or s LENGTH_AT 0) there ∙ zero-in n LENGTH_AT cs (omega arith);
     recorded = ap (λ (s : List ℕ). take (calls_in k) (drop (ENTRIES_AT + calls_in k) s)) there ∙ part-zeros (ENTRIES_AT + calls_in k) (calls_in k) n cs (omega arith);
     hands = refl;

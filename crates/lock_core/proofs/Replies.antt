@@ -1,5 +1,5 @@
 -- What an object replies, and the words of records and entries.
-use Rattle.std.proofs.Common.{◌≡◌, ℕ, ◌/◌, ◌%◌, ◌^◌, ◌<◌, ap, subst, List, slice_get, Some, refl, arith}
+use Rattle.std.proofs.Common.{◌≡◌, ◌≢◌, ℕ, ◌/◌, ◌%◌, ◌^◌, ◌<◌, ◌⊎◌, inl, inr, ⊎_elim, Bool, true, ap, subst, List, slice_get, Some, refl, arith}
 use Rattle.word_bits.specs.declared.call.CallWords.{CallWords}
 use Rattle.word_bits.specs.declared.entry.Entry.{Entry}
 use Rattle.word_bits.specs.declared.reply.Errno.{Errno}
@@ -12,11 +12,12 @@ use Rattle.word_bits.specs.RecWord.{value_of}
 use Rattle.word_bits.specs.Objects.{Obj, IsObjectReply}
 use Rattle.word_bits.specs.Histories.{Plan, state_after}
 use Rattle.word_bits.proofs.States.{state_is_state}
-use Rattle.lock_views.specs.declared.view.Hand.{Hand}
+use Rattle.lock_core.specs.declared.view.Hand.{Hand}
+use Rattle.lock_core.specs.declared.view.Held.TheVariants.{No}
 use Rattle.lock_core.specs.SitePasses.{Accounts}
 use Rattle.lock_core.specs.Records.{row}
-use Rattle.lock_core.specs.Sites.{HasSent}
-use Rattle.lock_core.specs.Views.{entry_of, settled, OwesNoSignal}
+use Rattle.lock_core.specs.Sites.{HasSent, ServedBy, StandsLast}
+use Rattle.lock_core.specs.Views.{entry_of, owed_of, settled, OwesNoSignal}
 
 errno-small : (e : Errno) → errno_number e < 2 ^ 22
 errno-small BadF = omega arith
@@ -71,6 +72,45 @@ settled-object h AccErr i = refl
 settled-object h (Busy n) i = absurd i
 settled-object h Intr i = absurd i
 settled-object h Sent i = absurd i
+
+-- a call with a reply of the object is recorded under a hold, where the log ends
+pub served-last : (unheld : Bool) (len place : ℕ) (h : Hand) (r : Reply) → IsObjectReply r → StandsLast len h place → ServedBy unheld len h place r
+served-last unheld len place h Good i s = inl s
+served-last unheld len place h (Num n) i s = inl s
+served-last unheld len place h (Refused e) i s = inl s
+served-last unheld len place h MapErr i s = inl s
+served-last unheld len place h AccErr i s = inl s
+served-last unheld len place h (Busy w) i s = absurd i
+served-last unheld len place h Intr i s = absurd i
+served-last unheld len place h Sent i s = absurd i
+
+-- or without one, where calls may read so
+pub served-unheld : (unheld : Bool) (len place : ℕ) (h : Hand) (r : Reply) → IsObjectReply r → unheld ≡ true → owed_of h ≡ 0 → ServedBy unheld len h place r
+served-unheld unheld len place h Good i may none = inr (may, none)
+served-unheld unheld len place h (Num n) i may none = inr (may, none)
+served-unheld unheld len place h (Refused e) i may none = inr (may, none)
+served-unheld unheld len place h MapErr i may none = inr (may, none)
+served-unheld unheld len place h AccErr i may none = inr (may, none)
+served-unheld unheld len place h (Busy w) i may none = absurd i
+served-unheld unheld len place h Intr i may none = absurd i
+served-unheld unheld len place h Sent i may none = absurd i
+
+-- who holds knows how long the log is
+pub served-len : (unheld : Bool) (n m : ℕ) (h : Hand) (place : ℕ) (r : Reply) → (h.held ≢ No → n ≡ m) → ServedBy unheld n h place r → ServedBy unheld m h place r
+served-len unheld n m h place r same s = by r s
+  where
+    stands : StandsLast n h place ⊎ ((unheld ≡ true) × (owed_of h ≡ 0)) → StandsLast m h place ⊎ ((unheld ≡ true) × (owed_of h ≡ 0))
+    stands t = ⊎_elim (λ (u : StandsLast n h place). let e = same u.0 in let l = u.1 in inl (u.0, omega (arith, e, l))) (λ u. inr u) t
+
+    by : (r : Reply) → ServedBy unheld n h place r → ServedBy unheld m h place r
+    by Good s = stands s
+    by (Num k) s = stands s
+    by (Refused e) s = stands s
+    by MapErr s = stands s
+    by AccErr s = stands s
+    by (Busy w) s = s
+    by Intr s = s
+    by Sent s = s
 
 module _ {Call : Type 0} (o : Obj Call) (starts : o.IsState o.empty) (called : (words : CallWords) (call : Call) → o.call_of words ≡ Some call → o.IsCall call)
     (goes_on : (s : o.State) (call : Call) → o.IsState s → o.IsCall call → o.IsState (o.meaning s call).0)

@@ -16,8 +16,8 @@ use Rattle.word_bits.specs.LockWords.{Unavailable}
 use Rattle.word_bits.specs.Objects.{Obj}
 use Rattle.word_bits.specs.Histories.{Plan, Records}
 use Rattle.word_bits.specs.Legal.{is_intr, signals_to}
-use Rattle.lock_views.specs.declared.view.Hand.{Hand}
-use Rattle.lock_views.specs.declared.view.Heard.{Heard}
+use Rattle.lock_core.specs.declared.view.Hand.{Hand}
+use Rattle.lock_core.specs.declared.view.Heard.{Heard}
 use Rattle.lock_core.specs.Plans.{appended, calls_in}
 use Rattle.lock_core.specs.Layout.{SiteWords}
 use Rattle.lock_core.specs.Records.{bit, row, is_sent, task_sends, sends, intrs}

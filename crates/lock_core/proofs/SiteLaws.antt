@@ -1,5 +1,5 @@
 -- The steps on a site's words, from the laws of `SiteRule`.
-use Rattle.std.proofs.Common.{◌-◌, ◌≡◌, ◌≢◌, ℕ, ◌+◌, inl, inr, List, [], ◌∷◌, ◌++◌, get_or, map, set, drop, None, Some, refl, sym, ap, subst, ◌∙◌, arith, ◌%◌, ◌<◌, ◌≤◌, length}
+use Rattle.std.proofs.Common.{Bool, ◌-◌, ◌≡◌, ◌≢◌, ℕ, ◌+◌, inl, inr, List, [], ◌∷◌, ◌++◌, get_or, map, set, drop, None, Some, refl, sym, ap, subst, ◌∙◌, arith, ◌%◌, ◌<◌, ◌≤◌, length}
 use Rattle.std.proofs.lemmas.List.{get_or-drop, drop-set-add}
 use mathlib.Core.Option.{some, none}
 use mathlib.Core.List.{map-append}
@@ -10,20 +10,20 @@ use Rattle.atomic_table.proofs.Lists.{at_map, set_again, set_else}
 use Rattle.word_bits.specs.LockWords.{Unavailable}
 use Rattle.word_bits.specs.Objects.{Obj}
 use Rattle.word_bits.specs.Histories.{Plan}
-use Rattle.lock_views.specs.declared.op.Op.TheVariants.{Load, Store, Exchange, Add}
-use Rattle.lock_views.specs.declared.view.View.{View}
-use Rattle.lock_views.specs.declared.view.Seen.{Seen}
-use Rattle.lock_views.specs.declared.view.Hand.{Hand}
-use Rattle.lock_views.specs.declared.view.SpinHand.{SpinHand}
-use Rattle.lock_views.specs.declared.view.Held.TheVariants.{No}
+use Rattle.lock_core.specs.declared.op.Op.TheVariants.{Load, Store, Exchange, Add}
+use Rattle.lock_core.specs.declared.view.View.{View}
+use Rattle.lock_core.specs.declared.view.Seen.{Seen}
+use Rattle.lock_core.specs.declared.view.Hand.{Hand}
+use Rattle.lock_core.specs.declared.view.SpinHand.{SpinHand}
+use Rattle.lock_core.specs.declared.view.Held.TheVariants.{No}
 use Rattle.lock_core.specs.declared.layout.TheConstants.{LOCK_WORDS}
 use Rattle.lock_core.specs.Layout.{SiteWords, lay, site}
 use Rattle.lock_core.specs.Views.{SpinStays, hand_of, handed, seated, forgot, with_number, ticked, split_off, merged, spent, stranger, gathered}
 use Rattle.lock_core.specs.Sites.{HandGoes, SiteKept, SiteStep}
-use Rattle.lock_core.specs.Moves.{Goes, Lets, KeepsHold, SiteMove}
+use Rattle.lock_core.specs.Moves.{Goes, Lets, KeepsHold, SiteMoveWhere}
 use Rattle.lock_core.specs.MoveLaws.{saw-stays, set-moves, tick-moved, seat-moved, hand-moved, leaves-site}
 use Rattle.lock_core.specs.SitePlays.{Found, PutBy, Begun, Heeded}
-use Rattle.lock_views.specs.declared.view.Moment.{Moment}
+use Rattle.lock_core.specs.declared.view.Moment.{Moment}
 use Rattle.lock_core.specs.Pasts.{ChangesOneWord, KeepsJoined, GoesOn, Instant, instant, view_of, moment, Moves, Lived, Ran, IsMarked, IsOwnStep}
 use Rattle.lock_core.proofs.RowLaws.{same-some}
 use Rattle.lock_core.proofs.Living.{older, goes-on, grown, lived-after, own-step, own-marks}
@@ -33,11 +33,11 @@ use Rattle.lock_core.specs.Stored.{LivedStored}
 use Rattle.lock_core.proofs.Storing.{allows-stored, stored-first}
 use Rattle.lock_core.proofs.SeatSteps.{site-splits, site-gathers, site-leaves}
 
-module _ {E Call : Type 0} (o : Obj Call) (unavailable : Unavailable) (size : ℕ) (k : Plan) (rests : View E → Type 0)
+module _ {E Call : Type 0} {unheld : Bool} (o : Obj Call) (unavailable : Unavailable) (size : ℕ) (k : Plan) (rests : View E → Type 0)
     (holds : List ℕ → List (View E) → Type 0) (moves : ℕ → List ℕ → List (View E) → List ℕ → List (View E) → Type 0)
     (word_at : ℕ) (kept : (ws : List ℕ) (vs : List (View E)) → holds ws vs → SiteKept o unavailable size k (site k ws) (map hand_of vs))
     (sites : (ws : List ℕ) (vs : List (View E)) (id i n : ℕ) (v : View E) (h : Hand) (s : SpinHand) → holds ws vs → get_elem? vs id ≡ some v → KeepsHold rests v h → SpinStays v.spin s
-    → SiteKept o unavailable size k (site k (set ws (LOCK_WORDS + i) n)) (set (map hand_of vs) id h) → SiteMove id (get_or ws word_at 0) (site k ws) vs (site k (set ws (LOCK_WORDS + i) n)) (set vs id (seated v h s))
+    → SiteKept o unavailable size k (site k (set ws (LOCK_WORDS + i) n)) (set (map hand_of vs) id h) → SiteMoveWhere unheld id (get_or ws word_at 0) (site k ws) vs (site k (set ws (LOCK_WORDS + i) n)) (set vs id (seated v h s))
     → Goes holds moves id ws vs (set ws (LOCK_WORDS + i) n) (set vs id (seated v h s))) where
   abbrev M : Type 0
   M = Me (Unit {0}) (View E)
@@ -49,7 +49,7 @@ module _ {E Call : Type 0} (o : Obj Call) (unavailable : Unavailable) (size : �
   looks ws vs id at v h there = let n : ℕ = get_or ws (LOCK_WORDS + at) 0 in let same : set ws (LOCK_WORDS + at) n ≡ ws = set-get_or ws (LOCK_WORDS + at) 0 in
       let keeps : Kept (site k (set ws (LOCK_WORDS + at) n)) (set (map hand_of vs) id v.hand) = subst (λ (z : List ℕ). Kept (site k z) (set (map hand_of vs) id v.hand)) (sym same)
       (subst (Kept (site k ws)) (sym (set_again (map hand_of vs) id v.hand (at_map hand_of vs id v there))) (kept ws vs h)) in
-      let step : SiteMove id (get_or ws word_at 0) (site k ws) vs (site k (set ws (LOCK_WORDS + at) n)) (set vs id (ticked v)) = subst (λ (z : List ℕ). SiteMove id (get_or ws word_at 0) (site k ws) vs (site k z) (set vs id (ticked v))) (sym same) (set-moves id (site k ws) (site k ws) vs v (ticked v) there (tick-moved (site k ws) v)) in
+      let step : SiteMoveWhere unheld id (get_or ws word_at 0) (site k ws) vs (site k (set ws (LOCK_WORDS + at) n)) (set vs id (ticked v)) = subst (λ (z : List ℕ). SiteMoveWhere unheld id (get_or ws word_at 0) (site k ws) vs (site k z) (set vs id (ticked v))) (sym same) (set-moves id (site k ws) (site k ws) vs v (ticked v) there (tick-moved (site k ws) v)) in
       subst (λ (z : List ℕ). Goes holds moves id ws vs z (set vs id (ticked v))) same (sites ws vs id at n v v.hand v.spin h there (refl, inl refl, saw-stays v.hand) (inl refl) keeps step)
 
   -- a load that tells something
@@ -60,19 +60,19 @@ module _ {E Call : Type 0} (o : Obj Call) (unavailable : Unavailable) (size : �
 
   -- a store that changes the hand
   changes : (ws : List ℕ) (vs : List (View E)) (id at new : ℕ) (v : View E) (g : Hand) (s : SpinHand) → holds ws vs → get_elem? vs id ≡ some v → KeepsHold rests v g → SpinStays v.spin s
-      → Kept (lay k (set (drop LOCK_WORDS ws) at new)) (set (map hand_of vs) id g) × SiteStep (v.steps + 1) (lay k (drop LOCK_WORDS ws)) (lay k (set (drop LOCK_WORDS ws) at new)) v.hand g → Goes holds moves id ws vs (set ws (LOCK_WORDS + at) new) (set vs id (seated v g s))
+      → Kept (lay k (set (drop LOCK_WORDS ws) at new)) (set (map hand_of vs) id g) × SiteStep unheld (v.steps + 1) (lay k (drop LOCK_WORDS ws)) (lay k (set (drop LOCK_WORDS ws) at new)) v.hand g → Goes holds moves id ws vs (set ws (LOCK_WORDS + at) new) (set vs id (seated v g s))
   changes ws vs id at new v g s h there same stays step = let e : lay k (set (drop LOCK_WORDS ws) at new) ≡ site k (set ws (LOCK_WORDS + at) new) = sym (ap (lay k) (drop-set-add LOCK_WORDS ws at new)) in
-      sites ws vs id at new v g s h there same stays (subst (λ (w : SiteWords). Kept w (set (map hand_of vs) id g)) e step.0) (set-moves id (site k ws) (site k (set ws (LOCK_WORDS + at) new)) vs v (seated v g s) there (seat-moved (site k ws) (site k (set ws (LOCK_WORDS + at) new)) v g s stays same.2 (subst (λ (w : SiteWords). SiteStep (v.steps + 1) (site k ws) w v.hand g) e step.1)))
+      sites ws vs id at new v g s h there same stays (subst (λ (w : SiteWords). Kept w (set (map hand_of vs) id g)) e step.0) (set-moves id (site k ws) (site k (set ws (LOCK_WORDS + at) new)) vs v (seated v g s) there (seat-moved (site k ws) (site k (set ws (LOCK_WORDS + at) new)) v g s stays same.2 (subst (λ (w : SiteWords). SiteStep unheld (v.steps + 1) (site k ws) w v.hand g) e step.1)))
 
   pub puts : (slots id at new : ℕ) (me : M) (g : Hand) → KeepsHold rests me.0 g
-      → ((s : List ℕ) (hs : List Hand) → Kept (lay k s) hs → get_elem? hs id ≡ some me.0.hand → Kept (lay k (set s at new)) (set hs id g) × SiteStep (me.0.steps + 1) (lay k s) (lay k (set s at new)) me.0.hand g)
+      → ((s : List ℕ) (hs : List Hand) → Kept (lay k s) hs → get_elem? hs id ≡ some me.0.hand → Kept (lay k (set s at new)) (set hs id g) × SiteStep unheld (me.0.steps + 1) (lay k s) (lay k (set s at new)) me.0.hand g)
       → Lets holds moves slots id me (LOCK_WORDS + at) (Store new) (λ _. PutBy g (step slots (LOCK_WORDS + at) new 0 none) me new)
   puts slots id at new me g same law = stores holds moves slots id (LOCK_WORDS + at) new me (handed me.0 g) (λ _. PutBy g (step slots (LOCK_WORDS + at) new 0 none) me new) refl
       (λ ws vs h there. (changes ws vs id at new me.0 g me.0.spin h there same (inl refl) (law (drop LOCK_WORDS ws) (map hand_of vs) (kept ws vs h) (at_map hand_of vs id me.0 there)), (refl, refl)))
 
   -- a fetch-add that changes the hand
   pub adds : (slots id at by : ℕ) (me : M) (g : Hand) → KeepsHold rests me.0 g
-      → ((s : List ℕ) (hs : List Hand) → Kept (lay k s) hs → get_elem? hs id ≡ some me.0.hand → (get_or s at 0 + by < 18446744073709551616) × Kept (lay k (set s at (get_or s at 0 + by))) (set hs id g) × SiteStep (me.0.steps + 1) (lay k s) (lay k (set s at (get_or s at 0 + by))) me.0.hand g)
+      → ((s : List ℕ) (hs : List Hand) → Kept (lay k s) hs → get_elem? hs id ≡ some me.0.hand → (get_or s at 0 + by < 18446744073709551616) × Kept (lay k (set s at (get_or s at 0 + by))) (set hs id g) × SiteStep unheld (me.0.steps + 1) (lay k s) (lay k (set s at (get_or s at 0 + by))) me.0.hand g)
       → Lets holds moves slots id me (LOCK_WORDS + at) (Add by) (PutBy g (step slots (LOCK_WORDS + at) by 0 none) me)
   adds slots id at by me g same law = modifies holds moves slots id (LOCK_WORDS + at) me (Add by) (handed me.0 g) (PutBy g (step slots (LOCK_WORDS + at) by 0 none) me) refl
       (λ ws vs h there small. let t = law (drop LOCK_WORDS ws) (map hand_of vs) (kept ws vs h) (at_map hand_of vs id me.0 there) in let fits = t.0 in let here : get_or (drop LOCK_WORDS ws) at 0 ≡ get_or ws (LOCK_WORDS + at) 0 = get_or-drop LOCK_WORDS ws at 0 in
@@ -88,7 +88,7 @@ module _ {E Call : Type 0} (o : Obj Call) (unavailable : Unavailable) (size : �
         w,
         keeps,
         tt,
-        sites ws vs id at n v t.0 v.spin h there t.2 (inl refl) (subst (λ (z : List ℕ). Kept (site k z) (set (map hand_of vs) id t.0)) (sym same) t.3) (subst (λ (z : List ℕ). SiteMove id (get_or ws word_at 0) (site k ws) vs (site k z) (set vs id w)) (sym same) (set-moves id (site k ws) (site k ws) vs v w there (hand-moved (site k ws) (site k ws) v t.0 t.2.2 (leaves-site (site k ws) v.hand t.0 t.4)))),
+        sites ws vs id at n v t.0 v.spin h there t.2 (inl refl) (subst (λ (z : List ℕ). Kept (site k z) (set (map hand_of vs) id t.0)) (sym same) t.3) (subst (λ (z : List ℕ). SiteMoveWhere unheld id (get_or ws word_at 0) (site k ws) vs (site k z) (set vs id w)) (sym same) (set-moves id (site k ws) (site k ws) vs v w there (hand-moved (site k ws) (site k ws) v t.0 t.2.2 (leaves-site (site k ws) v.hand t.0 t.4)))),
         refl,
         (t.0, subst (λ (z : ℕ). becomes v.hand z t.0) (get_or-drop LOCK_WORDS ws at 0) t.1, (refl, refl)),
       )
@@ -96,7 +96,7 @@ module _ {E Call : Type 0} (o : Obj Call) (unavailable : Unavailable) (size : �
   -- a compare-exchange that looks where it misses
   pub begins : (becomes : Hand → Type 0) (slots id at old new : ℕ) (me : M)
       → ((s : List ℕ) (hs : List Hand) → Kept (lay k s) hs → get_elem? hs id ≡ some me.0.hand → get_or s at 0 ≡ old
-      → (g : Hand) × becomes g × KeepsHold rests me.0 g × Kept (lay k (set s at new)) (set hs id g) × SiteStep (me.0.steps + 1) (lay k s) (lay k (set s at new)) me.0.hand g)
+      → (g : Hand) × becomes g × KeepsHold rests me.0 g × Kept (lay k (set s at new)) (set hs id g) × SiteStep unheld (me.0.steps + 1) (lay k s) (lay k (set s at new)) me.0.hand g)
       → Lets holds moves slots id me (LOCK_WORDS + at) (Exchange old new) (Begun becomes (step slots (LOCK_WORDS + at) old new none) me)
   begins becomes slots id at old new me law = exchanges holds moves slots id (LOCK_WORDS + at) old new me (λ _. ticked me.0) (Begun becomes (step slots (LOCK_WORDS + at) old new none) me) (λ _. refl)
       (λ ws vs h there is. let t = law (drop LOCK_WORDS ws) (map hand_of vs) (kept ws vs h) (at_map hand_of vs id me.0 there) (get_or-drop LOCK_WORDS ws at 0 ∙ is) in

@@ -4,9 +4,9 @@ use Rattle.word_bits.specs.declared.entry.Entry.{Entry}
 use Rattle.word_bits.specs.LockWords.{Unavailable}
 use Rattle.word_bits.specs.Objects.{Obj}
 use Rattle.word_bits.specs.Histories.{Plan}
-use Rattle.lock_views.specs.declared.view.Hand.{Hand}
-use Rattle.lock_views.specs.declared.view.Stage.{Stage}
-use Rattle.lock_views.specs.declared.view.Stage.TheVariants.{Rest, Entered, Logged}
+use Rattle.lock_core.specs.declared.view.Hand.{Hand}
+use Rattle.lock_core.specs.declared.view.Stage.{Stage}
+use Rattle.lock_core.specs.declared.view.Stage.TheVariants.{Rest, Entered, Logged}
 use Rattle.lock_core.specs.Layout.{SiteWords}
 use Rattle.lock_core.specs.Records.{bit}
 use Rattle.lock_core.specs.Views.{owed_weight, owed_of, writes_of}
@@ -17,7 +17,7 @@ use Rattle.lock_core.specs.ViewParts.{Each}
 use Rattle.lock_core.proofs.RowLaws.{same-some, some-inside}
 use Rattle.lock_core.proofs.WordSteps.{some-of, owed-one, others-free}
 
-none-writes : (hs : List Hand) → Each (λ h. h.writes ≡ false) hs → total writes_of hs ≡ 0
+pub none-writes : (hs : List Hand) → Each (λ h. h.writes ≡ false) hs → total writes_of hs ≡ 0
 none-writes [] e = refl
 none-writes (h ∷ hs) e = let a = none-writes hs (λ j g at. e (suc j) g at) in let b : writes_of h ≡ 0 = ap bit (e zero h refl) in omega arith
 

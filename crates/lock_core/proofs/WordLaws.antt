@@ -1,5 +1,5 @@
 -- The steps on the words of the object, and what their loads tell.
-use Rattle.std.proofs.Common.{◌≡◌, ◌≢◌, ℕ, zero, suc, ◌+◌, ◌<◌, ◌≤◌, List, [], ◌∷◌, length, map, take, get_or, set, slice_get, Some, refl, sym, ap, subst, ◌∙◌, arith, inr}
+use Rattle.std.proofs.Common.{◌≡◌, ◌≢◌, ℕ, zero, suc, ◌+◌, ◌<◌, ◌≤◌, Bool, List, [], ◌∷◌, length, map, take, get_or, set, slice_get, Some, refl, sym, ap, subst, ◌∙◌, arith, inr}
 use Rattle.std.proofs.lemmas.List.{take-set-le, get_or-take}
 use mathlib.Core.Option.{some}
 use lib.ListN.{get_elem?}
@@ -11,9 +11,9 @@ use Rattle.word_bits.specs.RecWord.{rec_word}
 use Rattle.word_bits.specs.LockWords.{Unavailable}
 use Rattle.word_bits.specs.Objects.{Obj}
 use Rattle.word_bits.specs.Histories.{Plan, state_after}
-use Rattle.lock_views.specs.declared.view.Hand.{Hand}
-use Rattle.lock_views.specs.declared.view.Held.TheVariants.{No, Alone}
-use Rattle.lock_views.specs.declared.view.Stage.TheVariants.{Rest, Entered}
+use Rattle.lock_core.specs.declared.view.Hand.{Hand}
+use Rattle.lock_core.specs.declared.view.Held.TheVariants.{No, Alone}
+use Rattle.lock_core.specs.declared.view.Stage.TheVariants.{Rest, Entered}
 use Rattle.lock_core.specs.Plans.{calls_in, start}
 use Rattle.lock_core.specs.Layout.{SiteWords, lay, recs_at}
 use Rattle.lock_core.specs.Records.{row}
@@ -28,7 +28,7 @@ use Rattle.lock_core.proofs.HandLaws.{alone-is-held}
 use Rattle.lock_core.proofs.Numbering.{next-short}
 use Rattle.lock_core.proofs.Reading.{same-plan}
 use Rattle.lock_core.proofs.WordSteps.{site-writes, site-enters, site-logs, site-records, none-owed}
-use Rattle.lock_core.proofs.Replies.{accounts-sent, accounts-settle}
+use Rattle.lock_core.proofs.Replies.{accounts-sent, accounts-settle, served-len}
 use Rattle.lock_core.proofs.Signalling.{accounts}
 use Rattle.lock_core.specs.declared.layout.TheConstants.{ENTRIES_AT, LENGTH_AT, LINES_AT}
 
@@ -53,33 +53,33 @@ module _ {Call : Type 0} (o : Obj Call) (unavailable : Unavailable) (size : ℕ)
   abbrev Kept : SiteWords → List Hand → Type 0
   Kept = SiteKept o unavailable size k
 
-  abbrev After : ℕ → List ℕ → List Hand → ℕ → Hand → Hand → ℕ → ℕ → Type 0
-  After step s hs id h g at new = Kept (lay k (set s at new)) (set hs id g) × SiteStep step (lay k s) (lay k (set s at new)) h g
+  abbrev After : Bool → ℕ → List ℕ → List Hand → ℕ → Hand → Hand → ℕ → ℕ → Type 0
+  After unheld step s hs id h g at new = Kept (lay k (set s at new)) (set hs id g) × SiteStep unheld step (lay k s) (lay k (set s at new)) h g
 
-  pub writes-there : {step : ℕ} (s : List ℕ) (hs : List Hand) (id i n : ℕ) (h : Hand) → size ≤ 257 → Kept (lay k s) hs → get_elem? hs id ≡ some h → h.held ≡ Alone → i < size → After step s hs id h (wrote h i n) i n
-  writes-there {step} s hs id i n h fits r at alone inside = let e = sym (lay-guarded k s i n (omega (arith, fits, inside))) in
-      (subst (λ (w : SiteWords). Kept w (set hs id (wrote h i n))) e (site-writes o unavailable size k (lay k s) hs id i n h r at alone inside), subst (λ (w : SiteWords). SiteStep step (lay k s) w h (wrote h i n)) e (keeps-recs (lay k s) (record (lay k s) { guarded = set (lay k s).guarded i n }) h (wrote h i n) refl (omega arith, refl) (λ not. absurd (not alone)) (record { misses = omega arith; freed = λ _. refl; takes = omega arith; comes = λ out holds. absurd (holds out) }, refl)))
+  pub writes-there : {unheld : Bool} {step : ℕ} (s : List ℕ) (hs : List Hand) (id i n : ℕ) (h : Hand) → size ≤ 257 → Kept (lay k s) hs → get_elem? hs id ≡ some h → h.held ≡ Alone → i < size → After unheld step s hs id h (wrote h i n) i n
+  writes-there {unheld} {step} s hs id i n h fits r at alone inside = let e = sym (lay-guarded k s i n (omega (arith, fits, inside))) in
+      (subst (λ (w : SiteWords). Kept w (set hs id (wrote h i n))) e (site-writes o unavailable size k (lay k s) hs id i n h r at alone inside), subst (λ (w : SiteWords). SiteStep unheld step (lay k s) w h (wrote h i n)) e (keeps-recs (lay k s) (record (lay k s) { guarded = set (lay k s).guarded i n }) h (wrote h i n) refl (omega arith, refl) (λ not. absurd (not alone)) (record { misses = omega arith; freed = λ _. refl; takes = omega arith; comes = λ out holds. absurd (holds out) }) refl refl))
 
   holders-log : (s : List ℕ) (hs : List Hand) (id : ℕ) (h : Hand) → Kept (lay k s) hs → get_elem? hs id ≡ some h → h.held ≢ No → get_or s LENGTH_AT 0 ≡ length h.log
   holders-log s hs id h r at holds = r.tells.many ∙ sym (ap length ((r.each id h at).known holds).1)
 
-  pub enters-there : {step : ℕ} (s : List ℕ) (hs : List Hand) (id len : ℕ) (e : Entry) (h : Hand) → Kept (lay k s) hs → get_elem? hs id ≡ some h → h.held ≡ Alone → h.stage ≡ Rest → len ≡ length h.log → len < calls_in k → After step s hs id h (entered h e) (ENTRIES_AT + len) (entry_word e)
-  enters-there {step} s hs id len e h r at alone rest is room = let here : (lay k s).len ≡ len = holders-log s hs id h r at (alone-is-held h.held alone) ∙ sym is in let f = sym (lay-entries k s len (entry_word e) room) in (
+  pub enters-there : {unheld : Bool} {step : ℕ} (s : List ℕ) (hs : List Hand) (id len : ℕ) (e : Entry) (h : Hand) → Kept (lay k s) hs → get_elem? hs id ≡ some h → h.held ≡ Alone → h.stage ≡ Rest → len ≡ length h.log → len < calls_in k → After unheld step s hs id h (entered h e) (ENTRIES_AT + len) (entry_word e)
+  enters-there {unheld} {step} s hs id len e h r at alone rest is room = let here : (lay k s).len ≡ len = holders-log s hs id h r at (alone-is-held h.held alone) ∙ sym is in let f = sym (lay-entries k s len (entry_word e) room) in (
     subst (λ (w : SiteWords). Kept w (set hs id (entered h e))) f (subst (λ (n : ℕ). Kept (record (lay k s) { entries = set (lay k s).entries n (entry_word e) }) (set hs id (entered h e))) here (site-enters o unavailable size k (lay k s) hs id e h r at alone rest (omega (arith, here, room)))),
-    subst (λ (w : SiteWords). SiteStep step (lay k s) w h (entered h e)) f (keeps-recs (lay k s) (record (lay k s) { entries = set (lay k s).entries len (entry_word e) }) h (entered h e) refl (omega arith, take-set-le (lay k s).len (lay k s).entries len (entry_word e) (omega (arith, here))) (λ not. absurd (not alone)) (record { misses = omega arith; freed = λ _. refl; takes = omega arith; comes = λ out holds. absurd (holds out) }, refl)),
+    subst (λ (w : SiteWords). SiteStep unheld step (lay k s) w h (entered h e)) f (keeps-recs (lay k s) (record (lay k s) { entries = set (lay k s).entries len (entry_word e) }) h (entered h e) refl (omega arith, take-set-le (lay k s).len (lay k s).entries len (entry_word e) (omega (arith, here))) (λ not. absurd (not alone)) (record { misses = omega arith; freed = λ _. refl; takes = omega arith; comes = λ out holds. absurd (holds out) }) refl (let none : owed_weight h.stage ≡ 0 = ap owed_weight rest in omega (arith, none))),
   )
 
-  pub logs-there : {step : ℕ} (s : List ℕ) (hs : List Hand) (id len : ℕ) (e : Entry) (h : Hand) (words : CallWords) (c : Call) → Kept (lay k s) hs → get_elem? hs id ≡ some h → h.held ≡ Alone → h.stage ≡ Entered e → h.task ≡ Some e.task → h.done ≡ e.call → len ≡ length h.log → len < calls_in k
-      → slice_get (row k e.task) e.call ≡ Some words → o.call_of words ≡ Some c → h.known ≡ o.stores ((o.meaning (state_after o k h.log) c).0) → After step s hs id h (logged h e) LENGTH_AT (len + 1)
-  logs-there {step} s hs id len e h words c r at alone stage named done is room planned called means = let here : (lay k s).len ≡ len = holders-log s hs id h r at (alone-is-held h.held alone) ∙ sym is in let wide = r.laid.wide in let f = sym (lay-len k s (len + 1) (omega (arith, wide))) in (
+  pub logs-there : {unheld : Bool} {step : ℕ} (s : List ℕ) (hs : List Hand) (id len : ℕ) (e : Entry) (h : Hand) (words : CallWords) (c : Call) → Kept (lay k s) hs → get_elem? hs id ≡ some h → h.held ≡ Alone → h.stage ≡ Entered e → h.task ≡ Some e.task → h.done ≡ e.call → len ≡ length h.log → len < calls_in k
+      → slice_get (row k e.task) e.call ≡ Some words → o.call_of words ≡ Some c → o.Represents (o.meaning (state_after o k h.log) c).0 h.known → After unheld step s hs id h (logged h e) LENGTH_AT (len + 1)
+  logs-there {unheld} {step} s hs id len e h words c r at alone stage named done is room planned called means = let here : (lay k s).len ≡ len = holders-log s hs id h r at (alone-is-held h.held alone) ∙ sym is in let wide = r.laid.wide in let f = sym (lay-len k s (len + 1) (omega (arith, wide))) in (
     subst (λ (w : SiteWords). Kept w (set hs id (logged h e))) f (subst (λ (n : ℕ). Kept (record (lay k s) { len = n + 1 }) (set hs id (logged h e))) here
         (site-logs o unavailable size k (lay k s) hs id e h words c r at alone stage named done (omega (arith, here, room)) planned called means)),
-    subst (λ (w : SiteWords). SiteStep step (lay k s) w h (logged h e)) f (keeps-recs (lay k s) (record (lay k s) { len = len + 1 }) h (logged h e) refl (omega (arith, here), refl) (λ not. absurd (not alone)) (record { misses = omega arith; freed = λ _. refl; takes = omega arith; comes = λ out holds. absurd (holds out) }, refl)),
+    subst (λ (w : SiteWords). SiteStep unheld step (lay k s) w h (logged h e)) f (keeps-recs (lay k s) (record (lay k s) { len = len + 1 }) h (logged h e) refl (omega (arith, here), refl) (λ not. absurd (not alone)) (record { misses = omega arith; freed = λ _. refl; takes = omega arith; comes = λ out holds. absurd (holds out) }) refl (let none : owed_weight h.stage ≡ 0 = ap owed_weight stage in omega (arith, none, here))),
   )
 
-  pub records-there : {step : ℕ} (s : List ℕ) (hs : List Hand) (id : ℕ) (h : Hand) (e : Entry) (words : CallWords) (x : Rec) (seen : List Entry) → Kept (lay k s) hs → get_elem? hs id ≡ some h → h.plan ≡ Some k → MayRecord o unavailable k h e words x seen
-      → After step s hs id h (recorded (settled h x.reply) step e x seen) (recs_at k + (start k e.task + e.call)) (rec_word x)
-  records-there {step} s hs id h e words x seen r at planned may = let ok = r.each id h at in let is = may.call in let inside = some-inside (row k e.task) e.call words may.planned in let below = start-below k e.task e.call inside in
+  pub records-there : {unheld : Bool} {step : ℕ} (s : List ℕ) (hs : List Hand) (id : ℕ) (h : Hand) (e : Entry) (words : CallWords) (x : Rec) (seen : List Entry) → Kept (lay k s) hs → get_elem? hs id ≡ some h → h.plan ≡ Some k → MayRecord o unavailable unheld k h e words x seen
+      → After unheld step s hs id h (recorded (settled h x.reply) step e x seen) (recs_at k + (start k e.task + e.call)) (rec_word x)
+  records-there {unheld} {step} s hs id h e words x seen r at planned may = let ok = r.each id h at in let is = may.call in let inside = some-inside (row k e.task) e.call words may.planned in let below = start-below k e.task e.call inside in
       let f = sym (lay-recs k s (start k e.task + e.call) (rec_word x) below) in let means = may.means r.log (λ holds. (ok.known holds).1) ok.seen in let mine = ok.mine e.task may.task in
       let settles = accounts o unavailable size k r.told e.task h words x x.reply refl r.tells.tasks mine.0 may.task (ap (slice_get (row k e.task)) (sym mine.1 ∙ is) ∙ may.planned) may.accounts in (
         subst (λ (w : SiteWords). Kept w (set hs id (recorded (settled h x.reply) step e x seen))) f
@@ -87,7 +87,7 @@ module _ {Call : Type 0} (o : Obj Call) (unavailable : Unavailable) (size : ℕ)
             (site-records o unavailable size k (lay k s) hs id e.task step h words x seen (sent_after h.sent x.reply) (consumed_after h.consumed x.reply) r at may.task (ap (slice_get (row k e.task)) is ∙ may.planned) settles.2 may.fits
             (subst (λ (c : ℕ). Rattle.word_bits.specs.Legal.IsRecord o unavailable k r.log x.k (record { task = e.task; call = c }) words x) (sym is) means.0) means.1 settles.0 settles.1 (means.2, means.3) may.enough
             (subst (λ (c : ℕ). Rattle.lock_core.specs.SitePasses.Settles o h r.log (record { task = e.task; call = c }) words x) (sym is) means.4))),
-        subst (λ (w : SiteWords). SiteStep step (lay k s) w h (recorded (settled h x.reply) step e x seen)) f record {
+        subst (λ (w : SiteWords). SiteStep unheld step (lay k s) w h (recorded (settled h x.reply) step e x seen)) f record {
           grows = (omega arith, refl);
           records = inr record {
             plan = k;
@@ -103,7 +103,10 @@ module _ {Call : Type 0} (o : Obj Call) (unavailable : Unavailable) (size : ℕ)
             busy = may.busy;
             interrupted = may.interrupted;
             sent = accounts-sent k e.task h words x.reply may.accounts (ap (slice_get (row k e.task)) is ∙ may.planned);
+            served = served-len unheld (length h.log) (lay k s).len h x.k x.reply (λ holds. sym (holders-log s hs id h r at holds)) may.served;
             settled = accounts-settle h words x.reply may.accounts;
+            len = refl;
+            paid = refl;
             done = refl;
             last = refl;
           };

@@ -16,16 +16,16 @@ use Rattle.word_bits.specs.LockWords.{Unavailable}
 use Rattle.word_bits.specs.Objects.{Obj}
 use Rattle.word_bits.specs.Histories.{Plan, Records, state_after, logs}
 use Rattle.word_bits.specs.Legal.{IsRecord, seen_after, is_intr}
-use Rattle.lock_views.specs.declared.view.Hand.{Hand}
-use Rattle.lock_views.specs.declared.view.Told.{Told}
-use Rattle.lock_views.specs.declared.view.Held.{Held}
-use Rattle.lock_views.specs.declared.view.Held.TheVariants.{No, Alone}
-use Rattle.lock_views.specs.declared.view.Stage.{Stage}
-use Rattle.lock_views.specs.declared.view.Stage.TheVariants.{Rest, Entered, Logged}
+use Rattle.lock_core.specs.declared.view.Hand.{Hand}
+use Rattle.lock_core.specs.declared.view.Told.{Told}
+use Rattle.lock_core.specs.declared.view.Held.{Held}
+use Rattle.lock_core.specs.declared.view.Held.TheVariants.{No, Alone}
+use Rattle.lock_core.specs.declared.view.Stage.{Stage}
+use Rattle.lock_core.specs.declared.view.Stage.TheVariants.{Rest, Entered, Logged}
 use Rattle.lock_core.specs.Plans.{appended, calls_in, start}
 use Rattle.lock_core.specs.Layout.{SiteWords}
 use Rattle.lock_core.specs.Records.{row, sends, intrs, seen_by, AreNext, IsLoggedAt}
-use Rattle.lock_core.specs.Views.{wrote, entered, logged, recorded, is_number, consumed_weight, held_weight, alone_weight, owed_weight, held_of, alone_of, writes_of, owed_of, named_of, sent_of, consumed_of}
+use Rattle.lock_core.specs.Views.{wrote, quieted, entered, logged, recorded, is_number, consumed_weight, held_weight, alone_weight, owed_weight, held_of, alone_of, writes_of, owed_of, named_of, sent_of, consumed_of}
 use Rattle.lock_core.specs.Sites.{HeardOk, HandOk, SiteKept, Balances}
 use Rattle.lock_core.specs.Totals.{total, total-set, total-same, total-at, total-two}
 use Rattle.lock_core.specs.ViewParts.{Each, each-set}
@@ -162,6 +162,40 @@ module _ {Call : Type 0} (o : Obj Call) (unavailable : Unavailable) (size : ℕ)
         } (λ j v other at' ok. free-same w.guarded (set w.guarded i n) (get_or w.entries w.len 0) (get_or w.entries w.len 0) r.log r.told v (others-free hs id j h v b.apart at alone other at') ok) r.each;
       }
 
+  -- a pass that holds alone ends its writing: the guarded words represent the state after the log
+  pub site-quiets : (w : SiteWords) (hs : List Hand) (id : ℕ) (h : Hand) → Kept w hs → get_elem? hs id ≡ some h → h.held ≡ Alone → o.Represents (state_after o k h.log) h.known → Kept w (set hs id (quieted h))
+  site-quiets w hs id h r at alone stands = let a = r.each id h at in let b = r.balances in let g : Hand = quieted h in let t = a.known (alone-is-held h.held alone) in let P : Hand → Type 0 = Ok w.guarded (get_or w.entries w.len 0) r.log r.told in
+      let held = total-same held_of hs id h g at refl in let al = total-same alone_of hs id h g at refl in let owed = total-same owed_of hs id h g at refl in record {
+        log = r.log;
+        told = r.told;
+        laid = r.laid;
+        tells = r.tells;
+        balances = record {
+          apart = λ l. let c = b.apart (omega arith) in omega arith;
+          quiet = λ _. subst (λ (z : List Entry). o.Represents (state_after o k z) (take size w.guarded)) t.1 (subst (λ (z : List ℕ). o.Represents (state_after o k h.log) z) t.0 stands);
+          recorded = λ j e there l. b.recorded j e there (omega arith);
+          few = let f = b.few in omega arith;
+          named = λ u l. one-stays (named_of u) hs id h g _ at refl (b.named u l);
+          sent = λ u l. sum-stays (sent_of u) hs id h g _ _ at refl (b.sent u l);
+          consumed = λ u l. sum-stays (consumed_of u) hs id h g _ _ at refl (b.consumed u l);
+          pending = b.pending;
+        };
+        heard = each-set (HeardOk w.lines) (HeardOk w.lines) hs id g (r.heard id h at) (λ j v _ _ p. p) r.heard;
+        each = each-set P P hs id g record {
+          plan = a.plan;
+          known = a.known;
+          writer = λ yes_it. not-both false refl yes_it;
+          seen = a.seen;
+          entered = a.entered;
+          logged = a.logged;
+          mine = a.mine;
+          nameless = a.nameless;
+          knows = a.knows;
+          saw = a.saw;
+          signals = a.signals;
+        } (λ j v _ _ ok. ok) r.each;
+      }
+
   -- the next entry is stored behind the log
   pub site-enters : (w : SiteWords) (hs : List Hand) (id : ℕ) (e : Entry) (h : Hand) → Kept w hs → get_elem? hs id ≡ some h → h.held ≡ Alone → h.stage ≡ Rest → w.len < calls_in k
       → Kept (record w { entries = set w.entries w.len (entry_word e) }) (set hs id (entered h e))
@@ -189,14 +223,14 @@ module _ {Call : Type 0} (o : Obj Call) (unavailable : Unavailable) (size : ℕ)
         } (λ j v other at' ok. free-same w.guarded w.guarded (get_or w.entries w.len 0) (get_or (set w.entries w.len x) w.len 0) r.log r.told v (others-free hs id j h v b.apart at alone other at') ok) r.each;
       }
 
-  -- the log has the entry: the guarded words are what its call leaves of the state before
+  -- the log has the entry: the guarded words represent what its call leaves of the state before
   pub site-logs : (w : SiteWords) (hs : List Hand) (id : ℕ) (e : Entry) (h : Hand) (words : CallWords) (c : Call) → Kept w hs → get_elem? hs id ≡ some h → h.held ≡ Alone → h.stage ≡ Entered e → h.task ≡ Some e.task → h.done ≡ e.call → w.len < calls_in k
-      → slice_get (row k e.task) e.call ≡ Some words → o.call_of words ≡ Some c → h.known ≡ o.stores ((o.meaning (state_after o k h.log) c).0) → Kept (record w { len = w.len + 1 }) (set hs id (logged h e))
+      → slice_get (row k e.task) e.call ≡ Some words → o.call_of words ≡ Some c → o.Represents (o.meaning (state_after o k h.log) c).0 h.known → Kept (record w { len = w.len + 1 }) (set hs id (logged h e))
   site-logs w hs id e h words c r at alone stage named done room planned is means = let a = r.each id h at in let b = r.balances in let g : Hand = logged h e in let not_no = alone-is-held h.held alone in let t = a.known not_no in
       let wide = r.laid.room in let many = r.tells.many in let log' : List Entry = r.log ++ e ∷ [] in let long : length log' ≡ length r.log + 1 = omega (arith, length-append r.log (e ∷ [])) in
       let owed = none-owed w hs id h r at alone (ap owed_weight stage) in let was : owed_of h ≡ 0 = ap owed_weight stage in let sum = total-set owed_of hs id h g at in
       let held = total-same held_of hs id h g at refl in let al = total-same alone_of hs id h g at refl in let same : h.log ++ e ∷ [] ≡ log' = ap (λ (z : List Entry). z ++ e ∷ []) t.1 in
-      let state : o.stores (state_after o k log') ≡ h.known = ap o.stores (state-snoc o k r.log e words c planned is) ∙ (ap (λ (z : List Entry). o.stores ((o.meaning (state_after o k z) c).0)) (sym t.1) ∙ sym means) in
+      let state : o.Represents (state_after o k log') (take size w.guarded) = subst (λ (z : o.State). o.Represents z (take size w.guarded)) (sym (state-snoc o k r.log e words c planned is)) (subst (λ (z : List Entry). o.Represents (o.meaning (state_after o k z) c).0 (take size w.guarded)) t.1 (subst (λ (z : List ℕ). o.Represents (o.meaning (state_after o k h.log) c).0 z) t.0 means)) in
       let next : get_or w.entries (length r.log) 0 ≡ entry_word e = ap (λ (z : ℕ). get_or w.entries z 0) (sym many) ∙ (a.entered e stage).1 in
       let P : Hand → Type 0 = Ok w.guarded (get_or w.entries w.len 0) r.log r.told in let Q : Hand → Type 0 = Ok w.guarded (get_or w.entries (w.len + 1) 0) log' r.told in record {
         log = log';
@@ -212,7 +246,7 @@ module _ {Call : Type 0} (o : Obj Call) (unavailable : Unavailable) (size : ℕ)
         };
         balances = record {
           apart = λ l. let d = b.apart (omega arith) in omega arith;
-          quiet = λ _. sym t.0 ∙ sym state;
+          quiet = λ _. state;
           recorded = λ j x there l. ⊎_elim (λ (old : slice_get r.log j ≡ Some x). b.recorded j x old (let m = some-inside r.log j x old in omega arith))
               (λ (new : (i : ℕ) × (j ≡ length r.log + i) × (slice_get (e ∷ []) i ≡ Some x)). let p = new.1 in absurd (omega arith)) (get-either r.log (e ∷ []) j x there);
           few = let f = b.few in omega arith;

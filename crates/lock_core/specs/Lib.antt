@@ -25,6 +25,8 @@ pub mod Nothings
 pub mod SpinTables
 pub mod Nestings
 pub mod SiteStated
+pub mod Linear
+pub mod Orders
 pub mod SpinStated
 pub mod Kinds
 pub mod Shown
@@ -35,3 +37,8 @@ pub mod SiteHandles
 pub mod NodeLists
 pub mod NodeListLaws
 pub mod Signals
+pub mod Ops
+pub mod Tallies
+pub mod Faces
+pub mod SeatLending
+pub mod Sitting

@@ -1,14 +1,14 @@
 -- What the word of a lock states of its passes, whatever else its table has.
-use Rattle.std.specs.Prelude.{◌≡◌, ◌≢◌, ℕ, ◌+◌, ◌/◌, ◌%◌, ◌^◌, ◌<◌, ◌≤◌, ◌⊎◌, List, [], Contains, length, slice_index, Some, None}
+use Rattle.std.specs.Prelude.{◌≡◌, ◌≢◌, ℕ, ◌+◌, ◌/◌, ◌%◌, ◌^◌, ◌<◌, ◌≤◌, ◌⊎◌, Bool, false, List, [], Contains, length, slice_index, Some, None}
 use mathlib.Core.Option.{some}
 use lib.ListN.{get_elem?}
 use Rattle.word_bits.specs.Objects.{Obj}
 use Rattle.word_bits.specs.Histories.{Plan}
-use Rattle.lock_views.specs.declared.view.Hand.{Hand}
-use Rattle.lock_views.specs.declared.view.SpinHand.{SpinHand}
-use Rattle.lock_views.specs.declared.view.Held.{Held}
-use Rattle.lock_views.specs.declared.view.Held.TheVariants.{No, Shared, Alone}
-use Rattle.lock_views.specs.declared.view.Moment.{Moment}
+use Rattle.lock_core.specs.declared.view.Hand.{Hand}
+use Rattle.lock_core.specs.declared.view.SpinHand.{SpinHand}
+use Rattle.lock_core.specs.declared.view.Held.{Held}
+use Rattle.lock_core.specs.declared.view.Held.TheVariants.{No, Shared, Alone}
+use Rattle.lock_core.specs.declared.view.Moment.{Moment}
 use Rattle.lock_core.specs.Layout.{site}
 use Rattle.lock_core.specs.ViewParts.{Each}
 use Rattle.lock_core.specs.Pasts.{ChangesOneWord}
@@ -90,8 +90,8 @@ pub record IsGone (id : ℕ) (h : Hand) (x y : Moment) : Type 0 where
   pub steps : get_elem? y.steps id ≡ some 0
   pub fronts : get_elem? y.fronts id ≡ some 0
 
--- One pass led from the first moment to the second, in one counted step that changed no word but one. It did to the site's words what every step of a site does. The lock's word stands at this place. Every other pass that is still there is as it was, and one that wasn't there was split off.
-pub record IsSiteStep (k : Plan) (word_at : ℕ) (x y : Moment) : Type 0 where
+-- One pass led from the first moment to the second, in one counted step that changed no word but one. It did to the site's words what every step of a site does. The lock's word stands at this place, and `unheld` says whether calls may read without a hold. Every other pass that is still there is as it was, and one that wasn't there was split off.
+pub record IsSiteStepWhere (unheld : Bool) (k : Plan) (word_at : ℕ) (x y : Moment) : Type 0 where
   pub id : ℕ
   pub before : Hand
   pub after : Hand
@@ -100,7 +100,7 @@ pub record IsSiteStep (k : Plan) (word_at : ℕ) (x y : Moment) : Type 0 where
   pub had : ℕ
   pub had_steps : get_elem? x.steps id ≡ some had
   pub has_steps : get_elem? y.steps id ≡ some (had + 1)
-  pub steps : SiteStep (had + 1) (site k x.words) (site k y.words) before after
+  pub steps : SiteStep unheld (had + 1) (site k x.words) (site k y.words) before after
   pub one_word : ChangesOneWord x.words y.words
   -- a word that it newly keeps as seen was the lock's, at this step; where its number changes, what it saw is forgotten
   pub tries : SawGoes (had + 1) (slice_index x.words word_at) before after
@@ -108,3 +108,7 @@ pub record IsSiteStep (k : Plan) (word_at : ℕ) (x y : Moment) : Type 0 where
   pub spends : (j : ℕ) (h g : Hand) → j ≢ id → get_elem? x.hands j ≡ some h → get_elem? y.hands j ≡ some g → g.plan ≡ None → SamePass j x y ⊎ IsGone j h x y
   pub lasts : length x.hands ≤ length y.hands
   pub born : (j : ℕ) (h : Hand) → length x.hands ≤ j → get_elem? y.hands j ≡ some h → IsBorn before j y
+
+-- the same where every call that looks at the object holds
+abbrev pub IsSiteStep : (k : Plan) → (word_at : ℕ) → Moment → Moment → Type 0
+IsSiteStep k word_at x y = IsSiteStepWhere false k word_at x y

@@ -1,21 +1,21 @@
 -- Each step of a run is one of the site's, as its moments tell.
-use Rattle.std.proofs.Common.{◌≡◌, ◌≢◌, ℕ, List, [], ◌∷◌, map, sym, ap, ◌∙◌, subst, arith, inl, inr, ⊎_elim}
+use Rattle.std.proofs.Common.{◌≡◌, ◌≢◌, ℕ, Bool, false, List, [], ◌∷◌, map, sym, ap, ◌∙◌, subst, arith, inl, inr, ⊎_elim}
 use mathlib.Core.Option.{some}
 use lib.ListN.{get_elem?}
 use Rattle.std.proofs.lemmas.List.{length-map}
 use Rattle.atomic_table.proofs.Lists.{at_map}
 use Rattle.word_bits.specs.Histories.{Plan}
-use Rattle.lock_views.specs.declared.view.Moment.{Moment}
-use Rattle.lock_views.specs.declared.view.View.{View}
-use Rattle.lock_views.specs.declared.view.Hand.{Hand}
-use Rattle.lock_views.specs.declared.view.Held.TheVariants.{No, Shared, Alone}
+use Rattle.lock_core.specs.declared.view.Moment.{Moment}
+use Rattle.lock_core.specs.declared.view.View.{View}
+use Rattle.lock_core.specs.declared.view.Hand.{Hand}
+use Rattle.lock_core.specs.declared.view.Held.TheVariants.{No, Shared, Alone}
 use Rattle.lock_core.specs.ViewParts.{at_unmap}
 use Rattle.lock_core.specs.Moves.{IsTakenIn}
 use Rattle.lock_core.specs.Views.{hand_of, spin_of, spent, split_off, held_weight}
 use Rattle.lock_core.specs.Pasts.{Instant, fronts_of, marks_of, moment, steps_of, Paced, Ran}
-use Rattle.lock_core.specs.SiteStated.{IsSiteMove}
+use Rattle.lock_core.specs.SiteStated.{IsSiteMove, IsSiteMoveWhere}
 use Rattle.lock_core.specs.Kinds.{Kind, mutex, semaphore, shares}
-use Rattle.lock_core.specs.Locked.{IsBorn, IsGone, IsSiteStep, SamePass}
+use Rattle.lock_core.specs.Locked.{IsBorn, IsGone, IsSiteStep, IsSiteStepWhere, SamePass}
 
 module _ {E : Type 0} (marks : E → List ℕ) (k : Plan) (word_at : ℕ) where
   -- a view that stays leaves all that the moments have of its pass
@@ -39,7 +39,7 @@ module _ {E : Type 0} (marks : E → List ℕ) (k : Plan) (word_at : ℕ) where
       part : {A : Type 0} (f : View E → A) → get_elem? (map f y.views) j ≡ some (f (spent u.ext))
       part f = at_map f y.views j u at' ∙ ap (λ (w : View E). some (f w)) t.gone
 
-  abbrev pub move-steps : (x y : Instant E) → IsSiteMove k word_at x y → IsSiteStep k word_at (moment marks x) (moment marks y)
+  abbrev pub move-steps : {unheld : Bool} (x y : Instant E) → IsSiteMoveWhere unheld k word_at x y → IsSiteStepWhere unheld k word_at (moment marks x) (moment marks y)
   move-steps x y m = record {
     id = m.0;
     before = m.1.before.hand;
@@ -61,13 +61,16 @@ module _ {E : Type 0} (marks : E → List ℕ) (k : Plan) (word_at : ℕ) where
     born = λ j h out at. let u = at_unmap hand_of y.views j h at in let is = m.1.born j u.0 (omega (arith, out, length-map x.views hand_of)) u.1 in split-born y j m.1.before u.0 u.1 is;
   }
 
-  run-steps : (h : List (Instant E)) → Paced (IsSiteMove k word_at) h → Paced (IsSiteStep k word_at) (map (moment marks) h)
-  run-steps [] p = tt
-  run-steps (y ∷ []) p = (tt, tt)
-  run-steps (y ∷ x ∷ h) p = (move-steps x y p.0, run-steps (x ∷ h) p.1)
+  run-steps : (unheld : Bool) (h : List (Instant E)) → Paced (IsSiteMoveWhere unheld k word_at) h → Paced (IsSiteStepWhere unheld k word_at) (map (moment marks) h)
+  run-steps unheld [] p = tt
+  run-steps unheld (y ∷ []) p = (tt, tt)
+  run-steps unheld (y ∷ x ∷ h) p = (move-steps x y p.0, run-steps unheld (x ∷ h) p.1)
+
+  pub ran-steps-where : (unheld : Bool) (begun : Moment) (past : List Moment) → Ran marks begun (IsSiteMoveWhere unheld k word_at) past → Paced (IsSiteStepWhere unheld k word_at) past
+  ran-steps-where unheld begun past r = subst (Paced (IsSiteStepWhere unheld k word_at)) (sym r.1) (run-steps unheld r.0 r.3)
 
   pub ran-steps : (begun : Moment) (past : List Moment) → Ran marks begun (IsSiteMove k word_at) past → Paced (IsSiteStep k word_at) past
-  ran-steps begun past r = subst (Paced (IsSiteStep k word_at)) (sym r.1) (run-steps r.0 r.3)
+  ran-steps begun past r = ran-steps-where false begun past r
 
 -- a pass holds that came by a shared call
 pub shares-holds : (kind : Kind) → shares kind ≢ No

@@ -3,16 +3,16 @@ use Rattle.std.specs.Prelude.{◌≡◌, ℕ, ◌+◌, ◌<◌, ◌≤◌, ◌�
 use Rattle.word_bits.specs.declared.entry.Entry.{Entry}
 use Rattle.word_bits.specs.Objects.{Obj}
 use Rattle.word_bits.specs.Histories.{Plan, state_after}
-use Rattle.lock_views.specs.declared.view.Hand.{Hand}
-use Rattle.lock_views.specs.declared.view.Saw.{Saw}
-use Rattle.lock_views.specs.declared.view.Held.{Held}
-use Rattle.lock_views.specs.declared.view.Held.TheVariants.{No, Alone}
-use Rattle.lock_views.specs.declared.how.How.{How}
-use Rattle.lock_views.specs.declared.how.How.TheVariants.{Fast, Spun, Slept}
-use Rattle.lock_views.specs.declared.how.Interrupted.{Interrupted}
+use Rattle.lock_core.specs.declared.view.Hand.{Hand}
+use Rattle.lock_core.specs.declared.view.Saw.{Saw}
+use Rattle.lock_core.specs.declared.view.Held.{Held}
+use Rattle.lock_core.specs.declared.view.Held.TheVariants.{No, Alone}
+use Rattle.lock_core.specs.declared.how.How.{How}
+use Rattle.lock_core.specs.declared.how.How.TheVariants.{Fast, Spun, Slept}
+use Rattle.lock_core.specs.declared.how.Interrupted.{Interrupted}
 use Rattle.lock_core.specs.Records.{bit}
 use Rattle.lock_core.specs.Sites.{sent_place, consumed_place}
-use Rattle.lock_views.specs.Tallies.{left, raised, stood_in_list, was_interrupted}
+use Rattle.lock_core.specs.Tallies.{left, raised, stood_in_list, was_interrupted}
 use Rattle.lock_core.specs.Shown.{Shown, NoCountFalls, AllButHand, FindsAtStep, FindsSince, LeavesHold}
 use Rattle.lock_core.specs.Kinds.{Kind, shares, unavailable, tries, lets_in, wakes_down}
 
@@ -45,15 +45,15 @@ pub record OnlyTried (v u : Shown) : Type 0 where
   pub takes : u.hand.takes ≡ v.hand.takes
   pub freed : u.hand.freed ≡ v.hand.freed
 
--- the guarded words store the state after the log
+-- the guarded words represent the state after the log
 abbrev pub IsStored : {Call : Type 0} → Obj Call → Plan → Hand → Type 0
-IsStored o k h = h.known ≡ o.stores (state_after o k h.log)
+IsStored o k h = o.Represents (state_after o k h.log) h.known
 
 -- the log begins with what this pass had seen
 abbrev pub Begins : Hand → List Entry → Type 0
 Begins h log = (length h.seen ≤ length log) × (take (length h.seen) log ≡ h.seen)
 
--- it holds in this way, by one take, and has learnt the guarded words, which store the state after the log, and the log, which begins with what it had seen
+-- it holds in this way, by one take, and has learnt the guarded words, which represent the state after the log, and the log, which begins with what it had seen
 pub record Takes {Call : Type 0} (o : Obj Call) (k : Plan) (held : Held) (v u : Shown) : Type 0 where
   pub keeps : Keeps v u
   pub consumed : u.hand.consumed ≡ v.hand.consumed

@@ -5,19 +5,19 @@ use lib.ListN.{get_elem?}
 use Rattle.word_bits.specs.declared.call.CallWords.{CallWords}
 use Rattle.word_bits.specs.declared.entry.Entry.{Entry}
 use Rattle.word_bits.specs.Histories.{Plan}
-use Rattle.lock_views.specs.declared.view.View.{View}
-use Rattle.lock_views.specs.declared.view.Line.{Line}
-use Rattle.lock_views.specs.declared.view.Hand.{Hand}
-use Rattle.lock_views.specs.declared.view.SpinHand.{SpinHand}
-use Rattle.lock_views.specs.declared.view.Moment.{Moment}
-use Rattle.lock_views.specs.declared.view.Held.{Held}
-use Rattle.lock_views.specs.declared.view.Held.TheVariants.{No, Alone}
+use Rattle.lock_core.specs.declared.view.View.{View}
+use Rattle.lock_core.specs.declared.view.Line.{Line}
+use Rattle.lock_core.specs.declared.view.Hand.{Hand}
+use Rattle.lock_core.specs.declared.view.SpinHand.{SpinHand}
+use Rattle.lock_core.specs.declared.view.Moment.{Moment}
+use Rattle.lock_core.specs.declared.view.Held.{Held}
+use Rattle.lock_core.specs.declared.view.Held.TheVariants.{No, Alone}
 use Rattle.lock_core.specs.Plans.{calls_in}
 use Rattle.lock_core.specs.Records.{row}
 use Rattle.lock_core.specs.Views.{SpinRests, no_spin, stranger, next_entry}
 use Rattle.lock_core.specs.Pasts.{GoesOn, IsStepBy, FoundAtStep, FoundSince}
-use Rattle.lock_views.specs.declared.tally.Tally.{Tally}
-use Rattle.lock_views.specs.Tallies.{no_tally}
+use Rattle.lock_core.specs.declared.tally.Tally.{Tally}
+use Rattle.lock_core.specs.Tallies.{no_tally}
 
 -- a pass, whatever its lock is
 pub record Shown : Type 0 where

@@ -10,17 +10,17 @@ use Rattle.word_bits.specs.declared.reply.Reply.{Reply}
 use Rattle.word_bits.specs.LockWords.{Unavailable}
 use Rattle.word_bits.specs.Objects.{Obj}
 use Rattle.word_bits.specs.Histories.{Plan}
-use Rattle.lock_views.specs.declared.view.View.{View}
-use Rattle.lock_views.specs.declared.view.Hand.{Hand}
-use Rattle.lock_views.specs.declared.view.Held.{Held}
-use Rattle.lock_views.specs.declared.view.Moment.{Moment}
-use Rattle.lock_views.specs.declared.view.Past.{Past}
+use Rattle.lock_core.specs.declared.view.View.{View}
+use Rattle.lock_core.specs.declared.view.Hand.{Hand}
+use Rattle.lock_core.specs.declared.view.Held.{Held}
+use Rattle.lock_core.specs.declared.view.Moment.{Moment}
+use Rattle.lock_core.specs.declared.view.Past.{Past}
 use Rattle.lock_core.specs.declared.pass.Pass.{Pass}
 use Rattle.lock_core.specs.declared.site.Site.{Site}
-use Rattle.lock_views.specs.declared.op.Op.{Op}
-use Rattle.lock_views.specs.declared.how.Interrupted.{Interrupted}
+use Rattle.lock_core.specs.declared.op.Op.{Op}
+use Rattle.lock_core.specs.declared.how.Interrupted.{Interrupted}
 use Rattle.lock_core.specs.Sites.{SiteKept, SiteStep, sent_place, consumed_place}
-use Rattle.lock_views.specs.Ops.{first_of, second_of}
+use Rattle.lock_core.specs.Ops.{first_of, second_of}
 use Rattle.lock_core.specs.Moves.{Lets, KeepsHold}
 use Rattle.lock_core.specs.Pasts.{unseen, GoesOn, FoundSince, IsOwnStep}
 use Rattle.lock_core.specs.SitePlays.{Sat}
@@ -165,8 +165,8 @@ module _ {R O E C : Type 0} where
   UndoneIsZero pass task call word = task_in pass ≡ Some task → done_in pass ≤ call → word ≡ 0
 
   -- the pass may record a call so, and has then seen these entries
-  abbrev pub MayStoreRecord : {Call : Type 0} → Obj Call → Unavailable → Site R O E C → Pass R O E C → Entry → Rec → List Entry → Type 0
-  MayStoreRecord o unavailable site pass e r seen = (words : CallWords) × MayRecord o unavailable (plan_of site) (hand_in pass) e words r seen
+  abbrev pub MayStoreRecord : {Call : Type 0} → Obj Call → Unavailable → (unheld : Bool) → Site R O E C → Pass R O E C → Entry → Rec → List Entry → Type 0
+  MayStoreRecord o unavailable unheld site pass e r seen = (words : CallWords) × MayRecord o unavailable unheld (plan_of site) (hand_in pass) e words r seen
 
   -- its task's next call changes the object, and this is its reply
   abbrev pub IsNextChange : {Call : Type 0} → Obj Call → Site R O E C → Pass R O E C → Reply → Type 0
@@ -206,12 +206,12 @@ module _ {R O E C : Type 0} where
   MayStep holds moves site pass word op then = Lets (holds (plan_of site)) (moves (plan_of site)) site.table.shared.table_id.slots pass.seat.id (seat_in pass) word op then
 
   -- what the steps on the site's words ask, of the site's own facts
-  module _ {Call : Type 0} (o : Obj Call) (unavailable : Unavailable) (size : ℕ) (site : Site R O E C) (pass : Pass R O E C) (at : ℕ) where
+  module _ {Call : Type 0} (o : Obj Call) (unavailable : Unavailable) (unheld : Bool) (size : ℕ) (site : Site R O E C) (pass : Pass R O E C) (at : ℕ) where
     abbrev Kept : List ℕ → List Hand → Type 0
     Kept s hs = SiteKept o unavailable size (plan_of site) (lay (plan_of site) s) hs
 
     abbrev After : List ℕ → List Hand → ℕ → Hand → Type 0
-    After s hs new g = Kept (slice_set s at new) (slice_set hs pass.seat.id g) × SiteStep ((view_of pass).steps + 1) (lay (plan_of site) s) (lay (plan_of site) (slice_set s at new)) (hand_in pass) g
+    After s hs new g = Kept (slice_set s at new) (slice_set hs pass.seat.id g) × SiteStep unheld ((view_of pass).steps + 1) (lay (plan_of site) s) (lay (plan_of site) (slice_set s at new)) (hand_in pass) g
 
     -- whatever the words and the hands are, a load finds what this says
     abbrev pub MayFind : (Hand → ℕ → ℕ → Type 0) → Type 0
@@ -223,8 +223,8 @@ module _ {R O E C : Type 0} where
 
     -- so may an addition, which fits
     abbrev pub MayAdd : ℕ → Hand → Type 0
-    MayAdd by g = (s : List ℕ) (hs : List Hand) → Kept s hs → get_elem? hs pass.seat.id ≡ some (hand_in pass) → (slice_index s at + by < 18446744073709551616) × Kept (slice_set s at (slice_index s at + by)) (slice_set hs pass.seat.id g) × SiteStep ((view_of pass).steps + 1) (lay (plan_of site) s) (lay (plan_of site) (slice_set s at (slice_index s at + by))) (hand_in pass) g
+    MayAdd by g = (s : List ℕ) (hs : List Hand) → Kept s hs → get_elem? hs pass.seat.id ≡ some (hand_in pass) → (slice_index s at + by < 18446744073709551616) × Kept (slice_set s at (slice_index s at + by)) (slice_set hs pass.seat.id g) × SiteStep unheld ((view_of pass).steps + 1) (lay (plan_of site) s) (lay (plan_of site) (slice_set s at (slice_index s at + by))) (hand_in pass) g
 
     -- where the word is 0, a store of 1 may leave such a hand
     abbrev pub MayTake : (Hand → Type 0) → (View E → Type 0) → Type 0
-    MayTake becomes rests = (s : List ℕ) (hs : List Hand) → Kept s hs → get_elem? hs pass.seat.id ≡ some (hand_in pass) → slice_index s at ≡ 0 → (g : Hand) × becomes g × KeepsHold rests (view_of pass) g × Kept (slice_set s at 1) (slice_set hs pass.seat.id g) × SiteStep ((view_of pass).steps + 1) (lay (plan_of site) s) (lay (plan_of site) (slice_set s at 1)) (hand_in pass) g
+    MayTake becomes rests = (s : List ℕ) (hs : List Hand) → Kept s hs → get_elem? hs pass.seat.id ≡ some (hand_in pass) → slice_index s at ≡ 0 → (g : Hand) × becomes g × KeepsHold rests (view_of pass) g × Kept (slice_set s at 1) (slice_set hs pass.seat.id g) × SiteStep unheld ((view_of pass).steps + 1) (lay (plan_of site) s) (lay (plan_of site) (slice_set s at 1)) (hand_in pass) g

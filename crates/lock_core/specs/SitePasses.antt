@@ -1,5 +1,5 @@
 -- A pass with its seat.
-use Rattle.std.specs.Prelude.{◌≡◌, ◌≢◌, ℕ, zero, suc, ◌+◌, ◌*◌, ◌<◌, ◌≤◌, ◌⊎◌, true, false, List, [], length, take, slice_get, Some, None}
+use Rattle.std.specs.Prelude.{◌≡◌, ◌≢◌, ℕ, zero, suc, ◌+◌, ◌*◌, ◌<◌, ◌≤◌, ◌⊎◌, Bool, true, false, List, [], length, take, slice_get, Some, None}
 use Rattle.word_bits.specs.declared.call.CallWords.{CallWords}
 use Rattle.word_bits.specs.declared.entry.Entry.{Entry}
 use Rattle.word_bits.specs.declared.rec.Rec.{Rec}
@@ -14,22 +14,22 @@ use Rattle.word_bits.specs.Histories.{Plan, state_after, logs}
 use Rattle.word_bits.specs.Legal.{IsRecord, seen_after}
 use Rattle.atomic_table.specs.Table.{Me}
 use Rattle.atomic_table.specs.Seated.{TableId}
-use Rattle.lock_views.specs.declared.view.Seen.{Seen}
-use Rattle.lock_views.specs.declared.view.Saw.{Saw}
-use Rattle.lock_views.specs.declared.view.Heard.{Heard}
-use Rattle.lock_views.specs.declared.view.View.{View}
-use Rattle.lock_views.specs.declared.how.Interrupted.{Interrupted}
+use Rattle.lock_core.specs.declared.view.Seen.{Seen}
+use Rattle.lock_core.specs.declared.view.Saw.{Saw}
+use Rattle.lock_core.specs.declared.view.Heard.{Heard}
+use Rattle.lock_core.specs.declared.view.View.{View}
+use Rattle.lock_core.specs.declared.how.Interrupted.{Interrupted}
 use Rattle.lock_core.specs.declared.pass.Face.{Face}
-use Rattle.lock_views.specs.declared.view.Hand.{Hand}
-use Rattle.lock_views.specs.declared.view.Held.TheVariants.{No, Alone}
-use Rattle.lock_views.specs.declared.view.Stage.TheVariants.{Rest, Logged}
+use Rattle.lock_core.specs.declared.view.Hand.{Hand}
+use Rattle.lock_core.specs.declared.view.Held.TheVariants.{No, Alone}
+use Rattle.lock_core.specs.declared.view.Stage.TheVariants.{Rest, Logged}
 use Rattle.lock_core.specs.declared.layout.TheConstants.{ENTRIES_AT, LINES_AT}
 use Rattle.word_bits.specs.EntryWord.{entry_word}
-use Rattle.lock_core.specs.Sites.{SawSince, WasInterrupted, consumed_at}
+use Rattle.lock_core.specs.Sites.{SawSince, ServedBy, WasInterrupted, consumed_at}
 use Rattle.lock_core.specs.Plans.{calls_in, start}
 use Rattle.lock_core.specs.Layout.{recs_at, calls_at}
 use Rattle.lock_core.specs.Records.{row, seen_by, AreNext}
-use Rattle.lock_core.specs.Views.{front, became, hearing, consuming, longer, owed_of, Knows, KnowsFirst, OwesNoSignal, handed}
+use Rattle.lock_core.specs.Views.{front, became, quieted, hearing, consuming, longer, owed_of, Knows, KnowsFirst, OwesNoSignal, handed}
 
 -- the seat is one of the table's, and the pass says of itself what the view does
 pub record Sits {E : Type 0} (k : Plan) (table : TableId) (seat : TableId) (me : Me (Unit {0}) (Seen E)) (face : Face) : Type 0 where
@@ -102,6 +102,10 @@ IsTaken h at n = (p : Heard) (t : ℕ) → h.heard ≡ Some p → h.task ≡ Som
 abbrev pub Hears : Hand → ℕ → Hand → Type 0
 Hears h n g = (p : Heard) × (p.sent ≡ n) × (g ≡ hearing h p)
 
+-- a load after which the pass writes no more
+abbrev pub Quiets : Hand → ℕ → Hand → Type 0
+Quiets h n g = g ≡ quieted h
+
 -- such a load is all that came between the two views
 abbrev pub HearsOf : {E : Type 0} → ℕ → View E → View E → Type 0
 HearsOf n v u = (g : Hand) × Hears v.hand n g × (u ≡ handed v g)
@@ -127,7 +131,7 @@ Accounts h w Sent = (h.consumed ≡ 0) × ((t : ℕ) × (h.sent ≡ Some t) × (
 Accounts h w reply = OwesNoSignal h
 
 -- what a pass may record of its task's next call: the record says, whatever the log is, what the call replied there
-pub record MayRecord {Call : Type 0} (o : Obj Call) (unavailable : Unavailable) (k : Plan) (h : Hand) (e : Entry) (w : CallWords) (r : Rec) (seen : List Entry) : Type 0 where
+pub record MayRecord {Call : Type 0} (o : Obj Call) (unavailable : Unavailable) (unheld : Bool) (k : Plan) (h : Hand) (e : Entry) (w : CallWords) (r : Rec) (seen : List Entry) : Type 0 where
   pub task : h.task ≡ Some e.task
   pub call : h.done ≡ e.call
   pub planned : slice_get (row k e.task) e.call ≡ Some w
@@ -135,21 +139,22 @@ pub record MayRecord {Call : Type 0} (o : Obj Call) (unavailable : Unavailable) 
   pub enough : seen_after (logs o w r.reply) r ≤ length seen
   pub busy : (word : ℕ) → r.reply ≡ Busy word → SawSince h word
   pub interrupted : r.reply ≡ Intr → WasInterrupted h
+  pub served : ServedBy unheld (length h.log) h r.k r.reply
   pub accounts : Accounts h w r.reply
   pub means : (log : List Entry) → (h.held ≢ No → h.log ≡ log) → (length h.seen ≤ length log) × (take (length h.seen) log ≡ h.seen)
       → IsRecord o unavailable k log r.k e w r × (owed_of h ≡ 0 → length h.seen ≤ r.k) × (length seen ≤ length log) × (take (length seen) log ≡ seen) × Settles o h log e w r
 
--- the task's next call changes the object, the guarded words store what it leaves of the state after the log, and this is its reply
+-- the task's next call changes the object, the guarded words represent what it leaves of the state after the log, and this is its reply
 pub record IsChange {Call : Type 0} (o : Obj Call) (k : Plan) (h : Hand) (e : Entry) (reply : Reply) : Type 0 where
   pub words : CallWords
   pub call : Call
   pub planned : slice_get (row k e.task) e.call ≡ Some words
   pub is : o.call_of words ≡ Some call
   pub changes : o.reads call ≡ false
-  pub stored : h.known ≡ o.stores ((o.meaning (state_after o k h.log) call).0)
+  pub stored : o.Represents (o.meaning (state_after o k h.log) call).0 h.known
   pub replies : reply ≡ (o.meaning (state_after o k h.log) call).1
 
--- the task's next call reads, and this is its reply on the state after the log, which the guarded words store
+-- the task's next call reads, and this is its reply on the state after the log, which the guarded words represent
 pub record IsReading {Call : Type 0} (o : Obj Call) (k : Plan) (h : Hand) (e : Entry) (reply : Reply) : Type 0 where
   pub words : CallWords
   pub call : Call
@@ -157,7 +162,7 @@ pub record IsReading {Call : Type 0} (o : Obj Call) (k : Plan) (h : Hand) (e : E
   pub is : o.call_of words ≡ Some call
   pub reads : o.reads call ≡ true
   pub held : h.held ≢ No
-  pub stored : h.known ≡ o.stores (state_after o k h.log)
+  pub stored : o.Represents (state_after o k h.log) h.known
   pub replies : reply ≡ (o.meaning (state_after o k h.log) call).1
 
 -- the task's next call reads, and this is its reply on the state after what the pass has seen of the log

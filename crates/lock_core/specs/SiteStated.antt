@@ -1,5 +1,5 @@
 -- What the rule of every site says of its words and views, whatever its lock is.
-use Rattle.std.specs.Prelude.{◌≡◌, ◌≢◌, ℕ, ◌+◌, ◌<◌, ◌≤◌, ◌⊎◌, true, false, List, [], ◌∷◌, length, take, map, slice_get, slice_index, replicate, Some, None}
+use Rattle.std.specs.Prelude.{◌≡◌, ◌≢◌, ℕ, ◌+◌, ◌<◌, ◌≤◌, ◌⊎◌, Bool, true, false, List, [], ◌∷◌, length, take, map, slice_get, slice_index, replicate, Some, None}
 use Rattle.word_bits.specs.declared.TheConstants.{MAX_TASKS}
 use mathlib.Core.Option.{some}
 use lib.ListN.{get_elem?}
@@ -9,18 +9,18 @@ use Rattle.word_bits.specs.EntryWord.{entry_word}
 use Rattle.word_bits.specs.LockWords.{Unavailable}
 use Rattle.word_bits.specs.Objects.{Obj}
 use Rattle.word_bits.specs.Histories.{Plan, Records, state_after}
-use Rattle.lock_views.specs.declared.view.Hand.{Hand}
-use Rattle.lock_views.specs.declared.view.Saw.{Saw}
-use Rattle.lock_views.specs.declared.view.Held.TheVariants.{No, Alone}
-use Rattle.lock_views.specs.declared.view.Stage.TheVariants.{Logged}
-use Rattle.lock_views.specs.declared.view.Moment.{Moment}
+use Rattle.lock_core.specs.declared.view.Hand.{Hand}
+use Rattle.lock_core.specs.declared.view.Saw.{Saw}
+use Rattle.lock_core.specs.declared.view.Held.TheVariants.{No, Alone}
+use Rattle.lock_core.specs.declared.view.Stage.TheVariants.{Logged}
+use Rattle.lock_core.specs.declared.view.Moment.{Moment}
 use Rattle.lock_core.specs.declared.layout.TheConstants.{LOCK_WORDS}
 use Rattle.lock_core.specs.Plans.{calls_in, call_words}
 use Rattle.lock_core.specs.Layout.{SiteWords, site}
 use Rattle.lock_core.specs.Records.{row, rec_words, sends, intrs, IsLoggedAt, AreNext}
 use Rattle.lock_core.specs.Views.{stranger, no_spin, named_of, sent_of, consumed_of, Knows}
 use Rattle.lock_core.specs.Sites.{HasPlan, taken_at, sent_at, consumed_at}
-use Rattle.lock_core.specs.Moves.{SiteMove}
+use Rattle.lock_core.specs.Moves.{SiteMoveWhere}
 use Rattle.lock_core.specs.Pasts.{ChangesOneWord, Instant}
 use Rattle.lock_core.specs.Totals.{total}
 use Rattle.lock_core.specs.ViewParts.{Each}
@@ -46,8 +46,8 @@ module _ {Call : Type 0} (o : Obj Call) (unavailable : Unavailable) (size : ℕ)
     pub tasks : Each (λ h. (t : ℕ) → h.task ≡ Some t → t < length k) hs
     pub done : Each (λ h. (t : ℕ) → h.task ≡ Some t → h.done ≡ length (row told t)) hs
     pub nameless : Each (λ h. h.task ≡ None → (h.held ≡ No) × (h.sent ≡ None) × (h.consumed ≡ 0)) hs
-    -- whenever no view writes, the guarded words are the state after the log; who writes holds alone, and no other view holds
-    pub guarded : Each (λ h. h.writes ≡ false) hs → take size w.guarded ≡ o.stores (state_after o k log)
+    -- whenever no view writes, the guarded words represent the state after the log; who writes holds alone, and no other view holds
+    pub guarded : Each (λ h. h.writes ≡ false) hs → o.Represents (state_after o k log) (take size w.guarded)
     pub writers : Each (λ h. h.writes ≡ true → h.held ≡ Alone) hs
     pub apart : (i j : ℕ) (g h : Hand) → get_elem? hs i ≡ some g → get_elem? hs j ≡ some h → i ≢ j → g.writes ≡ true → h.held ≡ No
     -- who holds alone has no other beside it
@@ -74,15 +74,19 @@ module _ {Call : Type 0} (o : Obj Call) (unavailable : Unavailable) (size : ℕ)
   abbrev pub IsSiteThen : Moment → Type 0
   IsSiteThen m = IsSite (site k m.words) m.hands
 
--- one of the table's moments came of the other by such a step, which changed no word but one; the lock's word stands at this place
-abbrev pub IsSiteMove : {E : Type 0} → Plan → (word_at : ℕ) → Instant E → Instant E → Type 0
-IsSiteMove k word_at x y = (id : ℕ) × SiteMove id (slice_index x.words word_at) (site k x.words) x.views (site k y.words) y.views × ChangesOneWord x.words y.words
+-- one of the table's moments came of the other by such a step, which changed no word but one; the lock's word stands at this place, and `unheld` says whether calls may read without a hold
+abbrev pub IsSiteMoveWhere : {E : Type 0} → (unheld : Bool) → Plan → (word_at : ℕ) → Instant E → Instant E → Type 0
+IsSiteMoveWhere unheld k word_at x y = (id : ℕ) × SiteMoveWhere unheld id (slice_index x.words word_at) (site k x.words) x.views (site k y.words) y.views × ChangesOneWord x.words y.words
 
--- a new table: all lock words are free, no number is taken, the guarded words store the empty state, nothing is logged or recorded, and one pass is there, which has no number
+-- the same where every call that looks at the object holds
+abbrev pub IsSiteMove : {E : Type 0} → Plan → (word_at : ℕ) → Instant E → Instant E → Type 0
+IsSiteMove k word_at x y = IsSiteMoveWhere false k word_at x y
+
+-- a new table: all lock words are free, no number is taken, the guarded words represent the empty state, nothing is logged or recorded, and one pass is there, which has no number
 pub record IsNew {Call : Type 0} (o : Obj Call) (size : ℕ) (k : Plan) (m : Moment) : Type 0 where
   pub free : (i : ℕ) → i < LOCK_WORDS → slice_index m.words i ≡ 0
   pub lines : (i : ℕ) → slice_index (site k m.words).lines i ≡ 0
-  pub stored : take size (site k m.words).guarded ≡ o.stores o.empty
+  pub stored : o.Represents o.empty (take size (site k m.words).guarded)
   pub logged : (site k m.words).len ≡ 0
   pub recorded : (site k m.words).recs ≡ replicate {A = ℕ} (calls_in k) 0
   pub hands : m.hands ≡ stranger (Some k) [] ∷ []

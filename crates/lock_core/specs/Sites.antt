@@ -1,22 +1,23 @@
 -- The site's own facts, over its words and the hands of all views.
-use Rattle.std.specs.Prelude.{◌≡◌, ◌≢◌, ℕ, ◌+◌, ◌-◌, ◌*◌, ◌<◌, ◌≤◌, ◌⊎◌, true, List, length, take, map, slice_get, slice_index, slice_set, Option, Some, None}
+use Rattle.std.specs.Prelude.{◌≡◌, ◌≢◌, ℕ, ◌+◌, ◌-◌, ◌*◌, ◌<◌, ◌≤◌, ◌⊎◌, Bool, true, List, length, take, map, slice_get, slice_index, slice_set, Option, Some, None}
 use Rattle.word_bits.specs.declared.TheConstants.{MAX_TASKS}
 use Rattle.word_bits.specs.declared.call.CallWords.{CallWords}
 use Rattle.word_bits.specs.Calls.{signal_of}
 use Rattle.word_bits.specs.declared.entry.Entry.{Entry}
 use Rattle.word_bits.specs.declared.rec.Rec.{Rec}
+use Rattle.word_bits.specs.declared.reply.Reply.{Reply}
 use Rattle.word_bits.specs.declared.reply.Reply.TheVariants.{Busy, Intr, Sent}
 use Rattle.word_bits.specs.RecWord.{IsRec, rec_word}
 use Rattle.word_bits.specs.EntryWord.{entry_word}
 use Rattle.word_bits.specs.LockWords.{Unavailable}
 use Rattle.word_bits.specs.Objects.{Obj}
 use Rattle.word_bits.specs.Histories.{Plan, Records, state_after}
-use Rattle.lock_views.specs.declared.view.Hand.{Hand}
-use Rattle.lock_views.specs.declared.view.Heard.{Heard}
-use Rattle.lock_views.specs.declared.view.Told.{Told}
-use Rattle.lock_views.specs.declared.view.Saw.{Saw}
-use Rattle.lock_views.specs.declared.view.Held.TheVariants.{No, Alone}
-use Rattle.lock_views.specs.declared.view.Stage.TheVariants.{Entered, Logged}
+use Rattle.lock_core.specs.declared.view.Hand.{Hand}
+use Rattle.lock_core.specs.declared.view.Heard.{Heard}
+use Rattle.lock_core.specs.declared.view.Told.{Told}
+use Rattle.lock_core.specs.declared.view.Saw.{Saw}
+use Rattle.lock_core.specs.declared.view.Held.TheVariants.{No, Alone}
+use Rattle.lock_core.specs.declared.view.Stage.TheVariants.{Entered, Logged}
 use Rattle.lock_core.specs.declared.layout.TheConstants.{LOCK_WORDS, LINES_AT}
 use Rattle.lock_core.specs.Plans.{IsSmall, calls_in, call_words, start}
 use Rattle.lock_core.specs.Layout.{SiteWords, site_width}
@@ -96,8 +97,8 @@ module _ {Call : Type 0} (o : Obj Call) (unavailable : Unavailable) (size : ℕ)
   pub record Balances (guarded lines : List ℕ) (log : List Entry) (told : Records) (s : Tally) : Type 0 where
     -- who holds alone has no other beside it
     pub apart : 0 < s.alone → s.held ≤ 1
-    -- where nobody writes, the guarded words are the state after the log
-    pub quiet : s.writes ≡ 0 → take size guarded ≡ o.stores (state_after o k log)
+    -- where nobody writes, the guarded words represent the state after the log
+    pub quiet : s.writes ≡ 0 → o.Represents (state_after o k log) (take size guarded)
     -- each entry has its record, but for the last one where a view owes it
     pub recorded : (j : ℕ) (e : Entry) → slice_get log j ≡ Some e → j + s.owed < length log → IsLoggedAt o k told e j
     pub few : length log ≤ calls_in told + s.owed
@@ -153,9 +154,9 @@ pub record HoldGoes (h g : Hand) : Type 0 where
   pub takes : h.takes ≤ g.takes
   pub comes : h.held ≡ No → g.held ≢ No → h.takes < g.takes
 
--- the same, of a step that stores no record: the number of the step that last stored one stays
+-- the same, of a step that leaves the records and the log: the number of the step that last stored a record stays, and so does how many the pass owes
 abbrev pub HandGoes : Hand → Hand → Type 0
-HandGoes h g = HoldGoes h g × (g.last ≡ h.last)
+HandGoes h g = HoldGoes h g × (g.last ≡ h.last) × (owed_of g ≡ owed_of h)
 
 -- it counts no failed try, and what it keeps as seen of the lock's word is as before, under the same number, or forgotten
 abbrev pub KeepsSaw : Hand → Hand → Type 0
@@ -172,8 +173,19 @@ pub record FailsTry (step word : ℕ) (h g : Hand) : Type 0 where
 abbrev pub SawGoes : (step word : ℕ) → Hand → Hand → Type 0
 SawGoes step word h g = KeepsSaw h g ⊎ FailsTry step word h g
 
--- The step of this number stores the record of the next call of the pass's own task, in its place among all records. One that says that the lock was taken has a word that the pass saw since it last recorded. Before one that says that the call was interrupted, the pass consumed one signal and saw a word. Before one that says that a signal was sent, the pass sent it. Every signal that the pass sent or consumed is then recorded.
-pub record StoresRecord (step : ℕ) (w w' : SiteWords) (h g : Hand) : Type 0 where
+-- the pass holds, and the call stands where the log, which has so many entries, ends: behind its last entry, or as its last entry, whose record the pass owes
+abbrev pub StandsLast : (len : ℕ) → Hand → (place : ℕ) → Type 0
+StandsLast len h place = (h.held ≢ No) × (place + owed_of h ≡ len)
+
+-- where a pass with this hand stands that records a call with this reply. A call that replies busy, EINTR or sent is none of the log. Any other is recorded under a hold, where the log ends, but that a call which isn't logged needn't be where calls may read without a hold.
+abbrev pub ServedBy : (unheld : Bool) → (len : ℕ) → Hand → (place : ℕ) → Reply → Type 0
+ServedBy unheld len h place (Busy word) = owed_of h ≡ 0
+ServedBy unheld len h place Intr = owed_of h ≡ 0
+ServedBy unheld len h place Sent = owed_of h ≡ 0
+ServedBy unheld len h place reply = StandsLast len h place ⊎ ((unheld ≡ true) × (owed_of h ≡ 0))
+
+-- The step of this number stores the record of the next call of the pass's own task, in its place among all records. One that says that the lock was taken has a word that the pass saw since it last recorded. Before one that says that the call was interrupted, the pass consumed one signal and saw a word. Before one that says that a signal was sent, the pass sent it. Every signal that the pass sent or consumed is then recorded. One with another reply is stored under a hold, unless calls may read without one (`ServedBy`).
+pub record StoresRecord (unheld : Bool) (step : ℕ) (w w' : SiteWords) (h g : Hand) : Type 0 where
   pub plan : Plan
   pub planned : h.plan ≡ Some plan
   pub task : ℕ
@@ -187,13 +199,21 @@ pub record StoresRecord (step : ℕ) (w w' : SiteWords) (h g : Hand) : Type 0 wh
   pub busy : (word : ℕ) → rec.reply ≡ Busy word → SawSince h word
   pub interrupted : rec.reply ≡ Intr → WasInterrupted h
   pub sent : rec.reply ≡ Sent → HasSent plan task h
+  pub served : ServedBy unheld w.len h rec.k rec.reply
   pub settled : OwesNoSignal g
+  -- the log stays, and no record is owed then
+  pub len : w'.len ≡ w.len
+  pub paid : owed_of g ≡ 0
   pub done : g.done ≡ h.done + 1
   pub last : g.last ≡ step
 
--- the step of this number stores no record and the pass last recorded when it did, or it stores the next one of the pass's task
-abbrev pub RecordsGo : (step : ℕ) → SiteWords → SiteWords → Hand → Hand → Type 0
-RecordsGo step w w' h g = ((w'.recs ≡ w.recs) × (g.last ≡ h.last)) ⊎ StoresRecord step w w' h g
+-- the log grows by as many entries as the pass then owes records more
+abbrev pub OwesGrowth : SiteWords → SiteWords → Hand → Hand → Type 0
+OwesGrowth w w' h g = w'.len + owed_of h ≡ w.len + owed_of g
+
+-- the step of this number stores no record, the pass last recorded when it did, and owes a record for each entry by which the log grows, or it stores the next one of the pass's task
+abbrev pub RecordsGo : (unheld : Bool) → (step : ℕ) → SiteWords → SiteWords → Hand → Hand → Type 0
+RecordsGo unheld step w w' h g = ((w'.recs ≡ w.recs) × (g.last ≡ h.last) × OwesGrowth w w' h g) ⊎ StoresRecord unheld step w w' h g
 
 -- the guarded words and the log stay
 pub record SameObject (w w' : SiteWords) : Type 0 where
@@ -201,10 +221,10 @@ pub record SameObject (w w' : SiteWords) : Type 0 where
   pub len : w'.len ≡ w.len
   pub entries : w'.entries ≡ w.entries
 
--- what the step of this number, of a pass with the first hand, which then has the second, does to the site's words and to the hand
-pub record SiteStep (step : ℕ) (w w' : SiteWords) (h g : Hand) : Type 0 where
+-- what the step of this number, of a pass with the first hand, which then has the second, does to the site's words and to the hand; `unheld` says whether calls may read without a hold
+pub record SiteStep (unheld : Bool) (step : ℕ) (w w' : SiteWords) (h g : Hand) : Type 0 where
   pub grows : Grows w w'
-  pub records : RecordsGo step w w' h g
+  pub records : RecordsGo unheld step w w' h g
   -- who doesn't hold alone leaves the guarded words and the log
   pub quiet : h.held ≢ Alone → SameObject w w'
   pub hand : HoldGoes h g

@@ -2,9 +2,9 @@
 use Rattle.std.specs.Prelude.{ℕ, ◌+◌, ◌==◌, Bool, true, false, List}
 use Rattle.lock_core.specs.Records.{bit}
 use Rattle.lock_core.specs.Totals.{total}
-use Rattle.lock_views.specs.declared.view.Frame.{Frame}
-use Rattle.lock_views.specs.declared.view.Point.{Point}
-use Rattle.lock_views.specs.declared.view.Point.TheVariants.{Undoing, Pending, Taking, Clearing, Cleared, Linking, Waiting, Front, Ready, Passing, Holding}
+use Rattle.lock_core.specs.declared.view.Frame.{Frame}
+use Rattle.lock_core.specs.declared.view.Point.{Point}
+use Rattle.lock_core.specs.declared.view.Point.TheVariants.{Undoing, Pending, Taking, Clearing, Cleared, Linking, Waiting, Front, Ready, Passing, Holding}
 
 -- the number, or 0 where the test fails
 abbrev pub when : Bool → ℕ → ℕ
@@ -49,6 +49,13 @@ stands Front = true
 stands Ready = true
 stands Passing = true
 stands _ = false
+
+-- it is the head of the queue: it waits for the locked byte and the pending bit, has seen both 0, or is to tell the next node
+abbrev pub is_head : Point → Bool
+is_head Front = true
+is_head Ready = true
+is_head Passing = true
+is_head _ = false
 
 -- its node isn't free for another call
 abbrev pub uses : Point → Bool

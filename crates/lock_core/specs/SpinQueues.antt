@@ -4,9 +4,9 @@ use mathlib.Core.Option.{some}
 use lib.ListN.{get_elem?}
 use Rattle.lock_core.specs.ViewParts.{Each}
 use Rattle.lock_core.specs.Totals.{total}
-use Rattle.lock_views.specs.declared.view.Frame.{Frame}
-use Rattle.lock_views.specs.declared.view.Point.{Point}
-use Rattle.lock_views.specs.declared.view.Point.TheVariants.{Clearing, Cleared, Linking, Waiting, Front, Ready, Passing}
+use Rattle.lock_core.specs.declared.view.Frame.{Frame}
+use Rattle.lock_core.specs.declared.view.Point.{Point}
+use Rattle.lock_core.specs.declared.view.Point.TheVariants.{Clearing, Cleared, Linking, Waiting, Front, Ready, Passing}
 use Rattle.lock_core.specs.SpinFrames.{Counts, counts, code_is, stands_as, uses_as}
 
 -- what a node's code counts for in the word

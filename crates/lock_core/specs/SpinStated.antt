@@ -4,15 +4,15 @@ use mathlib.Core.Option.{some}
 use lib.ListN.{get_elem?}
 use Rattle.word_bits.specs.declared.spin.Spin.{Spin}
 use Rattle.word_bits.specs.SpinWord.{IsSpin, spin_word}
-use Rattle.lock_views.specs.declared.view.Hand.{Hand}
-use Rattle.lock_views.specs.declared.view.Frame.{Frame}
-use Rattle.lock_views.specs.declared.view.SpinHand.{SpinHand}
-use Rattle.lock_views.specs.declared.view.View.{View}
-use Rattle.lock_views.specs.declared.view.Moment.{Moment}
+use Rattle.lock_core.specs.declared.view.Hand.{Hand}
+use Rattle.lock_core.specs.declared.view.Frame.{Frame}
+use Rattle.lock_core.specs.declared.view.SpinHand.{SpinHand}
+use Rattle.lock_core.specs.declared.view.View.{View}
+use Rattle.lock_core.specs.declared.view.Moment.{Moment}
 use Rattle.lock_core.specs.declared.layout.TheConstants.{SPIN_WORDS}
 use Rattle.lock_core.specs.Layout.{part}
 use Rattle.lock_core.specs.Totals.{total}
-use Rattle.lock_core.specs.SpinFrames.{when, code_is, stands, uses, stands_as, owns_at, holds_of, takes_of, ready_of, pends_of, undoes_of}
+use Rattle.lock_core.specs.SpinFrames.{when, code_is, stands, uses, stands_as, owns_at, holds_of, takes_of, ready_of, pends_of, undoes_of, is_head}
 use Rattle.lock_core.specs.SpinQueues.{tail_unit}
 use Rattle.lock_core.specs.Views.{SpinPart, spin_part}
 use Rattle.lock_core.specs.LockHands.{frame_at, point_at, depth_of, RestsAt}
@@ -54,6 +54,10 @@ pub record IsSpinLock (word : ℕ) (next locked : ℕ → ℕ) (queue : List ℕ
   -- a node names its successor, or none, and none but the front was told that it is the front
   pub linked : (p x : ℕ) → get_elem? queue p ≡ some x → (next x ≡ 0) ⊎ (get_elem? queue (suc p) ≡ some (next x))
   pub told : (p x : ℕ) → get_elem? queue p ≡ some x → locked x ≡ 1 → p ≡ 0
+  -- the first found no tail, or was told that it is the head
+  pub first : (x : ℕ) → get_elem? queue 0 ≡ some x → (found_by fs x ≡ 0) ⊎ (locked x ≡ 1)
+  -- a pass that is the head has the first node
+  pub heads : (j : ℕ) (f : Frame) → get_elem? fs j ≡ some f → is_head f.point ≡ true → get_elem? queue 0 ≡ some f.code
   -- a front that has seen the byte and the bit 0 has no other before it: nobody holds, and nobody owns the bit to take the lock
   pub ready : 1 ≤ total ready_of fs → (total ready_of fs ≡ 1) × (total holds_of fs ≡ 0) × (total pends_of fs + total takes_of fs ≡ 0)
 
@@ -82,6 +86,8 @@ pub record AreSpinLocksThen (n first : ℕ) (m : Moment) : Type 0 where
   pub packed : (l : ℕ) → l < n → IsSpinWord (word_in (part first SPIN_WORDS m.words) l)
   pub nodes : (j : ℕ) (h : Hand) (s : SpinHand) → get_elem? m.hands j ≡ some h → get_elem? m.spins j ≡ some s → UsesOwnNodes h s
   pub filled : (j : ℕ) (h : Hand) (s : SpinHand) → get_elem? m.hands j ≡ some h → get_elem? m.spins j ≡ some s → UsesEachBelow h s
+  -- no two passes have one task's number
+  pub numbers : (i j t : ℕ) (h g : Hand) → get_elem? m.hands i ≡ some h → get_elem? m.hands j ≡ some g → h.task ≡ Some t → g.task ≡ Some t → i ≡ j
   -- no pass has to do with a lock past these
   pub few : (j : ℕ) (s : SpinHand) → get_elem? m.spins j ≡ some s → (l : ℕ) → n ≤ l → RestsAt l s
   -- no node stands in two queues
@@ -110,9 +116,9 @@ pub record IsSpinStep (n id : ℕ) (w : List ℕ) (ps : List SpinPart) (w' : Lis
   -- and its node leaves the queue by the exchange of the word for 1, or by the store that tells the node behind it that it is the front
   pub leaves : (l : ℕ) → l < n → (j : ℕ) (p p' : SpinPart) → get_elem? ps j ≡ some p → get_elem? ps' j ≡ some p' → LeavesBy l (stands (point_at l p.spin)) (stands (point_at l p'.spin)) w (queues' l) w'
 
--- what the pass of this number counts of a lock, it counted at this step, by where it was and came to
+-- the pass of this number made one step more, and what it counts of a lock, it counted at this step, by where it was and came to
 abbrev pub CountsSpin : {E : Type 0} → ℕ → List (View E) → List (View E) → Type 0
-CountsSpin {E} id vs us = (v u : View E) × (get_elem? vs id ≡ some v) × (get_elem? us id ≡ some u) × ((l : ℕ) × SpinGoes (v.steps + 1) l v.spin u.spin)
+CountsSpin {E} id vs us = (v u : View E) × (get_elem? vs id ≡ some v) × (get_elem? us id ≡ some u) × (u.steps ≡ v.steps + 1) × ((l : ℕ) × SpinGoes (v.steps + 1) l v.spin u.spin)
 
 -- one of the table's moments came of the other by such a step, which its pass counted
 abbrev pub IsSpinLocksMove : {E : Type 0} → ℕ → ℕ → Instant E → Instant E → Type 0

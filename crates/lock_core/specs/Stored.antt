@@ -1,9 +1,9 @@
 -- The run of a table whose memory stores its words.
 use Rattle.std.specs.Prelude.{ℕ, List}
 use Rattle.word_bits.specs.Histories.{Plan}
-use Rattle.lock_views.specs.declared.view.View.{View}
-use Rattle.lock_views.specs.declared.view.Seen.{Seen}
-use Rattle.lock_views.specs.declared.view.Moment.{Moment}
+use Rattle.lock_core.specs.declared.view.View.{View}
+use Rattle.lock_core.specs.declared.view.Seen.{Seen}
+use Rattle.lock_core.specs.declared.view.Moment.{Moment}
 use Rattle.lock_core.specs.Pasts.{Lived}
 use Rattle.lock_core.specs.Stores.{Stores}
 

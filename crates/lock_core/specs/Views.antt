@@ -6,17 +6,17 @@ use Rattle.word_bits.specs.declared.rec.Rec.{Rec}
 use Rattle.word_bits.specs.declared.reply.Reply.{Reply}
 use Rattle.word_bits.specs.declared.reply.Reply.TheVariants.{Busy, Intr, Sent}
 use Rattle.word_bits.specs.Histories.{Plan}
-use Rattle.lock_views.specs.declared.view.View.{View}
-use Rattle.lock_views.specs.declared.view.Hand.{Hand}
-use Rattle.lock_views.specs.declared.view.SpinHand.{SpinHand}
-use Rattle.lock_views.specs.declared.view.Frame.{Frame}
-use Rattle.lock_views.specs.declared.view.Point.TheVariants.{Out, Holding}
-use Rattle.lock_views.specs.declared.view.Heard.{Heard}
-use Rattle.lock_views.specs.declared.view.Told.{Told}
-use Rattle.lock_views.specs.declared.view.Held.{Held}
-use Rattle.lock_views.specs.declared.view.Held.TheVariants.{No, Shared, Alone}
-use Rattle.lock_views.specs.declared.view.Stage.{Stage}
-use Rattle.lock_views.specs.declared.view.Stage.TheVariants.{Rest, Entered, Logged}
+use Rattle.lock_core.specs.declared.view.View.{View}
+use Rattle.lock_core.specs.declared.view.Hand.{Hand}
+use Rattle.lock_core.specs.declared.view.SpinHand.{SpinHand}
+use Rattle.lock_core.specs.declared.view.Frame.{Frame}
+use Rattle.lock_core.specs.declared.view.Point.TheVariants.{Out, Holding}
+use Rattle.lock_core.specs.declared.view.Heard.{Heard}
+use Rattle.lock_core.specs.declared.view.Told.{Told}
+use Rattle.lock_core.specs.declared.view.Held.{Held}
+use Rattle.lock_core.specs.declared.view.Held.TheVariants.{No, Shared, Alone}
+use Rattle.lock_core.specs.declared.view.Stage.{Stage}
+use Rattle.lock_core.specs.declared.view.Stage.TheVariants.{Rest, Entered, Logged}
 use Rattle.lock_core.specs.Records.{bit}
 
 -- a pass that has no number, holds nothing and has seen these entries
@@ -96,11 +96,15 @@ gathered h g = record h { seen = longer h.seen g.seen; records = h.records ++ g.
 abbrev pub wrote : Hand → ℕ → ℕ → Hand
 wrote h at value = record h { writes = true; known = slice_set h.known at value }
 
+-- It writes no more.
+abbrev pub quieted : Hand → Hand
+quieted h = record h { writes = false }
+
 -- The next entry is stored behind the log.
 abbrev pub entered : Hand → Entry → Hand
 entered h e = record h { stage = Entered e }
 
--- The log has the entry: the guarded words are now the state after it.
+-- The log has the entry: the guarded words now represent the state after it.
 abbrev pub logged : Hand → Entry → Hand
 logged h e = record h { stage = Logged e; writes = false; log = h.log ++ e ∷ [] }
 

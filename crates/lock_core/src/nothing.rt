@@ -3,7 +3,7 @@ ghost use Rattle.std.specs.Prelude.{refl};
 ghost use Rattle.word_bits.specs.declared.call.CallWords.{CallWords};
 ghost use Rattle.lock_core.specs.Nothings.{nothing, few, sized, apart};
 
-use word_bits::{CallWords, Object, Reply};
+use word_bits::{CallWords, Object, Reply, ValueObject};
 
 /// An object without words and calls.
 #[derive(Drop)]
@@ -20,10 +20,6 @@ impl Object for Nothing {
 
     ghost state = { λ _. tt };
 
-    fn empty() -> Nothing {
-        Nothing
-    }
-
     fn call_of(_words: CallWords) -> Option<()> {
         None
     }
@@ -32,25 +28,11 @@ impl Object for Nothing {
         true
     }
 
-    fn apply(&mut self, _call: ()) -> Reply {
-        Reply::Good
-    }
-
-    fn load(_words: &[u64]) -> Option<Nothing> {
-        Some(Nothing)
-    }
-
-    fn store(&self, _out: &mut [u64]) {}
-
     ghost few_words = { few };
-
-    ghost sized = { sized };
 
     ghost starts = { tt };
 
     ghost zeros = { refl };
-
-    ghost apart = { apart };
 
     ghost called = { λ words call e. tt };
 
@@ -63,4 +45,28 @@ impl Object for Nothing {
     ghost reading = { λ s call e. refl };
 
     ghost refused = { λ s call errno e. refl };
+}
+
+impl ValueObject for Nothing {
+    fn empty() -> Nothing {
+        Nothing
+    }
+
+    fn apply(&mut self, _call: ()) -> Reply {
+        Reply::Good
+    }
+
+    fn load(_words: &[u64]) -> Option<Nothing> {
+        Some(Nothing)
+    }
+
+    fn store(&self, _out: &mut [u64]) {}
+
+    ghost sized = { sized };
+
+    ghost apart = { apart };
+
+    ghost exact = { λ s words is. is };
+
+    ghost represents = { λ s words is. is };
 }

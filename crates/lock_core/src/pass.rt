@@ -1,7 +1,7 @@
 //! Passes: what a task makes the steps of one table with.
 ghost use Rattle.std.specs.Prelude.{◌≡◌, ◌≢◌, ◌<◌, true, false, slice_index_or, None, length};
-ghost use Rattle.lock_views.specs.declared.view.Held.TheVariants.{No};
-ghost use Rattle.lock_views.specs.declared.view.Point.TheVariants.{Out};
+ghost use Rattle.lock_core.specs.declared.view.Held.TheVariants.{No};
+ghost use Rattle.lock_core.specs.declared.view.Point.TheVariants.{Out};
 ghost use Rattle.lock_core.specs.LockHands.{point_at, depth_of, RestsAt};
 ghost use Rattle.lock_core.specs.Records.{bit};
 ghost use Rattle.lock_core.specs.Nestings.{is_held, waits_at, mask_of, no_nesting};
@@ -9,8 +9,8 @@ ghost use Rattle.lock_core.specs.SiteHandles.{view_of, hand_in, past_of, task_in
 
 use crate::layout::SPIN_LOCKS;
 use crate::rule::SiteRule;
+use crate::view::{Held, Seen};
 use atomic_table::Seat;
-use lock_views::view::{Held, Seen};
 
 /// What a pass says of itself.
 #[derive(Clone, Copy, Debug, PartialEq, Eq)]

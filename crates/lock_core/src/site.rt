@@ -11,8 +11,8 @@ use crate::layout::LOCK_WORDS;
 use crate::pass::{Face, Nesting, Pass};
 use crate::plan::Plan;
 use crate::rule::{SiteRule, Under};
+use crate::view::{Seen, View};
 use atomic_table::{Play, Table};
-use lock_views::view::{Seen, View};
 use plays::{Becomes, Begin, Cut, Find, Glue, Lift, Put, Puts, Tells};
 use std::alloc::{AllocError, Global};
 

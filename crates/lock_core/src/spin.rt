@@ -3,8 +3,8 @@ ghost use Rattle.std.specs.Prelude.{◌≡◌, ℕ, ◌+◌, ◌<◌, ◌≤◌,
 ghost use mathlib.Core.Option.{some};
 ghost use lib.ListN.{get_elem?};
 ghost use Rattle.word_bits.specs.Histories.{Plan as Calls};
-ghost use Rattle.lock_views.specs.declared.view.View.{View};
-ghost use Rattle.lock_views.specs.declared.view.SpinHand.{SpinHand};
+ghost use Rattle.lock_core.specs.declared.view.View.{View};
+ghost use Rattle.lock_core.specs.declared.view.SpinHand.{SpinHand};
 ghost use Rattle.lock_core.specs.declared.layout.TheConstants.{LOCK_WORDS, SPIN_WORDS};
 ghost use Rattle.lock_core.specs.Layout.{part};
 ghost use Rattle.lock_core.specs.Views.{spin_part, part_with};
@@ -12,7 +12,7 @@ ghost use Rattle.lock_core.specs.Spins.{SpinsKept, SpinGoes, SpinsMove, SpinFree
 ghost use Rattle.lock_core.specs.Moves.{Goes};
 
 use crate::rule::SiteRule;
-use lock_views::view::View;
+use crate::view::View;
 
 /// A rule whose table has the words of spin locks, of which no other fact of the rule speaks.
 pub trait SpinHost: SiteRule {

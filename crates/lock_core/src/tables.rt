@@ -1,5 +1,5 @@
 //! The rules of tables with spin locks alone.
-ghost use Rattle.std.specs.Prelude.{[], refl};
+ghost use Rattle.std.specs.Prelude.{false, [], refl};
 ghost use Rattle.lock_core.specs.Nothings.{never};
 ghost use Rattle.lock_core.specs.LockHands.{RestsEverywhere};
 ghost use Rattle.lock_core.specs.SpinTables.{SpinTableKept, SpinTableMoves, table-site, table-sites, table-opens, table-splits, table-joins, table-spins, table-spin, spins-inside, one-some, one-eight, eight-most, free-out, apart-out};
@@ -17,6 +17,8 @@ impl SiteRule for Bare {
     type Ext = ();
 
     ghost unavailable = { never };
+
+    ghost reads_unheld = { false };
 
     ghost holds = { SpinTableKept 1 };
 
@@ -78,6 +80,8 @@ impl SiteRule for Nest {
     type Ext = ();
 
     ghost unavailable = { never };
+
+    ghost reads_unheld = { false };
 
     ghost holds = { SpinTableKept 8 };
 

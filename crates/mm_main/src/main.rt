@@ -5,7 +5,8 @@
 use byte_streams::{ReadSource, WriteSink};
 use fd_table::Fds;
 use mm_program::run_to_end;
-use sleep_lock::{Mutex, RwSem};
+use mutex_slow::Mutex;
+use rwsem_slow::RwSem;
 use std::process::ExitCode;
 use std::{env, io};
 use vma_map::Areas;

@@ -1,4 +1,6 @@
 pub mod CommandLines
 pub mod Inputs
 pub mod Services
+pub mod Weaker
 pub mod Unnamed
+pub mod Telling

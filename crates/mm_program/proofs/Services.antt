@@ -1,8 +1,8 @@
 -- A machine that ran has done all calls of its script.
 use Rattle.std.proofs.Common.{◌≡◌, ℕ, Bool, List, sym, subst}
 use Rattle.word_bits.specs.Histories.{Plan}
-use Rattle.lock_views.specs.declared.view.Hand.{Hand}
-use Rattle.lock_views.specs.declared.view.Moment.{Moment}
+use Rattle.lock_core.specs.declared.view.Hand.{Hand}
+use Rattle.lock_core.specs.declared.view.Moment.{Moment}
 use Rattle.task_script.specs.Scripts.{Listing}
 use Rattle.mm_serve.specs.declared.machine.Machine.{Machine}
 use Rattle.mm_serve.specs.Machines.{AreSitesOf, GoBackToTasks, HasLegalResults, HasRun, IsAtRest, IsMachineOf, KnowsPasts}

@@ -1,5 +1,5 @@
 -- What the program answers, and what it has written and keeps then.
-use Rattle.std.specs.Prelude.{◌≡◌, ◌≤◌, ℕ, Bool, List, length, Option, Some, None, IfSome, Ok, ◌⊎◌}
+use Rattle.std.specs.Prelude.{◌≡◌, ◌≤◌, ℕ, Bool, List, length, codes, Option, Some, None, IfSome, Ok, ◌⊎◌}
 use Rattle.std.specs.Io.KnownBytes.{Appends, Consumes, Keeps}
 use Rattle.word_bits.specs.Snapshots.{Words}
 use Rattle.byte_streams.specs.Causes.{Fronts, Rose, one_more}
@@ -68,6 +68,15 @@ status_number Refused = 3
 status_number ReadFault = 4
 status_number WriteFault = 5
 status_number NoMemory = 6
+
+-- what is told on standard error, where the program didn't do what it was asked for
+abbrev pub complaint_text : Status → Option (List ℕ)
+complaint_text Done = None
+complaint_text Usage = Some (codes "a script is read from standard input; --help says more")
+complaint_text Refused = Some (codes "docs/PROGRAM.md says what each reason means")
+complaint_text ReadFault = Some (codes "standard input can't be read")
+complaint_text WriteFault = Some (codes "standard output can't be written")
+complaint_text NoMemory = Some (codes "there is no memory")
 
 -- there is this script: that of a number, or the one that the source tells
 abbrev pub GivesScript : Option ℕ → (left : Option (List ℕ)) → Listing → Type 0

@@ -1,8 +1,8 @@
 -- The machine that a run of a script leaves.
 use Rattle.std.specs.Prelude.{ℕ, Bool, List}
 use Rattle.word_bits.specs.Histories.{Plan}
-use Rattle.lock_views.specs.declared.view.Hand.{Hand}
-use Rattle.lock_views.specs.declared.view.Moment.{Moment}
+use Rattle.lock_core.specs.declared.view.Hand.{Hand}
+use Rattle.lock_core.specs.declared.view.Moment.{Moment}
 use Rattle.sleep_lock.specs.LockMembers.{LockMembers}
 use Rattle.task_script.specs.Scripts.{Listing}
 use Rattle.mm_report.specs.Results.{Told, AreLegal}

@@ -38,7 +38,27 @@ abbrev pub usage_text : List ℕ
 usage_text = codes "usage: mm_main [--spin N] [--overdue N] [--generate N] [--summary]\n"
 
 abbrev pub help_text : List ℕ
-help_text = codes "usage: mm_main [--spin N] [--overdue N] [--generate N] [--summary] < SCRIPT\nDoes the tasks of a script at once and prints a history of each object.\n  --summary     one line for each object in place of its history\n  --generate N  a script that is made from N; none is read\n  --spin N      how often a CPU is asked before a spin ends, 100\n  --overdue N   how often before a wait is too long, 4\nA script: space a; task; a map 16 4 rw-; a fault 17 w; a line end for each ;\nStatus: 0 done, 2 misuse, 3 refused line, 4 no input, 5 no output, 6 no memory\n"
+help_text =
+    codes "usage: mm_main [--spin N] [--overdue N] [--generate N] [--summary] < SCRIPT\n"
+    ++ codes "Does the tasks of a script at once, each on a thread, and prints for each\n"
+    ++ codes "object one history: every call with its reply, and the state that is left.\n"
+    ++ codes "  --summary     one line for each object in place of its history\n"
+    ++ codes "  --generate N  a script that is made from N, up to 4294967295; none is read\n"
+    ++ codes "  --spin N      how often a CPU is asked before a spin ends: 100, or N up to 1000000\n"
+    ++ codes "  --overdue N   how often before a wait is too long: 4, or N up to 1000000\n"
+    ++ codes "A script has up to 1048576 bytes, 16 objects and 64 tasks, for example\n"
+    ++ codes "    space a\n"
+    ++ codes "    table t\n"
+    ++ codes "    task\n"
+    ++ codes "    a map 16 4 rw-\n"
+    ++ codes "    a fault 17 w\n"
+    ++ codes "    task\n"
+    ++ codes "    t open 7\n"
+    ++ codes "    try a unmap 16 2\n"
+    ++ codes "Behind a first line 'version 2' it has up to 32 objects and 400 tasks, and the\n"
+    ++ codes "call remap. docs/PROGRAM.md has all calls, and says what each refusal means.\n"
+    ++ codes "Status: 0 done, 2 misuse, 3 a line is refused, 4 the input can't be read,\n"
+    ++ codes "5 the output can't be written, 6 no memory\n"
 
 -- a reason's name
 abbrev pub reason_text : Reason → List ℕ

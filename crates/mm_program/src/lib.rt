@@ -5,6 +5,7 @@
 
 mod host;
 mod input;
+mod locks;
 mod objects;
 mod options;
 mod program;
@@ -12,6 +13,7 @@ mod run;
 mod status;
 mod threads;
 
+pub use locks::{SpaceLock, TableLock};
 pub use objects::ScriptMachine;
 pub use program::top;
 pub use run::run_to_end;

@@ -5,16 +5,21 @@ ghost use Rattle.std.specs.Process.{exit_status};
 ghost use Rattle.std.specs.Vec.Iter.{into_iter_items};
 ghost use Rattle.mm_program.specs.Answers.{AnswersLegally, AnswersTo, CompletesLegally, CompletesTo, TakesAtMost, status_number, read_faults, write_faults};
 ghost use Rattle.mm_program.specs.CommandLine.{asks_help, line_asks_help, said_by, said_by_line};
+ghost use Rattle.vma_map.specs.Spaces.{space};
+ghost use Rattle.fd_table.specs.Tables.{table};
+ghost use Rattle.mutex_slow.specs.MutexLocks.{KnowsMutex};
+ghost use Rattle.rwsem_slow.specs.RwSemLocks.{KnowsRwSem};
+ghost use Rattle.osq_unqueue.specs.LockSpinQueues.{KnowsSpinQueue};
 ghost use Rattle.sleep_lock.specs.LockMembers.{members};
 ghost use Rattle.mm_program.specs.ProgramKept.{HasServedUnder};
 ghost use Rattle.mm_program.specs.Requests.{reads_input, request};
 
+use crate::locks::{SpaceLock, TableLock};
 use crate::objects::ScriptMachine;
 use crate::program::top;
 use crate::status::Status;
 use byte_streams::{Sink, Source};
 use cpu_task::{OpenGate, ParkCrew};
-use mm_serve::{SpaceLock, TableLock};
 use sleep_lock::SleepLock;
 use std::alloc::{AllocError, Global};
 use std::process::ExitCode;
@@ -76,15 +81,19 @@ where
     ensures answer { AnswersTo S.left S.faults K.faults K.written source.old source.new
         sink.old sink.new
         (HasServedUnder
-        (members A.calls_on A.view A.sits A.spun A.kind A.word_at A.opened A.waits)
-        (members T.calls_on T.view T.sits T.spun T.kind T.word_at T.opened T.waits))
+        (members A.calls_on A.view A.sits A.spun A.kind A.word_at A.opened A.waits
+        (KnowsRwSem space 257) KnowsSpinQueue)
+        (members T.calls_on T.view T.sits T.spun T.kind T.word_at T.opened T.waits
+        (KnowsMutex table 64) KnowsSpinQueue))
         kept.new
         (request (line_asks_help line) (said_by_line line)) result.0 }
     ensures complete { CompletesTo S.left S.faults K.faults K.written source.old source.new
         sink.old sink.new
         (HasServedUnder
-        (members A.calls_on A.view A.sits A.spun A.kind A.word_at A.opened A.waits)
-        (members T.calls_on T.view T.sits T.spun T.kind T.word_at T.opened T.waits))
+        (members A.calls_on A.view A.sits A.spun A.kind A.word_at A.opened A.waits
+        (KnowsRwSem space 257) KnowsSpinQueue)
+        (members T.calls_on T.view T.sits T.spun T.kind T.word_at T.opened T.waits
+        (KnowsMutex table 64) KnowsSpinQueue))
         kept.new
         (said_by_line line) result.0 }
     ensures read_faults { S.faults source.new ≡ read_faults result.0 (S.faults source.old) }

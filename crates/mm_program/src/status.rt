@@ -1,6 +1,6 @@
 //! How the program ends.
-ghost use Rattle.std.specs.Prelude.{◌≡◌, ◌≤◌, None, IsSome};
-ghost use Rattle.mm_program.specs.Answers.{status_number};
+ghost use Rattle.std.specs.Prelude.{◌≡◌, option_map};
+ghost use Rattle.mm_program.specs.Answers.{complaint_text, status_number};
 
 /// How a run of the program ended.
 #[derive(Clone, Copy, Debug, PartialEq, Eq)]
@@ -34,13 +34,14 @@ impl Status {
         }
     }
 
-    /// What failed, in words, where the program couldn't do what it was asked for.
+    /// What is told on standard error, where the program didn't do what it was asked for.
     pub fn complaint(self) -> Option<&'static str>
-        ensures silent { status_number self ≤ 3 → result ≡ None }
-        ensures told { 4 ≤ status_number self → IsSome result }
+        ensures { option_map (λ s. s.now) result ≡ complaint_text self }
     {
         match self {
-            Status::Done | Status::Usage | Status::Refused => None,
+            Status::Done => None,
+            Status::Usage => Some("a script is read from standard input; --help says more"),
+            Status::Refused => Some("docs/PROGRAM.md says what each reason means"),
             Status::ReadFault => Some("standard input can't be read"),
             Status::WriteFault => Some("standard output can't be written"),
             Status::NoMemory => Some("there is no memory"),

@@ -10,7 +10,7 @@ use crate::line::{add_area, add_descriptor, add_left};
 use byte_streams::{Failed, Outbox, Sink};
 use fd_table::{DESCRIPTORS, Fds};
 use vma_map::Areas;
-use word_bits::{Area, Object};
+use word_bits::{Area, Object, ValueObject};
 
 // The lines of these areas.
 fn write_areas<K: Sink>(areas: &[Area], out: &mut Outbox, sink: &mut K) -> Result<(), Failed>

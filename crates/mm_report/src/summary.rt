@@ -16,7 +16,7 @@ use crate::line::add_summary;
 use byte_streams::{Failed, Outbox, Sink};
 use fd_table::Fds;
 use task_script::Script;
-use word_bits::{Object, Rec, Reply, Snapshot};
+use word_bits::{Object, Rec, Reply, Snapshot, ValueObject};
 
 /// The numbers of an object's history and of the state that it leaves.
 #[derive(Clone, Copy, Debug, PartialEq, Eq)]

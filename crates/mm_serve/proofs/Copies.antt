@@ -4,8 +4,8 @@ use Rattle.std.proofs.lemmas.List.{get_or-set_same, get_or-set_other}
 use Rattle.word_bits.specs.Snapshots.{Words}
 use Rattle.word_bits.specs.Histories.{Plan}
 use Rattle.guarded.specs.ObjectCopying.{AreKnown, HeldAlone}
-use Rattle.lock_views.specs.declared.view.Hand.{Hand}
-use Rattle.lock_views.specs.declared.view.Moment.{Moment}
+use Rattle.lock_core.specs.declared.view.Hand.{Hand}
+use Rattle.lock_core.specs.declared.view.Moment.{Moment}
 use Rattle.lock_core.specs.Pasts.{GoesOn}
 use Rattle.lock_core.proofs.RowLaws.{none-some, same-some, get-there, some-inside}
 use Rattle.task_script.specs.Scripts.{Declared, Listing, plan_of}

@@ -17,7 +17,7 @@ use Rattle.word_bits.specs.Legal.{AreTaskRecords, AreRecords, Tells, seen_after}
 use Rattle.vma_map.specs.Spaces.{space}
 use Rattle.fd_table.specs.Tables.{table}
 use Rattle.guarded.specs.ObjectCopying.{AreKnown, IsKnownHistory}
-use Rattle.lock_views.specs.declared.view.Hand.{Hand}
+use Rattle.lock_core.specs.declared.view.Hand.{Hand}
 use Rattle.lock_core.specs.Plans.{calls_in}
 use Rattle.lock_core.proofs.RowLaws.{none-some}
 use Rattle.task_script.specs.declared.script.Line.{Line}

@@ -3,8 +3,8 @@ use Rattle.std.specs.Prelude.{◌≡◌, ◌≢◌, ℕ, ◌<◌, Bool, List, []
 use Rattle.word_bits.specs.Histories.{Plan}
 use Rattle.word_bits.specs.Snapshots.{Words}
 use Rattle.guarded.specs.ObjectCopying.{AreKnown}
-use Rattle.lock_views.specs.declared.view.Hand.{Hand}
-use Rattle.lock_views.specs.declared.view.Moment.{Moment}
+use Rattle.lock_core.specs.declared.view.Hand.{Hand}
+use Rattle.lock_core.specs.declared.view.Moment.{Moment}
 use Rattle.lock_core.specs.Pasts.{GoesOn}
 use Rattle.mm_report.specs.Results.{Told, AreLegal, AreComplete}
 use Rattle.task_script.specs.Scripts.{Declared, Listing, plan_of}

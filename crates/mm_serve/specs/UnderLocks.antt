@@ -1,16 +1,13 @@
 -- Spaces under locks of one kind and tables under locks of another: what is known of an object and of its pass, by what the trait of locks tells of the two kinds.
 use Rattle.word_bits.specs.Histories.{Plan}
 use Rattle.std.specs.Prelude.{ℕ, List}
-use Rattle.lock_views.specs.declared.view.Hand.{Hand}
-use Rattle.lock_views.specs.declared.view.Moment.{Moment}
+use Rattle.lock_core.specs.declared.view.Hand.{Hand}
+use Rattle.lock_core.specs.declared.view.Moment.{Moment}
 use Rattle.vma_map.specs.Spaces.{space}
 use Rattle.fd_table.specs.Tables.{table}
 use Rattle.guarded.specs.declared.guarded.Guarded.{Guarded}
 use Rattle.sleep_lock.specs.LockMembers.{LockMembers}
 use Rattle.guarded.specs.GuardedHandles.{lock_of}
-use Rattle.sleep_lock.specs.MutexLocks.{KnowsMutex}
-use Rattle.sleep_lock.specs.RwSemLocks.{KnowsRwSem}
-use Rattle.sleep_lock.specs.LockSpinQueues.{KnowsSpinQueue}
 use Rattle.mm_serve.specs.declared.space_or_table.SpaceOrTable.{SpaceOrTable}
 use Rattle.mm_serve.specs.declared.space_or_table.SpaceOrTablePass.{SpaceOrTablePass}
 use Rattle.mm_serve.specs.MachinePasts.{KnowsPast}
@@ -44,17 +41,17 @@ module _ {A S R X P E C T F G Y Q H D : Type 0} (spaces : LockMembers A P) (tabl
   abbrev pub IsIdleUnder : LockedObject A S R X P E C T F G Y Q H D → SpaceOrTablePass P Q → Type 0
   IsIdleUnder = Matches (λ s p. spaces.sits (lock_of s) p × IsIdle (spaces.view p).hand) (λ s p. tables.sits (lock_of s) p × IsIdle (tables.view p).hand)
 
-  -- the pass knows what was so of the object's table at each moment so far: what every lock tells, of a space what a semaphore tells of its own, and of a table what a mutex does. It also knows of each moment of the lock's spin queue, up to its last step there, who stood in it.
+  -- the pass knows what was so of the object's table at each moment so far: what every lock tells, and what this kind of lock tells of its own. It also knows what the lock tells of its spin queue, up to the pass's last step there.
   abbrev pub KnowsPastUnder : LockedObject A S R X P E C T F G Y Q H D → SpaceOrTablePass P Q → Type 0
   KnowsPastUnder =
       Matches
-      (λ s p. KnowsPast space spaces.kind 257 spaces.word_at spaces.waits (KnowsRwSem space 257) spaces.opened (spaces.calls_on (lock_of s)) (spaces.view p) × KnowsSpinQueue (spaces.calls_on (lock_of s)) (spaces.view p) (spaces.spun p))
-      (λ s p. KnowsPast table tables.kind 64 tables.word_at tables.waits (KnowsMutex table 64) tables.opened (tables.calls_on (lock_of s)) (tables.view p) × KnowsSpinQueue (tables.calls_on (lock_of s)) (tables.view p) (tables.spun p))
+      (λ s p. KnowsPast space spaces.kind 257 spaces.word_at spaces.waits spaces.tells spaces.opened (spaces.calls_on (lock_of s)) (spaces.view p) × spaces.tells_queue (spaces.calls_on (lock_of s)) (spaces.view p) (spaces.spun p))
+      (λ s p. KnowsPast table tables.kind 64 tables.word_at tables.waits tables.tells tables.opened (tables.calls_on (lock_of s)) (tables.view p) × tables.tells_queue (tables.calls_on (lock_of s)) (tables.view p) (tables.spun p))
 
-  -- The pass has the task's number and has done all the task's calls. It knows of each moment of the lock's spin queue, up to its own last step there, who stood in it. It knows too that at that step it had entered the queue and been its front as often as it says.
+  -- The pass has the task's number and has done all the task's calls. It knows what the lock tells of its spin queue, up to its own last step there.
   abbrev pub HasLookedBackUnder : LockedObject A S R X P E C T F G Y Q H D → SpaceOrTablePass P Q → ℕ → Type 0
   HasLookedBackUnder site pass task =
       Matches
-      (λ s p. HasLookedBack space spaces.kind (spaces.sits (lock_of s) p) KnowsSpinQueue (spaces.calls_on (lock_of s)) (spaces.view p) (spaces.spun p) task)
-      (λ s p. HasLookedBack table tables.kind (tables.sits (lock_of s) p) KnowsSpinQueue (tables.calls_on (lock_of s)) (tables.view p) (tables.spun p) task)
+      (λ s p. HasLookedBack space spaces.kind (spaces.sits (lock_of s) p) spaces.tells_queue (spaces.calls_on (lock_of s)) (spaces.view p) (spaces.spun p) task)
+      (λ s p. HasLookedBack table tables.kind (tables.sits (lock_of s) p) tables.tells_queue (tables.calls_on (lock_of s)) (tables.view p) (tables.spun p) task)
       site pass

@@ -3,8 +3,8 @@ use Rattle.std.specs.Prelude.{◌≡◌, ℕ, ◌==◌, ◌<◌, ◌≤◌, Bool
 use Rattle.word_bits.specs.declared.entry.Entry.{Entry}
 use Rattle.word_bits.specs.declared.rec.Rec.{Rec}
 use Rattle.word_bits.specs.Histories.{Plan}
-use Rattle.lock_views.specs.declared.view.Hand.{Hand}
-use Rattle.lock_views.specs.declared.view.Moment.{Moment}
+use Rattle.lock_core.specs.declared.view.Hand.{Hand}
+use Rattle.lock_core.specs.declared.view.Moment.{Moment}
 use Rattle.lock_core.specs.Pasts.{GoesOn}
 use Rattle.lock_core.specs.Records.{row}
 use Rattle.lock_core.specs.Views.{Knows}

@@ -8,7 +8,6 @@
 
 mod copying;
 mod gathering;
-mod locks;
 mod machine;
 mod one_lock;
 mod opening;
@@ -18,7 +17,6 @@ mod shared_object;
 mod space_or_table;
 mod worker;
 
-pub use locks::{SpaceLock, TableLock};
 pub use machine::Machine;
 pub use shared_object::SharedObject;
 pub use space_or_table::{SpaceOrTable, SpaceOrTablePass};

@@ -1,12 +1,12 @@
 //! A space or a table under its lock.
 
-use crate::locks::{SpaceLock, TableLock};
 use crate::one_lock;
 use crate::shared_object::SharedObject;
 use cpu_task::{Context, Crew, Gate};
 use fd_table::Fds;
 use guarded::Guarded;
 use lock_core::Plan;
+use sleep_lock::{CountLock, OwnerLock};
 use std::alloc::{AllocError, Global};
 use std::sync::Wait;
 use vma_map::Areas;
@@ -26,7 +26,8 @@ pub enum SpaceOrTablePass<P, Q> {
     OfTable(Q),
 }
 
-impl<A: SpaceLock, T: TableLock> SharedObject for SpaceOrTable<Guarded<A, Areas>, Guarded<T, Fds>> {
+impl<A: CountLock<Areas>, T: OwnerLock<Fds>> SharedObject
+    for SpaceOrTable<Guarded<A, Areas>, Guarded<T, Fds>> {
     ghost use Rattle.lock_core.specs.Kinds.{unavailable};
     ghost use Rattle.vma_map.specs.Spaces.{space};
     ghost use Rattle.fd_table.specs.Tables.{table};
@@ -41,24 +42,24 @@ impl<A: SpaceLock, T: TableLock> SharedObject for SpaceOrTable<Guarded<A, Areas>
     ghost is_space = { holds_space };
 
     ghost calls_on = { calls_under
-        (members A.calls_on A.view A.sits A.spun A.kind A.word_at A.opened A.waits)
-        (members T.calls_on T.view T.sits T.spun T.kind T.word_at T.opened T.waits) };
+        (members A.calls_on A.view A.sits A.spun A.kind A.word_at A.opened A.waits A.tells A.tells_queue)
+        (members T.calls_on T.view T.sits T.spun T.kind T.word_at T.opened T.waits T.tells T.tells_queue) };
 
     ghost hand = { hand_under
-        (members A.calls_on A.view A.sits A.spun A.kind A.word_at A.opened A.waits)
-        (members T.calls_on T.view T.sits T.spun T.kind T.word_at T.opened T.waits) };
+        (members A.calls_on A.view A.sits A.spun A.kind A.word_at A.opened A.waits A.tells A.tells_queue)
+        (members T.calls_on T.view T.sits T.spun T.kind T.word_at T.opened T.waits T.tells T.tells_queue) };
 
     ghost past = { past_under
-        (members A.calls_on A.view A.sits A.spun A.kind A.word_at A.opened A.waits)
-        (members T.calls_on T.view T.sits T.spun T.kind T.word_at T.opened T.waits) };
+        (members A.calls_on A.view A.sits A.spun A.kind A.word_at A.opened A.waits A.tells A.tells_queue)
+        (members T.calls_on T.view T.sits T.spun T.kind T.word_at T.opened T.waits T.tells T.tells_queue) };
 
     ghost spun = { spun_under
-        (members A.calls_on A.view A.sits A.spun A.kind A.word_at A.opened A.waits)
-        (members T.calls_on T.view T.sits T.spun T.kind T.word_at T.opened T.waits) };
+        (members A.calls_on A.view A.sits A.spun A.kind A.word_at A.opened A.waits A.tells A.tells_queue)
+        (members T.calls_on T.view T.sits T.spun T.kind T.word_at T.opened T.waits T.tells T.tells_queue) };
 
     ghost idle = { IsIdleUnder
-        (members A.calls_on A.view A.sits A.spun A.kind A.word_at A.opened A.waits)
-        (members T.calls_on T.view T.sits T.spun T.kind T.word_at T.opened T.waits) };
+        (members A.calls_on A.view A.sits A.spun A.kind A.word_at A.opened A.waits A.tells A.tells_queue)
+        (members T.calls_on T.view T.sits T.spun T.kind T.word_at T.opened T.waits T.tells T.tells_queue) };
 
     ghost serving = { λ site pass task. Matches
         (λ s p. A.sits (lock_of s) p ×
@@ -68,12 +69,12 @@ impl<A: SpaceLock, T: TableLock> SharedObject for SpaceOrTable<Guarded<A, Areas>
         site pass };
 
     ghost looked_back = { HasLookedBackUnder
-        (members A.calls_on A.view A.sits A.spun A.kind A.word_at A.opened A.waits)
-        (members T.calls_on T.view T.sits T.spun T.kind T.word_at T.opened T.waits) };
+        (members A.calls_on A.view A.sits A.spun A.kind A.word_at A.opened A.waits A.tells A.tells_queue)
+        (members T.calls_on T.view T.sits T.spun T.kind T.word_at T.opened T.waits T.tells T.tells_queue) };
 
     ghost knows_past = { KnowsPastUnder
-        (members A.calls_on A.view A.sits A.spun A.kind A.word_at A.opened A.waits)
-        (members T.calls_on T.view T.sits T.spun T.kind T.word_at T.opened T.waits) };
+        (members A.calls_on A.view A.sits A.spun A.kind A.word_at A.opened A.waits A.tells A.tells_queue)
+        (members T.calls_on T.view T.sits T.spun T.kind T.word_at T.opened T.waits T.tells T.tells_queue) };
 
     fn open(
         alloc: Global,

@@ -6,7 +6,7 @@ use Rattle.lock_core.specs.Views.{SpinHolds}
 use Rattle.lock_core.specs.SpinFrames.{holds_at}
 use Rattle.lock_core.specs.Spins.{holds_in}
 use Rattle.lock_core.specs.Holding.{released}
-use Rattle.lock_views.specs.Tallies.{raised}
+use Rattle.lock_core.specs.Tallies.{raised}
 use Rattle.lock_core.proofs.HandLaws.{not-both}
 use Rattle.lock_core.proofs.RowLaws.{none-some, same-some}
 use Rattle.mutex_word.specs.declared.host.Turn.TheVariants.{Hand as HandOn}

@@ -3,13 +3,13 @@ use Rattle.std.proofs.Common.{◌≡◌, ℕ, suc, ◌+◌, ◌<◌, ◌≤◌, 
 use Rattle.std.specs.Prelude.{Result, Ok, Err, IfOk}
 use Rattle.word_bits.specs.Objects.{Obj}
 use Rattle.word_bits.specs.Histories.{Plan}
-use Rattle.cpu_task.specs.CpuCounting.{one_more, rescheds_after, slept, Dozes, DozesOnce, SleepsInTurns}
-use Rattle.lock_views.specs.declared.how.How.{How}
-use Rattle.lock_views.specs.declared.how.How.TheVariants.{Fast, Spun, Slept}
+use Rattle.cpu_task.specs.CpuCounting.{one_more, rescheds_after, slept, Dozes, DozesOnce, Rises, SleepsInTurns}
+use Rattle.lock_core.specs.declared.how.How.{How}
+use Rattle.lock_core.specs.declared.how.How.TheVariants.{Fast, Spun, Slept}
 use Rattle.lock_core.specs.declared.pass.Pass.{Pass}
 use Rattle.lock_core.specs.declared.site.Site.{Site}
-use Rattle.lock_views.specs.declared.view.Held.TheVariants.{Alone}
-use Rattle.lock_views.specs.declared.view.Moment.{Moment}
+use Rattle.lock_core.specs.declared.view.Held.TheVariants.{Alone}
+use Rattle.lock_core.specs.declared.view.Moment.{Moment}
 use Rattle.lock_core.specs.SiteHandles.{SitsAt}
 use Rattle.lock_core.specs.Pasts.{GoesOn, IsOwnStep}
 use Rattle.lock_core.specs.SiteRunLaws.{step-by}
@@ -17,7 +17,6 @@ use Rattle.lock_core.specs.Shown.{Shown, PastGoesOn, shown}
 use Rattle.lock_core.proofs.Within.{found-within}
 use Rattle.mutex_word.specs.declared.tries.Tried.TheVariants.{Took}
 use Rattle.mutex_word.specs.OwnerTries.{CameTo, FindsOpen, IsOpen}
-use Rattle.osq_unqueue.specs.Rising.{Rises}
 use Rattle.mutex_slow.specs.declared.view.MutexHand.{MutexHand}
 use Rattle.mutex_slow.specs.Mutexes.{V, owner_at, turned}
 use Rattle.mutex_slow.specs.MutexPlaces.{CountsBy, GotInLine, MovesOn, TakesOpen, line_of, seen_of}

@@ -1,8 +1,8 @@
 -- What a failed try shows to callers of any lock.
 use Rattle.std.proofs.Common.{◌≡◌, ℕ, ◌+◌, ◌*◌, ◌<◌, ◌≤◌, Bool, List, refl, ap, ◌∙◌, subst, arith}
 use Rattle.word_bits.specs.declared.TheConstants.{MAX_TASKS}
-use Rattle.lock_views.specs.declared.view.Moment.{Moment}
-use Rattle.lock_views.specs.declared.view.Held.TheVariants.{No}
+use Rattle.lock_core.specs.declared.view.Moment.{Moment}
+use Rattle.lock_core.specs.declared.view.Held.TheVariants.{No}
 use Rattle.lock_core.specs.Holding.{missed}
 use Rattle.lock_core.specs.Pasts.{GoesOn, FoundAt, FoundAtStep, IsOwnStep}
 use Rattle.lock_core.specs.SiteRunLaws.{found-at-step}

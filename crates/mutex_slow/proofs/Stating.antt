@@ -7,8 +7,8 @@ use Rattle.word_bits.specs.OwnerWord.{task_code}
 use Rattle.word_bits.specs.LockWords.{owned}
 use Rattle.word_bits.specs.Objects.{Obj}
 use Rattle.word_bits.specs.Histories.{Plan}
-use Rattle.lock_views.specs.declared.view.Hand.{Hand}
-use Rattle.lock_views.specs.declared.view.Held.TheVariants.{No}
+use Rattle.lock_core.specs.declared.view.Hand.{Hand}
+use Rattle.lock_core.specs.declared.view.Held.TheVariants.{No}
 use Rattle.lock_core.specs.Layout.{site}
 use Rattle.lock_core.specs.Locked.{HasPass, IsWaitLockFree}
 use Rattle.lock_core.specs.SpinFrames.{when}
@@ -17,7 +17,7 @@ use Rattle.lock_core.specs.Totals.{total, total-at, total-two}
 use Rattle.lock_core.specs.ViewParts.{Each, at_unmap}
 use Rattle.lock_core.specs.Records.{bit}
 use Rattle.lock_core.specs.Views.{hand_of, spin_of, held_weight, held_of, is_number}
-use Rattle.lock_views.specs.declared.view.Marks.{Marks}
+use Rattle.lock_core.specs.declared.view.Marks.{Marks}
 use Rattle.lock_core.specs.Pasts.{instant, marks_of, moment}
 use Rattle.lock_core.proofs.HandLaws.{false-or-true, held-none, number-or-not, not-both}
 use Rattle.lock_core.proofs.Stating.{kept-states}
@@ -135,6 +135,14 @@ module _ {Call : Type 0} (o : Obj Call) (size : ℕ) (k : Plan) (ws : List ℕ) 
       let stands = same-standing v s (some-injective (marks_of standing v) (line_marks s) (sym (at_map (marks_of standing) vs id v p.1) ∙ there)) in
       subst (λ (z : Standing × Hand). OwesNone z.0 z.1) (λ i. (stands i, p.2 i)) (owes-none v.ext.wake.duty v.hand.freed quiet.clear)
 
+  -- nor has one whose task waits
+  waiting-clear : (id : ℕ) (s : Standing) (h : Hand) → get_elem? (map hand_of vs) id ≡ some h → get_elem? (map (marks_of standing) vs) id ≡ some (line_marks s) → s.queued ≡ 1 → OwesNone s h
+  waiting-clear id s h at there one = let p = at_unmap hand_of vs id h at in let v : V = p.0 in
+      let marks = some-injective (marks_of standing v) (line_marks s) (sym (at_map (marks_of standing) vs id v p.1) ∙ there) in
+      let queued : bit v.ext.queued ≡ 1 = first-number v s marks ∙ one in let waits_now = (r.coupled.each id v p.1).waits in
+      let stands = same-standing v s marks in let clear = (r.wake.each id (wparted v) (at_map wparted vs id v p.1)).waiter (omega (arith, queued, waits_now)) in
+      subst (λ (z : Standing × Hand). OwesNone z.0 z.1) (λ i. (stands i, p.2 i)) (owes-none v.ext.wake.duty v.hand.freed clear)
+
   -- where nobody holds, somebody has the duty to wake the first waiter, or it needs nobody
   duty-there : IsHolder (map hand_of vs) None → (t : ℕ) → first_code l ≡ t + 1 → HasDuty (moment standing (instant ws vs)) t
   duty-there out t first = let kept = r.wake.first t first in let word = r.wake.bits t (first-small l t r.list.sound.small first) in elim (native.Mathlib.Decide.dec_le 1 (wake_word (wake_words ws) t)) [
@@ -144,7 +152,7 @@ module _ {Call : Type 0} (o : Obj Call) (size : ℕ) (k : Plan) (ws : List ℕ) 
         elim (native.Mathlib.Decide.dec_le 1 (owed v.ext.wake.duty v.hand.freed)) [
           | yes owes ↦ let e = owed-some v.ext.wake.duty v.hand.freed owes in inl (s.0, v.hand, standing_of v.ext, there, marked, e.0, e.1)
           | no clear ↦ elim (native.Mathlib.Decide.dec_le 1 (chose t v.ext.wake.duty)) [
-            | yes chosen ↦ inr (inl (s.0, standing_of v.ext, marked, chose-some t v.ext.wake.duty chosen))
+            | yes chosen ↦ inr (inl (s.0, v.hand, standing_of v.ext, there, marked, chose-some t v.ext.wake.duty chosen))
             | no unchosen ↦ let a = awake-some t v.hand.task v.ext.wake.vigil (omega (arith, weighs, free, clear, unchosen)) in inr (inr (inr (s.0, v.hand, standing_of v.ext, there, a.0, marked, (r.coupled.each s.0 v p.1).waits ∙ a.2, a.1)))
           ]
         ]
@@ -158,6 +166,7 @@ module _ {Call : Type 0} (o : Obj Call) (size : ℕ) (k : Plan) (ws : List ℕ) 
     has = λ id h at. let p = at_unmap hand_of vs id h at in (standing_of p.0.ext, at_map (marks_of standing) vs id p.0 p.1);
     marked = marks-list;
     unnamed = unnamed-clear;
+    waiting = waiting-clear;
     owner = record {
       holder = holder-of (map hand_of vs) (owner_in ws) own named;
       picked = λ high. let none = own.picked high in let first = r.coupled.picked high in let big = named-word high in

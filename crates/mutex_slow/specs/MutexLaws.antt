@@ -10,9 +10,9 @@ use Rattle.word_bits.specs.declared.TheConstants.{MAX_TASKS}
 use Rattle.word_bits.specs.LockWords.{owned}
 use Rattle.word_bits.specs.Objects.{Obj}
 use Rattle.word_bits.specs.Histories.{Plan}
-use Rattle.lock_views.specs.declared.view.Hand.{Hand}
-use Rattle.lock_views.specs.declared.view.SpinHand.{SpinHand}
-use Rattle.lock_views.specs.declared.view.Held.TheVariants.{No, Alone}
+use Rattle.lock_core.specs.declared.view.Hand.{Hand}
+use Rattle.lock_core.specs.declared.view.SpinHand.{SpinHand}
+use Rattle.lock_core.specs.declared.view.Held.TheVariants.{No, Alone}
 use Rattle.lock_core.specs.declared.layout.TheConstants.{LOCK_WORDS, SPIN_WORDS}
 use Rattle.lock_core.specs.Records.{bit}
 use Rattle.lock_core.specs.Stores.{HasWord}
@@ -544,7 +544,7 @@ module _ {Call : Type 0} (o : Obj Call) (size : ℕ) where
   mutex-bits k ws vs l t r few = let small = r.wake.bits t few in let word = part-at ws wakes_at WAKE_WORDS (8 * t) (omega (arith, few)) in omega (arith, small, word)
 
   -- a step on a wake word
-  mutex-wakes : (k : Plan) (ws : List ℕ) (vs : List V) (l : List Waiter) (id t n : ℕ) (v : V) (b : WakeHand) → Queue k ws vs l → get_elem? vs id ≡ some v → t < MAX_TASKS → Sets t n (wparted v) b ⊎ Drowses t (wake_word (wake_words ws) t) n (wparted v) b
+  mutex-wakes : (k : Plan) (ws : List ℕ) (vs : List V) (l : List Waiter) (id t n : ℕ) (v : V) (b : WakeHand) → Queue k ws vs l → get_elem? vs id ≡ some v → t < MAX_TASKS → Sets t n (wparted v) b ⊎ (Drowses t (wake_word (wake_words ws) t) n (wparted v) b × (v.hand.held ≡ No))
       → WakeKept (set (wake_words ws) (8 * t) n) l (set (map wparted vs) id (with_hand (wparted v) b)) → Go k id ws vs (set ws (wakes_at + 8 * t) n) (set vs id (waked with_wake v b))
   mutex-wakes k ws vs l id t n v b r at few kind wake = let w : V = waked with_wake v b in let us : List ℕ = set ws (wakes_at + 8 * t) n in let same : site k us ≡ site k ws = ap (lay k) (drop-set-lt LOCK_WORDS ws (wakes_at + 8 * t) n (omega (arith, few))) in let ok = r.coupled.each id v at in
       goes-on k ws vs l id v r at us (set vs id w) Stay (length-set ws (wakes_at + 8 * t) n ∙ r.wide)
@@ -568,22 +568,22 @@ module _ {Call : Type 0} (o : Obj Call) (size : ℕ) where
       (subst (λ (z : List ℕ). WakeKept z l (map wparted (set vs id w))) (sym (part-in ws wakes_at WAKE_WORDS (8 * t) n (omega (arith, few)))) (set_part wparted (WakeKept (set (wake_words ws) (8 * t) n) l) vs id w wake))
       (subst (λ (z : List ℕ). StandingGoes (owner_in ws) l Stay (wake_words ws) z v w) (sym (part-in ws wakes_at WAKE_WORDS (8 * t) n (omega (arith, few)))) (⊎_elim
       (λ (s : Sets t n (wparted v) b). goes-sets (owner_in ws) l (wake_words ws) v w t n few r.wake.wide s.1 s.0 s.2)
-      (λ (d : Drowses t (wake_word (wake_words ws) t) n (wparted v) b). goes-drowses (owner_in ws) l (wake_words ws) v w t n few r.wake.wide d.3 d.0 d.1 (ok.waits ∙ ap waits d.2.1) d.2 d.4)
+      (λ (d : Drowses t (wake_word (wake_words ws) t) n (wparted v) b × (v.hand.held ≡ No)). goes-drowses (owner_in ws) l (wake_words ws) v w t n few r.wake.wide d.0.3 d.0.0 d.0.1 d.1 (ok.waits ∙ ap waits d.0.2.1) d.0.2 d.0.4)
       kind)) tt tt tt
     where
       waits-same : waits b.vigil ≡ waits v.ext.wake.vigil
-      waits-same = ⊎_elim (λ (s : Sets t n (wparted v) b). ap (λ (z : WakeHand). waits z.vigil) s.2) (λ (d : Drowses t (wake_word (wake_words ws) t) n (wparted v) b). ap (λ (z : WakeHand). waits z.vigil) d.4 ∙ waits-drowsing (wake_word (wake_words ws) t) v.ext.wake d.2) kind
+      waits-same = ⊎_elim (λ (s : Sets t n (wparted v) b). ap (λ (z : WakeHand). waits z.vigil) s.2) (λ (d : Drowses t (wake_word (wake_words ws) t) n (wparted v) b × (v.hand.held ≡ No)). ap (λ (z : WakeHand). waits z.vigil) d.0.4 ∙ waits-drowsing (wake_word (wake_words ws) t) v.ext.wake d.0.2) kind
 
       joins-awake : v.ext.wake.vigil ≡ Awake → HasLock v → b.vigil ≡ Awake
-      joins-awake is has = ⊎_elim (λ (s : Sets t n (wparted v) b). ap (λ (z : WakeHand). z.vigil) s.2 ∙ is) (λ (d : Drowses t (wake_word (wake_words ws) t) n (wparted v) b). locked-free v d.1 has) kind
+      joins-awake is has = ⊎_elim (λ (s : Sets t n (wparted v) b). ap (λ (z : WakeHand). z.vigil) s.2 ∙ is) (λ (d : Drowses t (wake_word (wake_words ws) t) n (wparted v) b × (v.hand.held ≡ No)). locked-free v d.0.1 has) kind
 
   -- the task that a pass has chosen is woken
   pub mutex-sets : (k : Plan) (ws : List ℕ) (vs : List V) (l : List Waiter) (id t : ℕ) (v : V) → Queue k ws vs l → get_elem? vs id ≡ some v → HasChosen v.ext t → Go k id ws vs (set ws (wakes_at + 8 * t) 1) (set vs id (knowing v (after_set v.ext t)))
   mutex-sets k ws vs l id t v r at chosen = let b : WakeHand = setting v.ext.wake in let kind : Sets t 1 (wparted v) b = (chosen.0, refl, refl) in mutex-wakes k ws vs l id t 1 v b r at chosen.1 (inl kind) (wake-sets (wake_words ws) l (map wparted vs) id (wparted v) r.wake (at_map wparted vs id v at) t 1 b kind)
 
   -- a waiter swaps its own wake word for 0
-  pub mutex-swaps : (k : Plan) (ws : List ℕ) (vs : List V) (l : List Waiter) (id t : ℕ) (v : V) → Queue k ws vs l → get_elem? vs id ≡ some v → v.hand.task ≡ Some t → t < MAX_TASKS → SpinRests v.spin → HasTried vigil_of v
+  pub mutex-swaps : (k : Plan) (ws : List ℕ) (vs : List V) (l : List Waiter) (id t : ℕ) (v : V) → Queue k ws vs l → get_elem? vs id ≡ some v → v.hand.task ≡ Some t → t < MAX_TASKS → SpinRests v.spin → v.hand.held ≡ No → HasTried vigil_of v
       → Go k id ws vs (set ws (wakes_at + 8 * t) 0) (set vs id (knowing v (after_swap v.ext (get_or ws (wakes_at + 8 * t) 0))))
-  mutex-swaps k ws vs l id t v r at mine few rests tried = let n : ℕ = get_or ws (wakes_at + 8 * t) 0 in let old : ℕ = wake_word (wake_words ws) t in let word : old ≡ n = part-at ws wakes_at WAKE_WORDS (8 * t) (omega (arith, few)) in let b : WakeHand = drowsing n v.ext.wake in
+  mutex-swaps k ws vs l id t v r at mine few rests free tried = let n : ℕ = get_or ws (wakes_at + 8 * t) 0 in let old : ℕ = wake_word (wake_words ws) t in let word : old ≡ n = part-at ws wakes_at WAKE_WORDS (8 * t) (omega (arith, few)) in let b : WakeHand = drowsing n v.ext.wake in
       let kind : Drowses t old 0 (wparted v) b = (mine, ap holds_at rests, tried, refl, ap (λ (z : ℕ). drowsing z v.ext.wake) (sym word)) in
-      mutex-wakes k ws vs l id t 0 v b r at few (inr kind) (wake-drowses (wake_words ws) l (map wparted vs) id (wparted v) r.wake (at_map wparted vs id v at) t 0 b few kind)
+      mutex-wakes k ws vs l id t 0 v b r at few (inr (kind, free)) (wake-drowses (wake_words ws) l (map wparted vs) id (wparted v) r.wake (at_map wparted vs id v at) t 0 b few kind)

@@ -1,17 +1,16 @@
 -- Where a pass stands in a call on a mutex, and what callers of any lock see of it.
 use Rattle.std.specs.Prelude.{◌≡◌, ℕ, ◌+◌, ◌<◌, ◌≤◌, ◌/◌, ◌%◌, ◌⊎◌, true, false, Option, Some, None}
 use Rattle.word_bits.specs.OwnerWord.{task_code}
-use Rattle.cpu_task.specs.CpuCounting.{SleepsInTurns, one_more}
-use Rattle.osq_unqueue.specs.Rising.{Rises}
-use Rattle.lock_views.specs.declared.view.Line.{Line}
+use Rattle.cpu_task.specs.CpuCounting.{one_more, Rises, SleepsInTurns}
+use Rattle.lock_core.specs.declared.view.Line.{Line}
 use Rattle.lock_core.specs.declared.pass.Pass.{Pass}
 use Rattle.lock_core.specs.declared.site.Site.{Site}
 use Rattle.lock_core.specs.SiteHandles.{plan_of, view_of, hand_in, past_of, task_in, SitsAt, KeepsPast}
 use Rattle.word_bits.specs.Objects.{Obj}
-use Rattle.lock_views.specs.declared.view.Held.{Held}
-use Rattle.lock_views.specs.declared.view.Held.TheVariants.{No, Alone}
-use Rattle.lock_views.specs.declared.how.How.{How}
-use Rattle.lock_views.specs.declared.how.How.TheVariants.{Fast, Spun, Slept}
+use Rattle.lock_core.specs.declared.view.Held.{Held}
+use Rattle.lock_core.specs.declared.view.Held.TheVariants.{No, Alone}
+use Rattle.lock_core.specs.declared.how.How.{How}
+use Rattle.lock_core.specs.declared.how.How.TheVariants.{Fast, Spun, Slept}
 use Rattle.lock_core.specs.Pasts.{FoundSince}
 use Rattle.lock_core.specs.Shown.{Shown, FindsAtStep, shown}
 use Rattle.lock_core.specs.Locking.{Takes}

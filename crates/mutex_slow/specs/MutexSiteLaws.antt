@@ -4,8 +4,8 @@ use Rattle.word_bits.specs.Objects.{Obj}
 use Rattle.lock_core.specs.declared.pass.Pass.{Pass}
 use Rattle.lock_core.specs.SiteHandles as inner
 use Rattle.lock_core.specs.Views.{Beside, SpinRests}
-use Rattle.site_lock.specs.Faces.{Follows, KeepsHold}
-use Rattle.site_lock.specs.Sitting.{SitsIdle}
+use Rattle.lock_core.specs.Faces.{Follows, KeepsHold}
+use Rattle.lock_core.specs.Sitting.{SitsIdle}
 use Rattle.mutex_slow.specs.declared.calls.Mutex.{Mutex}
 use Rattle.mutex_slow.specs.declared.calls.MutexPass.{MutexPass}
 use Rattle.mutex_slow.specs.declared.rule.MutexRule.{MutexRule}

@@ -1,6 +1,6 @@
 -- How a pass stands between two calls of its task.
 use Rattle.std.specs.Prelude.{◌≡◌, false, IsSome}
-use Rattle.lock_views.specs.declared.view.Held.TheVariants.{No, Alone}
+use Rattle.lock_core.specs.declared.view.Held.TheVariants.{No, Alone}
 use Rattle.mutex_slow.specs.declared.calls.Mutex.{Mutex}
 use Rattle.mutex_slow.specs.declared.calls.MutexPass.{MutexPass}
 use Rattle.mutex_slow.specs.MutexHandles.{hand_in, SitsAt}

@@ -6,11 +6,11 @@ use Rattle.word_bits.specs.LockWords.{owned}
 use Rattle.word_bits.specs.Objects.{Obj}
 use Rattle.word_bits.specs.OwnerWord.{task_code}
 use Rattle.word_bits.specs.Histories.{Plan}
-use Rattle.lock_views.specs.declared.view.Hand.{Hand}
-use Rattle.lock_views.specs.declared.view.SpinHand.{SpinHand}
-use Rattle.lock_views.specs.declared.view.Marks.{Marks}
-use Rattle.lock_views.specs.declared.view.Moment.{Moment}
-use Rattle.lock_views.specs.declared.view.Held.TheVariants.{No, Alone}
+use Rattle.lock_core.specs.declared.view.Hand.{Hand}
+use Rattle.lock_core.specs.declared.view.SpinHand.{SpinHand}
+use Rattle.lock_core.specs.declared.view.Marks.{Marks}
+use Rattle.lock_core.specs.declared.view.Moment.{Moment}
+use Rattle.lock_core.specs.declared.view.Held.TheVariants.{No, Alone}
 use Rattle.lock_core.specs.Locked.{HasPass, IsSiteStep, IsWaitLockFree}
 use Rattle.lock_core.specs.Shown.{IsLatestStep, Shown}
 use Rattle.lock_core.specs.Spins.{holds_in}
@@ -48,7 +48,7 @@ StandsMarked id s m = get_elem? m.marks id ≡ some (line_marks s)
 -- who has the duty to wake this waiter, or that it needs nobody: A pass ended its hold, left the flag of the waiters, and has chosen nobody yet. Or one has chosen it, and hasn't set its wake word yet. Or that word is set. Or it is awake, and tries before it sleeps.
 abbrev pub HasDuty : Moment → ℕ → Type 0
 HasDuty m t = ((id : ℕ) × (h : Hand) × (s : Standing) × (get_elem? m.hands id ≡ some h) × StandsMarked id s m × (s.debt ≡ 1) × (h.freed % 2 ≡ 1))
-    ⊎ ((id : ℕ) × (s : Standing) × StandsMarked id s m × (s.chosen ≡ t + 1))
+    ⊎ ((id : ℕ) × (h : Hand) × (s : Standing) × (get_elem? m.hands id ≡ some h) × StandsMarked id s m × (s.chosen ≡ t + 1))
     ⊎ (wake_word (wake_words m.words) t ≡ 1)
     ⊎ ((id : ℕ) × (h : Hand) × (s : Standing) × (get_elem? m.hands id ≡ some h) × (h.task ≡ Some t) × StandsMarked id s m × (s.queued ≡ 1) × (s.awake ≡ 1))
 
@@ -64,6 +64,8 @@ pub record IsListed (m : Moment) (l : List Waiter) : Type 0 where
   pub has : (id : ℕ) (h : Hand) → get_elem? m.hands id ≡ some h → (s : Standing) × StandsMarked id s m
   pub marked : (id : ℕ) (s : Standing) (h : Hand) → get_elem? m.hands id ≡ some h → StandsMarked id s m → s.queued ≡ waits_in l h.task
   pub unnamed : (id : ℕ) (s : Standing) (h : Hand) → get_elem? m.hands id ≡ some h → StandsMarked id s m → h.task ≡ None → OwesNone s h
+  -- who waits has no wake to do either: a task that sleeps is nobody's waker
+  pub waiting : (id : ℕ) (s : Standing) (h : Hand) → get_elem? m.hands id ≡ some h → StandsMarked id s m → s.queued ≡ 1 → OwesNone s h
   pub owner : StatesOwner (owner_in m.words) (IsWaitLockFree m.spins) l m.hands
   pub duty : IsHolder m.hands None → (t : ℕ) → first_code l ≡ t + 1 → HasDuty m t
 

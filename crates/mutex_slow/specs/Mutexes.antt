@@ -6,9 +6,9 @@ use Rattle.word_bits.specs.declared.TheConstants.{MAX_TASKS}
 use Rattle.word_bits.specs.LockWords.{owned}
 use Rattle.word_bits.specs.Objects.{Obj}
 use Rattle.word_bits.specs.Histories.{Plan}
-use Rattle.lock_views.specs.declared.view.View.{View}
-use Rattle.lock_views.specs.declared.view.Hand.{Hand}
-use Rattle.lock_views.specs.declared.view.Held.TheVariants.{No, Alone}
+use Rattle.lock_core.specs.declared.view.View.{View}
+use Rattle.lock_core.specs.declared.view.Hand.{Hand}
+use Rattle.lock_core.specs.declared.view.Held.TheVariants.{No, Alone}
 use Rattle.lock_core.specs.declared.layout.TheConstants.{LOCK_WORDS, SPIN_ROOM, SPIN_WORDS}
 use Rattle.lock_core.specs.Layout.{site, width, part}
 use Rattle.lock_core.specs.Views.{SpinRests, hand_of, spin_part, is_number}
@@ -256,7 +256,7 @@ EndsChoice words' s s' = (s'.chosen ≡ 0) × SetsChosen words' (λ t. s.chosen 
 abbrev pub FailsUnderLock : (n locked : ℕ) → Hand → Type 0
 FailsUnderLock n locked h = (locked ≡ 1) × (8 ≤ n) × ((t : ℕ) × (h.task ≡ Some t) × IsUnpicked n t)
 
--- What a step of a pass does to the wake words, to what it owes and to how its task waits. `n` is the owner word, `l` the list and `c` its change. `locked` is 1 where the pass had the wait lock. `h` and `s` stand before the step. Nobody owes but by ending a hold, and nobody chooses but to end a debt with the flag of the waiters, or by the step that ends its hold. Such a debt ends by a choice of the first waiter, and a choice by the store of its wake word. A task falls asleep only after it isn't to try any more, and so it is by a try that failed under the wait lock, or by leaving. It is to try once it enters, or once it has made a step without the wait lock by which it didn't fall asleep.
+-- What a step of a pass does to the wake words, to what it owes and to how its task waits. `n` is the owner word, `l` the list and `c` its change. `locked` is 1 where the pass had the wait lock. `h` and `s` stand before the step. Nobody owes but by ending a hold, and nobody chooses but to end a debt with the flag of the waiters, or by the step that ends its hold. Such a debt ends by a choice of the first waiter, and a choice by the store of its wake word. A task falls asleep only while it holds nothing, and after it isn't to try any more, and so it is by a try that failed under the wait lock, or by leaving. It is to try once it enters, or once it has made a step without the wait lock by which it didn't fall asleep.
 pub record WakesGo (n : ℕ) (l : List Waiter) (c : Change) (words words' : List ℕ) (locked : ℕ) (h h' : Hand) (s s' : Standing) : Type 0 where
   pub words_go : (t : ℕ) → t < MAX_TASKS → WordGoes words words' h.task locked s.queued s.awake (λ u. s.chosen ≡ u + 1) t
   pub owes : s.debt ≡ 0 → s'.debt ≡ 1 → (h.held ≡ Alone) × (h'.held ≡ No)
@@ -264,7 +264,7 @@ pub record WakesGo (n : ℕ) (l : List Waiter) (c : Change) (words words' : List
   pub chooses : s'.chosen ≢ s.chosen → s'.chosen ≢ 0 → ChoosesFirst locked l s'.chosen × MayChoose h h' s
   pub sets : s'.chosen ≢ s.chosen → s.chosen ≢ 0 → EndsChoice words' s s'
   pub wakes : s'.wakes ≢ s.wakes → EndsChoice words' s s'
-  pub dozes : s'.dozes ≢ s.dozes → DozesOff words h.task locked s.queued s.awake s'.awake s.dozes s'.dozes
+  pub dozes : s'.dozes ≢ s.dozes → (h.held ≡ No) × DozesOff words h.task locked s.queued s.awake s'.awake s.dozes s'.dozes
   pub enters : entered c ≡ 1 → s'.awake ≡ 1
   pub rouses : s.awake ≡ 0 → s'.awake ≡ 1 → (entered c ≡ 1) ⊎ ((locked ≡ 0) × (s'.dozes ≡ s.dozes))
   pub tries : s.awake ≡ 1 → s'.awake ≡ 0 → (left c ≡ 1) ⊎ FailsUnderLock n locked h

@@ -3,7 +3,7 @@ use Rattle.std.proofs.Common.{◌≡◌, ◌≢◌, ℕ, zero, suc, ◌+◌, ◌
 use mathlib.Core.Logic.{dite}
 use native.Mathlib.Decide.{ℕ_discrete}
 use Rattle.word_bits.specs.declared.TheConstants.{MAX_TASKS}
-use Rattle.lock_views.specs.declared.view.Held.TheVariants.{No, Alone}
+use Rattle.lock_core.specs.declared.view.Held.TheVariants.{No, Alone}
 use Rattle.lock_core.specs.Records.{bit}
 use Rattle.lock_core.specs.Spins.{holds_in}
 use Rattle.lock_core.proofs.HandLaws.{false-or-true}
@@ -176,8 +176,8 @@ module _ (n : ℕ) (l : List Waiter) (words : List ℕ) (v u : V) (t m : ℕ) (f
       }
 
   -- a waiter swaps its own wake word for 0
-  pub goes-drowses : m ≡ 0 → v.hand.task ≡ Some t → holds_in v.spin ≡ 0 → bit v.ext.queued ≡ 1 → (e : ℕ) × (v.ext.wake.vigil ≡ Tried e) → u.ext.wake ≡ drowsing (wake_word words t) v.ext.wake → StandingGoes n l Stay words (set words (8 * t) m) v u
-  goes-drowses none mine out queued tried wake = by-word (wake_word words t) refl wake
+  pub goes-drowses : m ≡ 0 → v.hand.task ≡ Some t → holds_in v.spin ≡ 0 → v.hand.held ≡ No → bit v.ext.queued ≡ 1 → (e : ℕ) × (v.ext.wake.vigil ≡ Tried e) → u.ext.wake ≡ drowsing (wake_word words t) v.ext.wake → StandingGoes n l Stay words (set words (8 * t) m) v u
+  goes-drowses none mine out free queued tried wake = by-word (wake_word words t) refl wake
     where
       before : awake_bit v.ext.wake.vigil ≡ 0
       before = ap awake_bit tried.1
@@ -193,7 +193,7 @@ module _ (n : ℕ) (l : List Waiter) (words : List ℕ) (v u : V) (t m : ℕ) (f
         chooses = λ other some. absurd (other chosen);
         sets = λ other some. absurd (other chosen);
         wakes = λ other. absurd (other (ap (λ (z : WakeHand). z.wakes) is));
-        dozes = λ other. ((t, mine, was), out, queued, before, awake ∙ before, ap (λ (z : WakeHand). z.dozes) is);
+        dozes = λ other. (free, ((t, mine, was), out, queued, before, awake ∙ before, ap (λ (z : WakeHand). z.dozes) is));
         enters = λ e. absurd (omega (arith, e));
         rouses = λ e e'. absurd (omega (arith, awake, e, e'));
         tries = λ e e'. absurd (omega (arith, before, e));

@@ -1,7 +1,7 @@
 //! Mutexes, their passes, and their calls.
 ghost use Rattle.std.specs.Prelude.{◌≡◌, ◌≢◌, ◌<◌, ◌≤◌, ◌+◌, Bool, true, false, List, [], ◌∷◌, length, Some, None, IsSome, Ok, IfOk, IfErr};
-ghost use Rattle.lock_views.specs.declared.how.How.TheVariants.{Fast};
-ghost use Rattle.lock_views.specs.declared.view.Held.TheVariants.{No, Alone};
+ghost use Rattle.lock_core.specs.declared.how.How.TheVariants.{Fast};
+ghost use Rattle.lock_core.specs.declared.view.Held.TheVariants.{No, Alone};
 ghost use Rattle.lock_core.specs.Kinds.{mutex, unavailable, wakes_alone};
 ghost use Rattle.lock_core.specs.Holding.{missed};
 ghost use Rattle.lock_core.specs.Pasts.{EachMoment, FoundAt, Paced, Ran, Tail};
@@ -15,11 +15,12 @@ ghost use Rattle.lock_core.specs.Views.{gathered, gave_up};
 ghost use Rattle.osq_nodes.specs.OsqHandles.{tasks_of};
 ghost use Rattle.lock_core.specs.SiteHandles as inner;
 ghost use Rattle.mutex_slow.specs.Mutexes.{owner_at, standing, wait_lock_at};
-ghost use Rattle.osq_unqueue.specs.Rising.{LeavesForCpu, Rises};
-ghost use Rattle.cpu_task.specs.CpuCounting.{Dozes};
+ghost use Rattle.cpu_task.specs.CpuCounting.{Dozes, Rises};
+ghost use Rattle.sleep_lock.specs.Leaving.{LeavesForCpu};
 ghost use Rattle.mutex_slow.specs.MutexPlaces.{CountsBy, CountsInLine, EndsHold, TakesOpen, WakesFirst};
 ghost use Rattle.mutex_slow.specs.MutexStated.{HasBecome, IsMutexThen, IsOutOfList, MarksCounts, waits_on};
 ghost use Rattle.lock_core.specs.Locked.{IsLockedThen, IsSiteStep};
+ghost use Rattle.lock_core.specs.Linear.{IsLinear};
 ghost use Rattle.wait_list.specs.declared.view.Waiter.{Waiter as Waiters};
 
 use crate::rule::MutexRule;
@@ -324,6 +325,7 @@ impl<O: Object> Mutex<O> {
         ensures dozed { Dozes (C.C.sleeps cpu.old) (C.C.sleeps cpu.new)
             (dozes_in pass.old) (dozes_in pass.new) }
         ensures set { wakes_in pass.new ≡ wakes_in pass.old }
+        ensures queue { SpunGoesOn pass.old pass.new }
         ensures took { IfOk result (λ _. TakesAlone O.object self.now pass.old pass.new) }
         ensures opened { IfOk result (λ _. TakesOpen (shown_of pass.old) (shown_of pass.new)) }
         ensures how { IfOk result (λ how. Got how (shown_of pass.old) (shown_of pass.new)) }
@@ -424,6 +426,7 @@ impl<O: Object> Mutex<O> {
     ///   nobody waits; a step that ends a hold meanwhile picks the first waiter. A word that picks
     ///   a waiter is changed by that waiter's pass alone, which takes. On the wait lock each step
     ///   is one of a spin lock's.
+    /// - Each call took effect at the step that stored its record.
     /// - The pass itself isn't in the list, and has no wake to do.
     pub fn recall(&self, pass: &mut MutexPass<O>)
         requires own { SitsAt self.now pass.old }
@@ -440,6 +443,7 @@ impl<O: Object> Mutex<O> {
         ensures out { IsOutOfList (shown_of pass.new) }
         ensures counts { MarksCounts (wakes_in pass.new) (dozes_in pass.new) (shown_of pass.new) }
         ensures moves { Paced (IsSiteStep (plan_of self.now) owner_at) (shown_of pass.new).past }
+        ensures linear { IsLinear O.object O.WORDS (plan_of self.now) (shown_of pass.new).past }
         ensures lists { (l : List Waiters) ×
             HasBecome (plan_of self.now) (shown_of pass.new).past l }
         ensures wait_lock { EachMoment (IsSpinLockThen wait_lock_at) (shown_of pass.new).past }

@@ -1,6 +1,6 @@
 //! How a waiter leaves the list: it holds, or a signal interrupts it.
 ghost use Rattle.std.specs.Prelude.{◌≡◌, ◌⊎◌, true, IsSome, IfSome, IfNone};
-ghost use Rattle.lock_views.specs.declared.view.Held.TheVariants.{Alone};
+ghost use Rattle.lock_core.specs.declared.view.Held.TheVariants.{Alone};
 ghost use Rattle.lock_core.specs.Views.{SpinHolds};
 ghost use Rattle.lock_core.specs.Locking.{SawPending};
 ghost use Rattle.lock_core.specs.Signals.{OnlyConsumed, OnlyHeard};

@@ -4,6 +4,7 @@
 mod calls;
 mod fast;
 mod leave;
+mod mutex_lock;
 mod queue;
 mod release;
 mod rule;

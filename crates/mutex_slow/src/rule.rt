@@ -1,5 +1,5 @@
 //! The rule of a mutex.
-ghost use Rattle.std.specs.Prelude.{◌<◌, refl};
+ghost use Rattle.std.specs.Prelude.{◌<◌, false, refl};
 ghost use Rattle.word_bits.specs.LockWords.{owned};
 ghost use Rattle.lock_core.specs.SpinTables.{one-some, one-eight};
 ghost use Rattle.mutex_slow.specs.Mutexes.{Kept, MutexMoves, idle, list_at, list_of, may_change, may_free, may_miss, may_own, owner_at, rests, saw_first, turned, uncounted, standing, vigil_of, wakes_at, with_list, HasChosen, after_set, after_swap, MutexKept};
@@ -25,6 +25,8 @@ impl<O: Object> SiteRule for MutexRule<O> {
     type Ext = MutexHand;
 
     ghost unavailable = { owned };
+
+    ghost reads_unheld = { false };
 
     ghost holds = { Kept O.object O.WORDS };
 

@@ -1,16 +1,15 @@
 //! The tries and sleeps of a waiter.
 ghost use Rattle.std.specs.Prelude.{◌≡◌, ◌+◌, true, false, IsSome, IfOk, IfErr, ◌≤◌};
-ghost use Rattle.lock_views.specs.declared.view.Held.TheVariants.{No};
+ghost use Rattle.lock_core.specs.declared.view.Held.TheVariants.{No};
 ghost use Rattle.lock_core.specs.Views.{SpinHolds, SpinRests};
 ghost use Rattle.lock_core.specs.Locking.{SawPending};
 ghost use Rattle.lock_core.specs.Signals.{OnlyConsumed};
 ghost use Rattle.lock_core.specs.SiteHandles.{view_of, task_in, held_in, SitsAt};
-ghost use Rattle.lock_views.specs.Tallies.{raised};
+ghost use Rattle.lock_core.specs.Tallies.{raised};
 ghost use Rattle.wake_duty.specs.WakeSteps.{HasTried};
 ghost use Rattle.mutex_slow.specs.Mutexes.{vigil_of};
 ghost use Rattle.mutex_slow.specs.MutexPlaces.{seen_of, MovesOn, TakesAlone, TakesOpen, KeepsHand, KeepsMisses, KeepsFronts, StandsSame, IsInLine, HasFailed, KeepsWakes, SetsNoWord, dozes_of, KeepsAppends};
-ghost use Rattle.osq_unqueue.specs.Rising.{Rises};
-ghost use Rattle.cpu_task.specs.CpuCounting.{Dozes, DozesOnce, SleepsInTurns};
+ghost use Rattle.cpu_task.specs.CpuCounting.{Dozes, DozesOnce, Rises, SleepsInTurns};
 
 use crate::leave::interrupted;
 use crate::rule::MutexRule;
@@ -154,6 +153,7 @@ fn try_awake<O: Object, W: Wait, C: Cpu>(
 fn drowse<O: Object>(site: &Site<MutexRule<O>>, pass: &mut Pass<MutexRule<O>>) -> bool
     requires own { SitsAt site.now pass.old }
     requires numbered { IsSome (task_in pass.old) }
+    requires out { held_in pass.old ≡ No }
     requires unspun { SpinRests (view_of pass.old).spin }
     requires listed { IsInLine (view_of pass.old) }
     requires tried { HasTried vigil_of (view_of pass.old) }
@@ -178,6 +178,7 @@ fn doze<O: Object, W: Wait, C: Cpu>(
 )
     requires own { SitsAt site.now pass.old }
     requires numbered { IsSome (task_in pass.old) }
+    requires out { held_in pass.old ≡ No }
     requires unspun { SpinRests (view_of pass.old).spin }
     requires listed { IsInLine (view_of pass.old) }
     requires tried { HasTried vigil_of (view_of pass.old) }

@@ -1,11 +1,11 @@
 //! Optimistic spinning: the tries of the task at the front of the spin queue.
 ghost use Rattle.std.specs.Prelude.{◌≡◌, true, false, IsSome, ◌≤◌};
-ghost use Rattle.lock_views.specs.declared.view.Held.TheVariants.{No};
+ghost use Rattle.lock_core.specs.declared.view.Held.TheVariants.{No};
 ghost use Rattle.lock_core.specs.Locking.{OnlyTried};
 ghost use Rattle.lock_core.specs.SiteHandles.{view_of, task_in, held_in, SitsAt};
 ghost use Rattle.mutex_slow.specs.Mutexes.{OwesNoWake};
 ghost use Rattle.mutex_slow.specs.MutexPlaces.{seen_of, MovesOn, TakesAlone, TakesOpen, StandsSame, IsOutside, KeepsWakes};
-ghost use Rattle.osq_unqueue.specs.Rising.{Rises};
+ghost use Rattle.cpu_task.specs.CpuCounting.{Rises};
 ghost use Rattle.osq_nodes.specs.declared.node.Place.TheVariants.{Front};
 ghost use Rattle.osq_nodes.specs.OsqHandles as spinners;
 

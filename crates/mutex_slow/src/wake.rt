@@ -2,7 +2,7 @@
 ghost use Rattle.std.specs.Prelude.{◌≡◌, ◌<◌, Some, IsSome, IfSome, length};
 ghost use Rattle.lock_core.specs.Views.{SpinHolds};
 ghost use Rattle.lock_core.specs.SiteHandles.{plan_of, view_of, task_in, SitsAt};
-ghost use Rattle.lock_views.specs.Tallies.{raised};
+ghost use Rattle.lock_core.specs.Tallies.{raised};
 ghost use Rattle.lock_core.specs.Shown.{FindsSince};
 ghost use Rattle.word_bits.specs.OwnerWord.{task_code};
 ghost use Rattle.mutex_slow.specs.Mutexes.{HasChosen, OwesNoWake, list_at};

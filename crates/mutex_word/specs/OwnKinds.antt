@@ -4,8 +4,8 @@ use mathlib.Core.Option.{some}
 use lib.ListN.{get_elem?}
 use lib.Bits.{bit_and, bit_or}
 use Rattle.std.proofs.lemmas.Nat.{or_shr, and_shr, and_mask, or_mod, and_mod, le_or_r, or_comm}
-use Rattle.lock_views.specs.declared.view.Hand.{Hand}
-use Rattle.lock_views.specs.declared.view.Held.TheVariants.{No, Alone}
+use Rattle.lock_core.specs.declared.view.Hand.{Hand}
+use Rattle.lock_core.specs.declared.view.Held.TheVariants.{No, Alone}
 use Rattle.lock_core.specs.Views.{held_weight, held_of}
 use Rattle.lock_core.specs.Totals.{total-set, total-at}
 use Rattle.lock_core.specs.ViewParts.{each-set}

@@ -3,7 +3,7 @@ use Rattle.std.specs.Prelude.{refl}
 use Rattle.lock_core.specs.declared.pass.Pass.{Pass}
 use Rattle.lock_core.specs.SiteHandles as inner
 use Rattle.lock_core.specs.Views.{Beside}
-use Rattle.site_lock.specs.Faces.{Follows, KeepsHold}
+use Rattle.lock_core.specs.Faces.{Follows, KeepsHold}
 use Rattle.mutex_word.specs.declared.rule.OwnerRule.{OwnerRule}
 use Rattle.mutex_word.specs.declared.site.OwnerPass.{OwnerPass}
 use Rattle.mutex_word.specs.declared.site.OwnerSite.{OwnerSite}

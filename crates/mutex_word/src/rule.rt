@@ -1,5 +1,5 @@
 //! The rule of a table with an owner word alone.
-ghost use Rattle.std.specs.Prelude.{◌<◌};
+ghost use Rattle.std.specs.Prelude.{◌<◌, false};
 ghost use Rattle.word_bits.specs.LockWords.{owned};
 ghost use Rattle.mutex_word.specs.OwnerRuled.{OwnerKept, OwnerMoves, IsPlain, leaves_plain, owner_at, unmarked, unturned};
 ghost use Rattle.mutex_word.specs.OwnerRuledLaws.{own-inside, own-there, owner-site, owner-own, owner-sites, owner-opens, owner-splits, owner-joins, owner-owns, owner-looks};
@@ -21,6 +21,8 @@ impl<O: Object> SiteRule for OwnerRule<O> {
     type Ext = ();
 
     ghost unavailable = { owned };
+
+    ghost reads_unheld = { false };
 
     ghost holds = { OwnerKept O.object O.WORDS };
 

@@ -1,13 +1,14 @@
 //! Sites with an owner word.
 ghost use Rattle.std.specs.Prelude.{◌≡◌, ◌<◌, false, None, IsSome, Bool, IfOk, IfErr, ◌≤◌, [], ◌∷◌, length};
 ghost use Rattle.word_bits.specs.LockWords.{owned};
-ghost use Rattle.lock_views.specs.declared.view.Held.TheVariants.{No, Alone};
+ghost use Rattle.lock_core.specs.declared.view.Held.TheVariants.{No, Alone};
 ghost use Rattle.lock_core.specs.Kinds.{mutex, wakes_alone};
 ghost use Rattle.lock_core.specs.Locking.{Misses, Releases, Takes};
 ghost use Rattle.lock_core.specs.Records.{IsPlan};
 ghost use Rattle.lock_core.specs.Views.{first, ticked, handed, split_off, merged, gave_up, BesideForgetting, HoldsNothing};
 ghost use Rattle.lock_core.specs.Pasts.{EachMoment, FoundAt, Ran, Tail};
 ghost use Rattle.lock_core.specs.SiteStated.{IsNew, IsSiteMove};
+ghost use Rattle.lock_core.specs.Linear.{IsLinear};
 ghost use Rattle.mutex_word.specs.Holders.{own_word, TakesOwner, MissesOwner, ReleasesOwner};
 ghost use Rattle.mutex_word.specs.OwnerRuled.{IsOwnerSiteThen, newest, owner_at, unmarked, unturned};
 
@@ -149,13 +150,15 @@ impl<O: Object> OwnerSite<O> {
 
     /// A load, after which the pass knows that at each moment of the table so far, from the new
     /// table on, the facts of every site were so, and the owner word stated who held; and what each
-    /// step did to the site's words and to what the passes count.
+    /// step did to the site's words and to what the passes count. Each call took effect at the step
+    /// that stored its record.
     pub fn recall_holders(&self, pass: &mut OwnerPass<O>)
         requires own { SitsAt self.now pass.old }
         ensures on { StepsOn self.now pass.old pass.new }
         ensures kept { view_of pass.new ≡ ticked (view_of pass.old) }
         ensures last { IsLatest pass.new }
         ensures begins { Tail (newest (plan_of self.now) ∷ []) (past_of pass.new) }
+        ensures linear { IsLinear O.object O.WORDS (plan_of self.now) (past_of pass.new) }
         ensures always { EachMoment (IsOwnerSiteThen O.object O.WORDS (plan_of self.now))
             (past_of pass.new) }
         ensures moves { Ran unmarked (newest (plan_of self.now)) (IsSiteMove (plan_of self.now) owner_at)

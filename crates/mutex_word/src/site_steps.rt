@@ -1,6 +1,6 @@
 //! The single steps on the owner word of any host.
 ghost use Rattle.std.specs.Prelude.{bit_or, ◌+◌, ◌*◌, ◌%◌, ◌≡◌, ℕ, ◌<◌, ◌/◌, false, IfSome, IsSome, IfOk, IfErr};
-ghost use Rattle.lock_views.specs.declared.view.Held.TheVariants.{No, Alone};
+ghost use Rattle.lock_core.specs.declared.view.Held.TheVariants.{No, Alone};
 ghost use Rattle.mutex_word.specs.declared.host.Turn.TheVariants.{Take as TakeTurn, Free as FreeTurn, Flag, Clear};
 ghost use Rattle.lock_core.specs.Views.{ticked};
 ghost use Rattle.lock_core.specs.Pasts.{FoundAt};

@@ -1,6 +1,6 @@
 //! Tries and releases: loops over exchanges of the owner word of any host.
 ghost use Rattle.std.specs.Prelude.{◌≡◌, ◌≢◌, ℕ, ◌<◌, Bool, false, Option, Some, IsSome, IfSome, IfOk, IfErr};
-ghost use Rattle.lock_views.specs.declared.view.Held.TheVariants.{No, Alone};
+ghost use Rattle.lock_core.specs.declared.view.Held.TheVariants.{No, Alone};
 ghost use Rattle.lock_core.specs.Views.{ticked};
 ghost use Rattle.lock_core.specs.Pasts.{FoundAt};
 ghost use Rattle.lock_core.specs.SiteHandles.{IsLatest, plan_of, view_of, hand_in, past_of, task_in, held_in, SitsAt, KeepsPast, SaysSame};

@@ -5,8 +5,8 @@ use native.Mathlib.Decide.{ℕ_discrete}
 use lib.Seq.{set-get_or}
 use Rattle.word_bits.specs.declared.TheConstants.{MAX_TASKS}
 use Rattle.lock_core.specs.declared.layout.TheConstants.{LOCK_WORDS}
-use Rattle.lock_views.specs.declared.op.Op.{Op}
-use Rattle.lock_views.specs.declared.op.Op.TheVariants.{Load, Store, Swap, Exchange}
+use Rattle.lock_core.specs.declared.op.Op.{Op}
+use Rattle.lock_core.specs.declared.op.Op.TheVariants.{Load, Store, Swap, Exchange}
 use Rattle.lock_core.specs.NodeLists.{Has, IsFirst, without}
 use Rattle.lock_core.specs.NodeListLaws.{left-has, right-has, first-has, last-has}
 use Rattle.osq_nodes.specs.declared.node.Place.{Place}

@@ -12,15 +12,14 @@ use Rattle.word_bits.specs.Histories.{Plan}
 use Rattle.atomic_table.specs.Table.{Me, keeps}
 use Rattle.atomic_table.specs.Seated.{TableId}
 use Rattle.atomic_table.proofs.Lists.{at_map}
-use Rattle.lock_views.specs.declared.op.Op.{Op}
-use Rattle.lock_views.specs.declared.view.Hand.{Hand}
-use Rattle.lock_views.specs.declared.view.Moment.{Moment}
-use Rattle.lock_views.specs.declared.view.Seen.{Seen}
+use Rattle.lock_core.specs.declared.op.Op.{Op}
+use Rattle.lock_core.specs.declared.view.Hand.{Hand}
+use Rattle.lock_core.specs.declared.view.Moment.{Moment}
+use Rattle.lock_core.specs.declared.view.Seen.{Seen}
 use Rattle.lock_core.specs.declared.pass.Face.{Face}
 use Rattle.lock_core.specs.declared.layout.TheConstants.{LOCK_WORDS}
-use Rattle.lock_core.specs.Nothings.{never}
-use Rattle.lock_core.specs.Nothings.{nothing}
-use Rattle.lock_views.specs.Ops.{word_after, told_by}
+use Rattle.lock_core.specs.Nothings.{never, nothing}
+use Rattle.lock_core.specs.Ops.{word_after, told_by}
 use Rattle.lock_core.specs.SitePlays.{Turns}
 use Rattle.lock_core.specs.Pasts.{FoundAt, FoundAtStep, GoesOn, IsOwnStep}
 use Rattle.lock_core.specs.SiteRunLaws.{found-at-step}

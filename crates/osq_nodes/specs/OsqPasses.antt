@@ -3,7 +3,7 @@ use Rattle.std.specs.Prelude.{◌≡◌, None}
 use Rattle.word_bits.specs.Histories.{Plan}
 use Rattle.atomic_table.specs.Table.{Me}
 use Rattle.atomic_table.specs.Seated.{TableId}
-use Rattle.lock_views.specs.declared.view.Seen.{Seen}
+use Rattle.lock_core.specs.declared.view.Seen.{Seen}
 use Rattle.lock_core.specs.declared.pass.Face.{Face}
 use Rattle.lock_core.specs.SitePasses.{Sits}
 use Rattle.lock_core.specs.Views.{HoldsNothing}

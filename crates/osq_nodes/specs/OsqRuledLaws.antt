@@ -8,13 +8,12 @@ use lib.ListN.{get_elem?}
 use Rattle.atomic_table.proofs.Lists.{at_longer, at_map, set_else}
 use Rattle.word_bits.specs.declared.TheConstants.{MAX_TASKS}
 use Rattle.word_bits.specs.Histories.{Plan}
-use Rattle.lock_views.specs.declared.view.Hand.{Hand}
-use Rattle.lock_views.specs.declared.view.Marks.{Marks}
+use Rattle.lock_core.specs.declared.view.Hand.{Hand}
+use Rattle.lock_core.specs.declared.view.Marks.{Marks}
 use Rattle.lock_core.specs.declared.layout.TheConstants.{LOCK_WORDS}
-use Rattle.lock_core.specs.Nothings.{never}
-use Rattle.lock_core.specs.Nothings.{nothing}
+use Rattle.lock_core.specs.Nothings.{never, nothing}
 use Rattle.lock_core.specs.Layout.{SiteWords, site, width, fresh}
-use Rattle.lock_views.specs.declared.view.SpinHand.{SpinHand}
+use Rattle.lock_core.specs.declared.view.SpinHand.{SpinHand}
 use Rattle.lock_core.specs.Views.{hand_of, named_of, is_number, SpinStays, seated, ticked, first, split_off, merged, spent}
 use Rattle.lock_core.specs.Sites.{SiteKept}
 use Rattle.lock_core.specs.Moves.{Goes, KeepsHold, SiteMove}

@@ -1,8 +1,8 @@
 -- What the words and the views of a spin queue's table state, at each moment and of each step.
 use Rattle.std.specs.Prelude.{◌≡◌, ℕ, suc, ◌==◌, ◌⊎◌, ◌<◌, ◌≤◌, MatchBool, List, [], ◌∷◌, ◌++◌, reverse, slice_set, if◌then◌else◌, Option, None, Some}
-use Rattle.lock_views.specs.declared.view.Hand.{Hand}
-use Rattle.lock_views.specs.declared.view.Marks.{Marks}
-use Rattle.lock_views.specs.declared.view.Moment.{Moment}
+use Rattle.lock_core.specs.declared.view.Hand.{Hand}
+use Rattle.lock_core.specs.declared.view.Marks.{Marks}
+use Rattle.lock_core.specs.declared.view.Moment.{Moment}
 use Rattle.lock_core.specs.Totals.{total}
 use Rattle.lock_core.specs.Views.{named_of}
 use Rattle.lock_core.specs.NodeLists.{Has, IsFirst, Precedes, IsOnce, without}

@@ -1,5 +1,5 @@
 //! The rule of a table that is a spin queue.
-ghost use Rattle.std.specs.Prelude.{◌≡◌};
+ghost use Rattle.std.specs.Prelude.{◌≡◌, false};
 ghost use Rattle.osq_nodes.specs.declared.node.Place.TheVariants.{Out};
 ghost use Rattle.lock_core.specs.Nothings.{never};
 ghost use Rattle.osq_nodes.specs.OsqPlaces.{node_marks};
@@ -18,6 +18,8 @@ impl SiteRule for QueueRule {
     type Ext = Node;
 
     ghost unavailable = { never };
+
+    ghost reads_unheld = { false };
 
     ghost holds = { OsqKept };
 

@@ -1,6 +1,6 @@
 -- What a look at a spin queue tells of its fronts, and of who looks.
 use Rattle.std.proofs.Common.{◌≡◌, ◌∙◌, ℕ, List, [], ◌∷◌, Option, sym}
-use Rattle.lock_views.specs.declared.view.Moment.{Moment}
+use Rattle.lock_core.specs.declared.view.Moment.{Moment}
 use Rattle.lock_core.specs.SiteHandles as inner
 use Rattle.lock_core.specs.NodeLists.{IsFirst}
 use Rattle.lock_core.specs.Pasts.{EachMoment}

@@ -4,7 +4,7 @@
 ghost use Rattle.std.specs.Prelude.{◌≡◌, ◌≢◌, ◌<◌, ◌≤◌, ◌+◌, true, false, Some, None, IsSome, MatchBool, MatchOption};
 ghost use Rattle.osq_nodes.specs.declared.node.Place.TheVariants.{Out, Waiting, Unlinked, Front};
 ghost use Rattle.osq_nodes.specs.OsqHandles.{tasks_of, task_in, place_in, fronts_in, swaps_in, found_in, steps_in, SawTail, SitsAt, KeepsNumber, KeepsPast, IsLatest};
-ghost use Rattle.osq_unqueue.specs.Rising.{Rises};
+ghost use Rattle.cpu_task.specs.CpuCounting.{Rises};
 
 mod steps;
 

@@ -9,10 +9,10 @@ use Rattle.atomic_table.proofs.Lists.{at_map}
 use Rattle.word_bits.specs.declared.TheConstants.{MAX_TASKS}
 use Rattle.word_bits.specs.Objects.{Obj}
 use Rattle.word_bits.specs.Histories.{Plan}
-use Rattle.lock_views.specs.declared.view.Hand.{Hand}
-use Rattle.lock_views.specs.declared.view.Held.TheVariants.{No, Shared}
-use Rattle.lock_views.specs.declared.view.Marks.{Marks}
-use Rattle.lock_views.specs.declared.view.Moment.{Moment}
+use Rattle.lock_core.specs.declared.view.Hand.{Hand}
+use Rattle.lock_core.specs.declared.view.Held.TheVariants.{No, Shared}
+use Rattle.lock_core.specs.declared.view.Marks.{Marks}
+use Rattle.lock_core.specs.declared.view.Moment.{Moment}
 use Rattle.lock_core.specs.Layout.{site}
 use Rattle.lock_core.specs.LockedLaws.{move-steps}
 use Rattle.lock_core.specs.Locked.{IsGone, IsSiteStep, SamePass}

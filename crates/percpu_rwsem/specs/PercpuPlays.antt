@@ -4,9 +4,9 @@ use Rattle.atomic_table.specs.Table.{Step}
 use Rattle.word_bits.specs.declared.entry.Entry.{Entry}
 use Rattle.word_bits.specs.Objects.{Obj}
 use Rattle.word_bits.specs.Histories.{Plan}
-use Rattle.lock_views.specs.declared.view.Hand.{Hand}
-use Rattle.lock_views.specs.declared.view.Held.{Held}
-use Rattle.lock_views.specs.declared.view.Held.TheVariants.{No, Shared, Alone}
+use Rattle.lock_core.specs.declared.view.Hand.{Hand}
+use Rattle.lock_core.specs.declared.view.Held.{Held}
+use Rattle.lock_core.specs.declared.view.Held.TheVariants.{No, Shared, Alone}
 use Rattle.lock_core.specs.Holding.{Learns, released}
 use Rattle.lock_core.specs.SitePlays.{Sat, Turns}
 use Rattle.lock_core.specs.Views.{ticked, took}

@@ -5,8 +5,8 @@ use lib.ListN.{get_elem?}
 use Rattle.word_bits.specs.LockWords.{Unavailable}
 use Rattle.word_bits.specs.Objects.{Obj}
 use Rattle.word_bits.specs.Histories.{Plan}
-use Rattle.lock_views.specs.declared.view.View.{View}
-use Rattle.lock_views.specs.declared.view.Moment.{Moment}
+use Rattle.lock_core.specs.declared.view.View.{View}
+use Rattle.lock_core.specs.declared.view.Moment.{Moment}
 use Rattle.lock_core.specs.declared.layout.TheConstants.{SPIN_ROOM}
 use Rattle.lock_core.specs.Layout.{site, width}
 use Rattle.lock_core.specs.Views.{hand_of}

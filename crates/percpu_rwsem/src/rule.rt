@@ -2,7 +2,7 @@
 ghost use Rattle.percpu_rwsem.specs.declared.view.Phase.TheVariants.{Idle};
 ghost use Rattle.percpu_rwsem.specs.PercpuRuled.{PercpuKept, PercpuMoves, block_at, kept_phase, never};
 ghost use Rattle.percpu_rwsem.specs.PercpuRuledLaws.{joins-moves, rule-site, rule-sites, rule-sites-moves, rule-opens, rule-splits, rule-joins, splits-moves};
-ghost use Rattle.std.specs.Prelude.{◌≡◌};
+ghost use Rattle.std.specs.Prelude.{◌≡◌, false};
 
 use crate::view::Phase;
 use lock_core::{SPIN_ROOM, SiteRule};
@@ -26,6 +26,8 @@ impl<O: Object> SiteRule for PercpuRule<O> {
     type Ext = Phase;
 
     ghost unavailable = { never };
+
+    ghost reads_unheld = { false };
 
     ghost holds = { PercpuKept O.object O.WORDS };
 

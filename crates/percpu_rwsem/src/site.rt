@@ -4,6 +4,7 @@ ghost use Rattle.lock_core.specs.Records.{IsPlan};
 ghost use Rattle.lock_core.specs.Views.{first, ticked, handed, split_off, merged, gave_up, BesideForgetting, HoldsNothing, OwesNoSignal};
 ghost use Rattle.lock_core.specs.Pasts.{EachMoment, IsMarked, KeepsJoined, Paced, Tail};
 ghost use Rattle.lock_core.specs.SiteStated.{IsNew};
+ghost use Rattle.lock_core.specs.Linear.{IsLinear};
 ghost use Rattle.percpu_rwsem.specs.PercpuStated.{IsPercpuSiteThen, IsPercpuStep};
 ghost use Rattle.percpu_rwsem.specs.declared.view.Phase.TheVariants.{Idle};
 ghost use Rattle.percpu_rwsem.specs.PercpuRuled.{kept_phase, never, newest};
@@ -114,7 +115,8 @@ impl<O: Object> PercpuRwSem<O> {
     /// Looks back at the table's whole past, by a load that changes nothing. At each moment, from
     /// the new table on, the facts of every site held, each count said whether its task was inside,
     /// and the block word said who blocked. Each step left its pass's phase and these words, or
-    /// led it to a next phase and did to the words what goes with that.
+    /// led it to a next phase and did to the words what goes with that. Each call took effect at the
+    /// step that stored its record.
     pub fn recall(&self, pass: &mut PercpuPass<O>)
         requires own { SitsAt self.now pass.old }
         ensures on { StepsOn self.now pass.old pass.new }
@@ -123,6 +125,7 @@ impl<O: Object> PercpuRwSem<O> {
         ensures last { IsLatest pass.new }
         ensures marked { IsMarked kept_phase (view_of pass.new) (past_of pass.new) }
         ensures begins { Tail (newest (plan_of self.now) ∷ []) (past_of pass.new) }
+        ensures linear { IsLinear O.object O.WORDS (plan_of self.now) (past_of pass.new) }
         ensures always { EachMoment (IsPercpuSiteThen O.object O.WORDS (plan_of self.now))
             (past_of pass.new) }
         ensures moves { Paced (IsPercpuStep (plan_of self.now)) (past_of pass.new) }

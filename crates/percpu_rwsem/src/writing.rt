@@ -1,6 +1,6 @@
 //! The calls of a writer.
 ghost use Rattle.std.specs.Prelude.{◌≡◌, ◌≢◌, ◌<◌, ◌+◌, false, true, None, Some, IsSome, IfOk, IfErr, length};
-ghost use Rattle.lock_views.specs.declared.view.Held.TheVariants.{No, Alone};
+ghost use Rattle.lock_core.specs.declared.view.Held.TheVariants.{No, Alone};
 ghost use Rattle.lock_core.specs.Views.{first, ticked};
 ghost use Rattle.lock_core.specs.Pasts.{FoundAt};
 ghost use Rattle.percpu_rwsem.specs.declared.view.Phase.TheVariants.{Idle, Blocks};

@@ -1,6 +1,6 @@
 //! Tasks that do their calls on an object under a lock.
 ghost use Rattle.std.specs.Prelude.{◌≡◌, ◌<◌, length, None, Some, IfOk};
-ghost use Rattle.lock_views.specs.declared.view.Held.TheVariants.{No};
+ghost use Rattle.lock_core.specs.declared.view.Held.TheVariants.{No};
 ghost use Rattle.lock_core.specs.Records.{row};
 ghost use Rattle.lock_core.specs.Kinds.{unavailable};
 ghost use Rattle.guarded.specs.GuardedHandles.{lock_of};

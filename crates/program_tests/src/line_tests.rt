@@ -2,7 +2,8 @@
 use byte_streams::{MemSink, MemSource};
 use fd_table::Fds;
 use mm_program::{Status, run_to_end};
-use sleep_lock::{Mutex, RwSem};
+use mutex_slow::Mutex;
+use rwsem_slow::RwSem;
 use std::io;
 use std::test::Fail;
 use vma_map::Areas;

@@ -2,7 +2,7 @@
 //! of the program move many more in examples/remap.cases.
 use crate::spaces::{area, map};
 use vma_map::{Areas, SpaceCall};
-use word_bits::{CallWords, Errno, Object, Reply};
+use word_bits::{CallWords, Errno, Reply, ValueObject};
 
 /// A space with these pages: 16 to 18 can be written, 18 to 20 only read.
 fn two_runs() -> Areas {

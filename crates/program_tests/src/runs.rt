@@ -2,9 +2,9 @@
 use byte_streams::{MemSink, MemSource};
 use cpu_task::{Crew, Gate, OpenGate, ParkCrew};
 use fd_table::Fds;
-use mm_program::{ScriptMachine, Status, top};
-use mm_serve::{SpaceLock, TableLock};
-use sleep_lock::{Mutex, RwSem};
+use mm_program::{ScriptMachine, SpaceLock, Status, TableLock, top};
+use mutex_slow::Mutex;
+use rwsem_slow::RwSem;
 use std::alloc::{AllocError, Global};
 use std::sync::Wait;
 use std::thread::Threads;

@@ -3,7 +3,7 @@
 use crate::spaces::stored;
 use std::test::Fail;
 use vma_map::{Areas, Search, find};
-use word_bits::{Area, Object};
+use word_bits::{Area, ValueObject};
 
 /// The words of a space with an area for each of the first 256 pages.
 fn all_areas() -> [u64; 257] {

@@ -4,7 +4,7 @@ ghost use Rattle.std.specs.Prelude.{◌<◌};
 use crate::spaces::{area, map, stored};
 use std::test::Fail;
 use vma_map::{Areas, SpaceCall, find};
-use word_bits::{CallWords, Errno, Object, Reply};
+use word_bits::{CallWords, Errno, Object, Reply, ValueObject};
 
 /// A space that has one run.
 fn one_run(start: u32, len: u32, prot: u8) -> Areas

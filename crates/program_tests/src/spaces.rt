@@ -3,7 +3,7 @@ ghost use Rattle.std.specs.Prelude.{◌<◌};
 ghost use Rattle.vma_map.specs.Spaces.{AreSpaceWords};
 
 use vma_map::{Areas, SpaceCall};
-use word_bits::{Area, Object, Reply};
+use word_bits::{Area, Reply, ValueObject};
 
 pub(crate) fn area(start: u32, end: u32, prot: u8) -> Area {
     Area { start, end, prot }

@@ -2,7 +2,7 @@
 use fd_table::{Fds, TableCall};
 use std::process::Abort;
 use std::test::Fail;
-use word_bits::{CallWords, Errno, Object, Reply};
+use word_bits::{CallWords, Errno, Object, Reply, ValueObject};
 
 const FULL: Reply = Reply::Refused(Errno::MFile);
 

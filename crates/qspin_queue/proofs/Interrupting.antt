@@ -4,11 +4,11 @@ use mathlib.Core.Logic.{dite}
 use native.Mathlib.Decide.{ℕ_discrete}
 use Rattle.lock_core.specs.declared.pass.Pass.{Pass}
 use Rattle.lock_core.specs.declared.site.Site.{Site}
-use Rattle.lock_views.specs.declared.view.View.{View}
-use Rattle.lock_views.specs.declared.view.LockHand.{LockHand}
-use Rattle.lock_views.specs.declared.view.SpinHand.{SpinHand}
+use Rattle.lock_core.specs.declared.view.View.{View}
+use Rattle.lock_core.specs.declared.view.LockHand.{LockHand}
+use Rattle.lock_core.specs.declared.view.SpinHand.{SpinHand}
 use Rattle.lock_core.specs.declared.pass.Nesting.{Nesting}
-use Rattle.lock_views.specs.declared.view.Point.TheVariants.{Out}
+use Rattle.lock_core.specs.declared.view.Point.TheVariants.{Out}
 use Rattle.lock_core.specs.LockHands.{lock_hand_at, frame_at, point_at, depth_of, RestsAt, RestsEverywhere, at-with, at-else}
 use Rattle.lock_core.specs.Nestings.{Tells}
 use Rattle.lock_core.specs.SpinFrames.{uses}

@@ -1,10 +1,10 @@
 -- What a run tells of a spin lock, where the rule of its table keeps the lock's own facts.
-use Rattle.std.proofs.Common.{◌≡◌, ℕ, List, ◌∷◌, map}
+use Rattle.std.proofs.Common.{Bool, ◌≡◌, ℕ, List, ◌∷◌, map}
 use Rattle.lock_core.specs.declared.layout.TheConstants.{SPIN_WORDS}
-use Rattle.lock_views.specs.declared.view.Moment.{Moment}
-use Rattle.lock_views.specs.declared.view.View.{View}
+use Rattle.lock_core.specs.declared.view.Moment.{Moment}
+use Rattle.lock_core.specs.declared.view.View.{View}
 use Rattle.lock_core.specs.Layout.{SiteWords, part}
-use Rattle.lock_core.specs.Moves.{SiteMove}
+use Rattle.lock_core.specs.Moves.{SiteMoveWhere}
 use Rattle.lock_core.specs.Views.{spin_part}
 use Rattle.lock_core.specs.Pasts.{EachMoment, Moves, Ran}
 use Rattle.lock_core.specs.SiteRunLaws.{ran-each, ran-so}
@@ -28,5 +28,5 @@ module _ {E : Type 0} (marks : E → List ℕ) (holds : List ℕ → List (View 
       (λ x y m. (m.0, moved n m.0 (part first SPIN_WORDS x.words) (part first SPIN_WORDS y.words) (map spin_part x.views) (map spin_part y.views) (does m.0 x.words y.words x.views y.views m.3), counts m.0 x.words y.words x.views y.views m.1 m.3)) past r
 
 -- what each step of a site counts of its spin lock
-pub counts-spin : {E : Type 0} (id word : ℕ) (w w' : SiteWords) (vs us : List (View E)) → SiteMove id word w vs w' us → CountsSpin id vs us
-counts-spin id word w w' vs us m = (m.before, m.after, m.at, m.at', m.moved.spin)
+pub counts-spin : {E : Type 0} {unheld : Bool} (id word : ℕ) (w w' : SiteWords) (vs us : List (View E)) → SiteMoveWhere unheld id word w vs w' us → CountsSpin id vs us
+counts-spin id word w w' vs us m = (m.before, m.after, m.at, m.at', m.moved.counts, m.moved.spin)

@@ -1,5 +1,5 @@
 -- What the words of a table state of its spin locks.
-use Rattle.std.proofs.Common.{◌≡◌, ℕ, zero, suc, ◌+◌, ◌*◌, ◌/◌, ◌%◌, ◌-◌, ◌<◌, ◌≤◌, ◌⊎◌, ⊎_elim, inl, inr, Bool, true, false, List, [], ◌∷◌, map, Option, Some, None, sym, refl, ap, subst, arith}
+use Rattle.std.proofs.Common.{◌∙◌, ◌≡◌, ℕ, zero, suc, ◌+◌, ◌*◌, ◌/◌, ◌%◌, ◌-◌, ◌<◌, ◌≤◌, ◌⊎◌, ⊎_elim, inl, inr, Bool, true, false, List, [], ◌∷◌, map, Option, Some, None, sym, refl, ap, subst, arith}
 use Rattle.std.specs.Prelude.{IfSome}
 use mathlib.Core.Option.{some, some-injective, some-ne-none}
 use lib.ListN.{get_elem?}
@@ -7,10 +7,10 @@ use Rattle.atomic_table.proofs.Lists.{at_map}
 use Rattle.word_bits.specs.declared.spin.Tail.{Tail}
 use Rattle.word_bits.specs.OwnerWord.{bit}
 use Rattle.word_bits.specs.SpinWord.{IsTail, tail_code}
-use Rattle.lock_views.specs.declared.view.Frame.{Frame}
-use Rattle.lock_views.specs.declared.view.Hand.{Hand}
-use Rattle.lock_views.specs.declared.view.SpinHand.{SpinHand}
-use Rattle.lock_views.specs.declared.view.View.{View}
+use Rattle.lock_core.specs.declared.view.Frame.{Frame}
+use Rattle.lock_core.specs.declared.view.Hand.{Hand}
+use Rattle.lock_core.specs.declared.view.SpinHand.{SpinHand}
+use Rattle.lock_core.specs.declared.view.View.{View}
 use Rattle.lock_core.specs.declared.layout.TheConstants.{SPIN_WORDS}
 use Rattle.lock_core.specs.Layout.{part}
 use Rattle.lock_core.specs.Views.{SpinPart, hand_of, spin_of, spin_part}
@@ -92,6 +92,8 @@ says marks n first ws vs (q, k) named = let w : List ℕ = part first SPIN_WORDS
   packed = packed n w q vs k named;
   nodes = own_nodes n w q vs k named;
   filled = each_below n w q vs k named;
+  numbers = λ i j t h g at at' own own'. let v = at_unmap hand_of vs i h at in let u = at_unmap hand_of vs j g at' in
+      named.apart i j (spin_part v.0) (spin_part u.0) t (at_map spin_part vs i v.0 v.1) (at_map spin_part vs j u.0 u.1) (ap (λ (x : Hand). x.task) v.2 ∙ own) (ap (λ (x : Hand). x.task) u.2 ∙ own');
   few = λ j s at l past. let v = at_unmap spin_of vs j s at in subst (λ (z : SpinHand). RestsAt l z) v.2 (k.few j (spin_part v.0) (at_map spin_part vs j v.0 v.1) l past);
   apart = λ l m c p r less more at at'. same-lock n w q ps k named l m c (queued-user n w q ps k named l less p c at) (queued-user n w q ps k named m more r c at');
 }

@@ -4,11 +4,11 @@ use mathlib.Core.Option.{some, some-injective}
 use mathlib.Core.Logic.{dite}
 use native.Mathlib.Decide.{ℕ_discrete}
 use lib.ListN.{get_elem?}
-use Rattle.lock_views.specs.declared.view.SpinHand.{SpinHand}
-use Rattle.lock_views.specs.declared.view.LockHand.{LockHand}
-use Rattle.lock_views.specs.declared.view.Frame.{Frame}
-use Rattle.lock_views.specs.declared.view.Point.{Point}
-use Rattle.lock_views.specs.declared.view.Point.TheVariants.{Linking}
+use Rattle.lock_core.specs.declared.view.SpinHand.{SpinHand}
+use Rattle.lock_core.specs.declared.view.LockHand.{LockHand}
+use Rattle.lock_core.specs.declared.view.Frame.{Frame}
+use Rattle.lock_core.specs.declared.view.Point.{Point}
+use Rattle.lock_core.specs.declared.view.Point.TheVariants.{Linking}
 use Rattle.lock_core.specs.ViewParts.{at_unmap}
 use Rattle.lock_core.specs.Records.{bit}
 use Rattle.lock_core.specs.Totals.{total, total-at}

@@ -5,11 +5,11 @@ use mathlib.Core.List.{reverse_aux}
 use lib.ListN.{get_elem?}
 use Rattle.std.specs.Prelude.{reverse}
 use Rattle.std.proofs.lemmas.List.{reverse-reverse}
-use Rattle.lock_views.specs.declared.view.Frame.{Frame}
-use Rattle.lock_views.specs.declared.view.Point.{Point}
-use Rattle.lock_views.specs.declared.view.Point.TheVariants.{Linking, Waiting, Front, Ready, Passing}
+use Rattle.lock_core.specs.declared.view.Frame.{Frame}
+use Rattle.lock_core.specs.declared.view.Point.{Point}
+use Rattle.lock_core.specs.declared.view.Point.TheVariants.{Linking, Waiting, Front, Ready, Passing}
 use Rattle.lock_core.specs.Totals.{total}
-use Rattle.lock_core.specs.SpinFrames.{when, code_is, stands, stands_as, takes_of, pends_of, undoes_of}
+use Rattle.lock_core.specs.SpinFrames.{when, code_is, stands, stands_as, takes_of, pends_of, undoes_of, is_head}
 use Rattle.lock_core.specs.SpinQueues.{tail_of, tail_unit, Before, PointOk, Queued, LockKept}
 use Rattle.lock_core.specs.SpinStated.{owns_of, found_at, found_by, Walks, IsSpinLock}
 use Rattle.qspin_word.proofs.Codes.{one_place, no_tail, some_summand}
@@ -40,6 +40,13 @@ placed next locked q Front p code found after single standing ok there = inl (on
 placed next locked q Ready p code found after single standing ok there = inl (one_place q p 0 code single there ok.0, ok.1)
 placed next locked q Passing p code found after single standing ok there = inl (one_place q p 0 code single there ok.0, ok.1)
 placed next locked q _ p code found after single standing ok there = absurd cc
+
+-- a head has the first node
+head-first : (next locked : ℕ → ℕ) (q : List ℕ) (point : Point) (code found after : ℕ) → is_head point ≡ true → PointOk next locked q point code found after → get_elem? q 0 ≡ some code
+head-first next locked q Front code found after head ok = ok.0
+head-first next locked q Ready code found after head ok = ok.0
+head-first next locked q Passing code found after head ok = ok.0
+head-first next locked q _ code found after head ok = absurd cc
 
 walk_on : (found locked : ℕ → ℕ) (a : ℕ) (more rest : List ℕ) → Walks found locked a (a ∷ more) → ((i x : ℕ) → get_elem? (a ∷ rest) (suc i) ≡ some x → (get_elem? (a ∷ rest) i ≡ some (found x)) × (locked x ≡ 0) × (x ≢ 0) × (found x ≢ 0))
     → Walks found locked (tail_of (a ∷ rest)) (reverse_aux rest (a ∷ more))
@@ -93,11 +100,16 @@ module _ (word : ℕ) (next locked : ℕ → ℕ) (q : List ℕ) (fs : List Fram
       (subst (λ z. get_elem? z i ≡ some (found_by fs x)) is before, t.3, real q k.queued.real (suc i) x at, real q k.queued.real i (found_by fs x) before))
       (place_of (suc i) x at)
 
+  -- the first found no tail, or was told
+  first : (x : ℕ) → get_elem? q 0 ≡ some x → (found_by fs x ≡ 0) ⊎ (locked x ≡ 1)
+  unfolding Placed
+  first x at = ⊎_elim (λ t. t.1) (λ t. absurd (no-suc t.0 (sym t.1))) (place_of 0 x at)
+
   walks : (q' : List ℕ) → q ≡ q' → Walks (found_by fs) locked (tail_of q') (reverse q')
   unfolding Placed
   walks [] is = refl
   walks (a ∷ rest) is = let at : get_elem? q 0 ≡ some a = ap (λ z. get_elem? z 0) is in walk_on (found_by fs) locked a [] rest
-      (refl, real q k.queued.real 0 a at, inl (refl, ⊎_elim (λ t. t.1) (λ t. absurd (no-suc t.0 (sym t.1))) (place_of 0 a at)))
+      (refl, real q k.queued.real 0 a at, inl (refl, first a at))
       (λ i x there. follows a rest is i x there)
 
   told : (p x : ℕ) → get_elem? q p ≡ some x → locked x ≡ 1 → p ≡ 0
@@ -117,5 +129,7 @@ module _ (word : ℕ) (next locked : ℕ → ℕ) (q : List ℕ) (fs : List Fram
     empty = ((λ none. let e = ap tail_of none in omega arith), (λ none. no_tail q k.queued.real (omega arith)));
     linked = k.linked;
     told = told;
+    first = first;
+    heads = λ j f at head. head-first next locked q f.point f.code f.found f.next head (k.each j f at);
     ready = λ some. (omega arith, omega arith, omega arith);
   }

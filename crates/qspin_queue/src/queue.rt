@@ -1,6 +1,6 @@
 //! The slow path of the queued spin lock.
 ghost use Rattle.std.specs.Prelude.{◌≡◌, ◌≢◌, ◌+◌, ◌%◌, ◌<◌, ◌≤◌, ◌⊎◌, ◌↔◌, true, false, IsSome};
-ghost use Rattle.lock_views.specs.declared.view.Point.TheVariants.{Out, Taking, Trying, Cleared, Linking, Waiting, Front, Ready, Passing};
+ghost use Rattle.lock_core.specs.declared.view.Point.TheVariants.{Out, Taking, Trying, Cleared, Linking, Waiting, Front, Ready, Passing};
 ghost use Rattle.lock_core.specs.LockHands.{RestsAt, frame_at, depth_of};
 ghost use Rattle.lock_core.specs.Views.{SpinRests};
 ghost use Rattle.lock_core.specs.Spins.{tail_in, word_at};

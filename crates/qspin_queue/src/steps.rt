@@ -2,7 +2,7 @@
 //! `code` is the code of the pass's node: four times its task's number plus 1, and the node's number.
 ghost use Rattle.std.specs.Prelude.{◌≡◌, ◌≢◌, ◌+◌, ◌*◌, ◌/◌, ◌<◌};
 ghost use Rattle.word_bits.specs.declared.TheConstants.{MAX_TASKS};
-ghost use Rattle.lock_views.specs.declared.view.Point.TheVariants.{Clearing, Cleared, Linking, Waiting, Front, Ready, Passing};
+ghost use Rattle.lock_core.specs.declared.view.Point.TheVariants.{Clearing, Cleared, Linking, Waiting, Front, Ready, Passing};
 ghost use Rattle.lock_core.specs.LockHands.{RestsAt};
 ghost use Rattle.lock_core.specs.Spins.{tail_in, word_at, next_at, locked_at};
 ghost use Rattle.lock_core.specs.SiteHandles.{view_of, past_of, SitsAt};

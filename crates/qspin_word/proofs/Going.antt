@@ -2,14 +2,14 @@
 use Rattle.std.proofs.Common.{◌≡◌, ◌∙◌, ◌==◌, ◌<◌, ◌+◌, ℕ, eq-eqb, Bool, true, false, refl, sym, ap, subst, if◌then◌else◌}
 use Rattle.lock_core.specs.declared.pass.Pass.{Pass}
 use Rattle.lock_core.specs.declared.site.Site.{Site}
-use Rattle.lock_views.specs.declared.view.SpinHand.{SpinHand}
+use Rattle.lock_core.specs.declared.view.SpinHand.{SpinHand}
 use Rattle.lock_core.specs.Pasts.{FoundAt, FoundAtStep}
 use Rattle.lock_core.specs.SiteRunLaws.{found-at-step}
 use Rattle.lock_core.specs.SiteHandles.{view_of, hand_in, past_of, SaysSame, KeepsPast, IsDepthTold, IsNestTold, NotesLock}
 use Rattle.lock_core.specs.Nestings.{is_held, waits_at}
-use Rattle.lock_views.specs.declared.view.View.{View}
-use Rattle.lock_views.specs.declared.view.LockHand.{LockHand}
-use Rattle.lock_views.specs.declared.view.Point.TheVariants.{Out, Holding}
+use Rattle.lock_core.specs.declared.view.View.{View}
+use Rattle.lock_core.specs.declared.view.LockHand.{LockHand}
+use Rattle.lock_core.specs.declared.view.Point.TheVariants.{Out, Holding}
 use Rattle.lock_core.specs.SpinFrames.{uses}
 use Rattle.lock_core.specs.LockHands.{depth_of, lock_hand_at, point_at, RestsAt, HoldsAt, at-with, at-else}
 use Rattle.qspin_word.specs.SpinWordHands.{taken, took_at, saw_word, tried, looked, freed}

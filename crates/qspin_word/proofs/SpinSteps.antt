@@ -7,14 +7,14 @@ use mathlib.Core.Logic.{dite}
 use native.Mathlib.Decide.{ℕ_discrete}
 use lib.ListN.{get_elem?}
 use Rattle.atomic_table.proofs.Lists.{at_map, set_again}
-use Rattle.lock_views.specs.declared.op.Op.TheVariants.{Load, Add, Sub, Or, And, Exchange}
-use Rattle.lock_views.specs.declared.view.View.{View}
-use Rattle.lock_views.specs.declared.view.SpinHand.{SpinHand}
-use Rattle.lock_views.specs.declared.view.LockHand.{LockHand}
-use Rattle.lock_views.specs.declared.view.Frame.{Frame}
-use Rattle.lock_views.specs.declared.view.Saw.{Saw}
-use Rattle.lock_views.specs.declared.view.Point.{Point}
-use Rattle.lock_views.specs.declared.view.Point.TheVariants.{Out, Undoing, Pending, Taking, Trying, Front, Ready, Passing, Holding}
+use Rattle.lock_core.specs.declared.op.Op.TheVariants.{Load, Add, Sub, Or, And, Exchange}
+use Rattle.lock_core.specs.declared.view.View.{View}
+use Rattle.lock_core.specs.declared.view.SpinHand.{SpinHand}
+use Rattle.lock_core.specs.declared.view.LockHand.{LockHand}
+use Rattle.lock_core.specs.declared.view.Frame.{Frame}
+use Rattle.lock_core.specs.declared.view.Saw.{Saw}
+use Rattle.lock_core.specs.declared.view.Point.{Point}
+use Rattle.lock_core.specs.declared.view.Point.TheVariants.{Out, Undoing, Pending, Taking, Trying, Front, Ready, Passing, Holding}
 use Rattle.lock_core.specs.Totals.{total, total-at}
 use Rattle.lock_core.specs.Views.{SpinPart, spin_part, part_with}
 use Rattle.lock_core.specs.LockHands.{lock_hand_at, frame_at, with_lock_hand, RestsAt, RestsEverywhere, at-with, at-else}

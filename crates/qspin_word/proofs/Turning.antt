@@ -9,11 +9,11 @@ use Rattle.atomic_table.proofs.Lists.{at_map}
 use Rattle.word_bits.specs.LockWords.{Unavailable}
 use Rattle.word_bits.specs.Objects.{Obj}
 use Rattle.word_bits.specs.Histories.{Plan}
-use Rattle.lock_views.specs.declared.op.Op.{Op}
-use Rattle.lock_views.specs.declared.view.View.{View}
-use Rattle.lock_views.specs.declared.view.SpinHand.{SpinHand}
+use Rattle.lock_core.specs.declared.op.Op.{Op}
+use Rattle.lock_core.specs.declared.view.View.{View}
+use Rattle.lock_core.specs.declared.view.SpinHand.{SpinHand}
 use Rattle.lock_core.specs.declared.layout.TheConstants.{SPIN_WORDS}
-use Rattle.lock_views.specs.Ops.{word_after, told_by, first_of, second_of}
+use Rattle.lock_core.specs.Ops.{word_after, told_by, first_of, second_of}
 use Rattle.lock_core.specs.Layout.{SiteWords, part}
 use Rattle.lock_core.specs.Regions.{part-at}
 use Rattle.lock_core.specs.Totals.{total-two}

@@ -4,10 +4,10 @@ use mathlib.Core.Option.{some}
 use lib.ListN.{get_elem?}
 use Rattle.word_bits.specs.declared.TheConstants.{MAX_TASKS}
 use Rattle.atomic_table.specs.Table.{Step}
-use Rattle.lock_views.specs.declared.op.Op.{Op}
-use Rattle.lock_views.specs.declared.view.View.{View}
-use Rattle.lock_views.specs.declared.view.SpinHand.{SpinHand}
-use Rattle.lock_views.specs.Ops.{word_after, told_by}
+use Rattle.lock_core.specs.declared.op.Op.{Op}
+use Rattle.lock_core.specs.declared.view.View.{View}
+use Rattle.lock_core.specs.declared.view.SpinHand.{SpinHand}
+use Rattle.lock_core.specs.Ops.{word_after, told_by}
 use Rattle.lock_core.specs.Views.{SpinPart, spin_part, part_with}
 use Rattle.lock_core.specs.Spins.{SpinFacts, SpinGoes, SpinsMove, spun}
 use Rattle.lock_core.specs.SitePlays.{Sat, Turns}

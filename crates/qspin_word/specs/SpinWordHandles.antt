@@ -1,9 +1,9 @@
 -- What a clause reads of a pass at a spin lock.
 use Rattle.std.specs.Prelude.{◌≡◌, ◌≢◌, ℕ, ◌+◌, ◌<◌, ◌≤◌, length, IsSome, true}
-use Rattle.lock_views.specs.declared.op.Op.{Op}
-use Rattle.lock_views.specs.declared.view.SpinHand.{SpinHand}
-use Rattle.lock_views.specs.declared.view.LockHand.{LockHand}
-use Rattle.lock_views.specs.declared.view.Point.{Point}
+use Rattle.lock_core.specs.declared.op.Op.{Op}
+use Rattle.lock_core.specs.declared.view.SpinHand.{SpinHand}
+use Rattle.lock_core.specs.declared.view.LockHand.{LockHand}
+use Rattle.lock_core.specs.declared.view.Point.{Point}
 use Rattle.lock_core.specs.declared.pass.Pass.{Pass}
 use Rattle.lock_core.specs.declared.site.Site.{Site}
 use Rattle.lock_core.specs.LockHands.{lock_hand_at, point_at, RestsEverywhere, depth_of}

@@ -1,6 +1,6 @@
 //! A step on one of the spin words of any table, which asks for the locks' own facts alone.
 ghost use Rattle.std.specs.Prelude.{◌<◌, ◌+◌, ◌*◌, ℕ, length};
-ghost use Rattle.lock_views.specs.declared.view.SpinHand.{SpinHand};
+ghost use Rattle.lock_core.specs.declared.view.SpinHand.{SpinHand};
 ghost use Rattle.lock_core.specs.Stores.{spin_room};
 ghost use Rattle.lock_core.specs.Views.{no_spin};
 ghost use Rattle.lock_core.specs.Spins.{SpinFrees, word_at};

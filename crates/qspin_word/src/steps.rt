@@ -1,6 +1,6 @@
 //! The single steps on the spin word, each at the point of the lock at which a pass may make it.
 ghost use Rattle.std.specs.Prelude.{◌≡◌, ◌<◌, ◌+◌, ◌⊎◌, ◌%◌, IsSome};
-ghost use Rattle.lock_views.specs.declared.view.Point.TheVariants.{Out, Undoing, Pending, Taking, Trying};
+ghost use Rattle.lock_core.specs.declared.view.Point.TheVariants.{Out, Undoing, Pending, Taking, Trying};
 ghost use Rattle.lock_core.specs.LockHands.{RestsAt, HoldsAt};
 ghost use Rattle.lock_core.specs.Spins.{word_at};
 ghost use Rattle.lock_core.specs.Pasts.{FoundAt};

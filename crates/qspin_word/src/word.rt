@@ -1,6 +1,6 @@
 //! The try and the release of a spin lock, and its way by the pending bit.
 ghost use Rattle.std.specs.Prelude.{◌≡◌, ◌+◌, ◌<◌, ◌≤◌, true, false, IfErr, IfOk, IsSome};
-ghost use Rattle.lock_views.specs.declared.view.Point.TheVariants.{Taking};
+ghost use Rattle.lock_core.specs.declared.view.Point.TheVariants.{Taking};
 ghost use Rattle.lock_core.specs.Views.{SpinRests, SpinHolds};
 ghost use Rattle.lock_core.specs.LockHands.{RestsAt, HoldsAt};
 ghost use Rattle.lock_core.specs.Spins.{spun, word_at};

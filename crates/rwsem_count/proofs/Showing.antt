@@ -2,8 +2,8 @@
 use Rattle.std.proofs.Common.{◌≡◌, ◌≢◌, ℕ, ◌+◌, ◌%◌, ◌≤◌, Bool, true, false, List, refl, sym, subst, arith}
 use Rattle.std.specs.Prelude.{Result, Ok, Err, IfErr}
 use Rattle.word_bits.specs.LockWords.{IsLawfulCount}
-use Rattle.lock_views.specs.declared.view.Moment.{Moment}
-use Rattle.lock_views.specs.declared.view.Held.TheVariants.{No}
+use Rattle.lock_core.specs.declared.view.Moment.{Moment}
+use Rattle.lock_core.specs.declared.view.Held.TheVariants.{No}
 use Rattle.lock_core.specs.Holding.{missed}
 use Rattle.lock_core.specs.Kinds.{semaphore, unavailable}
 use Rattle.lock_core.specs.Locking.{Misses}

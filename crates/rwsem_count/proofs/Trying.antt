@@ -1,7 +1,7 @@
 -- A reader's try goes on from word to word.
 use Rattle.std.proofs.Common.{◌≡◌, ℕ, ◌+◌, subst, arith}
 use Rattle.atomic_table.specs.Table.{Me}
-use Rattle.lock_views.specs.declared.view.View.{View}
+use Rattle.lock_core.specs.declared.view.View.{View}
 use Rattle.rwsem_count.specs.CountWordSteps.{IsReadFree}
 use Rattle.rwsem_count.specs.CountPlays.{SeenBy}
 use Rattle.rwsem_count.specs.CountTries.{SawCount}

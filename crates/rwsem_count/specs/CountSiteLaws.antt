@@ -3,7 +3,7 @@ use Rattle.std.proofs.Common.{◌≡◌, ◌∙◌, refl, sym, ap, subst}
 use Rattle.lock_core.specs.declared.pass.Pass.{Pass}
 use Rattle.lock_core.specs.SiteHandles as inner
 use Rattle.lock_core.specs.Views.{Beside}
-use Rattle.site_lock.specs.Faces.{Follows, KeepsHold}
+use Rattle.lock_core.specs.Faces.{Follows, KeepsHold}
 use Rattle.rwsem_count.specs.declared.pass.CountPass.{CountPass}
 use Rattle.rwsem_count.specs.declared.rule.CountRule.{CountRule}
 use Rattle.rwsem_count.specs.declared.site.CountSite.{CountSite}

@@ -6,9 +6,9 @@ use Rattle.word_bits.specs.declared.TheConstants.{MAX_TASKS}
 use Rattle.word_bits.specs.declared.count.Count.{Count}
 use Rattle.word_bits.specs.CountWord.{count_word}
 use Rattle.word_bits.specs.OwnerWord.{bit}
-use Rattle.lock_views.specs.declared.view.Hand.{Hand}
-use Rattle.lock_views.specs.declared.view.Held.TheVariants.{No}
-use Rattle.lock_views.specs.declared.view.Marks.{Marks}
+use Rattle.lock_core.specs.declared.view.Hand.{Hand}
+use Rattle.lock_core.specs.declared.view.Held.TheVariants.{No}
+use Rattle.lock_core.specs.declared.view.Marks.{Marks}
 use Rattle.lock_core.specs.Views.{alone_of}
 use Rattle.lock_core.specs.Totals.{total}
 use Rattle.rwsem_count.specs.declared.view.Bias.{Bias}

@@ -4,7 +4,7 @@ ghost use Rattle.rwsem_count.specs.declared.view.Bias.TheVariants.{Clear};
 ghost use Rattle.rwsem_count.specs.CountRuled.{CountMoves, CountRuleKept, IsPlain, count_at, may_count, may_miss, new_bias, same_bias};
 ghost use Rattle.rwsem_count.specs.CountRuledLaws.{count-inside, count-there, rule-site, rule-count, rule-sites, rule-opens, rule-splits, rule-joins, rule-counts, rule-looks};
 ghost use Rattle.rwsem_count.specs.CountStated.{kept_bias};
-ghost use Rattle.std.specs.Prelude.{◌≡◌, ◌<◌, refl};
+ghost use Rattle.std.specs.Prelude.{◌≡◌, ◌<◌, false, refl};
 
 use crate::host::CountHost;
 use crate::view::Bias;
@@ -24,6 +24,8 @@ impl<O: Object> SiteRule for CountRule<O> {
     type Ext = Bias;
 
     ghost unavailable = { counted };
+
+    ghost reads_unheld = { false };
 
     ghost holds = { CountRuleKept O.object O.WORDS };
 

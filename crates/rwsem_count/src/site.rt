@@ -1,7 +1,7 @@
 //! Sites with a count.
 ghost use Rattle.std.specs.Prelude.{◌≡◌, ◌<◌, ◌≤◌, ◌+◌, ℕ, false, true, None, IsSome, IfOk, IfErr, [], ◌∷◌, length};
 ghost use Rattle.word_bits.specs.LockWords.{counted};
-ghost use Rattle.lock_views.specs.declared.view.Held.TheVariants.{No, Shared, Alone};
+ghost use Rattle.lock_core.specs.declared.view.Held.TheVariants.{No, Shared, Alone};
 ghost use Rattle.lock_core.specs.Holding.{downgraded, released};
 ghost use Rattle.lock_core.specs.Kinds.{semaphore, wakes_alone, wakes_shared};
 ghost use Rattle.lock_core.specs.Locking.{Downgrades, Misses, Releases, Takes};
@@ -9,6 +9,7 @@ ghost use Rattle.lock_core.specs.Records.{IsPlan};
 ghost use Rattle.lock_core.specs.Views.{first, ticked, handed, split_off, merged, gave_up, BesideForgetting, HoldsNothing, OwesNoSignal};
 ghost use Rattle.lock_core.specs.Pasts.{EachMoment, FoundAt, IsMarked, Ran, Tail};
 ghost use Rattle.lock_core.specs.SiteStated.{IsNew, IsSiteMove};
+ghost use Rattle.lock_core.specs.Linear.{IsLinear};
 ghost use Rattle.rwsem_count.specs.declared.view.Bias.TheVariants.{Clear};
 ghost use Rattle.rwsem_count.specs.Counts.{based};
 ghost use Rattle.rwsem_count.specs.CountRuled.{IsCountSiteThen, IsPlain, count_at, new_bias, newest};
@@ -263,7 +264,8 @@ impl<O: Object> CountSite<O> {
 
     /// A load, after which the pass knows that at each moment of the table so far, from the new
     /// table on, the facts of every site were so, and the count stated who held and who was in
-    /// transit; and what each step did to the site's words and to what the passes count.
+    /// transit; and what each step did to the site's words and to what the passes count. Each call
+    /// took effect at the step that stored its record.
     pub fn recall_count(&self, pass: &mut CountPass<O>)
         requires own { SitsAt self.now pass.old }
         ensures on { StepsOn self.now pass.old pass.new }
@@ -272,6 +274,7 @@ impl<O: Object> CountSite<O> {
         ensures last { IsLatest pass.new }
         ensures marked { IsMarked kept_bias (view_of pass.new) (past_of pass.new) }
         ensures begins { Tail (newest (plan_of self.now) ∷ []) (past_of pass.new) }
+        ensures linear { IsLinear O.object O.WORDS (plan_of self.now) (past_of pass.new) }
         ensures always { EachMoment (IsCountSiteThen O.object O.WORDS (plan_of self.now))
             (past_of pass.new) }
         ensures moves { Ran kept_bias (newest (plan_of self.now)) (IsSiteMove (plan_of self.now) count_at)

@@ -1,7 +1,7 @@
 //! A reader's try: a loop over exchanges of the count of any host.
 ghost use Rattle.std.specs.Prelude.{◌≡◌, ◌≢◌, ◌+◌, ℕ, IsSome, IfOk, IfErr};
 ghost use Rattle.word_bits.specs.LockWords.{IsLawfulCount};
-ghost use Rattle.lock_views.specs.declared.view.Held.TheVariants.{No, Shared};
+ghost use Rattle.lock_core.specs.declared.view.Held.TheVariants.{No, Shared};
 ghost use Rattle.lock_core.specs.SiteHandles.{IsLatest, plan_of, view_of, past_of, task_in, held_in, SitsAt, KeepsPast, SaysSame};
 ghost use Rattle.lock_core.specs.Pasts.{FoundAt};
 ghost use Rattle.rwsem_count.specs.declared.view.Bias.TheVariants.{Clear};

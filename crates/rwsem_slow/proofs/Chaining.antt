@@ -5,8 +5,8 @@ use lib.ListN.{get_elem?}
 use Rattle.atomic_table.proofs.Lists.{at_map}
 use Rattle.word_bits.specs.Objects.{Obj}
 use Rattle.word_bits.specs.Histories.{Plan}
-use Rattle.lock_views.specs.declared.view.Moment.{Moment}
-use Rattle.lock_views.specs.declared.view.Marks.{Marks}
+use Rattle.lock_core.specs.declared.view.Moment.{Moment}
+use Rattle.lock_core.specs.declared.view.Marks.{Marks}
 use Rattle.lock_core.specs.LockedLaws.{move-steps}
 use Rattle.lock_core.specs.ViewParts.{Each}
 use Rattle.lock_core.specs.Pasts.{ChangesOneWord, Instant, Moves, marks_of, Paced, Ran, instant, moment}
@@ -18,17 +18,17 @@ use Rattle.wait_list.specs.declared.view.Change.TheVariants.{Stay, Enter, Leave}
 use Rattle.wait_list.specs.Lists.{Allowed, MadeBy as MadeUnderLock, Part, changed, list_part}
 use Rattle.wait_list.specs.ListLaws.{holds-or-not}
 use Rattle.wait_list.proofs.Determining.{kept-same}
-use Rattle.sem_duty.specs.declared.view.SemWake.{SemWake}
+use Rattle.rwsem_wake.specs.declared.duty.SemWake.{SemWake}
 use Rattle.rwsem_wake.specs.declared.view.SemHand.{SemHand}
 use Rattle.rwsem_wake.specs.SemParts.{SemPart, busy_of}
 use Rattle.rwsem_wake.specs.Handoffs.{KeepsHandoff}
 use Rattle.rwsem_wake.specs.GrantsStated.{Picks}
 use Rattle.rwsem_wake.specs.declared.view.RwSemHand.{RwSemHand}
-use Rattle.rwsem_rule.specs.WakesGo.{WakeStands, WakesGo, wake_stands}
+use Rattle.rwsem_slow.specs.WakesGo.{WakeStands, WakesGo, wake_stands}
 use Rattle.rwsem_wake.specs.RwSemViews.{V, count_at, list_of, seen}
-use Rattle.rwsem_rule.specs.RwSems.{IsLocked, IsMadeBy, Kept, RwSemKept, RwSemMoves, count_in, entered, grants_in, marks_in, standing, wake_words}
+use Rattle.rwsem_slow.specs.RwSems.{IsLocked, IsMadeBy, Kept, RwSemKept, RwSemMoves, count_in, entered, grants_in, marks_in, standing, wake_words}
 use Rattle.rwsem_slow.specs.RwSemStated.{HasBecome, HasNoBatch, HasWaitLock, IsRwSemStep, MadeBy, stance}
-use Rattle.rwsem_slow.proofs.Marking.{same-wakes}
+use Rattle.rwsem_slow.proofs.MarkedCounts.{same-wakes}
 use Rattle.rwsem_slow.proofs.Stating.{queued}
 
 has-lock : (id : ℕ) (ws : List ℕ) (vs : List V) (v : V) (p : Part) → get_elem? vs id ≡ some v → get_elem? (map (list_part list_of) vs) id ≡ some p → holds_in p.0 ≡ 1 → HasWaitLock id (moment standing (instant ws vs))

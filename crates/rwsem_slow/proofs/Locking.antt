@@ -18,7 +18,7 @@ use Rattle.wait_list.specs.Lists.{counted}
 use Rattle.rwsem_wake.specs.SemParts.{alone_of as alone_in, shared_of as shared_in}
 use Rattle.rwsem_wake.proofs.Places.{some-length}
 use Rattle.rwsem_wake.specs.RwSemViews.{V, count_at, seen}
-use Rattle.rwsem_rule.specs.RwSems.{Kept, standing}
+use Rattle.rwsem_slow.specs.RwSems.{Kept, standing}
 use Rattle.rwsem_slow.specs.RwSemStated.{task_of, waits_on}
 use Rattle.rwsem_slow.proofs.Stating.{queued}
 

@@ -1,54 +1,31 @@
--- What the marks of a pass say of wakes.
-use Rattle.std.proofs.Common.{◌≡◌, ◌∙◌, ℕ, Bool, true, false, List, [], ◌∷◌, ◌++◌, length, get_or, refl, sym, ap, arith}
-use Rattle.lock_views.specs.declared.view.Marks.{Marks}
-use Rattle.lock_core.specs.Pasts.{marks_of}
-use Rattle.lock_core.specs.Records.{bit}
-use Rattle.sem_duty.specs.declared.view.SemWake.{SemWake}
-use Rattle.rwsem_count.specs.declared.view.Bias.{Bias}
-use Rattle.rwsem_count.specs.declared.view.Bias.TheVariants.{Clear, Transit, Reserve}
-use Rattle.rwsem_wake.specs.declared.view.SemHand.{SemHand}
-use Rattle.rwsem_rule.specs.WakesGo.{wake_stands}
+-- A task that queued has chosen others, and sets their wake words.
+use Rattle.std.proofs.Common.{◌≡◌, ◌∙◌, ℕ, ◌++◌, List, [], ap}
+use Rattle.rwsem_wake.specs.declared.view.Wait.{Wait}
+use Rattle.rwsem_wake.specs.declared.duty.SemWake.{SemWake}
+use Rattle.wake_duty.specs.DutyWakes.{waits}
 use Rattle.rwsem_wake.specs.RwSemViews.{V}
-use Rattle.rwsem_rule.specs.RwSems.{bias_codes, numbers_of, stage_code, standing, wait_code, wake_codes}
-use Rattle.rwsem_slow.specs.RwSemStated.{stance}
+use Rattle.rwsem_wake.specs.Removals.{StaysBeside}
+use Rattle.rwsem_wake.specs.RwSemWakes.{HasChosenAll, IsAtRest, SetsAll}
+use Rattle.rwsem_slow.specs.Queued.{IsInLine, IsInLineToWake}
 
--- the numbers of a mark behind those of its bias
-abbrev behind-bias : List ℕ → List ℕ
-behind-bias (a ∷ b ∷ c ∷ d ∷ e ∷ ns) = ns
-behind-bias _ = []
+-- it looked whom to wake, and is to wake those
+pub marks : (wait : Wait) (tasks : List ℕ) (v u : V) → v.ext.sem.wait ≡ wait → v.ext.wake.chosen ≡ [] → waits v.ext.wake.vigil ≡ 1 → StaysBeside v u → IsAtRest u → HasChosenAll tasks v u → IsInLineToWake wait tasks u
+marks wait tasks v u waits_so none vigil beside rests chosen = record {
+  waits = λ i. record { wait = (beside.wait ∙ waits_so) i; bias = rests.clear i; stage = rests.stage i; rest = rests.none i };
+  still = rests.still;
+  clear = chosen.clear;
+  chosen = ap (λ (b : SemWake). b.chosen) chosen.chose ∙ ap (λ (ts : List ℕ). ts ++ tasks) none;
+  vigil = ap (λ (b : SemWake). waits b.vigil) chosen.chose ∙ vigil;
+}
 
-numbers-behind : (s : SemHand) (appends : ℕ) (b : SemWake) → behind-bias (numbers_of s appends b) ≡ wake_codes b ++ s.rest
-numbers-behind s appends b = go s.bias
-  where
-    go : (x : Bias) → behind-bias (wait_code s.wait ∷ stage_code s.stage ∷ appends ∷ (bias_codes x ++ (wake_codes b ++ s.rest))) ≡ wake_codes b ++ s.rest
-    go Clear = refl
-    go (Transit m) = refl
-    go (Reserve m) = refl
-
-abbrev behind-five : List ℕ → List ℕ
-behind-five (a ∷ b ∷ c ∷ d ∷ e ∷ f ∷ ns) = ns
-behind-five _ = []
-
-bit-same : (a b : Bool) → bit a ≡ bit b → a ≡ b
-bit-same true true e = refl
-bit-same false false e = refl
-bit-same true false e = absurd (omega (arith, e))
-bit-same false true e = absurd (omega (arith, e))
-
-abbrev behind-first : List ℕ → List ℕ
-behind-first [] = []
-behind-first (n ∷ ns) = ns
-
--- lists of one length that begin the same list are the same
-begins-same : (xs ys rs ts : List ℕ) → length xs ≡ length ys → xs ++ rs ≡ ys ++ ts → xs ≡ ys
-begins-same [] [] rs ts long e = refl
-begins-same [] (y ∷ ys) rs ts long e = absurd (omega (arith, long))
-begins-same (x ∷ xs) [] rs ts long e = absurd (omega (arith, long))
-begins-same (x ∷ xs) (y ∷ ys) rs ts long e = let head : x ≡ y = ap (λ (l : List ℕ). get_or l 0 0) e in let rest = begins-same xs ys rs ts (omega (arith, long)) (ap behind-first e) in λ i. head i ∷ rest i
-
--- the marks of a pass say what it has of wakes
-pub same-wakes : (v : V) (s : SemHand) (appends : ℕ) (b : SemWake) → marks_of standing v ≡ stance s appends b → wake_stands v.ext.wake ≡ wake_stands b
-same-wakes v s appends b e = let codes : wake_codes v.ext.wake ++ v.ext.sem.rest ≡ wake_codes b ++ s.rest = sym (numbers-behind v.ext.sem v.ext.appends v.ext.wake) ∙ (ap (λ (m : Marks). behind-bias m.numbers) e ∙ numbers-behind s appends b) in
-    let at : (i : ℕ) → get_or (wake_codes v.ext.wake ++ v.ext.sem.rest) i 0 ≡ get_or (wake_codes b ++ s.rest) i 0 = λ i. ap (λ (l : List ℕ). get_or l i 0) codes in
-    let owing = bit-same v.ext.wake.owing b.owing (at 0) in let chosen = begins-same v.ext.wake.chosen b.chosen v.ext.sem.rest s.rest (at 5) (ap behind-five codes) in
-    λ i. record { owing = owing i; chosen = chosen i; queued = at 1 i; awake = at 2 i; wakes = at 3 i; dozes = at 4 i }
+-- it has set their wake words since, and waits in line
+pub marked : (wait : Wait) (tasks : List ℕ) (many : ℕ) (u m w : V) → IsInLineToWake wait tasks u → m.ext ≡ u.ext → SetsAll many m w → IsInLine wait w
+marked wait tasks many u m w to_wake same sets = record {
+  waits = ap (λ (z : V). z.ext.sem) sets.is ∙ (ap (λ e. e.sem) same ∙ to_wake.waits);
+  still = ap (λ (z : V). z.ext.list.changes) sets.is ∙ (ap (λ e. e.list.changes) same ∙ to_wake.still);
+  listed = record {
+    clear = ap (λ (z : V). z.ext.wake.owing) sets.is ∙ (ap (λ e. e.wake.owing) same ∙ to_wake.clear);
+    none = ap (λ (z : V). z.ext.wake.chosen) sets.is;
+    waits = ap (λ (z : V). waits z.ext.wake.vigil) sets.is ∙ (ap (λ e. waits e.wake.vigil) same ∙ to_wake.vigil);
+  };
+}

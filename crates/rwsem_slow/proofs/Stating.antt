@@ -7,8 +7,8 @@ use Rattle.atomic_table.proofs.Lists.{at_map}
 use Rattle.word_bits.specs.LockWords.{counted as shut}
 use Rattle.word_bits.specs.Objects.{Obj}
 use Rattle.word_bits.specs.Histories.{Plan}
-use Rattle.lock_views.specs.declared.view.Hand.{Hand}
-use Rattle.lock_views.specs.declared.view.Moment.{Moment}
+use Rattle.lock_core.specs.declared.view.Hand.{Hand}
+use Rattle.lock_core.specs.declared.view.Moment.{Moment}
 use Rattle.lock_core.specs.Layout.{site}
 use Rattle.lock_core.specs.Locked.{IsWaitLockFree}
 use Rattle.lock_core.specs.ViewParts.{Each, at_unmap}
@@ -25,8 +25,8 @@ use Rattle.wait_list.specs.ListLaws.{holds-or-not}
 use Rattle.wake_duty.specs.declared.view.Vigil.{Vigil}
 use Rattle.wake_duty.specs.declared.view.Vigil.TheVariants.{Absent, Awake, Tried}
 use Rattle.wake_duty.specs.DutyWakes.{awake, waits, wake_word}
-use Rattle.sem_duty.specs.declared.view.SemWake.{SemWake}
-use Rattle.sem_duty.specs.SemDuties.{DutyPart, answers, chose, first_writes, rouses, stirs, times, wakes_first, where_so}
+use Rattle.rwsem_wake.specs.declared.duty.SemWake.{SemWake}
+use Rattle.rwsem_wake.specs.SemDuties.{DutyPart, answers, chose, first_writes, rouses, stirs, times, wakes_first, where_so}
 use Rattle.rwsem_wake.specs.SemParts.{SemPart, alone_of, busy_of, busy_weight, granted_of, granting_of, reserve_of, rest_of, shared_of, transit_weight}
 use Rattle.rwsem_wake.specs.Duties.{overdue_of}
 use Rattle.rwsem_wake.specs.GrantsStated.{readers}
@@ -34,13 +34,13 @@ use Rattle.rwsem_wake.proofs.DutySteps.{late-are}
 use Rattle.rwsem_wake.specs.GrantSemaphores.{Quiet}
 use Rattle.rwsem_wake.proofs.Readers.{only-first, readers-are, readers-once}
 use Rattle.rwsem_wake.proofs.Stating.{sem-states, sem-waiters}
-use Rattle.rwsem_rule.specs.RwSemListLaws.{batch-busy}
-use Rattle.rwsem_rule.specs.WaiterLaws.{has-pass, named-is, view-of}
-use Rattle.rwsem_rule.specs.WakesGo.{WakeStands}
-use Rattle.rwsem_slow.proofs.Marking.{same-wakes}
+use Rattle.rwsem_slow.specs.RwSemListLaws.{batch-busy}
+use Rattle.rwsem_slow.specs.WaiterLaws.{has-pass, named-is, view-of}
+use Rattle.rwsem_slow.specs.WakesGo.{WakeStands}
+use Rattle.rwsem_slow.proofs.MarkedCounts.{same-wakes}
 use Rattle.rwsem_wake.specs.RwSemViews.{V, IsDone, list_of, seen}
-use Rattle.rwsem_rule.specs.RwSems.{Kept, RwSemKept, count_in, duty_seen, grants_in, marks_in, standing, wake_words}
-use Rattle.rwsem_rule.specs.RwSemLaws.{few-named}
+use Rattle.rwsem_slow.specs.RwSems.{Kept, RwSemKept, count_in, duty_seen, grants_in, marks_in, standing, wake_words}
+use Rattle.rwsem_slow.specs.RwSemLaws.{few-named}
 use Rattle.rwsem_slow.specs.RwSemStated.{HasWaitLock, IsQueued, IsRoused, IsRwSemThen, SomebodyKeepsOut, SomebodyOwes, WakesMarked, stance}
 
 -- who doesn't wait has no vigil

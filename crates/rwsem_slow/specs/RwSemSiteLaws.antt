@@ -4,11 +4,11 @@ use Rattle.word_bits.specs.Objects.{Obj}
 use Rattle.lock_core.specs.declared.pass.Pass.{Pass}
 use Rattle.lock_core.specs.SiteHandles as inner
 use Rattle.lock_core.specs.Views.{Beside, SpinRests}
-use Rattle.site_lock.specs.Faces.{Follows, KeepsHold}
-use Rattle.site_lock.specs.Sitting.{SitsIdle}
+use Rattle.lock_core.specs.Faces.{Follows, KeepsHold}
+use Rattle.lock_core.specs.Sitting.{SitsIdle}
 use Rattle.rwsem_slow.specs.declared.calls.RwSem.{RwSem}
 use Rattle.rwsem_slow.specs.declared.calls.RwPass.{RwPass}
-use Rattle.rwsem_rule.specs.declared.SemRule.{SemRule}
+use Rattle.rwsem_slow.specs.declared.rule.SemRule.{SemRule}
 use Rattle.rwsem_wake.specs.declared.view.RwSemHand.{RwSemHand}
 use Rattle.rwsem_slow.specs.RwSemHandles.{plan_of, shown_of, SitsAt}
 use Rattle.rwsem_wake.specs.RwSemPlaces.{line_of}

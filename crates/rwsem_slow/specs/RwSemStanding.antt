@@ -1,6 +1,6 @@
 -- How a pass stands between two calls of its task.
 use Rattle.std.specs.Prelude.{◌≡◌, IsSome}
-use Rattle.lock_views.specs.declared.view.Held.TheVariants.{No}
+use Rattle.lock_core.specs.declared.view.Held.TheVariants.{No}
 use Rattle.rwsem_slow.specs.declared.calls.RwSem.{RwSem}
 use Rattle.rwsem_slow.specs.declared.calls.RwPass.{RwPass}
 use Rattle.rwsem_slow.specs.RwSemHandles.{hand_in, SitsAt}

@@ -6,11 +6,11 @@ use Rattle.word_bits.specs.declared.TheConstants.{MAX_TASKS}
 use Rattle.word_bits.specs.LockWords.{counted as shut}
 use Rattle.word_bits.specs.Objects.{Obj}
 use Rattle.word_bits.specs.Histories.{Plan}
-use Rattle.lock_views.specs.declared.view.Hand.{Hand}
-use Rattle.lock_views.specs.declared.view.SpinHand.{SpinHand}
-use Rattle.lock_views.specs.declared.view.Marks.{Marks}
-use Rattle.lock_views.specs.declared.view.Moment.{Moment}
-use Rattle.lock_views.specs.declared.view.Held.TheVariants.{No}
+use Rattle.lock_core.specs.declared.view.Hand.{Hand}
+use Rattle.lock_core.specs.declared.view.SpinHand.{SpinHand}
+use Rattle.lock_core.specs.declared.view.Marks.{Marks}
+use Rattle.lock_core.specs.declared.view.Moment.{Moment}
+use Rattle.lock_core.specs.declared.view.Held.TheVariants.{No}
 use Rattle.lock_core.specs.Locked.{HasPass, IsSiteStep, IsWaitLockFree}
 use Rattle.lock_core.specs.Shown.{IsLatestStep, Shown}
 use Rattle.lock_core.specs.Spins.{holds_in}
@@ -22,8 +22,8 @@ use Rattle.wait_list.specs.declared.view.Change.TheVariants.{Stay, Enter, Leave}
 use Rattle.wait_list.specs.Lists.{Allowed, IsList, Lists, changed, counted}
 use Rattle.wake_duty.specs.declared.view.Vigil.TheVariants.{Awake}
 use Rattle.wake_duty.specs.DutyWakes.{wake_word}
-use Rattle.sem_duty.specs.declared.view.SemWake.{SemWake}
-use Rattle.sem_duty.specs.SemDuties.{times}
+use Rattle.rwsem_wake.specs.declared.duty.SemWake.{SemWake}
+use Rattle.rwsem_wake.specs.SemDuties.{times}
 use Rattle.rwsem_count.specs.declared.view.Bias.TheVariants.{Clear}
 use Rattle.rwsem_wake.specs.declared.view.SemHand.{SemHand}
 use Rattle.rwsem_wake.specs.declared.view.Wait.TheVariants.{Apart}
@@ -32,9 +32,9 @@ use Rattle.rwsem_wake.specs.Duties.{kept_of, overdue_of}
 use Rattle.rwsem_wake.specs.GrantSemaphores.{Quiet}
 use Rattle.rwsem_wake.specs.Handoffs.{KeepsHandoff, reads_as}
 use Rattle.rwsem_wake.specs.GrantsStated.{OnlyFirst, Picks, StatesCount, StatesWaiters, over, readers}
-use Rattle.rwsem_rule.specs.WakesGo.{WakesGo, wake_stands}
+use Rattle.rwsem_slow.specs.WakesGo.{WakesGo, wake_stands}
 use Rattle.rwsem_wake.specs.RwSemViews.{IsDone, count_at}
-use Rattle.rwsem_rule.specs.RwSems.{KeepsCount, count_in, entered, grants_in, list_words, marks_in, numbers_of, wake_words}
+use Rattle.rwsem_slow.specs.RwSems.{KeepsCount, count_in, entered, grants_in, list_words, marks_in, numbers_of, wake_words}
 
 -- what a moment keeps of a pass that stands so, has appended itself so often, and has this of wakes
 abbrev pub stance : SemHand → ℕ → SemWake → Marks

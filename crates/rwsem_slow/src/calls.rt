@@ -1,6 +1,6 @@
 //! Semaphores, their passes, and their calls.
 ghost use Rattle.std.specs.Prelude.{◌≡◌, ◌<◌, List, [], ◌∷◌, length, Some, None, IsSome, IfOk};
-ghost use Rattle.lock_views.specs.declared.view.Held.TheVariants.{No};
+ghost use Rattle.lock_core.specs.declared.view.Held.TheVariants.{No};
 ghost use Rattle.lock_core.specs.Kinds.{semaphore, unavailable};
 ghost use Rattle.lock_core.specs.Pasts.{EachMoment, Paced, Ran, Tail};
 ghost use Rattle.lock_core.specs.Locking.{Looks, Has};
@@ -13,15 +13,16 @@ ghost use Rattle.lock_core.specs.SiteStated.{IsNew};
 ghost use Rattle.lock_core.specs.Views.{gathered, gave_up};
 ghost use Rattle.osq_nodes.specs.OsqHandles.{tasks_of};
 ghost use Rattle.lock_core.specs.SiteHandles as inner;
+ghost use Rattle.lock_core.specs.Linear.{IsLinear};
 ghost use Rattle.wait_list.specs.declared.view.Waiter.{Waiter as Waiters};
 ghost use Rattle.rwsem_wake.specs.SemParts.{SemPart};
 ghost use Rattle.rwsem_wake.specs.RwSemViews.{count_at};
-ghost use Rattle.rwsem_rule.specs.RwSems.{standing, wait_lock_at};
+ghost use Rattle.rwsem_slow.specs.RwSems.{standing, wait_lock_at};
 ghost use Rattle.rwsem_slow.specs.RwSemStated.{HasBecome, IsOutOfLine, IsRwSemThen, MarksCounts, waits_on};
 
+use crate::SemRule;
 use lock_core::{Pass, Plan, Site, Tally};
 use osq_nodes::{Osq, OsqPass};
-use rwsem_rule::SemRule;
 use rwsem_wake::{NO_WAKES, WakeCounts};
 use std::alloc::{AllocError, Global};
 use std::sync::Wait;
@@ -201,6 +202,8 @@ impl<O: Object> RwSem<O> {
     /// and is to set its wake word, or that word is set. Nor does it if it tries or loads its grant
     /// word before it sleeps. Each step says how these come and go.
     ///
+    /// Each call took effect at the step that stored its record.
+    ///
     /// The pass itself waits for nothing, owes no wake, and has set the wake word of each task that
     /// it chose. It has set so many wake words and fallen asleep so often as it says.
     pub fn recall(&self, pass: &mut RwPass<O>)
@@ -217,6 +220,7 @@ impl<O: Object> RwSem<O> {
             (shown_of pass.new).past }
         ensures out { IsOutOfLine (shown_of pass.new) }
         ensures moves { Paced (IsSiteStep (plan_of self.now) count_at) (shown_of pass.new).past }
+        ensures linear { IsLinear O.object O.WORDS (plan_of self.now) (shown_of pass.new).past }
         ensures lists { (q : List Waiters) × (ps : List SemPart) ×
             HasBecome (plan_of self.now) (shown_of pass.new).past q ps }
         ensures wait_lock { EachMoment (IsSpinLockThen wait_lock_at) (shown_of pass.new).past }

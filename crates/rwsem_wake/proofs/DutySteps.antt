@@ -13,9 +13,9 @@ use Rattle.lock_core.proofs.RowLaws.{none-some, same-some}
 use Rattle.wait_list.specs.declared.view.Waiter.{Waiter}
 use Rattle.wake_duty.specs.declared.view.Vigil.TheVariants.{Absent}
 use Rattle.wake_duty.specs.DutyWakes.{awake, foiled}
-use Rattle.sem_duty.specs.declared.view.SemWake.{SemWake}
-use Rattle.sem_duty.specs.SemDuties.{DutyPart, DutyKept, PartOk, alone_of as alone_in_duty, late_of as late_in_duty, owes, answers, stirs, chose, rouses, times, where_so, recounted, with_vigil, leaving}
-use Rattle.sem_duty.specs.SemDutyLaws.{duty-guards, duty-pays, duty-reserves-late, duty-takes-back, duty-owes, duty-returns, duty-writes, duty-hears, duty-waits, duty-fails, duty-unwaited, duty-grants}
+use Rattle.rwsem_wake.specs.declared.duty.SemWake.{SemWake}
+use Rattle.rwsem_wake.specs.SemDuties.{DutyPart, DutyKept, PartOk, alone_of as alone_in_duty, late_of as late_in_duty, owes, answers, stirs, chose, rouses, times, where_so, recounted, with_vigil, leaving}
+use Rattle.rwsem_wake.specs.SemDutyLaws.{duty-guards, duty-pays, duty-reserves-late, duty-takes-back, duty-owes, duty-returns, duty-writes, duty-hears, duty-waits, duty-fails, duty-unwaited, duty-grants}
 use Rattle.rwsem_count.specs.declared.view.Bias.{Bias}
 use Rattle.rwsem_count.specs.declared.view.Bias.TheVariants.{Clear, Transit, Reserve}
 use Rattle.rwsem_count.specs.Counts.{early_weight, late_weight, alone_in, shared_in, early_in, late_in}

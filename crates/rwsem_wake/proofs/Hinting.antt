@@ -3,7 +3,7 @@ use Rattle.std.proofs.Common.{◌≡◌, ℕ, List, refl, get_or, set, arith}
 use mathlib.Core.Option.{some}
 use lib.ListN.{get_elem?}
 use Rattle.atomic_table.specs.Table.{Me, keeps}
-use Rattle.lock_views.specs.declared.op.Op.TheVariants.{Load, Store}
+use Rattle.lock_core.specs.declared.op.Op.TheVariants.{Load, Store}
 use Rattle.lock_core.specs.Moves.{Goes, Lets}
 use Rattle.lock_core.specs.SitePlays.{Turns}
 use Rattle.lock_core.specs.Stores.{HasWord}

@@ -4,7 +4,7 @@ use mathlib.Core.Option.{some}
 use mathlib.Core.Logic.{dite}
 use native.Mathlib.Decide.{ℕ_discrete}
 use lib.ListN.{get_elem?}
-use Rattle.lock_views.specs.declared.view.Held.TheVariants.{No, Shared}
+use Rattle.lock_core.specs.declared.view.Held.TheVariants.{No, Shared}
 use Rattle.lock_core.specs.Records.{bit}
 use Rattle.lock_core.specs.Views.{alone_weight, held_weight, is_number}
 use Rattle.lock_core.specs.Totals.{total, total-set, total-same, total-snoc}

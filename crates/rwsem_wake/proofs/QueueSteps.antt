@@ -5,10 +5,10 @@ use native.Mathlib.Decide.{ℕ_discrete}
 use lib.Seq.{set-get_or}
 use Rattle.word_bits.specs.declared.TheConstants.{MAX_TASKS}
 use Rattle.atomic_table.proofs.Lists.{set_again}
-use Rattle.lock_views.specs.declared.op.Op.TheVariants.{Load, Sub, Or, And, Exchange}
-use Rattle.lock_views.specs.declared.view.Held.{Held}
-use Rattle.lock_views.specs.declared.view.Held.TheVariants.{No, Shared, Alone}
-use Rattle.lock_views.specs.Ops.{word_after}
+use Rattle.lock_core.specs.declared.op.Op.TheVariants.{Load, Sub, Or, And, Exchange}
+use Rattle.lock_core.specs.declared.view.Held.{Held}
+use Rattle.lock_core.specs.declared.view.Held.TheVariants.{No, Shared, Alone}
+use Rattle.lock_core.specs.Ops.{word_after}
 use Rattle.lock_core.specs.Records.{bit}
 use Rattle.lock_core.specs.Views.{alone_weight, is_number}
 use Rattle.lock_core.specs.Totals.{total, total-at, total-set}

@@ -8,7 +8,7 @@ use Rattle.wait_list.specs.declared.view.Change.TheVariants.{Leave}
 use Rattle.wait_list.specs.declared.view.ListHand.{ListHand}
 use Rattle.wait_list.specs.Lists.{AreAmong, IsList, Knows, Removes, counted, first_of, list_part, without}
 use Rattle.wait_list.proofs.Waiters.{counted-behind, counted-own, length-without, sound-changed}
-use Rattle.sem_duty.specs.declared.view.SemWake.{SemWake}
+use Rattle.rwsem_wake.specs.declared.duty.SemWake.{SemWake}
 use Rattle.rwsem_count.specs.Counts.{early_weight, late_weight, shared_weight}
 use Rattle.rwsem_wake.specs.declared.view.SemHand.{SemHand}
 use Rattle.rwsem_wake.specs.Batches.{batch_of, reads, starts_with_reader, task_of}

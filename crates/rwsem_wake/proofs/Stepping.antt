@@ -8,16 +8,16 @@ use Rattle.word_bits.specs.declared.TheConstants.{MAX_TASKS}
 use Rattle.word_bits.specs.LockWords.{Unavailable, IsLawfulCount}
 use Rattle.word_bits.specs.Objects.{Obj}
 use Rattle.word_bits.specs.Histories.{Plan}
-use Rattle.lock_views.specs.declared.op.Op.{Op}
-use Rattle.lock_views.specs.declared.view.View.{View}
-use Rattle.lock_views.specs.declared.view.Hand.{Hand}
+use Rattle.lock_core.specs.declared.op.Op.{Op}
+use Rattle.lock_core.specs.declared.view.View.{View}
+use Rattle.lock_core.specs.declared.view.Hand.{Hand}
 use Rattle.lock_core.specs.declared.layout.TheConstants.{LOCK_WORDS, SPIN_WORDS}
 use Rattle.lock_core.specs.Layout.{SiteWords, site, part}
-use Rattle.lock_views.specs.Ops.{word_after}
+use Rattle.lock_core.specs.Ops.{word_after}
 use Rattle.lock_core.specs.SpinFrames.{holds_of, holds_at}
 use Rattle.lock_core.specs.Spins.{SpinsKept, frame_of, holds_in}
-use Rattle.lock_views.specs.declared.view.Held.{Held}
-use Rattle.lock_views.specs.declared.view.Held.TheVariants.{No}
+use Rattle.lock_core.specs.declared.view.Held.{Held}
+use Rattle.lock_core.specs.declared.view.Held.TheVariants.{No}
 use Rattle.lock_core.specs.Holding.{Learns}
 use Rattle.lock_core.specs.Views.{SpinHolds, hand_of, spin_part, held_of, alone_of, alone_weight, named_of, is_number, took}
 use Rattle.lock_core.specs.Totals.{total}
@@ -34,7 +34,7 @@ use Rattle.wait_list.specs.Lists.{Part, ListKept, IsList, Knows, list_part, take
 use Rattle.wait_list.specs.ListLaws.{list-known}
 use Rattle.rwsem_count.specs.Counts.{CountPart, HandStep, alone_in, shared_in, count_part}
 use Rattle.rwsem_count.proofs.Counting.{held-parts, its-plan}
-use Rattle.sem_duty.specs.declared.view.SemWake.{SemWake}
+use Rattle.rwsem_wake.specs.declared.duty.SemWake.{SemWake}
 use Rattle.rwsem_wake.specs.declared.view.SemHand.{SemHand}
 use Rattle.rwsem_wake.specs.SemParts.{SemPart, part_of, busy_weight, busy_of}
 use Rattle.rwsem_wake.specs.GrantSemaphores.{SemKept}
@@ -170,7 +170,7 @@ module _ {E Call : Type 0} (o : Obj Call) (unavailable : Unavailable) (size : 鈩
           me.0.hand,
           does m,
           stirs m,
-          record { numbered = numbered; task = refl; goes = (record { misses = omega arith; freed = 位 e. refl; takes = omega arith; comes = 位 none holds. absurd (holds none) }, refl); left = 位 held other. absurd (other refl) },
+          record { numbered = numbered; task = refl; goes = (record { misses = omega arith; freed = 位 e. refl; takes = omega arith; comes = 位 none holds. absurd (holds none) }, refl, refl); left = 位 held other. absurd (other refl) },
           (refl, inl (refl, refl)),
           omega (arith, b, one),
           t.0,
@@ -202,7 +202,7 @@ module _ {E Call : Type 0} (o : Obj Call) (unavailable : Unavailable) (size : 鈩
           took v.hand held known r.log,
           does m,
           stirs m,
-          record { numbered = numbered; task = refl; goes = (record { misses = omega arith; freed = 位 e. refl; takes = omega arith; comes = 位 _ _. omega arith }, refl); left = 位 held. absurd (held out) },
+          record { numbered = numbered; task = refl; goes = (record { misses = omega arith; freed = 位 e. refl; takes = omega arith; comes = 位 _ _. omega arith }, refl, refl); left = 位 held. absurd (held out) },
           (refl, inl (refl, refl)),
           s.0,
           now.0,
@@ -219,7 +219,7 @@ module _ {E Call : Type 0} (o : Obj Call) (unavailable : Unavailable) (size : 鈩
           v.hand,
           does m,
           stirs m,
-          record { numbered = numbered; task = refl; goes = (record { misses = omega arith; freed = 位 e. refl; takes = omega arith; comes = 位 none holds. absurd (holds none) }, refl); left = 位 held other. absurd (other refl) },
+          record { numbered = numbered; task = refl; goes = (record { misses = omega arith; freed = 位 e. refl; takes = omega arith; comes = 位 none holds. absurd (holds none) }, refl, refl); left = 位 held other. absurd (other refl) },
           (refl, inl (refl, refl)),
           s.0,
           now.0,

@@ -4,16 +4,16 @@ use mathlib.Core.Logic.{dite}
 use native.Mathlib.Decide.{ℕ_discrete}
 use lib.Seq.{set-get_or}
 use Rattle.word_bits.specs.declared.TheConstants.{MAX_TASKS}
-use Rattle.lock_views.specs.declared.op.Op.TheVariants.{Load}
-use Rattle.lock_views.specs.declared.view.Held.{Held}
-use Rattle.lock_views.specs.declared.view.Held.TheVariants.{No, Shared, Alone}
-use Rattle.lock_views.specs.Ops.{word_after}
+use Rattle.lock_core.specs.declared.op.Op.TheVariants.{Load}
+use Rattle.lock_core.specs.declared.view.Held.{Held}
+use Rattle.lock_core.specs.declared.view.Held.TheVariants.{No, Shared, Alone}
+use Rattle.lock_core.specs.Ops.{word_after}
 use Rattle.lock_core.specs.Views.{alone_weight, is_number}
 use Rattle.lock_core.specs.Totals.{total, total-at}
 use Rattle.lock_core.proofs.HandLaws.{false-or-true, is_number-here, not-both}
 use Rattle.wait_list.specs.declared.view.Waiter.{Waiter}
 use Rattle.wait_list.specs.Lists.{Part, first_code}
-use Rattle.sem_duty.specs.declared.view.SemWake.{SemWake}
+use Rattle.rwsem_wake.specs.declared.duty.SemWake.{SemWake}
 use Rattle.rwsem_count.specs.declared.view.Bias.{Bias}
 use Rattle.rwsem_count.specs.declared.view.Bias.TheVariants.{Clear, Transit, Reserve}
 use Rattle.rwsem_count.specs.Counts.{shared_weight, early_weight, late_weight}

@@ -7,9 +7,9 @@ use lib.ListN.{get_elem?}
 use lib.Seq.{set-get_or}
 use Rattle.word_bits.specs.declared.TheConstants.{MAX_TASKS}
 use Rattle.atomic_table.proofs.Lists.{set_again}
-use Rattle.lock_views.specs.declared.op.Op.{Op}
-use Rattle.lock_views.specs.declared.op.Op.TheVariants.{Load, Add, Sub}
-use Rattle.lock_views.specs.Ops.{word_after}
+use Rattle.lock_core.specs.declared.op.Op.{Op}
+use Rattle.lock_core.specs.declared.op.Op.TheVariants.{Load, Add, Sub}
+use Rattle.lock_core.specs.Ops.{word_after}
 use Rattle.lock_core.specs.Records.{bit}
 use Rattle.lock_core.specs.Views.{is_number}
 use Rattle.lock_core.proofs.HandLaws.{is_number-here}

@@ -2,7 +2,7 @@
 use Rattle.std.proofs.Common.{◌≡◌, ◌≢◌, ℕ, ◌+◌, ◌/◌, ◌%◌, ◌<◌, ◌⊎◌, List, [], ◌∷◌, ◌++◌, length, get_or, Some}
 use mathlib.Core.Option.{some}
 use lib.ListN.{get_elem?}
-use Rattle.lock_views.specs.declared.view.Held.TheVariants.{Shared, Alone}
+use Rattle.lock_core.specs.declared.view.Held.TheVariants.{Shared, Alone}
 use Rattle.lock_core.specs.Totals.{total}
 use Rattle.wait_list.specs.declared.view.Waiter.{Waiter}
 use Rattle.wait_list.specs.Lists.{first_code}

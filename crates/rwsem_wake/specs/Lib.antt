@@ -12,3 +12,5 @@ pub mod RwSemPlaces
 pub mod HintPlays
 pub mod Removals
 pub mod RwSemWakes
+pub mod SemDuties
+pub mod SemDutyLaws

@@ -3,7 +3,7 @@ use Rattle.std.specs.Prelude.{◌≡◌, ℕ, ◌+◌, ◌<◌, ◌≤◌, ◌�
 use Rattle.wait_list.specs.declared.view.Waiter.{Waiter}
 use Rattle.wait_list.specs.Lists.{IsList, Knows, first_code, list_part, without}
 use Rattle.rwsem_wake.specs.declared.view.Stage.TheVariants.{Removing}
-use Rattle.sem_duty.specs.declared.view.SemWake.{SemWake}
+use Rattle.rwsem_wake.specs.declared.duty.SemWake.{SemWake}
 use Rattle.rwsem_wake.specs.RwSemViews.{V, MayPick, list_of}
 
 -- these are the first readers of the list, in order

@@ -1,6 +1,6 @@
 -- Where a pass stands in a call on a semaphore, and what callers of any lock see of it.
 use Rattle.std.specs.Prelude.{◌≡◌, ℕ, ◌≤◌, false, []}
-use Rattle.lock_views.specs.declared.view.Line.{Line}
+use Rattle.lock_core.specs.declared.view.Line.{Line}
 use Rattle.lock_core.specs.declared.pass.Pass.{Pass}
 use Rattle.lock_core.specs.declared.site.Site.{Site}
 use Rattle.lock_core.specs.SiteHandles.{view_of, past_of, task_in, SitsAt, KeepsPast}

@@ -1,9 +1,9 @@
 -- What a pass knows of a semaphore's table, and what a look at the list's head or a change of the list makes of that.
 use Rattle.std.specs.Prelude.{◌≡◌, ℕ, ◌+◌, ◌<◌, ◌≤◌, ◌==◌, ◌&&◌, ◌⊎◌, true, false, List, [], ◌∷◌, ◌++◌, length, Bool, Option, Some, None, if◌then◌else◌}
 use Rattle.word_bits.specs.declared.TheConstants.{MAX_TASKS}
-use Rattle.lock_views.specs.declared.view.View.{View}
-use Rattle.lock_views.specs.declared.view.Held.{Held}
-use Rattle.lock_views.specs.declared.view.Held.TheVariants.{No, Shared, Alone}
+use Rattle.lock_core.specs.declared.view.View.{View}
+use Rattle.lock_core.specs.declared.view.Held.{Held}
+use Rattle.lock_core.specs.declared.view.Held.TheVariants.{No, Shared, Alone}
 use Rattle.lock_core.specs.declared.layout.TheConstants.{SPIN_ROOM}
 use Rattle.lock_core.specs.Spins.{holds_in}
 use Rattle.wait_list.specs.declared.view.Waiter.{Waiter}
@@ -11,8 +11,8 @@ use Rattle.wait_list.specs.declared.view.Change.{Change}
 use Rattle.wait_list.specs.declared.view.Change.TheVariants.{Stay, Enter, Leave}
 use Rattle.wait_list.specs.declared.view.ListHand.{ListHand}
 use Rattle.wake_duty.specs.declared.view.Vigil.TheVariants.{Absent, Awake}
-use Rattle.sem_duty.specs.declared.view.SemWake.{SemWake}
-use Rattle.sem_duty.specs.SemDuties.{times, setting}
+use Rattle.rwsem_wake.specs.declared.duty.SemWake.{SemWake}
+use Rattle.rwsem_wake.specs.SemDuties.{times, setting}
 use Rattle.rwsem_count.specs.declared.view.Bias.{Bias}
 use Rattle.rwsem_count.specs.declared.view.Bias.TheVariants.{Clear, Transit, Reserve}
 use Rattle.rwsem_wake.specs.declared.view.RwSemHand.{RwSemHand}

@@ -1,7 +1,7 @@
 -- What of a view concerns a semaphore, and what it weighs in the sums of its rule.
 use Rattle.std.specs.Prelude.{◌≡◌, ℕ, zero, suc, ◌+◌, ◌*◌, ◌==◌, ◌⊎◌, Bool, true, false, List, [], ◌∷◌, length, slice_index, Option, Some, None}
-use Rattle.lock_views.specs.declared.view.Held.{Held}
-use Rattle.lock_views.specs.declared.view.Held.TheVariants.{No}
+use Rattle.lock_core.specs.declared.view.Held.{Held}
+use Rattle.lock_core.specs.declared.view.Held.TheVariants.{No}
 use Rattle.lock_core.specs.Records.{bit}
 use Rattle.lock_core.specs.Views.{is_number, alone_weight, held_weight}
 use Rattle.lock_core.specs.Totals.{total}

@@ -5,8 +5,8 @@ ghost use lib.ListN.{get_elem?};
 ghost use Rattle.word_bits.specs.declared.TheConstants.{MAX_TASKS};
 ghost use Rattle.word_bits.specs.LockWords.{IsLawfulCount};
 ghost use Rattle.word_bits.specs.Histories.{Plan as Calls};
-ghost use Rattle.lock_views.specs.declared.view.View.{View};
-ghost use Rattle.lock_views.specs.declared.view.Hand.{Hand};
+ghost use Rattle.lock_core.specs.declared.view.View.{View};
+ghost use Rattle.lock_core.specs.declared.view.Hand.{Hand};
 ghost use Rattle.lock_core.specs.declared.layout.TheConstants.{LOCK_WORDS};
 ghost use Rattle.lock_core.specs.Layout.{site};
 ghost use Rattle.lock_core.specs.Stores.{row_at};
@@ -27,12 +27,12 @@ ghost use Rattle.rwsem_wake.specs.Grants.{sem_part, stirred};
 ghost use Rattle.rwsem_wake.specs.Duties.{WakeGoes};
 ghost use Rattle.rwsem_wake.specs.declared.view.RwSemHand.{RwSemHand as ARwSemHand};
 ghost use Rattle.rwsem_wake.specs.RwSemViews.{V, HasChosen, LeavesPicked, after_set as after_set_of, count_at, hint_at, list_at, list_of, saw_first as saw_first_of, sem_of, wake_of, with_list as with_list_of, with_sem as with_sem_of, with_wake as with_wake_of};
-ghost use Rattle.sem_duty.specs.declared.view.SemWake.{SemWake as ASemWake};
+ghost use Rattle.rwsem_wake.specs.declared.duty.SemWake.{SemWake as ASemWake};
 
+use crate::SemWake;
 use crate::view::{RwSemHand, SemHand};
 use lock_core::SiteRule;
 use rwsem_count::CountHost;
-use sem_duty::SemWake;
 use wait_list::ListHost;
 use wake_duty::SleepHost;
 

@@ -3,6 +3,7 @@
 #![tactic(auto)]
 
 pub mod batches;
+mod duty;
 pub mod grants;
 pub mod hint;
 mod host;
@@ -14,6 +15,7 @@ mod view;
 pub mod wake;
 mod woken;
 
+pub use duty::SemWake;
 pub use host::{GrantHost, WakeHost};
 pub use patience::{Endless, Patience, Waited};
 pub use view::{RwSemHand, SemHand, Stage, Wait};

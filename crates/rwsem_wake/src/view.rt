@@ -1,8 +1,8 @@
 //! What a pass knows of a semaphore. No value of these types is ever made: they exist in proofs
 //! alone.
 
+use crate::SemWake;
 use rwsem_count::Bias;
-use sem_duty::SemWake;
 use wait_list::ListHand;
 
 /// How a task waits.

@@ -5,8 +5,8 @@ use Rattle.word_bits.specs.declared.entry.Entry.{Entry}
 use Rattle.word_bits.specs.declared.reply.Reply.{Reply}
 use Rattle.word_bits.specs.PageMaps.{PageMap, IsPageMap}
 use Rattle.word_bits.specs.Histories.{Plan, state_after}
-use Rattle.lock_views.specs.declared.view.Hand.{Hand}
-use Rattle.lock_views.specs.declared.view.Moment.{Moment}
+use Rattle.lock_core.specs.declared.view.Hand.{Hand}
+use Rattle.lock_core.specs.declared.view.Moment.{Moment}
 use Rattle.lock_core.specs.Holding.{Learns}
 use Rattle.lock_core.specs.Layout.{length_place}
 use Rattle.lock_core.specs.SitePasses.{IsSeenReading}

@@ -1,16 +1,16 @@
 -- The rule of a table with a sequence word.
-use Rattle.std.specs.Prelude.{◌≡◌, ◌≢◌, ◌⊎◌, ℕ, ◌+◌, ◌%◌, ◌<◌, List, [], length, map, slice_index}
+use Rattle.std.specs.Prelude.{◌≡◌, ◌≢◌, ◌⊎◌, ℕ, ◌+◌, ◌%◌, ◌<◌, true, List, [], length, map, slice_index}
 use Rattle.word_bits.specs.LockWords.{Unavailable}
 use Rattle.word_bits.specs.Objects.{Obj}
 use Rattle.word_bits.specs.Histories.{Plan}
-use Rattle.lock_views.specs.declared.view.View.{View}
-use Rattle.lock_views.specs.declared.view.Held.TheVariants.{Shared}
-use Rattle.lock_views.specs.declared.view.Moment.{Moment}
+use Rattle.lock_core.specs.declared.view.View.{View}
+use Rattle.lock_core.specs.declared.view.Held.TheVariants.{Shared}
+use Rattle.lock_core.specs.declared.view.Moment.{Moment}
 use Rattle.lock_core.specs.declared.layout.TheConstants.{SPIN_ROOM}
 use Rattle.lock_core.specs.Layout.{site, width}
 use Rattle.lock_core.specs.Views.{hand_of, alone_of}
 use Rattle.lock_core.specs.Sites.{SiteKept}
-use Rattle.lock_core.specs.Moves.{SiteMove}
+use Rattle.lock_core.specs.Moves.{SiteMoveWhere}
 use Rattle.lock_core.specs.ViewParts.{Each}
 use Rattle.lock_core.specs.Pasts.{opening}
 use Rattle.lock_core.specs.Totals.{total}
@@ -47,9 +47,9 @@ module _ {Call : Type 0} (o : Obj Call) (size : ℕ) where
 abbrev pub SeqStep : (ws us : List ℕ) (vs vs' : List V) → Type 0
 SeqStep ws us vs vs' = ((slice_index us seq_at ≡ slice_index ws seq_at) × (total alone_of (map hand_of vs') ≡ total alone_of (map hand_of vs))) ⊎ (slice_index us seq_at ≡ slice_index ws seq_at + 1)
 
--- all that each step of a site does, and what it does to the sequence word
+-- all that each step of a site does where calls may read without a hold, and what it does to the sequence word
 abbrev pub SeqMoves : Plan → ℕ → List ℕ → List V → List ℕ → List V → Type 0
-SeqMoves k id ws vs us vs' = SiteMove id (slice_index ws seq_at) (site k ws) vs (site k us) vs' × SeqStep ws us vs vs'
+SeqMoves k id ws vs us vs' = SiteMoveWhere true id (slice_index ws seq_at) (site k ws) vs (site k us) vs' × SeqStep ws us vs vs'
 
 -- a new table
 abbrev pub newest : Plan → Moment

@@ -1,5 +1,5 @@
 -- The laws of the rule of a table with a sequence word.
-use Rattle.std.proofs.Common.{◌≡◌, ◌≢◌, ℕ, ◌+◌, ◌%◌, ◌<◌, ◌⊎◌, inl, inr, List, [], ◌∷◌, ◌++◌, length, map, take, get_or, set, None, sym, refl, ap, ◌∙◌, subst, arith, length-set, get_or-set_other}
+use Rattle.std.proofs.Common.{◌≡◌, ◌≢◌, ℕ, ◌+◌, ◌%◌, ◌<◌, ◌⊎◌, inl, inr, true, List, [], ◌∷◌, ◌++◌, length, map, take, get_or, set, None, sym, refl, ap, ◌∙◌, subst, arith, length-set, get_or-set_other}
 use mathlib.Core.Option.{some, some-injective, some-ne-none}
 use mathlib.Core.List.{map-append}
 use lib.ListN.{get_elem?}
@@ -7,14 +7,14 @@ use lib.Seq.{map-set}
 use Rattle.atomic_table.proofs.Lists.{at_map, set_else}
 use Rattle.word_bits.specs.Objects.{Obj}
 use Rattle.word_bits.specs.Histories.{Plan}
-use Rattle.lock_views.specs.declared.view.Hand.{Hand}
-use Rattle.lock_views.specs.declared.view.Held.TheVariants.{No, Shared, Alone}
-use Rattle.lock_views.specs.declared.view.SpinHand.{SpinHand}
+use Rattle.lock_core.specs.declared.view.Hand.{Hand}
+use Rattle.lock_core.specs.declared.view.Held.TheVariants.{No, Shared, Alone}
+use Rattle.lock_core.specs.declared.view.SpinHand.{SpinHand}
 use Rattle.lock_core.specs.declared.layout.TheConstants.{LOCK_WORDS}
 use Rattle.lock_core.specs.Layout.{SiteWords, fresh, site, width}
 use Rattle.lock_core.specs.Views.{hand_of, alone_of, held_weight, alone_weight, seated, ticked, first, split_off, merged, spent, HoldsNothing}
 use Rattle.lock_core.specs.Sites.{HandGoes, KeepsSaw, SameObject, SiteKept}
-use Rattle.lock_core.specs.Moves.{Goes, KeepsHold, SiteMove}
+use Rattle.lock_core.specs.Moves.{Goes, KeepsHold, SiteMoveWhere}
 use Rattle.lock_core.specs.MoveLaws.{set-moves, hold-moved}
 use Rattle.lock_core.specs.ViewParts.{Each, each-set, each-snoc, set_part}
 use Rattle.lock_core.specs.Totals.{total, total-set, total-snoc, total-at}
@@ -78,7 +78,7 @@ module _ {Call : Type 0} (o : Obj Call) (size : ℕ) where
   none-alone k ws vs id v r at even alone = let p = r.parity in let l = total-at alone_of (hands vs) id v.hand (at_map hand_of vs id v at) in let e : alone_of v.hand ≡ 1 = ap alone_weight alone in omega (arith, p, l, e, even)
 
   pub rule-sites : (k : Plan) (ws : List ℕ) (vs : List V) (id i n : ℕ) (v : V) (h : Hand) (s : SpinHand) → Kept k ws vs → get_elem? vs id ≡ some v → KeepsHold (λ v. Unit {0}) v h → Site k (set ws (LOCK_WORDS + i) n) (set (hands vs) id h)
-      → SiteMove id (get_or ws seq_at 0) (site k ws) vs (site k (set ws (LOCK_WORDS + i) n)) (set vs id (seated v h s)) → Goes (Kept k) (SeqMoves k) id ws vs (set ws (LOCK_WORDS + i) n) (set vs id (seated v h s))
+      → SiteMoveWhere true id (get_or ws seq_at 0) (site k ws) vs (site k (set ws (LOCK_WORDS + i) n)) (set vs id (seated v h s)) → Goes (Kept k) (SeqMoves k) id ws vs (set ws (LOCK_WORDS + i) n) (set vs id (seated v h s))
   rule-sites k ws vs id i n v h s r at same there step = let u : V = seated v h s in let us : List ℕ = set ws (LOCK_WORDS + i) n in let word : get_or us seq_at 0 ≡ get_or ws seq_at 0 = get_or-set_other ws (LOCK_WORDS + i) seq_at n 0 (λ e. omega (arith, e)) in
       let weight : alone_of h ≡ alone_of v.hand = ap alone_weight same.0 in let sums : total alone_of (hands (set vs id u)) ≡ total alone_of (hands vs) = (let a = alone-set vs id v u at in omega (arith, a, weight)) in let mine : step.before ≡ v = some-injective step.before v (sym step.at ∙ at) in
       let stays : get_or ws seq_at 0 % 2 ≡ 0 → SameObject (site k ws) (site k us) = (λ even. step.moved.site.quiet (λ alone. none-alone k ws vs id v r at even (sym (ap (λ (z : V). z.hand.held) mine) ∙ alone))) in (
@@ -104,7 +104,7 @@ module _ {Call : Type 0} (o : Obj Call) (size : ℕ) where
     watches = each-snoc (λ v. WatchOk o size k (get_or (fresh k) seq_at 0) (site k (fresh k)) v.ext) [] v tt (λ j w e. absurd (some-ne-none w (sym e)));
   }
 
-  pub rule-splits : (k : Plan) (ws : List ℕ) (vs : List V) (id : ℕ) (v : V) → Kept k ws vs → get_elem? vs id ≡ some v → Site k ws (hands (set vs id (ticked v) ++ split_off Off v ∷ [])) → SiteMove id (get_or ws seq_at 0) (site k ws) vs (site k ws) (set vs id (ticked v) ++ split_off Off v ∷ [])
+  pub rule-splits : (k : Plan) (ws : List ℕ) (vs : List V) (id : ℕ) (v : V) → Kept k ws vs → get_elem? vs id ≡ some v → Site k ws (hands (set vs id (ticked v) ++ split_off Off v ∷ [])) → SiteMoveWhere true id (get_or ws seq_at 0) (site k ws) vs (site k ws) (set vs id (ticked v) ++ split_off Off v ∷ [])
       → Goes (Kept k) (SeqMoves k) id ws vs ws (set vs id (ticked v) ++ split_off Off v ∷ [])
   rule-splits k ws vs id v r at there step = let us : List V = set vs id (ticked v) in let w : V = split_off Off v in let a = alone-set vs id v (ticked v) at in
       let sums : total alone_of (hands (us ++ w ∷ [])) ≡ total alone_of (hands vs) = ap (total alone_of) (map-append hand_of us (w ∷ [])) ∙ (let b = total-snoc alone_of (hands us) w.hand in omega (arith, a, b)) in (
@@ -120,7 +120,7 @@ module _ {Call : Type 0} (o : Obj Call) (size : ℕ) where
       )
 
   pub rule-joins : (k : Plan) (ws : List ℕ) (vs : List V) (id other : ℕ) (v w : V) → Kept k ws vs → get_elem? vs id ≡ some v → other ≢ id → get_elem? vs other ≡ some w → HoldsNothing w × Unit {0} × (w.hand.task ≡ None)
-      → Site k ws (hands (set (set vs id (merged v w)) other (spent Off))) → SiteMove id (get_or ws seq_at 0) (site k ws) vs (site k ws) (set (set vs id (merged v w)) other (spent Off)) → Goes (Kept k) (SeqMoves k) id ws vs ws (set (set vs id (merged v w)) other (spent Off))
+      → Site k ws (hands (set (set vs id (merged v w)) other (spent Off))) → SiteMoveWhere true id (get_or ws seq_at 0) (site k ws) vs (site k ws) (set (set vs id (merged v w)) other (spent Off)) → Goes (Kept k) (SeqMoves k) id ws vs ws (set (set vs id (merged v w)) other (spent Off))
   rule-joins k ws vs id other v w r at apart at' free there step = let u : V = merged v w in let us : List V = set vs id u in let z : V = spent Off in let there' : get_elem? us other ≡ some w = set_else vs id other u apart ∙ at' in let a = alone-set vs id v u at in let b = alone-set us other w z there' in let c : alone_of w.hand ≡ 0 = ap alone_weight free.0.0 in
       let sums : total alone_of (hands (set us other z)) ≡ total alone_of (hands vs) = omega (arith, a, b, c) in (
         record {
@@ -149,7 +149,7 @@ module _ {Call : Type 0} (o : Obj Call) (size : ℕ) where
       watches = subst (λ (z : SiteWords). Each (λ v. WatchOk o size k (get_or us seq_at 0) z v.ext) (set vs id u)) (sym same)
           (each-set (λ v. WatchOk o size k (get_or ws seq_at 0) (site k ws) v.ext) (λ v. WatchOk o size k (get_or us seq_at 0) (site k ws) v.ext) vs id u watch (λ j x _ _ p. moved x p) r.watches);
     },
-    (subst (λ (z : SiteWords). SiteMove id (get_or ws seq_at 0) (site k ws) vs z (set vs id u)) (sym same) (set-moves id (site k ws) (site k ws) vs v u at (hold-moved (site k ws) v h e goes (inl saw))), changes v.hand),
+    (subst (λ (z : SiteWords). SiteMoveWhere true id (get_or ws seq_at 0) (site k ws) vs z (set vs id u)) (sym same) (set-moves id (site k ws) (site k ws) vs v u at (hold-moved (site k ws) v h e goes (inl saw))), changes v.hand),
   )
     where
       changes : (g : Hand) → SeqStep ws us vs (set vs id (record v { hand = h; steps = v.steps + 1; ext = e }))

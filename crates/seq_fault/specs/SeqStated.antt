@@ -2,9 +2,9 @@
 use Rattle.std.specs.Prelude.{◌≡◌, ◌≢◌, ℕ, ◌+◌, ◌-◌, ◌*◌, ◌%◌, ◌≤◌, List, [], ◌∷◌, take, slice_get, slice_index, Some}
 use Rattle.word_bits.specs.Objects.{Obj}
 use Rattle.word_bits.specs.Histories.{Plan, state_after}
-use Rattle.lock_views.specs.declared.view.Hand.{Hand}
-use Rattle.lock_views.specs.declared.view.Held.TheVariants.{Shared}
-use Rattle.lock_views.specs.declared.view.Moment.{Moment}
+use Rattle.lock_core.specs.declared.view.Hand.{Hand}
+use Rattle.lock_core.specs.declared.view.Held.TheVariants.{Shared}
+use Rattle.lock_core.specs.declared.view.Moment.{Moment}
 use Rattle.lock_core.specs.Layout.{site}
 use Rattle.lock_core.specs.ViewParts.{Each}
 use Rattle.lock_core.specs.Sites.{SameObject}
@@ -22,8 +22,8 @@ module _ {Call : Type 0} (o : Obj Call) (size : ℕ) where
     pub is_site : IsSite o never size k (site k ws) hs
     pub odd : slice_index ws seq_at % 2 ≡ total alone_of hs
     pub apart : Each (λ h. h.held ≢ Shared) hs
-    -- where it is even, the guarded words store the state after the log
-    pub quiet : slice_index ws seq_at % 2 ≡ 0 → take size (site k ws).guarded ≡ o.stores (state_after o k is_site.log)
+    -- where it is even, the guarded words represent the state after the log
+    pub quiet : slice_index ws seq_at % 2 ≡ 0 → o.Represents (state_after o k is_site.log) (take size (site k ws).guarded)
 
   -- so they were at this moment
   abbrev pub IsSeqSiteThen : Plan → Moment → Type 0

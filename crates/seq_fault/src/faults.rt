@@ -1,6 +1,6 @@
 //! Faults without the lock.
 ghost use Rattle.std.specs.Prelude.{◌≡◌, ◌+◌, ◌≤◌, IsSome, IfOk, IfErr};
-ghost use Rattle.lock_views.specs.declared.view.Held.TheVariants.{No};
+ghost use Rattle.lock_core.specs.declared.view.Held.TheVariants.{No};
 ghost use Rattle.lock_core.specs.Pasts.{FoundAt};
 ghost use Rattle.lock_core.specs.Views.{OwesNoSignal, ticked};
 ghost use Rattle.seq_fault.specs.SeqHandles.{plan_of, view_of, hand_in, past_of, task_in, held_in, done_in, front_in, FindsAtStep, IsLatest, ReadsAtOneWord, SaysSame, SitsAt, StepsOn};

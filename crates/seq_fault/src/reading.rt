@@ -1,6 +1,6 @@
 //! What a fault reads without the lock.
 ghost use Rattle.std.specs.Prelude.{◌≡◌, ◌≢◌, ℕ, ◌+◌, ◌%◌, List, None, IsSome, IfOk, IfErr};
-ghost use Rattle.lock_views.specs.declared.view.Held.TheVariants.{No};
+ghost use Rattle.lock_core.specs.declared.view.Held.TheVariants.{No};
 ghost use Rattle.lock_core.specs.Layout.{length_place};
 ghost use Rattle.lock_core.specs.SiteHandles.{IsLatest, plan_of, view_of, hand_in, past_of, task_in, held_in, done_in, front_in, SitsAt, KeepsPast, SaysSame};
 ghost use Rattle.lock_core.specs.Pasts.{FoundAt};

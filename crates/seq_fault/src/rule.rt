@@ -1,4 +1,5 @@
 //! The rule of a table with a sequence word.
+ghost use Rattle.std.specs.Prelude.{true};
 ghost use Rattle.seq_fault.specs.declared.view.Watch.TheVariants.{Off};
 ghost use Rattle.seq_fault.specs.SeqRuled.{SeqKept, SeqMoves, never, seq_at, unmarked};
 ghost use Rattle.seq_fault.specs.SeqRuledLaws.{rule-site, rule-sites, rule-opens, rule-splits, rule-joins};
@@ -22,6 +23,8 @@ impl<O: Object> SiteRule for SeqRule<O> {
     type Ext = Watch;
 
     ghost unavailable = { never };
+
+    ghost reads_unheld = { true };
 
     ghost holds = { SeqKept O.object O.WORDS };
 

@@ -1,12 +1,12 @@
 //! Sites with a sequence word.
 ghost use Rattle.std.specs.Prelude.{◌≡◌, ◌<◌, ◌≤◌, ℕ, false, true, None, IsSome, IfOk, [], ◌∷◌, length};
-ghost use Rattle.lock_views.specs.declared.view.Held.TheVariants.{No, Alone};
+ghost use Rattle.lock_core.specs.declared.view.Held.TheVariants.{No, Alone};
 ghost use Rattle.lock_core.specs.Holding.{released};
 ghost use Rattle.lock_core.specs.Records.{IsPlan};
 ghost use Rattle.lock_core.specs.Views.{first, ticked, handed, split_off, merged, gave_up, BesideForgetting, HoldsNothing, OwesNoSignal};
 ghost use Rattle.lock_core.specs.Pasts.{BeganWith, EachMoment, KeepsJoined, Paced};
 ghost use Rattle.lock_core.specs.SiteStated.{IsNew};
-ghost use Rattle.lock_core.specs.Locked.{IsSiteStep};
+ghost use Rattle.lock_core.specs.Locked.{IsSiteStepWhere};
 ghost use Rattle.seq_fault.specs.declared.view.Watch.TheVariants.{Off};
 ghost use Rattle.seq_fault.specs.SeqRuled.{never, newest, seq_at};
 ghost use Rattle.seq_fault.specs.SeqStated.{CountsEnters, IsSeqSiteThen, StaysAtOneWord};
@@ -179,7 +179,7 @@ impl<O: Object> SeqSite<O> {
             (past_of pass.new) }
         ensures entered { CountsEnters (past_of pass.new) }
         ensures stays { StaysAtOneWord (plan_of self.now) (past_of pass.new) }
-        ensures moves { Paced (IsSiteStep (plan_of self.now) seq_at) (past_of pass.new) }
+        ensures moves { Paced (IsSiteStepWhere true (plan_of self.now) seq_at) (past_of pass.new) }
         ensures joined { KeepsJoined (joined_by pass.old) (past_of pass.new) }
     {
         self.site.recall(&mut pass.pass);

@@ -1,6 +1,6 @@
 //! Changing calls.
 ghost use Rattle.std.specs.Prelude.{◌≡◌, ◌+◌, IsSome};
-ghost use Rattle.lock_views.specs.declared.view.Held.TheVariants.{No};
+ghost use Rattle.lock_core.specs.declared.view.Held.TheVariants.{No};
 ghost use Rattle.lock_core.specs.Views.{Beside, OwesNoSignal};
 ghost use Rattle.seq_fault.specs.SeqHandles.{plan_of, view_of, hand_in, task_in, held_in, done_in, IsLatest, SitsAt, StepsOn};
 ghost use Rattle.seq_fault.specs.SeqWriting.{HasNextChange, Writes};
@@ -8,9 +8,9 @@ ghost use Rattle.seq_fault.specs.SeqWriting.{HasNextChange, Writes};
 use crate::site::{SeqPass, SeqSite};
 use crate::writing::change;
 use std::sync::Wait;
-use word_bits::{Object, Reply};
+use word_bits::{Reply, ValueObject};
 
-impl<O: Object + Drop> SeqSite<O> {
+impl<O: ValueObject + Drop> SeqSite<O> {
     /// Does the next call of the pass's task, which changes the object: it enters, does the call on
     /// a copy, writes that back, and leaves.
     pub fn write<W: Wait>(&self, rt: &W, pass: &mut SeqPass<O>, call: u32) -> Reply

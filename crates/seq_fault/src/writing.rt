@@ -1,6 +1,6 @@
 //! A changing call on the guarded words of a site whose pass holds alone.
 ghost use Rattle.std.specs.Prelude.{◌≡◌, ◌≢◌, length, false, IfNone, IfSome, IsSome};
-ghost use Rattle.lock_views.specs.declared.view.Held.TheVariants.{Alone};
+ghost use Rattle.lock_core.specs.declared.view.Held.TheVariants.{Alone};
 ghost use Rattle.lock_core.specs.Locking.{IsStored};
 ghost use Rattle.lock_core.specs.Views.{Beside, OwesNoSignal};
 ghost use Rattle.lock_core.specs.SiteHandles.{plan_of, view_of, hand_in, task_in, held_in, done_in, SitsAt, KeepsPast, SaysSame};
@@ -8,10 +8,10 @@ ghost use Rattle.seq_fault.specs.SeqWriting.{Changes, HasNextChange, SameCall};
 
 use crate::rule::SeqRule;
 use lock_core::{Pass, Site};
-use word_bits::{Object, Reply};
+use word_bits::{Object, Reply, ValueObject};
 
 /// The value that the guarded words store.
-fn load<O: Object>(site: &Site<SeqRule<O>>, pass: &mut Pass<SeqRule<O>>) -> Option<O>
+fn load<O: ValueObject>(site: &Site<SeqRule<O>>, pass: &mut Pass<SeqRule<O>>) -> Option<O>
     requires own { SitsAt site.now pass.old }
     requires held { held_in pass.old ≡ Alone }
     requires sized { length (hand_in pass.old).known ≡ O.WORDS }
@@ -33,7 +33,7 @@ fn load<O: Object>(site: &Site<SeqRule<O>>, pass: &mut Pass<SeqRule<O>>) -> Opti
 }
 
 /// Writes the words that store the value.
-fn store<O: Object>(site: &Site<SeqRule<O>>, pass: &mut Pass<SeqRule<O>>, value: &O)
+fn store<O: ValueObject>(site: &Site<SeqRule<O>>, pass: &mut Pass<SeqRule<O>>, value: &O)
     requires own { SitsAt site.now pass.old }
     requires held { held_in pass.old ≡ Alone }
     requires sized { length (hand_in pass.old).known ≡ O.WORDS }
@@ -53,7 +53,7 @@ fn store<O: Object>(site: &Site<SeqRule<O>>, pass: &mut Pass<SeqRule<O>>, value:
 }
 
 /// Does a changing call on the guarded words, and records it.
-pub(crate) fn change<O: Object + Drop>(
+pub(crate) fn change<O: ValueObject + Drop>(
     site: &Site<SeqRule<O>>,
     pass: &mut Pass<SeqRule<O>>,
     call: u32,

@@ -1,5 +1,3 @@
+pub mod Leaving
 pub mod LockLaws
 pub mod LockMembers
-pub mod LockSpinQueues
-pub mod MutexLocks
-pub mod RwSemLocks

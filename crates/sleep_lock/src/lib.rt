@@ -1,10 +1,6 @@
-//! The locks that tasks sleep on: one trait for a mutex and a semaphore, with what each tells.
+//! The locks that tasks sleep on: the trait that such a lock keeps, and what kind of word it has.
 #![tactic(auto)]
 
 mod lock;
-mod mutex_lock;
-mod rwsem_lock;
 
-pub use lock::SleepLock;
-pub use mutex_slow::{Mutex, MutexPass};
-pub use rwsem_slow::{RwPass, RwSem};
+pub use lock::{CountLock, OwnerLock, SleepLock};

@@ -2,24 +2,24 @@
 ghost use Rattle.std.specs.Prelude.{◌≡◌, ℕ, ◌<◌, Bool, true, false, List, [], ◌∷◌, length, Some, None, IsSome, Ok, IfOk, IfErr};
 ghost use Rattle.word_bits.specs.Histories.{Plan as Calls};
 ghost use Rattle.lock_core.specs.declared.pass.Pass.{Pass as Seat};
-ghost use Rattle.lock_views.specs.declared.view.Held.TheVariants.{No, Alone};
-ghost use Rattle.lock_views.specs.declared.view.Moment.{Moment};
-ghost use Rattle.lock_views.specs.declared.how.How.TheVariants.{Fast};
+ghost use Rattle.lock_core.specs.declared.view.Held.TheVariants.{No, Alone};
+ghost use Rattle.lock_core.specs.declared.view.Moment.{Moment};
+ghost use Rattle.lock_core.specs.declared.how.How.TheVariants.{Fast};
 ghost use Rattle.lock_core.specs.Plans.{IsSmall};
 ghost use Rattle.lock_core.specs.Records.{IsPlan};
 ghost use Rattle.lock_core.specs.Views.{gave_up, gathered};
 ghost use Rattle.lock_core.specs.SitePasses.{Numbered};
 ghost use Rattle.lock_core.specs.Pasts.{EachMoment, GoesOn, Paced, Tail};
 ghost use Rattle.lock_core.specs.SiteStated.{IsNew};
-ghost use Rattle.lock_core.specs.Kinds.{Kind, unavailable, shares, wakes_shared, wakes_alone};
+ghost use Rattle.lock_core.specs.Kinds.{Kind, mutex, semaphore, unavailable, shares, wakes_shared, wakes_alone};
 ghost use Rattle.lock_core.specs.Shown.{Shown, Stands, AllButHand, IsLatestStep, StepsOn, shown_new, shown_split};
 ghost use Rattle.lock_core.specs.Locking.{Looks, Has, Takes, Misses, Interrupts, Releases, Downgrades, Got, KeepsPlace, TalliesLock};
 ghost use Rattle.lock_core.specs.Locked.{IsLockedThen, IsSiteStep};
-ghost use Rattle.osq_unqueue.specs.Rising.{LeavesForCpu};
+ghost use Rattle.lock_core.specs.Linear.{IsLinear};
+ghost use Rattle.sleep_lock.specs.Leaving.{LeavesForCpu};
 
 use cpu_task::Crew;
-use lock_core::{How, Interrupted, Plan, Tally};
-use site_lock::SiteLock;
+use lock_core::{How, Interrupted, Plan, SiteLock, Tally};
 use std::alloc::{AllocError, Global};
 use std::sync::Wait;
 use word_bits::Object;
@@ -120,8 +120,8 @@ pub trait SleepLock<O: Object>: SiteLock<O> {
 
     /// Loads. Then the pass knows of each moment of the table so far, from the new one on, the
     /// facts of every site. It knows that the lock's word stated who held and whether tasks waited.
-    /// It knows what each step did to the site's words, and what this lock tells of its own
-    /// (`tells`).
+    /// It knows what each step did to the site's words, that each call took effect at the step that
+    /// stored its record, and what this lock tells of its own (`tells`).
     fn recall(&self, pass: &mut Self::Pass)
         requires own { Self.sits self.now pass.old }
         ensures on { StepsOn Self.sits Self.view self.now pass.old pass.new }
@@ -135,6 +135,8 @@ pub trait SleepLock<O: Object>: SiteLock<O> {
             (IsLockedThen O.object kind O.WORDS (Self.calls_on self.now) word_at waits)
             (Self.view pass.new).past }
         ensures moves { Paced (IsSiteStep (Self.calls_on self.now) word_at)
+            (Self.view pass.new).past }
+        ensures linear { IsLinear O.object O.WORDS (Self.calls_on self.now)
             (Self.view pass.new).past }
         ensures told { tells (Self.calls_on self.now) (Self.view pass.new) };
 
@@ -316,4 +318,14 @@ pub trait SleepLock<O: Object>: SiteLock<O> {
     // What a pass of the lock is.
     ghost stands: { (l : Self) (p : Self.Pass) → Self.sits l p →
         Stands (Self.calls_on l) (Self.view p) };
+}
+
+/// A lock whose word is a count, as a semaphore's.
+pub trait CountLock<O: Object>: SleepLock<O> {
+    ghost counts: { Self.SleepLock.kind ≡ semaphore };
+}
+
+/// A lock whose word names the owner, as a mutex's.
+pub trait OwnerLock<O: Object>: SleepLock<O> {
+    ghost owned: { Self.SleepLock.kind ≡ mutex };
 }

@@ -1,5 +1,5 @@
 -- A pass of a per-CPU semaphore, from call to call.
-use Rattle.std.proofs.Common.{◌≡◌, ◌∙◌, ℕ, ◌<◌, false, Some, sym, subst, slice_get}
+use Rattle.std.proofs.Common.{◌≡◌, ◌∙◌, ℕ, ◌<◌, false, Some, sym, subst, slice_get, List}
 use Rattle.std.specs.Option.{option_map_or}
 use Rattle.atomic_table.specs.Table.{Me}
 use Rattle.atomic_table.specs.Seated.{TableId}
@@ -12,9 +12,9 @@ use Rattle.word_bits.specs.Objects.{Obj, IsObjectReply}
 use Rattle.word_bits.specs.Histories.{Plan, state_after}
 use Rattle.word_bits.proofs.States.{IsLawful, state_is_state}
 use Rattle.lock_core.specs.declared.pass.Face.{Face}
-use Rattle.lock_views.specs.declared.view.Hand.{Hand}
-use Rattle.lock_views.specs.declared.view.Held.TheVariants.{No}
-use Rattle.lock_views.specs.declared.view.Seen.{Seen}
+use Rattle.lock_core.specs.declared.view.Hand.{Hand}
+use Rattle.lock_core.specs.declared.view.Held.TheVariants.{No}
+use Rattle.lock_core.specs.declared.view.Seen.{Seen}
 use Rattle.lock_core.specs.Locking.{IsStored}
 use Rattle.lock_core.specs.SitePasses.{IsReading, MayNote, Sits}
 use Rattle.lock_core.specs.Records.{row}
@@ -43,5 +43,5 @@ module _ {Call : Type 0} (o : Obj Call) where
   may-note unavailable k h e Sent is r = elim is [ ]
 
   -- the state that was loaded is the one after the log
-  pub loaded : IsLawful o → ((s t : o.State) → o.IsState s → o.IsState t → o.stores s ≡ o.stores t → s ≡ t) → (k : Plan) (h : Hand) (s : o.State) → IsStored o k h → o.IsState s → o.stores s ≡ h.known → s ≡ state_after o k h.log
-  loaded lawful apart k h s stored is same = apart s (state_after o k h.log) is (state_is_state o lawful k h.log) (same ∙ stored)
+  pub loaded : IsLawful o → ((s t : o.State) → o.IsState s → o.IsState t → o.stores s ≡ o.stores t → s ≡ t) → ((s : o.State) (ws : List ℕ) → o.Represents s ws → ws ≡ o.stores s) → (k : Plan) (h : Hand) (s : o.State) → IsStored o k h → o.IsState s → o.stores s ≡ h.known → s ≡ state_after o k h.log
+  loaded lawful apart exact k h s stored is same = apart s (state_after o k h.log) is (state_is_state o lawful k h.log) (same ∙ exact (state_after o k h.log) h.known stored)

@@ -1,6 +1,6 @@
 -- How a pass of a site with a count stands between two calls of its task.
 use Rattle.std.specs.Prelude.{◌≡◌, false, IsSome}
-use Rattle.lock_views.specs.declared.view.Held.TheVariants.{No}
+use Rattle.lock_core.specs.declared.view.Held.TheVariants.{No}
 use Rattle.rwsem_count.specs.declared.pass.CountPass.{CountPass}
 use Rattle.rwsem_count.specs.declared.site.CountSite.{CountSite}
 use Rattle.rwsem_count.specs.CountHandles.{SitsAt, held_in, task_in, transit_in}

@@ -3,7 +3,7 @@ use Rattle.std.specs.Prelude.{◌≡◌, ℕ, ◌<◌, false, length, None, Some
 use Rattle.word_bits.specs.declared.call.CallWords.{CallWords}
 use Rattle.word_bits.specs.Objects.{Obj}
 use Rattle.word_bits.specs.Histories.{Plan}
-use Rattle.lock_views.specs.declared.view.Held.{Held}
+use Rattle.lock_core.specs.declared.view.Held.{Held}
 use Rattle.lock_core.specs.Locking.{IsStored}
 use Rattle.lock_core.specs.Records.{row}
 use Rattle.lock_core.specs.Views.{OwesNoSignal, SpinRests}

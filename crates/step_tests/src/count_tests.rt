@@ -4,11 +4,10 @@ ghost use Rattle.std.specs.Prelude.{IfOk};
 ghost use Rattle.step_tests.specs.CountStanding.{IsReady};
 
 use crate::course::check_course;
-use lock_core::{Held, Nothing, Op, Plan};
+use lock_core::{Held, Nothing, Op, Plan, SiteLock};
 use rwsem_count::{
     BIAS, CountPass, CountSite, HANDOFF, READ_FAIL, WAITERS, WRITER, Write, read_free, write_step,
 };
-use site_lock::SiteLock;
 use std::alloc::{AllocError, Global};
 use std::sync::Wait;
 use std::test::Fail;

@@ -1,15 +1,14 @@
 //! Faults beside a writer, on threads.
 ghost use Rattle.std.specs.Prelude.{◌≡◌, ◌≢◌, ◌<◌, ◌≤◌, length, IfOk, OnOk};
-ghost use Rattle.lock_views.specs.declared.view.Held.TheVariants.{No};
+ghost use Rattle.lock_core.specs.declared.view.Held.TheVariants.{No};
 ghost use Rattle.lock_core.specs.Records.{IsPlan};
 ghost use Rattle.seq_fault.specs.SeqHandles.{SitsAt, held_in, plan_of};
 ghost use Rattle.step_tests.specs.SeqStanding.{IsIdle, IsReady};
 ghost use Rattle.vma_map.specs.Spaces.{space};
 
 use crate::seq_calls::{fault_wait, map, push_all, touch, unmap, write};
-use lock_core::Plan;
+use lock_core::{Plan, SiteLock};
 use seq_fault::{SeqSpace, SpacePass};
-use site_lock::SiteLock;
 use std::alloc::{AllocError, Global};
 use std::sync::Wait;
 use std::sync::atomic::{AtomicBool, Ordering};

@@ -1,14 +1,14 @@
 //! What a task does with its next call, under a per-CPU semaphore.
 ghost use Rattle.std.specs.Prelude.{◌≡◌, ◌≢◌, ◌<◌, false, true, length, IfSome};
-ghost use Rattle.lock_views.specs.declared.view.Held.TheVariants.{No, Shared, Alone};
+ghost use Rattle.lock_core.specs.declared.view.Held.TheVariants.{No, Shared, Alone};
 ghost use Rattle.percpu_rwsem.specs.PercpuHandles.{blocks_in, hand_in, held_in, plan_of, seen_in, view_of, SitsAt};
 ghost use Rattle.step_tests.specs.TestPercpuPasses.{IsAt, IsIdle, KnowsState, Repeats};
 
 use cpu_task::Crew;
+use lock_core::SiteLock;
 use percpu_rwsem::{PercpuPass, PercpuRwSem};
-use site_lock::SiteLock;
 use std::sync::Wait;
-use word_bits::{CallWords, Object, Reply};
+use word_bits::{CallWords, Object, Reply, ValueObject};
 
 /// A call that a task makes so often.
 #[derive(Clone, Copy)]
@@ -117,7 +117,7 @@ pub fn let_go_alone<O: Object, C: Crew>(
 }
 
 /// Does the task's next call and records it, if the task has one left that changes the object.
-pub fn write<O: Object + Drop>(
+pub fn write<O: ValueObject + Drop>(
     lock: &PercpuRwSem<O>,
     pass: &mut PercpuPass<O>,
     job: Job,
@@ -144,7 +144,7 @@ pub fn write<O: Object + Drop>(
 }
 
 /// Does the task's next call and records it, if the task has one left that reads.
-pub fn read<O: Object + Drop>(
+pub fn read<O: ValueObject + Drop>(
     lock: &PercpuRwSem<O>,
     pass: &mut PercpuPass<O>,
     job: Job,
@@ -169,7 +169,7 @@ pub fn read<O: Object + Drop>(
 }
 
 /// The value that the guarded words store.
-fn load<O: Object>(lock: &PercpuRwSem<O>, pass: &mut PercpuPass<O>) -> Option<O>
+fn load<O: ValueObject>(lock: &PercpuRwSem<O>, pass: &mut PercpuPass<O>) -> Option<O>
     requires own { SitsAt lock.now pass.old }
     requires held { held_in pass.old ≢ No }
     requires sized { length (hand_in pass.old).known ≡ O.WORDS }
@@ -188,7 +188,7 @@ fn load<O: Object>(lock: &PercpuRwSem<O>, pass: &mut PercpuPass<O>) -> Option<O>
 }
 
 /// Writes the words that store the value.
-fn store<O: Object>(lock: &PercpuRwSem<O>, pass: &mut PercpuPass<O>, value: &O)
+fn store<O: ValueObject>(lock: &PercpuRwSem<O>, pass: &mut PercpuPass<O>, value: &O)
     requires own { SitsAt lock.now pass.old }
     requires held { held_in pass.old ≡ Alone }
     requires sized { length (hand_in pass.old).known ≡ O.WORDS }

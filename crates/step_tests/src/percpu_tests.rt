@@ -2,9 +2,8 @@
 use crate::percpu_calls::{Job, hold_alone, let_go_alone, start, write};
 use crate::percpu_plans::{map_pages, one_call};
 use cpu_task::{Crew, ScriptedCrew, Turns};
-use lock_core::{Held, Nothing, Plan};
+use lock_core::{Held, Nothing, Plan, SiteLock};
 use percpu_rwsem::PercpuRwSem;
-use site_lock::SiteLock;
 use std::test::Fail;
 use vma_map::Areas;
 use word_bits::Reply;

@@ -1,6 +1,6 @@
 //! What no clause says: readers and a writer of a per-CPU semaphore on threads.
 ghost use Rattle.std.specs.Prelude.{◌≡◌, ◌<◌, ℕ, false, length, All, IfOk, OnOk};
-ghost use Rattle.lock_views.specs.declared.view.Held.TheVariants.{No};
+ghost use Rattle.lock_core.specs.declared.view.Held.TheVariants.{No};
 ghost use Rattle.percpu_rwsem.specs.PercpuHandles.{blocks_in, plan_of};
 ghost use Rattle.step_tests.specs.TestPercpuPasses.{IsAt, IsIdle, MayMake, Repeats};
 
@@ -9,8 +9,8 @@ use crate::percpu_calls::{
 };
 use crate::percpu_plans::{map_next, planned, touch_first};
 use cpu_task::{Crew, ParkCpu, ParkCrew, Turns};
+use lock_core::SiteLock;
 use percpu_rwsem::{PercpuPass, PercpuRwSem};
-use site_lock::SiteLock;
 use std::alloc::{AllocError, Global};
 use std::sync::Wait;
 use std::sync::atomic::{AtomicU32, Ordering};

@@ -7,9 +7,8 @@ ghost use Rattle.vma_map.specs.Spaces.{space};
 ghost use Rattle.seq_fault.specs.SeqHandles.{hand_in, plan_of};
 ghost use Rattle.step_tests.specs.SeqStanding.{IsReady};
 
-use lock_core::Plan;
+use lock_core::{Plan, SiteLock};
 use seq_fault::{Raced, SeqSpace, SpacePass};
-use site_lock::SiteLock;
 use std::sync::Wait;
 use std::test::Fail;
 use vma_map::{Areas, SpaceCall};

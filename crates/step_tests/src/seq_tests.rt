@@ -4,9 +4,8 @@ ghost use Rattle.lock_core.specs.Records.{IsPlan};
 ghost use Rattle.vma_map.specs.Spaces.{space};
 
 use crate::seq_calls::{fault, map, push_all, touch, unmap, write};
-use lock_core::{Held, Plan};
+use lock_core::{Held, Plan, SiteLock};
 use seq_fault::{Raced, SeqSpace};
-use site_lock::SiteLock;
 use std::alloc::Global;
 use std::test::Fail;
 use word_bits::Reply;

@@ -1,7 +1,7 @@
 //! What no clause says: what a step does to a word, and a site with real passes.
 use lock_core::{Bare, Held, Nothing, Op, Plan, Shadow, Site};
 use std::test::Fail;
-use word_bits::{CallWords, Object, Reply};
+use word_bits::{CallWords, Object, Reply, ValueObject};
 
 #[test]
 fn steps_as_a_processor_does(rt: HostRuntime) {

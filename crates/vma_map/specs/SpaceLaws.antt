@@ -54,8 +54,8 @@ pub starts : IsPageMap no_pages
 starts = IsPageMap-page_map [] (record { runs = tt; few = omega arith })
 
 -- zeros store them
-pub zeros : stores no_pages ≡ replicate 257 0
-zeros = ap words_of_areas runs-no_pages
+pub zeros : replicate 257 0 ≡ stores no_pages
+zeros = sym (ap words_of_areas runs-no_pages)
 
 -- words store one list of runs
 words_of_areas-injective : (xs ys : List Area) → AreRuns xs → AreRuns ys → words_of_areas xs ≡ words_of_areas ys → xs ≡ ys

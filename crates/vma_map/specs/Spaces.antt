@@ -228,4 +228,5 @@ space = record {
   reads = reads;
   meaning = meaning;
   stores = stores;
+  Represents = λ m words. words ≡ stores m;
 }

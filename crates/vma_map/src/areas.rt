@@ -13,7 +13,7 @@ use crate::store::AreaStore;
 use crate::words::{self, SPACE_WORDS};
 use arrayvec::ArrayVec;
 use std::marker::Model;
-use word_bits::{Area, CallWords, Errno, Object, Reply};
+use word_bits::{Area, CallWords, Errno, Object, Reply, ValueObject};
 
 /// An address space. Contracts see its areas in order; `page_map` is what they say of each page.
 #[derive(Drop)]
@@ -107,7 +107,7 @@ impl AreaStore for InMemory {
 impl Object for Areas {
     ghost use Rattle.vma_map.specs.Runs.{page_map};
     ghost use Rattle.vma_map.specs.Spaces.{space};
-    ghost use Rattle.vma_map.specs.SpaceLaws.{few_words, sized, starts, zeros, apart, called, signals, goes_on, replies, reading, refused};
+    ghost use Rattle.vma_map.specs.SpaceLaws.{few_words, starts, zeros, called, signals, goes_on, replies, reading, refused};
 
     type Call = SpaceCall;
 
@@ -119,18 +119,40 @@ impl Object for Areas {
 
     ghost state = { page_map };
 
-    fn empty() -> Self {
-        Areas {
-            areas: ArrayVec::new(),
-        }
-    }
-
     fn call_of(words: CallWords) -> Option<SpaceCall> {
         SpaceCall::call_of(words)
     }
 
     fn reads(call: SpaceCall) -> bool {
         matches!(call, SpaceCall::Fault { .. })
+    }
+
+    ghost few_words = { few_words };
+
+    ghost starts = { starts };
+
+    ghost zeros = { zeros };
+
+    ghost called = { called };
+
+    ghost signals = { signals };
+
+    ghost goes_on = { goes_on };
+
+    ghost replies = { replies };
+
+    ghost reading = { reading };
+
+    ghost refused = { refused };
+}
+
+impl ValueObject for Areas {
+    ghost use Rattle.vma_map.specs.SpaceLaws.{sized, apart};
+
+    fn empty() -> Self {
+        Areas {
+            areas: ArrayVec::new(),
+        }
     }
 
     fn apply(&mut self, call: SpaceCall) -> Reply {
@@ -147,25 +169,11 @@ impl Object for Areas {
         words::store(self.areas.as_slice(), out);
     }
 
-    ghost few_words = { few_words };
-
     ghost sized = { sized };
-
-    ghost starts = { starts };
-
-    ghost zeros = { zeros };
 
     ghost apart = { apart };
 
-    ghost called = { called };
+    ghost exact = { λ s words is. is };
 
-    ghost signals = { signals };
-
-    ghost goes_on = { goes_on };
-
-    ghost replies = { replies };
-
-    ghost reading = { reading };
-
-    ghost refused = { refused };
+    ghost represents = { λ s words is. is };
 }

@@ -1,6 +1,6 @@
 -- Who is first in a list to which a holder of the wait lock has appended itself.
 use Rattle.std.proofs.Common.{◌≡◌, ◌≢◌, ◌∙◌, ◌==◌, List, [], ◌∷◌, ◌++◌, length, Some, sym, refl, ap, arith, eq-eqb}
-use Rattle.lock_views.specs.declared.view.View.{View}
+use Rattle.lock_core.specs.declared.view.View.{View}
 use Rattle.lock_core.specs.Records.{bit}
 use Rattle.lock_core.specs.SpinFrames.{holds_at}
 use Rattle.lock_core.specs.Spins.{holds_in}

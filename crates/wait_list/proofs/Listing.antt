@@ -7,22 +7,21 @@ use lib.ListN.{get_elem?}
 use lib.Seq.{set-get_or}
 use Rattle.atomic_table.specs.Table.{Me, step, keeps}
 use Rattle.atomic_table.proofs.Lists.{at_map, set_again}
-use Rattle.lock_views.specs.declared.op.Op.TheVariants.{Load, Store}
-use Rattle.lock_views.specs.declared.view.View.{View}
+use Rattle.lock_core.specs.declared.op.Op.TheVariants.{Load, Store}
+use Rattle.lock_core.specs.declared.view.View.{View}
 use Rattle.lock_core.specs.Layout.{part}
-use Rattle.lock_core.specs.Views.{spin_part}
+use Rattle.lock_core.specs.Views.{spin_part, SpinHolds}
 use Rattle.lock_core.specs.Stores.{HasWord}
 use Rattle.word_bits.specs.declared.TheConstants.{MAX_TASKS}
 use Rattle.word_bits.specs.Histories.{Plan}
 use Rattle.lock_core.specs.SpinFrames.{holds_of, holds_at}
 use Rattle.lock_core.specs.declared.layout.TheConstants.{SPIN_WORDS}
-use Rattle.lock_core.specs.Spins.{frame_of, SpinsKept}
+use Rattle.lock_core.specs.Spins.{frame_of, SpinsKept, holds_in}
 use Rattle.lock_core.specs.Moves.{Goes, Lets}
 use Rattle.lock_core.specs.Totals.{total}
 use Rattle.lock_core.proofs.HandLaws.{false-or-true}
 use Rattle.lock_core.proofs.RowLaws.{same-some}
 use Rattle.lock_core.specs.Regions.{part-at}
-use Rattle.lock_core.specs.Spins.{holds_in}
 use Rattle.lock_core.proofs.Steps.{loads, stores}
 use Rattle.wait_list.specs.declared.view.Waiter.{Waiter}
 use Rattle.wait_list.specs.declared.view.Change.{Change}
@@ -33,7 +32,6 @@ use Rattle.wait_list.specs.ListLaws.{list-learns, list-known, list-stores, none-
 use Rattle.wait_list.specs.ListPlays.{Got, Laid, Sighted, FoundHead}
 use Rattle.wait_list.proofs.Waiters.{sound-changed}
 use Rattle.wait_list.proofs.Walks.{first-among, head-is}
-use Rattle.lock_core.specs.Views.{SpinHolds}
 use Rattle.wait_list.specs.declared.words.TheConstants.{LIST_WORDS}
 
 -- the words of head and tail, and of the tasks of the plan, are words that the table has

@@ -2,15 +2,14 @@
 use Rattle.std.proofs.Common.{◌-◌, ◌≡◌, ◌≢◌, ℕ, ◌+◌, ◌*◌, ◌<◌, ◌≤◌, Bool, true, false, List, [], ◌∷◌, ◌++◌, length, map, get_or, set, sym, refl, ap, ◌∙◌, subst, arith, length-set}
 use mathlib.Core.Option.{some, some-ne-none}
 use lib.ListN.{get_elem?}
-use Rattle.lock_views.specs.declared.view.SpinHand.{SpinHand}
+use Rattle.lock_core.specs.declared.view.SpinHand.{SpinHand}
 use Rattle.lock_core.specs.Records.{bit}
 use Rattle.lock_core.specs.Views.{no_spin}
-use Rattle.lock_core.specs.Spins.{SpinFrees}
+use Rattle.lock_core.specs.Spins.{SpinFrees, holds_in}
 use Rattle.lock_core.specs.SpinFrames.{holds_at, holds_of}
-use Rattle.lock_views.specs.declared.view.Frame.{Frame}
-use Rattle.lock_views.specs.declared.view.Point.{Point}
-use Rattle.lock_views.specs.declared.view.Point.TheVariants.{Out, Undoing, Pending, Taking, Trying, Clearing, Cleared, Linking, Waiting, Front, Ready, Passing, Holding}
-use Rattle.lock_core.specs.Spins.{holds_in}
+use Rattle.lock_core.specs.declared.view.Frame.{Frame}
+use Rattle.lock_core.specs.declared.view.Point.{Point}
+use Rattle.lock_core.specs.declared.view.Point.TheVariants.{Out, Undoing, Pending, Taking, Trying, Clearing, Cleared, Linking, Waiting, Front, Ready, Passing, Holding}
 use Rattle.wait_list.specs.declared.words.TheConstants.{LIST_WORDS}
 use Rattle.lock_core.specs.Totals.{total, total-set, total-same, total-snoc, total-at, total-two}
 use Rattle.lock_core.specs.ViewParts.{Each, each-set, each-snoc}

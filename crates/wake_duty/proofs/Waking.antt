@@ -4,8 +4,9 @@ use mathlib.Core.Option.{some, none}
 use lib.ListN.{get_elem?}
 use Rattle.atomic_table.specs.Table.{Me, step, keeps}
 use Rattle.word_bits.specs.declared.TheConstants.{MAX_TASKS}
-use Rattle.lock_views.specs.declared.op.Op.TheVariants.{Store, Swap}
-use Rattle.lock_views.specs.declared.view.View.{View}
+use Rattle.lock_core.specs.declared.op.Op.TheVariants.{Store, Swap}
+use Rattle.lock_core.specs.declared.view.Held.TheVariants.{No}
+use Rattle.lock_core.specs.declared.view.View.{View}
 use Rattle.lock_core.specs.SitePlays.{Turns}
 use Rattle.lock_core.specs.Stores.{HasWord, row_at}
 use Rattle.lock_core.specs.Views.{SpinRests}
@@ -43,17 +44,17 @@ module _ {E : Type 0} (holds : List ℕ → List (View E) → Type 0) (moves : �
 
   module _ (vigil : E → Vigil) (after_swap : E → ℕ → E)
       (bits : (ws : List ℕ) (vs : List (View E)) (l : List Waiter) (t : ℕ) → queue ws vs l → t < MAX_TASKS → get_or ws (place + 8 * t) 0 ≤ 1)
-      (swaps_word : (ws : List ℕ) (vs : List (View E)) (l : List Waiter) (id t : ℕ) (v : View E) → queue ws vs l → get_elem? vs id ≡ some v → v.hand.task ≡ Some t → t < MAX_TASKS → SpinRests v.spin → HasTried vigil v
+      (swaps_word : (ws : List ℕ) (vs : List (View E)) (l : List Waiter) (id t : ℕ) (v : View E) → queue ws vs l → get_elem? vs id ≡ some v → v.hand.task ≡ Some t → t < MAX_TASKS → SpinRests v.spin → v.hand.held ≡ No → HasTried vigil v
       → Goes holds moves id ws vs (set ws (place + 8 * t) 0) (set vs id (knowing v (after_swap v.ext (get_or ws (place + 8 * t) 0))))) where
-    drowses-there : (slots id t : ℕ) (me : M) → me.0.hand.task ≡ Some t → t < MAX_TASKS → SpinRests me.0.spin → HasTried vigil me.0 → Lets holds moves slots id me (place + 8 * t) (Swap 0) (Drowsed after_swap (step slots (place + 8 * t) 0 0 none) me)
-    drowses-there slots id t me mine few rests tried s h _ at _ = let q = queued s.words s.views h in (
+    drowses-there : (slots id t : ℕ) (me : M) → me.0.hand.task ≡ Some t → t < MAX_TASKS → SpinRests me.0.spin → me.0.hand.held ≡ No → HasTried vigil me.0 → Lets holds moves slots id me (place + 8 * t) (Swap 0) (Drowsed after_swap (step slots (place + 8 * t) 0 0 none) me)
+    drowses-there slots id t me mine few rests out tried s h _ at _ = let q = queued s.words s.views h in (
       knowing me.0 (after_swap me.0.ext (get_or s.words (place + 8 * t) 0)),
       keeps,
       tt,
-      swaps_word s.words s.views q.0 id t me.0 q.1 at mine few rests tried,
+      swaps_word s.words s.views q.0 id t me.0 q.1 at mine few rests out tried,
       refl,
       (bits s.words s.views q.0 t q.1 few, (refl, refl)),
     )
 
-    pub drowses : (slots id at t : ℕ) (me : M) → at ≡ place + 8 * t → me.0.hand.task ≡ Some t → t < MAX_TASKS → SpinRests me.0.spin → HasTried vigil me.0 → Lets holds moves slots id me at (Swap 0) (Drowsed after_swap (step slots at 0 0 none) me)
-    drowses slots id at t me is mine few rests tried = subst (λ (z : ℕ). Lets holds moves slots id me z (Swap 0) (Drowsed after_swap (step slots z 0 0 none) me)) (sym is) (drowses-there slots id t me mine few rests tried)
+    pub drowses : (slots id at t : ℕ) (me : M) → at ≡ place + 8 * t → me.0.hand.task ≡ Some t → t < MAX_TASKS → SpinRests me.0.spin → me.0.hand.held ≡ No → HasTried vigil me.0 → Lets holds moves slots id me at (Swap 0) (Drowsed after_swap (step slots at 0 0 none) me)
+    drowses slots id at t me is mine few rests out tried = subst (λ (z : ℕ). Lets holds moves slots id me z (Swap 0) (Drowsed after_swap (step slots z 0 0 none) me)) (sym is) (drowses-there slots id t me mine few rests out tried)

@@ -1,6 +1,6 @@
 -- What a step of a pass may make of wake words, of its choice and of its sleep, whatever the lock.
 use Rattle.std.specs.Prelude.{◌≡◌, ◌⊎◌, ℕ, true, List, Option, Some}
-use Rattle.lock_views.specs.Tallies.{raised}
+use Rattle.lock_core.specs.Tallies.{raised}
 use Rattle.wait_list.specs.declared.view.Waiter.{Waiter}
 use Rattle.wait_list.specs.Lists.{first_code}
 use Rattle.wake_duty.specs.DutyWakes.{wake_word}

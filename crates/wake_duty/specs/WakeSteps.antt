@@ -1,8 +1,8 @@
 -- What the steps on wake words tell, and when they may be made.
 use Rattle.std.specs.Prelude.{IsTrue, ◌↔◌, ◌≡◌, ℕ, ◌+◌, ◌*◌, ◌≤◌, Bool, List, Option, Some}
 use Rattle.atomic_table.specs.Table.{Step}
-use Rattle.lock_views.specs.declared.view.Moment.{Moment}
-use Rattle.lock_views.specs.declared.view.View.{View}
+use Rattle.lock_core.specs.declared.view.Moment.{Moment}
+use Rattle.lock_core.specs.declared.view.View.{View}
 use Rattle.lock_core.specs.Pasts.{FoundAt}
 use Rattle.lock_core.specs.SitePlays.{Sat, Turns}
 use Rattle.wake_duty.specs.declared.view.Vigil.{Vigil}

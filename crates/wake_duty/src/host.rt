@@ -4,7 +4,8 @@ ghost use mathlib.Core.Option.{some};
 ghost use lib.ListN.{get_elem?};
 ghost use Rattle.word_bits.specs.declared.TheConstants.{MAX_TASKS};
 ghost use Rattle.word_bits.specs.Histories.{Plan as Calls};
-ghost use Rattle.lock_views.specs.declared.view.View.{View};
+ghost use Rattle.lock_core.specs.declared.view.Held.TheVariants.{No};
+ghost use Rattle.lock_core.specs.declared.view.View.{View};
 ghost use Rattle.lock_core.specs.declared.layout.TheConstants.{LOCK_WORDS};
 ghost use Rattle.lock_core.specs.Moves.{Goes};
 ghost use Rattle.lock_core.specs.Stores.{row_at};
@@ -52,6 +53,6 @@ pub trait SleepHost: ListHost {
     // The task that a pass has chosen may be woken.
     ghost sets_word: { (k : Calls) (ws : List ℕ) (vs : List (View Self.Ext)) (l : List Waiter) (id t : ℕ) (v : View Self.Ext) → Self.queue k ws vs l → get_elem? vs id ≡ some v → has_chosen v.ext t → Goes (Self.holds k) (Self.moves k) id ws vs (slice_set ws (WAKE + 8 * t) 1) (slice_set vs id (knowing v (after_set v.ext t))) };
 
-    // A waiter whose try failed under the wait lock, which it has released since, may drowse.
-    ghost swaps_word: { (k : Calls) (ws : List ℕ) (vs : List (View Self.Ext)) (l : List Waiter) (id t : ℕ) (v : View Self.Ext) → Self.queue k ws vs l → get_elem? vs id ≡ some v → v.hand.task ≡ Some t → t < MAX_TASKS → SpinRests v.spin → HasTried vigil v → Goes (Self.holds k) (Self.moves k) id ws vs (slice_set ws (WAKE + 8 * t) 0) (slice_set vs id (knowing v (after_swap v.ext (slice_index ws (WAKE + 8 * t))))) };
+    // A waiter that holds nothing, and whose try failed under the wait lock, which it has released since, may drowse.
+    ghost swaps_word: { (k : Calls) (ws : List ℕ) (vs : List (View Self.Ext)) (l : List Waiter) (id t : ℕ) (v : View Self.Ext) → Self.queue k ws vs l → get_elem? vs id ≡ some v → v.hand.task ≡ Some t → t < MAX_TASKS → SpinRests v.spin → v.hand.held ≡ No → HasTried vigil v → Goes (Self.holds k) (Self.moves k) id ws vs (slice_set ws (WAKE + 8 * t) 0) (slice_set vs id (knowing v (after_swap v.ext (slice_index ws (WAKE + 8 * t))))) };
 }

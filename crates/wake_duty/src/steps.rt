@@ -1,6 +1,7 @@
 //! The two steps on wake words: the waiter that was chosen is woken, and a waiter drowses.
 ghost use Rattle.std.specs.Prelude.{◌≡◌, ◌<◌, ◌+◌, ◌*◌, IsSome, length};
-ghost use Rattle.lock_core.specs.SiteHandles.{IsLatest, plan_of, view_of, past_of, task_in, SitsAt, KeepsPast, SaysSame};
+ghost use Rattle.lock_core.specs.declared.view.Held.TheVariants.{No};
+ghost use Rattle.lock_core.specs.SiteHandles.{IsLatest, plan_of, view_of, past_of, task_in, held_in, SitsAt, KeepsPast, SaysSame};
 ghost use Rattle.lock_core.specs.Views.{SpinRests};
 ghost use Rattle.wake_duty.specs.WakeSteps.{HasTried, Woke, Drowsed, FallsAsleep, knowing};
 
@@ -56,7 +57,8 @@ pub fn set<H: SleepHost>(site: &Site<H>, pass: &mut Pass<H>, target: u32)
 pub fn drowse<H: SleepHost>(site: &Site<H>, pass: &mut Pass<H>) -> bool
     requires own { SitsAt site.now pass.old }
     requires numbered { IsSome (task_in pass.old) }
-    requires out { SpinRests (view_of pass.old).spin }
+    requires unspun { SpinRests (view_of pass.old).spin }
+    requires out { held_in pass.old ≡ No }
     requires tried { HasTried H.vigil (view_of pass.old) }
     ensures own { SitsAt site.now pass.new }
     ensures goes_on { KeepsPast pass.old pass.new }

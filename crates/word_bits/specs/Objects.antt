@@ -18,6 +18,8 @@ pub record Obj (Call : Type 0) : Type 1 where
   pub meaning : State → Call → State × Reply
   -- the words that store a state
   pub stores : State → List ℕ
+  -- which words represent a state: so the guarded words are while nobody writes
+  pub Represents : State → List ℕ → Type 0
 
 -- what an object may reply: none of the replies of calls that never held a lock
 abbrev pub IsObjectReply : Reply → Type 0

@@ -24,7 +24,7 @@ pub use entry::Entry;
 pub use kind::CallKind;
 pub use laws::{counted_is_closed, owned_names_task};
 pub use logged::is_logged;
-pub use object::Object;
+pub use object::{Object, ValueObject};
 pub use owner::Owner;
 pub use rec::Rec;
 pub use reply::{Errno, Reply};

@@ -1,8 +1,9 @@
 //! What is so of every site at each moment, and of each step of its table.
-ghost use Rattle.std.specs.Prelude.{◌≡◌};
+ghost use Rattle.std.specs.Prelude.{◌≡◌, false};
 ghost use Rattle.lock_core.specs.Layout.{site};
 ghost use Rattle.lock_core.specs.Views.{ticked};
-ghost use Rattle.lock_core.specs.SiteStated.{IsSiteThen, IsSiteMove};
+ghost use Rattle.lock_core.specs.SiteStated.{IsSiteThen, IsSiteMoveWhere};
+ghost use Rattle.lock_core.specs.Linear.{IsLinear};
 ghost use Rattle.lock_core.specs.Pasts.{BeganWith, EachMoment, IsMarked, KeepsJoined, Ran, RanByRule, opening};
 ghost use Rattle.lock_core.specs.SiteHandles.{plan_of, view_of, past_of, joined_by, SitsAt, KeepsPast, KeepsNest, IsLatest};
 
@@ -14,7 +15,8 @@ use crate::rule::SiteRule;
 impl<R: SiteRule> Site<R> {
     /// A load, after which the pass knows the whole run of the table, from the new table to this
     /// step: at each moment the rule held, and each step was one of its moves. The run goes back to
-    /// all that the passes did that it had taken in.
+    /// all that the passes did that it had taken in. Where every call that looks at the object holds,
+    /// each call took effect at one step, the one that stored its record.
     pub fn recall(&self, pass: &mut Pass<R>)
         requires own { SitsAt self.now pass.old }
         ensures own { SitsAt self.now pass.new }
@@ -26,6 +28,8 @@ impl<R: SiteRule> Site<R> {
         ensures run { RanByRule R.marks R.idle R.holds R.moves
             (plan_of self.now) (past_of pass.new) }
         ensures joined { KeepsJoined (joined_by pass.old) (past_of pass.new) }
+        ensures linear { R.reads_unheld ≡ false →
+            IsLinear R.O.object R.O.WORDS (plan_of self.now) (past_of pass.new) }
     {
         self.table.shared.load::<Recall<R>>(&mut pass.seat, 0);
     }
@@ -56,7 +60,7 @@ impl<R: SiteRule> Site<R> {
         ensures kept { view_of pass.new ≡ ticked (view_of pass.old) }
         ensures last { IsLatest pass.new }
         ensures moves { Ran R.marks (opening R.marks (plan_of self.now) R.idle)
-            (IsSiteMove (plan_of self.now) R.word_at) (past_of pass.new) }
+            (IsSiteMoveWhere R.reads_unheld (plan_of self.now) R.word_at) (past_of pass.new) }
     {
         self.recall(pass);
     }

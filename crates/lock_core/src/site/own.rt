@@ -1,6 +1,6 @@
 //! The steps on the site's own words, which keep the site's own facts and so the rule.
 ghost use Rattle.std.specs.Prelude.{◌≡◌, ◌<◌, ◌+◌, ◌*◌, true, false};
-ghost use Rattle.lock_views.specs.declared.view.Hand.{Hand};
+ghost use Rattle.lock_core.specs.declared.view.Hand.{Hand};
 ghost use Rattle.lock_core.specs.Layout.{site_width};
 ghost use Rattle.lock_core.specs.Views.{ticked, handed, with_number};
 ghost use Rattle.lock_core.specs.Moves.{KeepsHold};
@@ -9,10 +9,10 @@ ghost use Rattle.lock_core.specs.SiteHandles.{plan_of, view_of, hand_in, past_of
 
 use super::Site;
 use super::plays::{Becomes, Begin, Find, Put, Puts, Tells};
+use crate::Op;
 use crate::layout::{LINES_AT, LOCK_WORDS};
 use crate::pass::Pass;
 use crate::rule::SiteRule;
-use lock_views::Op;
 use std::marker::Brand;
 use word_bits::MAX_TASKS;
 
@@ -22,7 +22,7 @@ impl<R: SiteRule> Site<R> {
     pub(crate) fn find<T: Tells>(&self, pass: &mut Pass<R>, at: usize) -> u64
         requires own { IsOneOf self.now pass.old }
         requires inside { at < site_width (plan_of self.now) }
-        requires told { MayFind R.O.object R.unavailable R.O.WORDS self.now pass.old at T.tells }
+        requires told { MayFind R.O.object R.unavailable R.reads_unheld R.O.WORDS self.now pass.old at T.tells }
         ensures own { KeepsSeat pass.old pass.new }
         ensures face { SaysSame pass.old pass.new }
         ensures kept { view_of pass.new ≡ ticked (view_of pass.old) }
@@ -38,7 +38,7 @@ impl<R: SiteRule> Site<R> {
         requires own { IsOneOf self.now pass.old }
         requires inside { at < site_width (plan_of self.now) }
         requires holds { KeepsHold R.rests (view_of pass.old) P.hand }
-        requires keeps { MayPut R.O.object R.unavailable R.O.WORDS self.now pass.old at new P.hand }
+        requires keeps { MayPut R.O.object R.unavailable R.reads_unheld R.O.WORDS self.now pass.old at new P.hand }
         ensures own { KeepsSeat pass.old pass.new }
         ensures face { SaysSame pass.old pass.new }
         ensures kept { view_of pass.new ≡ handed (view_of pass.old) P.hand }
@@ -52,7 +52,7 @@ impl<R: SiteRule> Site<R> {
         requires own { IsOneOf self.now pass.old }
         requires inside { at < site_width (plan_of self.now) }
         requires holds { KeepsHold R.rests (view_of pass.old) P.hand }
-        requires keeps { MayAdd R.O.object R.unavailable R.O.WORDS self.now pass.old at by P.hand }
+        requires keeps { MayAdd R.O.object R.unavailable R.reads_unheld R.O.WORDS self.now pass.old at by P.hand }
         ensures own { KeepsSeat pass.old pass.new }
         ensures face { SaysSame pass.old pass.new }
         ensures kept { view_of pass.new ≡ handed (view_of pass.old) P.hand }
@@ -66,7 +66,7 @@ impl<R: SiteRule> Site<R> {
     pub(crate) fn take<B: Becomes>(&self, pass: &mut Pass<R>, task: u32) -> bool
         requires own { IsOneOf self.now pass.old }
         requires inside { task < MAX_TASKS }
-        requires keeps { MayTake R.O.object R.unavailable R.O.WORDS self.now pass.old
+        requires keeps { MayTake R.O.object R.unavailable R.reads_unheld R.O.WORDS self.now pass.old
             (LINES_AT + 8 * task) B.becomes R.rests }
         ensures own { KeepsSeat pass.old pass.new }
         ensures face { SaysSame pass.old pass.new }

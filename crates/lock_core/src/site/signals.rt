@@ -13,9 +13,9 @@ use super::plays::Taken;
 use crate::layout::{LINES_AT, LOCK_WORDS};
 use crate::pass::Pass;
 use crate::rule::SiteRule;
+use crate::view::View;
+use crate::{Interrupted, Op};
 use atomic_table::Play;
-use lock_views::view::View;
-use lock_views::{Interrupted, Op};
 use std::marker::Brand;
 use word_bits::MAX_TASKS;
 

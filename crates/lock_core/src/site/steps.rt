@@ -4,18 +4,18 @@
 ghost use Rattle.std.specs.Prelude.{◌<◌, length};
 ghost use Rattle.lock_core.specs.Layout.{width};
 ghost use Rattle.lock_core.specs.Stores.{HasWord, IsStoredAt};
-ghost use Rattle.lock_views.specs.Ops.{told_by};
+ghost use Rattle.lock_core.specs.Ops.{told_by};
 ghost use Rattle.lock_core.specs.Pasts.{FindsAt};
 ghost use Rattle.lock_core.specs.SiteHandles.{plan_of, past_of, seat_in, step_at, IsOneOf, IsSameSeat, KeepsPast, SaysSame, KeepsNest, MayStep, IsLatest};
 
 use super::Site;
 use super::plays::{Lift, LiftFound, Placed};
+use crate::Op;
 use crate::layout::{LOCK_WORDS, ROW_WORDS, SPIN_WORDS};
 use crate::pass::Pass;
 use crate::rule::SiteRule;
+use crate::view::View;
 use atomic_table::Play;
-use lock_views::Op;
-use lock_views::view::View;
 use std::marker::Brand;
 
 impl<R: SiteRule> Site<R> {

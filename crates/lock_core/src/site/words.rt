@@ -1,26 +1,38 @@
 //! The words of the object, the log and the records: what a holder reads and writes, and how a call
 //! is recorded.
-ghost use Rattle.std.specs.Prelude.{◌≡◌, ◌≢◌, ◌+◌, ◌<◌, ◌≤◌, length, slice_index, Some, None, IsSome};
+ghost use Rattle.std.specs.Prelude.{◌≡◌, ◌≢◌, ◌+◌, ◌<◌, ◌≤◌, true, length, slice_index, Some, None, IsSome};
 ghost use Rattle.word_bits.specs.declared.reply.Reply.TheVariants.{Busy, Intr, Sent};
 ghost use Rattle.word_bits.specs.EntryWord.{IsEntry};
-ghost use Rattle.lock_views.specs.declared.view.Held.TheVariants.{No, Alone};
-ghost use Rattle.lock_views.specs.declared.view.Stage.TheVariants.{Rest, Entered};
+ghost use Rattle.lock_core.specs.declared.view.Held.TheVariants.{No, Alone};
+ghost use Rattle.lock_core.specs.declared.view.Stage.TheVariants.{Rest, Entered};
 ghost use Rattle.lock_core.specs.declared.layout.TheConstants.{LOCK_WORDS};
 ghost use Rattle.lock_core.specs.Layout.{entry_place, length_place};
 ghost use Rattle.lock_core.specs.Pasts.{FoundAt};
 ghost use Rattle.lock_core.specs.Plans.{calls_in};
-ghost use Rattle.lock_core.specs.Views.{ticked, handed, wrote, entered, logged, recorded, note_steps, settled, OwesNoSignal, Unsent, after_commit, after_note, after_read, after_seen, with_record};
+ghost use Rattle.lock_core.specs.Views.{ticked, handed, wrote, quieted, entered, logged, recorded, note_steps, settled, OwesNoSignal, Unsent, after_commit, after_note, after_read, after_seen, with_record};
 ghost use Rattle.lock_core.specs.Chronicles.{Chronicles};
-ghost use Rattle.lock_core.specs.SitePasses.{IsLength, IsChange, IsEntryWord};
+ghost use Rattle.lock_core.specs.Locking.{IsStored};
+ghost use Rattle.lock_core.specs.SitePlays.{Heeded};
+ghost use Rattle.lock_core.specs.SitePasses.{IsLength, IsChange, IsEntryWord, Quiets};
 ghost use Rattle.lock_core.specs.SiteHandles.{plan_of, view_of, hand_in, past_of, task_in, held_in, done_in, front_in, SitsAt, IsOneOf, KeepsSeat, KeepsPast, KeepsNest, SaysSame, IsLatest, IsNextChange, IsNextReading, IsNextSeenReading, MayNoteNext, MayStoreRecord};
 
 use super::Site;
 use super::plays::{Chronicle, Guarded, Length, LogEntry, Puts};
-use crate::layout::{ENTRIES_AT, LENGTH_AT};
+use crate::Op;
+use crate::layout::{ENTRIES_AT, LENGTH_AT, LOCK_WORDS};
 use crate::pass::Pass;
 use crate::rule::SiteRule;
+use crate::view::View;
+use atomic_table::Play;
 use std::marker::Brand;
 use word_bits::{Entry, Rec, Reply};
+
+/// A load, after which the pass writes no more.
+pub(super) struct Quiet;
+
+impl<E> Play<(), View<E>> for Quiet {
+    ghost then = { Heeded Quiets };
+}
 
 impl<R: SiteRule> Site<R> {
     /// A guarded word.
@@ -73,7 +85,7 @@ impl<R: SiteRule> Site<R> {
         self.find::<LogEntry>(pass, ENTRIES_AT + at as usize)
     }
 
-    /// Writes a guarded word. Until its next commit the pass writes.
+    /// Writes a guarded word. Until its next commit, or the end of its writing, the pass writes.
     pub fn set_word(&self, pass: &mut Pass<R>, at: usize, value: u64)
         requires own { SitsAt self.now pass.old }
         requires held { held_in pass.old ≡ Alone }
@@ -88,8 +100,24 @@ impl<R: SiteRule> Site<R> {
         self.put::<Brand>(pass, at, value);
     }
 
-    /// Records the next call of the pass's task, which changes the object: the guarded words store
-    /// what it leaves of the state after the log. The call is appended to the log.
+    /// Ends the pass's writing without a record: the guarded words, as they are now, represent the
+    /// state after the log. It loads one word.
+    pub fn end_writing(&self, pass: &mut Pass<R>)
+        requires own { SitsAt self.now pass.old }
+        requires held { held_in pass.old ≡ Alone }
+        requires stored { IsStored R.O.object (plan_of self.now) (hand_in pass.old) }
+        ensures own { SitsAt self.now pass.new }
+        ensures goes_on { KeepsPast pass.old pass.new }
+        ensures nest { KeepsNest pass.old pass.new }
+        ensures last { IsLatest pass.new }
+        ensures kept { view_of pass.new ≡
+            handed (view_of pass.old) (quieted (hand_in pass.old)) }
+    {
+        self.step_stored::<Quiet, Brand>(pass, LOCK_WORDS, self.site_at, Op::Load);
+    }
+
+    /// Records the next call of the pass's task, which changes the object: the guarded words
+    /// represent what it leaves of the state after the log. The call is appended to the log.
     pub fn commit(&self, pass: &mut Pass<R>, call: u32, reply: Reply)
         requires own { SitsAt self.now pass.old }
         requires held { held_in pass.old ≡ Alone }
@@ -150,6 +178,7 @@ impl<R: SiteRule> Site<R> {
         requires numbered { IsSome (task_in pass.old) }
         requires call { call ≡ (done_in pass.old) }
         requires recorded { OwesNoSignal (hand_in pass.old) }
+        requires unheld { R.reads_unheld ≡ true }
         requires next { IsNextSeenReading R.O.object self.now pass.old reply }
         ensures own { SitsAt self.now pass.new }
         ensures goes_on { KeepsPast pass.old pass.new }
@@ -269,7 +298,7 @@ impl<R: SiteRule> Site<R> {
         requires own { IsOneOf self.now pass.old }
         requires plain { settled (hand_in pass.old) rec.reply ≡ hand_in pass.old }
         requires planned { (hand_in pass.old).plan ≡ Some (plan_of self.now) }
-        requires may { MayStoreRecord R.O.object R.unavailable self.now pass.old
+        requires may { MayStoreRecord R.O.object R.unavailable R.reads_unheld self.now pass.old
             entry rec (hand_in pass.old).log }
         ensures own { KeepsSeat pass.old pass.new }
         ensures face { SaysSame pass.old pass.new }
@@ -283,7 +312,7 @@ impl<R: SiteRule> Site<R> {
     fn settle_unheld(&self, pass: &mut Pass<R>, entry: Entry, rec: Rec)
         requires own { IsOneOf self.now pass.old }
         requires planned { (hand_in pass.old).plan ≡ Some (plan_of self.now) }
-        requires may { MayStoreRecord R.O.object R.unavailable self.now pass.old
+        requires may { MayStoreRecord R.O.object R.unavailable R.reads_unheld self.now pass.old
             entry rec (hand_in pass.old).seen }
         ensures own { KeepsSeat pass.old pass.new }
         ensures face { SaysSame pass.old pass.new }
@@ -299,7 +328,7 @@ impl<R: SiteRule> Site<R> {
         requires hand { P.hand ≡ recorded (settled (hand_in pass.old) rec.reply)
             ((view_of pass.old).steps + 1) entry rec P.hand.seen }
         requires planned { (hand_in pass.old).plan ≡ Some (plan_of self.now) }
-        requires may { MayStoreRecord R.O.object R.unavailable self.now pass.old
+        requires may { MayStoreRecord R.O.object R.unavailable R.reads_unheld self.now pass.old
             entry rec P.hand.seen }
         ensures own { KeepsSeat pass.old pass.new }
         ensures face { SaysSame pass.old pass.new }

@@ -3,9 +3,8 @@ ghost use Rattle.std.specs.Prelude.{◌<◌, length};
 ghost use Rattle.mutex_slow.specs.MutexHandles.{IsIdle, plan_of};
 
 use cpu_task::{Crew, ParkCpu, ParkCrew, Turns};
-use lock_core::{Nothing, Plan};
+use lock_core::{Nothing, Plan, SiteLock};
 use mutex_slow::{Mutex, MutexPass};
-use site_lock::SiteLock;
 use std::sync::Wait;
 use std::sync::atomic::{AtomicU64, Ordering};
 use std::test::Fail;

@@ -5,13 +5,12 @@ ghost use Rattle.mutex_slow.specs.MutexHandles.{plan_of, shown_of, SitsAt};
 
 use super::{Mutex, MutexPass};
 use crate::rule::MutexRule;
-use lock_core::{Pass, Site};
-use site_lock::SiteLock;
+use lock_core::{Pass, Site, SiteLock};
 use word_bits::Object;
 
 impl<O: Object> SiteLock<O> for Mutex<O> {
-    ghost use Rattle.site_lock.specs.Faces.{same-put};
-    ghost use Rattle.site_lock.specs.Sitting.{SitsIdle};
+    ghost use Rattle.lock_core.specs.Faces.{same-put};
+    ghost use Rattle.lock_core.specs.Sitting.{SitsIdle};
     ghost use Rattle.mutex_slow.specs.MutexSiteLaws.{mutex-frame};
 
     type Rule = MutexRule<O>;

@@ -4,12 +4,11 @@ ghost use Rattle.mutex_word.specs.OwnerHandles.{plan_of, shown_of, SitsAt};
 
 use super::{OwnerPass, OwnerSite};
 use crate::rule::OwnerRule;
-use lock_core::{Pass, Site};
-use site_lock::SiteLock;
+use lock_core::{Pass, Site, SiteLock};
 use word_bits::Object;
 
 impl<O: Object> SiteLock<O> for OwnerSite<O> {
-    ghost use Rattle.site_lock.specs.Faces.{same-put};
+    ghost use Rattle.lock_core.specs.Faces.{same-put};
     ghost use Rattle.mutex_word.specs.OwnerSiteLaws.{owner-frame};
 
     type Rule = OwnerRule<O>;

@@ -6,12 +6,11 @@ ghost use Rattle.percpu_rwsem.specs.PercpuHandles.{plan_of, shown_of, SitsAt};
 use super::PercpuRwSem;
 use crate::pass::PercpuPass;
 use crate::rule::PercpuRule;
-use lock_core::{Pass, Site};
-use site_lock::SiteLock;
+use lock_core::{Pass, Site, SiteLock};
 use word_bits::Object;
 
 impl<O: Object> SiteLock<O> for PercpuRwSem<O> {
-    ghost use Rattle.site_lock.specs.Faces.{same-put};
+    ghost use Rattle.lock_core.specs.Faces.{same-put};
     ghost use Rattle.percpu_rwsem.specs.PercpuSiteLaws.{percpu-frame};
 
     type Rule = PercpuRule<O>;

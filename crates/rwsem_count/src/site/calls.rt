@@ -5,12 +5,11 @@ ghost use Rattle.rwsem_count.specs.CountHandles.{plan_of, shown_of, SitsAt};
 use super::CountSite;
 use crate::pass::CountPass;
 use crate::rule::CountRule;
-use lock_core::{Pass, Site};
-use site_lock::SiteLock;
+use lock_core::{Pass, Site, SiteLock};
 use word_bits::Object;
 
 impl<O: Object> SiteLock<O> for CountSite<O> {
-    ghost use Rattle.site_lock.specs.Faces.{same-put};
+    ghost use Rattle.lock_core.specs.Faces.{same-put};
     ghost use Rattle.rwsem_count.specs.CountSiteLaws.{count-frame};
 
     type Rule = CountRule<O>;

@@ -6,7 +6,7 @@ ghost use Rattle.lock_core.specs.Pasts.{BeganWith, EachMoment, Ran, Tail};
 ghost use Rattle.lock_core.specs.Shown.{IsLatestStep};
 ghost use Rattle.lock_core.specs.SpinStated.{IsSpinLockThen, IsSpinMove};
 ghost use Rattle.rwsem_slow.specs.RwSemHandles.{hand_in, newest, plan_of, shown_of, spun_of, KeepsWakes, SitsAt, SpunGoesOn, StepsOn};
-ghost use Rattle.rwsem_rule.specs.RwSems.{standing, wait_lock_at};
+ghost use Rattle.rwsem_slow.specs.RwSems.{standing, wait_lock_at};
 ghost use Rattle.osq_nodes.specs.OsqPlaces.{node_marks};
 ghost use Rattle.osq_nodes.specs.OsqRuled.{IsOsqMove, newest as newest_queue};
 ghost use Rattle.osq_nodes.specs.OsqStated.{HasBecome, IsSpinQueue};

@@ -1,21 +1,21 @@
 //! The calls that take a semaphore shared.
 ghost use Rattle.std.specs.Prelude.{◌≡◌, true, false, Ok, IfErr, IfOk, IsSome};
-ghost use Rattle.lock_views.specs.declared.how.How.TheVariants.{Fast};
-ghost use Rattle.lock_views.specs.declared.view.Held.TheVariants.{No};
+ghost use Rattle.lock_core.specs.declared.how.How.TheVariants.{Fast};
+ghost use Rattle.lock_core.specs.declared.view.Held.TheVariants.{No};
 ghost use Rattle.lock_core.specs.Kinds.{semaphore};
 ghost use Rattle.lock_core.specs.Locking.{Got, Interrupts, KeepsPlace, TalliesLock};
-ghost use Rattle.osq_unqueue.specs.Rising.{LeavesForCpu};
+ghost use Rattle.sleep_lock.specs.Leaving.{LeavesForCpu};
 ghost use Rattle.rwsem_wake.specs.RwSemViews.{count_at};
 ghost use Rattle.rwsem_slow.specs.RwSemHandles.{shown_of, dozes_in, hand_in, SitsAt, TakesShared, StepsOn};
 ghost use Rattle.cpu_task.specs.CpuCounting.{Dozes};
-ghost use Rattle.rwsem_paths.specs.SleepCounting.{CountsReading, SleepsBetween};
-ghost use Rattle.rwsem_paths.specs.RwSemOpening.{EntersOpen};
+ghost use Rattle.rwsem_slow.specs.SleepCounting.{CountsReading, SleepsBetween};
+ghost use Rattle.rwsem_slow.specs.RwSemOpening.{EntersOpen};
 
 use super::{RwPass, RwSem};
+use crate::reader::read_slowly;
 use cpu_task::Crew;
 use lock_core::{How, Interrupted};
 use rwsem_count::steps;
-use rwsem_paths::reader::read_slowly;
 use rwsem_wake::hint::note_reader;
 use std::sync::Wait;
 use word_bits::Object;

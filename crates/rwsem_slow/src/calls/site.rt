@@ -4,14 +4,13 @@ ghost use Rattle.std.specs.Prelude.{refl};
 ghost use Rattle.rwsem_slow.specs.RwSemHandles.{plan_of, shown_of, SitsAt};
 
 use super::{RwPass, RwSem};
-use lock_core::{Pass, Site};
-use rwsem_rule::SemRule;
-use site_lock::SiteLock;
+use crate::SemRule;
+use lock_core::{Pass, Site, SiteLock};
 use word_bits::Object;
 
 impl<O: Object> SiteLock<O> for RwSem<O> {
-    ghost use Rattle.site_lock.specs.Faces.{same-put};
-    ghost use Rattle.site_lock.specs.Sitting.{SitsIdle};
+    ghost use Rattle.lock_core.specs.Faces.{same-put};
+    ghost use Rattle.lock_core.specs.Sitting.{SitsIdle};
     ghost use Rattle.rwsem_slow.specs.RwSemSiteLaws.{sem-frame};
 
     type Rule = SemRule<O>;

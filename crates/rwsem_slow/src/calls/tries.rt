@@ -1,7 +1,7 @@
 //! The tries of a semaphore.
 ghost use Rattle.std.specs.Prelude.{◌≡◌, ◌+◌, true, false, IsSome, IfOk, IfErr};
-ghost use Rattle.lock_views.specs.declared.how.How.TheVariants.{Fast};
-ghost use Rattle.lock_views.specs.declared.view.Held.TheVariants.{No};
+ghost use Rattle.lock_core.specs.declared.how.How.TheVariants.{Fast};
+ghost use Rattle.lock_core.specs.declared.view.Held.TheVariants.{No};
 ghost use Rattle.lock_core.specs.Kinds.{semaphore};
 ghost use Rattle.lock_core.specs.Locking.{Got, Misses};
 ghost use Rattle.lock_core.specs.Pasts.{FoundAt};

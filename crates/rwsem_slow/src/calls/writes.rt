@@ -1,22 +1,22 @@
 //! The calls that take a semaphore alone.
 ghost use Rattle.std.specs.Prelude.{◌≡◌, ◌≤◌, ◌+◌, Bool, true, false, Ok, IfErr, IfOk, IsSome};
-ghost use Rattle.lock_views.specs.declared.how.How.TheVariants.{Spun};
-ghost use Rattle.lock_views.specs.declared.view.Held.TheVariants.{No};
+ghost use Rattle.lock_core.specs.declared.how.How.TheVariants.{Spun};
+ghost use Rattle.lock_core.specs.declared.view.Held.TheVariants.{No};
 ghost use Rattle.lock_core.specs.Kinds.{semaphore};
 ghost use Rattle.lock_core.specs.Locking.{Got, Interrupts, KeepsPlace, Looks, OnlyTried, TalliesLock, TalliesSpin};
-ghost use Rattle.osq_unqueue.specs.Rising.{LeavesForCpu};
+ghost use Rattle.sleep_lock.specs.Leaving.{LeavesForCpu};
 ghost use Rattle.rwsem_wake.specs.RwSemViews.{count_at};
 ghost use Rattle.rwsem_slow.specs.RwSemHandles.{shown_of, dozes_in, hand_in, KeepsFronts, KeepsMisses, KeepsWakes, SitsAt, SpunGoesOn, TakesAlone, StepsOn};
 ghost use Rattle.cpu_task.specs.CpuCounting.{Dozes};
-ghost use Rattle.rwsem_paths.specs.SleepCounting.{CountsLeaving, CountsWriting};
-ghost use Rattle.rwsem_paths.specs.RwSemOpening.{TakesOpen};
-ghost use Rattle.rwsem_paths.specs.Spinning.{SawIfTried};
+ghost use Rattle.rwsem_slow.specs.SleepCounting.{CountsLeaving, CountsWriting};
+ghost use Rattle.rwsem_slow.specs.RwSemOpening.{TakesOpen};
+ghost use Rattle.rwsem_slow.specs.Spinning.{SawIfTried};
 
 use super::{RwPass, RwSem};
+use crate::writer::{spin, write_in_line};
 use cpu_task::{Cpu, Crew};
 use lock_core::{How, Interrupted};
 use rwsem_count::steps;
-use rwsem_paths::writer::{spin, write_in_line};
 use rwsem_wake::hint::{is_reader_owned, set_hint, writer_hint};
 use std::sync::Wait;
 use word_bits::Object;

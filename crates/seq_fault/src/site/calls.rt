@@ -4,12 +4,11 @@ ghost use Rattle.seq_fault.specs.SeqHandles.{plan_of, shown_of, SitsAt};
 
 use super::{SeqPass, SeqSite};
 use crate::rule::SeqRule;
-use lock_core::{Pass, Site};
-use site_lock::SiteLock;
+use lock_core::{Pass, Site, SiteLock};
 use word_bits::Object;
 
 impl<O: Object> SiteLock<O> for SeqSite<O> {
-    ghost use Rattle.site_lock.specs.Faces.{same-put};
+    ghost use Rattle.lock_core.specs.Faces.{same-put};
 
     type Rule = SeqRule<O>;
 

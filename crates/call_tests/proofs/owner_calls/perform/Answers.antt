@@ -23,8 +23,8 @@ pub load-requires-clause-sized : goal.load-requires-clause-sized
 load-requires-clause-sized g c =
     let h = c.args.pass.now.pass.seat.me.0.view.hand in
     let k = c.args.site.now.site.table.shared.key in
-    ap (λ x. length x.known) c.next_call.ensures.hand ∙ ap length c.requires.stored
-    ∙ g.met.O.Object.sized (state_after g.O.Object.object k h.log) (state_is_state g.O.Object.object (lawful g) k h.log)
+    ap (λ x. length x.known) c.next_call.ensures.hand ∙ ap length (g.met.O.ValueObject.exact (state_after g.O.Object.object k h.log) h.known c.requires.stored)
+    ∙ g.met.O.ValueObject.sized (state_after g.O.Object.object k h.log) (state_is_state g.O.Object.object (lawful g) k h.log)
 
 pub note-requires-clause-may : goal.note-requires-clause-may
 note-requires-clause-may g c =
@@ -35,7 +35,7 @@ note-requires-clause-may g c =
     let is = sym c.call_of.ensures ∙ c.in_ok-known.was in
     let call = c.in_ok-known.known in
     let found = c.in_ok-value.ensures in
-    let state = loaded o (lawful g) g.met.O.Object.apart k h (g.O.Object.state c.in_ok-value.value) c.requires.stored found.state (found.found ∙ ap (λ x. x.known) c.next_call.ensures.hand) in
+    let state = loaded o (lawful g) g.met.O.ValueObject.apart g.met.O.ValueObject.exact k h (g.O.Object.state c.in_ok-value.value) c.requires.stored found.state (found.found ∙ ap (λ x. x.known) c.next_call.ensures.hand) in
     rw hand (may-note o _ k h _ c.apply-reply.result
     (rw c.apply-reply.ensures.reply (g.met.O.Object.replies (g.O.Object.state c.in_ok-value.value) call found.state (g.met.O.Object.called c.in_ok-next.next.words call is)))
     (record {
@@ -59,14 +59,14 @@ commit-requires-clause-change g c =
     let is = sym c.call_of.ensures ∙ c.in_ok-known.was in
     let call = c.in_ok-known.known in
     let found = c.in_ok-value.ensures in
-    let state = loaded o (lawful g) g.met.O.Object.apart k h (g.O.Object.state c.in_ok-value.value) c.requires.stored found.state (found.found ∙ ap (λ x. x.known) c.next_call.ensures.hand) in
+    let state = loaded o (lawful g) g.met.O.ValueObject.apart g.met.O.ValueObject.exact k h (g.O.Object.state c.in_ok-value.value) c.requires.stored found.state (found.found ∙ ap (λ x. x.known) c.next_call.ensures.hand) in
     record {
       words = c.in_ok-next.next.words;
       call = call;
       planned = subst (λ e. slice_get (row k e.task) e.call ≡ Some c.in_ok-next.next.words) (sym (stored-next c.args.site.now.site c.load.new.pass.pass c.store.new.pass.pass c.load.ensures.own c.store.ensures.own c.store.ensures.face ∙ ap next_entry hand)) c.in_ok-next.ensures.words.1;
       is = is;
       changes = sym c.reads.ensures ∙ c.if-reads.false;
-      stored = c.store.ensures.known ∙ ap o.stores (c.apply-reply.ensures.next ∙ ap (λ s. (o.meaning s call).0) state) ∙ ap (λ l. o.stores (o.meaning (state_after o k l) call).0) (sym log);
+      stored = g.met.O.ValueObject.represents (o.meaning (state_after o k c.store.new.pass.pass.seat.me.0.view.hand.log) call).0 c.store.new.pass.pass.seat.me.0.view.hand.known (c.store.ensures.known ∙ ap o.stores (c.apply-reply.ensures.next ∙ ap (λ s. (o.meaning s call).0) state) ∙ ap (λ l. o.stores (o.meaning (state_after o k l) call).0) (sym log));
       replies = c.apply-reply.ensures.reply ∙ ap (λ s. (o.meaning s call).1) state ∙ ap (λ l. (o.meaning (state_after o k l) call).1) (sym log);
     }
 
@@ -79,17 +79,17 @@ returns-clause-stored g c =
     let is = sym c.call_of.ensures ∙ c.in_ok-known.was in
     let call = c.in_ok-known.known in
     let found = c.in_ok-value.ensures in
-    let state = loaded o (lawful g) g.met.O.Object.apart k h (g.O.Object.state c.in_ok-value.value) c.requires.stored found.state (found.found ∙ ap (λ x. x.known) c.next_call.ensures.hand) in
+    let state = loaded o (lawful g) g.met.O.ValueObject.apart g.met.O.ValueObject.exact k h (g.O.Object.state c.in_ok-value.value) c.requires.stored found.state (found.found ∙ ap (λ x. x.known) c.next_call.ensures.hand) in
     elim c.if-reads.branch [
       | then-reads w ↦
           let now = ap (λ p. p.pass.seat.me.0.view.hand) w.pass-is ∙ ap (λ v. v.hand) w.note.ensures.seat in
-          ap (λ x. x.known) now ∙ ap (λ x. x.known) hand ∙ c.requires.stored ∙ ap (λ l. o.stores (state_after o k l)) (sym (ap (λ x. x.log) now ∙ ap (λ x. x.log) hand))
+          g.met.O.ValueObject.represents _ _ (ap (λ x. x.known) now ∙ ap (λ x. x.known) hand ∙ g.met.O.ValueObject.exact (state_after o k h.log) h.known c.requires.stored ∙ ap (λ l. o.stores (state_after o k l)) (sym (ap (λ x. x.log) now ∙ ap (λ x. x.log) hand)))
       | else-reads w ↦
           let now = ap (λ p. p.pass.seat.me.0.view.hand) w.pass-is ∙ ap (λ v. v.hand) w.commit.ensures.seat in
           let log = w.store.ensures.log ∙ ap (λ x. x.log) hand in
           let planned = subst (λ e. slice_get (row k e.task) e.call ≡ Some c.in_ok-next.next.words) (sym (stored-next c.args.site.now.site c.load.new.pass.pass w.store.new.pass.pass c.load.ensures.own w.store.ensures.own w.store.ensures.face ∙ ap next_entry hand)) c.in_ok-next.ensures.words.1 in
-          ap (λ x. x.known) now ∙ w.store.ensures.known ∙ ap o.stores (c.apply-reply.ensures.next ∙ ap (λ s. (o.meaning s call).0) state)
+          g.met.O.ValueObject.represents _ _ (ap (λ x. x.known) now ∙ w.store.ensures.known ∙ ap o.stores (c.apply-reply.ensures.next ∙ ap (λ s. (o.meaning s call).0) state)
           ∙ ap (λ l. o.stores (o.meaning (state_after o k l) call).0) (sym log)
           ∙ ap o.stores (sym (state-snoc o k w.store.new.pass.pass.seat.me.0.view.hand.log (next_entry w.store.new.pass.pass.seat.me.0.view.hand) c.in_ok-next.next.words call planned is))
-          ∙ ap (λ l. o.stores (state_after o k l)) (sym (ap (λ x. x.log) now))
+          ∙ ap (λ l. o.stores (state_after o k l)) (sym (ap (λ x. x.log) now)))
     ]

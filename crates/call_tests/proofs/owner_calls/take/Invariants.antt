@@ -1,5 +1,5 @@
 use Rattle.std.proofs.Common.{◌≡◌}
-use Rattle.lock_views.specs.declared.view.Held.TheVariants.{No}
+use Rattle.lock_core.specs.declared.view.Held.TheVariants.{No}
 use Rattle.mutex_word.specs.OwnerHandles.{hand_in, held_in, task_in, SitsAt}
 use Rattle.call_tests.specs.OwnerStanding.{OwesSame, SameSpin}
 use Rattle.call_tests.proofs.owner_calls.take.Given as goal

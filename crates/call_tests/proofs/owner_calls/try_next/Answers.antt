@@ -1,5 +1,5 @@
 use Rattle.std.proofs.Common.{ap, sym, ◌∙◌, arith, ◌<◌, subst, refl, rules}
-use Rattle.lock_views.specs.declared.view.Held.TheVariants.{No}
+use Rattle.lock_core.specs.declared.view.Held.TheVariants.{No}
 use Rattle.call_tests.proofs.OwnerPerforming.{known-call, busy-next}
 use Rattle.call_tests.proofs.owner_calls.try_next.Goals as goal
 

@@ -1,5 +1,5 @@
 use Rattle.std.proofs.Common.{◌≡◌, false, Some}
-use Rattle.lock_views.specs.declared.view.Held.TheVariants.{No}
+use Rattle.lock_core.specs.declared.view.Held.TheVariants.{No}
 use Rattle.lock_core.specs.Views.{SpinRests}
 use Rattle.mutex_word.specs.OwnerHandles.{hand_in, held_in, task_in, view_of, SitsAt}
 use Rattle.call_tests.specs.OwnerStanding.{OwesNothing}

@@ -1,5 +1,5 @@
 use Rattle.std.proofs.Common.{◌≢◌}
-use Rattle.lock_views.specs.declared.view.Held.TheVariants.{No}
+use Rattle.lock_core.specs.declared.view.Held.TheVariants.{No}
 use Rattle.mutex_word.specs.OwnerHandles.{held_in, SitsAt}
 use Rattle.call_tests.proofs.owner_site_tests.stores.Given as goal
 

@@ -1,7 +1,7 @@
 -- Each word that is given is the one that was wanted, and the pass's words are those of the space.
 use Rattle.std.proofs.Common.{◌≡◌, slice_index, IfSome, ℕ, List, Option, sym, ap, subst, ◌∙◌}
 use Rattle.word_bits.specs.PageMaps.{runs}
-use Rattle.lock_views.specs.declared.view.Hand.{Hand}
+use Rattle.lock_core.specs.declared.view.Hand.{Hand}
 use Rattle.vma_map.specs.Searches.{AgreesWith}
 use Rattle.vma_map.specs.Spaces.{IsRunAt}
 use Rattle.guarded.proofs.Passing.{looks-trans}

@@ -1,6 +1,6 @@
 -- The first word that is 0 is that of the lowest free descriptor.
 use Rattle.std.proofs.Common.{◌<◌, slice_index, ap, ◌∙◌, arith}
-use Rattle.lock_views.specs.declared.view.Hand.{Hand}
+use Rattle.lock_core.specs.declared.view.Hand.{Hand}
 use Rattle.guarded.proofs.Passing.{looks-trans}
 use Rattle.guarded.proofs.Descriptors.{slot-at, slot-none, slot-open, lowest-found, lowest-none, open-more}
 use Rattle.guarded.proofs.slots.lowest_free.Goals as goal

@@ -1,6 +1,6 @@
 -- Nothing up to the place has been written, so what is moved is what was there at first.
 use Rattle.std.proofs.Common.{◌≡◌, ◌+◌, ◌-◌, ◌<◌, length, slice_index, slice_set, refl, sym, ap, ◌∙◌, arith}
-use Rattle.lock_views.specs.declared.view.Hand.{Hand}
+use Rattle.lock_core.specs.declared.view.Hand.{Hand}
 use Rattle.guarded.specs.SplicingLaws.{changes-none, changes-more}
 use Rattle.guarded.proofs.Spliced.{set-long}
 use Rattle.guarded.proofs.Written.{looked, wrote-word, still-alone, same-known, roomed-more, others-same, roomed-none, roomed-all}

@@ -2,7 +2,7 @@
 use Rattle.std.proofs.Common.{◌≡◌, ◌+◌, ◌<◌, length, map, slice_index, slice_set, refl, sym, ap, ◌∙◌, arith}
 use Rattle.std.proofs.lemmas.List.{length-map, get_or-map}
 use Rattle.word_bits.specs.AreaWord.{area_word}
-use Rattle.lock_views.specs.declared.view.Hand.{Hand}
+use Rattle.lock_core.specs.declared.view.Hand.{Hand}
 use Rattle.vma_map.proofs.RangeLemmas.{no_area, AreRuns-at}
 use Rattle.guarded.specs.SplicingLaws.{changes-none, changes-more}
 use Rattle.guarded.proofs.Spliced.{set-long}

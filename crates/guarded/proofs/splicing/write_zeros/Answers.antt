@@ -1,5 +1,5 @@
 use Rattle.std.proofs.Common.{◌≡◌, ◌<◌, length, slice_set, refl, ap, ◌∙◌, arith}
-use Rattle.lock_views.specs.declared.view.Hand.{Hand}
+use Rattle.lock_core.specs.declared.view.Hand.{Hand}
 use Rattle.guarded.specs.SplicingLaws.{changes-none, changes-more}
 use Rattle.guarded.proofs.Spliced.{set-long}
 use Rattle.guarded.proofs.Written.{wrote-word, still-alone, others-same, cleared-more, cleared-all}

@@ -1,5 +1,5 @@
 use Rattle.std.proofs.Common.{◌≡◌, ◌+◌, ◌<◌, ap, ◌∙◌, arith}
-use Rattle.lock_views.specs.declared.view.View.{View}
+use Rattle.lock_core.specs.declared.view.View.{View}
 use Rattle.qspin_queue.proofs.Interrupting.{taken-idles}
 use Rattle.lock_bench.proofs.nested.inner_pair.Goals as goal
 

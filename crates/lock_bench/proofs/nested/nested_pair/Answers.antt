@@ -3,7 +3,7 @@ use mathlib.Core.Logic.{dite}
 use native.Mathlib.Decide.{ℕ_discrete}
 use Rattle.std.specs.Prelude.{IsSome}
 use Rattle.lock_core.specs.declared.pass.Face.{Face}
-use Rattle.lock_views.specs.declared.view.View.{View}
+use Rattle.lock_core.specs.declared.view.View.{View}
 use Rattle.lock_core.specs.LockHands.{RestsAt}
 use Rattle.qspin_word.specs.SpinWordHandles.{spin_in}
 use Rattle.qspin_queue.proofs.Interrupting.{freed-here, freed-else}

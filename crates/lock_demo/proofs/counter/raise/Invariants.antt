@@ -1,5 +1,5 @@
 use Rattle.std.proofs.Common.{◌≡◌, None, IsSome}
-use Rattle.lock_views.specs.declared.view.Held.TheVariants.{No}
+use Rattle.lock_core.specs.declared.view.Held.TheVariants.{No}
 use Rattle.mutex_slow.specs.MutexHandles.{SitsAt, hand_in}
 use Rattle.lock_demo.proofs.counter.raise.Given as goal
 

@@ -1,5 +1,5 @@
 use Rattle.std.proofs.Common.{◌≡◌, None, IsSome}
-use Rattle.lock_views.specs.declared.view.Held.TheVariants.{No}
+use Rattle.lock_core.specs.declared.view.Held.TheVariants.{No}
 use Rattle.rwsem_slow.specs.RwSemHandles.{SitsAt, hand_in}
 use Rattle.lock_demo.proofs.pair.write.Given as goal
 

@@ -1,5 +1,5 @@
 use Rattle.std.proofs.Common.{rules, ap}
-use Rattle.lock_views.specs.declared.view.View.{View}
+use Rattle.lock_core.specs.declared.view.View.{View}
 use Rattle.qspin_word.proofs.Noting.{told-same}
 use Rattle.qspin_queue.proofs.Interrupting.{out-same}
 use Rattle.lock_tests.proofs.nest_tests.another.Goals as goal

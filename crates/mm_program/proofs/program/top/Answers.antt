@@ -1,64 +1,16 @@
-use Rattle.std.proofs.Common.{◌≡◌, Bool, true, false, ap, map, sym, ◌∙◌}
-use Rattle.std.proofs.lemmas.Bool.{false≢true}
-use Rattle.std.specs.Prelude.{string_bytes}
-use Rattle.task_script.specs.Generated.{generated}
-use Rattle.task_script.specs.Grammar.{script_of}
+use Rattle.vma_map.specs.Spaces.{space}
+use Rattle.fd_table.specs.Tables.{table}
+use Rattle.mutex_slow.specs.MutexLocks.{KnowsMutex}
+use Rattle.rwsem_slow.specs.RwSemLocks.{KnowsRwSem}
+use Rattle.osq_unqueue.specs.LockSpinQueues.{KnowsSpinQueue}
 use Rattle.sleep_lock.specs.LockMembers.{members}
-use Rattle.mm_program.specs.CommandLine.{is_question, options_of}
 use Rattle.mm_program.specs.ProgramKept.{HasServedUnder}
-use Rattle.mm_program.specs.Requests.{accepted, helped, misused, reads_input, request, request_of}
-use Rattle.mm_program.proofs.CommandLines.{misused_says, questions_say_nothing}
-use Rattle.mm_program.proofs.Inputs.{answers_any, answers_as, answers_memory, answers_unasked, asks_generated, asks_input, completes, completes_memory, completes_nothing, said_unkept}
+use Rattle.mm_program.proofs.Telling.{served-under}
+use Rattle.mm_program.proofs.Weaker.{answers-weaker, completes-weaker}
 use Rattle.mm_program.proofs.program.top.Goals as goal
 
-pub returns-then-asks_help-clause-answer : goal.returns-then-asks_help-clause-answer
-returns-then-asks_help-clause-answer g c =
-    let words = map string_bytes c.args.words.now in
-    answers_any (HasServedUnder (members g.A.SiteLock.calls_on g.A.SiteLock.view g.A.SiteLock.sits g.A.SleepLock.spun g.A.SleepLock.kind g.A.SleepLock.word_at g.A.SleepLock.opened g.A.SleepLock.waits) (members g.T.SiteLock.calls_on g.T.SiteLock.view g.T.SiteLock.sits g.T.SleepLock.spun g.T.SleepLock.kind g.T.SleepLock.word_at g.T.SleepLock.opened g.T.SleepLock.waits)) c.args.kept.now (request (is_question words) (options_of words)) helped (g.S.Source.left c.args.source.now) _ _ _ _ c.help.result (λ input. ap (λ asks. request asks (options_of words) input) (sym c.asks_help.ensures ∙ c.if-asks_help.true))
-    (said_unkept (HasServedUnder (members g.A.SiteLock.calls_on g.A.SiteLock.view g.A.SiteLock.sits g.A.SleepLock.spun g.A.SleepLock.kind g.A.SleepLock.word_at g.A.SleepLock.opened g.A.SleepLock.waits) (members g.T.SiteLock.calls_on g.T.SiteLock.view g.T.SiteLock.sits g.T.SleepLock.spun g.T.SleepLock.kind g.T.SleepLock.word_at g.T.SleepLock.opened g.T.SleepLock.waits)) c.args.kept.now helped ⊥ _ _ _ c.help.result c.requires c.help.ensures.says)
+pub returns-clause-answer : goal.returns-clause-answer
+returns-clause-answer g c = answers-weaker (HasServedUnder (members g.A.SiteLock.calls_on g.A.SiteLock.view g.A.SiteLock.sits g.A.SleepLock.spun g.A.SleepLock.kind g.A.SleepLock.word_at g.A.SleepLock.opened g.A.SleepLock.waits g.A.SleepLock.tells g.A.SleepLock.tells_queue) (members g.T.SiteLock.calls_on g.T.SiteLock.view g.T.SiteLock.sits g.T.SleepLock.spun g.T.SleepLock.kind g.T.SleepLock.word_at g.T.SleepLock.opened g.T.SleepLock.waits g.T.SleepLock.tells g.T.SleepLock.tells_queue)) (HasServedUnder (members g.A.SiteLock.calls_on g.A.SiteLock.view g.A.SiteLock.sits g.A.SleepLock.spun g.A.SleepLock.kind g.A.SleepLock.word_at g.A.SleepLock.opened g.A.SleepLock.waits (KnowsRwSem space 257) KnowsSpinQueue) (members g.T.SiteLock.calls_on g.T.SiteLock.view g.T.SiteLock.sits g.T.SleepLock.spun g.T.SleepLock.kind g.T.SleepLock.word_at g.T.SleepLock.opened g.T.SleepLock.waits (KnowsMutex table 64) KnowsSpinQueue)) (λ m. m) (served-under (members g.A.SiteLock.calls_on g.A.SiteLock.view g.A.SiteLock.sits g.A.SleepLock.spun g.A.SleepLock.kind g.A.SleepLock.word_at g.A.SleepLock.opened g.A.SleepLock.waits g.A.SleepLock.tells g.A.SleepLock.tells_queue) (members g.T.SiteLock.calls_on g.T.SiteLock.view g.T.SiteLock.sits g.T.SleepLock.spun g.T.SleepLock.kind g.T.SleepLock.word_at g.T.SleepLock.opened g.T.SleepLock.waits g.T.SleepLock.tells g.T.SleepLock.tells_queue) (KnowsRwSem space 257) (KnowsMutex table 64) KnowsSpinQueue KnowsSpinQueue (g.met.A.SpaceLock g.world.𝓛 g.world.𝓜 g.world.𝓡 ((λ s x. x), (λ x. x), (λ x. x), λ x. x)).is_semaphore (g.met.T.TableLock g.world.𝓛 g.world.𝓜 g.world.𝓡 ((λ s x. x), (λ x. x), (λ x. x), λ x. x)).is_mutex (g.met.A.SpaceLock g.world.𝓛 g.world.𝓜 g.world.𝓡 ((λ s x. x), (λ x. x), (λ x. x), λ x. x)).has_queue (g.met.T.TableLock g.world.𝓛 g.world.𝓜 g.world.𝓡 ((λ s x. x), (λ x. x), (λ x. x), λ x. x)).has_queue) c.serve_words.new.kept c.serve_words.new.kept (λ none. none) (λ m is. is) _ _ _ _ _ _ _ c.serve_words.ensures.answer
 
-pub returns-then-asks_help-clause-complete : goal.returns-then-asks_help-clause-complete
-returns-then-asks_help-clause-complete g c =
-    completes_nothing (HasServedUnder (members g.A.SiteLock.calls_on g.A.SiteLock.view g.A.SiteLock.sits g.A.SleepLock.spun g.A.SleepLock.kind g.A.SleepLock.word_at g.A.SleepLock.opened g.A.SleepLock.waits) (members g.T.SiteLock.calls_on g.T.SiteLock.view g.T.SiteLock.sits g.T.SleepLock.spun g.T.SleepLock.kind g.T.SleepLock.word_at g.T.SleepLock.opened g.T.SleepLock.waits)) c.args.kept.now _ _ _ _ _ _ _ (questions_say_nothing (map string_bytes c.args.words.now) (sym c.asks_help.ensures ∙ c.if-asks_help.true))
-
-pub returns-then-asks_help-clause-whole : goal.returns-then-asks_help-clause-whole
-returns-then-asks_help-clause-whole g c = λ done reads. absurd (false≢true (sym (ap reads_input (questions_say_nothing (map string_bytes c.args.words.now) (sym c.asks_help.ensures ∙ c.if-asks_help.true))) ∙ reads))
-
-pub returns-in-Err-Misused-clause-answer : goal.returns-in-Err-Misused-clause-answer
-returns-in-Err-Misused-clause-answer g c =
-    let said = options_of (map string_bytes c.args.words.now) in
-    answers_unasked (HasServedUnder (members g.A.SiteLock.calls_on g.A.SiteLock.view g.A.SiteLock.sits g.A.SleepLock.spun g.A.SleepLock.kind g.A.SleepLock.word_at g.A.SleepLock.opened g.A.SleepLock.waits) (members g.T.SiteLock.calls_on g.T.SiteLock.view g.T.SiteLock.sits g.T.SleepLock.spun g.T.SleepLock.kind g.T.SleepLock.word_at g.T.SleepLock.opened g.T.SleepLock.waits)) c.args.kept.now _ said (g.S.Source.left c.args.source.now) _ _ _ _ c.usage.result (sym c.asks_help.ensures ∙ c.if-asks_help.false)
-    (answers_any (HasServedUnder (members g.A.SiteLock.calls_on g.A.SiteLock.view g.A.SiteLock.sits g.A.SleepLock.spun g.A.SleepLock.kind g.A.SleepLock.word_at g.A.SleepLock.opened g.A.SleepLock.waits) (members g.T.SiteLock.calls_on g.T.SiteLock.view g.T.SiteLock.sits g.T.SleepLock.spun g.T.SleepLock.kind g.T.SleepLock.word_at g.T.SleepLock.opened g.T.SleepLock.waits)) c.args.kept.now (request false said) misused (g.S.Source.left c.args.source.now) _ _ _ _ c.usage.result (λ input. ap (λ q. request false q input) (misused_says said c.in-Err-Misused.field-0 c.in-Err-Misused.field-0-is c.in-Err-Misused.ensures))
-    (said_unkept (HasServedUnder (members g.A.SiteLock.calls_on g.A.SiteLock.view g.A.SiteLock.sits g.A.SleepLock.spun g.A.SleepLock.kind g.A.SleepLock.word_at g.A.SleepLock.opened g.A.SleepLock.waits) (members g.T.SiteLock.calls_on g.T.SiteLock.view g.T.SiteLock.sits g.T.SleepLock.spun g.T.SleepLock.kind g.T.SleepLock.word_at g.T.SleepLock.opened g.T.SleepLock.waits)) c.args.kept.now misused ⊥ _ _ _ c.usage.result c.requires c.usage.ensures.says))
-
-pub returns-in-Err-Memory-clause-answer : goal.returns-in-Err-Memory-clause-answer
-returns-in-Err-Memory-clause-answer g c =
-    let words = map string_bytes c.args.words.now in
-    answers_memory (HasServedUnder (members g.A.SiteLock.calls_on g.A.SiteLock.view g.A.SiteLock.sits g.A.SleepLock.spun g.A.SleepLock.kind g.A.SleepLock.word_at g.A.SleepLock.opened g.A.SleepLock.waits) (members g.T.SiteLock.calls_on g.T.SiteLock.view g.T.SiteLock.sits g.T.SleepLock.spun g.T.SleepLock.kind g.T.SleepLock.word_at g.T.SleepLock.opened g.T.SleepLock.waits)) c.args.kept.now (request (is_question words) (options_of words)) (g.S.Source.left c.args.source.now) _ _ (g.K.Sink.written c.args.sink.now) c.requires
-
-pub returns-in-Some-clause-answer : goal.returns-in-Some-clause-answer
-returns-in-Some-clause-answer g c =
-    let said = options_of (map string_bytes c.args.words.now) in
-    answers_any (HasServedUnder (members g.A.SiteLock.calls_on g.A.SiteLock.view g.A.SiteLock.sits g.A.SleepLock.spun g.A.SleepLock.kind g.A.SleepLock.word_at g.A.SleepLock.opened g.A.SleepLock.waits) (members g.T.SiteLock.calls_on g.T.SiteLock.view g.T.SiteLock.sits g.T.SleepLock.spun g.T.SleepLock.kind g.T.SleepLock.word_at g.T.SleepLock.opened g.T.SleepLock.waits)) c.answer_generated.new.kept (request _ said) (accepted c.in-Ok.options.summary (generated c.in-Some.number)) (g.S.Source.left c.args.source.now) _ _ _ _ c.answer_generated.result
-    (λ input. ap (λ asks. request asks said input) (sym c.asks_help.ensures ∙ c.if-asks_help.false) ∙ asks_generated said c.in-Ok.options c.in-Some.number input c.in-Ok.ensures c.in-Some.is) c.answer_generated.ensures.says
-
-pub returns-in-Some-clause-complete : goal.returns-in-Some-clause-complete
-returns-in-Some-clause-complete g c =
-    let said = options_of (map string_bytes c.args.words.now) in
-    completes (HasServedUnder (members g.A.SiteLock.calls_on g.A.SiteLock.view g.A.SiteLock.sits g.A.SleepLock.spun g.A.SleepLock.kind g.A.SleepLock.word_at g.A.SleepLock.opened g.A.SleepLock.waits) (members g.T.SiteLock.calls_on g.T.SiteLock.view g.T.SiteLock.sits g.T.SleepLock.spun g.T.SleepLock.kind g.T.SleepLock.word_at g.T.SleepLock.opened g.T.SleepLock.waits)) c.answer_generated.new.kept said (g.S.Source.left c.args.source.now) _ _ _ _ c.answer_generated.result
-    (answers_any (HasServedUnder (members g.A.SiteLock.calls_on g.A.SiteLock.view g.A.SiteLock.sits g.A.SleepLock.spun g.A.SleepLock.kind g.A.SleepLock.word_at g.A.SleepLock.opened g.A.SleepLock.waits) (members g.T.SiteLock.calls_on g.T.SiteLock.view g.T.SiteLock.sits g.T.SleepLock.spun g.T.SleepLock.kind g.T.SleepLock.word_at g.T.SleepLock.opened g.T.SleepLock.waits)) c.answer_generated.new.kept (request false said) (accepted c.in-Ok.options.summary (generated c.in-Some.number)) (g.S.Source.left c.args.source.now) _ _ _ _ c.answer_generated.result
-    (λ input. asks_generated said c.in-Ok.options c.in-Some.number input c.in-Ok.ensures c.in-Some.is) c.answer_generated.ensures.says)
-
-pub returns-in-None-clause-answer : goal.returns-in-None-clause-answer
-returns-in-None-clause-answer g c =
-    let said = options_of (map string_bytes c.args.words.now) in
-    answers_unasked (HasServedUnder (members g.A.SiteLock.calls_on g.A.SiteLock.view g.A.SiteLock.sits g.A.SleepLock.spun g.A.SleepLock.kind g.A.SleepLock.word_at g.A.SleepLock.opened g.A.SleepLock.waits) (members g.T.SiteLock.calls_on g.T.SiteLock.view g.T.SiteLock.sits g.T.SleepLock.spun g.T.SleepLock.kind g.T.SleepLock.word_at g.T.SleepLock.opened g.T.SleepLock.waits)) c.answer_input.new.kept _ said (g.S.Source.left c.args.source.now) _ _ _ _ c.answer_input.result (sym c.asks_help.ensures ∙ c.if-asks_help.false)
-    (answers_as (HasServedUnder (members g.A.SiteLock.calls_on g.A.SiteLock.view g.A.SiteLock.sits g.A.SleepLock.spun g.A.SleepLock.kind g.A.SleepLock.word_at g.A.SleepLock.opened g.A.SleepLock.waits) (members g.T.SiteLock.calls_on g.T.SiteLock.view g.T.SiteLock.sits g.T.SleepLock.spun g.T.SleepLock.kind g.T.SleepLock.word_at g.T.SleepLock.opened g.T.SleepLock.waits)) c.answer_input.new.kept said (λ input. request_of c.in-Ok.options.summary (script_of input)) (g.S.Source.left c.args.source.now) _ _ _ _ c.answer_input.result
-    (λ input. sym (asks_input said c.in-Ok.options input c.in-Ok.ensures c.in-None.is)) c.answer_input.ensures.answer)
-
-pub returns-in-None-clause-complete : goal.returns-in-None-clause-complete
-returns-in-None-clause-complete g c =
-    let said = options_of (map string_bytes c.args.words.now) in
-    completes (HasServedUnder (members g.A.SiteLock.calls_on g.A.SiteLock.view g.A.SiteLock.sits g.A.SleepLock.spun g.A.SleepLock.kind g.A.SleepLock.word_at g.A.SleepLock.opened g.A.SleepLock.waits) (members g.T.SiteLock.calls_on g.T.SiteLock.view g.T.SiteLock.sits g.T.SleepLock.spun g.T.SleepLock.kind g.T.SleepLock.word_at g.T.SleepLock.opened g.T.SleepLock.waits)) c.answer_input.new.kept said (g.S.Source.left c.args.source.now) _ _ _ _ c.answer_input.result
-    (answers_as (HasServedUnder (members g.A.SiteLock.calls_on g.A.SiteLock.view g.A.SiteLock.sits g.A.SleepLock.spun g.A.SleepLock.kind g.A.SleepLock.word_at g.A.SleepLock.opened g.A.SleepLock.waits) (members g.T.SiteLock.calls_on g.T.SiteLock.view g.T.SiteLock.sits g.T.SleepLock.spun g.T.SleepLock.kind g.T.SleepLock.word_at g.T.SleepLock.opened g.T.SleepLock.waits)) c.answer_input.new.kept said (λ input. request_of c.in-Ok.options.summary (script_of input)) (g.S.Source.left c.args.source.now) _ _ _ _ c.answer_input.result
-    (λ input. sym (asks_input said c.in-Ok.options input c.in-Ok.ensures c.in-None.is)) c.answer_input.ensures.answer)
+pub returns-clause-complete : goal.returns-clause-complete
+returns-clause-complete g c = completes-weaker (HasServedUnder (members g.A.SiteLock.calls_on g.A.SiteLock.view g.A.SiteLock.sits g.A.SleepLock.spun g.A.SleepLock.kind g.A.SleepLock.word_at g.A.SleepLock.opened g.A.SleepLock.waits g.A.SleepLock.tells g.A.SleepLock.tells_queue) (members g.T.SiteLock.calls_on g.T.SiteLock.view g.T.SiteLock.sits g.T.SleepLock.spun g.T.SleepLock.kind g.T.SleepLock.word_at g.T.SleepLock.opened g.T.SleepLock.waits g.T.SleepLock.tells g.T.SleepLock.tells_queue)) (HasServedUnder (members g.A.SiteLock.calls_on g.A.SiteLock.view g.A.SiteLock.sits g.A.SleepLock.spun g.A.SleepLock.kind g.A.SleepLock.word_at g.A.SleepLock.opened g.A.SleepLock.waits (KnowsRwSem space 257) KnowsSpinQueue) (members g.T.SiteLock.calls_on g.T.SiteLock.view g.T.SiteLock.sits g.T.SleepLock.spun g.T.SleepLock.kind g.T.SleepLock.word_at g.T.SleepLock.opened g.T.SleepLock.waits (KnowsMutex table 64) KnowsSpinQueue)) (λ m. m) (served-under (members g.A.SiteLock.calls_on g.A.SiteLock.view g.A.SiteLock.sits g.A.SleepLock.spun g.A.SleepLock.kind g.A.SleepLock.word_at g.A.SleepLock.opened g.A.SleepLock.waits g.A.SleepLock.tells g.A.SleepLock.tells_queue) (members g.T.SiteLock.calls_on g.T.SiteLock.view g.T.SiteLock.sits g.T.SleepLock.spun g.T.SleepLock.kind g.T.SleepLock.word_at g.T.SleepLock.opened g.T.SleepLock.waits g.T.SleepLock.tells g.T.SleepLock.tells_queue) (KnowsRwSem space 257) (KnowsMutex table 64) KnowsSpinQueue KnowsSpinQueue (g.met.A.SpaceLock g.world.𝓛 g.world.𝓜 g.world.𝓡 ((λ s x. x), (λ x. x), (λ x. x), λ x. x)).is_semaphore (g.met.T.TableLock g.world.𝓛 g.world.𝓜 g.world.𝓡 ((λ s x. x), (λ x. x), (λ x. x), λ x. x)).is_mutex (g.met.A.SpaceLock g.world.𝓛 g.world.𝓜 g.world.𝓡 ((λ s x. x), (λ x. x), (λ x. x), λ x. x)).has_queue (g.met.T.TableLock g.world.𝓛 g.world.𝓜 g.world.𝓡 ((λ s x. x), (λ x. x), (λ x. x), λ x. x)).has_queue) c.serve_words.new.kept c.serve_words.new.kept (λ none. none) (λ m is. is) _ _ _ _ _ _ _ c.serve_words.ensures.complete

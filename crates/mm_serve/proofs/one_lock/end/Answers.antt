@@ -1,5 +1,5 @@
 use Rattle.std.proofs.Common.{◌∙◌, ap, sym, subst}
-use Rattle.lock_views.specs.declared.view.Hand.{Hand}
+use Rattle.lock_core.specs.declared.view.Hand.{Hand}
 use Rattle.lock_core.specs.Kinds.{unavailable}
 use Rattle.lock_core.specs.Shown.{Shown}
 use Rattle.lock_core.specs.Views.{gave_up}

@@ -1,6 +1,6 @@
 use Rattle.std.proofs.Common.{arith, ℕ, Option, ap, refl, inl, inr, ◌≢◌, ◌∙◌}
-use Rattle.lock_views.specs.declared.view.Hand.{Hand}
-use Rattle.lock_views.specs.declared.view.SpinHand.{SpinHand}
+use Rattle.lock_core.specs.declared.view.Hand.{Hand}
+use Rattle.lock_core.specs.declared.view.SpinHand.{SpinHand}
 use Rattle.word_bits.specs.OwnerWord.{task_code}
 use Rattle.mutex_slow.specs.declared.view.MutexHand.{MutexHand}
 use Rattle.mutex_slow.specs.declared.release.Released.TheVariants.{Done, Waiters, Asked}

@@ -1,5 +1,5 @@
 use Rattle.std.proofs.Common.{◌≡◌, IsSome}
-use Rattle.lock_views.specs.declared.view.Held.TheVariants.{No}
+use Rattle.lock_core.specs.declared.view.Held.TheVariants.{No}
 use Rattle.mutex_slow.specs.MutexPlaces.{MovesOn, StandsSame, IsInLine}
 use Rattle.mutex_slow.proofs.sleep.spin_listed.Given as goal
 

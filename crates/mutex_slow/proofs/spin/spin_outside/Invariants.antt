@@ -1,5 +1,5 @@
 use Rattle.std.proofs.Common.{◌≡◌, IsSome}
-use Rattle.lock_views.specs.declared.view.Held.TheVariants.{No}
+use Rattle.lock_core.specs.declared.view.Held.TheVariants.{No}
 use Rattle.lock_core.specs.Locking.{OnlyTried}
 use Rattle.mutex_slow.specs.MutexPlaces.{seen_of, MovesOn, StandsSame, IsOutside}
 use Rattle.mutex_slow.specs.Mutexes.{OwesNoWake}

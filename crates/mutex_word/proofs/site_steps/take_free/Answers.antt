@@ -1,5 +1,5 @@
 use Rattle.std.proofs.Common.{false, subst, sym, ap, refl, ◌∙◌, IsSome, length}
-use Rattle.lock_views.specs.declared.view.Held.TheVariants.{Alone}
+use Rattle.lock_core.specs.declared.view.Held.TheVariants.{Alone}
 use Rattle.lock_core.specs.declared.pass.Face.{Face}
 use Rattle.lock_core.specs.Pasts.{IsOwnStep, Tail}
 use Rattle.lock_core.proofs.HandLaws.{not-both}

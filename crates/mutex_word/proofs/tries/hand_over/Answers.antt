@@ -1,5 +1,5 @@
 use Rattle.std.proofs.Common.{subst, sym, ap, Option, ℕ}
-use Rattle.lock_views.specs.declared.view.View.{View}
+use Rattle.lock_core.specs.declared.view.View.{View}
 use Rattle.lock_core.specs.Pasts.{FoundAt}
 use Rattle.mutex_word.specs.declared.host.Turn.TheVariants.{Hand as HandOn}
 use Rattle.mutex_word.specs.OwnerTries.{IsHanded, IsMine, Left}

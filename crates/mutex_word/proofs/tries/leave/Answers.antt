@@ -2,7 +2,7 @@ use Rattle.std.proofs.Common.{arith, ap, sym, subst, Option, ℕ, ◌∙◌, len
 use Rattle.lock_core.proofs.Sitting.{sits-on}
 use Rattle.lock_core.specs.Pasts.{Tail}
 use Rattle.lock_core.specs.declared.pass.Face.{Face}
-use Rattle.lock_views.specs.declared.view.Held.TheVariants.{No}
+use Rattle.lock_core.specs.declared.view.Held.TheVariants.{No}
 use Rattle.mutex_word.specs.OwnerTries.{IsMine}
 use Rattle.mutex_word.proofs.Sitting.{sits-released}
 use Rattle.mutex_word.proofs.Owning.{leaves, some-number}

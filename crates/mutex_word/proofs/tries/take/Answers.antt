@@ -2,7 +2,7 @@ use Rattle.std.proofs.Common.{ap, refl, sym, subst, ◌∙◌, IsSome, false, le
 use Rattle.lock_core.specs.Pasts.{unseen, Tail}
 use Rattle.lock_core.proofs.HandLaws.{not-both}
 use Rattle.lock_core.specs.declared.pass.Face.{Face}
-use Rattle.lock_views.specs.declared.view.Held.TheVariants.{Alone}
+use Rattle.lock_core.specs.declared.view.Held.TheVariants.{Alone}
 use Rattle.mutex_word.specs.declared.host.Turn.TheVariants.{Take}
 use Rattle.mutex_word.proofs.Sitting.{sits-saw, sits-took}
 use Rattle.mutex_word.proofs.Owning.{gets, saw-word, some-number}

@@ -1,5 +1,5 @@
 use Rattle.std.proofs.Common.{arith, length, refl, sym}
-use Rattle.lock_views.specs.declared.op.Op.TheVariants.{Load}
+use Rattle.lock_core.specs.declared.op.Op.TheVariants.{Load}
 use Rattle.osq_nodes.specs.Words.{next_at}
 use Rattle.osq_nodes.specs.OsqPlaces.{waits_at}
 use Rattle.osq_nodes.proofs.Owning.{found-next, its-task, moves-by}

@@ -1,5 +1,5 @@
 use Rattle.std.proofs.Common.{arith, length, refl}
-use Rattle.lock_views.specs.declared.op.Op.TheVariants.{Load}
+use Rattle.lock_core.specs.declared.op.Op.TheVariants.{Load}
 use Rattle.osq_nodes.specs.declared.node.Place.TheVariants.{Waiting}
 use Rattle.osq_nodes.specs.Words.{locked_at}
 use Rattle.osq_nodes.specs.OsqSteps.{look_place}

@@ -1,5 +1,5 @@
 use Rattle.std.proofs.Common.{arith, length, refl, suc, sym, ◌≡◌}
-use Rattle.lock_views.specs.declared.op.Op.TheVariants.{Exchange}
+use Rattle.lock_core.specs.declared.op.Op.TheVariants.{Exchange}
 use Rattle.osq_nodes.specs.declared.node.Place.TheVariants.{Out}
 use Rattle.osq_nodes.specs.Words.{code_in, tail_at}
 use Rattle.osq_nodes.specs.OsqSteps.{try_place}

@@ -1,5 +1,5 @@
 use Rattle.osq_nodes.specs.OsqSteps.{try_place}
-use Rattle.lock_views.specs.Ops.{first_of}
+use Rattle.lock_core.specs.Ops.{first_of}
 use Rattle.osq_nodes.specs.declared.node.Place.TheVariants.{Out}
 use Rattle.osq_nodes.proofs.steps.leave_tail.Given as goal
 

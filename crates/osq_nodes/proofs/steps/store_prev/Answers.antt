@@ -1,5 +1,5 @@
 use Rattle.std.proofs.Common.{ap, arith, length, suc, sym, ℕ, ◌≡◌}
-use Rattle.lock_views.specs.declared.op.Op.TheVariants.{Store}
+use Rattle.lock_core.specs.declared.op.Op.TheVariants.{Store}
 use Rattle.osq_nodes.specs.declared.node.Place.TheVariants.{Swapped, Linking}
 use Rattle.osq_nodes.specs.Words.{prev_at}
 use Rattle.osq_nodes.specs.OsqSteps.{linking_of}

@@ -1,5 +1,5 @@
 use Rattle.std.proofs.Common.{◌≡◌, ◌-◌, ◌∙◌, ℕ, suc, length, refl, ap, sym, arith}
-use Rattle.lock_views.specs.declared.op.Op.TheVariants.{Swap}
+use Rattle.lock_core.specs.declared.op.Op.TheVariants.{Swap}
 use Rattle.osq_nodes.specs.Words.{next_at}
 use Rattle.osq_nodes.specs.OsqSteps.{take_place, taking_of, IsCodeOrNone}
 use Rattle.osq_nodes.specs.OsqPlaces.{waits_at}

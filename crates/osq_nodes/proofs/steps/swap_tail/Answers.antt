@@ -1,5 +1,5 @@
 use Rattle.std.proofs.Common.{ap, arith, length, refl, suc, ℕ, ◌≡◌}
-use Rattle.lock_views.specs.declared.op.Op.TheVariants.{Swap}
+use Rattle.lock_core.specs.declared.op.Op.TheVariants.{Swap}
 use Rattle.osq_nodes.specs.declared.node.Place.TheVariants.{Cleared}
 use Rattle.osq_nodes.specs.Words.{tail_at}
 use Rattle.osq_nodes.specs.OsqSteps.{swap_place, IsCodeOrNone}

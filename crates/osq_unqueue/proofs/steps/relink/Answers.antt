@@ -1,5 +1,5 @@
 use Rattle.std.proofs.Common.{◌≡◌, ℕ, suc, length, refl, ap, arith}
-use Rattle.lock_views.specs.declared.op.Op.TheVariants.{Store}
+use Rattle.lock_core.specs.declared.op.Op.TheVariants.{Store}
 use Rattle.osq_nodes.specs.declared.node.Place.TheVariants.{Out, Relinking}
 use Rattle.osq_nodes.specs.Words.{next_at}
 use Rattle.osq_nodes.proofs.Owning.{kept-by, moves-by}

@@ -1,5 +1,5 @@
 use Rattle.std.proofs.Common.{◌≡◌, ◌+◌, ◌-◌, ℕ, length, refl, sym, subst, arith}
-use Rattle.lock_views.specs.declared.op.Op.TheVariants.{Load}
+use Rattle.lock_core.specs.declared.op.Op.TheVariants.{Load}
 use Rattle.osq_nodes.specs.declared.node.Place.TheVariants.{Waiting}
 use Rattle.lock_core.specs.Pasts.{FoundAt}
 use Rattle.osq_nodes.specs.OsqKept.{IsCode}

@@ -1,5 +1,5 @@
 use Rattle.std.proofs.Common.{◌≡◌, ℕ, suc, length, sym, ap, arith}
-use Rattle.lock_views.specs.declared.op.Op.TheVariants.{Store}
+use Rattle.lock_core.specs.declared.op.Op.TheVariants.{Store}
 use Rattle.osq_nodes.specs.declared.node.Place.TheVariants.{Splicing, Relinking}
 use Rattle.osq_nodes.specs.OsqSteps.{relinking_of}
 use Rattle.osq_nodes.specs.Words.{prev_at}

@@ -1,5 +1,5 @@
 use Rattle.std.proofs.Common.{◌≡◌, ◌+◌, suc, length, sym, arith}
-use Rattle.lock_views.specs.declared.op.Op.TheVariants.{Exchange}
+use Rattle.lock_core.specs.declared.op.Op.TheVariants.{Exchange}
 use Rattle.osq_nodes.specs.declared.node.Place.TheVariants.{Waiting, Unlinked}
 use Rattle.osq_nodes.specs.OsqSteps.{try_place, task_at}
 use Rattle.osq_nodes.specs.Words.{next_at}

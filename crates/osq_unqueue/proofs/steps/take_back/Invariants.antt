@@ -1,5 +1,5 @@
 use Rattle.osq_nodes.specs.declared.node.Place.TheVariants.{Unlinked}
-use Rattle.lock_views.specs.Ops.{first_of}
+use Rattle.lock_core.specs.Ops.{first_of}
 use Rattle.osq_nodes.specs.OsqSteps.{try_place, task_at}
 use Rattle.osq_unqueue.proofs.steps.take_back.Given as goal
 

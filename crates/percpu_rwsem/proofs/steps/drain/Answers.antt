@@ -1,7 +1,7 @@
 use Rattle.std.proofs.Common.{◌∙◌, ◌+◌, arith, ap, subst, sym, refl, IsSome, length}
 use Rattle.lock_core.proofs.Sitting.{sits-on}
 use Rattle.lock_core.specs.declared.pass.Face.{Face}
-use Rattle.lock_views.specs.declared.view.Held.TheVariants.{Alone}
+use Rattle.lock_core.specs.declared.view.Held.TheVariants.{Alone}
 use Rattle.lock_core.specs.Pasts.{IsOwnStep, Tail}
 use Rattle.percpu_rwsem.specs.declared.view.Phase.TheVariants.{Blocks}
 use Rattle.percpu_rwsem.proofs.Sitting.{sits-took}

@@ -1,5 +1,5 @@
 use Rattle.std.proofs.Common.{◌≡◌, Some, None}
-use Rattle.lock_views.specs.declared.view.Held.TheVariants.{No}
+use Rattle.lock_core.specs.declared.view.Held.TheVariants.{No}
 use Rattle.plan_runs.proofs.serve.replies_of.Given as goal
 
 abbrev pub invariant-loop-call : goal.invariant-loop-call

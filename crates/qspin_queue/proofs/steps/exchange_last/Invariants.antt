@@ -1,5 +1,5 @@
 use Rattle.qspin_queue.specs.SpinQueueHands.{took_last}
-use Rattle.lock_views.specs.Ops.{first_of}
+use Rattle.lock_core.specs.Ops.{first_of}
 use Rattle.qspin_queue.proofs.steps.exchange_last.Given as goal
 
 abbrev pub ghosts-word_step : goal.ghosts-word_step

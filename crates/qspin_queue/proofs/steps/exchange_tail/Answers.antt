@@ -1,5 +1,5 @@
 use Rattle.std.proofs.Common.{ap, ℕ, ◌<◌, ◌+◌, ◌*◌, ◌/◌, ◌%◌, subst, length}
-use Rattle.lock_views.specs.declared.op.Op.TheVariants.{Exchange}
+use Rattle.lock_core.specs.declared.op.Op.TheVariants.{Exchange}
 use Rattle.lock_core.specs.SpinFrames.{holds_at}
 use Rattle.lock_core.specs.Spins.{word_at}
 use Rattle.qspin_word.specs.Allows.{SpinAllows}

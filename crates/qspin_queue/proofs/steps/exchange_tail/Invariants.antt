@@ -1,7 +1,7 @@
 use Rattle.qspin_queue.specs.SpinQueueHands.{queued}
 use Rattle.std.proofs.Common.{◌<◌, ◌/◌}
 use Rattle.qspin_queue.specs.SpinQueueHandles.{codes}
-use Rattle.lock_views.specs.Ops.{first_of}
+use Rattle.lock_core.specs.Ops.{first_of}
 use Rattle.qspin_queue.proofs.steps.exchange_tail.Given as goal
 
 abbrev pub ghosts-word_step : goal.ghosts-word_step

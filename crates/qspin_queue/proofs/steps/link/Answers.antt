@@ -1,5 +1,5 @@
 use Rattle.std.proofs.Common.{ap, sym, ◌∙◌, ℕ, subst, length}
-use Rattle.lock_views.specs.declared.op.Op.TheVariants.{Store}
+use Rattle.lock_core.specs.declared.op.Op.TheVariants.{Store}
 use Rattle.lock_core.specs.SpinFrames.{holds_at}
 use Rattle.lock_core.specs.LockHands.{frame_at}
 use Rattle.lock_core.specs.Spins.{next_at}

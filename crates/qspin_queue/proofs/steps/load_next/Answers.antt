@@ -1,6 +1,6 @@
 use Rattle.std.proofs.Common.{ap, sym, ◌∙◌, ℕ, ◌<◌, subst, length}
-use Rattle.lock_views.specs.declared.op.Op.TheVariants.{Load}
-use Rattle.lock_views.specs.declared.view.Point.TheVariants.{Front}
+use Rattle.lock_core.specs.declared.op.Op.TheVariants.{Load}
+use Rattle.lock_core.specs.declared.view.Point.TheVariants.{Front}
 use Rattle.lock_core.specs.SpinFrames.{holds_at}
 use Rattle.lock_core.specs.Spins.{next_at}
 use Rattle.qspin_word.specs.Allows.{SpinAllows}

@@ -1,5 +1,5 @@
 use Rattle.qspin_queue.specs.SpinQueueHands.{learnt}
-use Rattle.lock_views.specs.declared.view.Point.TheVariants.{Front}
+use Rattle.lock_core.specs.declared.view.Point.TheVariants.{Front}
 use Rattle.std.proofs.Common.{◌<◌}
 use Rattle.qspin_queue.specs.SpinQueueHandles.{codes}
 use Rattle.qspin_queue.proofs.steps.load_next.Given as goal

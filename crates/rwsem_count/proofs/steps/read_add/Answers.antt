@@ -1,6 +1,6 @@
 use Rattle.std.proofs.Common.{◌∙◌, arith, ap, subst, sym, length}
 use Rattle.lock_core.specs.declared.pass.Face.{Face}
-use Rattle.lock_views.specs.declared.view.Held.TheVariants.{Shared}
+use Rattle.lock_core.specs.declared.view.Held.TheVariants.{Shared}
 use Rattle.lock_core.specs.Pasts.{IsOwnStep, Tail}
 use Rattle.lock_core.proofs.HandLaws.{not-both}
 use Rattle.rwsem_count.specs.declared.view.Bias.TheVariants.{Clear}

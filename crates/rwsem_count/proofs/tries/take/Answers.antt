@@ -1,11 +1,10 @@
 use Rattle.std.proofs.Common.{◌∙◌, arith, ap, subst, sym, length}
 use Rattle.lock_core.specs.declared.pass.Face.{Face}
-use Rattle.lock_views.specs.declared.view.Held.TheVariants.{Shared}
-use Rattle.lock_core.specs.Pasts.{Tail}
+use Rattle.lock_core.specs.declared.view.Held.TheVariants.{Shared}
+use Rattle.lock_core.specs.Pasts.{Tail, unseen}
 use Rattle.rwsem_count.specs.declared.view.Bias.TheVariants.{Clear}
 use Rattle.rwsem_count.proofs.Counting.{reader-gets}
 use Rattle.rwsem_count.proofs.Sitting.{some-number, sits-took}
-use Rattle.lock_core.specs.Pasts.{unseen}
 use Rattle.rwsem_count.proofs.Trying.{saw-word}
 use Rattle.rwsem_count.proofs.Sitting.{sits-saw}
 use Rattle.lock_core.specs.Stores.{HasWord}

@@ -1,6 +1,6 @@
 use Rattle.std.proofs.Common.{◌∙◌, ℕ, ◌+◌, List, drop, sym, refl, ap, subst, IsSome, arith}
 use Rattle.std.proofs.lemmas.List.{drop_more}
-use Rattle.lock_views.specs.declared.view.View.{View}
+use Rattle.lock_core.specs.declared.view.View.{View}
 use Rattle.lock_core.specs.declared.pass.Face.{Face}
 use Rattle.rwsem_wake.specs.declared.view.SemHand.{SemHand}
 use Rattle.rwsem_wake.specs.Grants.{OnlySem, granted, granting_on, still_granting, tail}

@@ -1,5 +1,5 @@
 use Rattle.std.proofs.Common.{◌∙◌, ◌+◌, ◌*◌, sym, ap, arith, refl, length}
-use Rattle.lock_views.specs.declared.op.Op.TheVariants.{Store}
+use Rattle.lock_core.specs.declared.op.Op.TheVariants.{Store}
 use Rattle.lock_core.proofs.RowLaws.{none-some}
 use Rattle.lock_core.proofs.Sitting.{sits-on}
 use Rattle.rwsem_wake.specs.Grants.{sem_part, summing, anything}

@@ -1,5 +1,5 @@
 use Rattle.std.proofs.Common.{◌∙◌, ◌+◌, ◌*◌, sym, ap, arith, get_or, length}
-use Rattle.lock_views.specs.declared.op.Op.TheVariants.{Load}
+use Rattle.lock_core.specs.declared.op.Op.TheVariants.{Load}
 use Rattle.lock_core.proofs.Sitting.{sits-on}
 use Rattle.rwsem_count.proofs.Sitting.{has-number, some-number}
 use Rattle.rwsem_wake.specs.Grants.{sem_part, unmarked, anything}

@@ -1,5 +1,5 @@
 use Rattle.std.proofs.Common.{◌∙◌, ◌≤◌, ℕ, List, get_or, length, sym, refl, ap, subst, arith}
-use Rattle.lock_views.specs.declared.view.SpinHand.{SpinHand}
+use Rattle.lock_core.specs.declared.view.SpinHand.{SpinHand}
 use Rattle.wait_list.specs.declared.view.Change.TheVariants.{Leave}
 use Rattle.wait_list.specs.Lists.{AllowsChange, IsStill}
 use Rattle.wait_list.specs.declared.view.ListHand.{ListHand}

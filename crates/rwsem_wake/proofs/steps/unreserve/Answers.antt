@@ -1,6 +1,6 @@
 use Rattle.std.proofs.Common.{◌∙◌, ◌/◌, ◌%◌, ◌==◌, sym, ap, arith, refl, subst, length}
 use Rattle.word_bits.specs.LockWords.{IsLawfulCount}
-use Rattle.lock_views.specs.declared.op.Op.TheVariants.{Sub}
+use Rattle.lock_core.specs.declared.op.Op.TheVariants.{Sub}
 use Rattle.lock_core.proofs.Sitting.{sits-on}
 use Rattle.rwsem_count.proofs.Sitting.{has-number, some-number}
 use Rattle.rwsem_wake.specs.Grants.{sem_part, unreserved}

@@ -1,7 +1,7 @@
 use Rattle.std.proofs.Common.{◌∙◌, arith, ap, subst, sym, length}
 use Rattle.lock_core.proofs.Sitting.{sits-on}
 use Rattle.lock_core.specs.declared.pass.Face.{Face}
-use Rattle.lock_views.specs.declared.view.Held.TheVariants.{Alone}
+use Rattle.lock_core.specs.declared.view.Held.TheVariants.{Alone}
 use Rattle.lock_core.specs.Pasts.{IsOwnStep, Tail}
 use Rattle.seq_fault.proofs.Sitting.{sits-took, some-number}
 use Rattle.seq_fault.proofs.Having.{has-sequence}

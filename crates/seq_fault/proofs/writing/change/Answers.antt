@@ -4,7 +4,7 @@ use Rattle.std.specs.Prelude.{slice_get}
 use Rattle.word_bits.specs.declared.entry.Entry.{Entry}
 use Rattle.word_bits.specs.Histories.{state_after}
 use Rattle.word_bits.proofs.States.{IsLawful, state_is_state}
-use Rattle.lock_views.specs.declared.view.Hand.{Hand}
+use Rattle.lock_core.specs.declared.view.Hand.{Hand}
 use Rattle.lock_core.specs.Records.{row}
 use Rattle.lock_core.proofs.Recording.{next-is}
 use Rattle.seq_fault.specs.SeqRuled.{V}
@@ -32,7 +32,7 @@ load-requires-clause-sized g c =
     let h = c.args.pass.now.seat.me.0.view.hand in
     let kept : c.call-words.new.pass.seat.me.0.view.hand ≡ h = ap (λ (v : V). v.hand) c.call-words.ensures.kept in
     let lawful = state_is_state o (laws g) k h.log in
-    ap (λ (x : Hand). length x.known) kept ∙ (ap length c.requires.stored ∙ g.met.O.Object.sized (state_after o k h.log) lawful)
+    ap (λ (x : Hand). length x.known) kept ∙ (ap length (g.met.O.ValueObject.exact (state_after o k h.log) h.known c.requires.stored) ∙ g.met.O.ValueObject.sized (state_after o k h.log) lawful)
 
 pub unreachable-requires-in_default-load : goal.unreachable-requires-in_default-load
 unreachable-requires-in_default-load g c =
@@ -43,7 +43,7 @@ unreachable-requires-in_default-load g c =
     let h = c.args.pass.now.seat.me.0.view.hand in
     let kept : c.call-words.new.pass.seat.me.0.view.hand ≡ h = ap (λ (v : V). v.hand) c.call-words.ensures.kept in
     let lawful = state_is_state o (laws g) k h.log in
-    c.in_default-load.ensures.none (state_after o k h.log) lawful (sym (ap (λ (x : Hand). x.known) kept ∙ c.requires.stored))
+    c.in_default-load.ensures.none (state_after o k h.log) lawful (sym (ap (λ (x : Hand). x.known) kept ∙ g.met.O.ValueObject.exact (state_after o k h.log) h.known c.requires.stored))
 
 pub commit-requires-clause-next : goal.commit-requires-clause-next
 commit-requires-clause-next g c =
@@ -64,7 +64,7 @@ commit-requires-clause-next g c =
     let is = sym c.call_of.ensures ∙ c.in-Some-call_of.is in
     let words = ap (get q.words) (sym (subst (λ (e : Entry). slice_get (row k e.task) e.call ≡ Some q.words) here q.planned) ∙ c.call-words.ensures.words) in
     let known = ap (get q.call) (sym q.is ∙ (ap o.call_of words ∙ is)) in
-    let state = g.met.O.Object.apart (g.O.Object.state c.in-Some-load.value) (state_after o k h.log) c.in-Some-load.ensures.state lawful (c.in-Some-load.ensures.found ∙ (ap (λ (x : Hand). x.known) kept ∙ c.requires.stored)) in
+    let state = g.met.O.ValueObject.apart (g.O.Object.state c.in-Some-load.value) (state_after o k h.log) c.in-Some-load.ensures.state lawful (c.in-Some-load.ensures.found ∙ (ap (λ (x : Hand). x.known) kept ∙ g.met.O.ValueObject.exact (state_after o k h.log) h.known c.requires.stored)) in
     let log = c.store.ensures.kept.log ∙ ap (λ (x : Hand). x.log) same in
     let reply = c.apply-reply.ensures.reply ∙ ap (λ s. (o.meaning s call).1) state in
     record {
@@ -73,7 +73,7 @@ commit-requires-clause-next g c =
       planned = subst (λ (e : Entry). slice_get (row k e.task) e.call ≡ Some c.call-words.result) (sym there) c.call-words.ensures.words;
       is = is;
       changes = ap o.reads (sym known) ∙ q.changes;
-      stored = c.store.ensures.known ∙ (ap o.stores (c.apply-reply.ensures.next ∙ ap (λ s. (o.meaning s call).0) state) ∙ ap (λ l. o.stores ((o.meaning (state_after o k l) call).0)) (sym log));
+      stored = g.met.O.ValueObject.represents (o.meaning (state_after o k w.log) call).0 w.known (c.store.ensures.known ∙ (ap o.stores (c.apply-reply.ensures.next ∙ ap (λ s. (o.meaning s call).0) state) ∙ ap (λ l. o.stores ((o.meaning (state_after o k l) call).0)) (sym log)));
       replies = reply ∙ ap (λ l. (o.meaning (state_after o k l) call).1) (sym log);
     }
 
@@ -96,7 +96,7 @@ returns-clause-changed g c =
     let is = sym c.call_of.ensures ∙ c.in-Some-call_of.is in
     let words = ap (get q.words) (sym (subst (λ (e : Entry). slice_get (row k e.task) e.call ≡ Some q.words) here q.planned) ∙ c.call-words.ensures.words) in
     let known = ap (get q.call) (sym q.is ∙ (ap o.call_of words ∙ is)) in
-    let state = g.met.O.Object.apart (g.O.Object.state c.in-Some-load.value) (state_after o k h.log) c.in-Some-load.ensures.state lawful (c.in-Some-load.ensures.found ∙ (ap (λ (x : Hand). x.known) kept ∙ c.requires.stored)) in
+    let state = g.met.O.ValueObject.apart (g.O.Object.state c.in-Some-load.value) (state_after o k h.log) c.in-Some-load.ensures.state lawful (c.in-Some-load.ensures.found ∙ (ap (λ (x : Hand). x.known) kept ∙ g.met.O.ValueObject.exact (state_after o k h.log) h.known c.requires.stored)) in
     let log = c.store.ensures.kept.log ∙ ap (λ (x : Hand). x.log) same in
     let reply = c.apply-reply.ensures.reply ∙ ap (λ s. (o.meaning s call).1) state in
     record {

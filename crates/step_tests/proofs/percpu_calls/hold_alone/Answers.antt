@@ -1,5 +1,6 @@
-use Rattle.std.proofs.Common.{◌∙◌, ap, sym}
+use Rattle.std.proofs.Common.{ap, sym, subst}
 use Rattle.word_bits.specs.Histories.{state_after}
+use Rattle.lock_core.specs.Locking.{IsStored}
 use Rattle.step_tests.proofs.percpu_calls.hold_alone.Goals as goal
 
 pub returns-clause-at : goal.returns-clause-at
@@ -13,4 +14,4 @@ returns-clause-at g c = let at = c.requires.at in let is = c.down_write.ensures.
 }
 
 pub returns-clause-knows : goal.returns-clause-knows
-returns-clause-knows g c = let o = g.O.Object.object in let k = c.args.lock.now.site.table.shared.key in let took = c.down_write.ensures.took.2 in ap (λ v. v.hand.known) took.3 ∙ (took.2.stored ∙ ap (λ l. o.stores (state_after o k l)) (sym (ap (λ v. v.hand.log) took.3)))
+returns-clause-knows g c = let o = g.O.Object.object in let k = c.args.lock.now.site.table.shared.key in let took = c.down_write.ensures.took.2 in subst (λ v. IsStored o k v.hand) (sym took.3) took.2.stored

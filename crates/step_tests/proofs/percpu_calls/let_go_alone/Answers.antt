@@ -1,5 +1,5 @@
 use Rattle.std.proofs.Common.{◌≡◌, ◌∙◌, ap, sym}
-use Rattle.lock_views.specs.declared.view.Hand.{Hand}
+use Rattle.lock_core.specs.declared.view.Hand.{Hand}
 use Rattle.lock_core.specs.Holding.{released}
 use Rattle.percpu_rwsem.specs.PercpuPlays.{unheld, unheld_by}
 use Rattle.step_tests.proofs.percpu_calls.let_go_alone.Goals as goal

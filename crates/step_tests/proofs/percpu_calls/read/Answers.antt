@@ -16,7 +16,7 @@ lawful g = record {
 
 pub load-requires-clause-sized : goal.load-requires-clause-sized
 load-requires-clause-sized g c = let o = g.O.Object.object in let h = c.args.pass.now.pass.seat.me.0.view.hand in let k = c.args.lock.now.site.table.shared.key in
-    ap length c.requires.knows ∙ g.met.O.Object.sized (state_after o k h.log) (state_is_state o (lawful g) k h.log)
+    ap length (g.met.O.ValueObject.exact (state_after o k h.log) h.known c.requires.knows) ∙ g.met.O.ValueObject.sized (state_after o k h.log) (state_is_state o (lawful g) k h.log)
 
 pub load-requires-clause-held : goal.load-requires-clause-held
 load-requires-clause-held g c = λ out. no-shared (sym out ∙ c.requires.at.holds)
@@ -26,7 +26,7 @@ note-requires-clause-may g c = let o = g.O.Object.object in let k = c.args.lock.
     let is = sym c.call_of.ensures ∙ c.in_ok-known.was in
     let call = c.in_ok-known.known in
     let found = c.in_ok-value.ensures in
-    let state = loaded o (lawful g) g.met.O.Object.apart k h (g.O.Object.state c.in_ok-value.value) c.requires.knows found.state found.found in
+    let state = loaded o (lawful g) g.met.O.ValueObject.apart g.met.O.ValueObject.exact k h (g.O.Object.state c.in_ok-value.value) c.requires.knows found.state found.found in
     rw c.load.ensures.hand (may-note o _ k h _ c.apply-reply.result
     (rw c.apply-reply.ensures.reply (g.met.O.Object.replies (g.O.Object.state c.in_ok-value.value) call found.state (g.met.O.Object.called c.args.job.words call is)))
     (record {

@@ -1,5 +1,5 @@
 use Rattle.std.proofs.Common.{◌≡◌, length, take}
-use Rattle.lock_views.specs.declared.view.Held.TheVariants.{Alone}
+use Rattle.lock_core.specs.declared.view.Held.TheVariants.{Alone}
 use Rattle.percpu_rwsem.specs.PercpuHandles.{hand_in, held_in, seen_in, view_of, SitsAt}
 use Rattle.step_tests.proofs.percpu_calls.store.Given as goal
 

@@ -1,7 +1,7 @@
 use Rattle.std.proofs.Common.{arith, ◌∙◌, IsSome, length, ap, refl, sym, subst}
 use Rattle.word_bits.specs.Histories.{state_after}
 use Rattle.word_bits.proofs.States.{IsLawful, state_is_state}
-use Rattle.lock_views.specs.declared.view.Hand.{Hand}
+use Rattle.lock_core.specs.declared.view.Hand.{Hand}
 use Rattle.lock_core.proofs.HandLaws.{no-alone}
 use Rattle.step_tests.proofs.PercpuCalls.{loaded, next-call}
 use Rattle.step_tests.proofs.percpu_calls.write.Given as given
@@ -17,7 +17,7 @@ lawful g = record {
 
 pub load-requires-clause-sized : goal.load-requires-clause-sized
 load-requires-clause-sized g c = let o = g.O.Object.object in let h = c.args.pass.now.pass.seat.me.0.view.hand in let k = c.args.lock.now.site.table.shared.key in
-    ap length c.requires.knows ∙ g.met.O.Object.sized (state_after o k h.log) (state_is_state o (lawful g) k h.log)
+    ap length (g.met.O.ValueObject.exact (state_after o k h.log) h.known c.requires.knows) ∙ g.met.O.ValueObject.sized (state_after o k h.log) (state_is_state o (lawful g) k h.log)
 
 pub load-requires-clause-held : goal.load-requires-clause-held
 load-requires-clause-held g c = λ out. no-alone (sym out ∙ c.requires.at.holds)
@@ -27,7 +27,7 @@ store-requires-clause-held g c = let own = c.requires.at.own.seat in c.load.ensu
 
 pub store-requires-clause-sized : goal.store-requires-clause-sized
 store-requires-clause-sized g c = let o = g.O.Object.object in let h = c.args.pass.now.pass.seat.me.0.view.hand in let k = c.args.lock.now.site.table.shared.key in
-    ap (λ (x : Hand). length x.known) c.load.ensures.hand ∙ (ap length c.requires.knows ∙ g.met.O.Object.sized (state_after o k h.log) (state_is_state o (lawful g) k h.log))
+    ap (λ (x : Hand). length x.known) c.load.ensures.hand ∙ (ap length (g.met.O.ValueObject.exact (state_after o k h.log) h.known c.requires.knows) ∙ g.met.O.ValueObject.sized (state_after o k h.log) (state_is_state o (lawful g) k h.log))
 
 pub commit-requires-clause-numbered : goal.commit-requires-clause-numbered
 commit-requires-clause-numbered g c = let own = c.requires.at.own.seat in subst IsSome (sym (c.store.ensures.task ∙ (ap (λ (x : Hand). x.task) c.load.ensures.hand ∙ (sym own.task ∙ c.requires.at.mine)))) refl
@@ -44,13 +44,13 @@ commit-requires-clause-change g c = let o = g.O.Object.object in let k = c.args.
     let is = sym c.call_of.ensures ∙ c.in_ok-known.was in
     let call = c.in_ok-known.known in
     let found = c.in_ok-value.ensures in
-    let state = loaded o (lawful g) g.met.O.Object.apart k h (g.O.Object.state c.in_ok-value.value) c.requires.knows found.state found.found in
+    let state = loaded o (lawful g) g.met.O.ValueObject.apart g.met.O.ValueObject.exact k h (g.O.Object.state c.in_ok-value.value) c.requires.knows found.state found.found in
     record {
       words = c.args.job.words;
       call = call;
       planned = next-call k c.store.new.pass.pass.seat.me.0.view.hand c.args.job.task c.done-call.result c.args.job.rounds c.args.job.words task done (let fits = c.if-call-job.false in omega (arith, fits)) c.requires.calls;
       is = is;
       changes = sym c.reads.ensures ∙ c.if-reads.false;
-      stored = c.store.ensures.known ∙ (ap o.stores (c.apply-reply.ensures.next ∙ ap (λ s. (o.meaning s call).0) state) ∙ ap (λ l. o.stores (o.meaning (state_after o k l) call).0) (sym log));
+      stored = g.met.O.ValueObject.represents _ _ (c.store.ensures.known ∙ (ap o.stores (c.apply-reply.ensures.next ∙ ap (λ s. (o.meaning s call).0) state) ∙ ap (λ l. o.stores (o.meaning (state_after o k l) call).0) (sym log)));
       replies = c.apply-reply.ensures.reply ∙ (ap (λ s. (o.meaning s call).1) state ∙ ap (λ l. (o.meaning (state_after o k l) call).1) (sym log));
     }

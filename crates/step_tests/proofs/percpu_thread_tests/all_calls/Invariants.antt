@@ -1,5 +1,5 @@
 use Rattle.std.proofs.Common.{◌≡◌, false}
-use Rattle.lock_views.specs.declared.view.Held.TheVariants.{No}
+use Rattle.lock_core.specs.declared.view.Held.TheVariants.{No}
 use Rattle.percpu_rwsem.specs.PercpuHandles.{blocks_in}
 use Rattle.step_tests.specs.TestPercpuPasses.{IsAt}
 use Rattle.step_tests.proofs.percpu_thread_tests.all_calls.Given as goal

@@ -11,7 +11,7 @@ commit-requires-clause-change g c =
     let v = g.L.SiteLock.view c.args.pass.now in
     let m = g.L.SiteLock.view c.change-reply.new.pass in
     let words = o.stores (o.meaning (state_after o k v.hand.log) c.args.next.call).0 in
-    may-commit v m words c.change-reply.ensures.stored o k c.args.next c.change-reply.result c.requires.next c.requires.changes refl c.change-reply.ensures.reply
+    may-commit v m words c.change-reply.ensures.stored o g.met.O.ValueObject.represents k c.args.next c.change-reply.result c.requires.next c.requires.changes refl c.change-reply.ensures.reply
 
 pub returns-clause-kept : goal.returns-clause-kept
 returns-clause-kept g c =

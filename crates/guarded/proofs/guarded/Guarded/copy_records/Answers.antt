@@ -1,6 +1,6 @@
 use Rattle.std.proofs.Common.{◌≡◌, List, ◌+◌, ◌++◌, ◌∷◌, [], length, refl, sym, ap, ◌∙◌, subst, arith, length-append}
 use Rattle.word_bits.specs.Snapshots.{Words}
-use Rattle.lock_views.specs.declared.view.Hand.{Hand}
+use Rattle.lock_core.specs.declared.view.Hand.{Hand}
 use Rattle.lock_core.specs.Plans.{start}
 use Rattle.lock_core.specs.Records.{row}
 use Rattle.lock_core.proofs.Reading.{start-next, start-most}

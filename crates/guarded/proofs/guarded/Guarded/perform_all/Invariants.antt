@@ -1,6 +1,6 @@
 use Rattle.std.proofs.Common.{◌≡◌, List, Some, None}
 use Rattle.word_bits.specs.declared.rec.Rec.{Rec}
-use Rattle.lock_views.specs.declared.view.Held.TheVariants.{No}
+use Rattle.lock_core.specs.declared.view.Held.TheVariants.{No}
 use Rattle.lock_core.specs.Kinds.{unavailable}
 use Rattle.lock_core.specs.Shown.{PastGoesOn}
 use Rattle.guarded.specs.Gathering.{HasDoneSoFar}

@@ -22,7 +22,7 @@ look_again-requires-clause-stored g c =
     let v = g.L.SiteLock.view c.args.pass.now in
     let m = g.L.SiteLock.view c.change-reply.new.pass in
     let kept = c.change-reply.ensures.kept in
-    still-stored g.O.Object.object (lawful g) (g.L.SiteLock.calls_on c.args.self.now.lock) v.hand.log c.args.next.words c.args.next.call c.requires.next.is v.hand m.hand kept.0 c.change-reply.result refl c.requires.next.planned kept.3.0
+    still-stored g.O.Object.object (lawful g) (g.L.SiteLock.calls_on c.args.self.now.lock) v.hand.log c.args.next.words c.args.next.call c.requires.next.is v.hand m.hand kept.0 c.change-reply.result refl c.requires.next.planned kept.3.0 g.met.O.ValueObject.represents
 
 pub look_again-requires-clause-done : goal.look_again-requires-clause-done
 look_again-requires-clause-done g c =

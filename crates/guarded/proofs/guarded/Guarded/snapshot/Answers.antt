@@ -2,9 +2,10 @@ use Rattle.std.proofs.Common.{◌≡◌, arith, List, length, map, sym, ap, ◌�
 use Rattle.word_bits.specs.declared.entry.Entry.{Entry}
 use Rattle.word_bits.specs.EntryWord.{entry_word}
 use Rattle.word_bits.specs.Snapshots.{Words}
+use Rattle.word_bits.specs.Histories.{state_after}
 use Rattle.word_bits.proofs.States.{IsLawful}
-use Rattle.lock_views.specs.declared.view.Hand.{Hand}
-use Rattle.lock_views.specs.declared.view.Told.{Told}
+use Rattle.lock_core.specs.declared.view.Hand.{Hand}
+use Rattle.lock_core.specs.declared.view.Told.{Told}
 use Rattle.lock_core.specs.Chronicles.{Chronicles}
 use Rattle.lock_core.specs.Kinds.{unavailable}
 use Rattle.guarded.proofs.Copied.{held-alone, rows-wider}
@@ -30,7 +31,7 @@ pub copy_state-requires-clause-sized : goal.copy_state-requires-clause-sized
 copy_state-requires-clause-sized g c =
     let u = g.L.SiteLock.view c.alone.new.pass in
     let at = ap {A = Hand} (λ (h : Hand). length h.known) (c.copy_records.ensures.kept.0 ∙ (c.copy_log.ensures.kept.0 ∙ c.recall.ensures.kept.0)) in
-    at ∙ known-sized g.O.Object.object (lawful g) (g.L.SiteLock.calls_on c.args.self.now.lock) u.hand c.alone.ensures.took.stored g.O.Object.WORDS g.met.O.Object.sized
+    at ∙ known-sized g.O.Object.object (lawful g) (g.L.SiteLock.calls_on c.args.self.now.lock) u.hand c.alone.ensures.took.stored g.O.Object.WORDS g.met.O.ValueObject.exact g.met.O.ValueObject.sized
 
 pub returns-clause-on : goal.returns-clause-on
 returns-clause-on g c = record { own = c.release_alone.ensures.on.own; goes_on = λ p t. c.release_alone.ensures.on.goes_on p (c.recall-2.ensures.on.goes_on p (c.copy_state.ensures.on.goes_on p (c.copy_records.ensures.on.goes_on p (c.copy_log.ensures.on.goes_on p (c.recall.ensures.on.goes_on p (c.alone.ensures.on.goes_on p t)))))) }
@@ -60,7 +61,7 @@ returns-clause-copied g c =
       rows = recs.0;
       begins = took.begins;
       log_is = ap {A = Words} (λ w. w.log) state ∙ (ap {A = Words} (λ w. w.log) recs.2 ∙ (ap {A = Words} (λ w. w.log) log ∙ ap {A = Hand} (λ h. map entry_word h.log) c.recall.ensures.kept.0));
-      state_is = stored ∙ took.stored;
+      state_is = stored ∙ g.met.O.ValueObject.exact (state_after o k m.hand.log) m.hand.known took.stored;
       recs_are = ap {A = Words} (λ w. w.recs) state ∙ ap {A = Words} (λ w. w.recs) recs.2;
       first = first.past;
       last = last.past;

@@ -1,5 +1,5 @@
 use Rattle.std.proofs.Common.{sym, ap, subst, ◌∙◌}
-use Rattle.lock_views.specs.declared.view.Hand.{Hand}
+use Rattle.lock_core.specs.declared.view.Hand.{Hand}
 use Rattle.guarded.specs.Splicing.{HaveAreas, areas_in}
 use Rattle.guarded.proofs.Written.{looked, same-known}
 use Rattle.guarded.proofs.splicing.LockedAreasAreaStore.get.Goals as goal

@@ -1,6 +1,6 @@
 -- Room is made, the pieces are written, and then their number is.
 use Rattle.std.proofs.Common.{◌≡◌, ℕ, ◌+◌, ◌-◌, List, length, slice_index, slice_set, sym, ap, subst, ◌∙◌, arith}
-use Rattle.lock_views.specs.declared.view.Hand.{Hand}
+use Rattle.lock_core.specs.declared.view.Hand.{Hand}
 use Rattle.vma_map.specs.Runs.{spliced}
 use Rattle.guarded.specs.CallServing.{AreZeroFrom}
 use Rattle.guarded.specs.Splicing.{MakeRoom, areas_in}

@@ -1,5 +1,5 @@
 use Rattle.std.proofs.Common.{ap, refl, arith}
-use Rattle.lock_views.specs.declared.view.Hand.{Hand}
+use Rattle.lock_core.specs.declared.view.Hand.{Hand}
 use Rattle.lock_bench.proofs.Beginning.{begun-between}
 use Rattle.lock_bench.proofs.crewed.CrewedTimed.rounds.Goals as goal
 

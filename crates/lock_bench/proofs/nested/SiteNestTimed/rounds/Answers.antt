@@ -1,5 +1,5 @@
 use Rattle.std.proofs.Common.{ap, ◌∙◌}
-use Rattle.lock_views.specs.declared.view.Hand.{Hand}
+use Rattle.lock_core.specs.declared.view.Hand.{Hand}
 use Rattle.lock_bench.proofs.nested.SiteNestTimed.rounds.Goals as goal
 
 pub end-requires-clause-rests : goal.end-requires-clause-rests

@@ -12,7 +12,7 @@ pub settle_unheld-requires-clause-may : goal.settle_unheld-requires-clause-may
 settle_unheld-requires-clause-may g c = let k = c.args.self.now.table.shared.key in let m = g.met.R.O.Object in let o = g.R.O.Object.object in let u = g.R.SiteRule.unavailable in let own = c.requires.own in let h = c.args.pass.now.seat.me.0.view.hand in
     let named = sym own.task ∙ c.in-Some.is in let done = sym own.done ∙ sym c.requires.call in let e : Entry = record { task = c.in-Some.task; call = c.args.call } in
     let front = own.front in let near = own.shorter in let limit = c.args.self.now.small.calls in let q = subst (λ (z : Entry). IsSeenReading o k h z c.args.reply) (next-is h c.in-Some.task c.args.call named done) c.requires.next in
-    (q.words, seen-may o u m.starts m.called m.goes_on m.replies k h e c.args.pass.now.face.front c.args.reply q c.requires.recorded named done own.stage own.front (omega (arith, front, near, limit)))
+    (q.words, seen-may o u m.starts m.called m.goes_on m.replies k h e c.args.pass.now.face.front c.args.reply q c.requires.unheld c.requires.recorded named done own.stage own.front (omega (arith, front, near, limit)))
 
 pub overflow_add-pass : goal.overflow_add-pass
 overflow_add-pass g c = let k = c.args.self.now.table.shared.key in let own = c.requires.own in let h = c.args.pass.now.seat.me.0.view.hand in let o = g.R.O.Object.object in

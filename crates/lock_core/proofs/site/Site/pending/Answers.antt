@@ -1,6 +1,6 @@
 use Rattle.std.proofs.Common.{◌≡◌, ◌+◌, ◌*◌, ℕ, refl, sym, ap, ◌∙◌, subst, arith}
-use Rattle.lock_views.specs.declared.view.Hand.{Hand}
-use Rattle.lock_views.specs.declared.view.View.{View}
+use Rattle.lock_core.specs.declared.view.Hand.{Hand}
+use Rattle.lock_core.specs.declared.view.View.{View}
 use Rattle.lock_core.specs.Views.{handed, hearing}
 use Rattle.lock_core.specs.SiteHandles.{SawSignals}
 use Rattle.lock_core.specs.SiteRunLaws.{found-at-step}

@@ -1,5 +1,5 @@
 use Rattle.std.proofs.Common.{◌≡◌, ℕ, ◌+◌, inl, set, sym, ap, subst, arith}
-use Rattle.lock_views.specs.declared.view.Hand.{Hand}
+use Rattle.lock_core.specs.declared.view.Hand.{Hand}
 use Rattle.lock_core.specs.Plans.{start}
 use Rattle.lock_core.specs.Layout.{lay, recs_at}
 use Rattle.lock_core.specs.Records.{row}
@@ -21,5 +21,5 @@ put-requires-clause-holds g c = let same = c.requires.hand in let task = ap (λ 
 pub put-requires-clause-keeps : goal.put-requires-clause-keeps
 put-requires-clause-keeps g c = λ s hs r at. let k = c.args.self.now.table.shared.key in let e = c.args.entry in let v = c.args.pass.now.seat.me.0.view in let n = c.args.self.now.counted in let p = c.place.ensures.place in
     let index : recs_at k + (start k e.task + e.call) ≡ ENTRIES_AT + c.args.self.now.count + c.place.result = omega (arith, n, p) in
-    subst (λ (z : ℕ × ℕ × Hand). SiteKept g.R.O.Object.object g.R.SiteRule.unavailable g.R.O.Object.WORDS k (lay k (set s z.0 z.1)) (set hs c.args.pass.now.seat.id z.2) × SiteStep (v.steps + 1) (lay k s) (lay k (set s z.0 z.1)) v.hand z.2)
+    subst (λ (z : ℕ × ℕ × Hand). SiteKept g.R.O.Object.object g.R.SiteRule.unavailable g.R.O.Object.WORDS k (lay k (set s z.0 z.1)) (set hs c.args.pass.now.seat.id z.2) × SiteStep g.R.SiteRule.reads_unheld (v.steps + 1) (lay k s) (lay k (set s z.0 z.1)) v.hand z.2)
     (λ i. (index i, sym c.pack.ensures i, sym c.requires.hand i)) (records-there g.R.O.Object.object g.R.SiteRule.unavailable g.R.O.Object.WORDS c.args.self.now.table.shared.key s hs c.args.pass.now.seat.id v.hand e c.requires.may.0 c.args.rec g.P.Puts.hand.seen r at c.requires.planned c.requires.may.1)

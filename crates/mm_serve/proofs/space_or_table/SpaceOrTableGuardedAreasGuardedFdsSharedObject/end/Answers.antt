@@ -8,34 +8,16 @@ use Rattle.mm_serve.proofs.space_or_table.SpaceOrTableGuardedAreasGuardedFdsShar
 
 pub returns-clause-done : goal.returns-clause-done
 returns-clause-done g c = elim c.match-self.branch [
-  | in-Space-OfSpace w ↦ rw (w.in-Space-OfSpace.is-0, w.pass-is) (done-of space g.A.SleepLock.kind semaphore g.met.A.SpaceLock.counts (g.A.SiteLock.calls_on w.in-Space-OfSpace.site.lock) (g.A.SiteLock.view w.end.new.pass).hand c.args.task w.end.ensures.done)
-  | in-Table-OfTable w ↦ rw (w.in-Table-OfTable.is-0, w.pass-is) (done-of table g.T.SleepLock.kind mutex g.met.T.TableLock.owned (g.T.SiteLock.calls_on w.in-Table-OfTable.site.lock) (g.T.SiteLock.view w.end-in-Table-OfTable.new.pass).hand c.args.task w.end-in-Table-OfTable.ensures.done)
+  | in-Space-OfSpace w ↦ rw (w.in-Space-OfSpace.is-0, w.pass-is) (done-of space g.A.SleepLock.kind semaphore g.met.A.CountLock.counts (g.A.SiteLock.calls_on w.in-Space-OfSpace.site.lock) (g.A.SiteLock.view w.end.new.pass).hand c.args.task w.end.ensures.done)
+  | in-Table-OfTable w ↦ rw (w.in-Table-OfTable.is-0, w.pass-is) (done-of table g.T.SleepLock.kind mutex g.met.T.OwnerLock.owned (g.T.SiteLock.calls_on w.in-Table-OfTable.site.lock) (g.T.SiteLock.view w.end-in-Table-OfTable.new.pass).hand c.args.task w.end-in-Table-OfTable.ensures.done)
 ]
 
 pub returns-clause-queue : goal.returns-clause-queue
 returns-clause-queue g c = elim c.match-self.branch [
   | in-Space-OfSpace w ↦ rw (w.in-Space-OfSpace.is-0, w.pass-is) (
-      let told = w.end.ensures.queue in let q = told.pass in record {
-        pass = OfSpace q;
-        looked = record {
-          own = told.looked.own;
-          serving = told.looked.serving;
-          all = told.looked.all;
-          queue = g.met.A.SpaceLock.has_queue (g.A.SiteLock.calls_on w.in-Space-OfSpace.site.lock) (g.A.SiteLock.view q) (g.A.SleepLock.spun q) told.looked.queue;
-        };
-        goes_on = told.goes_on;
-      }
+      let told = w.end.ensures.queue in record { pass = OfSpace told.pass; looked = told.looked; goes_on = told.goes_on }
       )
   | in-Table-OfTable w ↦ rw (w.in-Table-OfTable.is-0, w.pass-is) (
-      let told = w.end-in-Table-OfTable.ensures.queue in let q = told.pass in record {
-        pass = OfTable q;
-        looked = record {
-          own = told.looked.own;
-          serving = told.looked.serving;
-          all = told.looked.all;
-          queue = g.met.T.TableLock.has_queue (g.T.SiteLock.calls_on w.in-Table-OfTable.site.lock) (g.T.SiteLock.view q) (g.T.SleepLock.spun q) told.looked.queue;
-        };
-        goes_on = told.goes_on;
-      }
+      let told = w.end-in-Table-OfTable.ensures.queue in record { pass = OfTable told.pass; looked = told.looked; goes_on = told.goes_on }
       )
 ]

@@ -3,8 +3,6 @@ use Rattle.vma_map.specs.Spaces.{space}
 use Rattle.fd_table.specs.Tables.{table}
 use Rattle.lock_core.specs.Pasts.{GoesOn}
 use Rattle.lock_core.specs.Shown.{Shown}
-use Rattle.sleep_lock.specs.MutexLocks.{KnowsMutex}
-use Rattle.sleep_lock.specs.RwSemLocks.{KnowsRwSem}
 use Rattle.sleep_lock.specs.LockMembers.{members}
 use Rattle.mm_serve.specs.MachinePasts.{KnowsPast}
 use Rattle.mm_serve.proofs.space_or_table.SpaceOrTableGuardedAreasGuardedFdsSharedObject.recall.Goals.{in-Space-OfSpace, in-Table-OfTable}
@@ -25,31 +23,33 @@ returns-clause-queue g c = elim c.match-self.branch [
 pub returns-clause-past : goal.returns-clause-past
 returns-clause-past g c = elim c.match-self.branch [
   | in-Space-OfSpace w ↦ rw (w.in-Space-OfSpace.is-0, w.pass-is) (
-      let l = members g.A.SiteLock.calls_on g.A.SiteLock.view g.A.SiteLock.sits g.A.SleepLock.spun g.A.SleepLock.kind g.A.SleepLock.word_at g.A.SleepLock.opened g.A.SleepLock.waits in
+      let l = members g.A.SiteLock.calls_on g.A.SiteLock.view g.A.SiteLock.sits g.A.SleepLock.spun g.A.SleepLock.kind g.A.SleepLock.word_at g.A.SleepLock.opened g.A.SleepLock.waits g.A.SleepLock.tells g.A.SleepLock.tells_queue in
       let k = l.calls_on w.in-Space-OfSpace.site.lock in (
-        subst (λ (v : Shown). KnowsPast space l.kind 257 l.word_at l.waits (KnowsRwSem space 257) l.opened k v) (sym w.recall_queue.ensures.kept) (record {
+        subst (λ (v : Shown). KnowsPast space l.kind 257 l.word_at l.waits l.tells l.opened k v) (sym w.recall_queue.ensures.kept) (record {
           last = w.recall.ensures.last;
           new = w.recall.ensures.new;
           begins = w.recall.ensures.begins;
           always = w.recall.ensures.always;
           moves = w.recall.ensures.moves;
-          told = g.met.A.SpaceLock.is_semaphore k (l.view w.recall.new.pass) w.recall.ensures.told;
+          linear = w.recall.ensures.linear;
+          told = w.recall.ensures.told;
         }),
-        g.met.A.SpaceLock.has_queue k (l.view w.recall_queue.new.pass) (l.spun w.recall_queue.new.pass) w.recall_queue.ensures.told,
+        w.recall_queue.ensures.told,
       )
       )
   | in-Table-OfTable w ↦ rw (w.in-Table-OfTable.is-0, w.pass-is) (
-      let l = members g.T.SiteLock.calls_on g.T.SiteLock.view g.T.SiteLock.sits g.T.SleepLock.spun g.T.SleepLock.kind g.T.SleepLock.word_at g.T.SleepLock.opened g.T.SleepLock.waits in
+      let l = members g.T.SiteLock.calls_on g.T.SiteLock.view g.T.SiteLock.sits g.T.SleepLock.spun g.T.SleepLock.kind g.T.SleepLock.word_at g.T.SleepLock.opened g.T.SleepLock.waits g.T.SleepLock.tells g.T.SleepLock.tells_queue in
       let k = l.calls_on w.in-Table-OfTable.site.lock in (
-        subst (λ (v : Shown). KnowsPast table l.kind 64 l.word_at l.waits (KnowsMutex table 64) l.opened k v) (sym w.recall_queue-in-Table-OfTable.ensures.kept) (record {
+        subst (λ (v : Shown). KnowsPast table l.kind 64 l.word_at l.waits l.tells l.opened k v) (sym w.recall_queue-in-Table-OfTable.ensures.kept) (record {
           last = w.recall-in-Table-OfTable.ensures.last;
           new = w.recall-in-Table-OfTable.ensures.new;
           begins = w.recall-in-Table-OfTable.ensures.begins;
           always = w.recall-in-Table-OfTable.ensures.always;
           moves = w.recall-in-Table-OfTable.ensures.moves;
-          told = g.met.T.TableLock.is_mutex k (l.view w.recall-in-Table-OfTable.new.pass) w.recall-in-Table-OfTable.ensures.told;
+          linear = w.recall-in-Table-OfTable.ensures.linear;
+          told = w.recall-in-Table-OfTable.ensures.told;
         }),
-        g.met.T.TableLock.has_queue k (l.view w.recall_queue-in-Table-OfTable.new.pass) (l.spun w.recall_queue-in-Table-OfTable.new.pass) w.recall_queue-in-Table-OfTable.ensures.told,
+        w.recall_queue-in-Table-OfTable.ensures.told,
       )
       )
 ]

@@ -1,6 +1,6 @@
 use Rattle.std.proofs.Common.{◌≡◌, arith, ap, refl, subst, sym, ◌∙◌, ◌+◌, ℕ, Bool}
 use Rattle.std.specs.Prelude.{Ok}
-use Rattle.lock_views.specs.declared.how.Interrupted.{Interrupted}
+use Rattle.lock_core.specs.declared.how.Interrupted.{Interrupted}
 use Rattle.lock_core.specs.Kinds.{mutex}
 use Rattle.lock_core.specs.Locking.{Interrupts}
 use Rattle.osq_nodes.specs.OsqHandles.{fronts_in, swaps_in}
@@ -9,8 +9,8 @@ use Rattle.mutex_slow.specs.MutexHandles.{shown_of}
 use Rattle.cpu_task.specs.CpuCounting.{SleepsInTurns}
 use Rattle.mutex_slow.specs.MutexPlaces.{seen_of}
 use Rattle.lock_core.proofs.Within.{err-map, interrupts-fronts, tallies-answer, tried-fronts, tried-interrupts, tried-then}
-use Rattle.lock_views.specs.declared.how.How.{How}
-use Rattle.lock_views.specs.declared.how.How.TheVariants.{Spun}
+use Rattle.lock_core.specs.declared.how.How.{How}
+use Rattle.lock_core.specs.declared.how.How.TheVariants.{Spun}
 use Rattle.mutex_slow.specs.MutexPlaces.{dozes_of, CountsBy, CountsInLine, GotInLine, TakesOpen}
 use Rattle.mutex_slow.proofs.Opening.{counts-in-line, dozes-none, dozes-within, ok-both, ok-map, opens-within, rises-on}
 use Rattle.mutex_slow.proofs.calls.Mutex.lock_common.Goals as goal

@@ -67,3 +67,6 @@ pub returns-clause-wait_moves : goal.returns-clause-wait_moves
 returns-clause-wait_moves g c = let k = c.args.self.now.site.table.shared.key in let o = g.O.Object.object in let n = g.O.Object.WORDS in
     each-move standing (Kept o n k) (MutexMoves k) 1 (length k) wait_lock_at (λ id ws us vs vs' m. m.spin)
     (λ id ws us vs vs' _ m. counts-spin id (owner_in ws) (site k ws) (site k us) vs vs' m.site) (newest k) _ c.recall.ensures.run
+
+pub returns-clause-linear : goal.returns-clause-linear
+returns-clause-linear g c = c.recall.ensures.linear refl

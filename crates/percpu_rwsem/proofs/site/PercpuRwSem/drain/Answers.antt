@@ -1,6 +1,6 @@
 use Rattle.std.proofs.Common.{rules, ◌≡◌, ◌≢◌, ◌∙◌, ◌<◌, ◌+◌, ℕ, length, ap, sym, refl, subst, arith}
 use Rattle.std.proofs.lemmas.Option.{same_Some}
-use Rattle.lock_views.specs.declared.view.Held.TheVariants.{Alone}
+use Rattle.lock_core.specs.declared.view.Held.TheVariants.{Alone}
 use Rattle.lock_core.specs.Pasts.{FoundAt}
 use Rattle.percpu_rwsem.specs.declared.view.Phase.TheVariants.{Blocks}
 use Rattle.percpu_rwsem.specs.PercpuHandles.{FindsZeros}

@@ -1,3 +1,4 @@
+use Rattle.std.proofs.Common.{refl}
 use Rattle.lock_core.specs.SiteRunLaws.{ran-each}
 use Rattle.percpu_rwsem.specs.PercpuRuled.{PercpuKept, PercpuMoves, kept_phase, newest}
 use Rattle.percpu_rwsem.specs.PercpuStated.{IsPercpuSiteThen}
@@ -10,3 +11,6 @@ returns-clause-always g c = let k = c.args.self.now.site.table.shared.key in let
 
 pub returns-clause-moves : goal.returns-clause-moves
 returns-clause-moves g c = percpu-steps g.O.Object.object g.O.Object.WORDS c.args.self.now.site.table.shared.key (newest c.args.self.now.site.table.shared.key) _ c.recall.ensures.run
+
+pub returns-clause-linear : goal.returns-clause-linear
+returns-clause-linear g c = c.recall.ensures.linear refl

@@ -1,5 +1,5 @@
 use Rattle.std.proofs.Common.{◌≡◌, ◌≤◌, ℕ, false}
-use Rattle.lock_views.specs.declared.view.Held.TheVariants.{No}
+use Rattle.lock_core.specs.declared.view.Held.TheVariants.{No}
 use Rattle.lock_core.specs.Pasts.{GoesOn}
 use Rattle.percpu_rwsem.specs.declared.view.Phase.TheVariants.{Idle}
 use Rattle.percpu_rwsem.specs.PercpuHandles.{SitsAt, SleepsBehind, blocks_in}

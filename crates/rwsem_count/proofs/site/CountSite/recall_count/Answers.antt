@@ -1,3 +1,4 @@
+use Rattle.std.proofs.Common.{refl}
 use Rattle.lock_core.specs.Pasts.{Moves}
 use Rattle.lock_core.specs.SiteRunLaws.{ran-each, ran-so}
 use Rattle.lock_core.specs.SiteStated.{IsSiteMove}
@@ -13,3 +14,6 @@ returns-clause-always g c = let k = c.args.self.now.site.table.shared.key in let
 pub returns-clause-moves : goal.returns-clause-moves
 returns-clause-moves g c = let k = c.args.self.now.site.table.shared.key in let o = g.O.Object.object in let n = g.O.Object.WORDS in
     ran-so kept_bias (newest k) (Moves (CountRuleKept o n k) (CountMoves k)) (IsSiteMove k count_at) (λ x y m. (m.0, m.3, m.4)) _ c.recall.ensures.run
+
+pub returns-clause-linear : goal.returns-clause-linear
+returns-clause-linear g c = c.recall.ensures.linear refl

@@ -1,5 +1,5 @@
 use Rattle.osq_nodes.specs.OsqHandles.{fronts_in, swaps_in}
-use Rattle.rwsem_paths.proofs.Showing.{writer-misses}
+use Rattle.rwsem_slow.proofs.Showing.{writer-misses}
 use Rattle.rwsem_slow.proofs.calls.RwSem.down_write_trylock.Goals as goal
 
 pub returns-clause-missed : goal.returns-clause-missed

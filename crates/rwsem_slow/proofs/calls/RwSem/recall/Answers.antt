@@ -12,13 +12,13 @@ use Rattle.lock_core.proofs.Showing.{latest-shown}
 use Rattle.osq_nodes.specs.OsqHandles.{fronts_in}
 use Rattle.qspin_word.proofs.Turning.{numbers}
 use Rattle.qspin_queue.proofs.Recalling.{each-lock, each-move}
-use Rattle.sem_duty.specs.declared.view.SemWake.{SemWake}
+use Rattle.rwsem_wake.specs.declared.duty.SemWake.{SemWake}
 use Rattle.rwsem_wake.specs.declared.view.SemHand.{SemHand}
 use Rattle.rwsem_wake.specs.SemParts.{apart_hand}
 use Rattle.rwsem_wake.specs.RwSemPlaces.{line_of}
 use Rattle.rwsem_wake.specs.RwSemViews.{IsDone, V, count_at}
-use Rattle.rwsem_rule.specs.RwSems.{Kept, RwSemMoves, standing, wait_lock_at}
-use Rattle.rwsem_rule.specs.RwSemLaws.{sem-site, sem-spin}
+use Rattle.rwsem_slow.specs.RwSems.{Kept, RwSemMoves, standing, wait_lock_at}
+use Rattle.rwsem_slow.specs.RwSemLaws.{sem-site, sem-spin}
 use Rattle.rwsem_slow.specs.RwSemHandles.{newest}
 use Rattle.rwsem_slow.specs.RwSemStated.{IsRwSemThen, stance, waits_on}
 use Rattle.rwsem_slow.proofs.Stating.{sem-then}
@@ -70,4 +70,7 @@ returns-clause-wait_lock g c = let k = c.args.self.now.site.table.shared.key in 
 
 pub returns-clause-wait_moves : goal.returns-clause-wait_moves
 returns-clause-wait_moves g c = let k = c.args.self.now.site.table.shared.key in let o = g.O.Object.object in let n = g.O.Object.WORDS in
-    each-move standing (Kept o n k) (RwSemMoves k) 1 (length k) wait_lock_at (λ id ws us vs vs' m. m.spin) (λ id ws us vs vs' h m. let s = m.site in (s.before, s.after, s.at, s.at', s.moved.spin)) (newest k) _ c.recall.ensures.run
+    each-move standing (Kept o n k) (RwSemMoves k) 1 (length k) wait_lock_at (λ id ws us vs vs' m. m.spin) (λ id ws us vs vs' h m. let s = m.site in (s.before, s.after, s.at, s.at', s.moved.counts, s.moved.spin)) (newest k) _ c.recall.ensures.run
+
+pub returns-clause-linear : goal.returns-clause-linear
+returns-clause-linear g c = c.recall.ensures.linear refl

@@ -3,11 +3,11 @@ use Rattle.lock_core.proofs.Within.{sees-within}
 use Rattle.rwsem_slow.specs.RwSemHandles.{shown_of}
 use Rattle.rwsem_wake.specs.RwSemPlaces.{seen_of}
 use Rattle.rwsem_wake.specs.RwSemViews.{V}
-use Rattle.rwsem_paths.proofs.Counting.{answers-rise}
-use Rattle.lock_views.specs.declared.how.How.TheVariants.{Spun}
-use Rattle.lock_views.specs.declared.view.Held.TheVariants.{Alone}
-use Rattle.rwsem_paths.specs.RwSemOpening.{IsOpen}
-use Rattle.rwsem_paths.proofs.Opening.{takes-within}
+use Rattle.rwsem_slow.proofs.Counting.{answers-rise}
+use Rattle.lock_core.specs.declared.how.How.TheVariants.{Spun}
+use Rattle.lock_core.specs.declared.view.Held.TheVariants.{Alone}
+use Rattle.rwsem_slow.specs.RwSemOpening.{IsOpen}
+use Rattle.rwsem_slow.proofs.Opening.{takes-within}
 use Rattle.rwsem_slow.proofs.calls.RwSem.spin.Goals as goal
 
 pub returns-then-need_resched-clause-saw : goal.returns-then-need_resched-clause-saw

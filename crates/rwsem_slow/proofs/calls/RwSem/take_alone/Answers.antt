@@ -1,17 +1,17 @@
 use Rattle.std.proofs.Common.{◌≡◌, ◌∙◌, ℕ, false, refl, sym, ap, subst, arith, rules}
 use Rattle.std.specs.Prelude.{Ok}
-use Rattle.lock_views.specs.declared.tally.Tally.{Tally}
-use Rattle.osq_unqueue.specs.Rising.{Rises}
+use Rattle.lock_core.specs.declared.tally.Tally.{Tally}
+use Rattle.cpu_task.specs.CpuCounting.{Rises}
 use Rattle.lock_core.proofs.Within.{err-all, tallies-answer, tried-then}
 use Rattle.osq_nodes.specs.OsqHandles.{fronts_in, swaps_in}
 use Rattle.rwsem_slow.specs.RwSemHandles.{shown_of}
 use Rattle.rwsem_wake.specs.RwSemViews.{V}
-use Rattle.rwsem_paths.proofs.Counting.{dozes-none, err-turns, left-counts, ok-turns, slept-counts}
-use Rattle.rwsem_paths.proofs.Showing.{first-sees, first-tried, spun-sees, waits-quit}
-use Rattle.lock_views.specs.declared.how.How.TheVariants.{Fast, Spun}
-use Rattle.lock_views.specs.declared.view.Held.TheVariants.{Alone}
-use Rattle.rwsem_paths.specs.RwSemOpening.{IsOpen}
-use Rattle.rwsem_paths.proofs.Opening.{slept-takes, takes-within, took-since}
+use Rattle.rwsem_slow.proofs.Counting.{dozes-none, err-turns, left-counts, ok-turns, slept-counts}
+use Rattle.rwsem_slow.proofs.Showing.{first-sees, first-tried, spun-sees, waits-quit}
+use Rattle.lock_core.specs.declared.how.How.TheVariants.{Fast, Spun}
+use Rattle.lock_core.specs.declared.view.Held.TheVariants.{Alone}
+use Rattle.rwsem_slow.specs.RwSemOpening.{IsOpen}
+use Rattle.rwsem_slow.proofs.Opening.{slept-takes, takes-within, took-since}
 use Rattle.rwsem_slow.proofs.calls.RwSem.take_alone.Goals as goal
 
 pub returns-clause-interrupted : goal.returns-clause-interrupted

@@ -1,11 +1,11 @@
 use Rattle.rwsem_slow.specs.RwSemHandles.{shown_of}
-use Rattle.rwsem_paths.proofs.Showing.{keeps-looks}
+use Rattle.rwsem_slow.proofs.Showing.{keeps-looks}
 use Rattle.std.proofs.Common.{◌∙◌, refl, ap, arith}
-use Rattle.lock_views.specs.declared.tally.Tally.{Tally}
-use Rattle.lock_views.specs.declared.view.Held.TheVariants.{Alone}
-use Rattle.rwsem_paths.specs.RwSemOpening.{IsOpen}
-use Rattle.rwsem_paths.proofs.Counting.{counts-behind}
-use Rattle.rwsem_paths.proofs.Opening.{takes-within}
+use Rattle.lock_core.specs.declared.tally.Tally.{Tally}
+use Rattle.lock_core.specs.declared.view.Held.TheVariants.{Alone}
+use Rattle.rwsem_slow.specs.RwSemOpening.{IsOpen}
+use Rattle.rwsem_slow.proofs.Counting.{counts-behind}
+use Rattle.rwsem_slow.proofs.Opening.{takes-within}
 use Rattle.rwsem_slow.proofs.calls.RwSem.write_common.Goals as goal
 
 pub returns-in-Ok-clause-line : goal.returns-in-Ok-clause-line

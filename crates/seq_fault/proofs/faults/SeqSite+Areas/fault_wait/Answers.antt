@@ -1,7 +1,7 @@
 -- Before each try the pass knows what it knew before the first.
 use Rattle.std.proofs.Common.{◌∙◌, IsSome, ap, arith, refl, subst, sym}
 use Rattle.lock_core.specs.declared.pass.Face.{Face}
-use Rattle.lock_views.specs.declared.view.Hand.{Hand}
+use Rattle.lock_core.specs.declared.view.Hand.{Hand}
 use Rattle.seq_fault.specs.SeqRuled.{V}
 use Rattle.seq_fault.specs.SeqSteps.{HasNextFault}
 use Rattle.seq_fault.proofs.Faulting.{one-word-since}

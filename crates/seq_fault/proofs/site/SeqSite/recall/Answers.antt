@@ -1,8 +1,9 @@
 -- What the rule says of each moment and of each step.
+use Rattle.std.proofs.Common.{true}
 use Rattle.lock_core.specs.Pasts.{Moves}
-use Rattle.lock_core.specs.LockedLaws.{ran-steps}
+use Rattle.lock_core.specs.LockedLaws.{ran-steps-where}
 use Rattle.lock_core.specs.SiteRunLaws.{ran-each, ran-so}
-use Rattle.lock_core.specs.SiteStated.{IsSiteMove}
+use Rattle.lock_core.specs.SiteStated.{IsSiteMoveWhere}
 use Rattle.seq_fault.specs.SeqRuled.{SeqKept, SeqMoves, newest, seq_at, unmarked}
 use Rattle.seq_fault.specs.SeqStated.{IsSeqSiteThen}
 use Rattle.seq_fault.proofs.Stating.{rule-states, counts-enters, stays-at-one-word}
@@ -20,4 +21,4 @@ returns-clause-stays g c = let k = c.args.self.now.site.table.shared.key in stay
 
 pub returns-clause-moves : goal.returns-clause-moves
 returns-clause-moves g c = let k = c.args.self.now.site.table.shared.key in let o = g.O.Object.object in let n = g.O.Object.WORDS in
-    ran-steps unmarked k seq_at (newest k) _ (ran-so unmarked (newest k) (Moves (SeqKept o n k) (SeqMoves k)) (IsSiteMove k seq_at) (λ x y m. (m.0, m.3.0, m.4)) _ c.recall.ensures.run)
+    ran-steps-where unmarked k seq_at true (newest k) _ (ran-so unmarked (newest k) (Moves (SeqKept o n k) (SeqMoves k)) (IsSiteMoveWhere true k seq_at) (λ x y m. (m.0, m.3.0, m.4)) _ c.recall.ensures.run)

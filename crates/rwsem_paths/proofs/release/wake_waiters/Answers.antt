@@ -1,5 +1,0 @@
-use Rattle.std.proofs.Common.{inl, refl}
-use Rattle.rwsem_paths.proofs.release.wake_waiters.Goals as goal
-
-pub lock-requires-clause-told : goal.lock-requires-clause-told
-lock-requires-clause-told g c = inl refl

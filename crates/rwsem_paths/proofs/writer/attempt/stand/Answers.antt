@@ -1,4 +1,0 @@
-use Rattle.rwsem_paths.proofs.writer.attempt.stand.Goals as goal
-
-pub returns-clause-goes_on : goal.returns-clause-goes_on
-returns-clause-goes_on g c = λ p t. c.is_alone-alone.ensures.goes_on p (c.look_listed-count.ensures.goes_on p (c.first-first.ensures.goes_on p t))

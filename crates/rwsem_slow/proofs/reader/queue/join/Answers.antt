@@ -1,0 +1,18 @@
+use Rattle.std.proofs.Common.{◌∙◌, false, refl, sym}
+use Rattle.rwsem_slow.proofs.ReaderSteps.{joins-bias, joins-reader}
+use Rattle.lock_core.proofs.Sitting.{its-number}
+use Rattle.rwsem_slow.proofs.reader.queue.join.Goals as goal
+
+pub arm-requires-clause-task : goal.arm-requires-clause-task
+arm-requires-clause-task g c = (c.requires.own.planned c.in-Some.task (sym c.task.ensures ∙ c.in-Some.is)).0
+
+pub append-requires-clause-task : goal.append-requires-clause-task
+append-requires-clause-task g c = (c.requires.own.planned c.in-Some.task (sym c.task.ensures ∙ c.in-Some.is)).0
+
+pub take_back-requires-clause-transit : goal.take_back-requires-clause-transit
+take_back-requires-clause-transit g c = joins-bias c.args.pass.now.seat.me.0.view c.arm.new.pass.seat.me.0.view c.append.new.pass.seat.me.0.view c.append.new.pass.seat.me.0.view (record { task = c.in-Some.task; writer = false }) refl
+    (its-number c.args.site.now.table.shared.key c.args.site.now.table.shared.table_id c.args.pass.now.seat.table_id c.args.pass.now.seat.me c.args.pass.now.face c.args.site.now.small c.requires.own c.in-Some.task (sym c.task.ensures ∙ c.in-Some.is)) c.requires.transit c.arm.ensures.kept c.append.ensures.kept
+
+pub returns-clause-came : goal.returns-clause-came
+returns-clause-came g c = joins-reader c.args.pass.now.seat.me.0.view c.arm.new.pass.seat.me.0.view c.append.new.pass.seat.me.0.view c.take_back.new.pass.seat.me.0.view (record { task = c.in-Some.task; writer = false }) refl
+    (its-number c.args.site.now.table.shared.key c.args.site.now.table.shared.table_id c.args.pass.now.seat.table_id c.args.pass.now.seat.me c.args.pass.now.face c.args.site.now.small c.requires.own c.in-Some.task (sym c.task.ensures ∙ c.in-Some.is)) c.requires.transit c.arm.ensures.kept c.append.ensures.kept c.requires.locked c.append.ensures.later c.take_back.result c.take_back.ensures.kept

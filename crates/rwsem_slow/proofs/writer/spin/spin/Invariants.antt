@@ -1,0 +1,13 @@
+use Rattle.std.proofs.Common.{◌≡◌, IsSome}
+use Rattle.lock_core.specs.declared.view.Held.TheVariants.{No}
+use Rattle.lock_core.specs.Locking.{OnlyTried}
+use Rattle.rwsem_wake.specs.RwSemPlaces.{seen_of, MovesOn, IsOutside}
+use Rattle.rwsem_slow.specs.Spinning.{StandsSame}
+use Rattle.rwsem_slow.proofs.writer.spin.spin.Given as goal
+
+abbrev pub invariant-loop : goal.invariant-loop
+invariant-loop g l = let v = l.fn.pass.seat.me.0.view in let u = l.pass.seat.me.0.view in
+    (goal.iterator-loop g).can_next l.iterator' × (goal.iterator-loop g).is_finite l.iterator'
+    × MovesOn l.site l.fn.pass l.pass × IsSome l.pass.face.task × (l.pass.face.held ≡ No)
+    × IsOutside u × StandsSame v u × OnlyTried (seen_of l.fn.pass) (seen_of l.pass)
+    × (g.C.Cpu.sleeps l.cpu ≡ g.C.Cpu.sleeps l.fn.cpu) × (g.C.Cpu.rescheds l.cpu ≡ g.C.Cpu.rescheds l.fn.cpu)

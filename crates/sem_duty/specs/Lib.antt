@@ -1,2 +1,0 @@
-pub mod SemDuties
-pub mod SemDutyLaws
