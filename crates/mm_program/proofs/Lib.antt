@@ -2,5 +2,4 @@ pub mod CommandLines
 pub mod Inputs
 pub mod Services
 pub mod Weaker
-pub mod Unnamed
 pub mod Telling

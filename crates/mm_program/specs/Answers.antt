@@ -1,12 +1,11 @@
 -- What the program answers, and what it has written and keeps then.
 use Rattle.std.specs.Prelude.{◌≡◌, ◌≤◌, ℕ, Bool, List, length, codes, Option, Some, None, IfSome, Ok, ◌⊎◌}
 use Rattle.std.specs.Io.KnownBytes.{Appends, Consumes, Keeps}
-use Rattle.word_bits.specs.Snapshots.{Words}
 use Rattle.byte_streams.specs.Causes.{Fronts, Rose, one_more}
 use Rattle.task_script.specs.Scripts.{Listing}
 use Rattle.task_script.specs.Generated.{generated}
 use Rattle.task_script.specs.Grammar.{script_of}
-use Rattle.mm_report.specs.Results.{AreLegal, Told}
+use Rattle.mm_report.specs.Results.{Told}
 use Rattle.mm_report.specs.Reports.{report_of}
 use Rattle.mm_program.specs.declared.options.Options.{Options}
 use Rattle.mm_program.specs.declared.status.Status.{Status}
@@ -20,10 +19,6 @@ Service M = Listing → List Told → M → Type 0
 -- no machine is there
 abbrev pub NoService : Service (Unit {0})
 NoService s told m = ⊥
-
--- what is told are legal histories of the script, told by some words
-abbrev pub TellsLegally : Service (Unit {0})
-TellsLegally script told m = (words : List Words) × AreLegal script words told
 
 module _ {M : Type 0} (Serves : Service M) (kept : Option M) where
   -- the machine that ran the script is kept, and of the text or summary of its results this holds
@@ -100,13 +95,6 @@ module _ {S K : Type 0} (left : S → Option (List ℕ)) (reads : S → ℕ) (wr
 
   abbrev pub CompletesTo : {M : Type 0} → Service M → (kept : Option M) → Option Options → Status → Type 0
   CompletesTo Serves kept said status = Completes Serves kept said (left source) (Rose (reads source) (reads read)) (Rose (writes sink) (writes wrote)) (written sink) (written wrote) status
-
-  -- the same of some machine, of which no more is said than that what it tells are legal histories
-  abbrev pub AnswersLegally : (calls_for : List ℕ → Request) → Status → Type 0
-  AnswersLegally calls_for status = (kept : Option (Unit {0})) × AnswersTo TellsLegally kept calls_for status
-
-  abbrev pub CompletesLegally : Option Options → Status → Type 0
-  CompletesLegally said status = (kept : Option (Unit {0})) × CompletesTo TellsLegally kept said status
 
 -- the count of the source's faults, which is one higher exactly where the status says that a read failed
 abbrev pub read_faults : Status → ℕ → ℕ

@@ -1,9 +1,9 @@
 //! The program over a command line and two streams, with tasks whose threads park.
-ghost use Rattle.std.specs.Prelude.{◌≡◌, ◌≤◌, ◌+◌, IfOk, None, drop, false, true};
+ghost use Rattle.std.specs.Prelude.{◌≡◌, ◌≤◌, ◌+◌, IfOk, None, Option, drop, false, true};
 ghost use Rattle.std.specs.Io.KnownBytes.{IsAtEnd};
 ghost use Rattle.std.specs.Process.{exit_status};
 ghost use Rattle.std.specs.Vec.Iter.{into_iter_items};
-ghost use Rattle.mm_program.specs.Answers.{AnswersLegally, AnswersTo, CompletesLegally, CompletesTo, TakesAtMost, status_number, read_faults, write_faults};
+ghost use Rattle.mm_program.specs.Answers.{AnswersTo, CompletesTo, TakesAtMost, status_number, read_faults, write_faults};
 ghost use Rattle.mm_program.specs.CommandLine.{asks_help, line_asks_help, said_by, said_by_line};
 ghost use Rattle.vma_map.specs.Spaces.{space};
 ghost use Rattle.fd_table.specs.Tables.{table};
@@ -11,7 +11,13 @@ ghost use Rattle.mutex_slow.specs.MutexLocks.{KnowsMutex};
 ghost use Rattle.rwsem_slow.specs.RwSemLocks.{KnowsRwSem};
 ghost use Rattle.osq_unqueue.specs.LockSpinQueues.{KnowsSpinQueue};
 ghost use Rattle.sleep_lock.specs.LockMembers.{members};
-ghost use Rattle.mm_program.specs.ProgramKept.{HasServedUnder};
+ghost use Rattle.mm_program.specs.ProgramKept.{HasServedUnder, LockedMachine};
+ghost use Rattle.vma_map.specs.declared.areas.Areas.{Areas};
+ghost use Rattle.vma_map.specs.declared.call.SpaceCall.{SpaceCall};
+ghost use Rattle.fd_table.specs.declared.fds.Fds.{Fds};
+ghost use Rattle.fd_table.specs.declared.call.TableCall.{TableCall};
+ghost use Rattle.cpu_task.specs.declared.park.ParkCrew.{ParkCrew};
+ghost use Rattle.cpu_task.specs.declared.park.ParkCpu.{ParkCpu};
 ghost use Rattle.mm_program.specs.Requests.{reads_input, request};
 
 use crate::locks::{SpaceLock, TableLock};
@@ -130,8 +136,7 @@ fn exit_code(status: Status) -> ExitCode
 ///
 /// `line` is the whole command line, its first word the program's name. A line with a word that
 /// isn't text, or that couldn't be read, is misuse (`Status::Usage`), but for one that there was no
-/// memory for (`Status::NoMemory`). The machine isn't kept, so of it no more is said than that what
-/// was told are legal histories.
+/// memory for (`Status::NoMemory`). The machine that ran the script is let go at the end.
 pub fn run_to_end<
     A: SpaceLock + Drop + Sync,
     T: TableLock + Drop + Sync,
@@ -152,10 +157,22 @@ where
     T::Site: Sync,
     A::Rule: Sync,
     T::Rule: Sync,
-    ensures answer { AnswersLegally S.left S.faults K.faults K.written source.old source.new
-        sink.old sink.new (request (line_asks_help line) (said_by_line line)) result.0 }
-    ensures complete { CompletesLegally S.left S.faults K.faults K.written source.old source.new
-        sink.old sink.new (said_by_line line) result.0 }
+    ensures serves { (kept : Option (LockedMachine A Areas A.Rule A.Site A.Pass A.Rule.Ext SpaceCall
+        T Fds T.Rule T.Site T.Pass T.Rule.Ext TableCall ParkCrew ParkCpu))
+        × AnswersTo S.left S.faults K.faults K.written source.old source.new sink.old sink.new
+        (HasServedUnder
+        (members A.calls_on A.view A.sits A.spun A.kind A.word_at A.opened A.waits
+        (KnowsRwSem space 257) KnowsSpinQueue)
+        (members T.calls_on T.view T.sits T.spun T.kind T.word_at T.opened T.waits
+        (KnowsMutex table 64) KnowsSpinQueue))
+        kept (request (line_asks_help line) (said_by_line line)) result.0
+        × CompletesTo S.left S.faults K.faults K.written source.old source.new sink.old sink.new
+        (HasServedUnder
+        (members A.calls_on A.view A.sits A.spun A.kind A.word_at A.opened A.waits
+        (KnowsRwSem space 257) KnowsSpinQueue)
+        (members T.calls_on T.view T.sits T.spun T.kind T.word_at T.opened T.waits
+        (KnowsMutex table 64) KnowsSpinQueue))
+        kept (said_by_line line) result.0 }
     ensures read_faults { S.faults source.new ≡ read_faults result.0 (S.faults source.old) }
     ensures write_faults { K.faults sink.new ≡ write_faults result.0 (K.faults sink.old) }
     ensures taken { TakesAtMost 1048577 (S.left source.old) (S.left source.new) }
