@@ -1,0 +1,45 @@
+/* One file of the kernel (PART), and where that which only it knows lies. */
+#include PART
+
+struct waiter_offsets { size_t list, task, size, type, timeout, mark; };
+struct node_offsets { size_t size, offset[4]; };
+
+#ifdef PART_OF_MUTEX
+const struct waiter_offsets mutex_waiter = {
+    .list = offsetof(struct mutex_waiter, list),
+    .task = offsetof(struct mutex_waiter, task),
+    .size = sizeof(struct mutex_waiter),
+};
+#endif
+
+#ifdef PART_OF_RWSEM
+const struct waiter_offsets rwsem_waiter = {
+    .list = offsetof(struct rwsem_waiter, list),
+    .task = offsetof(struct rwsem_waiter, task),
+    .size = sizeof(struct rwsem_waiter),
+    .type = offsetof(struct rwsem_waiter, type),
+    .timeout = offsetof(struct rwsem_waiter, timeout),
+    .mark = offsetof(struct rwsem_waiter, handoff_set),
+};
+#endif
+
+#ifdef PART_OF_OSQ
+void *const osq_node_place = &osq_node;
+const struct node_offsets osq_node_offsets = {
+    sizeof(struct optimistic_spin_node),
+    {offsetof(struct optimistic_spin_node, next), offsetof(struct optimistic_spin_node, prev),
+     offsetof(struct optimistic_spin_node, locked), offsetof(struct optimistic_spin_node, cpu)},
+};
+#endif
+
+#ifdef PART_OF_SPIN
+void spin_lock(struct qspinlock *lock) { queued_spin_lock(lock); }
+void spin_unlock(struct qspinlock *lock) { queued_spin_unlock(lock); }
+int spin_trylock(struct qspinlock *lock) { return queued_spin_trylock(lock); }
+void *const mcs_node_place = qnodes;
+const struct node_offsets mcs_node_offsets = {
+    sizeof(struct qnode),
+    {offsetof(struct mcs_spinlock, next), offsetof(struct mcs_spinlock, locked),
+     offsetof(struct mcs_spinlock, count)},
+};
+#endif
