@@ -1,0 +1,47 @@
+"""Where the kernel's code goes another way than the rule, and the row of docs/LOCK_WORDS.md that says so.
+
+The rows stand in the section 'Differences from Linux 6.6'. A row is named by the start of its first cell.
+"""
+from pathlib import Path
+
+DOCUMENT = Path(__file__).resolve().parents[2] / "docs/LOCK_WORDS.md"
+SECTION = "## Differences from Linux 6.6"
+
+# By what `differs` says.
+SEEN = {
+    "spin: waits a while at a word that is 256": "a task that finds the spin word 256",
+    "spin: sets pending after it waited at 256": "a task that finds the spin word 256",
+    "spin 3: takes without a load, as it saw no locked byte": "the owner of the pending bit",
+    "spin 5: goes on with the word that the failed exchange saw": "the exchange of the tail",
+    "osq A: loads next of prev before the exchange": "step A",
+    "mutex 1: an exchange from 0, and then a try": "`mutex_lock`",
+    "mutex: reschedules after it stopped spinning": "a task that stopped spinning",
+    "spinning stops as the owner runs on no CPU": "spinning stops",
+    "a wake that another has to do already is left to it": "a waker leaves",
+    "down_read 4: the grant word is set before the wait lock is taken": "a reader sets its grant word",
+    "down_read_trylock stores the owner hint": "`down_read_trylock`",
+    "down_write_trylock stores the owner hint": "`down_read_trylock`",
+    "down_write: stores the hint before it leaves the spin queue": "a writer stores the owner hint",
+    "down_write: stores the hint before it releases the wait lock": "a writer stores the owner hint",
+    "a release marks the first waiter": "a release",
+    "owner hint: NONSPINNABLE": "NONSPINNABLE",
+    "a marked writer spins and tries again without sleeping": "a marked writer",
+    "down_write 1: spins though readers hold by the hint": "writers spin",
+    "a writer that queues releases the wait lock, wakes, and takes it again": "a writer that queues",
+}
+
+
+def rows():
+    """The first cells of the section's rows, each with how it is said to have been found."""
+    section = DOCUMENT.read_text().split(SECTION)[1].split("\n## ")[0]
+    found = {}
+    for line in section.splitlines():
+        cells = [cell.strip() for cell in line.strip("|").split("|")]
+        if len(cells) == 4:
+            found[cells[0]] = cells[3]
+    return found
+
+
+def row_of(label):
+    """The first cell of the row for what was seen, or None."""
+    return next((cell for cell in rows() if cell.startswith(SEEN[label])), None)
