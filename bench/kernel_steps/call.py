@@ -1,5 +1,5 @@
 """What a call of a mutex and one of a semaphore have in common."""
-from counts import need
+from counts import differs, need
 from machine import Machine
 from osq import SpinQueue
 from spin import SpinCall
@@ -19,7 +19,15 @@ class Call(Machine):
         self.point, self.call, self.hold, self.interruptible = "out", None, "", False
         self.state = 0              # of the task, as the kernel has it: 0 while it runs
         self.chosen = []            # whom it will wake
+        self.was_woken = False      # since it last looked, before a sleep, whether a wake has come
         self.resched, self.on_cpu, self.signal, self.jiffies = 0, 1, 0, None
+        self.asked_resched = False
+
+    def looks_before_sleep(self, sleeps):
+        """Here a wake is a word that stays 1 until its task looks at it before a sleep."""
+        if sleeps and self.was_woken:
+            differs("sleeps though it was woken since it last slept")
+        self.was_woken = False
 
     def happens(self, event):
         method = getattr(self, "on_" + event, None)

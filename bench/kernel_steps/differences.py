@@ -9,25 +9,29 @@ SECTION = "## Differences from Linux 6.6"
 
 # By what `differs` says.
 SEEN = {
-    "spin: waits a while at a word that is 256": "a task that finds the spin word 256",
-    "spin: sets pending after it waited at 256": "a task that finds the spin word 256",
-    "spin 3: takes without a load, as it saw no locked byte": "the owner of the pending bit",
-    "spin 5: goes on with the word that the failed exchange saw": "the exchange of the tail",
-    "osq A: loads next of prev before the exchange": "step A",
-    "mutex 1: an exchange from 0, and then a try": "`mutex_lock`",
-    "mutex: reschedules after it stopped spinning": "a task that stopped spinning",
-    "spinning stops as the owner runs on no CPU": "spinning stops",
-    "a wake that another has to do already is left to it": "a waker leaves",
-    "down_read 4: the grant word is set before the wait lock is taken": "a reader sets its grant word",
+    "spin: stores a byte of the word": "stores of a byte into the spin word",
+    "spin: waits a while at a word that is 256": "a task that finds the spin word 256 looks again",
+    "spin: sets pending after it waited at 256": "a task that finds the spin word 256 looks again",
+    "spin 3: takes without a load, as it saw no locked byte": "the owner of the pending bit takes without a load",
+    "spin 5: goes on with the word that the failed exchange saw": "the exchange of the tail goes on",
+    "osq A: loads next of prev before the exchange": "step A of leaving the spin queue",
+    "mutex 1: an exchange from 0, and then a try": "`mutex_lock` first exchanges 0",
+    "mutex 7: tries before it asks whether to reschedule": "a woken first waiter tries",
+    "mutex: reschedules after it stopped spinning": "a task that stopped spinning reschedules",
+    "spinning stops as the owner runs on no CPU": "spinning stops if the owner runs on no CPU",
+    "an append stores the tail before the link": "an append stores the tail",
+    "sleeps though it was woken since it last slept": "a wake that comes before a try",
+    "a wake that another has to do already is left to it": "a waker leaves the wake to another",
+    "down_read 4: the grant word is set before the wait lock is taken": "a reader sets its grant word before",
     "down_read_trylock stores the owner hint": "`down_read_trylock`",
     "down_write_trylock stores the owner hint": "`down_read_trylock`",
-    "down_write: stores the hint before it leaves the spin queue": "a writer stores the owner hint",
-    "down_write: stores the hint before it releases the wait lock": "a writer stores the owner hint",
-    "a release marks the first waiter": "a release",
+    "down_write: stores the hint before it leaves the spin queue": "a writer stores the owner hint before",
+    "down_write: stores the hint before it releases the wait lock": "a writer stores the owner hint before",
+    "a release marks the first waiter": "a release asks for a handoff",
     "owner hint: NONSPINNABLE": "NONSPINNABLE",
-    "a marked writer spins and tries again without sleeping": "a marked writer",
-    "down_write 1: spins though readers hold by the hint": "writers spin",
-    "a writer that queues releases the wait lock, wakes, and takes it again": "a writer that queues",
+    "a marked writer spins and tries again without sleeping": "a marked writer spins",
+    "down_write 1: spins though readers hold by the hint": "writers spin for a while",
+    "a writer that queues releases the wait lock, wakes, and takes it again": "a writer that queues releases the wait lock",
 }
 
 
@@ -37,7 +41,7 @@ def rows():
     found = {}
     for line in section.splitlines():
         cells = [cell.strip() for cell in line.strip("|").split("|")]
-        if len(cells) == 4:
+        if len(cells) == 4 and cells[3] in ("run", "read"):
             found[cells[0]] = cells[3]
     return found
 
@@ -45,3 +49,8 @@ def rows():
 def row_of(label):
     """The first cell of the row for what was seen, or None."""
     return next((cell for cell in rows() if cell.startswith(SEEN[label])), None)
+
+
+def rows_not_seen():
+    """The rows that are said to be found by a run, and that nothing of `SEEN` names."""
+    return [cell for cell, found in rows().items() if found == "run" and not any(cell.startswith(start) for start in SEEN.values())]

@@ -47,6 +47,8 @@ class MutexCall(Call):
     def try_word(self, s):
         if s.kind != OWNER:
             return None
+        if self.point == "7: spins as the first" and not self.asked_resched:
+            differs("mutex 7: tries before it asks whether to reschedule")
         asks = self.point == "6: tries after sleep" and self.is_first
         answer = words.owner_try(s.old, self.code, asks)
         if s.takes:
@@ -65,7 +67,7 @@ class MutexCall(Call):
     def try_exchanges(self, s, answer):
         if s.makes(answer, "take", "ask") == "ask":
             did("mutex 6: asks")
-            self.point = "7: spins as the first"
+            self.point, self.asked_resched = "7: spins as the first", False
             return STAYS
         need(not any(task.hold for task in self.run.tasks), "a second holder")
         self.hold = "alone"
@@ -97,6 +99,7 @@ class MutexCall(Call):
         if self.point == "6: tries after sleep":
             did("mutex 6: fails, first" if self.is_first else "mutex 6: fails, not first")
             self.point = "7: spins as the first" if self.is_first else "7: takes the wait lock"
+            self.asked_resched = False
         else:
             self.point = FAILED[self.point]
         self.resched, self.on_cpu, self.signal = 0, 1, None

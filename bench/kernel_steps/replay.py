@@ -181,6 +181,8 @@ class Run:
         self.list_before, self.list = self.list, now
         if len(now) > len(self.list_before):
             need(now[:-1] == self.list_before, "an append from %s to %s", self.list_before, now)
+            if self.value.get("last") == now[-1]:
+                differs("an append stores the tail before the link")
             task.appended(now[-1])
         else:
             gone = [code for code in self.list_before if code not in now]
@@ -210,7 +212,7 @@ class Run:
 
     # ---- what happens beside the words -------------------------------------------------------------
     def resched(self, task, place, of, answer):
-        task.resched |= answer
+        task.resched, task.asked_resched = task.resched | answer, True
         task.osq.asked(answer)
 
     def on_cpu(self, task, place, of, answer):
@@ -258,6 +260,7 @@ class Run:
             self.spin_calls[spin_call.lock].remove(spin_call)
 
     def sleeps(self, task, place, of, value):
+        task.looks_before_sleep(True)
         task.happens("sleeps")
         self.check()
 
@@ -268,6 +271,7 @@ class Run:
 
     def yields(self, task, place, of, value):
         task.state = 0
+        task.looks_before_sleep(False)
         task.happens("yields")
         self.check()
 
@@ -285,7 +289,7 @@ class Run:
         need(task.chosen and task.chosen[0] == of, "wakes another than it chose")
         task.wakes(of)
         task.chosen.pop(0)
-        self.tasks[of - 1].state = 0
+        self.tasks[of - 1].state, self.tasks[of - 1].was_woken = 0, True
         self.check()
 
     def wakes_for_nothing(self, task, place, of, value):

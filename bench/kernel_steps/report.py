@@ -26,7 +26,7 @@ def tell_differences(trial):
 
 
 def tell_known():
-    """The documented differences that occurred. Answers how many have no row."""
+    """The documented differences that occurred. Answers how many have no row, and how many rows nothing counts."""
     without = 0
     print("\nsteps that the rule doesn't have, with their row in docs/LOCK_WORDS.md, 'Differences from Linux 6.6':")
     for label, times in counts.known.most_common():
@@ -34,7 +34,10 @@ def tell_known():
         without += row is None
         lines, where, number, tasks = counts.shortest[label]
         print("%10d  %s\n            [%s]   line %d of %s, run %d of %d tasks" % (times, label, row or "NO ROW", lines, where, number, tasks))
-    return without
+    unseen = differences.rows_not_seen()
+    for row in unseen:
+        print("            [%s]   is said to be found by a run, and no step is counted for it" % row)
+    return without + len(unseen)
 
 
 def tell_steps(locks, every):

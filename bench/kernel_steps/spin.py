@@ -47,12 +47,6 @@ class SpinCall(Machine):
         self.point = "holds"
         return ACQUIRED
 
-    def release(self, s):
-        s.makes(words.spin_unlock(s.old))
-        did("spin unlock")
-        self.point = "out"
-        return RELEASED
-
     @at("first exchange")
     def try_first(self, s):
         if s.kind != WORD or not (s.takes or s.fails or s.loads and self.trying):
@@ -255,6 +249,7 @@ class SpinCall(Machine):
             return None
         need(not s.old & 0xFF, "spin 8: sets the locked byte of %d", s.old)
         s.makes(words.spin_set_locked(s.old))
+        differs("spin: stores a byte of the word")
         did("spin 8: sets the locked byte, next known" if self.behind else "spin 8: sets the locked byte")
         self.point = "holds, grants its next" if self.behind else "holds, finds its next"
         return STAYS
@@ -282,7 +277,11 @@ class SpinCall(Machine):
         if s.kind != WORD or s.op != "S":
             return None
         need(s.old & 0xFF == words.LOCKED, "spin unlock of %d", s.old)
-        return self.release(s)
+        s.makes(words.spin_unlock(s.old))
+        differs("spin: stores a byte of the word")
+        did("spin unlock")
+        self.point = "out"
+        return RELEASED
 
 
 # ---- what holds at each moment ---------------------------------------------------------------------
