@@ -20,7 +20,7 @@ static void notice_waiter(void) {
     int task = me();
     struct task_struct *stored;
     memcpy(&stored, store.unknown, sizeof stored);
-    if (stored == running && states[task].may_wait && !states[task].waiter && lock >= MUTEX) {
+    if (stored == running && states[task].may_wait && !states[task].waiter && lock >= MUTEX && lock <= BATCH) {
         states[task].waiter = (char *)store.unknown - (lock == MUTEX ? mutex_waiter : rwsem_waiter).task;
         line('s', kind_names[WAITER_TASK], task + 1, 0, 1, store.pc);
     }

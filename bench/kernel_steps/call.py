@@ -19,6 +19,7 @@ class Call(Machine):
         self.point, self.call, self.hold, self.interruptible = "out", None, "", False
         self.state = 0              # of the task, as the kernel has it: 0 while it runs
         self.chosen = []            # whom it will wake
+        self.asleep = False
         self.was_woken = False      # since it last looked, before a sleep, whether a wake has come
         self.resched, self.on_cpu, self.signal, self.jiffies = 0, 1, 0, None
         self.asked_resched = False

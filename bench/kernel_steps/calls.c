@@ -76,6 +76,19 @@ static void mutex_round(void) {
     CALL("unlock", -1, mutex_unlock(&locks.mutex));
 }
 
+static void percpu_round(void) {
+    int result, kind = draw(8);
+    bool reads = kind < 5;
+    states[me()].may_wait = true;
+    if (kind == 0) CALL("read_try", -1, result = percpu_read_try(&locks.percpu) ? 0 : -1);
+    else if (reads) CALL("read", -1, percpu_read(&locks.percpu));
+    else CALL("write", -1, percpu_down_write(&locks.percpu));
+    if (result) return;
+    hold(8);
+    if (reads) CALL("up_read", -1, percpu_read_end(&locks.percpu));
+    else CALL("up_write", -1, percpu_up_write(&locks.percpu));
+}
+
 /* Takes the semaphore by one of the ways, and answers 0 where that held. */
 static int take_semaphore(int kind) {
     int result;
@@ -142,6 +155,7 @@ void calls_of(int task) {
         case NEST: nested_round(); break;
         case OSQ: osq_round(); break;
         case MUTEX: mutex_round(); break;
+        case PERCPU: percpu_round(); break;
         default: semaphore_round();
         }
         hold(3);

@@ -1,6 +1,6 @@
 /* Runs the kernel's own lock code one step at a time on one thread, and writes each step.
 
-   The words are LOCK FIRST COUNT [TASKS [ORDER]]. LOCK is spin, nest, osq, mutex, rwsem or batch.
+   The words are LOCK FIRST COUNT [TASKS [ORDER]]. LOCK is spin, nest, osq, mutex, rwsem, batch or percpu.
    Each of COUNT runs is drawn from its number, from FIRST on: the tasks (2 to 6 where TASKS is 0 or
    none), their calls, who goes on at each step, the answers of processors, signals, and time. ORDER
    is drawn; hard, with signals and wakes for no reason at every turn and hardly any spinning; or
@@ -12,14 +12,15 @@
    BEFORE), Z R Y (sleeps, is back, yields), W K (chooses PLACE to be woken, wakes it), Q G P J
    (answers of need_resched, of signal_pending_state, of owner_on_cpu, jiffies), I (a signal for
    PLACE), U (PLACE wakes for no reason), D (nobody can go on), T (cut off), F (the kernel's code
-   fails). */
+   fails). In the per-CPU semaphore H, M and h take the lock of its line of waiters, append to the
+   line and release, and V wakes PLACE, or nobody. */
 #include "steps.h"
 #include <signal.h>
 #include <unistd.h>
 
 enum { BOUND_STEPS = 64, MOST_STEPS = 6000, MOST_STEPS_OF_BATCH = 1500000 };
 enum lock lock;
-static const char *const names[] = {"spin", "nest", "osq", "mutex", "rwsem", "batch"};
+static const char *const names[] = {"spin", "nest", "osq", "mutex", "rwsem", "batch", "percpu"};
 static const u64 SPREAD = 0xd1342543de82ef95u;
 static bool hard, bounded;
 
@@ -74,6 +75,7 @@ static void clear_locks(void) {
     over = true;
     mutex_init(&locks.mutex);
     init_rwsem(&locks.sem);
+    percpu_open(&locks.percpu);
     over = false;
 }
 

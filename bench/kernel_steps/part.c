@@ -1,4 +1,7 @@
 /* One file of the kernel (PART), and where that which only it knows lies. */
+#ifdef PART_OF_PERCPU
+static __attribute__((section("of_processor"), used, aligned(64))) unsigned read_counts;
+#endif
 #include PART
 
 struct waiter_offsets { size_t list, task, size, type, timeout, mark; };
@@ -42,4 +45,12 @@ const struct node_offsets mcs_node_offsets = {
     {offsetof(struct mcs_spinlock, next), offsetof(struct mcs_spinlock, locked),
      offsetof(struct mcs_spinlock, count)},
 };
+#endif
+
+#ifdef PART_OF_PERCPU
+void *const read_count_place = &read_counts;
+void percpu_open(struct percpu_rw_semaphore *sem) { __percpu_init_rwsem(sem, "", NULL); }
+void percpu_read(struct percpu_rw_semaphore *sem) { percpu_down_read(sem); }
+int percpu_read_try(struct percpu_rw_semaphore *sem) { return percpu_down_read_trylock(sem); }
+void percpu_read_end(struct percpu_rw_semaphore *sem) { percpu_up_read(sem); }
 #endif

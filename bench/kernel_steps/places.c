@@ -5,7 +5,7 @@
 const char *const kind_names[] = {
     "", "owner", "count", "hint", "word", "tail", "next", "prev", "locked", "cpu", "mnext", "mlocked", "mcount",
     "head", "last", "wnext", "wprev", "wtask", "wtype", "wtime", "mark",
-    "state", "unowned"
+    "block", "readers", "writer", "entry", "state", "unowned"
 };
 struct locks locks;
 
@@ -37,6 +37,13 @@ static struct place of_semaphore(const char *at) {
     return (struct place){UNOWNED, -1, at, 1};
 }
 
+/* The line of waiters is ours: its steps aren't told. */
+static struct place of_percpu(const char *at) {
+    WORD_AT(BLOCK, -1, locks.percpu.block);
+    WORD_AT(WAITING_WRITER, -1, locks.percpu.writer);
+    return (struct place){NONE};
+}
+
 static struct place of_spin_lock(const char *at) {
     WORD_AT(TAIL, -1, locks.osq);
     for (int i = 0; i < SPINS; i++) WORD_AT(SPIN_WORD, i, locks.spin[i]);
@@ -51,7 +58,8 @@ static const char *node_of(int cpu, void *place, size_t skip) {
 static struct place of_processor(const char *at) {
     static const enum kind osq_kinds[] = {NEXT, PREV, LOCKED, CPU}, mcs_kinds[] = {NODE_NEXT, NODE_LOCKED, NODE_COUNT};
     int cpu = (at - copies[0]) / sizeof copies[0];
-    const char *node = node_of(cpu, osq_node_place, 0);
+    const char *node = node_of(cpu, osq_node_place, 0), *count = node_of(cpu, read_count_place, 0);
+    if (within(at, count, 4)) return (struct place){READ_COUNT, cpu + 1, count, 4};
     for (int i = 0; i < 4; i++) {
         const char *field = node + osq_node_offsets.offset[i];
         int size = i < 2 ? 8 : 4;
@@ -73,6 +81,11 @@ static struct place of_stack(const char *at) {
     int task = (at - stacks[0]) / STACK;
     const struct waiter_offsets *o = lock == MUTEX ? &mutex_waiter : &rwsem_waiter;
     const char *w = states[task].waiter;
+    if (lock == PERCPU) {
+        const char *private = w + offsetof(struct wait_queue_entry, private);
+        if (w && within(at, private, 8)) return (struct place){ENTRY, task + 1, private, 8};
+        return (struct place){NONE};
+    }
     if (w && within(at, w, o->size)) {
         if (within(at, w + o->list, 8)) return (struct place){WAITER_NEXT, task + 1, w + o->list, 8};
         if (within(at, w + o->list + 8, 8)) return (struct place){WAITER_PREV, task + 1, w + o->list + 8, 8};
@@ -90,7 +103,7 @@ static struct place of_stack(const char *at) {
 struct place find(const volatile void *where) {
     const char *at = (const char *)where;
     if (within(at, &locks, sizeof locks))
-        return lock == MUTEX ? of_mutex(at) : lock >= RWSEM ? of_semaphore(at) : of_spin_lock(at);
+        return lock == PERCPU ? of_percpu(at) : lock == MUTEX ? of_mutex(at) : lock >= RWSEM ? of_semaphore(at) : of_spin_lock(at);
     if (within(at, copies, TASKS * sizeof copies[0])) return of_processor(at);
     if (within(at, stacks, sizeof stacks)) return of_stack(at);
     if (within(at, tasks, sizeof tasks)) {
@@ -139,7 +152,8 @@ long value(struct place place) {
     memcpy(&raw, place.at, place.size);
     switch (place.kind) {
     case OWNER: case HINT: return task_and_flags(raw);
-    case WAITER_TASK: return raw != 0;
+    case WAITER_TASK: case ENTRY: return raw != 0;
+    case WAITING_WRITER: return task_and_flags(raw) / 8;
     case SPIN_WORD: return spin_word(raw);
     case NEXT: case PREV: return osq_node((const char *)raw);
     case NODE_NEXT: return mcs_node((const char *)raw);

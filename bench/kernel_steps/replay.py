@@ -10,6 +10,7 @@ from counts import differs, need
 from machine import STAYS, Step
 from mutex import MutexCall, check_mutex
 from osq import check_osq
+from percpu import PercpuCall, check_percpu
 from rwsem import SemaphoreCall, check_rwsem
 from spin import WITHOUT_NODE, SpinCall, check_spin
 
@@ -17,7 +18,7 @@ SPIN_LOCKS = 6
 OSQ_WORDS = {"tail", "next", "prev", "locked", "cpu"}
 SPIN_WORDS = {"word", "mnext", "mlocked", "mcount"}
 LIST_WORDS = {"head", "last", "wnext", "wprev"}
-SHARED_WORDS = {"owner", "count", "hint", "head", "last", "unowned"} | OSQ_WORDS | SPIN_WORDS
+SHARED_WORDS = {"owner", "count", "hint", "head", "last", "unowned", "block", "readers", "writer"} | OSQ_WORDS | SPIN_WORDS
 BATCH_TURNS, WAKE_TURNS = 199, 7        # at each how manyth step the facts of many tasks are checked
 
 
@@ -64,7 +65,7 @@ class Run:
         self.osq_queue, self.list, self.list_before, self.marks, self.times = [], [], [], {}, {}
         spin_locks = SPIN_LOCKS if lock in ("spin", "nest") else 1
         self.spin_queues = [[] for _ in range(spin_locks)]
-        call = {"mutex": MutexCall, "rwsem": SemaphoreCall}.get(self.kind, OfNoCall)
+        call = {"mutex": MutexCall, "rwsem": SemaphoreCall, "percpu": PercpuCall}.get(self.kind, OfNoCall)
         self.tasks = [call(self, number) for number in range(task_count)]
         self.spin_calls = [[] for _ in range(spin_locks)]
         if self.has_list:
@@ -202,6 +203,8 @@ class Run:
         """The facts of this moment. With many tasks they are checked now and then, and often in a wake."""
         if self.kind == "mutex":
             check_mutex(self)
+        elif self.kind == "percpu":
+            check_percpu(self)
         elif self.lock == "batch":
             self.turn += 1
             wakes = self.tasks[0].point in ("wake: removes", "wake: grants", "release: releases the wait lock")
@@ -260,12 +263,13 @@ class Run:
             self.spin_calls[spin_call.lock].remove(spin_call)
 
     def sleeps(self, task, place, of, value):
+        task.asleep = True
         task.looks_before_sleep(True)
         task.happens("sleeps")
         self.check()
 
     def is_back(self, task, place, of, value):
-        task.state = 0
+        task.state, task.asleep = 0, False
         task.happens("is_back")
         self.check()
 
@@ -273,6 +277,8 @@ class Run:
         task.state = 0
         task.looks_before_sleep(False)
         task.happens("yields")
+        if self.kind == "percpu":
+            task.happens("is_back")
         self.check()
 
     def chooses(self, task, place, of, is_queued):
@@ -290,6 +296,22 @@ class Run:
         task.wakes(of)
         task.chosen.pop(0)
         self.tasks[of - 1].state, self.tasks[of - 1].was_woken = 0, True
+        self.check()
+
+    def wakes_directly(self, task, place, of, value):
+        task.wakes_directly(max(of, 0))
+        if of > 0:
+            self.tasks[of - 1].state, self.tasks[of - 1].asleep = 0, False
+        self.check()
+
+    def takes_line(self, task, place, of, value):
+        task.happens("takes_line")
+
+    def appends(self, task, place, of, value):
+        task.happens("appends")
+
+    def releases_line(self, task, place, of, value):
+        task.happens("releases_line")
         self.check()
 
     def wakes_for_nothing(self, task, place, of, value):
@@ -312,13 +334,15 @@ class Run:
         need(False, "the kernel's code fails by a signal")
 
     EVENTS = {"Q": resched, "P": on_cpu, "J": time, "G": signal_pending, "B": begins, "E": ends, "Z": sleeps, "R": is_back, "Y": yields,
-              "W": chooses, "K": wakes, "U": wakes_for_nothing, "I": signalled, "D": nobody_goes_on, "T": is_cut_off, "F": code_fails}
+              "W": chooses, "K": wakes, "V": wakes_directly, "H": takes_line, "M": appends, "h": releases_line,
+              "U": wakes_for_nothing, "I": signalled, "D": nobody_goes_on, "T": is_cut_off, "F": code_fails}
 
     def end(self):
         """All calls have ended: nothing is left in the words."""
         if self.ended_early:
             return
+        need(self.list == [], "the list is left")
         if self.has_list:
-            need(self.list == [] == self.walk("last", "wprev"), "the list is left")
-        for place in ("owner", "count", "tail", "word0"):
+            need([] == self.walk("last", "wprev"), "the list is left")
+        for place in ("owner", "count", "tail", "word0", "block"):
             need(self.value.get(place, 0) == 0, "the word %s is left", place)

@@ -93,3 +93,54 @@ void relax(void) {
     maybe_switch(odds.preempt > 3 ? 3 : odds.preempt);
     yield_if_bound();
 }
+
+/* ---- of the per-CPU semaphore: the line of waiters, and who waits for the readers ---------------- */
+void note_entry(struct wait_queue_entry *entry) { states[me()].waiter = (char *)entry; }
+
+void lock_queue(queue_lock_t *lock) {
+    tell_store();
+    maybe_switch(odds.preempt);
+    while (lock->held) leave();
+    lock->held = 1;
+    line('H', "-", -1, 0, 0, PC);
+}
+
+void unlock_queue(queue_lock_t *lock) {
+    tell_store();
+    lock->held = 0;
+    line('h', "-", -1, 0, 0, PC);
+    maybe_switch(odds.preempt);
+}
+
+void append_entry(wait_queue_head_t *queue, struct wait_queue_entry *entry) {
+    tell_store();
+    list_add_tail(&entry->entry, &queue->head);
+    line('M', "-", -1, 0, 0, PC);
+}
+
+void wake_directly(struct task_struct *task) {
+    tell_store();
+    maybe_switch(odds.preempt);
+    line('V', "", task - tasks + 1, 0, 0, PC);
+    wake_up(task - tasks);
+}
+
+void rcuwait_wake_up(struct rcuwait *wait) {
+    tell_store();
+    maybe_switch(odds.preempt);
+    line('V', "", wait->task ? wait->task - tasks + 1 : 0, 0, 0, PC);
+    if (wait->task) wake_up(wait->task - tasks);
+}
+
+/* Each waiter's function is called in turn, until it answers that no more may be woken. All waiters
+   of this semaphore are exclusive, and one is to be woken. */
+void wake_queue(wait_queue_head_t *queue, void *key) {
+    lock_queue(&queue->lock);
+    struct list_head *next;
+    for (struct list_head *at = queue->head.next; at != &queue->head; at = next) {
+        next = at->next;
+        struct wait_queue_entry *entry = container_of(at, struct wait_queue_entry, entry);
+        if (entry->func(entry, TASK_NORMAL, 0, key)) break;
+    }
+    unlock_queue(&queue->lock);
+}

@@ -8,7 +8,7 @@ from pathlib import Path
 
 HERE = Path(__file__).resolve().parent
 PATTERN = "/usr/src/linux-source-*.tar.*"
-TOOLS = ("gcc", "tar", "xz", "addr2line", "nice")
+TOOLS = ("gcc", "tar", "xz", "addr2line")
 LAYOUTS = (64, 16384)
 
 

@@ -61,8 +61,77 @@ void relax(void);
 #define atomic_cmpxchg_relaxed atomic_cmpxchg_acquire
 #define rt_task(task) false
 #define DEFINE_FREE(...)
+#ifdef PART_OF_PERCPU
+#define wake_up_process(task) wake_directly(task)
+#undef get_task_struct
+#define get_task_struct(task) (task)
+#else
 #define wake_up_process(task) ((void)(task))     /* for a ww_mutex alone */
+#endif
 /* Only the layout for many processors asks for this. */
 #define atomic_add(number, word) ((void)atomic_fetch_add(number, word))
 
 #include <asm-generic/qspinlock.h>
+
+/* What the per-CPU semaphore asks for: a line of waiters with its lock, one task that waits for the
+   readers, and its counts. Its fast path by RCU is never open. */
+#include <linux/list.h>
+typedef struct { int held; } queue_lock_t;
+typedef struct { queue_lock_t lock; struct list_head head; } wait_queue_head_t;
+struct wait_queue_entry {
+    unsigned flags;
+    void *private;
+    int (*func)(struct wait_queue_entry *entry, unsigned mode, int flags, void *key);
+    struct list_head entry;
+};
+struct rcuwait { struct task_struct *task; };
+struct rcu_sync { int unused; };
+extern int task_count;
+void note_entry(struct wait_queue_entry *entry);
+void lock_queue(queue_lock_t *lock);
+void unlock_queue(queue_lock_t *lock);
+void append_entry(wait_queue_head_t *queue, struct wait_queue_entry *entry);
+void wake_queue(wait_queue_head_t *queue, void *key);
+void wake_directly(struct task_struct *task);
+void rcuwait_wake_up(struct rcuwait *wait);
+
+#define WQ_FLAG_EXCLUSIVE 1
+#define WQ_FLAG_CUSTOM 4
+#define TASK_NORMAL 0
+#define __percpu
+#define DEFINE_WAIT_FUNC(name, function) \
+    struct wait_queue_entry name = {0, current, function, {&name.entry, &name.entry}}; \
+    note_entry(&name)
+#define init_waitqueue_head(queue) ((queue)->lock.held = 0, INIT_LIST_HEAD(&(queue)->head))
+#define __add_wait_queue_entry_tail append_entry
+#define __wake_up(queue, mode, number, key) wake_queue(queue, key)
+#define spin_lock_irq(lock) lock_queue(lock)
+#define spin_unlock_irq(lock) unlock_queue(lock)
+#define rcu_sync_init(sync)
+#define rcu_sync_enter(sync)
+#define rcu_sync_exit(sync)
+#define rcu_sync_dtor(sync)
+#define rcu_sync_is_idle(sync) false
+#define rcuwait_init(wait) ((wait)->task = NULL)
+#define rcuwait_wait_event(wait, condition, while_asleep) do { \
+    WRITE_ONCE((wait)->task, current); \
+    for (;;) { \
+        set_current_state(while_asleep); \
+        if (condition) break; \
+        schedule(); \
+    } \
+    WRITE_ONCE((wait)->task, NULL); \
+    __set_current_state(TASK_RUNNING); \
+} while (0)
+#define alloc_percpu(type) (&read_counts)
+#define free_percpu(place)
+#define this_cpu_inc(count) ((void)__atomic_fetch_add(this_cpu_ptr(&(count)), 1, __ATOMIC_SEQ_CST))
+#define this_cpu_dec(count) ((void)__atomic_fetch_sub(this_cpu_ptr(&(count)), 1, __ATOMIC_SEQ_CST))
+#define per_cpu(count, processor) (*per_cpu_ptr(&(count), processor))
+#define for_each_possible_cpu(processor) for ((processor) = 0; (processor) < task_count; (processor)++)
+#define compiletime_assert_atomic_type(value)
+#define atomic_read_acquire atomic_read
+#define atomic_set_release atomic_set
+#define put_task_struct(task)
+#define lock_acquire(...)
+#define lock_release(...)

@@ -2,6 +2,7 @@
 #pragma once
 #include <linux/mutex.h>
 #include <linux/rwsem.h>
+#include <linux/percpu-rwsem.h>
 #include <kernel/locking/mutex.h>
 #include <stdio.h>
 #include <stdlib.h>
@@ -10,13 +11,14 @@
 enum { STACK = 1 << 15, SPINS = 6 };
 
 /* ---- the locks that a run may try, and the words of each ---------------------------------------- */
-enum lock { SPIN, NEST, OSQ, MUTEX, RWSEM, BATCH, LOCKS };
+enum lock { SPIN, NEST, OSQ, MUTEX, RWSEM, BATCH, PERCPU, LOCKS };
 extern enum lock lock;
 extern struct locks {
     struct mutex mutex __attribute__((aligned(64)));
     struct rw_semaphore sem __attribute__((aligned(64)));
     struct optimistic_spin_queue osq __attribute__((aligned(64)));
     struct qspinlock spin[SPINS] __attribute__((aligned(64)));
+    struct percpu_rw_semaphore percpu __attribute__((aligned(64)));
 } locks;
 
 /* Of part.c: where that which only a file of the kernel knows lies. */
@@ -24,16 +26,20 @@ struct waiter_offsets { size_t list, task, size, type, timeout, mark; };
 extern const struct waiter_offsets mutex_waiter, rwsem_waiter;
 struct node_offsets { size_t size, offset[4]; };
 extern const struct node_offsets osq_node_offsets, mcs_node_offsets;
-extern void *const osq_node_place, *const mcs_node_place;
+extern void *const osq_node_place, *const mcs_node_place, *const read_count_place;
 void spin_lock(struct qspinlock *lock);
 void spin_unlock(struct qspinlock *lock);
 int spin_trylock(struct qspinlock *lock);
+void percpu_open(struct percpu_rw_semaphore *sem);
+void percpu_read(struct percpu_rw_semaphore *sem);
+int percpu_read_try(struct percpu_rw_semaphore *sem);
+void percpu_read_end(struct percpu_rw_semaphore *sem);
 
 /* ---- places.c ------------------------------------------------------------------------------------ */
 enum kind {
     NONE, OWNER, COUNT, HINT, SPIN_WORD, TAIL, NEXT, PREV, LOCKED, CPU, NODE_NEXT, NODE_LOCKED, NODE_COUNT,
     LIST_HEAD, LIST_LAST, WAITER_NEXT, WAITER_PREV, WAITER_TASK, WAITER_TYPE, WAITER_TIME, WAITER_MARK,
-    STATE, UNOWNED
+    BLOCK, READ_COUNT, WAITING_WRITER, ENTRY, STATE, UNOWNED
 };
 extern const char *const kind_names[];
 struct place { enum kind kind; int of; const char *at; int size; };

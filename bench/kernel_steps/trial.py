@@ -13,7 +13,7 @@ from collections import namedtuple
 import counts
 from replay import Functions, Run
 
-LOCKS = ("mutex", "rwsem", "osq", "spin", "nest", "batch")
+LOCKS = ("mutex", "rwsem", "osq", "spin", "nest", "percpu", "batch")
 # Schedules of a slice: how many of each order, and of how many tasks (0: two to six).
 ORDERS = {"drawn": (100, 0), "hard": (50, 0), "bound": (50, 3)}
 SLICE = sum(count for count, _ in ORDERS.values())
@@ -49,7 +49,7 @@ class Trial:
     def run(self, place, count, ended=lambda replay: None):
         """Runs so many schedules, from the place's number on, and tells `ended` of each."""
         words = [place.program, place.lock, place.number, count, place.tasks, place.order]
-        process = subprocess.Popen(["nice", "-n", "19", *map(str, words)], stdout=subprocess.PIPE, text=True, bufsize=1 << 20)
+        process = subprocess.Popen(list(map(str, words)), stdout=subprocess.PIPE, text=True, bufsize=1 << 20)
         functions = FUNCTIONS.setdefault(place.program, Functions(place.program))
         replay = None
         for text in process.stdout:

@@ -21,7 +21,7 @@ Variant = namedtuple("Variant", "lock file where pattern becomes what rule", def
 # In a file of the checker, one text for another.
 Rule = namedtuple("Rule", "file text becomes")
 
-MUTEX, RWSEM, OSQ, SPIN = "mutex.c", "rwsem.c", "osq_lock.c", "qspinlock.c"
+MUTEX, RWSEM, OSQ, SPIN, PERCPU = "mutex.c", "rwsem.c", "osq_lock.c", "qspinlock.c", "percpu-rwsem.c"
 REMOVE = r"__mutex_remove_waiter\(struct"
 HANDOFF = r"__mutex_handoff\(struct mutex \*lock, struct"
 UNLOCK = r"__mutex_unlock_slowpath\(struct mutex \*lock, unsigned long ip\)$"
@@ -30,6 +30,7 @@ APPEND = r"__mutex_add_waiter\(struct mutex"
 TRY_WRITE = r"rwsem_try_write_lock\(struct"
 MARK_WAKE = r"rwsem_mark_wake\(struct"
 READ = r"rwsem_down_read_slowpath\(struct"
+PERCPU_TRY = r"^static bool __percpu_down_read_trylock"
 OSQ_LOCK, OSQ_WAIT, OSQ_UNLOCK = r"^bool osq_lock", r"^osq_wait_next", r"^void osq_unlock"
 
 OF_MUTEX = [
@@ -85,6 +86,14 @@ OF_SPIN = [
     Variant("spin", SPIN, None, r"if \(val & _Q_LOCKED_MASK\)", "if (0)", "the owner of the pending bit doesn't wait"),
     Variant("nest", SPIN, None, r"idx = node->count\+\+", "idx = 0 & node->count++", "an interrupt uses the interrupted call's node"),
 ]
+OF_PERCPU = [
+    Variant("percpu", PERCPU, PERCPU_TRY, r"this_cpu_dec\(\*sem->read_count\)", "(void)0", "a reader that is blocked stays counted"),
+    Variant("percpu", PERCPU, PERCPU_TRY, r"rcuwait_wake_up\(&sem->writer\)", "(void)0", "a reader that is blocked doesn't wake the writer"),
+    Variant("percpu", PERCPU, None, r"wait = !__percpu_rwsem_trylock\(sem, reader\)", "wait = true", "no try with the lock of the line"),
+    Variant("percpu", PERCPU, None, r"__wake_up\(&sem->waiters", "if (0) __wake_up(&sem->waiters", "a writer's release wakes nobody"),
+    Variant("percpu", PERCPU, None, r"return !reader;", "return 1;", "a writer's release wakes one reader alone"),
+    Variant("percpu", PERCPU, None, r"if \(per_cpu_sum\(\*sem->read_count\) != 0\)", "if (0)", "a writer doesn't wait for readers"),
+]
 # The rule has the same change, so that a fact of each moment must find it.
 OF_BOTH = [
     OF_MUTEX[1]._replace(rule=Rule("words.py", "8 * first | PICKUP if first", "8 * first if first")),
@@ -107,6 +116,7 @@ OF_BOTH = [
         'self.behind, self.point = found, "C: stores next" if leaves else "grants"\n'
         '            self.queue.remove(self) if leaves else None')),
     OF_OSQ[3]._replace(rule=Rule("osq.py", "len(self.cleared) == 2 and s.new == self.code", "s.new == self.code")),
+    OF_PERCPU[5]._replace(rule=Rule("percpu.py", "len(self.seen) == len(self.run.tasks) and sum(self.seen) % COUNTS == 0", "True")),
     OF_SPIN[0]._replace(rule=Rule("spin.py", 'to 4")\n            self.point = "clears its node"', 'to 4")\n            self.point = "undoes pending"')),
     OF_SPIN[3]._replace(rule=Rule("spin.py", "s.old & 0x1FF", "s.old & 0xFF")),
 ]
@@ -169,7 +179,7 @@ def run(lock, archive, layout, folder):
     """Tries each variant of a lock's code, of all locks without a name, and tells what became of it."""
     right = Path(folder) / "right"
     sources.build(archive, layout, right)
-    variants = [v for v in OF_MUTEX + OF_RWSEM + OF_OSQ + OF_SPIN + OF_BOTH if lock in ("", v.lock)]
+    variants = [v for v in OF_MUTEX + OF_RWSEM + OF_OSQ + OF_SPIN + OF_PERCPU + OF_BOTH if lock in ("", v.lock)]
     refused = 0
     for variant in variants:
         answer, lines = answer_of(variant, archive, layout, right)
