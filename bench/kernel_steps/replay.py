@@ -22,6 +22,9 @@ SHARED_WORDS = {"owner", "count", "hint", "head", "last", "unowned", "block", "r
 BATCH_TURNS, WAKE_TURNS = 199, 7        # at each how manyth step the facts of many tasks are checked
 
 
+NO_ADDRESS = "0x" + 16 * "0"            # how addr2line -a writes the address 0
+
+
 @functools.cache
 def kind_and_code(place):
     """The kind of a word and whose it is, as in `mnext12`."""
@@ -30,19 +33,30 @@ def kind_and_code(place):
 
 
 class Functions:
-    """The kernel's functions by address."""
+    """The kernel's functions by address, from one process of addr2line."""
 
     def __init__(self, program):
-        self.program, self.known = program, {}
+        words = ["addr2line", "-a", "-f", "-i", "-e", program]
+        self.process = subprocess.Popen(words, stdin=subprocess.PIPE, stdout=subprocess.PIPE, text=True, bufsize=1)
+        self.known = {}
 
     def at(self, pc):
         """The function and the line that a call of the sanitizer comes back to."""
         if pc not in self.known:
-            address = "%x" % (int(pc, 16) - 1)
-            out = subprocess.run(["addr2line", "-f", "-i", "-e", self.program, address], capture_output=True, text=True).stdout
-            name, line = out.split("\n")[:2]
+            name, line = self.look_up(int(pc, 16) - 1)
             self.known[pc] = name, line.split("/")[-1].split(" ")[0]
         return self.known[pc]
+
+    def look_up(self, address):
+        """The innermost of the functions at an address. The address 0 behind it shows where its lines end."""
+        self.process.stdin.write("%x\n0\n" % address)
+        read = self.process.stdout.readline
+        read()
+        name, line = read().strip(), read().strip()
+        while read().strip() != NO_ADDRESS:
+            pass
+        read(), read()
+        return name, line
 
 
 def flags_of(kind, word):

@@ -18,7 +18,7 @@ LOCKS = ("mutex", "rwsem", "osq", "spin", "nest", "percpu", "batch")
 ORDERS = {"drawn": (100, 0), "hard": (50, 0), "bound": (50, 3)}
 SLICE = sum(count for count, _ in ORDERS.values())
 # A batch has more than 256 tasks, so one run of it stands for many schedules.
-SCHEDULES_OF_A_BATCH = 500
+SCHEDULES_OF_A_BATCH = 1000
 # So many schedules of three tasks that are bound have the same calls.
 BOUND_BLOCK = 64 * 64 * 4
 LINES_SHOWN = 80
