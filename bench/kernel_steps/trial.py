@@ -4,6 +4,7 @@
 As a program, `trial.py PROGRAM LOCK SECONDS` goes through schedules of each order until one differs or
 the time is over, and prints the shortest that differs. bench/conform --wrong runs it so.
 """
+import functools
 import re
 import subprocess
 import sys
@@ -25,6 +26,12 @@ LINES_SHOWN = 80
 
 Place = namedtuple("Place", "lock order number tasks version layout program")
 Found = namedtuple("Found", "place lines reason trace")
+
+
+@functools.cache
+def functions_of(program):
+    """The functions of a program, from one process for all its runs."""
+    return Functions(program)
 
 
 class Trial:
@@ -50,7 +57,7 @@ class Trial:
         """Runs so many schedules, from the place's number on, and tells `ended` of each."""
         words = [place.program, place.lock, place.number, count, place.tasks, place.order]
         process = subprocess.Popen(list(map(str, words)), stdout=subprocess.PIPE, text=True, bufsize=1 << 20)
-        functions = FUNCTIONS.setdefault(place.program, Functions(place.program))
+        functions = functions_of(place.program)
         replay = None
         for text in process.stdout:
             fields = text.split()
@@ -64,9 +71,6 @@ class Trial:
                 replay.line(text, fields)
         if process.wait() and not self.found:
             raise OSError("%s ended with %d" % (place.program, process.returncode))
-
-
-FUNCTIONS = {}
 
 
 class Replay:
@@ -122,7 +126,7 @@ def tell_trace(found, whole=False):
     lines = found.trace if whole or len(found.trace) <= LINES_SHOWN else found.trace[-LINES_SHOWN:]
     if len(lines) < len(found.trace):
         print("    ... %d lines before" % (len(found.trace) - len(lines)))
-    functions = FUNCTIONS[found.place.program]
+    functions = functions_of(found.place.program)
     for line in lines:
         pc = line.split()[5]
         where = "" if pc == "0" else "  %s %s" % functions.at(pc)
