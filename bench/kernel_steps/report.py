@@ -74,7 +74,7 @@ def tell_answers(program):
         print("%-22s %10d %10d %10d" % (name, words.times[name], asked.count(name), answered[name]))
     print("%d steps, %d different questions, %d answered, %d differ" % (
         sum(words.times.values()), len(asked), sum(answered.values()), len(differ)))
-    for question, ours, theirs, (lines, where, number, tasks) in differ[:20]:
+    for question, ours, theirs, place in differ[:20]:
         print("ANSWERS OTHERWISE  %s: %s, and here %s; first at line %d of %s, run %d of %d tasks" % (
-            " ".join(map(str, map(lambda part: part if isinstance(part, str) else int(part), question))), theirs, " ".join(map(str, ours)), lines, where, number, tasks))
+            words.line_of(question), theirs, words.line_of(ours), *place))
     return len(differ)

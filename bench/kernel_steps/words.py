@@ -213,9 +213,15 @@ def tail_of(node):
 BATCH_OF_QUESTIONS = 50_000
 
 
+def line_of(parts):
+    """A question or an answer as a line: its name, and numbers in decimal."""
+    name, *numbers = parts
+    return " ".join([name, *(str(int(number)) for number in numbers)])
+
+
 def ask(program, questions):
     """The program's answers, a line each."""
-    text = "".join(" ".join(str(int(part)) if i else part for i, part in enumerate(q)) + "\n" for q in questions)
+    text = "".join(line_of(question) + "\n" for question in questions)
     done = subprocess.run(shlex.split(program), input=text, stdout=subprocess.PIPE, text=True)
     lines = done.stdout.splitlines()
     if done.returncode or len(lines) != len(questions):
@@ -234,6 +240,6 @@ def compare(program):
             if theirs == "unknown":
                 continue
             answered[question[0]] += 1
-            if theirs != " ".join(map(str, ours)):
+            if theirs != line_of(ours):
                 differ.append((question, ours, theirs, place))
     return differ, answered

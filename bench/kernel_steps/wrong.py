@@ -94,31 +94,43 @@ OF_PERCPU = [
     Variant("percpu", PERCPU, None, r"return !reader;", "return 1;", "a writer's release wakes one reader alone"),
     Variant("percpu", PERCPU, None, r"if \(per_cpu_sum\(\*sem->read_count\) != 0\)", "if (0)", "a writer doesn't wait for readers"),
 ]
-# The rule has the same change, so that a fact of each moment must find it.
+ONE_SIDED = OF_MUTEX + OF_RWSEM + OF_OSQ + OF_SPIN + OF_PERCPU
+
+
+def alike(lock, name, rule, **other):
+    """A variant of the list above, with the same change of the rule, so that a fact of each moment must refuse it."""
+    variant = next(v for v in ONE_SIDED if (v.lock, v.what) == (lock, name))
+    return variant._replace(rule=rule, **other)
+
+
 OF_BOTH = [
-    OF_MUTEX[1]._replace(rule=Rule("words.py", "8 * first | PICKUP if first", "8 * first if first")),
-    OF_MUTEX[4]._replace(rule=Rule(
-        "mutex.py", 'nobody waits")\n            self.choose()', 'nobody waits")\n        self.choose()')),
-    OF_MUTEX[0]._replace(becomes="__mutex_clear_flag(lock, 6)", what="the last waiter that leaves keeps WAITERS",
-                         rule=Rule("words.py", "word & ~7", "word & ~6")),
-    OF_MUTEX[6]._replace(rule=Rule("mutex.py", 'self.point == "6: tries after sleep" and self.is_first', 'self.point == "6: tries after sleep"')),
-    OF_RWSEM[0]._replace(rule=Rule("words.py", "word & ~(HAS_WAITERS | ASKED)", "word & ~HAS_WAITERS")),
+    alike("mutex", "a handoff sets no PICKUP", Rule("words.py", "8 * first | PICKUP if first", "8 * first if first")),
+    alike("mutex", "a release wakes nobody",
+          Rule("mutex.py", 'nobody waits")\n            self.choose()', 'nobody waits")\n        self.choose()')),
+    alike("mutex", "the last waiter that leaves keeps HANDOFF", Rule("words.py", "word & ~7", "word & ~6"),
+          becomes="__mutex_clear_flag(lock, 6)", what="the last waiter that leaves keeps WAITERS"),
+    alike("mutex", "a waiter that isn't the first asks",
+          Rule("mutex.py", 'self.point == "6: tries after sleep" and self.is_first', 'self.point == "6: tries after sleep"')),
+    alike("rwsem", "the last waiter that leaves keeps HANDOFF",
+          Rule("words.py", "word & ~(HAS_WAITERS | ASKED)", "word & ~HAS_WAITERS")),
     Variant("rwsem", RWSEM, MARK_WAKE, r"woken \* RWSEM_READER_BIAS - adjustment", "woken * RWSEM_READER_BIAS",
             "a wake keeps its own bias", Rule("words.py", "READER * (readers - reserved)", "READER * readers")),
-    OF_RWSEM[8]._replace(rule=Rule("rwsem.py", 'self.wake(READERS if readers else ANY, "read: releases to sleep")',
-                                   'self.point = "read: releases to sleep"')),
+    alike("rwsem", "a reader that queues wakes nobody",
+          Rule("rwsem.py", 'self.wake(READERS if readers else ANY, "read: releases to sleep")', 'self.point = "read: releases to sleep"')),
     Variant("rwsem", RWSEM, r" __up_read\(struct", r"if \(unlikely\(\(tmp", "if (0 && ((tmp", "a reader's release wakes nobody",
             Rule("words.py", '"wake" if after & HAS_WAITERS and not after & LOCK_BITS else "to"', '"to"')),
-    OF_RWSEM[13]._replace(becomes="RWSEM_WRITER_MASK", what="a spinning writer takes beside readers",
-                          rule=Rule("words.py", "word & (LOCK_BITS | ASKED)", "word & WRITER")),
-    OF_OSQ[1]._replace(rule=Rule(
-        "osq.py", 'self.behind, self.point = found, "C: stores prev" if leaves else "grants"',
-        'self.behind, self.point = found, "C: stores next" if leaves else "grants"\n'
-        '            self.queue.remove(self) if leaves else None')),
-    OF_OSQ[3]._replace(rule=Rule("osq.py", "len(self.cleared) == 2 and s.new == self.code", "s.new == self.code")),
-    OF_PERCPU[5]._replace(rule=Rule("percpu.py", "len(self.seen) == len(self.run.tasks) and sum(self.seen) % COUNTS == 0", "True")),
-    OF_SPIN[0]._replace(rule=Rule("spin.py", 'to 4")\n            self.point = "clears its node"', 'to 4")\n            self.point = "undoes pending"')),
-    OF_SPIN[3]._replace(rule=Rule("spin.py", "s.old & 0x1FF", "s.old & 0xFF")),
+    alike("rwsem", "a spinning writer takes under HANDOFF", Rule("words.py", "word & (LOCK_BITS | ASKED)", "word & WRITER"),
+          becomes="RWSEM_WRITER_MASK", what="a spinning writer takes beside readers"),
+    alike("osq", "step C doesn't store prev",
+          Rule("osq.py", 'self.behind, self.point = found, "C: stores prev" if leaves else "grants"',
+               'self.behind, self.point = found, "C: stores next" if leaves else "grants"\n'
+               '            self.queue.remove(self) if leaves else None')),
+    alike("osq", "locked isn't cleared", Rule("osq.py", "len(self.cleared) == 2 and s.new == self.code", "s.new == self.code")),
+    alike("spin", "another's pending bit is cleared",
+          Rule("spin.py", 'to 4")\n            self.point = "clears its node"', 'to 4")\n            self.point = "undoes pending"')),
+    alike("spin", "a head doesn't wait for the pending bit", Rule("spin.py", "s.old & 0x1FF", "s.old & 0xFF")),
+    alike("percpu", "a writer doesn't wait for readers",
+          Rule("percpu.py", "len(self.seen) == len(self.run.tasks) and sum(self.seen) % COUNTS == 0", "True")),
 ]
 
 
@@ -179,7 +191,7 @@ def run(lock, archive, layout, folder):
     """Tries each variant of a lock's code, of all locks without a name, and tells what became of it."""
     right = Path(folder) / "right"
     sources.build(archive, layout, right)
-    variants = [v for v in OF_MUTEX + OF_RWSEM + OF_OSQ + OF_SPIN + OF_PERCPU + OF_BOTH if lock in ("", v.lock)]
+    variants = [v for v in ONE_SIDED + OF_BOTH if lock in ("", v.lock)]
     refused = 0
     for variant in variants:
         answer, lines = answer_of(variant, archive, layout, right)
