@@ -32,6 +32,11 @@ def kind_and_code(place):
     return kind, int(code) if code else -1
 
 
+def has_changed(s, before, point):
+    """Whether the facts of the moment may be others than before: a look that leads nowhere leaves them as they are."""
+    return s.old != s.new or before != point
+
+
 class Functions:
     """The kernel's functions by address, from one process of addr2line."""
 
@@ -130,6 +135,7 @@ class Run:
             call.use_node(s.old)
             others = sum(c.node is not None and c.point not in WITHOUT_NODE for c in task.spin_calls if c is not call)
             need(s.old == others, "the number of nodes in use")
+        point = call.point
         result = call.step(s)
         if result is None:
             need(s.op in "Llc" or s.kind == "mcount", "spin: %s of %s%d from %d to %d at %s", s.op, s.kind, s.of, s.old, s.new, call.point)
@@ -137,7 +143,7 @@ class Run:
         ended = result not in (None, STAYS)
         if ended and self.has_list:
             task.happens(result)
-        if self.lock != "batch" or ended:
+        if self.lock != "batch" and has_changed(s, point, call.point) or ended:
             check_spin(self, call.lock)
         if ended and self.has_list:
             self.check()
@@ -158,17 +164,20 @@ class Run:
             task.happens("osq_lock")
         elif self.has_list and osq.point == "holds" and s.kind == "tail":
             task.happens("osq_unlock")
+        point = osq.point
         result = osq.step(s)
         if result is None:
             need(s.op in "Llc" or s.kind == "cpu", "osq: %s of %s%d from %d to %d at %s", s.op, s.kind, s.of, s.old, s.new, osq.point)
             self.count_load(s, pc)
         elif result != STAYS and self.has_list:
             task.happens(result)
-        check_osq(self)
+        if has_changed(s, point, osq.point):
+            check_osq(self)
 
     def lock_step(self, task, s, pc):
         s.function = self.functions.at(pc)[0]
         sets_mark = s.kind == "mark" and s.stores and s.new
+        point = task.point
         result = task.step(s)
         if sets_mark:
             need(result is not None, "a mark of %d at %s", s.of, task.point)
@@ -176,7 +185,7 @@ class Run:
         elif result is None:
             self.must_be_private(task, s)
             self.count_load(s, pc)
-        if result is not None or s.old != s.new:
+        if has_changed(s, point, task.point):
             self.check()
 
     def must_be_private(self, task, s):
