@@ -22,6 +22,7 @@ class PercpuCall(Call):
     granted = False         # a release has taken for it
     attempt = "comes"
     reads, seen = False, ()
+    took_reader = False     # of the waiter that it takes from the line, which may have gone on before its wake
 
     def begins(self, call):
         need(self.point == "out", "a call within a call")
@@ -169,6 +170,7 @@ class PercpuCall(Call):
             return None
         need(s.new == 0 and s.of == self.run.list[0], "takes another than the first from the line")
         did("percpu up_write: takes the first from the line")
+        self.took_reader = self.whom().reads
         self.run.list.pop(0)
         self.waits_for, self.point = s.of, "wakes it"
         return STAYS
@@ -220,7 +222,7 @@ class PercpuCall(Call):
         if self.point == "wakes it":
             need(who == self.waits_for, "wakes another than it took from the line")
             did("percpu up_write: wakes it")
-            if self.run.tasks[who - 1].reads:
+            if self.took_reader:
                 self.next_in_line()
             else:
                 self.point = "releases the line"
