@@ -16,4 +16,5 @@ pub mod Replies
 pub mod Telling
 mod Earliest
 pub mod Order
+pub mod Positions
 pub mod NamedCalls

@@ -117,7 +117,7 @@ module _ {Call : Type 0} (o : Obj Call) where
       (λ i. first i ++ rest i) ∙ sym (filter-append (stands_at p) _ (events_from (task + 1) wss rss))
 
   -- the calls at so many positions from this one on
-  abbrev at_positions : List Event → (p count : ℕ) → List Event
+  abbrev pub at_positions : List Event → (p count : ℕ) → List Event
   at_positions events p zero = []
   at_positions events p (suc count) = filter (stands_at p) events ++ at_positions events (p + 1) count
 
@@ -139,7 +139,7 @@ module _ {Call : Type 0} (o : Obj Call) where
       (all_of (λ v. (not (event_logs o v) && nat_eq v.told.k k) ≡ stands_at (k * 2) v) events (λ v. unlogged_test (event_logs o v) v.told.k k))
 
   -- a history has its calls position by position
-  stands_so : (events : List Event) (log : List Entry) (k : ℕ) (es : List Entry) → AreNamed events log → ((i : ℕ) → slice_get es i ≡ slice_get log (i + k)) → history_from o events k es ≡ at_positions events (k * 2) (length es * 2 + 1)
+  pub stands_so : (events : List Event) (log : List Entry) (k : ℕ) (es : List Entry) → AreNamed events log → ((i : ℕ) → slice_get es i ≡ slice_get log (i + k)) → history_from o events k es ≡ at_positions events (k * 2) (length es * 2 + 1)
   stands_so events log k [] named are = unlogged_stand events k ∙ sym (append-nil (filter (stands_at (k * 2)) events))
   stands_so events log k (e ∷ es) named are =
       let unlogged = unlogged_stand events k in

@@ -86,7 +86,7 @@ front_and_behind o bound (v ∷ vs) = go (front_and_behind o bound vs) (cases_lt
     go rest (inr from) = rw (front_no o bound v vs from, behind_no o bound v vs from) refl
 
 -- each call stands below a position
-abbrev AllBelow : {Call : Type 0} → Obj Call → ℕ → List Event → Type 0
+abbrev pub AllBelow : {Call : Type 0} → Obj Call → ℕ → List Event → Type 0
 AllBelow o bound vs = AllByRecursion (λ v. position o v.words v.told < bound) vs
 
 below_behind : {Call : Type 0} (o : Obj Call) (p bound : ℕ) (vs : List Event) → AllBelow o bound vs → AllBelow o bound (behind o p vs)
@@ -180,7 +180,7 @@ module _ {Call : Type 0} (o : Obj Call) (u : Unavailable) (plan : Plan) (log : L
       go (inl logged) = let less = within log r.k e (logged_place o u plan log seen e w r is logged) in rw logged (omega (arith, less))
       go (inr unlogged) = let place = record_place seen e w r is in rw unlogged (omega (arith, place))
 
-  task_below : (task call seen : ℕ) (ws : List CallWords) (rs : List Rec) → AreTaskRecords o u plan log task call seen ws rs → AllBelow o (length log * 2 + 1) (task_events task call ws rs)
+  pub task_below : (task call seen : ℕ) (ws : List CallWords) (rs : List Rec) → AreTaskRecords o u plan log task call seen ws rs → AllBelow o (length log * 2 + 1) (task_events task call ws rs)
   task_below task call seen [] rs legal = tt
   task_below task call seen (w ∷ ws) [] legal = tt
   task_below task call seen (w ∷ ws) (r ∷ rs) legal =

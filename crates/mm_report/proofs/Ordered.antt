@@ -51,7 +51,7 @@ one_place e log i k at-i at-k once = go (cases_lt i k) (cases_lt k i)
     go (inr after) (inr until) = omega arith
 
 -- the element in the middle is one of all
-all_middle : {X : Type 0} (P : X → Type 0) (xs : List X) (x : X) (ys : List X) → AllByRecursion P (xs ++ x ∷ ys) → P x
+pub all_middle : {X : Type 0} (P : X → Type 0) (xs : List X) (x : X) (ys : List X) → AllByRecursion P (xs ++ x ∷ ys) → P x
 all_middle P [] x ys all = all.0
 all_middle P (z ∷ xs) x ys all = all_middle P xs x ys all.1
 
@@ -60,7 +60,7 @@ all_placed : {X : Type 0} (P : X → Type 0) (before xs : List X) → ((pre : Li
 all_placed P before [] holds = tt
 all_placed P before (x ∷ xs) holds = (holds before x xs refl, all_placed P (before ++ x ∷ []) xs (λ pre y post is. holds pre y post (sym (append_assoc before (x ∷ []) xs) ∙ is)))
 
-all_append : {X : Type 0} (P : X → Type 0) (xs ys : List X) → AllByRecursion P xs → AllByRecursion P ys → AllByRecursion P (xs ++ ys)
+pub all_append : {X : Type 0} (P : X → Type 0) (xs ys : List X) → AllByRecursion P xs → AllByRecursion P ys → AllByRecursion P (xs ++ ys)
 all_append P [] ys first rest = rest
 all_append P (x ∷ xs) ys first rest = (first.0, all_append P xs ys first.1 rest)
 
@@ -192,7 +192,7 @@ module _ {Call : Type 0} (o : Obj Call) (u : Unavailable) (plan : Plan) (records
       let same = same_Some e v.entry (sym at ∙ ap (slice_get log) (sym parts.1) ∙ place) in
       ap (λ d. entry_eq d e) (sym same) ∙ entry_eq_self e
 
-  named : AreNamed o (events_from 0 plan records) log
+  pub named : AreNamed o (events_from 0 plan records) log
   named k e at = all_placed (λ v. entry_eq v.entry e ≡ stands_at o (k * 2 + 1) v) [] (events_from 0 plan records) (λ pre v post is. go pre v post is (cases_Bool (entry_eq v.entry e)) (cases_Bool (stands_at o (k * 2 + 1) v)))
     where
       go : (pre : List Event) (v : Event) (post : List Event) → events_from 0 plan records ≡ pre ++ v ∷ post → (entry_eq v.entry e ≡ true) ⊎ (entry_eq v.entry e ≡ false) → (stands_at o (k * 2 + 1) v ≡ true) ⊎ (stands_at o (k * 2 + 1) v ≡ false)

@@ -3,7 +3,7 @@ ghost use Rattle.vma_map.specs.Spaces.{space};
 ghost use Rattle.fd_table.specs.Tables.{table};
 ghost use Rattle.word_bits.specs.LockWords.{counted, owned};
 ghost use Rattle.mm_report.specs.Meanings.{SignalsAreNamed, SpaceCallsAreNamed, TableCallsAreNamed};
-ghost use Rattle.mm_report.specs.Orders.{KeepsOrder};
+ghost use Rattle.mm_report.specs.Orders.{KeepsOrder, KeepsPositions};
 ghost use Rattle.mm_report.specs.Telling.{LineTellsCall, TextDeterminesHistories};
 
 /// The text determines the lines of the histories and the states that are told.
@@ -23,6 +23,14 @@ pub fn line_tells_call()
 pub fn history_keeps_order()
     ensures space { KeepsOrder space counted }
     ensures table { KeepsOrder table owned }
+{}
+
+/// The history of a space or of a table has its calls in the order of their places in the log. At
+/// one place the calls that aren't logged stand before the one that is.
+#[tactic(auto, using(crate::proofs::Positions::keeps_positions))]
+pub fn history_keeps_positions()
+    ensures space { KeepsPositions space counted }
+    ensures table { KeepsPositions table owned }
 {}
 
 /// The name and the arguments of a call in a script mean the call of that name, in each version

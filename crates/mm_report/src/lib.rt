@@ -10,6 +10,9 @@ mod state;
 mod summary;
 mod text;
 
-pub use laws::{calls_are_named, history_keeps_order, line_tells_call, text_determines_histories};
+pub use laws::{
+    calls_are_named, history_keeps_order, history_keeps_positions, line_tells_call,
+    text_determines_histories,
+};
 pub use results::Results;
 pub use text::report;
