@@ -5,6 +5,7 @@ pub mod Gathers
 pub mod Opens
 pub mod Passes
 pub mod Planned
+pub mod RealTime
 pub mod Same
 pub mod Staffed
 pub mod Turns

@@ -4,6 +4,7 @@ pub mod MachineLending
 pub mod Machines
 pub mod ObjectsOpening
 pub mod MachinePasts
+pub mod RealTimeOrder
 pub mod MachineQueues
 pub mod TaskServing
 pub mod MachineSites

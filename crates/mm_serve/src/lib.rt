@@ -8,6 +8,7 @@
 
 mod copying;
 mod gathering;
+mod laws;
 mod machine;
 mod one_lock;
 mod opening;
@@ -17,6 +18,7 @@ mod shared_object;
 mod space_or_table;
 mod worker;
 
+pub use laws::{history_keeps_real_time_order, recalled_history_keeps_real_time_order};
 pub use machine::Machine;
 pub use shared_object::SharedObject;
 pub use space_or_table::{SpaceOrTable, SpaceOrTablePass};

@@ -1,0 +1,27 @@
+//! Laws of the histories that a machine leaves. Each is the contract of a function that does
+//! nothing.
+ghost use Rattle.vma_map.specs.Spaces.{space};
+ghost use Rattle.fd_table.specs.Tables.{table};
+ghost use Rattle.word_bits.specs.LockWords.{counted, owned};
+ghost use Rattle.mm_serve.specs.RealTimeOrder.{KeepsRealTimeOrder, RecalledInRealTimeOrder};
+
+use fd_table::Fds;
+use sleep_lock::SleepLock;
+use vma_map::Areas;
+
+/// The history of a space or of a table keeps the real-time order of its calls: of two calls that
+/// held the lock, the one that took effect first stands first. Two calls that only read, with no
+/// changing call between them, may stand in either order.
+pub fn history_keeps_real_time_order()
+    ensures space { KeepsRealTimeOrder space counted }
+    ensures table { KeepsRealTimeOrder table owned }
+{}
+
+/// The same, under locks of any kind, from what a machine keeps of an object: a pass that knows
+/// the past of the object's table and each record that is told.
+pub fn recalled_history_keeps_real_time_order<A: SleepLock<Areas>, T: SleepLock<Fds>>()
+    ensures space { RecalledInRealTimeOrder space counted A.kind 257 A.word_at A.waits A.tells
+        A.opened }
+    ensures table { RecalledInRealTimeOrder table owned T.kind 64 T.word_at T.waits T.tells
+        T.opened }
+{}
