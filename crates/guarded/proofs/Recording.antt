@@ -33,7 +33,7 @@ use Rattle.lock_core.specs.declared.how.Interrupted.{Interrupted}
 use Rattle.lock_core.specs.Pasts.{FoundAtStep}
 use Rattle.lock_core.specs.Kinds.{Kind, shares, unavailable, wakes_shared}
 use Rattle.lock_core.specs.Shown.{Shown, NoCountFalls, AllButHand, LeavesHold, PastGoesOn, IsNextCall}
-use Rattle.lock_core.specs.Locking.{Begins, Looks, Takes, Frees, Releases, Sees, SawPending, KeepsPlace, IsLetIn}
+use Rattle.lock_core.specs.Locking.{Begins, HasSince, Looks, Takes, Frees, Releases, Sees, SawPending, KeepsPlace, IsLetIn}
 use Rattle.guarded.specs.Performing.{Refuses, TriesOnce, AddsRecord, Serves, Performs, takes_by}
 
 eq-le : (m n : ℕ) → m ≡ n → n ≤ m
@@ -57,6 +57,10 @@ counts-beside v u misses b = record {
   appends = eq-le _ _ (ap {A = Line} (λ l. l.appends) b.2);
 }
 
+-- the step of its last record is one of the steps that a pass made since
+is-since : (v u : Shown) (step : ℕ) → u.hand.last ≡ step → v.steps < step → step ≤ u.steps → (v.steps < u.hand.last) × (u.hand.last ≤ u.steps)
+is-since v u step last since by_now = (omega arith, omega arith)
+
 -- a pass that made a record ends or downgrades its hold
 pub adds-freed : (wakes : ℕ → Type 0) (rec : Rec) (seen : List Entry) (v m u : Shown) → AddsRecord rec seen v m → Frees wakes m u → AddsRecord rec u.hand.seen v u
 adds-freed wakes rec seen v m u a f = record {
@@ -73,12 +77,13 @@ adds-freed wakes rec seen v m u a f = record {
   line = f.line ∙ a.line;
   tally = f.tally ∙ a.tally;
   counts = counts-trans v m u a.counts f.keeps.counts;
+  stored = let last = f.keeps.last in let steps = f.keeps.counts.steps in let s = a.stored in (omega (arith, last, s), omega (arith, last, steps, s));
 }
 
 -- a pass made a record: beside what a record changes, what it knows of the object alone may be other than before
-adds : (v m : Shown) (stage : Stage) (writes : Bool) (known : List ℕ) (log : List Entry) (step : ℕ) (rec : Rec) (seen : List Entry) → m.hand ≡ recorded (record v.hand { stage = stage; writes = writes; known = known; log = log }) step (next_entry v.hand) rec seen → AllButHand v m
-    → AddsRecord rec seen v m
-adds v m stage writes known log step rec seen e b = record {
+adds : (v m : Shown) (stage : Stage) (writes : Bool) (known : List ℕ) (log : List Entry) (rec : Rec) (seen : List Entry)
+    → HasSince (λ step. recorded (record v.hand { stage = stage; writes = writes; known = known; log = log }) step (next_entry v.hand) rec seen) v m → AddsRecord rec seen v m
+adds v m stage writes known log rec seen has = let e = has.3.0 in let b = has.3.1 in record {
   task = ap {A = Hand} (λ h. h.task) e;
   done = ap {A = Hand} (λ h. h.done) e;
   records = ap {A = Hand} (λ h. h.records) e;
@@ -92,16 +97,17 @@ adds v m stage writes known log step rec seen e b = record {
   line = b.2;
   tally = b.5;
   counts = counts-beside v m (ap {A = Hand} (λ h. h.misses) e) b;
+  stored = is-since v m has.0 (ap {A = Hand} (λ h. h.last) e) has.1 has.2;
 }
 
-pub adds-read : (v m : Shown) (step : ℕ) (rec : Rec) (seen : List Entry) → m.hand ≡ recorded v.hand step (next_entry v.hand) rec seen → AllButHand v m → AddsRecord rec seen v m
+pub adds-read : (v m : Shown) (rec : Rec) (seen : List Entry) → HasSince (λ step. recorded v.hand step (next_entry v.hand) rec seen) v m → AddsRecord rec seen v m
 adds-read v m = adds v m v.hand.stage v.hand.writes v.hand.known v.hand.log
 
-pub adds-change : (v m : Shown) (step : ℕ) (xs : List ℕ) (reply : Reply) → m.hand ≡ committed (record v.hand { known = xs }) step (next_entry v.hand) reply → AllButHand v m
+pub adds-change : (v m : Shown) (xs : List ℕ) (reply : Reply) → HasSince (λ step. committed (record v.hand { known = xs }) step (next_entry v.hand) reply) v m
     → AddsRecord (record { k = length v.hand.log; reply = reply }) (v.hand.log ++ next_entry v.hand ∷ []) v m
-adds-change v m step xs reply =
+adds-change v m xs reply =
     let log = v.hand.log ++ next_entry v.hand ∷ [] in
-    adds v m (Logged (next_entry v.hand)) false xs log step (record { k = length v.hand.log; reply = reply }) log
+    adds v m (Logged (next_entry v.hand)) false xs log (record { k = length v.hand.log; reply = reply }) log
 
 -- a reply of an object is recorded at the end of the log
 pub noted-is : (h : Hand) (e : Entry) (reply : Reply) (step : ℕ) → IsObjectReply reply → noted h step e reply ≡ recorded h step e (record { k = length h.log; reply = reply }) h.log
@@ -126,10 +132,10 @@ module _ {Call : Type 0} (o : Obj Call) (kind : Kind) (k : Plan) where
   may-note h e Sent is r = absurd is
 
   -- a call that reads, done by a holder
-  pub serves-read : (v m u : Shown) (words : CallWords) (c : Call) (reply : Reply) (step : ℕ) → o.call_of words ≡ Some c → o.reads c ≡ true → IsObjectReply reply → reply ≡ (o.meaning (state_after o k v.hand.log) c).1
-      → m.hand ≡ noted v.hand step (next_entry v.hand) reply → AllButHand v m → Releases (wakes_shared kind) m u → Serves o kind k words reply v u
-  serves-read v m u words c reply step is reads object replies hand beside ends =
-      let marks = adds-read v m step (record { k = length v.hand.log; reply = reply }) v.hand.log (hand ∙ noted-is v.hand (next_entry v.hand) reply step object) beside in
+  pub serves-read : (v m u : Shown) (words : CallWords) (c : Call) (reply : Reply) → o.call_of words ≡ Some c → o.reads c ≡ true → IsObjectReply reply → reply ≡ (o.meaning (state_after o k v.hand.log) c).1
+      → HasSince (λ step. noted v.hand step (next_entry v.hand) reply) v m → Releases (wakes_shared kind) m u → Serves o kind k words reply v u
+  serves-read v m u words c reply is reads object replies has ends =
+      let marks = adds-read v m (record { k = length v.hand.log; reply = reply }) v.hand.log (has.0, has.1, has.2, (has.3.0 ∙ noted-is v.hand (next_entry v.hand) reply has.0 object, has.3.1)) in
       let seen : u.hand.seen ≡ v.hand.log = ends.0.keeps.seen ∙ marks.seen_is in
       let whole : take (length v.hand.log) u.hand.seen ≡ v.hand.log = ap (take (length v.hand.log)) seen ∙ take_all (length v.hand.log) v.hand.log (omega arith) in
       let unlogged : logs o words reply ≡ false = object-logs o words reply object ∙ (changes-is o words c is ∙ ap not reads) in record {
@@ -144,11 +150,11 @@ module _ {Call : Type 0} (o : Obj Call) (kind : Kind) (k : Plan) where
       }
 
   -- a call that changes the object, done by a holder
-  pub serves-change : (wakes : ℕ → Type 0) (v m u : Shown) (words : CallWords) (c : Call) (reply : Reply) (step : ℕ) (xs : List ℕ) → o.call_of words ≡ Some c → o.reads c ≡ false → IsObjectReply reply → reply ≡ (o.meaning (state_after o k v.hand.log) c).1
-      → m.hand ≡ committed (record v.hand { known = xs }) step (next_entry v.hand) reply → AllButHand v m → Releases wakes m u → Serves o kind k words reply v u
-  serves-change wakes v m u words c reply step xs is reads object replies hand beside ends =
+  pub serves-change : (wakes : ℕ → Type 0) (v m u : Shown) (words : CallWords) (c : Call) (reply : Reply) (xs : List ℕ) → o.call_of words ≡ Some c → o.reads c ≡ false → IsObjectReply reply → reply ≡ (o.meaning (state_after o k v.hand.log) c).1
+      → HasSince (λ step. committed (record v.hand { known = xs }) step (next_entry v.hand) reply) v m → Releases wakes m u → Serves o kind k words reply v u
+  serves-change wakes v m u words c reply xs is reads object replies has ends =
       let e = next_entry v.hand in
-      let marks = adds-change v m step xs reply hand beside in
+      let marks = adds-change v m xs reply has in
       let seen : u.hand.seen ≡ v.hand.log ++ e ∷ [] = ends.0.keeps.seen ∙ marks.seen_is in
       let whole : take (length v.hand.log) u.hand.seen ≡ v.hand.log = ap (take (length v.hand.log)) seen ∙ take_at v.hand.log (e ∷ []) (length v.hand.log) refl in
       let logged : logs o words reply ≡ true = object-logs o words reply object ∙ (changes-is o words c is ∙ ap not reads) in record {
@@ -171,10 +177,10 @@ module _ {Call : Type 0} (o : Obj Call) (kind : Kind) (k : Plan) where
   pub reading-unsent : (h g : Hand) (reply : Reply) → g ≡ h → IsObjectReply reply → OwesNoSignal h → Unsent g reply
   reading-unsent h g reply same object owes = subst (λ (x : Hand). Unsent x reply) (sym same) (subst OwesNoSignal (sym (settled-object h reply object)) owes)
 
-  pub serves-looked : (v w m u : Shown) (words : CallWords) (c : Call) (reply : Reply) (step : ℕ) → o.call_of words ≡ Some c → o.reads c ≡ true → IsObjectReply reply → reply ≡ (o.meaning (state_after o k v.hand.log) c).1
-      → Looks v w → m.hand ≡ noted w.hand step (next_entry w.hand) reply → AllButHand w m → Releases (wakes_shared kind) m u → Serves o kind k words reply v u
-  serves-looked v w m u words c reply step is reads object replies looks hand beside ends =
-      serves-read v m u words c reply step is reads object replies (hand ∙ ap {B = Hand} (λ (x : Hand). noted x step (next_entry x) reply) looks.0) (beside-trans v w m looks.1 beside) ends
+  pub serves-looked : (v w m u : Shown) (words : CallWords) (c : Call) (reply : Reply) → o.call_of words ≡ Some c → o.reads c ≡ true → IsObjectReply reply → reply ≡ (o.meaning (state_after o k v.hand.log) c).1
+      → Looks v w → HasSince (λ step. noted w.hand step (next_entry w.hand) reply) w m → Releases (wakes_shared kind) m u → Serves o kind k words reply v u
+  serves-looked v w m u words c reply is reads object replies looks has ends =
+      serves-read v m u words c reply is reads object replies (has.0, (let a = looks.1.3 in let b = has.1 in omega (arith, a, b)), has.2, (has.3.0 ∙ ap {B = Hand} (λ (x : Hand). noted x has.0 (next_entry x) reply) looks.0, beside-trans v w m looks.1 has.3.1)) ends
 
 abbrev busy_word : Reply → ℕ
 busy_word Good = 0
@@ -312,6 +318,7 @@ module _ {Call : Type 0} (o : Obj Call) (kind : Kind) (at : ℕ) (k : Plan) wher
         takes = let one = object-takes reply serves.replies in let a = takes.takes in let b = serves.adds.takes in omega (arith, one, a, b);
         accounted = (serves.adds.sent ∙ (takes.keeps.sent ∙ accounted.0), serves.adds.consumed ∙ (takes.consumed ∙ accounted.1));
         counts = counts-trans v m u takes.keeps.counts serves.adds.counts;
+        stored = let a = takes.keeps.counts.steps in let s = serves.adds.stored in (omega (arith, a, s), s.1);
         signals = λ some. absurd (false≢true (subst IsSome unsent some));
         busy = λ word e. absurd (subst IsObjectReply e serves.replies);
         interrupted = λ e. absurd (subst IsObjectReply e serves.replies);
@@ -323,12 +330,12 @@ module _ {Call : Type 0} (o : Obj Call) (kind : Kind) (at : ℕ) (k : Plan) wher
 
   -- a call that never held
   pub performs-unheld : (v u : Shown) (words : CallWords) (reply : Reply) → IsNextCall k v.hand words → IsUnheldReply o (unavailable kind) words reply → logs o words reply ≡ false → u.hand.seen ≡ v.hand.seen
-      → u.hand.records ≡ record { entry = next_entry v.hand; rec = record { k = length v.hand.seen; reply = reply } } ∷ v.hand.records → u.hand.task ≡ v.hand.task → u.hand.done ≡ v.hand.done + 1 → u.hand.held ≡ No → u.hand.takes ≡ v.hand.takes + takes_by reply → (u.hand.sent ≡ None) × (u.hand.consumed ≡ 0) → NoCountFalls v u
+      → u.hand.records ≡ record { entry = next_entry v.hand; rec = record { k = length v.hand.seen; reply = reply } } ∷ v.hand.records → u.hand.task ≡ v.hand.task → u.hand.done ≡ v.hand.done + 1 → u.hand.held ≡ No → u.hand.takes ≡ v.hand.takes + takes_by reply → (u.hand.sent ≡ None) × (u.hand.consumed ≡ 0) → NoCountFalls v u → (v.steps < u.hand.last) × (u.hand.last ≤ u.steps)
       → (IsSome (signal_of words) → reply ≡ Sent) → ((word : ℕ) → reply ≡ Busy word → (c : Call) × (o.call_of words ≡ Some c) × Sees kind (o.reads c) at word v u)
       → (reply ≡ Intr → (c : Call) × (why : Interrupted) × (word : ℕ) × (o.call_of words ≡ Some c) × SawPending why v u × Sees kind (o.reads c) at word v u)
       → u.tally.interrupted ≡ raised (is_intr reply) v.tally.interrupted
       → (mode_of words ≡ Try → TriesOnce v u) → (mode_of words ≢ Try → KeepsPlace kind (not (changes o words) && not (is_intr reply)) at v u) → Performs o kind at k reply v u
-  performs-unheld v u words reply next why unlogged seen records task done out takes accounted goes signals busy interrupted counted once line = record {
+  performs-unheld v u words reply next why unlogged seen records task done out takes accounted goes stored signals busy interrupted counted once line = record {
     words = words;
     rec = record { k = length v.hand.seen; reply = reply };
     next = next;
@@ -344,6 +351,7 @@ module _ {Call : Type 0} (o : Obj Call) (kind : Kind) (at : ℕ) (k : Plan) wher
     takes = takes;
     accounted = accounted;
     counts = goes;
+    stored = stored;
     signals = signals;
     busy = busy;
     interrupted = interrupted;
@@ -352,14 +360,15 @@ module _ {Call : Type 0} (o : Obj Call) (kind : Kind) (at : ℕ) (k : Plan) wher
     line = line;
   }
 
-  pub performs-sent : (v w u : Shown) (words : CallWords) (target step : ℕ) → IsNextCall k v.hand words → signal_of words ≡ Some target → v.hand.held ≡ No → v.hand.consumed ≡ 0
-      → w.hand ≡ record v.hand { sent = Some target } → AllButHand v w → u.hand ≡ noted w.hand step (next_entry w.hand) Sent → AllButHand w u → Performs o kind at k Sent v u
-  performs-sent v w u words target step next is out consumed sent beside hand after =
-      let now : u.hand ≡ noted (record v.hand { sent = Some target }) step (next_entry v.hand) Sent = hand ∙ ap {B = Hand} (λ (x : Hand). noted x step (next_entry x) Sent) sent in
-      let along = beside-trans v w u beside after in
+  pub performs-sent : (v w u : Shown) (words : CallWords) (target : ℕ) → IsNextCall k v.hand words → signal_of words ≡ Some target → v.hand.held ≡ No → v.hand.consumed ≡ 0
+      → w.hand ≡ record v.hand { sent = Some target } → AllButHand v w → HasSince (λ step. noted w.hand step (next_entry w.hand) Sent) w u → Performs o kind at k Sent v u
+  performs-sent v w u words target next is out consumed sent beside has =
+      let step = has.0 in
+      let now : u.hand ≡ noted (record v.hand { sent = Some target }) step (next_entry v.hand) Sent = has.3.0 ∙ ap {B = Hand} (λ (x : Hand). noted x step (next_entry x) Sent) sent in
+      let along = beside-trans v w u beside has.3.1 in
       let misses = ap {A = Hand} (λ h. h.misses) now in let takes = ap {A = Hand} (λ h. h.takes) now in
       performs-unheld v u words Sent next (subst IsSome (sym is) refl) refl (ap {A = Hand} (λ h. h.seen) now) (ap {A = Hand} (λ h. h.records) now) (ap {A = Hand} (λ h. h.task) now) (ap {A = Hand} (λ h. h.done) now) (ap {A = Hand} (λ h. h.held) now ∙ out) (omega (arith, takes))
-      (ap {A = Hand} (λ h. h.sent) now, ap {A = Hand} (λ h. h.consumed) now ∙ consumed) (counts-beside v u misses along) (λ _. refl) (λ word e. absurd (false≢true (subst (λ r. is_sent r ≡ true) e refl))) (λ e. absurd (false≢true (subst (λ r. is_sent r ≡ true) e refl)))
+      (ap {A = Hand} (λ h. h.sent) now, ap {A = Hand} (λ h. h.consumed) now ∙ consumed) (counts-beside v u misses along) (is-since v u step (ap {A = Hand} (λ h. h.last) now) (let a = beside.3 in let b = has.1 in omega (arith, a, b)) has.2) (λ _. refl) (λ word e. absurd (false≢true (subst (λ r. is_sent r ≡ true) e refl))) (λ e. absurd (false≢true (subst (λ r. is_sent r ≡ true) e refl)))
       (ap (λ (t : Tally). t.interrupted) along.5)
       (λ _. (along.2, along.1, omega (arith, misses)))
       (λ _. record { queues = λ rise. absurd (omega arith); few = λ _. omega arith })
@@ -401,16 +410,16 @@ module _ {Call : Type 0} (o : Obj Call) (kind : Kind) (at : ℕ) (k : Plan) wher
   }
 
   -- a call that couldn't have the lock
-  pub performs-refused : (v m u : Shown) (words : CallWords) (c : Call) (reads : Bool) (mode : Mode) (reply : Reply) (step : ℕ) → IsNextCall k v.hand words → o.call_of words ≡ Some c → reads ≡ o.reads c → mode ≡ mode_of words → signal_of words ≡ None → (v.hand.sent ≡ None) × (v.hand.consumed ≡ 0)
-      → Refuses kind at mode reads reply v m → (mode ≡ Try → TriesOnce v m) → (mode ≢ Try → KeepsPlace kind false at v m) → u.hand ≡ noted m.hand step (next_entry m.hand) reply → AllButHand m u → PastGoesOn m u → Performs o kind at k reply v u
-  performs-refused v m u words c reads mode Good step next is same says unsent accounted why once line hand beside goes = absurd why
-  performs-refused v m u words c reads mode (Num n) step next is same says unsent accounted why once line hand beside goes = absurd why
-  performs-refused v m u words c reads mode (Refused x) step next is same says unsent accounted why once line hand beside goes = absurd why
-  performs-refused v m u words c reads mode MapErr step next is same says unsent accounted why once line hand beside goes = absurd why
-  performs-refused v m u words c reads mode AccErr step next is same says unsent accounted why once line hand beside goes = absurd why
-  performs-refused v m u words c reads mode Sent step next is same says unsent accounted why once line hand beside goes = absurd why
-  performs-refused v m u words c reads mode (Busy w) step next is same says unsent accounted why once line hand beside goes =
-      let keeps = why.1.keeps in
+  pub performs-refused : (v m u : Shown) (words : CallWords) (c : Call) (reads : Bool) (mode : Mode) (reply : Reply) → IsNextCall k v.hand words → o.call_of words ≡ Some c → reads ≡ o.reads c → mode ≡ mode_of words → signal_of words ≡ None → (v.hand.sent ≡ None) × (v.hand.consumed ≡ 0)
+      → Refuses kind at mode reads reply v m → (mode ≡ Try → TriesOnce v m) → (mode ≢ Try → KeepsPlace kind false at v m) → HasSince (λ step. noted m.hand step (next_entry m.hand) reply) m u → PastGoesOn m u → Performs o kind at k reply v u
+  performs-refused v m u words c reads mode Good next is same says unsent accounted why once line has goes = absurd why
+  performs-refused v m u words c reads mode (Num n) next is same says unsent accounted why once line has goes = absurd why
+  performs-refused v m u words c reads mode (Refused x) next is same says unsent accounted why once line has goes = absurd why
+  performs-refused v m u words c reads mode MapErr next is same says unsent accounted why once line has goes = absurd why
+  performs-refused v m u words c reads mode AccErr next is same says unsent accounted why once line has goes = absurd why
+  performs-refused v m u words c reads mode Sent next is same says unsent accounted why once line has goes = absurd why
+  performs-refused v m u words c reads mode (Busy w) next is same says unsent accounted why once line has goes =
+      let keeps = why.1.keeps in let hand = has.3.0 in let beside = has.3.1 in
       let entry = same-entry v.hand m.hand keeps.task keeps.done in
       let sees = why.1.sees in
       let misses = ap {A = Hand} (λ h. h.misses) hand in let takes = ap {A = Hand} (λ h. h.takes) hand in
@@ -418,22 +427,22 @@ module _ {Call : Type 0} (o : Obj Call) (kind : Kind) (at : ℕ) (k : Plan) wher
       (ap {A = Hand} (λ h. h.records) hand ∙ (λ i. record { entry = entry i; rec = record { k = length (keeps.seen i); reply = Busy w } } ∷ keeps.records i))
       (ap {A = Hand} (λ h. h.task) hand ∙ keeps.task) (ap {A = Hand} (λ h. h.done) hand ∙ ap (λ n. n + 1) keeps.done) (ap {A = Hand} (λ h. h.held) hand ∙ why.1.out) (let none = why.1.takes in omega (arith, takes, none))
       (ap {A = Hand} (λ h. h.sent) hand ∙ (keeps.sent ∙ accounted.0), ap {A = Hand} (λ h. h.consumed) hand ∙ (why.1.consumed ∙ accounted.1))
-      (counts-trans v m u keeps.counts (counts-beside m u misses beside)) (λ some. absurd (false≢true (subst IsSome unsent some)))
+      (counts-trans v m u keeps.counts (counts-beside m u misses beside)) (is-since v u has.0 (ap {A = Hand} (λ h. h.last) hand) (let a = keeps.counts.steps in let b = has.1 in omega (arith, a, b)) has.2) (λ some. absurd (false≢true (subst IsSome unsent some)))
       (λ word e. (c, is, subst (λ b. Sees kind b at word v u) same (subst (λ n. Sees kind reads at n v u) (ap busy_word e) (sees-on kind reads at w v m u (ap {A = Hand} (λ h. h.saw) hand) beside.3 goes sees))))
       (λ e. absurd (false≢true (subst (λ r. is_busy r ≡ true) e refl)))
       (ap (λ (t : Tally). t.interrupted) (beside.5 ∙ why.1.tally))
       (λ tries. tries-after v m u (once (says ∙ tries)) beside.2 beside.1 misses)
       (λ waits. absurd (waits (sym says ∙ why.0)))
-  performs-refused v m u words c reads mode Intr step next is same says unsent accounted why once line hand beside goes =
+  performs-refused v m u words c reads mode Intr next is same says unsent accounted why once line has goes =
       let cut = why.1.1 in
-      let keeps = cut.keeps in
+      let keeps = cut.keeps in let hand = has.3.0 in let beside = has.3.1 in
       let entry = same-entry v.hand m.hand keeps.task keeps.done in
       let misses = ap {A = Hand} (λ h. h.misses) hand in let takes = ap {A = Hand} (λ h. h.takes) hand in
       performs-unheld v u words Intr next (sym says ∙ why.0, subst IsSome (sym is) refl) refl (ap {A = Hand} (λ h. h.seen) hand ∙ keeps.seen)
       (ap {A = Hand} (λ h. h.records) hand ∙ (λ i. record { entry = entry i; rec = record { k = length (keeps.seen i); reply = Intr } } ∷ keeps.records i))
       (ap {A = Hand} (λ h. h.task) hand ∙ keeps.task) (ap {A = Hand} (λ h. h.done) hand ∙ ap (λ n. n + 1) keeps.done) (ap {A = Hand} (λ h. h.held) hand ∙ cut.out) (let none = cut.takes in omega (arith, takes, none))
       (ap {A = Hand} (λ h. h.sent) hand ∙ (keeps.sent ∙ accounted.0), ap {A = Hand} (λ h. h.consumed) hand ∙ (let more = cut.consumed in let none = accounted.1 in omega (arith, more, none)))
-      (counts-trans v m u keeps.counts (counts-beside m u misses beside)) (λ some. absurd (false≢true (subst IsSome unsent some)))
+      (counts-trans v m u keeps.counts (counts-beside m u misses beside)) (is-since v u has.0 (ap {A = Hand} (λ h. h.last) hand) (let a = keeps.counts.steps in let b = has.1 in omega (arith, a, b)) has.2) (λ some. absurd (false≢true (subst IsSome unsent some)))
       (λ word e. absurd (false≢true (subst (λ r. is_intr r ≡ true) e refl)))
       (λ e. (c, why.1.0, cut.word, is, pending-on why.1.0 v m u beside.3 goes cut.heard, subst (λ b. Sees kind b at cut.word v u) same (sees-on kind reads at cut.word v m u (ap {A = Hand} (λ h. h.saw) hand) beside.3 goes cut.sees)))
       (ap (λ (t : Tally). t.interrupted) beside.5 ∙ why.2)
@@ -503,6 +512,7 @@ module _ (v w u : Shown) (looks : Looks v w) (goes : PastGoesOn v w) where
     takes = let a = p.takes in let b = ap {A = Hand} (λ h. h.takes) e in omega (arith, a, b);
     accounted = p.accounted;
     counts = counts-trans v w u (counts-beside v w (ap {A = Hand} (λ h. h.misses) e) looks.1) p.counts;
+    stored = let m = looks.1.3 in let s = p.stored in (omega (arith, m, s), s.1);
     signals = p.signals;
     busy = λ word is. let b = p.busy word is in (b.0, b.1, sees-from kind (o.reads b.0) at word b.2);
     interrupted = λ is. let b = p.interrupted is in (b.0, b.1, b.2, b.3, pending-from b.1 b.4, sees-from kind (o.reads b.0) at b.2 b.5);

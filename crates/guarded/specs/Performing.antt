@@ -1,5 +1,5 @@
 -- What `perform` does.
-use Rattle.std.specs.Prelude.{◌≡◌, ◌≢◌, ℕ, ◌+◌, ◌≤◌, ◌&&◌, not, Bool, true, List, ◌∷◌, length, take, Some, None, IsSome}
+use Rattle.std.specs.Prelude.{◌≡◌, ◌≢◌, ℕ, ◌+◌, ◌<◌, ◌≤◌, ◌&&◌, not, Bool, true, List, ◌∷◌, length, take, Some, None, IsSome}
 use Rattle.word_bits.specs.declared.call.CallWords.{CallWords}
 use Rattle.word_bits.specs.declared.call.Mode.{Mode}
 use Rattle.word_bits.specs.declared.call.Mode.TheVariants.{Int, Try}
@@ -80,6 +80,8 @@ pub record AddsRecord (rec : Rec) (seen : List Entry) (v u : Shown) : Type 0 whe
   pub line : u.line ≡ v.line
   pub tally : u.tally ≡ v.tally
   pub counts : NoCountFalls v u
+  -- the step that stored it is one of these steps
+  pub stored : (v.steps < u.hand.last) × (u.hand.last ≤ u.steps)
 
 -- a pass that holds did the call, recorded it at the end of the log that it knew, and holds nothing
 pub record Serves {Call : Type 0} (o : Obj Call) (kind : Kind) (k : Plan) (words : CallWords) (reply : Reply) (v u : Shown) : Type 0 where
@@ -112,6 +114,8 @@ pub record Performs {Call : Type 0} (o : Obj Call) (kind : Kind) (at : ℕ) (k :
   pub takes : u.hand.takes ≡ v.hand.takes + takes_by reply
   pub accounted : (u.hand.sent ≡ None) × (u.hand.consumed ≡ 0)
   pub counts : NoCountFalls v u
+  -- the step that stored its record, the call's linearization point, is one of this call's
+  pub stored : (v.steps < u.hand.last) × (u.hand.last ≤ u.steps)
   -- a signal is sent, and nothing else is
   pub signals : IsSome (signal_of words) → reply ≡ Sent
   -- a try of this call saw the word of a busy call, and steps of an interrupted one saw the signal and that the lock was taken

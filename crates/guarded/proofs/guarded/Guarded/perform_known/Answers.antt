@@ -24,8 +24,8 @@ returns-in-Err-clause-performs g c =
     let m = g.L.SiteLock.view c.enter.new.pass in
     let u = g.L.SiteLock.view c.note.new.pass in
     let next = c.requires.next in
-    performs-refused g.O.Object.object g.L.SleepLock.kind g.L.SleepLock.word_at (g.L.SiteLock.calls_on c.args.self.now.lock) v m u c.args.next.words c.args.next.call c.reads-reads.result c.mode.result c.in-Err.reply c.note.ensures.kept.0
-    next.planned next.is c.reads-reads.ensures c.mode.ensures c.requires.no_signal (c.requires.sent, c.requires.consumed) c.in-Err.ensures.refused c.enter.ensures.at_once c.in-Err.ensures.stood c.note.ensures.kept.3.0 c.note.ensures.kept.3.1 c.note.ensures.on.goes_on
+    performs-refused g.O.Object.object g.L.SleepLock.kind g.L.SleepLock.word_at (g.L.SiteLock.calls_on c.args.self.now.lock) v m u c.args.next.words c.args.next.call c.reads-reads.result c.mode.result c.in-Err.reply
+    next.planned next.is c.reads-reads.ensures c.mode.ensures c.requires.no_signal (c.requires.sent, c.requires.consumed) c.in-Err.ensures.refused c.enter.ensures.at_once c.in-Err.ensures.stood c.note.ensures.kept c.note.ensures.on.goes_on
 
 pub returns-then-reads-clause-performs : goal.returns-then-reads-clause-performs
 returns-then-reads-clause-performs g c =

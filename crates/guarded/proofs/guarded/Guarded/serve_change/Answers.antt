@@ -44,10 +44,9 @@ returns-then-downgrades-clause-served g c =
     let v = g.L.SiteLock.view c.args.pass.now in
     let m = g.L.SiteLock.view c.change-reply.new.pass in
     let u = g.L.SiteLock.view c.look_again.new.pass in
-    let kept = c.change-reply.ensures.kept in
     subst (λ (r : Reply). Serves o g.L.SleepLock.kind k c.args.next.words r v u) (sym c.look_again.ensures.reply)
-    (serves-change o g.L.SleepLock.kind k no_word v m u c.args.next.words c.args.next.call c.change-reply.result kept.0 _ c.requires.next.is c.requires.changes
-    (is-object o (lawful g) k v.hand.log c.args.next.words c.args.next.call c.requires.next.is c.change-reply.result c.change-reply.ensures.reply) c.change-reply.ensures.reply kept.3.0 kept.3.1 c.look_again.ensures.released)
+    (serves-change o g.L.SleepLock.kind k no_word v m u c.args.next.words c.args.next.call c.change-reply.result _ c.requires.next.is c.requires.changes
+    (is-object o (lawful g) k v.hand.log c.args.next.words c.args.next.call c.requires.next.is c.change-reply.result c.change-reply.ensures.reply) c.change-reply.ensures.reply c.change-reply.ensures.kept c.look_again.ensures.released)
 
 pub returns-else-downgrades-clause-served : goal.returns-else-downgrades-clause-served
 returns-else-downgrades-clause-served g c =
@@ -56,6 +55,5 @@ returns-else-downgrades-clause-served g c =
     let v = g.L.SiteLock.view c.args.pass.now in
     let m = g.L.SiteLock.view c.change-reply.new.pass in
     let u = g.L.SiteLock.view c.release_alone.new.pass in
-    let kept = c.change-reply.ensures.kept in
-    serves-change o g.L.SleepLock.kind k (wakes_alone g.L.SleepLock.kind) v m u c.args.next.words c.args.next.call c.change-reply.result kept.0 _ c.requires.next.is c.requires.changes
-    (is-object o (lawful g) k v.hand.log c.args.next.words c.args.next.call c.requires.next.is c.change-reply.result c.change-reply.ensures.reply) c.change-reply.ensures.reply kept.3.0 kept.3.1 c.release_alone.ensures.released
+    serves-change o g.L.SleepLock.kind k (wakes_alone g.L.SleepLock.kind) v m u c.args.next.words c.args.next.call c.change-reply.result _ c.requires.next.is c.requires.changes
+    (is-object o (lawful g) k v.hand.log c.args.next.words c.args.next.call c.requires.next.is c.change-reply.result c.change-reply.ensures.reply) c.change-reply.ensures.reply c.change-reply.ensures.kept c.release_alone.ensures.released

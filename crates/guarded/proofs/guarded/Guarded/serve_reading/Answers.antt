@@ -44,5 +44,5 @@ returns-clause-served g c =
     let m = g.L.SiteLock.view c.note.new.pass in
     let u = g.L.SiteLock.view c.release_shared.new.pass in
     let replies = c.look-reply.ensures.read c.requires.reads in
-    serves-looked o g.L.SleepLock.kind k v w m u c.args.next.words c.args.next.call c.look-reply.result c.note.ensures.kept.0 c.requires.next.is c.requires.reads (is-object o (lawful g) k v.hand.log c.args.next.words c.args.next.call c.requires.next.is c.look-reply.result replies) replies
-    c.look-reply.ensures.kept c.note.ensures.kept.3.0 c.note.ensures.kept.3.1 c.release_shared.ensures.released
+    serves-looked o g.L.SleepLock.kind k v w m u c.args.next.words c.args.next.call c.look-reply.result c.requires.next.is c.requires.reads (is-object o (lawful g) k v.hand.log c.args.next.words c.args.next.call c.requires.next.is c.look-reply.result replies) replies
+    c.look-reply.ensures.kept c.note.ensures.kept c.release_shared.ensures.released
