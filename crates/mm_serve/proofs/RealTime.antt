@@ -177,7 +177,7 @@ module _ {Call : Type 0} (o : Obj Call) (kind : Kind) (size word_at : ℕ) (wait
         second_has = its;
       }
 
-pub recalled_in_real_time_order : {Call : Type 0} (o : Obj Call) (u : Unavailable) (kind : Kind) (size word_at : ℕ) (waits : Plan → Moment → List ℕ → Type 0) (tells : Plan → Shown → Type 0) (opened : Plan → Moment) → RecalledInRealTimeOrder o u kind size word_at waits tells opened
-recalled_in_real_time_order o u kind size word_at waits tells opened k v records log state first second knows known legal is are first_held second_held order =
+pub recalled_in_real_time_order : {Call : Type 0} (o : Obj Call) (u : Unavailable) (kind : Kind) (size word_at : ℕ) (waits : Plan → Moment → List ℕ → Type 0) (opened : Plan → Moment) → RecalledInRealTimeOrder o u kind size word_at waits opened
+recalled_in_real_time_order o u kind size word_at waits opened k v records log state first second knows known legal is are first_held second_held order =
     keeps_real_time_order o u size k (opened k) v.past records log state first second knows.linear knows.new knows.begins legal is are
-    (took_effect_before o kind size word_at waits tells opened k v knows records first second known is are first_held second_held order)
+    (took_effect_before o kind size word_at waits (λ k u. Unit {0}) opened k v knows records first second known is are first_held second_held order)

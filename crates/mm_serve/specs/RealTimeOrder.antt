@@ -56,10 +56,10 @@ pub record WasRecordedBefore (k : Plan) (past : List Moment) (first second : Eve
   pub first_recorded : record_in k moment first.entry.task first.entry.call ≢ 0
   pub second_not_yet : record_in k moment second.entry.task second.entry.call ≡ 0
 
--- The same by what a pass knows that has looked back, if it knows each record that is told.
-abbrev pub RecalledInRealTimeOrder : {Call : Type 0} → (o : Obj Call) → Unavailable → Kind → (size word_at : ℕ) → (waits : Plan → Moment → List ℕ → Type 0) → (tells : Plan → Shown → Type 0) → (opened : Plan → Moment) → Type 0
-RecalledInRealTimeOrder o unavailable kind size word_at waits tells opened =
+-- The same by what a pass knows that has looked back, if it knows each record that is told. What its lock tells of its own isn't asked for: there `KnowsPast` may say nothing.
+abbrev pub RecalledInRealTimeOrder : {Call : Type 0} → (o : Obj Call) → Unavailable → Kind → (size word_at : ℕ) → (waits : Plan → Moment → List ℕ → Type 0) → (opened : Plan → Moment) → Type 0
+RecalledInRealTimeOrder o unavailable kind size word_at waits opened =
     (k : Plan) (u : Shown) (records : Records) (log : List Entry) (state : List ℕ) (first second : Event)
-    → KnowsPast o kind size word_at waits tells opened k u → AreKnown u.hand records → IsLegal o unavailable k records log state
+    → KnowsPast o kind size word_at waits (λ k u. Unit {0}) opened k u → AreKnown u.hand records → IsLegal o unavailable k records log state
     → IsEventOf k records first → IsEventOf k records second → IsObjectReply first.told.reply → IsObjectReply second.told.reply → WasRecordedBefore k u.past first second
     → Before (history o k records log) first second ⊎ ReadAtOnePlace o first second

@@ -18,10 +18,9 @@ pub fn history_keeps_real_time_order()
 {}
 
 /// The same, under locks of any kind, from what a machine keeps of an object: a pass that knows
-/// the past of the object's table and each record that is told.
+/// the past of the object's table and each record that is told. It takes nothing of what a lock
+/// tells of its own.
 pub fn recalled_history_keeps_real_time_order<A: SleepLock<Areas>, T: SleepLock<Fds>>()
-    ensures space { RecalledInRealTimeOrder space counted A.kind 257 A.word_at A.waits A.tells
-        A.opened }
-    ensures table { RecalledInRealTimeOrder table owned T.kind 64 T.word_at T.waits T.tells
-        T.opened }
+    ensures space { RecalledInRealTimeOrder space counted A.kind 257 A.word_at A.waits A.opened }
+    ensures table { RecalledInRealTimeOrder table owned T.kind 64 T.word_at T.waits T.opened }
 {}

@@ -5,7 +5,7 @@ use Rattle.mm_serve.proofs.RealTime.{recalled_in_real_time_order}
 use Rattle.mm_serve.proofs.laws.recalled_history_keeps_real_time_order.Goals as goal
 
 pub returns-clause-space : goal.returns-clause-space
-returns-clause-space g c = recalled_in_real_time_order space counted g.A.SleepLock.kind 257 g.A.SleepLock.word_at g.A.SleepLock.waits g.A.SleepLock.tells g.A.SleepLock.opened
+returns-clause-space g c = recalled_in_real_time_order space counted g.A.SleepLock.kind 257 g.A.SleepLock.word_at g.A.SleepLock.waits g.A.SleepLock.opened
 
 pub returns-clause-table : goal.returns-clause-table
-returns-clause-table g c = recalled_in_real_time_order table owned g.T.SleepLock.kind 64 g.T.SleepLock.word_at g.T.SleepLock.waits g.T.SleepLock.tells g.T.SleepLock.opened
+returns-clause-table g c = recalled_in_real_time_order table owned g.T.SleepLock.kind 64 g.T.SleepLock.word_at g.T.SleepLock.waits g.T.SleepLock.opened
