@@ -3,3 +3,4 @@ pub mod Inputs
 pub mod Services
 pub mod Weaker
 pub mod Telling
+pub mod ToldOrder

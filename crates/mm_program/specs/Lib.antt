@@ -4,3 +4,4 @@ pub mod Answers
 pub mod Inputs
 pub mod CommandLine
 pub mod Parsed
+pub mod ToldOrder

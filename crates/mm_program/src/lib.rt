@@ -5,6 +5,7 @@
 
 mod host;
 mod input;
+mod laws;
 mod locks;
 mod objects;
 mod options;
@@ -13,6 +14,7 @@ mod run;
 mod status;
 mod threads;
 
+pub use laws::told_history_keeps_real_time_order;
 pub use locks::{SpaceLock, TableLock};
 pub use objects::ScriptMachine;
 pub use program::top;

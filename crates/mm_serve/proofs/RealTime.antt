@@ -134,6 +134,10 @@ module _ {Call : Type 0} (o : Obj Call) (size : ℕ) (k : Plan) (t c : ℕ) wher
       record_kept x now q.0 q.1 n s q.2 (λ none. recorded (sym earlier ∙ none)) ∙ earlier
 
 module _ {Call : Type 0} (o : Obj Call) (kind : Kind) (size word_at : ℕ) (waits : Plan → Moment → List ℕ → Type 0) (tells : Plan → Shown → Type 0) (opened : Plan → Moment) (k : Plan) (u : Shown) (knows : KnowsPast o kind size word_at waits tells opened k u) where
+  -- what the lock tells of its own may be left out
+  pub without_told : KnowsPast o kind size word_at waits (λ k u. Unit {0}) opened k u
+  without_told = record { last = knows.last; new = knows.new; begins = knows.begins; always = knows.always; moves = knows.moves; linear = knows.linear; told = tt }
+
   abbrev Latest : Moment
   Latest = knows.last.step.now
 

@@ -1,0 +1,30 @@
+//! A law of the machine that the program keeps. It is the contract of a function that does nothing.
+ghost use Rattle.vma_map.specs.Spaces.{space};
+ghost use Rattle.fd_table.specs.Tables.{table};
+ghost use Rattle.vma_map.specs.declared.areas.Areas.{Areas};
+ghost use Rattle.vma_map.specs.declared.call.SpaceCall.{SpaceCall};
+ghost use Rattle.fd_table.specs.declared.fds.Fds.{Fds};
+ghost use Rattle.fd_table.specs.declared.call.TableCall.{TableCall};
+ghost use Rattle.mutex_slow.specs.MutexLocks.{KnowsMutex};
+ghost use Rattle.rwsem_slow.specs.RwSemLocks.{KnowsRwSem};
+ghost use Rattle.osq_unqueue.specs.LockSpinQueues.{KnowsSpinQueue};
+ghost use Rattle.sleep_lock.specs.LockMembers.{members};
+ghost use Rattle.mm_program.specs.ProgramKept.{LockedMachine};
+ghost use Rattle.mm_program.specs.ToldOrder.{TellsInRealTimeOrder};
+
+use crate::locks::{SpaceLock, TableLock};
+use cpu_task::Crew;
+
+/// The history that `top` writes of an object keeps the real-time order of the calls on it: of two
+/// calls that held the lock, the one that was recorded when the other wasn't yet stands first. Two
+/// calls that only read, with no changing call between them, may stand in either order.
+pub fn told_history_keeps_real_time_order<A: SpaceLock, T: TableLock, C: Crew>()
+    ensures { (kept : LockedMachine A Areas A.Rule A.Site A.Pass A.Rule.Ext SpaceCall
+        T Fds T.Rule T.Site T.Pass T.Rule.Ext TableCall C C.C) →
+        TellsInRealTimeOrder
+        (members A.calls_on A.view A.sits A.spun A.kind A.word_at A.opened A.waits
+        (KnowsRwSem space 257) KnowsSpinQueue)
+        (members T.calls_on T.view T.sits T.spun T.kind T.word_at T.opened T.waits
+        (KnowsMutex table 64) KnowsSpinQueue)
+        kept }
+{}
