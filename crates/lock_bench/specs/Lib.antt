@@ -4,3 +4,4 @@ pub mod RoundsBetween
 pub mod BenchPercpuPasses
 pub mod FaultPlans
 pub mod FaultPasses
+pub mod EqualWords

@@ -7,6 +7,7 @@ ghost use Rattle.std.specs.Prelude.{◌<◌};
 mod crewed;
 mod exchange;
 mod front;
+mod kept;
 mod locked_faults;
 mod nested;
 mod percpu;
@@ -18,6 +19,7 @@ mod work;
 
 use crewed::{Mixed, Read, Write, crewed_rounds};
 use exchange::Exchanges;
+use kept::Raising;
 use lock_core::{Bare, Nest, Nothing, Site};
 use locked_faults::locked_fault_rounds;
 use mutex_slow::Mutex;
@@ -49,6 +51,8 @@ enum Case {
     Mutex,
     /// The mutex, with four words raised inside and twenty dependent steps outside.
     Work,
+    /// The same, with the four words under the mutex, whose invariant is that they are equal.
+    Kept,
     /// The semaphore, held by readers.
     Read,
     /// The semaphore, held by writers.
@@ -66,12 +70,13 @@ enum Case {
 }
 
 /// The cases, each behind its word.
-const CASES: [(&str, Case); 12] = [
+const CASES: [(&str, Case); 13] = [
     ("spin", Case::Spin),
     ("nested", Case::Nested),
     ("front", Case::Front),
     ("mutex", Case::Mutex),
     ("work", Case::Work),
+    ("kept", Case::Kept),
     ("read", Case::Read),
     ("write", Case::Write),
     ("mixed", Case::Mixed),
@@ -99,6 +104,7 @@ fn measure<R: Threads + Wait + Sync + Clock>(
         Case::Front => rounds::<Osq, R>(rt, alloc, threads, count),
         Case::Mutex => crewed_rounds::<Mutex<Nothing>, Write, R>(rt, alloc, threads, count),
         Case::Work => working_rounds::<Mutex<Nothing>, R>(rt, alloc, threads, count),
+        Case::Kept => rounds::<Raising, R>(rt, alloc, threads, count),
         Case::Read => crewed_rounds::<RwSem<Nothing>, Read, R>(rt, alloc, threads, count),
         Case::Write => crewed_rounds::<RwSem<Nothing>, Write, R>(rt, alloc, threads, count),
         Case::Mixed => crewed_rounds::<RwSem<Nothing>, Mixed, R>(rt, alloc, threads, count),
@@ -136,7 +142,7 @@ fn run<R: Threads + Wait + Sync + Clock>(rt: &HostRuntime, crew: &R) -> io::Resu
     let Some(((name, case), threads, rounds)) = asked(words.as_slice()) else {
         println!(rt;
             "usage: lock_bench [CASE THREADS ROUNDS], the case one of spin, nested, front, mutex, \
-             work, read, write, mixed, percpu, fault, seq_fault, exchange"
+             work, kept, read, write, mixed, percpu, fault, seq_fault, exchange"
         )?;
         return Ok(ExitCode::from(2));
     };

@@ -35,7 +35,7 @@ impl<L: SleepLock<Nothing>> Guarding<L> {
 }
 
 /// What so many steps of a generator of numbers make of this one.
-fn stepped(mut number: u64) -> u64 {
+pub fn stepped(mut number: u64) -> u64 {
     for _ in 0..STEPS {
         number = number
             .wrapping_mul(6_364_136_223_846_793_005)

@@ -1,0 +1,15 @@
+use Rattle.std.proofs.Common.{◌∙◌, ap, sym}
+use Rattle.std.specs.Arc.{arc_value}
+use Rattle.std.proofs.lemmas.Bool.{false≢true}
+use Rattle.lock_core.specs.declared.view.Held.TheVariants.{Alone}
+use Rattle.rwsem_slow.specs.RwSemHandles.{plan_of, shown_of, SitsAt}
+use Rattle.kept_words.specs.declared.rwsem.SharedSem.{SharedSem}
+use Rattle.kept_words.specs.KeepingLaws.{finds-kept}
+use Rattle.kept_words.proofs.rwsem.KeptRwSemKept.try_lock.Goals.{in-Ok, in-Err}
+use Rattle.kept_words.proofs.rwsem.KeptRwSemKept.try_lock.Goals as goal
+
+pub returns-clause-keeps : goal.returns-clause-keeps
+returns-clause-keeps g c = elim c.match-down_write_trylock.branch [
+  | in-Ok w ↦ λ _. finds-kept SitsAt plan_of shown_of c.deref.result.now.semaphore (arc_value c.self.inside.shared).semaphore c.self.inside.pass g.I.Invariant.WORDS g.I.Invariant.keeps (ap (λ (s : SharedSem _ _). s.semaphore) c.deref.ensures) Alone c.down_write_trylock.new.pass c.self.invariant w.in-Ok.ensures.took c.down_write_trylock.ensures.on.own.sits.short
+  | in-Err w ↦ λ is. absurd (false≢true (sym w.result-is ∙ is))
+]

@@ -1,0 +1,15 @@
+use Rattle.std.proofs.Common.{◌≡◌, ◌+◌, vec_len}
+use Rattle.std.specs.Arc.{arc_value}
+use Rattle.lock_core.specs.declared.view.Held.TheVariants.{No}
+use Rattle.rwsem_slow.specs.RwSemHandles.{hand_in, plan_of, shown_of, SitsAt}
+use Rattle.kept_words.specs.Keeping.{IsTask}
+use Rattle.kept_words.proofs.rwsem.split_all.Given as goal
+
+abbrev pub invariant-loop-cpu : goal.invariant-loop-cpu
+invariant-loop-cpu g l =
+    IsTask SitsAt plan_of shown_of g.I.Invariant.WORDS (arc_value l.shared).semaphore l.pass
+    × ((hand_in l.pass).held ≡ No)
+    × (vec_len l.all + vec_len l.cpus ≡ vec_len l.fn.cpus)
+
+abbrev pub decreases-loop-cpu : goal.decreases-loop-cpu
+decreases-loop-cpu g l = vec_len l.cpus

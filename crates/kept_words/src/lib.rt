@@ -1,0 +1,16 @@
+//! Data under a lock: words of which an invariant of the user's own is so while nobody writes them.
+//! Who holds the lock reads and writes them by single loads and stores.
+#![tactic(auto)]
+
+mod invariant;
+mod kept;
+mod mutex;
+mod opening;
+mod rwsem;
+mod task;
+
+pub use invariant::{AnyWords, Invariant, Words};
+pub use kept::{Kept, KeptShared};
+pub use mutex::{KeptMutex, MutexTask};
+pub use rwsem::{KeptRwSem, RwTask};
+pub use task::Task;

@@ -1,0 +1,169 @@
+//! Words under a mutex.
+ghost use Rattle.std.specs.Prelude.{◌≡◌, ◌<◌, ◌≤◌, length, vec_len, None, IfOk};
+ghost use Rattle.std.specs.Arc.{arc_value};
+ghost use Rattle.word_bits.specs.declared.TheConstants.{MAX_TASKS};
+ghost use Rattle.lock_core.specs.declared.view.Held.TheVariants.{No};
+ghost use Rattle.kept_words.specs.Keeping.{IsTask};
+ghost use Rattle.mutex_slow.specs.MutexHandles.{hand_in, plan_of, shown_of, SitsAt};
+
+use crate::invariant::{Invariant, Words};
+use crate::kept::Kept;
+use crate::opening::{cpus, open_words, plan};
+use crate::task::Task;
+use cpu_task::{Crew, ParkCrew, Turns};
+use lock_core::SiteLock;
+use mutex_slow::{Mutex, MutexPass};
+use std::alloc::{AllocError, Global};
+use std::marker::Model;
+use std::sync::{Arc, Wait};
+use word_bits::MAX_TASKS;
+
+/// What all tasks of a mutex share: the mutex, and the crew that wakes those who wait for it.
+#[derive(Drop)]
+pub(crate) struct SharedMutex<I: Invariant, C> {
+    mutex: Mutex<Words<I>>,
+    crew: C,
+}
+
+/// Words under a mutex, as one task has them, which wakes and sleeps by this crew. Contracts see
+/// how the task holds them, and the words.
+#[derive(Drop)]
+pub struct KeptMutex<I: Invariant, C: Crew = ParkCrew> {
+    shared: Arc<SharedMutex<I, C>, Global>,
+    pass: MutexPass<Words<I>>,
+    cpu: C::C,
+}
+
+/// A task of such words.
+pub type MutexTask<I> = Task<KeptMutex<I, ParkCrew>>;
+
+impl<I: Invariant, C: Crew> Model for KeptMutex<I, C> {
+    ghost use Rattle.std.specs.Arc.{arc_value};
+    ghost use Rattle.mutex_slow.specs.MutexHandles.{hand_in, plan_of, shown_of, SitsAt};
+    ghost use Rattle.kept_words.specs.Keeping.{Hold, IsTask, hold_of};
+
+    ghost Value = { Hold };
+
+    ghost view = { λ k. hold_of (hand_in k.pass) };
+
+    ghost invariant = { λ k.
+        IsTask SitsAt plan_of shown_of I.WORDS (arc_value k.shared).mutex k.pass };
+}
+
+impl<I: Invariant + Drop, C: Crew + Drop> KeptMutex<I, C> {
+    /// A task for each number below `tasks`, with these words, of which the invariant must be so.
+    /// The crew gives each its CPU.
+    pub fn open<W: Wait>(
+        rt: &W,
+        alloc: Global,
+        crew: C,
+        turns: Turns,
+        tasks: u32,
+        words: &[u64],
+    ) -> Result<Vec<Task<KeptMutex<I, C>>>, AllocError>
+        requires some { 0 < tasks }
+        requires few { tasks ≤ MAX_TASKS }
+        requires wide { length words.now ≡ I.WORDS }
+        requires keeps { I.keeps words.now }
+        ensures { IfOk result (λ all. vec_len all ≡ tasks) }
+    {
+        let mut crew = crew;
+        let mut cpu = crew.cpu(alloc, 0, turns)?;
+        let others = cpus(alloc, &mut crew, turns, tasks)?;
+        let plan = plan(alloc, tasks)?;
+        let (mutex, mut pass) = Mutex::<Words<I>>::open(alloc, plan)?;
+        open_words::<Words<I>, Mutex<Words<I>>, W, C>(
+            &mutex, rt, &mut pass, words, &mut cpu, &crew,
+        );
+        let shared = Arc::new(alloc, SharedMutex { mutex, crew })?;
+        let mut all = split_all(rt, alloc, &shared, &mut pass, others)?;
+        let first = KeptMutex { shared, pass, cpu };
+        all.push(Task::new(first))?;
+        Ok(all)
+    }
+}
+
+/// A task for each of these CPUs. The first has the number 1.
+fn split_all<I: Invariant + Drop, C: Crew + Drop, W: Wait>(
+    rt: &W,
+    alloc: Global,
+    shared: &Arc<SharedMutex<I, C>, Global>,
+    pass: &mut MutexPass<Words<I>>,
+    cpus: Vec<C::C>,
+) -> Result<Vec<Task<KeptMutex<I, C>>>, AllocError>
+    requires first { IsTask SitsAt plan_of shown_of I.WORDS
+        (arc_value shared.now).mutex pass.old }
+    requires out { (hand_in pass.old).held ≡ No }
+    requires few { vec_len cpus < length (plan_of (arc_value shared.now).mutex) }
+    requires most { vec_len cpus < MAX_TASKS }
+    ensures first { IfOk result (λ _. IsTask SitsAt plan_of shown_of I.WORDS
+        (arc_value shared.now).mutex pass.new) }
+    ensures out { IfOk result (λ _. (hand_in pass.new).held ≡ No) }
+    ensures all { IfOk result (λ all. vec_len all ≡ vec_len cpus) }
+{
+    let mut cpus = cpus;
+    let mut all = Vec::new(alloc);
+    while let Some(cpu) = cpus.pop() {
+        let number = cpus.len() as u32 + 1;
+        let task = split_one(rt, shared, pass, cpu, number)?;
+        all.push(task)?;
+    }
+    Ok(all)
+}
+
+/// The task of this number, on this CPU.
+fn split_one<I: Invariant + Drop, C: Crew + Drop, W: Wait>(
+    rt: &W,
+    shared: &Arc<SharedMutex<I, C>, Global>,
+    pass: &mut MutexPass<Words<I>>,
+    cpu: C::C,
+    number: u32,
+) -> Result<Task<KeptMutex<I, C>>, AllocError>
+    requires first { IsTask SitsAt plan_of shown_of I.WORDS
+        (arc_value shared.now).mutex pass.old }
+    requires out { (hand_in pass.old).held ≡ No }
+    requires there { number < length (plan_of (arc_value shared.now).mutex) }
+    ensures first { IsTask SitsAt plan_of shown_of I.WORDS
+        (arc_value shared.now).mutex pass.new }
+    ensures out { (hand_in pass.new).held ≡ No }
+{
+    let mut pass = shared.mutex.split(pass);
+    shared.mutex.begin(rt, &mut pass, number);
+    let shared = Arc::try_clone(shared)?;
+    Ok(Task::new(KeptMutex { shared, pass, cpu }))
+}
+
+impl<I: Invariant + Drop, C: Crew + Drop> Kept for KeptMutex<I, C> {
+    type I = I;
+
+    ghost hold = { λ k. k };
+
+    fn lock<W: Wait>(&mut self, rt: &W) {
+        let shared = &*self.shared;
+        shared
+            .mutex
+            .lock(rt, &mut self.pass, &mut self.cpu, &shared.crew);
+    }
+
+    fn try_lock<W: Wait>(&mut self, rt: &W) -> bool {
+        match self.shared.mutex.trylock(rt, &mut self.pass) {
+            Ok(()) => true,
+            Err(_) => false,
+        }
+    }
+
+    fn get(&mut self, at: usize) -> u64 {
+        self.shared.mutex.word(&mut self.pass, at)
+    }
+
+    fn set(&mut self, at: usize, value: u64) {
+        self.shared.mutex.set_word(&mut self.pass, at, value);
+    }
+
+    fn unlock<W: Wait>(&mut self, rt: &W) {
+        self.shared.mutex.end_writing(&mut self.pass);
+        self.shared
+            .mutex
+            .unlock(rt, &mut self.pass, &self.shared.crew);
+    }
+}
