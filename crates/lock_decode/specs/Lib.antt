@@ -1,0 +1,4 @@
+pub mod Decodes
+pub mod Flags
+pub mod Here
+pub mod Linux
