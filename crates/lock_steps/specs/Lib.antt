@@ -1,0 +1,3 @@
+pub mod OwnerSteps
+pub mod CountSteps
+pub mod SpinSteps
