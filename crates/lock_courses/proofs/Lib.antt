@@ -1,0 +1,4 @@
+pub mod MutexLists
+pub mod SemaphoreLists
+pub mod SpinLists
+pub mod Telling

@@ -1,0 +1,4 @@
+pub mod Laws
+pub mod MutexCourses
+pub mod SemaphoreCourses
+pub mod SpinCourses
