@@ -272,9 +272,10 @@ where
 /// did them then. Where no machine ran nothing is kept.
 ///
 /// `words` are the words of the command line after the program's name. Where they ask how to use
-/// the program, that is written, and nothing is read or done. No memory is taken once the
-/// first task has begun. Where a thread can't be made its task is done after another's, on that
-/// one's thread, so tasks that wait for each other can then wait for good.
+/// the program, that is written, and nothing is read or done. But for the start of
+/// threads, no memory is taken once the first task has begun. Where a thread can't be made its task
+/// is done after another's, on that one's thread, so tasks that wait for each other can then wait
+/// for good.
 pub fn top<
     A: SpaceLock + Drop + Sync,
     T: TableLock + Drop + Sync,

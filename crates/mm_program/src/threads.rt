@@ -28,7 +28,7 @@ pub(crate) fn turns_of(options: &Options) -> Turns
 /// Opens a machine for the script, does all tasks at once, and writes the text of what they leave,
 /// or the summary. `kept` has the machine then, unless there was no memory for it.
 ///
-/// No memory is taken once the first task has begun.
+/// But for the start of threads, no memory is taken once the first task has begun.
 pub(crate) fn run_on_threads<
     O: SharedObject + Drop + Sync,
     K: Sink,

@@ -1,5 +1,4 @@
-use Rattle.std.proofs.Common.{ap, sym, subst}
-use Rattle.word_bits.specs.Histories.{state_after}
+use Rattle.std.proofs.Common.{ap, sym, subst, ◌∙◌}
 use Rattle.lock_core.specs.Locking.{IsStored}
 use Rattle.step_tests.proofs.percpu_calls.hold_alone.Goals as goal
 
