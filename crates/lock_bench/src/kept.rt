@@ -78,8 +78,9 @@ impl Timed for Raising {
     ) -> Result<(Raising, Raiser), AllocError> {
         let tasks = threads + 1;
         let crew = ParkCrew::new(alloc, tasks)?;
-        let mut others =
-            KeptMutex::<Equal, ParkCrew>::open(rt, alloc, crew, TURNS, tasks, &[0; 4])?;
+        let mut others = KeptMutex::<Equal, ParkCrew>::open(
+            rt, alloc, crew, TURNS, tasks, &[0; 4],
+        )?;
         let Some(task) = others.pop() else {
             unreachable!()
         };
