@@ -10,7 +10,7 @@ ghost use Rattle.lock_core.specs.Kinds.{unavailable};
 ghost use Rattle.lock_core.specs.Shown.{AllButHand, IsLatestStep, shown_new, shown_split, StepsOn};
 ghost use Rattle.lock_core.specs.Locking.{Looks, Has};
 ghost use Rattle.lock_core.specs.Locked.{IsLockedThen, IsSiteStep};
-ghost use Rattle.lock_core.specs.Linear.{IsLinear};
+ghost use Rattle.lock_core.specs.Linear.{IsLinearizable};
 
 use crate::served::Served;
 use lock_core::Plan;
@@ -140,7 +140,7 @@ impl<L: SleepLock<O>, O: Served + Drop> Guarded<L, O> {
             (L.calls_on (lock_of self.now)) L.word_at L.waits) (L.view pass.new).past }
         ensures moves { Paced (IsSiteStep (L.calls_on (lock_of self.now)) L.word_at)
             (L.view pass.new).past }
-        ensures linear { IsLinear O.object O.WORDS (L.calls_on (lock_of self.now))
+        ensures linear { IsLinearizable O.object O.WORDS (L.calls_on (lock_of self.now))
             (L.view pass.new).past }
         ensures told { L.tells (L.calls_on (lock_of self.now)) (L.view pass.new) }
     {

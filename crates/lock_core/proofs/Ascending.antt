@@ -14,7 +14,7 @@ use Rattle.lock_core.specs.declared.view.Hand.{Hand}
 use Rattle.lock_core.specs.declared.view.Moment.{Moment}
 use Rattle.lock_core.specs.Plans.{calls_in, start}
 use Rattle.lock_core.specs.Layout.{SiteWords, site}
-use Rattle.lock_core.specs.Linear.{Acts, TakesEffect, Serves, GoesAtOnce, LinearTo}
+use Rattle.lock_core.specs.Linear.{AppliesCall, TakesEffect, IsLinearizationPoint, IsSimulationStep, LinearizesTo}
 use Rattle.lock_core.specs.Pasts.{Tail}
 use Rattle.lock_core.specs.Records.{bit, row}
 use Rattle.lock_core.specs.SiteStated.{IsNew}
@@ -23,7 +23,7 @@ use Rattle.lock_core.proofs.Linearizing.{same-place, one-last, rest-last}
 use Rattle.lock_core.proofs.Reading.{rec_word-some}
 use Rattle.lock_core.proofs.RecordLaws.{changes-is}
 use Rattle.lock_core.proofs.RowLaws.{same-some, some-inside}
-use Rattle.lock_core.specs.Orders.{record_in, IsServed, KeepsStepOrder}
+use Rattle.lock_core.specs.Orders.{record_in, IsServed, PlacesFollowLinearizationPoints}
 
 object-kind : (r : Reply) → IsObjectReply r → kind_of r ≤ 5
 object-kind Good i = omega arith
@@ -60,7 +60,7 @@ set-at xs i j x some_it = dite (ℕ_discrete j i) (λ is. inl (is, here xs i j x
 
 module _ {Call : Type 0} (o : Obj Call) (size : ℕ) (k : Plan) where
   -- a call that isn't busy, interrupted or a signal acts
-  acts : (h : Hand) (w : CallWords) (r : Rec) (reply : Reply) (n : ℕ) (s : o.State) (n' : ℕ) (s' : o.State) → kind_of reply ≤ 5 → TakesEffect o h w r reply n s n' s' → Acts o h w r n s n' s'
+  acts : (h : Hand) (w : CallWords) (r : Rec) (reply : Reply) (n : ℕ) (s : o.State) (n' : ℕ) (s' : o.State) → kind_of reply ≤ 5 → TakesEffect o h w r reply n s n' s' → AppliesCall o h w r n s n' s'
   acts h w r Good n s n' s' l a = a
   acts h w r (Num m) n s n' s' l a = a
   acts h w r (Refused e) n s n' s' l a = a
@@ -85,10 +85,10 @@ module _ {Call : Type 0} (o : Obj Call) (size : ℕ) (k : Plan) where
   Words m = site k m.words
 
   abbrev Goes : Moment → Moment → ℕ → o.State → ℕ → o.State → Type 0
-  Goes x y n s n' s' = GoesAtOnce o k (Words x) (Words y) x.hands x.steps y.steps n s n' s'
+  Goes x y n s n' s' = IsSimulationStep o k (Words x) (Words y) x.hands x.steps y.steps n s n' s'
 
   rises : (x y : Moment) (n : ℕ) (s : o.State) (n' : ℕ) (s' : o.State) → Goes x y n s n' s' → n ≤ n'
-  rises x y n s n' s' g = ⊎_elim (λ same. let e = same.1 in omega (arith, e)) (λ (t : Serves o k (Words x) (Words y) x.hands x.steps y.steps n s n' s'). rises-by t.hand t.words t.rec t.rec.reply n s n' s' t.effect) g
+  rises x y n s n' s' g = ⊎_elim (λ same. let e = same.1 in omega (arith, e)) (λ (t : IsLinearizationPoint o k (Words x) (Words y) x.hands x.steps y.steps n s n' s'). rises-by t.hand t.words t.rec t.rec.reply n s n' s' t.effect) g
 
   -- what each call that held has as its place, once it is recorded
   abbrev Below : Moment → ℕ → Type 0
@@ -97,7 +97,7 @@ module _ {Call : Type 0} (o : Obj Call) (size : ℕ) (k : Plan) where
   below-step : (x y : Moment) (n : ℕ) (s : o.State) (n' : ℕ) (s' : o.State) → Goes x y n s n' s' → Below x n → Below y n'
   below-step x y n s n' s' g below t c w r is = let up = rises x y n s n' s' g in ⊎_elim
       (λ (same : ((Words y).recs ≡ (Words x).recs) × (n' ≡ n) × (s' ≡ s)). let l = below t c w r (record { planned = is.planned; recorded = ap (λ (z : List ℕ). get_or z (start k t + c) 0) (sym same.0) ∙ is.recorded; fits = is.fits; served = is.served }) in omega (arith, l, up))
-      (λ (q : Serves o k (Words x) (Words y) x.hands x.steps y.steps n s n' s').
+      (λ (q : IsLinearizationPoint o k (Words x) (Words y) x.hands x.steps y.steps n s n' s').
       let now : get_or (set (Words x).recs (start k q.task + q.hand.done) (rec_word q.rec)) (start k t + c) 0 ≡ rec_word r = ap (λ (z : List ℕ). get_or z (start k t + c) 0) (sym q.stored) ∙ is.recorded in
       ⊎_elim
       (λ (mine : (start k t + c ≡ start k q.task + q.hand.done) × (get_or (set (Words x).recs (start k q.task + q.hand.done) (rec_word q.rec)) (start k t + c) 0 ≡ rec_word q.rec)).
@@ -117,7 +117,7 @@ module _ {Call : Type 0} (o : Obj Call) (size : ℕ) (k : Plan) where
   above-step : (early x y : Moment) (low n : ℕ) (s : o.State) (n' : ℕ) (s' : o.State) → Goes x y n s n' s' → low ≤ n → Above early x low → Above early y low
   above-step early x y low n s n' s' g least above t c w r none is = ⊎_elim
       (λ (same : ((Words y).recs ≡ (Words x).recs) × (n' ≡ n) × (s' ≡ s)). above t c w r none (record { planned = is.planned; recorded = ap (λ (z : List ℕ). get_or z (start k t + c) 0) (sym same.0) ∙ is.recorded; fits = is.fits; served = is.served }))
-      (λ (q : Serves o k (Words x) (Words y) x.hands x.steps y.steps n s n' s').
+      (λ (q : IsLinearizationPoint o k (Words x) (Words y) x.hands x.steps y.steps n s n' s').
       let now : get_or (set (Words x).recs (start k q.task + q.hand.done) (rec_word q.rec)) (start k t + c) 0 ≡ rec_word r = ap (λ (z : List ℕ). get_or z (start k t + c) 0) (sym q.stored) ∙ is.recorded in
       ⊎_elim
       (λ (mine : (start k t + c ≡ start k q.task + q.hand.done) × (get_or (set (Words x).recs (start k q.task + q.hand.done) (rec_word q.rec)) (start k t + c) 0 ≡ rec_word q.rec)).
@@ -128,12 +128,12 @@ module _ {Call : Type 0} (o : Obj Call) (size : ℕ) (k : Plan) where
       (set-at (Words x).recs (start k q.task + q.hand.done) (start k t + c) (rec_word q.rec) (λ e. rec_word-some r (sym now ∙ e)))) g
 
   module _ (new : Moment) (is_new : IsNew o size k new) where
-    below-all : (m : Moment) (h : List Moment) (n : ℕ) (s : o.State) → LinearTo o size k (m ∷ h) n s → Tail (new ∷ []) (m ∷ h) → Below m n
+    below-all : (m : Moment) (h : List Moment) (n : ℕ) (s : o.State) → LinearizesTo o size k (m ∷ h) n s → Tail (new ∷ []) (m ∷ h) → Below m n
     below-all m [] n s linear began = λ t c w r is. let first_is = one-last new m began in let none : record_in k m t c ≡ 0 = ap (λ (z : Moment). record_in k z t c) first_is ∙ (ap (λ (z : List ℕ). get_or z (start k t + c) 0) is_new.recorded ∙ zero-at (calls_in k) (start k t + c)) in absurd (rec_word-some r (sym is.recorded ∙ none))
     below-all y (x ∷ h) n s linear began = let q = linear.1 in below-step x y q.0 q.1 n s q.2 (below-all x h q.0 q.1 q.3 (rest-last new y x h began))
 
     -- the count at an earlier moment, and what was recorded since
-    ago : (i : ℕ) (late early : Moment) (until before : List Moment) (n : ℕ) (s : o.State) → LinearTo o size k (late ∷ until) n s → Tail (new ∷ []) (late ∷ until) → drop i (late ∷ until) ≡ early ∷ before → (low : ℕ) × (low ≤ n) × Below early low × Above early late low
+    ago : (i : ℕ) (late early : Moment) (until before : List Moment) (n : ℕ) (s : o.State) → LinearizesTo o size k (late ∷ until) n s → Tail (new ∷ []) (late ∷ until) → drop i (late ∷ until) ≡ early ∷ before → (low : ℕ) × (low ≤ n) × Below early low × Above early late low
     ago zero late early until before n s linear began e = let same : late ≡ early = ap (λ (z : List Moment). head z) e in
         (n, omega arith, subst (λ (z : Moment). Below z n) same (below-all late until n s linear began), λ t c w r none is. absurd (rec_word-some r (sym is.recorded ∙ (ap (λ (z : Moment). record_in k z t c) same ∙ none))))
       where
@@ -144,7 +144,7 @@ module _ {Call : Type 0} (o : Obj Call) (size : ℕ) (k : Plan) where
     ago (suc i) late early (x ∷ h) before n s linear began e = let q = linear.1 in let t = ago i x early h before q.0 q.1 q.3 (rest-last new late x h began) e in let up = rises x late q.0 q.1 n s q.2 in let l = t.1 in
         (t.0, omega (arith, up, l), t.2, above-step early x late t.0 q.0 q.1 n s q.2 t.1 t.3)
 
-pub keeps_step_order : {Call : Type 0} (o : Obj Call) (size : ℕ) → KeepsStepOrder o size
+pub keeps_step_order : {Call : Type 0} (o : Obj Call) (size : ℕ) → PlacesFollowLinearizationPoints o size
 keeps_step_order o size k new past linear is_new began n early late before until is cut t c u d v w q r first none second =
-    let a = ago o size k new is_new n late early until before linear.0 linear.1 (subst (λ (z : List Moment). LinearTo o size k z linear.0 linear.1) is linear.2) (subst (Tail (new ∷ [])) is began) (ap (drop n) (sym is) ∙ cut) in
+    let a = ago o size k new is_new n late early until before linear.0 linear.1 (subst (λ (z : List Moment). LinearizesTo o size k z linear.0 linear.1) is linear.2) (subst (Tail (new ∷ [])) is began) (ap (drop n) (sym is) ∙ cut) in
     let x = a.2 t c v q first in let y = a.3 u d w r none second in omega (arith, x, y)

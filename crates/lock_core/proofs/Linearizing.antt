@@ -31,7 +31,7 @@ use Rattle.lock_core.specs.Sites.{Grows, SiteKept, SiteStep, StandsLast, ServedB
 use Rattle.lock_core.specs.Moves.{SiteMove, IsTakenIn}
 use Rattle.lock_core.specs.SiteStated.{IsNew}
 use Rattle.lock_core.specs.Pasts.{Instant, moment, steps_of, Moves, Paced, Ran, Tail}
-use Rattle.lock_core.specs.Linear.{Acts, TakesEffect, GoesAtOnce, IsStateOf, LinearTo, IsLinear}
+use Rattle.lock_core.specs.Linear.{AppliesCall, TakesEffect, IsSimulationStep, RepresentsAbstractState, LinearizesTo, IsLinearizable, StateIsThatAfterLog}
 use Rattle.lock_core.specs.Totals.{total, total-at, total-two}
 use Rattle.lock_core.specs.ViewParts.{Each, at_unmap}
 use Rattle.lock_core.proofs.RowLaws.{none-some, same-some, some-inside, get-there, start-below, length-task_recs, rec_words-at, task_recs-at, task_recs-none}
@@ -196,7 +196,7 @@ object-of Intr l v = absurd (omega (arith, l))
 object-of Sent l v = absurd (omega (arith, l))
 
 module _ {Call : Type 0} (o : Obj Call) (h : Hand) (w : CallWords) (x : Rec) where
-  effect-acts : (r : Reply) (n : ℕ) (s : o.State) (n' : ℕ) (s' : o.State) → kind_of r ≤ 5 → Acts o h w x n s n' s' → TakesEffect o h w x r n s n' s'
+  effect-acts : (r : Reply) (n : ℕ) (s : o.State) (n' : ℕ) (s' : o.State) → kind_of r ≤ 5 → AppliesCall o h w x n s n' s' → TakesEffect o h w x r n s n' s'
   effect-acts Good n s n' s' l a = a
   effect-acts (Num m) n s n' s' l a = a
   effect-acts (Refused e) n s n' s' l a = a
@@ -247,9 +247,15 @@ module _ {Call : Type 0} (o : Obj Call) (unavailable : Unavailable) (size : ℕ)
       ∙ (sym (take-less n w.len w'.entries l) ∙ (ap (take n) grows.1 ∙ (take-less n w.len w.entries l
       ∙ (sym (take-less n (length r.log) w.entries (omega (arith, l, many))) ∙ (ap (take n) r.tells.entered ∙ take-map entry_word n r.log))))))))
 
-  pub state-of : (w : SiteWords) (hs : List Hand) (r : Kept w hs) (n : ℕ) (s : o.State) → Stands w hs r n s → IsStateOf o size w hs n s
-  state-of w hs r n s stands none = let owed = none-owed hs (λ j h at. (none j h at).1) in let len = stands.0 in let many = r.tells.many in let is : w.len ≡ n = omega (arith, len, owed) in
-      (subst (λ (x : o.State). o.Represents x (take size w.guarded)) (sym (stands.1 ∙ ap (state_after o k) (take_all n r.log (omega (arith, is, many))))) (r.balances.quiet (none-writes hs (λ j h at. (none j h at).0))), is)
+  pub state-of : (w : SiteWords) (hs : List Hand) (r : Kept w hs) (n : ℕ) (s : o.State) → Stands w hs r n s → RepresentsAbstractState o size k w hs n s
+  state-of w hs r n s stands = let len = stands.0 in let many = r.tells.many in record {
+    log = r.log;
+    entries = (many, r.tells.entered);
+    count = omega (arith, len, many);
+    state = stands.1;
+    stored = λ none. let owed = none-owed hs (λ j h at. (none j h at).1) in
+        subst (λ (x : o.State). o.Represents x (take size w.guarded)) (sym (stands.1 ∙ ap (state_after o k) (take_all n r.log (omega (arith, len, owed, many))))) (r.balances.quiet (none-writes hs (λ j h at. (none j h at).0)));
+  }
 
   -- of all that hold or owe, who holds owes alone
   owes-alone : (w : SiteWords) (hs : List Hand) (id : ℕ) (h : Hand) → Kept w hs → get_elem? hs id ≡ some h → h.held ≢ No → total owed_of hs ≡ owed_of h
@@ -261,7 +267,7 @@ module _ {Call : Type 0} (o : Obj Call) (unavailable : Unavailable) (size : ℕ)
       (w w' : SiteWords) (hs hs' : List Hand) (r : Kept w hs) (r' : Kept w' hs') (id : ℕ) (h g : Hand) (at : get_elem? hs id ≡ some h) (sums : total owed_of hs' + owed_of h ≡ total owed_of hs + owed_of g) (steps steps' : List ℕ) (had : ℕ) (had_steps : get_elem? steps id ≡ some had) (has_steps : get_elem? steps' id ≡ some (had + 1))
       (grows : Grows w w') (n : ℕ) (s : o.State) (stands : Stands w hs r n s) where
     abbrev Goes : Type 0
-    Goes = (n' : ℕ) × (s' : o.State) × GoesAtOnce o k w w' hs steps steps' n s n' s' × Stands w' hs' r' n' s'
+    Goes = (n' : ℕ) × (s' : o.State) × IsSimulationStep o k w w' hs steps steps' n s n' s' × Stands w' hs' r' n' s'
 
     -- a step that stores no record
     idles : w'.recs ≡ w.recs → w'.len + owed_of h ≡ w.len + owed_of g → Goes
@@ -279,7 +285,7 @@ module _ {Call : Type 0} (o : Obj Call) (unavailable : Unavailable) (size : ℕ)
           (now, stands.1 ∙ ap (state_after o k) (sym (same-log w w' hs hs' r r' n grows (omega (arith, was)) (fit w hs r n (omega (arith, was))) (fit w' hs' r' n (omega (arith, now))))))
 
       -- of one that holds
-      acts : IsObjectReply x.reply → StandsLast w.len h x.k → (n' : ℕ) × (s' : o.State) × Acts o h words x n s n' s' × Stands w' hs' r' n' s'
+      acts : IsObjectReply x.reply → StandsLast w.len h x.k → (n' : ℕ) × (s' : o.State) × AppliesCall o h words x n s n' s' × Stands w' hs' r' n' s'
       acts object last = let was = stands.0 in let own = owes-alone w hs id h r at last.0 in let l = last.1 in let place : x.k ≡ n = omega (arith, was, own, l) in let none : total owed_of hs' ≡ 0 = omega (arith, sums, paid, own) in
           let many' = r'.tells.many in let long : length r'.log ≡ n + owed_of h = omega (arith, was, own, len, many') in
           let old : take n r'.log ≡ take n r.log = same-log w w' hs hs' r r' n grows (omega (arith, was)) (fit w hs r n (omega (arith, was))) (fit w' hs' r' n (omega (arith, long, none, many'))) in
@@ -288,7 +294,7 @@ module _ {Call : Type 0} (o : Obj Call) (unavailable : Unavailable) (size : ℕ)
           stage-cases h.stage (λ rests. reads rests place none long state here means) (λ e is. changed e is own place none long state here means)
         where
           Result : Type 0
-          Result = (n' : ℕ) × (s' : o.State) × Acts o h words x n s n' s' × Stands w' hs' r' n' s'
+          Result = (n' : ℕ) × (s' : o.State) × AppliesCall o h words x n s n' s' × Stands w' hs' r' n' s'
 
           never : (reply : Reply) {P : Type 0} → IsObjectReply reply → IsUnheldReply o unavailable words reply → P
           never Good i u = absurd u
@@ -306,7 +312,7 @@ module _ {Call : Type 0} (o : Obj Call) (unavailable : Unavailable) (size : ℕ)
           reads rests place none long state here (inr (inl q)) = (
             n,
             (o.meaning s q.call).0,
-            record { call = q.call; is = q.is; holds = last.0; place = place; reply = q.reply ∙ ap (λ (z : o.State). (o.meaning z q.call).1) here; state = refl; counts = (let z : bit (not (o.reads q.call)) ≡ 0 = ap (λ (b : Bool). bit (not b)) q.reads in omega (arith, z)) },
+            record { call = q.call; is = q.is; holds = last.0; alone = λ e. not-both (o.reads q.call) e q.reads; place = place; reply = q.reply ∙ ap (λ (z : o.State). (o.meaning z q.call).1) here; state = refl; counts = (let z : bit (not (o.reads q.call)) ≡ 0 = ap (λ (b : Bool). bit (not b)) q.reads in omega (arith, z)) },
             (let many' = r'.tells.many in omega (arith, none, long, rests, many'), reading s q.call q.reads ∙ state),
           )
           reads rests place none long state here (inr (inr q)) = never x.reply object q.reply
@@ -334,7 +340,7 @@ module _ {Call : Type 0} (o : Obj Call) (unavailable : Unavailable) (size : ℕ)
           changed e is own place none long state here (inl q) = let one : owed_of h ≡ 1 = ap owed_weight is in let there : slice_get r'.log n ≡ Some (record { task = task; call = h.done }) = ap (slice_get r'.log) (sym place) ∙ q.place in (
             n + 1,
             (o.meaning s q.call).0,
-            record { call = q.call; is = q.is; holds = last.0; place = place; reply = q.reply ∙ ap (λ (z : o.State). (o.meaning z q.call).1) here; state = refl; counts = (let z : bit (not (o.reads q.call)) ≡ 1 = ap (λ (b : Bool). bit (not b)) q.changes in omega (arith, z)) },
+            record { call = q.call; is = q.is; holds = last.0; alone = λ _. ((r.each id h at).logged e is).0; place = place; reply = q.reply ∙ ap (λ (z : o.State). (o.meaning z q.call).1) here; state = refl; counts = (let z : bit (not (o.reads q.call)) ≡ 1 = ap (λ (b : Bool). bit (not b)) q.changes in omega (arith, z)) },
             (
               let many' = r'.tells.many in omega (arith, none, long, one, many'),
               sym (ap (state_after o k) ((let z : n + 1 ≡ suc n = omega arith in ap (λ (m : ℕ). take m r'.log) z) ∙ take-next n r'.log (record { task = task; call = h.done }) there) ∙ (state-snoc o k (take n r'.log) (record { task = task; call = h.done }) words q.call planned q.is ∙ ap (λ (z : o.State). (o.meaning z q.call).0) (sym state))),
@@ -426,12 +432,12 @@ module _ {E Call : Type 0} (o : Obj Call) (unavailable : Unavailable) (size : �
     StandsAt x n s = (r : KeptAt x) → Stands o unavailable size k (site k x.words) (Hands x) r n s
 
     linear-step : (x y : Instant E) (n : ℕ) (s : o.State) → Moves holds moves x y → StandsAt x n s
-        → (n' : ℕ) × (s' : o.State) × GoesAtOnce o k (site k x.words) (site k y.words) (Hands x) (map steps_of x.views) (map steps_of y.views) n s n' s' × StandsAt y n' s' × IsStateOf o size (site k y.words) (Hands y) n' s'
+        → (n' : ℕ) × (s' : o.State) × IsSimulationStep o k (site k x.words) (site k y.words) (Hands x) (map steps_of x.views) (map steps_of y.views) n s n' s' × StandsAt y n' s' × RepresentsAbstractState o size k (site k y.words) (Hands y) n' s'
     linear-step x y n s m stands = let r = kept x.words x.views m.1 in let r' = kept y.words y.views m.2 in let move = moved m.0 x.words y.words x.views y.views r m.3 in
         let t = goes o unavailable size k reading (site k x.words) (site k y.words) (Hands x) (Hands y) r r' m.0 move.before.hand move.after.hand (at_map hand_of x.views m.0 move.before move.at) (sums m.0 (get_or x.words word_at 0) (site k x.words) (site k y.words) x.views y.views r move) (map steps_of x.views) (map steps_of y.views) move.before.steps (at_map steps_of x.views m.0 move.before move.at) (at_map steps_of y.views m.0 move.after move.at' ∙ ap some move.moved.counts) move.moved.site.grows n s (stands r) move.moved.site in
         (t.0, t.1, t.2, (λ r''. stands-any o unavailable size k (site k y.words) (Hands y) r' r'' t.0 t.1 t.3), state-of o unavailable size k (site k y.words) (Hands y) r' t.0 t.1 t.3)
 
-    runs : (y x : Instant E) (h : List (Instant E)) → Paced (Moves holds moves) (y ∷ x ∷ h) → Tail (new ∷ []) (map (moment marks) (y ∷ x ∷ h)) → (n : ℕ) × (s : o.State) × LinearTo o size k (map (moment marks) (y ∷ x ∷ h)) n s × StandsAt y n s
+    runs : (y x : Instant E) (h : List (Instant E)) → Paced (Moves holds moves) (y ∷ x ∷ h) → Tail (new ∷ []) (map (moment marks) (y ∷ x ∷ h)) → (n : ℕ) × (s : o.State) × LinearizesTo o size k (map (moment marks) (y ∷ x ∷ h)) n s × StandsAt y n s
     runs y x [] p began = let m = p.0 in let first_is : moment marks x ≡ new = one-last new (moment marks x) (rest-last new (moment marks y) (moment marks x) [] began) in let its : IsNew o size k (moment marks x) = subst (IsNew o size k) (sym first_is) is_new in
         let stands : StandsAt x 0 o.empty = λ r. stands-new o unavailable size k (moment marks x) r its in let r = kept x.words x.views m.1 in let t = linear-step x y 0 o.empty m stands in
         (t.0, t.1, (t.4, (0, o.empty, t.2, (state-of o unavailable size k (site k x.words) (Hands x) r 0 o.empty (stands r), refl, refl))), t.3)
@@ -439,10 +445,21 @@ module _ {E Call : Type 0} (o : Obj Call) (unavailable : Unavailable) (size : �
         (t.0, t.1, (t.4, (q.0, q.1, t.2, q.2)), t.3)
 
     -- a run that has made a step is linear
-    pub ran-linear : (m n : Moment) (h past : List Moment) → past ≡ m ∷ n ∷ h → Ran marks new (Moves holds moves) past → IsLinear o size k past
+    pub ran-linear : (m n : Moment) (h past : List Moment) → past ≡ m ∷ n ∷ h → Ran marks new (Moves holds moves) past → IsLinearizable o size k past
     ran-linear m n h past two r = long r.0 (sym r.1 ∙ two) r.1 r.2 r.3
       where
-        long : (run : List (Instant E)) → map (moment marks) run ≡ m ∷ n ∷ h → past ≡ map (moment marks) run → Tail (new ∷ []) past → Paced (Moves holds moves) run → IsLinear o size k past
+        long : (run : List (Instant E)) → map (moment marks) run ≡ m ∷ n ∷ h → past ≡ map (moment marks) run → Tail (new ∷ []) past → Paced (Moves holds moves) run → IsLinearizable o size k past
         long [] e is began p = absurd (let l = ap length e in omega (arith, l))
         long (y ∷ []) e is began p = absurd (let l = ap length e in omega (arith, l))
-        long (y ∷ x ∷ g) e is began p = let q = runs y x g p (subst (Tail (new ∷ [])) is began) in subst (IsLinear o size k) (sym is) (q.0, q.1, q.2)
+        long (y ∷ x ∷ g) e is began p = let q = runs y x g p (subst (Tail (new ∷ [])) is began) in subst (IsLinearizable o size k) (sym is) (q.0, q.1, q.2)
+
+pub state_after_log : {Call : Type 0} (o : Obj Call) (size : ℕ) → StateIsThatAfterLog o size
+state_after_log {Call} o size k now past n s linear none = by past linear
+  where
+    at_once : RepresentsAbstractState o size k (site k now.words) now.hands n s → (log : List Entry) × ((site k now.words).len ≡ length log) × (take (length log) (site k now.words).entries ≡ map entry_word log) × (n ≡ length log) × (s ≡ state_after o k log)
+    at_once is = let owed = none-owed now.hands none in let count = is.count in let all : n ≡ length is.log = omega (arith, owed, count) in
+        (is.log, is.entries.0, is.entries.1, all, is.state ∙ ap (state_after o k) (take_all n is.log (omega (arith, all))))
+
+    by : (past : List Moment) → LinearizesTo o size k (now ∷ past) n s → (log : List Entry) × ((site k now.words).len ≡ length log) × (take (length log) (site k now.words).entries ≡ map entry_word log) × (n ≡ length log) × (s ≡ state_after o k log)
+    by [] linear = at_once linear.0
+    by (x ∷ past) linear = at_once linear.0

@@ -72,7 +72,7 @@ module _ {E Call : Type 0} (o : Obj Call) (unavailable : Unavailable) (size : �
   pub begins-there : {unheld : Bool} (s : List ℕ) (hs : List Hand) (id t : ℕ) (v : View E) → t < length k → Kept (lay k s) hs → get_elem? hs id ≡ some v.hand → v.hand.task ≡ None → get_or s (LINES_AT + 8 * t) 0 ≡ 0
       → (g : Hand) × Numbered o unavailable k v.hand t g × KeepsHold rests v g × Kept (lay k (set s (LINES_AT + 8 * t) 1)) (set hs id g) × SiteStep unheld (v.steps + 1) (lay k s) (lay k (set s (LINES_AT + 8 * t) 1)) v.hand g
   begins-there s hs id t v inside r at out zero_there = let few = r.laid.small.tasks in let rs = row r.told t in let g : Hand = became v.hand t rs (longer v.hand.seen (take (seen_by o 0 (row k t) rs) r.log)) in
-      let kept = line-stored o unavailable size k s (set hs id g) (8 * t) 1 v.hand g (omega (arith, inside, few)) (record { misses = omega arith; freed = λ _. refl; takes = omega arith; comes = λ out holds. absurd (holds out) }, refl, refl) (site-begins o unavailable size k (lay k s) hs id t v.hand r at out inside (part-at s LINES_AT (8 * MAX_TASKS) (8 * t) (omega (arith, inside, few)) ∙ zero_there)) in
+      let kept = line-stored o unavailable size k s (set hs id g) (8 * t) 1 v.hand g (omega (arith, inside, few)) (record { misses = omega arith; freed = λ _. refl; takes = omega arith; comes = λ l. omega (arith, l) }, refl, refl) (site-begins o unavailable size k (lay k s) hs id t v.hand r at out inside (part-at s LINES_AT (8 * MAX_TASKS) (8 * t) (omega (arith, inside, few)) ∙ zero_there)) in
       (g, (rs, r.log, r.tells.legal t, r.tells.within, refl), (refl, inr (inl out), (refl, inr refl)), kept.0, kept.1)
 
 module _ {Call : Type 0} (o : Obj Call) (unavailable : Unavailable) (k : Plan) (h g : Hand) (t : ℕ) (n : Numbered o unavailable k h t g) where

@@ -28,4 +28,4 @@ module _ {Call : Type 0} (o : Obj Call) (unavailable : Unavailable) (size : ℕ)
 
   pub ends-there : {unheld : Bool} {step : ℕ} (s : List ℕ) (hs : List Hand) (id t : ℕ) (h : Hand) → t < MAX_TASKS → Kept (lay k s) hs → get_elem? hs id ≡ some h → h.task ≡ Some t → h.held ≡ No → h.sent ≡ None → h.consumed ≡ 0
       → Kept (lay k (set s (LINES_AT + 8 * t) 0)) (set hs id (gave_up h)) × SiteStep unheld step (lay k s) (lay k (set s (LINES_AT + 8 * t) 0)) h (gave_up h)
-  ends-there {unheld} {step} s hs id t h l r at has free unsent unconsumed = line-stored s (set hs id (gave_up h)) (8 * t) 0 h (gave_up h) (omega arith) (record { misses = omega arith; freed = λ _. refl; takes = omega arith; comes = λ out holds. absurd (holds out) }, refl, refl) (site-ends o unavailable size k (lay k s) hs id t h r at has free unsent unconsumed)
+  ends-there {unheld} {step} s hs id t h l r at has free unsent unconsumed = line-stored s (set hs id (gave_up h)) (8 * t) 0 h (gave_up h) (omega arith) (record { misses = omega arith; freed = λ _. refl; takes = omega arith; comes = λ l. omega (arith, l) }, refl, refl) (site-ends o unavailable size k (lay k s) hs id t h r at has free unsent unconsumed)

@@ -38,7 +38,7 @@ module _ {Call : Type 0} (o : Obj Call) (unavailable : Unavailable) (size : ℕ)
   signals-there {unheld} {step} s hs id t at h numbered unsent inside signal place r there = let u = some-of h.task numbered in let q = subst (λ e. IsSignal k e t) (next-is h u.0 h.done u.1 refl) signal in
       let w : SiteWords = lay k s in let spot : LINES_AT + sent_at t ≡ at = omega (arith, place) in let n : get_or w.lines (sent_at t) 0 ≡ get_or s at 0 = part-at s LINES_AT (8 * MAX_TASKS) (sent_at t) (omega (arith, inside)) ∙ ap (λ (i : ℕ). get_or s i 0) spot in
       let small = sent-small o unavailable size k w hs t r inside in let kept = site-signals o unavailable size k w hs id u.0 t h q.words r there u.1 unsent inside q.planned q.is in
-      let stored = line-stored o unavailable size k s (set hs id (sending h t)) (sent_at t) (get_or w.lines (sent_at t) 0 + 1) h (sending h t) (omega (arith, inside)) (record { misses = omega arith; freed = λ _. refl; takes = omega arith; comes = λ out holds. absurd (holds out) }, refl, refl) kept in
+      let stored = line-stored o unavailable size k s (set hs id (sending h t)) (sent_at t) (get_or w.lines (sent_at t) 0 + 1) h (sending h t) (omega (arith, inside)) (record { misses = omega arith; freed = λ _. refl; takes = omega arith; comes = λ l. omega (arith, l) }, refl, refl) kept in
       let both : Kept (lay k (set s at (get_or s at 0 + 1))) (set hs id (sending h t)) × SiteStep unheld step (lay k s) (lay k (set s at (get_or s at 0 + 1))) h (sending h t) = subst (λ (z : ℕ × ℕ). Kept (lay k (set s z.0 (z.1 + 1))) (set hs id (sending h t)) × SiteStep unheld step (lay k s) (lay k (set s z.0 (z.1 + 1))) h (sending h t)) (λ i. (spot i, n i)) stored in
       (omega (arith, small, n), both.0, both.1)
 
@@ -58,4 +58,4 @@ module _ {Call : Type 0} (o : Obj Call) (unavailable : Unavailable) (size : ℕ)
       → Kept (lay k (set s at (n + 1))) (set hs id (consuming h)) × SiteStep unheld step (lay k s) (lay k (set s at (n + 1))) h (consuming h)
   consumes-there {unheld} {step} s hs id t at n h p has inside place heard waits is r there = let spot : LINES_AT + consumed_at t ≡ at = omega (arith, place) in
       subst (λ (z : ℕ × ℕ). Kept (lay k (set s z.0 (z.1 + 1))) (set hs id (consuming h)) × SiteStep unheld step (lay k s) (lay k (set s z.0 (z.1 + 1))) h (consuming h)) (λ i. (spot i, sym is i))
-      (line-stored o unavailable size k s (set hs id (consuming h)) (consumed_at t) (p.taken + 1) h (consuming h) (omega (arith, inside)) (record { misses = omega arith; freed = λ _. refl; takes = omega arith; comes = λ out holds. absurd (holds out) }, refl, refl) (site-consumes-heard o unavailable size k (lay k s) hs id t h p r there has heard waits))
+      (line-stored o unavailable size k s (set hs id (consuming h)) (consumed_at t) (p.taken + 1) h (consuming h) (omega (arith, inside)) (record { misses = omega arith; freed = λ _. refl; takes = omega arith; comes = λ l. omega (arith, l) }, refl, refl) (site-consumes-heard o unavailable size k (lay k s) hs id t h p r there has heard waits))

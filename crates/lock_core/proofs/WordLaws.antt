@@ -58,7 +58,7 @@ module _ {Call : Type 0} (o : Obj Call) (unavailable : Unavailable) (size : ℕ)
 
   pub writes-there : {unheld : Bool} {step : ℕ} (s : List ℕ) (hs : List Hand) (id i n : ℕ) (h : Hand) → size ≤ 257 → Kept (lay k s) hs → get_elem? hs id ≡ some h → h.held ≡ Alone → i < size → After unheld step s hs id h (wrote h i n) i n
   writes-there {unheld} {step} s hs id i n h fits r at alone inside = let e = sym (lay-guarded k s i n (omega (arith, fits, inside))) in
-      (subst (λ (w : SiteWords). Kept w (set hs id (wrote h i n))) e (site-writes o unavailable size k (lay k s) hs id i n h r at alone inside), subst (λ (w : SiteWords). SiteStep unheld step (lay k s) w h (wrote h i n)) e (keeps-recs (lay k s) (record (lay k s) { guarded = set (lay k s).guarded i n }) h (wrote h i n) refl (omega arith, refl) (λ not. absurd (not alone)) (record { misses = omega arith; freed = λ _. refl; takes = omega arith; comes = λ out holds. absurd (holds out) }) refl refl))
+      (subst (λ (w : SiteWords). Kept w (set hs id (wrote h i n))) e (site-writes o unavailable size k (lay k s) hs id i n h r at alone inside), subst (λ (w : SiteWords). SiteStep unheld step (lay k s) w h (wrote h i n)) e (keeps-recs (lay k s) (record (lay k s) { guarded = set (lay k s).guarded i n }) h (wrote h i n) refl (omega arith, refl) (λ not. absurd (not alone)) (record { misses = omega arith; freed = λ _. refl; takes = omega arith; comes = λ l. omega (arith, l) }) refl refl))
 
   holders-log : (s : List ℕ) (hs : List Hand) (id : ℕ) (h : Hand) → Kept (lay k s) hs → get_elem? hs id ≡ some h → h.held ≢ No → get_or s LENGTH_AT 0 ≡ length h.log
   holders-log s hs id h r at holds = r.tells.many ∙ sym (ap length ((r.each id h at).known holds).1)
@@ -66,7 +66,7 @@ module _ {Call : Type 0} (o : Obj Call) (unavailable : Unavailable) (size : ℕ)
   pub enters-there : {unheld : Bool} {step : ℕ} (s : List ℕ) (hs : List Hand) (id len : ℕ) (e : Entry) (h : Hand) → Kept (lay k s) hs → get_elem? hs id ≡ some h → h.held ≡ Alone → h.stage ≡ Rest → len ≡ length h.log → len < calls_in k → After unheld step s hs id h (entered h e) (ENTRIES_AT + len) (entry_word e)
   enters-there {unheld} {step} s hs id len e h r at alone rest is room = let here : (lay k s).len ≡ len = holders-log s hs id h r at (alone-is-held h.held alone) ∙ sym is in let f = sym (lay-entries k s len (entry_word e) room) in (
     subst (λ (w : SiteWords). Kept w (set hs id (entered h e))) f (subst (λ (n : ℕ). Kept (record (lay k s) { entries = set (lay k s).entries n (entry_word e) }) (set hs id (entered h e))) here (site-enters o unavailable size k (lay k s) hs id e h r at alone rest (omega (arith, here, room)))),
-    subst (λ (w : SiteWords). SiteStep unheld step (lay k s) w h (entered h e)) f (keeps-recs (lay k s) (record (lay k s) { entries = set (lay k s).entries len (entry_word e) }) h (entered h e) refl (omega arith, take-set-le (lay k s).len (lay k s).entries len (entry_word e) (omega (arith, here))) (λ not. absurd (not alone)) (record { misses = omega arith; freed = λ _. refl; takes = omega arith; comes = λ out holds. absurd (holds out) }) refl (let none : owed_weight h.stage ≡ 0 = ap owed_weight rest in omega (arith, none))),
+    subst (λ (w : SiteWords). SiteStep unheld step (lay k s) w h (entered h e)) f (keeps-recs (lay k s) (record (lay k s) { entries = set (lay k s).entries len (entry_word e) }) h (entered h e) refl (omega arith, take-set-le (lay k s).len (lay k s).entries len (entry_word e) (omega (arith, here))) (λ not. absurd (not alone)) (record { misses = omega arith; freed = λ _. refl; takes = omega arith; comes = λ l. omega (arith, l) }) refl (let none : owed_weight h.stage ≡ 0 = ap owed_weight rest in omega (arith, none))),
   )
 
   pub logs-there : {unheld : Bool} {step : ℕ} (s : List ℕ) (hs : List Hand) (id len : ℕ) (e : Entry) (h : Hand) (words : CallWords) (c : Call) → Kept (lay k s) hs → get_elem? hs id ≡ some h → h.held ≡ Alone → h.stage ≡ Entered e → h.task ≡ Some e.task → h.done ≡ e.call → len ≡ length h.log → len < calls_in k
@@ -74,7 +74,7 @@ module _ {Call : Type 0} (o : Obj Call) (unavailable : Unavailable) (size : ℕ)
   logs-there {unheld} {step} s hs id len e h words c r at alone stage named done is room planned called means = let here : (lay k s).len ≡ len = holders-log s hs id h r at (alone-is-held h.held alone) ∙ sym is in let wide = r.laid.wide in let f = sym (lay-len k s (len + 1) (omega (arith, wide))) in (
     subst (λ (w : SiteWords). Kept w (set hs id (logged h e))) f (subst (λ (n : ℕ). Kept (record (lay k s) { len = n + 1 }) (set hs id (logged h e))) here
         (site-logs o unavailable size k (lay k s) hs id e h words c r at alone stage named done (omega (arith, here, room)) planned called means)),
-    subst (λ (w : SiteWords). SiteStep unheld step (lay k s) w h (logged h e)) f (keeps-recs (lay k s) (record (lay k s) { len = len + 1 }) h (logged h e) refl (omega (arith, here), refl) (λ not. absurd (not alone)) (record { misses = omega arith; freed = λ _. refl; takes = omega arith; comes = λ out holds. absurd (holds out) }) refl (let none : owed_weight h.stage ≡ 0 = ap owed_weight stage in omega (arith, none, here))),
+    subst (λ (w : SiteWords). SiteStep unheld step (lay k s) w h (logged h e)) f (keeps-recs (lay k s) (record (lay k s) { len = len + 1 }) h (logged h e) refl (omega (arith, here), refl) (λ not. absurd (not alone)) (record { misses = omega arith; freed = λ _. refl; takes = omega arith; comes = λ l. omega (arith, l) }) refl (let none : owed_weight h.stage ≡ 0 = ap owed_weight stage in omega (arith, none, here))),
   )
 
   pub records-there : {unheld : Bool} {step : ℕ} (s : List ℕ) (hs : List Hand) (id : ℕ) (h : Hand) (e : Entry) (words : CallWords) (x : Rec) (seen : List Entry) → Kept (lay k s) hs → get_elem? hs id ≡ some h → h.plan ≡ Some k → MayRecord o unavailable unheld k h e words x seen
@@ -111,7 +111,7 @@ module _ {Call : Type 0} (o : Obj Call) (unavailable : Unavailable) (size : ℕ)
             last = refl;
           };
           quiet = λ _. record { guarded = refl; len = refl; entries = refl };
-          hand = record { misses = omega arith; freed = λ _. refl; takes = omega arith; comes = λ out holds. absurd (holds out) };
+          hand = record { misses = omega arith; freed = λ _. refl; takes = omega arith; comes = λ l. omega (arith, l) };
         },
       )
 

@@ -8,7 +8,7 @@ use Rattle.word_bits.specs.Histories.{Plan, changes}
 use Rattle.lock_core.specs.declared.view.Moment.{Moment}
 use Rattle.lock_core.specs.Plans.{start}
 use Rattle.lock_core.specs.Layout.{site}
-use Rattle.lock_core.specs.Linear.{IsLinear}
+use Rattle.lock_core.specs.Linear.{IsLinearizable}
 use Rattle.lock_core.specs.Pasts.{Tail}
 use Rattle.lock_core.specs.Records.{bit, row}
 use Rattle.lock_core.specs.SiteStated.{IsNew}
@@ -25,7 +25,7 @@ pub record IsServed (k : Plan) (m : Moment) (t c : ℕ) (w : CallWords) (r : Rec
   pub served : IsObjectReply r.reply
 
 -- In a linearizable history, of two calls that held, the one that was recorded while the other wasn't stands no later than that one, and before it if it changes the object.
-abbrev pub KeepsStepOrder : {Call : Type 0} → (o : Obj Call) → (size : ℕ) → Type 0
-KeepsStepOrder o size = (k : Plan) (new : Moment) (past : List Moment) → IsLinear o size k past → IsNew o size k new → Tail (new ∷ []) past
+abbrev pub PlacesFollowLinearizationPoints : {Call : Type 0} → (o : Obj Call) → (size : ℕ) → Type 0
+PlacesFollowLinearizationPoints o size = (k : Plan) (new : Moment) (past : List Moment) → IsLinearizable o size k past → IsNew o size k new → Tail (new ∷ []) past
     → (n : ℕ) (early late : Moment) (before until : List Moment) → past ≡ late ∷ until → drop n past ≡ early ∷ before
     → (t c u d : ℕ) (v w : CallWords) (q r : Rec) → IsServed k early t c v q → record_in k early u d ≡ 0 → IsServed k late u d w r → q.k + bit (changes o v) ≤ r.k

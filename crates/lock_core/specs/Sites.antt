@@ -22,7 +22,7 @@ use Rattle.lock_core.specs.declared.layout.TheConstants.{LOCK_WORDS, LINES_AT}
 use Rattle.lock_core.specs.Plans.{IsSmall, calls_in, call_words, start}
 use Rattle.lock_core.specs.Layout.{SiteWords, site_width}
 use Rattle.lock_core.specs.Records.{row, rec_words, sends, intrs, IsPlan, IsLoggedAt, seen_by, AreNext}
-use Rattle.lock_core.specs.Views.{held_of, alone_of, writes_of, owed_of, named_of, sent_of, consumed_of, OwesNoSignal}
+use Rattle.lock_core.specs.Views.{held_of, alone_of, writes_of, owed_of, named_of, sent_of, consumed_of, strength, OwesNoSignal}
 use Rattle.lock_core.specs.Totals.{total}
 use Rattle.lock_core.specs.ViewParts.{Each}
 
@@ -147,12 +147,12 @@ WasInterrupted h = (h.consumed ≡ 1) × ((word : ℕ) × SawSince h word)
 abbrev pub HasSent : Plan → (task : ℕ) → Hand → Type 0
 HasSent k task h = (words : CallWords) × (target : ℕ) × (slice_get (row k task) h.done ≡ Some words) × (signal_of words ≡ Some target) × (h.sent ≡ Some target)
 
--- what every step of a pass does to its hand: its misses and the number of its takes don't fall, what its last release left stays while it holds as before, and it comes to hold by one take more alone
+-- what every step of a pass does to its hand: its misses and the number of its takes don't fall, what its last release left stays while it holds as before, and each step by which it comes to hold, or to hold alone, counts a take
 pub record HoldGoes (h g : Hand) : Type 0 where
   pub misses : h.misses ≤ g.misses
   pub freed : g.held ≡ h.held → g.freed ≡ h.freed
   pub takes : h.takes ≤ g.takes
-  pub comes : h.held ≡ No → g.held ≢ No → h.takes < g.takes
+  pub comes : strength h.held < strength g.held → h.takes < g.takes
 
 -- the same, of a step that leaves the records and the log: the number of the step that last stored a record stays, and so does how many the pass owes
 abbrev pub HandGoes : Hand → Hand → Type 0

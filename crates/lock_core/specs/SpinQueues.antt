@@ -50,7 +50,7 @@ abbrev pub PointOk : (ℕ → ℕ) → (ℕ → ℕ) → List ℕ → Point → 
 PointOk next locked q Clearing code found after = locked code ≡ 0
 PointOk next locked q Cleared code found after = (locked code ≡ 0) × (next code ≡ 0)
 PointOk next locked q Linking code found after = Before q found code × (next found ≡ 0) × (locked code ≡ 0)
-PointOk next locked q Waiting code found after = (Before q found code × (locked code ≡ 0)) ⊎ ((get_elem? q 0 ≡ some code) × (locked code ≡ 1))
+PointOk next locked q Waiting code found after = (Before q found code × (locked code ≡ 0) × (next found ≡ code)) ⊎ ((get_elem? q 0 ≡ some code) × (locked code ≡ 1))
 PointOk next locked q Front code found after = IsFront next locked q code found after
 PointOk next locked q Ready code found after = IsFront next locked q code found after
 PointOk next locked q Passing code found after = IsFront next locked q code found after

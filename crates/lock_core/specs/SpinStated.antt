@@ -9,11 +9,12 @@ use Rattle.lock_core.specs.declared.view.Frame.{Frame}
 use Rattle.lock_core.specs.declared.view.SpinHand.{SpinHand}
 use Rattle.lock_core.specs.declared.view.View.{View}
 use Rattle.lock_core.specs.declared.view.Moment.{Moment}
+use Rattle.lock_core.specs.declared.view.Point.TheVariants.{Linking}
 use Rattle.lock_core.specs.declared.layout.TheConstants.{SPIN_WORDS}
 use Rattle.lock_core.specs.Layout.{part}
 use Rattle.lock_core.specs.Totals.{total}
 use Rattle.lock_core.specs.SpinFrames.{when, code_is, stands, uses, stands_as, owns_at, holds_of, takes_of, ready_of, pends_of, undoes_of, is_head}
-use Rattle.lock_core.specs.SpinQueues.{tail_unit}
+use Rattle.lock_core.specs.SpinQueues.{tail_unit, Before}
 use Rattle.lock_core.specs.Views.{SpinPart, spin_part}
 use Rattle.lock_core.specs.LockHands.{frame_at, point_at, depth_of, RestsAt}
 use Rattle.lock_core.specs.Spins.{byte_in, pending_in, tail_in, word_in, next_in, locked_in, frame_on, node_code, OwnNodes, TakesFrom, ComesTo, LeavesBy, SpinGoes, SpinLeaves, SpinStep}
@@ -35,6 +36,10 @@ abbrev pub Walks : (ℕ → ℕ) → (ℕ → ℕ) → ℕ → List ℕ → Type
 Walks found locked c [] = c ≡ 0
 Walks found locked c (x ∷ xs) = (c ≡ x) × (x ≢ 0) × (((xs ≡ []) × ((found x ≡ 0) ⊎ (locked x ≡ 1))) ⊎ ((found x ≢ 0) × (locked x ≢ 1) × Walks found locked (found x) xs))
 
+-- it owes the link from x to y: it has exchanged the tail for the code y of its own node, which found x, and hasn't told x its code yet
+abbrev pub OwesLink : ℕ → ℕ → Frame → Type 0
+OwesLink x y f = (f.point ≡ Linking) × (f.found ≡ x) × (f.code ≡ y)
+
 -- the word, the `next` and `locked` of the nodes, and the passes, while this is the queue, its front first
 pub record IsSpinLock (word : ℕ) (next locked : ℕ → ℕ) (queue : List ℕ) (fs : List Frame) : Type 0 where
   -- the word has a locked byte, a pending bit and a tail, and nothing else
@@ -53,6 +58,9 @@ pub record IsSpinLock (word : ℕ) (next locked : ℕ → ℕ) (queue : List ℕ
   pub empty : (queue ≡ [] → tail_in word ≡ 0) × (tail_in word ≡ 0 → queue ≡ [])
   -- a node names its successor, or none, and none but the front was told that it is the front
   pub linked : (p x : ℕ) → get_elem? queue p ≡ some x → (next x ≡ 0) ⊎ (get_elem? queue (suc p) ≡ some (next x))
+  -- a link that is missing is owed by exactly one pass, and each pass that has exchanged the tail and not linked yet owes one that is missing
+  pub owed : (x y : ℕ) → Before queue x y → next x ≡ 0 → (j : ℕ) × (f : Frame) × (get_elem? fs j ≡ some f) × OwesLink x y f × ((i : ℕ) (g : Frame) → get_elem? fs i ≡ some g → OwesLink x y g → i ≡ j)
+  pub owes : (j : ℕ) (f : Frame) → get_elem? fs j ≡ some f → f.point ≡ Linking → (next f.found ≡ 0) × Before queue f.found f.code
   pub told : (p x : ℕ) → get_elem? queue p ≡ some x → locked x ≡ 1 → p ≡ 0
   -- the first found no tail, or was told that it is the head
   pub first : (x : ℕ) → get_elem? queue 0 ≡ some x → (found_by fs x ≡ 0) ⊎ (locked x ≡ 1)

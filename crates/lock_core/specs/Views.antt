@@ -209,6 +209,12 @@ alone_weight No = 0
 alone_weight Shared = 0
 alone_weight Alone = 1
 
+-- how strongly a pass holds that holds so: not at all, beside others, or alone
+abbrev pub strength : Held → ℕ
+strength No = 0
+strength Shared = 1
+strength Alone = 2
+
 abbrev pub owed_weight : Stage → ℕ
 owed_weight Rest = 0
 owed_weight (Entered e) = 0

@@ -1,5 +1,6 @@
 //! Laws of histories. Each is the contract of a function that does nothing.
-ghost use Rattle.lock_core.specs.Orders.{KeepsStepOrder};
+ghost use Rattle.lock_core.specs.Linear.{StateIsThatAfterLog};
+ghost use Rattle.lock_core.specs.Orders.{PlacesFollowLinearizationPoints};
 
 use word_bits::Object;
 
@@ -7,5 +8,11 @@ use word_bits::Object;
 /// what order they were stored: of two calls that held, the one that was recorded first stands no
 /// later, and before the other if it changes the object.
 pub fn places_keep_step_order<O: Object>()
-    ensures { KeepsStepOrder O.object O.WORDS }
+    ensures { PlacesFollowLinearizationPoints O.object O.WORDS }
+{}
+
+/// In a linearizable history, wherever no pass owes a record, the abstract state is that after the
+/// log, and the number that goes with it is the log's length.
+pub fn abstract_state_is_that_after_the_log<O: Object>()
+    ensures { StateIsThatAfterLog O.object O.WORDS }
 {}

@@ -177,10 +177,13 @@ pub trait SiteLock<O: Object>: Sized {
 
     /// Consumes a signal if more were sent to the pass's task than it has consumed, and tells both
     /// numbers. `None` if no more were sent. The kernel's `signal_pending_state`, and what its
-    /// caller does on return.
+    /// caller does on return. The signal that it consumed before must be recorded: a record of an
+    /// interrupted call records one signal and leaves none, so a pass that has consumed two can
+    /// record nothing more.
     final fn consume(&self, pass: &mut Self::Pass) -> Option<Interrupted>
         requires own { sits self.now pass.old }
         requires numbered { IsSome (view pass.old).hand.task }
+        requires recorded { (view pass.old).hand.consumed ≡ 0 }
         ensures on { StepsOn sits view self.now pass.old pass.new }
         ensures beside { pass.new ≡ with_seat pass.old (seat_of pass.new) }
         ensures last { IsLatest (seat_of pass.new) }

@@ -16,7 +16,7 @@ use Rattle.lock_core.specs.declared.view.Hand.{Hand}
 use Rattle.lock_core.specs.declared.view.Moment.{Moment}
 use Rattle.lock_core.specs.Kinds.{Kind, unavailable}
 use Rattle.lock_core.specs.Layout.{site}
-use Rattle.lock_core.specs.Linear.{Serves, GoesAtOnce, LinearTo}
+use Rattle.lock_core.specs.Linear.{IsLinearizationPoint, IsSimulationStep, LinearizesTo}
 use Rattle.lock_core.specs.Locked.{IsLockedThen}
 use Rattle.lock_core.specs.Orders.{record_in}
 use Rattle.lock_core.specs.Pasts.{EachMoment, Tail}
@@ -36,10 +36,10 @@ use Rattle.mm_serve.specs.RealTimeOrder.{HasTakenEffect, TookEffectBefore, ReadA
 
 module _ {Call : Type 0} (o : Obj Call) (size : ℕ) (k : Plan) (new : Moment) where
   -- the past up to one of its moments is linear too, and began with the same moment
-  linear_until : (i : ℕ) (past : List Moment) (late : Moment) (until : List Moment) (n : ℕ) (s : o.State) → LinearTo o size k past n s → Tail (new ∷ []) past → drop i past ≡ late ∷ until
-      → ((m : ℕ) × (t : o.State) × LinearTo o size k (late ∷ until) m t) × Tail (new ∷ []) (late ∷ until)
+  linear_until : (i : ℕ) (past : List Moment) (late : Moment) (until : List Moment) (n : ℕ) (s : o.State) → LinearizesTo o size k past n s → Tail (new ∷ []) past → drop i past ≡ late ∷ until
+      → ((m : ℕ) × (t : o.State) × LinearizesTo o size k (late ∷ until) m t) × Tail (new ∷ []) (late ∷ until)
   linear_until i [] late until n s linear began cut = absurd linear
-  linear_until zero (y ∷ past) late until n s linear began cut = ((n, s, subst (λ (z : List Moment). LinearTo o size k z n s) cut linear), subst (Tail (new ∷ [])) cut began)
+  linear_until zero (y ∷ past) late until n s linear began cut = ((n, s, subst (λ (z : List Moment). LinearizesTo o size k z n s) cut linear), subst (Tail (new ∷ [])) cut began)
   linear_until (suc i) (y ∷ []) late until n s linear began cut = absurd (let l = ap length cut in omega (arith, l, length-drop (suc i) (y ∷ [])))
   linear_until (suc i) (y ∷ x ∷ past) late until n s linear began cut =
       let q = linear.1 in
@@ -111,17 +111,17 @@ record_word (ws ∷ wss) (rs ∷ rss) (suc t) c w r planned recorded =
 
 module _ {Call : Type 0} (o : Obj Call) (size : ℕ) (k : Plan) (t c : ℕ) where
   -- no step changes a record
-  record_kept : (x y : Moment) (n : ℕ) (s : o.State) (n' : ℕ) (s' : o.State) → GoesAtOnce o k (site k x.words) (site k y.words) x.hands x.steps y.steps n s n' s' → record_in k x t c ≢ 0 → record_in k y t c ≡ record_in k x t c
+  record_kept : (x y : Moment) (n : ℕ) (s : o.State) (n' : ℕ) (s' : o.State) → IsSimulationStep o k (site k x.words) (site k y.words) x.hands x.steps y.steps n s n' s' → record_in k x t c ≢ 0 → record_in k y t c ≡ record_in k x t c
   record_kept x y n s n' s' goes recorded = ⊎_elim
       (λ (same : ((site k y.words).recs ≡ (site k x.words).recs) × (n' ≡ n) × (s' ≡ s)). ap (λ (z : List ℕ). get_or z (start k t + c) 0) same.0)
-      (λ (q : Serves o k (site k x.words) (site k y.words) x.hands x.steps y.steps n s n' s').
+      (λ (q : IsLinearizationPoint o k (site k x.words) (site k y.words) x.hands x.steps y.steps n s n' s').
       dite (ℕ_discrete (start k t + c) (start k q.task + q.hand.done))
       (λ is. absurd (recorded (ap (λ (z : ℕ). get_or (site k x.words).recs z 0) is ∙ q.empty)))
       (λ other. ap (λ (z : List ℕ). get_or z (start k t + c) 0) q.stored ∙ get_or-set_other (site k x.words).recs (start k q.task + q.hand.done) (start k t + c) (rec_word q.rec) 0 other))
       goes
 
   -- so a call's record is what it was at each moment at which there was one
-  record_stays : (i : ℕ) (now : Moment) (past : List Moment) (m : Moment) (before : List Moment) (n : ℕ) (s : o.State) → LinearTo o size k (now ∷ past) n s → drop i (now ∷ past) ≡ m ∷ before → record_in k m t c ≢ 0 → record_in k now t c ≡ record_in k m t c
+  record_stays : (i : ℕ) (now : Moment) (past : List Moment) (m : Moment) (before : List Moment) (n : ℕ) (s : o.State) → LinearizesTo o size k (now ∷ past) n s → drop i (now ∷ past) ≡ m ∷ before → record_in k m t c ≢ 0 → record_in k now t c ≡ record_in k m t c
   record_stays zero now past m before n s linear cut recorded = ap (λ (z : List Moment). record_in k (head z) t c) cut
     where
       head : List Moment → Moment
@@ -167,7 +167,7 @@ module _ {Call : Type 0} (o : Obj Call) (kind : Kind) (size word_at : ℕ) (wait
       let its = served_now records second known are second_held in
       let all : List Moment = step.before ∷ step.rest in
       let cut : drop order.is.0 (Latest ∷ all) ≡ order.moment ∷ order.before = ap (drop order.is.0) (sym step.past_is) ∙ order.is.1 in
-      let linear = subst (λ (z : List Moment). LinearTo o size k z knows.linear.0 knows.linear.1) step.past_is knows.linear.2 in
+      let linear = subst (λ (z : List Moment). LinearizesTo o size k z knows.linear.0 knows.linear.1) step.past_is knows.linear.2 in
       let same = record_stays o size k first.entry.task first.entry.call order.is.0 Latest all order.moment order.before knows.linear.0 knows.linear.1 linear cut order.first_recorded in
       record {
         late = Latest;

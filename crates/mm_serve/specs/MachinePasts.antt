@@ -5,7 +5,7 @@ use Rattle.word_bits.specs.Histories.{Plan}
 use Rattle.lock_core.specs.declared.view.Moment.{Moment}
 use Rattle.lock_core.specs.Kinds.{Kind}
 use Rattle.lock_core.specs.Locked.{IsLockedThen, IsSiteStep}
-use Rattle.lock_core.specs.Linear.{IsLinear}
+use Rattle.lock_core.specs.Linear.{IsLinearizable}
 use Rattle.lock_core.specs.Pasts.{EachMoment, Paced, Tail}
 use Rattle.lock_core.specs.Shown.{Shown, IsLatestStep}
 use Rattle.lock_core.specs.SiteStated.{IsNew}
@@ -18,5 +18,5 @@ pub record KnowsPast {Call : Type 0} (o : Obj Call) (kind : Kind) (size : ℕ) (
   pub always : EachMoment (IsLockedThen o kind size k word_at waits) u.past
   pub moves : Paced (IsSiteStep k word_at) u.past
   -- each call took effect at the one step that stored its record
-  pub linear : IsLinear o size k u.past
+  pub linear : IsLinearizable o size k u.past
   pub told : tells k u

@@ -1,4 +1,4 @@
--- That a history keeps the order in which its calls took effect. Each took effect at one step on the object's table, the one that stores its record (`IsLinear`). That step is one of the call, so this order has the real-time order in it: a call that was over before another began comes first.
+-- That a history keeps the order in which its calls took effect. Each took effect at one step on the object's table, the one that stores its record (`IsLinearizable`). That step is one of the call, so this order has the real-time order in it: a call that was over before another began comes first.
 use Rattle.std.specs.Prelude.{◌≡◌, ◌≢◌, ◌⊎◌, ℕ, false, List, ◌∷◌}
 use Rattle.word_bits.specs.declared.entry.Entry.{Entry}
 use Rattle.word_bits.specs.LockWords.{Unavailable}
@@ -7,7 +7,7 @@ use Rattle.word_bits.specs.Histories.{Plan, Records, Event, changes, history}
 use Rattle.word_bits.specs.Legal.{IsLegal}
 use Rattle.lock_core.specs.declared.view.Moment.{Moment}
 use Rattle.lock_core.specs.Kinds.{Kind}
-use Rattle.lock_core.specs.Linear.{IsLinear}
+use Rattle.lock_core.specs.Linear.{IsLinearizable}
 use Rattle.lock_core.specs.Orders.{record_in, IsServed}
 use Rattle.lock_core.specs.Pasts.{Tail, BeganWith}
 use Rattle.lock_core.specs.Shown.{Shown}
@@ -44,7 +44,7 @@ pub record ReadAtOnePlace {Call : Type 0} (o : Obj Call) (first second : Event) 
 abbrev pub KeepsRealTimeOrder : {Call : Type 0} → Obj Call → Unavailable → Type 0
 KeepsRealTimeOrder o unavailable =
     (size : ℕ) (k : Plan) (new : Moment) (past : List Moment) (records : Records) (log : List Entry) (state : List ℕ) (first second : Event)
-    → IsLinear o size k past → IsNew o size k new → BeganWith new past → IsLegal o unavailable k records log state
+    → IsLinearizable o size k past → IsNew o size k new → BeganWith new past → IsLegal o unavailable k records log state
     → IsEventOf k records first → IsEventOf k records second → TookEffectBefore k past first second
     → Before (history o k records log) first second ⊎ ReadAtOnePlace o first second
 

@@ -20,7 +20,7 @@ ghost use Rattle.sleep_lock.specs.Leaving.{LeavesForCpu};
 ghost use Rattle.mutex_slow.specs.MutexPlaces.{CountsBy, CountsInLine, EndsHold, TakesOpen, WakesFirst};
 ghost use Rattle.mutex_slow.specs.MutexStated.{HasBecome, IsMutexThen, IsOutOfList, MarksCounts, waits_on};
 ghost use Rattle.lock_core.specs.Locked.{IsLockedThen, IsSiteStep};
-ghost use Rattle.lock_core.specs.Linear.{IsLinear};
+ghost use Rattle.lock_core.specs.Linear.{IsLinearizable};
 ghost use Rattle.wait_list.specs.declared.view.Waiter.{Waiter as Waiters};
 
 use crate::rule::MutexRule;
@@ -443,7 +443,7 @@ impl<O: Object> Mutex<O> {
         ensures out { IsOutOfList (shown_of pass.new) }
         ensures counts { MarksCounts (wakes_in pass.new) (dozes_in pass.new) (shown_of pass.new) }
         ensures moves { Paced (IsSiteStep (plan_of self.now) owner_at) (shown_of pass.new).past }
-        ensures linear { IsLinear O.object O.WORDS (plan_of self.now) (shown_of pass.new).past }
+        ensures linear { IsLinearizable O.object O.WORDS (plan_of self.now) (shown_of pass.new).past }
         ensures lists { (l : List Waiters) ×
             HasBecome (plan_of self.now) (shown_of pass.new).past l }
         ensures wait_lock { EachMoment (IsSpinLockThen wait_lock_at) (shown_of pass.new).past }

@@ -38,7 +38,7 @@ use Rattle.mutex_word.specs.OwnLaws.{Named, none-holds, no-holders, held-word, o
 
 -- a release leaves another way to hold
 hand-frees : (h : Hand) (word : ℕ) → h.held ≡ Alone → HandGoes h (released h word)
-hand-frees h word alone = (record { misses = omega arith; freed = λ same. no-alone (same ∙ alone); takes = omega arith; comes = λ _ holds. absurd (holds refl) }, refl, refl)
+hand-frees h word alone = (record { misses = omega arith; freed = λ same. no-alone (same ∙ alone); takes = omega arith; comes = λ l. omega (arith, l) }, refl, refl)
 
 -- a live view's plan is the table's
 its-plan : (k p : Plan) (plan : Option Plan) → HasPlan k plan → plan ≡ Some p → k ≡ p
@@ -109,14 +109,14 @@ module _ {E Call : Type 0} (o : Obj Call) (unavailable : Unavailable) (size : �
       let there = (ok.mine t has).0 in let known : List ℕ = take size (site k ws).guarded in let g : Hand = took v.hand Alone known r.log in (
         turns turned Take v g,
         refl,
-        owns ws vs id new v g Take h at refl (record { misses = omega arith; freed = λ _. refl; takes = omega arith; comes = λ _ _. omega arith }, refl, refl) (inl (refl, inl (refl, refl))) (λ _ not. absurd (not refl)) (subst (λ (z : ℕ). may_own Take v z new) (sym is) may) (own-takes hs id t (get_or ws place 0) v.hand g own (named ws vs h) mine is (omega arith) refl has) (site-takes o unavailable size k (site k ws) hs id t v.hand Alone r mine out has (alone-is-held Alone refl) (λ _. free) none),
+        owns ws vs id new v g Take h at refl (record { misses = omega arith; freed = λ _. refl; takes = omega arith; comes = λ l. omega (arith, l) }, refl, refl) (inl (refl, inl (refl, refl))) (λ _ not. absurd (not refl)) (subst (λ (z : ℕ). may_own Take v z new) (sym is) may) (own-takes hs id t (get_or ws place 0) v.hand g own (named ws vs h) mine is (omega arith) refl has) (site-takes o unavailable size k (site k ws) hs id t v.hand Alone r mine out has (alone-is-held Alone refl) (λ _. free) none),
         (
           (λ _. (known, r.log, (λ p plan. subst (λ (z : Plan). Learns o z v.hand known r.log) (its-plan k p v.hand.plan ok.plan plan) record { stored = quiet-state o unavailable size k (site k ws) hs r none; within = r.tells.within; begins = ok.seen }), (refl, refl))),
           λ not. absurd (not refl),
         ),
       ))
       (λ ws vs h at not _. let r = kept ws vs h in let own = (own_kept ws vs h).0 in let n : ℕ = get_or ws place 0 in let mine = at_map hand_of vs id v at in (
-        stays ws vs id v (missed v.hand n (v.steps + 1)) h at refl refl (record { misses = omega arith; freed = λ _. refl; takes = omega arith; comes = λ out holds. absurd (holds out) }, refl, refl) (inr (record { out = out; counts = refl; saw = refl; task = refl }, miss)) (site-misses o unavailable size k (site k ws) (map hand_of vs) id n (v.steps + 1) v.hand r mine (let small = own.small in omega (arith, small))),
+        stays ws vs id v (missed v.hand n (v.steps + 1)) h at refl refl (record { misses = omega arith; freed = λ _. refl; takes = omega arith; comes = λ l. omega (arith, l) }, refl, refl) (inr (record { out = out; counts = refl; saw = refl; task = refl }, miss)) (site-misses o unavailable size k (site k ws) (map hand_of vs) id n (v.steps + 1) v.hand r mine (let small = own.small in omega (arith, small))),
         ((λ is. absurd (not is)), λ _. (own.small, (own_kept ws vs h).1, (refl, refl))),
       ))
 
@@ -175,7 +175,7 @@ module _ {E Call : Type 0} (o : Obj Call) (unavailable : Unavailable) (size : �
   IsMissing h g = (g.task ≡ h.task) × (g.held ≡ h.held) × HandGoes h g
 
   is-missing : (counts : Bool) (h : Hand) (n step : ℕ) → IsMissing h (missing counts h n step)
-  is-missing true h n step = (refl, refl, (record { misses = omega arith; freed = λ _. refl; takes = omega arith; comes = λ out holds. absurd (holds out) }, refl, refl))
+  is-missing true h n step = (refl, refl, (record { misses = omega arith; freed = λ _. refl; takes = omega arith; comes = λ l. omega (arith, l) }, refl, refl))
   is-missing false h n step = (refl, refl, hand-stays h)
 
   is-counted : (counts : Bool) (v : View E) (n : ℕ) → MayMiss may_miss counts v → TriesWhere may_miss n v (missing counts v.hand n (v.steps + 1))
@@ -219,7 +219,7 @@ module _ {E Call : Type 0} (o : Obj Call) (unavailable : Unavailable) (size : �
       let both = take-keeps hs id t old new v.hand g own (named ws vs h) mine (omega (arith, few, there)) is refl has in let free = both.1 in let none = none-alone hs free in (
         turns turned Take v g,
         refl,
-        owns ws vs id new v g Take h at refl (record { misses = omega arith; freed = λ _. refl; takes = omega arith; comes = λ _ _. omega arith }, refl, refl) (inl (refl, inl (refl, refl))) (λ _ not. absurd (not refl)) (subst (λ (z : ℕ). may_own Take v z new) (sym found) may) both.0 (site-takes o unavailable size k (site k ws) hs id t v.hand Alone r mine out has (alone-is-held Alone refl) (λ _. free) none),
+        owns ws vs id new v g Take h at refl (record { misses = omega arith; freed = λ _. refl; takes = omega arith; comes = λ l. omega (arith, l) }, refl, refl) (inl (refl, inl (refl, refl))) (λ _ not. absurd (not refl)) (subst (λ (z : ℕ). may_own Take v z new) (sym found) may) both.0 (site-takes o unavailable size k (site k ws) hs id t v.hand Alone r mine out has (alone-is-held Alone refl) (λ _. free) none),
         (
           (λ _. (known, r.log, (λ p plan. subst (λ (z : Plan). Learns o z v.hand known r.log) (its-plan k p v.hand.plan ok.plan plan) record { stored = quiet-state o unavailable size k (site k ws) hs r none; within = r.tells.within; begins = ok.seen }), (refl, refl))),
           λ not. absurd (not refl),

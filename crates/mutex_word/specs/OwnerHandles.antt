@@ -6,6 +6,7 @@ use Rattle.word_bits.specs.Histories.{Plan}
 use Rattle.lock_core.specs.declared.view.Hand.{Hand}
 use Rattle.lock_core.specs.declared.view.Held.{Held}
 use Rattle.lock_core.specs.declared.view.Moment.{Moment}
+use Rattle.lock_core.specs.declared.view.Past.{Past}
 use Rattle.lock_core.specs.declared.view.View.{View}
 use Rattle.lock_core.specs.SiteHandles as inner
 use Rattle.lock_core.specs.Shown as callers
@@ -29,6 +30,10 @@ module _ {O C : Type 0} where
   -- the moments of the table up to the pass's last step, the last one first
   abbrev pub past_of : OwnerPass O C → List Moment
   past_of pass = inner.past_of pass.pass
+
+  -- those of the passes that it took in since its last step
+  abbrev pub joined_by : OwnerPass O C → List Past
+  joined_by pass = inner.joined_by pass.pass
 
   -- what the pass says of itself
   abbrev pub task_in : OwnerPass O C → Option ℕ

@@ -6,9 +6,9 @@ ghost use Rattle.lock_core.specs.Kinds.{mutex, wakes_alone};
 ghost use Rattle.lock_core.specs.Locking.{Misses, Releases, Takes};
 ghost use Rattle.lock_core.specs.Records.{IsPlan};
 ghost use Rattle.lock_core.specs.Views.{first, ticked, handed, split_off, merged, gave_up, BesideForgetting, HoldsNothing};
-ghost use Rattle.lock_core.specs.Pasts.{EachMoment, FoundAt, Ran, Tail};
+ghost use Rattle.lock_core.specs.Pasts.{EachMoment, FoundAt, KeepsJoined, Ran, Tail};
 ghost use Rattle.lock_core.specs.SiteStated.{IsNew, IsSiteMove};
-ghost use Rattle.lock_core.specs.Linear.{IsLinear};
+ghost use Rattle.lock_core.specs.Linear.{IsLinearizable};
 ghost use Rattle.mutex_word.specs.Holders.{own_word, TakesOwner, MissesOwner, ReleasesOwner};
 ghost use Rattle.mutex_word.specs.OwnerRuled.{IsOwnerSiteThen, newest, owner_at, unmarked, unturned};
 
@@ -34,7 +34,7 @@ pub struct OwnerPass<O: Object> {
 }
 
 impl<O: Object> OwnerSite<O> {
-    ghost use Rattle.mutex_word.specs.OwnerHandles.{plan_of, view_of, hand_in, past_of, task_in, held_in, front_in, shown_of, IsLatest, SitsAt, TakesNumber, StepsOn};
+    ghost use Rattle.mutex_word.specs.OwnerHandles.{plan_of, view_of, hand_in, past_of, joined_by, task_in, held_in, front_in, shown_of, IsLatest, SitsAt, TakesNumber, StepsOn};
 
     /// A new site: nobody holds, the state is empty, no call is logged or recorded. The pass has no
     /// task number.
@@ -93,7 +93,8 @@ impl<O: Object> OwnerSite<O> {
     }
 
     /// Takes in another pass, which is spent: `into` then knows the records that `other` knew, and
-    /// has seen as many entries as either.
+    /// has seen as many entries as either. Once it has looked back (`recall_holders`), its past goes
+    /// back to all that `other` did.
     pub fn gather(&self, into: &mut OwnerPass<O>, other: OwnerPass<O>)
         requires own { SitsAt self.now into.old }
         requires others_own { SitsAt self.now other }
@@ -104,6 +105,8 @@ impl<O: Object> OwnerSite<O> {
         ensures kept { view_of into.new ≡ merged (view_of into.old) (view_of other) }
         ensures rises { front_in into.old ≤ front_in into.new }
         ensures others { front_in other ≤ front_in into.new }
+        ensures joined { joined_by into.new ≡
+            record { moments = past_of other } ∷ joined_by into.old }
     {
         let OwnerPass { pass } = other;
         self.site.gather(&mut into.pass, pass);
@@ -158,11 +161,12 @@ impl<O: Object> OwnerSite<O> {
         ensures kept { view_of pass.new ≡ ticked (view_of pass.old) }
         ensures last { IsLatest pass.new }
         ensures begins { Tail (newest (plan_of self.now) ∷ []) (past_of pass.new) }
-        ensures linear { IsLinear O.object O.WORDS (plan_of self.now) (past_of pass.new) }
+        ensures linear { IsLinearizable O.object O.WORDS (plan_of self.now) (past_of pass.new) }
         ensures always { EachMoment (IsOwnerSiteThen O.object O.WORDS (plan_of self.now))
             (past_of pass.new) }
         ensures moves { Ran unmarked (newest (plan_of self.now)) (IsSiteMove (plan_of self.now) owner_at)
             (past_of pass.new) }
+        ensures joined { KeepsJoined (joined_by pass.old) (past_of pass.new) }
     {
         self.site.recall(&mut pass.pass);
     }

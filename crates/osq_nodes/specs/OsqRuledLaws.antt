@@ -27,8 +27,8 @@ use Rattle.osq_nodes.specs.declared.node.Place.{Place}
 use Rattle.osq_nodes.specs.declared.node.Place.TheVariants.{Out, Cleared, Swapped, Linking, Waiting, Unlinked, Splicing, Relinking, Front, Granting}
 use Rattle.osq_nodes.specs.declared.node.Node.{Node}
 use Rattle.osq_nodes.specs.OsqKept.{IsAt, RowKept}
-use Rattle.osq_nodes.specs.OsqPlaces.{is_swap, is_coming_first, is_queued, numbers_of, node_marks, place_in, swaps_in, found_in}
-use Rattle.osq_nodes.specs.Walks.{is-queue, are-linked, queue-same}
+use Rattle.osq_nodes.specs.OsqPlaces.{IsFrontNode, is_swap, is_coming_first, is_queued, numbers_of, node_marks, place_in, swaps_in, found_in}
+use Rattle.osq_nodes.specs.Walks.{is-queue, are-linked, front-is, queue-same}
 use Rattle.osq_nodes.specs.Words.{row_of, tail_in, next_in, prev_in, locked_in, next_at}
 use Rattle.osq_nodes.specs.OsqStated.{IsQueue, AreLinked, IsSpinQueue, Changes, seat_place, places}
 use Rattle.osq_nodes.specs.OsqRuled.{V, idle, table_at, Seated, OsqKept, NodeStep, OsqMoves, node_after, fronts_after}
@@ -305,6 +305,7 @@ osq-states k ws vs r = let row : List ℕ = row_of ws in let said = places-said 
       empty = (λ none. r.kept.ends ∙ ap (λ (q : List ℕ). last_from 0 q) none, λ zero. last-none r.queue (sym r.kept.ends ∙ zero));
       inside = r.kept.inside;
       linked = subst (λ (place : ℕ → Place). AreLinked (next_in row) place r.queue) said (row-linked (length k) row r.place r.queue r.kept);
+      first = subst (λ (place : ℕ → Place). (t : ℕ) → IsFirst r.queue t → IsFrontNode (place t) (locked_in row t)) said (λ t is_first. front-is (r.place t) (locked_in row t) (r.kept.front t is_first));
       front = subst (λ (place : ℕ → Place). (t : ℕ) → place t ≡ Front → IsFirst r.queue t) said (λ t e. subst (λ (p : Place). IsAt (length k) r.queue r.kept.debtor t p (prev_in row t) (locked_in row t)) e (r.kept.each t));
       stands = subst (λ (place : ℕ → Place). (t : ℕ) → MatchBool (is_queued (place t)) (Has r.queue t) (¬ Has r.queue t)) said (λ t. place-stands (length k) r.queue r.kept.debtor t (r.place t) (prev_in row t) (locked_in row t) (r.kept.each t));
       named = named-once k (site k ws) (map hand_of vs) r.site_holds;

@@ -23,10 +23,11 @@ pub record IsQueue (tail : ℕ) (prev locked : ℕ → ℕ) (place : ℕ → Pla
   pub walk : IsWalk prev locked place tail (reverse queue)
   pub once : IsOnce queue
 
--- a link that is there is that of neighbours, and nobody owes it; one that is 0 is owed by exactly one task
+-- A link that is there is that of neighbours, and nobody owes it. One that is 0 is owed by exactly one task. Whoever owes one, as each task does that has exchanged the tail and not linked yet, owes one that is 0, of neighbours.
 pub record AreLinked (next : ℕ → ℕ) (place : ℕ → Place) (queue : List ℕ) : Type 0 where
   pub there : (x y : ℕ) → next x ≡ suc y → Precedes queue x y × ((d : ℕ) → Owes d (place d) x y → ⊥)
   pub owed : (x y : ℕ) → Precedes queue x y → next x ≡ 0 → (d : ℕ) × Owes d (place d) x y × ((e : ℕ) → Owes e (place e) x y → e ≡ d)
+  pub owes : (d x y : ℕ) → Owes d (place d) x y → Precedes queue x y × (next x ≡ 0)
 
 -- where each task is, as the passes say: one whose number nobody has is out
 abbrev pub seat_place : ℕ → Option ℕ → Place → Place → Place
@@ -59,6 +60,8 @@ pub record IsSpinQueue (tasks : ℕ) (m : Moment) : Type 0 where
   pub empty : (queue ≡ [] → tail_in (row_at m) ≡ 0) × (tail_in (row_at m) ≡ 0 → queue ≡ [])
   pub inside : (t : ℕ) → Has queue t → t < tasks
   pub linked : AreLinked (next_in (row_at m)) (places_at m) queue
+  -- the first found no tail, or was told that it is the front
+  pub first : (t : ℕ) → IsFirst queue t → IsFrontNode (places_at m t) (locked_in (row_at m) t)
   -- whoever was told that it is the front stands first, and a task stands in the queue exactly where its place says so
   pub front : (t : ℕ) → places_at m t ≡ Front → IsFirst queue t
   pub stands : (t : ℕ) → MatchBool (is_queued (places_at m t)) (Has queue t) (¬ Has queue t)

@@ -1,5 +1,5 @@
 -- What is stated of a spin queue follows from its rule, and there is one queue.
-use Rattle.std.proofs.Common.{◌≡◌, ℕ, suc, List, [], ◌∷◌, reverse, refl, sym, ap, ◌∙◌, subst, inl, inr, arith}
+use Rattle.std.proofs.Common.{◌≡◌, ℕ, zero, suc, List, [], ◌∷◌, reverse, refl, sym, ap, ◌∙◌, subst, inl, inr, arith}
 use Rattle.std.proofs.lemmas.List.{reverse-reverse}
 use mathlib.Core.List.{reverse_aux}
 use Rattle.osq_nodes.specs.declared.node.Place.{Place}
@@ -60,7 +60,7 @@ behind-not x (Relinking p n) w l h = λ f. f
 behind-not x Front w l h = λ f. h
 behind-not x (Granting n) w l h = λ f. h
 
-front-is : (p : Place) (l : ℕ) → IsHead p l → IsFrontNode p l
+pub front-is : (p : Place) (l : ℕ) → IsHead p l → IsFrontNode p l
 front-is Out l f = f
 front-is Cleared l f = f
 front-is (Swapped p) l f = absurd f
@@ -102,8 +102,30 @@ module _ (size tail : ℕ) (next prev locked : ℕ → ℕ) (place : ℕ → Pla
   owes-one d Front w l x y at h = absurd h
   owes-one d (Granting n) w l x y at h = ap r.debtor (sym h.0) ∙ at.1.1
 
+  -- the link that it names isn't there
+  not-there : (x d : ℕ) → r.debtor x ≡ suc d → next x ≡ 0
+  not-there x d named = none (next x) refl
+    where
+      none : (n : ℕ) → next x ≡ n → next x ≡ 0
+      none zero is = is
+      none (suc y) is = absurd (no-end d (r.debtor x) (r.links x y is).1 named)
+
+  owes-behind : (d : ℕ) (p : Place) (w l x y : ℕ) → IsAt size q r.debtor d p w l → Owes d p x y → Precedes q x y
+  owes-behind d Out w l x y at h = absurd h
+  owes-behind d Cleared w l x y at h = absurd h
+  owes-behind d (Swapped p) w l x y at h = subst (λ (z : ℕ × ℕ). Precedes q z.0 z.1) (λ i. (h.0 i, h.1 i)) at.0
+  owes-behind d (Linking p) w l x y at h = subst (λ (z : ℕ × ℕ). Precedes q z.0 z.1) (λ i. (h.0 i, h.1 i)) at.0
+  owes-behind d Waiting w l x y at h = absurd h
+  owes-behind d (Unlinked p) w l x y at h = subst (λ (z : ℕ × ℕ). Precedes q z.0 z.1) (λ i. (h.0 i, h.1 i)) at.0
+  owes-behind d (Splicing p n) w l x y at (inl h) = subst (λ (z : ℕ × ℕ). Precedes q z.0 z.1) (λ i. (h.0 i, h.1 i)) at.0.0
+  owes-behind d (Splicing p n) w l x y at (inr h) = subst (λ (z : ℕ × ℕ). Precedes q z.0 z.1) (λ i. (h.0 i, h.1 i)) at.1.0
+  owes-behind d (Relinking p n) w l x y at h = subst (λ (z : ℕ × ℕ). Precedes q z.0 z.1) (λ i. (h.0 i, h.1 i)) at.1.0
+  owes-behind d Front w l x y at h = absurd h
+  owes-behind d (Granting n) w l x y at h = subst (λ (z : ℕ × ℕ). Precedes q z.0 z.1) (λ i. (h.0 i, h.1 i)) at.1.0
+
   pub are-linked : AreLinked next place q
   are-linked = record {
+    owes = λ d x y o. (owes-behind d (place d) (prev d) (locked d) x y (r.each d) o, not-there x d (owes-one d (place d) (prev d) (locked d) x y (r.each d) o));
     there = λ x y e. let l = r.links x y e in (l.0, λ d o. no-end d (r.debtor x) l.1 (owes-one d (place d) (prev d) (locked d) x y (r.each d) o));
     owed = λ x y h z. let d = r.owed x y h z in (d.0, d.2, λ e o. same-end e d.0 (r.debtor x) (owes-one e (place e) (prev e) (locked e) x y (r.each e) o) d.1);
   }

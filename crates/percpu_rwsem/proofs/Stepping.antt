@@ -271,7 +271,7 @@ module _ {Call : Type 0} (o : Obj Call) (size : ℕ) (k : Plan) where
       (λ free. let none = none-blocks ws vs r free in let a = alones vs (part-ok ws vs r) in let unheld : total alone_of (hands vs) ≡ 0 = omega (arith, a, none) in let g : Hand = took v.hand Shared (take size (site k ws).guarded) r.site_holds.log in let p' : PhasePart = part g Reads in (
         g,
         Reads,
-        (record { misses = omega arith; freed = λ e. refl; takes = omega arith; comes = λ _ _. omega arith }, refl, refl),
+        (record { misses = omega arith; freed = λ e. refl; takes = omega arith; comes = λ l. omega (arith, l) }, refl, refl),
         (refl, inl (refl, refl)),
         site-takes o never size k (site k ws) (hands vs) id t v.hand Shared r.site_holds (at_map hand_of vs id v at) out has (λ e. no-shared (sym e)) (λ l. absurd (omega (arith, l))) unheld,
         phases-step (length k) n n (λ u. get_or ws (count_at u) 0) (λ u. get_or ws (count_at u) 0) ps id p p' r.phases mine
@@ -339,7 +339,7 @@ module _ {Call : Type 0} (o : Obj Call) (size : ℕ) (k : Plan) where
       let block = get_or-set_other ws (count_at t) block_at (word_after (Sub 1) n) 0 (λ e. omega (arith, e)) in (
         g,
         Idle,
-        (record { misses = omega arith; freed = λ e. no-shared (e ∙ shares); takes = omega arith; comes = λ _ holds. absurd (holds refl) }, refl, refl),
+        (record { misses = omega arith; freed = λ e. no-shared (e ∙ shares); takes = omega arith; comes = λ l. omega (arith, l) }, refl, refl),
         (refl, inl (refl, refl)),
         site-frees o never size k (site k ws) (hands vs) id 0 v.hand r.site_holds (at_map hand_of vs id v at) quiet rest,
         phases-step (length k) (get_or ws block_at 0) _ (λ u. get_or ws (count_at u) 0) _ (parts vs) id p p' r.phases mine
@@ -433,7 +433,7 @@ module _ {Call : Type 0} (o : Obj Call) (size : ℕ) (k : Plan) where
       (λ all. let unheld = all-drained ws vs id s v r at small phase out free all in let unalone = none-alone (hands vs) unheld in let g : Hand = took v.hand Alone (take size (site k ws).guarded) r.site_holds.log in let p' : PhasePart = part g (Blocks (s + 1)) in (
         g,
         Blocks (s + 1),
-        (record { misses = omega arith; freed = λ e. refl; takes = omega arith; comes = λ _ _. omega arith }, refl, refl),
+        (record { misses = omega arith; freed = λ e. refl; takes = omega arith; comes = λ l. omega (arith, l) }, refl, refl),
         (refl, inl (refl, refl)),
         site-takes o never size k (site k ws) (hands vs) id t v.hand Alone r.site_holds (at_map hand_of vs id v at) out has (λ e. no-alone (sym e)) (λ _. unheld) unalone,
         phases-step (length k) (get_or ws block_at 0) (get_or ws block_at 0) (λ u. get_or ws (count_at u) 0) (λ u. get_or ws (count_at u) 0) ps id p p' r.phases mine
@@ -485,7 +485,7 @@ module _ {Call : Type 0} (o : Obj Call) (size : ℕ) (k : Plan) where
       (λ alone. let g : Hand = released v.hand 0 in let e : play.unheld v.hand ≡ g = ap (play.unheld_by v.hand) alone in (
         g,
         Idle,
-        (record { misses = omega arith; freed = λ z. no-alone (z ∙ alone); takes = omega arith; comes = λ _ holds. absurd (holds refl) }, refl, refl),
+        (record { misses = omega arith; freed = λ z. no-alone (z ∙ alone); takes = omega arith; comes = λ l. omega (arith, l) }, refl, refl),
         (refl, inl (refl, refl)),
         site-frees o never size k (site k ws) (hands vs) id 0 v.hand r.site_holds (at_map hand_of vs id v at) quiet rest,
         frees ws vs r at g refl,

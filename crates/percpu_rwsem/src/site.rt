@@ -4,7 +4,7 @@ ghost use Rattle.lock_core.specs.Records.{IsPlan};
 ghost use Rattle.lock_core.specs.Views.{first, ticked, handed, split_off, merged, gave_up, BesideForgetting, HoldsNothing, OwesNoSignal};
 ghost use Rattle.lock_core.specs.Pasts.{EachMoment, IsMarked, KeepsJoined, Paced, Tail};
 ghost use Rattle.lock_core.specs.SiteStated.{IsNew};
-ghost use Rattle.lock_core.specs.Linear.{IsLinear};
+ghost use Rattle.lock_core.specs.Linear.{IsLinearizable};
 ghost use Rattle.percpu_rwsem.specs.PercpuStated.{IsPercpuSiteThen, IsPercpuStep};
 ghost use Rattle.percpu_rwsem.specs.declared.view.Phase.TheVariants.{Idle};
 ghost use Rattle.percpu_rwsem.specs.PercpuRuled.{kept_phase, never, newest};
@@ -125,7 +125,7 @@ impl<O: Object> PercpuRwSem<O> {
         ensures last { IsLatest pass.new }
         ensures marked { IsMarked kept_phase (view_of pass.new) (past_of pass.new) }
         ensures begins { Tail (newest (plan_of self.now) ∷ []) (past_of pass.new) }
-        ensures linear { IsLinear O.object O.WORDS (plan_of self.now) (past_of pass.new) }
+        ensures linear { IsLinearizable O.object O.WORDS (plan_of self.now) (past_of pass.new) }
         ensures always { EachMoment (IsPercpuSiteThen O.object O.WORDS (plan_of self.now))
             (past_of pass.new) }
         ensures moves { Paced (IsPercpuStep (plan_of self.now)) (past_of pass.new) }

@@ -43,7 +43,7 @@ module _ (word : ℕ) (next locked : ℕ → ℕ) (q : List ℕ) (fs : List Fram
         linked = λ p x there. let same = put.other x (apart p x there) in subst (λ n. (n ≡ 0) ⊎ (get_elem? q (suc p) ≡ some n)) (sym same) (k.linked p x there);
         each = each-set (FrameOk next locked q) (FrameOk next' locked q) fs id new (k.each id old at, put.here)
             (λ j v far there ok. let else = λ (used : uses v.point ≡ true). put.other v.code (other_code q fs k.queued id j old v at there far refl used) in
-            renext next next' locked q v.point v.code v.found v.next (λ e. else (ap uses e)) (λ e. put.other v.found (behind j v there e ok)) (λ e. inl (else (stands-uses v.point e))) ok) k.each;
+            renext next next' locked q v.point v.code v.found v.next (λ e. else (ap uses e)) (λ e. put.other v.found (behind j v there e ok)) (λ _ b. put.other v.found (apart b.0 v.found b.1)) (λ e. inl (else (stands-uses v.point e))) ok) k.each;
       }
     where
       behind : (j : ℕ) (v : Frame) → get_elem? fs j ≡ some v → v.point ≡ Linking → FrameOk next locked q v → v.found ≢ f.code
@@ -57,8 +57,8 @@ module _ (word : ℕ) (next locked : ℕ → ℕ) (q : List ℕ) (fs : List Fram
     linked = λ p x there. dite (ℕ_discrete x f.found)
         (λ e. inr (subst (λ n. get_elem? q (suc p) ≡ some n) (sym (ap next' e ∙ put.here)) (subst (λ n. get_elem? q (suc n) ≡ some f.code) (one_place q mine.0.0 p f.found (once q fs k.queued f.found) mine.0.1 (there ∙ ap some e)) mine.0.2)))
         (λ n. subst (λ m. (m ≡ 0) ⊎ (get_elem? q (suc p) ≡ some m)) (sym (put.other x n)) (k.linked p x there));
-    each = each-set (FrameOk next locked q) (FrameOk next' locked q) fs id new (inl (mine.0, mine.2))
-        (λ j v far there ok. renext next next' locked q v.point v.code v.found v.next (λ e. put.other v.code (clean j v there e)) (λ e. put.other v.found (behind j v far there e ok))
+    each = each-set (FrameOk next locked q) (FrameOk next' locked q) fs id new (inl (mine.0, mine.2, put.here))
+        (λ j v far there ok. renext next next' locked q v.point v.code v.found v.next (λ e. put.other v.code (clean j v there e)) (λ e. put.other v.found (behind j v far there e ok)) (λ e b. put.other v.found (after j v far there e b))
         (λ e. dite (ℕ_discrete v.code f.found) (λ s. inr (ap next s ∙ mine.1)) (λ n. inl (put.other v.code n))) ok) k.each;
   }
     where
@@ -68,6 +68,10 @@ module _ (word : ℕ) (next locked : ℕ → ℕ) (q : List ℕ) (fs : List Fram
       behind : (j : ℕ) (v : Frame) → j ≢ id → get_elem? fs j ≡ some v → v.point ≡ Linking → FrameOk next locked q v → v.found ≢ f.found
       behind j v far there e ok same = let mine = k.each id (at_point f Linking) at in let o = subst (λ p. PointOk next locked q p v.code v.found v.next) e ok in
           other_code q fs k.queued id j (at_point f Linking) v at there far refl (ap uses e) (one_behind q f.found v.code f.code (once q fs k.queued f.found) (subst (λ x. Before q x v.code) same o.0) mine.0)
+
+      after : (j : ℕ) (v : Frame) → j ≢ id → get_elem? fs j ≡ some v → v.point ≡ Waiting → Before q v.found v.code → v.found ≢ f.found
+      after j v far there e b same = let mine = k.each id (at_point f Linking) at in
+          other_code q fs k.queued id j (at_point f Linking) v at there far refl (ap uses e) (one_behind q f.found v.code f.code (once q fs k.queued f.found) (subst (λ x. Before q x v.code) same b) mine.0)
 
   -- it sees that it was made the front
   pub fronts : (f : Frame) → locked f.code ≡ 1 → LockKept word next locked q fs → get_elem? fs id ≡ some (at_point f Waiting) → LockKept word next locked q (set fs id (record f { point = Front; next = 0 }))

@@ -37,7 +37,7 @@ next-away word next next' locked q fs c x unused put k = record {
   balanced = k.balanced;
   queued = k.queued;
   linked = λ p y there. subst (λ (z : ℕ). (z ≡ 0) ⊎ (get_elem? q (suc p) ≡ some z)) (sym (put.other y (absent q fs k.queued c unused p y there))) (k.linked p y there);
-  each = λ j v at. renext next next' locked q v.point v.code v.found v.next (λ e. put.other v.code (not_used q fs k.queued c unused j v at (ap uses e))) (λ e. put.other v.found (behind j v at e)) (λ e. inl (put.other v.code (not_used q fs k.queued c unused j v at (stands-uses v.point e)))) (k.each j v at);
+  each = λ j v at. renext next next' locked q v.point v.code v.found v.next (λ e. put.other v.code (not_used q fs k.queued c unused j v at (ap uses e))) (λ e. put.other v.found (behind j v at e)) (λ _ b. put.other v.found (absent q fs k.queued c unused b.0 v.found b.1)) (λ e. inl (put.other v.code (not_used q fs k.queued c unused j v at (stands-uses v.point e)))) (k.each j v at);
 }
   where
     behind : (j : ℕ) (v : Frame) → get_elem? fs j ≡ some v → v.point ≡ Linking → v.found ≢ c

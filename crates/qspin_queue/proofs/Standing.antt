@@ -66,7 +66,7 @@ pub relocked : (next locked locked' : ℕ → ℕ) (q : List ℕ) (p : Point) (c
 relocked next locked locked' q Clearing code found after same ok = same refl ∙ ok
 relocked next locked locked' q Cleared code found after same ok = (same refl ∙ ok.0, ok.1)
 relocked next locked locked' q Linking code found after same ok = (ok.0, ok.1, same refl ∙ ok.2)
-relocked next locked locked' q Waiting code found after same ok = ⊎_elim (λ t. inl (t.0, same refl ∙ t.1)) (λ t. inr (t.0, same refl ∙ t.1)) ok
+relocked next locked locked' q Waiting code found after same ok = ⊎_elim (λ t. inl (t.0, same refl ∙ t.1, t.2)) (λ t. inr (t.0, same refl ∙ t.1)) ok
 relocked next locked locked' q Front code found after same ok = (ok.0, ⊎_elim (λ e. inl e) (λ e. inr (same refl ∙ e)) ok.1, ok.2)
 relocked next locked locked' q Ready code found after same ok = (ok.0, ⊎_elim (λ e. inl e) (λ e. inr (same refl ∙ e)) ok.1, ok.2)
 relocked next locked locked' q Passing code found after same ok = (ok.0, ⊎_elim (λ e. inl e) (λ e. inr (same refl ∙ e)) ok.1, ok.2)
@@ -76,16 +76,16 @@ renext-front : (next next' locked : ℕ → ℕ) (q : List ℕ) (code found afte
 renext-front next next' locked q code found after same ok = (ok.0, ok.1, ⊎_elim (λ e. inl e) (λ s. ⊎_elim (λ t. inr (s.0, t ∙ s.1)) (λ z. inl (sym s.1 ∙ z)) same) ok.2)
 
 -- a store in another node's `next`, or in one that was 0
-pub renext : (next next' locked : ℕ → ℕ) (q : List ℕ) (p : Point) (code found after : ℕ) → (p ≡ Cleared → next' code ≡ next code) → (p ≡ Linking → next' found ≡ next found) → (stands p ≡ true → (next' code ≡ next code) ⊎ (next code ≡ 0))
+pub renext : (next next' locked : ℕ → ℕ) (q : List ℕ) (p : Point) (code found after : ℕ) → (p ≡ Cleared → next' code ≡ next code) → (p ≡ Linking → next' found ≡ next found) → (p ≡ Waiting → Before q found code → next' found ≡ next found) → (stands p ≡ true → (next' code ≡ next code) ⊎ (next code ≡ 0))
     → PointOk next locked q p code found after → PointOk next' locked q p code found after
-renext next next' locked q Clearing code found after clean links stays ok = ok
-renext next next' locked q Cleared code found after clean links stays ok = (ok.0, clean refl ∙ ok.1)
-renext next next' locked q Linking code found after clean links stays ok = (ok.0, links refl ∙ ok.1, ok.2)
-renext next next' locked q Waiting code found after clean links stays ok = ok
-renext next next' locked q Front code found after clean links stays ok = renext-front next next' locked q code found after (stays refl) ok
-renext next next' locked q Ready code found after clean links stays ok = renext-front next next' locked q code found after (stays refl) ok
-renext next next' locked q Passing code found after clean links stays ok = renext-front next next' locked q code found after (stays refl) ok
-renext next next' locked q _ code found after clean links stays ok = tt
+renext next next' locked q Clearing code found after clean links waits stays ok = ok
+renext next next' locked q Cleared code found after clean links waits stays ok = (ok.0, clean refl ∙ ok.1)
+renext next next' locked q Linking code found after clean links waits stays ok = (ok.0, links refl ∙ ok.1, ok.2)
+renext next next' locked q Waiting code found after clean links waits stays ok = ⊎_elim (λ t. inl (t.0, t.1, waits refl t.0 ∙ t.2)) (λ t. inr t) ok
+renext next next' locked q Front code found after clean links waits stays ok = renext-front next next' locked q code found after (stays refl) ok
+renext next next' locked q Ready code found after clean links waits stays ok = renext-front next next' locked q code found after (stays refl) ok
+renext next next' locked q Passing code found after clean links waits stays ok = renext-front next next' locked q code found after (stays refl) ok
+renext next next' locked q _ code found after clean links waits stays ok = tt
 
 before-longer : (q : List ℕ) (c x y : ℕ) → Before q x y → Before (q ++ c ∷ []) x y
 before-longer q c x y (p, at, at') = (p, at_longer q (c ∷ []) p x at, at_longer q (c ∷ []) (suc p) y at')
@@ -98,7 +98,7 @@ pub longer : (next locked : ℕ → ℕ) (q : List ℕ) (c : ℕ) (p : Point) (c
 longer next locked q c Clearing code found after ok = ok
 longer next locked q c Cleared code found after ok = ok
 longer next locked q c Linking code found after ok = (before-longer q c found code ok.0, ok.1, ok.2)
-longer next locked q c Waiting code found after ok = ⊎_elim (λ t. inl (before-longer q c found code t.0, t.1)) (λ t. inr (at_longer q (c ∷ []) 0 code t.0, t.1)) ok
+longer next locked q c Waiting code found after ok = ⊎_elim (λ t. inl (before-longer q c found code t.0, t.1, t.2)) (λ t. inr (at_longer q (c ∷ []) 0 code t.0, t.1)) ok
 longer next locked q c Front code found after ok = front-longer next locked q c code found after ok
 longer next locked q c Ready code found after ok = front-longer next locked q c code found after ok
 longer next locked q c Passing code found after ok = front-longer next locked q c code found after ok
@@ -126,7 +126,7 @@ shifted next locked locked' c n q Clearing code found after second real told onc
 shifted next locked locked' c n q Cleared code found after second real told once same out far ok = (same (out refl refl) ∙ ok.0, ok.1)
 shifted next locked locked' c n q Linking code found after second real told once same out far ok = ⊎_elim (λ t. absurd (real (sym second ∙ (ap next (sym t.0) ∙ ok.1)))) (λ t. (t.0, ok.1, same t.1 ∙ ok.2)) (before-shift c n q found code once ok.0)
 shifted next locked locked' c n q Waiting code found after second real told once same out far ok = ⊎_elim
-    (λ s. ⊎_elim (λ t. inr (ap some (sym t.1), ap locked' t.1 ∙ told)) (λ t. inl (t.0, same t.1 ∙ s.1)) (before-shift c n q found code once s.0))
+    (λ s. ⊎_elim (λ t. inr (ap some (sym t.1), ap locked' t.1 ∙ told)) (λ t. inl (t.0, same t.1 ∙ s.1, s.2)) (before-shift c n q found code once s.0))
     (λ s. absurd (far refl (sym (some-injective c code s.0)))) ok
 shifted next locked locked' c n q Front code found after second real told once same out far ok = absurd (far refl (sym (some-injective c code ok.0)))
 shifted next locked locked' c n q Ready code found after second real told once same out far ok = absurd (far refl (sym (some-injective c code ok.0)))

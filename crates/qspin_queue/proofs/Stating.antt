@@ -2,6 +2,8 @@
 use Rattle.std.proofs.Common.{◌≡◌, ◌≢◌, ℕ, zero, suc, ◌/◌, ◌==◌, ◌≤◌, ◌⊎◌, Bool, true, false, List, [], ◌∷◌, length, sym, refl, ap, ◌∙◌, subst, inl, inr, ⊎_elim, arith, eq-eqb, ne_eqb, ◌+◌}
 use mathlib.Core.Option.{some, some-injective, some-ne-none}
 use mathlib.Core.List.{reverse_aux}
+use mathlib.Core.Logic.{dite}
+use native.Mathlib.Decide.{ℕ_discrete}
 use lib.ListN.{get_elem?}
 use Rattle.std.specs.Prelude.{reverse}
 use Rattle.std.proofs.lemmas.List.{reverse-reverse}
@@ -9,9 +11,9 @@ use Rattle.lock_core.specs.declared.view.Frame.{Frame}
 use Rattle.lock_core.specs.declared.view.Point.{Point}
 use Rattle.lock_core.specs.declared.view.Point.TheVariants.{Linking, Waiting, Front, Ready, Passing}
 use Rattle.lock_core.specs.Totals.{total}
-use Rattle.lock_core.specs.SpinFrames.{when, code_is, stands, stands_as, takes_of, pends_of, undoes_of, is_head}
+use Rattle.lock_core.specs.SpinFrames.{when, code_is, stands, uses, stands_as, takes_of, pends_of, undoes_of, is_head}
 use Rattle.lock_core.specs.SpinQueues.{tail_of, tail_unit, Before, PointOk, Queued, LockKept}
-use Rattle.lock_core.specs.SpinStated.{owns_of, found_at, found_by, Walks, IsSpinLock}
+use Rattle.lock_core.specs.SpinStated.{owns_of, found_at, found_by, Walks, OwesLink, IsSpinLock}
 use Rattle.qspin_word.proofs.Codes.{one_place, no_tail, some_summand}
 use Rattle.qspin_queue.proofs.Standing.{once, other_code, counted, counts-stands, stands-uses}
 
@@ -84,6 +86,21 @@ total-owns : (fs : List Frame) → total owns_of fs ≡ total undoes_of fs + tot
 total-owns [] = refl
 total-owns (x ∷ xs) = let r = total-owns xs in omega (arith, r)
 
+-- the node before one is the one that it found
+found-before : (q : List ℕ) (p x code found : ℕ) → total (code_is code) q ≤ 1 → get_elem? q p ≡ some x → get_elem? q (suc p) ≡ some code → Before q found code → found ≡ x
+found-before q p x code found single here there (r, at, at') = let e : p ≡ r = suc-same p r (one_place q (suc p) (suc r) code single there at') in some-injective found x (sym at ∙ (ap (get_elem? q) (sym e) ∙ here))
+
+-- whose node stands behind one that doesn't name it hasn't linked yet
+owes-point : (next locked : ℕ → ℕ) (q : List ℕ) (point : Point) (p x code found after : ℕ) → total (code_is code) q ≤ 1 → code ≢ 0 → stands point ≡ true → PointOk next locked q point code found after → get_elem? q p ≡ some x → get_elem? q (suc p) ≡ some code → next x ≡ 0 → (point ≡ Linking) × (found ≡ x)
+owes-point next locked q Linking p x code found after single some_code standing ok here there none = (refl, found-before q p x code found single here there ok.0)
+owes-point next locked q Waiting p x code found after single some_code standing ok here there none = ⊎_elim
+    (λ t. absurd (some_code (sym t.2 ∙ (ap next (found-before q p x code found single here there t.0) ∙ none))))
+    (λ t. absurd (no-suc p (one_place q (suc p) 0 code single there t.0))) ok
+owes-point next locked q Front p x code found after single some_code standing ok here there none = absurd (no-suc p (one_place q (suc p) 0 code single there ok.0))
+owes-point next locked q Ready p x code found after single some_code standing ok here there none = absurd (no-suc p (one_place q (suc p) 0 code single there ok.0))
+owes-point next locked q Passing p x code found after single some_code standing ok here there none = absurd (no-suc p (one_place q (suc p) 0 code single there ok.0))
+owes-point next locked q _ p x code found after single some_code standing ok here there none = absurd cc
+
 module _ (word : ℕ) (next locked : ℕ → ℕ) (q : List ℕ) (fs : List Frame) (k : LockKept word next locked q fs) where
   -- the node at a place is a frame's, which found what it says
   place_of : (p x : ℕ) → get_elem? q p ≡ some x → Placed locked q p x (found_by fs x)
@@ -116,6 +133,14 @@ module _ (word : ℕ) (next locked : ℕ → ℕ) (q : List ℕ) (fs : List Fram
   unfolding Placed
   told p x there one = ⊎_elim (λ t. t.0) (λ t. let z = t.3 in absurd (omega arith)) (place_of p x there)
 
+  one-owes : (x y : ℕ) → Before q x y → next x ≡ 0 → (j : ℕ) × (f : Frame) × (get_elem? fs j ≡ some f) × OwesLink x y f × ((i : ℕ) (g : Frame) → get_elem? fs i ≡ some g → OwesLink x y g → i ≡ j)
+  one-owes x y b none = let c = counted q (suc b.0) y b.2 in let m = k.queued.members y in let s = some_summand (stands_as y) fs (omega arith) in let f = s.1 in let t = counts-stands (stands f.point) y f.code s.3 in
+      let o = owes-point next locked q f.point b.0 x f.code f.found f.next (once q fs k.queued f.code) (λ z. real q k.queued.real (suc b.0) y b.2 (sym t.1 ∙ z)) t.0 (k.each s.0 f s.2) b.1 (b.2 ∙ ap some (sym t.1)) none in
+      (s.0, f, s.2, (o.0, o.1, t.1), λ i g at w. dite (ℕ_discrete i s.0) (λ e. e) (λ far. absurd (other_code q fs k.queued s.0 i f g s.2 at far (stands-uses f.point t.0) (ap uses w.0) (w.2 ∙ sym t.1))))
+
+  owes-link : (j : ℕ) (f : Frame) → get_elem? fs j ≡ some f → f.point ≡ Linking → (next f.found ≡ 0) × Before q f.found f.code
+  owes-link j f at is = let o = subst (λ p. PointOk next locked q p f.code f.found f.next) is (k.each j f at) in (o.1, o.0)
+
   pub states : IsSpinLock word next locked q fs
   states = let b = k.balanced in let o = total-owns fs in let here : Walks (found_by fs) locked (word / tail_unit) (reverse q) = subst (λ c. Walks (found_by fs) locked c (reverse q)) (let e : tail_of q ≡ word / tail_unit = omega arith in e) (walks q refl) in record {
     whole = omega arith;
@@ -128,6 +153,8 @@ module _ (word : ℕ) (next locked : ℕ → ℕ) (q : List ℕ) (fs : List Fram
     only = λ other w. sym (reverse-reverse other) ∙ (ap reverse (walks-same (found_by fs) locked (word / tail_unit) (reverse other) (reverse q) w here) ∙ reverse-reverse q);
     empty = ((λ none. let e = ap tail_of none in omega arith), (λ none. no_tail q k.queued.real (omega arith)));
     linked = k.linked;
+    owed = one-owes;
+    owes = owes-link;
     told = told;
     first = first;
     heads = λ j f at head. head-first next locked q f.point f.code f.found f.next head (k.each j f at);

@@ -248,7 +248,10 @@ fn hand_on<H: SpinHost, W: Wait, I: Interrupt<Site<H>>>(
     if next != 0 {
         pass_front(site, pass, lock, next);
     } else {
-        // Another exchanged the tail since this pass looked, and may not have told its code yet.
+        // Another exchanged the tail since this pass looked, and may not have told its code yet. Or
+        // the exchange met a pending bit that its owner undoes. That one queues up and tells its
+        // code, unless all nodes of its task are in use: then this pass waits until somebody else
+        // queues up.
         pass.note_lock(lock, true, true);
         let late = wait_successor(site, rt, pass, lock, code, irq);
         pass_front(site, pass, lock, late);

@@ -19,7 +19,7 @@ use Rattle.lock_core.specs.declared.view.Held.TheVariants.{No, Shared, Alone}
 use Rattle.lock_core.specs.declared.view.Stage.TheVariants.{Rest}
 use Rattle.lock_core.specs.Layout.{SiteWords, site}
 use Rattle.lock_core.specs.Ops.{word_after}
-use Rattle.lock_core.specs.Views.{hand_of, handed, ticked, took, held_of, alone_of, held_weight, alone_weight}
+use Rattle.lock_core.specs.Views.{hand_of, handed, ticked, took, held_of, alone_of, held_weight, alone_weight, strength}
 use Rattle.lock_core.specs.Holding.{Learns, missed, released, downgraded}
 use Rattle.lock_core.specs.Totals.{total, total-at}
 use Rattle.lock_core.specs.Sites.{SiteKept, HasPlan}
@@ -109,7 +109,7 @@ module _ {E Call : Type 0} (o : Obj Call) (unavailable : Unavailable) (size : �
       (λ free is. let none_alone : total alone_of hs ≡ 0 = omega (arith, alones, wr, is) in let g : Hand = took v.hand Shared (take size w.guarded) r.log in (
         g,
         Clear,
-        record { numbered = numbered; task = refl; goes = (record { misses = omega arith; freed = λ e. refl; takes = omega arith; comes = λ _ _. omega arith }, refl, refl); left = λ held. absurd (held out) },
+        record { numbered = numbered; task = refl; goes = (record { misses = omega arith; freed = λ e. refl; takes = omega arith; comes = λ l. omega (arith, l) }, refl, refl); left = λ held. absurd (held out) },
         inl (refl, inl (refl, refl)),
         may,
         record { flags = omega (arith, sum); writer = λ x y. omega (arith, is); lone = λ x y. absurd (omega (arith, x, y, sum)); reader = λ _. inr (inl (omega (arith, is))); bias = inr (inl refl) },
@@ -120,7 +120,7 @@ module _ {E Call : Type 0} (o : Obj Call) (unavailable : Unavailable) (size : �
       (λ shut not. let g : Hand = missed v.hand n (v.steps + 1) in (
         g,
         Transit n,
-        record { numbered = numbered; task = refl; goes = (record { misses = omega arith; freed = λ e. refl; takes = omega arith; comes = λ none holds. absurd (holds none) }, refl, refl); left = λ held. absurd (held out) },
+        record { numbered = numbered; task = refl; goes = (record { misses = omega arith; freed = λ e. refl; takes = omega arith; comes = λ l. omega (arith, l) }, refl, refl); left = λ held. absurd (held out) },
         inr (record { out = out; counts = refl; saw = refl; task = refl }, miss),
         subst (λ (z : Held). may_count v (record { held = z; bias = Transit n })) (sym out) (wait n),
         record { flags = omega (arith, sum); writer = λ x y. absurd (omega (arith, x, y, sum)); lone = λ x y. absurd (omega (arith, x, y, sum)); reader = λ e. shared-no (sym e ∙ out); bias = inr (inr (clear, inl refl)) },
@@ -140,13 +140,13 @@ module _ {E Call : Type 0} (o : Obj Call) (unavailable : Unavailable) (size : �
       (λ free is. (
         ticked v,
         refl,
-        count_looks ws vs id n v v.hand h at record { numbered = numbered; task = refl; goes = (record { misses = omega arith; freed = λ e. refl; takes = omega arith; comes = λ none holds. absurd (holds none) }, refl, refl); left = λ held other. absurd (other refl) } (inl (saw-stays v.hand)) refl (same-hand ws vs id v h at),
+        count_looks ws vs id n v v.hand h at record { numbered = numbered; task = refl; goes = (record { misses = omega arith; freed = λ e. refl; takes = omega arith; comes = λ l. omega (arith, l) }, refl, refl); left = λ held other. absurd (other refl) } (inl (saw-stays v.hand)) refl (same-hand ws vs id v h at),
         (lawful, (λ _. (refl, refl)), λ shut. absurd (shut free)),
       ))
       (λ shut not. (
         handed v g,
         refl,
-        count_looks ws vs id n v g h at record { numbered = numbered; task = refl; goes = (record { misses = omega arith; freed = λ e. refl; takes = omega arith; comes = λ none holds. absurd (holds none) }, refl, refl); left = λ held other. absurd (other refl) } (inr (record { out = out; counts = refl; saw = refl; task = refl }, miss)) refl (site-misses o unavailable size k (site k ws) (map hand_of vs) id n (v.steps + 1) v.hand (kept ws vs h) mine (omega (arith, low, high))),
+        count_looks ws vs id n v g h at record { numbered = numbered; task = refl; goes = (record { misses = omega arith; freed = λ e. refl; takes = omega arith; comes = λ l. omega (arith, l) }, refl, refl); left = λ held other. absurd (other refl) } (inr (record { out = out; counts = refl; saw = refl; task = refl }, miss)) refl (site-misses o unavailable size k (site k ws) (map hand_of vs) id n (v.steps + 1) v.hand (kept ws vs h) mine (omega (arith, low, high))),
         (lawful, (λ free. absurd (shut free)), λ _. (refl, refl)),
       ))
 
@@ -164,7 +164,7 @@ module _ {E Call : Type 0} (o : Obj Call) (unavailable : Unavailable) (size : �
       let is : old % 8 ≡ 0 = omega (arith, low, a, b, d) in let none_alone : total alone_of hs ≡ 0 = omega (arith, alones, wr, is) in (
         based counted v g Clear,
         refl,
-        counts ws vs id (old + 256) v g Clear h at record { numbered = numbered; task = refl; goes = (record { misses = omega arith; freed = λ e. refl; takes = omega arith; comes = λ _ _. omega arith }, refl, refl); left = λ held. absurd (held out) } (inl (refl, inl (refl, refl))) may
+        counts ws vs id (old + 256) v g Clear h at record { numbered = numbered; task = refl; goes = (record { misses = omega arith; freed = λ e. refl; takes = omega arith; comes = λ l. omega (arith, l) }, refl, refl); left = λ held. absurd (held out) } (inl (refl, inl (refl, refl))) may
             (subst (λ (z : ℕ). CountMove z (old + 256) (count_part bias v) (part g Clear)) (sym found) record { flags = omega arith; writer = λ x y. omega (arith, is); lone = λ x y. absurd (omega (arith, x, y)); reader = λ _. inr (inl d); bias = inr (inl refl) })
             (count-reads ps id (count_part bias v) (part g Clear) (at_map (count_part bias) vs id v at) old (more ws vs) c is out clear refl refl)
             (site-takes o unavailable size k (site k ws) hs id t v.hand Shared r mine out has (λ e. shared-no e) (λ l. absurd (omega (arith, l))) none_alone),
@@ -180,7 +180,7 @@ module _ {E Call : Type 0} (o : Obj Call) (unavailable : Unavailable) (size : �
       let none_alone : total alone_of hs ≡ 0 = omega (arith, alones, wr) in let none_held : total held_of hs ≡ 0 = omega (arith, helds, wr, f) in (
         based counted v g Clear,
         refl,
-        counts ws vs id 1 v g Clear h at record { numbered = numbered; task = refl; goes = (record { misses = omega arith; freed = λ e. refl; takes = omega arith; comes = λ _ _. omega arith }, refl, refl); left = λ held. absurd (held out) } (inl (refl, inl (refl, refl))) may
+        counts ws vs id 1 v g Clear h at record { numbered = numbered; task = refl; goes = (record { misses = omega arith; freed = λ e. refl; takes = omega arith; comes = λ l. omega (arith, l) }, refl, refl); left = λ held. absurd (held out) } (inl (refl, inl (refl, refl))) may
             (subst (λ (z : ℕ). CountMove z 1 (count_part bias v) (part g Clear)) (sym found) record { flags = refl; writer = λ x y. refl; lone = λ x y. refl; reader = λ e. alone-shared e; bias = inr (inl refl) })
             (count-writes ps id (count_part bias v) (part g Clear) (at_map (count_part bias) vs id v at) 0 1 (more ws vs) c refl refl refl (omega arith) out refl (sym clear))
             (site-takes o unavailable size k (site k ws) hs id t v.hand Alone r mine out has (λ e. no-alone (sym e)) (λ _. none_held) none_alone),
@@ -189,7 +189,7 @@ module _ {E Call : Type 0} (o : Obj Call) (unavailable : Unavailable) (size : �
       (λ ws vs h at not _. let n : ℕ = get_or ws place 0 in let lawful = (count_kept ws vs h).1 in let low = lawful.0 in let high = lawful.1 in let g : Hand = missed v.hand n (v.steps + 1) in (
         handed v g,
         refl,
-        count_looks ws vs id n v g h at record { numbered = numbered; task = refl; goes = (record { misses = omega arith; freed = λ e. refl; takes = omega arith; comes = λ none holds. absurd (holds none) }, refl, refl); left = λ held other. absurd (other refl) } (inr (record { out = out; counts = refl; saw = refl; task = refl }, miss)) refl (site-misses o unavailable size k (site k ws) (map hand_of vs) id n (v.steps + 1) v.hand (kept ws vs h) (at_map hand_of vs id v at) (omega (arith, low, high))),
+        count_looks ws vs id n v g h at record { numbered = numbered; task = refl; goes = (record { misses = omega arith; freed = λ e. refl; takes = omega arith; comes = λ l. omega (arith, l) }, refl, refl); left = λ held other. absurd (other refl) } (inr (record { out = out; counts = refl; saw = refl; task = refl }, miss)) refl (site-misses o unavailable size k (site k ws) (map hand_of vs) id n (v.steps + 1) v.hand (kept ws vs h) (at_map hand_of vs id v at) (omega (arith, low, high))),
         ((λ is. absurd (not is)), λ _. (lawful, (refl, refl))),
       ))
 
@@ -201,7 +201,7 @@ module _ {E Call : Type 0} (o : Obj Call) (unavailable : Unavailable) (size : �
       let less : word_after (Sub 256) n + 256 ≡ n = omega (arith, low, high, one, F, L, f) in (
         v.hand,
         Clear,
-        record { numbered = numbered; task = refl; goes = (record { misses = omega arith; freed = λ e. refl; takes = omega arith; comes = λ none holds. absurd (holds none) }, refl, refl); left = λ held other. absurd (other refl) },
+        record { numbered = numbered; task = refl; goes = (record { misses = omega arith; freed = λ e. refl; takes = omega arith; comes = λ l. omega (arith, l) }, refl, refl); left = λ held other. absurd (other refl) },
         inl (refl, inl (refl, refl)),
         may,
         record { flags = omega (arith, less); writer = λ x y. absurd (omega (arith, x, y, less)); lone = λ x y. absurd (omega (arith, x, y, less)); reader = λ e. inl e; bias = inr (inl refl) },
@@ -217,7 +217,7 @@ module _ {E Call : Type 0} (o : Obj Call) (unavailable : Unavailable) (size : �
       let one : shared_in p ≡ 1 = ap shared_weight shares in let S = total-at shared_in ps id p mine in let f = c.field in let less : word_after (Sub 256) n + 256 ≡ n = omega (arith, low, high, one, S, f) in let left : n - 256 ≡ word_after (Sub 256) n = omega (arith, less) in let g : Hand = released v.hand (n - 256) in (
         g,
         Clear,
-        record { numbered = numbered; task = refl; goes = (record { misses = omega arith; freed = λ e. shared-no (sym shares ∙ sym e); takes = omega arith; comes = λ _ holds. absurd (holds refl) }, refl, refl); left = λ held other. left },
+        record { numbered = numbered; task = refl; goes = (record { misses = omega arith; freed = λ e. shared-no (sym shares ∙ sym e); takes = omega arith; comes = λ l. omega (arith, l) }, refl, refl); left = λ held other. left },
         inl (refl, inl (refl, refl)),
         may,
         record { flags = omega (arith, less); writer = λ x y. absurd (omega (arith, x, y, less)); lone = λ x y. absurd (omega (arith, x, y, less)); reader = λ e. shared-no (sym e); bias = inr (inl refl) },
@@ -233,7 +233,7 @@ module _ {E Call : Type 0} (o : Obj Call) (unavailable : Unavailable) (size : �
       let one : alone_in p ≡ 1 = ap alone_weight alone in let A = total-at alone_in ps id p mine in let wr = c.writer in let less : word_after (Sub 1) n + 1 ≡ n = omega (arith, low, high, one, A, wr) in let left : n - 1 ≡ word_after (Sub 1) n = omega (arith, less) in let g : Hand = released v.hand (n - 1) in (
         g,
         Clear,
-        record { numbered = numbered; task = refl; goes = (record { misses = omega arith; freed = λ e. no-alone (e ∙ alone); takes = omega arith; comes = λ _ holds. absurd (holds refl) }, refl, refl); left = λ held other. left },
+        record { numbered = numbered; task = refl; goes = (record { misses = omega arith; freed = λ e. no-alone (e ∙ alone); takes = omega arith; comes = λ l. omega (arith, l) }, refl, refl); left = λ held other. left },
         inl (refl, inl (refl, refl)),
         may,
         record { flags = omega (arith, less, wr, A, one); writer = λ x y. absurd (omega (arith, x, wr, A, one)); lone = λ x y. absurd (omega (arith, x, wr, A, one)); reader = λ e. shared-no (sym e); bias = inr (inl refl) },
@@ -249,7 +249,7 @@ module _ {E Call : Type 0} (o : Obj Call) (unavailable : Unavailable) (size : �
       let one : alone_in p ≡ 1 = ap alone_weight alone in let A = total-at alone_in ps id p mine in let wr = c.writer in let sum : n + 255 ≡ word_after (Add 255) n = omega (arith, low, high) in let odd = writes-odd more ps n c A one in let g : Hand = downgraded v.hand (n + 255) in (
         g,
         Clear,
-        record { numbered = numbered; task = refl; goes = (record { misses = omega arith; freed = λ e. alone-shared (sym alone ∙ sym e); takes = omega arith; comes = λ none _. no-alone (sym none ∙ alone) }, refl, refl); left = λ held other. sum },
+        record { numbered = numbered; task = refl; goes = (record { misses = omega arith; freed = λ e. alone-shared (sym alone ∙ sym e); takes = omega arith; comes = λ l. let two = ap strength alone in omega (arith, l, two) }, refl, refl); left = λ held other. sum },
         inl (refl, inl (refl, refl)),
         may,
         record { flags = omega (arith, sum, odd, low); writer = λ x y. absurd (omega (arith, x, odd)); lone = λ x y. absurd (omega (arith, x, odd)); reader = λ _. inr (inr (inr alone)); bias = inr (inl refl) },

@@ -7,9 +7,9 @@ ghost use Rattle.lock_core.specs.Kinds.{semaphore, wakes_alone, wakes_shared};
 ghost use Rattle.lock_core.specs.Locking.{Downgrades, Misses, Releases, Takes};
 ghost use Rattle.lock_core.specs.Records.{IsPlan};
 ghost use Rattle.lock_core.specs.Views.{first, ticked, handed, split_off, merged, gave_up, BesideForgetting, HoldsNothing, OwesNoSignal};
-ghost use Rattle.lock_core.specs.Pasts.{EachMoment, FoundAt, IsMarked, Ran, Tail};
+ghost use Rattle.lock_core.specs.Pasts.{EachMoment, FoundAt, IsMarked, KeepsJoined, Ran, Tail};
 ghost use Rattle.lock_core.specs.SiteStated.{IsNew, IsSiteMove};
-ghost use Rattle.lock_core.specs.Linear.{IsLinear};
+ghost use Rattle.lock_core.specs.Linear.{IsLinearizable};
 ghost use Rattle.rwsem_count.specs.declared.view.Bias.TheVariants.{Clear};
 ghost use Rattle.rwsem_count.specs.Counts.{based};
 ghost use Rattle.rwsem_count.specs.CountRuled.{IsCountSiteThen, IsPlain, count_at, new_bias, newest};
@@ -34,7 +34,7 @@ pub struct CountSite<O: Object> {
 }
 
 impl<O: Object> CountSite<O> {
-    ghost use Rattle.rwsem_count.specs.CountHandles.{plan_of, view_of, hand_in, past_of, task_in, held_in, front_in, shown_of, transit_in, IsLatest, SitsAt, TakesNumber, StepsOn};
+    ghost use Rattle.rwsem_count.specs.CountHandles.{plan_of, view_of, hand_in, past_of, joined_by, task_in, held_in, front_in, shown_of, transit_in, IsLatest, SitsAt, TakesNumber, StepsOn};
 
     /// A new site: nobody holds, the state is empty, no call is logged or recorded. The pass has no
     /// task number.
@@ -114,6 +114,8 @@ impl<O: Object> CountSite<O> {
         ensures kept { view_of into.new ≡ merged (view_of into.old) (view_of other) }
         ensures rises { front_in into.old ≤ front_in into.new }
         ensures others { front_in other ≤ front_in into.new }
+        ensures joined { joined_by into.new ≡
+            record { moments = past_of other } ∷ joined_by into.old }
     {
         let CountPass { pass, transit: _ } = other;
         self.site.gather(&mut into.pass, pass);
@@ -274,11 +276,12 @@ impl<O: Object> CountSite<O> {
         ensures last { IsLatest pass.new }
         ensures marked { IsMarked kept_bias (view_of pass.new) (past_of pass.new) }
         ensures begins { Tail (newest (plan_of self.now) ∷ []) (past_of pass.new) }
-        ensures linear { IsLinear O.object O.WORDS (plan_of self.now) (past_of pass.new) }
+        ensures linear { IsLinearizable O.object O.WORDS (plan_of self.now) (past_of pass.new) }
         ensures always { EachMoment (IsCountSiteThen O.object O.WORDS (plan_of self.now))
             (past_of pass.new) }
         ensures moves { Ran kept_bias (newest (plan_of self.now)) (IsSiteMove (plan_of self.now) count_at)
             (past_of pass.new) }
+        ensures joined { KeepsJoined (joined_by pass.old) (past_of pass.new) }
     {
         self.site.recall(&mut pass.pass);
     }

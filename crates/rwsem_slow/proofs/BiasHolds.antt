@@ -80,7 +80,7 @@ module _ {Call : Type 0} (o : Obj Call) (size : ℕ) (k : Plan) where
         keeps,
         tt,
         subst (λ (z : List ℕ × V). Goes Place (RwSemMoves k) id ws vs z.0 (set vs id z.1)) (λ i. ((set-get_or ws count_at 0 ∙ sym (set-get_or ws hint_at 0)) i, is i))
-            (sem-counted o size k ws vs id n v g Clear h at record { numbered = λ e. none-some t (sym e ∙ has); task = refl; goes = (record { misses = omega arith; freed = λ e. refl; takes = omega arith; comes = λ _ _. omega arith }, refl, refl); left = λ held. absurd (held out) } (inl (refl, inl (refl, refl)))
+            (sem-counted o size k ws vs id n v g Clear h at record { numbered = λ e. none-some t (sym e ∙ has); task = refl; goes = (record { misses = omega arith; freed = λ e. refl; takes = omega arith; comes = λ l. omega (arith, l) }, refl, refl); left = λ held. absurd (held out) } (inl (refl, inl (refl, refl)))
             (wait, omega arith, refl, unpicked, stage, clear_wake, (let e = ap transit_weight transit in omega (arith, e)))
             record { flags = refl; writer = λ x y. absurd (omega (arith, x, y)); lone = λ x y. absurd (omega (arith, x, y)); reader = λ _. inr (inr (inl (word, transit, clear))); bias = inr (inl refl) }
             (count-keeps ps id (count_part bias_of v) (part g Clear) mine' n word (more_in k ws vs) c (inr even) out transit refl refl)

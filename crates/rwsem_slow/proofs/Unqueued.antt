@@ -76,13 +76,13 @@ module _ {Call : Type 0} (o : Obj Call) (size : ℕ) (k : Plan) where
       (λ free. (
         ticked v,
         refl,
-        sem-looks o size k ws vs id n v v.hand h at record { numbered = numbered; task = refl; goes = (record { misses = omega arith; freed = λ e. refl; takes = omega arith; comes = λ none_held holds. absurd (holds none_held) }, refl, refl); left = λ held other. absurd (other refl) } (inl (refl, inl (refl, refl))) refl (subst (SiteKept o counted size k (site k ws)) (sym (set_again (map hand_of vs) id v.hand mine)) r),
+        sem-looks o size k ws vs id n v v.hand h at record { numbered = numbered; task = refl; goes = (record { misses = omega arith; freed = λ e. refl; takes = omega arith; comes = λ l. omega (arith, l) }, refl, refl); left = λ held other. absurd (other refl) } (inl (refl, inl (refl, refl))) refl (subst (SiteKept o counted size k (site k ws)) (sym (set_again (map hand_of vs) id v.hand mine)) r),
         (lawful, (λ _. (refl, refl)), λ shut. absurd (shut free)),
       ))
       (λ shut. (
         handed v g,
         refl,
-        sem-looks o size k ws vs id n v g h at record { numbered = numbered; task = refl; goes = (record { misses = omega arith; freed = λ e. refl; takes = omega arith; comes = λ none_held holds. absurd (holds none_held) }, refl, refl); left = λ held other. absurd (other refl) } (inr (record { out = out; counts = refl; saw = refl; task = refl }, (ap (λ (s : SemHand). s.wait) apart, ap (λ (s : SemHand). s.bias) apart))) refl (site-misses o counted size k (site k ws) (map hand_of vs) id n (v.steps + 1) v.hand r mine (omega (arith, low, high))),
+        sem-looks o size k ws vs id n v g h at record { numbered = numbered; task = refl; goes = (record { misses = omega arith; freed = λ e. refl; takes = omega arith; comes = λ l. omega (arith, l) }, refl, refl); left = λ held other. absurd (other refl) } (inr (record { out = out; counts = refl; saw = refl; task = refl }, (ap (λ (s : SemHand). s.wait) apart, ap (λ (s : SemHand). s.bias) apart))) refl (site-misses o counted size k (site k ws) (map hand_of vs) id n (v.steps + 1) v.hand r mine (omega (arith, low, high))),
         (lawful, (λ free. absurd (shut free)), λ _. (refl, refl)),
       ))
 
@@ -100,7 +100,7 @@ module _ {Call : Type 0} (o : Obj Call) (size : ℕ) (k : Plan) where
       let alones = alone-parts bias_of vs in let helds = held-parts bias_of vs in let wr = c.writer in let f = c.field in let none_alone : total alone_of hs ≡ 0 = omega (arith, alones, wr, even) in let none_held : total held_of hs ≡ 0 = omega (arith, helds, wr, f, even, nobody) in let ok = r.each id v.hand mine in (
         based biased v g Clear,
         refl,
-        sem-counted o size k ws vs id (old + 1) v g Clear h at record { numbered = numbered; task = refl; goes = (record { misses = omega arith; freed = λ e. refl; takes = omega arith; comes = λ _ _. omega arith }, refl, refl); left = λ held. absurd (held out) } (inl (refl, inl (refl, refl)))
+        sem-counted o size k ws vs id (old + 1) v g Clear h at record { numbered = numbered; task = refl; goes = (record { misses = omega arith; freed = λ e. refl; takes = omega arith; comes = λ l. omega (arith, l) }, refl, refl); left = λ held. absurd (held out) } (inl (refl, inl (refl, refl)))
             (ap (λ (s : SemHand). s.wait) apart, omega arith, refl, ap (λ (s : SemHand). s.rest) apart, ap (λ (s : SemHand). s.stage) apart, clear_wake, (let e = ap (λ (s : SemHand). transit_weight s.bias) apart in omega (arith, e)))
             (subst (λ (z : ℕ). CountMove z (old + 1) (count_part bias_of v) (part g Clear)) (sym found) record { flags = omega (arith, even); writer = λ x y. clear; lone = λ x y. nobody; reader = λ e. alone-shared e; bias = inr (inl refl) })
             (count-writes ps id (count_part bias_of v) (part g Clear) mine' old (old + 1) (more_in k ws vs) c nobody even (omega (arith, even)) (omega (arith, low, nobody, even, clear)) out refl (sym (ap (λ (s : SemHand). s.bias) apart)))

@@ -13,7 +13,7 @@ ghost use Rattle.lock_core.specs.SiteStated.{IsNew};
 ghost use Rattle.lock_core.specs.Views.{gathered, gave_up};
 ghost use Rattle.osq_nodes.specs.OsqHandles.{tasks_of};
 ghost use Rattle.lock_core.specs.SiteHandles as inner;
-ghost use Rattle.lock_core.specs.Linear.{IsLinear};
+ghost use Rattle.lock_core.specs.Linear.{IsLinearizable};
 ghost use Rattle.wait_list.specs.declared.view.Waiter.{Waiter as Waiters};
 ghost use Rattle.rwsem_wake.specs.SemParts.{SemPart};
 ghost use Rattle.rwsem_wake.specs.RwSemViews.{count_at};
@@ -220,7 +220,7 @@ impl<O: Object> RwSem<O> {
             (shown_of pass.new).past }
         ensures out { IsOutOfLine (shown_of pass.new) }
         ensures moves { Paced (IsSiteStep (plan_of self.now) count_at) (shown_of pass.new).past }
-        ensures linear { IsLinear O.object O.WORDS (plan_of self.now) (shown_of pass.new).past }
+        ensures linear { IsLinearizable O.object O.WORDS (plan_of self.now) (shown_of pass.new).past }
         ensures lists { (q : List Waiters) × (ps : List SemPart) ×
             HasBecome (plan_of self.now) (shown_of pass.new).past q ps }
         ensures wait_lock { EachMoment (IsSpinLockThen wait_lock_at) (shown_of pass.new).past }

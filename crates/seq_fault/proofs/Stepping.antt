@@ -140,7 +140,7 @@ module _ {Call : Type 0} (o : Obj Call) (size : ℕ) (k : Plan) where
         play.turned v g v.ext,
         refl,
         rule-goes o size k ws (set ws seq_at (word + 1)) vs id v g v.ext r at (length-set ws seq_at (word + 1)) (ap (lay k) (drop-set-lt LOCK_WORDS ws seq_at (word + 1) (omega arith)))
-            (record { misses = omega arith; freed = λ e. refl; takes = omega arith; comes = λ _ _. omega arith }, refl, refl)
+            (record { misses = omega arith; freed = λ e. refl; takes = omega arith; comes = λ l. omega (arith, l) }, refl, refl)
             (refl, inl (refl, refl))
             (site-takes o never size k (site k ws) (hands vs) id t v.hand Alone r.site_holds (at_map hand_of vs id v at) out has (λ e. no-alone (sym e)) (λ _. un) unalone)
             (λ e. let w : alone_weight Alone ≡ alone_weight Shared = ap alone_weight e in omega (arith, w))
@@ -166,7 +166,7 @@ module _ {Call : Type 0} (o : Obj Call) (size : ℕ) (k : Plan) where
         keeps,
         tt,
         rule-goes o size k ws (set ws seq_at (word_after (Add 1) n)) vs id v g v.ext r at (length-set ws seq_at (word_after (Add 1) n)) (ap (lay k) (drop-set-lt LOCK_WORDS ws seq_at (word_after (Add 1) n) (omega arith)))
-            (record { misses = omega arith; freed = λ z. no-alone (z ∙ alone); takes = omega arith; comes = λ _ holds. absurd (holds refl) }, refl, refl)
+            (record { misses = omega arith; freed = λ z. no-alone (z ∙ alone); takes = omega arith; comes = λ l. omega (arith, l) }, refl, refl)
             (refl, inl (refl, refl))
             (site-frees o never size k (site k ws) (hands vs) id 0 v.hand r.site_holds (at_map hand_of vs id v at) quiet rest)
             (λ e. no-shared e)
@@ -250,7 +250,7 @@ module _ {Call : Type 0} (o : Obj Call) (size : ℕ) (k : Plan) where
       (λ is. (
         play.saw_log v.hand g,
         Off,
-        (record { misses = omega arith; freed = λ _. refl; takes = omega arith; comes = λ out holds. absurd (holds out) }, refl, refl),
+        (record { misses = omega arith; freed = λ _. refl; takes = omega arith; comes = λ l. omega (arith, l) }, refl, refl),
         (refl, inl (refl, refl)),
         site-sees ws vs id v g r at ok is,
         refl,

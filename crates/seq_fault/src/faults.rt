@@ -10,6 +10,7 @@ ghost use Rattle.seq_fault.specs.SeqSteps.{AtOneWord, Faults, HasNextFault, IsRa
 use crate::reading::{next_fault, read_optimistically, validate};
 use crate::site::{SeqPass, SeqSite};
 use crate::steps::Raced;
+use cpu_task::Pauses;
 use std::sync::Wait;
 use vma_map::Areas;
 use word_bits::Reply;
@@ -67,10 +68,12 @@ impl SeqSite<Areas> {
         ensures read { (v : V) × OnlySteps (view_of pass.old) v × AtOneWord 2 (front_in pass.new)
             v (view_of pass.new) (past_of pass.old) (past_of pass.new) }
     {
+        let pauses = Pauses::new();
         for _ in rt.forever() {
             if let Ok(reply) = self.fault(pass, call) {
                 return reply;
             }
+            pauses.pause();
         }
         unreachable!()
     }

@@ -14,6 +14,7 @@ ghost use Rattle.seq_fault.specs.SeqSteps.{EntersSince};
 
 use crate::rule::SeqRule;
 use crate::steps;
+use cpu_task::Pauses;
 use lock_core::{Pass, Plan, Site};
 use std::alloc::{AllocError, Global};
 use std::sync::Wait;
@@ -143,10 +144,12 @@ impl<O: Object> SeqSite<O> {
             (view_of pass.old) (view_of pass.new) }
         ensures holds { held_in pass.new ≡ Alone }
     {
+        let pauses = Pauses::new();
         for _ in rt.forever() {
             if self.enter_once(pass) {
                 return;
             }
+            pauses.pause();
         }
         unreachable!()
     }

@@ -15,7 +15,7 @@ ghost use Rattle.lock_core.specs.Kinds.{Kind, mutex, semaphore, unavailable, sha
 ghost use Rattle.lock_core.specs.Shown.{Shown, Stands, AllButHand, IsLatestStep, StepsOn, shown_new, shown_split};
 ghost use Rattle.lock_core.specs.Locking.{Looks, Has, Takes, Misses, Interrupts, Releases, Downgrades, Got, KeepsPlace, TalliesLock};
 ghost use Rattle.lock_core.specs.Locked.{IsLockedThen, IsSiteStep};
-ghost use Rattle.lock_core.specs.Linear.{IsLinear};
+ghost use Rattle.lock_core.specs.Linear.{IsLinearizable};
 ghost use Rattle.sleep_lock.specs.Leaving.{LeavesForCpu};
 
 use cpu_task::Crew;
@@ -136,7 +136,7 @@ pub trait SleepLock<O: Object>: SiteLock<O> {
             (Self.view pass.new).past }
         ensures moves { Paced (IsSiteStep (Self.calls_on self.now) word_at)
             (Self.view pass.new).past }
-        ensures linear { IsLinear O.object O.WORDS (Self.calls_on self.now)
+        ensures linear { IsLinearizable O.object O.WORDS (Self.calls_on self.now)
             (Self.view pass.new).past }
         ensures told { tells (Self.calls_on self.now) (Self.view pass.new) };
 

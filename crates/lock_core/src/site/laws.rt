@@ -3,7 +3,7 @@ ghost use Rattle.std.specs.Prelude.{◌≡◌, false};
 ghost use Rattle.lock_core.specs.Layout.{site};
 ghost use Rattle.lock_core.specs.Views.{ticked};
 ghost use Rattle.lock_core.specs.SiteStated.{IsSiteThen, IsSiteMoveWhere};
-ghost use Rattle.lock_core.specs.Linear.{IsLinear};
+ghost use Rattle.lock_core.specs.Linear.{IsLinearizable};
 ghost use Rattle.lock_core.specs.Pasts.{BeganWith, EachMoment, IsMarked, KeepsJoined, Ran, RanByRule, opening};
 ghost use Rattle.lock_core.specs.SiteHandles.{plan_of, view_of, past_of, joined_by, SitsAt, KeepsPast, KeepsNest, IsLatest};
 
@@ -29,7 +29,7 @@ impl<R: SiteRule> Site<R> {
             (plan_of self.now) (past_of pass.new) }
         ensures joined { KeepsJoined (joined_by pass.old) (past_of pass.new) }
         ensures linear { R.reads_unheld ≡ false →
-            IsLinear R.O.object R.O.WORDS (plan_of self.now) (past_of pass.new) }
+            IsLinearizable R.O.object R.O.WORDS (plan_of self.now) (past_of pass.new) }
     {
         self.table.shared.load::<Recall<R>>(&mut pass.seat, 0);
     }

@@ -10,6 +10,7 @@ use super::Site;
 use crate::layout::LINES_AT;
 use crate::pass::{Face, Pass};
 use crate::rule::SiteRule;
+use cpu_task::Pauses;
 use std::marker::Brand;
 use std::sync::Wait;
 use word_bits::{Rec, is_logged};
@@ -50,11 +51,13 @@ impl<R: SiteRule> Site<R> {
         ensures became { TakesNumber R.O.object R.unavailable self.now task pass.old pass.new }
         ensures beside { BesideForgetting (view_of pass.old) (view_of pass.new) }
     {
+        let pauses = Pauses::new();
         for _ in rt.forever() {
             // Of two passes that want the number, one finds the other's 1.
             if self.take::<Brand>(pass, task) {
                 return;
             }
+            pauses.pause();
         }
         unreachable!()
     }

@@ -14,7 +14,7 @@ use Rattle.lock_core.proofs.site.Site.end_writing.Goals as goal
 pub step_stored-requires-clause-lets : goal.step_stored-requires-clause-lets
 step_stored-requires-clause-lets g c = let k = c.args.self.now.table.shared.key in let R = g.R.SiteRule in let O = g.R.O.Object in let l = g.met.R.SiteRule in let h = c.args.pass.now.seat.me.0.view.hand in
     heeds O.object R.unavailable O.WORDS k R.rests (R.holds k) (R.moves k) R.word_at (l.site_kept k) (l.sites k) Quiets _ _ 0 _
-    (λ s hs r at. (quieted h, refl, (refl, inl refl, (refl, inl (refl, refl))), site-quiets O.object R.unavailable O.WORDS k (lay k s) hs c.args.pass.now.seat.id h r at (sym c.requires.own.held ∙ c.requires.held) c.requires.stored, (record { misses = omega arith; freed = λ _. refl; takes = omega arith; comes = λ out holds. absurd (holds out) }, refl, refl)))
+    (λ s hs r at. (quieted h, refl, (refl, inl refl, (refl, inl (refl, refl))), site-quiets O.object R.unavailable O.WORDS k (lay k s) hs c.args.pass.now.seat.id h r at (sym c.requires.own.held ∙ c.requires.held) c.requires.stored, (record { misses = omega arith; freed = λ _. refl; takes = omega arith; comes = λ l. omega (arith, l) }, refl, refl)))
 
 pub step_stored-requires-clause-there : goal.step_stored-requires-clause-there
 step_stored-requires-clause-there g c = let n = length c.args.self.now.table.shared.key in subst (λ (z : ℕ). IsStoredAt n LOCK_WORDS z) (omega arith) (stored-site n 0 c.args.self.now.site_at c.args.self.now.small.tasks c.args.self.now.behind)
