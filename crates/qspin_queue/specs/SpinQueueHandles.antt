@@ -8,7 +8,7 @@ use Rattle.lock_core.specs.LockHands.{lock_hand_at, frame_at, depth_of, RestsEve
 use Rattle.lock_core.specs.Spins.{node_code}
 use Rattle.lock_core.specs.SiteHandles.{plan_of, view_of, hand_in, task_in, SitsAt, SaysSame, KeepsPast, IsLatest, IsDepthTold, IsNestTold}
 use Rattle.qspin_word.specs.Ways.{LockGained}
-use Rattle.qspin_word.specs.SpinWordHandles.{spin_in, KeepsFlagsBeside}
+use Rattle.qspin_word.specs.SpinWordHandles.{spin_in, FindsRivalSince, KeepsFlagsBeside}
 
 -- the codes of the nodes of so many tasks are smaller
 abbrev pub codes_of : ℕ → ℕ
@@ -52,6 +52,10 @@ module _ {R O E C : Type 0} where
   -- It took the lock as the ready front of the queue. Or it took it before it stood there, by a try with its node cleared, at one of its first so many steps. Or it took it by a try that it repeated, since all nodes of its task were in use.
   abbrev pub TakesInTurn : (l few : ℕ) → Pass R O E C → Pass R O E C → Type 0
   TakesInTurn l few old new = ((lock_hand_at l (spin_in new)).from ≡ Ready) ⊎ (((lock_hand_at l (spin_in new)).from ≡ Cleared) × ((lock_hand_at l (spin_in new)).took ≤ (view_of old).steps + few)) ⊎ (((lock_hand_at l (spin_in new)).from ≡ Trying) × (4 ≤ depth_of (spin_in old)))
+
+  -- a step of the call found a rival; where the pass took the lock by the try with its node cleared, it did so within five steps of that one
+  abbrev pub QueuesBehind : (l : ℕ) (quiet : Type 0) (at : ℕ) → Pass R O E C → Pass R O E C → Type 0
+  QueuesBehind l quiet at old new = (rival : FindsRivalSince l quiet at old new) × ((lock_hand_at l (spin_in new)).from ≡ Cleared → (lock_hand_at l (spin_in new)).took ≤ rival.saw.step + 5)
 
   -- its node at the lock is the one that it began to use last
   abbrev pub HasTop : ℕ → Pass R O E C → Type 0

@@ -6,9 +6,9 @@ ghost use Rattle.lock_core.specs.Views.{SpinRests};
 ghost use Rattle.lock_core.specs.Spins.{tail_in, word_at};
 ghost use Rattle.lock_core.specs.SiteHandles.{view_of, task_in, SitsAt, SaysSame, KeepsPast, IsLatest, KeepsNest, IsNestTold};
 ghost use Rattle.qspin_word.specs.Ways.{lock_hand_to, LockGained, SpinGained};
-ghost use Rattle.qspin_word.specs.SpinWordHandles.{spin_in, point_in, lock_hand_of, FindsRival, FindsRivalSince, IsAtNone, IsSameBut, KeepsFlagsBeside, KeepsNodes, OwnsPendingAt, SpinIdles, SpinWaits};
+ghost use Rattle.qspin_word.specs.SpinWordHandles.{spin_in, point_in, lock_hand_of, IsAtNone, IsSameBut, KeepsFlagsBeside, KeepsNodes, OwnsPendingAt, SpinIdles, SpinWaits};
 ghost use Rattle.qspin_queue.specs.SpinQueueHands.{lock_hand_with, node_at, as_front, learning, entered};
-ghost use Rattle.qspin_queue.specs.SpinQueueHandles.{codes, code_in, found_in, successor_in, IsNextNode, HasTop, SpinTakes, TakesInTurn, LeavesNode, EntersNode};
+ghost use Rattle.qspin_queue.specs.SpinQueueHandles.{codes, code_in, found_in, successor_in, IsNextNode, HasTop, SpinTakes, TakesInTurn, QueuesBehind, LeavesNode, EntersNode};
 
 use crate::steps::{
     clear_locked, clear_next, exchange_last, exchange_tail, link, load_front, load_locked,
@@ -548,8 +548,9 @@ fn contend<H: SpinHost, W: Wait, I: Interrupt<Site<H>>>(
     ensures asked { (result ≡ Way.Pending) →
         OwnsPendingAt lock 1 (H.FIRST + word_at lock) pass.old pass.new }
     ensures in_turn { (result ≡ Way.Queued) → TakesInTurn lock 6 pass.old pass.new }
+    ensures at_once { (result ≡ Way.Queued) → 256 ≤ seen → TakesInTurn lock 4 pass.old pass.new }
     ensures rival { (result ≡ Way.Queued) → seen < 256 →
-        FindsRivalSince lock I.silent (H.FIRST + word_at lock) pass.old pass.new }
+        QueuesBehind lock I.silent (H.FIRST + word_at lock) pass.old pass.new }
     ensures saw { (result ≡ Way.Queued) → 256 ≤ seen → I.silent →
         (spin_in pass.new).saw ≡ (spin_in pass.old).saw }
 {
@@ -589,7 +590,7 @@ pub fn lock_with<H: SpinHost, W: Wait, I: Interrupt<Site<H>>>(
 
     // The step at which it took the lock, and the point from which it did: its first one, that of
     // the owner of the pending bit, or the queue's front. Seven steps lead to the one try that a
-    // call makes with its node cleared.
+    // call makes with its node cleared, and five from the step that found a rival.
     ensures fast { (result ≡ Way.Fast) ↔
         ((lock_hand_of lock pass.new).took ≡ (view_of pass.old).steps + 1) }
     ensures pending { (result ≡ Way.Pending) ↔ ((lock_hand_of lock pass.new).from ≡ Taking) }
@@ -597,7 +598,7 @@ pub fn lock_with<H: SpinHost, W: Wait, I: Interrupt<Site<H>>>(
         OwnsPendingAt lock 2 (H.FIRST + word_at lock) pass.old pass.new }
     ensures in_turn { (result ≡ Way.Queued) → TakesInTurn lock 7 pass.old pass.new }
     ensures queued { (result ≡ Way.Queued) →
-        FindsRivalSince lock I.silent (H.FIRST + word_at lock) pass.old pass.new }
+        QueuesBehind lock I.silent (H.FIRST + word_at lock) pass.old pass.new }
 {
     let seen = exchange_free(site, pass, lock);
     if seen == 0 {
@@ -628,7 +629,8 @@ pub fn lock<H: SpinHost, W: Wait>(site: &Site<H>, rt: &W, pass: &mut Pass<H>) ->
     ensures pending { (result ≡ Way.Pending) ↔ ((spin_in pass.new).from ≡ Taking) }
     ensures asked { (result ≡ Way.Pending) → OwnsPendingAt 0 2 H.FIRST pass.old pass.new }
     ensures in_turn { (result ≡ Way.Queued) → TakesInTurn 0 7 pass.old pass.new }
-    ensures queued { (result ≡ Way.Queued) → FindsRival 0 H.FIRST pass.old pass.new }
+    ensures queued { (result ≡ Way.Queued) →
+        QueuesBehind 0 (Unit {0}) H.FIRST pass.old pass.new }
 {
     lock_with(site, rt, pass, 0, &mut Quiet)
 }

@@ -1,7 +1,6 @@
 use Rattle.std.proofs.Common.{◌+◌, arith}
 use Rattle.lock_core.specs.Spins.{word_at}
-use Rattle.lock_core.specs.SiteHandles.{view_of, past_of}
-use Rattle.qspin_queue.proofs.Contending.{found-since}
+use Rattle.qspin_queue.proofs.Contending.{queues-behind}
 use Rattle.qspin_queue.proofs.queue.contend.Goals as goal
 
 pub returns-then-seen-lt-PENDING-clause-goes_on : goal.returns-then-seen-lt-PENDING-clause-goes_on
@@ -9,5 +8,5 @@ returns-then-seen-lt-PENDING-clause-goes_on g c = λ p t. c.take_by_queue.ensure
 
 pub returns-then-seen-lt-PENDING-clause-rival : goal.returns-then-seen-lt-PENDING-clause-rival
 returns-then-seen-lt-PENDING-clause-rival g c = λ _ _. let a = c.args.pass.now in let r = c.take_by_pending.new.pass in let q = c.take_by_queue.new.pass in let took = c.take_by_queue.ensures.takes.gained.took in
-    found-since c.args.lock g.I.Interrupt.silent (g.H.SpinHost.FIRST + word_at c.args.lock) (view_of a) (view_of r) (view_of q) (past_of a) (past_of r) (past_of q) (c.take_by_pending.ensures.found c.if-take_by_pending.false)
-    c.take_by_queue.ensures.takes.saw (let x = took.0 in let y = took.1 in omega (arith, x, y)) c.take_by_queue.ensures.takes.goes_on
+    queues-behind c.args.lock g.I.Interrupt.silent (g.H.SpinHost.FIRST + word_at c.args.lock) a r q (c.take_by_pending.ensures.found c.if-take_by_pending.false) (c.take_by_pending.ensures.quick c.if-take_by_pending.false)
+    c.take_by_queue.ensures.takes.saw (let x = took.0 in let y = took.1 in omega (arith, x, y)) c.take_by_queue.ensures.takes.goes_on c.take_by_queue.ensures.in_turn

@@ -3,9 +3,9 @@ use Rattle.lock_core.specs.Spins.{word_at}
 use Rattle.lock_core.specs.LockHands.{lock_hand_at, depth_of}
 use Rattle.lock_core.specs.SiteHandles.{view_of}
 use Rattle.qspin_word.specs.Ways.{LockGained}
-use Rattle.qspin_word.specs.SpinWordHandles.{FindsRivalSince}
 use Rattle.qspin_word.proofs.Noting.{same-past}
 use Rattle.qspin_word.proofs.Going.{takes-told}
+use Rattle.qspin_queue.specs.SpinQueueHandles.{QueuesBehind}
 use Rattle.qspin_queue.proofs.Entering.{fast-takes, fast-depth, fast-took, fast-from}
 use Rattle.qspin_queue.proofs.Contending.{slow-past, slow-gained, slow-told, slow-depth, slow-took, slow-first, slow-from, slow-asked, slow-turn, slow-rival}
 use Rattle.qspin_queue.proofs.queue.lock_with.Goals as goal
@@ -53,7 +53,7 @@ pub returns-clause-in_turn : goal.returns-clause-in_turn
 returns-clause-in_turn g c = λ e. slow-turn c.args.site.now c.args.lock g.I.Interrupt.silent c.args.pass.now c.exchange_free-seen.new.pass c.begin_notes.new.pass c.contend-way.new.pass c.note_lock.new.self c.exchange_free-seen.result c.exchange_free-seen.ensures.steps c.if-seen-eq0.false c.begin_notes.ensures.same c.note_lock.ensures (c.contend-way.ensures.in_turn e)
 
 pub returns-clause-queued : goal.returns-clause-queued
-returns-clause-queued g c = λ e. let at = g.H.SpinHost.FIRST + word_at c.args.lock in elim (native.Mathlib.Decide.dec_le 256 c.exchange_free-seen.result) as (λ _. FindsRivalSince c.args.lock g.I.Interrupt.silent at c.args.pass.now c.note_lock.new.self) [
-  | yes high ↦ slow-first c.args.site.now c.args.lock g.I.Interrupt.silent c.args.pass.now c.exchange_free-seen.new.pass c.begin_notes.new.pass c.contend-way.new.pass c.note_lock.new.self c.exchange_free-seen.result c.exchange_free-seen.ensures.steps c.if-seen-eq0.false c.begin_notes.ensures.same c.note_lock.ensures c.contend-way.ensures.gained at c.requires.out c.exchange_free-seen.ensures.found c.contend-way.ensures.goes_on high (c.contend-way.ensures.saw e high)
+returns-clause-queued g c = λ e. let at = g.H.SpinHost.FIRST + word_at c.args.lock in elim (native.Mathlib.Decide.dec_le 256 c.exchange_free-seen.result) as (λ _. QueuesBehind c.args.lock g.I.Interrupt.silent at c.args.pass.now c.note_lock.new.self) [
+  | yes high ↦ slow-first c.args.site.now c.args.lock g.I.Interrupt.silent c.args.pass.now c.exchange_free-seen.new.pass c.begin_notes.new.pass c.contend-way.new.pass c.note_lock.new.self c.exchange_free-seen.result c.exchange_free-seen.ensures.steps c.if-seen-eq0.false c.begin_notes.ensures.same c.note_lock.ensures c.contend-way.ensures.gained at c.requires.out c.exchange_free-seen.ensures.found c.contend-way.ensures.goes_on high (c.contend-way.ensures.saw e high) (c.contend-way.ensures.at_once e high)
   | no low ↦ slow-rival c.args.site.now c.args.lock g.I.Interrupt.silent c.args.pass.now c.exchange_free-seen.new.pass c.begin_notes.new.pass c.contend-way.new.pass c.note_lock.new.self c.exchange_free-seen.result c.exchange_free-seen.ensures.steps c.if-seen-eq0.false c.begin_notes.ensures.same c.note_lock.ensures at (c.contend-way.ensures.rival e (omega (arith, low)))
 ]
