@@ -1,7 +1,8 @@
 -- What the calls of a per-CPU semaphore leave.
 use Rattle.std.proofs.Common.{◌≡◌, ◌≢◌, ◌∙◌, ℕ, ◌+◌, ◌<◌, ◌≤◌, List, length, Option, Some, None, zero, suc, true, false, sym, refl, ap, subst, arith}
-use Rattle.std.specs.Prelude.{Result, Ok, Err, IfErr, is_some}
+use Rattle.std.specs.Prelude.{Result, Ok, Err, IfOk, IfErr, is_some}
 use Rattle.std.specs.Result.{is_ok}
+use Rattle.std.proofs.lemmas.Option.{same_Some}
 use Rattle.cpu_task.specs.CpuCounting.{one_more, slept}
 use mathlib.Core.Logic.{dite}
 use native.Mathlib.Decide.{ℕ_discrete}
@@ -10,7 +11,7 @@ use Rattle.word_bits.specs.Histories.{Plan}
 use Rattle.lock_core.specs.declared.view.Held.{Held}
 use Rattle.lock_core.specs.declared.view.Held.TheVariants.{No, Alone}
 use Rattle.lock_core.specs.declared.view.Moment.{Moment}
-use Rattle.lock_core.specs.Pasts.{GoesOn, FoundAt, FoundAtStep, FoundSince, IsOwnStep, IsStepBy}
+use Rattle.lock_core.specs.Pasts.{GoesOn, FoundAt, FoundAtStep, IsOwnStep, IsStepBy}
 use Rattle.lock_core.specs.SiteRunLaws.{found-at-step}
 use Rattle.lock_core.proofs.HandLaws.{not-both}
 use Rattle.lock_core.proofs.RowLaws.{none-some}
@@ -94,41 +95,72 @@ drained-one o k n v u next took = dite (ℕ_discrete n (length k))
     (λ all. let t = took all in (ap (λ (z : V). z.steps) t.3, ap (λ (z : V). z.hand.task) t.3))
     (λ not. let e = next not in (ap (λ (z : V). z.steps) e, ap (λ (z : V). z.hand.task) e))
 
--- what a step of its own found that wasn't the call's last
-pub found-since : (v w u : V) (task : Option ℕ) (place n : ℕ) (old past new : List Moment) → w.hand.task ≡ task → v.steps < w.steps → w.steps ≤ u.steps → IsOwnStep w past → FoundAt place n past → GoesOn old past → GoesOn past new → FoundSince task v.steps u.steps place n old new
-found-since v w u task place n old past new named later by_now own found after goes = (w.steps, later, by_now, found-at-step w task place n old past new named own found after goes)
-
 -- what a try to read found at its second step of three
-pub looked-found : (r : Result (Unit {0}) ℕ) (v a w u : V) (old past new : List Moment) → a ≡ phased v v.hand Added → IfErr r (λ word. w ≡ phased a a.hand Back) → u ≡ phased w w.hand Idle → IsOwnStep w past → IfErr r (λ word. FoundAt block_at word past) → GoesOn old past → GoesOn past new → IfErr r (λ word. FoundSince v.hand.task v.steps u.steps block_at word old new)
+pub looked-found : (r : Result (Unit {0}) ℕ) (v a w u : V) (old past new : List Moment) → a ≡ phased v v.hand Added → IfErr r (λ word. w ≡ phased a a.hand Back) → u ≡ phased w w.hand Idle → IsOwnStep w past → IfErr r (λ word. FoundAt block_at word past) → GoesOn old past → GoesOn past new → IfErr r (λ word. FoundAtStep v.hand.task (v.steps + 2) block_at word old new)
 looked-found (Ok x) v a w u old past new add look back own found after goes = tt
-looked-found (Err word) v a w u old past new add look back own found after goes = let x = ap (λ (z : V). z.steps) add in let y = ap (λ (z : V). z.steps) look in let z = ap (λ (z : V). z.steps) back in
-    found-since v w u v.hand.task block_at word old past new (ap (λ (z : V). z.hand.task) look ∙ ap (λ (z : V). z.hand.task) add) (omega (arith, x, y)) (omega (arith, z)) own found after goes
+looked-found (Err word) v a w u old past new add look back own found after goes = let x = ap (λ (z : V). z.steps) add in let y = ap (λ (z : V). z.steps) look in let two : w.steps ≡ v.steps + 2 = omega (arith, x, y) in
+    subst (λ (s : ℕ). FoundAtStep v.hand.task s block_at word old new) two
+    (found-at-step w v.hand.task block_at word old past new (ap (λ (z : V). z.hand.task) look ∙ ap (λ (z : V). z.hand.task) add) own found after goes)
 
 -- one try more, and a sleep
 pub tries-again : (steps now now' sleeps had had' : ℕ) → SleepsEachTry 0 steps now sleeps had → now' ≡ now + 3 → had' ≡ one_more had → SleepsEachTry 0 steps now' sleeps had'
 tries-again steps now now' sleeps had had' s more again = let is = s.1 in (suc s.0, omega (arith, is, more), again ∙ ap one_more s.2)
 
--- a step or more, and a sleep
-pub sleeps-again : (steps now now' sleeps had had' : ℕ) → SleepsBehind 0 steps now sleeps had → now < now' → had' ≡ one_more had → SleepsBehind 0 steps now' sleeps had'
+-- a step that failed, and a sleep
+pub sleeps-again : (steps now now' sleeps had had' : ℕ) → SleepsBehind 0 steps now sleeps had → now' ≡ now + 1 → had' ≡ one_more had → SleepsBehind 0 steps now' sleeps had'
 sleeps-again steps now now' sleeps had had' s more again = let is = s.1 in (suc s.0, omega (arith, is, more), again ∙ ap one_more s.2)
 
 slept-on : (m n sleeps : ℕ) → slept m (slept n sleeps) ≡ slept (m + n) sleeps
 slept-on zero n sleeps = ap (λ (k : ℕ). slept k sleeps) (omega arith)
 slept-on (suc m) n sleeps = ap one_more (slept-on m n sleeps) ∙ ap (λ (k : ℕ). slept k sleeps) {x = suc (m + n)} {y = suc m + n} (omega arith)
 
--- two calls that wait, one after the other
-pub sleeps-both : (steps now now' sleeps had had' : ℕ) → SleepsBehind 1 steps now sleeps had → SleepsBehind 1 now now' had had' → SleepsBehind 2 steps now' sleeps had'
-sleeps-both steps now now' sleeps had had' s t = let a = s.1 in let b = t.1 in (t.0 + s.0, omega (arith, a, b), t.2 ∙ (ap (slept t.0) s.2 ∙ slept-on t.0 s.0 sleeps))
+pub both-of : {A B : Type 0} {P Q : B → Type 0} (r : Result A B) → is_ok r ≡ false → IfErr r P → IfErr r Q → (e : B) × P e × Q e
+both-of (Ok x) failed p q = absurd (not-both true failed refl)
+both-of (Err e) failed p q = (e, p, q)
 
--- what is so of an answer
-pub err-of : {A B : Type 0} {P : B → Type 0} (r : Result A B) → is_ok r ≡ false → IfErr r P → (e : B) × P e
-err-of (Ok x) failed p = absurd (not-both true failed refl)
-err-of (Err e) failed p = (e, p)
+pub ok-of : {A B P : Type 0} (r : Result A B) → is_ok r ≡ true → IfOk r (λ _. P) → P
+ok-of (Ok x) is p = p
+ok-of (Err e) is p = absurd (not-both false refl is)
 
 -- who blocks has seen some counts
 pub seen-some : (seen : Option ℕ) → is_some seen ≡ true → (n : ℕ) × (seen ≡ Some n)
 seen-some None is = absurd (not-both false refl is)
 seen-some (Some n) is = (n, refl)
+
+-- how a pass slept that drains: it had seen so many counts zero, has seen so many, and slept behind each other step
+pub record SleptDraining (was seen : Option ℕ) (steps steps' sleeps sleeps' : ℕ) : Type 0 where
+  pub first : ℕ
+  pub next : ℕ
+  pub was_is : was ≡ Some first
+  pub seen_is : seen ≡ Some next
+  pub behind : SleepsBehind next steps (steps' + first) sleeps sleeps'
+
+pub drains-new : (seen : Option ℕ) (steps sleeps : ℕ) → is_some seen ≡ true → SleptDraining seen seen steps steps sleeps sleeps
+drains-new seen steps sleeps some_it = let s = seen-some seen some_it in record { first = s.0; next = s.0; was_is = s.1; seen_is = s.1; behind = (0, omega arith, refl) }
+
+-- it saw counts zero up to the next, which wasn't, and slept
+pub drains-again : (was seen seen' : Option ℕ) (task steps now now' sleeps had had' : ℕ) → SleptDraining was seen steps now sleeps had → seen' ≡ Some task → ((n : ℕ) → seen ≡ Some n → (n < task + 1) × (now' + n ≡ now + (task + 1))) → had' ≡ one_more had → SleptDraining was seen' steps now' sleeps had'
+drains-again was seen seen' task steps now now' sleeps had had' s is looks again = let at = looks s.next s.seen_is in let more = at.1 in let so_far = s.behind.1 in record {
+  first = s.first;
+  next = task;
+  was_is = s.was_is;
+  seen_is = is;
+  behind = (suc s.behind.0, omega (arith, more, so_far), again ∙ ap one_more s.behind.2);
+}
+
+-- it saw all counts zero
+pub drains-all : (was seen : Option ℕ) (tasks steps now now' sleeps had first : ℕ) → SleptDraining was seen steps now sleeps had → was ≡ Some first → ((n : ℕ) → seen ≡ Some n → (n < tasks) × (now' + n ≡ now + tasks)) → SleepsBehind tasks steps (now' + first) sleeps had
+drains-all was seen tasks steps now now' sleeps had first s is looks = let at = looks s.next s.seen_is in let more = at.1 in let so_far = s.behind.1 in let same : s.first ≡ first = same_Some s.first first (sym s.was_is ∙ is) in
+    (s.behind.0, omega (arith, more, so_far, same), s.behind.2)
+
+-- two calls that wait, one after the other
+pub sleeps-both : (tasks steps now now' sleeps had had' : ℕ) → SleepsBehind 1 steps now sleeps had → SleepsBehind tasks now (now' + 0) had had' → SleepsBehind (tasks + 1) steps now' sleeps had'
+sleeps-both tasks steps now now' sleeps had had' s t = let a = s.1 in let b = t.1 in (t.0 + s.0, omega (arith, a, b), t.2 ∙ (ap (slept t.0) s.2 ∙ slept-on t.0 s.0 sleeps))
+
+-- what is so of an answer
+pub err-of : {A B : Type 0} {P : B → Type 0} (r : Result A B) → is_ok r ≡ false → IfErr r P → (e : B) × P e
+err-of (Ok x) failed p = absurd (not-both true failed refl)
+err-of (Err e) failed p = (e, p)
 
 -- between two tries of a call that waits
 pub idle-view : (tasks : ℕ) (v : V) → Phased tasks None v → v.hand.held ≡ No → v ≡ record v { ext = Idle }

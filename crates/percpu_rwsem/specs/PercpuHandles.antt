@@ -37,9 +37,9 @@ pub record Phased (tasks : ℕ) (seen : Option ℕ) (v : V) : Type 0 where
 abbrev pub SleepsEachTry : (more steps steps' sleeps sleeps' : ℕ) → Type 0
 SleepsEachTry more steps steps' sleeps sleeps' = (tries : ℕ) × (steps' ≡ steps + (3 * tries + more)) × (sleeps' ≡ slept tries sleeps)
 
--- the CPU slept once for each step of the pass at most, so many steps not counted
+-- the pass made so many steps, and one more for each time that the CPU slept
 abbrev pub SleepsBehind : (more steps steps' sleeps sleeps' : ℕ) → Type 0
-SleepsBehind more steps steps' sleeps sleeps' = (turns : ℕ) × (steps + (turns + more) ≤ steps') × (sleeps' ≡ slept turns sleeps)
+SleepsBehind more steps steps' sleeps sleeps' = (turns : ℕ) × (steps' ≡ steps + (turns + more)) × (sleeps' ≡ slept turns sleeps)
 
 -- A pass of this view found the counts from the first up to the next 0, in the order of their tasks, each at a step of its own since.
 abbrev pub FindsZeros : (first next : ℕ) → V → (old new : List Moment) → Type 0
@@ -116,9 +116,9 @@ module _ {O C : Type 0} where
   abbrev pub CameTo : V → PercpuPass O C → PercpuPass O C → Type 0
   CameTo v old new = (past : List Moment) × IsOwnStep v past × GoesOn (past_of old) past × GoesOn past (past_of new)
 
-  -- a step of the pass since found this number at this place
-  abbrev pub Finds : ℕ → ℕ → PercpuPass O C → PercpuPass O C → Type 0
-  Finds at n old new = inner.Finds at n old.pass new.pass
+  -- its step of this number found this number at this place
+  abbrev pub FindsAtStep : (step at n : ℕ) → PercpuPass O C → PercpuPass O C → Type 0
+  FindsAtStep step at n old new = FoundAtStep (hand_in old).task step at n (past_of old) (past_of new)
 
   -- the pass is one of the semaphore's as before, and its past goes on
   abbrev pub StepsOn : PercpuRwSem O C → PercpuPass O C → PercpuPass O C → Type 0

@@ -16,7 +16,7 @@ use std::sync::Wait;
 use word_bits::Object;
 
 impl<O: Object> PercpuRwSem<O> {
-    ghost use Rattle.percpu_rwsem.specs.PercpuHandles.{plan_of, view_of, hand_in, past_of, task_in, held_in, blocks_in, after, CameTo, Finds, IsLatest, SitsAt, SleepsEachTry, TakesSince, StepsOn};
+    ghost use Rattle.percpu_rwsem.specs.PercpuHandles.{plan_of, view_of, hand_in, past_of, task_in, held_in, blocks_in, after, CameTo, FindsAtStep, IsLatest, SitsAt, SleepsEachTry, TakesSince, StepsOn};
 
     /// Tries once to read, as `__percpu_down_read_trylock` does: two steps if it gets in, three if
     /// not. `Ok`: the pass holds shared. `Err` has the code of the task that blocks, 1 plus its
@@ -42,7 +42,8 @@ impl<O: Object> PercpuRwSem<O> {
         ensures task { task_in pass.new ≡ task_in pass.old }
         ensures names { IfErr result (λ word.
             NamesOther (plan_of self.now) (task_in pass.old) word) }
-        ensures found { IfErr result (λ word. Finds block_at word pass.old pass.new) }
+        ensures found { IfErr result (λ word.
+            FindsAtStep ((view_of pass.old).steps + 2) block_at word pass.old pass.new) }
     {
         let Some(task) = pass.pass.task() else {
             unreachable!()

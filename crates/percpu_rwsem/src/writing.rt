@@ -1,5 +1,5 @@
 //! The calls of a writer.
-ghost use Rattle.std.specs.Prelude.{◌≡◌, ◌≢◌, ◌<◌, ◌+◌, false, true, None, Some, IsSome, IfOk, IfErr, length};
+ghost use Rattle.std.specs.Prelude.{◌≡◌, ◌≢◌, ◌<◌, ◌+◌, ℕ, false, true, None, Some, IsSome, IfOk, IfErr, length};
 ghost use Rattle.lock_core.specs.declared.view.Held.TheVariants.{No, Alone};
 ghost use Rattle.lock_core.specs.Views.{first, ticked};
 ghost use Rattle.lock_core.specs.Pasts.{FoundAt};
@@ -30,6 +30,7 @@ impl<O: Object> PercpuRwSem<O> {
         ensures out { held_in pass.new ≡ No }
         ensures task { task_in pass.new ≡ task_in pass.old }
         ensures blocks { IfOk result (λ _. blocks_in pass.new ≡ true) }
+        ensures seen { IfOk result (λ _. seen_in pass.new ≡ Some 0) }
         ensures blocked { IfOk result (λ _.
             view_of pass.new ≡ after 1 (view_of pass.old) (hand_in pass.old) (Blocks 0)) }
         ensures free { IfOk result (λ _. FoundAt block_at 0 (past_of pass.new)) }
@@ -99,6 +100,7 @@ impl<O: Object> PercpuRwSem<O> {
         requires apart { blocks_in pass.old ≡ false }
         ensures on { StepsOn self.now pass.old pass.new }
         ensures blocks { blocks_in pass.new ≡ true }
+        ensures seen { seen_in pass.new ≡ Some 0 }
         ensures out { held_in pass.new ≡ No }
         ensures kept { StepsTo (Blocks 0) (view_of pass.old) (view_of pass.new) }
         ensures task { task_in pass.new ≡ task_in pass.old }
@@ -126,8 +128,9 @@ impl<O: Object> PercpuRwSem<O> {
             (Blocks (length (plan_of self.now))) (view_of pass.old) (view_of pass.new) }
         ensures holds { held_in pass.new ≡ Alone }
         ensures task { task_in pass.new ≡ task_in pass.old }
-        ensures sleeps { SleepsBehind 1 (view_of pass.old).steps (view_of pass.new).steps
-            (U.sleeps cpu.old) (U.sleeps cpu.new) }
+        ensures sleeps { (first : ℕ) → seen_in pass.old ≡ Some first →
+            SleepsBehind (length (plan_of self.now)) (view_of pass.old).steps
+            ((view_of pass.new).steps + first) (U.sleeps cpu.old) (U.sleeps cpu.new) }
     {
         for _ in rt.forever() {
             if self.drain(pass).is_ok() {
@@ -139,7 +142,8 @@ impl<O: Object> PercpuRwSem<O> {
     }
 
     /// Blocks new readers, then waits for those inside, until the pass holds alone
-    /// (`percpu_down_write`). The crew isn't asked for anything: `up_read`, `down_read` and
+    /// (`percpu_down_write`). It blocks by one step and sees each count zero by one; behind each
+    /// step that fails it sleeps once. The crew isn't asked for anything: `up_read`, `down_read` and
     /// `unblock` wake the writer.
     pub fn down_write<W: Wait, C: Crew>(
         &self,
@@ -159,7 +163,8 @@ impl<O: Object> PercpuRwSem<O> {
             (Blocks (length (plan_of self.now))) (view_of pass.old) (view_of pass.new) }
         ensures holds { held_in pass.new ≡ Alone }
         ensures task { task_in pass.new ≡ task_in pass.old }
-        ensures sleeps { SleepsBehind 2 (view_of pass.old).steps (view_of pass.new).steps
+        ensures sleeps { SleepsBehind (length (plan_of self.now) + 1)
+            (view_of pass.old).steps (view_of pass.new).steps
             (C.C.sleeps cpu.old) (C.C.sleeps cpu.new) }
     {
         self.wait_to_block(rt, pass, cpu);
