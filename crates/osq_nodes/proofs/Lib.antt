@@ -5,3 +5,4 @@ pub mod Locals
 pub mod Owning
 pub mod Sitting
 pub mod Chaining
+mod Heading

@@ -1,6 +1,7 @@
 pub mod Words
 pub mod OsqPlaces
 pub mod OsqStated
+pub mod QueueLaws
 pub mod OsqKept
 pub mod Walks
 pub mod OsqRuled

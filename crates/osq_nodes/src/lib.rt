@@ -1,6 +1,7 @@
 //! The optimistic spin queue: one front, the rest linked behind it in order.
 #![tactic(auto)]
 
+mod laws;
 pub mod layout;
 pub mod node;
 mod pass;
@@ -9,5 +10,6 @@ mod rule;
 pub mod steps;
 pub mod words;
 
+pub use laws::{missing_links_are_owed_once, queue_has_head};
 pub use pass::OsqPass;
 pub use queue::Osq;
