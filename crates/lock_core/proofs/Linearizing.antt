@@ -31,7 +31,7 @@ use Rattle.lock_core.specs.Sites.{Grows, SiteKept, SiteStep, StandsLast, ServedB
 use Rattle.lock_core.specs.Moves.{SiteMove, IsTakenIn}
 use Rattle.lock_core.specs.SiteStated.{IsNew}
 use Rattle.lock_core.specs.Pasts.{Instant, moment, steps_of, Moves, Paced, Ran, Tail}
-use Rattle.lock_core.specs.Linear.{AppliesCall, TakesEffect, IsSimulationStep, RepresentsAbstractState, LinearizesTo, IsLinearizable, StateIsThatAfterLog}
+use Rattle.lock_core.specs.Linear.{AppliesCall, TakesEffect, IsSimulationStep, RepresentsAbstractState, LinearizesTo, IsLinearizable, IsLogOf, StateIsThatAfterLog}
 use Rattle.lock_core.specs.Totals.{total, total-at, total-two}
 use Rattle.lock_core.specs.ViewParts.{Each, at_unmap}
 use Rattle.lock_core.proofs.RowLaws.{none-some, same-some, some-inside, get-there, start-below, length-task_recs, rec_words-at, task_recs-at, task_recs-none}
@@ -252,6 +252,7 @@ module _ {Call : Type 0} (o : Obj Call) (unavailable : Unavailable) (size : ℕ)
     log = r.log;
     entries = (many, r.tells.entered);
     count = omega (arith, len, many);
+    fits = fit w hs r n (omega (arith, len));
     state = stands.1;
     stored = λ none. let owed = none-owed hs (λ j h at. (none j h at).1) in
         subst (λ (x : o.State). o.Represents x (take size w.guarded)) (sym (stands.1 ∙ ap (state_after o k) (take_all n r.log (omega (arith, len, owed, many))))) (r.balances.quiet (none-writes hs (λ j h at. (none j h at).0)));
@@ -454,12 +455,15 @@ module _ {E Call : Type 0} (o : Obj Call) (unavailable : Unavailable) (size : �
         long (y ∷ x ∷ g) e is began p = let q = runs y x g p (subst (Tail (new ∷ [])) is began) in subst (IsLinearizable o size k) (sym is) (q.0, q.1, q.2)
 
 pub state_after_log : {Call : Type 0} (o : Obj Call) (size : ℕ) → StateIsThatAfterLog o size
-state_after_log {Call} o size k now past n s linear none = by past linear
+state_after_log {Call} o size k now past n s linear none log is_log = by past linear
   where
-    at_once : RepresentsAbstractState o size k (site k now.words) now.hands n s → (log : List Entry) × ((site k now.words).len ≡ length log) × (take (length log) (site k now.words).entries ≡ map entry_word log) × (n ≡ length log) × (s ≡ state_after o k log)
-    at_once is = let owed = none-owed now.hands none in let count = is.count in let all : n ≡ length is.log = omega (arith, owed, count) in
-        (is.log, is.entries.0, is.entries.1, all, is.state ∙ ap (state_after o k) (take_all n is.log (omega (arith, all))))
+    at_once : RepresentsAbstractState o size k (site k now.words) now.hands n s → (n ≡ length log) × (s ≡ state_after o k log)
+    at_once is = let owed = none-owed now.hands none in let count = is.count in let many = is_log.many in let many' = is.entries.0 in let all : n ≡ length is.log = omega (arith, owed, count) in let long : length is.log ≡ length log = omega (arith, many, many') in
+        let whole : take n is.log ≡ is.log = take_all n is.log (omega (arith, all)) in
+        let words : map entry_word is.log ≡ map entry_word log = sym is.entries.1 ∙ (ap (λ (z : ℕ). take z (site k now.words).entries) long ∙ is_log.entries) in
+        let same : is.log ≡ log = same-entries is.log log (subst Fit whole is.fits) is_log.fits words in
+        (omega (arith, all, long), is.state ∙ ap (state_after o k) (whole ∙ same))
 
-    by : (past : List Moment) → LinearizesTo o size k (now ∷ past) n s → (log : List Entry) × ((site k now.words).len ≡ length log) × (take (length log) (site k now.words).entries ≡ map entry_word log) × (n ≡ length log) × (s ≡ state_after o k log)
+    by : (past : List Moment) → LinearizesTo o size k (now ∷ past) n s → (n ≡ length log) × (s ≡ state_after o k log)
     by [] linear = at_once linear.0
     by (x ∷ past) linear = at_once linear.0

@@ -7,7 +7,7 @@ use Rattle.word_bits.specs.declared.entry.Entry.{Entry}
 use Rattle.word_bits.specs.declared.rec.Rec.{Rec}
 use Rattle.word_bits.specs.declared.reply.Reply.{Reply}
 use Rattle.word_bits.specs.declared.reply.Reply.TheVariants.{Busy, Intr, Sent}
-use Rattle.word_bits.specs.EntryWord.{entry_word}
+use Rattle.word_bits.specs.EntryWord.{IsEntry, entry_word}
 use Rattle.word_bits.specs.RecWord.{IsRec, rec_word}
 use Rattle.word_bits.specs.Objects.{Obj}
 use Rattle.word_bits.specs.Histories.{Plan, state_after}
@@ -67,6 +67,7 @@ module _ {Call : Type 0} (o : Obj Call) where
     pub log : List Entry
     pub entries : (w.len ≡ length log) × (take (length log) w.entries ≡ map entry_word log)
     pub count : n + total owed_of hs ≡ length log
+    pub fits : (j : ℕ) (e : Entry) → slice_get (take n log) j ≡ Some e → IsEntry e
     pub state : s ≡ state_after o k (take n log)
     pub stored : Each (λ h. (h.writes ≡ false) × (owed_of h ≡ 0)) hs → o.Represents s (take size w.guarded)
 
@@ -80,7 +81,13 @@ module _ {Call : Type 0} (o : Obj Call) where
   abbrev pub IsLinearizable : (size : ℕ) → Plan → List Moment → Type 0
   IsLinearizable size k past = (n : ℕ) × (s : o.State) × LinearizesTo size k past n s
 
+-- this list of entries, each of which its word tells, is what the words of the log say
+pub record IsLogOf (w : SiteWords) (log : List Entry) : Type 0 where
+  pub many : w.len ≡ length log
+  pub entries : take (length log) w.entries ≡ map entry_word log
+  pub fits : (j : ℕ) (e : Entry) → slice_get log j ≡ Some e → IsEntry e
+
 -- In a linearizable history, wherever no pass owes a record, as many changing calls have taken effect as the log has entries, and the abstract state is that after the whole log.
 abbrev pub StateIsThatAfterLog : {Call : Type 0} → (o : Obj Call) → (size : ℕ) → Type 0
 StateIsThatAfterLog o size = (k : Plan) (now : Moment) (past : List Moment) (n : ℕ) (s : o.State) → LinearizesTo o size k (now ∷ past) n s → Each (λ h. owed_of h ≡ 0) now.hands
-    → (log : List Entry) × ((site k now.words).len ≡ length log) × (take (length log) (site k now.words).entries ≡ map entry_word log) × (n ≡ length log) × (s ≡ state_after o k log)
+    → (log : List Entry) → IsLogOf (site k now.words) log → (n ≡ length log) × (s ≡ state_after o k log)
