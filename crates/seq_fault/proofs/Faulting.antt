@@ -1,5 +1,5 @@
 -- A call that reads without the lock, step by step.
-use Rattle.std.proofs.Common.{◌≡◌, ◌∙◌, ℕ, ◌+◌, ◌%◌, Bool, true, false, List, length, slice_index, Option, Some, IfSome, sym, refl, ap, subst, arith, inl, inr}
+use Rattle.std.proofs.Common.{◌≤◌, ◌≡◌, ◌∙◌, ℕ, ◌+◌, ◌%◌, Bool, true, false, List, length, slice_index, Option, Some, IfSome, sym, refl, ap, subst, arith, inl, inr}
 use Rattle.std.specs.Prelude.{Result, Ok, Err, IfOk, IfErr}
 use Rattle.word_bits.specs.declared.entry.Entry.{Entry}
 use Rattle.word_bits.specs.declared.reply.Reply.{Reply}
@@ -85,6 +85,9 @@ module _ (v u : V) (before front : ℕ) (s : Search) (known : List ℕ) (log : L
     is = r.is ∙ ap (λ (n : ℕ). record v { steps = n; ext = On when }) steps;
   }
 
+  pub gathered-two : v.steps + 2 ≤ u.steps
+  gathered-two = let steps = ap (λ (z : V). z.steps) r.is in omega (arith, steps)
+
   module _ (k : Plan) (page access : ℕ) (q : IsNextFault k v.hand page access) (learns : Learns space k v.hand known log) (state : IsPageMap (state_after space k log)) (reply : Reply) (same-page : page_of s ≡ page)
       (met : (m : PageMap) → IsPageMap m → AgreesWith (stores m) s → reply ≡ access_reply (m (page_of s)) access) where
     pub gathered-read : IsOptimisticRead k before front reply u
@@ -157,14 +160,15 @@ pub found-longer : {task : Option ℕ} {step at n : ℕ} (old middle new : List 
 found-longer old middle new f goes = record { past = f.past; by = f.by; found = f.found; after = f.after; goes_on = λ p t. goes p (f.goes_on p t) }
 
 -- both loads of the sequence word found it the same
-pub reads-at-one-word : (x u z : V) (before front : ℕ) (old middle new : List Moment) → StepsAtMost 12 x u → before % 2 ≡ 0 → FoundAtStep x.hand.task (x.steps + 1) seq_at before old middle → FoundAtStep x.hand.task (x.steps + 2) length_place front old middle
+pub reads-at-one-word : (x u z : V) (before front : ℕ) (old middle new : List Moment) → StepsAtMost 12 x u → x.steps + 2 ≤ u.steps → before % 2 ≡ 0 → FoundAtStep x.hand.task (x.steps + 1) seq_at before old middle → FoundAtStep x.hand.task (x.steps + 2) length_place front old middle
     → FoundAtStep u.hand.task (u.steps + 1) seq_at before middle new → GoesOn old middle → GoesOn middle new → z.steps ≡ u.steps + 2 → AtOneWord 0 front x z old new
-reads-at-one-word x u z before front old middle new p even first measured again goes goes' two = let steps = ap (λ (q : V). q.steps) p.is in record {
+reads-at-one-word x u z before front old middle new p least even first measured again goes goes' two = let steps = ap (λ (q : V). q.steps) p.is in record {
   word = before;
   even = even;
   first = found-longer old middle new first goes';
   measured = found-longer old middle new measured goes';
   last = p.steps + 1;
+  behind = omega (arith, steps, least);
   again = (let e : u.steps + 1 ≡ x.steps + (p.steps + 1) = omega (arith, steps) in let f : FoundAtStep x.hand.task (u.steps + 1) seq_at before middle new = subst (λ (t : Option ℕ). FoundAtStep t (u.steps + 1) seq_at before middle new) (ap (λ (q : V). q.hand.task) p.is) again in
       subst (λ (n : ℕ). FoundAtStep x.hand.task n seq_at before old new) e record { past = f.past; by = f.by; found = f.found; after = λ l t. f.after l (goes l t); goes_on = f.goes_on });
   counted = omega (arith, steps, two);
@@ -190,13 +194,14 @@ module _ (v x : V) (old middle new : List Moment) (is : x ≡ ticked (ticked v))
     first = finds-before 1 seq_at r.word r.first;
     measured = finds-before 2 length_place front r.measured;
     last = 2 + r.last;
+    behind = (let later = r.behind in omega (arith, later));
     again = finds-before r.last seq_at r.word r.again;
     counted = omega (arith, two, counted);
   }
 
 -- from an earlier past on
 pub one-word-since : (ahead front : ℕ) (v u : V) (old middle new : List Moment) → GoesOn old middle → AtOneWord ahead front v u middle new → AtOneWord ahead front v u old new
-one-word-since ahead front v u old middle new goes r = record { word = r.word; even = r.even; first = since r.first; measured = since r.measured; last = r.last; again = since r.again; counted = r.counted }
+one-word-since ahead front v u old middle new goes r = record { word = r.word; even = r.even; first = since r.first; measured = since r.measured; last = r.last; behind = r.behind; again = since r.again; counted = r.counted }
   where
     since : {task : Option ℕ} {step at n : ℕ} → FoundAtStep task step at n middle new → FoundAtStep task step at n old new
     since f = record { past = f.past; by = f.by; found = f.found; after = λ p t. f.after p (goes p t); goes_on = f.goes_on }

@@ -1,5 +1,5 @@
 -- What the steps of a table with a sequence word leave.
-use Rattle.std.specs.Prelude.{◌≡◌, ◌≢◌, ◌⊎◌, ℕ, ◌+◌, ◌%◌, ◌≤◌, Bool, false, List, length, take, slice_get, Some}
+use Rattle.std.specs.Prelude.{◌<◌, ◌≡◌, ◌≢◌, ◌⊎◌, ℕ, ◌+◌, ◌%◌, ◌≤◌, Bool, false, List, length, take, slice_get, Some}
 use Rattle.word_bits.specs.declared.entry.Entry.{Entry}
 use Rattle.word_bits.specs.declared.call.CallWords.{CallWords}
 use Rattle.word_bits.specs.declared.reply.Reply.{Reply}
@@ -97,13 +97,14 @@ pub record Faults (k : Plan) (v : V) (reply : Reply) (u : V) : Type 0 where
   pub replies : reply ≡ (meaning (state_after space k log) call).1
   pub is : u ≡ after_seen (record v { hand = record v.hand { seen = log }; steps = v.steps + loads; ext = Off }) reply
 
--- Behind so many steps, the first found an even sequence word, the next one this length of the log, and the last but one the same word.
+-- Behind so many steps, the first found an even sequence word, the next one this length of the log, and the last but one, which came behind both, the same word.
 pub record AtOneWord (ahead front : ℕ) (v u : V) (old new : List Moment) : Type 0 where
   pub word : ℕ
   pub even : word % 2 ≡ 0
   pub first : FoundAtStep v.hand.task (v.steps + (ahead + 1)) seq_at word old new
   pub measured : FoundAtStep v.hand.task (v.steps + (ahead + 2)) length_place front old new
   pub last : ℕ
+  pub behind : ahead + 2 < last
   pub again : FoundAtStep v.hand.task (v.steps + last) seq_at word old new
   pub counted : u.steps ≡ v.steps + last + 1
 

@@ -1,5 +1,5 @@
 //! What a fault reads without the lock.
-ghost use Rattle.std.specs.Prelude.{◌≡◌, ◌≢◌, ℕ, ◌+◌, ◌%◌, List, None, IsSome, IfOk, IfErr};
+ghost use Rattle.std.specs.Prelude.{◌≡◌, ◌≢◌, ◌≤◌, ℕ, ◌+◌, ◌%◌, List, None, IsSome, IfOk, IfErr};
 ghost use Rattle.lock_core.specs.declared.view.Held.TheVariants.{No};
 ghost use Rattle.lock_core.specs.Layout.{length_place};
 ghost use Rattle.lock_core.specs.SiteHandles.{IsLatest, plan_of, view_of, hand_in, past_of, task_in, held_in, done_in, front_in, SitsAt, KeepsPast, SaysSame};
@@ -76,6 +76,8 @@ pub(crate) fn read_optimistically(
     ensures last { IsLatest pass.new }
     ensures face { SaysSame pass.old pass.new }
     ensures few { StepsAtMost 12 (view_of pass.old) (view_of pass.new) }
+    ensures two { IfOk result (λ _.
+        (view_of pass.old).steps + 2 ≤ (view_of pass.new).steps) }
     ensures read { IfOk result (λ read.
         IsOptimisticRead (plan_of site.now) read.before read.front read.reply (view_of pass.new)) }
     ensures even { IfOk result (λ read. read.before % 2 ≡ 0) }

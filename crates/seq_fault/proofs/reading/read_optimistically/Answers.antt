@@ -7,7 +7,7 @@ use Rattle.vma_map.specs.SpaceLaws.{starts, called, goes_on, replies}
 use Rattle.vma_map.specs.Spaces.{space}
 use Rattle.seq_fault.specs.SeqPlays.{glance, staled}
 use Rattle.seq_fault.specs.SeqRuled.{V, seq_at}
-use Rattle.seq_fault.proofs.Faulting.{finds, gathers, gathered-few, gathered-read, told-next}
+use Rattle.seq_fault.proofs.Faulting.{finds, gathers, gathered-few, gathered-two, gathered-read, told-next}
 use Rattle.seq_fault.proofs.reading.read_optimistically.Goals as goal
 
 pub returns-then-before-eq1-clause-few : goal.returns-then-before-eq1-clause-few
@@ -54,6 +54,17 @@ returns-clause-few c =
     let s = c.search_words.new.search in
     let r = gathers v c.watch-before.new.pass.seat.me.0.view c.measure-front.new.pass.seat.me.0.view u before c.measure-front.result s b.0 b.1 b.3 c.measure-front.ensures.told c.search_words.ensures.searched in
     gathered-few v u before c.measure-front.result s b.0 b.1 r
+
+pub returns-clause-two : goal.returns-clause-two
+returns-clause-two c =
+    let v = c.args.pass.now.seat.me.0.view in
+    let before = c.watch-before.result in
+    let even : before % 2 ≡ 0 = (let n = c.if-before-eq1.false in omega (arith, n)) in
+    let b = c.watch-before.ensures.even even in
+    let u = c.search_words.new.pass.seat.me.0.view in
+    let s = c.search_words.new.search in
+    let r = gathers v c.watch-before.new.pass.seat.me.0.view c.measure-front.new.pass.seat.me.0.view u before c.measure-front.result s b.0 b.1 b.3 c.measure-front.ensures.told c.search_words.ensures.searched in
+    gathered-two v u before c.measure-front.result s b.0 b.1 r
 
 pub returns-clause-read : goal.returns-clause-read
 returns-clause-read c =

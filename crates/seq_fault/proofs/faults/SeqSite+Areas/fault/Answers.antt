@@ -31,7 +31,7 @@ returns-clause-read c =
     let front = c.validate.new.pass.face.front in
     let e = c.in-Ok.ensures in
     ok-joins c.validate.result (λ reply (t : (front ≡ c.in-Ok.read.front) × FoundAtStep u.hand.task (u.steps + 1) seq_at before pu pz) two. one-word-before v x _ _ _ c.next_fault-page.ensures.kept c.next_fault-page.ensures.goes_on front z
-    (reads-at-one-word x u z before front px pu pz c.read_optimistically.ensures.few e.even e.first (subst (λ (n : ℕ). FoundAtStep x.hand.task (x.steps + 2) length_place n px pu) (sym t.0) e.measured) t.1 c.read_optimistically.ensures.goes_on c.validate.ensures.goes_on two))
+    (reads-at-one-word x u z before front px pu pz c.read_optimistically.ensures.few e.two e.even e.first (subst (λ (n : ℕ). FoundAtStep x.hand.task (x.steps + 2) length_place n px pu) (sym t.0) e.measured) t.1 c.read_optimistically.ensures.goes_on c.validate.ensures.goes_on two))
     (ok-joins c.validate.result (λ reply same again. (same, again)) c.validate.ensures.front c.validate.ensures.again) c.validate.ensures.counted
 
 pub returns-clause-raced : goal.returns-clause-raced
