@@ -14,3 +14,4 @@ pub mod Saying
 pub mod Moving
 pub mod Recalling
 pub mod Interrupting
+mod Heading

@@ -1,2 +1,3 @@
 pub mod SpinQueueHands
 pub mod SpinQueueHandles
+pub mod QueueLaws
