@@ -1,19 +1,17 @@
 -- A pass goes on with its seat where a step changed how it holds.
-use Rattle.std.proofs.Common.{Bool, List, ◌≡◌, ◌≢◌, true, false, ℕ, ◌+◌, ◌*◌, ◌<◌, ◌≤◌, length, Option, Some, None, IfSome, refl, sym, ap, ◌∙◌, subst, arith}
+use Rattle.std.proofs.Common.{Bool, List, ◌≡◌, ◌≢◌, true, false, ℕ, ◌+◌, ◌*◌, ◌<◌, ◌≤◌, length, Option, Some, None, IfSome, refl, sym, ap, subst, arith}
 use Rattle.atomic_table.specs.Table.{Me}
 use Rattle.atomic_table.specs.Seated.{TableId}
 use Rattle.word_bits.specs.declared.entry.Entry.{Entry}
 use Rattle.word_bits.specs.Histories.{Plan}
 use Rattle.lock_core.specs.declared.view.Seen.{Seen}
-use Rattle.lock_core.specs.declared.view.Hand.{Hand}
 use Rattle.lock_core.specs.declared.view.Saw.{Saw}
-use Rattle.lock_core.specs.declared.view.Held.{Held}
 use Rattle.lock_core.specs.declared.view.Held.TheVariants.{No, Alone}
 use Rattle.lock_core.specs.declared.pass.Face.{Face}
 use Rattle.lock_core.specs.Plans.{IsSmall, calls_in}
-use Rattle.lock_core.specs.Records.{row}
 use Rattle.lock_core.specs.Views.{handed, took}
 use Rattle.lock_core.specs.SitePasses.{Sits}
+use Rattle.lock_core.proofs.Reholding.{sits-held}
 use Rattle.lock_core.specs.declared.view.View.{View}
 use Rattle.lock_core.proofs.Sitting.{sits-on}
 use Rattle.mutex_word.specs.declared.host.Turn.{Turn}
@@ -24,38 +22,6 @@ use Rattle.lock_core.proofs.RowLaws.{same-some}
 use Rattle.lock_core.proofs.HandLaws.{not-both}
 use Rattle.lock_core.specs.Holding.{missed, released}
 use Rattle.word_bits.specs.declared.TheConstants.{MAX_TASKS}
-
--- a hand that says the same of the pass but for how it holds, what it knows meanwhile and what it saw
-pub record SameButHold (h g : Hand) : Type 0 where
-  pub plan : g.plan ≡ h.plan
-  pub task : g.task ≡ h.task
-  pub done : g.done ≡ h.done
-  pub seen : g.seen ≡ h.seen
-  pub stage : g.stage ≡ h.stage
-  pub last : g.last ≡ h.last
-  pub writer : g.writes ≡ true → g.held ≡ Alone
-  pub nameless : g.task ≡ None → (g.held ≡ No) × (g.sent ≡ None) × (g.consumed ≡ 0)
-
-pub sits-held : {E : Type 0} (k : Plan) (table seat seat' : TableId) (me me' : Me (Unit {0}) (Seen E)) (face face' : Face) (held : Held)
-    → seat' ≡ seat → me'.1 ≡ me.1 → SameButHold me.0.view.hand me'.0.view.hand → me'.0.view.hand.held ≡ held → face' ≡ record face { held = held } → me.0.view.steps ≤ me'.0.view.steps
-    → length me'.0.view.hand.log ≤ calls_in k → ((x : Saw) → me'.0.view.hand.saw ≡ Some x → x.word < 4194304) → Sits k table seat me face → Sits k table seat' me' face'
-sits-held k table seat seat' me me' face face' held same slots hand holds says later short saw r = record {
-  own = same ∙ r.own;
-  slots = slots ∙ r.slots;
-  plan = hand.plan ∙ r.plan;
-  task = ap (λ (f : Face). f.task) says ∙ (r.task ∙ sym hand.task);
-  held = ap (λ (f : Face). f.held) says ∙ sym holds;
-  done = ap (λ (f : Face). f.done) says ∙ (r.done ∙ sym hand.done);
-  front = ap (λ (f : Face). f.front) says ∙ (r.front ∙ sym (ap length hand.seen));
-  stage = hand.stage ∙ r.stage;
-  latest = let l = r.latest in let e = hand.last in omega (arith, l, e, later);
-  short = short;
-  shorter = subst (λ (n : ℕ). n ≤ calls_in k) (sym (ap length hand.seen)) r.shorter;
-  planned = subst (λ (f : Face). (t : ℕ) → f.task ≡ Some t → (t < length k) × (f.done ≤ length (row k t))) (sym says) r.planned;
-  saw = saw;
-  writer = hand.writer;
-  nameless = hand.nameless;
-}
 
 module _ {E : Type 0} (k : Plan) (table seat seat' : TableId) (me me' : Me (Unit {0}) (Seen E)) (face face' : Face) where
   pub sits-took : (known : List ℕ) (log : List Entry) → seat' ≡ seat → me'.1 ≡ me.1 → (ext : E) → me'.0.view ≡ record (handed me.0.view (took me.0.view.hand Alone known log)) { ext = ext } → length log ≤ calls_in k → me.0.view.hand.task ≢ None → face' ≡ record face { held = Alone } → Sits k table seat me face → Sits k table seat' me' face'

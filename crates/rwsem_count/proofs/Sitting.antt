@@ -1,5 +1,5 @@
 -- A pass goes on with its seat where a step on a count changed how it holds, or its bias.
-use Rattle.std.proofs.Common.{◌≡◌, ◌≢◌, ◌∙◌, true, false, ℕ, ◌+◌, ◌<◌, ◌≤◌, List, length, Option, Some, None, IsSome, refl, sym, ap, subst, arith}
+use Rattle.std.proofs.Common.{◌≡◌, ◌≢◌, ◌∙◌, false, ℕ, ◌+◌, ◌<◌, ◌≤◌, List, length, Option, Some, None, IsSome, refl, sym, ap, subst, arith}
 use Rattle.atomic_table.specs.Table.{Me}
 use Rattle.atomic_table.specs.Seated.{TableId}
 use Rattle.word_bits.specs.LockWords.{IsLawfulCount}
@@ -10,13 +10,13 @@ use Rattle.lock_core.specs.declared.view.Seen.{Seen}
 use Rattle.lock_core.specs.declared.view.Hand.{Hand}
 use Rattle.lock_core.specs.declared.view.Saw.{Saw}
 use Rattle.lock_core.specs.declared.view.Held.{Held}
-use Rattle.lock_core.specs.declared.view.Held.TheVariants.{No, Shared, Alone}
+use Rattle.lock_core.specs.declared.view.Held.TheVariants.{No, Shared}
 use Rattle.lock_core.specs.declared.pass.Face.{Face}
 use Rattle.lock_core.specs.Plans.{calls_in}
-use Rattle.lock_core.specs.Records.{row}
 use Rattle.lock_core.specs.Views.{took}
 use Rattle.lock_core.specs.Holding.{missed, released, downgraded}
 use Rattle.lock_core.specs.SitePasses.{Sits}
+use Rattle.lock_core.proofs.Reholding.{sits-view}
 use Rattle.lock_core.specs.Pasts.{unseen}
 use Rattle.lock_core.proofs.Sitting.{sits-on}
 use Rattle.rwsem_count.specs.CountPlays.{SeenBy}
@@ -33,50 +33,13 @@ some-number None is = absurd (not-both false refl is)
 pub has-number : (task own : Option ℕ) → own ≡ task → IsSome own → task ≢ None
 has-number task own same is none = not-both false refl (subst IsSome (same ∙ none) is)
 
--- a hand that says the same of the pass but for how it holds, what it knows meanwhile and what it saw
-pub record SameButHold (h g : Hand) : Type 0 where
-  pub plan : g.plan ≡ h.plan
-  pub task : g.task ≡ h.task
-  pub done : g.done ≡ h.done
-  pub seen : g.seen ≡ h.seen
-  pub stage : g.stage ≡ h.stage
-  pub last : g.last ≡ h.last
-  pub writer : g.writes ≡ true → g.held ≡ Alone
-  pub nameless : g.task ≡ None → (g.held ≡ No) × (g.sent ≡ None) × (g.consumed ≡ 0)
-
 module _ {E : Type 0} (k : Plan) (table seat seat' : TableId) (me me' : Me (Unit {0}) (Seen E)) (face face' : Face) where
-  pub sits-held : (held : Held) → seat' ≡ seat → me'.1 ≡ me.1 → SameButHold me.0.view.hand me'.0.view.hand → me'.0.view.hand.held ≡ held → face' ≡ record face { held = held } → me.0.view.steps ≤ me'.0.view.steps
-      → length me'.0.view.hand.log ≤ calls_in k → ((x : Saw) → me'.0.view.hand.saw ≡ Some x → x.word < 4194304) → Sits k table seat me face → Sits k table seat' me' face'
-  sits-held held same slots hand holds says later short saw r = record {
-    own = same ∙ r.own;
-    slots = slots ∙ r.slots;
-    plan = hand.plan ∙ r.plan;
-    task = ap (λ (f : Face). f.task) says ∙ (r.task ∙ sym hand.task);
-    held = ap (λ (f : Face). f.held) says ∙ sym holds;
-    done = ap (λ (f : Face). f.done) says ∙ (r.done ∙ sym hand.done);
-    front = ap (λ (f : Face). f.front) says ∙ (r.front ∙ sym (ap length hand.seen));
-    stage = hand.stage ∙ r.stage;
-    latest = let l = r.latest in let e = hand.last in omega (arith, l, e, later);
-    short = short;
-    shorter = subst (λ (n : ℕ). n ≤ calls_in k) (sym (ap length hand.seen)) r.shorter;
-    planned = subst (λ (f : Face). (t : ℕ) → f.task ≡ Some t → (t < length k) × (f.done ≤ length (row k t))) (sym says) r.planned;
-    saw = saw;
-    writer = hand.writer;
-    nameless = hand.nameless;
-  }
-
-  -- a view whose hand is known
-  sits-view : (view : View E) → me'.0.view ≡ view → seat' ≡ seat → me'.1 ≡ me.1 → SameButHold me.0.view.hand view.hand → face' ≡ record face { held = view.hand.held } → me.0.view.steps ≤ view.steps → length view.hand.log ≤ calls_in k → ((x : Saw) → view.hand.saw ≡ Some x → x.word < 4194304)
-      → Sits k table seat me face → Sits k table seat' me' face'
-  sits-view view is same slots hand says later short saw r = subst (λ (v : View E). SameButHold me.0.view.hand v.hand → face' ≡ record face { held = v.hand.held } → me.0.view.steps ≤ v.steps → length v.hand.log ≤ calls_in k → ((x : Saw) → v.hand.saw ≡ Some x → x.word < 4194304) → Sits k table seat' me' face') is
-      (λ h s l n w. sits-held me'.0.view.hand.held same slots h refl s l n w r) hand says later short saw
-
   small-saw : (word step : ℕ) → IsLawfulCount word → (x : Saw) → Some (record { word = word; step = step }) ≡ Some x → x.word < 4194304
   small-saw word step lawful x is = let low = lawful.0 in let high = lawful.1 in let e : word ≡ x.word = ap (λ (y : Saw). y.word) (same-some (record { word = word; step = step }) x is) in omega arith
 
   -- a failed try, whatever else it changes
   pub sits-missed : (word steps step : ℕ) (ext : E) → me'.0.view ≡ record me.0.view { hand = missed me.0.view.hand word step; steps = steps; ext = ext } → me.0.view.steps ≤ steps → IsLawfulCount word → seat' ≡ seat → me'.1 ≡ me.1 → face' ≡ face → Sits k table seat me face → Sits k table seat' me' face'
-  sits-missed word steps step ext view later lawful same slots says r = sits-view (record me.0.view { hand = missed me.0.view.hand word step; steps = steps; ext = ext }) view same slots record { plan = refl; task = refl; done = refl; seen = refl; stage = refl; last = refl; writer = r.writer; nameless = r.nameless }
+  sits-missed word steps step ext view later lawful same slots says r = sits-view k table seat seat' me me' face face' (record me.0.view { hand = missed me.0.view.hand word step; steps = steps; ext = ext }) view same slots record { plan = refl; task = refl; done = refl; seen = refl; stage = refl; last = refl; writer = r.writer; nameless = r.nameless }
       (says ∙ ap (λ (z : Held). record face { held = z }) r.held) later r.short (small-saw word step lawful) r
 
   -- a try that saw a count

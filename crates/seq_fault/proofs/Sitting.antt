@@ -1,79 +1,21 @@
 -- A pass goes on with its seat where a step changed how it holds.
-use Rattle.std.proofs.Common.{◌≡◌, ◌≢◌, ◌∙◌, true, false, ℕ, ◌+◌, ◌<◌, ◌≤◌, List, length, Option, Some, None, IsSome, refl, sym, ap, subst, arith}
+use Rattle.std.proofs.Common.{◌≡◌, ◌∙◌, true, ℕ, ◌+◌, ◌<◌, ◌≤◌, length, Some, None, sym, ap, subst, arith}
 use Rattle.atomic_table.specs.Table.{Me}
 use Rattle.atomic_table.specs.Seated.{TableId}
-use Rattle.word_bits.specs.declared.entry.Entry.{Entry}
 use Rattle.word_bits.specs.Histories.{Plan}
 use Rattle.lock_core.specs.declared.view.View.{View}
 use Rattle.lock_core.specs.declared.view.Seen.{Seen}
 use Rattle.lock_core.specs.declared.view.Hand.{Hand}
 use Rattle.lock_core.specs.declared.view.Saw.{Saw}
-use Rattle.lock_core.specs.declared.view.Held.{Held}
 use Rattle.lock_core.specs.declared.view.Held.TheVariants.{No, Alone}
 use Rattle.lock_core.specs.declared.pass.Face.{Face}
 use Rattle.lock_core.specs.Plans.{calls_in}
 use Rattle.lock_core.specs.Records.{row}
-use Rattle.lock_core.specs.Views.{took}
-use Rattle.lock_core.specs.Holding.{released}
 use Rattle.lock_core.specs.SitePasses.{Sits}
-use Rattle.lock_core.proofs.HandLaws.{no-alone, not-both}
 use Rattle.seq_fault.specs.declared.view.Glance.{Glance}
 use Rattle.seq_fault.specs.SeqPlays.{saw_log}
 
-pub some-number : (task : Option ℕ) → IsSome task → (t : ℕ) × (task ≡ Some t)
-some-number (Some t) is = (t, refl)
-some-number None is = absurd (not-both false refl is)
-
-pub has-number : (task own : Option ℕ) → own ≡ task → IsSome own → task ≢ None
-has-number task own same is none = not-both false refl (subst IsSome (same ∙ none) is)
-
--- a hand that says the same of the pass but for how it holds, what it knows meanwhile and what it saw
-pub record SameButHold (h g : Hand) : Type 0 where
-  pub plan : g.plan ≡ h.plan
-  pub task : g.task ≡ h.task
-  pub done : g.done ≡ h.done
-  pub seen : g.seen ≡ h.seen
-  pub stage : g.stage ≡ h.stage
-  pub last : g.last ≡ h.last
-  pub writer : g.writes ≡ true → g.held ≡ Alone
-  pub nameless : g.task ≡ None → (g.held ≡ No) × (g.sent ≡ None) × (g.consumed ≡ 0)
-
 module _ {E : Type 0} (k : Plan) (table seat seat' : TableId) (me me' : Me (Unit {0}) (Seen E)) (face face' : Face) where
-  pub sits-held : (held : Held) → seat' ≡ seat → me'.1 ≡ me.1 → SameButHold me.0.view.hand me'.0.view.hand → me'.0.view.hand.held ≡ held → face' ≡ record face { held = held } → me.0.view.steps ≤ me'.0.view.steps
-      → length me'.0.view.hand.log ≤ calls_in k → ((x : Saw) → me'.0.view.hand.saw ≡ Some x → x.word < 4194304) → Sits k table seat me face → Sits k table seat' me' face'
-  sits-held held same slots hand holds says later short saw r = record {
-    own = same ∙ r.own;
-    slots = slots ∙ r.slots;
-    plan = hand.plan ∙ r.plan;
-    task = ap (λ (f : Face). f.task) says ∙ (r.task ∙ sym hand.task);
-    held = ap (λ (f : Face). f.held) says ∙ sym holds;
-    done = ap (λ (f : Face). f.done) says ∙ (r.done ∙ sym hand.done);
-    front = ap (λ (f : Face). f.front) says ∙ (r.front ∙ sym (ap length hand.seen));
-    stage = hand.stage ∙ r.stage;
-    latest = let l = r.latest in let e = hand.last in omega (arith, l, e, later);
-    short = short;
-    shorter = subst (λ (n : ℕ). n ≤ calls_in k) (sym (ap length hand.seen)) r.shorter;
-    planned = subst (λ (f : Face). (t : ℕ) → f.task ≡ Some t → (t < length k) × (f.done ≤ length (row k t))) (sym says) r.planned;
-    saw = saw;
-    writer = hand.writer;
-    nameless = hand.nameless;
-  }
-
-  -- a view whose hand is known
-  sits-view : (view : View E) → me'.0.view ≡ view → seat' ≡ seat → me'.1 ≡ me.1 → SameButHold me.0.view.hand view.hand → face' ≡ record face { held = view.hand.held } → me.0.view.steps ≤ view.steps → length view.hand.log ≤ calls_in k → ((x : Saw) → view.hand.saw ≡ Some x → x.word < 4194304)
-      → Sits k table seat me face → Sits k table seat' me' face'
-  sits-view view is same slots hand says later short saw r = subst (λ (v : View E). SameButHold me.0.view.hand v.hand → face' ≡ record face { held = v.hand.held } → me.0.view.steps ≤ v.steps → length v.hand.log ≤ calls_in k → ((x : Saw) → v.hand.saw ≡ Some x → x.word < 4194304) → Sits k table seat' me' face') is
-      (λ h s l n w. sits-held me'.0.view.hand.held same slots h refl s l n w r) hand says later short saw
-
-  pub sits-took : (held : Held) (known : List ℕ) (log : List Entry) (ext : E) → me'.0.view ≡ record me.0.view { hand = took me.0.view.hand held known log; steps = me.0.view.steps + 1; ext = ext } → length log ≤ calls_in k → face.held ≡ No → IsSome face.task → seat' ≡ seat → me'.1 ≡ me.1 → face' ≡ record face { held = held }
-      → Sits k table seat me face → Sits k table seat' me' face'
-  sits-took held known log ext view short out numbered same slots says r = sits-view (record me.0.view { hand = took me.0.view.hand held known log; steps = me.0.view.steps + 1; ext = ext }) view same slots
-      record { plan = refl; task = refl; done = refl; seen = refl; stage = refl; last = refl; writer = λ w. no-alone (sym out ∙ (r.held ∙ r.writer w)); nameless = λ bare. absurd (has-number me.0.view.hand.task face.task r.task numbered bare) } says (omega arith) short r.saw r
-
-  pub sits-released : (word : ℕ) (ext : E) → me'.0.view ≡ record me.0.view { hand = released me.0.view.hand word; steps = me.0.view.steps + 1; ext = ext } → me.0.view.hand.writes ≡ false → seat' ≡ seat → me'.1 ≡ me.1 → face' ≡ record face { held = No } → Sits k table seat me face → Sits k table seat' me' face'
-  sits-released word ext view quiet same slots says r = sits-view (record me.0.view { hand = released me.0.view.hand word; steps = me.0.view.steps + 1; ext = ext }) view same slots
-      record { plan = refl; task = refl; done = refl; seen = refl; stage = refl; last = refl; writer = λ w. not-both me.0.view.hand.writes quiet w; nameless = λ bare. let n = r.nameless bare in (refl, n.1, n.2) } says (omega arith) (omega arith) r.saw r
-
   -- it has seen the log of a moment at which it looked
   pub sits-saw : (g : Glance) (ext : E) (front : ℕ) → me'.0.view ≡ record me.0.view { hand = saw_log me.0.view.hand g; steps = me.0.view.steps + 1; ext = ext } → length g.log ≤ calls_in k → length g.log ≡ front → seat' ≡ seat → me'.1 ≡ me.1 → face' ≡ record face { front = front } → Sits k table seat me face → Sits k table seat' me' face'
   sits-saw g ext front view within far same slots says r = let hand : me'.0.view.hand ≡ saw_log me.0.view.hand g = ap (λ (v : View E). v.hand) view in let steps : me'.0.view.steps ≡ me.0.view.steps + 1 = ap (λ (v : View E). v.steps) view in record {

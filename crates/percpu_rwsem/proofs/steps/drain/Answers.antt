@@ -4,7 +4,7 @@ use Rattle.lock_core.specs.declared.pass.Face.{Face}
 use Rattle.lock_core.specs.declared.view.Held.TheVariants.{Alone}
 use Rattle.lock_core.specs.Pasts.{IsOwnStep, Tail}
 use Rattle.percpu_rwsem.specs.declared.view.Phase.TheVariants.{Blocks}
-use Rattle.percpu_rwsem.proofs.Sitting.{sits-took}
+use Rattle.lock_core.proofs.Reholding.{sits-took}
 use Rattle.percpu_rwsem.proofs.Having.{has-count}
 use Rattle.percpu_rwsem.proofs.Stepping.{drains-at}
 use Rattle.percpu_rwsem.proofs.steps.drain.Goals as goal

@@ -4,7 +4,7 @@ use Rattle.lock_core.specs.declared.view.Held.TheVariants.{No}
 use Rattle.lock_core.specs.Pasts.{FoundAt, IsOwnStep, Tail}
 use Rattle.percpu_rwsem.specs.declared.view.Phase.TheVariants.{Idle}
 use Rattle.percpu_rwsem.specs.PercpuRuled.{count_at}
-use Rattle.percpu_rwsem.proofs.Sitting.{sits-released}
+use Rattle.lock_core.proofs.Reholding.{sits-released}
 use Rattle.percpu_rwsem.proofs.Having.{has-count}
 use Rattle.percpu_rwsem.proofs.Stepping.{ends-at}
 use Rattle.percpu_rwsem.proofs.steps.end_read.Goals as goal

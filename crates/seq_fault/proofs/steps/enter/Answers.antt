@@ -3,7 +3,7 @@ use Rattle.lock_core.proofs.Sitting.{sits-on}
 use Rattle.lock_core.specs.declared.pass.Face.{Face}
 use Rattle.lock_core.specs.declared.view.Held.TheVariants.{Alone}
 use Rattle.lock_core.specs.Pasts.{IsOwnStep, Tail}
-use Rattle.seq_fault.proofs.Sitting.{sits-took, some-number}
+use Rattle.lock_core.proofs.Reholding.{sits-took, some-number}
 use Rattle.seq_fault.proofs.Having.{has-sequence}
 use Rattle.seq_fault.proofs.Stepping.{enters}
 use Rattle.seq_fault.proofs.steps.enter.Goals as goal

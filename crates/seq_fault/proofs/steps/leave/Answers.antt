@@ -2,7 +2,7 @@ use Rattle.std.proofs.Common.{◌∙◌, ap, subst, sym, length}
 use Rattle.lock_core.specs.declared.pass.Face.{Face}
 use Rattle.lock_core.specs.declared.view.Held.TheVariants.{No}
 use Rattle.lock_core.specs.Pasts.{IsOwnStep, Tail}
-use Rattle.seq_fault.proofs.Sitting.{sits-released}
+use Rattle.lock_core.proofs.Reholding.{sits-released}
 use Rattle.seq_fault.proofs.Having.{has-sequence}
 use Rattle.seq_fault.proofs.Stepping.{leaves}
 use Rattle.seq_fault.proofs.steps.leave.Goals as goal
