@@ -36,7 +36,7 @@ object-kind Intr i = absurd i
 object-kind Sent i = absurd i
 
 -- each call has a place of its own among all records
-start-same : {X : Type 0} (xss : List (List X)) (t u c d : ℕ) → c < length (row xss t) → d < length (row xss u) → start xss t + c ≡ start xss u + d → (t ≡ u) × (c ≡ d)
+pub start-same : {X : Type 0} (xss : List (List X)) (t u c d : ℕ) → c < length (row xss t) → d < length (row xss u) → start xss t + c ≡ start xss u + d → (t ≡ u) × (c ≡ d)
 start-same [] t u c d l m e = absurd (omega (arith, l))
 start-same (xs ∷ xss) zero zero c d l m e = (refl, omega (arith, e))
 start-same (xs ∷ xss) zero (suc u) c d l m e = absurd (omega (arith, l, e))
@@ -44,7 +44,7 @@ start-same (xs ∷ xss) (suc t) zero c d l m e = absurd (omega (arith, m, e))
 start-same (xs ∷ xss) (suc t) (suc u) c d l m e = let r = start-same xss t u c d l m (omega (arith, e)) in (ap suc r.0, r.1)
 
 -- a list that is set at one place has something else than 0 there only where it had it before, or where it is set
-set-at : (xs : List ℕ) (i j x : ℕ) → get_or (set xs i x) j 0 ≢ 0 → ((j ≡ i) × (get_or (set xs i x) j 0 ≡ x)) ⊎ ((j ≢ i) × (get_or (set xs i x) j 0 ≡ get_or xs j 0))
+pub set-at : (xs : List ℕ) (i j x : ℕ) → get_or (set xs i x) j 0 ≢ 0 → ((j ≡ i) × (get_or (set xs i x) j 0 ≡ x)) ⊎ ((j ≢ i) × (get_or (set xs i x) j 0 ≡ get_or xs j 0))
 set-at xs i j x some_it = dite (ℕ_discrete j i) (λ is. inl (is, here xs i j x is some_it)) (λ not_it. inr (not_it, get_or-set_other xs i j x 0 not_it))
   where
     here : (xs : List ℕ) (i j x : ℕ) → j ≡ i → get_or (set xs i x) j 0 ≢ 0 → get_or (set xs i x) j 0 ≡ x

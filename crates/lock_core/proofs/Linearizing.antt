@@ -96,7 +96,7 @@ module _ {V : Type 0} (f : V → ℕ) where
   total-beside (v ∷ vs) (u ∷ us) l same new = let a = same zero v u refl refl in let b = total-beside vs us (omega (arith, l)) (λ j x y e e'. same (suc j) x y e e') (λ j y m at. new (suc j) y (omega (arith, m)) at) in omega (arith, a, b)
 
   -- the same but for one, whose weight changes
-  total-moves : (vs us : List V) (id : ℕ) (v u : V) → get_elem? vs id ≡ some v → get_elem? us id ≡ some u → length vs ≤ length us → ((j : ℕ) (x y : V) → j ≢ id → get_elem? vs j ≡ some x → get_elem? us j ≡ some y → f y ≡ f x)
+  pub total-moves : (vs us : List V) (id : ℕ) (v u : V) → get_elem? vs id ≡ some v → get_elem? us id ≡ some u → length vs ≤ length us → ((j : ℕ) (x y : V) → j ≢ id → get_elem? vs j ≡ some x → get_elem? us j ≡ some y → f y ≡ f x)
       → ((j : ℕ) (y : V) → length vs ≤ j → get_elem? us j ≡ some y → f y ≡ 0) → total f us + f v ≡ total f vs + f u
   total-moves [] us id v u at at' l same new = absurd (some-ne-none v (sym at))
   total-moves (x ∷ vs) [] id v u at at' l same new = absurd (omega (arith, l))
@@ -125,7 +125,7 @@ held-some Alone n = refl
 
 -- Replies
 
-kind-most : (r : Reply) → kind_of r ≤ 8
+pub kind-most : (r : Reply) → kind_of r ≤ 8
 kind-most Good = omega arith
 kind-most (Num n) = omega arith
 kind-most (Refused e) = omega arith
@@ -402,7 +402,7 @@ pub rest-last : (new y x : Moment) (h : List Moment) → Tail (new ∷ []) (y �
 rest-last new y x h (zero, e) = let l = ap length e in absurd (omega (arith, l))
 rest-last new y x h (suc n, e) = (n, e)
 
-plan-or-not : (p : Option Plan) {P : Type 0} → (p ≡ None → P) → (p ≢ None → P) → P
+pub plan-or-not : (p : Option Plan) {P : Type 0} → (p ≡ None → P) → (p ≢ None → P) → P
 plan-or-not None none live = none refl
 plan-or-not (Some k) none live = live (λ e. none-some k (sym e))
 

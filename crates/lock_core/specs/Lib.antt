@@ -26,6 +26,7 @@ pub mod SpinTables
 pub mod Nestings
 pub mod SiteStated
 pub mod Linear
+pub mod Causes
 pub mod Orders
 pub mod SpinStated
 pub mod Kinds

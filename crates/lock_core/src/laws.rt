@@ -1,4 +1,7 @@
 //! Laws of histories. Each is the contract of a function that does nothing.
+ghost use Rattle.std.specs.Prelude.{ℕ};
+ghost use Rattle.lock_core.specs.Causes.{CallsHaveCauses};
+ghost use Rattle.lock_core.specs.Kinds.{Kind, unavailable};
 ghost use Rattle.lock_core.specs.Linear.{StateIsThatAfterLog};
 ghost use Rattle.lock_core.specs.Orders.{PlacesFollowLinearizationPoints};
 
@@ -15,4 +18,15 @@ pub fn places_keep_step_order<O: Object>()
 /// log, and the number that goes with it is the log's length.
 pub fn abstract_state_is_that_after_the_log<O: Object>()
     ensures { StateIsThatAfterLog O.object O.WORDS }
+{}
+
+/// A call that replied busy, interrupted or sent had its cause while it ran: its own task's pass
+/// tried in vain and saw the word, consumed a signal, or sent one, behind the task's last record
+/// on the object. The law speaks of a past that goes back to the opening, of a lock of either kind
+/// whose word stands at `word_at`.
+pub fn unavailable_calls_have_their_causes<O: Object>()
+    ensures {
+        (kind : Kind) (word_at : ℕ)
+            → CallsHaveCauses O.object (unavailable kind) O.WORDS word_at
+    }
 {}
