@@ -1,5 +1,5 @@
 -- Calls that reply busy, interrupted or sent have their causes.
-use Rattle.std.proofs.Common.{◌≡◌, ◌≢◌, ℕ, zero, suc, ◌+◌, ◌*◌, ◌^◌, ◌<◌, ◌≤◌, ◌⊎◌, ◌&&◌, ◌==◌, inl, inr, ⊎_elim, Bool, true, false, List, [], ◌∷◌, ◌++◌, length, take, drop, get_or, set, slice_get, Option, Some, None, refl, sym, ap, ◌∙◌, subst, arith, get_or-set_other}
+use Rattle.std.proofs.Common.{◌≡◌, ◌≢◌, ℕ, zero, suc, ◌+◌, ◌*◌, ◌<◌, ◌≤◌, ◌⊎◌, ◌&&◌, ◌==◌, inl, inr, ⊎_elim, Bool, List, [], ◌∷◌, ◌++◌, length, drop, get_or, set, slice_get, Option, Some, None, refl, sym, ap, ◌∙◌, subst, arith, get_or-set_other}
 use Rattle.std.proofs.lemmas.List.{get_or-drop}
 use mathlib.Core.Option.{some, some-injective, some-ne-none}
 use mathlib.Core.Logic.{dite}
@@ -13,32 +13,30 @@ use Rattle.word_bits.specs.declared.reply.Reply.TheVariants.{Good, Num, Refused,
 use Rattle.word_bits.specs.RecWord.{IsRec, rec_word, kind_of, value_of}
 use Rattle.word_bits.specs.LockWords.{Unavailable}
 use Rattle.word_bits.specs.Objects.{Obj}
-use Rattle.word_bits.specs.Histories.{Plan, Records, logs}
-use Rattle.word_bits.specs.Legal.{is_intr, signals_to, seen_after}
+use Rattle.word_bits.specs.Histories.{Plan, Records}
+use Rattle.word_bits.specs.Legal.{is_intr, signals_to}
 use Rattle.lock_core.specs.declared.layout.TheConstants.{LOCK_WORDS, LINES_AT}
 use Rattle.lock_core.specs.declared.view.Hand.{Hand}
 use Rattle.lock_core.specs.declared.view.Saw.{Saw}
-use Rattle.lock_core.specs.declared.view.Held.TheVariants.{No}
 use Rattle.lock_core.specs.declared.view.Moment.{Moment}
-use Rattle.lock_core.specs.Causes.{IsStepDuring, FailedTryDuring, RaisedDuring, IsRecordedThen, HaveCauses, CallsHaveCauses}
-use Rattle.lock_core.specs.Layout.{SiteWords, site}
+use Rattle.lock_core.specs.Causes.{IsStepDuring, FailedTryDuring, RaisedDuring, IsRecordedThen, HasCause, CallsHaveCauses}
+use Rattle.lock_core.specs.Layout.{site}
 use Rattle.lock_core.specs.Locked.{IsSiteStepWhere, SamePass, IsGone}
 use Rattle.lock_core.specs.Orders.{record_in}
 use Rattle.lock_core.specs.Pasts.{ChangesOneWord, EachMoment, Paced, Tail}
 use Rattle.lock_core.specs.Plans.{start}
-use Rattle.lock_core.specs.Records.{bit, row, is_sent, task_recs, rec_words, task_sends, sends, intrs, AreNext}
+use Rattle.lock_core.specs.Records.{bit, row, is_sent, task_recs, rec_words, task_sends, sends, intrs}
 use Rattle.lock_core.specs.Regions.{part-at}
-use Rattle.lock_core.specs.Sites.{FailsTry, KeepsSaw, SawSince, StoresRecord, WasInterrupted, HasSent, taken_at, sent_at, consumed_at}
+use Rattle.lock_core.specs.Sites.{FailsTry, KeepsSaw, SawSince, StoresRecord, taken_at, sent_at, consumed_at}
 use Rattle.lock_core.specs.SiteStated.{IsNew, IsSite, IsSiteThen}
-use Rattle.lock_core.specs.Totals.{total, total-at}
+use Rattle.lock_core.specs.Totals.{total}
 use Rattle.lock_core.specs.Views.{stranger, is_number, consumed_weight, named_of, sent_of, consumed_of}
-use Rattle.lock_core.specs.ViewParts.{Each}
 use Rattle.lock_core.proofs.Ascending.{start-same, set-at}
 use Rattle.lock_core.proofs.Linearizing.{kind-most, one-last, rest-last, plan-or-not, total-moves}
 use Rattle.lock_core.proofs.Opening.{zero-at}
 use Rattle.lock_core.proofs.Reading.{rec_word-some, recs-next, same-plan}
 use Rattle.lock_core.proofs.RowLaws.{none-some, same-some, get-front, get-behind, length-task_recs}
-use Rattle.lock_core.proofs.HandLaws.{number-or-not, is_number-here, is_number-else}
+use Rattle.lock_core.proofs.HandLaws.{is_number-here, is_number-else}
 use Rattle.lock_core.proofs.Numbering.{next-short}
 
 -- Records of equal words: as many, and as many interrupted and sent ones
@@ -241,6 +239,9 @@ module _ {Call : Type 0} (o : Obj Call) (unavailable : Unavailable) (size word_a
   abbrev KeepsSent : Moment → List Moment → Type 0
   KeepsSent m past = (j t target : ℕ) (g : Hand) → get_elem? m.hands j ≡ some g → g.task ≡ Some t → g.sent ≡ Some target → target < MAX_TASKS → RaisedDuring k past t g.done (sent_at target)
 
+  abbrev HaveCauses : Moment → List Moment → Type 0
+  HaveCauses m past = (t c : ℕ) (r : Rec) → IsRecordedThen k m t c r → HasCause k word_at past t c r.reply
+
   module _ (x y : Moment) (rx : Holds x) (ry : Holds y) (s : Goes x y) (past : List Moment) where
     own-step : (t : ℕ) → s.before.task ≡ Some t → (call : ℕ) → s.before.done ≡ call → IsStepDuring (y ∷ x ∷ past) t call x y s.before s.after
     own-step t named call done = record { rest = past; is = (0, refl); pass = s.id; before = s.at; after = s.at'; had = s.had; had_steps = s.had_steps; has_steps = s.has_steps; named = named; done = done }
@@ -359,20 +360,20 @@ module _ {Call : Type 0} (o : Obj Call) (unavailable : Unavailable) (size word_a
                 let n = rx.sent target inside_it in let m = ry.sent target inside_it in
                 let e = sends-alike target k ry.told rx.told (λ u. (rows-stay x y rx ry recs u).2 target) in omega (arith, a, b, n, m, e, none)
 
-    cause-step : KeepsTry x (x ∷ past) → KeepsConsumed x (x ∷ past) → KeepsSent x (x ∷ past) → HaveCauses k word_at (x ∷ past) x → HaveCauses k word_at (y ∷ x ∷ past) y
-    cause-step tries consumes sends_it before = record {
-      busy = λ t c word r is reply. found t c r is
-          (λ old. later-try y (x ∷ past) t c word (before.busy t c word r old reply))
+    cause-step : KeepsTry x (x ∷ past) → KeepsConsumed x (x ∷ past) → KeepsSent x (x ∷ past) → HaveCauses x (x ∷ past) → HaveCauses y (y ∷ x ∷ past)
+    cause-step tries consumes sends_it before t c r is = record {
+      busy = λ word reply. found t c r is
+          (λ old. later-try y (x ∷ past) t c word ((before t c r old).busy word reply))
           (λ q named done kind value. let same = busy-is q.rec.reply word (sym kind ∙ ap kind_of reply) (sym value ∙ ap value_of reply) in tried-then t c word named done (q.busy word same));
-      interrupted = λ t c r is reply. found t c r is
-          (λ old. later-rise y (x ∷ past) t c (consumed_at t) (before.interrupted t c r old reply))
+      interrupted = λ reply. found t c r is
+          (λ old. later-rise y (x ∷ past) t c (consumed_at t) ((before t c r old).interrupted reply))
           (λ q named done kind value. let w = q.interrupted (intr-is q.rec.reply (sym kind ∙ ap kind_of reply)) in let one = w.0 in
             later-rise y (x ∷ past) t c (consumed_at t) (subst (λ (z : ℕ). RaisedDuring k (x ∷ past) t z (consumed_at t)) done (consumes s.id t s.before s.at named (omega (arith, one)))));
-      tried = λ t c r is reply. found t c r is
-          (λ old. let q = before.tried t c r old reply in (q.0, later-try y (x ∷ past) t c q.0 q.1))
+      tried = λ reply. found t c r is
+          (λ old. let q = (before t c r old).tried reply in (q.0, later-try y (x ∷ past) t c q.0 q.1))
           (λ q named done kind value. let w = q.interrupted (intr-is q.rec.reply (sym kind ∙ ap kind_of reply)) in (w.1.0, tried-then t c w.1.0 named done w.1.1));
-      sent = λ t c r is reply. found t c r is
-          (λ old. let q = before.sent t c r old reply in (q.0, q.1, q.2, q.3, λ l. later-rise y (x ∷ past) t c (sent_at q.1) (q.4 l)))
+      sent = λ reply. found t c r is
+          (λ old. let q = (before t c r old).sent reply in (q.0, q.1, q.2, q.3, λ l. later-rise y (x ∷ past) t c (sent_at q.1) (q.4 l)))
           (λ q named done kind value. let w = q.sent (sent-is q.rec.reply (sym kind ∙ ap kind_of reply)) in
             let task = same-some q.task t (sym q.named ∙ named) in
             let plan : q.plan ≡ k = same-plan o unavailable size k s.before q.plan (rx.plans s.id s.before s.at) q.planned in
@@ -437,7 +438,7 @@ module _ {Call : Type 0} (o : Obj Call) (unavailable : Unavailable) (size word_a
 
   module _ (new : Moment) (is_new : IsNew o size k new) where
     abbrev All : Moment → List Moment → Type 0
-    All m past = KeepsTry m past × KeepsConsumed m past × KeepsSent m past × HaveCauses k word_at past m
+    All m past = KeepsTry m past × KeepsConsumed m past × KeepsSent m past × HaveCauses m past
 
     -- the one pass of a new table has seen nothing
     at-first : (m : Moment) (j : ℕ) (g : Hand) {P : Type 0} → m ≡ new → get_elem? m.hands j ≡ some g → (g ≡ stranger (Some k) [] → P) → P
@@ -452,12 +453,7 @@ module _ {Call : Type 0} (o : Obj Call) (unavailable : Unavailable) (size word_a
         λ j n t g saw at steps named seen. at-first m j g is at (λ e. none-some saw (sym (ap (λ (z : Hand). z.saw) e) ∙ seen)),
         λ j t g at named some_one. at-first m j g is at (λ e. let c = ap (λ (z : Hand). z.consumed) e in absurd (omega (arith, some_one, c))),
         λ j t target g at named sends_it inside_it. at-first m j g is at (λ e. none-some target (sym (ap (λ (z : Hand). z.sent) e) ∙ sends_it)),
-        record {
-          busy = λ t c word r recorded reply. nothing t c r recorded;
-          interrupted = λ t c r recorded reply. nothing t c r recorded;
-          tried = λ t c r recorded reply. nothing t c r recorded;
-          sent = λ t c r recorded reply. nothing t c r recorded;
-        })
+        λ t c r recorded. nothing t c r recorded)
       where
         nothing : (t c : ℕ) (r : Rec) {P : Type 0} → IsRecordedThen k m t c r → P
         nothing t c r recorded = absurd (rec_word-some r (sym recorded.recorded ∙ (ap (λ (z : Moment). record_in k z t c) is ∙ (ap (λ (z : List ℕ). get_or z (start k t + c) 0) is_new.recorded ∙ zero-at _ (start k t + c)))))

@@ -5,6 +5,7 @@ use mathlib.Core.Option.{some}
 use lib.ListN.{get_elem?}
 use Rattle.word_bits.specs.declared.call.CallWords.{CallWords}
 use Rattle.word_bits.specs.declared.rec.Rec.{Rec}
+use Rattle.word_bits.specs.declared.reply.Reply.{Reply}
 use Rattle.word_bits.specs.declared.reply.Reply.TheVariants.{Busy, Intr, Sent}
 use Rattle.word_bits.specs.Calls.{signal_of}
 use Rattle.word_bits.specs.RecWord.{IsRec, rec_word}
@@ -49,16 +50,17 @@ pub record IsRecordedThen (k : Plan) (m : Moment) (t c : ℕ) (r : Rec) : Type 0
   pub fits : IsRec r
   pub recorded : record_in k m t c ≡ rec_word r
 
--- What each call that the moment has recorded, and that didn't get the object, had as its cause in this past. Busy: a try of it failed, which saw the word that it replies. Interrupted: it consumed a signal to its task, and a try of it failed. Sent: it is a signal, and sent one to its target.
-pub record HaveCauses (k : Plan) (word_at : ℕ) (past : List Moment) (m : Moment) : Type 0 where
-  pub busy : (t c word : ℕ) (r : Rec) → IsRecordedThen k m t c r → r.reply ≡ Busy word → FailedTryDuring word_at past t c word
-  pub interrupted : (t c : ℕ) (r : Rec) → IsRecordedThen k m t c r → r.reply ≡ Intr → RaisedDuring k past t c (consumed_at t)
-  pub tried : (t c : ℕ) (r : Rec) → IsRecordedThen k m t c r → r.reply ≡ Intr → (word : ℕ) × FailedTryDuring word_at past t c word
-  pub sent : (t c : ℕ) (r : Rec) → IsRecordedThen k m t c r → r.reply ≡ Sent → (w : CallWords) × (target : ℕ) × (slice_get (row k t) c ≡ Some w) × (signal_of w ≡ Some target) × (target < MAX_TASKS → RaisedDuring k past t c (sent_at target))
+-- What a call that replied so had as its cause in this past. Busy: a try of it failed, which saw the word that it replies. Interrupted: it consumed a signal to its task, and a try of it failed. Sent: it is a signal, and sent one to its target.
+pub record HasCause (k : Plan) (word_at : ℕ) (past : List Moment) (t c : ℕ) (reply : Reply) : Type 0 where
+  pub busy : (word : ℕ) → reply ≡ Busy word → FailedTryDuring word_at past t c word
+  pub interrupted : reply ≡ Intr → RaisedDuring k past t c (consumed_at t)
+  pub tried : reply ≡ Intr → (word : ℕ) × FailedTryDuring word_at past t c word
+  pub sent : reply ≡ Sent → (w : CallWords) × (target : ℕ) × (slice_get (row k t) c ≡ Some w) × (signal_of w ≡ Some target) × (target < MAX_TASKS → RaisedDuring k past t c (sent_at target))
 
--- In the past of a table that goes back to its opening, each such call had its cause while it ran. `unheld` says whether calls may read without a hold.
+-- In the past of a table that goes back to its opening, each call that is recorded by now had its cause while it ran. `unheld` says whether calls may read without a hold.
 abbrev pub CallsHaveCauses : {Call : Type 0} → Obj Call → Unavailable → (size word_at : ℕ) → Type 0
 CallsHaveCauses o unavailable size word_at =
     (unheld : Bool) (k : Plan) (new now : Moment) (before : List Moment) → length k ≤ MAX_TASKS
     → EachMoment (IsSiteThen o unavailable size k) (now ∷ before) → Paced (IsSiteStepWhere unheld k word_at) (now ∷ before)
-    → IsNew o size k new → BeganWith new (now ∷ before) → HaveCauses k word_at (now ∷ before) now
+    → IsNew o size k new → BeganWith new (now ∷ before)
+    → (t c : ℕ) (r : Rec) → IsRecordedThen k now t c r → HasCause k word_at (now ∷ before) t c r.reply
