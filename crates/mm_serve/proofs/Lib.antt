@@ -1,3 +1,4 @@
+pub mod Causing
 pub mod Copies
 pub mod Each
 pub mod Filling

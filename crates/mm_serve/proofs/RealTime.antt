@@ -14,6 +14,7 @@ use Rattle.word_bits.specs.Objects.{Obj, IsObjectReply}
 use Rattle.word_bits.specs.Histories.{Plan, Records, Event, at_entry, changes, logs, history}
 use Rattle.lock_core.specs.declared.view.Hand.{Hand}
 use Rattle.lock_core.specs.declared.view.Moment.{Moment}
+use Rattle.lock_core.specs.Causes.{IsRecordedThen}
 use Rattle.lock_core.specs.Kinds.{Kind, unavailable}
 use Rattle.lock_core.specs.Layout.{site}
 use Rattle.lock_core.specs.Linear.{IsLinearizationPoint, IsSimulationStep, LinearizesTo}
@@ -141,9 +142,9 @@ module _ {Call : Type 0} (o : Obj Call) (kind : Kind) (size word_at : ℕ) (wait
   abbrev Latest : Moment
   Latest = knows.last.step.now
 
-  -- by the last moment each call has taken effect whose record the pass knows
-  served_now : (records : Records) (v : Event) → AreKnown u.hand records → IsEventOf k records v → IsObjectReply v.told.reply → HasTakenEffect k Latest v
-  served_now records v known is held =
+  -- by the last moment each call is recorded whose record the pass knows
+  pub recorded_now : (records : Records) (v : Event) → AreKnown u.hand records → IsEventOf k records v → IsRecordedThen k Latest v.entry.task v.entry.call v.told
+  recorded_now records v known is =
       let step = knows.last.step in
       let all = subst (EachMoment (IsLockedThen o kind size k word_at waits)) step.past_is knows.always in
       let here = all.0.is_site in
@@ -152,11 +153,16 @@ module _ {Call : Type 0} (o : Obj Call) (kind : Kind) (size word_at : ℕ) (wait
       let knows_it = subst (λ (h : Hand). Knows h v.entry v.told) (sym knows.last.hand) (known v.entry.task v.entry.call v.told told) in
       let stands = here.knows step.seat step.hand step.is v.entry v.told knows_it in
       record {
-        planned = planned;
-        recorded = ap (λ (z : List ℕ). get_or z (start k v.entry.task + v.entry.call) 0) here.records ∙ record_word k here.told v.entry.task v.entry.call v.words v.told planned stands;
+        planned = some-inside (row k v.entry.task) v.entry.call v.words planned;
         fits = recs-next o (unavailable kind) size k here.log v.entry.task 0 0 (row k v.entry.task) (row here.told v.entry.task) (here.legal v.entry.task) v.entry.call v.told stands;
-        served = held;
+        recorded = ap (λ (z : List ℕ). get_or z (start k v.entry.task + v.entry.call) 0) here.records ∙ record_word k here.told v.entry.task v.entry.call v.words v.told planned stands;
       }
+
+  -- if it held, it has taken effect
+  served_now : (records : Records) (v : Event) → AreKnown u.hand records → IsEventOf k records v → IsObjectReply v.told.reply → HasTakenEffect k Latest v
+  served_now records v known is held =
+      let now = recorded_now records v known is in
+      record { planned = at_row k v.entry.task v.entry.call v.words is.planned; recorded = now.recorded; fits = now.fits; served = held }
 
   -- a call that was recorded before another took effect before it
   took_effect_before : (records : Records) (first second : Event) → AreKnown u.hand records → IsEventOf k records first → IsEventOf k records second → IsObjectReply first.told.reply → IsObjectReply second.told.reply

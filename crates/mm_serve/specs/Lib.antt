@@ -1,3 +1,4 @@
+pub mod CallCauses
 pub mod MachineCopying
 pub mod MachineHistories
 pub mod MachineLending

@@ -3,6 +3,7 @@
 ghost use Rattle.vma_map.specs.Spaces.{space};
 ghost use Rattle.fd_table.specs.Tables.{table};
 ghost use Rattle.word_bits.specs.LockWords.{counted, owned};
+ghost use Rattle.mm_serve.specs.CallCauses.{RecalledCauses};
 ghost use Rattle.mm_serve.specs.RealTimeOrder.{KeepsRealTimeOrder, RecalledInRealTimeOrder};
 
 use fd_table::Fds;
@@ -23,4 +24,12 @@ pub fn history_keeps_real_time_order()
 pub fn recalled_history_keeps_real_time_order<A: SleepLock<Areas>, T: SleepLock<Fds>>()
     ensures space { RecalledInRealTimeOrder space counted A.kind 257 A.word_at A.waits A.opened }
     ensures table { RecalledInRealTimeOrder table owned T.kind 64 T.word_at T.waits T.opened }
+{}
+
+/// Under locks of any kind, a pass that knows the past of the object's table and each record that
+/// is told goes back to the cause of each call that replied busy, interrupted or sent. The cause
+/// lies within the call: behind its task's last record on the object.
+pub fn recalled_calls_have_their_causes<A: SleepLock<Areas>, T: SleepLock<Fds>>()
+    ensures space { RecalledCauses space A.kind 257 A.word_at A.waits A.opened }
+    ensures table { RecalledCauses table T.kind 64 T.word_at T.waits T.opened }
 {}
