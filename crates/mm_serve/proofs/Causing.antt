@@ -1,5 +1,5 @@
 -- A pass that has looked back goes back to the causes of calls that are told.
-use Rattle.std.proofs.Common.{◌≤◌, ℕ, false, List, [], ◌∷◌, length, sym, subst, Unit, tt}
+use Rattle.std.proofs.Common.{◌≤◌, ℕ, false, List, [], ◌∷◌, length, sym, subst}
 use Rattle.word_bits.specs.declared.TheConstants.{MAX_TASKS}
 use Rattle.word_bits.specs.Objects.{Obj}
 use Rattle.word_bits.specs.Histories.{Plan, Records, Event}

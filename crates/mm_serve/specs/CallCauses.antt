@@ -1,5 +1,5 @@
 -- That the calls of a machine's objects which reply busy, interrupted or sent had their causes while they ran, by what a pass knows that has looked back.
-use Rattle.std.specs.Prelude.{ℕ, ◌≤◌, List, Unit, length}
+use Rattle.std.specs.Prelude.{ℕ, ◌≤◌, List, length}
 use Rattle.word_bits.specs.declared.TheConstants.{MAX_TASKS}
 use Rattle.word_bits.specs.Objects.{Obj}
 use Rattle.word_bits.specs.Histories.{Plan, Records, Event}
