@@ -4,3 +4,4 @@ pub mod Services
 pub mod Weaker
 pub mod Telling
 pub mod ToldOrder
+pub mod ToldCauses

@@ -40,7 +40,7 @@ legal-at s object (suc i) (x ∷ ds) (w ∷ ws) (y ∷ ts) d t legal at is =
     (later.0, subst (λ (n : ℕ). IsLegalOn d.is_space (plan_of s n) t later.0.state) place later.1)
 
 -- a plan with a call has a task
-has-task : (plan : Plan) (records : Records) (v : Event) → IsEventOf plan records v → staffed plan ≡ plan
+pub has-task : (plan : Plan) (records : Records) (v : Event) → IsEventOf plan records v → staffed plan ≡ plan
 has-task [] records v is = none-some v.words is.planned
 has-task (ws ∷ plan) records v is = refl
 

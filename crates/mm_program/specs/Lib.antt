@@ -5,3 +5,4 @@ pub mod Inputs
 pub mod CommandLine
 pub mod Parsed
 pub mod ToldOrder
+pub mod ToldCauses

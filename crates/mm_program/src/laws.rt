@@ -1,4 +1,4 @@
-//! A law of the machine that the program keeps. It is the contract of a function that does nothing.
+//! Laws of the machine that the program keeps. Each is the contract of a function that does nothing.
 ghost use Rattle.vma_map.specs.Spaces.{space};
 ghost use Rattle.fd_table.specs.Tables.{table};
 ghost use Rattle.vma_map.specs.declared.areas.Areas.{Areas};
@@ -10,6 +10,7 @@ ghost use Rattle.rwsem_slow.specs.RwSemLocks.{KnowsRwSem};
 ghost use Rattle.osq_unqueue.specs.LockSpinQueues.{KnowsSpinQueue};
 ghost use Rattle.sleep_lock.specs.LockMembers.{members};
 ghost use Rattle.mm_program.specs.ProgramKept.{LockedMachine};
+ghost use Rattle.mm_program.specs.ToldCauses.{TellsCauses};
 ghost use Rattle.mm_program.specs.ToldOrder.{TellsInRealTimeOrder};
 
 use crate::locks::{SpaceLock, TableLock};
@@ -22,6 +23,20 @@ pub fn told_history_keeps_real_time_order<A: SpaceLock, T: TableLock, C: Crew>()
     ensures { (kept : LockedMachine A Areas A.Rule A.Site A.Pass A.Rule.Ext SpaceCall
         T Fds T.Rule T.Site T.Pass T.Rule.Ext TableCall C C.C) →
         TellsInRealTimeOrder
+        (members A.calls_on A.view A.sits A.spun A.kind A.word_at A.opened A.waits
+        (KnowsRwSem space 257) KnowsSpinQueue)
+        (members T.calls_on T.view T.sits T.spun T.kind T.word_at T.opened T.waits
+        (KnowsMutex table 64) KnowsSpinQueue)
+        kept }
+{}
+
+/// Each call that `top` writes as busy, interrupted or sent had its cause while it ran. Its own
+/// task tried in vain and saw the word, consumed a signal, or sent one, behind the task's last
+/// record on that object.
+pub fn told_calls_have_their_causes<A: SpaceLock, T: TableLock, C: Crew>()
+    ensures { (kept : LockedMachine A Areas A.Rule A.Site A.Pass A.Rule.Ext SpaceCall
+        T Fds T.Rule T.Site T.Pass T.Rule.Ext TableCall C C.C) →
+        TellsCauses
         (members A.calls_on A.view A.sits A.spun A.kind A.word_at A.opened A.waits
         (KnowsRwSem space 257) KnowsSpinQueue)
         (members T.calls_on T.view T.sits T.spun T.kind T.word_at T.opened T.waits
