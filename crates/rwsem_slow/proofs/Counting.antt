@@ -89,9 +89,3 @@ slept-counts s s' r r' v u (Err why) slept turns more = tt
 pub left-counts : (s s' r r' : ℕ) (v u : Shown) (result : Result How Interrupted) → IfErr result (λ _. SleepsInTurns (v.spin.entries + 2) u.spin.entries s s') → r ≤ r' → IfErr result (λ _. CountsLeaving s s' r r' v u)
 left-counts s s' r r' v u (Ok how) turns more = tt
 left-counts s s' r r' v u (Err why) turns more = (turns, more)
-
--- a step behind it takes no wait lock
-pub counts-behind : (how : How) (s s' r r' : ℕ) (v u w : Shown) → CountsWriting how s s' r r' v u → w.spin.entries ≡ u.spin.entries → CountsWriting how s s' r r' v w
-counts-behind Fast s s' r r' v u w c same = c
-counts-behind Spun s s' r r' v u w c same = c
-counts-behind Slept s s' r r' v u w c same = let turns = c.0.1 in ((c.0.0, omega (arith, turns, same), c.0.2), c.1)

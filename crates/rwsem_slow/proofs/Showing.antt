@@ -54,28 +54,6 @@ module _ (fronts swaps : ℕ) (tally : Tally) (v u : V) (p q : List Moment) (out
   writer-misses (Ok x) missed_it shut found = tt
   writer-misses (Err word) missed_it shut found = misses-by false word v.steps (omega arith) missed_it found (shut.1, shut.0)
 
--- a look after a call keeps its place in line
-pub keeps-looks : (shared : Bool) (v u w : Shown) → KeepsPlace semaphore shared count_at v u → Looks u w → PastGoesOn u w → KeepsPlace semaphore shared count_at v w
-keeps-looks shared v u w k l goes = let misses = ap (λ h. h.misses) l.0 in let fronts = l.1.1 in let entries = l.1.0 in record {
-  queues = λ more same. let q = k.queues (omega (arith, more, misses)) (sym fronts ∙ same) in elim q [
-    | inl entered ↦ inl (omega (arith, entered, entries))
-    | inr (is_shared, in_it) ↦ inr (
-      is_shared,
-      record {
-        once = misses ∙ in_it.once;
-        saw = in_it.saw;
-        is = ap (λ h. h.saw) l.0 ∙ in_it.is;
-        since = in_it.since;
-        by_now = (let n = in_it.by_now in let m = l.1.3 in omega (arith, n, m));
-        found = record { past = in_it.found.past; by = in_it.found.by; found = in_it.found.found; after = in_it.found.after; goes_on = λ p t. goes p (in_it.found.goes_on p t) };
-        opens = in_it.opens;
-        holds = let h = in_it.holds in (h.0, h.1, h.2, h.3, λ p t. goes p (h.4 p t));
-      },
-    )
-  ];
-  few = λ same. let f = k.few (sym fronts ∙ same) in omega (arith, f, misses);
-}
-
 -- a first step at which the pass failed at this word
 module _ (fronts swaps : ℕ) (tally : Tally) (word : ℕ) (v a : V) (p q : List Moment) (hand : a.hand ≡ missed v.hand word (v.steps + 1)) (steps : a.steps ≡ v.steps + 1) where
   abbrev before_it : Shown

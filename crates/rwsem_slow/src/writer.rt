@@ -16,6 +16,7 @@ use crate::leave::interrupt;
 use cpu_task::{Cpu, Crew};
 use lock_core::{How, Interrupted, Pass, Site};
 use rwsem_wake::WakeCounts;
+use rwsem_wake::hint::note_writer;
 use std::sync::Wait;
 use word_bits::Object;
 
@@ -71,6 +72,8 @@ pub fn write_in_line<O: Object, W: Wait, C: Cpu, K: Crew>(
     queue::queue(site, pass, cpu, crew, counts);
     let Err(why) = sleep::wait(site, rt, pass, cpu, counts, interruptible) else {
         queue::quit_taken(site, pass);
+        // Before the release of the wait lock, and so before the next that waits for that tries.
+        note_writer(site, pass);
         qspin_word::unlock(site, pass);
         return Ok(How::Slept);
     };

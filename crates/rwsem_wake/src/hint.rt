@@ -75,6 +75,22 @@ pub fn note_reader<H: WakeHost>(site: &Site<H>, pass: &mut Pass<H>)
     set_hint(site, pass, reader_hint(me));
 }
 
+/// Stores the hint that the pass's task writes. The kernel's `rwsem_set_owner`.
+pub fn note_writer<H: WakeHost>(site: &Site<H>, pass: &mut Pass<H>)
+    requires own { SitsAt site.now pass.old }
+    requires numbered { IsSome (task_in pass.old) }
+    ensures own { SitsAt site.now pass.new }
+    ensures goes_on { KeepsPast pass.old pass.new }
+    ensures last { IsLatest pass.new }
+    ensures face { SaysSame pass.old pass.new }
+    ensures kept { view_of pass.new ≡ ticked (view_of pass.old) }
+{
+    let Some(me) = pass.task() else {
+        unreachable!()
+    };
+    set_hint(site, pass, writer_hint(me));
+}
+
 /// Loads the hint. Answers whether it says that readers hold.
 pub fn is_reader_owned<H: WakeHost>(site: &Site<H>, pass: &mut Pass<H>) -> bool
     requires own { SitsAt site.now pass.old }

@@ -3,7 +3,7 @@ ghost use Rattle.std.specs.Prelude.{◌≡◌, ◌≤◌, ◌+◌, Bool, true, f
 ghost use Rattle.lock_core.specs.declared.how.How.TheVariants.{Spun};
 ghost use Rattle.lock_core.specs.declared.view.Held.TheVariants.{No};
 ghost use Rattle.lock_core.specs.Kinds.{semaphore};
-ghost use Rattle.lock_core.specs.Locking.{Got, Interrupts, KeepsPlace, Looks, OnlyTried, TalliesLock, TalliesSpin};
+ghost use Rattle.lock_core.specs.Locking.{Got, Interrupts, KeepsPlace, OnlyTried, TalliesLock, TalliesSpin};
 ghost use Rattle.sleep_lock.specs.Leaving.{LeavesForCpu};
 ghost use Rattle.rwsem_wake.specs.RwSemViews.{count_at};
 ghost use Rattle.rwsem_slow.specs.RwSemHandles.{shown_of, dozes_in, hand_in, KeepsFronts, KeepsMisses, KeepsWakes, SitsAt, SpunGoesOn, TakesAlone, StepsOn};
@@ -17,7 +17,7 @@ use crate::writer::{spin, write_in_line};
 use cpu_task::{Cpu, Crew};
 use lock_core::{How, Interrupted};
 use rwsem_count::steps;
-use rwsem_wake::hint::{is_reader_owned, set_hint, writer_hint};
+use rwsem_wake::hint::{is_reader_owned, note_writer};
 use std::sync::Wait;
 use word_bits::Object;
 
@@ -91,51 +91,6 @@ impl<O: Object> RwSem<O> {
         self.write_common(rt, pass, cpu, crew, true)
     }
 
-    /// Waits until the pass holds alone, or, where it is interruptible, until a signal interrupts
-    /// it. The kernel's `__down_write_common`.
-    fn write_common<W: Wait, C: Crew>(
-        &self,
-        rt: &W,
-        pass: &mut RwPass<O>,
-        cpu: &mut C::C,
-        crew: &C,
-        interruptible: bool,
-    ) -> Result<How, Interrupted>
-        requires own { SitsAt self.now pass.old }
-        requires numbered { IsSome (hand_in pass.old).task }
-        requires out { (hand_in pass.old).held ≡ No }
-        ensures on { StepsOn self.now pass.old pass.new }
-        ensures dozed { Dozes (C.C.sleeps cpu.old) (C.C.sleeps cpu.new)
-            (dozes_in pass.old) (dozes_in pass.new) }
-        ensures queue { SpunGoesOn pass.old pass.new }
-        ensures took { IfOk result (λ _. TakesAlone O.object self.now pass.old pass.new) }
-        ensures opened { IfOk result (λ how. TakesOpen how (shown_of pass.old) (shown_of pass.new)) }
-        ensures how { IfOk result (λ how. Got how (shown_of pass.old) (shown_of pass.new)) }
-        ensures interrupted { IfErr result (λ why. Interrupts semaphore false count_at why
-            (shown_of pass.old) (shown_of pass.new)) }
-        ensures asked { IfErr result (λ _. interruptible ≡ true) }
-        ensures line { (shared : Bool) → KeepsPlace semaphore shared count_at
-            (shown_of pass.old) (shown_of pass.new) }
-        ensures counts { IfOk result (λ how. CountsWriting how
-            (C.C.sleeps cpu.old) (C.C.sleeps cpu.new)
-            (C.C.rescheds cpu.old) (C.C.rescheds cpu.new)
-            (shown_of pass.old) (shown_of pass.new)) }
-        ensures slept { IfErr result (λ _. CountsLeaving (C.C.sleeps cpu.old) (C.C.sleeps cpu.new)
-            (C.C.rescheds cpu.old) (C.C.rescheds cpu.new)
-            (shown_of pass.old) (shown_of pass.new)) }
-        ensures tallied { TalliesLock result (shown_of pass.old) (shown_of pass.new) }
-        ensures left { LeavesForCpu (C.C.rescheds cpu.old) (C.C.rescheds cpu.new)
-            (shown_of pass.old) (shown_of pass.new) }
-    {
-        match self.take_alone(rt, pass, cpu, crew, interruptible) {
-            Ok(how) => {
-                self.note_writer(pass);
-                Ok(how)
-            }
-            Err(why) => Err(why),
-        }
-    }
-
     /// Spins in the queue of those that do, and as its front until a try takes, readers hold by the
     /// owner hint, or the CPU needs rescheduling. The kernel's `rwsem_can_spin_on_owner` and
     /// `rwsem_optimistic_spin`.
@@ -180,8 +135,10 @@ impl<O: Object> RwSem<O> {
         took
     }
 
-    /// Takes it by one exchange, as a spinner, or by way of the list.
-    fn take_alone<W: Wait, C: Crew>(
+    /// Waits until the pass holds alone, or, where it is interruptible, until a signal interrupts
+    /// it. It takes it by one exchange, as a spinner, or by way of the list. The kernel's
+    /// `__down_write_common`.
+    fn write_common<W: Wait, C: Crew>(
         &self,
         rt: &W,
         pass: &mut RwPass<O>,
@@ -216,6 +173,7 @@ impl<O: Object> RwSem<O> {
             (shown_of pass.old) (shown_of pass.new) }
     {
         let Err(_) = steps::write_try(&self.site, &mut pass.pass) else {
+            note_writer(&self.site, &mut pass.pass);
             return Ok(How::Fast);
         };
         if self.spin(rt, pass, cpu) {
@@ -232,20 +190,5 @@ impl<O: Object> RwSem<O> {
         );
         pass.tally.answer(got);
         got
-    }
-
-    /// Stores the hint that the pass's task writes.
-    fn note_writer(&self, pass: &mut RwPass<O>)
-        requires own { SitsAt self.now pass.old }
-        requires numbered { IsSome (hand_in pass.old).task }
-        ensures on { StepsOn self.now pass.old pass.new }
-        ensures still { KeepsWakes pass.old pass.new }
-        ensures queue { SpunGoesOn pass.old pass.new }
-        ensures kept { Looks (shown_of pass.old) (shown_of pass.new) }
-    {
-        let Some(me) = pass.pass.task() else {
-            unreachable!()
-        };
-        set_hint(&self.site, &mut pass.pass, writer_hint(me));
     }
 }

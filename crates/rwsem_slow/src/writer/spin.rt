@@ -26,7 +26,7 @@ use lock_core::{Held, Op, Pass, SPIN_ROOM, Site};
 use osq_nodes::OsqPass;
 use rwsem_count::{WRITER, has_handoff, is_locked};
 use rwsem_wake::RwSemHand;
-use rwsem_wake::hint::is_reader_owned;
+use rwsem_wake::hint::{is_reader_owned, note_writer};
 use std::marker::PhantomData;
 use std::sync::Wait;
 use word_bits::Object;
@@ -196,6 +196,9 @@ pub fn spin<O: Object, W: Wait, C: Cpu>(
     let backoff = Backoff::new();
     for _ in rt.forever() {
         if try_outside(site, rt, pass) {
+            // Before it leaves the spin queue: a writer that becomes the front then sees that one
+            // holds, and spins on.
+            note_writer(site, pass);
             return true;
         }
         // Nobody can say how long readers hold: the writer waits for them in the list, where the

@@ -6,7 +6,7 @@ use Rattle.rwsem_slow.proofs.Counting.{answers-rise}
 use Rattle.lock_core.specs.declared.how.How.TheVariants.{Spun}
 use Rattle.lock_core.specs.declared.view.Held.TheVariants.{Alone}
 use Rattle.rwsem_slow.specs.RwSemOpening.{IsOpen}
-use Rattle.rwsem_slow.proofs.Opening.{takes-behind}
+use Rattle.rwsem_slow.proofs.Opening.{takes-before, takes-behind}
 use Rattle.rwsem_slow.proofs.writer.spin.spin.Goals as goal
 
 pub returns-then-is_reader_owned-clause-saw : goal.returns-then-is_reader_owned-clause-saw
@@ -27,5 +27,6 @@ pub returns-then-need_resched-clause-rescheds : goal.returns-then-need_resched-c
 returns-then-need_resched-clause-rescheds g c = let same = c.loop.invariant.9 in let more = answers-rise (g.C.Cpu.rescheds c.loop.cpu) (g.C.Cpu.rescheds c.need_resched.new.self) c.need_resched.result c.need_resched.ensures.rescheds in omega (arith, same, more)
 
 pub returns-then-try_outside-clause-opened : goal.returns-then-try_outside-clause-opened
-returns-then-try_outside-clause-opened g c = λ _. let on = c.loop.invariant.2 in
-    takes-behind c.args.site.now Alone (IsOpen Spun) c.args.pass.now c.loop.pass c.try_outside.new.pass c.requires.own on.own on.task on.steps on.goes_on (c.try_outside.ensures.opened c.if-try_outside.true)
+returns-then-try_outside-clause-opened g c = λ _. let on = c.loop.invariant.2 in let noted = ap (λ (z : V). z.steps) c.note_writer.ensures.kept in
+    takes-before c.args.site.now Alone (IsOpen Spun) c.args.pass.now c.try_outside.new.pass c.note_writer.new.pass (takes-behind c.args.site.now Alone (IsOpen Spun) c.args.pass.now c.loop.pass c.try_outside.new.pass c.requires.own on.own on.task on.steps on.goes_on (c.try_outside.ensures.opened c.if-try_outside.true))
+    (omega (arith, noted)) c.note_writer.ensures.goes_on
