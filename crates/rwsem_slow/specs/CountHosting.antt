@@ -136,4 +136,4 @@ module _ {Call : Type 0} (o : Obj Call) (size : ℕ) where
       (subst (λ (z : SemWords). KeepsHandoff id (count_in ws) q (marks_in ws) (grants_in ws) ps z.0 z.1 z.2 (set ps id u)) (sym words) hands)
       (subst (λ (z : List ℕ). Duties (wake_words ws) z q (set vs id (based biased v h b))) (sym grants) (number-or-not v.hand.task (λ out. absurd (step.numbered out)) (λ own has.
       duties-counted (wake_words ws) (grants_in ws) (marks_in ws) (count_in ws) n q vs id v (r.duty, r.staged) at r.sem h b kept may step.task own has (let f = move.flags in omega (arith, f)) step.left)))
-      (subst (λ (z : ℕ). WakesGo (count_in ws) z q Stay (grants_in ws) (wake_words ws) (wake_words ws) (holds_in v.spin) (seen v) u (wake_stands v.ext.wake) (wake_stands (biased v h b).wake)) (sym word) (count-goes (count_in ws) n q (grants_in ws) (wake_words ws) (holds_in v.spin) (seen v) u v.ext.wake h.freed step.left may.5)) there
+      (subst (λ (z : ℕ). WakesGo (count_in ws) z q Stay (grants_in ws) (wake_words ws) (wake_words ws) (holds_in v.spin) (seen v) u (wake_stands v.ext.wake) (wake_stands (biased v h b).wake)) (sym word) (count-goes (count_in ws) n q (grants_in ws) (wake_words ws) (holds_in v.spin) (seen v) u v.ext.wake h.freed step.left may.5 may.6)) there

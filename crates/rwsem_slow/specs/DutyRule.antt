@@ -69,7 +69,7 @@ staged-goes n n' q grants grants' sees v u b w ok kind = elim kind [
   | inl (same, inl keeps) ↦ keeps-stage keeps.stage keeps.late keeps.wake
   | inl (same, inr (inl (only, clear, none, is, _))) ↦ staged-rest u w (Overdue (n / 4 % 2 == 1)) (ap (λ (z : SemPart). z.sem.stage) is) refl (inr refl)
   | inl (same, inr (inr (inl (only, bias, none, is, _)))) ↦ staged-rest u w Rest (ap (λ (z : SemPart). z.sem.stage) is) refl (inl (ap overdue_of is))
-  | inl (same, inr (inr (inr (inl (only, bias, is, _))))) ↦ staged-rest u w Rest (ap (λ (z : SemPart). z.sem.stage) is) refl (inl (ap overdue_of is))
+  | inl (same, inr (inr (inr (inl (only, bias, _, is, _))))) ↦ staged-rest u w Rest (ap (λ (z : SemPart). z.sem.stage) is) refl (inl (ap overdue_of is))
   | inl (same, inr (inr (inr (inr (inl (is, late, _)))))) ↦ record {
     joining = λ x e. absurd (let a : took_weight Took ≡ took_weight (Joining x) = ap took_weight (sym (ap (λ (z : SemPart). z.sem.stage) is) ∙ e) in omega (arith, a));
     first = λ e. absurd (let a : took_weight Took ≡ took_weight First = ap took_weight (sym (ap (λ (z : SemPart). z.sem.stage) is) ∙ e) in omega (arith, a));

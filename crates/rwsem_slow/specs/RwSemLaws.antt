@@ -35,7 +35,7 @@ use Rattle.rwsem_count.specs.Counts.{HandStep}
 use Rattle.rwsem_count.specs.Numbers.{few-numbers, number_weight as number_in}
 use Rattle.rwsem_wake.specs.declared.view.SemHand.{SemHand}
 use Rattle.rwsem_wake.specs.declared.view.Stage.TheVariants.{Rest}
-use Rattle.rwsem_wake.specs.SemParts.{SemPart, apart_hand, busy_of, busy_weight, nobody}
+use Rattle.rwsem_wake.specs.SemParts.{SemPart, apart_hand, busy_of, busy_weight, nobody, transit_of, transit_weight}
 use Rattle.rwsem_wake.specs.GrantSemaphores.{SemKept, batch_weight, number_of, number_weight}
 use Rattle.rwsem_wake.specs.Handoffs.{KeepsHandoff, reads_as}
 use Rattle.rwsem_wake.specs.Grants.{stirred}
@@ -200,8 +200,8 @@ module _ {Call : Type 0} (o : Obj Call) (size : ℕ) where
       Wakes us c u = WakesGo (count_in ws) (count_in us) q c (grants_in ws) (wake_words ws) (wake_words us) (holds_in v.spin) (seen v) (seen u) (wake_stands v.ext.wake) (wake_stands u.ext.wake)
 
       -- it leaves all of that
-      pub stays-awake : (u : V) → u.ext.wake ≡ v.ext.wake → Wakes ws Stay u
-      stays-awake u same = subst (λ (z : SemWake). WakesGo (count_in ws) (count_in ws) q Stay (grants_in ws) (wake_words ws) (wake_words ws) (holds_in v.spin) (seen v) (seen u) (wake_stands v.ext.wake) (wake_stands z)) (sym same) (still-goes (count_in ws) (count_in ws) q (grants_in ws) (wake_words ws) (holds_in v.spin) (seen v) (seen u) v.ext.wake)
+      pub stays-awake : (u : V) → u.hand.held ≡ v.hand.held → u.ext.sem ≡ v.ext.sem → u.ext.wake ≡ v.ext.wake → Wakes ws Stay u
+      stays-awake u held sem same = subst (λ (z : SemWake). WakesGo (count_in ws) (count_in ws) q Stay (grants_in ws) (wake_words ws) (wake_words ws) (holds_in v.spin) (seen v) (seen u) (wake_stands v.ext.wake) (wake_stands z)) (sym same) (still-goes (count_in ws) (count_in ws) q (grants_in ws) (wake_words ws) (holds_in v.spin) (seen v) (seen u) v.ext.wake (inr (inr (held, (let e : transit_of (seen u) ≡ transit_of (seen v) = ap (λ (s : SemHand). transit_weight s.bias) sem in omega (arith, e))))))
 
       -- a step, and all that it leaves
       pub goes : (us : List ℕ) (vs' : List V) (c : Change) → length us ≡ width k → Site k us (map hand_of vs') → SiteMove id (count_in ws) (site k ws) vs (site k us) vs' → (u : V) → get_elem? vs' id ≡ some u → SpinMoves id (spin_words ws) (map spin_part vs) (spin_words us) (map spin_part vs') → ListKept (list_words us) (changed c q) (map parted vs')
@@ -277,7 +277,7 @@ module _ {Call : Type 0} (o : Obj Call) (size : ℕ) where
           | inr p ↦ duties-rename (wake_words ws) (grants_in ws) q vs id v (r.duty, r.staged) at w same.0 refl refl p.1.0 (quiet-apart (wake_words ws) (grants_in ws) q vs id v (r.duty, r.staged) at v p.1.0 p.1.1)
         ]
       ])
-      (set_part seen (Hands id (sem_words ws) q (map seen vs) (sem_words ws)) vs id w both.1) same.0 refl refl (λ other. absurd (other same.2.0)) (stays-awake k ws vs q r id v at w refl)
+      (set_part seen (Hands id (sem_words ws) q (map seen vs) (sem_words ws)) vs id w both.1) same.0 refl refl (λ other. absurd (other same.2.0)) (stays-awake k ws vs q r id v at w same.0 refl refl)
     where
       lock : (s : SpinHand) → SpinStays v.spin s → busy_weight v.ext.sem.stage ≤ holds_in v.spin → busy_weight v.ext.sem.stage ≤ holds_in s
       lock s stays l = let e : holds_in s ≡ holds_in v.spin = ⊎_elim (λ e. ap holds_in e) (λ e. ap holds_in e) stays in omega (arith, e, l)
@@ -295,7 +295,7 @@ module _ {Call : Type 0} (o : Obj Call) (size : ℕ) where
       (keep_part seen (Sem (sem_words ws) q) vs id v w at refl r.sem)
       (each-set IsLocked IsLocked vs id w (lock (r.locked id v at)) (λ j x _ _ p. p) r.locked)
       (duties-stay (wake_words ws) (grants_in ws) q vs id v (r.duty, r.staged) at w refl refl refl refl)
-      (hands-same k ws vs q r id v at (set vs id w) (keep_part seen (λ z. z ≡ map seen vs) vs id v w at refl refl)) refl refl refl (λ other. absurd (other refl)) (stays-awake k ws vs q r id v at w refl)
+      (hands-same k ws vs q r id v at (set vs id w) (keep_part seen (λ z. z ≡ map seen vs) vs id v w at refl refl)) refl refl refl (λ other. absurd (other refl)) (stays-awake k ws vs q r id v at w refl refl refl)
     where
       lock : busy_weight v.ext.sem.stage ≤ holds_in v.spin → busy_weight v.ext.sem.stage ≤ holds_in s
       lock l = holds-or-not v.spin
@@ -357,7 +357,7 @@ module _ {Call : Type 0} (o : Obj Call) (size : ℕ) where
       (set_part seen (Sem (sem_words ws) q) vs id w both.0)
       (each-set IsLocked IsLocked vs id w (r.locked id v at) (λ j x _ _ p. p) r.locked)
       (duties-stay (wake_words ws) (grants_in ws) q vs id v (r.duty, r.staged) at w step.task held refl refl)
-      (set_part seen (Hands id (sem_words ws) q (map seen vs) (sem_words ws)) vs id w both.1) held refl refl (miss-of v h tries) (stays-awake k ws vs q r id v at w refl)
+      (set_part seen (Hands id (sem_words ws) q (map seen vs) (sem_words ws)) vs id w both.1) held refl refl (miss-of v h tries) (stays-awake k ws vs q r id v at w held refl refl)
 
   -- a store of the owner hint, of which no fact speaks
   pub sem-hints : (k : Plan) (ws : List ℕ) (vs : List V) (id n : ℕ) (v : V) → Kept k ws vs → get_elem? vs id ≡ some v → Go k id ws vs (set ws hint_at n) (set vs id (ticked v))
@@ -371,7 +371,7 @@ module _ {Call : Type 0} (o : Obj Call) (size : ℕ) where
       (keep_part seen (Sem (sem_words ws) q) vs id v w at refl r.sem)
       (each-set IsLocked IsLocked vs id w (r.locked id v at) (λ j x _ _ p. p) r.locked)
       (duties-stay (wake_words ws) (grants_in ws) q vs id v (r.duty, r.staged) at w refl refl refl refl)
-      (hands-same k ws vs q r id v at (set vs id w) (keep_part seen (λ z. z ≡ map seen vs) vs id v w at refl refl)) refl refl refl (λ other. absurd (other refl)) (stays-awake k ws vs q r id v at w refl)
+      (hands-same k ws vs q r id v at (set vs id w) (keep_part seen (λ z. z ≡ map seen vs) vs id v w at refl refl)) refl refl refl (λ other. absurd (other refl)) (stays-awake k ws vs q r id v at w refl refl refl)
 
   pub sem-opens-rule : (k : Plan) → length (fresh k) ≡ width k → ((i : ℕ) → i < LOCK_WORDS → get_or (fresh k) i 0 ≡ 0) → Site k (fresh k) (map hand_of (first k idle ∷ [])) → Kept k (fresh k) (first k idle ∷ [])
   sem-opens-rule k wide zeros there = let v : V = first k idle in let ws : List ℕ = list_words (fresh k) in (
@@ -403,7 +403,7 @@ module _ {Call : Type 0} (o : Obj Call) (size : ℕ) where
       (keep_part seen (λ (z : List SemPart). Hands id (sem_words ws) q (map seen vs) (sem_words ws) (z ++ nobody ∷ [])) vs id v (ticked v) at refl
       (hands-still id n q (marks_in ws) (grants_in ws) (map seen vs) n (marks_in ws) (grants_in ws) (map seen vs ++ nobody ∷ []) (omega arith) (λ t. let a = total-snoc (reads_as (grants_in ws) t) (map seen vs) nobody in omega (arith, a)) (unasked-same n (marks_in ws)) (λ t more none. absurd (omega (arith, more, none)))
       (λ x y at at'. inl (ap (λ (z : SemPart). z.sem.rest) (still-it x y at at'))) (λ x y at at' e. inl (ap (λ (z : SemPart). z.sem.stage) (still-it x y at at') ∙ e))
-      (λ x y at at' e. inl (ap (λ (z : SemPart). z.sem.stage) (sym (still-it x y at at')) ∙ e)) (λ x y at at'. inl (ap (λ (z : SemPart). z.sem.bias) (still-it x y at at')))))) refl refl refl (λ other. absurd (other refl)) (stays-awake k ws vs q r id v at (ticked v) refl)
+      (λ x y at at' e. inl (ap (λ (z : SemPart). z.sem.stage) (sym (still-it x y at at')) ∙ e)) (λ x y at at'. inl (ap (λ (z : SemPart). z.sem.bias) (still-it x y at at')))))) refl refl refl (λ other. absurd (other refl)) (stays-awake k ws vs q r id v at (ticked v) refl refl refl)
     where
       beside : (ps : List SemPart) (x : SemPart) (j : ℕ) → get_elem? ps j ≡ some x → get_elem? (ps ++ nobody ∷ []) j ≡ some x
       beside [] x j at = absurd (some-ne-none x (sym at))
@@ -426,4 +426,4 @@ module _ {Call : Type 0} (o : Obj Call) (size : ℕ) where
       (each-set IsLocked IsLocked us other x (omega arith) (λ j y _ _ p. p) (each-set IsLocked IsLocked vs id u (r.locked id v at) (λ j y _ _ p. p) r.locked))
       (let before : Duties (wake_words ws) (grants_in ws) q us = duties-stay (wake_words ws) (grants_in ws) q vs id v (r.duty, r.staged) at u refl refl refl refl in
       duties-end (wake_words ws) (grants_in ws) q us other w before there' x (sym same) out.0 out.1 (record { clear = refl; none = refl; absent = refl }))
-      (hands-same k ws vs q r id v at (set us other x) (keep_part seen (λ (z : List SemPart). z ≡ map seen vs) us other w x there' same (keep_part seen (λ (z : List SemPart). z ≡ map seen vs) vs id v u at refl refl))) refl refl refl (λ other. absurd (other refl)) (stays-awake k ws vs q r id v at u refl)
+      (hands-same k ws vs q r id v at (set us other x) (keep_part seen (λ (z : List SemPart). z ≡ map seen vs) us other w x there' same (keep_part seen (λ (z : List SemPart). z ≡ map seen vs) vs id v u at refl refl))) refl refl refl (λ other. absurd (other refl)) (stays-awake k ws vs q r id v at u refl refl refl)

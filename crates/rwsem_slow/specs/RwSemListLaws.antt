@@ -1,5 +1,5 @@
 -- The rule of a semaphore hosts a list of waiters.
-use Rattle.std.proofs.Common.{◌≡◌, ◌&&◌, ne_eqb, None, ℕ, zero, suc, ◌+◌, ◌<◌, ◌≤◌, ◌==◌, ◌⊎◌, inl, inr, Bool, true, false, List, [], ◌∷◌, ◌++◌, length, map, get_or, set, Option, Some, sym, refl, ap, ◌∙◌, subst, arith, length-set}
+use Rattle.std.proofs.Common.{◌≡◌, ◌≢◌, ◌&&◌, ne_eqb, None, ℕ, zero, suc, ◌+◌, ◌<◌, ◌≤◌, ◌==◌, ◌⊎◌, inl, inr, Bool, true, false, List, [], ◌∷◌, ◌++◌, length, map, get_or, set, Option, Some, sym, refl, ap, ◌∙◌, subst, arith, length-set}
 use mathlib.Core.Option.{some, some-injective, some-ne-none}
 use lib.ListN.{get_elem?}
 use Rattle.atomic_table.proofs.Lists.{at_map, set_again}
@@ -8,6 +8,7 @@ use Rattle.word_bits.specs.LockWords.{counted as unavailable}
 use Rattle.word_bits.specs.Objects.{Obj}
 use Rattle.word_bits.specs.Histories.{Plan}
 use Rattle.lock_core.specs.declared.layout.TheConstants.{SPIN_WORDS}
+use Rattle.lock_core.specs.declared.view.Held.TheVariants.{Alone}
 use Rattle.lock_core.specs.Layout.{SiteWords, site}
 use Rattle.lock_core.specs.Views.{SpinHolds, hand_of, spin_part, named_of, is_number}
 use Rattle.lock_core.specs.Sites.{SiteKept}
@@ -37,8 +38,8 @@ use Rattle.rwsem_wake.specs.declared.view.SemHand.{SemHand}
 use Rattle.rwsem_wake.specs.declared.view.Wait.{Wait}
 use Rattle.rwsem_wake.specs.declared.view.Wait.TheVariants.{Apart, Reads, Writes}
 use Rattle.rwsem_wake.specs.declared.view.Stage.{Stage}
-use Rattle.rwsem_wake.specs.declared.view.Stage.TheVariants.{Rest, Armed, Took, Overdue, Removing}
-use Rattle.rwsem_wake.specs.SemParts.{SemPart, busy_weight, busy_of, granted_at, granted_of, granted_weight, named_weight, reads_weight, writes_weight, reads_at, writes_at, rest_at, here}
+use Rattle.rwsem_wake.specs.declared.view.Stage.TheVariants.{Rest, Armed, Joining, First, Marking, Took, Removed, Emptied, Overdue, Marked, Removing, Summing, Counted, Granting}
+use Rattle.rwsem_wake.specs.SemParts.{SemPart, busy_weight, busy_of, granted_at, granted_of, granted_weight, named_weight, reads_weight, writes_weight, reads_at, transit_of, transit_weight, writes_at, rest_at, here}
 use Rattle.rwsem_wake.specs.GrantSemaphores.{SemPartOk, batch_weight}
 use Rattle.rwsem_wake.proofs.Sums.{busy-most}
 use Rattle.rwsem_wake.proofs.QueueLaws.{a_writer, reader, mine-at, reads-at-w, writes-at-w}
@@ -47,7 +48,7 @@ use Rattle.rwsem_wake.proofs.HandoffSteps.{hands-none}
 use Rattle.rwsem_wake.specs.RwSemViews.{V, list_of, seen, list_at, chooses_task, joined, leaves_wake, picked, parted as parted_at, parted_wake, has_number, is_clear, looked, may_look, with_list, saw_first, MayPick, LeavesPicked}
 use Rattle.rwsem_slow.specs.RwSems.{spin_words, count_in, list_words, marks_in, grants_in, IsLocked, RwSemKept, Kept as IsKept, entered, IsMadeBy, wake_words, wakes_at, may_change, MayJoin, LeavesTaken, LeavesFirst, LeavesBehind}
 use Rattle.rwsem_slow.specs.WakesGo.{WakesGo, wake_stands}
-use Rattle.rwsem_slow.specs.WakesGoLaws.{goes-chooses, goes-leaves, goes-vigil, leave-enters, look-goes, still-goes}
+use Rattle.rwsem_slow.specs.WakesGoLaws.{HoldsOn, enter-leaves, goes-chooses, goes-leaves, goes-vigil, leave-enters, look-goes, none-owed, still-goes}
 use Rattle.rwsem_slow.specs.DutyRule.{Duties, duties-enter, duties-leave-behind, duties-leave-first, duties-leave-taken, duties-look, duties-pick, duties-stay}
 use Rattle.rwsem_slow.specs.RwSemLaws.{SemWords, sem_words, sem-else, Go as Going, Sem, Hands, one-takes, sem-only, sem-only-in, goes, goes-on, hands-same, same-site}
 use Rattle.rwsem_wake.proofs.FirstReaders.{counted-is, first-counts, reader-counts}
@@ -55,6 +56,25 @@ use Rattle.rwsem_slow.specs.ListSteps.{alone-long, enters-reader, enters-writer,
 
 abbrev parted : V → Part
 parted v = list_part list_of v
+
+-- who leaves the list keeps its bias
+parted-bias : (stage : Stage) (wait : Wait) (t long : ℕ) (s : SemHand) → (parted_at stage wait t long s).bias ≡ s.bias
+parted-bias Took wait t long s = refl
+parted-bias Summing wait t long s = refl
+parted-bias Armed wait t long s = refl
+parted-bias Rest Writes t long s = refl
+parted-bias Rest Apart t long s = refl
+parted-bias Rest Reads t long s = refl
+parted-bias (Joining c) wait t long s = refl
+parted-bias First wait t long s = refl
+parted-bias Marking wait t long s = refl
+parted-bias Removed wait t long s = refl
+parted-bias Emptied wait t long s = refl
+parted-bias (Overdue c) wait t long s = refl
+parted-bias (Marked c) wait t long s = refl
+parted-bias Removing wait t long s = refl
+parted-bias (Counted c) wait t long s = refl
+parted-bias Granting wait t long s = refl
 
 pub list-back : (c : Change) (v : V) (b : ListHand) → list_of (with_list c v b) ≡ b
 list-back Stay v b = refl
@@ -339,16 +359,20 @@ module _ {Call : Type 0} (o : Obj Call) (size : ℕ) where
         After : SemWake → Type 0
         After x = WakesGo (count_in ws) (count_in ws) q (Leave t) (grants_in ws) (wake_words ws) (wake_words ws) (holds_in v.spin) (seen v) (seen u) (wake_stands v.ext.wake) (wake_stands x)
 
-        -- it stops waiting
-        leaves : v.hand.task ≡ Some t → (o : Bool) → (v.ext.wake.owing ≡ true → o ≡ true) → (v.ext.wake.owing ≡ false → o ≡ true → first_code q ≡ t + 1) → After (leaves_wake o v.ext.wake)
-        leaves mine = goes-leaves (count_in ws) (count_in ws) q (Leave t) (grants_in ws) (wake_words ws) (wake_words ws) (holds_in v.spin) (seen v) (seen u) v.ext.wake refl t refl mine
+        -- it holds as before, and keeps its bias
+        on : HoldsOn (seen v) (seen u)
+        on = inr (inr (refl, (let e : transit_of (seen u) ≡ transit_of (seen v) = ap transit_weight (parted-bias v.ext.sem.stage v.ext.sem.wait t (length b.list) v.ext.sem) in omega (arith, e))))
 
-        leaves-same : v.hand.task ≡ Some t → After (leaves_wake v.ext.wake.owing v.ext.wake)
-        leaves-same mine = leaves mine v.ext.wake.owing (λ e. e) (λ e e'. not-both v.ext.wake.owing e e')
+        -- it stops waiting
+        leaves : v.hand.task ≡ Some t → (o : Bool) → (v.ext.wake.owing ≡ true → o ≡ true) → (v.ext.wake.owing ≡ false → o ≡ true → first_code q ≡ t + 1) → (first_code q ≡ t + 1 → v.hand.held ≢ Alone → o ≡ true) → After (leaves_wake o v.ext.wake)
+        leaves mine o keeps first must = goes-leaves (count_in ws) (count_in ws) q (Leave t) (grants_in ws) (wake_words ws) (wake_words ws) (holds_in v.spin) (seen v) (seen u) v.ext.wake refl t refl mine o keeps first on must
+
+        leaves-same : v.hand.task ≡ Some t → (first_code q ≡ t + 1 → v.hand.held ≢ Alone → ⊥) → After (leaves_wake v.ext.wake.owing v.ext.wake)
+        leaves-same mine not = leaves mine v.ext.wake.owing (λ e. e) (λ e e'. not-both v.ext.wake.owing e e') (λ first other. absurd (not first other))
 
         -- the pass chooses the next of its batch
         picks : Picks (seen v) q t → After (chooses_task t v.ext.wake)
-        picks picked_it = goes-chooses (count_in ws) (count_in ws) q (Leave t) (grants_in ws) (wake_words ws) (wake_words ws) (holds_in v.spin) (seen v) (seen u) v.ext.wake refl (λ w e. leave-enters t w e) (ap holds_at has) t (inl (refl, picked_it))
+        picks picked_it = goes-chooses (count_in ws) (count_in ws) q (Leave t) (grants_in ws) (wake_words ws) (wake_words ws) (holds_in v.spin) (seen v) (seen u) v.ext.wake refl (λ w e. leave-enters t w e) (ap holds_at has) t (inl (refl, picked_it)) on
 
         picks-at : MayPick v.ext.sem → After (chooses_task t v.ext.wake) → After (parted_wake v.ext.sem.stage v.ext.sem.wait t v.ext.wake)
         picks-at (inl is) = subst (λ (z : Stage × Wait). After (parted_wake z.0 z.1 t v.ext.wake)) (λ i. (sym is.0 i, sym is.1 i))
@@ -356,11 +380,11 @@ module _ {Call : Type 0} (o : Obj Call) (size : ℕ) where
         picks-at (inr (inr is)) = subst (λ (z : Stage). After (parted_wake z v.ext.sem.wait t v.ext.wake)) (sym is)
 
         by-may : may_change (Leave t) v q → After (parted_wake v.ext.sem.stage v.ext.sem.wait t v.ext.wake)
-        by-may (inl taken) = subst (λ (z : Stage). After (parted_wake z v.ext.sem.wait t v.ext.wake)) (sym taken.0) (leaves-same taken.1)
-        by-may (inr (inl first)) = subst (λ (z : Stage). After (parted_wake z v.ext.sem.wait t v.ext.wake)) (sym first.1) (leaves first.0.0 true (λ _. refl) (λ _ _. first.4))
+        by-may (inl taken) = subst (λ (z : Stage). After (parted_wake z v.ext.sem.wait t v.ext.wake)) (sym taken.0) (leaves-same taken.1 (λ _ other. other ((r.staged id v at).took taken.0)))
+        by-may (inr (inl first)) = subst (λ (z : Stage). After (parted_wake z v.ext.sem.wait t v.ext.wake)) (sym first.1) (leaves first.0.0 true (λ _. refl) (λ _ _. first.4) (λ _ _. refl))
         by-may (inr (inr (inl behind))) = elim behind.2 [
-          | inl reads ↦ subst (λ (z : Stage). After (parted_wake z v.ext.sem.wait t v.ext.wake)) (sym reads.0) (leaves-same behind.0.0)
-          | inr writes ↦ subst (λ (z : Stage × Wait). After (parted_wake z.0 z.1 t v.ext.wake)) (λ i. (sym writes.0 i, sym writes.1 i)) (leaves-same behind.0.0)
+          | inl reads ↦ subst (λ (z : Stage). After (parted_wake z v.ext.sem.wait t v.ext.wake)) (sym reads.0) (leaves-same behind.0.0 (λ first _. behind.1 first))
+          | inr writes ↦ subst (λ (z : Stage × Wait). After (parted_wake z.0 z.1 t v.ext.wake)) (λ i. (sym writes.0 i, sym writes.1 i)) (leaves-same behind.0.0 (λ first _. behind.1 first))
         ]
         by-may (inr (inr (inr picked_it))) = picks-at picked_it.0 (picks picked_it.2)
 
@@ -371,10 +395,11 @@ module _ {Call : Type 0} (o : Obj Call) (size : ℕ) where
 
     pub sem-lists : (i n : ℕ) (c : Change) (b : ListHand) → i < LIST_WORDS → SpinHolds v.spin → may_change c v q → b.list ≡ changed c q → LeaverGoes c v.ext.list.leaver b.leaver → ListKept (set (list_words ws) i n) (changed c q) (set (map parted vs) id (v.spin, b)) → Go k id ws vs (set ws (list_at + i) n) (set vs id (listed with_list c v b))
     sem-lists i n Stay b inside has may is leaver list = lists-by i n Stay b has inside list tt tt tt (stays-facts has) (duties-stay (wake_words ws) (grants_in ws) q vs id v (r.duty, r.staged) at (listed with_list Stay v b) refl refl refl refl)
-        (still-goes (count_in ws) (count_in ws) q (grants_in ws) (wake_words ws) (holds_in v.spin) (seen v) (seen (listed with_list Stay v b)) v.ext.wake)
+        (still-goes (count_in ws) (count_in ws) q (grants_in ws) (wake_words ws) (holds_in v.spin) (seen v) (seen (listed with_list Stay v b)) v.ext.wake (inr (inr (refl, omega arith))))
     sem-lists i n (Enter w) b inside has may is leaver list = lists-by i n (Enter w) b has inside list (sem-list-may (Enter w) has may) (parted v, at_map parted vs id v at, ap holds_at has) (v, at, may.0, may.1, joins-none w.writer may.3) (enters-facts has w b may is)
         (duties-enter (wake_words ws) (grants_in ws) (marks_in ws) (count_in ws) q vs id v (r.duty, r.staged) at r.sem w.task may.0 (only has) w b may.0 may.2 may.3 (λ reads. armed-word has w.task may.0 w.writer reads may.3))
-        (goes-vigil (count_in ws) (count_in ws) q (Enter w) (grants_in ws) (wake_words ws) (wake_words ws) (holds_in v.spin) (seen v) (seen (listed with_list (Enter w) v b)) v.ext.wake refl Awake (λ _ _. refl) (λ _ _. (w, refl)) (λ e e'. absurd (omega (arith, e'))) (λ _. inl ((w, refl), refl)))
+        (goes-vigil (count_in ws) (count_in ws) q (Enter w) (grants_in ws) (wake_words ws) (wake_words ws) (holds_in v.spin) (seen v) (seen (listed with_list (Enter w) v b)) v.ext.wake refl Awake (λ _ _. refl) (λ _ _. (w, refl)) (λ e e'. absurd (omega (arith, e'))) (λ _. inl ((w, refl), refl))
+        (λ m. none-owed (count_in ws) q (Enter w) (seen v) (seen (listed with_list (Enter w) v b)) (wake_stands v.ext.wake) (wake_stands (record v.ext.wake { vigil = Awake })) (enter-leaves w) (inr (inr (refl, omega arith))) m))
     sem-lists i n (Leave t) b inside has may is leaver list = lists-by i n (Leave t) b has inside list (sem-list-may (Leave t) has may) (parted v, at_map parted vs id v at, ap holds_at has) (leaves-by has t (length b.list) may)
         (subst (λ (z : List Waiter). Facts (without t q) (parted_at v.ext.sem.stage v.ext.sem.wait t (length z) v.ext.sem)) (sym is) (leaves-facts has t may)) (leaves-duties has t b may) (leaves-wakes has t b may)
 
@@ -389,7 +414,7 @@ module _ {Call : Type 0} (o : Obj Call) (size : ℕ) where
         (each-set IsLocked IsLocked vs id w (r.locked id v at) (λ j x _ _ p. p) r.locked)
         (by-look (may_look v) refl)
         (hands-same o size k ws vs q r id v at (set vs id w) (keep_part seen (λ z. z ≡ map seen vs) vs id v w at refl refl)) refl refl refl (λ other. absurd (other refl))
-        (look-goes (count_in ws) q (grants_in ws) (wake_words ws) (holds_in v.spin) (seen v) (seen w) v.ext.wake (may_look v) v.ext.list.list (λ is. let k = knows is in (k.0, k.1)))
+        (look-goes (count_in ws) q (grants_in ws) (wake_words ws) (holds_in v.spin) (seen v) (seen w) v.ext.wake (inr (inr (refl, omega arith))) (may_look v) v.ext.list.list (λ is. let k = knows is in (k.0, k.1)))
       where
         After : Bool → Type 0
         After c = Duties (wake_words ws) (grants_in ws) q (set vs id (record v { steps = v.steps + 1; ext = record v.ext { wake = looked c v.hand.held v.ext.list.list v.ext.wake } }))

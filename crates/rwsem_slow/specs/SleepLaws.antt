@@ -43,7 +43,7 @@ use Rattle.rwsem_wake.specs.declared.view.Wait.TheVariants.{Apart, Reads, Writes
 use Rattle.rwsem_wake.specs.RwSemViews.{V, HasChosen, after_set, list_at, list_of, seen, with_wake}
 use Rattle.rwsem_slow.specs.RwSems.{IsLocked, IsStaged, RwSemKept, after_swap, count_in, duty_seen, grants_in, list_words, spin_words, sleep_vigil, sleeps_as, wake_words, wakes_at}
 use Rattle.rwsem_slow.specs.WakesGo.{WakesGo, wake_stands}
-use Rattle.rwsem_slow.specs.WakesGoLaws.{goes-drowses, goes-sets, stay-enters}
+use Rattle.rwsem_slow.specs.WakesGoLaws.{goes-drowses, goes-sets, none-owed, stay-enters, stay-leaves}
 use Rattle.rwsem_slow.specs.DutyRule.{Duties, staged-same}
 use Rattle.rwsem_wake.specs.Duties.{StageOk}
 use Rattle.rwsem_slow.specs.RwSemLaws.{Go as Going, Hands, Sem, SemWords, goes, hands-same, same-site, sem-else, sem_words}
@@ -98,7 +98,7 @@ module _ {Call : Type 0} (o : Obj Call) (size : ℕ) where
   sem-sets k ws vs q id t v r at chosen = sem-waking k ws vs q id t 1 v (setting t v.ext.wake) r at chosen.2
       (duty-sets (wake_words ws) q (map (duty_seen (grants_in ws)) vs) id (duty_seen (grants_in ws) v) r.duty (at_map (duty_seen (grants_in ws)) vs id v at) t chosen.0 chosen.1)
       (staged-same (seen v) (seen v) v.ext.wake (setting t v.ext.wake) refl refl refl (r.staged id v at))
-      (goes-sets (count_in ws) (count_in ws) q Stay (grants_in ws) (wake_words ws) (set (wake_words ws) (8 * t) 1) (holds_in v.spin) (seen v) (seen v) v.ext.wake t 1 chosen.2 r.duty.wide refl (λ w e. stay-enters w e) refl chosen.0)
+      (goes-sets (count_in ws) (count_in ws) q Stay (grants_in ws) (wake_words ws) (set (wake_words ws) (8 * t) 1) (holds_in v.spin) (seen v) (seen v) v.ext.wake t 1 chosen.2 r.duty.wide refl (λ w e. stay-enters w e) refl chosen.0 (λ m. none-owed (count_in ws) q Stay (seen v) (seen v) (wake_stands v.ext.wake) (wake_stands (setting t v.ext.wake)) stay-leaves (inr (inr (refl, omega arith))) m))
 
   -- a waiter swaps its own wake word for 0
   pub sem-swaps : (k : Plan) (ws : List ℕ) (vs : List V) (q : List Waiter) (id t : ℕ) (v : V) → Queue k ws vs q → get_elem? vs id ≡ some v → v.hand.task ≡ Some t → t < MAX_TASKS → SpinRests v.spin → v.hand.held ≡ No → HasTried sleep_vigil v
@@ -109,7 +109,8 @@ module _ {Call : Type 0} (o : Obj Call) (size : ℕ) where
       (duty-drowses (wake_words ws) q (map (duty_seen (grants_in ws)) vs) id (duty_seen (grants_in ws) v) r.duty (at_map (duty_seen (grants_in ws)) vs id v at) t mine few has_tried writer apart))
       (unstaged (r.staged id v at))
       (subst (λ (z : ℕ). WakesGo (count_in ws) (count_in ws) q Stay (grants_in ws) (wake_words ws) (set (wake_words ws) (8 * t) 0) (holds_in v.spin) (seen v) (seen v) (wake_stands v.ext.wake) (wake_stands (drowsing z v.ext.wake))) word
-      (goes-drowses (count_in ws) (count_in ws) q Stay (grants_in ws) (wake_words ws) (set (wake_words ws) (8 * t) 0) (holds_in v.spin) (seen v) (seen v) v.ext.wake t 0 few r.duty.wide refl (λ w e. stay-enters w e) refl mine (ap holds_at rests) has_tried (free, idle_is.0, idle_is.1, idle_is.2, idle_is.3)))
+      (goes-drowses (count_in ws) (count_in ws) q Stay (grants_in ws) (wake_words ws) (set (wake_words ws) (8 * t) 0) (holds_in v.spin) (seen v) (seen v) v.ext.wake t 0 few r.duty.wide refl (λ w e. stay-enters w e) refl mine (ap holds_at rests) has_tried (free, idle_is.0, idle_is.1, idle_is.2, idle_is.3)
+      (λ old m. none-owed (count_in ws) q Stay (seen v) (seen v) (wake_stands v.ext.wake) (wake_stands (drowsing old v.ext.wake)) stay-leaves (inr (inr (refl, omega arith))) m)))
     where
       idle_is : (v.ext.wake.owing ≡ false) × (v.ext.wake.chosen ≡ []) × (v.ext.sem.bias ≡ Clear) × ((v.ext.sem.wait ≡ Reads) ⊎ (v.ext.sem.wait ≡ Writes)) × (v.ext.wake.vigil ≡ Tried tried.0)
       idle_is = sleeps-is v.ext.wake.owing v.ext.wake.chosen v.ext.sem.bias v.ext.sem.wait v.ext.wake.vigil tried.0 tried.1

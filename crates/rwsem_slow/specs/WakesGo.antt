@@ -2,7 +2,7 @@
 use Rattle.std.specs.Prelude.{◌≡◌, ◌≢◌, ℕ, ◌+◌, ◌/◌, ◌%◌, ◌<◌, ◌≤◌, ◌⊎◌, Bool, true, false, List, [], ◌∷◌, ◌++◌, Some}
 use Rattle.word_bits.specs.declared.TheConstants.{MAX_TASKS}
 use Rattle.lock_core.specs.Tallies.{raised}
-use Rattle.lock_core.specs.declared.view.Held.TheVariants.{No, Shared}
+use Rattle.lock_core.specs.declared.view.Held.TheVariants.{No, Shared, Alone}
 use Rattle.wait_list.specs.declared.view.Waiter.{Waiter}
 use Rattle.wait_list.specs.declared.view.Change.{Change}
 use Rattle.wait_list.specs.declared.view.Change.TheVariants.{Enter, Leave}
@@ -49,14 +49,20 @@ OwesBy n' q c p p' = ((p.held ≢ No) × (p'.held ≢ p.held) × (n' / 2 % 2 ≡
     ⊎ (TakesBack p p' × (is_left n' ≡ true))
     ⊎ ((t : ℕ) × (c ≡ Leave t) × (p.task ≡ Some t) × (first_code q ≡ t + 1))
 
+-- Who has to owe from then on. It ends or lowers an exclusive hold, and leaves a count that says that tasks wait. Or it ends a shared one, and leaves such a count, with nobody else. Or it takes a bias back and holds nothing, and leaves a count with nobody. Or it leaves the list as the first, and neither holds alone nor is the next of a batch of its own.
+abbrev pub MustOwe : (n' : ℕ) → List Waiter → Change → SemPart → SemPart → (s s' : WakeStands) → Type 0
+MustOwe n' q c p p' s s' = ((p.held ≡ Alone) × (p'.held ≢ Alone) × (n' / 2 % 2 ≡ 1))
+    ⊎ ((p.held ≡ Shared) × (p'.held ≡ No) × (n' / 2 % 2 ≡ 1) × (is_left n' ≡ true))
+    ⊎ (TakesBack p p' × (p'.held ≡ No) × (is_left n' ≡ true))
+    ⊎ ((t : ℕ) × (c ≡ Leave t) × (p.task ≡ Some t) × (first_code q ≡ t + 1) × (p.held ≢ Alone) × (s'.chosen ≡ s.chosen))
+
 -- it chooses this task under the wait lock: the next of its batch, which it removes from the list, or the first waiter, which is a writer
 abbrev pub ChoosesBy : List Waiter → Change → (locked : ℕ) → SemPart → (s s' : WakeStands) → Type 0
 ChoosesBy q c locked p s s' = (t : ℕ) × (s'.chosen ≡ s.chosen ++ t ∷ []) × (locked ≡ 1) × (((c ≡ Leave t) × Picks p q t) ⊎ ((first_code q ≡ t + 1) × (first_writes q ≡ 1)))
 
--- who looked without a choice: it reserved a bias, or nobody waits, or a writer is the first and the pass itself reads, each under the wait lock; or it took a bias back, and somebody else is counted
-abbrev pub PaysBy : (n n' : ℕ) → List Waiter → (locked : ℕ) → SemPart → SemPart → Type 0
-PaysBy n n' q locked p p' = ((locked ≡ 1) × (((p.sem.bias ≡ Clear) × (p'.sem.bias ≡ Reserve n)) ⊎ (first_code q ≡ 0) ⊎ ((p.held ≡ Shared) × (first_writes q ≡ 1))))
-    ⊎ (TakesBack p p' × (is_left n' ≡ false))
+-- who looked under the wait lock without a choice: it reserved a bias, or nobody waits, or a writer is the first and the pass itself reads
+abbrev pub PaysBy : (n : ℕ) → List Waiter → (locked : ℕ) → SemPart → SemPart → Type 0
+PaysBy n q locked p p' = (locked ≡ 1) × (((p.sem.bias ≡ Clear) × (p'.sem.bias ≡ Reserve n)) ⊎ (first_code q ≡ 0) ⊎ ((p.held ≡ Shared) × (first_writes q ≡ 1)))
 
 -- the wake word of a task that it had chosen is set
 abbrev pub SetsBy : (words' : List ℕ) → (s s' : WakeStands) → Type 0
@@ -89,11 +95,12 @@ TiresBy n q c grants p p' = ((t : ℕ) × (c ≡ Leave t) × (p.task ≡ Some t)
     ⊎ ((p.sem.wait ≡ Reads) × (granted_of grants p ≡ 0))
     ⊎ ((p.sem.wait ≡ Writes) × ((is_left n ≡ false) ⊎ ((t : ℕ) → p.task ≡ Some t → first_code q ≢ t + 1)))
 
--- A wake word changes by the pass of its own task, or by one that has chosen it. Nobody owes but by a step that leaves a wake to be done; a debt ends by a choice, or because there is nobody to choose. Each choice stands until the wake word of its task is set, which ends it and is counted. Who enters waits until it leaves the list or holds. A task falls asleep only while it waits, isn't to try any more, and leaves nothing undone, and it is to try once it enters, or once it finds its wake word set.
+-- A wake word changes by the pass of its own task, or by one that has chosen it. Nobody owes but by a step that leaves a wake to be done, and who leaves one so owes it; a debt ends by a choice, or because there is nobody to choose. Each choice stands until the wake word of its task is set, which ends it and is counted. Who enters waits until it leaves the list or holds. A task falls asleep only while it waits, isn't to try any more, and leaves nothing undone, and it is to try once it enters, or once it finds its wake word set.
 pub record WakesGo (n n' : ℕ) (q : List Waiter) (c : Change) (grants words words' : List ℕ) (locked : ℕ) (p p' : SemPart) (s s' : WakeStands) : Type 0 where
   pub words_go : (t : ℕ) → t < MAX_TASKS → WordGoes words words' p.task locked s.queued s.awake (λ u. 1 ≤ times u s.chosen) t
   pub owes : s.owing ≡ false → s'.owing ≡ true → OwesBy n' q c p p'
-  pub pays : s.owing ≡ true → (s'.owing ≡ true) ⊎ ChoosesBy q c locked p s s' ⊎ PaysBy n n' q locked p p'
+  pub must : MustOwe n' q c p p' s s' → s'.owing ≡ true
+  pub pays : s.owing ≡ true → (s'.owing ≡ true) ⊎ ChoosesBy q c locked p s s' ⊎ PaysBy n q locked p p'
   pub chooses : (s'.chosen ≡ s.chosen) ⊎ ChoosesBy q c locked p s s' ⊎ SetsBy words' s s'
   pub sets : (t : ℕ) → t < MAX_TASKS → wake_word words t ≡ 0 → wake_word words' t ≡ 1 → SetsTask t s s'
   pub wakes : s'.wakes ≢ s.wakes → SetsBy words' s s'

@@ -205,7 +205,7 @@ module _ {X : Type 0} (part : X → SemPart) (wake : X → SemWake) (words : Lis
 
   -- a reader that joined takes its own back
   returns-own-on : SameGrants grants grants' sees → granted_of grants' u ≡ granted_of grants v → ReturnsOwn n' sees v u b w → After (duty_of grants' u w)
-  returns-own-on same_all same (only, (m, transit), is, wake_is) = false-or-true (is_left n')
+  returns-own-on same_all same (only, (m, transit), clear, is, wake_is) = false-or-true (is_left n')
       (λ left. becomes (recounted p p.alone (guards_of grants' u) p.late true) (as-now true left) (duty-owes words q ps id p d there p.alone (guards_of grants' u) p.late own has))
       (λ held. becomes (recounted p p.alone (guards_of grants' u) p.late false) (as-now false held) (duty-returns words q ps id p d there (guards_of grants' u) (still held) none))
     where
@@ -396,7 +396,7 @@ module _ {X : Type 0} (part : X → SemPart) (wake : X → SemWake) (words : Lis
     | inl (same, inl keeps) ↦ now-all same (keeps-on keeps)
     | inl (same, inr (inl reserves)) ↦ now-all same (reserves-on (stays same (ap (λ (y : SemPart). y.sem.wait) reserves.3)) reserves)
     | inl (same, inr (inr (inl returns))) ↦ now-all same (returns-late-on (stays same (ap (λ (y : SemPart). y.sem.wait) returns.3)) returns)
-    | inl (same, inr (inr (inr (inl own_is)))) ↦ now-all same (returns-own-on same (stays same (ap (λ (y : SemPart). y.sem.wait) own_is.2)) own_is)
+    | inl (same, inr (inr (inr (inl own_is)))) ↦ now-all same (returns-own-on same (stays same (ap (λ (y : SemPart). y.sem.wait) own_is.3)) own_is)
     | inl (same, inr (inr (inr (inr (inl takes))))) ↦ now-all same (takes-on (stays same (ap (λ (y : SemPart). y.sem.wait) takes.0)) takes)
     | inl (same, inr (inr (inr (inr (inr (inl hears)))))) ↦ now-all same (hears-on hears)
     | inl (same, inr (inr (inr (inr (inr (inr (inl fails))))))) ↦ now-all same (fails-on (stays same (ap (λ (y : SemPart). y.sem.wait) fails.1.1)) fails)

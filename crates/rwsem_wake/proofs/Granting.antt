@@ -16,7 +16,7 @@ use Rattle.rwsem_count.specs.Counts.{early_weight, late_weight, shared_weight}
 use Rattle.rwsem_wake.specs.Batches.{starts_with_reader}
 use Rattle.rwsem_wake.specs.Grants.{IsRemoved, KeepsOut, OnlySem, StirsTo, reserved, unreserved}
 use Rattle.rwsem_wake.specs.Duties.{paid}
-use Rattle.rwsem_wake.specs.SemParts.{IsWhole}
+use Rattle.rwsem_wake.specs.SemParts.{IsWhole, transit_weight}
 use Rattle.rwsem_wake.specs.declared.duty.SemWake.{SemWake}
 use Rattle.rwsem_wake.specs.RwSemViews.{V, MayPick, count_at, sem_of, with_sem, with_wake}
 use Rattle.rwsem_wake.specs.RwSemPlaces.{line_of}
@@ -42,7 +42,7 @@ module _ (v w : V) (list : KnowsList v) (starts : starts_with_reader v.ext.list.
   is-removed readers is some few = let same = ap (λ (z : List ℕ). length z) is in record { stage = r.stage (omega (arith, same, some)); rest = r.rest ∙ sym is; some = some; few = few }
 
   pub keeps-out : KeepsOut sem_of v → KeepsOut sem_of w
-  keeps-out k = let held = ap (λ h. shared_weight h.held) r.beside.hand in let early = ap early_weight r.bias in let late = ap late_weight r.bias in let one = k.0 in let none = k.1 in (omega (arith, held, early, one), omega (arith, late, none))
+  keeps-out k = let held = ap (λ h. shared_weight h.held) r.beside.hand in let early = ap early_weight r.bias in let late = ap late_weight r.bias in let one = k.0 in let none = k.1 in (omega (arith, held, early, one), omega (arith, late, none), ap transit_weight r.bias ∙ k.2)
 
 -- a waker has reserved a bias
 module _ (v b : V) (seen : ℕ) (rests : IsAtRest v) (list : KnowsList v) (turns : StirsTo with_sem with_wake v (reserved v.ext.sem seen) (paid v.ext.wake) b) where
@@ -110,7 +110,7 @@ module _ (v b : V) (seen : ℕ) (rests : IsAtRest v) (list : KnowsList v) (turns
     reserved-one free = let e = ap early_weight bias-is in omega (arith, e, free)
 
     pub keeps-reserved : seen % 2 ≢ 1 → shared_weight v.hand.held ≡ 0 → KeepsOut sem_of a
-    keeps-reserved free out = let held = ap (λ (z : V). shared_weight z.hand.held) ticks ∙ ap (λ (z : V). shared_weight z.hand.held) turns in let early = ap early_weight bias-is in let late = ap late_weight bias-is in (omega (arith, held, early, out, free), omega (arith, late, free))
+    keeps-reserved free out = let held = ap (λ (z : V). shared_weight z.hand.held) ticks ∙ ap (λ (z : V). shared_weight z.hand.held) turns in let early = ap early_weight bias-is in let late = ap late_weight bias-is in (omega (arith, held, early, out, free), omega (arith, late, free), ap transit_weight bias-is)
 
     pub grants-on : (u : V) → Grants false a u → Grants false v u
     grants-on u g = let steps = ap (λ (z : V). z.steps) turns in let more = ap (λ (z : V). z.steps) ticks in record {

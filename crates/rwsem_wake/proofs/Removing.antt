@@ -13,7 +13,7 @@ use Rattle.rwsem_count.specs.Counts.{early_weight, late_weight, shared_weight}
 use Rattle.rwsem_wake.specs.declared.view.SemHand.{SemHand}
 use Rattle.rwsem_wake.specs.Batches.{batch_of, reads, starts_with_reader, task_of}
 use Rattle.lock_core.specs.Totals.{total}
-use Rattle.rwsem_wake.specs.SemParts.{IsWhole, reader_bit, reader_of, some_of}
+use Rattle.rwsem_wake.specs.SemParts.{IsWhole, reader_bit, reader_of, some_of, transit_weight}
 use Rattle.rwsem_wake.proofs.Places.{total-without}
 use Rattle.rwsem_wake.specs.GrantsStated.{IsFirstReader}
 use Rattle.rwsem_wake.proofs.FirstReaders.{picks-is, reader-counts}
@@ -195,6 +195,7 @@ module _ (u : V) (batch : List ℕ) where
       (
         (λ j. shared_weight (g.beside.hand j).held + early_weight (g.bias j)) ∙ keeps.0,
         ap late_weight g.bias ∙ keeps.1,
+        ap transit_weight g.bias ∙ keeps.2,
       ),
     )
 

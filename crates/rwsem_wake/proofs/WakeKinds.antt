@@ -20,7 +20,7 @@ use Rattle.rwsem_count.specs.Counts.{shared_weight, early_weight, late_weight}
 use Rattle.rwsem_wake.specs.declared.view.Wait.TheVariants.{Apart, Reads, Writes}
 use Rattle.rwsem_wake.specs.declared.view.Stage.{Stage}
 use Rattle.rwsem_wake.specs.declared.view.Stage.TheVariants.{Rest, Armed, Marking, Took, Removed, Emptied, Removing, Summing, Counted, Granting}
-use Rattle.rwsem_wake.specs.SemParts.{SemPart, late_of, granted_of, granted_weight, granting_of, granting_weight, is_zero, reads_at, shared_of, some_of}
+use Rattle.rwsem_wake.specs.SemParts.{SemPart, late_of, granted_of, granted_weight, granting_of, granting_weight, is_zero, reads_at, shared_of, some_of, transit_of}
 use Rattle.rwsem_wake.specs.Grants.{reserved, unreserved, unmarked, gains, losses, looked, counted, granting_on, granted, tail}
 use Rattle.rwsem_wake.specs.GrantQueues.{rested, asked, taken, own_unmarked, heard, heard_locked, settled}
 use Rattle.rwsem_wake.specs.Duties.{kept_weight, overdue_weight, kept_of, overdue_of, begun_weight, waited_weight, SameGrants, IsOnly, WakeGoes, paid, is_left, left_by, heard_by, foiled_by, foiled_unless, saw_count, exchanged, is_own, saw_mark, heard_at, heard_locked_at}
@@ -56,7 +56,7 @@ module _ (n : ℕ) (q : List Waiter) (grants : List ℕ) (sees : List SemPart) (
 
   -- it leaves all
   pub wakes-stay : (n' : ℕ) → Goes n' v b
-  wakes-stay n' = inl (same-grants, inl record { stage = (inr refl, inr (omega arith)); alone = refl; guards = omega arith; late = refl; writes = refl; granted = refl; rest = refl; wake = refl })
+  wakes-stay n' = inl (same-grants, inl record { stage = (inr refl, inr (omega arith)); alone = refl; guards = omega arith; late = refl; writes = refl; granted = refl; rest = refl; stays = inr (refl, omega arith); wake = refl })
 
   -- its stage turns to this one
   pub wakes-turn : (n' : ℕ) (from to : Stage) → v.sem.stage ≡ from → ((m : ℕ) → granting_weight from m ≡ 0) → begun_weight to ≡ 0 → (overdue_of v ≡ 0) ⊎ (waited_weight from ≤ waited_weight to) → Goes n' (staged v to) b
@@ -70,6 +70,7 @@ module _ (n : ℕ) (q : List Waiter) (grants : List ℕ) (sees : List SemPart) (
       writes = refl;
       granted = refl;
       rest = refl;
+      stays = inr (refl, omega arith);
       wake = refl;
     },
   )
@@ -83,8 +84,8 @@ module _ (n : ℕ) (q : List Waiter) (grants : List ℕ) (sees : List SemPart) (
   pub wakes-return : (n' m : ℕ) (from : Stage) → IsOnly sees v → v.sem.stage ≡ from → ((m : ℕ) → granting_weight from m ≡ 0) → v.sem.bias ≡ Reserve m → m % 2 ≡ 1 → Goes n' (with_hand v (unreserved v.sem)) b
   wakes-return n' m from only stage none bias odd = inl (same-grants, inr (inr (inl (only, (m, bias, odd), no-grants from stage none, refl, refl))))
 
-  pub wakes-back : (n' m by : ℕ) → IsOnly sees v → v.sem.bias ≡ Transit m → n' + by ≡ n → Goes n' (with_hand v (unreserved v.sem)) (left_by (n - by) b)
-  wakes-back n' m by only bias sum = let left : n - by ≡ n' = omega (arith, sum) in inl (same-grants, inr (inr (inr (inl (only, (m, bias), refl, ap (λ (z : ℕ). left_by z b) left)))))
+  pub wakes-back : (n' m by : ℕ) → IsOnly sees v → v.sem.bias ≡ Transit m → b.owing ≡ false → n' + by ≡ n → Goes n' (with_hand v (unreserved v.sem)) (left_by (n - by) b)
+  wakes-back n' m by only bias clear sum = let left : n - by ≡ n' = omega (arith, sum) in inl (same-grants, inr (inr (inr (inl (only, (m, bias), clear, refl, ap (λ (z : ℕ). left_by z b) left)))))
 
   -- a mark is loaded by a waker
   pub wakes-unmarked : (mark : ℕ) → v.sem.stage ≡ Removing → Goes n (with_hand v (unmarked v.sem mark)) b
@@ -93,8 +94,8 @@ module _ (n : ℕ) (q : List Waiter) (grants : List ℕ) (sees : List SemPart) (
       (λ other. subst (λ (z : Bool). Goes n (with_hand v (if z then record v.sem { stage = Summing } else v.sem)) b) (sym (ne_eqb mark 0 other)) (wakes-stay n))
 
   -- the batch is in the count
-  pub wakes-counted : (n' : ℕ) (from : Stage) → v.sem.stage ≡ from → ((m : ℕ) → granting_weight from m ≡ 0) → late_of v ≡ 0 → kept_of v ≤ length v.sem.rest → Goes n' (with_hand v (counted v.sem)) b
-  wakes-counted n' from stage none tight some_read = inl (
+  pub wakes-counted : (n' : ℕ) (from : Stage) → v.sem.stage ≡ from → ((m : ℕ) → granting_weight from m ≡ 0) → late_of v ≡ 0 → transit_of v ≡ 0 → kept_of v ≤ length v.sem.rest → Goes n' (with_hand v (counted v.sem)) b
+  wakes-counted n' from stage none tight free some_read = inl (
     same-grants,
     inl record {
       stage = (inl refl, inl refl);
@@ -104,14 +105,15 @@ module _ (n : ℕ) (q : List Waiter) (grants : List ℕ) (sees : List SemPart) (
       writes = refl;
       granted = refl;
       rest = refl;
+      stays = inr (refl, omega (arith, free));
       wake = refl;
     },
   )
 
-  pub wakes-look : (l : List Waiter) → v.sem.stage ≡ Summing → late_of v ≡ 0 → Goes n (with_hand v (looked v.sem l n)) b
-  wakes-look l stage tight = dite (ℕ_discrete (losses v.sem (n / 4 % 2)) (gains v.sem l))
+  pub wakes-look : (l : List Waiter) → v.sem.stage ≡ Summing → late_of v ≡ 0 → transit_of v ≡ 0 → Goes n (with_hand v (looked v.sem l n)) b
+  wakes-look l stage tight free = dite (ℕ_discrete (losses v.sem (n / 4 % 2)) (gains v.sem l))
       (λ none. subst (λ (z : Bool). Goes n (with_hand v (if z then counted v.sem else record v.sem { stage = Counted (n / 4 % 2 == 1) })) b) (sym (eq-eqb (losses v.sem (n / 4 % 2)) (gains v.sem l) none))
-      (wakes-counted n Summing stage (λ m. refl) tight (let k = kept-early v.sem.bias tight in let s = some-most l in omega (arith, none, k, s))))
+      (wakes-counted n Summing stage (λ m. refl) tight free (let k = kept-early v.sem.bias tight in let s = some-most l in omega (arith, none, k, s))))
       (λ other. subst (λ (z : Bool). Goes n (with_hand v (if z then counted v.sem else record v.sem { stage = Counted (n / 4 % 2 == 1) })) b) (sym (ne_eqb (losses v.sem (n / 4 % 2)) (gains v.sem l) other))
       (wakes-turn n Summing (Counted (n / 4 % 2 == 1)) stage (λ m. refl) refl (inr (omega arith))))
     where
@@ -119,8 +121,8 @@ module _ (n : ℕ) (q : List Waiter) (grants : List ℕ) (sees : List SemPart) (
       some-most [] = omega arith
       some-most (w ∷ ws) = omega arith
 
-  pub wakes-sum : (n' : ℕ) (x : Bool) → v.sem.stage ≡ Counted x → late_of v ≡ 0 → 0 < length v.sem.rest → Goes n' (with_hand v (counted v.sem)) b
-  wakes-sum n' x stage tight some_read = wakes-counted n' (Counted x) stage (λ m. refl) tight (let k = kept-most v.sem.bias in omega (arith, k, some_read))
+  pub wakes-sum : (n' : ℕ) (x : Bool) → v.sem.stage ≡ Counted x → late_of v ≡ 0 → transit_of v ≡ 0 → 0 < length v.sem.rest → Goes n' (with_hand v (counted v.sem)) b
+  wakes-sum n' x stage tight free some_read = wakes-counted n' (Counted x) stage (λ m. refl) tight free (let k = kept-most v.sem.bias in omega (arith, k, some_read))
 
   -- a queued writer that saw this count
   seen-count : (n' : ℕ) (from : Stage) (s : Stage) → IsOnly sees v → v.sem.stage ≡ from → ((m : ℕ) → granting_weight from m ≡ 0) → v.sem.wait ≡ Writes → v.sem.bias ≡ Clear → begun_weight s ≡ 0 → ((m : ℕ) → granting_weight s m ≡ 0) → Goes n' (staged v s) (saw_count n b)
@@ -207,6 +209,7 @@ module _ (n : ℕ) (q : List Waiter) (grants : List ℕ) (sees : List SemPart) (
           writes = refl;
           granted = refl;
           rest = refl;
+          stays = inl refl;
           wake = refl;
         },
       )))
@@ -266,6 +269,7 @@ module _ (sees : List SemPart) (id : ℕ) (v : SemPart) (known : Part) (n : ℕ)
       writes = refl;
       granted = same id v loc.mine;
       rest = refl;
+      stays = inr (refl, omega arith);
       wake = refl;
     },
   )

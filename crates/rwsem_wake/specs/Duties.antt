@@ -161,7 +161,7 @@ SameGrants grants grants' vs = Each (λ x. granted_of grants' x ≡ granted_of g
 abbrev pub IsOnly : List SemPart → SemPart → Type 0
 IsOnly vs v = total busy_of vs ≡ busy_of v
 
--- it keeps writers out no less
+-- it keeps writers out no less. It comes to hold shared, or holds as before and keeps its bias in transit.
 pub record Keeps (grants grants' : List ℕ) (v u : SemPart) (b w : SemWake) : Type 0 where
   pub stage : StageGoes v u
   pub alone : alone_of u ≡ alone_of v
@@ -170,6 +170,7 @@ pub record Keeps (grants grants' : List ℕ) (v u : SemPart) (b w : SemWake) : T
   pub writes : writes_of u ≡ writes_of v
   pub granted : granted_of grants' u ≡ granted_of grants v
   pub rest : u.sem.rest ≡ v.sem.rest
+  pub stays : (u.held ≡ Shared) ⊎ ((u.held ≡ v.held) × (transit_of v ≤ transit_of u))
   pub wake : w ≡ b
 
 -- it reserves a bias, and has looked by that
@@ -180,9 +181,9 @@ ReservesBias n vs v u b w = IsOnly vs v × (v.sem.bias ≡ Clear) × (granting_o
 abbrev pub ReturnsLate : List SemPart → SemPart → SemPart → SemWake → SemWake → Type 0
 ReturnsLate vs v u b w = IsOnly vs v × ((m : ℕ) × (v.sem.bias ≡ Reserve m) × (m % 2 ≡ 1)) × (granting_of v ≡ 0) × (u ≡ record v { sem = unreserved v.sem }) × (w ≡ b)
 
--- a reader that joined takes its bias back, and owes a wake where nobody else is counted
+-- a reader that joined, and owed nothing, takes its bias back, and owes a wake where nobody else is counted
 abbrev pub ReturnsOwn : (n' : ℕ) → List SemPart → SemPart → SemPart → SemWake → SemWake → Type 0
-ReturnsOwn n' vs v u b w = IsOnly vs v × ((m : ℕ) × (v.sem.bias ≡ Transit m)) × (u ≡ record v { sem = unreserved v.sem }) × (w ≡ left_by n' b)
+ReturnsOwn n' vs v u b w = IsOnly vs v × ((m : ℕ) × (v.sem.bias ≡ Transit m)) × (b.owing ≡ false) × (u ≡ record v { sem = unreserved v.sem }) × (w ≡ left_by n' b)
 
 -- a writer takes
 abbrev pub TakesAlone : SemPart → SemPart → SemWake → SemWake → Type 0

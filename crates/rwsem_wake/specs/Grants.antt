@@ -18,7 +18,7 @@ use Rattle.rwsem_wake.specs.declared.view.SemHand.{SemHand}
 use Rattle.rwsem_wake.specs.declared.view.Wait.TheVariants.{Apart}
 use Rattle.rwsem_wake.specs.declared.view.Stage.{Stage}
 use Rattle.rwsem_wake.specs.declared.view.Stage.TheVariants.{Rest, Armed, Overdue, Marked, Removing, Summing, Counted, Granting}
-use Rattle.rwsem_wake.specs.SemParts.{SemPart, IsWhole, some_of}
+use Rattle.rwsem_wake.specs.SemParts.{SemPart, IsWhole, some_of, transit_weight}
 
 module _ {E : Type 0} (sem : E → SemHand) where
   -- what of a host's view concerns the semaphore
@@ -143,9 +143,9 @@ pub record KnowsFirst {E : Type 0} (list : E → ListHand) (v : View E) (task : 
 abbrev pub IsNext : SemHand → Stage → ℕ → Type 0
 IsNext s stage task = (s.stage ≡ stage) × ((ts : List ℕ) × (s.rest ≡ task ∷ ts))
 
--- its own shared hold or its bias keeps writers out
+-- its own shared hold or the bias that it reserved keeps writers out
 abbrev pub KeepsOut : {E : Type 0} → (E → SemHand) → View E → Type 0
-KeepsOut sem v = (shared_weight v.hand.held + early_weight (sem v.ext).bias ≡ 1) × (late_weight (sem v.ext).bias ≡ 0)
+KeepsOut sem v = (shared_weight v.hand.held + early_weight (sem v.ext).bias ≡ 1) × (late_weight (sem v.ext).bias ≡ 0) × (transit_weight (sem v.ext).bias ≡ 0)
 
 -- its batch is a whole one, which has left the list that it knows
 abbrev pub HasWholeBatch : {E : Type 0} → (E → ListHand) → (E → SemHand) → View E → Type 0

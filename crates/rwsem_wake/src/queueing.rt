@@ -70,6 +70,7 @@ pub fn take_back<H: GrantHost>(site: &Site<H>, pass: &mut Pass<H>, alone: bool) 
     requires held { SpinHolds (view_of pass.old).spin }
     requires joined { (sem_at H.sem (view_of pass.old)).stage ≡ Joining alone }
     requires transit { (word : ℕ) × ((sem_at H.sem (view_of pass.old)).bias ≡ Transit word) }
+    requires clear { (wake_at H.wake (view_of pass.old)).owing ≡ false }
     ensures own { SitsAt site.now pass.new }
     ensures goes_on { KeepsPast pass.old pass.new }
     ensures last { IsLatest pass.new }

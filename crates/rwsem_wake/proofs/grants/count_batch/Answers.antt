@@ -8,7 +8,7 @@ use Rattle.rwsem_count.specs.Counts.{early_weight, late_weight, shared_weight}
 use Rattle.wait_list.proofs.Appending.{byte-bit}
 use Rattle.rwsem_wake.specs.declared.view.SemHand.{SemHand}
 use Rattle.rwsem_wake.specs.declared.view.Stage.TheVariants.{Counted}
-use Rattle.rwsem_wake.specs.SemParts.{some_of}
+use Rattle.rwsem_wake.specs.SemParts.{some_of, transit_weight}
 use Rattle.rwsem_wake.specs.Grants.{OnlySem, TurnsTo, counted, gains, looked, losses}
 use Rattle.rwsem_wake.proofs.Courses.{only-one-step, only-more, sem-after, list-after, sum-some, sum-by}
 use Rattle.rwsem_wake.proofs.Flags.{flag-bit}
@@ -21,7 +21,7 @@ add_sum-requires-clause-keeps g c = let with_sem = g.H.GrantHost.with_sem in let
     let t = record s { stage = Counted (n / 4 % 2 == 1) } in let is : looked s q n ≡ t = sum-some s q n c.args.readers gain loss c.from.result c.from-3.result c.requires.readers own rest refl loses c.if-gain-loss.true in
     let first = only-one-step with_sem v t u (subst (λ (z : SemHand). TurnsTo with_sem v z u) is c.look_count.ensures.kept) in let after = sem-after with_sem g.H.GrantHost.sem g.H.GrantHost.sem_back v t u first in
     let bias = ap (λ (z : SemHand). z.bias) after in let hand = ap (λ (z : View _). z.hand.held) c.look_count.ensures.kept in
-    (ap (λ (h : Held). shared_weight h + early_weight (g.H.GrantHost.sem u.ext).bias) hand ∙ (ap (λ (b : Bias). shared_weight v.hand.held + early_weight b) bias ∙ c.requires.keeps.0), ap late_weight bias ∙ c.requires.keeps.1)
+    (ap (λ (h : Held). shared_weight h + early_weight (g.H.GrantHost.sem u.ext).bias) hand ∙ (ap (λ (b : Bias). shared_weight v.hand.held + early_weight b) bias ∙ c.requires.keeps.0), ap late_weight bias ∙ c.requires.keeps.1, ap transit_weight bias ∙ c.requires.keeps.2)
 
 pub add_sum-requires-clause-sum : goal.add_sum-requires-clause-sum
 add_sum-requires-clause-sum g c = let with_sem = g.H.GrantHost.with_sem in let v = c.args.pass.now.seat.me.0.view in let s = g.H.GrantHost.sem v.ext in let q = (g.H.ListHost.list v.ext).list in let u = c.look_count.new.pass.seat.me.0.view in let n = c.look_count.result in let n1 = byte-bit c.args.reserved in let n2 = byte-bit c.args.empty in let flag = c.has_handoff-handoff.result in

@@ -15,7 +15,7 @@ pub step-requires-clause-lets : goal.step-requires-clause-lets
 step-requires-clause-lets g c = let k = c.args.site.now.table.shared.key in let v = c.args.pass.now.seat.me.0.view in let own = some-number c.args.pass.now.face.task c.requires.numbered in let has = sym c.requires.own.task ∙ own.1 in
     count-does g.H.O.Object.object g.H.SiteRule.unavailable g.H.O.Object.WORDS k g.H.SpinHost.LOCKS g.H.SpinHost.FIRST g.H.ListHost.LIST g.H.CountHost.COUNT g.H.GrantHost.MARKS g.H.GrantHost.GRANTS g.H.ListHost.list g.H.GrantHost.sem g.H.GrantHost.with_sem g.H.GrantHost.wake g.H.GrantHost.with_wake g.H.GrantHost.wake_same (g.H.SiteRule.holds k) (g.H.SiteRule.moves k) (g.H.ListHost.queue k) (g.met.H.SiteRule.site_kept k) (g.met.H.SpinHost.spin_kept k) (g.met.H.ListHost.queued k) (g.H.ListHost.list_kept k) g.met.H.GrantHost.sem_places (g.met.H.GrantHost.sem_kept k) (g.met.H.GrantHost.sem_only k) (g.met.H.GrantHost.sems k)
     _ _ _ _ c.gain_and_lose.result (λ n. counted (g.H.GrantHost.sem v.ext)) anything c.COUNT.ensures c.requires.held (has-number _ c.args.pass.now.face.task c.requires.own.task c.requires.numbered)
-    (λ n q marks grants sees loc only. let t = on-sum sees _ _ _ n q marks grants loc only own.0 has c.args.gain c.args.loss c.gain_and_lose.result c.gain_and_lose.ensures c.requires.sum.handoff c.requires.sum.stage c.requires.keeps.0 c.requires.keeps.1 c.requires.knows c.requires.sum.some c.requires.sum.few c.requires.sum.is in (t.0.0, t.0.1, wakes-sum n q grants sees (sem_part g.H.GrantHost.sem v) (g.H.GrantHost.wake v.ext) _ c.requires.sum.handoff c.requires.sum.stage c.requires.keeps.1 c.requires.sum.some, tt))
+    (λ n q marks grants sees loc only. let t = on-sum sees _ _ _ n q marks grants loc only own.0 has c.args.gain c.args.loss c.gain_and_lose.result c.gain_and_lose.ensures c.requires.sum.handoff c.requires.sum.stage c.requires.keeps.0 c.requires.keeps.1 c.requires.knows c.requires.sum.some c.requires.sum.few c.requires.sum.is in (t.0.0, t.0.1, wakes-sum n q grants sees (sem_part g.H.GrantHost.sem v) (g.H.GrantHost.wake v.ext) _ c.requires.sum.handoff c.requires.sum.stage c.requires.keeps.1 c.requires.keeps.2 c.requires.sum.some, tt))
 
 pub returns-clause-own : goal.returns-clause-own
 returns-clause-own g c = let turn = c.step.ensures.told.1 in

@@ -17,7 +17,7 @@ pub step-requires-clause-lets : goal.step-requires-clause-lets
 step-requires-clause-lets g c = let k = c.args.site.now.table.shared.key in let v = c.args.pass.now.seat.me.0.view in let own = some-number c.args.pass.now.face.task c.requires.numbered in let has = sym c.requires.own.task ∙ own.1 in
     count-does g.H.O.Object.object g.H.SiteRule.unavailable g.H.O.Object.WORDS k g.H.SpinHost.LOCKS g.H.SpinHost.FIRST g.H.ListHost.LIST g.H.CountHost.COUNT g.H.GrantHost.MARKS g.H.GrantHost.GRANTS g.H.ListHost.list g.H.GrantHost.sem g.H.GrantHost.with_sem g.H.GrantHost.wake g.H.GrantHost.with_wake g.H.GrantHost.wake_same (g.H.SiteRule.holds k) (g.H.SiteRule.moves k) (g.H.ListHost.queue k) (g.met.H.SiteRule.site_kept k) (g.met.H.SpinHost.spin_kept k) (g.met.H.ListHost.queued k) (g.H.ListHost.list_kept k) g.met.H.GrantHost.sem_places (g.met.H.GrantHost.sem_kept k) (g.met.H.GrantHost.sem_only k) (g.met.H.GrantHost.sems k)
     _ _ _ _ (Load) (λ n. looked (g.H.GrantHost.sem v.ext) (g.H.ListHost.list v.ext).list n) IsLawfulCount c.COUNT.ensures c.requires.held (has-number _ c.args.pass.now.face.task c.requires.own.task c.requires.numbered)
-    (λ n q marks grants sees loc only. let t = on-look sees _ _ _ n q marks grants loc only own.0 has c.requires.summing c.requires.keeps.0 c.requires.keeps.1 c.requires.knows c.requires.whole in (t.0.0, t.0.1, wakes-look n q grants sees (sem_part g.H.GrantHost.sem v) (g.H.GrantHost.wake v.ext) (g.H.ListHost.list v.ext).list c.requires.summing c.requires.keeps.1, t.1))
+    (λ n q marks grants sees loc only. let t = on-look sees _ _ _ n q marks grants loc only own.0 has c.requires.summing c.requires.keeps.0 c.requires.keeps.1 c.requires.knows c.requires.whole in (t.0.0, t.0.1, wakes-look n q grants sees (sem_part g.H.GrantHost.sem v) (g.H.GrantHost.wake v.ext) (g.H.ListHost.list v.ext).list c.requires.summing c.requires.keeps.1 c.requires.keeps.2, t.1))
 
 pub returns-clause-own : goal.returns-clause-own
 returns-clause-own g c = let turn = c.step.ensures.told.1 in

@@ -1,4 +1,5 @@
-use Rattle.std.proofs.Common.{◌∙◌, false, refl, sym}
+use Rattle.std.proofs.Common.{◌∙◌, ap, false, refl, sym}
+use Rattle.rwsem_wake.specs.RwSemViews.{V}
 use Rattle.rwsem_slow.proofs.ReaderSteps.{joins-bias, joins-reader}
 use Rattle.lock_core.proofs.Sitting.{its-number}
 use Rattle.rwsem_slow.proofs.reader.queue.join.Goals as goal
@@ -16,3 +17,6 @@ take_back-requires-clause-transit g c = joins-bias c.args.pass.now.seat.me.0.vie
 pub returns-clause-came : goal.returns-clause-came
 returns-clause-came g c = joins-reader c.args.pass.now.seat.me.0.view c.arm.new.pass.seat.me.0.view c.append.new.pass.seat.me.0.view c.take_back.new.pass.seat.me.0.view (record { task = c.in-Some.task; writer = false }) refl
     (its-number c.args.site.now.table.shared.key c.args.site.now.table.shared.table_id c.args.pass.now.seat.table_id c.args.pass.now.seat.me c.args.pass.now.face c.args.site.now.small c.requires.own c.in-Some.task (sym c.task.ensures ∙ c.in-Some.is)) c.requires.transit c.arm.ensures.kept c.append.ensures.kept c.requires.locked c.append.ensures.later c.take_back.result c.take_back.ensures.kept
+
+pub take_back-requires-clause-clear : goal.take_back-requires-clause-clear
+take_back-requires-clause-clear g c = ap (λ (z : V). z.ext.wake.owing) c.append.ensures.kept.view ∙ (ap (λ (z : V). z.ext.wake.owing) c.arm.ensures.kept ∙ c.requires.transit.done.clear)
