@@ -1,5 +1,5 @@
 -- What appending itself makes of where a pass stands.
-use Rattle.std.proofs.Common.{◌≡◌, ◌≢◌, ◌∙◌, Bool, [], ◌∷◌, ◌++◌, length, Some, sym, refl, ap, subst, eq-eqb, ne_eqb, if◌then◌else◌}
+use Rattle.std.proofs.Common.{◌≡◌, ◌≢◌, ◌∙◌, Bool, List, [], ◌∷◌, ◌++◌, length, None, Some, sym, refl, ap, subst, eq-eqb, ne_eqb, if◌then◌else◌}
 use Rattle.lock_core.specs.Views.{SpinHolds}
 use Rattle.wait_list.specs.declared.view.Waiter.{Waiter}
 use Rattle.wait_list.specs.declared.view.Change.TheVariants.{Enter}
@@ -41,3 +41,17 @@ module _ (v u x : V) (w : Waiter) (first : Waiter) (locked : SpinHolds v.spin) (
 
   pub behind-listed : OwesNoWake v → first.task ≢ w.task → IsInLine x
   behind-listed clear other = record { queued = ap (λ (z : V). z.ext.queued) whole; rests = point-rests other; still = ap (λ (z : V). z.ext.list.changes) whole ∙ a.still; clear = subst OwesNoWake (sym whole) clear; waits = ap (λ (z : V). waits z.ext.wake.vigil) whole }
+
+-- it isn't empty then
+pub found-some : {P : Type 0} (v u x : V) (w : Waiter) → SpinHolds v.spin → Appends list_of with_list v w u → FindsFirst list_of with_list u None x → P
+found-some v u x w locked a f = nobody a.was (f.is ∙ (ap (λ (h : ListHand). first_of h.list) same ∙ ap first_of a.now))
+  where
+    mine : list_part list_of u ≡ (v.spin, a.hand)
+    mine = λ i. ((a.view i).spin, (a.view i).ext.list)
+
+    same : f.hand ≡ a.hand
+    same = f.learnt.same (subst Knows (sym mine) (holds-one v locked, a.since)) ∙ ap (λ p. p.1) mine
+
+    nobody : {P : Type 0} (was : List Waiter) → None ≡ first_of (was ++ w ∷ []) → P
+    nobody [] e = absurd cc
+    nobody (y ∷ ys) e = absurd cc

@@ -23,7 +23,7 @@ use wait_list::{Waiter, list};
 use word_bits::Object;
 
 /// Appends the pass's own task to the list, and sets the flag of the waiters where it is the first.
-fn join<O: Object, W: Wait>(site: &Site<MutexRule<O>>, rt: &W, pass: &mut Pass<MutexRule<O>>)
+fn join<O: Object>(site: &Site<MutexRule<O>>, pass: &mut Pass<MutexRule<O>>)
     requires own { SitsAt site.now pass.old }
     requires numbered { IsSome (task_in pass.old) }
     requires out { held_in pass.old ≡ No }
@@ -43,7 +43,6 @@ fn join<O: Object, W: Wait>(site: &Site<MutexRule<O>>, rt: &W, pass: &mut Pass<M
     };
     list::append(site, pass, Waiter { task, writer: true });
     let Some(first) = list::first(site, pass) else {
-        for _ in rt.forever() {}
         unreachable!()
     };
     if first.task == task {
@@ -97,7 +96,7 @@ pub fn lock_in_line<O: Object, W: Wait, C: Cpu>(
         wait_lock::unlock(site, pass);
         return Ok(How::Spun);
     };
-    join(site, rt, pass);
+    join(site, pass);
     let Err(why) = wait(site, rt, pass, cpu, dozes, interruptible) else {
         quit(site, pass);
         wait_lock::unlock(site, pass);
