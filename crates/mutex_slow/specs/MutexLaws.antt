@@ -47,7 +47,7 @@ use Rattle.wake_duty.specs.DutyWakes.{WAKE_WORDS, WakeKept, IsQuiet, Sets, Drows
 use Rattle.wake_duty.specs.WakeLaws.{wake-opens, wake-snoc, wake-quiet, wake-sets, wake-drowses, waits-looking, waits-drowsing, vigil-looking}
 use Rattle.wake_duty.specs.WakeSteps.{HasTried, knowing}
 use Rattle.mutex_slow.specs.DutyLaws.{wparted, some-of, same-holders, duty-stays, duty-renames, duty-spins, duty-fails, duty-takes, duty-frees, duty-hands, duty-enters, duty-leaves, duty-looks}
-use Rattle.mutex_slow.specs.StandingLaws.{StandingGoes, chosen-code, chosen-debt, goes-clear, goes-drowses, goes-fails, goes-looks, goes-same, goes-sets, goes-vigil}
+use Rattle.mutex_slow.specs.StandingLaws.{StandingGoes, chosen-code, chosen-debt, goes-clear, goes-drowses, goes-fails, free-holds, goes-looks, goes-same, goes-sets, goes-vigil, same-holds}
 use Rattle.mutex_slow.specs.Mutexes.{V, HasLock, HasChosen, after_set, after_swap, vigil_of, with_wake, wake_words, wakes_at, idle, list_of, IsOut, Coupled, MutexKept, Kept, Leaves, LeavesToFirst, PicksFirst, Asks, HasHandoff, IsFirstTask, AnswersHandoff, TookUp, IsOwnChange, IsUnpicked, MutexMoves, entered, owner_at, list_at, spin_words, owner_in, list_words, may_free, may_miss, rests, may_own, turned, with_list, may_change, is_code, saw_first, queued_of}
 use Rattle.mutex_slow.specs.CoupledLaws.{Apart, coupled-stays, coupled-hands, coupled-seats, coupled-spins, coupled-fails, coupled-takes-free, coupled-takes-picked, coupled-asks, coupled-frees, coupled-hands-over, coupled-flags, coupled-clears, coupled-enters, coupled-leaves, coupled-opens, coupled-snoc, idle-ok, flagged, not-in, is-in, locked-free}
 
@@ -281,7 +281,7 @@ module _ {Call : Type 0} (o : Obj Call) (size : ℕ) where
       subst (λ (z : List ℕ). WakeKept z l (map wparted (set vs id w))) (sym (part-below ws wakes_at WAKE_WORDS (LOCK_WORDS + i) n (omega arith)))
       (⊎_elim (λ (e : h.task ≡ v.hand.task). duty-stays (wake_words ws) (owner_in ws) l vs id v r.coupled r.wake at (apart k ws vs l id v r at) r.list.sound.small w e same.0 freed locked entries refl)
       (λ (q : IsQuiet (wparted v)). duty-renames (wake_words ws) (owner_in ws) l vs id v r.coupled r.wake at (apart k ws vs l id v r at) r.list.sound.small w same.0 freed refl q) (quiet-or k ws vs l id v r at h same)))
-      (goes-same (owner_in ws) l (wake_words ws) (wake_words us) v w (part-below ws wakes_at WAKE_WORDS (LOCK_WORDS + i) n (omega arith)) refl) tt tt tt
+      (goes-same (owner_in ws) l (wake_words ws) (wake_words us) v w (part-below ws wakes_at WAKE_WORDS (LOCK_WORDS + i) n (omega arith)) refl (same-holds v w same.0)) tt tt tt
 
   spins-first : (k : Plan) (ws : List ℕ) (vs : List V) (id i n : ℕ) (v : V) (s : SpinHand) → Kept o size k ws vs → get_elem? vs id ≡ some v → i < SPIN_WORDS → SpinGoes (v.steps + 1) 0 v.spin s → (SpinFrees 0 v.spin s → may_free v)
       → SpinMoves id (spin_words ws) (map spin_part vs) (set (spin_words ws) i n) (set (map spin_part vs) id (part_with v s)) → Go k id ws vs (set ws (0 + i) n) (set vs id (spun v s))
@@ -296,7 +296,7 @@ module _ {Call : Type 0} (o : Obj Call) (size : ℕ) where
       (set_part parted (ListKept (list_words ws) l) vs id w (list-spins (list_words ws) l (map parted vs) id (parted v) r.list (at_map parted vs id v at) s turn.entries (λ frees. (may frees).1))))
       (coupled-spins (owner_in ws) l vs id v r.coupled at s turn.entries (λ has out. (may (has, out)).0))
       (subst (λ (z : List ℕ). WakeKept z l (map wparted (set vs id w))) (sym (part-above ws wakes_at WAKE_WORDS (0 + i) n (omega (arith, within)))) (duty-spins (wake_words ws) (owner_in ws) l vs id v r.coupled r.wake at (apart k ws vs l id v r at) r.list.sound.small s turn.entries))
-      (goes-same (owner_in ws) l (wake_words ws) (wake_words us) v w (part-above ws wakes_at WAKE_WORDS (0 + i) n (omega (arith, within))) refl) tt tt tt
+      (goes-same (owner_in ws) l (wake_words ws) (wake_words us) v w (part-above ws wakes_at WAKE_WORDS (0 + i) n (omega (arith, within))) refl (same-holds v w refl)) tt tt tt
 
   -- it is the only one
   pub mutex-spins : (k : Plan) (ws : List ℕ) (vs : List V) (id l i n : ℕ) (v : V) (s : SpinHand) → Kept o size k ws vs → get_elem? vs id ≡ some v → l < 1 → i < SPIN_WORDS → SpinGoes (v.steps + 1) l v.spin s → (SpinFrees l v.spin s → may_free v)
@@ -330,32 +330,32 @@ module _ {Call : Type 0} (o : Obj Call) (size : ℕ) where
       → Go k id ws vs (set ws owner_at n) (set vs id (turns turned t v h))
   mutex-owns k ws vs id n v h Fail (l, r) at task counts tries left may own there = let m : ℕ = owner_in ws in
       owns-by k ws vs l id n v h Fail r at task counts tries own there (subst (λ (z : ℕ). Coupled z l (set vs id (turns turned Fail v h))) (sym may.0) (coupled-fails m l vs id v r.coupled at (apart k ws vs l id v r at) may.3.0 may.3.1 may.3.2 may.2 h task))
-      (let same = may.0 in let held = held-stays k ws vs l id v r at n h own there (omega (arith, same)) (λ z. omega (arith, same, z)) (λ z. omega (arith, same, z)) in duty-fails (wake_words ws) m l vs id v r.coupled r.wake at (apart k ws vs l id v r at) r.list.sound.small h may.3.0 r.own may.3.1 may.3.2 may.1 task held (counts.0.freed held)) (goes-fails m l (wake_words ws) v (turns turned Fail v h) refl may.1 may.3.0 may.3.1 may.3.2) (λ leaves. absurd (leaves.3 (ap (λ (z : ℕ). z / 8) may.0))) (λ _. inl may.0)
+      (let same = may.0 in let held = held-stays k ws vs l id v r at n h own there (omega (arith, same)) (λ z. omega (arith, same, z)) (λ z. omega (arith, same, z)) in duty-fails (wake_words ws) m l vs id v r.coupled r.wake at (apart k ws vs l id v r at) r.list.sound.small h may.3.0 r.own may.3.1 may.3.2 may.1 task held (counts.0.freed held)) (goes-fails m l (wake_words ws) v (turns turned Fail v h) refl may.1 may.3.0 may.3.1 may.3.2 (let same = may.0 in same-holds v (turns turned Fail v h) (held-stays k ws vs l id v r at n h own there (omega (arith, same)) (λ z. omega (arith, same, z)) (λ z. omega (arith, same, z))))) (λ leaves. absurd (leaves.3 (ap (λ (z : ℕ). z / 8) may.0))) (λ _. inl may.0)
       (λ asked. let less = asked.0 in let more : 2 ≤ m % 4 = subst HasHandoff may.0 asked.1 in absurd (omega (arith, less, more))) (λ asked. inl (subst HasHandoff (sym may.0) asked)) left
       (λ alone free _. let e = ended k ws vs l id v r at n h alone free own in let low = e.0 in let big = e.1 in let is = may.0 in let few = e.2 (omega (arith, is, low)) in absurd (omega (arith, few, big, is)))
   mutex-owns k ws vs id n v h Take (l, r) at task counts tries left may own there = let m : ℕ = owner_in ws in let nobody = r.own.nobody in let flags = r.own.flags in
       let names : v.hand.held ≡ Alone → h.held ≡ No → HasLock v → LeavesToFirst n l = λ alone _ _. let w : held_weight No ≡ held_weight Alone = ap held_weight (sym may.0 ∙ alone) in absurd (omega (arith, w)) in ⊎_elim
-      (λ (q : (m < 8) × (n ≡ 8 * (may.1.0 + 1) + m)). let free = q.0 in let few = nobody free in owns-by k ws vs l id n v h Take r at task counts tries own there (coupled-takes-free m l vs id v r.coupled at (apart k ws vs l id v r at) may.1.0 n h q.0 (nobody q.0) q.1 task) (let is = q.1 in duty-takes (wake_words ws) m l vs id v r.coupled r.wake at (apart k ws vs l id v r at) r.list.sound.small n may.1.0 h own (omega (arith, is)) (omega (arith, is, few)) may.1.1 task) (goes-clear m l (wake_words ws) (wake_words ws) v (turns turned Take v h) refl may.2 NoDuty refl (λ e. absurd (omega (arith, e))) (λ some. absurd (some refl))) (λ leaves. let big = leaves.2 in absurd (omega (arith, big, free))) (λ high. absurd (omega (arith, high, few)))
+      (λ (q : (m < 8) × (n ≡ 8 * (may.1.0 + 1) + m)). let free = q.0 in let few = nobody free in owns-by k ws vs l id n v h Take r at task counts tries own there (coupled-takes-free m l vs id v r.coupled at (apart k ws vs l id v r at) may.1.0 n h q.0 (nobody q.0) q.1 task) (let is = q.1 in duty-takes (wake_words ws) m l vs id v r.coupled r.wake at (apart k ws vs l id v r at) r.list.sound.small n may.1.0 h own (omega (arith, is)) (omega (arith, is, few)) may.1.1 task) (goes-clear m l (wake_words ws) (wake_words ws) v (turns turned Take v h) refl may.2 NoDuty refl (λ e. absurd (omega (arith, e))) (λ some. absurd (some refl)) (λ alone free. absurd (free-holds v (turns turned Take v h) may.0 alone free))) (λ leaves. let big = leaves.2 in absurd (omega (arith, big, free))) (λ high. absurd (omega (arith, high, few)))
       (λ asked. let more = asked.1 in let is = q.1 in absurd (omega (arith, more, is, few))) (λ asked. absurd (omega (arith, asked, few))) left names)
-      (λ (q : (4 ≤ m % 8) × (m / 8 ≡ may.1.0 + 1) × (n + 4 ≡ m)). let high = q.0 in owns-by k ws vs l id n v h Take r at task counts tries own there (coupled-takes-picked m l vs id v r.coupled at (apart k ws vs l id v r at) n h q.0 flags q.2 task) (let is = q.2 in let me = q.1 in duty-takes (wake_words ws) m l vs id v r.coupled r.wake at (apart k ws vs l id v r at) r.list.sound.small n may.1.0 h own (omega (arith, is, me, high)) (omega (arith, is, high, flags)) may.1.1 task) (goes-clear m l (wake_words ws) (wake_words ws) v (turns turned Take v h) refl may.2 NoDuty refl (λ e. absurd (omega (arith, e))) (λ some. absurd (some refl))) (λ leaves. let low = leaves.0 in absurd (omega (arith, low, high))) (λ _. inr (v, at, (may.1.0, may.1.1, q.1), q.2))
+      (λ (q : (4 ≤ m % 8) × (m / 8 ≡ may.1.0 + 1) × (n + 4 ≡ m)). let high = q.0 in owns-by k ws vs l id n v h Take r at task counts tries own there (coupled-takes-picked m l vs id v r.coupled at (apart k ws vs l id v r at) n h q.0 flags q.2 task) (let is = q.2 in let me = q.1 in duty-takes (wake_words ws) m l vs id v r.coupled r.wake at (apart k ws vs l id v r at) r.list.sound.small n may.1.0 h own (omega (arith, is, me, high)) (omega (arith, is, high, flags)) may.1.1 task) (goes-clear m l (wake_words ws) (wake_words ws) v (turns turned Take v h) refl may.2 NoDuty refl (λ e. absurd (omega (arith, e))) (λ some. absurd (some refl)) (λ alone free. absurd (free-holds v (turns turned Take v h) may.0 alone free))) (λ leaves. let low = leaves.0 in absurd (omega (arith, low, high))) (λ _. inr (v, at, (may.1.0, may.1.1, q.1), q.2))
       (λ asked. let more = asked.1 in let is = q.2 in absurd (omega (arith, more, is, high, flags))) (λ asked. absurd (omega (arith, asked, high, flags))) left names)
       may.1.2
   mutex-owns k ws vs id n v h Ask (l, r) at task counts tries left may own there = let m : ℕ = owner_in ws in let few = may.2.0 in let is = may.2.2 in
       owns-by k ws vs l id n v h Ask r at task counts tries own there (coupled-asks m l vs id v r.coupled at (apart k ws vs l id v r at) n h may.0 may.1 may.2.0 may.2.2 task)
-      (let held = held-stays k ws vs l id v r at n h own there (omega (arith, few, is)) (λ z. omega (arith, few, z)) (λ z. omega (arith, few, is)) in duty-stays (wake_words ws) m l vs id v r.coupled r.wake at (apart k ws vs l id v r at) r.list.sound.small (turns turned Ask v h) task held (counts.0.freed held) refl refl refl) (goes-same m l (wake_words ws) (wake_words ws) v (turns turned Ask v h) refl refl) (λ leaves. absurd (leaves.3 (omega (arith, few, is)))) (λ high. absurd (omega (arith, high, few)))
+      (let held = held-stays k ws vs l id v r at n h own there (omega (arith, few, is)) (λ z. omega (arith, few, z)) (λ z. omega (arith, few, is)) in duty-stays (wake_words ws) m l vs id v r.coupled r.wake at (apart k ws vs l id v r at) r.list.sound.small (turns turned Ask v h) task held (counts.0.freed held) refl refl refl) (goes-same m l (wake_words ws) (wake_words ws) v (turns turned Ask v h) refl refl (same-holds v (turns turned Ask v h) (held-stays k ws vs l id v r at n h own there (omega (arith, few, is)) (λ z. omega (arith, few, z)) (λ z. omega (arith, few, is))))) (λ leaves. absurd (leaves.3 (omega (arith, few, is)))) (λ high. absurd (omega (arith, high, few)))
       (λ _. (r.coupled.each id v at).first may.0) (λ asked. absurd (omega (arith, asked, few))) left
       (λ alone free _. let e = ended k ws vs l id v r at n h alone free own in let big = e.1 in let small = e.2 (omega (arith, few, is)) in absurd (omega (arith, small, big, is)))
   mutex-owns k ws vs id n v h Free (l, r) at task counts tries left may own there = let m : ℕ = owner_in ws in let few = may.2 in
       owns-by k ws vs l id n v h Free r at task counts tries own there (coupled-frees m l vs id v r.coupled at (apart k ws vs l id v r at) n h may.2 may.3 task)
       (let is = may.3 in let named_by = alone-named k ws vs l id v r at may.0 in let free = held-freed k ws vs l id v r at n h own there (omega (arith, is)) in
       duty-frees (wake_words ws) m l vs id v r.coupled r.wake at (apart k ws vs l id v r at) r.list.sound.small n named_by.0 h (one-lock k ws vs l id v r at) named_by.1 may.1 is may.4 task (left may.0 (λ z. let w : held_weight No ≡ held_weight Alone = ap held_weight (sym free ∙ z) in omega (arith, w))))
-      (goes-clear m l (wake_words ws) (wake_words ws) v (turns turned Free v h) refl may.5 Owing refl (λ _. (let is = may.3 in (may.0, held-freed k ws vs l id v r at n h own there (omega (arith, is))))) (λ some. absurd (some refl))) (λ leaves. let x = leaves.1 in absurd (omega (arith, x, few))) (λ high. absurd (omega (arith, high, few)))
+      (goes-clear m l (wake_words ws) (wake_words ws) v (turns turned Free v h) refl may.5 Owing refl (λ _. (let is = may.3 in (may.0, held-freed k ws vs l id v r at n h own there (omega (arith, is))))) (λ some. absurd (some refl)) (λ _ _. inl refl)) (λ leaves. let x = leaves.1 in absurd (omega (arith, x, few))) (λ high. absurd (omega (arith, high, few)))
       (λ asked. let more = asked.1 in let is = may.3 in absurd (omega (arith, more, is, few))) (λ asked. absurd (omega (arith, asked, few))) left (λ _ _ has. locked-free v (ap holds_at may.1) has)
   mutex-owns k ws vs id n v h HandOn (l, r) at task counts tries left may own there = let m : ℕ = owner_in ws in let kn = known k ws vs l id v r at may.2.0 in let a = apart k ws vs l id v r at in let is : v.ext.list.list ≡ l = kn.0 in let few = may.3 in
       let none_is : length l ≡ 0 → n ≡ m % 2 = λ z. may.4.0 (ap length is ∙ z) in let some_is : 0 < length l → n ≡ 8 * first_code l + 4 + m % 2 = λ lo. subst (λ (y : List Waiter). 0 < length y → n ≡ 8 * first_code y + 4 + m % 2) is may.4.1 lo in
       owns-by k ws vs l id n v h HandOn r at task counts tries own there (coupled-hands-over m l vs id v r.coupled at a n h may.2.0.0 may.2.2 may.3 none_is some_is task may.1.0)
       (let named_by = alone-named k ws vs l id v r at may.0 in duty-hands (wake_words ws) m l vs id v r.coupled r.wake at a r.list.sound.small named_by.0 h may.2.0.0 named_by.1 may.1.0 is task)
-      (goes-clear m l (wake_words ws) (wake_words ws) v (turns turned HandOn v h) refl may.1.1 (duty_of (first_code v.ext.list.list)) refl (λ e. absurd (let none = chosen-debt (first_code v.ext.list.list) in omega (arith, none, e))) (λ chose. ((may.2.0.0, chosen-code (first_code v.ext.list.list) ∙ ap first_code is), inr (may.0, held-picked k ws vs l id v r at n h own (let e = some_is (some-waits l (λ z. chose (chosen-code (first_code v.ext.list.list) ∙ (ap first_code is ∙ z)))) in omega (arith, e))))))
+      (goes-clear m l (wake_words ws) (wake_words ws) v (turns turned HandOn v h) refl may.1.1 (duty_of (first_code v.ext.list.list)) refl (λ e. absurd (let none = chosen-debt (first_code v.ext.list.list) in omega (arith, none, e))) (λ chose. ((may.2.0.0, chosen-code (first_code v.ext.list.list) ∙ ap first_code is), inr (may.0, held-picked k ws vs l id v r at n h own (let e = some_is (some-waits l (λ z. chose (chosen-code (first_code v.ext.list.list) ∙ (ap first_code is ∙ z)))) in omega (arith, e))))) (λ _ _. inr (may.2.0.0, chosen-code (first_code v.ext.list.list) ∙ ap first_code is)))
       (λ leaves. let fl = flagged m l vs id v r.coupled at a may.2.0.0 may.2.2 in let asks = leaves.1 in elim (native.Mathlib.Decide.dec_le (length l) 0) [
         | yes z ↦ let e = fl.none (omega (arith, z)) in absurd (omega (arith, e, asks))
         | no lo ↦ let e = some_is (omega (arith, lo)) in (omega (arith, e), omega (arith, e))
@@ -376,12 +376,12 @@ module _ {Call : Type 0} (o : Obj Call) (size : ℕ) where
       ])
   mutex-owns k ws vs id n v h Flag (l, r) at task counts tries left may own there = let m : ℕ = owner_in ws in let low = ((r.coupled.each id v at).joins may.0).3 in let is = may.1 (omega (arith, low)) in
       owns-by k ws vs l id n v h Flag r at task counts tries own there (coupled-flags m l vs id v r.coupled at (apart k ws vs l id v r at) n h may.0 is task)
-      (let held = held-stays k ws vs l id v r at n h own there (omega (arith, is, low)) (λ z. omega (arith, low, z)) (λ z. omega (arith, low, is)) in duty-stays (wake_words ws) m l vs id v r.coupled r.wake at (apart k ws vs l id v r at) r.list.sound.small (turns turned Flag v h) task held (counts.0.freed held) refl refl refl) (goes-same m l (wake_words ws) (wake_words ws) v (turns turned Flag v h) refl refl) (λ leaves. let x = leaves.1 in absurd (omega (arith, x, low))) (λ high. absurd (omega (arith, high, low)))
+      (let held = held-stays k ws vs l id v r at n h own there (omega (arith, is, low)) (λ z. omega (arith, low, z)) (λ z. omega (arith, low, is)) in duty-stays (wake_words ws) m l vs id v r.coupled r.wake at (apart k ws vs l id v r at) r.list.sound.small (turns turned Flag v h) task held (counts.0.freed held) refl refl refl) (goes-same m l (wake_words ws) (wake_words ws) v (turns turned Flag v h) refl refl (same-holds v (turns turned Flag v h) (held-stays k ws vs l id v r at n h own there (omega (arith, is, low)) (λ z. omega (arith, low, z)) (λ z. omega (arith, low, is))))) (λ leaves. let x = leaves.1 in absurd (omega (arith, x, low))) (λ high. absurd (omega (arith, high, low)))
       (λ asked. let more = asked.1 in absurd (omega (arith, more, is, low))) (λ asked. absurd (omega (arith, asked, low))) left
       (λ alone free _. let e = ended k ws vs l id v r at n h alone free own in let big = e.1 in let small = e.2 (omega (arith, low, is)) in absurd (omega (arith, small, big, is)))
   mutex-owns k ws vs id n v h Clear (l, r) at task counts tries left may own there = let m : ℕ = owner_in ws in let is = may.1 in let low = ((r.coupled.each id v at).empties may.0).3 in
       owns-by k ws vs l id n v h Clear r at task counts tries own there (coupled-clears m l vs id v r.coupled at (apart k ws vs l id v r at) n h may.0 may.1 task)
-      (let held = held-stays k ws vs l id v r at n h own there (omega (arith, is)) (λ z. omega (arith, low, z)) (λ z. omega (arith, is)) in duty-stays (wake_words ws) m l vs id v r.coupled r.wake at (apart k ws vs l id v r at) r.list.sound.small (turns turned Clear v h) task held (counts.0.freed held) refl refl refl) (goes-same m l (wake_words ws) (wake_words ws) v (turns turned Clear v h) refl refl) (λ leaves. absurd (leaves.3 (omega (arith, is)))) (λ high. absurd (omega (arith, high, low)))
+      (let held = held-stays k ws vs l id v r at n h own there (omega (arith, is)) (λ z. omega (arith, low, z)) (λ z. omega (arith, is)) in duty-stays (wake_words ws) m l vs id v r.coupled r.wake at (apart k ws vs l id v r at) r.list.sound.small (turns turned Clear v h) task held (counts.0.freed held) refl refl refl) (goes-same m l (wake_words ws) (wake_words ws) v (turns turned Clear v h) refl refl (same-holds v (turns turned Clear v h) (held-stays k ws vs l id v r at n h own there (omega (arith, is)) (λ z. omega (arith, low, z)) (λ z. omega (arith, is))))) (λ leaves. absurd (leaves.3 (omega (arith, is)))) (λ high. absurd (omega (arith, high, low)))
       (λ asked. let more = asked.1 in absurd (omega (arith, more, is))) (λ _. inr (inr ((r.coupled.each id v at).empties may.0).1)) left
       (λ alone free _. let e = ended k ws vs l id v r at n h alone free own in let big = e.1 in let small = e.2 (omega (arith, is)) in absurd (omega (arith, small, big, is)))
 
@@ -392,7 +392,7 @@ module _ {Call : Type 0} (o : Obj Call) (size : ℕ) where
       refl
       (set_part hand_of (OwnKept (owner_in ws)) vs id w (own-stays (map hand_of vs) id (owner_in ws) v.hand h r.own (at_map hand_of vs id v at) held (inl task)))
       (keep_part parted (ListKept (list_words ws) l) vs id v w at refl r.list)
-      (coupled-hands (owner_in ws) l vs id v r.coupled at h (inl task)) (duty-stays (wake_words ws) (owner_in ws) l vs id v r.coupled r.wake at (apart k ws vs l id v r at) r.list.sound.small w task held (counts.0.freed held) refl refl refl) (goes-same (owner_in ws) l (wake_words ws) (wake_words ws) v w refl refl) tt tt tt
+      (coupled-hands (owner_in ws) l vs id v r.coupled at h (inl task)) (duty-stays (wake_words ws) (owner_in ws) l vs id v r.coupled r.wake at (apart k ws vs l id v r at) r.list.sound.small w task held (counts.0.freed held) refl refl refl) (goes-same (owner_in ws) l (wake_words ws) (wake_words ws) v w refl refl (same-holds v w held)) tt tt tt
 
   pub mutex-opens : (k : Plan) → length (fresh k) ≡ width k → ((i : ℕ) → i < LOCK_WORDS → get_or (fresh k) i 0 ≡ 0) → Site k (fresh k) (map hand_of (first k idle ∷ [])) → Kept o size k (fresh k) (first k idle ∷ [])
   mutex-opens k wide zeros there = let v : V = first k idle in let own = zeros owner_at (omega arith) in let ws : List ℕ = list_words (fresh k) in (
@@ -416,7 +416,7 @@ module _ {Call : Type 0} (o : Obj Call) (size : ℕ) where
       (snoc_part hand_of (OwnKept (owner_in ws)) us w (own-strangers (map hand_of us) (owner_in ws) v.hand.plan v.hand.seen (keep_part hand_of (OwnKept (owner_in ws)) vs id v (ticked v) at refl r.own)))
       (snoc_part parted (ListKept (list_words ws) l) us w (list-strangers (list_words ws) l (map parted us) (keep_part parted (ListKept (list_words ws) l) vs id v (ticked v) at refl r.list)))
       (coupled-snoc (owner_in ws) l us w (coupled-hands (owner_in ws) l vs id v r.coupled at v.hand (inl refl)) refl refl)
-      (snoc_part wparted (WakeKept (wake_words ws) l) us w (wake-snoc (wake_words ws) l (map wparted us) (wparted w) (keep_part wparted (WakeKept (wake_words ws) l) vs id v (ticked v) at refl r.wake) record { clear = refl; absent = refl; out = refl })) (goes-same (owner_in ws) l (wake_words ws) (wake_words ws) v (ticked v) refl refl) tt tt tt
+      (snoc_part wparted (WakeKept (wake_words ws) l) us w (wake-snoc (wake_words ws) l (map wparted us) (wparted w) (keep_part wparted (WakeKept (wake_words ws) l) vs id v (ticked v) at refl r.wake) record { clear = refl; absent = refl; out = refl })) (goes-same (owner_in ws) l (wake_words ws) (wake_words ws) v (ticked v) refl refl (same-holds v (ticked v) refl)) tt tt tt
 
   pub mutex-joins : (k : Plan) (ws : List ℕ) (vs : List V) (id other : ℕ) (v w : V) → Kept o size k ws vs → get_elem? vs id ≡ some v → other ≢ id → get_elem? vs other ≡ some w → HoldsNothing w × rests w × (w.hand.task ≡ None)
       → Site k ws (map hand_of (set (set vs id (merged v w)) other (spent idle))) → SiteMove id (owner_in ws) (site k ws) vs (site k ws) (set (set vs id (merged v w)) other (spent idle)) → Go k id ws vs ws (set (set vs id (merged v w)) other (spent idle))
@@ -431,7 +431,7 @@ module _ {Call : Type 0} (o : Obj Call) (size : ℕ) where
       (set_part parted (ListKept (list_words ws) l) us other x (list-leaves (list_words ws) l (map parted us) other (parted w) (keep_part parted (ListKept (list_words ws) l) vs id v u at refl r.list) (at_map parted us other w there') (ap holds_at free.1)))
       (coupled-stays n l us other w coupled there' x (idle-ok n l x refl refl) (λ t. sym (λ i. when (out.0 i) (is_number t w.hand.task))) (sym out.1))
       (set_part wparted (WakeKept (wake_words ws) l) us other x (let before = keep_part wparted (WakeKept (wake_words ws) l) vs id v u at refl r.wake in let here = at_map wparted us other w there' in
-      wake-quiet (wake_words ws) l (map wparted us) other (wparted w) before here (wparted x) ((before.each other (wparted w) here).named nameless) record { clear = refl; absent = refl; out = refl })) (goes-same (owner_in ws) l (wake_words ws) (wake_words ws) v u refl refl) tt tt tt
+      wake-quiet (wake_words ws) l (map wparted us) other (wparted w) before here (wparted x) ((before.each other (wparted w) here).named nameless) record { clear = refl; absent = refl; out = refl })) (goes-same (owner_in ws) l (wake_words ws) (wake_words ws) v u refl refl (same-holds v u refl)) tt tt tt
 
   -- what a change of the list needs of it
   pub mutex-list-may : (k : Plan) (ws : List ℕ) (vs : List V) (l : List Waiter) (id : ℕ) (v : V) (c : Change) → Queue k ws vs l → get_elem? vs id ≡ some v → SpinHolds v.spin → may_change c v l → Allowed c l
@@ -465,10 +465,10 @@ module _ {Call : Type 0} (o : Obj Call) (size : ℕ) where
     leaver = λ some_is. ⊎_elim (λ (e : b.leaver ≡ v.ext.list.leaver). let k = ok.leaver (λ z. some_is (e ∙ z)) in (k.0, k.1, e ∙ k.2)) (λ (z : b.leaver ≡ 0). absurd (some_is z)) leaver;
     named = λ none. let q = ok.named none in (q.0, q.1, q.2, ⊎_elim (λ (e : b.leaver ≡ v.ext.list.leaver). e ∙ q.3) (λ (z : b.leaver ≡ 0). z) leaver, q.4);
     waits = ok.waits;
-  } (λ t. refl) refl) (keep_part wparted (WakeKept (wake_words ws) l) vs id v (listed with_list Stay v b) at refl r.wake) (goes-same m l (wake_words ws) (wake_words ws) v (listed with_list Stay v b) refl refl) tt tt tt
+  } (λ t. refl) refl) (keep_part wparted (WakeKept (wake_words ws) l) vs id v (listed with_list Stay v b) at refl r.wake) (goes-same m l (wake_words ws) (wake_words ws) v (listed with_list Stay v b) refl refl (same-holds v (listed with_list Stay v b) refl)) tt tt tt
   mutex-lists k ws vs l id i n v (Enter w) b r at inside has may is leaver list = let m : ℕ = owner_in ws in let a = apart k ws vs l id v r at in lists-by k ws vs l id i n v (Enter w) b r at inside list (coupled-enters m l vs id v r.coupled at a w b (ap holds_at has) may.0 may.1 may.2 is leaver)
       (duty-enters (wake_words ws) m l vs id v r.coupled r.wake at a r.list.sound.small w b (ap holds_at has) may.0 may.5 may.1)
-      (goes-vigil m l (wake_words ws) (wake_words ws) v (listed with_list (Enter w) v b) (Enter w) refl Awake refl (λ _. refl) (λ _ _. inl refl) (λ _ e. absurd (omega (arith, e))))
+      (goes-vigil m l (wake_words ws) (wake_words ws) v (listed with_list (Enter w) v b) (Enter w) refl Awake refl (λ _. refl) (λ _ _. inl refl) (λ _ e. absurd (omega (arith, e))) (same-holds v (listed with_list (Enter w) v b) refl))
       (mutex-list-may k ws vs l id v (Enter w) r at has may) (parted v, at_map parted vs id v at, ap holds_at has) (v, at, may.0, may.3, may.4)
   mutex-lists k ws vs l id i n v (Leave t) b r at inside has may is leaver list = let m : ℕ = owner_in ws in let a = apart k ws vs l id v r at in
       let unpicked : IsUnpicked m t = λ high. ⊎_elim
@@ -477,7 +477,7 @@ module _ {Call : Type 0} (o : Obj Call) (size : ℕ) where
       may.3 in
       lists-by k ws vs l id i n v (Leave t) b r at inside list (coupled-leaves m l vs id v r.coupled at a t b (ap holds_at has) may.0 may.1 may.2 unpicked is leaver)
       (duty-leaves (wake_words ws) m l vs id v r.coupled r.wake at a r.list.sound.small t b (ap holds_at has) may.0 (⊎_elim (λ alone. inl alone) (λ tried. inr tried.1) may.3))
-      (goes-vigil m l (wake_words ws) (wake_words ws) v (listed with_list (Leave t) v b) (Leave t) refl Absent refl (λ e. absurd (omega (arith, e))) (λ _ e. absurd (omega (arith, e))) (λ _ _. inl refl))
+      (goes-vigil m l (wake_words ws) (wake_words ws) v (listed with_list (Leave t) v b) (Leave t) refl Absent refl (λ e. absurd (omega (arith, e))) (λ _ e. absurd (omega (arith, e))) (λ _ _. inl refl) (same-holds v (listed with_list (Leave t) v b) refl))
       (mutex-list-may k ws vs l id v (Leave t) r at has may) (parted v, at_map parted vs id v at, ap holds_at has) (v, at, may.0, unpicked)
 
   both : (a b : Bool) → (a && b) ≡ true → (a ≡ true) × (b ≡ true)
@@ -511,7 +511,7 @@ module _ {Call : Type 0} (o : Obj Call) (size : ℕ) where
         waits = ok.waits ∙ sym (waits-looking (holds_in v.spin) v.ext.list.changes v.hand.freed n v.ext.wake);
       } (λ t. refl) refl)
       (duty-looks (wake_words ws) (owner_in ws) l vs id v r.coupled r.wake at (apart k ws vs l id v r at) r.list.sound.small n (λ has still. head-is (list_words ws) l (r.list.quiet (none-change (list_words ws) l (map parted vs) id (parted v) r.list (at_map parted vs id v at) (one-takes k ws vs l id v r at) has still))))
-      (goes-looks (owner_in ws) l (wake_words ws) v w n refl (λ has still. head-is (list_words ws) l (r.list.quiet (none-change (list_words ws) l (map parted vs) id (parted v) r.list (at_map parted vs id v at) (one-takes k ws vs l id v r at) has still)))) tt tt tt
+      (goes-looks (owner_in ws) l (wake_words ws) v w n refl (λ has still. head-is (list_words ws) l (r.list.quiet (none-change (list_words ws) l (map parted vs) id (parted v) r.list (at_map parted vs id v at) (one-takes k ws vs l id v r at) has still))) (same-holds v w refl)) tt tt tt
     where
       heads : (t : ℕ) → v.hand.task ≡ Some t → get_or (list_words ws) 0 0 ≡ t + 1 → holds_in v.spin ≡ 0 → first_code l ≡ t + 1
       heads t is word out = elim (native.Mathlib.Decide.dec_le (total changes_of (map parted vs)) 0) [
@@ -567,7 +567,7 @@ module _ {Call : Type 0} (o : Obj Call) (size : ℕ) where
       } (λ t. refl) refl)
       (subst (λ (z : List ℕ). WakeKept z l (map wparted (set vs id w))) (sym (part-in ws wakes_at WAKE_WORDS (8 * t) n (omega (arith, few)))) (set_part wparted (WakeKept (set (wake_words ws) (8 * t) n) l) vs id w wake))
       (subst (λ (z : List ℕ). StandingGoes (owner_in ws) l Stay (wake_words ws) z v w) (sym (part-in ws wakes_at WAKE_WORDS (8 * t) n (omega (arith, few)))) (⊎_elim
-      (λ (s : Sets t n (wparted v) b). goes-sets (owner_in ws) l (wake_words ws) v w t n few r.wake.wide s.1 s.0 s.2)
+      (λ (s : Sets t n (wparted v) b). goes-sets (owner_in ws) l (wake_words ws) v w t n few r.wake.wide s.1 s.0 s.2 (same-holds v w refl))
       (λ (d : Drowses t (wake_word (wake_words ws) t) n (wparted v) b × (v.hand.held ≡ No)). goes-drowses (owner_in ws) l (wake_words ws) v w t n few r.wake.wide d.0.3 d.0.0 d.0.1 d.1 (ok.waits ∙ ap waits d.0.2.1) d.0.2 d.0.4)
       kind)) tt tt tt
     where

@@ -256,10 +256,11 @@ EndsChoice words' s s' = (s'.chosen ≡ 0) × SetsChosen words' (λ t. s.chosen 
 abbrev pub FailsUnderLock : (n locked : ℕ) → Hand → Type 0
 FailsUnderLock n locked h = (locked ≡ 1) × (8 ≤ n) × ((t : ℕ) × (h.task ≡ Some t) × IsUnpicked n t)
 
--- What a step of a pass does to the wake words, to what it owes and to how its task waits. `n` is the owner word, `l` the list and `c` its change. `locked` is 1 where the pass had the wait lock. `h` and `s` stand before the step. Nobody owes but by ending a hold, and nobody chooses but to end a debt with the flag of the waiters, or by the step that ends its hold. Such a debt ends by a choice of the first waiter, and a choice by the store of its wake word. A task falls asleep only while it holds nothing, and after it isn't to try any more, and so it is by a try that failed under the wait lock, or by leaving. It is to try once it enters, or once it has made a step without the wait lock by which it didn't fall asleep.
+-- What a step of a pass does to the wake words, to what it owes and to how its task waits. `n` is the owner word, `l` the list and `c` its change. `locked` is 1 where the pass had the wait lock. `h` and `s` stand before the step. Nobody owes but by ending a hold, and who ends one owes, or has chosen the first waiter by that step. Nobody chooses but to end a debt with the flag of the waiters, or by the step that ends its hold. Such a debt ends by a choice of the first waiter, and a choice by the store of its wake word. A task falls asleep only while it holds nothing, and after it isn't to try any more, and so it is by a try that failed under the wait lock, or by leaving. It is to try once it enters, or once it has made a step without the wait lock by which it didn't fall asleep.
 pub record WakesGo (n : ℕ) (l : List Waiter) (c : Change) (words words' : List ℕ) (locked : ℕ) (h h' : Hand) (s s' : Standing) : Type 0 where
   pub words_go : (t : ℕ) → t < MAX_TASKS → WordGoes words words' h.task locked s.queued s.awake (λ u. s.chosen ≡ u + 1) t
   pub owes : s.debt ≡ 0 → s'.debt ≡ 1 → (h.held ≡ Alone) × (h'.held ≡ No)
+  pub must : h.held ≡ Alone → h'.held ≡ No → (s'.debt ≡ 1) ⊎ ChoosesFirst locked l s'.chosen
   pub pays : s.debt ≡ 1 → h.freed % 2 ≡ 1 → (s'.debt ≡ 1) ⊎ ChoosesFirst locked l s'.chosen
   pub chooses : s'.chosen ≢ s.chosen → s'.chosen ≢ 0 → ChoosesFirst locked l s'.chosen × MayChoose h h' s
   pub sets : s'.chosen ≢ s.chosen → s.chosen ≢ 0 → EndsChoice words' s s'

@@ -6,6 +6,7 @@ use Rattle.word_bits.specs.declared.TheConstants.{MAX_TASKS}
 use Rattle.lock_core.specs.declared.view.Held.TheVariants.{No, Alone}
 use Rattle.lock_core.specs.Records.{bit}
 use Rattle.lock_core.specs.Spins.{holds_in}
+use Rattle.lock_core.specs.Views.{held_weight}
 use Rattle.lock_core.proofs.HandLaws.{false-or-true}
 use Rattle.wait_list.specs.declared.view.Waiter.{Waiter}
 use Rattle.wait_list.specs.declared.view.Change.{Change}
@@ -63,15 +64,29 @@ roused-bit Absent e = e
 roused-bit Awake e = refl
 roused-bit (Tried m) e = refl
 
+-- it ends no hold
+abbrev pub HoldsOn : V → V → Type 0
+HoldsOn v u = v.hand.held ≡ Alone → u.hand.held ≡ No → ⊥
+
+alone-free : {P : Type 0} → Alone ≡ No → P
+alone-free e = absurd (let z : held_weight Alone ≡ held_weight No = ap held_weight e in omega (arith, z))
+
+pub same-holds : (v u : V) → u.hand.held ≡ v.hand.held → HoldsOn v u
+same-holds v u same alone free = alone-free (sym alone ∙ (sym same ∙ free))
+
+pub free-holds : (v u : V) → v.hand.held ≡ No → HoldsOn v u
+free-holds v u out alone free = alone-free (sym alone ∙ out)
+
 module _ (n : ℕ) (l : List Waiter) (words words' : List ℕ) (v u : V) where
   abbrev w : WakeHand
   w = v.ext.wake
 
   -- all stays
-  pub goes-same : words' ≡ words → u.ext.wake ≡ w → StandingGoes n l Stay words words' v u
-  goes-same same wake = let debt = ap (λ (z : WakeHand). debt_of z.duty) wake in let chosen = ap (λ (z : WakeHand). chosen_code z.duty) wake in let awake = ap (λ (z : WakeHand). awake_bit z.vigil) wake in record {
+  pub goes-same : words' ≡ words → u.ext.wake ≡ w → HoldsOn v u → StandingGoes n l Stay words words' v u
+  goes-same same wake on = let debt = ap (λ (z : WakeHand). debt_of z.duty) wake in let chosen = ap (λ (z : WakeHand). chosen_code z.duty) wake in let awake = ap (λ (z : WakeHand). awake_bit z.vigil) wake in record {
     words_go = λ t few. inl (ap (λ (z : List ℕ). wake_word z t) same);
     owes = λ e e'. absurd (omega (arith, debt, e, e'));
+    must = λ alone free. absurd (on alone free);
     pays = λ e odd. inl (debt ∙ e);
     chooses = λ other some. absurd (other chosen);
     sets = λ other some. absurd (other chosen);
@@ -84,10 +99,11 @@ module _ (n : ℕ) (l : List Waiter) (words words' : List ℕ) (v u : V) where
 
   -- how its task waits changes, and the list by this change
   pub goes-vigil : (c : Change) → words' ≡ words → (x : Vigil) → u.ext.wake ≡ record w { vigil = x } → (entered c ≡ 1 → awake_bit x ≡ 1) → (awake_bit w.vigil ≡ 0 → awake_bit x ≡ 1 → (entered c ≡ 1) ⊎ (holds_in v.spin ≡ 0)) → (awake_bit w.vigil ≡ 1 → awake_bit x ≡ 0 → (left c ≡ 1) ⊎ FailsUnderLock n (holds_in v.spin) v.hand)
-      → StandingGoes n l c words words' v u
-  goes-vigil c same x wake enters rises falls = let debt = ap (λ (z : WakeHand). debt_of z.duty) wake in let chosen = ap (λ (z : WakeHand). chosen_code z.duty) wake in let awake = ap (λ (z : WakeHand). awake_bit z.vigil) wake in let dozed = ap (λ (z : WakeHand). z.dozes) wake in record {
+      → HoldsOn v u → StandingGoes n l c words words' v u
+  goes-vigil c same x wake enters rises falls on = let debt = ap (λ (z : WakeHand). debt_of z.duty) wake in let chosen = ap (λ (z : WakeHand). chosen_code z.duty) wake in let awake = ap (λ (z : WakeHand). awake_bit z.vigil) wake in let dozed = ap (λ (z : WakeHand). z.dozes) wake in record {
     words_go = λ t few. inl (ap (λ (z : List ℕ). wake_word z t) same);
     owes = λ e e'. absurd (omega (arith, debt, e, e'));
+    must = λ alone free. absurd (on alone free);
     pays = λ e odd. inl (debt ∙ e);
     chooses = λ other some. absurd (other chosen);
     sets = λ other some. absurd (other chosen);
@@ -100,10 +116,11 @@ module _ (n : ℕ) (l : List Waiter) (words words' : List ℕ) (v u : V) where
 
   -- what it owes changes
   goes-duty : words' ≡ words → (d : Duty) → u.ext.wake ≡ record w { duty = d } → (debt_of w.duty ≡ 0 → debt_of d ≡ 1 → (v.hand.held ≡ Alone) × (u.hand.held ≡ No)) → (debt_of w.duty ≡ 1 → v.hand.freed % 2 ≡ 1 → (debt_of d ≡ 1) ⊎ ChoosesFirst (holds_in v.spin) l (chosen_code d))
-      → chosen_code w.duty ≡ 0 → (chosen_code d ≢ 0 → ChoosesFirst (holds_in v.spin) l (chosen_code d) × MayChoose v.hand u.hand (standing_of v.ext)) → StandingGoes n l Stay words words' v u
-  goes-duty same d wake ends pays none picks = let debt = ap (λ (z : WakeHand). debt_of z.duty) wake in let chosen : chosen_code u.ext.wake.duty ≡ chosen_code d = ap (λ (z : WakeHand). chosen_code z.duty) wake in let awake = ap (λ (z : WakeHand). awake_bit z.vigil) wake in record {
+      → chosen_code w.duty ≡ 0 → (chosen_code d ≢ 0 → ChoosesFirst (holds_in v.spin) l (chosen_code d) × MayChoose v.hand u.hand (standing_of v.ext)) → (v.hand.held ≡ Alone → u.hand.held ≡ No → (debt_of d ≡ 1) ⊎ ChoosesFirst (holds_in v.spin) l (chosen_code d)) → StandingGoes n l Stay words words' v u
+  goes-duty same d wake ends pays none picks must = let debt = ap (λ (z : WakeHand). debt_of z.duty) wake in let chosen : chosen_code u.ext.wake.duty ≡ chosen_code d = ap (λ (z : WakeHand). chosen_code z.duty) wake in let awake = ap (λ (z : WakeHand). awake_bit z.vigil) wake in record {
     words_go = λ t few. inl (ap (λ (z : List ℕ). wake_word z t) same);
     owes = λ e e'. ends e (sym debt ∙ e');
+    must = λ alone free. ⊎_elim (λ (stays : debt_of d ≡ 1). inl (debt ∙ stays)) (λ (first : ChoosesFirst (holds_in v.spin) l (chosen_code d)). inr (first.0, chosen ∙ first.1)) (must alone free);
     pays = λ e odd. ⊎_elim (λ (stays : debt_of d ≡ 1). inl (debt ∙ stays)) (λ (first : ChoosesFirst (holds_in v.spin) l (chosen_code d)). inr (first.0, chosen ∙ first.1)) (pays e odd);
     chooses = λ other some. let first = picks (λ z. some (chosen ∙ z)) in ((first.0.0, chosen ∙ first.0.1), first.1);
     sets = λ other some. absurd (some none);
@@ -115,34 +132,34 @@ module _ (n : ℕ) (l : List Waiter) (words words' : List ℕ) (v u : V) where
   }
 
   -- so it does of a pass that had no wake to do
-  pub goes-clear : words' ≡ words → OwesNoWake v → (d : Duty) → u.ext.wake ≡ record w { duty = d } → (debt_of d ≡ 1 → (v.hand.held ≡ Alone) × (u.hand.held ≡ No)) → (chosen_code d ≢ 0 → ChoosesFirst (holds_in v.spin) l (chosen_code d) × MayChoose v.hand u.hand (standing_of v.ext)) → StandingGoes n l Stay words words' v u
-  goes-clear same clear d wake ends picks = let none = owes-none w.duty v.hand.freed clear in goes-duty same d wake (λ _ e. ends e) (λ e odd. absurd (let even = none.1 e in omega (arith, even, odd))) none.0 picks
+  pub goes-clear : words' ≡ words → OwesNoWake v → (d : Duty) → u.ext.wake ≡ record w { duty = d } → (debt_of d ≡ 1 → (v.hand.held ≡ Alone) × (u.hand.held ≡ No)) → (chosen_code d ≢ 0 → ChoosesFirst (holds_in v.spin) l (chosen_code d) × MayChoose v.hand u.hand (standing_of v.ext)) → (v.hand.held ≡ Alone → u.hand.held ≡ No → (debt_of d ≡ 1) ⊎ ChoosesFirst (holds_in v.spin) l (chosen_code d)) → StandingGoes n l Stay words words' v u
+  goes-clear same clear d wake ends picks must = let none = owes-none w.duty v.hand.freed clear in goes-duty same d wake (λ _ e. ends e) (λ e odd. absurd (let even = none.1 e in omega (arith, even, odd))) none.0 picks must
 
   -- a debtor chooses the first waiter
-  pub goes-chooses : words' ≡ words → HasLock v → owed w.duty v.hand.freed ≡ 1 → u.ext.wake ≡ record w { duty = duty_of (first_code l) } → StandingGoes n l Stay words words' v u
-  goes-chooses same has owes wake = let first : ChoosesFirst (holds_in v.spin) l (chosen_code (duty_of (first_code l))) = (has, chosen-code (first_code l)) in
-      goes-duty same (duty_of (first_code l)) wake (λ _ e. absurd (let none = chosen-debt (first_code l) in omega (arith, none, e))) (λ _ _. inr first) (owing-chosen w.duty v.hand.freed owes) (λ _. (first, inl (owed-some w.duty v.hand.freed (omega (arith, owes)))))
+  pub goes-chooses : words' ≡ words → HasLock v → owed w.duty v.hand.freed ≡ 1 → u.ext.wake ≡ record w { duty = duty_of (first_code l) } → HoldsOn v u → StandingGoes n l Stay words words' v u
+  goes-chooses same has owes wake on = let first : ChoosesFirst (holds_in v.spin) l (chosen_code (duty_of (first_code l))) = (has, chosen-code (first_code l)) in
+      goes-duty same (duty_of (first_code l)) wake (λ _ e. absurd (let none = chosen-debt (first_code l) in omega (arith, none, e))) (λ _ _. inr first) (owing-chosen w.duty v.hand.freed owes) (λ _. (first, inl (owed-some w.duty v.hand.freed (omega (arith, owes))))) (λ alone free. absurd (on alone free))
 
 module _ (n : ℕ) (l : List Waiter) (words : List ℕ) (v u : V) where
   -- a try fails
-  pub goes-fails : u.ext.wake ≡ failing (holds_in v.spin) v.spin.entries v.ext.wake → 8 ≤ n → (t : ℕ) → v.hand.task ≡ Some t → IsUnpicked n t → StandingGoes n l Stay words words v u
-  goes-fails wake big t mine unpicked = holds-or-not v.spin
+  pub goes-fails : u.ext.wake ≡ failing (holds_in v.spin) v.spin.entries v.ext.wake → 8 ≤ n → (t : ℕ) → v.hand.task ≡ Some t → IsUnpicked n t → HoldsOn v u → StandingGoes n l Stay words words v u
+  goes-fails wake big t mine unpicked on = holds-or-not v.spin
       (λ has. goes-vigil n l words words v u Stay refl (foiled v.ext.wake.vigil v.spin.entries) (wake ∙ ap (λ (z : ℕ). failing z v.spin.entries v.ext.wake) has) (λ e. absurd (omega (arith, e)))
-      (λ _ e. absurd (let none = foiled-bit v.ext.wake.vigil v.spin.entries in omega (arith, none, e))) (λ _ _. inr (has, big, (t, mine, unpicked))))
-      (λ out. goes-same n l words words v u refl (wake ∙ ap (λ (z : ℕ). failing z v.spin.entries v.ext.wake) out))
+      (λ _ e. absurd (let none = foiled-bit v.ext.wake.vigil v.spin.entries in omega (arith, none, e))) (λ _ _. inr (has, big, (t, mine, unpicked))) on)
+      (λ out. goes-same n l words words v u refl (wake ∙ ap (λ (z : ℕ). failing z v.spin.entries v.ext.wake) out) on)
 
   -- a load of the head
-  pub goes-looks : (code : ℕ) → u.ext.wake ≡ looking (holds_in v.spin) v.ext.list.changes v.hand.freed code v.ext.wake → (HasLock v → v.ext.list.changes ≡ false → code ≡ first_code l) → StandingGoes n l Stay words words v u
-  goes-looks code wake is = holds-or-not v.spin
+  pub goes-looks : (code : ℕ) → u.ext.wake ≡ looking (holds_in v.spin) v.ext.list.changes v.hand.freed code v.ext.wake → (HasLock v → v.ext.list.changes ≡ false → code ≡ first_code l) → HoldsOn v u → StandingGoes n l Stay words words v u
+  goes-looks code wake is on = holds-or-not v.spin
       (λ has. false-or-true v.ext.list.changes
-      (λ changes. goes-same n l words words v u refl (wake ∙ (λ i. looking (has i) (changes i) v.hand.freed code v.ext.wake)))
+      (λ changes. goes-same n l words words v u refl (wake ∙ (λ i. looking (has i) (changes i) v.hand.freed code v.ext.wake)) on)
       (λ still. ⊎_elim
-      (λ (same : choosing v.ext.wake.duty (v.hand.freed % 2) code ≡ v.ext.wake.duty). goes-same n l words words v u refl (wake ∙ ((λ i. looking (has i) (still i) v.hand.freed code v.ext.wake) ∙ (λ i. record v.ext.wake { duty = same i }))))
+      (λ (same : choosing v.ext.wake.duty (v.hand.freed % 2) code ≡ v.ext.wake.duty). goes-same n l words words v u refl (wake ∙ ((λ i. looking (has i) (still i) v.hand.freed code v.ext.wake) ∙ (λ i. record v.ext.wake { duty = same i }))) on)
       (λ (owes : (owed v.ext.wake.duty v.hand.freed ≡ 1) × (choosing v.ext.wake.duty (v.hand.freed % 2) code ≡ duty_of code)). goes-chooses n l words words v u refl has owes.0
-      (wake ∙ ((λ i. looking (has i) (still i) v.hand.freed code v.ext.wake) ∙ ((λ i. record v.ext.wake { duty = owes.1 i }) ∙ ap (λ (z : ℕ). record v.ext.wake { duty = duty_of z }) (is has still)))))
+      (wake ∙ ((λ i. looking (has i) (still i) v.hand.freed code v.ext.wake) ∙ ((λ i. record v.ext.wake { duty = owes.1 i }) ∙ ap (λ (z : ℕ). record v.ext.wake { duty = duty_of z }) (is has still)))) on)
       (choosing-or v.ext.wake.duty v.hand.freed code)))
       (λ out. goes-vigil n l words words v u Stay refl (roused v.ext.wake.vigil) (wake ∙ ap (λ (z : ℕ). looking z v.ext.list.changes v.hand.freed code v.ext.wake) out) (λ e. absurd (omega (arith, e)))
-      (λ _ _. inr out) (λ e e'. absurd (let up = roused-bit v.ext.wake.vigil e in omega (arith, up, e'))))
+      (λ _ _. inr out) (λ e e'. absurd (let up = roused-bit v.ext.wake.vigil e in omega (arith, up, e'))) on)
 
 module _ (n : ℕ) (l : List Waiter) (words : List ℕ) (v u : V) (t m : ℕ) (few : t < MAX_TASKS) (wide : length words ≡ WAKE_WORDS) where
   word-here : wake_word (set words (8 * t) m) t ≡ m
@@ -159,12 +176,13 @@ module _ (n : ℕ) (l : List Waiter) (words : List ℕ) (v u : V) (t m : ℕ) (f
   one-word mine s = dite (ℕ_discrete s t) (λ same. subst WordStep (sym same) mine) (λ other. inl (word-else s other))
 
   -- the task that was chosen is woken
-  pub goes-sets : m ≡ 1 → v.ext.wake.duty ≡ Chosen t → u.ext.wake ≡ setting v.ext.wake → StandingGoes n l Stay words (set words (8 * t) m) v u
-  goes-sets one duty wake = let debt : debt_of u.ext.wake.duty ≡ 0 = ap (λ (z : WakeHand). debt_of z.duty) wake in let was : debt_of v.ext.wake.duty ≡ 0 = ap debt_of duty in let none : chosen_code u.ext.wake.duty ≡ 0 = ap (λ (z : WakeHand). chosen_code z.duty) wake in
+  pub goes-sets : m ≡ 1 → v.ext.wake.duty ≡ Chosen t → u.ext.wake ≡ setting v.ext.wake → HoldsOn v u → StandingGoes n l Stay words (set words (8 * t) m) v u
+  goes-sets one duty wake on = let debt : debt_of u.ext.wake.duty ≡ 0 = ap (λ (z : WakeHand). debt_of z.duty) wake in let was : debt_of v.ext.wake.duty ≡ 0 = ap debt_of duty in let none : chosen_code u.ext.wake.duty ≡ 0 = ap (λ (z : WakeHand). chosen_code z.duty) wake in
       let chosen : chosen_code v.ext.wake.duty ≡ t + 1 = ap chosen_code duty in let awake : awake_bit u.ext.wake.vigil ≡ awake_bit v.ext.wake.vigil = ap (λ (z : WakeHand). awake_bit z.vigil) wake in
       let done : EndsChoice (set words (8 * t) m) (standing_of v.ext) (standing_of u.ext) = (none, (ap (λ (z : WakeHand). z.wakes) wake, (t, chosen, word-here ∙ one))) in record {
         words_go = λ s small. one-word (inr (inl (word-here ∙ one, chosen))) s;
         owes = λ e e'. absurd (omega (arith, debt, e'));
+        must = λ alone free. absurd (on alone free);
         pays = λ e odd. absurd (omega (arith, was, e));
         chooses = λ other some. absurd (some none);
         sets = λ other some. done;
@@ -189,6 +207,7 @@ module _ (n : ℕ) (l : List Waiter) (words : List ℕ) (v u : V) (t m : ℕ) (f
       by-word zero was is = let debt = ap (λ (z : WakeHand). debt_of z.duty) is in let chosen = ap (λ (z : WakeHand). chosen_code z.duty) is in let awake : awake_bit u.ext.wake.vigil ≡ awake_bit v.ext.wake.vigil = ap (λ (z : WakeHand). awake_bit z.vigil) is in record {
         words_go = words_go;
         owes = λ e e'. absurd (omega (arith, debt, e, e'));
+        must = λ alone _. alone-free (sym alone ∙ free);
         pays = λ e odd. inl (debt ∙ e);
         chooses = λ other some. absurd (other chosen);
         sets = λ other some. absurd (other chosen);
@@ -201,6 +220,7 @@ module _ (n : ℕ) (l : List Waiter) (words : List ℕ) (v u : V) (t m : ℕ) (f
       by-word (suc old) was is = let debt = ap (λ (z : WakeHand). debt_of z.duty) is in let chosen = ap (λ (z : WakeHand). chosen_code z.duty) is in let dozed : u.ext.wake.dozes ≡ v.ext.wake.dozes = ap (λ (z : WakeHand). z.dozes) is in record {
         words_go = words_go;
         owes = λ e e'. absurd (omega (arith, debt, e, e'));
+        must = λ alone _. alone-free (sym alone ∙ free);
         pays = λ e odd. inl (debt ∙ e);
         chooses = λ other some. absurd (other chosen);
         sets = λ other some. absurd (other chosen);
