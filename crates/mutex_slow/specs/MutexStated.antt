@@ -123,6 +123,10 @@ pub record IsOutOfList (v : Shown) : Type 0 where
 abbrev pub MarksCounts : (wakes dozes : ℕ) → Shown → Type 0
 MarksCounts wakes dozes v = (own : IsLatestStep v) × ((stands : Standing) × StandsMarked own.step.seat stands own.step.now × (stands.wakes ≡ wakes) × (stands.dozes ≡ dozes))
 
+-- the same of the number of sleeps alone
+abbrev pub MarksDozes : (dozes : ℕ) → Shown → Type 0
+MarksDozes dozes v = (wakes : ℕ) × MarksCounts wakes dozes v
+
 abbrev pub task_of : Waiter → ℕ
 task_of w = w.task
 

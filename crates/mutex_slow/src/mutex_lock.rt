@@ -11,10 +11,10 @@ use word_bits::Object;
 impl<O: Object> SleepLock<O> for Mutex<O> {
     ghost use Rattle.std.specs.Prelude.{◌≡◌, refl};
     ghost use Rattle.lock_core.specs.Kinds.{mutex as mutex_kind};
-    ghost use Rattle.mutex_slow.specs.MutexHandles.{newest, spun_of};
+    ghost use Rattle.mutex_slow.specs.MutexHandles.{dozes_in, newest, spun_of};
     ghost use Rattle.mutex_slow.specs.Mutexes.{owner_at};
     ghost use Rattle.mutex_slow.specs.MutexPlaces.{EndsHold};
-    ghost use Rattle.mutex_slow.specs.MutexStated.{waits_on};
+    ghost use Rattle.mutex_slow.specs.MutexStated.{MarksDozes, waits_on};
     ghost use Rattle.mutex_slow.specs.MutexLocks.{KnowsMutex};
     ghost use Rattle.osq_unqueue.specs.LockSpinQueues.{KnowsSpinQueue};
     ghost use Rattle.mutex_slow.specs.MutexLockLaws.{mutex-stands};
@@ -41,6 +41,10 @@ impl<O: Object> SleepLock<O> for Mutex<O> {
     ghost turns_shared = { λ v u. u ≡ v };
 
     ghost spun = { spun_of };
+
+    ghost dozes = { dozes_in };
+
+    ghost marks_dozes = { MarksDozes };
 
     fn open(alloc: Global, plan: Plan) -> Result<(Mutex<O>, MutexPass<O>), AllocError> {
         Mutex::open(alloc, plan)
@@ -137,6 +141,8 @@ impl<O: Object> SleepLock<O> for Mutex<O> {
     ghost opens = { λ reads word shut. shut };
 
     ghost leaves = { λ p w. refl };
+
+    ghost keeps_dozes = { λ p w. refl };
 
     ghost planned = { λ m p is. is.planned };
 

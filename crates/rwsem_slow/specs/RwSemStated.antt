@@ -151,6 +151,10 @@ pub record IsOutOfLine (v : Shown) : Type 0 where
 abbrev pub MarksCounts : (wakes dozes : ℕ) → Shown → Type 0
 MarksCounts wakes dozes v = (own : IsLatestStep v) × ((b : SemWake) × WakesMarked own.step.seat b own.step.now × (b.wakes ≡ wakes) × (b.dozes ≡ dozes))
 
+-- the same of the number of sleeps alone
+abbrev pub MarksDozes : (dozes : ℕ) → Shown → Type 0
+MarksDozes dozes v = (wakes : ℕ) × MarksCounts wakes dozes v
+
 abbrev pub task_of : Waiter → ℕ
 task_of w = w.task
 

@@ -12,10 +12,10 @@ impl<O: Object> SleepLock<O> for RwSem<O> {
     ghost use Rattle.std.specs.Prelude.{◌≡◌, ◌+◌, refl};
     ghost use Rattle.lock_core.specs.declared.view.Held.TheVariants.{No, Shared};
     ghost use Rattle.lock_core.specs.Kinds.{semaphore, wakes_alone, wakes_down, wakes_shared};
-    ghost use Rattle.rwsem_slow.specs.RwSemHandles.{newest, spun_of};
+    ghost use Rattle.rwsem_slow.specs.RwSemHandles.{dozes_in, newest, spun_of};
     ghost use Rattle.rwsem_slow.specs.Releasing.{LeavesCount};
     ghost use Rattle.rwsem_wake.specs.RwSemViews.{count_at};
-    ghost use Rattle.rwsem_slow.specs.RwSemStated.{waits_on};
+    ghost use Rattle.rwsem_slow.specs.RwSemStated.{MarksDozes, waits_on};
     ghost use Rattle.rwsem_slow.specs.RwSemLocks.{KnowsRwSem};
     ghost use Rattle.osq_unqueue.specs.LockSpinQueues.{KnowsSpinQueue};
     ghost use Rattle.rwsem_slow.specs.RwSemLockLaws.{rwsem-stands};
@@ -42,6 +42,10 @@ impl<O: Object> SleepLock<O> for RwSem<O> {
     ghost turns_shared = { LeavesCount (wakes_down semaphore) Shared 0 255 };
 
     ghost spun = { spun_of };
+
+    ghost dozes = { dozes_in };
+
+    ghost marks_dozes = { MarksDozes };
 
     fn open(alloc: Global, plan: Plan) -> Result<(RwSem<O>, RwPass<O>), AllocError> {
         RwSem::open(alloc, plan)
@@ -140,6 +144,8 @@ impl<O: Object> SleepLock<O> for RwSem<O> {
     ghost opens = { λ reads word shut. shut };
 
     ghost leaves = { λ p w. refl };
+
+    ghost keeps_dozes = { λ p w. refl };
 
     ghost planned = { λ s p is. is.planned };
 

@@ -16,6 +16,7 @@ ghost use Rattle.lock_core.specs.Shown.{Shown, Stands, AllButHand, IsLatestStep,
 ghost use Rattle.lock_core.specs.Locking.{Looks, Has, Takes, Misses, Interrupts, Releases, Downgrades, Got, KeepsPlace, TalliesLock};
 ghost use Rattle.lock_core.specs.Locked.{IsLockedThen, IsSiteStep};
 ghost use Rattle.lock_core.specs.Linear.{IsLinearizable};
+ghost use Rattle.cpu_task.specs.CpuCounting.{Dozes};
 ghost use Rattle.sleep_lock.specs.Leaving.{LeavesForCpu};
 
 use cpu_task::Crew;
@@ -63,6 +64,12 @@ pub trait SleepLock<O: Object>: SiteLock<O> {
     // first, and none where the lock has no such queue.
     ghost spun: { Self.Pass → List Moment };
 
+    // How often the pass's task has fallen asleep in calls on this lock.
+    ghost dozes: { Self.Pass → ℕ };
+
+    // The last moment of a past marks the pass as having fallen asleep so often.
+    ghost marks_dozes: { ℕ → Shown → Type 0 };
+
     /// A new lock: nobody holds, the state is empty, no call is logged or recorded. The pass has no
     /// task number.
     fn open(alloc: Global, plan: Plan) -> Result<(Self, Self::Pass), AllocError>
@@ -71,7 +78,8 @@ pub trait SleepLock<O: Object>: SiteLock<O> {
         ensures plan { IfOk result (λ t. Self.calls_on t.0 ≡ plan) }
         ensures new { IfOk result (λ _. IsNew O.object O.WORDS plan (opened plan)) }
         ensures view { IfOk result (λ t.
-            Self.view t.1 ≡ shown_new (Some plan) [] (opened plan ∷ [])) };
+            Self.view t.1 ≡ shown_new (Some plan) [] (opened plan ∷ [])) }
+        ensures fresh { IfOk result (λ t. dozes t.1 ≡ 0) };
 
     /// A pass without a task number, which has seen as many entries.
     fn split(&self, pass: &mut Self::Pass) -> Self::Pass
@@ -79,7 +87,9 @@ pub trait SleepLock<O: Object>: SiteLock<O> {
         ensures on { StepsOn Self.sits Self.view self.now pass.old pass.new }
         ensures its_own { Self.sits self.now result }
         ensures kept { Looks (Self.view pass.old) (Self.view pass.new) }
-        ensures given { Self.view result ≡ shown_split (Self.view pass.old) };
+        ensures given { Self.view result ≡ shown_split (Self.view pass.old) }
+        ensures still { dozes pass.new ≡ dozes pass.old }
+        ensures fresh { dozes result ≡ 0 };
 
     /// Waits until nobody has the task's number, and takes it with the task's records. What the
     /// pass saw of the lock is forgotten, and it has seen as many entries as the task.
@@ -91,7 +101,8 @@ pub trait SleepLock<O: Object>: SiteLock<O> {
         ensures queue { GoesOn (spun pass.old) (spun pass.new) }
         ensures became { Numbered O.object (unavailable kind) (Self.calls_on self.now)
             (Self.view pass.old).hand task (Self.view pass.new).hand }
-        ensures beside { AllButHand (Self.view pass.old) (Self.view pass.new) };
+        ensures beside { AllButHand (Self.view pass.old) (Self.view pass.new) }
+        ensures still { dozes pass.new ≡ dozes pass.old };
 
     /// Gives the pass's number back.
     fn end(&self, pass: &mut Self::Pass)
@@ -103,7 +114,8 @@ pub trait SleepLock<O: Object>: SiteLock<O> {
         ensures on { StepsOn Self.sits Self.view self.now pass.old pass.new }
         ensures queue { GoesOn (spun pass.old) (spun pass.new) }
         ensures kept { Has (gave_up (Self.view pass.old).hand)
-            (Self.view pass.old) (Self.view pass.new) };
+            (Self.view pass.old) (Self.view pass.new) }
+        ensures still { dozes pass.new ≡ dozes pass.old };
 
     /// Takes in another pass, which is spent: `into` then knows the records that `other` knew, and
     /// has seen as many entries as either. Of the lock's spin queue it goes back to all that either
@@ -116,12 +128,14 @@ pub trait SleepLock<O: Object>: SiteLock<O> {
         ensures kept { Has (gathered (Self.view into.old).hand (Self.view other).hand)
             (Self.view into.old) (Self.view into.new) }
         ensures queue { GoesOn (spun into.old) (spun into.new) }
-        ensures others_queue { GoesOn (spun other) (spun into.new) };
+        ensures others_queue { GoesOn (spun other) (spun into.new) }
+        ensures still { dozes into.new ≡ dozes into.old };
 
     /// Loads. Then the pass knows of each moment of the table so far, from the new one on, the
     /// facts of every site. It knows that the lock's word stated who held and whether tasks waited.
     /// It knows what each step did to the site's words, that each call took effect at the step that
-    /// stored its record, and what this lock tells of its own (`tells`).
+    /// stored its record, and what this lock tells of its own (`tells`). The last moment marks how
+    /// often the pass's task has fallen asleep, as the pass says.
     fn recall(&self, pass: &mut Self::Pass)
         requires own { Self.sits self.now pass.old }
         ensures on { StepsOn Self.sits Self.view self.now pass.old pass.new }
@@ -138,7 +152,9 @@ pub trait SleepLock<O: Object>: SiteLock<O> {
             (Self.view pass.new).past }
         ensures linear { IsLinearizable O.object O.WORDS (Self.calls_on self.now)
             (Self.view pass.new).past }
-        ensures told { tells (Self.calls_on self.now) (Self.view pass.new) };
+        ensures told { tells (Self.calls_on self.now) (Self.view pass.new) }
+        ensures marked { marks_dozes (dozes pass.new) (Self.view pass.new) }
+        ensures still { dozes pass.new ≡ dozes pass.old };
 
     /// Loads a word of the lock's spin queue, if it has one, after which the pass knows of each
     /// moment of the queue so far, from the empty one on, what this lock tells of it
@@ -148,7 +164,8 @@ pub trait SleepLock<O: Object>: SiteLock<O> {
         ensures own { Self.sits self.now pass.new }
         ensures queue { GoesOn (spun pass.old) (spun pass.new) }
         ensures kept { Self.view pass.new ≡ Self.view pass.old }
-        ensures told { tells_queue (Self.calls_on self.now) (Self.view pass.new) (spun pass.new) };
+        ensures told { tells_queue (Self.calls_on self.now) (Self.view pass.new) (spun pass.new) }
+        ensures still { dozes pass.new ≡ dozes pass.old };
 
     /// What the pass has counted of its calls that wait.
     fn tally(pass: &Self::Pass) -> Tally
@@ -166,6 +183,8 @@ pub trait SleepLock<O: Object>: SiteLock<O> {
         requires numbered { IsSome (Self.view pass.old).hand.task }
         requires out { (Self.view pass.old).hand.held ≡ No }
         ensures on { StepsOn Self.sits Self.view self.now pass.old pass.new }
+        ensures dozed { Dozes (C.C.sleeps cpu.old) (C.C.sleeps cpu.new)
+            (dozes pass.old) (dozes pass.new) }
         ensures took { Takes O.object (Self.calls_on self.now) (shares kind)
             (Self.view pass.old) (Self.view pass.new) }
         ensures how { Got result (Self.view pass.old) (Self.view pass.new) }
@@ -186,6 +205,8 @@ pub trait SleepLock<O: Object>: SiteLock<O> {
         requires numbered { IsSome (Self.view pass.old).hand.task }
         requires out { (Self.view pass.old).hand.held ≡ No }
         ensures on { StepsOn Self.sits Self.view self.now pass.old pass.new }
+        ensures dozed { Dozes (C.C.sleeps cpu.old) (C.C.sleeps cpu.new)
+            (dozes pass.old) (dozes pass.new) }
         ensures queue { GoesOn (spun pass.old) (spun pass.new) }
         ensures took { Takes O.object (Self.calls_on self.now) Alone
             (Self.view pass.old) (Self.view pass.new) }
@@ -207,6 +228,8 @@ pub trait SleepLock<O: Object>: SiteLock<O> {
         requires numbered { IsSome (Self.view pass.old).hand.task }
         requires out { (Self.view pass.old).hand.held ≡ No }
         ensures on { StepsOn Self.sits Self.view self.now pass.old pass.new }
+        ensures dozed { Dozes (C.C.sleeps cpu.old) (C.C.sleeps cpu.new)
+            (dozes pass.old) (dozes pass.new) }
         ensures took { IfOk result (λ _. Takes O.object (Self.calls_on self.now) (shares kind)
             (Self.view pass.old) (Self.view pass.new)) }
         ensures how { IfOk result (λ how. Got how (Self.view pass.old) (Self.view pass.new)) }
@@ -232,6 +255,8 @@ pub trait SleepLock<O: Object>: SiteLock<O> {
         requires numbered { IsSome (Self.view pass.old).hand.task }
         requires out { (Self.view pass.old).hand.held ≡ No }
         ensures on { StepsOn Self.sits Self.view self.now pass.old pass.new }
+        ensures dozed { Dozes (C.C.sleeps cpu.old) (C.C.sleeps cpu.new)
+            (dozes pass.old) (dozes pass.new) }
         ensures took { IfOk result (λ _. Takes O.object (Self.calls_on self.now) Alone
             (Self.view pass.old) (Self.view pass.new)) }
         ensures how { IfOk result (λ how. Got how (Self.view pass.old) (Self.view pass.new)) }
@@ -255,7 +280,8 @@ pub trait SleepLock<O: Object>: SiteLock<O> {
             (Self.view pass.old) (Self.view pass.new)) }
         ensures at_once { IfOk result (λ _. Got Fast (Self.view pass.old) (Self.view pass.new)) }
         ensures missed { IfErr result (λ word.
-            Misses kind true word_at word (Self.view pass.old) (Self.view pass.new)) };
+            Misses kind true word_at word (Self.view pass.old) (Self.view pass.new)) }
+        ensures still { dozes pass.new ≡ dozes pass.old };
 
     /// Holds alone where that is possible at once. `Err` has the word that says why not.
     fn try_alone<W: Wait>(&self, rt: &W, pass: &mut Self::Pass) -> Result<(), u64>
@@ -268,7 +294,8 @@ pub trait SleepLock<O: Object>: SiteLock<O> {
         ensures at_once { IfOk result (λ _. Got Fast (Self.view pass.old) (Self.view pass.new)) }
         ensures missed { IfErr result (λ word.
             Misses kind false word_at word (Self.view pass.old) (Self.view pass.new)) }
-        ensures tried { tries_alone (Self.view pass.old) (Self.view pass.new) };
+        ensures tried { tries_alone (Self.view pass.old) (Self.view pass.new) }
+        ensures still { dozes pass.new ≡ dozes pass.old };
 
     /// Ends a hold that a shared call or a downgrade left.
     fn release_shared<W: Wait, C: Crew>(&self, rt: &W, pass: &mut Self::Pass, crew: &C)
@@ -277,7 +304,8 @@ pub trait SleepLock<O: Object>: SiteLock<O> {
         requires quiet { (Self.view pass.old).hand.writes ≡ false }
         ensures on { StepsOn Self.sits Self.view self.now pass.old pass.new }
         ensures released { Releases (wakes_shared kind) (Self.view pass.old) (Self.view pass.new) }
-        ensures left { ends_shared (Self.view pass.old) (Self.view pass.new) };
+        ensures left { ends_shared (Self.view pass.old) (Self.view pass.new) }
+        ensures still { dozes pass.new ≡ dozes pass.old };
 
     /// Ends an exclusive hold.
     fn release_alone<W: Wait, C: Crew>(&self, rt: &W, pass: &mut Self::Pass, crew: &C)
@@ -287,7 +315,8 @@ pub trait SleepLock<O: Object>: SiteLock<O> {
         ensures on { StepsOn Self.sits Self.view self.now pass.old pass.new }
         ensures queue { GoesOn (spun pass.old) (spun pass.new) }
         ensures released { Releases (wakes_alone kind) (Self.view pass.old) (Self.view pass.new) }
-        ensures left { ends_alone (Self.view pass.old) (Self.view pass.new) };
+        ensures left { ends_alone (Self.view pass.old) (Self.view pass.new) }
+        ensures still { dozes pass.new ≡ dozes pass.old };
 
     /// Makes of an exclusive hold what a shared call leaves, without a moment between.
     fn downgrade<W: Wait, C: Crew>(&self, rt: &W, pass: &mut Self::Pass, crew: &C)
@@ -296,7 +325,8 @@ pub trait SleepLock<O: Object>: SiteLock<O> {
         requires quiet { (Self.view pass.old).hand.writes ≡ false }
         ensures on { StepsOn Self.sits Self.view self.now pass.old pass.new }
         ensures downgraded { Downgrades kind (Self.view pass.old) (Self.view pass.new) }
-        ensures left { turns_shared (Self.view pass.old) (Self.view pass.new) };
+        ensures left { turns_shared (Self.view pass.old) (Self.view pass.new) }
+        ensures still { dozes pass.new ≡ dozes pass.old };
 
     // Laws: which words are unavailable follows from the lock's kind.
     ghost shuts: { (reads : Bool) (word : ℕ) → unavailable kind reads word →
@@ -308,6 +338,10 @@ pub trait SleepLock<O: Object>: SiteLock<O> {
     // A call of the site leaves the spin queue.
     ghost leaves: { (p : Self.Pass) (w : Seat Self.Rule O Self.Rule.Ext O.Call) →
         spun (Self.with_seat p w) ≡ spun p };
+
+    // It leaves how often the task fell asleep.
+    ghost keeps_dozes: { (p : Self.Pass) (w : Seat Self.Rule O Self.Rule.Ext O.Call) →
+        dozes (Self.with_seat p w) ≡ dozes p };
 
     // The plan is one of the object, and entries and records of its calls fit into words.
     ghost planned: { (l : Self) (p : Self.Pass) → Self.sits l p →
