@@ -103,8 +103,8 @@ impl<L: SleepLock<O>, O: Served + Drop> Guarded<L, O> {
     }
 
     /// Takes in another pass, which is spent: `into` then knows the records that `other` knew, and
-    /// has seen as many entries as either. Of the lock's spin queue it goes back to all that either
-    /// did.
+    /// has seen as many entries as either. Of the object's table and of the lock's spin queue it goes
+    /// back to all that either did.
     pub fn gather(&self, into: &mut L::Pass, other: L::Pass)
         requires own { L.sits (lock_of self.now) into.old × L.sits (lock_of self.now) other }
         requires out { (L.view into.old).hand.held ≡ No }
@@ -118,6 +118,7 @@ impl<L: SleepLock<O>, O: Served + Drop> Guarded<L, O> {
             (L.calls_on (lock_of self.now)) (L.view other).hand (L.view into.new).hand }
         ensures queue { GoesOn (L.spun into.old) (L.spun into.new) }
         ensures others_queue { GoesOn (L.spun other) (L.spun into.new) }
+        ensures others_past { GoesOn (L.view other).past (L.view into.new).past }
     {
         self.lock.gather(into, other);
     }

@@ -1,8 +1,7 @@
 -- A pass that has looked back goes back to the causes of calls that are told.
-use Rattle.std.proofs.Common.{◌≤◌, ℕ, false, List, [], ◌∷◌, length, sym, subst}
-use Rattle.word_bits.specs.declared.TheConstants.{MAX_TASKS}
+use Rattle.std.proofs.Common.{ℕ, false, List, [], ◌∷◌, sym, subst}
 use Rattle.word_bits.specs.Objects.{Obj}
-use Rattle.word_bits.specs.Histories.{Plan, Records, Event}
+use Rattle.word_bits.specs.Histories.{Plan}
 use Rattle.lock_core.specs.declared.view.Moment.{Moment}
 use Rattle.lock_core.specs.Causes.{HasCause}
 use Rattle.lock_core.specs.Kinds.{Kind, unavailable}

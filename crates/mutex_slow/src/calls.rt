@@ -4,7 +4,7 @@ ghost use Rattle.lock_core.specs.declared.how.How.TheVariants.{Fast};
 ghost use Rattle.lock_core.specs.declared.view.Held.TheVariants.{No, Alone};
 ghost use Rattle.lock_core.specs.Kinds.{mutex, unavailable, wakes_alone};
 ghost use Rattle.lock_core.specs.Holding.{missed};
-ghost use Rattle.lock_core.specs.Pasts.{EachMoment, FoundAt, Paced, Ran, Tail};
+ghost use Rattle.lock_core.specs.Pasts.{EachMoment, FoundAt, GoesOn, Paced, Ran, Tail};
 ghost use Rattle.lock_core.specs.Locking.{Looks, Has, HasSince, Interrupts, OnlyTried, Releases, Got, KeepsPlace, TalliesLock, TalliesSpin};
 ghost use Rattle.lock_core.specs.SitePasses.{Numbered};
 ghost use Rattle.lock_core.specs.Records.{IsPlan};
@@ -165,7 +165,8 @@ impl<O: Object> Mutex<O> {
     }
 
     /// Takes in another pass, which is spent: `into` then knows the records that `other` knew, and
-    /// has seen as many entries as either. What it has counted stays its own.
+    /// has seen as many entries as either. It goes back to all that either did. What it has counted
+    /// stays its own.
     pub fn gather(&self, into: &mut MutexPass<O>, other: MutexPass<O>)
         requires own { SitsAt self.now into.old }
         requires others_own { SitsAt self.now other }
@@ -176,10 +177,13 @@ impl<O: Object> Mutex<O> {
             (shown_of into.old) (shown_of into.new) }
         ensures queue { SpunGoesOn into.old into.new }
         ensures others_queue { SpunGoesOn other into.new }
+        ensures others_past { GoesOn (shown_of other).past (shown_of into.new).past }
         ensures still { KeepsWakes into.old into.new }
     {
         let MutexPass { pass, queue, .. } = other;
         self.site.gather(&mut into.pass, pass);
+        // One load, behind which the past goes back to all that the other pass did.
+        self.site.recall(&mut into.pass);
         self.osq.gather(&mut into.queue, queue);
     }
 

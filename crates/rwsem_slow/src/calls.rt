@@ -2,7 +2,7 @@
 ghost use Rattle.std.specs.Prelude.{◌≡◌, ◌<◌, List, [], ◌∷◌, length, Some, None, IsSome, IfOk};
 ghost use Rattle.lock_core.specs.declared.view.Held.TheVariants.{No};
 ghost use Rattle.lock_core.specs.Kinds.{semaphore, unavailable};
-ghost use Rattle.lock_core.specs.Pasts.{EachMoment, Paced, Ran, Tail};
+ghost use Rattle.lock_core.specs.Pasts.{EachMoment, GoesOn, Paced, Ran, Tail};
 ghost use Rattle.lock_core.specs.Locking.{Looks, Has};
 ghost use Rattle.lock_core.specs.Locked.{IsLockedThen, IsSiteStep};
 ghost use Rattle.lock_core.specs.SitePasses.{Numbered};
@@ -160,7 +160,8 @@ impl<O: Object> RwSem<O> {
     }
 
     /// Takes in another pass, which is spent: `into` then knows the records that `other` knew, and
-    /// has seen as many entries as either. What it has counted stays its own.
+    /// has seen as many entries as either. It goes back to all that either did. What it has counted
+    /// stays its own.
     pub fn gather(&self, into: &mut RwPass<O>, other: RwPass<O>)
         requires own { SitsAt self.now into.old }
         requires others_own { SitsAt self.now other }
@@ -171,10 +172,13 @@ impl<O: Object> RwSem<O> {
             (shown_of into.old) (shown_of into.new) }
         ensures queue { SpunGoesOn into.old into.new }
         ensures others_queue { SpunGoesOn other into.new }
+        ensures others_past { GoesOn (shown_of other).past (shown_of into.new).past }
         ensures still { KeepsWakes into.old into.new }
     {
         let RwPass { pass, queue, .. } = other;
         self.site.gather(&mut into.pass, pass);
+        // One load, behind which the past goes back to all that the other pass did.
+        self.site.recall(&mut into.pass);
         self.osq.gather(&mut into.queue, queue);
     }
 

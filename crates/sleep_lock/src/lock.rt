@@ -118,8 +118,8 @@ pub trait SleepLock<O: Object>: SiteLock<O> {
         ensures still { dozes pass.new ≡ dozes pass.old };
 
     /// Takes in another pass, which is spent: `into` then knows the records that `other` knew, and
-    /// has seen as many entries as either. Of the lock's spin queue it goes back to all that either
-    /// did.
+    /// has seen as many entries as either. Of the object's table and of the lock's spin queue it goes
+    /// back to all that either did.
     fn gather(&self, into: &mut Self::Pass, other: Self::Pass)
         requires own { Self.sits self.now into.old × Self.sits self.now other }
         requires out { (Self.view into.old).hand.held ≡ No }
@@ -129,6 +129,7 @@ pub trait SleepLock<O: Object>: SiteLock<O> {
             (Self.view into.old) (Self.view into.new) }
         ensures queue { GoesOn (spun into.old) (spun into.new) }
         ensures others_queue { GoesOn (spun other) (spun into.new) }
+        ensures others_past { GoesOn (Self.view other).past (Self.view into.new).past }
         ensures still { dozes into.new ≡ dozes into.old };
 
     /// Loads. Then the pass knows of each moment of the table so far, from the new one on, the
