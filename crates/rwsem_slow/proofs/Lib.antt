@@ -15,3 +15,4 @@ pub mod Counting
 pub mod Opening
 pub mod Vigils
 pub mod Marking
+pub mod Woken

@@ -9,6 +9,7 @@ pub mod Releasing
 pub mod Queued
 pub mod SleepCounting
 pub mod Leaving
+pub mod Waking
 pub mod Stealing
 pub mod Spinning
 pub mod RwSemOpening

@@ -3,17 +3,19 @@ ghost use Rattle.std.specs.Prelude.{◌≡◌, ◌≢◌, ◌+◌, ◌<◌, ◌�
 ghost use Rattle.lock_core.specs.declared.view.Held.TheVariants.{No};
 ghost use Rattle.lock_core.specs.SiteHandles.{plan_of, view_of, hand_in, task_in, held_in, SitsAt, KeepsPast, SaysSame};
 ghost use Rattle.lock_core.specs.Records.{bit};
+ghost use Rattle.lock_core.specs.Shown.{FindsSince};
 ghost use Rattle.lock_core.specs.Signals.{HasHeard, OnlyConsumed};
 ghost use Rattle.lock_core.specs.Views.{SpinHolds, SpinRests};
 ghost use Rattle.wait_list.specs.Lists.{first_code, without};
 ghost use Rattle.rwsem_wake.specs.SemParts.{apart_hand, some_of};
 ghost use Rattle.rwsem_wake.specs.Grants.{OnlySem, summing, AreTaskNumbers};
-ghost use Rattle.rwsem_wake.specs.RwSemViews.{leaves_wake, with_sem};
+ghost use Rattle.rwsem_wake.specs.RwSemViews.{leaves_wake, list_at, with_sem};
 ghost use Rattle.rwsem_wake.specs.Removals.{KnowsList};
 ghost use Rattle.rwsem_wake.specs.RwSemPlaces.{AreCounts, IsOutside, MovesOn, dozes_of, seen_of};
 ghost use Rattle.rwsem_slow.specs.Queued.{Becomes, KeepsLine, LooksAt};
 ghost use Rattle.rwsem_wake.specs.RwSemWakes.{woken_tasks};
 ghost use Rattle.rwsem_slow.specs.Leaving.{HasLeft, IsUnmarked, MayLeave, WakesOn, gone_first};
+ghost use Rattle.rwsem_slow.specs.Waking.{WakesAsItLeft, WakesLeft};
 
 use crate::SemRule;
 use cpu_task::{Cpu, Crew};
@@ -32,6 +34,8 @@ fn is_first<O: Object>(site: &Site<SemRule<O>>, pass: &mut Pass<SemRule<O>>, tas
     ensures goes_on { KeepsPast pass.old pass.new }
     ensures face { SaysSame pass.old pass.new }
     ensures looked { LooksAt (view_of pass.old) (view_of pass.new) }
+    ensures found { FindsSince list_at (first_code (view_of pass.new).ext.list.list)
+        (seen_of pass.old) (seen_of pass.new) }
     ensures first { result ≡ true → first_code (view_of pass.new).ext.list.list ≡ task + 1 }
     ensures behind { result ≡ false → first_code (view_of pass.new).ext.list.list ≢ task + 1 }
 {
@@ -169,6 +173,7 @@ fn leave<O: Object, C: Cpu>(
     ensures on { MovesOn site.now pass.old pass.new }
     ensures left { HasLeft (woken_tasks woken.new) (view_of pass.old) (view_of pass.new) }
     ensures tasks { AreTaskNumbers (plan_of site.now) (woken_tasks woken.new) }
+    ensures woken { WakesLeft (woken_tasks woken.new) (seen_of pass.old) (seen_of pass.new) }
     ensures sleeps { C.sleeps cpu.new ≡ C.sleeps cpu.old }
     ensures rescheds { C.rescheds cpu.new ≡ C.rescheds cpu.old }
 {
@@ -209,6 +214,8 @@ pub fn interrupt<O: Object, C: Cpu, K: Crew>(
     ensures sleeps { C.sleeps cpu.new ≡ C.sleeps cpu.old }
     ensures rescheds { C.rescheds cpu.new ≡ C.rescheds cpu.old }
     ensures counted { AreCounts counts.new (view_of pass.new) }
+    ensures woken { WakesAsItLeft counts.old.wakes counts.new.wakes
+        (seen_of pass.old) (seen_of pass.new) }
     ensures dozes { dozes_of (view_of pass.new) ≡ dozes_of (view_of pass.old) }
 {
     let mut woken = Woken::Nobody;

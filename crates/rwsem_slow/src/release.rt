@@ -7,6 +7,7 @@ ghost use Rattle.lock_core.specs.Locking.{Downgrades, Releases};
 ghost use Rattle.lock_core.specs.Views.{SpinRests};
 ghost use Rattle.rwsem_wake.specs.RwSemPlaces.{AreCounts, IsOutside, MayOwe, MovesOn, dozes_of, seen_of};
 ghost use Rattle.rwsem_slow.specs.Releasing.{LeavesCount, WentThrough};
+ghost use Rattle.rwsem_slow.specs.Waking.{WakesIf, WakesWaiting};
 ghost use Rattle.rwsem_wake.specs.RwSemWakes.{MayWake};
 
 use crate::SemRule;
@@ -45,6 +46,8 @@ pub(crate) fn wake_waiters<O: Object, W: Wait, C: Crew>(
     ensures unspun { SpinRests (view_of pass.new).spin }
     ensures outside { IsOutside (view_of pass.new) }
     ensures went { WentThrough (view_of pass.old) (view_of pass.new) }
+    ensures woken { WakesWaiting kind counts.old.wakes counts.new.wakes
+        (seen_of pass.old) (seen_of pass.new) }
     ensures counted { AreCounts counts.new (view_of pass.new) }
     ensures dozes { dozes_of (view_of pass.new) ≡ dozes_of (view_of pass.old) }
 {
@@ -75,6 +78,8 @@ pub fn up_read<O: Object, W: Wait, C: Crew>(
     ensures outside { IsOutside (view_of pass.new) }
     ensures released { Releases (wakes_shared semaphore) (seen_of pass.old) (seen_of pass.new) }
     ensures left { LeavesCount (wakes_shared semaphore) No 256 0
+        (seen_of pass.old) (seen_of pass.new) }
+    ensures woken { WakesIf (wakes_shared semaphore) WakeType.Any counts.old.wakes counts.new.wakes
         (seen_of pass.old) (seen_of pass.new) }
     ensures counted { AreCounts counts.new (view_of pass.new) }
     ensures dozes { dozes_of (view_of pass.new) ≡ dozes_of (view_of pass.old) }
@@ -108,6 +113,8 @@ pub fn up_write<O: Object, W: Wait, C: Crew>(
     ensures released { Releases (wakes_alone semaphore) (seen_of pass.old) (seen_of pass.new) }
     ensures left { LeavesCount (wakes_alone semaphore) No 1 0
         (seen_of pass.old) (seen_of pass.new) }
+    ensures woken { WakesIf (wakes_alone semaphore) WakeType.Any counts.old.wakes counts.new.wakes
+        (seen_of pass.old) (seen_of pass.new) }
     ensures counted { AreCounts counts.new (view_of pass.new) }
     ensures dozes { dozes_of (view_of pass.new) ≡ dozes_of (view_of pass.old) }
 {
@@ -140,6 +147,8 @@ pub fn downgrade_write<O: Object, W: Wait, C: Crew>(
     ensures downgraded { Downgrades semaphore (seen_of pass.old) (seen_of pass.new) }
     ensures left { LeavesCount (wakes_down semaphore) Shared 0 255
         (seen_of pass.old) (seen_of pass.new) }
+    ensures woken { WakesIf (wakes_down semaphore) WakeType.ReadOwned
+        counts.old.wakes counts.new.wakes (seen_of pass.old) (seen_of pass.new) }
     ensures counted { AreCounts counts.new (view_of pass.new) }
     ensures dozes { dozes_of (view_of pass.new) ≡ dozes_of (view_of pass.old) }
 {

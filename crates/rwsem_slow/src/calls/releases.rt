@@ -3,12 +3,14 @@ ghost use Rattle.std.specs.Prelude.{◌≡◌, false};
 ghost use Rattle.lock_core.specs.declared.view.Held.TheVariants.{No, Shared, Alone};
 ghost use Rattle.lock_core.specs.Kinds.{semaphore, wakes_alone, wakes_down, wakes_shared};
 ghost use Rattle.lock_core.specs.Locking.{Downgrades, Releases};
-ghost use Rattle.rwsem_slow.specs.RwSemHandles.{shown_of, dozes_in, hand_in, SitsAt, SpunGoesOn, StepsOn};
+ghost use Rattle.rwsem_slow.specs.RwSemHandles.{shown_of, dozes_in, hand_in, wakes_in, SitsAt, SpunGoesOn, StepsOn};
 ghost use Rattle.rwsem_slow.specs.Releasing.{LeavesCount};
+ghost use Rattle.rwsem_slow.specs.Waking.{WakesIf};
 
 use super::{RwPass, RwSem};
 use crate::release;
 use cpu_task::Crew;
+use rwsem_wake::wake::WakeType;
 use std::sync::Wait;
 use word_bits::Object;
 
@@ -24,6 +26,8 @@ impl<O: Object> RwSem<O> {
             (shown_of pass.old) (shown_of pass.new) }
         ensures left { LeavesCount (wakes_shared semaphore) No 256 0
             (shown_of pass.old) (shown_of pass.new) }
+        ensures woken { WakesIf (wakes_shared semaphore) WakeType.Any
+            (wakes_in pass.old) (wakes_in pass.new) (shown_of pass.old) (shown_of pass.new) }
     {
         release::up_read(&self.site, rt, &mut pass.pass, crew, &mut pass.counts);
     }
@@ -41,6 +45,8 @@ impl<O: Object> RwSem<O> {
             (shown_of pass.old) (shown_of pass.new) }
         ensures left { LeavesCount (wakes_alone semaphore) No 1 0
             (shown_of pass.old) (shown_of pass.new) }
+        ensures woken { WakesIf (wakes_alone semaphore) WakeType.Any
+            (wakes_in pass.old) (wakes_in pass.new) (shown_of pass.old) (shown_of pass.new) }
     {
         release::up_write(&self.site, rt, &mut pass.pass, crew, &mut pass.counts);
     }
@@ -56,6 +62,8 @@ impl<O: Object> RwSem<O> {
         ensures downgraded { Downgrades semaphore (shown_of pass.old) (shown_of pass.new) }
         ensures left { LeavesCount (wakes_down semaphore) Shared 0 255
             (shown_of pass.old) (shown_of pass.new) }
+        ensures woken { WakesIf (wakes_down semaphore) WakeType.ReadOwned
+            (wakes_in pass.old) (wakes_in pass.new) (shown_of pass.old) (shown_of pass.new) }
     {
         release::downgrade_write(&self.site, rt, &mut pass.pass, crew, &mut pass.counts);
     }

@@ -9,6 +9,7 @@ ghost use Rattle.lock_core.specs.Views.{SpinRests, ticked};
 ghost use Rattle.rwsem_wake.specs.RwSemPlaces.{AreCounts, IsOutside, MovesOn, dozes_of, seen_of};
 ghost use Rattle.rwsem_slow.specs.Queued.{IsInTransit, KeepsLine, Shares};
 ghost use Rattle.rwsem_slow.specs.Stealing.{IsShared, MaySteal, StealsBy, left_by};
+ghost use Rattle.rwsem_slow.specs.Waking.{IsFirstBias, WakesWaiting};
 ghost use Rattle.rwsem_wake.specs.RwSemWakes.{MayWake};
 
 use crate::SemRule;
@@ -109,6 +110,8 @@ pub fn wake_beside<O: Object, W: Wait, K: Crew>(
     ensures outside { IsOutside (view_of pass.new) }
     ensures hand { (view_of pass.new).hand ≡ (view_of pass.old).hand }
     ensures keeps { KeepsLine (view_of pass.old) (view_of pass.new) }
+    ensures woken { IsFirstBias left → WakesWaiting WakeType.ReadOwned
+        counts.old.wakes counts.new.wakes (seen_of pass.old) (seen_of pass.new) }
     ensures counted { AreCounts counts.new (view_of pass.new) }
     ensures dozes { dozes_of (view_of pass.new) ≡ dozes_of (view_of pass.old) }
 {

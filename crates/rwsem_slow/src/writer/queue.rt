@@ -7,8 +7,9 @@ ghost use Rattle.rwsem_wake.specs.declared.view.Wait.TheVariants.{Writes};
 ghost use Rattle.rwsem_wake.specs.declared.view.Stage.TheVariants.{Took};
 ghost use Rattle.rwsem_wake.specs.SemParts.{apart_hand};
 ghost use Rattle.rwsem_wake.specs.RwSemViews.{leaves_wake};
-ghost use Rattle.rwsem_wake.specs.RwSemPlaces.{IsOutside, MovesOn, AreCounts, dozes_of};
+ghost use Rattle.rwsem_wake.specs.RwSemPlaces.{IsOutside, MovesOn, AreCounts, dozes_of, seen_of};
 ghost use Rattle.rwsem_slow.specs.Queued.{Becomes, IsInLine, comes, waiting};
+ghost use Rattle.rwsem_slow.specs.Waking.{FindsItselfFirst, WakesOthers};
 
 use crate::SemRule;
 use cpu_task::{Cpu, Crew};
@@ -31,6 +32,7 @@ fn join<O: Object>(site: &Site<SemRule<O>>, pass: &mut Pass<SemRule<O>>) -> bool
     ensures face { SaysSame pass.old pass.new }
     ensures came { Becomes (view_of pass.old) 1 (waiting Writes)
         (comes (view_of pass.old).ext.wake) (view_of pass.new) }
+    ensures first { result ≡ true → FindsItselfFirst (seen_of pass.old) (seen_of pass.new) }
 {
     let Some(task) = pass.task() else {
         unreachable!()
@@ -70,6 +72,8 @@ pub fn queue<O: Object, C: Cpu, K: Crew>(
     ensures sleeps { C.sleeps cpu.new ≡ C.sleeps cpu.old }
     ensures rescheds { C.rescheds cpu.new ≡ C.rescheds cpu.old }
     ensures counted { AreCounts counts.new (view_of pass.new) }
+    ensures woken { WakesOthers counts.old.wakes counts.new.wakes
+        (seen_of pass.old) (seen_of pass.new) }
     ensures dozes { dozes_of (view_of pass.new) ≡ dozes_of (view_of pass.old) }
 {
     if join(site, pass) {

@@ -1,9 +1,14 @@
-use Rattle.std.proofs.Common.{arith, true, ap, sym, refl, ◌∙◌, subst, Option}
+use Rattle.std.proofs.Common.{arith, true, ℕ, ◌+◌, ap, sym, refl, ◌∙◌, subst, Option}
 use Rattle.wait_list.specs.declared.view.Waiter.{Waiter}
 use Rattle.wait_list.specs.Lists.{FindsFirst}
 use Rattle.rwsem_wake.specs.RwSemViews.{list_of, with_list}
 use Rattle.rwsem_wake.specs.declared.view.SemHand.{SemHand}
 use Rattle.rwsem_slow.proofs.Joining.{writer-alone, writer-behind, writer-first}
+use Rattle.lock_core.proofs.Within.{since-within}
+use Rattle.wait_list.specs.Lists.{waiter_code}
+use Rattle.lock_core.specs.Shown.{FindsSince}
+use Rattle.rwsem_wake.specs.RwSemPlaces.{seen_of}
+use Rattle.rwsem_wake.specs.RwSemViews.{V, list_at}
 use Rattle.rwsem_slow.proofs.writer.queue.join.Goals as goal
 
 pub append-requires-clause-task : goal.append-requires-clause-task
@@ -30,3 +35,11 @@ returns-then-alone-clause-goes_on g c = λ p t. c.set_waiters.ensures.goes_on p 
 
 pub returns-else-alone-clause-goes_on : goal.returns-else-alone-clause-goes_on
 returns-else-alone-clause-goes_on g c = λ p t. c.first.ensures.goes_on p (c.append.ensures.goes_on p t)
+
+pub returns-then-alone-clause-first : goal.returns-then-alone-clause-first
+returns-then-alone-clause-first g c = λ _. let later = c.append.ensures.later in let steps = ap (λ (z : V). z.steps) c.set_waiters.ensures.kept in (
+  c.in-Some.task,
+  sym c.requires.own.task ∙ (sym c.task.ensures ∙ c.in-Some.is),
+  since-within (seen_of c.args.pass.now) (seen_of c.append.new.pass) (seen_of c.first.new.pass) (seen_of c.set_waiters.new.pass) (ap (λ (z : V). z.hand.task) c.append.ensures.kept.view) later c.append.ensures.goes_on
+      (subst (λ (n : ℕ). FindsSince list_at n (seen_of c.append.new.pass) (seen_of c.first.new.pass)) (ap waiter_code c.in-Some-first.is ∙ ap (λ (n : ℕ). n + 1) c.if-alone.true) c.first.ensures.found) (omega (arith, steps)) c.set_waiters.ensures.goes_on,
+)

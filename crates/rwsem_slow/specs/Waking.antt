@@ -1,0 +1,52 @@
+-- Whom a call on a semaphore wakes, by the wake words that it sets.
+use Rattle.std.specs.Prelude.{◌≡◌, ◌≢◌, ℕ, ◌+◌, ◌/◌, ◌%◌, ◌^◌, ◌⊎◌, Bool, true, false, List, [], length, Some}
+use Rattle.cpu_task.specs.CpuCounting.{slept}
+use Rattle.lock_core.specs.Shown.{Shown, FindsSince}
+use Rattle.wait_list.specs.declared.view.Waiter.{Waiter}
+use Rattle.wait_list.specs.Lists.{first_code, without}
+use Rattle.rwsem_wake.specs.Batches.{starts_with_reader}
+use Rattle.rwsem_wake.specs.declared.wake.WakeType.{WakeType}
+use Rattle.rwsem_wake.specs.declared.wake.WakeType.TheVariants.{ReadOwned}
+use Rattle.rwsem_wake.specs.RwSemViews.{count_at, list_at}
+use Rattle.rwsem_wake.specs.RwSemWakes.{SawWriter, kind_at, woken_of}
+use Rattle.rwsem_slow.specs.Leaving.{WakesOn}
+
+-- From the first count to the second the pass has set as many wake words as a wake of this kind wakes tasks of a list. A step since found the code of that list's first waiter. Where a reader is first and the wake reserves a bias of its own, its look at the count said whether there was a writer.
+pub record WakesWaiting (kind : WakeType) (wakes wakes' : ℕ) (v u : Shown) : Type 0 where
+  pub was : List Waiter
+  pub first : FindsSince list_at (first_code was) v u
+  pub written : Bool
+  pub owned : kind ≡ ReadOwned → written ≡ false
+  pub saw : kind ≢ ReadOwned → starts_with_reader was ≡ true → SawWriter written v u
+  pub set : wakes' ≡ slept (length (woken_of kind written was)) wakes
+
+-- so it is where the count that the call left asks for a wake; else no wake word is set
+pub record WakesIf (asks : ℕ → Type 0) (kind : WakeType) (wakes wakes' : ℕ) (v u : Shown) : Type 0 where
+  pub woken : asks u.hand.freed → WakesWaiting kind wakes wakes' v u
+  pub spared : (asks u.hand.freed → ⊥) → wakes' ≡ wakes
+
+-- a reader holds by a bias that is the only one of this count, which says that tasks wait
+abbrev pub IsFirstBias : ℕ → Type 0
+IsFirstBias left = (left % 2 ^ 63 / 256 ≡ 1) × (left / 2 % 2 ≡ 1)
+
+-- a step since found that the pass's own task is the first waiter
+abbrev pub FindsItselfFirst : Shown → Shown → Type 0
+FindsItselfFirst v u = (t : ℕ) × (v.hand.task ≡ Some t) × FindsSince list_at (t + 1) v u
+
+-- a task that queued is the first waiter, and has set no wake word; or a step since found a count, and where that has no writer the task has woken others so
+abbrev pub WakesOthers : (wakes wakes' : ℕ) → Shown → Shown → Type 0
+WakesOthers wakes wakes' v u = (FindsItselfFirst v u × (wakes' ≡ wakes))
+    ⊎ ((n : ℕ) × FindsSince count_at n v u × (n % 2 ≡ 0 → WakesWaiting (kind_at n) wakes wakes' v u))
+
+-- A task that leaves the list wakes these of it. A step since found the code of the list's first waiter. Where that is the task itself, those that a wake of any waiter wakes of the others; else nobody.
+pub record WakesLeft (woken : List ℕ) (v u : Shown) : Type 0 where
+  pub task : ℕ
+  pub mine : v.hand.task ≡ Some task
+  pub was : List Waiter
+  pub first : FindsSince list_at (first_code was) v u
+  pub others : first_code was ≡ task + 1 → WakesOn (without task was) woken v u
+  pub nobody : first_code was ≢ task + 1 → woken ≡ []
+
+-- it has set as many wake words
+abbrev pub WakesAsItLeft : (wakes wakes' : ℕ) → Shown → Shown → Type 0
+WakesAsItLeft wakes wakes' v u = (woken : List ℕ) × WakesLeft woken v u × (wakes' ≡ slept (length woken) wakes)
