@@ -16,3 +16,7 @@ two-tasks = grind (arith, common_steps)
 -- of three
 pub three-tasks : IsPlan nothing (appended (replicate 3 []) 0 signal)
 three-tasks = grind (arith, common_steps)
+
+-- of four
+pub four-tasks : IsPlan nothing (appended (replicate 4 []) 0 signal)
+four-tasks = grind (arith, common_steps)

@@ -17,7 +17,7 @@ use word_bits::MAX_TASKS;
 
 /// Sends the signal that the next call of the pass's task is, and answers its target. `None` where
 /// that call is no signal to a task.
-fn send(sem: &RwSem<Nothing>, pass: &mut RwPass<Nothing>) -> Option<u32>
+pub fn send(sem: &RwSem<Nothing>, pass: &mut RwPass<Nothing>) -> Option<u32>
     requires ready { IsReady sem.now pass.old }
     requires planned { IsPlan nothing (plan_of sem.now) }
     requires unsent { (hand_in pass.old).sent ≡ None }
