@@ -1,5 +1,5 @@
 -- What the words say is what clap finds in them.
-use Rattle.std.proofs.Common.{◌≡◌, ℕ, Bool, true, false, List, [], ◌∷◌, refl, sym, ap, ◌∙◌, subst, codes, Option, Some, None, option_map, option_and_then, ◌⊎◌, inl, inr, Result, Err}
+use Rattle.std.proofs.Common.{◌≡◌, ℕ, zero, suc, arith, Bool, true, false, List, [], ◌∷◌, refl, sym, ap, ◌∙◌, subst, codes, Option, Some, None, option_map, option_and_then, ◌⊎◌, inl, inr, Result, Err}
 use Rattle.std.specs.Prelude.{find, ok_or}
 use Rattle.std.specs.Option.{option_map_or}
 use Rattle.std.specs.Borrow.{Bor}
@@ -21,7 +21,7 @@ use Rattle.clap.proofs.WalkLemmas.{find_row, first_value-rows}
 use Rattle.mm_program.specs.declared.options.Options.{Options}
 use Rattle.mm_program.specs.declared.options.OptionsError.{OptionsError}
 use Rattle.mm_program.specs.declared.options.OptionsError.TheVariants.{Misused}
-use Rattle.mm_program.specs.CommandLine.{JoinedOptionsSay, LoneOptionsSay, QuestionsSayNothing, RepeatedOptionsSayNothing, is_from_words, is_used, number_if_used, number_or, options_from, options_of, options_with, the_command, unless_faulty}
+use Rattle.mm_program.specs.CommandLine.{JoinedOptionsSay, LoneOptionsSay, QuestionsSayNothing, RepeatedOptionsSayNothing, SplitOptionsSay, is_from_words, is_used, number_if_used, number_or, number_up_to, options_from, options_of, options_with, the_command, unless_faulty}
 use Rattle.mm_program.specs.Parsed.{Gives, error_of}
 
 -- of this command clap says exactly what it takes
@@ -140,3 +140,17 @@ questions_say_nothing (word ∷ other ∷ words) asks = absurd (false≢true ask
 pub empty_word_says_nothing : options_of ([] ∷ []) ≡ None
 unfolding options_of clap_on_literals
 empty_word_says_nothing = refl
+
+split_options_say : SplitOptionsSay
+unfolding options_of clap_on_literals
+split_options_say zero rest l = (refl, refl, refl)
+split_options_say (suc zero) rest l = (refl, refl, refl)
+split_options_say (suc (suc zero)) rest l = (refl, refl, refl)
+split_options_say (suc (suc (suc zero))) rest l = (refl, refl, refl)
+split_options_say (suc (suc (suc (suc zero)))) rest l = (refl, refl, refl)
+split_options_say (suc (suc (suc (suc (suc zero))))) rest l = (refl, refl, refl)
+split_options_say (suc (suc (suc (suc (suc (suc zero)))))) rest l = (refl, refl, refl)
+split_options_say (suc (suc (suc (suc (suc (suc (suc zero))))))) rest l = (refl, refl, refl)
+split_options_say (suc (suc (suc (suc (suc (suc (suc (suc zero)))))))) rest l = (refl, refl, refl)
+split_options_say (suc (suc (suc (suc (suc (suc (suc (suc (suc zero))))))))) rest l = (refl, refl, refl)
+split_options_say (suc (suc (suc (suc (suc (suc (suc (suc (suc (suc n)))))))))) rest l = absurd (omega (arith, l))

@@ -1,5 +1,5 @@
 -- The command line: four options, and which numbers they take; or a question how to use the program.
-use Rattle.std.specs.Prelude.{◌≡◌, ℕ, ◌-◌, ◌^◌, ◌++◌, ◌||◌, nat_le, Bool, true, false, List, [], ◌∷◌, Option, Some, None, find, option_and_then, option_map, if◌then◌else◌, codes, drop, map, String, string_bytes, Result, Ok, Err}
+use Rattle.std.specs.Prelude.{◌≡◌, ℕ, ◌+◌, ◌-◌, ◌<◌, ◌^◌, ◌++◌, ◌||◌, nat_le, Bool, true, false, List, [], ◌∷◌, Option, Some, None, find, option_and_then, option_map, if◌then◌else◌, codes, drop, map, String, string_bytes, Result, Ok, Err}
 use Rattle.std.specs.Option.{option_map_or}
 use Rattle.std.specs.Str.{bytes_eq}
 use Rattle.std.specs.Vec.Iter.{into_iter_items}
@@ -121,3 +121,11 @@ abbrev pub JoinedOptionsSay : Type 0
 JoinedOptionsSay =
     (spin overdue generate : Text) → options_of ((codes "--spin=" ++ spin) ∷ (codes "--overdue=" ++ overdue) ∷ (codes "--generate=" ++ generate) ∷ codes "--summary" ∷ [])
     ≡ options_with (number_up_to 1000000 spin) (number_up_to 1000000 overdue) (number_if_used (Some generate)) true
+
+-- an option says its value also where that is a word of its own, which a digit begins
+abbrev pub SplitOptionsSay : Type 0
+SplitOptionsSay =
+    (digit : ℕ) (rest : Text) → digit < 10
+    → (options_of (codes "--spin" ∷ (48 + digit ∷ rest) ∷ []) ≡ options_with (number_up_to 1000000 (48 + digit ∷ rest)) (Some 4) (Some None) false)
+    × (options_of (codes "--overdue" ∷ (48 + digit ∷ rest) ∷ []) ≡ options_with (Some 100) (number_up_to 1000000 (48 + digit ∷ rest)) (Some None) false)
+    × (options_of (codes "--generate" ∷ (48 + digit ∷ rest) ∷ []) ≡ options_with (Some 100) (Some 4) (number_if_used (Some (48 + digit ∷ rest))) false)

@@ -14,7 +14,7 @@ mod run;
 mod status;
 mod threads;
 
-pub use laws::told_history_keeps_real_time_order;
+pub use laws::{told_calls_have_their_causes, told_history_keeps_real_time_order};
 pub use locks::{SpaceLock, TableLock};
 pub use objects::ScriptMachine;
 pub use program::top;

@@ -3,7 +3,7 @@ ghost use Rattle.std.specs.Prelude.{◌≡◌, [], IfOk, Some, false, option_map
 ghost use Rattle.clap.specs.Matches.{found_of};
 ghost use Rattle.clap.specs.Simple.{app_of};
 ghost use Rattle.clap.specs.Walk.{rows_of, rule_of};
-ghost use Rattle.mm_program.specs.CommandLine.{QuestionsSayNothing, asks_help, flag_rule, is_from_words, number_if_used, number_or, number_up_to, options_from, options_of, said_by, the_command, JoinedOptionsSay, LoneOptionsSay, RepeatedOptionsSayNothing, value_rule};
+ghost use Rattle.mm_program.specs.CommandLine.{QuestionsSayNothing, asks_help, flag_rule, is_from_words, number_if_used, number_or, number_up_to, options_from, options_of, said_by, the_command, JoinedOptionsSay, LoneOptionsSay, RepeatedOptionsSayNothing, SplitOptionsSay, value_rule};
 ghost use Rattle.mm_program.specs.Parsed.{Gives, error_of};
 
 use clap::error::ErrorKind;
@@ -138,6 +138,12 @@ impl Options {
     #[tactic(auto, using(crate::proofs::CommandLines::joined_options_say))]
     pub(crate) fn joined_options_say()
         ensures { JoinedOptionsSay }
+    {}
+
+    /// An option says its value also where a word of its own has it.
+    #[tactic(auto, using(crate::proofs::CommandLines::split_options_say))]
+    pub(crate) fn split_options_say()
+        ensures { SplitOptionsSay }
     {}
 
     /// Each option alone says it.

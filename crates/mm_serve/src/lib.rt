@@ -18,7 +18,10 @@ mod shared_object;
 mod space_or_table;
 mod worker;
 
-pub use laws::{history_keeps_real_time_order, recalled_history_keeps_real_time_order};
+pub use laws::{
+    history_keeps_real_time_order, recalled_calls_have_their_causes,
+    recalled_history_keeps_real_time_order,
+};
 pub use machine::Machine;
 pub use shared_object::SharedObject;
 pub use space_or_table::{SpaceOrTable, SpaceOrTablePass};
