@@ -89,6 +89,12 @@ static void percpu_round(void) {
     else CALL("up_write", -1, percpu_up_write(&locks.percpu));
 }
 
+static void sequence_round(void) {
+    int result;
+    if (draw(3)) CALL("read", -1, result = seq_read());
+    else CALL("write", -1, seq_write());
+}
+
 /* Takes the semaphore by one of the ways, and answers 0 where that held. */
 static int take_semaphore(int kind) {
     int result;
@@ -156,6 +162,7 @@ void calls_of(int task) {
         case OSQ: osq_round(); break;
         case MUTEX: mutex_round(); break;
         case PERCPU: percpu_round(); break;
+        case SEQ: sequence_round(); break;
         default: semaphore_round();
         }
         hold(3);

@@ -31,6 +31,8 @@ SEEN = {
     "owner hint: NONSPINNABLE": "NONSPINNABLE",
     "a marked writer spins and tries again without sleeping": "a marked writer spins",
     "down_write 1: spins though readers hold by the hint": "writers spin for a while",
+    "seq: a writer changes the word by a load and a store, under a spin lock": "a writer of a sequence lock",
+    "seq: a reader waits while the word is odd": "a reader of a sequence lock",
     "percpu: a count is neither 0 nor 1": "per-CPU semaphore: a fast path by RCU",
     "percpu: a release takes for the first in line": "per-CPU semaphore: who can't enter waits in line",
     "a writer that queues releases the wait lock, wakes, and takes it again": "a writer that queues releases the wait lock",

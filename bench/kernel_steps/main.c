@@ -1,6 +1,6 @@
 /* Runs the kernel's own lock code one step at a time on one thread, and writes each step.
 
-   The words are LOCK FIRST COUNT [TASKS [ORDER]]. LOCK is spin, nest, osq, mutex, rwsem, batch or percpu.
+   The words are LOCK FIRST COUNT [TASKS [ORDER]]. LOCK is spin, nest, osq, mutex, rwsem, batch, percpu or seq.
    Each of COUNT runs is drawn from its number, from FIRST on: the tasks (2 to 6 where TASKS is 0 or
    none), their calls, who goes on at each step, the answers of processors, signals, and time. ORDER
    is drawn; hard, with signals and wakes for no reason at every turn and hardly any spinning; or
@@ -20,7 +20,7 @@
 
 enum { BOUND_STEPS = 64, MOST_STEPS = 6000, MOST_STEPS_OF_BATCH = 1500000 };
 enum lock lock;
-static const char *const names[] = {"spin", "nest", "osq", "mutex", "rwsem", "batch", "percpu"};
+static const char *const names[] = {"spin", "nest", "osq", "mutex", "rwsem", "batch", "percpu", "seq"};
 static const u64 SPREAD = 0xd1342543de82ef95u;
 static bool hard, bounded;
 
@@ -76,6 +76,9 @@ static void clear_locks(void) {
     mutex_init(&locks.mutex);
     init_rwsem(&locks.sem);
     percpu_open(&locks.percpu);
+    memset(seq_spin_place, 0, sizeof *seq_spin_place);
+    memset(seq_data, 0, sizeof seq_data);
+    *seq_word_place = 0;
     over = false;
 }
 

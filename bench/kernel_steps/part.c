@@ -54,3 +54,23 @@ void percpu_read(struct percpu_rw_semaphore *sem) { percpu_down_read(sem); }
 int percpu_read_try(struct percpu_rw_semaphore *sem) { return percpu_down_read_trylock(sem); }
 void percpu_read_end(struct percpu_rw_semaphore *sem) { percpu_up_read(sem); }
 #endif
+
+#ifdef PART_OF_SEQ
+static seqlock_t seq_lock __attribute__((aligned(64)));
+int seq_data[2] __attribute__((aligned(64)));
+struct qspinlock *const seq_spin_place = &seq_lock.lock;
+unsigned *const seq_word_place = &seq_lock.seqcount.seqcount.sequence;
+/* Each word has how often it was written. */
+void seq_write(void) {
+    write_seqlock(&seq_lock);
+    WRITE_ONCE(seq_data[0], seq_data[0] + 1);
+    WRITE_ONCE(seq_data[1], seq_data[1] + 1);
+    write_sequnlock(&seq_lock);
+}
+int seq_read(void) {
+    unsigned start = read_seqbegin(&seq_lock);
+    READ_ONCE(seq_data[0]);
+    READ_ONCE(seq_data[1]);
+    return read_seqretry(&seq_lock, start) ? -1 : 0;
+}
+#endif

@@ -5,7 +5,7 @@
 const char *const kind_names[] = {
     "", "owner", "count", "hint", "word", "tail", "next", "prev", "locked", "cpu", "mnext", "mlocked", "mcount",
     "head", "last", "wnext", "wprev", "wtask", "wtype", "wtime", "mark",
-    "block", "readers", "writer", "entry", "state", "unowned"
+    "block", "readers", "writer", "entry", "seq", "data", "state", "unowned"
 };
 struct locks locks;
 
@@ -41,6 +41,13 @@ static struct place of_semaphore(const char *at) {
 static struct place of_percpu(const char *at) {
     WORD_AT(BLOCK, -1, locks.percpu.block);
     WORD_AT(WAITING_WRITER, -1, locks.percpu.writer);
+    return (struct place){NONE};
+}
+
+static struct place of_sequence_lock(const char *at) {
+    WORD_AT(SPIN_WORD, 0, *seq_spin_place);
+    WORD_AT(SEQUENCE, -1, *seq_word_place);
+    for (int i = 0; i < 2; i++) WORD_AT(DATA, i, seq_data[i]);
     return (struct place){NONE};
 }
 
@@ -105,6 +112,7 @@ struct place find(const volatile void *where) {
     if (within(at, &locks, sizeof locks))
         return lock == PERCPU ? of_percpu(at) : lock == MUTEX ? of_mutex(at) : lock >= RWSEM ? of_semaphore(at) : of_spin_lock(at);
     if (within(at, copies, TASKS * sizeof copies[0])) return of_processor(at);
+    if (lock == SEQ) return of_sequence_lock(at);
     if (within(at, stacks, sizeof stacks)) return of_stack(at);
     if (within(at, tasks, sizeof tasks)) {
         int task = (at - (char *)tasks) / sizeof *tasks;

@@ -12,13 +12,14 @@ from mutex import MutexCall, check_mutex
 from osq import check_osq
 from percpu import PercpuCall, check_percpu
 from rwsem import SemaphoreCall, check_rwsem
+from seq import SequenceCall, check_seq
 from spin import WITHOUT_NODE, SpinCall, check_spin
 
 SPIN_LOCKS = 6
 OSQ_WORDS = {"tail", "next", "prev", "locked", "cpu"}
 SPIN_WORDS = {"word", "mnext", "mlocked", "mcount"}
 LIST_WORDS = {"head", "last", "wnext", "wprev"}
-SHARED_WORDS = {"owner", "count", "hint", "head", "last", "unowned", "block", "readers", "writer"} | OSQ_WORDS | SPIN_WORDS
+SHARED_WORDS = {"owner", "count", "hint", "head", "last", "unowned", "block", "readers", "writer", "seq", "data"} | OSQ_WORDS | SPIN_WORDS
 BATCH_TURNS, WAKE_TURNS = 199, 7        # at each how manyth step the facts of many tasks are checked
 
 
@@ -80,14 +81,16 @@ class Run:
         self.lock, self.functions = lock, functions
         self.kind = "rwsem" if lock == "batch" else lock
         self.has_list = self.kind in ("mutex", "rwsem")
+        self.has_wait_lock = self.has_list or lock == "seq"
+        self.enters = 0             # of a sequence lock: how often a writer came in
         self.value = {}
         self.osq_queue, self.list, self.list_before, self.marks, self.times = [], [], [], {}, {}
         spin_locks = SPIN_LOCKS if lock in ("spin", "nest") else 1
         self.spin_queues = [[] for _ in range(spin_locks)]
-        call = {"mutex": MutexCall, "rwsem": SemaphoreCall, "percpu": PercpuCall}.get(self.kind, OfNoCall)
+        call = {"mutex": MutexCall, "rwsem": SemaphoreCall, "percpu": PercpuCall, "seq": SequenceCall}.get(self.kind, OfNoCall)
         self.tasks = [call(self, number) for number in range(task_count)]
         self.spin_calls = [[] for _ in range(spin_locks)]
-        if self.has_list:
+        if self.has_wait_lock:
             self.spin_calls[0] = [task.wait_lock for task in self.tasks]
         self.ended_early = False
         self.turn = 0
@@ -141,15 +144,15 @@ class Run:
             need(s.op in "Llc" or s.kind == "mcount", "spin: %s of %s%d from %d to %d at %s", s.op, s.kind, s.of, s.old, s.new, call.point)
             self.count_load(s, pc)
         ended = result not in (None, STAYS)
-        if ended and self.has_list:
+        if ended and self.has_wait_lock:
             task.happens(result)
         if self.lock != "batch" and has_changed(s, point, call.point) or ended:
             check_spin(self, call.lock)
-        if ended and self.has_list:
+        if ended and self.has_wait_lock:
             self.check()
 
     def spin_call_of(self, task, s):
-        if self.has_list:
+        if self.has_wait_lock:
             if task.wait_lock.point == "out":
                 task.wait_lock.begin(False)
                 task.happens("wait_lock")
@@ -228,6 +231,8 @@ class Run:
             check_mutex(self)
         elif self.kind == "percpu":
             check_percpu(self)
+        elif self.kind == "seq":
+            check_seq(self)
         elif self.lock == "batch":
             self.turn += 1
             wakes = self.tasks[0].point in ("wake: removes", "wake: grants", "release: releases the wait lock")

@@ -6,7 +6,7 @@ from trial import tell_trace
 
 # Which modules name the steps of a lock. A batch has those of a wake alone.
 MODULES_OF = {"mutex": ("mutex", "osq", "spin"), "rwsem": ("rwsem", "osq", "spin"), "osq": ("osq",), "spin": ("spin",), "nest": ("spin",),
-              "batch": (), "percpu": ("percpu",)}
+              "batch": (), "percpu": ("percpu",), "seq": ("seq", "spin")}
 
 
 def tell_runs(trial):

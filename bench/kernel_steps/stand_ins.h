@@ -73,6 +73,26 @@ void relax(void);
 
 #include <asm-generic/qspinlock.h>
 
+/* What the sequence lock asks for: nothing is checked, and its spin lock is the queued one. */
+#ifdef PART_OF_SEQ
+typedef struct qspinlock spinlock_t;
+typedef struct { int unused; } rwlock_t;
+void spin_lock(struct qspinlock *lock);
+void spin_unlock(struct qspinlock *lock);
+#define spin_lock_init(lock) ((void)(lock))
+#define spin_lock_bh spin_lock
+#define spin_unlock_bh spin_unlock
+#define spin_lock_irqsave(lock, flags) ((flags) = 0, spin_lock(lock))
+#define spin_unlock_irqrestore(lock, flags) ((void)(flags), spin_unlock(lock))
+#define lockdep_init_map(...)
+#define seqcount_acquire(...)
+#define seqcount_release(...)
+#define kcsan_atomic_next(number)
+#define kcsan_nestable_atomic_begin()
+#define kcsan_nestable_atomic_end()
+#define smp_rmb() barrier()
+#endif
+
 /* What the per-CPU semaphore asks for: a line of waiters with its lock, one task that waits for the
    readers, and its counts. Its fast path by RCU is never open. */
 #include <linux/list.h>
@@ -105,8 +125,13 @@ void rcuwait_wake_up(struct rcuwait *wait);
 #define init_waitqueue_head(queue) ((queue)->lock.held = 0, INIT_LIST_HEAD(&(queue)->head))
 #define __add_wait_queue_entry_tail append_entry
 #define __wake_up(queue, mode, number, key) wake_queue(queue, key)
+#ifdef PART_OF_SEQ
+#define spin_lock_irq spin_lock
+#define spin_unlock_irq spin_unlock
+#else
 #define spin_lock_irq(lock) lock_queue(lock)
 #define spin_unlock_irq(lock) unlock_queue(lock)
+#endif
 #define rcu_sync_init(sync)
 #define rcu_sync_enter(sync)
 #define rcu_sync_exit(sync)

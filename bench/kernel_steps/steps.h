@@ -11,7 +11,7 @@
 enum { STACK = 1 << 15, SPINS = 6 };
 
 /* ---- the locks that a run may try, and the words of each ---------------------------------------- */
-enum lock { SPIN, NEST, OSQ, MUTEX, RWSEM, BATCH, PERCPU, LOCKS };
+enum lock { SPIN, NEST, OSQ, MUTEX, RWSEM, BATCH, PERCPU, SEQ, LOCKS };
 extern enum lock lock;
 extern struct locks {
     struct mutex mutex __attribute__((aligned(64)));
@@ -34,12 +34,18 @@ void percpu_open(struct percpu_rw_semaphore *sem);
 void percpu_read(struct percpu_rw_semaphore *sem);
 int percpu_read_try(struct percpu_rw_semaphore *sem);
 void percpu_read_end(struct percpu_rw_semaphore *sem);
+extern struct qspinlock *const seq_spin_place;
+extern unsigned *const seq_word_place;
+extern int seq_data[2];
+void seq_write(void);
+/* One attempt: 0 where both looks at the sequence word agree. */
+int seq_read(void);
 
 /* ---- places.c ------------------------------------------------------------------------------------ */
 enum kind {
     NONE, OWNER, COUNT, HINT, SPIN_WORD, TAIL, NEXT, PREV, LOCKED, CPU, NODE_NEXT, NODE_LOCKED, NODE_COUNT,
     LIST_HEAD, LIST_LAST, WAITER_NEXT, WAITER_PREV, WAITER_TASK, WAITER_TYPE, WAITER_TIME, WAITER_MARK,
-    BLOCK, READ_COUNT, WAITING_WRITER, ENTRY, STATE, UNOWNED
+    BLOCK, READ_COUNT, WAITING_WRITER, ENTRY, SEQUENCE, DATA, STATE, UNOWNED
 };
 extern const char *const kind_names[];
 struct place { enum kind kind; int of; const char *at; int size; };

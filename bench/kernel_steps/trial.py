@@ -14,7 +14,7 @@ from collections import namedtuple
 import counts
 from replay import Functions, Run
 
-LOCKS = ("mutex", "rwsem", "osq", "spin", "nest", "percpu", "batch")
+LOCKS = ("mutex", "rwsem", "osq", "spin", "nest", "percpu", "seq", "batch")
 # Schedules of a slice: how many of each order, and of how many tasks (0: two to six).
 ORDERS = {"drawn": (100, 0), "hard": (50, 0), "bound": (50, 3)}
 SLICE = sum(count for count, _ in ORDERS.values())

@@ -22,6 +22,7 @@ Variant = namedtuple("Variant", "lock file where pattern becomes what rule", def
 Rule = namedtuple("Rule", "file text becomes")
 
 MUTEX, RWSEM, OSQ, SPIN, PERCPU = "mutex.c", "rwsem.c", "osq_lock.c", "qspinlock.c", "percpu-rwsem.c"
+SEQ = "../../include/linux/seqlock.h"
 REMOVE = r"__mutex_remove_waiter\(struct"
 HANDOFF = r"__mutex_handoff\(struct mutex \*lock, struct"
 UNLOCK = r"__mutex_unlock_slowpath\(struct mutex \*lock, unsigned long ip\)$"
@@ -31,6 +32,7 @@ TRY_WRITE = r"rwsem_try_write_lock\(struct"
 MARK_WAKE = r"rwsem_mark_wake\(struct"
 READ = r"rwsem_down_read_slowpath\(struct"
 PERCPU_TRY = r"^static bool __percpu_down_read_trylock"
+END, RETRY = r"^static inline void do_raw_write_seqcount_end", r"^static inline int do___read_seqcount_retry"
 OSQ_LOCK, OSQ_WAIT, OSQ_UNLOCK = r"^bool osq_lock", r"^osq_wait_next", r"^void osq_unlock"
 
 OF_MUTEX = [
@@ -94,7 +96,13 @@ OF_PERCPU = [
     Variant("percpu", PERCPU, None, r"return !reader;", "return 1;", "a writer's release wakes one reader alone"),
     Variant("percpu", PERCPU, None, r"if \(per_cpu_sum\(\*sem->read_count\) != 0\)", "if (0)", "a writer doesn't wait for readers"),
 ]
-ONE_SIDED = OF_MUTEX + OF_RWSEM + OF_OSQ + OF_SPIN + OF_PERCPU
+OF_SEQ = [
+    Variant("seq", SEQ, END, r"s->sequence\+\+", "(void)0", "a writer leaves the word odd"),
+    Variant("seq", SEQ, r"^static inline void write_seqlock\(", r"spin_lock\(&sl->lock\)", "(void)0", "writers aren't kept apart"),
+    Variant("seq", SEQ, None, r"seqprop_sequence\(s\)\) & 1", "seqprop_sequence(s)) & 0", "a reader goes on at an odd word"),
+    Variant("seq", SEQ, RETRY, r"READ_ONCE\(s->sequence\) != start", "0", "a reader doesn't look again"),
+]
+ONE_SIDED = OF_MUTEX + OF_RWSEM + OF_OSQ + OF_SPIN + OF_PERCPU + OF_SEQ
 
 
 def alike(lock, name, rule, **other):
