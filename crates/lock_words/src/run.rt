@@ -24,7 +24,7 @@ const HELP: &[u8] = b"usage: lock_words [--linux] KIND WORD...\n\
     \x20 KIND        mutex, rwsem, spin, osq or percpu; with --linux spin-16k too\n\
     \x20 WORD        decimal, or hexadecimal with 0x\n\
     \x20 --linux     the word is one of Linux 6.6 on 64 bits\n\
-    \x20 --play=FILE plays a course; - is standard input\n\
+    \x20 --play=FILE plays a course of a mutex, rwsem or spin; - is standard input\n\
     \x20 --steps     answers what single steps make of words, a line each\n\
     Try: lock_words mutex 21    lock_words --linux rwsem 0x102\n\
     A course: mutex; 0 try; 1 queue; 0 release; a line end for each ;\n\
