@@ -50,7 +50,7 @@ Refuses kind at mode reads (Busy word) v u = (mode ≡ Try) × Misses kind reads
 Refuses kind at mode reads Intr v u = (mode ≡ Int) × ((why : Interrupted) × Interrupts kind reads at why v u) × (u.tally.interrupted ≡ raised true v.tally.interrupted)
 Refuses kind at mode reads reply v u = ⊥
 
--- it failed one try at most, was in no list, and wasn't the front of a spin queue
+-- it failed one try at most, was in no list, and wasn't the head of a spin queue
 abbrev pub TriesOnce : Shown → Shown → Type 0
 TriesOnce v u = (u.line ≡ v.line) × (u.fronts ≡ v.fronts) × (u.hand.misses ≤ v.hand.misses + 1)
 

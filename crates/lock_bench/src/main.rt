@@ -46,7 +46,7 @@ enum Case {
     /// Two queued spin locks of one table, one taken within the other.
     Nested,
     /// The front of the optimistic spin queue.
-    Front,
+    Head,
     /// The mutex, whose waiters sleep on parkers.
     Mutex,
     /// The mutex, with four words raised inside and twenty dependent steps outside.
@@ -73,7 +73,7 @@ enum Case {
 const CASES: [(&str, Case); 13] = [
     ("spin", Case::Spin),
     ("nested", Case::Nested),
-    ("front", Case::Front),
+    ("front", Case::Head),
     ("mutex", Case::Mutex),
     ("work", Case::Work),
     ("kept", Case::Kept),
@@ -101,7 +101,7 @@ fn measure<R: Threads + Wait + Sync + Clock>(
     match case {
         Case::Spin => rounds::<Site<Bare>, R>(rt, alloc, threads, count),
         Case::Nested => rounds::<Site<Nest>, R>(rt, alloc, threads, count),
-        Case::Front => rounds::<Osq, R>(rt, alloc, threads, count),
+        Case::Head => rounds::<Osq, R>(rt, alloc, threads, count),
         Case::Mutex => crewed_rounds::<Mutex<Nothing>, Write, R>(rt, alloc, threads, count),
         Case::Work => working_rounds::<Mutex<Nothing>, R>(rt, alloc, threads, count),
         Case::Kept => rounds::<Raising, R>(rt, alloc, threads, count),

@@ -55,7 +55,8 @@ pub trait Timed: Sized {
         ensures first { idle self.new first.new }
         ensures other { IfOk result (λ worker. idle self.new worker) }
         ensures others { (w : Self.Worker) → idle self.old w → idle self.new w }
-        ensures serves { (task count : ℕ) → serves self.old task count → serves self.new task count };
+        ensures serves { (task count : ℕ) → serves self.old task count →
+            serves self.new task count };
 
     /// Makes so many rounds, in the name of a task.
     fn rounds<W: Wait>(&self, rt: &W, worker: &mut Self::Worker, task: u32, count: u32)

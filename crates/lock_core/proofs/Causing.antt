@@ -167,11 +167,11 @@ module _ {Call : Type 0} (o : Obj Call) (unavailable : Unavailable) (size word_a
       came j g {P} at mine kept fresh = dite (ℕ_discrete j s.id)
           (λ is. mine is (some-injective g s.after (sym at ∙ (ap (get_elem? y.hands) is ∙ s.at'))))
           (λ other. ⊎_elim
-            (λ (t : (h : Hand) × (get_elem? x.hands j ≡ some h)). plan-or-not g.plan
-              (λ none. ⊎_elim as_before (λ (q : IsGone j t.0 x y). fresh None [] (some-injective g (stranger None []) (sym at ∙ q.hand))) (s.spends j t.0 g other t.1 at none))
-              (λ live. as_before (s.others j t.0 g other t.1 at live)))
-            (λ beyond. let b = s.born j g beyond at in fresh s.before.plan s.before.seen (some-injective g (stranger s.before.plan s.before.seen) (sym at ∙ b.hand)))
-            (inside x.hands j))
+          (λ (t : (h : Hand) × (get_elem? x.hands j ≡ some h)). plan-or-not g.plan
+          (λ none. ⊎_elim as_before (λ (q : IsGone j t.0 x y). fresh None [] (some-injective g (stranger None []) (sym at ∙ q.hand))) (s.spends j t.0 g other t.1 at none))
+          (λ live. as_before (s.others j t.0 g other t.1 at live)))
+          (λ beyond. let b = s.born j g beyond at in fresh s.before.plan s.before.seen (some-injective g (stranger s.before.plan s.before.seen) (sym at ∙ b.hand)))
+          (inside x.hands j))
         where
           as_before : SamePass j x y → P
           as_before q = kept (sym q.hand ∙ at) q.steps
@@ -180,10 +180,10 @@ module _ {Call : Type 0} (o : Obj Call) (unavailable : Unavailable) (size word_a
       moved : (f : Hand → ℕ) → ((p : Option Plan) (seen : _) → f (stranger p seen) ≡ 0) → ((h : Hand) → h.task ≡ None → h.sent ≡ None → h.consumed ≡ 0 → f h ≡ 0) → total f y.hands + f s.before ≡ total f x.hands + f s.after
       moved f idle nameless = total-moves f x.hands y.hands s.id s.before s.after s.at s.at' s.lasts
           (λ j h g other at at'. plan-or-not g.plan
-            (λ none. ⊎_elim (as_was j h g at at')
-              (λ (q : IsGone j h x y). let a : f g ≡ 0 = ap f (some-injective g (stranger None []) (sym at' ∙ q.hand)) ∙ idle None [] in let n = rx.nameless j h at q.nameless in let b = nameless h q.nameless n.1 n.2 in a ∙ sym b)
-              (s.spends j h g other at at' none))
-            (λ live. as_was j h g at at' (s.others j h g other at at' live)))
+          (λ none. ⊎_elim (as_was j h g at at')
+          (λ (q : IsGone j h x y). let a : f g ≡ 0 = ap f (some-injective g (stranger None []) (sym at' ∙ q.hand)) ∙ idle None [] in let n = rx.nameless j h at q.nameless in let b = nameless h q.nameless n.1 n.2 in a ∙ sym b)
+          (s.spends j h g other at at' none))
+          (λ live. as_was j h g at at' (s.others j h g other at at' live)))
           (λ j g beyond at. let b = s.born j g beyond at in ap f (some-injective g (stranger s.before.plan s.before.seen) (sym at ∙ b.hand)) ∙ idle s.before.plan s.before.seen)
         where
           as_was : (j : ℕ) (h g : Hand) → get_elem? x.hands j ≡ some h → get_elem? y.hands j ≡ some g → SamePass j x y → f g ≡ f h
@@ -202,12 +202,12 @@ module _ {Call : Type 0} (o : Obj Call) (unavailable : Unavailable) (size word_a
           (λ none. took none (λ j l other. one-line k x.words y.words (taken_at t) j s.one_word (line-of t below) l other (rises (ap (is_number t) none))))
           had
           (λ u other is. let low = rx.tasks s.id s.before s.at u is in
-            let rose = rises (ap (is_number t) is ∙ is_number-else t u other) in
-            let same = one-line k x.words y.words (taken_at t) (taken_at u) s.one_word (line-of t below) (line-of u low) (λ e. other (omega (arith, e))) rose in
-            let a = named-moved u in let one : named_of u s.before ≡ 1 = ap (is_number u) is ∙ is_number-here u in
-            let zero_it : named_of u s.after ≡ 0 = ap (is_number u) named ∙ is_number-else u t (λ e. other (sym e)) in
-            let n = rx.numbers u (omega (arith, low, few)) in let m = ry.numbers u (omega (arith, low, few)) in
-            let n0 = n.0 in let n1 = n.1 in let m0 = m.0 in absurd (omega (arith, same, a, one, zero_it, n0, n1, m0)))
+          let rose = rises (ap (is_number t) is ∙ is_number-else t u other) in
+          let same = one-line k x.words y.words (taken_at t) (taken_at u) s.one_word (line-of t below) (line-of u low) (λ e. other (omega (arith, e))) rose in
+          let a = named-moved u in let one : named_of u s.before ≡ 1 = ap (is_number u) is ∙ is_number-here u in
+          let zero_it : named_of u s.after ≡ 0 = ap (is_number u) named ∙ is_number-else u t (λ e. other (sym e)) in
+          let n = rx.numbers u (omega (arith, low, few)) in let m = ry.numbers u (omega (arith, low, few)) in
+          let n0 = n.0 in let n1 = n.1 in let m0 = m.0 in absurd (omega (arith, same, a, one, zero_it, n0, n1, m0)))
         where
           below : t < length k
           below = ry.tasks s.id s.after s.at' t named
@@ -280,22 +280,26 @@ module _ {Call : Type 0} (o : Obj Call) (unavailable : Unavailable) (size word_a
             keeps : KeepsSaw s.before s.after → Mine
             keeps q = ⊎_elim
                 (λ (same : (s.after.saw ≡ s.before.saw) × (s.after.task ≡ s.before.task)).
-                  let was = sym same.1 ∙ its in
-                  let b = before s.id s.had t s.before saw s.at s.had_steps was (sym same.0 ∙ now) in let low = b.0 in
-                  (omega (arith, low, counted), λ l. stores
-                    (λ recs last. let d = done-stays t was its recs ∙ sym (ap (λ (z : Hand). z.done) is) in
+                let was = sym same.1 ∙ its in
+                let b = before s.id s.had t s.before saw s.at s.had_steps was (sym same.0 ∙ now) in let low = b.0 in (
+                  omega (arith, low, counted),
+                  λ l. stores
+                      (λ recs last. let d = done-stays t was its recs ∙ sym (ap (λ (z : Hand). z.done) is) in
                       subst (λ (z : ℕ). FailedTryDuring word_at (y ∷ x ∷ past) t z saw.word) d
                       (later-try y (x ∷ past) t s.before.done saw.word (b.1 (let e = ap (λ (z : Hand). z.last) is in omega (arith, l, e, last)))))
-                    (λ q. let e = ap (λ (z : Hand). z.last) is in let last = q.last in absurd (omega (arith, l, e, last, low)))))
+                      (λ q. let e = ap (λ (z : Hand). z.last) is in let last = q.last in absurd (omega (arith, l, e, last, low))),
+                ))
                 (λ gone. none-some saw (sym gone ∙ now)) q.1
 
             fails : FailsTry (s.had + 1) (get_or x.words word_at 0) s.before s.after → Mine
             fails q = let found = same-some (record { word = get_or x.words word_at 0; step = s.had + 1 }) saw (sym q.saw ∙ now) in
-                let at_step = ap (λ (z : Saw). z.step) found in let was = sym q.task ∙ its in
-                (omega (arith, at_step, counted), λ l. stores
-                  (λ recs last. let d = done-stays t was its recs ∙ sym (ap (λ (z : Hand). z.done) is) in
-                    (x, y, s.before, s.after, own-step t was g.done d, q.out, q.counts, ap (λ (z : Saw). z.word) found))
-                  (λ q. let e = ap (λ (z : Hand). z.last) is in let last = q.last in absurd (omega (arith, l, e, last, at_step))))
+                let at_step = ap (λ (z : Saw). z.step) found in let was = sym q.task ∙ its in (
+                  omega (arith, at_step, counted),
+                  λ l. stores
+                      (λ recs last. let d = done-stays t was its recs ∙ sym (ap (λ (z : Hand). z.done) is) in
+                      (x, y, s.before, s.after, own-step t was g.done d, q.out, q.counts, ap (λ (z : Saw). z.word) found))
+                      (λ q. let e = ap (λ (z : Hand). z.last) is in let last = q.last in absurd (omega (arith, l, e, last, at_step))),
+                )
 
     consumed-step : KeepsConsumed x (x ∷ past) → KeepsConsumed y (y ∷ x ∷ past)
     consumed-step before j t g at named some_one = came x y rx ry s j g at mine
@@ -308,11 +312,11 @@ module _ {Call : Type 0} (o : Obj Call) (unavailable : Unavailable) (size word_a
         mine : j ≡ s.id → g ≡ s.after → Mine
         mine here is = stores
             (λ recs last. numbered x y rx ry s t its
-              (λ was. let d = done-stays t was its recs ∙ sym (ap (λ (z : Hand). z.done) is) in dite (ℕ_discrete s.before.consumed 0)
-                (λ none. (x, y, s.before, s.after, own-step t was g.done d, rises recs (ap (consumed_weight t s.before.task) none)))
-                (λ more. subst (λ (z : ℕ). RaisedDuring k (y ∷ x ∷ past) t z (consumed_at t)) d (later-rise y (x ∷ past) t s.before.done (consumed_at t) (before s.id t s.before s.at was (omega (arith, more))))))
-              (λ none stay. let nothing = (rx.nameless s.id s.before s.at none).2 in
-                let same = stay (consumed_at t) (omega (arith, below, few)) (λ e. omega (arith, e)) in let up = rises recs (ap (consumed_weight t s.before.task) nothing) in absurd (omega (arith, same, up))))
+            (λ was. let d = done-stays t was its recs ∙ sym (ap (λ (z : Hand). z.done) is) in dite (ℕ_discrete s.before.consumed 0)
+            (λ none. (x, y, s.before, s.after, own-step t was g.done d, rises recs (ap (consumed_weight t s.before.task) none)))
+            (λ more. subst (λ (z : ℕ). RaisedDuring k (y ∷ x ∷ past) t z (consumed_at t)) d (later-rise y (x ∷ past) t s.before.done (consumed_at t) (before s.id t s.before s.at was (omega (arith, more))))))
+            (λ none stay. let nothing = (rx.nameless s.id s.before s.at none).2 in
+            let same = stay (consumed_at t) (omega (arith, below, few)) (λ e. omega (arith, e)) in let up = rises recs (ap (consumed_weight t s.before.task) nothing) in absurd (omega (arith, same, up))))
             (λ q. let c = q.settled.1 in let e = ap (λ (z : Hand). z.consumed) is in absurd (omega (arith, some_one, c, e)))
           where
             its : s.after.task ≡ Some t
@@ -339,12 +343,12 @@ module _ {Call : Type 0} (o : Obj Call) (unavailable : Unavailable) (size word_a
         mine : j ≡ s.id → g ≡ s.after → Mine
         mine here is = stores
             (λ recs last. numbered x y rx ry s t its
-              (λ was. let d = done-stays t was its recs ∙ sym (ap (λ (z : Hand). z.done) is) in has-number target s.before.sent
-                (λ none. (x, y, s.before, s.after, own-step t was g.done d, rises recs (ap (is_number target) none)))
-                (λ same. subst (λ (z : ℕ). RaisedDuring k (y ∷ x ∷ past) t z (sent_at target)) d (later-rise y (x ∷ past) t s.before.done (sent_at target) (before s.id t target s.before s.at was same inside_it)))
-                (λ u other to. (x, y, s.before, s.after, own-step t was g.done d, rises recs (ap (is_number target) to ∙ is_number-else target u other))))
-              (λ none stay. let nothing = (rx.nameless s.id s.before s.at none).1 in
-                let same = stay (sent_at target) (omega (arith, inside_it)) (λ e. omega (arith, e)) in let up = rises recs (ap (is_number target) nothing) in absurd (omega (arith, same, up))))
+            (λ was. let d = done-stays t was its recs ∙ sym (ap (λ (z : Hand). z.done) is) in has-number target s.before.sent
+            (λ none. (x, y, s.before, s.after, own-step t was g.done d, rises recs (ap (is_number target) none)))
+            (λ same. subst (λ (z : ℕ). RaisedDuring k (y ∷ x ∷ past) t z (sent_at target)) d (later-rise y (x ∷ past) t s.before.done (sent_at target) (before s.id t target s.before s.at was same inside_it)))
+            (λ u other to. (x, y, s.before, s.after, own-step t was g.done d, rises recs (ap (is_number target) to ∙ is_number-else target u other))))
+            (λ none stay. let nothing = (rx.nameless s.id s.before s.at none).1 in
+            let same = stay (sent_at target) (omega (arith, inside_it)) (λ e. omega (arith, e)) in let up = rises recs (ap (is_number target) nothing) in absurd (omega (arith, same, up))))
             (λ q. none-some target (sym q.settled.0 ∙ now))
           where
             its : s.after.task ≡ Some t
@@ -368,16 +372,16 @@ module _ {Call : Type 0} (o : Obj Call) (unavailable : Unavailable) (size word_a
       interrupted = λ reply. found t c r is
           (λ old. later-rise y (x ∷ past) t c (consumed_at t) ((before t c r old).interrupted reply))
           (λ q named done kind value. let w = q.interrupted (intr-is q.rec.reply (sym kind ∙ ap kind_of reply)) in let one = w.0 in
-            later-rise y (x ∷ past) t c (consumed_at t) (subst (λ (z : ℕ). RaisedDuring k (x ∷ past) t z (consumed_at t)) done (consumes s.id t s.before s.at named (omega (arith, one)))));
+          later-rise y (x ∷ past) t c (consumed_at t) (subst (λ (z : ℕ). RaisedDuring k (x ∷ past) t z (consumed_at t)) done (consumes s.id t s.before s.at named (omega (arith, one)))));
       tried = λ reply. found t c r is
           (λ old. let q = (before t c r old).tried reply in (q.0, later-try y (x ∷ past) t c q.0 q.1))
           (λ q named done kind value. let w = q.interrupted (intr-is q.rec.reply (sym kind ∙ ap kind_of reply)) in (w.1.0, tried-then t c w.1.0 named done w.1.1));
       sent = λ reply. found t c r is
           (λ old. let q = (before t c r old).sent reply in (q.0, q.1, q.2, q.3, λ l. later-rise y (x ∷ past) t c (sent_at q.1) (q.4 l)))
           (λ q named done kind value. let w = q.sent (sent-is q.rec.reply (sym kind ∙ ap kind_of reply)) in
-            let task = same-some q.task t (sym q.named ∙ named) in
-            let plan : q.plan ≡ k = same-plan o unavailable size k s.before q.plan (rx.plans s.id s.before s.at) q.planned in
-            (w.0, w.1, (λ i. slice_get (row (sym plan i) (sym task i)) (sym done i)) ∙ w.2, w.3, λ l. later-rise y (x ∷ past) t c (sent_at w.1) (subst (λ (z : ℕ). RaisedDuring k (x ∷ past) t z (sent_at w.1)) done (sends_it s.id t w.1 s.before s.at named w.4 l))));
+          let task = same-some q.task t (sym q.named ∙ named) in
+          let plan : q.plan ≡ k = same-plan o unavailable size k s.before q.plan (rx.plans s.id s.before s.at) q.planned in
+          (w.0, w.1, (λ i. slice_get (row (sym plan i) (sym task i)) (sym done i)) ∙ w.2, w.3, λ l. later-rise y (x ∷ past) t c (sent_at w.1) (subst (λ (z : ℕ). RaisedDuring k (x ∷ past) t z (sent_at w.1)) done (sends_it s.id t w.1 s.before s.at named w.4 l))));
     }
       where
         busy-is : (reply : Reply) (word : ℕ) → kind_of reply ≡ 6 → value_of reply ≡ word → reply ≡ Busy word
@@ -425,10 +429,10 @@ module _ {Call : Type 0} (o : Obj Call) (unavailable : Unavailable) (size word_a
                 let now : get_or (set (site k x.words).recs (start k q.task + s.before.done) (rec_word q.rec)) (start k t + c) 0 ≡ rec_word r = ap (λ (z : List ℕ). get_or z (start k t + c) 0) (sym stored) ∙ is.recorded in
                 ⊎_elim
                 (λ (mine : (start k t + c ≡ start k q.task + s.before.done) × (get_or (set (site k x.words).recs (start k q.task + s.before.done) (rec_word q.rec)) (start k t + c) 0 ≡ rec_word q.rec)).
-                  let own = start-same k t q.task c s.before.done is.planned room mine.0 in let parts = same-parts r q.rec is.fits q.fits (sym now ∙ mine.1) in
-                  new q (q.named ∙ ap Some (sym own.0)) (sym own.1) parts.0 parts.1)
+                let own = start-same k t q.task c s.before.done is.planned room mine.0 in let parts = same-parts r q.rec is.fits q.fits (sym now ∙ mine.1) in
+                new q (q.named ∙ ap Some (sym own.0)) (sym own.1) parts.0 parts.1)
                 (λ (other : (start k t + c ≢ start k q.task + s.before.done) × (get_or (set (site k x.words).recs (start k q.task + s.before.done) (rec_word q.rec)) (start k t + c) 0 ≡ get_or (site k x.words).recs (start k t + c) 0)).
-                  old (record { planned = is.planned; fits = is.fits; recorded = sym other.1 ∙ now }))
+                old (record { planned = is.planned; fits = is.fits; recorded = sym other.1 ∙ now }))
                 (set-at (site k x.words).recs (start k q.task + s.before.done) (start k t + c) (rec_word q.rec) (λ e. rec_word-some r (sym now ∙ e)))
 
         tried-then : (t c word : ℕ) → s.before.task ≡ Some t → s.before.done ≡ c → SawSince s.before word → FailedTryDuring word_at (y ∷ x ∷ past) t c word
@@ -450,10 +454,11 @@ module _ {Call : Type 0} (o : Obj Call) (unavailable : Unavailable) (size word_a
 
     opened : (m : Moment) → m ≡ new → All m (m ∷ [])
     opened m is = (
-        λ j n t g saw at steps named seen. at-first m j g is at (λ e. none-some saw (sym (ap (λ (z : Hand). z.saw) e) ∙ seen)),
-        λ j t g at named some_one. at-first m j g is at (λ e. let c = ap (λ (z : Hand). z.consumed) e in absurd (omega (arith, some_one, c))),
-        λ j t target g at named sends_it inside_it. at-first m j g is at (λ e. none-some target (sym (ap (λ (z : Hand). z.sent) e) ∙ sends_it)),
-        λ t c r recorded. nothing t c r recorded)
+      λ j n t g saw at steps named seen. at-first m j g is at (λ e. none-some saw (sym (ap (λ (z : Hand). z.saw) e) ∙ seen)),
+      λ j t g at named some_one. at-first m j g is at (λ e. let c = ap (λ (z : Hand). z.consumed) e in absurd (omega (arith, some_one, c))),
+      λ j t target g at named sends_it inside_it. at-first m j g is at (λ e. none-some target (sym (ap (λ (z : Hand). z.sent) e) ∙ sends_it)),
+      λ t c r recorded. nothing t c r recorded,
+    )
       where
         nothing : (t c : ℕ) (r : Rec) {P : Type 0} → IsRecordedThen k m t c r → P
         nothing t c r recorded = absurd (rec_word-some r (sym recorded.recorded ∙ (ap (λ (z : Moment). record_in k z t c) is ∙ (ap (λ (z : List ℕ). get_or z (start k t + c) 0) is_new.recorded ∙ zero-at _ (start k t + c)))))

@@ -78,7 +78,7 @@ pub record Sees (kind : Kind) (reads : Bool) (at word : ℕ) (v u : Shown) : Typ
   pub found : FindsAtStep saw.step at word v u
   pub shut : unavailable kind reads word
 
--- it didn't wait, and holds nothing, nor did it at any step: it took no wait lock, was in no list, and was no queue's front
+-- it didn't wait, and holds nothing, nor did it at any step: it took no wait lock, was in no list, and was no queue's head
 pub record Misses (kind : Kind) (reads : Bool) (at word : ℕ) (v u : Shown) : Type 0 where
   pub keeps : Keeps v u
   pub consumed : u.hand.consumed ≡ v.hand.consumed
@@ -155,7 +155,7 @@ pub record KeepsPlace (kind : Kind) (shared : Bool) (at : ℕ) (v u : Shown) : T
   pub queues : v.hand.misses < u.hand.misses → u.fronts ≡ v.fronts → (v.spin.entries < u.spin.entries) ⊎ ((shared ≡ true) × IsLetIn kind at v u)
   pub few : u.fronts ≡ v.fronts → u.hand.misses ≤ v.hand.misses + tries kind
 
--- What a call that waits counted, by its answer: whether it stood in the list of waiters, and whether a signal interrupted it; and whether the lock's spin queue answered false. Each entry of that queue ends as its front, which is the answer true, or with the answer false.
+-- What a call that waits counted, by its answer: whether it stood in the list of waiters, and whether a signal interrupted it; and whether the lock's spin queue answered false. Each entry of that queue ends as its head, which is the answer true, or with the answer false.
 pub record TalliesLock (answer : Result How Interrupted) (v u : Shown) : Type 0 where
   pub queued : u.tally.queued ≡ raised (stood_in_list answer) v.tally.queued
   pub interrupted : u.tally.interrupted ≡ raised (was_interrupted answer) v.tally.interrupted

@@ -1,7 +1,7 @@
 -- What a pass notes of itself at the spin locks of its table.
 use Rattle.std.specs.Prelude.{◌≡◌, ◌≢◌, ℕ, ◌+◌, ◌*◌, ◌<◌, Bool, true, false, replicate, slice_index_or}
 use Rattle.lock_core.specs.declared.view.Point.{Point}
-use Rattle.lock_core.specs.declared.view.Point.TheVariants.{Out, Pending, Trying, Waiting, Front, Passing, Holding}
+use Rattle.lock_core.specs.declared.view.Point.TheVariants.{Out, Pending, Trying, Waiting, Head, Passing, Holding}
 use Rattle.lock_core.specs.declared.view.SpinHand.{SpinHand}
 use Rattle.lock_core.specs.declared.pass.Nesting.{Nesting}
 use Rattle.lock_core.specs.Records.{bit}
@@ -24,7 +24,7 @@ abbrev pub pauses_at : Point → Bool
 pauses_at Pending = true
 pauses_at Trying = true
 pauses_at Waiting = true
-pauses_at Front = true
+pauses_at Head = true
 pauses_at Passing = true
 pauses_at _ = false
 

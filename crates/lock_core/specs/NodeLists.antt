@@ -1,4 +1,4 @@
--- Queues of nodes as lists of their numbers, the front first. The code of a node is its number plus 1.
+-- Queues of nodes as lists of their numbers, the head first. The code of a node is its number plus 1.
 use Rattle.std.specs.Prelude.{◌≡◌, ℕ, suc, ◌==◌, ◌⊎◌, List, [], ◌∷◌, if◌then◌else◌}
 
 -- the node stands in it

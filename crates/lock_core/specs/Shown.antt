@@ -23,7 +23,7 @@ use Rattle.lock_core.specs.Tallies.{no_tally}
 pub record Shown : Type 0 where
   pub hand : Hand
   pub spin : SpinHand
-  -- how many steps it has made, and how often it has been the front of its lock's spin queue
+  -- how many steps it has made, and how often it has been the head of its lock's spin queue
   pub steps : ℕ
   pub fronts : ℕ
   -- how it has stood in line
@@ -37,7 +37,7 @@ pub record Shown : Type 0 where
 abbrev pub no_line : Line
 no_line = record { appends = 0 }
 
--- What a pass with this view and past shows, whose lock tells so how it has stood in line, and how often it was the front of a spin queue of the lock's own. Of that queue, and of calls that wait, nothing else is counted.
+-- What a pass with this view and past shows, whose lock tells so how it has stood in line, and how often it was the head of a spin queue of the lock's own. Of that queue, and of calls that wait, nothing else is counted.
 abbrev pub shown : {E : Type 0} → (E → Line) → ℕ → View E → List Moment → Shown
 shown line fronts v past = record { hand = v.hand; spin = v.spin; steps = v.steps; fronts = fronts; line = line v.ext; past = past; swaps = 0; tally = no_tally }
 

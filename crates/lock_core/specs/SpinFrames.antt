@@ -4,7 +4,7 @@ use Rattle.lock_core.specs.Records.{bit}
 use Rattle.lock_core.specs.Totals.{total}
 use Rattle.lock_core.specs.declared.view.Frame.{Frame}
 use Rattle.lock_core.specs.declared.view.Point.{Point}
-use Rattle.lock_core.specs.declared.view.Point.TheVariants.{Undoing, Pending, Taking, Clearing, Cleared, Linking, Waiting, Front, Ready, Passing, Holding}
+use Rattle.lock_core.specs.declared.view.Point.TheVariants.{Undoing, Pending, Taking, Clearing, Cleared, Linking, Waiting, Head, Ready, Passing, Holding}
 
 -- the number, or 0 where the test fails
 abbrev pub when : Bool → ℕ → ℕ
@@ -22,7 +22,7 @@ abbrev pub takes_at : Point → ℕ
 takes_at Taking = 1
 takes_at _ = 0
 
--- it is the front, and has seen the locked byte and the pending bit 0
+-- it is the head, and has seen the locked byte and the pending bit 0
 abbrev pub ready_at : Point → ℕ
 ready_at Ready = 1
 ready_at _ = 0
@@ -45,14 +45,14 @@ owns_at p = undoes_at p + pends_at p + takes_at p
 abbrev pub stands : Point → Bool
 stands Linking = true
 stands Waiting = true
-stands Front = true
+stands Head = true
 stands Ready = true
 stands Passing = true
 stands _ = false
 
 -- it is the head of the queue: it waits for the locked byte and the pending bit, has seen both 0, or is to tell the next node
 abbrev pub is_head : Point → Bool
-is_head Front = true
+is_head Head = true
 is_head Ready = true
 is_head Passing = true
 is_head _ = false
@@ -63,7 +63,7 @@ uses Clearing = true
 uses Cleared = true
 uses Linking = true
 uses Waiting = true
-uses Front = true
+uses Head = true
 uses Ready = true
 uses Passing = true
 uses _ = false

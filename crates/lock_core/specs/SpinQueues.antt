@@ -6,14 +6,14 @@ use Rattle.lock_core.specs.ViewParts.{Each}
 use Rattle.lock_core.specs.Totals.{total}
 use Rattle.lock_core.specs.declared.view.Frame.{Frame}
 use Rattle.lock_core.specs.declared.view.Point.{Point}
-use Rattle.lock_core.specs.declared.view.Point.TheVariants.{Clearing, Cleared, Linking, Waiting, Front, Ready, Passing}
+use Rattle.lock_core.specs.declared.view.Point.TheVariants.{Clearing, Cleared, Linking, Waiting, Head, Ready, Passing}
 use Rattle.lock_core.specs.SpinFrames.{Counts, counts, code_is, stands_as, uses_as}
 
 -- what a node's code counts for in the word
 abbrev pub tail_unit : ℕ
 tail_unit = 512
 
--- the last of a queue, whose front stands first
+-- the last of a queue, whose head stands first
 abbrev pub tail_of : List ℕ → ℕ
 tail_of [] = 0
 tail_of (x ∷ []) = x
@@ -42,18 +42,18 @@ pub record Queued (q : List ℕ) (fs : List Frame) : Type 0 where
 abbrev pub Linked : (ℕ → ℕ) → List ℕ → Type 0
 Linked next q = (p x : ℕ) → get_elem? q p ≡ some x → (next x ≡ 0) ⊎ (get_elem? q (suc p) ≡ some (next x))
 
--- it was told that it is the front, or found no tail; and if it has seen the next node, that stands second
-abbrev pub IsFront : (ℕ → ℕ) → (ℕ → ℕ) → List ℕ → (code found after : ℕ) → Type 0
-IsFront next locked q code found after = (get_elem? q 0 ≡ some code) × ((found ≡ 0) ⊎ (locked code ≡ 1)) × ((after ≡ 0) ⊎ ((get_elem? q 1 ≡ some after) × (next code ≡ after)))
+-- it was told that it is the head, or found no tail; and if it has seen the next node, that stands second
+abbrev pub StandsAtHead : (ℕ → ℕ) → (ℕ → ℕ) → List ℕ → (code found after : ℕ) → Type 0
+StandsAtHead next locked q code found after = (get_elem? q 0 ≡ some code) × ((found ≡ 0) ⊎ (locked code ≡ 1)) × ((after ≡ 0) ⊎ ((get_elem? q 1 ≡ some after) × (next code ≡ after)))
 
 abbrev pub PointOk : (ℕ → ℕ) → (ℕ → ℕ) → List ℕ → Point → (code found after : ℕ) → Type 0
 PointOk next locked q Clearing code found after = locked code ≡ 0
 PointOk next locked q Cleared code found after = (locked code ≡ 0) × (next code ≡ 0)
 PointOk next locked q Linking code found after = Before q found code × (next found ≡ 0) × (locked code ≡ 0)
 PointOk next locked q Waiting code found after = (Before q found code × (locked code ≡ 0) × (next found ≡ code)) ⊎ ((get_elem? q 0 ≡ some code) × (locked code ≡ 1))
-PointOk next locked q Front code found after = IsFront next locked q code found after
-PointOk next locked q Ready code found after = IsFront next locked q code found after
-PointOk next locked q Passing code found after = IsFront next locked q code found after
+PointOk next locked q Head code found after = StandsAtHead next locked q code found after
+PointOk next locked q Ready code found after = StandsAtHead next locked q code found after
+PointOk next locked q Passing code found after = StandsAtHead next locked q code found after
 PointOk next locked q _ code found after = Unit {0}
 
 abbrev pub FrameOk : (ℕ → ℕ) → (ℕ → ℕ) → List ℕ → Frame → Type 0

@@ -31,7 +31,7 @@ found_at c f = when (stands f.point) (when (f.code == c) f.found)
 abbrev pub found_by : List Frame → ℕ → ℕ
 found_by fs c = total (found_at c) fs
 
--- The walk from the code c by the tails that were found, to the first node that found none or was told that it is the front
+-- The walk from the code c by the tails that were found, to the first node that found none or was told that it is the head
 abbrev pub Walks : (ℕ → ℕ) → (ℕ → ℕ) → ℕ → List ℕ → Type 0
 Walks found locked c [] = c ≡ 0
 Walks found locked c (x ∷ xs) = (c ≡ x) × (x ≢ 0) × (((xs ≡ []) × ((found x ≡ 0) ⊎ (locked x ≡ 1))) ⊎ ((found x ≢ 0) × (locked x ≢ 1) × Walks found locked (found x) xs))
@@ -40,7 +40,7 @@ Walks found locked c (x ∷ xs) = (c ≡ x) × (x ≢ 0) × (((xs ≡ []) × ((f
 abbrev pub OwesLink : ℕ → ℕ → Frame → Type 0
 OwesLink x y f = (f.point ≡ Linking) × (f.found ≡ x) × (f.code ≡ y)
 
--- the word, the `next` and `locked` of the nodes, and the passes, while this is the queue, its front first
+-- the word, the `next` and `locked` of the nodes, and the passes, while this is the queue, its head first
 pub record IsSpinLock (word : ℕ) (next locked : ℕ → ℕ) (queue : List ℕ) (fs : List Frame) : Type 0 where
   -- the word has a locked byte, a pending bit and a tail, and nothing else
   pub whole : word ≡ byte_in word + 256 * pending_in word + tail_unit * tail_in word
@@ -56,7 +56,7 @@ pub record IsSpinLock (word : ℕ) (next locked : ℕ → ℕ) (queue : List ℕ
   pub walk : Walks (found_by fs) locked (tail_in word) (reverse queue)
   pub only : (other : List ℕ) → Walks (found_by fs) locked (tail_in word) (reverse other) → other ≡ queue
   pub empty : (queue ≡ [] → tail_in word ≡ 0) × (tail_in word ≡ 0 → queue ≡ [])
-  -- a node names its successor, or none, and none but the front was told that it is the front
+  -- a node names its successor, or none, and none but the head was told that it is the head
   pub linked : (p x : ℕ) → get_elem? queue p ≡ some x → (next x ≡ 0) ⊎ (get_elem? queue (suc p) ≡ some (next x))
   -- a link that is missing is owed by exactly one pass, and each pass that has exchanged the tail and not linked yet owes one that is missing
   pub owed : (x y : ℕ) → Before queue x y → next x ≡ 0 → (j : ℕ) × (f : Frame) × (get_elem? fs j ≡ some f) × OwesLink x y f × ((i : ℕ) (g : Frame) → get_elem? fs i ≡ some g → OwesLink x y g → i ≡ j)
@@ -66,7 +66,7 @@ pub record IsSpinLock (word : ℕ) (next locked : ℕ → ℕ) (queue : List ℕ
   pub first : (x : ℕ) → get_elem? queue 0 ≡ some x → (found_by fs x ≡ 0) ⊎ (locked x ≡ 1)
   -- a pass that is the head has the first node
   pub heads : (j : ℕ) (f : Frame) → get_elem? fs j ≡ some f → is_head f.point ≡ true → get_elem? queue 0 ≡ some f.code
-  -- a front that has seen the byte and the bit 0 has no other before it: nobody holds, and nobody owns the bit to take the lock
+  -- a head that has seen the byte and the bit 0 has no other before it: nobody holds, and nobody owns the bit to take the lock
   pub ready : 1 ≤ total ready_of fs → (total ready_of fs ≡ 1) × (total holds_of fs ≡ 0) × (total pends_of fs + total takes_of fs ≡ 0)
 
 -- the words of the lock of this number say so of these passes
@@ -113,15 +113,15 @@ pub record IsSpinStep (n id : ℕ) (w : List ℕ) (ps : List SpinPart) (w' : Lis
   pub after : (l : ℕ) → l < n → SpinWordsSay l w' (queues' l) (map (frame_on l) ps')
   -- it leaves the spin words and the queues, and where each pass is with the locks; or it is one of a pass at one of the locks, which leaves all others, and all other passes, where they are
   pub step : SpinLeaves w ps queues w' ps' queues' ⊎ ((l : ℕ) × (l < n) × SpinStep l id w ps queues w' ps' queues')
-  -- the locked byte is set by an exchange from 0, by the owner of the pending bit while the byte is 0 or by a ready front, and cleared by the holder
+  -- the locked byte is set by an exchange from 0, by the owner of the pending bit while the byte is 0 or by a ready head, and cleared by the holder
   pub takes : (l : ℕ) → l < n → byte_in (word_in w l) ≡ 0 → byte_in (word_in w' l) ≡ 1 → (p : SpinPart) × (get_elem? ps id ≡ some p) × TakesFrom (point_at l p.spin) (word_in w l)
   pub frees : (l : ℕ) → l < n → byte_in (word_in w l) ≡ 1 → byte_in (word_in w' l) ≡ 0 → (p : SpinPart) × (get_elem? ps id ≡ some p) × (holds_of (frame_on l p) ≡ 1)
   -- the pending bit is set by a pass that then owns it, and cleared by its owner
   pub sets : (l : ℕ) → l < n → pending_in (word_in w l) ≡ 0 → pending_in (word_in w' l) ≡ 1 → (p : SpinPart) × (get_elem? ps' id ≡ some p) × (owns_of (frame_on l p) ≡ 1)
   pub clears : (l : ℕ) → l < n → pending_in (word_in w l) ≡ 1 → pending_in (word_in w' l) ≡ 0 → (p : SpinPart) × (get_elem? ps id ≡ some p) × (owns_of (frame_on l p) ≡ 1)
-  -- Each pass comes to own the bit as a taker only if it saw neither tail nor bit, or to undo it only if it saw a tail, and from the one to the other by no step. It comes to be a ready front only if it saw the byte and the bit 0.
+  -- Each pass comes to own the bit as a taker only if it saw neither tail nor bit, or to undo it only if it saw a tail, and from the one to the other by no step. It comes to be a ready head only if it saw the byte and the bit 0.
   pub comes : (l : ℕ) → l < n → (j : ℕ) (p p' : SpinPart) → get_elem? ps j ≡ some p → get_elem? ps' j ≡ some p' → ComesTo (point_at l p.spin) (point_at l p'.spin) (word_in w l)
-  -- and its node leaves the queue by the exchange of the word for 1, or by the store that tells the node behind it that it is the front
+  -- and its node leaves the queue by the exchange of the word for 1, or by the store that tells the node behind it that it is the head
   pub leaves : (l : ℕ) → l < n → (j : ℕ) (p p' : SpinPart) → get_elem? ps j ≡ some p → get_elem? ps' j ≡ some p' → LeavesBy l (stands (point_at l p.spin)) (stands (point_at l p'.spin)) w (queues' l) w'
 
 -- the pass of this number made one step more, and what it counts of a lock, it counted at this step, by where it was and came to

@@ -7,7 +7,7 @@ use Rattle.lock_core.specs.declared.view.SpinHand.{SpinHand}
 use Rattle.lock_core.specs.declared.view.Frame.{Frame}
 use Rattle.lock_core.specs.declared.view.Saw.{Saw}
 use Rattle.lock_core.specs.declared.view.Point.{Point}
-use Rattle.lock_core.specs.declared.view.Point.TheVariants.{Out, Undoing, Pending, Taking, Trying, Cleared, Front, Ready, Passing, Holding}
+use Rattle.lock_core.specs.declared.view.Point.TheVariants.{Out, Undoing, Pending, Taking, Trying, Cleared, Head, Ready, Passing, Holding}
 use Rattle.lock_core.specs.declared.layout.TheConstants.{SPIN_WORDS}
 use Rattle.lock_core.specs.Views.{SpinPart, SpinStays, no_spin}
 use Rattle.lock_core.specs.LockHands.{lock_hand_at, frame_at, point_at, depth_of, RestsAt, RestsEverywhere}
@@ -99,7 +99,7 @@ QueueMoves true false code tail found found' queue queue' = queue ≡ code ∷ q
 QueueMoves true true code tail found found' queue queue' = (queue' ≡ queue) × (found' ≡ found)
 QueueMoves false false code tail found found' queue queue' = queue' ≡ queue
 
--- where a pass may come to hold from, by the word: an exchange from 0, the owner of the pending bit or a ready front while the byte is 0
+-- where a pass may come to hold from, by the word: an exchange from 0, the owner of the pending bit or a ready head while the byte is 0
 abbrev pub TakesFrom : Point → ℕ → Type 0
 TakesFrom Out word = word ≡ 0
 TakesFrom Trying word = word ≡ 0
@@ -120,11 +120,11 @@ ComesTo Taking Taking word = Unit {0}
 ComesTo Pending Taking word = byte_in word ≡ 0
 ComesTo _ Taking word = ⊥
 ComesTo Ready Ready word = Unit {0}
-ComesTo Front Ready word = (byte_in word ≡ 0) × (pending_in word ≡ 0)
+ComesTo Head Ready word = (byte_in word ≡ 0) × (pending_in word ≡ 0)
 ComesTo _ Ready word = ⊥
 ComesTo _ _ word = Unit {0}
 
--- how a node leaves the queue: by the exchange of the word for 1, or by the store that tells the node behind it that it is the front
+-- how a node leaves the queue: by the exchange of the word for 1, or by the store that tells the node behind it that it is the head
 abbrev pub LeavesBy : ℕ → Bool → Bool → (w queue' w' : List ℕ) → Type 0
 LeavesBy l true false w queue' w' = (word_in w' l ≡ 1) ⊎ ((next : ℕ) × (get_elem? queue' 0 ≡ some next) × (locked_in w next ≢ 1) × (locked_in w' next ≡ 1))
 LeavesBy l true true w queue' w' = Unit {0}

@@ -25,8 +25,6 @@ pub fn abstract_state_is_that_after_the_log<O: Object>()
 /// on the object. The law speaks of a past that goes back to the opening, of a lock of either kind
 /// whose word stands at `word_at`.
 pub fn unavailable_calls_have_their_causes<O: Object>()
-    ensures {
-        (kind : Kind) (word_at : ℕ)
-            → CallsHaveCauses O.object (unavailable kind) O.WORDS word_at
-    }
+    ensures { (kind : Kind) (word_at : ℕ)
+        → CallsHaveCauses O.object (unavailable kind) O.WORDS word_at }
 {}

@@ -94,13 +94,13 @@ pub enum Point {
     Cleared,
     /// It stands in the queue, and is to tell its predecessor.
     Linking,
-    /// It waits to be the front of the queue.
+    /// It waits to be the head of the queue.
     Waiting,
-    /// It is the front of the queue.
-    Front,
-    /// It is the front, has seen the locked byte and the pending bit 0, and is to take the lock.
+    /// It is the head of the queue.
+    Head,
+    /// It is the head, has seen the locked byte and the pending bit 0, and is to take the lock.
     Ready,
-    /// It holds the lock, and is to make its successor the front.
+    /// It holds the lock, and is to make its successor the head.
     Passing,
     Holding,
 }
@@ -144,7 +144,7 @@ pub struct View<E> {
     pub spin: SpinHand,
     /// How many steps the pass has made.
     pub steps: u64,
-    /// How often it has been the front of the lock's spin queue.
+    /// How often it has been the head of the lock's spin queue.
     pub fronts: u64,
     /// What the crates above know.
     pub ext: E,

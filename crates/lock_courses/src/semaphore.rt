@@ -328,7 +328,8 @@ impl SemaphoreCourse {
         requires { IsStated self.old }
         ensures stated { IsStated self.new }
         ensures word { OnOk result (WordGoes without_writer self.old self.new) }
-        ensures rest { OnOk result (self.new ≡ record self.old { word = self.new.word; writer = None }) }
+        ensures rest { OnOk result
+            (self.new ≡ record self.old { word = self.new.word; writer = None }) }
         ensures kept { OnErr result (self.new ≡ self.old) }
     {
         let Some(next) = up_write(self.count()) else {

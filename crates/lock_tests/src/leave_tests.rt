@@ -14,7 +14,7 @@ use std::test::Fail;
 use std::thread::{self, Threads};
 
 #[test]
-fn a_cpu_that_needs_rescheduling_leaves_behind_a_front_that_stays(
+fn a_cpu_that_needs_rescheduling_leaves_behind_a_head_that_stays(
     rt: HostRuntime,
 ) -> Result<(), Fail> {
     let (osq, mut one) = Osq::open(rt.alloc(), 3)?;
@@ -43,7 +43,7 @@ const ROUNDS: u32 = 20_000;
 /// What the tasks count together.
 #[derive(Drop)]
 struct Tally {
-    /// How often one was the front. Only the front adds to it, by a load and a store.
+    /// How often one was the head. Only the front adds to it, by a load and a store.
     fronts: AtomicU64,
     /// How often one gave up.
     given_up: AtomicU64,
@@ -59,7 +59,7 @@ fn wait_for_one<W: Wait>(rt: &W, tally: &Tally) {
     unreachable!()
 }
 
-/// Tries many times to be the queue's front, in the name of a task. The first front of all stays
+/// Tries many times to be the queue's head, in the name of a task. The first front of all stays
 /// until another task has given up.
 fn rounds<C: Cpu, W: Wait>(
     rt: &W,
@@ -123,7 +123,7 @@ fn another(osq: &Osq, first: &mut OsqPass) -> OsqPass
     osq.split(first)
 }
 
-/// For how many turns each of four tasks waits to be the front.
+/// For how many turns each of four tasks waits to be the head.
 const SPINS: [u32; 4] = [3, 30, 0, 300];
 
 /// A pass without a number and a CPU for each of four tasks.
@@ -151,7 +151,7 @@ fn members_of<C: Crew>(
 }
 
 #[test]
-fn only_the_front_counts_while_others_give_up(rt: HostRuntime) -> Result<(), Fail> {
+fn only_the_head_counts_while_others_give_up(rt: HostRuntime) -> Result<(), Fail> {
     let (osq, mut first) = Osq::open(rt.alloc(), 4)?;
     let tally = Tally {
         fronts: AtomicU64::new(0),

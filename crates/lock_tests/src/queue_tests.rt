@@ -1,6 +1,6 @@
-//! What no clause says: passes that hand the front of a spin queue on.
+//! What no clause says: passes that hand the head of a spin queue on.
 ghost use Rattle.std.specs.Prelude.{◌≡◌, Some};
-ghost use Rattle.osq_nodes.specs.declared.node.Place.TheVariants.{Waiting, Front};
+ghost use Rattle.osq_nodes.specs.declared.node.Place.TheVariants.{Waiting, Head};
 ghost use Rattle.osq_nodes.specs.OsqHandles.{place_in, task_in, SitsAt};
 
 use osq_nodes::{Osq, OsqPass, steps};
@@ -31,7 +31,7 @@ fn unlock_beside<R: Threads + Wait + Sync>(
 ) -> (u32, u32)
     requires front { SitsAt osq.now front }
     requires zero { task_in front ≡ Some 0 }
-    requires first { place_in front ≡ Front }
+    requires first { place_in front ≡ Head }
     requires next { SitsAt osq.now next }
     requires one { task_in next ≡ Some 1 }
     requires waits { place_in next ≡ Waiting }
@@ -41,7 +41,7 @@ fn unlock_beside<R: Threads + Wait + Sync>(
         || -> u32
             requires own { SitsAt osq.now front }
             requires zero { task_in front ≡ Some 0 }
-            requires first { place_in front ≡ Front }
+            requires first { place_in front ≡ Head }
         {
             let mut front = front;
             osq.unlock(rt, &mut front);

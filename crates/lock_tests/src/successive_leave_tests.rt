@@ -1,7 +1,7 @@
 //! What no clause says: a waiter leaves the queue before its turn also where the one before it has
 //! left, while the front stays.
 ghost use Rattle.std.specs.Prelude.{◌≡◌, ◌<◌, IsSome};
-ghost use Rattle.osq_nodes.specs.declared.node.Place.TheVariants.{Front};
+ghost use Rattle.osq_nodes.specs.declared.node.Place.TheVariants.{Head};
 ghost use Rattle.osq_nodes.specs.OsqHandles.{place_in, task_in, tasks_of, SitsAt};
 ghost use Rattle.lock_tests.specs.OsqStanding.{IsIdle};
 
@@ -99,14 +99,14 @@ fn enter<W: Wait>(
 fn stay<W: Wait>(rt: &W, osq: &Osq, mut pass: OsqPass, stage: &AtomicU64)
     requires own { SitsAt osq.now pass }
     requires numbered { IsSome (task_in pass) }
-    requires front { place_in pass ≡ Front }
+    requires front { place_in pass ≡ Head }
 {
     await_stage(stage, SECOND_LEFT);
     osq.unlock(rt, &mut pass);
 }
 
 /// Two waiters stand behind a front. The first leaves, and then the second. Answers which of them
-/// was the front.
+/// was the head.
 fn leave_one_by_one<R: Threads + Wait + Sync>(
     rt: &R,
     osq: &Osq,
@@ -117,7 +117,7 @@ fn leave_one_by_one<R: Threads + Wait + Sync>(
 ) -> (bool, bool)
     requires own { SitsAt osq.now front }
     requires numbered { IsSome (task_in front) }
-    requires fronted { place_in front ≡ Front }
+    requires fronted { place_in front ≡ Head }
     requires one { IsIdle osq.now one }
     requires two { IsIdle osq.now two }
     requires there { 2 < tasks_of osq.now }
@@ -141,7 +141,7 @@ fn leave_one_by_one<R: Threads + Wait + Sync>(
         ||
             requires own { SitsAt osq.now front }
             requires numbered { IsSome (task_in front) }
-            requires fronted { place_in front ≡ Front }
+            requires fronted { place_in front ≡ Head }
         { stay(rt, osq, front, stage) },
         || -> (bool, bool)
             requires one { IsIdle osq.now one }

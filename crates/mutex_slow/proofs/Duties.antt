@@ -18,7 +18,7 @@ use Rattle.wake_duty.specs.declared.view.Duty.TheVariants.{NoDuty, Owing}
 use Rattle.wake_duty.specs.DutyWakes.{owed, chose_any, duty_of, choosing, owing_at, drowsing, dozed_at, waked}
 use Rattle.wake_duty.specs.WakeLaws.{duty-first, waits-drowsing}
 use Rattle.wake_duty.specs.WakeSteps.{HasTried}
-use Rattle.mutex_slow.specs.Mutexes.{V, OwesNoWake, is_code, saw_first, turned, vigil_of, with_wake}
+use Rattle.mutex_slow.specs.Mutexes.{V, OwesNoWake, is_code, saw_first, turned, wait_state_of, with_wake}
 use Rattle.mutex_slow.specs.MutexPlaces.{IsInLine, IsOutside, IsToWake, OwesWake, dozes_of, task_of}
 
 -- who has no duty owes nothing
@@ -69,7 +69,7 @@ pub looks-outside : (v u : V) (code : ℕ) → u ≡ sighted saw_first v code �
 looks-outside v u code is has outside = subst IsOutside (sym is) record { out = outside.out; rests = outside.rests; still = outside.still; gone = outside.gone; unseen = never-both (is_code v.hand.task code) (holds_in v.spin) (ap holds_at has) }
 
 -- a waiter that drowsed waits on
-pub drowses-on : (v u : V) (word : ℕ) → u ≡ waked with_wake v (drowsing word v.ext.wake) → HasTried vigil_of v → IsInLine v → IsInLine u
+pub drowses-on : (v u : V) (word : ℕ) → u ≡ waked with_wake v (drowsing word v.ext.wake) → HasTried wait_state_of v → IsInLine v → IsInLine u
 drowses-on v u word is tried listed = subst IsInLine (sym is) record { queued = listed.queued; rests = listed.rests; still = listed.still; clear = listed.clear; waits = waits-drowsing word v.ext.wake tried ∙ listed.waits }
 
 pub drowses-count : (v u : V) (word : ℕ) (r : Bool) → u ≡ waked with_wake v (drowsing word v.ext.wake) → IsTrue r ↔ (word ≡ 0) → dozes_of u ≡ raised r (dozes_of v)

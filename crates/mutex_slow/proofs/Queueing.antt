@@ -40,7 +40,7 @@ module _ (v u x : V) (w : Waiter) (first : Waiter) (locked : SpinHolds v.spin) (
       subst (λ (z : V). IsInLine z) (sym z) (record { queued = refl; rests = refl; still = a.still; clear = clear; waits = refl })
 
   pub behind-listed : OwesNoWake v → first.task ≢ w.task → IsInLine x
-  behind-listed clear other = record { queued = ap (λ (z : V). z.ext.queued) whole; rests = point-rests other; still = ap (λ (z : V). z.ext.list.changes) whole ∙ a.still; clear = subst OwesNoWake (sym whole) clear; waits = ap (λ (z : V). waits z.ext.wake.vigil) whole }
+  behind-listed clear other = record { queued = ap (λ (z : V). z.ext.queued) whole; rests = point-rests other; still = ap (λ (z : V). z.ext.list.changes) whole ∙ a.still; clear = subst OwesNoWake (sym whole) clear; waits = ap (λ (z : V). waits z.ext.wake.wait_state) whole }
 
 -- it isn't empty then
 pub found-some : {P : Type 0} (v u x : V) (w : Waiter) → SpinHolds v.spin → Appends list_of with_list v w u → FindsFirst list_of with_list u None x → P

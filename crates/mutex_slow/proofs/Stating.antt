@@ -31,8 +31,8 @@ use Rattle.mutex_slow.specs.CoupledLaws.{is-in, not-in, point-held}
 use Rattle.mutex_slow.specs.MutexLaws.{apart}
 use Rattle.wake_duty.specs.declared.view.Duty.{Duty}
 use Rattle.wake_duty.specs.declared.view.Duty.TheVariants.{NoDuty, Owing, Chosen}
-use Rattle.wake_duty.specs.declared.view.Vigil.{Vigil}
-use Rattle.wake_duty.specs.declared.view.Vigil.TheVariants.{Absent, Awake, Tried}
+use Rattle.wake_duty.specs.declared.view.WaitState.{WaitState}
+use Rattle.wake_duty.specs.declared.view.WaitState.TheVariants.{Absent, Awake, Tried}
 use Rattle.wake_duty.specs.DutyWakes.{WakePart, owed, chose, awake, waits, keeps_awake, wake_word}
 use Rattle.mutex_slow.specs.DutyLaws.{wparted, first-small, some-of as any-of}
 use Rattle.mutex_slow.specs.StandingLaws.{owed-some, owes-none}
@@ -69,7 +69,7 @@ number-is : (t : ℕ) (task : Option ℕ) → 0 < is_number t task → task ≡ 
 number-is t None more = absurd (omega (arith, more))
 number-is t (Some u) more = false-or-true (u == t) (λ same. ap Some (eqb-eq u t same)) (λ other. absurd (let b : bit (u == t) ≡ 0 = ap bit other in omega (arith, b, more)))
 
-awake-some : (t : ℕ) (task : Option ℕ) (x : Vigil) → 0 < awake t task x → (task ≡ Some t) × (awake_bit x ≡ 1) × (waits x ≡ 1)
+awake-some : (t : ℕ) (task : Option ℕ) (x : WaitState) → 0 < awake t task x → (task ≡ Some t) × (awake_bit x ≡ 1) × (waits x ≡ 1)
 awake-some t task Absent more = absurd (omega (arith, more))
 awake-some t task Awake more = (number-is t task more, refl, refl)
 awake-some t task (Tried n) more = absurd (omega (arith, more))
@@ -153,7 +153,7 @@ module _ {Call : Type 0} (o : Obj Call) (size : ℕ) (k : Plan) (ws : List ℕ) 
           | yes owes ↦ let e = owed-some v.ext.wake.duty v.hand.freed owes in inl (s.0, v.hand, standing_of v.ext, there, marked, e.0, e.1)
           | no clear ↦ elim (native.Mathlib.Decide.dec_le 1 (chose t v.ext.wake.duty)) [
             | yes chosen ↦ inr (inl (s.0, v.hand, standing_of v.ext, there, marked, chose-some t v.ext.wake.duty chosen))
-            | no unchosen ↦ let a = awake-some t v.hand.task v.ext.wake.vigil (omega (arith, weighs, free, clear, unchosen)) in inr (inr (inr (s.0, v.hand, standing_of v.ext, there, a.0, marked, (r.coupled.each s.0 v p.1).waits ∙ a.2, a.1)))
+            | no unchosen ↦ let a = awake-some t v.hand.task v.ext.wake.wait_state (omega (arith, weighs, free, clear, unchosen)) in inr (inr (inr (s.0, v.hand, standing_of v.ext, there, a.0, marked, (r.coupled.each s.0 v p.1).waits ∙ a.2, a.1)))
           ]
         ]
   ]

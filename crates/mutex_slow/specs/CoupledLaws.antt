@@ -145,7 +145,7 @@ module _ (n : ℕ) (l : List Waiter) (vs : List V) (id : ℕ) (v : V) (r : Coupl
   abbrev pub waking : Hand → WakeHand → V
   waking h b = record v { hand = h; steps = v.steps + 1; ext = record v.ext { wake = b } }
 
-  seat-waking : (h : Hand) (b : WakeHand) → h.task ≡ v.hand.task → b.vigil ≡ v.ext.wake.vigil → SeatOk n l (waking h b)
+  seat-waking : (h : Hand) (b : WakeHand) → h.task ≡ v.hand.task → b.wait_state ≡ v.ext.wake.wait_state → SeatOk n l (waking h b)
   seat-waking h b e same = record {
     joins = λ p. let k = mine.joins p in (k.0, (k.1.0, e ∙ k.1.1, k.1.2), k.2, k.3, same ∙ k.4);
     empties = mine.empties;
@@ -157,7 +157,7 @@ module _ (n : ℕ) (l : List Waiter) (vs : List V) (id : ℕ) (v : V) (r : Coupl
     waits = mine.waits ∙ sym (ap waits same);
   }
 
-  pub coupled-wakes : (h : Hand) (b : WakeHand) → h.task ≡ v.hand.task → b.vigil ≡ v.ext.wake.vigil → Coupled n l (set vs id (waking h b))
+  pub coupled-wakes : (h : Hand) (b : WakeHand) → h.task ≡ v.hand.task → b.wait_state ≡ v.ext.wake.wait_state → Coupled n l (set vs id (waking h b))
   coupled-wakes h b e same = coupled-stays (waking h b) (seat-waking h b e same) (λ t. ap (λ (z : Option ℕ). when v.ext.queued (is_number t z)) e) refl
 
   -- the hand changes, and keeps its number, or the pass is out of everything
@@ -233,7 +233,7 @@ module _ (n : ℕ) (l : List Waiter) (vs : List V) (id : ℕ) (v : V) (r : Coupl
     }
 
     -- the flags stay
-    flags-stay : (m : ℕ) (h : Hand) (t : Rattle.mutex_word.specs.declared.host.Turn.Turn) → m % 8 ≡ n % 8 → m % 8 < 4 → h.task ≡ v.hand.task → (b : WakeHand) → b.vigil ≡ v.ext.wake.vigil → turned t v ≡ record v.ext { wake = b } → Coupled m l (set vs id (turns turned t v h))
+    flags-stay : (m : ℕ) (h : Hand) (t : Rattle.mutex_word.specs.declared.host.Turn.Turn) → m % 8 ≡ n % 8 → m % 8 < 4 → h.task ≡ v.hand.task → (b : WakeHand) → b.wait_state ≡ v.ext.wake.wait_state → turned t v ≡ record v.ext { wake = b } → Coupled m l (set vs id (turns turned t v h))
     flags-stay m h t flags low task b same ext = subst (λ (e : MutexHand). Coupled m l (set vs id (record v { hand = h; steps = v.steps + 1; ext = e }))) (sym ext) (let c = coupled-wakes h b task same in let ok = c.each in record {
       places = c.places;
       flags = λ none. let f = c.flags none in record { some = λ some. let s = f.some some in omega (arith, s, flags); none = λ z. flags ∙ f.none z };
@@ -484,7 +484,7 @@ idle-ok n l v out ext = record {
   past = let e : v.ext.failed ≡ 0 = ap (λ (z : MutexHand). z.failed) ext in omega (arith, e);
   leaver = λ some. absurd (some (ap (λ (z : MutexHand). z.list.leaver) ext));
   named = λ _. (ap (λ (z : MutexHand). z.queued) ext, ap (λ (z : MutexHand). z.point) ext, ap (λ (z : MutexHand). z.first) ext, ap (λ (z : MutexHand). z.list.leaver) ext, λ has. locked-free v out has);
-  waits = ap (λ (z : MutexHand). bit z.queued) ext ∙ sym (ap (λ (z : MutexHand). waits z.wake.vigil) ext);
+  waits = ap (λ (z : MutexHand). bit z.queued) ext ∙ sym (ap (λ (z : MutexHand). waits z.wake.wait_state) ext);
 }
 
 pub coupled-opens : (v : V) → v.hand.task ≡ None → holds_in v.spin ≡ 0 → v.ext ≡ idle → Coupled 0 [] (v ∷ [])

@@ -27,9 +27,9 @@ use Rattle.wait_list.specs.ListLaws.{holds-or-not}
 use Rattle.wait_list.specs.Lists.{AreTasks, first_code, without, listed, sighted}
 use Rattle.wake_duty.specs.declared.view.Duty.{Duty}
 use Rattle.wake_duty.specs.declared.view.Duty.TheVariants.{NoDuty, Owing, Chosen}
-use Rattle.wake_duty.specs.declared.view.Vigil.TheVariants.{Awake, Tried}
+use Rattle.wake_duty.specs.declared.view.WaitState.TheVariants.{Awake, Tried}
 use Rattle.wake_duty.specs.declared.view.WakeHand.{WakeHand}
-use Rattle.wake_duty.specs.DutyWakes.{WakePart, WakeKept, PartOk, IsQuiet, wake_part, with_hand, owed, chose_any, waits, guards, keeps_awake, awake, duty_of, choosing, foiled, failing, roused, looking}
+use Rattle.wake_duty.specs.DutyWakes.{WakePart, WakeKept, PartOk, IsQuiet, wake_part, with_hand, owed, chose_any, waits, guards, keeps_awake, awake, duty_of, choosing, after_failed_try, failing, awakened, looking}
 use Rattle.wake_duty.specs.WakeLaws.{wake-goes, wake-guarded, wake-quiet, wake-fails, wake-hands, wake-enters, wake-leaves, wake-looks, wake-chooses, wake-spins, no-chosen, owing-chosen, tried-waits, awake-tried}
 use Rattle.mutex_slow.specs.Mutexes.{V, HasLock, Coupled, IsUnpicked, point_of, wake_of, turned, with_list, saw_first}
 use Rattle.mutex_slow.specs.CoupledLaws.{Apart, first-none, point-cases, rest-weighs}
@@ -94,7 +94,7 @@ module _ (words : List ℕ) (n : ℕ) (l : List Waiter) (vs : List V) (id : ℕ)
   others : HasLock v → (j : ℕ) (x : WakePart) → j ≢ id → get_elem? ps j ≡ some x → x.locked ≡ 0
   others has j x other at' = let u = at_unmap wparted vs j x at' in ap (λ (z : WakePart). z.locked) (sym u.2) ∙ apart.locks j u.0 u.1 other has
 
-  absent : v.ext.queued ≡ false → waits v.ext.wake.vigil ≡ 0
+  absent : v.ext.queued ≡ false → waits v.ext.wake.wait_state ≡ 0
   absent out = sym ((c.each id v at).waits) ∙ ap bit out
 
   first-task : (t : ℕ) → first_code l ≡ t + 1 → t < MAX_TASKS
@@ -108,7 +108,7 @@ module _ (words : List ℕ) (n : ℕ) (l : List Waiter) (vs : List V) (id : ℕ)
   pub duty-renames : (w : V) → w.hand.held ≡ v.hand.held → w.hand.freed ≡ v.hand.freed → w.ext.wake ≡ v.ext.wake → IsQuiet p → Keeps (map wparted (set vs id w))
   duty-renames w held freed wake quiet = set_part wparted Keeps vs id w (wake-quiet words l ps id p k there (wparted w) quiet record {
     clear = (λ i. owed (wake i).duty (freed i) + chose_any (wake i).duty) ∙ quiet.clear;
-    absent = ap (λ (z : WakeHand). waits z.vigil) wake ∙ quiet.absent;
+    absent = ap (λ (z : WakeHand). waits z.wait_state) wake ∙ quiet.absent;
     out = held ∙ quiet.out;
   })
 
@@ -121,7 +121,7 @@ module _ (words : List ℕ) (n : ℕ) (l : List Waiter) (vs : List V) (id : ℕ)
 
   pub duty-fails : (h : Hand) (t : ℕ) → OwnKept n (map hand_of vs) → v.hand.task ≡ Some t → IsUnpicked n t → 8 ≤ n → h.task ≡ v.hand.task → h.held ≡ v.hand.held → h.freed ≡ v.hand.freed → Keeps (map wparted (set vs id (turns turned Fail v h)))
   duty-fails h t o mine unpicked big task held freed = let w : V = turns turned Fail v h in holds-or-not v.spin
-      (λ has. becomes w (with_hand p (record p.wake { vigil = foiled p.wake.vigil p.entries })) (λ i. record { task = task i; held = held i; freed = freed i; locked = holds_in v.spin; entries = v.spin.entries; wake = failing (has i) v.spin.entries v.ext.wake }) Keeps
+      (λ has. becomes w (with_hand p (record p.wake { wait_state = after_failed_try p.wake.wait_state p.entries })) (λ i. record { task = task i; held = held i; freed = freed i; locked = holds_in v.spin; entries = v.spin.entries; wake = failing (has i) v.spin.entries v.ext.wake }) Keeps
       (wake-fails words l ps id p k there (elim (native.Mathlib.Decide.dec_le 4 (n % 8)) [
         | yes high ↦ inr (λ u is e. let f = c.picked high in let same : u ≡ t = same-some u t (sym is ∙ mine) in unpicked high (omega (arith, f, e, same)))
         | no low ↦ inl (let a = word-held n (map hand_of vs) o big (omega (arith, low)) in let b = helds-guard vs in omega (arith, a, b))
@@ -137,23 +137,23 @@ module _ (words : List ℕ) (n : ℕ) (l : List Waiter) (vs : List V) (id : ℕ)
   pub duty-frees : (m t : ℕ) (h : Hand) → ((i j : ℕ) (x y : V) → get_elem? vs i ≡ some x → get_elem? vs j ≡ some y → HasLock x → HasLock y → i ≡ j) → v.hand.task ≡ Some t → SpinRests v.spin → m ≡ n % 8 → v.ext.queued ≡ false → h.task ≡ v.hand.task → h.freed ≡ m → Keeps (map wparted (set vs id (turns turned Free v h)))
   duty-frees m t h one mine rests is out task freed = let w : V = turns turned Free v h in let none = absent out in set_part wparted Keeps vs id w (
       let q : WakePart = wparted w in
-      let ok : PartOk q = record { waiter = λ some_w. absurd (omega (arith, some_w, none)); named = λ z. none-some t (sym z ∙ (task ∙ mine)); past = λ e z. tried-waits v.ext.wake.vigil e z none; chosen = λ u z. owing-chosen u z } in
+      let ok : PartOk q = record { waiter = λ some_w. absurd (omega (arith, some_w, none)); named = λ z. none-some t (sym z ∙ (task ∙ mine)); past = λ e z. tried-waits v.ext.wake.wait_state e z none; chosen = λ u z. owing-chosen u z } in
       elim (native.Mathlib.Decide.dec_le 1 (n % 2)) [
         | yes odd ↦ wake-guarded words l ps id p k there q ok (let a = total-at guards (set ps id q) id q (set-there ps id p q there) in omega (arith, a, odd, freed, is))
         | no even ↦ wake-goes words l ps id p k there words l q k.wide k.bits ok
             (λ u e. let j = joins even u e in let x : V = j.1 in let b = total-at (keeps_awake u) (set ps id q) j.0 (wparted x) (set_else ps id j.0 q (not-mine j.0 x j.2 j.3) ∙ at_map wparted vs j.0 x j.2) in
-            let a : awake u x.hand.task x.ext.wake.vigil ≡ is_number u x.hand.task = ap (awake u x.hand.task) j.5 in let d : is_number u x.hand.task ≡ 1 = ap (is_number u) j.4 ∙ is_number-here u in omega (arith, a, b, d))
-            (λ s. tried-waits v.ext.wake.vigil q.entries s.tried none)
+            let a : awake u x.hand.task x.ext.wake.wait_state ≡ is_number u x.hand.task = ap (awake u x.hand.task) j.5 in let d : is_number u x.hand.task ≡ 1 = ap (is_number u) j.4 ∙ is_number-here u in omega (arith, a, b, d))
+            (λ s. tried-waits v.ext.wake.wait_state q.entries s.tried none)
             (λ i y _ at' s. let e = s.first in let j = joins even e.0 e.2 in let z = at_unmap wparted vs i y at' in let x : V = j.1 in
             let has : HasLock z.0 = ap (λ (f : WakePart). f.locked) z.2 ∙ s.locked in let same : i ≡ j.0 = one i j.0 z.0 x z.1 j.2 has j.3 in let f : z.0 ≡ x = some-injective z.0 x (sym z.1 ∙ (ap (get_elem? vs) same ∙ j.2)) in
-            absurd (awake-tried y.entries (sym j.5 ∙ (ap (λ (g : V). g.ext.wake.vigil) (sym f) ∙ (ap (λ (g : WakePart). g.wake.vigil) z.2 ∙ s.tried)))))
+            absurd (awake-tried y.entries (sym j.5 ∙ (ap (λ (g : V). g.ext.wake.wait_state) (sym f) ∙ (ap (λ (g : WakePart). g.wake.wait_state) z.2 ∙ s.tried)))))
       ])
     where
       not-mine : (j : ℕ) (x : V) → get_elem? vs j ≡ some x → HasLock x → j ≢ id
       not-mine j x at' has e = let f : x ≡ v = some-injective x v (sym at' ∙ (ap (get_elem? vs) e ∙ at)) in let a : holds_in x.spin ≡ holds_in v.spin = ap (λ (g : V). holds_in g.spin) f in let b : holds_in v.spin ≡ 0 = ap holds_at rests in omega (arith, a, b, has)
 
       -- without that flag the first waiter is between its append and the flag
-      joins : (1 ≤ n % 2 → ⊥) → (u : ℕ) → first_code l ≡ u + 1 → (j : ℕ) × (x : V) × (get_elem? vs j ≡ some x) × HasLock x × (x.hand.task ≡ Some u) × (x.ext.wake.vigil ≡ Awake)
+      joins : (1 ≤ n % 2 → ⊥) → (u : ℕ) → first_code l ≡ u + 1 → (j : ℕ) × (x : V) × (get_elem? vs j ≡ some x) × HasLock x × (x.hand.task ≡ Some u) × (x.ext.wake.wait_state ≡ Awake)
       joins even u e = let lo : 0 < length l = first-none l (omega (arith, e)) in elim (native.Mathlib.Decide.dec_le (total point_of vs) 0) [
         | yes z ↦ absurd (even (let f = (c.flags (omega (arith, z))).some lo in omega (arith, f)))
         | no some_p ↦ let s = some-of point_of vs (omega (arith, some_p)) in let x : V = s.1 in let weighs = s.3 in point-cases x.ext.point
@@ -168,7 +168,7 @@ module _ (words : List ℕ) (n : ℕ) (l : List Waiter) (vs : List V) (id : ℕ)
   pub duty-enters : (w : Waiter) (b : ListHand) → HasLock v → v.hand.task ≡ Some w.task → owed v.ext.wake.duty v.hand.freed + chose_any v.ext.wake.duty ≡ 0 → v.ext.queued ≡ false → WakeKept words (l ++ w ∷ []) (map wparted (set vs id (listed with_list (Enter w) v b)))
   duty-enters w b has mine clear out = set_part wparted (WakeKept words (l ++ w ∷ [])) vs id (listed with_list (Enter w) v b) (wake-enters words l ps id p k there w mine clear (others has) (absent out))
 
-  pub duty-leaves : (t : ℕ) (b : ListHand) → HasLock v → v.hand.task ≡ Some t → (v.hand.held ≡ Alone) ⊎ (v.ext.wake.vigil ≡ Tried v.spin.entries) → WakeKept words (without t l) (map wparted (set vs id (listed with_list (Leave t) v b)))
+  pub duty-leaves : (t : ℕ) (b : ListHand) → HasLock v → v.hand.task ≡ Some t → (v.hand.held ≡ Alone) ⊎ (v.ext.wake.wait_state ≡ Tried v.spin.entries) → WakeKept words (without t l) (map wparted (set vs id (listed with_list (Leave t) v b)))
   duty-leaves t b has mine may = set_part wparted (WakeKept words (without t l)) vs id (listed with_list (Leave t) v b) (wake-leaves words l ps id p k there t mine has may (others has))
 
   pub duty-looks : (code : ℕ) → (HasLock v → v.ext.list.changes ≡ false → code ≡ first_code l) → Keeps (map wparted (set vs id (sighted saw_first v code)))
@@ -181,4 +181,4 @@ module _ (words : List ℕ) (n : ℕ) (l : List Waiter) (vs : List V) (id : ℕ)
       let path : w.ext.wake ≡ record v.ext.wake { duty = duty_of (first_code l) } = (λ i. looking (has i) (still i) v.hand.freed code v.ext.wake) ∙ ((λ i. record v.ext.wake { duty = owes.1 i }) ∙ ap (λ (z : ℕ). record v.ext.wake { duty = duty_of z }) (is has still)) in
       becomes w (with_hand p (record p.wake { duty = duty_of (first_code l) })) (ap (with_hand p) path) Keeps (wake-chooses words l ps id p k there owes.0 first-task (others has)))
       (choosing-or v.ext.wake.duty v.hand.freed code)))
-      (λ out. becomes w (with_hand p (record p.wake { vigil = roused p.wake.vigil })) (ap (λ (z : ℕ). with_hand p (looking z v.ext.list.changes v.hand.freed code v.ext.wake)) out) Keeps (wake-looks words l ps id p k there out))
+      (λ out. becomes w (with_hand p (record p.wake { wait_state = awakened p.wake.wait_state })) (ap (λ (z : ℕ). with_hand p (looking z v.ext.list.changes v.hand.freed code v.ext.wake)) out) Keeps (wake-looks words l ps id p k there out))

@@ -72,7 +72,7 @@ module _ {O C : Type 0} where
   abbrev pub MissesIfShut : MutexPass O C → ℕ → MutexPass O C → Type 0
   MissesIfShut old word new = (reads : Bool) → owned reads word → Misses kind reads owner_at word (shown_of old) (shown_of new)
 
-  -- how often it was the front of the spin queue is as it was, and how often it missed
+  -- how often it was the head of the spin queue is as it was, and how often it missed
   abbrev pub KeepsFronts : MutexPass O C → MutexPass O C → Type 0
   KeepsFronts old new = (shown_of new).fronts ≡ (shown_of old).fronts
 

@@ -40,15 +40,15 @@ use Rattle.wait_list.specs.declared.words.TheConstants.{LIST_WORDS}
 use Rattle.wait_list.specs.Lists.{Part, ListKept, MadeBy, Knows, Lists, LeaverGoes, Allowed, changed, list_part, listed, sighted, first_code, changes_of, takes_of, counted}
 use Rattle.wait_list.proofs.Walks.{head-is}
 use Rattle.wait_list.specs.ListLaws.{none-change, list-spins, list-keeps, list-leaves, list-strangers, list-opens, list-known}
-use Rattle.wake_duty.specs.declared.view.Vigil.TheVariants.{Absent, Awake, Tried}
+use Rattle.wake_duty.specs.declared.view.WaitState.TheVariants.{Absent, Awake, Tried}
 use Rattle.wake_duty.specs.declared.view.Duty.TheVariants.{NoDuty, Owing}
 use Rattle.wake_duty.specs.declared.view.WakeHand.{WakeHand}
 use Rattle.wake_duty.specs.DutyWakes.{WAKE_WORDS, WakeKept, IsQuiet, Sets, Drowses, wake_word, with_hand, waked, duty_of, waits, setting, drowsing}
-use Rattle.wake_duty.specs.WakeLaws.{wake-opens, wake-snoc, wake-quiet, wake-sets, wake-drowses, waits-looking, waits-drowsing, vigil-looking}
+use Rattle.wake_duty.specs.WakeLaws.{wake-opens, wake-snoc, wake-quiet, wake-sets, wake-drowses, waits-looking, waits-drowsing, wait_state-looking}
 use Rattle.wake_duty.specs.WakeSteps.{HasTried, knowing}
 use Rattle.mutex_slow.specs.DutyLaws.{wparted, some-of, same-holders, duty-stays, duty-renames, duty-spins, duty-fails, duty-takes, duty-frees, duty-hands, duty-enters, duty-leaves, duty-looks}
-use Rattle.mutex_slow.specs.StandingLaws.{StandingGoes, chosen-code, chosen-debt, goes-clear, goes-drowses, goes-fails, free-holds, goes-looks, goes-same, goes-sets, goes-vigil, same-holds}
-use Rattle.mutex_slow.specs.Mutexes.{V, HasLock, HasChosen, after_set, after_swap, vigil_of, with_wake, wake_words, wakes_at, idle, list_of, IsOut, Coupled, MutexKept, Kept, Leaves, LeavesToFirst, PicksFirst, Asks, HasHandoff, IsFirstTask, AnswersHandoff, TookUp, IsOwnChange, IsUnpicked, MutexMoves, entered, owner_at, list_at, spin_words, owner_in, list_words, may_free, may_miss, rests, may_own, turned, with_list, may_change, is_code, saw_first, queued_of}
+use Rattle.mutex_slow.specs.StandingLaws.{StandingGoes, chosen-code, chosen-debt, goes-clear, goes-drowses, goes-fails, free-holds, goes-looks, goes-same, goes-sets, goes-wait_state, same-holds}
+use Rattle.mutex_slow.specs.Mutexes.{V, HasLock, HasChosen, after_set, after_swap, wait_state_of, with_wake, wake_words, wakes_at, idle, list_of, IsOut, Coupled, MutexKept, Kept, Leaves, LeavesToFirst, PicksFirst, Asks, HasHandoff, IsFirstTask, AnswersHandoff, TookUp, IsOwnChange, IsUnpicked, MutexMoves, entered, owner_at, list_at, spin_words, owner_in, list_words, may_free, may_miss, rests, may_own, turned, with_list, may_change, is_code, saw_first, queued_of}
 use Rattle.mutex_slow.specs.CoupledLaws.{Apart, coupled-stays, coupled-hands, coupled-seats, coupled-spins, coupled-fails, coupled-takes-free, coupled-takes-picked, coupled-asks, coupled-frees, coupled-hands-over, coupled-flags, coupled-clears, coupled-enters, coupled-leaves, coupled-opens, coupled-snoc, idle-ok, flagged, not-in, is-in, locked-free}
 
 pub spin-inside : 0 + SPIN_WORDS ≤ LOCK_WORDS
@@ -468,16 +468,16 @@ module _ {Call : Type 0} (o : Obj Call) (size : ℕ) where
   } (λ t. refl) refl) (keep_part wparted (WakeKept (wake_words ws) l) vs id v (listed with_list Stay v b) at refl r.wake) (goes-same m l (wake_words ws) (wake_words ws) v (listed with_list Stay v b) refl refl (same-holds v (listed with_list Stay v b) refl)) tt tt tt
   mutex-lists k ws vs l id i n v (Enter w) b r at inside has may is leaver list = let m : ℕ = owner_in ws in let a = apart k ws vs l id v r at in lists-by k ws vs l id i n v (Enter w) b r at inside list (coupled-enters m l vs id v r.coupled at a w b (ap holds_at has) may.0 may.1 may.2 is leaver)
       (duty-enters (wake_words ws) m l vs id v r.coupled r.wake at a r.list.sound.small w b (ap holds_at has) may.0 may.5 may.1)
-      (goes-vigil m l (wake_words ws) (wake_words ws) v (listed with_list (Enter w) v b) (Enter w) refl Awake refl (λ _. refl) (λ _ _. inl refl) (λ _ e. absurd (omega (arith, e))) (same-holds v (listed with_list (Enter w) v b) refl))
+      (goes-wait_state m l (wake_words ws) (wake_words ws) v (listed with_list (Enter w) v b) (Enter w) refl Awake refl (λ _. refl) (λ _ _. inl refl) (λ _ e. absurd (omega (arith, e))) (same-holds v (listed with_list (Enter w) v b) refl))
       (mutex-list-may k ws vs l id v (Enter w) r at has may) (parted v, at_map parted vs id v at, ap holds_at has) (v, at, may.0, may.3, may.4)
   mutex-lists k ws vs l id i n v (Leave t) b r at inside has may is leaver list = let m : ℕ = owner_in ws in let a = apart k ws vs l id v r at in
       let unpicked : IsUnpicked m t = λ high. ⊎_elim
       (λ (alone : v.hand.held ≡ Alone). let low = (held-word (map hand_of vs) id t m v.hand r.own (at_map hand_of vs id v at) alone may.0).0 in absurd (omega (arith, low, high)))
-      (λ (tried : (v.ext.failed ≡ v.spin.entries) × (v.ext.wake.vigil ≡ Tried v.spin.entries)). (r.coupled.each id v at).failed (ap holds_at has) tried.0 t may.0 high)
+      (λ (tried : (v.ext.failed ≡ v.spin.entries) × (v.ext.wake.wait_state ≡ Tried v.spin.entries)). (r.coupled.each id v at).failed (ap holds_at has) tried.0 t may.0 high)
       may.3 in
       lists-by k ws vs l id i n v (Leave t) b r at inside list (coupled-leaves m l vs id v r.coupled at a t b (ap holds_at has) may.0 may.1 may.2 unpicked is leaver)
       (duty-leaves (wake_words ws) m l vs id v r.coupled r.wake at a r.list.sound.small t b (ap holds_at has) may.0 (⊎_elim (λ alone. inl alone) (λ tried. inr tried.1) may.3))
-      (goes-vigil m l (wake_words ws) (wake_words ws) v (listed with_list (Leave t) v b) (Leave t) refl Absent refl (λ e. absurd (omega (arith, e))) (λ _ e. absurd (omega (arith, e))) (λ _ _. inl refl) (same-holds v (listed with_list (Leave t) v b) refl))
+      (goes-wait_state m l (wake_words ws) (wake_words ws) v (listed with_list (Leave t) v b) (Leave t) refl Absent refl (λ e. absurd (omega (arith, e))) (λ _ e. absurd (omega (arith, e))) (λ _ _. inl refl) (same-holds v (listed with_list (Leave t) v b) refl))
       (mutex-list-may k ws vs l id v (Leave t) r at has may) (parted v, at_map parted vs id v at, ap holds_at has) (v, at, may.0, unpicked)
 
   both : (a b : Bool) → (a && b) ≡ true → (a ≡ true) × (b ≡ true)
@@ -501,7 +501,7 @@ module _ {Call : Type 0} (o : Obj Call) (size : ℕ) where
       (keep_part hand_of (OwnKept (owner_in ws)) vs id v w at refl r.own)
       (keep_part parted (ListKept (list_words ws) l) vs id v w at refl r.list)
       (coupled-stays (owner_in ws) l vs id v r.coupled at w record {
-        joins = λ p. let j = ok.joins p in (j.0, j.1, j.2, j.3, vigil-looking (holds_in v.spin) v.ext.list.changes v.hand.freed n v.ext.wake j.0 ∙ j.4);
+        joins = λ p. let j = ok.joins p in (j.0, j.1, j.2, j.3, wait_state-looking (holds_in v.spin) v.ext.list.changes v.hand.freed n v.ext.wake j.0 ∙ j.4);
         empties = ok.empties;
         first = λ f. let c = is-code n (holds_in v.spin) v.hand.task f in (c.0, c.1, heads c.0 c.1 c.2 c.3);
         failed = ok.failed;
@@ -571,18 +571,18 @@ module _ {Call : Type 0} (o : Obj Call) (size : ℕ) where
       (λ (d : Drowses t (wake_word (wake_words ws) t) n (wparted v) b × (v.hand.held ≡ No)). goes-drowses (owner_in ws) l (wake_words ws) v w t n few r.wake.wide d.0.3 d.0.0 d.0.1 d.1 (ok.waits ∙ ap waits d.0.2.1) d.0.2 d.0.4)
       kind)) tt tt tt
     where
-      waits-same : waits b.vigil ≡ waits v.ext.wake.vigil
-      waits-same = ⊎_elim (λ (s : Sets t n (wparted v) b). ap (λ (z : WakeHand). waits z.vigil) s.2) (λ (d : Drowses t (wake_word (wake_words ws) t) n (wparted v) b × (v.hand.held ≡ No)). ap (λ (z : WakeHand). waits z.vigil) d.0.4 ∙ waits-drowsing (wake_word (wake_words ws) t) v.ext.wake d.0.2) kind
+      waits-same : waits b.wait_state ≡ waits v.ext.wake.wait_state
+      waits-same = ⊎_elim (λ (s : Sets t n (wparted v) b). ap (λ (z : WakeHand). waits z.wait_state) s.2) (λ (d : Drowses t (wake_word (wake_words ws) t) n (wparted v) b × (v.hand.held ≡ No)). ap (λ (z : WakeHand). waits z.wait_state) d.0.4 ∙ waits-drowsing (wake_word (wake_words ws) t) v.ext.wake d.0.2) kind
 
-      joins-awake : v.ext.wake.vigil ≡ Awake → HasLock v → b.vigil ≡ Awake
-      joins-awake is has = ⊎_elim (λ (s : Sets t n (wparted v) b). ap (λ (z : WakeHand). z.vigil) s.2 ∙ is) (λ (d : Drowses t (wake_word (wake_words ws) t) n (wparted v) b × (v.hand.held ≡ No)). locked-free v d.0.1 has) kind
+      joins-awake : v.ext.wake.wait_state ≡ Awake → HasLock v → b.wait_state ≡ Awake
+      joins-awake is has = ⊎_elim (λ (s : Sets t n (wparted v) b). ap (λ (z : WakeHand). z.wait_state) s.2 ∙ is) (λ (d : Drowses t (wake_word (wake_words ws) t) n (wparted v) b × (v.hand.held ≡ No)). locked-free v d.0.1 has) kind
 
   -- the task that a pass has chosen is woken
   pub mutex-sets : (k : Plan) (ws : List ℕ) (vs : List V) (l : List Waiter) (id t : ℕ) (v : V) → Queue k ws vs l → get_elem? vs id ≡ some v → HasChosen v.ext t → Go k id ws vs (set ws (wakes_at + 8 * t) 1) (set vs id (knowing v (after_set v.ext t)))
   mutex-sets k ws vs l id t v r at chosen = let b : WakeHand = setting v.ext.wake in let kind : Sets t 1 (wparted v) b = (chosen.0, refl, refl) in mutex-wakes k ws vs l id t 1 v b r at chosen.1 (inl kind) (wake-sets (wake_words ws) l (map wparted vs) id (wparted v) r.wake (at_map wparted vs id v at) t 1 b kind)
 
   -- a waiter swaps its own wake word for 0
-  pub mutex-swaps : (k : Plan) (ws : List ℕ) (vs : List V) (l : List Waiter) (id t : ℕ) (v : V) → Queue k ws vs l → get_elem? vs id ≡ some v → v.hand.task ≡ Some t → t < MAX_TASKS → SpinRests v.spin → v.hand.held ≡ No → HasTried vigil_of v
+  pub mutex-swaps : (k : Plan) (ws : List ℕ) (vs : List V) (l : List Waiter) (id t : ℕ) (v : V) → Queue k ws vs l → get_elem? vs id ≡ some v → v.hand.task ≡ Some t → t < MAX_TASKS → SpinRests v.spin → v.hand.held ≡ No → HasTried wait_state_of v
       → Go k id ws vs (set ws (wakes_at + 8 * t) 0) (set vs id (knowing v (after_swap v.ext (get_or ws (wakes_at + 8 * t) 0))))
   mutex-swaps k ws vs l id t v r at mine few rests free tried = let n : ℕ = get_or ws (wakes_at + 8 * t) 0 in let old : ℕ = wake_word (wake_words ws) t in let word : old ≡ n = part-at ws wakes_at WAKE_WORDS (8 * t) (omega (arith, few)) in let b : WakeHand = drowsing n v.ext.wake in
       let kind : Drowses t old 0 (wparted v) b = (mine, ap holds_at rests, tried, refl, ap (λ (z : ℕ). drowsing z v.ext.wake) (sym word)) in

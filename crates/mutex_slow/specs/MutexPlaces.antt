@@ -21,7 +21,7 @@ use Rattle.wait_list.specs.Lists.{waiter_code}
 use Rattle.lock_core.specs.Holding.{released}
 use Rattle.mutex_word.specs.OwnerTries.{FindsUnasked, IsOpen}
 use Rattle.wake_duty.specs.declared.view.Duty.TheVariants.{Owing}
-use Rattle.wake_duty.specs.declared.view.Vigil.TheVariants.{Tried}
+use Rattle.wake_duty.specs.declared.view.WaitState.TheVariants.{Tried}
 use Rattle.wake_duty.specs.DutyWakes.{waits}
 use Rattle.mutex_slow.specs.Mutexes.{V, HasChosen, OwesNoWake, list_at, owner_at}
 use Rattle.mutex_slow.specs.MutexStated.{HasWaitLock}
@@ -44,12 +44,12 @@ pub record IsInLine (v : V) : Type 0 where
   pub rests : v.ext.point ≡ Rest
   pub still : v.ext.list.changes ≡ false
   pub clear : OwesNoWake v
-  pub waits : waits v.ext.wake.vigil ≡ 1
+  pub waits : waits v.ext.wake.wait_state ≡ 1
 
 -- its task is in the list, and a try failed since it last took the wait lock
 pub record HasFailed (v : V) : Type 0 where
   pub failed : v.ext.failed ≡ v.spin.entries
-  pub tried : v.ext.wake.vigil ≡ Tried v.spin.entries
+  pub tried : v.ext.wake.wait_state ≡ Tried v.spin.entries
 
 -- it ended its hold with the flag of the waiters, and has chosen nobody
 pub record OwesWake (v : V) : Type 0 where
@@ -90,7 +90,7 @@ module _ {R O C : Type 0} where
   abbrev pub KeepsMisses : Pass R O MutexHand C → Pass R O MutexHand C → Type 0
   KeepsMisses old new = (hand_in new).misses ≡ (hand_in old).misses
 
-  -- it has not been the front of a spin queue, nor appended itself
+  -- it has not been the head of a spin queue, nor appended itself
   abbrev pub KeepsFronts : Pass R O MutexHand C → Pass R O MutexHand C → Type 0
   KeepsFronts old new = (view_of new).fronts ≡ (view_of old).fronts
 
@@ -188,7 +188,7 @@ pub record WentInLine (v u : Shown) : Type 0 where
 abbrev pub CountsInLine : (sleeps sleeps' rescheds rescheds' : ℕ) → Shown → Shown → Type 0
 CountsInLine sleeps sleeps' rescheds rescheds' v u = SleepsInTurns (v.spin.entries + 1) u.spin.entries sleeps sleeps' × (rescheds ≤ rescheds') × Rises rescheds rescheds'
 
--- the same, by how it got the mutex; without having been the front of the spin queue it tried under the wait lock only once the CPU needed rescheduling
+-- the same, by how it got the mutex; without having been the head of the spin queue it tried under the wait lock only once the CPU needed rescheduling
 abbrev pub CountsBy : How → (sleeps sleeps' rescheds rescheds' : ℕ) → Shown → Shown → Type 0
 CountsBy Fast sleeps sleeps' rescheds rescheds' v u = (sleeps' ≡ sleeps) × (rescheds' ≡ rescheds)
 CountsBy Spun sleeps sleeps' rescheds rescheds' v u = (sleeps' ≡ sleeps) × (rescheds ≤ rescheds') × (u.fronts ≡ v.fronts → Rises rescheds rescheds')

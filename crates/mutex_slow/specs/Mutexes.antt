@@ -31,8 +31,8 @@ use Rattle.wait_list.specs.declared.words.TheConstants.{LIST_WORDS}
 use Rattle.wait_list.specs.Lists.{ListKept, ListMoves, Knows, list_part, no_list, first_code, counted}
 use Rattle.wake_duty.specs.declared.view.Duty.{Duty}
 use Rattle.wake_duty.specs.declared.view.Duty.TheVariants.{NoDuty, Owing, Chosen}
-use Rattle.wake_duty.specs.declared.view.Vigil.{Vigil}
-use Rattle.wake_duty.specs.declared.view.Vigil.TheVariants.{Absent, Awake, Tried}
+use Rattle.wake_duty.specs.declared.view.WaitState.{WaitState}
+use Rattle.wake_duty.specs.declared.view.WaitState.TheVariants.{Absent, Awake, Tried}
 use Rattle.wake_duty.specs.declared.view.WakeHand.{WakeHand}
 use Rattle.wake_duty.specs.DutyWakes.{WAKE_WORDS, WakeKept, wake_part, no_wake, waits, owed, chose_any, duty_of, failing, looking, setting, drowsing}
 use Rattle.wake_duty.specs.WakeMoves.{ChoosesFirst, DozesOff, SetsChosen, WordGoes}
@@ -59,7 +59,7 @@ chosen_code Owing = 0
 chosen_code (Chosen t) = t + 1
 
 -- whether it waits, and tries before it sleeps
-abbrev pub awake_bit : Vigil → ℕ
+abbrev pub awake_bit : WaitState → ℕ
 awake_bit Absent = 0
 awake_bit Awake = 1
 awake_bit (Tried n) = 0
@@ -75,7 +75,7 @@ pub record Standing : Type 0 where
   pub dozes : ℕ
 
 abbrev pub standing_of : MutexHand → Standing
-standing_of e = record { queued = bit e.queued; appends = e.appends; debt = debt_of e.wake.duty; chosen = chosen_code e.wake.duty; awake = awake_bit e.wake.vigil; wakes = e.wake.wakes; dozes = e.wake.dozes }
+standing_of e = record { queued = bit e.queued; appends = e.appends; debt = debt_of e.wake.duty; chosen = chosen_code e.wake.duty; awake = awake_bit e.wake.wait_state; wakes = e.wake.wakes; dozes = e.wake.dozes }
 
 -- what a moment keeps of a pass that stands so
 abbrev pub numbers_of : Standing → List ℕ
@@ -105,8 +105,8 @@ wake_of e = e.wake
 abbrev pub with_wake : MutexHand → WakeHand → MutexHand
 with_wake e w = record e { wake = w }
 
-abbrev pub vigil_of : MutexHand → Vigil
-vigil_of e = e.wake.vigil
+abbrev pub wait_state_of : MutexHand → WaitState
+wait_state_of e = e.wake.wait_state
 
 -- it has chosen this task, and hasn't set its wake word
 abbrev pub HasChosen : MutexHand → ℕ → Type 0
@@ -152,14 +152,14 @@ pub record Flagged (n : ℕ) (l : List Waiter) : Type 0 where
   pub none : length l ≡ 0 → n % 8 ≡ 0
 
 pub record SeatOk (n : ℕ) (l : List Waiter) (v : V) : Type 0 where
-  pub joins : v.ext.point ≡ Joins → (HasLock v) × ((t : ℕ) × (v.hand.task ≡ Some t) × (first_code l ≡ t + 1)) × (length l ≡ 1) × (n % 8 ≡ 0) × (v.ext.wake.vigil ≡ Awake)
+  pub joins : v.ext.point ≡ Joins → (HasLock v) × ((t : ℕ) × (v.hand.task ≡ Some t) × (first_code l ≡ t + 1)) × (length l ≡ 1) × (n % 8 ≡ 0) × (v.ext.wake.wait_state ≡ Awake)
   pub empties : v.ext.point ≡ Empties → (HasLock v) × (length l ≡ 0) × (n % 2 ≡ 1) × (n % 8 < 4)
   pub first : v.ext.first ≡ true → (t : ℕ) × (v.hand.task ≡ Some t) × (first_code l ≡ t + 1)
   pub failed : HasLock v → v.ext.failed ≡ v.spin.entries → (t : ℕ) → v.hand.task ≡ Some t → IsUnpicked n t
   pub past : v.ext.failed ≤ v.spin.entries
   pub leaver : v.ext.list.leaver ≢ 0 → (t : ℕ) × (v.hand.task ≡ Some t) × (v.ext.list.leaver ≡ t + 1)
   pub named : v.hand.task ≡ None → IsOut v
-  pub waits : bit v.ext.queued ≡ waits v.ext.wake.vigil
+  pub waits : bit v.ext.queued ≡ waits v.ext.wake.wait_state
 
 -- the owner word, the list and the passes
 pub record Coupled (n : ℕ) (l : List Waiter) (vs : List V) : Type 0 where
@@ -267,7 +267,7 @@ pub record WakesGo (n : ℕ) (l : List Waiter) (c : Change) (words words' : List
   pub wakes : s'.wakes ≢ s.wakes → EndsChoice words' s s'
   pub dozes : s'.dozes ≢ s.dozes → (h.held ≡ No) × DozesOff words h.task locked s.queued s.awake s'.awake s.dozes s'.dozes
   pub enters : entered c ≡ 1 → s'.awake ≡ 1
-  pub rouses : s.awake ≡ 0 → s'.awake ≡ 1 → (entered c ≡ 1) ⊎ ((locked ≡ 0) × (s'.dozes ≡ s.dozes))
+  pub wakes_it : s.awake ≡ 0 → s'.awake ≡ 1 → (entered c ≡ 1) ⊎ ((locked ≡ 0) × (s'.dozes ≡ s.dozes))
   pub tries : s.awake ≡ 1 → s'.awake ≡ 0 → (left c ≡ 1) ⊎ FailsUnderLock n locked h
 
 -- What a step may do: all that each step of a site, of a spin lock and of a list does. Where it ends a hold while a handoff is asked for, it picks the first waiter. A word that picks a waiter is changed by that waiter alone, which takes. The first waiter alone asks for a handoff. The flag of the handoff stays until the holder names the first waiter or nobody waits. Who ends a hold keeps the word that it left, which is the first waiter's where it has the wait lock. An append is counted by the pass that enters, and a failed try by one that stands outside the list. `WakesGo` says what becomes of the wake words.
@@ -324,13 +324,13 @@ turned Clear v = record v.ext { point = Rest }
 
 abbrev pub with_list : Change → V → ListHand → MutexHand
 with_list Stay v b = record v.ext { list = b }
-with_list (Enter w) v b = record v.ext { list = b; queued = true; first = false; point = if length b.list == 1 then Joins else Rest; appends = v.ext.appends + 1; wake = record v.ext.wake { vigil = Awake } }
-with_list (Leave t) v b = record v.ext { list = b; queued = false; first = false; point = if length b.list == 0 then Empties else Rest; wake = record v.ext.wake { vigil = Absent } }
+with_list (Enter w) v b = record v.ext { list = b; queued = true; first = false; point = if length b.list == 1 then Joins else Rest; appends = v.ext.appends + 1; wake = record v.ext.wake { wait_state = Awake } }
+with_list (Leave t) v b = record v.ext { list = b; queued = false; first = false; point = if length b.list == 0 then Empties else Rest; wake = record v.ext.wake { wait_state = Absent } }
 
 abbrev pub may_change : Change → V → List Waiter → Type 0
 may_change Stay v l = Unit {0}
 may_change (Enter w) v l = (v.hand.task ≡ Some w.task) × (v.ext.queued ≡ false) × (v.ext.point ≡ Rest) × (v.hand.held ≡ No) × (w.writer ≡ true) × OwesNoWake v
-may_change (Leave t) v l = (v.hand.task ≡ Some t) × (v.ext.queued ≡ true) × (v.ext.point ≡ Rest) × ((v.hand.held ≡ Alone) ⊎ ((v.ext.failed ≡ v.spin.entries) × (v.ext.wake.vigil ≡ Tried v.spin.entries)))
+may_change (Leave t) v l = (v.hand.task ≡ Some t) × (v.ext.queued ≡ true) × (v.ext.point ≡ Rest) × ((v.hand.held ≡ Alone) ⊎ ((v.ext.failed ≡ v.spin.entries) × (v.ext.wake.wait_state ≡ Tried v.spin.entries)))
 
 abbrev pub is_code : Option ℕ → ℕ → Bool
 is_code None n = false

@@ -15,10 +15,10 @@ use Rattle.wait_list.specs.ListLaws.{holds-or-not}
 use Rattle.wait_list.specs.Lists.{first_code}
 use Rattle.wake_duty.specs.declared.view.Duty.{Duty}
 use Rattle.wake_duty.specs.declared.view.Duty.TheVariants.{NoDuty, Owing, Chosen}
-use Rattle.wake_duty.specs.declared.view.Vigil.{Vigil}
-use Rattle.wake_duty.specs.declared.view.Vigil.TheVariants.{Absent, Awake, Tried}
+use Rattle.wake_duty.specs.declared.view.WaitState.{WaitState}
+use Rattle.wake_duty.specs.declared.view.WaitState.TheVariants.{Absent, Awake, Tried}
 use Rattle.wake_duty.specs.declared.view.WakeHand.{WakeHand}
-use Rattle.wake_duty.specs.DutyWakes.{WAKE_WORDS, wake_word, owed, chose_any, choosing, duty_of, foiled, roused, failing, looking, setting, drowsing}
+use Rattle.wake_duty.specs.DutyWakes.{WAKE_WORDS, wake_word, owed, chose_any, choosing, duty_of, after_failed_try, awakened, failing, looking, setting, drowsing}
 use Rattle.wake_duty.specs.WakeMoves.{ChoosesFirst, WordGoes}
 use Rattle.mutex_slow.specs.Mutexes.{V, HasLock, OwesNoWake, FailsUnderLock, IsUnpicked, MayChoose, EndsChoice, WakesGo, awake_bit, chosen_code, debt_of, entered, left, standing_of}
 use Rattle.mutex_slow.specs.DutyLaws.{choosing-or}
@@ -54,15 +54,15 @@ pub chosen-debt : (code : ℕ) → debt_of (duty_of code) ≡ 0
 chosen-debt zero = refl
 chosen-debt (suc t) = refl
 
-foiled-bit : (x : Vigil) (e : ℕ) → awake_bit (foiled x e) ≡ 0
-foiled-bit Absent e = refl
-foiled-bit Awake e = refl
-foiled-bit (Tried m) e = refl
+after_failed_try-bit : (x : WaitState) (e : ℕ) → awake_bit (after_failed_try x e) ≡ 0
+after_failed_try-bit Absent e = refl
+after_failed_try-bit Awake e = refl
+after_failed_try-bit (Tried m) e = refl
 
-roused-bit : (x : Vigil) → awake_bit x ≡ 1 → awake_bit (roused x) ≡ 1
-roused-bit Absent e = e
-roused-bit Awake e = refl
-roused-bit (Tried m) e = refl
+awakened-bit : (x : WaitState) → awake_bit x ≡ 1 → awake_bit (awakened x) ≡ 1
+awakened-bit Absent e = e
+awakened-bit Awake e = refl
+awakened-bit (Tried m) e = refl
 
 -- it ends no hold
 abbrev pub HoldsOn : V → V → Type 0
@@ -83,7 +83,7 @@ module _ (n : ℕ) (l : List Waiter) (words words' : List ℕ) (v u : V) where
 
   -- all stays
   pub goes-same : words' ≡ words → u.ext.wake ≡ w → HoldsOn v u → StandingGoes n l Stay words words' v u
-  goes-same same wake on = let debt = ap (λ (z : WakeHand). debt_of z.duty) wake in let chosen = ap (λ (z : WakeHand). chosen_code z.duty) wake in let awake = ap (λ (z : WakeHand). awake_bit z.vigil) wake in record {
+  goes-same same wake on = let debt = ap (λ (z : WakeHand). debt_of z.duty) wake in let chosen = ap (λ (z : WakeHand). chosen_code z.duty) wake in let awake = ap (λ (z : WakeHand). awake_bit z.wait_state) wake in record {
     words_go = λ t few. inl (ap (λ (z : List ℕ). wake_word z t) same);
     owes = λ e e'. absurd (omega (arith, debt, e, e'));
     must = λ alone free. absurd (on alone free);
@@ -93,14 +93,14 @@ module _ (n : ℕ) (l : List Waiter) (words words' : List ℕ) (v u : V) where
     wakes = λ other. absurd (other (ap (λ (z : WakeHand). z.wakes) wake));
     dozes = λ other. absurd (other (ap (λ (z : WakeHand). z.dozes) wake));
     enters = λ e. absurd (omega (arith, e));
-    rouses = λ e e'. absurd (omega (arith, awake, e, e'));
+    wakes_it = λ e e'. absurd (omega (arith, awake, e, e'));
     tries = λ e e'. absurd (omega (arith, awake, e, e'));
   }
 
   -- how its task waits changes, and the list by this change
-  pub goes-vigil : (c : Change) → words' ≡ words → (x : Vigil) → u.ext.wake ≡ record w { vigil = x } → (entered c ≡ 1 → awake_bit x ≡ 1) → (awake_bit w.vigil ≡ 0 → awake_bit x ≡ 1 → (entered c ≡ 1) ⊎ (holds_in v.spin ≡ 0)) → (awake_bit w.vigil ≡ 1 → awake_bit x ≡ 0 → (left c ≡ 1) ⊎ FailsUnderLock n (holds_in v.spin) v.hand)
+  pub goes-wait_state : (c : Change) → words' ≡ words → (x : WaitState) → u.ext.wake ≡ record w { wait_state = x } → (entered c ≡ 1 → awake_bit x ≡ 1) → (awake_bit w.wait_state ≡ 0 → awake_bit x ≡ 1 → (entered c ≡ 1) ⊎ (holds_in v.spin ≡ 0)) → (awake_bit w.wait_state ≡ 1 → awake_bit x ≡ 0 → (left c ≡ 1) ⊎ FailsUnderLock n (holds_in v.spin) v.hand)
       → HoldsOn v u → StandingGoes n l c words words' v u
-  goes-vigil c same x wake enters rises falls on = let debt = ap (λ (z : WakeHand). debt_of z.duty) wake in let chosen = ap (λ (z : WakeHand). chosen_code z.duty) wake in let awake = ap (λ (z : WakeHand). awake_bit z.vigil) wake in let dozed = ap (λ (z : WakeHand). z.dozes) wake in record {
+  goes-wait_state c same x wake enters rises falls on = let debt = ap (λ (z : WakeHand). debt_of z.duty) wake in let chosen = ap (λ (z : WakeHand). chosen_code z.duty) wake in let awake = ap (λ (z : WakeHand). awake_bit z.wait_state) wake in let dozed = ap (λ (z : WakeHand). z.dozes) wake in record {
     words_go = λ t few. inl (ap (λ (z : List ℕ). wake_word z t) same);
     owes = λ e e'. absurd (omega (arith, debt, e, e'));
     must = λ alone free. absurd (on alone free);
@@ -110,14 +110,14 @@ module _ (n : ℕ) (l : List Waiter) (words words' : List ℕ) (v u : V) where
     wakes = λ other. absurd (other (ap (λ (z : WakeHand). z.wakes) wake));
     dozes = λ other. absurd (other dozed);
     enters = λ e. awake ∙ enters e;
-    rouses = λ e e'. ⊎_elim (λ (came : entered c ≡ 1). inl came) (λ (out : holds_in v.spin ≡ 0). inr (out, dozed)) (rises e (sym awake ∙ e'));
+    wakes_it = λ e e'. ⊎_elim (λ (came : entered c ≡ 1). inl came) (λ (out : holds_in v.spin ≡ 0). inr (out, dozed)) (rises e (sym awake ∙ e'));
     tries = λ e e'. falls e (sym awake ∙ e');
   }
 
   -- what it owes changes
   goes-duty : words' ≡ words → (d : Duty) → u.ext.wake ≡ record w { duty = d } → (debt_of w.duty ≡ 0 → debt_of d ≡ 1 → (v.hand.held ≡ Alone) × (u.hand.held ≡ No)) → (debt_of w.duty ≡ 1 → v.hand.freed % 2 ≡ 1 → (debt_of d ≡ 1) ⊎ ChoosesFirst (holds_in v.spin) l (chosen_code d))
       → chosen_code w.duty ≡ 0 → (chosen_code d ≢ 0 → ChoosesFirst (holds_in v.spin) l (chosen_code d) × MayChoose v.hand u.hand (standing_of v.ext)) → (v.hand.held ≡ Alone → u.hand.held ≡ No → (debt_of d ≡ 1) ⊎ ChoosesFirst (holds_in v.spin) l (chosen_code d)) → StandingGoes n l Stay words words' v u
-  goes-duty same d wake ends pays none picks must = let debt = ap (λ (z : WakeHand). debt_of z.duty) wake in let chosen : chosen_code u.ext.wake.duty ≡ chosen_code d = ap (λ (z : WakeHand). chosen_code z.duty) wake in let awake = ap (λ (z : WakeHand). awake_bit z.vigil) wake in record {
+  goes-duty same d wake ends pays none picks must = let debt = ap (λ (z : WakeHand). debt_of z.duty) wake in let chosen : chosen_code u.ext.wake.duty ≡ chosen_code d = ap (λ (z : WakeHand). chosen_code z.duty) wake in let awake = ap (λ (z : WakeHand). awake_bit z.wait_state) wake in record {
     words_go = λ t few. inl (ap (λ (z : List ℕ). wake_word z t) same);
     owes = λ e e'. ends e (sym debt ∙ e');
     must = λ alone free. ⊎_elim (λ (stays : debt_of d ≡ 1). inl (debt ∙ stays)) (λ (first : ChoosesFirst (holds_in v.spin) l (chosen_code d)). inr (first.0, chosen ∙ first.1)) (must alone free);
@@ -127,7 +127,7 @@ module _ (n : ℕ) (l : List Waiter) (words words' : List ℕ) (v u : V) where
     wakes = λ other. absurd (other (ap (λ (z : WakeHand). z.wakes) wake));
     dozes = λ other. absurd (other (ap (λ (z : WakeHand). z.dozes) wake));
     enters = λ e. absurd (omega (arith, e));
-    rouses = λ e e'. absurd (omega (arith, awake, e, e'));
+    wakes_it = λ e e'. absurd (omega (arith, awake, e, e'));
     tries = λ e e'. absurd (omega (arith, awake, e, e'));
   }
 
@@ -144,8 +144,8 @@ module _ (n : ℕ) (l : List Waiter) (words : List ℕ) (v u : V) where
   -- a try fails
   pub goes-fails : u.ext.wake ≡ failing (holds_in v.spin) v.spin.entries v.ext.wake → 8 ≤ n → (t : ℕ) → v.hand.task ≡ Some t → IsUnpicked n t → HoldsOn v u → StandingGoes n l Stay words words v u
   goes-fails wake big t mine unpicked on = holds-or-not v.spin
-      (λ has. goes-vigil n l words words v u Stay refl (foiled v.ext.wake.vigil v.spin.entries) (wake ∙ ap (λ (z : ℕ). failing z v.spin.entries v.ext.wake) has) (λ e. absurd (omega (arith, e)))
-      (λ _ e. absurd (let none = foiled-bit v.ext.wake.vigil v.spin.entries in omega (arith, none, e))) (λ _ _. inr (has, big, (t, mine, unpicked))) on)
+      (λ has. goes-wait_state n l words words v u Stay refl (after_failed_try v.ext.wake.wait_state v.spin.entries) (wake ∙ ap (λ (z : ℕ). failing z v.spin.entries v.ext.wake) has) (λ e. absurd (omega (arith, e)))
+      (λ _ e. absurd (let none = after_failed_try-bit v.ext.wake.wait_state v.spin.entries in omega (arith, none, e))) (λ _ _. inr (has, big, (t, mine, unpicked))) on)
       (λ out. goes-same n l words words v u refl (wake ∙ ap (λ (z : ℕ). failing z v.spin.entries v.ext.wake) out) on)
 
   -- a load of the head
@@ -158,8 +158,8 @@ module _ (n : ℕ) (l : List Waiter) (words : List ℕ) (v u : V) where
       (λ (owes : (owed v.ext.wake.duty v.hand.freed ≡ 1) × (choosing v.ext.wake.duty (v.hand.freed % 2) code ≡ duty_of code)). goes-chooses n l words words v u refl has owes.0
       (wake ∙ ((λ i. looking (has i) (still i) v.hand.freed code v.ext.wake) ∙ ((λ i. record v.ext.wake { duty = owes.1 i }) ∙ ap (λ (z : ℕ). record v.ext.wake { duty = duty_of z }) (is has still)))) on)
       (choosing-or v.ext.wake.duty v.hand.freed code)))
-      (λ out. goes-vigil n l words words v u Stay refl (roused v.ext.wake.vigil) (wake ∙ ap (λ (z : ℕ). looking z v.ext.list.changes v.hand.freed code v.ext.wake) out) (λ e. absurd (omega (arith, e)))
-      (λ _ _. inr out) (λ e e'. absurd (let up = roused-bit v.ext.wake.vigil e in omega (arith, up, e'))) on)
+      (λ out. goes-wait_state n l words words v u Stay refl (awakened v.ext.wake.wait_state) (wake ∙ ap (λ (z : ℕ). looking z v.ext.list.changes v.hand.freed code v.ext.wake) out) (λ e. absurd (omega (arith, e)))
+      (λ _ _. inr out) (λ e e'. absurd (let up = awakened-bit v.ext.wake.wait_state e in omega (arith, up, e'))) on)
 
 module _ (n : ℕ) (l : List Waiter) (words : List ℕ) (v u : V) (t m : ℕ) (few : t < MAX_TASKS) (wide : length words ≡ WAKE_WORDS) where
   word-here : wake_word (set words (8 * t) m) t ≡ m
@@ -170,7 +170,7 @@ module _ (n : ℕ) (l : List Waiter) (words : List ℕ) (v u : V) (t m : ℕ) (f
 
   -- a step on the wake word of this task leaves all others
   abbrev WordStep : ℕ → Type 0
-  WordStep = WordGoes words (set words (8 * t) m) v.hand.task (holds_in v.spin) (bit v.ext.queued) (awake_bit v.ext.wake.vigil) (λ u. chosen_code v.ext.wake.duty ≡ u + 1)
+  WordStep = WordGoes words (set words (8 * t) m) v.hand.task (holds_in v.spin) (bit v.ext.queued) (awake_bit v.ext.wake.wait_state) (λ u. chosen_code v.ext.wake.duty ≡ u + 1)
 
   one-word : WordStep t → (s : ℕ) → WordStep s
   one-word mine s = dite (ℕ_discrete s t) (λ same. subst WordStep (sym same) mine) (λ other. inl (word-else s other))
@@ -178,7 +178,7 @@ module _ (n : ℕ) (l : List Waiter) (words : List ℕ) (v u : V) (t m : ℕ) (f
   -- the task that was chosen is woken
   pub goes-sets : m ≡ 1 → v.ext.wake.duty ≡ Chosen t → u.ext.wake ≡ setting v.ext.wake → HoldsOn v u → StandingGoes n l Stay words (set words (8 * t) m) v u
   goes-sets one duty wake on = let debt : debt_of u.ext.wake.duty ≡ 0 = ap (λ (z : WakeHand). debt_of z.duty) wake in let was : debt_of v.ext.wake.duty ≡ 0 = ap debt_of duty in let none : chosen_code u.ext.wake.duty ≡ 0 = ap (λ (z : WakeHand). chosen_code z.duty) wake in
-      let chosen : chosen_code v.ext.wake.duty ≡ t + 1 = ap chosen_code duty in let awake : awake_bit u.ext.wake.vigil ≡ awake_bit v.ext.wake.vigil = ap (λ (z : WakeHand). awake_bit z.vigil) wake in
+      let chosen : chosen_code v.ext.wake.duty ≡ t + 1 = ap chosen_code duty in let awake : awake_bit u.ext.wake.wait_state ≡ awake_bit v.ext.wake.wait_state = ap (λ (z : WakeHand). awake_bit z.wait_state) wake in
       let done : EndsChoice (set words (8 * t) m) (standing_of v.ext) (standing_of u.ext) = (none, (ap (λ (z : WakeHand). z.wakes) wake, (t, chosen, word-here ∙ one))) in record {
         words_go = λ s small. one-word (inr (inl (word-here ∙ one, chosen))) s;
         owes = λ e e'. absurd (omega (arith, debt, e'));
@@ -189,22 +189,22 @@ module _ (n : ℕ) (l : List Waiter) (words : List ℕ) (v u : V) (t m : ℕ) (f
         wakes = λ other. done;
         dozes = λ other. absurd (other (ap (λ (z : WakeHand). z.dozes) wake));
         enters = λ e. absurd (omega (arith, e));
-        rouses = λ e e'. absurd (omega (arith, awake, e, e'));
+        wakes_it = λ e e'. absurd (omega (arith, awake, e, e'));
         tries = λ e e'. absurd (omega (arith, awake, e, e'));
       }
 
   -- a waiter swaps its own wake word for 0
-  pub goes-drowses : m ≡ 0 → v.hand.task ≡ Some t → holds_in v.spin ≡ 0 → v.hand.held ≡ No → bit v.ext.queued ≡ 1 → (e : ℕ) × (v.ext.wake.vigil ≡ Tried e) → u.ext.wake ≡ drowsing (wake_word words t) v.ext.wake → StandingGoes n l Stay words (set words (8 * t) m) v u
+  pub goes-drowses : m ≡ 0 → v.hand.task ≡ Some t → holds_in v.spin ≡ 0 → v.hand.held ≡ No → bit v.ext.queued ≡ 1 → (e : ℕ) × (v.ext.wake.wait_state ≡ Tried e) → u.ext.wake ≡ drowsing (wake_word words t) v.ext.wake → StandingGoes n l Stay words (set words (8 * t) m) v u
   goes-drowses none mine out free queued tried wake = by-word (wake_word words t) refl wake
     where
-      before : awake_bit v.ext.wake.vigil ≡ 0
+      before : awake_bit v.ext.wake.wait_state ≡ 0
       before = ap awake_bit tried.1
 
       words_go : (s : ℕ) → s < MAX_TASKS → WordStep s
       words_go s small = one-word (inr (inr (word-here ∙ none, mine, out, queued, before))) s
 
       by-word : (old : ℕ) → wake_word words t ≡ old → u.ext.wake ≡ drowsing old v.ext.wake → StandingGoes n l Stay words (set words (8 * t) m) v u
-      by-word zero was is = let debt = ap (λ (z : WakeHand). debt_of z.duty) is in let chosen = ap (λ (z : WakeHand). chosen_code z.duty) is in let awake : awake_bit u.ext.wake.vigil ≡ awake_bit v.ext.wake.vigil = ap (λ (z : WakeHand). awake_bit z.vigil) is in record {
+      by-word zero was is = let debt = ap (λ (z : WakeHand). debt_of z.duty) is in let chosen = ap (λ (z : WakeHand). chosen_code z.duty) is in let awake : awake_bit u.ext.wake.wait_state ≡ awake_bit v.ext.wake.wait_state = ap (λ (z : WakeHand). awake_bit z.wait_state) is in record {
         words_go = words_go;
         owes = λ e e'. absurd (omega (arith, debt, e, e'));
         must = λ alone _. alone-free (sym alone ∙ free);
@@ -214,7 +214,7 @@ module _ (n : ℕ) (l : List Waiter) (words : List ℕ) (v u : V) (t m : ℕ) (f
         wakes = λ other. absurd (other (ap (λ (z : WakeHand). z.wakes) is));
         dozes = λ other. (free, ((t, mine, was), out, queued, before, awake ∙ before, ap (λ (z : WakeHand). z.dozes) is));
         enters = λ e. absurd (omega (arith, e));
-        rouses = λ e e'. absurd (omega (arith, awake, e, e'));
+        wakes_it = λ e e'. absurd (omega (arith, awake, e, e'));
         tries = λ e e'. absurd (omega (arith, before, e));
       }
       by-word (suc old) was is = let debt = ap (λ (z : WakeHand). debt_of z.duty) is in let chosen = ap (λ (z : WakeHand). chosen_code z.duty) is in let dozed : u.ext.wake.dozes ≡ v.ext.wake.dozes = ap (λ (z : WakeHand). z.dozes) is in record {
@@ -227,6 +227,6 @@ module _ (n : ℕ) (l : List Waiter) (words : List ℕ) (v u : V) (t m : ℕ) (f
         wakes = λ other. absurd (other (ap (λ (z : WakeHand). z.wakes) is));
         dozes = λ other. absurd (other dozed);
         enters = λ e. absurd (omega (arith, e));
-        rouses = λ e e'. inr (out, dozed);
+        wakes_it = λ e e'. inr (out, dozed);
         tries = λ e e'. absurd (omega (arith, before, e));
       }

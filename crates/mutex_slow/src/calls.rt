@@ -187,7 +187,7 @@ impl<O: Object> Mutex<O> {
         self.osq.gather(&mut into.queue, queue);
     }
 
-    /// Spins in the queue of those that do, and as its front until a try takes or the CPU needs
+    /// Spins in the queue of those that do, and as its head until a try takes or the CPU needs
     /// rescheduling. The kernel's `mutex_optimistic_spin`.
     fn spin<W: Wait, C: Cpu>(&self, rt: &W, pass: &mut MutexPass<O>, cpu: &mut C) -> bool
         requires own { SitsAt self.now pass.old }
@@ -447,7 +447,8 @@ impl<O: Object> Mutex<O> {
         ensures out { IsOutOfList (shown_of pass.new) }
         ensures counts { MarksCounts (wakes_in pass.new) (dozes_in pass.new) (shown_of pass.new) }
         ensures moves { Paced (IsSiteStep (plan_of self.now) owner_at) (shown_of pass.new).past }
-        ensures linear { IsLinearizable O.object O.WORDS (plan_of self.now) (shown_of pass.new).past }
+        ensures linear { IsLinearizable O.object O.WORDS (plan_of self.now)
+            (shown_of pass.new).past }
         ensures lists { (l : List Waiters) ×
             HasBecome (plan_of self.now) (shown_of pass.new).past l }
         ensures wait_lock { EachMoment (IsSpinLockThen wait_lock_at) (shown_of pass.new).past }

@@ -7,7 +7,7 @@ ghost use Rattle.lock_core.specs.Signals.{OnlyConsumed};
 ghost use Rattle.lock_core.specs.SiteHandles.{view_of, task_in, held_in, SitsAt};
 ghost use Rattle.lock_core.specs.Tallies.{raised};
 ghost use Rattle.wake_duty.specs.WakeSteps.{HasTried};
-ghost use Rattle.mutex_slow.specs.Mutexes.{vigil_of};
+ghost use Rattle.mutex_slow.specs.Mutexes.{wait_state_of};
 ghost use Rattle.mutex_slow.specs.MutexPlaces.{seen_of, MovesOn, TakesAlone, TakesOpen, KeepsHand, KeepsMisses, KeepsFronts, StandsSame, IsInLine, HasFailed, KeepsWakes, SetsNoWord, dozes_of, KeepsAppends};
 ghost use Rattle.cpu_task.specs.CpuCounting.{Dozes, DozesOnce, Rises, SleepsInTurns};
 
@@ -156,7 +156,7 @@ fn drowse<O: Object>(site: &Site<MutexRule<O>>, pass: &mut Pass<MutexRule<O>>) -
     requires out { held_in pass.old ≡ No }
     requires unspun { SpinRests (view_of pass.old).spin }
     requires listed { IsInLine (view_of pass.old) }
-    requires tried { HasTried vigil_of (view_of pass.old) }
+    requires tried { HasTried wait_state_of (view_of pass.old) }
     ensures on { MovesOn site.now pass.old pass.new }
     ensures listed { IsInLine (view_of pass.new) }
     ensures hand { KeepsHand pass.old pass.new }
@@ -181,7 +181,7 @@ fn doze<O: Object, W: Wait, C: Cpu>(
     requires out { held_in pass.old ≡ No }
     requires unspun { SpinRests (view_of pass.old).spin }
     requires listed { IsInLine (view_of pass.old) }
-    requires tried { HasTried vigil_of (view_of pass.old) }
+    requires tried { HasTried wait_state_of (view_of pass.old) }
     requires counted { dozes.old ≡ dozes_of (view_of pass.old) }
     ensures on { MovesOn site.now pass.old pass.new }
     ensures listed { IsInLine (view_of pass.new) }

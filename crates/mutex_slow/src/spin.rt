@@ -1,4 +1,4 @@
-//! Optimistic spinning: the tries of the task at the front of the spin queue.
+//! Optimistic spinning: the tries of the task at the head of the spin queue.
 ghost use Rattle.std.specs.Prelude.{◌≡◌, true, false, IsSome, ◌≤◌};
 ghost use Rattle.lock_core.specs.declared.view.Held.TheVariants.{No};
 ghost use Rattle.lock_core.specs.Locking.{OnlyTried};
@@ -6,7 +6,7 @@ ghost use Rattle.lock_core.specs.SiteHandles.{view_of, task_in, held_in, SitsAt}
 ghost use Rattle.mutex_slow.specs.Mutexes.{OwesNoWake};
 ghost use Rattle.mutex_slow.specs.MutexPlaces.{seen_of, MovesOn, TakesAlone, TakesOpen, StandsSame, IsOutside, KeepsWakes};
 ghost use Rattle.cpu_task.specs.CpuCounting.{Rises};
-ghost use Rattle.osq_nodes.specs.declared.node.Place.TheVariants.{Front};
+ghost use Rattle.osq_nodes.specs.declared.node.Place.TheVariants.{Head};
 ghost use Rattle.osq_nodes.specs.OsqHandles as spinners;
 
 use crate::fast::try_outside;
@@ -19,7 +19,7 @@ use std::sync::Wait;
 use word_bits::Object;
 
 /// Tries of a pass that is in no list, until one takes or the CPU needs rescheduling. It is to be
-/// the front of the spin queue until it returns: one spinner at a time tries.
+/// the head of the spin queue until it returns: one spinner at a time tries.
 pub fn spin_outside<O: Object, W: Wait, C: Cpu>(
     site: &Site<MutexRule<O>>,
     rt: &W,
@@ -28,7 +28,7 @@ pub fn spin_outside<O: Object, W: Wait, C: Cpu>(
     cpu: &mut C,
 ) -> bool
     requires own { SitsAt site.now pass.old }
-    requires front { spinners.place_in queue.now ≡ Front }
+    requires front { spinners.place_in queue.now ≡ Head }
     requires its_own { spinners.task_in queue.now ≡ task_in pass.old }
     requires numbered { IsSome (task_in pass.old) }
     requires out { held_in pass.old ≡ No }

@@ -50,7 +50,7 @@ fn set<O: Object>(site: &Site<MutexRule<O>>, pass: &mut Pass<MutexRule<O>>, targ
 }
 
 /// Ends the sleep of a task whose wake word the pass has set.
-fn rouse<O: Object, C: Crew>(pass: &Pass<MutexRule<O>>, crew: &C, target: u32)
+fn end_sleep<O: Object, C: Crew>(pass: &Pass<MutexRule<O>>, crew: &C, target: u32)
     requires set { OwesNoWake (view_of pass.now) }
 {
     crew.wake(target);
@@ -82,6 +82,6 @@ pub fn wake<O: Object, C: Crew>(
     // The word is set before the sleep is ended: a task that swaps its word between the two finds
     // it set and doesn't sleep. The sleep of one that swapped it before is ended by the wake.
     set(site, pass, target);
-    rouse(pass, crew, target);
+    end_sleep(pass, crew, target);
     true
 }

@@ -164,7 +164,8 @@ impl<O: Object> OwnerSite<O> {
         ensures linear { IsLinearizable O.object O.WORDS (plan_of self.now) (past_of pass.new) }
         ensures always { EachMoment (IsOwnerSiteThen O.object O.WORDS (plan_of self.now))
             (past_of pass.new) }
-        ensures moves { Ran unmarked (newest (plan_of self.now)) (IsSiteMove (plan_of self.now) owner_at)
+        ensures moves { Ran unmarked (newest (plan_of self.now))
+            (IsSiteMove (plan_of self.now) owner_at)
             (past_of pass.new) }
         ensures joined { KeepsJoined (joined_by pass.old) (past_of pass.new) }
     {
@@ -178,7 +179,8 @@ impl<O: Object> OwnerSite<O> {
         ensures on { StepsOn self.now pass.old pass.new }
         ensures kept { view_of pass.new ≡ ticked (view_of pass.old) }
         ensures last { IsLatest pass.new }
-        ensures moves { Ran unmarked (newest (plan_of self.now)) (IsSiteMove (plan_of self.now) owner_at)
+        ensures moves { Ran unmarked (newest (plan_of self.now))
+            (IsSiteMove (plan_of self.now) owner_at)
             (past_of pass.new) }
     {
         self.site.grown(&mut pass.pass);

@@ -10,7 +10,7 @@ use Rattle.lock_core.specs.declared.op.Op.TheVariants.{Load, Store, Swap, Exchan
 use Rattle.lock_core.specs.NodeLists.{Has, IsFirst, without}
 use Rattle.lock_core.specs.NodeListLaws.{left-has, right-has, first-has, last-has}
 use Rattle.osq_nodes.specs.declared.node.Place.{Place}
-use Rattle.osq_nodes.specs.declared.node.Place.TheVariants.{Out, Cleared, Swapped, Linking, Waiting, Unlinked, Splicing, Relinking, Front, Granting}
+use Rattle.osq_nodes.specs.declared.node.Place.TheVariants.{Out, Cleared, Swapped, Linking, Waiting, Unlinked, Splicing, Relinking, Head, Granting}
 use Rattle.osq_nodes.specs.Words.{code_in, tail_at, tail_in, next_in, prev_in, locked_in, next_at, prev_at, locked_at}
 use Rattle.osq_nodes.specs.OsqPlaces.{is_swap, waits_at}
 use Rattle.osq_nodes.specs.OsqStated.{Changes}
@@ -37,7 +37,7 @@ stays-put Waiting n tail = tt
 stays-put (Unlinked p) n tail = tt
 stays-put (Splicing p m) n tail = tt
 stays-put (Relinking p m) n tail = tt
-stays-put Front n tail = tt
+stays-put Head n tail = tt
 stays-put (Granting m) n tail = tt
 
 -- nor is one from or to these places
@@ -50,7 +50,7 @@ leaves-out Waiting n tail = tt
 leaves-out (Unlinked p) n tail = tt
 leaves-out (Splicing p m) n tail = tt
 leaves-out (Relinking p m) n tail = tt
-leaves-out Front n tail = tt
+leaves-out Head n tail = tt
 leaves-out (Granting m) n tail = tt
 
 module _ (size t : ℕ) where
@@ -84,7 +84,7 @@ module _ (size t : ℕ) where
   swaps-tail row place q long lt few r is = go (tail_in row) refl
     where
       go : (n : ℕ) → tail_in row ≡ n → (q' : List ℕ) × RowKept size (set row tail_at (suc t)) (with_at place t (swap_place n)) q' × Changes row (set row tail_at (suc t)) place q q' × FindsTail (is_swap Cleared (swap_place n)) n (tail_in row) × IsCodeOrNone size n
-      go zero e = (q ++ t ∷ [], wrote-tail size row (with_at place t Front) (q ++ t ∷ []) (suc t) long (enters-first size (tail_in row) (next_in row) (prev_in row) (locked_in row) place (with_at place t Front) q t r is e lt (with_at-sets place t Front)), inr (inl (record { task = t; cleared = is; swap = refl; new = refl })), sym e, λ p z. absurd (omega (arith, z)))
+      go zero e = (q ++ t ∷ [], wrote-tail size row (with_at place t Head) (q ++ t ∷ []) (suc t) long (enters-first size (tail_in row) (next_in row) (prev_in row) (locked_in row) place (with_at place t Head) q t r is e lt (with_at-sets place t Head)), inr (inl (record { task = t; cleared = is; swap = refl; new = refl })), sym e, λ p z. absurd (omega (arith, z)))
       go (suc p) e = (q ++ t ∷ [], wrote-tail size row (with_at place t (Swapped p)) (q ++ t ∷ []) (suc t) long (enters size (tail_in row) (next_in row) (prev_in row) (locked_in row) place (with_at place t (Swapped p)) q t r p is e lt (with_at-sets place t (Swapped p))), inr (inl (record { task = t; cleared = is; swap = refl; new = refl })), sym e, λ m z. let same : p ≡ m = omega (arith, z) in subst (λ (x : ℕ). x < size) same (r.inside p (last-has q p (sym r.ends ∙ e))))
 
   pub stores-own-prev : (p : ℕ) → Local size t (Swapped p) (prev_at t) (Store (suc p)) (λ _. Linking p) (λ _. Unit {0})
@@ -111,9 +111,9 @@ module _ (size t : ℕ) where
 
   pub looks-granted : Local size t Waiting (locked_at t) Load look_place (λ _. Unit {0})
   looks-granted row place q long lt few r is = let n : ℕ = locked_in row t in
-      let F : Bool → Type 0 = λ b. RowKept size (set row (locked_at t) n) (with_at place t (if b then Front else Waiting)) q × FindsTail (is_swap Waiting (if b then Front else Waiting)) n (tail_in row) in
+      let F : Bool → Type 0 = λ b. RowKept size (set row (locked_at t) n) (with_at place t (if b then Head else Waiting)) q × FindsTail (is_swap Waiting (if b then Head else Waiting)) n (tail_in row) in
       let k = dite (ℕ_discrete n 1)
-      (λ e. subst F (sym (eq-eqb n 1 e)) (subst (λ (z : List ℕ). RowKept size z (with_at place t Front) q) (sym (set-get_or row (locked_at t) 0)) ((sees-grant size (tail_in row) (next_in row) (prev_in row) (locked_in row) place (with_at place t Front) q t r is e (with_at-sets place t Front)).1), tt))
+      (λ e. subst F (sym (eq-eqb n 1 e)) (subst (λ (z : List ℕ). RowKept size z (with_at place t Head) q) (sym (set-get_or row (locked_at t) 0)) ((sees-grant size (tail_in row) (next_in row) (prev_in row) (locked_in row) place (with_at place t Head) q t r is e (with_at-sets place t Head)).1), tt))
       (λ m. subst F (sym (ne_eqb n 1 m)) (same-row row place q (locked_at t) n Waiting refl is r, tt)) in (q, k.0, inl refl, k.1, tt)
 
   -- an exchange that only looks where it misses
@@ -126,9 +126,9 @@ module _ (size t : ℕ) where
       (λ e. subst F (sym (eq-eqb n old e)) (let h = hit row place q long lt few r is e in (h.0, h.1, h.2, finds n (tail_in row), tt)))
       (λ m. subst F (sym (ne_eqb n old m)) (q, same-row row place q at n P refl is r, inl refl, stays-put P n (tail_in row), tt))
 
-  -- the front exchanges the tail from its code to 0
-  pub lets-go-tail : Local size t Front tail_at (Exchange (suc t) 0) (try_place Front Out (suc t)) (λ _. Unit {0})
-  lets-go-tail = exchanges-at Front Out tail_at (suc t) 0 (leaves-out Front) (λ row place q long lt few r is e. (
+  -- the head exchanges the tail from its code to 0
+  pub lets-go-tail : Local size t Head tail_at (Exchange (suc t) 0) (try_place Head Out (suc t)) (λ _. Unit {0})
+  lets-go-tail = exchanges-at Head Out tail_at (suc t) 0 (leaves-out Head) (λ row place q long lt few r is e. (
     without t q,
     wrote-tail size row (with_at place t Out) (without t q) 0 long (lets-go size (tail_in row) (next_in row) (prev_in row) (locked_in row) place (with_at place t Out) q t r is e (with_at-sets place t Out)),
     inr (inr (record { task = t; there = last-has q t (sym r.ends ∙ e); free = leaves-alone size (tail_in row) (next_in row) (prev_in row) (locked_in row) place (with_at place t Out) q t r is e; leaves = inl (None, is, e, refl); new = refl })),
@@ -152,8 +152,8 @@ module _ (size t : ℕ) where
       go zero e = (q, same-row row place q (next_at t) 0 P e is r, inl refl, stays-put P 0 (tail_in row), λ p z. absurd (omega (arith, z)))
       go (suc y) e = (q, hit row place q y long lt few r is e, inl refl, finds y (suc y) (tail_in row), λ m z. let same : y ≡ m = omega (arith, z) in subst (λ (x : ℕ). x < size) same (r.inside y (right-has q t y ((r.links t y e).0))))
 
-  pub takes-to-grant : Local size t Front (next_at t) (Swap 0) (take_place Granting Front) (IsCodeOrNone size)
-  takes-to-grant = takes-next Front Granting (λ y n tail. tt) (λ row place q y long lt few r is e. wrote-next size row (with_at place t (Granting y)) q t 0 long (omega arith) (takes-own size (tail_in row) (next_in row) (prev_in row) (locked_in row) place (with_at place t (Granting y)) q t r y (next_in (set row (next_at t) 0)) is e (sets-next size row place q t 0 long (omega arith)) (with_at-sets place t (Granting y))))
+  pub takes-to-grant : Local size t Head (next_at t) (Swap 0) (take_place Granting Head) (IsCodeOrNone size)
+  takes-to-grant = takes-next Head Granting (λ y n tail. tt) (λ row place q y long lt few r is e. wrote-next size row (with_at place t (Granting y)) q t 0 long (omega arith) (takes-own size (tail_in row) (next_in row) (prev_in row) (locked_in row) place (with_at place t (Granting y)) q t r y (next_in (set row (next_at t) 0)) is e (sets-next size row place q t 0 long (omega arith)) (with_at-sets place t (Granting y))))
 
   pub takes-to-splice : (p : ℕ) → Local size t (Unlinked p) (next_at t) (Swap 0) (take_place (Splicing p) (Unlinked p)) (IsCodeOrNone size)
   takes-to-splice p = takes-next (Unlinked p) (Splicing p) (λ y n tail. tt) (λ row place q y long lt few r is e. wrote-next size row (with_at place t (Splicing p y)) q t 0 long (omega arith) (takes-both size (tail_in row) (next_in row) (prev_in row) (locked_in row) place (with_at place t (Splicing p y)) q t r p y (next_in (set row (next_at t) 0)) is e (sets-next size row place q t 0 long (omega arith)) (with_at-sets place t (Splicing p y))))
@@ -167,7 +167,7 @@ module _ (size t : ℕ) where
     tt,
   )
 
-  -- of the front, and of one that is leaving
+  -- of the head, and of one that is leaving
 
   pub waits-leave : (prev : Option ℕ) → Local size t (waits_at prev) tail_at (Exchange (suc t) (code_in prev)) (try_place (waits_at prev) Out (suc t)) (λ _. Unit {0})
   waits-leave None = lets-go-tail

@@ -1,7 +1,7 @@
 -- Each kind of step keeps the queue's rule.
 use Rattle.std.proofs.Common.{◌≡◌, ◌≢◌, ℕ, zero, suc, ◌<◌, ◌⊎◌, List, [], ◌∷◌, ◌++◌, sym, refl, ap, ◌∙◌, subst, inl, inr, ⊎_elim, arith}
 use Rattle.osq_nodes.specs.declared.node.Place.{Place}
-use Rattle.osq_nodes.specs.declared.node.Place.TheVariants.{Out, Cleared, Swapped, Linking, Waiting, Unlinked, Splicing, Relinking, Front, Granting}
+use Rattle.osq_nodes.specs.declared.node.Place.TheVariants.{Out, Cleared, Swapped, Linking, Waiting, Unlinked, Splicing, Relinking, Head, Granting}
 use Rattle.lock_core.specs.NodeLists.{Has, IsFirst, Precedes, last_from, without}
 use Rattle.osq_nodes.specs.OsqPlaces.{Owes}
 use Rattle.osq_nodes.specs.OsqKept.{IsBehind, IsHead, IsCode, Owed, IsAt, Sets, QueueKept, with_at}
@@ -9,31 +9,31 @@ use Rattle.osq_nodes.specs.Walks.{owes-one}
 use Rattle.osq_nodes.specs.OsqStated.{OwnsLinks}
 use Rattle.osq_nodes.proofs.Updating.{with_at-sets}
 use Rattle.lock_core.specs.NodeListLaws.{first-has, first-same, first-before, left-has, right-has, same-predecessor, same-successor, precedes-apart, has-cases, last-precedes, last-none, last-snoc, last-stays, last-leaves, alone, once-snoc, precedes-snoc, snoc-precedes, snoc-links, snoc-has, has-snoc, first-snoc, snoc-first, kept-has, kept-first, kept-precedes}
-use Rattle.osq_nodes.proofs.Keeping.{carry, at-keeps, same-task, no-code, there, keeps-behind, keeps-front, keeps-each, takes, puts, removes}
+use Rattle.osq_nodes.proofs.Keeping.{carry, at-keeps, same-task, no-code, there, keeps-behind, keeps-head, keeps-each, takes, puts, removes}
 
 no-one : (n : ℕ) → n ≡ 0 → n ≡ 1 → ⊥
 no-one n z e = omega arith
 
 -- of the second, once the first has its link: it owes nothing and becomes the first
-ready-front : (size : ℕ) (q : List ℕ) (b : ℕ → ℕ) (x n : ℕ) (p : Place) (w l : ℕ) → IsBehind x p w l → IsAt size q b n p w l → ((a : ℕ) → Owed size q b a n n → ⊥) → IsHead p 1
-ready-front size q b x n Out w l h at free = absurd h
-ready-front size q b x n Cleared w l h at free = absurd h
-ready-front size q b x n (Swapped a) w l h at free = absurd (free a at)
-ready-front size q b x n (Linking a) w l h at free = absurd (free a at)
-ready-front size q b x n Waiting w l h at free = refl
-ready-front size q b x n (Unlinked a) w l h at free = absurd (free a at)
-ready-front size q b x n (Splicing a m) w l h at free = absurd (free a at.0)
-ready-front size q b x n (Relinking a m) w l h at free = absurd h
-ready-front size q b x n Front w l h at free = absurd h
-ready-front size q b x n (Granting m) w l h at free = absurd h
+ready-head : (size : ℕ) (q : List ℕ) (b : ℕ → ℕ) (x n : ℕ) (p : Place) (w l : ℕ) → IsBehind x p w l → IsAt size q b n p w l → ((a : ℕ) → Owed size q b a n n → ⊥) → IsHead p 1
+ready-head size q b x n Out w l h at free = absurd h
+ready-head size q b x n Cleared w l h at free = absurd h
+ready-head size q b x n (Swapped a) w l h at free = absurd (free a at)
+ready-head size q b x n (Linking a) w l h at free = absurd (free a at)
+ready-head size q b x n Waiting w l h at free = refl
+ready-head size q b x n (Unlinked a) w l h at free = absurd (free a at)
+ready-head size q b x n (Splicing a m) w l h at free = absurd (free a at.0)
+ready-head size q b x n (Relinking a m) w l h at free = absurd h
+ready-head size q b x n Head w l h at free = absurd h
+ready-head size q b x n (Granting m) w l h at free = absurd h
 
 module _ (size tail : ℕ) (next prev locked : ℕ → ℕ) (place place' : ℕ → Place) (q : List ℕ) (t : ℕ) (r : QueueKept size tail next prev locked place q) where
   -- whoever leaves owes each link that it has
   abbrev pub Owns : Type 0
   Owns = (x y : ℕ) → Precedes q x y → (x ≡ t) ⊎ (y ≡ t) → r.debtor x ≡ suc t
 
-  owns-alone : place t ≡ Front → tail ≡ suc t → Owns
-  owns-alone is last x y h = let first : IsFirst q t = there size tail next prev locked place place' q t r Front is in
+  owns-alone : place t ≡ Head → tail ≡ suc t → Owns
+  owns-alone is last x y h = let first : IsFirst q t = there size tail next prev locked place place' q t r Head is in
       ⊎_elim (λ (e : x ≡ t). absurd (last-precedes 0 q t y r.once (sym r.ends ∙ last) (subst (λ (v : ℕ). Precedes q v y) e h))) (λ (e : y ≡ t). absurd (first-before q x t r.once first (subst (Precedes q x) e h)))
 
   owns-granting : (n : ℕ) → place t ≡ Granting n → Owns
@@ -51,7 +51,7 @@ module _ (size tail : ℕ) (next prev locked : ℕ → ℕ) (place place' : ℕ 
       zero-link x zero is debt = is
       zero-link x (suc y) is debt = absurd (no-code t (r.debtor x) (r.links x y is).1 debt)
 
-  pub leaves-alone : place t ≡ Front → tail ≡ suc t → OwnsLinks next place q t
+  pub leaves-alone : place t ≡ Head → tail ≡ suc t → OwnsLinks next place q t
   leaves-alone is last = owns-links (owns-alone is last)
 
   pub leaves-granting : (n : ℕ) → place t ≡ Granting n → OwnsLinks next place q t
@@ -70,13 +70,13 @@ module _ (size tail : ℕ) (next prev locked : ℕ → ℕ) (place place' : ℕ 
     links = r.links;
     owed = λ x y h z. let d = r.owed x y h z in let F : ℕ → Place → Type 0 = λ u p. Owes u p x y in (d.0, d.1, carry place place' t Out Cleared is s F F (λ k. k) (λ u n p k. k) d.0 d.2);
     behind = λ x y h. carry place place' t Out Cleared is s (λ u p. IsBehind x p (prev u) (locked u)) (λ u p. IsBehind x p (prev u) (locked' u)) (λ k. k) (λ d n p k. subst (IsBehind x p (prev d)) (sym (set.1 d n)) k) y (r.behind x y h);
-    front = λ u f. carry place place' t Out Cleared is s (λ u p. IsHead p (locked u)) (λ u p. IsHead p (locked' u)) (λ k. k) (λ d n p k. subst (IsHead p) (sym (set.1 d n)) k) u (r.front u f);
+    head = λ u f. carry place place' t Out Cleared is s (λ u p. IsHead p (locked u)) (λ u p. IsHead p (locked' u)) (λ k. k) (λ d n p k. subst (IsHead p) (sym (set.1 d n)) k) u (r.head u f);
     each = λ u. carry place place' t Out Cleared is s (λ u p. IsAt size q r.debtor u p (prev u) (locked u)) (λ u p. IsAt size q r.debtor u p (prev u) (locked' u)) (λ k. (k, set.0))
         (λ d n p k. subst (IsAt size q r.debtor d p (prev d)) (sym (set.1 d n)) k) u (r.each u);
   }
 
   -- it swaps the tail of an empty queue
-  pub enters-first : place t ≡ Cleared → tail ≡ 0 → t < size → Sets place place' t Front → QueueKept size (suc t) next prev locked place' (q ++ t ∷ [])
+  pub enters-first : place t ≡ Cleared → tail ≡ 0 → t < size → Sets place place' t Head → QueueKept size (suc t) next prev locked place' (q ++ t ∷ [])
   enters-first is free small s = let none : q ≡ [] = last-none q (sym r.ends ∙ free) in let N : (x y : ℕ) → Precedes q x y → ⊥ = λ x y h. subst (λ (z : List ℕ). Precedes z x y) none h in
       let M : (u : ℕ) → Has q u → ⊥ = λ u m. subst (λ (z : List ℕ). Has z u) none m in
       let N' : (x y : ℕ) → Precedes (q ++ t ∷ []) x y → ⊥ = λ x y h. ⊎_elim (N x y) (λ (k : (last_from 0 q ≡ suc x) × (t ≡ y)). let e = ap (last_from 0) none in let l = k.0 in omega (arith, e, l)) (snoc-precedes 0 q t x y h) in record {
@@ -87,8 +87,8 @@ module _ (size tail : ℕ) (next prev locked : ℕ → ℕ) (place place' : ℕ 
         links = λ x y e. absurd (N x y ((r.links x y e).0));
         owed = λ x y h z. absurd (N' x y h);
         behind = λ x y h. absurd (N' x y h);
-        front = λ u f. ⊎_elim (λ k. absurd (M u (first-has q u k))) (λ (k : (q ≡ []) × (t ≡ u)). subst (λ (z : ℕ). IsHead (place' z) (locked z)) k.1 (subst (λ (p : Place). IsHead p (locked t)) (sym s.0) tt)) (snoc-first q t u f);
-        each = λ u. carry place place' t Cleared Front is s (λ u p. IsAt size q r.debtor u p (prev u) (locked u)) (λ u p. IsAt size (q ++ t ∷ []) r.debtor u p (prev u) (locked u))
+        head = λ u f. ⊎_elim (λ k. absurd (M u (first-has q u k))) (λ (k : (q ≡ []) × (t ≡ u)). subst (λ (z : ℕ). IsHead (place' z) (locked z)) k.1 (subst (λ (p : Place). IsHead p (locked t)) (sym s.0) tt)) (snoc-first q t u f);
+        each = λ u. carry place place' t Cleared Head is s (λ u p. IsAt size q r.debtor u p (prev u) (locked u)) (λ u p. IsAt size (q ++ t ∷ []) r.debtor u p (prev u) (locked u))
             (λ _. subst (λ (z : List ℕ). IsFirst (z ++ t ∷ []) t) (sym none) refl)
             (λ d n p k. at-keeps size q (q ++ t ∷ []) r.debtor r.debtor d p (prev d) (prev d) (locked d) (locked d) (λ x y h e. absurd (N x y h)) (λ m. absurd (M d m))
             (λ o. ((λ m. ⊎_elim o (λ (e : t ≡ d). n (sym e)) (snoc-has q t d m)), λ z. z)) (λ f. absurd (M d (first-has q d f))) (λ c. c) k) u (r.each u);
@@ -113,8 +113,8 @@ module _ (size tail : ℕ) (next prev locked : ℕ → ℕ) (place place' : ℕ 
             (λ (k : Precedes q x y). let F : ℕ → Place → Type 0 = λ u p. IsBehind x p (prev u) (locked u) in carry place place' t Cleared (Swapped z) is s F F (λ k. absurd k) (λ u n p k. k) y (r.behind x y k))
             (λ (k : (last_from 0 q ≡ suc x) × (t ≡ y)). let xz : z ≡ x = same-task z x (sym ends ∙ k.0) in subst (λ (v : ℕ). IsBehind x (place' v) (prev v) (locked v)) k.1 (subst (λ (p : Place). IsBehind x p (prev t) (locked t)) (sym s.0) (xz, out.1)))
             (snoc-precedes 0 q t x y h);
-        front = λ u f. ⊎_elim
-            (λ (k : IsFirst q u). let F : ℕ → Place → Type 0 = λ u p. IsHead p (locked u) in carry place place' t Cleared (Swapped z) is s F F (λ k. absurd k) (λ u n p k. k) u (r.front u k))
+        head = λ u f. ⊎_elim
+            (λ (k : IsFirst q u). let F : ℕ → Place → Type 0 = λ u p. IsHead p (locked u) in carry place place' t Cleared (Swapped z) is s F F (λ k. absurd k) (λ u n p k. k) u (r.head u k))
             (λ (k : (q ≡ []) × (t ≡ u)). let e = ap (last_from 0) k.0 in absurd (omega (arith, e, ends))) (snoc-first q t u f);
         each = λ u. carry place place' t Cleared (Swapped z) is s (λ u p. IsAt size q r.debtor u p (prev u) (locked u)) (λ u p. IsAt size q' b' u p (prev u) (locked u)) (λ _. (snoc-links q t z ends, sets.0))
             (λ d n p k. at-keeps size q q' r.debtor b' d p (prev d) (prev d) (locked d) (locked d) (λ x y h e. (precedes-snoc q t x y h, same x y h ∙ e)) (has-snoc q t d)
@@ -132,7 +132,7 @@ module _ (size tail : ℕ) (next prev locked : ℕ → ℕ) (place place' : ℕ 
     owed = λ x y h z. let d = r.owed x y h z in let F : ℕ → Place → Type 0 = λ u p. Owes u p x y in (d.0, d.1, carry place place' t (Swapped p) (Linking p) is s F F (λ k. k) (λ u n p k. k) d.0 d.2);
     behind = λ x y h. carry place place' t (Swapped p) (Linking p) is s (λ u p. IsBehind x p (prev u) (locked u)) (λ u p. IsBehind x p (prev' u) (locked u)) (λ k. (set.0 ∙ ap suc k.0, k.1))
         (λ d n p k. subst (λ (w : ℕ). IsBehind x p w (locked d)) (sym (set.1 d n)) k) y (r.behind x y h);
-    front = keeps-front size tail next prev locked place place' q t r (Swapped p) (Linking p) is s (λ _ k. k);
+    head = keeps-head size tail next prev locked place place' q t r (Swapped p) (Linking p) is s (λ _ k. k);
     each = λ u. carry place place' t (Swapped p) (Linking p) is s (λ u p. IsAt size q r.debtor u p (prev u) (locked u)) (λ u p. IsAt size q r.debtor u p (prev' u) (locked u)) (λ k. k)
         (λ d n p k. subst (λ (w : ℕ). IsAt size q r.debtor d p w (locked d)) (sym (set.1 d n)) k) u (r.each u);
   }
@@ -145,7 +145,7 @@ module _ (size tail : ℕ) (next prev locked : ℕ → ℕ) (place place' : ℕ 
       (λ b'. (right-has q p t at.0, (p, back.0, r.inside p (left-has q p t at.0))))
 
   -- it finds itself granted
-  pub sees-grant : place t ≡ Waiting → locked t ≡ 1 → Sets place place' t Front → IsFirst q t × QueueKept size tail next prev locked place' q
+  pub sees-grant : place t ≡ Waiting → locked t ≡ 1 → Sets place place' t Head → IsFirst q t × QueueKept size tail next prev locked place' q
   sees-grant is one s = let at : Has q t × IsCode size (prev t) = there size tail next prev locked place place' q t r Waiting is in
       let not : (x : ℕ) → Precedes q x t → ⊥ = λ x h. let back : (prev t ≡ suc x) × (locked t ≡ 0) = subst (λ (v : Place). IsBehind x v (prev t) (locked t)) is (r.behind x t h) in no-one (locked t) back.1 one in
       let first : IsFirst q t = ⊎_elim (λ f. f) (λ h. absurd (not h.0 h.1)) (has-cases q t at.0) in (
@@ -156,28 +156,28 @@ module _ (size tail : ℕ) (next prev locked : ℕ → ℕ) (place place' : ℕ 
           ends = r.ends;
           inside = r.inside;
           links = r.links;
-          owed = λ x y h z. let d = r.owed x y h z in let F : ℕ → Place → Type 0 = λ u p. Owes u p x y in (d.0, d.1, carry place place' t Waiting Front is s F F (λ k. k) (λ u n p k. k) d.0 d.2);
-          behind = λ x y h. let F : ℕ → Place → Type 0 = λ u p. Precedes q x u → IsBehind x p (prev u) (locked u) in carry place place' t Waiting Front is s F F (λ _ g. not x g) (λ u n p k. k) y (λ _. r.behind x y h) h;
-          front = keeps-front size tail next prev locked place place' q t r Waiting Front is s (λ _ _. tt);
-          each = keeps-each size tail next prev locked place place' q t r Waiting Front is s r.debtor (λ x y u n h e. e) first;
+          owed = λ x y h z. let d = r.owed x y h z in let F : ℕ → Place → Type 0 = λ u p. Owes u p x y in (d.0, d.1, carry place place' t Waiting Head is s F F (λ k. k) (λ u n p k. k) d.0 d.2);
+          behind = λ x y h. let F : ℕ → Place → Type 0 = λ u p. Precedes q x u → IsBehind x p (prev u) (locked u) in carry place place' t Waiting Head is s F F (λ _ g. not x g) (λ u n p k. k) y (λ _. r.behind x y h) h;
+          head = keeps-head size tail next prev locked place place' q t r Waiting Head is s (λ _ _. tt);
+          each = keeps-each size tail next prev locked place place' q t r Waiting Head is s r.debtor (λ x y u n h e. e) first;
         },
       )
 
-  -- the front exchanges the tail for 0
-  pub lets-go : place t ≡ Front → tail ≡ suc t → Sets place place' t Out → QueueKept size 0 next prev locked place' (without t q)
-  lets-go is last s = let first : IsFirst q t = there size tail next prev locked place place' q t r Front is in let ends : last_from 0 q ≡ suc t = sym r.ends ∙ last in let none : without t q ≡ [] = alone q t r.once first ends in
-      removes size tail next prev locked place place' q t r Front Out 0 prev locked is s (sym (ap (last_from 0) none))
+  -- the head exchanges the tail for 0
+  pub lets-go : place t ≡ Head → tail ≡ suc t → Sets place place' t Out → QueueKept size 0 next prev locked place' (without t q)
+  lets-go is last s = let first : IsFirst q t = there size tail next prev locked place place' q t r Head is in let ends : last_from 0 q ≡ suc t = sym r.ends ∙ last in let none : without t q ≡ [] = alone q t r.once first ends in
+      removes size tail next prev locked place place' q t r Head Out 0 prev locked is s (sym (ap (last_from 0) none))
       (owns-alone is last)
       (λ x y n m k. k) (λ x y h k. absurd (first-before q x t r.once first h))
       (λ x y h. absurd (subst (λ (v : List ℕ). Precedes v x y) none h)) (λ u f. absurd (subst (λ (v : List ℕ). IsFirst v u) none f))
       (λ u c. c) (λ u o z. z) (λ m. (kept-has q t t r.once m).1 refl)
 
-  -- the front takes its own link
-  pub takes-own : (n : ℕ) (next' : ℕ → ℕ) → place t ≡ Front → next t ≡ suc n → Sets next next' t 0 → Sets place place' t (Granting n) → QueueKept size tail next' prev locked place' q
-  takes-own n next' is link set s = let first : IsFirst q t = there size tail next prev locked place place' q t r Front is in
-      takes size tail next prev locked place place' q t r Front (Granting n) t n next' is s link set (λ a c k. absurd k) (refl, refl) (λ a k. k) (λ _ k. tt) (λ b' sets. (first, ((r.links t n link).0, sets.0)))
+  -- the head takes its own link
+  pub takes-own : (n : ℕ) (next' : ℕ → ℕ) → place t ≡ Head → next t ≡ suc n → Sets next next' t 0 → Sets place place' t (Granting n) → QueueKept size tail next' prev locked place' q
+  takes-own n next' is link set s = let first : IsFirst q t = there size tail next prev locked place place' q t r Head is in
+      takes size tail next prev locked place place' q t r Head (Granting n) t n next' is s link set (λ a c k. absurd k) (refl, refl) (λ a k. k) (λ _ k. tt) (λ b' sets. (first, ((r.links t n link).0, sets.0)))
 
-  -- the front grants the next
+  -- the head grants the next
   pub grants : (n : ℕ) (locked' : ℕ → ℕ) → place t ≡ Granting n → Sets locked locked' n 1 → Sets place place' t Out → QueueKept size tail next prev locked' place' (without t q)
   grants n locked' is set s = let at : IsFirst q t × Owed size q r.debtor t n t = there size tail next prev locked place place' q t r (Granting n) is in
       let alone' : (x : ℕ) → Precedes q x t → ⊥ = λ x h. first-before q x t r.once at.0 h in let apart : n ≢ t = λ e. precedes-apart q t r.once (subst (Precedes q t) e at.1.0) in
@@ -190,7 +190,7 @@ module _ (size tail : ℕ) (next prev locked : ℕ → ℕ) (place place' : ℕ 
       (λ k. absurd (alone' x k.0)) (kept-precedes q t x y h))
       (λ u f. ⊎_elim (λ (k : IsFirst q u). absurd ((kept-has q t u r.once (first-has (without t q) u f)).1 (first-same q u t k at.0)))
       (λ k. let is-n : n ≡ u = same-successor q t n u r.once at.1.0 k.1 in subst (λ (v : ℕ). IsHead (place' v) (locked' v)) is-n (subst (IsHead (place' n)) (sym set.0) (subst (λ (p : Place). IsHead p 1) (sym (s.1 n apart))
-      (ready-front size q r.debtor t n (place n) (prev n) (locked n) (r.behind t n at.1.0) (r.each n) (λ a o. apart (same-task n t (sym o.1 ∙ (ap r.debtor (same-predecessor q a t n r.once o.0 at.1.0) ∙ at.1.1)))))))) (kept-first q t u f))
+      (ready-head size q r.debtor t n (place n) (prev n) (locked n) (r.behind t n at.1.0) (r.each n) (λ a o. apart (same-task n t (sym o.1 ∙ (ap r.debtor (same-predecessor q a t n r.once o.0 at.1.0) ∙ at.1.1)))))))) (kept-first q t u f))
       (λ u c. c) (λ u o z. set.1 u (λ e. o (subst (Has q) (sym e) (right-has q t n at.1.0))) ∙ z) (λ m. (kept-has q t t r.once m).1 refl)
 
   -- the last exchanges the tail for the one before it
@@ -203,7 +203,7 @@ module _ (size tail : ℕ) (next prev locked : ℕ → ℕ) (place place' : ℕ 
       (λ x y h. ⊎_elim
       (λ (k : Precedes q x y). let not : y ≢ t = (kept-has q t y r.once (right-has (without t q) x y h)).1 in subst (λ (v : Place). IsBehind x v (prev y) (locked y)) (sym (s.1 y not)) (r.behind x y k))
       (λ k. absurd (none y k.1)) (kept-precedes q t x y h))
-      (λ u f. ⊎_elim (λ (k : IsFirst q u). let not : u ≢ t = (kept-has q t u r.once (first-has (without t q) u f)).1 in subst (λ (v : Place). IsHead v (locked u)) (sym (s.1 u not)) (r.front u k))
+      (λ u f. ⊎_elim (λ (k : IsFirst q u). let not : u ≢ t = (kept-has q t u r.once (first-has (without t q) u f)).1 in subst (λ (v : Place). IsHead v (locked u)) (sym (s.1 u not)) (r.head u k))
       (λ k. absurd (none u k.1)) (kept-first q t u f))
       (λ u c. c) (λ u o z. z) (λ m. (kept-has q t t r.once m).1 refl)
 

@@ -1,7 +1,7 @@
 -- The rule of a spin queue by itself: its words by task, and where each task is. It implies what is stated of the queue, and each step keeps it.
 use Rattle.std.specs.Prelude.{◌≡◌, ◌≢◌, ℕ, suc, ◌<◌, ◌==◌, if◌then◌else◌, List}
 use Rattle.osq_nodes.specs.declared.node.Place.{Place}
-use Rattle.osq_nodes.specs.declared.node.Place.TheVariants.{Out, Cleared, Swapped, Linking, Waiting, Unlinked, Splicing, Relinking, Front, Granting}
+use Rattle.osq_nodes.specs.declared.node.Place.TheVariants.{Out, Cleared, Swapped, Linking, Waiting, Unlinked, Splicing, Relinking, Head, Granting}
 use Rattle.lock_core.specs.NodeLists.{Has, IsFirst, Precedes, IsOnce, last_from}
 use Rattle.osq_nodes.specs.Words.{tail_in, next_in, prev_in, locked_in}
 use Rattle.osq_nodes.specs.OsqPlaces.{Owes}
@@ -16,10 +16,10 @@ IsBehind x Waiting prev locked = (prev ≡ suc x) × (locked ≡ 0)
 IsBehind x (Unlinked p) prev locked = (prev ≡ suc x) × (locked ≡ 0)
 IsBehind x (Splicing p n) prev locked = (prev ≡ suc x) × (locked ≡ 0)
 IsBehind x (Relinking p n) prev locked = ⊥
-IsBehind x Front prev locked = ⊥
+IsBehind x Head prev locked = ⊥
 IsBehind x (Granting n) prev locked = ⊥
 
--- of the first: it is the front, or granted
+-- of the first: it is the head, or granted
 abbrev pub IsHead : Place → ℕ → Type 0
 IsHead Out locked = ⊥
 IsHead Cleared locked = ⊥
@@ -29,7 +29,7 @@ IsHead Waiting locked = locked ≡ 1
 IsHead (Unlinked p) locked = ⊥
 IsHead (Splicing p n) locked = ⊥
 IsHead (Relinking p n) locked = ⊥
-IsHead Front locked = Unit {0}
+IsHead Head locked = Unit {0}
 IsHead (Granting n) locked = Unit {0}
 
 -- the word is the code of a task
@@ -51,7 +51,7 @@ module _ (size : ℕ) (q : List ℕ) (debtor : ℕ → ℕ) where
   IsAt t (Unlinked p) prev locked = Owed p t t
   IsAt t (Splicing p n) prev locked = Owed p t t × Owed t n t
   IsAt t (Relinking p n) prev locked = (¬ Has q t) × Owed p n t
-  IsAt t Front prev locked = IsFirst q t
+  IsAt t Head prev locked = IsFirst q t
   IsAt t (Granting n) prev locked = IsFirst q t × Owed t n t
 
 -- f' is f but for its value at i
@@ -71,7 +71,7 @@ pub record QueueKept (size tail : ℕ) (next prev locked : ℕ → ℕ) (place :
   pub links : (x y : ℕ) → next x ≡ suc y → Precedes queue x y × (debtor x ≡ 0)
   pub owed : (x y : ℕ) → Precedes queue x y → next x ≡ 0 → (d : ℕ) × (debtor x ≡ suc d) × Owes d (place d) x y
   pub behind : (x y : ℕ) → Precedes queue x y → IsBehind x (place y) (prev y) (locked y)
-  pub front : (t : ℕ) → IsFirst queue t → IsHead (place t) (locked t)
+  pub head : (t : ℕ) → IsFirst queue t → IsHead (place t) (locked t)
   pub each : (t : ℕ) → IsAt size queue debtor t (place t) (prev t) (locked t)
 
 -- the same of the words of a table's locks

@@ -1,7 +1,7 @@
 -- What the place of a task says of it.
 use Rattle.std.specs.Prelude.{◌≡◌, ℕ, suc, ◌⊎◌, ◌==◌, Bool, true, false, if◌then◌else◌, List, [], ◌∷◌, slice_index, Option, None, Some}
 use Rattle.osq_nodes.specs.declared.node.Place.{Place}
-use Rattle.osq_nodes.specs.declared.node.Place.TheVariants.{Out, Cleared, Swapped, Linking, Waiting, Unlinked, Splicing, Relinking, Front, Granting}
+use Rattle.osq_nodes.specs.declared.node.Place.TheVariants.{Out, Cleared, Swapped, Linking, Waiting, Unlinked, Splicing, Relinking, Head, Granting}
 use Rattle.osq_nodes.specs.declared.node.Node.{Node}
 
 -- the code of the task that a node stands behind: what its tail swap found until it has stored its own `prev`, and that word from then on
@@ -14,21 +14,21 @@ back_of Waiting prev = prev
 back_of (Unlinked p) prev = prev
 back_of (Splicing p n) prev = prev
 back_of (Relinking p n) prev = prev
-back_of Front prev = prev
+back_of Head prev = prev
 back_of (Granting n) prev = prev
 
--- a front node: one that found the tail empty, was granted, holds or is releasing
-abbrev pub IsFrontNode : Place → ℕ → Type 0
-IsFrontNode Out locked = ⊥
-IsFrontNode Cleared locked = ⊥
-IsFrontNode (Swapped p) locked = locked ≡ 1
-IsFrontNode (Linking p) locked = locked ≡ 1
-IsFrontNode Waiting locked = locked ≡ 1
-IsFrontNode (Unlinked p) locked = locked ≡ 1
-IsFrontNode (Splicing p n) locked = locked ≡ 1
-IsFrontNode (Relinking p n) locked = ⊥
-IsFrontNode Front locked = Unit {0}
-IsFrontNode (Granting n) locked = Unit {0}
+-- a head node: one that found the tail empty, was granted, holds or is releasing
+abbrev pub IsHeadNode : Place → ℕ → Type 0
+IsHeadNode Out locked = ⊥
+IsHeadNode Cleared locked = ⊥
+IsHeadNode (Swapped p) locked = locked ≡ 1
+IsHeadNode (Linking p) locked = locked ≡ 1
+IsHeadNode Waiting locked = locked ≡ 1
+IsHeadNode (Unlinked p) locked = locked ≡ 1
+IsHeadNode (Splicing p n) locked = locked ≡ 1
+IsHeadNode (Relinking p n) locked = ⊥
+IsHeadNode Head locked = Unit {0}
+IsHeadNode (Granting n) locked = Unit {0}
 
 -- the node of a task at this place stands in the queue
 abbrev pub is_queued : Place → Bool
@@ -40,7 +40,7 @@ is_queued Waiting = true
 is_queued (Unlinked p) = true
 is_queued (Splicing p n) = true
 is_queued (Relinking p n) = false
-is_queued Front = true
+is_queued Head = true
 is_queued (Granting n) = true
 
 -- the task d, at this place, owes the link from x to y: it stores it, or leaves, before it returns
@@ -53,12 +53,12 @@ Owes d Waiting x y = ⊥
 Owes d (Unlinked p) x y = (p ≡ x) × (d ≡ y)
 Owes d (Splicing p n) x y = ((p ≡ x) × (d ≡ y)) ⊎ ((d ≡ x) × (n ≡ y))
 Owes d (Relinking p n) x y = (p ≡ x) × (n ≡ y)
-Owes d Front x y = ⊥
+Owes d Head x y = ⊥
 Owes d (Granting n) x y = (d ≡ x) × (n ≡ y)
 
--- the place of a task that waits for a successor, or to be the last: it is the front, or has this predecessor and is leaving
+-- the place of a task that waits for a successor, or to be the last: it is the head, or has this predecessor and is leaving
 abbrev pub waits_at : Option ℕ → Place
-waits_at None = Front
+waits_at None = Head
 waits_at (Some p) = Unlinked p
 
 -- its place once it has its successor
@@ -69,13 +69,13 @@ takes_at (Some p) n = Splicing p n
 -- the step between these places is a swap of the tail
 abbrev pub is_swap : Place → Place → Bool
 is_swap Cleared (Swapped p) = true
-is_swap Cleared Front = true
+is_swap Cleared Head = true
 is_swap p p' = false
 
--- the step between them makes the task the front
+-- the step between them makes the task the head
 abbrev pub is_coming_first : Place → Place → Bool
-is_coming_first Front p' = false
-is_coming_first p Front = true
+is_coming_first Head p' = false
+is_coming_first p Head = true
 is_coming_first p p' = false
 
 -- what a moment keeps of what a pass knows: its place as three numbers, its swaps, and what the last one found
@@ -88,7 +88,7 @@ numbers_of Waiting s f = 4 ∷ 0 ∷ 0 ∷ s ∷ f ∷ []
 numbers_of (Unlinked p) s f = 5 ∷ p ∷ 0 ∷ s ∷ f ∷ []
 numbers_of (Splicing p n) s f = 6 ∷ p ∷ n ∷ s ∷ f ∷ []
 numbers_of (Relinking p n) s f = 7 ∷ p ∷ n ∷ s ∷ f ∷ []
-numbers_of Front s f = 8 ∷ 0 ∷ 0 ∷ s ∷ f ∷ []
+numbers_of Head s f = 8 ∷ 0 ∷ 0 ∷ s ∷ f ∷ []
 numbers_of (Granting n) s f = 9 ∷ 0 ∷ n ∷ s ∷ f ∷ []
 
 abbrev pub node_marks : Node → List ℕ
@@ -96,7 +96,7 @@ node_marks x = numbers_of x.place x.swaps x.found
 
 abbrev pub place_by : ℕ → ℕ → ℕ → Place
 place_by kind p n = if kind == 1 then Cleared else if kind == 2 then Swapped p else if kind == 3 then Linking p else if kind == 4 then Waiting else if kind == 5 then Unlinked p
-    else if kind == 6 then Splicing p n else if kind == 7 then Relinking p n else if kind == 8 then Front else if kind == 9 then Granting n else Out
+    else if kind == 6 then Splicing p n else if kind == 7 then Relinking p n else if kind == 8 then Head else if kind == 9 then Granting n else Out
 
 -- the place that they say
 abbrev pub place_in : List ℕ → Place

@@ -62,14 +62,14 @@ pub record OsqKept (k : Plan) (ws : List ℕ) (vs : List V) : Type 0 where
 abbrev pub node_after : Place → Node → Place → ℕ → Node
 node_after from x p found = record { place = p; swaps = if is_swap from p then x.swaps + 1 else x.swaps; found = if is_swap from p then found else x.found }
 
--- and of how often it has been the front
+-- and of how often it has been the head
 abbrev pub fronts_after : Place → Place → ℕ → ℕ
 fronts_after from p n = if is_coming_first from p then n + 1 else n
 
 abbrev pub stepped : Place → V → Place → ℕ → V
 stepped from v p found = record v { steps = v.steps + 1; fronts = fronts_after from p v.fronts; ext = node_after from v.ext p found }
 
--- What each step does to the pass that makes it: it counts its swaps of the tail, with what the last one found, and how often it has come to be the front.
+-- What each step does to the pass that makes it: it counts its swaps of the tail, with what the last one found, and how often it has come to be the head.
 pub record NodeStep (tail id : ℕ) (vs vs' : List V) : Type 0 where
   pub before : V
   pub after : V

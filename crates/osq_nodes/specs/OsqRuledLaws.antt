@@ -24,11 +24,11 @@ use Rattle.lock_core.proofs.HandLaws.{is_number-here, is_number-else}
 use Rattle.lock_core.specs.NodeLists.{Has, IsFirst, last_from}
 use Rattle.lock_core.specs.NodeListLaws.{first-has, right-has, last-none}
 use Rattle.osq_nodes.specs.declared.node.Place.{Place}
-use Rattle.osq_nodes.specs.declared.node.Place.TheVariants.{Out, Cleared, Swapped, Linking, Waiting, Unlinked, Splicing, Relinking, Front, Granting}
+use Rattle.osq_nodes.specs.declared.node.Place.TheVariants.{Out, Cleared, Swapped, Linking, Waiting, Unlinked, Splicing, Relinking, Head, Granting}
 use Rattle.osq_nodes.specs.declared.node.Node.{Node}
 use Rattle.osq_nodes.specs.OsqKept.{IsAt, RowKept}
-use Rattle.osq_nodes.specs.OsqPlaces.{IsFrontNode, is_swap, is_coming_first, is_queued, numbers_of, node_marks, place_in, swaps_in, found_in}
-use Rattle.osq_nodes.specs.Walks.{is-queue, are-linked, front-is, queue-same}
+use Rattle.osq_nodes.specs.OsqPlaces.{IsHeadNode, is_swap, is_coming_first, is_queued, numbers_of, node_marks, place_in, swaps_in, found_in}
+use Rattle.osq_nodes.specs.Walks.{is-queue, are-linked, head-is, queue-same}
 use Rattle.osq_nodes.specs.Words.{row_of, tail_in, next_in, prev_in, locked_in, next_at}
 use Rattle.osq_nodes.specs.OsqStated.{IsQueue, AreLinked, IsSpinQueue, Changes, seat_place, places}
 use Rattle.osq_nodes.specs.OsqRuled.{V, idle, table_at, Seated, OsqKept, NodeStep, OsqMoves, node_after, fronts_after}
@@ -51,7 +51,7 @@ place-back Waiting s f = refl
 place-back (Unlinked p) s f = refl
 place-back (Splicing p n) s f = refl
 place-back (Relinking p n) s f = refl
-place-back Front s f = refl
+place-back Head s f = refl
 place-back (Granting n) s f = refl
 
 -- the places of these views
@@ -73,7 +73,7 @@ swaps-back Waiting s f = (refl, refl)
 swaps-back (Unlinked p) s f = (refl, refl)
 swaps-back (Splicing p n) s f = (refl, refl)
 swaps-back (Relinking p n) s f = (refl, refl)
-swaps-back Front s f = (refl, refl)
+swaps-back Head s f = (refl, refl)
 swaps-back (Granting n) s f = (refl, refl)
 
 -- a seat without the task's number says nothing of it
@@ -104,7 +104,7 @@ never-swaps Waiting = refl
 never-swaps (Unlinked p) = refl
 never-swaps (Splicing p n) = refl
 never-swaps (Relinking p n) = refl
-never-swaps Front = refl
+never-swaps Head = refl
 never-swaps (Granting n) = refl
 
 never-comes : (p : Place) → is_coming_first p p ≡ false
@@ -116,7 +116,7 @@ never-comes Waiting = refl
 never-comes (Unlinked p) = refl
 never-comes (Splicing p n) = refl
 never-comes (Relinking p n) = refl
-never-comes Front = refl
+never-comes Head = refl
 never-comes (Granting n) = refl
 
 pub node-stays : (tail id : ℕ) (vs vs' : List V) (v u : V) → get_elem? vs id ≡ some v → get_elem? vs' id ≡ some u → u.ext ≡ v.ext → u.fronts ≡ v.fronts → NodeStep tail id vs vs'
@@ -229,7 +229,7 @@ osq-opens k wide zeros there = let zero_at : (i : ℕ) → get_or (row_of (fresh
     links = λ x y e. absurd (let z = zero_at (next_at x) in omega (arith, z, e));
     owed = λ x y h z. absurd h;
     behind = λ x y h. absurd h;
-    front = λ t f. absurd f;
+    head = λ t f. absurd f;
     each = λ t m. m;
   };
 }
@@ -270,7 +270,7 @@ place-stands size q b t Waiting w l at = at.0
 place-stands size q b t (Unlinked p) w l at = right-has q p t at.0
 place-stands size q b t (Splicing p n) w l at = right-has q p t at.0.0
 place-stands size q b t (Relinking p n) w l at = at.0
-place-stands size q b t Front w l at = first-has q t at
+place-stands size q b t Head w l at = first-has q t at
 place-stands size q b t (Granting n) w l at = first-has q t at.0
 
 -- a number beyond those of the tasks nobody has, and any other one pass at most
@@ -305,8 +305,8 @@ osq-states k ws vs r = let row : List ℕ = row_of ws in let said = places-said 
       empty = (λ none. r.kept.ends ∙ ap (λ (q : List ℕ). last_from 0 q) none, λ zero. last-none r.queue (sym r.kept.ends ∙ zero));
       inside = r.kept.inside;
       linked = subst (λ (place : ℕ → Place). AreLinked (next_in row) place r.queue) said (row-linked (length k) row r.place r.queue r.kept);
-      first = subst (λ (place : ℕ → Place). (t : ℕ) → IsFirst r.queue t → IsFrontNode (place t) (locked_in row t)) said (λ t is_first. front-is (r.place t) (locked_in row t) (r.kept.front t is_first));
-      front = subst (λ (place : ℕ → Place). (t : ℕ) → place t ≡ Front → IsFirst r.queue t) said (λ t e. subst (λ (p : Place). IsAt (length k) r.queue r.kept.debtor t p (prev_in row t) (locked_in row t)) e (r.kept.each t));
+      first = subst (λ (place : ℕ → Place). (t : ℕ) → IsFirst r.queue t → IsHeadNode (place t) (locked_in row t)) said (λ t is_first. head-is (r.place t) (locked_in row t) (r.kept.head t is_first));
+      head = subst (λ (place : ℕ → Place). (t : ℕ) → place t ≡ Head → IsFirst r.queue t) said (λ t e. subst (λ (p : Place). IsAt (length k) r.queue r.kept.debtor t p (prev_in row t) (locked_in row t)) e (r.kept.each t));
       stands = subst (λ (place : ℕ → Place). (t : ℕ) → MatchBool (is_queued (place t)) (Has r.queue t) (¬ Has r.queue t)) said (λ t. place-stands (length k) r.queue r.kept.debtor t (r.place t) (prev_in row t) (locked_in row t) (r.kept.each t));
       named = named-once k (site k ws) (map hand_of vs) r.site_holds;
     }

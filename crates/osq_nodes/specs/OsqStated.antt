@@ -7,16 +7,16 @@ use Rattle.lock_core.specs.Totals.{total}
 use Rattle.lock_core.specs.Views.{named_of}
 use Rattle.lock_core.specs.NodeLists.{Has, IsFirst, Precedes, IsOnce, without}
 use Rattle.osq_nodes.specs.declared.node.Place.{Place}
-use Rattle.osq_nodes.specs.declared.node.Place.TheVariants.{Out, Cleared, Splicing, Front, Granting}
+use Rattle.osq_nodes.specs.declared.node.Place.TheVariants.{Out, Cleared, Splicing, Head, Granting}
 use Rattle.osq_nodes.specs.Words.{code_in, row_of, tail_at, prev_at, locked_at, tail_in, next_in, prev_in, locked_in}
-use Rattle.osq_nodes.specs.OsqPlaces.{back_of, IsFrontNode, is_queued, Owes, waits_at, place_in}
+use Rattle.osq_nodes.specs.OsqPlaces.{back_of, IsHeadNode, is_queued, Owes, waits_at, place_in}
 
 module _ (prev locked : ℕ → ℕ) (place : ℕ → Place) where
-  -- the walk from a code, each time to the node that the last one stands behind, up to the first front node
+  -- the walk from a code, each time to the node that the last one stands behind, up to the first head node
   abbrev pub IsWalk : ℕ → List ℕ → Type 0
   IsWalk c [] = c ≡ 0
-  IsWalk c (x ∷ []) = (c ≡ suc x) × IsFrontNode (place x) (locked x)
-  IsWalk c (x ∷ y ∷ r) = (c ≡ suc x) × (¬ IsFrontNode (place x) (locked x)) × IsWalk (back_of (place x) (prev x)) (y ∷ r)
+  IsWalk c (x ∷ []) = (c ≡ suc x) × IsHeadNode (place x) (locked x)
+  IsWalk c (x ∷ y ∷ r) = (c ≡ suc x) × (¬ IsHeadNode (place x) (locked x)) × IsWalk (back_of (place x) (prev x)) (y ∷ r)
 
 -- the queue: that walk from the tail, read the other way round
 pub record IsQueue (tail : ℕ) (prev locked : ℕ → ℕ) (place : ℕ → Place) (queue : List ℕ) : Type 0 where
@@ -60,15 +60,15 @@ pub record IsSpinQueue (tasks : ℕ) (m : Moment) : Type 0 where
   pub empty : (queue ≡ [] → tail_in (row_at m) ≡ 0) × (tail_in (row_at m) ≡ 0 → queue ≡ [])
   pub inside : (t : ℕ) → Has queue t → t < tasks
   pub linked : AreLinked (next_in (row_at m)) (places_at m) queue
-  -- the first found no tail, or was told that it is the front
-  pub first : (t : ℕ) → IsFirst queue t → IsFrontNode (places_at m t) (locked_in (row_at m) t)
-  -- whoever was told that it is the front stands first, and a task stands in the queue exactly where its place says so
-  pub front : (t : ℕ) → places_at m t ≡ Front → IsFirst queue t
+  -- the first found no tail, or was told that it is the head
+  pub first : (t : ℕ) → IsFirst queue t → IsHeadNode (places_at m t) (locked_in (row_at m) t)
+  -- whoever was told that it is the head stands first, and a task stands in the queue exactly where its place says so
+  pub head : (t : ℕ) → places_at m t ≡ Head → IsFirst queue t
   pub stands : (t : ℕ) → MatchBool (is_queued (places_at m t)) (Has queue t) (¬ Has queue t)
   -- no two passes have one task's number
   pub named : (t : ℕ) → total (named_of t) m.hands ≤ 1
 
--- The three steps by which a task leaves: the exchange of the tail from its code to that of its predecessor, or to 0; its store of the predecessor's code in the `prev` of its successor; the front's store of 1 in the `locked` of its successor.
+-- The three steps by which a task leaves: the exchange of the tail from its code to that of its predecessor, or to 0; its store of the predecessor's code in the `prev` of its successor; the head's store of 1 in the `locked` of its successor.
 
 abbrev pub LeavesByTail : List ℕ → List ℕ → (ℕ → Place) → ℕ → Type 0
 LeavesByTail row row' place t = (prev : Option ℕ) × (place t ≡ waits_at prev) × (tail_in row ≡ suc t) × (row' ≡ slice_set row tail_at (code_in prev))

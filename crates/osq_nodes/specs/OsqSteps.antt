@@ -1,20 +1,20 @@
 -- What each step makes of what a pass knows.
 use Rattle.std.specs.Prelude.{◌≡◌, ℕ, zero, suc, ◌+◌, ◌-◌, ◌/◌, ◌==◌, ◌<◌, if◌then◌else◌}
 use Rattle.osq_nodes.specs.declared.node.Place.{Place}
-use Rattle.osq_nodes.specs.declared.node.Place.TheVariants.{Out, Cleared, Swapped, Linking, Waiting, Unlinked, Splicing, Relinking, Front, Granting}
+use Rattle.osq_nodes.specs.declared.node.Place.TheVariants.{Out, Cleared, Swapped, Linking, Waiting, Unlinked, Splicing, Relinking, Head, Granting}
 use Rattle.osq_nodes.specs.OsqRuled.{V, stepped}
 
 -- the pass goes on to a place
 abbrev pub placed : V → Place → V
 placed v p = record v { ext = record v.ext { place = p }; steps = v.steps + 1 }
 
--- it has become the front
+-- it has become the head
 abbrev pub fronted : V → V
-fronted v = record v { ext = record v.ext { place = Front }; steps = v.steps + 1; fronts = v.fronts + 1 }
+fronted v = record v { ext = record v.ext { place = Head }; steps = v.steps + 1; fronts = v.fronts + 1 }
 
 -- where a swap of the tail leads that found n
 abbrev pub swap_place : ℕ → Place
-swap_place zero = Front
+swap_place zero = Head
 swap_place (suc p) = Swapped p
 
 abbrev pub swapped : V → ℕ → V
@@ -22,7 +22,7 @@ swapped v n = stepped Cleared v (swap_place n) n
 
 -- where a load of the own `locked` leads that found n
 abbrev pub look_place : ℕ → Place
-look_place n = if n == 1 then Front else Waiting
+look_place n = if n == 1 then Head else Waiting
 
 -- where an exchange leads that found n in place of `old`
 abbrev pub try_place : Place → Place → ℕ → ℕ → Place

@@ -3,7 +3,7 @@ use Rattle.std.specs.Prelude.{◌≡◌, ◌≢◌, ℕ, List, []}
 use Rattle.lock_core.specs.declared.view.Moment.{Moment}
 use Rattle.lock_core.specs.NodeLists.{IsFirst, Precedes}
 use Rattle.osq_nodes.specs.Words.{next_in, locked_in}
-use Rattle.osq_nodes.specs.OsqPlaces.{IsFrontNode, Owes}
+use Rattle.osq_nodes.specs.OsqPlaces.{IsHeadNode, Owes}
 use Rattle.osq_nodes.specs.OsqStated.{IsSpinQueue, places_at, row_at}
 
 -- a link between neighbours that is 0 is owed by exactly one task
@@ -12,4 +12,4 @@ MissingLinksAreOwedOnce = (tasks : ℕ) (m : Moment) (r : IsSpinQueue tasks m) (
 
 -- a queue that isn't empty has a head: its first, which found no tail or was told
 abbrev pub QueueHasHead : Type 0
-QueueHasHead = (tasks : ℕ) (m : Moment) (r : IsSpinQueue tasks m) → r.queue ≢ [] → (t : ℕ) × IsFirst r.queue t × IsFrontNode (places_at m t) (locked_in (row_at m) t)
+QueueHasHead = (tasks : ℕ) (m : Moment) (r : IsSpinQueue tasks m) → r.queue ≢ [] → (t : ℕ) × IsFirst r.queue t × IsHeadNode (places_at m t) (locked_in (row_at m) t)

@@ -1,4 +1,4 @@
-//! The optimistic spin queue: one front, the rest linked behind it in order.
+//! The optimistic spin queue: one head, the rest linked behind it in order.
 #![tactic(auto)]
 
 mod laws;

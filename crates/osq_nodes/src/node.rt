@@ -21,8 +21,8 @@ pub enum Place {
     /// It has left from between these two: it stores the code of the second in the `next` of the
     /// first.
     Relinking(u32, u32),
-    /// It is the front.
-    Front,
+    /// It is the head.
+    Head,
     /// It took the code of its successor out of its own `next`, and grants it next.
     Granting(u32),
 }

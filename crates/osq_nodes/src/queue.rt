@@ -4,7 +4,7 @@ ghost use Rattle.word_bits.specs.declared.TheConstants.{MAX_TASKS};
 ghost use Rattle.lock_core.specs.SiteHandles.{plan_of};
 ghost use Rattle.lock_core.specs.Pasts.{BeganWith, EachMoment, Ran};
 ghost use Rattle.lock_core.specs.Views.{merged, ticked};
-ghost use Rattle.osq_nodes.specs.declared.node.Place.TheVariants.{Out, Waiting, Front};
+ghost use Rattle.osq_nodes.specs.declared.node.Place.TheVariants.{Out, Waiting, Head};
 ghost use Rattle.osq_nodes.specs.OsqPlaces.{node_marks, waits_at, takes_at};
 ghost use Rattle.osq_nodes.specs.OsqRuled.{IsOsqMove, newest, no_calls};
 ghost use Rattle.osq_nodes.specs.OsqStated.{HasBecome, IsSpinQueue};
@@ -113,7 +113,7 @@ impl Osq {
     }
 
     /// Enters the queue, and answers the predecessor, or None where the queue was empty: then the
-    /// pass is its front.
+    /// pass is its head.
     pub fn enter(&self, pass: &mut OsqPass, task: u32) -> Option<u32>
         requires own { SitsAt self.now pass.old }
         requires mine { task_in pass.old ≡ Some task }
@@ -126,7 +126,7 @@ impl Osq {
         ensures found { SawTail pass.old pass.new }
         ensures first { MatchOption result (found_in pass.new ≡ 0)
             (λ prev. found_in pass.new ≡ prev + 1) }
-        ensures place { MatchOption result (place_in pass.new ≡ Front)
+        ensures place { MatchOption result (place_in pass.new ≡ Head)
             (λ prev. place_in pass.new ≡ Waiting) }
         ensures fronts { MatchOption result (fronts_in pass.new ≡ fronts_in pass.old + 1)
             (λ prev. fronts_in pass.new ≡ fronts_in pass.old) }
@@ -147,7 +147,7 @@ impl Osq {
     }
 
     /// Waits until the task is the last, and leaves, or until it has a successor, whose code it
-    /// takes out of its own `next`. `prev` is its predecessor, and None where it is the front. The
+    /// takes out of its own `next`. `prev` is its predecessor, and None where it is the head. The
     /// kernel's `osq_wait_next`.
     pub fn wait_next<W: Wait>(
         &self,
@@ -185,7 +185,7 @@ impl Osq {
         unreachable!()
     }
 
-    /// Enters the queue, and returns as its front.
+    /// Enters the queue, and returns as its head.
     pub fn wait<W: Wait>(&self, rt: &W, pass: &mut OsqPass)
         requires own { SitsAt self.now pass.old }
         requires numbered { IsSome (task_in pass.old) }
@@ -194,7 +194,7 @@ impl Osq {
         ensures number { KeepsNumber pass.old pass.new }
         ensures goes_on { KeepsPast pass.old pass.new }
         ensures last { IsLatest pass.new }
-        ensures front { place_in pass.new ≡ Front }
+        ensures head { place_in pass.new ≡ Head }
         ensures fronts { fronts_in pass.new ≡ fronts_in pass.old + 1 }
         ensures swapped { swaps_in pass.new ≡ swaps_in pass.old + 1 }
         ensures found { SawTail pass.old pass.new }
@@ -216,12 +216,12 @@ impl Osq {
         unreachable!()
     }
 
-    /// Leaves the queue as its front, and grants the successor, where it has one. The kernel's
+    /// Leaves the queue as its head, and grants the successor, where it has one. The kernel's
     /// `osq_unlock`.
     pub fn unlock<W: Wait>(&self, rt: &W, pass: &mut OsqPass)
         requires own { SitsAt self.now pass.old }
         requires numbered { IsSome (task_in pass.old) }
-        requires front { place_in pass.old ≡ Front }
+        requires head { place_in pass.old ≡ Head }
         ensures own { SitsAt self.now pass.new }
         ensures number { KeepsNumber pass.old pass.new }
         ensures goes_on { KeepsPast pass.old pass.new }

@@ -46,7 +46,7 @@ pub fn clear_next(osq: &Osq, pass: &mut OsqPass, task: u32)
 }
 
 /// Swaps the tail for the own code. The answer is the code of the predecessor, or 0 where the queue
-/// was empty: then the pass is the front.
+/// was empty: then the pass is the head.
 pub fn swap_tail(osq: &Osq, pass: &mut OsqPass, task: u32) -> u64
     requires own { SitsAt osq.now pass.old }
     requires mine { task_in pass.old ≡ Some task }
@@ -96,7 +96,7 @@ pub fn link(osq: &Osq, pass: &mut OsqPass, task: u32, prev: u32)
     step::<Brand>(osq, pass, next_of(prev), Op::Store(code(task)));
 }
 
-/// Loads the own `locked`, and says whether the pass is the front.
+/// Loads the own `locked`, and says whether the pass is the head.
 pub fn is_granted(osq: &Osq, pass: &mut OsqPass, task: u32) -> bool
     requires own { SitsAt osq.now pass.old }
     requires mine { task_in pass.old ≡ Some task }
@@ -203,7 +203,7 @@ pub fn take_next(osq: &Osq, pass: &mut OsqPass, task: u32, prev: Option<u32>) ->
     }
 }
 
-/// Stores 1 in the `locked` of the successor, which is then the front: the task has left.
+/// Stores 1 in the `locked` of the successor, which is then the head: the task has left.
 pub fn grant(osq: &Osq, pass: &mut OsqPass, task: u32, next: u32)
     requires own { SitsAt osq.now pass.old }
     requires mine { task_in pass.old ≡ Some task }

@@ -10,18 +10,18 @@ use Rattle.osq_nodes.specs.declared.pass.OsqPass.{OsqPass}
 use Rattle.osq_nodes.specs.declared.queue.Osq.{Osq}
 use Rattle.osq_nodes.specs.OsqHandles.{fronts_in, past_of, place_in, swaps_in, view_of, SitsAt, StatesOwn}
 use Rattle.osq_nodes.specs.OsqStated.{IsSpinQueue}
-use Rattle.osq_unqueue.specs.Fronts.{HasOneFront, IsOutOfQueue}
+use Rattle.osq_unqueue.specs.Fronts.{HasOneHead, IsOutOfQueue}
 
 first-once : (queue : List ℕ) (t u : ℕ) → IsFirst queue t → IsFirst queue u → t ≡ u
 first-once [] t u first other = absurd first
 first-once (x ∷ queue) t u first other = sym first ∙ other
 
-one-front : (tasks : ℕ) (m : Moment) → IsSpinQueue tasks m → HasOneFront m
-one-front tasks m is t u front other = first-once is.queue t u (is.front t front) (is.front u other)
+one-head : (tasks : ℕ) (m : Moment) → IsSpinQueue tasks m → HasOneHead m
+one-head tasks m is t u head other = first-once is.queue t u (is.head t head) (is.head u other)
 
-pub each-front : (tasks : ℕ) (past : List Moment) → EachMoment (IsSpinQueue tasks) past → EachMoment HasOneFront past
-each-front tasks [] e = tt
-each-front tasks (m ∷ past) e = (one-front tasks m e.0, each-front tasks past e.1)
+pub each-head : (tasks : ℕ) (past : List Moment) → EachMoment (IsSpinQueue tasks) past → EachMoment HasOneHead past
+each-head tasks [] e = tt
+each-head tasks (m ∷ past) e = (one-head tasks m e.0, each-head tasks past e.1)
 
 -- a pass that has looked, whose hand has this number, and which isn't in the queue
 pub out-of-queue : (osq : Osq) (pass : OsqPass) (task : Option ℕ) → SitsAt osq pass → StatesOwn pass → (inner.hand_in pass.pass).task ≡ task → place_in pass ≡ Out → IsOutOfQueue task (fronts_in pass) (swaps_in pass) (past_of pass)

@@ -7,7 +7,7 @@ use Rattle.lock_core.specs.declared.op.Op.TheVariants.{Load, Store, Exchange}
 use Rattle.lock_core.specs.NodeLists.{Has, IsFirst, Precedes, without}
 use Rattle.lock_core.specs.NodeListLaws.{first-has, first-before, left-has, right-has, same-predecessor, same-successor, precedes-apart, last-stays, kept-has, kept-first, kept-precedes, bridge}
 use Rattle.osq_nodes.specs.declared.node.Place.{Place}
-use Rattle.osq_nodes.specs.declared.node.Place.TheVariants.{Out, Cleared, Swapped, Linking, Waiting, Unlinked, Splicing, Relinking, Front, Granting}
+use Rattle.osq_nodes.specs.declared.node.Place.TheVariants.{Out, Cleared, Swapped, Linking, Waiting, Unlinked, Splicing, Relinking, Head, Granting}
 use Rattle.osq_nodes.specs.OsqPlaces.{Owes}
 use Rattle.osq_nodes.specs.OsqKept.{IsBehind, IsHead, IsCode, Owed, IsAt, Sets, QueueKept, with_at}
 use Rattle.osq_nodes.specs.OsqStated.{OwnsLinks}
@@ -29,7 +29,7 @@ new-back size q b x y n Waiting w w' l h at free e = (e, h.1)
 new-back size q b x y n (Unlinked a) w w' l h at free e = (e, h.1)
 new-back size q b x y n (Splicing a m) w w' l h at free e = (e, h.1)
 new-back size q b x y n (Relinking a m) w w' l h at free e = absurd h
-new-back size q b x y n Front w w' l h at free e = absurd h
+new-back size q b x y n Head w w' l h at free e = absurd h
 new-back size q b x y n (Granting m) w w' l h at free e = absurd h
 
 module _ (size tail : ℕ) (next prev locked : ℕ → ℕ) (place place' : ℕ → Place) (q : List ℕ) (t : ℕ) (r : QueueKept size tail next prev locked place q) where
@@ -60,7 +60,7 @@ module _ (size tail : ℕ) (next prev locked : ℕ → ℕ) (place place' : ℕ 
       (λ (k : Precedes q x t × Precedes q t y). subst (λ (v : ℕ). IsBehind x (place' v) (prev' v) (locked v)) (after y k.1) (subst (λ (v : Place). IsBehind x v (prev' n) (locked n)) (sym (s.1 n apart))
       (new-back size q r.debtor t x n (place n) (prev n) (prev' n) (locked n) (r.behind t n tn.0) (r.each n) (λ a o. apart (same-task n t (sym o.1 ∙ (ap r.debtor (same-predecessor q a t n r.once o.0 tn.0) ∙ tn.1))))
       (set.0 ∙ ap suc (sym (before x k.0)))))) (kept-precedes q t x y h))
-      (λ u f. ⊎_elim (λ (k : IsFirst q u). let not : u ≢ t = (kept-has q t u r.once (first-has (without t q) u f)).1 in subst (λ (v : Place). IsHead v (locked u)) (sym (s.1 u not)) (r.front u k))
+      (λ u f. ⊎_elim (λ (k : IsFirst q u). let not : u ≢ t = (kept-has q t u r.once (first-has (without t q) u f)).1 in subst (λ (v : Place). IsHead v (locked u)) (sym (s.1 u not)) (r.head u k))
       (λ k. absurd (first-before q p t r.once k.0 pt.0)) (kept-first q t u f))
       (λ u c. dite (ℕ_discrete u n) (λ e. (p, ap prev' e ∙ set.0, r.inside p (left-has q p t pt.0))) (λ m. (c.0, set.1 u m ∙ c.1, c.2)))
       (λ u o z. z) ((λ m. (kept-has q t t r.once m).1 refl), (bridge q t p n r.once pt.0 tn.0, pt.1))

@@ -5,15 +5,15 @@ use lib.ListN.{get_elem?}
 use Rattle.lock_core.specs.declared.view.Marks.{Marks}
 use Rattle.lock_core.specs.declared.view.Moment.{Moment}
 use Rattle.lock_core.specs.Pasts.{IsStepBy}
-use Rattle.osq_nodes.specs.declared.node.Place.TheVariants.{Out, Front}
+use Rattle.osq_nodes.specs.declared.node.Place.TheVariants.{Out, Head}
 use Rattle.osq_nodes.specs.OsqPlaces.{swaps_in}
 use Rattle.osq_nodes.specs.OsqStated.{places_at}
 
--- one task at most is the front of the queue
-abbrev pub HasOneFront : Moment → Type 0
-HasOneFront m = (t u : ℕ) → places_at m t ≡ Front → places_at m u ≡ Front → t ≡ u
+-- one task at most is the head of the queue
+abbrev pub HasOneHead : Moment → Type 0
+HasOneHead m = (t u : ℕ) → places_at m t ≡ Head → places_at m u ≡ Head → t ≡ u
 
--- The last of these moments of the queue is that of a step of the pass with this number. At the seat of that step it had entered the queue and been its front so often. The task of that number isn't in the queue.
+-- The last of these moments of the queue is that of a step of the pass with this number. At the seat of that step it had entered the queue and been its head so often. The task of that number isn't in the queue.
 pub record IsOutOfQueue (task : Option ℕ) (fronts swaps : ℕ) (past : List Moment) : Type 0 where
   pub step : ℕ
   pub own : IsStepBy task step past

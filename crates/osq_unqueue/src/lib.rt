@@ -2,7 +2,7 @@
 #![tactic(auto)]
 
 ghost use Rattle.std.specs.Prelude.{◌≡◌, ◌≢◌, ◌<◌, ◌≤◌, ◌+◌, true, false, Some, None, IsSome, MatchBool, MatchOption};
-ghost use Rattle.osq_nodes.specs.declared.node.Place.TheVariants.{Out, Waiting, Unlinked, Front};
+ghost use Rattle.osq_nodes.specs.declared.node.Place.TheVariants.{Out, Waiting, Unlinked, Head};
 ghost use Rattle.osq_nodes.specs.OsqHandles.{tasks_of, task_in, place_in, fronts_in, swaps_in, found_in, steps_in, SawTail, SitsAt, KeepsNumber, KeepsPast, IsLatest};
 ghost use Rattle.cpu_task.specs.CpuCounting.{Rises};
 
@@ -14,7 +14,7 @@ use osq_nodes::steps::is_granted;
 use osq_nodes::{Osq, OsqPass};
 use std::sync::Wait;
 
-/// Waits until the pass is the front, where the answer is true, or the CPU needs rescheduling.
+/// Waits until the pass is the head, where the answer is true, or the CPU needs rescheduling.
 #[tactic(auto, using(crate::proofs::Rising::rises))]
 fn spin<C: Cpu, W: Wait>(osq: &Osq, rt: &W, pass: &mut OsqPass, cpu: &mut C, task: u32) -> bool
     requires own { SitsAt osq.now pass.old }
@@ -26,7 +26,7 @@ fn spin<C: Cpu, W: Wait>(osq: &Osq, rt: &W, pass: &mut OsqPass, cpu: &mut C, tas
     ensures last { IsLatest pass.new }
     ensures swaps { swaps_in pass.new ≡ swaps_in pass.old }
     ensures found { found_in pass.new ≡ found_in pass.old }
-    ensures place { MatchBool result (place_in pass.new ≡ Front) (place_in pass.new ≡ Waiting) }
+    ensures place { MatchBool result (place_in pass.new ≡ Head) (place_in pass.new ≡ Waiting) }
     ensures fronts { MatchBool result (fronts_in pass.new ≡ fronts_in pass.old + 1)
         (fronts_in pass.new ≡ fronts_in pass.old) }
     ensures stops { result ≡ false → Rises (C.rescheds cpu.old) (C.rescheds cpu.new) }
@@ -47,7 +47,7 @@ fn spin<C: Cpu, W: Wait>(osq: &Osq, rt: &W, pass: &mut OsqPass, cpu: &mut C, tas
 }
 
 /// Takes the own code out of the `next` of the predecessor, which is the answer, or becomes the
-/// front, where the answer is None. `prev` was the predecessor at the tail swap.
+/// head, where the answer is None. `prev` was the predecessor at the tail swap.
 fn unlink<W: Wait>(osq: &Osq, rt: &W, pass: &mut OsqPass, task: u32, mut prev: u32) -> Option<u32>
     requires own { SitsAt osq.now pass.old }
     requires mine { task_in pass.old ≡ Some task }
@@ -59,7 +59,7 @@ fn unlink<W: Wait>(osq: &Osq, rt: &W, pass: &mut OsqPass, task: u32, mut prev: u
     ensures last { IsLatest pass.new }
     ensures swaps { swaps_in pass.new ≡ swaps_in pass.old }
     ensures found { found_in pass.new ≡ found_in pass.old }
-    ensures place { MatchOption result (place_in pass.new ≡ Front)
+    ensures place { MatchOption result (place_in pass.new ≡ Head)
         (λ p. (p < tasks_of osq.now) × (place_in pass.new ≡ Unlinked p)) }
     ensures fronts { MatchOption result (fronts_in pass.new ≡ fronts_in pass.old + 1)
         (λ p. fronts_in pass.new ≡ fronts_in pass.old) }
@@ -83,7 +83,7 @@ fn unlink<W: Wait>(osq: &Osq, rt: &W, pass: &mut OsqPass, task: u32, mut prev: u
     unreachable!()
 }
 
-/// Enters the queue, and returns true as its front. It answers false only where the queue wasn't
+/// Enters the queue, and returns true as its head. It answers false only where the queue wasn't
 /// empty and the CPU needed rescheduling before the turn came: then the task has left, and all
 /// others stand in the order that they had. The kernel's `osq_lock`.
 pub fn lock<C: Cpu, W: Wait>(osq: &Osq, rt: &W, pass: &mut OsqPass, cpu: &mut C) -> bool
@@ -96,7 +96,7 @@ pub fn lock<C: Cpu, W: Wait>(osq: &Osq, rt: &W, pass: &mut OsqPass, cpu: &mut C)
     ensures last { IsLatest pass.new }
     ensures swapped { swaps_in pass.new ≡ swaps_in pass.old + 1 }
     ensures found { SawTail pass.old pass.new }
-    ensures place { MatchBool result (place_in pass.new ≡ Front) (place_in pass.new ≡ Out) }
+    ensures place { MatchBool result (place_in pass.new ≡ Head) (place_in pass.new ≡ Out) }
     ensures fronts { MatchBool result (fronts_in pass.new ≡ fronts_in pass.old + 1)
         (fronts_in pass.new ≡ fronts_in pass.old) }
     ensures queued { result ≡ false → found_in pass.new ≢ 0 }

@@ -27,7 +27,7 @@ use Rattle.qspin_word.proofs.Noting.{noted-is, flags-eq, flags-beside, beside-th
 use Rattle.qspin_word.proofs.Idling.{alike-same, alike-then}
 use Rattle.qspin_word.proofs.Passing.{steps-as, nodes-step, nodes-then}
 use Rattle.qspin_queue.proofs.Queueing.{waits-framed, nodes-framed, waits-on, takes-once, takes-after, takes-idle, took-lock-hand, took-from}
-use Rattle.qspin_queue.proofs.Fronting.{takes-weak, idles-weak, waits-weak}
+use Rattle.qspin_queue.proofs.HeadSteps.{takes-weak, idles-weak, waits-weak}
 
 module _ {R O E C : Type 0} (site : Site R O E C) (l : ℕ) (quiet : Type 0) where
   -- a pass that notes how many nodes it uses

@@ -6,7 +6,7 @@ pub mod QueueSteps
 pub mod Stating
 pub mod Queueing
 pub mod Turns
-pub mod Fronting
+pub mod HeadSteps
 pub mod Entering
 pub mod Contending
 pub mod Filling

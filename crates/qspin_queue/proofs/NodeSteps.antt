@@ -8,9 +8,9 @@ use Rattle.atomic_table.proofs.Lists.{at_longer, at_last, at_snoc}
 use Rattle.lock_core.specs.ViewParts.{each-set}
 use Rattle.lock_core.specs.Totals.{total, total-set, total-same, total-snoc, total-at}
 use Rattle.lock_core.specs.declared.view.Frame.{Frame}
-use Rattle.lock_core.specs.declared.view.Point.TheVariants.{Out, Clearing, Cleared, Linking, Waiting, Front, Ready, Passing, Holding}
+use Rattle.lock_core.specs.declared.view.Point.TheVariants.{Out, Clearing, Cleared, Linking, Waiting, Head, Ready, Passing, Holding}
 use Rattle.lock_core.specs.SpinFrames.{counts, when, code_is, stands, uses, stands_as, uses_as}
-use Rattle.lock_core.specs.SpinQueues.{tail_of, tail_unit, Before, Queued, Linked, IsFront, PointOk, FrameOk, LockKept, Put}
+use Rattle.lock_core.specs.SpinQueues.{tail_of, tail_unit, Before, Queued, Linked, StandsAtHead, PointOk, FrameOk, LockKept, Put}
 use Rattle.qspin_word.proofs.Codes.{code_is-same, code_is-else, one_place, one_behind, tail-snoc, tail-in, no_tail, past_end, alone, some_first}
 use Rattle.lock_core.specs.SpinLaws.{Recount, recount, requeued, rekept}
 use Rattle.qspin_queue.proofs.Fronts.{none_ready}
@@ -73,29 +73,29 @@ module _ (word : ℕ) (next locked : ℕ → ℕ) (q : List ℕ) (fs : List Fram
       after j v far there e b same = let mine = k.each id (at_point f Linking) at in
           other_code q fs k.queued id j (at_point f Linking) v at there far refl (ap uses e) (one_behind q f.found v.code f.code (once q fs k.queued f.found) (subst (λ x. Before q x v.code) same b) mine.0)
 
-  -- it sees that it was made the front
-  pub fronts : (f : Frame) → locked f.code ≡ 1 → LockKept word next locked q fs → get_elem? fs id ≡ some (at_point f Waiting) → LockKept word next locked q (set fs id (record f { point = Front; next = 0 }))
-  fronts f told k at = let b = k.balanced in let old : Frame = at_point f Waiting in let new : Frame = record f { point = Front; next = 0 } in let r = recount fs id old new at in
+  -- it sees that it was made the head
+  pub fronts : (f : Frame) → locked f.code ≡ 1 → LockKept word next locked q fs → get_elem? fs id ≡ some (at_point f Waiting) → LockKept word next locked q (set fs id (record f { point = Head; next = 0 }))
+  fronts f told k at = let b = k.balanced in let old : Frame = at_point f Waiting in let new : Frame = record f { point = Head; next = 0 } in let r = recount fs id old new at in
       rekept word word next locked q fs id old new at (λ d. refl) (λ d. omega arith) (⊎_elim (λ t. let z = t.1 in absurd (omega arith)) (λ t. (t.0, inr t.1, inl refl)) (k.each id old at)) k
       record { word_is = omega arith; owner = omega arith; comes = omega arith; rivals = omega arith; undone = omega arith; fronts = omega arith }
 
-  -- the front sees the byte and the bit 0
-  pub readies : (f : Frame) → word % 512 ≡ 0 → LockKept word next locked q fs → get_elem? fs id ≡ some (at_point f Front) → LockKept word next locked q (set fs id (at_point f Ready))
-  readies f free k at = let b = k.balanced in let r = recount fs id (at_point f Front) (at_point f Ready) at in let mine = k.each id (at_point f Front) at in
-      let none = none_ready next locked q fs id (at_point f Front) k.queued.used k.each at refl refl mine.0 in let one = some_first q f.code mine.0 in
-      rekept word word next locked q fs id (at_point f Front) (at_point f Ready) at (λ c. refl) (λ c. omega arith) mine k record { word_is = omega arith; owner = omega arith; comes = omega arith; rivals = omega arith; undone = omega arith; fronts = omega arith }
+  -- the head sees the byte and the bit 0
+  pub readies : (f : Frame) → word % 512 ≡ 0 → LockKept word next locked q fs → get_elem? fs id ≡ some (at_point f Head) → LockKept word next locked q (set fs id (at_point f Ready))
+  readies f free k at = let b = k.balanced in let r = recount fs id (at_point f Head) (at_point f Ready) at in let mine = k.each id (at_point f Head) at in
+      let none = none_ready next locked q fs id (at_point f Head) k.queued.used k.each at refl refl mine.0 in let one = some_first q f.code mine.0 in
+      rekept word word next locked q fs id (at_point f Head) (at_point f Ready) at (λ c. refl) (λ c. omega arith) mine k record { word_is = omega arith; owner = omega arith; comes = omega arith; rivals = omega arith; undone = omega arith; fronts = omega arith }
 
-  -- fetch_or(1) by the front
+  -- fetch_or(1) by the head
   pub passes : (f : Frame) → LockKept word next locked q fs → get_elem? fs id ≡ some (at_point f Ready) → LockKept (word + 1) next locked q (set fs id (at_point f Passing))
   passes f k at = let b = k.balanced in let r = recount fs id (at_point f Ready) (at_point f Passing) at in
       rekept word (word + 1) next locked q fs id (at_point f Ready) (at_point f Passing) at (λ c. refl) (λ c. omega arith) (k.each id (at_point f Ready) at) k record { word_is = omega arith; owner = omega arith; comes = omega arith; rivals = omega arith; undone = omega arith; fronts = omega arith }
 
-  learnt : (code found after : ℕ) → Linked next q → IsFront next locked q code found after → IsFront next locked q code found (next code)
+  learnt : (code found after : ℕ) → Linked next q → StandsAtHead next locked q code found after → StandsAtHead next locked q code found (next code)
   learnt code found after linked ok = (ok.0, ok.1, ⊎_elim (λ e. inl e) (λ e. inr (e, refl)) (linked 0 code ok.0))
 
-  -- the front sees the next node, or none
-  pub learns : (f : Frame) → LockKept word next locked q fs → get_elem? fs id ≡ some (at_point f Front) → LockKept word next locked q (set fs id (record f { point = Front; next = next f.code }))
-  learns f k at = let b = k.balanced in let old : Frame = at_point f Front in let new : Frame = record f { point = Front; next = next f.code } in let r = recount fs id old new at in
+  -- the head sees the next node, or none
+  pub learns : (f : Frame) → LockKept word next locked q fs → get_elem? fs id ≡ some (at_point f Head) → LockKept word next locked q (set fs id (record f { point = Head; next = next f.code }))
+  learns f k at = let b = k.balanced in let old : Frame = at_point f Head in let new : Frame = record f { point = Head; next = next f.code } in let r = recount fs id old new at in
       rekept word word next locked q fs id old new at (λ d. refl) (λ d. omega arith) (learnt f.code f.found f.next k.linked (k.each id old at)) k
       record { word_is = omega arith; owner = omega arith; comes = omega arith; rivals = omega arith; undone = omega arith; fronts = omega arith }
 
@@ -118,10 +118,10 @@ module _ (word : ℕ) (next locked : ℕ → ℕ) (q : List ℕ) (fs : List Fram
     each = each-set (FrameOk next locked q) (FrameOk next locked (q ++ c ∷ [])) fs id g mine (λ j v _ _ ok. longer next locked q c v.point v.code v.found v.next ok) k.each;
   }
 
-  -- it finds no tail, and is the front
+  -- it finds no tail, and is the head
   pub enters-first : (f : Frame) → f.code ≢ 0 → word < 512 → LockKept word next locked q fs → get_elem? fs id ≡ some (at_point f Cleared)
-      → LockKept (word % 512 + tail_unit * f.code) next locked (q ++ f.code ∷ []) (set fs id (record f { point = Front; found = 0; next = 0 }))
-  enters-first f real none k at = let b = k.balanced in let new : Frame = record f { point = Front; found = 0; next = 0 } in let e = ap length (no_tail q k.queued.real (omega arith)) in let r = recount fs id (at_point f Cleared) new at in
+      → LockKept (word % 512 + tail_unit * f.code) next locked (q ++ f.code ∷ []) (set fs id (record f { point = Head; found = 0; next = 0 }))
+  enters-first f real none k at = let b = k.balanced in let new : Frame = record f { point = Head; found = 0; next = 0 } in let e = ap length (no_tail q k.queued.real (omega arith)) in let r = recount fs id (at_point f Cleared) new at in
       entered f new real refl refl refl record { holds = r.holds; takes = r.takes; ready = r.ready; pends = r.pends; undoes = r.undoes } (at_last q f.code 0 e, inl refl, inl refl) k at
 
   -- it finds a tail, and stands behind it
@@ -161,12 +161,12 @@ module _ (word : ℕ) (next locked : ℕ → ℕ) (fs : List Frame) (id : ℕ) w
   pub alone-in : (q : List ℕ) (f : Frame) → word ≡ tail_unit * f.code → LockKept word next locked q fs → get_elem? fs id ≡ some (at_point f Ready) → q ≡ f.code ∷ []
   alone-in q f found k at = let b = k.balanced in alone q f.code (once q fs k.queued f.code) k.queued.real (k.each id (at_point f Ready) at).0 (omega arith)
 
-  -- the front finds its own tail alone in the word, exchanges it for 1, and has left
+  -- the head finds its own tail alone in the word, exchanges it for 1, and has left
   pub takes-alone : (q : List ℕ) (f : Frame) → word ≡ tail_unit * f.code → LockKept word next locked q fs → get_elem? fs id ≡ some (at_point f Ready) → LockKept 1 next locked [] (set fs id (at_point f Holding))
-  takes-alone q f found k at = let b = k.balanced in let front = (k.each id (at_point f Ready) at).0 in
-      let is : q ≡ f.code ∷ [] = alone q f.code (once q fs k.queued f.code) k.queued.real front (omega arith) in lone f found (subst (λ z. LockKept word next locked z fs) is k) at
+  takes-alone q f found k at = let b = k.balanced in let head = (k.each id (at_point f Ready) at).0 in
+      let is : q ≡ f.code ∷ [] = alone q f.code (once q fs k.queued f.code) k.queued.real head (omega arith) in lone f found (subst (λ z. LockKept word next locked z fs) is k) at
 
-  -- the holder makes the next node the front, and has left
+  -- the holder makes the next node the head, and has left
   passed-on : (locked' : ℕ → ℕ) (n : ℕ) (q : List ℕ) (f : Frame) → f.next ≡ n → n ≢ 0 → Put locked locked' n 1 → LockKept word next locked (f.code ∷ n ∷ q) fs → get_elem? fs id ≡ some (at_point f Passing) → LockKept word next locked' (n ∷ q) (set fs id (at_point f Holding))
   passed-on locked' n q f seen real put k at = let b = k.balanced in let old : Frame = at_point f Passing in let new : Frame = at_point f Holding in let r = recount fs id old new at in record {
     balanced = record { word_is = omega arith; owner = omega arith; comes = omega arith; rivals = omega arith; undone = omega arith; fronts = omega arith };

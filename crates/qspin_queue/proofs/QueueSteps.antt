@@ -12,7 +12,7 @@ use Rattle.lock_core.specs.declared.view.SpinHand.{SpinHand}
 use Rattle.lock_core.specs.declared.view.LockHand.{LockHand}
 use Rattle.lock_core.specs.declared.view.Frame.{Frame}
 use Rattle.lock_core.specs.declared.view.Point.{Point}
-use Rattle.lock_core.specs.declared.view.Point.TheVariants.{Out, Clearing, Cleared, Linking, Waiting, Front, Ready, Passing, Holding}
+use Rattle.lock_core.specs.declared.view.Point.TheVariants.{Out, Clearing, Cleared, Linking, Waiting, Head, Ready, Passing, Holding}
 use Rattle.lock_core.specs.Totals.{total, total-at}
 use Rattle.lock_core.specs.Views.{SpinPart, spin_part, part_with}
 use Rattle.lock_core.specs.LockHands.{lock_hand_at, frame_at, point_at, depth_of, with_lock_hand, at-with, at-else}
@@ -22,7 +22,7 @@ use Rattle.lock_core.specs.Spins.{SpinFacts, SpinGoes, SpinsMove, OwnNodes, Queu
 use Rattle.qspin_word.specs.Allows.{AreNumbered, SpinAllows}
 use Rattle.qspin_word.specs.SpinWordHands.{at_point, went, framed, taken, took_at}
 use Rattle.qspin_queue.specs.SpinQueueHandles.{IsTop, codes_of}
-use Rattle.qspin_queue.specs.SpinQueueHands.{code_for, node_at, as_front, retried, cleared_locked, cleared_next, queued, linked, heard, learnt, readied, took_last, took_front, passed}
+use Rattle.qspin_queue.specs.SpinQueueHands.{code_for, node_at, as_head, retried, cleared_locked, cleared_next, queued, linked, heard, learnt, readied, took_last, took_head, passed}
 use Rattle.qspin_word.proofs.Bits.{or_byte}
 use Rattle.qspin_word.proofs.WordSteps as step
 use Rattle.qspin_word.proofs.OwnNodes.{own-node}
@@ -164,7 +164,7 @@ module _ {E : Type 0} (n l : ℕ) (less : l < n) (most : n ≤ 8) (v : View E) (
   -- the exchange of the tail
   pub queues : {tasks : ℕ} → (from : ℕ) → f.point ≡ Cleared → SpinAllows n tasks l id v (word_at l) (Exchange from (from % 512 + tail_unit * f.code)) (λ x. queued l from x v) (λ x. x / tail_unit < codes_of tasks)
   queues from e w q ps k named at small = let x : ℕ = word_in w l in let c : ℕ = f.code in let o = (mine w q ps k at).node l (ap uses e) in let m = o.is in let true_code : c ≢ 0 = λ z. omega (arith, m, z) in let r : List ℕ = q l ++ c ∷ [] in
-      let first : Frame = record f { point = Front; found = 0; next = 0 } in let behind : Frame = record f { point = Linking; found = x / tail_unit } in let i : ℕ = word_at l in
+      let first : Frame = record f { point = Head; found = 0; next = 0 } in let behind : Frame = record f { point = Linking; found = x / tail_unit } in let i : ℕ = word_at l in
       let t : Afters w q ps k at (set w i (if x == from then from % 512 + tail_unit * c else x)) (queued l from x v) = by_test (eqb x from) (λ b. Afters w q ps k at (set w i (if b then from % 512 + tail_unit * c else x)) (if b then (if ltb x 512 then framed l v.spin first else framed l v.spin behind) else v.spin))
       (λ same. subst (λ (z : ℕ). Afters w q ps k at (set w i (z % 512 + tail_unit * c)) (if ltb x 512 then framed l v.spin first else framed l v.spin behind)) (eqb-true x from same)
       (by_test (ltb x 512) (λ b. Afters w q ps k at (set w i (x % 512 + tail_unit * c)) (if b then framed l v.spin first else framed l v.spin behind))
@@ -185,27 +185,27 @@ module _ {E : Type 0} (n l : ℕ) (less : l < n) (most : n ≤ 8) (v : View E) (
   -- a load of the own `locked`
   pub hears : {tasks : ℕ} → f.point ≡ Waiting → SpinAllows n tasks l id v (locked_at f.code) Load (λ x. heard l x v) (λ x. Unit {0})
   hears e w q ps k named at small = let i : ℕ = locked_at f.code in let x : ℕ = get_or w i 0 in
-      let t : Afters w q ps k at (set w i x) (heard l x v) = by_test (eqb x 1) (λ b. Afters w q ps k at (set w i x) (if b then framed l v.spin (as_front f) else v.spin))
-      (λ one. to-look w q ps k at (q l) (as_front f) (own-same w q ps k at (as_front f) Waiting e refl refl refl) Waiting e (omega arith) (refl, refl) (λ no. absurd (omega arith)) tt i tt
+      let t : Afters w q ps k at (set w i x) (heard l x v) = by_test (eqb x 1) (λ b. Afters w q ps k at (set w i x) (if b then framed l v.spin (as_head f) else v.spin))
+      (λ one. to-look w q ps k at (q l) (as_head f) (own-same w q ps k at (as_head f) Waiting e refl refl refl) Waiting e (omega arith) (refl, refl) (λ no. absurd (omega arith)) tt i tt
       (node.fronts (word_in w l) (next_in w) (locked_in w) (q l) (map (frame_on l) ps) id f (eqb-true x 1 one) (lock w q ps k at) (old w q ps k at Waiting e)))
       (λ other. still w q ps k at i) in (t.0, t.1, tt)
 
   -- loads of the own `next`
-  pub learns : {tasks : ℕ} → f.point ≡ Front → SpinAllows n tasks l id v (next_at f.code) Load (λ x. learnt l Front x v) (λ x. x < codes_of tasks)
-  learns e w q ps k named at small = let x : ℕ = next_in w f.code in let g : Frame = record f { point = Front; next = x } in let there = old w q ps k at Front e in
-      let r = to-look w q ps k at (q l) g (own-same w q ps k at g Front e refl refl refl) Front e (omega arith) (refl, refl) (λ no. absurd (omega arith)) tt (next_at f.code) tt (node.learns (word_in w l) (next_in w) (locked_in w) (q l) (map (frame_on l) ps) id f (lock w q ps k at) there) in
-      (r.0, r.1, small-next n w q ps k named l less f.code ((lock w q ps k at).each id (at_point f Front) there).0)
+  pub learns : {tasks : ℕ} → f.point ≡ Head → SpinAllows n tasks l id v (next_at f.code) Load (λ x. learnt l Head x v) (λ x. x < codes_of tasks)
+  learns e w q ps k named at small = let x : ℕ = next_in w f.code in let g : Frame = record f { point = Head; next = x } in let there = old w q ps k at Head e in
+      let r = to-look w q ps k at (q l) g (own-same w q ps k at g Head e refl refl refl) Head e (omega arith) (refl, refl) (λ no. absurd (omega arith)) tt (next_at f.code) tt (node.learns (word_in w l) (next_in w) (locked_in w) (q l) (map (frame_on l) ps) id f (lock w q ps k at) there) in
+      (r.0, r.1, small-next n w q ps k named l less f.code ((lock w q ps k at).each id (at_point f Head) there).0)
 
   pub learns-late : {tasks : ℕ} → f.point ≡ Passing → SpinAllows n tasks l id v (next_at f.code) Load (λ x. learnt l Passing x v) (λ x. x < codes_of tasks)
   learns-late e w q ps k named at small = let x : ℕ = next_in w f.code in let g : Frame = record f { point = Passing; next = x } in let there = old w q ps k at Passing e in
       let r = to-look w q ps k at (q l) g (own-same w q ps k at g Passing e refl refl refl) Passing e (omega arith) (refl, refl) (λ _. tt) tt (next_at f.code) tt (node.learns-late (word_in w l) (next_in w) (locked_in w) (q l) (map (frame_on l) ps) id f (lock w q ps k at) there) in
       (r.0, r.1, small-next n w q ps k named l less f.code ((lock w q ps k at).each id (at_point f Passing) there).0)
 
-  -- the front loads the word
-  pub readies : {tasks : ℕ} → f.point ≡ Front → SpinAllows n tasks l id v (word_at l) Load (λ x. readied l x v) (λ x. Unit {0})
+  -- the head loads the word
+  pub readies : {tasks : ℕ} → f.point ≡ Head → SpinAllows n tasks l id v (word_at l) Load (λ x. readied l x v) (λ x. Unit {0})
   readies e w q ps k named at small = let i : ℕ = word_at l in let x : ℕ = word_in w l in let t : Afters w q ps k at (set w i x) (readied l x v) = by_test (eqb (x % 512) 0) (λ b. Afters w q ps k at (set w i x) (if b then went l v.spin Ready else v.spin))
-      (λ free. let z = eqb-true (x % 512) 0 free in to-look w q ps k at (q l) (at_point f Ready) (own-same w q ps k at (at_point f Ready) Front e refl refl refl) Front e (omega arith) (refl, refl) (λ no. absurd (omega arith)) (omega (arith, z), omega (arith, z)) i tt
-      (node.readies x (next_in w) (locked_in w) (q l) (map (frame_on l) ps) id f z (lock w q ps k at) (old w q ps k at Front e)))
+      (λ free. let z = eqb-true (x % 512) 0 free in to-look w q ps k at (q l) (at_point f Ready) (own-same w q ps k at (at_point f Ready) Head e refl refl refl) Head e (omega arith) (refl, refl) (λ no. absurd (omega arith)) (omega (arith, z), omega (arith, z)) i tt
+      (node.readies x (next_in w) (locked_in w) (q l) (map (frame_on l) ps) id f z (lock w q ps k at) (old w q ps k at Head e)))
       (λ held. still w q ps k at i) in (t.0, t.1, tt)
 
   -- the exchange of the own tail alone for 1
@@ -221,16 +221,16 @@ module _ {E : Type 0} (n l : ℕ) (less : l < n) (most : n ≤ 8) (v : View E) (
       first-word : (w : List ℕ) (x : ℕ) → length w ≡ SPIN_WORDS → get_or (set w (word_at l) x) (word_at l) 0 ≡ x
       first-word w x wide = let e = eight in get_or-set_same w (word_at l) x 0 (omega (arith, wide, e))
 
-  -- the front sets the locked byte
-  pub takes-front : {tasks : ℕ} → f.point ≡ Ready → SpinAllows n tasks l id v (word_at l) (Or 1) (λ x. took_front l v) (λ x. Unit {0})
-  takes-front e w q ps k named at small = let x : ℕ = word_in w l in let there = old w q ps k at Ready e in let b = (lock w q ps k at).balanced in let h : 1 ≤ total ready_of (map (frame_on l) ps) = total-at ready_of (map (frame_on l) ps) id (at_point f Ready) there in
+  -- the head sets the locked byte
+  pub takes-head : {tasks : ℕ} → f.point ≡ Ready → SpinAllows n tasks l id v (word_at l) (Or 1) (λ x. took_head l v) (λ x. Unit {0})
+  takes-head e w q ps k named at small = let x : ℕ = word_in w l in let there = old w q ps k at Ready e in let b = (lock w q ps k at).balanced in let h : 1 ≤ total ready_of (map (frame_on l) ps) = total-at ready_of (map (frame_on l) ps) id (at_point f Ready) there in
       let r = to-taken w q ps k at (q l) Passing (own-node l (spin_part v) (taken l v.spin (v.steps + 1) Passing) (ap uses e) refl refl (mine w q ps k at)) Ready e refl refl (refl, refl) (let m : x % 256 ≡ 0 = omega arith in m) tt (x + 1) tt (node.passes x (next_in w) (locked_in w) (q l) (map (frame_on l) ps) id f (lock w q ps k at) there) in (
-        subst (λ (m : ℕ). SpinsMove n id w ps (set w (word_at l) m) (set ps id (part_with v (took_front l v)))) (sym (or_byte x (omega arith))) r.0,
+        subst (λ (m : ℕ). SpinsMove n id w ps (set w (word_at l) m) (set ps id (part_with v (took_head l v)))) (sym (or_byte x (omega arith))) r.0,
         r.1,
         tt,
       )
 
-  -- it makes its successor the front
+  -- it makes its successor the head
   pub tells-next : {tasks : ℕ} → f.next ≢ 0 → f.point ≡ Passing → IsTop l (spin_part v) → SpinAllows n tasks l id v (locked_at f.next) (Store 1) (λ x. passed l v) (λ x. Unit {0})
   tells-next some_next e top w q ps k named at small = let wide = k.wide in let there = old w q ps k at Passing e in let ok = (lock w q ps k at).each id (at_point f Passing) there in
       let second : (get_elem? (q l) 1 ≡ some f.next) × (next_in w f.code ≡ f.next) = ⊎_elim (λ z. absurd (some_next z)) (λ s. s) ok.2 in

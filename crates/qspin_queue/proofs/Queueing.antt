@@ -142,7 +142,7 @@ module _ {R O E C : Type 0} (site : Site R O E C) (l : ℕ) (quiet : Type 0) whe
     flags = beside-then l a.nest d.nest e.nest (flags-beside l a.nest d.nest r.flags) s.flags;
   }
 
-  -- as the front it takes the lock, waits for its successor, and makes that the front
+  -- as the head it takes the lock, waits for its successor, and makes that the head
   module _ (a d e z : Pass R O E C) (ready : point_in l a ≡ Ready) (t : SpinSteps site a d (took_at l (spin_in a) ((view_of a).steps + 1) Passing)) (f : Frame) (w : SpinWaits l quiet site d e (lock_hand_with f (lock_hand_of l d))) (last : SpinSteps site e z (went l (spin_in e) Holding)) where
     final : lock_hand_of l z ≡ lock_hand_with (at_point f Holding) (got a d Passing t)
     final = ap (λ (x : View E). lock_hand_at l x.spin) last.kept ∙ (at-with l (spin_in e) (lock_hand_to Holding (lock_hand_of l e)) ∙ ap (lock_hand_to Holding) (w.lock_hand ∙ ap (lock_hand_with f) (took-lock-hand a d Passing t)))

@@ -8,16 +8,16 @@ use Rattle.atomic_table.proofs.Lists.{at_longer}
 use Rattle.lock_core.specs.Totals.{total, total-at}
 use Rattle.lock_core.specs.declared.view.Frame.{Frame}
 use Rattle.lock_core.specs.declared.view.Point.{Point}
-use Rattle.lock_core.specs.declared.view.Point.TheVariants.{Clearing, Cleared, Linking, Waiting, Front, Ready, Passing}
+use Rattle.lock_core.specs.declared.view.Point.TheVariants.{Clearing, Cleared, Linking, Waiting, Head, Ready, Passing}
 use Rattle.lock_core.specs.SpinFrames.{when, code_is, stands, uses, stands_as, uses_as}
-use Rattle.lock_core.specs.SpinQueues.{Before, Queued, IsFront, PointOk}
+use Rattle.lock_core.specs.SpinQueues.{Before, Queued, StandsAtHead, PointOk}
 use Rattle.qspin_word.proofs.Codes.{code_is-same, code_is-else, one_place, some_summand, total-below}
 use Rattle.qspin_queue.proofs.Fronts.{not_two}
 
 pub stands-uses : (p : Point) → stands p ≡ true → uses p ≡ true
 stands-uses Linking e = refl
 stands-uses Waiting e = refl
-stands-uses Front e = refl
+stands-uses Head e = refl
 stands-uses Ready e = refl
 stands-uses Passing e = refl
 stands-uses _ e = absurd cc
@@ -40,7 +40,7 @@ counted q p x at = let t = total-at (code_is x) q p x at in let o = code_is-same
 pub stands-below : (p : Point) (n : ℕ) → when (stands p) n ≤ when (uses p) n
 stands-below Linking n = omega arith
 stands-below Waiting n = omega arith
-stands-below Front n = omega arith
+stands-below Head n = omega arith
 stands-below Ready n = omega arith
 stands-below Passing n = omega arith
 stands-below _ n = omega arith
@@ -67,13 +67,13 @@ relocked next locked locked' q Clearing code found after same ok = same refl ∙
 relocked next locked locked' q Cleared code found after same ok = (same refl ∙ ok.0, ok.1)
 relocked next locked locked' q Linking code found after same ok = (ok.0, ok.1, same refl ∙ ok.2)
 relocked next locked locked' q Waiting code found after same ok = ⊎_elim (λ t. inl (t.0, same refl ∙ t.1, t.2)) (λ t. inr (t.0, same refl ∙ t.1)) ok
-relocked next locked locked' q Front code found after same ok = (ok.0, ⊎_elim (λ e. inl e) (λ e. inr (same refl ∙ e)) ok.1, ok.2)
+relocked next locked locked' q Head code found after same ok = (ok.0, ⊎_elim (λ e. inl e) (λ e. inr (same refl ∙ e)) ok.1, ok.2)
 relocked next locked locked' q Ready code found after same ok = (ok.0, ⊎_elim (λ e. inl e) (λ e. inr (same refl ∙ e)) ok.1, ok.2)
 relocked next locked locked' q Passing code found after same ok = (ok.0, ⊎_elim (λ e. inl e) (λ e. inr (same refl ∙ e)) ok.1, ok.2)
 relocked next locked locked' q _ code found after same ok = tt
 
-renext-front : (next next' locked : ℕ → ℕ) (q : List ℕ) (code found after : ℕ) → (next' code ≡ next code) ⊎ (next code ≡ 0) → IsFront next locked q code found after → IsFront next' locked q code found after
-renext-front next next' locked q code found after same ok = (ok.0, ok.1, ⊎_elim (λ e. inl e) (λ s. ⊎_elim (λ t. inr (s.0, t ∙ s.1)) (λ z. inl (sym s.1 ∙ z)) same) ok.2)
+renext-head : (next next' locked : ℕ → ℕ) (q : List ℕ) (code found after : ℕ) → (next' code ≡ next code) ⊎ (next code ≡ 0) → StandsAtHead next locked q code found after → StandsAtHead next' locked q code found after
+renext-head next next' locked q code found after same ok = (ok.0, ok.1, ⊎_elim (λ e. inl e) (λ s. ⊎_elim (λ t. inr (s.0, t ∙ s.1)) (λ z. inl (sym s.1 ∙ z)) same) ok.2)
 
 -- a store in another node's `next`, or in one that was 0
 pub renext : (next next' locked : ℕ → ℕ) (q : List ℕ) (p : Point) (code found after : ℕ) → (p ≡ Cleared → next' code ≡ next code) → (p ≡ Linking → next' found ≡ next found) → (p ≡ Waiting → Before q found code → next' found ≡ next found) → (stands p ≡ true → (next' code ≡ next code) ⊎ (next code ≡ 0))
@@ -82,16 +82,16 @@ renext next next' locked q Clearing code found after clean links waits stays ok 
 renext next next' locked q Cleared code found after clean links waits stays ok = (ok.0, clean refl ∙ ok.1)
 renext next next' locked q Linking code found after clean links waits stays ok = (ok.0, links refl ∙ ok.1, ok.2)
 renext next next' locked q Waiting code found after clean links waits stays ok = ⊎_elim (λ t. inl (t.0, t.1, waits refl t.0 ∙ t.2)) (λ t. inr t) ok
-renext next next' locked q Front code found after clean links waits stays ok = renext-front next next' locked q code found after (stays refl) ok
-renext next next' locked q Ready code found after clean links waits stays ok = renext-front next next' locked q code found after (stays refl) ok
-renext next next' locked q Passing code found after clean links waits stays ok = renext-front next next' locked q code found after (stays refl) ok
+renext next next' locked q Head code found after clean links waits stays ok = renext-head next next' locked q code found after (stays refl) ok
+renext next next' locked q Ready code found after clean links waits stays ok = renext-head next next' locked q code found after (stays refl) ok
+renext next next' locked q Passing code found after clean links waits stays ok = renext-head next next' locked q code found after (stays refl) ok
 renext next next' locked q _ code found after clean links waits stays ok = tt
 
 before-longer : (q : List ℕ) (c x y : ℕ) → Before q x y → Before (q ++ c ∷ []) x y
 before-longer q c x y (p, at, at') = (p, at_longer q (c ∷ []) p x at, at_longer q (c ∷ []) (suc p) y at')
 
-front-longer : (next locked : ℕ → ℕ) (q : List ℕ) (c code found after : ℕ) → IsFront next locked q code found after → IsFront next locked (q ++ c ∷ []) code found after
-front-longer next locked q c code found after ok = (at_longer q (c ∷ []) 0 code ok.0, ok.1, ⊎_elim (λ e. inl e) (λ s. inr (at_longer q (c ∷ []) 1 after s.0, s.1)) ok.2)
+head-longer : (next locked : ℕ → ℕ) (q : List ℕ) (c code found after : ℕ) → StandsAtHead next locked q code found after → StandsAtHead next locked (q ++ c ∷ []) code found after
+head-longer next locked q c code found after ok = (at_longer q (c ∷ []) 0 code ok.0, ok.1, ⊎_elim (λ e. inl e) (λ s. inr (at_longer q (c ∷ []) 1 after s.0, s.1)) ok.2)
 
 -- another node enters behind the last
 pub longer : (next locked : ℕ → ℕ) (q : List ℕ) (c : ℕ) (p : Point) (code found after : ℕ) → PointOk next locked q p code found after → PointOk next locked (q ++ c ∷ []) p code found after
@@ -99,9 +99,9 @@ longer next locked q c Clearing code found after ok = ok
 longer next locked q c Cleared code found after ok = ok
 longer next locked q c Linking code found after ok = (before-longer q c found code ok.0, ok.1, ok.2)
 longer next locked q c Waiting code found after ok = ⊎_elim (λ t. inl (before-longer q c found code t.0, t.1, t.2)) (λ t. inr (at_longer q (c ∷ []) 0 code t.0, t.1)) ok
-longer next locked q c Front code found after ok = front-longer next locked q c code found after ok
-longer next locked q c Ready code found after ok = front-longer next locked q c code found after ok
-longer next locked q c Passing code found after ok = front-longer next locked q c code found after ok
+longer next locked q c Head code found after ok = head-longer next locked q c code found after ok
+longer next locked q c Ready code found after ok = head-longer next locked q c code found after ok
+longer next locked q c Passing code found after ok = head-longer next locked q c code found after ok
 longer next locked q c _ code found after ok = tt
 
 -- who doesn't stand in the queue says nothing of it
@@ -110,7 +110,7 @@ outside next locked q r Clearing code found after out ok = ok
 outside next locked q r Cleared code found after out ok = ok
 outside next locked q r Linking code found after out ok = absurd cc
 outside next locked q r Waiting code found after out ok = absurd cc
-outside next locked q r Front code found after out ok = absurd cc
+outside next locked q r Head code found after out ok = absurd cc
 outside next locked q r Ready code found after out ok = absurd cc
 outside next locked q r Passing code found after out ok = absurd cc
 outside next locked q r _ code found after out ok = tt
@@ -119,7 +119,7 @@ before-shift : (c n : ℕ) (q : List ℕ) (x y : ℕ) → total (code_is n) (c �
 before-shift c n q x y once (zero, at, at') = inl (sym (some-injective c x at), sym (some-injective n y at'))
 before-shift c n q x y once (suc p, at, at') = inr ((p, at, at'), λ e. let r = one_place (c ∷ n ∷ q) (suc (suc p)) 1 n once (at' ∙ ap some e) refl in omega arith)
 
--- The front c has left, and the next node n was told that it is the front
+-- The head c has left, and the next node n was told that it is the head
 pub shifted : (next locked locked' : ℕ → ℕ) (c n : ℕ) (q : List ℕ) (p : Point) (code found after : ℕ) → next c ≡ n → n ≢ 0 → locked' n ≡ 1 → total (code_is n) (c ∷ n ∷ q) ≤ 1
     → (code ≢ n → locked' code ≡ locked code) → (uses p ≡ true → stands p ≡ false → code ≢ n) → (stands p ≡ true → code ≢ c) → PointOk next locked (c ∷ n ∷ q) p code found after → PointOk next locked' (n ∷ q) p code found after
 shifted next locked locked' c n q Clearing code found after second real told once same out far ok = same (out refl refl) ∙ ok
@@ -128,7 +128,7 @@ shifted next locked locked' c n q Linking code found after second real told once
 shifted next locked locked' c n q Waiting code found after second real told once same out far ok = ⊎_elim
     (λ s. ⊎_elim (λ t. inr (ap some (sym t.1), ap locked' t.1 ∙ told)) (λ t. inl (t.0, same t.1 ∙ s.1, s.2)) (before-shift c n q found code once s.0))
     (λ s. absurd (far refl (sym (some-injective c code s.0)))) ok
-shifted next locked locked' c n q Front code found after second real told once same out far ok = absurd (far refl (sym (some-injective c code ok.0)))
+shifted next locked locked' c n q Head code found after second real told once same out far ok = absurd (far refl (sym (some-injective c code ok.0)))
 shifted next locked locked' c n q Ready code found after second real told once same out far ok = absurd (far refl (sym (some-injective c code ok.0)))
 shifted next locked locked' c n q Passing code found after second real told once same out far ok = absurd (far refl (sym (some-injective c code ok.0)))
 shifted next locked locked' c n q _ code found after second real told once same out far ok = tt

@@ -9,7 +9,7 @@ use Rattle.std.specs.Prelude.{reverse}
 use Rattle.std.proofs.lemmas.List.{reverse-reverse}
 use Rattle.lock_core.specs.declared.view.Frame.{Frame}
 use Rattle.lock_core.specs.declared.view.Point.{Point}
-use Rattle.lock_core.specs.declared.view.Point.TheVariants.{Linking, Waiting, Front, Ready, Passing}
+use Rattle.lock_core.specs.declared.view.Point.TheVariants.{Linking, Waiting, Head, Ready, Passing}
 use Rattle.lock_core.specs.Totals.{total}
 use Rattle.lock_core.specs.SpinFrames.{when, code_is, stands, uses, stands_as, takes_of, pends_of, undoes_of, is_head}
 use Rattle.lock_core.specs.SpinQueues.{tail_of, tail_unit, Before, PointOk, Queued, LockKept}
@@ -38,14 +38,14 @@ placed : (next locked : ℕ → ℕ) (q : List ℕ) (point : Point) (p code foun
 unfolding Placed
 placed next locked q Linking p code found after single standing ok there = behind locked q p code found single ok.0 ok.2 there
 placed next locked q Waiting p code found after single standing ok there = ⊎_elim (λ t. behind locked q p code found single t.0 t.1 there) (λ t. inl (one_place q p 0 code single there t.0, inr t.1)) ok
-placed next locked q Front p code found after single standing ok there = inl (one_place q p 0 code single there ok.0, ok.1)
+placed next locked q Head p code found after single standing ok there = inl (one_place q p 0 code single there ok.0, ok.1)
 placed next locked q Ready p code found after single standing ok there = inl (one_place q p 0 code single there ok.0, ok.1)
 placed next locked q Passing p code found after single standing ok there = inl (one_place q p 0 code single there ok.0, ok.1)
 placed next locked q _ p code found after single standing ok there = absurd cc
 
 -- a head has the first node
 head-first : (next locked : ℕ → ℕ) (q : List ℕ) (point : Point) (code found after : ℕ) → is_head point ≡ true → PointOk next locked q point code found after → get_elem? q 0 ≡ some code
-head-first next locked q Front code found after head ok = ok.0
+head-first next locked q Head code found after head ok = ok.0
 head-first next locked q Ready code found after head ok = ok.0
 head-first next locked q Passing code found after head ok = ok.0
 head-first next locked q _ code found after head ok = absurd cc
@@ -96,7 +96,7 @@ owes-point next locked q Linking p x code found after single some_code standing 
 owes-point next locked q Waiting p x code found after single some_code standing ok here there none = ⊎_elim
     (λ t. absurd (some_code (sym t.2 ∙ (ap next (found-before q p x code found single here there t.0) ∙ none))))
     (λ t. absurd (no-suc p (one_place q (suc p) 0 code single there t.0))) ok
-owes-point next locked q Front p x code found after single some_code standing ok here there none = absurd (no-suc p (one_place q (suc p) 0 code single there ok.0))
+owes-point next locked q Head p x code found after single some_code standing ok here there none = absurd (no-suc p (one_place q (suc p) 0 code single there ok.0))
 owes-point next locked q Ready p x code found after single some_code standing ok here there none = absurd (no-suc p (one_place q (suc p) 0 code single there ok.0))
 owes-point next locked q Passing p x code found after single some_code standing ok here there none = absurd (no-suc p (one_place q (suc p) 0 code single there ok.0))
 owes-point next locked q _ p x code found after single some_code standing ok here there none = absurd cc
@@ -109,7 +109,7 @@ module _ (word : ℕ) (next locked : ℕ → ℕ) (q : List ℕ) (fs : List Fram
       ∙ (ap (λ b. when b (when (f.code == x) f.found)) t.0 ∙ ap (λ b. when b f.found) (eq-eqb f.code x t.1)) in
       subst (λ z. Placed locked q p x z) (sym found) (subst (λ z. Placed locked q p z f.found) t.1 (placed next locked q f.point p f.code f.found f.next (once q fs k.queued f.code) t.0 (k.each s.0 f s.2) (there ∙ ap some (sym t.1))))
 
-  -- each but the front stands behind the node that it found
+  -- each but the head stands behind the node that it found
   follows : (a : ℕ) (rest : List ℕ) → q ≡ a ∷ rest → (i x : ℕ) → get_elem? (a ∷ rest) (suc i) ≡ some x → (get_elem? (a ∷ rest) i ≡ some (found_by fs x)) × (locked x ≡ 0) × (x ≢ 0) × (found_by fs x ≢ 0)
   unfolding Placed
   follows a rest is i x there = let at : get_elem? q (suc i) ≡ some x = subst (λ z. get_elem? z (suc i) ≡ some x) (sym is) there in ⊎_elim (λ t. absurd (no-suc i t.0))

@@ -8,7 +8,7 @@ use Rattle.lock_core.specs.declared.view.View.{View}
 use Rattle.lock_core.specs.declared.view.LockHand.{LockHand}
 use Rattle.lock_core.specs.declared.view.Frame.{Frame}
 use Rattle.lock_core.specs.declared.view.Point.{Point}
-use Rattle.lock_core.specs.declared.view.Point.TheVariants.{Taking, Cleared, Linking, Waiting, Front, Ready, Passing, Holding}
+use Rattle.lock_core.specs.declared.view.Point.TheVariants.{Taking, Cleared, Linking, Waiting, Head, Ready, Passing, Holding}
 use Rattle.lock_core.specs.SpinFrames.{uses}
 use Rattle.lock_core.specs.LockHands.{lock_hand_at, frame_at, point_at, depth_of, at-with, at-else}
 use Rattle.lock_core.specs.Spins.{tail_in}
@@ -18,18 +18,18 @@ use Rattle.lock_core.specs.Nestings.{is_held, waits_at}
 use Rattle.qspin_word.specs.Ways.{lock_hand_to}
 use Rattle.qspin_word.specs.SpinWordHandles.{spin_in, lock_hand_of, point_in, SpinSteps, SpinWaits, SpinIdles, KeepsNodes}
 use Rattle.qspin_queue.specs.SpinQueueHandles.{SpinTakes, LeavesNode}
-use Rattle.qspin_queue.specs.SpinQueueHands.{lock_hand_with, as_front, entered, queued, heard, learnt, readied, retried, took_last}
+use Rattle.qspin_queue.specs.SpinQueueHands.{lock_hand_with, as_head, entered, queued, heard, learnt, readied, retried, took_last}
 use Rattle.qspin_word.proofs.Noting.{flags-eq, told-points}
 use Rattle.qspin_word.proofs.Idling.{alike-same, idles-then, idles-look}
 use Rattle.qspin_word.proofs.Passing.{steps-as}
 use Rattle.qspin_queue.proofs.Queueing.{nodes-framed, framed-told, took-from, loop-waits, loop-nodes, loop-lock-hand, takes-once, took-leaves, took-lock-hand, takes-idle}
 
 module _ {E : Type 0} (l n : ℕ) (v : View E) where
-  pub heard-one : n ≡ 1 → heard l n v ≡ framed l v.spin (as_front (frame_at l v.spin))
-  heard-one one = ap (λ (b : Bool). if b then framed l v.spin (as_front (frame_at l v.spin)) else v.spin) (eq-eqb n 1 one)
+  pub heard-one : n ≡ 1 → heard l n v ≡ framed l v.spin (as_head (frame_at l v.spin))
+  heard-one one = ap (λ (b : Bool). if b then framed l v.spin (as_head (frame_at l v.spin)) else v.spin) (eq-eqb n 1 one)
 
   pub heard-none : n ≢ 1 → heard l n v ≡ v.spin
-  heard-none none = ap (λ (b : Bool). if b then framed l v.spin (as_front (frame_at l v.spin)) else v.spin) (ne_eqb n 1 none)
+  heard-none none = ap (λ (b : Bool). if b then framed l v.spin (as_head (frame_at l v.spin)) else v.spin) (ne_eqb n 1 none)
 
   pub readied-free : n % 512 ≡ 0 → readied l n v ≡ went l v.spin Ready
   readied-free free = ap (λ (b : Bool). if b then went l v.spin Ready else v.spin) (eq-eqb (n % 512) 0 free)
@@ -42,7 +42,7 @@ module _ {E : Type 0} (l n : ℕ) (v : View E) where
   frames false f g = refl
 
   pub queued-there : (from : ℕ) → n ≡ from → queued l from n v ≡ framed l v.spin (entered n (frame_at l v.spin))
-  queued-there from same = let f : Frame = frame_at l v.spin in let a : Frame = record f { point = Front; found = 0; next = 0 } in let b : Frame = record f { point = Linking; found = tail_in n } in
+  queued-there from same = let f : Frame = frame_at l v.spin in let a : Frame = record f { point = Head; found = 0; next = 0 } in let b : Frame = record f { point = Linking; found = tail_in n } in
       ap (λ (x : Bool). if x then (if ltb n 512 then framed l v.spin a else framed l v.spin b) else v.spin) (eq-eqb n from same) ∙ frames (ltb n 512) a b
 
   pub missed-last : (from : ℕ) → n ≢ from → took_last l from n v ≡ v.spin
@@ -57,11 +57,11 @@ module _ {E : Type 0} (l n : ℕ) (v : View E) where
   pub retried-taken : n ≢ 0 → retried l n v ≡ v.spin
   retried-taken not = ap (λ (b : Bool). if b then took_at l v.spin (v.steps + 1) Holding else v.spin) (ne_eqb n 0 not)
 
--- who entered is the front, or has another before it
-entered-either : (P : Point → Type 0) (n : ℕ) (f : Frame) → P Front → P Linking → P (entered n f).point
+-- who entered is the head, or has another before it
+entered-either : (P : Point → Type 0) (n : ℕ) (f : Frame) → P Head → P Linking → P (entered n f).point
 entered-either P n f first behind = go (ltb n 512)
   where
-    go : (b : Bool) → P (if b then record f { point = Front; found = 0; next = 0 } else record f { point = Linking; found = tail_in n }).point
+    go : (b : Bool) → P (if b then record f { point = Head; found = 0; next = 0 } else record f { point = Linking; found = tail_in n }).point
     go true = first
     go false = behind
 
@@ -77,7 +77,7 @@ entered-waits n f = entered-either (λ p. waits_at p ≡ true) n f refl refl
 pub entered-code : (n : ℕ) (f : Frame) → (entered n f).code ≡ f.code
 entered-code n f = go (ltb n 512)
   where
-    go : (b : Bool) → (if b then record f { point = Front; found = 0; next = 0 } else record f { point = Linking; found = tail_in n }).code ≡ f.code
+    go : (b : Bool) → (if b then record f { point = Head; found = 0; next = 0 } else record f { point = Linking; found = tail_in n }).code ≡ f.code
     go true = refl
     go false = refl
 
@@ -108,16 +108,16 @@ module _ {R O E C : Type 0} (site : Site R O E C) (l : ℕ) (quiet : Type 0) whe
           (λ apart. at-else l m (spin_in a) (lock_hand_with g (lock_hand_of l a)) apart)
 
   -- it is in its loop, and what it waits for comes
-  pub front-waits : (n : ℕ) (a d e : Pass R O E C) → point_in l a ≡ Waiting → SpinIdles quiet site a d → SpinSteps site d e (heard l n (view_of d)) → n ≡ 1 → SpinWaits l quiet site a e (lock_hand_with (as_front (frame_at l (spin_in a))) (lock_hand_of l a))
-  front-waits n a d e p idle t one = loop-waits site l quiet a d (ap waits_at p) idle as_front e (steps-as site d e (heard l n (view_of d)) (framed l (spin_in d) (as_front (frame_at l (spin_in d)))) (heard-one l n (view_of d) one) t)
+  pub head-waits : (n : ℕ) (a d e : Pass R O E C) → point_in l a ≡ Waiting → SpinIdles quiet site a d → SpinSteps site d e (heard l n (view_of d)) → n ≡ 1 → SpinWaits l quiet site a e (lock_hand_with (as_head (frame_at l (spin_in a))) (lock_hand_of l a))
+  head-waits n a d e p idle t one = loop-waits site l quiet a d (ap waits_at p) idle as_head e (steps-as site d e (heard l n (view_of d)) (framed l (spin_in d) (as_head (frame_at l (spin_in d)))) (heard-one l n (view_of d) one) t)
 
-  pub front-nodes : (n : ℕ) (a d e : Pass R O E C) → point_in l a ≡ Waiting → SpinIdles quiet site a d → SpinSteps site d e (heard l n (view_of d)) → n ≡ 1 → KeepsNodes a e
-  front-nodes n a d e p idle t one = loop-nodes site l quiet a d (ap waits_at p) idle as_front e (sym (ap uses p)) (steps-as site d e (heard l n (view_of d)) (framed l (spin_in d) (as_front (frame_at l (spin_in d)))) (heard-one l n (view_of d) one) t)
+  pub head-nodes : (n : ℕ) (a d e : Pass R O E C) → point_in l a ≡ Waiting → SpinIdles quiet site a d → SpinSteps site d e (heard l n (view_of d)) → n ≡ 1 → KeepsNodes a e
+  head-nodes n a d e p idle t one = loop-nodes site l quiet a d (ap waits_at p) idle as_head e (sym (ap uses p)) (steps-as site d e (heard l n (view_of d)) (framed l (spin_in d) (as_head (frame_at l (spin_in d)))) (heard-one l n (view_of d) one) t)
 
-  pub ready-waits : (n : ℕ) (a d e : Pass R O E C) → point_in l a ≡ Front → SpinIdles quiet site a d → SpinSteps site d e (readied l n (view_of d)) → n % 512 ≡ 0 → SpinWaits l quiet site a e (lock_hand_to Ready (lock_hand_of l a))
+  pub ready-waits : (n : ℕ) (a d e : Pass R O E C) → point_in l a ≡ Head → SpinIdles quiet site a d → SpinSteps site d e (readied l n (view_of d)) → n % 512 ≡ 0 → SpinWaits l quiet site a e (lock_hand_to Ready (lock_hand_of l a))
   ready-waits n a d e p idle t free = loop-waits site l quiet a d (ap waits_at p) idle (λ f. at_point f Ready) e (steps-as site d e (readied l n (view_of d)) (went l (spin_in d) Ready) (readied-free l n (view_of d) free) t)
 
-  pub ready-nodes : (n : ℕ) (a d e : Pass R O E C) → point_in l a ≡ Front → SpinIdles quiet site a d → SpinSteps site d e (readied l n (view_of d)) → n % 512 ≡ 0 → KeepsNodes a e
+  pub ready-nodes : (n : ℕ) (a d e : Pass R O E C) → point_in l a ≡ Head → SpinIdles quiet site a d → SpinSteps site d e (readied l n (view_of d)) → n % 512 ≡ 0 → KeepsNodes a e
   ready-nodes n a d e p idle t free = loop-nodes site l quiet a d (ap waits_at p) idle (λ f. at_point f Ready) e (sym (ap uses p)) (steps-as site d e (readied l n (view_of d)) (went l (spin_in d) Ready) (readied-free l n (view_of d) free) t)
 
   pub late-waits : (n : ℕ) (a d e : Pass R O E C) → point_in l a ≡ Passing → SpinIdles quiet site a d → SpinSteps site d e (learnt l Passing n (view_of d)) → SpinWaits l quiet site a e (lock_hand_with (record (frame_at l (spin_in a)) { point = Passing; next = n }) (lock_hand_of l a))
@@ -132,11 +132,11 @@ module _ {R O E C : Type 0} (site : Site R O E C) (l : ℕ) (quiet : Type 0) whe
     loop-told p g w is held waits same t = let q : point_in l d ≡ p = ap (λ (b : LockHand). b.frame.point) (loop-lock-hand site l quiet a d (ap waits_at is ∙ w) idle) ∙ is in
         framed-told site l quiet d e g few (held ∙ sym (ap is_held q)) (waits ∙ sym (ap waits_at q)) (same ∙ sym (ap uses q)) t idle.told
 
-    pub front-told : (n : ℕ) → point_in l a ≡ Waiting → SpinSteps site d e (heard l n (view_of d)) → n ≡ 1 → IsNestTold e
-    front-told n is t one = loop-told Waiting (as_front (frame_at l (spin_in d))) refl is refl refl refl (steps-as site d e (heard l n (view_of d)) (framed l (spin_in d) (as_front (frame_at l (spin_in d)))) (heard-one l n (view_of d) one) t)
+    pub head-told : (n : ℕ) → point_in l a ≡ Waiting → SpinSteps site d e (heard l n (view_of d)) → n ≡ 1 → IsNestTold e
+    head-told n is t one = loop-told Waiting (as_head (frame_at l (spin_in d))) refl is refl refl refl (steps-as site d e (heard l n (view_of d)) (framed l (spin_in d) (as_head (frame_at l (spin_in d)))) (heard-one l n (view_of d) one) t)
 
-    pub ready-told : (n : ℕ) → point_in l a ≡ Front → SpinSteps site d e (readied l n (view_of d)) → n % 512 ≡ 0 → IsNestTold e
-    ready-told n is t free = loop-told Front (at_point (frame_at l (spin_in d)) Ready) refl is refl refl refl (steps-as site d e (readied l n (view_of d)) (went l (spin_in d) Ready) (readied-free l n (view_of d) free) t)
+    pub ready-told : (n : ℕ) → point_in l a ≡ Head → SpinSteps site d e (readied l n (view_of d)) → n % 512 ≡ 0 → IsNestTold e
+    ready-told n is t free = loop-told Head (at_point (frame_at l (spin_in d)) Ready) refl is refl refl refl (steps-as site d e (readied l n (view_of d)) (went l (spin_in d) Ready) (readied-free l n (view_of d) free) t)
 
     pub late-told : (n : ℕ) → point_in l a ≡ Passing → SpinSteps site d e (learnt l Passing n (view_of d)) → IsNestTold e
     late-told n is t = loop-told Passing (record (frame_at l (spin_in d)) { point = Passing; next = n }) refl is refl refl refl t
@@ -161,7 +161,7 @@ module _ {R O E C : Type 0} (site : Site R O E C) (l : ℕ) (quiet : Type 0) whe
   pub entry-nodes : (n from : ℕ) (a d e : Pass R O E C) → point_in l a ≡ Cleared → SpinIdles quiet site a d → SpinSteps site d e (queued l from n (view_of d)) → n ≡ from → KeepsNodes a e
   entry-nodes n from a d e p idle t same = loop-nodes site l quiet a d (ap waits_at p) idle (entered n) e (entered-uses n (frame_at l (spin_in a)) ∙ sym (ap uses p)) (steps-as site d e (queued l from n (view_of d)) (framed l (spin_in d) (entered n (frame_at l (spin_in d)))) (queued-there l n (view_of d) from same) t)
 
-  -- the front leaves alone, or doesn't
+  -- the head leaves alone, or doesn't
   pub last-takes : (n from : ℕ) (a d : Pass R O E C) → point_in l a ≡ Ready → SpinSteps site a d (took_last l from n (view_of a)) → n ≡ from → SpinTakes l quiet site a d
   last-takes n from a d p t same = takes-once site l quiet a d (steps-as site a d (took_last l from n (view_of a)) (took_at l (spin_in a) ((view_of a).steps + 1) Holding) (took-it l n (view_of a) from same) t) (λ e. let no : Ready ≡ Taking = sym p ∙ e in absurd cc)
 

@@ -1,18 +1,18 @@
 //! The slow path of the queued spin lock.
 ghost use Rattle.std.specs.Prelude.{◌≡◌, ◌≢◌, ◌+◌, ◌%◌, ◌<◌, ◌≤◌, ◌⊎◌, ◌↔◌, true, false, IsSome};
-ghost use Rattle.lock_core.specs.declared.view.Point.TheVariants.{Out, Taking, Trying, Cleared, Linking, Waiting, Front, Ready, Passing};
+ghost use Rattle.lock_core.specs.declared.view.Point.TheVariants.{Out, Taking, Trying, Cleared, Linking, Waiting, Head, Ready, Passing};
 ghost use Rattle.lock_core.specs.LockHands.{RestsAt, frame_at, depth_of};
 ghost use Rattle.lock_core.specs.Views.{SpinRests};
 ghost use Rattle.lock_core.specs.Spins.{tail_in, word_at};
 ghost use Rattle.lock_core.specs.SiteHandles.{view_of, task_in, SitsAt, SaysSame, KeepsPast, IsLatest, KeepsNest, IsNestTold};
 ghost use Rattle.qspin_word.specs.Ways.{lock_hand_to, LockGained, SpinGained};
 ghost use Rattle.qspin_word.specs.SpinWordHandles.{spin_in, point_in, lock_hand_of, IsAtNone, IsSameBut, KeepsFlagsBeside, KeepsNodes, OwnsPendingAt, SpinIdles, SpinWaits};
-ghost use Rattle.qspin_queue.specs.SpinQueueHands.{lock_hand_with, node_at, as_front, learning, entered};
+ghost use Rattle.qspin_queue.specs.SpinQueueHands.{lock_hand_with, node_at, as_head, learning, entered};
 ghost use Rattle.qspin_queue.specs.SpinQueueHandles.{codes, code_in, found_in, successor_in, IsNextNode, HasTop, SpinTakes, TakesInTurn, QueuesBehind, LeavesNode, EntersNode};
 
 use crate::steps::{
-    clear_locked, clear_next, exchange_last, exchange_tail, link, load_front, load_locked,
-    load_next, load_successor, pass_front, retry, set_locked,
+    clear_locked, clear_next, exchange_last, exchange_tail, link, load_head, load_locked,
+    load_next, load_successor, pass_head, retry, set_locked,
 };
 use cpu_task::Pauses;
 use lock_core::{Pass, Site, SpinHost};
@@ -55,8 +55,8 @@ fn enter_queue<H: SpinHost, W: Wait>(
     unreachable!()
 }
 
-/// Waits until the pass is the front.
-fn wait_front<H: SpinHost, W: Wait, I: Interrupt<Site<H>>>(
+/// Waits until the pass is the head.
+fn wait_head<H: SpinHost, W: Wait, I: Interrupt<Site<H>>>(
     site: &Site<H>,
     rt: &W,
     pass: &mut Pass<H>,
@@ -72,7 +72,7 @@ fn wait_front<H: SpinHost, W: Wait, I: Interrupt<Site<H>>>(
     requires node { code_in lock pass.old ≡ code }
     requires small { code < codes site.now }
     ensures waits { SpinWaits lock I.silent site.now pass.old pass.new
-        (lock_hand_with (as_front (frame_at lock (spin_in pass.old)))
+        (lock_hand_with (as_head (frame_at lock (spin_in pass.old)))
         (lock_hand_of lock pass.old)) }
     ensures told { IsNestTold pass.new }
     ensures nodes { KeepsNodes pass.old pass.new }
@@ -88,7 +88,7 @@ fn wait_front<H: SpinHost, W: Wait, I: Interrupt<Site<H>>>(
     unreachable!()
 }
 
-/// Waits until the locked byte and the pending bit are 0, as the front. The answer is the word.
+/// Waits until the locked byte and the pending bit are 0, as the head. The answer is the word.
 fn wait_ready<H: SpinHost, W: Wait, I: Interrupt<Site<H>>>(
     site: &Site<H>,
     rt: &W,
@@ -100,7 +100,7 @@ fn wait_ready<H: SpinHost, W: Wait, I: Interrupt<Site<H>>>(
     requires there { lock < H.LOCKS }
     requires numbered { IsSome (task_in pass.old) }
     requires told { IsNestTold pass.old }
-    requires point { point_in lock pass.old ≡ Front }
+    requires point { point_in lock pass.old ≡ Head }
     ensures waits { SpinWaits lock I.silent site.now pass.old pass.new
         (lock_hand_to Ready (lock_hand_of lock pass.old)) }
     ensures told { IsNestTold pass.new }
@@ -109,8 +109,8 @@ fn wait_ready<H: SpinHost, W: Wait, I: Interrupt<Site<H>>>(
 {
     let pauses = Pauses::new();
     for _ in rt.forever() {
-        let seen = load_front(site, pass, lock);
-        // The owner of the pending bit came first, and takes once the byte is 0: so the front waits
+        let seen = load_head(site, pass, lock);
+        // The owner of the pending bit came first, and takes once the byte is 0: so the head waits
         // for both.
         if seen % TAILLESS == 0 {
             return seen;
@@ -121,9 +121,9 @@ fn wait_ready<H: SpinHost, W: Wait, I: Interrupt<Site<H>>>(
     unreachable!()
 }
 
-/// Tells the predecessor, waits to be the front, and looks for a successor: the answer is its code,
+/// Tells the predecessor, waits to be the head, and looks for a successor: the answer is its code,
 /// or 0.
-fn become_front<H: SpinHost, W: Wait, I: Interrupt<Site<H>>>(
+fn become_head<H: SpinHost, W: Wait, I: Interrupt<Site<H>>>(
     site: &Site<H>,
     rt: &W,
     pass: &mut Pass<H>,
@@ -142,7 +142,7 @@ fn become_front<H: SpinHost, W: Wait, I: Interrupt<Site<H>>>(
     requires tail { predecessor < codes site.now }
     requires small { code < codes site.now }
     ensures waits { SpinWaits lock I.silent site.now pass.old pass.new
-        (lock_hand_with (learning Front result (frame_at lock (spin_in pass.old)))
+        (lock_hand_with (learning Head result (frame_at lock (spin_in pass.old)))
         (lock_hand_of lock pass.old)) }
     ensures told { IsNestTold pass.new }
     ensures nodes { KeepsNodes pass.old pass.new }
@@ -150,7 +150,7 @@ fn become_front<H: SpinHost, W: Wait, I: Interrupt<Site<H>>>(
 {
     // Until it reads this, the predecessor can't leave: it waits for a successor that it knows.
     link(site, pass, lock, predecessor, code);
-    wait_front(site, rt, pass, lock, code, irq);
+    wait_head(site, rt, pass, lock, code, irq);
     load_next(site, pass, lock, code)
 }
 
@@ -191,7 +191,7 @@ fn wait_successor<H: SpinHost, W: Wait, I: Interrupt<Site<H>>>(
     unreachable!()
 }
 
-/// Takes the lock as the front where nobody stands behind it, as the word says that it saw.
+/// Takes the lock as the head where nobody stands behind it, as the word says that it saw.
 fn take_last<H: SpinHost>(
     site: &Site<H>,
     pass: &mut Pass<H>,
@@ -219,7 +219,7 @@ fn take_last<H: SpinHost>(
     exchange_last(site, pass, lock, seen) == seen
 }
 
-/// Takes the lock as the front, and makes the successor the front.
+/// Takes the lock as the head, and makes the successor the head.
 fn hand_on<H: SpinHost, W: Wait, I: Interrupt<Site<H>>>(
     site: &Site<H>,
     rt: &W,
@@ -243,10 +243,10 @@ fn hand_on<H: SpinHost, W: Wait, I: Interrupt<Site<H>>>(
     ensures left { LeavesNode pass.old pass.new }
     ensures ready { (lock_hand_of lock pass.new).from ≡ Ready }
 {
-    // Nobody else takes while a front is ready, so a plain or is enough.
+    // Nobody else takes while a head is ready, so a plain or is enough.
     set_locked(site, pass, lock);
     if next != 0 {
-        pass_front(site, pass, lock, next);
+        pass_head(site, pass, lock, next);
     } else {
         // Another exchanged the tail since this pass looked, and may not have told its code yet. Or
         // the exchange met a pending bit that its owner undoes. That one queues up and tells its
@@ -254,12 +254,12 @@ fn hand_on<H: SpinHost, W: Wait, I: Interrupt<Site<H>>>(
         // queues up.
         pass.note_lock(lock, true, true);
         let late = wait_successor(site, rt, pass, lock, code, irq);
-        pass_front(site, pass, lock, late);
+        pass_head(site, pass, lock, late);
     }
 }
 
-/// Takes the lock as the front, once it is free.
-fn take_front<H: SpinHost, W: Wait, I: Interrupt<Site<H>>>(
+/// Takes the lock as the head, once it is free.
+fn take_head<H: SpinHost, W: Wait, I: Interrupt<Site<H>>>(
     site: &Site<H>,
     rt: &W,
     pass: &mut Pass<H>,
@@ -272,7 +272,7 @@ fn take_front<H: SpinHost, W: Wait, I: Interrupt<Site<H>>>(
     requires there { lock < H.LOCKS }
     requires numbered { IsSome (task_in pass.old) }
     requires told { IsNestTold pass.old }
-    requires point { point_in lock pass.old ≡ Front }
+    requires point { point_in lock pass.old ≡ Head }
     requires next { successor_in lock pass.old ≡ next }
     requires fits { next < codes site.now }
     requires node { code_in lock pass.old ≡ code }
@@ -352,10 +352,10 @@ fn queue_up<H: SpinHost, W: Wait, I: Interrupt<Site<H>>>(
 {
     let seen = enter_queue(site, rt, pass, lock, code);
     if seen < TAILLESS {
-        take_front(site, rt, pass, lock, 0, code, irq);
+        take_head(site, rt, pass, lock, 0, code, irq);
     } else {
-        let next = become_front(site, rt, pass, lock, seen / TAIL, code, irq);
-        take_front(site, rt, pass, lock, next, code, irq);
+        let next = become_head(site, rt, pass, lock, seen / TAIL, code, irq);
+        take_head(site, rt, pass, lock, next, code, irq);
     }
 }
 
@@ -379,7 +379,7 @@ fn take_with<H: SpinHost, W: Wait, I: Interrupt<Site<H>>>(
     ensures in_turn { TakesInTurn lock 4 pass.old pass.new }
 {
     let depth = pass.depth();
-    // A stale `next` would name a node that stands elsewhere now, a stale `locked` a front.
+    // A stale `next` would name a node that stands elsewhere now, a stale `locked` a head.
     clear_node(site, pass, lock, code);
     if try_cleared(site, pass, lock) {
         pass.note_depth(depth);
@@ -589,7 +589,7 @@ pub fn lock_with<H: SpinHost, W: Wait, I: Interrupt<Site<H>>>(
     ensures nodes { depth_of (spin_in pass.new) ≡ depth_of (spin_in pass.old) }
 
     // The step at which it took the lock, and the point from which it did: its first one, that of
-    // the owner of the pending bit, or the queue's front. Seven steps lead to the one try that a
+    // the owner of the pending bit, or the queue's head. Seven steps lead to the one try that a
     // call makes with its node cleared, and five from the step that found a rival.
     ensures fast { (result ≡ Way.Fast) ↔
         ((lock_hand_of lock pass.new).took ≡ (view_of pass.old).steps + 1) }

@@ -2,13 +2,13 @@
 //! `code` is the code of the pass's node: four times its task's number plus 1, and the node's number.
 ghost use Rattle.std.specs.Prelude.{◌≡◌, ◌≢◌, ◌+◌, ◌*◌, ◌/◌, ◌<◌};
 ghost use Rattle.word_bits.specs.declared.TheConstants.{MAX_TASKS};
-ghost use Rattle.lock_core.specs.declared.view.Point.TheVariants.{Clearing, Cleared, Linking, Waiting, Front, Ready, Passing};
+ghost use Rattle.lock_core.specs.declared.view.Point.TheVariants.{Clearing, Cleared, Linking, Waiting, Head, Ready, Passing};
 ghost use Rattle.lock_core.specs.LockHands.{RestsAt};
 ghost use Rattle.lock_core.specs.Spins.{tail_in, word_at, next_at, locked_at};
 ghost use Rattle.lock_core.specs.SiteHandles.{view_of, past_of, SitsAt};
 ghost use Rattle.lock_core.specs.Pasts.{FoundAt};
 ghost use Rattle.qspin_word.specs.SpinWordHandles.{spin_in, point_in, SpinSteps};
-ghost use Rattle.qspin_queue.specs.SpinQueueHands.{retried, cleared_locked, cleared_next, queued, linked, heard, learnt, readied, took_last, took_front, passed};
+ghost use Rattle.qspin_queue.specs.SpinQueueHands.{retried, cleared_locked, cleared_next, queued, linked, heard, learnt, readied, took_last, took_head, passed};
 ghost use Rattle.qspin_queue.specs.SpinQueueHandles.{codes, codes_of, code_in, found_in, successor_in, IsNextNode, HasTop};
 
 use lock_core::{Op, Pass, Site, SpinHost};
@@ -111,7 +111,7 @@ pub fn link<H: SpinHost>(
     spin_step::<H, Brand>(site, pass, lock, next_place(predecessor), Op::Store(code));
 }
 
-/// A load of `locked` of the pass's node: 1 once the pass is the front.
+/// A load of `locked` of the pass's node: 1 once the pass is the head.
 pub fn load_locked<H: SpinHost>(site: &Site<H>, pass: &mut Pass<H>, lock: usize, code: u64) -> u64
     requires own { SitsAt site.now pass.old }
     requires there { lock < H.LOCKS }
@@ -124,26 +124,26 @@ pub fn load_locked<H: SpinHost>(site: &Site<H>, pass: &mut Pass<H>, lock: usize,
     spin_step::<H, Brand>(site, pass, lock, locked_place(code), Op::Load)
 }
 
-/// A load of `next` of the pass's node, by the front.
+/// A load of `next` of the pass's node, by the head.
 pub fn load_next<H: SpinHost>(site: &Site<H>, pass: &mut Pass<H>, lock: usize, code: u64) -> u64
     requires own { SitsAt site.now pass.old }
     requires there { lock < H.LOCKS }
-    requires point { point_in lock pass.old ≡ Front }
+    requires point { point_in lock pass.old ≡ Head }
     requires node { code_in lock pass.old ≡ code }
     requires small { code < codes site.now }
     ensures steps { SpinSteps site.now pass.old pass.new
-        (learnt lock Front result (view_of pass.old)) }
+        (learnt lock Head result (view_of pass.old)) }
     ensures found { FoundAt (H.FIRST + next_at code) result (past_of pass.new) }
     ensures next { result < codes site.now }
 {
     spin_step::<H, Brand>(site, pass, lock, next_place(code), Op::Load)
 }
 
-/// A load of the word by the front: ready where the locked byte and the pending bit are 0.
-pub fn load_front<H: SpinHost>(site: &Site<H>, pass: &mut Pass<H>, lock: usize) -> u64
+/// A load of the word by the head: ready where the locked byte and the pending bit are 0.
+pub fn load_head<H: SpinHost>(site: &Site<H>, pass: &mut Pass<H>, lock: usize) -> u64
     requires own { SitsAt site.now pass.old }
     requires there { lock < H.LOCKS }
-    requires point { point_in lock pass.old ≡ Front }
+    requires point { point_in lock pass.old ≡ Head }
     ensures steps { SpinSteps site.now pass.old pass.new (readied lock result (view_of pass.old)) }
     ensures found { FoundAt (H.FIRST + word_at lock) result (past_of pass.new) }
 {
@@ -164,12 +164,12 @@ pub fn exchange_last<H: SpinHost>(site: &Site<H>, pass: &mut Pass<H>, lock: usiz
     word_step::<H, Brand>(site, pass, lock, Op::Exchange(from, LOCKED))
 }
 
-/// Sets the locked byte, as a ready front.
+/// Sets the locked byte, as a ready head.
 pub fn set_locked<H: SpinHost>(site: &Site<H>, pass: &mut Pass<H>, lock: usize)
     requires own { SitsAt site.now pass.old }
     requires there { lock < H.LOCKS }
     requires point { point_in lock pass.old ≡ Ready }
-    ensures steps { SpinSteps site.now pass.old pass.new (took_front lock (view_of pass.old)) }
+    ensures steps { SpinSteps site.now pass.old pass.new (took_head lock (view_of pass.old)) }
 {
     word_step::<H, Brand>(site, pass, lock, Op::Or(LOCKED));
 }
@@ -194,8 +194,8 @@ pub fn load_successor<H: SpinHost>(
     spin_step::<H, Brand>(site, pass, lock, next_place(code), Op::Load)
 }
 
-/// Stores 1 in `locked` of the successor, which is then the front.
-pub fn pass_front<H: SpinHost>(site: &Site<H>, pass: &mut Pass<H>, lock: usize, successor: u64)
+/// Stores 1 in `locked` of the successor, which is then the head.
+pub fn pass_head<H: SpinHost>(site: &Site<H>, pass: &mut Pass<H>, lock: usize, successor: u64)
     requires own { SitsAt site.now pass.old }
     requires there { lock < H.LOCKS }
     requires point { point_in lock pass.old ≡ Passing }

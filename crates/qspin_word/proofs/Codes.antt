@@ -44,7 +44,7 @@ past_end (x ∷ []) p y e at = some-ne-none y (sym at)
 past_end (x ∷ z ∷ q) zero y e at = let n : suc zero ≡ suc (suc (length q)) = e in omega arith
 past_end (x ∷ z ∷ q) (suc p) y e at = past_end (z ∷ q) p y (omega arith) at
 
--- the front is the last: it stands alone
+-- the head is the last: it stands alone
 pub alone : (q : List ℕ) (c : ℕ) → total (code_is c) q ≤ 1 → total (code_is 0) q ≡ 0 → get_elem? q 0 ≡ some c → tail_of q ≡ c → q ≡ c ∷ []
 alone [] c once real at last = absurd (some-ne-none c (sym at))
 alone (x ∷ []) c once real at last = ap (λ (z : ℕ). z ∷ []) (some-injective x c at)

@@ -14,7 +14,7 @@ use Rattle.lock_core.specs.declared.view.LockHand.{LockHand}
 use Rattle.lock_core.specs.declared.view.Frame.{Frame}
 use Rattle.lock_core.specs.declared.view.Saw.{Saw}
 use Rattle.lock_core.specs.declared.view.Point.{Point}
-use Rattle.lock_core.specs.declared.view.Point.TheVariants.{Out, Undoing, Pending, Taking, Trying, Front, Ready, Passing, Holding}
+use Rattle.lock_core.specs.declared.view.Point.TheVariants.{Out, Undoing, Pending, Taking, Trying, Head, Ready, Passing, Holding}
 use Rattle.lock_core.specs.Totals.{total, total-at}
 use Rattle.lock_core.specs.Views.{SpinPart, spin_part, part_with}
 use Rattle.lock_core.specs.LockHands.{lock_hand_at, frame_at, with_lock_hand, RestsAt, RestsEverywhere, at-with, at-else}
@@ -89,7 +89,7 @@ to-holding : (p : Point) (word : ℕ) → ComesTo p Holding word
 to-holding Undoing word = tt
 to-holding Pending word = tt
 to-holding Taking word = tt
-to-holding Front word = tt
+to-holding Head word = tt
 to-holding Ready word = tt
 to-holding _ word = tt
 

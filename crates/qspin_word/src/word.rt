@@ -166,7 +166,7 @@ pub fn take_by_pending<H: SpinHost, W: Wait, I: Interrupt<Site<H>>>(
     if seen < PENDING {
         pass.note_lock(lock, false, true);
         wait_unlocked(site, rt, pass, lock, irq);
-        // While the bit is set nobody else takes the lock: who comes queues, and the front waits.
+        // While the bit is set nobody else takes the lock: who comes queues, and the head waits.
         clear_pending_set_locked(site, pass, lock);
         return true;
     }

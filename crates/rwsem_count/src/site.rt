@@ -280,7 +280,8 @@ impl<O: Object> CountSite<O> {
         ensures linear { IsLinearizable O.object O.WORDS (plan_of self.now) (past_of pass.new) }
         ensures always { EachMoment (IsCountSiteThen O.object O.WORDS (plan_of self.now))
             (past_of pass.new) }
-        ensures moves { Ran kept_bias (newest (plan_of self.now)) (IsSiteMove (plan_of self.now) count_at)
+        ensures moves { Ran kept_bias (newest (plan_of self.now))
+            (IsSiteMove (plan_of self.now) count_at)
             (past_of pass.new) }
         ensures joined { KeepsJoined (joined_by pass.old) (past_of pass.new) }
     {
@@ -295,7 +296,8 @@ impl<O: Object> CountSite<O> {
         ensures transit { transit_in pass.new ≡ transit_in pass.old }
         ensures kept { view_of pass.new ≡ ticked (view_of pass.old) }
         ensures last { IsLatest pass.new }
-        ensures moves { Ran kept_bias (newest (plan_of self.now)) (IsSiteMove (plan_of self.now) count_at)
+        ensures moves { Ran kept_bias (newest (plan_of self.now))
+            (IsSiteMove (plan_of self.now) count_at)
             (past_of pass.new) }
     {
         self.site.grown(&mut pass.pass);

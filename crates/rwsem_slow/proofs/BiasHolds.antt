@@ -41,7 +41,7 @@ use Rattle.rwsem_wake.specs.declared.view.SemHand.{SemHand}
 use Rattle.rwsem_wake.specs.declared.view.Wait.TheVariants.{Apart}
 use Rattle.rwsem_wake.specs.declared.view.Stage.TheVariants.{Rest}
 use Rattle.rwsem_wake.specs.SemParts.{transit_weight}
-use Rattle.rwsem_wake.specs.Grants.{stirred}
+use Rattle.rwsem_wake.specs.Grants.{with_changes}
 use Rattle.rwsem_wake.specs.GrantQueues.{HoldsBy}
 use Rattle.rwsem_wake.proofs.Holding.{shared-holds}
 use Rattle.rwsem_slow.specs.CountHosting.{sem-count, sem-counted}
@@ -74,7 +74,7 @@ module _ {Call : Type 0} (o : Obj Call) (size : ℕ) (k : Plan) where
       let c = (sem-count o size k ws vs h).0 in let early : early_in (count_part bias_of v) ≡ 1 - word % 2 = ap early_weight transit in let F = total-at early_in ps id (count_part bias_of v) mine' in
       let none : n % 2 ≡ 0 = elim (dec_le 1 (n % 2)) [ yes l ↦ (let a = c.apart (omega (arith, l)) in absurd (omega (arith, a, early, even, F))) | no l ↦ omega (arith, l) ] in
       let wr = c.writer in let alones = alone-parts bias_of vs in let none_alone : total alone_of hs ≡ 0 = omega (arith, alones, wr, none) in
-      let g : Hand = took v.hand Shared (take size (site k ws).guarded) r.log in let ok = r.each id v.hand mine in let w : V = stirred with_sem with_wake v g (record v.ext.sem { bias = Clear }) v.ext.wake in
+      let g : Hand = took v.hand Shared (take size (site k ws).guarded) r.log in let ok = r.each id v.hand mine in let w : V = with_changes with_sem with_wake v g (record v.ext.sem { bias = Clear }) v.ext.wake in
       let is : record v { hand = g; steps = v.steps + 1; ext = biased v g Clear } ≡ w = (λ i. record w { ext = record w.ext { wake = record v.ext.wake { owing = owes_after (out i) g.held g.freed v.ext.wake.owing } } }) in (
         w,
         keeps,

@@ -13,6 +13,6 @@ pub mod BiasHolds
 pub mod Unqueued
 pub mod Counting
 pub mod Opening
-pub mod Vigils
+pub mod WaitStates
 pub mod Marking
 pub mod Woken

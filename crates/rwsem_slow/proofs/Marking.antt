@@ -9,13 +9,13 @@ use Rattle.rwsem_wake.specs.RwSemWakes.{HasChosenAll, IsAtRest, SetsAll}
 use Rattle.rwsem_slow.specs.Queued.{IsInLine, IsInLineToWake}
 
 -- it looked whom to wake, and is to wake those
-pub marks : (wait : Wait) (tasks : List ℕ) (v u : V) → v.ext.sem.wait ≡ wait → v.ext.wake.chosen ≡ [] → waits v.ext.wake.vigil ≡ 1 → StaysBeside v u → IsAtRest u → HasChosenAll tasks v u → IsInLineToWake wait tasks u
-marks wait tasks v u waits_so none vigil beside rests chosen = record {
+pub marks : (wait : Wait) (tasks : List ℕ) (v u : V) → v.ext.sem.wait ≡ wait → v.ext.wake.chosen ≡ [] → waits v.ext.wake.wait_state ≡ 1 → StaysBeside v u → IsAtRest u → HasChosenAll tasks v u → IsInLineToWake wait tasks u
+marks wait tasks v u waits_so none wait_state beside rests chosen = record {
   waits = λ i. record { wait = (beside.wait ∙ waits_so) i; bias = rests.clear i; stage = rests.stage i; rest = rests.none i };
   still = rests.still;
   clear = chosen.clear;
   chosen = ap (λ (b : SemWake). b.chosen) chosen.chose ∙ ap (λ (ts : List ℕ). ts ++ tasks) none;
-  vigil = ap (λ (b : SemWake). waits b.vigil) chosen.chose ∙ vigil;
+  wait_state = ap (λ (b : SemWake). waits b.wait_state) chosen.chose ∙ wait_state;
 }
 
 -- it has set their wake words since, and waits in line
@@ -26,6 +26,6 @@ marked wait tasks many u m w to_wake same sets = record {
   listed = record {
     clear = ap (λ (z : V). z.ext.wake.owing) sets.is ∙ (ap (λ e. e.wake.owing) same ∙ to_wake.clear);
     none = ap (λ (z : V). z.ext.wake.chosen) sets.is;
-    waits = ap (λ (z : V). waits z.ext.wake.vigil) sets.is ∙ (ap (λ e. waits e.wake.vigil) same ∙ to_wake.vigil);
+    waits = ap (λ (z : V). waits z.ext.wake.wait_state) sets.is ∙ (ap (λ e. waits e.wake.wait_state) same ∙ to_wake.wait_state);
   };
 }

@@ -13,7 +13,7 @@ use Rattle.wait_list.specs.declared.view.ListHand.{ListHand}
 use Rattle.wait_list.specs.declared.view.Waiter.{Waiter}
 use Rattle.wait_list.specs.Lists.{AllowsChange, FindsFirst, IsList, Knows, Removes, first_code, first_of, list_part, waiter_code, without}
 use Rattle.rwsem_count.specs.declared.view.Bias.TheVariants.{Clear}
-use Rattle.wake_duty.specs.declared.view.Vigil.TheVariants.{Absent}
+use Rattle.wake_duty.specs.declared.view.WaitState.TheVariants.{Absent}
 use Rattle.rwsem_wake.specs.declared.duty.SemWake.{SemWake}
 use Rattle.rwsem_wake.specs.Duties.{heard_locked_at, paid}
 use Rattle.rwsem_wake.specs.declared.view.SemHand.{SemHand}
@@ -21,7 +21,7 @@ use Rattle.rwsem_wake.specs.declared.view.Stage.TheVariants.{Armed, Emptied}
 use Rattle.rwsem_wake.specs.declared.view.Wait.TheVariants.{Apart, Reads}
 use Rattle.rwsem_wake.specs.SemParts.{apart_hand, some_of}
 use Rattle.rwsem_wake.specs.Batches.{starts_with_reader}
-use Rattle.rwsem_wake.specs.Grants.{OnlySem, StirsTo, TurnsTo, summing, unmarked}
+use Rattle.rwsem_wake.specs.Grants.{OnlySem, ChangesTo, TurnsTo, summing, unmarked}
 use Rattle.rwsem_wake.specs.GrantQueues.{MayLook, heard_locked, rested}
 use Rattle.rwsem_wake.specs.RwSemViews.{V, leaves_wake, list_of, parted, parted_wake, sem_of, with_list, with_sem, with_wake}
 use Rattle.rwsem_slow.specs.RwSems.{may_change}
@@ -32,7 +32,7 @@ use Rattle.rwsem_slow.specs.Leaving.{HasLeft, IsUnmarked, MayLeave, SeesUngrante
 use Rattle.rwsem_wake.specs.RwSemWakes.{HasChosenAll, IsAtRest, SawWriter, woken_of}
 use Rattle.wait_list.proofs.Joining.{holds-one}
 use Rattle.rwsem_wake.proofs.FirstLooks.{code-of}
-use Rattle.rwsem_slow.proofs.Vigils.{heard-same, stirs-turns}
+use Rattle.rwsem_slow.proofs.WaitStates.{heard-same, attends-turns}
 use Rattle.rwsem_slow.proofs.WriterSteps.{knows-same, removed-list, stays-turn}
 
 -- two loads that told of its signals
@@ -44,8 +44,8 @@ pub heard-on : (why : Interrupted) (h g : Hand) → g ≡ h → HasHeard why h �
 heard-on why h g same heard = record { pending = heard.pending; heard = ap (λ (z : Hand). z.heard) same ∙ heard.heard }
 
 -- a reader that loaded its own grant word under the wait lock
-pub sees-ungranted : (v u : V) (word : ℕ) → v.ext.sem ≡ waiting Reads → word ≢ 0 → StirsTo with_sem with_wake v (heard_locked v.ext.sem word) (heard_locked_at word v.ext.wake) u → SeesUngranted v u
-sees-ungranted v u word waits some_word stirs = let turns = stirs-turns v u (heard_locked v.ext.sem word) (heard_locked_at word v.ext.wake) (heard-same word v.ext.wake some_word) stirs in let sem : heard_locked v.ext.sem word ≡ ungranted = ap (λ (b : Bool). if b then record v.ext.sem { wait = Apart } else record v.ext.sem { stage = Armed }) (ne_eqb word 0 some_word) ∙ ap (λ (s : SemHand). record s { stage = Armed }) waits in
+pub sees-ungranted : (v u : V) (word : ℕ) → v.ext.sem ≡ waiting Reads → word ≢ 0 → ChangesTo with_sem with_wake v (heard_locked v.ext.sem word) (heard_locked_at word v.ext.wake) u → SeesUngranted v u
+sees-ungranted v u word waits some_word attends = let turns = attends-turns v u (heard_locked v.ext.sem word) (heard_locked_at word v.ext.wake) (heard-same word v.ext.wake some_word) attends in let sem : heard_locked v.ext.sem word ≡ ungranted = ap (λ (b : Bool). if b then record v.ext.sem { wait = Apart } else record v.ext.sem { stage = Armed }) (ne_eqb word 0 some_word) ∙ ap (λ (s : SemHand). record s { stage = Armed }) waits in
     turns ∙ (λ i. record v { steps = sym (ap (λ (z : V). z.steps) turns) i; ext = with_sem v.ext (sem i) })
 
 pub ungranted-leaves : (v u : V) → v.ext.list.changes ≡ false → IsListed v.ext.wake → SeesUngranted v u → MayLeave u
@@ -246,7 +246,7 @@ left-becomes tasks v u none clear b = record {
   later = b.later;
   apart = gone-sem v u 0 apart_hand (leaves_wake v.ext.wake.owing v.ext.wake) b;
   still = b.list.still;
-  wake = ap (λ (z : V). z.ext.wake) b.is ∙ (λ i. record v.ext.wake { owing = clear i; chosen = none-more tasks v.ext.wake none i; vigil = Absent });
+  wake = ap (λ (z : V). z.ext.wake) b.is ∙ (λ i. record v.ext.wake { owing = clear i; chosen = none-more tasks v.ext.wake none i; wait_state = Absent });
   hand = ap (λ (z : V). z.hand) b.is;
   spin = ap (λ (z : V). z.spin) b.is;
   fronts = ap (λ (z : V). z.fronts) b.is;
@@ -274,19 +274,19 @@ module _ (tasks : List ℕ) (v u w : V) (s : SemHand) (only : OnlySem with_sem v
   since x left = left-since tasks v w x (ap (λ (z : V). z.hand) gone.is ∙ ap (λ (z : V). z.hand) only) (ap (λ (z : V). z.spin) gone.is ∙ ap (λ (z : V). z.spin) only) (ap (λ (z : V). z.fronts) gone.is ∙ ap (λ (z : V). z.fronts) only)
       (let e = ap (λ (z : V). z.ext.appends) gone.is in let d = ap (λ (z : V). z.ext.appends) only in omega (arith, e, d)) (ap (λ (z : V). left_wake tasks z.ext.wake) gone.is ∙ ap (λ (z : V). left_wake tasks z.ext.wake) only) (let l = gone.later in omega (arith, l, before)) left
 
-  absent : w.ext.wake.vigil ≡ Absent
-  absent = ap (λ (z : V). z.ext.wake.vigil) gone.is
+  absent : w.ext.wake.wait_state ≡ Absent
+  absent = ap (λ (z : V). z.ext.wake.wait_state) gone.is
 
   -- it was alone
   pub empty-stage : empty ≡ true → w.ext.sem ≡ record apart_hand { stage = Emptied }
   empty-stage is = gone-sem u w 0 (gone_first empty) (leaves_wake true u.ext.wake) gone ∙ ap gone_first is
 
-  pub left-empty : (x : V) → empty ≡ true → tasks ≡ [] → StirsTo with_sem with_wake w (rested w.ext.sem) (paid w.ext.wake) x → HasLeft tasks v x
+  pub left-empty : (x : V) → empty ≡ true → tasks ≡ [] → ChangesTo with_sem with_wake w (rested w.ext.sem) (paid w.ext.wake) x → HasLeft tasks v x
   left-empty x is none turns = since x record {
     later = (let n = ap (λ (z : V). z.steps) turns in omega (arith, n));
     apart = ap (λ (z : V). z.ext.sem) turns ∙ ap rested (empty-stage is);
     still = ap (λ (z : V). z.ext.list.changes) turns ∙ gone.list.still;
-    wake = ap (λ (z : V). z.ext.wake) turns ∙ (λ i. record w.ext.wake { owing = false; chosen = none-more tasks w.ext.wake none i; vigil = absent i });
+    wake = ap (λ (z : V). z.ext.wake) turns ∙ (λ i. record w.ext.wake { owing = false; chosen = none-more tasks w.ext.wake none i; wait_state = absent i });
     hand = ap (λ (z : V). z.hand) turns;
     spin = ap (λ (z : V). z.spin) turns;
     fronts = ap (λ (z : V). z.fronts) turns;
@@ -305,7 +305,7 @@ module _ (tasks : List ℕ) (v u w : V) (s : SemHand) (only : OnlySem with_sem v
     later = beside.later;
     apart = λ i. record { wait = (beside.wait ∙ ap (λ (z : SemHand). z.wait) (others-sem is)) i; bias = rests.clear i; stage = rests.stage i; rest = rests.none i };
     still = rests.still;
-    wake = chosen.chose ∙ (λ i. record w.ext.wake { owing = chosen.clear i; chosen = w.ext.wake.chosen ++ tasks; vigil = absent i });
+    wake = chosen.chose ∙ (λ i. record w.ext.wake { owing = chosen.clear i; chosen = w.ext.wake.chosen ++ tasks; wait_state = absent i });
     hand = beside.hand;
     spin = beside.spin;
     fronts = beside.fronts;

@@ -13,7 +13,7 @@ use Rattle.wait_list.specs.declared.view.Waiter.{Waiter}
 use Rattle.wait_list.specs.Lists.{Appends, FindsFirst, IsList, Knows, first_of}
 use Rattle.wait_list.proofs.Waiters.{sound-changed}
 use Rattle.rwsem_count.specs.declared.view.Bias.TheVariants.{Clear, Transit}
-use Rattle.wake_duty.specs.declared.view.Vigil.TheVariants.{Tried}
+use Rattle.wake_duty.specs.declared.view.WaitState.TheVariants.{Tried}
 use Rattle.wake_duty.specs.WakeSteps.{HasTried}
 use Rattle.rwsem_wake.specs.declared.duty.SemWake.{SemWake}
 use Rattle.rwsem_wake.specs.SemDuties.{drowsing}
@@ -21,17 +21,17 @@ use Rattle.rwsem_wake.specs.declared.view.SemHand.{SemHand}
 use Rattle.rwsem_wake.specs.declared.view.Stage.TheVariants.{Armed}
 use Rattle.rwsem_wake.specs.declared.view.Wait.TheVariants.{Reads}
 use Rattle.rwsem_wake.specs.SemParts.{apart_hand}
-use Rattle.rwsem_wake.specs.Grants.{StirsTo, TurnsTo, armed, unreserved}
+use Rattle.rwsem_wake.specs.Grants.{ChangesTo, TurnsTo, armed, unreserved}
 use Rattle.rwsem_wake.specs.Duties.{left_by}
 use Rattle.rwsem_wake.specs.GrantQueues.{HoldsBy, MaySettle, settled}
 use Rattle.rwsem_slow.specs.Queued.{Becomes, Drowses, IsInTransit, IsListed, Listens, Shares, Tries, WaitsOn, comes, waiting}
 use Rattle.rwsem_wake.specs.RwSemPlaces.{dozes_of}
 use Rattle.rwsem_wake.specs.Removals.{KnowsList}
 use Rattle.rwsem_wake.specs.RwSemViews.{V, IsDone, joined, list_of, sem_of, with_list, with_sem, with_wake}
-use Rattle.rwsem_slow.specs.RwSems.{vigil_of}
+use Rattle.rwsem_slow.specs.RwSems.{wait_state_of}
 use Rattle.wait_list.proofs.Joining.{holds-one}
 use Rattle.rwsem_slow.proofs.WriterSteps.{knows-same}
-use Rattle.rwsem_slow.proofs.Vigils.{listed-on}
+use Rattle.rwsem_slow.proofs.WaitStates.{listed-on}
 
 none-first : (q : List Waiter) → None ≡ first_of q → q ≡ []
 none-first [] e = refl
@@ -42,7 +42,7 @@ module _ (v u x y : V) (w : Waiter) (reads : w.writer ≡ false) (few : w.task <
   pub joins-bias : (word : ℕ) × (x.ext.sem.bias ≡ Transit word)
   joins-bias = (t.transit.0, ap (λ (z : V). z.ext.sem.bias) a.view ∙ (ap (λ (z : V). z.ext.sem.bias) arms ∙ ap (λ (s : SemHand). s.bias) t.transit.1))
 
-  module _ (locked : SpinHolds v.spin) (later : u.steps ≤ x.steps) (word : ℕ) (backs : StirsTo with_sem with_wake x (unreserved x.ext.sem) (left_by word x.ext.wake) y) where
+  module _ (locked : SpinHolds v.spin) (later : u.steps ≤ x.steps) (word : ℕ) (backs : ChangesTo with_sem with_wake x (unreserved x.ext.sem) (left_by word x.ext.wake) y) where
     armed-sem : u.ext.sem ≡ record apart_hand { bias = Transit t.transit.0; stage = Armed }
     armed-sem = ap (λ (z : V). z.ext.sem) arms ∙ ap armed t.transit.1
 
@@ -99,14 +99,14 @@ module _ (v x : V) (t : IsInTransit v) (f : FindsFirst list_of with_list v None 
   }
 
 -- it waits on after a try and its sleep
-waits-drowsed : (n : ℕ) (b : SemWake) → (e : ℕ) × (b.vigil ≡ Tried e) → IsListed b → IsListed (drowsing n b)
+waits-drowsed : (n : ℕ) (b : SemWake) → (e : ℕ) × (b.wait_state ≡ Tried e) → IsListed b → IsListed (drowsing n b)
 waits-drowsed zero b tried listed = record { clear = listed.clear; none = listed.none; waits = listed.waits }
 waits-drowsed (suc n) b tried listed = record { clear = listed.clear; none = listed.none; waits = refl }
 
 pub dozes-since : (u h p : V) → Tries u h → Listens h p → dozes_of p ≡ dozes_of u
 dozes-since u h p tries listens = ap (λ (z : V). z.ext.wake.dozes) listens ∙ ap (λ (b : SemWake). b.dozes) tries.keeps.is
 
-pub waits-again : (v u h p d : V) → WaitsOn Reads v u → Tries u h → Listens h p → HasTried vigil_of p → u.steps ≤ h.steps → h.steps ≤ p.steps → Drowses p d → WaitsOn Reads v d
+pub waits-again : (v u h p d : V) → WaitsOn Reads v u → Tries u h → Listens h p → HasTried wait_state_of p → u.steps ≤ h.steps → h.steps ≤ p.steps → Drowses p d → WaitsOn Reads v d
 waits-again v u h p d on tries listens tried a b drowses = let is = drowses.1 in let steps = ap (λ (z : V). z.steps) is in let keeps = on.keeps in let later = keeps.later in let entries = keeps.entries in let e = ap (λ (z : V). z.spin.entries) is ∙ (ap (λ (z : V). z.spin.entries) listens ∙ ap (λ (z : V). z.spin.entries) tries.is) in record {
   keeps = record {
     later = omega (arith, later, a, b, steps);

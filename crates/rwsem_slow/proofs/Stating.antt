@@ -22,11 +22,11 @@ use Rattle.lock_core.proofs.Stating.{kept-states}
 use Rattle.wait_list.specs.declared.view.Waiter.{Waiter}
 use Rattle.wait_list.specs.Lists.{AreTasks, Part, PartOk, changes_of, first_code, list_part}
 use Rattle.wait_list.specs.ListLaws.{holds-or-not}
-use Rattle.wake_duty.specs.declared.view.Vigil.{Vigil}
-use Rattle.wake_duty.specs.declared.view.Vigil.TheVariants.{Absent, Awake, Tried}
+use Rattle.wake_duty.specs.declared.view.WaitState.{WaitState}
+use Rattle.wake_duty.specs.declared.view.WaitState.TheVariants.{Absent, Awake, Tried}
 use Rattle.wake_duty.specs.DutyWakes.{awake, waits, wake_word}
 use Rattle.rwsem_wake.specs.declared.duty.SemWake.{SemWake}
-use Rattle.rwsem_wake.specs.SemDuties.{DutyPart, answers, chose, first_writes, rouses, stirs, times, wakes_first, where_so}
+use Rattle.rwsem_wake.specs.SemDuties.{DutyPart, answers, chose, first_writes, wakes_it, attends, times, wakes_first, where_so}
 use Rattle.rwsem_wake.specs.SemParts.{SemPart, alone_of, busy_of, busy_weight, granted_of, granting_of, reserve_of, rest_of, shared_of, transit_weight}
 use Rattle.rwsem_wake.specs.Duties.{overdue_of}
 use Rattle.rwsem_wake.specs.GrantsStated.{readers}
@@ -41,10 +41,10 @@ use Rattle.rwsem_slow.proofs.MarkedCounts.{same-wakes}
 use Rattle.rwsem_wake.specs.RwSemViews.{V, IsDone, list_of, seen}
 use Rattle.rwsem_slow.specs.RwSems.{Kept, RwSemKept, count_in, duty_seen, grants_in, marks_in, standing, wake_words}
 use Rattle.rwsem_slow.specs.RwSemLaws.{few-named}
-use Rattle.rwsem_slow.specs.RwSemStated.{HasWaitLock, IsQueued, IsRoused, IsRwSemThen, SomebodyKeepsOut, SomebodyOwes, WakesMarked, stance}
+use Rattle.rwsem_slow.specs.RwSemStated.{HasWaitLock, IsQueued, IsBeingWoken, IsRwSemThen, SomebodyKeepsOut, SomebodyOwes, WakesMarked, stance}
 
--- who doesn't wait has no vigil
-waits-none : (x : Vigil) → waits x ≡ 0 → x ≡ Absent
+-- who doesn't wait has no wait_state
+waits-none : (x : WaitState) → waits x ≡ 0 → x ≡ Absent
 waits-none Absent e = refl
 waits-none Awake e = absurd (omega (arith, e))
 waits-none (Tried n) e = absurd (omega (arith, e))
@@ -53,7 +53,7 @@ length-map : {A B : Type 0} (f : A → B) (xs : List A) → length (map f xs) �
 length-map f [] = refl
 length-map f (x ∷ xs) = let e = length-map f xs in omega (arith, e)
 
-awake-is : (t : ℕ) (task : Option ℕ) (x : Vigil) → 0 < awake t task x → (task ≡ Some t) × (x ≡ Awake)
+awake-is : (t : ℕ) (task : Option ℕ) (x : WaitState) → 0 < awake t task x → (task ≡ Some t) × (x ≡ Awake)
 awake-is t task Absent more = absurd (omega (arith, more))
 awake-is t task Awake more = (named-is t task 1 more, refl)
 awake-is t task (Tried n) more = absurd (omega (arith, more))
@@ -118,25 +118,25 @@ module _ {Call : Type 0} (o : Obj Call) (size : ℕ) (k : Plan) (ws : List ℕ) 
 
   -- a pass without a number has no wake to do
   done : (j : ℕ) (v : V) → get_elem? vs j ≡ some v → v.hand.task ≡ None → IsDone v.ext.wake
-  done j v at none = let quiet = (r.duty.each j (duty v) (at_map duty vs j v at)).unnamed none in record { clear = quiet.clear; none = quiet.none; absent = waits-none v.ext.wake.vigil quiet.absent }
+  done j v at none = let quiet = (r.duty.each j (duty v) (at_map duty vs j v at)).unnamed none in record { clear = quiet.clear; none = quiet.none; absent = waits-none v.ext.wake.wait_state quiet.absent }
 
   unnamed-there : (id : ℕ) (h : Hand) (b : SemWake) → get_elem? (map hand_of vs) id ≡ some h → h.task ≡ None → WakesMarked id b here → IsDone b
   unnamed-there id h b at none (s, appends, marked) = let x = at_unmap hand_of vs id h at in let v : V = x.0 in let quiet = done id v x.1 (ap {A = Hand} (λ g. g.task) x.2 ∙ none) in
       let e = same-wakes v s appends b (some-injective (marks_of standing v) (stance s appends b) (sym (at_map (marks_of standing) vs id v x.1) ∙ marked)) in record {
         clear = sym (ap (λ (w : WakeStands). w.owing) e) ∙ quiet.clear;
         none = sym (ap (λ (w : WakeStands). w.chosen) e) ∙ quiet.none;
-        absent = waits-none b.vigil (sym (ap (λ (w : WakeStands). w.queued) e) ∙ ap waits quiet.absent);
+        absent = waits-none b.wait_state (sym (ap (λ (w : WakeStands). w.queued) e) ∙ ap waits quiet.absent);
       }
 
-  -- a task is roused that somebody has chosen, whose wake word is set, or that is awake
-  chosen-roused : (t j : ℕ) (v : V) → get_elem? vs j ≡ some v → 0 < times t v.ext.wake.chosen → IsRoused here t
-  chosen-roused t j v at more = inl (j, v.hand, v.ext.wake, at_map hand_of vs j v at, (λ none. let quiet = done j v at none in absurd (let z = ap (times t) quiet.none in omega (arith, more, z))), marked-as j v at, omega (arith, more))
+  -- a task is awakened that somebody has chosen, whose wake word is set, or that is awake
+  chosen-awakened : (t j : ℕ) (v : V) → get_elem? vs j ≡ some v → 0 < times t v.ext.wake.chosen → IsBeingWoken here t
+  chosen-awakened t j v at more = inl (j, v.hand, v.ext.wake, at_map hand_of vs j v at, (λ none. let quiet = done j v at none in absurd (let z = ap (times t) quiet.none in omega (arith, more, z))), marked-as j v at, omega (arith, more))
 
-  word-roused : (t : ℕ) → t < MAX_TASKS → 0 < wake_word (wake_words ws) t → IsRoused here t
-  word-roused t few more = let l = r.duty.bits t few in inr (inl (omega (arith, l, more)))
+  word-awakened : (t : ℕ) → t < MAX_TASKS → 0 < wake_word (wake_words ws) t → IsBeingWoken here t
+  word-awakened t few more = let l = r.duty.bits t few in inr (inl (omega (arith, l, more)))
 
-  awake-roused : (t j : ℕ) (v : V) → get_elem? vs j ≡ some v → 0 < awake t v.hand.task v.ext.wake.vigil → IsRoused here t
-  awake-roused t j v at more = let a = awake-is t v.hand.task v.ext.wake.vigil more in inr (inr (j, v.hand, v.ext.wake, at_map hand_of vs j v at, a.0, marked-as j v at, a.1))
+  awake-awakened : (t j : ℕ) (v : V) → get_elem? vs j ≡ some v → 0 < awake t v.hand.task v.ext.wake.wait_state → IsBeingWoken here t
+  awake-awakened t j v at more = let a = awake-is t v.hand.task v.ext.wake.wait_state more in inr (inr (j, v.hand, v.ext.wake, at_map hand_of vs j v at, a.0, marked-as j v at, a.1))
 
   -- the pass of this weight writes, or owes a wake
   looks-or : (j : ℕ) (v : V) → get_elem? vs j ≡ some v → SomebodyOwes here ⊎ (bit v.ext.wake.owing ≡ 0)
@@ -146,11 +146,11 @@ module _ {Call : Type 0} (o : Obj Call) (size : ℕ) (k : Plan) (ws : List ℕ) 
   ]
 
   -- the first of those who wait, where nobody writes or reads
-  first-there : (w : Waiter) (behind : List Waiter) → q ≡ w ∷ behind → total alone_of ps ≡ 0 → readers (grants_in ws) ps ≡ 0 → SomebodyOwes here ⊎ SomebodyKeepsOut ps ⊎ ((w.writer ≡ true) × IsRoused here w.task)
-  first-there w behind is none unread = elim (native.Mathlib.Decide.dec_le 1 (total stirs ds)) [
-    | yes stir ↦ somebody stir
-    | no still ↦ let kept = r.duty.first t (ap first_code is) in let e : wakes_first (wake_words ws) q ds t ≡ where_so (bit w.writer) (total (rouses t) ds + wake_word (wake_words ws) t) = ap (λ (z : List Waiter). where_so (first_writes z) (total (rouses t) ds + wake_word (wake_words ws) t)) is in
-        let s = where-weighs (bit w.writer) (total (rouses t) ds + wake_word (wake_words ws) t) (omega (arith, kept, still, e)) in inr (inr (so-is w.writer s.0, roused s.1))
+  first-there : (w : Waiter) (behind : List Waiter) → q ≡ w ∷ behind → total alone_of ps ≡ 0 → readers (grants_in ws) ps ≡ 0 → SomebodyOwes here ⊎ SomebodyKeepsOut ps ⊎ ((w.writer ≡ true) × IsBeingWoken here w.task)
+  first-there w behind is none unread = elim (native.Mathlib.Decide.dec_le 1 (total attends ds)) [
+    | yes attend ↦ somebody attend
+    | no still ↦ let kept = r.duty.first t (ap first_code is) in let e : wakes_first (wake_words ws) q ds t ≡ where_so (bit w.writer) (total (wakes_it t) ds + wake_word (wake_words ws) t) = ap (λ (z : List Waiter). where_so (first_writes z) (total (wakes_it t) ds + wake_word (wake_words ws) t)) is in
+        let s = where-weighs (bit w.writer) (total (wakes_it t) ds + wake_word (wake_words ws) t) (omega (arith, kept, still, e)) in inr (inr (so-is w.writer s.0, awakened s.1))
   ]
     where
       t : ℕ
@@ -159,18 +159,18 @@ module _ {Call : Type 0} (o : Obj Call) (size : ℕ) (k : Plan) (ws : List ℕ) 
       few : w.task < MAX_TASKS
       few = (subst AreTasks is r.list.sound.small).0
 
-      somebody : 1 ≤ total stirs ds → SomebodyOwes here ⊎ SomebodyKeepsOut ps ⊎ ((w.writer ≡ true) × IsRoused here w.task)
-      somebody stir = let s = view-of duty stirs vs (omega (arith, stir)) in let x : V = s.1 in let at = at_map seen vs s.0 x s.2 in ⊎_elim
+      somebody : 1 ≤ total attends ds → SomebodyOwes here ⊎ SomebodyKeepsOut ps ⊎ ((w.writer ≡ true) × IsBeingWoken here w.task)
+      somebody attend = let s = view-of duty attends vs (omega (arith, attend)) in let x : V = s.1 in let at = at_map seen vs s.0 x s.2 in ⊎_elim
           (λ (looks : SomebodyOwes here). inl looks)
           (λ (clear : bit x.ext.wake.owing ≡ 0). inr (inl (s.0, seen x, at, (let a = total-at alone_of ps s.0 (seen x) at in let b = total-at shared_of ps s.0 (seen x) at in let c = total-at (granted_of (grants_in ws)) ps s.0 (seen x) at in let d = total-at granting_of ps s.0 (seen x) at in let m = s.3 in omega (arith, m, clear, a, b, c, d, none, unread)))))
           (looks-or s.0 x s.2)
 
-      roused : 0 < total (rouses w.task) ds + wake_word (wake_words ws) w.task → IsRoused here w.task
-      roused more = elim (native.Mathlib.Decide.dec_le 1 (wake_word (wake_words ws) w.task)) [
-        | yes set_it ↦ word-roused w.task few (omega (arith, set_it))
-        | no unset ↦ let s = view-of duty (rouses w.task) vs (omega (arith, more, unset)) in let x : V = s.1 in let m = s.3 in elim (native.Mathlib.Decide.dec_le 1 (times w.task x.ext.wake.chosen)) [
-          | yes chosen ↦ chosen-roused w.task s.0 x s.2 (omega (arith, chosen))
-          | no unchosen ↦ awake-roused w.task s.0 x s.2 (where-weighs (duty x).writes (awake w.task x.hand.task x.ext.wake.vigil) (omega (arith, m, unchosen))).1
+      awakened : 0 < total (wakes_it w.task) ds + wake_word (wake_words ws) w.task → IsBeingWoken here w.task
+      awakened more = elim (native.Mathlib.Decide.dec_le 1 (wake_word (wake_words ws) w.task)) [
+        | yes set_it ↦ word-awakened w.task few (omega (arith, set_it))
+        | no unset ↦ let s = view-of duty (wakes_it w.task) vs (omega (arith, more, unset)) in let x : V = s.1 in let m = s.3 in elim (native.Mathlib.Decide.dec_le 1 (times w.task x.ext.wake.chosen)) [
+          | yes chosen ↦ chosen-awakened w.task s.0 x s.2 (omega (arith, chosen))
+          | no unchosen ↦ awake-awakened w.task s.0 x s.2 (where-weighs (duty x).writes (awake w.task x.hand.task x.ext.wake.wait_state) (omega (arith, m, unchosen))).1
         ]
       ]
 
@@ -182,15 +182,15 @@ module _ {Call : Type 0} (o : Obj Call) (size : ℕ) (k : Plan) (ws : List ℕ) 
       (looks-or s.0 s.1 s.2)
 
   -- a reader that is granted while it waits
-  granted-there : (id : ℕ) (h : Hand) (p : SemPart) → get_elem? (map hand_of vs) id ≡ some h → get_elem? ps id ≡ some p → 1 ≤ granted_of (grants_in ws) p → (t : ℕ) → h.task ≡ Some t → IsRoused here t
+  granted-there : (id : ℕ) (h : Hand) (p : SemPart) → get_elem? (map hand_of vs) id ≡ some h → get_elem? ps id ≡ some p → 1 ≤ granted_of (grants_in ws) p → (t : ℕ) → h.task ≡ Some t → IsBeingWoken here t
   granted-there id h p at at' more t named = let x = at_unmap hand_of vs id h at in let v : V = x.0 in let there = at_map seen vs id v x.1 in let task : v.hand.task ≡ Some t = ap {A = Hand} (λ g. g.task) x.2 ∙ named in
       let g : granted_of (grants_in ws) p ≡ granted_of (grants_in ws) (seen v) = ap (granted_of (grants_in ws)) (some-injective p (seen v) (sym at' ∙ there)) in
       let kept = r.duty.granted id (duty v) (at_map duty vs id v x.1) (omega (arith, g, more)) t task in
       elim (native.Mathlib.Decide.dec_le 1 (total (chose t) ds)) [
-        | yes chosen ↦ let s = view-of duty (chose t) vs (omega (arith, chosen)) in chosen-roused t s.0 s.1 s.2 s.3
+        | yes chosen ↦ let s = view-of duty (chose t) vs (omega (arith, chosen)) in chosen-awakened t s.0 s.1 s.2 s.3
         | no unchosen ↦ elim (native.Mathlib.Decide.dec_le 1 (wake_word (wake_words ws) t)) [
-          | yes set_it ↦ word-roused t (small id (seen v) there t task) (omega (arith, set_it))
-          | no unset ↦ awake-roused t id v x.1 (omega (arith, kept, unchosen, unset))
+          | yes set_it ↦ word-awakened t (small id (seen v) there t task) (omega (arith, set_it))
+          | no unset ↦ awake-awakened t id v x.1 (omega (arith, kept, unchosen, unset))
         ]
       ]
 

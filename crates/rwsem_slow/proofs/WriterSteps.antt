@@ -27,16 +27,16 @@ use Rattle.rwsem_wake.specs.declared.view.Wait.{Wait}
 use Rattle.rwsem_wake.specs.declared.view.Wait.TheVariants.{Writes}
 use Rattle.rwsem_wake.specs.SemParts.{apart_hand}
 use Rattle.lock_core.specs.Views.{SpinHolds, took}
-use Rattle.rwsem_wake.specs.Grants.{StirsTo, TurnsTo, stirred}
+use Rattle.rwsem_wake.specs.Grants.{ChangesTo, TurnsTo, with_changes}
 use Rattle.rwsem_wake.specs.GrantQueues.{HoldsBy, MayTake, asked, own_unmarked, rested, taken}
 use Rattle.rwsem_slow.specs.Queued.{Becomes, HasTaken, HasTriedAt, IsInLine, IsListed, IsTrying, KeepsWaiting, KnowsMark, Rests, Stays, Tries, waiting}
 use Rattle.rwsem_wake.specs.Removals.{KnowsList}
 use Rattle.rwsem_wake.specs.RwSemViews.{V, leaves_wake, list_of, parted, parted_wake, sem_of, with_list, with_sem, with_wake}
-use Rattle.rwsem_slow.specs.RwSems.{vigil_of}
+use Rattle.rwsem_slow.specs.RwSems.{wait_state_of}
 use Rattle.wait_list.proofs.Joining.{holds-one}
 use Rattle.rwsem_slow.proofs.Joining.{code-waits}
 use Rattle.rwsem_wake.proofs.Walking.{finds-next}
-use Rattle.rwsem_slow.proofs.Vigils.{exchanged-other, exchanged-same, keeps-of, keeps-on, locked-left, saw-keeps, tried-at, tried-same}
+use Rattle.rwsem_slow.proofs.WaitStates.{exchanged-other, exchanged-same, keeps-of, keeps-on, locked-left, saw-keeps, tried-at, tried-same}
 
 -- it knows the list as before where the list and the spin lock are
 pub knows-same : (v u : V) → KnowsList v → u.spin ≡ v.spin → u.ext.list ≡ v.ext.list → KnowsList u
@@ -58,9 +58,9 @@ pub tries-on : (v u w : V) → Tries v u → Tries u w → Tries v w
 tries-on v u w t m = record { is = m.is ∙ (λ i. record (t.is i) { steps = w.steps; ext = record (t.is i).ext { wake = w.ext.wake } }); keeps = keeps-on v.ext.wake u.ext.wake w.ext.wake t.keeps m.keeps }
 
 -- a look at the count, by a queued writer
-pub looks-tries : (v u : V) (word : ℕ) → StirsTo with_sem with_wake v v.ext.sem (saw_count word v.ext.wake) u → Tries v u
-looks-tries v u word stirs = let wake = ap (λ (z : V). z.ext.wake) stirs in record {
-  is = stirs ∙ (λ i. record v { steps = sym (ap (λ (z : V). z.steps) stirs) i; ext = record v.ext { wake = sym wake i } });
+pub looks-tries : (v u : V) (word : ℕ) → ChangesTo with_sem with_wake v v.ext.sem (saw_count word v.ext.wake) u → Tries v u
+looks-tries v u word attends = let wake = ap (λ (z : V). z.ext.wake) attends in record {
+  is = attends ∙ (λ i. record v { steps = sym (ap (λ (z : V). z.steps) attends) i; ext = record v.ext { wake = sym wake i } });
   keeps = subst (KeepsWaiting v.ext.wake) (sym wake) (saw-keeps word v.ext.wake);
 }
 
@@ -84,14 +84,14 @@ trying-took : (s : SemHand) → IsTrying s → record s { stage = Took } ≡ rec
 trying-took s t = elim t [ inl is ↦ ap (λ (z : SemHand). record z { stage = Took }) is | inr is ↦ ap (λ (z : SemHand). record z { stage = Took }) is ]
 
 module _ (v u : V) (old found : ℕ) (t : IsTrying v.ext.sem) where
-  pub take-missed : found ≢ old → StirsTo with_sem with_wake v (taken v.ext.sem old found) (exchanged old found v.ext.wake) u → Rests v u
+  pub take-missed : found ≢ old → ChangesTo with_sem with_wake v (taken v.ext.sem old found) (exchanged old found v.ext.wake) u → Rests v u
   take-missed other turns = let wake = ap (λ (z : V). z.ext.wake) turns in let sem : taken v.ext.sem old found ≡ waiting Writes = ap (λ (b : Bool). record v.ext.sem { stage = if b then Took else Rest }) (ne_eqb found old other) ∙ trying-rests v.ext.sem t in
       record {
         is = turns ∙ (λ i. record v { steps = sym (ap (λ (z : V). z.steps) turns) i; ext = record v.ext { sem = sem i; wake = sym wake i } });
         keeps = subst (KeepsWaiting v.ext.wake) (sym (wake ∙ exchanged-other old found v.ext.wake other)) (saw-keeps found v.ext.wake);
       }
 
-  pub take-again : found ≢ old → IsListed v.ext.wake → StirsTo with_sem with_wake v (taken v.ext.sem old found) (exchanged old found v.ext.wake) u → HasTriedAt found u
+  pub take-again : found ≢ old → IsListed v.ext.wake → ChangesTo with_sem with_wake v (taken v.ext.sem old found) (exchanged old found v.ext.wake) u → HasTriedAt found u
   take-again other listed turns = tried-at found v.ext.wake u listed.waits (ap (λ (z : V). z.ext.wake) turns ∙ exchanged-other old found v.ext.wake other)
 
   pub take-done : {Call : Type 0} (o : Obj Call) (k : Plan) → KnowsList v → found ≡ old → HoldsBy with_sem with_wake o k Alone (taken v.ext.sem old found) (exchanged old found v.ext.wake) v u → HasTaken o k v u
@@ -102,7 +102,7 @@ module _ (v u : V) (old found : ℕ) (t : IsTrying v.ext.sem) where
         learns = holds.2;
         later = let n = ap (λ (z : V). z.steps) view in omega (arith, n);
         list = knows-same v u list (ap (λ (z : V). z.spin) view) same;
-        is = view ∙ (λ i. record (stirred with_sem with_wake v (took v.hand Alone holds.0 holds.1) (taken v.ext.sem old found) (exchanged old found v.ext.wake)) { steps = sym (ap (λ (z : V). z.steps) view) i; ext = record { list = sym same i; sem = sem i; appends = v.ext.appends; wake = sym (ap (λ (z : V). z.ext.wake) view) i } });
+        is = view ∙ (λ i. record (with_changes with_sem with_wake v (took v.hand Alone holds.0 holds.1) (taken v.ext.sem old found) (exchanged old found v.ext.wake)) { steps = sym (ap (λ (z : V). z.steps) view) i; ext = record { list = sym same i; sem = sem i; appends = v.ext.appends; wake = sym (ap (λ (z : V). z.ext.wake) view) i } });
         waits = keeps-of v.ext.wake u.ext.wake (ap (λ (z : V). z.ext.wake) view ∙ exchanged-same old found v.ext.wake is);
       }
 
@@ -191,12 +191,12 @@ module _ (v u : V) (queued : v.ext.sem ≡ waiting Writes) (list : KnowsList v) 
 
   -- it has tried at a count that it can't have
   abbrev Tired : Type 0
-  Tired = Tries v u × HasTried vigil_of u
+  Tired = Tries v u × HasTried wait_state_of u
 
   tired-at : Stays v u → IsLocked count → Tired
   tired-at k locked = (stays-tries v u k, tried-same v u (ap (λ (z : V). z.ext.wake) k) (tried (locked-left count lawful locked)))
 
-  pub mark-fails : WritesBy count (me == first) marked alone overdue Fail → Tries v u × HasTried vigil_of u
+  pub mark-fails : WritesBy count (me == first) marked alone overdue Fail → Tries v u × HasTried wait_state_of u
   mark-fails w = go marked mark w
     where
       go : (b : Bool) → KnowsMark me first count b v u → WritesBy count (me == first) b alone overdue Fail → Tired
@@ -204,7 +204,7 @@ module _ (v u : V) (queued : v.ext.sem ≡ waiting Writes) (list : KnowsList v) 
       go false (inl k) w = elim w [ inl anothers ↦ not-both false refl anothers.1 | inr locked ↦ tired-at k.0 locked.0 ]
       go false (inr k) w = elim w [ inl anothers ↦ not-both false refl anothers.1 | inr locked ↦ absurd (k.1 locked.0) ]
 
-  pub mark-asks : (new : ℕ) → WritesBy count (me == first) marked alone overdue (Mark new) → (Tries v u × HasTried vigil_of u) × (HasHandoff count → ⊥) × (new ≡ count + 4)
+  pub mark-asks : (new : ℕ) → WritesBy count (me == first) marked alone overdue (Mark new) → (Tries v u × HasTried wait_state_of u) × (HasHandoff count → ⊥) × (new ≡ count + 4)
   mark-asks new w = (go marked mark w, w.2, sum w.2 w.3)
     where
       go : (b : Bool) → KnowsMark me first count b v u → WritesBy count (me == first) b alone overdue (Mark new) → Tired

@@ -19,10 +19,10 @@ use Rattle.wait_list.specs.declared.view.Waiter.{Waiter}
 use Rattle.wait_list.specs.declared.view.Change.TheVariants.{Enter, Leave}
 use Rattle.wait_list.specs.declared.view.ListHand.{ListHand}
 use Rattle.wait_list.specs.Lists.{AreTasks, first_code, listed, without}
-use Rattle.wake_duty.specs.declared.view.Vigil.TheVariants.{Awake}
+use Rattle.wake_duty.specs.declared.view.WaitState.TheVariants.{Awake}
 use Rattle.wake_duty.specs.DutyWakes.{awake, waits, wake_word}
 use Rattle.rwsem_wake.specs.declared.duty.SemWake.{SemWake}
-use Rattle.rwsem_wake.specs.SemDuties.{DutyPart, DutyKept, IsQuiet, alone_of as alone_in_duty, late_of as late_in_duty, owes, stirs, chose, rouses, where_so, first_writes, wakes_first, recounted, entering, leaving}
+use Rattle.rwsem_wake.specs.SemDuties.{DutyPart, DutyKept, IsQuiet, alone_of as alone_in_duty, late_of as late_in_duty, owes, attends, chose, wakes_it, where_so, first_writes, wakes_first, recounted, entering, leaving}
 use Rattle.rwsem_wake.specs.SemDutyLaws.{duty-guards, duty-owes, duty-ends, duty-lets-go, duty-writes, duty-unwaited, duty-enters, duty-leaves, duty-picks, duty-chooses, duty-quiet, duty-pays}
 use Rattle.rwsem_count.specs.declared.view.Bias.{Bias}
 use Rattle.rwsem_count.specs.declared.view.Bias.TheVariants.{Clear, Transit, Reserve}
@@ -55,10 +55,10 @@ staged-rest v b s is unbegun late = record {
 }
 
 -- a part that differs in its number alone stands as before
-pub staged-same : (v u : SemPart) (b c : SemWake) → u.held ≡ v.held → u.sem ≡ v.sem → c.vigil ≡ b.vigil → StageOk v b → StageOk u c
-staged-same v u b c held sem vigil ok = record {
+pub staged-same : (v u : SemPart) (b c : SemWake) → u.held ≡ v.held → u.sem ≡ v.sem → c.wait_state ≡ b.wait_state → StageOk v b → StageOk u c
+staged-same v u b c held sem wait_state ok = record {
   joining = λ x e. subst (λ (z : SemHand). 1 ≤ transit_weight z.bias) (sym sem) (ok.joining x (ap (λ (z : SemHand). z.stage) (sym sem) ∙ e));
-  first = λ e. let f = ok.first (ap (λ (z : SemHand). z.stage) (sym sem) ∙ e) in (vigil ∙ f.0, ap (λ (z : SemHand). z.wait) sem ∙ f.1);
+  first = λ e. let f = ok.first (ap (λ (z : SemHand). z.stage) (sym sem) ∙ e) in (wait_state ∙ f.0, ap (λ (z : SemHand). z.wait) sem ∙ f.1);
   took = λ e. held ∙ ok.took (ap (λ (z : SemHand). z.stage) (sym sem) ∙ e);
   waited = λ some_l. ap (λ (z : SemHand). waited_weight z.stage) sem ∙ ok.waited (subst (λ (z : SemHand). 1 ≤ overdue_weight z.bias) sem some_l);
 }
@@ -107,7 +107,7 @@ staged-goes n n' q grants grants' sees v u b w ok kind = elim kind [
 
     keeps-stage : ((begun_weight u.sem.stage ≡ 0) ⊎ (u ≡ v)) × ((overdue_of u ≡ 0) ⊎ (waited_weight v.sem.stage ≤ waited_weight u.sem.stage)) → overdue_of u ≡ overdue_of v → w ≡ b → StageOk u w
     keeps-stage goes late wake_is = elim goes.0 [
-      | inr is ↦ staged-same v u b w (ap (λ (z : SemPart). z.held) is) (ap (λ (z : SemPart). z.sem) is) (ap (λ (z : SemWake). z.vigil) wake_is) ok
+      | inr is ↦ staged-same v u b w (ap (λ (z : SemPart). z.held) is) (ap (λ (z : SemPart). z.sem) is) (ap (λ (z : SemWake). z.wait_state) wake_is) ok
       | inl unbegun ↦ staged-rest u w u.sem.stage refl unbegun (elim goes.1 [ inl none ↦ inl none | inr less ↦ by-late u.sem.stage (inr less) late ])
     ]
 
@@ -142,7 +142,7 @@ module _ (words grants : List ℕ) (q : List Waiter) (vs : List V) (id : ℕ) (v
   pub duties-stay : (w : V) → w.hand.task ≡ v.hand.task → w.hand.held ≡ v.hand.held → w.ext.sem ≡ v.ext.sem → w.ext.wake ≡ v.ext.wake → Duties words grants q (set vs id w)
   duties-stay w task held sem wake = (
     keep_part (duty_seen grants) (DutyKept words q) vs id v w at (λ i. duty_of grants (record { task = task i; held = held i; sem = sem i }) (wake i)) d.0,
-    each-set IsStaged IsStaged vs id w (staged-same (seen v) (seen w) v.ext.wake w.ext.wake held sem (ap (λ (z : SemWake). z.vigil) wake) ok) (λ j x _ _ k. k) d.1,
+    each-set IsStaged IsStaged vs id w (staged-same (seen v) (seen w) v.ext.wake w.ext.wake held sem (ap (λ (z : SemWake). z.wait_state) wake) ok) (λ j x _ _ k. k) d.1,
   )
 
   -- a pass that is about nothing
@@ -161,14 +161,14 @@ module _ (words grants : List ℕ) (q : List Waiter) (vs : List V) (id : ℕ) (v
   -- it gets a number or gives it back
   pub duties-rename : (w : V) → w.hand.held ≡ v.hand.held → w.ext.sem ≡ v.ext.sem → w.ext.wake ≡ v.ext.wake → v.ext.sem ≡ apart_hand → IsQuiet p → Duties words grants q (set vs id w)
   duties-rename w held sem wake apart quiet = duties-by words q w (duty-quiet words q ps id p d.0 there (duty_seen grants w) quiet now_quiet (ap alone_weight held) guards (ap (λ (z : SemHand). overdue_weight z.bias) sem) (ap (λ (z : SemHand). z.rest) sem))
-      (staged-same (seen v) (seen w) v.ext.wake w.ext.wake held sem (ap (λ (z : SemWake). z.vigil) wake) ok)
+      (staged-same (seen v) (seen w) v.ext.wake w.ext.wake held sem (ap (λ (z : SemWake). z.wait_state) wake) ok)
     where
       none-granted : (task : Option ℕ) → granted_weight grants task w.ext.sem.wait ≡ 0
       none-granted None = refl
       none-granted (Some t) = ap (λ (z : SemHand). granted_weight grants (Some t) z.wait) (sem ∙ apart)
 
       now_quiet : IsQuiet (duty_seen grants w)
-      now_quiet = record { clear = ap (λ (z : SemWake). z.owing) wake ∙ quiet.clear; none = ap (λ (z : SemWake). z.chosen) wake ∙ quiet.none; absent = ap (λ (z : SemWake). waits z.vigil) wake ∙ quiet.absent; out = none-granted w.hand.task }
+      now_quiet = record { clear = ap (λ (z : SemWake). z.owing) wake ∙ quiet.clear; none = ap (λ (z : SemWake). z.chosen) wake ∙ quiet.none; absent = ap (λ (z : SemWake). waits z.wait_state) wake ∙ quiet.absent; out = none-granted w.hand.task }
 
       guards : guards_of grants (seen w) ≡ guards_of grants (seen v)
       guards = let a : shared_of (seen w) ≡ shared_of (seen v) = ap shared_weight held in let b : kept_of (seen w) ≡ kept_of (seen v) = ap (λ (z : SemHand). kept_weight z.bias) sem in let c : granting_of (seen w) ≡ granting_of (seen v) = ap (λ (z : SemHand). granting_weight z.stage (length z.rest)) sem in
@@ -284,16 +284,16 @@ module _ (words grants marks : List ℕ) (n : ℕ) (q : List Waiter) (vs : List 
       there-it : get_elem? sees' j ≡ some (seen v)
       there-it = at_map seen vs j v at
 
-      stands : (v.ext.wake.vigil ≡ Awake) × (v.ext.sem.wait ≡ Writes)
+      stands : (v.ext.wake.wait_state ≡ Awake) × (v.ext.sem.wait ≡ Writes)
       stands = (staged j v at).first is
 
       by-task : (task : Option ℕ) → v.hand.task ≡ task → 1 ≤ wakes_first words q (map (duty_seen grants) vs) t
       by-task None none = absurd (let z = (r.each j (seen v) there-it).numbered none in let e : begun_weight First ≡ begun_weight Rest = ap begun_weight (sym is ∙ z.2) in omega (arith, e))
       by-task (Some own) has = let one : writes_at own (seen v) ≡ 1 = (λ i. named_weight own (has i) (writes_weight (stands.1 i))) ∙ is_number-here own in let m = total-at (writes_at own) sees' j (seen v) there-it in let w = r.writes own in
           let only = alone-writer q alone (let a : total (writer_at own) q ≡ total (writes_at own) sees' = w in omega (arith, one, m, a)) in let same : t ≡ own = (let a = only.0 in omega (arith, a, first)) in
-          let rouse : rouses t (duty_seen grants v) ≡ chose t (duty_seen grants v) + 1 = ap (λ (z : ℕ). chose t (duty_seen grants v) + z) ((λ i. where_so (writes_weight (stands.1 i)) (awake t (has i) (stands.0 i))) ∙ (ap (λ (z : ℕ). is_number z (Some own)) same ∙ is_number-here own)) in
-          let a = total-at (rouses t) (map (duty_seen grants) vs) j (duty_seen grants v) (at_map (duty_seen grants) vs j v at) in
-          let up : wakes_first words q (map (duty_seen grants) vs) t ≡ total (rouses t) (map (duty_seen grants) vs) + wake_word words t = ap (λ (z : ℕ). where_so z (total (rouses t) (map (duty_seen grants) vs) + wake_word words t)) only.1 in omega (arith, rouse, a, up)
+          let end_sleep : wakes_it t (duty_seen grants v) ≡ chose t (duty_seen grants v) + 1 = ap (λ (z : ℕ). chose t (duty_seen grants v) + z) ((λ i. where_so (writes_weight (stands.1 i)) (awake t (has i) (stands.0 i))) ∙ (ap (λ (z : ℕ). is_number z (Some own)) same ∙ is_number-here own)) in
+          let a = total-at (wakes_it t) (map (duty_seen grants) vs) j (duty_seen grants v) (at_map (duty_seen grants) vs j v at) in
+          let up : wakes_first words q (map (duty_seen grants) vs) t ≡ total (wakes_it t) (map (duty_seen grants) vs) + wake_word words t = ap (λ (z : ℕ). where_so z (total (wakes_it t) (map (duty_seen grants) vs) + wake_word words t)) only.1 in omega (arith, end_sleep, a, up)
         where
           alone-writer : (l : List Waiter) → length l ≡ 1 → 1 ≤ total (writer_at own) l → (first_code l ≡ own + 1) × (first_writes l ≡ 1)
           alone-writer [] e more = absurd (omega (arith, e))
@@ -391,7 +391,7 @@ module _ (words grants marks : List ℕ) (n n' : ℕ) (q : List Waiter) (vs : Li
   no-late unset = let z = none-late words grants marks n q vs r d.1 (sym flags ∙ unset) in let l = late-are seen (λ (x : V). x.ext.wake) grants vs in let L = total-set late_in_duty ps' id p' ended there' in omega (arith, z, l, L)
 
   -- nobody is left to write, or to be counted
-  by-ended : owes_now ≡ false → n' / 2 % 2 ≡ 0 → ((t : ℕ) → first_code q ≡ t + 1 → (1 ≤ total stirs (set ps' id ended)) ⊎ (1 ≤ wakes_first words q ps' t)) → DutyKept words q (set ps' id (duty_seen grants w))
+  by-ended : owes_now ≡ false → n' / 2 % 2 ≡ 0 → ((t : ℕ) → first_code q ≡ t + 1 → (1 ≤ total attends (set ps' id ended)) ⊎ (1 ≤ wakes_first words q ps' t)) → DutyKept words q (set ps' id (duty_seen grants w))
   by-ended owing unset first = after-by (alone_of u) (guards_of grants u) false refl refl (sym owing) (duty-ends words q ps' id p' d.0 there' (alone_of u) (guards_of grants u) p'.late first (no-late unset))
 
   has-none : has_waiters n' ≡ false → n' / 2 % 2 ≡ 0
@@ -412,16 +412,16 @@ module _ (words grants marks : List ℕ) (n n' : ℕ) (q : List Waiter) (vs : Li
       shareds [] = refl
       shareds (y ∷ ys) = let e = shareds ys in omega (arith, e)
 
-  stirs-guards : (xs : List DutyPart) → total (λ (o : DutyPart). o.guards) xs + total alone_in_duty xs ≤ total stirs xs
-  stirs-guards [] = omega arith
-  stirs-guards (y ∷ ys) = let e = stirs-guards ys in omega (arith, e)
+  attends-guards : (xs : List DutyPart) → total (λ (o : DutyPart). o.guards) xs + total alone_in_duty xs ≤ total attends xs
+  attends-guards [] = omega arith
+  attends-guards (y ∷ ys) = let e = attends-guards ys in omega (arith, e)
 
   -- it ends its hold while WAITERS isn't set
-  first-unset : n' / 2 % 2 ≡ 0 → 1 ≤ alone_of (seen v) + shared_of (seen v) → kept_of (seen v) ≡ 0 → (t : ℕ) → first_code q ≡ t + 1 → (1 ≤ total stirs (set ps' id ended)) ⊎ (1 ≤ wakes_first words q ps' t)
+  first-unset : n' / 2 % 2 ≡ 0 → 1 ≤ alone_of (seen v) + shared_of (seen v) → kept_of (seen v) ≡ 0 → (t : ℕ) → first_code q ≡ t + 1 → (1 ≤ total attends (set ps' id ended)) ⊎ (1 ≤ wakes_first words q ps' t)
   first-unset unset holds bare t first = let before : n / 2 % 2 ≡ 0 = sym flags ∙ unset in elim (unset-is words grants marks n q vs r d.1 before) [
     | inl none ↦ absurd (omega (arith, none, first))
     | inr more ↦ elim more [
-      | inl kept ↦ inl (let K = total-set kept_of seens' id (seen v) u mine' in let g = guards-after in let c = kept-guards (set seens' id u) in let s = stirs-guards (set ps' id ended) in omega (arith, kept, K, bare, g, c, s))
+      | inl kept ↦ inl (let K = total-set kept_of seens' id (seen v) u mine' in let g = guards-after in let c = kept-guards (set seens' id u) in let s = attends-guards (set ps' id ended) in omega (arith, kept, K, bare, g, c, s))
       | inr rest ↦ elim rest [ inl takes ↦ other-takes takes holds | inr begins ↦ inr (begins-awake words grants marks n q vs r d.1 before begins t first) ]
     ]
   ]
@@ -430,9 +430,9 @@ module _ (words grants marks : List ℕ) (n n' : ℕ) (q : List Waiter) (vs : Li
       kept-guards [] = omega arith
       kept-guards (y ∷ ys) = let e = kept-guards ys in omega (arith, e)
 
-  -- whoever else is counted stirs
-  left-stirs : is_left n' ≡ false → 1 ≤ total stirs (set ps' id (recounted p' (alone_of u) (guards_of grants u) p'.late false)) + total late_in_duty ps'
-  left-stirs held = let a = not-left n' held in let f = field-after in let z = writer-is (set seens' id u) r' in let g = guards-after in let c = alone-after in let s = stirs-guards (set ps' id ended) in let O = total-set overdue_of seens' id (seen v) u mine' in let l = late-are seen (λ (x : V). x.ext.wake) grants vs in let lb = late-before in let la = late-after in omega (arith, a, f, z, g, c, s, O, l, lb, la)
+  -- whoever else is counted attends
+  left-attends : is_left n' ≡ false → 1 ≤ total attends (set ps' id (recounted p' (alone_of u) (guards_of grants u) p'.late false)) + total late_in_duty ps'
+  left-attends held = let a = not-left n' held in let f = field-after in let z = writer-is (set seens' id u) r' in let g = guards-after in let c = alone-after in let s = attends-guards (set ps' id ended) in let O = total-set overdue_of seens' id (seen v) u mine' in let l = late-are seen (λ (x : V). x.ext.wake) grants vs in let lb = late-before in let la = late-after in omega (arith, a, f, z, g, c, s, O, l, lb, la)
 
   kept-apart : 1 ≤ held_weight v.hand.held → kept_of (seen v) ≡ 0
   kept-apart holds = let a = sem-ok.apart in let k = kept-before in omega (arith, a, k, holds)
@@ -447,7 +447,7 @@ module _ (words grants marks : List ℕ) (n n' : ℕ) (q : List Waiter) (vs : Li
   by-holds Alone Alone was is = by-writes (ap alone_weight is) (λ i. owes_after (was i) (is i) h.freed v.ext.wake.owing)
   by-holds Alone Shared was is = let freed = left (λ e. differs-held (sym was ∙ e)) (λ e. differs-shared (sym is ∙ (e ∙ was))) in let owes_is : owes_now ≡ has_waiters n' = λ i. owes_after (was i) (is i) (freed i) v.ext.wake.owing in false-or-true (has_waiters n')
       (λ waited. by-debt (owes_is ∙ waited))
-      (λ none. by-ended (owes_is ∙ none) (has-none none) (λ t first. inl (let s' : shared_of u ≡ 1 = ap shared_weight is in let a = total-at stirs (set ps' id ended) id ended (set-there ps' id p' ended there') in omega (arith, s', a))))
+      (λ none. by-ended (owes_is ∙ none) (has-none none) (λ t first. inl (let s' : shared_of u ≡ 1 = ap shared_weight is in let a = total-at attends (set ps' id ended) id ended (set-there ps' id p' ended there') in omega (arith, s', a))))
     where
       differs-held : Alone ≡ No → ⊥
       differs-held e = let z : held_weight Alone ≡ held_weight No = ap held_weight e in omega (arith, z)
@@ -484,8 +484,8 @@ module _ (words grants marks : List ℕ) (n n' : ℕ) (q : List Waiter) (vs : Li
       same-alone = ap alone_weight is ∙ sym (ap alone_weight was)
 
       by-others : is_left n' ≡ false → DutyKept words q (set ps' id ended)
-      by-others held = let s = left-stirs held in let as-let-go : ended ≡ recounted p' p'.alone (guards_of grants u) p'.late p'.wake.owing = λ i. recounted p' (same-alone i) (guards_of grants u) p'.late (sym may.5 i) in
-          subst (λ (z : DutyPart). DutyKept words q (set ps' id z)) (sym as-let-go) (duty-lets-go words q ps' id p' d.0 there' (guards_of grants u) (subst (λ (z : DutyPart). 1 ≤ total stirs (set ps' id z) + total late_in_duty ps') as-let-go s))
+      by-others held = let s = left-attends held in let as-let-go : ended ≡ recounted p' p'.alone (guards_of grants u) p'.late p'.wake.owing = λ i. recounted p' (same-alone i) (guards_of grants u) p'.late (sym may.5 i) in
+          subst (λ (z : DutyPart). DutyKept words q (set ps' id z)) (sym as-let-go) (duty-lets-go words q ps' id p' d.0 there' (guards_of grants u) (subst (λ (z : DutyPart). 1 ≤ total attends (set ps' id z) + total late_in_duty ps') as-let-go s))
 
   pub duties-counted : Duties words grants q (set vs id w)
   duties-counted = duties-by words grants q vs id v d at words q w (by-holds v.hand.held h.held refl refl) (staged-rest u w.ext.wake Rest may.4 refl (inl late-after))
@@ -549,7 +549,7 @@ module _ (words grants marks : List ℕ) (n : ℕ) (q : List Waiter) (vs : List 
             writes = (sym writes ∙ ap (λ (z : SemHand). writes_weight z.wait) (sym is)) i;
             granted = (unwaiting ∙ sym (ap (λ (z : SemHand). granted_weight grants v.hand.task z.wait) is ∙ ungranted)) i;
             rest = ap (λ (z : SemHand). z.rest) (sym is) i;
-            wake = record v.ext.wake { vigil = Awake };
+            wake = record v.ext.wake { wait_state = Awake };
           }
 
       by-kind : (kind : Bool) → x.writer ≡ kind → MayJoin kind v.ext.sem → Duties words grants (q ++ x ∷ []) (set vs id y)
@@ -669,8 +669,8 @@ module _ (words grants marks : List ℕ) (n : ℕ) (q : List Waiter) (vs : List 
       none-behind : (x : DutyPart) → x.late ≡ lp.late → total late_in_duty (set lps id x) ≡ 0
       none-behind x same = let L = total-set late_in_duty lps id lp x lthere in let a = late-own in let z : overdue_of (seen v) ≡ 0 = ap overdue_weight clear in omega (arith, L, a, z, same)
 
-      to-part : (c : SemWake) → DutyKept words q (set lps id (record lp { wake = c })) → c.vigil ≡ v.ext.wake.vigil → Duties words grants q (set vs id (Y c))
-      to-part c kept vigil = duties-by words grants q vs id v d at words q (Y c) kept (staged-same (seen v) (seen (Y c)) v.ext.wake c refl refl vigil (d.1 id v at))
+      to-part : (c : SemWake) → DutyKept words q (set lps id (record lp { wake = c })) → c.wait_state ≡ v.ext.wake.wait_state → Duties words grants q (set vs id (Y c))
+      to-part c kept wait_state = duties-by words grants q vs id v d at words q (Y c) kept (staged-same (seen v) (seen (Y c)) v.ext.wake c refl refl wait_state (d.1 id v at))
 
       pays-shared : v.hand.held ≡ Shared → DutyKept words q (set lps id (record lp { wake = paid v.ext.wake }))
       pays-shared held = subst (λ (z : ℕ). DutyKept words q (set lps id (record lp { late = z; wake = paid v.ext.wake }))) (sym (ap overdue_weight clear)) (duty-pays words q lps id lp d.0 lthere lp.guards (let s : shared_weight v.hand.held ≡ 1 = ap shared_weight held in omega (arith, s)) (none-behind (recounted lp lp.alone lp.guards 0 false) (sym (ap overdue_weight clear))))
@@ -679,7 +679,7 @@ module _ (words grants marks : List ℕ) (n : ℕ) (q : List Waiter) (vs : List 
       chooses x l kind known_q few = duty-chooses words q lps id lp d.0 lthere x.task few unnumbered (ap first_code known_q) (ap first_writes known_q ∙ ap bit kind) (late-own ∙ ap overdue_weight clear)
 
       by-held : (x : Waiter) (l : List Waiter) (held : Held) (kind : Bool) → v.hand.held ≡ held → x.writer ≡ kind → q ≡ x ∷ l → x.task < MAX_TASKS → Duties words grants q (set vs id (Y (looks_at held kind x.task v.ext.wake)))
-      by-held x l held false is kind known_q few = to-part (looks_at held false x.task v.ext.wake) (subst (λ (z : SemWake). DutyKept words q (set lps id (record lp { wake = z }))) (sym (no-look held x.task v.ext.wake)) (stays-there)) (ap (λ (z : SemWake). z.vigil) (no-look held x.task v.ext.wake))
+      by-held x l held false is kind known_q few = to-part (looks_at held false x.task v.ext.wake) (subst (λ (z : SemWake). DutyKept words q (set lps id (record lp { wake = z }))) (sym (no-look held x.task v.ext.wake)) (stays-there)) (ap (λ (z : SemWake). z.wait_state) (no-look held x.task v.ext.wake))
         where
           no-look : (held : Held) (t : ℕ) (c : SemWake) → looks_at held false t c ≡ c
           no-look No t c = refl

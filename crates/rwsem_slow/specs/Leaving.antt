@@ -7,7 +7,7 @@ use Rattle.rwsem_wake.specs.declared.view.SemHand.{SemHand}
 use Rattle.rwsem_wake.specs.declared.view.Stage.TheVariants.{Rest, Armed, Emptied, Summing}
 use Rattle.rwsem_wake.specs.declared.view.Wait.TheVariants.{Reads, Writes}
 use Rattle.rwsem_wake.specs.SemParts.{apart_hand}
-use Rattle.wake_duty.specs.declared.view.Vigil.TheVariants.{Absent}
+use Rattle.wake_duty.specs.declared.view.WaitState.TheVariants.{Absent}
 use Rattle.rwsem_wake.specs.declared.duty.SemWake.{SemWake}
 use Rattle.rwsem_wake.specs.RwSemViews.{V}
 use Rattle.rwsem_slow.specs.Queued.{IsInLine, IsListed, waiting}
@@ -43,7 +43,7 @@ gone_first empty = record apart_hand { stage = if empty then Emptied else Rest }
 
 -- what it knows of wakes then: it has chosen these tasks too, is to look for nobody, and waits for nothing
 abbrev pub left_wake : List ℕ → SemWake → SemWake
-left_wake tasks b = record b { owing = false; chosen = b.chosen ++ tasks; vigil = Absent }
+left_wake tasks b = record b { owing = false; chosen = b.chosen ++ tasks; wait_state = Absent }
 
 -- it waits for nothing, has chosen these tasks too, and is to look for nobody; all but what it knows of the list and the semaphore is as before
 pub record HasLeft (tasks : List ℕ) (v u : V) : Type 0 where

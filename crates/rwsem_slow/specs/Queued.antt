@@ -16,13 +16,13 @@ use Rattle.rwsem_wake.specs.declared.view.Stage.TheVariants.{Took, Summing}
 use Rattle.rwsem_wake.specs.declared.view.Wait.{Wait}
 use Rattle.rwsem_wake.specs.declared.view.Wait.TheVariants.{Writes}
 use Rattle.rwsem_wake.specs.SemParts.{apart_hand}
-use Rattle.wake_duty.specs.declared.view.Vigil.TheVariants.{Awake}
+use Rattle.wake_duty.specs.declared.view.WaitState.TheVariants.{Awake}
 use Rattle.wake_duty.specs.DutyWakes.{waits}
 use Rattle.wake_duty.specs.WakeSteps.{HasTried}
 use Rattle.rwsem_wake.specs.declared.duty.SemWake.{SemWake}
 use Rattle.rwsem_wake.specs.Duties.{is_left}
 use Rattle.rwsem_wake.specs.RwSemViews.{V, IsDone}
-use Rattle.rwsem_slow.specs.RwSems.{after_swap, vigil_of}
+use Rattle.rwsem_slow.specs.RwSems.{after_swap, wait_state_of}
 use Rattle.rwsem_wake.specs.Removals.{KnowsList}
 
 -- its task waits so, has no bias in the count, and is about nothing
@@ -33,7 +33,7 @@ waiting wait = record apart_hand { wait = wait }
 pub record IsListed (b : SemWake) : Type 0 where
   pub clear : b.owing ≡ false
   pub none : b.chosen ≡ []
-  pub waits : waits b.vigil ≡ 1
+  pub waits : waits b.wait_state ≡ 1
 
 -- it stands in the list so, and is between no two steps that belong together; it has no wake to do
 pub record IsInLine (wait : Wait) (v : V) : Type 0 where
@@ -45,7 +45,7 @@ pub record IsInLine (wait : Wait) (v : V) : Type 0 where
 pub record IsInLineToWake (wait : Wait) (tasks : List ℕ) (v : V) : Type 0 where
   pub clear : v.ext.wake.owing ≡ false
   pub chosen : v.ext.wake.chosen ≡ tasks
-  pub vigil : waits v.ext.wake.vigil ≡ 1
+  pub wait_state : waits v.ext.wake.wait_state ≡ 1
   pub waits : v.ext.sem ≡ waiting wait
   pub still : v.ext.list.changes ≡ false
 
@@ -57,16 +57,16 @@ pub record Becomes (v : V) (appends : ℕ) (s : SemHand) (b : SemWake) (u : V) :
 
 -- it enters the list: it tries, or loads its grant word, before it sleeps
 abbrev pub comes : SemWake → SemWake
-comes b = record b { vigil = Awake }
+comes b = record b { wait_state = Awake }
 
 -- how it waits may have changed, and nothing else of wakes
 pub record KeepsWaiting (b c : SemWake) : Type 0 where
-  pub is : c ≡ record b { vigil = c.vigil }
-  pub waits : waits c.vigil ≡ waits b.vigil
+  pub is : c ≡ record b { wait_state = c.wait_state }
+  pub waits : waits c.wait_state ≡ waits b.wait_state
 
 -- it has tried, unless it may have this count
 abbrev pub HasTriedAt : ℕ → V → Type 0
-HasTriedAt word v = is_left word ≡ false → HasTried vigil_of v
+HasTriedAt word v = is_left word ≡ false → HasTried wait_state_of v
 
 -- it has only made steps
 abbrev pub Stays : V → V → Type 0
@@ -96,7 +96,7 @@ SeesUnmarked v u = u ≡ record v { steps = u.steps; ext = record v.ext { sem = 
 
 -- What a writer knows of the first waiter's mark, before it tries a count that it saw. It has loaded the mark where its answer depends on it: where another is first, nobody holds and a handoff is asked for.
 abbrev pub KnowsMark : (me first count : ℕ) → (marked : Bool) → V → V → Type 0
-KnowsMark me first count true v u = Tries v u × HasTried vigil_of u
+KnowsMark me first count true v u = Tries v u × HasTried wait_state_of u
 KnowsMark me first count false v u = (Stays v u × ((me ≡ first) ⊎ IsLocked count ⊎ (HasHandoff count → ⊥))) ⊎ (SeesUnmarked v u × (IsLocked count → ⊥))
 
 -- a queued writer has taken under the wait lock, and is to leave the list, which it knows

@@ -49,7 +49,7 @@ module _ {O C : Type 0} where
   abbrev pub TakesShared : {Call : Type 0} → Obj Call → RwSem O C → RwPass O C → RwPass O C → Type 0
   TakesShared o sem old new = Takes o (plan_of sem) Shared (shown_of old) (shown_of new)
 
-  -- how often it was the front of the spin queue is as it was, and how often it missed
+  -- how often it was the head of the spin queue is as it was, and how often it missed
   abbrev pub KeepsFronts : RwPass O C → RwPass O C → Type 0
   KeepsFronts old new = (shown_of new).fronts ≡ (shown_of old).fronts
 

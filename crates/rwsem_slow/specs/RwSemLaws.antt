@@ -38,7 +38,7 @@ use Rattle.rwsem_wake.specs.declared.view.Stage.TheVariants.{Rest}
 use Rattle.rwsem_wake.specs.SemParts.{SemPart, apart_hand, busy_of, busy_weight, nobody, transit_of, transit_weight}
 use Rattle.rwsem_wake.specs.GrantSemaphores.{SemKept, batch_weight, number_of, number_weight}
 use Rattle.rwsem_wake.specs.Handoffs.{KeepsHandoff, reads_as}
-use Rattle.rwsem_wake.specs.Grants.{stirred}
+use Rattle.rwsem_wake.specs.Grants.{with_changes}
 use Rattle.rwsem_wake.specs.Duties.{WakeGoes}
 use Rattle.rwsem_wake.proofs.DutySteps.{duty-goes-on}
 use Rattle.wake_duty.specs.DutyWakes.{WAKE_WORDS}
@@ -318,9 +318,9 @@ module _ {Call : Type 0} (o : Obj Call) (size : ℕ) where
   -- whatever keeps the facts of the count, the marks, the grant words and wakes, and to a handoff
   pub sem-turns : (k : Plan) (ws : List ℕ) (vs : List V) (q : List Waiter) (id i n : ℕ) (v : V) (h : Hand) (s : SemHand) (b : SemWake) → Queue k ws vs q → get_elem? vs id ≡ some v → count_at ≤ i → i < grants_at + 8 * MAX_TASKS → (count_at < i → marks_at ≤ i) → busy_weight s.stage ≤ holds_in v.spin → HandStep v.hand h (count_in (set ws i n)) → Tries ws v h
       → (let u : SemPart = record { task = h.task; held = h.held; sem = s } in Sem (sem_words (set ws i n)) q (set (map seen vs) id u)) → (let u : SemPart = record { task = h.task; held = h.held; sem = s } in Hands id (sem_words ws) q (map seen vs) (sem_words (set ws i n)) (set (map seen vs) id u))
-      → Duties (wake_words ws) (grants_in (set ws i n)) q (set vs id (stirred with_sem with_wake v h s b))
-      → (let u : SemPart = record { task = h.task; held = h.held; sem = s } in WakesGo (count_in ws) (count_in (set ws i n)) q Stay (grants_in ws) (wake_words ws) (wake_words ws) (holds_in v.spin) (seen v) u (wake_stands v.ext.wake) (wake_stands b)) → Site k ws (set (map hand_of vs) id h) → Go k id ws vs (set ws i n) (set vs id (stirred with_sem with_wake v h s b))
-  sem-turns k ws vs q id i n v h s b r at above inside beyond lock step tries sem hands duties wakes there = let w : V = stirred with_sem with_wake v h s b in let us : List ℕ = set ws i n in let same = same-site k ws vs q r id v at i n (omega (arith, inside)) in
+      → Duties (wake_words ws) (grants_in (set ws i n)) q (set vs id (with_changes with_sem with_wake v h s b))
+      → (let u : SemPart = record { task = h.task; held = h.held; sem = s } in WakesGo (count_in ws) (count_in (set ws i n)) q Stay (grants_in ws) (wake_words ws) (wake_words ws) (holds_in v.spin) (seen v) u (wake_stands v.ext.wake) (wake_stands b)) → Site k ws (set (map hand_of vs) id h) → Go k id ws vs (set ws i n) (set vs id (with_changes with_sem with_wake v h s b))
+  sem-turns k ws vs q id i n v h s b r at above inside beyond lock step tries sem hands duties wakes there = let w : V = with_changes with_sem with_wake v h s b in let us : List ℕ = set ws i n in let same = same-site k ws vs q r id v at i n (omega (arith, inside)) in
       goes k ws vs q r id v at us (set vs id w) Stay (length-set ws i n ∙ r.wide)
       (subst (λ (z : SiteWords). SiteKept o counted size k z (map hand_of (set vs id w))) (sym same) (set_part hand_of (Site k ws) vs id w there))
       (subst (λ (z : SiteWords). SiteMove id (count_in ws) (site k ws) vs z (set vs id w)) (sym same) (set-moves id (site k ws) (site k ws) vs v w at (hold-moved (site k ws) v h w.ext step.goes (tries-go MayMiss v h tries)))) w (set-there vs id v w at)
@@ -339,8 +339,8 @@ module _ {Call : Type 0} (o : Obj Call) (size : ℕ) where
   pub sem-sems : (k : Plan) (ws : List ℕ) (vs : List V) (q : List Waiter) (id i n : ℕ) (v : V) (h : Hand) (s : SemHand) (b : SemWake) → Queue k ws vs q → get_elem? vs id ≡ some v → count_at ≤ i → i < grants_at + 8 * MAX_TASKS → (count_at < i → marks_at ≤ i) → busy_weight s.stage ≤ holds_in v.spin → HandStep v.hand h (count_in (set ws i n)) → KeepsSaw v.hand h
       → (let u : SemPart = record { task = h.task; held = h.held; sem = s } in Sem (sem_words (set ws i n)) q (set (map seen vs) id u)) → (let u : SemPart = record { task = h.task; held = h.held; sem = s } in Hands id (sem_words ws) q (map seen vs) (sem_words (set ws i n)) (set (map seen vs) id u))
       → (let u : SemPart = record { task = h.task; held = h.held; sem = s } in WakeGoes (count_in ws) q (grants_in ws) (map seen vs) (count_in (set ws i n)) (grants_in (set ws i n)) (seen v) u v.ext.wake b)
-      → Site k ws (set (map hand_of vs) id h) → Go k id ws vs (set ws i n) (set vs id (stirred with_sem with_wake v h s b))
-  sem-sems k ws vs q id i n v h s b r at above inside beyond lock step keeps sem hands kind there = let us : List ℕ = set ws i n in let w : V = stirred with_sem with_wake v h s b in
+      → Site k ws (set (map hand_of vs) id h) → Go k id ws vs (set ws i n) (set vs id (with_changes with_sem with_wake v h s b))
+  sem-sems k ws vs q id i n v h s b r at above inside beyond lock step keeps sem hands kind there = let us : List ℕ = set ws i n in let w : V = with_changes with_sem with_wake v h s b in
       sem-turns k ws vs q id i n v h s b r at above inside beyond lock step (inl keeps) sem hands (number-or-not v.hand.task (λ out. absurd (step.numbered out)) (λ own has. (
         set_part (duty_seen (grants_in us)) (DutyKept (wake_words ws) q) vs id w (duty-goes-on seen (λ (x : V). x.ext.wake) (wake_words ws) (count_in ws) (count_in us) q (marks_in ws) (marks_in us) (grants_in ws) (grants_in us) vs id v (seen w) b r.sem sem at own has step.task r.duty kind),
         each-set IsStaged IsStaged vs id w (staged-goes (count_in ws) (count_in us) q (grants_in ws) (grants_in us) (map seen vs) (seen v) (seen w) v.ext.wake b (r.staged id v at) kind) (λ j x _ _ p. p) r.staged,

@@ -28,7 +28,7 @@ use Rattle.wait_list.specs.declared.view.ListHand.{ListHand}
 use Rattle.wait_list.specs.declared.words.TheConstants.{LIST_WORDS}
 use Rattle.wait_list.specs.ListLaws.{list-known}
 use Rattle.wait_list.specs.Lists.{AreTasks, Part, ListKept, first_code, LeaverGoes, MadeBy, Allowed, changed, counted, list_part, listed, sighted, without}
-use Rattle.wake_duty.specs.declared.view.Vigil.TheVariants.{Awake}
+use Rattle.wake_duty.specs.declared.view.WaitState.TheVariants.{Awake}
 use Rattle.wake_duty.specs.DutyWakes.{WAKE_WORDS}
 use Rattle.rwsem_wake.specs.declared.duty.SemWake.{SemWake}
 use Rattle.rwsem_count.specs.declared.view.Bias.{Bias}
@@ -48,7 +48,7 @@ use Rattle.rwsem_wake.proofs.HandoffSteps.{hands-none}
 use Rattle.rwsem_wake.specs.RwSemViews.{V, list_of, seen, list_at, chooses_task, joined, leaves_wake, picked, parted as parted_at, parted_wake, has_number, is_clear, looked, may_look, with_list, saw_first, MayPick, LeavesPicked}
 use Rattle.rwsem_slow.specs.RwSems.{spin_words, count_in, list_words, marks_in, grants_in, IsLocked, RwSemKept, Kept as IsKept, entered, IsMadeBy, wake_words, wakes_at, may_change, MayJoin, LeavesTaken, LeavesFirst, LeavesBehind}
 use Rattle.rwsem_slow.specs.WakesGo.{WakesGo, wake_stands}
-use Rattle.rwsem_slow.specs.WakesGoLaws.{HoldsOn, enter-leaves, goes-chooses, goes-leaves, goes-vigil, leave-enters, look-goes, none-owed, still-goes}
+use Rattle.rwsem_slow.specs.WakesGoLaws.{HoldsOn, enter-leaves, goes-chooses, goes-leaves, goes-wait_state, leave-enters, look-goes, none-owed, still-goes}
 use Rattle.rwsem_slow.specs.DutyRule.{Duties, duties-enter, duties-leave-behind, duties-leave-first, duties-leave-taken, duties-look, duties-pick, duties-stay}
 use Rattle.rwsem_slow.specs.RwSemLaws.{SemWords, sem_words, sem-else, Go as Going, Sem, Hands, one-takes, sem-only, sem-only-in, goes, goes-on, hands-same, same-site}
 use Rattle.rwsem_wake.proofs.FirstReaders.{counted-is, first-counts, reader-counts}
@@ -398,8 +398,8 @@ module _ {Call : Type 0} (o : Obj Call) (size : ℕ) where
         (still-goes (count_in ws) (count_in ws) q (grants_in ws) (wake_words ws) (holds_in v.spin) (seen v) (seen (listed with_list Stay v b)) v.ext.wake (inr (inr (refl, omega arith))))
     sem-lists i n (Enter w) b inside has may is leaver list = lists-by i n (Enter w) b has inside list (sem-list-may (Enter w) has may) (parted v, at_map parted vs id v at, ap holds_at has) (v, at, may.0, may.1, joins-none w.writer may.3) (enters-facts has w b may is)
         (duties-enter (wake_words ws) (grants_in ws) (marks_in ws) (count_in ws) q vs id v (r.duty, r.staged) at r.sem w.task may.0 (only has) w b may.0 may.2 may.3 (λ reads. armed-word has w.task may.0 w.writer reads may.3))
-        (goes-vigil (count_in ws) (count_in ws) q (Enter w) (grants_in ws) (wake_words ws) (wake_words ws) (holds_in v.spin) (seen v) (seen (listed with_list (Enter w) v b)) v.ext.wake refl Awake (λ _ _. refl) (λ _ _. (w, refl)) (λ e e'. absurd (omega (arith, e'))) (λ _. inl ((w, refl), refl))
-        (λ m. none-owed (count_in ws) q (Enter w) (seen v) (seen (listed with_list (Enter w) v b)) (wake_stands v.ext.wake) (wake_stands (record v.ext.wake { vigil = Awake })) (enter-leaves w) (inr (inr (refl, omega arith))) m))
+        (goes-wait_state (count_in ws) (count_in ws) q (Enter w) (grants_in ws) (wake_words ws) (wake_words ws) (holds_in v.spin) (seen v) (seen (listed with_list (Enter w) v b)) v.ext.wake refl Awake (λ _ _. refl) (λ _ _. (w, refl)) (λ e e'. absurd (omega (arith, e'))) (λ _. inl ((w, refl), refl))
+        (λ m. none-owed (count_in ws) q (Enter w) (seen v) (seen (listed with_list (Enter w) v b)) (wake_stands v.ext.wake) (wake_stands (record v.ext.wake { wait_state = Awake })) (enter-leaves w) (inr (inr (refl, omega arith))) m))
     sem-lists i n (Leave t) b inside has may is leaver list = lists-by i n (Leave t) b has inside list (sem-list-may (Leave t) has may) (parted v, at_map parted vs id v at, ap holds_at has) (leaves-by has t (length b.list) may)
         (subst (λ (z : List Waiter). Facts (without t q) (parted_at v.ext.sem.stage v.ext.sem.wait t (length z) v.ext.sem)) (sym is) (leaves-facts has t may)) (leaves-duties has t b may) (leaves-wakes has t b may)
 

@@ -20,7 +20,7 @@ use Rattle.wait_list.specs.declared.view.Waiter.{Waiter}
 use Rattle.wait_list.specs.declared.view.Change.{Change}
 use Rattle.wait_list.specs.declared.view.Change.TheVariants.{Stay, Enter, Leave}
 use Rattle.wait_list.specs.Lists.{Allowed, IsList, Lists, changed, counted}
-use Rattle.wake_duty.specs.declared.view.Vigil.TheVariants.{Awake}
+use Rattle.wake_duty.specs.declared.view.WaitState.TheVariants.{Awake}
 use Rattle.wake_duty.specs.DutyWakes.{wake_word}
 use Rattle.rwsem_wake.specs.declared.duty.SemWake.{SemWake}
 use Rattle.rwsem_wake.specs.SemDuties.{times}
@@ -53,10 +53,10 @@ abbrev pub SomebodyKeepsOut : List SemPart → Type 0
 SomebodyKeepsOut ps = (id : ℕ) × (p : SemPart) × (get_elem? ps id ≡ some p) × (1 ≤ kept_of p)
 
 -- this task needs no further wake: a pass has chosen it, and hasn't set its wake word yet; or that word is set; or it is awake, and tries or loads its grant word before it sleeps
-abbrev pub IsRoused : Moment → ℕ → Type 0
-IsRoused m t = ((id : ℕ) × (h : Hand) × (b : SemWake) × (get_elem? m.hands id ≡ some h) × (h.task ≢ None) × WakesMarked id b m × (1 ≤ times t b.chosen))
+abbrev pub IsBeingWoken : Moment → ℕ → Type 0
+IsBeingWoken m t = ((id : ℕ) × (h : Hand) × (b : SemWake) × (get_elem? m.hands id ≡ some h) × (h.task ≢ None) × WakesMarked id b m × (1 ≤ times t b.chosen))
     ⊎ (wake_word (wake_words m.words) t ≡ 1)
-    ⊎ ((id : ℕ) × (h : Hand) × (b : SemWake) × (get_elem? m.hands id ≡ some h) × (h.task ≡ Some t) × WakesMarked id b m × (b.vigil ≡ Awake))
+    ⊎ ((id : ℕ) × (h : Hand) × (b : SemWake) × (get_elem? m.hands id ≡ some h) × (h.task ≡ Some t) × WakesMarked id b m × (b.wait_state ≡ Awake))
 
 -- what concerns the semaphore of the pass of this number, as the moment has it
 pub record IsPartThen (m : Moment) (id : ℕ) (h : Hand) (p : SemPart) : Type 0 where
@@ -81,7 +81,7 @@ abbrev pub HasWaitLock : ℕ → Moment → Type 0
 HasWaitLock id m = (s : SpinHand) × (get_elem? m.spins id ≡ some s) × (holds_in s ≡ 1)
 
 -- While this is the list, and these are the parts of the passes. The list's words state it while the wait lock is free, and each waiter has a pass. The count states whether a task writes, which then is alone, how many read, which biases are in it, and, while the wait lock is free, that tasks wait. Then the first waiter alone may be marked, and HANDOFF is set where it is. Who is about something, has reserved a bias, or has tasks of a batch still to grant, has the wait lock; whose bias is in transit holds nothing, and has a number.
--- Where nobody writes or reads and tasks wait, a pass owes a wake, or a bias keeps writers out, or the first waiter is a writer that is roused. While a bias stands that came under a writer, a task writes, or a pass owes a wake. A reader that is granted while it waits is roused. A pass without a number owes no wake, has chosen nobody and waits for nothing.
+-- Where nobody writes or reads and tasks wait, a pass owes a wake, or a bias keeps writers out, or the first waiter is a writer that is awakened. While a bias stands that came under a writer, a task writes, or a pass owes a wake. A reader that is granted while it waits is awakened. A pass without a number owes no wake, has chosen nobody and waits for nothing.
 pub record IsQueued (m : Moment) (q : List Waiter) (ps : List SemPart) : Type 0 where
   pub parts : AreParts m ps
   pub sound : IsList q
@@ -94,10 +94,10 @@ pub record IsQueued (m : Moment) (q : List Waiter) (ps : List SemPart) : Type 0 
   pub marked : IsWaitLockFree m.spins → OnlyFirst (count_in m.words / 4 % 2) q (marks_in m.words)
   pub locked : (id : ℕ) (p : SemPart) → get_elem? ps id ≡ some p → 0 < busy_of p + reserve_of p + rest_of p → HasWaitLock id m
   pub apart : (id : ℕ) (p : SemPart) → get_elem? ps id ≡ some p → transit_of p ≡ 1 → (p.held ≡ No) × (p.task ≢ None)
-  pub first : (w : Waiter) (behind : List Waiter) → q ≡ w ∷ behind → total alone_of ps ≡ 0 → readers (grants_in m.words) ps ≡ 0 → SomebodyOwes m ⊎ SomebodyKeepsOut ps ⊎ ((w.writer ≡ true) × IsRoused m w.task)
+  pub first : (w : Waiter) (behind : List Waiter) → q ≡ w ∷ behind → total alone_of ps ≡ 0 → readers (grants_in m.words) ps ≡ 0 → SomebodyOwes m ⊎ SomebodyKeepsOut ps ⊎ ((w.writer ≡ true) × IsBeingWoken m w.task)
   pub late : (id : ℕ) (p : SemPart) → get_elem? ps id ≡ some p → 1 ≤ overdue_of p → (1 ≤ total alone_of ps) ⊎ SomebodyOwes m
   pub unnamed : (id : ℕ) (h : Hand) (b : SemWake) → get_elem? m.hands id ≡ some h → h.task ≡ None → WakesMarked id b m → IsDone b
-  pub granted : (id : ℕ) (h : Hand) (p : SemPart) → get_elem? m.hands id ≡ some h → get_elem? ps id ≡ some p → 1 ≤ granted_of (grants_in m.words) p → (t : ℕ) → h.task ≡ Some t → IsRoused m t
+  pub granted : (id : ℕ) (h : Hand) (p : SemPart) → get_elem? m.hands id ≡ some h → get_elem? ps id ≡ some p → 1 ≤ granted_of (grants_in m.words) p → (t : ℕ) → h.task ≡ Some t → IsBeingWoken m t
 
 -- the facts of a site, and a list
 abbrev pub IsRwSemThen : {Call : Type 0} → Obj Call → ℕ → Plan → Moment → Type 0

@@ -21,8 +21,8 @@ use Rattle.wait_list.specs.declared.view.Change.{Change}
 use Rattle.wait_list.specs.declared.view.Change.TheVariants.{Stay, Enter, Leave}
 use Rattle.wait_list.specs.declared.words.TheConstants.{LIST_WORDS}
 use Rattle.wait_list.specs.Lists.{ListKept, ListMoves, list_part, no_list, first_code}
-use Rattle.wake_duty.specs.declared.view.Vigil.{Vigil}
-use Rattle.wake_duty.specs.declared.view.Vigil.TheVariants.{Absent}
+use Rattle.wake_duty.specs.declared.view.WaitState.{WaitState}
+use Rattle.wake_duty.specs.declared.view.WaitState.TheVariants.{Absent}
 use Rattle.wake_duty.specs.DutyWakes.{WAKE_WORDS, waits}
 use Rattle.rwsem_wake.specs.declared.duty.SemWake.{SemWake}
 use Rattle.rwsem_wake.specs.SemDuties.{DutyPart, DutyKept, no_wake, drowsing}
@@ -47,18 +47,18 @@ use Rattle.rwsem_wake.specs.declared.view.RwSemHand.{RwSemHand}
 abbrev pub idle : RwSemHand
 idle = record { list = no_list; sem = apart_hand; appends = 0; wake = no_wake }
 
-abbrev pub vigil_of : RwSemHand → Vigil
-vigil_of e = e.wake.vigil
+abbrev pub wait_state_of : RwSemHand → WaitState
+wait_state_of e = e.wake.wait_state
 
 -- how a pass waits that leaves nothing undone: it owes no wake, has chosen nobody, has no bias in the count, and waits
-abbrev pub sleeps_as : Bool → List ℕ → Bias → Wait → Vigil → Vigil
+abbrev pub sleeps_as : Bool → List ℕ → Bias → Wait → WaitState → WaitState
 sleeps_as false [] Clear Reads x = x
 sleeps_as false [] Clear Writes x = x
 sleeps_as _ _ _ _ x = Absent
 
 -- so it waits where it may sleep; any other is as one that doesn't wait
-abbrev pub sleep_vigil : RwSemHand → Vigil
-sleep_vigil e = sleeps_as e.wake.owing e.wake.chosen e.sem.bias e.sem.wait e.wake.vigil
+abbrev pub sleep_wait_state : RwSemHand → WaitState
+sleep_wait_state e = sleeps_as e.wake.owing e.wake.chosen e.sem.bias e.sem.wait e.wake.wait_state
 
 abbrev pub after_swap : RwSemHand → ℕ → RwSemHand
 after_swap e n = with_wake e (drowsing n e.wake)
@@ -96,7 +96,7 @@ stage_code _ = 1
 
 -- whether it owes a wake, whether it waits, whether it is awake, how many wake words it has set, how often it has fallen asleep, and whom it has chosen
 abbrev pub wake_codes : SemWake → List ℕ
-wake_codes b = bit b.owing ∷ waits b.vigil ∷ awake_bit b.vigil ∷ b.wakes ∷ b.dozes ∷ length b.chosen ∷ b.chosen
+wake_codes b = bit b.owing ∷ waits b.wait_state ∷ awake_bit b.wait_state ∷ b.wakes ∷ b.dozes ∷ length b.chosen ∷ b.chosen
 
 -- how it waits, how far it is under the wait lock, how often it has appended itself, its bias, what it has of wakes, and the tasks of its batch that aren't granted yet
 abbrev pub numbers_of : SemHand → ℕ → SemWake → List ℕ

@@ -30,8 +30,8 @@ use Rattle.wait_list.specs.Lists.{ListKept, Part, list_part, first_code}
 use Rattle.wait_list.specs.declared.words.TheConstants.{LIST_WORDS}
 use Rattle.wake_duty.specs.DutyWakes.{WAKE_WORDS, wake_word}
 use Rattle.wake_duty.specs.WakeSteps.{HasTried, knowing}
-use Rattle.wake_duty.specs.declared.view.Vigil.{Vigil}
-use Rattle.wake_duty.specs.declared.view.Vigil.TheVariants.{Tried}
+use Rattle.wake_duty.specs.declared.view.WaitState.{WaitState}
+use Rattle.wake_duty.specs.declared.view.WaitState.TheVariants.{Tried}
 use Rattle.rwsem_count.specs.declared.view.Bias.{Bias}
 use Rattle.rwsem_count.specs.declared.view.Bias.TheVariants.{Clear, Transit, Reserve}
 use Rattle.rwsem_wake.specs.declared.duty.SemWake.{SemWake}
@@ -41,7 +41,7 @@ use Rattle.rwsem_wake.specs.SemParts.{SemPart, busy_weight, writes_weight, write
 use Rattle.rwsem_wake.specs.declared.view.Wait.{Wait}
 use Rattle.rwsem_wake.specs.declared.view.Wait.TheVariants.{Apart, Reads, Writes}
 use Rattle.rwsem_wake.specs.RwSemViews.{V, HasChosen, after_set, list_at, list_of, seen, with_wake}
-use Rattle.rwsem_slow.specs.RwSems.{IsLocked, IsStaged, RwSemKept, after_swap, count_in, duty_seen, grants_in, list_words, spin_words, sleep_vigil, sleeps_as, wake_words, wakes_at}
+use Rattle.rwsem_slow.specs.RwSems.{IsLocked, IsStaged, RwSemKept, after_swap, count_in, duty_seen, grants_in, list_words, spin_words, sleep_wait_state, sleeps_as, wake_words, wakes_at}
 use Rattle.rwsem_slow.specs.WakesGo.{WakesGo, wake_stands}
 use Rattle.rwsem_slow.specs.WakesGoLaws.{goes-drowses, goes-sets, none-owed, stay-enters, stay-leaves}
 use Rattle.rwsem_slow.specs.DutyRule.{Duties, staged-same}
@@ -55,7 +55,7 @@ pub wake-inside : wakes_at + WAKE_WORDS ≤ LOCK_WORDS
 wake-inside = omega arith
 
 -- who may sleep, and how it waits
-sleeps-is : (owing : Bool) (chosen : List ℕ) (bias : Bias) (wait : Wait) (x : Vigil) (e : ℕ) → sleeps_as owing chosen bias wait x ≡ Tried e → (owing ≡ false) × (chosen ≡ []) × (bias ≡ Clear) × ((wait ≡ Reads) ⊎ (wait ≡ Writes)) × (x ≡ Tried e)
+sleeps-is : (owing : Bool) (chosen : List ℕ) (bias : Bias) (wait : Wait) (x : WaitState) (e : ℕ) → sleeps_as owing chosen bias wait x ≡ Tried e → (owing ≡ false) × (chosen ≡ []) × (bias ≡ Clear) × ((wait ≡ Reads) ⊎ (wait ≡ Writes)) × (x ≡ Tried e)
 sleeps-is false [] Clear Reads x e is = (refl, refl, refl, inl refl, is)
 sleeps-is false [] Clear Writes x e is = (refl, refl, refl, inr refl, is)
 sleeps-is false [] Clear Apart x e is = absurd cc
@@ -101,7 +101,7 @@ module _ {Call : Type 0} (o : Obj Call) (size : ℕ) where
       (goes-sets (count_in ws) (count_in ws) q Stay (grants_in ws) (wake_words ws) (set (wake_words ws) (8 * t) 1) (holds_in v.spin) (seen v) (seen v) v.ext.wake t 1 chosen.2 r.duty.wide refl (λ w e. stay-enters w e) refl chosen.0 (λ m. none-owed (count_in ws) q Stay (seen v) (seen v) (wake_stands v.ext.wake) (wake_stands (setting t v.ext.wake)) stay-leaves (inr (inr (refl, omega arith))) m))
 
   -- a waiter swaps its own wake word for 0
-  pub sem-swaps : (k : Plan) (ws : List ℕ) (vs : List V) (q : List Waiter) (id t : ℕ) (v : V) → Queue k ws vs q → get_elem? vs id ≡ some v → v.hand.task ≡ Some t → t < MAX_TASKS → SpinRests v.spin → v.hand.held ≡ No → HasTried sleep_vigil v
+  pub sem-swaps : (k : Plan) (ws : List ℕ) (vs : List V) (q : List Waiter) (id t : ℕ) (v : V) → Queue k ws vs q → get_elem? vs id ≡ some v → v.hand.task ≡ Some t → t < MAX_TASKS → SpinRests v.spin → v.hand.held ≡ No → HasTried sleep_wait_state v
       → Go k id ws vs (set ws (wakes_at + 8 * t) 0) (set vs id (knowing v (after_swap v.ext (get_or ws (wakes_at + 8 * t) 0))))
   sem-swaps k ws vs q id t v r at mine few rests free tried = let n : ℕ = get_or ws (wakes_at + 8 * t) 0 in let old : ℕ = wake_word (wake_words ws) t in let word : old ≡ n = part-at ws wakes_at WAKE_WORDS (8 * t) (omega (arith, few)) in
       sem-waking k ws vs q id t 0 v (drowsing n v.ext.wake) r at few
@@ -112,10 +112,10 @@ module _ {Call : Type 0} (o : Obj Call) (size : ℕ) where
       (goes-drowses (count_in ws) (count_in ws) q Stay (grants_in ws) (wake_words ws) (set (wake_words ws) (8 * t) 0) (holds_in v.spin) (seen v) (seen v) v.ext.wake t 0 few r.duty.wide refl (λ w e. stay-enters w e) refl mine (ap holds_at rests) has_tried (free, idle_is.0, idle_is.1, idle_is.2, idle_is.3)
       (λ old m. none-owed (count_in ws) q Stay (seen v) (seen v) (wake_stands v.ext.wake) (wake_stands (drowsing old v.ext.wake)) stay-leaves (inr (inr (refl, omega arith))) m)))
     where
-      idle_is : (v.ext.wake.owing ≡ false) × (v.ext.wake.chosen ≡ []) × (v.ext.sem.bias ≡ Clear) × ((v.ext.sem.wait ≡ Reads) ⊎ (v.ext.sem.wait ≡ Writes)) × (v.ext.wake.vigil ≡ Tried tried.0)
-      idle_is = sleeps-is v.ext.wake.owing v.ext.wake.chosen v.ext.sem.bias v.ext.sem.wait v.ext.wake.vigil tried.0 tried.1
+      idle_is : (v.ext.wake.owing ≡ false) × (v.ext.wake.chosen ≡ []) × (v.ext.sem.bias ≡ Clear) × ((v.ext.sem.wait ≡ Reads) ⊎ (v.ext.sem.wait ≡ Writes)) × (v.ext.wake.wait_state ≡ Tried tried.0)
+      idle_is = sleeps-is v.ext.wake.owing v.ext.wake.chosen v.ext.sem.bias v.ext.sem.wait v.ext.wake.wait_state tried.0 tried.1
 
-      has_tried : (e : ℕ) × (v.ext.wake.vigil ≡ Tried e)
+      has_tried : (e : ℕ) × (v.ext.wake.wait_state ≡ Tried e)
       has_tried = (tried.0, idle_is.4)
 
       -- a pass that may sleep is about nothing, for it doesn't have the wait lock

@@ -7,8 +7,8 @@ use Rattle.wait_list.specs.declared.view.Waiter.{Waiter}
 use Rattle.wait_list.specs.declared.view.Change.{Change}
 use Rattle.wait_list.specs.declared.view.Change.TheVariants.{Enter, Leave}
 use Rattle.wait_list.specs.Lists.{first_code}
-use Rattle.wake_duty.specs.declared.view.Vigil.{Vigil}
-use Rattle.wake_duty.specs.declared.view.Vigil.TheVariants.{Absent, Awake, Tried}
+use Rattle.wake_duty.specs.declared.view.WaitState.{WaitState}
+use Rattle.wake_duty.specs.declared.view.WaitState.TheVariants.{Absent, Awake, Tried}
 use Rattle.wake_duty.specs.DutyWakes.{wake_word, waits}
 use Rattle.wake_duty.specs.WakeMoves.{DozesOff, SetsChosen, WordGoes}
 use Rattle.rwsem_wake.specs.declared.duty.SemWake.{SemWake}
@@ -20,7 +20,7 @@ use Rattle.rwsem_wake.specs.Duties.{is_left}
 use Rattle.rwsem_wake.specs.GrantsStated.{Picks}
 
 -- whether it waits, and tries or loads its grant word before it sleeps
-abbrev pub awake_bit : Vigil → ℕ
+abbrev pub awake_bit : WaitState → ℕ
 awake_bit Absent = 0
 awake_bit Awake = 1
 awake_bit (Tried n) = 0
@@ -35,7 +35,7 @@ pub record WakeStands : Type 0 where
   pub dozes : ℕ
 
 abbrev pub wake_stands : SemWake → WakeStands
-wake_stands b = record { owing = b.owing; chosen = b.chosen; queued = waits b.vigil; awake = awake_bit b.vigil; wakes = b.wakes; dozes = b.dozes }
+wake_stands b = record { owing = b.owing; chosen = b.chosen; queued = waits b.wait_state; awake = awake_bit b.wait_state; wakes = b.wakes; dozes = b.dozes }
 
 -- In what follows the step goes from the count `n` to `n'`. `q` is the list before it, `c` its change. `locked` is 1 where the pass had the wait lock. `p` and `s` stand before it, `p'` and `s'` behind it.
 
@@ -73,8 +73,8 @@ abbrev pub SetsTask : ℕ → (s s' : WakeStands) → Type 0
 SetsTask t s s' = (1 ≤ times t s.chosen) × (s'.chosen ≡ less t s.chosen) × (s'.wakes ≡ raised true s.wakes)
 
 -- who is awake from then on: it enters the list, or it found its own wake word set when it was to sleep
-abbrev pub RousedBy : Change → (words : List ℕ) → (locked : ℕ) → SemPart → (s s' : WakeStands) → Type 0
-RousedBy c words locked p s s' = ((w : Waiter) × (c ≡ Enter w)) ⊎ (((t : ℕ) × (p.task ≡ Some t) × (1 ≤ wake_word words t)) × (locked ≡ 0) × (s'.dozes ≡ s.dozes))
+abbrev pub WokenBy : Change → (words : List ℕ) → (locked : ℕ) → SemPart → (s s' : WakeStands) → Type 0
+WokenBy c words locked p s s' = ((w : Waiter) × (c ≡ Enter w)) ⊎ (((t : ℕ) × (p.task ≡ Some t) × (1 ≤ wake_word words t)) × (locked ≡ 0) × (s'.dozes ≡ s.dozes))
 
 -- a reader that was granted holds by that
 abbrev pub HearsBy : (grants : List ℕ) → SemPart → SemPart → Type 0
@@ -108,5 +108,5 @@ pub record WakesGo (n n' : ℕ) (q : List Waiter) (c : Change) (grants words wor
   pub queues : s'.queued ≢ s.queued → QueuesBy c grants p p' s'
   pub enters : (w : Waiter) → c ≡ Enter w → s'.awake ≡ 1
   pub again : (t : ℕ) → t < MAX_TASKS → p.task ≡ Some t → wake_word words t ≡ 1 → wake_word words' t ≡ 0 → s'.awake ≡ 1
-  pub rouses : s.awake ≡ 0 → s'.awake ≡ 1 → RousedBy c words locked p s s'
+  pub wakes_it : s.awake ≡ 0 → s'.awake ≡ 1 → WokenBy c words locked p s s'
   pub tires : s.awake ≡ 1 → s'.awake ≡ 0 → TiresBy n q c grants p p'

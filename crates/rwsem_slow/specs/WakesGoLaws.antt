@@ -12,9 +12,9 @@ use Rattle.wait_list.specs.declared.view.Waiter.{Waiter}
 use Rattle.wait_list.specs.declared.view.Change.{Change}
 use Rattle.wait_list.specs.declared.view.Change.TheVariants.{Stay, Enter, Leave}
 use Rattle.wait_list.specs.Lists.{first_code}
-use Rattle.wake_duty.specs.declared.view.Vigil.{Vigil}
-use Rattle.wake_duty.specs.declared.view.Vigil.TheVariants.{Absent, Awake, Tried}
-use Rattle.wake_duty.specs.DutyWakes.{WAKE_WORDS, foiled, wake_word, waits}
+use Rattle.wake_duty.specs.declared.view.WaitState.{WaitState}
+use Rattle.wake_duty.specs.declared.view.WaitState.TheVariants.{Absent, Awake, Tried}
+use Rattle.wake_duty.specs.DutyWakes.{WAKE_WORDS, after_failed_try, wake_word, waits}
 use Rattle.wake_duty.specs.WakeMoves.{WordGoes}
 use Rattle.rwsem_wake.specs.declared.duty.SemWake.{SemWake}
 use Rattle.rwsem_wake.specs.SemDuties.{drowsing, first_writes, setting, times}
@@ -35,15 +35,15 @@ stay-enters w e = absurd cc
 pub leave-enters : {P : Type 0} (t : ℕ) (w : Waiter) → Leave t ≡ Enter w → P
 leave-enters t w e = absurd cc
 
-foiled-bit : (x : Vigil) → awake_bit (foiled x 0) ≡ 0
-foiled-bit Absent = refl
-foiled-bit Awake = refl
-foiled-bit (Tried n) = refl
+after_failed_try-bit : (x : WaitState) → awake_bit (after_failed_try x 0) ≡ 0
+after_failed_try-bit Absent = refl
+after_failed_try-bit Awake = refl
+after_failed_try-bit (Tried n) = refl
 
-foiled-waits : (x : Vigil) → waits (foiled x 0) ≡ waits x
-foiled-waits Absent = refl
-foiled-waits Awake = refl
-foiled-waits (Tried n) = refl
+after_failed_try-waits : (x : WaitState) → waits (after_failed_try x 0) ≡ waits x
+after_failed_try-waits Absent = refl
+after_failed_try-waits Awake = refl
+after_failed_try-waits (Tried n) = refl
 
 -- it ends and lowers no hold, and takes no bias back
 abbrev pub HoldsOn : SemPart → SemPart → Type 0
@@ -91,7 +91,7 @@ module _ (n n' : ℕ) (q : List Waiter) (c : Change) (grants words words' : List
   Must b' = MustOwe n' q c p p' (wake_stands b) (wake_stands b') → b'.owing ≡ true
 
   module _ (same : words' ≡ words) where
-    Words : (t : ℕ) → t < MAX_TASKS → WordGoes words words' p.task locked (waits b.vigil) (awake_bit b.vigil) (λ u. 1 ≤ times u b.chosen) t
+    Words : (t : ℕ) → t < MAX_TASKS → WordGoes words words' p.task locked (waits b.wait_state) (awake_bit b.wait_state) (λ u. 1 ≤ times u b.chosen) t
     Words t few = inl (ap (λ (z : List ℕ). wake_word z t) same)
 
     -- no wake word changes
@@ -112,7 +112,7 @@ module _ (n n' : ℕ) (q : List Waiter) (c : Change) (grants words words' : List
       queues = λ other. absurd (other refl);
       enters = λ w e. absurd (out w e);
       again = λ t few mine was is. unchanged t 1 0 (λ e. omega (arith, e)) was is;
-      rouses = λ e e'. absurd (omega (arith, e, e'));
+      wakes_it = λ e e'. absurd (omega (arith, e, e'));
       tires = λ e e'. absurd (omega (arith, e, e'));
     }
 
@@ -121,8 +121,8 @@ module _ (n n' : ℕ) (q : List Waiter) (c : Change) (grants words words' : List
     goes-still out must = goes-owing out b.owing (λ e e'. not-both b.owing e e') must (λ e. inl e)
 
     -- how its task waits changes
-    pub goes-vigil : (x : Vigil) → ((w : Waiter) → c ≡ Enter w → awake_bit x ≡ 1) → (awake_bit b.vigil ≡ 0 → awake_bit x ≡ 1 → (w : Waiter) × (c ≡ Enter w)) → (awake_bit b.vigil ≡ 1 → awake_bit x ≡ 0 → TiresBy n q c grants p p') → (waits x ≢ waits b.vigil → QueuesBy c grants p p' (wake_stands (record b { vigil = x }))) → Must (record b { vigil = x }) → Go (record b { vigil = x })
-    goes-vigil x enters rises falls queues must = record {
+    pub goes-wait_state : (x : WaitState) → ((w : Waiter) → c ≡ Enter w → awake_bit x ≡ 1) → (awake_bit b.wait_state ≡ 0 → awake_bit x ≡ 1 → (w : Waiter) × (c ≡ Enter w)) → (awake_bit b.wait_state ≡ 1 → awake_bit x ≡ 0 → TiresBy n q c grants p p') → (waits x ≢ waits b.wait_state → QueuesBy c grants p p' (wake_stands (record b { wait_state = x }))) → Must (record b { wait_state = x }) → Go (record b { wait_state = x })
+    goes-wait_state x enters rises falls queues must = record {
       words_go = Words;
       owes = λ e e'. not-both b.owing e e';
       must = must;
@@ -134,7 +134,7 @@ module _ (n n' : ℕ) (q : List Waiter) (c : Change) (grants words words' : List
       queues = queues;
       enters = enters;
       again = λ t few mine was is. unchanged t 1 0 (λ e. omega (arith, e)) was is;
-      rouses = λ e e'. inl (rises e e');
+      wakes_it = λ e e'. inl (rises e e');
       tires = falls;
     }
 
@@ -152,7 +152,7 @@ module _ (n n' : ℕ) (q : List Waiter) (c : Change) (grants words words' : List
       queues = λ _. inr (inl (t, is, mine), refl);
       enters = λ w e. leave-enters t w (sym is ∙ e);
       again = λ t few mine was is. unchanged t 1 0 (λ e. omega (arith, e)) was is;
-      rouses = λ e e'. absurd (omega (arith, e'));
+      wakes_it = λ e e'. absurd (omega (arith, e'));
       tires = λ e e'. inl (t, is, mine);
     }
 
@@ -170,7 +170,7 @@ module _ (n n' : ℕ) (q : List Waiter) (c : Change) (grants words words' : List
       queues = λ other. absurd (other refl);
       enters = λ w e. absurd (out w e);
       again = λ t few mine was is. unchanged t 1 0 (λ e. omega (arith, e)) was is;
-      rouses = λ e e'. absurd (omega (arith, e, e'));
+      wakes_it = λ e e'. absurd (omega (arith, e, e'));
       tires = λ e e'. absurd (omega (arith, e, e'));
     }
 
@@ -183,7 +183,7 @@ module _ (n n' : ℕ) (q : List Waiter) (c : Change) (grants words words' : List
     word-else s other = ap (λ (z : List ℕ). wake_word z s) is ∙ get_or-set_other words (8 * t) (8 * s) m 0 (λ e. other (omega (arith, e)))
 
     abbrev WordStep : ℕ → Type 0
-    WordStep = WordGoes words words' p.task locked (waits b.vigil) (awake_bit b.vigil) (λ u. 1 ≤ times u b.chosen)
+    WordStep = WordGoes words words' p.task locked (waits b.wait_state) (awake_bit b.wait_state) (λ u. 1 ≤ times u b.chosen)
 
     one-word : WordStep t → (s : ℕ) → s < MAX_TASKS → WordStep s
     one-word mine s _ = dite (ℕ_discrete s t) (λ same. subst WordStep (sym same) mine) (λ other. inl (word-else s other))
@@ -202,18 +202,18 @@ module _ (n n' : ℕ) (q : List Waiter) (c : Change) (grants words words' : List
       queues = λ other. absurd (other refl);
       enters = λ w e. absurd (out w e);
       again = λ u small mine was is. dite (ℕ_discrete u t) (λ same. absurd (let e : wake_word words' u ≡ wake_word words' t = ap (wake_word words') same in let h = word-here in omega (arith, e, h, one, is))) (λ other. absurd (let e = word-else u other in omega (arith, e, was, is)));
-      rouses = λ e e'. absurd (omega (arith, e, e'));
+      wakes_it = λ e e'. absurd (omega (arith, e, e'));
       tires = λ e e'. absurd (omega (arith, e, e'));
     }
 
     -- its own wake word is swapped for 0
-    pub goes-drowses : m ≡ 0 → p.task ≡ Some t → locked ≡ 0 → (e : ℕ) × (b.vigil ≡ Tried e) → LeavesNothing p (wake_stands b) → ((old : ℕ) → Must (drowsing old b)) → Go (drowsing (wake_word words t) b)
+    pub goes-drowses : m ≡ 0 → p.task ≡ Some t → locked ≡ 0 → (e : ℕ) × (b.wait_state ≡ Tried e) → LeavesNothing p (wake_stands b) → ((old : ℕ) → Must (drowsing old b)) → Go (drowsing (wake_word words t) b)
     goes-drowses none mine free tried idle must = by-word (wake_word words t) refl
       where
-        queued : waits b.vigil ≡ 1
+        queued : waits b.wait_state ≡ 1
         queued = ap waits tried.1
 
-        before : awake_bit b.vigil ≡ 0
+        before : awake_bit b.wait_state ≡ 0
         before = ap awake_bit tried.1
 
         words_go : (s : ℕ) → s < MAX_TASKS → WordStep s
@@ -236,7 +236,7 @@ module _ (n n' : ℕ) (q : List Waiter) (c : Change) (grants words words' : List
           queues = λ other. absurd (other refl);
           enters = λ w e. absurd (out w e);
           again = λ u small own now is. absurd (let same = same-some t u (sym mine ∙ own) in let e : wake_word words u ≡ wake_word words t = ap (wake_word words) (sym same) in omega (arith, e, now, was));
-          rouses = λ e e'. absurd (omega (arith, before, e'));
+          wakes_it = λ e e'. absurd (omega (arith, before, e'));
           tires = λ e e'. absurd (omega (arith, before, e));
         }
         by-word (suc old) was = record {
@@ -251,7 +251,7 @@ module _ (n n' : ℕ) (q : List Waiter) (c : Change) (grants words words' : List
           queues = λ other. absurd (other (sym queued));
           enters = λ w e. absurd (out w e);
           again = λ u small own now is. refl;
-          rouses = λ e e'. inr ((t, mine, omega (arith, was)), free, refl);
+          wakes_it = λ e e'. inr ((t, mine, omega (arith, was)), free, refl);
           tires = λ e e'. absurd (omega (arith, before, e));
         }
 
@@ -269,8 +269,8 @@ module _ (n n' : ℕ) (q : List Waiter) (grants words : List ℕ) (locked : ℕ)
   not-owed : HoldsOn p p' → (b' : SemWake) → MustStay b'
   not-owed on b' m = none-owed n' q Stay p p' (wake_stands b) (wake_stands b') stay-leaves on m
 
-  vigil-goes : (x : Vigil) → awake_bit x ≡ 0 → TiresBy n q Stay grants p p' → (waits x ≢ waits b.vigil → QueuesBy Stay grants p p' (wake_stands (record b { vigil = x }))) → HoldsOn p p' → Stays (record b { vigil = x })
-  vigil-goes x none why queues on = goes-vigil n n' q Stay grants words words locked p p' b refl x (λ w e. stay-enters w e) (λ e e'. absurd (omega (arith, none, e'))) (λ _ _. why) queues (not-owed on (record b { vigil = x }))
+  wait_state-goes : (x : WaitState) → awake_bit x ≡ 0 → TiresBy n q Stay grants p p' → (waits x ≢ waits b.wait_state → QueuesBy Stay grants p p' (wake_stands (record b { wait_state = x }))) → HoldsOn p p' → Stays (record b { wait_state = x })
+  wait_state-goes x none why queues on = goes-wait_state n n' q Stay grants words words locked p p' b refl x (λ w e. stay-enters w e) (λ e e'. absurd (omega (arith, none, e'))) (λ _ _. why) queues (not-owed on (record b { wait_state = x }))
 
   pub still-goes : HoldsOn p p' → Stays b
   still-goes on = goes-still n n' q Stay grants words words locked p p' b refl (λ w e. stay-enters w e) (not-owed on b)
@@ -286,12 +286,12 @@ module _ (n n' : ℕ) (q : List Waiter) (grants words : List ℕ) (locked : ℕ)
     | inl (same, inr (inr (inl (only, bias, none, is, wake_is)))) ↦ stays wake_is (holds is (let c : transit_of p ≡ 0 = ap transit_weight bias.1 in omega (arith, c)))
     | inl (same, inr (inr (inr (inl (only, bias, clear, is, wake_is))))) ↦ becomes wake_is (owing-goes (is_left n') (λ _ e. inr (inl ((bias, ap (λ (z : SemPart). z.sem.bias) is), e))) (returns (ap (λ (z : SemPart). z.held) is)) (λ e. not-both b.owing clear e))
     | inl (same, inr (inr (inr (inr (inl (is, late, wake_is)))))) ↦ stays wake_is (inr (inl (ap (λ (z : SemPart). z.held) is)))
-    | inl (same, inr (inr (inr (inr (inr (inl (reads, granted, stage, unshared, unalone, is, clear, wake_is))))))) ↦ becomes wake_is (let hears : HearsBy grants p p' = (reads, granted, ap (λ (z : SemPart). z.held) is) in vigil-goes Absent refl (inr (inl hears)) (λ _. inr (inr hears, refl)) (inl (hears.2, λ alone. let a : alone_of p ≡ 1 = ap alone_weight alone in omega (arith, a, unalone))))
-    | inl (same, inr (inr (inr (inr (inr (inr (inl (why, stage, wake_is)))))))) ↦ becomes wake_is (vigil-goes (foiled b.vigil 0) (foiled-bit b.vigil) (elim why [
+    | inl (same, inr (inr (inr (inr (inr (inl (reads, granted, stage, unshared, unalone, is, clear, wake_is))))))) ↦ becomes wake_is (let hears : HearsBy grants p p' = (reads, granted, ap (λ (z : SemPart). z.held) is) in wait_state-goes Absent refl (inr (inl hears)) (λ _. inr (inr hears, refl)) (inl (hears.2, λ alone. let a : alone_of p ≡ 1 = ap alone_weight alone in omega (arith, a, unalone))))
+    | inl (same, inr (inr (inr (inr (inr (inr (inl (why, stage, wake_is)))))))) ↦ becomes wake_is (wait_state-goes (after_failed_try b.wait_state 0) (after_failed_try-bit b.wait_state) (elim why [
       | inl reads ↦ inr (inr (inl reads))
       | inr (writes, inl held) ↦ inr (inr (inr (writes, inl held.0)))
       | inr (writes, inr other) ↦ inr (inr (inr (writes, inr other)))
-    ]) (λ other. absurd (other (foiled-waits b.vigil))) (holds stage.1 (omega arith)))
+    ]) (λ other. absurd (other (after_failed_try-waits b.wait_state))) (holds stage.1 (omega arith)))
     | inl (same, inr (inr (inr (inr (inr (inr (inr (only, nobody, clear, stage, is, wake_is)))))))) ↦ becomes wake_is (owing-goes false (λ _ e. not-both false refl e) (not-owed (holds is (omega arith)) (record b { owing = false })) (λ _. inr ((let l : busy_weight p.sem.stage ≡ 1 = ap busy_weight stage in omega (arith, l, before, most)), inr (inl nobody))))
     | inr (same_n, next, clear, wake_is) ↦ stays wake_is (holds next.6 (omega arith))
   ]

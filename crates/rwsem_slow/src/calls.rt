@@ -224,7 +224,8 @@ impl<O: Object> RwSem<O> {
             (shown_of pass.new).past }
         ensures out { IsOutOfLine (shown_of pass.new) }
         ensures moves { Paced (IsSiteStep (plan_of self.now) count_at) (shown_of pass.new).past }
-        ensures linear { IsLinearizable O.object O.WORDS (plan_of self.now) (shown_of pass.new).past }
+        ensures linear { IsLinearizable O.object O.WORDS (plan_of self.now)
+            (shown_of pass.new).past }
         ensures lists { (q : List Waiters) × (ps : List SemPart) ×
             HasBecome (plan_of self.now) (shown_of pass.new).past q ps }
         ensures wait_lock { EachMoment (IsSpinLockThen wait_lock_at) (shown_of pass.new).past }

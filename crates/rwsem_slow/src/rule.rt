@@ -3,7 +3,7 @@ ghost use Rattle.std.specs.Prelude.{false, refl};
 ghost use Rattle.word_bits.specs.LockWords.{counted};
 ghost use Rattle.lock_core.specs.SpinTables.{one-some, one-eight};
 ghost use Rattle.rwsem_wake.specs.RwSemViews.{count_at, list_at, list_of, saw_first, sem_of, wake_of, with_list, with_sem, with_wake, HasChosen, after_set};
-ghost use Rattle.rwsem_slow.specs.RwSems.{Kept, MayMiss, RwSemKept, RwSemMoves, any_count, bias_of, biased, grants_at, idle, marks_at, may_change, may_count, may_free, more_in, rests, standing, sleep_vigil, wakes_at, after_swap};
+ghost use Rattle.rwsem_slow.specs.RwSems.{Kept, MayMiss, RwSemKept, RwSemMoves, any_count, bias_of, biased, grants_at, idle, marks_at, may_change, may_count, may_free, more_in, rests, standing, sleep_wait_state, wakes_at, after_swap};
 ghost use Rattle.rwsem_slow.specs.RwSemLaws.{count-inside, count-there, list-inside, list-room, sem-hints, sem-joins-rule, sem-looks, sem-opens-rule, sem-places, sem-sems, sem-site, sem-sites, sem-spin, sem-spins, sem-splits, spin-inside};
 ghost use Rattle.rwsem_slow.specs.WaiterLaws.{few-waiters};
 ghost use Rattle.rwsem_slow.specs.RwSemListLaws.{list-again, list-back, list-over, list-same, may-on, may-pick, may-stay, sem-firsts, sem-list, sem-list-may, sem-lists, sem-queued};
@@ -206,7 +206,7 @@ impl<O: Object> SleepHost for SemRule<O> {
 
     ghost WAKE = { wakes_at };
 
-    ghost vigil = { sleep_vigil };
+    ghost wait_state = { sleep_wait_state };
 
     ghost has_chosen = { HasChosen };
 

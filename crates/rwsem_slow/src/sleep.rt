@@ -9,7 +9,7 @@ ghost use Rattle.rwsem_wake.specs.RwSemPlaces.{AreCounts, MovesOn, dozes_of, see
 ghost use Rattle.rwsem_slow.specs.Queued.{Listens, Drowses};
 ghost use Rattle.cpu_task.specs.CpuCounting.{DozesOnce};
 ghost use Rattle.wake_duty.specs.WakeSteps.{HasTried};
-ghost use Rattle.rwsem_slow.specs.RwSems.{sleep_vigil};
+ghost use Rattle.rwsem_slow.specs.RwSems.{sleep_wait_state};
 
 use crate::SemRule;
 use cpu_task::Cpu;
@@ -54,7 +54,7 @@ pub fn doze<O: Object, W: Wait, C: Cpu>(
     requires numbered { IsSome (task_in pass.old) }
     requires out { held_in pass.old ≡ No }
     requires unspun { SpinRests (view_of pass.old).spin }
-    requires tried { HasTried sleep_vigil (view_of pass.old) }
+    requires tried { HasTried sleep_wait_state (view_of pass.old) }
     requires counted { AreCounts counts.old (view_of pass.old) }
     ensures own { SitsAt site.now pass.new }
     ensures goes_on { KeepsPast pass.old pass.new }

@@ -11,10 +11,10 @@ use Rattle.lock_core.specs.ViewParts.{Each, at_unmap}
 use Rattle.lock_core.proofs.HandLaws.{false-or-true, not-both}
 use Rattle.lock_core.proofs.RowLaws.{none-some, same-some}
 use Rattle.wait_list.specs.declared.view.Waiter.{Waiter}
-use Rattle.wake_duty.specs.declared.view.Vigil.TheVariants.{Absent}
-use Rattle.wake_duty.specs.DutyWakes.{awake, foiled}
+use Rattle.wake_duty.specs.declared.view.WaitState.TheVariants.{Absent}
+use Rattle.wake_duty.specs.DutyWakes.{awake, after_failed_try}
 use Rattle.rwsem_wake.specs.declared.duty.SemWake.{SemWake}
-use Rattle.rwsem_wake.specs.SemDuties.{DutyPart, DutyKept, PartOk, alone_of as alone_in_duty, late_of as late_in_duty, owes, answers, stirs, chose, rouses, times, where_so, recounted, with_vigil, leaving}
+use Rattle.rwsem_wake.specs.SemDuties.{DutyPart, DutyKept, PartOk, alone_of as alone_in_duty, late_of as late_in_duty, owes, answers, attends, chose, wakes_it, times, where_so, recounted, with_wait_state, leaving}
 use Rattle.rwsem_wake.specs.SemDutyLaws.{duty-guards, duty-pays, duty-reserves-late, duty-takes-back, duty-owes, duty-returns, duty-writes, duty-hears, duty-waits, duty-fails, duty-unwaited, duty-grants}
 use Rattle.rwsem_count.specs.declared.view.Bias.{Bias}
 use Rattle.rwsem_count.specs.declared.view.Bias.TheVariants.{Clear, Transit, Reserve}
@@ -99,9 +99,9 @@ module _ {X : Type 0} (part : X → SemPart) (wake : X → SemWake) where
   alone-are grants [] = refl
   alone-are grants (x ∷ xs) = ap (λ (z : ℕ). alone_of (part x) + z) (alone-are grants xs)
 
-stirs-least : (ps : List DutyPart) → total alone_in_duty ps + total (λ (p : DutyPart). p.guards) ps ≤ total stirs ps
-stirs-least [] = omega arith
-stirs-least (p ∷ ps) = let r = stirs-least ps in omega (arith, r)
+attends-least : (ps : List DutyPart) → total alone_in_duty ps + total (λ (p : DutyPart). p.guards) ps ≤ total attends ps
+attends-least [] = omega arith
+attends-least (p ∷ ps) = let r = attends-least ps in omega (arith, r)
 
 module _ {X : Type 0} (part : X → SemPart) (wake : X → SemWake) (words : List ℕ) (n n' : ℕ) (q : List Waiter) (marks marks' grants grants' : List ℕ) (vs : List X) (id : ℕ) (x : X) (u : SemPart) (w : SemWake) (r : SemKept n q marks grants (map part vs)) (r' : SemKept n' q marks' grants' (set (map part vs) id u)) (at : get_elem? vs id ≡ some x) (own : ℕ) (has : (part x).task ≡ Some own) (task : u.task ≡ (part x).task)
     (d : DutyKept words q (map (duty_at part wake grants) vs)) where
@@ -139,9 +139,9 @@ module _ {X : Type 0} (part : X → SemPart) (wake : X → SemWake) (words : Lis
   late-is : IsOnly sees v → total late_in_duty ps ≡ overdue_of v
   late-is only = late-are part wake grants vs ∙ overdue-only sees id v mine r.each only
 
-  -- whoever writes or is counted as a reader stirs, where no bias came under a writer
-  pub held-stirs : is_left n ≡ false → IsOnly sees v → overdue_of v ≡ 0 → 1 ≤ total stirs ps
-  held-stirs held only none = let a = not-left n held in let f = field-is sees r in let z = writer-is sees r in let l = overdue-only sees id v mine r.each only in let c = guards-are part wake grants vs in let e = alone-are part wake grants vs in let s = stirs-least ps in omega (arith, a, f, z, l, none, c, e, s)
+  -- whoever writes or is counted as a reader attends, where no bias came under a writer
+  pub held-attends : is_left n ≡ false → IsOnly sees v → overdue_of v ≡ 0 → 1 ≤ total attends ps
+  held-attends held only none = let a = not-left n held in let f = field-is sees r in let z = writer-is sees r in let l = overdue-only sees id v mine r.each only in let c = guards-are part wake grants vs in let e = alone-are part wake grants vs in let s = attends-least ps in omega (arith, a, f, z, l, none, c, e, s)
 
   keeps-on : Keeps grants grants' v u b w → After (duty_of grants' u w)
   keeps-on k = becomes (recounted p p.alone (guards_of grants' u) p.late p.wake.owing)
@@ -221,11 +221,11 @@ module _ {X : Type 0} (part : X → SemPart) (wake : X → SemWake) (words : Lis
       none : total late_in_duty (set ps id (recounted p p.alone (guards_of grants' u) p.late false)) ≡ 0
       none = let L = total-set late_in_duty ps id p (recounted p p.alone (guards_of grants' u) p.late false) there in let before = late-is only in omega (arith, L, before, late)
 
-      still : is_left n' ≡ false → 1 ≤ total stirs (set ps id (recounted p p.alone (guards_of grants' u) p.late false))
+      still : is_left n' ≡ false → 1 ≤ total attends (set ps id (recounted p p.alone (guards_of grants' u) p.late false))
       still held = let y : DutyPart = recounted p p.alone (guards_of grants' u) p.late false in let some_n = not-left n' held in let f = field-is (set sees id u) r' in let z = writer-is (set sees id u) r' in
           let G = total-set (λ (o : DutyPart). o.guards) ps id p y there in let g = guards-are part wake grants vs in let G' = total-set (guards_of grants') sees id v u mine in let same_g = same-sums same_all in let same_v : guards_of grants' v ≡ guards_of grants v = (let a = same_all id v mine in omega (arith, a)) in
           let A = total-set alone_in_duty ps id p y there in let a = alone-are part wake grants vs in let A' = total-set alone_of sees id v u mine in let same_a : alone_of u ≡ alone_of v = ap alone_of is in
-          let O' = total-set overdue_of sees id v u mine in let o = overdue-only sees id v mine r.each only in let s = stirs-least (set ps id y) in omega (arith, some_n, f, z, G, g, G', same_g, same_v, A, a, A', same_a, O', o, late, late', s)
+          let O' = total-set overdue_of sees id v u mine in let o = overdue-only sees id v mine r.each only in let s = attends-least (set ps id y) in omega (arith, some_n, f, z, G, g, G', same_g, same_v, A, a, A', same_a, O', o, late, late', s)
 
   -- a writer takes
   takes-on : granted_of grants' u ≡ granted_of grants v → TakesAlone v u b w → After (duty_of grants' u w)
@@ -236,7 +236,7 @@ module _ {X : Type 0} (part : X → SemPart) (wake : X → SemWake) (words : Lis
   -- a granted reader holds
   hears-on : HearsGrant grants v u b w → After (duty_of grants' u w)
   hears-on (waits, granted, stage, unshared, unalone, is, clear, wake_is) = becomes (record (leaving p false) { guards = guards_of grants' u })
-      (λ i. record { task = sym task i; alone = (unalone ∙ sym (ap alone_of is)) i; guards = guards_of grants' u; late = ap overdue_of (sym is) i; writes = ap writes_of (sym is) i; granted = sym ungranted i; rest = ap (λ (y : SemPart). y.sem.rest) (sym is) i; wake = (sym (wake_is ∙ ap (λ (z : Bool). record b { owing = z; vigil = Absent }) clear)) i })
+      (λ i. record { task = sym task i; alone = (unalone ∙ sym (ap alone_of is)) i; guards = guards_of grants' u; late = ap overdue_of (sym is) i; writes = ap writes_of (sym is) i; granted = sym ungranted i; rest = ap (λ (y : SemPart). y.sem.rest) (sym is) i; wake = (sym (wake_is ∙ ap (λ (z : Bool). record b { owing = z; wait_state = Absent }) clear)) i })
       (duty-hears words q ps id p d there (guards_of grants' u) (let s : shared_of u ≡ 1 = ap shared_of is in omega (arith, s)) clear)
     where
       ungranted : granted_of grants' u ≡ 0
@@ -248,11 +248,11 @@ module _ {X : Type 0} (part : X → SemPart) (wake : X → SemWake) (words : Lis
 
   -- a try fails
   fails-on : granted_of grants' u ≡ granted_of grants v → FailsWaiting n q grants sees v u b w → After (duty_of grants' u w)
-  fails-on same (why, (s, is, unbegun, granting, waited), wake_is) = becomes (with_vigil p (foiled b.vigil 0))
+  fails-on same (why, (s, is, unbegun, granting, waited), wake_is) = becomes (with_wait_state p (after_failed_try b.wait_state 0))
       (λ i. record { task = sym task i; alone = ap alone_of (sym is) i; guards = sym guards i; late = ap overdue_of (sym is) i; writes = ap writes_of (sym is) i; granted = sym same i; rest = ap (λ (y : SemPart). y.sem.rest) (sym is) i; wake = sym wake_is i })
       (elim why [
         | inl reads ↦ duty-waits words q ps id p d there 0 own has reads.1 (ap writes_weight reads.0)
-        | inr (writes, inl held) ↦ duty-fails words q ps id p d there 0 own has (ungranted writes) (λ _. held-stirs held.0 held.1 held.2)
+        | inr (writes, inl held) ↦ duty-fails words q ps id p d there 0 own has (ungranted writes) (λ _. held-attends held.0 held.1 held.2)
         | inr (writes, inr other) ↦ duty-fails words q ps id p d there 0 own has (ungranted writes) (λ first. absurd (other own has first))
       ])
     where
@@ -322,8 +322,8 @@ module _ {X : Type 0} (part : X → SemPart) (wake : X → SemWake) (words : Lis
     chose-same : (s : ℕ) → total (chose s) us ≡ total (chose s) ps
     chose-same s = same-total (chose s) (λ g y c. refl) (ap (λ (z : SemWake). times s z.chosen) wake_is)
 
-    rouses-same : (s : ℕ) → total (rouses s) us ≡ total (rouses s) ps
-    rouses-same s = same-total (rouses s) (λ g y c. refl) (λ i. times s (wake_is i).chosen + where_so (writes_of (is i)) (awake s (task i) (wake_is i).vigil))
+    wakes_it-same : (s : ℕ) → total (wakes_it s) us ≡ total (wakes_it s) ps
+    wakes_it-same s = same-total (wakes_it s) (λ g y c. refl) (λ i. times s (wake_is i).chosen + where_so (writes_of (is i)) (awake s (task i) (wake_is i).wait_state))
 
     -- as many are counted as readers as before
     guards-same : total (λ (o : DutyPart). o.guards) us ≡ total (λ (o : DutyPart). o.guards) ps
@@ -331,10 +331,10 @@ module _ {X : Type 0} (part : X → SemPart) (wake : X → SemWake) (words : Lis
         let G = total-set (λ (o : DutyPart). o.guards) (map (duty_at part wake grants') vs) id (duty_at part wake grants' x) (duty_of grants' u w) there' in let G' = total-set (guards_of grants') sees id v u mine in
         let O = total-set overdue_of sees id v u mine in let o : overdue_of u ≡ overdue_of v = ap overdue_of is in let e : n' / 256 ≡ n / 256 = ap (λ (z : ℕ). z / 256) same_n in omega (arith, f, f', e, g, g', G, G', O, o)
 
-    stirs-same : total stirs us ≡ total stirs ps
-    stirs-same = let a = parts-of us in let c = parts-of ps in let e = alone-same in let f = guards-same in let g = owes-same in omega (arith, a, c, e, f, g)
+    attends-same : total attends us ≡ total attends ps
+    attends-same = let a = parts-of us in let c = parts-of ps in let e = alone-same in let f = guards-same in let g = owes-same in omega (arith, a, c, e, f, g)
       where
-        parts-of : (xs : List DutyPart) → total stirs xs ≡ total alone_in_duty xs + total (λ (o : DutyPart). o.guards) xs + total owes xs
+        parts-of : (xs : List DutyPart) → total attends xs ≡ total alone_in_duty xs + total (λ (o : DutyPart). o.guards) xs + total owes xs
         parts-of [] = refl
         parts-of (y ∷ ys) = let e = parts-of ys in omega (arith, e)
 
@@ -388,7 +388,7 @@ module _ {X : Type 0} (part : X → SemPart) (wake : X → SemWake) (words : Lis
         next s same = subst (λ (z : ℕ). 1 ≤ total (chose z) ps) (same-some t s same) chosen-next
 
     grants-on : DutyKept words q us
-    grants-on = duty-grants words q ps us d all-sound stirs-same answers-same late-same rouses-same chose-same was-granted
+    grants-on = duty-grants words q ps us d all-sound attends-same answers-same late-same wakes_it-same chose-same was-granted
 
   -- a step on the count, a mark or a grant word
   pub duty-goes-on : WakeGoes n q grants sees n' grants' v u b w → DutyKept words q (set (map (duty_at part wake grants') vs) id (duty_of grants' u w))

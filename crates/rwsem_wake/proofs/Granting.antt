@@ -14,7 +14,7 @@ use Rattle.wait_list.specs.Lists.{IsList, Knows, first_code, first_of}
 use Rattle.rwsem_count.specs.declared.view.Bias.TheVariants.{Reserve}
 use Rattle.rwsem_count.specs.Counts.{early_weight, late_weight, shared_weight}
 use Rattle.rwsem_wake.specs.Batches.{starts_with_reader}
-use Rattle.rwsem_wake.specs.Grants.{IsRemoved, KeepsOut, OnlySem, StirsTo, reserved, unreserved}
+use Rattle.rwsem_wake.specs.Grants.{IsRemoved, KeepsOut, OnlySem, ChangesTo, reserved, unreserved}
 use Rattle.rwsem_wake.specs.Duties.{paid}
 use Rattle.rwsem_wake.specs.SemParts.{IsWhole, transit_weight}
 use Rattle.rwsem_wake.specs.declared.duty.SemWake.{SemWake}
@@ -45,7 +45,7 @@ module _ (v w : V) (list : KnowsList v) (starts : starts_with_reader v.ext.list.
   keeps-out k = let held = ap (λ h. shared_weight h.held) r.beside.hand in let early = ap early_weight r.bias in let late = ap late_weight r.bias in let one = k.0 in let none = k.1 in (omega (arith, held, early, one), omega (arith, late, none), ap transit_weight r.bias ∙ k.2)
 
 -- a waker has reserved a bias
-module _ (v b : V) (seen : ℕ) (rests : IsAtRest v) (list : KnowsList v) (turns : StirsTo with_sem with_wake v (reserved v.ext.sem seen) (paid v.ext.wake) b) where
+module _ (v b : V) (seen : ℕ) (rests : IsAtRest v) (list : KnowsList v) (turns : ChangesTo with_sem with_wake v (reserved v.ext.sem seen) (paid v.ext.wake) b) where
   pub knows-reserved : KnowsList b
   knows-reserved = let spin = ap (λ (z : V). z.spin) turns in let same = ap (λ (z : V). z.ext.list) turns in record {
     knows = subst Knows (λ i. (sym spin i, sym same i)) list.knows;

@@ -40,7 +40,7 @@ use Rattle.rwsem_wake.specs.SemParts.{SemPart, part_of, busy_weight, busy_of}
 use Rattle.rwsem_wake.specs.GrantSemaphores.{SemKept}
 use Rattle.rwsem_wake.specs.Handoffs.{KeepsHandoff}
 use Rattle.rwsem_wake.specs.Lines.{lines_in}
-use Rattle.rwsem_wake.specs.Grants.{sem_part, semmed, stirred}
+use Rattle.rwsem_wake.specs.Grants.{sem_part, semmed, with_changes}
 use Rattle.rwsem_wake.specs.Duties.{WakeGoes}
 use Rattle.rwsem_wake.specs.GrantQueues.{HoldsWhere}
 use Rattle.rwsem_wake.proofs.Sums.{busy-most}
@@ -81,7 +81,7 @@ module _ {E Call : Type 0} (o : Obj Call) (unavailable : Unavailable) (size : �
     → SemKept (get_or (set ws i n) count 0) q (lines_in marks_at (set ws i n)) (lines_in grants_at (set ws i n)) (set (map (sem_part sem) vs) id (record { task = h.task; held = h.held; sem = s }))
     → KeepsHandoff id (get_or ws count 0) q (lines_in marks_at ws) (lines_in grants_at ws) (map (sem_part sem) vs) (get_or (set ws i n) count 0) (lines_in marks_at (set ws i n)) (lines_in grants_at (set ws i n)) (set (map (sem_part sem) vs) id (record { task = h.task; held = h.held; sem = s }))
     → WakeGoes (get_or ws count 0) q (lines_in grants_at ws) (map (sem_part sem) vs) (get_or (set ws i n) count 0) (lines_in grants_at (set ws i n)) (sem_part sem v) (record { task = h.task; held = h.held; sem = s }) (wake v.ext) b
-    → SiteKept o unavailable size k (site k ws) (set (map hand_of vs) id h) → Goes holds moves id ws vs (set ws i n) (set vs id (stirred with_sem with_wake v h s b))) where
+    → SiteKept o unavailable size k (site k ws) (set (map hand_of vs) id h) → Goes holds moves id ws vs (set ws i n) (set vs id (with_changes with_sem with_wake v h s b))) where
   abbrev M : Type 0
   M = Me (Unit {0}) (View E)
 
@@ -135,7 +135,7 @@ module _ {E Call : Type 0} (o : Obj Call) (unavailable : Unavailable) (size : �
     Comes id me op tells = (n : ℕ) (q : List Waiter) (marks grants : List ℕ) (sees : List SemPart) (w : SiteWords) (hs : List Hand) → Local sees id (sem_part sem me.0) (list_part list me.0) n q marks grants → (SpinHolds me.0.spin → total busy_of sees ≡ busy_weight (sem me.0.ext).stage)
         → Kept w hs → get_elem? hs id ≡ some me.0.hand → total alone_of hs ≡ total alone_in (map part_of sees) → total held_of hs ≡ total alone_in (map part_of sees) + total shared_in (map part_of sees)
         → (let m = found n marks grants in let x = word_after op m in (h : Hand) × (s : SemHand) × (b : SemWake) × HandStep me.0.hand h (word n x) × KeepsSaw me.0.hand h × (busy_weight s.stage ≤ holds_in me.0.spin) × SemKept (word n x) q (ms marks x) (gs grants x) (set sees id (turned h s))
-        × KeepsHandoff id n q marks grants sees (word n x) (ms marks x) (gs grants x) (set sees id (turned h s)) × WakeGoes n q grants sees (word n x) (gs grants x) (sem_part sem me.0) (turned h s) (wake me.0.ext) b × Kept w (set hs id h) × tells m (stirred with_sem with_wake me.0 h s b, me.1))
+        × KeepsHandoff id n q marks grants sees (word n x) (ms marks x) (gs grants x) (set sees id (turned h s)) × WakeGoes n q grants sees (word n x) (gs grants x) (sem_part sem me.0) (turned h s) (wake me.0.ext) b × Kept w (set hs id h) × tells m (with_changes with_sem with_wake me.0 h s b, me.1))
 
     pub word-goes : (slots id : ℕ) (me : M) (op : Op) (tells : ℕ → M → Type 0) → Comes id me op tells → Lets holds moves slots id me i op tells
     word-goes slots id me op tells comes st h _ at small = let v = me.0 in let ws = st.words in let vs = st.views in let q = queued ws vs h in let r = sem_kept ws vs q.0 q.1 in let wide = r.2 in
@@ -143,7 +143,7 @@ module _ {E Call : Type 0} (o : Obj Call) (unavailable : Unavailable) (size : �
         let t = comes n q.0 marks grants sees (site k ws) (map hand_of vs) (local ws vs q.0 id v h q.1 at) (sem_only ws vs q.0 id v q.1 at) (site_kept ws vs h) (at_map hand_of vs id v at) (alones-are vs) (helds-are vs) in
         let m = there.is ws wide in let y : ℕ = word_after op (found n marks grants) in let x : ℕ = word_after op (get_or ws i 0) in let xy : x ≡ y = ap (word_after op) (sym m) in
         let wd : get_or (set ws i x) count 0 ≡ word n y = there.word_is ws x wide ∙ ap (word n) xy in let mk : lines_in marks_at (set ws i x) ≡ ms marks y = there.marks_are ws x wide ∙ ap (ms marks) xy in let gr : lines_in grants_at (set ws i x) ≡ gs grants y = there.grants_are ws x wide ∙ ap (gs grants) xy in (
-          stirred with_sem with_wake v t.0 t.1 t.2,
+          with_changes with_sem with_wake v t.0 t.1 t.2,
           keeps,
           tt,
           sems ws vs q.0 id i x v t.0 t.1 t.2 q.1 at there.above there.inside there.apart t.5 (subst (HandStep v.hand t.0) (sym wd) t.3) t.4
@@ -151,25 +151,25 @@ module _ {E Call : Type 0} (o : Obj Call) (unavailable : Unavailable) (size : �
               (subst (λ (z : ℕ × List ℕ × List ℕ). KeepsHandoff id n q.0 marks grants sees z.0 z.1 z.2 (set sees id (turned t.0 t.1))) (λ j. (sym wd j, sym mk j, sym gr j)) t.7)
               (subst (λ (z : ℕ × List ℕ). WakeGoes n q.0 grants sees z.0 z.1 (sem_part sem v) (turned t.0 t.1) (wake v.ext) t.2) (λ j. (sym wd j, sym gr j)) t.8) t.9,
           refl,
-          subst (λ (z : ℕ). tells z (stirred with_sem with_wake v t.0 t.1 t.2, me.1)) m t.10,
+          subst (λ (z : ℕ). tells z (with_changes with_sem with_wake v t.0 t.1 t.2, me.1)) m t.10,
         )
 
     -- what a step under the wait lock comes to that leaves how its pass holds
-    abbrev pub OnStir : (id : ℕ) (me : M) → Op → (ℕ → SemHand) → (ℕ → SemWake) → (ℕ → Type 0) → Type 0
-    OnStir id me op does stirs tells = (n : ℕ) (q : List Waiter) (marks grants : List ℕ) (sees : List SemPart) → Local sees id (sem_part sem me.0) (list_part list me.0) n q marks grants → total busy_of sees ≡ busy_weight (sem me.0.ext).stage
+    abbrev pub OnChange : (id : ℕ) (me : M) → Op → (ℕ → SemHand) → (ℕ → SemWake) → (ℕ → Type 0) → Type 0
+    OnChange id me op does attends tells = (n : ℕ) (q : List Waiter) (marks grants : List ℕ) (sees : List SemPart) → Local sees id (sem_part sem me.0) (list_part list me.0) n q marks grants → total busy_of sees ≡ busy_weight (sem me.0.ext).stage
         → (let m = found n marks grants in let x = word_after op m in let us = set sees id (with_hand (sem_part sem me.0) (does m)) in SemKept (word n x) q (ms marks x) (gs grants x) us × KeepsHandoff id n q marks grants sees (word n x) (ms marks x) (gs grants x) us
-        × WakeGoes n q grants sees (word n x) (gs grants x) (sem_part sem me.0) (with_hand (sem_part sem me.0) (does m)) (wake me.0.ext) (stirs m) × tells m)
+        × WakeGoes n q grants sees (word n x) (gs grants x) (sem_part sem me.0) (with_hand (sem_part sem me.0) (does m)) (wake me.0.ext) (attends m) × tells m)
 
     -- it leaves what the pass knows of wakes
     abbrev pub OnWord : (id : ℕ) (me : M) → Op → (ℕ → SemHand) → (ℕ → Type 0) → Type 0
-    OnWord id me op does tells = OnStir id me op does (λ _. wake me.0.ext) tells
+    OnWord id me op does tells = OnChange id me op does (λ _. wake me.0.ext) tells
 
-    stirs-there : (slots id : ℕ) (me : M) (op : Op) (does : ℕ → SemHand) (stirs : ℕ → SemWake) (tells : ℕ → Type 0) → SpinHolds me.0.spin → me.0.hand.task ≢ None → OnStir id me op does stirs tells → Lets holds moves slots id me i op (λ n m'. tells n × Turns me (stirred with_sem with_wake me.0 me.0.hand (does n) (stirs n)) m')
-    stirs-there slots id me op does stirs tells has numbered step = word-goes slots id me op (λ n m'. tells n × Turns me (stirred with_sem with_wake me.0 me.0.hand (does n) (stirs n)) m') (λ n q marks grants sees w hs loc only r mine alones helds.
+    attends-there : (slots id : ℕ) (me : M) (op : Op) (does : ℕ → SemHand) (attends : ℕ → SemWake) (tells : ℕ → Type 0) → SpinHolds me.0.spin → me.0.hand.task ≢ None → OnChange id me op does attends tells → Lets holds moves slots id me i op (λ n m'. tells n × Turns me (with_changes with_sem with_wake me.0 me.0.hand (does n) (attends n)) m')
+    attends-there slots id me op does attends tells has numbered step = word-goes slots id me op (λ n m'. tells n × Turns me (with_changes with_sem with_wake me.0 me.0.hand (does n) (attends n)) m') (λ n q marks grants sees w hs loc only r mine alones helds.
         let t = step n q marks grants sees loc (only has) in let m : ℕ = found n marks grants in let b = busy-most (does m).stage in let one : holds_in me.0.spin ≡ 1 = ap holds_at has in (
           me.0.hand,
           does m,
-          stirs m,
+          attends m,
           record { numbered = numbered; task = refl; goes = (record { misses = omega arith; freed = λ e. refl; takes = omega arith; comes = λ l. omega (arith, l) }, refl, refl); left = λ held other. absurd (other refl) },
           (refl, inl (refl, refl)),
           omega (arith, b, one),
@@ -180,28 +180,28 @@ module _ {E Call : Type 0} (o : Obj Call) (unavailable : Unavailable) (size : �
           (t.3, (refl, refl)),
         ))
 
-    pub word-stirs : (slots id at : ℕ) (me : M) (op : Op) (does : ℕ → SemHand) (stirs : ℕ → SemWake) (tells : ℕ → Type 0) → at ≡ i → SpinHolds me.0.spin → me.0.hand.task ≢ None → OnStir id me op does stirs tells → Lets holds moves slots id me at op (λ n m'. tells n × Turns me (stirred with_sem with_wake me.0 me.0.hand (does n) (stirs n)) m')
-    word-stirs slots id at me op does stirs tells is has numbered step = subst (λ (z : ℕ). Lets holds moves slots id me z op (λ n m'. tells n × Turns me (stirred with_sem with_wake me.0 me.0.hand (does n) (stirs n)) m')) (sym is) (stirs-there slots id me op does stirs tells has numbered step)
+    pub word-attends : (slots id at : ℕ) (me : M) (op : Op) (does : ℕ → SemHand) (attends : ℕ → SemWake) (tells : ℕ → Type 0) → at ≡ i → SpinHolds me.0.spin → me.0.hand.task ≢ None → OnChange id me op does attends tells → Lets holds moves slots id me at op (λ n m'. tells n × Turns me (with_changes with_sem with_wake me.0 me.0.hand (does n) (attends n)) m')
+    word-attends slots id at me op does attends tells is has numbered step = subst (λ (z : ℕ). Lets holds moves slots id me z op (λ n m'. tells n × Turns me (with_changes with_sem with_wake me.0 me.0.hand (does n) (attends n)) m')) (sym is) (attends-there slots id me op does attends tells has numbered step)
 
     pub word-does : (slots id at : ℕ) (me : M) (op : Op) (does : ℕ → SemHand) (tells : ℕ → Type 0) → at ≡ i → SpinHolds me.0.spin → me.0.hand.task ≢ None → OnWord id me op does tells → Lets holds moves slots id me at op (λ n m'. tells n × Turns me (semmed with_sem me.0 me.0.hand (does n)) m')
-    word-does slots id at me op does tells is has numbered step = subst (λ (f : ℕ → View E). Lets holds moves slots id me at op (λ n m'. tells n × Turns me (f n) m')) (λ j n. record me.0 { steps = me.0.steps + 1; ext = wake_same me.0.ext (does n) j }) (word-stirs slots id at me op does (λ _. wake me.0.ext) tells is has numbered step)
+    word-does slots id at me op does tells is has numbered step = subst (λ (f : ℕ → View E). Lets holds moves slots id me at op (λ n m'. tells n × Turns me (f n) m')) (λ j n. record me.0 { steps = me.0.steps + 1; ext = wake_same me.0.ext (does n) j }) (word-attends slots id at me op does (λ _. wake me.0.ext) tells is has numbered step)
 
     -- what a step comes to by which its pass may come to hold so: where it does, nobody holds alone, and nobody at all where it is to hold alone
-    abbrev pub OnHold : (id : ℕ) (me : M) → Op → Held → (gets : ℕ → Bool) → (does : ℕ → SemHand) → (stirs : ℕ → SemWake) → (ℕ → Type 0) → Type 0
-    OnHold id me op held gets does stirs tells = (n : ℕ) (q : List Waiter) (marks grants : List ℕ) (sees : List SemPart) → Local sees id (sem_part sem me.0) (list_part list me.0) n q marks grants → (SpinHolds me.0.spin → total busy_of sees ≡ busy_weight (sem me.0.ext).stage)
+    abbrev pub OnHold : (id : ℕ) (me : M) → Op → Held → (gets : ℕ → Bool) → (does : ℕ → SemHand) → (attends : ℕ → SemWake) → (ℕ → Type 0) → Type 0
+    OnHold id me op held gets does attends tells = (n : ℕ) (q : List Waiter) (marks grants : List ℕ) (sees : List SemPart) → Local sees id (sem_part sem me.0) (list_part list me.0) n q marks grants → (SpinHolds me.0.spin → total busy_of sees ≡ busy_weight (sem me.0.ext).stage)
         → (let m = found n marks grants in let x = word_after op m in let us = set sees id (record { task = me.0.hand.task; held = if gets m then held else No; sem = does m }) in (busy_weight (does m).stage ≤ holds_in me.0.spin) × SemKept (word n x) q (ms marks x) (gs grants x) us
-        × KeepsHandoff id n q marks grants sees (word n x) (ms marks x) (gs grants x) us × WakeGoes n q grants sees (word n x) (gs grants x) (sem_part sem me.0) (record { task = me.0.hand.task; held = if gets m then held else No; sem = does m }) (wake me.0.ext) (stirs m) × (gets m ≡ true → (total alone_in (map part_of sees) ≡ 0) × (0 < alone_weight held → total shared_in (map part_of sees) ≡ 0)) × tells m)
+        × KeepsHandoff id n q marks grants sees (word n x) (ms marks x) (gs grants x) us × WakeGoes n q grants sees (word n x) (gs grants x) (sem_part sem me.0) (record { task = me.0.hand.task; held = if gets m then held else No; sem = does m }) (wake me.0.ext) (attends m) × (gets m ≡ true → (total alone_in (map part_of sees) ≡ 0) × (0 < alone_weight held → total shared_in (map part_of sees) ≡ 0)) × tells m)
 
-    holds-there : (slots id t : ℕ) (me : M) (op : Op) (held : Held) (gets : ℕ → Bool) (does : ℕ → SemHand) (stirs : ℕ → SemWake) (tells : ℕ → Type 0) → me.0.hand.task ≡ Some t → me.0.hand.held ≡ No → held ≢ No → OnHold id me op held gets does stirs tells → Lets holds moves slots id me i op (HoldsWhere with_sem with_wake o held gets does stirs tells me)
-    holds-there slots id t me op held gets does stirs tells has out some_hold step = word-goes slots id me op (HoldsWhere with_sem with_wake o held gets does stirs tells me) (λ n q marks grants sees w hs loc only r mine alones helds.
+    holds-there : (slots id t : ℕ) (me : M) (op : Op) (held : Held) (gets : ℕ → Bool) (does : ℕ → SemHand) (attends : ℕ → SemWake) (tells : ℕ → Type 0) → me.0.hand.task ≡ Some t → me.0.hand.held ≡ No → held ≢ No → OnHold id me op held gets does attends tells → Lets holds moves slots id me i op (HoldsWhere with_sem with_wake o held gets does attends tells me)
+    holds-there slots id t me op held gets does attends tells has out some_hold step = word-goes slots id me op (HoldsWhere with_sem with_wake o held gets does attends tells me) (λ n q marks grants sees w hs loc only r mine alones helds.
         let m : ℕ = found n marks grants in let x : ℕ = word_after op m in let v = me.0 in let s = step n q marks grants sees loc only in let numbered : v.hand.task ≢ None = λ e. none-some t (sym e ∙ has) in
         let After : Held → Type 0 = λ z. (let us = set sees id (record { task = v.hand.task; held = z; sem = does m }) in SemKept (word n x) q (ms marks x) (gs grants x) us × KeepsHandoff id n q marks grants sees (word n x) (ms marks x) (gs grants x) us
-        × WakeGoes n q grants sees (word n x) (gs grants x) (sem_part sem v) (record { task = v.hand.task; held = z; sem = does m }) (wake v.ext) (stirs m)) in
+        × WakeGoes n q grants sees (word n x) (gs grants x) (sem_part sem v) (record { task = v.hand.task; held = z; sem = does m }) (wake v.ext) (attends m)) in
         let facts : After (if gets m then held else No) = (s.1, s.2, s.3) in false-or-true (gets m)
         (λ yes_it. let now : After held = subst (λ (z : Bool). After (if z then held else No)) yes_it facts in let known : List ℕ = take size w.guarded in let none_alone : total alone_of hs ≡ 0 = (let z = (s.4 yes_it).0 in omega (arith, alones, z)) in (
           took v.hand held known r.log,
           does m,
-          stirs m,
+          attends m,
           record { numbered = numbered; task = refl; goes = (record { misses = omega arith; freed = λ e. refl; takes = omega arith; comes = λ l. omega (arith, l) }, refl, refl); left = λ held. absurd (held out) },
           (refl, inl (refl, refl)),
           s.0,
@@ -218,7 +218,7 @@ module _ {E Call : Type 0} (o : Obj Call) (unavailable : Unavailable) (size : �
         (λ no_it. let now : After v.hand.held = subst After (sym out) (subst (λ (z : Bool). After (if z then held else No)) no_it facts) in (
           v.hand,
           does m,
-          stirs m,
+          attends m,
           record { numbered = numbered; task = refl; goes = (record { misses = omega arith; freed = λ e. refl; takes = omega arith; comes = λ l. omega (arith, l) }, refl, refl); left = λ held other. absurd (other refl) },
           (refl, inl (refl, refl)),
           s.0,
@@ -229,8 +229,8 @@ module _ {E Call : Type 0} (o : Obj Call) (unavailable : Unavailable) (size : �
           (s.5, (λ yes_it. not-both (gets m) no_it yes_it), λ _. (refl, refl)),
         )))
 
-    pub word-holds : (slots id at t : ℕ) (me : M) (op : Op) (held : Held) (gets : ℕ → Bool) (does : ℕ → SemHand) (stirs : ℕ → SemWake) (tells : ℕ → Type 0) → at ≡ i → me.0.hand.task ≡ Some t → me.0.hand.held ≡ No → held ≢ No → OnHold id me op held gets does stirs tells → Lets holds moves slots id me at op (HoldsWhere with_sem with_wake o held gets does stirs tells me)
-    word-holds slots id at t me op held gets does stirs tells is has out some_hold step = subst (λ (z : ℕ). Lets holds moves slots id me z op (HoldsWhere with_sem with_wake o held gets does stirs tells me)) (sym is) (holds-there slots id t me op held gets does stirs tells has out some_hold step)
+    pub word-holds : (slots id at t : ℕ) (me : M) (op : Op) (held : Held) (gets : ℕ → Bool) (does : ℕ → SemHand) (attends : ℕ → SemWake) (tells : ℕ → Type 0) → at ≡ i → me.0.hand.task ≡ Some t → me.0.hand.held ≡ No → held ≢ No → OnHold id me op held gets does attends tells → Lets holds moves slots id me at op (HoldsWhere with_sem with_wake o held gets does attends tells me)
+    word-holds slots id at t me op held gets does attends tells is has out some_hold step = subst (λ (z : ℕ). Lets holds moves slots id me z op (HoldsWhere with_sem with_wake o held gets does attends tells me)) (sym is) (holds-there slots id t me op held gets does attends tells has out some_hold step)
 
   -- the count
   pub count-word : Word count (λ n marks grants. n) (λ n x. x) (λ marks x. marks) (λ grants x. grants)
@@ -272,11 +272,11 @@ module _ {E Call : Type 0} (o : Obj Call) (unavailable : Unavailable) (size : �
   pub count-does : (slots id at : ℕ) (me : M) (op : Op) (does : ℕ → SemHand) (tells : ℕ → Type 0) → at ≡ count → SpinHolds me.0.spin → me.0.hand.task ≢ None → OnWord count (λ n marks grants. n) (λ n x. x) (λ marks x. marks) (λ grants x. grants) count-word id me op does tells → Lets holds moves slots id me at op (λ n m'. tells n × Turns me (semmed with_sem me.0 me.0.hand (does n)) m')
   count-does = word-does count (λ n marks grants. n) (λ n x. x) (λ marks x. marks) (λ grants x. grants) count-word
 
-  pub count-stirs : (slots id at : ℕ) (me : M) (op : Op) (does : ℕ → SemHand) (stirs : ℕ → SemWake) (tells : ℕ → Type 0) → at ≡ count → SpinHolds me.0.spin → me.0.hand.task ≢ None → OnStir count (λ n marks grants. n) (λ n x. x) (λ marks x. marks) (λ grants x. grants) count-word id me op does stirs tells → Lets holds moves slots id me at op (λ n m'. tells n × Turns me (stirred with_sem with_wake me.0 me.0.hand (does n) (stirs n)) m')
-  count-stirs = word-stirs count (λ n marks grants. n) (λ n x. x) (λ marks x. marks) (λ grants x. grants) count-word
+  pub count-attends : (slots id at : ℕ) (me : M) (op : Op) (does : ℕ → SemHand) (attends : ℕ → SemWake) (tells : ℕ → Type 0) → at ≡ count → SpinHolds me.0.spin → me.0.hand.task ≢ None → OnChange count (λ n marks grants. n) (λ n x. x) (λ marks x. marks) (λ grants x. grants) count-word id me op does attends tells → Lets holds moves slots id me at op (λ n m'. tells n × Turns me (with_changes with_sem with_wake me.0 me.0.hand (does n) (attends n)) m')
+  count-attends = word-attends count (λ n marks grants. n) (λ n x. x) (λ marks x. marks) (λ grants x. grants) count-word
 
-  pub mark-stirs : (t : ℕ) (few : t < MAX_TASKS) (slots id at : ℕ) (me : M) (op : Op) (does : ℕ → SemHand) (stirs : ℕ → SemWake) (tells : ℕ → Type 0) → at ≡ marks_at + 8 * t → SpinHolds me.0.spin → me.0.hand.task ≢ None → OnStir (marks_at + 8 * t) (λ n marks grants. get_or marks t 0) (λ n x. n) (λ marks x. set marks t x) (λ grants x. grants) (mark-word t few) id me op does stirs tells → Lets holds moves slots id me at op (λ n m'. tells n × Turns me (stirred with_sem with_wake me.0 me.0.hand (does n) (stirs n)) m')
-  mark-stirs t few = word-stirs (marks_at + 8 * t) (λ n marks grants. get_or marks t 0) (λ n x. n) (λ marks x. set marks t x) (λ grants x. grants) (mark-word t few)
+  pub mark-attends : (t : ℕ) (few : t < MAX_TASKS) (slots id at : ℕ) (me : M) (op : Op) (does : ℕ → SemHand) (attends : ℕ → SemWake) (tells : ℕ → Type 0) → at ≡ marks_at + 8 * t → SpinHolds me.0.spin → me.0.hand.task ≢ None → OnChange (marks_at + 8 * t) (λ n marks grants. get_or marks t 0) (λ n x. n) (λ marks x. set marks t x) (λ grants x. grants) (mark-word t few) id me op does attends tells → Lets holds moves slots id me at op (λ n m'. tells n × Turns me (with_changes with_sem with_wake me.0 me.0.hand (does n) (attends n)) m')
+  mark-attends t few = word-attends (marks_at + 8 * t) (λ n marks grants. get_or marks t 0) (λ n x. n) (λ marks x. set marks t x) (λ grants x. grants) (mark-word t few)
 
   pub mark-does : (t : ℕ) (few : t < MAX_TASKS) (slots id at : ℕ) (me : M) (op : Op) (does : ℕ → SemHand) (tells : ℕ → Type 0) → at ≡ marks_at + 8 * t → SpinHolds me.0.spin → me.0.hand.task ≢ None → OnWord (marks_at + 8 * t) (λ n marks grants. get_or marks t 0) (λ n x. n) (λ marks x. set marks t x) (λ grants x. grants) (mark-word t few) id me op does tells → Lets holds moves slots id me at op (λ n m'. tells n × Turns me (semmed with_sem me.0 me.0.hand (does n)) m')
   mark-does t few = word-does (marks_at + 8 * t) (λ n marks grants. get_or marks t 0) (λ n x. n) (λ marks x. set marks t x) (λ grants x. grants) (mark-word t few)
@@ -285,9 +285,9 @@ module _ {E Call : Type 0} (o : Obj Call) (unavailable : Unavailable) (size : �
   grant-does t few = word-does (grants_at + 8 * t) (λ n marks grants. get_or grants t 0) (λ n x. n) (λ marks x. marks) (λ grants x. set grants t x) (grant-word t few)
 
   -- steps on them by which their pass may come to hold
-  pub count-holds : (slots id at t : ℕ) (me : M) (op : Op) (held : Held) (gets : ℕ → Bool) (does : ℕ → SemHand) (stirs : ℕ → SemWake) (tells : ℕ → Type 0) → at ≡ count → me.0.hand.task ≡ Some t → me.0.hand.held ≡ No → held ≢ No → OnHold count (λ n marks grants. n) (λ n x. x) (λ marks x. marks) (λ grants x. grants) count-word id me op held gets does stirs tells → Lets holds moves slots id me at op (HoldsWhere with_sem with_wake o held gets does stirs tells me)
+  pub count-holds : (slots id at t : ℕ) (me : M) (op : Op) (held : Held) (gets : ℕ → Bool) (does : ℕ → SemHand) (attends : ℕ → SemWake) (tells : ℕ → Type 0) → at ≡ count → me.0.hand.task ≡ Some t → me.0.hand.held ≡ No → held ≢ No → OnHold count (λ n marks grants. n) (λ n x. x) (λ marks x. marks) (λ grants x. grants) count-word id me op held gets does attends tells → Lets holds moves slots id me at op (HoldsWhere with_sem with_wake o held gets does attends tells me)
   count-holds = word-holds count (λ n marks grants. n) (λ n x. x) (λ marks x. marks) (λ grants x. grants) count-word
 
-  pub grant-holds : (t : ℕ) (few : t < MAX_TASKS) (slots id at own : ℕ) (me : M) (op : Op) (held : Held) (gets : ℕ → Bool) (does : ℕ → SemHand) (stirs : ℕ → SemWake) (tells : ℕ → Type 0) → at ≡ grants_at + 8 * t → me.0.hand.task ≡ Some own → me.0.hand.held ≡ No → held ≢ No
-      → OnHold (grants_at + 8 * t) (λ n marks grants. get_or grants t 0) (λ n x. n) (λ marks x. marks) (λ grants x. set grants t x) (grant-word t few) id me op held gets does stirs tells → Lets holds moves slots id me at op (HoldsWhere with_sem with_wake o held gets does stirs tells me)
+  pub grant-holds : (t : ℕ) (few : t < MAX_TASKS) (slots id at own : ℕ) (me : M) (op : Op) (held : Held) (gets : ℕ → Bool) (does : ℕ → SemHand) (attends : ℕ → SemWake) (tells : ℕ → Type 0) → at ≡ grants_at + 8 * t → me.0.hand.task ≡ Some own → me.0.hand.held ≡ No → held ≢ No
+      → OnHold (grants_at + 8 * t) (λ n marks grants. get_or grants t 0) (λ n x. n) (λ marks x. marks) (λ grants x. set grants t x) (grant-word t few) id me op held gets does attends tells → Lets holds moves slots id me at op (HoldsWhere with_sem with_wake o held gets does attends tells me)
   grant-holds t few = word-holds (grants_at + 8 * t) (λ n marks grants. get_or grants t 0) (λ n x. n) (λ marks x. marks) (λ grants x. set grants t x) (grant-word t few)

@@ -23,7 +23,7 @@ use Rattle.rwsem_wake.specs.declared.view.Stage.TheVariants.{Rest, Armed, Markin
 use Rattle.rwsem_wake.specs.SemParts.{SemPart, late_of, granted_of, granted_weight, granting_of, granting_weight, is_zero, reads_at, shared_of, some_of, transit_of}
 use Rattle.rwsem_wake.specs.Grants.{reserved, unreserved, unmarked, gains, losses, looked, counted, granting_on, granted, tail}
 use Rattle.rwsem_wake.specs.GrantQueues.{rested, asked, taken, own_unmarked, heard, heard_locked, settled}
-use Rattle.rwsem_wake.specs.Duties.{kept_weight, overdue_weight, kept_of, overdue_of, begun_weight, waited_weight, SameGrants, IsOnly, WakeGoes, paid, is_left, left_by, heard_by, foiled_by, foiled_unless, saw_count, exchanged, is_own, saw_mark, heard_at, heard_locked_at}
+use Rattle.rwsem_wake.specs.Duties.{kept_weight, overdue_weight, kept_of, overdue_of, begun_weight, waited_weight, SameGrants, IsOnly, WakeGoes, paid, is_left, left_by, heard_by, after_failed_try_by, after_failed_try_unless, saw_count, exchanged, is_own, saw_mark, heard_at, heard_locked_at}
 use Rattle.rwsem_wake.proofs.WakeLaws.{staged}
 use Rattle.rwsem_wake.proofs.QueueLaws.{unread-one, reads-at-w}
 use Rattle.rwsem_wake.proofs.Stepping.{Local, with_hand, named_in}
@@ -127,8 +127,8 @@ module _ (n : ℕ) (q : List Waiter) (grants : List ℕ) (sees : List SemPart) (
   -- a queued writer that saw this count
   seen-count : (n' : ℕ) (from : Stage) (s : Stage) → IsOnly sees v → v.sem.stage ≡ from → ((m : ℕ) → granting_weight from m ≡ 0) → v.sem.wait ≡ Writes → v.sem.bias ≡ Clear → begun_weight s ≡ 0 → ((m : ℕ) → granting_weight s m ≡ 0) → Goes n' (staged v s) (saw_count n b)
   seen-count n' from s only stage none writes clear begun none' = false-or-true (is_left n)
-      (λ left. subst (λ (z : Bool). Goes n' (staged v s) (foiled_unless z b)) (sym left) (wakes-turn n' from s stage none begun (inl late)))
-      (λ held. subst (λ (z : Bool). Goes n' (staged v s) (foiled_unless z b)) (sym held) (inl (
+      (λ left. subst (λ (z : Bool). Goes n' (staged v s) (after_failed_try_unless z b)) (sym left) (wakes-turn n' from s stage none begun (inl late)))
+      (λ held. subst (λ (z : Bool). Goes n' (staged v s) (after_failed_try_unless z b)) (sym held) (inl (
         same-grants,
         inr (inr (inr (inr (inr (inr (inl (
           inr (writes, inl (held, only, late)),
@@ -178,7 +178,7 @@ module _ (n : ℕ) (q : List Waiter) (grants : List ℕ) (sees : List SemPart) (
 
       behind : is_own v.task (first_code known) ≡ false → (m : ℕ) → Goes n (with_hand v (unmarked v.sem m)) (saw_mark false m b)
       behind other zero = wakes-turn-either n Summing stage refl
-      behind other (suc m) = subst (λ (z : Bool). Goes n (with_hand v (if z then record v.sem { stage = Summing } else v.sem)) (foiled_by b)) (sym (not-zero m)) (inl (same-grants, inr (inr (inr (inr (inr (inr (inl (inr (writes other, inr (not-first other)), (v.sem.stage, refl, unbegun, refl, inr (omega arith)), refl)))))))))
+      behind other (suc m) = subst (λ (z : Bool). Goes n (with_hand v (if z then record v.sem { stage = Summing } else v.sem)) (after_failed_try_by b)) (sym (not-zero m)) (inl (same-grants, inr (inr (inr (inr (inr (inr (inl (inr (writes other, inr (not-first other)), (v.sem.stage, refl, unbegun, refl, inr (omega arith)), refl)))))))))
 
   -- WAITERS and HANDOFF go with the last waiter
   pub wakes-empty : (n' : ℕ) → IsOnly sees v → length q ≡ 0 → v.sem.bias ≡ Clear → v.sem.stage ≡ Emptied → Goes n' (with_hand v (rested v.sem)) (paid b)
@@ -229,7 +229,7 @@ module _ (n : ℕ) (q : List Waiter) (grants : List ℕ) (sees : List SemPart) (
   gets : word ≡ 0 → WakeGoes n q grants sees n grants v (record v { held = Shared; sem = record v.sem { wait = Apart } }) b (heard_by b)
   gets zero_it = inl ((λ j y e. refl), inr (inr (inr (inr (inr (inl (waits, granted-is ∙ ap is_zero zero_it, stage, ap shared_weight out, ap alone_weight out, refl, clear, refl)))))))
 
-  misses : (m : ℕ) → word ≡ suc m → (s : Stage) → begun_weight s ≡ 0 → ((k : ℕ) → granting_weight s k ≡ 0) → 0 ≤ waited_weight s → WakeGoes n q grants sees n grants v (staged v s) b (foiled_by b)
+  misses : (m : ℕ) → word ≡ suc m → (s : Stage) → begun_weight s ≡ 0 → ((k : ℕ) → granting_weight s k ≡ 0) → 0 ≤ waited_weight s → WakeGoes n q grants sees n grants v (staged v s) b (after_failed_try_by b)
   misses m more s begun none _ = inl (
     (λ j y e. refl),
     inr (inr (inr (inr (inr (inr (inl (
@@ -241,9 +241,9 @@ module _ (n : ℕ) (q : List Waiter) (grants : List ℕ) (sees : List SemPart) (
 
   by-word : (m : ℕ) → word ≡ m → WakeGoes n q grants sees n grants v (record { task = v.task; held = if m == 0 then Shared else No; sem = heard v.sem m }) b (heard_at m b)
   by-word zero is = gets is
-  by-word (suc m) is = subst (λ (z : Bool). WakeGoes n q grants sees n grants v (record { task = v.task; held = if z then Shared else No; sem = if z then record v.sem { wait = Apart } else v.sem }) b (foiled_by b)) (sym (not-zero m))
-      (subst (λ (z : Held). WakeGoes n q grants sees n grants v (record { task = v.task; held = z; sem = v.sem }) b (foiled_by b)) out
-      (subst (λ (z : Stage). WakeGoes n q grants sees n grants v (staged v z) b (foiled_by b)) (sym stage) (misses m is Rest refl (λ k. refl) (omega arith))))
+  by-word (suc m) is = subst (λ (z : Bool). WakeGoes n q grants sees n grants v (record { task = v.task; held = if z then Shared else No; sem = if z then record v.sem { wait = Apart } else v.sem }) b (after_failed_try_by b)) (sym (not-zero m))
+      (subst (λ (z : Held). WakeGoes n q grants sees n grants v (record { task = v.task; held = z; sem = v.sem }) b (after_failed_try_by b)) out
+      (subst (λ (z : Stage). WakeGoes n q grants sees n grants v (staged v z) b (after_failed_try_by b)) (sym stage) (misses m is Rest refl (λ k. refl) (omega arith))))
 
   by-word-locked : (m : ℕ) → word ≡ m → WakeGoes n q grants sees n grants v (record { task = v.task; held = if m == 0 then Shared else No; sem = heard_locked v.sem m }) b (heard_locked_at m b)
   by-word-locked zero is = gets is

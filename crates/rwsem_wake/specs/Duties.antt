@@ -7,8 +7,8 @@ use Rattle.lock_core.specs.declared.view.View.{View}
 use Rattle.wait_list.specs.declared.view.ListHand.{ListHand}
 use Rattle.wait_list.specs.declared.view.Waiter.{Waiter}
 use Rattle.wait_list.specs.Lists.{first_code}
-use Rattle.wake_duty.specs.declared.view.Vigil.TheVariants.{Absent, Awake}
-use Rattle.wake_duty.specs.DutyWakes.{foiled}
+use Rattle.wake_duty.specs.declared.view.WaitState.TheVariants.{Absent, Awake}
+use Rattle.wake_duty.specs.DutyWakes.{after_failed_try}
 use Rattle.rwsem_wake.specs.declared.duty.SemWake.{SemWake}
 use Rattle.rwsem_wake.specs.SemDuties.{DutyPart}
 use Rattle.rwsem_count.specs.declared.view.Bias.{Bias}
@@ -85,7 +85,7 @@ waited_weight Granting = 0
 -- a reader that joins has its bias in transit; a writer that is to set WAITERS tries before it sleeps; a writer that took holds; and a bias that came under a writer stands only while WAITERS does
 pub record StageOk (v : SemPart) (b : SemWake) : Type 0 where
   pub joining : (x : Bool) → v.sem.stage ≡ Joining x → 1 ≤ transit_of v
-  pub first : v.sem.stage ≡ First → (b.vigil ≡ Awake) × (v.sem.wait ≡ Writes)
+  pub first : v.sem.stage ≡ First → (b.wait_state ≡ Awake) × (v.sem.wait ≡ Writes)
   pub took : v.sem.stage ≡ Took → v.held ≡ Alone
   pub waited : 1 ≤ overdue_of v → waited_weight v.sem.stage ≡ 1
 
@@ -105,20 +105,20 @@ left_by word b = record b { owing = is_left word }
 
 -- it waits for nothing
 abbrev pub heard_by : SemWake → SemWake
-heard_by b = record b { vigil = Absent }
+heard_by b = record b { wait_state = Absent }
 
 -- it has tried, and may sleep
-abbrev pub foiled_by : SemWake → SemWake
-foiled_by b = record b { vigil = foiled b.vigil 0 }
+abbrev pub after_failed_try_by : SemWake → SemWake
+after_failed_try_by b = record b { wait_state = after_failed_try b.wait_state 0 }
 
 -- the same, unless that is so
-abbrev pub foiled_unless : Bool → SemWake → SemWake
-foiled_unless true b = b
-foiled_unless false b = foiled_by b
+abbrev pub after_failed_try_unless : Bool → SemWake → SemWake
+after_failed_try_unless true b = b
+after_failed_try_unless false b = after_failed_try_by b
 
 -- a queued writer saw this count under the wait lock, which it can't have unless the count is free
 abbrev pub saw_count : ℕ → SemWake → SemWake
-saw_count word b = foiled_unless (is_left word) b
+saw_count word b = after_failed_try_unless (is_left word) b
 
 -- its exchange of this count found that one, and took where both are the same
 abbrev pub exchanged : (old found : ℕ) → SemWake → SemWake
@@ -137,12 +137,12 @@ sees_itself list v = is_own v.hand.task (first_code (list v.ext).list)
 abbrev pub saw_mark : Bool → ℕ → SemWake → SemWake
 saw_mark true mark b = b
 saw_mark false zero b = b
-saw_mark false (suc mark) b = foiled_by b
+saw_mark false (suc mark) b = after_failed_try_by b
 
 -- a reader loaded this grant word, without the wait lock or with it
 abbrev pub heard_at : ℕ → SemWake → SemWake
 heard_at zero b = heard_by b
-heard_at (suc word) b = foiled_by b
+heard_at (suc word) b = after_failed_try_by b
 
 abbrev pub heard_locked_at : ℕ → SemWake → SemWake
 heard_locked_at zero b = heard_by b
@@ -200,7 +200,7 @@ MayTire n q grants vs v = ((v.sem.wait ≡ Reads) × (granted_of grants v ≡ 0)
 
 -- its try fails
 abbrev pub FailsWaiting : ℕ → List Waiter → List ℕ → List SemPart → SemPart → SemPart → SemWake → SemWake → Type 0
-FailsWaiting n q grants vs v u b w = MayTire n q grants vs v × ((s : Stage) × (u ≡ record v { sem = record v.sem { stage = s } }) × (begun_weight s ≡ 0) × (granting_of u ≡ granting_of v) × ((overdue_of v ≡ 0) ⊎ (waited_weight v.sem.stage ≤ waited_weight s))) × (w ≡ foiled_by b)
+FailsWaiting n q grants vs v u b w = MayTire n q grants vs v × ((s : Stage) × (u ≡ record v { sem = record v.sem { stage = s } }) × (begun_weight s ≡ 0) × (granting_of u ≡ granting_of v) × ((overdue_of v ≡ 0) ⊎ (waited_weight v.sem.stage ≤ waited_weight s))) × (w ≡ after_failed_try_by b)
 
 -- it has left the list empty
 abbrev pub LeavesEmpty : List Waiter → List SemPart → SemPart → SemPart → SemWake → SemWake → Type 0

@@ -16,7 +16,7 @@ use Rattle.rwsem_count.specs.CountWordSteps.{HasFlags, HasHandoff, IsLocked}
 use Rattle.rwsem_wake.specs.declared.view.SemHand.{SemHand}
 use Rattle.rwsem_wake.specs.declared.view.Wait.TheVariants.{Apart, Reads, Writes}
 use Rattle.rwsem_wake.specs.declared.view.Stage.TheVariants.{Rest, Armed, Marking, Took, Summing}
-use Rattle.rwsem_wake.specs.Grants.{KnowsFirst, stirred}
+use Rattle.rwsem_wake.specs.Grants.{KnowsFirst, with_changes}
 
 -- what becomes of the part
 
@@ -50,15 +50,15 @@ settled s word = if word % 2 == 0 then record s { bias = Clear } else s
 module _ {E : Type 0} (with_sem : E → SemHand → E) (with_wake : E → SemWake → E) where
   -- it holds in this way, has learnt what the lock guards, has this part, and knows this of wakes
   abbrev pub GetsSem : {Call : Type 0} → Obj Call → Held → SemHand → SemWake → Sat E → Sat E → Type 0
-  GetsSem o held s b m m' = (known : List ℕ) × (log : List Entry) × ((k : Plan) → m.0.hand.plan ≡ Some k → Learns o k m.0.hand known log) × Turns m (stirred with_sem with_wake m.0 (took m.0.hand held known log) s b) m'
+  GetsSem o held s b m m' = (known : List ℕ) × (log : List Entry) × ((k : Plan) → m.0.hand.plan ≡ Some k → Learns o k m.0.hand known log) × Turns m (with_changes with_sem with_wake m.0 (took m.0.hand held known log) s b) m'
 
   -- the same, of the views
   abbrev pub HoldsBy : {Call : Type 0} → Obj Call → Plan → Held → SemHand → SemWake → View E → View E → Type 0
-  HoldsBy o k held s b v u = (known : List ℕ) × (log : List Entry) × Learns o k v.hand known log × (u ≡ stirred with_sem with_wake v (took v.hand held known log) s b)
+  HoldsBy o k held s b v u = (known : List ℕ) × (log : List Entry) × Learns o k v.hand known log × (u ≡ with_changes with_sem with_wake v (took v.hand held known log) s b)
 
   -- a step came to hold so where the number found says so, and has told this of the number
-  abbrev pub HoldsWhere : {Call : Type 0} → Obj Call → Held → (gets : ℕ → Bool) → (does : ℕ → SemHand) → (stirs : ℕ → SemWake) → (ℕ → Type 0) → Sat E → ℕ → Sat E → Type 0
-  HoldsWhere o held gets does stirs tells m n m' = tells n × (gets n ≡ true → GetsSem o held (does n) (stirs n) m m') × (gets n ≡ false → Turns m (stirred with_sem with_wake m.0 m.0.hand (does n) (stirs n)) m')
+  abbrev pub HoldsWhere : {Call : Type 0} → Obj Call → Held → (gets : ℕ → Bool) → (does : ℕ → SemHand) → (attends : ℕ → SemWake) → (ℕ → Type 0) → Sat E → ℕ → Sat E → Type 0
+  HoldsWhere o held gets does attends tells m n m' = tells n × (gets n ≡ true → GetsSem o held (does n) (attends n) m m') × (gets n ≡ false → Turns m (with_changes with_sem with_wake m.0 m.0.hand (does n) (attends n)) m')
 
 -- the list, where it knows it, isn't empty
 abbrev pub KnowsSome : {E : Type 0} → (E → ListHand) → View E → Type 0

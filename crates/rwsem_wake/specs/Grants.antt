@@ -186,16 +186,16 @@ all_granted s = record s { bias = Clear; rest = []; stage = Rest }
 
 module _ {E : Type 0} (with_sem : E → SemHand → E) (with_wake : E → SemWake → E) where
   -- a step that gives a pass this hand and this part, and what it knows of wakes then
-  abbrev pub stirred : View E → Hand → SemHand → SemWake → View E
-  stirred v h s b = record v { hand = h; steps = v.steps + 1; ext = with_wake (with_sem v.ext s) b }
+  abbrev pub with_changes : View E → Hand → SemHand → SemWake → View E
+  with_changes v h s b = record v { hand = h; steps = v.steps + 1; ext = with_wake (with_sem v.ext s) b }
 
   -- after one step nothing but the part and what it knows of wakes has changed
-  abbrev pub StirsTo : View E → SemHand → SemWake → View E → Type 0
-  StirsTo v s b u = u ≡ stirred v v.hand s b
+  abbrev pub ChangesTo : View E → SemHand → SemWake → View E → Type 0
+  ChangesTo v s b u = u ≡ with_changes v v.hand s b
 
   -- so it is, by a step that found a word of which this holds
-  abbrev pub Stirred : (View E → ℕ → SemHand) → (View E → ℕ → SemWake) → (ℕ → Type 0) → Step (Unit {0}) → Sat E → ℕ → Sat E → Type 0
-  Stirred does stirs tells st m n m' = tells n × Turns m (stirred m.0 m.0.hand (does m.0 n) (stirs m.0 n)) m'
+  abbrev pub StepChanges : (View E → ℕ → SemHand) → (View E → ℕ → SemWake) → (ℕ → Type 0) → Step (Unit {0}) → Sat E → ℕ → Sat E → Type 0
+  StepChanges does attends tells st m n m' = tells n × Turns m (with_changes m.0 m.0.hand (does m.0 n) (attends m.0 n)) m'
 
 module _ {E : Type 0} (with_sem : E → SemHand → E) where
   -- after some steps nothing but the part has changed

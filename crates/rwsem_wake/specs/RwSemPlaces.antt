@@ -5,7 +5,7 @@ use Rattle.lock_core.specs.declared.pass.Pass.{Pass}
 use Rattle.lock_core.specs.declared.site.Site.{Site}
 use Rattle.lock_core.specs.SiteHandles.{view_of, past_of, task_in, SitsAt, KeepsPast}
 use Rattle.lock_core.specs.Shown.{Shown, shown}
-use Rattle.wake_duty.specs.declared.view.Vigil.TheVariants.{Absent}
+use Rattle.wake_duty.specs.declared.view.WaitState.TheVariants.{Absent}
 use Rattle.rwsem_wake.specs.SemParts.{apart_hand}
 use Rattle.rwsem_wake.specs.declared.woken.WakeCounts.{WakeCounts}
 use Rattle.rwsem_wake.specs.declared.view.RwSemHand.{RwSemHand}
@@ -26,7 +26,7 @@ pub record MayOwe (v : V) : Type 0 where
   pub apart : v.ext.sem ≡ apart_hand
   pub still : v.ext.list.changes ≡ false
   pub none : v.ext.wake.chosen ≡ []
-  pub absent : v.ext.wake.vigil ≡ Absent
+  pub absent : v.ext.wake.wait_state ≡ Absent
 
 -- how often it has fallen asleep
 abbrev pub dozes_of : V → ℕ

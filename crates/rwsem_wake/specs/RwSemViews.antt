@@ -10,7 +10,7 @@ use Rattle.wait_list.specs.declared.view.Waiter.{Waiter}
 use Rattle.wait_list.specs.declared.view.Change.{Change}
 use Rattle.wait_list.specs.declared.view.Change.TheVariants.{Stay, Enter, Leave}
 use Rattle.wait_list.specs.declared.view.ListHand.{ListHand}
-use Rattle.wake_duty.specs.declared.view.Vigil.TheVariants.{Absent, Awake}
+use Rattle.wake_duty.specs.declared.view.WaitState.TheVariants.{Absent, Awake}
 use Rattle.rwsem_wake.specs.declared.duty.SemWake.{SemWake}
 use Rattle.rwsem_wake.specs.SemDuties.{times, setting}
 use Rattle.rwsem_count.specs.declared.view.Bias.{Bias}
@@ -70,7 +70,7 @@ list_at = SPIN_ROOM + 16
 pub record IsDone (b : SemWake) : Type 0 where
   pub clear : b.owing ≡ false
   pub none : b.chosen ≡ []
-  pub absent : b.vigil ≡ Absent
+  pub absent : b.wait_state ≡ Absent
 
 -- who appends itself, to a list that is then so long
 abbrev pub joined : Bool → ℕ → SemHand → SemHand
@@ -94,7 +94,7 @@ parted _ wait t long s = picked t s
 
 -- it leaves the list, and owes a wake or not
 abbrev pub leaves_wake : Bool → SemWake → SemWake
-leaves_wake owing b = record b { owing = owing; vigil = Absent }
+leaves_wake owing b = record b { owing = owing; wait_state = Absent }
 
 -- it chooses this task, and has looked by that
 abbrev pub chooses_task : ℕ → SemWake → SemWake
@@ -110,7 +110,7 @@ parted_wake _ wait t b = chooses_task t b
 
 abbrev pub with_list : Change → V → ListHand → RwSemHand
 with_list Stay v b = record v.ext { list = b }
-with_list (Enter w) v b = record { list = b; sem = joined w.writer (length b.list) v.ext.sem; appends = v.ext.appends + 1; wake = record v.ext.wake { vigil = Awake } }
+with_list (Enter w) v b = record { list = b; sem = joined w.writer (length b.list) v.ext.sem; appends = v.ext.appends + 1; wake = record v.ext.wake { wait_state = Awake } }
 with_list (Leave t) v b = record { list = b; sem = parted v.ext.sem.stage v.ext.sem.wait t (length b.list) v.ext.sem; appends = v.ext.appends; wake = parted_wake v.ext.sem.stage v.ext.sem.wait t v.ext.wake }
 
 abbrev pub is_clear : Bias → Bool

@@ -7,14 +7,14 @@ use Rattle.lock_core.specs.ViewParts.{Each}
 use Rattle.lock_core.specs.Tallies.{raised}
 use Rattle.wait_list.specs.declared.view.Waiter.{Waiter}
 use Rattle.wait_list.specs.Lists.{first_code}
-use Rattle.wake_duty.specs.declared.view.Vigil.{Vigil}
-use Rattle.wake_duty.specs.declared.view.Vigil.TheVariants.{Absent, Awake}
+use Rattle.wake_duty.specs.declared.view.WaitState.{WaitState}
+use Rattle.wake_duty.specs.declared.view.WaitState.TheVariants.{Absent, Awake}
 use Rattle.wake_duty.specs.DutyWakes.{WAKE_WORDS, wake_word, awake, waits, drowsed_at, dozed_at}
 use Rattle.rwsem_wake.specs.declared.duty.SemWake.{SemWake}
 
 -- it owes nothing, and isn't in the list
 abbrev pub no_wake : SemWake
-no_wake = record { owing = false; chosen = []; vigil = Absent; wakes = 0; dozes = 0 }
+no_wake = record { owing = false; chosen = []; wait_state = Absent; wakes = 0; dozes = 0 }
 
 -- What of a view concerns wakes. `alone` is 1 where it writes. `guards` counts what it has in the reader field by which it keeps writers out: a shared hold, a bias in transit, a bias reserved where there was no writer, and the rest of a batch that is counted. `late` is 1 where it has reserved a bias under a writer. It waits as a writer where `writes` is 1, and as a reader whose grant word is 0 where `granted` is. `rest` are the tasks of its batch that aren't granted yet.
 pub record DutyPart : Type 0 where
@@ -53,8 +53,8 @@ abbrev pub answers : DutyPart → ℕ
 answers p = p.alone + owes p
 
 -- it writes or reads, keeps writers out, or owes a wake
-abbrev pub stirs : DutyPart → ℕ
-stirs p = p.alone + p.guards + owes p
+abbrev pub attends : DutyPart → ℕ
+attends p = p.alone + p.guards + owes p
 
 -- it has chosen this task, and hasn't set its wake word
 abbrev pub chose : ℕ → DutyPart → ℕ
@@ -62,11 +62,11 @@ chose t p = times t p.wake.chosen
 
 -- it is this task's, which is in the list, and tries, or loads its grant word, before it sleeps
 abbrev pub is_awake : ℕ → DutyPart → ℕ
-is_awake t p = awake t p.task p.wake.vigil
+is_awake t p = awake t p.task p.wake.wait_state
 
 -- it has chosen this writer, or is its pass and tries before it sleeps
-abbrev pub rouses : ℕ → DutyPart → ℕ
-rouses t p = chose t p + where_so p.writes (is_awake t p)
+abbrev pub wakes_it : ℕ → DutyPart → ℕ
+wakes_it t p = chose t p + where_so p.writes (is_awake t p)
 
 -- whether the first waiter is a writer
 abbrev pub first_writes : List Waiter → ℕ
@@ -75,13 +75,13 @@ first_writes (w ∷ q) = bit w.writer
 
 -- this first waiter is a writer, and somebody has chosen it, or its wake word is set, or it tries before it sleeps
 abbrev pub wakes_first : List ℕ → List Waiter → List DutyPart → ℕ → ℕ
-wakes_first words q ps t = where_so (first_writes q) (total (rouses t) ps + wake_word words t)
+wakes_first words q ps t = where_so (first_writes q) (total (wakes_it t) ps + wake_word words t)
 
 -- it owes nothing, has chosen nobody, and waits for nothing
 pub record IsQuiet (p : DutyPart) : Type 0 where
   pub clear : p.wake.owing ≡ false
   pub none : p.wake.chosen ≡ []
-  pub absent : waits p.wake.vigil ≡ 0
+  pub absent : waits p.wake.wait_state ≡ 0
   pub out : p.granted ≡ 0
 
 -- a pass without a number is quiet; the tasks that it has chosen are tasks; those of its batch that aren't granted are among them
@@ -97,7 +97,7 @@ pub record DutyKept (words : List ℕ) (q : List Waiter) (ps : List DutyPart) : 
   pub wide : length words ≡ WAKE_WORDS
   pub bits : (t : ℕ) → t < MAX_TASKS → wake_word words t ≤ 1
   pub each : Each PartOk ps
-  pub first : (t : ℕ) → first_code q ≡ t + 1 → 1 ≤ total stirs ps + wakes_first words q ps t
+  pub first : (t : ℕ) → first_code q ≡ t + 1 → 1 ≤ total attends ps + wakes_first words q ps t
   pub late : 1 ≤ total late_of ps → 1 ≤ total answers ps
   pub granted : Each (λ p. 1 ≤ p.granted → (t : ℕ) → p.task ≡ Some t → 1 ≤ total (chose t) ps + wake_word words t + is_awake t p) ps
 
@@ -107,16 +107,16 @@ pub record DutyKept (words : List ℕ) (q : List Waiter) (ps : List DutyPart) : 
 abbrev pub recounted : DutyPart → (alone guards late : ℕ) → (owing : Bool) → DutyPart
 recounted p alone guards late owing = record p { alone = alone; guards = guards; late = late; wake = record p.wake { owing = owing } }
 
-abbrev pub with_vigil : DutyPart → Vigil → DutyPart
-with_vigil p x = record p { wake = record p.wake { vigil = x } }
+abbrev pub with_wait_state : DutyPart → WaitState → DutyPart
+with_wait_state p x = record p { wake = record p.wake { wait_state = x } }
 
 -- it enters the list
 abbrev pub entering : DutyPart → Waiter → DutyPart
-entering p w = record p { writes = bit w.writer; wake = record p.wake { vigil = Awake } }
+entering p w = record p { writes = bit w.writer; wake = record p.wake { wait_state = Awake } }
 
 -- it waits no more, and owes a wake or not
 abbrev pub leaving : DutyPart → Bool → DutyPart
-leaving p owing = record p { writes = 0; granted = 0; wake = record p.wake { owing = owing; vigil = Absent } }
+leaving p owing = record p { writes = 0; granted = 0; wake = record p.wake { owing = owing; wait_state = Absent } }
 
 -- it chooses one more task
 abbrev pub choosing : DutyPart → ℕ → (rest : List ℕ) → (owing : Bool) → DutyPart
@@ -133,7 +133,7 @@ setting t w = record w { chosen = less t w.chosen; wakes = raised true w.wakes }
 
 -- it swaps its own wake word, which was so, for 0, and sleeps where that was 0
 abbrev pub drowsing : ℕ → SemWake → SemWake
-drowsing old w = record w { vigil = drowsed_at old w.vigil; dozes = dozed_at old w.dozes }
+drowsing old w = record w { wait_state = drowsed_at old w.wait_state; dozes = dozed_at old w.dozes }
 
 abbrev pub with_wake : DutyPart → SemWake → DutyPart
 with_wake p w = record p { wake = w }

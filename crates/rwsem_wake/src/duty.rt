@@ -1,7 +1,7 @@
 //! What a pass of a semaphore knows of wakes. No value of this type is ever made: it exists in
 //! proofs alone.
 
-use wake_duty::Vigil;
+use wake_duty::WaitState;
 
 /// What concerns wakes.
 pub struct SemWake {
@@ -10,7 +10,7 @@ pub struct SemWake {
     pub owing: bool,
     /// The tasks that it has chosen, and whose wake words it hasn't set, in order.
     pub chosen: [u32; 0],
-    pub vigil: Vigil,
+    pub wait_state: WaitState,
     /// How many wake words it has set. It stays at the last value of a u64.
     pub wakes: u64,
     /// How often it has fallen asleep. It stays at the last value of a u64.

@@ -9,7 +9,7 @@ ghost use Rattle.lock_core.specs.Views.{SpinHolds};
 ghost use Rattle.rwsem_count.specs.declared.view.Bias.TheVariants.{Clear, Transit};
 ghost use Rattle.rwsem_wake.specs.declared.view.Stage.TheVariants.{Rest, First, Joining, Marking, Removed, Emptied};
 ghost use Rattle.rwsem_wake.specs.declared.view.Wait.TheVariants.{Writes};
-ghost use Rattle.rwsem_wake.specs.Grants.{Did, KnowsFirst, Stirred, StirsTo, TurnsTo, anything, sem_at, summing, unmarked, unreserved, wake_at};
+ghost use Rattle.rwsem_wake.specs.Grants.{Did, KnowsFirst, StepChanges, ChangesTo, TurnsTo, anything, sem_at, summing, unmarked, unreserved, wake_at};
 ghost use Rattle.rwsem_wake.specs.Duties.{exchanged, heard_at, heard_locked_at, left_by, paid, saw_count, saw_mark, sees_itself};
 ghost use Rattle.rwsem_wake.specs.GrantQueues.{HoldsBy, HoldsWhere, KnowsSome, MayAsk, MayHear, MayLook, MaySettle, MayTake, asked, heard, heard_locked, own_unmarked, rested, settled, taken};
 
@@ -59,7 +59,7 @@ struct TakeBack<H> {
 }
 
 impl<H: GrantHost> Play<(), View<H::Ext>> for TakeBack<H> {
-    ghost then = { λ st. Stirred H.with_sem H.with_wake (λ v n. unreserved (H.sem v.ext)) (λ v n. left_by (n - st.first) (H.wake v.ext)) (λ n. IsLawfulCount n × (256 ≤ n)) st };
+    ghost then = { λ st. StepChanges H.with_sem H.with_wake (λ v n. unreserved (H.sem v.ext)) (λ v n. left_by (n - st.first) (H.wake v.ext)) (λ n. IsLawfulCount n × (256 ≤ n)) st };
 }
 
 /// Takes back the bias of a reader that has joined the list, and sets WAITERS where it stands alone
@@ -75,7 +75,7 @@ pub fn take_back<H: GrantHost>(site: &Site<H>, pass: &mut Pass<H>, alone: bool) 
     ensures goes_on { KeepsPast pass.old pass.new }
     ensures last { IsLatest pass.new }
     ensures face { SaysSame pass.old pass.new }
-    ensures kept { StirsTo H.with_sem H.with_wake (view_of pass.old)
+    ensures kept { ChangesTo H.with_sem H.with_wake (view_of pass.old)
         (unreserved (sem_at H.sem (view_of pass.old)))
         (left_by result (wake_at H.wake (view_of pass.old))) (view_of pass.new) }
     ensures left { (word : ℕ) × FoundAt H.COUNT word (past_of pass.new) × IsLawfulCount word
@@ -93,7 +93,7 @@ struct LookListed<H> {
 }
 
 impl<H: GrantHost> Play<(), View<H::Ext>> for LookListed<H> {
-    ghost then = { λ st m. Stirred H.with_sem H.with_wake (λ v n. H.sem v.ext) (λ v n. saw_count n (H.wake v.ext)) (λ n. KnowsSome H.list m.0 × IsLawfulCount n) st m };
+    ghost then = { λ st m. StepChanges H.with_sem H.with_wake (λ v n. H.sem v.ext) (λ v n. saw_count n (H.wake v.ext)) (λ n. KnowsSome H.list m.0 × IsLawfulCount n) st m };
 }
 
 /// A queued writer loads the count, under the wait lock. Where that isn't free, the writer may
@@ -109,7 +109,7 @@ pub fn look_listed<H: GrantHost>(site: &Site<H>, pass: &mut Pass<H>) -> u64
     ensures goes_on { KeepsPast pass.old pass.new }
     ensures last { IsLatest pass.new }
     ensures face { SaysSame pass.old pass.new }
-    ensures kept { StirsTo H.with_sem H.with_wake (view_of pass.old)
+    ensures kept { ChangesTo H.with_sem H.with_wake (view_of pass.old)
         (sem_at H.sem (view_of pass.old))
         (saw_count result (wake_at H.wake (view_of pass.old))) (view_of pass.new) }
     ensures there { KnowsSome H.list (view_of pass.old) }
@@ -181,7 +181,7 @@ struct LookFirst<H> {
 }
 
 impl<H: GrantHost> Play<(), View<H::Ext>> for LookFirst<H> {
-    ghost then = { Stirred H.with_sem H.with_wake (λ v n. unmarked (H.sem v.ext) n) (λ v n. saw_mark (sees_itself H.list v) n (H.wake v.ext)) anything };
+    ghost then = { StepChanges H.with_sem H.with_wake (λ v n. unmarked (H.sem v.ext) n) (λ v n. saw_mark (sees_itself H.list v) n (H.wake v.ext)) anything };
 }
 
 /// Loads the mark of the first waiter. Where it is 0, nobody is marked. A writer behind a marked
@@ -198,7 +198,7 @@ pub fn look_first<H: GrantHost>(site: &Site<H>, pass: &mut Pass<H>, task: u32) -
     ensures goes_on { KeepsPast pass.old pass.new }
     ensures last { IsLatest pass.new }
     ensures face { SaysSame pass.old pass.new }
-    ensures kept { StirsTo H.with_sem H.with_wake (view_of pass.old)
+    ensures kept { ChangesTo H.with_sem H.with_wake (view_of pass.old)
         (unmarked (sem_at H.sem (view_of pass.old)) result)
         (saw_mark (sees_itself H.list (view_of pass.old)) result
         (wake_at H.wake (view_of pass.old))) (view_of pass.new) }
@@ -293,7 +293,7 @@ struct ClearFlags<H> {
 }
 
 impl<H: GrantHost> Play<(), View<H::Ext>> for ClearFlags<H> {
-    ghost then = { Stirred H.with_sem H.with_wake (λ v n. rested (H.sem v.ext)) (λ v n. paid (H.wake v.ext)) IsLawfulCount };
+    ghost then = { StepChanges H.with_sem H.with_wake (λ v n. rested (H.sem v.ext)) (λ v n. paid (H.wake v.ext)) IsLawfulCount };
 }
 
 /// Clears WAITERS and HANDOFF. The list is empty.
@@ -307,7 +307,7 @@ pub fn clear_flags<H: GrantHost>(site: &Site<H>, pass: &mut Pass<H>)
     ensures goes_on { KeepsPast pass.old pass.new }
     ensures last { IsLatest pass.new }
     ensures face { SaysSame pass.old pass.new }
-    ensures kept { StirsTo H.with_sem H.with_wake (view_of pass.old)
+    ensures kept { ChangesTo H.with_sem H.with_wake (view_of pass.old)
         (rested (sem_at H.sem (view_of pass.old))) (paid (wake_at H.wake (view_of pass.old)))
         (view_of pass.new) }
 {
@@ -345,7 +345,7 @@ pub fn take<H: GrantHost>(
         (exchanged old result (wake_at H.wake (view_of pass.old)))
         (view_of pass.old) (view_of pass.new) }
     ensures face { result ≢ old → SaysSame pass.old pass.new }
-    ensures missed { result ≢ old → StirsTo H.with_sem H.with_wake (view_of pass.old)
+    ensures missed { result ≢ old → ChangesTo H.with_sem H.with_wake (view_of pass.old)
         (taken (sem_at H.sem (view_of pass.old)) old result)
         (exchanged old result (wake_at H.wake (view_of pass.old))) (view_of pass.new) }
     ensures lawful { IsLawfulCount result }
@@ -383,7 +383,7 @@ pub fn settle<H: GrantHost>(site: &Site<H>, pass: &mut Pass<H>) -> bool
         (settled (sem_at H.sem (view_of pass.old)) word) (wake_at H.wake (view_of pass.old))
         (view_of pass.old) (view_of pass.new) }
     ensures face { result ≢ true → SaysSame pass.old pass.new }
-    ensures missed { result ≢ true → StirsTo H.with_sem H.with_wake (view_of pass.old)
+    ensures missed { result ≢ true → ChangesTo H.with_sem H.with_wake (view_of pass.old)
         (sem_at H.sem (view_of pass.old)) (wake_at H.wake (view_of pass.old)) (view_of pass.new) }
 {
     // The writer that the addition saw may have left, and found nobody to wake: the reader must not
@@ -419,7 +419,7 @@ pub fn hear<H: GrantHost>(site: &Site<H>, pass: &mut Pass<H>, task: u32) -> u64
         (heard_at result (wake_at H.wake (view_of pass.old)))
         (view_of pass.old) (view_of pass.new) }
     ensures face { result ≢ 0 → SaysSame pass.old pass.new }
-    ensures missed { result ≢ 0 → StirsTo H.with_sem H.with_wake (view_of pass.old)
+    ensures missed { result ≢ 0 → ChangesTo H.with_sem H.with_wake (view_of pass.old)
         (heard (sem_at H.sem (view_of pass.old)) result)
         (heard_at result (wake_at H.wake (view_of pass.old))) (view_of pass.new) }
     ensures found { FoundAt (H.GRANTS + 8 * task) result (past_of pass.new) }
@@ -456,7 +456,7 @@ pub fn hear_locked<H: GrantHost>(site: &Site<H>, pass: &mut Pass<H>, task: u32) 
         (heard_locked_at result (wake_at H.wake (view_of pass.old)))
         (view_of pass.old) (view_of pass.new) }
     ensures face { result ≢ 0 → SaysSame pass.old pass.new }
-    ensures missed { result ≢ 0 → StirsTo H.with_sem H.with_wake (view_of pass.old)
+    ensures missed { result ≢ 0 → ChangesTo H.with_sem H.with_wake (view_of pass.old)
         (heard_locked (sem_at H.sem (view_of pass.old)) result)
         (heard_locked_at result (wake_at H.wake (view_of pass.old))) (view_of pass.new) }
     ensures found { FoundAt (H.GRANTS + 8 * task) result (past_of pass.new) }

@@ -10,7 +10,7 @@ ghost use Rattle.lock_core.specs.Views.{SpinHolds};
 ghost use Rattle.wait_list.specs.Lists.{Knows, hand_at, list_part};
 ghost use Rattle.rwsem_count.specs.declared.view.Bias.TheVariants.{Clear};
 ghost use Rattle.rwsem_wake.specs.declared.view.Stage.TheVariants.{Granting, Removing, Summing};
-ghost use Rattle.rwsem_wake.specs.Grants.{Did, HasFoundWriter, HasMarked, HasWholeBatch, IsNext, KeepsOut, KnowsFirst, MayArm, MayReserve, MaySum, Stirred, StirsTo, TurnsTo, anything, armed, counted, granted, looked, marked, reserved, sem_at, summing, unmarked, unreserved, wake_at};
+ghost use Rattle.rwsem_wake.specs.Grants.{Did, HasFoundWriter, HasMarked, HasWholeBatch, IsNext, KeepsOut, KnowsFirst, MayArm, MayReserve, MaySum, StepChanges, ChangesTo, TurnsTo, anything, armed, counted, granted, looked, marked, reserved, sem_at, summing, unmarked, unreserved, wake_at};
 ghost use Rattle.rwsem_wake.specs.Duties.{paid};
 
 use crate::host::GrantHost;
@@ -67,7 +67,7 @@ struct AddReserved<H> {
 }
 
 impl<H: GrantHost> Play<(), View<H::Ext>> for AddReserved<H> {
-    ghost then = { Stirred H.with_sem H.with_wake (λ v n. reserved (H.sem v.ext) n) (λ v n. paid (H.wake v.ext)) IsLawfulCount };
+    ghost then = { StepChanges H.with_sem H.with_wake (λ v n. reserved (H.sem v.ext) n) (λ v n. paid (H.wake v.ext)) IsLawfulCount };
 }
 
 /// Adds a waker's own bias. Answers the count that it found. The kernel's first addition in
@@ -81,7 +81,7 @@ pub fn reserve<H: GrantHost>(site: &Site<H>, pass: &mut Pass<H>) -> u64
     ensures goes_on { KeepsPast pass.old pass.new }
     ensures last { IsLatest pass.new }
     ensures face { SaysSame pass.old pass.new }
-    ensures kept { StirsTo H.with_sem H.with_wake (view_of pass.old)
+    ensures kept { ChangesTo H.with_sem H.with_wake (view_of pass.old)
         (reserved (sem_at H.sem (view_of pass.old)) result) (paid (wake_at H.wake (view_of pass.old)))
         (view_of pass.new) }
     ensures lawful { IsLawfulCount result }

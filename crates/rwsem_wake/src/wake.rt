@@ -164,7 +164,7 @@ fn grant_unless_written<H: WakeHost, P: Patience>(
 }
 
 /// Ends the sleeps of these tasks, once the pass has set the wake word of each that it had chosen.
-fn rouse<H: WakeHost, C: Crew>(pass: &Pass<H>, crew: &C, tasks: &[u32])
+fn end_sleep<H: WakeHost, C: Crew>(pass: &Pass<H>, crew: &C, tasks: &[u32])
     requires set { (view_of pass.now).ext.wake.chosen ≡ [] }
 {
     for task in tasks {
@@ -197,7 +197,7 @@ pub fn wake_tasks<H: WakeHost, C: Crew>(
     }
     // The words are set before the sleeps are ended: a task that swaps its word between the two
     // finds it set and doesn't sleep. The sleep of one that swapped it before is ended by the wake.
-    rouse(pass, crew, tasks);
+    end_sleep(pass, crew, tasks);
 }
 
 /// Looks once more at the head of the list, which the pass knows. By this look it chooses the first

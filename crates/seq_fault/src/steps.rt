@@ -197,7 +197,8 @@ pub(crate) fn confirm<O: Object>(
     ensures last { IsLatest pass.new }
     ensures task { task_in pass.new ≡ task_in pass.old }
     ensures done { done_in pass.new ≡ done_in pass.old }
-    ensures same { IfOk result (λ _. (g : Moment) → (view_of pass.old).ext ≡ On g → (g.stale ≡ false)
+    ensures same { IfOk result
+        (λ _. (g : Moment) → (view_of pass.old).ext ≡ On g → (g.stale ≡ false)
         × (view_of pass.new ≡ turned (view_of pass.old) (saw_log (hand_in pass.old) g) Off)) }
     ensures again { IfOk result (λ _. FoundAt seq_at before (past_of pass.new)) }
     ensures kept { IfErr result (λ _.

@@ -27,7 +27,7 @@ fn the_pending_bit_is_undone_beside_a_tail(rt: HostRuntime) {
 /// the words `next`, `prev`, `locked` from 8, 16 and 24 on. Each line has a word, a step on it,
 /// and what the step finds there.
 #[test]
-fn three_enter_and_hand_the_front_on(rt: HostRuntime) {
+fn three_enter_and_hand_the_head_on(rt: HostRuntime) {
     let course = [
         // CPU 0 finds the queue empty.
         (10, Op::Store(0), 0),

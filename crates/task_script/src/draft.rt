@@ -152,7 +152,12 @@ impl Draft {
         requires new { place_of name.bytes self.old.objects ≡ None }
         requires few { length self.old.objects < 32 }
         requires named { is_name name.bytes ≡ true }
-        ensures { Becomes result self.new (Ok record { version = self.old.version; objects = self.old.objects ++ declared_of (name, kind) ∷ []; tasks = self.old.tasks }) }
+        ensures { Becomes result self.new
+            (Ok record {
+              version = self.old.version;
+              objects = self.old.objects ++ declared_of (name, kind) ∷ [];
+              tasks = self.old.tasks;
+            }) }
     {
         if self.objects.insert(name, kind).is_err() {
             return Err(LineError::Memory);
@@ -195,7 +200,12 @@ impl Draft {
 
     fn push_call(&mut self, object: u32, call: CallWords) -> Result<(), LineError>
         requires { 0 < length self.old.tasks }
-        ensures { Becomes result self.new (Ok record { version = self.old.version; objects = self.old.objects; tasks = with_call self.old.tasks (line_of object call) }) }
+        ensures { Becomes result self.new
+            (Ok record {
+              version = self.old.version;
+              objects = self.old.objects;
+              tasks = with_call self.old.tasks (line_of object call);
+            }) }
     {
         let calls = self.tasks.last_mut().unwrap();
         if calls.push(Line::new(object, call)).is_err() {
@@ -215,7 +225,8 @@ impl Draft {
     }
 
     fn call(&mut self, mode: Mode, name: Option<&[u8]>, words: Words) -> Result<(), LineError>
-        ensures { Becomes result self.new (call_line mode self.old (all_words name.entry words.entry)) }
+        ensures { Becomes result self.new
+            (call_line mode self.old (all_words name.entry words.entry)) }
     {
         let name = name.ok_or(Reason::Words)?;
         if self.tasks.is_empty() {

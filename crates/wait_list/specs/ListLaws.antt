@@ -9,7 +9,7 @@ use Rattle.lock_core.specs.Spins.{SpinFrees, holds_in}
 use Rattle.lock_core.specs.SpinFrames.{holds_at, holds_of}
 use Rattle.lock_core.specs.declared.view.Frame.{Frame}
 use Rattle.lock_core.specs.declared.view.Point.{Point}
-use Rattle.lock_core.specs.declared.view.Point.TheVariants.{Out, Undoing, Pending, Taking, Trying, Clearing, Cleared, Linking, Waiting, Front, Ready, Passing, Holding}
+use Rattle.lock_core.specs.declared.view.Point.TheVariants.{Out, Undoing, Pending, Taking, Trying, Clearing, Cleared, Linking, Waiting, Head, Ready, Passing, Holding}
 use Rattle.wait_list.specs.declared.words.TheConstants.{LIST_WORDS}
 use Rattle.lock_core.specs.Totals.{total, total-set, total-same, total-snoc, total-at, total-two}
 use Rattle.lock_core.specs.ViewParts.{Each, each-set, each-snoc}
@@ -30,7 +30,7 @@ holds-small Clearing = omega arith
 holds-small Cleared = omega arith
 holds-small Linking = omega arith
 holds-small Waiting = omega arith
-holds-small Front = omega arith
+holds-small Head = omega arith
 holds-small Ready = omega arith
 holds-small Passing = omega arith
 holds-small Holding = omega arith

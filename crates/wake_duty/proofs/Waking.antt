@@ -13,7 +13,7 @@ use Rattle.lock_core.specs.Views.{SpinRests}
 use Rattle.lock_core.specs.Moves.{Goes, Lets}
 use Rattle.lock_core.proofs.Steps.{stores}
 use Rattle.wait_list.specs.declared.view.Waiter.{Waiter}
-use Rattle.wake_duty.specs.declared.view.Vigil.{Vigil}
+use Rattle.wake_duty.specs.declared.view.WaitState.{WaitState}
 use Rattle.wake_duty.specs.WakeSteps.{HasTried, Woke, Drowsed, knowing}
 
 -- the wake word of a task of the plan is one that the table has
@@ -42,11 +42,11 @@ module _ {E : Type 0} (holds : List ℕ → List (View E) → Type 0) (moves : �
     pub sets : (slots id at t : ℕ) (me : M) → at ≡ place + 8 * t → has_chosen me.0.ext t → Lets holds moves slots id me at (Store 1) (λ _. Woke place after_set (step slots at 1 0 none) me 1)
     sets slots id at t me is chosen = subst (λ (z : ℕ). Lets holds moves slots id me z (Store 1) (λ _. Woke place after_set (step slots z 1 0 none) me 1)) (sym is) (sets-there slots id t me chosen)
 
-  module _ (vigil : E → Vigil) (after_swap : E → ℕ → E)
+  module _ (wait_state : E → WaitState) (after_swap : E → ℕ → E)
       (bits : (ws : List ℕ) (vs : List (View E)) (l : List Waiter) (t : ℕ) → queue ws vs l → t < MAX_TASKS → get_or ws (place + 8 * t) 0 ≤ 1)
-      (swaps_word : (ws : List ℕ) (vs : List (View E)) (l : List Waiter) (id t : ℕ) (v : View E) → queue ws vs l → get_elem? vs id ≡ some v → v.hand.task ≡ Some t → t < MAX_TASKS → SpinRests v.spin → v.hand.held ≡ No → HasTried vigil v
+      (swaps_word : (ws : List ℕ) (vs : List (View E)) (l : List Waiter) (id t : ℕ) (v : View E) → queue ws vs l → get_elem? vs id ≡ some v → v.hand.task ≡ Some t → t < MAX_TASKS → SpinRests v.spin → v.hand.held ≡ No → HasTried wait_state v
       → Goes holds moves id ws vs (set ws (place + 8 * t) 0) (set vs id (knowing v (after_swap v.ext (get_or ws (place + 8 * t) 0))))) where
-    drowses-there : (slots id t : ℕ) (me : M) → me.0.hand.task ≡ Some t → t < MAX_TASKS → SpinRests me.0.spin → me.0.hand.held ≡ No → HasTried vigil me.0 → Lets holds moves slots id me (place + 8 * t) (Swap 0) (Drowsed after_swap (step slots (place + 8 * t) 0 0 none) me)
+    drowses-there : (slots id t : ℕ) (me : M) → me.0.hand.task ≡ Some t → t < MAX_TASKS → SpinRests me.0.spin → me.0.hand.held ≡ No → HasTried wait_state me.0 → Lets holds moves slots id me (place + 8 * t) (Swap 0) (Drowsed after_swap (step slots (place + 8 * t) 0 0 none) me)
     drowses-there slots id t me mine few rests out tried s h _ at _ = let q = queued s.words s.views h in (
       knowing me.0 (after_swap me.0.ext (get_or s.words (place + 8 * t) 0)),
       keeps,
@@ -56,5 +56,5 @@ module _ {E : Type 0} (holds : List ℕ → List (View E) → Type 0) (moves : �
       (bits s.words s.views q.0 t q.1 few, (refl, refl)),
     )
 
-    pub drowses : (slots id at t : ℕ) (me : M) → at ≡ place + 8 * t → me.0.hand.task ≡ Some t → t < MAX_TASKS → SpinRests me.0.spin → me.0.hand.held ≡ No → HasTried vigil me.0 → Lets holds moves slots id me at (Swap 0) (Drowsed after_swap (step slots at 0 0 none) me)
+    pub drowses : (slots id at t : ℕ) (me : M) → at ≡ place + 8 * t → me.0.hand.task ≡ Some t → t < MAX_TASKS → SpinRests me.0.spin → me.0.hand.held ≡ No → HasTried wait_state me.0 → Lets holds moves slots id me at (Swap 0) (Drowsed after_swap (step slots at 0 0 none) me)
     drowses slots id at t me is mine few rests out tried = subst (λ (z : ℕ). Lets holds moves slots id me z (Swap 0) (Drowsed after_swap (step slots z 0 0 none) me)) (sym is) (drowses-there slots id t me mine few rests out tried)

@@ -14,8 +14,8 @@ use Rattle.wait_list.specs.declared.view.Waiter.{Waiter}
 use Rattle.wait_list.specs.Lists.{first_code}
 use Rattle.wake_duty.specs.declared.view.Duty.{Duty}
 use Rattle.wake_duty.specs.declared.view.Duty.TheVariants.{NoDuty, Owing, Chosen}
-use Rattle.wake_duty.specs.declared.view.Vigil.{Vigil}
-use Rattle.wake_duty.specs.declared.view.Vigil.TheVariants.{Absent, Awake, Tried}
+use Rattle.wake_duty.specs.declared.view.WaitState.{WaitState}
+use Rattle.wake_duty.specs.declared.view.WaitState.TheVariants.{Absent, Awake, Tried}
 use Rattle.wake_duty.specs.declared.view.WakeHand.{WakeHand}
 
 -- a line of 8 words for each task
@@ -28,7 +28,7 @@ wake_word words t = slice_index words (8 * t)
 
 -- it owes nothing, and isn't in the list
 abbrev pub no_wake : WakeHand
-no_wake = record { duty = NoDuty; vigil = Absent; wakes = 0; dozes = 0 }
+no_wake = record { duty = NoDuty; wait_state = Absent; wakes = 0; dozes = 0 }
 
 -- what of a view concerns wakes
 pub record WakePart : Type 0 where
@@ -59,12 +59,12 @@ chose_any Owing = 0
 chose_any (Chosen u) = 1
 
 -- it is this task's, which is in the list, and tries before it sleeps
-abbrev pub awake : ℕ → Option ℕ → Vigil → ℕ
+abbrev pub awake : ℕ → Option ℕ → WaitState → ℕ
 awake t task Absent = 0
 awake t task Awake = is_number t task
 awake t task (Tried n) = 0
 
-abbrev pub waits : Vigil → ℕ
+abbrev pub waits : WaitState → ℕ
 waits Absent = 0
 waits Awake = 1
 waits (Tried n) = 1
@@ -75,7 +75,7 @@ guards p = held_weight p.held + owed p.wake.duty p.freed
 
 -- it keeps this waiter, where it is the first, from being forgotten
 abbrev pub keeps_awake : ℕ → WakePart → ℕ
-keeps_awake t p = guards p + chose t p.wake.duty + awake t p.task p.wake.vigil
+keeps_awake t p = guards p + chose t p.wake.duty + awake t p.task p.wake.wait_state
 
 -- what it owes
 abbrev pub debt : WakePart → ℕ
@@ -84,20 +84,20 @@ debt p = owed p.wake.duty p.freed + chose_any p.wake.duty
 -- the first waiter has the wait lock, and a try of it failed since it took it
 pub record IsStuck (l : List Waiter) (p : WakePart) : Type 0 where
   pub locked : p.locked ≡ 1
-  pub tried : p.wake.vigil ≡ Tried p.entries
+  pub tried : p.wake.wait_state ≡ Tried p.entries
   pub first : (t : ℕ) × (p.task ≡ Some t) × (first_code l ≡ t + 1)
 
 -- it owes nothing, isn't in the list, and holds nothing
 pub record IsQuiet (p : WakePart) : Type 0 where
   pub clear : debt p ≡ 0
-  pub absent : waits p.wake.vigil ≡ 0
+  pub absent : waits p.wake.wait_state ≡ 0
   pub out : p.held ≡ No
 
 -- who waits or has no number owes nothing; only a task with a number waits; a stamp is of the past
 pub record PartOk (p : WakePart) : Type 0 where
-  pub waiter : 0 < waits p.wake.vigil → debt p ≡ 0
+  pub waiter : 0 < waits p.wake.wait_state → debt p ≡ 0
   pub named : p.task ≡ None → IsQuiet p
-  pub past : (e : ℕ) → p.wake.vigil ≡ Tried e → e ≤ p.entries
+  pub past : (e : ℕ) → p.wake.wait_state ≡ Tried e → e ≤ p.entries
   pub chosen : (t : ℕ) → p.wake.duty ≡ Chosen t → t < MAX_TASKS
 
 -- Of a first waiter: somebody holds, or ended its hold with the flag of the waiters and has chosen nobody. Or somebody has chosen this task and hasn't set its wake word. Or that word is set. Or the task is awake, and tries before it sleeps. From a failed try under the wait lock on, while the first waiter has it, somebody holds, or ended its hold with the flag of the waiters and has chosen nobody.
@@ -122,28 +122,28 @@ choosing Owing zero code = Owing
 choosing Owing (suc n) code = duty_of code
 choosing (Chosen t) flag code = Chosen t
 
-abbrev pub roused : Vigil → Vigil
-roused Absent = Absent
-roused Awake = Awake
-roused (Tried n) = Awake
+abbrev pub awakened : WaitState → WaitState
+awakened Absent = Absent
+awakened Awake = Awake
+awakened (Tried n) = Awake
 
-abbrev pub foiled : Vigil → ℕ → Vigil
-foiled Absent entries = Absent
-foiled Awake entries = Tried entries
-foiled (Tried n) entries = Tried entries
+abbrev pub after_failed_try : WaitState → ℕ → WaitState
+after_failed_try Absent entries = Absent
+after_failed_try Awake entries = Tried entries
+after_failed_try (Tried n) entries = Tried entries
 
 -- how its task waits after a failed try, with or without the wait lock
-abbrev pub tried_at : ℕ → ℕ → Vigil → Vigil
+abbrev pub tried_at : ℕ → ℕ → WaitState → WaitState
 tried_at zero entries x = x
-tried_at (suc n) entries x = foiled x entries
+tried_at (suc n) entries x = after_failed_try x entries
 
 -- a try fails, with or without the wait lock
 abbrev pub failing : ℕ → ℕ → WakeHand → WakeHand
-failing locked entries w = record w { vigil = tried_at locked entries w.vigil }
+failing locked entries w = record w { wait_state = tried_at locked entries w.wait_state }
 
 -- how its task waits, and what it owes, after a look at the first word, with or without the wait lock
-abbrev pub looked_at : ℕ → Vigil → Vigil
-looked_at zero x = roused x
+abbrev pub looked_at : ℕ → WaitState → WaitState
+looked_at zero x = awakened x
 looked_at (suc n) x = x
 
 abbrev pub owing_at : ℕ → Bool → ℕ → ℕ → Duty → Duty
@@ -153,13 +153,13 @@ owing_at (suc n) false freed code d = choosing d (freed % 2) code
 
 -- it sees this first word, with or without the wait lock, which is that of the list where nobody changes it
 abbrev pub looking : ℕ → Bool → ℕ → ℕ → WakeHand → WakeHand
-looking locked changes freed code w = record w { duty = owing_at locked changes freed code w.duty; vigil = looked_at locked w.vigil }
+looking locked changes freed code w = record w { duty = owing_at locked changes freed code w.duty; wait_state = looked_at locked w.wait_state }
 
 -- it sets the wake word that it has chosen
 abbrev pub setting : WakeHand → WakeHand
 setting w = record w { duty = NoDuty; wakes = raised true w.wakes }
 
-abbrev pub drowsed_at : ℕ → Vigil → Vigil
+abbrev pub drowsed_at : ℕ → WaitState → WaitState
 drowsed_at zero x = x
 drowsed_at (suc n) x = Awake
 
@@ -169,7 +169,7 @@ dozed_at (suc n) dozes = dozes
 
 -- it swaps its own wake word for 0, and sleeps where that was 0
 abbrev pub drowsing : ℕ → WakeHand → WakeHand
-drowsing old w = record w { vigil = drowsed_at old w.vigil; dozes = dozed_at old w.dozes }
+drowsing old w = record w { wait_state = drowsed_at old w.wait_state; dozes = dozed_at old w.dozes }
 
 module _ {E : Type 0} (wake : E → WakeHand) where
   abbrev pub wake_part : View E → WakePart
@@ -189,7 +189,7 @@ abbrev pub Sets : ℕ → ℕ → WakePart → WakeHand → Type 0
 Sets t new p b = (p.wake.duty ≡ Chosen t) × (new ≡ 1) × (b ≡ setting p.wake)
 
 abbrev pub Drowses : ℕ → ℕ → ℕ → WakePart → WakeHand → Type 0
-Drowses t old new p b = (p.task ≡ Some t) × (p.locked ≡ 0) × ((e : ℕ) × (p.wake.vigil ≡ Tried e)) × (new ≡ 0) × (b ≡ drowsing old p.wake)
+Drowses t old new p b = (p.task ≡ Some t) × (p.locked ≡ 0) × ((e : ℕ) × (p.wake.wait_state ≡ Tried e)) × (new ≡ 0) × (b ≡ drowsing old p.wake)
 
 abbrev pub with_hand : WakePart → WakeHand → WakePart
 with_hand p b = record p { wake = b }

@@ -5,12 +5,12 @@ use Rattle.lock_core.specs.declared.view.Moment.{Moment}
 use Rattle.lock_core.specs.declared.view.View.{View}
 use Rattle.lock_core.specs.Pasts.{FoundAt}
 use Rattle.lock_core.specs.SitePlays.{Sat, Turns}
-use Rattle.wake_duty.specs.declared.view.Vigil.{Vigil}
-use Rattle.wake_duty.specs.declared.view.Vigil.TheVariants.{Tried}
+use Rattle.wake_duty.specs.declared.view.WaitState.{WaitState}
+use Rattle.wake_duty.specs.declared.view.WaitState.TheVariants.{Tried}
 
 -- its task is in the list, and a try of it failed under the wait lock since it last woke
-abbrev pub HasTried : {E : Type 0} → (E → Vigil) → View E → Type 0
-HasTried vigil v = (e : ℕ) × (vigil v.ext ≡ Tried e)
+abbrev pub HasTried : {E : Type 0} → (E → WaitState) → View E → Type 0
+HasTried wait_state v = (e : ℕ) × (wait_state v.ext ≡ Tried e)
 
 -- one step later it knows this beyond the site and the spin lock
 abbrev pub knowing : {E : Type 0} → View E → E → View E

@@ -11,11 +11,11 @@ ghost use Rattle.lock_core.specs.Moves.{Goes};
 ghost use Rattle.lock_core.specs.Stores.{row_at};
 ghost use Rattle.lock_core.specs.Views.{SpinRests};
 ghost use Rattle.wait_list.specs.declared.view.Waiter.{Waiter};
-ghost use Rattle.wake_duty.specs.declared.view.Vigil.{Vigil as AVigil};
+ghost use Rattle.wake_duty.specs.declared.view.WaitState.{WaitState as AWaitState};
 ghost use Rattle.wake_duty.specs.DutyWakes.{WAKE_WORDS};
 ghost use Rattle.wake_duty.specs.WakeSteps.{HasTried, knowing};
 
-use crate::view::Vigil;
+use crate::view::WaitState;
 use wait_list::ListHost;
 
 /// A rule whose table has a list of waiters, and for each task a wake word, by which it sleeps.
@@ -30,7 +30,7 @@ pub trait SleepHost: ListHost {
     ghost WAKE: { ℕ };
 
     // How the pass's task waits, in what the pass knows.
-    ghost vigil: { Self.Ext → AVigil };
+    ghost wait_state: { Self.Ext → AWaitState };
 
     // The pass has chosen this task, and hasn't set its wake word.
     ghost has_chosen: { Self.Ext → ℕ → Type 0 };
@@ -54,5 +54,5 @@ pub trait SleepHost: ListHost {
     ghost sets_word: { (k : Calls) (ws : List ℕ) (vs : List (View Self.Ext)) (l : List Waiter) (id t : ℕ) (v : View Self.Ext) → Self.queue k ws vs l → get_elem? vs id ≡ some v → has_chosen v.ext t → Goes (Self.holds k) (Self.moves k) id ws vs (slice_set ws (WAKE + 8 * t) 1) (slice_set vs id (knowing v (after_set v.ext t))) };
 
     // A waiter that holds nothing, and whose try failed under the wait lock, which it has released since, may drowse.
-    ghost swaps_word: { (k : Calls) (ws : List ℕ) (vs : List (View Self.Ext)) (l : List Waiter) (id t : ℕ) (v : View Self.Ext) → Self.queue k ws vs l → get_elem? vs id ≡ some v → v.hand.task ≡ Some t → t < MAX_TASKS → SpinRests v.spin → v.hand.held ≡ No → HasTried vigil v → Goes (Self.holds k) (Self.moves k) id ws vs (slice_set ws (WAKE + 8 * t) 0) (slice_set vs id (knowing v (after_swap v.ext (slice_index ws (WAKE + 8 * t))))) };
+    ghost swaps_word: { (k : Calls) (ws : List ℕ) (vs : List (View Self.Ext)) (l : List Waiter) (id t : ℕ) (v : View Self.Ext) → Self.queue k ws vs l → get_elem? vs id ≡ some v → v.hand.task ≡ Some t → t < MAX_TASKS → SpinRests v.spin → v.hand.held ≡ No → HasTried wait_state v → Goes (Self.holds k) (Self.moves k) id ws vs (slice_set ws (WAKE + 8 * t) 0) (slice_set vs id (knowing v (after_swap v.ext (slice_index ws (WAKE + 8 * t))))) };
 }

@@ -7,4 +7,4 @@ mod view;
 
 pub use host::SleepHost;
 pub use steps::{drowse, set};
-pub use view::{Duty, Vigil, WakeHand};
+pub use view::{Duty, WaitState, WakeHand};

@@ -59,7 +59,7 @@ pub fn drowse<H: SleepHost>(site: &Site<H>, pass: &mut Pass<H>) -> bool
     requires numbered { IsSome (task_in pass.old) }
     requires unspun { SpinRests (view_of pass.old).spin }
     requires out { held_in pass.old ≡ No }
-    requires tried { HasTried H.vigil (view_of pass.old) }
+    requires tried { HasTried H.wait_state (view_of pass.old) }
     ensures own { SitsAt site.now pass.new }
     ensures goes_on { KeepsPast pass.old pass.new }
     ensures last { IsLatest pass.new }

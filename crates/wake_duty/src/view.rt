@@ -10,7 +10,7 @@ pub enum Duty {
 }
 
 /// How a pass's task waits.
-pub enum Vigil {
+pub enum WaitState {
     /// It isn't in the list.
     Absent,
     /// It is in the list, and tries under the wait lock before it sleeps.
@@ -23,7 +23,7 @@ pub enum Vigil {
 /// What concerns wakes.
 pub struct WakeHand {
     pub duty: Duty,
-    pub vigil: Vigil,
+    pub wait_state: WaitState,
     /// How many wake words it has set. It stays at the last value of a u64.
     pub wakes: u64,
     /// How often it has fallen asleep. It stays at the last value of a u64.

@@ -19,7 +19,7 @@ pub struct Tail {
 pub struct Spin {
     /// Somebody holds the lock.
     pub locked: bool,
-    /// Somebody waits for the lock in front of the queue, without a node.
+    /// Somebody waits for the lock in head of the queue, without a node.
     pub pending: bool,
     /// The last node of the queue, or `None` where the queue is empty.
     pub tail: Option<Tail>,

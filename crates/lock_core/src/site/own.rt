@@ -22,7 +22,8 @@ impl<R: SiteRule> Site<R> {
     pub(crate) fn find<T: Tells>(&self, pass: &mut Pass<R>, at: usize) -> u64
         requires own { IsOneOf self.now pass.old }
         requires inside { at < site_width (plan_of self.now) }
-        requires told { MayFind R.O.object R.unavailable R.reads_unheld R.O.WORDS self.now pass.old at T.tells }
+        requires told { MayFind R.O.object R.unavailable R.reads_unheld R.O.WORDS self.now pass.old
+            at T.tells }
         ensures own { KeepsSeat pass.old pass.new }
         ensures face { SaysSame pass.old pass.new }
         ensures kept { view_of pass.new ≡ ticked (view_of pass.old) }
@@ -38,7 +39,8 @@ impl<R: SiteRule> Site<R> {
         requires own { IsOneOf self.now pass.old }
         requires inside { at < site_width (plan_of self.now) }
         requires holds { KeepsHold R.rests (view_of pass.old) P.hand }
-        requires keeps { MayPut R.O.object R.unavailable R.reads_unheld R.O.WORDS self.now pass.old at new P.hand }
+        requires keeps { MayPut R.O.object R.unavailable R.reads_unheld R.O.WORDS self.now pass.old
+            at new P.hand }
         ensures own { KeepsSeat pass.old pass.new }
         ensures face { SaysSame pass.old pass.new }
         ensures kept { view_of pass.new ≡ handed (view_of pass.old) P.hand }
@@ -52,7 +54,8 @@ impl<R: SiteRule> Site<R> {
         requires own { IsOneOf self.now pass.old }
         requires inside { at < site_width (plan_of self.now) }
         requires holds { KeepsHold R.rests (view_of pass.old) P.hand }
-        requires keeps { MayAdd R.O.object R.unavailable R.reads_unheld R.O.WORDS self.now pass.old at by P.hand }
+        requires keeps { MayAdd R.O.object R.unavailable R.reads_unheld R.O.WORDS self.now pass.old
+            at by P.hand }
         ensures own { KeepsSeat pass.old pass.new }
         ensures face { SaysSame pass.old pass.new }
         ensures kept { view_of pass.new ≡ handed (view_of pass.old) P.hand }

@@ -10,7 +10,7 @@ ghost use Rattle.mutex_slow.specs.Mutexes.{standing, wait_lock_at};
 ghost use Rattle.osq_nodes.specs.OsqPlaces.{node_marks};
 ghost use Rattle.osq_nodes.specs.OsqRuled.{IsOsqMove, newest as newest_queue};
 ghost use Rattle.osq_nodes.specs.OsqStated.{HasBecome, IsSpinQueue};
-ghost use Rattle.osq_unqueue.specs.Fronts.{HasOneFront, IsOutOfQueue};
+ghost use Rattle.osq_unqueue.specs.Fronts.{HasOneHead, IsOutOfQueue};
 
 use super::{Mutex, MutexPass};
 use qspin_queue::recall_spin_lock;
@@ -45,7 +45,7 @@ impl<O: Object> Mutex<O> {
         ensures kept { shown_of pass.new ≡ shown_of pass.old }
         ensures begins { BeganWith (newest_queue (length (plan_of self.now))) (spun_of pass.new) }
         ensures always { EachMoment (IsSpinQueue (length (plan_of self.now))) (spun_of pass.new) }
-        ensures fronts { EachMoment HasOneFront (spun_of pass.new) }
+        ensures fronts { EachMoment HasOneHead (spun_of pass.new) }
         ensures queues { (queue : List ℕ) × HasBecome (spun_of pass.new) queue }
         ensures counts { Ran node_marks (newest_queue (length (plan_of self.now)))
             (IsOsqMove (length (plan_of self.now))) (spun_of pass.new) }

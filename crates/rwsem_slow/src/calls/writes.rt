@@ -71,7 +71,8 @@ impl<O: Object> RwSem<O> {
             (dozes_in pass.old) (dozes_in pass.new) }
         ensures queue { SpunGoesOn pass.old pass.new }
         ensures took { IfOk result (λ _. TakesAlone O.object self.now pass.old pass.new) }
-        ensures opened { IfOk result (λ how. TakesOpen how (shown_of pass.old) (shown_of pass.new)) }
+        ensures opened { IfOk result (λ how.
+            TakesOpen how (shown_of pass.old) (shown_of pass.new)) }
         ensures how { IfOk result (λ how. Got how (shown_of pass.old) (shown_of pass.new)) }
         ensures interrupted { IfErr result (λ why. Interrupts semaphore false count_at why
             (shown_of pass.old) (shown_of pass.new)) }
@@ -91,7 +92,7 @@ impl<O: Object> RwSem<O> {
         self.write_common(rt, pass, cpu, crew, true)
     }
 
-    /// Spins in the queue of those that do, and as its front until a try takes, readers hold by the
+    /// Spins in the queue of those that do, and as its head until a try takes, readers hold by the
     /// owner hint, or the CPU needs rescheduling. The kernel's `rwsem_can_spin_on_owner` and
     /// `rwsem_optimistic_spin`.
     fn spin<W: Wait, C: Cpu>(&self, rt: &W, pass: &mut RwPass<O>, cpu: &mut C) -> bool
@@ -154,7 +155,8 @@ impl<O: Object> RwSem<O> {
             (dozes_in pass.old) (dozes_in pass.new) }
         ensures queue { SpunGoesOn pass.old pass.new }
         ensures took { IfOk result (λ _. TakesAlone O.object self.now pass.old pass.new) }
-        ensures opened { IfOk result (λ how. TakesOpen how (shown_of pass.old) (shown_of pass.new)) }
+        ensures opened { IfOk result (λ how.
+            TakesOpen how (shown_of pass.old) (shown_of pass.new)) }
         ensures how { IfOk result (λ how. Got how (shown_of pass.old) (shown_of pass.new)) }
         ensures interrupted { IfErr result (λ why. Interrupts semaphore false count_at why
             (shown_of pass.old) (shown_of pass.new)) }

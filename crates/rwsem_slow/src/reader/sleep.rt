@@ -5,7 +5,7 @@ ghost use Rattle.lock_core.specs.SiteHandles.{plan_of, view_of, task_in, held_in
 ghost use Rattle.lock_core.specs.Views.{SpinHolds, SpinRests};
 ghost use Rattle.rwsem_wake.specs.declared.view.Wait.TheVariants.{Reads};
 ghost use Rattle.wake_duty.specs.WakeSteps.{HasTried};
-ghost use Rattle.rwsem_slow.specs.RwSems.{vigil_of};
+ghost use Rattle.rwsem_slow.specs.RwSems.{wait_state_of};
 ghost use Rattle.rwsem_slow.specs.Queued.{IsInLine, Shares, Tries, KeepsLine};
 ghost use Rattle.rwsem_slow.specs.Leaving.{SeesUngranted};
 ghost use Rattle.lock_core.specs.Locking.{SawPending, Takes};
@@ -38,7 +38,7 @@ fn hear<O: Object>(site: &Site<SemRule<O>>, pass: &mut Pass<SemRule<O>>) -> bool
     ensures face { result ≡ false → SaysSame pass.old pass.new }
     ensures later { (view_of pass.new).steps ≡ (view_of pass.old).steps + 1 }
     ensures missed { result ≡ false → Tries (view_of pass.old) (view_of pass.new) }
-    ensures tried { result ≡ false → HasTried vigil_of (view_of pass.new) }
+    ensures tried { result ≡ false → HasTried wait_state_of (view_of pass.new) }
 {
     let Some(task) = pass.task() else {
         unreachable!()

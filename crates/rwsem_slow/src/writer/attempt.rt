@@ -11,7 +11,7 @@ ghost use Rattle.rwsem_count.specs.CountWordSteps.{HasHandoff, IsLocked};
 ghost use Rattle.rwsem_wake.specs.declared.view.Stage.TheVariants.{Took};
 ghost use Rattle.rwsem_wake.specs.GrantQueues.{MayTake};
 ghost use Rattle.rwsem_wake.specs.RwSemViews.{list_of, sem_of};
-ghost use Rattle.rwsem_slow.specs.RwSems.{vigil_of};
+ghost use Rattle.rwsem_slow.specs.RwSems.{wait_state_of};
 ghost use Rattle.rwsem_wake.specs.Removals.{KnowsList};
 ghost use Rattle.rwsem_slow.specs.RwSemOpening.{TakesOpen};
 ghost use Rattle.rwsem_wake.specs.RwSemPlaces.{seen_of};
@@ -64,14 +64,14 @@ fn ask<O: Object>(
     requires unasked { HasHandoff old → ⊥ }
     requires asks { new ≡ old + 4 }
     requires listed { IsListed (view_of pass.old).ext.wake }
-    requires tried { HasTried vigil_of (view_of pass.old) }
+    requires tried { HasTried wait_state_of (view_of pass.old) }
     ensures own { SitsAt site.now pass.new }
     ensures goes_on { KeepsPast pass.old pass.new }
     ensures face { SaysSame pass.old pass.new }
     ensures later { (view_of pass.old).steps ≤ (view_of pass.new).steps }
     ensures missed { Tries (view_of pass.old) (view_of pass.new) }
     ensures untaken { result ≢ Attempt.Took }
-    ensures tried { HasTried vigil_of (view_of pass.new) }
+    ensures tried { HasTried wait_state_of (view_of pass.new) }
     ensures again { (word : ℕ) → result ≡ Attempt.Again word → IsLawfulCount word }
 {
     let found = queueing::ask(site, pass, old, new);
@@ -245,7 +245,7 @@ fn exchange<O: Object>(
     ensures face { result ≢ Attempt.Took → SaysSame pass.old pass.new }
     ensures later { (view_of pass.old).steps ≤ (view_of pass.new).steps }
     ensures missed { result ≢ Attempt.Took → Tries (view_of pass.old) (view_of pass.new) }
-    ensures tried { result ≡ Attempt.Failed → HasTried vigil_of (view_of pass.new) }
+    ensures tried { result ≡ Attempt.Failed → HasTried wait_state_of (view_of pass.new) }
     ensures again { (word : ℕ) → result ≡ Attempt.Again word →
         (IsLawfulCount word × HasTriedAt word (view_of pass.new)) }
 {
@@ -287,7 +287,7 @@ fn try_standing<O: Object, W: Wait>(
     ensures face { result ≡ false → SaysSame pass.old pass.new }
     ensures later { (view_of pass.old).steps ≤ (view_of pass.new).steps }
     ensures missed { result ≡ false → Tries (view_of pass.old) (view_of pass.new) }
-    ensures tried { result ≡ false → HasTried vigil_of (view_of pass.new) }
+    ensures tried { result ≡ false → HasTried wait_state_of (view_of pass.new) }
 {
     let mut count = standing.count;
     for _ in rt.forever() {
@@ -323,7 +323,7 @@ pub fn try_queued<O: Object, W: Wait, C: Cpu>(
     ensures missed { result ≡ false → Becomes (view_of pass.old) 0 (waiting Writes)
         (view_of pass.new).ext.wake (view_of pass.new) }
     ensures waits { KeepsWaiting (view_of pass.old).ext.wake (view_of pass.new).ext.wake }
-    ensures tried { result ≡ false → HasTried vigil_of (view_of pass.new) }
+    ensures tried { result ≡ false → HasTried wait_state_of (view_of pass.new) }
     ensures entries { (view_of pass.new).spin.entries ≡ (view_of pass.old).spin.entries }
     ensures sleeps { C.sleeps cpu.new ≡ C.sleeps cpu.old }
     ensures rescheds { C.rescheds cpu.new ≡ C.rescheds cpu.old }

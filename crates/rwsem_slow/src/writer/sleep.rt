@@ -9,7 +9,7 @@ ghost use Rattle.lock_core.specs.Views.{SpinHolds};
 ghost use Rattle.cpu_task.specs.CpuCounting.{Dozes, DozesOnce, SleepsInTurns};
 ghost use Rattle.rwsem_wake.specs.declared.view.Wait.TheVariants.{Writes};
 ghost use Rattle.wake_duty.specs.WakeSteps.{HasTried};
-ghost use Rattle.rwsem_slow.specs.RwSems.{vigil_of};
+ghost use Rattle.rwsem_slow.specs.RwSems.{wait_state_of};
 ghost use Rattle.rwsem_slow.specs.RwSemOpening.{TakesOpen};
 ghost use Rattle.rwsem_wake.specs.RwSemPlaces.{AreCounts, MovesOn, dozes_of, seen_of};
 ghost use Rattle.rwsem_slow.specs.Queued.{IsInLine, IsToQuit, KeepsLine, WaitsOn};
@@ -38,7 +38,7 @@ fn sleep<O: Object, W: Wait, C: Cpu>(
     requires out { held_in pass.old ≡ No }
     requires locked { SpinHolds (view_of pass.old).spin }
     requires listed { IsInLine Writes (view_of pass.old) }
-    requires tried { HasTried vigil_of (view_of pass.old) }
+    requires tried { HasTried wait_state_of (view_of pass.old) }
     requires counted { AreCounts counts.old (view_of pass.old) }
     ensures on { MovesOn site.now pass.old pass.new }
     ensures locked { SpinHolds (view_of pass.new).spin }

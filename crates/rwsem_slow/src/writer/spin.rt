@@ -7,7 +7,7 @@ ghost use Rattle.lock_core.specs.SiteHandles.{IsLatest, plan_of, view_of, past_o
 ghost use Rattle.lock_core.specs.Kinds.{semaphore, unavailable};
 ghost use Rattle.lock_core.specs.Locking.{OnlyTried, Takes};
 ghost use Rattle.lock_core.specs.Pasts.{FoundAt};
-ghost use Rattle.osq_nodes.specs.declared.node.Place.TheVariants.{Front};
+ghost use Rattle.osq_nodes.specs.declared.node.Place.TheVariants.{Head};
 ghost use Rattle.osq_nodes.specs.OsqHandles as spinners;
 ghost use Rattle.rwsem_count.specs.CountTries.{MissesSince, TakesCount, TakesSince};
 ghost use Rattle.rwsem_wake.specs.SemParts.{apart_hand};
@@ -166,7 +166,7 @@ fn try_outside<O: Object, W: Wait>(
 }
 
 /// Tries until one takes, readers hold by the owner hint, or the CPU needs rescheduling. The pass
-/// is to be the front of the spin queue until it returns: one spinner at a time tries. The kernel's
+/// is to be the head of the spin queue until it returns: one spinner at a time tries. The kernel's
 /// `rwsem_optimistic_spin`.
 pub fn spin<O: Object, W: Wait, C: Cpu>(
     site: &Site<SemRule<O>>,
@@ -176,7 +176,7 @@ pub fn spin<O: Object, W: Wait, C: Cpu>(
     cpu: &mut C,
 ) -> bool
     requires own { SitsAt site.now pass.old }
-    requires front { spinners.place_in queue.now ≡ Front }
+    requires front { spinners.place_in queue.now ≡ Head }
     requires its_own { spinners.task_in queue.now ≡ task_in pass.old }
     requires numbered { IsSome (task_in pass.old) }
     requires out { held_in pass.old ≡ No }
@@ -196,7 +196,7 @@ pub fn spin<O: Object, W: Wait, C: Cpu>(
     let backoff = Backoff::new();
     for _ in rt.forever() {
         if try_outside(site, rt, pass) {
-            // Before it leaves the spin queue: a writer that becomes the front then sees that one
+            // Before it leaves the spin queue: a writer that becomes the head then sees that one
             // holds, and spins on.
             note_writer(site, pass);
             return true;

@@ -5,7 +5,7 @@ use Rattle.mutex_slow.proofs.Opening.{once-within, opens-behind, opens-before}
 use Rattle.mutex_slow.proofs.sleep.sleep_and_try.Goals as goal
 
 pub doze-requires-clause-tried : goal.doze-requires-clause-tried
-doze-requires-clause-tried g c = (c.args.pass.now.seat.me.0.view.spin.entries, ap (λ (e : MutexHand). e.wake.vigil) c.unlock.ensures.ext ∙ c.requires.tried.tried)
+doze-requires-clause-tried g c = (c.args.pass.now.seat.me.0.view.spin.entries, ap (λ (e : MutexHand). e.wake.wait_state) c.unlock.ensures.ext ∙ c.requires.tried.tried)
 
 pub returns-clause-dozed : goal.returns-clause-dozed
 returns-clause-dozed g c = once-within (g.C.Cpu.sleeps c.args.cpu.now) (g.C.Cpu.sleeps c.doze.new.cpu) (g.C.Cpu.sleeps c.try_awake-took.new.cpu) (dozes_of c.args.pass.now.seat.me.0.view) (dozes_of c.unlock.new.pass.seat.me.0.view) (dozes_of c.doze.new.pass.seat.me.0.view) (dozes_of c.lock.new.pass.seat.me.0.view)

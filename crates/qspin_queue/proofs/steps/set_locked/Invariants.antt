@@ -1,5 +1,5 @@
-use Rattle.qspin_queue.specs.SpinQueueHands.{took_front}
+use Rattle.qspin_queue.specs.SpinQueueHands.{took_head}
 use Rattle.qspin_queue.proofs.steps.set_locked.Given as goal
 
 abbrev pub ghosts-word_step : goal.ghosts-word_step
-ghosts-word_step g a = record { after = λ n. took_front a.lock a.pass.now.seat.me.0.view; tells = λ n. Unit {0} }
+ghosts-word_step g a = record { after = λ n. took_head a.lock a.pass.now.seat.me.0.view; tells = λ n. Unit {0} }

@@ -9,7 +9,7 @@ use Rattle.rwsem_wake.specs.Grants.{sem_part}
 use Rattle.rwsem_wake.specs.Duties.{paid}
 use Rattle.rwsem_wake.specs.declared.view.Stage.TheVariants.{Emptied}
 use Rattle.rwsem_wake.proofs.QueueLaws.{mine-at}
-use Rattle.rwsem_wake.proofs.Stepping.{count-stirs}
+use Rattle.rwsem_wake.proofs.Stepping.{count-attends}
 use Rattle.rwsem_wake.proofs.QueueSteps.{on-clear-flags}
 use Rattle.lock_core.specs.Stores.{HasWord}
 use Rattle.rwsem_wake.proofs.queueing.clear_flags.Goals as goal
@@ -19,7 +19,7 @@ step-requires-clause-there g c = subst (HasWord (length c.args.site.now.table.sh
 
 pub step-requires-clause-lets : goal.step-requires-clause-lets
 step-requires-clause-lets g c = let k = c.args.site.now.table.shared.key in let v = c.args.pass.now.seat.me.0.view in let own = some-number c.args.pass.now.face.task c.requires.numbered in let has = sym c.requires.own.task ∙ own.1 in
-    count-stirs g.H.O.Object.object g.H.SiteRule.unavailable g.H.O.Object.WORDS k g.H.SpinHost.LOCKS g.H.SpinHost.FIRST g.H.ListHost.LIST g.H.CountHost.COUNT g.H.GrantHost.MARKS g.H.GrantHost.GRANTS g.H.ListHost.list g.H.GrantHost.sem g.H.GrantHost.with_sem g.H.GrantHost.wake g.H.GrantHost.with_wake g.H.GrantHost.wake_same (g.H.SiteRule.holds k) (g.H.SiteRule.moves k) (g.H.ListHost.queue k) (g.met.H.SiteRule.site_kept k) (g.met.H.SpinHost.spin_kept k) (g.met.H.ListHost.queued k) (g.H.ListHost.list_kept k) g.met.H.GrantHost.sem_places (g.met.H.GrantHost.sem_kept k) (g.met.H.GrantHost.sem_only k) (g.met.H.GrantHost.sems k)
+    count-attends g.H.O.Object.object g.H.SiteRule.unavailable g.H.O.Object.WORDS k g.H.SpinHost.LOCKS g.H.SpinHost.FIRST g.H.ListHost.LIST g.H.CountHost.COUNT g.H.GrantHost.MARKS g.H.GrantHost.GRANTS g.H.ListHost.list g.H.GrantHost.sem g.H.GrantHost.with_sem g.H.GrantHost.wake g.H.GrantHost.with_wake g.H.GrantHost.wake_same (g.H.SiteRule.holds k) (g.H.SiteRule.moves k) (g.H.ListHost.queue k) (g.met.H.SiteRule.site_kept k) (g.met.H.SpinHost.spin_kept k) (g.met.H.ListHost.queued k) (g.H.ListHost.list_kept k) g.met.H.GrantHost.sem_places (g.met.H.GrantHost.sem_kept k) (g.met.H.GrantHost.sem_only k) (g.met.H.GrantHost.sems k)
     _ _ _ _ (And 18446744073709551609) (λ n. rested (g.H.GrantHost.sem v.ext)) (λ n. paid (g.H.GrantHost.wake v.ext)) IsLawfulCount c.COUNT.ensures c.requires.held (has-number _ c.args.pass.now.face.task c.requires.own.task c.requires.numbered)
     (λ n q marks grants sees loc only. let t = on-clear-flags sees _ _ _ n q marks grants loc only own.0 has c.requires.emptied c.requires.clear in (t.0.0, t.0.1, wakes-empty n q grants sees (sem_part g.H.GrantHost.sem v) (g.H.GrantHost.wake v.ext) _ only (mine-at sees _ _ loc.mine n q marks grants loc.kept own.0 has Emptied only c.requires.emptied).2 c.requires.clear c.requires.emptied, t.1))
 

@@ -5,7 +5,7 @@ use Rattle.rwsem_count.proofs.Sitting.{has-number, some-number}
 use Rattle.rwsem_wake.specs.Grants.{sem_part, unmarked, anything}
 use Rattle.rwsem_wake.proofs.WakeKinds.{wakes-first}
 use Rattle.rwsem_wake.specs.Duties.{saw_mark, sees_itself}
-use Rattle.rwsem_wake.proofs.Stepping.{mark-stirs}
+use Rattle.rwsem_wake.proofs.Stepping.{mark-attends}
 use Rattle.rwsem_wake.proofs.QueueSteps.{on-look-first}
 use Rattle.rwsem_wake.proofs.Having.{has-line}
 use Rattle.wait_list.proofs.Waiters.{task-of}
@@ -16,7 +16,7 @@ step-requires-clause-there g c = has-line (length c.args.site.now.table.shared.k
 
 pub step-requires-clause-lets : goal.step-requires-clause-lets
 step-requires-clause-lets g c = let k = c.args.site.now.table.shared.key in let few = task-of _ _ c.args.site.now.small.tasks c.requires.task in let v = c.args.pass.now.seat.me.0.view in let own = some-number c.args.pass.now.face.task c.requires.numbered in let has = sym c.requires.own.task ∙ own.1 in
-    mark-stirs g.H.O.Object.object g.H.SiteRule.unavailable g.H.O.Object.WORDS k g.H.SpinHost.LOCKS g.H.SpinHost.FIRST g.H.ListHost.LIST g.H.CountHost.COUNT g.H.GrantHost.MARKS g.H.GrantHost.GRANTS g.H.ListHost.list g.H.GrantHost.sem g.H.GrantHost.with_sem g.H.GrantHost.wake g.H.GrantHost.with_wake g.H.GrantHost.wake_same (g.H.SiteRule.holds k) (g.H.SiteRule.moves k) (g.H.ListHost.queue k) (g.met.H.SiteRule.site_kept k) (g.met.H.SpinHost.spin_kept k) (g.met.H.ListHost.queued k) (g.H.ListHost.list_kept k) g.met.H.GrantHost.sem_places (g.met.H.GrantHost.sem_kept k) (g.met.H.GrantHost.sem_only k) (g.met.H.GrantHost.sems k)
+    mark-attends g.H.O.Object.object g.H.SiteRule.unavailable g.H.O.Object.WORDS k g.H.SpinHost.LOCKS g.H.SpinHost.FIRST g.H.ListHost.LIST g.H.CountHost.COUNT g.H.GrantHost.MARKS g.H.GrantHost.GRANTS g.H.ListHost.list g.H.GrantHost.sem g.H.GrantHost.with_sem g.H.GrantHost.wake g.H.GrantHost.with_wake g.H.GrantHost.wake_same (g.H.SiteRule.holds k) (g.H.SiteRule.moves k) (g.H.ListHost.queue k) (g.met.H.SiteRule.site_kept k) (g.met.H.SpinHost.spin_kept k) (g.met.H.ListHost.queued k) (g.H.ListHost.list_kept k) g.met.H.GrantHost.sem_places (g.met.H.GrantHost.sem_kept k) (g.met.H.GrantHost.sem_only k) (g.met.H.GrantHost.sems k)
     c.args.task few _ _ _ _ Load (λ n. unmarked (g.H.GrantHost.sem v.ext) n) (λ n. saw_mark (sees_itself g.H.ListHost.list v) n (g.H.GrantHost.wake v.ext)) anything (ap (λ n. n + 8 * c.args.task) c.MARKS.ensures) c.requires.held (has-number _ c.args.pass.now.face.task c.requires.own.task c.requires.numbered)
     (λ n q marks grants sees loc only. let t = on-look-first sees _ _ _ n q marks grants loc only own.0 has c.args.task c.requires.may.stage c.requires.may.knows.knows c.requires.may.knows.first in (t.0, t.1, wakes-first n q grants sees (sem_part g.H.GrantHost.sem v) (g.H.GrantHost.wake v.ext) (get_or marks c.args.task 0) (g.H.ListHost.list v.ext).list c.requires.may.stage (loc.list c.requires.may.knows.knows) c.requires.waits, tt))
 

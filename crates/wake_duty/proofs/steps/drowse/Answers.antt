@@ -9,7 +9,7 @@ step-requires g c = let k = c.args.site.now.table.shared.key in let s = g.H.Slee
       own = c.requires.own.own;
       inside = omega (arith, s, e, few);
       there = has-wake (length k) g.H.SleepHost.WAKE c.in-Some.me _ c.args.site.now.small.tasks g.H.SleepHost.wake_room (c.requires.own.planned c.in-Some.me is).0 (ap (λ n. n + 8 * c.in-Some.me) e);
-      lets = drowses (g.H.SiteRule.holds k) (g.H.SiteRule.moves k) (g.H.ListHost.queue k) g.H.SleepHost.WAKE (g.met.H.ListHost.queued k) g.H.SleepHost.vigil g.H.SleepHost.after_swap (g.met.H.SleepHost.wake_bits k) (g.met.H.SleepHost.swaps_word k) _ _ _ c.in-Some.me _ (ap (λ n. n + 8 * c.in-Some.me) e) (sym c.requires.own.task ∙ is) few c.requires.unspun (sym c.requires.own.held ∙ c.requires.out) c.requires.tried;
+      lets = drowses (g.H.SiteRule.holds k) (g.H.SiteRule.moves k) (g.H.ListHost.queue k) g.H.SleepHost.WAKE (g.met.H.ListHost.queued k) g.H.SleepHost.wait_state g.H.SleepHost.after_swap (g.met.H.SleepHost.wake_bits k) (g.met.H.SleepHost.swaps_word k) _ _ _ c.in-Some.me _ (ap (λ n. n + 8 * c.in-Some.me) e) (sym c.requires.own.task ∙ is) few c.requires.unspun (sym c.requires.own.held ∙ c.requires.out) c.requires.tried;
     }
 
 pub returns-clause-own : goal.returns-clause-own

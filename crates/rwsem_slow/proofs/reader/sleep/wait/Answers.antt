@@ -5,7 +5,7 @@ use Rattle.rwsem_wake.specs.RwSemPlaces.{seen_of}
 use Rattle.lock_core.proofs.Within.{pending-within}
 use Rattle.rwsem_slow.proofs.Counting.{between-again, between-on, dozes-again}
 use Rattle.rwsem_slow.proofs.ReaderSteps.{dozes-since, waits-again}
-use Rattle.rwsem_slow.proofs.Vigils.{reader-sleeps, tried-same}
+use Rattle.rwsem_slow.proofs.WaitStates.{reader-sleeps, tried-same}
 use Rattle.rwsem_slow.proofs.reader.sleep.wait.Goals as goal
 
 pub returns-then-quit-clause-pending : goal.returns-then-quit-clause-pending

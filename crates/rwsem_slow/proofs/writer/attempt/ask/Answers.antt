@@ -1,7 +1,7 @@
 use Rattle.std.proofs.Common.{◌∙◌, ap}
 use Rattle.rwsem_wake.specs.declared.view.SemHand.{SemHand}
 use Rattle.rwsem_wake.specs.RwSemViews.{V}
-use Rattle.rwsem_slow.proofs.Vigils.{tried-same}
+use Rattle.rwsem_slow.proofs.WaitStates.{tried-same}
 use Rattle.rwsem_slow.proofs.WriterSteps.{ask-done}
 use Rattle.rwsem_slow.proofs.Joining.{code-waits}
 use Rattle.rwsem_slow.proofs.writer.attempt.ask.Goals as goal

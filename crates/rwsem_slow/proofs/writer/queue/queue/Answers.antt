@@ -6,7 +6,7 @@ use Rattle.rwsem_wake.specs.declared.view.Wait.TheVariants.{Writes}
 use Rattle.rwsem_wake.specs.RwSemViews.{V}
 use Rattle.rwsem_wake.specs.RwSemWakes.{woken_tasks}
 use Rattle.rwsem_slow.proofs.Marking.{marked, marks}
-use Rattle.rwsem_slow.proofs.Vigils.{saw-keeps}
+use Rattle.rwsem_slow.proofs.WaitStates.{saw-keeps}
 use Rattle.lock_core.specs.SiteRunLaws.{found-at-step}
 use Rattle.rwsem_wake.specs.RwSemPlaces.{seen_of}
 use Rattle.rwsem_wake.specs.RwSemViews.{count_at}
@@ -19,7 +19,7 @@ returns-clause-listed g c = let came = c.join.ensures.came.is in let saw = c.loo
     let keeps = saw-keeps c.look_listed-count.result c.join.new.pass.seat.me.0.view.ext.wake in let u = c.choose_others.new.pass.seat.me.0.view in
     marked Writes tasks _ u u c.wake_tasks.new.pass.seat.me.0.view (marks Writes tasks c.look_listed-count.new.pass.seat.me.0.view u (ap (λ (z : V). z.ext.sem.wait) saw ∙ ap (λ (z : V). z.ext.sem.wait) came)
     (ap (λ (z : V). z.ext.wake.chosen) saw ∙ (ap (λ (b : SemWake). b.chosen) keeps.is ∙ (ap (λ (z : V). z.ext.wake.chosen) came ∙ c.requires.outside.done.none)))
-    (ap (λ (z : V). waits z.ext.wake.vigil) saw ∙ (keeps.waits ∙ ap (λ (z : V). waits z.ext.wake.vigil) came)) marks_by.beside marks_by.rests marks_by.chosen) refl c.wake_tasks.ensures.set
+    (ap (λ (z : V). waits z.ext.wake.wait_state) saw ∙ (keeps.waits ∙ ap (λ (z : V). waits z.ext.wake.wait_state) came)) marks_by.beside marks_by.rests marks_by.chosen) refl c.wake_tasks.ensures.set
 
 pub returns-then-join-clause-woken : goal.returns-then-join-clause-woken
 returns-then-join-clause-woken g c = inl (c.join.ensures.first c.if-join.true, refl)

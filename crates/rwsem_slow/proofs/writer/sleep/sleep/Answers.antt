@@ -2,7 +2,7 @@ use Rattle.std.proofs.Common.{◌∙◌, ap, arith, inl, refl}
 use Rattle.rwsem_wake.specs.RwSemViews.{V}
 use Rattle.rwsem_wake.specs.RwSemPlaces.{seen_of}
 use Rattle.rwsem_slow.proofs.Quitting.{heard-on}
-use Rattle.rwsem_slow.proofs.Vigils.{writer-sleeps}
+use Rattle.rwsem_slow.proofs.WaitStates.{writer-sleeps}
 use Rattle.lock_core.proofs.Within.{pending-within}
 use Rattle.rwsem_slow.proofs.writer.sleep.sleep.Goals as goal
 

@@ -1,10 +1,10 @@
--- Becoming the front, and handing the front on.
+-- Becoming the head, and handing the head on.
 use Rattle.std.proofs.Common.{◌≡◌, ℕ, ◌+◌, ◌<◌, true, sym, ap, ◌∙◌, arith}
 use Rattle.lock_core.specs.declared.pass.Pass.{Pass}
 use Rattle.lock_core.specs.declared.site.Site.{Site}
 use Rattle.lock_core.specs.declared.view.View.{View}
 use Rattle.lock_core.specs.declared.view.LockHand.{LockHand}
-use Rattle.lock_core.specs.declared.view.Point.TheVariants.{Linking, Waiting, Front, Ready, Passing, Holding}
+use Rattle.lock_core.specs.declared.view.Point.TheVariants.{Linking, Waiting, Head, Ready, Passing, Holding}
 use Rattle.lock_core.specs.SpinFrames.{uses}
 use Rattle.lock_core.specs.LockHands.{frame_at, depth_of}
 use Rattle.lock_core.specs.SiteHandles.{view_of, IsDepthTold, IsNestTold, NotesLock}
@@ -13,7 +13,7 @@ use Rattle.lock_core.specs.Nestings.{is_held, waits_at}
 use Rattle.qspin_word.specs.Ways.{lock_hand_to}
 use Rattle.qspin_word.specs.SpinWordHandles.{spin_in, lock_hand_of, point_in, SpinSteps, SpinWaits, SpinIdles, KeepsNodes}
 use Rattle.qspin_queue.specs.SpinQueueHandles.{HasTop, SpinTakes, LeavesNode}
-use Rattle.qspin_queue.specs.SpinQueueHands.{lock_hand_with, as_front, learning, learnt}
+use Rattle.qspin_queue.specs.SpinQueueHands.{lock_hand_with, as_head, learning, learnt}
 use Rattle.qspin_word.proofs.Passing.{nodes-then}
 use Rattle.qspin_word.proofs.Noting.{flags-eq, flags-beside, others-told, others-on, told-noted}
 use Rattle.qspin_word.proofs.Idling.{idles-lock-hand}
@@ -57,25 +57,25 @@ module _ {R O E C : Type 0} (site : Site R O E C) (l : ℕ) (quiet : Type 0) whe
     link-code = ap (λ (b : LockHand). b.frame.code) link-waits.lock_hand
 
     -- waits, and looks for a successor
-    module _ (d e : Pass R O E C) (n : ℕ) (w : SpinWaits l quiet site m d (lock_hand_with (as_front (frame_at l (spin_in m))) (lock_hand_of l m))) where
+    module _ (d e : Pass R O E C) (n : ℕ) (w : SpinWaits l quiet site m d (lock_hand_with (as_head (frame_at l (spin_in m))) (lock_hand_of l m))) where
       pub waited-code : (frame_at l (spin_in d)).code ≡ (frame_at l (spin_in a)).code
       waited-code = ap (λ (b : LockHand). b.frame.code) w.lock_hand ∙ link-code
 
-      waited-point : point_in l d ≡ Front
+      waited-point : point_in l d ≡ Head
       waited-point = ap (λ (b : LockHand). b.frame.point) w.lock_hand
 
-      pub become-waits : SpinSteps site d e (learnt l Front n (view_of d)) → SpinWaits l quiet site a e (lock_hand_with (learning Front n (frame_at l (spin_in a))) (lock_hand_of l a))
-      become-waits s = waits-on site l quiet (λ b. lock_hand_with (learning Front n b.frame) b) a d e (lock_hand_with (as_front (at_point (frame_at l (spin_in a)) Waiting)) (lock_hand_to Waiting (lock_hand_of l a)))
-          (waits-on site l quiet (λ b. lock_hand_with (as_front b.frame) b) a m d (lock_hand_to Waiting (lock_hand_of l a)) link-waits w)
-          (waits-framed site l quiet d e (learning Front n (frame_at l (spin_in d))) s)
+      pub become-waits : SpinSteps site d e (learnt l Head n (view_of d)) → SpinWaits l quiet site a e (lock_hand_with (learning Head n (frame_at l (spin_in a))) (lock_hand_of l a))
+      become-waits s = waits-on site l quiet (λ b. lock_hand_with (learning Head n b.frame) b) a d e (lock_hand_with (as_head (at_point (frame_at l (spin_in a)) Waiting)) (lock_hand_to Waiting (lock_hand_of l a)))
+          (waits-on site l quiet (λ b. lock_hand_with (as_head b.frame) b) a m d (lock_hand_to Waiting (lock_hand_of l a)) link-waits w)
+          (waits-framed site l quiet d e (learning Head n (frame_at l (spin_in d))) s)
 
-      pub become-told : l < 8 → IsNestTold d → SpinSteps site d e (learnt l Front n (view_of d)) → IsNestTold e
-      become-told few told s = let q = waited-point in framed-told site l quiet d e (learning Front n (frame_at l (spin_in d))) few (sym (ap is_held q)) (sym (ap waits_at q)) (sym (ap uses q)) s told
+      pub become-told : l < 8 → IsNestTold d → SpinSteps site d e (learnt l Head n (view_of d)) → IsNestTold e
+      become-told few told s = let q = waited-point in framed-told site l quiet d e (learning Head n (frame_at l (spin_in d))) few (sym (ap is_held q)) (sym (ap waits_at q)) (sym (ap uses q)) s told
 
-      pub become-nodes : IsDepthTold a → KeepsNodes m d → SpinSteps site d e (learnt l Front n (view_of d)) → KeepsNodes a e
-      become-nodes told k s = let r = nodes-then site a m d (link-nodes told) k in nodes-then site a d e r (nodes-framed site l quiet d e (learning Front n (frame_at l (spin_in d))) (sym (ap uses waited-point)) s r.told)
+      pub become-nodes : IsDepthTold a → KeepsNodes m d → SpinSteps site d e (learnt l Head n (view_of d)) → KeepsNodes a e
+      become-nodes told k s = let r = nodes-then site a m d (link-nodes told) k in nodes-then site a d e r (nodes-framed site l quiet d e (learning Head n (frame_at l (spin_in d))) (sym (ap uses waited-point)) s r.told)
 
-  -- it has taken the lock as the front
+  -- it has taken the lock as the head
   module _ (a d : Pass R O E C) (p : point_in l a ≡ Ready) (t : SpinSteps site a d (took_at l (spin_in a) ((view_of a).steps + 1) Passing)) where
     pub set-point : point_in l d ≡ Passing
     set-point = ap (λ (b : LockHand). b.frame.point) (took-lock-hand site l quiet a d Passing t)
@@ -110,7 +110,7 @@ module _ {R O E C : Type 0} (site : Site R O E C) (l : ℕ) (quiet : Type 0) whe
       pub late-leaves : (z : Pass R O E C) → SpinSteps site e z (went l (spin_in e) Holding) → LeavesNode a z
       late-leaves z s = let x = went-leaves site l quiet e z (ap uses (ap (λ (b : LockHand). b.frame.point) w.lock_hand)) s in let y = set-depth in let u = k.same in omega (arith, x, y, u)
 
-  -- the front has seen the lock free, and the exchange of the last missed, or wasn't made
+  -- the head has seen the lock free, and the exchange of the last missed, or wasn't made
   module _ (a d m : Pass R O E C) (w : SpinWaits l quiet site a d (lock_hand_to Ready (lock_hand_of l a))) (k : KeepsNodes a d) where
     pub ready-top : HasTop l a → HasTop l d
     ready-top top = top-on site l quiet a d w.hand k.same (ap (λ (b : LockHand). b.frame.code) w.lock_hand) top

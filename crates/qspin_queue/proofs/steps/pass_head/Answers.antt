@@ -5,7 +5,7 @@ use Rattle.qspin_word.specs.Allows.{SpinAllows}
 use Rattle.qspin_word.proofs.SpinSteps.{still-holds}
 use Rattle.qspin_queue.specs.SpinQueueHands.{passed}
 use Rattle.qspin_queue.proofs.QueueSteps.{tells-next, passed-holds}
-use Rattle.qspin_queue.proofs.steps.pass_front.Goals as goal
+use Rattle.qspin_queue.proofs.steps.pass_head.Goals as goal
 
 pub spin_step-requires-clause-may : goal.spin_step-requires-clause-may
 spin_step-requires-clause-may g c = λ n ends. still-holds c.args.lock c.args.pass.now.seat.me.0.view.spin (passed c.args.lock c.args.pass.now.seat.me.0.view) (g.H.SpinHost.may_free c.args.pass.now.seat.me.0.view) (passed-holds c.args.lock c.args.pass.now.seat.me.0.view c.requires.point) ends

@@ -1,5 +1,5 @@
 use Rattle.qspin_word.specs.SpinWordHandles.{SpinIdles}
-use Rattle.qspin_queue.proofs.queue.wait_front.Given as goal
+use Rattle.qspin_queue.proofs.queue.wait_head.Given as goal
 
 abbrev pub invariant-loop : goal.invariant-loop
 invariant-loop g l = record {
