@@ -141,7 +141,7 @@ pub empty_word_says_nothing : options_of ([] ∷ []) ≡ None
 unfolding options_of clap_on_literals
 empty_word_says_nothing = refl
 
-split_options_say : SplitOptionsSay
+pub split_options_say : SplitOptionsSay
 unfolding options_of clap_on_literals
 split_options_say zero rest l = (refl, refl, refl)
 split_options_say (suc zero) rest l = (refl, refl, refl)

@@ -126,6 +126,6 @@ JoinedOptionsSay =
 abbrev pub SplitOptionsSay : Type 0
 SplitOptionsSay =
     (digit : ℕ) (rest : Text) → digit < 10
-    → (options_of (codes "--spin" ∷ (48 + digit ∷ rest) ∷ []) ≡ options_with (number_up_to 1000000 (48 + digit ∷ rest)) (Some 4) (Some None) false)
-    × (options_of (codes "--overdue" ∷ (48 + digit ∷ rest) ∷ []) ≡ options_with (Some 100) (number_up_to 1000000 (48 + digit ∷ rest)) (Some None) false)
-    × (options_of (codes "--generate" ∷ (48 + digit ∷ rest) ∷ []) ≡ options_with (Some 100) (Some 4) (number_if_used (Some (48 + digit ∷ rest))) false)
+    → (options_of (codes "--spin" ∷ ((48 + digit) ∷ rest) ∷ []) ≡ options_with (number_up_to 1000000 ((48 + digit) ∷ rest)) (Some 4) (Some None) false)
+    × (options_of (codes "--overdue" ∷ ((48 + digit) ∷ rest) ∷ []) ≡ options_with (Some 100) (number_up_to 1000000 ((48 + digit) ∷ rest)) (Some None) false)
+    × (options_of (codes "--generate" ∷ ((48 + digit) ∷ rest) ∷ []) ≡ options_with (Some 100) (Some 4) (number_if_used (Some ((48 + digit) ∷ rest))) false)
