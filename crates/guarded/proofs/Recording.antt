@@ -1,5 +1,5 @@
 -- What a call of `perform` records, from what each of its steps does.
-use Rattle.std.proofs.Common.{◌≡◌, ◌≢◌, ℕ, ◌+◌, ◌<◌, ◌≤◌, ⊎_elim, inl, inr, Bool, true, false, not, ◌&&◌, List, [], ◌∷◌, ◌++◌, length, take, slice_get, Option, Some, None, IsSome, refl, sym, ap, ◌∙◌, subst, arith, length-append, length-take, take-take, take_at, take_all}
+use Rattle.std.proofs.Common.{◌≡◌, ◌≢◌, ℕ, ◌+◌, ◌<◌, ◌≤◌, ⊎_elim, inl, inr, Bool, true, false, not, ◌&&◌, List, [], ◌∷◌, ◌++◌, length, take, slice_get, Option, Some, None, IsSome, Result, Ok, Err, refl, sym, ap, ◌∙◌, subst, arith, length-append, length-take, take-take, take_at, take_all}
 use Rattle.std.specs.Option.{option_map_or}
 use Rattle.std.proofs.lemmas.Bool.{false≢true}
 use Rattle.word_bits.specs.declared.call.CallWords.{CallWords}
@@ -13,6 +13,7 @@ use Rattle.word_bits.specs.Calls.{mode_of, signal_of}
 use Rattle.word_bits.specs.Objects.{Obj, IsObjectReply}
 use Rattle.word_bits.specs.Histories.{Plan, logs, changes, state_after}
 use Rattle.word_bits.specs.Legal.{IsRecord, IsUnheldReply, is_intr, seen_after}
+use Rattle.lock_core.specs.declared.how.How.{How}
 use Rattle.lock_core.specs.declared.tally.Tally.{Tally}
 use Rattle.lock_core.specs.declared.view.Hand.{Hand}
 use Rattle.lock_core.specs.declared.view.Held.{Held}
@@ -20,7 +21,7 @@ use Rattle.lock_core.specs.declared.view.Held.TheVariants.{No}
 use Rattle.lock_core.specs.declared.view.Stage.{Stage}
 use Rattle.lock_core.specs.declared.view.Stage.TheVariants.{Logged}
 use Rattle.lock_core.specs.Records.{is_sent, row}
-use Rattle.lock_core.specs.Tallies.{raised}
+use Rattle.lock_core.specs.Tallies.{raised, stood_in_list, was_interrupted}
 use Rattle.lock_core.specs.Views.{recorded, committed, noted, next_entry, OwesNoSignal, Unsent}
 use Rattle.lock_core.specs.SitePasses.{IsReading, MayNote}
 use Rattle.lock_core.proofs.RowLaws.{get-last}
@@ -33,8 +34,8 @@ use Rattle.lock_core.specs.declared.how.Interrupted.{Interrupted}
 use Rattle.lock_core.specs.Pasts.{FoundAtStep}
 use Rattle.lock_core.specs.Kinds.{Kind, shares, unavailable, wakes_shared}
 use Rattle.lock_core.specs.Shown.{Shown, NoCountFalls, AllButHand, LeavesHold, PastGoesOn, IsNextCall}
-use Rattle.lock_core.specs.Locking.{Begins, HasSince, Looks, Takes, Frees, Releases, Sees, SawPending, KeepsPlace, IsLetIn}
-use Rattle.guarded.specs.Performing.{Refuses, TriesOnce, AddsRecord, Serves, Performs, takes_by}
+use Rattle.lock_core.specs.Locking.{Begins, HasSince, Looks, Takes, Frees, Releases, Sees, SawPending, KeepsPlace, IsLetIn, TalliesLock}
+use Rattle.guarded.specs.Performing.{Refuses, TalliesCall, TriesOnce, AddsRecord, Serves, Performs, takes_by}
 
 eq-le : (m n : ℕ) → m ≡ n → n ≤ m
 eq-le m n e = omega arith
@@ -234,8 +235,43 @@ same-entry : (h g : Hand) → g.task ≡ h.task → g.done ≡ h.done → next_e
 same-entry h g task done i = record { task = option_map_or (λ t. t) (task i) 0; call = done i }
 
 -- a call that tried once, and then went on without a try
-tries-after : (v m u : Shown) → TriesOnce v m → u.line ≡ m.line → u.fronts ≡ m.fronts → u.hand.misses ≡ m.hand.misses → TriesOnce v u
-tries-after v m u t line fronts misses = (line ∙ t.0, fronts ∙ t.1, let l = t.2 in omega (arith, l, misses))
+tries-after : (v m u : Shown) → TriesOnce v m → u.line ≡ m.line → u.fronts ≡ m.fronts → u.hand.misses ≡ m.hand.misses → u.tally ≡ m.tally → TriesOnce v u
+tries-after v m u t line fronts misses tally = (line ∙ t.0, fronts ∙ t.1, (let l = t.2 in omega (arith, l, misses)), tally ∙ t.3)
+
+-- what a call counted, by its lock's answer
+pub tallies-call : (answer : Result How Interrupted) (v u : Shown) → TalliesLock answer v u → TalliesCall (was_interrupted answer) v u
+tallies-call (Ok how) v u t = record { interrupted = t.interrupted; stood = stood_in_list (Ok how); queued = t.queued; surely = λ cut. absurd (false≢true cut); refused = t.refused; left = t.left }
+tallies-call (Err why) v u t = record { interrupted = t.interrupted; stood = true; queued = t.queued; surely = λ cut. refl; refused = t.refused; left = t.left }
+
+pub tallies-none : (v u : Shown) → u.tally ≡ v.tally → TalliesCall false v u
+tallies-none v u same = record {
+  interrupted = ap (λ (t : Tally). t.interrupted) same;
+  stood = false;
+  queued = ap (λ (t : Tally). t.queued) same;
+  surely = λ cut. absurd (false≢true cut);
+  refused = false;
+  left = ap (λ (t : Tally). t.left) same;
+}
+
+tallies-after : (cut : Bool) (v m u : Shown) → u.tally ≡ m.tally → TalliesCall cut v m → TalliesCall cut v u
+tallies-after cut v m u same t = record {
+  interrupted = ap (λ (t : Tally). t.interrupted) same ∙ t.interrupted;
+  stood = t.stood;
+  queued = ap (λ (t : Tally). t.queued) same ∙ t.queued;
+  surely = t.surely;
+  refused = t.refused;
+  left = ap (λ (t : Tally). t.left) same ∙ t.left;
+}
+
+tallies-before : (cut : Bool) (v w u : Shown) → w.tally ≡ v.tally → TalliesCall cut w u → TalliesCall cut v u
+tallies-before cut v w u same t = record {
+  interrupted = t.interrupted ∙ ap (λ (x : Tally). raised cut x.interrupted) same;
+  stood = t.stood;
+  queued = t.queued ∙ ap (λ (x : Tally). raised t.stood x.queued) same;
+  surely = t.surely;
+  refused = t.refused;
+  left = t.left ∙ ap (λ (x : Tally). raised t.refused x.left) same;
+}
 
 -- what a step found, it has found also once the call has gone on
 found-on : {task : Option ℕ} {step at n : ℕ} {past : List Moment} (m u : Shown) → PastGoesOn m u → FoundAtStep task step at n past m.past → FoundAtStep task step at n past u.past
@@ -297,7 +333,7 @@ module _ {Call : Type 0} (o : Obj Call) (kind : Kind) (at : ℕ) (k : Plan) wher
   -- a call that held
   pub performs-served : (v m u : Shown) (words : CallWords) (c : Call) (reads : Bool) (reply : Reply) (how : Held) → IsNextCall k v.hand words → o.call_of words ≡ Some c → reads ≡ o.reads c → signal_of words ≡ None → (v.hand.sent ≡ None) × (v.hand.consumed ≡ 0)
       → Takes o k how v m → (mode_of words ≡ Try → TriesOnce v m) → (mode_of words ≢ Try → KeepsPlace kind reads at v m) → Serves o kind k words reply m u → PastGoesOn m u
-      → m.tally.interrupted ≡ v.tally.interrupted → Performs o kind at k reply v u
+      → TalliesCall false v m → Performs o kind at k reply v u
   performs-served v m u words c reads reply how next is same unsent accounted takes once line serves goes counted =
       let entry = same-entry v.hand m.hand takes.keeps.task takes.keeps.done in
       let place : serves.rec.k ≡ length m.hand.log = ap {A = Rec} (λ r. r.k) serves.says in
@@ -322,8 +358,8 @@ module _ {Call : Type 0} (o : Obj Call) (kind : Kind) (at : ℕ) (k : Plan) wher
         signals = λ some. absurd (false≢true (subst IsSome unsent some));
         busy = λ word e. absurd (subst IsObjectReply e serves.replies);
         interrupted = λ e. absurd (subst IsObjectReply e serves.replies);
-        counted = ap (λ (t : Tally). t.interrupted) serves.adds.tally ∙ (counted ∙ sym (ap (λ (b : Bool). raised b v.tally.interrupted) (reply-unintr reply serves.replies)));
-        at_once = λ tries. tries-after v m u (once tries) serves.adds.line serves.adds.fronts serves.adds.misses;
+        counted = subst (λ (b : Bool). TalliesCall b v u) (sym (reply-unintr reply serves.replies)) (tallies-after false v m u serves.adds.tally counted);
+        at_once = λ tries. tries-after v m u (once tries) serves.adds.line serves.adds.fronts serves.adds.misses serves.adds.tally;
         line = λ waits. place-after kind _ at v m u (subst (λ b. KeepsPlace kind b at v m) (is-reads reads (changes o words) (is_intr reply) (changes-is o words c is ∙ ap not (sym same)) (reply-unintr reply serves.replies)) (line waits))
             serves.adds.misses serves.adds.fronts serves.adds.saw serves.adds.counts.entries serves.adds.counts.steps goes;
       }
@@ -331,9 +367,9 @@ module _ {Call : Type 0} (o : Obj Call) (kind : Kind) (at : ℕ) (k : Plan) wher
   -- a call that never held
   pub performs-unheld : (v u : Shown) (words : CallWords) (reply : Reply) → IsNextCall k v.hand words → IsUnheldReply o (unavailable kind) words reply → logs o words reply ≡ false → u.hand.seen ≡ v.hand.seen
       → u.hand.records ≡ record { entry = next_entry v.hand; rec = record { k = length v.hand.seen; reply = reply } } ∷ v.hand.records → u.hand.task ≡ v.hand.task → u.hand.done ≡ v.hand.done + 1 → u.hand.held ≡ No → u.hand.takes ≡ v.hand.takes + takes_by reply → (u.hand.sent ≡ None) × (u.hand.consumed ≡ 0) → NoCountFalls v u → (v.steps < u.hand.last) × (u.hand.last ≤ u.steps)
-      → (IsSome (signal_of words) → reply ≡ Sent) → ((word : ℕ) → reply ≡ Busy word → (c : Call) × (o.call_of words ≡ Some c) × Sees kind (o.reads c) at word v u)
+      → (IsSome (signal_of words) → (reply ≡ Sent) × (u.tally ≡ v.tally)) → ((word : ℕ) → reply ≡ Busy word → (c : Call) × (o.call_of words ≡ Some c) × Sees kind (o.reads c) at word v u)
       → (reply ≡ Intr → (c : Call) × (why : Interrupted) × (word : ℕ) × (o.call_of words ≡ Some c) × SawPending why v u × Sees kind (o.reads c) at word v u)
-      → u.tally.interrupted ≡ raised (is_intr reply) v.tally.interrupted
+      → TalliesCall (is_intr reply) v u
       → (mode_of words ≡ Try → TriesOnce v u) → (mode_of words ≢ Try → KeepsPlace kind (not (changes o words) && not (is_intr reply)) at v u) → Performs o kind at k reply v u
   performs-unheld v u words reply next why unlogged seen records task done out takes accounted goes stored signals busy interrupted counted once line = record {
     words = words;
@@ -368,9 +404,9 @@ module _ {Call : Type 0} (o : Obj Call) (kind : Kind) (at : ℕ) (k : Plan) wher
       let along = beside-trans v w u beside has.3.1 in
       let misses = ap {A = Hand} (λ h. h.misses) now in let takes = ap {A = Hand} (λ h. h.takes) now in
       performs-unheld v u words Sent next (subst IsSome (sym is) refl) refl (ap {A = Hand} (λ h. h.seen) now) (ap {A = Hand} (λ h. h.records) now) (ap {A = Hand} (λ h. h.task) now) (ap {A = Hand} (λ h. h.done) now) (ap {A = Hand} (λ h. h.held) now ∙ out) (omega (arith, takes))
-      (ap {A = Hand} (λ h. h.sent) now, ap {A = Hand} (λ h. h.consumed) now ∙ consumed) (counts-beside v u misses along) (is-since v u step (ap {A = Hand} (λ h. h.last) now) (let a = beside.3 in let b = has.1 in omega (arith, a, b)) has.2) (λ _. refl) (λ word e. absurd (false≢true (subst (λ r. is_sent r ≡ true) e refl))) (λ e. absurd (false≢true (subst (λ r. is_sent r ≡ true) e refl)))
-      (ap (λ (t : Tally). t.interrupted) along.5)
-      (λ _. (along.2, along.1, omega (arith, misses)))
+      (ap {A = Hand} (λ h. h.sent) now, ap {A = Hand} (λ h. h.consumed) now ∙ consumed) (counts-beside v u misses along) (is-since v u step (ap {A = Hand} (λ h. h.last) now) (let a = beside.3 in let b = has.1 in omega (arith, a, b)) has.2) (λ _. (refl, along.5)) (λ word e. absurd (false≢true (subst (λ r. is_sent r ≡ true) e refl))) (λ e. absurd (false≢true (subst (λ r. is_sent r ≡ true) e refl)))
+      (tallies-none v u along.5)
+      (λ _. (along.2, along.1, omega (arith, misses), along.5))
       (λ _. record { queues = λ rise. absurd (omega arith); few = λ _. omega arith })
 
   -- what a call may note that couldn't have the lock
@@ -430,8 +466,8 @@ module _ {Call : Type 0} (o : Obj Call) (kind : Kind) (at : ℕ) (k : Plan) wher
       (counts-trans v m u keeps.counts (counts-beside m u misses beside)) (is-since v u has.0 (ap {A = Hand} (λ h. h.last) hand) (let a = keeps.counts.steps in let b = has.1 in omega (arith, a, b)) has.2) (λ some. absurd (false≢true (subst IsSome unsent some)))
       (λ word e. (c, is, subst (λ b. Sees kind b at word v u) same (subst (λ n. Sees kind reads at n v u) (ap busy_word e) (sees-on kind reads at w v m u (ap {A = Hand} (λ h. h.saw) hand) beside.3 goes sees))))
       (λ e. absurd (false≢true (subst (λ r. is_busy r ≡ true) e refl)))
-      (ap (λ (t : Tally). t.interrupted) (beside.5 ∙ why.1.tally))
-      (λ tries. tries-after v m u (once (says ∙ tries)) beside.2 beside.1 misses)
+      (tallies-none v u (beside.5 ∙ why.1.tally))
+      (λ tries. tries-after v m u (once (says ∙ tries)) beside.2 beside.1 misses beside.5)
       (λ waits. absurd (waits (sym says ∙ why.0)))
   performs-refused v m u words c reads mode Intr next is same says unsent accounted why once line has goes =
       let cut = why.1.1 in
@@ -445,8 +481,8 @@ module _ {Call : Type 0} (o : Obj Call) (kind : Kind) (at : ℕ) (k : Plan) wher
       (counts-trans v m u keeps.counts (counts-beside m u misses beside)) (is-since v u has.0 (ap {A = Hand} (λ h. h.last) hand) (let a = keeps.counts.steps in let b = has.1 in omega (arith, a, b)) has.2) (λ some. absurd (false≢true (subst IsSome unsent some)))
       (λ word e. absurd (false≢true (subst (λ r. is_intr r ≡ true) e refl)))
       (λ e. (c, why.1.0, cut.word, is, pending-on why.1.0 v m u beside.3 goes cut.heard, subst (λ b. Sees kind b at cut.word v u) same (sees-on kind reads at cut.word v m u (ap {A = Hand} (λ h. h.saw) hand) beside.3 goes cut.sees)))
-      (ap (λ (t : Tally). t.interrupted) beside.5 ∙ why.2)
-      (λ tries. tries-after v m u (once (says ∙ tries)) beside.2 beside.1 misses)
+      (tallies-after true v m u beside.5 why.2)
+      (λ tries. tries-after v m u (once (says ∙ tries)) beside.2 beside.1 misses beside.5)
       (λ waits. subst (λ b. KeepsPlace kind b at v u) (and-false (not (changes o words)))
       (place-after kind false at v m u (line (λ tries. waits (sym says ∙ tries))) misses beside.1 (ap {A = Hand} (λ h. h.saw) hand) (eq-le _ _ beside.0) beside.3 goes))
 
@@ -513,10 +549,10 @@ module _ (v w u : Shown) (looks : Looks v w) (goes : PastGoesOn v w) where
     accounted = p.accounted;
     counts = counts-trans v w u (counts-beside v w (ap {A = Hand} (λ h. h.misses) e) looks.1) p.counts;
     stored = let m = looks.1.3 in let s = p.stored in (omega (arith, m, s), s.1);
-    signals = p.signals;
+    signals = λ some. let t = p.signals some in (t.0, t.1 ∙ looks.1.5);
     busy = λ word is. let b = p.busy word is in (b.0, b.1, sees-from kind (o.reads b.0) at word b.2);
     interrupted = λ is. let b = p.interrupted is in (b.0, b.1, b.2, b.3, pending-from b.1 b.4, sees-from kind (o.reads b.0) at b.2 b.5);
-    counted = p.counted ∙ ap (λ (t : Tally). raised (is_intr reply) t.interrupted) looks.1.5;
-    at_once = λ tries. let t = p.at_once tries in (t.0 ∙ looks.1.2, t.1 ∙ looks.1.1, (let l = t.2 in let m = ap {A = Hand} (λ h. h.misses) e in omega (arith, l, m)));
+    counted = tallies-before (is_intr reply) v w u looks.1.5 p.counted;
+    at_once = λ tries. let t = p.at_once tries in (t.0 ∙ looks.1.2, t.1 ∙ looks.1.1, (let l = t.2 in let m = ap {A = Hand} (λ h. h.misses) e in omega (arith, l, m)), t.3 ∙ looks.1.5);
     line = λ waits. place-from kind _ at (p.line waits);
   }

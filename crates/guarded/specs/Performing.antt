@@ -44,10 +44,19 @@ Changes o k call reply v u = HasSince (λ step. committed (record v.hand { known
 abbrev pub no_word : ℕ → Type 0
 no_word word = ⊥
 
+-- What a call counts, by whether a signal interrupted it: that it stood in the list of waiters, at most once, and surely where it was interrupted; an interruption just then; and at most one turn in the spin queue that didn't come.
+pub record TalliesCall (cut : Bool) (v u : Shown) : Type 0 where
+  pub interrupted : u.tally.interrupted ≡ raised cut v.tally.interrupted
+  pub stood : Bool
+  pub queued : u.tally.queued ≡ raised stood v.tally.queued
+  pub surely : cut ≡ true → stood ≡ true
+  pub refused : Bool
+  pub left : u.tally.left ≡ raised refused v.tally.left
+
 -- why a call never held the lock, by its reply; one that was interrupted counted that
 abbrev pub Refuses : Kind → ℕ → Mode → Bool → Reply → Shown → Shown → Type 0
 Refuses kind at mode reads (Busy word) v u = (mode ≡ Try) × Misses kind reads at word v u
-Refuses kind at mode reads Intr v u = (mode ≡ Int) × ((why : Interrupted) × Interrupts kind reads at why v u) × (u.tally.interrupted ≡ raised true v.tally.interrupted)
+Refuses kind at mode reads Intr v u = (mode ≡ Int) × ((why : Interrupted) × Interrupts kind reads at why v u) × TalliesCall true v u
 Refuses kind at mode reads reply v u = ⊥
 
 -- it failed one try at most, was in no list, and wasn't the head of a spin queue
@@ -116,14 +125,14 @@ pub record Performs {Call : Type 0} (o : Obj Call) (kind : Kind) (at : ℕ) (k :
   pub counts : NoCountFalls v u
   -- the step that stored its record, the call's linearization point, is one of this call's
   pub stored : (v.steps < u.hand.last) × (u.hand.last ≤ u.steps)
-  -- a signal is sent, and nothing else is
-  pub signals : IsSome (signal_of words) → reply ≡ Sent
+  -- a signal is sent, and nothing else is; it counts nothing
+  pub signals : IsSome (signal_of words) → (reply ≡ Sent) × (u.tally ≡ v.tally)
   -- a try of this call saw the word of a busy call, and steps of an interrupted one saw the signal and that the lock was taken
   pub busy : (word : ℕ) → reply ≡ Busy word → (c : Call) × (o.call_of words ≡ Some c) × Sees kind (o.reads c) at word v u
   pub interrupted : reply ≡ Intr → (c : Call) × (why : Interrupted) × (word : ℕ) × (o.call_of words ≡ Some c) × SawPending why v u × Sees kind (o.reads c) at word v u
   -- a call in mode try doesn't wait
   pub at_once : mode_of words ≡ Try → TriesOnce v u
   -- it counts an interruption exactly where that is its reply
-  pub counted : u.tally.interrupted ≡ raised (is_intr reply) v.tally.interrupted
+  pub counted : TalliesCall (is_intr reply) v u
   -- one that waits keeps its place in line
   pub line : mode_of words ≢ Try → KeepsPlace kind (not (changes o words) && not (is_intr reply)) at v u

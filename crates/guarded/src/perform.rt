@@ -9,7 +9,7 @@ ghost use Rattle.lock_core.specs.Kinds.{shares, unavailable};
 ghost use Rattle.lock_core.specs.Shown.{StepsOn};
 ghost use Rattle.lock_core.specs.Locking.{Looks, Takes, KeepsPlace, Releases, IsStored, held_by};
 ghost use Rattle.guarded.specs.GuardedHandles.{lock_of};
-ghost use Rattle.guarded.specs.Performing.{IsNext, SendsNext, Refuses, TriesOnce, Serves, Performs, Changes, no_word};
+ghost use Rattle.guarded.specs.Performing.{IsNext, SendsNext, Refuses, TalliesCall, TriesOnce, Serves, Performs, Changes, no_word};
 ghost use Rattle.guarded.specs.Gathering.{DoesOneMore};
 ghost use Rattle.guarded.specs.States.{WasDone, reply_in};
 
@@ -144,8 +144,8 @@ impl<L: SleepLock<O>, O: Served + Drop> Guarded<L, O> {
         ensures on { StepsOn L.sits L.view (lock_of self.now) pass.old pass.new }
         ensures took { IfOk result (λ _. Takes O.object (L.calls_on (lock_of self.now))
             (held_by L.kind reads) (L.view pass.old) (L.view pass.new)) }
-        ensures counted { IfOk result (λ _. (L.view pass.new).tally.interrupted ≡
-            (L.view pass.old).tally.interrupted) }
+        ensures counted { IfOk result (λ _.
+            TalliesCall false (L.view pass.old) (L.view pass.new)) }
         ensures line { IfOk result (λ _. mode ≢ Try →
             KeepsPlace L.kind reads L.word_at (L.view pass.old) (L.view pass.new)) }
         ensures at_once { mode ≡ Try → TriesOnce (L.view pass.old) (L.view pass.new) }
@@ -179,8 +179,7 @@ impl<L: SleepLock<O>, O: Served + Drop> Guarded<L, O> {
         ensures on { StepsOn L.sits L.view (lock_of self.now) pass.old pass.new }
         ensures took { Takes O.object (L.calls_on (lock_of self.now))
             (held_by L.kind reads) (L.view pass.old) (L.view pass.new) }
-        ensures counted { (L.view pass.new).tally.interrupted ≡
-            (L.view pass.old).tally.interrupted }
+        ensures counted { TalliesCall false (L.view pass.old) (L.view pass.new) }
         ensures line { KeepsPlace L.kind reads L.word_at (L.view pass.old) (L.view pass.new) }
     {
         if reads {
@@ -205,8 +204,8 @@ impl<L: SleepLock<O>, O: Served + Drop> Guarded<L, O> {
         ensures on { StepsOn L.sits L.view (lock_of self.now) pass.old pass.new }
         ensures took { IfOk result (λ _. Takes O.object (L.calls_on (lock_of self.now))
             (held_by L.kind reads) (L.view pass.old) (L.view pass.new)) }
-        ensures counted { IfOk result (λ _. (L.view pass.new).tally.interrupted ≡
-            (L.view pass.old).tally.interrupted) }
+        ensures counted { IfOk result (λ _.
+            TalliesCall false (L.view pass.old) (L.view pass.new)) }
         ensures line { IfOk result (λ _.
             KeepsPlace L.kind reads L.word_at (L.view pass.old) (L.view pass.new)) }
         ensures refused { IfErr result (λ reply. Refuses L.kind L.word_at Int reads reply
@@ -233,8 +232,8 @@ impl<L: SleepLock<O>, O: Served + Drop> Guarded<L, O> {
         ensures on { StepsOn L.sits L.view (lock_of self.now) pass.old pass.new }
         ensures took { IfOk result (λ _. Takes O.object (L.calls_on (lock_of self.now))
             (held_by L.kind reads) (L.view pass.old) (L.view pass.new)) }
-        ensures counted { IfOk result (λ _. (L.view pass.new).tally.interrupted ≡
-            (L.view pass.old).tally.interrupted) }
+        ensures counted { IfOk result (λ _.
+            TalliesCall false (L.view pass.old) (L.view pass.new)) }
         ensures refused { IfErr result (λ reply. Refuses L.kind L.word_at Try reads reply
             (L.view pass.old) (L.view pass.new)) }
         ensures at_once { TriesOnce (L.view pass.old) (L.view pass.new) }

@@ -141,7 +141,6 @@ impl Options {
     {}
 
     /// An option says its value also where a word of its own has it.
-    #[tactic(auto, using(crate::proofs::CommandLines::split_options_say))]
     pub(crate) fn split_options_say()
         ensures { SplitOptionsSay }
     {}
