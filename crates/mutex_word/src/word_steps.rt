@@ -25,7 +25,7 @@ pub fn try_step(word: u64, me: u32, ask: bool) -> Try
     ensures lawful { (m : Mutex) → States word m → TriesLawfully m me result }
 {
     let Some(owner) = Owner::unpack(word) else {
-        return Try::Fail;
+        unreachable!()
     };
     let Some(task) = owner.task else {
         let task = Some(me);
@@ -52,7 +52,9 @@ pub fn release_step(word: u64) -> Option<u64>
     ensures lawful { (m : Mutex) (me : ℕ) → States word m → m.holder ≡ Some me →
         ReleasesLawfully m result }
 {
-    let owner = Owner::unpack(word)?;
+    let Some(owner) = Owner::unpack(word) else {
+        unreachable!()
+    };
     if owner.handoff {
         return None;
     }
@@ -70,7 +72,7 @@ pub fn handoff_word(word: u64, first: Option<u32>) -> u64
         first ≡ first_of m.waiting → HandsOverLawfully m first result }
 {
     let Some(owner) = Owner::unpack(word) else {
-        return word;
+        unreachable!()
     };
     let picking = Owner {
         task: first,
