@@ -1,5 +1,5 @@
 -- What a call of `perform` records, from what each of its steps does.
-use Rattle.std.proofs.Common.{◌≡◌, ◌≢◌, ℕ, ◌+◌, ◌<◌, ◌≤◌, ⊎_elim, inl, inr, Bool, true, false, not, ◌&&◌, List, [], ◌∷◌, ◌++◌, length, take, slice_get, Option, Some, None, IsSome, Result, Ok, Err, refl, sym, ap, ◌∙◌, subst, arith, length-append, length-take, take-take, take_at, take_all}
+use Rattle.std.proofs.Common.{◌≡◌, ◌≢◌, ℕ, ◌+◌, ◌<◌, ◌≤◌, ⊎_elim, inl, inr, Bool, true, false, not, ◌&&◌, List, [], ◌∷◌, ◌++◌, length, take, slice_get, Option, Some, None, IsSome, Ok, Err, refl, sym, ap, ◌∙◌, subst, arith, length-append, length-take, take-take, take_at, take_all}
 use Rattle.std.specs.Option.{option_map_or}
 use Rattle.std.proofs.lemmas.Bool.{false≢true}
 use Rattle.word_bits.specs.declared.call.CallWords.{CallWords}
@@ -14,14 +14,16 @@ use Rattle.word_bits.specs.Objects.{Obj, IsObjectReply}
 use Rattle.word_bits.specs.Histories.{Plan, logs, changes, state_after}
 use Rattle.word_bits.specs.Legal.{IsRecord, IsUnheldReply, is_intr, seen_after}
 use Rattle.lock_core.specs.declared.how.How.{How}
+use Rattle.lock_core.specs.declared.how.How.TheVariants.{Fast, Spun, Slept}
+use Rattle.lock_core.specs.declared.view.Line.{Line}
 use Rattle.lock_core.specs.declared.tally.Tally.{Tally}
 use Rattle.lock_core.specs.declared.view.Hand.{Hand}
 use Rattle.lock_core.specs.declared.view.Held.{Held}
 use Rattle.lock_core.specs.declared.view.Held.TheVariants.{No}
 use Rattle.lock_core.specs.declared.view.Stage.{Stage}
 use Rattle.lock_core.specs.declared.view.Stage.TheVariants.{Logged}
-use Rattle.lock_core.specs.Records.{is_sent, row}
-use Rattle.lock_core.specs.Tallies.{raised, stood_in_list, was_interrupted}
+use Rattle.lock_core.specs.Records.{bit, is_sent, row}
+use Rattle.lock_core.specs.Tallies.{raised, stood_in_list}
 use Rattle.lock_core.specs.Views.{recorded, committed, noted, next_entry, OwesNoSignal, Unsent}
 use Rattle.lock_core.specs.SitePasses.{IsReading, MayNote}
 use Rattle.lock_core.proofs.RowLaws.{get-last}
@@ -34,7 +36,7 @@ use Rattle.lock_core.specs.declared.how.Interrupted.{Interrupted}
 use Rattle.lock_core.specs.Pasts.{FoundAtStep}
 use Rattle.lock_core.specs.Kinds.{Kind, shares, unavailable, wakes_shared}
 use Rattle.lock_core.specs.Shown.{Shown, NoCountFalls, AllButHand, LeavesHold, PastGoesOn, IsNextCall}
-use Rattle.lock_core.specs.Locking.{Begins, HasSince, Looks, Takes, Frees, Releases, Sees, SawPending, KeepsPlace, IsLetIn, TalliesLock}
+use Rattle.lock_core.specs.Locking.{Begins, HasSince, Looks, Takes, Frees, Releases, Sees, SawPending, KeepsPlace, IsLetIn, Interrupts, Got, TalliesLock}
 use Rattle.guarded.specs.Performing.{Refuses, TalliesCall, TriesOnce, AddsRecord, Serves, Performs, takes_by}
 
 eq-le : (m n : ℕ) → m ≡ n → n ≤ m
@@ -76,6 +78,7 @@ adds-freed wakes rec seen v m u a f = record {
   takes = f.takes ∙ a.takes;
   fronts = f.fronts ∙ a.fronts;
   line = f.line ∙ a.line;
+  swaps = f.swaps ∙ a.swaps;
   tally = f.tally ∙ a.tally;
   counts = counts-trans v m u a.counts f.keeps.counts;
   stored = let last = f.keeps.last in let steps = f.keeps.counts.steps in let s = a.stored in (omega (arith, last, s), omega (arith, last, steps, s));
@@ -96,6 +99,7 @@ adds v m stage writes known log rec seen has = let e = has.3.0 in let b = has.3.
   takes = ap {A = Hand} (λ h. h.takes) e;
   fronts = b.1;
   line = b.2;
+  swaps = b.4;
   tally = b.5;
   counts = counts-beside v m (ap {A = Hand} (λ h. h.misses) e) b;
   stored = is-since v m has.0 (ap {A = Hand} (λ h. h.last) e) has.1 has.2;
@@ -239,37 +243,50 @@ tries-after : (v m u : Shown) → TriesOnce v m → u.line ≡ m.line → u.fron
 tries-after v m u t line fronts misses tally = (line ∙ t.0, fronts ∙ t.1, (let l = t.2 in omega (arith, l, misses)), tally ∙ t.3)
 
 -- what a call counted, by its lock's answer
-pub tallies-call : (answer : Result How Interrupted) (v u : Shown) → TalliesLock answer v u → TalliesCall (was_interrupted answer) v u
-tallies-call (Ok how) v u t = record { interrupted = t.interrupted; stood = stood_in_list (Ok how); queued = t.queued; surely = λ cut. absurd (false≢true cut); refused = t.refused; left = t.left }
-tallies-call (Err why) v u t = record { interrupted = t.interrupted; stood = true; queued = t.queued; surely = λ cut. refl; refused = t.refused; left = t.left }
+appended : (how : How) (v u : Shown) → Got how v u → u.line.appends ≡ v.line.appends + bit (stood_in_list (Ok how))
+appended Fast v u got = let same = ap (λ (l : Line). l.appends) got.3 in omega (arith, same)
+appended Spun v u got = let same = ap (λ (l : Line). l.appends) got.1 in omega (arith, same)
+appended Slept v u got = got
 
-pub tallies-none : (v u : Shown) → u.tally ≡ v.tally → TalliesCall false v u
-tallies-none v u same = record {
+pub tallies-got : (how : How) (v u : Shown) → TalliesLock (Ok how) v u → Got how v u → TalliesCall false v u
+tallies-got how v u t got = record { interrupted = t.interrupted; stood = stood_in_list (Ok how); appends = appended how v u got; queued = t.queued; surely = λ cut. absurd (false≢true cut); refused = t.refused; entered = t.entered; left = t.left }
+
+pub tallies-cut : (kind : Kind) (reads : Bool) (at : ℕ) (why : Interrupted) (v u : Shown) → TalliesLock (Err why) v u → Interrupts kind reads at why v u → TalliesCall true v u
+tallies-cut kind reads at why v u t cut = record { interrupted = t.interrupted; stood = true; appends = cut.waited; queued = t.queued; surely = λ cut. refl; refused = t.refused; entered = t.entered; left = t.left }
+
+pub tallies-none : (v u : Shown) → u.tally ≡ v.tally → u.line ≡ v.line → u.fronts ≡ v.fronts → u.swaps ≡ v.swaps → TalliesCall false v u
+tallies-none v u same line fronts swaps = record {
   interrupted = ap (λ (t : Tally). t.interrupted) same;
   stood = false;
+  appends = let l = ap (λ (l : Line). l.appends) line in omega (arith, l);
   queued = ap (λ (t : Tally). t.queued) same;
   surely = λ cut. absurd (false≢true cut);
   refused = false;
+  entered = omega (arith, fronts, swaps);
   left = ap (λ (t : Tally). t.left) same;
 }
 
-tallies-after : (cut : Bool) (v m u : Shown) → u.tally ≡ m.tally → TalliesCall cut v m → TalliesCall cut v u
-tallies-after cut v m u same t = record {
+tallies-after : (cut : Bool) (v m u : Shown) → u.tally ≡ m.tally → u.line ≡ m.line → u.fronts ≡ m.fronts → u.swaps ≡ m.swaps → TalliesCall cut v m → TalliesCall cut v u
+tallies-after cut v m u same line fronts swaps t = record {
   interrupted = ap (λ (t : Tally). t.interrupted) same ∙ t.interrupted;
   stood = t.stood;
+  appends = ap (λ (l : Line). l.appends) line ∙ t.appends;
   queued = ap (λ (t : Tally). t.queued) same ∙ t.queued;
   surely = t.surely;
   refused = t.refused;
+  entered = let e = t.entered in omega (arith, fronts, swaps, e);
   left = ap (λ (t : Tally). t.left) same ∙ t.left;
 }
 
-tallies-before : (cut : Bool) (v w u : Shown) → w.tally ≡ v.tally → TalliesCall cut w u → TalliesCall cut v u
-tallies-before cut v w u same t = record {
+tallies-before : (cut : Bool) (v w u : Shown) → w.tally ≡ v.tally → w.line ≡ v.line → w.fronts ≡ v.fronts → w.swaps ≡ v.swaps → TalliesCall cut w u → TalliesCall cut v u
+tallies-before cut v w u same line fronts swaps t = record {
   interrupted = t.interrupted ∙ ap (λ (x : Tally). raised cut x.interrupted) same;
   stood = t.stood;
+  appends = let l = ap (λ (l : Line). l.appends) line in let a = t.appends in omega (arith, l, a);
   queued = t.queued ∙ ap (λ (x : Tally). raised t.stood x.queued) same;
   surely = t.surely;
   refused = t.refused;
+  entered = let e = t.entered in omega (arith, fronts, swaps, e);
   left = t.left ∙ ap (λ (x : Tally). raised t.refused x.left) same;
 }
 
@@ -358,7 +375,7 @@ module _ {Call : Type 0} (o : Obj Call) (kind : Kind) (at : ℕ) (k : Plan) wher
         signals = λ some. absurd (false≢true (subst IsSome unsent some));
         busy = λ word e. absurd (subst IsObjectReply e serves.replies);
         interrupted = λ e. absurd (subst IsObjectReply e serves.replies);
-        counted = subst (λ (b : Bool). TalliesCall b v u) (sym (reply-unintr reply serves.replies)) (tallies-after false v m u serves.adds.tally counted);
+        counted = subst (λ (b : Bool). TalliesCall b v u) (sym (reply-unintr reply serves.replies)) (tallies-after false v m u serves.adds.tally serves.adds.line serves.adds.fronts serves.adds.swaps counted);
         at_once = λ tries. tries-after v m u (once tries) serves.adds.line serves.adds.fronts serves.adds.misses serves.adds.tally;
         line = λ waits. place-after kind _ at v m u (subst (λ b. KeepsPlace kind b at v m) (is-reads reads (changes o words) (is_intr reply) (changes-is o words c is ∙ ap not (sym same)) (reply-unintr reply serves.replies)) (line waits))
             serves.adds.misses serves.adds.fronts serves.adds.saw serves.adds.counts.entries serves.adds.counts.steps goes;
@@ -405,7 +422,7 @@ module _ {Call : Type 0} (o : Obj Call) (kind : Kind) (at : ℕ) (k : Plan) wher
       let misses = ap {A = Hand} (λ h. h.misses) now in let takes = ap {A = Hand} (λ h. h.takes) now in
       performs-unheld v u words Sent next (subst IsSome (sym is) refl) refl (ap {A = Hand} (λ h. h.seen) now) (ap {A = Hand} (λ h. h.records) now) (ap {A = Hand} (λ h. h.task) now) (ap {A = Hand} (λ h. h.done) now) (ap {A = Hand} (λ h. h.held) now ∙ out) (omega (arith, takes))
       (ap {A = Hand} (λ h. h.sent) now, ap {A = Hand} (λ h. h.consumed) now ∙ consumed) (counts-beside v u misses along) (is-since v u step (ap {A = Hand} (λ h. h.last) now) (let a = beside.3 in let b = has.1 in omega (arith, a, b)) has.2) (λ _. (refl, along.5)) (λ word e. absurd (false≢true (subst (λ r. is_sent r ≡ true) e refl))) (λ e. absurd (false≢true (subst (λ r. is_sent r ≡ true) e refl)))
-      (tallies-none v u along.5)
+      (tallies-none v u along.5 along.2 along.1 along.4)
       (λ _. (along.2, along.1, omega (arith, misses), along.5))
       (λ _. record { queues = λ rise. absurd (omega arith); few = λ _. omega arith })
 
@@ -466,7 +483,7 @@ module _ {Call : Type 0} (o : Obj Call) (kind : Kind) (at : ℕ) (k : Plan) wher
       (counts-trans v m u keeps.counts (counts-beside m u misses beside)) (is-since v u has.0 (ap {A = Hand} (λ h. h.last) hand) (let a = keeps.counts.steps in let b = has.1 in omega (arith, a, b)) has.2) (λ some. absurd (false≢true (subst IsSome unsent some)))
       (λ word e. (c, is, subst (λ b. Sees kind b at word v u) same (subst (λ n. Sees kind reads at n v u) (ap busy_word e) (sees-on kind reads at w v m u (ap {A = Hand} (λ h. h.saw) hand) beside.3 goes sees))))
       (λ e. absurd (false≢true (subst (λ r. is_busy r ≡ true) e refl)))
-      (tallies-none v u (beside.5 ∙ why.1.tally))
+      (tallies-none v u (beside.5 ∙ why.1.tally) (beside.2 ∙ why.1.line) (beside.1 ∙ why.1.fronts) (beside.4 ∙ why.1.swaps))
       (λ tries. tries-after v m u (once (says ∙ tries)) beside.2 beside.1 misses beside.5)
       (λ waits. absurd (waits (sym says ∙ why.0)))
   performs-refused v m u words c reads mode Intr next is same says unsent accounted why once line has goes =
@@ -481,7 +498,7 @@ module _ {Call : Type 0} (o : Obj Call) (kind : Kind) (at : ℕ) (k : Plan) wher
       (counts-trans v m u keeps.counts (counts-beside m u misses beside)) (is-since v u has.0 (ap {A = Hand} (λ h. h.last) hand) (let a = keeps.counts.steps in let b = has.1 in omega (arith, a, b)) has.2) (λ some. absurd (false≢true (subst IsSome unsent some)))
       (λ word e. absurd (false≢true (subst (λ r. is_intr r ≡ true) e refl)))
       (λ e. (c, why.1.0, cut.word, is, pending-on why.1.0 v m u beside.3 goes cut.heard, subst (λ b. Sees kind b at cut.word v u) same (sees-on kind reads at cut.word v m u (ap {A = Hand} (λ h. h.saw) hand) beside.3 goes cut.sees)))
-      (tallies-after true v m u beside.5 why.2)
+      (tallies-after true v m u beside.5 beside.2 beside.1 beside.4 why.2)
       (λ tries. tries-after v m u (once (says ∙ tries)) beside.2 beside.1 misses beside.5)
       (λ waits. subst (λ b. KeepsPlace kind b at v u) (and-false (not (changes o words)))
       (place-after kind false at v m u (line (λ tries. waits (sym says ∙ tries))) misses beside.1 (ap {A = Hand} (λ h. h.saw) hand) (eq-le _ _ beside.0) beside.3 goes))
@@ -552,7 +569,7 @@ module _ (v w u : Shown) (looks : Looks v w) (goes : PastGoesOn v w) where
     signals = λ some. let t = p.signals some in (t.0, t.1 ∙ looks.1.5);
     busy = λ word is. let b = p.busy word is in (b.0, b.1, sees-from kind (o.reads b.0) at word b.2);
     interrupted = λ is. let b = p.interrupted is in (b.0, b.1, b.2, b.3, pending-from b.1 b.4, sees-from kind (o.reads b.0) at b.2 b.5);
-    counted = tallies-before (is_intr reply) v w u looks.1.5 p.counted;
+    counted = tallies-before (is_intr reply) v w u looks.1.5 looks.1.2 looks.1.1 looks.1.4 p.counted;
     at_once = λ tries. let t = p.at_once tries in (t.0 ∙ looks.1.2, t.1 ∙ looks.1.1, (let l = t.2 in let m = ap {A = Hand} (λ h. h.misses) e in omega (arith, l, m)), t.3 ∙ looks.1.5);
     line = λ waits. place-from kind _ at (p.line waits);
   }

@@ -15,6 +15,7 @@ use Rattle.lock_core.specs.declared.how.Interrupted.{Interrupted}
 use Rattle.lock_core.specs.declared.view.Held.TheVariants.{No}
 use Rattle.lock_core.specs.declared.view.Hand.{Hand}
 use Rattle.lock_core.specs.Views.{committed, next_entry}
+use Rattle.lock_core.specs.Records.{bit}
 use Rattle.lock_core.specs.Tallies.{raised}
 use Rattle.guarded.specs.declared.next.Next.{Next}
 use Rattle.lock_core.specs.Kinds.{Kind, unavailable}
@@ -44,13 +45,15 @@ Changes o k call reply v u = HasSince (λ step. committed (record v.hand { known
 abbrev pub no_word : ℕ → Type 0
 no_word word = ⊥
 
--- What a call counts, by whether a signal interrupted it: that it stood in the list of waiters, at most once, and surely where it was interrupted; an interruption just then; and at most one turn in the spin queue that didn't come.
+-- What a call counts, by whether a signal interrupted it: an interruption just then; that it stood in the list of waiters, exactly where it appended itself, which it did once at most, and surely if it was interrupted; and a turn in the spin queue that didn't come, exactly where it swapped the queue's tail and wasn't its head.
 pub record TalliesCall (cut : Bool) (v u : Shown) : Type 0 where
   pub interrupted : u.tally.interrupted ≡ raised cut v.tally.interrupted
   pub stood : Bool
+  pub appends : u.line.appends ≡ v.line.appends + bit stood
   pub queued : u.tally.queued ≡ raised stood v.tally.queued
   pub surely : cut ≡ true → stood ≡ true
   pub refused : Bool
+  pub entered : u.swaps + v.fronts ≡ v.swaps + u.fronts + bit refused
   pub left : u.tally.left ≡ raised refused v.tally.left
 
 -- why a call never held the lock, by its reply; one that was interrupted counted that
@@ -59,9 +62,9 @@ Refuses kind at mode reads (Busy word) v u = (mode ≡ Try) × Misses kind reads
 Refuses kind at mode reads Intr v u = (mode ≡ Int) × ((why : Interrupted) × Interrupts kind reads at why v u) × TalliesCall true v u
 Refuses kind at mode reads reply v u = ⊥
 
--- it failed one try at most, was in no list, and wasn't the head of a spin queue
+-- it failed one try at most, was in no list, wasn't the head of a spin queue, and counted nothing
 abbrev pub TriesOnce : Shown → Shown → Type 0
-TriesOnce v u = (u.line ≡ v.line) × (u.fronts ≡ v.fronts) × (u.hand.misses ≤ v.hand.misses + 1)
+TriesOnce v u = (u.line ≡ v.line) × (u.fronts ≡ v.fronts) × (u.hand.misses ≤ v.hand.misses + 1) × (u.tally ≡ v.tally)
 
 -- how often a call with this reply comes to hold: not at all where it is a signal or couldn't have the lock, and else once
 abbrev pub takes_by : Reply → ℕ
@@ -87,6 +90,7 @@ pub record AddsRecord (rec : Rec) (seen : List Entry) (v u : Shown) : Type 0 whe
   pub takes : u.hand.takes ≡ v.hand.takes
   pub fronts : u.fronts ≡ v.fronts
   pub line : u.line ≡ v.line
+  pub swaps : u.swaps ≡ v.swaps
   pub tally : u.tally ≡ v.tally
   pub counts : NoCountFalls v u
   -- the step that stored it is one of these steps

@@ -1,4 +1,4 @@
--- That a call which replies busy, interrupted or sent had its cause while it ran: at a step of its own task's pass, made behind the task's last record on the object and before the call's own.
+-- That a call which replies busy, interrupted or sent has its cause at a step of a pass with its task's number, behind the task's record before it on the object and not behind its own.
 use Rattle.std.specs.Prelude.{◌≡◌, ℕ, ◌+◌, ◌<◌, ◌≤◌, Bool, List, ◌∷◌, length, slice_get, slice_index, Some}
 use Rattle.word_bits.specs.declared.TheConstants.{MAX_TASKS}
 use mathlib.Core.Option.{some}
@@ -23,7 +23,7 @@ use Rattle.lock_core.specs.Records.{row}
 use Rattle.lock_core.specs.Sites.{consumed_at, sent_at}
 use Rattle.lock_core.specs.SiteStated.{IsNew, IsSiteThen}
 
--- A step of this past, from the first moment to the second, that was made during the task's call: the pass that made it had the task's number, and had recorded just so many of the task's calls. It has this hand before and this one after.
+-- A step of this past, from the first moment to the second, that was made while this call was the task's next on the object: the pass that made it had the task's number, and had recorded just so many of the task's calls. It has this hand before and this one after. Of calls on other objects this says nothing.
 pub record IsStepDuring (past : List Moment) (task call : ℕ) (x y : Moment) (h g : Hand) : Type 0 where
   pub rest : List Moment
   pub is : Tail (y ∷ x ∷ rest) past
@@ -36,11 +36,11 @@ pub record IsStepDuring (past : List Moment) (task call : ℕ) (x y : Moment) (h
   pub named : h.task ≡ Some task
   pub done : h.done ≡ call
 
--- During the call its pass tried in vain: it held nothing, counted the failed try, and the lock's word, which stands at this place, was this one.
+-- While the call was its task's next, its pass tried in vain: it held nothing, counted the failed try, and the lock's word, which stands at this place, was this one.
 abbrev pub FailedTryDuring : (word_at : ℕ) → List Moment → (task call word : ℕ) → Type 0
 FailedTryDuring word_at past task call word = (x : Moment) × (y : Moment) × (h : Hand) × (g : Hand) × IsStepDuring past task call x y h g × (h.held ≡ No) × (g.misses ≡ h.misses + 1) × (slice_index x.words word_at ≡ word)
 
--- During the call its pass raised this word of the tasks' lines.
+-- While the call was its task's next, its pass raised this word of the tasks' lines.
 abbrev pub RaisedDuring : Plan → List Moment → (task call place : ℕ) → Type 0
 RaisedDuring k past task call place = (x : Moment) × (y : Moment) × (h : Hand) × (g : Hand) × IsStepDuring past task call x y h g × (slice_index (site k x.words).lines place < slice_index (site k y.words).lines place)
 
@@ -57,7 +57,7 @@ pub record HasCause (k : Plan) (word_at : ℕ) (past : List Moment) (t c : ℕ) 
   pub tried : reply ≡ Intr → (word : ℕ) × FailedTryDuring word_at past t c word
   pub sent : reply ≡ Sent → (w : CallWords) × (target : ℕ) × (slice_get (row k t) c ≡ Some w) × (signal_of w ≡ Some target) × (target < MAX_TASKS → RaisedDuring k past t c (sent_at target))
 
--- In the past of a table that goes back to its opening, each call that is recorded by now had its cause while it ran. `unheld` says whether calls may read without a hold.
+-- In the past of a table that goes back to its opening, each call that is recorded by now has its cause. `unheld` says whether calls may read without a hold.
 abbrev pub CallsHaveCauses : {Call : Type 0} → Obj Call → Unavailable → (size word_at : ℕ) → Type 0
 CallsHaveCauses o unavailable size word_at =
     (unheld : Bool) (k : Plan) (new now : Moment) (before : List Moment) → length k ≤ MAX_TASKS

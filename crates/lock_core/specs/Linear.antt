@@ -77,7 +77,7 @@ module _ {Call : Type 0} (o : Obj Call) where
   LinearizesTo size k (m ∷ []) n s = RepresentsAbstractState size k (site k m.words) m.hands n s × (n ≡ 0) × (s ≡ o.empty)
   LinearizesTo size k (y ∷ x ∷ past) n' s' = RepresentsAbstractState size k (site k y.words) y.hands n' s' × ((n : ℕ) × (s : o.State) × IsSimulationStep k (site k x.words) (site k y.words) x.hands x.steps y.steps n s n' s' × LinearizesTo size k (x ∷ past) n s)
 
-  -- In these moments each call that is recorded has its linearization point at the step that stored its record. Of calls without a record this says nothing.
+  -- In these moments each call that was recorded since the first of them has its linearization point at the step that stored its record. Of calls without a record this says nothing.
   abbrev pub IsLinearizable : (size : ℕ) → Plan → List Moment → Type 0
   IsLinearizable size k past = (n : ℕ) × (s : o.State) × LinearizesTo size k past n s
 

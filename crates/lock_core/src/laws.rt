@@ -20,11 +20,11 @@ pub fn abstract_state_is_that_after_the_log<O: Object>()
     ensures { StateIsThatAfterLog O.object O.WORDS }
 {}
 
-/// A call that replied busy, interrupted or sent had its cause while it ran: its own task's pass
-/// tried in vain and saw the word, consumed a signal, or sent one, behind the task's last record
-/// on the object. The law speaks of a past that goes back to the opening, of a lock of either kind
-/// whose word stands at `word_at`.
-pub fn unavailable_calls_have_their_causes<O: Object>()
+/// A call that replied busy, interrupted or sent has its cause: a step of a pass with its task's
+/// number that tried in vain and saw the word, consumed a signal, or sent one. It lies behind the
+/// task's record before the call on the object, and not behind the call's own. The law speaks of a
+/// past that goes back to the opening, of a lock of either kind whose word stands at `word_at`.
+pub fn calls_have_their_causes<O: Object>()
     ensures { (kind : Kind) (word_at : ℕ)
         → CallsHaveCauses O.object (unavailable kind) O.WORDS word_at }
 {}

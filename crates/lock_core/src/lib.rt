@@ -21,8 +21,7 @@ pub mod view;
 pub use how::{How, Interrupted};
 pub use is::Is;
 pub use laws::{
-    abstract_state_is_that_after_the_log, places_keep_step_order,
-    unavailable_calls_have_their_causes,
+    abstract_state_is_that_after_the_log, calls_have_their_causes, places_keep_step_order,
 };
 pub use layout::{LENGTH_AT, LOCK_WORDS, ROW_WORDS, SPIN_LOCKS, SPIN_ROOM, SPIN_WORDS};
 pub use lock::SiteLock;

@@ -2,8 +2,7 @@
 //! function that does nothing.
 ghost use Rattle.osq_nodes.specs.QueueLaws.{MissingLinksAreOwedOnce, QueueHasHead};
 
-/// A link that is missing between two neighbours of the queue is owed by exactly one task, which
-/// stores it or leaves before its call returns.
+/// A link that is missing between two neighbours of the queue is owed by exactly one task.
 pub fn missing_links_are_owed_once()
     ensures { MissingLinksAreOwedOnce }
 {}

@@ -142,8 +142,8 @@ impl<O: Object> PercpuRwSem<O> {
     }
 
     /// Blocks new readers, then waits for those inside, until the pass holds alone
-    /// (`percpu_down_write`). It blocks by one step and sees each count zero by one; behind each
-    /// step that fails it sleeps once. The crew isn't asked for anything: `up_read`, `down_read` and
+    /// (`percpu_down_write`). It blocks by one step and sees each count zero by one, and makes
+    /// one step more for each time that it slept. The crew isn't asked for anything: `up_read`, `down_read` and
     /// `unblock` wake the writer.
     pub fn down_write<W: Wait, C: Crew>(
         &self,

@@ -101,8 +101,8 @@ impl<O: Object> CountSite<O> {
     }
 
     /// Takes in another pass, which is spent: `into` then knows the records that `other` knew, and
-    /// has seen as many entries as either. Once it has looked back (`recall_count`), its past goes
-    /// back to all that `other` did.
+    /// has seen as many entries as either. Once it has looked back as its next step (`recall_count`),
+    /// its past goes back to all that `other` did.
     pub fn gather(&self, into: &mut CountPass<O>, other: CountPass<O>)
         requires own { SitsAt self.now into.old }
         requires others_own { SitsAt self.now other }
