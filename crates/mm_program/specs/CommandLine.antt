@@ -122,7 +122,7 @@ JoinedOptionsSay =
     (spin overdue generate : Text) → options_of ((codes "--spin=" ++ spin) ∷ (codes "--overdue=" ++ overdue) ∷ (codes "--generate=" ++ generate) ∷ codes "--summary" ∷ [])
     ≡ options_with (number_up_to 1000000 spin) (number_up_to 1000000 overdue) (number_if_used (Some generate)) true
 
--- an option says its value also where that is a word of its own, which a digit begins
+-- an option that stands alone says its value also where that is a word of its own, which a digit begins
 abbrev pub SplitOptionsSay : Type 0
 SplitOptionsSay =
     (digit : ℕ) (rest : Text) → digit < 10

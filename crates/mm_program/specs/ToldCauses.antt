@@ -1,6 +1,5 @@
--- That each call which the text tells as busy, interrupted or sent had its cause while it ran.
-use Rattle.std.specs.Prelude.{◌≡◌, ◌≤◌, ℕ, Bool, true, false, length, List, slice_get, Some}
-use Rattle.word_bits.specs.declared.TheConstants.{MAX_TASKS}
+-- That each call which the text tells as busy, interrupted or sent has its cause behind its task's record before it on the object.
+use Rattle.std.specs.Prelude.{◌≡◌, ℕ, Bool, true, false, List, slice_get, Some}
 use Rattle.word_bits.specs.Histories.{Event}
 use Rattle.lock_core.specs.Causes.{HasCause}
 use Rattle.sleep_lock.specs.LockMembers.{LockMembers}
@@ -19,11 +18,11 @@ module _ {A P T Q : Type 0} (spaces : LockMembers A P) (tables : LockMembers T Q
   word_under false = tables.word_at
 
 module _ {A S R X P E C T F G Y Q H D B U : Type 0} (spaces : LockMembers A P) (tables : LockMembers T Q) where
-  -- The gathered pass of an object goes back to the cause of each call on it that is told as busy, interrupted or sent: to a step of the call's own task that was made behind the task's last record on the object. The script has no more tasks than the table has room for, as each that the grammar accepts.
+  -- The gathered pass of an object goes back to the cause of each call on it that is told as busy, interrupted or sent: to a step of a pass with the call's task, behind the task's record before the call on the object and not behind the call's own. Of calls on other objects nothing is said.
   abbrev pub TellsCauses : LockedMachine A S R X P E C T F G Y Q H D B U → Type 0
   TellsCauses m =
       (script : Listing) (told : List Told) (object : ℕ) (d : Declared) (t : Told) (p : SpaceOrTablePass P Q) (v : Event)
       → HasServedUnder spaces tables script told m
       → slice_get script.objects object ≡ Some d → slice_get told object ≡ Some t → slice_get (gathered_of m) object ≡ Some p
-      → length (plan_of script object) ≤ MAX_TASKS → IsEventOf (plan_of script object) t.records v
+      → IsEventOf (plan_of script object) t.records v
       → HasCause (plan_of script object) (word_under spaces tables d.is_space) (past_under spaces tables p) v.entry.task v.entry.call v.told.reply

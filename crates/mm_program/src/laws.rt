@@ -16,9 +16,9 @@ ghost use Rattle.mm_program.specs.ToldOrder.{TellsInRealTimeOrder};
 use crate::locks::{SpaceLock, TableLock};
 use cpu_task::Crew;
 
-/// The history that `top` writes of an object keeps the real-time order of the calls on it: of two
-/// calls that held the lock, the one that was recorded when the other wasn't yet stands first. Two
-/// calls that only read, with no changing call between them, may stand in either order.
+/// Of two calls that held the lock, the history that `top` writes of an object has the one first
+/// that was recorded when the other wasn't yet. Only two calls that read at one place of the log
+/// may stand the other way round, even if one was over before the other began.
 pub fn told_history_keeps_real_time_order<A: SpaceLock, T: TableLock, C: Crew>()
     ensures { (kept : LockedMachine A Areas A.Rule A.Site A.Pass A.Rule.Ext SpaceCall
         T Fds T.Rule T.Site T.Pass T.Rule.Ext TableCall C C.C) →
@@ -30,9 +30,11 @@ pub fn told_history_keeps_real_time_order<A: SpaceLock, T: TableLock, C: Crew>()
         kept }
 {}
 
-/// Each call that `top` writes as busy, interrupted or sent had its cause while it ran. Its own
-/// task tried in vain and saw the word, consumed a signal, or sent one, behind the task's last
-/// record on that object.
+/// Each call that `top` writes as busy, interrupted or sent has its cause: a step of a pass with its
+/// task's number that tried in vain and saw the word, consumed a signal, or sent one. It lies behind
+/// the task's record before the call on that object, and not behind the call's own. Of calls on
+/// other objects nothing is said: that the call had begun by then is a clause of
+/// `Guarded::perform`.
 pub fn told_calls_have_their_causes<A: SpaceLock, T: TableLock, C: Crew>()
     ensures { (kept : LockedMachine A Areas A.Rule A.Site A.Pass A.Rule.Ext SpaceCall
         T Fds T.Rule T.Site T.Pass T.Rule.Ext TableCall C C.C) →

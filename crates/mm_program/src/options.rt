@@ -140,7 +140,8 @@ impl Options {
         ensures { JoinedOptionsSay }
     {}
 
-    /// An option says its value also where a word of its own has it.
+    /// An option that stands alone says its value also where that is a word of its own, which a
+    /// digit begins.
     pub(crate) fn split_options_say()
         ensures { SplitOptionsSay }
     {}

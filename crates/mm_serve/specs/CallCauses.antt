@@ -1,4 +1,4 @@
--- That the calls of a machine's objects which reply busy, interrupted or sent had their causes while they ran, by what a pass knows that has looked back.
+-- That the calls of a machine's objects which reply busy, interrupted or sent have their causes, by what a pass knows that has looked back.
 use Rattle.std.specs.Prelude.{ℕ, ◌≤◌, List, length}
 use Rattle.word_bits.specs.declared.TheConstants.{MAX_TASKS}
 use Rattle.word_bits.specs.Objects.{Obj}

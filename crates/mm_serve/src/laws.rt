@@ -10,9 +10,9 @@ use fd_table::Fds;
 use sleep_lock::SleepLock;
 use vma_map::Areas;
 
-/// The history of a space or of a table keeps the real-time order of its calls: of two calls that
-/// held the lock, the one that took effect first stands first. Two calls that only read, with no
-/// changing call between them, may stand in either order.
+/// In the history of a space or of a table, of two calls that held the lock, the one that took
+/// effect first stands first. Only two calls that read at one place of the log may stand the other
+/// way round, even if one was over before the other began.
 pub fn history_keeps_real_time_order()
     ensures space { KeepsRealTimeOrder space counted }
     ensures table { KeepsRealTimeOrder table owned }
@@ -28,7 +28,7 @@ pub fn recalled_history_keeps_real_time_order<A: SleepLock<Areas>, T: SleepLock<
 
 /// Under locks of any kind, a pass that knows the past of the object's table and each record that
 /// is told goes back to the cause of each call that replied busy, interrupted or sent. The cause
-/// lies within the call: behind its task's last record on the object.
+/// lies behind the task's record before the call on the object, and not behind the call's own.
 pub fn recalled_calls_have_their_causes<A: SleepLock<Areas>, T: SleepLock<Fds>>()
     ensures space { RecalledCauses space A.kind 257 A.word_at A.waits A.opened }
     ensures table { RecalledCauses table T.kind 64 T.word_at T.waits T.opened }

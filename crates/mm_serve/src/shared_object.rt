@@ -42,8 +42,8 @@ pub trait SharedObject: Sized {
     // records of all calls that the task has done.
     ghost serving: { Self → Self.Pass → (task : ℕ) → Type 0 };
 
-    // The pass is one of this object's. It has this task's number, has done all the task's calls,
-    // and knows what was so of the lock's spin queue at each moment up to its last step there.
+    // The pass is one of this object's. It has this task's number, all the task's calls are recorded,
+    // and it knows what was so of the lock's spin queue at each moment up to its last step there.
     ghost looked_back: { Self → Self.Pass → (task : ℕ) → Type 0 };
 
     // The pass knows what was so of the object's table at each moment so far.

@@ -64,10 +64,11 @@ pub trait SleepLock<O: Object>: SiteLock<O> {
     // first, and none where the lock has no such queue.
     ghost spun: { Self.Pass → List Moment };
 
-    // How often the pass's task has fallen asleep in calls on this lock.
+    // How often the pass has fallen asleep in calls on this lock, under whatever number.
     ghost dozes: { Self.Pass → ℕ };
 
-    // The last moment of a past marks the pass as having fallen asleep so often.
+    // Of a past whose last moment marks the pass as having fallen asleep so often. What that means
+    // is the lock's own: of a mutex and of a semaphore it is `MarksDozes`.
     ghost marks_dozes: { ℕ → Shown → Type 0 };
 
     /// A new lock: nobody holds, the state is empty, no call is logged or recorded. The pass has no
@@ -136,7 +137,7 @@ pub trait SleepLock<O: Object>: SiteLock<O> {
     /// facts of every site. It knows that the lock's word stated who held and whether tasks waited.
     /// It knows what each step did to the site's words, that each call took effect at the step that
     /// stored its record, and what this lock tells of its own (`tells`). The last moment marks how
-    /// often the pass's task has fallen asleep, as the pass says.
+    /// often the pass has fallen asleep, as the pass says (`marks_dozes`).
     fn recall(&self, pass: &mut Self::Pass)
         requires own { Self.sits self.now pass.old }
         ensures on { StepsOn Self.sits Self.view self.now pass.old pass.new }

@@ -14,3 +14,5 @@ returns g c =
     tells_causes
     (members g.A.SiteLock.calls_on g.A.SiteLock.view g.A.SiteLock.sits a.spun a.kind a.word_at a.opened a.waits (KnowsRwSem space 257) KnowsSpinQueue)
     (members g.T.SiteLock.calls_on g.T.SiteLock.view g.T.SiteLock.sits t.spun t.kind t.word_at t.opened t.waits (KnowsMutex table 64) KnowsSpinQueue)
+    g.met.A.SleepLock.small
+    g.met.T.SleepLock.small
