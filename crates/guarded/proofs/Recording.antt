@@ -1,5 +1,5 @@
 -- What a call of `perform` records, from what each of its steps does.
-use Rattle.std.proofs.Common.{◌≡◌, ◌≢◌, ℕ, ◌+◌, ◌<◌, ◌≤◌, ⊎_elim, inl, inr, Bool, true, false, not, ◌&&◌, List, [], ◌∷◌, ◌++◌, length, take, slice_get, Option, Some, None, IsSome, Ok, Err, refl, sym, ap, ◌∙◌, subst, arith, length-append, length-take, take-take, take_at, take_all}
+use Rattle.std.proofs.Common.{◌≡◌, ◌≢◌, ℕ, ◌+◌, ◌<◌, ◌≤◌, ⊎_elim, inl, inr, Bool, true, false, not, ◌&&◌, List, [], ◌∷◌, ◌++◌, length, take, slice_get, Option, Some, None, IsSome, IfOk, IfErr, Result, Ok, Err, refl, sym, ap, ◌∙◌, subst, arith, length-append, length-take, take-take, take_at, take_all}
 use Rattle.std.specs.Option.{option_map_or}
 use Rattle.std.proofs.lemmas.Bool.{false≢true}
 use Rattle.word_bits.specs.declared.call.CallWords.{CallWords}
@@ -253,6 +253,15 @@ tallies-got how v u t got = record { interrupted = t.interrupted; stood = stood_
 
 pub tallies-cut : (kind : Kind) (reads : Bool) (at : ℕ) (why : Interrupted) (v u : Shown) → TalliesLock (Err why) v u → Interrupts kind reads at why v u → TalliesCall true v u
 tallies-cut kind reads at why v u t cut = record { interrupted = t.interrupted; stood = true; appends = cut.waited; queued = t.queued; surely = λ cut. refl; refused = t.refused; entered = t.entered; left = t.left }
+
+-- the same of a call whose answer is known to be the one or the other
+pub tallies-ok : (r : Result How Interrupted) (how : How) (v u : Shown) → r ≡ Ok how → TalliesLock r v u → IfOk r (λ how. Got how v u) → TalliesCall false v u
+tallies-ok r how v u is t got = tallies-got how v u (subst (λ (x : Result How Interrupted). TalliesLock x v u) is t) (subst (λ (x : Result How Interrupted). IfOk x (λ how. Got how v u)) is got)
+
+pub tallies-err : (kind : Kind) (reads : Bool) (at : ℕ) (r : Result How Interrupted) (why : Interrupted) (v u : Shown) → r ≡ Err why → TalliesLock r v u → IfErr r (λ why. Interrupts kind reads at why v u) → Interrupts kind reads at why v u × TalliesCall true v u
+tallies-err kind reads at r why v u is t cut =
+    let c : Interrupts kind reads at why v u = subst (λ (x : Result How Interrupted). IfErr x (λ why. Interrupts kind reads at why v u)) is cut in
+    (c, tallies-cut kind reads at why v u (subst (λ (x : Result How Interrupted). TalliesLock x v u) is t) c)
 
 pub tallies-none : (v u : Shown) → u.tally ≡ v.tally → u.line ≡ v.line → u.fronts ≡ v.fronts → u.swaps ≡ v.swaps → TalliesCall false v u
 tallies-none v u same line fronts swaps = record {
