@@ -1,12 +1,14 @@
-"""Runs a program on scripts of five shapes, and prints time, processor time, memory, switches from one
+"""Runs a program on scripts of seven shapes, and prints time, processor time, memory, switches from one
 thread to another and, where valgrind is there, instructions. A second program, if one is named, is run
 on the same scripts in turn with the first, and has a row below each of its rows.
 
 With one task the instructions don't vary from run to run. With more they go by which calls meet, so
 only a difference beyond that of several runs tells two programs apart.
 
-One task on one space, near 256 areas; 64 tasks on 8 spaces and 8 tables; 64 tasks that map, unmap and
-touch the same 400 pages of one space; 64 tasks on one table; and 64 tasks that mostly read one space.
+One task on one space, near 256 areas; 64 tasks on 8 spaces and 8 tables, of whose calls one in
+sixteen changes a space; 400 tasks on 16 of each, likewise; 64 tasks on 8 of each, where half of the
+calls on spaces change them; 64 tasks that map, unmap and touch the same 400 pages of one space; 64
+tasks on one table; and 64 tasks that mostly read one space.
 Of each shape scripts of several lengths are run, so that a cost that grows faster than the length
 shows. Beside them a script that the program generates is run, with its summary.
 """
@@ -44,13 +46,31 @@ def one_task(number):
     return f"a {space_call(number)}"
 
 
-def many_objects(number):
-    """Every other call is on one of the spaces, the rest are on the tables."""
+def many_objects(number, kinds=8):
+    """Every other call is on one of the spaces, the rest are on the tables: so many of each kind."""
     mode = ["", "int ", "try "][number % 3] if number % 10 != 9 else ""
     if number % 2 == 0:
-        return f"{mode}space_{number // 2 % 8} {space_call(number // 2)}"
+        return f"{mode}space_{number // 2 % kinds} {space_call(number // 2)}"
     call = table_call(number // 2)
-    return f"{'' if call.startswith('signal') else mode}table_{number // 2 % 8} {call}"
+    return f"{'' if call.startswith('signal') else mode}table_{number // 2 % kinds} {call}"
+
+
+def half_change(number):
+    """Three in four are on one of the spaces, and half of those change one or two of 190 pages; the rest are on the tables."""
+    random = (number + 7) * 2654435761 % 2**32
+    if number % 4 == 3:
+        return f"table_{random >> 12 & 7} {table_calls(random >> 4)[random >> 16 & 3]}"
+    name, page, length = f"space_{random >> 12 & 7}", (random >> 15) % 190, 1 + (random >> 3 & 1)
+    if random >> 24 & 1:
+        return f"{name} fault {page} {'rwx'[random >> 25 & 1]}"
+    prot = "r" + "-w"[random >> 4 & 1] + "-"
+    return [
+        f"{name} map {page} {length} {prot}",
+        f"{name} map {page} {length} {prot}",
+        f"{name} unmap {page} {length}",
+        f"{name} protect {page} {length} {prot}",
+        f"{name} populate {page} {length} {prot}",
+    ][(random >> 26) % 5]
 
 
 def full_space(number):
@@ -96,14 +116,18 @@ def cut(head, tasks, call, size):
     return "\n".join(text) + "\n"
 
 
+def objects(kinds):
+    """The lines that declare so many spaces and so many tables."""
+    return [f"{kind} {kind}_{number}" for kind in ("space", "table") for number in range(kinds)]
+
+
 SHAPES = {
     "1 task, 1 object": lambda size: cut(["space a"], 1, one_task, size),
-    "64 tasks, 16 objects": lambda size: cut(
-        [f"{kind} {kind}_{number}" for kind in ("space", "table") for number in range(8)],
-        64,
-        many_objects,
-        size,
+    "64 tasks, 16 objects": lambda size: cut(objects(8), 64, many_objects, size),
+    "400 tasks, 32 objects": lambda size: cut(
+        ["version 2", *objects(16)], 400, lambda number: many_objects(number, 16), size
     ),
+    "64 tasks, half change": lambda size: cut(objects(8), 64, half_change, size),
     "64 tasks, full space": lambda size: cut(["space a"], 64, full_space, size),
     "64 tasks, 1 table": lambda size: cut(["table a"], 64, one_table, size),
     "64 readers, 1 space": lambda size: cut(["space a"], 64, mostly_read, size),
