@@ -11,7 +11,7 @@ use lock_steps::count::{
     up_read, up_write, write_spin, write_try,
 };
 use rwsem_count::{Write, read_free, write_step};
-use rwsem_wake::batches::{BATCH, batch};
+use rwsem_wake::batches::{MAX_READERS_WAKEUP, batch};
 use wait_list::Waiter;
 use word_bits::Count;
 
@@ -423,8 +423,8 @@ impl SemaphoreCourse {
         if !reserved && place_of(self.readers.as_slice(), task).is_none() {
             return Err(Refusal::NoReserve);
         }
-        let mut granted: ArrayVec<u32, BATCH> = ArrayVec::new();
-        batch(self.waiting.as_slice(), BATCH, &mut granted);
+        let mut granted: ArrayVec<u32, MAX_READERS_WAKEUP> = ArrayVec::new();
+        batch(self.waiting.as_slice(), MAX_READERS_WAKEUP, &mut granted);
         let rest = writers_of(self.waiting.as_slice());
         if granted.len() > MOST - self.readers.len() {
             return Err(Refusal::Full);

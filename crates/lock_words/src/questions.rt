@@ -5,7 +5,7 @@ use crate::answers::{Answer, count_answer, owner_answer, spin_answer};
 use crate::number::word_of;
 use arrayvec::ArrayVec;
 use byte_streams::{Failed, Outbox, Sink};
-use rwsem_wake::batches::{BATCH, batch};
+use rwsem_wake::batches::{MAX_READERS_WAKEUP, batch};
 use wait_list::Waiter;
 use word_bits::MAX_TASKS;
 
@@ -72,9 +72,9 @@ fn write_batch<K: Sink>(
     out: &mut Outbox,
     sink: &mut K,
 ) -> Result<(), Failed>
-    requires { limit ≤ BATCH }
+    requires { limit ≤ MAX_READERS_WAKEUP }
 {
-    let mut granted: ArrayVec<u32, BATCH> = ArrayVec::new();
+    let mut granted: ArrayVec<u32, MAX_READERS_WAKEUP> = ArrayVec::new();
     batch(waiters, limit, &mut granted);
     out.make_room(sink)?;
     out.add(b"to");
@@ -95,7 +95,7 @@ fn answer_batch<K: Sink>(numbers: &[u64], out: &mut Outbox, sink: &mut K) -> Res
     let Some(waiters) = waiters_of(others) else {
         return Err(NoAnswer::Misused);
     };
-    if *limit > BATCH as u64 {
+    if *limit > MAX_READERS_WAKEUP as u64 {
         return Err(NoAnswer::Misused);
     }
     match write_batch(*limit as usize, waiters.as_slice(), out, sink) {

@@ -12,6 +12,7 @@ use Rattle.rwsem_wake.proofs.FirstReaders.{reader-counts}
 use Rattle.rwsem_slow.specs.Picking.{PicksBatchInTurn, PicksFirstReaders, PicksInTurn, PicksWholeBatch}
 use Rattle.rwsem_wake.specs.Removals.{AreHeads, BeginsWith, without_all}
 use Rattle.rwsem_wake.proofs.Removing.{all-readers, heads-behind-it, heads-first, readers-all, sound-behind}
+use Rattle.rwsem_wake.specs.declared.batches.TheConstants.{MAX_READERS_WAKEUP}
 
 one-head : (t : ℕ) (q : List Waiter) → IsFirstReader t q → AreHeads (t ∷ []) q
 one-head t [] first = absurd first
@@ -63,11 +64,11 @@ begins-reading t ts (w ∷ q) once h code = elim h [
   | inr more ↦ let l = reader-counts t q (heads-first t ts q more.1) in let same : w.task ≡ t = omega (arith, code) in let y : bit (w.task == t) ≡ 1 = ap bit (eq-eqb w.task t same) in absurd (omega (arith, y, l, once))
 ]
 
-whole-batch : (q : List Waiter) (batch : List ℕ) → IsList q → 0 < length batch → length batch ≤ 256 → AreHeads batch q → BeginsWith batch q → IsWhole batch (without_all batch q) → batch ≡ batch_of 256 q
+whole-batch : (q : List Waiter) (batch : List ℕ) → IsList q → 0 < length batch → length batch ≤ MAX_READERS_WAKEUP → AreHeads batch q → BeginsWith batch q → IsWhole batch (without_all batch q) → batch ≡ batch_of MAX_READERS_WAKEUP q
 whole-batch q [] s some few h begins whole = absurd (omega (arith, some))
 whole-batch q (t ∷ ts) s some few h begins whole = let rs : List ℕ = map task_of (filter reads q) in let is = heads-are (t ∷ ts) q h in let all = readers-all (t ∷ ts) q s h in let readers = all-readers q in
-    let batch : take 256 rs ≡ batch_of 256 q = sym (ap (λ (b : Bool). if b then take 256 rs else []) (begins-reading t ts q (s.once t) h begins)) in elim whole [
-      | inl none ↦ let long : length (t ∷ ts) ≡ length rs = omega (arith, all, readers, none) in is ∙ (ap (λ (n : ℕ). take n rs) long ∙ (take_all (length rs) rs (omega arith) ∙ (sym (take_all 256 rs (omega (arith, long, few))) ∙ batch)))
+    let batch : take MAX_READERS_WAKEUP rs ≡ batch_of MAX_READERS_WAKEUP q = sym (ap (λ (b : Bool). if b then take MAX_READERS_WAKEUP rs else []) (begins-reading t ts q (s.once t) h begins)) in elim whole [
+      | inl none ↦ let long : length (t ∷ ts) ≡ length rs = omega (arith, all, readers, none) in is ∙ (ap (λ (n : ℕ). take n rs) long ∙ (take_all (length rs) rs (omega arith) ∙ (sym (take_all MAX_READERS_WAKEUP rs (omega (arith, long, few))) ∙ batch)))
       | inr full ↦ is ∙ (ap (λ (n : ℕ). take n rs) full ∙ batch)
     ]
 
@@ -76,7 +77,7 @@ picks_whole_batch = whole-batch
 
 -- what a waker has picked so far, of the list that it began with
 abbrev HasPicked : List Waiter → List ℕ → List Waiter → Type 0
-HasPicked was batch q = AreHeads batch was × BeginsWith batch was × (length batch ≤ 256) × (q ≡ without_all batch was)
+HasPicked was batch q = AreHeads batch was × BeginsWith batch was × (length batch ≤ MAX_READERS_WAKEUP) × (q ≡ without_all batch was)
 
 -- the first of them stays the first
 begins-more : (was : List Waiter) (batch : List ℕ) (t : ℕ) → BeginsWith batch was → (batch ≡ [] → first_code was ≡ t + 1) → BeginsWith (batch ++ t ∷ []) was

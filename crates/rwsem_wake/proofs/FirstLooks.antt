@@ -23,6 +23,7 @@ use Rattle.rwsem_wake.specs.RwSemViews.{V, chooses_task, has_number, is_clear, l
 use Rattle.rwsem_wake.specs.RwSemPlaces.{seen_of}
 use Rattle.rwsem_wake.specs.Removals.{KnowsList, without_all}
 use Rattle.rwsem_wake.specs.RwSemWakes.{Grants, HasChosenAll, IsAtRest, Looks, MayWake, SawWriter, Wakes, first_woken, readers_woken}
+use Rattle.rwsem_wake.specs.declared.batches.TheConstants.{MAX_READERS_WAKEUP}
 
 -- the first of a list
 
@@ -172,7 +173,7 @@ module _ {R O C : Type 0} (old mid : Pass R O RwSemHand C) (rests : IsAtRest (vi
     owned = λ _. refl;
     saw = λ _ reader. absurd (let e = ap bit (sym starts ∙ reader) in omega (arith, e));
     woken_are = are ∙ sym (ap (λ (b : Bool). if b then readers_woken false q else first_woken kind q) starts);
-    left = ap (λ (z : V). z.ext.list.list) is ∙ sym (ap (λ (b : Bool). without_all (if b then take 256 (map task_of (filter reads q)) else []) q) starts);
+    left = ap (λ (z : V). z.ext.list.list) is ∙ sym (ap (λ (b : Bool). without_all (if b then take MAX_READERS_WAKEUP (map task_of (filter reads q)) else []) q) starts);
     chosen = chosen;
   }
 

@@ -21,6 +21,7 @@ use Rattle.rwsem_wake.specs.RwSemViews.{LeavesPicked, MayPick, V, chooses_task, 
 use Rattle.rwsem_wake.specs.Removals.{AreHeads, BeginsWith, Chose, HasRemoved, KnowsList, RemovesAll, without_all}
 use Rattle.rwsem_wake.specs.RwSemWakes.{Grants, batch_in}
 use Rattle.rwsem_wake.specs.Grants.{KeepsOut, OnlySem, all_granted}
+use Rattle.rwsem_wake.specs.declared.batches.TheConstants.{MAX_READERS_WAKEUP}
 
 pub heads-first : (t : ℕ) (ts : List ℕ) (q : List Waiter) → AreHeads (t ∷ ts) q → IsFirstReader t q
 heads-first t ts [] h = absurd h
@@ -128,11 +129,11 @@ take-full (suc n) [] l = absurd (omega (arith, l))
 take-full (suc n) (x ∷ xs) l = let e = take-full n xs (omega (arith, l)) in omega (arith, e)
 
 -- the batch of a list with a reader first is a whole one
-pub batch-whole : (q : List Waiter) → IsList q → starts_with_reader q ≡ true → IsWhole (batch_of 256 q) (without_all (batch_of 256 q) q)
-batch-whole q sound starts = let rs : List ℕ = map task_of (filter reads q) in let all = readers-all (batch_of 256 q) q sound (batch-heads 256 q) in let readers = all-readers q in
-    let is : length (batch_of 256 q) ≡ length (take 256 rs) = ap (λ (b : Bool). length (if b then take 256 rs else [])) starts in elim (native.Mathlib.Decide.dec_le (length rs) 256) [
-      | yes few ↦ let t = take-short 256 rs few in inl (omega (arith, all, readers, is, t))
-      | no more ↦ inr (is ∙ take-full 256 rs (omega (arith, more)))
+pub batch-whole : (q : List Waiter) → IsList q → starts_with_reader q ≡ true → IsWhole (batch_of MAX_READERS_WAKEUP q) (without_all (batch_of MAX_READERS_WAKEUP q) q)
+batch-whole q sound starts = let rs : List ℕ = map task_of (filter reads q) in let all = readers-all (batch_of MAX_READERS_WAKEUP q) q sound (batch-heads MAX_READERS_WAKEUP q) in let readers = all-readers q in
+    let is : length (batch_of MAX_READERS_WAKEUP q) ≡ length (take MAX_READERS_WAKEUP rs) = ap (λ (b : Bool). length (if b then take MAX_READERS_WAKEUP rs else [])) starts in elim (native.Mathlib.Decide.dec_le (length rs) MAX_READERS_WAKEUP) [
+      | yes few ↦ let t = take-short MAX_READERS_WAKEUP rs few in inl (omega (arith, all, readers, is, t))
+      | no more ↦ inr (is ∙ take-full MAX_READERS_WAKEUP rs (omega (arith, more)))
     ]
 
 pub batch-some : (n : ℕ) (q : List Waiter) → starts_with_reader q ≡ true → (t : ℕ) × (ts : List ℕ) × (batch_of (suc n) q ≡ t ∷ ts)
@@ -182,7 +183,7 @@ module _ (u : V) (batch : List ℕ) where
     heads : AreHeads (get_or batch i 0 ∷ drop (i + 1) batch) v.ext.list.list
     heads = subst (λ (z : List ℕ). AreHeads z v.ext.list.list) next g.heads
 
-    pub removed-may : length batch ≤ 256 → (own : ℕ) × (u.hand.task ≡ Some own) → KeepsOut sem_of u → (q : List Waiter) → (Knows (list_part list_of v) → q ≡ v.ext.list.list) → LeavesPicked v q (get_or batch i 0)
+    pub removed-may : length batch ≤ MAX_READERS_WAKEUP → (own : ℕ) × (u.hand.task ≡ Some own) → KeepsOut sem_of u → (q : List Waiter) → (Knows (list_part list_of v) → q ≡ v.ext.list.list) → LeavesPicked v q (get_or batch i 0)
     removed-may few has keeps = λ q same. let is : q ≡ v.ext.list.list = same g.list.knows in subst (λ (z : List Waiter). LeavesPicked v z (get_or batch i 0)) (sym is) (
       g.may,
       (has.0, ap (λ h. h.task) g.beside.hand ∙ has.1),

@@ -7,6 +7,7 @@ use Rattle.wait_list.specs.declared.view.Waiter.{Waiter}
 use Rattle.rwsem_wake.specs.declared.view.Stage.TheVariants.{Removing}
 use Rattle.rwsem_wake.specs.SemParts.{SemPart, shared_of, alone_of, transit_of, reserve_of, granting_of, granted_of, busy_of, granted_at, reads_at, writes_at, rest_at, reader_at, writer_at}
 use Rattle.rwsem_wake.specs.GrantSemaphores.{Quiet}
+use Rattle.rwsem_wake.specs.declared.batches.TheConstants.{MAX_READERS_WAKEUP}
 
 -- readers: those that hold shared, those that are granted, and those in the rest of a batch that is in the count
 abbrev pub readers : List ℕ → List SemPart → ℕ
@@ -51,4 +52,4 @@ IsFirstReader t (w ∷ ws) = ((w.writer ≡ false) × (w.task ≡ t)) ⊎ ((w.wr
 
 -- a waker's batch begins or goes on with this task: it is the first reader of the list, the batch began with the first waiter, it has room, and isn't in the count yet
 abbrev pub Picks : SemPart → List Waiter → ℕ → Type 0
-Picks v q t = IsFirstReader t q × (v.sem.rest ≡ [] → first_code q ≡ t + 1) × (length v.sem.rest < 256) × ((v.sem.rest ≡ []) ⊎ (v.sem.stage ≡ Removing))
+Picks v q t = IsFirstReader t q × (v.sem.rest ≡ [] → first_code q ≡ t + 1) × (length v.sem.rest < MAX_READERS_WAKEUP) × ((v.sem.rest ≡ []) ⊎ (v.sem.stage ≡ Removing))

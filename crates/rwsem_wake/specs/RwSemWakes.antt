@@ -20,6 +20,7 @@ use Rattle.rwsem_wake.specs.RwSemViews.{V, count_at, list_at, list_of, looked}
 use Rattle.rwsem_wake.specs.RwSemPlaces.{seen_of}
 use Rattle.cpu_task.specs.CpuCounting.{slept}
 use Rattle.rwsem_wake.specs.Removals.{Chose, KnowsList, StaysBeside, without_all}
+use Rattle.rwsem_wake.specs.declared.batches.TheConstants.{MAX_READERS_WAKEUP}
 
 -- how a task that queues wakes at this count, which no writer holds: readers alone where readers hold, else whoever may go on
 abbrev pub kind_at : ℕ → WakeType
@@ -46,7 +47,7 @@ woken_tasks (Batch tasks) = tasks.items
 
 -- the list's batch
 abbrev pub batch_in : List Waiter → List ℕ
-batch_in q = batch_of 256 q
+batch_in q = batch_of MAX_READERS_WAKEUP q
 
 -- the first waiter, where the wake is of the kind that wakes any
 abbrev pub first_woken : WakeType → List Waiter → List ℕ

@@ -13,6 +13,7 @@ use Rattle.rwsem_count.specs.declared.view.Bias.TheVariants.{Clear, Transit, Res
 use Rattle.rwsem_wake.specs.declared.view.Stage.{Stage}
 use Rattle.rwsem_wake.specs.declared.view.Stage.TheVariants.{Rest, Armed, Joining, First, Marking, Took, Removed, Emptied, Overdue, Marked, Removing, Summing, Counted, Granting}
 use Rattle.rwsem_wake.specs.declared.view.SemHand.{SemHand}
+use Rattle.rwsem_wake.specs.declared.batches.TheConstants.{MAX_READERS_WAKEUP}
 use Rattle.rwsem_count.specs.Counts.{CountPart, shared_weight, early_weight, late_weight}
 
 -- what of a view concerns the semaphore
@@ -173,7 +174,7 @@ reader_of w = reader_bit w.writer
 
 -- a batch that has left this list is whole: no reader is left, or it has as many as one wake grants
 abbrev pub IsWhole : List ℕ → List Waiter → Type 0
-IsWhole batch q = (total reader_of q ≡ 0) ⊎ (length batch ≡ 256)
+IsWhole batch q = (total reader_of q ≡ 0) ⊎ (length batch ≡ MAX_READERS_WAKEUP)
 
 abbrev pub some_of : {A : Type 0} → List A → ℕ
 some_of [] = 0

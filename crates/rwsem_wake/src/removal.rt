@@ -3,6 +3,7 @@ ghost use Rattle.std.specs.Prelude.{◌≡◌, ◌≤◌, [], IsSome, Some, leng
 ghost use Rattle.lock_core.specs.SiteHandles.{IsLatest, plan_of, view_of, task_in, SitsAt, KeepsPast, SaysSame};
 ghost use Rattle.lock_core.specs.Views.{SpinHolds};
 ghost use Rattle.wait_list.specs.Lists.{AreAmong, first_of, only_steps};
+ghost use Rattle.rwsem_wake.specs.declared.batches.TheConstants.{MAX_READERS_WAKEUP};
 ghost use Rattle.rwsem_wake.specs.RwSemViews.{MayPick, sem_of};
 ghost use Rattle.rwsem_wake.specs.Removals.{AreHeads, BeginsWith, KnowsList, RemovesAll};
 ghost use Rattle.rwsem_wake.specs.Grants.{AreTaskNumbers, KeepsOut};
@@ -63,7 +64,7 @@ pub fn remove_all<H: WakeHost>(site: &Site<H>, pass: &mut Pass<H>, batch: &[u32]
     requires may { MayPick (view_of pass.old).ext.sem }
     requires none { (view_of pass.old).ext.sem.rest ≡ [] }
     requires keeps { KeepsOut sem_of (view_of pass.old) }
-    requires few { length batch.now ≤ 256 }
+    requires few { length batch.now ≤ MAX_READERS_WAKEUP }
     requires tasks { AreTaskNumbers (plan_of site.now) batch.now }
     requires heads { AreHeads batch.now (view_of pass.old).ext.list.list }
     requires begins { BeginsWith batch.now (view_of pass.old).ext.list.list }

@@ -13,7 +13,7 @@ ghost use Rattle.rwsem_wake.specs.Removals.{KnowsList, RemovesAll, StaysBeside};
 ghost use Rattle.rwsem_wake.specs.RwSemWakes.{Grants, kind_at, IsAtRest, Looks, MayWake, SawWriter, SetsAll, Wakes, batch_in, readers_woken, woken_tasks, HasChosenAll};
 ghost use Rattle.rwsem_wake.specs.Duties.{is_left};
 
-use crate::batches::{BATCH, batch};
+use crate::batches::{MAX_READERS_WAKEUP, batch};
 use crate::grants::{back_out, grant_removed};
 use crate::hint::{reader_hint, set_hint};
 use crate::host::WakeHost;
@@ -44,7 +44,7 @@ fn remove_batch<H: WakeHost>(
     site: &Site<H>,
     pass: &mut Pass<H>,
     first: Waiter,
-    readers: &mut ArrayVec<u32, BATCH>,
+    readers: &mut ArrayVec<u32, MAX_READERS_WAKEUP>,
 ) -> bool
     requires own { SitsAt site.now pass.old }
     requires last { IsLatest pass.old }
@@ -73,7 +73,7 @@ fn remove_batch<H: WakeHost>(
     let mut waiters: ArrayVec<Waiter, MAX_WAITERS> = ArrayVec::new();
     read_list(site, pass, first, &mut waiters);
     let known = waiters.as_slice();
-    batch(known, BATCH, readers);
+    batch(known, MAX_READERS_WAKEUP, readers);
     let picked = readers.as_slice();
     remove_all(site, pass, picked);
     picked.len() == known.len()
@@ -108,7 +108,7 @@ fn grant<H: WakeHost>(
     ensures woken { woken_tasks woken.new ≡ batch_in (view_of pass.old).ext.list.list }
     ensures tasks { AreTaskNumbers (plan_of site.now) (woken_tasks woken.new) }
 {
-    let mut readers: ArrayVec<u32, BATCH> = ArrayVec::new();
+    let mut readers: ArrayVec<u32, MAX_READERS_WAKEUP> = ArrayVec::new();
     let empty = remove_batch(site, pass, first, &mut readers);
     grant_removed(site, pass, readers.as_slice(), reserved, empty);
     *woken = Woken::Batch(readers);

@@ -1,7 +1,7 @@
 //! Whom a wake has chosen, how many wake words a pass has set, and how often it fell asleep.
 ghost use Rattle.std.specs.Prelude.{◌≡◌};
 
-use crate::batches::BATCH;
+use crate::batches::MAX_READERS_WAKEUP;
 use arrayvec::ArrayVec;
 use std::slice;
 
@@ -11,7 +11,7 @@ use std::slice;
 pub enum Woken {
     Nobody,
     First(u32),
-    Batch(ArrayVec<u32, BATCH>),
+    Batch(ArrayVec<u32, MAX_READERS_WAKEUP>),
 }
 
 impl Woken {

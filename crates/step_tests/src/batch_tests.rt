@@ -1,7 +1,7 @@
 //! The batch of a long list, which is known by hand.
 
 use arrayvec::ArrayVec;
-use rwsem_wake::batches::{BATCH, batch};
+use rwsem_wake::batches::{MAX_READERS_WAKEUP, batch};
 use std::test::Fail;
 use wait_list::Waiter;
 
@@ -22,7 +22,7 @@ fn a_batch_goes_on_behind_writers_up_to_its_limit(rt: HostRuntime) -> Result<(),
         expected.push(reader)?;
     }
     let mut out = ArrayVec::new();
-    batch(list.as_slice(), BATCH, &mut out);
+    batch(list.as_slice(), MAX_READERS_WAKEUP, &mut out);
     assert!(rt; out.as_slice() == expected.as_slice());
     let mut none = ArrayVec::new();
     batch(list.as_slice(), 0, &mut none);
@@ -38,7 +38,7 @@ fn a_batch_goes_on_behind_writers_up_to_its_limit(rt: HostRuntime) -> Result<(),
         },
     ];
     let mut behind = ArrayVec::new();
-    batch(&writer_first, BATCH, &mut behind);
+    batch(&writer_first, MAX_READERS_WAKEUP, &mut behind);
     assert!(rt; behind.len() == 0);
     Ok(())
 }
