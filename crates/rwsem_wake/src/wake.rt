@@ -300,6 +300,7 @@ pub fn choose_others<H: WakeHost, C: Cpu>(
     ensures chosen { HasChosenAll (woken_tasks woken.new) (view_of pass.old) (view_of pass.new) }
     ensures wakes { count % 2 ≡ 0 →
         Wakes (kind_at count) (woken_tasks woken.new) pass.old pass.new }
+    ensures none { count % 2 ≡ 1 → woken_tasks woken.new ≡ [] }
     ensures tasks { AreTaskNumbers (plan_of site.now) (woken_tasks woken.new) }
     ensures sleeps { C.sleeps cpu.new ≡ C.sleeps cpu.old }
     ensures rescheds { C.rescheds cpu.new ≡ C.rescheds cpu.old }
