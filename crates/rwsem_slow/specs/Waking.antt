@@ -33,10 +33,10 @@ IsFirstBias left = (left % 2 ^ 63 / 256 ≡ 1) × (left / 2 % 2 ≡ 1)
 abbrev pub FindsItselfFirst : Shown → Shown → Type 0
 FindsItselfFirst v u = (t : ℕ) × (v.hand.task ≡ Some t) × FindsSince list_at (t + 1) v u
 
--- a task that queued is the first waiter, and has set no wake word; or a step since found a count, and where that has no writer the task has woken others so
+-- a task that queued is the first waiter, and has set no wake word; or a step since found a count: where that has no writer the task has woken others so, else nobody
 abbrev pub WakesOthers : (wakes wakes' : ℕ) → Shown → Shown → Type 0
 WakesOthers wakes wakes' v u = (FindsItselfFirst v u × (wakes' ≡ wakes))
-    ⊎ ((n : ℕ) × FindsSince count_at n v u × (n % 2 ≡ 0 → WakesWaiting (kind_at n) wakes wakes' v u))
+    ⊎ ((n : ℕ) × FindsSince count_at n v u × (n % 2 ≡ 0 → WakesWaiting (kind_at n) wakes wakes' v u) × (n % 2 ≡ 1 → wakes' ≡ wakes))
 
 -- A task that leaves the list wakes these of it. A step since found the code of the list's first waiter. Where that is the task itself, those that a wake of any waiter wakes of the others; else nobody.
 pub record WakesLeft (woken : List ℕ) (v u : Shown) : Type 0 where

@@ -112,6 +112,7 @@ pub fn wake_beside<O: Object, W: Wait, K: Crew>(
     ensures keeps { KeepsLine (view_of pass.old) (view_of pass.new) }
     ensures woken { IsFirstBias left → WakesWaiting WakeType.ReadOwned
         counts.old.wakes counts.new.wakes (seen_of pass.old) (seen_of pass.new) }
+    ensures spared { (IsFirstBias left → ⊥) → counts.new.wakes ≡ counts.old.wakes }
     ensures counted { AreCounts counts.new (view_of pass.new) }
     ensures dozes { dozes_of (view_of pass.new) ≡ dozes_of (view_of pass.old) }
 {
