@@ -1,5 +1,5 @@
 /* Times rounds on the locks of the C library, as lock_bench does on the project's own.
-   The words are CASE THREADS ROUNDS, with the case spin, mutex, work, read, write, mixed or exchange. */
+   The words are CASE THREADS ROUNDS, with the case spin, mutex, work, kept, read, write, mixed or exchange. */
 #define _GNU_SOURCE
 #include <pthread.h>
 #include <stdatomic.h>
@@ -31,6 +31,13 @@ static void *mutex_pairs(void *unused) {
     return unused;
 }
 
+static uint64_t stepped(uint64_t number) {
+    for (int step = 0; step < 20; step++) {
+        number = number * 6364136223846793005u + 1442695040888963407u;
+    }
+    return number;
+}
+
 static _Atomic uint64_t raised[4];
 
 static void *work_pairs(void *task) {
@@ -41,9 +48,23 @@ static void *work_pairs(void *task) {
             raised[word] = raised[word] + number;
         }
         pthread_mutex_unlock(&mutex);
-        for (int step = 0; step < 20; step++) {
-            number = number * 6364136223846793005u + 1442695040888963407u;
+        number = stepped(number);
+    }
+    return NULL;
+}
+
+/* The words that the mutex guards are plain, as in C programs. */
+static uint64_t kept[4];
+
+static void *kept_pairs(void *task) {
+    uint64_t number = (uintptr_t)task;
+    for (long i = 0; i < rounds; i++) {
+        pthread_mutex_lock(&mutex);
+        for (int word = 0; word < 4; word++) {
+            kept[word] += number;
         }
+        pthread_mutex_unlock(&mutex);
+        number = stepped(number);
     }
     return NULL;
 }
@@ -95,8 +116,8 @@ static const struct {
     const char *word;
     void *(*pairs)(void *);
 } cases[] = {
-    {"spin", spin_pairs}, {"mutex", mutex_pairs}, {"work", work_pairs}, {"read", read_pairs},
-    {"write", write_pairs}, {"mixed", mixed_pairs}, {"exchange", exchange_pairs},
+    {"spin", spin_pairs}, {"mutex", mutex_pairs}, {"work", work_pairs}, {"kept", kept_pairs},
+    {"read", read_pairs}, {"write", write_pairs}, {"mixed", mixed_pairs}, {"exchange", exchange_pairs},
 };
 
 static void *(*pairs_of(const char *word))(void *) {
