@@ -52,9 +52,9 @@ impl<T: Items> Invariant for Queue<T> {
 /// Puts the item of this number, if those before it were put and there is room. Says whether it
 /// did.
 fn put<T: Items>(queue: &mut KeptMutex<Queue<T>, ParkCrew>, number: u64, item: u64) -> bool
-    requires queue { HoldsAlone (IsQueue T.item) queue.old }
+    requires queue { HoldsAlone (IsQueue T.item) queue.old.hold }
     requires item { item ≡ T.item number }
-    ensures { HoldsAlone (IsQueue T.item) queue.new }
+    ensures { HoldsAlone (IsQueue T.item) queue.new.hold }
 {
     let taken = queue.get(TAKEN);
     let next = queue.get(PUT);
@@ -68,8 +68,8 @@ fn put<T: Items>(queue: &mut KeptMutex<Queue<T>, ParkCrew>, number: u64, item: u
 
 /// Takes the item of this number, if those before it were taken and it was put.
 fn take<T: Items>(queue: &mut KeptMutex<Queue<T>, ParkCrew>, number: u64) -> Option<u64>
-    requires { HoldsAlone (IsQueue T.item) queue.old }
-    ensures queue { HoldsAlone (IsQueue T.item) queue.new }
+    requires { HoldsAlone (IsQueue T.item) queue.old.hold }
+    ensures queue { HoldsAlone (IsQueue T.item) queue.new.hold }
     ensures item { IfSome result (λ item. item ≡ T.item number) }
 {
     let next = queue.get(TAKEN);

@@ -9,6 +9,7 @@ use Rattle.word_bits.specs.Objects.{Obj}
 use Rattle.lock_core.specs.declared.view.Hand.{Hand}
 use Rattle.lock_core.specs.declared.view.Held.{Held}
 use Rattle.lock_core.specs.declared.view.Held.TheVariants.{No, Shared, Alone}
+use Rattle.lock_core.specs.declared.view.Moment.{Moment}
 use Rattle.lock_core.specs.Shown.{Shown}
 use Rattle.lock_core.specs.SitePasses.{IsChange, Numbered}
 use Rattle.lock_core.specs.Views.{next_entry}
@@ -48,6 +49,14 @@ pub record Hold : Type 0 where
 
 abbrev pub hold_of : Hand → Hold
 hold_of h = record { how = h.held; words = h.known }
+
+-- words under a lock, as one task has them: its hold, and the moments of the lock's table up to its last step, the last one first
+pub record TaskView : Type 0 where
+  pub hold : Hold
+  pub past : List Moment
+
+abbrev pub task_view : Shown → TaskView
+task_view v = record { hold = hold_of v.hand; past = v.past }
 
 -- it holds them alone, and this is so of them
 abbrev pub HoldsAlone : (List ℕ → Type 0) → Hold → Type 0

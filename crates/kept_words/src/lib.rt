@@ -6,11 +6,12 @@ mod invariant;
 mod kept;
 mod mutex;
 mod opening;
+mod past;
 mod rwsem;
 mod task;
 
 pub use invariant::{AnyWords, Invariant, Words};
-pub use kept::{Kept, KeptShared};
+pub use kept::{Kept, KeptPast, KeptShared};
 pub use mutex::{KeptMutex, MutexTask};
 pub use rwsem::{KeptRwSem, RwTask};
 pub use task::Task;

@@ -7,8 +7,9 @@ ghost use Rattle.kept_words.specs.Keeping.{IsTask};
 ghost use Rattle.rwsem_slow.specs.RwSemHandles.{hand_in, plan_of, shown_of, SitsAt};
 
 use crate::invariant::{Invariant, Words};
-use crate::kept::{Kept, KeptShared};
+use crate::kept::{Kept, KeptPast, KeptShared};
 use crate::opening::{cpus, open_words, plan};
+use crate::past::look_back;
 use crate::task::Task;
 use cpu_task::{Crew, ParkCrew, Turns};
 use lock_core::SiteLock;
@@ -26,7 +27,7 @@ pub(crate) struct SharedSem<I: Invariant, C> {
 }
 
 /// Words under a reader-writer semaphore, as one task has them, which wakes and sleeps by this crew. Contracts see
-/// how the task holds them, and the words.
+/// how the task holds them, the words, and the moments of the lock's table (`TaskView`).
 #[derive(Drop)]
 pub struct KeptRwSem<I: Invariant, C: Crew = ParkCrew> {
     shared: Arc<SharedSem<I, C>, Global>,
@@ -39,12 +40,12 @@ pub type RwTask<I> = Task<KeptRwSem<I, ParkCrew>>;
 
 impl<I: Invariant, C: Crew> Model for KeptRwSem<I, C> {
     ghost use Rattle.std.specs.Arc.{arc_value};
-    ghost use Rattle.rwsem_slow.specs.RwSemHandles.{hand_in, plan_of, shown_of, SitsAt};
-    ghost use Rattle.kept_words.specs.Keeping.{Hold, IsTask, hold_of};
+    ghost use Rattle.rwsem_slow.specs.RwSemHandles.{plan_of, shown_of, SitsAt};
+    ghost use Rattle.kept_words.specs.Keeping.{IsTask, TaskView, task_view};
 
-    ghost Value = { Hold };
+    ghost Value = { TaskView };
 
-    ghost view = { λ k. hold_of (hand_in k.pass) };
+    ghost view = { λ k. task_view (shown_of k.pass) };
 
     ghost invariant = { λ k.
         IsTask SitsAt plan_of shown_of I.WORDS (arc_value k.shared).semaphore k.pass };
@@ -136,7 +137,9 @@ fn split_one<I: Invariant + Drop, C: Crew + Drop, W: Wait>(
 impl<I: Invariant + Drop, C: Crew + Drop> Kept for KeptRwSem<I, C> {
     type I = I;
 
-    ghost hold = { λ k. k };
+    ghost hold = { λ k. k.hold };
+
+    ghost past = { λ k. k.past };
 
     fn lock<W: Wait>(&mut self, rt: &W) {
         let shared = &*self.shared;
@@ -194,5 +197,11 @@ impl<I: Invariant + Drop, C: Crew + Drop> KeptShared for KeptRwSem<I, C> {
         self.shared
             .semaphore
             .downgrade_write(rt, &mut self.pass, &self.shared.crew);
+    }
+}
+
+impl<I: Invariant + Drop, C: Crew + Drop> KeptPast for KeptRwSem<I, C> {
+    fn recall(&mut self) {
+        look_back::<Words<I>, RwSem<Words<I>>>(&self.shared.semaphore, &mut self.pass);
     }
 }

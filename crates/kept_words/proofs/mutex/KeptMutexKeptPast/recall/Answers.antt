@@ -1,0 +1,9 @@
+use Rattle.std.proofs.Common.{ap}
+use Rattle.std.specs.Arc.{arc_value}
+use Rattle.mutex_slow.specs.MutexHandles.{plan_of, shown_of, SitsAt}
+use Rattle.kept_words.specs.declared.mutex.SharedMutex.{SharedMutex}
+use Rattle.kept_words.specs.KeepingLaws.{sits-planned}
+use Rattle.kept_words.proofs.mutex.KeptMutexKeptPast.recall.Goals as goal
+
+pub look_back-requires-clause-own : goal.look_back-requires-clause-own
+look_back-requires-clause-own g c = sits-planned SitsAt plan_of shown_of c.deref.result.now.mutex (arc_value c.self.inside.shared).mutex c.self.inside.pass g.I.Invariant.WORDS g.I.Invariant.keeps (ap (λ (s : SharedMutex _ _). s.mutex) c.deref.ensures) c.self.invariant.own
