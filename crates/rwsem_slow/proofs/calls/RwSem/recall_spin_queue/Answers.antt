@@ -5,7 +5,7 @@ use Rattle.osq_nodes.specs.OsqHandles.{past_of, tasks_of}
 use Rattle.osq_nodes.specs.OsqPlaces.{node_marks}
 use Rattle.osq_nodes.specs.OsqRuled.{IsOsqMove, newest}
 use Rattle.osq_nodes.specs.OsqStated.{IsSpinQueue}
-use Rattle.osq_unqueue.proofs.Fronts.{each-front, out-of-queue}
+use Rattle.osq_unqueue.proofs.Fronts.{each-head, out-of-queue}
 use Rattle.rwsem_slow.proofs.calls.RwSem.recall_spin_queue.Goals as goal
 
 pub returns-clause-begins : goal.returns-clause-begins
@@ -15,7 +15,7 @@ pub returns-clause-always : goal.returns-clause-always
 returns-clause-always g c = subst (λ tasks. EachMoment (IsSpinQueue tasks) (past_of c.recall_queue.new.pass)) c.args.self.now.sized c.recall_queue.ensures.always
 
 pub returns-clause-fronts : goal.returns-clause-fronts
-returns-clause-fronts g c = each-front (tasks_of c.args.self.now.osq) (past_of c.recall_queue.new.pass) c.recall_queue.ensures.always
+returns-clause-fronts g c = each-head (tasks_of c.args.self.now.osq) (past_of c.recall_queue.new.pass) c.recall_queue.ensures.always
 
 pub returns-clause-counts : goal.returns-clause-counts
 returns-clause-counts g c = subst (λ tasks. Ran node_marks (newest tasks) (IsOsqMove tasks) (past_of c.recall_queue.new.pass)) c.args.self.now.sized c.recall_queue.ensures.counts
