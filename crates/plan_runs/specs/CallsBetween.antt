@@ -24,11 +24,19 @@ pub record HasDoneItsCalls {Call : Type 0} (o : Obj Call) (unavailable : Unavail
   pub all : length made ≡ length (row k t)
   pub done : HasDone o unavailable k v.hand t made
 
--- the pass, which has a CPU, is the lock's and has done all calls of the task
-pub record MemberHasDone {Call P C : Type 0} (o : Obj Call) (unavailable : Unavailable) (k : Plan) (sits : P → Type 0) (view : P → Shown) (t : ℕ) (member : P × C) : Type 0 where
-  pub own : sits member.0
-  pub calls : HasDoneItsCalls o unavailable k t (view member.0)
+-- the pass is the lock's and has done all calls of the task
+pub record PassHasDone {Call P : Type 0} (o : Obj Call) (unavailable : Unavailable) (k : Plan) (sits : P → Type 0) (view : P → Shown) (t : ℕ) (pass : P) : Type 0 where
+  pub own : sits pass
+  pub calls : HasDoneItsCalls o unavailable k t (view pass)
+
+-- the passes, which have a CPU each, are ready, by what that means of a pass
+abbrev pub AreReady : {P C : Type 0} → (ready : P → Type 0) → List (P × C) → Type 0
+AreReady ready members = All (λ m. ready m.0) members
+
+-- so many passes are there, and each has done the calls of the task of its place, by what that means of a pass
+abbrev pub EachHasDone : {P C : Type 0} → (has_done : ℕ → P → Type 0) → (many : ℕ) → List (P × C) → Type 0
+EachHasDone {P} {C} has_done many members = (length members ≡ many) × ((t : ℕ) (m : P × C) → t < many → has_done t (slice_index_or members t m).0)
 
 -- so many passes are there, and each has done all calls of the task of its place
 abbrev pub MembersHaveDone : {Call P C : Type 0} → Obj Call → Unavailable → Plan → (sits : P → Type 0) → (view : P → Shown) → (many : ℕ) → List (P × C) → Type 0
-MembersHaveDone {Call} {P} {C} o unavailable k sits view many members = (length members ≡ many) × ((t : ℕ) (m : P × C) → t < many → MemberHasDone o unavailable k sits view t (slice_index_or members t m))
+MembersHaveDone o unavailable k sits view many members = EachHasDone (PassHasDone o unavailable k sits view) many members

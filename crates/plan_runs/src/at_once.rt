@@ -1,12 +1,12 @@
 //! Tasks that do their calls on an object under a lock at once, on threads.
-ghost use Rattle.std.specs.Prelude.{◌≡◌, ◌<◌, ◌≤◌, length, None, IfOk, OnOk};
+ghost use Rattle.std.specs.Prelude.{◌≡◌, ℕ, ◌<◌, ◌≤◌, length, None, IfOk, OnOk};
 ghost use Rattle.word_bits.specs.declared.TheConstants.{MAX_TASKS};
 ghost use Rattle.lock_core.specs.Records.{IsPlan};
 ghost use Rattle.lock_core.specs.Kinds.{unavailable};
 ghost use Rattle.guarded.specs.GuardedHandles.{lock_of};
 ghost use Rattle.guarded.specs.ObjectCopying.{IsHistory};
 ghost use Rattle.guarded.specs.Gathering.{IsGathered};
-ghost use Rattle.plan_runs.specs.CallsBetween.{MembersHaveDone, AreFresh, HasDoneItsCalls, MemberHasDone, IsFresh};
+ghost use Rattle.plan_runs.specs.CallsBetween.{AreFresh, AreReady, EachHasDone, HasDoneItsCalls, IsFresh, MembersHaveDone, PassHasDone};
 
 use crate::serve::copy_of;
 use cpu_task::{Crew, Gate, OpenGate, Turns};
@@ -72,43 +72,81 @@ pub fn serve_all<W: Wait, C: Crew, G: Start, L: SleepLock<O>, O: Served + Drop>(
     gate.ended(task, L::tally(pass));
 }
 
+/// An object on which tasks do all their calls, each by a pass of its own.
+pub trait Runs {
+    type Pass: Drop;
+
+    // The pass is one of this object's, has no number and has seen nothing.
+    ghost ready: { Self → Self.Pass → Type 0 };
+
+    // How many tasks the plan has.
+    ghost tasks: { Self → ℕ };
+
+    // The pass is one of this object's, and has done all calls of the task.
+    ghost has_done: { Self → (task : ℕ) → Self.Pass → Type 0 };
+
+    /// Does all calls of the task.
+    fn run<W: Wait, C: Crew, G: Start>(
+        &self,
+        rt: &W,
+        pass: &mut Self::Pass,
+        cpu: &mut C::C,
+        crew: &C,
+        gate: &G,
+        task: u32,
+    )
+        requires ready { ready self.now pass.old }
+        requires there { task < tasks self.now }
+        ensures done { has_done self.now task pass.new };
+}
+
+impl<L: SleepLock<O>, O: Served + Drop> Runs for Guarded<L, O> {
+    type Pass = L::Pass;
+
+    ghost ready = { λ s p. L.sits (lock_of s) p × IsFresh (L.view p) };
+
+    ghost tasks = { λ s. length (L.calls_on (lock_of s)) };
+
+    ghost has_done = { λ s. PassHasDone O.object (unavailable L.kind) (L.calls_on (lock_of s))
+        (L.sits (lock_of s)) L.view };
+
+    fn run<W: Wait, C: Crew, G: Start>(
+        &self,
+        rt: &W,
+        pass: &mut L::Pass,
+        cpu: &mut C::C,
+        crew: &C,
+        gate: &G,
+        task: u32,
+    ) {
+        serve_all(rt, self, pass, cpu, crew, gate, task);
+    }
+}
+
 /// Each pass does all calls of the task of its place. The passes do this at once.
 fn serve_each<
     R: Threads + Wait + Sync,
     C: Crew<C: Send> + Sync,
     G: Start + Sync,
-    L: SleepLock<O, Pass: Send, Site: Sync, Rule: Sync> + Sync,
-    O: Served<Call: Sync> + Drop + Sync,
->(rt: &R, guarded: &Guarded<L, O>, members: &mut [(L::Pass, C::C)], crew: &C, gate: &G)
-    requires fresh { AreFresh (L.sits (lock_of guarded.now)) L.view members.old }
-    requires few { length members.old ≤ length (L.calls_on (lock_of guarded.now)) }
+    S: Runs<Pass: Send> + Sync,
+>(rt: &R, object: &S, members: &mut [(S::Pass, C::C)], crew: &C, gate: &G)
+    requires ready { AreReady (S.ready object.now) members.old }
+    requires few { length members.old ≤ S.tasks object.now }
     requires small { length members.old ≤ MAX_TASKS }
-    ensures { MembersHaveDone O.object (unavailable L.kind) (L.calls_on (lock_of guarded.now))
-        (L.sits (lock_of guarded.now)) L.view (length members.old) members.new }
+    ensures { EachHasDone (S.has_done object.now) (length members.old) members.new }
 {
     let threads = members.len().max(1);
     thread::for_each_mut(
         rt,
         members,
         threads,
-        &|task, member: &mut (L::Pass, C::C)|
-            requires own { L.sits (lock_of guarded.now) member.old.0 }
-            requires fresh { IsFresh (L.view member.old.0) }
-            requires there { task < length (L.calls_on (lock_of guarded.now)) }
+        &|task, member: &mut (S::Pass, C::C)|
+            requires ready { S.ready object.now member.old.0 }
+            requires there { task < S.tasks object.now }
             requires small { task < MAX_TASKS }
-            ensures { MemberHasDone O.object (unavailable L.kind)
-                (L.calls_on (lock_of guarded.entry.now)) (L.sits (lock_of guarded.entry.now))
-                L.view task member.new }
+            ensures { S.has_done object.entry.now task member.new.0 }
         {
-            serve_all(
-                rt,
-                guarded,
-                &mut member.0,
-                &mut member.1,
-                crew,
-                gate,
-                task as u32,
-            );
+            object.run(rt, &mut member.0, &mut member.1, crew, gate, task as u32);
         },
     );
 }

@@ -1,7 +1,7 @@
 use Rattle.std.proofs.Common.{◌≡◌, ℕ, ◌<◌, length, sym, subst, arith, rules}
 use Rattle.lock_core.specs.Kinds.{unavailable}
 use Rattle.guarded.proofs.Gathered.{all-gathered, popped}
-use Rattle.plan_runs.specs.CallsBetween.{MemberHasDone}
+use Rattle.plan_runs.specs.CallsBetween.{PassHasDone}
 use Rattle.plan_runs.proofs.Gathered.{one-more}
 use Rattle.plan_runs.proofs.at_once.gather_all.Goals as goal
 
@@ -16,7 +16,7 @@ loop-pass-preserved g c =
     let p = popped c.args.members.items c.loop-pass.members.items left member i.0 c.in-Some.ensures.items in
     let all = c.requires.done.0 in
     let below : length left < length k = omega (arith, all, p.3) in
-    let did = subst (λ (m : g.row.L-Pass.Denot × g.row.P.Denot). MemberHasDone o u k (g.L.SiteLock.sits c.args.guarded.now.lock) g.L.SiteLock.view (length left) m) (sym p.1) (c.requires.done.1 (length left) member below) in (
+    let did = subst (λ (m : g.row.L-Pass.Denot × g.row.P.Denot). PassHasDone o u k (g.L.SiteLock.sits c.args.guarded.now.lock) g.L.SiteLock.view (length left) m.0) (sym p.1) (c.requires.done.1 (length left) member below) in (
       p.0,
       c.gather.ensures.on.own,
       search rules,
