@@ -1,13 +1,16 @@
 -- Whom a part of a call wakes, the call wakes.
-use Rattle.std.proofs.Common.{◌≡◌, ◌∙◌, ℕ, ◌≤◌, List, length, sym, ap}
+use Rattle.std.proofs.Common.{◌≡◌, ◌∙◌, ℕ, ◌≤◌, List, arith, length, refl, sym, ap}
+use Rattle.lock_core.specs.declared.view.Held.{Held}
 use Rattle.cpu_task.specs.CpuCounting.{slept}
 use Rattle.lock_core.specs.Shown.{PastGoesOn, Shown}
-use Rattle.lock_core.proofs.Within.{since-within}
+use Rattle.lock_core.proofs.Within.{counting, since-within}
+use Rattle.lock_core.specs.declared.tally.Tally.{Tally}
 use Rattle.wait_list.specs.declared.view.Waiter.{Waiter}
 use Rattle.rwsem_wake.specs.declared.wake.WakeType.{WakeType}
 use Rattle.rwsem_wake.specs.RwSemWakes.{woken_of}
 use Rattle.rwsem_slow.specs.Leaving.{WakesOn}
-use Rattle.rwsem_slow.specs.Waking.{WakesIf, WakesLeft, WakesWaiting}
+use Rattle.rwsem_slow.specs.Waking.{WakesIf, WakesLeft, WakesWaiting, behind}
+use Rattle.rwsem_slow.specs.Releasing.{TurnsHold}
 
 pub wakes-within : (kind : WakeType) (v a b u : Shown) (m m' n : ℕ) → m' ≡ m → a.hand.task ≡ v.hand.task → v.steps ≤ a.steps → PastGoesOn v a → WakesWaiting kind m' n a b → b.steps ≤ u.steps → PastGoesOn b u → WakesWaiting kind m n v u
 wakes-within kind v a b u m m' n is same steps before w more after = record {
@@ -19,12 +22,19 @@ wakes-within kind v a b u m m' n is same steps before w more after = record {
   set = w.set ∙ ap (slept (length (woken_of kind w.written w.was))) is;
 }
 
--- the count that a release left asked for a wake, or didn't
-pub wakes-asked : (asks : ℕ → Type 0) (kind : WakeType) (m n : ℕ) (v u : Shown) → asks u.hand.freed → WakesWaiting kind m n v u → WakesIf asks kind m n v u
-wakes-asked asks kind m n v u asked w = record { woken = λ _. w; spared = λ not. absurd (not asked) }
+-- The count that a release left asked for a wake, and a part of the call behind the step that turned the hold wakes so; or it didn't.
+pub wakes-asked : (asks : ℕ → Type 0) (held : Held) (kind : WakeType) (m k n : ℕ) (v b u : Shown) → asks u.hand.freed → TurnsHold held k n v u → b.hand.task ≡ v.hand.task → k ≤ b.steps → PastGoesOn v b → (m' : ℕ) → WakesWaiting kind m m' b u → WakesIf asks held kind m m' v u
+wakes-asked asks held kind m k n v b u asked turns same steps before m' w = record { woken = λ _. (k, n, turns, wakes-within kind (behind k v) b u u m m m' refl same steps before w (omega arith) (λ p t. t)); spared = λ not. absurd (not asked) }
 
-pub wakes-spared : (asks : ℕ → Type 0) (kind : WakeType) (m n : ℕ) (v u : Shown) → (asks u.hand.freed → ⊥) → n ≡ m → WakesIf asks kind m n v u
-wakes-spared asks kind m n v u unasked same = record { woken = λ asked. absurd (unasked asked); spared = λ _. same }
+pub wakes-spared : (asks : ℕ → Type 0) (held : Held) (kind : WakeType) (m n : ℕ) (v u : Shown) → (asks u.hand.freed → ⊥) → n ≡ m → WakesIf asks held kind m n v u
+wakes-spared asks held kind m n v u unasked same = record { woken = λ asked. absurd (unasked asked); spared = λ _. same }
+
+-- what a site's pass shows beyond its queue and its tally, the call's pass shows
+pub wakes-counting : (asks : ℕ → Type 0) (held : Held) (kind : WakeType) (m n : ℕ) (v u : Shown) (f f' s s' : ℕ) (t t' : Tally) → WakesIf asks held kind m n v u → WakesIf asks held kind m n (counting f s t v) (counting f' s' t' u)
+wakes-counting asks held kind m n v u f f' s s' t t' w = record {
+  woken = λ asked. let k = w.woken asked in (k.0, k.1, k.2, wakes-within kind (behind k.0 (counting f s t v)) (behind k.0 v) u (counting f' s' t' u) m m n refl refl (omega arith) (λ p t. t) k.3 (omega arith) (λ p t. t));
+  spared = w.spared;
+}
 
 pub on-within : (rest : List Waiter) (woken : List ℕ) (v a b u : Shown) → a.hand.task ≡ v.hand.task → v.steps ≤ a.steps → PastGoesOn v a → WakesOn rest woken a b → b.steps ≤ u.steps → PastGoesOn b u → WakesOn rest woken v u
 on-within rest woken v a b u same steps before w more after = record {

@@ -1,6 +1,7 @@
 -- Whom a call on a semaphore wakes, by the wake words that it sets.
 use Rattle.std.specs.Prelude.{◌≡◌, ◌≢◌, ℕ, ◌+◌, ◌/◌, ◌%◌, ◌^◌, ◌⊎◌, Bool, true, false, List, [], length, Some}
 use Rattle.cpu_task.specs.CpuCounting.{slept}
+use Rattle.lock_core.specs.declared.view.Held.{Held}
 use Rattle.lock_core.specs.Shown.{Shown, FindsSince}
 use Rattle.wait_list.specs.declared.view.Waiter.{Waiter}
 use Rattle.wait_list.specs.Lists.{first_code, without}
@@ -10,6 +11,7 @@ use Rattle.rwsem_wake.specs.declared.wake.WakeType.TheVariants.{ReadOwned}
 use Rattle.rwsem_wake.specs.RwSemViews.{count_at, list_at}
 use Rattle.rwsem_wake.specs.RwSemWakes.{SawWriter, kind_at, woken_of}
 use Rattle.rwsem_slow.specs.Leaving.{WakesOn}
+use Rattle.rwsem_slow.specs.Releasing.{TurnsHold}
 
 -- From the first count to the second the pass has set as many wake words as a wake of this kind wakes tasks of a list. A step since found the code of that list's first waiter. Where a reader is first and the wake reserves a bias of its own, its look at the count said whether there was a writer.
 pub record WakesWaiting (kind : WakeType) (wakes wakes' : ℕ) (v u : Shown) : Type 0 where
@@ -20,9 +22,13 @@ pub record WakesWaiting (kind : WakeType) (wakes wakes' : ℕ) (v u : Shown) : T
   pub saw : kind ≢ ReadOwned → starts_with_reader was ≡ true → SawWriter written v u
   pub set : wakes' ≡ slept (length (woken_of kind written was)) wakes
 
--- so it is where the count that the call left asks for a wake; else no wake word is set
-pub record WakesIf (asks : ℕ → Type 0) (kind : WakeType) (wakes wakes' : ℕ) (v u : Shown) : Type 0 where
-  pub woken : asks u.hand.freed → WakesWaiting kind wakes wakes' v u
+-- the pass as it showed itself, but with this count of steps: a step since then is one behind the step of this number
+abbrev pub behind : (step : ℕ) → Shown → Shown
+behind step v = record v { steps = step }
+
+-- Where the count that the call left asks for a wake, it has set as many wake words by what it found behind the step that left the pass with this hold. Else no wake word is set.
+pub record WakesIf (asks : ℕ → Type 0) (held : Held) (kind : WakeType) (wakes wakes' : ℕ) (v u : Shown) : Type 0 where
+  pub woken : asks u.hand.freed → (step n : ℕ) × TurnsHold held step n v u × WakesWaiting kind wakes wakes' (behind step v) u
   pub spared : (asks u.hand.freed → ⊥) → wakes' ≡ wakes
 
 -- a reader holds by a bias that is the only one of this count, which says that tasks wait

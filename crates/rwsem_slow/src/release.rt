@@ -79,8 +79,8 @@ pub fn up_read<O: Object, W: Wait, C: Crew>(
     ensures released { Releases (wakes_shared semaphore) (seen_of pass.old) (seen_of pass.new) }
     ensures left { LeavesCount (wakes_shared semaphore) No 256 0
         (seen_of pass.old) (seen_of pass.new) }
-    ensures woken { WakesIf (wakes_shared semaphore) WakeType.Any counts.old.wakes counts.new.wakes
-        (seen_of pass.old) (seen_of pass.new) }
+    ensures woken { WakesIf (wakes_shared semaphore) No WakeType.Any
+        counts.old.wakes counts.new.wakes (seen_of pass.old) (seen_of pass.new) }
     ensures counted { AreCounts counts.new (view_of pass.new) }
     ensures dozes { dozes_of (view_of pass.new) ≡ dozes_of (view_of pass.old) }
 {
@@ -113,8 +113,8 @@ pub fn up_write<O: Object, W: Wait, C: Crew>(
     ensures released { Releases (wakes_alone semaphore) (seen_of pass.old) (seen_of pass.new) }
     ensures left { LeavesCount (wakes_alone semaphore) No 1 0
         (seen_of pass.old) (seen_of pass.new) }
-    ensures woken { WakesIf (wakes_alone semaphore) WakeType.Any counts.old.wakes counts.new.wakes
-        (seen_of pass.old) (seen_of pass.new) }
+    ensures woken { WakesIf (wakes_alone semaphore) No WakeType.Any
+        counts.old.wakes counts.new.wakes (seen_of pass.old) (seen_of pass.new) }
     ensures counted { AreCounts counts.new (view_of pass.new) }
     ensures dozes { dozes_of (view_of pass.new) ≡ dozes_of (view_of pass.old) }
 {
@@ -147,7 +147,7 @@ pub fn downgrade_write<O: Object, W: Wait, C: Crew>(
     ensures downgraded { Downgrades semaphore (seen_of pass.old) (seen_of pass.new) }
     ensures left { LeavesCount (wakes_down semaphore) Shared 0 255
         (seen_of pass.old) (seen_of pass.new) }
-    ensures woken { WakesIf (wakes_down semaphore) WakeType.ReadOwned
+    ensures woken { WakesIf (wakes_down semaphore) Shared WakeType.ReadOwned
         counts.old.wakes counts.new.wakes (seen_of pass.old) (seen_of pass.new) }
     ensures counted { AreCounts counts.new (view_of pass.new) }
     ensures dozes { dozes_of (view_of pass.new) ≡ dozes_of (view_of pass.old) }

@@ -26,7 +26,7 @@ impl<O: Object> RwSem<O> {
             (shown_of pass.old) (shown_of pass.new) }
         ensures left { LeavesCount (wakes_shared semaphore) No 256 0
             (shown_of pass.old) (shown_of pass.new) }
-        ensures woken { WakesIf (wakes_shared semaphore) WakeType.Any
+        ensures woken { WakesIf (wakes_shared semaphore) No WakeType.Any
             (wakes_in pass.old) (wakes_in pass.new) (shown_of pass.old) (shown_of pass.new) }
     {
         release::up_read(&self.site, rt, &mut pass.pass, crew, &mut pass.counts);
@@ -45,7 +45,7 @@ impl<O: Object> RwSem<O> {
             (shown_of pass.old) (shown_of pass.new) }
         ensures left { LeavesCount (wakes_alone semaphore) No 1 0
             (shown_of pass.old) (shown_of pass.new) }
-        ensures woken { WakesIf (wakes_alone semaphore) WakeType.Any
+        ensures woken { WakesIf (wakes_alone semaphore) No WakeType.Any
             (wakes_in pass.old) (wakes_in pass.new) (shown_of pass.old) (shown_of pass.new) }
     {
         release::up_write(&self.site, rt, &mut pass.pass, crew, &mut pass.counts);
@@ -62,7 +62,7 @@ impl<O: Object> RwSem<O> {
         ensures downgraded { Downgrades semaphore (shown_of pass.old) (shown_of pass.new) }
         ensures left { LeavesCount (wakes_down semaphore) Shared 0 255
             (shown_of pass.old) (shown_of pass.new) }
-        ensures woken { WakesIf (wakes_down semaphore) WakeType.ReadOwned
+        ensures woken { WakesIf (wakes_down semaphore) Shared WakeType.ReadOwned
             (wakes_in pass.old) (wakes_in pass.new) (shown_of pass.old) (shown_of pass.new) }
     {
         release::downgrade_write(&self.site, rt, &mut pass.pass, crew, &mut pass.counts);

@@ -1,0 +1,11 @@
+use Rattle.lock_core.specs.declared.view.Held.TheVariants.{Shared}
+use Rattle.lock_core.specs.Kinds.{semaphore, wakes_down}
+use Rattle.rwsem_wake.specs.declared.wake.WakeType.TheVariants.{ReadOwned}
+use Rattle.rwsem_wake.specs.RwSemPlaces.{seen_of}
+use Rattle.rwsem_slow.specs.RwSemHandles.{shown_of, wakes_in}
+use Rattle.rwsem_slow.proofs.Woken.{wakes-counting}
+use Rattle.rwsem_slow.proofs.calls.RwSem.downgrade_write.Goals as goal
+
+pub returns-clause-woken : goal.returns-clause-woken
+returns-clause-woken g c = let v = shown_of c.args.pass.now in
+    wakes-counting (wakes_down semaphore) Shared ReadOwned (wakes_in c.args.pass.now) c.downgrade_write.new.counts.wakes (seen_of c.args.pass.now.pass) (seen_of c.downgrade_write.new.pass) v.fronts v.fronts v.swaps v.swaps v.tally v.tally c.downgrade_write.ensures.woken
