@@ -7,19 +7,25 @@ use Rattle.lock_core.proofs.Within.{counting, since-within}
 use Rattle.lock_core.specs.declared.tally.Tally.{Tally}
 use Rattle.wait_list.specs.declared.view.Waiter.{Waiter}
 use Rattle.rwsem_wake.specs.declared.wake.WakeType.{WakeType}
-use Rattle.rwsem_wake.specs.RwSemWakes.{woken_of}
 use Rattle.rwsem_slow.specs.Leaving.{WakesOn}
-use Rattle.rwsem_slow.specs.Waking.{WakesIf, WakesLeft, WakesWaiting, behind}
+use Rattle.rwsem_slow.specs.Waking.{WakesIf, WakesLeft, WakesOf, WakesWaiting, behind}
 use Rattle.rwsem_slow.specs.Releasing.{TurnsHold}
 
-pub wakes-within : (kind : WakeType) (v a b u : Shown) (m m' n : ℕ) → m' ≡ m → a.hand.task ≡ v.hand.task → v.steps ≤ a.steps → PastGoesOn v a → WakesWaiting kind m' n a b → b.steps ≤ u.steps → PastGoesOn b u → WakesWaiting kind m n v u
-wakes-within kind v a b u m m' n is same steps before w more after = record {
+pub of-within : (kind : WakeType) (woken : List ℕ) (v a b u : Shown) → a.hand.task ≡ v.hand.task → v.steps ≤ a.steps → PastGoesOn v a → WakesOf kind woken a b → b.steps ≤ u.steps → PastGoesOn b u → WakesOf kind woken v u
+of-within kind woken v a b u same steps before w more after = record {
   was = w.was;
   first = since-within v a b u same steps before w.first more after;
   written = w.written;
   owned = w.owned;
   saw = λ other reads. let s = w.saw other reads in (s.0, since-within v a b u same steps before s.1 more after, s.2);
-  set = w.set ∙ ap (slept (length (woken_of kind w.written w.was))) is;
+  woken_are = w.woken_are;
+}
+
+pub wakes-within : (kind : WakeType) (v a b u : Shown) (m m' n : ℕ) → m' ≡ m → a.hand.task ≡ v.hand.task → v.steps ≤ a.steps → PastGoesOn v a → WakesWaiting kind m' n a b → b.steps ≤ u.steps → PastGoesOn b u → WakesWaiting kind m n v u
+wakes-within kind v a b u m m' n is same steps before w more after = record {
+  woken = w.woken;
+  wakes_of = of-within kind w.woken v a b u same steps before w.wakes_of more after;
+  set = w.set ∙ ap (slept (length w.woken)) is;
 }
 
 -- The count that a release left asked for a wake, and a part of the call behind the step that turned the hold wakes so; or it didn't.

@@ -1,8 +1,9 @@
 -- Whom a call on a semaphore wakes, by the wake words that it sets.
-use Rattle.std.specs.Prelude.{◌≡◌, ◌≢◌, ℕ, ◌+◌, ◌/◌, ◌%◌, ◌^◌, ◌⊎◌, Bool, true, false, List, [], length, Some}
+use Rattle.std.specs.Prelude.{◌≡◌, ◌≢◌, ℕ, ◌+◌, ◌*◌, ◌/◌, ◌<◌, ◌≤◌, ◌%◌, ◌^◌, ◌⊎◌, Bool, true, false, List, [], length, Some}
 use Rattle.cpu_task.specs.CpuCounting.{slept}
 use Rattle.lock_core.specs.declared.view.Held.{Held}
-use Rattle.lock_core.specs.Shown.{Shown, FindsSince}
+use Rattle.lock_core.specs.Shown.{Shown, FindsAtStep, FindsSince}
+use Rattle.lock_core.specs.Records.{bit}
 use Rattle.wait_list.specs.declared.view.Waiter.{Waiter}
 use Rattle.wait_list.specs.Lists.{first_code, without}
 use Rattle.rwsem_wake.specs.Batches.{starts_with_reader}
@@ -13,14 +14,20 @@ use Rattle.rwsem_wake.specs.RwSemWakes.{SawWriter, kind_at, woken_of}
 use Rattle.rwsem_slow.specs.Leaving.{WakesOn}
 use Rattle.rwsem_slow.specs.Releasing.{TurnsHold}
 
--- From the first count to the second the pass has set as many wake words as a wake of this kind wakes tasks of a list. A step since found the code of that list's first waiter. Where a reader is first and the wake reserves a bias of its own, its look at the count said whether there was a writer.
-pub record WakesWaiting (kind : WakeType) (wakes wakes' : ℕ) (v u : Shown) : Type 0 where
+-- These are the tasks that a wake of this kind wakes of a list. A step since found the code of that list's first waiter. Where a reader is first and the wake reserves a bias of its own, its look at the count said whether there was a writer.
+pub record WakesOf (kind : WakeType) (woken : List ℕ) (v u : Shown) : Type 0 where
   pub was : List Waiter
   pub first : FindsSince list_at (first_code was) v u
   pub written : Bool
   pub owned : kind ≡ ReadOwned → written ≡ false
   pub saw : kind ≢ ReadOwned → starts_with_reader was ≡ true → SawWriter written v u
-  pub set : wakes' ≡ slept (length (woken_of kind written was)) wakes
+  pub woken_are : woken ≡ woken_of kind written was
+
+-- from the first count to the second the pass has set as many wake words as there are such tasks
+pub record WakesWaiting (kind : WakeType) (wakes wakes' : ℕ) (v u : Shown) : Type 0 where
+  pub woken : List ℕ
+  pub wakes_of : WakesOf kind woken v u
+  pub set : wakes' ≡ slept (length woken) wakes
 
 -- the pass as it showed itself, but with this count of steps: a step since then is one behind the step of this number
 abbrev pub behind : (step : ℕ) → Shown → Shown
@@ -43,6 +50,18 @@ FindsItselfFirst v u = (t : ℕ) × (v.hand.task ≡ Some t) × FindsSince list_
 abbrev pub WakesOthers : (wakes wakes' : ℕ) → Shown → Shown → Type 0
 WakesOthers wakes wakes' v u = (FindsItselfFirst v u × (wakes' ≡ wakes))
     ⊎ ((n : ℕ) × FindsSince count_at n v u × (n % 2 ≡ 0 → WakesWaiting (kind_at n) wakes wakes' v u) × (n % 2 ≡ 1 → wakes' ≡ wakes))
+
+-- the call's step of this number took a reader's bias back and left this count; it set WAITERS too where the reader stood alone in the list
+abbrev pub TakesBack : (alone : Bool) → (step left : ℕ) → Shown → Shown → Type 0
+TakesBack alone step left v u = (v.steps < step) × (step ≤ u.steps) × (n : ℕ) × FindsAtStep step count_at n v u × (left + 256 ≡ n + 2 * bit alone)
+
+-- A reader that queued is to wake these tasks. Where the count that it left as it took its bias back has no writer, they are those of a wake at that count, by what it found behind that step. Else they are none.
+pub record WakesQueued (alone : Bool) (woken : List ℕ) (v u : Shown) : Type 0 where
+  pub step : ℕ
+  pub left : ℕ
+  pub back : TakesBack alone step left v u
+  pub others : left % 2 ≡ 0 → WakesOf (kind_at left) woken (behind step v) u
+  pub nobody : left % 2 ≡ 1 → woken ≡ []
 
 -- A task that leaves the list wakes these of it. A step since found the code of the list's first waiter. Where that is the task itself, those that a wake of any waiter wakes of the others; else nobody.
 pub record WakesLeft (woken : List ℕ) (v u : Shown) : Type 0 where

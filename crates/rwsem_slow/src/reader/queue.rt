@@ -10,8 +10,9 @@ ghost use Rattle.rwsem_wake.specs.Duties.{left_by};
 ghost use Rattle.rwsem_wake.specs.Grants.{AreTaskNumbers};
 ghost use Rattle.rwsem_slow.specs.Queued.{Becomes, IsInTransit, IsInLineToWake, LooksAt, Shares, comes, waiting};
 ghost use Rattle.rwsem_wake.specs.Removals.{KnowsList};
-ghost use Rattle.rwsem_wake.specs.RwSemPlaces.{MovesOn, dozes_of};
+ghost use Rattle.rwsem_wake.specs.RwSemPlaces.{MovesOn, dozes_of, seen_of};
 ghost use Rattle.rwsem_wake.specs.RwSemWakes.{woken_tasks};
+ghost use Rattle.rwsem_slow.specs.Waking.{TakesBack, WakesQueued};
 
 use crate::SemRule;
 use cpu_task::Cpu;
@@ -65,6 +66,8 @@ fn join<O: Object>(site: &Site<SemRule<O>>, pass: &mut Pass<SemRule<O>>, empty: 
     ensures face { SaysSame pass.old pass.new }
     ensures came { Becomes (view_of pass.old) 1 (waiting Reads)
         (left_by result (comes (view_of pass.old).ext.wake)) (view_of pass.new) }
+    ensures back { TakesBack empty (view_of pass.new).steps result
+        (seen_of pass.old) (seen_of pass.new) }
 {
     let Some(task) = pass.task() else {
         unreachable!()
@@ -108,6 +111,8 @@ pub fn queue<O: Object, C: Cpu>(
     ensures appended { (view_of pass.new).ext.appends ≡ (view_of pass.old).ext.appends + 1 }
     ensures sleeps { C.sleeps cpu.new ≡ C.sleeps cpu.old }
     ensures rescheds { C.rescheds cpu.new ≡ C.rescheds cpu.old }
+    ensures woken { WakesQueued empty (woken_tasks woken.new)
+        (seen_of pass.old) (seen_of pass.new) }
     ensures wakes { (view_of pass.new).ext.wake.wakes ≡ (view_of pass.old).ext.wake.wakes }
     ensures dozes { dozes_of (view_of pass.new) ≡ dozes_of (view_of pass.old) }
 {

@@ -31,10 +31,10 @@ returns-clause-woken g c = let n = c.look_listed-count.result in let came = c.jo
     inr (
       n,
       (b.view.steps, omega (arith, enters, looks), omega (arith, chooses, later), found-at-step b.view v.view.hand.task count_at n v.past b.past c.wake_tasks.new.pass.seat.me.0.past same c.look_listed-count.ensures.last c.look_listed-count.ensures.found (λ p t. c.look_listed-count.ensures.goes_on p (c.join.ensures.goes_on p t)) (λ p t. c.wake_tasks.ensures.goes_on p (c.choose_others.ensures.on.goes_on p t))),
-      λ even. let w = c.choose_others.ensures.wakes even in let tasks = c.tasks.ensures ∙ w.woken_are in
+      λ even. let w = c.choose_others.ensures.wakes even in
           let set_before = ap (λ (x : SemWake). x.wakes) w.chosen.chose ∙ carried in
           wakes-within (kind_at n) (seen_of c.args.pass.now) (seen_of c.look_listed-count.new.pass) (seen_of c.choose_others.new.pass) (seen_of c.wake_tasks.new.pass) c.args.counts.now.wakes c.args.counts.now.wakes c.wake_tasks.new.counts.wakes refl same (omega (arith, enters, looks)) (λ p t. c.look_listed-count.ensures.goes_on p (c.join.ensures.goes_on p t))
-          (record { was = w.was; first = w.first; written = w.written; owned = w.owned; saw = w.saw; set = c.wake_tasks.ensures.counted.wakes ∙ (ap (λ (z : V). z.ext.wake.wakes) sets.is ∙ (λ i. slept (length (tasks i)) (set_before i))) })
+          (record { woken = woken_tasks c.choose_others.new.woken; wakes_of = record { was = w.was; first = w.first; written = w.written; owned = w.owned; saw = w.saw; woken_are = w.woken_are }; set = c.wake_tasks.ensures.counted.wakes ∙ (ap (λ (z : V). z.ext.wake.wakes) sets.is ∙ (λ i. slept (length (c.tasks.ensures i)) (set_before i))) })
           later c.wake_tasks.ensures.goes_on,
       λ odd. let tasks = c.tasks.ensures ∙ c.choose_others.ensures.none odd in
           c.wake_tasks.ensures.counted.wakes ∙ (ap (λ (z : V). z.ext.wake.wakes) sets.is ∙ (λ i. slept (length (tasks i)) ((ap (λ (x : SemWake). x.wakes) c.choose_others.ensures.chosen.chose ∙ carried) i))),
