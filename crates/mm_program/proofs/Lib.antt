@@ -5,3 +5,4 @@ pub mod Weaker
 pub mod Telling
 pub mod ToldOrder
 pub mod ToldCauses
+pub mod ToldWakes

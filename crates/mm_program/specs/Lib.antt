@@ -6,3 +6,4 @@ pub mod CommandLine
 pub mod Parsed
 pub mod ToldOrder
 pub mod ToldCauses
+pub mod ToldWakes

@@ -12,6 +12,7 @@ ghost use Rattle.sleep_lock.specs.LockMembers.{members};
 ghost use Rattle.mm_program.specs.ProgramKept.{LockedMachine};
 ghost use Rattle.mm_program.specs.ToldCauses.{TellsCauses};
 ghost use Rattle.mm_program.specs.ToldOrder.{TellsInRealTimeOrder};
+ghost use Rattle.mm_program.specs.ToldWakes.{TellsNoLostWake};
 
 use crate::locks::{SpaceLock, TableLock};
 use cpu_task::Crew;
@@ -39,6 +40,22 @@ pub fn told_calls_have_their_causes<A: SpaceLock, T: TableLock, C: Crew>()
     ensures { (kept : LockedMachine A Areas A.Rule A.Site A.Pass A.Rule.Ext SpaceCall
         T Fds T.Rule T.Site T.Pass T.Rule.Ext TableCall C C.C) →
         TellsCauses
+        (members A.calls_on A.view A.sits A.spun A.kind A.word_at A.opened A.waits
+        (KnowsRwSem space 257) KnowsSpinQueue)
+        (members T.calls_on T.view T.sits T.spun T.kind T.word_at T.opened T.waits
+        (KnowsMutex table 64) KnowsSpinQueue)
+        kept }
+{}
+
+/// At no moment of an object's past a wake-up was lost. If nobody holds a table and tasks wait, a
+/// task that doesn't wait is to wake the first of them; or that waiter's wake word is set, or it is
+/// awake and tries before it sleeps. If nobody writes or reads a space and tasks wait, a task owes a
+/// wake, or a bias keeps writers out, or the first waiter is a writer that is being woken. A reader
+/// that is granted while it waits is being woken.
+pub fn told_waiters_lose_no_wake<A: SpaceLock, T: TableLock, C: Crew>()
+    ensures { (kept : LockedMachine A Areas A.Rule A.Site A.Pass A.Rule.Ext SpaceCall
+        T Fds T.Rule T.Site T.Pass T.Rule.Ext TableCall C C.C) →
+        TellsNoLostWake
         (members A.calls_on A.view A.sits A.spun A.kind A.word_at A.opened A.waits
         (KnowsRwSem space 257) KnowsSpinQueue)
         (members T.calls_on T.view T.sits T.spun T.kind T.word_at T.opened T.waits

@@ -6,3 +6,4 @@ pub mod Chaining
 pub mod Locking
 pub mod Opening
 pub mod Duties
+pub mod LostWakes

@@ -3,6 +3,7 @@
 
 mod calls;
 mod fast;
+pub mod laws;
 mod leave;
 mod mutex_lock;
 mod queue;

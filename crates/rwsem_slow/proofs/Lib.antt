@@ -16,3 +16,4 @@ pub mod Opening
 pub mod WaitStates
 pub mod Marking
 pub mod Woken
+pub mod LostWakes

@@ -23,3 +23,4 @@ pub mod RwSemLaws
 pub mod SleepLaws
 pub mod RwSemListLaws
 pub mod CountHosting
+pub mod LostWakes

@@ -1,4 +1,11 @@
-//! Laws of what a waker picks. Each is the contract of a function that does nothing.
+//! Laws of what a waker picks, and that no wake-up is lost. Each is the contract of a function that
+//! does nothing.
+ghost use Rattle.std.specs.Prelude.{List};
+ghost use Rattle.lock_core.specs.declared.view.Moment.{Moment};
+ghost use Rattle.wait_list.specs.declared.view.Waiter.{Waiter};
+ghost use Rattle.rwsem_wake.specs.SemParts.{SemPart};
+ghost use Rattle.rwsem_slow.specs.LostWakes.{LosesNoWake};
+ghost use Rattle.rwsem_slow.specs.RwSemStated.{IsQueued};
 ghost use Rattle.rwsem_slow.specs.Picking.{PicksBatchInTurn, PicksFirstReaders, PicksWholeBatch};
 
 /// A waker that removes the first reader of the list again and again has removed the first readers
@@ -19,4 +26,13 @@ pub fn picks_whole_batch()
 #[tactic(auto, using(crate::proofs::Picking::picks_batch_in_turn))]
 pub fn picks_batch_in_turn()
     ensures { PicksBatchInTurn }
+{}
+
+/// No wake-up is lost: where nobody writes or reads and tasks wait, a task owes a wake, or a bias
+/// keeps writers out, or the first waiter is a writer that is being woken. A reader that is granted
+/// while it waits is being woken. Of each moment that a pass goes back to, its look back says that
+/// the list is so (`IsQueued`).
+pub fn loses_no_wake()
+    ensures { (m : Moment) (q : List Waiter) (ps : List SemPart) →
+        IsQueued m q ps → LosesNoWake m q ps }
 {}

@@ -16,7 +16,8 @@ use word_bits::Object;
 
 impl<O: Object> RwSem<O> {
     /// Ends the pass's shared hold. If it leaves nobody who holds, and tasks wait, it wakes the
-    /// first of them, and with a reader the batch: at most 256 readers. The kernel's `up_read`.
+    /// first of them, and with a reader the batch: at most 256 readers. If a writer came since, it
+    /// wakes no reader. The kernel's `up_read`.
     pub fn up_read<W: Wait, C: Crew>(&self, rt: &W, pass: &mut RwPass<O>, crew: &C)
         requires own { SitsAt self.now pass.old }
         requires held { (hand_in pass.old).held ≡ Shared }
@@ -33,7 +34,8 @@ impl<O: Object> RwSem<O> {
     }
 
     /// Ends the pass's exclusive hold. If tasks wait, it wakes the first of them, and with a reader
-    /// the batch: at most 256 readers. The kernel's `up_write`.
+    /// the batch: at most 256 readers. If a writer came since, it wakes no reader. The kernel's
+    /// `up_write`.
     pub fn up_write<W: Wait, C: Crew>(&self, rt: &W, pass: &mut RwPass<O>, crew: &C)
         requires own { SitsAt self.now pass.old }
         requires held { (hand_in pass.old).held ≡ Alone }
